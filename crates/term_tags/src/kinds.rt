@@ -1,0 +1,93 @@
+// What a word is.
+ghost use Rattle.std.specs.Prelude.{◌≡◌, ◌≢◌, ◌/◌, ◌%◌, ◌^◌, ◌<◌, nat_lt, if◌then◌else◌};
+ghost use Rattle.term_tags.specs.Words.{small_of_bits, small_value};
+ghost use Rattle.term_tags.specs.Kinds.{InRange, word_of, Reads};
+ghost use Rattle.term_tags.specs.declared.kinds.Kind.{Kind as AnyKind};
+
+// How many places a pointer can name, how many arities a header can have, how many process numbers there are, and how
+// many names the table of atoms can hold.
+const PLACES: u64 = 16777216;
+
+const ARITIES: u64 = 16777216;
+
+const PIDS: u64 = 2199023255552;
+
+const ATOMS: u64 = 16384;
+
+/// The kinds of words. A pointer has the place that it leads to, a header its subtag and its arity, and `Other` is every
+/// word that no maker gives.
+#[derive(Clone, Copy)]
+pub enum Kind {
+    Small(i64),
+    Pid(u64),
+    Atom(u64),
+    Nil,
+    ListAt(u64),
+    BoxedAt(u64),
+    Header(u8, u64),
+    Other,
+}
+
+/// The kind of a word, by its low bits (The BEAM Book) and the range of what stands above them (this project).
+#[inline]
+pub fn kind_of(w: u64) -> Kind
+    ensures exact { Reads w result }
+    ensures back { (k : AnyKind) → InRange k → w ≡ word_of k → result ≡ k }
+    ensures small { w % 16 ≡ 15 → result ≡ Kind.Small (small_value w) }
+    ensures pid { w % 16 ≡ 3 → w < 2 ^ 45 → result ≡ Kind.Pid (w / 16) }
+    ensures atom { w % 64 ≡ 11 → w < 2 ^ 20 → result ≡ Kind.Atom (w / 64) }
+    ensures nil { w ≡ 59 → result ≡ Kind.Nil }
+    ensures list { w % 4 ≡ 1 → w < 2 ^ 26 → result ≡ Kind.ListAt (w / 4) }
+    ensures boxed { w % 4 ≡ 2 → w < 2 ^ 26 → result ≡ Kind.BoxedAt (w / 4) }
+    ensures header { w % 4 ≡ 0 → w < 2 ^ 30 → result ≡ Kind.Header (w / 4 % 16) (w / 64) }
+{
+    match w % 4 {
+        0 => header_of(w),
+        1 if w / 4 < PLACES => Kind::ListAt(w / 4),
+        2 if w / 4 < PLACES => Kind::BoxedAt(w / 4),
+        3 => immediate_of(w),
+        _ => Kind::Other,
+    }
+}
+
+// The kind of a word that ends in 00.
+fn header_of(w: u64) -> Kind
+    requires { w % 4 ≡ 0 }
+    ensures { result ≡ (if nat_lt w (2 ^ 30) then Kind.Header (w / 4 % 16) (w / 64) else Kind.Other) }
+{
+    if w / 64 < ARITIES {
+        Kind::Header((w / 4 % 16) as u8, w / 64)
+    } else {
+        Kind::Other
+    }
+}
+
+// The kind of a word that ends in 11.
+fn immediate_of(w: u64) -> Kind
+    requires { w % 4 ≡ 3 }
+    ensures small { w % 16 ≡ 15 → result ≡ Kind.Small (small_value w) }
+    ensures pid { w % 16 ≡ 3 → result ≡ (if nat_lt w (2 ^ 45) then Kind.Pid (w / 16) else Kind.Other) }
+    ensures atom { w % 64 ≡ 11 → result ≡ (if nat_lt w (2 ^ 20) then Kind.Atom (w / 64) else Kind.Other) }
+    ensures nil { w ≡ 59 → result ≡ Kind.Nil }
+    ensures other { w % 16 ≢ 15 → w % 16 ≢ 3 → w % 64 ≢ 11 → w ≢ 59 → result ≡ Kind.Other }
+{
+    match w % 16 {
+        15 => Kind::Small(value_of(w / 16)),
+        3 if w / 16 < PIDS => Kind::Pid(w / 16),
+        11 if w % 64 == 11 && w / 64 < ATOMS => Kind::Atom(w / 64),
+        11 if w == 59 => Kind::Nil,
+        _ => Kind::Other,
+    }
+}
+
+// The small integer with these 60 bits, of which the highest is the sign.
+fn value_of(bits: u64) -> i64
+    requires { bits < 2 ^ 60 }
+    ensures { result ≡ small_of_bits bits }
+{
+    if bits < 576460752303423488 {
+        bits as i64
+    } else {
+        bits as i64 - 1152921504606846976
+    }
+}

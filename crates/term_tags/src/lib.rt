@@ -1,0 +1,14 @@
+// The words of terms: tags, headers, and the layout of the object behind a header.
+#![tactic(auto)]
+
+mod kinds;
+mod layouts;
+mod makers;
+#[cfg(test)]
+mod tests;
+
+pub use kinds::{Kind, kind_of};
+pub use layouts::{
+    FUN, HEAP_BIN, HOLDER, Layout, MAP, NEG_BIG, POS_BIG, REF, SUB_BIN, TUPLE, layout_of,
+};
+pub use makers::{atom, boxed_at, head_of, list_at, nil, pid, small};
