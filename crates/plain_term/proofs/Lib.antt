@@ -1,0 +1,7 @@
+pub mod ViewLemmas
+pub mod SharedLemmas
+pub mod ApartLemmas
+pub mod OrderLemmas
+pub mod WrittenLemmas
+pub mod TokenLemmas
+pub mod LawLemmas

@@ -1,0 +1,29 @@
+-- What the view of a value is.
+use Rattle.std.proofs.Common.{◌≡◌, ℕ, arith, List, [], ◌∷◌, map, length, ap, refl, sym, ◌∙◌}
+use Rattle.plain_term.specs.View.{view, trees_of, pairs_of, pair_of, level}
+use Rattle.plain_term.specs.declared.tree.Tree.{Tree}
+use Rattle.plain_term.specs.declared.tree.Tree.TheOpen.{Tree-F}
+use Rattle.plain_term.specs.declared.tree.Tree.TheVariants.{rolls-Map, rolls-Tuple, rolls-Fun}
+use Rattle.plain_term.specs.declared.tree.Tree.TheViews.{Map, Tuple, Fun}
+use Rattle.plain_term.specs.declared.tree.Tree.TheFolds.{fold-roll-Tree}
+use Rattle.plain_term.specs.Tree.{trees_len, pairs_len}
+use Rattle.plain_term.specs.Tree as plain
+
+pub view-Map : (ps : List (Tree × Tree)) → view (Map ps) ≡ plain.Tree.Map (pairs_of (map pair_of ps))
+view-Map ps = ap view (sym (rolls-Map ps)) ∙ fold-roll-Tree plain.Tree level (Tree-F.Map ps)
+
+pub view-Tuple : (ts : List Tree) → view (Tuple ts) ≡ plain.Tree.Tuple (trees_of (map view ts))
+view-Tuple ts = ap view (sym (rolls-Tuple ts)) ∙ fold-roll-Tree plain.Tree level (Tree-F.Tuple ts)
+
+pub view-Fun : (f a c : ℕ) (ts : List Tree) → view (Fun f a c ts) ≡ plain.Tree.Fun f a c (trees_of (map view ts))
+view-Fun f a c ts = ap view (sym (rolls-Fun f a c ts)) ∙ fold-roll-Tree plain.Tree level (Tree-F.Fun f a c ts)
+
+pub trees_len-trees_of : (ts : List Tree) → trees_len (trees_of (map view ts)) ≡ length ts
+trees_len-trees_of [] = refl
+trees_len-trees_of (t ∷ ts) = omega (arith, trees_len-trees_of ts)
+
+pub pairs_len-pairs_of : (ps : List (Tree × Tree)) → pairs_len (pairs_of (map pair_of ps)) ≡ length ps
+pairs_len-pairs_of [] = refl
+pairs_len-pairs_of (p ∷ ps) = omega (arith, pairs_len-pairs_of ps)
+
+pub ruleset view_steps = (view-Map, view-Tuple, view-Fun, trees_len-trees_of, pairs_len-pairs_of)

@@ -1,0 +1,146 @@
+-- What items spell, and that they spell it alone.
+use Rattle.std.proofs.Common.{◌≡◌, ◌<◌, ◌+◌, ℕ, List, [], ◌∷◌, ◌++◌, ◌==◌, true, false, subst, map, length, refl, sym, ◌∙◌, ap, arith, append_assoc, append-nil}
+use Rattle.plain_term.specs.Tree.{Tree, Trees, trees_len}
+use Rattle.plain_term.specs.Tree.Tree.{Int, Atom, Pid, Nil, Cons, Tuple, Bin}
+use Rattle.plain_term.specs.Tree.Trees.{end, ◌▹◌}
+use Rattle.plain_term.specs.Written.{is_spelled, are_spelled, items_of, items_of_all, Spells, Explains, Begins, ExplainsFront, BeginAll, ExplainsParts, BeginBytes, ExplainsBytes}
+use Rattle.plain_term.specs.declared.item.Item.{Item}
+use Rattle.plain_term.specs.declared.item.Item.TheVariants as item
+use Rattle.plain_term.specs.declared.tree.TreeFault.{TreeFault}
+use Rattle.plain_term.specs.declared.tree.TreeFault.TheVariants.{Memory, Items}
+use Rattle.plain_term.specs.View.{view, trees_of}
+use Rattle.plain_term.specs.declared.tree.Tree as code
+use Rattle.plain_term.proofs.SharedLemmas.{left, right, both, no_way}
+
+abbrev spelled_bytes : List ℕ → List Item
+spelled_bytes bytes = map (λ b. item.Byte b) bytes
+
+-- the first n bytes are one list alone
+unique_bytes : (a b : List ℕ) (x y : List Item) → length a ≡ length b → spelled_bytes a ++ x ≡ spelled_bytes b ++ y → (a ≡ b) × (x ≡ y)
+unique_bytes [] [] x y n e = (refl, e)
+unique_bytes [] (b ∷ bs) x y n e = absurd (omega (arith, n))
+unique_bytes (a ∷ cs) [] x y n e = absurd (omega (arith, n))
+unique_bytes (a ∷ cs) (b ∷ bs) x y n e =
+    let tails : spelled_bytes cs ++ x ≡ spelled_bytes bs ++ y = cc in
+    let lens : length cs ≡ length bs = omega (arith, n) in
+    let more = unique_bytes cs bs x y lens tails in
+    let heads : a ≡ b = cc in
+    ((λ i. heads i ∷ more.0 i), more.1)
+
+mutual
+  unique : (a b : Tree) (x y : List Item) → is_spelled a ≡ true → is_spelled b ≡ true → items_of a ++ x ≡ items_of b ++ y → (a ≡ b) × (x ≡ y)
+  unique (Int i) (Int j) x y p q e = let same : i ≡ j = cc in (ap Int same, cc)
+  unique (Atom i) (Atom j) x y p q e = let same : i ≡ j = cc in (ap Atom same, cc)
+  unique (Pid i) (Pid j) x y p q e = let same : i ≡ j = cc in (ap Pid same, cc)
+  unique Nil Nil x y p q e = (refl, cc)
+  unique (Cons a b) (Cons c d) x y p q e =
+      let tails : (items_of a ++ items_of b) ++ x ≡ (items_of c ++ items_of d) ++ y = cc in
+      let apart : items_of a ++ (items_of b ++ x) ≡ items_of c ++ (items_of d ++ y) = sym (append_assoc (items_of a) (items_of b) x) ∙ tails ∙ append_assoc (items_of c) (items_of d) y in
+      let first = unique a c (items_of b ++ x) (items_of d ++ y) (left (is_spelled a) (is_spelled b) p) (left (is_spelled c) (is_spelled d) q) apart in
+      let second = unique b d x y (right (is_spelled a) (is_spelled b) p) (right (is_spelled c) (is_spelled d) q) first.1 in
+      ((λ i. Cons (first.0 i) (second.0 i)), second.1)
+  unique (Tuple ts) (Tuple us) x y p q e =
+      let tails : items_of_all ts ++ x ≡ items_of_all us ++ y = cc in
+      let lens : trees_len ts ≡ trees_len us = cc in
+      let parts = unique_all ts us x y lens p q tails in
+      (ap Tuple parts.0, parts.1)
+  unique (Bin a) (Bin b) x y p q e =
+      let tails : spelled_bytes a ++ x ≡ spelled_bytes b ++ y = cc in
+      let lens : length a ≡ length b = cc in
+      let bytes = unique_bytes a b x y lens tails in
+      (ap Bin bytes.0, bytes.1)
+  unique a b x y p q e = absurd cc
+
+  unique_all : (ts us : Trees) (x y : List Item) → trees_len ts ≡ trees_len us → are_spelled ts ≡ true → are_spelled us ≡ true → items_of_all ts ++ x ≡ items_of_all us ++ y → (ts ≡ us) × (x ≡ y)
+  unique_all end end x y n p q e = (refl, e)
+  unique_all end (u ▹ us) x y n p q e = absurd (omega (arith, n))
+  unique_all (t ▹ ts) end x y n p q e = absurd (omega (arith, n))
+  unique_all (t ▹ ts) (u ▹ us) x y n p q e =
+      let apart : items_of t ++ (items_of_all ts ++ x) ≡ items_of u ++ (items_of_all us ++ y) = sym (append_assoc (items_of t) (items_of_all ts) x) ∙ e ∙ append_assoc (items_of u) (items_of_all us) y in
+      let first = unique t u (items_of_all ts ++ x) (items_of_all us ++ y) (left (is_spelled t) (are_spelled ts) p) (left (is_spelled u) (are_spelled us) q) apart in
+      let lens : trees_len ts ≡ trees_len us = omega (arith, n) in
+      let rest = unique_all ts us x y lens (right (is_spelled t) (are_spelled ts) p) (right (is_spelled u) (are_spelled us) q) first.1 in
+      ((λ i. first.0 i ▹ rest.0 i), rest.1)
+
+-- where fewer bytes are read than stand at the front, a byte is next
+next_byte : (done bytes : List ℕ) (x y : List Item) → length done < length bytes → spelled_bytes done ++ x ≡ spelled_bytes bytes ++ y
+    → (b : ℕ) × (rest : List Item) × (x ≡ item.Byte b ∷ rest)
+next_byte [] [] x y lt e = absurd (omega (arith, lt))
+next_byte [] (b ∷ bs) x y lt e = (b, spelled_bytes bs ++ y, e)
+next_byte (d ∷ ds) [] x y lt e = absurd (omega (arith, lt))
+next_byte (d ∷ ds) (b ∷ bs) x y lt e =
+    let tails : spelled_bytes ds ++ x ≡ spelled_bytes bs ++ y = cc in
+    next_byte ds bs x y (omega (arith, lt)) tails
+
+pub no_byte : (items : List Item) (i n : ℕ) (done : List ℕ) (rest : List Item) → BeginBytes items i done rest → i < n
+    → ((b : ℕ) (more : List Item) → rest ≡ item.Byte b ∷ more → ⊥) → ExplainsBytes items n Items
+no_byte items i n done rest begins lt none bytes y (len, is) =
+    let found = next_byte done bytes rest y (omega (arith, len, begins.0, lt)) (sym begins.1 ∙ is) in
+    none found.0 found.1 found.2
+
+-- where fewer terms are read than stand at the front, a term is next
+next_term : (ts us : Trees) (x y : List Item) → are_spelled ts ≡ true → are_spelled us ≡ true → trees_len ts < trees_len us
+    → items_of_all ts ++ x ≡ items_of_all us ++ y → (u : Tree) × (rest : List Item) × Begins x u rest
+next_term end end x y p q lt e = absurd (omega (arith, lt))
+next_term end (u ▹ us) x y p q lt e = (u, items_of_all us ++ y, (left (is_spelled u) (are_spelled us) q, e ∙ append_assoc (items_of u) (items_of_all us) y))
+next_term (t ▹ ts) end x y p q lt e = absurd (omega (arith, lt))
+next_term (t ▹ ts) (u ▹ us) x y p q lt e =
+    let apart : items_of t ++ (items_of_all ts ++ x) ≡ items_of u ++ (items_of_all us ++ y) = sym (append_assoc (items_of t) (items_of_all ts) x) ∙ e ∙ append_assoc (items_of u) (items_of_all us) y in
+    let first = unique t u (items_of_all ts ++ x) (items_of_all us ++ y) (left (is_spelled t) (are_spelled ts) p) (left (is_spelled u) (are_spelled us) q) apart in
+    next_term ts us x y (right (is_spelled t) (are_spelled ts) p) (right (is_spelled u) (are_spelled us) q) (omega (arith, lt)) first.1
+
+pub no_part : (items : List Item) (i n : ℕ) (done : Trees) (rest : List Item) (fault : TreeFault) → BeginAll items i done rest → i < n
+    → ExplainsFront rest fault → ExplainsParts items n fault
+no_part items i n done rest Memory begin lt front = tt
+no_part items i n done rest Items begin lt front = λ ts y all.
+    let found = next_term done ts rest y begin.0 all.0 (omega (arith, all.1, begin.1, lt)) (sym begin.2 ∙ all.2) in
+    front found.0 found.1 found.2
+
+-- a list needs a tail after its head
+after_head : (rest : List Item) (head : Tree) (after : List Item) → Begins rest head after → (t : Tree) (y : List Item) → Begins (item.Cons ∷ rest) t y → (tail : Tree) × Begins after tail y
+after_head rest head after begins (Cons h t) y (spelled, is) =
+    let tails : rest ≡ (items_of h ++ items_of t) ++ y = cc in
+    let apart : items_of head ++ after ≡ items_of h ++ (items_of t ++ y) = sym begins.1 ∙ tails ∙ append_assoc (items_of h) (items_of t) y in
+    let first = unique head h after (items_of t ++ y) begins.0 (left (is_spelled h) (is_spelled t) spelled) apart in
+    (t, (right (is_spelled h) (is_spelled t) spelled, first.1))
+after_head rest head after begins t y (spelled, is) = absurd cc
+
+pub no_tail : (rest : List Item) (head : Tree) (after : List Item) (fault : TreeFault) → Begins rest head after → ExplainsFront after fault → ExplainsFront (item.Cons ∷ rest) fault
+no_tail rest head after Memory begins front = tt
+no_tail rest head after Items begins front = λ t y it. let found = after_head rest head after begins t y it in front found.0 y found.1
+
+-- a whole term has no items after it
+pub no_more : (items : List Item) (t u : Tree) (rest : List Item) → Begins items t rest → Spells items u → false ≡ (length rest == 0) → ⊥
+no_more items t u rest begins spells some =
+    let gone = (unique t u rest [] begins.0 spells.0 (sym begins.1 ∙ spells.1 ∙ sym (append-nil (items_of u)))).1 in
+    let Some : List Item → Type 0 = λ xs. false ≡ (length xs == 0) in
+    no_way (subst Some gone some)
+
+pub no_front : (items : List Item) (fault : TreeFault) → ExplainsFront items fault → Explains items fault
+no_front items Memory front = tt
+no_front items Items front = λ t spells. front t [] (spells.0, spells.1 ∙ sym (append-nil (items_of t)))
+
+are_spelled-push : (ts : List code.Tree) (t : code.Tree) → are_spelled (trees_of (map view ts)) ≡ true → is_spelled (view t) ≡ true → are_spelled (trees_of (map view (ts ++ t ∷ []))) ≡ true
+are_spelled-push [] t p q = both (is_spelled (view t)) true q refl
+are_spelled-push (u ∷ us) t p q = both (is_spelled (view u)) (are_spelled (trees_of (map view (us ++ t ∷ [])))) (left (is_spelled (view u)) (are_spelled (trees_of (map view us))) p)
+    (are_spelled-push us t (right (is_spelled (view u)) (are_spelled (trees_of (map view us))) p) q)
+
+trees_len-push : (ts : List code.Tree) (t : code.Tree) → trees_len (trees_of (map view (ts ++ t ∷ []))) ≡ trees_len (trees_of (map view ts)) + 1
+trees_len-push [] t = refl
+trees_len-push (u ∷ us) t = omega (arith, trees_len-push us t)
+
+items_of_all-push : (ts : List code.Tree) (t : code.Tree) (y : List Item) → items_of_all (trees_of (map view (ts ++ t ∷ []))) ++ y ≡ items_of_all (trees_of (map view ts)) ++ (items_of (view t) ++ y)
+items_of_all-push [] t y = ap (λ xs. xs ++ y) (append-nil (items_of (view t)))
+items_of_all-push (u ∷ us) t y =
+    append_assoc (items_of (view u)) (items_of_all (trees_of (map view (us ++ t ∷ [])))) y
+    ∙ ap (λ xs. items_of (view u) ++ xs) (items_of_all-push us t y)
+    ∙ sym (append_assoc (items_of (view u)) (items_of_all (trees_of (map view us))) (items_of (view t) ++ y))
+
+-- one more term is read
+pub begin_more : (items : List Item) (i : ℕ) (ts : List code.Tree) (rest : List Item) (t : code.Tree) (after : List Item)
+    → BeginAll items i (trees_of (map view ts)) rest → Begins rest (view t) after → BeginAll items (i + 1) (trees_of (map view (ts ++ t ∷ []))) after
+begin_more items i ts rest t after begin begins = (
+  are_spelled-push ts t begin.0 begins.0,
+  omega (arith, trees_len-push ts t, begin.1),
+  begin.2 ∙ ap (λ xs. items_of_all (trees_of (map view ts)) ++ xs) begins.1 ∙ sym (items_of_all-push ts t after),
+)

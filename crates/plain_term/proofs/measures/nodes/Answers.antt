@@ -1,0 +1,7 @@
+use Rattle.std.proofs.Common.{arith}
+use Rattle.plain_term.proofs.SharedLemmas.{nodes_any}
+use Rattle.plain_term.specs.View.{view}
+use Rattle.plain_term.proofs.measures.nodes.Goals as goal
+
+pub returns : goal.returns
+returns c = λ shared whole. omega (arith, c.count_nodes.ensures, nodes_any shared (view c.args.t.now) whole)

@@ -1,0 +1,10 @@
+pub mod Tree
+pub mod Bytes
+pub mod Measures
+pub mod Beyond
+pub mod Order
+pub mod Proper
+pub mod Text
+pub mod View
+pub mod Written
+pub mod Examples

@@ -1,0 +1,81 @@
+-- The terms that items spell.
+use Rattle.std.specs.Prelude.{◌≡◌, ℕ, ◌^◌, Bool, true, false, ◌&&◌, nat_lt, nat_le, List, [], ◌∷◌, ◌++◌, map, length, IsTrue, ⊤}
+use Rattle.plain_term.specs.Tree.{Tree, Trees, trees_len}
+use Rattle.plain_term.specs.Tree.Tree.{Int, Atom, Pid, Nil, Cons, Tuple, Bin}
+use Rattle.plain_term.specs.Tree.Trees.{end, ◌▹◌}
+use Rattle.plain_term.specs.Measures.{magnitude}
+use Rattle.plain_term.specs.declared.item.Item.{Item}
+use Rattle.plain_term.specs.declared.item.Item.TheVariants as item
+use Rattle.plain_term.specs.declared.tree.TreeFault.{TreeFault}
+use Rattle.plain_term.specs.declared.tree.TreeFault.TheVariants.{Memory, Items}
+
+abbrev mutual
+  -- The kinds of terms that items spell: integers of magnitude below 2^127, atoms, pids, nil, lists,
+  -- tuples and binaries of at most 64 bytes.
+  pub is_spelled : Tree → Bool
+  is_spelled (Int i) = nat_lt (magnitude i) (2 ^ 127)
+  is_spelled (Atom k) = true
+  is_spelled (Pid n) = true
+  is_spelled Nil = true
+  is_spelled (Cons h t) = is_spelled h && is_spelled t
+  is_spelled (Tuple ts) = are_spelled ts
+  is_spelled (Bin bytes) = nat_le (length bytes) 64
+  is_spelled _ = false
+
+  -- The same of each tree of a list.
+  pub are_spelled : Trees → Bool
+  are_spelled end = true
+  are_spelled (t ▹ ts) = is_spelled t && are_spelled ts
+
+abbrev mutual
+  -- The items of a term, a constructor before its parts.
+  pub items_of : Tree → List Item
+  items_of (Int i) = item.Int i ∷ []
+  items_of (Atom k) = item.Atom k ∷ []
+  items_of (Pid n) = item.Pid n ∷ []
+  items_of Nil = item.Nil ∷ []
+  items_of (Cons h t) = item.Cons ∷ (items_of h ++ items_of t)
+  items_of (Tuple ts) = item.Tuple (trees_len ts) ∷ items_of_all ts
+  items_of (Bin bytes) = item.Bin (length bytes) ∷ map (λ b. item.Byte b) bytes
+  items_of _ = []
+
+  -- The items of terms, one after the other.
+  pub items_of_all : Trees → List Item
+  items_of_all end = []
+  items_of_all (t ▹ ts) = items_of t ++ items_of_all ts
+
+-- The items are those of the tree, which is of a kind that they spell.
+abbrev pub Spells : List Item → Tree → Type 0
+Spells items t = IsTrue (is_spelled t) × (items ≡ items_of t)
+
+-- Only items that are not one whole term are a fault of items.
+abbrev pub Explains : List Item → TreeFault → Type 0
+Explains items Memory = ⊤
+Explains items Items = (t : Tree) → Spells items t → ⊥
+
+-- What is left after a term at the front.
+abbrev pub Begins : List Item → Tree → List Item → Type 0
+Begins items t rest = IsTrue (is_spelled t) × (items ≡ items_of t ++ rest)
+
+-- No term stands at the front.
+abbrev pub ExplainsFront : List Item → TreeFault → Type 0
+ExplainsFront items Memory = ⊤
+ExplainsFront items Items = (t : Tree) (rest : List Item) → Begins items t rest → ⊥
+
+-- What is left after n terms at the front.
+abbrev pub BeginAll : List Item → ℕ → Trees → List Item → Type 0
+BeginAll items n ts rest = IsTrue (are_spelled ts) × (trees_len ts ≡ n) × (items ≡ items_of_all ts ++ rest)
+
+-- No n terms stand at the front.
+abbrev pub ExplainsParts : List Item → ℕ → TreeFault → Type 0
+ExplainsParts items n Memory = ⊤
+ExplainsParts items n Items = (ts : Trees) (rest : List Item) → BeginAll items n ts rest → ⊥
+
+-- What is left after n bytes at the front.
+abbrev pub BeginBytes : List Item → ℕ → List ℕ → List Item → Type 0
+BeginBytes items n bytes rest = (length bytes ≡ n) × (items ≡ map (λ b. item.Byte b) bytes ++ rest)
+
+-- No n bytes stand at the front.
+abbrev pub ExplainsBytes : List Item → ℕ → TreeFault → Type 0
+ExplainsBytes items n Memory = ⊤
+ExplainsBytes items n Items = (bytes : List ℕ) (rest : List Item) → BeginBytes items n bytes rest → ⊥

@@ -1,0 +1,126 @@
+#![tactic(auto, using(crate::proofs::ViewLemmas::view_steps))]
+
+ghost use Rattle.std.specs.Prelude.{◌≡◌, ℕ, List, [], map, IsTrue};
+ghost use Rattle.plain_term.specs.View.{view, trees_of, pairs_of, pair_of, has_no_shared};
+ghost use Rattle.plain_term.specs.Order.{order as order_of, order_of_all, order_of_keys, order_of_values, kind_rank, name_of};
+
+use crate::tree::{Tree, bytes};
+use std::cmp::Ordering;
+
+/// The order of two terms: by value, and for different kinds integers first, then atoms,
+/// references, funs, pids, tuples, maps, nil, lists and binaries.
+///
+/// It speaks of terms that name no shared binary. A name that is not among `names` has no bytes.
+pub fn order(a: &Tree, b: &Tree, names: &[Vec<u8>]) -> Ordering
+    ensures { (shared : List (List ℕ)) → IsTrue (has_no_shared (view a.now)) → IsTrue (has_no_shared (view b.now)) → result ≡ order_of (map (λ v. v.items) names.now) shared (view a.now) (view b.now) }
+{
+    compare(a, b, names)
+}
+
+#[cycle(order)]
+fn compare(a: &Tree, b: &Tree, names: &[Vec<u8>]) -> Ordering
+    ensures { result ≡ order_of (map (λ v. v.items) names.now) [] (view a.now) (view b.now) }
+{
+    match (a, b) {
+        (Tree::Int(i), Tree::Int(j)) => i.cmp(j),
+        (Tree::Atom(k), Tree::Atom(j)) => name(names, *k).cmp(name(names, *j)),
+        (Tree::Ref(n, k), Tree::Ref(m, j)) => n.cmp(m).then(k.cmp(j)),
+        (Tree::Fun(f, n, c, env), Tree::Fun(g, m, d, others)) => name(names, *f)
+            .cmp(name(names, *g))
+            .then(n.cmp(m))
+            .then(c.cmp(d))
+            .then(env.len().cmp(&others.len()))
+            .then(compare_all(env.as_slice(), others.as_slice(), names)),
+        (Tree::Pid(n), Tree::Pid(m)) => n.cmp(m),
+        (Tree::Tuple(xs), Tree::Tuple(ys)) => xs
+            .len()
+            .cmp(&ys.len())
+            .then(compare_all(xs.as_slice(), ys.as_slice(), names)),
+        (Tree::Map(ps), Tree::Map(qs)) => ps
+            .len()
+            .cmp(&qs.len())
+            .then(compare_keys(ps.as_slice(), qs.as_slice(), names))
+            .then(compare_values(ps.as_slice(), qs.as_slice(), names)),
+        (Tree::Nil, Tree::Nil) => Ordering::Equal,
+        (Tree::Cons(head, tail), Tree::Cons(other, rest)) => {
+            compare(head.get(), other.get(), names).then(compare(tail.get(), rest.get(), names))
+        }
+        _ => rank(a).cmp(&rank(b)).then(bytes(a).cmp(bytes(b))),
+    }
+}
+
+#[cycle(order)]
+fn compare_all(xs: &[Tree], ys: &[Tree], names: &[Vec<u8>]) -> Ordering
+    ensures { result ≡ order_of_all (map (λ v. v.items) names.now) [] (trees_of (map view xs.now)) (trees_of (map view ys.now)) }
+{
+    for (i, x) in xs.iter().enumerate() {
+        let Some(y) = ys.get(i) else {
+            return Ordering::Greater;
+        };
+        let order = compare(x, y, names);
+        if order != Ordering::Equal {
+            return order;
+        }
+    }
+    xs.len().cmp(&ys.len())
+}
+
+#[cycle(order)]
+fn compare_keys(ps: &[(Tree, Tree)], qs: &[(Tree, Tree)], names: &[Vec<u8>]) -> Ordering
+    ensures { result ≡ order_of_keys (map (λ v. v.items) names.now) [] (pairs_of (map pair_of ps.now)) (pairs_of (map pair_of qs.now)) }
+{
+    for (i, p) in ps.iter().enumerate() {
+        let Some(q) = qs.get(i) else {
+            return Ordering::Greater;
+        };
+        let order = compare(&p.0, &q.0, names);
+        if order != Ordering::Equal {
+            return order;
+        }
+    }
+    ps.len().cmp(&qs.len())
+}
+
+#[cycle(order)]
+fn compare_values(ps: &[(Tree, Tree)], qs: &[(Tree, Tree)], names: &[Vec<u8>]) -> Ordering
+    ensures { result ≡ order_of_values (map (λ v. v.items) names.now) [] (pairs_of (map pair_of ps.now)) (pairs_of (map pair_of qs.now)) }
+{
+    for (i, p) in ps.iter().enumerate() {
+        let Some(q) = qs.get(i) else {
+            return Ordering::Greater;
+        };
+        let order = compare(&p.1, &q.1, names);
+        if order != Ordering::Equal {
+            return order;
+        }
+    }
+    ps.len().cmp(&qs.len())
+}
+
+// The bytes of the k-th name; none where there are fewer.
+fn name(names: &[Vec<u8>], k: u64) -> &[u8]
+    ensures { result.now ≡ name_of (map (λ v. v.items) names.now) k }
+{
+    match names.get(k as usize) {
+        Some(name) => name.as_slice(),
+        None => &[],
+    }
+}
+
+// The kinds of terms, from the least.
+fn rank(t: &Tree) -> u64
+    ensures { result ≡ kind_rank (view t.now) }
+{
+    match t {
+        Tree::Int(_) => 0,
+        Tree::Atom(_) => 1,
+        Tree::Ref(..) => 2,
+        Tree::Fun(..) => 3,
+        Tree::Pid(_) => 4,
+        Tree::Tuple(_) => 5,
+        Tree::Map(_) => 6,
+        Tree::Nil => 7,
+        Tree::Cons(..) => 8,
+        Tree::Bin(_) | Tree::Shared(_) | Tree::Part(..) => 9,
+    }
+}
