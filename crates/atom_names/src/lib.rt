@@ -1,0 +1,11 @@
+//! The names of atoms, each with its number.
+#![tactic(auto)]
+
+mod names;
+mod open_fault;
+mod row;
+mod spread;
+mod table;
+
+pub use names::AtomNames;
+pub use open_fault::OpenFault;

@@ -1,0 +1,161 @@
+ghost use Rattle.std.specs.Prelude.{
+  ◌≡◌,
+  ℕ,
+  ◌+◌,
+  ◌*◌,
+  ◌-◌,
+  ◌<◌,
+  ◌≤◌,
+  List,
+  [],
+  ◌∷◌,
+  ◌++◌,
+  length,
+  take,
+  IfOk,
+  IfSome,
+  IfNone,
+  slice_index_or,
+  map,
+};
+ghost use Rattle.atom_names.specs.Names.{AreNames, index_of, with_name};
+ghost use Rattle.atom_names.specs.Rows.{AreShort, name_of};
+
+use crate::open_fault::OpenFault;
+use crate::row::{Row, name_in, row_of};
+use crate::table::Table;
+use std::alloc::Global;
+use std::marker::Model;
+
+/// How many names there may be. This project's own limit.
+pub(crate) const NAMES: usize = 16_384;
+
+/// The names of atoms in the order of their numbers, from 0 on.
+#[derive(Drop)]
+pub struct AtomNames {
+    rows: Vec<Row>,
+    table: Table,
+    count: usize,
+}
+
+impl Model for AtomNames {
+    ghost use Rattle.std.specs.Prelude.{List, ℕ};
+
+    ghost Value = { List (List ℕ) };
+
+    ghost use Rattle.atom_names.specs.Rows.{names_of, Holds};
+
+    ghost view = { λ a. names_of a.rows.items a.count };
+
+    ghost invariant = { λ a. Holds a.rows.items a.table a.count };
+}
+
+impl AtomNames {
+    /// Takes all memory that the names will ever need.
+    pub fn new(alloc: Global) -> Result<AtomNames, OpenFault>
+        ensures { IfOk result (λ names. names ≡ []) }
+    {
+        let Ok(table) = Table::new(alloc) else {
+            return Err(OpenFault::Memory);
+        };
+        let row = Row {
+            len: 0,
+            bytes: [0; 63],
+        };
+        match vec![in alloc; row; NAMES] {
+            Ok(rows) => Ok(AtomNames {
+                rows,
+                table,
+                count: 0,
+            }),
+            Err(_) => Err(OpenFault::Memory),
+        }
+    }
+
+    /// The number of a name. A new one goes last; `None` where it is new and all numbers are taken.
+    pub fn intern(&mut self, name: &[u8]) -> Option<u64>
+        requires { (1 ≤ length name.now) × (length name.now ≤ 63) }
+        ensures names { IfSome result (λ _. self.new ≡ with_name self.old name.now) }
+        ensures number { IfSome result (λ k. index_of self.new name.now ≡ Some k) }
+        ensures room { IfSome result (λ _. length self.new ≤ 16384) }
+        ensures full { IfNone result ((self.new ≡ self.old) × (index_of self.old name.now ≡ None) × (length self.old ≡ 16384)) }
+    {
+        let slot = match self.table.find(&self.rows[..self.count], name) {
+            Ok(k) => return Some(k as u64),
+            Err(slot) => slot,
+        };
+        if self.count == NAMES {
+            return None;
+        }
+        let k = self.count;
+        self.rows[k] = row_of(name);
+        self.table.add(k, slot);
+        self.count += 1;
+        Some(k as u64)
+    }
+
+    /// How many names there are.
+    pub fn count(&self) -> u64
+        ensures value { result ≡ length self.now }
+        ensures names { AreNames self.now }
+    {
+        self.count as u64
+    }
+
+    /// The bytes of the name with this number.
+    pub fn name(&self, k: u64) -> &[u8]
+        requires { k < length self.now }
+        ensures value { result.now ≡ slice_index_or self.now k [] }
+        ensures sized { (1 ≤ length result.now) × (length result.now ≤ 63) }
+    {
+        name_in(&self.rows[k as usize])
+    }
+
+    /// Lets the first `n` names stay and takes back the others.
+    pub fn forget(&mut self, n: u64)
+        requires { n ≤ length self.old }
+        ensures { self.new ≡ take n self.old }
+    {
+        let count = n as usize;
+        self.table.free(count, self.count);
+        self.count = count;
+    }
+}
+
+#[cfg(test)]
+mod tests {
+    use super::*;
+    use std::test::Fail;
+
+    #[test]
+    fn numbers_names_until_all_numbers_are_taken(rt: HostRuntime) -> Result<(), Fail> {
+        let mut names = AtomNames::new(rt.alloc())?;
+        for k in 0..16_384u64 {
+            let name = [(k / 128) as u8, (k % 128) as u8];
+            assert_eq!(rt; names.intern(&name), Some(k));
+        }
+        assert_eq!(rt; names.intern(b"fresh"), None);
+        assert_eq!(rt; names.count(), 16_384);
+        assert_eq!(rt; names.name(300), [2, 44].as_slice());
+        assert_eq!(rt; names.intern(&[2, 44]), Some(300));
+        Ok(())
+    }
+
+    #[test]
+    fn gives_the_numbers_of_forgotten_names_again(rt: HostRuntime) -> Result<(), Fail> {
+        let mut names = AtomNames::new(rt.alloc())?;
+        for k in 0..16_384u64 {
+            let name = [(k / 128) as u8, (k % 128) as u8];
+            assert_eq!(rt; names.intern(&name), Some(k));
+        }
+        assert_eq!(rt; names.count(), 16_384);
+        names.forget(100);
+        assert_eq!(rt; names.count(), 100);
+        for k in 0..16_384u64 {
+            let name = [(k / 128) as u8, (k % 128) as u8];
+            assert_eq!(rt; names.intern(&name), Some(k));
+        }
+        assert_eq!(rt; names.intern(b"fresh"), None);
+        Ok(())
+    }
+}

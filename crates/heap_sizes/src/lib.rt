@@ -1,0 +1,6 @@
+//! The sizes that a heap may have.
+#![tactic(auto)]
+
+mod sizes;
+
+pub use sizes::next_size;
