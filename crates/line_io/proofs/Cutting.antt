@@ -1,0 +1,219 @@
+-- What the fields of a reader mean after each of its steps, and what its last answers say of the lines.
+use Rattle.std.proofs.Common.{◌≡◌, ℕ, zero, suc, ◌+◌, ◌<◌, ◌≤◌, ◌&&◌, ◌||◌, Bool, true, false, MatchBool, nat_lt, nat_le, List, [], ◌∷◌, ◌++◌, length, take, map, refl, sym, ap, ◌∙◌, arith, append_assoc, append-nil, length-append}
+use Rattle.std.proofs.lemmas.List.{take_all}
+use Rattle.std.proofs.lemmas.List.{map-append}
+use Rattle.std.proofs.Math.Seq.{take-append-add}
+use Rattle.std.proofs.lemmas.List.Folds.{list_all-append}
+use Rattle.std.proofs.lemmas.Bool.Decides.{nat_tests}
+use Rattle.std.specs.List.{list_all}
+use Rattle.std.specs.Str.Lines.{strip_carriage_return}
+use Rattle.line_io.specs.Lines.{Line, is_whole, pieces, line_of, finished, lines, is_too_much}
+use Rattle.line_io.specs.Reader.{IsCutting, IsOpen, line_given}
+use Rattle.line_io.specs.declared.reader.Limits.{Limits}
+use Rattle.line_io.proofs.Pieces.{IsOpen-append, pieces-first, pieces-open, whole_of_open, pieces-some, is_whole_ended, line_of_whole, line_of_open, line_given_long, length-strip, finished-append, or-true}
+
+-- the lines of some bytes, of which the pieces that came first were given
+pub lines-cut : (bytes : List ℕ) (ended : Bool) (limits : Limits) (whole ps : List (List ℕ)) (more : ℕ) → pieces (take limits.bytes bytes) ≡ whole ++ ps → list_all is_whole whole ≡ true → more + length whole ≡ limits.lines
+    → lines bytes ended limits ≡ map line_of whole ++ map line_of (take more (finished (ended && nat_le (length bytes) limits.bytes) ps))
+unfolding lines
+lines-cut bytes ended limits whole ps more cut all sum =
+    let last = ended && nat_le (length bytes) limits.bytes in
+    let count : length whole + more ≡ limits.lines = omega arith in
+    ap (λ l. map line_of (take limits.lines (finished last l))) cut
+    ∙ ap (λ l. map line_of (take limits.lines l)) (finished-append last whole ps all)
+    ∙ ap (λ n. map line_of (take n (whole ++ finished last ps))) (sym count)
+    ∙ ap (map line_of) (take-append-add whole (finished last ps) more)
+    ∙ map-append line_of whole (take more (finished last ps))
+
+-- the pieces of the bytes that were taken
+pub cut_pieces : (limits : Limits) (is_long : Bool) (more room : ℕ) (held bytes : List ℕ) (given : List Line) (r : IsCutting limits is_long more room held bytes given) → pieces bytes ≡ r.whole ++ pieces (r.gone ++ held)
+cut_pieces limits is_long more room held bytes given r =
+    ap pieces (sym (append-nil bytes)) ∙ r.cuts [] ∙ ap (λ l. r.whole ++ pieces (r.gone ++ l)) (append-nil held)
+
+-- more bytes came than are allowed
+pub too_many_bytes : (bytes : List ℕ) (limits : Limits) → limits.bytes < length bytes → is_too_much bytes limits ≡ true
+unfolding is_too_much
+too_many_bytes bytes limits more = let over : nat_lt limits.bytes (length bytes) ≡ true = grind (arith, nat_tests) in rw over refl
+
+-- more pieces came than lines are allowed
+pub too_many_lines : (bytes : List ℕ) (limits : Limits) → limits.lines < length (pieces bytes) → is_too_much bytes limits ≡ true
+unfolding is_too_much
+too_many_lines bytes limits more =
+    let over : nat_lt limits.lines (length (pieces bytes)) ≡ true = grind (arith, nat_tests) in
+    ap (λ b. nat_lt limits.bytes (length bytes) || b) over ∙ or-true (nat_lt limits.bytes (length bytes))
+
+-- what came keeps both limits
+pub not_too_much : (bytes : List ℕ) (limits : Limits) → length bytes ≤ limits.bytes → length (pieces bytes) ≤ limits.lines → is_too_much bytes limits ≡ false
+unfolding is_too_much
+not_too_much bytes limits few short =
+    let bytes_fit : nat_lt limits.bytes (length bytes) ≡ false = grind (arith, nat_tests) in
+    let lines_fit : nat_lt limits.lines (length (pieces bytes)) ≡ false = grind (arith, nat_tests) in
+    rw (bytes_fit, lines_fit) refl
+
+-- bytes are gone exactly from a line that is too long in any case
+abbrev Gone : Bool → List ℕ → Type 0
+Gone is_long gone = MatchBool is_long (8192 ≤ length gone) (gone ≡ [])
+
+take-nil : (n : ℕ) → ◌≡◌ {A = List (List ℕ)} (take n []) []
+take-nil zero = refl
+take-nil (suc n) = refl
+
+take_one : (n : ℕ) (p : List ℕ) → 0 < n → take n (p ∷ []) ≡ p ∷ []
+take_one n p some = take_all n (p ∷ []) (omega arith)
+
+one_piece : (xs : List ℕ) → 0 < length xs → IsOpen xs → pieces xs ≡ xs ∷ []
+one_piece [] some no_end = absurd (omega arith)
+one_piece (b ∷ xs) some no_end = pieces-open b xs no_end
+
+not_gone : (is_long : Bool) (gone : List ℕ) → is_long ≡ false → Gone is_long gone → gone ≡ []
+not_gone true gone e h = absurd (cc)
+not_gone false gone e h = h
+
+and-false : (b : Bool) → (b && false) ≡ false
+and-false true = refl
+and-false false = refl
+
+and-true : (b : Bool) → (b && true) ≡ b
+and-true true = refl
+and-true false = refl
+
+more_than : (is_long : Bool) (gone : List ℕ) (more : ℕ) → MatchBool is_long ((8192 ≤ length gone) × (0 < more)) (gone ≡ []) → Gone is_long gone
+more_than true gone more h = h.0
+more_than false gone more h = h
+
+-- a whole line, of which some bytes may have gone
+whole_line : (is_long : Bool) (gone t : List ℕ) → Gone is_long gone → line_given false (strip_carriage_return (gone ++ t)) ≡ line_given is_long (strip_carriage_return t)
+whole_line true gone t h = line_given_long (strip_carriage_return (gone ++ t)) (omega (arith, h, length-append gone t, length-strip (gone ++ t)))
+whole_line false gone t h = ap (λ l. line_given false (strip_carriage_return (l ++ t))) h
+
+-- a last line, of which some bytes may have gone
+last_line : (is_long : Bool) (gone t : List ℕ) → Gone is_long gone → line_given false (gone ++ t) ≡ line_given is_long t
+last_line true gone t h = line_given_long (gone ++ t) (omega (arith, h, length-append gone t))
+last_line false gone t h = ap (λ l. line_given false (l ++ t)) h
+
+module _ (limits : Limits) (is_long : Bool) (more room : ℕ) (held bytes : List ℕ) (given : List Line) where
+  -- bytes within the limit
+  within : IsCutting limits is_long more room held bytes given → length bytes ≤ limits.bytes
+  within r = omega (arith, r.bytes_sum)
+
+  take_within : IsCutting limits is_long more room held bytes given → take limits.bytes bytes ≡ bytes
+  take_within r = take_all limits.bytes bytes (within r)
+
+  -- the lines of bytes within the limit: those that were given, and what the held bytes make
+  pub open_lines : (ended : Bool) (r : IsCutting limits is_long more room held bytes given)
+      → lines bytes ended limits ≡ given ++ map line_of (take more (finished ended (pieces (r.gone ++ held))))
+  open_lines ended r =
+      let test : nat_le (length bytes) limits.bytes ≡ true = grind (arith, nat_tests, within r) in
+      lines-cut bytes ended limits r.whole (pieces (r.gone ++ held)) more (ap pieces (take_within r) ∙ cut_pieces limits is_long more room held bytes given r) r.all_whole r.lines_sum
+      ∙ ap (λ b. map line_of r.whole ++ map line_of (take more (finished b (pieces (r.gone ++ held))))) (ap (λ b. ended && b) test ∙ and-true ended)
+      ∙ ap (λ l. l ++ map line_of (take more (finished ended (pieces (r.gone ++ held))))) (sym r.given_is)
+
+  -- the line that the bytes t end, of which some may have gone
+  same_line : (t : List ℕ) → IsOpen t → (r : IsCutting limits is_long more room held bytes given) → line_of ((r.gone ++ t) ++ (10 ∷ [])) ≡ line_given is_long (strip_carriage_return t)
+  same_line t no_end r = line_of_whole (r.gone ++ t) (IsOpen-append r.gone t r.gone_open no_end) ∙ whole_line is_long r.gone t (more_than is_long r.gone more r.long_is)
+
+  -- a whole line is given
+  pub gives : (t rest : List ℕ) (fewer : ℕ) → held ≡ t ++ (10 ∷ rest) → IsOpen t → fewer + 1 ≡ more → IsCutting limits is_long more room held bytes given
+      → IsCutting limits false fewer room rest bytes (given ++ (line_given is_long (strip_carriage_return t) ∷ []))
+  gives t rest fewer parts no_end one r =
+      let first : (later : List ℕ) → pieces (r.gone ++ ((t ++ (10 ∷ rest)) ++ later)) ≡ ((r.gone ++ t) ++ (10 ∷ [])) ∷ pieces (rest ++ later) =
+      λ later. ap pieces (ap (λ l. r.gone ++ l) (append_assoc t (10 ∷ rest) later) ∙ sym (append_assoc r.gone t (10 ∷ (rest ++ later)))) ∙ pieces-first (r.gone ++ t) (rest ++ later) (IsOpen-append r.gone t r.gone_open no_end) in
+      record {
+        whole = r.whole ++ ((r.gone ++ t) ++ (10 ∷ [])) ∷ [];
+        gone = [];
+        cuts = λ later. r.cuts later ∙ ap (λ l. r.whole ++ pieces (r.gone ++ (l ++ later))) parts ∙ ap (λ l. r.whole ++ l) (first later) ∙ sym (append_assoc r.whole (((r.gone ++ t) ++ (10 ∷ [])) ∷ []) (pieces (rest ++ later)));
+        all_whole = list_all-append is_whole r.whole (((r.gone ++ t) ++ (10 ∷ [])) ∷ []) ∙ rw (r.all_whole, is_whole_ended (r.gone ++ t)) refl;
+        given_is = ap (λ l. l ++ (line_given is_long (strip_carriage_return t) ∷ [])) r.given_is ∙ ap (λ x. map line_of r.whole ++ (x ∷ [])) (sym (same_line t no_end r)) ∙ sym (map-append line_of r.whole (((r.gone ++ t) ++ (10 ∷ [])) ∷ []));
+        gone_open = refl;
+        long_is = refl;
+        lines_sum = omega (arith, r.lines_sum, one, length-append r.whole (((r.gone ++ t) ++ (10 ∷ [])) ∷ []));
+        bytes_sum = r.bytes_sum;
+      }
+
+  -- more bytes are held
+  pub takes : (x : List ℕ) (less : ℕ) → less + length x ≡ room → IsCutting limits is_long more room held bytes given → IsCutting limits is_long more less (held ++ x) (bytes ++ x) given
+  takes x less sum r = record {
+    whole = r.whole;
+    gone = r.gone;
+    cuts = λ later. ap pieces (append_assoc bytes x later) ∙ r.cuts (x ++ later) ∙ ap (λ l. r.whole ++ pieces (r.gone ++ l)) (sym (append_assoc held x later));
+    all_whole = r.all_whole;
+    given_is = r.given_is;
+    gone_open = r.gone_open;
+    long_is = r.long_is;
+    lines_sum = r.lines_sum;
+    bytes_sum = omega (arith, r.bytes_sum, sum, length-append bytes x);
+  }
+
+  -- a full buffer is let go
+  pub lets_go : 8192 ≤ length held → IsOpen held → 0 < more → IsCutting limits is_long more room held bytes given → IsCutting limits true more room [] bytes given
+  lets_go full no_end line r = record {
+    whole = r.whole;
+    gone = r.gone ++ held;
+    cuts = λ later. r.cuts later ∙ ap (λ l. r.whole ++ pieces l) (sym (append_assoc r.gone held later));
+    all_whole = r.all_whole;
+    given_is = r.given_is;
+    gone_open = IsOpen-append r.gone held r.gone_open no_end;
+    long_is = (omega (arith, full, length-append r.gone held), line);
+    lines_sum = r.lines_sum;
+    bytes_sum = r.bytes_sum;
+  }
+
+  -- what is left of the lines, once no more are allowed
+  pub none_left : 0 < length held → more ≡ 0 → (r : IsCutting limits is_long more room held bytes given) → ((ended : Bool) → lines bytes ended limits ≡ given) × (is_too_much bytes limits ≡ true)
+  none_left some none r =
+      let rest = r.gone ++ held in
+      let more_lines : limits.lines < length (pieces bytes) =
+      omega (arith, ap length (cut_pieces limits is_long more room held bytes given r), length-append r.whole (pieces rest), pieces-some rest (omega (arith, some, length-append r.gone held)), r.lines_sum, none) in
+      (λ ended. open_lines ended r ∙ ap (λ n. given ++ map line_of (take n (finished ended (pieces rest)))) none ∙ append-nil given, too_many_lines bytes limits more_lines)
+
+  -- without a line end no whole line is held
+  pub none_whole : IsOpen held → (r : IsCutting limits is_long more room held bytes given) → lines bytes false limits ≡ given
+  none_whole no_end r =
+      open_lines false r ∙ ap (λ ps. given ++ map line_of (take more ps)) (whole_of_open (r.gone ++ held) (IsOpen-append r.gone held r.gone_open no_end))
+      ∙ ap (λ ps. given ++ map line_of ps) (take-nil more) ∙ append-nil given
+
+  -- nothing is held, and nothing has gone: all lines were given
+  pub all_given : is_long ≡ false → held ≡ [] → (r : IsCutting limits is_long more room held bytes given) → (lines bytes true limits ≡ given) × (is_too_much bytes limits ≡ false)
+  all_given short empty r =
+      let none : r.gone ++ held ≡ [] = ap (λ l. l ++ held) (not_gone is_long r.gone short (more_than is_long r.gone more r.long_is)) ∙ empty in
+      let fits : length (pieces bytes) ≤ limits.lines =
+      omega (arith, ap length (cut_pieces limits is_long more room held bytes given r), length-append r.whole (pieces (r.gone ++ held)), ap (λ l. length (pieces l)) none, r.lines_sum) in (
+        open_lines true r ∙ ap (λ l. given ++ map line_of (take more (pieces l))) none ∙ ap (λ ps. given ++ map line_of ps) (take-nil more) ∙ append-nil given,
+        not_too_much bytes limits (within r) fits,
+      )
+
+  -- the last line has no end
+  pub last_given : 0 < more → IsOpen held → (r : IsCutting limits is_long more room held bytes given) → 0 < length (r.gone ++ held)
+      → (lines bytes true limits ≡ given ++ (line_given is_long held ∷ [])) × (is_too_much bytes limits ≡ false)
+  last_given line no_end r some =
+      let rest = r.gone ++ held in
+      let one : pieces rest ≡ rest ∷ [] = one_piece rest some (IsOpen-append r.gone held r.gone_open no_end) in
+      let same : line_of rest ≡ line_given is_long held = line_of_open rest (IsOpen-append r.gone held r.gone_open no_end) ∙ last_line is_long r.gone held (more_than is_long r.gone more r.long_is) in
+      let fits : length (pieces bytes) ≤ limits.lines =
+      omega (arith, ap length (cut_pieces limits is_long more room held bytes given r), length-append r.whole (pieces rest), ap length one, r.lines_sum, line) in (
+        open_lines true r ∙ ap (λ ps. given ++ map line_of (take more ps)) one ∙ ap (λ ps. given ++ map line_of ps) (take_one more rest line) ∙ ap (λ l. given ++ (l ∷ [])) same,
+        not_too_much bytes limits (within r) fits,
+      )
+
+-- of bytes past the limit, the lines are those of the bytes within it
+module _ (limits : Limits) (is_long : Bool) (more room : ℕ) (held bytes : List ℕ) (given : List Line) where
+  pub cut_lines : (ended : Bool) → limits.bytes < length bytes → (r : IsCutting limits is_long more room held (take limits.bytes bytes) given)
+      → lines bytes ended limits ≡ given ++ map line_of (take more (finished false (pieces (r.gone ++ held))))
+  cut_lines ended over r =
+      let test : nat_le (length bytes) limits.bytes ≡ false = grind (arith, nat_tests, over) in
+      lines-cut bytes ended limits r.whole (pieces (r.gone ++ held)) more (cut_pieces limits is_long more room held (take limits.bytes bytes) given r) r.all_whole r.lines_sum
+      ∙ ap (λ b. map line_of r.whole ++ map line_of (take more (finished b (pieces (r.gone ++ held))))) (ap (λ b. ended && b) test ∙ and-false ended)
+      ∙ ap (λ l. l ++ map line_of (take more (finished false (pieces (r.gone ++ held))))) (sym r.given_is)
+
+  pub cut_none_left : more ≡ 0 → limits.bytes < length bytes → (r : IsCutting limits is_long more room held (take limits.bytes bytes) given)
+      → ((ended : Bool) → lines bytes ended limits ≡ given) × (is_too_much bytes limits ≡ true)
+  cut_none_left none over r =
+      (λ ended. cut_lines ended over r ∙ ap (λ n. given ++ map line_of (take n (finished false (pieces (r.gone ++ held))))) none ∙ append-nil given, too_many_bytes bytes limits over)
+
+  pub cut_none_whole : IsOpen held → limits.bytes < length bytes → (r : IsCutting limits is_long more room held (take limits.bytes bytes) given)
+      → ((ended : Bool) → lines bytes ended limits ≡ given) × (is_too_much bytes limits ≡ true)
+  cut_none_whole no_end over r = (
+    λ ended. cut_lines ended over r ∙ ap (λ ps. given ++ map line_of (take more ps)) (whole_of_open (r.gone ++ held) (IsOpen-append r.gone held r.gone_open no_end))
+        ∙ ap (λ ps. given ++ map line_of ps) (take-nil more) ∙ append-nil given,
+    too_many_bytes bytes limits over,
+  )

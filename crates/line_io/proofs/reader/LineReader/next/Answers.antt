@@ -1,0 +1,90 @@
+use Rattle.std.proofs.Common.{◌≡◌, ◌+◌, ◌-◌, ◌++◌, length, take, drop, slice_range, refl, sym, ap, subst, ◌∙◌, arith, append_assoc}
+use Rattle.line_io.specs.Reader.{CutBy, HasCut, IsOpen, held}
+use Rattle.line_io.proofs.Ranges.{range_kept, written_over}
+use Rattle.line_io.proofs.Steps.{faults_by}
+use Rattle.line_io.proofs.Loop.{Gave-append, Gave-end, reads_of, reads_again}
+use Rattle.line_io.proofs.reader.LineReader.next.Goals as goal
+
+pub returns-in-Some-clause-reads : goal.returns-in-Some-clause-reads
+returns-in-Some-clause-reads g c = λ bytes given h.
+    reads_again c.in-Some.answer c.args.self.now (g.S.Source.left c.args.source.now) bytes given (sym c.in-Some.ensures) h
+
+pub returns-in-Some-ready-clause-reads : goal.returns-in-Some-ready-clause-reads
+returns-in-Some-ready-clause-reads g c = λ bytes given h.
+    let inv = c.reading.invariant in
+    let a = c.in-Some-ready.ensures.some in
+    let t = inv.took bytes given h in
+    reads_of c.in-Some-ready.answer c.ready.new.self (g.S.Source.left c.args.source.now) (g.S.Source.left c.reading.source) _ bytes t.0 given (a.limits ∙ inv.limits) t.1 (a.reads _ (bytes ++ t.0) given t.2) a.settles
+
+pub reading-preserved : goal.reading-preserved
+reading-preserved g c =
+    let inv = c.reading.invariant in
+    let r = c.in_default-ready.ensures in
+    let m = c.make_room.new.self in
+    let me = c.make_room.ensures in
+    let n = c.in-Got.n in
+    let k = c.count_in.ensures in
+    let new = c.count_in.new.self in
+    let buf = c.fill.new.buf in
+    let items = take m.buf.len (buf ++ drop (length buf) m.buf.items) in
+    let over : items ≡ buf = written_over m.buf.len buf m.buf.items (omega (arith, c.fill.auto.buf, c.deref_mut.ensures.len)) in
+    let kept : slice_range items m.start m.end ≡ held m = range_kept m.buf.items items m.start m.end m.in_order (ap (take m.end) over ∙ c.fill.ensures.front ∙ ap (take m.end) c.deref_mut.ensures.value) in
+    let count : m.end + n - m.end ≡ n = omega arith in
+    let x : slice_range items m.end (m.end + n) ≡ take n (drop m.end buf) = ap (λ l. take (m.end + n - m.end) (drop m.end l)) over ∙ ap (λ z. take z (drop m.end buf)) count in
+    let no_end : IsOpen (slice_range new.buf.items new.start m.end) =
+    subst IsOpen (sym (ap (λ b. slice_range b.items new.start m.end) k.buf ∙ ap (λ s. slice_range items s m.end) k.start ∙ kept)) me.open in
+    record {
+      behind = omega (arith, k.start, m.in_order);
+      within = k.end;
+      no_end = no_end;
+      going = k.going;
+      limits = k.limits ∙ me.limits ∙ ap (λ w. w.limits) r.same ∙ inv.limits;
+      lines = k.lines ∙ me.lines ∙ ap (λ w. w.lines_left) r.same ∙ inv.lines;
+      later = omega (arith, inv.later, c.fill.ensures.later);
+      took = λ bytes given h.
+          let t = inv.took bytes given h in
+          let at_start = me.cuts (bytes ++ t.0) given (subst (λ w. HasCut w (bytes ++ t.0) given) (sym r.same) t.2) in
+          let read = k.cuts (bytes ++ t.0) given (subst (λ l. CutBy m.stop m.limits m.long m.lines_left m.bytes_left l (bytes ++ t.0) given) (sym kept) at_start) in
+          let all : (bytes ++ t.0) ++ slice_range items m.end (m.end + n) ≡ bytes ++ (t.0 ++ take n (drop m.end buf)) = ap (λ l. (bytes ++ t.0) ++ l) x ∙ append_assoc bytes t.0 (take n (drop m.end buf)) in
+          (t.0 ++ take n (drop m.end buf), Gave-append _ _ _ t.0 _ t.1 c.in-Got.ensures.bytes, subst (λ b. HasCut new b given) all read);
+    }
+
+pub last_line-requires-clause-open : goal.last_line-requires-clause-open
+last_line-requires-clause-open g c =
+    let m = c.make_room.new.self in
+    let buf = c.fill.new.buf in
+    let items = take m.buf.len (buf ++ drop (length buf) m.buf.items) in
+    let over : items ≡ buf = written_over m.buf.len buf m.buf.items (omega (arith, c.fill.auto.buf, c.deref_mut.ensures.len)) in
+    let kept : slice_range items m.start m.end ≡ held m = range_kept m.buf.items items m.start m.end m.in_order (ap (take m.end) over ∙ c.fill.ensures.front ∙ ap (take m.end) c.deref_mut.ensures.value) in
+    subst IsOpen (sym kept) c.make_room.ensures.open
+
+pub returns-in-End-clause-reads : goal.returns-in-End-clause-reads
+returns-in-End-clause-reads g c = λ bytes given h.
+    let inv = c.reading.invariant in
+    let r = c.in_default-ready.ensures in
+    let m = c.make_room.new.self in
+    let me = c.make_room.ensures in
+    let l = c.last_line.ensures in
+    let buf = c.fill.new.buf in
+    let items = take m.buf.len (buf ++ drop (length buf) m.buf.items) in
+    let over : items ≡ buf = written_over m.buf.len buf m.buf.items (omega (arith, c.fill.auto.buf, c.deref_mut.ensures.len)) in
+    let kept : slice_range items m.start m.end ≡ held m = range_kept m.buf.items items m.start m.end m.in_order (ap (take m.end) over ∙ c.fill.ensures.front ∙ ap (take m.end) c.deref_mut.ensures.value) in
+    let t = inv.took bytes given h in
+    let at_start = me.cuts (bytes ++ t.0) given (subst (λ w. HasCut w (bytes ++ t.0) given) (sym r.same) t.2) in
+    let cuts = subst (λ x. CutBy m.stop m.limits m.long m.lines_left m.bytes_left x (bytes ++ t.0) given) (sym kept) at_start in
+    let limits = l.limits ∙ me.limits ∙ ap (λ w. w.limits) r.same ∙ inv.limits in
+    reads_of c.last_line.result c.last_line.new.self _ (g.S.Source.left c.fill.new.source) _ bytes t.0 given limits (Gave-end _ _ _ t.0 t.1 c.in-End.ensures.bytes)
+    (l.reads (g.S.Source.left c.fill.new.source) (bytes ++ t.0) given c.in-End.ensures.end cuts) l.settles
+
+pub returns-in-Failed-clause-reads : goal.returns-in-Failed-clause-reads
+returns-in-Failed-clause-reads g c = λ bytes given h.
+    let inv = c.reading.invariant in
+    let r = c.in_default-ready.ensures in
+    let m = c.make_room.new.self in
+    let me = c.make_room.ensures in
+    let t = inv.took bytes given h in
+    let at_start = me.cuts (bytes ++ t.0) given (subst (λ w. HasCut w (bytes ++ t.0) given) (sym r.same) t.2) in
+    let going = me.stop ∙ ap (λ w. w.stop) r.same ∙ r.going in
+    let limits = me.limits ∙ ap (λ w. w.limits) r.same ∙ inv.limits in
+    reads_of _ _ _ (g.S.Source.left c.fill.new.source) _ bytes t.0 given limits (Gave-end _ _ _ t.0 t.1 c.in-Failed.ensures.bytes)
+    (record { here = faults_by m.stop m.limits m.long m.lines_left m.bytes_left (held m) (bytes ++ t.0) given going me.open at_start }) refl

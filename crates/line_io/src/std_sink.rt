@@ -1,0 +1,50 @@
+// Std's writers as sinks.
+ghost use Rattle.std.specs.Prelude.{◌≡◌, ◌≤◌, ℕ, length};
+
+use crate::sink::{Sink, Took};
+use std::io::Write;
+
+/// A sink over a writer of std, flushed after each write. It tells no bytes, so each list may have been written;
+/// each error, of a write or of a flush, and each write of 0 bytes is one fault.
+#[derive(Drop)]
+pub struct StdSink<W> {
+    writer: W,
+    faults: u64,
+}
+
+impl<W: Write> StdSink<W> {
+    pub fn new(writer: W) -> StdSink<W>
+        ensures { ⟦<StdSink<W> as Sink>⟧.faults result ≡ 0 }
+    {
+        StdSink { writer, faults: 0 }
+    }
+
+    // Writes and flushes once, and answers how many bytes went, 0 for a fault.
+    fn write_through(&mut self, bytes: &[u8]) -> usize
+        ensures bound { result ≤ length bytes.now }
+        ensures faults { self.new.faults ≡ self.old.faults }
+    {
+        let Ok(n) = self.writer.write(bytes) else {
+            return 0;
+        };
+        match self.writer.flush() {
+            Ok(()) => n,
+            Err(_) => 0,
+        }
+    }
+}
+
+impl<W: Write> Sink for StdSink<W> {
+    ghost wrote = { λ _ _. Unit {0} };
+
+    ghost faults = { λ s. s.faults };
+
+    fn write(&mut self, bytes: &[u8]) -> Took {
+        let n = self.write_through(bytes);
+        if n == 0 {
+            self.faults = self.faults.saturating_add(1);
+            return Took::Failed;
+        }
+        Took::Took(n)
+    }
+}
