@@ -1,0 +1,10 @@
+//! Builders of terms: each takes words of a room and answers the word of the new term.
+#![tactic(auto)]
+
+mod lists;
+#[cfg(test)]
+mod tests;
+mod tuples;
+
+pub use lists::cons;
+pub use tuples::tuple;

@@ -1,0 +1,39 @@
+ghost use Rattle.std.specs.Prelude.{◌≡◌, ℕ, ◌+◌, ◌<◌, ◌≤◌, ◌⊎◌, List, length, slice_index};
+ghost use Rattle.plain_term.specs.Tree.{Trees};
+ghost use Rattle.plain_term.specs.Tree.Tree.{Tuple};
+ghost use Rattle.term_build.specs.Clear.{IsRoom, Clear, AllClear, KeepsClear, Uses};
+
+use term_tags::{TUPLE, boxed_at, head_of};
+use word_mem::{Room, WordMem};
+
+/// A tuple of a header and one word for each part.
+pub fn tuple(mem: &mut WordMem, room: &mut Room, parts: &[u64]) -> u64
+    requires places { IsRoom room.old mem.old }
+    requires few { length parts.now ≤ 65536 }
+    requires words { room.old.top + (1 + length parts.now) ≤ room.old.end }
+    ensures uses { Uses (1 + length parts.now) room.old room.new mem.old mem.new }
+    ensures made { (shared : List (List ℕ)) (ts : Trees) → AllClear room.old shared mem.old parts.now ts
+        → Clear room.new shared mem.new result (Tuple ts) }
+    ensures kept { KeepsClear room.old room.new mem.old mem.new }
+{
+    let _len = mem.len();
+    let place = room.top;
+    let count = parts.len() as u64;
+    mem.set(place, head_of(TUPLE, count));
+    put_row(mem, place + 1, parts);
+    room.top = place + (1 + count);
+    boxed_at(place)
+}
+
+// Writes the words from a place on.
+fn put_row(mem: &mut WordMem, at: u64, words: &[u64])
+    requires { at + length words.now ≤ length mem.old }
+    ensures row { (q i : ℕ) → i < length words.now → q ≡ at + i → slice_index mem.new q ≡ slice_index words.now i }
+    ensures others { (q : ℕ) → (q < at) ⊎ (at + length words.now ≤ q) → slice_index mem.new q ≡ slice_index mem.old q }
+    ensures same_len { length mem.new ≡ length mem.old }
+{
+    let _len = mem.len();
+    for (i, w) in words.iter().enumerate() {
+        mem.set(at + i as u64, *w);
+    }
+}

@@ -1,0 +1,239 @@
+-- Where the bytes of a binary lie, from the numbers that the readers read.
+use Rattle.std.proofs.Common.{◌≡◌, ℕ, zero, suc, ◌+◌, ◌/◌, ◌%◌, ◌<◌, ◌≤◌, Bool, List, [], ◌∷◌, length, get_or, take, drop, refl, sym, ◌∙◌, ap, subst, arith, pos, negsuc, Option, Some, None, zero-add, slice_get, length-take, length-drop, get_or-take, get_or-drop, option_map, option_and_then}
+use Rattle.plain_term.specs.Measures.{bin_words}
+use Rattle.plain_term.specs.Bytes.{bytes_of, shared_bytes}
+use Rattle.plain_term.specs.Tree.{Tree}
+use Rattle.plain_term.specs.Tree.Tree.{Int, Atom, Pid, Ref, Nil, Cons, Tuple, Map, Bin, Shared, Part, Fun}
+use Rattle.term_read.specs.Role.{always}
+use Rattle.term_read.specs.Object.{byte_of, BytesLie}
+use Rattle.term_read.specs.Stands.{Stands, IsTerm, IsBase}
+use Rattle.term_read.specs.Parts.{binary_of, whole_of, Tells, byte_len_in, byte_in}
+use Rattle.term_read.specs.Data.{BytesFrom, IsData, HasData, IsFirst, HasFirst}
+use Rattle.term_read.specs.declared.binary.Data.{Data}
+use Rattle.term_read.proofs.Shapes.{told}
+
+some-is : {A : Type 0} (x y : A) → Some x ≡ Some y → x ≡ y
+some-is x y e = cc
+
+none-some : {A : Type 0} (x : A) → None ≡ Some x → ⊥
+none-some x e = cc
+
+lies-from : (mem : List ℕ) (q : ℕ) (bytes : List ℕ) → BytesLie mem q bytes → q + bin_words (length bytes) ≤ length mem → BytesFrom mem q 0 bytes
+lies-from mem q bytes lie inside = record {
+  within = λ i below. omega arith;
+  each = λ i below. rw (zero-add i) (lie.each i (q + i / 8) (omega arith) refl);
+}
+
+-- The first word of the bytes of a whole binary.
+
+heap-first : (c : ℕ → ℕ → Bool) (shared : List (List ℕ)) (mem : List ℕ) (w : ℕ) (t : Tree) → Stands c shared mem w t → w % 4 ≡ 2 → get_or mem (w / 4) 0 / 4 % 16 ≡ 9 → IsFirst mem (whole_of shared t) (Some (w / 4 + 2))
+unfolding Stands
+heap-first c shared mem w (Bin bytes) o tag sub = (w / 4 + 2, refl, lies-from mem (w / 4 + 2) bytes o.content (omega (arith, o.boxed.object.within)))
+heap-first c shared mem w (Int (pos n)) s tag sub = absurd (omega (arith, told c shared mem w (Int (pos n)) s))
+heap-first c shared mem w (Int (negsuc n)) s tag sub = absurd (omega (arith, told c shared mem w (Int (negsuc n)) s))
+heap-first c shared mem w t s tag sub = absurd (omega (arith, told c shared mem w t s))
+
+pub has-heap_first : (mem : List ℕ) (w p : ℕ) → w % 4 ≡ 2 → p ≡ w / 4 → get_or mem p 0 / 4 % 16 ≡ 9 → HasFirst mem w (Some (p + 2))
+has-heap_first mem w p tag same =
+    let P : ℕ → Type 0 = λ x. get_or mem x 0 / 4 % 16 ≡ 9 → HasFirst mem w (Some (x + 2)) in
+    subst P (sym same) (λ sub. record { each = λ c shared t s. heap-first c shared mem w t s tag sub })
+
+holder-first : (c : ℕ → ℕ → Bool) (shared : List (List ℕ)) (mem : List ℕ) (w : ℕ) (t : Tree) → Stands c shared mem w t → w % 4 ≡ 2 → get_or mem (w / 4) 0 / 4 % 16 ≡ 8
+    → IsFirst mem (whole_of shared t) (Some (get_or mem (w / 4 + 3) 0 + 4)) × (get_or mem (w / 4 + 3) 0 + 4 ≤ length mem)
+unfolding Stands
+holder-first c shared mem w (Shared id) o tag sub =
+    ((get_or mem (w / 4 + 3) 0 + 4, refl, lies-from mem (get_or mem (w / 4 + 3) 0 + 4) (shared_bytes shared id) o.record_is.content (omega (arith, o.record_is.within))), omega (arith, o.record_is.within))
+holder-first c shared mem w (Int (pos n)) s tag sub = absurd (omega (arith, told c shared mem w (Int (pos n)) s))
+holder-first c shared mem w (Int (negsuc n)) s tag sub = absurd (omega (arith, told c shared mem w (Int (negsuc n)) s))
+holder-first c shared mem w t s tag sub = absurd (omega (arith, told c shared mem w t s))
+
+pub has-holder_first : (mem : List ℕ) (w p : ℕ) → w % 4 ≡ 2 → p ≡ w / 4 → get_or mem p 0 / 4 % 16 ≡ 8 → HasFirst mem w (Some (get_or mem (p + 3) 0 + 4))
+has-holder_first mem w p tag same =
+    let P : ℕ → Type 0 = λ x. get_or mem x 0 / 4 % 16 ≡ 8 → HasFirst mem w (Some (get_or mem (x + 3) 0 + 4)) in
+    subst P (sym same) (λ sub. record { each = λ c shared t s. (holder-first c shared mem w t s tag sub).0 })
+
+pub record-inside : (mem : List ℕ) (w p : ℕ) → IsTerm mem w → w % 4 ≡ 2 → p ≡ w / 4 → get_or mem p 0 / 4 % 16 ≡ 8 → get_or mem (p + 3) 0 + 4 ≤ length mem
+record-inside mem w p i tag same =
+    let P : ℕ → Type 0 = λ x. get_or mem x 0 / 4 % 16 ≡ 8 → get_or mem (x + 3) 0 + 4 ≤ length mem in
+    subst P (sym same) (λ sub. (holder-first always i.shared mem w i.tree i.standing tag sub).1)
+
+no-whole : (c : ℕ → ℕ → Bool) (shared : List (List ℕ)) (mem : List ℕ) (w : ℕ) (t : Tree) → Stands c shared mem w t
+    → (w % 4 ≡ 2 → get_or mem (w / 4) 0 / 4 % 16 ≡ 9 → ⊥) → (w % 4 ≡ 2 → get_or mem (w / 4) 0 / 4 % 16 ≡ 8 → ⊥) → IsFirst mem (whole_of shared t) None
+unfolding Stands
+no-whole c shared mem w (Bin bytes) o a b = absurd (a o.boxed.tag (omega (arith, o.boxed.header)))
+no-whole c shared mem w (Shared id) o a b = absurd (b o.holder.tag (omega (arith, o.holder.header)))
+no-whole c shared mem w t s a b = refl
+
+pub has-no_first : (mem : List ℕ) (w : ℕ) → (w % 4 ≡ 2 → get_or mem (w / 4) 0 / 4 % 16 ≡ 9 → ⊥) → (w % 4 ≡ 2 → get_or mem (w / 4) 0 / 4 % 16 ≡ 8 → ⊥) → HasFirst mem w None
+has-no_first mem w a b = record { each = λ c shared t s. no-whole c shared mem w t s a b }
+
+-- A part has its original behind it.
+
+part-base : (c : ℕ → ℕ → Bool) (shared : List (List ℕ)) (mem : List ℕ) (w : ℕ) (t : Tree) → Stands c shared mem w t → w % 4 ≡ 2 → get_or mem (w / 4) 0 / 4 % 16 ≡ 10 → (base : Tree) × Stands c shared mem (get_or mem (w / 4 + 4) 0) base
+unfolding Stands
+part-base c shared mem w (Part base offset len) (o, is, sb) tag sub = (base, sb)
+part-base c shared mem w (Int (pos n)) s tag sub = absurd (omega (arith, told c shared mem w (Int (pos n)) s))
+part-base c shared mem w (Int (negsuc n)) s tag sub = absurd (omega (arith, told c shared mem w (Int (negsuc n)) s))
+part-base c shared mem w t s tag sub = absurd (omega (arith, told c shared mem w t s))
+
+pub base-term : (mem : List ℕ) (w p : ℕ) → IsTerm mem w → w % 4 ≡ 2 → p ≡ w / 4 → get_or mem p 0 / 4 % 16 ≡ 10 → IsTerm mem (get_or mem (p + 4) 0)
+base-term mem w p i tag same =
+    let P : ℕ → Type 0 = λ x. get_or mem x 0 / 4 % 16 ≡ 10 → IsTerm mem (get_or mem (x + 4) 0) in
+    subst P (sym same) (λ sub. let (base, s) = part-base always i.shared mem w i.tree i.standing tag sub in record { shared = i.shared; tree = base; standing = s })
+
+-- The bytes of a part are those of its original from the offset on.
+slice-from : (mem : List ℕ) (first offset len : ℕ) (whole : List ℕ) → BytesFrom mem first 0 whole → offset + len ≤ length whole → BytesFrom mem first offset (take len (drop offset whole))
+slice-from mem first offset len whole b inside = record {
+  within = λ i below.
+      let short : i < len = omega (arith, length-take len (drop offset whole)) in
+      let there : first + (0 + (offset + i)) / 8 < length mem = b.within (offset + i) (omega arith) in
+      rw (← zero-add (offset + i)) there;
+  each = λ i below.
+      let short : i < len = omega (arith, length-take len (drop offset whole)) in
+      let there : byte_of (get_or mem (first + (0 + (offset + i)) / 8) 0) ((0 + (offset + i)) % 8) ≡ get_or whole (offset + i) 0 = b.each (offset + i) (omega arith) in
+      let same : 0 + (offset + i) ≡ offset + i = zero-add (offset + i) in
+      let P : ℕ → Type 0 = λ x. byte_of (get_or mem (first + x / 8) 0) (x % 8) ≡ get_or whole (offset + i) 0 in
+      let read : get_or (take len (drop offset whole)) i 0 ≡ get_or whole (offset + i) 0 = get_or-take len (drop offset whole) i 0 short ∙ get_or-drop offset whole i 0 in
+      subst P same there ∙ sym read;
+}
+
+base-some : (mem : List ℕ) (shared : List (List ℕ)) (base : Tree) (v : ℕ) → IsBase base → IsFirst mem (whole_of shared base) (Some v) → BytesFrom mem v 0 (bytes_of shared base)
+base-some mem shared (Bin bytes) v is (u, e, b) = let P : ℕ → Type 0 = λ x. BytesFrom mem x 0 bytes in subst P (sym (some-is v u e)) b
+base-some mem shared (Shared id) v is (u, e, b) = let P : ℕ → Type 0 = λ x. BytesFrom mem x 0 (shared_bytes shared id) in subst P (sym (some-is v u e)) b
+base-some mem shared _ v is b = absurd is
+
+base-none : (mem : List ℕ) (shared : List (List ℕ)) (base : Tree) → IsBase base → IsFirst mem (whole_of shared base) None → ⊥
+base-none mem shared (Bin bytes) is (u, e, b) = none-some u e
+base-none mem shared (Shared id) is (u, e, b) = none-some u e
+base-none mem shared _ is b = absurd is
+
+part-data : (c : ℕ → ℕ → Bool) (shared : List (List ℕ)) (mem : List ℕ) (w : ℕ) (t : Tree) (first : ℕ) → Stands c shared mem w t → w % 4 ≡ 2 → get_or mem (w / 4) 0 / 4 % 16 ≡ 10
+    → HasFirst mem (get_or mem (w / 4 + 4) 0) (Some first) → IsData mem (binary_of shared t) (Some (record { first = first; start = get_or mem (w / 4 + 2) 0; len = get_or mem (w / 4 + 1) 0 }))
+unfolding Stands
+part-data c shared mem w (Part base offset len) first (o, is, sb) tag sub h =
+    let whole : BytesFrom mem first 0 (bytes_of shared base) = base-some mem shared base first is (h.each c shared base sb) in
+    let P : ℕ → Type 0 = λ x. BytesFrom mem first x (take len (drop offset (bytes_of shared base))) in (
+      record { first = first; start = get_or mem (w / 4 + 2) 0; len = get_or mem (w / 4 + 1) 0 },
+      refl,
+      subst P (sym o.start) (slice-from mem first offset len (bytes_of shared base) whole o.inside),
+      omega (arith, o.size, o.inside, length-take len (drop offset (bytes_of shared base)), length-drop offset (bytes_of shared base)),
+    )
+part-data c shared mem w (Int (pos n)) first s tag sub h = absurd (omega (arith, told c shared mem w (Int (pos n)) s))
+part-data c shared mem w (Int (negsuc n)) first s tag sub h = absurd (omega (arith, told c shared mem w (Int (negsuc n)) s))
+part-data c shared mem w t first s tag sub h = absurd (omega (arith, told c shared mem w t s))
+
+pub has-part_data : (mem : List ℕ) (w p first : ℕ) → w % 4 ≡ 2 → p ≡ w / 4 → get_or mem p 0 / 4 % 16 ≡ 10 → HasFirst mem (get_or mem (p + 4) 0) (Some first)
+    → HasData mem w (Some (record { first = first; start = get_or mem (p + 2) 0; len = get_or mem (p + 1) 0 }))
+has-part_data mem w p first tag same =
+    let P : ℕ → Type 0 = λ x. get_or mem x 0 / 4 % 16 ≡ 10 → HasFirst mem (get_or mem (x + 4) 0) (Some first) → HasData mem w (Some (record { first = first; start = get_or mem (x + 2) 0; len = get_or mem (x + 1) 0 })) in
+    subst P (sym same) (λ sub h. record { each = λ c shared t s. part-data c shared mem w t first s tag sub h })
+
+part-none : (c : ℕ → ℕ → Bool) (shared : List (List ℕ)) (mem : List ℕ) (w : ℕ) (t : Tree) → Stands c shared mem w t → w % 4 ≡ 2 → get_or mem (w / 4) 0 / 4 % 16 ≡ 10
+    → HasFirst mem (get_or mem (w / 4 + 4) 0) None → IsData mem (binary_of shared t) None
+unfolding Stands
+part-none c shared mem w (Part base offset len) (o, is, sb) tag sub h = absurd (base-none mem shared base is (h.each c shared base sb))
+part-none c shared mem w (Int (pos n)) s tag sub h = absurd (omega (arith, told c shared mem w (Int (pos n)) s))
+part-none c shared mem w (Int (negsuc n)) s tag sub h = absurd (omega (arith, told c shared mem w (Int (negsuc n)) s))
+part-none c shared mem w t s tag sub h = absurd (omega (arith, told c shared mem w t s))
+
+pub has-no_part : (mem : List ℕ) (w p : ℕ) → w % 4 ≡ 2 → p ≡ w / 4 → get_or mem p 0 / 4 % 16 ≡ 10 → HasFirst mem (get_or mem (p + 4) 0) None → HasData mem w None
+has-no_part mem w p tag same =
+    let P : ℕ → Type 0 = λ x. get_or mem x 0 / 4 % 16 ≡ 10 → HasFirst mem (get_or mem (x + 4) 0) None → HasData mem w None in
+    subst P (sym same) (λ sub h. record { each = λ c shared t s. part-none c shared mem w t s tag sub h })
+
+-- A whole binary, where the word is no part.
+
+whole-data : (c : ℕ → ℕ → Bool) (shared : List (List ℕ)) (mem : List ℕ) (w : ℕ) (t : Tree) (first : ℕ) → Stands c shared mem w t → (w % 4 ≡ 2 → get_or mem (w / 4) 0 / 4 % 16 ≡ 10 → ⊥)
+    → HasFirst mem w (Some first) → IsData mem (binary_of shared t) (Some (record { first = first; start = 0; len = get_or mem (w / 4 + 1) 0 })) × (w / 4 + 1 < length mem)
+unfolding Stands
+whole-data c shared mem w (Bin bytes) first o other h =
+    ((record { first = first; start = 0; len = get_or mem (w / 4 + 1) 0 }, refl, base-some mem shared (Bin bytes) first tt (h.each c shared (Bin bytes) o), o.size), omega (arith, o.boxed.object.within))
+whole-data c shared mem w (Shared id) first o other h =
+    ((record { first = first; start = 0; len = get_or mem (w / 4 + 1) 0 }, refl, base-some mem shared (Shared id) first tt (h.each c shared (Shared id) o), o.holder.size), omega (arith, o.holder.within))
+whole-data c shared mem w (Part base offset len) first (o, is, sb) other h = absurd (other o.boxed.tag (omega (arith, o.boxed.header)))
+whole-data c shared mem w (Int i) first s other h = absurd (none-some first (sym (h.each c shared (Int i) s)))
+whole-data c shared mem w (Atom k) first s other h = absurd (none-some first (sym (h.each c shared (Atom k) s)))
+whole-data c shared mem w (Pid n) first s other h = absurd (none-some first (sym (h.each c shared (Pid n) s)))
+whole-data c shared mem w (Ref n k) first s other h = absurd (none-some first (sym (h.each c shared (Ref n k) s)))
+whole-data c shared mem w Nil first s other h = absurd (none-some first (sym (h.each c shared Nil s)))
+whole-data c shared mem w (Cons x y) first s other h = absurd (none-some first (sym (h.each c shared (Cons x y) s)))
+whole-data c shared mem w (Tuple ts) first s other h = absurd (none-some first (sym (h.each c shared (Tuple ts) s)))
+whole-data c shared mem w (Map ps) first s other h = absurd (none-some first (sym (h.each c shared (Map ps) s)))
+whole-data c shared mem w (Fun name arity creator env) first s other h = absurd (none-some first (sym (h.each c shared (Fun name arity creator env) s)))
+
+pub has-whole_data : (mem : List ℕ) (w first : ℕ) → (w % 4 ≡ 2 → get_or mem (w / 4) 0 / 4 % 16 ≡ 10 → ⊥) → HasFirst mem w (Some first) → HasData mem w (Some (record { first = first; start = 0; len = get_or mem (w / 4 + 1) 0 }))
+has-whole_data mem w first other h = record { each = λ c shared t s. (whole-data c shared mem w t first s other h).0 }
+
+pub size-inside : (mem : List ℕ) (w first : ℕ) → IsTerm mem w → (w % 4 ≡ 2 → get_or mem (w / 4) 0 / 4 % 16 ≡ 10 → ⊥) → HasFirst mem w (Some first) → w / 4 + 1 < length mem
+size-inside mem w first i other h = (whole-data always i.shared mem w i.tree first i.standing other h).1
+
+whole-none : (c : ℕ → ℕ → Bool) (shared : List (List ℕ)) (mem : List ℕ) (w : ℕ) (t : Tree) → Stands c shared mem w t → (w % 4 ≡ 2 → get_or mem (w / 4) 0 / 4 % 16 ≡ 10 → ⊥)
+    → HasFirst mem w None → IsData mem (binary_of shared t) None
+unfolding Stands
+whole-none c shared mem w (Bin bytes) o other h = absurd (base-none mem shared (Bin bytes) tt (h.each c shared (Bin bytes) o))
+whole-none c shared mem w (Shared id) o other h = absurd (base-none mem shared (Shared id) tt (h.each c shared (Shared id) o))
+whole-none c shared mem w (Part base offset len) (o, is, sb) other h = absurd (other o.boxed.tag (omega (arith, o.boxed.header)))
+whole-none c shared mem w t s other h = refl
+
+pub has-no_data : (mem : List ℕ) (w : ℕ) → (w % 4 ≡ 2 → get_or mem (w / 4) 0 / 4 % 16 ≡ 10 → ⊥) → HasFirst mem w None → HasData mem w None
+has-no_data mem w other h = record { each = λ c shared t s. whole-none c shared mem w t s other h }
+
+-- What the readers make of it.
+
+len-told : (mem : List ℕ) (o : Option (List ℕ)) (d : Data) → IsData mem o (Some d) → Some d.len ≡ option_map length o
+len-told mem None d e = absurd (none-some d (sym e))
+len-told mem (Some bytes) d (x, e, b, l) = ap Some (ap (λ z. z.len) (some-is d x e) ∙ l)
+
+len-none : (mem : List ℕ) (o : Option (List ℕ)) → IsData mem o None → None ≡ option_map length o
+len-none mem None e = refl
+len-none mem (Some bytes) (x, e, b, l) = absurd (none-some x e)
+
+pub tells-len : (mem : List ℕ) (w : ℕ) (d : Data) → HasData mem w (Some d) → Tells byte_len_in mem w (Some d.len)
+tells-len mem w d h = record { each = λ c shared t s. len-told mem (binary_of shared t) d (h.each c shared t s) }
+
+pub no-len : (mem : List ℕ) (w : ℕ) → HasData mem w None → Tells byte_len_in mem w None
+no-len mem w h = record { each = λ c shared t s. len-none mem (binary_of shared t) (h.each c shared t s) }
+
+get-some : (xs : List ℕ) (i : ℕ) → i < length xs → slice_get xs i ≡ Some (get_or xs i 0)
+get-some [] i below = absurd (omega arith)
+get-some (x ∷ xs) zero below = refl
+get-some (x ∷ xs) (suc i) below = get-some xs i (omega arith)
+
+get-none : (xs : List ℕ) (i : ℕ) → length xs ≤ i → slice_get xs i ≡ None
+get-none [] i far = refl
+get-none (x ∷ xs) zero far = absurd (omega arith)
+get-none (x ∷ xs) (suc i) far = get-none xs i (omega arith)
+
+byte-told : (mem : List ℕ) (o : Option (List ℕ)) (d : Data) (i : ℕ) → IsData mem o (Some d) → i < d.len → Some (byte_of (get_or mem (d.first + (d.start + i) / 8) 0) ((d.start + i) % 8)) ≡ option_and_then (λ bytes. slice_get bytes i) o
+byte-told mem None d i e below = absurd (none-some d (sym e))
+byte-told mem (Some bytes) d i (x, e, b, l) below =
+    let P : Data → Type 0 = λ z. i < z.len → Some (byte_of (get_or mem (z.first + (z.start + i) / 8) 0) ((z.start + i) % 8)) ≡ slice_get bytes i in
+    subst P (sym (some-is d x e)) (λ h. ap Some (b.each i (omega arith)) ∙ sym (get-some bytes i (omega arith))) below
+
+byte-past : (mem : List ℕ) (o : Option (List ℕ)) (d : Data) (i : ℕ) → IsData mem o (Some d) → d.len ≤ i → None ≡ option_and_then (λ bytes. slice_get bytes i) o
+byte-past mem None d i e far = absurd (none-some d (sym e))
+byte-past mem (Some bytes) d i (x, e, b, l) far =
+    let P : Data → Type 0 = λ z. z.len ≤ i → None ≡ slice_get bytes i in
+    subst P (sym (some-is d x e)) (λ h. sym (get-none bytes i (omega arith))) far
+
+byte-none : (mem : List ℕ) (o : Option (List ℕ)) (i : ℕ) → IsData mem o None → None ≡ option_and_then (λ bytes. slice_get bytes i) o
+byte-none mem None i e = refl
+byte-none mem (Some bytes) i (x, e, b, l) = absurd (none-some x e)
+
+pub tells-byte : (mem : List ℕ) (w i : ℕ) (d : Data) → HasData mem w (Some d) → i < d.len → Tells (byte_in i) mem w (Some (byte_of (get_or mem (d.first + (d.start + i) / 8) 0) ((d.start + i) % 8)))
+tells-byte mem w i d h below = record { each = λ c shared t s. byte-told mem (binary_of shared t) d i (h.each c shared t s) below }
+
+pub past-byte : (mem : List ℕ) (w i : ℕ) (d : Data) → HasData mem w (Some d) → d.len ≤ i → Tells (byte_in i) mem w None
+past-byte mem w i d h far = record { each = λ c shared t s. byte-past mem (binary_of shared t) d i (h.each c shared t s) far }
+
+pub no-byte : (mem : List ℕ) (w i : ℕ) → HasData mem w None → Tells (byte_in i) mem w None
+no-byte mem w i h = record { each = λ c shared t s. byte-none mem (binary_of shared t) i (h.each c shared t s) }
+
+byte-within : (mem : List ℕ) (o : Option (List ℕ)) (d : Data) (i : ℕ) → IsData mem o (Some d) → i < d.len → d.first + (d.start + i) / 8 < length mem
+byte-within mem None d i e below = absurd (none-some d (sym e))
+byte-within mem (Some bytes) d i (x, e, b, l) below =
+    let P : Data → Type 0 = λ z. i < z.len → z.first + (z.start + i) / 8 < length mem in
+    subst P (sym (some-is d x e)) (λ h. b.within i (omega arith)) below
+
+pub byte-inside : (mem : List ℕ) (w i : ℕ) (d : Data) → IsTerm mem w → HasData mem w (Some d) → i < d.len → d.first + (d.start + i) / 8 < length mem
+byte-inside mem w i d term h below = byte-within mem (binary_of term.shared term.tree) d i (h.each always term.shared term.tree term.standing) below

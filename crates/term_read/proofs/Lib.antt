@@ -1,0 +1,14 @@
+pub mod Makes
+pub mod Shapes
+pub mod Frames
+pub mod Rooms
+pub mod Apart
+pub mod Single
+pub mod Sizes
+pub mod Growing
+pub mod Inside
+pub mod Reading
+pub mod Pointers
+pub mod Binaries
+pub mod Sample
+pub mod Reached

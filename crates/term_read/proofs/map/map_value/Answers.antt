@@ -1,0 +1,35 @@
+use Rattle.std.proofs.Common.{arith}
+use Rattle.term_read.proofs.Inside.{map-inside}
+use Rattle.term_read.proofs.Reading.{reads-value, past-value, no-value}
+use Rattle.term_read.proofs.map.map_value.Goals as goal
+
+pub returns-in_err-place : goal.returns-in_err-place
+returns-in_err-place c = rw c.from_residual.ensures (no-value c.args.mem.now c.args.w c.args.i c.in_err-place.ensures.none)
+
+pub get-requires : goal.get-requires
+get-requires c =
+    let (tag, place, sub, inside) = c.in_ok-place.ensures.some in
+    let (words, keys) = map-inside c.args.mem.now c.args.w c.in_ok-place.place c.requires tag place sub in
+    omega (arith, inside, words)
+
+pub get-requires-then-i-get : goal.get-requires-then-i-get
+get-requires-then-i-get c =
+    let (tag, place, sub, inside) = c.in_ok-place.ensures.some in
+    let (words, keys) = map-inside c.args.mem.now c.args.w c.in_ok-place.place c.requires tag place sub in
+    omega (arith, inside, words, c.get.ensures, c.if-i-get.true)
+
+pub returns-then-i-get : goal.returns-then-i-get
+returns-then-i-get c =
+    let (tag, place, sub, inside) = c.in_ok-place.ensures.some in
+    rw c.get-then-i-get.ensures (reads-value c.args.mem.now c.args.w c.in_ok-place.place c.args.i tag place sub (omega (arith, c.get.ensures, c.if-i-get.true)))
+
+pub returns-else-i-get : goal.returns-else-i-get
+returns-else-i-get c =
+    let (tag, place, sub, inside) = c.in_ok-place.ensures.some in
+    past-value c.args.mem.now c.args.w c.in_ok-place.place c.args.i place (omega (arith, c.get.ensures, c.if-i-get.false))
+
+pub overflow_add-place-then-i-get-2 : goal.overflow_add-place-then-i-get-2
+overflow_add-place-then-i-get-2 c =
+    let (tag, place, sub, inside) = c.in_ok-place.ensures.some in
+    let (words, keys) = map-inside c.args.mem.now c.args.w c.in_ok-place.place c.requires tag place sub in
+    omega (arith, inside, words, c.get.ensures, c.if-i-get.true, c.len-len.ensures.most)

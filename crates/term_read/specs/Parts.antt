@@ -1,0 +1,129 @@
+-- The words that a standing tree is made of, and what the readers answer of a tree.
+use Rattle.std.specs.Prelude.{◌≡◌, ℕ, zero, suc, ◌+◌, ◌/◌, ◌⊎◌, Bool, List, length, slice_index, slice_get, Option, Some, None, option_map, option_and_then}
+use Rattle.plain_term.specs.Bytes.{bytes_of}
+use Rattle.plain_term.specs.Tree.{Tree, Trees, Pairs, pairs_len, keys_of, values_of}
+use Rattle.plain_term.specs.Tree.Tree.{Int, Atom, Pid, Ref, Nil, Cons, Tuple, Map, Bin, Shared, Part, Fun}
+use Rattle.plain_term.specs.Tree.Trees.{end, ◌▹◌}
+use Rattle.plain_term.specs.Tree.Pairs.{stop, pair}
+use Rattle.term_read.specs.Stands.{Stands}
+
+-- Tree i of a list, from 0; nil past its end.
+abbrev pub tree_at : Trees → ℕ → Tree
+tree_at end i = Nil
+tree_at (t ▹ ts) zero = t
+tree_at (t ▹ ts) (suc i) = tree_at ts i
+
+unfoldable mutual
+  -- The word v is the word w of the tree, or lies in one of its objects as a traced word, at any depth.
+  pub Holds : List ℕ → ℕ → Tree → ℕ → Type 0
+  Holds mem w (Cons h t) v = (v ≡ w) ⊎ (Holds mem (slice_index mem (w / 4)) h v ⊎ Holds mem (slice_index mem (w / 4 + 1)) t v)
+  Holds mem w (Tuple ts) v = (v ≡ w) ⊎ RowHolds mem (w / 4 + 1) ts v
+  Holds mem w (Map ps) v = (v ≡ w) ⊎ ((v ≡ slice_index mem (w / 4 + 2)) ⊎ (KeysHold mem (slice_index mem (w / 4 + 2) / 4 + 1) ps v ⊎ ValuesHold mem (w / 4 + 3) ps v))
+  Holds mem w (Part base offset len) v = (v ≡ w) ⊎ Holds mem (slice_index mem (w / 4 + 4)) base v
+  Holds mem w (Fun name arity creator env) v = (v ≡ w) ⊎ RowHolds mem (w / 4 + 6) env v
+  Holds mem w (Int i) v = v ≡ w
+  Holds mem w (Atom k) v = v ≡ w
+  Holds mem w (Pid n) v = v ≡ w
+  Holds mem w (Ref n k) v = v ≡ w
+  Holds mem w Nil v = v ≡ w
+  Holds mem w (Bin bytes) v = v ≡ w
+  Holds mem w (Shared id) v = v ≡ w
+
+  -- The word is in one of the trees that the words from place p on stand for.
+  pub RowHolds : List ℕ → ℕ → Trees → ℕ → Type 0
+  RowHolds mem p end v = ⊥
+  RowHolds mem p (t ▹ ts) v = Holds mem (slice_index mem p) t v ⊎ RowHolds mem (p + 1) ts v
+
+  -- The word is in one of the keys.
+  pub KeysHold : List ℕ → ℕ → Pairs → ℕ → Type 0
+  KeysHold mem p stop v = ⊥
+  KeysHold mem p (pair x y ps) v = Holds mem (slice_index mem p) x v ⊎ KeysHold mem (p + 1) ps v
+
+  -- The word is in one of the values.
+  pub ValuesHold : List ℕ → ℕ → Pairs → ℕ → Type 0
+  ValuesHold mem p stop v = ⊥
+  ValuesHold mem p (pair x y ps) v = Holds mem (slice_index mem p) y v ⊎ ValuesHold mem (p + 1) ps v
+
+-- Tree i of a list, from 0.
+abbrev pub part_at : Trees → ℕ → Option Tree
+part_at end i = None
+part_at (t ▹ ts) zero = Some t
+part_at (t ▹ ts) (suc i) = part_at ts i
+
+-- Tree i of a list, from 1.
+abbrev pub place_of : Trees → ℕ → Option Tree
+place_of ts zero = None
+place_of ts (suc i) = part_at ts i
+
+-- The head of a list place.
+abbrev pub head_of : Tree → Option Tree
+head_of (Cons h t) = Some h
+head_of _ = None
+
+-- The tail of a list place.
+abbrev pub tail_of : Tree → Option Tree
+tail_of (Cons h t) = Some t
+tail_of _ = None
+
+-- Part i of a tuple, from 1.
+abbrev pub element_of : ℕ → Tree → Option Tree
+element_of i (Tuple ts) = place_of ts i
+element_of i _ = None
+
+-- Key i of a map, from 0.
+abbrev pub key_of : ℕ → Tree → Option Tree
+key_of i (Map ps) = part_at (keys_of ps) i
+key_of i _ = None
+
+-- Value i of a map, from 0.
+abbrev pub value_of : ℕ → Tree → Option Tree
+value_of i (Map ps) = part_at (values_of ps) i
+value_of i _ = None
+
+-- Place i of a fun's environment, from 1.
+abbrev pub env_of : ℕ → Tree → Option Tree
+env_of i (Fun name arity creator env) = place_of env i
+env_of i _ = None
+
+-- The number of pairs of a map.
+abbrev pub map_len_of : Tree → Option ℕ
+map_len_of (Map ps) = Some (pairs_len ps)
+map_len_of _ = None
+
+-- The bytes of a binary, and of nothing else.
+abbrev pub binary_of : List (List ℕ) → Tree → Option (List ℕ)
+binary_of shared (Bin bytes) = Some (bytes_of shared (Bin bytes))
+binary_of shared (Shared id) = Some (bytes_of shared (Shared id))
+binary_of shared (Part base offset len) = Some (bytes_of shared (Part base offset len))
+binary_of shared _ = None
+
+-- The bytes of a binary that is no part of another.
+abbrev pub whole_of : List (List ℕ) → Tree → Option (List ℕ)
+whole_of shared (Bin bytes) = Some (bytes_of shared (Bin bytes))
+whole_of shared (Shared id) = Some (bytes_of shared (Shared id))
+whole_of shared _ = None
+
+-- The answer is the word of this part, or none where there is no such part.
+abbrev pub Answers : (ℕ → ℕ → Bool) → List (List ℕ) → List ℕ → Option Tree → Option ℕ → Type 0
+Answers c shared mem None result = result ≡ None
+Answers c shared mem (Some t) result = (v : ℕ) × (result ≡ Some v) × Stands c shared mem v t
+
+-- The answer is the word of the part that f names, of each tree that the word stands for.
+pub record Reads (f : Tree → Option Tree) (mem : List ℕ) (w : ℕ) (result : Option ℕ) : Type 0 where
+  pub each : (c : ℕ → ℕ → Bool) (shared : List (List ℕ)) (t : Tree) → Stands c shared mem w t → Answers c shared mem (f t) result
+
+-- The answer is what f says, of each tree that the word stands for.
+pub record Tells (f : List (List ℕ) → Tree → Option ℕ) (mem : List ℕ) (w : ℕ) (result : Option ℕ) : Type 0 where
+  pub each : (c : ℕ → ℕ → Bool) (shared : List (List ℕ)) (t : Tree) → Stands c shared mem w t → result ≡ f shared t
+
+-- The number of pairs of a map, whatever the shared lists.
+abbrev pub map_len_in : List (List ℕ) → Tree → Option ℕ
+map_len_in shared t = map_len_of t
+
+-- The number of bytes of a binary.
+abbrev pub byte_len_in : List (List ℕ) → Tree → Option ℕ
+byte_len_in shared t = option_map length (binary_of shared t)
+
+-- Byte i of a binary, from 0.
+abbrev pub byte_in : ℕ → List (List ℕ) → Tree → Option ℕ
+byte_in i shared t = option_and_then (λ bytes. slice_get bytes i) (binary_of shared t)

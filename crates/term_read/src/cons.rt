@@ -1,0 +1,26 @@
+// The parts of list places.
+ghost use Rattle.term_read.specs.Stands.{IsTerm};
+ghost use Rattle.term_read.specs.Parts.{Reads, head_of, tail_of};
+
+use crate::object::cons_at;
+use word_mem::WordMem;
+
+/// The word of the head, or `None` where the tree is no list place.
+pub fn hd(mem: &WordMem, w: u64) -> Option<u64>
+    requires { IsTerm mem.now w }
+    ensures { Reads head_of mem.now w result }
+{
+    let _len = mem.len();
+    let place = cons_at(mem, w)?;
+    Some(mem.get(place))
+}
+
+/// The word of the tail, or `None` where the tree is no list place.
+pub fn tl(mem: &WordMem, w: u64) -> Option<u64>
+    requires { IsTerm mem.now w }
+    ensures { Reads tail_of mem.now w result }
+{
+    let _len = mem.len();
+    let cons = cons_at(mem, w)?;
+    Some(mem.get(cons + 1))
+}

@@ -1,0 +1,22 @@
+// The environment of funs.
+ghost use Rattle.term_read.specs.Stands.{IsTerm};
+ghost use Rattle.term_read.specs.Parts.{Reads, env_of};
+
+use crate::object::object_at;
+use term_tags::FUN;
+use word_mem::WordMem;
+
+/// The word of environment place `i`, from 1, or `None` where the tree is no fun or has no such place.
+pub fn fun_env(mem: &WordMem, w: u64, i: u64) -> Option<u64>
+    requires { IsTerm mem.now w }
+    ensures { Reads (env_of i) mem.now w result }
+{
+    let _len = mem.len();
+    let place = object_at(mem, w, FUN)?;
+    let places = mem.get(place + 4);
+    if 1 <= i && i <= places {
+        Some(mem.get(place + 5 + i))
+    } else {
+        None
+    }
+}

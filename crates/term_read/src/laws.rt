@@ -1,0 +1,57 @@
+// What holds of all words that stand for trees: each law is the contract of a function that does nothing.
+ghost use Rattle.std.specs.Prelude.{◌≡◌, ℕ, Bool, true, List, ◌+◌, ◌/◌, ◌<◌, ◌≤◌, ◌⊎◌, ◌++◌, length, slice_index, slice_set};
+ghost use Rattle.plain_term.specs.Tree.{Tree, Trees};
+ghost use Rattle.plain_term.specs.Measures.{flat};
+ghost use Rattle.term_read.specs.Role.{outside, Idle, IsSingle};
+ghost use Rattle.term_read.specs.Object.{IsPointer, object_words};
+ghost use Rattle.term_read.specs.Stands.{Stands, AllStand};
+ghost use Rattle.term_read.specs.Reach.{Reach};
+ghost use Rattle.term_read.specs.Kept.{Kept, Keeps};
+ghost use Rattle.term_read.specs.Parts.{Holds};
+
+/// What keeps the content of a memory, allows no less and makes it no shorter keeps every tree.
+pub fn kept_content_keeps_trees()
+    ensures { (c d : ℕ → ℕ → Bool) (old new : List ℕ) → Kept c d old new → Keeps c d old new }
+{}
+
+/// A test that allows more keeps every tree.
+pub fn weaker_tests_keep_trees()
+    ensures { (c d : ℕ → ℕ → Bool) (mem : List ℕ) → ((a k : ℕ) → c a k ≡ true → d a k ≡ true) → Keeps c d mem mem }
+{}
+
+/// A write at a place without content keeps every tree.
+pub fn idle_writes_keep_trees()
+    ensures { (c : ℕ → ℕ → Bool) (mem : List ℕ) (a v : ℕ) → Idle c a → Keeps c c mem (slice_set mem a v) }
+{}
+
+/// Words written at the first free places of a room keep every tree that was clear of it, and these are clear of the places that are left.
+pub fn rooms_keep_what_is_clear()
+    ensures { (top more limit : ℕ) (old new : List ℕ) → length old ≤ length new → top ≤ more → more ≤ limit
+        → ((q : ℕ) → (q < top) ⊎ (more ≤ q) → slice_index new q ≡ slice_index old q) → Keeps (outside top limit) (outside more limit) old new }
+{}
+
+/// Two objects that stand, where each place has one role at most, are one or have no word in common.
+pub fn objects_are_one_or_apart()
+    ensures { (c : ℕ → ℕ → Bool) (shared : List (List ℕ)) (mem : List ℕ) (w v : ℕ) (t u : Tree) → IsSingle c → Stands c shared mem w t → Stands c shared mem v u → IsPointer w → IsPointer v
+        → (w ≡ v) ⊎ ((w / 4 + object_words mem w ≤ v / 4) ⊎ (v / 4 + object_words mem v ≤ w / 4)) }
+{}
+
+/// A word stands for one tree at most, whatever the tests and the shared lists.
+pub fn words_stand_for_one_tree()
+    ensures { (c d : ℕ → ℕ → Bool) (shared other : List (List ℕ)) (mem : List ℕ) (w : ℕ) (t u : Tree) → Stands c shared mem w t → Stands d other mem w u → t ≡ u }
+{}
+
+/// The flat size of a tree is at least the words of each object in it.
+pub fn flat_size_covers_objects()
+    ensures { (c : ℕ → ℕ → Bool) (shared : List (List ℕ)) (mem : List ℕ) (v : ℕ) → IsPointer v → (w : ℕ) (t : Tree) → Stands c shared mem w t → Holds mem w t v → object_words mem v ≤ flat t }
+{}
+
+/// A word stands for its tree still when shared lists are added.
+pub fn more_lists_keep_trees()
+    ensures { (c : ℕ → ℕ → Bool) (shared more : List (List ℕ)) (mem : List ℕ) (w : ℕ) (t : Tree) → Stands c shared mem w t → Stands c (shared ++ more) mem w t }
+{}
+
+/// What standing roots reach stands for trees.
+pub fn reached_words_stand()
+    ensures { (c : ℕ → ℕ → Bool) (shared : List (List ℕ)) (mem roots : List ℕ) (ts : Trees) → AllStand c shared mem roots ts → (w : ℕ) → Reach mem roots w → (t : Tree) × Stands c shared mem w t }
+{}

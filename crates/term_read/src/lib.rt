@@ -1,0 +1,23 @@
+// The trees that words of a memory stand for, and the calls that read a part of one.
+#![tactic(auto)]
+
+mod binary;
+mod cons;
+mod fun_thing;
+mod laws;
+mod map;
+mod object;
+#[cfg(test)]
+mod tests;
+mod tuple;
+
+pub use binary::{byte_at, byte_len};
+pub use cons::{hd, tl};
+pub use fun_thing::fun_env;
+pub use laws::{
+    flat_size_covers_objects, idle_writes_keep_trees, kept_content_keeps_trees,
+    more_lists_keep_trees, objects_are_one_or_apart, reached_words_stand, rooms_keep_what_is_clear,
+    weaker_tests_keep_trees, words_stand_for_one_tree,
+};
+pub use map::{map_key, map_len, map_value};
+pub use tuple::element;

@@ -1,0 +1,35 @@
+// Where the object of a word lies.
+ghost use Rattle.std.specs.Prelude.{◌≡◌, ◌+◌, ◌*◌, ◌/◌, ◌%◌, ◌<◌, ◌≤◌, length, slice_index, IfSome, IfNone};
+ghost use Rattle.term_read.specs.Stands.{IsTerm};
+
+use term_tags::{Kind, kind_of};
+use word_mem::WordMem;
+
+// The place of the cons of a list pointer.
+pub fn cons_at(mem: &WordMem, w: u64) -> Option<u64>
+    requires { IsTerm mem.now w }
+    ensures some { IfSome result (λ p. (w % 4 ≡ 1) × (p ≡ w / 4) × (p + 2 ≤ length mem.now)) }
+    ensures none { IfNone result (w % 4 ≡ 1 → ⊥) }
+{
+    let _len = mem.len();
+    if let Kind::ListAt(place) = kind_of(w) {
+        Some(place)
+    } else {
+        None
+    }
+}
+
+// The place of the object of a boxed pointer, where its header has this subtag.
+pub fn object_at(mem: &WordMem, w: u64, subtag: u8) -> Option<u64>
+    requires { IsTerm mem.now w }
+    ensures some { IfSome result (λ p. (w % 4 ≡ 2) × (p ≡ w / 4) × (slice_index mem.now p / 4 % 16 ≡ subtag) × (p + (1 + slice_index mem.now p / 64) ≤ length mem.now)) }
+    ensures none { IfNone result (w % 4 ≡ 2 → slice_index mem.now (w / 4) / 4 % 16 ≡ subtag → ⊥) }
+{
+    let _len = mem.len();
+    if let Kind::BoxedAt(place) = kind_of(w) {
+        if mem.get(place) / 4 % 16 == subtag as u64 {
+            return Some(place);
+        }
+    }
+    None
+}

@@ -1,0 +1,22 @@
+// The parts of tuples.
+ghost use Rattle.term_read.specs.Stands.{IsTerm};
+ghost use Rattle.term_read.specs.Parts.{Reads, element_of};
+
+use crate::object::object_at;
+use term_tags::TUPLE;
+use word_mem::WordMem;
+
+/// The word of part `i`, from 1, or `None` where the tree is no tuple or has no such part.
+pub fn element(mem: &WordMem, w: u64, i: u64) -> Option<u64>
+    requires { IsTerm mem.now w }
+    ensures { Reads (element_of i) mem.now w result }
+{
+    let _len = mem.len();
+    let place = object_at(mem, w, TUPLE)?;
+    let parts = mem.get(place) / 64;
+    if 1 <= i && i <= parts {
+        Some(mem.get(place + i))
+    } else {
+        None
+    }
+}
