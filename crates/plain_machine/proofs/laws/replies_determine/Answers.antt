@@ -1,0 +1,5 @@
+use Rattle.plain_machine.proofs.Determined.{run-determined}
+use Rattle.plain_machine.proofs.laws.replies_determine.Goals as goal
+
+pub returns : goal.returns
+returns c = run-determined

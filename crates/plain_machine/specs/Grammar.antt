@@ -1,0 +1,327 @@
+-- The grammar of lines, as a relation between a whole line and what it says.
+use Rattle.std.specs.Prelude.{ℕ, ◌≡◌, ◌+◌, ◌-◌, ◌*◌, ◌^◌, ◌<◌, ◌≤◌, ◌⊎◌, ◌≢◌, ◌||◌, ◌&&◌, Bool, true, false, nat_eq, nat_le, ℤ, pos, negsuc, List, [], ◌∷◌, ◌++◌, length, All, codes}
+use Rattle.plain_machine.specs.Written.{Term, Terms, TermPairs, terms_len, Kind, OperandOf, Operands, Word, text_of, kinds_of, SysWord, sys_text_of, sys_kinds_of, Written}
+use Rattle.plain_machine.specs.Written.Term.{Int, Atom, Pid, Held, Listed, Barred, Tuple, Map, Bin}
+use Rattle.plain_machine.specs.Written.Terms.{end, ◌▹◌}
+use Rattle.plain_machine.specs.Written.TermPairs.{stop, pair}
+use Rattle.plain_machine.specs.Written.Kind.{Slot, Count, Receiver, Title, Environment, Extent, Body, Bodies}
+use Rattle.plain_machine.specs.Written.Written.{Nothing, OfProcess, OfSystem}
+use Rattle.plain_machine.specs.Written.{Word as word}
+use Rattle.plain_machine.specs.Written.{SysWord as sys}
+use Rattle.plain_machine.specs.declared.command.To.{To}
+use Rattle.plain_machine.specs.declared.command.To.TheVariants as to
+use Rattle.plain_machine.specs.declared.command.Depth.{Depth}
+use Rattle.plain_machine.specs.declared.command.Depth.TheVariants.{Minor, Major}
+
+-- A space or a tab.
+abbrev pub is_blank : ℕ → Bool
+is_blank b = nat_eq b 32 || nat_eq b 9
+
+-- A digit.
+abbrev pub is_digit : ℕ → Bool
+is_digit b = nat_le 48 b && nat_le b 57
+
+-- A letter from a to z.
+abbrev pub is_small_letter : ℕ → Bool
+is_small_letter b = nat_le 97 b && nat_le b 122
+
+-- A byte of an atom after its first: a letter, a digit, `_` or `@`.
+abbrev pub is_name_byte : ℕ → Bool
+is_name_byte b = is_small_letter b || ((nat_le 65 b && nat_le b 90) || (is_digit b || (nat_eq b 95 || nat_eq b 64)))
+
+-- Bytes that are all of a kind.
+abbrev pub AreAll : (ℕ → Bool) → List ℕ → Type 0
+AreAll p [] = Unit {0}
+AreAll p (b ∷ bytes) = (p b ≡ true) × AreAll p bytes
+
+-- Digits as a number, after a number that was read before them.
+abbrev pub value_after : ℕ → List ℕ → ℕ
+value_after n [] = n
+value_after n (b ∷ bytes) = value_after (n * 10 + (b - 48)) bytes
+
+-- No zero stands before other digits, and there is a digit.
+abbrev pub HasNoLeadingZero : List ℕ → Type 0
+HasNoLeadingZero [] = ⊥
+HasNoLeadingZero (b ∷ []) = Unit {0}
+HasNoLeadingZero (b ∷ c ∷ bytes) = b ≢ 48
+
+-- The text is the number in decimal digits.
+pub record IsNumber (n : ℕ) (text : List ℕ) : Type 0 where
+  pub digits : AreAll is_digit text
+  pub first : HasNoLeadingZero text
+  pub value : value_after 0 text ≡ n
+
+-- The text is the integer: a number, or `-` and a number that is not 0.
+abbrev pub IsInteger : ℤ → List ℕ → Type 0
+IsInteger (pos n) text = IsNumber n text
+IsInteger (negsuc n) text = (digits : List ℕ) × IsNumber (n + 1) digits × (text ≡ 45 ∷ digits)
+
+-- The bytes are an atom.
+abbrev pub IsName : List ℕ → Type 0
+IsName [] = ⊥
+IsName (b ∷ bytes) = (is_small_letter b ≡ true) × AreAll is_name_byte bytes × (length bytes < 63)
+
+-- A piece of a line: at least one blank, or a token, before which blanks may stand.
+pub data Piece : Type 0 where
+  Space : Piece
+  Text : List ℕ → Piece
+  Number : ℕ → Piece
+  Whole : ℤ → Piece
+  Process : ℕ → Piece
+  Register : ℕ → Piece
+
+-- The text is the token.
+abbrev pub Spells : Piece → List ℕ → Type 0
+Spells Space text = (b : ℕ) × (is_blank b ≡ true) × (text ≡ b ∷ [])
+Spells (Text t) text = text ≡ t
+Spells (Number n) text = IsNumber n text
+Spells (Whole i) text = IsInteger i text
+Spells (Process n) text = (digits : List ℕ) × IsNumber n digits × (text ≡ codes "<0." ++ (digits ++ codes ".0>"))
+Spells (Register r) text = (digits : List ℕ) × IsNumber r digits × (text ≡ 36 ∷ digits)
+
+-- The pieces in order, with blanks before each and at the end.
+abbrev pub Lies : List Piece → List ℕ → Type 0
+Lies [] bytes = AreAll is_blank bytes
+Lies (p ∷ ps) bytes = (gap text rest : List ℕ) × AreAll is_blank gap × Spells p text × (bytes ≡ gap ++ (text ++ rest)) × Lies ps rest
+
+-- The bytes of a binary, divided by commas, each but the first after a comma.
+abbrev pub more_byte_pieces : List ℕ → List Piece → List Piece
+more_byte_pieces [] ps = ps
+more_byte_pieces (b ∷ bytes) ps = Text (codes ",") ∷ Number b ∷ more_byte_pieces bytes ps
+
+-- The bytes of a binary, divided by commas.
+abbrev pub byte_pieces : List ℕ → List Piece → List Piece
+byte_pieces [] ps = ps
+byte_pieces (b ∷ bytes) ps = Number b ∷ more_byte_pieces bytes ps
+
+abbrev mutual
+  -- The pieces of a term, before those that follow it.
+  pub term_pieces : Term → List Piece → List Piece
+  term_pieces (Int i) ps = Whole i ∷ ps
+  term_pieces (Atom a) ps = Text a ∷ ps
+  term_pieces (Pid n) ps = Process n ∷ ps
+  term_pieces (Held r) ps = Register r ∷ ps
+  term_pieces (Listed ts) ps = Text (codes "[") ∷ parts_pieces ts (Text (codes "]") ∷ ps)
+  term_pieces (Barred ts t) ps = Text (codes "[") ∷ parts_pieces ts (Text (codes "|") ∷ term_pieces t (Text (codes "]") ∷ ps))
+  term_pieces (Tuple ts) ps = Text (codes "{") ∷ parts_pieces ts (Text (codes "}") ∷ ps)
+  term_pieces (Map qs) ps = Text (codes "#{") ∷ pairs_pieces qs (Text (codes "}") ∷ ps)
+  term_pieces (Bin bytes) ps = Text (codes "<<") ∷ byte_pieces bytes (Text (codes ">>") ∷ ps)
+
+  -- Terms divided by commas.
+  pub parts_pieces : Terms → List Piece → List Piece
+  parts_pieces end ps = ps
+  parts_pieces (t ▹ ts) ps = term_pieces t (more_pieces ts ps)
+
+  -- Terms, each after a comma.
+  pub more_pieces : Terms → List Piece → List Piece
+  more_pieces end ps = ps
+  more_pieces (t ▹ ts) ps = Text (codes ",") ∷ term_pieces t (more_pieces ts ps)
+
+  -- Pairs divided by commas.
+  pub pairs_pieces : TermPairs → List Piece → List Piece
+  pairs_pieces stop ps = ps
+  pairs_pieces (pair k v qs) ps = term_pieces k (Text (codes "=>") ∷ term_pieces v (more_pairs_pieces qs ps))
+
+  -- Pairs, each after a comma.
+  pub more_pairs_pieces : TermPairs → List Piece → List Piece
+  more_pairs_pieces stop ps = ps
+  more_pairs_pieces (pair k v qs) ps = Text (codes ",") ∷ term_pieces k (Text (codes "=>") ∷ term_pieces v (more_pairs_pieces qs ps))
+
+-- Terms, each after a semicolon.
+abbrev pub more_bodies_pieces : Terms → List Piece → List Piece
+more_bodies_pieces end ps = ps
+more_bodies_pieces (t ▹ ts) ps = Text (codes ";") ∷ term_pieces t (more_bodies_pieces ts ps)
+
+-- Terms divided by semicolons.
+abbrev pub bodies_pieces : Terms → List Piece → List Piece
+bodies_pieces end ps = ps
+bodies_pieces (t ▹ ts) ps = term_pieces t (more_bodies_pieces ts ps)
+
+-- Registers, each after a blank.
+abbrev pub held_pieces : List ℕ → List Piece → List Piece
+held_pieces [] ps = ps
+held_pieces (r ∷ rs) ps = Space ∷ Register r ∷ held_pieces rs ps
+
+-- A process by its number or by a register.
+abbrev pub receiver_pieces : To → List Piece → List Piece
+receiver_pieces (to.Number n) ps = Number n ∷ ps
+receiver_pieces (to.Held r) ps = Register (r.0) ∷ ps
+
+-- A depth of collection.
+abbrev pub extent_pieces : Depth → List Piece → List Piece
+extent_pieces Minor ps = Text (codes "minor") ∷ ps
+extent_pieces Major ps = Text (codes "major") ∷ ps
+
+-- An operand with the blank before it.
+abbrev pub operand_pieces : (k : Kind) → OperandOf k → List Piece → List Piece
+operand_pieces Slot r ps = Space ∷ Number r ∷ ps
+operand_pieces Count n ps = Space ∷ Number n ∷ ps
+operand_pieces Receiver to ps = Space ∷ receiver_pieces to ps
+operand_pieces Title a ps = Space ∷ Text a ∷ ps
+operand_pieces Environment rs ps = held_pieces rs ps
+operand_pieces Extent d ps = Space ∷ extent_pieces d ps
+operand_pieces Body t ps = Space ∷ term_pieces t ps
+operand_pieces Bodies ts ps = Space ∷ bodies_pieces ts ps
+
+-- The operands of a row.
+abbrev pub operands_pieces : (ks : List Kind) → Operands ks → List Piece
+operands_pieces [] ops = []
+operands_pieces (k ∷ ks) ops = operand_pieces k (ops.0) (operands_pieces ks (ops.1))
+
+-- A line without a command: blanks, and then nothing, or `%` and any bytes.
+abbrev pub IsSilent : List ℕ → Type 0
+IsSilent [] = Unit {0}
+IsSilent (b ∷ bytes) = (b ≡ 37) ⊎ ((is_blank b ≡ true) × IsSilent bytes)
+
+-- How a command is spelled: a process line is a number, a verb and its operands, a system line is
+-- `sys`, a verb and its operands.
+abbrev pub Spelled : Written → List ℕ → Type 0
+Spelled Nothing line = IsSilent line
+Spelled (OfProcess n w ops) line = Lies (Number n ∷ Space ∷ Text (text_of w) ∷ operands_pieces (kinds_of w) ops) line
+Spelled (OfSystem w ops) line = Lies (Text (codes "sys") ∷ Space ∷ Text (sys_text_of w) ∷ operands_pieces (sys_kinds_of w) ops) line
+
+-- The magnitude of an integer is below 2 ^ 127.
+abbrev pub IsInRange : ℤ → Type 0
+IsInRange (pos n) = n < 2 ^ 127
+IsInRange (negsuc n) = n + 1 < 2 ^ 127
+
+abbrev mutual
+  -- A term may be written where so many levels of brackets are left.
+  pub MayStand : (levels : ℕ) → Term → Type 0
+  MayStand levels (Int i) = IsInRange i
+  MayStand levels (Atom a) = IsName a
+  MayStand levels (Pid n) = (1 ≤ n) × (n < 2 ^ 40)
+  MayStand levels (Held r) = r < 16
+  MayStand levels (Listed ts) = (0 < levels) × AllMayStand (levels - 1) ts
+  MayStand levels (Barred ts t) = (0 < levels) × (0 < terms_len ts) × AllMayStand (levels - 1) ts × MayStand (levels - 1) t
+  MayStand levels (Tuple ts) = (0 < levels) × AllMayStand (levels - 1) ts
+  MayStand levels (Map qs) = (0 < levels) × PairsMayStand (levels - 1) qs
+  MayStand levels (Bin bytes) = (0 < levels) × All (λ b. b < 256) bytes
+
+  -- Each of the terms may.
+  pub AllMayStand : (levels : ℕ) → Terms → Type 0
+  AllMayStand levels end = Unit {0}
+  AllMayStand levels (t ▹ ts) = MayStand levels t × AllMayStand levels ts
+
+  -- Each key and value may.
+  pub PairsMayStand : (levels : ℕ) → TermPairs → Type 0
+  PairsMayStand levels stop = Unit {0}
+  PairsMayStand levels (pair k v qs) = MayStand levels k × MayStand levels v × PairsMayStand levels qs
+
+abbrev mutual
+  -- No register stands in a term.
+  pub HoldsNone : Term → Type 0
+  HoldsNone (Int i) = Unit {0}
+  HoldsNone (Atom a) = Unit {0}
+  HoldsNone (Pid n) = Unit {0}
+  HoldsNone (Held r) = ⊥
+  HoldsNone (Listed ts) = AllHoldNone ts
+  HoldsNone (Barred ts t) = AllHoldNone ts × HoldsNone t
+  HoldsNone (Tuple ts) = AllHoldNone ts
+  HoldsNone (Map qs) = PairsHoldNone qs
+  HoldsNone (Bin bytes) = Unit {0}
+
+  -- None stands in any of the terms.
+  pub AllHoldNone : Terms → Type 0
+  AllHoldNone end = Unit {0}
+  AllHoldNone (t ▹ ts) = HoldsNone t × AllHoldNone ts
+
+  -- None stands in any key or value.
+  pub PairsHoldNone : TermPairs → Type 0
+  PairsHoldNone stop = Unit {0}
+  PairsHoldNone (pair k v qs) = HoldsNone k × HoldsNone v × PairsHoldNone qs
+
+-- The ranges of a process by number or by register.
+abbrev pub MayReceive : To → Type 0
+MayReceive (to.Number n) = n < 2 ^ 40
+MayReceive (to.Held r) = (r.0) < 16
+
+-- The ranges of an operand: registers below 16, numbers below 2 ^ 40, brackets in at most 256
+-- levels, at most 64 registers in an environment, and at least one term where they are divided by
+-- semicolons, with no register in it.
+abbrev pub IsOperand : (k : Kind) → OperandOf k → Type 0
+IsOperand Slot r = r < 16
+IsOperand Count n = n < 2 ^ 40
+IsOperand Receiver to = MayReceive to
+IsOperand Title a = IsName a
+IsOperand Environment rs = All (λ r. r < 16) rs × (length rs ≤ 64)
+IsOperand Extent d = Unit {0}
+IsOperand Body t = MayStand 256 t
+IsOperand Bodies ts = (0 < terms_len ts) × AllMayStand 256 ts × AllHoldNone ts
+
+-- The ranges of the operands of a row.
+abbrev pub AreOperands : (ks : List Kind) → Operands ks → Type 0
+AreOperands [] ops = Unit {0}
+AreOperands (k ∷ ks) ops = IsOperand k (ops.0) × AreOperands ks (ops.1)
+
+-- The ranges of a command.
+abbrev pub IsAllowed : Written → Type 0
+IsAllowed Nothing = Unit {0}
+IsAllowed (OfProcess n w ops) = (n < 2 ^ 40) × AreOperands (kinds_of w) ops
+IsAllowed (OfSystem w ops) = AreOperands (sys_kinds_of w) ops
+
+-- The line says the command.
+pub record Says (line : List ℕ) (w : Written) : Type 0 where
+  pub allowed : IsAllowed w
+  pub spelled : Spelled w line
+
+-- The table of the verbs of a process that are built.
+abbrev pub is_built : Word → Bool
+is_built word.Set = true
+is_built word.Self = true
+is_built word.Push = true
+is_built word.Pop = true
+is_built word.Print = true
+is_built word.Exit = true
+is_built _ = false
+
+-- The table of the verbs of the system that are built.
+abbrev pub is_sys_built : SysWord → Bool
+is_sys_built sys.Spawn = true
+is_sys_built sys.Procs = true
+is_sys_built sys.Quit = true
+is_sys_built _ = false
+
+-- The integers that are built are the small ones.
+abbrev pub IsSmall : ℤ → Type 0
+IsSmall (pos n) = n < 2 ^ 59
+IsSmall (negsuc n) = n < 2 ^ 59
+
+abbrev mutual
+  -- The table of the forms of terms that are built.
+  pub IsBuiltTerm : Term → Type 0
+  IsBuiltTerm (Int i) = IsSmall i
+  IsBuiltTerm (Atom a) = Unit {0}
+  IsBuiltTerm (Pid n) = Unit {0}
+  IsBuiltTerm (Held r) = ⊥
+  IsBuiltTerm (Listed ts) = AreBuiltTerms ts
+  IsBuiltTerm (Barred ts t) = ⊥
+  IsBuiltTerm (Tuple ts) = AreBuiltTerms ts
+  IsBuiltTerm (Map qs) = ⊥
+  IsBuiltTerm (Bin bytes) = ⊥
+
+  -- Each of the terms is of a built form.
+  pub AreBuiltTerms : Terms → Type 0
+  AreBuiltTerms end = Unit {0}
+  AreBuiltTerms (t ▹ ts) = IsBuiltTerm t × AreBuiltTerms ts
+
+-- An operand is of a built form.
+abbrev pub IsBuiltOperand : (k : Kind) → OperandOf k → Type 0
+IsBuiltOperand Body t = IsBuiltTerm t
+IsBuiltOperand Bodies ts = AreBuiltTerms ts
+IsBuiltOperand _ _ = Unit {0}
+
+-- Each operand of a row is.
+abbrev pub AreBuiltOperands : (ks : List Kind) → Operands ks → Type 0
+AreBuiltOperands [] ops = Unit {0}
+AreBuiltOperands (k ∷ ks) ops = IsBuiltOperand k (ops.0) × AreBuiltOperands ks (ops.1)
+
+-- The command has a built verb and is of built forms.
+abbrev pub IsBuilt : Written → Type 0
+IsBuilt Nothing = Unit {0}
+IsBuilt (OfProcess n w ops) = (is_built w ≡ true) × AreBuiltOperands (kinds_of w) ops
+IsBuilt (OfSystem w ops) = (is_sys_built w ≡ true) × AreBuiltOperands (sys_kinds_of w) ops
+
+-- A line says one built command at most.
+abbrev pub SaysOne : Type 0
+SaysOne = (line : List ℕ) (w x : Written) → Says line w → Says line x → IsBuilt w → IsBuilt x → w ≡ x

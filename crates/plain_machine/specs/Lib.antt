@@ -1,0 +1,9 @@
+pub mod Written
+pub mod Names
+pub mod Grammar
+pub mod State
+pub mod Tightness
+pub mod Step
+pub mod May
+pub mod Run
+pub mod Laws

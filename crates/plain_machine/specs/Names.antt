@@ -1,0 +1,300 @@
+-- A written command with the names of its atoms in numbers: its items, its trees, the command.
+use Rattle.std.specs.Prelude.{ℕ, ◌+◌, ◌^◌, ◌<◌, nat_le, List, [], ◌∷◌, ◌++◌, length, map, slice_index_or, Option, is_some, unwrap_or, position, if◌then◌else◌}
+use Rattle.std.specs.Str.{bytes_eq}
+use Rattle.std.specs.declared.cmp.Ordering.TheVariants.{Less, Equal, Greater}
+use Rattle.plain_term.specs.declared.item.Item.{Item}
+use Rattle.plain_term.specs.declared.item.Item.TheVariants as item
+use Rattle.plain_term.specs.Tree.{Tree, Trees, Pairs}
+use Rattle.plain_term.specs.Tree.{Tree as tree}
+use Rattle.plain_term.specs.Tree.{Trees as trees}
+use Rattle.plain_term.specs.Tree.{Pairs as pairs}
+use Rattle.plain_term.specs.Order.{order}
+use Rattle.plain_machine.specs.Written.{Term, Terms, TermPairs, terms_len, pairs_len, joined, Kind, OperandOf, Operands, Word, kinds_of, SysWord, sys_kinds_of, Written}
+use Rattle.plain_machine.specs.Written.Term.{Int, Atom, Pid, Held, Listed, Barred, Tuple, Map, Bin}
+use Rattle.plain_machine.specs.Written.Terms.{end, ◌▹◌}
+use Rattle.plain_machine.specs.Written.TermPairs.{stop, pair}
+use Rattle.plain_machine.specs.Written.Kind.{Title, Environment, Body, Bodies}
+use Rattle.plain_machine.specs.Written.Written.{Nothing, OfProcess, OfSystem}
+use Rattle.plain_machine.specs.Written.{Word as word}
+use Rattle.plain_machine.specs.Written.{SysWord as sys}
+use Rattle.plain_machine.specs.declared.command.Reg.{Reg}
+use Rattle.plain_machine.specs.declared.command.Pick.{Pick}
+use Rattle.plain_machine.specs.declared.command.Pick.TheVariants as pick
+use Rattle.plain_machine.specs.declared.command.To.{To}
+use Rattle.plain_machine.specs.declared.command.To.TheVariants as to
+use Rattle.plain_machine.specs.declared.command.Shape.TheVariants as shape
+use Rattle.plain_machine.specs.declared.command.Command.{Command}
+use Rattle.plain_machine.specs.declared.command.Command.TheVariants as command
+use Rattle.plain_machine.specs.declared.command.Verb.{Verb}
+use Rattle.plain_machine.specs.declared.command.Verb.TheVariants as verb
+use Rattle.plain_machine.specs.declared.command.SysVerb.{SysVerb}
+use Rattle.plain_machine.specs.declared.command.SysVerb.TheVariants as sysverb
+
+-- The first place where the name stands.
+abbrev pub place_of : List (List ℕ) → List ℕ → Option ℕ
+place_of names name = position (λ x. bytes_eq x name) names
+
+-- The number of a name is its first place.
+abbrev pub number_of : List (List ℕ) → List ℕ → ℕ
+number_of names name = unwrap_or (place_of names name) 0
+
+-- The names themselves where the name stands in them, else with the name at their end.
+abbrev pub with_name : List (List ℕ) → List ℕ → List (List ℕ)
+with_name names name = if is_some (place_of names name) then names else (names ++ name ∷ [])
+
+-- The names with each of these that is new at their end, in order of first place.
+abbrev pub with_names : List (List ℕ) → List (List ℕ) → List (List ℕ)
+with_names names [] = names
+with_names names (a ∷ atoms) = with_names (with_name names a) atoms
+
+abbrev mutual
+  -- The atoms of a term, from left to right.
+  pub atoms_of : Term → List (List ℕ)
+  atoms_of (Int i) = []
+  atoms_of (Atom a) = a ∷ []
+  atoms_of (Pid n) = []
+  atoms_of (Held r) = []
+  atoms_of (Listed ts) = atoms_of_all ts
+  atoms_of (Barred ts t) = atoms_of_all ts ++ atoms_of t
+  atoms_of (Tuple ts) = atoms_of_all ts
+  atoms_of (Map ps) = atoms_of_pairs ps
+  atoms_of (Bin bytes) = []
+
+  -- The atoms of terms.
+  pub atoms_of_all : Terms → List (List ℕ)
+  atoms_of_all end = []
+  atoms_of_all (t ▹ ts) = atoms_of t ++ atoms_of_all ts
+
+  -- The atoms of pairs.
+  pub atoms_of_pairs : TermPairs → List (List ℕ)
+  atoms_of_pairs stop = []
+  atoms_of_pairs (pair k v ps) = atoms_of k ++ (atoms_of v ++ atoms_of_pairs ps)
+
+-- The atoms of an operand: those of its terms, and an area's or a fun's name.
+abbrev pub operand_atoms : (k : Kind) → OperandOf k → List (List ℕ)
+operand_atoms Title a = a ∷ []
+operand_atoms Body t = atoms_of t
+operand_atoms Bodies ts = atoms_of_all ts
+operand_atoms _ _ = []
+
+-- The atoms of the operands of a row.
+abbrev pub operands_atoms : (ks : List Kind) → Operands ks → List (List ℕ)
+operands_atoms [] ops = []
+operands_atoms (k ∷ ks) ops = operand_atoms k (ops.0) ++ operands_atoms ks (ops.1)
+
+-- All atoms of a command.
+abbrev pub all_atoms : Written → List (List ℕ)
+all_atoms Nothing = []
+all_atoms (OfProcess n w ops) = operands_atoms (kinds_of w) ops
+all_atoms (OfSystem w ops) = operands_atoms (sys_kinds_of w) ops
+
+-- The names with the new ones of a command at their end, in order of first place.
+abbrev pub names_after : List (List ℕ) → Written → List (List ℕ)
+names_after names w = with_names names (all_atoms w)
+
+abbrev mutual
+  -- The prefix form of a term: a list is Cons, head, tail, and so on to Nil or the last tail.
+  pub items_of : (names : List (List ℕ)) → Term → List Item
+  items_of names (Int i) = item.Int i ∷ []
+  items_of names (Atom a) = item.Atom (number_of names a) ∷ []
+  items_of names (Pid n) = item.Pid n ∷ []
+  items_of names (Held r) = item.Held r ∷ []
+  items_of names (Listed ts) = listed_items names ts (item.Nil ∷ [])
+  items_of names (Barred ts t) = listed_items names ts (items_of names t)
+  items_of names (Tuple ts) = item.Tuple (terms_len ts) ∷ all_items names ts
+  items_of names (Map ps) = item.Map (pairs_len ps) ∷ pairs_items names ps
+  items_of names (Bin bytes) = item.Bin (length bytes) ∷ map item.Byte bytes
+
+  -- The prefix form of a list with these heads, before that of its tail.
+  pub listed_items : (names : List (List ℕ)) → Terms → List Item → List Item
+  listed_items names end tail = tail
+  listed_items names (t ▹ ts) tail = item.Cons ∷ (items_of names t ++ listed_items names ts tail)
+
+  -- The prefix forms of terms, one after the other.
+  pub all_items : (names : List (List ℕ)) → Terms → List Item
+  all_items names end = []
+  all_items names (t ▹ ts) = items_of names t ++ all_items names ts
+
+  -- The prefix forms of pairs, each key before its value.
+  pub pairs_items : (names : List (List ℕ)) → TermPairs → List Item
+  pairs_items names stop = []
+  pairs_items names (pair k v ps) = items_of names k ++ (items_of names v ++ pairs_items names ps)
+
+-- A pair put into pairs in key order. Where the key is there already, the new pair stands for it.
+abbrev pub with_pair : (names shared : List (List ℕ)) (key value : Tree) → Pairs → Pairs
+with_pair names shared key value pairs.stop = pairs.pair key value pairs.stop
+with_pair names shared key value (pairs.pair k v ps) = elim (order names shared key k) [
+  | Less ↦ pairs.pair key value (pairs.pair k v ps)
+  | Equal ↦ pairs.pair key value ps
+  | Greater ↦ pairs.pair k v (with_pair names shared key value ps)
+]
+
+-- Pairs put into others one by one, so that the later of two with equal keys stands.
+abbrev pub with_pairs : (names shared : List (List ℕ)) → Pairs → Pairs → Pairs
+with_pairs names shared sorted pairs.stop = sorted
+with_pairs names shared sorted (pairs.pair k v ps) = with_pairs names shared (with_pair names shared k v sorted) ps
+
+-- A binary of up to 64 bytes by its bytes, a longer one as a new shared one.
+abbrev pub bin_tree : List ℕ → (shared : List (List ℕ)) → Tree × List (List ℕ)
+bin_tree bytes shared = if nat_le (length bytes) 64 then (tree.Bin bytes, shared) else (tree.Shared (length shared + 1), shared ++ bytes ∷ [])
+
+-- A list with these heads and this tail.
+abbrev pub list_tree : Trees → Tree → Tree
+list_tree trees.end tail = tail
+list_tree (trees.◌▹◌ t ts) tail = tree.Cons t (list_tree ts tail)
+
+abbrev mutual
+  -- The tree of a term, and the byte lists of shared binaries with its own at their end. `held` has
+  -- the trees of the registers.
+  pub tree_of : (names : List (List ℕ)) (held : List Tree) → Term → (shared : List (List ℕ)) → Tree × List (List ℕ)
+  tree_of names held (Int i) shared = (tree.Int i, shared)
+  tree_of names held (Atom a) shared = (tree.Atom (number_of names a), shared)
+  tree_of names held (Pid n) shared = (tree.Pid n, shared)
+  tree_of names held (Held r) shared = (slice_index_or held r tree.Nil, shared)
+  tree_of names held (Listed ts) shared = let heads : Trees × List (List ℕ) = trees_of names held ts shared in
+      (list_tree (heads.0) tree.Nil, heads.1)
+  tree_of names held (Barred ts t) shared = let heads : Trees × List (List ℕ) = trees_of names held ts shared in
+      let last : Tree × List (List ℕ) = tree_of names held t (heads.1) in (list_tree (heads.0) (last.0), last.1)
+  tree_of names held (Tuple ts) shared = let all : Trees × List (List ℕ) = trees_of names held ts shared in (tree.Tuple (all.0), all.1)
+  tree_of names held (Map ps) shared = let all : Pairs × List (List ℕ) = pairs_of names held ps shared in
+      (tree.Map (with_pairs names (all.1) pairs.stop (all.0)), all.1)
+  tree_of names held (Bin bytes) shared = bin_tree bytes shared
+
+  -- The trees of terms, from left to right.
+  pub trees_of : (names : List (List ℕ)) (held : List Tree) → Terms → (shared : List (List ℕ)) → Trees × List (List ℕ)
+  trees_of names held end shared = (trees.end, shared)
+  trees_of names held (t ▹ ts) shared = let first : Tree × List (List ℕ) = tree_of names held t shared in
+      let others : Trees × List (List ℕ) = trees_of names held ts (first.1) in (trees.◌▹◌ (first.0) (others.0), others.1)
+
+  -- The trees of keys and values, in the order of writing.
+  pub pairs_of : (names : List (List ℕ)) (held : List Tree) → TermPairs → (shared : List (List ℕ)) → Pairs × List (List ℕ)
+  pairs_of names held stop shared = (pairs.stop, shared)
+  pairs_of names held (pair k v ps) shared = let key : Tree × List (List ℕ) = tree_of names held k shared in
+      let value : Tree × List (List ℕ) = tree_of names held v (key.1) in
+      let others : Pairs × List (List ℕ) = pairs_of names held ps (value.1) in (pairs.pair (key.0) (value.0) (others.0), others.1)
+
+-- A register by its number.
+abbrev pub reg : ℕ → Reg
+reg r = record { 0 = r }
+
+-- The verb of a process line, with names by number.
+abbrev pub verb_of : (names : List (List ℕ)) (w : Word) → Operands (kinds_of w) → Verb
+verb_of names word.Set ops = verb.Set (reg (ops.0))
+verb_of names word.Hd ops = verb.Choose (reg (ops.0)) (reg (ops.1.0)) pick.Hd
+verb_of names word.Tl ops = verb.Choose (reg (ops.0)) (reg (ops.1.0)) pick.Tl
+verb_of names word.Elem ops = verb.Choose (reg (ops.0)) (reg (ops.1.1.0)) (pick.Elem (ops.1.0))
+verb_of names word.MapGet ops = verb.Choose (reg (ops.0)) (reg (ops.1.0)) (pick.MapGet (reg (ops.1.1.0)))
+verb_of names word.MapPut ops = verb.MapPut (reg (ops.0)) (reg (ops.1.0)) (reg (ops.1.1.0)) (reg (ops.1.1.1.0))
+verb_of names word.Part ops = verb.Choose (reg (ops.0)) (reg (ops.1.0)) (pick.Part (ops.1.1.0) (ops.1.1.1.0))
+verb_of names word.Fill ops = verb.Fill (reg (ops.0)) (ops.1.0) (ops.1.1.0)
+verb_of names word.Fun ops = verb.Fun (reg (ops.0)) (number_of names (ops.1.0)) (ops.1.1.0)
+verb_of names word.Env ops = verb.Choose (reg (ops.0)) (reg (ops.1.1.0)) (pick.Env (ops.1.0))
+verb_of names word.Ref ops = verb.Ref (reg (ops.0))
+verb_of names word.Self ops = verb.Own (reg (ops.0))
+verb_of names word.MkTuple ops = verb.Repeat (reg (ops.0)) shape.Tuple (ops.1.0) (reg (ops.1.1.0))
+verb_of names word.MkList ops = verb.Repeat (reg (ops.0)) shape.List (ops.1.0) (reg (ops.1.1.0))
+verb_of names word.Push ops = verb.Push (reg (ops.0))
+verb_of names word.Pop ops = verb.Pop (reg (ops.0))
+verb_of names word.Send ops = verb.Send (reg (ops.0)) (ops.1.0)
+verb_of names word.Recv ops = verb.Recv (reg (ops.0))
+verb_of names word.Queue ops = verb.Queue
+verb_of names word.Print ops = verb.Print (reg (ops.0))
+verb_of names word.Eq ops = verb.Eq (reg (ops.0)) (reg (ops.1.0))
+verb_of names word.Cmp ops = verb.Cmp (reg (ops.0)) (reg (ops.1.0))
+verb_of names word.Flat ops = verb.Flat (reg (ops.0))
+verb_of names word.Lit ops = verb.Lit (reg (ops.0)) (number_of names (ops.1.0)) (ops.1.1.0)
+verb_of names word.Gc ops = verb.Gc (ops.0)
+verb_of names word.Hibernate ops = verb.Hibernate
+verb_of names word.Info ops = verb.Info
+verb_of names word.Heap ops = verb.Heap
+verb_of names word.Exit ops = verb.Exit
+
+-- The verb of a system line, with names by number.
+abbrev pub sys_verb_of : (names : List (List ℕ)) (w : SysWord) → Operands (sys_kinds_of w) → SysVerb
+sys_verb_of names sys.Spawn ops = sysverb.Spawn
+sys_verb_of names sys.Load ops = sysverb.Load (number_of names (ops.0)) (terms_len (ops.1.0))
+sys_verb_of names sys.Purge ops = sysverb.Purge (number_of names (ops.0))
+sys_verb_of names sys.Sweep ops = sysverb.Sweep
+sys_verb_of names sys.Counts ops = sysverb.Counts
+sys_verb_of names sys.Dump ops = sysverb.Dump
+sys_verb_of names sys.Procs ops = sysverb.Procs
+sys_verb_of names sys.Quit ops = sysverb.Quit
+
+-- The command with names by number.
+abbrev pub command_of : (names : List (List ℕ)) → Written → Command
+command_of names Nothing = command.Nothing
+command_of names (OfProcess n w ops) = command.Process n (verb_of names w ops)
+command_of names (OfSystem w ops) = command.System (sys_verb_of names w ops)
+
+-- A register has a number below 16.
+abbrev pub IsRegister : Reg → Type 0
+IsRegister r = (r.0) < 16
+
+-- The register that a key is taken from.
+abbrev pub PicksRegister : Pick → Type 0
+PicksRegister (pick.MapGet r) = IsRegister r
+PicksRegister _ = Unit {0}
+
+-- The register that names a process.
+abbrev pub SendsByRegister : To → Type 0
+SendsByRegister (to.Number n) = n < 2 ^ 40
+SendsByRegister (to.Held r) = IsRegister r
+
+-- The registers of a verb.
+abbrev pub HasRegisters : Verb → Type 0
+HasRegisters (verb.Set r) = IsRegister r
+HasRegisters (verb.Choose r s p) = IsRegister r × IsRegister s × PicksRegister p
+HasRegisters (verb.MapPut r s k v) = IsRegister r × IsRegister s × IsRegister k × IsRegister v
+HasRegisters (verb.Fill r len byte) = IsRegister r
+HasRegisters (verb.Fun r name arity) = IsRegister r
+HasRegisters (verb.Ref r) = IsRegister r
+HasRegisters (verb.Own r) = IsRegister r
+HasRegisters (verb.Repeat r s n t) = IsRegister r × IsRegister t
+HasRegisters (verb.Push r) = IsRegister r
+HasRegisters (verb.Pop r) = IsRegister r
+HasRegisters (verb.Send r t) = IsRegister r × SendsByRegister t
+HasRegisters (verb.Recv r) = IsRegister r
+HasRegisters (verb.Print r) = IsRegister r
+HasRegisters (verb.Eq r s) = IsRegister r × IsRegister s
+HasRegisters (verb.Cmp r s) = IsRegister r × IsRegister s
+HasRegisters (verb.Flat r) = IsRegister r
+HasRegisters (verb.Lit r name i) = IsRegister r
+HasRegisters _ = Unit {0}
+
+-- The number of a process is below 2 ^ 40, and each register that a command names is below 16.
+abbrev pub IsInBounds : Command → Type 0
+IsInBounds (command.Process n v) = (n < 2 ^ 40) × HasRegisters v
+IsInBounds _ = Unit {0}
+
+-- Registers as terms.
+abbrev pub held_terms : List ℕ → Terms
+held_terms [] = end
+held_terms (r ∷ rs) = Held r ▹ held_terms rs
+
+-- The terms of an operand: an environment has one for each register.
+abbrev pub operand_terms : (k : Kind) → OperandOf k → Terms
+operand_terms Environment rs = held_terms rs
+operand_terms Body t = t ▹ end
+operand_terms Bodies ts = ts
+operand_terms _ _ = end
+
+-- The terms of the operands of a row.
+abbrev pub operands_terms : (ks : List Kind) → Operands ks → Terms
+operands_terms [] ops = end
+operands_terms (k ∷ ks) ops = joined (operand_terms k (ops.0)) (operands_terms ks (ops.1))
+
+-- The written terms of a command, from left to right.
+abbrev pub terms_of : Written → Terms
+terms_of Nothing = end
+terms_of (OfProcess n w ops) = operands_terms (kinds_of w) ops
+terms_of (OfSystem w ops) = operands_terms (sys_kinds_of w) ops
+
+-- A command with its written terms and all names that there are after it.
+pub record Parsed : Type 0 where
+  pub command : Command
+  pub terms : Terms
+  pub names : List (List ℕ)
+
+-- What a written command comes to where these names are known before it.
+abbrev pub parsed_of : List (List ℕ) → Written → Parsed
+parsed_of names w = record { command = command_of (names_after names w) w; terms = terms_of w; names = names_after names w }

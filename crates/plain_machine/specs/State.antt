@@ -1,0 +1,71 @@
+-- The state of the plain machine: processes that hold trees by value, and what they share.
+use Rattle.std.specs.Prelude.{ℕ, ◌+◌, ◌==◌, Bool, false, not, List, [], ◌∷◌, ◌++◌, map, get_or, set, replicate, if◌then◌else◌, Option}
+use Rattle.std.specs.List.{find, filter, list_any}
+use Rattle.plain_term.specs.Tree.{Tree}
+use Rattle.plain_term.specs.Tree.Tree.{Nil}
+
+-- A live process: its number, the trees of its 16 registers, its stack from the last pushed, its
+-- queue from the first to be received, and how many references it has made.
+pub record Process : Type 0 where
+  pub number : ℕ
+  pub registers : List Tree
+  pub stack : List Tree
+  pub queue : List Tree
+  pub refs : ℕ
+
+-- A literal area: the number of its name, and its literals in order.
+pub record Area : Type 0 where
+  pub name : ℕ
+  pub literals : List Tree
+
+-- The whole state: the live processes by rising number, the bytes of each shared binary made so far
+-- (the first has id 1), the literal areas, the names by number, the number of the next process,
+-- whether nothing has changed since the last sweep, and how many words the accepted lines asked for.
+pub record State : Type 0 where
+  pub processes : List Process
+  pub shared : List (List ℕ)
+  pub areas : List Area
+  pub names : List (List ℕ)
+  pub next : ℕ
+  pub swept : Bool
+  pub asked : ℕ
+
+-- A process that was just made: nil in each register, and nothing else.
+abbrev pub fresh_process : ℕ → Process
+fresh_process number = record { number = number; registers = replicate 16 Nil; stack = []; queue = []; refs = 0 }
+
+-- The first state: process 1 lives.
+abbrev pub first_state : State
+first_state = record { processes = fresh_process 1 ∷ []; shared = []; areas = []; names = []; next = 2; swept = false; asked = 0 }
+
+-- The live process with this number.
+abbrev pub process_of : ℕ → State → Option Process
+process_of number s = find (λ p. p.number == number) s.processes
+
+-- Whether a process with this number lives.
+abbrev pub is_live : ℕ → State → Bool
+is_live number s = list_any (λ p. p.number == number) s.processes
+
+-- The live numbers, rising.
+abbrev pub live_numbers : State → List ℕ
+live_numbers s = map (λ p. p.number) s.processes
+
+-- The process stands in the place of the one with its number.
+abbrev pub with_process : Process → State → State
+with_process p s = record s { processes = map (λ q. if q.number == p.number then p else q) s.processes }
+
+-- The process with this number is gone.
+abbrev pub without_process : ℕ → State → State
+without_process number s = record s { processes = filter (λ p. not (p.number == number)) s.processes }
+
+-- A new process with the next number.
+abbrev pub with_spawned : State → State
+with_spawned s = record s { processes = s.processes ++ fresh_process s.next ∷ []; next = s.next + 1 }
+
+-- The tree of a register.
+abbrev pub register : ℕ → Process → Tree
+register r p = get_or p.registers r Nil
+
+-- The register holds the tree.
+abbrev pub with_register : ℕ → Tree → Process → Process
+with_register r t p = record p { registers = set p.registers r t }

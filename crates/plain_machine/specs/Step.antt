@@ -1,0 +1,157 @@
+-- What one command makes of a state, and what is answered.
+use Rattle.std.specs.Prelude.{ℕ, ◌+◌, Bool, true, false, nat_le, if◌then◌else◌, List, [], ◌∷◌, ◌++◌, length, codes, decimal, Option, Some, None}
+use Rattle.plain_term.specs.Tree.{Tree}
+use Rattle.plain_term.specs.Tree.Tree.{Pid, Nil}
+use Rattle.plain_term.specs.Beyond.{is_beyond}
+use Rattle.plain_term.specs.Text.{text, numbers_text}
+use Rattle.plain_machine.specs.declared.command.Command.{Command}
+use Rattle.plain_machine.specs.declared.command.Command.TheVariants.{Nothing, Process, System}
+use Rattle.plain_machine.specs.declared.command.Verb.{Verb}
+use Rattle.plain_machine.specs.declared.command.Verb.TheVariants.{Set, Own, Push, Pop, Queue, Print, Eq, Cmp, Flat, Info, Heap, Exit}
+use Rattle.plain_machine.specs.declared.command.SysVerb.{SysVerb}
+use Rattle.plain_machine.specs.declared.command.SysVerb.TheVariants.{Spawn, Sweep, Counts, Dump, Procs, Quit}
+use Rattle.plain_machine.specs.declared.refusal.Refusal.{Refusal}
+use Rattle.plain_machine.specs.declared.refusal.Refusal.TheVariants.{NoProc, Empty, Big, Procs as TooMany, Syntax}
+use Rattle.plain_machine.specs.Written.{Terms}
+use Rattle.plain_machine.specs.Written.Terms.{end, ◌▹◌}
+use Rattle.plain_machine.specs.Names.{Parsed, tree_of}
+use Rattle.plain_machine.specs.State.{Process as Live, State, process_of, with_process, without_process, with_spawned, live_numbers, register, with_register}
+use Rattle.plain_machine.specs.Tightness.{grow}
+
+-- What a command comes to: a new state and the reply, or a refusal that leaves the state.
+pub data Outcome : Type 0 where
+  Accepted : State → List ℕ → Outcome
+  Refused : Refusal → Outcome
+
+-- The verbs that print and change nothing.
+abbrev pub is_printing_verb : Verb → Bool
+is_printing_verb Queue = true
+is_printing_verb (Print r) = true
+is_printing_verb (Eq a b) = true
+is_printing_verb (Cmp a b) = true
+is_printing_verb (Flat r) = true
+is_printing_verb Info = true
+is_printing_verb Heap = true
+is_printing_verb _ = false
+
+-- The verbs of the system that print and change nothing.
+abbrev pub is_printing_system : SysVerb → Bool
+is_printing_system Counts = true
+is_printing_system Dump = true
+is_printing_system Procs = true
+is_printing_system Quit = true
+is_printing_system _ = false
+
+-- The commands that print and change nothing; a line without a command is one.
+abbrev pub is_printing : Command → Bool
+is_printing Nothing = true
+is_printing (Process number verb) = is_printing_verb verb
+is_printing (System verb) = is_printing_system verb
+
+-- The command that sweeps every process.
+abbrev pub is_sweep : Command → Bool
+is_sweep (System Sweep) = true
+is_sweep _ = false
+
+-- A printing line leaves `swept`, `sys sweep` makes it true, every other accepted command makes it false.
+abbrev pub swept_after : Command → Bool → Bool
+swept_after c swept = if is_printing c then swept else is_sweep c
+
+-- The changed state after an accepted command: it has the line's new names, and what it asked for.
+abbrev pub settled : State → Parsed → State → State
+settled s p changed = record changed { names = p.names; swept = swept_after p.command s.swept; asked = s.asked + grow s p }
+
+-- The command is accepted with this reply.
+abbrev pub answers : State → Parsed → State → List ℕ → Outcome
+answers s p changed reply = Accepted (settled s p changed) reply
+
+-- The command is accepted, and only that is said.
+abbrev pub does : State → Parsed → State → Outcome
+does s p changed = answers s p changed (codes "ok")
+
+-- The tree of the line's written term, and the shared byte lists with the term's own at their end.
+abbrev pub written_tree : State → Parsed → Live → Terms → Tree × List (List ℕ)
+written_tree s p q end = (Nil, s.shared)
+written_tree s p q (t ▹ ts) = tree_of p.names q.registers t s.shared
+
+-- The register holds a tree that was just made, and the shared byte lists are these.
+abbrev pub with_made : State → Live → ℕ → Tree × List (List ℕ) → State
+with_made s q r made = record (with_process (with_register r (made.0) q) s) { shared = made.1 }
+
+-- `set`: the register holds the written term.
+abbrev pub set_step : State → Parsed → Live → ℕ → Outcome
+set_step s p q r = does s p (with_made s q r (written_tree s p q p.terms))
+
+-- `self`: the register holds the pid of the process.
+abbrev pub self_step : State → Parsed → Live → ℕ → Outcome
+self_step s p q r = does s p (with_process (with_register r (Pid q.number) q) s)
+
+-- `push`: the register's tree goes on the stack.
+abbrev pub push_step : State → Parsed → Live → ℕ → Outcome
+push_step s p q r = does s p (with_process (record q { stack = register r q ∷ q.stack }) s)
+
+-- `pop`: the register holds the tree that was pushed last, which leaves the stack.
+abbrev pub pop_from : List Tree → State → Parsed → Live → ℕ → Outcome
+pop_from [] s p q r = Refused Empty
+pop_from (t ∷ stack) s p q r = does s p (with_process (record (with_register r t q) { stack = stack }) s)
+
+abbrev pub pop_step : State → Parsed → Live → ℕ → Outcome
+pop_step s p q r = pop_from q.stack s p q r
+
+-- `print`: the text of the register's tree, where the tree is within the walk limit.
+abbrev pub print_if : Bool → State → Parsed → Tree → Outcome
+print_if true s p t = Refused Big
+print_if false s p t = answers s p s (text p.names s.shared t)
+
+abbrev pub print_step : State → Parsed → Live → ℕ → Outcome
+print_step s p q r = print_if (is_beyond s.shared (register r q)) s p (register r q)
+
+-- `exit`: the process is gone.
+abbrev pub exit_step : State → Parsed → Live → Outcome
+exit_step s p q = does s p (without_process q.number s)
+
+-- A verb at a live process.
+abbrev pub by_verb : State → Parsed → Live → Verb → Outcome
+by_verb s p q (Set r) = set_step s p q r.0
+by_verb s p q (Own r) = self_step s p q r.0
+by_verb s p q (Push r) = push_step s p q r.0
+by_verb s p q (Pop r) = pop_step s p q r.0
+by_verb s p q (Print r) = print_step s p q r.0
+by_verb s p q Exit = exit_step s p q
+by_verb s p q _ = Refused Syntax
+
+abbrev pub in_process : Option Live → State → Parsed → Verb → Outcome
+in_process None s p verb = Refused NoProc
+in_process (Some q) s p verb = by_verb s p q verb
+
+-- At most so many processes live at a time.
+abbrev pub most_processes : ℕ
+most_processes = 1024
+
+-- `spawn`: one process more, and its number is told.
+abbrev pub spawn_if : Bool → State → Parsed → Outcome
+spawn_if true s p = Refused TooMany
+spawn_if false s p = answers s p (with_spawned s) (codes "ok " ++ decimal s.next)
+
+abbrev pub spawn_step : State → Parsed → Outcome
+spawn_step s p = spawn_if (nat_le most_processes (length s.processes)) s p
+
+-- `procs`: the live numbers.
+abbrev pub procs_step : State → Parsed → Outcome
+procs_step s p = answers s p s (codes "[" ++ (numbers_text (live_numbers s) ++ codes "]"))
+
+-- A verb of the whole machine.
+abbrev pub by_system : State → Parsed → SysVerb → Outcome
+by_system s p Spawn = spawn_step s p
+by_system s p Procs = procs_step s p
+by_system s p Quit = does s p s
+by_system s p _ = Refused Syntax
+
+abbrev pub by_command : State → Parsed → Command → Outcome
+by_command s p Nothing = Accepted s []
+by_command s p (Process number verb) = in_process (process_of number s) s p verb
+by_command s p (System verb) = by_system s p verb
+
+-- The one step of a parsed line; a verb that is not built is none of the grammar.
+abbrev pub step : State → Parsed → Outcome
+step s p = by_command s p p.command

@@ -1,0 +1,23 @@
+ghost use Rattle.plain_machine.specs.State.{first_state};
+ghost use Rattle.plain_machine.specs.Laws.{IsNumbered, NumbersAreFresh, RefusalsLeave, RepliesDetermine, RunsJoin};
+
+/// A run over two lists of lines is the two runs one after the other.
+pub fn runs_join()
+    ensures { RunsJoin }
+{}
+
+/// A refused line leaves the state.
+pub fn refusals_leave()
+    ensures { RefusalsLeave }
+{}
+
+/// Process numbers rise, and none is given twice.
+pub fn numbers_are_fresh()
+    ensures first { IsNumbered first_state }
+    ensures always { NumbersAreFresh }
+{}
+
+/// Lines and their replies determine the state after them, since a line says one command at most.
+pub fn replies_determine()
+    ensures { RepliesDetermine }
+{}

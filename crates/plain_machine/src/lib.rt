@@ -1,0 +1,10 @@
+//! The plain machine: what a line of a script says, and what it does to terms that have no addresses.
+#![tactic(auto)]
+
+mod command;
+mod laws;
+mod refusal;
+
+pub use command::{Command, Depth, Measure, Pick, Reg, Shape, SysVerb, To, Verb};
+pub use laws::{numbers_are_fresh, refusals_leave, replies_determine, runs_join};
+pub use refusal::Refusal;

@@ -1,0 +1,16 @@
+pub mod Tables
+pub mod PartSteps
+pub mod TermSteps
+pub mod KeepsSteps
+pub mod Tools
+pub mod GapSteps
+pub mod NumberSteps
+pub mod AtomSteps
+pub mod Sound
+pub mod Complete
+pub mod Meaning
+pub mod LineSound
+pub mod LineComplete
+pub mod Verdict
+pub mod OneReading
+pub mod OneLine

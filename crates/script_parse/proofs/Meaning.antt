@@ -1,0 +1,161 @@
+-- What goes last while a line is read comes to the names and items of its terms.
+use Rattle.std.proofs.Common.{◌≡◌, ℕ, ◌<◌, ◌≤◌, ◌⊎◌, Bool, true, false, nat_le, List, [], ◌∷◌, ◌++◌, length, set, Option, Some, None, refl, sym, ◌∙◌, ap, subst, inl, inr, arith, append_assoc, length-append}
+use Rattle.std.proofs.lemmas.Bool.{leb-true, leb-false}
+use Rattle.std.proofs.lemmas.List.{append-nil}
+use Rattle.std.proofs.Math.Seq.{set-append_seam}
+use Rattle.plain_term.specs.declared.item.Item.{Item}
+use Rattle.plain_term.specs.declared.item.Item.TheVariants as item
+use Rattle.plain_machine.specs.Written.{Term, Terms, terms_len}
+use Rattle.plain_machine.specs.Written.Term.{Int, Atom, Pid, Held, Listed, Barred, Tuple, Map, Bin}
+use Rattle.plain_machine.specs.Written.Terms.{end, ◌▹◌}
+use Rattle.plain_machine.specs.Grammar.{IsBuiltTerm, AreBuiltTerms}
+use Rattle.plain_machine.specs.Names.{place_of, number_of, with_name, with_names, atoms_of, atoms_of_all, items_of, listed_items, all_items}
+use Rattle.atom_names.proofs.Places.{index_of_append, index_of_push}
+use Rattle.script_parse.specs.Output.{Out, out, push, push_place, with_place, put_at, put_atom, put, put_all}
+
+-- The names and items that came, so long as each name found a place.
+pub record Put (o : Out) (atoms : List (List ℕ)) (its : List (List ℕ) → List Item) (p : Out) : Type 0 where
+  pub clear : p.full ≡ false → o.full ≡ false
+  pub names : p.full ≡ false → p.names ≡ with_names o.names atoms
+  pub fits : p.full ≡ false → length o.names ≤ 16384 → length p.names ≤ 16384
+  pub over : o.full ≡ false → p.full ≡ true → 16384 < length (with_names o.names atoms)
+  pub items : p.full ≡ false → (more : List (List ℕ)) → p.items ≡ o.items ++ its (p.names ++ more)
+
+-- A name that is there or comes has a place, and keeps it.
+place_step : (names : List (List ℕ)) (a : List ℕ) (r : Option ℕ) → place_of names a ≡ r → (k : ℕ) × (place_of (with_name names a) a ≡ Some k)
+place_step names a None e = let w : with_name names a ≡ names ++ a ∷ [] = rw e refl in
+    let P : List (List ℕ) → Type 0 = λ z. (k : ℕ) × (place_of z a ≡ Some k) in subst P (sym w) (length names, index_of_push names a (length names) refl e)
+place_step names a (Some k) e = let w : with_name names a ≡ names = rw e refl in
+    let P : List (List ℕ) → Type 0 = λ z. (k : ℕ) × (place_of z a ≡ Some k) in subst P (sym w) (k, e)
+
+number_stays : (names more : List (List ℕ)) (a : List ℕ) → number_of (with_name names a ++ more) a ≡ number_of (with_name names a) a
+number_stays names more a = let k : (k : ℕ) × (place_of (with_name names a) a ≡ Some k) = place_step names a (place_of names a) refl in
+    rw (index_of_append (with_name names a) more a (k.0) (k.1), k.1) refl
+
+grown_step : (names : List (List ℕ)) (a : List ℕ) (r : Option ℕ) → place_of names a ≡ r → (more : List (List ℕ)) × (with_name names a ≡ names ++ more)
+grown_step names a None e = (a ∷ [], rw e refl)
+grown_step names a (Some k) e = ([], rw e (sym (append-nil names)))
+
+-- Names that come go last.
+pub names_grown : (atoms names : List (List ℕ)) → (more : List (List ℕ)) × (with_names names atoms ≡ names ++ more)
+names_grown [] names = ([], sym (append-nil names))
+names_grown (a ∷ atoms) names = let f : (more : List (List ℕ)) × (with_name names a ≡ names ++ more) = grown_step names a (place_of names a) refl in
+    let g : (more : List (List ℕ)) × (with_names (with_name names a) atoms ≡ with_name names a ++ more) = names_grown atoms (with_name names a) in
+    (f.0 ++ g.0, g.1 ∙ (ap (λ (z : List (List ℕ)). z ++ g.0) (f.1) ∙ append_assoc names (f.0) (g.0)))
+
+pub names_longer : (atoms names : List (List ℕ)) → length names ≤ length (with_names names atoms)
+names_longer atoms names = let g : (more : List (List ℕ)) × (with_names names atoms ≡ names ++ more) = names_grown atoms names in
+    rw (g.1) (simp length-append (omega arith))
+
+pub names_then : (xs ys names : List (List ℕ)) → with_names names (xs ++ ys) ≡ with_names (with_names names xs) ys
+names_then [] ys names = refl
+names_then (a ∷ xs) ys names = names_then xs ys (with_name names a)
+
+whether : (b : Bool) → (b ≡ true) ⊎ (b ≡ false)
+whether true = inl refl
+whether false = inr refl
+
+-- One after the other.
+pub put_then : (o q p : Out) (xs ys : List (List ℕ)) (its jts : List (List ℕ) → List Item) → Put o xs its q → Put q ys jts p → Put o (xs ++ ys) (λ names. its names ++ jts names) p
+put_then o q p xs ys its jts f g = record {
+  clear = λ c. f.clear (g.clear c);
+  names = λ c. g.names c ∙ (ap (λ (z : List (List ℕ)). with_names z ys) (f.names (g.clear c)) ∙ sym (names_then xs ys o.names));
+  fits = λ c h. g.fits c (f.fits (g.clear c) h);
+  over = λ c h. rw (names_then xs ys o.names) (elim (whether q.full) [
+    | inl e ↦ let far : 16384 < length (with_names o.names xs) = f.over c e in omega (arith, names_longer ys (with_names o.names xs), far)
+    | inr e ↦ let same : q.names ≡ with_names o.names xs = f.names e in
+        let P : List (List ℕ) → Type 0 = λ z. 16384 < length (with_names z ys) in subst P same (g.over e h)
+  ]);
+  items = λ c more. let w : (m : List (List ℕ)) × (with_names q.names ys ≡ q.names ++ m) = names_grown ys q.names in
+      let same : q.names ++ (w.0 ++ more) ≡ p.names ++ more = sym (append_assoc q.names (w.0) more) ∙ ap (λ (z : List (List ℕ)). z ++ more) (sym (g.names c ∙ w.1)) in
+      g.items c more ∙ (ap (λ (z : List Item). z ++ jts (p.names ++ more)) (f.items (g.clear c) (w.0 ++ more) ∙ ap (λ (z : List (List ℕ)). o.items ++ its z) same)
+      ∙ append_assoc o.items (its (p.names ++ more)) (jts (p.names ++ more)));
+}
+
+false_true : {A : Type 0} (b : Bool) → b ≡ false → b ≡ true → A
+false_true b e f = let t : false ≡ true = sym e ∙ f in cc
+
+pub put_item : (o : Out) (i : Item) → Put o [] (λ names. i ∷ []) (push o i)
+put_item o i = record { clear = λ c. c; names = λ c. refl; fits = λ c h. h; over = λ c h. false_true o.full c h; items = λ c more. refl }
+
+pub put_none : (o : Out) → Put o [] (λ names. []) o
+put_none o = record { clear = λ c. c; names = λ c. refl; fits = λ c h. h; over = λ c h. false_true o.full c h; items = λ c more. sym (append-nil o.items) }
+
+atom_step : (o : Out) (a : List ℕ) (t : Bool) → nat_le (length (with_name o.names a)) 16384 ≡ t → Put o (a ∷ []) (λ names. item.Atom (number_of names a) ∷ []) (put_atom o a)
+atom_step o a true e = let same : put_atom o a ≡ out (with_name o.names a) o.full (o.items ++ item.Atom (number_of (with_name o.names a) a) ∷ []) = rw e refl in
+    let P : Out → Type 0 = λ z. Put o (a ∷ []) (λ names. item.Atom (number_of names a) ∷ []) z in
+    subst P (sym same) (record {
+      clear = λ c. c;
+      names = λ c. refl;
+      fits = λ c h. leb-true (length (with_name o.names a)) 16384 e;
+      over = λ c h. false_true o.full c h;
+      items = λ c more. ap (λ (z : ℕ). o.items ++ item.Atom z ∷ []) (sym (number_stays o.names more a));
+    })
+atom_step o a false e = let same : put_atom o a ≡ out o.names true (o.items ++ item.Atom 0 ∷ []) = rw e refl in
+    let P : Out → Type 0 = λ z. Put o (a ∷ []) (λ names. item.Atom (number_of names a) ∷ []) z in
+    subst P (sym same) (record {
+      clear = λ c. false_true true c refl;
+      names = λ c. false_true true c refl;
+      fits = λ c h. false_true true c refl;
+      over = λ c h. leb-false (length (with_name o.names a)) 16384 e;
+      items = λ c more. false_true true c refl;
+    })
+
+-- The item that a tuple was given before its parts were counted is put right.
+counted : (o q : Out) (n : ℕ) (xs : List (List ℕ)) (its : List (List ℕ) → List Item) → Put o xs (λ names. item.Tuple 0 ∷ its names) q
+    → Put o xs (λ names. item.Tuple n ∷ its names) (put_at (length o.items) (item.Tuple n) q)
+counted o q n xs its f = record {
+  clear = f.clear;
+  names = f.names;
+  fits = f.fits;
+  over = f.over;
+  items = λ c more. ap (λ (z : List Item). set z (length o.items) (item.Tuple n)) (f.items c more) ∙ set-append_seam o.items (item.Tuple 0) (its (q.names ++ more)) (item.Tuple n);
+}
+
+place_put : (listed : Bool) (o : Out) → Put o [] (λ names. with_place listed []) (push_place listed o)
+place_put true o = put_item o item.Cons
+place_put false o = put_none o
+
+-- The items of parts, in a list each after its place.
+abbrev pub part_items : (listed : Bool) → Terms → List (List ℕ) → List Item
+part_items listed end names = []
+part_items listed (t ▹ ts) names = with_place listed [] ++ (items_of names t ++ part_items listed ts names)
+
+tuple_items : (ts : Terms) (names : List (List ℕ)) → part_items false ts names ≡ all_items names ts
+tuple_items end names = refl
+tuple_items (t ▹ ts) names = ap (λ (z : List Item). items_of names t ++ z) (tuple_items ts names)
+
+list_items : (ts : Terms) (names : List (List ℕ)) (last : List Item) → part_items true ts names ++ last ≡ listed_items names ts last
+list_items end names last = refl
+list_items (t ▹ ts) names last = ap (λ (z : List Item). item.Cons ∷ z) (append_assoc (items_of names t) (part_items true ts names) last ∙ ap (λ (z : List Item). items_of names t ++ z) (list_items ts names last))
+
+-- The same with the items said in another way.
+pub as_items : (o p : Out) (xs : List (List ℕ)) (its jts : List (List ℕ) → List Item) → ((names : List (List ℕ)) → its names ≡ jts names) → Put o xs its p → Put o xs jts p
+as_items o p xs its jts e f = record { clear = f.clear; names = f.names; fits = f.fits; over = f.over; items = λ c more. f.items c more ∙ ap (λ (z : List Item). o.items ++ z) (e (p.names ++ more)) }
+
+pub as_atoms : (o p : Out) (xs ys : List (List ℕ)) (its : List (List ℕ) → List Item) → xs ≡ ys → Put o xs its p → Put o ys its p
+as_atoms o p xs ys its e f = let P : List (List ℕ) → Type 0 = λ z. Put o z its p in subst P e f
+
+mutual
+  pub term_put : (t : Term) (o : Out) → IsBuiltTerm t → Put o (atoms_of t) (λ names. items_of names t) (put t o)
+  term_put (Int i) o b = put_item o (item.Int i)
+  term_put (Atom a) o b = atom_step o a (nat_le (length (with_name o.names a)) 16384) refl
+  term_put (Pid n) o b = put_item o (item.Pid n)
+  term_put (Held r) o b = absurd b
+  term_put (Listed ts) o b = as_atoms o (push (put_all true ts o) item.Nil) (atoms_of_all ts ++ []) (atoms_of_all ts) (λ names. listed_items names ts (item.Nil ∷ [])) (append-nil (atoms_of_all ts))
+      (as_items o (push (put_all true ts o) item.Nil) (atoms_of_all ts ++ []) (λ names. part_items true ts names ++ item.Nil ∷ []) (λ names. listed_items names ts (item.Nil ∷ [])) (λ names. list_items ts names (item.Nil ∷ []))
+      (put_then o (put_all true ts o) (push (put_all true ts o) item.Nil) (atoms_of_all ts) [] (part_items true ts) (λ names. item.Nil ∷ []) (all_put ts true o b) (put_item (put_all true ts o) item.Nil)))
+  term_put (Barred ts t) o b = absurd b
+  term_put (Tuple ts) o b = as_items o (put (Tuple ts) o) (atoms_of_all ts) (λ names. item.Tuple (terms_len ts) ∷ part_items false ts names) (λ names. item.Tuple (terms_len ts) ∷ all_items names ts)
+      (λ names. ap (λ (z : List Item). item.Tuple (terms_len ts) ∷ z) (tuple_items ts names))
+      (counted o (put_all false ts (push o (item.Tuple 0))) (terms_len ts) (atoms_of_all ts) (part_items false ts)
+      (put_then o (push o (item.Tuple 0)) (put_all false ts (push o (item.Tuple 0))) [] (atoms_of_all ts) (λ names. item.Tuple 0 ∷ []) (part_items false ts) (put_item o (item.Tuple 0)) (all_put ts false (push o (item.Tuple 0)) b)))
+  term_put (Map ps) o b = absurd b
+  term_put (Bin bytes) o b = absurd b
+
+  pub all_put : (ts : Terms) (listed : Bool) (o : Out) → AreBuiltTerms ts → Put o (atoms_of_all ts) (part_items listed ts) (put_all listed ts o)
+  all_put end listed o b = put_none o
+  all_put (t ▹ ts) listed o b = put_then o (push_place listed o) (put_all listed ts (put t (push_place listed o))) [] (atoms_of t ++ atoms_of_all ts) (λ names. with_place listed []) (λ names. items_of names t ++ part_items listed ts names)
+      (place_put listed o)
+      (put_then (push_place listed o) (put t (push_place listed o)) (put_all listed ts (put t (push_place listed o))) (atoms_of t) (atoms_of_all ts) (λ names. items_of names t) (part_items listed ts)
+      (term_put t (push_place listed o) (b.0)) (all_put ts listed (put t (push_place listed o)) (b.1)))

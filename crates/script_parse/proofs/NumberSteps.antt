@@ -1,0 +1,231 @@
+-- Numbers as they are read, and as the grammar has them.
+use Rattle.std.proofs.Common.{◌≡◌, ℕ, ◌+◌, ◌-◌, ◌*◌, ◌^◌, ◌<◌, ◌≤◌, ◌≢◌, Bool, true, false, nat_eq, nat_le, ◌&&◌, ◌||◌, ℤ, pos, negsuc, List, [], ◌∷◌, ◌++◌, Some, None, codes, refl, sym, ◌∙◌, ap, subst, inl, inr, arith, eq-eqb, eqb-true, append_assoc}
+use Rattle.std.proofs.lemmas.Bool.{leb-true, le-leb}
+use Rattle.plain_machine.specs.Grammar.{is_name_byte, is_digit, is_small_letter, AreAll, value_after, HasNoLeadingZero, IsNumber, IsInteger, IsSmall}
+use Rattle.script_parse.specs.Reading.{then_read, byte_at, text_at, digits_at, number_at, signed, integer_at, pid_end, pid_at}
+use Rattle.script_parse.proofs.Tools.{chosen, read_some, inside, both, both_true, either_false, apart}
+use Rattle.script_parse.proofs.PartSteps.{unequal}
+use Rattle.script_parse.proofs.GapSteps.{Stops}
+
+-- A first digit counts by itself.
+first_digit : (b : ℕ) (text : List ℕ) → value_after 0 (b ∷ text) ≡ value_after (b - 48) text
+first_digit b text = let e : 0 * 10 + (b - 48) ≡ b - 48 = omega arith in ap (λ (v : ℕ). value_after v text) e
+
+-- A number and the digits that were read for it.
+pub record Digits (limit n m : ℕ) (line rest : List ℕ) : Type 0 where
+  pub text : List ℕ
+  pub digits : AreAll is_digit text
+  pub whole : line ≡ text ++ rest
+  pub value : value_after n text ≡ m
+  pub within : n ≤ limit → m ≤ limit
+
+digits_step : (limit n m b : ℕ) (bytes rest : List ℕ) (t s : Bool) → is_digit b ≡ t → nat_le (n * 10 + (b - 48)) limit ≡ s
+    → (digits_at limit (n * 10 + (b - 48)) bytes ≡ Some (m, rest) → Digits limit (n * 10 + (b - 48)) m bytes rest)
+    → digits_at limit n (b ∷ bytes) ≡ Some (m, rest) → Digits limit n m (b ∷ bytes) rest
+digits_step limit n m b bytes rest true true e f ih h = let d : Digits limit (n * 10 + (b - 48)) m bytes rest = ih (rw (e, f) at h) in
+    record { text = b ∷ d.text; digits = (e, d.digits); whole = ap (λ (r : List ℕ). b ∷ r) d.whole; value = d.value; within = λ k. d.within (leb-true (n * 10 + (b - 48)) limit f) }
+digits_step limit n m b bytes rest true false e f ih h = let k : None ≡ Some (m, rest) = rw (e, f) at h in cc
+digits_step limit n m b bytes rest false s e f ih h = let k : Some (n, b ∷ bytes) ≡ Some (m, rest) = rw e at h in
+    let j : (n ≡ m) × ((b ∷ bytes) ≡ rest) = both k in
+    record { text = []; digits = tt; whole = j.1; value = j.0; within = λ k. omega (arith, j.0) }
+
+pub digits_read : (limit : ℕ) (line : List ℕ) (n m : ℕ) (rest : List ℕ) → digits_at limit n line ≡ Some (m, rest) → Digits limit n m line rest
+digits_read limit [] n m rest h = let j : (n ≡ m) × ([] ≡ rest) = both h in
+    record { text = []; digits = tt; whole = j.1; value = j.0; within = λ k. omega (arith, j.0) }
+digits_read limit (b ∷ bytes) n m rest h = digits_step limit n m b bytes rest (is_digit b) (nat_le (n * 10 + (b - 48)) limit) refl refl
+    (digits_read limit bytes (n * 10 + (b - 48)) m rest) h
+
+-- A number that was read.
+pub record Counted (limit n : ℕ) (line rest : List ℕ) : Type 0 where
+  pub text : List ℕ
+  pub number : IsNumber n text
+  pub whole : line ≡ text ++ rest
+  pub within : n ≤ limit
+
+no_zero : (b : ℕ) (text : List ℕ) → b ≢ 48 → HasNoLeadingZero (b ∷ text)
+no_zero b [] h = tt
+no_zero b (c ∷ text) h = h
+
+digit_small : (b : ℕ) → is_digit b ≡ true → b - 48 ≤ 9
+digit_small b h = let k : (nat_le 48 b ≡ true) × (nat_le b 57 ≡ true) = both_true (nat_le 48 b) (nat_le b 57) h in
+    let m : b ≤ 57 = leb-true b 57 (k.1) in omega arith
+
+number_step : (limit n b : ℕ) (bytes rest : List ℕ) (t s : Bool) → 9 ≤ limit → nat_eq b 48 ≡ t → is_digit b ≡ s
+    → number_at limit (b ∷ bytes) ≡ Some (n, rest) → Counted limit n (b ∷ bytes) rest
+number_step limit n b bytes rest true s l e f h = let k : Some (0, bytes) ≡ Some (n, rest) = rw e at h in
+    let j : (0 ≡ n) × (bytes ≡ rest) = both k in
+    let same : b ≡ 48 = eqb-true b 48 e in
+    record {
+      text = 48 ∷ [];
+      number = record { digits = (refl, tt); first = tt; value = j.0 };
+      whole = rw same (ap (λ (r : List ℕ). 48 ∷ r) (j.1));
+      within = omega (arith, j.0);
+    }
+number_step limit n b bytes rest false true l e f h = let k : digits_at limit (b - 48) bytes ≡ Some (n, rest) = rw (e, f) at h in
+    let d : Digits limit (b - 48) n bytes rest = digits_read limit bytes (b - 48) n rest k in
+    let small : b - 48 ≤ 9 = digit_small b f in
+    record {
+      text = b ∷ d.text;
+      number = record { digits = (f, d.digits); first = no_zero b d.text (λ q. let p : nat_eq b 48 ≡ true = eq-eqb b 48 q in cc); value = first_digit b d.text ∙ d.value };
+      whole = ap (λ (r : List ℕ). b ∷ r) d.whole;
+      within = d.within (omega arith);
+    }
+number_step limit n b bytes rest false false l e f h = let k : None ≡ Some (n, rest) = rw (e, f) at h in cc
+
+pub number_read : (limit n : ℕ) (line rest : List ℕ) → 9 ≤ limit → number_at limit line ≡ Some (n, rest) → Counted limit n line rest
+number_read limit n [] rest l h = cc
+number_read limit n (b ∷ bytes) rest l h = number_step limit n b bytes rest (nat_eq b 48) (is_digit b) l refl refl h
+
+-- A number only grows by further digits.
+pub value_grows : (text : List ℕ) (n : ℕ) → n ≤ value_after n text
+value_grows [] n = omega arith
+value_grows (b ∷ text) n = omega (arith, value_grows text (n * 10 + (b - 48)))
+
+-- Digits are read to their end.
+pub digits_found : (limit : ℕ) (text rest : List ℕ) (n : ℕ) → AreAll is_digit text → Stops is_digit rest → value_after n text ≤ limit
+    → digits_at limit n (text ++ rest) ≡ Some (value_after n text, rest)
+digits_found limit [] [] n d s h = refl
+digits_found limit [] (b ∷ rest) n d s h = rw s refl
+digits_found limit (b ∷ text) rest n d s h = let within : n * 10 + (b - 48) ≤ limit = omega (arith, value_grows text (n * 10 + (b - 48))) in
+    rw (d.0, le-leb (n * 10 + (b - 48)) limit within) (digits_found limit text rest (n * 10 + (b - 48)) (d.1) s h)
+
+found_step : (limit b : ℕ) (text rest : List ℕ) (t : Bool) → nat_eq b 48 ≡ t → AreAll is_digit (b ∷ text) → HasNoLeadingZero (b ∷ text) → Stops is_digit rest
+    → value_after 0 (b ∷ text) ≤ limit → number_at limit ((b ∷ text) ++ rest) ≡ Some (value_after 0 (b ∷ text), rest)
+found_step limit b [] rest true e d f s h = let same : b ≡ 48 = eqb-true b 48 e in rw same refl
+found_step limit b (c ∷ text) rest true e d f s h = absurd (f (eqb-true b 48 e))
+found_step limit b text rest false e d f s h = rw (e, d.0, first_digit b text) (digits_found limit text rest (b - 48) (d.1) s (rw (first_digit b text) at h))
+
+-- A number that the grammar has is read.
+pub number_found : (limit n : ℕ) (text rest : List ℕ) → IsNumber n text → n ≤ limit → Stops is_digit rest → number_at limit (text ++ rest) ≡ Some (n, rest)
+number_found limit n [] rest i h s = absurd i.first
+number_found limit n (b ∷ text) rest i h s = let v : value_after 0 (b ∷ text) ≡ n = i.value in
+    rw (← v) (found_step limit b text rest (nat_eq b 48) refl i.digits i.first s (rw (← v) at h))
+
+-- A number begins with a digit.
+pub record Begun (text : List ℕ) : Type 0 where
+  pub first : ℕ
+  pub more : List ℕ
+  pub whole : text ≡ first ∷ more
+  pub digit : is_digit first ≡ true
+
+pub begun : (n : ℕ) (text : List ℕ) → IsNumber n text → Begun text
+begun n [] i = absurd i.first
+begun n (b ∷ text) i = record { first = b; more = text; whole = refl; digit = (i.digits).0 }
+
+-- No digit goes on where no name does.
+pub stops_digits : (rest : List ℕ) → Stops is_name_byte rest → Stops is_digit rest
+stops_digits [] s = tt
+stops_digits (b ∷ rest) s = let small : (is_small_letter b ≡ false) × (((nat_le 65 b && nat_le b 90) || (is_digit b || (nat_eq b 95 || nat_eq b 64))) ≡ false)
+    = either_false (is_small_letter b) ((nat_le 65 b && nat_le b 90) || (is_digit b || (nat_eq b 95 || nat_eq b 64))) s in
+    let large : ((nat_le 65 b && nat_le b 90) ≡ false) × ((is_digit b || (nat_eq b 95 || nat_eq b 64)) ≡ false)
+    = either_false (nat_le 65 b && nat_le b 90) (is_digit b || (nat_eq b 95 || nat_eq b 64)) (small.1) in
+    (either_false (is_digit b) (nat_eq b 95 || nat_eq b 64) (large.1)).0
+
+-- An integer that was read.
+pub record Integral (i : ℤ) (line rest : List ℕ) : Type 0 where
+  pub text : List ℕ
+  pub integer : IsInteger i text
+  pub whole : line ≡ text ++ rest
+  pub small : IsSmall i
+
+negative : (n : ℕ) (i : ℤ) (line bytes rest : List ℕ) (t : Bool) → nat_eq n 0 ≡ t → Counted 576460752303423488 n line bytes → signed true (n, bytes) ≡ Some (i, rest)
+    → Integral i (45 ∷ line) rest
+negative n i line bytes rest true e c h = let k : None ≡ Some (i, rest) = rw e at h in cc
+negative n i line bytes rest false e c h = let k : Some (negsuc (n - 1), bytes) ≡ Some (i, rest) = rw e at h in
+    let j : (negsuc (n - 1) ≡ i) × (bytes ≡ rest) = both k in
+    let some : n ≢ 0 = λ (q : n ≡ 0). let w : nat_eq n 0 ≡ true = eq-eqb n 0 q in cc in
+    let whole : n ≡ n - 1 + 1 = omega (arith, some) in
+    let P : ℕ → Type 0 = λ z. IsNumber z c.text in
+    let Q : ℤ → Type 0 = λ z. Integral z (45 ∷ line) rest in
+    let small : n - 1 < 2 ^ 59 = omega (arith, some, c.within) in
+    subst Q (j.0) (record { text = 45 ∷ c.text; integer = (c.text, subst P whole c.number, refl); whole = ap (λ (r : List ℕ). 45 ∷ r) (c.whole ∙ ap (λ (r : List ℕ). c.text ++ r) (j.1)); small = small })
+
+positive : (n : ℕ) (i : ℤ) (line bytes rest : List ℕ) → Counted 576460752303423487 n line bytes → signed false (n, bytes) ≡ Some (i, rest) → Integral i line rest
+positive n i line bytes rest c h = let j : (pos n ≡ i) × (bytes ≡ rest) = both h in
+    let Q : ℤ → Type 0 = λ z. Integral z line rest in
+    let small : n < 2 ^ 59 = omega (arith, c.within) in
+    subst Q (j.0) (record { text = c.text; integer = c.number; whole = c.whole ∙ ap (λ (r : List ℕ). c.text ++ r) (j.1); small = small })
+
+integer_step : (i : ℤ) (b : ℕ) (bytes rest : List ℕ) (t : Bool) → nat_eq b 45 ≡ t → integer_at (b ∷ bytes) ≡ Some (i, rest) → Integral i (b ∷ bytes) rest
+integer_step i b bytes rest true e h = let k : then_read (number_at 576460752303423488 bytes) (signed true) ≡ Some (i, rest) = rw e at h in
+    let r : (x : ℕ × List ℕ) × (number_at 576460752303423488 bytes ≡ Some x) × (signed true x ≡ Some (i, rest)) = read_some (number_at 576460752303423488 bytes) (signed true) k in
+    let Q : ℕ → Type 0 = λ z. Integral i (z ∷ bytes) rest in
+    subst Q (sym (eqb-true b 45 e)) (negative (r.0.0) i bytes (r.0.1) rest (nat_eq (r.0.0) 0) refl (number_read 576460752303423488 (r.0.0) bytes (r.0.1) (omega arith) (r.1)) (r.2))
+integer_step i b bytes rest false e h = let k : then_read (number_at 576460752303423487 (b ∷ bytes)) (signed false) ≡ Some (i, rest) = rw e at h in
+    let r : (x : ℕ × List ℕ) × (number_at 576460752303423487 (b ∷ bytes) ≡ Some x) × (signed false x ≡ Some (i, rest)) = read_some (number_at 576460752303423487 (b ∷ bytes)) (signed false) k in
+    positive (r.0.0) i (b ∷ bytes) (r.0.1) rest (number_read 576460752303423487 (r.0.0) (b ∷ bytes) (r.0.1) (omega arith) (r.1)) (r.2)
+
+pub integer_read : (i : ℤ) (line rest : List ℕ) → integer_at line ≡ Some (i, rest) → Integral i line rest
+integer_read i [] rest h = cc
+integer_read i (b ∷ bytes) rest h = integer_step i b bytes rest (nat_eq b 45) refl h
+
+-- A small integer that the grammar has is read.
+pub integer_found : (i : ℤ) (text rest : List ℕ) → IsInteger i text → IsSmall i → Stops is_digit rest → integer_at (text ++ rest) ≡ Some (i, rest)
+integer_found (pos n) [] rest h small s = absurd h.first
+integer_found (pos n) (b ∷ text) rest h small s = let not_sign : b ≢ 45 = apart is_digit b 45 refl ((h.digits).0) in
+    rw (unequal b 45 not_sign, number_found 576460752303423487 n (b ∷ text) rest h (omega arith) s) refl
+integer_found (negsuc m) text rest (digits, number, e) small s = let P : List ℕ → Type 0 = λ z. integer_at (z ++ rest) ≡ Some (negsuc m, rest) in
+    let f : number_at 576460752303423488 (digits ++ rest) ≡ Some (m + 1, rest) = number_found 576460752303423488 (m + 1) digits rest number (omega arith) s in
+    let nonzero : nat_eq (m + 1) 0 ≡ false = unequal (m + 1) 0 (λ q. omega arith) in
+    let back : m + 1 - 1 ≡ m = omega arith in
+    subst P (sym e) (rw (f, nonzero, back) refl)
+
+-- The line after a text.
+pub byte_read : (c : ℕ) (line rest : List ℕ) → byte_at c line ≡ Some rest → line ≡ c ∷ rest
+byte_read c [] rest h = cc
+byte_read c (b ∷ bytes) rest h = elim (chosen (nat_eq b c) h) [
+  | inl e ↦ let same : b ≡ c = eqb-true b c (e.0) in let after : bytes ≡ rest = inside (e.1) in cc
+  | inr e ↦ cc
+]
+
+pub text_read : (text line rest : List ℕ) → text_at text line ≡ Some rest → line ≡ text ++ rest
+text_read [] line rest h = inside h
+text_read (c ∷ text) line rest h = let r : (x : List ℕ) × (byte_at c line ≡ Some x) × (text_at text x ≡ Some rest) = read_some (byte_at c line) (text_at text) h in
+    byte_read c line (r.0) (r.1) ∙ ap (λ (z : List ℕ). c ∷ z) (text_read text (r.0) rest (r.2))
+
+pub text_found : (text rest : List ℕ) → text_at text (text ++ rest) ≡ Some rest
+text_found [] rest = refl
+text_found (c ∷ text) rest = rw (eq-eqb c c refl) (text_found text rest)
+
+-- A pid that was read, after its first byte.
+pub record Numbered (n : ℕ) (line rest : List ℕ) : Type 0 where
+  pub text : List ℕ
+  pub number : IsNumber n text
+  pub whole : 60 ∷ line ≡ (codes "<0." ++ (text ++ codes ".0>")) ++ rest
+  pub some : 1 ≤ n
+  pub within : n < 2 ^ 40
+
+pub pid_text : (text rest : List ℕ) → 60 ∷ (codes "0." ++ (text ++ (codes ".0>" ++ rest))) ≡ (codes "<0." ++ (text ++ codes ".0>")) ++ rest
+pid_text text rest = simp append_assoc
+
+numbered : (n m : ℕ) (line front bytes rest : List ℕ) (t : Bool) → nat_eq m 0 ≡ t → line ≡ codes "0." ++ front → Counted 1099511627775 m front bytes
+    → pid_end (m, bytes) ≡ Some (n, rest) → Numbered n line rest
+numbered n m line front bytes rest true e l c h = let k : None ≡ Some (n, rest) = rw e at h in cc
+numbered n m line front bytes rest false e l c h = let k : then_read (text_at (codes ".0>") bytes) (λ z. Some (m, z)) ≡ Some (n, rest) = rw e at h in
+    let r : (x : List ℕ) × (text_at (codes ".0>") bytes ≡ Some x) × (Some (m, x) ≡ Some (n, rest)) = read_some (text_at (codes ".0>") bytes) (λ z. Some (m, z)) k in
+    let j : (m ≡ n) × (r.0 ≡ rest) = both (r.2) in
+    let value : m ≡ n = j.0 in
+    let after : bytes ≡ codes ".0>" ++ rest = text_read (codes ".0>") bytes (r.0) (r.1) ∙ ap (λ (z : List ℕ). codes ".0>" ++ z) (j.1) in
+    let some : m ≢ 0 = λ (q : m ≡ 0). let w : nat_eq m 0 ≡ true = eq-eqb m 0 q in cc in
+    let P : ℕ → Type 0 = λ z. IsNumber z c.text in
+    record {
+      text = c.text;
+      number = subst P value c.number;
+      whole = rw (l, c.whole, after) (pid_text c.text rest);
+      some = omega (arith, some, value);
+      within = omega (arith, c.within, value);
+    }
+
+pub pid_read : (n : ℕ) (line rest : List ℕ) → pid_at line ≡ Some (n, rest) → Numbered n line rest
+pid_read n line rest h =
+    let r : (x : List ℕ) × (text_at (codes "0.") line ≡ Some x) × (then_read (number_at 1099511627775 x) pid_end ≡ Some (n, rest))
+    = read_some (text_at (codes "0.") line) (λ z. then_read (number_at 1099511627775 z) pid_end) h in
+    let q : (x : ℕ × List ℕ) × (number_at 1099511627775 (r.0) ≡ Some x) × (pid_end x ≡ Some (n, rest)) = read_some (number_at 1099511627775 (r.0)) pid_end (r.2) in
+    numbered n (q.0.0) line (r.0) (q.0.1) rest (nat_eq (q.0.0) 0) refl (text_read (codes "0.") line (r.0) (r.1))
+    (number_read 1099511627775 (q.0.0) (r.0) (q.0.1) (omega arith) (q.1)) (q.2)
+
+-- A pid that the grammar has is read, after its first byte.
+pub pid_found : (n : ℕ) (digits rest : List ℕ) → IsNumber n digits → 1 ≤ n → n < 2 ^ 40
+    → pid_at (codes "0." ++ (digits ++ (codes ".0>" ++ rest))) ≡ Some (n, rest)
+pid_found n digits rest i some within = let nonzero : nat_eq n 0 ≡ false = unequal n 0 (λ q. omega arith) in
+    rw (number_found 1099511627775 n digits (codes ".0>" ++ rest) i (omega arith) refl, nonzero) refl

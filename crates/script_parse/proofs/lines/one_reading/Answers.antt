@@ -1,0 +1,5 @@
+use Rattle.script_parse.proofs.OneLine.{one_line}
+use Rattle.script_parse.proofs.lines.one_reading.Goals as goal
+
+pub returns : goal.returns
+returns c = one_line

@@ -1,0 +1,241 @@
+-- Reading from left to right: each function takes the rest of a line, and gives what it read with
+-- the rest after it, or nothing.
+use Rattle.std.specs.Prelude.{ℕ, zero, suc, ◌+◌, ◌-◌, ◌*◌, nat_eq, nat_le, Bool, true, false, not, ◌&&◌, ℤ, pos, negsuc, List, [], ◌∷◌, length, take, drop, Option, Some, None, cond, codes, if◌then◌else◌}
+use Rattle.std.specs.List.{prefix_len, find}
+use Rattle.std.specs.Str.{bytes_eq}
+use Rattle.plain_term.specs.declared.item.Item.TheVariants as item
+use Rattle.plain_machine.specs.Grammar.{is_blank, is_digit, is_small_letter, is_name_byte}
+use Rattle.plain_machine.specs.Names.{reg}
+use Rattle.plain_machine.specs.Written.{Word, Word as word, SysWord, SysWord as sys, text_of, sys_text_of}
+use Rattle.plain_machine.specs.declared.command.Reg.{Reg}
+use Rattle.plain_machine.specs.declared.command.Command.{Command}
+use Rattle.plain_machine.specs.declared.command.Command.TheVariants as command
+use Rattle.plain_machine.specs.declared.command.Verb.{Verb}
+use Rattle.plain_machine.specs.declared.command.Verb.TheVariants as verb
+use Rattle.plain_machine.specs.declared.command.SysVerb.{SysVerb}
+use Rattle.plain_machine.specs.declared.command.SysVerb.TheVariants as sysverb
+use Rattle.script_parse.specs.Output.{Out, push, push_place, put_at, put_atom}
+
+-- What was found, and the rest after it, go on.
+abbrev pub then_read : {A B : Type 0} → Option A → (A → Option B) → Option B
+then_read None f = None
+then_read (Some x) f = f x
+
+-- What was found goes on one way, nothing found another.
+abbrev pub found_or : {A B : Type 0} → Option A → (A → B) → B → B
+found_or None f d = d
+found_or (Some x) f d = f x
+
+-- The line without the blanks at its front.
+abbrev pub after_blanks : List ℕ → List ℕ
+after_blanks [] = []
+after_blanks (b ∷ bytes) = if is_blank b then after_blanks bytes else (b ∷ bytes)
+
+-- The line after one blank at its front.
+abbrev pub gap_at : List ℕ → Option (List ℕ)
+gap_at [] = None
+gap_at (b ∷ bytes) = if is_blank b then Some bytes else None
+
+-- The line after this byte at its front.
+abbrev pub byte_at : ℕ → List ℕ → Option (List ℕ)
+byte_at c [] = None
+byte_at c (b ∷ bytes) = if nat_eq b c then Some bytes else None
+
+-- The line after this text at its front.
+abbrev pub text_at : (text line : List ℕ) → Option (List ℕ)
+text_at [] line = Some line
+text_at (c ∷ text) line = then_read (byte_at c line) (text_at text)
+
+-- A number goes on by the digits at the front, up to a limit.
+abbrev pub digits_at : (limit n : ℕ) → List ℕ → Option (ℕ × List ℕ)
+digits_at limit n [] = Some (n, [])
+digits_at limit n (b ∷ bytes) = if is_digit b
+    then (if nat_le (n * 10 + (b - 48)) limit then digits_at limit (n * 10 + (b - 48)) bytes else None)
+    else Some (n, b ∷ bytes)
+
+-- A number at the front: 0 alone, or digits of which the first is not 0.
+abbrev pub number_at : (limit : ℕ) → List ℕ → Option (ℕ × List ℕ)
+number_at limit [] = None
+number_at limit (b ∷ bytes) = if nat_eq b 48 then Some (0, bytes) else
+    (if is_digit b then digits_at limit (b - 48) bytes else None)
+
+-- A number taken with its sign.
+abbrev pub signed : Bool → ℕ × List ℕ → Option (ℤ × List ℕ)
+signed false r = Some (pos (r.0), r.1)
+signed true r = cond (nat_eq (r.0) 0) None (Some (negsuc (r.0 - 1), r.1))
+
+-- A small integer at the front.
+abbrev pub integer_at : List ℕ → Option (ℤ × List ℕ)
+integer_at [] = None
+integer_at (b ∷ bytes) = if nat_eq b 45
+    then then_read (number_at 576460752303423488 bytes) (signed true)
+    else then_read (number_at 576460752303423487 (b ∷ bytes)) (signed false)
+
+-- The end of a pid, whose number is not 0.
+abbrev pub pid_end : ℕ × List ℕ → Option (ℕ × List ℕ)
+pid_end r = cond (nat_eq (r.0) 0) None (then_read (text_at (codes ".0>") (r.1)) (λ rest. Some (r.0, rest)))
+
+-- A pid after its first byte.
+abbrev pub pid_at : List ℕ → Option (ℕ × List ℕ)
+pid_at line = then_read (text_at (codes "0.") line) (λ rest. then_read (number_at 1099511627775 rest) pid_end)
+
+-- An atom at the front, whose first byte is known to be a small letter: all bytes of names.
+abbrev pub atom_at : List ℕ → Option (List ℕ × List ℕ)
+atom_at line = cond (nat_eq (prefix_len is_name_byte line) 0) None (cond (nat_le (prefix_len is_name_byte line) 63)
+    (Some (take (prefix_len is_name_byte line) line, drop (prefix_len is_name_byte line) line)) None)
+
+-- An integer goes last.
+abbrev pub integer_run : List ℕ → Out → Option (List ℕ × Out)
+integer_run line o = then_read (integer_at line) (λ r. Some (r.1, push o (item.Int (r.0))))
+
+-- A pid goes last.
+abbrev pub pid_run : List ℕ → Out → Option (List ℕ × Out)
+pid_run line o = then_read (pid_at line) (λ r. Some (r.1, push o (item.Pid (r.0))))
+
+-- An atom goes last.
+abbrev pub atom_run : List ℕ → Out → Option (List ℕ × Out)
+atom_run line o = then_read (atom_at line) (λ r. Some (r.1, put_atom o (r.0)))
+
+-- A term without parts.
+abbrev pub leaf_run : List ℕ → Out → Option (List ℕ × Out)
+leaf_run [] o = None
+leaf_run (b ∷ bytes) o = if nat_eq b 60 then pid_run bytes o else
+    (if is_small_letter b then atom_run (b ∷ bytes) o else integer_run (b ∷ bytes) o)
+
+-- After a term: the closing byte ends, a comma goes on, all else is refused.
+abbrev pub after_part : (close : ℕ) → List ℕ → ℕ × Out → (List ℕ → Option (List ℕ × (ℕ × Out))) → Option (List ℕ × (ℕ × Out))
+after_part close [] done more = None
+after_part close (b ∷ bytes) done more = if nat_eq b close then Some (bytes, done) else (if nat_eq b 44 then more bytes else None)
+
+-- Terms divided by commas up to the closing byte, at most `left` of them, `n` having been read.
+abbrev pub parts_run : (inner : List ℕ → Out → Option (List ℕ × Out)) (listed : Bool) (close left : ℕ) → List ℕ → ℕ → Out → Option (List ℕ × (ℕ × Out))
+parts_run inner listed close zero line n o = None
+parts_run inner listed close (suc left) line n o = then_read (inner line (push_place listed o))
+    (λ r. after_part close (after_blanks (r.0)) (n + 1, r.1) (λ bytes. parts_run inner listed close left bytes (n + 1) (r.1)))
+
+-- A list after its first byte.
+abbrev pub list_run : (inner : List ℕ → Out → Option (List ℕ × Out)) → List ℕ → Out → Option (List ℕ × Out)
+list_run inner line o = found_or (byte_at 93 (after_blanks line)) (λ rest. Some (rest, push o item.Nil))
+    (then_read (parts_run inner true 93 (length line + 1) line 0 o) (λ r. Some (r.0, push (r.1.1) item.Nil)))
+
+-- A tuple after its first byte.
+abbrev pub tuple_run : (inner : List ℕ → Out → Option (List ℕ × Out)) → List ℕ → Out → Option (List ℕ × Out)
+tuple_run inner line o = found_or (byte_at 125 (after_blanks line)) (λ rest. Some (rest, push o (item.Tuple 0)))
+    (then_read (parts_run inner false 125 (length line + 1) line 0 (push o (item.Tuple 0)))
+    (λ r. Some (r.0, put_at (length o.items) (item.Tuple (r.1.0)) (r.1.1))))
+
+-- A term that may have parts.
+abbrev pub any_run : (inner : List ℕ → Out → Option (List ℕ × Out)) → List ℕ → Out → Option (List ℕ × Out)
+any_run inner [] o = None
+any_run inner (b ∷ bytes) o = if nat_eq b 91 then list_run inner bytes o else
+    (if nat_eq b 123 then tuple_run inner bytes o else leaf_run (b ∷ bytes) o)
+
+-- A term with at most so many levels of brackets.
+abbrev pub term_run : (levels : ℕ) → List ℕ → Out → Option (List ℕ × Out)
+term_run zero line o = leaf_run (after_blanks line) o
+term_run (suc levels) line o = any_run (term_run levels) (after_blanks line) o
+
+-- A byte that is no blank.
+abbrev pub is_solid : ℕ → Bool
+is_solid b = not (is_blank b)
+
+-- The word at the front, up to a blank or the end.
+abbrev pub word_at : List ℕ → List ℕ
+word_at line = take (prefix_len is_solid line) line
+
+-- The line after the word at its front.
+abbrev pub after_word : List ℕ → List ℕ
+after_word line = drop (prefix_len is_solid line) line
+
+-- Nothing but blanks is left.
+abbrev pub is_end : List ℕ → Bool
+is_end [] = true
+is_end (b ∷ bytes) = is_blank b && is_end bytes
+
+-- A blank and a register.
+abbrev pub register_at : List ℕ → Option (ℕ × List ℕ)
+register_at line = then_read (gap_at line) (λ rest. number_at 15 (after_blanks rest))
+
+-- A blank and a register, and nothing more.
+abbrev pub one_register_at : List ℕ → Option ℕ
+one_register_at line = then_read (register_at line) (λ r. cond (is_end (r.1)) (Some (r.0)) None)
+
+-- A register stands where nothing more is left after its term.
+abbrev pub ended : ℕ → List ℕ × Out → Option (ℕ × Out)
+ended n s = cond (is_end (s.0)) (Some (n, s.1)) None
+
+-- A blank and a term, and nothing more.
+abbrev pub body_run : ℕ → List ℕ → Out → Option (ℕ × Out)
+body_run n line o = then_read (gap_at line) (λ rest. then_read (term_run 256 rest o) (ended n))
+
+-- A blank, a register, a blank and a term, and nothing more.
+abbrev pub assigned_run : List ℕ → Out → Option (ℕ × Out)
+assigned_run line o = then_read (register_at line) (λ r. body_run (r.0) (r.1) o)
+
+-- The built verbs of a process.
+abbrev pub built_words : List Word
+built_words = word.Set ∷ word.Self ∷ word.Push ∷ word.Pop ∷ word.Print ∷ word.Exit ∷ []
+
+-- The built verb of a process that is written so.
+abbrev pub word_named : List ℕ → Option Word
+word_named bytes = find (λ w. bytes_eq bytes (text_of w)) built_words
+
+-- The built verbs of the system.
+abbrev pub built_sys_words : List SysWord
+built_sys_words = sys.Spawn ∷ sys.Procs ∷ sys.Quit ∷ []
+
+-- The built verb of the system that is written so.
+abbrev pub sys_word_named : List ℕ → Option SysWord
+sys_word_named bytes = find (λ w. bytes_eq bytes (sys_text_of w)) built_sys_words
+
+-- What comes of a register that stands alone.
+abbrev pub of_one : (Reg → Verb) → List ℕ → Out → Option (Verb × Out)
+of_one f line o = then_read (one_register_at line) (λ r. Some (f (reg r), o))
+
+-- The operands of a built verb of a process.
+abbrev pub verb_run : Word → List ℕ → Out → Option (Verb × Out)
+verb_run word.Set line o = then_read (assigned_run line o) (λ r. Some (verb.Set (reg (r.0)), r.1))
+verb_run word.Self line o = of_one verb.Own line o
+verb_run word.Push line o = of_one verb.Push line o
+verb_run word.Pop line o = of_one verb.Pop line o
+verb_run word.Print line o = of_one verb.Print line o
+verb_run word.Exit line o = cond (is_end line) (Some (verb.Exit, o)) None
+verb_run _ line o = None
+
+-- The operands of a built verb of the system.
+abbrev pub sys_verb_at : SysWord → List ℕ → Option SysVerb
+sys_verb_at sys.Spawn line = cond (is_end line) (Some sysverb.Spawn) None
+sys_verb_at sys.Procs line = cond (is_end line) (Some sysverb.Procs) None
+sys_verb_at sys.Quit line = cond (is_end line) (Some sysverb.Quit) None
+sys_verb_at _ line = None
+
+-- A verb of a process, after the word for it was cut off.
+abbrev pub named_run : List ℕ → Out → Option (Verb × Out)
+named_run line o = then_read (word_named (word_at line)) (λ w. verb_run w (after_word line) o)
+
+-- A verb of the system, after the word for it was cut off.
+abbrev pub sys_named_at : List ℕ → Option SysVerb
+sys_named_at line = then_read (sys_word_named (word_at line)) (λ w. sys_verb_at w (after_word line))
+
+-- A process line after its number.
+abbrev pub process_run : List ℕ → Out → Option (Verb × Out)
+process_run line o = then_read (gap_at line) (λ rest. named_run (after_blanks rest) o)
+
+-- A system line after its first word.
+abbrev pub system_at : List ℕ → Option SysVerb
+system_at line = then_read (gap_at line) (λ rest. sys_named_at (after_blanks rest))
+
+-- A line that has a command, from its first byte that is no blank.
+abbrev pub command_run : List ℕ → Out → Option (Command × Out)
+command_run line o = found_or (number_at 1099511627775 line)
+    (λ r. then_read (process_run (r.1) o) (λ v. Some (command.Process (r.0) (v.0), v.1)))
+    (then_read (text_at (codes "sys") line) (λ rest. then_read (system_at rest) (λ v. Some (command.System v, o))))
+
+-- A line is silent where it has no byte but blanks, or `%` is the first.
+abbrev pub is_silent : List ℕ → Bool
+is_silent [] = true
+is_silent (b ∷ bytes) = nat_eq b 37
+
+-- A whole line.
+abbrev pub line_run : List ℕ → Out → Option (Command × Out)
+line_run line o = cond (is_silent (after_blanks line)) (Some (command.Nothing, o)) (command_run (after_blanks line) o)

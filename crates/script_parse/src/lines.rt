@@ -1,0 +1,108 @@
+ghost use Rattle.std.specs.Prelude.{
+  ◌≡◌,
+  ℕ,
+  ◌+◌,
+  ◌≤◌,
+  ◌<◌,
+  ◌⊎◌,
+  Bool,
+  true,
+  false,
+  List,
+  [],
+  length,
+  MatchOption,
+  Some,
+  None,
+  IfOk,
+  IfErr,
+  IsErrOf,
+};
+ghost use Rattle.plain_machine.specs.Written.{Written};
+ghost use Rattle.plain_machine.specs.Grammar.{Says, IsBuilt, SaysOne};
+ghost use Rattle.plain_machine.specs.Names.{IsInBounds};
+ghost use Rattle.script_parse.specs.Output.{Out, out, Keeps};
+ghost use Rattle.script_parse.specs.Parses.{Reads, IsOver};
+ghost use Rattle.script_parse.specs.Reading.{is_silent, command_run, line_run};
+
+use crate::blanks::{after_text, skip};
+use crate::buffer::Code;
+use crate::numbers::{GREATEST, number};
+use crate::verbs::{process_verb, system_verb};
+use atom_names::AtomNames;
+use plain_machine::{Command, Refusal};
+
+/// Nothing is left, or a comment begins.
+fn silent(line: &[u8]) -> bool
+    ensures { result ≡ is_silent line.now }
+{
+    match line {
+        [] => true,
+        [b, ..] => *b == b'%',
+    }
+}
+
+/// A command. The line begins with its first byte.
+fn command(line: &[u8], names: &mut AtomNames, code: &mut Code, full: &mut bool) -> Option<Command>
+    requires { length code.old + length line.now ≤ 4096 }
+    ensures read { MatchOption result (command_run line.now (out names.old full.old code.old) ≡ None)
+        (λ c. command_run line.now (out names.old full.old code.old) ≡ Some (c, out names.new full.new code.new)) }
+    ensures kept { Keeps names.old names.new }
+    ensures within { MatchOption result (Unit {0}) IsInBounds }
+{
+    if let Some((n, rest)) = number(line, GREATEST) {
+        let verb = process_verb(rest, names, code, full)?;
+        return Some(Command::Process(n, verb));
+    }
+    let rest = after_text(line, b"sys")?;
+    let verb = system_verb(rest)?;
+    Some(Command::System(verb))
+}
+
+/// A whole line.
+fn whole(line: &[u8], names: &mut AtomNames, code: &mut Code, full: &mut bool) -> Option<Command>
+    requires { length code.old + length line.now ≤ 4096 }
+    ensures read { MatchOption result (line_run line.now (out names.old full.old code.old) ≡ None)
+        (λ c. line_run line.now (out names.old full.old code.old) ≡ Some (c, out names.new full.new code.new)) }
+    ensures kept { Keeps names.old names.new }
+    ensures within { MatchOption result (Unit {0}) IsInBounds }
+{
+    let start = skip(line);
+    if silent(start) {
+        return Some(Command::Nothing);
+    }
+    command(start, names, code, full)
+}
+
+/// Reads a line of at most 4,096 bytes without its end. The items of its terms are left in `code`,
+/// its new names go last in `names`.
+///
+/// `Syntax` where the line is not in the grammar, or is in it only through a verb or a form that is
+/// not built; `Atoms` where it is, and its new names are too many.
+pub fn parse(line: &[u8], names: &mut AtomNames, code: &mut Code) -> Result<Command, Refusal>
+    requires { length line.now ≤ 4096 }
+    ensures said { IfOk result (λ c. (w : Written) × Reads line.now names.old c names.new code.new w) }
+    ensures bounds { IfOk result IsInBounds }
+    ensures kept { IfErr result (λ e. (names.new ≡ names.old) × ((e ≡ Refusal.Syntax) ⊎ (e ≡ Refusal.Atoms))) }
+    ensures syntax { IsErrOf result Refusal.Syntax → (w : Written) → Says line.now w → IsBuilt w → ⊥ }
+    ensures atoms { IsErrOf result Refusal.Atoms → (w : Written) × IsOver line.now names.old w }
+{
+    code.clear();
+    let before = names.count();
+    let mut full = false;
+    let found = whole(line, names, code, &mut full);
+    if let Some(c) = found {
+        if !full {
+            return Ok(c);
+        }
+        names.forget(before);
+        return Err(Refusal::Atoms);
+    }
+    names.forget(before);
+    Err(Refusal::Syntax)
+}
+
+/// A line says one command at most, among those that are built.
+pub fn one_reading()
+    ensures { SaysOne }
+{}

@@ -1,0 +1,87 @@
+ghost use Rattle.std.specs.Prelude.{◌≡◌, ℕ, ◌+◌, ◌≤◌, ◌<◌, ◌^◌, pos, List, length, MatchOption};
+ghost use Rattle.plain_machine.specs.Grammar.{is_digit};
+ghost use Rattle.script_parse.specs.Reading.{digits_at, number_at, integer_at, pid_at};
+
+use crate::blanks::{after_text, first};
+
+/// The greatest number that an operand may be.
+pub(crate) const GREATEST: u64 = 1_099_511_627_775;
+
+/// The greatest small integer.
+const SMALL: u64 = 576_460_752_303_423_487;
+
+/// A digit.
+fn digit(b: u8) -> bool
+    ensures { result ≡ is_digit b }
+{
+    b >= b'0' && b <= b'9'
+}
+
+/// A number goes on by the digits at the front, up to a limit.
+fn digits(line: &[u8], limit: u64, start: u64) -> Option<(u64, &[u8])>
+    requires limit { limit ≤ 2 ^ 59 }
+    requires start { start ≤ limit }
+    ensures value { MatchOption result (digits_at limit start line.now ≡ None) (λ r. digits_at limit start line.now ≡ Some (r.0, r.1.now)) }
+    ensures within { MatchOption result (Unit {0}) (λ r. (r.0 ≤ limit) × (length r.1.now ≤ length line.now)) }
+{
+    let mut rest = line;
+    let mut n = start;
+    while let Some((b, after)) = first(rest) {
+        if !digit(b) {
+            return Some((n, rest));
+        }
+        n = n * 10 + (b - b'0') as u64;
+        if n > limit {
+            return None;
+        }
+        rest = after;
+    }
+    Some((n, rest))
+}
+
+/// A number without sign and without leading zeros, up to a limit.
+pub(crate) fn number(line: &[u8], limit: u64) -> Option<(u64, &[u8])>
+    requires { (9 ≤ limit) × (limit ≤ 2 ^ 59) }
+    ensures value { MatchOption result (number_at limit line.now ≡ None) (λ r. number_at limit line.now ≡ Some (r.0, r.1.now)) }
+    ensures within { MatchOption result (Unit {0}) (λ r. (r.0 ≤ limit) × (length r.1.now < length line.now)) }
+{
+    let (b, rest) = first(line)?;
+    if b == b'0' {
+        return Some((0, rest));
+    }
+    if !digit(b) {
+        return None;
+    }
+    digits(rest, limit, (b - b'0') as u64)
+}
+
+/// A small integer.
+pub(crate) fn integer(line: &[u8]) -> Option<(i128, &[u8])>
+    ensures value { MatchOption result (integer_at line.now ≡ None) (λ r. integer_at line.now ≡ Some (r.0, r.1.now)) }
+    ensures shorter { MatchOption result (Unit {0}) (λ r. length r.1.now < length line.now) }
+{
+    let (b, after) = first(line)?;
+    if b != b'-' {
+        let (n, rest) = number(line, SMALL)?;
+        return Some((n as i128, rest));
+    }
+    let (n, rest) = number(after, SMALL + 1)?;
+    if n == 0 {
+        return None;
+    }
+    Some((-(n as i128), rest))
+}
+
+/// The number of a pid, whose first byte stands before the line.
+pub(crate) fn pid(line: &[u8]) -> Option<(u64, &[u8])>
+    ensures value { MatchOption result (pid_at line.now ≡ None) (λ r. pid_at line.now ≡ Some (r.0, r.1.now)) }
+    ensures shorter { MatchOption result (Unit {0}) (λ r. length r.1.now < length line.now) }
+{
+    let rest = after_text(line, b"0.")?;
+    let (n, rest) = number(rest, GREATEST)?;
+    if n == 0 {
+        return None;
+    }
+    let rest = after_text(rest, b".0>")?;
+    Some((n, rest))
+}
