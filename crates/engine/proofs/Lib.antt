@@ -1,0 +1,7 @@
+pub mod Writing
+pub mod Rising
+pub mod Replies
+pub mod Acting
+pub mod Naming
+pub mod Taking
+pub mod Turns

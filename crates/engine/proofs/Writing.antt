@@ -1,0 +1,90 @@
+-- How what was written grows over the parts of a line.
+use Rattle.std.proofs.Common.{◌≡◌, ℕ, ◌<◌, List, [], ◌∷◌, ◌++◌, length, sym, ap, subst, ◌∙◌, arith, append_assoc, append-nil, length-append, Result, Ok, Err, OnOk, OnErr, IsErr, codes}
+use Rattle.line_io.specs.Sink.{Grew, GrewInPart}
+use Rattle.line_io.proofs.Growth.{Grew-append}
+use Rattle.engine.specs.Writing.{Writes, end_of_line}
+
+-- a front of the first part is one of both
+pub part-front : {K : Type 0} (wrote : K → List ℕ → Type 0) (old new : K) (x y : List ℕ) → GrewInPart wrote old new x → GrewInPart wrote old new (x ++ y)
+part-front wrote old new x y p = record {
+  part = p.part;
+  missing = p.missing ++ y;
+  whole = ap (λ l. l ++ y) p.whole ∙ append_assoc p.part p.missing y;
+  some = let h : 0 < length p.missing = p.some in omega (arith, h, length-append p.missing y);
+  grew = p.grew;
+}
+
+-- the first part and a front of the second
+pub part-after : {K : Type 0} (wrote : K → List ℕ → Type 0) (old mid new : K) (x y : List ℕ) → Grew wrote old mid x → GrewInPart wrote mid new y → GrewInPart wrote old new (x ++ y)
+part-after wrote old mid new x y g p = record {
+  part = x ++ p.part;
+  missing = p.missing;
+  whole = ap (λ l. x ++ l) p.whole ∙ sym (append_assoc x p.part p.missing);
+  some = p.some;
+  grew = Grew-append wrote old mid new x p.part g p.grew;
+}
+
+-- the first part was written, and then what a call left of the second
+pub writes-after : {A E K : Type 0} (wrote : K → List ℕ → Type 0) (old mid new : K) (x y : List ℕ) (r : Result A E) → Grew wrote old mid x → Writes wrote mid new r y → Writes wrote old new r (x ++ y)
+writes-after wrote old mid new x y (Ok a) g w = Grew-append wrote old mid new x y g w
+writes-after wrote old mid new x y (Err e) g w = part-after wrote old mid new x y g w
+
+-- three parts, of which the second stopped
+pub second-stopped : {K : Type 0} (wrote : K → List ℕ → Type 0) (old mid new : K) (x y z : List ℕ) → Grew wrote old mid x → GrewInPart wrote mid new y → GrewInPart wrote old new ((x ++ y) ++ z)
+second-stopped wrote old mid new x y z g p = part-front wrote old new (x ++ y) z (part-after wrote old mid new x y g p)
+
+-- three parts
+pub three-parts : {A E K : Type 0} (wrote : K → List ℕ → Type 0) (old one two new : K) (x y z : List ℕ) (r : Result A E)
+    → Grew wrote old one x → Grew wrote one two y → Writes wrote two new r z → Writes wrote old new r ((x ++ y) ++ z)
+three-parts wrote old one two new x y z r g h w = writes-after wrote old two new (x ++ y) z r (Grew-append wrote old one two x y g h) w
+
+-- the two clauses of a call as one
+pub writes-of : {A E K : Type 0} (wrote : K → List ℕ → Type 0) (old new : K) (x : List ℕ) (r : Result A E) → OnOk r (Grew wrote old new x) → OnErr r (GrewInPart wrote old new x) → Writes wrote old new r x
+writes-of wrote old new x (Ok a) all part = all
+writes-of wrote old new x (Err e) all part = part
+
+-- at a fault
+pub writes-fault : {A E K : Type 0} (wrote : K → List ℕ → Type 0) (old new : K) (x : List ℕ) (r : Result A E) → IsErr r → GrewInPart wrote old new x → Writes wrote old new r x
+writes-fault wrote old new x (Ok a) h part = absurd (cc)
+writes-fault wrote old new x (Err e) h part = part
+
+-- a part was written, and the next part of the rest stopped
+pub rest-stopped : {K : Type 0} (wrote : K → List ℕ → Type 0) (old mid new : K) (whole part rest x y : List ℕ)
+    → whole ≡ part ++ rest → rest ≡ x ++ y → Grew wrote old mid part → GrewInPart wrote mid new x → GrewInPart wrote old new whole
+rest-stopped wrote old mid new whole part rest x y e f g p =
+    subst (GrewInPart wrote old new) (sym (e ∙ ap (λ l. part ++ l) f)) (part-after wrote old mid new part (x ++ y) g (part-front wrote mid new x y p))
+
+-- two more parts were written, and the second of them stopped
+pub rest-stopped-later : {K : Type 0} (wrote : K → List ℕ → Type 0) (old mid next new : K) (whole part rest x y z : List ℕ)
+    → whole ≡ part ++ rest → rest ≡ x ++ (y ++ z) → Grew wrote old mid part → Grew wrote mid next x → GrewInPart wrote next new y → GrewInPart wrote old new whole
+rest-stopped-later wrote old mid next new whole part rest x y z e f g h p =
+    subst (GrewInPart wrote old new) (sym (e ∙ ap (λ l. part ++ l) f))
+    (part-after wrote old mid new part (x ++ (y ++ z)) g (part-after wrote mid next new x (y ++ z) h (part-front wrote next new y z p)))
+
+-- two more parts were written
+pub rest-grew : {K : Type 0} (wrote : K → List ℕ → Type 0) (old mid next new : K) (whole part rest x y z : List ℕ)
+    → whole ≡ part ++ rest → rest ≡ x ++ (y ++ z) → Grew wrote old mid part → Grew wrote mid next x → Grew wrote next new y
+    → (all : List ℕ) × Grew wrote old new all × (whole ≡ all ++ z)
+rest-grew wrote old mid next new whole part rest x y z e f g h k = (
+  part ++ (x ++ y),
+  Grew-append wrote old mid new part (x ++ y) g (Grew-append wrote mid next new x y h k),
+  e ∙ ap (λ l. part ++ l) (f ∙ sym (append_assoc x y z)) ∙ sym (append_assoc part (x ++ y) z),
+)
+
+-- nothing is left to write
+pub rest-none : {K : Type 0} (wrote : K → List ℕ → Type 0) (old new : K) (whole part rest : List ℕ) → whole ≡ part ++ rest → rest ≡ [] → Grew wrote old new part → Grew wrote old new whole
+rest-none wrote old new whole part rest e f g = subst (Grew wrote old new) (sym (e ∙ ap (λ l. part ++ l) f ∙ append-nil part)) g
+
+-- a text between brackets, and its line's end
+pub bracketed : (x : List ℕ) → (91 ∷ x) ++ (93 ∷ 10 ∷ []) ≡ end_of_line (codes "[" ++ (x ++ codes "]"))
+bracketed x = ap (λ l. 91 ∷ l) (sym (append_assoc x (93 ∷ []) (10 ∷ [])))
+
+-- the bracket was written, and the text stopped
+pub bracket-stopped : {K : Type 0} (wrote : K → List ℕ → Type 0) (old mid new : K) (x : List ℕ) → Grew wrote old mid (91 ∷ []) → GrewInPart wrote mid new x
+    → GrewInPart wrote old new (end_of_line (codes "[" ++ (x ++ codes "]")))
+bracket-stopped wrote old mid new x g p = subst (GrewInPart wrote old new) (bracketed x) (second-stopped wrote old mid new (91 ∷ []) x (93 ∷ 10 ∷ []) g p)
+
+-- the bracket and the text were written
+pub bracket-line : {A E K : Type 0} (wrote : K → List ℕ → Type 0) (old one two new : K) (x : List ℕ) (r : Result A E)
+    → Grew wrote old one (91 ∷ []) → Grew wrote one two x → Writes wrote two new r (93 ∷ 10 ∷ []) → Writes wrote old new r (end_of_line (codes "[" ++ (x ++ codes "]")))
+bracket-line wrote old one two new x r g h w = subst (Writes wrote old new r) (bracketed x) (three-parts wrote old one two new (91 ∷ []) x (93 ∷ 10 ∷ []) r g h w)

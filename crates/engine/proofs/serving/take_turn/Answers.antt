@@ -1,0 +1,27 @@
+use Rattle.std.proofs.Common.{sym, ap, refl, [], ◌∷◌}
+use Rattle.line_io.specs.Lines.{text, long}
+use Rattle.line_io.specs.declared.reader.LineGot.TheVariants.{Line as GotLine, Long as GotLong}
+use Rattle.engine.proofs.Turns.{turn-line, turn-end, turn-too-much, turn-fault}
+use Rattle.engine.proofs.serving.take_turn.Goals as goal
+
+pub returns-in-Line-clause-turns : goal.returns-in-Line-clause-turns
+returns-in-Line-clause-turns g c = λ s bytes given h r.
+    turn-line _ _ _ _ g.K.Sink.wrote g.K.Sink.faults s _ _ c.next.new.self bytes given GotLine (text c.line.result.now) _ _ c.step.result c.after.result
+    c.after.ensures (ap (λ z. text z ∷ []) (sym c.line.ensures.line)) (c.in-Line.ensures.reads bytes given r) (c.step.ensures.steps s h)
+
+pub returns-in-Long-clause-turns : goal.returns-in-Long-clause-turns
+returns-in-Long-clause-turns g c = λ s bytes given h r.
+    turn-line _ _ _ _ g.K.Sink.wrote g.K.Sink.faults s _ _ c.next.new.self bytes given GotLong long _ _ c.refuse_long.result c.after-in-Long.result
+    c.after-in-Long.ensures refl (c.in-Long.ensures.reads bytes given r) (c.refuse_long.ensures.steps s h)
+
+pub returns-in-End-clause-turns : goal.returns-in-End-clause-turns
+returns-in-End-clause-turns g c = λ s bytes given h r.
+    turn-end _ _ _ _ g.K.Sink.wrote g.K.Sink.faults s _ _ c.next.new.self bytes given _ h (c.in-End.ensures.reads bytes given r)
+
+pub returns-in-Fault-clause-turns : goal.returns-in-Fault-clause-turns
+returns-in-Fault-clause-turns g c = λ s bytes given h r.
+    turn-fault _ _ _ _ g.K.Sink.wrote g.K.Sink.faults s _ _ c.next.new.self bytes given _ h (c.in-Fault.ensures.reads bytes given r)
+
+pub returns-in-TooMuch-clause-turns : goal.returns-in-TooMuch-clause-turns
+returns-in-TooMuch-clause-turns g c = λ s bytes given h r.
+    turn-too-much _ _ _ _ g.K.Sink.wrote g.K.Sink.faults s _ _ c.next.new.self bytes given _ h (c.in-TooMuch.ensures.reads bytes given r)

@@ -1,0 +1,5 @@
+pub mod Writing
+pub mod Replies
+pub mod Acts
+pub mod Steps
+pub mod Serving

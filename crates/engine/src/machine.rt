@@ -1,0 +1,109 @@
+ghost use Rattle.std.specs.Prelude.{◌≡◌, ℕ, ◌+◌, ◌^◌, ◌<◌, ◌≤◌, List, length};
+ghost use Rattle.plain_machine.specs.Run.{replies_text};
+ghost use Rattle.plain_machine.specs.State.{State};
+ghost use Rattle.line_io.specs.Gathered.{Written};
+ghost use Rattle.line_io.specs.Lines.{text, long};
+ghost use Rattle.engine.specs.Replies.{CanReply, reply_lines};
+ghost use Rattle.engine.specs.Acts.{StandsWith, Takes};
+ghost use Rattle.engine.specs.Steps.{Steps};
+
+use crate::act::act;
+use crate::reply::{Reply, put_reply};
+use atom_names::AtomNames;
+use line_io::{Gathered, Sink, SinkFault};
+use plain_machine::Refusal;
+use script_parse::{Code, parse};
+use space_api::Space;
+
+/// A space with the names of its atoms, and the buffer into which lines are parsed.
+#[derive(Drop)]
+pub struct Machine<S: Space> {
+    pub space: S,
+    pub names: AtomNames,
+    pub code: Code,
+}
+
+/// What a line comes to: the script goes on, it ends, or the reply could not be written.
+#[derive(Clone, Copy)]
+pub enum Stepped {
+    Next,
+    Quit,
+    SinkFault,
+}
+
+/// Reads a line and does what it says. A refused line leaves no name.
+fn take_line<S: Space>(space: &mut S, names: &mut AtomNames, code: &mut Code, line: &[u8]) -> Reply
+    requires short { length line.now ≤ 4096 }
+    requires calls { S.calls space.old < 2 ^ 36 }
+    requires named { S.named space.old ≤ length names.old }
+    ensures takes { (s : State) → StandsWith (S.stands space.old) names.old s
+        → Takes S.may (S.words space.old) s line.now result (S.stands space.new) names.new }
+    ensures can { CanReply S.lives S.named space.new names.new result }
+    ensures words { S.words space.new ≡ S.words space.old }
+    ensures calls { S.calls space.new ≤ S.calls space.old + 1 }
+    ensures named { S.named space.new ≤ length names.new }
+{
+    let before = names.count();
+    match parse(line, names, code) {
+        Err(refusal) => Reply::Refused(refusal),
+        Ok(command) => {
+            let reply = act(space, names, command, code.items());
+            if let Reply::Refused(_) = reply {
+                names.forget(before);
+            }
+            reply
+        }
+    }
+}
+
+/// Writes the lines of a reply in one piece.
+fn send<S: Space, K: Sink>(
+    space: &S,
+    names: &AtomNames,
+    reply: Reply,
+    sink: &mut K,
+) -> Result<(), SinkFault>
+    requires can { CanReply S.lives S.named space.now names.now reply }
+    ensures sent { (s : State) → S.stands space.now s
+        → Written K.wrote K.faults sink.old sink.new (replies_text (reply_lines reply s names.now)) result }
+{
+    let mut gathered = Gathered::new(sink);
+    put_reply(space, names, reply, &mut gathered)?;
+    gathered.finish()
+}
+
+/// Does one line of a script of at most 4,096 bytes, and writes its reply.
+///
+/// The state becomes the next one first. At `SinkFault` a proper front of the reply was written.
+pub fn step<S: Space, K: Sink>(m: &mut Machine<S>, line: &[u8], sink: &mut K) -> Stepped
+    requires short { length line.now ≤ 4096 }
+    requires calls { S.calls m.old.space < 2 ^ 36 }
+    requires named { S.named m.old.space ≤ length m.old.names }
+    ensures steps { (s : State) → StandsWith (S.stands m.old.space) m.old.names s
+        → Steps S.may (S.words m.old.space) s (text line.now) (StandsWith (S.stands m.new.space) m.new.names)
+        K.wrote K.faults sink.old sink.new result }
+    ensures words { S.words m.new.space ≡ S.words m.old.space }
+    ensures calls { S.calls m.new.space ≤ S.calls m.old.space + 1 }
+    ensures named { S.named m.new.space ≤ length m.new.names }
+{
+    let reply = take_line(&mut m.space, &mut m.names, &mut m.code, line);
+    if let Err(SinkFault) = send(&m.space, &m.names, reply, sink) {
+        return Stepped::SinkFault;
+    }
+    if let Reply::Quit = reply {
+        return Stepped::Quit;
+    }
+    Stepped::Next
+}
+
+/// Answers a line of more than 4,096 bytes.
+pub(crate) fn refuse_long<S: Space, K: Sink>(m: &Machine<S>, sink: &mut K) -> Stepped
+    ensures steps { (s : State) → StandsWith (S.stands m.now.space) m.now.names s
+        → Steps S.may (S.words m.now.space) s long (StandsWith (S.stands m.now.space) m.now.names)
+        K.wrote K.faults sink.old sink.new result }
+{
+    if let Err(SinkFault) = send(&m.space, &m.names, Reply::Refused(Refusal::Long), sink) {
+        return Stepped::SinkFault;
+    }
+    Stepped::Next
+}

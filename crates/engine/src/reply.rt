@@ -1,0 +1,70 @@
+ghost use Rattle.std.specs.Prelude.{◌≡◌, ℕ, ◌≤◌, ◌++◌, ◌∷◌, [], List, OnErr, codes, length};
+ghost use Rattle.line_io.specs.Faults.{Rose};
+ghost use Rattle.plain_machine.specs.Run.{replies_text};
+ghost use Rattle.plain_machine.specs.State.{State};
+ghost use Rattle.engine.specs.Writing.{Writes};
+ghost use Rattle.engine.specs.Replies.{reply_lines, CanReply};
+
+use crate::numbers::put_numbers;
+use crate::texts::{put_counted, put_line, put_refusal};
+use atom_names::AtomNames;
+use line_io::{Sink, SinkFault, put_all};
+use plain_machine::{Refusal, Reg};
+use space_api::{Space, Stop};
+
+/// How a line that was done is answered.
+#[derive(Clone, Copy)]
+pub(crate) enum Reply {
+    Nothing,
+    Done,
+    Spawned(u64),
+    Numbers,
+    Text(u64, Reg),
+    Quit,
+    Refused(Refusal),
+}
+
+/// Writes the line of a register's text. A text beyond the walk limit is refused.
+fn put_text<S: Space, K: Sink>(
+    space: &S,
+    names: &AtomNames,
+    pid: u64,
+    r: Reg,
+    sink: &mut K,
+) -> Result<(), SinkFault>
+    requires can { CanReply S.lives S.named space.now names.now (Reply.Text pid r) }
+    ensures writes { (s : State) → S.stands space.now s
+        → Writes K.wrote sink.old sink.new result (replies_text (reply_lines (Reply.Text pid r) s names.now)) }
+    ensures later { K.faults sink.old ≤ K.faults sink.new }
+    ensures rose { OnErr result (Rose (K.faults sink.old) (K.faults sink.new)) }
+{
+    match space.print(names, pid, r, sink) {
+        Ok(()) => put_all(sink, b"\n"),
+        Err(Stop::Big) => put_refusal(Refusal::Big, sink),
+        Err(Stop::Fault) => Err(SinkFault),
+    }
+}
+
+/// Writes the lines of a reply.
+pub(crate) fn put_reply<S: Space, K: Sink>(
+    space: &S,
+    names: &AtomNames,
+    reply: Reply,
+    sink: &mut K,
+) -> Result<(), SinkFault>
+    requires can { CanReply S.lives S.named space.now names.now reply }
+    ensures writes { (s : State) → S.stands space.now s
+        → Writes K.wrote sink.old sink.new result (replies_text (reply_lines reply s names.now)) }
+    ensures later { K.faults sink.old ≤ K.faults sink.new }
+    ensures rose { OnErr result (Rose (K.faults sink.old) (K.faults sink.new)) }
+{
+    match reply {
+        Reply::Nothing => Ok(()),
+        Reply::Done => put_line(b"ok", sink),
+        Reply::Spawned(n) => put_counted(b"ok ", n, sink),
+        Reply::Numbers => put_numbers(space, sink),
+        Reply::Text(pid, r) => put_text(space, names, pid, r, sink),
+        Reply::Quit => put_line(b"ok", sink),
+        Reply::Refused(refusal) => put_refusal(refusal, sink),
+    }
+}

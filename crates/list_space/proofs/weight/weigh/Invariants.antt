@@ -1,0 +1,9 @@
+use Rattle.std.proofs.Common.{◌≡◌, ◌+◌, ◌*◌, ◌≤◌, length, drop}
+use Rattle.list_space.specs.Items.{weight}
+use Rattle.list_space.proofs.weight.weigh.Given as goal
+
+abbrev pub invariant-loop-i : goal.invariant-loop-i
+invariant-loop-i l = (l.i ≤ length l.code) × (l.sum ≡ weight (drop l.i l.code)) × (l.sum + 2 * l.i ≤ 8192)
+
+abbrev pub decreases-loop-i : goal.decreases-loop-i
+decreases-loop-i l = l.i

@@ -1,0 +1,79 @@
+-- What the calls of a space give, in the words of the plain machine.
+use Rattle.std.specs.Prelude.{ℕ, ◌≡◌, ◌<◌, ◌≤◌, ◌⊎◌, Bool, true, List, [], ◌∷◌, length, Result, Ok, Err, All}
+use Rattle.line_io.specs.Sink.{Grew, GrewInPart}
+use Rattle.plain_term.specs.declared.item.Item.{Item}
+use Rattle.plain_term.specs.declared.item.Item.TheVariants as item
+use Rattle.plain_machine.specs.declared.command.Command.{Command}
+use Rattle.plain_machine.specs.declared.refusal.Refusal.{Refusal}
+use Rattle.plain_machine.specs.declared.refusal.Refusal.TheVariants.{Big as TooBig, NoSpace}
+use Rattle.plain_machine.specs.Written.{Term, Terms}
+use Rattle.plain_machine.specs.Written.Terms.{end, ◌▹◌}
+use Rattle.plain_machine.specs.Grammar.{MayStand, IsBuiltTerm}
+use Rattle.plain_machine.specs.Names.{Parsed, items_of}
+use Rattle.plain_machine.specs.State.{State}
+use Rattle.plain_machine.specs.Tightness.{grow}
+use Rattle.plain_machine.specs.Step.{Outcome, step}
+use Rattle.plain_machine.specs.Step.Outcome.{Accepted, Refused}
+use Rattle.space_api.specs.declared.space.Stop.{Stop}
+use Rattle.space_api.specs.declared.space.Stop.TheVariants.{Big, Fault}
+
+-- A command with its written terms and all names that there are after it.
+abbrev pub said : Command → Terms → List (List ℕ) → Parsed
+said c terms names = record { command = c; terms = terms; names = names }
+
+-- The numbers rise from above a number on.
+abbrev pub AreRising : ℕ → List ℕ → Type 0
+AreRising above [] = Unit {0}
+AreRising above (n ∷ ns) = (above < n) × AreRising n ns
+
+-- A list of one written term.
+abbrev pub one_term : Term → Terms
+one_term t = t ▹ end
+
+-- The atoms of an item have numbers below this one.
+abbrev pub IsNamedBelow : ℕ → Item → Type 0
+IsNamedBelow count (item.Atom k) = k < count
+IsNamedBelow count _ = Unit {0}
+
+-- The items are the prefix form of a written term of the built forms, in at most 256 levels of brackets.
+pub record IsTerm (names : List (List ℕ)) (code : List Item) (t : Term) : Type 0 where
+  pub items : items_of names t ≡ code
+  pub allowed : MayStand 256 t
+  pub built : IsBuiltTerm t
+
+-- The items are the prefix form of some written term, all atoms have names, and there are not too many.
+pub record HasTerm (names : List (List ℕ)) (code : List Item) : Type 0 where
+  pub term : Term
+  pub is : IsTerm names code term
+  pub named : All (IsNamedBelow (length names)) code
+  pub few : length code ≤ 4096
+
+-- The call does what the machine's step does, or is refused as it is, and then the state is as before.
+abbrev pub Follows : {A : Type 0} → Outcome → State → Result A Refusal → (State → Type 0) → Type 0
+Follows (Accepted next reply) s (Ok a) Stands = Stands next
+Follows (Accepted next reply) s (Err e) Stands = ⊥
+Follows (Refused r) s (Ok a) Stands = ⊥
+Follows (Refused r) s (Err e) Stands = (e ≡ r) × Stands s
+
+-- The call answers that there is no space for what the line asks, where that may be; the state is as before.
+abbrev pub Stays : {A : Type 0} → (may : ℕ → State → Parsed → Bool) → ℕ → State → Parsed → Result A Refusal → (State → Type 0) → Type 0
+Stays may words s p (Ok a) Stands = ⊥
+Stays may words s p (Err e) Stands = (may words s p ≡ true) × (e ≡ NoSpace (grow s p)) × Stands s
+
+-- The machine's step, or no space.
+abbrev pub Becomes : {A : Type 0} → (may : ℕ → State → Parsed → Bool) → ℕ → State → Parsed → Result A Refusal → (State → Type 0) → Type 0
+Becomes may words s p result Stands = Follows (step s p) s result Stands ⊎ Stays may words s p result Stands
+
+-- A call that is never refused: the machine accepts, and this is the state after it.
+abbrev pub Passes : Outcome → (State → Type 0) → Type 0
+Passes (Accepted next reply) Stands = Stands next
+Passes (Refused r) Stands = ⊥
+
+-- The reply of the machine's step was written, or a proper front of it at a fault; or the step is refused by the walk limit.
+abbrev pub Prints : {A K : Type 0} → Outcome → (wrote : K → List ℕ → Type 0) (old new : K) → Result A Stop → Type 0
+Prints (Accepted next reply) wrote old new (Ok a) = Grew wrote old new reply
+Prints (Accepted next reply) wrote old new (Err Big) = ⊥
+Prints (Accepted next reply) wrote old new (Err Fault) = GrewInPart wrote old new reply
+Prints (Refused r) wrote old new (Ok a) = ⊥
+Prints (Refused r) wrote old new (Err Big) = r ≡ TooBig
+Prints (Refused r) wrote old new (Err Fault) = ⊥
