@@ -1,0 +1,38 @@
+-- What the whole program promises: the store that a run leaves, and what a run was.
+use Rattle.std.specs.Prelude.{ℕ, ◌≡◌, ◌^◌, ◌⊎◌, List}
+use Rattle.line_io.specs.declared.reader.Limits.{Limits}
+use Rattle.plain_machine.specs.State.{State}
+use Rattle.engine.specs.Acts.{StandsWith}
+use Rattle.engine.specs.declared.serving.Status.{Status}
+use Rattle.engine.specs.declared.serving.Status.TheVariants.{Done, Usage, ReadFault, WriteFault, Memory, TooMuch}
+use Rattle.bump_space.specs.Bump.{BumpStands}
+use Rattle.beam_heap.specs.declared.store.Store.{Store}
+use Rattle.beam_heap.specs.declared.store.Store.TheVariants.{Vacant, One}
+
+-- The machine in the store stands for the state, names and all; a vacant store stands for none.
+abbrev pub StoreStands : Store → State → Type 0
+StoreStands Vacant s = ⊥
+StoreStands (One m) s = StandsWith (BumpStands m.space) m.names s
+
+-- How many words the arena has.
+abbrev pub arena_words : ℕ
+arena_words = 1048576
+
+-- How many lines and bytes a script may have.
+abbrev pub script_limits : Limits
+script_limits = record { lines = 2 ^ 32; bytes = 2 ^ 48 }
+
+-- The first where a script was served, the second where the run ended before its first line.
+abbrev pub IfServed : Status → (served unopened : Type 0) → Type 0
+IfServed Done P Q = P
+IfServed Usage P Q = Q
+IfServed ReadFault P Q = P
+IfServed WriteFault P Q = P
+IfServed Memory P Q = Q
+IfServed TooMuch P Q = P
+
+-- A script that was begun is served to its end, or to the end of what is allowed, where neither
+-- reading nor writing failed.
+abbrev pub IsComplete : Status → (read_failed write_failed : Type 0) → Type 0
+IsComplete status read_failed write_failed = (read_failed → ⊥) → (write_failed → ⊥) → (status ≡ Usage → ⊥) → (status ≡ Memory → ⊥)
+    → (status ≡ Done) ⊎ (status ≡ TooMuch)

@@ -1,0 +1,25 @@
+//! Process heaps driven by scripts: each line of a script is one step, and is answered by one reply.
+#![tactic(auto)]
+
+mod arguments;
+mod run;
+mod store;
+#[cfg(test)]
+mod tests;
+
+pub use engine::Status;
+use line_io::{StdSink, StdSource};
+pub use run::run;
+use std::process::ExitCode;
+use std::{env, io};
+pub use store::Store;
+
+fn main(rt: HostRuntime) -> ExitCode {
+    let mut source = StdSource::new(rt.reader());
+    let mut sink = StdSink::new(io::writer(&rt));
+    let status = arguments::run_with(rt.alloc(), env::args(&rt), &mut source, &mut sink);
+    if let Some(text) = arguments::complaint(status) {
+        let _ = eprintln!(rt; "{text}");
+    }
+    ExitCode::from(arguments::number(status))
+}

@@ -1,0 +1,20 @@
+ghost use Rattle.std.specs.Prelude.{◌≡◌};
+
+use bump_space::BumpSpace;
+use engine::Machine;
+
+/// What a run leaves: nothing where it did not begin, else the machine in its last state.
+#[derive(Drop)]
+pub enum Store {
+    Vacant,
+    One(Machine<BumpSpace>),
+}
+
+impl Store {
+    /// A store with no machine. It takes no memory.
+    pub fn empty() -> Store
+        ensures { result ≡ Store.Vacant }
+    {
+        Store::Vacant
+    }
+}

@@ -1,0 +1,11 @@
+pub mod Rows
+pub mod Forests
+pub mod Smalls
+pub mod Texts
+pub mod Words
+pub mod Lists
+pub mod Numbers
+pub mod Terms
+pub mod Procs
+pub mod States
+pub mod Changes

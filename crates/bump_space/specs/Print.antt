@@ -1,0 +1,101 @@
+-- Words that are printed: which trees stand in this space, and how a text comes out piece by piece.
+use Rattle.std.specs.Prelude.{◌≡◌, ℕ, ◌+◌, ◌<◌, ◌≤◌, true, ◌*◌, List, [], ◌++◌, length, slice_index, codes, Result, Ok, Err}
+use Rattle.line_io.specs.Sink.{Grew, GrewInPart}
+use Rattle.plain_term.specs.Tree.{Tree, Trees, trees_len}
+use Rattle.plain_term.specs.Tree.Tree.{Int, Atom, Pid, Nil, Cons, Tuple}
+use Rattle.plain_term.specs.Tree.Trees.{end, ◌▹◌}
+use Rattle.plain_term.specs.Measures.{is_small, nodes, nodes_of_all, depth, greatest_depth}
+use Rattle.plain_term.specs.Text.{text, text_as, more_terms}
+use Rattle.term_read.specs.Stands.{RowStands, stands}
+use Rattle.term_read.specs.Role.{always}
+
+-- What ends a list or goes on with it: only proper lists are built.
+abbrev pub IsTail : Tree → Type 0
+IsTail Nil = Unit {0}
+IsTail (Cons h t) = Unit {0}
+IsTail _ = ⊥
+
+abbrev mutual
+  -- The tree is of the kinds that are built, and its atoms have numbers below `count`.
+  pub IsPlain : (count : ℕ) → Tree → Type 0
+  IsPlain count (Int i) = is_small i ≡ true
+  IsPlain count (Atom k) = k < count
+  IsPlain count (Pid n) = Unit {0}
+  IsPlain count Nil = Unit {0}
+  IsPlain count (Cons h t) = IsPlain count h × IsTail t × IsPlain count t
+  IsPlain count (Tuple ts) = ArePlain count ts
+  IsPlain count _ = ⊥
+
+  -- Each of the trees is.
+  pub ArePlain : (count : ℕ) → Trees → Type 0
+  ArePlain count end = Unit {0}
+  ArePlain count (t ▹ ts) = IsPlain count t × ArePlain count ts
+
+-- The greatest number of nodes of a tree of this space: no line has more items.
+abbrev pub most_nodes : ℕ
+most_nodes = 4096
+
+-- The tree is plain, no deeper than `level`, and has few nodes.
+pub record IsModest (count level : ℕ) (t : Tree) : Type 0 where
+  pub plain : IsPlain count t
+  pub deep : depth t ≤ level
+  pub few : nodes [] t ≤ most_nodes
+
+-- The word stands for the tree, which can be printed with so many names and levels.
+pub record Printable (count level : ℕ) (mem : List ℕ) (w : ℕ) (t : Tree) : Type 0 where
+  pub standing : stands [] mem w t
+  pub modest : IsModest count level t
+
+-- The word stands for some such tree.
+pub record CanPrint (count level : ℕ) (mem : List ℕ) (w : ℕ) : Type 0 where
+  pub tree : Tree
+  pub is : Printable count level mem w tree
+
+-- The text was written, or at a fault a proper front of it.
+abbrev pub Puts : {A E K : Type 0} → (wrote : K → List ℕ → Type 0) (old new : K) → Result A E → List ℕ → Type 0
+Puts wrote old new (Ok a) x = Grew wrote old new x
+Puts wrote old new (Err e) x = GrewInPart wrote old new x
+
+-- A list is printed up to a tail: what came so far, and what is left.
+pub record ListGoes {K : Type 0} (names : List (List ℕ)) (level : ℕ) (mem : List ℕ) (rest left : ℕ) (wrote : K → List ℕ → Type 0) (old now : K) (count : ℕ) (t : Tree) : Type 0 where
+  pub tail : Tree
+  pub came : List ℕ
+  pub whole : text names [] t ≡ came ++ text_as names [] true tail
+  pub grew : Grew wrote old now came
+  pub ends : IsTail tail
+  pub is : Printable count level mem rest tail
+  pub few : nodes [] tail ≤ left
+
+-- A tuple is printed up to its part before place p: what came so far, and what is left.
+pub record TupleGoes {K : Type 0} (names : List (List ℕ)) (level : ℕ) (mem : List ℕ) (p left : ℕ) (wrote : K → List ℕ → Type 0) (old now : K) (count : ℕ) (t : Tree) : Type 0 where
+  pub rest : Trees
+  pub came : List ℕ
+  pub whole : text names [] t ≡ came ++ (more_terms names [] rest ++ codes "}")
+  pub grew : Grew wrote old now came
+  pub parts : RowStands always [] mem p rest
+  pub plain : ArePlain count rest
+  pub deep : greatest_depth rest ≤ level
+  pub few : nodes_of_all [] rest ≤ most_nodes
+  pub count_left : trees_len rest ≡ left
+
+-- The first place of a list that can be printed: its head and its tail.
+pub record ListPart (count level : ℕ) (mem : List ℕ) (place : ℕ) (t : Tree) : Type 0 where
+  pub head : Tree
+  pub tail : Tree
+  pub shape : t ≡ Cons head tail
+  pub front : Printable count level mem (slice_index mem place) head
+  pub back : Printable count (level + 1) mem (slice_index mem (place + 1)) tail
+  pub ends : IsTail tail
+  pub within : place + 2 ≤ length mem
+  pub fewer : nodes [] tail + 1 ≤ nodes [] t
+
+-- A tuple that can be printed: its parts.
+pub record TupleParts (count level : ℕ) (mem : List ℕ) (place : ℕ) (t : Tree) : Type 0 where
+  pub parts : Trees
+  pub shape : t ≡ Tuple parts
+  pub header : slice_index mem place ≡ trees_len parts * 64
+  pub row : RowStands always [] mem (place + 1) parts
+  pub within : place + (1 + trees_len parts) ≤ length mem
+  pub plain : ArePlain count parts
+  pub deep : greatest_depth parts ≤ level
+  pub few : nodes_of_all [] parts ≤ most_nodes
