@@ -1,0 +1,275 @@
+-- Where all is scanned: what the collection has done.
+use Rattle.std.proofs.Common.{◌≡◌, ℕ, ◌+◌, ◌-◌, ◌/◌, ◌%◌, ◌<◌, ◌≤◌, ◌⊎◌, ◌==◌, Bool, true, false, List, [], ◌∷◌, length, get_or, refl, sym, ◌∙◌, ap, subst, arith, inl, inr}
+use Rattle.std.proofs.lemmas.Bool.Decides.{nat_tests}
+use Rattle.plain_term.specs.Measures.{flat_of_all}
+use Rattle.plain_term.specs.Tree.{Tree}
+use Rattle.term_read.specs.Object.{IsPointer, object_words}
+use Rattle.term_read.specs.Reach.{Reach, root, part, first_traced}
+use Rattle.term_read.specs.Role.{always}
+use Rattle.term_read.specs.Stands.{Stands}
+use Rattle.cheney.specs.Plan.{Plan, Ready, Reached, Leaves, In, total, size, first}
+use Rattle.cheney.specs.Moved.{moved, forward, IsImage}
+use Rattle.cheney.specs.Zones.{Marks, IsCopy, Row, IsRow, Gone, Invariant, scanned_at}
+use Rattle.cheney.specs.Collected.{IsMoved, IsFilled, Follows, Collected, AreImages, Composes}
+use Rattle.cheney.proofs.Basics.{true-or-false, same-room, not-both, leaves-or-not, reach-part, size-some, size-cons, size-boxed, first-cons, first-boxed}
+use Rattle.cheney.proofs.Counts.{words-bounded}
+use Rattle.cheney.proofs.Ground.{Ground}
+use Rattle.cheney.proofs.Homes.{Home, Settled, settled}
+use Rattle.cheney.proofs.Writing.{at-copy}
+
+-- A place of a row lies in one of its copies.
+pub record Covers (p : Plan) (m : List ℕ) (b : Bool) (vs : List ℕ) (q : ℕ) : Type 0 where
+  pub v : ℕ
+  pub from : ℕ
+  pub listed : In v vs
+  pub copy : IsCopy p m b v from
+  pub above : from ≤ q
+  pub below : q < from + size p v
+
+covers : (p : Plan) (m : List ℕ) (b : Bool) (place : ℕ) (vs : List ℕ) (top q : ℕ) → Row p m b place vs top → place ≤ q → q < top → Covers p m b vs q
+covers p m b place [] top q row low high = absurd (omega (arith, row))
+covers p m b place (v ∷ vs) top q (c, row) low high =
+    let cut : (q < place + size p v) ⊎ (place + size p v ≤ q) = grind arith in
+    elim cut [
+      | inl z ↦ record { v = v; from = place; listed = inl refl; copy = c; above = low; below = z }
+      | inr z ↦ (let o : Covers p m b vs q = covers p m b (place + size p v) vs top q row z high in
+          record { v = o.v; from = o.from; listed = inr o.listed; copy = o.copy; above = o.above; below = o.below })
+    ]
+
+-- The words of a row are those of its objects.
+pub row-total : (p : Plan) (m : List ℕ) (b : Bool) (place : ℕ) (vs : List ℕ) (top : ℕ) → Row p m b place vs top → place + total p vs ≡ top
+row-total p m b place [] top row = omega (arith, row)
+row-total p m b place (v ∷ vs) top (c, row) = omega (arith, row-total p m b (place + size p v) vs top row)
+
+module _ (p : Plan) (y : Ready p) (g : Ground p) (m : List ℕ) (top : Bool → ℕ) (k : Marks) (i : Invariant p m top k) (done : (b : Bool) → scanned_at k b ≡ top b)
+    (roots : (j : ℕ) → j < length p.roots → Leaves p (get_or p.roots j 0) → moved m (get_or p.roots j 0) ≡ true) where
+  copied : (v : ℕ) → Reached p v → Leaves p v → moved m v ≡ true → IsMoved p m top v (forward m v)
+  copied v r l h =
+      let G : Gone p m top (scanned_at k) v (forward m v) = i.gone v r l h in
+      record {
+        tag = G.tag;
+        from = G.from;
+        below = G.below;
+        same = λ j q less below e. G.raw j q below e (inr less);
+        mapped = λ j q from below e. G.image j q from below e (omega (arith, G.below, done (p.mature (v / 4))));
+      }
+
+  -- What stays points to nothing that moves.
+  not-from-stay : (v j x : ℕ) → Reached p v → IsPointer v → (Leaves p v → ⊥) → first p v ≤ j → j < size p v → x ≡ get_or p.start (v / 4 + j) 0 → Leaves p x → ⊥
+  not-from-stay v j x r w n from below e l =
+      let s : p.stay (v / 4) ≡ true = elim (true-or-false (p.stay (v / 4))) [ inl t ↦ t | inr f ↦ absurd (n (record { pointer = w; leaves = f })) ] in
+      let P : ℕ → Type 0 = λ z. Leaves p z in
+      y.closed v j r w s from below (subst P e l)
+
+  not-from-stays : (v j x : ℕ) → Reached p v → IsPointer v → (Leaves p v → ⊥) → first_traced p.start v ≤ j → j < object_words p.start v → x ≡ get_or p.start (v / 4 + j) 0 → Leaves p x → ⊥
+  unfolding first size
+  not-from-stays v j x r w n from below e l = not-from-stay v j x r w n from below e l
+
+  by-copy : (v j x : ℕ) → Reached p v → Leaves p v → moved m v ≡ true → first p v ≤ j → j < size p v → x ≡ get_or p.start (v / 4 + j) 0 → Leaves p x → moved m x ≡ true
+  by-copy v j x r l h from below e lx =
+      let c : IsMoved p m top v (forward m v) = copied v r l h in
+      let P : ℕ → Type 0 = λ z. Leaves p z → moved m z ≡ true in
+      let there : Leaves p (get_or p.start (v / 4 + j) 0) → moved m (get_or p.start (v / 4 + j) 0) ≡ true = λ z. ((c.mapped j (forward m v / 4 + j) from below refl).gone z).0 in
+      subst P (sym e) there lx
+
+  by-copies : (v j x : ℕ) → Reached p v → Leaves p v → moved m v ≡ true → first_traced p.start v ≤ j → j < object_words p.start v → x ≡ get_or p.start (v / 4 + j) 0 → Leaves p x → moved m x ≡ true
+  unfolding first size
+  by-copies v j x r l h from below e lx = by-copy v j x r l h from below e lx
+
+  pub complete : (w : ℕ) → Reach p.start p.roots w → Leaves p w → moved m w ≡ true
+  complete w (root j x less e) l = let P : ℕ → Type 0 = λ z. Leaves p z → moved m z ≡ true in subst P (sym e) (roots j less) l
+  complete w (part v j x r t from below e) l = elim (leaves-or-not p v) [
+    | inl lv ↦ by-copies v j w r lv (complete v r lv) from below e l
+    | inr n ↦ absurd (not-from-stays v j w r t n from below e l)
+  ]
+
+  one-or-apart : (v w : ℕ) → Reached p v → Leaves p v → Reached p w → Leaves p w → (v ≡ w) ⊎ ((forward m v / 4 + size p v ≤ forward m w / 4) ⊎ (forward m w / 4 + size p w ≤ forward m v / 4))
+  one-or-apart v w r l s j =
+      let a : IsMoved p m top v (forward m v) = copied v r l (complete v r l) in
+      let b : IsMoved p m top w (forward m w) = copied w s j (complete w s j) in
+      elim (same-room (p.mature (v / 4)) (p.mature (w / 4))) [
+        | inl e ↦ i.apart v w r l (complete v r l) s j (complete w s j) e
+        | inr ne ↦ elim (g.rooms (p.mature (v / 4)) (p.mature (w / 4)) ne) [
+          | inl z ↦ inr (inl (omega (arith, z, a.below, b.from, i.ends (p.mature (v / 4)))))
+          | inr z ↦ inr (inr (omega (arith, z, b.below, a.from, i.ends (p.mature (w / 4)))))
+        ]
+      ]
+
+  is-filled : (b : Bool) → IsFilled p m b (top b)
+  is-filled b =
+      let o : IsRow p m b (p.low b) (top b) = i.whole b in
+      record {
+        each = o.each;
+        row = o.row;
+        all = λ v r l goes.
+            let c : IsMoved p m top v (forward m v) = copied v r l (complete v r l) in
+            let some : 0 < size p v = size-some p v l.pointer in
+            let P : Bool → Type 0 = λ z. p.low z ≤ forward m v / 4 in
+            let Q : Bool → Type 0 = λ z. forward m v / 4 + size p v ≤ top z in
+            let low : p.low b ≤ forward m v / 4 = subst P goes c.from in
+            let high : forward m v / 4 + size p v ≤ top b = subst Q goes c.below in
+            let at : Covers p m b o.each (forward m v / 4) = covers p m b (p.low b) o.each (top b) (forward m v / 4) o.row low (omega arith) in
+            let same : (v ≡ at.v) × (forward m v / 4 ≡ at.from + 0) = at-copy p m top k i b at.v at.from at.copy v 0 (forward m v / 4) r l (complete v r l) goes (omega arith) some at.above at.below in
+            let R : ℕ → Type 0 = λ z. In z o.each in
+            subst R (sym same.0) at.listed;
+      }
+
+  module _ (d : ℕ → ℕ → Bool) (f : Follows p m d) where
+    home-moved : (w x : ℕ) → Reached p w → Leaves p w → x ≡ forward m w → Home p m d w x
+    home-moved w x r l e =
+        let c : IsMoved p m top w (forward m w) = copied w r l (complete w r l) in
+        let P : ℕ → Type 0 = λ z. Home p m d w z in
+        subst P (sym e) (record {
+          tag = c.tag;
+          within = omega (arith, c.below, i.ends (p.mature (w / 4)), g.ends (p.mature (w / 4)), i.same_len);
+          same = c.same;
+          mapped = c.mapped;
+          roles = λ j q k less e. f.moves w j q k r l less e;
+        })
+
+    home-stays : (w x : ℕ) → Reached p w → IsPointer w → p.stay (w / 4) ≡ true → x ≡ w → Home p m d w x
+    home-stays w x r t s e =
+        let P : ℕ → Type 0 = λ z. Home p m d w z in
+        let n : Leaves p w → ⊥ = λ l. not-both (p.stay (w / 4)) s l.leaves in
+        let word : (j q : ℕ) → j < size p w → q ≡ w / 4 + j → get_or m q 0 ≡ get_or p.start (w / 4 + j) 0 = λ j q less z.
+        i.still w q r t s (record { from = omega (arith, z); below = omega (arith, z, less) }) ∙ ap (λ a. get_or p.start a 0) z in
+        subst P (sym e) (record {
+          tag = refl;
+          within = omega (arith, g.inside w r t, i.same_len);
+          same = λ j q less below z. word j q below z;
+          mapped = λ j q from below z. record { kept = λ u. word j q below z; gone = λ l. absurd (not-from-stay w j (get_or p.start (w / 4 + j) 0) r t n from below refl l) };
+          roles = λ j q k less z h. let Q : ℕ → Type 0 = λ a. p.test a k ≡ true in f.stays w q k r t s (record { from = omega (arith, z); below = omega (arith, z, less) }) (subst Q (sym z) h);
+        })
+
+    home : (w x : ℕ) → Reached p w → IsPointer w → IsImage p m w x → Home p m d w x
+    home w x r t im = elim (true-or-false (p.stay (w / 4))) [
+      | inl s ↦ home-stays w x r t s (im.kept (λ l. not-both (p.stay (w / 4)) s l.leaves))
+      | inr n ↦ (let l : Leaves p w = record { pointer = t; leaves = n } in home-moved w x r l (im.gone l).1)
+    ]
+
+    is-settled : Settled p m d
+    is-settled = record { home = home; longer = omega (arith, i.same_len); records = i.records; counts = f.counts; tests = f.records }
+
+    pub stands-on : (w x : ℕ) (t : Tree) → Reached p w → IsImage p m w x → Stands p.test p.shared p.start w t → Stands d p.shared m x t
+    stands-on w x t r im s = settled p m d is-settled w x t r im s
+
+  any-place : Follows p m always
+  any-place = record { moves = λ v j q k r l less e h. refl; stays = λ v q k r t s j h. refl; counts = λ a h. refl; records = λ a k big h. refl }
+
+  tops-low : (b : Bool) → p.low b ≤ top b
+  tops-low b = omega (arith, i.begins b, i.inner b, i.outer b)
+
+  words-copied : (top true - p.low true) + (top false - p.low false) ≤ flat_of_all p.trees
+  words-copied =
+      let a : IsRow p m true (p.low true) (top true) = i.whole true in
+      let b : IsRow p m false (p.low false) (top false) = i.whole false in
+      omega (
+        arith,
+        words-bounded p y m (p.low true) (top true) (p.low false) (top false) a.each b.each a.row b.row,
+        row-total p m true (p.low true) a.each (top true) a.row,
+        row-total p m false (p.low false) b.each (top false) b.row,
+      )
+
+  pub collected : Collected p m top
+  collected = record {
+    same_len = i.same_len;
+    complete = complete;
+    copies = λ v r l. copied v r l (complete v r l);
+    one_to_one = one-or-apart;
+    filled = is-filled;
+    words = words-copied;
+    trees = stands-on;
+    standing = stands-on always any-place;
+    still = i.still;
+    tails = i.tails;
+    records = i.records;
+    touched = i.touched;
+  }
+
+  -- The image of a reached word.
+  image-of : (v : ℕ) → Reached p v → (x : ℕ) × IsImage p m v x
+  image-of v r = elim (leaves-or-not p v) [
+    | inl l ↦ (forward m v, record { kept = λ n. absurd (n l); gone = λ z. (complete v r l, refl) })
+    | inr n ↦ (v, record { kept = λ z. refl; gone = λ l. absurd (n l) })
+  ]
+
+  one-image : (v x z : ℕ) → IsImage p m v x → IsImage p m v z → x ≡ z
+  one-image v x z a b = elim (leaves-or-not p v) [
+    | inl l ↦ (a.gone l).1 ∙ sym (b.gone l).1
+    | inr n ↦ a.kept n ∙ sym (b.kept n)
+  ]
+
+  -- The image of a pointer is a pointer, and so is the word of a pointer.
+  pointer-image : (v x : ℕ) → Reached p v → IsPointer v → IsImage p m v x → IsPointer x
+  pointer-image v x r t im = elim (leaves-or-not p v) [
+    | inl l ↦ (let c : IsMoved p m top v (forward m v) = copied v r l (complete v r l) in
+        elim t [ inl a ↦ inl (omega (arith, a, c.tag, (im.gone l).1)) | inr a ↦ inr (omega (arith, a, c.tag, (im.gone l).1)) ])
+    | inr n ↦ (let P : ℕ → Type 0 = λ z. IsPointer z in subst P (sym (im.kept n)) t)
+  ]
+
+  pointer-before : (v x : ℕ) → IsPointer x → IsImage p m v x → IsPointer v
+  pointer-before v x t im = elim (leaves-or-not p v) [
+    | inl l ↦ l.pointer
+    | inr n ↦ (let P : ℕ → Type 0 = λ z. IsPointer z in subst P (im.kept n) t)
+  ]
+
+  -- A boxed object's header is that of its copy.
+  header-image : (v x : ℕ) → Reached p v → v % 4 ≡ 2 → Home p m always v x → get_or m (x / 4) 0 ≡ get_or p.start (v / 4) 0
+  header-image v x r tag h =
+      let cut : (0 < first p v) ⊎ (first p v ≤ 0) = grind arith in
+      let there : get_or p.start (v / 4 + 0) 0 ≡ get_or p.start (v / 4) 0 = ap (λ z. get_or p.start z 0) (omega arith) in
+      let header : get_or p.start (v / 4) 0 % 4 ≡ 0 = g.header v r tag in
+      let low : get_or p.start (v / 4 + 0) 0 % 4 ≡ 0 = ap (λ z. z % 4) there ∙ header in
+      elim cut [
+        | inl z ↦ h.same 0 (x / 4) z (size-some p v (inr tag)) (omega arith) ∙ there
+        | inr z ↦ (h.mapped 0 (x / 4) z (size-some p v (inr tag)) (omega arith)).kept (λ l. omega (arith, low, l.pointer)) ∙ there
+      ]
+
+  shape-image : (v x : ℕ) → Reached p v → IsPointer v → IsImage p m v x → (object_words m x ≡ size p v) × (first_traced m x ≡ first p v)
+  shape-image v x r (inl tag) im =
+      let h : Home p m always v x = home always any-place v x r (inl tag) im in
+      let t : x % 4 ≡ 1 = h.tag ∙ tag in
+      let one : (x % 4 == 1) ≡ true = grind (arith, nat_tests) in
+      ((rw one (sym (size-cons p v tag))), (rw one (sym (first-cons p v tag))))
+  shape-image v x r (inr tag) im =
+      let h : Home p m always v x = home always any-place v x r (inr tag) im in
+      let t : x % 4 ≡ 2 = h.tag ∙ tag in
+      let one : (x % 4 == 1) ≡ false = grind (arith, nat_tests) in
+      let e : get_or m (x / 4) 0 ≡ get_or p.start (v / 4) 0 = header-image v x r tag h in
+      ((rw (one, e) (sym (size-boxed p v tag))), (rw (one, e) (sym (first-boxed p v tag))))
+
+  fresh : (ws : List ℕ) → AreImages p m ws → (x : ℕ) → Reach m ws x → (v : ℕ) × (Reached p v × IsImage p m v x)
+  fresh ws a x (root j z below e) =
+      let less : j < length p.roots = omega (arith, a.count) in
+      let P : ℕ → Type 0 = λ q. IsImage p m (get_or p.roots j 0) q in
+      (get_or p.roots j 0, (root j (get_or p.roots j 0) less refl, subst P (sym e) (a.each j less)))
+  fresh ws a x (part u j z r q from below e) =
+      let (v, (rv, iv)) = fresh ws a u r in
+      let t : IsPointer v = pointer-before v u q iv in
+      let h : Home p m always v u = home always any-place v u rv t iv in
+      let (size_is, first_is) = shape-image v u rv t iv in
+      let P : ℕ → Type 0 = λ s. IsImage p m (get_or p.start (v / 4 + j) 0) s in
+      (get_or p.start (v / 4 + j) 0, (reach-part p v j rv t (omega (arith, first_is)) (omega (arith, size_is)), subst P (sym e) (h.mapped j (u / 4 + j) (omega (arith, first_is)) (omega (arith, size_is)) refl)))
+
+  by-part : (ws : List ℕ) (u j v x y2 : ℕ) → Reached p u → IsPointer u → first p u ≤ j → j < size p u → v ≡ get_or p.start (u / 4 + j) 0 → IsImage p m v x → IsImage p m u y2 → Reach m ws y2 → Reach m ws x
+  by-part ws u j v x y2 r t from below e im iu ih =
+      let h : Home p m always u y2 = home always any-place u y2 r t iu in
+      let (size_is, first_is) = shape-image u y2 r t iu in
+      let P : ℕ → Type 0 = λ z. IsImage p m z (get_or m (y2 / 4 + j) 0) in
+      let there : IsImage p m v (get_or m (y2 / 4 + j) 0) = subst P (sym e) (h.mapped j (y2 / 4 + j) from below refl) in
+      part y2 j x ih (pointer-image u y2 r t iu) (omega (arith, first_is)) (omega (arith, size_is)) (one-image v x (get_or m (y2 / 4 + j) 0) im there)
+
+  by-parts : (ws : List ℕ) (u j v x y2 : ℕ) → Reached p u → IsPointer u → first_traced p.start u ≤ j → j < object_words p.start u → v ≡ get_or p.start (u / 4 + j) 0 → IsImage p m v x → IsImage p m u y2 → Reach m ws y2 → Reach m ws x
+  unfolding first size
+  by-parts ws u j v x y2 r t from below e im iu ih = by-part ws u j v x y2 r t from below e im iu ih
+
+  reaches : (ws : List ℕ) → AreImages p m ws → (v x : ℕ) → Reach p.start p.roots v → IsImage p m v x → Reach m ws x
+  reaches ws a v x (root j z below e) im =
+      let P : ℕ → Type 0 = λ q. IsImage p m q (get_or ws j 0) in
+      root j x (omega (arith, a.count)) (one-image v x (get_or ws j 0) im (subst P (sym e) (a.each j below)))
+  reaches ws a v x (part u j z r t from below e) im =
+      let (y2, iu) = image-of u r in
+      by-parts ws u j v x y2 r t from below e im iu (reaches ws a u y2 r iu)
+
+  pub composes : Composes p m
+  composes = record { fresh = fresh; reached = reaches }

@@ -1,0 +1,162 @@
+-- A room holds the objects that go there where it has as many words as the range that they lie in.
+use Rattle.std.proofs.Common.{◌≡◌, ℕ, zero, suc, ◌+◌, ◌-◌, ◌/◌, ◌<◌, ◌≤◌, ◌⊎◌, Bool, List, [], ◌∷◌, length, refl, sym, subst, arith, inl, inr}
+use Rattle.plain_term.specs.Measures.{flat_of_all}
+use Rattle.term_read.specs.Role.{IsSingle}
+use Rattle.term_read.specs.Stands.{AllStand}
+use Rattle.term_read.proofs.Apart.{objects-apart}
+use Rattle.term_read.proofs.Reached.{reached}
+use Rattle.cheney.specs.Plan.{Plan, Reached, Leaves, In, Fits, total, size}
+use Rattle.cheney.proofs.Basics.{same-room, one-or-not, leaves-or-not, size-some}
+use Rattle.cheney.proofs.Counts.{Distinct, Listed, listed}
+
+in-or-not : (v : ℕ) (us : List ℕ) → In v us ⊎ (In v us → ⊥)
+in-or-not v [] = inr (λ i. i)
+in-or-not v (u ∷ us) = elim (one-or-not v u) [
+  | inl e ↦ inl (inl e)
+  | inr n ↦ elim (in-or-not v us) [ inl i ↦ inl (inr i) | inr m ↦ inr (λ x. elim x [ inl e ↦ n e | inr i ↦ m i ]) ]
+]
+
+-- The object leaves, and goes to this room.
+Goes : Plan → Bool → ℕ → Type 0
+Goes p b v = Leaves p v × (p.mature (v / 4) ≡ b)
+
+goes-or-not : (p : Plan) (b : Bool) (v : ℕ) → Goes p b v ⊎ (Goes p b v → ⊥)
+unfolding Goes
+goes-or-not p b v = elim (leaves-or-not p v) [
+  | inr n ↦ inr (λ g. n g.0)
+  | inl l ↦ elim (same-room (p.mature (v / 4)) b) [ inl e ↦ inl (l, e) | inr n ↦ inr (λ g. n g.1) ]
+]
+
+-- The objects of a list that go to a room, each once.
+record Chosen (p : Plan) (b : Bool) (us : List ℕ) : Type 0 where
+  pub each : List ℕ
+  pub apart : Distinct each
+  pub all : (v : ℕ) → In v us → Goes p b v → In v each
+  pub only : (v : ℕ) → In v each → In v us × Goes p b v
+
+chosen : (p : Plan) (b : Bool) (us : List ℕ) → Chosen p b us
+unfolding Distinct
+chosen p b [] = record { each = []; apart = tt; all = λ v i g. i; only = λ v i. absurd i }
+chosen p b (u ∷ us) =
+    let o : Chosen p b us = chosen p b us in
+    let keep : (In u o.each) ⊎ (Goes p b u → ⊥) → Chosen p b (u ∷ us) = λ why. record {
+      each = o.each;
+      apart = o.apart;
+      all = λ v i g. elim i [
+        | inr j ↦ o.all v j g
+        | inl e ↦ elim why [
+          | inl there ↦ (let P : ℕ → Type 0 = λ z. In z o.each in subst P (sym e) there)
+          | inr n ↦ absurd (let P : ℕ → Type 0 = λ z. Goes p b z in n (subst P e g))
+        ]
+      ];
+      only = λ v i. (inr (o.only v i).0, (o.only v i).1);
+    } in
+    elim (in-or-not u o.each) [
+      | inl there ↦ keep (inl there)
+      | inr fresh ↦ elim (goes-or-not p b u) [
+        | inr n ↦ keep (inr n)
+        | inl g ↦ record {
+          each = u ∷ o.each;
+          apart = (fresh, o.apart);
+          all = λ v i h. elim i [ inl e ↦ inl e | inr j ↦ inr (o.all v j h) ];
+          only = λ v i. elim i [ inl e ↦ (inl e, (let P : ℕ → Type 0 = λ z. Goes p b z in subst P (sym e) g)) | inr j ↦ (inr (o.only v j).0, (o.only v j).1) ];
+        }
+      ]
+    ]
+
+-- Any two objects of the list are one or apart.
+Spread : Plan → List ℕ → Type 0
+Spread p vs = (v w : ℕ) → In v vs → In w vs → (v ≡ w) ⊎ ((v / 4 + size p v ≤ w / 4) ⊎ (w / 4 + size p w ≤ v / 4))
+
+-- The objects of the list lie in a range.
+Within : Plan → ℕ → ℕ → List ℕ → Type 0
+Within p from to vs = (v : ℕ) → In v vs → (from ≤ v / 4) × ((v / 4 + size p v ≤ to) × (0 < size p v))
+
+-- A list in two parts: what lies below an object, and what lies above it.
+record Parted (p : Plan) (v : ℕ) (vs : List ℕ) : Type 0 where
+  pub low : List ℕ
+  pub high : List ℕ
+  pub low_in : (u : ℕ) → In u low → In u vs × (u / 4 + size p u ≤ v / 4)
+  pub high_in : (u : ℕ) → In u high → In u vs × (v / 4 + size p v ≤ u / 4)
+  pub low_apart : Distinct low
+  pub high_apart : Distinct high
+  pub count : (length low ≤ length vs) × (length high ≤ length vs)
+  pub words : total p vs ≡ total p low + total p high
+
+parted : (p : Plan) (v : ℕ) (vs : List ℕ) → Distinct vs → ((u : ℕ) → In u vs → (u / 4 + size p u ≤ v / 4) ⊎ (v / 4 + size p v ≤ u / 4)) → Parted p v vs
+unfolding Distinct
+parted p v [] d each = record { low = []; high = []; low_in = λ u i. absurd i; high_in = λ u i. absurd i; low_apart = tt; high_apart = tt; count = (omega arith, omega arith); words = refl }
+parted p v (u ∷ us) (n, d) each =
+    let o : Parted p v us = parted p v us d (λ x i. each x (inr i)) in
+    elim (each u (inl refl)) [
+      | inl below ↦ record {
+        low = u ∷ o.low;
+        high = o.high;
+        low_in = λ x i. elim i [ inl e ↦ (inl e, (let P : ℕ → Type 0 = λ z. z / 4 + size p z ≤ v / 4 in subst P (sym e) below)) | inr j ↦ (inr (o.low_in x j).0, (o.low_in x j).1) ];
+        high_in = λ x i. (inr (o.high_in x i).0, (o.high_in x i).1);
+        low_apart = ((λ i. n (o.low_in u i).0), o.low_apart);
+        high_apart = o.high_apart;
+        count = (omega (arith, o.count), omega (arith, o.count));
+        words = omega (arith, o.words);
+      }
+      | inr above ↦ record {
+        low = o.low;
+        high = u ∷ o.high;
+        low_in = λ x i. (inr (o.low_in x i).0, (o.low_in x i).1);
+        high_in = λ x i. elim i [ inl e ↦ (inl e, (let P : ℕ → Type 0 = λ z. v / 4 + size p v ≤ z / 4 in subst P (sym e) above)) | inr j ↦ (inr (o.high_in x j).0, (o.high_in x j).1) ];
+        low_apart = o.low_apart;
+        high_apart = ((λ i. n (o.high_in u i).0), o.high_apart);
+        count = (omega (arith, o.count), omega (arith, o.count));
+        words = omega (arith, o.words);
+      }
+    ]
+
+-- Objects that are apart have no more words than the range that they lie in.
+packed : (n : ℕ) (p : Plan) (from to : ℕ) (vs : List ℕ) → length vs ≤ n → from ≤ to → Distinct vs → Spread p vs → Within p from to vs → from + total p vs ≤ to
+unfolding Distinct Spread Within
+packed n p from to [] le order d s w = omega arith
+packed zero p from to (v ∷ vs) le order d s w = absurd (omega arith)
+packed (suc n) p from to (v ∷ vs) le order (f, d) s w =
+    let o : Parted p v vs = parted p v vs d (λ u i. elim (s u v (inr i) (inl refl)) [
+      | inl e ↦ absurd (let P : ℕ → Type 0 = λ z. In z vs in f (subst P e i))
+      | inr a ↦ a
+    ]) in
+    let here : (from ≤ v / 4) × ((v / 4 + size p v ≤ to) × (0 < size p v)) = w v (inl refl) in
+    let low : from + total p o.low ≤ v / 4 = packed n p from (v / 4) o.low (omega (arith, o.count, le)) (omega (arith, here)) o.low_apart (λ a b i j. s a b (inr (o.low_in a i).0) (inr (o.low_in b j).0))
+    (λ u i. ((w u (inr (o.low_in u i).0)).0, ((o.low_in u i).1, (w u (inr (o.low_in u i).0)).1.1))) in
+    let high : v / 4 + size p v + total p o.high ≤ to = packed n p (v / 4 + size p v) to o.high (omega (arith, o.count, le)) (omega (arith, here)) o.high_apart (λ a b i j. s a b (inr (o.high_in a i).0) (inr (o.high_in b j).0))
+    (λ u i. ((o.high_in u i).1, ((w u (inr (o.high_in u i).0)).1.0, (w u (inr (o.high_in u i).0)).1.1))) in
+    omega (arith, low, high, o.words)
+
+module _ (p : Plan) (b : Bool) (from to : ℕ) (standing : AllStand p.test p.shared p.start p.roots p.trees) (single : IsSingle p.test) (order : from ≤ to)
+    (lies : (v : ℕ) → Reached p v → Leaves p v → p.mature (v / 4) ≡ b → (from ≤ v / 4) × (v / 4 + size p v ≤ to)) where
+  all-words : Listed p.start p.roots
+  all-words = listed p.start (flat_of_all p.trees + length p.roots) p.test p.shared p.roots p.trees standing (omega arith)
+
+  reached-one : (l : Listed p.start p.roots) (o : Chosen p b l.each) (v : ℕ) → In v o.each → Reached p v × (Leaves p v × (p.mature (v / 4) ≡ b))
+  unfolding Goes
+  reached-one l o v i = (l.only v (o.only v i).0, (o.only v i).1)
+
+  spread : (l : Listed p.start p.roots) (o : Chosen p b l.each) → Spread p o.each
+  unfolding Spread size
+  spread l o v w i j =
+      let (r, (x, e)) = reached-one l o v i in
+      let (s, (z, f)) = reached-one l o w j in
+      let (t, a) = reached p.test p.shared p.start p.roots p.trees standing v r in
+      let (u, c) = reached p.test p.shared p.start p.roots p.trees standing w s in
+      objects-apart p.test p.shared p.start v w t u single a c x.pointer z.pointer
+
+  in-range : (l : Listed p.start p.roots) (o : Chosen p b l.each) → Within p from to o.each
+  unfolding Within
+  in-range l o v i = let (r, (x, e)) = reached-one l o v i in ((lies v r x e).0, ((lies v r x e).1, size-some p v x.pointer))
+
+  fits-by : (l : Listed p.start p.roots) (o : Chosen p b l.each) → p.low b + (to - from) ≤ p.high b → Fits p b
+  unfolding Goes
+  fits-by l o room = record {
+    each = o.each;
+    all = λ w r x goes. o.all w (l.all w r) (x, goes);
+    words = omega (arith, room, packed (length o.each) p from to o.each (omega arith) order o.apart (spread l o) (in-range l o));
+  }
+
+  pub fits-by-range : p.low b + (to - from) ≤ p.high b → Fits p b
+  fits-by-range room = fits-by all-words (chosen p b all-words.each) room

@@ -1,0 +1,15 @@
+pub mod Basics
+pub mod Ground
+pub mod Facts
+pub mod Moves
+pub mod Writing
+pub mod Copying
+pub mod Steps
+pub mod Spans
+pub mod Homes
+pub mod Ends
+pub mod Counts
+pub mod Begins
+pub mod Roots
+pub mod Sample
+pub mod Fitting

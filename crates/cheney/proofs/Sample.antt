@@ -1,0 +1,373 @@
+-- A memory laid out by hand, with an object of each kind: a collection can begin there.
+use Rattle.std.proofs.Common.{◌≡◌, ℕ, zero, suc, ◌+◌, ◌-◌, ◌*◌, ◌/◌, ◌%◌, ◌<◌, ◌≤◌, ◌⊎◌, Bool, true, false, List, [], ◌∷◌, length, get_or, refl, sym, ◌∙◌, ap, subst, arith, inl, inr, pos, lit≤, lit<, ◌==◌, ◌&&◌, ◌||◌, if◌then◌else◌}
+use Rattle.std.proofs.lemmas.Bool.{eqb-true}
+use Rattle.std.proofs.lemmas.List.{get_or_past}
+use Rattle.std.proofs.lemmas.Bool.Decides.{nat_tests}
+use Rattle.std.specs.Prelude.{Result, Ok, IfOk}
+use Rattle.plain_term.specs.Measures.{bin_words}
+use Rattle.plain_term.specs.Tree.{Trees}
+use Rattle.plain_term.specs.Tree.Tree.{Int, Atom, Ref, Nil, Cons, Tuple, Map, Bin, Shared, Part, Fun}
+use Rattle.plain_term.specs.Tree.Trees.{end, ◌▹◌}
+use Rattle.plain_term.specs.Tree.Pairs.{stop, pair}
+use Rattle.term_read.specs.Role.{roles_of}
+use Rattle.term_read.specs.Object.{byte_of, BytesLie, IsObject, IsPointer, object_words}
+use Rattle.term_read.specs.Reach.{Reach, root, part, first_traced}
+use Rattle.term_read.specs.Stands.{Stands, RowStands, KeysStand, ValuesStand, AllStand}
+use Rattle.term_read.proofs.Rooms.{role-at}
+use Rattle.word_mem.specs.declared.ranges.Span.{Span}
+use Rattle.cheney.specs.declared.stay.Stay.{Stay}
+use Rattle.cheney.specs.Spans.{in_span, in_spans}
+use Rattle.cheney.specs.Ranges.{stays}
+use Rattle.cheney.specs.Plan.{Plan, Ready, Reached, Leaves, In, Fits, size, first}
+use Rattle.cheney.specs.Collected.{CanCollect}
+
+abbrev pub sample : List ℕ
+sample = 0 ∷ 31 ∷ 59 ∷ 128 ∷ 331 ∷ 5 ∷ 164 ∷ 3 ∷ 591879 ∷ 86 ∷ 1 ∷ 1 ∷ 2 ∷ 513 ∷ 352 ∷ 2 ∷ 0 ∷ 9 ∷ 0 ∷ 0 ∷ 296 ∷ 1 ∷ 1 ∷ 0 ∷ 58 ∷ 71 ∷ 770 ∷ 1 ∷ 0 ∷ 404 ∷ 25 ∷ 0 ∷ 2 ∷ 1 ∷ 19 ∷ 79 ∷ 64 ∷ 75 ∷ 252 ∷ 1 ∷ 146 ∷ 159
+    ∷ 144 ∷ 1 ∷ 7 ∷ 72 ∷ 9223372036854775808 ∷ 0 ∷ 136 ∷ 0 ∷ 1 ∷ 0 ∷ 0 ∷ 0 ∷ 0 ∷ 0 ∷ 0 ∷ 0 ∷ 0 ∷ 0 ∷ 0 ∷ 0 ∷ 0 ∷ 0 ∷ 0 ∷ 0 ∷ 0 ∷ 0 ∷ 0 ∷ 0 ∷ 0 ∷ 0 ∷ 0 ∷ 0 ∷ 0 ∷ 0 ∷ 0 ∷ 0 ∷ 0 ∷ 0 ∷ 0 ∷ 0 ∷ 0 ∷ 0 ∷ 0 ∷ 0 ∷ 0 ∷ 0 ∷ 0 ∷ 0 ∷ 0 ∷ []
+
+abbrev pub roots : List ℕ
+roots = 5 ∷ 14 ∷ 26 ∷ 58 ∷ 82 ∷ 118 ∷ 154 ∷ 170 ∷ 182 ∷ 190 ∷ 194 ∷ 5 ∷ 79 ∷ []
+
+abbrev lists : List (List ℕ)
+lists = (1 ∷ 2 ∷ []) ∷ []
+
+-- The role of each place.
+abbrev roles : List ℕ
+roles = 0 ∷ 3 ∷ 4 ∷ 3 ∷ 4 ∷ 4 ∷ 3 ∷ 4 ∷ 4 ∷ 8 ∷ 6 ∷ 2 ∷ 6 ∷ 6 ∷ 3 ∷ 4 ∷ 1 ∷ 5 ∷ 4 ∷ 4 ∷ 3 ∷ 4 ∷ 4 ∷ 4 ∷ 4 ∷ 8 ∷ 6 ∷ 2 ∷ 6 ∷ 3 ∷ 5 ∷ 1 ∷ 4 ∷ 4 ∷ 4 ∷ 4 ∷ 3 ∷ 4 ∷ 3 ∷ 4 ∷ 4 ∷ 4 ∷ 3 ∷ 4 ∷ 4 ∷ 3 ∷ 4 ∷ 3 ∷ 3 ∷ 4 ∷ 4 ∷ []
+
+abbrev role : ℕ → ℕ
+role a = get_or roles a 0
+
+abbrev test : ℕ → ℕ → Bool
+test = roles_of role
+
+abbrev kept : Span
+kept = record { start = 42; end = 45 }
+
+abbrev old : Span
+old = record { start = 1; end = 9 }
+
+abbrev low : Bool → ℕ
+low true = 51
+low false = 60
+
+abbrev high : Bool → ℕ
+high true = 60
+high false = 91
+
+abbrev the-trees : Trees
+the-trees = Cons (Int (pos 1)) Nil ▹ Tuple (Atom 5 ▹ Cons (Int (pos 1)) Nil ▹ end) ▹ Bin (7 ∷ 8 ∷ 9 ∷ []) ▹ Shared 1 ▹ Part (Shared 1) 1 1 ▹ Fun 3 2 1 (Int (pos 4) ▹ end) ▹ Map (pair (Atom 1) (Int (pos 9)) stop)
+    ▹ Ref 1 7 ▹ Int (pos 9223372036854775808) ▹ Tuple end ▹ Int (pos 18446744073709551616) ▹ Cons (Int (pos 1)) Nil ▹ Int (pos 4) ▹ end
+
+abbrev pub plan : Plan
+plan = record { start = sample; roots = roots; shared = lists; trees = the-trees; test = test; stay = in_span kept; mature = in_span old; low = low; high = high }
+
+both : (a b : Bool) → (a && b) ≡ true → (a ≡ true) × (b ≡ true)
+both true b h = (refl, h)
+both false b h = absurd (cc)
+
+either : (a b : Bool) → (a || b) ≡ true → (a ≡ true) ⊎ (b ≡ true)
+either true b h = inl refl
+either false b h = inr h
+
+-- Places of one role are found by testing each.
+run : ℕ → ℕ → ℕ → Bool
+run k s zero = true
+run k s (suc n) = roles_of role s k && run k (s + 1) n
+
+run-at : (k s n : ℕ) → run k s n ≡ true → (q : ℕ) → s ≤ q → q < s + n → roles_of role q k ≡ true
+unfolding run
+run-at k s zero h q from below = absurd (omega arith)
+run-at k s (suc n) h q from below =
+    let (this, rest) = both (roles_of role s k) (run k (s + 1) n) h in
+    let order : (q ≡ s) ⊎ (s + 1 ≤ q) = grind arith in
+    elim order [
+      | inl same ↦ (let P : ℕ → Type 0 = λ x. roles_of role x k ≡ true in subst P (sym same) this)
+      | inr more ↦ run-at k (s + 1) n rest q more (omega arith)
+    ]
+
+object : (p n : ℕ) → p + (n + 1) ≤ length sample → roles_of role p 3 ≡ true → run 4 (p + 1) n ≡ true → IsObject (roles_of role) sample p (n + 1)
+object p n inside head tail = record { within = inside; first = head; others = λ q above below. run-at 4 (p + 1) n tail q (omega arith) (omega arith) }
+
+-- Bytes that lie are found by testing each.
+lie : List ℕ → ℕ → List ℕ → ℕ → Bool
+lie mem q bytes zero = true
+lie mem q bytes (suc k) = (byte_of (get_or mem (q + k / 8) 0) (k % 8) == get_or bytes k 0) && lie mem q bytes k
+
+order : (i k : ℕ) → i < suc k → (i ≡ k) ⊎ (i < k)
+order i k below = grind arith
+
+lies-below : (mem : List ℕ) (q : ℕ) (bytes : List ℕ) (n : ℕ) → lie mem q bytes n ≡ true → (i : ℕ) → i < n → byte_of (get_or mem (q + i / 8) 0) (i % 8) ≡ get_or bytes i 0
+unfolding lie
+lies-below mem q bytes zero h i below = absurd (omega arith)
+lies-below mem q bytes (suc k) h i below =
+    let (this, rest) = both (byte_of (get_or mem (q + k / 8) 0) (k % 8) == get_or bytes k 0) (lie mem q bytes k) h in
+    elim (order i k below) [
+      | inl same ↦ (let P : ℕ → Type 0 = λ x. byte_of (get_or mem (q + x / 8) 0) (x % 8) ≡ get_or bytes x 0 in subst P (sym same) (eqb-true _ _ this))
+      | inr less ↦ lies-below mem q bytes k rest i less
+    ]
+
+lies : (q : ℕ) (bytes : List ℕ) → lie sample q bytes (bin_words (length bytes) * 8) ≡ true → BytesLie sample q bytes
+lies q bytes h = record {
+  each = λ i a below place.
+      let P : ℕ → Type 0 = λ x. byte_of (get_or sample x 0) (i % 8) ≡ get_or bytes i 0 in
+      subst P (sym place) (lies-below sample q bytes (bin_words (length bytes) * 8) h i below);
+}
+
+the-list : Stands (roles_of role) lists sample 5 (Cons (Int (pos 1)) Nil)
+unfolding Stands roles_of run
+the-list = (record { tag = refl; object = object 1 1 (lit≤ tt) refl refl }, inl (record { small = refl; word = refl }), refl)
+
+the-tuple : Stands (roles_of role) lists sample 14 (Tuple (Atom 5 ▹ Cons (Int (pos 1)) Nil ▹ end))
+unfolding Stands RowStands roles_of run
+the-tuple = (record { range = lit≤ tt; boxed = record { tag = refl; header = refl; object = object 3 2 (lit≤ tt) refl refl } }, (record { range = lit< tt; word = refl }, (the-list, tt)))
+
+the-empty : Stands (roles_of role) lists sample 190 (Tuple end)
+unfolding Stands RowStands roles_of run
+the-empty = (record { range = lit≤ tt; boxed = record { tag = refl; header = refl; object = object 47 0 (lit≤ tt) refl refl } }, tt)
+
+the-bytes : Stands (roles_of role) lists sample 26 (Bin (7 ∷ 8 ∷ 9 ∷ []))
+unfolding Stands lie roles_of run
+the-bytes = record { range = lit≤ tt; boxed = record { tag = refl; header = refl; object = object 6 2 (lit≤ tt) refl refl }; size = refl; content = lies 8 (7 ∷ 8 ∷ 9 ∷ []) refl }
+
+the-shared : Stands (roles_of role) lists sample 58 (Shared 1)
+unfolding Stands lie roles_of run
+the-shared = record {
+  from_one = lit< tt;
+  known = lit≤ tt;
+  holder = record { tag = refl; within = lit≤ tt; header = refl; size = refl; bytes_word = refl; flags_word = refl; first = refl; second = refl; next = refl; names = refl; fifth = refl; sixth = refl };
+  record_is = record { within = lit≤ tt; header = refl; owner = refl; size = refl; content = lies 13 (1 ∷ 2 ∷ []) refl; first = refl; second = refl; counted = refl; others = λ q from below. run-at 6 12 2 refl q from below };
+}
+
+the-part : Stands (roles_of role) lists sample 82 (Part (Shared 1) 1 1)
+unfolding Stands roles_of run
+the-part = (record { boxed = record { tag = refl; header = refl; object = object 20 4 (lit≤ tt) refl refl }; size = refl; start = refl; bits = refl; inside = lit≤ tt }, tt, the-shared)
+
+the-fun : Stands (roles_of role) lists sample 118 (Fun 3 2 1 (Int (pos 4) ▹ end))
+unfolding Stands RowStands roles_of run
+the-fun = (
+  record {
+    range = lit≤ tt;
+    creator_range = lit< tt;
+    tag = refl;
+    within = lit≤ tt;
+    header = refl;
+    arity_word = refl;
+    size = refl;
+    creator_word = refl;
+    record_is = record { named = lit< tt; arity_range = lit≤ tt; within = lit≤ tt; header = refl; owner = refl; zero_word = refl; first = refl; second = refl; counted = refl; fourth = refl };
+    first = refl;
+    names = refl;
+    next = refl;
+    others = λ q above below. run-at 4 32 4 refl q (omega arith) below;
+  },
+  (inl (record { small = refl; word = refl }), tt),
+)
+
+the-map : Stands (roles_of role) lists sample 154 (Map (pair (Atom 1) (Int (pos 9)) stop))
+unfolding Stands KeysStand ValuesStand roles_of run
+the-map = (
+  record {
+    range = lit≤ tt;
+    boxed = record { tag = refl; header = refl; object = object 38 3 (lit≤ tt) refl refl };
+    count = refl;
+    keys = record { range = lit≤ tt; boxed = record { tag = refl; header = refl; object = object 36 1 (lit≤ tt) refl refl } };
+  },
+  (record { range = lit< tt; word = refl }, tt),
+  (inl (record { small = refl; word = refl }), tt),
+)
+
+the-reference : Stands (roles_of role) lists sample 170 (Ref 1 7)
+unfolding Stands roles_of run
+the-reference = record { boxed = record { tag = refl; header = refl; object = object 42 2 (lit≤ tt) refl refl }; number = refl; count = refl }
+
+the-big : Stands (roles_of role) lists sample 182 (Int (pos 9223372036854775808))
+unfolding Stands roles_of run
+the-big = inr (inl (record { big = refl; boxed = record { tag = refl; header = refl; object = object 45 1 (lit≤ tt) refl refl }; digit = refl; range = lit< tt }))
+
+the-wide : Stands (roles_of role) lists sample 194 (Int (pos 18446744073709551616))
+unfolding Stands roles_of run
+the-wide = inr (inr (record { boxed = record { tag = refl; header = refl; object = object 48 2 (lit≤ tt) refl refl }; low = lit< tt; high = lit< tt; digits = refl; range = lit< tt }))
+
+the-small : Stands (roles_of role) lists sample 79 (Int (pos 4))
+unfolding Stands
+the-small = inl (record { small = refl; word = refl })
+
+all-stand : AllStand (roles_of role) lists sample roots the-trees
+unfolding AllStand
+all-stand = (the-list, (the-tuple, (the-bytes, (the-shared, (the-part, (the-fun, (the-map, (the-reference, (the-big, (the-empty, (the-wide, (the-list, (the-small, tt)))))))))))))
+
+-- What the roots reach is found by testing the parts of each word.
+
+has : List ℕ → ℕ → Bool
+has [] v = false
+has (u ∷ us) v = (u == v) || has us v
+
+row-in : List ℕ → ℕ → ℕ → Bool
+row-in us p zero = true
+row-in us p (suc n) = has us (get_or sample p 0) && row-in us (p + 1) n
+
+parts-in : List ℕ → List ℕ → Bool
+parts-in us [] = true
+parts-in us (v ∷ vs) = (if (v % 4 == 1) || (v % 4 == 2) then row-in us (v / 4 + first_traced sample v) (object_words sample v - first_traced sample v) else true) && parts-in us vs
+
+all-in : List ℕ → List ℕ → Bool
+all-in us [] = true
+all-in us (v ∷ vs) = has us v && all-in us vs
+
+abbrev known : List ℕ
+known = 5 ∷ 14 ∷ 26 ∷ 58 ∷ 82 ∷ 118 ∷ 154 ∷ 170 ∷ 182 ∷ 190 ∷ 194 ∷ 79 ∷ 31 ∷ 59 ∷ 331 ∷ 146 ∷ 159 ∷ 75 ∷ []
+
+row-has : (us : List ℕ) (p n q : ℕ) → row-in us p n ≡ true → p ≤ q → q < p + n → has us (get_or sample q 0) ≡ true
+unfolding row-in
+row-has us p zero q h from below = absurd (omega arith)
+row-has us p (suc n) q h from below =
+    let (this, rest) = both (has us (get_or sample p 0)) (row-in us (p + 1) n) h in
+    let order2 : (q ≡ p) ⊎ (p + 1 ≤ q) = grind arith in
+    elim order2 [
+      | inl same ↦ (let P : ℕ → Type 0 = λ x. has us (get_or sample x 0) ≡ true in subst P (sym same) this)
+      | inr more ↦ row-has us (p + 1) n q rest more (omega arith)
+    ]
+
+parts-has : (us vs : List ℕ) (v k : ℕ) → parts-in us vs ≡ true → has vs v ≡ true → IsPointer v → first_traced sample v ≤ k → k < object_words sample v → has us (get_or sample (v / 4 + k) 0) ≡ true
+unfolding parts-in has
+parts-has us [] v k h i t from below = absurd (cc)
+parts-has us (u ∷ vs) v k h i t from below =
+    let (this, rest) = both (if (u % 4 == 1) || (u % 4 == 2) then row-in us (u / 4 + first_traced sample u) (object_words sample u - first_traced sample u) else true) (parts-in us vs) h in
+    elim (either (u == v) (has vs v) i) [
+      | inr more ↦ parts-has us vs v k rest more t from below
+      | inl same ↦ (let e : u ≡ v = eqb-true _ _ same in
+          let P : ℕ → Type 0 = λ x. (if (x % 4 == 1) || (x % 4 == 2) then row-in us (x / 4 + first_traced sample x) (object_words sample x - first_traced sample x) else true) ≡ true in
+          let here : (if (v % 4 == 1) || (v % 4 == 2) then row-in us (v / 4 + first_traced sample v) (object_words sample v - first_traced sample v) else true) ≡ true = subst P e this in
+          let pointer : ((v % 4 == 1) || (v % 4 == 2)) ≡ true = grind (arith, nat_tests, t) in
+          let Q : Bool → Type 0 = λ b. (if b then row-in us (v / 4 + first_traced sample v) (object_words sample v - first_traced sample v) else true) ≡ true in
+          row-has us (v / 4 + first_traced sample v) (object_words sample v - first_traced sample v) (v / 4 + k) (subst Q pointer here) (omega arith) (omega arith))
+    ]
+
+all-has : (us vs : List ℕ) (j : ℕ) → all-in us vs ≡ true → j < length vs → has us (get_or vs j 0) ≡ true
+unfolding all-in
+all-has us [] j h below = absurd (omega arith)
+all-has us (v ∷ vs) zero h below = (both (has us v) (all-in us vs) h).0
+all-has us (v ∷ vs) (suc j) h below = all-has us vs j (both (has us v) (all-in us vs) h).1 (omega arith)
+
+found : (v : ℕ) → Reach sample roots v → has known v ≡ true
+unfolding parts-in has row-in all-in
+found v (root j w below e) = let P : ℕ → Type 0 = λ x. has known x ≡ true in subst P (sym e) (all-has known roots j refl below)
+found v (part u k w r t from below e) = let P : ℕ → Type 0 = λ x. has known x ≡ true in subst P (sym e) (parts-has known known u k refl (found u r) t from below)
+
+-- No word past the objects has a role.
+
+role-none : (a k : ℕ) → role a ≡ 0 → roles_of role a k ≡ true → ⊥
+unfolding roles_of
+role-none a k none h = grind (arith, nat_tests)
+
+clear-of : (a k : ℕ) (b : Bool) → roles_of role a k ≡ true → (a < low b) ⊎ (high b ≤ a)
+clear-of a k b h =
+    let order3 : (a < 51) ⊎ (51 ≤ a) = grind arith in
+    elim order3 [
+      | inl near ↦ inl (elim b as (λ c. a < low c) [ true ↦ near | false ↦ omega arith ])
+      | inr far ↦ absurd (role-none a k (get_or_past roles a 0 far) h)
+    ]
+
+-- A test that holds of each listed word holds of each word that the roots reach.
+every : (ℕ → Bool) → List ℕ → Bool
+every f [] = true
+every f (v ∷ vs) = f v && every f vs
+
+every-has : (f : ℕ → Bool) (vs : List ℕ) (v : ℕ) → every f vs ≡ true → has vs v ≡ true → f v ≡ true
+unfolding every has
+every-has f [] v h i = absurd (cc)
+every-has f (u ∷ vs) v h i =
+    let (this, rest) = both (f u) (every f vs) h in
+    elim (either (u == v) (has vs v) i) [
+      | inl same ↦ (let P : ℕ → Type 0 = λ x. f x ≡ true in subst P (eqb-true _ _ same) this)
+      | inr more ↦ every-has f vs v rest more
+    ]
+
+has-in : (vs : List ℕ) (v : ℕ) → has vs v ≡ true → In v vs
+unfolding has
+has-in [] v h = absurd (cc)
+has-in (u ∷ vs) v h = elim (either (u == v) (has vs v) h) [ inl same ↦ inl (sym (eqb-true _ _ same)) | inr more ↦ inr (has-in vs v more) ]
+
+-- What stays has no traced word.
+still-test : ℕ → Bool
+still-test v = if in_span kept (v / 4) then object_words sample v == first_traced sample v else true
+
+closed-here : (v k : ℕ) → Reach sample roots v → in_span kept (v / 4) ≡ true → first_traced sample v ≤ k → k < object_words sample v → ⊥
+unfolding every has still-test
+closed-here v k r stay from below =
+    let all : still-test v ≡ true = every-has still-test known v refl (found v r) in
+    let P : Bool → Type 0 = λ b. (if b then object_words sample v == first_traced sample v else true) ≡ true in
+    let same : (object_words sample v == first_traced sample v) ≡ true = subst P stay all in
+    let e : object_words sample v ≡ first_traced sample v = eqb-true _ _ same in
+    omega (arith, e, from, below)
+
+closed-there : (v k : ℕ) → Reached plan v → IsPointer v → plan.stay (v / 4) ≡ true → first plan v ≤ k → k < size plan v → Leaves plan (get_or sample (v / 4 + k) 0) → ⊥
+unfolding first size
+closed-there v k r t stay from below l = closed-here v k r stay from below
+
+-- Each object that moves is in the list of its room.
+same_bool : Bool → Bool → Bool
+same_bool true b = b
+same_bool false true = false
+same_bool false false = true
+
+same-bool : (a b : Bool) → a ≡ b → same_bool a b ≡ true
+unfolding same_bool
+same-bool true b e = sym e
+same-bool false false e = refl
+same-bool false true e = absurd (cc)
+
+room-test : Bool → List ℕ → ℕ → Bool
+room-test b us v = if (v % 4 == 1) || (v % 4 == 2) then (if in_span kept (v / 4) then true else (if same_bool (in_span old (v / 4)) b then has us v else true)) else true
+
+room-has : (b : Bool) (us : List ℕ) (v : ℕ) → room-test b us v ≡ true → IsPointer v → in_span kept (v / 4) ≡ false → in_span old (v / 4) ≡ b → has us v ≡ true
+unfolding room-test
+room-has b us v h t leaves goes =
+    let pointer : ((v % 4 == 1) || (v % 4 == 2)) ≡ true = grind (arith, nat_tests, t) in
+    let same : same_bool (in_span old (v / 4)) b ≡ true = same-bool (in_span old (v / 4)) b goes in
+    let P : Bool → Type 0 = λ x. (if x then (if in_span kept (v / 4) then true else (if same_bool (in_span old (v / 4)) b then has us v else true)) else true) ≡ true in
+    let Q : Bool → Type 0 = λ x. (if x then true else (if same_bool (in_span old (v / 4)) b then has us v else true)) ≡ true in
+    let R : Bool → Type 0 = λ x. (if x then has us v else true) ≡ true in
+    subst R same (subst Q leaves (subst P pointer h))
+
+abbrev to-aged : List ℕ
+to-aged = 5 ∷ 14 ∷ 26 ∷ []
+
+abbrev to-young : List ℕ
+to-young = 58 ∷ 82 ∷ 118 ∷ 154 ∷ 182 ∷ 190 ∷ 194 ∷ 146 ∷ []
+
+fits-there : (b : Bool) → Fits plan b
+unfolding every has room-test size same_bool
+fits-there true = record { each = to-aged; all = λ w r l goes. has-in to-aged w (room-has true to-aged w (every-has (room-test true to-aged) known w refl (found w r)) l.pointer l.leaves goes); words = lit≤ tt }
+fits-there false = record { each = to-young; all = λ w r l goes. has-in to-young w (room-has false to-young w (every-has (room-test false to-young) known w refl (found w r)) l.pointer l.leaves goes); words = lit≤ tt }
+
+ready : Ready plan
+ready = record {
+  standing = all-stand;
+  single = record { one = λ a j k h i. sym (role-at role a j h) ∙ role-at role a k i };
+  clear = clear-of;
+  closed = closed-there;
+  rooms = inl (lit≤ tt);
+  order = λ b. elim b as (λ c. low c ≤ high c) [ true ↦ lit≤ tt | false ↦ lit≤ tt ];
+  inside = λ b. elim b as (λ c. high c ≤ length sample) [ true ↦ lit≤ tt | false ↦ lit≤ tt ];
+  fits = fits-there;
+}
+
+-- The memory that was laid out is this one, and nothing else stays.
+pub can-collect : {E : Type 0} (r : Result (List ℕ) E) (m : List ℕ) (none stay : Stay) → r ≡ Ok m → IfOk r (λ x. x ≡ sample) → none.spans.items ≡ [] → ((q : ℕ) → stays stay q ≡ (stays none q || in_span kept q))
+    → CanCollect m (record { stay = stay; mature = record { start = 1; end = 9 }; aged = record { start = 51; top = 51; end = 60 }; young = record { start = 60; top = 60; end = 91 } }) roots
+can-collect {E} r m none stay e h n s =
+    let P : Result (List ℕ) E → Type 0 = λ x. IfOk x (λ y. y ≡ sample) in
+    let same : m ≡ sample = subst P e h in
+    record {
+      plan = plan;
+      begins = record {
+        memory = sym same;
+        words = refl;
+        ready = ready;
+        agrees = record { stay = λ q. s q ∙ ap (λ xs. in_spans xs q || in_span kept q) n; mature = λ q. refl; aged_low = refl; aged_high = refl; young_low = refl; young_high = refl };
+        aged_empty = refl;
+        young_empty = refl;
+      };
+    }

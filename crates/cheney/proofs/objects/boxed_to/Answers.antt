@@ -1,0 +1,8 @@
+use Rattle.std.proofs.Common.{◌/◌, refl}
+use Rattle.cheney.proofs.Copying.{boxed-copies}
+use Rattle.cheney.proofs.objects.boxed_to.Goals as goal
+
+pub returns-clause-copies : goal.returns-clause-copies
+returns-clause-copies c =
+    boxed-copies c.args.mem.now c.copy_words.new.self c.set.new.self c.set-2.new.self c.args.w c.args.room.now.top c.args.header (c.args.header / 64)
+    c.requires.tag c.requires.header refl c.requires.within c.requires.fits c.requires.apart c.copy_words.ensures.same_len c.copy_words.ensures.moved c.copy_words.ensures.kept c.set.ensures c.set-2.ensures

@@ -1,0 +1,93 @@
+-- What the calls of a collection ask and promise.
+use Rattle.std.specs.Prelude.{◌≡◌, ℕ, ◌+◌, ◌/◌, ◌%◌, ◌<◌, ◌≤◌, ◌⊎◌, Bool, true, false, List, slice_index}
+use Rattle.term_read.specs.Object.{IsPointer, object_words}
+use Rattle.term_read.specs.Reach.{first_of}
+use Rattle.term_tags.specs.Table.{layout_for}
+use Rattle.cheney.specs.declared.moving.Moving.{Moving}
+use Rattle.cheney.specs.Spans.{in_span}
+use Rattle.cheney.specs.Ranges.{stays}
+use Rattle.cheney.specs.Plan.{Plan, Reached, Leaves}
+use Rattle.cheney.specs.Moved.{moved, forward, IsImage, Shows, Copies}
+use Rattle.cheney.specs.Zones.{Marks, IsPart, scanned_at, object_at, at_objects}
+use Rattle.cheney.specs.Rooms.{top_of, Advances, Runs}
+
+-- A collection runs, and its roots reach the word.
+pub record CanMove (mem : List ℕ) (mv : Moving) (w : ℕ) : Type 0 where
+  pub plan : Plan
+  pub marks : Marks
+  pub runs : Runs plan mem mv marks
+  pub reached : Reached plan w
+
+-- The word names nothing that moves, and is its own answer.
+pub record Stayed (mem mem2 : List ℕ) (mv mv2 : Moving) (w x : ℕ) : Type 0 where
+  pub word : x ≡ w
+  pub mem_same : mem2 ≡ mem
+  pub mv_same : mv2 ≡ mv
+  pub stays : IsPointer w → stays mv.stay (w / 4) ≡ true
+
+-- The object was moved before, and the answer is read from it.
+pub record Found (mem mem2 : List ℕ) (mv mv2 : Moving) (w x : ℕ) : Type 0 where
+  pub word : x ≡ forward mem w
+  pub mem_same : mem2 ≡ mem
+  pub mv_same : mv2 ≡ mv
+  pub pointer : IsPointer w
+  pub leaves : stays mv.stay (w / 4) ≡ false
+  pub gone : moved mem w ≡ true
+
+-- The object is moved in this call.
+pub record Copied (mem mem2 : List ℕ) (mv mv2 : Moving) (w x : ℕ) : Type 0 where
+  pub pointer : IsPointer w
+  pub leaves : stays mv.stay (w / 4) ≡ false
+  pub here : moved mem w ≡ false
+  pub copies : Copies mem mem2 w (top_of mv (in_span mv.mature (w / 4))) (object_words mem w) x
+  pub grows : Advances mv mv2 (in_span mv.mature (w / 4)) (object_words mem w)
+
+-- What becomes of a word.
+abbrev pub Went : List ℕ → List ℕ → Moving → Moving → ℕ → ℕ → Type 0
+Went mem mem2 mv mv2 w x = Stayed mem mem2 mv mv2 w x ⊎ (Found mem mem2 mv mv2 w x ⊎ Copied mem mem2 mv mv2 w x)
+
+-- What was moved stays moved, to the same place; words outside the rooms and the moved objects stay.
+pub record Later (p : Plan) (mem mem2 : List ℕ) : Type 0 where
+  pub gone : (v : ℕ) → Reached p v → Leaves p v → moved mem v ≡ true → moved mem2 v ≡ true
+  pub same : (v : ℕ) → Reached p v → Leaves p v → moved mem v ≡ true → forward mem2 v ≡ forward mem v
+  pub elsewhere : (q : ℕ) → ((b : Bool) → (q < p.low b) ⊎ (p.high b ≤ q)) → ((v : ℕ) → Reached p v → Leaves p v → Shows v q → ⊥) → slice_index mem2 q ≡ slice_index mem q
+
+-- The collection runs on, and the answer is what the word has become.
+pub record Evacuated (p : Plan) (mem mem2 : List ℕ) (mv2 : Moving) (k : Marks) (w x : ℕ) : Type 0 where
+  pub runs : Runs p mem2 mv2 k
+  pub later : Later p mem mem2
+  pub image : IsImage p mem2 w x
+
+-- A collection runs, and a whole object of a room that is not scanned lies at the place.
+pub record CanOpen (mem : List ℕ) (mv : Moving) (place : ℕ) : Type 0 where
+  pub plan : Plan
+  pub marks : Marks
+  pub room : Bool
+  pub runs : Runs plan mem mv marks
+  pub scanned : scanned_at marks room ≡ place
+  pub object : object_at marks room ≡ place
+  pub below : place < top_of mv room
+
+-- The collection runs on.
+pub record RunsOn (p : Plan) (mem mem2 : List ℕ) (mv2 : Moving) (k : Marks) : Type 0 where
+  pub runs : Runs p mem2 mv2 k
+  pub later : Later p mem mem2
+
+-- A collection runs, and nothing of its rooms is scanned.
+pub record CanScan (mem : List ℕ) (mv : Moving) : Type 0 where
+  pub plan : Plan
+  pub runs : Runs plan mem mv (at_objects mv.aged.start mv.young.start)
+
+-- A collection runs, and a word that is not scanned lies at the place: the word of a traced part.
+pub record CanStep (mem : List ℕ) (mv : Moving) (place : ℕ) : Type 0 where
+  pub plan : Plan
+  pub marks : Marks
+  pub room : Bool
+  pub runs : Runs plan mem mv marks
+  pub scanned : scanned_at marks room ≡ place
+  pub part : IsPart plan mem marks room place
+
+-- The first traced word and the size of an object, by the word that it begins with: a word that is no header is the head of a cons.
+pub record Shape (word from words : ℕ) : Type 0 where
+  pub pair : (word % 4 ≡ 0 → ⊥) → (from ≡ 0) × (words ≡ 2)
+  pub boxed : word % 4 ≡ 0 → (from ≡ first_of (layout_for word) (1 + word / 64)) × (words ≡ 1 + word / 64)

@@ -1,0 +1,70 @@
+-- What is constant while a collection runs.
+use Rattle.std.specs.Prelude.{◌≡◌, ℕ, ◌+◌, ◌/◌, ◌<◌, ◌≤◌, ◌⊎◌, Bool, true, false, List, [], ◌∷◌, length, slice_index}
+use Rattle.plain_term.specs.Tree.{Trees}
+use Rattle.term_read.specs.Object.{IsPointer, object_words}
+use Rattle.term_read.specs.Reach.{Reach, first_traced}
+use Rattle.term_read.specs.Stands.{AllStand}
+use Rattle.term_read.specs.Role.{IsSingle}
+
+-- The memory that a collection begins with, the roots, the trees that they stand for, a test that says where the words of
+-- these trees lie, which places stay, which go to the aged room, and both rooms: `true` is the aged one, `false` the young one.
+pub record Plan : Type 0 where
+  pub start : List ℕ
+  pub roots : List ℕ
+  pub shared : List (List ℕ)
+  pub trees : Trees
+  pub test : ℕ → ℕ → Bool
+  pub stay : ℕ → Bool
+  pub mature : ℕ → Bool
+  pub low : Bool → ℕ
+  pub high : Bool → ℕ
+
+-- The roots reach the word.
+abbrev pub Reached : Plan → ℕ → Type 0
+Reached p w = Reach p.start p.roots w
+
+-- The words of the object that a pointer leads to, when the collection begins.
+unfoldable pub size : Plan → ℕ → ℕ
+size p w = object_words p.start w
+
+-- The first traced word of that object.
+unfoldable pub first : Plan → ℕ → ℕ
+first p w = first_traced p.start w
+
+-- The word points to an object that the collection moves.
+pub record Leaves (p : Plan) (w : ℕ) : Type 0 where
+  pub pointer : IsPointer w
+  pub leaves : p.stay (w / 4) ≡ false
+
+-- The place lies in the object that the word points to.
+pub record IsIn (p : Plan) (w q : ℕ) : Type 0 where
+  pub from : w / 4 ≤ q
+  pub below : q < w / 4 + size p w
+
+-- The word is in the list.
+abbrev pub In : ℕ → List ℕ → Type 0
+In w [] = ⊥
+In w (v ∷ vs) = (w ≡ v) ⊎ In w vs
+
+-- The words of all objects of a list.
+abbrev pub total : Plan → List ℕ → ℕ
+total p [] = 0
+total p (v ∷ vs) = size p v + total p vs
+
+-- The room holds the objects that go there, each once.
+pub record Fits (p : Plan) (room : Bool) : Type 0 where
+  pub each : List ℕ
+  pub all : (w : ℕ) → Reached p w → Leaves p w → p.mature (w / 4) ≡ room → In w each
+  pub words : p.low room + total p each ≤ p.high room
+
+-- A collection can begin: the roots stand, the objects and records that they reach are one or apart, and clear of the
+-- rooms; what stays points to nothing that moves; the rooms are apart, and each holds the objects that go there, once.
+pub record Ready (p : Plan) : Type 0 where
+  pub standing : AllStand p.test p.shared p.start p.roots p.trees
+  pub single : IsSingle p.test
+  pub clear : (a k : ℕ) (b : Bool) → p.test a k ≡ true → (a < p.low b) ⊎ (p.high b ≤ a)
+  pub closed : (v k : ℕ) → Reached p v → IsPointer v → p.stay (v / 4) ≡ true → first p v ≤ k → k < size p v → Leaves p (slice_index p.start (v / 4 + k)) → ⊥
+  pub rooms : (p.high true ≤ p.low false) ⊎ (p.high false ≤ p.low true)
+  pub order : (b : Bool) → p.low b ≤ p.high b
+  pub inside : (b : Bool) → p.high b ≤ length p.start
+  pub fits : (b : Bool) → Fits p b

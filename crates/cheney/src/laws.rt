@@ -1,0 +1,49 @@
+// What holds of each collection: each law is the contract of a function that does nothing.
+ghost use Rattle.std.specs.Prelude.{◌≡◌, ℕ, ◌+◌, ◌-◌, ◌/◌, ◌<◌, ◌≤◌, ◌⊎◌, Bool, true, List, slice_set};
+ghost use Rattle.term_read.specs.Role.{IsSingle};
+ghost use Rattle.term_read.specs.Stands.{AllStand};
+ghost use Rattle.cheney.specs.declared.moving.Moving.{Moving};
+ghost use Rattle.cheney.specs.Plan.{Fits, Leaves, Plan, Ready, Reached, size};
+ghost use Rattle.cheney.specs.Moved.{IsImage};
+ghost use Rattle.cheney.specs.Zones.{Marks, at_objects};
+ghost use Rattle.cheney.specs.Rooms.{Agrees, Runs, top_of};
+ghost use Rattle.cheney.specs.Calls.{Later};
+ghost use Rattle.cheney.specs.Collected.{Collected, Composes, IsBeside, RootsMoved};
+
+/// A room holds the objects that go there where it has as many free words as the range that they lie in, whatever they
+/// share.
+pub fn fits_law()
+    ensures { (p : Plan) (b : Bool) (from to : ℕ) → AllStand p.test p.shared p.start p.roots p.trees → IsSingle p.test → from ≤ to
+        → ((v : ℕ) → Reached p v → Leaves p v → p.mature (v / 4) ≡ b → (from ≤ v / 4) × (v / 4 + size p v ≤ to)) → p.low b + (to - from) ≤ p.high b → Fits p b }
+{}
+
+/// A collection that is ready, with two empty rooms, runs.
+pub fn begin_law()
+    ensures { (p : Plan) (mv : Moving) → Ready p → Agrees p mv → mv.aged.top ≡ mv.aged.start → mv.young.top ≡ mv.young.start → Runs p p.start mv (at_objects mv.aged.start mv.young.start) }
+{}
+
+/// What a word has become stays that, whatever is moved later.
+pub fn later_law()
+    ensures { (p : Plan) (mem mem2 : List ℕ) (w x : ℕ) → Later p mem mem2 → Reached p w → IsImage p mem w x → IsImage p mem2 w x }
+{}
+
+/// A caller may write between two calls, away from the rooms and from all words with a role: roots that stand in the memory.
+pub fn beside_law()
+    ensures runs { (p : Plan) (mem mem2 : List ℕ) (mv : Moving) (k : Marks) → Runs p mem mv k → IsBeside p mem mem2 (top_of mv) → Runs p mem2 mv k }
+    ensures images { (p : Plan) (mem mem2 : List ℕ) (top : Bool → ℕ) (w x : ℕ) → Ready p → IsBeside p mem mem2 top → Reached p w → IsImage p mem w x → IsImage p mem2 w x }
+{}
+
+/// A word outside the used places of the rooms that has no role may be written: a stack place, a register in the memory.
+pub fn write_law()
+    ensures { (p : Plan) (mem : List ℕ) (top : Bool → ℕ) (a w : ℕ) → ((b : Bool) → (a < p.low b) ⊎ (top b ≤ a)) → ((k : ℕ) → p.test a k ≡ true → ⊥) → IsBeside p mem (slice_set mem a w) top }
+{}
+
+/// The whole collection, where each root was moved and then all was scanned.
+pub fn collected_law()
+    ensures { (p : Plan) (mem : List ℕ) (mv : Moving) → Runs p mem mv (at_objects mv.aged.top mv.young.top) → RootsMoved p mem → Collected p mem (top_of mv) }
+{}
+
+/// Collections compose: what the new roots reach are exactly the copies, and what stays.
+pub fn compose_law()
+    ensures { (p : Plan) (mem : List ℕ) (mv : Moving) → Runs p mem mv (at_objects mv.aged.top mv.young.top) → RootsMoved p mem → Composes p mem }
+{}
