@@ -1,6 +1,7 @@
 // Whole scripts, each with the replies that it must have.
 ghost use Rattle.std.specs.Prelude.{◌<◌};
 
+use crate::arguments::{complaint, number};
 use crate::run::run;
 use crate::store::Store;
 use engine::Status;
@@ -61,14 +62,10 @@ fn push_nested(text: &mut Vec<u8>, levels: usize, blanks: usize) -> Result<(), F
 }
 
 // The short rows: a script and its replies.
-const ROWS: [(&[u8], &[u8]); 24] = [
+const ROWS: [(&[u8], &[u8]); 23] = [
     (b"1 set 0 {1,[2]}\n1 print 0\n", b"ok\n{1,[2]}\n"),
     (b"", b""),
     (b"2 print 0\n", b"error noproc\n"),
-    (
-        b"1 set 0 {1,\n1 set 0 \xc3\n1 print 16\n1 print 0",
-        b"error syntax\nerror syntax\nerror syntax\n[]\n",
-    ),
     (
         b"1 set 0 a\n1 push 0\n1 pop 1\n1 print 1\n1 pop 1\nsys spawn\n2 self 0\n2 print 0\n1 exit\nsys procs\n",
         b"ok\nok\nok\na\nerror empty\nok 2\nok\n<0.2.0>\nok\n[2]\n",
@@ -153,6 +150,19 @@ fn scripts_are_answered(rt: HostRuntime) -> Result<(), Fail> {
         assert!(rt; is_answered(rt.alloc(), script, replies, 7)?);
         assert!(rt; is_answered(rt.alloc(), script, replies, 8192)?);
     }
+    Ok(())
+}
+
+// A line that is too long, lines that say no command, and a last line without its end.
+#[test]
+fn faulty_lines_are_refused_one_by_one(rt: HostRuntime) -> Result<(), Fail> {
+    let mut script = Vec::new(rt.alloc());
+    push_times(&mut script, b"a", 4097)?;
+    script.extend_from_slice(b"\n1 set 0 {1,\n1 set 0 \xc3\n1 print 16\n1 print 0")?;
+    let replies = b"error long\nerror syntax\nerror syntax\nerror syntax\n[]\n";
+    assert!(rt; is_answered(rt.alloc(), script.as_slice(), replies, 1)?);
+    assert!(rt; is_answered(rt.alloc(), script.as_slice(), replies, 7)?);
+    assert!(rt; is_answered(rt.alloc(), script.as_slice(), replies, 8192)?);
     Ok(())
 }
 
@@ -241,6 +251,23 @@ fn other_words_are_usage(rt: HostRuntime) -> Result<(), Fail> {
     assert_eq!(rt; sink.bytes().len(), 0);
     assert!(rt; matches!(store, Store::Vacant));
     Ok(())
+}
+
+// The number that the process ends with, and the line that standard error gets.
+#[test]
+fn statuses_have_their_numbers_and_lines(rt: HostRuntime) {
+    let rows = [
+        (Status::Done, 0u8, None),
+        (Status::Usage, 1, Some("usage: beam_heap < SCRIPT")),
+        (Status::ReadFault, 2, Some("beam_heap: read fault")),
+        (Status::WriteFault, 3, Some("beam_heap: write fault")),
+        (Status::Memory, 4, Some("beam_heap: no memory")),
+        (Status::TooMuch, 5, Some("beam_heap: script too long")),
+    ];
+    for (status, wanted, line) in rows {
+        assert_eq!(rt; number(status), wanted);
+        assert_eq!(rt; complaint(status), line);
+    }
 }
 
 // A source that fails at any of its calls, in pieces of 1 and of 7 bytes: the whole lines that came
