@@ -20,7 +20,7 @@ use Rattle.engine.specs.Serving.{EndsBy, Served, GoesOn, StopsAt, StopsBy, Turns
 use Rattle.engine.specs.declared.serving.Status.{Status}
 use Rattle.engine.specs.declared.serving.Status.TheVariants.{Done, Usage, ReadFault, WriteFault, Memory, TooMuch}
 use Rattle.engine.specs.declared.serving.Turn.{Turn}
-use Rattle.engine.specs.declared.serving.Turn.TheVariants.{On, Stop}
+use Rattle.engine.specs.declared.serving.Turn.TheVariants.{Stop}
 use Rattle.engine.specs.declared.machine.Stepped.{Stepped}
 use Rattle.engine.specs.declared.machine.Stepped.TheVariants.{Next, Quit, SinkFault}
 
@@ -136,7 +136,7 @@ module _ (may : ℕ → State → Parsed → Bool) (words : ℕ) (limits : Limit
     front = r.front;
     run = run-none may words s;
     stands = st;
-    ends = (Grew-nil wrote sink, record { whole_lines = r.ends ∙ sym (append-nil given); goes_on = refl });
+    ends = (Grew-nil wrote sink, record { whole_lines = r.ends.0 ∙ sym (append-nil given); no_more = r.ends.1; goes_on = refl });
   }
 
 -- what is kept from turn to turn: the lines that were read so far are answered
@@ -238,19 +238,6 @@ module _ (may : ℕ → State → Parsed → Bool) (words : ℕ) (first : State)
         },
         let h : faults old ≤ faults mid = g.later in let k : Rose (faults mid) (faults new) = e.1 in omega arith,
       )
-
--- what a turn is known to be
-pub turn-on : (turn : Turn) (may : ℕ → State → Parsed → Bool) (words : ℕ) (s : State) (limits : Limits) (Stands : State → Type 0) (before after : Option (List ℕ)) (reader : LineReader) (bytes : List ℕ) (given : List Line)
-    {K : Type 0} (wrote : K → List ℕ → Type 0) (faults : K → ℕ) (old new : K) → turn ≡ On
-    → Turns turn may words s limits Stands before after reader bytes given wrote faults old new → GoesOn may words s Stands before after reader bytes given wrote old new
-turn-on turn may words s limits Stands before after reader bytes given wrote faults old new e t =
-    let P : Turn → Type 0 = λ z. Turns z may words s limits Stands before after reader bytes given wrote faults old new in subst P e t
-
-pub turn-stop : (turn : Turn) (status : Status) (may : ℕ → State → Parsed → Bool) (words : ℕ) (s : State) (limits : Limits) (Stands : State → Type 0) (before after : Option (List ℕ)) (reader : LineReader) (bytes : List ℕ) (given : List Line)
-    {K : Type 0} (wrote : K → List ℕ → Type 0) (faults : K → ℕ) (old new : K) → turn ≡ Stop status
-    → Turns turn may words s limits Stands before after reader bytes given wrote faults old new → StopsAt status may words s limits Stands before after bytes given wrote faults old new
-turn-stop turn status may words s limits Stands before after reader bytes given wrote faults old new e t =
-    let P : Turn → Type 0 = λ z. Turns z may words s limits Stands before after reader bytes given wrote faults old new in subst P e t
 
 -- the words and the limits are the same at each turn
 pub goes-words : (may : ℕ → State → Parsed → Bool) (w words : ℕ) (s : State) (Stands : State → Type 0) (before after : Option (List ℕ)) (reader : LineReader) (bytes : List ℕ) (given : List Line)

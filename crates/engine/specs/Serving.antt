@@ -52,9 +52,10 @@ pub record EndsTooMuch (limits : Limits) (bytes : List ℕ) (rest : List Line) (
   pub more : is_too_much bytes limits ≡ true
   pub goes_on : quits ≡ false
 
--- The lines that have their line end were answered, and reading failed.
+-- The lines that have their line end were answered, and reading failed before more came than is allowed.
 pub record EndsUnread (limits : Limits) (bytes : List ℕ) (given : List Line) (quits : Bool) : Type 0 where
   pub whole_lines : lines bytes false limits ≡ given
+  pub no_more : is_too_much bytes limits ≡ false
   pub goes_on : quits ≡ false
 
 -- What each status says.

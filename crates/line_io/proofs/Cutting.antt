@@ -1,5 +1,5 @@
 -- What the fields of a reader mean after each of its steps, and what its last answers say of the lines.
-use Rattle.std.proofs.Common.{◌≡◌, ℕ, zero, suc, ◌+◌, ◌<◌, ◌≤◌, ◌&&◌, ◌||◌, Bool, true, false, MatchBool, nat_lt, nat_le, List, [], ◌∷◌, ◌++◌, length, take, map, refl, sym, ap, ◌∙◌, arith, append_assoc, append-nil, length-append}
+use Rattle.std.proofs.Common.{◌≡◌, ℕ, zero, suc, ◌+◌, ◌<◌, ◌≤◌, ◌&&◌, ◌||◌, Bool, true, false, MatchBool, nat_lt, nat_le, List, [], ◌∷◌, ◌++◌, length, take, map, refl, sym, ap, subst, ◌∙◌, arith, append_assoc, append-nil, length-append}
 use Rattle.std.proofs.lemmas.List.{take_all}
 use Rattle.std.proofs.lemmas.List.{map-append}
 use Rattle.std.proofs.Math.Seq.{take-append-add}
@@ -57,6 +57,16 @@ Gone is_long gone = MatchBool is_long (8192 ≤ length gone) (gone ≡ [])
 take-nil : (n : ℕ) → ◌≡◌ {A = List (List ℕ)} (take n []) []
 take-nil zero = refl
 take-nil (suc n) = refl
+
+-- bytes without a line end make no more pieces than are allowed, where any are allowed if there are bytes
+few_pieces : (xs : List ℕ) (more : ℕ) → IsOpen xs → (0 < length xs → 0 < more) → length (pieces xs) ≤ more
+few_pieces [] more no_end some = omega arith
+few_pieces (b ∷ xs) more no_end some = let line : 0 < more = some (omega arith) in omega (arith, line, ap length (pieces-open b xs no_end))
+
+-- a line is begun where bytes are held, or have gone
+line_begun : (is_long : Bool) (gone held : List ℕ) (more : ℕ) → MatchBool is_long ((8192 ≤ length gone) × (0 < more)) (gone ≡ []) → (0 < length held → 0 < more) → 0 < length (gone ++ held) → 0 < more
+line_begun true gone held more h some begun = h.1
+line_begun false gone held more h some begun = some (omega (arith, begun, ap length h, length-append gone held))
 
 take_one : (n : ℕ) (p : List ℕ) → 0 < n → take n (p ∷ []) ≡ p ∷ []
 take_one n p some = take_all n (p ∷ []) (omega arith)
@@ -172,14 +182,19 @@ module _ (limits : Limits) (is_long : Bool) (more room : ℕ) (held bytes : List
       open_lines false r ∙ ap (λ ps. given ++ map line_of (take more ps)) (whole_of_open (r.gone ++ held) (IsOpen-append r.gone held r.gone_open no_end))
       ∙ ap (λ ps. given ++ map line_of ps) (take-nil more) ∙ append-nil given
 
+  -- without a whole line, and with a line begun only where one is allowed, what came keeps both limits
+  pub keeps_limits : IsOpen held → (0 < length held → 0 < more) → (r : IsCutting limits is_long more room held bytes given) → is_too_much bytes limits ≡ false
+  keeps_limits no_end line r =
+      let rest = r.gone ++ held in
+      let few : length (pieces rest) ≤ more = few_pieces rest more (IsOpen-append r.gone held r.gone_open no_end) (line_begun is_long r.gone held more r.long_is line) in
+      not_too_much bytes limits (within r) (omega (arith, few, ap length (cut_pieces limits is_long more room held bytes given r), length-append r.whole (pieces rest), r.lines_sum))
+
   -- nothing is held, and nothing has gone: all lines were given
   pub all_given : is_long ≡ false → held ≡ [] → (r : IsCutting limits is_long more room held bytes given) → (lines bytes true limits ≡ given) × (is_too_much bytes limits ≡ false)
   all_given short empty r =
-      let none : r.gone ++ held ≡ [] = ap (λ l. l ++ held) (not_gone is_long r.gone short (more_than is_long r.gone more r.long_is)) ∙ empty in
-      let fits : length (pieces bytes) ≤ limits.lines =
-      omega (arith, ap length (cut_pieces limits is_long more room held bytes given r), length-append r.whole (pieces (r.gone ++ held)), ap (λ l. length (pieces l)) none, r.lines_sum) in (
+      let none : r.gone ++ held ≡ [] = ap (λ l. l ++ held) (not_gone is_long r.gone short (more_than is_long r.gone more r.long_is)) ∙ empty in (
         open_lines true r ∙ ap (λ l. given ++ map line_of (take more (pieces l))) none ∙ ap (λ ps. given ++ map line_of ps) (take-nil more) ∙ append-nil given,
-        not_too_much bytes limits (within r) fits,
+        keeps_limits (subst IsOpen (sym empty) refl) (λ some. omega (arith, some, ap length empty)) r,
       )
 
   -- the last line has no end
@@ -188,11 +203,9 @@ module _ (limits : Limits) (is_long : Bool) (more room : ℕ) (held bytes : List
   last_given line no_end r some =
       let rest = r.gone ++ held in
       let one : pieces rest ≡ rest ∷ [] = one_piece rest some (IsOpen-append r.gone held r.gone_open no_end) in
-      let same : line_of rest ≡ line_given is_long held = line_of_open rest (IsOpen-append r.gone held r.gone_open no_end) ∙ last_line is_long r.gone held (more_than is_long r.gone more r.long_is) in
-      let fits : length (pieces bytes) ≤ limits.lines =
-      omega (arith, ap length (cut_pieces limits is_long more room held bytes given r), length-append r.whole (pieces rest), ap length one, r.lines_sum, line) in (
+      let same : line_of rest ≡ line_given is_long held = line_of_open rest (IsOpen-append r.gone held r.gone_open no_end) ∙ last_line is_long r.gone held (more_than is_long r.gone more r.long_is) in (
         open_lines true r ∙ ap (λ ps. given ++ map line_of (take more ps)) one ∙ ap (λ ps. given ++ map line_of ps) (take_one more rest line) ∙ ap (λ l. given ++ (l ∷ [])) same,
-        not_too_much bytes limits (within r) fits,
+        keeps_limits no_end (λ held_some. line) r,
       )
 
 -- of bytes past the limit, the lines are those of the bytes within it

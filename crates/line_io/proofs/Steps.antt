@@ -11,7 +11,7 @@ use Rattle.line_io.specs.declared.reader.Limits.{Limits}
 use Rattle.line_io.specs.declared.reader.Stop.{Stop}
 use Rattle.line_io.specs.declared.reader.Stop.TheVariants.{Open, Cut, Ended, Faulted, Passed}
 use Rattle.line_io.specs.declared.reader.LineReader.{LineReader}
-use Rattle.line_io.proofs.Cutting.{gives, takes, lets_go, none_left, none_whole, all_given, last_given, cut_none_left, cut_none_whole, open_lines}
+use Rattle.line_io.proofs.Cutting.{gives, takes, lets_go, none_left, none_whole, all_given, last_given, cut_none_left, cut_none_whole, open_lines, keeps_limits}
 
 -- a reader that is not at its end has read
 pub read_of_cut : (stop : Stop) (r : LineReader) (left : Option (List ℕ)) (bytes : List ℕ) (given : List Text) → CutsAt stop r bytes given → ReadAt stop r left bytes given
@@ -117,14 +117,18 @@ read_of_end stop r limits left bytes given es el e at_end =
     let here = subst P (sym el) e in
     subst (λ s. ReadAt s r left bytes given) (sym es) (here.0, here.1, at_end)
 
--- a fault comes where no whole line is held
-pub faults_by : (stop : Stop) (limits : Limits) (is_long : Bool) (more room : ℕ) (held bytes : List ℕ) (given : List Text) → stop ≡ Open → IsOpen held → CutBy stop limits is_long more room held bytes given
-    → (lines bytes false limits ≡ given ++ []) × ((rest : List Text) × (lines bytes true limits ≡ (given ++ []) ++ rest))
-faults_by stop limits is_long more room held bytes given eo no_end h =
+-- a fault comes where no whole line is held, and a line is begun only where one is allowed
+pub faults_by : (stop : Stop) (limits : Limits) (is_long : Bool) (more room : ℕ) (held bytes : List ℕ) (given : List Text) → stop ≡ Open → IsOpen held → (0 < length held → 0 < more)
+    → CutBy stop limits is_long more room held bytes given
+    → (lines bytes false limits ≡ given ++ []) × ((rest : List Text) × (lines bytes true limits ≡ (given ++ []) ++ rest)) × (is_too_much bytes limits ≡ false)
+faults_by stop limits is_long more room held bytes given eo no_end line h =
     let k = subst (λ s. CutBy s limits is_long more room held bytes given) eo h in
     let all = open_lines limits is_long more room held bytes given true k in
-    let rest = map line_of (take more (finished true (pieces (k.gone ++ held)))) in
-    (none_whole limits is_long more room held bytes given no_end k ∙ sym (append-nil given), (rest, all ∙ ap (λ l. l ++ rest) (sym (append-nil given))))
+    let rest = map line_of (take more (finished true (pieces (k.gone ++ held)))) in (
+      none_whole limits is_long more room held bytes given no_end k ∙ sym (append-nil given),
+      (rest, all ∙ ap (λ l. l ++ rest) (sym (append-nil given))),
+      keeps_limits limits is_long more room held bytes given no_end line k,
+    )
 
 -- an answer that is a line stays nowhere
 pub settles_line : (answer : LineGot) (stays : Option LineGot) → lines_in answer ≡ 1 → Settles answer stays

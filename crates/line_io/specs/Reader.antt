@@ -96,7 +96,7 @@ abbrev pub ReadAt : Stop → LineReader → Option (List ℕ) → List ℕ → L
 ReadAt Open r left bytes given = CutsAt Open r bytes given
 ReadAt Cut r left bytes given = CutsAt Cut r bytes given
 ReadAt Ended r left bytes given = (lines bytes true r.limits ≡ given) × (is_too_much bytes r.limits ≡ false) × IsAtEnd left
-ReadAt Faulted r left bytes given = (lines bytes false r.limits ≡ given) × ((rest : List Line) × (lines bytes true r.limits ≡ given ++ rest))
+ReadAt Faulted r left bytes given = (lines bytes false r.limits ≡ given) × ((rest : List Line) × (lines bytes true r.limits ≡ given ++ rest)) × (is_too_much bytes r.limits ≡ false)
 ReadAt Passed r left bytes given = ((ended : Bool) → lines bytes ended r.limits ≡ given) × (is_too_much bytes r.limits ≡ true)
 
 -- the reader took these bytes from its source, which has `left` to come, and gave these lines
@@ -113,7 +113,7 @@ abbrev pub EndsLines : LineGot → Limits → List ℕ → List Line → Bool �
 EndsLines GotLine limits bytes given ended rest left = Unit {0}
 EndsLines Long limits bytes given ended rest left = Unit {0}
 EndsLines End limits bytes given ended rest left = (rest ≡ []) × (ended ≡ true) × IsAtEnd left × (is_too_much bytes limits ≡ false)
-EndsLines Fault limits bytes given ended rest left = lines bytes false limits ≡ given
+EndsLines Fault limits bytes given ended rest left = (lines bytes false limits ≡ given) × (is_too_much bytes limits ≡ false)
 EndsLines TooMuch limits bytes given ended rest left = (rest ≡ []) × (is_too_much bytes limits ≡ true)
 
 -- a call took the bytes x from its source; with what its answer brings, the lines given are a front of the lines of all bytes

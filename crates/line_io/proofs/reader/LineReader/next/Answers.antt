@@ -1,7 +1,7 @@
-use Rattle.std.proofs.Common.{◌≡◌, ◌+◌, ◌-◌, ◌++◌, length, take, drop, slice_range, refl, sym, ap, subst, ◌∙◌, arith, append_assoc}
+use Rattle.std.proofs.Common.{◌≡◌, ◌+◌, ◌-◌, ◌<◌, ◌++◌, length, take, drop, slice_range, refl, sym, ap, subst, ◌∙◌, arith, append_assoc}
 use Rattle.line_io.specs.Reader.{CutBy, HasCut, IsOpen, held}
 use Rattle.line_io.proofs.Ranges.{range_kept, written_over}
-use Rattle.line_io.proofs.Steps.{faults_by}
+use Rattle.line_io.proofs.Steps.{faults_by, length-held}
 use Rattle.line_io.proofs.Loop.{Gave-append, Gave-end, reads_of, reads_again}
 use Rattle.line_io.proofs.reader.LineReader.next.Goals as goal
 
@@ -86,5 +86,6 @@ returns-in-Failed-clause-reads g c = λ bytes given h.
     let at_start = me.cuts (bytes ++ t.0) given (subst (λ w. HasCut w (bytes ++ t.0) given) (sym r.same) t.2) in
     let going = me.stop ∙ ap (λ w. w.stop) r.same ∙ r.going in
     let limits = me.limits ∙ ap (λ w. w.limits) r.same ∙ inv.limits in
+    let line : 0 < length (held m) → 0 < m.lines_left = λ some. me.line (omega (arith, some, length-held m)) in
     reads_of _ _ _ (g.S.Source.left c.fill.new.source) _ bytes t.0 given limits (Gave-end _ _ _ t.0 t.1 c.in-Failed.ensures.bytes)
-    (record { here = faults_by m.stop m.limits m.long m.lines_left m.bytes_left (held m) (bytes ++ t.0) given going me.open at_start }) refl
+    (record { here = faults_by m.stop m.limits m.long m.lines_left m.bytes_left (held m) (bytes ++ t.0) given going me.open line at_start }) refl
