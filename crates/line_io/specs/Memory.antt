@@ -35,12 +35,6 @@ GivesNext s room (Bytes n) = (is_among (failing_reads s) (next_read s) ≡ false
 GivesNext s room End = (is_among (failing_reads s) (next_read s) ≡ false) × (bytes_left s ≡ [])
 GivesNext s room ReadFailed = is_among (failing_reads s) (next_read s) ≡ true
 
--- the count of a source's faults rises by one at a fault, and else stays
-abbrev pub CountsRead : Got → ℕ → ℕ → Type 0
-CountsRead (Bytes n) before now = now ≡ before
-CountsRead End before now = now ≡ before
-CountsRead ReadFailed before now = now ≡ raised before
-
 -- the number of a sink's next call, counted from 1; it stands still at its type's end
 abbrev pub next_write : MemSink → ℕ
 next_write s = raised s.calls
@@ -65,8 +59,3 @@ failing_writes s = s.failing.items
 abbrev pub TakesNext : MemSink → ℕ → Took → Type 0
 TakesNext s given (Taken n) = (is_among (failing_writes s) (next_write s) ≡ false) × (n ≡ min (min (sink_room s - length (bytes_taken s)) (write_piece s)) given)
 TakesNext s given WriteFailed = (is_among (failing_writes s) (next_write s) ≡ true) ⊎ (length (bytes_taken s) ≡ sink_room s)
-
--- the count of a sink's faults rises by one at a fault, and else stays
-abbrev pub CountsWrite : Took → ℕ → ℕ → Type 0
-CountsWrite (Taken n) before now = now ≡ before
-CountsWrite WriteFailed before now = now ≡ raised before

@@ -1,5 +1,6 @@
 -- What a sink has taken.
 use Rattle.std.specs.Prelude.{◌≡◌, ℕ, ◌<◌, ◌≤◌, List, [], ◌++◌, length, take}
+use Rattle.line_io.specs.Faults.{raised}
 use Rattle.line_io.specs.declared.sink.Took.{Took}
 use Rattle.line_io.specs.declared.sink.Took.TheVariants.{Took as Bytes, Failed}
 
@@ -12,6 +13,11 @@ went Failed bytes = []
 abbrev pub TakesWithin : ℕ → Took → Type 0
 TakesWithin len (Bytes n) = (0 < n) × (n ≤ len)
 TakesWithin len Failed = Unit {0}
+
+-- the count of a sink's faults rises by one at a fault, and else stays
+abbrev pub CountsWrite : Took → ℕ → ℕ → Type 0
+CountsWrite (Bytes n) before now = now ≡ before
+CountsWrite Failed before now = now ≡ raised before
 
 -- what was written grew by exactly x: each list that was written before is written now, with x behind it
 pub record Grew {K : Type 0} (wrote : K → List ℕ → Type 0) (old new : K) (x : List ℕ) : Type 0 where

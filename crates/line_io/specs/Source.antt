@@ -1,6 +1,7 @@
 -- What one call of a source gives.
-use Rattle.std.specs.Prelude.{ℕ, ◌<◌, ◌≤◌, List, [], take, Option}
+use Rattle.std.specs.Prelude.{◌≡◌, ℕ, ◌<◌, ◌≤◌, List, [], take, Option}
 use Rattle.std.specs.Io.KnownBytes.{Consumes, IsAtEnd}
+use Rattle.line_io.specs.Faults.{raised}
 use Rattle.line_io.specs.declared.source.Got.{Got}
 use Rattle.line_io.specs.declared.source.Got.TheVariants.{Got as Bytes, End, Failed}
 
@@ -25,3 +26,9 @@ EndsAt left Failed = Unit {0}
 -- where the source tells what is left, the bytes x were its next ones, and they are taken off
 pub record Gave (old new : Option (List ℕ)) (x : List ℕ) : Type 0 where
   pub known : Consumes old new x
+
+-- the count of a source's faults rises by one at a fault, and else stays
+abbrev pub CountsRead : Got → ℕ → ℕ → Type 0
+CountsRead (Bytes n) before now = now ≡ before
+CountsRead End before now = now ≡ before
+CountsRead Failed before now = now ≡ raised before

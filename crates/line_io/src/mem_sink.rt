@@ -1,7 +1,7 @@
 // A sink over memory, which takes small pieces and fails where it is told to.
 ghost use Rattle.std.specs.Prelude.{◌≡◌, ℕ, ◌+◌, ◌<◌, ◌≤◌, ◌^◌, List, [], ◌++◌, length, take, IfOk, vec_len};
 ghost use Rattle.line_io.specs.Faults.{Rose, raised};
-ghost use Rattle.line_io.specs.Sink.{Grew, TakesWithin, went};
+ghost use Rattle.line_io.specs.Sink.{CountsWrite, Grew, TakesWithin, went};
 ghost use Rattle.line_io.specs.declared.sink.Took.{Took};
 
 use crate::copies::put_at;
@@ -70,7 +70,7 @@ impl MemSink {
 }
 
 impl Sink for MemSink {
-    ghost use Rattle.line_io.specs.Memory.{bytes_taken, next_write, sink_room, write_piece, failing_writes, TakesNext, CountsWrite};
+    ghost use Rattle.line_io.specs.Memory.{bytes_taken, next_write, sink_room, write_piece, failing_writes, TakesNext};
 
     ghost wrote = { λ s bytes. bytes ≡ bytes_taken s };
 

@@ -1,7 +1,7 @@
 // A source over memory, which gives small pieces and fails where it is told to.
 ghost use Rattle.std.specs.Prelude.{◌≡◌, ◌↔◌, ℕ, ◌+◌, ◌-◌, ◌<◌, ◌≤◌, ◌^◌, min, List, length, drop, Option, Some, Contains, IfOk, vec_len};
 ghost use Rattle.line_io.specs.Faults.{Rose, raised};
-ghost use Rattle.line_io.specs.Source.{CountsWithin, EndsAt, Gave, came};
+ghost use Rattle.line_io.specs.Source.{CountsRead, CountsWithin, EndsAt, Gave, came};
 ghost use Rattle.line_io.specs.declared.source.Got.{Got};
 
 use crate::copies::put_at;
@@ -57,7 +57,7 @@ impl MemSource {
 }
 
 impl Source for MemSource {
-    ghost use Rattle.line_io.specs.Memory.{bytes_left, next_read, read_piece, failing_reads, GivesNext, CountsRead};
+    ghost use Rattle.line_io.specs.Memory.{bytes_left, next_read, read_piece, failing_reads, GivesNext};
 
     ghost left = { λ s. Some (bytes_left s) };
 

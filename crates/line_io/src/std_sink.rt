@@ -1,5 +1,8 @@
 // Std's writers as sinks.
-ghost use Rattle.std.specs.Prelude.{◌≡◌, ◌≤◌, ℕ, length};
+ghost use Rattle.std.specs.Prelude.{◌≡◌, ◌<◌, ◌≤◌, ◌++◌, ℕ, List, length};
+ghost use Rattle.line_io.specs.Faults.{Rose};
+ghost use Rattle.line_io.specs.Sink.{CountsWrite, Grew, TakesWithin, went};
+ghost use Rattle.line_io.specs.declared.sink.Took.{Took};
 
 use crate::sink::{Sink, Took};
 use std::io::Write;
@@ -13,6 +16,7 @@ pub struct StdSink<W> {
 }
 
 impl<W: Write> StdSink<W> {
+    /// A sink over `writer`, with no fault yet.
     pub fn new(writer: W) -> StdSink<W>
         ensures { ⟦<StdSink<W> as Sink>⟧.faults result ≡ 0 }
     {
@@ -39,7 +43,16 @@ impl<W: Write> Sink for StdSink<W> {
 
     ghost faults = { λ s. s.faults };
 
-    fn write(&mut self, bytes: &[u8]) -> Took {
+    fn write(&mut self, bytes: &[u8]) -> Took
+        requires { 0 < length bytes.now }
+        ensures count { TakesWithin (length bytes.now) result }
+        ensures grew { Grew ⟦<StdSink<W> as Sink>⟧.wrote self.old self.new (went result bytes.now) }
+        ensures later { self.old.faults ≤ self.new.faults }
+        ensures failed { result ≡ Took.Failed → Rose self.old.faults self.new.faults }
+
+        // A fault is counted once, and nothing else is.
+        ensures faults { CountsWrite result self.old.faults self.new.faults }
+    {
         let n = self.write_through(bytes);
         if n == 0 {
             self.faults = self.faults.saturating_add(1);

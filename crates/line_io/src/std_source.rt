@@ -1,5 +1,8 @@
 // Std's readers as sources.
-ghost use Rattle.std.specs.Prelude.{◌≡◌, ℕ, None};
+ghost use Rattle.std.specs.Prelude.{◌≡◌, ◌<◌, ◌≤◌, ℕ, length, None};
+ghost use Rattle.line_io.specs.Faults.{Rose};
+ghost use Rattle.line_io.specs.Source.{CountsRead, CountsWithin, EndsAt, Gave, came};
+ghost use Rattle.line_io.specs.declared.source.Got.{Got};
 
 use crate::source::{Got, Source};
 use std::io::Read;
@@ -12,6 +15,7 @@ pub struct StdSource<R> {
 }
 
 impl<R: Read> StdSource<R> {
+    /// A source over `reader`, with no fault yet.
     pub fn new(reader: R) -> StdSource<R>
         ensures { ⟦<StdSource<R> as Source>⟧.faults result ≡ 0 }
     {
@@ -24,7 +28,17 @@ impl<R: Read> Source for StdSource<R> {
 
     ghost faults = { λ s. s.faults };
 
-    fn read(&mut self, buf: &mut [u8]) -> Got {
+    fn read(&mut self, buf: &mut [u8]) -> Got
+        requires { 0 < length buf.old }
+        ensures count { CountsWithin (length buf.new) result }
+        ensures bytes { Gave None None (came result buf.new) }
+        ensures end { EndsAt None result }
+        ensures later { self.old.faults ≤ self.new.faults }
+        ensures failed { result ≡ Got.Failed → Rose self.old.faults self.new.faults }
+
+        // A fault is counted once, and nothing else is.
+        ensures faults { CountsRead result self.old.faults self.new.faults }
+    {
         match self.reader.read(buf) {
             Ok(0) => Got::End,
             Ok(n) => Got::Got(n),

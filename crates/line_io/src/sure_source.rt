@@ -14,6 +14,7 @@ pub struct SureSource<'a> {
 }
 
 impl<'a> SureSource<'a> {
+    /// A source of all the bytes of the slice.
     pub fn new(bytes: &'a [u8]) -> SureSource<'a>
         ensures { ⟦<SureSource<'a> as Source>⟧.left result ≡ Some bytes.now }
     {

@@ -1,10 +1,15 @@
 // What no clause says: answers do come, with ample memory, whatever the pieces.
-ghost use Rattle.std.specs.Prelude.{◌<◌, ◌≤◌, ◌∷◌, [], OnOk, OnErr};
+ghost use Rattle.std.specs.Prelude.{◌<◌, ◌≤◌, ◌∷◌, [], IfOk, OnOk, OnErr};
 ghost use Rattle.line_io.specs.Faults.{Rose};
 ghost use Rattle.line_io.specs.Sink.{Grew, GrewInPart};
 
-use crate::{Gathered, Limits, LineGot, LineReader, MemSink, MemSource, Sink, SinkFault, put_all};
+use crate::{
+    Gathered, Got, Limits, LineGot, LineReader, MemSink, MemSource, Sink, SinkFault, Source,
+    StdSink, StdSource, Took, put_all,
+};
 use std::alloc::{AllocError, Global};
+use std::io;
+use std::io::{ErrorKind, Read, Write};
 use std::test::Fail;
 
 const AMPLE: Limits = Limits {
@@ -12,7 +17,7 @@ const AMPLE: Limits = Limits {
     bytes: 100000,
 };
 
-// How the table writes an answer that is no line: after these numbers of a text's bytes.
+// How the table writes an answer that is not a line's length. No length is so great.
 const LONG: usize = 5001;
 
 const END: usize = 5002;
@@ -21,7 +26,7 @@ const FAULT: usize = 5003;
 
 const TOO_MUCH: usize = 5004;
 
-// The answers to ten calls: a line by its length.
+// The answers to five calls: a line by its length.
 fn answers(
     alloc: Global,
     script: &[u8],
@@ -148,4 +153,80 @@ fn writes_are_gathered(rt: HostRuntime) -> Result<(), Fail> {
     assert!(rt; greet_at_once(&mut sink).is_ok());
     assert_eq!(rt; sink.bytes(), b"hihi".as_slice());
     Ok(())
+}
+
+// A reader and a writer that do at each call what the next turn says: so many bytes at most, or a fault.
+#[derive(Drop)]
+struct Scripted<'a> {
+    turns: &'a [Option<usize>],
+}
+
+impl<'a> Scripted<'a> {
+    fn turn(&mut self, len: usize) -> io::Result<usize>
+        ensures { IfOk result (λ n. n ≤ len) }
+    {
+        let Some((turn, others)) = self.turns.split_first() else {
+            return Ok(0);
+        };
+        self.turns = others;
+        match turn {
+            Some(n) => Ok(len.min(*n)),
+            None => Err(io::Error::from(ErrorKind::BrokenPipe)),
+        }
+    }
+}
+
+impl<'a> Read for Scripted<'a> {
+    fn read(&mut self, buf: &mut [u8]) -> io::Result<usize> {
+        let n = self.turn(buf.len())?;
+        buf[..n].fill(b'x');
+        Ok(n)
+    }
+}
+
+impl<'a> Write for Scripted<'a> {
+    fn write(&mut self, bytes: &[u8]) -> io::Result<usize> {
+        self.turn(bytes.len())
+    }
+
+    fn flush(&mut self) -> io::Result<()> {
+        self.turn(0)?;
+        Ok(())
+    }
+}
+
+#[test]
+fn a_reader_of_std_gives_its_bytes_its_faults_and_its_end(rt: HostRuntime) {
+    let turns = [Some(2), None, Some(9), None, Some(0)];
+    let mut source = StdSource::new(Scripted { turns: &turns });
+    let mut buf = *b"abcd";
+    assert!(rt; matches!(source.read(&mut buf), Got::Got(2)));
+    assert_eq!(rt; buf, *b"xxcd");
+    assert!(rt; matches!(source.read(&mut buf), Got::Failed));
+    assert_eq!(rt; buf, *b"xxcd");
+    assert!(rt; matches!(source.read(&mut buf), Got::Got(4)));
+    assert_eq!(rt; buf, *b"xxxx");
+    assert!(rt; matches!(source.read(&mut buf), Got::Failed));
+    assert!(rt; matches!(source.read(&mut buf), Got::End));
+}
+
+#[test]
+fn a_writer_of_std_takes_bytes_or_fails(rt: HostRuntime) {
+    // The turns of a write and of the flush after it.
+    let rows: [(&[Option<usize>], usize); 6] = [
+        (&[Some(2), Some(0)], 2),
+        (&[Some(9), Some(0)], 4),
+        (&[Some(0), Some(0)], 0),
+        (&[Some(0), None], 0),
+        (&[Some(4), None], 0),
+        (&[None, Some(0)], 0),
+    ];
+    for (turns, wanted) in &rows {
+        let mut sink = StdSink::new(Scripted { turns });
+        let taken = match sink.write(b"abcd") {
+            Took::Took(n) => n,
+            Took::Failed => 0,
+        };
+        assert_eq!(rt; taken, *wanted);
+    }
 }
