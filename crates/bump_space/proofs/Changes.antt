@@ -15,7 +15,7 @@ use Rattle.term_build.proofs.Rooms.{keeps-none, taken-keeps}
 use Rattle.bump_space.specs.declared.table.Proc.{Proc}
 use Rattle.bump_space.specs.Print.{Printable}
 use Rattle.bump_space.specs.Bump.{Bump, BumpStands, Holds, HoldsTree, StackStands, ProcStands, ProcsStand, numbers, number_at, AreBelow}
-use Rattle.bump_space.proofs.Numbers.{numbers-len, number-is}
+use Rattle.bump_space.proofs.Numbers.{number-is}
 use Rattle.bump_space.proofs.Procs.{Moves, Found, holds-moves, proc-moves, procs-move, procs-at, procs-set, procs-remove, procs-push, replaced, is_other, regs-set, stack-moves, stack-short, fresh-stands, numbers-set, rising-remove, below-remove, rising-push, below-push}
 
 -- Nothing moved.
@@ -71,9 +71,6 @@ module _ (b : Bump) (row cap i pid : ℕ) (p : Proc) (H : Holds b row cap) (belo
 
   pub number-here : p.number ≡ number_at b.procs i
   number-here = ap (λ x. x.number) is ∙ sym (number-is b.procs i p below)
-
-  pub pid-below : pid < b.next
-  pid-below = omega (arith, below-at b.next (numbers b.procs) i H.below (omega (arith, numbers-len b.procs)), at)
 
   -- One register is written, while the memory may have filled.
   pub register-one : (room : Room) (mem : List ℕ) (named : ℕ) (s : State) (h : BumpStands b s) (r w : ℕ) (t : Tree) → Moves b.room room b.mem mem b.named named → r < 16 → HoldsTree room mem named w t

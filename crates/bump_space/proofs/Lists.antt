@@ -1,6 +1,6 @@
 -- The text of a list, and of a tuple, part by part.
 use Rattle.std.proofs.Common.{◌≡◌, ℕ, ◌+◌, ◌-◌, ◌*◌, ◌/◌, ◌^◌, ◌<◌, ◌≤◌, true, List, [], ◌++◌, codes, length, get_or, Result, refl, sym, ◌∙◌, ap, subst, append_assoc, arith}
-use Rattle.line_io.specs.Sink.{Grew, GrewInPart}
+use Rattle.line_io.specs.Sink.{Grew, GrewInPart, Writes}
 use Rattle.plain_term.specs.Tree.{Tree, Trees, trees_len}
 use Rattle.plain_term.specs.Tree.Tree.{Nil, Cons, Tuple}
 use Rattle.plain_term.specs.Tree.Trees.{end, ◌▹◌}
@@ -12,8 +12,9 @@ use Rattle.term_tags.specs.declared.kinds.Kind.TheVariants as kind
 use Rattle.term_read.specs.Role.{always}
 use Rattle.term_read.specs.Stands.{RowStands}
 use Rattle.term_read.proofs.Shapes.{row-first}
-use Rattle.bump_space.specs.Print.{IsTail, ArePlain, Printable, Puts, ListPart, ListGoes, TupleParts, TupleGoes, most_nodes}
-use Rattle.bump_space.proofs.Texts.{grew-then, part-first, part-then, part-as, puts-then, puts-as}
+use Rattle.bump_space.specs.Print.{IsTail, ArePlain, Printable, ListPart, ListGoes, TupleParts, TupleGoes, most_nodes}
+use Rattle.line_io.proofs.Growth.{Grew-append, part-front, part-after, writes-after}
+use Rattle.bump_space.proofs.Texts.{part-as, writes-as}
 use Rattle.bump_space.proofs.Words.{kind_for, kind-is, printable-as, list-part, row-part}
 
 module _ {K : Type 0} (wrote : K → List ℕ → Type 0) (names : List (List ℕ)) (count level : ℕ) (mem : List ℕ) where
@@ -33,7 +34,7 @@ module _ {K : Type 0} (wrote : K → List ℕ → Type 0) (names : List (List �
   pub list-begins-badly : (old new : K) (place : ℕ) (t : Tree) (p : ListPart count level mem place t) → GrewInPart wrote old new (codes "[" ++ text names [] p.head) → GrewInPart wrote old new (text names [] t)
   list-begins-badly old new place t p g =
       part-as wrote old new ((codes "[" ++ text names [] p.head) ++ text_as names [] true p.tail) (text names [] t) (sym (list-text place t p))
-      (part-first wrote old new (codes "[" ++ text names [] p.head) (text_as names [] true p.tail) g)
+      (part-front wrote old new (codes "[" ++ text names [] p.head) (text_as names [] true p.tail) g)
 
   -- The next place of a list.
   pub next-part : (old now : K) (rest left next : ℕ) (t : Tree) (goes : ListGoes names (level + 1) mem rest left wrote old now count t) → next * 4 + 1 ≡ rest → ListPart count level mem next goes.tail
@@ -49,7 +50,7 @@ module _ {K : Type 0} (wrote : K → List ℕ → Type 0) (names : List (List �
         tail = p.tail;
         came = goes.came ++ (codes "," ++ text names [] p.head);
         whole = goes.whole ∙ (ap (λ x. goes.came ++ x) (tail-text next goes.tail p) ∙ sym (append_assoc goes.came (codes "," ++ text names [] p.head) (text_as names [] true p.tail)));
-        grew = grew-then wrote old mid new goes.came (codes "," ++ text names [] p.head) goes.grew g;
+        grew = Grew-append wrote old mid new goes.came (codes "," ++ text names [] p.head) goes.grew g;
         ends = p.ends;
         is = subst P (sym is) p.back;
         few = omega (arith, p.fewer, goes.few);
@@ -59,9 +60,9 @@ module _ {K : Type 0} (wrote : K → List ℕ → Type 0) (names : List (List �
       → GrewInPart wrote mid new (codes "," ++ text names [] p.head) → GrewInPart wrote old new (text names [] t)
   list-goes-badly old mid new rest left next t goes p g =
       part-as wrote old new (goes.came ++ text_as names [] true goes.tail) (text names [] t) (sym goes.whole)
-      (part-then wrote old mid new goes.came (text_as names [] true goes.tail) goes.grew
+      (part-after wrote old mid new goes.came (text_as names [] true goes.tail) goes.grew
       (part-as wrote mid new ((codes "," ++ text names [] p.head) ++ text_as names [] true p.tail) (text_as names [] true goes.tail) (sym (tail-text next goes.tail p))
-      (part-first wrote mid new (codes "," ++ text names [] p.head) (text_as names [] true p.tail) g)))
+      (part-front wrote mid new (codes "," ++ text names [] p.head) (text_as names [] true p.tail) g)))
 
   -- A tail that is no list place is nil.
   tail-nil : (w : ℕ) (x : Tree) (k : Kind) → IsTail x → k ≡ kind_for w x → ((q : ℕ) → k ≡ kind.ListAt q → ⊥) → text_as names [] true x ≡ codes "]"
@@ -70,12 +71,12 @@ module _ {K : Type 0} (wrote : K → List ℕ → Type 0) (names : List (List �
   tail-nil w _ k ends e none = absurd ends
 
   pub list-ends : {A E : Type 0} (old mid new : K) (r : Result A E) (rest left : ℕ) (t : Tree) (k : Kind) → length mem ≤ 2 ^ 24 → (goes : ListGoes names (level + 1) mem rest left wrote old mid count t)
-      → ((x : Kind) → InRange x → rest ≡ word_of x → k ≡ x) → ((q : ℕ) → k ≡ kind.ListAt q → ⊥) → Puts wrote mid new r (codes "]") → Puts wrote old new r (text names [] t)
+      → ((x : Kind) → InRange x → rest ≡ word_of x → k ≡ x) → ((q : ℕ) → k ≡ kind.ListAt q → ⊥) → Writes wrote mid new r (codes "]") → Writes wrote old new r (text names [] t)
   list-ends old mid new r rest left t k len goes back none p =
       let is = kind-is count (level + 1) mem rest goes.tail k len goes.is back in
       let last = tail-nil rest goes.tail k goes.ends is none in
-      puts-as wrote old new r (goes.came ++ codes "]") (text names [] t) (ap (λ x. goes.came ++ x) (sym last) ∙ sym goes.whole)
-      (puts-then wrote old mid new r goes.came (codes "]") goes.grew p)
+      writes-as wrote old new r (goes.came ++ codes "]") (text names [] t) (ap (λ x. goes.came ++ x) (sym last) ∙ sym goes.whole)
+      (writes-after wrote old mid new goes.came (codes "]") r goes.grew p)
 
   -- A tuple without parts.
   no-parts : (ts : Trees) → trees_len ts ≡ 0 → codes "{}" ≡ text names [] (Tuple ts)
@@ -138,7 +139,7 @@ module _ {K : Type 0} (wrote : K → List ℕ → Type 0) (names : List (List �
   pub tuple-begins-badly : (old new : K) (place : ℕ) (t : Tree) (p : TupleParts count level mem place t) (f : FirstOf p.parts) → GrewInPart wrote old new (codes "{" ++ text names [] f.first) → GrewInPart wrote old new (text names [] t)
   tuple-begins-badly old new place t p f g =
       part-as wrote old new ((codes "{" ++ text names [] f.first) ++ (more_terms names [] f.others ++ codes "}")) (text names [] t) (sym (tuple-text place t p f))
-      (part-first wrote old new (codes "{" ++ text names [] f.first) (more_terms names [] f.others ++ codes "}") g)
+      (part-front wrote old new (codes "{" ++ text names [] f.first) (more_terms names [] f.others ++ codes "}") g)
 
   -- The next part of a tuple.
   pub next-in-tuple : (old now : K) (p left : ℕ) (t : Tree) (goes : TupleGoes names level mem p left wrote old now count t) (f : FirstOf goes.rest) → Printable count level mem (get_or mem p 0) f.first
@@ -171,7 +172,7 @@ module _ {K : Type 0} (wrote : K → List ℕ → Type 0) (names : List (List �
         rest = f.others;
         came = goes.came ++ (codes "," ++ text names [] f.first);
         whole = goes.whole ∙ (ap (λ x. goes.came ++ x) (more-text goes.rest f) ∙ sym (append_assoc goes.came (codes "," ++ text names [] f.first) (more_terms names [] f.others ++ codes "}")));
-        grew = grew-then wrote old mid new goes.came (codes "," ++ text names [] f.first) goes.grew g;
+        grew = Grew-append wrote old mid new goes.came (codes "," ++ text names [] f.first) goes.grew g;
         parts = subst T (sym is) ((row-first always [] mem p f.first f.others (subst P f.is goes.parts)).1);
         plain = plain.1;
         deep = omega arith;
@@ -183,15 +184,15 @@ module _ {K : Type 0} (wrote : K → List ℕ → Type 0) (names : List (List �
       → GrewInPart wrote mid new (codes "," ++ text names [] f.first) → GrewInPart wrote old new (text names [] t)
   tuple-goes-badly old mid new p left t goes f g =
       part-as wrote old new (goes.came ++ (more_terms names [] goes.rest ++ codes "}")) (text names [] t) (sym goes.whole)
-      (part-then wrote old mid new goes.came (more_terms names [] goes.rest ++ codes "}") goes.grew
+      (part-after wrote old mid new goes.came (more_terms names [] goes.rest ++ codes "}") goes.grew
       (part-as wrote mid new ((codes "," ++ text names [] f.first) ++ (more_terms names [] f.others ++ codes "}")) (more_terms names [] goes.rest ++ codes "}") (sym (more-text goes.rest f))
-      (part-first wrote mid new (codes "," ++ text names [] f.first) (more_terms names [] f.others ++ codes "}") g)))
+      (part-front wrote mid new (codes "," ++ text names [] f.first) (more_terms names [] f.others ++ codes "}") g)))
 
   no-more : (ts : Trees) → trees_len ts ≡ 0 → more_terms names [] ts ++ codes "}" ≡ codes "}"
   no-more end e = refl
   no-more (x ▹ xs) e = absurd (omega arith)
 
-  pub tuple-ends : {A E : Type 0} (old mid new : K) (r : Result A E) (p : ℕ) (t : Tree) (goes : TupleGoes names level mem p 0 wrote old mid count t) → Puts wrote mid new r (codes "}") → Puts wrote old new r (text names [] t)
+  pub tuple-ends : {A E : Type 0} (old mid new : K) (r : Result A E) (p : ℕ) (t : Tree) (goes : TupleGoes names level mem p 0 wrote old mid count t) → Writes wrote mid new r (codes "}") → Writes wrote old new r (text names [] t)
   tuple-ends old mid new r p t goes last =
-      puts-as wrote old new r (goes.came ++ codes "}") (text names [] t) (ap (λ x. goes.came ++ x) (sym (no-more goes.rest goes.count_left)) ∙ sym goes.whole)
-      (puts-then wrote old mid new r goes.came (codes "}") goes.grew last)
+      writes-as wrote old new r (goes.came ++ codes "}") (text names [] t) (ap (λ x. goes.came ++ x) (sym (no-more goes.rest goes.count_left)) ∙ sym goes.whole)
+      (writes-after wrote old mid new goes.came (codes "}") r goes.grew last)

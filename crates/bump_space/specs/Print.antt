@@ -1,6 +1,6 @@
 -- Words that are printed: which trees stand in this space, and how a text comes out piece by piece.
-use Rattle.std.specs.Prelude.{◌≡◌, ℕ, ◌+◌, ◌<◌, ◌≤◌, true, ◌*◌, List, [], ◌++◌, length, slice_index, codes, Result, Ok, Err}
-use Rattle.line_io.specs.Sink.{Grew, GrewInPart}
+use Rattle.std.specs.Prelude.{◌≡◌, ℕ, ◌+◌, ◌<◌, ◌≤◌, true, ◌*◌, List, [], ◌++◌, length, slice_index, codes}
+use Rattle.line_io.specs.Sink.{Grew}
 use Rattle.plain_term.specs.Tree.{Tree, Trees, trees_len}
 use Rattle.plain_term.specs.Tree.Tree.{Int, Atom, Pid, Nil, Cons, Tuple}
 use Rattle.plain_term.specs.Tree.Trees.{end, ◌▹◌}
@@ -50,11 +50,6 @@ pub record Printable (count level : ℕ) (mem : List ℕ) (w : ℕ) (t : Tree) :
 pub record CanPrint (count level : ℕ) (mem : List ℕ) (w : ℕ) : Type 0 where
   pub tree : Tree
   pub is : Printable count level mem w tree
-
--- The text was written, or at a fault a proper front of it.
-abbrev pub Puts : {A E K : Type 0} → (wrote : K → List ℕ → Type 0) (old new : K) → Result A E → List ℕ → Type 0
-Puts wrote old new (Ok a) x = Grew wrote old new x
-Puts wrote old new (Err e) x = GrewInPart wrote old new x
 
 -- A list is printed up to a tail: what came so far, and what is left.
 pub record ListGoes {K : Type 0} (names : List (List ℕ)) (level : ℕ) (mem : List ℕ) (rest left : ℕ) (wrote : K → List ℕ → Type 0) (old now : K) (count : ℕ) (t : Tree) : Type 0 where

@@ -2,9 +2,10 @@
 ghost use Rattle.std.specs.Prelude.{◌≡◌, ℕ, ◌+◌, ◌*◌, ◌<◌, ◌≤◌, ◌++◌, List, [], length, codes, decimal, OnErr};
 ghost use Rattle.std.specs.Fmt.{signed_decimal};
 ghost use Rattle.line_io.specs.Faults.{Rose};
+ghost use Rattle.line_io.specs.Sink.{Writes};
 ghost use Rattle.plain_term.specs.Tree.{Tree};
 ghost use Rattle.plain_term.specs.Text.{text};
-ghost use Rattle.bump_space.specs.Print.{Printable, CanPrint, Puts, most_nodes};
+ghost use Rattle.bump_space.specs.Print.{Printable, CanPrint, most_nodes};
 
 use atom_names::AtomNames;
 use itoa::Buffer;
@@ -25,7 +26,7 @@ pub fn print_word<K: Sink>(
     sink: &mut K,
 ) -> Result<(), SinkFault>
     requires { CanPrint (length names.now) level mem.now w }
-    ensures puts { (t : Tree) → Printable (length names.now) level mem.now w t → Puts K.wrote sink.old sink.new result (text names.now [] t) }
+    ensures puts { (t : Tree) → Printable (length names.now) level mem.now w t → Writes K.wrote sink.old sink.new result (text names.now [] t) }
     ensures later { K.faults sink.old ≤ K.faults sink.new }
     ensures rose { OnErr result (Rose (K.faults sink.old) (K.faults sink.new)) }
 {
@@ -52,7 +53,7 @@ fn print_after<K: Sink>(
 ) -> Result<(), SinkFault>
     requires { CanPrint (length names.now) level mem.now w }
     ensures puts { (t : Tree) → Printable (length names.now) level mem.now w t
-        → Puts K.wrote sink.old sink.new result (mark.now ++ text names.now [] t) }
+        → Writes K.wrote sink.old sink.new result (mark.now ++ text names.now [] t) }
     ensures later { K.faults sink.old ≤ K.faults sink.new }
     ensures rose { OnErr result (Rose (K.faults sink.old) (K.faults sink.new)) }
 {
@@ -71,7 +72,7 @@ fn print_list<K: Sink>(
 ) -> Result<(), SinkFault>
     requires { CanPrint (length names.now) (level + 1) mem.now (place * 4 + 1) }
     ensures puts { (t : Tree) → Printable (length names.now) (level + 1) mem.now (place * 4 + 1) t
-        → Puts K.wrote sink.old sink.new result (text names.now [] t) }
+        → Writes K.wrote sink.old sink.new result (text names.now [] t) }
     ensures later { K.faults sink.old ≤ K.faults sink.new }
     ensures rose { OnErr result (Rose (K.faults sink.old) (K.faults sink.new)) }
 {
@@ -100,7 +101,7 @@ fn print_tuple<K: Sink>(
 ) -> Result<(), SinkFault>
     requires { CanPrint (length names.now) (level + 1) mem.now (place * 4 + 2) }
     ensures puts { (t : Tree) → Printable (length names.now) (level + 1) mem.now (place * 4 + 2) t
-        → Puts K.wrote sink.old sink.new result (text names.now [] t) }
+        → Writes K.wrote sink.old sink.new result (text names.now [] t) }
     ensures later { K.faults sink.old ≤ K.faults sink.new }
     ensures rose { OnErr result (Rose (K.faults sink.old) (K.faults sink.new)) }
 {
@@ -120,7 +121,7 @@ fn print_tuple<K: Sink>(
 
 // A small integer in decimal.
 fn print_small<K: Sink>(i: i64, sink: &mut K) -> Result<(), SinkFault>
-    ensures puts { Puts K.wrote sink.old sink.new result (signed_decimal i) }
+    ensures puts { Writes K.wrote sink.old sink.new result (signed_decimal i) }
     ensures later { K.faults sink.old ≤ K.faults sink.new }
     ensures rose { OnErr result (Rose (K.faults sink.old) (K.faults sink.new)) }
 {
@@ -130,7 +131,7 @@ fn print_small<K: Sink>(i: i64, sink: &mut K) -> Result<(), SinkFault>
 
 // A pid by its number.
 fn print_pid<K: Sink>(n: u64, sink: &mut K) -> Result<(), SinkFault>
-    ensures puts { Puts K.wrote sink.old sink.new result (codes "<0." ++ (decimal n ++ codes ".0>")) }
+    ensures puts { Writes K.wrote sink.old sink.new result (codes "<0." ++ (decimal n ++ codes ".0>")) }
     ensures later { K.faults sink.old ≤ K.faults sink.new }
     ensures rose { OnErr result (Rose (K.faults sink.old) (K.faults sink.new)) }
 {

@@ -3,9 +3,10 @@ use Rattle.std.proofs.Common.{ℕ, List, [], ◌∷◌, Result, Ok}
 use Rattle.plain_machine.specs.Step.{Outcome}
 use Rattle.plain_machine.specs.Step.Outcome.{Accepted, Refused}
 use Rattle.space_api.specs.Calls.{Prints}
-use Rattle.engine.specs.Writing.{Writes, end_of_line}
+use Rattle.line_io.specs.Sink.{Writes}
+use Rattle.engine.specs.Writing.{end_of_line}
 use Rattle.engine.specs.Replies.{outcome_text}
-use Rattle.engine.proofs.Writing.{writes-after}
+use Rattle.line_io.proofs.Growth.{writes-after}
 
 -- the text was printed, and then the line's end
 pub text-line : {A B E K : Type 0} (wrote : K → List ℕ → Type 0) (old mid new : K) (o : Outcome) (a : A) (r : Result B E)

@@ -1,33 +1,8 @@
 -- How what was written grows over the parts of a line.
-use Rattle.std.proofs.Common.{◌≡◌, ℕ, ◌<◌, List, [], ◌∷◌, ◌++◌, length, sym, ap, subst, ◌∙◌, arith, append_assoc, append-nil, length-append, Result, Ok, Err, OnOk, OnErr, IsErr, codes}
-use Rattle.line_io.specs.Sink.{Grew, GrewInPart}
-use Rattle.line_io.proofs.Growth.{Grew-append}
-use Rattle.engine.specs.Writing.{Writes, end_of_line}
-
--- a front of the first part is one of both
-pub part-front : {K : Type 0} (wrote : K → List ℕ → Type 0) (old new : K) (x y : List ℕ) → GrewInPart wrote old new x → GrewInPart wrote old new (x ++ y)
-part-front wrote old new x y p = record {
-  part = p.part;
-  missing = p.missing ++ y;
-  whole = ap (λ l. l ++ y) p.whole ∙ append_assoc p.part p.missing y;
-  some = let h : 0 < length p.missing = p.some in omega (arith, h, length-append p.missing y);
-  grew = p.grew;
-}
-
--- the first part and a front of the second
-pub part-after : {K : Type 0} (wrote : K → List ℕ → Type 0) (old mid new : K) (x y : List ℕ) → Grew wrote old mid x → GrewInPart wrote mid new y → GrewInPart wrote old new (x ++ y)
-part-after wrote old mid new x y g p = record {
-  part = x ++ p.part;
-  missing = p.missing;
-  whole = ap (λ l. x ++ l) p.whole ∙ sym (append_assoc x p.part p.missing);
-  some = p.some;
-  grew = Grew-append wrote old mid new x p.part g p.grew;
-}
-
--- the first part was written, and then what a call left of the second
-pub writes-after : {A E K : Type 0} (wrote : K → List ℕ → Type 0) (old mid new : K) (x y : List ℕ) (r : Result A E) → Grew wrote old mid x → Writes wrote mid new r y → Writes wrote old new r (x ++ y)
-writes-after wrote old mid new x y (Ok a) g w = Grew-append wrote old mid new x y g w
-writes-after wrote old mid new x y (Err e) g w = part-after wrote old mid new x y g w
+use Rattle.std.proofs.Common.{◌≡◌, ℕ, List, [], ◌∷◌, ◌++◌, sym, ap, subst, ◌∙◌, append_assoc, append-nil, Result, codes}
+use Rattle.line_io.specs.Sink.{Grew, GrewInPart, Writes}
+use Rattle.line_io.proofs.Growth.{Grew-append, part-front, part-after, writes-after}
+use Rattle.engine.specs.Writing.{end_of_line}
 
 -- three parts, of which the second stopped
 pub second-stopped : {K : Type 0} (wrote : K → List ℕ → Type 0) (old mid new : K) (x y z : List ℕ) → Grew wrote old mid x → GrewInPart wrote mid new y → GrewInPart wrote old new ((x ++ y) ++ z)
@@ -37,16 +12,6 @@ second-stopped wrote old mid new x y z g p = part-front wrote old new (x ++ y) z
 pub three-parts : {A E K : Type 0} (wrote : K → List ℕ → Type 0) (old one two new : K) (x y z : List ℕ) (r : Result A E)
     → Grew wrote old one x → Grew wrote one two y → Writes wrote two new r z → Writes wrote old new r ((x ++ y) ++ z)
 three-parts wrote old one two new x y z r g h w = writes-after wrote old two new (x ++ y) z r (Grew-append wrote old one two x y g h) w
-
--- the two clauses of a call as one
-pub writes-of : {A E K : Type 0} (wrote : K → List ℕ → Type 0) (old new : K) (x : List ℕ) (r : Result A E) → OnOk r (Grew wrote old new x) → OnErr r (GrewInPart wrote old new x) → Writes wrote old new r x
-writes-of wrote old new x (Ok a) all part = all
-writes-of wrote old new x (Err e) all part = part
-
--- at a fault
-pub writes-fault : {A E K : Type 0} (wrote : K → List ℕ → Type 0) (old new : K) (x : List ℕ) (r : Result A E) → IsErr r → GrewInPart wrote old new x → Writes wrote old new r x
-writes-fault wrote old new x (Ok a) h part = absurd (cc)
-writes-fault wrote old new x (Err e) h part = part
 
 -- a part was written, and the next part of the rest stopped
 pub rest-stopped : {K : Type 0} (wrote : K → List ℕ → Type 0) (old mid new : K) (whole part rest x y : List ℕ)

@@ -1,14 +1,8 @@
--- What writing a reply leaves.
-use Rattle.std.specs.Prelude.{ℕ, nat_lt, if◌then◌else◌, List, [], ◌∷◌, ◌++◌, codes, Result, Ok, Err}
-use Rattle.line_io.specs.Sink.{Grew, GrewInPart}
+-- The texts that replies are made of.
+use Rattle.std.specs.Prelude.{ℕ, nat_lt, if◌then◌else◌, List, [], ◌∷◌, ◌++◌, codes}
 use Rattle.plain_machine.specs.declared.refusal.Refusal.{Refusal}
 use Rattle.plain_machine.specs.declared.refusal.Refusal.TheVariants.{NoSpace}
 use Rattle.plain_machine.specs.Run.{refusal_text}
-
--- All of the bytes were written, or at a fault a proper front of them.
-abbrev pub Writes : {A E K : Type 0} → (wrote : K → List ℕ → Type 0) (old new : K) → Result A E → List ℕ → Type 0
-Writes wrote old new (Ok a) x = Grew wrote old new x
-Writes wrote old new (Err e) x = GrewInPart wrote old new x
 
 -- A line with its end.
 abbrev pub end_of_line : List ℕ → List ℕ

@@ -1,8 +1,8 @@
 ghost use Rattle.std.specs.Prelude.{◌≡◌, ℕ, ◌+◌, ◌^◌, ◌<◌, ◌≤◌, List, length};
 ghost use Rattle.plain_machine.specs.Run.{replies_text};
 ghost use Rattle.plain_machine.specs.State.{State};
-ghost use Rattle.line_io.specs.Gathered.{Written};
 ghost use Rattle.line_io.specs.Lines.{text, long};
+ghost use Rattle.line_io.specs.Sink.{Written};
 ghost use Rattle.engine.specs.Replies.{CanReply, reply_lines};
 ghost use Rattle.engine.specs.Acts.{StandsWith, Takes};
 ghost use Rattle.engine.specs.Steps.{Steps};

@@ -2,7 +2,8 @@ ghost use Rattle.std.specs.Prelude.{◌≡◌, ℕ, ◌≤◌, ◌++◌, ◌∷�
 ghost use Rattle.line_io.specs.Faults.{Rose};
 ghost use Rattle.plain_term.specs.Text.{numbers_text, more_numbers};
 ghost use Rattle.plain_machine.specs.State.{State, live_numbers};
-ghost use Rattle.engine.specs.Writing.{Writes, end_of_line, above};
+ghost use Rattle.line_io.specs.Sink.{Writes};
+ghost use Rattle.engine.specs.Writing.{end_of_line, above};
 
 use crate::texts::put_number;
 use line_io::{Sink, SinkFault, put_all};

@@ -2,7 +2,7 @@ ghost use Rattle.std.specs.Prelude.{◌≡◌, ℕ, ◌≤◌, ◌++◌, ◌∷�
 ghost use Rattle.line_io.specs.Faults.{Rose};
 ghost use Rattle.plain_machine.specs.Run.{replies_text};
 ghost use Rattle.plain_machine.specs.State.{State};
-ghost use Rattle.engine.specs.Writing.{Writes};
+ghost use Rattle.line_io.specs.Sink.{Writes};
 ghost use Rattle.engine.specs.Replies.{reply_lines, CanReply};
 
 use crate::numbers::put_numbers;

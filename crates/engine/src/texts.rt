@@ -1,7 +1,8 @@
 ghost use Rattle.std.specs.Prelude.{◌≡◌, ℕ, ◌≤◌, ◌++◌, ◌∷◌, [], List, OnErr, codes, decimal};
 ghost use Rattle.line_io.specs.Faults.{Rose};
 ghost use Rattle.plain_machine.specs.Run.{refusal_text};
-ghost use Rattle.engine.specs.Writing.{Writes, refusal_words, end_of_line};
+ghost use Rattle.line_io.specs.Sink.{Writes};
+ghost use Rattle.engine.specs.Writing.{refusal_words, end_of_line};
 
 use itoa::Buffer;
 use line_io::{Sink, SinkFault, put_all};

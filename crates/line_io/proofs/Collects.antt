@@ -3,8 +3,8 @@ use Rattle.std.proofs.Common.{◌≡◌, ℕ, zero, suc, List, [], ◌∷◌, �
 use Rattle.std.specs.Prelude.{IsErr}
 use Rattle.std.proofs.lemmas.List.{append_cancel_right}
 use Rattle.line_io.specs.Faults.{Rose}
-use Rattle.line_io.specs.Sink.{Grew, GrewInPart}
-use Rattle.line_io.specs.Gathered.{gathered_wrote, pending, Sent, Written}
+use Rattle.line_io.specs.Sink.{Grew, GrewInPart, Written}
+use Rattle.line_io.specs.Gathered.{gathered_wrote, pending, Sent}
 use Rattle.line_io.specs.declared.gathered.Gathered.{Gathered}
 use Rattle.line_io.proofs.Growth.{Grew-append}
 

@@ -1,7 +1,6 @@
 -- What a sink has taken that gathers bytes for another one.
-use Rattle.std.specs.Prelude.{◌≡◌, ℕ, ◌≤◌, zero, suc, List, [], ◌∷◌, ◌++◌, slice_range, Result, OnOk, OnErr}
-use Rattle.line_io.specs.Faults.{Rose}
-use Rattle.line_io.specs.Sink.{Grew, GrewInPart}
+use Rattle.std.specs.Prelude.{◌≡◌, ℕ, zero, suc, List, [], ◌∷◌, ◌++◌, slice_range}
+use Rattle.line_io.specs.Sink.{Grew}
 use Rattle.line_io.specs.declared.gathered.Gathered.{Gathered}
 
 -- the bytes that are gathered and not handed on
@@ -29,10 +28,3 @@ pub record Sent {K : Type 0} (wrote : K → List ℕ → Type 0) (old new : Gath
   pub out : List ℕ
   pub parts : x ≡ out ++ pending new
   pub grew : Grew wrote old.sink.now new.sink.now out
-
--- after writing x to a sink: all of it at Ok; at an error a proper part of it, and the count of faults rose
-pub record Written {K E : Type 0} (wrote : K → List ℕ → Type 0) (faults : K → ℕ) (old new : K) (x : List ℕ) (r : Result (Unit {0}) E) : Type 0 where
-  pub all : OnOk r (Grew wrote old new x)
-  pub part : OnErr r (GrewInPart wrote old new x)
-  pub later : faults old ≤ faults new
-  pub rose : OnErr r (Rose (faults old) (faults new))

@@ -1,6 +1,6 @@
 -- What a sink has taken.
-use Rattle.std.specs.Prelude.{◌≡◌, ℕ, ◌<◌, ◌≤◌, List, [], ◌++◌, length, take}
-use Rattle.line_io.specs.Faults.{raised}
+use Rattle.std.specs.Prelude.{◌≡◌, ℕ, ◌<◌, ◌≤◌, List, [], ◌++◌, length, take, Result, Ok, Err, OnOk, OnErr}
+use Rattle.line_io.specs.Faults.{Rose, raised}
 use Rattle.line_io.specs.declared.sink.Took.{Took}
 use Rattle.line_io.specs.declared.sink.Took.TheVariants.{Took as Bytes, Failed}
 
@@ -30,3 +30,15 @@ pub record GrewInPart {K : Type 0} (wrote : K → List ℕ → Type 0) (old new 
   pub whole : x ≡ part ++ missing
   pub some : 0 < length missing
   pub grew : Grew wrote old new part
+
+-- what a call that was to write x did: all of it was written at Ok, a proper front of it at an error
+abbrev pub Writes : {A E K : Type 0} → (wrote : K → List ℕ → Type 0) (old new : K) → Result A E → List ℕ → Type 0
+Writes wrote old new (Ok a) x = Grew wrote old new x
+Writes wrote old new (Err e) x = GrewInPart wrote old new x
+
+-- the same, and the count of faults, which rose at an error
+pub record Written {K E : Type 0} (wrote : K → List ℕ → Type 0) (faults : K → ℕ) (old new : K) (x : List ℕ) (r : Result (Unit {0}) E) : Type 0 where
+  pub all : OnOk r (Grew wrote old new x)
+  pub part : OnErr r (GrewInPart wrote old new x)
+  pub later : faults old ≤ faults new
+  pub rose : OnErr r (Rose (faults old) (faults new))

@@ -4,7 +4,7 @@ ghost use Rattle.line_io.specs.Faults.{Rose};
 ghost use Rattle.std.specs.Fmt.{signed_decimal};
 ghost use Rattle.plain_term.specs.Order.{name_of};
 ghost use Rattle.plain_term.specs.Text.{text};
-ghost use Rattle.engine.specs.Writing.{Writes};
+ghost use Rattle.line_io.specs.Sink.{Writes};
 ghost use Rattle.list_space.specs.Items.{alone};
 
 use atom_names::AtomNames;

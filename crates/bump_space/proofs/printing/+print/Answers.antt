@@ -6,14 +6,15 @@ use Rattle.plain_term.specs.Text.{text}
 use Rattle.bump_space.specs.Print.{CanPrint}
 use Rattle.std.specs.Int.{w64}
 use Rattle.bump_space.proofs.Smalls.{value-kept}
-use Rattle.bump_space.proofs.Texts.{puts-then, puts-as, puts-err, puts-all, rose-from}
+use Rattle.line_io.proofs.Growth.{writes-after, writes-fault, writes-of}
+use Rattle.bump_space.proofs.Texts.{writes-as, rose-from}
 use Rattle.bump_space.proofs.Words.{kind-is, text-small, text-atom, atom-below, text-pid, text-nil, list-deep, boxed-deep, printable-as, list-part, tuple-parts}
 use Rattle.bump_space.proofs.Lists.{list-begins, list-begins-badly, next-part, list-goes, list-goes-badly, list-ends, empty-text, first-of, tuple-first, tuple-begins, tuple-begins-badly, next-in-tuple, tuple-goes, tuple-goes-badly, tuple-ends}
 use Rattle.bump_space.proofs.printing.+print.Goals as goal
 
 pub print_after-returns-clause-puts : goal.print_after-returns-clause-puts
 print_after-returns-clause-puts g t c =
-    λ t' p. puts-then g.K.Sink.wrote c.args.sink.now c.put_all.new.sink c.print_word.new.sink c.print_word.result c.args.mark.now (text c.args.names.now [] t') c.in_ok-put_all.ensures.all (c.print_word.ensures.puts t' p)
+    λ t' p. writes-after g.K.Sink.wrote c.args.sink.now c.put_all.new.sink c.print_word.new.sink c.args.mark.now (text c.args.names.now [] t') c.print_word.result c.in_ok-put_all.ensures.all (c.print_word.ensures.puts t' p)
 
 pub print_list-get-head-requires : goal.print_list-get-head-requires
 print_list-get-head-requires g t c =
@@ -27,7 +28,7 @@ pub print_list-returns-in_err-print_after-clause-puts : goal.print_list-returns-
 print_list-returns-in_err-print_after-clause-puts g t c =
     λ t' p.
     let q = list-part (length c.args.names.now) c.args.level c.args.mem.now c.args.place t' p in
-    puts-err g.K.Sink.wrote c.args.sink.now c.print_after.new.sink c.from_residual.result (text c.args.names.now [] t') c.from_residual.ensures.0
+    writes-fault g.K.Sink.wrote c.args.sink.now c.print_after.new.sink (text c.args.names.now [] t') c.from_residual.result c.from_residual.ensures.0
     (list-begins-badly g.K.Sink.wrote c.args.names.now (length c.args.names.now) c.args.level c.args.mem.now c.args.sink.now c.print_after.new.sink c.args.place t' q (c.in_err-print_after.ensures.puts q.head (printable-as (length c.args.names.now) c.args.level c.args.level (get_or c.args.mem.now c.args.place 0) c.get-head.result c.args.mem.now q.head refl (sym c.get-head.ensures) q.front)))
 
 pub print_list-overflow_add-place : goal.print_list-overflow_add-place
@@ -60,7 +61,7 @@ pub print_list-returns-in_err-print_after-2-clause-puts : goal.print_list-return
 print_list-returns-in_err-print_after-2-clause-puts g t c =
     λ t' p.
     let q = next-part g.K.Sink.wrote c.args.names.now (length c.args.names.now) c.args.level c.args.mem.now c.args.sink.now c.loop-next.sink c.loop-next.rest c.loop-next.left c.in-ListAt.next t' (c.loop-next.invariant.goes t' p) c.in-ListAt.ensures.exact.1 in
-    puts-err g.K.Sink.wrote c.args.sink.now c.print_after-in-ListAt.new.sink c.from_residual-in_err-print_after-2.result (text c.args.names.now [] t') c.from_residual-in_err-print_after-2.ensures.0
+    writes-fault g.K.Sink.wrote c.args.sink.now c.print_after-in-ListAt.new.sink (text c.args.names.now [] t') c.from_residual-in_err-print_after-2.result c.from_residual-in_err-print_after-2.ensures.0
     (list-goes-badly g.K.Sink.wrote c.args.names.now (length c.args.names.now) c.args.level c.args.mem.now c.args.sink.now c.loop-next.sink c.print_after-in-ListAt.new.sink c.loop-next.rest c.loop-next.left c.in-ListAt.next t' (c.loop-next.invariant.goes t' p) q
     (c.in_err-print_after-2.ensures.puts q.head (printable-as (length c.args.names.now) c.args.level c.args.level (get_or c.args.mem.now c.in-ListAt.next 0) c.get-part.result c.args.mem.now q.head refl (sym c.get-part.ensures) q.front)))
 
@@ -84,7 +85,7 @@ print_list-returns g t c =
     record {
       puts = λ t' p.
           list-ends g.K.Sink.wrote c.args.names.now (length c.args.names.now) c.args.level c.args.mem.now c.args.sink.now c.loop-next.sink c.put_all.new.sink c.put_all.result c.loop-next.rest c.loop-next.left t' c.kind_of.result c.len-len.ensures.most (c.loop-next.invariant.goes t' p) c.kind_of.ensures.back c.in_default.not-ListAt
-          (puts-all g.K.Sink.wrote c.loop-next.sink c.put_all.new.sink c.put_all.result (codes "]") c.put_all.ensures.all c.put_all.ensures.part);
+          (writes-of g.K.Sink.wrote c.loop-next.sink c.put_all.new.sink (codes "]") c.put_all.result c.put_all.ensures.all c.put_all.ensures.part);
       later = omega (arith, c.loop-next.invariant.later, c.put_all.ensures.later);
       rose = rose-from c.put_all.result (g.K.Sink.faults c.args.sink.now) (g.K.Sink.faults c.loop-next.sink) (g.K.Sink.faults c.put_all.new.sink) c.loop-next.invariant.later c.put_all.ensures.rose;
     }
@@ -98,8 +99,8 @@ print_tuple-returns-then-count-eq0-clause-puts g t c =
     λ t' p.
     let q = tuple-parts (length c.args.names.now) c.args.level c.args.mem.now c.args.place t' p in
     let none : get_or c.args.mem.now c.args.place 0 / 64 ≡ 0 = omega (arith, c.get-count.ensures, c.if-count-eq0.true) in
-    puts-as g.K.Sink.wrote c.args.sink.now c.put_all.new.sink c.put_all.result (codes "{}") (text c.args.names.now [] t') (empty-text g.K.Sink.wrote c.args.names.now (length c.args.names.now) c.args.level c.args.mem.now c.args.place t' q none)
-    (puts-all g.K.Sink.wrote c.args.sink.now c.put_all.new.sink c.put_all.result (codes "{}") c.put_all.ensures.all c.put_all.ensures.part)
+    writes-as g.K.Sink.wrote c.args.sink.now c.put_all.new.sink c.put_all.result (codes "{}") (text c.args.names.now [] t') (empty-text g.K.Sink.wrote c.args.names.now (length c.args.names.now) c.args.level c.args.mem.now c.args.place t' q none)
+    (writes-of g.K.Sink.wrote c.args.sink.now c.put_all.new.sink (codes "{}") c.put_all.result c.put_all.ensures.all c.put_all.ensures.part)
 
 pub print_tuple-overflow_add-place : goal.print_tuple-overflow_add-place
 print_tuple-overflow_add-place g t c =
@@ -118,7 +119,7 @@ print_tuple-returns-in_err-print_after-clause-puts g t c =
     λ t' p.
     let q = tuple-parts (length c.args.names.now) c.args.level c.args.mem.now c.args.place t' p in
     let f = first-of q.parts (trees_len q.parts) refl (omega (arith, q.header, c.get-count.ensures, c.if-count-eq0.false)) in
-    puts-err g.K.Sink.wrote c.args.sink.now c.print_after.new.sink c.from_residual.result (text c.args.names.now [] t') c.from_residual.ensures.0
+    writes-fault g.K.Sink.wrote c.args.sink.now c.print_after.new.sink (text c.args.names.now [] t') c.from_residual.result c.from_residual.ensures.0
     (tuple-begins-badly g.K.Sink.wrote c.args.names.now (length c.args.names.now) c.args.level c.args.mem.now c.args.sink.now c.print_after.new.sink c.args.place t' q f (c.in_err-print_after.ensures.puts f.first (printable-as (length c.args.names.now) c.args.level c.args.level (get_or c.args.mem.now (c.args.place + 1) 0) c.get-first.result c.args.mem.now f.first refl (sym c.get-first.ensures) (tuple-first g.K.Sink.wrote c.args.names.now (length c.args.names.now) c.args.level c.args.mem.now c.args.place t' q f))))
 
 pub print_tuple-loop-i-init : goal.print_tuple-loop-i-init
@@ -155,7 +156,7 @@ print_tuple-returns-in_err-print_after-2-clause-puts g t c =
     λ t' p.
     let goes = c.loop-i.invariant.goes t' p ((c.get-count.result / 64) - c.loop-i.i) (omega arith) in
     let f = first-of goes.rest ((c.get-count.result / 64) - c.loop-i.i) goes.count_left (omega arith) in
-    puts-err g.K.Sink.wrote c.args.sink.now c.print_after-in-loop-i.new.sink c.from_residual-in_err-print_after-2.result (text c.args.names.now [] t') c.from_residual-in_err-print_after-2.ensures.0
+    writes-fault g.K.Sink.wrote c.args.sink.now c.print_after-in-loop-i.new.sink (text c.args.names.now [] t') c.from_residual-in_err-print_after-2.result c.from_residual-in_err-print_after-2.ensures.0
     (tuple-goes-badly g.K.Sink.wrote c.args.names.now (length c.args.names.now) c.args.level c.args.mem.now c.args.sink.now c.loop-i.sink c.print_after-in-loop-i.new.sink (c.args.place + 1 + c.loop-i.i) ((c.get-count.result / 64) - c.loop-i.i) t' goes f (c.in_err-print_after-2.ensures.puts f.first (printable-as (length c.args.names.now) c.args.level c.args.level (get_or c.args.mem.now (c.args.place + 1 + c.loop-i.i) 0) c.get-part.result c.args.mem.now f.first refl (sym c.get-part.ensures) (next-in-tuple g.K.Sink.wrote c.args.names.now (length c.args.names.now) c.args.level c.args.mem.now c.args.sink.now c.loop-i.sink (c.args.place + 1 + c.loop-i.i) ((c.get-count.result / 64) - c.loop-i.i) t' goes f))))
 
 pub print_tuple-loop-i-preserved : goal.print_tuple-loop-i-preserved
@@ -174,7 +175,7 @@ print_tuple-returns-clause-puts g t c =
     λ t' p.
     let goes = c.loop-i.invariant.goes t' p 0 (omega arith) in
     tuple-ends g.K.Sink.wrote c.args.names.now (length c.args.names.now) c.args.level c.args.mem.now c.args.sink.now c.loop-i.sink c.put_all-2.new.sink c.put_all-2.result (c.args.place + 1 + c.loop-i.i) t' goes
-    (puts-all g.K.Sink.wrote c.loop-i.sink c.put_all-2.new.sink c.put_all-2.result (codes "}") c.put_all-2.ensures.all c.put_all-2.ensures.part)
+    (writes-of g.K.Sink.wrote c.loop-i.sink c.put_all-2.new.sink (codes "}") c.put_all-2.result c.put_all-2.ensures.all c.put_all-2.ensures.part)
 
 pub print_word-name-requires : goal.print_word-name-requires
 print_word-name-requires g t c =
@@ -202,22 +203,22 @@ print_word-print_tuple-requires g t c =
 
 pub print_word-returns-in-Small-clause-puts : goal.print_word-returns-in-Small-clause-puts
 print_word-returns-in-Small-clause-puts g t c =
-    λ t' p. puts-as g.K.Sink.wrote c.args.sink.now c.print_small.new.sink c.print_small.result (signed_decimal (to_z w64 (of_z w64 c.in-Small.i))) (text c.args.names.now [] t') (ap signed_decimal (value-kept c.in-Small.i c.in-Small.ensures.exact.0) ∙ text-small (length c.args.names.now) c.args.w c.args.names.now t' c.in-Small.i p.modest.plain (sym (kind-is (length c.args.names.now) c.args.level c.args.mem.now c.args.w t' c.kind_of.result c.len-len.ensures.most p c.kind_of.ensures.back) ∙ c.in-Small.is)) c.print_small.ensures.puts
+    λ t' p. writes-as g.K.Sink.wrote c.args.sink.now c.print_small.new.sink c.print_small.result (signed_decimal (to_z w64 (of_z w64 c.in-Small.i))) (text c.args.names.now [] t') (ap signed_decimal (value-kept c.in-Small.i c.in-Small.ensures.exact.0) ∙ text-small (length c.args.names.now) c.args.w c.args.names.now t' c.in-Small.i p.modest.plain (sym (kind-is (length c.args.names.now) c.args.level c.args.mem.now c.args.w t' c.kind_of.result c.len-len.ensures.most p c.kind_of.ensures.back) ∙ c.in-Small.is)) c.print_small.ensures.puts
 
 pub print_word-returns-in-Atom-clause-puts : goal.print_word-returns-in-Atom-clause-puts
 print_word-returns-in-Atom-clause-puts g t c =
     λ t' p.
     let is = text-atom (length c.args.names.now) c.args.w c.args.names.now t' c.in-Atom.k p.modest.plain (sym (kind-is (length c.args.names.now) c.args.level c.args.mem.now c.args.w t' c.kind_of.result c.len-len.ensures.most p c.kind_of.ensures.back) ∙ c.in-Atom.is) in
-    puts-as g.K.Sink.wrote c.args.sink.now c.put_all.new.sink c.put_all.result c.name.result.now (text c.args.names.now [] t') (c.name.ensures.value ∙ is)
-    (puts-all g.K.Sink.wrote c.args.sink.now c.put_all.new.sink c.put_all.result c.name.result.now c.put_all.ensures.all c.put_all.ensures.part)
+    writes-as g.K.Sink.wrote c.args.sink.now c.put_all.new.sink c.put_all.result c.name.result.now (text c.args.names.now [] t') (c.name.ensures.value ∙ is)
+    (writes-of g.K.Sink.wrote c.args.sink.now c.put_all.new.sink c.name.result.now c.put_all.result c.put_all.ensures.all c.put_all.ensures.part)
 
 pub print_word-returns-in-Pid-clause-puts : goal.print_word-returns-in-Pid-clause-puts
 print_word-returns-in-Pid-clause-puts g t c =
-    λ t' p. puts-as g.K.Sink.wrote c.args.sink.now c.print_pid.new.sink c.print_pid.result (codes "<0." ++ (decimal c.in-Pid.n ++ codes ".0>")) (text c.args.names.now [] t') (text-pid (length c.args.names.now) c.args.w c.args.names.now t' c.in-Pid.n p.modest.plain (sym (kind-is (length c.args.names.now) c.args.level c.args.mem.now c.args.w t' c.kind_of.result c.len-len.ensures.most p c.kind_of.ensures.back) ∙ c.in-Pid.is)) c.print_pid.ensures.puts
+    λ t' p. writes-as g.K.Sink.wrote c.args.sink.now c.print_pid.new.sink c.print_pid.result (codes "<0." ++ (decimal c.in-Pid.n ++ codes ".0>")) (text c.args.names.now [] t') (text-pid (length c.args.names.now) c.args.w c.args.names.now t' c.in-Pid.n p.modest.plain (sym (kind-is (length c.args.names.now) c.args.level c.args.mem.now c.args.w t' c.kind_of.result c.len-len.ensures.most p c.kind_of.ensures.back) ∙ c.in-Pid.is)) c.print_pid.ensures.puts
 
 pub print_word-returns-in_default-clause-puts : goal.print_word-returns-in_default-clause-puts
 print_word-returns-in_default-clause-puts g t c =
     λ t' p.
     let is = text-nil (length c.args.names.now) c.args.w c.args.names.now t' c.kind_of.result p.modest.plain (kind-is (length c.args.names.now) c.args.level c.args.mem.now c.args.w t' c.kind_of.result c.len-len.ensures.most p c.kind_of.ensures.back) c.in_default.not-Small c.in_default.not-Pid c.in_default.not-Atom c.in_default.not-ListAt c.in_default.not-BoxedAt in
-    puts-as g.K.Sink.wrote c.args.sink.now c.put_all-in_default.new.sink c.put_all-in_default.result (codes "[]") (text c.args.names.now [] t') is
-    (puts-all g.K.Sink.wrote c.args.sink.now c.put_all-in_default.new.sink c.put_all-in_default.result (codes "[]") c.put_all-in_default.ensures.all c.put_all-in_default.ensures.part)
+    writes-as g.K.Sink.wrote c.args.sink.now c.put_all-in_default.new.sink c.put_all-in_default.result (codes "[]") (text c.args.names.now [] t') is
+    (writes-of g.K.Sink.wrote c.args.sink.now c.put_all-in_default.new.sink (codes "[]") c.put_all-in_default.result c.put_all-in_default.ensures.all c.put_all-in_default.ensures.part)

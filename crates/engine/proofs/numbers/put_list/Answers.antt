@@ -1,10 +1,9 @@
 use Rattle.std.proofs.Common.{decimal, sym, ◌∙◌, subst}
-use Rattle.line_io.proofs.Growth.{Grew-nil}
-use Rattle.line_io.specs.Sink.{Grew, GrewInPart}
+use Rattle.line_io.proofs.Growth.{Grew-nil, writes-fault, writes-after, part-front}
+use Rattle.line_io.specs.Sink.{Grew, GrewInPart, Writes}
 use Rattle.plain_term.specs.Text.{more_numbers}
 use Rattle.plain_machine.specs.State.{live_numbers}
-use Rattle.engine.specs.Writing.{above, Writes}
-use Rattle.engine.proofs.Writing.{writes-fault, writes-after, part-front}
+use Rattle.engine.specs.Writing.{above}
 use Rattle.engine.proofs.Rising.{numbers-found, numbers-none}
 use Rattle.engine.proofs.numbers.put_list.Goals as goal
 

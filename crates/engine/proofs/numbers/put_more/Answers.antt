@@ -1,6 +1,7 @@
 use Rattle.std.proofs.Common.{codes, decimal, sym, ◌∙◌, arith}
 use Rattle.plain_machine.specs.State.{live_numbers}
-use Rattle.engine.proofs.Writing.{writes-fault, rest-stopped, rest-stopped-later, rest-grew, rest-none}
+use Rattle.line_io.proofs.Growth.{writes-fault}
+use Rattle.engine.proofs.Writing.{rest-stopped, rest-stopped-later, rest-grew, rest-none}
 use Rattle.engine.proofs.Rising.{more-found, more-none}
 use Rattle.engine.proofs.numbers.put_more.Goals as goal
 

@@ -1,7 +1,8 @@
 use Rattle.std.proofs.Common.{[], ◌∷◌}
 use Rattle.plain_term.specs.Text.{numbers_text}
 use Rattle.plain_machine.specs.State.{live_numbers}
-use Rattle.engine.proofs.Writing.{writes-fault, writes-of, bracket-stopped, bracket-line, part-front}
+use Rattle.line_io.proofs.Growth.{writes-fault, writes-of, part-front}
+use Rattle.engine.proofs.Writing.{bracket-stopped, bracket-line}
 use Rattle.engine.proofs.numbers.put_numbers.Goals as goal
 
 pub returns-in_err-put_all-clause-writes : goal.returns-in_err-put_all-clause-writes

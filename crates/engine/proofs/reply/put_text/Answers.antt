@@ -1,5 +1,5 @@
 use Rattle.engine.proofs.Replies.{text-line}
-use Rattle.engine.proofs.Writing.{writes-of}
+use Rattle.line_io.proofs.Growth.{writes-of}
 use Rattle.engine.proofs.reply.put_text.Goals as goal
 
 pub returns-in-Ok-clause-writes : goal.returns-in-Ok-clause-writes

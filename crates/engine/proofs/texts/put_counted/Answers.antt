@@ -1,5 +1,6 @@
 use Rattle.std.proofs.Common.{decimal, [], ◌∷◌}
-use Rattle.engine.proofs.Writing.{second-stopped, three-parts, writes-of, writes-fault}
+use Rattle.line_io.proofs.Growth.{writes-of, writes-fault}
+use Rattle.engine.proofs.Writing.{second-stopped, three-parts}
 use Rattle.engine.proofs.texts.put_counted.Goals as goal
 
 pub returns-in_err-put_number-clause-writes : goal.returns-in_err-put_number-clause-writes

@@ -1,6 +1,7 @@
 use Rattle.std.proofs.Common.{◌≡◌, decimal, codes, ◌∙◌, subst, ◌++◌}
 use Rattle.line_io.specs.Sink.{Grew, GrewInPart}
-use Rattle.engine.proofs.Writing.{part-front, second-stopped, three-parts, writes-of, writes-fault}
+use Rattle.line_io.proofs.Growth.{part-front, writes-of, writes-fault}
+use Rattle.engine.proofs.Writing.{second-stopped, three-parts}
 use Rattle.list_space.proofs.printing.print_pid.Goals as goal
 
 pub returns-in_err-put_all-clause-writes : goal.returns-in_err-put_all-clause-writes
