@@ -56,7 +56,7 @@ pub trait Space {
     /// A number above every atom and every fun's name that the space keeps.
     ghost named: { Self → ℕ };
 
-    /// At least how many changing calls were made.
+    /// A number that each changing call raises by at most one.
     ghost calls: { Self → ℕ };
 
     /// Whether a space with so many words may answer in this state that it has none for this command.
