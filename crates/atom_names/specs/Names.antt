@@ -12,8 +12,12 @@ index_of names name = position (λ x. bytes_eq x name) names
 abbrev pub with_name : List (List ℕ) → List ℕ → List (List ℕ)
 with_name names name = if is_some (index_of names name) then names else (names ++ name ∷ [])
 
--- At most 16,384 names of 1 to 63 bytes, none of which stands twice.
+-- There are at most so many names.
+abbrev pub most_names : ℕ
+most_names = 16384
+
+-- At most so many names, of 1 to 63 bytes, none of which stands twice.
 pub record AreNames (names : List (List ℕ)) : Type 0 where
-  pub few : length names ≤ 16384
+  pub few : length names ≤ most_names
   pub sized : (k : ℕ) → k < length names → (1 ≤ length (slice_index_or names k [])) × (length (slice_index_or names k []) ≤ 63)
   pub once : (k : ℕ) → k < length names → index_of names (slice_index_or names k []) ≡ Some k

@@ -10,17 +10,12 @@ use Rattle.plain_term.specs.Measures.{is_small, nodes, nodes_of_all, depth, grea
 use Rattle.plain_machine.specs.Written.{Term, Terms, terms_len}
 use Rattle.plain_machine.specs.Written.Term.{Int, Atom, Pid, Held, Listed, Barred, Tuple, Map, Bin}
 use Rattle.plain_machine.specs.Written.Terms.{end, ◌▹◌}
-use Rattle.plain_machine.specs.Grammar.{MayStand, AllMayStand, IsBuiltTerm, AreBuiltTerms, IsSmall}
+use Rattle.plain_machine.specs.Grammar.{MayStand, AllMayStand, IsBuiltTerm, AreBuiltTerms}
 use Rattle.plain_machine.specs.Names.{items_of, listed_items, all_items, tree_of, trees_of, list_tree}
 use Rattle.plain_machine.specs.Tightness.{build_words, build_words_of_all}
 use Rattle.space_api.specs.Calls.{IsNamedBelow}
 use Rattle.bump_space.specs.Forest.{before, Forest, words_of}
 use Rattle.bump_space.specs.Print.{IsTail, IsPlain, ArePlain}
-
--- A small integer by the table of what is built.
-small-built : (i : ℤ) → IsSmall i → is_small i ≡ true
-small-built (pos n) s = grind (arith, nat_tests)
-small-built (negsuc n) s = grind (arith, nat_tests)
 
 -- A fact of each of a row, one after the other.
 abbrev pub Each : {X : Type 0} → (X → Type 0) → List X → Type 0
@@ -67,7 +62,7 @@ module _ (names : List (List ℕ)) (held : List Tree) (n : ℕ) where
   mutual
     pub forest-term : (levels : ℕ) (t : Term) (shared : List (List ℕ)) → IsBuiltTerm t → MayStand levels t → Each (IsNamedBelow n) (items_of names t) → n ≤ 16384
         → (rest : List Item) (us : Trees) → Forest rest us → Forest (items_of names t ++ rest) (trees.◌▹◌ (tree_of names held t shared).0 us)
-    forest-term levels (Int i) shared b m a few rest us f = (us, f, (small-built i b, refl))
+    forest-term levels (Int i) shared b m a few rest us f = (us, f, (b, refl))
     forest-term levels (Atom x) shared b m a few rest us f = (us, f, (omega (arith, a.0), refl))
     forest-term levels (Pid k) shared b m a few rest us f = (us, f, (omega (arith, m.1), refl))
     forest-term levels (Held r) shared b m a few rest us f = absurd b
@@ -113,7 +108,7 @@ module _ (names : List (List ℕ)) (held : List Tree) (n : ℕ) where
   -- The tree is plain.
   mutual
     pub plain-term : (t : Term) (shared : List (List ℕ)) → IsBuiltTerm t → Each (IsNamedBelow n) (items_of names t) → IsPlain n (tree_of names held t shared).0
-    plain-term (Int i) shared b a = small-built i b
+    plain-term (Int i) shared b a = b
     plain-term (Atom x) shared b a = a.0
     plain-term (Pid k) shared b a = tt
     plain-term (Held r) shared b a = absurd b
@@ -182,8 +177,8 @@ module _ (names : List (List ℕ)) (held : List Tree) (n : ℕ) where
   -- The items take the words that the term asks for.
   mutual
     pub words-term : (t : Term) → IsBuiltTerm t → words_of (items_of names t) ≡ build_words t
-    words-term (Int (pos k)) b = let s = small-built (pos k) b in grind (arith, nat_tests)
-    words-term (Int (negsuc k)) b = let s = small-built (negsuc k) b in grind (arith, nat_tests)
+    words-term (Int (pos k)) b = let s : is_small (pos k) ≡ true = b in grind (arith, nat_tests)
+    words-term (Int (negsuc k)) b = let s : is_small (negsuc k) ≡ true = b in grind (arith, nat_tests)
     words-term (Atom x) b = refl
     words-term (Pid k) b = refl
     words-term (Held r) b = absurd b

@@ -1,6 +1,7 @@
 -- The names that a line brings: those before stay in place, and each atom of the line has its number.
 use Rattle.std.proofs.Common.{◌≡◌, ℕ, zero, suc, ◌<◌, ◌≤◌, Bool, true, false, cond, List, [], ◌∷◌, ◌++◌, length, take, get_or, Option, Some, None, refl, sym, ap, ◌∙◌, arith, append_assoc, append-nil, length-append}
 use Rattle.std.specs.Prelude.{is_some, All}
+use Rattle.atom_names.specs.Names.{index_of, with_name}
 use Rattle.atom_names.proofs.Places.{index_of-Some, index_of_push, index_of_append}
 use Rattle.plain_term.specs.declared.item.Item.{Item}
 use Rattle.plain_term.specs.declared.item.Item.TheVariants as item
@@ -8,12 +9,12 @@ use Rattle.plain_machine.specs.Written.{Term, Terms}
 use Rattle.plain_machine.specs.Written.Term.{Int, Atom, Pid, Held, Listed, Barred, Tuple, Map, Bin}
 use Rattle.plain_machine.specs.Written.Terms.{end, ◌▹◌}
 use Rattle.plain_machine.specs.Grammar.{IsBuiltTerm, AreBuiltTerms}
-use Rattle.plain_machine.specs.Names.{place_of, number_of, with_name, with_names, atoms_of, atoms_of_all, items_of, listed_items, all_items}
+use Rattle.plain_machine.specs.Names.{number_of, with_names, atoms_of, atoms_of_all, items_of, listed_items, all_items}
 use Rattle.space_api.specs.Calls.{IsNamedBelow}
 
 -- names go last
 pub with-name-more : (names : List (List ℕ)) (a : List ℕ) → (more : List (List ℕ)) × (with_name names a ≡ names ++ more)
-with-name-more names a = at (is_some (place_of names a)) names a
+with-name-more names a = at (is_some (index_of names a)) names a
   where
     at : (b : Bool) (names : List (List ℕ)) (a : List ℕ) → (more : List (List ℕ)) × (cond b names (names ++ a ∷ []) ≡ names ++ more)
     at true names a = ([], sym (append-nil names))
@@ -43,7 +44,7 @@ names-longer names atoms =
 
 -- the name has a number
 abbrev pub IsPlaced : List (List ℕ) → List ℕ → Type 0
-IsPlaced names a = (k : ℕ) × (place_of names a ≡ Some k)
+IsPlaced names a = (k : ℕ) × (index_of names a ≡ Some k)
 
 abbrev pub ArePlaced : List (List ℕ) → List (List ℕ) → Type 0
 ArePlaced names [] = Unit {0}
@@ -59,9 +60,9 @@ placed-back names (x ∷ xs) ys h = placed-back names xs ys h.1
 
 -- a name that is put in has a number
 pub with-name-placed : (names : List (List ℕ)) (a : List ℕ) → IsPlaced (with_name names a) a
-with-name-placed names a = at (place_of names a) names a refl
+with-name-placed names a = at (index_of names a) names a refl
   where
-    at : (o : Option ℕ) (names : List (List ℕ)) (a : List ℕ) → place_of names a ≡ o → IsPlaced (cond (is_some o) names (names ++ a ∷ [])) a
+    at : (o : Option ℕ) (names : List (List ℕ)) (a : List ℕ) → index_of names a ≡ o → IsPlaced (cond (is_some o) names (names ++ a ∷ [])) a
     at None names a e = (length names, index_of_push names a (length names) refl e)
     at (Some k) names a e = (k, e)
 
@@ -70,7 +71,7 @@ with-names-placed names [] = tt
 with-names-placed names (a ∷ atoms) =
     let m : (more : List (List ℕ)) × (with_names (with_name names a) atoms ≡ with_name names a ++ more) = with-names-more (with_name names a) atoms in
     let p : IsPlaced (with_name names a) a = with-name-placed names a in
-    ((p.0, ap (λ l. place_of l a) m.1 ∙ index_of_append (with_name names a) m.0 a p.0 p.1), with-names-placed (with_name names a) atoms)
+    ((p.0, ap (λ l. index_of l a) m.1 ∙ index_of_append (with_name names a) m.0 a p.0 p.1), with-names-placed (with_name names a) atoms)
 
 -- the number of a name that has one
 pub number-below : (names : List (List ℕ)) (a : List ℕ) → IsPlaced names a → number_of names a < length names

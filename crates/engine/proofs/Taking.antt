@@ -1,5 +1,6 @@
 -- From what a line says to the step that it comes to.
 use Rattle.std.proofs.Common.{◌≡◌, ℕ, ◌<◌, ◌≤◌, ◌⊎◌, inl, inr, Bool, List, [], length, take, refl, sym, ap, subst, ◌∙◌, append-nil}
+use Rattle.atom_names.specs.Names.{most_names}
 use Rattle.plain_term.specs.declared.item.Item.{Item}
 use Rattle.plain_machine.specs.declared.command.Command.{Command}
 use Rattle.plain_machine.specs.declared.refusal.Refusal.{Refusal}
@@ -56,7 +57,7 @@ pub record Told (line : List ℕ) (names : List (List ℕ)) (c : Command) (after
   pub names_are : after ≡ with_names names (all_atoms w)
   pub code_is : code ≡ all_items after (terms_of w)
   pub is : said c (terms_of w) after ≡ parsed_of names w
-  pub fits : length after ≤ 16384
+  pub fits : length after ≤ most_names
 
 pub told : (line : List ℕ) (names : List (List ℕ)) (c : Command) (after : List (List ℕ)) (code : List Item) (w : Written) → Parsing line names c after code w → Told line names c after code w
 told line names c after code w r = record {
@@ -140,7 +141,7 @@ takes-nothing may words s line e before names Stands st same (inr h) out over =
       stands = (st.0, same ∙ st.1);
       steps = record {
         reading = NoAtoms;
-        reads = record { written = o.0; says = o.1.says; built = o.1.built; many = subst (λ z. 16384 < length (names_after z o.0)) st.1 o.1.over };
+        reads = record { written = o.0; says = o.1.says; built = o.1.built; many = subst (λ z. most_names < length (names_after z o.0)) st.1 o.1.over };
         follows = record { goes_on = refl; said = refl; same = refl };
       };
     })

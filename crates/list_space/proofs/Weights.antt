@@ -4,11 +4,11 @@ use Rattle.std.proofs.lemmas.Bool.Decides.{nat_tests}
 use Rattle.plain_term.specs.declared.item.Item.{Item}
 use Rattle.plain_term.specs.declared.item.Item.TheVariants as item
 use Rattle.plain_term.specs.Tree.{Tree}
-use Rattle.plain_term.specs.Measures.{int_flat}
+use Rattle.plain_term.specs.Measures.{int_flat, is_small}
 use Rattle.plain_machine.specs.Written.{Term, Terms, terms_len}
 use Rattle.plain_machine.specs.Written.Term.{Int, Atom, Pid, Held, Listed, Barred, Tuple, Map, Bin}
 use Rattle.plain_machine.specs.Written.Terms.{end, ◌▹◌}
-use Rattle.plain_machine.specs.Grammar.{IsBuiltTerm, AreBuiltTerms, IsSmall}
+use Rattle.plain_machine.specs.Grammar.{IsBuiltTerm, AreBuiltTerms}
 use Rattle.plain_machine.specs.Names.{items_of, listed_items, all_items, tree_of}
 use Rattle.plain_machine.specs.Tightness.{build_words, build_words_of_all}
 use Rattle.list_space.specs.Items.{alone, weight}
@@ -17,9 +17,8 @@ weight-append : (xs ys : List Item) → weight (xs ++ ys) ≡ weight xs + weight
 weight-append [] ys = omega arith
 weight-append (x ∷ xs) ys = omega (arith, weight-append xs ys)
 
-int-none : (i : ℤ) → IsSmall i → int_flat i ≡ 0
-int-none (pos n) b = let h : n < 2 ^ 59 = b in grind (arith, nat_tests)
-int-none (negsuc n) b = let h : n < 2 ^ 59 = b in grind (arith, nat_tests)
+int-none : (i : ℤ) → is_small i ≡ true → int_flat i ≡ 0
+int-none i b = rw b refl
 
 mutual
   pub weight-term : (names : List (List ℕ)) (t : Term) → IsBuiltTerm t → weight (items_of names t) ≡ build_words t + 1

@@ -1,6 +1,7 @@
 -- Lines and replies determine a run.
 use Rattle.std.proofs.Common.{◌≡◌, ℕ, ◌+◌, ◌<◌, ◌≤◌, ◌⊎◌, inl, inr, Bool, true, false, List, [], ◌∷◌, ◌++◌, length, Option, Some, None, codes, decimal, refl, sym, ap, subst, ◌∙◌, arith, nat_le, add-zero}
 use Rattle.std.specs.Prelude.{MatchBool}
+use Rattle.atom_names.specs.Names.{most_names}
 use Rattle.line_io.specs.Lines.{Line, text, long}
 use Rattle.plain_term.specs.Tree.{Tree}
 use Rattle.plain_term.specs.Beyond.{is_beyond}
@@ -23,7 +24,7 @@ use Rattle.plain_machine.specs.State.{Process as Live, State, process_of, regist
 use Rattle.plain_machine.specs.Tightness.{grow, process_words, command_words}
 use Rattle.plain_machine.specs.Step.{Outcome, step, by_command, in_process, by_verb, by_system, pop_from, print_if, spawn_if, most_processes, settled, swept_after, is_printing}
 use Rattle.plain_machine.specs.Step.Outcome.{Accepted, Refused}
-use Rattle.plain_machine.specs.Run.{Run, LineStep, ReadingStep, CommandStep, Gives, IsSilent, LacksSpace, Refuses, Reads, refusal_text, is_quit, is_nothing, Reading}
+use Rattle.plain_machine.specs.Run.{Run, LineStep, ReadingStep, CommandStep, Gives, Skips, LacksSpace, Refuses, IsReadAs, refusal_text, is_quit, is_nothing, Reading}
 use Rattle.plain_machine.specs.Run.Reading.{Means, NoSyntax, NoAtoms}
 
 -- a printing line brings no names
@@ -140,8 +141,8 @@ command-twice may words s p quits ends rs new other k g h = at (is_nothing p.com
     flip : Agree ends quits other new → Agree quits ends new other
     flip a = record { same = sym a.same; alike = sym a.alike }
 
-    at : (b : Bool) → MatchBool b (IsSilent s quits rs new) (Gives (step s p) s p.command quits rs new ⊎ LacksSpace may words s p quits rs new)
-        → MatchBool b (IsSilent s ends rs other) (Gives (step s p) s p.command ends rs other ⊎ LacksSpace may words s p ends rs other) → Agree quits ends new other
+    at : (b : Bool) → MatchBool b (Skips s quits rs new) (Gives (step s p) s p.command quits rs new ⊎ LacksSpace may words s p quits rs new)
+        → MatchBool b (Skips s ends rs other) (Gives (step s p) s p.command ends rs other ⊎ LacksSpace may words s p ends rs other) → Agree quits ends new other
     at true g h = record { same = g.same ∙ sym h.same; alike = g.goes_on ∙ sym h.goes_on }
     at false (inl g) (inl h) = gives-twice (step s p) s p.command quits ends rs new other g h
     at false (inl g) (inr h) = gives-lacks (step s p) s p.command quits ends rs new other (grow s p) told g h.refuses
@@ -164,8 +165,8 @@ command-count may words s p quits ends rs ts new other g h = at (is_nothing p.co
     one quits rs new (inl g) = gives-one (step s p) s p.command quits rs new g
     one quits rs new (inr g) = ap length g.refuses.said
 
-    at : (b : Bool) → MatchBool b (IsSilent s quits rs new) (Gives (step s p) s p.command quits rs new ⊎ LacksSpace may words s p quits rs new)
-        → MatchBool b (IsSilent s ends ts other) (Gives (step s p) s p.command ends ts other ⊎ LacksSpace may words s p ends ts other) → length rs ≡ length ts
+    at : (b : Bool) → MatchBool b (Skips s quits rs new) (Gives (step s p) s p.command quits rs new ⊎ LacksSpace may words s p quits rs new)
+        → MatchBool b (Skips s ends ts other) (Gives (step s p) s p.command ends ts other ⊎ LacksSpace may words s p ends ts other) → length rs ≡ length ts
     at true g h = ap length g.said ∙ sym (ap length h.said)
     at false g h = one quits rs new g ∙ sym (one ends ts other h)
 
@@ -190,13 +191,13 @@ parsed-names names p w e k =
     ap (λ (z : Parsed). z.names) e ∙ ap (with_names names) (prints-none (names_after names w) w (ap (λ (z : Parsed). is_printing z.command) (sym e) ∙ k))
 
 -- a line does not both fit and not fit
-few-many : (names : List (List ℕ)) (w v : Written) → w ≡ v → (p : Parsed) → p ≡ parsed_of names w → length p.names ≤ 16384 → 16384 < length (names_after names v) → ⊥
+few-many : (names : List (List ℕ)) (w v : Written) → w ≡ v → (p : Parsed) → p ≡ parsed_of names w → length p.names ≤ most_names → most_names < length (names_after names v) → ⊥
 few-many names w v e p f few many =
     let h : length p.names ≡ length (names_after names v) = ap (λ (z : Parsed). length z.names) f ∙ ap (λ z. length (names_after names z)) e in
     omega (arith, h, few, many)
 
 reading-pair : SaysOne → (may : ℕ → State → Parsed → Bool) (words : ℕ) (s : State) (line : List ℕ) (a b : Reading) (quits ends : Bool) (rs ts : List (List ℕ)) (new other : State)
-    → Reads s.names line a → Reads s.names line b → ReadingStep may words s a quits rs new → ReadingStep may words s b ends ts other → Pair quits ends rs ts new other
+    → IsReadAs s.names line a → IsReadAs s.names line b → ReadingStep may words s a quits rs new → ReadingStep may words s b ends ts other → Pair quits ends rs ts new other
 reading-pair one may words s line (Means p) (Means q) quits ends rs ts new other x y g h =
     let w : x.written ≡ y.written = one line x.written y.written x.says y.says x.built y.built in
     let e : q ≡ p = y.is ∙ (ap (parsed_of s.names) (sym w) ∙ sym x.is) in

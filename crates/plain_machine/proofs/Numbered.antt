@@ -15,7 +15,7 @@ use Rattle.plain_machine.specs.Names.{Parsed}
 use Rattle.plain_machine.specs.State.{Process as Live, State, process_of, live_numbers, register, with_register}
 use Rattle.plain_machine.specs.Step.{Outcome, step, by_command, in_process, by_verb, by_system, pop_from, print_if, spawn_if, most_processes}
 use Rattle.plain_machine.specs.Step.Outcome.{Accepted, Refused}
-use Rattle.plain_machine.specs.Run.{Run, LineStep, ReadingStep, CommandStep, Gives, IsSilent, LacksSpace, is_nothing, Reading}
+use Rattle.plain_machine.specs.Run.{Run, LineStep, ReadingStep, CommandStep, Gives, Skips, LacksSpace, is_nothing, Reading}
 use Rattle.plain_machine.specs.Run.Reading.{Means, NoSyntax, NoAtoms}
 use Rattle.plain_machine.specs.Laws.{AreNumbered, IsNumbered}
 
@@ -111,7 +111,7 @@ gives-keeps (Refused r) s c quits replies new k g = keeps-same s new g.same
 pub step-keeps : (may : ℕ → State → Parsed → Bool) (words : ℕ) (s : State) (p : Parsed) (quits : Bool) (replies : List (List ℕ)) (new : State) → CommandStep may words s p quits replies new → Keeps s new
 step-keeps may words s p quits replies new h = at (is_nothing p.command) h
   where
-    at : (b : Bool) → MatchBool b (IsSilent s quits replies new) (Gives (step s p) s p.command quits replies new ⊎ LacksSpace may words s p quits replies new) → Keeps s new
+    at : (b : Bool) → MatchBool b (Skips s quits replies new) (Gives (step s p) s p.command quits replies new ⊎ LacksSpace may words s p quits replies new) → Keeps s new
     at true k = keeps-same s new k.same
     at false (inl k) = gives-keeps (step s p) s p.command quits replies new (command-keeps s p p.command) k
     at false (inr k) = keeps-same s new k.refuses.same
@@ -143,7 +143,7 @@ pub refusal-leaves : (may : ℕ → State → Parsed → Bool) (words : ℕ) (s 
     → step s p ≡ Refused r → CommandStep may words s p quits replies new → new ≡ s
 refusal-leaves may words s new p r quits replies e h = at (is_nothing p.command) h
   where
-    at : (b : Bool) → MatchBool b (IsSilent s quits replies new) (Gives (step s p) s p.command quits replies new ⊎ LacksSpace may words s p quits replies new) → new ≡ s
+    at : (b : Bool) → MatchBool b (Skips s quits replies new) (Gives (step s p) s p.command quits replies new ⊎ LacksSpace may words s p quits replies new) → new ≡ s
     at true k = k.same
     at false (inl k) = let P : Outcome → Type 0 = λ o. Gives o s p.command quits replies new in (subst P e k).same
     at false (inr k) = k.refuses.same

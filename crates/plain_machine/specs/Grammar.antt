@@ -1,5 +1,6 @@
 -- The grammar of lines, as a relation between a whole line and what it says.
 use Rattle.std.specs.Prelude.{ℕ, ◌≡◌, ◌+◌, ◌-◌, ◌*◌, ◌^◌, ◌<◌, ◌≤◌, ◌⊎◌, ◌≢◌, ◌||◌, ◌&&◌, Bool, true, false, nat_eq, nat_le, ℤ, pos, negsuc, List, [], ◌∷◌, ◌++◌, length, All, codes}
+use Rattle.plain_term.specs.Measures.{is_small, magnitude}
 use Rattle.plain_machine.specs.Written.{Term, Terms, TermPairs, terms_len, Kind, OperandOf, Operands, Word, text_of, kinds_of, SysWord, sys_text_of, sys_kinds_of, Written}
 use Rattle.plain_machine.specs.Written.Term.{Int, Atom, Pid, Held, Listed, Barred, Tuple, Map, Bin}
 use Rattle.plain_machine.specs.Written.Terms.{end, ◌▹◌}
@@ -180,15 +181,10 @@ Spelled Nothing line = IsSilent line
 Spelled (OfProcess n w ops) line = Lies (Number n ∷ Space ∷ Text (text_of w) ∷ operands_pieces (kinds_of w) ops) line
 Spelled (OfSystem w ops) line = Lies (Text (codes "sys") ∷ Space ∷ Text (sys_text_of w) ∷ operands_pieces (sys_kinds_of w) ops) line
 
--- The magnitude of an integer is below 2 ^ 127.
-abbrev pub IsInRange : ℤ → Type 0
-IsInRange (pos n) = n < 2 ^ 127
-IsInRange (negsuc n) = n + 1 < 2 ^ 127
-
 abbrev mutual
   -- A term may be written where so many levels of brackets are left.
   pub MayStand : (levels : ℕ) → Term → Type 0
-  MayStand levels (Int i) = IsInRange i
+  MayStand levels (Int i) = magnitude i < 2 ^ 127
   MayStand levels (Atom a) = IsName a
   MayStand levels (Pid n) = (1 ≤ n) × (n < 2 ^ 40)
   MayStand levels (Held r) = r < 16
@@ -231,7 +227,7 @@ abbrev mutual
   PairsHoldNone stop = Unit {0}
   PairsHoldNone (pair k v qs) = HoldsNone k × HoldsNone v × PairsHoldNone qs
 
--- The ranges of a process by number or by register.
+-- A receiver's bounds: a process has a number below 2 ^ 40, a register one below 16.
 abbrev pub MayReceive : To → Type 0
 MayReceive (to.Number n) = n < 2 ^ 40
 MayReceive (to.Held r) = (r.0) < 16
@@ -282,15 +278,10 @@ is_sys_built sys.Procs = true
 is_sys_built sys.Quit = true
 is_sys_built _ = false
 
--- The integers that are built are the small ones.
-abbrev pub IsSmall : ℤ → Type 0
-IsSmall (pos n) = n < 2 ^ 59
-IsSmall (negsuc n) = n < 2 ^ 59
-
 abbrev mutual
-  -- The table of the forms of terms that are built.
+  -- The table of the forms of terms that are built; of the integers these are the small ones.
   pub IsBuiltTerm : Term → Type 0
-  IsBuiltTerm (Int i) = IsSmall i
+  IsBuiltTerm (Int i) = is_small i ≡ true
   IsBuiltTerm (Atom a) = Unit {0}
   IsBuiltTerm (Pid n) = Unit {0}
   IsBuiltTerm (Held r) = ⊥

@@ -1,7 +1,7 @@
 -- A written command with the names of its atoms in numbers: its items, its trees, the command.
-use Rattle.std.specs.Prelude.{ℕ, ◌+◌, ◌^◌, ◌<◌, nat_le, List, [], ◌∷◌, ◌++◌, length, map, slice_index_or, Option, is_some, unwrap_or, position, if◌then◌else◌}
-use Rattle.std.specs.Str.{bytes_eq}
+use Rattle.std.specs.Prelude.{ℕ, ◌+◌, ◌^◌, ◌<◌, nat_le, List, [], ◌∷◌, ◌++◌, length, map, slice_index_or, unwrap_or, if◌then◌else◌}
 use Rattle.std.specs.declared.cmp.Ordering.TheVariants.{Less, Equal, Greater}
+use Rattle.atom_names.specs.Names.{index_of, with_name}
 use Rattle.plain_term.specs.declared.item.Item.{Item}
 use Rattle.plain_term.specs.declared.item.Item.TheVariants as item
 use Rattle.plain_term.specs.Tree.{Tree, Trees, Pairs}
@@ -15,13 +15,12 @@ use Rattle.plain_machine.specs.Written.Terms.{end, ◌▹◌}
 use Rattle.plain_machine.specs.Written.TermPairs.{stop, pair}
 use Rattle.plain_machine.specs.Written.Kind.{Title, Environment, Body, Bodies}
 use Rattle.plain_machine.specs.Written.Written.{Nothing, OfProcess, OfSystem}
+use Rattle.plain_machine.specs.Grammar.{MayReceive}
 use Rattle.plain_machine.specs.Written.{Word as word}
 use Rattle.plain_machine.specs.Written.{SysWord as sys}
 use Rattle.plain_machine.specs.declared.command.Reg.{Reg}
 use Rattle.plain_machine.specs.declared.command.Pick.{Pick}
 use Rattle.plain_machine.specs.declared.command.Pick.TheVariants as pick
-use Rattle.plain_machine.specs.declared.command.To.{To}
-use Rattle.plain_machine.specs.declared.command.To.TheVariants as to
 use Rattle.plain_machine.specs.declared.command.Shape.TheVariants as shape
 use Rattle.plain_machine.specs.declared.command.Command.{Command}
 use Rattle.plain_machine.specs.declared.command.Command.TheVariants as command
@@ -30,17 +29,9 @@ use Rattle.plain_machine.specs.declared.command.Verb.TheVariants as verb
 use Rattle.plain_machine.specs.declared.command.SysVerb.{SysVerb}
 use Rattle.plain_machine.specs.declared.command.SysVerb.TheVariants as sysverb
 
--- The first place where the name stands.
-abbrev pub place_of : List (List ℕ) → List ℕ → Option ℕ
-place_of names name = position (λ x. bytes_eq x name) names
-
 -- The number of a name is its first place.
 abbrev pub number_of : List (List ℕ) → List ℕ → ℕ
-number_of names name = unwrap_or (place_of names name) 0
-
--- The names themselves where the name stands in them, else with the name at their end.
-abbrev pub with_name : List (List ℕ) → List ℕ → List (List ℕ)
-with_name names name = if is_some (place_of names name) then names else (names ++ name ∷ [])
+number_of names name = unwrap_or (index_of names name) 0
 
 -- The names with each of these that is new at their end, in order of first place.
 abbrev pub with_names : List (List ℕ) → List (List ℕ) → List (List ℕ)
@@ -226,21 +217,16 @@ command_of names Nothing = command.Nothing
 command_of names (OfProcess n w ops) = command.Process n (verb_of names w ops)
 command_of names (OfSystem w ops) = command.System (sys_verb_of names w ops)
 
--- A register has a number below 16.
+-- A register's number is below 16.
 abbrev pub IsRegister : Reg → Type 0
 IsRegister r = (r.0) < 16
 
--- The register that a key is taken from.
+-- A register that the pick names is below 16.
 abbrev pub PicksRegister : Pick → Type 0
 PicksRegister (pick.MapGet r) = IsRegister r
 PicksRegister _ = Unit {0}
 
--- The register that names a process.
-abbrev pub SendsByRegister : To → Type 0
-SendsByRegister (to.Number n) = n < 2 ^ 40
-SendsByRegister (to.Held r) = IsRegister r
-
--- The registers of a verb.
+-- Each register that the verb names is below 16, and a receiver's number below 2 ^ 40.
 abbrev pub HasRegisters : Verb → Type 0
 HasRegisters (verb.Set r) = IsRegister r
 HasRegisters (verb.Choose r s p) = IsRegister r × IsRegister s × PicksRegister p
@@ -252,7 +238,7 @@ HasRegisters (verb.Own r) = IsRegister r
 HasRegisters (verb.Repeat r s n t) = IsRegister r × IsRegister t
 HasRegisters (verb.Push r) = IsRegister r
 HasRegisters (verb.Pop r) = IsRegister r
-HasRegisters (verb.Send r t) = IsRegister r × SendsByRegister t
+HasRegisters (verb.Send r t) = IsRegister r × MayReceive t
 HasRegisters (verb.Recv r) = IsRegister r
 HasRegisters (verb.Print r) = IsRegister r
 HasRegisters (verb.Eq r s) = IsRegister r × IsRegister s
@@ -261,7 +247,7 @@ HasRegisters (verb.Flat r) = IsRegister r
 HasRegisters (verb.Lit r name i) = IsRegister r
 HasRegisters _ = Unit {0}
 
--- The number of a process is below 2 ^ 40, and each register that a command names is below 16.
+-- Each number of a process that the command names is below 2 ^ 40, and each register below 16.
 abbrev pub IsInBounds : Command → Type 0
 IsInBounds (command.Process n v) = (n < 2 ^ 40) × HasRegisters v
 IsInBounds _ = Unit {0}

@@ -1,5 +1,6 @@
 -- What a whole script is answered: each line by what it says, the steps of the machine in order.
 use Rattle.std.specs.Prelude.{ℕ, ◌≡◌, ◌<◌, ◌≤◌, ◌⊎◌, Bool, true, false, MatchBool, List, [], ◌∷◌, ◌++◌, length, codes, decimal}
+use Rattle.atom_names.specs.Names.{most_names}
 use Rattle.line_io.specs.Lines.{Line, text, long}
 use Rattle.plain_machine.specs.declared.command.Command.{Command}
 use Rattle.plain_machine.specs.declared.command.Command.TheVariants.{Nothing, System}
@@ -29,10 +30,6 @@ refusal_text Atoms = codes "error atoms"
 refusal_text Syntax = codes "error syntax"
 refusal_text Long = codes "error long"
 
--- There are at most so many names.
-abbrev pub most_names : ℕ
-most_names = 16384
-
 -- The line says a built command, which with these names known before it comes to p.
 pub record IsRead (names : List (List ℕ)) (line : List ℕ) (p : Parsed) : Type 0 where
   pub written : Written
@@ -59,10 +56,10 @@ pub data Reading : Type 0 where
   NoAtoms : Reading
 
 -- The line is read so, where these names are known before it.
-abbrev pub Reads : List (List ℕ) → List ℕ → Reading → Type 0
-Reads names line (Means p) = IsRead names line p
-Reads names line NoSyntax = IsOutside line
-Reads names line NoAtoms = BringsTooMany names line
+abbrev pub IsReadAs : List (List ℕ) → List ℕ → Reading → Type 0
+IsReadAs names line (Means p) = IsRead names line p
+IsReadAs names line NoSyntax = IsOutside line
+IsReadAs names line NoAtoms = BringsTooMany names line
 
 -- An accepted command of this kind ends the script.
 abbrev pub is_quit : Command → Bool
@@ -81,7 +78,7 @@ pub record Refuses (r : Refusal) (s : State) (quits : Bool) (replies : List (Lis
   pub same : new ≡ s
 
 -- The line has no reply and leaves the state.
-pub record IsSilent (s : State) (quits : Bool) (replies : List (List ℕ)) (new : State) : Type 0 where
+pub record Skips (s : State) (quits : Bool) (replies : List (List ℕ)) (new : State) : Type 0 where
   pub goes_on : quits ≡ false
   pub said : replies ≡ []
   pub same : new ≡ s
@@ -105,7 +102,7 @@ pub record LacksSpace (may : ℕ → State → Parsed → Bool) (words : ℕ) (s
 -- A parsed line: nothing, or the machine's step, or no space.
 abbrev pub CommandStep : (may : ℕ → State → Parsed → Bool) (words : ℕ) (s : State) (p : Parsed) (quits : Bool) (replies : List (List ℕ)) (new : State) → Type 0
 CommandStep may words s p quits replies new = MatchBool (is_nothing p.command)
-    (IsSilent s quits replies new)
+    (Skips s quits replies new)
     (Gives (step s p) s p.command quits replies new ⊎ LacksSpace may words s p quits replies new)
 
 -- What follows from what a line is read as.
@@ -117,7 +114,7 @@ ReadingStep may words s NoAtoms quits replies new = Refuses Atoms s quits replie
 -- A text is read and answered by its reading.
 pub record TextStep (may : ℕ → State → Parsed → Bool) (words : ℕ) (s : State) (line : List ℕ) (quits : Bool) (replies : List (List ℕ)) (new : State) : Type 0 where
   pub reading : Reading
-  pub reads : Reads s.names line reading
+  pub reads : IsReadAs s.names line reading
   pub follows : ReadingStep may words s reading quits replies new
 
 -- One line: its replies, the state after it, and whether the script ends with it.

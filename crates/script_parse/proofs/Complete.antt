@@ -2,10 +2,11 @@
 use Rattle.std.proofs.Common.{◌≡◌, ℕ, zero, suc, ◌+◌, ◌-◌, ◌^◌, ◌<◌, ◌≤◌, ◌≢◌, Bool, true, false, nat_eq, nat_le, ℤ, pos, negsuc, List, [], ◌∷◌, ◌++◌, length, Some, None, codes, refl, sym, ◌∙◌, ap, arith, eq-eqb, add-one, zero-add}
 use Rattle.std.proofs.lemmas.Bool.{leb-true}
 use Rattle.plain_term.specs.declared.item.Item.TheVariants as item
+use Rattle.plain_term.specs.Measures.{is_small}
 use Rattle.plain_machine.specs.Written.{Term, Terms, terms_len}
 use Rattle.plain_machine.specs.Written.Term.{Int, Atom, Pid, Held, Listed, Barred, Tuple, Map, Bin}
 use Rattle.plain_machine.specs.Written.Terms.{end, ◌▹◌}
-use Rattle.plain_machine.specs.Grammar.{is_blank, is_digit, is_small_letter, is_name_byte, AreAll, IsNumber, IsSmall, IsName, Piece, Lies, term_pieces, parts_pieces, more_pieces, MayStand, AllMayStand, IsBuiltTerm, AreBuiltTerms}
+use Rattle.plain_machine.specs.Grammar.{is_blank, is_digit, is_small_letter, is_name_byte, AreAll, IsNumber, IsName, Piece, Lies, term_pieces, parts_pieces, more_pieces, MayStand, AllMayStand, IsBuiltTerm, AreBuiltTerms}
 use Rattle.plain_machine.specs.Grammar.Piece.{Text, Whole, Process}
 use Rattle.script_parse.specs.Output.{Out, push, push_place, put, put_all}
 use Rattle.script_parse.specs.Reading.{after_blanks, byte_at, integer_at, atom_at, integer_run, atom_run, leaf_run, after_part, parts_run, term_run}
@@ -46,7 +47,7 @@ digit_run b bytes o h = rw (unequal b 60 (apart is_digit b 60 refl h), digit_not
 
 -- An integer.
 unsigned_done : (levels n : ℕ) (ps : List Piece) (line : List ℕ) (o : Out) (gap text rest : List ℕ) → AreAll is_blank gap → IsNumber n text → line ≡ gap ++ (text ++ rest)
-    → Lies ps rest → Divides ps → n < 2 ^ 59 → Done levels (Int (pos n)) ps line o
+    → Lies ps rest → Divides ps → is_small (pos n) ≡ true → Done levels (Int (pos n)) ps line o
 unsigned_done levels n ps line o gap text rest g i e l d small =
     let b : Begun text = begun n text i in
     let whole : line ≡ gap ++ ((b.first ∷ b.more) ++ rest) = rw b.whole at e in
@@ -67,7 +68,7 @@ unsigned_done levels n ps line o gap text rest g i e l d small =
     }
 
 signed_done : (levels m : ℕ) (ps : List Piece) (line : List ℕ) (o : Out) (gap digits rest : List ℕ) → AreAll is_blank gap → IsNumber (m + 1) digits → line ≡ gap ++ ((45 ∷ digits) ++ rest)
-    → Lies ps rest → Divides ps → m < 2 ^ 59 → Done levels (Int (negsuc m)) ps line o
+    → Lies ps rest → Divides ps → is_small (negsuc m) ≡ true → Done levels (Int (negsuc m)) ps line o
 signed_done levels m ps line o gap digits rest g i e l d small =
     let k : Token (Whole (negsuc m)) ps line 45 digits = token (Whole (negsuc m)) ps line gap digits rest 45 g refl e l in
     let f : integer_at ((45 ∷ digits) ++ k.rest) ≡ Some (negsuc m, k.rest) = integer_found (negsuc m) (45 ∷ digits) k.rest (digits, i, refl) small (stops_digits k.rest (stops ps k.rest d k.lies)) in
@@ -83,7 +84,7 @@ signed_done levels m ps line o gap digits rest g i e l d small =
       no_tuple_end = far 45 125 refl;
     }
 
-integer_done : (levels : ℕ) (i : ℤ) (ps : List Piece) (line : List ℕ) (o : Out) → Divides ps → IsSmall i → Lies (Whole i ∷ ps) line → Done levels (Int i) ps line o
+integer_done : (levels : ℕ) (i : ℤ) (ps : List Piece) (line : List ℕ) (o : Out) → Divides ps → is_small i ≡ true → Lies (Whole i ∷ ps) line → Done levels (Int i) ps line o
 integer_done levels (pos n) ps line o d small (gap, text, rest, g, i, e, l) = unsigned_done levels n ps line o gap text rest g i e l d small
 integer_done levels (negsuc m) ps line o d small (gap, text, rest, g, (digits, i, s), e, l) = signed_done levels m ps line o gap digits rest g i (rw s at e) l d small
 

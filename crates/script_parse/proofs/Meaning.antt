@@ -3,13 +3,14 @@ use Rattle.std.proofs.Common.{◌≡◌, ℕ, ◌<◌, ◌≤◌, ◌⊎◌, Boo
 use Rattle.std.proofs.lemmas.Bool.{leb-true, leb-false}
 use Rattle.std.proofs.lemmas.List.{append-nil}
 use Rattle.std.proofs.Math.Seq.{set-append_seam}
+use Rattle.atom_names.specs.Names.{index_of, most_names, with_name}
 use Rattle.plain_term.specs.declared.item.Item.{Item}
 use Rattle.plain_term.specs.declared.item.Item.TheVariants as item
 use Rattle.plain_machine.specs.Written.{Term, Terms, terms_len}
 use Rattle.plain_machine.specs.Written.Term.{Int, Atom, Pid, Held, Listed, Barred, Tuple, Map, Bin}
 use Rattle.plain_machine.specs.Written.Terms.{end, ◌▹◌}
 use Rattle.plain_machine.specs.Grammar.{IsBuiltTerm, AreBuiltTerms}
-use Rattle.plain_machine.specs.Names.{place_of, number_of, with_name, with_names, atoms_of, atoms_of_all, items_of, listed_items, all_items}
+use Rattle.plain_machine.specs.Names.{number_of, with_names, atoms_of, atoms_of_all, items_of, listed_items, all_items}
 use Rattle.atom_names.proofs.Places.{index_of_append, index_of_push}
 use Rattle.script_parse.specs.Output.{Out, out, push, push_place, with_place, put_at, put_atom, put, put_all}
 
@@ -17,29 +18,29 @@ use Rattle.script_parse.specs.Output.{Out, out, push, push_place, with_place, pu
 pub record Put (o : Out) (atoms : List (List ℕ)) (its : List (List ℕ) → List Item) (p : Out) : Type 0 where
   pub clear : p.full ≡ false → o.full ≡ false
   pub names : p.full ≡ false → p.names ≡ with_names o.names atoms
-  pub fits : p.full ≡ false → length o.names ≤ 16384 → length p.names ≤ 16384
-  pub over : o.full ≡ false → p.full ≡ true → 16384 < length (with_names o.names atoms)
+  pub fits : p.full ≡ false → length o.names ≤ most_names → length p.names ≤ most_names
+  pub over : o.full ≡ false → p.full ≡ true → most_names < length (with_names o.names atoms)
   pub items : p.full ≡ false → (more : List (List ℕ)) → p.items ≡ o.items ++ its (p.names ++ more)
 
 -- A name that is there or comes has a place, and keeps it.
-place_step : (names : List (List ℕ)) (a : List ℕ) (r : Option ℕ) → place_of names a ≡ r → (k : ℕ) × (place_of (with_name names a) a ≡ Some k)
+place_step : (names : List (List ℕ)) (a : List ℕ) (r : Option ℕ) → index_of names a ≡ r → (k : ℕ) × (index_of (with_name names a) a ≡ Some k)
 place_step names a None e = let w : with_name names a ≡ names ++ a ∷ [] = rw e refl in
-    let P : List (List ℕ) → Type 0 = λ z. (k : ℕ) × (place_of z a ≡ Some k) in subst P (sym w) (length names, index_of_push names a (length names) refl e)
+    let P : List (List ℕ) → Type 0 = λ z. (k : ℕ) × (index_of z a ≡ Some k) in subst P (sym w) (length names, index_of_push names a (length names) refl e)
 place_step names a (Some k) e = let w : with_name names a ≡ names = rw e refl in
-    let P : List (List ℕ) → Type 0 = λ z. (k : ℕ) × (place_of z a ≡ Some k) in subst P (sym w) (k, e)
+    let P : List (List ℕ) → Type 0 = λ z. (k : ℕ) × (index_of z a ≡ Some k) in subst P (sym w) (k, e)
 
 number_stays : (names more : List (List ℕ)) (a : List ℕ) → number_of (with_name names a ++ more) a ≡ number_of (with_name names a) a
-number_stays names more a = let k : (k : ℕ) × (place_of (with_name names a) a ≡ Some k) = place_step names a (place_of names a) refl in
+number_stays names more a = let k : (k : ℕ) × (index_of (with_name names a) a ≡ Some k) = place_step names a (index_of names a) refl in
     rw (index_of_append (with_name names a) more a (k.0) (k.1), k.1) refl
 
-grown_step : (names : List (List ℕ)) (a : List ℕ) (r : Option ℕ) → place_of names a ≡ r → (more : List (List ℕ)) × (with_name names a ≡ names ++ more)
+grown_step : (names : List (List ℕ)) (a : List ℕ) (r : Option ℕ) → index_of names a ≡ r → (more : List (List ℕ)) × (with_name names a ≡ names ++ more)
 grown_step names a None e = (a ∷ [], rw e refl)
 grown_step names a (Some k) e = ([], rw e (sym (append-nil names)))
 
 -- Names that come go last.
 pub names_grown : (atoms names : List (List ℕ)) → (more : List (List ℕ)) × (with_names names atoms ≡ names ++ more)
 names_grown [] names = ([], sym (append-nil names))
-names_grown (a ∷ atoms) names = let f : (more : List (List ℕ)) × (with_name names a ≡ names ++ more) = grown_step names a (place_of names a) refl in
+names_grown (a ∷ atoms) names = let f : (more : List (List ℕ)) × (with_name names a ≡ names ++ more) = grown_step names a (index_of names a) refl in
     let g : (more : List (List ℕ)) × (with_names (with_name names a) atoms ≡ with_name names a ++ more) = names_grown atoms (with_name names a) in
     (f.0 ++ g.0, g.1 ∙ (ap (λ (z : List (List ℕ)). z ++ g.0) (f.1) ∙ append_assoc names (f.0) (g.0)))
 
@@ -62,9 +63,9 @@ put_then o q p xs ys its jts f g = record {
   names = λ c. g.names c ∙ (ap (λ (z : List (List ℕ)). with_names z ys) (f.names (g.clear c)) ∙ sym (names_then xs ys o.names));
   fits = λ c h. g.fits c (f.fits (g.clear c) h);
   over = λ c h. rw (names_then xs ys o.names) (elim (whether q.full) [
-    | inl e ↦ let far : 16384 < length (with_names o.names xs) = f.over c e in omega (arith, names_longer ys (with_names o.names xs), far)
+    | inl e ↦ let far : most_names < length (with_names o.names xs) = f.over c e in omega (arith, names_longer ys (with_names o.names xs), far)
     | inr e ↦ let same : q.names ≡ with_names o.names xs = f.names e in
-        let P : List (List ℕ) → Type 0 = λ z. 16384 < length (with_names z ys) in subst P same (g.over e h)
+        let P : List (List ℕ) → Type 0 = λ z. most_names < length (with_names z ys) in subst P same (g.over e h)
   ]);
   items = λ c more. let w : (m : List (List ℕ)) × (with_names q.names ys ≡ q.names ++ m) = names_grown ys q.names in
       let same : q.names ++ (w.0 ++ more) ≡ p.names ++ more = sym (append_assoc q.names (w.0) more) ∙ ap (λ (z : List (List ℕ)). z ++ more) (sym (g.names c ∙ w.1)) in
@@ -81,13 +82,13 @@ put_item o i = record { clear = λ c. c; names = λ c. refl; fits = λ c h. h; o
 pub put_none : (o : Out) → Put o [] (λ names. []) o
 put_none o = record { clear = λ c. c; names = λ c. refl; fits = λ c h. h; over = λ c h. false_true o.full c h; items = λ c more. sym (append-nil o.items) }
 
-atom_step : (o : Out) (a : List ℕ) (t : Bool) → nat_le (length (with_name o.names a)) 16384 ≡ t → Put o (a ∷ []) (λ names. item.Atom (number_of names a) ∷ []) (put_atom o a)
+atom_step : (o : Out) (a : List ℕ) (t : Bool) → nat_le (length (with_name o.names a)) most_names ≡ t → Put o (a ∷ []) (λ names. item.Atom (number_of names a) ∷ []) (put_atom o a)
 atom_step o a true e = let same : put_atom o a ≡ out (with_name o.names a) o.full (o.items ++ item.Atom (number_of (with_name o.names a) a) ∷ []) = rw e refl in
     let P : Out → Type 0 = λ z. Put o (a ∷ []) (λ names. item.Atom (number_of names a) ∷ []) z in
     subst P (sym same) (record {
       clear = λ c. c;
       names = λ c. refl;
-      fits = λ c h. leb-true (length (with_name o.names a)) 16384 e;
+      fits = λ c h. leb-true (length (with_name o.names a)) most_names e;
       over = λ c h. false_true o.full c h;
       items = λ c more. ap (λ (z : ℕ). o.items ++ item.Atom z ∷ []) (sym (number_stays o.names more a));
     })
@@ -97,7 +98,7 @@ atom_step o a false e = let same : put_atom o a ≡ out o.names true (o.items ++
       clear = λ c. false_true true c refl;
       names = λ c. false_true true c refl;
       fits = λ c h. false_true true c refl;
-      over = λ c h. leb-false (length (with_name o.names a)) 16384 e;
+      over = λ c h. leb-false (length (with_name o.names a)) most_names e;
       items = λ c more. false_true true c refl;
     })
 
@@ -139,7 +140,7 @@ as_atoms o p xs ys its e f = let P : List (List ℕ) → Type 0 = λ z. Put o z 
 mutual
   pub term_put : (t : Term) (o : Out) → IsBuiltTerm t → Put o (atoms_of t) (λ names. items_of names t) (put t o)
   term_put (Int i) o b = put_item o (item.Int i)
-  term_put (Atom a) o b = atom_step o a (nat_le (length (with_name o.names a)) 16384) refl
+  term_put (Atom a) o b = atom_step o a (nat_le (length (with_name o.names a)) most_names) refl
   term_put (Pid n) o b = put_item o (item.Pid n)
   term_put (Held r) o b = absurd b
   term_put (Listed ts) o b = as_atoms o (push (put_all true ts o) item.Nil) (atoms_of_all ts ++ []) (atoms_of_all ts) (λ names. listed_items names ts (item.Nil ∷ [])) (append-nil (atoms_of_all ts))

@@ -1,12 +1,13 @@
 -- What is read is in the grammar.
-use Rattle.std.proofs.Common.{◌≡◌, ℕ, zero, suc, ◌+◌, ◌-◌, ◌⊎◌, Bool, true, false, nat_eq, ℤ, pos, negsuc, List, [], ◌∷◌, ◌++◌, length, Option, Some, None, codes, refl, sym, ◌∙◌, ap, subst, inl, inr, arith, eqb-true, slice_set}
+use Rattle.std.proofs.Common.{◌≡◌, ℕ, zero, suc, ◌+◌, ◌-◌, ◌^◌, ◌<◌, ◌⊎◌, Bool, true, false, nat_eq, ℤ, pos, negsuc, List, [], ◌∷◌, ◌++◌, length, Option, Some, None, codes, refl, sym, ◌∙◌, ap, subst, inl, inr, arith, eqb-true, ltb-true, slice_set}
 use Rattle.std.proofs.Math.Seq.{set-append_seam}
 use Rattle.plain_term.specs.declared.item.Item.{Item}
 use Rattle.plain_term.specs.declared.item.Item.TheVariants as item
+use Rattle.plain_term.specs.Measures.{is_small, magnitude}
 use Rattle.plain_machine.specs.Written.{Term, Terms, terms_len}
 use Rattle.plain_machine.specs.Written.Term.{Int, Atom, Pid, Listed, Tuple}
 use Rattle.plain_machine.specs.Written.Terms.{end, ◌▹◌}
-use Rattle.plain_machine.specs.Grammar.{is_small_letter, IsInRange, IsSmall, Piece, Lies, term_pieces, parts_pieces, more_pieces, MayStand, AllMayStand, IsBuiltTerm, AreBuiltTerms}
+use Rattle.plain_machine.specs.Grammar.{is_small_letter, Piece, Lies, term_pieces, parts_pieces, more_pieces, MayStand, AllMayStand, IsBuiltTerm, AreBuiltTerms}
 use Rattle.plain_machine.specs.Grammar.Piece.{Text, Whole, Process}
 use Rattle.script_parse.specs.Output.{Out, out, push, push_place, put_at, put_atom, put, put_all}
 use Rattle.script_parse.specs.Reading.{then_read, found_or, after_blanks, byte_at, integer_at, pid_at, atom_at, integer_run, pid_run, atom_run, leaf_run, after_part, parts_run, list_run, tuple_run, any_run, term_run}
@@ -27,9 +28,9 @@ moved : (levels : ℕ) (line : List ℕ) (o : Out) (rest next : List ℕ) (p q :
 moved levels line o rest next p q f e g = let P : List ℕ → Type 0 = λ z. Found levels line o z q in let Q : Out → Type 0 = λ z. Found levels line o rest z in
     subst P e (subst Q g f)
 
-in_range : (i : ℤ) → IsSmall i → IsInRange i
-in_range (pos n) h = omega arith
-in_range (negsuc n) h = omega arith
+in_range : (i : ℤ) → is_small i ≡ true → magnitude i < 2 ^ 127
+in_range (pos n) h = let below : n < 2 ^ 59 = ltb-true n (2 ^ 59) h in omega arith
+in_range (negsuc n) h = let below : n < 2 ^ 59 = ltb-true n (2 ^ 59) h in omega arith
 
 pid_step : (levels b : ℕ) (line bytes : List ℕ) (o : Out) (rest : List ℕ) (p : Out) → after_blanks line ≡ b ∷ bytes → nat_eq b 60 ≡ true
     → pid_run bytes o ≡ Some (rest, p) → Found levels line o rest p

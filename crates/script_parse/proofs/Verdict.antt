@@ -2,6 +2,7 @@
 use Rattle.std.proofs.Common.{◌≡◌, ℕ, ◌≤◌, Bool, true, false, List, [], ◌++◌, length, take, Some, None, refl, sym, ◌∙◌, ap, arith}
 use Rattle.std.proofs.lemmas.List.{append-nil}
 use Rattle.std.proofs.Math.Seq.{take-length}
+use Rattle.atom_names.specs.Names.{most_names}
 use Rattle.plain_term.specs.declared.item.Item.{Item}
 use Rattle.plain_machine.specs.Written.{Written, Terms}
 use Rattle.plain_machine.specs.Grammar.{Says, IsBuilt}
@@ -23,7 +24,7 @@ parsed c d ts names after e f = let g : ◌≡◌ {A = Parsed} (record { command
 
 -- A line that was read, where each name found a place.
 pub said : (line : List ℕ) (names : List (List ℕ)) (c : Command) (after : List (List ℕ)) (full : Bool) (code : List Item) → line_run line (out names false []) ≡ Some (c, out after full code)
-    → full ≡ false → length names ≤ 16384 → (w : Written) × Reads line names c after code w
+    → full ≡ false → length names ≤ most_names → (w : Written) × Reads line names c after code w
 said line names c after full code h e few = let r : LineRead line (out names false []) c (out after full code) = line_read line (out names false []) c (out after full code) h in
     let known : after ≡ names_after names r.written = r.put.names e in
     let items : code ≡ all_items (after ++ []) (terms_of r.written) = r.put.items e [] in (

@@ -1,11 +1,12 @@
 -- What a line gives while it is read: names, items, and whether a name found no place.
 use Rattle.std.specs.Prelude.{ℕ, ◌≤◌, nat_le, Bool, true, false, List, [], ◌∷◌, ◌++◌, length, take, slice_set, if◌then◌else◌, ◌≡◌}
+use Rattle.atom_names.specs.Names.{most_names, with_name}
 use Rattle.plain_term.specs.declared.item.Item.{Item}
 use Rattle.plain_term.specs.declared.item.Item.TheVariants as item
 use Rattle.plain_machine.specs.Written.{Term, Terms, terms_len}
 use Rattle.plain_machine.specs.Written.Term.{Int, Atom, Pid, Held, Listed, Barred, Tuple, Map, Bin}
 use Rattle.plain_machine.specs.Written.Terms.{end, ◌▹◌}
-use Rattle.plain_machine.specs.Names.{with_name, number_of}
+use Rattle.plain_machine.specs.Names.{number_of}
 
 -- The names so far, whether one of them found no place, and the items so far.
 pub record Out : Type 0 where
@@ -41,7 +42,7 @@ put_at at i o = record { names = o.names; full = o.full; items = slice_set o.ite
 
 -- An atom goes last by its number. Where it is new and finds no place, that is kept in mind.
 abbrev pub put_atom : Out → List ℕ → Out
-put_atom o a = if nat_le (length (with_name o.names a)) 16384
+put_atom o a = if nat_le (length (with_name o.names a)) most_names
     then record { names = with_name o.names a; full = o.full; items = o.items ++ item.Atom (number_of (with_name o.names a) a) ∷ [] }
     else record { names = o.names; full = true; items = o.items ++ item.Atom 0 ∷ [] }
 

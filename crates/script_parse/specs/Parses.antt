@@ -1,5 +1,6 @@
 -- What is promised of a parse.
 use Rattle.std.specs.Prelude.{ℕ, ◌≡◌, ◌<◌, ◌≤◌, List, length}
+use Rattle.atom_names.specs.Names.{most_names}
 use Rattle.plain_term.specs.declared.item.Item.{Item}
 use Rattle.plain_machine.specs.declared.command.Command.{Command}
 use Rattle.plain_machine.specs.Written.{Written}
@@ -13,10 +14,10 @@ pub record Reads (line : List ℕ) (names : List (List ℕ)) (c : Command) (afte
   pub built : IsBuilt w
   pub parsed : parsed_of names w ≡ record { command = c; terms = terms_of w; names = after }
   pub items : code ≡ all_items after (terms_of w)
-  pub fits : length after ≤ 16384
+  pub fits : length after ≤ most_names
 
 -- A line says a built command whose new names are too many.
 pub record IsOver (line : List ℕ) (names : List (List ℕ)) (w : Written) : Type 0 where
   pub says : Says line w
   pub built : IsBuilt w
-  pub over : 16384 < length (names_after names w)
+  pub over : most_names < length (names_after names w)
