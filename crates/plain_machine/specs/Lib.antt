@@ -7,3 +7,4 @@ pub mod Step
 pub mod May
 pub mod Run
 pub mod Laws
+pub mod Examples

@@ -7,6 +7,7 @@ use Rattle.plain_term.specs.Tree.Trees.{end, ◌▹◌}
 use Rattle.plain_term.specs.Tree.Pairs.{stop, pair}
 use Rattle.plain_term.specs.Bytes.{shared_bytes}
 use Rattle.plain_term.specs.Measures.{flat, bin_words, int_flat}
+use Rattle.plain_machine.specs.declared.command.Pick.TheVariants as pick
 use Rattle.plain_machine.specs.declared.command.Shape.{Shape}
 use Rattle.plain_machine.specs.declared.command.Shape.TheVariants.{Tuple as TupleShape, List as ListShape}
 use Rattle.plain_machine.specs.declared.command.To.{To}
@@ -14,7 +15,7 @@ use Rattle.plain_machine.specs.declared.command.To.TheVariants.{Number as ToNumb
 use Rattle.plain_machine.specs.declared.command.Command.{Command}
 use Rattle.plain_machine.specs.declared.command.Command.TheVariants.{Nothing, Process, System}
 use Rattle.plain_machine.specs.declared.command.Verb.{Verb}
-use Rattle.plain_machine.specs.declared.command.Verb.TheVariants.{Set, MapPut, Fill, Fun as MakeFun, Ref as MakeRef, Repeat, Push, Send}
+use Rattle.plain_machine.specs.declared.command.Verb.TheVariants.{Set, Choose, MapPut, Fill, Fun as MakeFun, Ref as MakeRef, Repeat, Push, Send}
 use Rattle.plain_machine.specs.declared.command.SysVerb.{SysVerb}
 use Rattle.plain_machine.specs.declared.command.SysVerb.TheVariants.{Spawn, Load}
 use Rattle.plain_machine.specs.Written.{Term, Terms, TermPairs, terms_len, pairs_len as written_pairs_len}
@@ -80,6 +81,7 @@ send_words (Some n) s t = if is_live n s then 8 + flat t else 0
 abbrev pub verb_words : State → Parsed → Live → Verb → ℕ
 verb_words s p q (Set r) = build_words_of_all p.terms
 verb_words s p q (MapPut r m k v) = 6 + 2 * keys_in (register m.0 q)
+verb_words s p q (Choose r m (pick.Part offset len)) = 5
 verb_words s p q (Fill r len byte) = fill_words len
 verb_words s p q (MakeFun r name arity) = 10 + terms_len p.terms
 verb_words s p q (MakeRef r) = 3
