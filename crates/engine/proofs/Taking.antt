@@ -12,7 +12,7 @@ use Rattle.plain_machine.specs.Grammar.{Says, IsAllowed, IsBuilt}
 use Rattle.plain_machine.specs.Names.{Parsed, parsed_of, names_after, command_of, terms_of, all_atoms, all_items, items_of, atoms_of, with_names}
 use Rattle.plain_machine.specs.State.{State}
 use Rattle.plain_machine.specs.Step.{is_printing}
-use Rattle.plain_machine.proofs.Determined.{prints-none}
+use Rattle.plain_machine.proofs.Told.{prints-none}
 use Rattle.plain_machine.specs.Run.{CommandStep, IsOutside}
 use Rattle.plain_machine.specs.Run.Reading.{Means, NoSyntax, NoAtoms}
 use Rattle.space_api.specs.Calls.{said}

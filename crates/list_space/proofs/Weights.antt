@@ -1,6 +1,5 @@
 -- The weight of a written term, and the term whose weight is one.
-use Rattle.std.proofs.Common.{◌≡◌, ℕ, ◌+◌, ◌*◌, ◌^◌, ℤ, ◌<◌, List, [], ◌∷◌, ◌++◌, length, get_or, pos, negsuc, refl, arith}
-use Rattle.std.proofs.lemmas.Bool.Decides.{nat_tests}
+use Rattle.std.proofs.Common.{◌≡◌, ℕ, ◌+◌, ◌*◌, ◌<◌, ℤ, true, List, [], ◌∷◌, ◌++◌, length, get_or, refl, arith}
 use Rattle.plain_term.specs.declared.item.Item.{Item}
 use Rattle.plain_term.specs.declared.item.Item.TheVariants as item
 use Rattle.plain_term.specs.Tree.{Tree}

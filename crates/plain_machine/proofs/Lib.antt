@@ -1,3 +1,4 @@
 pub mod Runs
 pub mod Numbered
+pub mod Told
 pub mod Determined

@@ -10,7 +10,6 @@ use Rattle.plain_machine.specs.declared.command.Verb.{Verb}
 use Rattle.plain_machine.specs.declared.command.Verb.TheVariants.{Set, Own, Push, Pop, Print, Exit}
 use Rattle.plain_machine.specs.declared.command.SysVerb.{SysVerb}
 use Rattle.plain_machine.specs.declared.command.SysVerb.TheVariants.{Spawn, Procs, Quit}
-use Rattle.plain_machine.specs.declared.refusal.Refusal.{Refusal}
 use Rattle.plain_machine.specs.Names.{Parsed}
 use Rattle.plain_machine.specs.State.{Process as Live, State, process_of, live_numbers, register, with_register}
 use Rattle.plain_machine.specs.Step.{Outcome, step, by_command, in_process, by_verb, by_system, pop_from, print_if, spawn_if, most_processes}
@@ -137,13 +136,3 @@ run-keeps may words quits s new (line ∷ lines) replies h = at (h.0) (h.6) (lin
         → (Run may words quits (h.3) lines (h.2) new → Keeps (h.3) new) → Keeps s new
     at true k one more = subst (Keeps s) (sym (k.3)) one
     at false k one more = keeps-then s (h.3) new one (more k)
-
--- a refusal of the machine
-pub refusal-leaves : (may : ℕ → State → Parsed → Bool) (words : ℕ) (s new : State) (p : Parsed) (r : Refusal) (quits : Bool) (replies : List (List ℕ))
-    → step s p ≡ Refused r → CommandStep may words s p quits replies new → new ≡ s
-refusal-leaves may words s new p r quits replies e h = at (is_nothing p.command) h
-  where
-    at : (b : Bool) → MatchBool b (Skips s quits replies new) (Gives (step s p) s p.command quits replies new ⊎ LacksSpace may words s p quits replies new) → new ≡ s
-    at true k = k.same
-    at false (inl k) = let P : Outcome → Type 0 = λ o. Gives o s p.command quits replies new in (subst P e k).same
-    at false (inr k) = k.refuses.same

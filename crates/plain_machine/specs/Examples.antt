@@ -1,5 +1,5 @@
 -- Worked values of the definitions.
-use Rattle.std.specs.Prelude.{ℕ, ◌≡◌, ◌+◌, ◌*◌, pos, negsuc, zero, suc, true, false, List, [], ◌∷◌, map, length, codes, refl, replicate}
+use Rattle.std.specs.Prelude.{ℕ, ◌≡◌, ◌+◌, pos, negsuc, zero, suc, true, false, [], ◌∷◌, map, codes, refl, replicate}
 use Rattle.std.specs.Fmt.{digits}
 use Rattle.plain_term.specs.Tree.{Tree}
 use Rattle.plain_term.specs.Tree.{Tree as tree}
@@ -8,7 +8,7 @@ use Rattle.plain_term.specs.Tree.{Pairs as pairs}
 use Rattle.plain_machine.specs.declared.command.To.TheVariants.{Number, Held as ByRegister}
 use Rattle.plain_machine.specs.declared.command.Depth.TheVariants.{Minor, Major}
 use Rattle.plain_machine.specs.declared.refusal.Refusal.TheVariants.{NoProc, Empty, Big, Procs}
-use Rattle.plain_machine.specs.Written.{Term, Terms, Written, Word, kinds_of, Operands}
+use Rattle.plain_machine.specs.Written.{Term, Terms, Word, kinds_of, Operands}
 use Rattle.plain_machine.specs.Written.Term.{Int, Atom, Pid, Held, Listed, Barred, Tuple, Map, Bin}
 use Rattle.plain_machine.specs.Written.Terms.{end, ◌▹◌}
 use Rattle.plain_machine.specs.Written.TermPairs.{stop, pair}

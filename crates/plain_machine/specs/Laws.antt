@@ -3,21 +3,18 @@ use Rattle.std.specs.Prelude.{ℕ, ◌≡◌, ◌<◌, ◌≤◌, Bool, false, L
 use Rattle.line_io.specs.Lines.{Line}
 use Rattle.plain_machine.specs.Names.{Parsed}
 use Rattle.plain_machine.specs.declared.refusal.Refusal.{Refusal}
-use Rattle.plain_machine.specs.Grammar.{SaysOne}
 use Rattle.plain_machine.specs.State.{State, live_numbers}
-use Rattle.plain_machine.specs.Step.{step}
-use Rattle.plain_machine.specs.Step.Outcome.{Refused}
-use Rattle.plain_machine.specs.Run.{CommandStep, Run}
+use Rattle.plain_machine.specs.Run.{LineStep, Run, refusal_text}
 
 -- A run over two lists of lines is the two runs one after the other.
 abbrev pub RunsJoin : Type 0
 RunsJoin = (may : ℕ → State → Parsed → Bool) (words : ℕ) (quits : Bool) (s mid new : State) (lines more : List Line) (replies others : List (List ℕ))
     → Run may words false s lines replies mid → Run may words quits mid more others new → Run may words quits s (lines ++ more) (replies ++ others) new
 
--- A line whose command the machine refuses leaves the state, and so does one that finds no space.
+-- A line that is answered by the text of a refusal, whatever its cause, leaves the whole state, and the script goes on.
 abbrev pub RefusalsLeave : Type 0
-RefusalsLeave = (may : ℕ → State → Parsed → Bool) (words : ℕ) (s new : State) (p : Parsed) (r : Refusal) (quits : Bool) (replies : List (List ℕ))
-    → step s p ≡ Refused r → CommandStep may words s p quits replies new → new ≡ s
+RefusalsLeave = (may : ℕ → State → Parsed → Bool) (words : ℕ) (s new : State) (line : Line) (r : Refusal) (quits : Bool)
+    → LineStep may words s line quits (refusal_text r ∷ []) new → (new ≡ s) × (quits ≡ false)
 
 -- The numbers rise from above a number on, and all stand below the next one.
 abbrev pub AreNumbered : (low : ℕ) → List ℕ → (next : ℕ) → Type 0
@@ -35,5 +32,5 @@ NumbersAreFresh = (may : ℕ → State → Parsed → Bool) (words : ℕ) (quits
 
 -- Lines and their replies determine the state after them, whichever of them found no space.
 abbrev pub RepliesDetermine : Type 0
-RepliesDetermine = SaysOne → (may : ℕ → State → Parsed → Bool) (words : ℕ) (quits ends : Bool) (s new other : State) (lines : List Line) (replies : List (List ℕ))
+RepliesDetermine = (may : ℕ → State → Parsed → Bool) (words : ℕ) (quits ends : Bool) (s new other : State) (lines : List Line) (replies : List (List ℕ))
     → Run may words quits s lines replies new → Run may words ends s lines replies other → new ≡ other

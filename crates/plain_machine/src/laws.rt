@@ -1,3 +1,4 @@
+ghost use Rattle.plain_machine.specs.Grammar.{SaysOne};
 ghost use Rattle.plain_machine.specs.State.{first_state};
 ghost use Rattle.plain_machine.specs.Laws.{IsNumbered, NumbersAreFresh, RefusalsLeave, RepliesDetermine, RunsJoin};
 
@@ -6,7 +7,7 @@ pub fn runs_join()
     ensures { RunsJoin }
 {}
 
-/// A refused line leaves the state.
+/// Every line that is answered by a refusal, whatever its cause, leaves the whole state, and the script goes on.
 pub fn refusals_leave()
     ensures { RefusalsLeave }
 {}
@@ -17,7 +18,7 @@ pub fn numbers_are_fresh()
     ensures always { NumbersAreFresh }
 {}
 
-/// Lines and their replies determine the state after them, since a line says one command at most.
+/// Where a line says one command at most, lines and their replies determine the state after them.
 pub fn replies_determine()
-    ensures { RepliesDetermine }
+    ensures { SaysOne → RepliesDetermine }
 {}

@@ -1,5 +1,5 @@
-use Rattle.plain_machine.proofs.Numbered.{refusal-leaves}
+use Rattle.plain_machine.proofs.Told.{line-leaves}
 use Rattle.plain_machine.proofs.laws.refusals_leave.Goals as goal
 
 pub returns : goal.returns
-returns c = refusal-leaves
+returns c = line-leaves
