@@ -29,7 +29,8 @@ use Rattle.bump_space.specs.Forest.{Forest, IsWritten, words_of}
 use Rattle.bump_space.specs.Bump.{Bump, BumpStands, ProcsStand}
 use Rattle.bump_space.proofs.Forests.{forest-words}
 use Rattle.bump_space.proofs.Procs.{replaced, is_other}
-use Rattle.bump_space.proofs.Terms.{Each, each-of, shared-kept, forest-term, plain-term, deep-term, few-term, words-term}
+use Rattle.plain_machine.proofs.Making.{shared-kept}
+use Rattle.bump_space.proofs.Terms.{Each, each-of, forest-term, plain-term, deep-term, few-term, words-term}
 
 -- The space stands for the state with one process changed.
 pub settled-stands : (b c : Bump) (s : State) (p : Parsed) (q : Process) → BumpStands b s → ProcsStand c.room c.mem c.named c.procs (map (replaced q) s.processes) → c.next ≡ b.next → c.room.top ≡ b.room.top + grow s p
@@ -170,7 +171,7 @@ build-follows b c s pid r t names q h found built ps next top =
       processes = ps;
       next = h.next ∙ sym next;
       asked = omega (arith, h.asked, top, asks);
-      shared = shared-kept names q.registers 0 t s.shared built ∙ h.shared;
+      shared = shared-kept names q.registers t s.shared built ∙ h.shared;
       areas = h.areas;
       swept = refl;
     }))

@@ -1,5 +1,5 @@
 -- The items of a written term read as its tree, which is modest, and take the words that the term asks for.
-use Rattle.std.proofs.Common.{◌≡◌, ℕ, suc, ◌+◌, ◌-◌, ◌*◌, ◌≤◌, true, List, [], ◌∷◌, ◌++◌, length, All, refl, sym, ◌∙◌, ap, subst, append_assoc, length-append, arith, ℤ, pos, negsuc}
+use Rattle.std.proofs.Common.{◌≡◌, ℕ, suc, ◌+◌, ◌-◌, ◌*◌, ◌≤◌, true, List, [], ◌∷◌, ◌++◌, length, All, refl, sym, ap, subst, append_assoc, length-append, arith, pos, negsuc}
 use Rattle.std.proofs.lemmas.Bool.Decides.{nat_tests}
 use Rattle.plain_term.specs.declared.item.Item.{Item}
 use Rattle.plain_term.specs.declared.item.Item.TheVariants as item
@@ -36,23 +36,6 @@ words-append [] ys = omega arith
 words-append (x ∷ xs) ys = omega (arith, words-append xs ys)
 
 module _ (names : List (List ℕ)) (held : List Tree) (n : ℕ) where
-  -- No shared binary is made.
-  mutual
-    pub shared-kept : (t : Term) (shared : List (List ℕ)) → IsBuiltTerm t → (tree_of names held t shared).1 ≡ shared
-    shared-kept (Int i) shared b = refl
-    shared-kept (Atom a) shared b = refl
-    shared-kept (Pid k) shared b = refl
-    shared-kept (Held r) shared b = absurd b
-    shared-kept (Listed ts) shared b = all-shared-kept ts shared b
-    shared-kept (Barred ts t) shared b = absurd b
-    shared-kept (Tuple ts) shared b = all-shared-kept ts shared b
-    shared-kept (Map qs) shared b = absurd b
-    shared-kept (Bin bytes) shared b = absurd b
-
-    pub all-shared-kept : (ts : Terms) (shared : List (List ℕ)) → AreBuiltTerms ts → (trees_of names held ts shared).1 ≡ shared
-    all-shared-kept end shared b = refl
-    all-shared-kept (t ▹ ts) shared b = all-shared-kept ts ((tree_of names held t shared).1) b.1 ∙ shared-kept t shared b.0
-
   -- As many trees as terms.
   pub terms-trees : (ts : Terms) (shared : List (List ℕ)) → trees_len (trees_of names held ts shared).0 ≡ terms_len ts
   terms-trees end shared = refl

@@ -22,7 +22,8 @@ use Rattle.engine.specs.declared.reply.Reply.{Reply}
 use Rattle.engine.specs.declared.reply.Reply.TheVariants.{Nothing as Silence, Done, Spawned, Numbers, Text, Quit, Refused}
 use Rattle.engine.specs.Replies.{reply_lines, ends_script}
 use Rattle.engine.specs.Acts.{Acts, Fits, HasCode, TermsFit, Takes, StandsWith, names_left}
-use Rattle.engine.proofs.Naming.{AreBelow, ArePlaced, with-names-placed, names-back, names-longer, items-below, below-all, placed-front}
+use Rattle.plain_machine.proofs.Naming.{ArePlaced, with-names-placed, names-back, names-longer, placed-front}
+use Rattle.engine.proofs.Naming.{AreBelow, items-below, below-all}
 
 -- the code of a line that builds is its term
 pub has-code : (names : List (List ℕ)) (w : Written) (code : List Item) → IsAllowed w → IsBuilt w → code ≡ all_items names (terms_of w) → length code ≤ 4096

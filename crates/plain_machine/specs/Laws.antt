@@ -1,9 +1,12 @@
 -- What is true of runs, whatever the spaces may refuse.
-use Rattle.std.specs.Prelude.{ℕ, ◌≡◌, ◌<◌, ◌≤◌, Bool, false, List, [], ◌∷◌, ◌++◌}
+use Rattle.std.specs.Prelude.{ℕ, ◌≡◌, ◌<◌, ◌≤◌, Bool, true, false, List, [], ◌∷◌, ◌++◌}
 use Rattle.line_io.specs.Lines.{Line}
+use Rattle.plain_term.specs.Tree.{Tree}
+use Rattle.plain_term.specs.Proper.{is_proper}
 use Rattle.plain_machine.specs.Names.{Parsed}
 use Rattle.plain_machine.specs.declared.refusal.Refusal.{Refusal}
 use Rattle.plain_machine.specs.State.{State, live_numbers}
+use Rattle.plain_machine.specs.Tightness.{living_trees}
 use Rattle.plain_machine.specs.Run.{LineStep, Run, refusal_text}
 
 -- A run over two lists of lines is the two runs one after the other.
@@ -29,6 +32,20 @@ pub record IsNumbered (s : State) : Type 0 where
 abbrev pub NumbersAreFresh : Type 0
 NumbersAreFresh = (may : ℕ → State → Parsed → Bool) (words : ℕ) (quits : Bool) (s new : State) (lines : List Line) (replies : List (List ℕ))
     → IsNumbered s → Run may words quits s lines replies new → IsNumbered new × (s.next ≤ new.next)
+
+-- Each tree of a list is proper.
+abbrev pub AreProper : (names shared : List (List ℕ)) → List Tree → Type 0
+AreProper names shared [] = Unit {0}
+AreProper names shared (t ∷ ts) = (is_proper names shared t ≡ true) × AreProper names shared ts
+
+-- All trees that live are proper: those of registers, stacks, queues and literal areas.
+pub record HoldsProper (s : State) : Type 0 where
+  pub proper : AreProper s.names s.shared (living_trees s)
+
+-- In each run from such a state all trees that live stay proper.
+abbrev pub TreesStayProper : Type 0
+TreesStayProper = (may : ℕ → State → Parsed → Bool) (words : ℕ) (quits : Bool) (s new : State) (lines : List Line) (replies : List (List ℕ))
+    → HoldsProper s → Run may words quits s lines replies new → HoldsProper new
 
 -- Lines and their replies determine the state after them, whichever of them found no space.
 abbrev pub RepliesDetermine : Type 0

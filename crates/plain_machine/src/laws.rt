@@ -1,6 +1,6 @@
 ghost use Rattle.plain_machine.specs.Grammar.{SaysOne};
 ghost use Rattle.plain_machine.specs.State.{first_state};
-ghost use Rattle.plain_machine.specs.Laws.{IsNumbered, NumbersAreFresh, RefusalsLeave, RepliesDetermine, RunsJoin};
+ghost use Rattle.plain_machine.specs.Laws.{HoldsProper, IsNumbered, NumbersAreFresh, RefusalsLeave, RepliesDetermine, RunsJoin, TreesStayProper};
 
 /// A run over two lists of lines is the two runs one after the other.
 pub fn runs_join()
@@ -16,6 +16,13 @@ pub fn refusals_leave()
 pub fn numbers_are_fresh()
     ensures first { IsNumbered first_state }
     ensures always { NumbersAreFresh }
+{}
+
+/// All trees that live are proper, at first and after every line. Only lines of built verbs and forms change
+/// anything, so the law widens with the table of these.
+pub fn trees_stay_proper()
+    ensures first { HoldsProper first_state }
+    ensures always { TreesStayProper }
 {}
 
 /// Where a line says one command at most, lines and their replies determine the state after them.

@@ -6,5 +6,7 @@ mod laws;
 mod refusal;
 
 pub use command::{Command, Depth, Measure, Pick, Reg, Shape, SysVerb, To, Verb};
-pub use laws::{numbers_are_fresh, refusals_leave, replies_determine, runs_join};
+pub use laws::{
+    numbers_are_fresh, refusals_leave, replies_determine, runs_join, trees_stay_proper,
+};
 pub use refusal::Refusal;

@@ -21,7 +21,7 @@ has-term names = record {
   is = record {
     items = refl;
     allowed = (omega arith, (omega arith, ((omega arith, (omega arith, tt)), tt)));
-    built = (omega arith, ((omega arith, tt), tt));
+    built = (refl, ((refl, tt), tt));
   };
   named = λ k d below. no-atoms (length names) k d below;
   few = omega arith;

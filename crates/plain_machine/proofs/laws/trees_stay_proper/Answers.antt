@@ -1,0 +1,5 @@
+use Rattle.plain_machine.proofs.Living.{first-proper, run-proper}
+use Rattle.plain_machine.proofs.laws.trees_stay_proper.Goals as goal
+
+pub returns : goal.returns
+returns c = record { first = first-proper; always = run-proper }
