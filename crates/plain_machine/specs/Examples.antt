@@ -1,5 +1,5 @@
 -- Worked values of the definitions.
-use Rattle.std.specs.Prelude.{ℕ, ◌≡◌, ◌+◌, pos, negsuc, zero, suc, true, false, [], ◌∷◌, map, codes, refl, replicate}
+use Rattle.std.specs.Prelude.{ℕ, ◌≡◌, ◌+◌, ◌*◌, pos, negsuc, zero, suc, true, false, [], ◌∷◌, map, codes, refl, replicate}
 use Rattle.std.specs.Fmt.{digits}
 use Rattle.plain_term.specs.Tree.{Tree}
 use Rattle.plain_term.specs.Tree.{Tree as tree}
@@ -20,7 +20,7 @@ use Rattle.plain_machine.specs.State.{Process, State, fresh_process, first_state
 use Rattle.plain_machine.specs.Tightness.{grow, demand, is_tight}
 use Rattle.plain_machine.specs.Step.{step}
 use Rattle.plain_machine.specs.Step.Outcome.{Accepted, Refused}
-use Rattle.plain_machine.specs.May.{may_of_tight}
+use Rattle.plain_machine.specs.May.{may_of_all_asked, may_of_tight}
 
 -- What the line of process 1 comes to in a state without names.
 abbrev pub line : (w : Word) → Operands (kinds_of w) → Parsed
@@ -239,3 +239,13 @@ may-dead = refl
 
 pub may-asks_nothing : may_of_tight 0 first_state (line word.Self (0, tt)) ≡ false
 may-asks_nothing = refl
+
+-- Where words are never given back: 256 of the longest lists of ones fit into 1048576 words, and no further one.
+abbrev pub longest_list : Parsed
+longest_list = line word.Set (0, (Listed (ones 2043), tt))
+
+pub last_list-fits : may_of_all_asked 1048576 (record first_state { asked = 255 * 4086 }) longest_list ≡ false
+last_list-fits = refl
+
+pub further_list-exceeds : may_of_all_asked 1048576 (record first_state { asked = 256 * 4086 }) longest_list ≡ true
+further_list-exceeds = refl
