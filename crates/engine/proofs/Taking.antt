@@ -6,7 +6,7 @@ use Rattle.plain_machine.specs.declared.command.Command.{Command}
 use Rattle.plain_machine.specs.declared.refusal.Refusal.{Refusal}
 use Rattle.plain_machine.specs.declared.refusal.Refusal.TheVariants.{Atoms, Syntax}
 use Rattle.plain_machine.specs.Written.{Written, Term}
-use Rattle.plain_machine.specs.Written.{Word as word}
+use Rattle.plain_machine.specs.declared.word.Word.TheVariants as word
 use Rattle.plain_machine.specs.Written.Written.{Nothing, OfProcess, OfSystem}
 use Rattle.plain_machine.specs.Grammar.{Says, IsAllowed, IsBuilt}
 use Rattle.plain_machine.specs.Names.{Parsed, parsed_of, names_after, command_of, terms_of, all_atoms, all_items, items_of, atoms_of, with_names}

@@ -10,8 +10,8 @@ use Rattle.plain_term.specs.Proper.{is_proper}
 use Rattle.plain_machine.specs.declared.command.Verb.{Verb}
 use Rattle.plain_machine.specs.declared.command.Verb.TheVariants as verb
 use Rattle.plain_machine.specs.Written.{Term, Written}
-use Rattle.plain_machine.specs.Written.{Word as word}
-use Rattle.plain_machine.specs.Written.{SysWord as sys}
+use Rattle.plain_machine.specs.declared.word.Word.TheVariants as word
+use Rattle.plain_machine.specs.declared.word.SysWord.TheVariants as sys
 use Rattle.plain_machine.specs.Written.Written.{Nothing, OfProcess, OfSystem}
 use Rattle.plain_machine.specs.Grammar.{MayStand, IsBuiltTerm, IsAllowed, IsBuilt}
 use Rattle.plain_machine.specs.Names.{Parsed, parsed_of, names_after, atoms_of, all_atoms, tree_of, reg}
@@ -183,8 +183,8 @@ written-leaves s (OfProcess n word.Set ops) h a b =
     let t : Term = ops.1.0 in
     at-process s (parsed_of s.names w) n (verb.Set (reg (ops.0))) (before s w h)
     (λ q k. record { proper = set-leaves s n (ops.0) t w (before s w h) (placed-front N (atoms_of t) [] (with-names-placed s.names (all_atoms w))) b.1.1.0 a.1.1.0 q k })
-written-leaves s (OfProcess n word.Self ops) h a b =
-    let w : Written = OfProcess n word.Self ops in
+written-leaves s (OfProcess n word.Own ops) h a b =
+    let w : Written = OfProcess n word.Own ops in
     let N : List (List ℕ) = names_after s.names w in
     at-process s (parsed_of s.names w) n (verb.Own (reg (ops.0))) (before s w h)
     (λ q k. record {

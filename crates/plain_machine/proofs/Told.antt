@@ -14,8 +14,8 @@ use Rattle.plain_machine.specs.declared.command.SysVerb.TheVariants.{Spawn, Proc
 use Rattle.plain_machine.specs.declared.refusal.Refusal.{Refusal}
 use Rattle.plain_machine.specs.declared.refusal.Refusal.TheVariants.{NoProc, BadArg, Empty, Big, NoSpace, NoArea, AreaThere, MapSize, Procs as TooMany, Atoms, Syntax, Long}
 use Rattle.plain_machine.specs.Written.{Written}
-use Rattle.plain_machine.specs.Written.{Word as word}
-use Rattle.plain_machine.specs.Written.{SysWord as sys}
+use Rattle.plain_machine.specs.declared.word.Word.TheVariants as word
+use Rattle.plain_machine.specs.declared.word.SysWord.TheVariants as sys
 use Rattle.plain_machine.specs.Written.Written.{Nothing as Blank, OfProcess, OfSystem}
 use Rattle.plain_machine.specs.Names.{Parsed, parsed_of, names_after, with_names, command_of, all_atoms}
 use Rattle.plain_machine.specs.State.{Process as Live, State, process_of, register}

@@ -8,13 +8,14 @@ use Rattle.plain_term.specs.Tree.{Pairs as pairs}
 use Rattle.plain_machine.specs.declared.command.To.TheVariants.{Number, Held as ByRegister}
 use Rattle.plain_machine.specs.declared.command.Depth.TheVariants.{Minor, Major}
 use Rattle.plain_machine.specs.declared.refusal.Refusal.TheVariants.{NoProc, Empty, Big, Procs}
-use Rattle.plain_machine.specs.Written.{Term, Terms, Word, kinds_of, Operands}
+use Rattle.plain_machine.specs.Written.{Term, Terms, kinds_of, Operands}
+use Rattle.plain_machine.specs.declared.word.Word.{Word}
 use Rattle.plain_machine.specs.Written.Term.{Int, Atom, Pid, Held, Listed, Barred, Tuple, Map, Bin}
 use Rattle.plain_machine.specs.Written.Terms.{end, ◌▹◌}
 use Rattle.plain_machine.specs.Written.TermPairs.{stop, pair}
 use Rattle.plain_machine.specs.Written.Written.{Nothing, OfProcess, OfSystem}
-use Rattle.plain_machine.specs.Written.{Word as word}
-use Rattle.plain_machine.specs.Written.{SysWord as sys}
+use Rattle.plain_machine.specs.declared.word.Word.TheVariants as word
+use Rattle.plain_machine.specs.declared.word.SysWord.TheVariants as sys
 use Rattle.plain_machine.specs.Names.{Parsed, parsed_of}
 use Rattle.plain_machine.specs.State.{Process, State, fresh_process, first_state, with_register}
 use Rattle.plain_machine.specs.Tightness.{grow, demand, is_tight}
@@ -120,7 +121,7 @@ load-two_terms = refl
 -- All other lines ask for nothing.
 pub others-grow : map (λ w. grow (holding two_keys) (parsed_of [] w)) (
     OfProcess 1 word.Hd (0, (1, tt)) ∷ OfProcess 1 word.Tl (0, (1, tt)) ∷ OfProcess 1 word.Elem (0, (1, (2, tt))) ∷ OfProcess 1 word.MapGet (1, (0, (2, tt)))
-    ∷ OfProcess 1 word.Env (0, (1, (2, tt))) ∷ OfProcess 1 word.Self (0, tt) ∷ OfProcess 1 word.Pop (0, tt) ∷ OfProcess 1 word.Recv (0, tt)
+    ∷ OfProcess 1 word.Env (0, (1, (2, tt))) ∷ OfProcess 1 word.Own (0, tt) ∷ OfProcess 1 word.Pop (0, tt) ∷ OfProcess 1 word.Recv (0, tt)
     ∷ OfProcess 1 word.Queue tt ∷ OfProcess 1 word.Print (0, tt) ∷ OfProcess 1 word.Eq (0, (1, tt)) ∷ OfProcess 1 word.Cmp (0, (1, tt)) ∷ OfProcess 1 word.Flat (0, tt)
     ∷ OfProcess 1 word.Lit (0, (codes "a", (1, tt))) ∷ OfProcess 1 word.Gc (Minor, tt) ∷ OfProcess 1 word.Gc (Major, tt) ∷ OfProcess 1 word.Hibernate tt
     ∷ OfProcess 1 word.Info tt ∷ OfProcess 1 word.Heap tt ∷ OfProcess 1 word.Exit tt
@@ -210,7 +211,7 @@ pub spawn-full : step (record first_state { processes = replicate 1024 (fresh_pr
 spawn-full = refl
 
 -- What is accepted, with its reply.
-pub self-accepted : step first_state (line word.Self (0, tt)) ≡ Accepted (holding (tree.Pid 1)) (codes "ok")
+pub self-accepted : step first_state (line word.Own (0, tt)) ≡ Accepted (holding (tree.Pid 1)) (codes "ok")
 self-accepted = refl
 
 pub print-accepted : step (holding (tree.Cons (tree.Int (pos 1)) tree.Nil)) (line word.Print (0, tt)) ≡ Accepted (holding (tree.Cons (tree.Int (pos 1)) tree.Nil)) (codes "[1]")
@@ -237,7 +238,7 @@ may-fits = refl
 pub may-dead : may_of_tight 0 first_state (parsed_of [] (OfProcess 2 word.Push (0, tt))) ≡ false
 may-dead = refl
 
-pub may-asks_nothing : may_of_tight 0 first_state (line word.Self (0, tt)) ≡ false
+pub may-asks_nothing : may_of_tight 0 first_state (line word.Own (0, tt)) ≡ false
 may-asks_nothing = refl
 
 -- Where words are never given back: 256 of the longest lists of ones fit into 1048576 words, and no further one.

@@ -1,14 +1,16 @@
 -- The grammar of lines, as a relation between a whole line and what it says.
 use Rattle.std.specs.Prelude.{ℕ, ◌≡◌, ◌+◌, ◌-◌, ◌*◌, ◌^◌, ◌<◌, ◌≤◌, ◌⊎◌, ◌≢◌, ◌||◌, ◌&&◌, Bool, true, false, nat_eq, nat_le, ℤ, pos, negsuc, List, [], ◌∷◌, ◌++◌, length, All, codes}
 use Rattle.plain_term.specs.Measures.{is_small, magnitude}
-use Rattle.plain_machine.specs.Written.{Term, Terms, TermPairs, terms_len, Kind, OperandOf, Operands, Word, text_of, kinds_of, SysWord, sys_text_of, sys_kinds_of, Written}
+use Rattle.plain_machine.specs.Written.{Term, Terms, TermPairs, terms_len, Kind, OperandOf, Operands, text_of, kinds_of, sys_text_of, sys_kinds_of, Written}
+use Rattle.plain_machine.specs.declared.word.Word.{Word}
+use Rattle.plain_machine.specs.declared.word.SysWord.{SysWord}
 use Rattle.plain_machine.specs.Written.Term.{Int, Atom, Pid, Held, Listed, Barred, Tuple, Map, Bin}
 use Rattle.plain_machine.specs.Written.Terms.{end, ◌▹◌}
 use Rattle.plain_machine.specs.Written.TermPairs.{stop, pair}
 use Rattle.plain_machine.specs.Written.Kind.{Slot, Count, Receiver, Title, Environment, Extent, Body, Bodies}
 use Rattle.plain_machine.specs.Written.Written.{Nothing, OfProcess, OfSystem}
-use Rattle.plain_machine.specs.Written.{Word as word}
-use Rattle.plain_machine.specs.Written.{SysWord as sys}
+use Rattle.plain_machine.specs.declared.word.Word.TheVariants as word
+use Rattle.plain_machine.specs.declared.word.SysWord.TheVariants as sys
 use Rattle.plain_machine.specs.declared.command.To.{To}
 use Rattle.plain_machine.specs.declared.command.To.TheVariants as to
 use Rattle.plain_machine.specs.declared.command.Depth.{Depth}
@@ -264,7 +266,7 @@ pub record Says (line : List ℕ) (w : Written) : Type 0 where
 -- The table of the verbs of a process that are built.
 abbrev pub is_built : Word → Bool
 is_built word.Set = true
-is_built word.Self = true
+is_built word.Own = true
 is_built word.Push = true
 is_built word.Pop = true
 is_built word.Print = true
@@ -296,11 +298,12 @@ abbrev mutual
   AreBuiltTerms end = Unit {0}
   AreBuiltTerms (t ▹ ts) = IsBuiltTerm t × AreBuiltTerms ts
 
--- An operand is of a built form.
+-- The table of the kinds of operands that are built. A term is of a built form.
 abbrev pub IsBuiltOperand : (k : Kind) → OperandOf k → Type 0
+IsBuiltOperand Slot r = Unit {0}
+IsBuiltOperand Count n = Unit {0}
 IsBuiltOperand Body t = IsBuiltTerm t
-IsBuiltOperand Bodies ts = AreBuiltTerms ts
-IsBuiltOperand _ _ = Unit {0}
+IsBuiltOperand _ _ = ⊥
 
 -- Each operand of a row is.
 abbrev pub AreBuiltOperands : (ks : List Kind) → Operands ks → Type 0

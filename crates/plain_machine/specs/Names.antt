@@ -9,18 +9,22 @@ use Rattle.plain_term.specs.Tree.{Tree as tree}
 use Rattle.plain_term.specs.Tree.{Trees as trees}
 use Rattle.plain_term.specs.Tree.{Pairs as pairs}
 use Rattle.plain_term.specs.Order.{order}
-use Rattle.plain_machine.specs.Written.{Term, Terms, TermPairs, terms_len, pairs_len, joined, Kind, OperandOf, Operands, Word, kinds_of, SysWord, sys_kinds_of, Written}
+use Rattle.plain_machine.specs.Written.{Term, Terms, TermPairs, terms_len, pairs_len, joined, Kind, OperandOf, Operands, kinds_of, sys_kinds_of, Written}
+use Rattle.plain_machine.specs.declared.word.Word.{Word}
+use Rattle.plain_machine.specs.declared.word.SysWord.{SysWord}
 use Rattle.plain_machine.specs.Written.Term.{Int, Atom, Pid, Held, Listed, Barred, Tuple, Map, Bin}
 use Rattle.plain_machine.specs.Written.Terms.{end, ◌▹◌}
 use Rattle.plain_machine.specs.Written.TermPairs.{stop, pair}
-use Rattle.plain_machine.specs.Written.Kind.{Title, Environment, Body, Bodies}
+use Rattle.plain_machine.specs.Written.Kind.{Slot, Count, Receiver, Title, Environment, Extent, Body, Bodies}
 use Rattle.plain_machine.specs.Written.Written.{Nothing, OfProcess, OfSystem}
 use Rattle.plain_machine.specs.Grammar.{MayReceive}
-use Rattle.plain_machine.specs.Written.{Word as word}
-use Rattle.plain_machine.specs.Written.{SysWord as sys}
+use Rattle.plain_machine.specs.declared.word.Word.TheVariants as word
+use Rattle.plain_machine.specs.declared.word.SysWord.TheVariants as sys
 use Rattle.plain_machine.specs.declared.command.Reg.{Reg}
 use Rattle.plain_machine.specs.declared.command.Pick.{Pick}
 use Rattle.plain_machine.specs.declared.command.Pick.TheVariants as pick
+use Rattle.plain_machine.specs.declared.command.To.{To}
+use Rattle.plain_machine.specs.declared.command.Depth.{Depth}
 use Rattle.plain_machine.specs.declared.command.Shape.TheVariants as shape
 use Rattle.plain_machine.specs.declared.command.Command.{Command}
 use Rattle.plain_machine.specs.declared.command.Command.TheVariants as command
@@ -168,48 +172,89 @@ abbrev mutual
 abbrev pub reg : ℕ → Reg
 reg r = record { 0 = r }
 
+-- What an operand of a kind is in a command: a name by its number, terms that are divided by their
+-- count; a term and an environment stand among the written terms alone.
+abbrev pub ArgumentOf : Kind → Type 0
+ArgumentOf Slot = ℕ
+ArgumentOf Count = ℕ
+ArgumentOf Receiver = To
+ArgumentOf Title = ℕ
+ArgumentOf Environment = Unit {0}
+ArgumentOf Extent = Depth
+ArgumentOf Body = Unit {0}
+ArgumentOf Bodies = ℕ
+
+-- Arguments of the kinds of a row, in order.
+abbrev pub Arguments : List Kind → Type 0
+Arguments [] = Unit {0}
+Arguments (k ∷ ks) = ArgumentOf k × Arguments ks
+
+-- The argument of an operand.
+abbrev pub argument : (names : List (List ℕ)) (k : Kind) → OperandOf k → ArgumentOf k
+argument names Slot r = r
+argument names Count n = n
+argument names Receiver to = to
+argument names Title a = number_of names a
+argument names Environment rs = tt
+argument names Extent d = d
+argument names Body t = tt
+argument names Bodies ts = terms_len ts
+
+-- The arguments of the operands of a row.
+abbrev pub arguments : (names : List (List ℕ)) (ks : List Kind) → Operands ks → Arguments ks
+arguments names [] ops = tt
+arguments names (k ∷ ks) ops = (argument names k (ops.0), arguments names ks (ops.1))
+
+-- The table of the verbs of a process: the command of each.
+abbrev pub verb_with : (w : Word) → Arguments (kinds_of w) → Verb
+verb_with word.Set args = verb.Set (reg (args.0))
+verb_with word.Hd args = verb.Choose (reg (args.0)) (reg (args.1.0)) pick.Hd
+verb_with word.Tl args = verb.Choose (reg (args.0)) (reg (args.1.0)) pick.Tl
+verb_with word.Elem args = verb.Choose (reg (args.0)) (reg (args.1.1.0)) (pick.Elem (args.1.0))
+verb_with word.MapGet args = verb.Choose (reg (args.0)) (reg (args.1.0)) (pick.MapGet (reg (args.1.1.0)))
+verb_with word.MapPut args = verb.MapPut (reg (args.0)) (reg (args.1.0)) (reg (args.1.1.0)) (reg (args.1.1.1.0))
+verb_with word.Part args = verb.Choose (reg (args.0)) (reg (args.1.0)) (pick.Part (args.1.1.0) (args.1.1.1.0))
+verb_with word.Fill args = verb.Fill (reg (args.0)) (args.1.0) (args.1.1.0)
+verb_with word.Fun args = verb.Fun (reg (args.0)) (args.1.0) (args.1.1.0)
+verb_with word.Env args = verb.Choose (reg (args.0)) (reg (args.1.1.0)) (pick.Env (args.1.0))
+verb_with word.Ref args = verb.Ref (reg (args.0))
+verb_with word.Own args = verb.Own (reg (args.0))
+verb_with word.MkTuple args = verb.Repeat (reg (args.0)) shape.Tuple (args.1.0) (reg (args.1.1.0))
+verb_with word.MkList args = verb.Repeat (reg (args.0)) shape.List (args.1.0) (reg (args.1.1.0))
+verb_with word.Push args = verb.Push (reg (args.0))
+verb_with word.Pop args = verb.Pop (reg (args.0))
+verb_with word.Send args = verb.Send (reg (args.0)) (args.1.0)
+verb_with word.Recv args = verb.Recv (reg (args.0))
+verb_with word.Queue args = verb.Queue
+verb_with word.Print args = verb.Print (reg (args.0))
+verb_with word.Eq args = verb.Eq (reg (args.0)) (reg (args.1.0))
+verb_with word.Cmp args = verb.Cmp (reg (args.0)) (reg (args.1.0))
+verb_with word.Flat args = verb.Flat (reg (args.0))
+verb_with word.Lit args = verb.Lit (reg (args.0)) (args.1.0) (args.1.1.0)
+verb_with word.Gc args = verb.Gc (args.0)
+verb_with word.Hibernate args = verb.Hibernate
+verb_with word.Info args = verb.Info
+verb_with word.Heap args = verb.Heap
+verb_with word.Exit args = verb.Exit
+
+-- The table of the verbs of the system: the command of each.
+abbrev pub sys_verb_with : (w : SysWord) → Arguments (sys_kinds_of w) → SysVerb
+sys_verb_with sys.Spawn args = sysverb.Spawn
+sys_verb_with sys.Load args = sysverb.Load (args.0) (args.1.0)
+sys_verb_with sys.Purge args = sysverb.Purge (args.0)
+sys_verb_with sys.Sweep args = sysverb.Sweep
+sys_verb_with sys.Counts args = sysverb.Counts
+sys_verb_with sys.Dump args = sysverb.Dump
+sys_verb_with sys.Procs args = sysverb.Procs
+sys_verb_with sys.Quit args = sysverb.Quit
+
 -- The verb of a process line, with names by number.
 abbrev pub verb_of : (names : List (List ℕ)) (w : Word) → Operands (kinds_of w) → Verb
-verb_of names word.Set ops = verb.Set (reg (ops.0))
-verb_of names word.Hd ops = verb.Choose (reg (ops.0)) (reg (ops.1.0)) pick.Hd
-verb_of names word.Tl ops = verb.Choose (reg (ops.0)) (reg (ops.1.0)) pick.Tl
-verb_of names word.Elem ops = verb.Choose (reg (ops.0)) (reg (ops.1.1.0)) (pick.Elem (ops.1.0))
-verb_of names word.MapGet ops = verb.Choose (reg (ops.0)) (reg (ops.1.0)) (pick.MapGet (reg (ops.1.1.0)))
-verb_of names word.MapPut ops = verb.MapPut (reg (ops.0)) (reg (ops.1.0)) (reg (ops.1.1.0)) (reg (ops.1.1.1.0))
-verb_of names word.Part ops = verb.Choose (reg (ops.0)) (reg (ops.1.0)) (pick.Part (ops.1.1.0) (ops.1.1.1.0))
-verb_of names word.Fill ops = verb.Fill (reg (ops.0)) (ops.1.0) (ops.1.1.0)
-verb_of names word.Fun ops = verb.Fun (reg (ops.0)) (number_of names (ops.1.0)) (ops.1.1.0)
-verb_of names word.Env ops = verb.Choose (reg (ops.0)) (reg (ops.1.1.0)) (pick.Env (ops.1.0))
-verb_of names word.Ref ops = verb.Ref (reg (ops.0))
-verb_of names word.Self ops = verb.Own (reg (ops.0))
-verb_of names word.MkTuple ops = verb.Repeat (reg (ops.0)) shape.Tuple (ops.1.0) (reg (ops.1.1.0))
-verb_of names word.MkList ops = verb.Repeat (reg (ops.0)) shape.List (ops.1.0) (reg (ops.1.1.0))
-verb_of names word.Push ops = verb.Push (reg (ops.0))
-verb_of names word.Pop ops = verb.Pop (reg (ops.0))
-verb_of names word.Send ops = verb.Send (reg (ops.0)) (ops.1.0)
-verb_of names word.Recv ops = verb.Recv (reg (ops.0))
-verb_of names word.Queue ops = verb.Queue
-verb_of names word.Print ops = verb.Print (reg (ops.0))
-verb_of names word.Eq ops = verb.Eq (reg (ops.0)) (reg (ops.1.0))
-verb_of names word.Cmp ops = verb.Cmp (reg (ops.0)) (reg (ops.1.0))
-verb_of names word.Flat ops = verb.Flat (reg (ops.0))
-verb_of names word.Lit ops = verb.Lit (reg (ops.0)) (number_of names (ops.1.0)) (ops.1.1.0)
-verb_of names word.Gc ops = verb.Gc (ops.0)
-verb_of names word.Hibernate ops = verb.Hibernate
-verb_of names word.Info ops = verb.Info
-verb_of names word.Heap ops = verb.Heap
-verb_of names word.Exit ops = verb.Exit
+verb_of names w ops = verb_with w (arguments names (kinds_of w) ops)
 
 -- The verb of a system line, with names by number.
 abbrev pub sys_verb_of : (names : List (List ℕ)) (w : SysWord) → Operands (sys_kinds_of w) → SysVerb
-sys_verb_of names sys.Spawn ops = sysverb.Spawn
-sys_verb_of names sys.Load ops = sysverb.Load (number_of names (ops.0)) (terms_len (ops.1.0))
-sys_verb_of names sys.Purge ops = sysverb.Purge (number_of names (ops.0))
-sys_verb_of names sys.Sweep ops = sysverb.Sweep
-sys_verb_of names sys.Counts ops = sysverb.Counts
-sys_verb_of names sys.Dump ops = sysverb.Dump
-sys_verb_of names sys.Procs ops = sysverb.Procs
-sys_verb_of names sys.Quit ops = sysverb.Quit
+sys_verb_of names w ops = sys_verb_with w (arguments names (sys_kinds_of w) ops)
 
 -- The command with names by number.
 abbrev pub command_of : (names : List (List ℕ)) → Written → Command

@@ -2,6 +2,10 @@
 use Rattle.std.specs.Prelude.{ℕ, ◌+◌, ℤ, List, [], ◌∷◌, codes}
 use Rattle.plain_machine.specs.declared.command.To.{To}
 use Rattle.plain_machine.specs.declared.command.Depth.{Depth}
+use Rattle.plain_machine.specs.declared.word.Word.{Word}
+use Rattle.plain_machine.specs.declared.word.Word.TheVariants.{Set, Hd, Tl, Elem, MapGet, MapPut, Part, Fill, Fun, Env, Ref, Own, MkTuple, MkList, Push, Pop, Send, Recv, Queue, Print, Eq, Cmp, Flat, Lit, Gc, Hibernate, Info, Heap, Exit}
+use Rattle.plain_machine.specs.declared.word.SysWord.{SysWord}
+use Rattle.plain_machine.specs.declared.word.SysWord.TheVariants.{Spawn, Load, Purge, Sweep, Counts, Dump, Procs, Quit}
 
 infixr 60 ◌▹◌
 mutual
@@ -71,47 +75,13 @@ Operands [] = Unit {0}
 Operands (k ∷ ks) = OperandOf k × Operands ks
 
 -- The verbs of a process.
-pub data Word : Type 0 where
-  Set : Word
-  Hd : Word
-  Tl : Word
-  Elem : Word
-  MapGet : Word
-  MapPut : Word
-  Part : Word
-  Fill : Word
-  Fun : Word
-  Env : Word
-  Ref : Word
-  Self : Word
-  MkTuple : Word
-  MkList : Word
-  Push : Word
-  Pop : Word
-  Send : Word
-  Recv : Word
-  Queue : Word
-  Print : Word
-  Eq : Word
-  Cmp : Word
-  Flat : Word
-  Lit : Word
-  Gc : Word
-  Hibernate : Word
-  Info : Word
-  Heap : Word
-  Exit : Word
+abbrev pub all_words : List Word
+all_words = Set ∷ Hd ∷ Tl ∷ Elem ∷ MapGet ∷ MapPut ∷ Part ∷ Fill ∷ Fun ∷ Env ∷ Ref ∷ Own ∷ MkTuple ∷ MkList ∷ Push ∷ Pop ∷ Send ∷ Recv ∷ Queue
+    ∷ Print ∷ Eq ∷ Cmp ∷ Flat ∷ Lit ∷ Gc ∷ Hibernate ∷ Info ∷ Heap ∷ Exit ∷ []
 
 -- The verbs of the system.
-pub data SysWord : Type 0 where
-  Spawn : SysWord
-  Load : SysWord
-  Purge : SysWord
-  Sweep : SysWord
-  Counts : SysWord
-  Dump : SysWord
-  Procs : SysWord
-  Quit : SysWord
+abbrev pub all_sys_words : List SysWord
+all_sys_words = Spawn ∷ Load ∷ Purge ∷ Sweep ∷ Counts ∷ Dump ∷ Procs ∷ Quit ∷ []
 
 -- The table of the verbs of a process: how each is written.
 abbrev pub text_of : Word → List ℕ
@@ -126,7 +96,7 @@ text_of Fill = codes "fill"
 text_of Fun = codes "fun"
 text_of Env = codes "env"
 text_of Ref = codes "ref"
-text_of Self = codes "self"
+text_of Own = codes "self"
 text_of MkTuple = codes "mktuple"
 text_of MkList = codes "mklist"
 text_of Push = codes "push"
@@ -158,7 +128,7 @@ kinds_of Fill = Slot ∷ Count ∷ Count ∷ []
 kinds_of Fun = Slot ∷ Title ∷ Count ∷ Environment ∷ []
 kinds_of Env = Slot ∷ Count ∷ Slot ∷ []
 kinds_of Ref = Slot ∷ []
-kinds_of Self = Slot ∷ []
+kinds_of Own = Slot ∷ []
 kinds_of MkTuple = Slot ∷ Count ∷ Slot ∷ []
 kinds_of MkList = Slot ∷ Count ∷ Slot ∷ []
 kinds_of Push = Slot ∷ []

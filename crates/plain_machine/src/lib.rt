@@ -4,9 +4,11 @@
 mod command;
 mod laws;
 mod refusal;
+mod word;
 
 pub use command::{Command, Depth, Measure, Pick, Reg, Shape, SysVerb, To, Verb};
 pub use laws::{
     numbers_are_fresh, refusals_leave, replies_determine, runs_join, trees_stay_proper,
 };
 pub use refusal::Refusal;
+pub use word::{SysWord, Word};

@@ -32,7 +32,8 @@ said line names c after full code h e few = let r : LineRead line (out names fal
       record {
         says = r.says;
         built = r.built;
-        parsed = parsed (command_of (names_after names r.written) r.written) c (terms_of r.written) (names_after names r.written) after (sym (r.command (names_after names r.written))) (sym known);
+        parsed = parsed (command_of (names_after names r.written) r.written) c (terms_of r.written) (names_after names r.written) after
+            (ap (λ (z : List (List ℕ)). command_of z r.written) (sym known ∙ sym (append-nil after)) ∙ sym (r.is e [])) (sym known);
         items = items ∙ ap (λ (z : List (List ℕ)). all_items z (terms_of r.written)) (append-nil after);
         fits = r.put.fits e few;
       },

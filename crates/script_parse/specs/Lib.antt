@@ -1,4 +1,3 @@
 pub mod Output
 pub mod Reading
 pub mod Parses
-pub mod Words

@@ -4,16 +4,18 @@ use Rattle.std.specs.Prelude.{ℕ, zero, suc, ◌+◌, ◌-◌, ◌*◌, nat_eq,
 use Rattle.std.specs.List.{prefix_len, find}
 use Rattle.std.specs.Str.{bytes_eq}
 use Rattle.plain_term.specs.declared.item.Item.TheVariants as item
-use Rattle.plain_machine.specs.Grammar.{is_blank, is_digit, is_small_letter, is_name_byte}
-use Rattle.plain_machine.specs.Names.{reg}
-use Rattle.plain_machine.specs.Written.{Word, Word as word, SysWord, SysWord as sys, text_of, sys_text_of}
-use Rattle.plain_machine.specs.declared.command.Reg.{Reg}
+use Rattle.plain_machine.specs.Grammar.{is_blank, is_digit, is_small_letter, is_name_byte, is_built, is_sys_built}
+use Rattle.plain_machine.specs.Names.{ArgumentOf, Arguments, verb_with, sys_verb_with}
+use Rattle.plain_machine.specs.Written.{Kind, all_words, text_of, kinds_of, all_sys_words, sys_text_of, sys_kinds_of}
+use Rattle.plain_machine.specs.declared.word.Word.{Word}
+use Rattle.plain_machine.specs.declared.word.Word.TheVariants as word
+use Rattle.plain_machine.specs.declared.word.SysWord.TheVariants as sys
+use Rattle.plain_machine.specs.declared.word.SysWord.{SysWord}
+use Rattle.plain_machine.specs.Written.Kind.{Slot, Count, Body}
 use Rattle.plain_machine.specs.declared.command.Command.{Command}
 use Rattle.plain_machine.specs.declared.command.Command.TheVariants as command
 use Rattle.plain_machine.specs.declared.command.Verb.{Verb}
-use Rattle.plain_machine.specs.declared.command.Verb.TheVariants as verb
 use Rattle.plain_machine.specs.declared.command.SysVerb.{SysVerb}
-use Rattle.plain_machine.specs.declared.command.SysVerb.TheVariants as sysverb
 use Rattle.script_parse.specs.Output.{Out, push, push_place, put_at, put_atom}
 
 -- What was found, and the rest after it, go on.
@@ -152,84 +154,91 @@ abbrev pub is_end : List ℕ → Bool
 is_end [] = true
 is_end (b ∷ bytes) = is_blank b && is_end bytes
 
--- A blank and a register.
-abbrev pub register_at : List ℕ → Option (ℕ × List ℕ)
-register_at line = then_read (gap_at line) (λ rest. number_at 15 (after_blanks rest))
+-- A blank and a number.
+abbrev pub spaced_at : (limit : ℕ) → List ℕ → Option (ℕ × List ℕ)
+spaced_at limit line = then_read (gap_at line) (λ rest. number_at limit (after_blanks rest))
 
--- A blank and a register, and nothing more.
-abbrev pub one_register_at : List ℕ → Option ℕ
-one_register_at line = then_read (register_at line) (λ r. cond (is_end (r.1)) (Some (r.0)) None)
+-- A number leaves the output.
+abbrev pub number_run : (limit : ℕ) → List ℕ → Out → Option (ℕ × (List ℕ × Out))
+number_run limit line o = then_read (spaced_at limit line) (λ r. Some (r.0, (r.1, o)))
 
--- A register stands where nothing more is left after its term.
-abbrev pub ended : ℕ → List ℕ × Out → Option (ℕ × Out)
-ended n s = cond (is_end (s.0)) (Some (n, s.1)) None
+-- A blank and a term.
+abbrev pub body_run : List ℕ → Out → Option (List ℕ × Out)
+body_run line o = then_read (gap_at line) (λ rest. term_run 256 rest o)
 
--- A blank and a term, and nothing more.
-abbrev pub body_run : ℕ → List ℕ → Out → Option (ℕ × Out)
-body_run n line o = then_read (gap_at line) (λ rest. then_read (term_run 256 rest o) (ended n))
+-- An operand of a kind: its argument, and the rest after it. Kinds that are not built have no reader.
+abbrev pub operand_at : (k : Kind) → List ℕ → Out → Option (ArgumentOf k × (List ℕ × Out))
+operand_at Slot line o = number_run 15 line o
+operand_at Count line o = number_run 1099511627775 line o
+operand_at Body line o = then_read (body_run line o) (λ r. Some (tt, r))
+operand_at _ line o = None
 
--- A blank, a register, a blank and a term, and nothing more.
-abbrev pub assigned_run : List ℕ → Out → Option (ℕ × Out)
-assigned_run line o = then_read (register_at line) (λ r. body_run (r.0) (r.1) o)
+-- The operands of a row, and nothing after them.
+abbrev pub operands_at : (ks : List Kind) → List ℕ → Out → Option (Arguments ks × Out)
+operands_at [] line o = cond (is_end line) (Some (tt, o)) None
+operands_at (k ∷ ks) line o = then_read (operand_at k line o)
+    (λ r. then_read (operands_at ks (r.1.0) (r.1.1)) (λ s. Some ((r.0, s.0), s.1)))
 
--- The built verbs of a process.
-abbrev pub built_words : List Word
-built_words = word.Set ∷ word.Self ∷ word.Push ∷ word.Pop ∷ word.Print ∷ word.Exit ∷ []
+-- A row of a table of verbs: the kinds of its operands, and what comes of their arguments.
+pub record Row (V : Type 0) : Type 0 where
+  pub kinds : List Kind
+  pub made : Arguments kinds → V
 
--- The built verb of a process that is written so.
-abbrev pub word_named : List ℕ → Option Word
-word_named bytes = find (λ w. bytes_eq bytes (text_of w)) built_words
+-- The two as one.
+abbrev pub row : {V : Type 0} (kinds : List Kind) → (Arguments kinds → V) → Row V
+row kinds made = record { kinds = kinds; made = made }
 
--- The built verbs of the system.
-abbrev pub built_sys_words : List SysWord
-built_sys_words = sys.Spawn ∷ sys.Procs ∷ sys.Quit ∷ []
+-- What comes of the operands of a row, with nothing after them.
+unfoldable pub row_run : {V : Type 0} → Row V → List ℕ → Out → Option (V × Out)
+row_run r line o = then_read (operands_at (r.kinds) line o) (λ x. Some (r.made (x.0), x.1))
 
--- The built verb of the system that is written so.
-abbrev pub sys_word_named : List ℕ → Option SysWord
-sys_word_named bytes = find (λ w. bytes_eq bytes (sys_text_of w)) built_sys_words
+-- The row of a verb of a process, known where the verb is.
+abbrev pub row_of : Word → Row Verb
+row_of word.Set = row (kinds_of word.Set) (verb_with word.Set)
+row_of w = row (kinds_of w) (verb_with w)
 
--- What comes of a register that stands alone.
-abbrev pub of_one : (Reg → Verb) → List ℕ → Out → Option (Verb × Out)
-of_one f line o = then_read (one_register_at line) (λ r. Some (f (reg r), o))
+-- The row of a verb of the system.
+abbrev pub sys_row_of : SysWord → Row SysVerb
+sys_row_of sys.Spawn = row (sys_kinds_of sys.Spawn) (sys_verb_with sys.Spawn)
+sys_row_of w = row (sys_kinds_of w) (sys_verb_with w)
 
--- The operands of a built verb of a process.
+-- A verb of a process with the operands after it, where it is built.
 abbrev pub verb_run : Word → List ℕ → Out → Option (Verb × Out)
-verb_run word.Set line o = then_read (assigned_run line o) (λ r. Some (verb.Set (reg (r.0)), r.1))
-verb_run word.Self line o = of_one verb.Own line o
-verb_run word.Push line o = of_one verb.Push line o
-verb_run word.Pop line o = of_one verb.Pop line o
-verb_run word.Print line o = of_one verb.Print line o
-verb_run word.Exit line o = cond (is_end line) (Some (verb.Exit, o)) None
-verb_run _ line o = None
+verb_run w line o = cond (is_built w) (row_run (row_of w) line o) None
 
--- The operands of a built verb of the system.
-abbrev pub sys_verb_at : SysWord → List ℕ → Option SysVerb
-sys_verb_at sys.Spawn line = cond (is_end line) (Some sysverb.Spawn) None
-sys_verb_at sys.Procs line = cond (is_end line) (Some sysverb.Procs) None
-sys_verb_at sys.Quit line = cond (is_end line) (Some sysverb.Quit) None
-sys_verb_at _ line = None
+-- A verb of the system with the operands after it, where it is built.
+abbrev pub sys_verb_run : SysWord → List ℕ → Out → Option (SysVerb × Out)
+sys_verb_run w line o = cond (is_sys_built w) (row_run (sys_row_of w) line o) None
 
--- A verb of a process, after the word for it was cut off.
+-- The verb of a process that is written so.
+abbrev pub word_named : List ℕ → Option Word
+word_named bytes = find (λ w. bytes_eq bytes (text_of w)) all_words
+
+-- The verb of the system that is written so.
+abbrev pub sys_word_named : List ℕ → Option SysWord
+sys_word_named bytes = find (λ w. bytes_eq bytes (sys_text_of w)) all_sys_words
+
+-- A verb of a process, which begins with its word.
 abbrev pub named_run : List ℕ → Out → Option (Verb × Out)
 named_run line o = then_read (word_named (word_at line)) (λ w. verb_run w (after_word line) o)
 
--- A verb of the system, after the word for it was cut off.
-abbrev pub sys_named_at : List ℕ → Option SysVerb
-sys_named_at line = then_read (sys_word_named (word_at line)) (λ w. sys_verb_at w (after_word line))
+-- A verb of the system, which begins with its word.
+abbrev pub sys_named_run : List ℕ → Out → Option (SysVerb × Out)
+sys_named_run line o = then_read (sys_word_named (word_at line)) (λ w. sys_verb_run w (after_word line) o)
 
 -- A process line after its number.
 abbrev pub process_run : List ℕ → Out → Option (Verb × Out)
 process_run line o = then_read (gap_at line) (λ rest. named_run (after_blanks rest) o)
 
 -- A system line after its first word.
-abbrev pub system_at : List ℕ → Option SysVerb
-system_at line = then_read (gap_at line) (λ rest. sys_named_at (after_blanks rest))
+abbrev pub system_run : List ℕ → Out → Option (SysVerb × Out)
+system_run line o = then_read (gap_at line) (λ rest. sys_named_run (after_blanks rest) o)
 
 -- A line that has a command, from its first byte that is no blank.
 abbrev pub command_run : List ℕ → Out → Option (Command × Out)
 command_run line o = found_or (number_at 1099511627775 line)
     (λ r. then_read (process_run (r.1) o) (λ v. Some (command.Process (r.0) (v.0), v.1)))
-    (then_read (text_at (codes "sys") line) (λ rest. then_read (system_at rest) (λ v. Some (command.System v, o))))
+    (then_read (text_at (codes "sys") line) (λ rest. then_read (system_run rest o) (λ v. Some (command.System (v.0), v.1))))
 
 -- A line is silent where it has no byte but blanks, or `%` is the first.
 abbrev pub is_silent : List ℕ → Bool

@@ -1,22 +1,24 @@
-ghost use Rattle.std.specs.Prelude.{◌≡◌, ℕ, ◌+◌, ◌≤◌, ◌<◌, Bool, true, false, List, length, MatchOption, Some, None};
-ghost use Rattle.plain_machine.specs.Names.{reg, HasRegisters};
+ghost use Rattle.std.specs.Prelude.{◌≡◌, ℕ, ◌+◌, ◌≤◌, ◌<◌, Bool, true, false, List, [], ◌∷◌, length, MatchOption, Some, None};
+ghost use Rattle.plain_machine.specs.Names.{Arguments, HasRegisters};
+ghost use Rattle.plain_machine.specs.Written.{Kind};
+ghost use Rattle.plain_machine.specs.Written.Kind.{Slot, Body};
 ghost use Rattle.script_parse.specs.Output.{Out, out, Keeps};
-ghost use Rattle.script_parse.specs.Reading.{register_at, one_register_at, assigned_run, process_run, named_run, system_at, sys_named_at};
+ghost use Rattle.script_parse.specs.Reading.{spaced_at, row, row_run, verb_run, named_run, process_run, sys_verb_run, sys_named_run, system_run};
 
 use crate::blanks::{ends, gap, skip, word_len};
 use crate::buffer::Code;
 use crate::numbers::number;
 use crate::terms::term;
-use crate::words::{BuiltSysWord, BuiltWord, sys_word, verb_word};
+use crate::words::{sys_word, verb_word};
 use atom_names::AtomNames;
-use plain_machine::{Reg, SysVerb, Verb};
+use plain_machine::{Reg, SysVerb, SysWord, Verb, Word};
 
 /// How many levels of brackets may be open.
 const LEVELS: u64 = 256;
 
 /// A blank and a register.
 fn register(line: &[u8]) -> Option<(Reg, &[u8])>
-    ensures value { MatchOption result (register_at line.now ≡ None) (λ r. register_at line.now ≡ Some (r.0.0, r.1.now)) }
+    ensures value { MatchOption result (spaced_at 15 line.now ≡ None) (λ r. spaced_at 15 line.now ≡ Some (r.0.0, r.1.now)) }
     ensures within { MatchOption result (Unit {0}) (λ r. (r.0.0 < 16) × (length r.1.now ≤ length line.now)) }
 {
     let rest = gap(line)?;
@@ -24,20 +26,32 @@ fn register(line: &[u8]) -> Option<(Reg, &[u8])>
     Some((Reg(n as u8), rest))
 }
 
-/// A blank and a register, and nothing more.
-fn one_register(line: &[u8]) -> Option<Reg>
-    ensures value { MatchOption result (one_register_at line.now ≡ None) (λ r. one_register_at line.now ≡ Some r.0) }
+/// No operand, and nothing more.
+#[tactic(auto, unfolding(crate::specs::Reading::row_run))]
+fn none(line: &[u8]) -> Option<()>
+    ensures process { (f : Arguments [] → Verb) (o : Out) → MatchOption result (row_run (row [] f) line.now o ≡ None) (λ r. row_run (row [] f) line.now o ≡ Some (f tt, o)) }
+    ensures system { (f : Arguments [] → SysVerb) (o : Out) → MatchOption result (row_run (row [] f) line.now o ≡ None) (λ r. row_run (row [] f) line.now o ≡ Some (f tt, o)) }
+{
+    if ends(line) { Some(()) } else { None }
+}
+
+/// A register, and nothing more.
+#[tactic(auto, unfolding(crate::specs::Reading::row_run))]
+fn slot(line: &[u8]) -> Option<Reg>
+    ensures value { (f : Arguments (Slot ∷ []) → Verb) (o : Out) → MatchOption result (row_run (row (Slot ∷ []) f) line.now o ≡ None)
+        (λ r. row_run (row (Slot ∷ []) f) line.now o ≡ Some (f (r.0, tt), o)) }
     ensures within { MatchOption result (Unit {0}) (λ r. r.0 < 16) }
 {
     let (r, rest) = register(line)?;
     if ends(rest) { Some(r) } else { None }
 }
 
-/// A blank, a register, a blank and a term, and nothing more. The term goes last.
-fn assigned(line: &[u8], names: &mut AtomNames, code: &mut Code, full: &mut bool) -> Option<Reg>
+/// A register and a term, and nothing more. The term goes last.
+#[tactic(auto, unfolding(crate::specs::Reading::row_run))]
+fn slot_body(line: &[u8], names: &mut AtomNames, code: &mut Code, full: &mut bool) -> Option<Reg>
     requires { length code.old + length line.now ≤ 4096 }
-    ensures read { MatchOption result (assigned_run line.now (out names.old full.old code.old) ≡ None)
-        (λ r. assigned_run line.now (out names.old full.old code.old) ≡ Some (r.0, out names.new full.new code.new)) }
+    ensures read { (f : Arguments (Slot ∷ Body ∷ []) → Verb) → MatchOption result (row_run (row (Slot ∷ Body ∷ []) f) line.now (out names.old full.old code.old) ≡ None)
+        (λ r. row_run (row (Slot ∷ Body ∷ []) f) line.now (out names.old full.old code.old) ≡ Some (f (r.0, (tt, tt)), out names.new full.new code.new)) }
     ensures kept { Keeps names.old names.new }
     ensures within { MatchOption result (Unit {0}) (λ r. r.0 < 16) }
 {
@@ -47,7 +61,35 @@ fn assigned(line: &[u8], names: &mut AtomNames, code: &mut Code, full: &mut bool
     if ends(rest) { Some(r) } else { None }
 }
 
-/// A verb of a process and its operands. The line begins with the verb.
+/// The operands of a verb of a process, by the table of what is built.
+fn verb(
+    word: Word,
+    line: &[u8],
+    names: &mut AtomNames,
+    code: &mut Code,
+    full: &mut bool,
+) -> Option<Verb>
+    requires { length code.old + length line.now ≤ 4096 }
+    ensures read { MatchOption result (verb_run word line.now (out names.old full.old code.old) ≡ None)
+        (λ v. verb_run word line.now (out names.old full.old code.old) ≡ Some (v, out names.new full.new code.new)) }
+    ensures kept { Keeps names.old names.new }
+    ensures within { MatchOption result (Unit {0}) HasRegisters }
+{
+    match word {
+        Word::Set => Some(Verb::Set(slot_body(line, names, code, full)?)),
+        Word::Own => Some(Verb::Own(slot(line)?)),
+        Word::Push => Some(Verb::Push(slot(line)?)),
+        Word::Pop => Some(Verb::Pop(slot(line)?)),
+        Word::Print => Some(Verb::Print(slot(line)?)),
+        Word::Exit => {
+            none(line)?;
+            Some(Verb::Exit)
+        }
+        _ => None,
+    }
+}
+
+/// A verb of a process and its operands. The line begins with its word.
 fn named(line: &[u8], names: &mut AtomNames, code: &mut Code, full: &mut bool) -> Option<Verb>
     requires { length code.old + length line.now ≤ 4096 }
     ensures read { MatchOption result (named_run line.now (out names.old full.old code.old) ≡ None)
@@ -57,15 +99,7 @@ fn named(line: &[u8], names: &mut AtomNames, code: &mut Code, full: &mut bool) -
 {
     let n = word_len(line);
     let word = verb_word(&line[..n])?;
-    let rest = &line[n..];
-    match word {
-        BuiltWord::Set => Some(Verb::Set(assigned(rest, names, code, full)?)),
-        BuiltWord::Own => Some(Verb::Own(one_register(rest)?)),
-        BuiltWord::Push => Some(Verb::Push(one_register(rest)?)),
-        BuiltWord::Pop => Some(Verb::Pop(one_register(rest)?)),
-        BuiltWord::Print => Some(Verb::Print(one_register(rest)?)),
-        BuiltWord::Exit => if ends(rest) { Some(Verb::Exit) } else { None },
-    }
+    verb(word, &line[n..], names, code, full)
 }
 
 /// A process line after its number.
@@ -85,25 +119,39 @@ pub(crate) fn process_verb(
     named(skip(rest), names, code, full)
 }
 
-/// A verb of the system and its operands. The line begins with the verb.
+/// The operands of a verb of the system, by the table of what is built.
+fn sys_verb(word: SysWord, line: &[u8]) -> Option<SysVerb>
+    ensures { (o : Out) → MatchOption result (sys_verb_run word line.now o ≡ None) (λ v. sys_verb_run word line.now o ≡ Some (v, o)) }
+{
+    match word {
+        SysWord::Spawn => {
+            none(line)?;
+            Some(SysVerb::Spawn)
+        },
+        SysWord::Procs => {
+            none(line)?;
+            Some(SysVerb::Procs)
+        },
+        SysWord::Quit => {
+            none(line)?;
+            Some(SysVerb::Quit)
+        },
+        _ => None,
+    }
+}
+
+/// A verb of the system and its operands. The line begins with its word.
 fn sys_named(line: &[u8]) -> Option<SysVerb>
-    ensures { MatchOption result (sys_named_at line.now ≡ None) (λ v. sys_named_at line.now ≡ Some v) }
+    ensures { (o : Out) → MatchOption result (sys_named_run line.now o ≡ None) (λ v. sys_named_run line.now o ≡ Some (v, o)) }
 {
     let n = word_len(line);
     let word = sys_word(&line[..n])?;
-    if !ends(&line[n..]) {
-        return None;
-    }
-    match word {
-        BuiltSysWord::Spawn => Some(SysVerb::Spawn),
-        BuiltSysWord::Procs => Some(SysVerb::Procs),
-        BuiltSysWord::Quit => Some(SysVerb::Quit),
-    }
+    sys_verb(word, &line[n..])
 }
 
 /// A system line after its first word.
 pub(crate) fn system_verb(line: &[u8]) -> Option<SysVerb>
-    ensures { MatchOption result (system_at line.now ≡ None) (λ v. system_at line.now ≡ Some v) }
+    ensures { (o : Out) → MatchOption result (system_run line.now o ≡ None) (λ v. system_run line.now o ≡ Some (v, o)) }
 {
     let rest = gap(line)?;
     sys_named(skip(rest))

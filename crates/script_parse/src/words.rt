@@ -1,52 +1,61 @@
-ghost use Rattle.std.specs.Prelude.{◌≡◌, ◌≢◌, true, ℕ, IfSome, IfNone};
-ghost use Rattle.plain_machine.specs.Written.{Word, SysWord, text_of, sys_text_of};
-ghost use Rattle.plain_machine.specs.Grammar.{is_built, is_sys_built};
-ghost use Rattle.script_parse.specs.Words.{word_of, sys_word_of};
+ghost use Rattle.std.specs.Prelude.{◌≡◌, ◌≢◌, ℕ, IfSome, IfNone};
+ghost use Rattle.plain_machine.specs.Written.{text_of, sys_text_of};
 
-/// The verbs of a process that are built.
-#[derive(Clone, Copy)]
-pub(crate) enum BuiltWord {
-    Set,
-    Own,
-    Push,
-    Pop,
-    Print,
-    Exit,
-}
+use plain_machine::{SysWord, Word};
 
-/// The verbs of the system that are built.
-#[derive(Clone, Copy)]
-pub(crate) enum BuiltSysWord {
-    Spawn,
-    Procs,
-    Quit,
-}
-
-/// The table of the verbs of a process.
-pub(crate) fn verb_word(bytes: &[u8]) -> Option<BuiltWord>
-    ensures found { IfSome result (λ w. bytes.now ≡ text_of (word_of w)) }
-    ensures none { IfNone result ((w : Word) → is_built w ≡ true → bytes.now ≢ text_of w) }
+/// The table of the verbs of a process: how each is written.
+pub(crate) fn verb_word(bytes: &[u8]) -> Option<Word>
+    ensures found { IfSome result (λ w. bytes.now ≡ text_of w) }
+    ensures none { IfNone result ((w : Word) → bytes.now ≢ text_of w) }
 {
     match bytes {
-        b"set" => Some(BuiltWord::Set),
-        b"self" => Some(BuiltWord::Own),
-        b"push" => Some(BuiltWord::Push),
-        b"pop" => Some(BuiltWord::Pop),
-        b"print" => Some(BuiltWord::Print),
-        b"exit" => Some(BuiltWord::Exit),
+        b"set" => Some(Word::Set),
+        b"hd" => Some(Word::Hd),
+        b"tl" => Some(Word::Tl),
+        b"elem" => Some(Word::Elem),
+        b"mapget" => Some(Word::MapGet),
+        b"mapput" => Some(Word::MapPut),
+        b"part" => Some(Word::Part),
+        b"fill" => Some(Word::Fill),
+        b"fun" => Some(Word::Fun),
+        b"env" => Some(Word::Env),
+        b"ref" => Some(Word::Ref),
+        b"self" => Some(Word::Own),
+        b"mktuple" => Some(Word::MkTuple),
+        b"mklist" => Some(Word::MkList),
+        b"push" => Some(Word::Push),
+        b"pop" => Some(Word::Pop),
+        b"send" => Some(Word::Send),
+        b"recv" => Some(Word::Recv),
+        b"queue" => Some(Word::Queue),
+        b"print" => Some(Word::Print),
+        b"eq" => Some(Word::Eq),
+        b"cmp" => Some(Word::Cmp),
+        b"flat" => Some(Word::Flat),
+        b"lit" => Some(Word::Lit),
+        b"gc" => Some(Word::Gc),
+        b"hibernate" => Some(Word::Hibernate),
+        b"info" => Some(Word::Info),
+        b"heap" => Some(Word::Heap),
+        b"exit" => Some(Word::Exit),
         _ => None,
     }
 }
 
-/// The table of the verbs of the system.
-pub(crate) fn sys_word(bytes: &[u8]) -> Option<BuiltSysWord>
-    ensures found { IfSome result (λ w. bytes.now ≡ sys_text_of (sys_word_of w)) }
-    ensures none { IfNone result ((w : SysWord) → is_sys_built w ≡ true → bytes.now ≢ sys_text_of w) }
+/// The table of the verbs of the system: how each is written.
+pub(crate) fn sys_word(bytes: &[u8]) -> Option<SysWord>
+    ensures found { IfSome result (λ w. bytes.now ≡ sys_text_of w) }
+    ensures none { IfNone result ((w : SysWord) → bytes.now ≢ sys_text_of w) }
 {
     match bytes {
-        b"spawn" => Some(BuiltSysWord::Spawn),
-        b"procs" => Some(BuiltSysWord::Procs),
-        b"quit" => Some(BuiltSysWord::Quit),
+        b"spawn" => Some(SysWord::Spawn),
+        b"load" => Some(SysWord::Load),
+        b"purge" => Some(SysWord::Purge),
+        b"sweep" => Some(SysWord::Sweep),
+        b"counts" => Some(SysWord::Counts),
+        b"dump" => Some(SysWord::Dump),
+        b"procs" => Some(SysWord::Procs),
+        b"quit" => Some(SysWord::Quit),
         _ => None,
     }
 }
