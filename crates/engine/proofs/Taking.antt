@@ -13,10 +13,9 @@ use Rattle.plain_machine.specs.Names.{Parsed, parsed_of, names_after, command_of
 use Rattle.plain_machine.specs.State.{State}
 use Rattle.plain_machine.specs.Step.{is_printing}
 use Rattle.plain_machine.proofs.Told.{prints-none}
-use Rattle.plain_machine.specs.Run.{CommandStep, IsOutside}
+use Rattle.plain_machine.specs.Run.{CommandStep, IsOutside, BringsTooMany}
 use Rattle.plain_machine.specs.Run.Reading.{Means, NoSyntax, NoAtoms}
 use Rattle.space_api.specs.Calls.{said}
-use Rattle.script_parse.specs.Parses.{IsOver}
 use Rattle.script_parse.specs.Parses.{Reads as Parsing}
 use Rattle.engine.specs.declared.reply.Reply.{Reply}
 use Rattle.engine.specs.declared.reply.Reply.TheVariants.{Nothing as Silence, Done, Spawned, Numbers, Text, Quit, Refused}
@@ -130,19 +129,18 @@ left-none reply e s p h = subst (λ z. s.names ≡ names_left z s p) (sym h) ref
 -- the line is refused before it comes to a command
 pub takes-nothing : (may : ℕ → State → Parsed → Bool) (words : ℕ) (s : State) (line : List ℕ) (e : Refusal) (before names : List (List ℕ)) (Stands : State → Type 0)
     → StandsWith Stands before s → names ≡ before → (e ≡ Syntax) ⊎ (e ≡ Atoms)
-    → (e ≡ Syntax → IsOutside line) → (e ≡ Atoms → (w : Written) × IsOver line before w) → Takes may words s line (Refused e) Stands names
+    → (e ≡ Syntax → IsOutside line) → (e ≡ Atoms → BringsTooMany before line) → Takes may words s line (Refused e) Stands names
 takes-nothing may words s line e before names Stands st same (inl h) out over =
     let P : Refusal → Type 0 = λ z. Takes may words s line (Refused z) Stands names in
     subst P (sym h) (record { new = s; stands = (st.0, same ∙ st.1); steps = record { reading = NoSyntax; reads = out h; follows = record { goes_on = refl; said = refl; same = refl } } })
 takes-nothing may words s line e before names Stands st same (inr h) out over =
     let P : Refusal → Type 0 = λ z. Takes may words s line (Refused z) Stands names in
-    let o : (w : Written) × IsOver line before w = over h in
     subst P (sym h) (record {
       new = s;
       stands = (st.0, same ∙ st.1);
       steps = record {
         reading = NoAtoms;
-        reads = record { written = o.0; says = o.1.says; built = o.1.built; many = subst (λ z. most_names < length (names_after z o.0)) st.1 o.1.over };
+        reads = subst (λ z. BringsTooMany z line) st.1 (over h);
         follows = record { goes_on = refl; said = refl; same = refl };
       };
     })

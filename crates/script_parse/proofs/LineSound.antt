@@ -165,6 +165,21 @@ pub record Spoken {W V : Type 0} (text : W → List ℕ) (kinds : W → List Kin
   pub put : Put o (operands_atoms (kinds word) operands) (λ names. all_items names (operands_terms (kinds word) operands)) p
   pub lies : Lies (Space ∷ Text (text word) ∷ operands_pieces (kinds word) operands) line
 
+-- The word was found and is built, and its operands were read.
+spoken_word : {W V : Type 0} (text : W → List ℕ) (kinds : W → List Kind) (with : (w : W) → Arguments (kinds w) → V) (built : W → Bool) (line start : List ℕ) (o : Out) (v : V) (p : Out) (w : W)
+    → gap_at line ≡ Some start → word_at (after_blanks start) ≡ text w → built w ≡ true → Made (row (kinds w) (with w)) (after_word (after_blanks start)) o v p → Spoken text kinds with built line o v p
+spoken_word text kinds with built line start o v p w g t b m = record {
+  word = w;
+  is_built = b;
+  operands = m.operated.operands;
+  allowed = m.operated.allowed;
+  are_built = m.operated.built;
+  is = λ c more. m.is ∙ ap (with w) (m.operated.are c more);
+  put = m.operated.put;
+  lies = gap_lies (Text (text w) ∷ operands_pieces (kinds w) m.operated.operands) line start g
+      (lies (Text (text w)) (operands_pieces (kinds w) m.operated.operands) start (text w) (after_word (after_blanks start)) (cut (after_blanks start) (text w) t) refl m.operated.lies);
+}
+
 spoken : {W V : Type 0} (text : W → List ℕ) (kinds : W → List Kind) (with : (w : W) → Arguments (kinds w) → V) (built : W → Bool) (all : List W) (rows : W → Row V)
     → ((w : W) → rows w ≡ row (kinds w) (with w)) → (line : List ℕ) (o : Out) (v : V) (p : Out)
     → then_read (gap_at line) (λ rest. then_read (find (λ w. bytes_eq (word_at (after_blanks rest)) (text w)) all) (λ w. cond (built w) (row_run (rows w) (after_word (after_blanks rest)) o) None)) ≡ Some (v, p)
@@ -176,20 +191,8 @@ spoken {W} {V} text kinds with built all rows same line o v p h =
     = read_some (find (λ w. bytes_eq (word_at (after_blanks (f.0))) (text w)) all) (λ w. cond (built w) (row_run (rows w) (after_word (after_blanks (f.0))) o) None) (f.2) in
     elim (chosen (built (g.0)) (g.2)) [
       | inl e ↦ let P : Row V → Type 0 = λ z. row_run z (after_word (after_blanks (f.0))) o ≡ Some (v, p) in
-          let m : Made (row (kinds (g.0)) (with (g.0))) (after_word (after_blanks (f.0))) o v p
-          = row_read (row (kinds (g.0)) (with (g.0))) (after_word (after_blanks (f.0))) o v p (subst P (same (g.0)) (e.1)) in
-          record {
-            word = g.0;
-            is_built = e.0;
-            operands = m.operated.operands;
-            allowed = m.operated.allowed;
-            are_built = m.operated.built;
-            is = λ c more. m.is ∙ ap (with (g.0)) (m.operated.are c more);
-            put = m.operated.put;
-            lies = gap_lies (Text (text (g.0)) ∷ operands_pieces (kinds (g.0)) m.operated.operands) line (f.0) (f.1)
-                (lies (Text (text (g.0))) (operands_pieces (kinds (g.0)) m.operated.operands) (f.0) (text (g.0)) (after_word (after_blanks (f.0)))
-                (cut (after_blanks (f.0)) (text (g.0)) (found_text text all (word_at (after_blanks (f.0))) (g.0) (g.1))) refl m.operated.lies);
-          }
+          spoken_word text kinds with built line (f.0) o v p (g.0) (f.1) (found_text text all (word_at (after_blanks (f.0))) (g.0) (g.1)) (e.0)
+          (row_read (row (kinds (g.0)) (with (g.0))) (after_word (after_blanks (f.0))) o v p (subst P (same (g.0)) (e.1)))
       | inr e ↦ let none : None ≡ Some (v, p) = e.1 in cc
     ]
 

@@ -5,11 +5,11 @@ use Rattle.std.proofs.Math.Seq.{take-length}
 use Rattle.atom_names.specs.Names.{most_names}
 use Rattle.plain_term.specs.declared.item.Item.{Item}
 use Rattle.plain_machine.specs.Written.{Written, Terms}
-use Rattle.plain_machine.specs.Grammar.{Says, IsBuilt}
 use Rattle.plain_machine.specs.Names.{Parsed, names_after, command_of, terms_of, all_items}
+use Rattle.plain_machine.specs.Run.{IsOutside, BringsTooMany}
 use Rattle.plain_machine.specs.declared.command.Command.{Command}
 use Rattle.script_parse.specs.Output.{Out, out, Keeps}
-use Rattle.script_parse.specs.Parses.{Reads, IsOver}
+use Rattle.script_parse.specs.Parses.{Reads}
 use Rattle.script_parse.specs.Reading.{line_run}
 use Rattle.script_parse.proofs.Tools.{none_some}
 use Rattle.script_parse.proofs.LineSound.{LineRead, line_read}
@@ -41,12 +41,12 @@ said line names c after full code h e few = let r : LineRead line (out names fal
 
 -- A line that was read, where a name found no place.
 pub over : (line : List ℕ) (names : List (List ℕ)) (c : Command) (after : List (List ℕ)) (full : Bool) (code : List Item) → line_run line (out names false []) ≡ Some (c, out after full code)
-    → full ≡ true → (w : Written) × IsOver line names w
+    → full ≡ true → BringsTooMany names line
 over line names c after full code h e = let r : LineRead line (out names false []) c (out after full code) = line_read line (out names false []) c (out after full code) h in
-    (r.written, record { says = r.says; built = r.built; over = r.put.over refl e })
+    record { written = r.written; says = r.says; built = r.built; many = r.put.over refl e }
 
 -- A line that was not read.
-pub refused : (line : List ℕ) (o : Out) → line_run line o ≡ None → (w : Written) → Says line w → IsBuilt w → ⊥
+pub refused : (line : List ℕ) (o : Out) → line_run line o ≡ None → IsOutside line
 refused line o h w s b = let r : (x : Command × Out) × (line_run line o ≡ Some x) = line_any line w o s b in
     let none : None ≡ Some (r.0) = sym h ∙ r.1 in none_some none
 

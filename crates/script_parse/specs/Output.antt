@@ -1,5 +1,5 @@
 -- What a line gives while it is read: names, items, and whether a name found no place.
-use Rattle.std.specs.Prelude.{ℕ, ◌≤◌, nat_le, Bool, true, false, List, [], ◌∷◌, ◌++◌, length, take, slice_set, if◌then◌else◌, ◌≡◌}
+use Rattle.std.specs.Prelude.{ℕ, ◌+◌, ◌<◌, ◌≤◌, nat_le, Bool, true, false, List, [], ◌∷◌, ◌++◌, length, take, slice_set, if◌then◌else◌, ◌≡◌}
 use Rattle.atom_names.specs.Names.{most_names, with_name}
 use Rattle.plain_term.specs.declared.item.Item.{Item}
 use Rattle.plain_term.specs.declared.item.Item.TheVariants as item
@@ -22,6 +22,14 @@ out names full items = record { names = names; full = full; items = items }
 pub record Keeps (old new : List (List ℕ)) : Type 0 where
   pub longer : length old ≤ length new
   pub same : (n : ℕ) → n ≤ length old → take n new ≡ take n old
+
+-- All names stay in their places, and items only come.
+abbrev pub Grows : (old new : List (List ℕ)) (before after : List Item) → Type 0
+Grows old new before after = Keeps old new × (length before ≤ length after)
+
+-- Something of the line was read, and its bytes make up for the items that came, but for so many.
+abbrev pub Spends : (spare : ℕ) (line rest : List ℕ) (before after : List Item) → Type 0
+Spends spare line rest before after = (length after + length rest ≤ length before + length line + spare) × (length rest < length line)
 
 -- An item goes last.
 abbrev pub push : Out → Item → Out
@@ -47,7 +55,7 @@ put_atom o a = if nat_le (length (with_name o.names a)) most_names
     else record { names = o.names; full = true; items = o.items ++ item.Atom 0 ∷ [] }
 
 abbrev mutual
-  -- A term goes last in prefix form.
+  -- A term goes last in prefix form. Forms that are not built put nothing.
   pub put : Term → Out → Out
   put (Int i) o = push o (item.Int i)
   put (Atom a) o = put_atom o a

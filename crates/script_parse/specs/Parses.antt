@@ -1,11 +1,11 @@
 -- What is promised of a parse.
-use Rattle.std.specs.Prelude.{ℕ, ◌≡◌, ◌<◌, ◌≤◌, List, length}
+use Rattle.std.specs.Prelude.{ℕ, ◌≡◌, ◌≤◌, List, length}
 use Rattle.atom_names.specs.Names.{most_names}
 use Rattle.plain_term.specs.declared.item.Item.{Item}
 use Rattle.plain_machine.specs.declared.command.Command.{Command}
 use Rattle.plain_machine.specs.Written.{Written}
 use Rattle.plain_machine.specs.Grammar.{Says, IsBuilt}
-use Rattle.plain_machine.specs.Names.{parsed_of, terms_of, all_items, names_after}
+use Rattle.plain_machine.specs.Names.{parsed_of, terms_of, all_items}
 
 -- A line was read as a command: it says it, the verb and the forms are built, the command and the
 -- names are its own, the items are those of its terms, and the names are not too many.
@@ -15,9 +15,3 @@ pub record Reads (line : List ℕ) (names : List (List ℕ)) (c : Command) (afte
   pub parsed : parsed_of names w ≡ record { command = c; terms = terms_of w; names = after }
   pub items : code ≡ all_items after (terms_of w)
   pub fits : length after ≤ most_names
-
--- A line says a built command whose new names are too many.
-pub record IsOver (line : List ℕ) (names : List (List ℕ)) (w : Written) : Type 0 where
-  pub says : Says line w
-  pub built : IsBuilt w
-  pub over : most_names < length (names_after names w)

@@ -19,10 +19,11 @@ ghost use Rattle.std.specs.Prelude.{
   IsErrOf,
 };
 ghost use Rattle.plain_machine.specs.Written.{Written};
-ghost use Rattle.plain_machine.specs.Grammar.{Says, IsBuilt, SaysOne};
+ghost use Rattle.plain_machine.specs.Grammar.{SaysOne};
 ghost use Rattle.plain_machine.specs.Names.{IsInBounds};
+ghost use Rattle.plain_machine.specs.Run.{IsOutside, BringsTooMany};
 ghost use Rattle.script_parse.specs.Output.{Out, out, Keeps};
-ghost use Rattle.script_parse.specs.Parses.{Reads, IsOver};
+ghost use Rattle.script_parse.specs.Parses.{Reads};
 ghost use Rattle.script_parse.specs.Reading.{is_silent, command_run, line_run};
 
 use crate::blanks::{after_text, skip};
@@ -84,8 +85,8 @@ pub fn parse(line: &[u8], names: &mut AtomNames, code: &mut Code) -> Result<Comm
     ensures said { IfOk result (λ c. (w : Written) × Reads line.now names.old c names.new code.new w) }
     ensures bounds { IfOk result IsInBounds }
     ensures kept { IfErr result (λ e. (names.new ≡ names.old) × ((e ≡ Refusal.Syntax) ⊎ (e ≡ Refusal.Atoms))) }
-    ensures syntax { IsErrOf result Refusal.Syntax → (w : Written) → Says line.now w → IsBuilt w → ⊥ }
-    ensures atoms { IsErrOf result Refusal.Atoms → (w : Written) × IsOver line.now names.old w }
+    ensures syntax { IsErrOf result Refusal.Syntax → IsOutside line.now }
+    ensures atoms { IsErrOf result Refusal.Atoms → BringsTooMany names.old line.now }
 {
     code.clear();
     let before = names.count();

@@ -1,5 +1,5 @@
 ghost use Rattle.std.specs.Prelude.{◌≡◌, ℕ, ◌+◌, ◌≤◌, ◌<◌, Bool, true, false, List, length, MatchOption, Some, None};
-ghost use Rattle.script_parse.specs.Output.{Out, out, Keeps, with_place};
+ghost use Rattle.script_parse.specs.Output.{Out, out, Grows, Spends, with_place};
 ghost use Rattle.script_parse.specs.Reading.{atom_run, leaf_run, parts_run, list_run, tuple_run, term_run};
 
 use crate::atoms::{name_len, small_letter};
@@ -19,9 +19,8 @@ fn atom<'a>(
     requires { length code.old + length line.now ≤ 4096 }
     ensures read { MatchOption result (atom_run line.now (out names.old full.old code.old) ≡ None)
         (λ r. atom_run line.now (out names.old full.old code.old) ≡ Some (r.now, out names.new full.new code.new)) }
-    ensures kept { Keeps names.old names.new }
-    ensures grown { length code.old ≤ length code.new }
-    ensures room { MatchOption result (Unit {0}) (λ r. (length code.new + length r.now ≤ length code.old + length line.now) × (length r.now < length line.now)) }
+    ensures grown { Grows names.old names.new code.old code.new }
+    ensures room { MatchOption result (Unit {0}) (λ r. Spends 0 line.now r.now code.old code.new) }
 {
     let n = name_len(line);
     if n == 0 {
@@ -50,9 +49,8 @@ fn leaf<'a>(
     requires { length code.old + length line.now ≤ 4096 }
     ensures read { MatchOption result (leaf_run line.now (out names.old full.old code.old) ≡ None)
         (λ r. leaf_run line.now (out names.old full.old code.old) ≡ Some (r.now, out names.new full.new code.new)) }
-    ensures kept { Keeps names.old names.new }
-    ensures grown { length code.old ≤ length code.new }
-    ensures room { MatchOption result (Unit {0}) (λ r. (length code.new + length r.now ≤ length code.old + length line.now) × (length r.now < length line.now)) }
+    ensures grown { Grows names.old names.new code.old code.new }
+    ensures room { MatchOption result (Unit {0}) (λ r. Spends 0 line.now r.now code.old code.new) }
 {
     let (b, rest) = first(line)?;
     if b == b'<' {
@@ -94,9 +92,8 @@ fn parts<'a>(
     requires { length (with_place listed code.old) + length line.now ≤ 4096 }
     ensures read { MatchOption result (parts_run (term_run levels) listed close (length line.now + 1) line.now 0 (out names.old full.old code.old) ≡ None)
         (λ r. parts_run (term_run levels) listed close (length line.now + 1) line.now 0 (out names.old full.old code.old) ≡ Some (r.0.now, (r.1, out names.new full.new code.new))) }
-    ensures kept { Keeps names.old names.new }
-    ensures grown { length code.old ≤ length code.new }
-    ensures room { MatchOption result (Unit {0}) (λ r. (length code.new + length r.0.now ≤ length code.old + length line.now) × (length r.0.now < length line.now)) }
+    ensures grown { Grows names.old names.new code.old code.new }
+    ensures room { MatchOption result (Unit {0}) (λ r. Spends 0 line.now r.0.now code.old code.new) }
 {
     let mut at = line;
     for n in 0..line.len() + 1 {
@@ -126,9 +123,8 @@ fn list<'a>(
     requires { length code.old + length line.now < 4096 }
     ensures read { MatchOption result (list_run (term_run levels) line.now (out names.old full.old code.old) ≡ None)
         (λ r. list_run (term_run levels) line.now (out names.old full.old code.old) ≡ Some (r.now, out names.new full.new code.new)) }
-    ensures kept { Keeps names.old names.new }
-    ensures grown { length code.old ≤ length code.new }
-    ensures room { MatchOption result (Unit {0}) (λ r. (length code.new + length r.now ≤ length code.old + length line.now + 1) × (length r.now < length line.now)) }
+    ensures grown { Grows names.old names.new code.old code.new }
+    ensures room { MatchOption result (Unit {0}) (λ r. Spends 1 line.now r.now code.old code.new) }
 {
     if let Some(rest) = after_byte(skip(line), b']') {
         code.push(Item::Nil);
@@ -151,9 +147,8 @@ fn tuple<'a>(
     requires { length code.old + length line.now < 4096 }
     ensures read { MatchOption result (tuple_run (term_run levels) line.now (out names.old full.old code.old) ≡ None)
         (λ r. tuple_run (term_run levels) line.now (out names.old full.old code.old) ≡ Some (r.now, out names.new full.new code.new)) }
-    ensures kept { Keeps names.old names.new }
-    ensures grown { length code.old ≤ length code.new }
-    ensures room { MatchOption result (Unit {0}) (λ r. (length code.new + length r.now ≤ length code.old + length line.now + 1) × (length r.now < length line.now)) }
+    ensures grown { Grows names.old names.new code.old code.new }
+    ensures room { MatchOption result (Unit {0}) (λ r. Spends 1 line.now r.now code.old code.new) }
 {
     let at = code.len();
     code.push(Item::Tuple(0));
@@ -177,9 +172,8 @@ pub(crate) fn term<'a>(
     requires { length code.old + length line.now ≤ 4096 }
     ensures read { MatchOption result (term_run levels line.now (out names.old full.old code.old) ≡ None)
         (λ r. term_run levels line.now (out names.old full.old code.old) ≡ Some (r.now, out names.new full.new code.new)) }
-    ensures kept { Keeps names.old names.new }
-    ensures grown { length code.old ≤ length code.new }
-    ensures room { MatchOption result (Unit {0}) (λ r. (length code.new + length r.now ≤ length code.old + length line.now) × (length r.now < length line.now)) }
+    ensures grown { Grows names.old names.new code.old code.new }
+    ensures room { MatchOption result (Unit {0}) (λ r. Spends 0 line.now r.now code.old code.new) }
 {
     let line = skip(line);
     if levels == 0 {

@@ -24,8 +24,8 @@ parts-loop-n-preserved t c =
           c.loop-n.at.now c.loop-n.n (out c.loop-n.names c.loop-n.full c.loop-n.code) e
           c.in_ok-rest.rest.now c.in_ok-b.after.now (out c.term.new.names c.term.new.full c.term.new.code) c.in_ok-b.b h g c.if-b-close.false c.if-b-ne44.false)
           ∙ c.loop-n.invariant.read;
-      kept = keeps_then c.args.names.now c.loop-n.names c.term.new.names c.loop-n.invariant.kept c.term.ensures.kept;
-      grown = omega (arith, c.loop-n.invariant.grown, c.place.ensures.grown, c.term.ensures.grown);
+      kept = keeps_then c.args.names.now c.loop-n.names c.term.new.names c.loop-n.invariant.kept c.term.ensures.grown.0;
+      grown = omega (arith, c.loop-n.invariant.grown, c.place.ensures.grown, c.term.ensures.grown.1);
       room = omega (arith, c.loop-n.invariant.room, c.place.ensures.grown, c.in_ok-rest.ensures.room, shorter);
       place = omega (arith, c.loop-n.invariant.place, c.in_ok-rest.ensures.room, shorter, placed, place_len c.args.listed c.term.new.code);
       within = omega (arith, c.loop-n.invariant.within, c.in_ok-rest.ensures.room, shorter);
