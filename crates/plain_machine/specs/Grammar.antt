@@ -302,6 +302,9 @@ abbrev mutual
 abbrev pub IsBuiltOperand : (k : Kind) → OperandOf k → Type 0
 IsBuiltOperand Slot r = Unit {0}
 IsBuiltOperand Count n = Unit {0}
+IsBuiltOperand Receiver to = Unit {0}
+IsBuiltOperand Title a = Unit {0}
+IsBuiltOperand Extent d = Unit {0}
 IsBuiltOperand Body t = IsBuiltTerm t
 IsBuiltOperand _ _ = ⊥
 

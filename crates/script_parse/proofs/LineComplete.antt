@@ -1,25 +1,31 @@
 -- A line that says a built command is read.
-use Rattle.std.proofs.Common.{◌≡◌, ℕ, ◌^◌, ◌<◌, ◌≤◌, Bool, true, false, cond, List, [], ◌∷◌, ◌++◌, length, Option, Some, None, codes, refl, sym, inl, inr, arith, subst}
+use Rattle.std.proofs.Common.{◌≡◌, ℕ, ◌^◌, ◌<◌, ◌≤◌, Bool, true, false, cond, List, [], ◌∷◌, ◌++◌, Option, Some, None, codes, refl, ◌∙◌, ap, inl, inr, arith}
 use Rattle.std.specs.List.{find}
 use Rattle.std.specs.Str.{bytes_eq}
+use Rattle.atom_names.specs.Names.{with_name}
 use Rattle.plain_machine.specs.Written.{Kind, OperandOf, Operands, text_of, kinds_of, all_words, sys_text_of, sys_kinds_of, all_sys_words, Written}
-use Rattle.plain_machine.specs.Written.Kind.{Slot, Count, Environment, Body}
+use Rattle.plain_machine.specs.Written.Kind.{Slot, Count, Receiver, Title, Environment, Extent, Body}
 use Rattle.plain_machine.specs.Written.Written.{Nothing, OfProcess, OfSystem}
 use Rattle.plain_machine.specs.declared.word.Word.{Word}
 use Rattle.plain_machine.specs.declared.word.SysWord.{SysWord}
-use Rattle.plain_machine.specs.Grammar.{is_blank, is_digit, AreAll, IsNumber, IsSilent, Says, IsBuilt, is_built, is_sys_built, Piece, Lies, term_pieces, held_pieces, operand_pieces, operands_pieces, IsOperand, IsBuiltOperand, AreOperands, AreBuiltOperands}
+use Rattle.plain_machine.specs.Grammar.{is_blank, is_digit, is_small_letter, AreAll, IsNumber, IsName, MayReceive, IsSilent, Says, IsBuilt, is_built, is_sys_built, Piece, Lies, term_pieces, held_pieces, receiver_pieces, extent_pieces, operand_pieces, operands_pieces, IsOperand, IsBuiltOperand, AreOperands, AreBuiltOperands}
 use Rattle.plain_machine.specs.Grammar.Piece.{Space, Text, Number, Whole, Process, Register}
-use Rattle.plain_machine.specs.Names.{ArgumentOf, Arguments, verb_with, sys_verb_with}
+use Rattle.plain_machine.specs.Names.{number_of, ArgumentOf, Arguments, verb_with, sys_verb_with}
+use Rattle.plain_machine.specs.declared.command.Reg.{Reg}
+use Rattle.plain_machine.specs.declared.command.To.{To}
+use Rattle.plain_machine.specs.declared.command.To.TheVariants as to
+use Rattle.plain_machine.specs.declared.command.Depth.{Depth}
+use Rattle.plain_machine.specs.declared.command.Depth.TheVariants.{Minor, Major}
 use Rattle.plain_machine.specs.declared.command.Command.TheVariants as command
 use Rattle.plain_machine.specs.declared.command.Verb.{Verb}
 use Rattle.plain_machine.specs.declared.command.SysVerb.{SysVerb}
-use Rattle.script_parse.specs.Output.{Out, put}
-use Rattle.script_parse.specs.Reading.{then_read, after_blanks, gap_at, number_at, is_solid, word_at, after_word, is_silent, spaced_at, operand_at, operands_at, Row, row, row_run, row_of, sys_row_of, process_run, system_run, line_run}
+use Rattle.script_parse.specs.Output.{Out, put, put_name}
+use Rattle.script_parse.specs.Reading.{then_read, after_blanks, gap_at, number_at, is_solid, word_at, after_word, is_silent, atom_at, receiver_at, title_at, extent_at, operand_at, operands_at, Row, row, row_run, row_of, sys_row_of, process_run, system_run, line_run}
 use Rattle.script_parse.proofs.Tools.{not_blank, apart, false_not}
 use Rattle.script_parse.proofs.PartSteps.{unequal}
 use Rattle.script_parse.proofs.GapSteps.{Gap, gap_found, Token, token, Stops, Divides, stops, blank_end}
 use Rattle.script_parse.proofs.NumberSteps.{Begun, begun, stops_digits, number_found}
-use Rattle.script_parse.proofs.AtomSteps.{word_found}
+use Rattle.script_parse.proofs.AtomSteps.{atom_found, word_found}
 use Rattle.script_parse.proofs.Tables.{named_so, sys_named_so, row_is, sys_row_is, is_word, word_solid, text_word, sys_text_word}
 use Rattle.script_parse.proofs.Complete.{Done, term_done}
 
@@ -43,6 +49,68 @@ number_stands limit n ps line h d (gap, text, rest, g, i, e, l) =
       loud = rw k.front (unequal b.first 37 (apart is_digit b.first 37 refl b.digit));
     }
 
+-- What a plain operand is read from after its blank.
+pub record Fronts {A : Type 0} (front : List ℕ → Option (A × List ℕ)) (a : A) (ps : List Piece) (line : List ℕ) : Type 0 where
+  pub start : List ℕ
+  pub gap : gap_at line ≡ Some start
+  pub rest : List ℕ
+  pub read : front (after_blanks start) ≡ Some (a, rest)
+  pub lies : Lies ps rest
+
+pub number_fronts : (limit n : ℕ) (ps : List Piece) (line : List ℕ) → n ≤ limit → Divides ps → Lies (Space ∷ Number n ∷ ps) line → Fronts (number_at limit) n ps line
+number_fronts limit n ps line h d l = let g : Gap (Number n ∷ ps) line = gap_found (Number n ∷ ps) line l in
+    let f : Numbers limit n ps g.rest = number_stands limit n ps g.rest h d g.lies in
+    record { start = g.rest; gap = g.found; rest = f.rest; read = f.read; lies = f.lies }
+
+held_start : (r : Reg) (ps : List Piece) (start : List ℕ) → (r.0) < 16 → Divides ps → Lies (Register (r.0) ∷ ps) start → (rest : List ℕ) × (receiver_at (after_blanks start) ≡ Some (to.Held r, rest)) × Lies ps rest
+held_start r ps start h d (gap, text, rest, g, (digits, i, s), e, l) = let k : Token (Register (r.0)) ps start 36 digits = token (Register (r.0)) ps start gap digits rest 36 g refl (rw s at e) l in
+    let f : number_at 15 (digits ++ k.rest) ≡ Some (r.0, k.rest) = number_found 15 (r.0) digits k.rest i (omega arith) (stops_digits k.rest (stops ps k.rest d k.lies)) in
+    (k.rest, rw (k.front, f) refl, k.lies)
+
+counted_start : (n : ℕ) (ps : List Piece) (start : List ℕ) → n < 2 ^ 40 → Divides ps → Lies (Number n ∷ ps) start → (rest : List ℕ) × (receiver_at (after_blanks start) ≡ Some (to.Number n, rest)) × Lies ps rest
+counted_start n ps start h d (gap, text, rest, g, i, e, l) =
+    let b : Begun text = begun n text i in
+    let whole : start ≡ gap ++ ((b.first ∷ b.more) ++ rest) = rw b.whole at e in
+    let number : IsNumber n (b.first ∷ b.more) = rw b.whole at i in
+    let k : Token (Number n) ps start b.first b.more = token (Number n) ps start gap b.more rest b.first g (not_blank is_digit b.first refl refl b.digit) whole l in
+    let f : number_at 1099511627775 ((b.first ∷ b.more) ++ k.rest) ≡ Some (n, k.rest) = number_found 1099511627775 n (b.first ∷ b.more) k.rest number (omega arith) (stops_digits k.rest (stops ps k.rest d k.lies)) in
+    (k.rest, rw (k.front, unequal b.first 36 (apart is_digit b.first 36 refl b.digit), f) refl, k.lies)
+
+pub receiver_fronts : (a : To) (ps : List Piece) (line : List ℕ) → MayReceive a → Divides ps → Lies (Space ∷ receiver_pieces a ps) line → Fronts receiver_at a ps line
+receiver_fronts (to.Number n) ps line h d l = let g : Gap (Number n ∷ ps) line = gap_found (Number n ∷ ps) line l in
+    let f : (rest : List ℕ) × (receiver_at (after_blanks g.rest) ≡ Some (to.Number n, rest)) × Lies ps rest = counted_start n ps g.rest h d g.lies in
+    record { start = g.rest; gap = g.found; rest = f.0; read = f.1; lies = f.2 }
+receiver_fronts (to.Held r) ps line h d l = let g : Gap (Register (r.0) ∷ ps) line = gap_found (Register (r.0) ∷ ps) line l in
+    let f : (rest : List ℕ) × (receiver_at (after_blanks g.rest) ≡ Some (to.Held r, rest)) × Lies ps rest = held_start r ps g.rest h d g.lies in
+    record { start = g.rest; gap = g.found; rest = f.0; read = f.1; lies = f.2 }
+
+-- A text that begins with no blank stands at the front.
+text_start : (b : ℕ) (text : List ℕ) (ps : List Piece) (start : List ℕ) → is_blank b ≡ false → Lies (Text (b ∷ text) ∷ ps) start → (rest : List ℕ) × (after_blanks start ≡ (b ∷ text) ++ rest) × Lies ps rest
+text_start b text ps start n (gap, t, rest, g, s, e, l) = let k : Token (Text (b ∷ text)) ps start b text = token (Text (b ∷ text)) ps start gap text rest b g n (rw s at e) l in (k.rest, k.front, k.lies)
+
+pub extent_fronts : (a : Depth) (ps : List Piece) (line : List ℕ) → Lies (Space ∷ extent_pieces a ps) line → Fronts extent_at a ps line
+extent_fronts Minor ps line l = let g : Gap (Text (codes "minor") ∷ ps) line = gap_found (Text (codes "minor") ∷ ps) line l in
+    let f : (rest : List ℕ) × (after_blanks g.rest ≡ codes "minor" ++ rest) × Lies ps rest = text_start 109 (codes "inor") ps g.rest refl g.lies in
+    record { start = g.rest; gap = g.found; rest = f.0; read = rw (f.1) refl; lies = f.2 }
+extent_fronts Major ps line l = let g : Gap (Text (codes "major") ∷ ps) line = gap_found (Text (codes "major") ∷ ps) line l in
+    let f : (rest : List ℕ) × (after_blanks g.rest ≡ codes "major" ++ rest) × Lies ps rest = text_start 109 (codes "ajor") ps g.rest refl g.lies in
+    record { start = g.rest; gap = g.found; rest = f.0; read = rw (f.1) refl; lies = f.2 }
+
+small_title : (b : ℕ) (bytes : List ℕ) → is_small_letter b ≡ true → title_at (b ∷ bytes) ≡ atom_at (b ∷ bytes)
+small_title b bytes h = rw h refl
+
+title_start : (a : List ℕ) (ps : List Piece) (start : List ℕ) → IsName a → Divides ps → Lies (Text a ∷ ps) start → (rest : List ℕ) × (title_at (after_blanks start) ≡ Some (a, rest)) × Lies ps rest
+title_start [] ps start h d l = absurd h
+title_start (b ∷ bytes) ps start h d l =
+    let f : (rest : List ℕ) × (after_blanks start ≡ (b ∷ bytes) ++ rest) × Lies ps rest = text_start b bytes ps start (not_blank is_small_letter b refl refl (h.0)) l in
+    let k : atom_at ((b ∷ bytes) ++ f.0) ≡ Some (b ∷ bytes, f.0) = atom_found (b ∷ bytes) (f.0) h (stops ps (f.0) d (f.2)) in
+    (f.0, ap title_at (f.1) ∙ (small_title b (bytes ++ f.0) (h.0) ∙ k), f.2)
+
+pub title_fronts : (a : List ℕ) (ps : List Piece) (line : List ℕ) → IsName a → Divides ps → Lies (Space ∷ Text a ∷ ps) line → Fronts title_at a ps line
+title_fronts a ps line h d l = let g : Gap (Text a ∷ ps) line = gap_found (Text a ∷ ps) line l in
+    let f : (rest : List ℕ) × (title_at (after_blanks g.rest) ≡ Some (a, rest)) × Lies ps rest = title_start a ps g.rest h d g.lies in
+    record { start = g.rest; gap = g.found; rest = f.0; read = f.1; lies = f.2 }
+
 -- An operand is read.
 pub record Stands (k : Kind) (ps : List Piece) (line : List ℕ) (o : Out) : Type 0 where
   pub argument : ArgumentOf k
@@ -52,12 +120,16 @@ pub record Stands (k : Kind) (ps : List Piece) (line : List ℕ) (o : Out) : Typ
   pub lies : Lies ps rest
 
 operand_stands : (k : Kind) (x : OperandOf k) (ps : List Piece) (line : List ℕ) (o : Out) → Divides ps → IsOperand k x → IsBuiltOperand k x → Lies (operand_pieces k x ps) line → Stands k ps line o
-operand_stands Slot r ps line o d a b l = let g : Gap (Number r ∷ ps) line = gap_found (Number r ∷ ps) line l in
-    let n : Numbers 15 r ps g.rest = number_stands 15 r ps g.rest (omega arith) d g.lies in
-    record { argument = r; rest = n.rest; after = o; read = rw (g.found, n.read) refl; lies = n.lies }
-operand_stands Count m ps line o d a b l = let g : Gap (Number m ∷ ps) line = gap_found (Number m ∷ ps) line l in
-    let n : Numbers 1099511627775 m ps g.rest = number_stands 1099511627775 m ps g.rest (omega arith) d g.lies in
-    record { argument = m; rest = n.rest; after = o; read = rw (g.found, n.read) refl; lies = n.lies }
+operand_stands Slot x ps line o d a b l = let f : Fronts (number_at 15) x ps line = number_fronts 15 x ps line (omega arith) d l in
+    record { argument = x; rest = f.rest; after = o; read = rw (f.gap, f.read) refl; lies = f.lies }
+operand_stands Count x ps line o d a b l = let f : Fronts (number_at 1099511627775) x ps line = number_fronts 1099511627775 x ps line (omega arith) d l in
+    record { argument = x; rest = f.rest; after = o; read = rw (f.gap, f.read) refl; lies = f.lies }
+operand_stands Receiver x ps line o d a b l = let f : Fronts receiver_at x ps line = receiver_fronts x ps line a d l in
+    record { argument = x; rest = f.rest; after = o; read = rw (f.gap, f.read) refl; lies = f.lies }
+operand_stands Extent x ps line o d a b l = let f : Fronts extent_at x ps line = extent_fronts x ps line l in
+    record { argument = x; rest = f.rest; after = o; read = rw (f.gap, f.read) refl; lies = f.lies }
+operand_stands Title x ps line o d a b l = let f : Fronts title_at x ps line = title_fronts x ps line a d l in
+    record { argument = number_of (with_name o.names x) x; rest = f.rest; after = put_name o x; read = rw (f.gap, f.read) refl; lies = f.lies }
 operand_stands Body t ps line o d a b l = let g : Gap (term_pieces t ps) line = gap_found (term_pieces t ps) line l in
     let f : Done 256 t ps g.rest o = term_done t 256 ps g.rest o d a b g.lies in
     record { argument = tt; rest = f.rest; after = put t o; read = rw (g.found, f.read) refl; lies = f.lies }

@@ -3,48 +3,65 @@ use Rattle.std.proofs.Common.{◌≡◌, ℕ, ◌≤◌, Bool, true, false, nat_
 use Rattle.std.specs.List.{prefix_len, find}
 use Rattle.std.specs.Str.{bytes_eq}
 use Rattle.std.proofs.lemmas.List.{take-append-drop, append-nil}
+use Rattle.atom_names.specs.Names.{with_name}
 use Rattle.plain_term.specs.declared.item.Item.{Item}
-use Rattle.plain_machine.specs.Written.{Term, Terms, Terms as terms, joined, Kind, OperandOf, Operands, text_of, kinds_of, all_words, sys_text_of, sys_kinds_of, all_sys_words, Written}
+use Rattle.plain_machine.specs.Written.{Terms, joined, Kind, OperandOf, Operands, text_of, kinds_of, all_words, sys_text_of, sys_kinds_of, all_sys_words, Written}
 use Rattle.plain_machine.specs.Written.Terms.{end, ◌▹◌}
-use Rattle.plain_machine.specs.Written.Kind.{Slot, Count, Body}
+use Rattle.plain_machine.specs.Written.Kind.{Slot, Count, Receiver, Title, Extent, Body}
 use Rattle.plain_machine.specs.Written.Written.{Nothing, OfProcess, OfSystem}
-use Rattle.plain_machine.specs.declared.word.Word.{Word}
-use Rattle.plain_machine.specs.declared.word.SysWord.{SysWord}
-use Rattle.plain_machine.specs.Grammar.{is_blank, IsSilent, Says, IsBuilt, is_built, is_sys_built, Piece, Lies, term_pieces, operand_pieces, operands_pieces, IsOperand, IsBuiltOperand, AreOperands, AreBuiltOperands}
-use Rattle.plain_machine.specs.Grammar.Piece.{Space, Text, Number}
-use Rattle.plain_machine.specs.Names.{ArgumentOf, Arguments, argument, arguments, with_names, atoms_of, items_of, all_items, operand_atoms, operands_atoms, operand_terms, operands_terms, all_atoms, terms_of, verb_with, sys_verb_with, command_of}
+use Rattle.plain_machine.specs.Grammar.{is_blank, is_small_letter, IsSilent, Says, IsBuilt, is_built, is_sys_built, Piece, Spells, Lies, term_pieces, operand_pieces, operands_pieces, IsOperand, IsBuiltOperand, AreOperands, AreBuiltOperands}
+use Rattle.plain_machine.specs.Grammar.Piece.{Space, Text, Number, Register}
+use Rattle.plain_machine.specs.Names.{number_of, reg, ArgumentOf, Arguments, argument, arguments, with_names, atoms_of, items_of, all_items, operand_atoms, operands_atoms, operand_terms, operands_terms, all_atoms, terms_of, verb_with, sys_verb_with, command_of}
+use Rattle.plain_machine.specs.declared.command.To.{To}
+use Rattle.plain_machine.specs.declared.command.To.TheVariants as to
+use Rattle.plain_machine.specs.declared.command.Depth.{Depth}
+use Rattle.plain_machine.specs.declared.command.Depth.TheVariants.{Minor, Major}
 use Rattle.plain_machine.specs.declared.command.Command.{Command}
 use Rattle.plain_machine.specs.declared.command.Command.TheVariants as command
 use Rattle.plain_machine.specs.declared.command.Verb.{Verb}
 use Rattle.plain_machine.specs.declared.command.SysVerb.{SysVerb}
-use Rattle.script_parse.specs.Output.{Out, put}
-use Rattle.script_parse.specs.Reading.{then_read, after_blanks, gap_at, text_at, number_at, is_solid, word_at, after_word, is_end, is_silent, spaced_at, number_run, body_run, term_run, operand_at, operands_at, Row, row, row_run, row_of, sys_row_of, process_run, system_run, command_run, line_run}
+use Rattle.script_parse.specs.Output.{Out, put, put_name}
+use Rattle.script_parse.specs.Reading.{then_read, after_blanks, gap_at, text_at, number_at, is_solid, word_at, after_word, is_end, is_silent, spaced_at, receiver_at, title_at, extent_at, plain_run, title_run, body_run, term_run, operand_at, operands_at, Row, row, row_run, row_of, sys_row_of, process_run, system_run, command_run, line_run}
 use Rattle.script_parse.proofs.Tools.{chosen, read_some, inside, both}
 use Rattle.script_parse.proofs.GapSteps.{lies, gap_lies, end_blank}
 use Rattle.script_parse.proofs.NumberSteps.{Counted, number_read, text_read}
+use Rattle.script_parse.proofs.AtomSteps.{Named, atom_read}
 use Rattle.script_parse.proofs.Sound.{Found, term_read, found_cases}
-use Rattle.script_parse.proofs.Meaning.{Put, put_none, put_then, term_put, names_grown, as_items}
+use Rattle.script_parse.proofs.Meaning.{Put, put_none, put_then, term_put, number_stays, name_put, names_grown, as_items}
 use Rattle.script_parse.proofs.Tables.{found_text, row_is, sys_row_is}
 
--- A number that was read after a blank.
-pub record Spaced (limit n : ℕ) (line rest : List ℕ) : Type 0 where
-  pub within : n ≤ limit
-  pub lies : (ps : List Piece) → Lies ps rest → Lies (Space ∷ Number n ∷ ps) line
+-- A token that was read after a blank.
+pub record Spaced (p : Piece) (line rest : List ℕ) : Type 0 where
+  pub lies : (ps : List Piece) → Lies ps rest → Lies (Space ∷ p ∷ ps) line
 
-spaced_read : (limit n : ℕ) (line rest : List ℕ) → 9 ≤ limit → spaced_at limit line ≡ Some (n, rest) → Spaced limit n line rest
-spaced_read limit n line rest l h =
-    let f : (x : List ℕ) × (gap_at line ≡ Some x) × (number_at limit (after_blanks x) ≡ Some (n, rest)) = read_some (gap_at line) (λ z. number_at limit (after_blanks z)) h in
-    let c : Counted limit n (after_blanks (f.0)) rest = number_read limit n (after_blanks (f.0)) rest l (f.2) in
-    record { within = c.within; lies = λ ps k. gap_lies (Number n ∷ ps) line (f.0) (f.1) (lies (Number n) ps (f.0) c.text rest c.whole c.number k) }
+-- A token at the front.
+pub record Spelled (p : Piece) (line rest : List ℕ) : Type 0 where
+  pub text : List ℕ
+  pub whole : line ≡ text ++ rest
+  pub spells : Spells p text
 
-number_done : (limit n : ℕ) (line rest : List ℕ) (o p : Out) → 9 ≤ limit → number_run limit line o ≡ Some (n, (rest, p)) → Spaced limit n line rest × (o ≡ p)
-number_done limit n line rest o p l h =
-    let f : (x : ℕ × List ℕ) × (spaced_at limit line ≡ Some x) × (Some (x.0, (x.1, o)) ≡ Some (n, (rest, p))) = read_some (spaced_at limit line) (λ r. Some (r.0, (r.1, o))) h in
-    let j : (f.0.0 ≡ n) × ((f.0.1, o) ≡ (rest, p)) = both (f.2) in
+spaced_read : (p : Piece) (line start rest : List ℕ) → gap_at line ≡ Some start → Spelled p (after_blanks start) rest → Spaced p line rest
+spaced_read p line start rest g s = record { lies = λ ps k. gap_lies (p ∷ ps) line start g (lies p ps start s.text rest s.whole s.spells k) }
+
+number_spelled : (limit n : ℕ) (line rest : List ℕ) → Counted limit n line rest → Spelled (Number n) line rest
+number_spelled limit n line rest c = record { text = c.text; whole = c.whole; spells = c.number }
+
+-- The way to what a plain operand was read from.
+pub record Plain {A : Type 0} (front : List ℕ → Option (A × List ℕ)) (line : List ℕ) (o : Out) (a : A) (rest : List ℕ) (p : Out) : Type 0 where
+  pub start : List ℕ
+  pub gap : gap_at line ≡ Some start
+  pub read : front (after_blanks start) ≡ Some (a, rest)
+  pub same : o ≡ p
+
+plain_read : {A : Type 0} (front : List ℕ → Option (A × List ℕ)) (line : List ℕ) (o : Out) (a : A) (rest : List ℕ) (p : Out) → plain_run front line o ≡ Some (a, (rest, p)) → Plain front line o a rest p
+plain_read {A} front line o a rest p h =
+    let f : (x : A × List ℕ) × (spaced_at front line ≡ Some x) × (Some (x.0, (x.1, o)) ≡ Some (a, (rest, p))) = read_some (spaced_at front line) (λ r. Some (r.0, (r.1, o))) h in
+    let j : (f.0.0 ≡ a) × ((f.0.1, o) ≡ (rest, p)) = both (f.2) in
     let k : f.0.1 ≡ rest = ap (λ (z : List ℕ × Out). z.0) (j.1) in
-    let P : ℕ → Type 0 = λ z. Spaced limit z line rest in
-    let Q : List ℕ → Type 0 = λ z. Spaced limit (f.0.0) line z in
-    (subst P (j.0) (subst Q k (spaced_read limit (f.0.0) line (f.0.1) l (f.1))), ap (λ (z : List ℕ × Out). z.1) (j.1))
+    let g : (x : List ℕ) × (gap_at line ≡ Some x) × (front (after_blanks x) ≡ Some (f.0)) = read_some (gap_at line) (λ z. front (after_blanks z)) (f.1) in
+    let P : A → Type 0 = λ z. front (after_blanks (g.0)) ≡ Some (z, rest) in
+    let Q : List ℕ → Type 0 = λ z. front (after_blanks (g.0)) ≡ Some (f.0.0, z) in
+    record { start = g.0; gap = g.1; read = subst P (j.0) (subst Q k (g.2)); same = ap (λ (z : List ℕ × Out). z.1) (j.1) }
 
 -- An operand that was read.
 pub record Operand (k : Kind) (line : List ℕ) (o : Out) (a : ArgumentOf k) (rest : List ℕ) (p : Out) : Type 0 where
@@ -72,12 +89,76 @@ body_read line o rest p h =
       lies = λ ps l. gap_lies (term_pieces t.term ps) line (f.0) (f.1) (t.lies ps l);
     }
 
+receiver_step : (line : List ℕ) (o : Out) (a : To) (start rest : List ℕ) (p : Out) (front : List ℕ) → after_blanks start ≡ front → gap_at line ≡ Some start → o ≡ p → receiver_at front ≡ Some (a, rest) → Operand Receiver line o a rest p
+receiver_step line o a start rest p [] e g same h = cc
+receiver_step line o a start rest p (b ∷ bytes) e g same h = let P : To → Type 0 = λ z. Operand Receiver line o z rest p in elim (chosen (nat_eq b 36) h) [
+  | inl f ↦ let r : (x : ℕ × List ℕ) × (number_at 15 bytes ≡ Some x) × (Some (to.Held (reg (x.0)), x.1) ≡ Some (a, rest)) = read_some (number_at 15 bytes) (λ r. Some (to.Held (reg (r.0)), r.1)) (f.1) in
+      let j : (to.Held (reg (r.0.0)) ≡ a) × (r.0.1 ≡ rest) = both (r.2) in
+      let c : Counted 15 (r.0.0) bytes (r.0.1) = number_read 15 (r.0.0) bytes (r.0.1) (omega arith) (r.1) in
+      let whole : after_blanks start ≡ (36 ∷ c.text) ++ rest = e ∙ (ap (λ (z : ℕ). z ∷ bytes) (eqb-true b 36 (f.0)) ∙ ap (λ (z : List ℕ). 36 ∷ z) (c.whole ∙ ap (λ (z : List ℕ). c.text ++ z) (j.1))) in
+      let s : Spaced (Register (r.0.0)) line rest = spaced_read (Register (r.0.0)) line start rest g (record { text = 36 ∷ c.text; whole = whole; spells = (c.text, c.number, refl) }) in
+      subst P (j.0) (record { operand = to.Held (reg (r.0.0)); allowed = omega (arith, c.within); built = tt; is = λ c more. refl; put = none_put o p same; lies = s.lies })
+  | inr f ↦ let r : (x : ℕ × List ℕ) × (number_at 1099511627775 (b ∷ bytes) ≡ Some x) × (Some (to.Number (x.0), x.1) ≡ Some (a, rest)) = read_some (number_at 1099511627775 (b ∷ bytes)) (λ r. Some (to.Number (r.0), r.1)) (f.1) in
+      let j : (to.Number (r.0.0) ≡ a) × (r.0.1 ≡ rest) = both (r.2) in
+      let c : Counted 1099511627775 (r.0.0) (b ∷ bytes) (r.0.1) = number_read 1099511627775 (r.0.0) (b ∷ bytes) (r.0.1) (omega arith) (r.1) in
+      let s : Spaced (Number (r.0.0)) line rest = spaced_read (Number (r.0.0)) line start rest g (record { text = c.text; whole = e ∙ (c.whole ∙ ap (λ (z : List ℕ). c.text ++ z) (j.1)); spells = c.number }) in
+      subst P (j.0) (record { operand = to.Number (r.0.0); allowed = omega (arith, c.within); built = tt; is = λ c more. refl; put = none_put o p same; lies = s.lies })
+]
+
+extent_step : (line : List ℕ) (o : Out) (a : Depth) (start rest : List ℕ) (p : Out) → gap_at line ≡ Some start → o ≡ p → extent_at (after_blanks start) ≡ Some (a, rest) → Operand Extent line o a rest p
+extent_step line o a start rest p g same h = let P : Depth → Type 0 = λ z. Operand Extent line o z rest p in
+    elim (found_cases (text_at (codes "minor") (after_blanks start)) (λ r. Some (Minor, r)) (then_read (text_at (codes "major") (after_blanks start)) (λ r. Some (Major, r))) h) [
+      | inl f ↦ let j : (Minor ≡ a) × (f.0 ≡ rest) = both (f.2) in
+          let s : Spaced (Text (codes "minor")) line rest = spaced_read (Text (codes "minor")) line start rest g
+          (record { text = codes "minor"; whole = text_read (codes "minor") (after_blanks start) (f.0) (f.1) ∙ ap (λ (z : List ℕ). codes "minor" ++ z) (j.1); spells = refl }) in
+          subst P (j.0) (record { operand = Minor; allowed = tt; built = tt; is = λ c more. refl; put = none_put o p same; lies = s.lies })
+      | inr f ↦ let r : (x : List ℕ) × (text_at (codes "major") (after_blanks start) ≡ Some x) × (Some (Major, x) ≡ Some (a, rest)) = read_some (text_at (codes "major") (after_blanks start)) (λ r. Some (Major, r)) (f.1) in
+          let j : (Major ≡ a) × (r.0 ≡ rest) = both (r.2) in
+          let s : Spaced (Text (codes "major")) line rest = spaced_read (Text (codes "major")) line start rest g
+          (record { text = codes "major"; whole = text_read (codes "major") (after_blanks start) (r.0) (r.1) ∙ ap (λ (z : List ℕ). codes "major" ++ z) (j.1); spells = refl }) in
+          subst P (j.0) (record { operand = Major; allowed = tt; built = tt; is = λ c more. refl; put = none_put o p same; lies = s.lies })
+    ]
+
+title_named : (a line rest : List ℕ) → title_at line ≡ Some (a, rest) → Named a line rest
+title_named a [] rest h = cc
+title_named a (b ∷ bytes) rest h = elim (chosen (is_small_letter b) h) [
+  | inl e ↦ atom_read b bytes a rest (e.0) (e.1)
+  | inr e ↦ let none : None ≡ Some (a, rest) = e.1 in cc
+]
+
+title_argument : (o : Out) (a : List ℕ) → (put_name o a).full ≡ false → (more : List (List ℕ)) → number_of (with_name o.names a) a ≡ number_of ((put_name o a).names ++ more) a
+title_argument o a c more = let same : (put_name o a).names ≡ with_name o.names a = (name_put o a).names c in
+    sym (ap (λ (z : List (List ℕ)). number_of (z ++ more) a) same ∙ number_stays o.names more a)
+
+title_read : (line : List ℕ) (o : Out) (n : ℕ) (rest : List ℕ) (p : Out) → title_run line o ≡ Some (n, (rest, p)) → Operand Title line o n rest p
+title_read line o n rest p h =
+    let f : (x : List ℕ × List ℕ) × (spaced_at title_at line ≡ Some x) × (Some (number_of (with_name o.names (x.0)) (x.0), (x.1, put_name o (x.0))) ≡ Some (n, (rest, p)))
+    = read_some (spaced_at title_at line) (λ r. Some (number_of (with_name o.names (r.0)) (r.0), (r.1, put_name o (r.0)))) h in
+    let j : (number_of (with_name o.names (f.0.0)) (f.0.0) ≡ n) × ((f.0.1, put_name o (f.0.0)) ≡ (rest, p)) = both (f.2) in
+    let g : (x : List ℕ) × (gap_at line ≡ Some x) × (title_at (after_blanks x) ≡ Some (f.0)) = read_some (gap_at line) (λ z. title_at (after_blanks z)) (f.1) in
+    let m : Named (f.0.0) (after_blanks (g.0)) (f.0.1) = title_named (f.0.0) (after_blanks (g.0)) (f.0.1) (g.2) in
+    let s : Spaced (Text (f.0.0)) line (f.0.1) = spaced_read (Text (f.0.0)) line (g.0) (f.0.1) (g.1) (record { text = f.0.0; whole = m.whole; spells = refl }) in
+    let P : ℕ → Type 0 = λ z. Operand Title line o z rest p in
+    let Q : List ℕ × Out → Type 0 = λ z. Operand Title line o (number_of (with_name o.names (f.0.0)) (f.0.0)) (z.0) (z.1) in
+    subst P (j.0) (subst Q (j.1) (record { operand = f.0.0; allowed = m.is_name; built = tt; is = title_argument o (f.0.0); put = name_put o (f.0.0); lies = s.lies }))
+
+number_step : (limit n : ℕ) (line : List ℕ) (o : Out) (rest : List ℕ) (p : Out) → 9 ≤ limit → Plain (number_at limit) line o n rest p → (n ≤ limit) × Spaced (Number n) line rest
+number_step limit n line o rest p l f = let c : Counted limit n (after_blanks f.start) rest = number_read limit n (after_blanks f.start) rest l f.read in
+    (c.within, spaced_read (Number n) line f.start rest f.gap (number_spelled limit n (after_blanks f.start) rest c))
+
 -- An operand that is read is in the grammar.
 operand_read : (k : Kind) (line : List ℕ) (o : Out) (a : ArgumentOf k) (rest : List ℕ) (p : Out) → operand_at k line o ≡ Some (a, (rest, p)) → Operand k line o a rest p
-operand_read Slot line o a rest p h = let f : Spaced 15 a line rest × (o ≡ p) = number_done 15 a line rest o p (omega arith) h in
-    record { operand = a; allowed = omega (arith, f.0.within); built = tt; is = λ c more. refl; put = none_put o p (f.1); lies = f.0.lies }
-operand_read Count line o a rest p h = let f : Spaced 1099511627775 a line rest × (o ≡ p) = number_done 1099511627775 a line rest o p (omega arith) h in
-    record { operand = a; allowed = omega (arith, f.0.within); built = tt; is = λ c more. refl; put = none_put o p (f.1); lies = f.0.lies }
+operand_read Slot line o a rest p h = let f : Plain (number_at 15) line o a rest p = plain_read (number_at 15) line o a rest p h in
+    let s : (a ≤ 15) × Spaced (Number a) line rest = number_step 15 a line o rest p (omega arith) f in
+    record { operand = a; allowed = omega (arith, s.0); built = tt; is = λ c more. refl; put = none_put o p f.same; lies = s.1.lies }
+operand_read Count line o a rest p h = let f : Plain (number_at 1099511627775) line o a rest p = plain_read (number_at 1099511627775) line o a rest p h in
+    let s : (a ≤ 1099511627775) × Spaced (Number a) line rest = number_step 1099511627775 a line o rest p (omega arith) f in
+    record { operand = a; allowed = omega (arith, s.0); built = tt; is = λ c more. refl; put = none_put o p f.same; lies = s.1.lies }
+operand_read Receiver line o a rest p h = let f : Plain receiver_at line o a rest p = plain_read receiver_at line o a rest p h in
+    receiver_step line o a f.start rest p (after_blanks f.start) refl f.gap f.same f.read
+operand_read Extent line o a rest p h = let f : Plain extent_at line o a rest p = plain_read extent_at line o a rest p h in
+    extent_step line o a f.start rest p f.gap f.same f.read
+operand_read Title line o a rest p h = title_read line o a rest p h
 operand_read Body line o a rest p h = let f : (x : List ℕ × Out) × (body_run line o ≡ Some x) × (Some (tt, x) ≡ Some (a, (rest, p))) = read_some (body_run line o) (λ r. Some (tt, r)) h in
     let j : f.0 ≡ (rest, p) = (both (f.2)).1 in
     body_read line o rest p (f.1 ∙ ap (λ (z : List ℕ × Out). Some z) j)

@@ -12,7 +12,7 @@ use Rattle.plain_machine.specs.Written.Terms.{end, ◌▹◌}
 use Rattle.plain_machine.specs.Grammar.{IsBuiltTerm, AreBuiltTerms}
 use Rattle.plain_machine.specs.Names.{number_of, with_names, atoms_of, atoms_of_all, items_of, listed_items, all_items}
 use Rattle.atom_names.proofs.Places.{index_of_append, index_of_push}
-use Rattle.script_parse.specs.Output.{Out, out, push, push_place, with_place, put_at, put_atom, put, put_all}
+use Rattle.script_parse.specs.Output.{Out, out, push, push_place, with_place, put_at, put_atom, put_name, put, put_all}
 
 -- The names and items that came, so long as each name found a place.
 pub record Put (o : Out) (atoms : List (List ℕ)) (its : List (List ℕ) → List Item) (p : Out) : Type 0 where
@@ -29,7 +29,7 @@ place_step names a None e = let w : with_name names a ≡ names ++ a ∷ [] = rw
 place_step names a (Some k) e = let w : with_name names a ≡ names = rw e refl in
     let P : List (List ℕ) → Type 0 = λ z. (k : ℕ) × (index_of z a ≡ Some k) in subst P (sym w) (k, e)
 
-number_stays : (names more : List (List ℕ)) (a : List ℕ) → number_of (with_name names a ++ more) a ≡ number_of (with_name names a) a
+pub number_stays : (names more : List (List ℕ)) (a : List ℕ) → number_of (with_name names a ++ more) a ≡ number_of (with_name names a) a
 number_stays names more a = let k : (k : ℕ) × (index_of (with_name names a) a ≡ Some k) = place_step names a (index_of names a) refl in
     rw (index_of_append (with_name names a) more a (k.0) (k.1), k.1) refl
 
@@ -101,6 +101,29 @@ atom_step o a false e = let same : put_atom o a ≡ out o.names true (o.items ++
       over = λ c h. leb-false (length (with_name o.names a)) most_names e;
       items = λ c more. false_true true c refl;
     })
+
+name_step : (o : Out) (a : List ℕ) (t : Bool) → nat_le (length (with_name o.names a)) most_names ≡ t → Put o (a ∷ []) (λ names. []) (put_name o a)
+name_step o a true e = let same : put_name o a ≡ out (with_name o.names a) o.full o.items = rw e refl in
+    let P : Out → Type 0 = λ z. Put o (a ∷ []) (λ names. []) z in
+    subst P (sym same) (record {
+      clear = λ c. c;
+      names = λ c. refl;
+      fits = λ c h. leb-true (length (with_name o.names a)) most_names e;
+      over = λ c h. false_true o.full c h;
+      items = λ c more. sym (append-nil o.items);
+    })
+name_step o a false e = let same : put_name o a ≡ out o.names true o.items = rw e refl in
+    let P : Out → Type 0 = λ z. Put o (a ∷ []) (λ names. []) z in
+    subst P (sym same) (record {
+      clear = λ c. false_true true c refl;
+      names = λ c. false_true true c refl;
+      fits = λ c h. false_true true c refl;
+      over = λ c h. leb-false (length (with_name o.names a)) most_names e;
+      items = λ c more. false_true true c refl;
+    })
+
+pub name_put : (o : Out) (a : List ℕ) → Put o (a ∷ []) (λ names. []) (put_name o a)
+name_put o a = name_step o a (nat_le (length (with_name o.names a)) most_names) refl
 
 -- The item that a tuple was given before its parts were counted is put right.
 counted : (o q : Out) (n : ℕ) (xs : List (List ℕ)) (its : List (List ℕ) → List Item) → Put o xs (λ names. item.Tuple 0 ∷ its names) q

@@ -1,18 +1,18 @@
 -- A whole line says one built command at most.
 use Rattle.std.proofs.Common.{◌≡◌, ℕ, ◌^◌, ◌<◌, ◌≤◌, true, false, List, [], ◌∷◌, ◌++◌, Option, Some, None, codes, refl, sym, ◌∙◌, ap, subst, arith}
 use Rattle.plain_machine.specs.Written.{Kind, OperandOf, Operands, text_of, kinds_of, sys_text_of, sys_kinds_of}
-use Rattle.plain_machine.specs.Written.Kind.{Slot, Count, Body}
+use Rattle.plain_machine.specs.Written.Kind.{Slot, Count, Receiver, Title, Extent, Body}
 use Rattle.plain_machine.specs.Written.Written.{Nothing, OfProcess, OfSystem}
 use Rattle.plain_machine.specs.declared.word.Word.{Word}
 use Rattle.plain_machine.specs.declared.word.SysWord.{SysWord}
 use Rattle.plain_machine.specs.Grammar.{IsSilent, SaysOne, Piece, Lies, term_pieces, operand_pieces, operands_pieces, IsOperand, IsBuiltOperand, AreOperands, AreBuiltOperands}
 use Rattle.plain_machine.specs.Grammar.Piece.{Space, Text, Number}
-use Rattle.script_parse.specs.Reading.{after_blanks, number_at, after_word, word_named, sys_word_named, is_silent}
+use Rattle.script_parse.specs.Reading.{after_blanks, number_at, receiver_at, title_at, extent_at, after_word, word_named, sys_word_named, is_silent}
 use Rattle.script_parse.proofs.Tools.{inside, both, false_not, none_some}
 use Rattle.script_parse.proofs.GapSteps.{Gap, gap_found, Divides, Token, token}
 use Rattle.script_parse.proofs.Tables.{named_so, sys_named_so, is_word, text_word, sys_text_word}
 use Rattle.script_parse.proofs.LineSound.{pair_same}
-use Rattle.script_parse.proofs.LineComplete.{Numbers, number_stands, Words, word_stands, Parts, operands_part, operands_divide, silent_found}
+use Rattle.script_parse.proofs.LineComplete.{Numbers, number_stands, Fronts, number_fronts, receiver_fronts, title_fronts, extent_fronts, Words, word_stands, Parts, operands_part, operands_divide, silent_found}
 use Rattle.script_parse.proofs.OneReading.{Same, term_same, heads}
 
 -- A space read twice leaves the same rest.
@@ -41,25 +41,22 @@ number_twice limit n m ps qs line h i d e k l = let x : Numbers limit n ps line 
     record { same = j.0; rest = x.rest; left = x.lies; right = subst P (sym (j.1)) y.lies }
 
 -- An operand read twice is one.
-pub record TwiceOperand (k : Kind) (x y : OperandOf k) (ps qs : List Piece) : Type 0 where
-  pub same : x ≡ y
-  pub rest : List ℕ
-  pub left : Lies ps rest
-  pub right : Lies qs rest
-
-spaced_twice : (limit n m : ℕ) (ps qs : List Piece) (line : List ℕ) → n ≤ limit → m ≤ limit → Divides ps → Divides qs → Lies (Space ∷ Number n ∷ ps) line → Lies (Space ∷ Number m ∷ qs) line → TwiceNumber n m ps qs
-spaced_twice limit n m ps qs line h i d e k l = let g : TwiceGap (Number n ∷ ps) (Number m ∷ qs) line = gap_twice (Number n ∷ ps) (Number m ∷ qs) line k l in
-    number_twice limit n m ps qs g.rest h i d e g.left g.right
+plain_twice : {A : Type 0} (front : List ℕ → Option (A × List ℕ)) (x y : A) (ps qs : List Piece) (line : List ℕ) → Fronts front x ps line → Fronts front y qs line → (x ≡ y) × (rest : List ℕ) × Lies ps rest × Lies qs rest
+plain_twice front x y ps qs line f g = let same : f.start ≡ g.start = inside (sym f.gap ∙ g.gap) in
+    let j : (x ≡ y) × (f.rest ≡ g.rest) = both (sym f.read ∙ (ap (λ (z : List ℕ). front (after_blanks z)) same ∙ g.read)) in
+    let P : List ℕ → Type 0 = λ z. Lies qs z in
+    (j.0, f.rest, f.lies, subst P (sym (j.1)) g.lies)
 
 operand_same : (k : Kind) (x y : OperandOf k) (ps qs : List Piece) (line : List ℕ) → Divides ps → Divides qs → IsOperand k x → IsOperand k y → IsBuiltOperand k x → IsBuiltOperand k y
-    → Lies (operand_pieces k x ps) line → Lies (operand_pieces k y qs) line → TwiceOperand k x y ps qs
-operand_same Slot x y ps qs line d e a b f g k l = let t : TwiceNumber x y ps qs = spaced_twice 15 x y ps qs line (omega arith) (omega arith) d e k l in
-    record { same = t.same; rest = t.rest; left = t.left; right = t.right }
-operand_same Count x y ps qs line d e a b f g k l = let t : TwiceNumber x y ps qs = spaced_twice 1099511627775 x y ps qs line (omega arith) (omega arith) d e k l in
-    record { same = t.same; rest = t.rest; left = t.left; right = t.right }
+    → Lies (operand_pieces k x ps) line → Lies (operand_pieces k y qs) line → (x ≡ y) × (rest : List ℕ) × Lies ps rest × Lies qs rest
+operand_same Slot x y ps qs line d e a b f g k l = plain_twice (number_at 15) x y ps qs line (number_fronts 15 x ps line (omega arith) d k) (number_fronts 15 y qs line (omega arith) e l)
+operand_same Count x y ps qs line d e a b f g k l = plain_twice (number_at 1099511627775) x y ps qs line (number_fronts 1099511627775 x ps line (omega arith) d k) (number_fronts 1099511627775 y qs line (omega arith) e l)
+operand_same Receiver x y ps qs line d e a b f g k l = plain_twice receiver_at x y ps qs line (receiver_fronts x ps line a d k) (receiver_fronts y qs line b e l)
+operand_same Title x y ps qs line d e a b f g k l = plain_twice title_at x y ps qs line (title_fronts x ps line a d k) (title_fronts y qs line b e l)
+operand_same Extent x y ps qs line d e a b f g k l = plain_twice extent_at x y ps qs line (extent_fronts x ps line k) (extent_fronts y qs line l)
 operand_same Body x y ps qs line d e a b f g k l = let s : TwiceGap (term_pieces x ps) (term_pieces y qs) line = gap_twice (term_pieces x ps) (term_pieces y qs) line k l in
     let t : Same x y ps qs s.rest = term_same x y 256 ps qs s.rest d e a b f g s.left s.right in
-    record { same = t.terms; rest = t.rest; left = t.left; right = t.right }
+    (t.terms, t.rest, t.left, t.right)
 operand_same _ x y ps qs line d e a b f g k l = absurd f
 
 -- The operands of a row, read twice, are the same.
@@ -67,9 +64,9 @@ pub operands_same : (ks : List Kind) (ops pos : Operands ks) (line : List ℕ) �
     → Lies (operands_pieces ks ops) line → Lies (operands_pieces ks pos) line → ops ≡ pos
 operands_same [] ops pos line a b c d k l = refl
 operands_same (kind ∷ ks) ops pos line a b c d k l =
-    let t : TwiceOperand kind (ops.0) (pos.0) (operands_pieces ks (ops.1)) (operands_pieces ks (pos.1))
+    let t : (ops.0 ≡ pos.0) × (rest : List ℕ) × Lies (operands_pieces ks (ops.1)) rest × Lies (operands_pieces ks (pos.1)) rest
     = operand_same kind (ops.0) (pos.0) (operands_pieces ks (ops.1)) (operands_pieces ks (pos.1)) line (operands_divide ks (ops.1)) (operands_divide ks (pos.1)) (a.0) (b.0) (c.0) (d.0) k l in
-    pair_same (ops.0) (pos.0) (ops.1) (pos.1) t.same (operands_same ks (ops.1) (pos.1) t.rest (a.1) (b.1) (c.1) (d.1) t.left t.right)
+    pair_same (ops.0) (pos.0) (ops.1) (pos.1) (t.0) (operands_same ks (ops.1) (pos.1) (t.1) (a.1) (b.1) (c.1) (d.1) (t.2) (t.3))
 
 -- A word read twice is one.
 pub record TwiceWord {W : Type 0} (w x : W) (ps qs : List Piece) : Type 0 where

@@ -1,5 +1,5 @@
 -- The tables of verbs: a text is looked up, and is one word.
-use Rattle.std.proofs.Common.{◌≡◌, ℕ, ◌≢◌, Decides, Bool, true, false, ◌&&◌, List, [], ◌∷◌, Option, Some, None, take, drop, refl, inl, inr, subst}
+use Rattle.std.proofs.Common.{◌≡◌, ℕ, ◌≢◌, Decides, Bool, true, false, ◌&&◌, List, [], ◌∷◌, Some, None, take, refl, inl, inr, subst}
 use Rattle.std.specs.List.{prefix_len, find}
 use Rattle.std.specs.Str.{bytes_eq}
 use Rattle.std.proofs.lemmas.Slice.Eq.{bytes_eq-Decides}
@@ -11,7 +11,7 @@ use Rattle.plain_machine.specs.declared.word.SysWord.TheVariants as sys
 use Rattle.plain_machine.specs.Grammar.{AreAll}
 use Rattle.plain_machine.specs.Names.{verb_with, sys_verb_with}
 use Rattle.script_parse.specs.Output.{Out}
-use Rattle.script_parse.specs.Reading.{is_solid, word_at, row, row_of, sys_row_of, word_named, sys_word_named, verb_run, sys_verb_run, named_run, sys_named_run}
+use Rattle.script_parse.specs.Reading.{is_solid, word_at, row, row_of, sys_row_of, word_named, sys_word_named, named_run, sys_named_run}
 use Rattle.script_parse.proofs.Tools.{chosen, inside, both_true, false_not}
 
 -- Texts that differ do not pass the test.

@@ -54,6 +54,12 @@ put_atom o a = if nat_le (length (with_name o.names a)) most_names
     then record { names = with_name o.names a; full = o.full; items = o.items ++ item.Atom (number_of (with_name o.names a) a) ∷ [] }
     else record { names = o.names; full = true; items = o.items ++ item.Atom 0 ∷ [] }
 
+-- An atom that is no term has a number alone.
+abbrev pub put_name : Out → List ℕ → Out
+put_name o a = if nat_le (length (with_name o.names a)) most_names
+    then record { names = with_name o.names a; full = o.full; items = o.items }
+    else record { names = o.names; full = true; items = o.items }
+
 abbrev mutual
   -- A term goes last in prefix form. Forms that are not built put nothing.
   pub put : Term → Out → Out

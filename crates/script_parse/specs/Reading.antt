@@ -3,20 +3,25 @@
 use Rattle.std.specs.Prelude.{ℕ, zero, suc, ◌+◌, ◌-◌, ◌*◌, nat_eq, nat_le, Bool, true, false, not, ◌&&◌, ℤ, pos, negsuc, List, [], ◌∷◌, length, take, drop, Option, Some, None, cond, codes, if◌then◌else◌}
 use Rattle.std.specs.List.{prefix_len, find}
 use Rattle.std.specs.Str.{bytes_eq}
+use Rattle.atom_names.specs.Names.{with_name}
 use Rattle.plain_term.specs.declared.item.Item.TheVariants as item
 use Rattle.plain_machine.specs.Grammar.{is_blank, is_digit, is_small_letter, is_name_byte, is_built, is_sys_built}
-use Rattle.plain_machine.specs.Names.{ArgumentOf, Arguments, verb_with, sys_verb_with}
+use Rattle.plain_machine.specs.Names.{number_of, reg, ArgumentOf, Arguments, verb_with, sys_verb_with}
 use Rattle.plain_machine.specs.Written.{Kind, all_words, text_of, kinds_of, all_sys_words, sys_text_of, sys_kinds_of}
 use Rattle.plain_machine.specs.declared.word.Word.{Word}
 use Rattle.plain_machine.specs.declared.word.Word.TheVariants as word
 use Rattle.plain_machine.specs.declared.word.SysWord.TheVariants as sys
 use Rattle.plain_machine.specs.declared.word.SysWord.{SysWord}
-use Rattle.plain_machine.specs.Written.Kind.{Slot, Count, Body}
+use Rattle.plain_machine.specs.Written.Kind.{Slot, Count, Receiver, Title, Extent, Body}
+use Rattle.plain_machine.specs.declared.command.To.{To}
+use Rattle.plain_machine.specs.declared.command.To.TheVariants as to
+use Rattle.plain_machine.specs.declared.command.Depth.{Depth}
+use Rattle.plain_machine.specs.declared.command.Depth.TheVariants.{Minor, Major}
 use Rattle.plain_machine.specs.declared.command.Command.{Command}
 use Rattle.plain_machine.specs.declared.command.Command.TheVariants as command
 use Rattle.plain_machine.specs.declared.command.Verb.{Verb}
 use Rattle.plain_machine.specs.declared.command.SysVerb.{SysVerb}
-use Rattle.script_parse.specs.Output.{Out, push, push_place, put_at, put_atom}
+use Rattle.script_parse.specs.Output.{Out, push, push_place, put_at, put_atom, put_name}
 
 -- What was found, and the rest after it, go on.
 abbrev pub then_read : {A B : Type 0} → Option A → (A → Option B) → Option B
@@ -154,13 +159,33 @@ abbrev pub is_end : List ℕ → Bool
 is_end [] = true
 is_end (b ∷ bytes) = is_blank b && is_end bytes
 
--- A blank and a number.
-abbrev pub spaced_at : (limit : ℕ) → List ℕ → Option (ℕ × List ℕ)
-spaced_at limit line = then_read (gap_at line) (λ rest. number_at limit (after_blanks rest))
+-- A blank, and then this.
+abbrev pub spaced_at : {A : Type 0} → (List ℕ → Option (A × List ℕ)) → List ℕ → Option (A × List ℕ)
+spaced_at front line = then_read (gap_at line) (λ rest. front (after_blanks rest))
 
--- A number leaves the output.
-abbrev pub number_run : (limit : ℕ) → List ℕ → Out → Option (ℕ × (List ℕ × Out))
-number_run limit line o = then_read (spaced_at limit line) (λ r. Some (r.0, (r.1, o)))
+-- A process by its number, or by `$` and a register.
+abbrev pub receiver_at : List ℕ → Option (To × List ℕ)
+receiver_at [] = None
+receiver_at (b ∷ bytes) = if nat_eq b 36 then then_read (number_at 15 bytes) (λ r. Some (to.Held (reg (r.0)), r.1)) else
+    then_read (number_at 1099511627775 (b ∷ bytes)) (λ r. Some (to.Number (r.0), r.1))
+
+-- An atom, which begins with a small letter.
+abbrev pub title_at : List ℕ → Option (List ℕ × List ℕ)
+title_at [] = None
+title_at (b ∷ bytes) = if is_small_letter b then atom_at (b ∷ bytes) else None
+
+-- A depth of collection.
+abbrev pub extent_at : List ℕ → Option (Depth × List ℕ)
+extent_at line = found_or (text_at (codes "minor") line) (λ rest. Some (Minor, rest))
+    (then_read (text_at (codes "major") line) (λ rest. Some (Major, rest)))
+
+-- An operand that leaves the output.
+abbrev pub plain_run : {A : Type 0} → (List ℕ → Option (A × List ℕ)) → List ℕ → Out → Option (A × (List ℕ × Out))
+plain_run front line o = then_read (spaced_at front line) (λ r. Some (r.0, (r.1, o)))
+
+-- A name, by its number.
+abbrev pub title_run : List ℕ → Out → Option (ℕ × (List ℕ × Out))
+title_run line o = then_read (spaced_at title_at line) (λ r. Some (number_of (with_name o.names (r.0)) (r.0), (r.1, put_name o (r.0))))
 
 -- A blank and a term.
 abbrev pub body_run : List ℕ → Out → Option (List ℕ × Out)
@@ -168,8 +193,11 @@ body_run line o = then_read (gap_at line) (λ rest. term_run 256 rest o)
 
 -- An operand of a kind: its argument, and the rest after it. Kinds that are not built have no reader.
 abbrev pub operand_at : (k : Kind) → List ℕ → Out → Option (ArgumentOf k × (List ℕ × Out))
-operand_at Slot line o = number_run 15 line o
-operand_at Count line o = number_run 1099511627775 line o
+operand_at Slot line o = plain_run (number_at 15) line o
+operand_at Count line o = plain_run (number_at 1099511627775) line o
+operand_at Receiver line o = plain_run receiver_at line o
+operand_at Title line o = title_run line o
+operand_at Extent line o = plain_run extent_at line o
 operand_at Body line o = then_read (body_run line o) (λ r. Some (tt, r))
 operand_at _ line o = None
 

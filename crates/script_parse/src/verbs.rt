@@ -3,7 +3,7 @@ ghost use Rattle.plain_machine.specs.Names.{Arguments, HasRegisters};
 ghost use Rattle.plain_machine.specs.Written.{Kind};
 ghost use Rattle.plain_machine.specs.Written.Kind.{Slot, Body};
 ghost use Rattle.script_parse.specs.Output.{Out, out, Keeps};
-ghost use Rattle.script_parse.specs.Reading.{spaced_at, row, row_run, verb_run, named_run, process_run, sys_verb_run, sys_named_run, system_run};
+ghost use Rattle.script_parse.specs.Reading.{number_at, spaced_at, row, row_run, verb_run, named_run, process_run, sys_verb_run, sys_named_run, system_run};
 
 use crate::blanks::{ends, gap, skip, word_len};
 use crate::buffer::Code;
@@ -18,7 +18,7 @@ const LEVELS: u64 = 256;
 
 /// A blank and a register.
 fn register(line: &[u8]) -> Option<(Reg, &[u8])>
-    ensures value { MatchOption result (spaced_at 15 line.now ≡ None) (λ r. spaced_at 15 line.now ≡ Some (r.0.0, r.1.now)) }
+    ensures value { MatchOption result (spaced_at (number_at 15) line.now ≡ None) (λ r. spaced_at (number_at 15) line.now ≡ Some (r.0.0, r.1.now)) }
     ensures within { MatchOption result (Unit {0}) (λ r. (r.0.0 < 16) × (length r.1.now ≤ length line.now)) }
 {
     let rest = gap(line)?;
