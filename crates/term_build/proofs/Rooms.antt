@@ -1,51 +1,33 @@
 -- Free words of a room are taken, and what was clear of it stays so.
-use Rattle.std.proofs.Common.{◌≡◌, ℕ, ◌+◌, ◌*◌, ◌<◌, ◌≤◌, ◌⊎◌, List, length, get_or, refl, sym, ◌∙◌, subst, arith, inl, inr}
+use Rattle.std.proofs.Common.{ℕ, ◌+◌, ◌≤◌, Bool, List, refl, sym, ◌∙◌, subst, arith, inl, inr}
 use Rattle.word_mem.specs.declared.ranges.Room.{Room}
-use Rattle.plain_term.specs.Tree.{Tree, Trees, trees_len}
-use Rattle.plain_term.specs.Tree.Tree.{Cons, Tuple}
 use Rattle.term_read.specs.Role.{outside}
-use Rattle.term_read.specs.Stands.{Stands, AllStand}
 use Rattle.term_read.specs.Kept.{Keeps}
-use Rattle.term_read.proofs.Makes.{stands-cons, stands-tuple, row-of-all, all-length}
-use Rattle.term_read.proofs.Frames.{keep-all}
-use Rattle.term_read.proofs.Rooms.{outside-low, room-kept}
+use Rattle.term_read.proofs.Rooms.{outside-low, outside-tells, outside-more}
+use Rattle.term_build.specs.Taken.{Taken, plain}
 use Rattle.term_build.specs.Clear.{IsRoom, KeepsClear, Uses}
+use Rattle.term_build.proofs.Taking.{taken-kept}
+
+-- The free words of a room may be taken for any object.
+pub room-taken : (roles : ℕ → ℕ) (n top limit : ℕ) → top + n ≤ limit → Taken roles (outside top limit) (outside (top + n) limit) top n
+room-taken roles n top limit fits = record {
+  free = λ a k h. elim (outside-tells top limit a k h) [ inl low ↦ inl low | inr high ↦ inr (omega arith) ];
+  more = λ a k h. outside-more top (top + n) limit a k (omega arith) h;
+  new = λ j q below e. outside-low (top + n) limit q (roles j) (omega arith);
+}
+
+-- The test of the room after words were taken.
+pub room-moved : (n : ℕ) (old new : Room) (mem mem2 : List ℕ) (P : (ℕ → ℕ → Bool) → Type 0) → Uses n old new mem mem2 → P (outside (old.top + n) old.end) → P (outside new.top new.end)
+room-moved n old new mem mem2 P u h =
+    let Q : ℕ → Type 0 = λ x. P (outside x old.end) in
+    let R : ℕ → Type 0 = λ x. P (outside new.top x) in
+    subst R (sym u.same_end) (subst Q (sym u.moved) h)
 
 -- Taking free words changes no word of what is clear.
 pub taken-keeps : (n : ℕ) (old new : Room) (mem mem2 : List ℕ) → old.top + n ≤ old.end → Uses n old new mem mem2 → KeepsClear old new mem mem2
 taken-keeps n old new mem mem2 fits u =
-    let P : ℕ → Type 0 = λ x. (q : ℕ) → (q < old.top) ⊎ (x ≤ q) → get_or mem2 q 0 ≡ get_or mem q 0 in
-    let others : (q : ℕ) → (q < old.top) ⊎ (new.top ≤ q) → get_or mem2 q 0 ≡ get_or mem q 0 = subst P (sym u.moved) u.others in
-    let k = room-kept old.top new.top old.end mem mem2 (omega (arith, u.same_len)) (omega (arith, u.moved)) (omega (arith, u.moved)) others in
-    let Q : ℕ → Type 0 = λ x. Keeps (outside old.top old.end) (outside new.top x) mem mem2 in
-    let moved : Keeps (outside old.top old.end) (outside new.top new.end) mem mem2 = subst Q (sym u.same_end) k in
-    record { each = moved.each }
-
--- A cons in the first two free words.
-pub cons-clear : (top limit : ℕ) (old new : List ℕ) (h t r : ℕ) → top + 2 ≤ limit → limit ≤ length old → length new ≡ length old → get_or new top 0 ≡ h → get_or new (top + 1) 0 ≡ t → r ≡ top * 4 + 1
-    → Keeps (outside top limit) (outside (top + 2) limit) old new
-    → (shared : List (List ℕ)) (a b : Tree) → Stands (outside top limit) shared old h a → Stands (outside top limit) shared old t b → Stands (outside (top + 2) limit) shared new r (Cons a b)
-cons-clear top limit old new h t r fits inside len at_h at_t is k shared a b sa sb =
-    let P : ℕ → Type 0 = λ x. Stands (outside (top + 2) limit) shared new x a in
-    let Q : ℕ → Type 0 = λ x. Stands (outside (top + 2) limit) shared new x b in
-    stands-cons (outside (top + 2) limit) shared new r top a b is (omega arith)
-    (outside-low (top + 2) limit top 3 (omega arith))
-    (outside-low (top + 2) limit (top + 1) 4 (omega arith))
-    (subst P (sym at_h) (k.each shared h a sa))
-    (subst Q (sym at_t) (k.each shared t b sb))
-
--- A tuple in the first free words.
-pub tuple-clear : (n top limit : ℕ) (old new parts : List ℕ) (r : ℕ) → n ≡ length parts → n ≤ 65536 → top + (1 + n) ≤ limit → limit ≤ length old → length new ≡ length old → get_or new top 0 ≡ n * 64
-    → ((j : ℕ) → j < n → get_or new (top + 1 + j) 0 ≡ get_or parts j 0) → r ≡ top * 4 + 2
-    → Keeps (outside top limit) (outside (top + (1 + n)) limit) old new
-    → (shared : List (List ℕ)) (ts : Trees) → AllStand (outside top limit) shared old parts ts → Stands (outside (top + (1 + n)) limit) shared new r (Tuple ts)
-tuple-clear n top limit old new parts r count few fits inside len head row is k shared ts all =
-    let moved : AllStand (outside (top + (1 + n)) limit) shared new parts ts = keep-all (outside top limit) (outside (top + (1 + n)) limit) old new k shared parts ts all in
-    let same : length parts ≡ trees_len ts = all-length (outside (top + (1 + n)) limit) shared new parts ts moved in
-    stands-tuple (outside (top + (1 + n)) limit) shared new r top ts is (omega arith) (omega arith) (omega arith)
-    (outside-low (top + (1 + n)) limit top 3 (omega arith))
-    (λ q above below. outside-low (top + (1 + n)) limit q 4 (omega arith))
-    (row-of-all (outside (top + (1 + n)) limit) shared new (top + 1) parts ts moved (λ j below. row j (omega arith)))
+    room-moved n old new mem mem2 (λ d. Keeps (outside old.top old.end) d mem mem2) u
+    (taken-kept plain (outside old.top old.end) (outside (old.top + n) old.end) n old new mem mem2 u (room-taken plain n old.top old.end fits))
 
 -- Nothing was done yet.
 pub uses-none : (room : Room) (mem : List ℕ) → Uses 0 room room mem mem

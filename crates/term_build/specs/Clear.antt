@@ -4,6 +4,7 @@ use Rattle.word_mem.specs.declared.ranges.Room.{Room}
 use Rattle.plain_term.specs.Tree.{Tree, Trees}
 use Rattle.term_read.specs.Role.{outside}
 use Rattle.term_read.specs.Stands.{Stands, AllStand}
+use Rattle.term_read.specs.Kept.{Keeps}
 
 -- The room's places are in order and lie in the memory.
 pub record IsRoom (room : Room) (mem : List ℕ) : Type 0 where
@@ -20,8 +21,8 @@ abbrev pub AllClear : Room → List (List ℕ) → List ℕ → List ℕ → Tre
 AllClear room shared mem ws ts = AllStand (outside room.top room.end) shared mem ws ts
 
 -- Every word that was clear of the room stands for its tree still, and is clear of the room still.
-pub record KeepsClear (old new : Room) (mem mem' : List ℕ) : Type 0 where
-  pub each : (shared : List (List ℕ)) (w : ℕ) (t : Tree) → Clear old shared mem w t → Clear new shared mem' w t
+abbrev pub KeepsClear : Room → Room → List ℕ → List ℕ → Type 0
+KeepsClear old new mem mem' = Keeps (outside old.top old.end) (outside new.top new.end) mem mem'
 
 -- The first n free words of the room are taken; all words but these are as before.
 pub record Uses (n : ℕ) (old new : Room) (mem mem' : List ℕ) : Type 0 where

@@ -1,10 +1,12 @@
 //! Builders of terms: each takes words of a room and answers the word of the new term.
 #![tactic(auto)]
 
+mod laws;
 mod lists;
 #[cfg(test)]
 mod tests;
 mod tuples;
 
+pub use laws::taken_words_keep_one_role;
 pub use lists::cons;
 pub use tuples::tuple;

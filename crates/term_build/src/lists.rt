@@ -1,6 +1,9 @@
-ghost use Rattle.std.specs.Prelude.{◌≡◌, ℕ, ◌+◌, ◌≤◌, List};
+ghost use Rattle.std.specs.Prelude.{◌≡◌, ℕ, ◌+◌, ◌*◌, ◌≤◌, Bool, List, [], ◌∷◌};
 ghost use Rattle.plain_term.specs.Tree.{Tree};
 ghost use Rattle.plain_term.specs.Tree.Tree.{Cons};
+ghost use Rattle.term_read.specs.Stands.{Stands};
+ghost use Rattle.term_read.specs.Kept.{Keeps};
+ghost use Rattle.term_build.specs.Taken.{Taken, Lie, plain};
 ghost use Rattle.term_build.specs.Clear.{IsRoom, Clear, KeepsClear, Uses};
 
 use term_tags::list_at;
@@ -11,9 +14,14 @@ pub fn cons(mem: &mut WordMem, room: &mut Room, h: u64, t: u64) -> u64
     requires places { IsRoom room.old mem.old }
     requires words { room.old.top + 2 ≤ room.old.end }
     ensures uses { Uses 2 room.old room.new mem.old mem.new }
-    ensures made { (shared : List (List ℕ)) (a b : Tree) → Clear room.old shared mem.old h a → Clear room.old shared mem.old t b
+    ensures place { result ≡ room.old.top * 4 + 1 }
+    ensures words { Lie mem.new room.old.top (h ∷ t ∷ []) }
+    ensures made { (c d : ℕ → ℕ → Bool) (shared : List (List ℕ)) (a b : Tree) → Taken plain c d room.old.top 2
+        → Stands c shared mem.old h a → Stands c shared mem.old t b → Stands d shared mem.new result (Cons a b) }
+    ensures kept { (roles : ℕ → ℕ) (c d : ℕ → ℕ → Bool) → Taken roles c d room.old.top 2 → Keeps c d mem.old mem.new }
+    ensures made_clear { (shared : List (List ℕ)) (a b : Tree) → Clear room.old shared mem.old h a → Clear room.old shared mem.old t b
         → Clear room.new shared mem.new result (Cons a b) }
-    ensures kept { KeepsClear room.old room.new mem.old mem.new }
+    ensures kept_clear { KeepsClear room.old room.new mem.old mem.new }
 {
     let _len = mem.len();
     let place = room.top;

@@ -1,6 +1,9 @@
-ghost use Rattle.std.specs.Prelude.{◌≡◌, ℕ, ◌+◌, ◌<◌, ◌≤◌, ◌⊎◌, List, length, slice_index};
+ghost use Rattle.std.specs.Prelude.{◌≡◌, ℕ, ◌+◌, ◌*◌, ◌<◌, ◌≤◌, ◌⊎◌, Bool, List, ◌∷◌, length, slice_index};
 ghost use Rattle.plain_term.specs.Tree.{Trees};
 ghost use Rattle.plain_term.specs.Tree.Tree.{Tuple};
+ghost use Rattle.term_read.specs.Stands.{Stands, AllStand};
+ghost use Rattle.term_read.specs.Kept.{Keeps};
+ghost use Rattle.term_build.specs.Taken.{Taken, Lie, plain};
 ghost use Rattle.term_build.specs.Clear.{IsRoom, Clear, AllClear, KeepsClear, Uses};
 
 use term_tags::{TUPLE, boxed_at, head_of};
@@ -12,9 +15,14 @@ pub fn tuple(mem: &mut WordMem, room: &mut Room, parts: &[u64]) -> u64
     requires few { length parts.now ≤ 65536 }
     requires words { room.old.top + (1 + length parts.now) ≤ room.old.end }
     ensures uses { Uses (1 + length parts.now) room.old room.new mem.old mem.new }
-    ensures made { (shared : List (List ℕ)) (ts : Trees) → AllClear room.old shared mem.old parts.now ts
+    ensures place { result ≡ room.old.top * 4 + 2 }
+    ensures words { Lie mem.new room.old.top (length parts.now * 64 ∷ parts.now) }
+    ensures made { (c d : ℕ → ℕ → Bool) (shared : List (List ℕ)) (ts : Trees) → Taken plain c d room.old.top (1 + length parts.now)
+        → AllStand c shared mem.old parts.now ts → Stands d shared mem.new result (Tuple ts) }
+    ensures kept { (roles : ℕ → ℕ) (c d : ℕ → ℕ → Bool) → Taken roles c d room.old.top (1 + length parts.now) → Keeps c d mem.old mem.new }
+    ensures made_clear { (shared : List (List ℕ)) (ts : Trees) → AllClear room.old shared mem.old parts.now ts
         → Clear room.new shared mem.new result (Tuple ts) }
-    ensures kept { KeepsClear room.old room.new mem.old mem.new }
+    ensures kept_clear { KeepsClear room.old room.new mem.old mem.new }
 {
     let _len = mem.len();
     let place = room.top;

@@ -43,18 +43,18 @@ pub returns-in-Cons-clause-made : goal.returns-in-Cons-clause-made
 returns-in-Cons-clause-made c = λ shared ts us put all.
     let P : Item → Type 0 = λ x. Put x ts us in
     let p = subst P c.in-Cons.is put in
-    let k : Keeps (outside c.args.room.now.top c.args.room.now.end) (outside c.cons-w.new.room.top c.cons-w.new.room.end) c.args.mem.now c.cons-w.new.mem = record { each = c.cons-w.ensures.kept.each } in
+    let k : Keeps (outside c.args.room.now.top c.args.room.now.end) (outside c.cons-w.new.room.top c.cons-w.new.room.end) c.args.mem.now c.cons-w.new.mem = c.cons-w.ensures.kept_clear in
     let Q : Trees → Type 0 = λ x. AllStand (outside c.args.room.now.top c.args.room.now.end) shared c.args.mem.now (drop c.args.sp c.args.scratch.now) x in
     on-cons (outside c.args.room.now.top c.args.room.now.end) (outside c.cons-w.new.room.top c.cons-w.new.room.end) shared c.args.mem.now c.cons-w.new.mem c.args.scratch.now c.put_word-in-Cons.new.scratch
-    c.args.sp c.put_word-in-Cons.result c.cons-w.result p.0 p.1 p.2 us k (c.cons-w.ensures.made shared p.0 p.1)
+    c.args.sp c.put_word-in-Cons.result c.cons-w.result p.0 p.1 p.2 us k (c.cons-w.ensures.made_clear shared p.0 p.1)
     (let R : Item → Type 0 = λ x. CanPut x c.args.sp (length c.args.scratch.now) in subst R c.in-Cons.is c.requires.can) c.put_word-in-Cons.ensures.row p.4 (subst Q p.3 all)
 
 pub returns-in-Tuple-clause-made : goal.returns-in-Tuple-clause-made
 returns-in-Tuple-clause-made c = λ shared ts us put all.
     let P : Item → Type 0 = λ x. Put x ts us in
     let p = subst P c.in-Tuple.is put in
-    let k : Keeps (outside c.args.room.now.top c.args.room.now.end) (outside c.tuple-w.new.room.top c.tuple-w.new.room.end) c.args.mem.now c.tuple-w.new.mem = record { each = c.tuple-w.ensures.kept.each } in
+    let k : Keeps (outside c.args.room.now.top c.args.room.now.end) (outside c.tuple-w.new.room.top c.tuple-w.new.room.end) c.args.mem.now c.tuple-w.new.mem = c.tuple-w.ensures.kept_clear in
     let Q : Trees → Type 0 = λ x. AllStand (outside c.args.room.now.top c.args.room.now.end) shared c.args.mem.now (drop c.args.sp c.args.scratch.now) x in
     on-tuple (outside c.args.room.now.top c.args.room.now.end) (outside c.tuple-w.new.room.top c.tuple-w.new.room.end) shared c.args.mem.now c.tuple-w.new.mem c.args.scratch.now c.put_word-in-Tuple.new.scratch
-    c.args.sp c.in-Tuple.n c.put_word-in-Tuple.result c.tuple-w.result p.0 p.1 us k (c.tuple-w.ensures.made shared p.0)
+    c.args.sp c.in-Tuple.n c.put_word-in-Tuple.result c.tuple-w.result p.0 p.1 us k (c.tuple-w.ensures.made_clear shared p.0)
     (let R : Item → Type 0 = λ x. CanPut x c.args.sp (length c.args.scratch.now) in (subst R c.in-Tuple.is c.requires.can).2) p.2 c.put_word-in-Tuple.ensures.row p.4 (subst Q p.3 all)

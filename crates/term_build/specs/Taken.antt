@@ -1,0 +1,20 @@
+-- Words that are taken for a new object, under any test of places and roles.
+use Rattle.std.specs.Prelude.{◌≡◌, ℕ, ◌+◌, ◌-◌, ◌<◌, ◌≤◌, ◌⊎◌, ◌==◌, ◌&&◌, nat_le, nat_lt, if◌then◌else◌, Bool, true, List, length, slice_index}
+
+-- The roles of an object's words, by the number of the word: the first, and all others.
+abbrev pub plain : ℕ → ℕ
+plain j = if j == 0 then 3 else 4
+
+-- The n words from place `top` on have no role by the test c, and these roles by the test d, which allows no less.
+pub record Taken (roles : ℕ → ℕ) (c d : ℕ → ℕ → Bool) (top n : ℕ) : Type 0 where
+  pub free : (a k : ℕ) → c a k ≡ true → (a < top) ⊎ (top + n ≤ a)
+  pub more : (a k : ℕ) → c a k ≡ true → d a k ≡ true
+  pub new : (j q : ℕ) → j < n → q ≡ top + j → d q (roles j) ≡ true
+
+-- The test c, and these roles for the n words from place `top` on.
+unfoldable pub with_object : (ℕ → ℕ) → (ℕ → ℕ → Bool) → (top n : ℕ) → ℕ → ℕ → Bool
+with_object roles c top n a k = if nat_le top a && nat_lt a (top + n) then roles (a - top) == k else c a k
+
+-- From this place on lie these words.
+pub record Lie (mem : List ℕ) (place : ℕ) (words : List ℕ) : Type 0 where
+  pub each : (j q : ℕ) → j < length words → q ≡ place + j → slice_index mem q ≡ slice_index words j
