@@ -1,4 +1,5 @@
 // The parts of list places.
+ghost use Rattle.std.specs.Prelude.{◌≡◌, ◌+◌, ◌/◌, slice_index, IfSome};
 ghost use Rattle.term_read.specs.Stands.{IsTerm};
 ghost use Rattle.term_read.specs.Parts.{Reads, head_of, tail_of};
 
@@ -8,7 +9,8 @@ use word_mem::WordMem;
 /// The word of the head, or `None` where the tree is no list place.
 pub fn hd(mem: &WordMem, w: u64) -> Option<u64>
     requires { IsTerm mem.now w }
-    ensures { Reads head_of mem.now w result }
+    ensures reads { Reads head_of mem.now w result }
+    ensures word { IfSome result (λ v. v ≡ slice_index mem.now (w / 4)) }
 {
     let _len = mem.len();
     let place = cons_at(mem, w)?;
@@ -18,7 +20,8 @@ pub fn hd(mem: &WordMem, w: u64) -> Option<u64>
 /// The word of the tail, or `None` where the tree is no list place.
 pub fn tl(mem: &WordMem, w: u64) -> Option<u64>
     requires { IsTerm mem.now w }
-    ensures { Reads tail_of mem.now w result }
+    ensures reads { Reads tail_of mem.now w result }
+    ensures word { IfSome result (λ v. v ≡ slice_index mem.now (w / 4 + 1)) }
 {
     let _len = mem.len();
     let cons = cons_at(mem, w)?;

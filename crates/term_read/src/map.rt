@@ -1,4 +1,5 @@
 // The pairs of maps.
+ghost use Rattle.std.specs.Prelude.{◌≡◌, ◌+◌, ◌/◌, slice_index, IfSome};
 ghost use Rattle.term_read.specs.Stands.{IsTerm};
 ghost use Rattle.term_read.specs.Parts.{Reads, Tells, key_of, value_of, map_len_in};
 
@@ -19,7 +20,8 @@ pub fn map_len(mem: &WordMem, w: u64) -> Option<u64>
 /// The word of key `i` in order, from 0, or `None` where the tree is no map or has no such pair.
 pub fn map_key(mem: &WordMem, w: u64, i: u64) -> Option<u64>
     requires { IsTerm mem.now w }
-    ensures { Reads (key_of i) mem.now w result }
+    ensures reads { Reads (key_of i) mem.now w result }
+    ensures word { IfSome result (λ v. v ≡ slice_index mem.now (slice_index mem.now (w / 4 + 2) / 4 + 1 + i)) }
 {
     let _len = mem.len();
     let place = object_at(mem, w, MAP)?;
@@ -34,7 +36,8 @@ pub fn map_key(mem: &WordMem, w: u64, i: u64) -> Option<u64>
 /// The word of the value of key `i`, from 0, or `None` where the tree is no map or has no such pair.
 pub fn map_value(mem: &WordMem, w: u64, i: u64) -> Option<u64>
     requires { IsTerm mem.now w }
-    ensures { Reads (value_of i) mem.now w result }
+    ensures reads { Reads (value_of i) mem.now w result }
+    ensures word { IfSome result (λ v. v ≡ slice_index mem.now (w / 4 + 3 + i)) }
 {
     let _len = mem.len();
     let place = object_at(mem, w, MAP)?;

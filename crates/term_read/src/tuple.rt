@@ -1,4 +1,5 @@
 // The parts of tuples.
+ghost use Rattle.std.specs.Prelude.{◌≡◌, ◌+◌, ◌/◌, slice_index, IfSome};
 ghost use Rattle.term_read.specs.Stands.{IsTerm};
 ghost use Rattle.term_read.specs.Parts.{Reads, element_of};
 
@@ -9,7 +10,8 @@ use word_mem::WordMem;
 /// The word of part `i`, from 1, or `None` where the tree is no tuple or has no such part.
 pub fn element(mem: &WordMem, w: u64, i: u64) -> Option<u64>
     requires { IsTerm mem.now w }
-    ensures { Reads (element_of i) mem.now w result }
+    ensures reads { Reads (element_of i) mem.now w result }
+    ensures word { IfSome result (λ v. v ≡ slice_index mem.now (w / 4 + i)) }
 {
     let _len = mem.len();
     let place = object_at(mem, w, TUPLE)?;

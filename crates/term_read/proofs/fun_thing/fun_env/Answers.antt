@@ -3,8 +3,8 @@ use Rattle.term_read.proofs.Inside.{fun-inside}
 use Rattle.term_read.proofs.Reading.{reads-env, past-env, no-env}
 use Rattle.term_read.proofs.fun_thing.fun_env.Goals as goal
 
-pub returns-in_err-place : goal.returns-in_err-place
-returns-in_err-place c = rw c.from_residual.ensures (no-env c.args.mem.now c.args.w c.args.i c.in_err-place.ensures.none)
+pub returns-in_err-place-clause-reads : goal.returns-in_err-place-clause-reads
+returns-in_err-place-clause-reads c = rw c.from_residual.ensures (no-env c.args.mem.now c.args.w c.args.i c.in_err-place.ensures.none)
 
 pub get-places-requires : goal.get-places-requires
 get-places-requires c =
@@ -21,12 +21,12 @@ get-requires c =
     let (tag, place, sub, inside) = c.in_ok-place.ensures.some in
     omega (arith, inside, fun-inside c.args.mem.now c.args.w c.in_ok-place.place c.requires tag place sub, c.get-places.ensures, c.if-i-places.true)
 
-pub returns-then-i-places : goal.returns-then-i-places
-returns-then-i-places c =
+pub returns-then-i-places-clause-reads : goal.returns-then-i-places-clause-reads
+returns-then-i-places-clause-reads c =
     let (tag, place, sub, inside) = c.in_ok-place.ensures.some in
     rw c.get.ensures (reads-env c.args.mem.now c.args.w c.in_ok-place.place c.args.i tag place sub c.if-i-ge1.true (omega (arith, c.get-places.ensures, c.if-i-places.true)))
 
-pub returns-else-i-ge1 : goal.returns-else-i-ge1
-returns-else-i-ge1 c =
+pub returns-else-i-ge1-clause-reads : goal.returns-else-i-ge1-clause-reads
+returns-else-i-ge1-clause-reads c =
     let (tag, place, sub, inside) = c.in_ok-place.ensures.some in
     past-env c.args.mem.now c.args.w c.in_ok-place.place c.args.i place (λ low. omega (arith, c.get-places.ensures, c.else-i-ge1.either))

@@ -3,8 +3,8 @@ use Rattle.term_read.proofs.Inside.{map-inside}
 use Rattle.term_read.proofs.Reading.{reads-key, past-key, no-key}
 use Rattle.term_read.proofs.map.map_key.Goals as goal
 
-pub returns-in_err-place : goal.returns-in_err-place
-returns-in_err-place c = rw c.from_residual.ensures (no-key c.args.mem.now c.args.w c.args.i c.in_err-place.ensures.none)
+pub returns-in_err-place-clause-reads : goal.returns-in_err-place-clause-reads
+returns-in_err-place-clause-reads c = rw c.from_residual.ensures (no-key c.args.mem.now c.args.w c.args.i c.in_err-place.ensures.none)
 
 pub get-requires : goal.get-requires
 get-requires c =
@@ -18,13 +18,13 @@ get-requires-then-i-get c =
     let (words, keys) = map-inside c.args.mem.now c.args.w c.in_ok-place.place c.requires tag place sub in
     omega (arith, keys, c.get-keys.ensures, c.get.ensures, c.if-i-get.true)
 
-pub returns-then-i-get : goal.returns-then-i-get
-returns-then-i-get c =
+pub returns-then-i-get-clause-reads : goal.returns-then-i-get-clause-reads
+returns-then-i-get-clause-reads c =
     let (tag, place, sub, inside) = c.in_ok-place.ensures.some in
     rw c.get-then-i-get.ensures (rw c.get-keys.ensures (reads-key c.args.mem.now c.args.w c.in_ok-place.place c.args.i tag place sub (omega (arith, c.get.ensures, c.if-i-get.true))))
 
-pub returns-else-i-get : goal.returns-else-i-get
-returns-else-i-get c =
+pub returns-else-i-get-clause-reads : goal.returns-else-i-get-clause-reads
+returns-else-i-get-clause-reads c =
     let (tag, place, sub, inside) = c.in_ok-place.ensures.some in
     past-key c.args.mem.now c.args.w c.in_ok-place.place c.args.i place (omega (arith, c.get.ensures, c.if-i-get.false))
 

@@ -2,15 +2,15 @@ use Rattle.std.proofs.Common.{arith}
 use Rattle.term_read.proofs.Reading.{reads-element, past-element, no-element}
 use Rattle.term_read.proofs.tuple.element.Goals as goal
 
-pub returns-in_err-place : goal.returns-in_err-place
-returns-in_err-place c = rw c.from_residual.ensures (no-element c.args.mem.now c.args.w c.args.i c.in_err-place.ensures.none)
+pub returns-in_err-place-clause-reads : goal.returns-in_err-place-clause-reads
+returns-in_err-place-clause-reads c = rw c.from_residual.ensures (no-element c.args.mem.now c.args.w c.args.i c.in_err-place.ensures.none)
 
-pub returns-then-i-parts : goal.returns-then-i-parts
-returns-then-i-parts c =
+pub returns-then-i-parts-clause-reads : goal.returns-then-i-parts-clause-reads
+returns-then-i-parts-clause-reads c =
     let (tag, place, sub, inside) = c.in_ok-place.ensures.some in
     rw c.get.ensures (reads-element c.args.mem.now c.args.w c.in_ok-place.place c.args.i tag place sub c.if-i-ge1.true (omega (arith, c.get-parts.ensures, c.if-i-parts.true)))
 
-pub returns-else-i-ge1 : goal.returns-else-i-ge1
-returns-else-i-ge1 c =
+pub returns-else-i-ge1-clause-reads : goal.returns-else-i-ge1-clause-reads
+returns-else-i-ge1-clause-reads c =
     let (tag, place, sub, inside) = c.in_ok-place.ensures.some in
     past-element c.args.mem.now c.args.w c.in_ok-place.place c.args.i place (λ low. omega (arith, c.get-parts.ensures, c.else-i-ge1.either))
