@@ -105,7 +105,7 @@ words-boxed mem w arity low tag header small =
     let size : get_or mem (w / 4) 0 / 64 ≡ arity = omega arith in
     grind (arith, nat_tests)
 
-at-size : (c : ℕ → ℕ → Bool) (k p n m : ℕ) → m ≡ n → IsWhole c k p n → IsWhole c k p m
+pub at-size : (c : ℕ → ℕ → Bool) (k p n m : ℕ) → m ≡ n → IsWhole c k p n → IsWhole c k p m
 at-size c k p n m same o = let P : ℕ → Type 0 = λ x. IsWhole c k p x in subst P (sym same) o
 
 whole-boxed : (c : ℕ → ℕ → Bool) (mem : List ℕ) (w subtag arity : ℕ) → IsSingle c → subtag < 16 → IsBoxed c mem w subtag arity → IsWhole c 3 (w / 4) (object_words mem w)
@@ -138,16 +138,16 @@ whole c shared mem w Nil single s p = absurd (omega (arith, p))
 
 -- A word that stands is no header, and a boxed one leads to a header.
 
-no-header : (t : Tree) (w h : ℕ) → Told t w h → w % 4 ≡ 0 → ⊥
+pub no-header : (t : Tree) (w h : ℕ) → Told t w h → w % 4 ≡ 0 → ⊥
 no-header (Int i) w h s e = omega (arith, s)
 no-header _ w h s e = omega arith
 
-header-there : (t : Tree) (w h : ℕ) → Told t w h → w % 4 ≡ 2 → h % 4 ≡ 0
+pub header-there : (t : Tree) (w h : ℕ) → Told t w h → w % 4 ≡ 2 → h % 4 ≡ 0
 header-there (Int (pos i)) w h s e = omega (arith, s)
 header-there (Int (negsuc i)) w h s e = omega (arith, s)
 header-there _ w h s e = omega arith
 
-head-no-header : (c : ℕ → ℕ → Bool) (shared : List (List ℕ)) (mem : List ℕ) (w : ℕ) (t : Tree) → Stands c shared mem w t → w % 4 ≡ 1 → get_or mem (w / 4) 0 % 4 ≡ 0 → ⊥
+pub head-no-header : (c : ℕ → ℕ → Bool) (shared : List (List ℕ)) (mem : List ℕ) (w : ℕ) (t : Tree) → Stands c shared mem w t → w % 4 ≡ 1 → get_or mem (w / 4) 0 % 4 ≡ 0 → ⊥
 unfolding Stands
 head-no-header c shared mem w (Cons h t) (o, sh, st) tag e = no-header h (get_or mem (w / 4) 0) _ (told c shared mem (get_or mem (w / 4) 0) h sh) e
 head-no-header c shared mem w (Int i) s tag e = omega (arith, told c shared mem w (Int i) s)

@@ -3,6 +3,7 @@ pub mod Shapes
 pub mod Frames
 pub mod Rooms
 pub mod Apart
+pub mod Roles
 pub mod Single
 pub mod Sizes
 pub mod Growing

@@ -128,6 +128,11 @@ pub record IsFunRecord (c : ℕ → ℕ → Bool) (mem : List ℕ) (v name arity
   pub counted : c (v + 2) 2 ≡ true
   pub fourth : c (v + 3) 6 ≡ true
 
+-- A record of n words lies at place v: of the bytes of a binary, or of a fun.
+abbrev pub IsRecord : (ℕ → ℕ → Bool) → List ℕ → (v n : ℕ) → Type 0
+IsRecord c mem v n = ((serial : ℕ) × (bytes : List ℕ) × IsBinRecord c mem v serial bytes × (n ≡ 4 + bin_words (length bytes)))
+    ⊎ ((name arity : ℕ) × IsFunRecord c mem v name arity × (n ≡ 4))
+
 -- The word is a holder of a binary of len bytes. Its word 2, `next`, is free; word 3 names the record.
 pub record IsHolder (c : ℕ → ℕ → Bool) (mem : List ℕ) (w len : ℕ) : Type 0 where
   pub tag : w % 4 ≡ 2
