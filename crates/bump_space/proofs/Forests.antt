@@ -8,17 +8,14 @@ use Rattle.plain_term.specs.declared.item.Item.{Item}
 use Rattle.plain_term.specs.declared.item.Item.TheVariants.{Int, Atom, Pid, Nil, Cons, Tuple, Map, Bin, Byte, Held}
 use Rattle.plain_term.specs.Tree.{Trees, trees_len}
 use Rattle.plain_term.specs.Tree.Trees.{end, ◌▹◌}
-use Rattle.bump_space.specs.Forest.{before, Put, Forest, item_words, words_of, CanPut}
+use Rattle.plain_term.proofs.ListLemmas.{trees_len-append}
+use Rattle.bump_space.specs.Forest.{Put, Forest, item_words, words_of, CanPut}
 
 -- What follows an item is a forest too.
 pub rest-forest : (i : ℕ) (xs : List Item) (us : Trees) → Forest xs us → (ts : Trees) × Forest (drop i xs) ts
 rest-forest zero xs us f = (us, f)
 rest-forest (suc i) [] us f = (us, f)
 rest-forest (suc i) (x ∷ xs) us (ts, f, put) = rest-forest i xs ts f
-
-pub before-len : (ps rs : Trees) → trees_len (before ps rs) ≡ trees_len ps + trees_len rs
-before-len end rs = omega arith
-before-len (p ▹ ps) rs = omega (arith, before-len ps rs)
 
 -- An item adds a tree at most, and its words are bounded by what it takes off.
 pub put-len : (x : Item) (ts us : Trees) → Put x ts us → trees_len us ≤ trees_len ts + 1
@@ -27,7 +24,7 @@ put-len (Atom k) ts us (s, e) = omega (arith, ap trees_len e)
 put-len (Pid n) ts us (s, e) = omega (arith, ap trees_len e)
 put-len Nil ts us e = omega (arith, ap trees_len e)
 put-len Cons ts us (h, t, rest, a, e) = omega (arith, ap trees_len e, ap trees_len a)
-put-len (Tuple n) ts us (parts, rest, l, a, e) = omega (arith, ap trees_len e, ap trees_len a, before-len parts rest)
+put-len (Tuple n) ts us (parts, rest, l, a, e) = omega (arith, ap trees_len e, ap trees_len a, trees_len-append parts rest)
 put-len (Map n) ts us p = absurd p
 put-len (Bin n) ts us p = absurd p
 put-len (Byte b) ts us p = absurd p
@@ -39,7 +36,7 @@ put-words (Atom k) ts us (s, e) = omega (arith, ap trees_len e)
 put-words (Pid n) ts us (s, e) = omega (arith, ap trees_len e)
 put-words Nil ts us e = omega (arith, ap trees_len e)
 put-words Cons ts us (h, t, rest, a, e) = omega (arith, ap trees_len e, ap trees_len a)
-put-words (Tuple n) ts us (parts, rest, l, a, e) = omega (arith, ap trees_len e, ap trees_len a, before-len parts rest)
+put-words (Tuple n) ts us (parts, rest, l, a, e) = omega (arith, ap trees_len e, ap trees_len a, trees_len-append parts rest)
 put-words (Map n) ts us p = absurd p
 put-words (Bin n) ts us p = absurd p
 put-words (Byte b) ts us p = absurd p
@@ -69,7 +66,7 @@ put-can (Pid n) ts us sp len (s, e) within row some few = (s, omega arith, withi
 put-can Nil ts us sp len e within row some few = (omega arith, within)
 put-can Cons ts us sp len (h, t, rest, a, e) within row some few = omega (arith, ap trees_len a)
 put-can (Tuple n) ts us sp len (parts, rest, l, a, e) within row some few =
-    let both : trees_len ts ≡ n + trees_len rest = omega (arith, ap trees_len a, before-len parts rest) in
+    let both : trees_len ts ≡ n + trees_len rest = omega (arith, ap trees_len a, trees_len-append parts rest) in
     (omega arith, omega arith, omega arith)
 put-can (Map n) ts us sp len p within row some few = absurd p
 put-can (Bin n) ts us sp len p within row some few = absurd p

@@ -4,14 +4,14 @@ use Rattle.std.proofs.Math.Seq.{drop-cons}
 use Rattle.std.proofs.lemmas.List.Folds.{drop_split}
 use Rattle.std.proofs.lemmas.List.{length-drop}
 use Rattle.term_read.proofs.Makes.{all-length}
+use Rattle.term_read.proofs.Lists.{all-split}
 use Rattle.std.proofs.lemmas.Grind.{common_steps}
-use Rattle.plain_term.specs.Tree.{Tree, Trees, trees_len}
+use Rattle.plain_term.specs.Tree.{Tree, Trees, trees_len, trees_append}
 use Rattle.plain_term.specs.Tree.Tree.{Cons, Tuple}
 use Rattle.plain_term.specs.Tree.Trees.{end, ◌▹◌}
 use Rattle.term_read.specs.Stands.{Stands, AllStand}
 use Rattle.term_read.specs.Kept.{Keeps}
 use Rattle.term_read.proofs.Frames.{keep-all}
-use Rattle.bump_space.specs.Forest.{before}
 
 -- A word more stands for a tree more.
 pub all-more : (c : ℕ → ℕ → Bool) (shared : List (List ℕ)) (mem : List ℕ) (w : ℕ) (ws : List ℕ) (t : Tree) (ts : Trees) → Stands c shared mem w t → AllStand c shared mem ws ts → AllStand c shared mem (w ∷ ws) (t ▹ ts)
@@ -33,16 +33,6 @@ on-top c shared mem new rest r w t ts us row is s all =
     let P : List ℕ → Type 0 = λ x. AllStand c shared mem x us in
     let Q : Trees → Type 0 = λ x. AllStand c shared mem (w ∷ rest) x in
     subst P (sym row) (subst Q (sym is) (all-more c shared mem w rest t ts s all))
-
--- The words of two rows, by the trees of each.
-pub all-split : (c : ℕ → ℕ → Bool) (shared : List (List ℕ)) (mem xs ys : List ℕ) (ps rs : Trees) → length xs ≡ trees_len ps → AllStand c shared mem (xs ++ ys) (before ps rs) → AllStand c shared mem xs ps × AllStand c shared mem ys rs
-unfolding AllStand
-all-split c shared mem [] ys end rs e all = (tt, all)
-all-split c shared mem [] ys (p ▹ ps) rs e all = absurd (omega arith)
-all-split c shared mem (x ∷ xs) ys end rs e all = absurd (omega arith)
-all-split c shared mem (x ∷ xs) ys (p ▹ ps) rs e (first, others) =
-    let two = all-split c shared mem xs ys ps rs (omega arith) others in
-    ((first, two.0), two.1)
 
 -- The first two words and the rest.
 pub drop-two : (s : List ℕ) (i : ℕ) → i + 2 ≤ length s → drop i s ≡ get_or s i 0 ∷ get_or s (i + 1) 0 ∷ drop (i + 2) s
@@ -73,9 +63,9 @@ on-cons c d shared mem mem2 old new sp r w h t rest us k made fits row is all =
 pub on-tuple : (c d : ℕ → ℕ → Bool) (shared : List (List ℕ)) (mem mem2 old new : List ℕ) (sp n r w : ℕ) (parts rest us : Trees) → Keeps c d mem mem2
     → (AllStand c shared mem (slice_range old sp (sp + n)) parts → Stands d shared mem2 w (Tuple parts))
     → sp + n ≤ length old → trees_len parts ≡ n → drop r new ≡ w ∷ drop (sp + n) old → us ≡ Tuple parts ▹ rest
-    → AllStand c shared mem (drop sp old) (before parts rest) → AllStand d shared mem2 (drop r new) us
+    → AllStand c shared mem (drop sp old) (trees_append parts rest) → AllStand d shared mem2 (drop r new) us
 on-tuple c d shared mem mem2 old new sp n r w parts rest us k made fits count row is all =
-    let P : List ℕ → Type 0 = λ x. AllStand c shared mem x (before parts rest) in
+    let P : List ℕ → Type 0 = λ x. AllStand c shared mem x (trees_append parts rest) in
     let cut : drop sp old ≡ slice_range old sp (sp + n) ++ drop (sp + n) old = drop_split old sp (sp + n) (omega arith) in
     let len : length (slice_range old sp (sp + n)) ≡ trees_len parts = grind (arith, common_steps) in
     let two = all-split c shared mem (slice_range old sp (sp + n)) (drop (sp + n) old) parts rest len (subst P cut all) in

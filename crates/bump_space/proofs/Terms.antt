@@ -3,7 +3,7 @@ use Rattle.std.proofs.Common.{◌≡◌, ℕ, suc, ◌+◌, ◌-◌, ◌*◌, �
 use Rattle.std.proofs.lemmas.Bool.Decides.{nat_tests}
 use Rattle.plain_term.specs.declared.item.Item.{Item}
 use Rattle.plain_term.specs.declared.item.Item.TheVariants as item
-use Rattle.plain_term.specs.Tree.{Tree, Trees, trees_len}
+use Rattle.plain_term.specs.Tree.{Tree, Trees, trees_len, trees_append}
 use Rattle.plain_term.specs.Tree.{Tree as tree}
 use Rattle.plain_term.specs.Tree.{Trees as trees}
 use Rattle.plain_term.specs.Measures.{is_small, nodes, nodes_of_all, depth, greatest_depth}
@@ -14,7 +14,7 @@ use Rattle.plain_machine.specs.Grammar.{MayStand, AllMayStand, IsBuiltTerm, AreB
 use Rattle.plain_machine.specs.Names.{items_of, listed_items, all_items, tree_of, trees_of, list_tree}
 use Rattle.plain_machine.specs.Tightness.{build_words, build_words_of_all}
 use Rattle.space_api.specs.Calls.{IsNamedBelow}
-use Rattle.bump_space.specs.Forest.{before, Forest, words_of}
+use Rattle.bump_space.specs.Forest.{Forest, words_of}
 use Rattle.bump_space.specs.Print.{IsTail, IsPlain, ArePlain}
 
 -- A fact of each of a row, one after the other.
@@ -52,7 +52,7 @@ module _ (names : List (List ℕ)) (held : List Tree) (n : ℕ) where
     forest-term levels (Listed ts) shared b m a few rest us f = forest-listed (levels - 1) ts shared b m.1 a few rest us f
     forest-term levels (Barred ts t) shared b m a few rest us f = absurd b
     forest-term levels (Tuple ts) shared b m a few rest us f = (
-      before (trees_of names held ts shared).0 us,
+      trees_append (trees_of names held ts shared).0 us,
       forest-all (levels - 1) ts shared b m.1 a.1 few rest us f,
       ((trees_of names held ts shared).0, us, terms-trees ts shared, refl, refl),
     )
@@ -74,13 +74,13 @@ module _ (names : List (List ℕ)) (held : List Tree) (n : ℕ) where
         )
 
     pub forest-all : (levels : ℕ) (ts : Terms) (shared : List (List ℕ)) → AreBuiltTerms ts → AllMayStand levels ts → Each (IsNamedBelow n) (all_items names ts) → n ≤ 16384
-        → (rest : List Item) (us : Trees) → Forest rest us → Forest (all_items names ts ++ rest) (before (trees_of names held ts shared).0 us)
+        → (rest : List Item) (us : Trees) → Forest rest us → Forest (all_items names ts ++ rest) (trees_append (trees_of names held ts shared).0 us)
     forest-all levels end shared b m a few rest us f = f
     forest-all levels (t ▹ ts) shared b m a few rest us f =
         let two = all-both (IsNamedBelow n) (items_of names t) (all_items names ts) a in
         let more = forest-all levels ts ((tree_of names held t shared).1) b.1 m.1 two.1 few rest us f in
-        let all = forest-term levels t shared b.0 m.0 two.0 few (all_items names ts ++ rest) (before (trees_of names held ts ((tree_of names held t shared).1)).0 us) more in
-        let P : List Item → Type 0 = λ x. Forest x (trees.◌▹◌ (tree_of names held t shared).0 (before (trees_of names held ts ((tree_of names held t shared).1)).0 us)) in
+        let all = forest-term levels t shared b.0 m.0 two.0 few (all_items names ts ++ rest) (trees_append (trees_of names held ts ((tree_of names held t shared).1)).0 us) more in
+        let P : List Item → Type 0 = λ x. Forest x (trees.◌▹◌ (tree_of names held t shared).0 (trees_append (trees_of names held ts ((tree_of names held t shared).1)).0 us)) in
         subst P (sym (append_assoc (items_of names t) (all_items names ts) rest)) all
 
   -- The tree of a list of built terms ends properly.

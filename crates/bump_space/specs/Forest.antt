@@ -2,15 +2,10 @@
 use Rattle.std.specs.Prelude.{◌≡◌, ℕ, ◌+◌, ◌<◌, ◌≤◌, ◌^◌, true, List, [], ◌∷◌}
 use Rattle.plain_term.specs.declared.item.Item.{Item}
 use Rattle.plain_term.specs.declared.item.Item.TheVariants.{Int, Atom, Pid, Nil, Cons, Tuple}
-use Rattle.plain_term.specs.Tree.{Tree, Trees, trees_len}
+use Rattle.plain_term.specs.Tree.{Tree, Trees, trees_len, trees_append}
 use Rattle.plain_term.specs.Tree.{Tree as tree}
 use Rattle.plain_term.specs.Tree.Trees.{end, ◌▹◌}
 use Rattle.plain_term.specs.Measures.{is_small}
-
--- One list of trees before another.
-abbrev pub before : Trees → Trees → Trees
-before end ts = ts
-before (p ▹ ps) ts = p ▹ before ps ts
 
 -- An item put before trees: an immediate is one tree more; a list place and a tuple take their parts from the front.
 abbrev pub Put : Item → Trees → Trees → Type 0
@@ -19,7 +14,7 @@ Put (Atom k) ts us = (k < 16384) × (us ≡ tree.Atom k ▹ ts)
 Put (Pid n) ts us = (n < 2 ^ 41) × (us ≡ tree.Pid n ▹ ts)
 Put Nil ts us = us ≡ tree.Nil ▹ ts
 Put Cons ts us = (h t : Tree) × (rest : Trees) × (ts ≡ h ▹ t ▹ rest) × (us ≡ tree.Cons h t ▹ rest)
-Put (Tuple n) ts us = (parts rest : Trees) × (trees_len parts ≡ n) × (ts ≡ before parts rest) × (us ≡ tree.Tuple parts ▹ rest)
+Put (Tuple n) ts us = (parts rest : Trees) × (trees_len parts ≡ n) × (ts ≡ trees_append parts rest) × (us ≡ tree.Tuple parts ▹ rest)
 Put _ ts us = ⊥
 
 -- The items are those of the trees, in order.

@@ -1,4 +1,5 @@
 pub mod ViewLemmas
+pub mod ListLemmas
 pub mod SharedLemmas
 pub mod ApartLemmas
 pub mod OrderLemmas

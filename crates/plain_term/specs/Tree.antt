@@ -34,6 +34,11 @@ abbrev pub trees_len : Trees → ℕ
 trees_len end = 0
 trees_len (t ▹ ts) = trees_len ts + 1
 
+-- One list of trees after another.
+abbrev pub trees_append : Trees → Trees → Trees
+trees_append end us = us
+trees_append (t ▹ ts) us = t ▹ trees_append ts us
+
 -- How many pairs a list has.
 abbrev pub pairs_len : Pairs → ℕ
 pairs_len stop = 0

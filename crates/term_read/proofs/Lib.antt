@@ -2,6 +2,7 @@ pub mod Makes
 pub mod Shapes
 pub mod Frames
 pub mod Rooms
+pub mod Lists
 pub mod Apart
 pub mod Roles
 pub mod Single

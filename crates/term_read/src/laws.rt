@@ -1,6 +1,6 @@
 // What holds of all words that stand for trees: each law is the contract of a function that does nothing.
 ghost use Rattle.std.specs.Prelude.{◌≡◌, ℕ, Bool, true, List, ◌+◌, ◌/◌, ◌<◌, ◌≤◌, ◌⊎◌, ◌++◌, length, slice_index, slice_set};
-ghost use Rattle.plain_term.specs.Tree.{Tree, Trees};
+ghost use Rattle.plain_term.specs.Tree.{Tree, Trees, trees_append};
 ghost use Rattle.plain_term.specs.Measures.{flat};
 ghost use Rattle.term_read.specs.Role.{outside, Idle, IsSingle, OfObject, OfRecord};
 ghost use Rattle.term_read.specs.Object.{IsPointer, IsRecord, object_words};
@@ -63,6 +63,13 @@ pub fn flat_size_covers_objects()
 /// A word stands for its tree still when shared lists are added.
 pub fn more_lists_keep_trees()
     ensures { (c : ℕ → ℕ → Bool) (shared more : List (List ℕ)) (mem : List ℕ) (w : ℕ) (t : Tree) → Stands c shared mem w t → Stands c (shared ++ more) mem w t }
+{}
+
+/// Two lists of words stand for two lists of trees exactly where they stand for both side by side.
+pub fn lists_stand_side_by_side()
+    ensures joined { (c : ℕ → ℕ → Bool) (shared : List (List ℕ)) (mem xs ys : List ℕ) (ts us : Trees) → AllStand c shared mem xs ts → AllStand c shared mem ys us → AllStand c shared mem (xs ++ ys) (trees_append ts us) }
+    ensures split { (c : ℕ → ℕ → Bool) (shared : List (List ℕ)) (mem xs ys : List ℕ) (vs : Trees) → AllStand c shared mem (xs ++ ys) vs
+        → (ts us : Trees) × ((vs ≡ trees_append ts us) × (AllStand c shared mem xs ts × AllStand c shared mem ys us)) }
 {}
 
 /// What standing roots reach stands for trees.
