@@ -14,3 +14,5 @@ pub mod Pointers
 pub mod Binaries
 pub mod Sample
 pub mod Reached
+pub mod Carrying
+pub mod Tiles

@@ -18,7 +18,7 @@ use Rattle.term_read.proofs.Sizes.{flat-one, flat-two}
 use Rattle.term_read.proofs.Shapes.{row-at, all-at}
 
 -- The layout of a header is that of its subtag and its arity.
-layout-parts : (h arity subtag : ℕ) → subtag < 16 → h ≡ arity * 64 + subtag * 4 → layout_for h ≡ layout_at subtag arity
+pub layout-parts : (h arity subtag : ℕ) → subtag < 16 → h ≡ arity * 64 + subtag * 4 → layout_for h ≡ layout_at subtag arity
 layout-parts h arity subtag small e =
     let low : h % 4 ≡ 0 = omega arith in
     let tag : h / 4 % 16 ≡ subtag = omega arith in

@@ -64,6 +64,28 @@ object-role c shared mem w (Atom k) q s p from below = absurd (omega (arith, s.w
 object-role c shared mem w (Pid n) q s p from below = absurd (omega (arith, s.word, p))
 object-role c shared mem w Nil q s p from below = absurd (omega (arith, s, p))
 
+-- Its first word has the role of first words.
+
+first-int : (c : ℕ → ℕ → Bool) (mem : List ℕ) (w : ℕ) (i : ℤ) → IsInt c mem w i → IsPointer w → c (w / 4) 3 ≡ true
+first-int c mem w i (inl s) p = absurd (omega (arith, s.word, p))
+first-int c mem w i (inr (inl o)) p = o.boxed.object.first
+first-int c mem w i (inr (inr o)) p = o.boxed.object.first
+
+pub first-role : (c : ℕ → ℕ → Bool) (shared : List (List ℕ)) (mem : List ℕ) (w : ℕ) (t : Tree) → Stands c shared mem w t → IsPointer w → c (w / 4) 3 ≡ true
+unfolding Stands
+first-role c shared mem w (Int i) s p = first-int c mem w i s p
+first-role c shared mem w (Ref n k) s p = s.boxed.object.first
+first-role c shared mem w (Cons h t) (o, sh, st) p = o.object.first
+first-role c shared mem w (Tuple ts) (o, row) p = o.boxed.object.first
+first-role c shared mem w (Map ps) (o, ks, vs) p = o.boxed.object.first
+first-role c shared mem w (Bin bytes) o p = o.boxed.object.first
+first-role c shared mem w (Shared id) o p = o.holder.first
+first-role c shared mem w (Part base offset len) (o, is, sb) p = o.boxed.object.first
+first-role c shared mem w (Fun name arity creator env) (o, row) p = o.first
+first-role c shared mem w (Atom k) s p = absurd (omega (arith, s.word, p))
+first-role c shared mem w (Pid n) s p = absurd (omega (arith, s.word, p))
+first-role c shared mem w Nil s p = absurd (omega (arith, s, p))
+
 -- Each word of a record has a role of a record's word.
 
 at-record : (c : ℕ → ℕ → Bool) (q a k : ℕ) → OfRecord k → c a k ≡ true → q ≡ a → (r : ℕ) × (OfRecord r × (c q r ≡ true))
@@ -108,7 +130,7 @@ no-common c shared mem w v n t single s p r q from below low high =
 meet : (a n b m : ℕ) → (a + n ≤ b) ⊎ ((b + m ≤ a) ⊎ (((a ≤ b) × (b < a + n)) ⊎ ((b ≤ a) × (a < b + m))))
 meet a n b m = grind arith
 
-object-some : (mem : List ℕ) (w : ℕ) → 0 < object_words mem w
+pub object-some : (mem : List ℕ) (w : ℕ) → 0 < object_words mem w
 object-some mem w = grind (arith, nat_tests)
 
 record-some : (c : ℕ → ℕ → Bool) (mem : List ℕ) (v n : ℕ) → IsRecord c mem v n → 0 < n

@@ -5,3 +5,4 @@ pub mod Kept
 pub mod Parts
 pub mod Data
 pub mod Reach
+pub mod Tiled

@@ -1,17 +1,30 @@
 // What holds of all words that stand for trees: each law is the contract of a function that does nothing.
-ghost use Rattle.std.specs.Prelude.{◌≡◌, ℕ, Bool, true, List, ◌+◌, ◌/◌, ◌<◌, ◌≤◌, ◌⊎◌, ◌++◌, length, slice_index, slice_set};
+ghost use Rattle.std.specs.Prelude.{◌≡◌, ℕ, Bool, true, List, [], ◌∷◌, ◌+◌, ◌*◌, ◌/◌, ◌<◌, ◌≤◌, ◌⊎◌, ◌↔◌, ◌++◌, length, slice_index, slice_set};
 ghost use Rattle.plain_term.specs.Tree.{Tree, Trees, trees_append};
 ghost use Rattle.plain_term.specs.Measures.{flat};
 ghost use Rattle.term_read.specs.Role.{outside, Idle, IsSingle, OfObject, OfRecord};
 ghost use Rattle.term_read.specs.Object.{IsPointer, IsRecord, object_words};
 ghost use Rattle.term_read.specs.Stands.{Stands, AllStand};
 ghost use Rattle.term_read.specs.Reach.{Reach};
-ghost use Rattle.term_read.specs.Kept.{Kept, Keeps};
+ghost use Rattle.term_read.specs.Tiled.{Tiled};
+ghost use Rattle.term_read.specs.Kept.{Kept, Carried, Keeps};
 ghost use Rattle.term_read.specs.Parts.{Holds};
 
 /// What keeps the content of a memory, allows no less and makes it no shorter keeps every tree.
 pub fn kept_content_keeps_trees()
     ensures { (c d : ℕ → ℕ → Bool) (old new : List ℕ) → Kept c d old new → Keeps c d old new }
+{}
+
+/// What carries the words of objects keeps every tree, and kept content is carried.
+pub fn carried_objects_keep_trees()
+    ensures trees { (c d : ℕ → ℕ → Bool) (old new : List ℕ) → Carried c d old new → Keeps c d old new }
+    ensures kept { (c d : ℕ → ℕ → Bool) (old new : List ℕ) → Kept c d old new → Carried c d old new }
+{}
+
+/// What carries the words of objects keeps what standing roots reach: no less, and no more.
+pub fn carried_objects_keep_reach()
+    ensures { (c d : ℕ → ℕ → Bool) (shared : List (List ℕ)) (old new roots : List ℕ) (ts : Trees) (w : ℕ) → Carried c d old new → AllStand c shared old roots ts
+        → (Reach old roots w ↔ Reach new roots w) }
 {}
 
 /// A test that allows more keeps every tree.
@@ -75,4 +88,12 @@ pub fn lists_stand_side_by_side()
 /// What standing roots reach stands for trees.
 pub fn reached_words_stand()
     ensures { (c : ℕ → ℕ → Bool) (shared : List (List ℕ)) (mem roots : List ℕ) (ts : Trees) → AllStand c shared mem roots ts → (w : ℕ) → Reach mem roots w → (t : Tree) × Stands c shared mem w t }
+{}
+
+/// An object that stands, and a record, is a row of one tile; rows join; and a row is one still where its words are the same.
+pub fn tiles_lie_side_by_side()
+    ensures object { (c : ℕ → ℕ → Bool) (shared : List (List ℕ)) (mem : List ℕ) (w : ℕ) (t : Tree) → Stands c shared mem w t → IsPointer w → Tiled mem (w / 4) (w ∷ []) (w / 4 + object_words mem w) }
+    ensures of_record { (c : ℕ → ℕ → Bool) (mem : List ℕ) (v n : ℕ) → IsRecord c mem v n → Tiled mem v (v * 4 ∷ []) (v + n) }
+    ensures joined { (mem : List ℕ) (a b e : ℕ) (xs ys : List ℕ) → Tiled mem a xs b → Tiled mem b ys e → Tiled mem a (xs ++ ys) e }
+    ensures same { (old new : List ℕ) (a b : ℕ) (ws : List ℕ) → ((q : ℕ) → a ≤ q → q < b → slice_index new q ≡ slice_index old q) → Tiled old a ws b → Tiled new a ws b }
 {}
