@@ -1,17 +1,9 @@
 -- The rows of the table of layouts, by the header's word: one law for each kind of object.
-use Rattle.std.proofs.Common.{◌≡◌, ℕ, ◌+◌, ◌-◌, ◌*◌, ◌%◌, ◌/◌, ◌<◌, ◌≤◌, Option, Some, arith, refl, lit<, ◌∙◌}
+use Rattle.std.proofs.Common.{◌≡◌, ℕ, ◌+◌, ◌-◌, ◌%◌, ◌/◌, ◌<◌, ◌≤◌, ◌⊎◌, ◌==◌, Bool, true, false, if◌then◌else◌, Option, None, arith, refl, lit<, ◌∙◌, inl, inr}
 use Rattle.std.proofs.lemmas.Bool.Decides.{nat_tests}
 use Rattle.term_tags.specs.declared.layouts.Layout.{Layout}
 use Rattle.term_tags.specs.declared.layouts.TheConstants.{TUPLE, POS_BIG, NEG_BIG, REF, FUN, HOLDER, HEAP_BIN, SUB_BIN, MAP}
-use Rattle.term_tags.specs.Table.{row_layout, layout_at, layout_for}
-
--- the word of a header
-abbrev pub head_word : (subtag arity : ℕ) → ℕ
-head_word subtag arity = arity * 64 + subtag * 4
-
--- a layout by its three numbers
-abbrev pub shape : (words first count : ℕ) → Option Layout
-shape words first count = Some (record { words = words; first = first; count = count })
+use Rattle.term_tags.specs.Table.{row_layout, layout_at, layout_for, head_word, shape, IsRow}
 
 by_parts : (h s n : ℕ) → h % 4 ≡ 0 → h / 4 % 16 ≡ s → h / 64 ≡ n → layout_for h ≡ layout_at s n
 by_parts h s n tag sub arity = rw (tag, sub, arity) refl
@@ -66,3 +58,37 @@ layout_map n h =
     let e : row_layout (n + 2) 2 34 2 ≡ shape (1 + (n + 2)) 2 (n + 1) = within (n + 2) 2 34 2 (n + 1) (omega arith) (omega arith) (omega arith) in
     let size : 1 + (n + 2) ≡ 3 + n = omega arith in
     layout_for-head_word MAP (n + 2) (lit< tt) ∙ e ∙ rw size refl
+
+-- every other word is the header of no object
+
+chosen : (b : Bool) (x y : Option Layout) → (b ≡ true → x ≡ None) → (b ≡ false → y ≡ None) → (if b then x else y) ≡ None
+chosen true x y first rest = first refl
+chosen false x y first rest = rest refl
+
+is_same : (s k : ℕ) → (s == k) ≡ true → s ≡ k
+is_same s k e = grind (arith, nat_tests)
+
+past : (n least most first : ℕ) → (n < least) ⊎ (most < n) → row_layout n least most first ≡ None
+past n least most first apart = grind (arith, nat_tests, apart)
+
+out : (n least most first : ℕ) → (least ≤ n → n ≤ most → ⊥) → row_layout n least most first ≡ None
+out n least most first never =
+    let which : ((n < least) ⊎ (most < n)) ⊎ ((least ≤ n) × (n ≤ most)) = grind arith in
+    elim which [ inl apart ↦ past n least most first apart | inr (low, high) ↦ absurd (never low high) ]
+
+no_row : (s n : ℕ) → (IsRow s n → ⊥) → layout_at s n ≡ None
+no_row s n never =
+    chosen (s == TUPLE) _ _ (λ e. out n 0 65536 1 (λ low high. never (inl (is_same s TUPLE e, low, high)))) (λ other.
+    chosen (s == POS_BIG) _ _ (λ e. out n 1 2 (1 + n) (λ low high. never (inr (inl (is_same s POS_BIG e, low, high))))) (λ other.
+    chosen (s == NEG_BIG) _ _ (λ e. out n 1 2 (1 + n) (λ low high. never (inr (inr (inl (is_same s NEG_BIG e, low, high)))))) (λ other.
+    chosen (s == REF) _ _ (λ e. out n 2 2 3 (λ low high. never (inr (inr (inr (inl (is_same s REF e, low, high))))))) (λ other.
+    chosen (s == FUN) _ _ (λ e. out n 5 69 6 (λ low high. never (inr (inr (inr (inr (inl (is_same s FUN e, low, high)))))))) (λ other.
+    chosen (s == HOLDER) _ _ (λ e. out n 5 5 6 (λ low high. never (inr (inr (inr (inr (inr (inl (is_same s HOLDER e, low, high))))))))) (λ other.
+    chosen (s == HEAP_BIN) _ _ (λ e. out n 1 9 (1 + n) (λ low high. never (inr (inr (inr (inr (inr (inr (inl (is_same s HEAP_BIN e, low, high)))))))))) (λ other.
+    chosen (s == SUB_BIN) _ _ (λ e. out n 4 4 4 (λ low high. never (inr (inr (inr (inr (inr (inr (inr (inl (is_same s SUB_BIN e, low, high))))))))))) (λ other.
+    chosen (s == MAP) _ _ (λ e. out n 2 34 2 (λ low high. never (inr (inr (inr (inr (inr (inr (inr (inr (is_same s MAP e, low, high))))))))))) (λ other. refl)))))))))
+
+pub layout_none : (h : ℕ) → ((s n : ℕ) → IsRow s n → h ≡ head_word s n → ⊥) → layout_for h ≡ None
+layout_none h never = chosen (h % 4 == 0) _ _
+    (λ e. let low : h % 4 ≡ 0 = is_same (h % 4) 0 e in no_row (h / 4 % 16) (h / 64) (λ row. never (h / 4 % 16) (h / 64) row (omega arith)))
+    (λ other. refl)

@@ -1,5 +1,5 @@
 -- The table of layouts: every object is its header and as many words as its arity says.
-use Rattle.std.specs.Prelude.{ℕ, ◌+◌, ◌-◌, ◌/◌, ◌%◌, ◌==◌, ◌&&◌, nat_le, if◌then◌else◌, Option, Some, None}
+use Rattle.std.specs.Prelude.{◌≡◌, ℕ, ◌+◌, ◌-◌, ◌*◌, ◌/◌, ◌%◌, ◌≤◌, ◌⊎◌, ◌==◌, ◌&&◌, nat_le, if◌then◌else◌, Option, Some, None}
 use Rattle.term_tags.specs.declared.layouts.Layout.{Layout}
 use Rattle.term_tags.specs.declared.layouts.TheConstants.{TUPLE, POS_BIG, NEG_BIG, REF, FUN, HOLDER, HEAP_BIN, SUB_BIN, MAP}
 
@@ -26,3 +26,20 @@ layout_at subtag arity =
 -- the layout of a header; a word that does not end in 00 is none
 abbrev pub layout_for : ℕ → Option Layout
 layout_for header = if header % 4 == 0 then layout_at (header / 4 % 16) (header / 64) else None
+
+-- the word of a header
+abbrev pub head_word : (subtag arity : ℕ) → ℕ
+head_word subtag arity = arity * 64 + subtag * 4
+
+-- a layout by its three numbers
+abbrev pub shape : (words first count : ℕ) → Option Layout
+shape words first count = Some (record { words = words; first = first; count = count })
+
+-- the subtag is this one, and the arity lies between these bounds
+abbrev pub IsIn : (row least most : ℕ) → (subtag arity : ℕ) → Type 0
+IsIn row least most subtag arity = (subtag ≡ row) × (least ≤ arity) × (arity ≤ most)
+
+-- the subtag and the arity are those of an object
+abbrev pub IsRow : (subtag arity : ℕ) → Type 0
+IsRow s n = IsIn TUPLE 0 65536 s n ⊎ (IsIn POS_BIG 1 2 s n ⊎ (IsIn NEG_BIG 1 2 s n ⊎ (IsIn REF 2 2 s n
+    ⊎ (IsIn FUN 5 69 s n ⊎ (IsIn HOLDER 5 5 s n ⊎ (IsIn HEAP_BIN 1 9 s n ⊎ (IsIn SUB_BIN 4 4 s n ⊎ IsIn MAP 2 34 s n)))))))

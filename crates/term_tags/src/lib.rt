@@ -2,12 +2,14 @@
 #![tactic(auto)]
 
 mod kinds;
+mod laws;
 mod layouts;
 mod makers;
 #[cfg(test)]
 mod tests;
 
 pub use kinds::{Kind, kind_of};
+pub use laws::table_of_layouts;
 pub use layouts::{
     FUN, HEAP_BIN, HOLDER, Layout, MAP, NEG_BIG, POS_BIG, REF, SUB_BIN, TUPLE, layout_of,
 };
