@@ -252,6 +252,3 @@ keep-all c d old new k shared [] end all = tt
 keep-all c d old new k shared [] (t ▹ ts) all = absurd all
 keep-all c d old new k shared (w ∷ ws) end all = absurd all
 keep-all c d old new k shared (w ∷ ws) (t ▹ ts) (first, rest) = (k.each shared w t first, keep-all c d old new k shared ws ts rest)
-
-pub keeps-then : (c d e : ℕ → ℕ → Bool) (x y z : List ℕ) → Keeps c d x y → Keeps d e y z → Keeps c e x z
-keeps-then c d e x y z k l = record { each = λ shared w t s. l.each shared w t (k.each shared w t s) }

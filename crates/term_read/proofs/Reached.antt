@@ -1,5 +1,5 @@
 -- What standing roots reach stands.
-use Rattle.std.proofs.Common.{◌≡◌, ℕ, ◌+◌, ◌-◌, ◌*◌, ◌/◌, ◌%◌, ◌<◌, ◌≤◌, Bool, true, false, List, length, get_or, refl, sym, ◌∙◌, ap, subst, arith, inl, inr, ℤ, pos, negsuc, Option, if◌then◌else◌, ◌==◌, nat_le}
+use Rattle.std.proofs.Common.{◌≡◌, ℕ, zero, suc, ◌+◌, ◌-◌, ◌*◌, ◌/◌, ◌%◌, ◌<◌, ◌≤◌, Bool, true, false, List, length, get_or, refl, sym, ◌∙◌, ap, subst, arith, inl, inr, ℤ, pos, negsuc, Option, if◌then◌else◌, ◌==◌, nat_le}
 use Rattle.std.proofs.lemmas.Bool.Decides.{nat_tests}
 use Rattle.plain_term.specs.Measures.{bin_words, int_flat, flat, flat_of_all, flat_of_pairs}
 use Rattle.plain_term.specs.Tree.{Tree, Trees, Pairs, trees_len, pairs_len, keys_of, values_of}
@@ -10,12 +10,12 @@ use Rattle.term_tags.specs.Table.{layout_for, layout_at, row_layout}
 use Rattle.term_tags.specs.declared.layouts.Layout.{Layout}
 use Rattle.term_read.specs.Object.{IsTuple, IsInt, IsPointer, object_words}
 use Rattle.term_read.specs.Stands.{Stands, RowStands, AllStand}
-use Rattle.term_read.specs.Parts.{tree_at}
 use Rattle.term_read.specs.Reach.{first_of, first_traced, parts_of, Reach, root, part}
+use Rattle.term_read.proofs.Makes.{all-length}
 use Rattle.term_read.proofs.Apart.{words-pair, words-boxed}
 use Rattle.term_read.proofs.Reading.{keys-row, values-row, keys-len, values-len}
 use Rattle.term_read.proofs.Sizes.{flat-one, flat-two}
-use Rattle.term_read.proofs.Shapes.{row-at, all-at}
+use Rattle.term_read.proofs.Shapes.{row-at, all-at, tree_at}
 
 -- The layout of a header is that of its subtag and its arity.
 pub layout-parts : (h arity subtag : ℕ) → subtag < 16 → h ≡ arity * 64 + subtag * 4 → layout_for h ≡ layout_at subtag arity
@@ -135,19 +135,40 @@ scanned c shared mem w (Atom n) s p = absurd (omega (arith, p))
 scanned c shared mem w (Pid n) s p = absurd (omega (arith, p))
 scanned c shared mem w Nil s p = absurd (omega (arith, p))
 
--- A traced word stands.
+-- A tree of a list has at most the flat words of the list.
+flat-at : (ts : Trees) (i : ℕ) → i < trees_len ts → flat (tree_at ts i) ≤ flat_of_all ts
+flat-at end i below = absurd (omega arith)
+flat-at (t ▹ ts) zero below = omega arith
+flat-at (t ▹ ts) (suc i) below = omega (arith, flat-at ts i (omega arith))
+
+-- A traced word stands, for a tree within what is left of the flat words.
 part-stands : (c : ℕ → ℕ → Bool) (shared : List (List ℕ)) (mem : List ℕ) (w : ℕ) (t : Tree) (k : ℕ) → Stands c shared mem w t → IsPointer w → first_traced mem w ≤ k → k < object_words mem w
-    → (u : Tree) × Stands c shared mem (get_or mem (w / 4 + k) 0) u
+    → (u : Tree) × (Stands c shared mem (get_or mem (w / 4 + k) 0) u × (flat u ≤ flat t))
 part-stands c shared mem w t k s p from below =
     let scan : IsScanned c shared mem w t = scanned c shared mem w t s p in
     let P : ℕ → Type 0 = λ x. Stands c shared mem (get_or mem x 0) (tree_at (parts_of t) (k - first_traced mem w)) in
     let there : w / 4 + first_traced mem w + (k - first_traced mem w) ≡ w / 4 + k = omega arith in
-    (tree_at (parts_of t) (k - first_traced mem w), subst P there (row-at c shared mem (w / 4 + first_traced mem w) (parts_of t) (k - first_traced mem w) scan.row (omega (arith, scan.ends))))
+    let among : k - first_traced mem w < trees_len (parts_of t) = omega (arith, scan.ends) in (
+      tree_at (parts_of t) (k - first_traced mem w),
+      (subst P there (row-at c shared mem (w / 4 + first_traced mem w) (parts_of t) (k - first_traced mem w) scan.row among), omega (arith, scan.left, flat-at (parts_of t) (k - first_traced mem w) among)),
+    )
 
--- Whatever standing roots reach stands for a tree.
+-- What standing roots reach stands, for a tree within the flat words of theirs.
+within : (c : ℕ → ℕ → Bool) (shared : List (List ℕ)) (mem roots : List ℕ) (ts : Trees) → AllStand c shared mem roots ts → (w : ℕ) → Reach mem roots w → (u : Tree) × (Stands c shared mem w u × (flat u ≤ flat_of_all ts))
+within c shared mem roots ts all w (root i x below e) =
+    let P : ℕ → Type 0 = λ x. Stands c shared mem x (tree_at ts i) in
+    (tree_at ts i, (subst P (sym e) (all-at c shared mem roots ts i all below), flat-at ts i (omega (arith, all-length c shared mem roots ts all))))
+within c shared mem roots ts all w (part v k x r p from below e) =
+    let (t, (s, small)) = within c shared mem roots ts all v r in
+    let (u, (q, less)) = part-stands c shared mem v t k s p from below in
+    let P : ℕ → Type 0 = λ x. Stands c shared mem x u in
+    (u, (subst P (sym e) q, omega (arith, small, less)))
+
 pub reached : (c : ℕ → ℕ → Bool) (shared : List (List ℕ)) (mem roots : List ℕ) (ts : Trees) → AllStand c shared mem roots ts → (w : ℕ) → Reach mem roots w → (u : Tree) × Stands c shared mem w u
-reached c shared mem roots ts all w (root i x below e) = (tree_at ts i, (let P : ℕ → Type 0 = λ x. Stands c shared mem x (tree_at ts i) in subst P (sym e) (all-at c shared mem roots ts i all below)))
-reached c shared mem roots ts all w (part v k x r p from below e) =
-    let (t, s) = reached c shared mem roots ts all v r in
-    let (u, q) = part-stands c shared mem v t k s p from below in
-    (u, (let P : ℕ → Type 0 = λ x. Stands c shared mem x u in subst P (sym e) q))
+reached c shared mem roots ts all w r = let (u, (s, small)) = within c shared mem roots ts all w r in (u, s)
+
+-- Each object that standing roots reach has at most the flat words of their trees.
+pub reached-words : (c : ℕ → ℕ → Bool) (shared : List (List ℕ)) (mem roots : List ℕ) (ts : Trees) (w : ℕ) → AllStand c shared mem roots ts → Reach mem roots w → IsPointer w → object_words mem w ≤ flat_of_all ts
+reached-words c shared mem roots ts w all r p =
+    let (u, (s, small)) = within c shared mem roots ts all w r in
+    omega (arith, small, (scanned c shared mem w u s p).left)

@@ -4,21 +4,15 @@ use Rattle.std.proofs.lemmas.Bool.Decides.{nat_tests}
 use Rattle.std.proofs.lemmas.List.{length-set, get_or-set_other}
 use Rattle.plain_term.specs.Tree.{Tree}
 use Rattle.term_read.specs.Role.{always, outside, Idle, IsSingle, roles_of}
-use Rattle.term_read.specs.Object.{IsObject}
 use Rattle.term_read.specs.Stands.{Stands, IsTerm}
 use Rattle.term_read.specs.Kept.{Kept, Keeps}
 use Rattle.term_read.proofs.Frames.{frame}
-use Rattle.term_read.proofs.Makes.{stands-atom, stands-pid, stands-nil, stands-small, stands-cons, stands-tuple, row-of-all}
 
 -- Which places lie outside a room.
 
 pub outside-low : (top limit a k : ℕ) → a < top → outside top limit a k ≡ true
 unfolding outside
 outside-low top limit a k h = grind (arith, nat_tests)
-
-pub outside-high : (top limit a k : ℕ) → limit ≤ a → outside top limit a k ≡ true
-unfolding outside
-outside-high top limit a k h = grind (arith, nat_tests)
 
 pub outside-tells : (top limit a k : ℕ) → outside top limit a k ≡ true → (a < top) ⊎ (limit ≤ a)
 unfolding outside
@@ -38,14 +32,6 @@ room-kept top more limit old new longer up below same =
       same = λ a k content h. same a (elim (outside-tells top limit a k h) [ inl low ↦ inl low | inr high ↦ inr (omega arith) ]);
     } in
     frame (outside top limit) (outside more limit) old new kept
-
--- An object that lies below the new top is outside the room.
-pub object-below : (top limit : ℕ) (mem : List ℕ) (p n : ℕ) → p + n ≤ length mem → p + n ≤ top → 0 < n → IsObject (outside top limit) mem p n
-object-below top limit mem p n within below some = record {
-  within = within;
-  first = outside-low top limit p 3 (omega arith);
-  others = λ q above last. outside-low top limit q 4 (omega arith);
-}
 
 -- A weaker test keeps every tree.
 pub weaken : (c d : ℕ → ℕ → Bool) (mem : List ℕ) → ((a k : ℕ) → c a k ≡ true → d a k ≡ true) → Keeps c d mem mem
@@ -69,10 +55,6 @@ write-keeps c mem a v idle =
     } in
     frame c c mem (set mem a v) kept
 
--- A free place of a room has no content.
-pub free-idle : (top limit a : ℕ) → top ≤ a → a < limit → Idle (outside top limit) a
-free-idle top limit a from below = λ k content h. elim (outside-tells top limit a k h) [ inl low ↦ omega arith | inr high ↦ omega arith ]
-
 -- Each place has one role.
 
 pub role-at : (r : ℕ → ℕ) (a k : ℕ) → roles_of r a k ≡ true → r a ≡ k
@@ -85,6 +67,3 @@ at-role r a k some h = grind (arith, nat_tests)
 
 pub roles-single : (r : ℕ → ℕ) → IsSingle (roles_of r)
 roles-single r = record { one = λ a j k h l. sym (role-at r a j h) ∙ role-at r a k l }
-
--- What a search for a word that stands for a tree goes by.
-pub ruleset making = (stands-atom, stands-pid, stands-nil, stands-small, stands-cons, stands-tuple, row-of-all, outside-low, is-term)

@@ -6,7 +6,6 @@ use Rattle.plain_term.specs.Tree.Tree.{Int, Atom, Pid, Ref, Nil, Cons, Tuple, Ma
 use Rattle.plain_term.specs.Tree.Trees.{end, ◌▹◌}
 use Rattle.term_read.specs.Object.{IsPair, IsAtom, IsPid, IsInt, IsRef, IsTuple, IsMap, IsHeapBin, IsFun, IsShared, IsSub, sign_tag}
 use Rattle.term_read.specs.Stands.{Stands, RowStands, KeysStand, ValuesStand, AllStand, IsBase}
-use Rattle.term_read.specs.Parts.{tree_at}
 
 module _ (c : ℕ → ℕ → Bool) (shared : List (List ℕ)) (mem : List ℕ) (w : ℕ) where
   -- What stands for a tree of a known kind.
@@ -181,10 +180,11 @@ pub row-first : (c : ℕ → ℕ → Bool) (shared : List (List ℕ)) (mem : Lis
 unfolding RowStands
 row-first c shared mem p t ts row = row
 
-pub all-first : (c : ℕ → ℕ → Bool) (shared : List (List ℕ)) (mem : List ℕ) (w : ℕ) (ws : List ℕ) (t : Tree) (ts : Trees) → AllStand c shared mem (w ∷ ws) (t ▹ ts)
-    → Stands c shared mem w t × AllStand c shared mem ws ts
-unfolding AllStand
-all-first c shared mem w ws t ts all = all
+-- Tree i of a list, from 0; nil past its end.
+abbrev pub tree_at : Trees → ℕ → Tree
+tree_at end i = Nil
+tree_at (t ▹ ts) zero = t
+tree_at (t ▹ ts) (suc i) = tree_at ts i
 
 pub row-at : (c : ℕ → ℕ → Bool) (shared : List (List ℕ)) (mem : List ℕ) (p : ℕ) (ts : Trees) (i : ℕ) → RowStands c shared mem p ts → i < trees_len ts
     → Stands c shared mem (get_or mem (p + i) 0) (tree_at ts i)

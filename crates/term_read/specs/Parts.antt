@@ -1,48 +1,11 @@
--- The words that a standing tree is made of, and what the readers answer of a tree.
-use Rattle.std.specs.Prelude.{◌≡◌, ℕ, zero, suc, ◌+◌, ◌/◌, ◌⊎◌, Bool, List, length, slice_index, slice_get, Option, Some, None, option_map, option_and_then}
+-- What the readers answer of a tree.
+use Rattle.std.specs.Prelude.{◌≡◌, ℕ, zero, suc, ◌+◌, Bool, List, length, slice_get, Option, Some, None, option_map, option_and_then}
 use Rattle.plain_term.specs.Bytes.{bytes_of}
 use Rattle.plain_term.specs.Tree.{Tree, Trees, Pairs, pairs_len, keys_of, values_of}
 use Rattle.plain_term.specs.Tree.Tree.{Int, Atom, Pid, Ref, Nil, Cons, Tuple, Map, Bin, Shared, Part, Fun}
 use Rattle.plain_term.specs.Tree.Trees.{end, ◌▹◌}
 use Rattle.plain_term.specs.Tree.Pairs.{stop, pair}
 use Rattle.term_read.specs.Stands.{Stands}
-
--- Tree i of a list, from 0; nil past its end.
-abbrev pub tree_at : Trees → ℕ → Tree
-tree_at end i = Nil
-tree_at (t ▹ ts) zero = t
-tree_at (t ▹ ts) (suc i) = tree_at ts i
-
-unfoldable mutual
-  -- The word v is the word w of the tree, or lies in one of its objects as a traced word, at any depth.
-  pub Holds : List ℕ → ℕ → Tree → ℕ → Type 0
-  Holds mem w (Cons h t) v = (v ≡ w) ⊎ (Holds mem (slice_index mem (w / 4)) h v ⊎ Holds mem (slice_index mem (w / 4 + 1)) t v)
-  Holds mem w (Tuple ts) v = (v ≡ w) ⊎ RowHolds mem (w / 4 + 1) ts v
-  Holds mem w (Map ps) v = (v ≡ w) ⊎ ((v ≡ slice_index mem (w / 4 + 2)) ⊎ (KeysHold mem (slice_index mem (w / 4 + 2) / 4 + 1) ps v ⊎ ValuesHold mem (w / 4 + 3) ps v))
-  Holds mem w (Part base offset len) v = (v ≡ w) ⊎ Holds mem (slice_index mem (w / 4 + 4)) base v
-  Holds mem w (Fun name arity creator env) v = (v ≡ w) ⊎ RowHolds mem (w / 4 + 6) env v
-  Holds mem w (Int i) v = v ≡ w
-  Holds mem w (Atom k) v = v ≡ w
-  Holds mem w (Pid n) v = v ≡ w
-  Holds mem w (Ref n k) v = v ≡ w
-  Holds mem w Nil v = v ≡ w
-  Holds mem w (Bin bytes) v = v ≡ w
-  Holds mem w (Shared id) v = v ≡ w
-
-  -- The word is in one of the trees that the words from place p on stand for.
-  pub RowHolds : List ℕ → ℕ → Trees → ℕ → Type 0
-  RowHolds mem p end v = ⊥
-  RowHolds mem p (t ▹ ts) v = Holds mem (slice_index mem p) t v ⊎ RowHolds mem (p + 1) ts v
-
-  -- The word is in one of the keys.
-  pub KeysHold : List ℕ → ℕ → Pairs → ℕ → Type 0
-  KeysHold mem p stop v = ⊥
-  KeysHold mem p (pair x y ps) v = Holds mem (slice_index mem p) x v ⊎ KeysHold mem (p + 1) ps v
-
-  -- The word is in one of the values.
-  pub ValuesHold : List ℕ → ℕ → Pairs → ℕ → Type 0
-  ValuesHold mem p stop v = ⊥
-  ValuesHold mem p (pair x y ps) v = Holds mem (slice_index mem p) y v ⊎ ValuesHold mem (p + 1) ps v
 
 -- Tree i of a list, from 0.
 abbrev pub part_at : Trees → ℕ → Option Tree

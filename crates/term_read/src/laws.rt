@@ -1,14 +1,13 @@
 // What holds of all words that stand for trees: each law is the contract of a function that does nothing.
 ghost use Rattle.std.specs.Prelude.{◌≡◌, ℕ, Bool, true, List, [], ◌∷◌, ◌+◌, ◌*◌, ◌/◌, ◌<◌, ◌≤◌, ◌⊎◌, ◌↔◌, ◌++◌, length, slice_index, slice_set};
 ghost use Rattle.plain_term.specs.Tree.{Tree, Trees, trees_append};
-ghost use Rattle.plain_term.specs.Measures.{flat};
-ghost use Rattle.term_read.specs.Role.{outside, Idle, IsSingle, OfObject, OfRecord};
+ghost use Rattle.plain_term.specs.Measures.{flat_of_all};
+ghost use Rattle.term_read.specs.Role.{outside, roles_of, Idle, IsSingle, OfObject, OfRecord};
 ghost use Rattle.term_read.specs.Object.{IsPointer, IsRecord, object_words};
 ghost use Rattle.term_read.specs.Stands.{Stands, AllStand};
 ghost use Rattle.term_read.specs.Reach.{Reach};
 ghost use Rattle.term_read.specs.Tiled.{Tiled};
 ghost use Rattle.term_read.specs.Kept.{Kept, Carried, Keeps};
-ghost use Rattle.term_read.specs.Parts.{Holds};
 
 /// What keeps the content of a memory, allows no less and makes it no shorter keeps every tree.
 pub fn kept_content_keeps_trees()
@@ -43,6 +42,13 @@ pub fn rooms_keep_what_is_clear()
         → ((q : ℕ) → (q < top) ⊎ (more ≤ q) → slice_index new q ≡ slice_index old q) → Keeps (outside top limit) (outside more limit) old new }
 {}
 
+/// A test by a map of roles allows the one role of a place, and no other.
+pub fn maps_of_roles_are_single()
+    ensures allows { (r : ℕ → ℕ) (a k : ℕ) → 0 < k → r a ≡ k → roles_of r a k ≡ true }
+    ensures tells { (r : ℕ → ℕ) (a k : ℕ) → roles_of r a k ≡ true → r a ≡ k }
+    ensures single { (r : ℕ → ℕ) → IsSingle (roles_of r) }
+{}
+
 /// Two objects that stand, where each place has one role at most, are one or have no word in common.
 pub fn objects_are_one_or_apart()
     ensures { (c : ℕ → ℕ → Bool) (shared : List (List ℕ)) (mem : List ℕ) (w v : ℕ) (t u : Tree) → IsSingle c → Stands c shared mem w t → Stands c shared mem v u → IsPointer w → IsPointer v
@@ -68,9 +74,9 @@ pub fn words_stand_for_one_tree()
     ensures { (c d : ℕ → ℕ → Bool) (shared other : List (List ℕ)) (mem : List ℕ) (w : ℕ) (t u : Tree) → Stands c shared mem w t → Stands d other mem w u → t ≡ u }
 {}
 
-/// The flat size of a tree is at least the words of each object in it.
+/// Each object that standing roots reach has at most the flat words of their trees.
 pub fn flat_size_covers_objects()
-    ensures { (c : ℕ → ℕ → Bool) (shared : List (List ℕ)) (mem : List ℕ) (v : ℕ) → IsPointer v → (w : ℕ) (t : Tree) → Stands c shared mem w t → Holds mem w t v → object_words mem v ≤ flat t }
+    ensures { (c : ℕ → ℕ → Bool) (shared : List (List ℕ)) (mem roots : List ℕ) (ts : Trees) (w : ℕ) → AllStand c shared mem roots ts → Reach mem roots w → IsPointer w → object_words mem w ≤ flat_of_all ts }
 {}
 
 /// A word stands for its tree still when shared lists are added.
