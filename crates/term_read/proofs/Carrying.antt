@@ -1,7 +1,7 @@
 -- What carries the objects of standing roots keeps what these reach.
-use Rattle.std.proofs.Common.{◌≡◌, ℕ, ◌+◌, ◌/◌, ◌%◌, ◌<◌, ◌≤◌, ◌⊎◌, Bool, true, List, length, get_or, sym, ◌∙◌, ap, subst, arith, inl, inr, ◌==◌, if◌then◌else◌}
+use Rattle.std.proofs.Common.{◌≡◌, ℕ, ◌+◌, ◌/◌, ◌%◌, ◌<◌, ◌≤◌, ◌⊎◌, Bool, true, List, get_or, sym, ◌∙◌, ap, subst, arith, inl, inr, ◌==◌, if◌then◌else◌}
 use Rattle.plain_term.specs.Tree.{Tree, Trees}
-use Rattle.plain_term.specs.Tree.Tree.{Int, Atom, Pid, Ref, Nil, Cons, Tuple, Map, Bin, Shared, Part, Fun}
+use Rattle.plain_term.specs.Tree.Tree.{Cons, Tuple, Map, Part, Fun}
 use Rattle.term_tags.specs.Table.{layout_for}
 use Rattle.term_read.specs.Object.{IsObject, IsPointer, object_words}
 use Rattle.term_read.specs.Stands.{Stands, AllStand}

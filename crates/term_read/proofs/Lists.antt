@@ -1,8 +1,8 @@
 -- Words that stand side by side.
-use Rattle.std.proofs.Common.{◌≡◌, ℕ, ◌+◌, Bool, List, [], ◌∷◌, ◌++◌, length, refl, ap, arith}
-use Rattle.plain_term.specs.Tree.{Tree, Trees, trees_len, trees_append}
+use Rattle.std.proofs.Common.{◌≡◌, ℕ, Bool, List, [], ◌∷◌, ◌++◌, length, refl, ap, arith}
+use Rattle.plain_term.specs.Tree.{Trees, trees_len, trees_append}
 use Rattle.plain_term.specs.Tree.Trees.{end, ◌▹◌}
-use Rattle.term_read.specs.Stands.{Stands, AllStand}
+use Rattle.term_read.specs.Stands.{AllStand}
 
 module _ (c : ℕ → ℕ → Bool) (shared : List (List ℕ)) (mem : List ℕ) where
   -- The words of two rows, one after the other.

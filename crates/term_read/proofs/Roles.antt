@@ -1,11 +1,11 @@
 -- The words of a standing object have roles of an object's words, those of a record roles of a record's; so these are apart.
-use Rattle.std.proofs.Common.{◌≡◌, ℕ, ◌+◌, ◌*◌, ◌/◌, ◌%◌, ◌<◌, ◌≤◌, ◌⊎◌, Bool, true, List, length, refl, sym, subst, arith, inl, inr, ℤ, pos, negsuc}
+use Rattle.std.proofs.Common.{◌≡◌, ℕ, ◌+◌, ◌*◌, ◌/◌, ◌<◌, ◌≤◌, ◌⊎◌, Bool, true, List, length, refl, sym, subst, arith, inl, inr, ℤ, pos, negsuc}
 use Rattle.std.proofs.lemmas.Bool.Decides.{nat_tests}
 use Rattle.plain_term.specs.Tree.{Tree, trees_len, pairs_len}
 use Rattle.plain_term.specs.Tree.Tree.{Int, Atom, Pid, Ref, Nil, Cons, Tuple, Map, Bin, Shared, Part, Fun}
 use Rattle.plain_term.specs.Measures.{bin_words}
 use Rattle.term_read.specs.Role.{IsSingle, OfObject, OfRecord}
-use Rattle.term_read.specs.Object.{IsObject, IsBoxed, IsInt, IsBinRecord, IsFunRecord, IsRecord, IsPointer, object_words}
+use Rattle.term_read.specs.Object.{IsObject, IsBoxed, IsInt, IsRecord, IsPointer, object_words}
 use Rattle.term_read.specs.Stands.{Stands}
 use Rattle.term_read.proofs.Apart.{IsWhole, whole-apart, whole-bin, whole-fun_record, at-size, words-pair, words-boxed}
 

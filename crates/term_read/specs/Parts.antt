@@ -1,10 +1,9 @@
 -- What the readers answer of a tree.
-use Rattle.std.specs.Prelude.{◌≡◌, ℕ, zero, suc, ◌+◌, Bool, List, length, slice_get, Option, Some, None, option_map, option_and_then}
+use Rattle.std.specs.Prelude.{◌≡◌, ℕ, zero, suc, Bool, List, length, slice_get, Option, Some, None, option_map, option_and_then}
 use Rattle.plain_term.specs.Bytes.{bytes_of}
-use Rattle.plain_term.specs.Tree.{Tree, Trees, Pairs, pairs_len, keys_of, values_of}
-use Rattle.plain_term.specs.Tree.Tree.{Int, Atom, Pid, Ref, Nil, Cons, Tuple, Map, Bin, Shared, Part, Fun}
+use Rattle.plain_term.specs.Tree.{Tree, Trees, pairs_len, keys_of, values_of}
+use Rattle.plain_term.specs.Tree.Tree.{Cons, Tuple, Map, Bin, Shared, Part, Fun}
 use Rattle.plain_term.specs.Tree.Trees.{end, ◌▹◌}
-use Rattle.plain_term.specs.Tree.Pairs.{stop, pair}
 use Rattle.term_read.specs.Stands.{Stands}
 
 -- Tree i of a list, from 0.
