@@ -7,7 +7,6 @@ use Rattle.bump_space.proofs.Rows.{all-from}
 use Rattle.plain_term.specs.declared.item.Item.{Item}
 use Rattle.plain_term.specs.declared.item.Item.TheVariants.{Int, Atom, Pid, Nil, Cons, Tuple, Map, Bin, Byte, Held}
 use Rattle.plain_term.specs.Tree.{Trees, trees_len}
-use Rattle.plain_term.specs.Tree.Trees.{end, ◌▹◌}
 use Rattle.plain_term.proofs.ListLemmas.{trees_len-append}
 use Rattle.bump_space.specs.Forest.{Put, Forest, item_words, words_of, CanPut}
 
