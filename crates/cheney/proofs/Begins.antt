@@ -119,7 +119,7 @@ image-beside p m n top w x y o r i = image-later p m n w x (beside-grows p (grou
 pub image-kept : (p : Plan) (m n : List ℕ) (w x : ℕ) → Later p m n → Reached p w → IsImage p m w x → IsImage p n w x
 image-kept p m n w x later r i = image-later p m n w x (record { gone = later.gone; same = later.same }) r i
 
-done : (mv : Moving) (b : Bool) → scanned_at (at_objects mv.aged.top mv.young.top) b ≡ top_of mv b
+pub done : (mv : Moving) (b : Bool) → scanned_at (at_objects mv.aged.top mv.young.top) b ≡ top_of mv b
 done mv true = refl
 done mv false = refl
 

@@ -237,7 +237,7 @@ unfolding Distinct
 both-distinct [] zs d e n = e
 both-distinct (a ∷ xs) zs (f, d) e n = ((λ i. elim (in-both a xs zs i) [ inl z ↦ f z | inr z ↦ n a (inl refl) z ]), both-distinct xs zs d e (λ v i j. n v (inr i) j))
 
-both-total : (p : Plan) (xs zs : List ℕ) → total p (xs ++ zs) ≡ total p xs + total p zs
+pub both-total : (p : Plan) (xs zs : List ℕ) → total p (xs ++ zs) ≡ total p xs + total p zs
 both-total p [] zs = omega arith
 both-total p (a ∷ xs) zs = omega (arith, both-total p xs zs)
 

@@ -1,12 +1,13 @@
 -- Where all is scanned: what the collection has done.
-use Rattle.std.proofs.Common.{◌≡◌, ℕ, ◌+◌, ◌-◌, ◌/◌, ◌%◌, ◌<◌, ◌≤◌, ◌⊎◌, ◌==◌, Bool, true, false, List, [], ◌∷◌, length, get_or, refl, sym, ◌∙◌, ap, subst, arith, inl, inr}
+use Rattle.std.proofs.Common.{◌≡◌, ℕ, ◌+◌, ◌-◌, ◌/◌, ◌%◌, ◌<◌, ◌≤◌, ◌⊎◌, ◌==◌, if◌then◌else◌, nat_lt, Bool, true, false, List, [], ◌∷◌, length, suc, get_or, refl, sym, ◌∙◌, ap, subst, arith, inl, inr}
 use Rattle.std.proofs.lemmas.Bool.Decides.{nat_tests}
 use Rattle.plain_term.specs.Measures.{flat_of_all}
-use Rattle.plain_term.specs.Tree.{Tree}
+use Rattle.plain_term.specs.Tree.{Tree, Trees}
+use Rattle.plain_term.specs.Tree.Trees.{end, ◌▹◌}
 use Rattle.term_read.specs.Object.{IsPointer, object_words}
 use Rattle.term_read.specs.Reach.{Reach, root, part, first_traced}
 use Rattle.term_read.specs.Role.{always}
-use Rattle.term_read.specs.Stands.{Stands}
+use Rattle.term_read.specs.Stands.{Stands, AllStand}
 use Rattle.cheney.specs.Plan.{Plan, Ready, Reached, Leaves, In, total, size, first}
 use Rattle.cheney.specs.Moved.{moved, forward, IsImage}
 use Rattle.cheney.specs.Zones.{Marks, IsCopy, Row, IsRow, Gone, Invariant, scanned_at}
@@ -17,23 +18,30 @@ use Rattle.cheney.proofs.Ground.{Ground}
 use Rattle.cheney.proofs.Homes.{Home, Settled, settled}
 use Rattle.cheney.proofs.Writing.{at-copy}
 
+-- Where the word at a place of a row stood before it was copied.
+pub old_place : Plan → ℕ → List ℕ → ℕ → ℕ
+old_place p place [] q = q
+old_place p place (v ∷ vs) q = if nat_lt q (place + size p v) then v / 4 + (q - place) else old_place p (place + size p v) vs q
+
 -- A place of a row lies in one of its copies.
-pub record Covers (p : Plan) (m : List ℕ) (b : Bool) (vs : List ℕ) (q : ℕ) : Type 0 where
+pub record Covers (p : Plan) (m : List ℕ) (b : Bool) (place : ℕ) (vs : List ℕ) (q : ℕ) : Type 0 where
   pub v : ℕ
   pub from : ℕ
   pub listed : In v vs
   pub copy : IsCopy p m b v from
   pub above : from ≤ q
   pub below : q < from + size p v
+  pub old : old_place p place vs q ≡ v / 4 + (q - from)
 
-covers : (p : Plan) (m : List ℕ) (b : Bool) (place : ℕ) (vs : List ℕ) (top q : ℕ) → Row p m b place vs top → place ≤ q → q < top → Covers p m b vs q
+pub covers : (p : Plan) (m : List ℕ) (b : Bool) (place : ℕ) (vs : List ℕ) (top q : ℕ) → Row p m b place vs top → place ≤ q → q < top → Covers p m b place vs q
+unfolding old_place
 covers p m b place [] top q row low high = absurd (omega (arith, row))
 covers p m b place (v ∷ vs) top q (c, row) low high =
     let cut : (q < place + size p v) ⊎ (place + size p v ≤ q) = grind arith in
     elim cut [
-      | inl z ↦ record { v = v; from = place; listed = inl refl; copy = c; above = low; below = z }
-      | inr z ↦ (let o : Covers p m b vs q = covers p m b (place + size p v) vs top q row z high in
-          record { v = o.v; from = o.from; listed = inr o.listed; copy = o.copy; above = o.above; below = o.below })
+      | inl z ↦ record { v = v; from = place; listed = inl refl; copy = c; above = low; below = z; old = (let e : nat_lt q (place + size p v) ≡ true = grind (arith, nat_tests) in rw e refl) }
+      | inr z ↦ (let o : Covers p m b (place + size p v) vs q = covers p m b (place + size p v) vs top q row z high in
+          record { v = o.v; from = o.from; listed = inr o.listed; copy = o.copy; above = o.above; below = o.below; old = (let e : nat_lt q (place + size p v) ≡ false = grind (arith, nat_tests) in rw e o.old) })
     ]
 
 -- The words of a row are those of its objects.
@@ -108,7 +116,7 @@ module _ (p : Plan) (y : Ready p) (g : Ground p) (m : List ℕ) (top : Bool → 
             let Q : Bool → Type 0 = λ z. forward m v / 4 + size p v ≤ top z in
             let low : p.low b ≤ forward m v / 4 = subst P goes c.from in
             let high : forward m v / 4 + size p v ≤ top b = subst Q goes c.below in
-            let at : Covers p m b o.each (forward m v / 4) = covers p m b (p.low b) o.each (top b) (forward m v / 4) o.row low (omega arith) in
+            let at : Covers p m b (p.low b) o.each (forward m v / 4) = covers p m b (p.low b) o.each (top b) (forward m v / 4) o.row low (omega arith) in
             let same : (v ≡ at.v) × (forward m v / 4 ≡ at.from + 0) = at-copy p m top k i b at.v at.from at.copy v 0 (forward m v / 4) r l (complete v r l) goes (omega arith) some at.above at.below in
             let R : ℕ → Type 0 = λ z. In z o.each in
             subst R (sym same.0) at.listed;
@@ -170,6 +178,21 @@ module _ (p : Plan) (y : Ready p) (g : Ground p) (m : List ℕ) (top : Bool → 
         row-total p m false (p.low false) b.each (top false) b.row,
       )
 
+  -- The new roots stand, each as its image, whatever the list of roots is.
+  all-images : (d : ℕ → ℕ → Bool) → Follows p m d → (vs ws : List ℕ) (ts : Trees) → ((j : ℕ) → j < length vs → Reached p (get_or vs j 0)) → length ws ≡ length vs
+      → ((j : ℕ) → j < length vs → IsImage p m (get_or vs j 0) (get_or ws j 0)) → AllStand p.test p.shared p.start vs ts → AllStand d p.shared m ws ts
+  unfolding AllStand
+  all-images d f [] [] end r n each all = tt
+  all-images d f [] [] (t ▹ ts) r n each all = all
+  all-images d f [] (w ∷ ws) ts r n each all = absurd (omega (arith, n))
+  all-images d f (v ∷ vs) [] ts r n each all = absurd (omega (arith, n))
+  all-images d f (v ∷ vs) (w ∷ ws) end r n each all = absurd all
+  all-images d f (v ∷ vs) (w ∷ ws) (t ▹ ts) r n each (s, all) =
+      (stands-on d f v w t (r 0 (omega arith)) (each 0 (omega arith)) s, all-images d f vs ws ts (λ j less. r (suc j) (omega arith)) (omega (arith, n)) (λ j less. each (suc j) (omega arith)) all)
+
+  roots-stand : (d : ℕ → ℕ → Bool) → Follows p m d → (ws : List ℕ) → AreImages p m ws → AllStand d p.shared m ws p.trees
+  roots-stand d f ws a = all-images d f p.roots ws p.trees (λ j less. root j (get_or p.roots j 0) less refl) a.count a.each y.standing
+
   pub collected : Collected p m top
   collected = record {
     same_len = i.same_len;
@@ -177,8 +200,10 @@ module _ (p : Plan) (y : Ready p) (g : Ground p) (m : List ℕ) (top : Bool → 
     copies = λ v r l. copied v r l (complete v r l);
     one_to_one = one-or-apart;
     filled = is-filled;
+    ends = i.ends;
     words = words-copied;
     trees = stands-on;
+    roots = roots-stand;
     standing = stands-on always any-place;
     still = i.still;
     tails = i.tails;
@@ -225,7 +250,7 @@ module _ (p : Plan) (y : Ready p) (g : Ground p) (m : List ℕ) (top : Bool → 
         | inr z ↦ (h.mapped 0 (x / 4) z (size-some p v (inr tag)) (omega arith)).kept (λ l. omega (arith, low, l.pointer)) ∙ there
       ]
 
-  shape-image : (v x : ℕ) → Reached p v → IsPointer v → IsImage p m v x → (object_words m x ≡ size p v) × (first_traced m x ≡ first p v)
+  pub shape-image : (v x : ℕ) → Reached p v → IsPointer v → IsImage p m v x → (object_words m x ≡ size p v) × (first_traced m x ≡ first p v)
   shape-image v x r (inl tag) im =
       let h : Home p m always v x = home always any-place v x r (inl tag) im in
       let t : x % 4 ≡ 1 = h.tag ∙ tag in
@@ -238,7 +263,7 @@ module _ (p : Plan) (y : Ready p) (g : Ground p) (m : List ℕ) (top : Bool → 
       let e : get_or m (x / 4) 0 ≡ get_or p.start (v / 4) 0 = header-image v x r tag h in
       ((rw (one, e) (sym (size-boxed p v tag))), (rw (one, e) (sym (first-boxed p v tag))))
 
-  fresh : (ws : List ℕ) → AreImages p m ws → (x : ℕ) → Reach m ws x → (v : ℕ) × (Reached p v × IsImage p m v x)
+  pub fresh : (ws : List ℕ) → AreImages p m ws → (x : ℕ) → Reach m ws x → (v : ℕ) × (Reached p v × IsImage p m v x)
   fresh ws a x (root j z below e) =
       let less : j < length p.roots = omega (arith, a.count) in
       let P : ℕ → Type 0 = λ q. IsImage p m (get_or p.roots j 0) q in

@@ -13,3 +13,4 @@ pub mod Begins
 pub mod Roots
 pub mod Sample
 pub mod Fitting
+pub mod Next

@@ -4,7 +4,7 @@ use Rattle.plain_term.specs.Tree.{Tree}
 use Rattle.plain_term.specs.Measures.{flat_of_all}
 use Rattle.term_read.specs.Object.{IsPointer}
 use Rattle.term_read.specs.Reach.{Reach}
-use Rattle.term_read.specs.Stands.{Stands, stands}
+use Rattle.term_read.specs.Stands.{Stands, stands, AllStand}
 use Rattle.cheney.specs.declared.moving.Moving.{Moving}
 use Rattle.cheney.specs.Rooms.{Agrees}
 use Rattle.cheney.specs.Plan.{Plan, Ready, Reached, Leaves, IsIn, In, size, first}
@@ -33,6 +33,15 @@ pub record Follows (p : Plan) (m : List ℕ) (d : ℕ → ℕ → Bool) : Type 0
   pub counts : (a : ℕ) → p.test a 2 ≡ true → d a 2 ≡ true
   pub records : (a k : ℕ) → 6 ≤ k → p.test a k ≡ true → d a k ≡ true
 
+-- Each root was moved, where it points to what moves.
+pub record RootsMoved (p : Plan) (m : List ℕ) : Type 0 where
+  pub each : (j : ℕ) → j < length p.roots → Leaves p (slice_index p.roots j) → moved m (slice_index p.roots j) ≡ true
+
+-- The words are what the roots have become, in order.
+pub record AreImages (p : Plan) (m : List ℕ) (ws : List ℕ) : Type 0 where
+  pub count : length ws ≡ length p.roots
+  pub each : (j : ℕ) → j < length p.roots → IsImage p m (slice_index p.roots j) (slice_index ws j)
+
 -- The whole collection. The forwarding words are a map, one to one, that is defined on exactly the objects outside `stay`
 -- that the roots reach; the objects of `mature` lie in the aged room, all others in the young one, each once and whole;
 -- what each word has become stands for the tree that it stood for; and what stays, the records, and all words of a moved
@@ -44,22 +53,15 @@ pub record Collected (p : Plan) (m : List ℕ) (top : Bool → ℕ) : Type 0 whe
   pub one_to_one : (v w : ℕ) → Reached p v → Leaves p v → Reached p w → Leaves p w
       → (v ≡ w) ⊎ ((forward m v / 4 + size p v ≤ forward m w / 4) ⊎ (forward m w / 4 + size p w ≤ forward m v / 4))
   pub filled : (b : Bool) → IsFilled p m b (top b)
+  pub ends : (b : Bool) → top b ≤ p.high b
   pub words : (top true - p.low true) + (top false - p.low false) ≤ flat_of_all p.trees
   pub trees : (d : ℕ → ℕ → Bool) → Follows p m d → (w x : ℕ) (t : Tree) → Reached p w → IsImage p m w x → Stands p.test p.shared p.start w t → Stands d p.shared m x t
+  pub roots : (d : ℕ → ℕ → Bool) → Follows p m d → (ws : List ℕ) → AreImages p m ws → AllStand d p.shared m ws p.trees
   pub standing : (w x : ℕ) (t : Tree) → Reached p w → IsImage p m w x → Stands p.test p.shared p.start w t → stands p.shared m x t
   pub still : (v q : ℕ) → Reached p v → IsPointer v → p.stay (v / 4) ≡ true → IsIn p v q → slice_index m q ≡ slice_index p.start q
   pub tails : (v q : ℕ) → Reached p v → Leaves p v → v % 4 ≡ 2 → IsIn p v q → v / 4 < q → slice_index m q ≡ slice_index p.start q
   pub records : (a k : ℕ) → 6 ≤ k → p.test a k ≡ true → slice_index m a ≡ slice_index p.start a
   pub touched : (a k : ℕ) → p.test a k ≡ true → (slice_index m a ≡ slice_index p.start a) ⊎ IsShown p m a
-
--- Each root was moved, where it points to what moves.
-pub record RootsMoved (p : Plan) (m : List ℕ) : Type 0 where
-  pub each : (j : ℕ) → j < length p.roots → Leaves p (slice_index p.roots j) → moved m (slice_index p.roots j) ≡ true
-
--- The words are what the roots have become, in order.
-pub record AreImages (p : Plan) (m : List ℕ) (ws : List ℕ) : Type 0 where
-  pub count : length ws ≡ length p.roots
-  pub each : (j : ℕ) → j < length p.roots → IsImage p m (slice_index p.roots j) (slice_index ws j)
 
 -- What the new roots reach is exactly what the words that the roots reached have become: another collection may follow.
 pub record Composes (p : Plan) (m : List ℕ) : Type 0 where

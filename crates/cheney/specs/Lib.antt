@@ -6,3 +6,4 @@ pub mod Zones
 pub mod Rooms
 pub mod Calls
 pub mod Collected
+pub mod Next

@@ -9,6 +9,7 @@ ghost use Rattle.cheney.specs.Zones.{Marks, at_objects};
 ghost use Rattle.cheney.specs.Rooms.{Agrees, Runs, top_of};
 ghost use Rattle.cheney.specs.Calls.{Later};
 ghost use Rattle.cheney.specs.Collected.{Collected, Composes, IsBeside, RootsMoved};
+ghost use Rattle.cheney.specs.Next.{GoesOn, HasRoles, Remains};
 
 /// A room holds the objects that go there where it has as many free words as the range that they lie in, whatever they
 /// share.
@@ -46,4 +47,16 @@ pub fn collected_law()
 /// Collections compose: what the new roots reach are exactly the copies, and what stays.
 pub fn compose_law()
     ensures { (p : Plan) (mem : List ℕ) (mv : Moving) → Runs p mem mv (at_objects mv.aged.top mv.young.top) → RootsMoved p mem → Composes p mem }
+{}
+
+/// The new memory has one role a place, so that a later collection can say where its objects lie.
+pub fn roles_law()
+    ensures { (p : Plan) (m : List ℕ) (top : Bool → ℕ) (s : ℕ → ℕ → Bool) → Ready p → Collected p m top → Remains p s → HasRoles p m s }
+{}
+
+/// A collection can follow another, as between two halves: what it moves lies in the rooms that the first one filled.
+pub fn again_law()
+    ensures ready { (p q : Plan) (m : List ℕ) (mv : Moving) (s : ℕ → ℕ → Bool) → Runs p m mv (at_objects mv.aged.top mv.young.top) → RootsMoved p m → (r : HasRoles p m s) → GoesOn p q m (top_of mv) s r → Ready q }
+    ensures lies { (p q : Plan) (m : List ℕ) (mv : Moving) (s : ℕ → ℕ → Bool) → Runs p m mv (at_objects mv.aged.top mv.young.top) → RootsMoved p m → (r : HasRoles p m s) → GoesOn p q m (top_of mv) s r
+        → (v : ℕ) → Reached q v → Leaves q v → (b : Bool) × ((p.low b ≤ v / 4) × (v / 4 + size q v ≤ top_of mv b)) }
 {}

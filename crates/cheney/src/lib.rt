@@ -9,7 +9,10 @@ mod stay;
 #[cfg(test)]
 mod tests;
 
-pub use laws::{begin_law, beside_law, collected_law, compose_law, fits_law, later_law, write_law};
+pub use laws::{
+    again_law, begin_law, beside_law, collected_law, compose_law, fits_law, later_law, roles_law,
+    write_law,
+};
 pub use moving::Moving;
 pub use objects::evacuate;
 pub use parts::scan;

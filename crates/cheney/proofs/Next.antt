@@ -1,0 +1,282 @@
+-- The roles of the new memory's words, and a collection that begins where one has ended.
+use Rattle.std.proofs.Common.{◌≡◌, ℕ, ◌+◌, ◌-◌, ◌/◌, ◌<◌, ◌≤◌, ◌⊎◌, Bool, true, false, List, [], ◌∷◌, ◌++◌, length, get_or, refl, sym, ◌∙◌, ap, subst, arith, inl, inr, if◌then◌else◌, nat_le, nat_lt, ◌&&◌, ◌||◌}
+use Rattle.std.proofs.lemmas.Bool.Decides.{nat_tests}
+use Rattle.plain_term.specs.Tree.{Trees}
+use Rattle.term_read.specs.Object.{IsPointer, object_words}
+use Rattle.term_read.specs.Reach.{Reach, first_traced}
+use Rattle.term_read.specs.Role.{IsSingle}
+use Rattle.term_read.specs.Stands.{AllStand}
+use Rattle.cheney.specs.declared.moving.Moving.{Moving}
+use Rattle.cheney.specs.Plan.{Plan, Ready, Reached, Leaves, IsIn, In, Fits, total, size, first}
+use Rattle.cheney.specs.Moved.{forward, IsImage}
+use Rattle.cheney.specs.Zones.{Row, at_objects}
+use Rattle.cheney.specs.Rooms.{Runs, top_of}
+use Rattle.cheney.specs.Collected.{Collected, Follows, IsMoved, RootsMoved}
+use Rattle.cheney.specs.Next.{GoesOn, HasRoles, IsCarried, Remains, used}
+use Rattle.cheney.proofs.Basics.{true-or-false, not-both, leaves-or-not, size-some}
+use Rattle.cheney.proofs.Begins.{done}
+use Rattle.cheney.proofs.Counts.{both-total}
+use Rattle.cheney.proofs.Ends.{Covers, covers, old_place, row-total, fresh, shape-image}
+use Rattle.cheney.proofs.Ground.{ground}
+
+both-true : (a b : Bool) → (a && b) ≡ true → (a ≡ true) × (b ≡ true)
+both-true true b h = (refl, h)
+both-true false b h = absurd (cc)
+
+first-or : (a b c : Bool) → b ≡ true → (a || (b || c)) ≡ true
+first-or true b c h = refl
+first-or false b c h = rw h refl
+
+last-or : (a b : Bool) → (a || (b || true)) ≡ true
+last-or true b = refl
+last-or false true = refl
+last-or false false = refl
+
+by-neither : (x t a b c : Bool) → a ≡ false → b ≡ false → x ≡ t → x ≡ true → (a || (b || c)) ≡ true → (t ≡ true) × (c ≡ true)
+by-neither x t a b true e f same h i = (sym same ∙ h, refl)
+by-neither x t true b false e f same h i = absurd (not-both true refl e)
+by-neither x t false true false e f same h i = absurd (not-both true refl f)
+by-neither x t false false false e f same h i = absurd (not-both false i refl)
+
+-- The place is in use in the room.
+in_use : Plan → (Bool → ℕ) → Bool → ℕ → Bool
+in_use p top b a = nat_le (p.low b) a && nat_lt a (top b)
+
+in-use : (p : Plan) (top : Bool → ℕ) (b : Bool) (a : ℕ) → p.low b ≤ a → a < top b → in_use p top b a ≡ true
+unfolding in_use
+in-use p top b a low high = grind (arith, nat_tests)
+
+use-is : (p : Plan) (top : Bool → ℕ) (b : Bool) (a : ℕ) → in_use p top b a ≡ true → (p.low b ≤ a) × (a < top b)
+unfolding in_use
+use-is p top b a h = (grind (arith, nat_tests), grind (arith, nat_tests))
+
+not-use : (p : Plan) (top : Bool → ℕ) (b : Bool) (a : ℕ) → (a < p.low b) ⊎ (top b ≤ a) → in_use p top b a ≡ false
+unfolding in_use
+not-use p top b a h = grind (arith, nat_tests)
+
+-- Where the word at a place of the new memory stood before.
+origin : Plan → (Bool → ℕ) → (Bool → List ℕ) → ℕ → ℕ
+origin p top each a =
+    if in_use p top true a then old_place p (p.low true) (each true) a else (if in_use p top false a then old_place p (p.low false) (each false) a else a)
+
+-- The role of that word, and for a word that did not move only what s keeps.
+new_test : Plan → (Bool → ℕ) → (Bool → List ℕ) → (ℕ → ℕ → Bool) → ℕ → ℕ → Bool
+new_test p top each s a k = p.test (origin p top each a) k && (in_use p top true a || (in_use p top false a || s a k))
+
+module _ (p : Plan) (y : Ready p) (m : List ℕ) (top : Bool → ℕ) (o : Collected p m top) where
+  origin-in : (b : Bool) (a : ℕ) → p.low b ≤ a → a < top b → origin p top (λ c. (o.filled c).each) a ≡ old_place p (p.low b) (o.filled b).each a
+  unfolding origin
+  origin-in true a low high = rw (in-use p top true a low high) refl
+  origin-in false a low high =
+      let out : (a < p.low true) ⊎ (top true ≤ a) = elim y.rooms [ inl r ↦ inr (omega (arith, r, o.ends true)) | inr r ↦ inl (omega (arith, r, o.ends false)) ] in
+      rw (not-use p top true a out, in-use p top false a low high) refl
+
+  origin-out : (a : ℕ) → ((b : Bool) → (a < p.low b) ⊎ (p.high b ≤ a)) → origin p top (λ c. (o.filled c).each) a ≡ a
+  unfolding origin
+  origin-out a out =
+      let no : (b : Bool) → (in_use p top b a ≡ false) = λ b. not-use p top b a (elim (out b) [ inl l ↦ inl l | inr l ↦ inr (omega (arith, l, o.ends b)) ]) in
+      rw (no true, no false) refl
+
+  -- A word of a copy stood in the object that was copied there.
+  origin-copy : (v j q : ℕ) → Reached p v → Leaves p v → j < size p v → q ≡ forward m v / 4 + j → origin p top (λ c. (o.filled c).each) q ≡ v / 4 + j
+  origin-copy v j q r l less e =
+      let b : Bool = p.mature (v / 4) in
+      let c : IsMoved p m top v (forward m v) = o.copies v r l in
+      let at : Covers p m (p.mature (v / 4)) (p.low (p.mature (v / 4))) (o.filled (p.mature (v / 4))).each q =
+      covers p m (p.mature (v / 4)) (p.low (p.mature (v / 4))) (o.filled (p.mature (v / 4))).each (top (p.mature (v / 4))) q (o.filled (p.mature (v / 4))).row (omega (arith, c.from, e)) (omega (arith, c.below, e, less)) in
+      let home : forward m at.v / 4 ≡ at.from = omega (arith, at.copy.word, at.copy.leaves.pointer) in
+      origin-in (p.mature (v / 4)) q (omega (arith, c.from, e)) (omega (arith, c.below, e, less)) ∙ at.old ∙ (elim (o.one_to_one v at.v r l at.copy.reached at.copy.leaves) [
+        | inl same ↦ (let f : forward m v / 4 ≡ at.from = ap (λ z. forward m z / 4) same ∙ home in omega (arith, ap (λ z. z / 4) same, f, e))
+        | inr (inl a) ↦ absurd (omega (arith, a, home, at.above, e, less))
+        | inr (inr a) ↦ absurd (omega (arith, a, home, at.below, e))
+      ])
+
+  module _ (s : ℕ → ℕ → Bool) where
+    moved-role : (v j q k : ℕ) → Reached p v → Leaves p v → j < size p v → q ≡ forward m v / 4 + j → p.test (v / 4 + j) k ≡ true → new_test p top (λ c. (o.filled c).each) s q k ≡ true
+    unfolding new_test
+    moved-role v j q k r l less e h =
+        let c : IsMoved p m top v (forward m v) = o.copies v r l in
+        let here : in_use p top (p.mature (v / 4)) q ≡ true = in-use p top (p.mature (v / 4)) q (omega (arith, c.from, e)) (omega (arith, c.below, e, less)) in
+        let some : (b : Bool) → in_use p top b q ≡ true → (in_use p top true q || (in_use p top false q || s q k)) ≡ true = λ b.
+        elim b as (λ d. in_use p top d q ≡ true → (in_use p top true q || (in_use p top false q || s q k)) ≡ true) [
+          | true ↦ λ u. rw u refl
+          | false ↦ λ u. first-or (in_use p top true q) (in_use p top false q) (s q k) u
+        ] in
+        rw (origin-copy v j q r l less e, h) (some (p.mature (v / 4)) here)
+
+    kept-role : (a k : ℕ) → p.test a k ≡ true → s a k ≡ true → new_test p top (λ c. (o.filled c).each) s a k ≡ true
+    unfolding new_test
+    kept-role a k h i = rw (origin-out a (λ b. y.clear a k b h), h, i) (last-or (in_use p top true a) (in_use p top false a))
+
+    -- A role in use in a room came with a copy.
+    from-copy : (a k : ℕ) (b : Bool) → p.low b ≤ a → a < top b → p.test (origin p top (λ c. (o.filled c).each) a) k ≡ true → IsCarried p m a k
+    from-copy a k b low high h =
+        let at : Covers p m b (p.low b) (o.filled b).each a = covers p m b (p.low b) (o.filled b).each (top b) a (o.filled b).row low high in
+        let P : ℕ → Type 0 = λ x. p.test x k ≡ true in
+        record {
+          v = at.v;
+          j = a - at.from;
+          reached = at.copy.reached;
+          leaves = at.copy.leaves;
+          below = omega (arith, at.above, at.below);
+          place = omega (arith, at.above, at.copy.word, at.copy.leaves.pointer);
+          role = subst P (origin-in b a low high ∙ at.old) h;
+        }
+
+    role-comes : (a k : ℕ) → new_test p top (λ c. (o.filled c).each) s a k ≡ true → IsCarried p m a k ⊎ ((p.test a k ≡ true) × (s a k ≡ true))
+    unfolding new_test origin
+    role-comes a k h =
+        let (there, allowed) = both-true (p.test (origin p top (λ c. (o.filled c).each) a) k) (in_use p top true a || (in_use p top false a || s a k)) h in
+        elim (true-or-false (in_use p top true a)) [
+          | inl t ↦ inl (from-copy a k true (use-is p top true a t).0 (use-is p top true a t).1 there)
+          | inr f ↦ elim (true-or-false (in_use p top false a)) [
+            | inl t ↦ inl (from-copy a k false (use-is p top false a t).0 (use-is p top false a t).1 there)
+            | inr g ↦ inr (by-neither (p.test (origin p top (λ c. (o.filled c).each) a) k) (p.test a k) (in_use p top true a) (in_use p top false a) (s a k) f g (rw (f, g) refl) there allowed)
+          ]
+        ]
+
+  pub has-roles : (s : ℕ → ℕ → Bool) → Remains p s → HasRoles p m s
+  unfolding new_test
+  has-roles s z = record {
+    test = new_test p top (λ c. (o.filled c).each) s;
+    single = record {
+      one = λ a j k h i.
+          y.single.one (origin p top (λ c. (o.filled c).each) a) j k (both-true (p.test (origin p top (λ c. (o.filled c).each) a) j) (in_use p top true a || (in_use p top false a || s a j)) h).0
+          (both-true (p.test (origin p top (λ c. (o.filled c).each) a) k) (in_use p top true a || (in_use p top false a || s a k)) i).0;
+    };
+    follows = record {
+      moves = λ v j q k r l less e h. moved-role s v j q k r l less e h;
+      stays = λ v q k r t w i h. kept-role s q k h (z.stays v q k r t w i h);
+      counts = λ a h. kept-role s a 2 h (z.counts a h);
+      records = λ a k big h. kept-role s a k h (z.records a k big h);
+    };
+    kept = kept-role s;
+    comes = role-comes s;
+  }
+
+-- Where the copies of a list of objects lie.
+forwards : List ℕ → List ℕ → List ℕ
+forwards m [] = []
+forwards m (v ∷ vs) = forward m v ∷ forwards m vs
+
+in-forwards : (m : List ℕ) (v w : ℕ) (vs : List ℕ) → In v vs → w ≡ forward m v → In w (forwards m vs)
+unfolding forwards
+in-forwards m v w [] i e = absurd i
+in-forwards m v w (u ∷ us) (inl same) e = inl (e ∙ ap (forward m) same)
+in-forwards m v w (u ∷ us) (inr i) e = inr (in-forwards m v w us i e)
+
+in-first : (w : ℕ) (xs zs : List ℕ) → In w xs → In w (xs ++ zs)
+in-first w [] zs i = absurd i
+in-first w (x ∷ xs) zs (inl e) = inl e
+in-first w (x ∷ xs) zs (inr i) = inr (in-first w xs zs i)
+
+in-last : (w : ℕ) (xs zs : List ℕ) → In w zs → In w (xs ++ zs)
+in-last w [] zs i = i
+in-last w (x ∷ xs) zs i = inr (in-last w xs zs i)
+
+module _ (p q : Plan) (m : List ℕ) (mv : Moving) (run : Runs p m mv (at_objects mv.aged.top mv.young.top)) (roots : RootsMoved p m) (o : Collected p m (top_of mv)) (s : ℕ → ℕ → Bool) (r : HasRoles p m s) (n : GoesOn p q m (top_of mv) s r) where
+  -- What the second plan reaches is what a word that the first one reached has become.
+  source : (x : ℕ) → Reached q x → (v : ℕ) × (Reached p v × IsImage p m v x)
+  source x t =
+      let P : List ℕ → Type 0 = λ z. Reach z q.roots x in
+      fresh p run.ready (ground p run.ready) m (top_of mv) (at_objects mv.aged.top mv.young.top) run.holds (done mv) roots.each q.roots n.images x (subst P n.memory t)
+
+  shape : (v x : ℕ) → Reached p v → IsPointer v → IsImage p m v x → (size q x ≡ size p v) × (first q x ≡ first p v)
+  unfolding size first
+  shape v x t i im =
+      let P : List ℕ → Type 0 = λ z. (object_words z x ≡ object_words p.start v) × (first_traced z x ≡ first_traced p.start v) in
+      subst P (sym n.memory) (shape-image p run.ready (ground p run.ready) m (top_of mv) (at_objects mv.aged.top mv.young.top) run.holds (done mv) roots.each v x t i im)
+
+  -- What leaves again is what left before.
+  left : (x : ℕ) → Reached q x → Leaves q x → (v : ℕ) × (Reached p v × (Leaves p v × (x ≡ forward m v)))
+  left x t l =
+      let (v, (tv, im)) = source x t in
+      elim (leaves-or-not p v) [
+        | inl lv ↦ (v, (tv, (lv, (im.gone lv).1)))
+        | inr nay ↦ absurd (let P : ℕ → Type 0 = λ z. Leaves p z in nay (subst P (im.kept nay) (record { pointer = l.pointer; leaves = sym (n.stay (x / 4)) ∙ l.leaves })))
+      ]
+
+  moved-image : (v : ℕ) → Reached p v → Leaves p v → IsImage p m v (forward m v)
+  moved-image v t l = record { kept = λ nay. absurd (nay l); gone = λ i. (o.complete v t l, refl) }
+
+  pub lies-again : (x : ℕ) → Reached q x → Leaves q x → (b : Bool) × ((p.low b ≤ x / 4) × (x / 4 + size q x ≤ top_of mv b))
+  lies-again x t l =
+      let (v, (tv, (lv, e))) = left x t l in
+      let c : IsMoved p m (top_of mv) v (forward m v) = o.copies v tv lv in
+      let P : ℕ → Type 0 = λ z. (p.low (p.mature (v / 4)) ≤ z / 4) × (z / 4 + size q z ≤ top_of mv (p.mature (v / 4))) in
+      (p.mature (v / 4), subst P (sym e) (c.from, omega (arith, c.below, (shape v (forward m v) tv lv.pointer (moved-image v tv lv)).0)))
+
+  closed-again : (x j : ℕ) → Reached q x → IsPointer x → q.stay (x / 4) ≡ true → first q x ≤ j → j < size q x → Leaves q (get_or q.start (x / 4 + j) 0) → ⊥
+  closed-again x j t i stay from below l =
+      let (v, (tv, im)) = source x t in
+      let there : p.stay (x / 4) ≡ true = sym (n.stay (x / 4)) ∙ stay in
+      elim (leaves-or-not p v) [
+        | inl lv ↦ (let c : IsMoved p m (top_of mv) v (forward m v) = o.copies v tv lv in
+            let e : x ≡ forward m v = (im.gone lv).1 in
+            not-both (p.stay (x / 4)) there (n.moving (x / 4) (p.mature (v / 4)) (omega (arith, c.from, e)) (omega (arith, c.below, e, size-some p v lv.pointer))))
+        | inr nay ↦ (let e : v ≡ x = sym (im.kept nay) in
+            let R : ℕ → Type 0 = λ z. Reached p z in
+            let I : ℕ → Type 0 = λ z. IsImage p m z x in
+            let tx : Reached p x = subst R e tv in
+            let (size_is, first_is) = shape x x tx i (subst I e im) in
+            let word : get_or q.start (x / 4 + j) 0 ≡ get_or p.start (x / 4 + j) 0 = ap (λ z. get_or z (x / 4 + j) 0) n.memory ∙ o.still x (x / 4 + j) tx i there (record { from = omega arith; below = omega (arith, below, size_is) }) in
+            let L : ℕ → Type 0 = λ z. Leaves p z in
+            run.ready.closed x j tx i there (omega (arith, from, first_is)) (omega (arith, below, size_is)) (subst L word (record { pointer = l.pointer; leaves = sym (n.stay (get_or q.start (x / 4 + j) 0 / 4)) ∙ l.leaves })))
+      ]
+
+  clear-again : (a k : ℕ) (b : Bool) → r.test a k ≡ true → (a < q.low b) ⊎ (q.high b ≤ a)
+  clear-again a k b h = elim (r.comes a k h) [
+    | inr w ↦ n.kept_clear a k b w.1
+    | inl w ↦ (let c : IsMoved p m (top_of mv) w.v (forward m w.v) = o.copies w.v w.reached w.leaves in
+        n.used_clear a b (p.mature (w.v / 4)) (omega (arith, c.from, w.place)) (omega (arith, c.below, w.place, w.below)))
+  ]
+
+  -- The copies of a row have the words of its objects.
+  total-again : (b : Bool) (place : ℕ) (vs : List ℕ) (top : ℕ) → Row p m b place vs top → total q (forwards m vs) ≡ total p vs
+  unfolding forwards
+  total-again b place [] top row = refl
+  total-again b place (v ∷ vs) top (c, row) = omega (arith, total-again b (place + size p v) vs top row, (shape v (forward m v) c.reached c.leaves.pointer (moved-image v c.reached c.leaves)).0)
+
+  listed-again : (b : Bool) (w : ℕ) → Reached q w → Leaves q w → In w (forwards m (o.filled true).each ++ forwards m (o.filled false).each)
+  listed-again b w t l =
+      let (v, (tv, (lv, e))) = left w t l in
+      elim (true-or-false (p.mature (v / 4))) [
+        | inl aged ↦ in-first w (forwards m (o.filled true).each) (forwards m (o.filled false).each) (in-forwards m v w (o.filled true).each ((o.filled true).all v tv lv aged) e)
+        | inr young ↦ in-last w (forwards m (o.filled true).each) (forwards m (o.filled false).each) (in-forwards m v w (o.filled false).each ((o.filled false).all v tv lv young) e)
+      ]
+
+  fits-again : (b : Bool) → Fits q b
+  fits-again b = elim (n.room b) [
+    | inr none ↦ record { each = []; all = λ w t l goes. absurd (none (w / 4) goes); words = omega (arith, n.order b) }
+    | inl room ↦ record {
+      each = forwards m (o.filled true).each ++ forwards m (o.filled false).each;
+      all = λ w t l goes. listed-again b w t l;
+      words = omega (
+        arith,
+        room,
+        both-total q (forwards m (o.filled true).each) (forwards m (o.filled false).each),
+        total-again true (p.low true) (o.filled true).each (top_of mv true) (o.filled true).row,
+        total-again false (p.low false) (o.filled false).each (top_of mv false) (o.filled false).row,
+        row-total p m true (p.low true) (o.filled true).each (top_of mv true) (o.filled true).row,
+        row-total p m false (p.low false) (o.filled false).each (top_of mv false) (o.filled false).row,
+      );
+    }
+  ]
+
+  pub ready-again : Ready q
+  ready-again =
+      let A : (ℕ → ℕ → Bool) → Type 0 = λ z. AllStand z p.shared m q.roots p.trees in
+      let B : List (List ℕ) → Type 0 = λ z. AllStand q.test z m q.roots p.trees in
+      let C : List ℕ → Type 0 = λ z. AllStand q.test q.shared z q.roots p.trees in
+      let D : Trees → Type 0 = λ z. AllStand q.test q.shared q.start q.roots z in
+      let S : (ℕ → ℕ → Bool) → Type 0 = λ z. IsSingle z in
+      record {
+        standing = subst D (sym n.trees) (subst C (sym n.memory) (subst B (sym n.shared) (subst A (sym n.test) (o.roots r.test r.follows q.roots n.images))));
+        single = subst S (sym n.test) r.single;
+        clear = λ a k b h. clear-again a k b (sym (ap (λ z. z a k) n.test) ∙ h);
+        closed = closed-again;
+        rooms = n.rooms;
+        order = n.order;
+        inside = λ b. omega (arith, n.inside b, ap length n.memory);
+        fits = fits-again;
+      }

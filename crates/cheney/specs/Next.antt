@@ -1,0 +1,54 @@
+-- The collection after one that has ended: the roles that the words of the new memory have, and when it can begin.
+use Rattle.std.specs.Prelude.{◌≡◌, ℕ, ◌+◌, ◌-◌, ◌/◌, ◌<◌, ◌≤◌, ◌⊎◌, Bool, true, false, List, length}
+use Rattle.term_read.specs.Object.{IsPointer}
+use Rattle.term_read.specs.Role.{IsSingle}
+use Rattle.cheney.specs.Plan.{Plan, Reached, Leaves, IsIn, size}
+use Rattle.cheney.specs.Moved.{forward}
+use Rattle.cheney.specs.Collected.{Follows, AreImages}
+
+-- The place is that of a word of a moved object, and the word had the role at its old place.
+pub record IsCarried (p : Plan) (m : List ℕ) (a k : ℕ) : Type 0 where
+  pub v : ℕ
+  pub j : ℕ
+  pub reached : Reached p v
+  pub leaves : Leaves p v
+  pub below : j < size p v
+  pub place : a ≡ forward m v / 4 + j
+  pub role : p.test (v / 4 + j) k ≡ true
+
+-- The test keeps the roles of the reached objects that stay, and of all records; what else it keeps is free.
+pub record Remains (p : Plan) (s : ℕ → ℕ → Bool) : Type 0 where
+  pub stays : (v q k : ℕ) → Reached p v → IsPointer v → p.stay (v / 4) ≡ true → IsIn p v q → p.test q k ≡ true → s q k ≡ true
+  pub counts : (a : ℕ) → p.test a 2 ≡ true → s a 2 ≡ true
+  pub records : (a k : ℕ) → 6 ≤ k → p.test a k ≡ true → s a k ≡ true
+
+-- A test of the new memory, one role a place, under which all that was reached stands: it allows the roles that moved
+-- with their words, those that s keeps, and no other.
+pub record HasRoles (p : Plan) (m : List ℕ) (s : ℕ → ℕ → Bool) : Type 0 where
+  pub test : ℕ → ℕ → Bool
+  pub single : IsSingle test
+  pub follows : Follows p m test
+  pub kept : (a k : ℕ) → p.test a k ≡ true → s a k ≡ true → test a k ≡ true
+  pub comes : (a k : ℕ) → test a k ≡ true → IsCarried p m a k ⊎ ((p.test a k ≡ true) × (s a k ≡ true))
+
+-- The words in use in both rooms.
+abbrev pub used : Plan → (Bool → ℕ) → ℕ
+used p top = (top true - p.low true) + (top false - p.low false)
+
+-- A second plan goes on where a collection has ended: from its memory, its new roots and these roles. The rooms in use
+-- hold nothing that stays, what s keeps and they are clear of the new rooms, and a new room that anything goes to has as
+-- many words as they have in use.
+pub record GoesOn (p q : Plan) (m : List ℕ) (top : Bool → ℕ) (s : ℕ → ℕ → Bool) (r : HasRoles p m s) : Type 0 where
+  pub memory : q.start ≡ m
+  pub images : AreImages p m q.roots
+  pub shared : q.shared ≡ p.shared
+  pub trees : q.trees ≡ p.trees
+  pub test : q.test ≡ r.test
+  pub stay : (a : ℕ) → q.stay a ≡ p.stay a
+  pub moving : (a : ℕ) (b : Bool) → p.low b ≤ a → a < top b → p.stay a ≡ false
+  pub kept_clear : (a k : ℕ) (b : Bool) → s a k ≡ true → (a < q.low b) ⊎ (q.high b ≤ a)
+  pub used_clear : (a : ℕ) (b c : Bool) → p.low c ≤ a → a < top c → (a < q.low b) ⊎ (q.high b ≤ a)
+  pub rooms : (q.high true ≤ q.low false) ⊎ (q.high false ≤ q.low true)
+  pub order : (b : Bool) → q.low b ≤ q.high b
+  pub inside : (b : Bool) → q.high b ≤ length m
+  pub room : (b : Bool) → (q.low b + used p top ≤ q.high b) ⊎ ((a : ℕ) → q.mature a ≡ b → ⊥)
