@@ -4,14 +4,14 @@ use Rattle.std.proofs.lemmas.Bool.Decides.{nat_tests}
 use Rattle.std.proofs.lemmas.List.{length-set, get_or-set_other}
 use Rattle.term_read.specs.Object.{IsPointer}
 use Rattle.cheney.specs.declared.moving.Moving.{Moving}
-use Rattle.cheney.specs.Plan.{IsIn, Plan, Ready, Reached, Leaves}
+use Rattle.cheney.specs.Plan.{IsIn, IsNoTail, IsOutside, Plan, Ready, Reached, Leaves}
 use Rattle.cheney.specs.Moved.{moved, forward, IsImage}
 use Rattle.cheney.specs.Zones.{Marks, Gone, Invariant, scanned_at, object_at, at_objects}
 use Rattle.cheney.specs.Rooms.{top_of, Agrees, Runs}
 use Rattle.cheney.specs.Calls.{Later}
 use Rattle.cheney.specs.Collected.{IsBeside, RootsMoved, Collected, Composes}
-use Rattle.cheney.proofs.Basics.{not-both, moved-cons, moved-boxed, moved-same, forward-same, size-some, size-cons, reach-part}
-use Rattle.cheney.proofs.Ground.{Ground, ground}
+use Rattle.cheney.proofs.Basics.{not-both, moved-cons, moved-boxed, moved-same, forward-same, size-some, shows-in, size-cons, reach-part}
+use Rattle.cheney.proofs.Ground.{Ground, ground, not-shown, stay-not-shown}
 use Rattle.cheney.proofs.Facts.{Grows, image-later, row-later}
 use Rattle.cheney.proofs.Ends.{collected, composes}
 
@@ -136,3 +136,15 @@ write-beside p m top a w away none = record {
   rooms = λ b q from below. get_or-set_other m a q w 0 (λ e. elim (away b) [ inl z ↦ omega (arith, z, e) | inr z ↦ omega (arith, z, e) ]);
   words = λ q k h. get_or-set_other m a q w 0 (λ e. let P : ℕ → Type 0 = λ z. p.test z k ≡ true in none k (subst P e h));
 }
+
+-- What no call changes.
+
+module _ (p : Plan) (a b : List ℕ) (later : Later p a b) where
+  pub free-aside : (q : ℕ) → Ready p → IsOutside p q → ((k : ℕ) → p.test q k ≡ true → ⊥) → get_or b q 0 ≡ get_or a q 0
+  free-aside q y out none = later.elsewhere q out (λ v r l s. let (k, h) = (ground p y).role v q r l.pointer (shows-in p v q l.pointer s) in none k h)
+
+  pub other-aside : (q k : ℕ) → Ready p → p.test q k ≡ true → (k ≡ 3 → ⊥) → (k ≡ 4 → ⊥) → get_or b q 0 ≡ get_or a q 0
+  other-aside q k y h three four = later.elsewhere q (λ c. y.clear q k c h) (λ v r l s. not-shown p y v q k r l.pointer h three four s)
+
+  pub stay-aside : (q : ℕ) → IsOutside p q → p.stay q ≡ true → IsNoTail p q → get_or b q 0 ≡ get_or a q 0
+  stay-aside q out stay whole = later.elsewhere q out (λ v r l s. stay-not-shown p v q r l stay whole s)

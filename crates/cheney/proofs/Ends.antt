@@ -14,7 +14,7 @@ use Rattle.cheney.specs.Zones.{Marks, IsCopy, Row, IsRow, Gone, Invariant, scann
 use Rattle.cheney.specs.Collected.{IsMoved, IsFilled, Follows, Collected, AreImages, Composes}
 use Rattle.cheney.proofs.Basics.{true-or-false, same-room, not-both, leaves-or-not, reach-part, size-some, size-cons, size-boxed, first-cons, first-boxed}
 use Rattle.cheney.proofs.Counts.{words-bounded}
-use Rattle.cheney.proofs.Ground.{Ground}
+use Rattle.cheney.proofs.Ground.{Ground, not-shown, stay-not-shown}
 use Rattle.cheney.proofs.Homes.{Home, Settled, settled}
 use Rattle.cheney.proofs.Writing.{at-copy}
 
@@ -208,6 +208,8 @@ module _ (p : Plan) (y : Ready p) (g : Ground p) (m : List ℕ) (top : Bool → 
     still = i.still;
     tails = i.tails;
     records = i.records;
+    untouched = λ a r h three four. elim (i.touched a r h) [ inl e ↦ e | inr w ↦ absurd (not-shown p y w.v a r w.reached w.leaves.pointer h three four w.shows) ];
+    unmoved = λ a r h stay whole. elim (i.touched a r h) [ inl e ↦ e | inr w ↦ absurd (stay-not-shown p w.v a w.reached w.leaves stay whole w.shows) ];
     touched = i.touched;
   }
 

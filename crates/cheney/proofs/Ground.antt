@@ -1,17 +1,18 @@
 -- What is true of all that the roots reach when a collection begins.
-use Rattle.std.proofs.Common.{◌≡◌, ℕ, ◌+◌, ◌*◌, ◌/◌, ◌%◌, ◌<◌, ◌≤◌, ◌⊎◌, Bool, true, false, List, length, get_or, refl, sym, subst, arith, inl, inr, ℤ, pos, negsuc}
+use Rattle.std.proofs.Common.{◌≡◌, ℕ, ◌+◌, ◌*◌, ◌/◌, ◌%◌, ◌<◌, ◌≤◌, ◌⊎◌, Bool, true, false, List, length, get_or, refl, sym, ◌∙◌, ap, subst, arith, inl, inr, ℤ, pos, negsuc}
 use Rattle.plain_term.specs.Tree.{Tree, trees_len, pairs_len}
 use Rattle.plain_term.specs.Tree.Tree.{Int, Atom, Pid, Ref, Nil, Cons, Tuple, Map, Bin, Shared, Part, Fun}
 use Rattle.plain_term.specs.Measures.{bin_words}
 use Rattle.term_read.specs.Object.{IsObject, IsBoxed, IsInt, IsPointer, object_words}
 use Rattle.term_read.specs.Stands.{Stands}
-use Rattle.term_read.proofs.Apart.{objects-apart, words-pair, words-boxed}
+use Rattle.term_read.proofs.Apart.{objects-apart, whole, words-pair, words-boxed}
 use Rattle.term_read.proofs.Inside.{pair-inside, boxed-inside}
 use Rattle.term_read.proofs.Reached.{reached, scanned}
 use Rattle.term_read.proofs.Rooms.{is-term}
 use Rattle.term_read.proofs.Shapes.{told, Told}
-use Rattle.cheney.specs.Plan.{Plan, Ready, Reached, IsIn, size, first}
-use Rattle.cheney.proofs.Basics.{size-cons, size-boxed}
+use Rattle.cheney.specs.Plan.{Plan, Ready, Reached, Leaves, IsIn, size, first}
+use Rattle.cheney.specs.Moved.{Shows}
+use Rattle.cheney.proofs.Basics.{not-both, shows-in, size-cons, size-boxed}
 
 pub record Ground (p : Plan) : Type 0 where
   pub inside : (v : ℕ) → Reached p v → IsPointer v → v / 4 + size p v ≤ length p.start
@@ -23,6 +24,8 @@ pub record Ground (p : Plan) : Type 0 where
   pub records : (v q r : ℕ) → Reached p v → IsPointer v → IsIn p v q → 6 ≤ r → p.test q r ≡ true → ⊥
   pub records_clear : (a r : ℕ) (b : Bool) → 6 ≤ r → p.test a r ≡ true → (a < p.low b) ⊎ (p.high b ≤ a)
   pub roles_clear : (a r : ℕ) (b : Bool) → p.test a r ≡ true → (a < p.low b) ⊎ (p.high b ≤ a)
+  pub first_role : (v : ℕ) → Reached p v → IsPointer v → p.test (v / 4) 3 ≡ true
+  pub tail_role : (v : ℕ) → Reached p v → v % 4 ≡ 1 → p.test (v / 4 + 1) 4 ≡ true
   pub role : (v q : ℕ) → Reached p v → IsPointer v → IsIn p v q → (r : ℕ) × (p.test q r ≡ true)
   pub rooms : (b c : Bool) → (b ≡ c → ⊥) → (p.high b ≤ p.low c) ⊎ (p.high c ≤ p.low b)
   pub order : (b : Bool) → p.low b ≤ p.high b
@@ -103,6 +106,15 @@ head-no-header c shared mem w (Pid n) s tag e = omega arith
 head-no-header c shared mem w Nil s tag e = omega arith
 head-no-header c shared mem w t s tag e = absurd (omega (arith, told c shared mem w t s))
 
+tail-role : (c : ℕ → ℕ → Bool) (shared : List (List ℕ)) (mem : List ℕ) (w : ℕ) (t : Tree) → Stands c shared mem w t → w % 4 ≡ 1 → c (w / 4 + 1) 4 ≡ true
+unfolding Stands
+tail-role c shared mem w (Cons h t) (o, sh, st) tag = o.object.others (w / 4 + 1) (omega arith) (omega arith)
+tail-role c shared mem w (Int i) s tag = absurd (omega (arith, told c shared mem w (Int i) s))
+tail-role c shared mem w (Atom k) s tag = absurd (omega (arith, s.word, tag))
+tail-role c shared mem w (Pid n) s tag = absurd (omega (arith, s.word, tag))
+tail-role c shared mem w Nil s tag = absurd (omega (arith, s, tag))
+tail-role c shared mem w t s tag = absurd (omega (arith, told c shared mem w t s))
+
 module _ (p : Plan) (y : Ready p) where
   -- What is reached stands.
   stands-there : (v : ℕ) → Reached p v → (t : Tree) × Stands p.test p.shared p.start v t
@@ -144,8 +156,24 @@ module _ (p : Plan) (y : Ready p) where
     records = λ v q r u i j big h. let (k, (small, g)) = role-there v q u i j in let e : k ≡ r = y.single.one q k r g h in omega arith;
     records_clear = λ a r b big h. y.clear a r b h;
     roles_clear = y.clear;
+    first_role = λ v r i. let (t, s) = stands-there v r in (whole p.test p.shared p.start v t y.single s i).first;
+    tail_role = λ v r tag. let (t, s) = stands-there v r in tail-role p.test p.shared p.start v t s tag;
     role = λ v q r i j. let (k, (small, h)) = role-there v q r i j in (k, h);
     rooms = rooms-apart;
     order = y.order;
     ends = y.inside;
   }
+
+-- A word that shows where a reached object went has role 3, or 4.
+pub shown-role : (p : Plan) → Ground p → (v q : ℕ) → Reached p v → IsPointer v → Shows v q → (p.test q 3 ≡ true) ⊎ (p.test q 4 ≡ true)
+shown-role p g v q r i (inl e) = inl (let P : ℕ → Type 0 = λ x. p.test x 3 ≡ true in subst P (sym e) (g.first_role v r i))
+shown-role p g v q r i (inr (tag, e)) = inr (let P : ℕ → Type 0 = λ x. p.test x 4 ≡ true in subst P (sym e) (g.tail_role v r tag))
+
+-- No word with another role shows that.
+pub not-shown : (p : Plan) → Ready p → (v q k : ℕ) → Reached p v → IsPointer v → p.test q k ≡ true → (k ≡ 3 → ⊥) → (k ≡ 4 → ⊥) → Shows v q → ⊥
+not-shown p y v q k r i h three four s = elim (shown-role p (ground p y) v q r i s) [ inl e ↦ three (y.single.one q k 3 h e) | inr e ↦ four (y.single.one q k 4 h e) ]
+
+-- Nor does a word that stays, where no cons reaches into what stays.
+pub stay-not-shown : (p : Plan) (v q : ℕ) → Reached p v → Leaves p v → p.stay q ≡ true → ((u : ℕ) → Reached p u → u % 4 ≡ 1 → q ≡ u / 4 + 1 → p.stay (u / 4) ≡ true) → Shows v q → ⊥
+stay-not-shown p v q r l stay whole_conses (inl e) = not-both (p.stay q) stay (ap p.stay e ∙ l.leaves)
+stay-not-shown p v q r l stay whole_conses (inr (tag, e)) = not-both (p.stay (v / 4)) (whole_conses v r tag e) l.leaves

@@ -132,7 +132,7 @@ went-young mem mem2 mv room w x n mature i s here size c e =
     } in
     inr (inr (record { pointer = i; leaves = s; here = here; copies = subst B (sym mature) (subst A size c); grows = subst D (sym mature) adv }))
 
-later-same : (p : Plan) (mem : List ℕ) → Later p mem mem
+pub later-same : (p : Plan) (mem : List ℕ) → Later p mem mem
 later-same p mem = record { gone = λ v r l y. y; same = λ v r l y. refl; elsewhere = λ q a b. refl }
 
 pub later-then : (p : Plan) (a b c : List ℕ) → Later p a b → Later p b c → Later p a c

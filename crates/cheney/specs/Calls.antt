@@ -6,7 +6,7 @@ use Rattle.term_tags.specs.Table.{layout_for}
 use Rattle.cheney.specs.declared.moving.Moving.{Moving}
 use Rattle.cheney.specs.Spans.{in_span}
 use Rattle.cheney.specs.Ranges.{stays}
-use Rattle.cheney.specs.Plan.{Plan, Reached, Leaves}
+use Rattle.cheney.specs.Plan.{Plan, Reached, Leaves, IsOutside}
 use Rattle.cheney.specs.Moved.{moved, forward, IsImage, Shows, Copies}
 use Rattle.cheney.specs.Zones.{Marks, IsPart, scanned_at, object_at, at_objects}
 use Rattle.cheney.specs.Rooms.{top_of, Advances, Runs}
@@ -50,7 +50,7 @@ Went mem mem2 mv mv2 w x = Stayed mem mem2 mv mv2 w x ⊎ (Found mem mem2 mv mv2
 pub record Later (p : Plan) (mem mem2 : List ℕ) : Type 0 where
   pub gone : (v : ℕ) → Reached p v → Leaves p v → moved mem v ≡ true → moved mem2 v ≡ true
   pub same : (v : ℕ) → Reached p v → Leaves p v → moved mem v ≡ true → forward mem2 v ≡ forward mem v
-  pub elsewhere : (q : ℕ) → ((b : Bool) → (q < p.low b) ⊎ (p.high b ≤ q)) → ((v : ℕ) → Reached p v → Leaves p v → Shows v q → ⊥) → slice_index mem2 q ≡ slice_index mem q
+  pub elsewhere : (q : ℕ) → IsOutside p q → ((v : ℕ) → Reached p v → Leaves p v → Shows v q → ⊥) → slice_index mem2 q ≡ slice_index mem q
 
 -- The collection runs on, and the answer is what the word has become.
 pub record Evacuated (p : Plan) (mem mem2 : List ℕ) (mv2 : Moving) (k : Marks) (w x : ℕ) : Type 0 where

@@ -7,7 +7,7 @@ use Rattle.term_read.specs.Reach.{Reach}
 use Rattle.term_read.specs.Stands.{Stands, stands, AllStand}
 use Rattle.cheney.specs.declared.moving.Moving.{Moving}
 use Rattle.cheney.specs.Rooms.{Agrees}
-use Rattle.cheney.specs.Plan.{Plan, Ready, Reached, Leaves, IsIn, In, size, first}
+use Rattle.cheney.specs.Plan.{Plan, Ready, Reached, Leaves, IsIn, IsNoTail, In, size, first}
 use Rattle.cheney.specs.Moved.{moved, forward, IsImage}
 use Rattle.cheney.specs.Zones.{Row, IsShown}
 
@@ -44,8 +44,9 @@ pub record AreImages (p : Plan) (m : List ℕ) (ws : List ℕ) : Type 0 where
 
 -- The whole collection. The forwarding words are a map, one to one, that is defined on exactly the objects outside `stay`
 -- that the roots reach; the objects of `mature` lie in the aged room, all others in the young one, each once and whole;
--- what each word has become stands for the tree that it stood for; and what stays, the records, and all words of a moved
--- boxed object but the first are as they were. A word with a role that is not as it was shows where a reached object went.
+-- what each word has become stands for the tree that it stood for; and what stays, reached or not, each word whose role
+-- is neither 3 nor 4, the records among them, and all words of a moved boxed object but the first are as they were. A word
+-- with a role that is not as it was shows where a reached object went.
 pub record Collected (p : Plan) (m : List ℕ) (top : Bool → ℕ) : Type 0 where
   pub same_len : length m ≡ length p.start
   pub complete : (v : ℕ) → Reached p v → Leaves p v → moved m v ≡ true
@@ -61,6 +62,8 @@ pub record Collected (p : Plan) (m : List ℕ) (top : Bool → ℕ) : Type 0 whe
   pub still : (v q : ℕ) → Reached p v → IsPointer v → p.stay (v / 4) ≡ true → IsIn p v q → slice_index m q ≡ slice_index p.start q
   pub tails : (v q : ℕ) → Reached p v → Leaves p v → v % 4 ≡ 2 → IsIn p v q → v / 4 < q → slice_index m q ≡ slice_index p.start q
   pub records : (a k : ℕ) → 6 ≤ k → p.test a k ≡ true → slice_index m a ≡ slice_index p.start a
+  pub untouched : (a k : ℕ) → p.test a k ≡ true → (k ≡ 3 → ⊥) → (k ≡ 4 → ⊥) → slice_index m a ≡ slice_index p.start a
+  pub unmoved : (a k : ℕ) → p.test a k ≡ true → p.stay a ≡ true → IsNoTail p a → slice_index m a ≡ slice_index p.start a
   pub touched : (a k : ℕ) → p.test a k ≡ true → (slice_index m a ≡ slice_index p.start a) ⊎ IsShown p m a
 
 -- What the new roots reach is exactly what the words that the roots reached have become: another collection may follow.

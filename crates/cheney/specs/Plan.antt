@@ -1,5 +1,5 @@
 -- What is constant while a collection runs.
-use Rattle.std.specs.Prelude.{◌≡◌, ℕ, ◌+◌, ◌/◌, ◌<◌, ◌≤◌, ◌⊎◌, Bool, true, false, List, [], ◌∷◌, length, slice_index}
+use Rattle.std.specs.Prelude.{◌≡◌, ℕ, ◌+◌, ◌/◌, ◌%◌, ◌<◌, ◌≤◌, ◌⊎◌, Bool, true, false, List, [], ◌∷◌, length, slice_index}
 use Rattle.plain_term.specs.Tree.{Trees}
 use Rattle.term_read.specs.Object.{IsPointer, object_words}
 use Rattle.term_read.specs.Reach.{Reach, first_traced}
@@ -40,6 +40,14 @@ pub record Leaves (p : Plan) (w : ℕ) : Type 0 where
 pub record IsIn (p : Plan) (w q : ℕ) : Type 0 where
   pub from : w / 4 ≤ q
   pub below : q < w / 4 + size p w
+
+-- The place lies in neither room.
+abbrev pub IsOutside : Plan → ℕ → Type 0
+IsOutside p q = (b : Bool) → (q < p.low b) ⊎ (p.high b ≤ q)
+
+-- No cons that leaves has its tail at the place: what stays does not begin inside an object.
+abbrev pub IsNoTail : Plan → ℕ → Type 0
+IsNoTail p q = (v : ℕ) → Reached p v → v % 4 ≡ 1 → q ≡ v / 4 + 1 → p.stay (v / 4) ≡ true
 
 -- The word is in the list.
 abbrev pub In : ℕ → List ℕ → Type 0

@@ -1,9 +1,9 @@
 // What holds of each collection: each law is the contract of a function that does nothing.
-ghost use Rattle.std.specs.Prelude.{◌≡◌, ℕ, ◌+◌, ◌-◌, ◌/◌, ◌<◌, ◌≤◌, ◌⊎◌, Bool, true, List, slice_set};
+ghost use Rattle.std.specs.Prelude.{◌≡◌, ℕ, ◌+◌, ◌-◌, ◌/◌, ◌<◌, ◌≤◌, ◌⊎◌, Bool, true, List, slice_index, slice_set};
 ghost use Rattle.term_read.specs.Role.{IsSingle};
 ghost use Rattle.term_read.specs.Stands.{AllStand};
 ghost use Rattle.cheney.specs.declared.moving.Moving.{Moving};
-ghost use Rattle.cheney.specs.Plan.{Fits, Leaves, Plan, Ready, Reached, size};
+ghost use Rattle.cheney.specs.Plan.{Fits, IsNoTail, IsOutside, Leaves, Plan, Ready, Reached, size};
 ghost use Rattle.cheney.specs.Moved.{IsImage};
 ghost use Rattle.cheney.specs.Zones.{Marks, at_objects};
 ghost use Rattle.cheney.specs.Rooms.{Agrees, Runs, top_of};
@@ -23,9 +23,19 @@ pub fn begin_law()
     ensures { (p : Plan) (mv : Moving) → Ready p → Agrees p mv → mv.aged.top ≡ mv.aged.start → mv.young.top ≡ mv.young.start → Runs p p.start mv (at_objects mv.aged.start mv.young.start) }
 {}
 
-/// What a word has become stays that, whatever is moved later.
+/// What a word has become stays that, whatever is moved later; and calls follow each other.
 pub fn later_law()
-    ensures { (p : Plan) (mem mem2 : List ℕ) (w x : ℕ) → Later p mem mem2 → Reached p w → IsImage p mem w x → IsImage p mem2 w x }
+    ensures images { (p : Plan) (mem mem2 : List ℕ) (w x : ℕ) → Later p mem mem2 → Reached p w → IsImage p mem w x → IsImage p mem2 w x }
+    ensures same { (p : Plan) (mem : List ℕ) → Later p mem mem }
+    ensures further { (p : Plan) (a b c : List ℕ) → Later p a b → Later p b c → Later p a c }
+{}
+
+/// What no call changes: a word in no room that has no role, such as a stack place; a word with a role that is neither 3
+/// nor 4, such as a record's or a `next`; and each word in no room that stays, reached or not.
+pub fn aside_law()
+    ensures free { (p : Plan) (a b : List ℕ) (q : ℕ) → Ready p → Later p a b → IsOutside p q → ((k : ℕ) → p.test q k ≡ true → ⊥) → slice_index b q ≡ slice_index a q }
+    ensures other { (p : Plan) (a b : List ℕ) (q k : ℕ) → Ready p → Later p a b → p.test q k ≡ true → (k ≡ 3 → ⊥) → (k ≡ 4 → ⊥) → slice_index b q ≡ slice_index a q }
+    ensures stays { (p : Plan) (a b : List ℕ) (q : ℕ) → Later p a b → IsOutside p q → p.stay q ≡ true → IsNoTail p q → slice_index b q ≡ slice_index a q }
 {}
 
 /// A caller may write between two calls, away from the rooms and from all words with a role: roots that stand in the memory.

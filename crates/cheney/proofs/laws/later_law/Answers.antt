@@ -1,5 +1,12 @@
 use Rattle.cheney.proofs.Begins.{image-kept}
+use Rattle.cheney.proofs.Steps.{later-same, later-then}
 use Rattle.cheney.proofs.laws.later_law.Goals as goal
 
-pub returns : goal.returns
-returns c = image-kept
+pub returns-clause-images : goal.returns-clause-images
+returns-clause-images c = image-kept
+
+pub returns-clause-same : goal.returns-clause-same
+returns-clause-same c = later-same
+
+pub returns-clause-further : goal.returns-clause-further
+returns-clause-further c = later-then
