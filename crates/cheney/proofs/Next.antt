@@ -18,6 +18,7 @@ use Rattle.cheney.proofs.Begins.{done}
 use Rattle.cheney.proofs.Counts.{both-total}
 use Rattle.cheney.proofs.Ends.{Covers, covers, old_place, row-total, fresh, shape-image}
 use Rattle.cheney.proofs.Ground.{ground}
+use Rattle.cheney.proofs.Roots.{in-joined}
 
 both-true : (a b : Bool) → (a && b) ≡ true → (a ≡ true) × (b ≡ true)
 both-true true b h = (refl, h)
@@ -165,15 +166,6 @@ in-forwards m v w [] i e = absurd i
 in-forwards m v w (u ∷ us) (inl same) e = inl (e ∙ ap (forward m) same)
 in-forwards m v w (u ∷ us) (inr i) e = inr (in-forwards m v w us i e)
 
-in-first : (w : ℕ) (xs zs : List ℕ) → In w xs → In w (xs ++ zs)
-in-first w [] zs i = absurd i
-in-first w (x ∷ xs) zs (inl e) = inl e
-in-first w (x ∷ xs) zs (inr i) = inr (in-first w xs zs i)
-
-in-last : (w : ℕ) (xs zs : List ℕ) → In w zs → In w (xs ++ zs)
-in-last w [] zs i = i
-in-last w (x ∷ xs) zs i = inr (in-last w xs zs i)
-
 module _ (p q : Plan) (m : List ℕ) (mv : Moving) (run : Runs p m mv (at_objects mv.aged.top mv.young.top)) (roots : RootsMoved p m) (o : Collected p m (top_of mv)) (s : ℕ → ℕ → Bool) (r : HasRoles p m s) (n : GoesOn p q m (top_of mv) s r) where
   -- What the second plan reaches is what a word that the first one reached has become.
   source : (x : ℕ) → Reached q x → (v : ℕ) × (Reached p v × IsImage p m v x)
@@ -241,8 +233,8 @@ module _ (p q : Plan) (m : List ℕ) (mv : Moving) (run : Runs p m mv (at_object
   listed-again b w t l =
       let (v, (tv, (lv, e))) = left w t l in
       elim (true-or-false (p.mature (v / 4))) [
-        | inl aged ↦ in-first w (forwards m (o.filled true).each) (forwards m (o.filled false).each) (in-forwards m v w (o.filled true).each ((o.filled true).all v tv lv aged) e)
-        | inr young ↦ in-last w (forwards m (o.filled true).each) (forwards m (o.filled false).each) (in-forwards m v w (o.filled false).each ((o.filled false).all v tv lv young) e)
+        | inl aged ↦ in-joined w (forwards m (o.filled true).each) (forwards m (o.filled false).each) (inl (in-forwards m v w (o.filled true).each ((o.filled true).all v tv lv aged) e))
+        | inr young ↦ in-joined w (forwards m (o.filled true).each) (forwards m (o.filled false).each) (inr (in-forwards m v w (o.filled false).each ((o.filled false).all v tv lv young) e))
       ]
 
   fits-again : (b : Bool) → Fits q b

@@ -1,16 +1,93 @@
--- A collection from a slice of roots, one by one.
-use Rattle.std.proofs.Common.{◌≡◌, ℕ, ◌+◌, ◌<◌, ◌≤◌, List, length, get_or, set, refl, sym, ◌∙◌, ap, subst, arith, inl, inr}
+-- Roots by membership and list by list, and a collection from a slice of roots, one by one.
+use Rattle.std.proofs.Common.{◌≡◌, ℕ, zero, suc, ◌+◌, ◌<◌, ◌≤◌, ◌⊎◌, Bool, true, List, [], ◌∷◌, ◌++◌, length, get_or, set, refl, sym, ◌∙◌, ap, subst, arith, inl, inr}
 use Rattle.std.proofs.lemmas.List.{length-set, get_or-set_other, get_or-set_same}
-use Rattle.term_read.specs.Reach.{root}
+use Rattle.term_read.specs.Reach.{Reach, root}
 use Rattle.cheney.specs.declared.moving.Moving.{Moving}
-use Rattle.cheney.specs.Plan.{Plan, Reached}
-use Rattle.cheney.specs.Moved.{IsImage}
+use Rattle.cheney.specs.Plan.{In, Leaves, Plan, Ready, Reached}
+use Rattle.cheney.specs.Moved.{IsImage, moved}
 use Rattle.cheney.specs.Zones.{at_objects}
 use Rattle.cheney.specs.Rooms.{top_of, Runs}
-use Rattle.cheney.specs.Calls.{CanMove, Evacuated, RunsOn}
-use Rattle.cheney.specs.Collected.{AreImages, Begins, Collected}
+use Rattle.cheney.specs.Calls.{CanMove, Evacuated, Later, RunsOn}
+use Rattle.cheney.specs.Collected.{AllImages, AreImages, Begins, Collected, IsBeside, RootsMoved}
 use Rattle.cheney.proofs.Basics.{one-or-not}
-use Rattle.cheney.proofs.Begins.{begins, has-collected, image-kept}
+use Rattle.cheney.proofs.Begins.{begins, beside-grows, has-collected, image-kept}
+use Rattle.cheney.proofs.Facts.{Grows, image-later}
+use Rattle.cheney.proofs.Ground.{ground}
+
+-- Words of lists.
+
+pub in-at : (ws : List ℕ) (j : ℕ) → j < length ws → In (get_or ws j 0) ws
+in-at [] j less = absurd (omega arith)
+in-at (w ∷ ws) zero less = inl refl
+in-at (w ∷ ws) (suc j) less = inr (in-at ws j (omega arith))
+
+pub in-joined : (w : ℕ) (vs ws : List ℕ) → In w vs ⊎ In w ws → In w (vs ++ ws)
+in-joined w [] ws (inl i) = absurd i
+in-joined w [] ws (inr i) = i
+in-joined w (v ∷ vs) ws (inl (inl e)) = inl e
+in-joined w (v ∷ vs) ws (inl (inr i)) = inr (in-joined w vs ws (inl i))
+in-joined w (v ∷ vs) ws (inr i) = inr (in-joined w vs ws (inr i))
+
+reach-in : (mem roots : List ℕ) (w : ℕ) (k : ℕ) (ws : List ℕ) → ((j : ℕ) → j < length ws → (k + j < length roots) × (get_or ws j 0 ≡ get_or roots (k + j) 0)) → In w ws → Reach mem roots w
+reach-in mem roots w k [] tail i = absurd i
+reach-in mem roots w k (v ∷ vs) tail (inl e) = let (less, same) = tail 0 (omega arith) in root (k + 0) w less (e ∙ same)
+reach-in mem roots w k (v ∷ vs) tail (inr i) = reach-in mem roots w (k + 1) vs (λ j below. let (less, same) = tail (suc j) (omega arith) in (omega (arith, less), same ∙ ap (λ z. get_or roots z 0) (omega arith))) i
+
+pub root-in : (p : Plan) (w : ℕ) → In w p.roots → Reached p w
+root-in p w i = reach-in p.start p.roots w 0 p.roots (λ j less. (omega (arith, less), ap (λ z. get_or p.roots z 0) (omega arith))) i
+
+pub roots-in : (p : Plan) (m : List ℕ) → ((w : ℕ) → In w p.roots → Leaves p w → moved m w ≡ true) → RootsMoved p m
+roots-in p m each = record { each = λ j less l. each (get_or p.roots j 0) (in-at p.roots j less) l }
+
+-- Images list by list.
+
+module _ (p : Plan) where
+  pub images-join : (m vs xs ws ys : List ℕ) → AllImages p m vs xs → AllImages p m ws ys → AllImages p m (vs ++ ws) (xs ++ ys)
+  unfolding AllImages
+  images-join m [] [] ws ys a b = b
+  images-join m [] (x ∷ xs) ws ys a b = absurd a
+  images-join m (v ∷ vs) [] ws ys a b = absurd a
+  images-join m (v ∷ vs) (x ∷ xs) ws ys (i, a) b = (i, images-join m vs xs ws ys a b)
+
+  images-grow : (m n vs xs : List ℕ) → Grows p m n → ((w : ℕ) → In w vs → Reached p w) → AllImages p m vs xs → AllImages p n vs xs
+  unfolding AllImages
+  images-grow m n [] [] g r a = tt
+  images-grow m n [] (x ∷ xs) g r a = absurd a
+  images-grow m n (v ∷ vs) [] g r a = absurd a
+  images-grow m n (v ∷ vs) (x ∷ xs) g r (i, a) = (image-later p m n v x g (r v (inl refl)) i, images-grow m n vs xs g (λ w j. r w (inr j)) a)
+
+  pub images-later : (m n vs xs : List ℕ) → Later p m n → ((w : ℕ) → In w vs → Reached p w) → AllImages p m vs xs → AllImages p n vs xs
+  images-later m n vs xs later r a = images-grow m n vs xs (record { gone = later.gone; same = later.same }) r a
+
+  pub images-beside : (m n vs xs : List ℕ) (top : Bool → ℕ) → Ready p → IsBeside p m n top → ((w : ℕ) → In w vs → Reached p w) → AllImages p m vs xs → AllImages p n vs xs
+  images-beside m n vs xs top y o r a = images-grow m n vs xs (beside-grows p (ground p y) m n top o) r a
+
+  images-count : (m vs xs : List ℕ) → AllImages p m vs xs → length xs ≡ length vs
+  unfolding AllImages
+  images-count m [] [] a = refl
+  images-count m [] (x ∷ xs) a = absurd a
+  images-count m (v ∷ vs) [] a = absurd a
+  images-count m (v ∷ vs) (x ∷ xs) (i, a) = ap suc (images-count m vs xs a)
+
+  images-at : (m vs xs : List ℕ) → AllImages p m vs xs → (j : ℕ) → j < length vs → IsImage p m (get_or vs j 0) (get_or xs j 0)
+  unfolding AllImages
+  images-at m [] xs a j less = absurd (omega arith)
+  images-at m (v ∷ vs) [] a j less = absurd a
+  images-at m (v ∷ vs) (x ∷ xs) (i, a) zero less = i
+  images-at m (v ∷ vs) (x ∷ xs) (i, a) (suc j) less = images-at m vs xs a j (omega arith)
+
+  pub images-all : (m ws : List ℕ) → AllImages p m p.roots ws → RootsMoved p m × AreImages p m ws
+  images-all m ws a = (record { each = λ j less l. ((images-at m p.roots ws a j less).gone l).0 }, record { count = images-count m p.roots ws a; each = images-at m p.roots ws a })
+
+  images-back : (m vs xs : List ℕ) → length xs ≡ length vs → ((j : ℕ) → j < length vs → IsImage p m (get_or vs j 0) (get_or xs j 0)) → AllImages p m vs xs
+  unfolding AllImages
+  images-back m [] [] n each = tt
+  images-back m [] (x ∷ xs) n each = omega (arith, n)
+  images-back m (v ∷ vs) [] n each = omega (arith, n)
+  images-back m (v ∷ vs) (x ∷ xs) n each = (each 0 (omega arith), images-back m vs xs (omega (arith, n)) (λ j less. each (suc j) (omega arith)))
+
+  pub images-of : (m ws : List ℕ) → AreImages p m ws → AllImages p m p.roots ws
+  images-of m ws a = images-back m p.roots ws a.count a.each
 
 -- The first roots are moved, and the others are as they were.
 pub record Collecting (p : Plan) (mem : List ℕ) (mv : Moving) (aged young : ℕ) (ws : List ℕ) (i : ℕ) : Type 0 where

@@ -1,5 +1,5 @@
 -- What a collection has done once all is scanned.
-use Rattle.std.specs.Prelude.{◌≡◌, ℕ, ◌+◌, ◌-◌, ◌/◌, ◌%◌, ◌<◌, ◌≤◌, ◌⊎◌, Bool, true, false, List, length, slice_index}
+use Rattle.std.specs.Prelude.{◌≡◌, ℕ, ◌+◌, ◌-◌, ◌/◌, ◌%◌, ◌<◌, ◌≤◌, ◌⊎◌, Bool, true, false, List, [], ◌∷◌, length, slice_index}
 use Rattle.plain_term.specs.Tree.{Tree}
 use Rattle.plain_term.specs.Measures.{flat_of_all}
 use Rattle.term_read.specs.Object.{IsPointer}
@@ -41,6 +41,13 @@ pub record RootsMoved (p : Plan) (m : List ℕ) : Type 0 where
 pub record AreImages (p : Plan) (m : List ℕ) (ws : List ℕ) : Type 0 where
   pub count : length ws ≡ length p.roots
   pub each : (j : ℕ) → j < length p.roots → IsImage p m (slice_index p.roots j) (slice_index ws j)
+
+-- The words of the second list are what those of the first have become, one by one.
+unfoldable pub AllImages : Plan → List ℕ → List ℕ → List ℕ → Type 0
+AllImages p m [] [] = Unit {0}
+AllImages p m (v ∷ vs) (x ∷ xs) = IsImage p m v x × AllImages p m vs xs
+AllImages p m [] (x ∷ xs) = ⊥
+AllImages p m (v ∷ vs) [] = ⊥
 
 -- The whole collection. The forwarding words are a map, one to one, that is defined on exactly the objects outside `stay`
 -- that the roots reach; the objects of `mature` lie in the aged room, all others in the young one, each once and whole;

@@ -1,14 +1,14 @@
 // What holds of each collection: each law is the contract of a function that does nothing.
-ghost use Rattle.std.specs.Prelude.{◌≡◌, ℕ, ◌+◌, ◌-◌, ◌/◌, ◌<◌, ◌≤◌, ◌⊎◌, Bool, true, List, slice_index, slice_set};
+ghost use Rattle.std.specs.Prelude.{◌≡◌, ℕ, ◌+◌, ◌-◌, ◌/◌, ◌<◌, ◌≤◌, ◌⊎◌, ◌++◌, Bool, true, List, length, slice_index, slice_set};
 ghost use Rattle.term_read.specs.Role.{IsSingle};
 ghost use Rattle.term_read.specs.Stands.{AllStand};
 ghost use Rattle.cheney.specs.declared.moving.Moving.{Moving};
-ghost use Rattle.cheney.specs.Plan.{Fits, IsNoTail, IsOutside, Leaves, Plan, Ready, Reached, size};
-ghost use Rattle.cheney.specs.Moved.{IsImage};
+ghost use Rattle.cheney.specs.Plan.{Fits, In, IsNoTail, IsOutside, Leaves, Plan, Ready, Reached, size};
+ghost use Rattle.cheney.specs.Moved.{IsImage, moved};
 ghost use Rattle.cheney.specs.Zones.{Marks, at_objects};
 ghost use Rattle.cheney.specs.Rooms.{Agrees, Runs, top_of};
 ghost use Rattle.cheney.specs.Calls.{Later};
-ghost use Rattle.cheney.specs.Collected.{Collected, Composes, IsBeside, RootsMoved};
+ghost use Rattle.cheney.specs.Collected.{AllImages, AreImages, Collected, Composes, IsBeside, RootsMoved};
 ghost use Rattle.cheney.specs.Next.{GoesOn, HasRoles, Remains};
 
 /// A room holds the objects that go there where it has as many free words as the range that they lie in, whatever they
@@ -47,6 +47,19 @@ pub fn beside_law()
 /// A word outside the used places of the rooms that has no role may be written: a stack place, a register in the memory.
 pub fn write_law()
     ensures { (p : Plan) (mem : List ℕ) (top : Bool → ℕ) (a w : ℕ) → ((b : Bool) → (a < p.low b) ⊎ (top b ≤ a)) → ((k : ℕ) → p.test a k ≡ true → ⊥) → IsBeside p mem (slice_set mem a w) top }
+{}
+
+/// Roots by membership, and what they have become list by list: registers and stacks of one process after another.
+pub fn roots_law()
+    ensures at { (ws : List ℕ) (j : ℕ) → j < length ws → In (slice_index ws j) ws }
+    ensures within { (w : ℕ) (vs ws : List ℕ) → In w vs ⊎ In w ws → In w (vs ++ ws) }
+    ensures reached { (p : Plan) (w : ℕ) → In w p.roots → Reached p w }
+    ensures moved { (p : Plan) (m : List ℕ) → ((w : ℕ) → In w p.roots → Leaves p w → moved m w ≡ true) → RootsMoved p m }
+    ensures join { (p : Plan) (m vs xs ws ys : List ℕ) → AllImages p m vs xs → AllImages p m ws ys → AllImages p m (vs ++ ws) (xs ++ ys) }
+    ensures later { (p : Plan) (m n vs xs : List ℕ) → Later p m n → ((w : ℕ) → In w vs → Reached p w) → AllImages p m vs xs → AllImages p n vs xs }
+    ensures beside { (p : Plan) (m n vs xs : List ℕ) (top : Bool → ℕ) → Ready p → IsBeside p m n top → ((w : ℕ) → In w vs → Reached p w) → AllImages p m vs xs → AllImages p n vs xs }
+    ensures all { (p : Plan) (m ws : List ℕ) → AllImages p m p.roots ws → RootsMoved p m × AreImages p m ws }
+    ensures back { (p : Plan) (m ws : List ℕ) → AreImages p m ws → AllImages p m p.roots ws }
 {}
 
 /// The whole collection, where each root was moved and then all was scanned.
