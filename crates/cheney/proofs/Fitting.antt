@@ -1,12 +1,12 @@
--- A room holds the objects that go there where it has as many words as the range that they lie in.
-use Rattle.std.proofs.Common.{◌≡◌, ℕ, zero, suc, ◌+◌, ◌-◌, ◌/◌, ◌<◌, ◌≤◌, ◌⊎◌, Bool, List, [], ◌∷◌, length, refl, sym, subst, arith, inl, inr}
+-- A room holds the objects that go there where it has as many words as the counted places that they lie in.
+use Rattle.std.proofs.Common.{◌≡◌, ℕ, zero, suc, ◌+◌, ◌-◌, ◌/◌, ◌<◌, ◌≤◌, ◌⊎◌, if◌then◌else◌, Bool, true, List, [], ◌∷◌, length, refl, sym, ap, subst, arith, inl, inr}
 use Rattle.plain_term.specs.Measures.{flat_of_all}
 use Rattle.term_read.specs.Role.{IsSingle}
 use Rattle.term_read.specs.Stands.{AllStand}
 use Rattle.term_read.proofs.Apart.{objects-apart}
 use Rattle.term_read.proofs.Reached.{reached}
-use Rattle.cheney.specs.Plan.{Plan, Reached, Leaves, In, Fits, total, size}
-use Rattle.cheney.proofs.Basics.{same-room, one-or-not, leaves-or-not, size-some}
+use Rattle.cheney.specs.Plan.{Plan, Reached, Leaves, In, IsIn, Fits, count, total, size}
+use Rattle.cheney.proofs.Basics.{true-or-false, same-room, one-or-not, leaves-or-not, size-some}
 use Rattle.cheney.proofs.Counts.{Distinct, Listed, listed}
 
 in-or-not : (v : ℕ) (us : List ℕ) → In v us ⊎ (In v us → ⊥)
@@ -111,22 +111,71 @@ parted p v (u ∷ us) (n, d) each =
       }
     ]
 
--- Objects that are apart have no more words than the range that they lie in.
-packed : (n : ℕ) (p : Plan) (from to : ℕ) (vs : List ℕ) → length vs ≤ n → from ≤ to → Distinct vs → Spread p vs → Within p from to vs → from + total p vs ≤ to
-unfolding Distinct Spread Within
-packed n p from to [] le order d s w = omega arith
-packed zero p from to (v ∷ vs) le order d s w = absurd (omega arith)
-packed (suc n) p from to (v ∷ vs) le order (f, d) s w =
-    let o : Parted p v vs = parted p v vs d (λ u i. elim (s u v (inr i) (inl refl)) [
-      | inl e ↦ absurd (let P : ℕ → Type 0 = λ z. In z vs in f (subst P e i))
-      | inr a ↦ a
+-- Places, counted.
+
+module _ (s : ℕ → Bool) where
+  pub count-join : (from m n : ℕ) → count s from (m + n) ≡ count s from m + count s (from + m) n
+  unfolding count
+  count-join from zero n =
+      let e : 0 + n ≡ n = omega arith in
+      let f : from + 0 ≡ from = omega arith in
+      omega (arith, ap (count s from) e, ap (λ z. count s z n) f)
+  count-join from (suc m) n =
+      let e : suc m + n ≡ suc (m + n) = omega arith in
+      let f : from + 1 + m ≡ from + suc m = omega arith in
+      omega (arith, count-join (from + 1) m n, ap (count s from) e, ap (λ z. count s z n) f)
+
+  pub count-most : (from n : ℕ) → count s from n ≤ n
+  unfolding count
+  count-most from zero = omega arith
+  count-most from (suc n) = elim (true-or-false (s from)) [ inl t ↦ rw t (omega (arith, count-most (from + 1) n)) | inr f ↦ rw f (omega (arith, count-most (from + 1) n)) ]
+
+  pub count-all : (from n : ℕ) → ((q : ℕ) → from ≤ q → q < from + n → s q ≡ true) → count s from n ≡ n
+  unfolding count
+  count-all from zero each = refl
+  count-all from (suc n) each = rw (each from (omega arith) (omega arith)) (omega (arith, count-all (from + 1) n (λ q low high. each q (omega arith) (omega arith))))
+
+  -- A range in three parts, of which the middle one is counted whole.
+  count-three : (from n at k : ℕ) → from ≤ at → at + k ≤ from + n → ((q : ℕ) → at ≤ q → q < at + k → s q ≡ true) → count s from (at - from) + (k + count s (at + k) (from + n - (at + k))) ≡ count s from n
+  count-three from n at k low high each =
+      let first : count s from (at - from + (k + (from + n - (at + k)))) ≡ count s from (at - from) + count s (from + (at - from)) (k + (from + n - (at + k))) = count-join from (at - from) (k + (from + n - (at + k))) in
+      let last : count s at (k + (from + n - (at + k))) ≡ count s at k + count s (at + k) (from + n - (at + k)) = count-join at k (from + n - (at + k)) in
+      let whole : count s from (at - from + (k + (from + n - (at + k)))) ≡ count s from n = ap (count s from) (omega arith) in
+      let here : count s (from + (at - from)) (k + (from + n - (at + k))) ≡ count s at (k + (from + n - (at + k))) = ap (λ z. count s z (k + (from + n - (at + k)))) (omega arith) in
+      omega (arith, first, last, whole, here, count-all at k each)
+
+pub count-wider : (s t : ℕ → Bool) (from n : ℕ) → ((q : ℕ) → from ≤ q → q < from + n → s q ≡ true → t q ≡ true) → count s from n ≤ count t from n
+unfolding count
+count-wider s t from zero each = omega arith
+count-wider s t from (suc n) each =
+    let rest : count s (from + 1) n ≤ count t (from + 1) n = count-wider s t (from + 1) n (λ q low high. each q (omega arith) (omega arith)) in
+    elim (true-or-false (s from)) [
+      | inl yes1 ↦ rw (yes1, each from (omega arith) (omega arith) yes1) (omega (arith, rest))
+      | inr none ↦ rw none (omega (arith, rest))
+    ]
+
+-- All words of the objects of the list pass a test.
+Marked : Plan → (ℕ → Bool) → List ℕ → Type 0
+Marked p s vs = (v q : ℕ) → In v vs → IsIn p v q → s q ≡ true
+
+-- Objects that are apart have no more words than the places that pass in the range that they lie in.
+packed : (f : ℕ) (p : Plan) (s : ℕ → Bool) (from n : ℕ) (vs : List ℕ) → length vs ≤ f → Distinct vs → Spread p vs → Within p from (from + n) vs → Marked p s vs → total p vs ≤ count s from n
+unfolding Distinct Spread Within Marked
+packed f p s from n [] le d a w m = omega arith
+packed zero p s from n (v ∷ vs) le d a w m = absurd (omega arith)
+packed (suc f) p s from n (v ∷ vs) le (fresh, d) a w m =
+    let o : Parted p v vs = parted p v vs d (λ u i. elim (a u v (inr i) (inl refl)) [
+      | inl e ↦ absurd (let P : ℕ → Type 0 = λ z. In z vs in fresh (subst P e i))
+      | inr r ↦ r
     ]) in
-    let here : (from ≤ v / 4) × ((v / 4 + size p v ≤ to) × (0 < size p v)) = w v (inl refl) in
-    let low : from + total p o.low ≤ v / 4 = packed n p from (v / 4) o.low (omega (arith, o.count, le)) (omega (arith, here)) o.low_apart (λ a b i j. s a b (inr (o.low_in a i).0) (inr (o.low_in b j).0))
-    (λ u i. ((w u (inr (o.low_in u i).0)).0, ((o.low_in u i).1, (w u (inr (o.low_in u i).0)).1.1))) in
-    let high : v / 4 + size p v + total p o.high ≤ to = packed n p (v / 4 + size p v) to o.high (omega (arith, o.count, le)) (omega (arith, here)) o.high_apart (λ a b i j. s a b (inr (o.high_in a i).0) (inr (o.high_in b j).0))
-    (λ u i. ((o.high_in u i).1, ((w u (inr (o.high_in u i).0)).1.0, (w u (inr (o.high_in u i).0)).1.1))) in
-    omega (arith, low, high, o.words)
+    let here : (from ≤ v / 4) × ((v / 4 + size p v ≤ from + n) × (0 < size p v)) = w v (inl refl) in
+    let low : total p o.low ≤ count s from (v / 4 - from) = packed f p s from (v / 4 - from) o.low (omega (arith, o.count, le)) o.low_apart (λ x z i j. a x z (inr (o.low_in x i).0) (inr (o.low_in z j).0))
+    (λ u i. ((w u (inr (o.low_in u i).0)).0, (omega (arith, here, (o.low_in u i).1), (w u (inr (o.low_in u i).0)).1.1))) (λ u q i h. m u q (inr (o.low_in u i).0) h) in
+    let high : total p o.high ≤ count s (v / 4 + size p v) (from + n - (v / 4 + size p v)) = packed f p s (v / 4 + size p v) (from + n - (v / 4 + size p v)) o.high (omega (arith, o.count, le)) o.high_apart (λ x z i j. a x z (inr (o.high_in x i).0) (inr (o.high_in z j).0))
+    (λ u i. ((o.high_in u i).1, (omega (arith, here, (w u (inr (o.high_in u i).0)).1.0), (w u (inr (o.high_in u i).0)).1.1))) (λ u q i h. m u q (inr (o.high_in u i).0) h) in
+    let parts : count s from (v / 4 - from) + (size p v + count s (v / 4 + size p v) (from + n - (v / 4 + size p v))) ≡ count s from n =
+    count-three s from n (v / 4) (size p v) (omega (arith, here)) (omega (arith, here)) (λ q at less. m v q (inl refl) (record { from = at; below = less })) in
+    omega (arith, low, high, o.words, parts)
 
 module _ (p : Plan) (b : Bool) (from to : ℕ) (standing : AllStand p.test p.shared p.start p.roots p.trees) (single : IsSingle p.test) (order : from ≤ to)
     (lies : (v : ℕ) → Reached p v → Leaves p v → p.mature (v / 4) ≡ b → (from ≤ v / 4) × (v / 4 + size p v ≤ to)) where
@@ -146,17 +195,26 @@ module _ (p : Plan) (b : Bool) (from to : ℕ) (standing : AllStand p.test p.sha
       let (u, c) = reached p.test p.shared p.start p.roots p.trees standing w s in
       objects-apart p.test p.shared p.start v w t u single a c x.pointer z.pointer
 
-  in-range : (l : Listed p.start p.roots) (o : Chosen p b l.each) → Within p from to o.each
+  in-range : (l : Listed p.start p.roots) (o : Chosen p b l.each) → Within p from (from + (to - from)) o.each
   unfolding Within
-  in-range l o v i = let (r, (x, e)) = reached-one l o v i in ((lies v r x e).0, ((lies v r x e).1, size-some p v x.pointer))
+  in-range l o v i = let (r, (x, e)) = reached-one l o v i in ((lies v r x e).0, (omega (arith, (lies v r x e).1, order), size-some p v x.pointer))
 
-  fits-by : (l : Listed p.start p.roots) (o : Chosen p b l.each) → p.low b + (to - from) ≤ p.high b → Fits p b
-  unfolding Goes
-  fits-by l o room = record {
-    each = o.each;
-    all = λ w r x goes. o.all w (l.all w r) (x, goes);
-    words = omega (arith, room, packed (length o.each) p from to o.each (omega arith) order o.apart (spread l o) (in-range l o));
-  }
+  module _ (s : ℕ → Bool) (passes : (v q : ℕ) → Reached p v → Leaves p v → p.mature (v / 4) ≡ b → IsIn p v q → s q ≡ true) where
+    marked : (l : Listed p.start p.roots) (o : Chosen p b l.each) → Marked p s o.each
+    unfolding Marked
+    marked l o v q i h = let (r, (x, e)) = reached-one l o v i in passes v q r x e h
 
+    fits-by : (l : Listed p.start p.roots) (o : Chosen p b l.each) → p.low b + count s from (to - from) ≤ p.high b → Fits p b
+    unfolding Goes
+    fits-by l o room = record {
+      each = o.each;
+      all = λ w r x goes. o.all w (l.all w r) (x, goes);
+      words = omega (arith, room, packed (length o.each) p s from (to - from) o.each (omega arith) o.apart (spread l o) (in-range l o) (marked l o));
+    }
+
+    pub fits-by-places : p.low b + count s from (to - from) ≤ p.high b → Fits p b
+    fits-by-places room = fits-by all-words (chosen p b all-words.each) room
+
+  -- The whole range is counted.
   pub fits-by-range : p.low b + (to - from) ≤ p.high b → Fits p b
-  fits-by-range room = fits-by all-words (chosen p b all-words.each) room
+  fits-by-range room = fits-by-places (λ q. true) (λ v q r x e h. refl) (omega (arith, room, count-most (λ q. true) from (to - from)))

@@ -1,5 +1,5 @@
 -- What is constant while a collection runs.
-use Rattle.std.specs.Prelude.{◌≡◌, ℕ, ◌+◌, ◌/◌, ◌%◌, ◌<◌, ◌≤◌, ◌⊎◌, Bool, true, false, List, [], ◌∷◌, length, slice_index}
+use Rattle.std.specs.Prelude.{◌≡◌, ℕ, zero, suc, ◌+◌, ◌/◌, ◌%◌, ◌<◌, ◌≤◌, ◌⊎◌, if◌then◌else◌, Bool, true, false, List, [], ◌∷◌, length, slice_index}
 use Rattle.plain_term.specs.Tree.{Trees}
 use Rattle.term_read.specs.Object.{IsPointer, object_words}
 use Rattle.term_read.specs.Reach.{Reach, first_traced}
@@ -58,6 +58,11 @@ In w (v ∷ vs) = (w ≡ v) ⊎ In w vs
 abbrev pub total : Plan → List ℕ → ℕ
 total p [] = 0
 total p (v ∷ vs) = size p v + total p vs
+
+-- How many of n places, from one on, pass the test.
+unfoldable pub count : (ℕ → Bool) → ℕ → ℕ → ℕ
+count s from zero = 0
+count s from (suc n) = (if s from then 1 else 0) + count s (from + 1) n
 
 -- The room holds the objects that go there, each once.
 pub record Fits (p : Plan) (room : Bool) : Type 0 where

@@ -3,7 +3,7 @@ ghost use Rattle.std.specs.Prelude.{◌≡◌, ℕ, ◌+◌, ◌-◌, ◌/◌, �
 ghost use Rattle.term_read.specs.Role.{IsSingle};
 ghost use Rattle.term_read.specs.Stands.{AllStand};
 ghost use Rattle.cheney.specs.declared.moving.Moving.{Moving};
-ghost use Rattle.cheney.specs.Plan.{Fits, In, IsNoTail, IsOutside, Leaves, Plan, Ready, Reached, size};
+ghost use Rattle.cheney.specs.Plan.{Fits, In, IsIn, IsNoTail, IsOutside, Leaves, Plan, Ready, Reached, count, size};
 ghost use Rattle.cheney.specs.Moved.{IsImage, moved};
 ghost use Rattle.cheney.specs.Zones.{Marks, at_objects};
 ghost use Rattle.cheney.specs.Rooms.{Agrees, Runs, top_of};
@@ -12,10 +12,22 @@ ghost use Rattle.cheney.specs.Collected.{AllImages, AreImages, Collected, Compos
 ghost use Rattle.cheney.specs.Next.{GoesOn, HasRoles, Remains};
 
 /// A room holds the objects that go there where it has as many free words as the range that they lie in, whatever they
-/// share.
+/// share, or as the places of that range that pass a test which all words of these objects pass.
 pub fn fits_law()
-    ensures { (p : Plan) (b : Bool) (from to : ℕ) → AllStand p.test p.shared p.start p.roots p.trees → IsSingle p.test → from ≤ to
+    ensures range { (p : Plan) (b : Bool) (from to : ℕ) → AllStand p.test p.shared p.start p.roots p.trees → IsSingle p.test → from ≤ to
         → ((v : ℕ) → Reached p v → Leaves p v → p.mature (v / 4) ≡ b → (from ≤ v / 4) × (v / 4 + size p v ≤ to)) → p.low b + (to - from) ≤ p.high b → Fits p b }
+    ensures places { (p : Plan) (b : Bool) (from to : ℕ) (s : ℕ → Bool) → AllStand p.test p.shared p.start p.roots p.trees → IsSingle p.test → from ≤ to
+        → ((v : ℕ) → Reached p v → Leaves p v → p.mature (v / 4) ≡ b → (from ≤ v / 4) × (v / 4 + size p v ≤ to))
+        → ((v q : ℕ) → Reached p v → Leaves p v → p.mature (v / 4) ≡ b → IsIn p v q → s q ≡ true) → p.low b + count s from (to - from) ≤ p.high b → Fits p b }
+{}
+
+/// Places are counted part by part; no more pass than there are, and no fewer pass a test that allows more.
+pub fn count_law()
+    ensures none { (s : ℕ → Bool) (from : ℕ) → count s from 0 ≡ 0 }
+    ensures join { (s : ℕ → Bool) (from m n : ℕ) → count s from (m + n) ≡ count s from m + count s (from + m) n }
+    ensures most { (s : ℕ → Bool) (from n : ℕ) → count s from n ≤ n }
+    ensures all { (s : ℕ → Bool) (from n : ℕ) → ((q : ℕ) → from ≤ q → q < from + n → s q ≡ true) → count s from n ≡ n }
+    ensures wider { (s t : ℕ → Bool) (from n : ℕ) → ((q : ℕ) → from ≤ q → q < from + n → s q ≡ true → t q ≡ true) → count s from n ≤ count t from n }
 {}
 
 /// A collection that is ready, with two empty rooms, runs.

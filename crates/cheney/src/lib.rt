@@ -10,8 +10,8 @@ mod stay;
 mod tests;
 
 pub use laws::{
-    again_law, aside_law, begin_law, beside_law, collected_law, compose_law, fits_law, later_law,
-    roles_law, roots_law, write_law,
+    again_law, aside_law, begin_law, beside_law, collected_law, compose_law, count_law, fits_law,
+    later_law, roles_law, roots_law, write_law,
 };
 pub use moving::Moving;
 pub use objects::evacuate;
