@@ -11,10 +11,10 @@ use Rattle.term_read.specs.Stands.{Stands, AllStand}
 use Rattle.cheney.specs.Plan.{Plan, Ready, Reached, Leaves, In, total, size, first}
 use Rattle.cheney.specs.Moved.{moved, forward, IsImage}
 use Rattle.cheney.specs.Zones.{Marks, IsCopy, Row, IsRow, Gone, Invariant, scanned_at}
-use Rattle.cheney.specs.Collected.{IsMoved, IsFilled, Follows, Collected, AreImages, Composes}
-use Rattle.cheney.proofs.Basics.{true-or-false, same-room, not-both, leaves-or-not, reach-part, size-some, size-cons, size-boxed, first-cons, first-boxed}
+use Rattle.cheney.specs.Collected.{IsMoved, IsFilled, IsLeftOrMoved, Follows, Collected, AreImages, Composes}
+use Rattle.cheney.proofs.Basics.{moved-boxed, true-or-false, same-room, not-both, leaves-or-not, reach-part, size-some, size-cons, size-boxed, first-cons, first-boxed}
 use Rattle.cheney.proofs.Counts.{words-bounded}
-use Rattle.cheney.proofs.Ground.{Ground, not-shown, stay-not-shown}
+use Rattle.cheney.proofs.Ground.{Ground, not-shown, shown-header, stay-not-shown}
 use Rattle.cheney.proofs.Homes.{Home, Settled, settled}
 use Rattle.cheney.proofs.Writing.{at-copy}
 
@@ -193,6 +193,15 @@ module _ (p : Plan) (y : Ready p) (g : Ground p) (m : List ℕ) (top : Bool → 
   roots-stand : (d : ℕ → ℕ → Bool) → Follows p m d → (ws : List ℕ) → AreImages p m ws → AllStand d p.shared m ws p.trees
   roots-stand d f ws a = all-images d f p.roots ws p.trees (λ j less. root j (get_or p.roots j 0) less refl) a.count a.each y.standing
 
+  -- Whether a boxed object was reached is told by its header.
+  left-or-moved : (v : ℕ) → v % 4 ≡ 2 → p.test (v / 4) 3 ≡ true → get_or p.start (v / 4) 0 % 4 ≡ 0 → IsLeftOrMoved p m v
+  left-or-moved v tag role header = elim (i.touched (v / 4) 3 role) [
+    | inl e ↦ inl (e, moved-boxed m v tag ∙ (let z : get_or m (v / 4) 0 % 4 ≡ 0 = ap (λ x. x % 4) e ∙ header in rw z refl))
+    | inr w ↦ (let same : w.v ≡ v = shown-header p y w.v v w.reached w.leaves.pointer tag role header w.shows in
+        let P : ℕ → Type 0 = λ x. Reached p x × (Leaves p x × (moved m x ≡ true)) in
+        inr (subst P same (w.reached, (w.leaves, w.gone))))
+  ]
+
   pub collected : Collected p m top
   collected = record {
     same_len = i.same_len;
@@ -210,6 +219,7 @@ module _ (p : Plan) (y : Ready p) (g : Ground p) (m : List ℕ) (top : Bool → 
     records = i.records;
     untouched = λ a r h three four. elim (i.touched a r h) [ inl e ↦ e | inr w ↦ absurd (not-shown p y w.v a r w.reached w.leaves.pointer h three four w.shows) ];
     unmoved = λ a r h stay whole. elim (i.touched a r h) [ inl e ↦ e | inr w ↦ absurd (stay-not-shown p w.v a w.reached w.leaves stay whole w.shows) ];
+    headers = left-or-moved;
     touched = i.touched;
   }
 

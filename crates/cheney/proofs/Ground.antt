@@ -177,3 +177,12 @@ not-shown p y v q k r i h three four s = elim (shown-role p (ground p y) v q r i
 pub stay-not-shown : (p : Plan) (v q : ℕ) → Reached p v → Leaves p v → p.stay q ≡ true → ((u : ℕ) → Reached p u → u % 4 ≡ 1 → q ≡ u / 4 + 1 → p.stay (u / 4) ≡ true) → Shows v q → ⊥
 stay-not-shown p v q r l stay whole_conses (inl e) = not-both (p.stay q) stay (ap p.stay e ∙ l.leaves)
 stay-not-shown p v q r l stay whole_conses (inr (tag, e)) = not-both (p.stay (v / 4)) (whole_conses v r tag e) l.leaves
+
+-- What shows itself at the place of a header is the object with that header.
+pub shown-header : (p : Plan) → Ready p → (u v : ℕ) → Reached p u → IsPointer u → v % 4 ≡ 2 → p.test (v / 4) 3 ≡ true → get_or p.start (v / 4) 0 % 4 ≡ 0 → Shows u (v / 4) → u ≡ v
+shown-header p y u v r (inr tag2) tag role header (inl e) = omega (arith, e, tag, tag2)
+shown-header p y u v r (inl tag1) tag role header (inl e) = absurd ((ground p y).head u r tag1 (ap (λ x. get_or p.start x 0 % 4) (sym e) ∙ header))
+shown-header p y u v r i tag role header (inr (tag1, e)) =
+    let P : ℕ → Type 0 = λ x. p.test x 4 ≡ true in
+    let three_is_four : 3 ≡ 4 = y.single.one (v / 4) 3 4 role (subst P (sym e) ((ground p y).tail_role u r tag1)) in
+    absurd (omega (arith, three_is_four))

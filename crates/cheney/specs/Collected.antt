@@ -49,11 +49,16 @@ AllImages p m (v ∷ vs) (x ∷ xs) = IsImage p m v x × AllImages p m vs xs
 AllImages p m [] (x ∷ xs) = ⊥
 AllImages p m (v ∷ vs) [] = ⊥
 
+-- The word at the place of a boxed object, such as one of a chain, is as it was, or the object was reached and moved.
+abbrev pub IsLeftOrMoved : Plan → List ℕ → ℕ → Type 0
+IsLeftOrMoved p m v = ((slice_index m (v / 4) ≡ slice_index p.start (v / 4)) × (moved m v ≡ false)) ⊎ (Reached p v × (Leaves p v × (moved m v ≡ true)))
+
 -- The whole collection. The forwarding words are a map, one to one, that is defined on exactly the objects outside `stay`
 -- that the roots reach; the objects of `mature` lie in the aged room, all others in the young one, each once and whole;
 -- what each word has become stands for the tree that it stood for; and what stays, reached or not, each word whose role
--- is neither 3 nor 4, the records among them, and all words of a moved boxed object but the first are as they were. A word
--- with a role that is not as it was shows where a reached object went.
+-- is neither 3 nor 4, the records among them, and all words of a moved boxed object but the first are as they were. A
+-- header that stands where the test says shows whether its object was reached. A word with a role that is not as it was
+-- shows where a reached object went.
 pub record Collected (p : Plan) (m : List ℕ) (top : Bool → ℕ) : Type 0 where
   pub same_len : length m ≡ length p.start
   pub complete : (v : ℕ) → Reached p v → Leaves p v → moved m v ≡ true
@@ -71,6 +76,7 @@ pub record Collected (p : Plan) (m : List ℕ) (top : Bool → ℕ) : Type 0 whe
   pub records : (a k : ℕ) → 6 ≤ k → p.test a k ≡ true → slice_index m a ≡ slice_index p.start a
   pub untouched : (a k : ℕ) → p.test a k ≡ true → (k ≡ 3 → ⊥) → (k ≡ 4 → ⊥) → slice_index m a ≡ slice_index p.start a
   pub unmoved : (a k : ℕ) → p.test a k ≡ true → p.stay a ≡ true → IsNoTail p a → slice_index m a ≡ slice_index p.start a
+  pub headers : (v : ℕ) → v % 4 ≡ 2 → p.test (v / 4) 3 ≡ true → slice_index p.start (v / 4) % 4 ≡ 0 → IsLeftOrMoved p m v
   pub touched : (a k : ℕ) → p.test a k ≡ true → (slice_index m a ≡ slice_index p.start a) ⊎ IsShown p m a
 
 -- What the new roots reach is exactly what the words that the roots reached have become: another collection may follow.
