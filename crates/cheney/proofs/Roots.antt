@@ -6,9 +6,10 @@ use Rattle.cheney.specs.declared.moving.Moving.{Moving}
 use Rattle.cheney.specs.Plan.{In, Leaves, Plan, Ready, Reached}
 use Rattle.cheney.specs.Moved.{IsImage, moved}
 use Rattle.cheney.specs.Zones.{at_objects}
-use Rattle.cheney.specs.Rooms.{top_of, Runs}
+use Rattle.cheney.specs.Rooms.{Runs}
 use Rattle.cheney.specs.Calls.{CanMove, Evacuated, Later, RunsOn}
-use Rattle.cheney.specs.Collected.{AllImages, AreImages, Begins, Collected, IsBeside, RootsMoved}
+use Rattle.cheney.specs.Collected.{AllImages, AreImages, Begins, IsBeside, RootsMoved}
+use Rattle.cheney.specs.Next.{Ended}
 use Rattle.cheney.proofs.Basics.{one-or-not}
 use Rattle.cheney.proofs.Begins.{begins, beside-grows, has-collected, image-kept}
 use Rattle.cheney.proofs.Facts.{Grows, image-later}
@@ -143,12 +144,13 @@ starts p mem mem2 mv mv2 aged young ws vs i b c =
     subst Q f (subst P e c.runs)
 
 pub ended : (p : Plan) (mem mem2 mem3 : List ℕ) (mv mv2 mv3 : Moving) (ws vs : List ℕ) (i : ℕ) → Begins p mem mv vs → Collecting p mem2 mv2 mv.aged.start mv.young.start ws i → length vs ≤ i
-    → (Runs p mem2 mv2 (at_objects mv2.aged.start mv2.young.start) → RunsOn p mem2 mem3 mv3 (at_objects mv3.aged.top mv3.young.top)) → Collected p mem3 (top_of mv3) × AreImages p mem3 ws
+    → (Runs p mem2 mv2 (at_objects mv2.aged.start mv2.young.start) → RunsOn p mem2 mem3 mv3 (at_objects mv3.aged.top mv3.young.top)) → Ended p mem3 mv3 ws
 ended p mem mem2 mem3 mv mv2 mv3 ws vs i b c all scanned =
     let r : RunsOn p mem2 mem3 mv3 (at_objects mv3.aged.top mv3.young.top) = scanned (starts p mem mem2 mv mv2 0 0 ws vs i b c) in
     let images : (j : ℕ) → j < length p.roots → IsImage p mem3 (get_or p.roots j 0) (get_or ws j 0) = λ j less.
     image-kept p mem2 mem3 (get_or p.roots j 0) (get_or ws j 0) r.later (root j (get_or p.roots j 0) less refl) (c.done j (omega (arith, all, less, ap length b.words)) less) in
-    (has-collected p mem3 mv3 r.runs (record { each = λ j less l. ((images j less).gone l).0 }), record { count = c.count; each = images })
+    let moved : RootsMoved p mem3 = record { each = λ j less l. ((images j less).gone l).0 } in
+    record { runs = r.runs; moved = moved; images = record { count = c.count; each = images }; collected = has-collected p mem3 mv3 r.runs moved }
 
 pub same-length : (p : Plan) (mem mem2 mem3 : List ℕ) (mv mv2 mv3 : Moving) (ws vs : List ℕ) (i : ℕ) → Begins p mem mv vs → Collecting p mem2 mv2 mv.aged.start mv.young.start ws i
     → (Runs p mem2 mv2 (at_objects mv2.aged.start mv2.young.start) → RunsOn p mem2 mem3 mv3 (at_objects mv3.aged.top mv3.young.top)) → length mem3 ≡ length mem

@@ -1,5 +1,5 @@
 -- A memory laid out by hand, with an object of each kind: a collection can begin there.
-use Rattle.std.proofs.Common.{◌≡◌, ℕ, zero, suc, ◌+◌, ◌-◌, ◌*◌, ◌/◌, ◌%◌, ◌<◌, ◌≤◌, ◌⊎◌, Bool, true, false, List, [], ◌∷◌, length, get_or, refl, sym, ◌∙◌, ap, subst, arith, inl, inr, pos, lit≤, lit<, ◌==◌, ◌&&◌, ◌||◌, if◌then◌else◌}
+use Rattle.std.proofs.Common.{◌≡◌, ℕ, zero, suc, ◌+◌, ◌-◌, ◌*◌, ◌/◌, ◌%◌, ◌<◌, ◌≤◌, ◌⊎◌, Bool, true, false, List, [], ◌∷◌, length, get_or, refl, sym, ◌∙◌, ap, subst, arith, inl, inr, pos, lit≤, lit<, ◌==◌, ◌&&◌, ◌||◌, if◌then◌else◌, nat_lt}
 use Rattle.std.proofs.lemmas.Bool.{eqb-true}
 use Rattle.std.proofs.lemmas.List.{get_or_past}
 use Rattle.std.proofs.lemmas.Bool.Decides.{nat_tests}
@@ -14,16 +14,21 @@ use Rattle.term_read.specs.Object.{byte_of, BytesLie, IsObject, IsPointer, objec
 use Rattle.term_read.specs.Reach.{Reach, root, part, first_traced}
 use Rattle.term_read.specs.Stands.{Stands, RowStands, KeysStand, ValuesStand, AllStand}
 use Rattle.term_read.proofs.Rooms.{role-at}
+use Rattle.word_mem.specs.declared.ranges.Room.{Room}
 use Rattle.word_mem.specs.declared.ranges.Span.{Span}
 use Rattle.cheney.specs.declared.stay.Stay.{Stay}
 use Rattle.cheney.specs.Spans.{in_span, in_spans}
 use Rattle.cheney.specs.Ranges.{stays}
 use Rattle.cheney.specs.Plan.{Plan, Ready, Reached, Leaves, In, Fits, size, first}
-use Rattle.cheney.specs.Collected.{CanCollect}
+use Rattle.cheney.specs.declared.moving.Moving.{Moving}
+use Rattle.cheney.specs.Rooms.{top_of}
+use Rattle.cheney.specs.Collected.{Begins, CanCollect}
+use Rattle.cheney.specs.Next.{Ended, GoesOn, HasRoles, Remains, used}
+use Rattle.cheney.proofs.Next.{has-roles, ready-again}
 
 abbrev pub sample : List ℕ
 sample = 0 ∷ 31 ∷ 59 ∷ 128 ∷ 331 ∷ 5 ∷ 164 ∷ 3 ∷ 591879 ∷ 86 ∷ 1 ∷ 1 ∷ 2 ∷ 513 ∷ 352 ∷ 2 ∷ 0 ∷ 9 ∷ 0 ∷ 0 ∷ 296 ∷ 1 ∷ 1 ∷ 0 ∷ 58 ∷ 71 ∷ 770 ∷ 1 ∷ 0 ∷ 404 ∷ 25 ∷ 0 ∷ 2 ∷ 1 ∷ 19 ∷ 79 ∷ 64 ∷ 75 ∷ 252 ∷ 1 ∷ 146 ∷ 159
-    ∷ 144 ∷ 1 ∷ 7 ∷ 72 ∷ 9223372036854775808 ∷ 0 ∷ 136 ∷ 0 ∷ 1 ∷ 0 ∷ 0 ∷ 0 ∷ 0 ∷ 0 ∷ 0 ∷ 0 ∷ 0 ∷ 0 ∷ 0 ∷ 0 ∷ 0 ∷ 0 ∷ 0 ∷ 0 ∷ 0 ∷ 0 ∷ 0 ∷ 0 ∷ 0 ∷ 0 ∷ 0 ∷ 0 ∷ 0 ∷ 0 ∷ 0 ∷ 0 ∷ 0 ∷ 0 ∷ 0 ∷ 0 ∷ 0 ∷ 0 ∷ 0 ∷ 0 ∷ 0 ∷ 0 ∷ 0 ∷ 0 ∷ 0 ∷ []
+    ∷ 144 ∷ 1 ∷ 7 ∷ 72 ∷ 9223372036854775808 ∷ 0 ∷ 136 ∷ 0 ∷ 1 ∷ 0 ∷ 0 ∷ 0 ∷ 0 ∷ 0 ∷ 0 ∷ 0 ∷ 0 ∷ 0 ∷ 0 ∷ 0 ∷ 0 ∷ 0 ∷ 0 ∷ 0 ∷ 0 ∷ 0 ∷ 0 ∷ 0 ∷ 0 ∷ 0 ∷ 0 ∷ 0 ∷ 0 ∷ 0 ∷ 0 ∷ 0 ∷ 0 ∷ 0 ∷ 0 ∷ 0 ∷ 0 ∷ 0 ∷ 0 ∷ 0 ∷ 0 ∷ 0 ∷ 0 ∷ 0 ∷ 0 ∷ 0 ∷ 0 ∷ 0 ∷ 0 ∷ 0 ∷ 0 ∷ 0 ∷ 0 ∷ 0 ∷ 0 ∷ 0 ∷ 0 ∷ 0 ∷ 0 ∷ 0 ∷ 0 ∷ 0 ∷ 0 ∷ 0 ∷ 0 ∷ 0 ∷ 0 ∷ 0 ∷ 0 ∷ 0 ∷ 0 ∷ 0 ∷ 0 ∷ 0 ∷ 0 ∷ 0 ∷ 0 ∷ 0 ∷ 0 ∷ 0 ∷ 0 ∷ 0 ∷ 0 ∷ 0 ∷ 0 ∷ []
 
 abbrev pub roots : List ℕ
 roots = 5 ∷ 14 ∷ 26 ∷ 58 ∷ 82 ∷ 118 ∷ 154 ∷ 170 ∷ 182 ∷ 190 ∷ 194 ∷ 5 ∷ 79 ∷ []
@@ -355,19 +360,137 @@ ready = record {
 }
 
 -- The memory that was laid out is this one, and nothing else stays.
-pub can-collect : {E : Type 0} (r : Result (List ℕ) E) (m : List ℕ) (none stay : Stay) → r ≡ Ok m → IfOk r (λ x. x ≡ sample) → none.spans.items ≡ [] → ((q : ℕ) → stays stay q ≡ (stays none q || in_span kept q))
-    → CanCollect m (record { stay = stay; mature = record { start = 1; end = 9 }; aged = record { start = 51; top = 51; end = 60 }; young = record { start = 60; top = 60; end = 91 } }) roots
-can-collect {E} r m none stay e h n s =
-    let P : Result (List ℕ) E → Type 0 = λ x. IfOk x (λ y. y ≡ sample) in
+
+abbrev pub first-rooms : Stay → Room → Room → Moving
+first-rooms stay aged young = record { stay = stay; mature = record { start = 1; end = 9 }; aged = aged; young = young }
+
+pub begins-there : {E : Type 0} (r : Result (List ℕ) E) (m : List ℕ) (none stay : Stay) (aged young : Room) → r ≡ Ok m → IfOk r (λ x. x ≡ sample) → none.spans.items ≡ [] → ((q : ℕ) → stays stay q ≡ (stays none q || in_span kept q))
+    → aged ≡ record { start = 51; top = 51; end = 60 } → young ≡ record { start = 60; top = 60; end = 91 } → Begins plan m (first-rooms stay aged young) roots
+begins-there {E} r m none stay aged young e h n s a y =
+    let P : Result (List ℕ) E → Type 0 = λ x. IfOk x (λ z. z ≡ sample) in
     let same : m ≡ sample = subst P e h in
     record {
-      plan = plan;
+      memory = sym same;
+      words = refl;
+      ready = ready;
+      agrees = record {
+        stay = λ q. s q ∙ ap (λ xs. in_spans xs q || in_span kept q) n;
+        mature = λ q. refl;
+        aged_low = ap (λ z. z.start) a;
+        aged_high = ap (λ z. z.end) a;
+        young_low = ap (λ z. z.start) y;
+        young_high = ap (λ z. z.end) y;
+      };
+      aged_empty = ap (λ z. z.top) a ∙ sym (ap (λ z. z.start) a);
+      young_empty = ap (λ z. z.top) y ∙ sym (ap (λ z. z.start) y);
+    }
+
+pub can-collect : {E : Type 0} (r : Result (List ℕ) E) (m : List ℕ) (none stay : Stay) (aged young : Room) → r ≡ Ok m → IfOk r (λ x. x ≡ sample) → none.spans.items ≡ [] → ((q : ℕ) → stays stay q ≡ (stays none q || in_span kept q))
+    → aged ≡ record { start = 51; top = 51; end = 60 } → young ≡ record { start = 60; top = 60; end = 91 } → CanCollect m (first-rooms stay aged young) roots
+can-collect r m none stay aged young e h n s a y = record { plan = plan; begins = begins-there r m none stay aged young e h n s a y }
+
+-- A second collection goes to the free words at the end.
+
+low-again : Bool → ℕ
+low-again true = 0
+low-again false = 91
+
+high-again : Bool → ℕ
+high-again true = 0
+high-again false = 131
+
+-- All roles of the first collection's memory are kept.
+below : ℕ → ℕ → Bool
+below a k = nat_lt a 51
+
+has-role : (a k : ℕ) → roles_of role a k ≡ true → a < 51
+has-role a k h =
+    let order4 : (a < 51) ⊎ (51 ≤ a) = grind arith in
+    elim order4 [ inl near ↦ near | inr far ↦ absurd (role-none a k (get_or_past roles a 0 far) h) ]
+
+is-below : (a k : ℕ) → a < 51 → below a k ≡ true
+unfolding below
+is-below a k h = grind (arith, nat_tests)
+
+below-is : (a k : ℕ) → below a k ≡ true → a < 51
+unfolding below
+below-is a k h = grind (arith, nat_tests)
+
+remains : Remains plan below
+remains = record {
+  stays = λ v q k r t s i h. is-below q k (has-role q k h);
+  counts = λ a h. is-below a 2 (has-role a 2 h);
+  records = λ a k big h. is-below a k (has-role a k h);
+}
+
+abbrev none : Span
+none = record { start = 0; end = 0 }
+
+-- The plan of the second collection.
+abbrev plan-again : (m ws : List ℕ) → HasRoles plan m below → Plan
+plan-again m ws r = record { start = m; roots = ws; shared = lists; trees = the-trees; test = r.test; stay = in_span kept; mature = in_span none; low = low-again; high = high-again }
+
+low-from : (b : Bool) → 51 ≤ low b
+low-from true = lit≤ tt
+low-from false = lit≤ tt
+
+high-to : (b : Bool) → high b ≤ 91
+high-to true = lit≤ tt
+high-to false = lit≤ tt
+
+not-kept : (a : ℕ) → 51 ≤ a → in_span kept a ≡ false
+not-kept a h = grind (arith, nat_tests)
+
+never-old : (a : ℕ) → in_span none a ≡ true → ⊥
+never-old a h = grind (arith, nat_tests)
+
+clear-again : (a : ℕ) (b : Bool) → a < 91 → (a < low-again b) ⊎ (high-again b ≤ a)
+unfolding low-again high-again
+clear-again a true h = inr (omega arith)
+clear-again a false h = inl h
+
+goes-on : (m ws : List ℕ) (mv : Moving) → Ended plan m mv ws → (r : HasRoles plan m below) → GoesOn plan (plan-again m ws r) m (top_of mv) below r
+unfolding low-again high-again
+goes-on m ws mv e r = record {
+  memory = refl;
+  images = e.images;
+  shared = refl;
+  trees = refl;
+  test = refl;
+  stay = λ a. refl;
+  moving = λ a b from less. not-kept a (omega (arith, from, low-from b));
+  kept_clear = λ a k b h. clear-again a b (omega (arith, below-is a k h));
+  used_clear = λ a b c from less. clear-again a b (omega (arith, less, e.collected.ends c, high-to c));
+  rooms = inl (lit≤ tt);
+  order = λ b. elim b as (λ c. low-again c ≤ high-again c) [ true ↦ lit≤ tt | false ↦ lit≤ tt ];
+  inside = λ b. elim b as (λ c. high-again c ≤ length m) [ true ↦ omega (arith, e.collected.same_len) | false ↦ omega (arith, e.collected.same_len) ];
+  room = λ b. elim b as (λ c. (low-again c + used plan (top_of mv) ≤ high-again c) ⊎ ((a : ℕ) → in_span none a ≡ c → ⊥)) [ true ↦ inr never-old | false ↦ inl (omega (arith, e.collected.ends true, e.collected.ends false)) ];
+}
+
+abbrev pub second-rooms : Stay → Room → Room → Moving
+second-rooms stay aged young = record { stay = stay; mature = record { start = 0; end = 0 }; aged = aged; young = young }
+
+pub can-go-on : (m ws : List ℕ) (mv : Moving) (no_span stay : Stay) (aged young : Room) → Ended plan m mv ws → no_span.spans.items ≡ [] → ((q : ℕ) → stays stay q ≡ (stays no_span q || in_span kept q))
+    → aged ≡ record { start = 0; top = 0; end = 0 } → young ≡ record { start = 91; top = 91; end = 131 } → CanCollect m (second-rooms stay aged young) ws
+unfolding low-again high-again
+can-go-on m ws mv no_span stay aged young e n s a y =
+    let r : HasRoles plan m below = has-roles plan ready m (top_of mv) e.collected below remains in
+    let on : GoesOn plan (plan-again m ws r) m (top_of mv) below r = goes-on m ws mv e r in
+    record {
+      plan = plan-again m ws r;
       begins = record {
-        memory = sym same;
+        memory = refl;
         words = refl;
-        ready = ready;
-        agrees = record { stay = λ q. s q ∙ ap (λ xs. in_spans xs q || in_span kept q) n; mature = λ q. refl; aged_low = refl; aged_high = refl; young_low = refl; young_high = refl };
-        aged_empty = refl;
-        young_empty = refl;
+        ready = ready-again plan (plan-again m ws r) m mv e.runs e.moved e.collected below r on;
+        agrees = record {
+          stay = λ q. s q ∙ ap (λ xs. in_spans xs q || in_span kept q) n;
+          mature = λ q. refl;
+          aged_low = ap (λ z. z.start) a;
+          aged_high = ap (λ z. z.end) a;
+          young_low = ap (λ z. z.start) y;
+          young_high = ap (λ z. z.end) y;
+        };
+        aged_empty = ap (λ z. z.top) a ∙ sym (ap (λ z. z.start) a);
+        young_empty = ap (λ z. z.top) y ∙ sym (ap (λ z. z.start) y);
       };
     }

@@ -4,7 +4,17 @@ use Rattle.term_read.specs.Object.{IsPointer}
 use Rattle.term_read.specs.Role.{IsSingle}
 use Rattle.cheney.specs.Plan.{Plan, Reached, Leaves, IsIn, size}
 use Rattle.cheney.specs.Moved.{forward}
-use Rattle.cheney.specs.Collected.{Follows, AreImages}
+use Rattle.cheney.specs.Collected.{Follows, AreImages, Collected, RootsMoved}
+use Rattle.cheney.specs.declared.moving.Moving.{Moving}
+use Rattle.cheney.specs.Zones.{at_objects}
+use Rattle.cheney.specs.Rooms.{Runs, top_of}
+
+-- A whole collection has ended, and the words are the new roots: what it has done is known, and another may follow.
+pub record Ended (p : Plan) (m : List ℕ) (mv : Moving) (ws : List ℕ) : Type 0 where
+  pub runs : Runs p m mv (at_objects mv.aged.top mv.young.top)
+  pub moved : RootsMoved p m
+  pub images : AreImages p m ws
+  pub collected : Collected p m (top_of mv)
 
 -- The place is that of a word of a moved object, and the word had the role at its old place.
 pub record IsCarried (p : Plan) (m : List ℕ) (a k : ℕ) : Type 0 where

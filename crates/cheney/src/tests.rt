@@ -1,13 +1,14 @@
-ghost use Rattle.std.specs.Prelude.{◌≡◌, ◌≤◌, ◌^◌, length, IfOk};
+ghost use Rattle.std.specs.Prelude.{◌≡◌, ◌+◌, ◌≤◌, ◌^◌, length, IfOk};
 ghost use Rattle.cheney.specs.Plan.{Plan};
-ghost use Rattle.cheney.specs.Rooms.{top_of};
-ghost use Rattle.cheney.specs.Collected.{AreImages, Begins, CanCollect, Collected};
+ghost use Rattle.cheney.specs.Collected.{Begins, CanCollect};
+ghost use Rattle.cheney.specs.Next.{Ended};
 
 use crate::moving::Moving;
 use crate::objects::evacuate;
 use crate::parts::scan;
 use crate::stay::Stay;
 use std::alloc::Global;
+use std::process::Abort;
 use std::rt::HostRuntime;
 use word_mem::{OpenFault, Room, Span, WordMem};
 
@@ -28,7 +29,7 @@ fn laid(alloc: Global, words: &[u64]) -> Result<WordMem, OpenFault>
 fn collect(mem: &mut WordMem, mv: &mut Moving, roots: &mut [u64])
     requires { CanCollect mem.old mv.old roots.old }
     ensures len { length mem.new ≡ length mem.old }
-    ensures done { (p : Plan) → Begins p mem.old mv.old roots.old → Collected p mem.new (top_of mv.new) × AreImages p mem.new roots.new }
+    ensures done { (p : Plan) → Begins p mem.old mv.old roots.old → Ended p mem.new mv.new roots.new }
 {
     for i in 0..roots.len() {
         let w = roots[i];
@@ -37,245 +38,95 @@ fn collect(mem: &mut WordMem, mv: &mut Moving, roots: &mut [u64])
     scan(mem, mv);
 }
 
-// Where the aged room begins, and where the young one does.
-const AGED: u64 = 51;
+// The memory holds these words from a place on.
+fn holds(rt: &impl Abort, mem: &WordMem, from: u64, words: &[u64])
+    requires { from + length words.now ≤ length mem.now }
+{
+    let _len = mem.len();
+    for i in 0..words.len() {
+        let place = from + i as u64;
+        assert_eq!(rt; mem.get(place), words[i], "place {place}");
+    }
+}
 
-const YOUNG: u64 = 60;
+// An empty room.
+fn empty(start: u64, end: u64) -> Room
+    requires { start ≤ end }
+    ensures { result ≡ record { start = start; top = start; end = end } }
+{
+    Room {
+        start,
+        top: start,
+        end,
+    }
+}
+
+// 2^63, a big integer's digit.
+const BIG: u64 = 1 << 63;
+
+// An object of each kind; the word of place p is p * 4 + 1 for a list place, else p * 4 + 2. At 1 the list place [1]; at 3 a
+// tuple of an atom and that list; at 6 the bytes 7, 8, 9; at 9 the record of the shared bytes 1, 2, at 14 its holder, at 20
+// byte 1 of these; at 25 the record of a fun, at 29 the fun, with one place; at 36 the keys of a map, at 38 the map of an
+// atom to 9; at 42 a reference, which stays; at 45 2^63; at 47 the empty tuple; at 48 2^64. All words from 51 on are free.
+const BEFORE: [u64; 131] = [
+    0, 31, 59, 128, 331, 5, 164, 3, 591879, 86, 1, 1, 2, 513, 352, 2, 0, 9, 0, 0, 296, 1, 1, 0, 58,
+    71, 770, 1, 0, 404, 25, 0, 2, 1, 19, 79, 64, 75, 252, 1, 146, 159, 144, 1, 7, 72, BIG, 0, 136,
+    0, 1, 0, 0, 0, 0, 0, 0, 0, 0, 0, 0, 0, 0, 0, 0, 0, 0, 0, 0, 0, 0, 0, 0, 0, 0, 0, 0, 0, 0, 0, 0,
+    0, 0, 0, 0, 0, 0, 0, 0, 0, 0, 0, 0, 0, 0, 0, 0, 0, 0, 0, 0, 0, 0, 0, 0, 0, 0, 0, 0, 0, 0, 0, 0,
+    0, 0, 0, 0, 0, 0, 0, 0, 0, 0, 0, 0, 0, 0, 0, 0, 0, 0,
+];
+
+// A moved object has its new word in its first place, a moved list place in its second. From 51 on: the list place, the
+// tuple, the bytes. From 60 on: the holder, the part of it, the fun, the map, 2^63, the empty tuple, 2^64, the keys.
+const AFTER: [u64; 91] = [
+    0, 0, 205, 214, 331, 5, 226, 3, 591879, 86, 1, 1, 2, 513, 242, 2, 0, 9, 0, 0, 266, 1, 1, 0, 58,
+    71, 770, 1, 0, 286, 25, 0, 2, 1, 19, 79, 354, 75, 314, 1, 146, 159, 144, 1, 7, 330, BIG, 338,
+    342, 0, 1, 31, 59, 128, 331, 205, 164, 3, 591879, 0, 352, 2, 0, 9, 0, 0, 296, 1, 1, 0, 242,
+    404, 25, 0, 2, 1, 19, 79, 252, 1, 354, 159, 72, BIG, 0, 136, 0, 1, 64, 75, 0,
+];
+
+// The same from 91 on, in the order of the roots.
+const AGAIN: [u64; 40] = [
+    31, 59, 128, 331, 365, 164, 3, 591879, 352, 2, 0, 9, 0, 0, 296, 1, 1, 0, 398, 404, 25, 0, 2, 1,
+    19, 79, 252, 1, 510, 159, 72, BIG, 0, 136, 0, 1, 64, 75, 0, 0,
+];
+
+// The roots, the word of the list place twice and an integer at the end; and what they become.
+const ROOTS: [u64; 13] = [5, 14, 26, 58, 82, 118, 154, 170, 182, 190, 194, 5, 79];
+
+const MOVED: [u64; 13] = [
+    205, 214, 226, 242, 266, 286, 314, 170, 330, 338, 342, 205, 79,
+];
+
+const MOVED_AGAIN: [u64; 13] = [
+    365, 374, 386, 398, 422, 442, 470, 170, 486, 494, 498, 365, 79,
+];
 
 #[test]
 fn each_kind_is_moved_once(rt: HostRuntime) {
-    // The words of an object stand in a line, the place of the first before it; the place of word p * 4 + 1 or + 2 is p.
-    let words = [
-        0,
-        // 1: the list place [1]
-        31,
-        59,
-        // 3: a tuple of an atom and the list
-        128,
-        331,
-        5,
-        // 6: the bytes 7, 8, 9 on the heap
-        164,
-        3,
-        591879,
-        // 9: the record of the shared bytes 1, 2
-        86,
-        1,
-        1,
-        2,
-        513,
-        // 14: its holder
-        352,
-        2,
-        0,
-        9,
-        0,
-        0,
-        // 20: byte 1 of the holder's bytes
-        296,
-        1,
-        1,
-        0,
-        58,
-        // 25: the record of a fun
-        71,
-        770,
-        1,
-        0,
-        // 29: a fun with an environment of one place
-        404,
-        25,
-        0,
-        2,
-        1,
-        19,
-        79,
-        // 36: the keys of a map, and 38: the map of an atom to 9
-        64,
-        75,
-        252,
-        1,
-        146,
-        159,
-        // 42: a reference, which stays
-        144,
-        1,
-        7,
-        // 45: 2^63, and 47: the empty tuple
-        72,
-        9223372036854775808,
-        0,
-        // 48: 2^64
-        136,
-        0,
-        1,
-        // 51: the aged room, and 60: the young one
-        0,
-        0,
-        0,
-        0,
-        0,
-        0,
-        0,
-        0,
-        0,
-        0,
-        0,
-        0,
-        0,
-        0,
-        0,
-        0,
-        0,
-        0,
-        0,
-        0,
-        0,
-        0,
-        0,
-        0,
-        0,
-        0,
-        0,
-        0,
-        0,
-        0,
-        0,
-        0,
-        0,
-        0,
-        0,
-        0,
-        0,
-        0,
-        0,
-        0,
-    ];
-    let mut mem = laid(rt.alloc(), &words).expect(&rt, "a memory");
+    let mut mem = laid(rt.alloc(), &BEFORE).expect(&rt, "a memory");
+    let kept = Span { start: 42, end: 45 };
     let mut mv = Moving {
-        stay: Stay::none().with(Span { start: 42, end: 45 }),
+        stay: Stay::none().with(kept),
         mature: Span { start: 1, end: 9 },
-        aged: Room {
-            start: AGED,
-            top: AGED,
-            end: YOUNG,
-        },
-        young: Room {
-            start: YOUNG,
-            top: YOUNG,
-            end: 91,
-        },
+        aged: empty(51, 60),
+        young: empty(60, 91),
     };
-    let mut roots = [5, 14, 26, 58, 82, 118, 154, 170, 182, 190, 194, 5, 79];
+    let mut roots = ROOTS;
     collect(&mut mem, &mut mv, &mut roots);
-    assert_eq!(rt;
-        roots,
-        [
-            205, 214, 226, 242, 266, 286, 314, 170, 330, 338, 342, 205, 79
-        ]
-    );
-    assert_eq!(rt; mv.aged.top, 59);
-    assert_eq!(rt; mv.young.top, 90);
-    // What each object was has its new place in its first word, a cons in its tail.
-    let after = [
-        0,
-        0,
-        205,
-        214,
-        331,
-        5,
-        226,
-        3,
-        591879,
-        86,
-        1,
-        1,
-        2,
-        513,
-        242,
-        2,
-        0,
-        9,
-        0,
-        0,
-        266,
-        1,
-        1,
-        0,
-        58,
-        71,
-        770,
-        1,
-        0,
-        286,
-        25,
-        0,
-        2,
-        1,
-        19,
-        79,
-        354,
-        75,
-        314,
-        1,
-        146,
-        159,
-        144,
-        1,
-        7,
-        330,
-        9223372036854775808,
-        338,
-        342,
-        0,
-        1,
-        // 51: the list place, 53: the tuple, 56: the bytes
-        31,
-        59,
-        128,
-        331,
-        205,
-        164,
-        3,
-        591879,
-        0,
-        // 60: the holder, 66: the part of it, 71: the fun, 78: the map
-        352,
-        2,
-        0,
-        9,
-        0,
-        0,
-        296,
-        1,
-        1,
-        0,
-        242,
-        404,
-        25,
-        0,
-        2,
-        1,
-        19,
-        79,
-        252,
-        1,
-        354,
-        159,
-        // 82: 2^63, 84: the empty tuple, 85: 2^64, 88: the keys of the map
-        72,
-        9223372036854775808,
-        0,
-        136,
-        0,
-        1,
-        64,
-        75,
-        0,
-    ];
-    for (place, want) in after.into_iter().enumerate() {
-        assert_eq!(rt; mem.get(place as u64), want, "place {place}");
-    }
+    assert_eq!(rt; roots, MOVED);
+    assert_eq!(rt; (mv.aged.top, mv.young.top), (59, 90));
+    holds(&rt, &mem, 0, &AFTER);
+    let mut again = Moving {
+        stay: Stay::none().with(kept),
+        mature: Span { start: 0, end: 0 },
+        aged: empty(0, 0),
+        young: empty(91, 131),
+    };
+    collect(&mut mem, &mut again, &mut roots);
+    assert_eq!(rt; roots, MOVED_AGAIN);
+    assert_eq!(rt; (again.aged.top, again.young.top), (0, 129));
+    holds(&rt, &mem, 91, &AGAIN);
 }
 
 #[test]
