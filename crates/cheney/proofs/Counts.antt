@@ -214,7 +214,7 @@ unfolding words size
 total-words p [] = refl
 total-words p (v ∷ vs) = ap (λ z. object_words p.start v + z) (total-words p vs)
 
-in-row : (p : Plan) (m : List ℕ) (b : Bool) (place : ℕ) (vs : List ℕ) (top : ℕ) → Row p m b place vs top → (v : ℕ) → In v vs → Reached p v × (Leaves p v × ((p.mature (v / 4) ≡ b) × (place ≤ forward m v / 4)))
+pub in-row : (p : Plan) (m : List ℕ) (b : Bool) (place : ℕ) (vs : List ℕ) (top : ℕ) → Row p m b place vs top → (v : ℕ) → In v vs → Reached p v × (Leaves p v × ((p.mature (v / 4) ≡ b) × (place ≤ forward m v / 4)))
 in-row p m b place [] top row v i = absurd i
 in-row p m b place (u ∷ vs) top (c, row) v (inl e) =
     let P : ℕ → Type 0 = λ z. Reached p z × (Leaves p z × ((p.mature (z / 4) ≡ b) × (place ≤ forward m z / 4))) in

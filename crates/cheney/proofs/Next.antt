@@ -1,10 +1,13 @@
 -- The roles of the new memory's words, and a collection that begins where one has ended.
-use Rattle.std.proofs.Common.{◌≡◌, ℕ, ◌+◌, ◌-◌, ◌/◌, ◌<◌, ◌≤◌, ◌⊎◌, Bool, true, false, List, [], ◌∷◌, ◌++◌, length, get_or, refl, sym, ◌∙◌, ap, subst, arith, inl, inr, if◌then◌else◌, nat_le, nat_lt, ◌&&◌, ◌||◌}
+use Rattle.std.proofs.Common.{◌≡◌, ℕ, ◌+◌, ◌-◌, ◌*◌, ◌/◌, ◌%◌, ◌<◌, ◌≤◌, ◌⊎◌, ◌==◌, Bool, true, false, List, [], ◌∷◌, ◌++◌, length, get_or, refl, sym, ◌∙◌, ap, subst, arith, inl, inr, if◌then◌else◌, nat_le, nat_lt, ◌&&◌, ◌||◌}
 use Rattle.std.proofs.lemmas.Bool.Decides.{nat_tests}
 use Rattle.plain_term.specs.Tree.{Trees}
 use Rattle.term_read.specs.Object.{IsPointer, object_words}
 use Rattle.term_read.specs.Reach.{Reach, first_traced}
-use Rattle.term_read.specs.Role.{IsSingle}
+use Rattle.term_read.specs.Role.{always, IsSingle}
+use Rattle.term_read.specs.Tiled.{IsTile, Tiled, tile_words}
+use Rattle.term_read.proofs.Reached.{reached}
+use Rattle.term_read.proofs.Tiles.{tiled-object}
 use Rattle.term_read.specs.Stands.{AllStand}
 use Rattle.cheney.specs.declared.moving.Moving.{Moving}
 use Rattle.cheney.specs.Plan.{Plan, Ready, Reached, Leaves, IsIn, In, Fits, total, size, first}
@@ -12,10 +15,10 @@ use Rattle.cheney.specs.Moved.{forward, IsImage}
 use Rattle.cheney.specs.Zones.{Row, at_objects}
 use Rattle.cheney.specs.Rooms.{Runs, top_of}
 use Rattle.cheney.specs.Collected.{Collected, Follows, IsMoved, RootsMoved}
-use Rattle.cheney.specs.Next.{GoesOn, HasRoles, IsCarried, Remains, used}
+use Rattle.cheney.specs.Next.{GoesOn, HasRoles, IsCarried, IsTiled, Remains, used}
 use Rattle.cheney.proofs.Basics.{true-or-false, not-both, leaves-or-not, size-some}
 use Rattle.cheney.proofs.Begins.{done}
-use Rattle.cheney.proofs.Counts.{both-total}
+use Rattle.cheney.proofs.Counts.{both-total, in-row}
 use Rattle.cheney.proofs.Ends.{Covers, covers, old_place, row-total, fresh, shape-image}
 use Rattle.cheney.proofs.Ground.{ground}
 use Rattle.cheney.proofs.Roots.{in-joined}
@@ -165,6 +168,39 @@ unfolding forwards
 in-forwards m v w [] i e = absurd i
 in-forwards m v w (u ∷ us) (inl same) e = inl (e ∙ ap (forward m) same)
 in-forwards m v w (u ∷ us) (inr i) e = inr (in-forwards m v w us i e)
+
+of-forwards : (m : List ℕ) (x : ℕ) (vs : List ℕ) → In x (forwards m vs) → (v : ℕ) × (In v vs × (x ≡ forward m v))
+unfolding forwards
+of-forwards m x [] i = absurd i
+of-forwards m x (u ∷ us) (inl e) = (u, (inl refl, e))
+of-forwards m x (u ∷ us) (inr i) = let (v, (j, e)) = of-forwards m x us i in (v, (inr j, e))
+
+module _ (p : Plan) (m : List ℕ) (mv : Moving) (run : Runs p m mv (at_objects mv.aged.top mv.young.top)) (roots : RootsMoved p m) (o : Collected p m (top_of mv)) where
+  copy-tile : (v place : ℕ) → Reached p v → Leaves p v → forward m v ≡ place * 4 + v % 4 → (forward m v / 4 ≡ place) × (IsTile m (forward m v) × (tile_words m (forward m v) ≡ size p v))
+  copy-tile v place r l e =
+      let im : IsImage p m v (forward m v) = record { kept = λ nay. absurd (nay l); gone = λ i. (o.complete v r l, refl) } in
+      let (t, s) = reached p.test p.shared p.start p.roots p.trees run.ready.standing v r in
+      let c : IsMoved p m (top_of mv) v (forward m v) = o.copies v r l in
+      let pointer : IsPointer (forward m v) = elim l.pointer [ inl a ↦ inl (omega (arith, a, c.tag)) | inr a ↦ inr (omega (arith, a, c.tag)) ] in
+      let (here, is, rest) = tiled-object always p.shared m (forward m v) t (o.standing v (forward m v) t r im s) pointer in
+      let other : (forward m v % 4 == 0) ≡ false = grind (arith, nat_tests, pointer) in
+      (omega (arith, e, l.pointer), (is, (rw other (shape-image p run.ready (ground p run.ready) m (top_of mv) (at_objects mv.aged.top mv.young.top) run.holds (done mv) roots.each v (forward m v) r l.pointer im).0)))
+
+  row-tiled : (b : Bool) (place : ℕ) (vs : List ℕ) (top : ℕ) → Row p m b place vs top → Tiled m place (forwards m vs) top
+  unfolding forwards
+  row-tiled b place [] top row = row
+  row-tiled b place (v ∷ vs) top (c, row) =
+      let (here, (is, words)) = copy-tile v place c.reached c.leaves c.word in
+      let P : ℕ → Type 0 = λ z. Tiled m (place + z) (forwards m vs) top in
+      (here, is, subst P (sym words) (row-tiled b (place + size p v) vs top row))
+
+  pub is-tiled : (b : Bool) → IsTiled p m b (top_of mv b)
+  is-tiled b = record {
+    tiles = forwards m (o.filled b).each;
+    row = row-tiled b (p.low b) (o.filled b).each (top_of mv b) (o.filled b).row;
+    all = λ v r l goes. in-forwards m v (forward m v) (o.filled b).each ((o.filled b).all v r l goes) refl;
+    only = λ x i. let (v, (j, e)) = of-forwards m x (o.filled b).each i in let (r, (l, (goes, low))) = in-row p m b (p.low b) (o.filled b).each (top_of mv b) (o.filled b).row v j in (v, (r, (l, (goes, e))));
+  }
 
 module _ (p q : Plan) (m : List ℕ) (mv : Moving) (run : Runs p m mv (at_objects mv.aged.top mv.young.top)) (roots : RootsMoved p m) (o : Collected p m (top_of mv)) (s : ℕ → ℕ → Bool) (r : HasRoles p m s) (n : GoesOn p q m (top_of mv) s r) where
   -- What the second plan reaches is what a word that the first one reached has become.

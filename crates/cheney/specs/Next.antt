@@ -2,7 +2,8 @@
 use Rattle.std.specs.Prelude.{◌≡◌, ℕ, ◌+◌, ◌-◌, ◌/◌, ◌<◌, ◌≤◌, ◌⊎◌, Bool, true, false, List, length}
 use Rattle.term_read.specs.Object.{IsPointer}
 use Rattle.term_read.specs.Role.{IsSingle}
-use Rattle.cheney.specs.Plan.{Plan, Reached, Leaves, IsIn, size}
+use Rattle.term_read.specs.Tiled.{Tiled}
+use Rattle.cheney.specs.Plan.{Plan, Reached, Leaves, In, IsIn, size}
 use Rattle.cheney.specs.Moved.{forward}
 use Rattle.cheney.specs.Collected.{Follows, AreImages, Collected, RootsMoved}
 use Rattle.cheney.specs.declared.moving.Moving.{Moving}
@@ -40,6 +41,14 @@ pub record HasRoles (p : Plan) (m : List ℕ) (s : ℕ → ℕ → Bool) : Type 
   pub follows : Follows p m test
   pub kept : (a k : ℕ) → p.test a k ≡ true → s a k ≡ true → test a k ≡ true
   pub comes : (a k : ℕ) → test a k ≡ true → IsCarried p m a k ⊎ ((p.test a k ≡ true) × (s a k ≡ true))
+
+-- The words in use in a room are whole objects side by side, read by their first words in the new memory: the copies of
+-- all reached objects that go there, and of no other.
+pub record IsTiled (p : Plan) (m : List ℕ) (b : Bool) (top : ℕ) : Type 0 where
+  pub tiles : List ℕ
+  pub row : Tiled m (p.low b) tiles top
+  pub all : (v : ℕ) → Reached p v → Leaves p v → p.mature (v / 4) ≡ b → In (forward m v) tiles
+  pub only : (x : ℕ) → In x tiles → (v : ℕ) × (Reached p v × (Leaves p v × ((p.mature (v / 4) ≡ b) × (x ≡ forward m v))))
 
 -- The words in use in both rooms.
 abbrev pub used : Plan → (Bool → ℕ) → ℕ

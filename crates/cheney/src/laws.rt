@@ -9,7 +9,7 @@ ghost use Rattle.cheney.specs.Zones.{Marks, at_objects};
 ghost use Rattle.cheney.specs.Rooms.{Agrees, Runs, top_of};
 ghost use Rattle.cheney.specs.Calls.{Later};
 ghost use Rattle.cheney.specs.Collected.{AllImages, AreImages, Collected, Composes, IsBeside, RootsMoved};
-ghost use Rattle.cheney.specs.Next.{GoesOn, HasRoles, Remains};
+ghost use Rattle.cheney.specs.Next.{GoesOn, HasRoles, IsTiled, Remains};
 
 /// A room holds the objects that go there where it has as many free words as the range that they lie in, whatever they
 /// share, or as the places of that range that pass a test which all words of these objects pass.
@@ -87,6 +87,11 @@ pub fn compose_law()
 /// The new memory has one role a place, so that a later collection can say where its objects lie.
 pub fn roles_law()
     ensures { (p : Plan) (m : List ℕ) (top : Bool → ℕ) (s : ℕ → ℕ → Bool) → Ready p → Collected p m top → Remains p s → HasRoles p m s }
+{}
+
+/// Each room is filled with whole objects, side by side.
+pub fn tiled_law()
+    ensures { (p : Plan) (m : List ℕ) (mv : Moving) (b : Bool) → Runs p m mv (at_objects mv.aged.top mv.young.top) → RootsMoved p m → IsTiled p m b (top_of mv b) }
 {}
 
 /// A collection can follow another, as between two halves: what it moves lies in the rooms that the first one filled.

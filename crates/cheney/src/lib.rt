@@ -11,7 +11,7 @@ mod tests;
 
 pub use laws::{
     again_law, aside_law, begin_law, beside_law, collected_law, compose_law, count_law, fits_law,
-    later_law, roles_law, roots_law, write_law,
+    later_law, roles_law, roots_law, tiled_law, write_law,
 };
 pub use moving::Moving;
 pub use objects::evacuate;
