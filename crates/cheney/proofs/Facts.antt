@@ -9,12 +9,6 @@ pub record Grows (p : Plan) (m n : List ℕ) : Type 0 where
   pub gone : (v : ℕ) → Reached p v → Leaves p v → moved m v ≡ true → moved n v ≡ true
   pub same : (v : ℕ) → Reached p v → Leaves p v → moved m v ≡ true → forward n v ≡ forward m v
 
-pub grows-then : (p : Plan) (a b c : List ℕ) → Grows p a b → Grows p b c → Grows p a c
-grows-then p a b c g h = record {
-  gone = λ v r l y. h.gone v r l (g.gone v r l y);
-  same = λ v r l y. h.same v r l (g.gone v r l y) ∙ g.same v r l y;
-}
-
 pub image-later : (p : Plan) (m n : List ℕ) (w x : ℕ) → Grows p m n → Reached p w → IsImage p m w x → IsImage p n w x
 image-later p m n w x g r i = record {
   kept = i.kept;

@@ -1,5 +1,5 @@
 -- A room holds the objects that go there where it has as many words as the counted places that they lie in.
-use Rattle.std.proofs.Common.{◌≡◌, ℕ, zero, suc, ◌+◌, ◌-◌, ◌/◌, ◌<◌, ◌≤◌, ◌⊎◌, if◌then◌else◌, Bool, true, List, [], ◌∷◌, length, refl, sym, ap, subst, arith, inl, inr}
+use Rattle.std.proofs.Common.{◌≡◌, ℕ, zero, suc, ◌+◌, ◌-◌, ◌/◌, ◌<◌, ◌≤◌, ◌⊎◌, Bool, true, List, [], ◌∷◌, length, refl, sym, ap, subst, arith, inl, inr}
 use Rattle.plain_term.specs.Measures.{flat_of_all}
 use Rattle.term_read.specs.Role.{IsSingle}
 use Rattle.term_read.specs.Stands.{AllStand}

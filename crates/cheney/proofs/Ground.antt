@@ -1,7 +1,7 @@
 -- What is true of all that the roots reach when a collection begins.
-use Rattle.std.proofs.Common.{◌≡◌, ℕ, ◌+◌, ◌*◌, ◌/◌, ◌%◌, ◌<◌, ◌≤◌, ◌⊎◌, Bool, true, false, length, get_or, List, refl, sym, ◌∙◌, ap, subst, arith, inl, inr}
+use Rattle.std.proofs.Common.{◌≡◌, ℕ, ◌+◌, ◌/◌, ◌%◌, ◌<◌, ◌≤◌, ◌⊎◌, Bool, true, false, length, get_or, List, refl, sym, ◌∙◌, ap, subst, arith, inl, inr}
 use Rattle.plain_term.specs.Tree.{Tree}
-use Rattle.plain_term.specs.Tree.Tree.{Int, Atom, Pid, Ref, Nil, Cons, Tuple, Map, Bin, Shared, Part, Fun}
+use Rattle.plain_term.specs.Tree.Tree.{Int, Atom, Pid, Nil, Cons}
 use Rattle.term_read.specs.Object.{IsPointer}
 use Rattle.term_read.specs.Role.{OfObject}
 use Rattle.term_read.specs.Stands.{Stands}
@@ -10,10 +10,10 @@ use Rattle.term_read.proofs.Inside.{pair-inside, boxed-inside}
 use Rattle.term_read.proofs.Reached.{reached, scanned}
 use Rattle.term_read.proofs.Roles.{object-role}
 use Rattle.term_read.proofs.Rooms.{is-term}
-use Rattle.term_read.proofs.Shapes.{told, Told}
+use Rattle.term_read.proofs.Shapes.{told}
 use Rattle.cheney.specs.Plan.{Plan, Ready, Reached, Leaves, IsIn, size, first}
 use Rattle.cheney.specs.Moved.{Shows}
-use Rattle.cheney.proofs.Basics.{not-both, shows-in, size-cons, size-boxed}
+use Rattle.cheney.proofs.Basics.{not-both, size-cons, size-boxed}
 
 pub record Ground (p : Plan) : Type 0 where
   pub inside : (v : ℕ) → Reached p v → IsPointer v → v / 4 + size p v ≤ length p.start

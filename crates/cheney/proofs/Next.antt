@@ -10,12 +10,12 @@ use Rattle.term_read.proofs.Reached.{reached}
 use Rattle.term_read.proofs.Tiles.{tiled-object}
 use Rattle.term_read.specs.Stands.{AllStand}
 use Rattle.cheney.specs.declared.moving.Moving.{Moving}
-use Rattle.cheney.specs.Plan.{Plan, Ready, Reached, Leaves, IsIn, In, Fits, total, size, first}
+use Rattle.cheney.specs.Plan.{Plan, Ready, Reached, Leaves, In, Fits, total, size, first}
 use Rattle.cheney.specs.Moved.{forward, IsImage}
 use Rattle.cheney.specs.Zones.{Row, at_objects}
 use Rattle.cheney.specs.Rooms.{Runs, top_of}
-use Rattle.cheney.specs.Collected.{Collected, Follows, IsMoved, RootsMoved}
-use Rattle.cheney.specs.Next.{GoesOn, HasRoles, IsCarried, IsTiled, Remains, used}
+use Rattle.cheney.specs.Collected.{Collected, IsMoved, RootsMoved, used}
+use Rattle.cheney.specs.Next.{GoesOn, HasRoles, IsCarried, IsTiled, Remains, Succeeds}
 use Rattle.cheney.proofs.Basics.{true-or-false, not-both, leaves-or-not, size-some}
 use Rattle.cheney.proofs.Begins.{done}
 use Rattle.cheney.proofs.Counts.{both-total, in-row}
@@ -202,7 +202,7 @@ module _ (p : Plan) (m : List ℕ) (mv : Moving) (run : Runs p m mv (at_objects 
     only = λ x i. let (v, (j, e)) = of-forwards m x (o.filled b).each i in let (r, (l, (goes, low))) = in-row p m b (p.low b) (o.filled b).each (top_of mv b) (o.filled b).row v j in (v, (r, (l, (goes, e))));
   }
 
-module _ (p q : Plan) (m : List ℕ) (mv : Moving) (run : Runs p m mv (at_objects mv.aged.top mv.young.top)) (roots : RootsMoved p m) (o : Collected p m (top_of mv)) (s : ℕ → ℕ → Bool) (r : HasRoles p m s) (n : GoesOn p q m (top_of mv) s r) where
+module _ (p q : Plan) (m : List ℕ) (mv : Moving) (run : Runs p m mv (at_objects mv.aged.top mv.young.top)) (roots : RootsMoved p m) (o : Collected p m (top_of mv)) (n : Succeeds p q m) where
   -- What the second plan reaches is what a word that the first one reached has become.
   source : (x : ℕ) → Reached q x → (v : ℕ) × (Reached p v × IsImage p m v x)
   source x t =
@@ -234,14 +234,15 @@ module _ (p q : Plan) (m : List ℕ) (mv : Moving) (run : Runs p m mv (at_object
       let P : ℕ → Type 0 = λ z. (p.low (p.mature (v / 4)) ≤ z / 4) × (z / 4 + size q z ≤ top_of mv (p.mature (v / 4))) in
       (p.mature (v / 4), subst P (sym e) (c.from, omega (arith, c.below, (shape v (forward m v) tv lv.pointer (moved-image v tv lv)).0)))
 
-  closed-again : (x j : ℕ) → Reached q x → IsPointer x → q.stay (x / 4) ≡ true → first q x ≤ j → j < size q x → Leaves q (get_or q.start (x / 4 + j) 0) → ⊥
-  closed-again x j t i stay from below l =
+  -- What stays points to nothing that moves, where the rooms in use hold nothing that stays.
+  closed-again : ((a : ℕ) (b : Bool) → p.low b ≤ a → a < top_of mv b → p.stay a ≡ false) → (x j : ℕ) → Reached q x → IsPointer x → q.stay (x / 4) ≡ true → first q x ≤ j → j < size q x → Leaves q (get_or q.start (x / 4 + j) 0) → ⊥
+  closed-again moving x j t i stay from below l =
       let (v, (tv, im)) = source x t in
       let there : p.stay (x / 4) ≡ true = sym (n.stay (x / 4)) ∙ stay in
       elim (leaves-or-not p v) [
         | inl lv ↦ (let c : IsMoved p m (top_of mv) v (forward m v) = o.copies v tv lv in
             let e : x ≡ forward m v = (im.gone lv).1 in
-            not-both (p.stay (x / 4)) there (n.moving (x / 4) (p.mature (v / 4)) (omega (arith, c.from, e)) (omega (arith, c.below, e, size-some p v lv.pointer))))
+            not-both (p.stay (x / 4)) there (moving (x / 4) (p.mature (v / 4)) (omega (arith, c.from, e)) (omega (arith, c.below, e, size-some p v lv.pointer))))
         | inr nay ↦ (let e : v ≡ x = sym (im.kept nay) in
             let R : ℕ → Type 0 = λ z. Reached p z in
             let I : ℕ → Type 0 = λ z. IsImage p m z x in
@@ -251,13 +252,6 @@ module _ (p q : Plan) (m : List ℕ) (mv : Moving) (run : Runs p m mv (at_object
             let L : ℕ → Type 0 = λ z. Leaves p z in
             run.ready.closed x j tx i there (omega (arith, from, first_is)) (omega (arith, below, size_is)) (subst L word (record { pointer = l.pointer; leaves = sym (n.stay (get_or q.start (x / 4 + j) 0 / 4)) ∙ l.leaves })))
       ]
-
-  clear-again : (a k : ℕ) (b : Bool) → r.test a k ≡ true → (a < q.low b) ⊎ (q.high b ≤ a)
-  clear-again a k b h = elim (r.comes a k h) [
-    | inr w ↦ n.kept_clear a k b w.1
-    | inl w ↦ (let c : IsMoved p m (top_of mv) w.v (forward m w.v) = o.copies w.v w.reached w.leaves in
-        n.used_clear a b (p.mature (w.v / 4)) (omega (arith, c.from, w.place)) (omega (arith, c.below, w.place, w.below)))
-  ]
 
   -- The copies of a row have the words of its objects.
   total-again : (b : Bool) (place : ℕ) (vs : List ℕ) (top : ℕ) → Row p m b place vs top → total q (forwards m vs) ≡ total p vs
@@ -273,9 +267,9 @@ module _ (p q : Plan) (m : List ℕ) (mv : Moving) (run : Runs p m mv (at_object
         | inr young ↦ in-joined w (forwards m (o.filled true).each) (forwards m (o.filled false).each) (inr (in-forwards m v w (o.filled false).each ((o.filled false).all v tv lv young) e))
       ]
 
-  fits-again : (b : Bool) → Fits q b
-  fits-again b = elim (n.room b) [
-    | inr none ↦ record { each = []; all = λ w t l goes. absurd (none (w / 4) goes); words = omega (arith, n.order b) }
+  pub fits-again : (b : Bool) → q.low b ≤ q.high b → (q.low b + used p (top_of mv) ≤ q.high b) ⊎ ((a : ℕ) → q.mature a ≡ b → ⊥) → Fits q b
+  fits-again b order why = elim why [
+    | inr none ↦ record { each = []; all = λ w t l goes. absurd (none (w / 4) goes); words = omega (arith, order) }
     | inl room ↦ record {
       each = forwards m (o.filled true).each ++ forwards m (o.filled false).each;
       all = λ w t l goes. listed-again b w t l;
@@ -291,20 +285,28 @@ module _ (p q : Plan) (m : List ℕ) (mv : Moving) (run : Runs p m mv (at_object
     }
   ]
 
-  pub ready-again : Ready q
-  ready-again =
-      let A : (ℕ → ℕ → Bool) → Type 0 = λ z. AllStand z p.shared m q.roots p.trees in
-      let B : List (List ℕ) → Type 0 = λ z. AllStand q.test z m q.roots p.trees in
-      let C : List ℕ → Type 0 = λ z. AllStand q.test q.shared z q.roots p.trees in
-      let D : Trees → Type 0 = λ z. AllStand q.test q.shared q.start q.roots z in
-      let S : (ℕ → ℕ → Bool) → Type 0 = λ z. IsSingle z in
-      record {
-        standing = subst D (sym n.trees) (subst C (sym n.memory) (subst B (sym n.shared) (subst A (sym n.test) (o.roots r.test r.follows q.roots n.images))));
-        single = subst S (sym n.test) r.single;
-        clear = λ a k b h. clear-again a k b (sym (ap (λ z. z a k) n.test) ∙ h);
-        closed = closed-again;
-        rooms = n.rooms;
-        order = n.order;
-        inside = λ b. omega (arith, n.inside b, ap length n.memory);
-        fits = fits-again;
-      }
+  module _ (s : ℕ → ℕ → Bool) (r : HasRoles p m s) (g : GoesOn p q m (top_of mv) s r) where
+    clear-again : (a k : ℕ) (b : Bool) → r.test a k ≡ true → (a < q.low b) ⊎ (q.high b ≤ a)
+    clear-again a k b h = elim (r.comes a k h) [
+      | inr w ↦ g.kept_clear a k w.1 b
+      | inl w ↦ (let c : IsMoved p m (top_of mv) w.v (forward m w.v) = o.copies w.v w.reached w.leaves in
+          g.used_clear a (p.mature (w.v / 4)) (omega (arith, c.from, w.place)) (omega (arith, c.below, w.place, w.below)) b)
+    ]
+
+    pub ready-again : Ready q
+    ready-again =
+        let A : (ℕ → ℕ → Bool) → Type 0 = λ z. AllStand z p.shared m q.roots p.trees in
+        let B : List (List ℕ) → Type 0 = λ z. AllStand q.test z m q.roots p.trees in
+        let C : List ℕ → Type 0 = λ z. AllStand q.test q.shared z q.roots p.trees in
+        let D : Trees → Type 0 = λ z. AllStand q.test q.shared q.start q.roots z in
+        let S : (ℕ → ℕ → Bool) → Type 0 = λ z. IsSingle z in
+        record {
+          standing = subst D (sym g.trees) (subst C (sym n.memory) (subst B (sym g.shared) (subst A (sym g.test) (o.roots r.test r.follows q.roots n.images))));
+          single = subst S (sym g.test) r.single;
+          clear = λ a k b h. clear-again a k b (sym (ap (λ z. z a k) g.test) ∙ h);
+          closed = closed-again g.moving;
+          rooms = g.rooms;
+          order = g.order;
+          inside = λ b. omega (arith, g.inside b, ap length n.memory);
+          fits = g.fits;
+        }

@@ -22,9 +22,9 @@ use Rattle.cheney.specs.Ranges.{stays}
 use Rattle.cheney.specs.Plan.{Plan, Ready, Reached, Leaves, In, Fits, size, first}
 use Rattle.cheney.specs.declared.moving.Moving.{Moving}
 use Rattle.cheney.specs.Rooms.{top_of}
-use Rattle.cheney.specs.Collected.{Begins, CanCollect}
-use Rattle.cheney.specs.Next.{Ended, GoesOn, HasRoles, Remains, used}
-use Rattle.cheney.proofs.Next.{has-roles, ready-again}
+use Rattle.cheney.specs.Collected.{Begins, CanCollect, Collected, used}
+use Rattle.cheney.specs.Next.{Ended, GoesOn, HasRoles, Remains, Succeeds}
+use Rattle.cheney.proofs.Next.{fits-again, has-roles, ready-again}
 
 abbrev pub sample : List ℕ
 sample = 0 ∷ 31 ∷ 59 ∷ 128 ∷ 331 ∷ 5 ∷ 164 ∷ 3 ∷ 591879 ∷ 86 ∷ 1 ∷ 1 ∷ 2 ∷ 513 ∷ 352 ∷ 2 ∷ 0 ∷ 9 ∷ 0 ∷ 0 ∷ 296 ∷ 1 ∷ 1 ∷ 0 ∷ 58 ∷ 71 ∷ 770 ∷ 1 ∷ 0 ∷ 404 ∷ 25 ∷ 0 ∷ 2 ∷ 1 ∷ 19 ∷ 79 ∷ 64 ∷ 75 ∷ 252 ∷ 1 ∷ 146 ∷ 159
@@ -449,22 +449,28 @@ unfolding low-again high-again
 clear-again a true h = inr (omega arith)
 clear-again a false h = inl h
 
+succeeds : (m ws : List ℕ) (mv : Moving) → Ended plan m mv ws → (r : HasRoles plan m below) → Succeeds plan (plan-again m ws r) m
+succeeds m ws mv e r = record { memory = refl; images = e.images; stay = λ a. refl }
+
+room-again : (m : List ℕ) (mv : Moving) → Collected plan m (top_of mv) → (b : Bool) → (low-again b ≤ high-again b) × ((low-again b + used plan (top_of mv) ≤ high-again b) ⊎ ((a : ℕ) → in_span none a ≡ b → ⊥))
+unfolding low-again high-again
+room-again m mv o true = (lit≤ tt, inr never-old)
+room-again m mv o false = (lit≤ tt, inl (omega (arith, o.ends true, o.ends false)))
+
 goes-on : (m ws : List ℕ) (mv : Moving) → Ended plan m mv ws → (r : HasRoles plan m below) → GoesOn plan (plan-again m ws r) m (top_of mv) below r
 unfolding low-again high-again
 goes-on m ws mv e r = record {
-  memory = refl;
-  images = e.images;
+  succeeds = succeeds m ws mv e r;
   shared = refl;
   trees = refl;
   test = refl;
-  stay = λ a. refl;
   moving = λ a b from less. not-kept a (omega (arith, from, low-from b));
-  kept_clear = λ a k b h. clear-again a b (omega (arith, below-is a k h));
-  used_clear = λ a b c from less. clear-again a b (omega (arith, less, e.collected.ends c, high-to c));
+  kept_clear = λ a k h b. clear-again a b (omega (arith, below-is a k h));
+  used_clear = λ a c from less b. clear-again a b (omega (arith, less, e.collected.ends c, high-to c));
   rooms = inl (lit≤ tt);
-  order = λ b. elim b as (λ c. low-again c ≤ high-again c) [ true ↦ lit≤ tt | false ↦ lit≤ tt ];
+  order = λ b. (room-again m mv e.collected b).0;
   inside = λ b. elim b as (λ c. high-again c ≤ length m) [ true ↦ omega (arith, e.collected.same_len) | false ↦ omega (arith, e.collected.same_len) ];
-  room = λ b. elim b as (λ c. (low-again c + used plan (top_of mv) ≤ high-again c) ⊎ ((a : ℕ) → in_span none a ≡ c → ⊥)) [ true ↦ inr never-old | false ↦ inl (omega (arith, e.collected.ends true, e.collected.ends false)) ];
+  fits = λ b. fits-again plan (plan-again m ws r) m mv e.runs e.moved e.collected (succeeds m ws mv e r) b (room-again m mv e.collected b).0 (room-again m mv e.collected b).1;
 }
 
 abbrev pub second-rooms : Stay → Room → Room → Moving
@@ -481,7 +487,7 @@ can-go-on m ws mv no_span stay aged young e n s a y =
       begins = record {
         memory = refl;
         words = refl;
-        ready = ready-again plan (plan-again m ws r) m mv e.runs e.moved e.collected below r on;
+        ready = ready-again plan (plan-again m ws r) m mv e.runs e.moved e.collected on.succeeds below r on;
         agrees = record {
           stay = λ q. s q ∙ ap (λ xs. in_spans xs q || in_span kept q) n;
           mature = λ q. refl;

@@ -11,6 +11,10 @@ use Rattle.cheney.specs.Plan.{Plan, Ready, Reached, Leaves, IsIn, IsNoTail, In, 
 use Rattle.cheney.specs.Moved.{moved, forward, IsImage}
 use Rattle.cheney.specs.Zones.{Row, IsShown}
 
+-- The words in use in both rooms.
+abbrev pub used : Plan → (Bool → ℕ) → ℕ
+used p top = (top true - p.low true) + (top false - p.low false)
+
 -- The object lies whole at its new place: its untraced words are the same, and its traced words are mapped.
 pub record IsMoved (p : Plan) (m : List ℕ) (top : Bool → ℕ) (v x : ℕ) : Type 0 where
   pub tag : x % 4 ≡ v % 4
@@ -67,7 +71,7 @@ pub record Collected (p : Plan) (m : List ℕ) (top : Bool → ℕ) : Type 0 whe
       → (v ≡ w) ⊎ ((forward m v / 4 + size p v ≤ forward m w / 4) ⊎ (forward m w / 4 + size p w ≤ forward m v / 4))
   pub filled : (b : Bool) → IsFilled p m b (top b)
   pub ends : (b : Bool) → top b ≤ p.high b
-  pub words : (top true - p.low true) + (top false - p.low false) ≤ flat_of_all p.trees
+  pub words : used p top ≤ flat_of_all p.trees
   pub trees : (d : ℕ → ℕ → Bool) → Follows p m d → (w x : ℕ) (t : Tree) → Reached p w → IsImage p m w x → Stands p.test p.shared p.start w t → Stands d p.shared m x t
   pub roots : (d : ℕ → ℕ → Bool) → Follows p m d → (ws : List ℕ) → AreImages p m ws → AllStand d p.shared m ws p.trees
   pub standing : (w x : ℕ) (t : Tree) → Reached p w → IsImage p m w x → Stands p.test p.shared p.start w t → stands p.shared m x t

@@ -3,12 +3,12 @@ use Rattle.std.specs.Prelude.{◌≡◌, ℕ, ◌+◌, ◌-◌, ◌/◌, ◌<◌
 use Rattle.term_read.specs.Object.{IsPointer}
 use Rattle.term_read.specs.Role.{IsSingle}
 use Rattle.term_read.specs.Tiled.{Tiled}
-use Rattle.cheney.specs.Plan.{Plan, Reached, Leaves, In, IsIn, size}
-use Rattle.cheney.specs.Moved.{forward}
-use Rattle.cheney.specs.Collected.{Follows, AreImages, Collected, RootsMoved}
 use Rattle.cheney.specs.declared.moving.Moving.{Moving}
+use Rattle.cheney.specs.Plan.{Plan, Reached, Leaves, Fits, In, IsIn, IsOutside, size}
+use Rattle.cheney.specs.Moved.{forward}
 use Rattle.cheney.specs.Zones.{at_objects}
 use Rattle.cheney.specs.Rooms.{Runs, top_of}
+use Rattle.cheney.specs.Collected.{AreImages, Collected, Follows, RootsMoved}
 
 -- A whole collection has ended, and the words are the new roots: what it has done is known, and another may follow.
 pub record Ended (p : Plan) (m : List ℕ) (mv : Moving) (ws : List ℕ) : Type 0 where
@@ -50,24 +50,23 @@ pub record IsTiled (p : Plan) (m : List ℕ) (b : Bool) (top : ℕ) : Type 0 whe
   pub all : (v : ℕ) → Reached p v → Leaves p v → p.mature (v / 4) ≡ b → In (forward m v) tiles
   pub only : (x : ℕ) → In x tiles → (v : ℕ) × (Reached p v × (Leaves p v × ((p.mature (v / 4) ≡ b) × (x ≡ forward m v))))
 
--- The words in use in both rooms.
-abbrev pub used : Plan → (Bool → ℕ) → ℕ
-used p top = (top true - p.low true) + (top false - p.low false)
-
--- A second plan goes on where a collection has ended: from its memory, its new roots and these roles. The rooms in use
--- hold nothing that stays, what s keeps and they are clear of the new rooms, and a new room that anything goes to has as
--- many words as they have in use.
-pub record GoesOn (p q : Plan) (m : List ℕ) (top : Bool → ℕ) (s : ℕ → ℕ → Bool) (r : HasRoles p m s) : Type 0 where
+-- A second plan has the memory and the new roots that a collection has ended with, and the same stays.
+pub record Succeeds (p q : Plan) (m : List ℕ) : Type 0 where
   pub memory : q.start ≡ m
   pub images : AreImages p m q.roots
+  pub stay : (a : ℕ) → q.stay a ≡ p.stay a
+
+-- It goes on with these roles and the same trees: the rooms in use hold nothing that stays, they and what s keeps are
+-- clear of the new rooms, and these are apart and hold what goes there.
+pub record GoesOn (p q : Plan) (m : List ℕ) (top : Bool → ℕ) (s : ℕ → ℕ → Bool) (r : HasRoles p m s) : Type 0 where
+  pub succeeds : Succeeds p q m
   pub shared : q.shared ≡ p.shared
   pub trees : q.trees ≡ p.trees
   pub test : q.test ≡ r.test
-  pub stay : (a : ℕ) → q.stay a ≡ p.stay a
   pub moving : (a : ℕ) (b : Bool) → p.low b ≤ a → a < top b → p.stay a ≡ false
-  pub kept_clear : (a k : ℕ) (b : Bool) → s a k ≡ true → (a < q.low b) ⊎ (q.high b ≤ a)
-  pub used_clear : (a : ℕ) (b c : Bool) → p.low c ≤ a → a < top c → (a < q.low b) ⊎ (q.high b ≤ a)
+  pub kept_clear : (a k : ℕ) → s a k ≡ true → IsOutside q a
+  pub used_clear : (a : ℕ) (b : Bool) → p.low b ≤ a → a < top b → IsOutside q a
   pub rooms : (q.high true ≤ q.low false) ⊎ (q.high false ≤ q.low true)
   pub order : (b : Bool) → q.low b ≤ q.high b
   pub inside : (b : Bool) → q.high b ≤ length m
-  pub room : (b : Bool) → (q.low b + used p top ≤ q.high b) ⊎ ((a : ℕ) → q.mature a ≡ b → ⊥)
+  pub fits : (b : Bool) → Fits q b

@@ -8,8 +8,8 @@ ghost use Rattle.cheney.specs.Moved.{IsImage, moved};
 ghost use Rattle.cheney.specs.Zones.{Marks, at_objects};
 ghost use Rattle.cheney.specs.Rooms.{Agrees, Runs, top_of};
 ghost use Rattle.cheney.specs.Calls.{Later};
-ghost use Rattle.cheney.specs.Collected.{AllImages, AreImages, Collected, Composes, IsBeside, RootsMoved};
-ghost use Rattle.cheney.specs.Next.{GoesOn, HasRoles, IsTiled, Remains};
+ghost use Rattle.cheney.specs.Collected.{AllImages, AreImages, Collected, Composes, IsBeside, RootsMoved, used};
+ghost use Rattle.cheney.specs.Next.{GoesOn, HasRoles, IsTiled, Remains, Succeeds};
 
 /// A room holds the objects that go there where it has as many free words as the range that they lie in, whatever they
 /// share, or as the places of that range that pass a test which all words of these objects pass.
@@ -94,9 +94,12 @@ pub fn tiled_law()
     ensures { (p : Plan) (m : List ℕ) (mv : Moving) (b : Bool) → Runs p m mv (at_objects mv.aged.top mv.young.top) → RootsMoved p m → IsTiled p m b (top_of mv b) }
 {}
 
-/// A collection can follow another, as between two halves: what it moves lies in the rooms that the first one filled.
+/// A collection can follow another, as between two halves: what it moves lies in the rooms that the first one filled, so a
+/// room holds all of it where it has as many words as these have in use.
 pub fn again_law()
-    ensures ready { (p q : Plan) (m : List ℕ) (mv : Moving) (s : ℕ → ℕ → Bool) → Runs p m mv (at_objects mv.aged.top mv.young.top) → RootsMoved p m → (r : HasRoles p m s) → GoesOn p q m (top_of mv) s r → Ready q }
-    ensures lies { (p q : Plan) (m : List ℕ) (mv : Moving) (s : ℕ → ℕ → Bool) → Runs p m mv (at_objects mv.aged.top mv.young.top) → RootsMoved p m → (r : HasRoles p m s) → GoesOn p q m (top_of mv) s r
+    ensures lies { (p q : Plan) (m : List ℕ) (mv : Moving) → Runs p m mv (at_objects mv.aged.top mv.young.top) → RootsMoved p m → Succeeds p q m
         → (v : ℕ) → Reached q v → Leaves q v → (b : Bool) × ((p.low b ≤ v / 4) × (v / 4 + size q v ≤ top_of mv b)) }
+    ensures fits { (p q : Plan) (m : List ℕ) (mv : Moving) → Runs p m mv (at_objects mv.aged.top mv.young.top) → RootsMoved p m → Succeeds p q m
+        → (b : Bool) → q.low b ≤ q.high b → (q.low b + used p (top_of mv) ≤ q.high b) ⊎ ((a : ℕ) → q.mature a ≡ b → ⊥) → Fits q b }
+    ensures ready { (p q : Plan) (m : List ℕ) (mv : Moving) (s : ℕ → ℕ → Bool) → Runs p m mv (at_objects mv.aged.top mv.young.top) → RootsMoved p m → (r : HasRoles p m s) → GoesOn p q m (top_of mv) s r → Ready q }
 {}
