@@ -14,3 +14,4 @@ pub mod Roots
 pub mod Sample
 pub mod Fitting
 pub mod Next
+pub mod Stack

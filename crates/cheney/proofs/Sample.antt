@@ -24,11 +24,11 @@ use Rattle.cheney.specs.declared.moving.Moving.{Moving}
 use Rattle.cheney.specs.Rooms.{top_of}
 use Rattle.cheney.specs.Collected.{Begins, CanCollect, Collected, used}
 use Rattle.cheney.specs.Next.{Ended, GoesOn, HasRoles, Remains, Succeeds}
+use Rattle.cheney.specs.Stack.{CanCollectStack, words_at}
 use Rattle.cheney.proofs.Next.{fits-again, has-roles, ready-again}
 
 abbrev pub sample : List ℕ
-sample = 0 ∷ 31 ∷ 59 ∷ 128 ∷ 331 ∷ 5 ∷ 164 ∷ 3 ∷ 591879 ∷ 86 ∷ 1 ∷ 1 ∷ 2 ∷ 513 ∷ 352 ∷ 2 ∷ 0 ∷ 9 ∷ 0 ∷ 0 ∷ 296 ∷ 1 ∷ 1 ∷ 0 ∷ 58 ∷ 71 ∷ 770 ∷ 1 ∷ 0 ∷ 404 ∷ 25 ∷ 0 ∷ 2 ∷ 1 ∷ 19 ∷ 79 ∷ 64 ∷ 75 ∷ 252 ∷ 1 ∷ 146 ∷ 159
-    ∷ 144 ∷ 1 ∷ 7 ∷ 72 ∷ 9223372036854775808 ∷ 0 ∷ 136 ∷ 0 ∷ 1 ∷ 0 ∷ 0 ∷ 0 ∷ 0 ∷ 0 ∷ 0 ∷ 0 ∷ 0 ∷ 0 ∷ 0 ∷ 0 ∷ 0 ∷ 0 ∷ 0 ∷ 0 ∷ 0 ∷ 0 ∷ 0 ∷ 0 ∷ 0 ∷ 0 ∷ 0 ∷ 0 ∷ 0 ∷ 0 ∷ 0 ∷ 0 ∷ 0 ∷ 0 ∷ 0 ∷ 0 ∷ 0 ∷ 0 ∷ 0 ∷ 0 ∷ 0 ∷ 0 ∷ 0 ∷ 0 ∷ 0 ∷ 0 ∷ 0 ∷ 0 ∷ 0 ∷ 0 ∷ 0 ∷ 0 ∷ 0 ∷ 0 ∷ 0 ∷ 0 ∷ 0 ∷ 0 ∷ 0 ∷ 0 ∷ 0 ∷ 0 ∷ 0 ∷ 0 ∷ 0 ∷ 0 ∷ 0 ∷ 0 ∷ 0 ∷ 0 ∷ 0 ∷ 0 ∷ 0 ∷ 0 ∷ 0 ∷ 0 ∷ 0 ∷ 0 ∷ 0 ∷ 0 ∷ 0 ∷ 0 ∷ 0 ∷ 0 ∷ 0 ∷ []
+sample = 0 ∷ 31 ∷ 59 ∷ 128 ∷ 331 ∷ 5 ∷ 164 ∷ 3 ∷ 591879 ∷ 86 ∷ 1 ∷ 1 ∷ 2 ∷ 513 ∷ 352 ∷ 2 ∷ 0 ∷ 9 ∷ 0 ∷ 0 ∷ 296 ∷ 1 ∷ 1 ∷ 0 ∷ 58 ∷ 71 ∷ 770 ∷ 1 ∷ 0 ∷ 404 ∷ 25 ∷ 0 ∷ 2 ∷ 1 ∷ 19 ∷ 79 ∷ 64 ∷ 75 ∷ 252 ∷ 1 ∷ 146 ∷ 159 ∷ 144 ∷ 1 ∷ 7 ∷ 72 ∷ 9223372036854775808 ∷ 0 ∷ 136 ∷ 0 ∷ 1 ∷ 0 ∷ 0 ∷ 0 ∷ 0 ∷ 0 ∷ 0 ∷ 0 ∷ 0 ∷ 0 ∷ 0 ∷ 0 ∷ 0 ∷ 0 ∷ 0 ∷ 0 ∷ 0 ∷ 0 ∷ 0 ∷ 0 ∷ 0 ∷ 0 ∷ 0 ∷ 0 ∷ 0 ∷ 0 ∷ 0 ∷ 0 ∷ 0 ∷ 0 ∷ 0 ∷ 0 ∷ 0 ∷ 0 ∷ 0 ∷ 0 ∷ 0 ∷ 0 ∷ 0 ∷ 0 ∷ 0 ∷ 5 ∷ 14 ∷ 26 ∷ 58 ∷ 82 ∷ 118 ∷ 154 ∷ 170 ∷ 182 ∷ 190 ∷ 194 ∷ 5 ∷ 79 ∷ 0 ∷ 0 ∷ 0 ∷ 0 ∷ 0 ∷ 0 ∷ 0 ∷ 0 ∷ 0 ∷ 0 ∷ 0 ∷ 0 ∷ 0 ∷ 0 ∷ 0 ∷ 0 ∷ 0 ∷ 0 ∷ 0 ∷ 0 ∷ 0 ∷ 0 ∷ 0 ∷ 0 ∷ 0 ∷ 0 ∷ 0 ∷ 0 ∷ 0 ∷ 0 ∷ 0 ∷ 0 ∷ 0 ∷ 0 ∷ 0 ∷ 0 ∷ 0 ∷ 0 ∷ 0 ∷ 0 ∷ []
 
 abbrev pub roots : List ℕ
 roots = 5 ∷ 14 ∷ 26 ∷ 58 ∷ 82 ∷ 118 ∷ 154 ∷ 170 ∷ 182 ∷ 190 ∷ 194 ∷ 5 ∷ 79 ∷ []
@@ -389,15 +389,36 @@ pub can-collect : {E : Type 0} (r : Result (List ℕ) E) (m : List ℕ) (none st
     → aged ≡ record { start = 51; top = 51; end = 60 } → young ≡ record { start = 60; top = 60; end = 91 } → CanCollect m (first-rooms stay aged young) roots
 can-collect r m none stay aged young e h n s a y = record { plan = plan; begins = begins-there r m none stay aged young e h n s a y }
 
+high-to : (b : Bool) → high b ≤ 91
+high-to true = lit≤ tt
+high-to false = lit≤ tt
+
+-- The roots stand on a stack, too.
+pub stack-there : {E : Type 0} (r : Result (List ℕ) E) (m : List ℕ) (none stay : Stay) (aged young : Room) → r ≡ Ok m → IfOk r (λ x. x ≡ sample) → none.spans.items ≡ [] → ((q : ℕ) → stays stay q ≡ (stays none q || in_span kept q))
+    → aged ≡ record { start = 51; top = 51; end = 60 } → young ≡ record { start = 60; top = 60; end = 91 } → CanCollectStack m (first-rooms stay aged young) 91 13
+stack-there {E} r m none stay aged young e h n s a y =
+    let P : Result (List ℕ) E → Type 0 = λ x. IfOk x (λ z. z ≡ sample) in
+    let same : m ≡ sample = subst P e h in
+    let B : List ℕ → Type 0 = λ z. Begins plan m (first-rooms stay aged young) (words_at z 91 13) in
+    record {
+      plan = plan;
+      begins = record {
+        begins = subst B (sym same) (begins-there r m none stay aged young e h n s a y);
+        inside = omega (arith, ap length same);
+        outside = λ q from below b. inr (omega (arith, from, high-to b));
+        free = λ q k from below role_at. role-none q k (get_or_past roles q 0 (omega arith)) role_at;
+      };
+    }
+
 -- A second collection goes to the free words at the end.
 
 low-again : Bool → ℕ
 low-again true = 0
-low-again false = 91
+low-again false = 104
 
 high-again : Bool → ℕ
 high-again true = 0
-high-again false = 131
+high-again false = 144
 
 -- All roles of the first collection's memory are kept.
 below : ℕ → ℕ → Bool
@@ -434,10 +455,6 @@ low-from : (b : Bool) → 51 ≤ low b
 low-from true = lit≤ tt
 low-from false = lit≤ tt
 
-high-to : (b : Bool) → high b ≤ 91
-high-to true = lit≤ tt
-high-to false = lit≤ tt
-
 not-kept : (a : ℕ) → 51 ≤ a → in_span kept a ≡ false
 not-kept a h = grind (arith, nat_tests)
 
@@ -447,7 +464,7 @@ never-old a h = grind (arith, nat_tests)
 clear-again : (a : ℕ) (b : Bool) → a < 91 → (a < low-again b) ⊎ (high-again b ≤ a)
 unfolding low-again high-again
 clear-again a true h = inr (omega arith)
-clear-again a false h = inl h
+clear-again a false h = inl (omega arith)
 
 succeeds : (m ws : List ℕ) (mv : Moving) → Ended plan m mv ws → (r : HasRoles plan m below) → Succeeds plan (plan-again m ws r) m
 succeeds m ws mv e r = record { memory = refl; images = e.images; stay = λ a. refl }
@@ -477,7 +494,7 @@ abbrev pub second-rooms : Stay → Room → Room → Moving
 second-rooms stay aged young = record { stay = stay; mature = record { start = 0; end = 0 }; aged = aged; young = young }
 
 pub can-go-on : (m ws : List ℕ) (mv : Moving) (no_span stay : Stay) (aged young : Room) → Ended plan m mv ws → no_span.spans.items ≡ [] → ((q : ℕ) → stays stay q ≡ (stays no_span q || in_span kept q))
-    → aged ≡ record { start = 0; top = 0; end = 0 } → young ≡ record { start = 91; top = 91; end = 131 } → CanCollect m (second-rooms stay aged young) ws
+    → aged ≡ record { start = 0; top = 0; end = 0 } → young ≡ record { start = 104; top = 104; end = 144 } → CanCollect m (second-rooms stay aged young) ws
 unfolding low-again high-again
 can-go-on m ws mv no_span stay aged young e n s a y =
     let r : HasRoles plan m below = has-roles plan ready m (top_of mv) e.collected below remains in

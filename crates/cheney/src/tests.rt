@@ -2,6 +2,7 @@ ghost use Rattle.std.specs.Prelude.{◌≡◌, ◌+◌, ◌≤◌, ◌^◌, leng
 ghost use Rattle.cheney.specs.Plan.{Plan};
 ghost use Rattle.cheney.specs.Collected.{Begins, CanCollect};
 ghost use Rattle.cheney.specs.Next.{Ended};
+ghost use Rattle.cheney.specs.Stack.{CanCollectStack, StackBegins, words_at};
 
 use crate::moving::Moving;
 use crate::objects::evacuate;
@@ -38,6 +39,22 @@ fn collect(mem: &mut WordMem, mv: &mut Moving, roots: &mut [u64])
     scan(mem, mv);
 }
 
+// A whole collection from roots that stand in the memory, as on a stack: the words at `count` places, which become the new
+// ones.
+fn collect_stack(mem: &mut WordMem, mv: &mut Moving, from: u64, count: u64)
+    requires { CanCollectStack mem.old mv.old from count }
+    ensures len { length mem.new ≡ length mem.old }
+    ensures done { (p : Plan) → StackBegins p mem.old mv.old from count → Ended p mem.new mv.new (words_at mem.new from count) }
+{
+    let _len = mem.len();
+    for i in 0..count {
+        let w = mem.get(from + i);
+        let new = evacuate(mem, mv, w);
+        mem.set(from + i, new);
+    }
+    scan(mem, mv);
+}
+
 // The memory holds these words from a place on.
 fn holds(rt: &impl Abort, mem: &WordMem, from: u64, words: &[u64])
     requires { from + length words.now ≤ length mem.now }
@@ -67,13 +84,15 @@ const BIG: u64 = 1 << 63;
 // An object of each kind; the word of place p is p * 4 + 1 for a list place, else p * 4 + 2. At 1 the list place [1]; at 3 a
 // tuple of an atom and that list; at 6 the bytes 7, 8, 9; at 9 the record of the shared bytes 1, 2, at 14 its holder, at 20
 // byte 1 of these; at 25 the record of a fun, at 29 the fun, with one place; at 36 the keys of a map, at 38 the map of an
-// atom to 9; at 42 a reference, which stays; at 45 2^63; at 47 the empty tuple; at 48 2^64. All words from 51 on are free.
-const BEFORE: [u64; 131] = [
+// atom to 9; at 42 a reference, which stays; at 45 2^63; at 47 the empty tuple; at 48 2^64. At 91 is
+// a stack of roots. All other words from 51 on are free.
+const BEFORE: [u64; 144] = [
     0, 31, 59, 128, 331, 5, 164, 3, 591879, 86, 1, 1, 2, 513, 352, 2, 0, 9, 0, 0, 296, 1, 1, 0, 58,
     71, 770, 1, 0, 404, 25, 0, 2, 1, 19, 79, 64, 75, 252, 1, 146, 159, 144, 1, 7, 72, BIG, 0, 136,
     0, 1, 0, 0, 0, 0, 0, 0, 0, 0, 0, 0, 0, 0, 0, 0, 0, 0, 0, 0, 0, 0, 0, 0, 0, 0, 0, 0, 0, 0, 0, 0,
+    0, 0, 0, 0, 0, 0, 0, 0, 0, 0, 5, 14, 26, 58, 82, 118, 154, 170, 182, 190, 194, 5, 79, 0, 0, 0,
     0, 0, 0, 0, 0, 0, 0, 0, 0, 0, 0, 0, 0, 0, 0, 0, 0, 0, 0, 0, 0, 0, 0, 0, 0, 0, 0, 0, 0, 0, 0, 0,
-    0, 0, 0, 0, 0, 0, 0, 0, 0, 0, 0, 0, 0, 0, 0, 0, 0, 0,
+    0, 0, 0, 0, 0,
 ];
 
 // A moved object has its new word in its first place, a moved list place in its second. From 51 on: the list place, the
@@ -85,10 +104,10 @@ const AFTER: [u64; 91] = [
     404, 25, 0, 2, 1, 19, 79, 252, 1, 354, 159, 72, BIG, 0, 136, 0, 1, 64, 75, 0,
 ];
 
-// The same from 91 on, in the order of the roots.
+// The same from 104 on, in the order of the roots.
 const AGAIN: [u64; 40] = [
-    31, 59, 128, 331, 365, 164, 3, 591879, 352, 2, 0, 9, 0, 0, 296, 1, 1, 0, 398, 404, 25, 0, 2, 1,
-    19, 79, 252, 1, 510, 159, 72, BIG, 0, 136, 0, 1, 64, 75, 0, 0,
+    31, 59, 128, 331, 417, 164, 3, 591879, 352, 2, 0, 9, 0, 0, 296, 1, 1, 0, 450, 404, 25, 0, 2, 1,
+    19, 79, 252, 1, 562, 159, 72, BIG, 0, 136, 0, 1, 64, 75, 0, 0,
 ];
 
 // The roots, the word of the list place twice and an integer at the end; and what they become.
@@ -99,7 +118,7 @@ const MOVED: [u64; 13] = [
 ];
 
 const MOVED_AGAIN: [u64; 13] = [
-    365, 374, 386, 398, 422, 442, 470, 170, 486, 494, 498, 365, 79,
+    417, 426, 438, 450, 474, 494, 522, 170, 538, 546, 550, 417, 79,
 ];
 
 #[test]
@@ -121,12 +140,26 @@ fn each_kind_is_moved_once(rt: HostRuntime) {
         stay: Stay::none().with(kept),
         mature: Span { start: 0, end: 0 },
         aged: empty(0, 0),
-        young: empty(91, 131),
+        young: empty(104, 144),
     };
     collect(&mut mem, &mut again, &mut roots);
     assert_eq!(rt; roots, MOVED_AGAIN);
-    assert_eq!(rt; (again.aged.top, again.young.top), (0, 129));
-    holds(&rt, &mem, 91, &AGAIN);
+    assert_eq!(rt; (again.aged.top, again.young.top), (0, 142));
+    holds(&rt, &mem, 104, &AGAIN);
+}
+
+#[test]
+fn roots_on_a_stack_are_moved(rt: HostRuntime) {
+    let mut mem = laid(rt.alloc(), &BEFORE).expect(&rt, "a memory");
+    let mut mv = Moving {
+        stay: Stay::none().with(Span { start: 42, end: 45 }),
+        mature: Span { start: 1, end: 9 },
+        aged: empty(51, 60),
+        young: empty(60, 91),
+    };
+    collect_stack(&mut mem, &mut mv, 91, 13);
+    holds(&rt, &mem, 0, &AFTER);
+    holds(&rt, &mem, 91, &MOVED);
 }
 
 #[test]
