@@ -1,5 +1,5 @@
 -- The collection after one that has ended: the roles that the words of the new memory have, and when it can begin.
-use Rattle.std.specs.Prelude.{◌≡◌, ℕ, ◌+◌, ◌-◌, ◌/◌, ◌<◌, ◌≤◌, ◌⊎◌, Bool, true, false, List, length}
+use Rattle.std.specs.Prelude.{◌≡◌, ℕ, ◌+◌, ◌/◌, ◌<◌, ◌≤◌, ◌⊎◌, Bool, true, false, List, length}
 use Rattle.term_read.specs.Object.{IsPointer}
 use Rattle.term_read.specs.Role.{IsSingle}
 use Rattle.term_read.specs.Tiled.{Tiled}

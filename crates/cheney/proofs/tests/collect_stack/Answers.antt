@@ -1,6 +1,4 @@
 use Rattle.std.proofs.Common.{◌+◌, subst, sym, arith}
-use Rattle.cheney.specs.Stack.{StackBegins}
-use Rattle.cheney.specs.Plan.{Plan}
 use Rattle.cheney.proofs.Stack.{Stacked, stack-ended, stack-fits, stack-inside, stack-length, stack-more, stack-moves, stack-scans, stack-start}
 use Rattle.cheney.proofs.tests.collect_stack.Goals as goal
 
