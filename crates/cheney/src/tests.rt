@@ -84,8 +84,8 @@ const BIG: u64 = 1 << 63;
 // An object of each kind; the word of place p is p * 4 + 1 for a list place, else p * 4 + 2. At 1 the list place [1]; at 3 a
 // tuple of an atom and that list; at 6 the bytes 7, 8, 9; at 9 the record of the shared bytes 1, 2, at 14 its holder, at 20
 // byte 1 of these; at 25 the record of a fun, at 29 the fun, with one place; at 36 the keys of a map, at 38 the map of an
-// atom to 9; at 42 a reference, which stays; at 45 2^63; at 47 the empty tuple; at 48 2^64. At 91 is
-// a stack of roots. All other words from 51 on are free.
+// atom to 9; at 42 a reference, which stays; at 45 2^63; at 47 the empty tuple; at 48 2^64. From 51 on all is free, but for
+// a stack of the roots at 91.
 const BEFORE: [u64; 144] = [
     0, 31, 59, 128, 331, 5, 164, 3, 591879, 86, 1, 1, 2, 513, 352, 2, 0, 9, 0, 0, 296, 1, 1, 0, 58,
     71, 770, 1, 0, 404, 25, 0, 2, 1, 19, 79, 64, 75, 252, 1, 146, 159, 144, 1, 7, 72, BIG, 0, 136,
