@@ -59,10 +59,10 @@ IsLeftOrMoved p m v = ((slice_index m (v / 4) ≡ slice_index p.start (v / 4)) �
 
 -- The whole collection. The forwarding words are a map, one to one, that is defined on exactly the objects outside `stay`
 -- that the roots reach; the objects of `mature` lie in the aged room, all others in the young one, each once and whole;
--- what each word has become stands for the tree that it stood for; and what stays, reached or not, each word whose role
--- is neither 3 nor 4, the records among them, and all words of a moved boxed object but the first are as they were. A
--- header that stands where the test says shows whether its object was reached. A word with a role that is not as it was
--- shows where a reached object went.
+-- what each word has become stands for the tree that it stood for; and what stays, reached or not, has a role and no list
+-- place that moves reaches into, each word whose role is neither 3 nor 4, the records among them, and all words of a moved
+-- boxed object but the first are as they were. A header that stands where the test says shows whether its object was
+-- reached. A word with a role that is not as it was shows where a reached object went.
 pub record Collected (p : Plan) (m : List ℕ) (top : Bool → ℕ) : Type 0 where
   pub same_len : length m ≡ length p.start
   pub complete : (v : ℕ) → Reached p v → Leaves p v → moved m v ≡ true

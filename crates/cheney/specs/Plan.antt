@@ -59,7 +59,7 @@ abbrev pub total : Plan → List ℕ → ℕ
 total p [] = 0
 total p (v ∷ vs) = size p v + total p vs
 
--- How many of n places, from one on, pass the test.
+-- How many of n places, counted from a place on, pass the test.
 unfoldable pub count : (ℕ → Bool) → ℕ → ℕ → ℕ
 count s from zero = 0
 count s from (suc n) = (if s from then 1 else 0) + count s (from + 1) n

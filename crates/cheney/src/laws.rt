@@ -21,9 +21,10 @@ pub fn fits_law()
         → ((v q : ℕ) → Reached p v → Leaves p v → p.mature (v / 4) ≡ b → IsIn p v q → s q ≡ true) → p.low b + count s from (to - from) ≤ p.high b → Fits p b }
 {}
 
-/// Places are counted part by part; no more pass than there are, and no fewer pass a test that allows more.
+/// Places are counted part by part; no more pass than there are, all of them where each passes, and no fewer pass a test
+/// that allows more.
 pub fn count_law()
-    ensures none { (s : ℕ → Bool) (from : ℕ) → count s from 0 ≡ 0 }
+    ensures empty { (s : ℕ → Bool) (from : ℕ) → count s from 0 ≡ 0 }
     ensures join { (s : ℕ → Bool) (from m n : ℕ) → count s from (m + n) ≡ count s from m + count s (from + m) n }
     ensures most { (s : ℕ → Bool) (from n : ℕ) → count s from n ≤ n }
     ensures all { (s : ℕ → Bool) (from n : ℕ) → ((q : ℕ) → from ≤ q → q < from + n → s q ≡ true) → count s from n ≡ n }
@@ -35,7 +36,8 @@ pub fn begin_law()
     ensures { (p : Plan) (mv : Moving) → Ready p → Agrees p mv → mv.aged.top ≡ mv.aged.start → mv.young.top ≡ mv.young.start → Runs p p.start mv (at_objects mv.aged.start mv.young.start) }
 {}
 
-/// What a word has become stays that, whatever is moved later; and calls follow each other.
+/// What a word has become stays that, whatever is moved later; and what two calls do, one after the other, is again what
+/// calls do.
 pub fn later_law()
     ensures images { (p : Plan) (mem mem2 : List ℕ) (w x : ℕ) → Later p mem mem2 → Reached p w → IsImage p mem w x → IsImage p mem2 w x }
     ensures same { (p : Plan) (mem : List ℕ) → Later p mem mem }
@@ -43,7 +45,8 @@ pub fn later_law()
 {}
 
 /// What no call changes: a word in no room that has no role, such as a stack place; a word with a role that is neither 3
-/// nor 4, such as a record's or a `next`; and each word in no room that stays, reached or not.
+/// nor 4, such as a record's or a `next`; and each word in no room that stays, reached or not, where no list place that
+/// moves reaches into it.
 pub fn aside_law()
     ensures free { (p : Plan) (a b : List ℕ) (q : ℕ) → Ready p → Later p a b → IsOutside p q → ((k : ℕ) → p.test q k ≡ true → ⊥) → slice_index b q ≡ slice_index a q }
     ensures other { (p : Plan) (a b : List ℕ) (q k : ℕ) → Ready p → Later p a b → p.test q k ≡ true → (k ≡ 3 → ⊥) → (k ≡ 4 → ⊥) → slice_index b q ≡ slice_index a q }

@@ -1,4 +1,4 @@
-/// The words of the verbs of a process, those that are not built among them.
+/// The words of the verbs of a process, built or not. `Own` is written `self`.
 #[derive(Clone, Copy)]
 pub enum Word {
     Set,
@@ -32,7 +32,7 @@ pub enum Word {
     Exit,
 }
 
-/// The words of the verbs of the system, those that are not built among them.
+/// The words of the verbs of the system, built or not.
 #[derive(Clone, Copy)]
 pub enum SysWord {
     Spawn,

@@ -220,12 +220,12 @@ row kinds made = record { kinds = kinds; made = made }
 unfoldable pub row_run : {V : Type 0} → Row V → List ℕ → Out → Option (V × Out)
 row_run r line o = then_read (operands_at (r.kinds) line o) (λ x. Some (r.made (x.0), x.1))
 
--- The row of a verb of a process, known where the verb is.
+-- The row of a verb of a process. All clauses say the same; the first keeps a row folded while its verb is not known.
 abbrev pub row_of : Word → Row Verb
 row_of word.Set = row (kinds_of word.Set) (verb_with word.Set)
 row_of w = row (kinds_of w) (verb_with w)
 
--- The row of a verb of the system.
+-- The row of a verb of the system, in the same way.
 abbrev pub sys_row_of : SysWord → Row SysVerb
 sys_row_of sys.Spawn = row (sys_kinds_of sys.Spawn) (sys_verb_with sys.Spawn)
 sys_row_of w = row (sys_kinds_of w) (sys_verb_with w)

@@ -3,9 +3,9 @@ use Rattle.cheney.specs.Plan.{count}
 use Rattle.cheney.proofs.Fitting.{count-all, count-join, count-most, count-wider}
 use Rattle.cheney.proofs.laws.count_law.Goals as goal
 
-pub returns-clause-none : goal.returns-clause-none
+pub returns-clause-empty : goal.returns-clause-empty
 unfolding count
-returns-clause-none c = λ s from. refl
+returns-clause-empty c = λ s from. refl
 
 pub returns-clause-join : goal.returns-clause-join
 returns-clause-join c = count-join
