@@ -144,7 +144,7 @@ module _ (p : Plan) (a b : List ℕ) (later : Later p a b) where
   free-aside q y out none = later.elsewhere q out (λ v r l s. let (k, h) = (ground p y).role v q r l.pointer (shows-in p v q l.pointer s) in none k h)
 
   pub other-aside : (q k : ℕ) → Ready p → p.test q k ≡ true → (k ≡ 3 → ⊥) → (k ≡ 4 → ⊥) → get_or b q 0 ≡ get_or a q 0
-  other-aside q k y h three four = later.elsewhere q (λ c. y.clear q k c h) (λ v r l s. not-shown p y v q k r l.pointer h three four s)
+  other-aside q k y h three four = later.elsewhere q (y.clear q k h) (λ v r l s. not-shown p y v q k r l.pointer h three four s)
 
   pub stay-aside : (q : ℕ) → IsOutside p q → p.stay q ≡ true → IsNoTail p q → get_or b q 0 ≡ get_or a q 0
   stay-aside q out stay whole = later.elsewhere q out (λ v r l s. stay-not-shown p v q r l stay whole s)

@@ -11,7 +11,7 @@ use Rattle.term_read.proofs.Reached.{reached, scanned}
 use Rattle.term_read.proofs.Roles.{object-role}
 use Rattle.term_read.proofs.Rooms.{is-term}
 use Rattle.term_read.proofs.Shapes.{told}
-use Rattle.cheney.specs.Plan.{Plan, Ready, Reached, Leaves, IsIn, size, first}
+use Rattle.cheney.specs.Plan.{Plan, Ready, Reached, Leaves, IsIn, IsOutside, size, first}
 use Rattle.cheney.specs.Moved.{Shows}
 use Rattle.cheney.proofs.Basics.{not-both, size-cons, size-boxed}
 
@@ -24,7 +24,7 @@ pub record Ground (p : Plan) : Type 0 where
   pub clear : (v q : ℕ) (b : Bool) → Reached p v → IsPointer v → IsIn p v q → (q < p.low b) ⊎ (p.high b ≤ q)
   pub records : (v q r : ℕ) → Reached p v → IsPointer v → IsIn p v q → 6 ≤ r → p.test q r ≡ true → ⊥
   pub records_clear : (a r : ℕ) (b : Bool) → 6 ≤ r → p.test a r ≡ true → (a < p.low b) ⊎ (p.high b ≤ a)
-  pub roles_clear : (a r : ℕ) (b : Bool) → p.test a r ≡ true → (a < p.low b) ⊎ (p.high b ≤ a)
+  pub roles_clear : (a r : ℕ) → p.test a r ≡ true → IsOutside p a
   pub first_role : (v : ℕ) → Reached p v → IsPointer v → p.test (v / 4) 3 ≡ true
   pub tail_role : (v : ℕ) → Reached p v → v % 4 ≡ 1 → p.test (v / 4 + 1) 4 ≡ true
   pub role : (v q : ℕ) → Reached p v → IsPointer v → IsIn p v q → (r : ℕ) × (p.test q r ≡ true)
@@ -79,9 +79,9 @@ module _ (p : Plan) (y : Ready p) where
     header = λ v r tag. let (t, s) = stands-there v r in header-there t v (get_or p.start (v / 4) 0) (told p.test p.shared p.start v t s) tag;
     within = words-within;
     apart = one-or-apart;
-    clear = λ v q b r i j. let (k, (small, h)) = role-there v q r i j in y.clear q k b h;
+    clear = λ v q b r i j. let (k, (small, h)) = role-there v q r i j in y.clear q k h b;
     records = λ v q r u i j big h. let (k, (small, g)) = role-there v q u i j in let e : k ≡ r = y.single.one q k r g h in omega (arith, small, e, big);
-    records_clear = λ a r b big h. y.clear a r b h;
+    records_clear = λ a r b big h. y.clear a r h b;
     roles_clear = y.clear;
     first_role = λ v r i. let (t, s) = stands-there v r in (whole p.test p.shared p.start v t y.single s i).first;
     tail_role = λ v r tag. let (t, s) = stands-there v r in tail-role p.test p.shared p.start v t s tag;

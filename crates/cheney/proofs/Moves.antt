@@ -186,7 +186,7 @@ module _ (p : Plan) (g : Ground p) (m n : List ℕ) (top more : Bool → ℕ) (k
         | inl z ↦ inr (record { v = w; reached = r; leaves = l; gone = c.shown; shows = z })
         | inr hides ↦ (let low2 : p.low (p.mature (w / 4)) ≤ top (p.mature (w / 4)) = low-top (p.mature (w / 4)) in
             let away : (a < top (p.mature (w / 4))) ⊎ (top (p.mature (w / 4)) + size p w ≤ a) =
-            elim (g.roles_clear a u (p.mature (w / 4)) h) [ inl z ↦ inl (omega arith) | inr z ↦ inr (omega (arith, room)) ] in
+            elim (g.roles_clear a u h (p.mature (w / 4))) [ inl z ↦ inl (omega arith) | inr z ↦ inr (omega (arith, room)) ] in
             elim (i.touched a u h) [
               | inl e ↦ inl (c.rest a away hides ∙ e)
               | inr o ↦ inr (record { v = o.v; reached = o.reached; leaves = o.leaves; gone = move-grows.gone o.v o.reached o.leaves o.gone; shows = o.shows })

@@ -110,7 +110,7 @@ module _ (p : Plan) (y : Ready p) (m : List ℕ) (top : Bool → ℕ) (o : Colle
 
     kept-role : (a k : ℕ) → p.test a k ≡ true → s a k ≡ true → new_test p top (λ c. (o.filled c).each) s a k ≡ true
     unfolding new_test
-    kept-role a k h i = rw (origin-out a (λ b. y.clear a k b h), h, i) (last-or (in_use p top true a) (in_use p top false a))
+    kept-role a k h i = rw (origin-out a (y.clear a k h), h, i) (last-or (in_use p top true a) (in_use p top false a))
 
     -- A role in use in a room came with a copy.
     from-copy : (a k : ℕ) (b : Bool) → p.low b ≤ a → a < top b → p.test (origin p top (λ c. (o.filled c).each) a) k ≡ true → IsCarried p m a k
@@ -303,7 +303,7 @@ module _ (p q : Plan) (m : List ℕ) (mv : Moving) (run : Runs p m mv (at_object
         record {
           standing = subst D (sym g.trees) (subst C (sym n.memory) (subst B (sym g.shared) (subst A (sym g.test) (o.roots r.test r.follows q.roots n.images))));
           single = subst S (sym g.test) r.single;
-          clear = λ a k b h. clear-again a k b (sym (ap (λ z. z a k) g.test) ∙ h);
+          clear = λ a k h b. clear-again a k b (sym (ap (λ z. z a k) g.test) ∙ h);
           closed = closed-again g.moving;
           rooms = g.rooms;
           order = g.order;

@@ -266,8 +266,8 @@ role-none : (a k : ℕ) → role a ≡ 0 → roles_of role a k ≡ true → ⊥
 unfolding roles_of
 role-none a k none h = grind (arith, nat_tests)
 
-clear-of : (a k : ℕ) (b : Bool) → roles_of role a k ≡ true → (a < low b) ⊎ (high b ≤ a)
-clear-of a k b h =
+clear-of : (a k : ℕ) → roles_of role a k ≡ true → (b : Bool) → (a < low b) ⊎ (high b ≤ a)
+clear-of a k h b =
     let order3 : (a < 51) ⊎ (51 ≤ a) = grind arith in
     elim order3 [
       | inl near ↦ inl (elim b as (λ c. a < low c) [ true ↦ near | false ↦ omega arith ])

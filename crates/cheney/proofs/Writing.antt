@@ -154,7 +154,7 @@ module _ (p : Plan) (g : Ground p) (m : List ℕ) (top : Bool → ℕ) (k : Mark
     tails = λ v q r l tag h after. objects-same v q r l.pointer h ∙ i.tails v q r l tag h after;
     records = λ a u big h. there a (λ e. elim (g.records_clear a u b big h) [ inl w ↦ omega (arith, in-zone) | inr w ↦ omega (arith, in-zone, i.ends b) ]) ∙ i.records a u big h;
     touched = λ a u h. elim (i.touched a u h) [
-      | inl e ↦ inl (there a (λ z. elim (g.roles_clear a u b h) [ inl w ↦ omega (arith, in-zone) | inr w ↦ omega (arith, in-zone, i.ends b) ]) ∙ e)
+      | inl e ↦ inl (there a (λ z. elim (g.roles_clear a u h b) [ inl w ↦ omega (arith, in-zone) | inr w ↦ omega (arith, in-zone, i.ends b) ]) ∙ e)
       | inr o2 ↦ inr (record { v = o2.v; reached = o2.reached; leaves = o2.leaves; gone = write-grows.gone o2.v o2.reached o2.leaves o2.gone; shows = o2.shows })
     ];
     gone = λ u r l h. let P : ℕ → Type 0 = λ x. Gone p (set m place y) top (scanned_at (mark k b (place + 1) (object_at k b))) u x in

@@ -75,7 +75,7 @@ pub record Fits (p : Plan) (room : Bool) : Type 0 where
 pub record Ready (p : Plan) : Type 0 where
   pub standing : AllStand p.test p.shared p.start p.roots p.trees
   pub single : IsSingle p.test
-  pub clear : (a k : ℕ) (b : Bool) → p.test a k ≡ true → (a < p.low b) ⊎ (p.high b ≤ a)
+  pub clear : (a k : ℕ) → p.test a k ≡ true → IsOutside p a
   pub closed : (v k : ℕ) → Reached p v → IsPointer v → p.stay (v / 4) ≡ true → first p v ≤ k → k < size p v → Leaves p (slice_index p.start (v / 4 + k)) → ⊥
   pub rooms : (p.high true ≤ p.low false) ⊎ (p.high false ≤ p.low true)
   pub order : (b : Bool) → p.low b ≤ p.high b
