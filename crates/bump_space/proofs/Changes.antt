@@ -7,9 +7,9 @@ use Rattle.plain_term.specs.Tree.{Tree}
 use Rattle.plain_term.specs.Tree.Tree.{Pid}
 use Rattle.plain_machine.specs.State.{Process, State, with_register, register, fresh_process, first_state}
 use Rattle.space_api.specs.Calls.{AreRising}
-use Rattle.term_read.specs.Role.{outside, always}
-use Rattle.term_read.proofs.Rooms.{weaken}
-use Rattle.term_read.proofs.Makes.{stands-pid}
+use Rattle.term_words.specs.Role.{outside, always}
+use Rattle.term_words.proofs.Rooms.{weaken}
+use Rattle.term_words.proofs.Makes.{stands-pid}
 use Rattle.term_build.specs.Clear.{KeepsClear, Uses}
 use Rattle.term_build.proofs.Rooms.{keeps-none, taken-keeps}
 use Rattle.bump_space.specs.declared.table.Proc.{Proc}

@@ -9,9 +9,9 @@ use Rattle.plain_term.specs.Text.{text, text_as, more_terms}
 use Rattle.term_tags.specs.Kinds.{InRange, word_of}
 use Rattle.term_tags.specs.declared.kinds.Kind.{Kind}
 use Rattle.term_tags.specs.declared.kinds.Kind.TheVariants as kind
-use Rattle.term_read.specs.Role.{always}
-use Rattle.term_read.specs.Stands.{RowStands}
-use Rattle.term_read.proofs.Shapes.{row-first}
+use Rattle.term_words.specs.Role.{always}
+use Rattle.term_words.specs.Stands.{RowStands}
+use Rattle.term_words.proofs.Shapes.{row-first}
 use Rattle.bump_space.specs.Print.{IsTail, ArePlain, Printable, ListPart, ListGoes, TupleParts, TupleGoes, most_nodes}
 use Rattle.line_io.proofs.Growth.{Grew-append, part-front, part-after, writes-after}
 use Rattle.bump_space.proofs.Texts.{part-as, writes-as}

@@ -10,8 +10,8 @@ use Rattle.plain_term.specs.Tree.Tree.{Int, Atom, Pid, Nil, Cons, Tuple}
 use Rattle.plain_term.specs.Tree.Trees.{end, ◌▹◌}
 use Rattle.plain_machine.specs.State.{Process, fresh_process}
 use Rattle.space_api.specs.Calls.{AreRising}
-use Rattle.term_read.specs.Role.{outside}
-use Rattle.term_read.proofs.Makes.{stands-nil}
+use Rattle.term_words.specs.Role.{outside}
+use Rattle.term_words.proofs.Makes.{stands-nil}
 use Rattle.term_build.specs.Clear.{KeepsClear}
 use Rattle.bump_space.specs.declared.table.Proc.{Proc}
 use Rattle.bump_space.specs.Print.{IsPlain, ArePlain}

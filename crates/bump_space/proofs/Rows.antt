@@ -3,15 +3,15 @@ use Rattle.std.proofs.Common.{◌≡◌, ℕ, suc, ◌+◌, ◌-◌, ◌≤◌, 
 use Rattle.std.proofs.Math.Seq.{drop-cons}
 use Rattle.std.proofs.lemmas.List.Folds.{drop_split}
 use Rattle.std.proofs.lemmas.List.{length-drop}
-use Rattle.term_read.proofs.Makes.{all-length}
-use Rattle.term_read.proofs.Lists.{all-split}
+use Rattle.term_words.proofs.Makes.{all-length}
+use Rattle.term_words.proofs.Lists.{all-split}
 use Rattle.std.proofs.lemmas.Grind.{common_steps}
 use Rattle.plain_term.specs.Tree.{Tree, Trees, trees_len, trees_append}
 use Rattle.plain_term.specs.Tree.Tree.{Cons, Tuple}
 use Rattle.plain_term.specs.Tree.Trees.{end, ◌▹◌}
-use Rattle.term_read.specs.Stands.{Stands, AllStand}
-use Rattle.term_read.specs.Kept.{Keeps}
-use Rattle.term_read.proofs.Frames.{keep-all}
+use Rattle.term_words.specs.Stands.{Stands, AllStand}
+use Rattle.term_words.specs.Kept.{Keeps}
+use Rattle.term_words.proofs.Frames.{keep-all}
 
 -- A word more stands for a tree more.
 pub all-more : (c : ℕ → ℕ → Bool) (shared : List (List ℕ)) (mem : List ℕ) (w : ℕ) (ws : List ℕ) (t : Tree) (ts : Trees) → Stands c shared mem w t → AllStand c shared mem ws ts → AllStand c shared mem (w ∷ ws) (t ▹ ts)

@@ -13,10 +13,10 @@ use Rattle.term_tags.specs.Words.{small_word, IsSmall}
 use Rattle.term_tags.specs.Kinds.{InRange, word_of}
 use Rattle.term_tags.specs.declared.kinds.Kind.{Kind}
 use Rattle.term_tags.specs.declared.kinds.Kind.TheVariants as kind
-use Rattle.term_read.specs.Role.{always}
-use Rattle.term_read.specs.Object.{IsInt}
-use Rattle.term_read.specs.Stands.{Stands, RowStands}
-use Rattle.term_read.proofs.Shapes.{told, shape-cons, un-int, un-atom, un-pid, un-nil, un-cons, un-tuple, row-first}
+use Rattle.term_words.specs.Role.{always}
+use Rattle.term_words.specs.Object.{IsInt}
+use Rattle.term_words.specs.Stands.{Stands, RowStands}
+use Rattle.term_words.proofs.Shapes.{told, shape-cons, un-int, un-atom, un-pid, un-nil, un-cons, un-tuple, row-first}
 use Rattle.bump_space.specs.Print.{IsPlain, ArePlain, Printable, ListPart, TupleParts, most_nodes}
 
 -- A small integer stands as its small word alone.

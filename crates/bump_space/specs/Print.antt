@@ -6,8 +6,8 @@ use Rattle.plain_term.specs.Tree.Tree.{Int, Atom, Pid, Nil, Cons, Tuple}
 use Rattle.plain_term.specs.Tree.Trees.{end, ◌▹◌}
 use Rattle.plain_term.specs.Measures.{is_small, nodes, nodes_of_all, depth, greatest_depth}
 use Rattle.plain_term.specs.Text.{text, text_as, more_terms}
-use Rattle.term_read.specs.Stands.{RowStands, stands}
-use Rattle.term_read.specs.Role.{always}
+use Rattle.term_words.specs.Stands.{RowStands, stands}
+use Rattle.term_words.specs.Role.{always}
 
 -- What ends a list or goes on with it: only proper lists are built.
 abbrev pub IsTail : Tree → Type 0

@@ -2,7 +2,7 @@
 use Rattle.std.proofs.Common.{◌≡◌, ℕ, ◌+◌, ◌/◌, ◌%◌, ◌<◌, ◌≤◌, ◌⊎◌, Bool, true, false, List, [], get_or, set, refl, sym, ◌∙◌, ap, subst, arith, inl, inr}
 use Rattle.std.proofs.lemmas.Bool.Decides.{nat_tests}
 use Rattle.std.proofs.lemmas.List.{length-set, get_or-set_other}
-use Rattle.term_read.specs.Object.{IsPointer}
+use Rattle.term_words.specs.Object.{IsPointer}
 use Rattle.cheney.specs.declared.moving.Moving.{Moving}
 use Rattle.cheney.specs.Plan.{IsIn, IsNoTail, IsOutside, Plan, Ready, Reached, Leaves}
 use Rattle.cheney.specs.Moved.{moved, forward, IsImage}

@@ -4,11 +4,11 @@ use Rattle.std.proofs.lemmas.Bool.Decides.{nat_tests}
 use Rattle.plain_term.specs.Measures.{flat_of_all}
 use Rattle.plain_term.specs.Tree.{Trees, trees_len}
 use Rattle.plain_term.specs.Tree.Trees.{end, ◌▹◌}
-use Rattle.term_read.specs.Object.{IsPointer, object_words}
-use Rattle.term_read.specs.Reach.{Reach, root, part, first_traced, parts_of}
-use Rattle.term_read.specs.Stands.{RowStands, AllStand}
-use Rattle.term_read.proofs.Apart.{words-pair}
-use Rattle.term_read.proofs.Reached.{scanned, IsScanned}
+use Rattle.term_words.specs.Object.{IsPointer, object_words}
+use Rattle.term_words.specs.Reach.{Reach, root, part, first_traced, parts_of}
+use Rattle.term_words.specs.Stands.{RowStands, AllStand}
+use Rattle.term_words.proofs.Apart.{words-pair}
+use Rattle.term_words.proofs.Reached.{scanned, IsScanned}
 use Rattle.cheney.specs.Plan.{Plan, Ready, Reached, Leaves, In, total, size}
 use Rattle.cheney.specs.Moved.{forward}
 use Rattle.cheney.specs.Zones.{Row}

@@ -4,10 +4,10 @@ use Rattle.std.proofs.lemmas.Bool.Decides.{nat_tests}
 use Rattle.plain_term.specs.Measures.{flat_of_all}
 use Rattle.plain_term.specs.Tree.{Tree, Trees}
 use Rattle.plain_term.specs.Tree.Trees.{end, ◌▹◌}
-use Rattle.term_read.specs.Object.{IsPointer, object_words}
-use Rattle.term_read.specs.Reach.{Reach, root, part, first_traced}
-use Rattle.term_read.specs.Role.{always}
-use Rattle.term_read.specs.Stands.{Stands, AllStand}
+use Rattle.term_words.specs.Object.{IsPointer, object_words}
+use Rattle.term_words.specs.Reach.{Reach, root, part, first_traced}
+use Rattle.term_words.specs.Role.{always}
+use Rattle.term_words.specs.Stands.{Stands, AllStand}
 use Rattle.cheney.specs.Plan.{Plan, Ready, Reached, Leaves, In, total, size, first}
 use Rattle.cheney.specs.Moved.{moved, forward, IsImage}
 use Rattle.cheney.specs.Zones.{Marks, IsCopy, Row, IsRow, Gone, Invariant, scanned_at}

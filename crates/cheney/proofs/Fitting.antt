@@ -1,10 +1,10 @@
 -- A room holds the objects that go there where it has as many words as the counted places that they lie in.
 use Rattle.std.proofs.Common.{◌≡◌, ℕ, zero, suc, ◌+◌, ◌-◌, ◌/◌, ◌<◌, ◌≤◌, ◌⊎◌, Bool, true, List, [], ◌∷◌, length, refl, sym, ap, subst, arith, inl, inr}
 use Rattle.plain_term.specs.Measures.{flat_of_all}
-use Rattle.term_read.specs.Role.{IsSingle}
-use Rattle.term_read.specs.Stands.{AllStand}
-use Rattle.term_read.proofs.Apart.{objects-apart}
-use Rattle.term_read.proofs.Reached.{reached}
+use Rattle.term_words.specs.Role.{IsSingle}
+use Rattle.term_words.specs.Stands.{AllStand}
+use Rattle.term_words.proofs.Apart.{objects-apart}
+use Rattle.term_words.proofs.Reached.{reached}
 use Rattle.cheney.specs.Plan.{Plan, Reached, Leaves, In, IsIn, Fits, count, total, size}
 use Rattle.cheney.proofs.Basics.{true-or-false, same-room, one-or-not, leaves-or-not, size-some}
 use Rattle.cheney.proofs.Counts.{Distinct, Listed, listed}

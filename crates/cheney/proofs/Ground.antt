@@ -2,15 +2,15 @@
 use Rattle.std.proofs.Common.{◌≡◌, ℕ, ◌+◌, ◌/◌, ◌%◌, ◌<◌, ◌≤◌, ◌⊎◌, Bool, true, false, length, get_or, List, refl, sym, ◌∙◌, ap, subst, arith, inl, inr}
 use Rattle.plain_term.specs.Tree.{Tree}
 use Rattle.plain_term.specs.Tree.Tree.{Int, Atom, Pid, Nil, Cons}
-use Rattle.term_read.specs.Object.{IsPointer}
-use Rattle.term_read.specs.Role.{OfObject}
-use Rattle.term_read.specs.Stands.{Stands}
-use Rattle.term_read.proofs.Apart.{objects-apart, whole, head-no-header, header-there}
-use Rattle.term_read.proofs.Inside.{pair-inside, boxed-inside}
-use Rattle.term_read.proofs.Reached.{reached, scanned}
-use Rattle.term_read.proofs.Roles.{object-role}
-use Rattle.term_read.proofs.Rooms.{is-term}
-use Rattle.term_read.proofs.Shapes.{told}
+use Rattle.term_words.specs.Object.{IsPointer}
+use Rattle.term_words.specs.Role.{OfObject}
+use Rattle.term_words.specs.Stands.{Stands}
+use Rattle.term_words.proofs.Apart.{objects-apart, whole, head-no-header, header-there}
+use Rattle.term_words.proofs.Inside.{pair-inside, boxed-inside}
+use Rattle.term_words.proofs.Reached.{reached, scanned}
+use Rattle.term_words.proofs.Roles.{object-role}
+use Rattle.term_words.proofs.Rooms.{is-term}
+use Rattle.term_words.proofs.Shapes.{told}
 use Rattle.cheney.specs.Plan.{Plan, Ready, Reached, Leaves, IsIn, IsOutside, size, first}
 use Rattle.cheney.specs.Moved.{Shows}
 use Rattle.cheney.proofs.Basics.{not-both, size-cons, size-boxed}

@@ -7,12 +7,12 @@ use Rattle.plain_term.specs.Tree.{Tree, Trees, Pairs, trees_len, pairs_len}
 use Rattle.plain_term.specs.Tree.Tree.{Int, Atom, Pid, Ref, Nil, Cons, Tuple, Map, Bin, Shared, Part, Fun}
 use Rattle.plain_term.specs.Tree.Trees.{end, ◌▹◌}
 use Rattle.plain_term.specs.Tree.Pairs.{stop, pair}
-use Rattle.term_read.specs.Object.{byte_of, IsObject, IsBoxed, IsInt, IsTuple, IsBinRecord, IsFunRecord, IsHolder, IsPointer, sign_tag}
+use Rattle.term_words.specs.Object.{byte_of, IsObject, IsBoxed, IsInt, IsTuple, IsBinRecord, IsFunRecord, IsHolder, IsPointer, sign_tag}
 use Rattle.term_tags.specs.Table.{layout_for}
-use Rattle.term_read.specs.Reach.{parts_of, first_of}
-use Rattle.term_read.specs.Stands.{Stands, RowStands, KeysStand, ValuesStand}
-use Rattle.term_read.proofs.Reached.{scanned}
-use Rattle.term_read.proofs.Reading.{values-len}
+use Rattle.term_words.specs.Reach.{parts_of, first_of}
+use Rattle.term_words.specs.Stands.{Stands, RowStands, KeysStand, ValuesStand}
+use Rattle.term_words.proofs.Reached.{scanned}
+use Rattle.term_words.proofs.Pairs.{values-len}
 use Rattle.cheney.specs.Plan.{Plan, Reached, size, first}
 use Rattle.cheney.specs.Moved.{IsImage}
 use Rattle.cheney.proofs.Basics.{reach-part, size-cons, size-boxed, first-cons, first-boxed}

@@ -1,6 +1,6 @@
 -- One object is moved: the state of the collection is kept.
 use Rattle.std.proofs.Common.{◌≡◌, ℕ, ◌+◌, ◌/◌, ◌%◌, ◌<◌, ◌≤◌, ◌⊎◌, Bool, true, false, List, [], ◌∷◌, ◌++◌, get_or, refl, sym, ◌∙◌, ap, subst, arith, inl, inr}
-use Rattle.term_read.specs.Object.{IsPointer}
+use Rattle.term_words.specs.Object.{IsPointer}
 use Rattle.cheney.specs.Plan.{Plan, Reached, Leaves, IsIn, size}
 use Rattle.cheney.specs.Moved.{moved, forward, IsImage, Shows, Copies}
 use Rattle.cheney.specs.Zones.{Marks, IsShown, IsCopy, Row, IsRow, Gone, Holds, Invariant, scanned_at, object_at}

@@ -2,13 +2,13 @@
 use Rattle.std.proofs.Common.{◌≡◌, ℕ, ◌+◌, ◌-◌, ◌*◌, ◌/◌, ◌%◌, ◌<◌, ◌≤◌, ◌⊎◌, ◌==◌, Bool, true, false, List, [], ◌∷◌, ◌++◌, length, get_or, refl, sym, ◌∙◌, ap, subst, arith, inl, inr, if◌then◌else◌, nat_le, nat_lt, ◌&&◌, ◌||◌}
 use Rattle.std.proofs.lemmas.Bool.Decides.{nat_tests}
 use Rattle.plain_term.specs.Tree.{Trees}
-use Rattle.term_read.specs.Object.{IsPointer, object_words}
-use Rattle.term_read.specs.Reach.{Reach, first_traced}
-use Rattle.term_read.specs.Role.{always, IsSingle}
-use Rattle.term_read.specs.Tiled.{IsTile, Tiled, tile_words}
-use Rattle.term_read.proofs.Reached.{reached}
-use Rattle.term_read.proofs.Tiles.{tiled-object}
-use Rattle.term_read.specs.Stands.{AllStand}
+use Rattle.term_words.specs.Object.{IsPointer, object_words}
+use Rattle.term_words.specs.Reach.{Reach, first_traced}
+use Rattle.term_words.specs.Role.{always, IsSingle}
+use Rattle.term_words.specs.Tiled.{IsTile, Tiled, tile_words}
+use Rattle.term_words.proofs.Reached.{reached}
+use Rattle.term_words.proofs.Tiles.{tiled-object}
+use Rattle.term_words.specs.Stands.{AllStand}
 use Rattle.cheney.specs.declared.moving.Moving.{Moving}
 use Rattle.cheney.specs.Plan.{Plan, Ready, Reached, Leaves, In, Fits, total, size, first}
 use Rattle.cheney.specs.Moved.{forward, IsImage}

@@ -1,7 +1,7 @@
 -- Roots by membership and list by list, and a collection from a slice of roots, one by one.
 use Rattle.std.proofs.Common.{◌≡◌, ℕ, zero, suc, ◌+◌, ◌<◌, ◌≤◌, ◌⊎◌, Bool, true, List, [], ◌∷◌, ◌++◌, length, get_or, set, refl, sym, ◌∙◌, ap, subst, arith, inl, inr}
 use Rattle.std.proofs.lemmas.List.{length-set, get_or-set_other, get_or-set_same}
-use Rattle.term_read.specs.Reach.{Reach, root}
+use Rattle.term_words.specs.Reach.{Reach, root}
 use Rattle.cheney.specs.declared.moving.Moving.{Moving}
 use Rattle.cheney.specs.Plan.{In, Leaves, Plan, Ready, Reached}
 use Rattle.cheney.specs.Moved.{IsImage, moved}

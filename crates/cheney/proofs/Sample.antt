@@ -9,11 +9,11 @@ use Rattle.plain_term.specs.Tree.{Trees}
 use Rattle.plain_term.specs.Tree.Tree.{Int, Atom, Ref, Nil, Cons, Tuple, Map, Bin, Shared, Part, Fun}
 use Rattle.plain_term.specs.Tree.Trees.{end, ◌▹◌}
 use Rattle.plain_term.specs.Tree.Pairs.{stop, pair}
-use Rattle.term_read.specs.Role.{roles_of}
-use Rattle.term_read.specs.Object.{byte_of, BytesLie, IsObject, IsPointer, object_words}
-use Rattle.term_read.specs.Reach.{Reach, root, part, first_traced}
-use Rattle.term_read.specs.Stands.{Stands, RowStands, KeysStand, ValuesStand, AllStand}
-use Rattle.term_read.proofs.Rooms.{role-at}
+use Rattle.term_words.specs.Role.{roles_of}
+use Rattle.term_words.specs.Object.{byte_of, BytesLie, IsObject, IsPointer, object_words}
+use Rattle.term_words.specs.Reach.{Reach, root, part, first_traced}
+use Rattle.term_words.specs.Stands.{Stands, RowStands, KeysStand, ValuesStand, AllStand}
+use Rattle.term_words.proofs.Rooms.{role-at}
 use Rattle.word_mem.specs.declared.ranges.Room.{Room}
 use Rattle.word_mem.specs.declared.ranges.Span.{Span}
 use Rattle.cheney.specs.declared.stay.Stay.{Stay}

@@ -1,7 +1,7 @@
 -- A scanned word is written, and a room's marks go on: the state of the collection is kept.
 use Rattle.std.proofs.Common.{◌≡◌, ℕ, ◌+◌, ◌/◌, ◌<◌, ◌≤◌, ◌⊎◌, Bool, true, false, List, [], ◌∷◌, length, get_or, set, refl, sym, ◌∙◌, ap, subst, arith, inl, inr}
 use Rattle.std.proofs.lemmas.List.{length-set, get_or-set_other, get_or-set_same}
-use Rattle.term_read.specs.Object.{IsPointer}
+use Rattle.term_words.specs.Object.{IsPointer}
 use Rattle.cheney.specs.Plan.{Plan, Reached, Leaves, IsIn, size, first}
 use Rattle.cheney.specs.Moved.{moved, forward, IsImage}
 use Rattle.cheney.specs.Zones.{Marks, IsCopy, IsPart, Row, IsRow, Gone, Invariant, scanned_at, object_at, mark}

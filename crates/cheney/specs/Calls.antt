@@ -1,7 +1,7 @@
 -- What the calls of a collection ask and promise.
 use Rattle.std.specs.Prelude.{◌≡◌, ℕ, ◌+◌, ◌/◌, ◌%◌, ◌<◌, ◌⊎◌, Bool, true, false, List, slice_index}
-use Rattle.term_read.specs.Object.{IsPointer, object_words}
-use Rattle.term_read.specs.Reach.{first_of}
+use Rattle.term_words.specs.Object.{IsPointer, object_words}
+use Rattle.term_words.specs.Reach.{first_of}
 use Rattle.term_tags.specs.Table.{layout_for}
 use Rattle.cheney.specs.declared.moving.Moving.{Moving}
 use Rattle.cheney.specs.Spans.{in_span}

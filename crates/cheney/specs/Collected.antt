@@ -2,9 +2,9 @@
 use Rattle.std.specs.Prelude.{◌≡◌, ℕ, ◌+◌, ◌-◌, ◌/◌, ◌%◌, ◌<◌, ◌≤◌, ◌⊎◌, Bool, true, false, List, [], ◌∷◌, length, slice_index}
 use Rattle.plain_term.specs.Tree.{Tree}
 use Rattle.plain_term.specs.Measures.{flat_of_all}
-use Rattle.term_read.specs.Object.{IsPointer}
-use Rattle.term_read.specs.Reach.{Reach}
-use Rattle.term_read.specs.Stands.{Stands, stands, AllStand}
+use Rattle.term_words.specs.Object.{IsPointer}
+use Rattle.term_words.specs.Reach.{Reach}
+use Rattle.term_words.specs.Stands.{Stands, stands, AllStand}
 use Rattle.cheney.specs.declared.moving.Moving.{Moving}
 use Rattle.cheney.specs.Rooms.{Agrees}
 use Rattle.cheney.specs.Plan.{Plan, Ready, Reached, Leaves, IsIn, IsNoTail, In, size, first}

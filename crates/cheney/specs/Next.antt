@@ -1,8 +1,8 @@
 -- The collection after one that has ended: the roles that the words of the new memory have, and when it can begin.
 use Rattle.std.specs.Prelude.{◌≡◌, ℕ, ◌+◌, ◌/◌, ◌<◌, ◌≤◌, ◌⊎◌, Bool, true, false, List, length}
-use Rattle.term_read.specs.Object.{IsPointer}
-use Rattle.term_read.specs.Role.{IsSingle}
-use Rattle.term_read.specs.Tiled.{Tiled}
+use Rattle.term_words.specs.Object.{IsPointer}
+use Rattle.term_words.specs.Role.{IsSingle}
+use Rattle.term_words.specs.Tiled.{Tiled}
 use Rattle.cheney.specs.declared.moving.Moving.{Moving}
 use Rattle.cheney.specs.Plan.{Plan, Reached, Leaves, Fits, In, IsIn, IsOutside, size}
 use Rattle.cheney.specs.Moved.{forward}

@@ -1,10 +1,10 @@
 -- What is constant while a collection runs.
 use Rattle.std.specs.Prelude.{◌≡◌, ℕ, zero, suc, ◌+◌, ◌/◌, ◌%◌, ◌<◌, ◌≤◌, ◌⊎◌, if◌then◌else◌, Bool, true, false, List, [], ◌∷◌, length, slice_index}
 use Rattle.plain_term.specs.Tree.{Trees}
-use Rattle.term_read.specs.Object.{IsPointer, object_words}
-use Rattle.term_read.specs.Reach.{Reach, first_traced}
-use Rattle.term_read.specs.Stands.{AllStand}
-use Rattle.term_read.specs.Role.{IsSingle}
+use Rattle.term_words.specs.Object.{IsPointer, object_words}
+use Rattle.term_words.specs.Reach.{Reach, first_traced}
+use Rattle.term_words.specs.Stands.{AllStand}
+use Rattle.term_words.specs.Role.{IsSingle}
 
 -- The memory that a collection begins with, the roots, the trees that they stand for, a test that says where the words of
 -- these trees lie, which places stay, which go to the aged room, and both rooms: `true` is the aged one, `false` the young one.

@@ -1,6 +1,6 @@
 -- The state of a collection between two of its steps.
 use Rattle.std.specs.Prelude.{◌≡◌, ℕ, ◌+◌, ◌*◌, ◌/◌, ◌%◌, ◌<◌, ◌≤◌, ◌⊎◌, Bool, true, false, List, [], ◌∷◌, length, slice_index}
-use Rattle.term_read.specs.Object.{IsPointer}
+use Rattle.term_words.specs.Object.{IsPointer}
 use Rattle.cheney.specs.Plan.{Plan, Reached, Leaves, IsIn, In, total, size, first}
 use Rattle.cheney.specs.Moved.{moved, forward, IsImage, Shows}
 

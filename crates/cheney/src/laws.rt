@@ -1,7 +1,7 @@
 // What holds of each collection: each law is the contract of a function that does nothing.
 ghost use Rattle.std.specs.Prelude.{◌≡◌, ℕ, ◌+◌, ◌-◌, ◌/◌, ◌<◌, ◌≤◌, ◌⊎◌, ◌++◌, Bool, true, List, length, slice_index, slice_set};
-ghost use Rattle.term_read.specs.Role.{IsSingle};
-ghost use Rattle.term_read.specs.Stands.{AllStand};
+ghost use Rattle.term_words.specs.Role.{IsSingle};
+ghost use Rattle.term_words.specs.Stands.{AllStand};
 ghost use Rattle.cheney.specs.declared.moving.Moving.{Moving};
 ghost use Rattle.cheney.specs.Plan.{Fits, In, IsIn, IsNoTail, IsOutside, Leaves, Plan, Ready, Reached, count, size};
 ghost use Rattle.cheney.specs.Moved.{IsImage, moved};

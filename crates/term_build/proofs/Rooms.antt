@@ -1,9 +1,9 @@
 -- Free words of a room are taken, and what was clear of it stays so.
 use Rattle.std.proofs.Common.{ℕ, ◌+◌, ◌≤◌, Bool, List, refl, sym, ◌∙◌, subst, arith, inl, inr}
 use Rattle.word_mem.specs.declared.ranges.Room.{Room}
-use Rattle.term_read.specs.Role.{outside}
-use Rattle.term_read.specs.Kept.{Keeps}
-use Rattle.term_read.proofs.Rooms.{outside-low, outside-tells, outside-more}
+use Rattle.term_words.specs.Role.{outside}
+use Rattle.term_words.specs.Kept.{Keeps}
+use Rattle.term_words.proofs.Rooms.{outside-low, outside-tells, outside-more}
 use Rattle.term_build.specs.Taken.{Taken, plain}
 use Rattle.term_build.specs.Clear.{IsRoom, KeepsClear, Uses}
 use Rattle.term_build.proofs.Taking.{taken-kept}

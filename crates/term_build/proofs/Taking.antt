@@ -4,11 +4,11 @@ use Rattle.std.proofs.lemmas.Bool.Decides.{nat_tests}
 use Rattle.word_mem.specs.declared.ranges.Room.{Room}
 use Rattle.plain_term.specs.Tree.{Tree, Trees, trees_len}
 use Rattle.plain_term.specs.Tree.Tree.{Cons, Tuple}
-use Rattle.term_read.specs.Role.{IsSingle}
-use Rattle.term_read.specs.Stands.{Stands, AllStand}
-use Rattle.term_read.specs.Kept.{Kept, Keeps}
-use Rattle.term_read.proofs.Makes.{stands-cons, stands-tuple, row-of-all, all-length}
-use Rattle.term_read.proofs.Frames.{frame, keep-all}
+use Rattle.term_words.specs.Role.{IsSingle}
+use Rattle.term_words.specs.Stands.{Stands, AllStand}
+use Rattle.term_words.specs.Kept.{Kept, Keeps}
+use Rattle.term_words.proofs.Makes.{stands-cons, stands-tuple, row-of-all, all-length}
+use Rattle.term_words.proofs.Frames.{frame, keep-all}
 use Rattle.term_build.specs.Taken.{Taken, Lie, plain, with_object}
 use Rattle.term_build.specs.Clear.{Uses}
 

@@ -2,9 +2,9 @@
 use Rattle.std.specs.Prelude.{◌≡◌, ℕ, ◌+◌, ◌<◌, ◌≤◌, ◌⊎◌, List, length, slice_index}
 use Rattle.word_mem.specs.declared.ranges.Room.{Room}
 use Rattle.plain_term.specs.Tree.{Tree, Trees}
-use Rattle.term_read.specs.Role.{outside}
-use Rattle.term_read.specs.Stands.{Stands, AllStand}
-use Rattle.term_read.specs.Kept.{Keeps}
+use Rattle.term_words.specs.Role.{outside}
+use Rattle.term_words.specs.Stands.{Stands, AllStand}
+use Rattle.term_words.specs.Kept.{Keeps}
 
 -- The room's places are in order and lie in the memory.
 pub record IsRoom (room : Room) (mem : List ℕ) : Type 0 where

@@ -1,6 +1,6 @@
 // What holds of all words that are taken: each law is the contract of a function that does nothing.
 ghost use Rattle.std.specs.Prelude.{◌≡◌, ℕ, ◌+◌, ◌<◌, ◌≤◌, ◌⊎◌, Bool, true};
-ghost use Rattle.term_read.specs.Role.{IsSingle};
+ghost use Rattle.term_words.specs.Role.{IsSingle};
 ghost use Rattle.term_build.specs.Taken.{Taken, with_object};
 
 /// Words without a role may be taken for an object whatever its roles are: the test that has these beside allows one role

@@ -1,8 +1,8 @@
 ghost use Rattle.std.specs.Prelude.{◌≡◌, ℕ, ◌+◌, ◌*◌, ◌≤◌, Bool, List, [], ◌∷◌};
 ghost use Rattle.plain_term.specs.Tree.{Tree};
 ghost use Rattle.plain_term.specs.Tree.Tree.{Cons};
-ghost use Rattle.term_read.specs.Stands.{Stands};
-ghost use Rattle.term_read.specs.Kept.{Keeps};
+ghost use Rattle.term_words.specs.Stands.{Stands};
+ghost use Rattle.term_words.specs.Kept.{Keeps};
 ghost use Rattle.term_build.specs.Taken.{Taken, Lie, plain};
 ghost use Rattle.term_build.specs.Clear.{IsRoom, Clear, KeepsClear, Uses};
 

@@ -4,13 +4,13 @@ use Rattle.plain_term.specs.Measures.{bin_words}
 use Rattle.plain_term.specs.Bytes.{bytes_of, shared_bytes}
 use Rattle.plain_term.specs.Tree.{Tree}
 use Rattle.plain_term.specs.Tree.Tree.{Int, Atom, Pid, Ref, Nil, Cons, Tuple, Map, Bin, Shared, Part, Fun}
-use Rattle.term_read.specs.Role.{always}
-use Rattle.term_read.specs.Object.{byte_of, BytesLie}
-use Rattle.term_read.specs.Stands.{Stands, IsTerm, IsBase}
+use Rattle.term_words.specs.Role.{always}
+use Rattle.term_words.specs.Object.{byte_of, BytesLie}
+use Rattle.term_words.specs.Stands.{Stands, IsTerm, IsBase}
 use Rattle.term_read.specs.Parts.{binary_of, whole_of, Tells, byte_len_in, byte_in}
 use Rattle.term_read.specs.Data.{BytesFrom, IsData, HasData, IsFirst, HasFirst}
 use Rattle.term_read.specs.declared.binary.Data.{Data}
-use Rattle.term_read.proofs.Shapes.{told}
+use Rattle.term_words.proofs.Shapes.{told}
 
 some-is : {A : Type 0} (x y : A) → Some x ≡ Some y → x ≡ y
 some-is x y e = cc

@@ -3,8 +3,8 @@ use Rattle.std.proofs.Common.{◌≡◌, ℕ, ◌/◌, ◌%◌, ◌^◌, ◌<◌
 use Rattle.term_tags.specs.Kinds.{Reads}
 use Rattle.term_tags.specs.declared.kinds.Kind.{Kind}
 use Rattle.term_tags.specs.declared.kinds.Kind.TheVariants.{ListAt, BoxedAt}
-use Rattle.term_read.specs.Stands.{IsTerm}
-use Rattle.term_read.proofs.Inside.{pair-inside, boxed-inside}
+use Rattle.term_words.specs.Stands.{IsTerm}
+use Rattle.term_words.proofs.Inside.{pair-inside, boxed-inside}
 
 list-read : (w p : ℕ) → Reads w (ListAt p) → (w % 4 ≡ 1) × (p ≡ w / 4)
 list-read w p r = (omega arith, omega arith)

@@ -1,12 +1,12 @@
 -- What the readers answer, from the numbers that they read.
 use Rattle.std.proofs.Common.{◌≡◌, ℕ, zero, suc, ◌+◌, ◌/◌, ◌%◌, ◌<◌, ◌≤◌, Bool, List, get_or, refl, sym, ap, subst, arith, pos, negsuc, Option, Some, None}
-use Rattle.plain_term.specs.Tree.{Tree, Trees, Pairs, trees_len, pairs_len, keys_of, values_of}
+use Rattle.plain_term.specs.Tree.{Tree, Trees, trees_len, keys_of, values_of}
 use Rattle.plain_term.specs.Tree.Tree.{Int, Cons, Tuple, Map, Fun}
 use Rattle.plain_term.specs.Tree.Trees.{end, ◌▹◌}
-use Rattle.plain_term.specs.Tree.Pairs.{stop, pair}
-use Rattle.term_read.specs.Stands.{Stands, RowStands, KeysStand, ValuesStand}
+use Rattle.term_words.specs.Stands.{Stands, RowStands}
 use Rattle.term_read.specs.Parts.{part_at, place_of, head_of, tail_of, element_of, key_of, value_of, env_of, map_len_of, map_len_in, Answers, Reads, Tells}
-use Rattle.term_read.proofs.Shapes.{told}
+use Rattle.term_words.proofs.Shapes.{told}
+use Rattle.term_words.proofs.Pairs.{keys-row, values-row, keys-len, values-len}
 
 -- Rows by index.
 
@@ -23,24 +23,6 @@ past-part : (ts : Trees) (i : ℕ) → trees_len ts ≤ i → part_at ts i ≡ N
 past-part end i far = refl
 past-part (t ▹ ts) zero far = absurd (omega arith)
 past-part (t ▹ ts) (suc i) far = past-part ts i (omega arith)
-
-pub keys-row : (c : ℕ → ℕ → Bool) (shared : List (List ℕ)) (mem : List ℕ) (p : ℕ) (ps : Pairs) → KeysStand c shared mem p ps → RowStands c shared mem p (keys_of ps)
-unfolding RowStands KeysStand
-keys-row c shared mem p stop row = tt
-keys-row c shared mem p (pair x y ps) (first, rest) = (first, keys-row c shared mem (p + 1) ps rest)
-
-pub values-row : (c : ℕ → ℕ → Bool) (shared : List (List ℕ)) (mem : List ℕ) (p : ℕ) (ps : Pairs) → ValuesStand c shared mem p ps → RowStands c shared mem p (values_of ps)
-unfolding RowStands ValuesStand
-values-row c shared mem p stop row = tt
-values-row c shared mem p (pair x y ps) (first, rest) = (first, values-row c shared mem (p + 1) ps rest)
-
-pub keys-len : (ps : Pairs) → trees_len (keys_of ps) ≡ pairs_len ps
-keys-len stop = refl
-keys-len (pair x y ps) = ap (λ n. n + 1) (keys-len ps)
-
-pub values-len : (ps : Pairs) → trees_len (values_of ps) ≡ pairs_len ps
-values-len stop = refl
-values-len (pair x y ps) = ap (λ n. n + 1) (values-len ps)
 
 none : (c : ℕ → ℕ → Bool) (shared : List (List ℕ)) (mem : List ℕ) (o : Option Tree) → o ≡ None → Answers c shared mem o None
 none c shared mem o e = let P : Option Tree → Type 0 = λ x. Answers c shared mem x None in subst P (sym e) refl

@@ -7,9 +7,9 @@ use Rattle.plain_term.specs.Tree.{Tree}
 use Rattle.plain_term.specs.Tree.Tree.{Int, Atom, Ref, Nil, Cons, Tuple, Map, Bin, Shared, Part, Fun}
 use Rattle.plain_term.specs.Tree.Trees.{end, ◌▹◌}
 use Rattle.plain_term.specs.Tree.Pairs.{stop, pair}
-use Rattle.term_read.specs.Role.{always}
-use Rattle.term_read.specs.Object.{byte_of, BytesLie, IsObject}
-use Rattle.term_read.specs.Stands.{Stands, RowStands, KeysStand, ValuesStand, IsTerm}
+use Rattle.term_words.specs.Role.{always}
+use Rattle.term_words.specs.Object.{byte_of, BytesLie, IsObject}
+use Rattle.term_words.specs.Stands.{Stands, RowStands, KeysStand, ValuesStand, IsTerm}
 
 abbrev pub sample : List ℕ
 sample = 0 ∷ 31 ∷ 59 ∷ 128 ∷ 331 ∷ 5 ∷ 164 ∷ 3 ∷ 591879 ∷ 86 ∷ 1 ∷ 1 ∷ 2 ∷ 513 ∷ 352 ∷ 2 ∷ 0 ∷ 9 ∷ 0 ∷ 0 ∷ 296 ∷ 1 ∷ 1 ∷ 0 ∷ 58 ∷ 71 ∷ 770 ∷ 1 ∷ 0 ∷ 404 ∷ 25 ∷ 0 ∷ 2 ∷ 1 ∷ 19 ∷ 79 ∷ 64 ∷ 75 ∷ 252 ∷ 1 ∷ 146 ∷ 159 ∷ 144 ∷ 1 ∷ 7 ∷ 72 ∷ 9223372036854775808 ∷ 0 ∷ 136 ∷ 0 ∷ 1 ∷ []

@@ -1,8 +1,8 @@
 -- Where the bytes of a binary lie.
 use Rattle.std.specs.Prelude.{◌≡◌, ℕ, ◌+◌, ◌/◌, ◌%◌, ◌<◌, Bool, List, length, slice_index, Option, Some, None}
-use Rattle.term_read.specs.Object.{byte_of}
+use Rattle.term_words.specs.Object.{byte_of}
 use Rattle.plain_term.specs.Tree.{Tree}
-use Rattle.term_read.specs.Stands.{Stands}
+use Rattle.term_words.specs.Stands.{Stands}
 use Rattle.term_read.specs.Parts.{binary_of, whole_of}
 use Rattle.term_read.specs.declared.binary.Data.{Data}
 

@@ -4,7 +4,7 @@ use Rattle.plain_term.specs.Bytes.{bytes_of}
 use Rattle.plain_term.specs.Tree.{Tree, Trees, pairs_len, keys_of, values_of}
 use Rattle.plain_term.specs.Tree.Tree.{Cons, Tuple, Map, Bin, Shared, Part, Fun}
 use Rattle.plain_term.specs.Tree.Trees.{end, ◌▹◌}
-use Rattle.term_read.specs.Stands.{Stands}
+use Rattle.term_words.specs.Stands.{Stands}
 
 -- Tree i of a list, from 0.
 abbrev pub part_at : Trees → ℕ → Option Tree

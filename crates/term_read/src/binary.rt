@@ -1,5 +1,5 @@
 // The bytes of binaries: on the heap, in a record that a holder names, or a part of either.
-ghost use Rattle.term_read.specs.Stands.{IsTerm};
+ghost use Rattle.term_words.specs.Stands.{IsTerm};
 ghost use Rattle.term_read.specs.Parts.{Tells, byte_len_in, byte_in};
 ghost use Rattle.term_read.specs.Data.{HasData, HasFirst};
 

@@ -1,6 +1,6 @@
 // The parts of list places.
 ghost use Rattle.std.specs.Prelude.{◌≡◌, ◌+◌, ◌/◌, slice_index, IfSome};
-ghost use Rattle.term_read.specs.Stands.{IsTerm};
+ghost use Rattle.term_words.specs.Stands.{IsTerm};
 ghost use Rattle.term_read.specs.Parts.{Reads, head_of, tail_of};
 
 use crate::object::cons_at;

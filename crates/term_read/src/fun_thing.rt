@@ -1,6 +1,6 @@
 // The environment of funs.
 ghost use Rattle.std.specs.Prelude.{◌≡◌, ◌+◌, ◌/◌, slice_index, IfSome};
-ghost use Rattle.term_read.specs.Stands.{IsTerm};
+ghost use Rattle.term_words.specs.Stands.{IsTerm};
 ghost use Rattle.term_read.specs.Parts.{Reads, env_of};
 
 use crate::object::object_at;

@@ -1,6 +1,6 @@
 // The pairs of maps.
 ghost use Rattle.std.specs.Prelude.{◌≡◌, ◌+◌, ◌/◌, slice_index, IfSome};
-ghost use Rattle.term_read.specs.Stands.{IsTerm};
+ghost use Rattle.term_words.specs.Stands.{IsTerm};
 ghost use Rattle.term_read.specs.Parts.{Reads, Tells, key_of, value_of, map_len_in};
 
 use crate::object::object_at;

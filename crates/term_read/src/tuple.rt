@@ -1,6 +1,6 @@
 // The parts of tuples.
 ghost use Rattle.std.specs.Prelude.{◌≡◌, ◌+◌, ◌/◌, slice_index, IfSome};
-ghost use Rattle.term_read.specs.Stands.{IsTerm};
+ghost use Rattle.term_words.specs.Stands.{IsTerm};
 ghost use Rattle.term_read.specs.Parts.{Reads, element_of};
 
 use crate::object::object_at;

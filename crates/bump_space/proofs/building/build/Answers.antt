@@ -4,8 +4,8 @@ use Rattle.plain_term.specs.declared.item.Item.{Item}
 use Rattle.plain_term.specs.declared.item.Item.TheVariants.{Int}
 use Rattle.plain_term.specs.Tree.{Trees}
 use Rattle.plain_term.specs.Tree.Trees.{end, ◌▹◌}
-use Rattle.term_read.specs.Role.{outside}
-use Rattle.term_read.specs.Stands.{AllStand}
+use Rattle.term_words.specs.Role.{outside}
+use Rattle.term_words.specs.Stands.{AllStand}
 use Rattle.term_build.specs.Clear.{Uses}
 use Rattle.term_build.proofs.Rooms.{uses-none, keeps-none, uses-then, keeps-clear-then, room-after}
 use Rattle.bump_space.specs.Forest.{Forest, words_of, item_words}

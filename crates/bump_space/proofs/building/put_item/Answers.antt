@@ -2,10 +2,10 @@ use Rattle.std.proofs.Common.{length, drop, subst}
 use Rattle.plain_term.specs.declared.item.Item.{Item}
 use Rattle.plain_term.specs.Tree.{Trees}
 use Rattle.plain_term.specs.Tree.{Tree as tree}
-use Rattle.term_read.specs.Role.{outside}
-use Rattle.term_read.specs.Kept.{Keeps}
-use Rattle.term_read.specs.Stands.{AllStand}
-use Rattle.term_read.proofs.Makes.{stands-small, stands-atom, stands-pid, stands-nil}
+use Rattle.term_words.specs.Role.{outside}
+use Rattle.term_words.specs.Kept.{Keeps}
+use Rattle.term_words.specs.Stands.{AllStand}
+use Rattle.term_words.proofs.Makes.{stands-small, stands-atom, stands-pid, stands-nil}
 use Rattle.bump_space.specs.Forest.{Put, CanPut}
 use Rattle.bump_space.proofs.Rows.{on-top, on-cons, on-tuple}
 use Rattle.bump_space.proofs.Smalls.{small-whole}

@@ -1,7 +1,7 @@
 use Rattle.std.proofs.Common.{rules, arith, ◌+◌, ◌∷◌, []}
 use Rattle.std.proofs.lemmas.Grind.{common_steps}
-use Rattle.term_read.specs.Role.{outside}
-use Rattle.term_read.specs.Stands.{Stands}
+use Rattle.term_words.specs.Role.{outside}
+use Rattle.term_words.specs.Stands.{Stands}
 use Rattle.plain_term.specs.Tree.Tree.{Cons}
 use Rattle.term_build.specs.Taken.{plain}
 use Rattle.term_build.proofs.Taking.{lie-none, lie-first, taken-kept, cons-made}

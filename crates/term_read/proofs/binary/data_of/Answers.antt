@@ -1,6 +1,6 @@
 use Rattle.std.proofs.Common.{◌≡◌, ◌/◌, get_or, arith}
 use Rattle.term_read.proofs.Binaries.{base-term, has-part_data, has-no_part, has-whole_data, size-inside, has-no_data}
-use Rattle.term_read.proofs.Inside.{binary-inside}
+use Rattle.term_words.proofs.Inside.{binary-inside}
 use Rattle.term_read.proofs.binary.data_of.Goals as goal
 
 pub get-requires : goal.get-requires

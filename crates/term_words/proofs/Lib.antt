@@ -1,0 +1,15 @@
+pub mod Makes
+pub mod Shapes
+pub mod Frames
+pub mod Rooms
+pub mod Lists
+pub mod Pairs
+pub mod Apart
+pub mod Roles
+pub mod Single
+pub mod Sizes
+pub mod Growing
+pub mod Inside
+pub mod Reached
+pub mod Carrying
+pub mod Tiles

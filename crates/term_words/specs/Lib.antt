@@ -1,0 +1,6 @@
+pub mod Role
+pub mod Object
+pub mod Stands
+pub mod Kept
+pub mod Reach
+pub mod Tiled

@@ -1,0 +1,105 @@
+// What holds of all words that stand for trees: each law is the contract of a function that does nothing.
+ghost use Rattle.std.specs.Prelude.{◌≡◌, ℕ, Bool, true, List, [], ◌∷◌, ◌+◌, ◌*◌, ◌/◌, ◌<◌, ◌≤◌, ◌⊎◌, ◌↔◌, ◌++◌, length, slice_index, slice_set};
+ghost use Rattle.plain_term.specs.Tree.{Tree, Trees, trees_append};
+ghost use Rattle.plain_term.specs.Measures.{flat_of_all};
+ghost use Rattle.term_words.specs.Role.{outside, roles_of, Idle, IsSingle, OfObject, OfRecord};
+ghost use Rattle.term_words.specs.Object.{IsPointer, IsRecord, object_words};
+ghost use Rattle.term_words.specs.Stands.{Stands, AllStand};
+ghost use Rattle.term_words.specs.Reach.{Reach};
+ghost use Rattle.term_words.specs.Tiled.{Tiled};
+ghost use Rattle.term_words.specs.Kept.{Kept, Carried, Keeps};
+
+/// What keeps the content of a memory, allows no less and makes it no shorter keeps every tree.
+pub fn kept_content_keeps_trees()
+    ensures { (c d : ℕ → ℕ → Bool) (old new : List ℕ) → Kept c d old new → Keeps c d old new }
+{}
+
+/// What carries the words of objects keeps every tree, and kept content is carried.
+pub fn carried_objects_keep_trees()
+    ensures trees { (c d : ℕ → ℕ → Bool) (old new : List ℕ) → Carried c d old new → Keeps c d old new }
+    ensures kept { (c d : ℕ → ℕ → Bool) (old new : List ℕ) → Kept c d old new → Carried c d old new }
+{}
+
+/// What carries the words of objects keeps what standing roots reach: no less, and no more.
+pub fn carried_objects_keep_reach()
+    ensures { (c d : ℕ → ℕ → Bool) (shared : List (List ℕ)) (old new roots : List ℕ) (ts : Trees) (w : ℕ) → Carried c d old new → AllStand c shared old roots ts
+        → (Reach old roots w ↔ Reach new roots w) }
+{}
+
+/// A test that allows more keeps every tree.
+pub fn weaker_tests_keep_trees()
+    ensures { (c d : ℕ → ℕ → Bool) (mem : List ℕ) → ((a k : ℕ) → c a k ≡ true → d a k ≡ true) → Keeps c d mem mem }
+{}
+
+/// A write at a place without content keeps every tree.
+pub fn idle_writes_keep_trees()
+    ensures { (c : ℕ → ℕ → Bool) (mem : List ℕ) (a v : ℕ) → Idle c a → Keeps c c mem (slice_set mem a v) }
+{}
+
+/// Words written at the first free places of a room keep every tree that was clear of it, and these are clear of the places that are left.
+pub fn rooms_keep_what_is_clear()
+    ensures { (top more limit : ℕ) (old new : List ℕ) → length old ≤ length new → top ≤ more → more ≤ limit
+        → ((q : ℕ) → (q < top) ⊎ (more ≤ q) → slice_index new q ≡ slice_index old q) → Keeps (outside top limit) (outside more limit) old new }
+{}
+
+/// A test by a map of roles allows the one role of a place, and no other.
+pub fn maps_of_roles_are_single()
+    ensures allows { (r : ℕ → ℕ) (a k : ℕ) → 0 < k → r a ≡ k → roles_of r a k ≡ true }
+    ensures tells { (r : ℕ → ℕ) (a k : ℕ) → roles_of r a k ≡ true → r a ≡ k }
+    ensures single { (r : ℕ → ℕ) → IsSingle (roles_of r) }
+{}
+
+/// Two objects that stand, where each place has one role at most, are one or have no word in common.
+pub fn objects_are_one_or_apart()
+    ensures { (c : ℕ → ℕ → Bool) (shared : List (List ℕ)) (mem : List ℕ) (w v : ℕ) (t u : Tree) → IsSingle c → Stands c shared mem w t → Stands c shared mem v u → IsPointer w → IsPointer v
+        → (w ≡ v) ⊎ ((w / 4 + object_words mem w ≤ v / 4) ⊎ (v / 4 + object_words mem v ≤ w / 4)) }
+{}
+
+/// Each word of an object that stands has a role of an object's word, and each word of a record one of a record's.
+pub fn words_of_objects_have_roles()
+    ensures object { (c : ℕ → ℕ → Bool) (shared : List (List ℕ)) (mem : List ℕ) (w : ℕ) (t : Tree) (q : ℕ) → Stands c shared mem w t → IsPointer w → w / 4 ≤ q → q < w / 4 + object_words mem w
+        → (k : ℕ) × (OfObject k × (c q k ≡ true)) }
+    ensures of_record { (c : ℕ → ℕ → Bool) (mem : List ℕ) (v n q : ℕ) → IsRecord c mem v n → v ≤ q → q < v + n → (k : ℕ) × (OfRecord k × (c q k ≡ true)) }
+{}
+
+/// Where each place has one role at most, two records are one or have no word in common, and an object and a record have none.
+pub fn records_are_one_or_apart()
+    ensures records { (c : ℕ → ℕ → Bool) (mem : List ℕ) (v n u m : ℕ) → IsSingle c → IsRecord c mem v n → IsRecord c mem u m → (v ≡ u) ⊎ ((v + n ≤ u) ⊎ (u + m ≤ v)) }
+    ensures object { (c : ℕ → ℕ → Bool) (shared : List (List ℕ)) (mem : List ℕ) (w v n : ℕ) (t : Tree) → IsSingle c → Stands c shared mem w t → IsPointer w → IsRecord c mem v n
+        → (w / 4 + object_words mem w ≤ v) ⊎ (v + n ≤ w / 4) }
+{}
+
+/// A word stands for one tree at most, whatever the tests and the shared lists.
+pub fn words_stand_for_one_tree()
+    ensures { (c d : ℕ → ℕ → Bool) (shared other : List (List ℕ)) (mem : List ℕ) (w : ℕ) (t u : Tree) → Stands c shared mem w t → Stands d other mem w u → t ≡ u }
+{}
+
+/// Each object that standing roots reach has at most the flat words of their trees.
+pub fn flat_size_covers_objects()
+    ensures { (c : ℕ → ℕ → Bool) (shared : List (List ℕ)) (mem roots : List ℕ) (ts : Trees) (w : ℕ) → AllStand c shared mem roots ts → Reach mem roots w → IsPointer w → object_words mem w ≤ flat_of_all ts }
+{}
+
+/// A word stands for its tree still when shared lists are added.
+pub fn more_lists_keep_trees()
+    ensures { (c : ℕ → ℕ → Bool) (shared more : List (List ℕ)) (mem : List ℕ) (w : ℕ) (t : Tree) → Stands c shared mem w t → Stands c (shared ++ more) mem w t }
+{}
+
+/// Two lists of words stand for two lists of trees exactly where they stand for both side by side.
+pub fn lists_stand_side_by_side()
+    ensures joined { (c : ℕ → ℕ → Bool) (shared : List (List ℕ)) (mem xs ys : List ℕ) (ts us : Trees) → AllStand c shared mem xs ts → AllStand c shared mem ys us → AllStand c shared mem (xs ++ ys) (trees_append ts us) }
+    ensures split { (c : ℕ → ℕ → Bool) (shared : List (List ℕ)) (mem xs ys : List ℕ) (vs : Trees) → AllStand c shared mem (xs ++ ys) vs
+        → (ts us : Trees) × ((vs ≡ trees_append ts us) × (AllStand c shared mem xs ts × AllStand c shared mem ys us)) }
+{}
+
+/// What standing roots reach stands for trees.
+pub fn reached_words_stand()
+    ensures { (c : ℕ → ℕ → Bool) (shared : List (List ℕ)) (mem roots : List ℕ) (ts : Trees) → AllStand c shared mem roots ts → (w : ℕ) → Reach mem roots w → (t : Tree) × Stands c shared mem w t }
+{}
+
+/// An object that stands, and a record, is a row of one tile; rows join; and a row is one still where its words are the same.
+pub fn tiles_lie_side_by_side()
+    ensures object { (c : ℕ → ℕ → Bool) (shared : List (List ℕ)) (mem : List ℕ) (w : ℕ) (t : Tree) → Stands c shared mem w t → IsPointer w → Tiled mem (w / 4) (w ∷ []) (w / 4 + object_words mem w) }
+    ensures of_record { (c : ℕ → ℕ → Bool) (mem : List ℕ) (v n : ℕ) → IsRecord c mem v n → Tiled mem v (v * 4 ∷ []) (v + n) }
+    ensures joined { (mem : List ℕ) (a b e : ℕ) (xs ys : List ℕ) → Tiled mem a xs b → Tiled mem b ys e → Tiled mem a (xs ++ ys) e }
+    ensures same { (old new : List ℕ) (a b : ℕ) (ws : List ℕ) → ((q : ℕ) → a ≤ q → q < b → slice_index new q ≡ slice_index old q) → Tiled old a ws b → Tiled new a ws b }
+{}
