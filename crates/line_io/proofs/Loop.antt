@@ -21,7 +21,7 @@ pub record Looping (before now : Option (List ℕ)) (faults_before faults_now : 
   pub going : answered new ≡ None
   pub limits : limits_of new ≡ limits_of old
   pub lines : lines_left new ≡ lines_left old
-  pub later : faults_before ≤ faults_now
+  pub no_fault : faults_now ≡ faults_before
   pub took : (bytes : List ℕ) (given : List Text) → HasRead old before bytes given → (x : List ℕ) × Gave before now x × HasCut new (bytes ++ x) given
 
 pub Gave-nil : (left : Option (List ℕ)) → Gave left left []

@@ -45,6 +45,7 @@ impl<'a, K: Sink> Gathered<'a, K> {
         ensures part { OnErr result (GrewInPart K.wrote self.entry.sink.now self.exit.0.now (pending self.entry)) }
         ensures later { K.faults self.entry.sink.now ≤ K.faults self.exit.0.now }
         ensures rose { OnErr result (Rose (K.faults self.entry.sink.now) (K.faults self.exit.0.now)) }
+        ensures told { OnOk result (K.faults self.exit.0.now ≡ K.faults self.entry.sink.now) }
     {
         let Gathered {
             sink,
@@ -62,6 +63,7 @@ impl<'a, K: Sink> Gathered<'a, K> {
         ensures emptied { result ≡ true → self.new.to ≡ 0 }
         ensures later { K.faults self.old.sink.now ≤ K.faults self.new.sink.now }
         ensures rose { result ≡ false → Rose (K.faults self.old.sink.now) (K.faults self.new.sink.now) }
+        ensures told { result ≡ true → K.faults self.new.sink.now ≡ K.faults self.old.sink.now }
     {
         let out = put_part(self.sink, &self.buf, self.from, self.to);
         self.from += out;
@@ -115,6 +117,7 @@ fn put_part<K: Sink>(sink: &mut K, buf: &[u8], from: usize, to: usize) -> usize
     ensures grew { Grew K.wrote sink.old sink.new (take result (slice_range buf.now from to)) }
     ensures later { K.faults sink.old ≤ K.faults sink.new }
     ensures rose { result < to - from → Rose (K.faults sink.old) (K.faults sink.new) }
+    ensures told { to - from ≤ result → K.faults sink.new ≡ K.faults sink.old }
 {
     put_most(sink, &buf[from..to])
 }

@@ -1,5 +1,5 @@
 // A sink over memory, which takes small pieces and fails where it is told to.
-ghost use Rattle.std.specs.Prelude.{◌≡◌, ℕ, ◌+◌, ◌<◌, ◌≤◌, ◌^◌, List, [], ◌++◌, length, take, IfOk, vec_len};
+ghost use Rattle.std.specs.Prelude.{◌≡◌, ◌≢◌, ℕ, ◌+◌, ◌<◌, ◌≤◌, ◌^◌, List, [], ◌++◌, length, take, IfOk, vec_len};
 ghost use Rattle.line_io.specs.Faults.{Rose, raised};
 ghost use Rattle.line_io.specs.Sink.{CountsWrite, Grew, TakesWithin, went};
 ghost use Rattle.line_io.specs.declared.sink.Took.{Took};
@@ -82,6 +82,7 @@ impl Sink for MemSink {
         ensures grew { Grew ⟦<MemSink as Sink>⟧.wrote self.old self.new (went result bytes.now) }
         ensures later { self.old.faults ≤ self.new.faults }
         ensures failed { result ≡ Took.Failed → Rose self.old.faults self.new.faults }
+        ensures told { result ≢ Took.Failed → self.new.faults ≡ self.old.faults }
 
         // Which answer comes, how many bytes, and what then stands.
         ensures exact { TakesNext self.old (length bytes.now) result }

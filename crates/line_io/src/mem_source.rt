@@ -1,5 +1,5 @@
 // A source over memory, which gives small pieces and fails where it is told to.
-ghost use Rattle.std.specs.Prelude.{◌≡◌, ◌↔◌, ℕ, ◌+◌, ◌-◌, ◌<◌, ◌≤◌, ◌^◌, min, List, length, drop, Option, Some, Contains, IfOk, vec_len};
+ghost use Rattle.std.specs.Prelude.{◌≡◌, ◌≢◌, ◌↔◌, ℕ, ◌+◌, ◌-◌, ◌<◌, ◌≤◌, ◌^◌, min, List, length, drop, Option, Some, Contains, IfOk, vec_len};
 ghost use Rattle.line_io.specs.Faults.{Rose, raised};
 ghost use Rattle.line_io.specs.Source.{CountsRead, CountsWithin, EndsAt, Gave, came};
 ghost use Rattle.line_io.specs.declared.source.Got.{Got};
@@ -70,6 +70,7 @@ impl Source for MemSource {
         ensures end { EndsAt (Some (bytes_left self.new)) result }
         ensures later { self.old.faults ≤ self.new.faults }
         ensures failed { result ≡ Got.Failed → Rose self.old.faults self.new.faults }
+        ensures told { result ≢ Got.Failed → self.new.faults ≡ self.old.faults }
 
         // Which answer comes, and how many bytes.
         ensures exact { GivesNext self.old (length buf.old) result }

@@ -103,6 +103,7 @@ impl LineReader {
 
         // A fault is the source's, in this call or in the one that answered it first.
         ensures fault { result ≡ LineGot.Fault → Rose (S.faults source.old) (S.faults source.new) ⊎ IsFaulted self.old }
+        ensures told { result ≢ LineGot.Fault → S.faults source.new ≡ S.faults source.old }
         ensures faulted { IsFaulted self.new → result ≡ LineGot.Fault }
         ensures later { S.faults source.old ≤ S.faults source.new }
 
@@ -347,6 +348,7 @@ fn fill<S: Source>(buf: &mut [u8], end: usize, source: &mut S) -> Got
     ensures end { EndsAt (S.left source.new) result }
     ensures later { S.faults source.old ≤ S.faults source.new }
     ensures failed { result ≡ Got.Failed → Rose (S.faults source.old) (S.faults source.new) }
+    ensures told { result ≢ Got.Failed → S.faults source.new ≡ S.faults source.old }
 {
     source.read(&mut buf[end..])
 }

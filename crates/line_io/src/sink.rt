@@ -1,5 +1,5 @@
 // Where bytes go.
-ghost use Rattle.std.specs.Prelude.{◌≡◌, ℕ, ◌<◌, ◌≤◌, List, length, take, OnOk, OnErr};
+ghost use Rattle.std.specs.Prelude.{◌≡◌, ◌≢◌, ℕ, ◌<◌, ◌≤◌, List, length, take, OnOk, OnErr};
 ghost use Rattle.line_io.specs.declared.sink.Took.{Took};
 ghost use Rattle.line_io.specs.Faults.{Rose};
 ghost use Rattle.line_io.specs.Sink.{Grew, GrewInPart, TakesWithin, went};
@@ -27,7 +27,8 @@ pub trait Sink {
         ensures count { TakesWithin (length bytes.now) result }
         ensures grew { Grew wrote self.old self.new (went result bytes.now) }
         ensures later { faults self.old ≤ faults self.new }
-        ensures failed { result ≡ Took.Failed → Rose (faults self.old) (faults self.new) };
+        ensures failed { result ≡ Took.Failed → Rose (faults self.old) (faults self.new) }
+        ensures told { result ≢ Took.Failed → faults self.new ≡ faults self.old };
 }
 
 /// A sink failed before it had taken all that it was given.
@@ -41,6 +42,7 @@ pub fn put_all<K: Sink>(sink: &mut K, bytes: &[u8]) -> Result<(), SinkFault>
     ensures part { OnErr result (GrewInPart K.wrote sink.old sink.new bytes.now) }
     ensures later { K.faults sink.old ≤ K.faults sink.new }
     ensures rose { OnErr result (Rose (K.faults sink.old) (K.faults sink.new)) }
+    ensures told { OnOk result (K.faults sink.new ≡ K.faults sink.old) }
 {
     if put_most(sink, bytes) < bytes.len() {
         return Err(SinkFault);
@@ -54,6 +56,7 @@ pub fn put_most<K: Sink>(sink: &mut K, bytes: &[u8]) -> usize
     ensures grew { Grew K.wrote sink.old sink.new (take result bytes.now) }
     ensures later { K.faults sink.old ≤ K.faults sink.new }
     ensures rose { result < length bytes.now → Rose (K.faults sink.old) (K.faults sink.new) }
+    ensures told { length bytes.now ≤ result → K.faults sink.new ≡ K.faults sink.old }
 {
     let mut at = 0;
     while at < bytes.len() {

@@ -1,5 +1,5 @@
 // Where bytes come from.
-ghost use Rattle.std.specs.Prelude.{◌≡◌, ℕ, ◌<◌, ◌≤◌, List, length, Option};
+ghost use Rattle.std.specs.Prelude.{◌≡◌, ◌≢◌, ℕ, ◌<◌, ◌≤◌, List, length, Option};
 ghost use Rattle.line_io.specs.declared.source.Got.{Got};
 ghost use Rattle.line_io.specs.Faults.{Rose};
 ghost use Rattle.line_io.specs.Source.{CountsWithin, EndsAt, Gave, came};
@@ -27,5 +27,6 @@ pub trait Source {
         ensures bytes { Gave (left self.old) (left self.new) (came result buf.new) }
         ensures end { EndsAt (left self.new) result }
         ensures later { faults self.old ≤ faults self.new }
-        ensures failed { result ≡ Got.Failed → Rose (faults self.old) (faults self.new) };
+        ensures failed { result ≡ Got.Failed → Rose (faults self.old) (faults self.new) }
+        ensures told { result ≢ Got.Failed → faults self.new ≡ faults self.old };
 }

@@ -1,5 +1,5 @@
 // Std's writers as sinks.
-ghost use Rattle.std.specs.Prelude.{◌≡◌, ◌<◌, ◌≤◌, ◌++◌, ℕ, List, length};
+ghost use Rattle.std.specs.Prelude.{◌≡◌, ◌≢◌, ◌<◌, ◌≤◌, ◌++◌, ℕ, List, length};
 ghost use Rattle.line_io.specs.Faults.{Rose};
 ghost use Rattle.line_io.specs.Sink.{CountsWrite, Grew, TakesWithin, went};
 ghost use Rattle.line_io.specs.declared.sink.Took.{Took};
@@ -49,6 +49,7 @@ impl<W: Write> Sink for StdSink<W> {
         ensures grew { Grew ⟦<StdSink<W> as Sink>⟧.wrote self.old self.new (went result bytes.now) }
         ensures later { self.old.faults ≤ self.new.faults }
         ensures failed { result ≡ Took.Failed → Rose self.old.faults self.new.faults }
+        ensures told { result ≢ Took.Failed → self.new.faults ≡ self.old.faults }
 
         // A fault is counted once, and nothing else is.
         ensures faults { CountsWrite result self.old.faults self.new.faults }

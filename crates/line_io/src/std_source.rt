@@ -1,5 +1,5 @@
 // Std's readers as sources.
-ghost use Rattle.std.specs.Prelude.{◌≡◌, ◌<◌, ◌≤◌, ℕ, length, None};
+ghost use Rattle.std.specs.Prelude.{◌≡◌, ◌≢◌, ◌<◌, ◌≤◌, ℕ, length, None};
 ghost use Rattle.line_io.specs.Faults.{Rose};
 ghost use Rattle.line_io.specs.Source.{CountsRead, CountsWithin, EndsAt, Gave, came};
 ghost use Rattle.line_io.specs.declared.source.Got.{Got};
@@ -35,6 +35,7 @@ impl<R: Read> Source for StdSource<R> {
         ensures end { EndsAt None result }
         ensures later { self.old.faults ≤ self.new.faults }
         ensures failed { result ≡ Got.Failed → Rose self.old.faults self.new.faults }
+        ensures told { result ≢ Got.Failed → self.new.faults ≡ self.old.faults }
 
         // A fault is counted once, and nothing else is.
         ensures faults { CountsRead result self.old.faults self.new.faults }

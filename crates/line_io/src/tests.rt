@@ -1,5 +1,5 @@
 // What no clause says: answers do come, with ample memory, whatever the pieces.
-ghost use Rattle.std.specs.Prelude.{◌<◌, ◌≤◌, ◌∷◌, [], IfOk, OnOk, OnErr};
+ghost use Rattle.std.specs.Prelude.{◌≡◌, ◌<◌, ◌≤◌, ◌∷◌, [], IfOk, OnOk, OnErr};
 ghost use Rattle.line_io.specs.Faults.{Rose};
 ghost use Rattle.line_io.specs.Sink.{Grew, GrewInPart};
 
@@ -129,6 +129,7 @@ fn greet<S: Sink>(sink: &mut S) -> Result<(), SinkFault>
     ensures part { OnErr result (GrewInPart S.wrote sink.old sink.new (104 ∷ 105 ∷ [])) }
     ensures later { S.faults sink.old ≤ S.faults sink.new }
     ensures rose { OnErr result (Rose (S.faults sink.old) (S.faults sink.new)) }
+    ensures told { OnOk result (S.faults sink.new ≡ S.faults sink.old) }
 {
     put_all(sink, b"hi")
 }
@@ -139,6 +140,7 @@ fn greet_at_once<K: Sink>(sink: &mut K) -> Result<(), SinkFault>
     ensures part { OnErr result (GrewInPart K.wrote sink.old sink.new (104 ∷ 105 ∷ [])) }
     ensures later { K.faults sink.old ≤ K.faults sink.new }
     ensures rose { OnErr result (Rose (K.faults sink.old) (K.faults sink.new)) }
+    ensures told { OnOk result (K.faults sink.new ≡ K.faults sink.old) }
 {
     let mut gathered = Gathered::new(sink);
     greet(&mut gathered)?;

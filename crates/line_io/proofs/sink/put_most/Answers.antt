@@ -1,4 +1,4 @@
-use Rattle.std.proofs.Common.{◌+◌, ◌-◌, ◌≤◌, length, drop, arith, length-take}
+use Rattle.std.proofs.Common.{◌+◌, ◌-◌, ◌≤◌, length, drop, arith, ◌∙◌, length-take}
 use Rattle.line_io.proofs.Growth.{Grew-more}
 use Rattle.line_io.proofs.sink.put_most.Goals as goal
 
@@ -10,4 +10,4 @@ loop-at-preserved g c =
     let before = c.loop-at.invariant in
     let most = length-take (length xs - at) (drop at xs) in
     let fits : at + n ≤ length xs = omega (arith, c.in-Took.ensures.count.1, most, before.0) in
-    (fits, Grew-more g.K.Sink.wrote _ _ _ xs at n fits before.1 c.in-Took.ensures.grew, omega (arith, before.2, c.in-Took.ensures.later))
+    (fits, Grew-more g.K.Sink.wrote _ _ _ xs at n fits before.1 c.in-Took.ensures.grew, c.in-Took.ensures.told (λ e. cc) ∙ before.2)
