@@ -2,7 +2,7 @@
 use Rattle.std.proofs.Common.{ℕ, ◌≡◌, ◌<◌, ◌⊎◌, Option, List, subst, refl, inl, inr}
 use Rattle.line_io.specs.Faults.{Rose}
 use Rattle.line_io.specs.declared.reader.Limits.{Limits}
-use Rattle.plain_machine.specs.Names.{Parsed}
+use Rattle.script_grammar.specs.Names.{Parsed}
 use Rattle.plain_machine.specs.State.{State}
 use Rattle.std.specs.Prelude.{Bool}
 use Rattle.engine.specs.Serving.{Served, EndsBy}

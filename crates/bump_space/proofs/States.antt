@@ -11,14 +11,15 @@ use Rattle.plain_term.specs.declared.item.Item.{Item}
 use Rattle.plain_term.specs.Tree.{Tree}
 use Rattle.plain_term.specs.Tree.Tree.{Pid}
 use Rattle.plain_term.specs.Tree.Trees.{end, ◌▹◌}
-use Rattle.plain_machine.specs.declared.command.Command.TheVariants.{Process as OfProcess, System}
-use Rattle.plain_machine.specs.declared.command.Verb.{Verb}
-use Rattle.plain_machine.specs.declared.command.Verb.TheVariants as verb
-use Rattle.plain_machine.specs.declared.command.SysVerb.TheVariants as sysverb
-use Rattle.plain_machine.specs.declared.refusal.Refusal.TheVariants as refusal
-use Rattle.plain_machine.specs.Written.{Term, Terms}
-use Rattle.plain_machine.specs.Grammar.{IsBuiltTerm}
-use Rattle.plain_machine.specs.Names.{Parsed, tree_of, items_of}
+use Rattle.script_grammar.specs.declared.command.Command.TheVariants.{Process as OfProcess, System}
+use Rattle.script_grammar.specs.declared.command.Verb.{Verb}
+use Rattle.script_grammar.specs.declared.command.Verb.TheVariants as verb
+use Rattle.script_grammar.specs.declared.command.SysVerb.TheVariants as sysverb
+use Rattle.script_grammar.specs.declared.refusal.Refusal.TheVariants as refusal
+use Rattle.script_grammar.specs.Written.{Term, Terms}
+use Rattle.script_grammar.specs.Grammar.{IsBuiltTerm}
+use Rattle.script_grammar.specs.Names.{Parsed, items_of}
+use Rattle.plain_machine.specs.Made.{tree_of}
 use Rattle.plain_machine.specs.State.{Process, State, process_of, with_process, with_register, register, fresh_process}
 use Rattle.plain_machine.specs.Step.{step, in_process, settled, swept_after, spawn_if, pop_from, print_if}
 use Rattle.plain_machine.specs.Tightness.{grow, process_words, build_words}

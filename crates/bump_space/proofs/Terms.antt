@@ -7,11 +7,12 @@ use Rattle.plain_term.specs.Tree.{Tree, Trees, trees_len, trees_append}
 use Rattle.plain_term.specs.Tree.{Tree as tree}
 use Rattle.plain_term.specs.Tree.{Trees as trees}
 use Rattle.plain_term.specs.Measures.{is_small, nodes, nodes_of_all, depth, greatest_depth}
-use Rattle.plain_machine.specs.Written.{Term, Terms, terms_len}
-use Rattle.plain_machine.specs.Written.Term.{Int, Atom, Pid, Held, Listed, Barred, Tuple, Map, Bin}
-use Rattle.plain_machine.specs.Written.Terms.{end, ◌▹◌}
-use Rattle.plain_machine.specs.Grammar.{MayStand, AllMayStand, IsBuiltTerm, AreBuiltTerms}
-use Rattle.plain_machine.specs.Names.{items_of, listed_items, all_items, tree_of, trees_of, list_tree}
+use Rattle.script_grammar.specs.Written.{Term, Terms, terms_len}
+use Rattle.script_grammar.specs.Written.Term.{Int, Atom, Pid, Held, Listed, Barred, Tuple, Map, Bin}
+use Rattle.script_grammar.specs.Written.Terms.{end, ◌▹◌}
+use Rattle.script_grammar.specs.Grammar.{MayStand, AllMayStand, IsBuiltTerm, AreBuiltTerms}
+use Rattle.script_grammar.specs.Names.{items_of, listed_items, all_items}
+use Rattle.plain_machine.specs.Made.{tree_of, trees_of, list_tree}
 use Rattle.plain_machine.specs.Tightness.{build_words, build_words_of_all}
 use Rattle.space_api.specs.Calls.{IsNamedBelow}
 use Rattle.bump_space.specs.Forest.{Forest, words_of}

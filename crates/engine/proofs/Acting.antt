@@ -3,18 +3,18 @@ use Rattle.std.proofs.Common.{◌≡◌, ℕ, inl, inr, Bool, true, false, cond,
 use Rattle.std.specs.List.{find, list_any}
 use Rattle.plain_term.specs.Tree.{Tree}
 use Rattle.plain_term.specs.declared.item.Item.{Item}
-use Rattle.plain_machine.specs.declared.command.Reg.{Reg}
-use Rattle.plain_machine.specs.declared.command.Command.{Command}
-use Rattle.plain_machine.specs.declared.command.Command.TheVariants.{Process, System}
-use Rattle.plain_machine.specs.declared.command.Verb.{Verb}
-use Rattle.plain_machine.specs.declared.command.Verb.TheVariants.{Set, Own, Push, Pop, Print, Exit}
-use Rattle.plain_machine.specs.declared.command.SysVerb.{SysVerb}
-use Rattle.plain_machine.specs.declared.command.SysVerb.TheVariants.{Spawn}
-use Rattle.plain_machine.specs.declared.refusal.Refusal.{Refusal}
-use Rattle.plain_machine.specs.declared.refusal.Refusal.TheVariants.{NoProc, Syntax}
-use Rattle.plain_machine.specs.Written.{Term, Terms}
-use Rattle.plain_machine.specs.Written.Terms.{end}
-use Rattle.plain_machine.specs.Names.{Parsed}
+use Rattle.script_grammar.specs.declared.command.Reg.{Reg}
+use Rattle.script_grammar.specs.declared.command.Command.{Command}
+use Rattle.script_grammar.specs.declared.command.Command.TheVariants.{Process, System}
+use Rattle.script_grammar.specs.declared.command.Verb.{Verb}
+use Rattle.script_grammar.specs.declared.command.Verb.TheVariants.{Set, Own, Push, Pop, Print, Exit}
+use Rattle.script_grammar.specs.declared.command.SysVerb.{SysVerb}
+use Rattle.script_grammar.specs.declared.command.SysVerb.TheVariants.{Spawn}
+use Rattle.script_grammar.specs.declared.refusal.Refusal.{Refusal}
+use Rattle.script_grammar.specs.declared.refusal.Refusal.TheVariants.{NoProc, Syntax}
+use Rattle.script_grammar.specs.Written.{Term, Terms}
+use Rattle.script_grammar.specs.Written.Terms.{end}
+use Rattle.script_grammar.specs.Names.{Parsed}
 use Rattle.plain_machine.specs.State.{Process as Live, State, process_of, is_live}
 use Rattle.plain_machine.specs.Step.{Outcome, step, in_process, by_verb, pop_from, spawn_if, most_processes}
 use Rattle.plain_machine.specs.Step.Outcome.{Accepted, Refused as IsRefused}

@@ -3,12 +3,12 @@ use Rattle.std.proofs.Common.{ℕ, zero, suc, ◌<◌, List, [], ◌∷◌, ◌+
 use Rattle.std.specs.Prelude.{All}
 use Rattle.plain_term.specs.declared.item.Item.{Item}
 use Rattle.plain_term.specs.declared.item.Item.TheVariants as item
-use Rattle.plain_machine.specs.Written.{Term, Terms}
-use Rattle.plain_machine.specs.Written.Term.{Int, Atom, Pid, Held, Listed, Barred, Tuple, Map, Bin}
-use Rattle.plain_machine.specs.Written.Terms.{end, ◌▹◌}
-use Rattle.plain_machine.specs.Grammar.{IsBuiltTerm, AreBuiltTerms}
-use Rattle.plain_machine.specs.Names.{atoms_of, atoms_of_all, items_of, listed_items, all_items}
-use Rattle.plain_machine.proofs.Naming.{ArePlaced, placed-front, placed-back, number-below}
+use Rattle.script_grammar.specs.Written.{Term, Terms}
+use Rattle.script_grammar.specs.Written.Term.{Int, Atom, Pid, Held, Listed, Barred, Tuple, Map, Bin}
+use Rattle.script_grammar.specs.Written.Terms.{end, ◌▹◌}
+use Rattle.script_grammar.specs.Grammar.{IsBuiltTerm, AreBuiltTerms}
+use Rattle.script_grammar.specs.Names.{atoms_of, atoms_of_all, items_of, listed_items, all_items}
+use Rattle.script_grammar.proofs.Naming.{ArePlaced, placed-front, placed-back, number-below}
 use Rattle.space_api.specs.Calls.{IsNamedBelow}
 
 -- items whose atoms have numbers below a count

@@ -2,26 +2,27 @@
 use Rattle.std.proofs.Common.{◌≡◌, ℕ, ◌<◌, ◌≤◌, ◌⊎◌, inl, inr, Bool, List, [], length, take, refl, sym, ap, subst, ◌∙◌, append-nil}
 use Rattle.atom_names.specs.Names.{most_names}
 use Rattle.plain_term.specs.declared.item.Item.{Item}
-use Rattle.plain_machine.specs.declared.command.Command.{Command}
-use Rattle.plain_machine.specs.declared.refusal.Refusal.{Refusal}
-use Rattle.plain_machine.specs.declared.refusal.Refusal.TheVariants.{Atoms, Syntax}
-use Rattle.plain_machine.specs.Written.{Written, Term}
-use Rattle.plain_machine.specs.declared.word.Word.TheVariants as word
-use Rattle.plain_machine.specs.Written.Written.{Nothing, OfProcess, OfSystem}
-use Rattle.plain_machine.specs.Grammar.{Says, IsAllowed, IsBuilt}
-use Rattle.plain_machine.specs.Names.{Parsed, parsed_of, names_after, command_of, terms_of, all_atoms, all_items, items_of, atoms_of, with_names}
+use Rattle.script_grammar.specs.declared.command.Command.{Command}
+use Rattle.script_grammar.specs.declared.refusal.Refusal.{Refusal}
+use Rattle.script_grammar.specs.declared.refusal.Refusal.TheVariants.{Atoms, Syntax}
+use Rattle.script_grammar.specs.Written.{Written, Term}
+use Rattle.script_grammar.specs.declared.word.Word.TheVariants as word
+use Rattle.script_grammar.specs.Written.Written.{Nothing, OfProcess, OfSystem}
+use Rattle.script_grammar.specs.Grammar.{Says, IsAllowed, IsBuilt}
+use Rattle.script_grammar.specs.Names.{Parsed, parsed_of, names_after, command_of, terms_of, all_atoms, all_items, items_of, atoms_of, with_names}
 use Rattle.plain_machine.specs.State.{State}
 use Rattle.plain_machine.specs.Step.{is_printing}
 use Rattle.plain_machine.proofs.Told.{prints-none}
-use Rattle.plain_machine.specs.Run.{CommandStep, IsOutside, BringsTooMany}
-use Rattle.plain_machine.specs.Run.Reading.{Means, NoSyntax, NoAtoms}
+use Rattle.script_grammar.specs.ReadAs.{IsOutside, BringsTooMany}
+use Rattle.plain_machine.specs.Run.{CommandStep}
+use Rattle.script_grammar.specs.ReadAs.Reading.{Means, NoSyntax, NoAtoms}
 use Rattle.space_api.specs.Calls.{said}
 use Rattle.script_parse.specs.Parses.{Reads as Parsing}
 use Rattle.engine.specs.declared.reply.Reply.{Reply}
 use Rattle.engine.specs.declared.reply.Reply.TheVariants.{Nothing as Silence, Done, Spawned, Numbers, Text, Quit, Refused}
 use Rattle.engine.specs.Replies.{reply_lines, ends_script}
 use Rattle.engine.specs.Acts.{Acts, Fits, HasCode, TermsFit, Takes, StandsWith, names_left}
-use Rattle.plain_machine.proofs.Naming.{ArePlaced, with-names-placed, names-back, names-longer, placed-front}
+use Rattle.script_grammar.proofs.Naming.{ArePlaced, with-names-placed, names-back, names-longer, placed-front}
 use Rattle.engine.proofs.Naming.{AreBelow, items-below, below-all}
 
 -- the code of a line that builds is its term

@@ -1,12 +1,12 @@
 -- What doing a line leaves, before its reply is written.
 use Rattle.std.specs.Prelude.{ℕ, ◌≡◌, Bool, true, List, Result, Ok, Err}
 use Rattle.plain_term.specs.declared.item.Item.{Item}
-use Rattle.plain_machine.specs.declared.command.Command.{Command}
-use Rattle.plain_machine.specs.declared.command.Command.TheVariants.{Process}
-use Rattle.plain_machine.specs.declared.command.Verb.TheVariants.{Set}
-use Rattle.plain_machine.specs.declared.refusal.Refusal.{Refusal}
-use Rattle.plain_machine.specs.Written.{Term, Terms}
-use Rattle.plain_machine.specs.Names.{Parsed}
+use Rattle.script_grammar.specs.declared.command.Command.{Command}
+use Rattle.script_grammar.specs.declared.command.Command.TheVariants.{Process}
+use Rattle.script_grammar.specs.declared.command.Verb.TheVariants.{Set}
+use Rattle.script_grammar.specs.declared.refusal.Refusal.{Refusal}
+use Rattle.script_grammar.specs.Written.{Term, Terms}
+use Rattle.script_grammar.specs.Names.{Parsed}
 use Rattle.plain_machine.specs.State.{State}
 use Rattle.plain_machine.specs.Step.{is_printing}
 use Rattle.plain_machine.specs.Run.{CommandStep, TextStep}

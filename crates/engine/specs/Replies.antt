@@ -1,11 +1,11 @@
 -- What each kind of reply writes.
 use Rattle.std.specs.Prelude.{ℕ, ◌≡◌, ◌≤◌, Bool, true, false, List, [], ◌∷◌, ◌++◌, codes, decimal, length, Result, Ok, Err}
 use Rattle.plain_term.specs.Text.{numbers_text}
-use Rattle.plain_machine.specs.declared.command.Command.TheVariants.{Process}
-use Rattle.plain_machine.specs.declared.command.Verb.TheVariants.{Print}
-use Rattle.plain_machine.specs.declared.refusal.Refusal.{Refusal}
-use Rattle.plain_machine.specs.Written.Terms.{end}
-use Rattle.plain_machine.specs.Names.{IsRegister}
+use Rattle.script_grammar.specs.declared.command.Command.TheVariants.{Process}
+use Rattle.script_grammar.specs.declared.command.Verb.TheVariants.{Print}
+use Rattle.script_grammar.specs.declared.refusal.Refusal.{Refusal}
+use Rattle.script_grammar.specs.Written.Terms.{end}
+use Rattle.script_grammar.specs.Names.{IsRegister}
 use Rattle.plain_machine.specs.State.{State, live_numbers}
 use Rattle.plain_machine.specs.Step.{Outcome, step}
 use Rattle.plain_machine.specs.Step.Outcome.{Accepted, Refused as IsRefused}

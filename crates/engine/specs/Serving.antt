@@ -8,7 +8,7 @@ use Rattle.line_io.specs.Lines.{Line, lines, is_too_much}
 use Rattle.line_io.specs.Reader.{HasRead, IsEndOf, IsFaulted, lines_left, limits_of}
 use Rattle.line_io.specs.declared.reader.Limits.{Limits}
 use Rattle.line_io.specs.declared.reader.LineReader.{LineReader}
-use Rattle.plain_machine.specs.Names.{Parsed}
+use Rattle.script_grammar.specs.Names.{Parsed}
 use Rattle.plain_machine.specs.State.{State}
 use Rattle.plain_machine.specs.Run.{Run, LineStep, replies_text}
 use Rattle.engine.specs.declared.serving.Status.{Status}

@@ -3,7 +3,7 @@ use Rattle.std.specs.Prelude.{ℕ, ◌≡◌, ◌≤◌, Bool, true, false, List
 use Rattle.line_io.specs.Faults.{Rose}
 use Rattle.line_io.specs.Lines.{Line}
 use Rattle.line_io.specs.Sink.{Grew, GrewInPart}
-use Rattle.plain_machine.specs.Names.{Parsed}
+use Rattle.script_grammar.specs.Names.{Parsed}
 use Rattle.plain_machine.specs.State.{State}
 use Rattle.plain_machine.specs.Run.{LineStep, replies_text}
 use Rattle.engine.specs.declared.machine.Stepped.{Stepped}

@@ -1,7 +1,7 @@
 -- The texts that replies are made of.
 use Rattle.std.specs.Prelude.{ℕ, nat_lt, if◌then◌else◌, List, [], ◌∷◌, ◌++◌, codes}
-use Rattle.plain_machine.specs.declared.refusal.Refusal.{Refusal}
-use Rattle.plain_machine.specs.declared.refusal.Refusal.TheVariants.{NoSpace}
+use Rattle.script_grammar.specs.declared.refusal.Refusal.{Refusal}
+use Rattle.script_grammar.specs.declared.refusal.Refusal.TheVariants.{NoSpace}
 use Rattle.plain_machine.specs.Run.{refusal_text}
 
 -- A line with its end.

@@ -1,9 +1,9 @@
 ghost use Rattle.std.specs.Prelude.{◌≡◌, ℕ, ◌+◌, ◌^◌, ◌<◌, ◌≤◌, List, length, max, true};
-ghost use Rattle.plain_machine.specs.declared.command.Command.TheVariants.{Process, System};
-ghost use Rattle.plain_machine.specs.Names.{HasRegisters, IsInBounds};
+ghost use Rattle.script_grammar.specs.declared.command.Command.TheVariants.{Process, System};
+ghost use Rattle.script_grammar.specs.Names.{HasRegisters, IsInBounds};
 ghost use Rattle.plain_machine.specs.State.{State, is_live};
 ghost use Rattle.plain_term.specs.declared.item.Item.{Item};
-ghost use Rattle.plain_machine.specs.Written.{Terms};
+ghost use Rattle.script_grammar.specs.Written.{Terms};
 ghost use Rattle.space_api.specs.Calls.{said};
 ghost use Rattle.engine.specs.Replies.{CanReply, reply_of};
 ghost use Rattle.engine.specs.Acts.{Acts, Fits, HasCode, OnRefused, reply_of_spawn};

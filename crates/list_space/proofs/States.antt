@@ -7,12 +7,12 @@ use Rattle.plain_term.specs.declared.item.Item.{Item}
 use Rattle.plain_term.specs.declared.item.Item.TheVariants as item
 use Rattle.plain_term.specs.Tree.{Tree}
 use Rattle.plain_term.specs.Tree.Tree.{Pid}
-use Rattle.plain_machine.specs.declared.command.Command.TheVariants.{Process as OfProcess}
-use Rattle.plain_machine.specs.declared.command.Verb.{Verb}
-use Rattle.plain_machine.specs.declared.command.Verb.TheVariants as verb
-use Rattle.plain_machine.specs.declared.refusal.Refusal.TheVariants as refusal
-use Rattle.plain_machine.specs.Written.{Term, Terms}
-use Rattle.plain_machine.specs.Names.{Parsed, items_of}
+use Rattle.script_grammar.specs.declared.command.Command.TheVariants.{Process as OfProcess}
+use Rattle.script_grammar.specs.declared.command.Verb.{Verb}
+use Rattle.script_grammar.specs.declared.command.Verb.TheVariants as verb
+use Rattle.script_grammar.specs.declared.refusal.Refusal.TheVariants as refusal
+use Rattle.script_grammar.specs.Written.{Term, Terms}
+use Rattle.script_grammar.specs.Names.{Parsed, items_of}
 use Rattle.plain_machine.specs.State.{Process, State, process_of, with_process, with_register}
 use Rattle.plain_machine.specs.Step.{step, in_process, settled, with_made}
 use Rattle.plain_machine.specs.Tightness.{grow, process_words, build_words}

@@ -4,11 +4,12 @@ use Rattle.plain_term.specs.declared.item.Item.{Item}
 use Rattle.plain_term.specs.declared.item.Item.TheVariants as item
 use Rattle.plain_term.specs.Tree.{Tree}
 use Rattle.plain_term.specs.Measures.{int_flat, is_small}
-use Rattle.plain_machine.specs.Written.{Term, Terms, terms_len}
-use Rattle.plain_machine.specs.Written.Term.{Int, Atom, Pid, Held, Listed, Barred, Tuple, Map, Bin}
-use Rattle.plain_machine.specs.Written.Terms.{end, ◌▹◌}
-use Rattle.plain_machine.specs.Grammar.{IsBuiltTerm, AreBuiltTerms}
-use Rattle.plain_machine.specs.Names.{items_of, listed_items, all_items, tree_of}
+use Rattle.script_grammar.specs.Written.{Term, Terms, terms_len}
+use Rattle.script_grammar.specs.Written.Term.{Int, Atom, Pid, Held, Listed, Barred, Tuple, Map, Bin}
+use Rattle.script_grammar.specs.Written.Terms.{end, ◌▹◌}
+use Rattle.script_grammar.specs.Grammar.{IsBuiltTerm, AreBuiltTerms}
+use Rattle.script_grammar.specs.Names.{items_of, listed_items, all_items}
+use Rattle.plain_machine.specs.Made.{tree_of}
 use Rattle.plain_machine.specs.Tightness.{build_words, build_words_of_all}
 use Rattle.list_space.specs.Items.{alone, weight}
 

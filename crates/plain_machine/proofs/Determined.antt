@@ -3,18 +3,19 @@ use Rattle.std.proofs.Common.{◌≡◌, ℕ, ◌<◌, ◌≤◌, ◌⊎◌, inl
 use Rattle.std.specs.Prelude.{MatchBool}
 use Rattle.atom_names.specs.Names.{most_names}
 use Rattle.line_io.specs.Lines.{Line, text, long}
-use Rattle.plain_machine.specs.declared.command.Command.{Command}
-use Rattle.plain_machine.specs.declared.refusal.Refusal.{Refusal}
-use Rattle.plain_machine.specs.declared.refusal.Refusal.TheVariants.{NoSpace}
-use Rattle.plain_machine.specs.Written.{Written}
-use Rattle.plain_machine.specs.Grammar.{SaysOne}
-use Rattle.plain_machine.specs.Names.{Parsed, parsed_of, names_after}
+use Rattle.script_grammar.specs.declared.command.Command.{Command}
+use Rattle.script_grammar.specs.declared.refusal.Refusal.{Refusal}
+use Rattle.script_grammar.specs.declared.refusal.Refusal.TheVariants.{NoSpace}
+use Rattle.script_grammar.specs.Written.{Written}
+use Rattle.script_grammar.specs.Grammar.{SaysOne}
+use Rattle.script_grammar.specs.Names.{Parsed, parsed_of, names_after}
 use Rattle.plain_machine.specs.State.{State}
 use Rattle.plain_machine.specs.Tightness.{grow}
 use Rattle.plain_machine.specs.Step.{Outcome, step, is_printing}
 use Rattle.plain_machine.specs.Step.Outcome.{Accepted, Refused}
-use Rattle.plain_machine.specs.Run.{Run, LineStep, ReadingStep, CommandStep, Gives, Skips, LacksSpace, Refuses, IsReadAs, is_nothing, Reading}
-use Rattle.plain_machine.specs.Run.Reading.{Means, NoSyntax, NoAtoms}
+use Rattle.script_grammar.specs.ReadAs.{IsReadAs, Reading}
+use Rattle.plain_machine.specs.Run.{Run, LineStep, ReadingStep, CommandStep, Gives, Skips, LacksSpace, Refuses, is_nothing}
+use Rattle.script_grammar.specs.ReadAs.Reading.{Means, NoSyntax, NoAtoms}
 use Rattle.plain_machine.proofs.Told.{IsTold, command-told, gives-leaves, parsed-names}
 
 -- two steps of one command with one reply

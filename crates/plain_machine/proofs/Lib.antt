@@ -2,7 +2,6 @@ pub mod Runs
 pub mod Numbered
 pub mod Told
 pub mod Determined
-pub mod Naming
 pub mod Making
 pub mod Growing
 pub mod Living

@@ -7,22 +7,24 @@ use Rattle.plain_term.specs.Tree.{Tree}
 use Rattle.plain_term.specs.Tree.{Tree as tree}
 use Rattle.plain_term.specs.Beyond.{is_beyond}
 use Rattle.plain_term.specs.Proper.{is_proper}
-use Rattle.plain_machine.specs.declared.command.Verb.{Verb}
-use Rattle.plain_machine.specs.declared.command.Verb.TheVariants as verb
-use Rattle.plain_machine.specs.Written.{Term, Written}
-use Rattle.plain_machine.specs.declared.word.Word.TheVariants as word
-use Rattle.plain_machine.specs.declared.word.SysWord.TheVariants as sys
-use Rattle.plain_machine.specs.Written.Written.{Nothing, OfProcess, OfSystem}
-use Rattle.plain_machine.specs.Grammar.{MayStand, IsBuiltTerm, IsAllowed, IsBuilt}
-use Rattle.plain_machine.specs.Names.{Parsed, parsed_of, names_after, atoms_of, all_atoms, tree_of, reg}
+use Rattle.script_grammar.specs.declared.command.Verb.{Verb}
+use Rattle.script_grammar.specs.declared.command.Verb.TheVariants as verb
+use Rattle.script_grammar.specs.Written.{Term, Written}
+use Rattle.script_grammar.specs.declared.word.Word.TheVariants as word
+use Rattle.script_grammar.specs.declared.word.SysWord.TheVariants as sys
+use Rattle.script_grammar.specs.Written.Written.{Nothing, OfProcess, OfSystem}
+use Rattle.script_grammar.specs.Grammar.{MayStand, IsBuiltTerm, IsAllowed, IsBuilt}
+use Rattle.script_grammar.specs.Names.{Parsed, parsed_of, names_after, atoms_of, all_atoms, reg}
+use Rattle.plain_machine.specs.Made.{tree_of}
 use Rattle.plain_machine.specs.State.{Process as Live, Area, State, process_of, first_state, fresh_process, register, with_register}
 use Rattle.plain_machine.specs.Tightness.{held_trees, living_trees}
 use Rattle.plain_machine.specs.Step.{Outcome, step, in_process, by_verb, pop_from, print_if, spawn_if, most_processes}
 use Rattle.plain_machine.specs.Step.Outcome.{Accepted, Refused}
-use Rattle.plain_machine.specs.Run.{Run, LineStep, ReadingStep, CommandStep, Gives, Skips, LacksSpace, IsReadAs, is_nothing, Reading}
-use Rattle.plain_machine.specs.Run.Reading.{Means, NoSyntax, NoAtoms}
+use Rattle.script_grammar.specs.ReadAs.{IsReadAs, Reading}
+use Rattle.plain_machine.specs.Run.{Run, LineStep, ReadingStep, CommandStep, Gives, Skips, LacksSpace, is_nothing}
+use Rattle.script_grammar.specs.ReadAs.Reading.{Means, NoSyntax, NoAtoms}
 use Rattle.plain_machine.specs.Laws.{AreProper, HoldsProper}
-use Rattle.plain_machine.proofs.Naming.{ArePlaced, placed-front, with-names-more, with-names-placed}
+use Rattle.script_grammar.proofs.Naming.{ArePlaced, placed-front, with-names-more, with-names-placed}
 use Rattle.plain_machine.proofs.Growing.{proper-grown}
 use Rattle.plain_machine.proofs.Making.{made-proper, shared-kept}
 

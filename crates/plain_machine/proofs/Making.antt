@@ -6,12 +6,13 @@ use Rattle.plain_term.specs.Tree.{Tree as tree}
 use Rattle.plain_term.specs.Tree.{Trees as trees}
 use Rattle.plain_term.specs.Measures.{magnitude}
 use Rattle.plain_term.specs.Proper.{is_proper, are_proper}
-use Rattle.plain_machine.specs.Written.{Term, Terms}
-use Rattle.plain_machine.specs.Written.Term.{Int, Atom, Pid, Held, Listed, Barred, Tuple, Map, Bin}
-use Rattle.plain_machine.specs.Written.Terms.{end, ◌▹◌}
-use Rattle.plain_machine.specs.Grammar.{MayStand, AllMayStand, IsBuiltTerm, AreBuiltTerms}
-use Rattle.plain_machine.specs.Names.{number_of, atoms_of, atoms_of_all, tree_of, trees_of, list_tree}
-use Rattle.plain_machine.proofs.Naming.{ArePlaced, placed-front, placed-back, number-below}
+use Rattle.script_grammar.specs.Written.{Term, Terms}
+use Rattle.script_grammar.specs.Written.Term.{Int, Atom, Pid, Held, Listed, Barred, Tuple, Map, Bin}
+use Rattle.script_grammar.specs.Written.Terms.{end, ◌▹◌}
+use Rattle.script_grammar.specs.Grammar.{MayStand, AllMayStand, IsBuiltTerm, AreBuiltTerms}
+use Rattle.script_grammar.specs.Names.{number_of, atoms_of, atoms_of_all}
+use Rattle.plain_machine.specs.Made.{tree_of, trees_of, list_tree}
+use Rattle.script_grammar.proofs.Naming.{ArePlaced, placed-front, placed-back, number-below}
 
 -- no shared binary is made by a term of the built forms
 mutual

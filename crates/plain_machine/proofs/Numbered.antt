@@ -4,18 +4,19 @@ use Rattle.std.specs.Prelude.{MatchBool}
 use Rattle.line_io.specs.Lines.{Line, text, long}
 use Rattle.plain_term.specs.Tree.{Tree}
 use Rattle.plain_term.specs.Beyond.{is_beyond}
-use Rattle.plain_machine.specs.declared.command.Command.{Command}
-use Rattle.plain_machine.specs.declared.command.Command.TheVariants.{Nothing, Process, System}
-use Rattle.plain_machine.specs.declared.command.Verb.{Verb}
-use Rattle.plain_machine.specs.declared.command.Verb.TheVariants.{Set, Own, Push, Pop, Print, Exit}
-use Rattle.plain_machine.specs.declared.command.SysVerb.{SysVerb}
-use Rattle.plain_machine.specs.declared.command.SysVerb.TheVariants.{Spawn, Procs, Quit}
-use Rattle.plain_machine.specs.Names.{Parsed}
+use Rattle.script_grammar.specs.declared.command.Command.{Command}
+use Rattle.script_grammar.specs.declared.command.Command.TheVariants.{Nothing, Process, System}
+use Rattle.script_grammar.specs.declared.command.Verb.{Verb}
+use Rattle.script_grammar.specs.declared.command.Verb.TheVariants.{Set, Own, Push, Pop, Print, Exit}
+use Rattle.script_grammar.specs.declared.command.SysVerb.{SysVerb}
+use Rattle.script_grammar.specs.declared.command.SysVerb.TheVariants.{Spawn, Procs, Quit}
+use Rattle.script_grammar.specs.Names.{Parsed}
 use Rattle.plain_machine.specs.State.{Process as Live, State, process_of, live_numbers, register, with_register}
 use Rattle.plain_machine.specs.Step.{Outcome, step, by_command, in_process, by_verb, by_system, pop_from, print_if, spawn_if, most_processes}
 use Rattle.plain_machine.specs.Step.Outcome.{Accepted, Refused}
-use Rattle.plain_machine.specs.Run.{Run, LineStep, ReadingStep, CommandStep, Gives, Skips, LacksSpace, is_nothing, Reading}
-use Rattle.plain_machine.specs.Run.Reading.{Means, NoSyntax, NoAtoms}
+use Rattle.script_grammar.specs.ReadAs.{Reading}
+use Rattle.plain_machine.specs.Run.{Run, LineStep, ReadingStep, CommandStep, Gives, Skips, LacksSpace, is_nothing}
+use Rattle.script_grammar.specs.ReadAs.Reading.{Means, NoSyntax, NoAtoms}
 use Rattle.plain_machine.specs.Laws.{AreNumbered, IsNumbered}
 
 -- a lower bound does as well

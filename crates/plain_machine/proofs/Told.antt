@@ -4,26 +4,27 @@ use Rattle.std.specs.Prelude.{MatchBool}
 use Rattle.line_io.specs.Lines.{Line, text, long}
 use Rattle.plain_term.specs.Tree.{Tree}
 use Rattle.plain_term.specs.Beyond.{is_beyond}
-use Rattle.plain_machine.specs.declared.command.Reg.{Reg}
-use Rattle.plain_machine.specs.declared.command.Command.{Command}
-use Rattle.plain_machine.specs.declared.command.Command.TheVariants.{Nothing, Process, System}
-use Rattle.plain_machine.specs.declared.command.Verb.{Verb}
-use Rattle.plain_machine.specs.declared.command.Verb.TheVariants.{Set, Own, Push, Pop, Print, Exit}
-use Rattle.plain_machine.specs.declared.command.SysVerb.{SysVerb}
-use Rattle.plain_machine.specs.declared.command.SysVerb.TheVariants.{Spawn, Procs, Quit}
-use Rattle.plain_machine.specs.declared.refusal.Refusal.{Refusal}
-use Rattle.plain_machine.specs.declared.refusal.Refusal.TheVariants.{NoProc, BadArg, Empty, Big, NoSpace, NoArea, AreaThere, MapSize, Procs as TooMany, Atoms, Syntax, Long}
-use Rattle.plain_machine.specs.Written.{Written}
-use Rattle.plain_machine.specs.declared.word.Word.TheVariants as word
-use Rattle.plain_machine.specs.declared.word.SysWord.TheVariants as sys
-use Rattle.plain_machine.specs.Written.Written.{Nothing as Blank, OfProcess, OfSystem}
-use Rattle.plain_machine.specs.Names.{Parsed, parsed_of, names_after, with_names, command_of, all_atoms}
+use Rattle.script_grammar.specs.declared.command.Reg.{Reg}
+use Rattle.script_grammar.specs.declared.command.Command.{Command}
+use Rattle.script_grammar.specs.declared.command.Command.TheVariants.{Nothing, Process, System}
+use Rattle.script_grammar.specs.declared.command.Verb.{Verb}
+use Rattle.script_grammar.specs.declared.command.Verb.TheVariants.{Set, Own, Push, Pop, Print, Exit}
+use Rattle.script_grammar.specs.declared.command.SysVerb.{SysVerb}
+use Rattle.script_grammar.specs.declared.command.SysVerb.TheVariants.{Spawn, Procs, Quit}
+use Rattle.script_grammar.specs.declared.refusal.Refusal.{Refusal}
+use Rattle.script_grammar.specs.declared.refusal.Refusal.TheVariants.{NoProc, BadArg, Empty, Big, NoSpace, NoArea, AreaThere, MapSize, Procs as TooMany, Atoms, Syntax, Long}
+use Rattle.script_grammar.specs.Written.{Written}
+use Rattle.script_grammar.specs.declared.word.Word.TheVariants as word
+use Rattle.script_grammar.specs.declared.word.SysWord.TheVariants as sys
+use Rattle.script_grammar.specs.Written.Written.{Nothing as Blank, OfProcess, OfSystem}
+use Rattle.script_grammar.specs.Names.{Parsed, parsed_of, names_after, with_names, command_of, all_atoms}
 use Rattle.plain_machine.specs.State.{Process as Live, State, process_of, register}
 use Rattle.plain_machine.specs.Tightness.{grow, process_words, command_words}
 use Rattle.plain_machine.specs.Step.{Outcome, step, by_command, in_process, by_verb, by_system, pop_from, print_if, spawn_if, most_processes, settled, swept_after, is_printing}
 use Rattle.plain_machine.specs.Step.Outcome.{Accepted, Refused}
-use Rattle.plain_machine.specs.Run.{LineStep, ReadingStep, CommandStep, Gives, Skips, LacksSpace, IsReadAs, refusal_text, is_quit, is_nothing, Reading}
-use Rattle.plain_machine.specs.Run.Reading.{Means, NoSyntax, NoAtoms}
+use Rattle.script_grammar.specs.ReadAs.{IsReadAs, Reading}
+use Rattle.plain_machine.specs.Run.{LineStep, ReadingStep, CommandStep, Gives, Skips, LacksSpace, refusal_text, is_quit, is_nothing}
+use Rattle.script_grammar.specs.ReadAs.Reading.{Means, NoSyntax, NoAtoms}
 
 -- a printing line brings no names
 pub prints-none : (after : List (List ℕ)) (w : Written) → is_printing (command_of after w) ≡ true → all_atoms w ≡ []

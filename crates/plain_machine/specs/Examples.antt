@@ -5,18 +5,18 @@ use Rattle.plain_term.specs.Tree.{Tree}
 use Rattle.plain_term.specs.Tree.{Tree as tree}
 use Rattle.plain_term.specs.Tree.{Trees as trees}
 use Rattle.plain_term.specs.Tree.{Pairs as pairs}
-use Rattle.plain_machine.specs.declared.command.To.TheVariants.{Number, Held as ByRegister}
-use Rattle.plain_machine.specs.declared.command.Depth.TheVariants.{Minor, Major}
-use Rattle.plain_machine.specs.declared.refusal.Refusal.TheVariants.{NoProc, Empty, Big, Procs}
-use Rattle.plain_machine.specs.Written.{Term, Terms, kinds_of, Operands}
-use Rattle.plain_machine.specs.declared.word.Word.{Word}
-use Rattle.plain_machine.specs.Written.Term.{Int, Atom, Pid, Held, Listed, Barred, Tuple, Map, Bin}
-use Rattle.plain_machine.specs.Written.Terms.{end, ◌▹◌}
-use Rattle.plain_machine.specs.Written.TermPairs.{stop, pair}
-use Rattle.plain_machine.specs.Written.Written.{Nothing, OfProcess, OfSystem}
-use Rattle.plain_machine.specs.declared.word.Word.TheVariants as word
-use Rattle.plain_machine.specs.declared.word.SysWord.TheVariants as sys
-use Rattle.plain_machine.specs.Names.{Parsed, parsed_of}
+use Rattle.script_grammar.specs.declared.command.To.TheVariants.{Number, Held as ByRegister}
+use Rattle.script_grammar.specs.declared.command.Depth.TheVariants.{Minor, Major}
+use Rattle.script_grammar.specs.declared.refusal.Refusal.TheVariants.{NoProc, Empty, Big, Procs}
+use Rattle.script_grammar.specs.Written.{Term, Terms, kinds_of, Operands}
+use Rattle.script_grammar.specs.declared.word.Word.{Word}
+use Rattle.script_grammar.specs.Written.Term.{Int, Atom, Pid, Held, Listed, Barred, Tuple, Map, Bin}
+use Rattle.script_grammar.specs.Written.Terms.{end, ◌▹◌}
+use Rattle.script_grammar.specs.Written.TermPairs.{stop, pair}
+use Rattle.script_grammar.specs.Written.Written.{Nothing, OfProcess, OfSystem}
+use Rattle.script_grammar.specs.declared.word.Word.TheVariants as word
+use Rattle.script_grammar.specs.declared.word.SysWord.TheVariants as sys
+use Rattle.script_grammar.specs.Names.{Parsed, parsed_of}
 use Rattle.plain_machine.specs.State.{Process, State, fresh_process, first_state, with_register}
 use Rattle.plain_machine.specs.Tightness.{grow, demand, is_tight}
 use Rattle.plain_machine.specs.Step.{step}

@@ -3,8 +3,8 @@ use Rattle.std.specs.Prelude.{ℕ, ◌≡◌, ◌<◌, ◌≤◌, Bool, true, fa
 use Rattle.line_io.specs.Lines.{Line}
 use Rattle.plain_term.specs.Tree.{Tree}
 use Rattle.plain_term.specs.Proper.{is_proper}
-use Rattle.plain_machine.specs.Names.{Parsed}
-use Rattle.plain_machine.specs.declared.refusal.Refusal.{Refusal}
+use Rattle.script_grammar.specs.Names.{Parsed}
+use Rattle.script_grammar.specs.declared.refusal.Refusal.{Refusal}
 use Rattle.plain_machine.specs.State.{State, live_numbers}
 use Rattle.plain_machine.specs.Tightness.{living_trees}
 use Rattle.plain_machine.specs.Run.{LineStep, Run, refusal_text}

@@ -1,7 +1,5 @@
-pub mod Written
-pub mod Names
-pub mod Grammar
 pub mod State
+pub mod Made
 pub mod Tightness
 pub mod Step
 pub mod May

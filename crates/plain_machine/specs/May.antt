@@ -1,12 +1,12 @@
 -- When a line may be answered that there is no space.
 use Rattle.std.specs.Prelude.{ℕ, ◌+◌, Bool, true, false, ◌&&◌, ◌||◌, nat_lt}
-use Rattle.plain_machine.specs.declared.command.Command.{Command}
-use Rattle.plain_machine.specs.declared.command.Command.TheVariants.{Process, System}
-use Rattle.plain_machine.specs.declared.command.Verb.TheVariants.{Set}
-use Rattle.plain_machine.specs.declared.command.SysVerb.TheVariants.{Load, Purge}
-use Rattle.plain_machine.specs.declared.refusal.Refusal.{Refusal}
-use Rattle.plain_machine.specs.declared.refusal.Refusal.TheVariants.{Big, MapSize}
-use Rattle.plain_machine.specs.Names.{Parsed}
+use Rattle.script_grammar.specs.declared.command.Command.{Command}
+use Rattle.script_grammar.specs.declared.command.Command.TheVariants.{Process, System}
+use Rattle.script_grammar.specs.declared.command.Verb.TheVariants.{Set}
+use Rattle.script_grammar.specs.declared.command.SysVerb.TheVariants.{Load, Purge}
+use Rattle.script_grammar.specs.declared.refusal.Refusal.{Refusal}
+use Rattle.script_grammar.specs.declared.refusal.Refusal.TheVariants.{Big, MapSize}
+use Rattle.script_grammar.specs.Names.{Parsed}
 use Rattle.plain_machine.specs.State.{State}
 use Rattle.plain_machine.specs.Tightness.{grow, is_tight}
 use Rattle.plain_machine.specs.Step.{Outcome, step}

@@ -1,15 +1,14 @@
 -- What a whole script is answered: each line by what it says, the steps of the machine in order.
-use Rattle.std.specs.Prelude.{ℕ, ◌≡◌, ◌<◌, ◌≤◌, ◌⊎◌, Bool, true, false, MatchBool, List, [], ◌∷◌, ◌++◌, length, codes, decimal}
-use Rattle.atom_names.specs.Names.{most_names}
+use Rattle.std.specs.Prelude.{ℕ, ◌≡◌, ◌⊎◌, Bool, true, false, MatchBool, List, [], ◌∷◌, ◌++◌, codes, decimal}
 use Rattle.line_io.specs.Lines.{Line, text, long}
-use Rattle.plain_machine.specs.declared.command.Command.{Command}
-use Rattle.plain_machine.specs.declared.command.Command.TheVariants.{Nothing, System}
-use Rattle.plain_machine.specs.declared.command.SysVerb.TheVariants.{Quit}
-use Rattle.plain_machine.specs.declared.refusal.Refusal.{Refusal}
-use Rattle.plain_machine.specs.declared.refusal.Refusal.TheVariants.{NoProc, BadArg, Empty, Big, NoSpace, NoArea, AreaThere, MapSize, Procs, Atoms, Syntax, Long}
-use Rattle.plain_machine.specs.Written.{Written}
-use Rattle.plain_machine.specs.Grammar.{Says, IsBuilt}
-use Rattle.plain_machine.specs.Names.{Parsed, names_after, parsed_of}
+use Rattle.script_grammar.specs.declared.command.Command.{Command}
+use Rattle.script_grammar.specs.declared.command.Command.TheVariants.{Nothing, System}
+use Rattle.script_grammar.specs.declared.command.SysVerb.TheVariants.{Quit}
+use Rattle.script_grammar.specs.declared.refusal.Refusal.{Refusal}
+use Rattle.script_grammar.specs.declared.refusal.Refusal.TheVariants.{NoProc, BadArg, Empty, Big, NoSpace, NoArea, AreaThere, MapSize, Procs, Atoms, Syntax, Long}
+use Rattle.script_grammar.specs.Names.{Parsed}
+use Rattle.script_grammar.specs.ReadAs.{Reading, IsReadAs}
+use Rattle.script_grammar.specs.ReadAs.Reading.{Means, NoSyntax, NoAtoms}
 use Rattle.plain_machine.specs.State.{State}
 use Rattle.plain_machine.specs.Tightness.{grow}
 use Rattle.plain_machine.specs.Step.{Outcome, step}
@@ -29,37 +28,6 @@ refusal_text Procs = codes "error procs"
 refusal_text Atoms = codes "error atoms"
 refusal_text Syntax = codes "error syntax"
 refusal_text Long = codes "error long"
-
--- The line says a built command, which with these names known before it comes to p.
-pub record IsRead (names : List (List ℕ)) (line : List ℕ) (p : Parsed) : Type 0 where
-  pub written : Written
-  pub says : Says line written
-  pub built : IsBuilt written
-  pub is : p ≡ parsed_of names written
-  pub few : length p.names ≤ most_names
-
--- The line says no built command.
-abbrev pub IsOutside : List ℕ → Type 0
-IsOutside line = (w : Written) → Says line w → IsBuilt w → ⊥
-
--- The line says a built command that would bring too many names.
-pub record BringsTooMany (names : List (List ℕ)) (line : List ℕ) : Type 0 where
-  pub written : Written
-  pub says : Says line written
-  pub built : IsBuilt written
-  pub many : most_names < length (names_after names written)
-
--- What a line is read as: a command, or nothing that may be done.
-pub data Reading : Type 0 where
-  Means : Parsed → Reading
-  NoSyntax : Reading
-  NoAtoms : Reading
-
--- The line is read so, where these names are known before it.
-abbrev pub IsReadAs : List (List ℕ) → List ℕ → Reading → Type 0
-IsReadAs names line (Means p) = IsRead names line p
-IsReadAs names line NoSyntax = IsOutside line
-IsReadAs names line NoAtoms = BringsTooMany names line
 
 -- An accepted command of this kind ends the script.
 abbrev pub is_quit : Command → Bool

@@ -7,22 +7,22 @@ use Rattle.plain_term.specs.Tree.Trees.{end, ◌▹◌}
 use Rattle.plain_term.specs.Tree.Pairs.{stop, pair}
 use Rattle.plain_term.specs.Bytes.{shared_bytes}
 use Rattle.plain_term.specs.Measures.{flat, bin_words, int_flat}
-use Rattle.plain_machine.specs.declared.command.Pick.TheVariants as pick
-use Rattle.plain_machine.specs.declared.command.Shape.{Shape}
-use Rattle.plain_machine.specs.declared.command.Shape.TheVariants.{Tuple as TupleShape, List as ListShape}
-use Rattle.plain_machine.specs.declared.command.To.{To}
-use Rattle.plain_machine.specs.declared.command.To.TheVariants.{Number as ToNumber, Held as ToHeld}
-use Rattle.plain_machine.specs.declared.command.Command.{Command}
-use Rattle.plain_machine.specs.declared.command.Command.TheVariants.{Nothing, Process, System}
-use Rattle.plain_machine.specs.declared.command.Verb.{Verb}
-use Rattle.plain_machine.specs.declared.command.Verb.TheVariants.{Set, Choose, MapPut, Fill, Fun as MakeFun, Ref as MakeRef, Repeat, Push, Send}
-use Rattle.plain_machine.specs.declared.command.SysVerb.{SysVerb}
-use Rattle.plain_machine.specs.declared.command.SysVerb.TheVariants.{Spawn, Load}
-use Rattle.plain_machine.specs.Written.{Term, Terms, TermPairs, terms_len, pairs_len as written_pairs_len}
-use Rattle.plain_machine.specs.Written.{Term as term}
-use Rattle.plain_machine.specs.Written.{Terms as terms}
-use Rattle.plain_machine.specs.Written.{TermPairs as pairs}
-use Rattle.plain_machine.specs.Names.{Parsed}
+use Rattle.script_grammar.specs.declared.command.Pick.TheVariants as pick
+use Rattle.script_grammar.specs.declared.command.Shape.{Shape}
+use Rattle.script_grammar.specs.declared.command.Shape.TheVariants.{Tuple as TupleShape, List as ListShape}
+use Rattle.script_grammar.specs.declared.command.To.{To}
+use Rattle.script_grammar.specs.declared.command.To.TheVariants.{Number as ToNumber, Held as ToHeld}
+use Rattle.script_grammar.specs.declared.command.Command.{Command}
+use Rattle.script_grammar.specs.declared.command.Command.TheVariants.{Nothing, Process, System}
+use Rattle.script_grammar.specs.declared.command.Verb.{Verb}
+use Rattle.script_grammar.specs.declared.command.Verb.TheVariants.{Set, Choose, MapPut, Fill, Fun as MakeFun, Ref as MakeRef, Repeat, Push, Send}
+use Rattle.script_grammar.specs.declared.command.SysVerb.{SysVerb}
+use Rattle.script_grammar.specs.declared.command.SysVerb.TheVariants.{Spawn, Load}
+use Rattle.script_grammar.specs.Written.{Term, Terms, TermPairs, terms_len, pairs_len as written_pairs_len}
+use Rattle.script_grammar.specs.Written.{Term as term}
+use Rattle.script_grammar.specs.Written.{Terms as terms}
+use Rattle.script_grammar.specs.Written.{TermPairs as pairs}
+use Rattle.script_grammar.specs.Names.{Parsed}
 use Rattle.plain_machine.specs.State.{Process as Live, Area, State, process_of, is_live, register}
 
 -- A binary of so many bytes: up to 64 of them stand on the heap, more in a record with a holder.

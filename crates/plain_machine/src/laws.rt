@@ -1,4 +1,4 @@
-ghost use Rattle.plain_machine.specs.Grammar.{SaysOne};
+ghost use Rattle.script_grammar.specs.Grammar.{SaysOne};
 ghost use Rattle.plain_machine.specs.State.{first_state};
 ghost use Rattle.plain_machine.specs.Laws.{HoldsProper, IsNumbered, NumbersAreFresh, RefusalsLeave, RepliesDetermine, RunsJoin, TreesStayProper};
 

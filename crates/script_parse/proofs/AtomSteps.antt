@@ -5,7 +5,7 @@ use Rattle.std.proofs.lemmas.Bool.{le-leb, leb-true}
 use Rattle.std.proofs.lemmas.List.{take-append-drop}
 use Rattle.std.proofs.Math.Seq.{take-append_seam, drop-append_seam}
 use Rattle.std.proofs.lemmas.List.Folds.{length-prefix_len}
-use Rattle.plain_machine.specs.Grammar.{is_small_letter, is_name_byte, AreAll, IsName}
+use Rattle.script_grammar.specs.Grammar.{is_small_letter, is_name_byte, AreAll, IsName}
 use Rattle.script_parse.specs.Reading.{atom_at, is_solid, word_at, after_word}
 use Rattle.script_parse.proofs.Tools.{chosen, both}
 use Rattle.script_parse.proofs.PartSteps.{unequal}

@@ -3,11 +3,11 @@ use Rattle.std.proofs.Common.{◌≡◌, ℕ, zero, suc, ◌+◌, ◌-◌, ◌^�
 use Rattle.std.proofs.lemmas.Bool.{leb-true}
 use Rattle.plain_term.specs.declared.item.Item.TheVariants as item
 use Rattle.plain_term.specs.Measures.{is_small}
-use Rattle.plain_machine.specs.Written.{Term, Terms, terms_len}
-use Rattle.plain_machine.specs.Written.Term.{Int, Atom, Pid, Held, Listed, Barred, Tuple, Map, Bin}
-use Rattle.plain_machine.specs.Written.Terms.{end, ◌▹◌}
-use Rattle.plain_machine.specs.Grammar.{is_blank, is_digit, is_small_letter, is_name_byte, AreAll, IsNumber, IsName, Piece, Lies, term_pieces, parts_pieces, more_pieces, MayStand, AllMayStand, IsBuiltTerm, AreBuiltTerms}
-use Rattle.plain_machine.specs.Grammar.Piece.{Text, Whole, Process}
+use Rattle.script_grammar.specs.Written.{Term, Terms, terms_len}
+use Rattle.script_grammar.specs.Written.Term.{Int, Atom, Pid, Held, Listed, Barred, Tuple, Map, Bin}
+use Rattle.script_grammar.specs.Written.Terms.{end, ◌▹◌}
+use Rattle.script_grammar.specs.Grammar.{is_blank, is_digit, is_small_letter, is_name_byte, AreAll, IsNumber, IsName, Piece, Lies, term_pieces, parts_pieces, more_pieces, MayStand, AllMayStand, IsBuiltTerm, AreBuiltTerms}
+use Rattle.script_grammar.specs.Grammar.Piece.{Text, Whole, Process}
 use Rattle.script_parse.specs.Output.{Out, push, push_place, put, put_all}
 use Rattle.script_parse.specs.Reading.{after_blanks, byte_at, integer_at, atom_at, integer_run, atom_run, leaf_run, after_part, parts_run, term_run}
 use Rattle.script_parse.proofs.Tools.{not_blank, apart, both_true, far}

@@ -1,7 +1,7 @@
 -- Blanks, and the pieces that stand after them.
 use Rattle.std.proofs.Common.{◌≡◌, ℕ, ◌<◌, Bool, true, false, List, [], ◌∷◌, ◌++◌, length, Some, None, refl, sym, ◌∙◌, ap, subst, arith, append_assoc, length-append}
-use Rattle.plain_machine.specs.Grammar.{is_blank, is_name_byte, AreAll, Piece, Spells, Lies}
-use Rattle.plain_machine.specs.Grammar.Piece.{Space, Text, Number, Whole, Process, Register}
+use Rattle.script_grammar.specs.Grammar.{is_blank, is_name_byte, AreAll, Piece, Spells, Lies}
+use Rattle.script_grammar.specs.Grammar.Piece.{Space, Text, Number, Whole, Process, Register}
 use Rattle.script_parse.specs.Reading.{after_blanks, gap_at, is_end}
 use Rattle.script_parse.proofs.Tools.{inside, blank_not, both_true}
 

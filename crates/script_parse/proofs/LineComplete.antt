@@ -3,22 +3,22 @@ use Rattle.std.proofs.Common.{◌≡◌, ℕ, ◌^◌, ◌<◌, ◌≤◌, Bool,
 use Rattle.std.specs.List.{find}
 use Rattle.std.specs.Str.{bytes_eq}
 use Rattle.atom_names.specs.Names.{with_name}
-use Rattle.plain_machine.specs.Written.{Kind, OperandOf, Operands, text_of, kinds_of, all_words, sys_text_of, sys_kinds_of, all_sys_words, Written}
-use Rattle.plain_machine.specs.Written.Kind.{Slot, Count, Receiver, Title, Environment, Extent, Body}
-use Rattle.plain_machine.specs.Written.Written.{Nothing, OfProcess, OfSystem}
-use Rattle.plain_machine.specs.declared.word.Word.{Word}
-use Rattle.plain_machine.specs.declared.word.SysWord.{SysWord}
-use Rattle.plain_machine.specs.Grammar.{is_blank, is_digit, is_small_letter, AreAll, IsNumber, IsName, MayReceive, IsSilent, Says, IsBuilt, is_built, is_sys_built, Piece, Lies, term_pieces, held_pieces, receiver_pieces, extent_pieces, operand_pieces, operands_pieces, IsOperand, IsBuiltOperand, AreOperands, AreBuiltOperands}
-use Rattle.plain_machine.specs.Grammar.Piece.{Space, Text, Number, Whole, Process, Register}
-use Rattle.plain_machine.specs.Names.{number_of, ArgumentOf, Arguments, verb_with, sys_verb_with}
-use Rattle.plain_machine.specs.declared.command.Reg.{Reg}
-use Rattle.plain_machine.specs.declared.command.To.{To}
-use Rattle.plain_machine.specs.declared.command.To.TheVariants as to
-use Rattle.plain_machine.specs.declared.command.Depth.{Depth}
-use Rattle.plain_machine.specs.declared.command.Depth.TheVariants.{Minor, Major}
-use Rattle.plain_machine.specs.declared.command.Command.TheVariants as command
-use Rattle.plain_machine.specs.declared.command.Verb.{Verb}
-use Rattle.plain_machine.specs.declared.command.SysVerb.{SysVerb}
+use Rattle.script_grammar.specs.Written.{Kind, OperandOf, Operands, text_of, kinds_of, all_words, sys_text_of, sys_kinds_of, all_sys_words, Written}
+use Rattle.script_grammar.specs.Written.Kind.{Slot, Count, Receiver, Title, Environment, Extent, Body}
+use Rattle.script_grammar.specs.Written.Written.{Nothing, OfProcess, OfSystem}
+use Rattle.script_grammar.specs.declared.word.Word.{Word}
+use Rattle.script_grammar.specs.declared.word.SysWord.{SysWord}
+use Rattle.script_grammar.specs.Grammar.{is_blank, is_digit, is_small_letter, AreAll, IsNumber, IsName, MayReceive, IsSilent, Says, IsBuilt, is_built, is_sys_built, Piece, Lies, term_pieces, held_pieces, receiver_pieces, extent_pieces, operand_pieces, operands_pieces, IsOperand, IsBuiltOperand, AreOperands, AreBuiltOperands}
+use Rattle.script_grammar.specs.Grammar.Piece.{Space, Text, Number, Whole, Process, Register}
+use Rattle.script_grammar.specs.Names.{number_of, ArgumentOf, Arguments, verb_with, sys_verb_with}
+use Rattle.script_grammar.specs.declared.command.Reg.{Reg}
+use Rattle.script_grammar.specs.declared.command.To.{To}
+use Rattle.script_grammar.specs.declared.command.To.TheVariants as to
+use Rattle.script_grammar.specs.declared.command.Depth.{Depth}
+use Rattle.script_grammar.specs.declared.command.Depth.TheVariants.{Minor, Major}
+use Rattle.script_grammar.specs.declared.command.Command.TheVariants as command
+use Rattle.script_grammar.specs.declared.command.Verb.{Verb}
+use Rattle.script_grammar.specs.declared.command.SysVerb.{SysVerb}
 use Rattle.script_parse.specs.Output.{Out, put, put_name}
 use Rattle.script_parse.specs.Reading.{then_read, after_blanks, gap_at, number_at, is_solid, word_at, after_word, is_silent, atom_at, receiver_at, title_at, extent_at, operand_at, operands_at, Row, row, row_run, row_of, sys_row_of, process_run, system_run, line_run}
 use Rattle.script_parse.proofs.Tools.{not_blank, apart, false_not}

@@ -5,21 +5,21 @@ use Rattle.std.specs.Str.{bytes_eq}
 use Rattle.std.proofs.lemmas.List.{take-append-drop, append-nil}
 use Rattle.atom_names.specs.Names.{with_name}
 use Rattle.plain_term.specs.declared.item.Item.{Item}
-use Rattle.plain_machine.specs.Written.{Terms, joined, Kind, OperandOf, Operands, text_of, kinds_of, all_words, sys_text_of, sys_kinds_of, all_sys_words, Written}
-use Rattle.plain_machine.specs.Written.Terms.{end, ◌▹◌}
-use Rattle.plain_machine.specs.Written.Kind.{Slot, Count, Receiver, Title, Extent, Body}
-use Rattle.plain_machine.specs.Written.Written.{Nothing, OfProcess, OfSystem}
-use Rattle.plain_machine.specs.Grammar.{is_blank, is_small_letter, IsSilent, Says, IsBuilt, is_built, is_sys_built, Piece, Spells, Lies, term_pieces, operand_pieces, operands_pieces, IsOperand, IsBuiltOperand, AreOperands, AreBuiltOperands}
-use Rattle.plain_machine.specs.Grammar.Piece.{Space, Text, Number, Register}
-use Rattle.plain_machine.specs.Names.{number_of, reg, ArgumentOf, Arguments, argument, arguments, with_names, atoms_of, items_of, all_items, operand_atoms, operands_atoms, operand_terms, operands_terms, all_atoms, terms_of, verb_with, sys_verb_with, command_of}
-use Rattle.plain_machine.specs.declared.command.To.{To}
-use Rattle.plain_machine.specs.declared.command.To.TheVariants as to
-use Rattle.plain_machine.specs.declared.command.Depth.{Depth}
-use Rattle.plain_machine.specs.declared.command.Depth.TheVariants.{Minor, Major}
-use Rattle.plain_machine.specs.declared.command.Command.{Command}
-use Rattle.plain_machine.specs.declared.command.Command.TheVariants as command
-use Rattle.plain_machine.specs.declared.command.Verb.{Verb}
-use Rattle.plain_machine.specs.declared.command.SysVerb.{SysVerb}
+use Rattle.script_grammar.specs.Written.{Terms, joined, Kind, OperandOf, Operands, text_of, kinds_of, all_words, sys_text_of, sys_kinds_of, all_sys_words, Written}
+use Rattle.script_grammar.specs.Written.Terms.{end, ◌▹◌}
+use Rattle.script_grammar.specs.Written.Kind.{Slot, Count, Receiver, Title, Extent, Body}
+use Rattle.script_grammar.specs.Written.Written.{Nothing, OfProcess, OfSystem}
+use Rattle.script_grammar.specs.Grammar.{is_blank, is_small_letter, IsSilent, Says, IsBuilt, is_built, is_sys_built, Piece, Spells, Lies, term_pieces, operand_pieces, operands_pieces, IsOperand, IsBuiltOperand, AreOperands, AreBuiltOperands}
+use Rattle.script_grammar.specs.Grammar.Piece.{Space, Text, Number, Register}
+use Rattle.script_grammar.specs.Names.{number_of, reg, ArgumentOf, Arguments, argument, arguments, with_names, atoms_of, items_of, all_items, operand_atoms, operands_atoms, operand_terms, operands_terms, all_atoms, terms_of, verb_with, sys_verb_with, command_of}
+use Rattle.script_grammar.specs.declared.command.To.{To}
+use Rattle.script_grammar.specs.declared.command.To.TheVariants as to
+use Rattle.script_grammar.specs.declared.command.Depth.{Depth}
+use Rattle.script_grammar.specs.declared.command.Depth.TheVariants.{Minor, Major}
+use Rattle.script_grammar.specs.declared.command.Command.{Command}
+use Rattle.script_grammar.specs.declared.command.Command.TheVariants as command
+use Rattle.script_grammar.specs.declared.command.Verb.{Verb}
+use Rattle.script_grammar.specs.declared.command.SysVerb.{SysVerb}
 use Rattle.script_parse.specs.Output.{Out, put, put_name}
 use Rattle.script_parse.specs.Reading.{then_read, after_blanks, gap_at, text_at, number_at, is_solid, word_at, after_word, is_end, is_silent, spaced_at, receiver_at, title_at, extent_at, plain_run, title_run, body_run, term_run, operand_at, operands_at, Row, row, row_run, row_of, sys_row_of, process_run, system_run, command_run, line_run}
 use Rattle.script_parse.proofs.Tools.{chosen, read_some, inside, both}

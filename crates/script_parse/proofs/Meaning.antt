@@ -6,11 +6,11 @@ use Rattle.std.proofs.Math.Seq.{set-append_seam}
 use Rattle.atom_names.specs.Names.{index_of, most_names, with_name}
 use Rattle.plain_term.specs.declared.item.Item.{Item}
 use Rattle.plain_term.specs.declared.item.Item.TheVariants as item
-use Rattle.plain_machine.specs.Written.{Term, Terms, terms_len}
-use Rattle.plain_machine.specs.Written.Term.{Int, Atom, Pid, Held, Listed, Barred, Tuple, Map, Bin}
-use Rattle.plain_machine.specs.Written.Terms.{end, ◌▹◌}
-use Rattle.plain_machine.specs.Grammar.{IsBuiltTerm, AreBuiltTerms}
-use Rattle.plain_machine.specs.Names.{number_of, with_names, atoms_of, atoms_of_all, items_of, listed_items, all_items}
+use Rattle.script_grammar.specs.Written.{Term, Terms, terms_len}
+use Rattle.script_grammar.specs.Written.Term.{Int, Atom, Pid, Held, Listed, Barred, Tuple, Map, Bin}
+use Rattle.script_grammar.specs.Written.Terms.{end, ◌▹◌}
+use Rattle.script_grammar.specs.Grammar.{IsBuiltTerm, AreBuiltTerms}
+use Rattle.script_grammar.specs.Names.{number_of, with_names, atoms_of, atoms_of_all, items_of, listed_items, all_items}
 use Rattle.atom_names.proofs.Places.{index_of_append, index_of_push}
 use Rattle.script_parse.specs.Output.{Out, out, push, push_place, with_place, put_at, put_atom, put_name, put, put_all}
 

@@ -2,7 +2,7 @@
 use Rattle.std.proofs.Common.{◌≡◌, ℕ, ◌+◌, ◌-◌, ◌*◌, ◌^◌, ◌<◌, ◌≤◌, ◌≢◌, Bool, true, false, nat_eq, nat_le, ◌&&◌, ◌||◌, ℤ, pos, negsuc, List, [], ◌∷◌, ◌++◌, Some, None, codes, refl, sym, ◌∙◌, ap, subst, inl, inr, arith, eq-eqb, eqb-true, lt-ltb, ltb-true, append_assoc}
 use Rattle.std.proofs.lemmas.Bool.{leb-true, le-leb}
 use Rattle.plain_term.specs.Measures.{is_small}
-use Rattle.plain_machine.specs.Grammar.{is_name_byte, is_digit, is_small_letter, AreAll, value_after, HasNoLeadingZero, IsNumber, IsInteger}
+use Rattle.script_grammar.specs.Grammar.{is_name_byte, is_digit, is_small_letter, AreAll, value_after, HasNoLeadingZero, IsNumber, IsInteger}
 use Rattle.script_parse.specs.Reading.{then_read, byte_at, text_at, digits_at, number_at, signed, integer_at, pid_end, pid_at}
 use Rattle.script_parse.proofs.Tools.{chosen, read_some, inside, both, both_true, either_false, apart}
 use Rattle.script_parse.proofs.PartSteps.{unequal}

@@ -1,12 +1,12 @@
 -- A whole line says one built command at most.
 use Rattle.std.proofs.Common.{◌≡◌, ℕ, ◌^◌, ◌<◌, ◌≤◌, true, false, List, [], ◌∷◌, ◌++◌, Option, Some, None, codes, refl, sym, ◌∙◌, ap, subst, arith}
-use Rattle.plain_machine.specs.Written.{Kind, OperandOf, Operands, text_of, kinds_of, sys_text_of, sys_kinds_of}
-use Rattle.plain_machine.specs.Written.Kind.{Slot, Count, Receiver, Title, Extent, Body}
-use Rattle.plain_machine.specs.Written.Written.{Nothing, OfProcess, OfSystem}
-use Rattle.plain_machine.specs.declared.word.Word.{Word}
-use Rattle.plain_machine.specs.declared.word.SysWord.{SysWord}
-use Rattle.plain_machine.specs.Grammar.{IsSilent, SaysOne, Piece, Lies, term_pieces, operand_pieces, operands_pieces, IsOperand, IsBuiltOperand, AreOperands, AreBuiltOperands}
-use Rattle.plain_machine.specs.Grammar.Piece.{Space, Text, Number}
+use Rattle.script_grammar.specs.Written.{Kind, OperandOf, Operands, text_of, kinds_of, sys_text_of, sys_kinds_of}
+use Rattle.script_grammar.specs.Written.Kind.{Slot, Count, Receiver, Title, Extent, Body}
+use Rattle.script_grammar.specs.Written.Written.{Nothing, OfProcess, OfSystem}
+use Rattle.script_grammar.specs.declared.word.Word.{Word}
+use Rattle.script_grammar.specs.declared.word.SysWord.{SysWord}
+use Rattle.script_grammar.specs.Grammar.{IsSilent, SaysOne, Piece, Lies, term_pieces, operand_pieces, operands_pieces, IsOperand, IsBuiltOperand, AreOperands, AreBuiltOperands}
+use Rattle.script_grammar.specs.Grammar.Piece.{Space, Text, Number}
 use Rattle.script_parse.specs.Reading.{after_blanks, number_at, receiver_at, title_at, extent_at, after_word, word_named, sys_word_named, is_silent}
 use Rattle.script_parse.proofs.Tools.{inside, both, false_not, none_some}
 use Rattle.script_parse.proofs.GapSteps.{Gap, gap_found, Divides, Token, token}

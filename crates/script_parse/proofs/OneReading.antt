@@ -1,15 +1,15 @@
 -- A line says one built command at most.
 use Rattle.std.proofs.Common.{◌≡◌, ℕ, ◌-◌, false, nat_eq, List, [], ◌∷◌, ◌++◌, codes, refl, sym, ◌∙◌, ap, subst}
-use Rattle.plain_machine.specs.Written.{Term, Terms}
-use Rattle.plain_machine.specs.Written.Term.{Int, Atom, Pid, Held, Listed, Barred, Tuple, Map, Bin}
-use Rattle.plain_machine.specs.Written.Terms.{end, ◌▹◌}
-use Rattle.plain_machine.specs.Grammar.{is_blank, is_name_byte, Piece, Lies, term_pieces, parts_pieces, more_pieces, MayStand, AllMayStand, IsBuiltTerm, AreBuiltTerms}
-use Rattle.plain_machine.specs.Grammar.Piece.{Text}
+use Rattle.script_grammar.specs.Written.{Term, Terms}
+use Rattle.script_grammar.specs.Written.Term.{Int, Atom, Pid, Held, Listed, Barred, Tuple, Map, Bin}
+use Rattle.script_grammar.specs.Written.Terms.{end, ◌▹◌}
+use Rattle.script_grammar.specs.Grammar.{is_blank, is_name_byte, Piece, Lies, term_pieces, parts_pieces, more_pieces, MayStand, AllMayStand, IsBuiltTerm, AreBuiltTerms}
+use Rattle.script_grammar.specs.Grammar.Piece.{Text}
 use Rattle.script_parse.specs.Output.{Out, out, put}
 use Rattle.script_parse.specs.Reading.{after_blanks}
 use Rattle.script_parse.proofs.Tools.{far, both}
 use Rattle.script_parse.proofs.GapSteps.{Divides}
-use Rattle.plain_machine.specs.Names.{items_of}
+use Rattle.script_grammar.specs.Names.{items_of}
 use Rattle.script_parse.proofs.Meaning.{term_put}
 use Rattle.script_parse.proofs.Complete.{Done, term_done, Opened, opened, divides_more}
 

@@ -4,11 +4,11 @@ use Rattle.std.proofs.Math.Seq.{set-append_seam}
 use Rattle.plain_term.specs.declared.item.Item.{Item}
 use Rattle.plain_term.specs.declared.item.Item.TheVariants as item
 use Rattle.plain_term.specs.Measures.{is_small, magnitude}
-use Rattle.plain_machine.specs.Written.{Term, Terms, terms_len}
-use Rattle.plain_machine.specs.Written.Term.{Int, Atom, Pid, Listed, Tuple}
-use Rattle.plain_machine.specs.Written.Terms.{end, ◌▹◌}
-use Rattle.plain_machine.specs.Grammar.{is_small_letter, Piece, Lies, term_pieces, parts_pieces, more_pieces, MayStand, AllMayStand, IsBuiltTerm, AreBuiltTerms}
-use Rattle.plain_machine.specs.Grammar.Piece.{Text, Whole, Process}
+use Rattle.script_grammar.specs.Written.{Term, Terms, terms_len}
+use Rattle.script_grammar.specs.Written.Term.{Int, Atom, Pid, Listed, Tuple}
+use Rattle.script_grammar.specs.Written.Terms.{end, ◌▹◌}
+use Rattle.script_grammar.specs.Grammar.{is_small_letter, Piece, Lies, term_pieces, parts_pieces, more_pieces, MayStand, AllMayStand, IsBuiltTerm, AreBuiltTerms}
+use Rattle.script_grammar.specs.Grammar.Piece.{Text, Whole, Process}
 use Rattle.script_parse.specs.Output.{Out, out, push, push_place, put_at, put_atom, put, put_all}
 use Rattle.script_parse.specs.Reading.{then_read, found_or, after_blanks, byte_at, integer_at, pid_at, atom_at, integer_run, pid_run, atom_run, leaf_run, after_part, parts_run, list_run, tuple_run, any_run, term_run}
 use Rattle.script_parse.proofs.Tools.{chosen, read_some, both}

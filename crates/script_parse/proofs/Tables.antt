@@ -3,13 +3,13 @@ use Rattle.std.proofs.Common.{◌≡◌, ℕ, ◌≢◌, Decides, Bool, true, fa
 use Rattle.std.specs.List.{prefix_len, find}
 use Rattle.std.specs.Str.{bytes_eq}
 use Rattle.std.proofs.lemmas.Slice.Eq.{bytes_eq-Decides}
-use Rattle.plain_machine.specs.Written.{all_words, text_of, kinds_of, all_sys_words, sys_text_of, sys_kinds_of}
-use Rattle.plain_machine.specs.declared.word.Word.{Word}
-use Rattle.plain_machine.specs.declared.word.Word.TheVariants as word
-use Rattle.plain_machine.specs.declared.word.SysWord.{SysWord}
-use Rattle.plain_machine.specs.declared.word.SysWord.TheVariants as sys
-use Rattle.plain_machine.specs.Grammar.{AreAll}
-use Rattle.plain_machine.specs.Names.{verb_with, sys_verb_with}
+use Rattle.script_grammar.specs.Written.{all_words, text_of, kinds_of, all_sys_words, sys_text_of, sys_kinds_of}
+use Rattle.script_grammar.specs.declared.word.Word.{Word}
+use Rattle.script_grammar.specs.declared.word.Word.TheVariants as word
+use Rattle.script_grammar.specs.declared.word.SysWord.{SysWord}
+use Rattle.script_grammar.specs.declared.word.SysWord.TheVariants as sys
+use Rattle.script_grammar.specs.Grammar.{AreAll}
+use Rattle.script_grammar.specs.Names.{verb_with, sys_verb_with}
 use Rattle.script_parse.specs.Output.{Out}
 use Rattle.script_parse.specs.Reading.{is_solid, word_at, row, row_of, sys_row_of, word_named, sys_word_named, named_run, sys_named_run}
 use Rattle.script_parse.proofs.Tools.{chosen, inside, both_true, false_not}

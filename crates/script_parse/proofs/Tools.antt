@@ -1,6 +1,6 @@
 -- Reading a test, and what was found.
 use Rattle.std.proofs.Common.{◌≡◌, ℕ, ◌≢◌, ◌⊎◌, Bool, true, false, nat_eq, ◌||◌, ◌&&◌, cond, Option, Some, None, refl, ap, inl, inr, eqb-true, eq-eqb}
-use Rattle.plain_machine.specs.Grammar.{is_blank}
+use Rattle.script_grammar.specs.Grammar.{is_blank}
 use Rattle.script_parse.specs.Reading.{then_read}
 
 -- A test with its answer.

@@ -4,10 +4,10 @@ use Rattle.std.proofs.lemmas.List.{append-nil}
 use Rattle.std.proofs.Math.Seq.{take-length}
 use Rattle.atom_names.specs.Names.{most_names}
 use Rattle.plain_term.specs.declared.item.Item.{Item}
-use Rattle.plain_machine.specs.Written.{Written, Terms}
-use Rattle.plain_machine.specs.Names.{Parsed, names_after, command_of, terms_of, all_items}
-use Rattle.plain_machine.specs.Run.{IsOutside, BringsTooMany}
-use Rattle.plain_machine.specs.declared.command.Command.{Command}
+use Rattle.script_grammar.specs.Written.{Written, Terms}
+use Rattle.script_grammar.specs.Names.{Parsed, names_after, command_of, terms_of, all_items}
+use Rattle.script_grammar.specs.ReadAs.{IsOutside, BringsTooMany}
+use Rattle.script_grammar.specs.declared.command.Command.{Command}
 use Rattle.script_parse.specs.Output.{Out, out, Keeps}
 use Rattle.script_parse.specs.Parses.{Reads}
 use Rattle.script_parse.specs.Reading.{line_run}

@@ -2,10 +2,10 @@
 use Rattle.std.specs.Prelude.{ℕ, ◌≡◌, ◌≤◌, List, length}
 use Rattle.atom_names.specs.Names.{most_names}
 use Rattle.plain_term.specs.declared.item.Item.{Item}
-use Rattle.plain_machine.specs.declared.command.Command.{Command}
-use Rattle.plain_machine.specs.Written.{Written}
-use Rattle.plain_machine.specs.Grammar.{Says, IsBuilt}
-use Rattle.plain_machine.specs.Names.{parsed_of, terms_of, all_items}
+use Rattle.script_grammar.specs.declared.command.Command.{Command}
+use Rattle.script_grammar.specs.Written.{Written}
+use Rattle.script_grammar.specs.Grammar.{Says, IsBuilt}
+use Rattle.script_grammar.specs.Names.{parsed_of, terms_of, all_items}
 
 -- A line was read as a command: it says it, the verb and the forms are built, the command and the
 -- names are its own, the items are those of its terms, and the names are not too many.

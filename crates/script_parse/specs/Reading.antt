@@ -5,22 +5,22 @@ use Rattle.std.specs.List.{prefix_len, find}
 use Rattle.std.specs.Str.{bytes_eq}
 use Rattle.atom_names.specs.Names.{with_name}
 use Rattle.plain_term.specs.declared.item.Item.TheVariants as item
-use Rattle.plain_machine.specs.Grammar.{is_blank, is_digit, is_small_letter, is_name_byte, is_built, is_sys_built}
-use Rattle.plain_machine.specs.Names.{number_of, reg, ArgumentOf, Arguments, verb_with, sys_verb_with}
-use Rattle.plain_machine.specs.Written.{Kind, all_words, text_of, kinds_of, all_sys_words, sys_text_of, sys_kinds_of}
-use Rattle.plain_machine.specs.declared.word.Word.{Word}
-use Rattle.plain_machine.specs.declared.word.Word.TheVariants as word
-use Rattle.plain_machine.specs.declared.word.SysWord.TheVariants as sys
-use Rattle.plain_machine.specs.declared.word.SysWord.{SysWord}
-use Rattle.plain_machine.specs.Written.Kind.{Slot, Count, Receiver, Title, Extent, Body}
-use Rattle.plain_machine.specs.declared.command.To.{To}
-use Rattle.plain_machine.specs.declared.command.To.TheVariants as to
-use Rattle.plain_machine.specs.declared.command.Depth.{Depth}
-use Rattle.plain_machine.specs.declared.command.Depth.TheVariants.{Minor, Major}
-use Rattle.plain_machine.specs.declared.command.Command.{Command}
-use Rattle.plain_machine.specs.declared.command.Command.TheVariants as command
-use Rattle.plain_machine.specs.declared.command.Verb.{Verb}
-use Rattle.plain_machine.specs.declared.command.SysVerb.{SysVerb}
+use Rattle.script_grammar.specs.Grammar.{is_blank, is_digit, is_small_letter, is_name_byte, is_built, is_sys_built}
+use Rattle.script_grammar.specs.Names.{number_of, reg, ArgumentOf, Arguments, verb_with, sys_verb_with}
+use Rattle.script_grammar.specs.Written.{Kind, all_words, text_of, kinds_of, all_sys_words, sys_text_of, sys_kinds_of}
+use Rattle.script_grammar.specs.declared.word.Word.{Word}
+use Rattle.script_grammar.specs.declared.word.Word.TheVariants as word
+use Rattle.script_grammar.specs.declared.word.SysWord.TheVariants as sys
+use Rattle.script_grammar.specs.declared.word.SysWord.{SysWord}
+use Rattle.script_grammar.specs.Written.Kind.{Slot, Count, Receiver, Title, Extent, Body}
+use Rattle.script_grammar.specs.declared.command.To.{To}
+use Rattle.script_grammar.specs.declared.command.To.TheVariants as to
+use Rattle.script_grammar.specs.declared.command.Depth.{Depth}
+use Rattle.script_grammar.specs.declared.command.Depth.TheVariants.{Minor, Major}
+use Rattle.script_grammar.specs.declared.command.Command.{Command}
+use Rattle.script_grammar.specs.declared.command.Command.TheVariants as command
+use Rattle.script_grammar.specs.declared.command.Verb.{Verb}
+use Rattle.script_grammar.specs.declared.command.SysVerb.{SysVerb}
 use Rattle.script_parse.specs.Output.{Out, push, push_place, put_at, put_atom, put_name}
 
 -- What was found, and the rest after it, go on.

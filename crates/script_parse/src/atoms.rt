@@ -1,6 +1,6 @@
 ghost use Rattle.std.specs.Prelude.{◌≡◌, ℕ, ◌≤◌, ◌<◌, List, length, take, drop, MatchOption};
 ghost use Rattle.std.specs.List.{prefix_len};
-ghost use Rattle.plain_machine.specs.Grammar.{is_small_letter, is_name_byte};
+ghost use Rattle.script_grammar.specs.Grammar.{is_small_letter, is_name_byte};
 
 /// A letter from a to z.
 pub(crate) fn small_letter(b: u8) -> bool

@@ -1,6 +1,6 @@
 ghost use Rattle.std.specs.Prelude.{◌≡◌, ℕ, ◌≢◌, List, [], ◌∷◌, ◌++◌, length, MatchOption, ◌≤◌, ◌<◌};
 ghost use Rattle.std.specs.List.{prefix_len};
-ghost use Rattle.plain_machine.specs.Grammar.{is_blank};
+ghost use Rattle.script_grammar.specs.Grammar.{is_blank};
 ghost use Rattle.script_parse.specs.Reading.{after_blanks, gap_at, byte_at, text_at, is_end, is_solid};
 
 /// A space or a tab.

@@ -18,10 +18,10 @@ ghost use Rattle.std.specs.Prelude.{
   IfErr,
   IsErrOf,
 };
-ghost use Rattle.plain_machine.specs.Written.{Written};
-ghost use Rattle.plain_machine.specs.Grammar.{SaysOne};
-ghost use Rattle.plain_machine.specs.Names.{IsInBounds};
-ghost use Rattle.plain_machine.specs.Run.{IsOutside, BringsTooMany};
+ghost use Rattle.script_grammar.specs.Written.{Written};
+ghost use Rattle.script_grammar.specs.Grammar.{SaysOne};
+ghost use Rattle.script_grammar.specs.Names.{IsInBounds};
+ghost use Rattle.script_grammar.specs.ReadAs.{IsOutside, BringsTooMany};
 ghost use Rattle.script_parse.specs.Output.{Out, out, Keeps};
 ghost use Rattle.script_parse.specs.Parses.{Reads};
 ghost use Rattle.script_parse.specs.Reading.{is_silent, command_run, line_run};
@@ -31,7 +31,7 @@ use crate::buffer::Code;
 use crate::numbers::{GREATEST, number};
 use crate::verbs::{process_verb, system_verb};
 use atom_names::AtomNames;
-use plain_machine::{Command, Refusal};
+use script_grammar::{Command, Refusal};
 
 /// Nothing is left, or a comment begins.
 fn silent(line: &[u8]) -> bool

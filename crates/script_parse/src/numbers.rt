@@ -1,5 +1,5 @@
 ghost use Rattle.std.specs.Prelude.{◌≡◌, ℕ, ◌+◌, ◌≤◌, ◌<◌, ◌^◌, pos, List, length, MatchOption};
-ghost use Rattle.plain_machine.specs.Grammar.{is_digit};
+ghost use Rattle.script_grammar.specs.Grammar.{is_digit};
 ghost use Rattle.script_parse.specs.Reading.{digits_at, number_at, integer_at, pid_at};
 
 use crate::blanks::{after_text, first};

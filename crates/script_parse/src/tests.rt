@@ -1,8 +1,8 @@
 use crate::buffer::Code;
 use crate::lines::parse;
 use atom_names::AtomNames;
-use plain_machine::{Command, Refusal, Reg, Verb};
 use plain_term::Item;
+use script_grammar::{Command, Refusal, Reg, Verb};
 use std::test::Fail;
 
 /// 0 for a command, 1 for `Syntax`, 2 for `Atoms`.

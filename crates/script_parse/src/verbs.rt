@@ -1,7 +1,7 @@
 ghost use Rattle.std.specs.Prelude.{◌≡◌, ℕ, ◌+◌, ◌≤◌, ◌<◌, Bool, true, false, List, [], ◌∷◌, length, MatchOption, Some, None};
-ghost use Rattle.plain_machine.specs.Names.{Arguments, HasRegisters};
-ghost use Rattle.plain_machine.specs.Written.{Kind};
-ghost use Rattle.plain_machine.specs.Written.Kind.{Slot, Body};
+ghost use Rattle.script_grammar.specs.Names.{Arguments, HasRegisters};
+ghost use Rattle.script_grammar.specs.Written.{Kind};
+ghost use Rattle.script_grammar.specs.Written.Kind.{Slot, Body};
 ghost use Rattle.script_parse.specs.Output.{Out, out, Keeps};
 ghost use Rattle.script_parse.specs.Reading.{number_at, spaced_at, row, row_run, verb_run, named_run, process_run, sys_verb_run, sys_named_run, system_run};
 
@@ -11,7 +11,7 @@ use crate::numbers::number;
 use crate::terms::term;
 use crate::words::{sys_word, verb_word};
 use atom_names::AtomNames;
-use plain_machine::{Reg, SysVerb, SysWord, Verb, Word};
+use script_grammar::{Reg, SysVerb, SysWord, Verb, Word};
 
 /// How many levels of brackets may be open.
 const LEVELS: u64 = 256;

@@ -1,7 +1,7 @@
 ghost use Rattle.std.specs.Prelude.{◌≡◌, ◌≢◌, ℕ, IfSome, IfNone};
-ghost use Rattle.plain_machine.specs.Written.{text_of, sys_text_of};
+ghost use Rattle.script_grammar.specs.Written.{text_of, sys_text_of};
 
-use plain_machine::{SysWord, Word};
+use script_grammar::{SysWord, Word};
 
 /// The table of the verbs of a process: how each is written.
 pub(crate) fn verb_word(bytes: &[u8]) -> Option<Word>

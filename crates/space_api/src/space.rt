@@ -18,11 +18,11 @@ ghost use Rattle.std.specs.Prelude.{
   nat_lt,
 };
 ghost use Rattle.line_io.specs.Faults.{Rose};
-ghost use Rattle.plain_machine.specs.declared.command.Command.TheVariants.{Process, System};
-ghost use Rattle.plain_machine.specs.declared.command.Verb.TheVariants as verb;
-ghost use Rattle.plain_machine.specs.declared.command.SysVerb.TheVariants as sysverb;
-ghost use Rattle.plain_machine.specs.Names.{Parsed, IsRegister, items_of};
-ghost use Rattle.plain_machine.specs.Written.{Term, Terms};
+ghost use Rattle.script_grammar.specs.declared.command.Command.TheVariants.{Process, System};
+ghost use Rattle.script_grammar.specs.declared.command.Verb.TheVariants as verb;
+ghost use Rattle.script_grammar.specs.declared.command.SysVerb.TheVariants as sysverb;
+ghost use Rattle.script_grammar.specs.Names.{Parsed, IsRegister, items_of};
+ghost use Rattle.script_grammar.specs.Written.{Term, Terms};
 ghost use Rattle.plain_machine.specs.State.{State, is_live, live_numbers};
 ghost use Rattle.plain_machine.specs.Step.{step};
 ghost use Rattle.space_api.specs.Calls.{AreRising, Becomes, Follows, HasTerm, IsTerm, Passes, Prints, one_term, said};

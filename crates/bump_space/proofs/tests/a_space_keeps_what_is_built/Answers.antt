@@ -2,8 +2,8 @@
 use Rattle.std.proofs.Common.{ℕ, zero, suc, ◌<◌, List, [], ◌∷◌, length, get_or, pos, refl, arith}
 use Rattle.plain_term.specs.declared.item.Item.{Item}
 use Rattle.plain_term.specs.declared.item.Item.TheVariants as item
-use Rattle.plain_machine.specs.Written.Term.{Int, Listed, Tuple}
-use Rattle.plain_machine.specs.Written.Terms.{end, ◌▹◌}
+use Rattle.script_grammar.specs.Written.Term.{Int, Listed, Tuple}
+use Rattle.script_grammar.specs.Written.Terms.{end, ◌▹◌}
 use Rattle.space_api.specs.Calls.{HasTerm, IsNamedBelow}
 use Rattle.bump_space.proofs.tests.a_space_keeps_what_is_built.Goals as goal
 

@@ -1,7 +1,7 @@
 use Rattle.std.proofs.Common.{refl, inl}
-use Rattle.plain_machine.specs.declared.command.Verb.TheVariants.{Own, Push, Pop, Exit}
+use Rattle.script_grammar.specs.declared.command.Verb.TheVariants.{Own, Push, Pop, Exit}
 use Rattle.engine.proofs.Acting.{does-same, becomes-does, set-does, passes-does, unbuilt-does, no-call, pop-ok}
-use Rattle.plain_machine.specs.declared.command.Command.TheVariants.{Process}
+use Rattle.script_grammar.specs.declared.command.Command.TheVariants.{Process}
 use Rattle.space_api.specs.Calls.{said}
 use Rattle.engine.proofs.act.act_in.Goals as goal
 

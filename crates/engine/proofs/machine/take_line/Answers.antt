@@ -1,5 +1,5 @@
 use Rattle.std.proofs.Common.{sym, ap, subst, ◌∙◌, arith, take, Err}
-use Rattle.plain_machine.specs.Names.{terms_of}
+use Rattle.script_grammar.specs.Names.{terms_of}
 use Rattle.engine.specs.Acts.{HasCode}
 use Rattle.engine.proofs.Taking.{told, told-longer, told-back, told-code, told-fits-at, takes-command, takes-nothing, left-all, left-none}
 use Rattle.engine.proofs.machine.take_line.Goals as goal

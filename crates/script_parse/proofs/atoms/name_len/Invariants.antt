@@ -1,6 +1,6 @@
 use Rattle.std.proofs.Common.{◌≡◌, ◌+◌, drop}
 use Rattle.std.specs.List.{prefix_len}
-use Rattle.plain_machine.specs.Grammar.{is_name_byte}
+use Rattle.script_grammar.specs.Grammar.{is_name_byte}
 use Rattle.script_parse.proofs.atoms.name_len.Given as goal
 
 -- The bytes before are of the name.

@@ -1,7 +1,7 @@
 use Rattle.std.proofs.Common.{◌≡◌, ℕ, ◌<◌, ◌≤◌, List, [], length, map, set, Ok, Err, refl, sym, ◌∙◌, ap, subst, arith}
 use Rattle.std.specs.Vec.{vec_len, vec_capacity}
 use Rattle.plain_machine.specs.State.{with_register}
-use Rattle.plain_machine.specs.Names.{tree_of}
+use Rattle.plain_machine.specs.Made.{tree_of}
 use Rattle.space_api.specs.Calls.{Becomes, said, one_term}
 use Rattle.bump_space.specs.declared.table.Proc.{Proc}
 use Rattle.bump_space.specs.Forest.{IsWritten, words_of}
@@ -11,9 +11,9 @@ use Rattle.bump_space.proofs.Procs.{procs-at, replaced}
 use Rattle.bump_space.proofs.States.{build-follows, build-stays, term-modest, term-forest, term-words, each-named, is-written, words-few}
 use Rattle.bump_space.proofs.Changes.{entry_with, holds-one, found, number-here, register-one, built-moves}
 use Rattle.plain_machine.specs.May.{may_of_all_asked}
-use Rattle.plain_machine.specs.declared.command.Command.TheVariants.{Process as OfProcess}
-use Rattle.plain_machine.specs.declared.command.Verb.TheVariants as verb
-use Rattle.plain_machine.specs.declared.refusal.Refusal.TheVariants as refusal
+use Rattle.script_grammar.specs.declared.command.Command.TheVariants.{Process as OfProcess}
+use Rattle.script_grammar.specs.declared.command.Verb.TheVariants as verb
+use Rattle.script_grammar.specs.declared.refusal.Refusal.TheVariants as refusal
 use Rattle.bump_space.proofs.space.BumpSpaceSpace.build.Goals as goal
 
 pub returns-then-self-grow-clause-becomes : goal.returns-then-self-grow-clause-becomes

@@ -7,9 +7,9 @@ use Rattle.bump_space.specs.Bump.{Bump, BumpStands, number_at}
 use Rattle.bump_space.proofs.Procs.{replaced}
 use Rattle.bump_space.proofs.States.{pop-empty, pop-follows}
 use Rattle.bump_space.proofs.Changes.{holds-one, found, number-here, top-here, pop-one}
-use Rattle.plain_machine.specs.declared.command.Command.TheVariants.{Process as OfProcess}
-use Rattle.plain_machine.specs.declared.command.Verb.TheVariants as verb
-use Rattle.plain_machine.specs.declared.refusal.Refusal.TheVariants as refusal
+use Rattle.script_grammar.specs.declared.command.Command.TheVariants.{Process as OfProcess}
+use Rattle.script_grammar.specs.declared.command.Verb.TheVariants as verb
+use Rattle.script_grammar.specs.declared.refusal.Refusal.TheVariants as refusal
 use Rattle.plain_machine.specs.Step.{step}
 use Rattle.bump_space.proofs.Changes.{no-stack}
 use Rattle.bump_space.proofs.space.BumpSpaceSpace.pop.Goals as goal

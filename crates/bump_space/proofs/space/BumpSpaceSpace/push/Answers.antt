@@ -11,9 +11,9 @@ use Rattle.bump_space.proofs.Procs.{procs-at, replaced}
 use Rattle.bump_space.proofs.States.{push-follows, push-stays}
 use Rattle.bump_space.proofs.Changes.{holds-one, found, number-here, push-moves, push-one, depth-fits}
 use Rattle.plain_machine.specs.May.{may_of_all_asked}
-use Rattle.plain_machine.specs.declared.command.Command.TheVariants.{Process as OfProcess}
-use Rattle.plain_machine.specs.declared.command.Verb.TheVariants as verb
-use Rattle.plain_machine.specs.declared.refusal.Refusal.TheVariants as refusal
+use Rattle.script_grammar.specs.declared.command.Command.TheVariants.{Process as OfProcess}
+use Rattle.script_grammar.specs.declared.command.Verb.TheVariants as verb
+use Rattle.script_grammar.specs.declared.refusal.Refusal.TheVariants as refusal
 use Rattle.bump_space.proofs.space.BumpSpaceSpace.push.Goals as goal
 
 pub returns-then-self-lt2-clause-becomes : goal.returns-then-self-lt2-clause-becomes

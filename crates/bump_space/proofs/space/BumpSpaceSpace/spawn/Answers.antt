@@ -8,9 +8,9 @@ use Rattle.bump_space.proofs.Procs.{counts-same, fresh-stands}
 use Rattle.bump_space.proofs.States.{spawn-refused, spawn-stays, spawn-follows}
 use Rattle.bump_space.proofs.Changes.{spawn-moves, spawn-one, holds-more}
 use Rattle.plain_machine.specs.May.{may_of_all_asked}
-use Rattle.plain_machine.specs.declared.command.Command.TheVariants.{System}
-use Rattle.plain_machine.specs.declared.command.SysVerb.TheVariants as sysverb
-use Rattle.plain_machine.specs.declared.refusal.Refusal.TheVariants as refusal
+use Rattle.script_grammar.specs.declared.command.Command.TheVariants.{System}
+use Rattle.script_grammar.specs.declared.command.SysVerb.TheVariants as sysverb
+use Rattle.script_grammar.specs.declared.refusal.Refusal.TheVariants as refusal
 use Rattle.bump_space.proofs.space.BumpSpaceSpace.spawn.Goals as goal
 
 pub returns-then-len-ge-MOST_PROCESSES-clause-becomes : goal.returns-then-len-ge-MOST_PROCESSES-clause-becomes

@@ -3,7 +3,7 @@ use Rattle.std.proofs.Common.{◌≡◌, ℕ, ◌<◌, ◌≤◌, Bool, true, fa
 use Rattle.std.specs.Prelude.{is_some}
 use Rattle.atom_names.specs.Names.{index_of, with_name}
 use Rattle.atom_names.proofs.Places.{index_of-Some, index_of_push, index_of_append}
-use Rattle.plain_machine.specs.Names.{number_of, with_names}
+use Rattle.script_grammar.specs.Names.{number_of, with_names}
 
 -- names go last
 pub with-name-more : (names : List (List ℕ)) (a : List ℕ) → (more : List (List ℕ)) × (with_name names a ≡ names ++ more)

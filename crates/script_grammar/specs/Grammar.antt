@@ -1,20 +1,20 @@
 -- The grammar of lines, as a relation between a whole line and what it says.
 use Rattle.std.specs.Prelude.{ℕ, ◌≡◌, ◌+◌, ◌-◌, ◌*◌, ◌^◌, ◌<◌, ◌≤◌, ◌⊎◌, ◌≢◌, ◌||◌, ◌&&◌, Bool, true, false, nat_eq, nat_le, ℤ, pos, negsuc, List, [], ◌∷◌, ◌++◌, length, All, codes}
 use Rattle.plain_term.specs.Measures.{is_small, magnitude}
-use Rattle.plain_machine.specs.Written.{Term, Terms, TermPairs, terms_len, Kind, OperandOf, Operands, text_of, kinds_of, sys_text_of, sys_kinds_of, Written}
-use Rattle.plain_machine.specs.declared.word.Word.{Word}
-use Rattle.plain_machine.specs.declared.word.SysWord.{SysWord}
-use Rattle.plain_machine.specs.Written.Term.{Int, Atom, Pid, Held, Listed, Barred, Tuple, Map, Bin}
-use Rattle.plain_machine.specs.Written.Terms.{end, ◌▹◌}
-use Rattle.plain_machine.specs.Written.TermPairs.{stop, pair}
-use Rattle.plain_machine.specs.Written.Kind.{Slot, Count, Receiver, Title, Environment, Extent, Body, Bodies}
-use Rattle.plain_machine.specs.Written.Written.{Nothing, OfProcess, OfSystem}
-use Rattle.plain_machine.specs.declared.word.Word.TheVariants as word
-use Rattle.plain_machine.specs.declared.word.SysWord.TheVariants as sys
-use Rattle.plain_machine.specs.declared.command.To.{To}
-use Rattle.plain_machine.specs.declared.command.To.TheVariants as to
-use Rattle.plain_machine.specs.declared.command.Depth.{Depth}
-use Rattle.plain_machine.specs.declared.command.Depth.TheVariants.{Minor, Major}
+use Rattle.script_grammar.specs.Written.{Term, Terms, TermPairs, terms_len, Kind, OperandOf, Operands, text_of, kinds_of, sys_text_of, sys_kinds_of, Written}
+use Rattle.script_grammar.specs.declared.word.Word.{Word}
+use Rattle.script_grammar.specs.declared.word.SysWord.{SysWord}
+use Rattle.script_grammar.specs.Written.Term.{Int, Atom, Pid, Held, Listed, Barred, Tuple, Map, Bin}
+use Rattle.script_grammar.specs.Written.Terms.{end, ◌▹◌}
+use Rattle.script_grammar.specs.Written.TermPairs.{stop, pair}
+use Rattle.script_grammar.specs.Written.Kind.{Slot, Count, Receiver, Title, Environment, Extent, Body, Bodies}
+use Rattle.script_grammar.specs.Written.Written.{Nothing, OfProcess, OfSystem}
+use Rattle.script_grammar.specs.declared.word.Word.TheVariants as word
+use Rattle.script_grammar.specs.declared.word.SysWord.TheVariants as sys
+use Rattle.script_grammar.specs.declared.command.To.{To}
+use Rattle.script_grammar.specs.declared.command.To.TheVariants as to
+use Rattle.script_grammar.specs.declared.command.Depth.{Depth}
+use Rattle.script_grammar.specs.declared.command.Depth.TheVariants.{Minor, Major}
 
 -- A space or a tab.
 abbrev pub is_blank : ℕ → Bool

@@ -1,11 +1,11 @@
 -- What a line of a script says, before the names of its atoms have numbers.
 use Rattle.std.specs.Prelude.{ℕ, ◌+◌, ℤ, List, [], ◌∷◌, codes}
-use Rattle.plain_machine.specs.declared.command.To.{To}
-use Rattle.plain_machine.specs.declared.command.Depth.{Depth}
-use Rattle.plain_machine.specs.declared.word.Word.{Word}
-use Rattle.plain_machine.specs.declared.word.Word.TheVariants.{Set, Hd, Tl, Elem, MapGet, MapPut, Part, Fill, Fun, Env, Ref, Own, MkTuple, MkList, Push, Pop, Send, Recv, Queue, Print, Eq, Cmp, Flat, Lit, Gc, Hibernate, Info, Heap, Exit}
-use Rattle.plain_machine.specs.declared.word.SysWord.{SysWord}
-use Rattle.plain_machine.specs.declared.word.SysWord.TheVariants.{Spawn, Load, Purge, Sweep, Counts, Dump, Procs, Quit}
+use Rattle.script_grammar.specs.declared.command.To.{To}
+use Rattle.script_grammar.specs.declared.command.Depth.{Depth}
+use Rattle.script_grammar.specs.declared.word.Word.{Word}
+use Rattle.script_grammar.specs.declared.word.Word.TheVariants.{Set, Hd, Tl, Elem, MapGet, MapPut, Part, Fill, Fun, Env, Ref, Own, MkTuple, MkList, Push, Pop, Send, Recv, Queue, Print, Eq, Cmp, Flat, Lit, Gc, Hibernate, Info, Heap, Exit}
+use Rattle.script_grammar.specs.declared.word.SysWord.{SysWord}
+use Rattle.script_grammar.specs.declared.word.SysWord.TheVariants.{Spawn, Load, Purge, Sweep, Counts, Dump, Procs, Quit}
 
 infixr 60 ◌▹◌
 mutual

@@ -1,37 +1,31 @@
--- A written command with the names of its atoms in numbers: its items, its trees, the command.
-use Rattle.std.specs.Prelude.{ℕ, ◌+◌, ◌^◌, ◌<◌, nat_le, List, [], ◌∷◌, ◌++◌, length, map, slice_index_or, unwrap_or, if◌then◌else◌}
-use Rattle.std.specs.declared.cmp.Ordering.TheVariants.{Less, Equal, Greater}
+-- A written command with the names of its atoms in numbers: its items, the command.
+use Rattle.std.specs.Prelude.{ℕ, ◌^◌, ◌<◌, List, [], ◌∷◌, ◌++◌, length, map, unwrap_or}
 use Rattle.atom_names.specs.Names.{index_of, with_name}
 use Rattle.plain_term.specs.declared.item.Item.{Item}
 use Rattle.plain_term.specs.declared.item.Item.TheVariants as item
-use Rattle.plain_term.specs.Tree.{Tree, Trees, Pairs}
-use Rattle.plain_term.specs.Tree.{Tree as tree}
-use Rattle.plain_term.specs.Tree.{Trees as trees}
-use Rattle.plain_term.specs.Tree.{Pairs as pairs}
-use Rattle.plain_term.specs.Order.{order}
-use Rattle.plain_machine.specs.Written.{Term, Terms, TermPairs, terms_len, pairs_len, joined, Kind, OperandOf, Operands, kinds_of, sys_kinds_of, Written}
-use Rattle.plain_machine.specs.declared.word.Word.{Word}
-use Rattle.plain_machine.specs.declared.word.SysWord.{SysWord}
-use Rattle.plain_machine.specs.Written.Term.{Int, Atom, Pid, Held, Listed, Barred, Tuple, Map, Bin}
-use Rattle.plain_machine.specs.Written.Terms.{end, ◌▹◌}
-use Rattle.plain_machine.specs.Written.TermPairs.{stop, pair}
-use Rattle.plain_machine.specs.Written.Kind.{Slot, Count, Receiver, Title, Environment, Extent, Body, Bodies}
-use Rattle.plain_machine.specs.Written.Written.{Nothing, OfProcess, OfSystem}
-use Rattle.plain_machine.specs.Grammar.{MayReceive}
-use Rattle.plain_machine.specs.declared.word.Word.TheVariants as word
-use Rattle.plain_machine.specs.declared.word.SysWord.TheVariants as sys
-use Rattle.plain_machine.specs.declared.command.Reg.{Reg}
-use Rattle.plain_machine.specs.declared.command.Pick.{Pick}
-use Rattle.plain_machine.specs.declared.command.Pick.TheVariants as pick
-use Rattle.plain_machine.specs.declared.command.To.{To}
-use Rattle.plain_machine.specs.declared.command.Depth.{Depth}
-use Rattle.plain_machine.specs.declared.command.Shape.TheVariants as shape
-use Rattle.plain_machine.specs.declared.command.Command.{Command}
-use Rattle.plain_machine.specs.declared.command.Command.TheVariants as command
-use Rattle.plain_machine.specs.declared.command.Verb.{Verb}
-use Rattle.plain_machine.specs.declared.command.Verb.TheVariants as verb
-use Rattle.plain_machine.specs.declared.command.SysVerb.{SysVerb}
-use Rattle.plain_machine.specs.declared.command.SysVerb.TheVariants as sysverb
+use Rattle.script_grammar.specs.Written.{Term, Terms, TermPairs, terms_len, pairs_len, joined, Kind, OperandOf, Operands, kinds_of, sys_kinds_of, Written}
+use Rattle.script_grammar.specs.declared.word.Word.{Word}
+use Rattle.script_grammar.specs.declared.word.SysWord.{SysWord}
+use Rattle.script_grammar.specs.Written.Term.{Int, Atom, Pid, Held, Listed, Barred, Tuple, Map, Bin}
+use Rattle.script_grammar.specs.Written.Terms.{end, ◌▹◌}
+use Rattle.script_grammar.specs.Written.TermPairs.{stop, pair}
+use Rattle.script_grammar.specs.Written.Kind.{Slot, Count, Receiver, Title, Environment, Extent, Body, Bodies}
+use Rattle.script_grammar.specs.Written.Written.{Nothing, OfProcess, OfSystem}
+use Rattle.script_grammar.specs.Grammar.{MayReceive}
+use Rattle.script_grammar.specs.declared.word.Word.TheVariants as word
+use Rattle.script_grammar.specs.declared.word.SysWord.TheVariants as sys
+use Rattle.script_grammar.specs.declared.command.Reg.{Reg}
+use Rattle.script_grammar.specs.declared.command.Pick.{Pick}
+use Rattle.script_grammar.specs.declared.command.Pick.TheVariants as pick
+use Rattle.script_grammar.specs.declared.command.To.{To}
+use Rattle.script_grammar.specs.declared.command.Depth.{Depth}
+use Rattle.script_grammar.specs.declared.command.Shape.TheVariants as shape
+use Rattle.script_grammar.specs.declared.command.Command.{Command}
+use Rattle.script_grammar.specs.declared.command.Command.TheVariants as command
+use Rattle.script_grammar.specs.declared.command.Verb.{Verb}
+use Rattle.script_grammar.specs.declared.command.Verb.TheVariants as verb
+use Rattle.script_grammar.specs.declared.command.SysVerb.{SysVerb}
+use Rattle.script_grammar.specs.declared.command.SysVerb.TheVariants as sysverb
 
 -- The number of a name is its first place.
 abbrev pub number_of : List (List ℕ) → List ℕ → ℕ
@@ -114,59 +108,6 @@ abbrev mutual
   pub pairs_items : (names : List (List ℕ)) → TermPairs → List Item
   pairs_items names stop = []
   pairs_items names (pair k v ps) = items_of names k ++ (items_of names v ++ pairs_items names ps)
-
--- A pair put into pairs in key order. Where the key is there already, the new pair stands for it.
-abbrev pub with_pair : (names shared : List (List ℕ)) (key value : Tree) → Pairs → Pairs
-with_pair names shared key value pairs.stop = pairs.pair key value pairs.stop
-with_pair names shared key value (pairs.pair k v ps) = elim (order names shared key k) [
-  | Less ↦ pairs.pair key value (pairs.pair k v ps)
-  | Equal ↦ pairs.pair key value ps
-  | Greater ↦ pairs.pair k v (with_pair names shared key value ps)
-]
-
--- Pairs put into others one by one, so that the later of two with equal keys stands.
-abbrev pub with_pairs : (names shared : List (List ℕ)) → Pairs → Pairs → Pairs
-with_pairs names shared sorted pairs.stop = sorted
-with_pairs names shared sorted (pairs.pair k v ps) = with_pairs names shared (with_pair names shared k v sorted) ps
-
--- A binary of up to 64 bytes by its bytes, a longer one as a new shared one.
-abbrev pub bin_tree : List ℕ → (shared : List (List ℕ)) → Tree × List (List ℕ)
-bin_tree bytes shared = if nat_le (length bytes) 64 then (tree.Bin bytes, shared) else (tree.Shared (length shared + 1), shared ++ bytes ∷ [])
-
--- A list with these heads and this tail.
-abbrev pub list_tree : Trees → Tree → Tree
-list_tree trees.end tail = tail
-list_tree (trees.◌▹◌ t ts) tail = tree.Cons t (list_tree ts tail)
-
-abbrev mutual
-  -- The tree of a term, and the byte lists of shared binaries with its own at their end. `held` has
-  -- the trees of the registers.
-  pub tree_of : (names : List (List ℕ)) (held : List Tree) → Term → (shared : List (List ℕ)) → Tree × List (List ℕ)
-  tree_of names held (Int i) shared = (tree.Int i, shared)
-  tree_of names held (Atom a) shared = (tree.Atom (number_of names a), shared)
-  tree_of names held (Pid n) shared = (tree.Pid n, shared)
-  tree_of names held (Held r) shared = (slice_index_or held r tree.Nil, shared)
-  tree_of names held (Listed ts) shared = let heads : Trees × List (List ℕ) = trees_of names held ts shared in
-      (list_tree (heads.0) tree.Nil, heads.1)
-  tree_of names held (Barred ts t) shared = let heads : Trees × List (List ℕ) = trees_of names held ts shared in
-      let last : Tree × List (List ℕ) = tree_of names held t (heads.1) in (list_tree (heads.0) (last.0), last.1)
-  tree_of names held (Tuple ts) shared = let all : Trees × List (List ℕ) = trees_of names held ts shared in (tree.Tuple (all.0), all.1)
-  tree_of names held (Map ps) shared = let all : Pairs × List (List ℕ) = pairs_of names held ps shared in
-      (tree.Map (with_pairs names (all.1) pairs.stop (all.0)), all.1)
-  tree_of names held (Bin bytes) shared = bin_tree bytes shared
-
-  -- The trees of terms, from left to right.
-  pub trees_of : (names : List (List ℕ)) (held : List Tree) → Terms → (shared : List (List ℕ)) → Trees × List (List ℕ)
-  trees_of names held end shared = (trees.end, shared)
-  trees_of names held (t ▹ ts) shared = let first : Tree × List (List ℕ) = tree_of names held t shared in
-      let others : Trees × List (List ℕ) = trees_of names held ts (first.1) in (trees.◌▹◌ (first.0) (others.0), others.1)
-
-  -- The trees of keys and values, in the order of writing.
-  pub pairs_of : (names : List (List ℕ)) (held : List Tree) → TermPairs → (shared : List (List ℕ)) → Pairs × List (List ℕ)
-  pairs_of names held stop shared = (pairs.stop, shared)
-  pairs_of names held (pair k v ps) shared = let key : Tree × List (List ℕ) = tree_of names held k shared in
-      let value : Tree × List (List ℕ) = tree_of names held v (key.1) in
-      let others : Pairs × List (List ℕ) = pairs_of names held ps (value.1) in (pairs.pair (key.0) (value.0) (others.0), others.1)
 
 -- A register by its number.
 abbrev pub reg : ℕ → Reg

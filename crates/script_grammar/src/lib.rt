@@ -1,0 +1,10 @@
+//! The language of scripts: its words, terms, grammar, and the commands that lines come to.
+#![tactic(auto)]
+
+mod command;
+mod refusal;
+mod word;
+
+pub use command::{Command, Depth, Measure, Pick, Reg, Shape, SysVerb, To, Verb};
+pub use refusal::Refusal;
+pub use word::{SysWord, Word};
