@@ -1,6 +1,7 @@
 -- Reading from left to right: each function takes the rest of a line, and gives what it read with
 -- the rest after it, or nothing.
 use Rattle.std.specs.Prelude.{ℕ, zero, suc, ◌+◌, ◌-◌, ◌*◌, nat_eq, nat_le, Bool, true, false, not, ◌&&◌, ℤ, pos, negsuc, List, [], ◌∷◌, length, take, drop, Option, Some, None, cond, codes, if◌then◌else◌}
+use Rattle.std.specs.Borrow.{Bor}
 use Rattle.std.specs.List.{prefix_len, find}
 use Rattle.std.specs.Str.{bytes_eq}
 use Rattle.atom_names.specs.Names.{with_name}
@@ -237,6 +238,11 @@ verb_run w line o = cond (is_built w) (row_run (row_of w) line o) None
 -- A verb of the system with the operands after it, where it is built.
 abbrev pub sys_verb_run : SysWord → List ℕ → Out → Option (SysVerb × Out)
 sys_verb_run w line o = cond (is_sys_built w) (row_run (sys_row_of w) line o) None
+
+-- The word of a table of words and texts that is written so.
+abbrev pub named_in : {W : Type 0} → List (W × Bor (List ℕ)) → List ℕ → Option W
+named_in [] bytes = None
+named_in (row ∷ table) bytes = if bytes_eq bytes (row.1.now) then Some (row.0) else named_in table bytes
 
 -- The verb of a process that is written so.
 abbrev pub word_named : List ℕ → Option Word

@@ -1,61 +1,75 @@
-ghost use Rattle.std.specs.Prelude.{◌≡◌, ◌≢◌, ℕ, IfSome, IfNone};
-ghost use Rattle.script_grammar.specs.Written.{text_of, sys_text_of};
+ghost use Rattle.std.specs.Prelude.{◌≡◌};
+ghost use Rattle.script_parse.specs.Reading.{word_named, sys_word_named, named_in};
 
 use script_grammar::{SysWord, Word};
 
-/// The table of the verbs of a process: how each is written.
-pub(crate) fn verb_word(bytes: &[u8]) -> Option<Word>
-    ensures found { IfSome result (λ w. bytes.now ≡ text_of w) }
-    ensures none { IfNone result ((w : Word) → bytes.now ≢ text_of w) }
+/// The verbs of a process.
+const WORDS: [(Word, &[u8]); 29] = [
+    (Word::Set, b"set"),
+    (Word::Hd, b"hd"),
+    (Word::Tl, b"tl"),
+    (Word::Elem, b"elem"),
+    (Word::MapGet, b"mapget"),
+    (Word::MapPut, b"mapput"),
+    (Word::Part, b"part"),
+    (Word::Fill, b"fill"),
+    (Word::Fun, b"fun"),
+    (Word::Env, b"env"),
+    (Word::Ref, b"ref"),
+    (Word::Own, b"self"),
+    (Word::MkTuple, b"mktuple"),
+    (Word::MkList, b"mklist"),
+    (Word::Push, b"push"),
+    (Word::Pop, b"pop"),
+    (Word::Send, b"send"),
+    (Word::Recv, b"recv"),
+    (Word::Queue, b"queue"),
+    (Word::Print, b"print"),
+    (Word::Eq, b"eq"),
+    (Word::Cmp, b"cmp"),
+    (Word::Flat, b"flat"),
+    (Word::Lit, b"lit"),
+    (Word::Gc, b"gc"),
+    (Word::Hibernate, b"hibernate"),
+    (Word::Info, b"info"),
+    (Word::Heap, b"heap"),
+    (Word::Exit, b"exit"),
+];
+
+/// The verbs of the system.
+const SYS_WORDS: [(SysWord, &[u8]); 8] = [
+    (SysWord::Spawn, b"spawn"),
+    (SysWord::Load, b"load"),
+    (SysWord::Purge, b"purge"),
+    (SysWord::Sweep, b"sweep"),
+    (SysWord::Counts, b"counts"),
+    (SysWord::Dump, b"dump"),
+    (SysWord::Procs, b"procs"),
+    (SysWord::Quit, b"quit"),
+];
+
+/// The word of a table that is written so.
+fn named<W: Copy>(table: &[(W, &[u8])], bytes: &[u8]) -> Option<W>
+    ensures { result ≡ named_in table.now bytes.now }
 {
-    match bytes {
-        b"set" => Some(Word::Set),
-        b"hd" => Some(Word::Hd),
-        b"tl" => Some(Word::Tl),
-        b"elem" => Some(Word::Elem),
-        b"mapget" => Some(Word::MapGet),
-        b"mapput" => Some(Word::MapPut),
-        b"part" => Some(Word::Part),
-        b"fill" => Some(Word::Fill),
-        b"fun" => Some(Word::Fun),
-        b"env" => Some(Word::Env),
-        b"ref" => Some(Word::Ref),
-        b"self" => Some(Word::Own),
-        b"mktuple" => Some(Word::MkTuple),
-        b"mklist" => Some(Word::MkList),
-        b"push" => Some(Word::Push),
-        b"pop" => Some(Word::Pop),
-        b"send" => Some(Word::Send),
-        b"recv" => Some(Word::Recv),
-        b"queue" => Some(Word::Queue),
-        b"print" => Some(Word::Print),
-        b"eq" => Some(Word::Eq),
-        b"cmp" => Some(Word::Cmp),
-        b"flat" => Some(Word::Flat),
-        b"lit" => Some(Word::Lit),
-        b"gc" => Some(Word::Gc),
-        b"hibernate" => Some(Word::Hibernate),
-        b"info" => Some(Word::Info),
-        b"heap" => Some(Word::Heap),
-        b"exit" => Some(Word::Exit),
-        _ => None,
+    for (word, text) in table {
+        if bytes == *text {
+            return Some(*word);
+        }
     }
+    None
 }
 
-/// The table of the verbs of the system: how each is written.
-pub(crate) fn sys_word(bytes: &[u8]) -> Option<SysWord>
-    ensures found { IfSome result (λ w. bytes.now ≡ sys_text_of w) }
-    ensures none { IfNone result ((w : SysWord) → bytes.now ≢ sys_text_of w) }
+/// The verb of a process that is written so.
+pub(crate) fn verb_word(bytes: &[u8]) -> Option<Word>
+    ensures { result ≡ word_named bytes.now }
 {
-    match bytes {
-        b"spawn" => Some(SysWord::Spawn),
-        b"load" => Some(SysWord::Load),
-        b"purge" => Some(SysWord::Purge),
-        b"sweep" => Some(SysWord::Sweep),
-        b"counts" => Some(SysWord::Counts),
-        b"dump" => Some(SysWord::Dump),
-        b"procs" => Some(SysWord::Procs),
-        b"quit" => Some(SysWord::Quit),
-        _ => None,
-    }
+    named(&WORDS, bytes)
+}
+
+/// The verb of the system that is written so.
+pub(crate) fn sys_word(bytes: &[u8]) -> Option<SysWord>
+    ensures { result ≡ sys_word_named bytes.now }
+{
+    named(&SYS_WORDS, bytes)
 }
