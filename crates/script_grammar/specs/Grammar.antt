@@ -15,6 +15,16 @@ use Rattle.script_grammar.specs.declared.command.To.{To}
 use Rattle.script_grammar.specs.declared.command.To.TheVariants as to
 use Rattle.script_grammar.specs.declared.command.Depth.{Depth}
 use Rattle.script_grammar.specs.declared.command.Depth.TheVariants.{Minor, Major}
+use Rattle.script_grammar.specs.declared.command.Pick.{Pick}
+use Rattle.script_grammar.specs.declared.command.Pick.TheVariants as pick
+use Rattle.script_grammar.specs.declared.command.Shape.{Shape}
+use Rattle.script_grammar.specs.declared.command.Shape.TheVariants as shape
+use Rattle.script_grammar.specs.declared.command.Command.{Command}
+use Rattle.script_grammar.specs.declared.command.Command.TheVariants as command
+use Rattle.script_grammar.specs.declared.command.Verb.{Verb}
+use Rattle.script_grammar.specs.declared.command.Verb.TheVariants as verb
+use Rattle.script_grammar.specs.declared.command.SysVerb.{SysVerb}
+use Rattle.script_grammar.specs.declared.command.SysVerb.TheVariants as sysverb
 
 -- A space or a tab.
 abbrev pub is_blank : ℕ → Bool
@@ -279,6 +289,63 @@ is_sys_built sys.Spawn = true
 is_sys_built sys.Procs = true
 is_sys_built sys.Quit = true
 is_sys_built _ = false
+
+-- The word that takes such a part.
+abbrev pub pick_word : Pick → Word
+pick_word pick.Hd = word.Hd
+pick_word pick.Tl = word.Tl
+pick_word (pick.Elem i) = word.Elem
+pick_word (pick.MapGet k) = word.MapGet
+pick_word (pick.Env i) = word.Env
+pick_word (pick.Part offset len) = word.Part
+
+-- The word that repeats a term in this.
+abbrev pub shape_word : Shape → Word
+shape_word shape.Tuple = word.MkTuple
+shape_word shape.List = word.MkList
+
+-- The word that a verb of a process is written with.
+abbrev pub word_of : Verb → Word
+word_of (verb.Set r) = word.Set
+word_of (verb.Choose r s p) = pick_word p
+word_of (verb.MapPut r s k v) = word.MapPut
+word_of (verb.Fill r len byte) = word.Fill
+word_of (verb.Fun r name arity) = word.Fun
+word_of (verb.Ref r) = word.Ref
+word_of (verb.Own r) = word.Own
+word_of (verb.Repeat r s n t) = shape_word s
+word_of (verb.Push r) = word.Push
+word_of (verb.Pop r) = word.Pop
+word_of (verb.Send r t) = word.Send
+word_of (verb.Recv r) = word.Recv
+word_of verb.Queue = word.Queue
+word_of (verb.Print r) = word.Print
+word_of (verb.Eq r s) = word.Eq
+word_of (verb.Cmp r s) = word.Cmp
+word_of (verb.Flat r) = word.Flat
+word_of (verb.Lit r name i) = word.Lit
+word_of (verb.Gc d) = word.Gc
+word_of verb.Hibernate = word.Hibernate
+word_of verb.Info = word.Info
+word_of verb.Heap = word.Heap
+word_of verb.Exit = word.Exit
+
+-- The word that a verb of the system is written with.
+abbrev pub sys_word_of : SysVerb → SysWord
+sys_word_of sysverb.Spawn = sys.Spawn
+sys_word_of (sysverb.Load name count) = sys.Load
+sys_word_of (sysverb.Purge name) = sys.Purge
+sys_word_of sysverb.Sweep = sys.Sweep
+sys_word_of sysverb.Counts = sys.Counts
+sys_word_of sysverb.Dump = sys.Dump
+sys_word_of sysverb.Procs = sys.Procs
+sys_word_of sysverb.Quit = sys.Quit
+
+-- The verb of the command is built: the table has its word.
+abbrev pub IsBuiltCommand : Command → Type 0
+IsBuiltCommand command.Nothing = Unit {0}
+IsBuiltCommand (command.Process n v) = is_built (word_of v) ≡ true
+IsBuiltCommand (command.System v) = is_sys_built (sys_word_of v) ≡ true
 
 abbrev mutual
   -- The table of the forms of terms that are built; of the integers these are the small ones.

@@ -1,6 +1,6 @@
 -- A written command with the names of its atoms in numbers: its items, the command.
 use Rattle.std.specs.Prelude.{ℕ, ◌^◌, ◌<◌, List, [], ◌∷◌, ◌++◌, length, map, unwrap_or}
-use Rattle.atom_names.specs.Names.{index_of, with_name}
+use Rattle.atom_names.specs.Names.{most_names, index_of, with_name}
 use Rattle.plain_term.specs.declared.item.Item.{Item}
 use Rattle.plain_term.specs.declared.item.Item.TheVariants as item
 use Rattle.script_grammar.specs.Written.{Term, Terms, TermPairs, terms_len, pairs_len, joined, Kind, OperandOf, Operands, kinds_of, sys_kinds_of, Written}
@@ -233,10 +233,24 @@ HasRegisters (verb.Flat r) = IsRegister r
 HasRegisters (verb.Lit r name i) = IsRegister r
 HasRegisters _ = Unit {0}
 
--- Each number of a process that the command names is below 2 ^ 40, and each register below 16.
+-- The number of a name that the verb gives is one that a name can have.
+abbrev pub HasName : Verb → Type 0
+HasName (verb.Fun r name arity) = name < most_names
+HasName (verb.Lit r name i) = name < most_names
+HasName _ = Unit {0}
+
+-- The same for an area's name.
+abbrev pub HasArea : SysVerb → Type 0
+HasArea (sysverb.Load name count) = name < most_names
+HasArea (sysverb.Purge name) = name < most_names
+HasArea _ = Unit {0}
+
+-- Each number of a process that the command names is below 2 ^ 40, each register below 16, and each number of a name
+-- or an area below the bound of names.
 abbrev pub IsInBounds : Command → Type 0
-IsInBounds (command.Process n v) = (n < 2 ^ 40) × HasRegisters v
-IsInBounds _ = Unit {0}
+IsInBounds command.Nothing = Unit {0}
+IsInBounds (command.Process n v) = (n < 2 ^ 40) × HasRegisters v × HasName v
+IsInBounds (command.System v) = HasArea v
 
 -- Registers as terms.
 abbrev pub held_terms : List ℕ → Terms

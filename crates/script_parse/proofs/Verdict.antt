@@ -1,13 +1,15 @@
 -- What a whole line comes to.
-use Rattle.std.proofs.Common.{◌≡◌, ℕ, ◌≤◌, Bool, true, false, List, [], ◌++◌, length, take, Some, None, refl, sym, ◌∙◌, ap, arith}
+use Rattle.std.proofs.Common.{◌≡◌, ℕ, ◌≤◌, Bool, true, false, List, [], ◌++◌, length, take, Some, None, refl, sym, ◌∙◌, ap, subst, arith}
 use Rattle.std.proofs.lemmas.List.{append-nil}
 use Rattle.std.proofs.Math.Seq.{take-length}
 use Rattle.atom_names.specs.Names.{most_names}
 use Rattle.plain_term.specs.declared.item.Item.{Item}
 use Rattle.script_grammar.specs.Written.{Written, Terms}
-use Rattle.script_grammar.specs.Names.{Parsed, names_after, command_of, terms_of, all_items}
+use Rattle.script_grammar.specs.Grammar.{IsBuiltCommand}
+use Rattle.script_grammar.specs.Names.{Parsed, names_after, command_of, terms_of, all_items, IsInBounds}
 use Rattle.script_grammar.specs.ReadAs.{IsOutside, BringsTooMany}
 use Rattle.script_grammar.specs.declared.command.Command.{Command}
+use Rattle.script_grammar.proofs.Commands.{command-built, command-bounded}
 use Rattle.script_parse.specs.Output.{Out, out, Keeps}
 use Rattle.script_parse.specs.Parses.{Reads}
 use Rattle.script_parse.specs.Reading.{line_run}
@@ -38,6 +40,15 @@ said line names c after full code h e few = let r : LineRead line (out names fal
         fits = r.put.fits e few;
       },
     )
+
+-- Its verb is built, and its numbers are in their bounds.
+pub command_fits : (line : List ℕ) (names : List (List ℕ)) (c : Command) (after : List (List ℕ)) (full : Bool) (code : List Item) → line_run line (out names false []) ≡ Some (c, out after full code)
+    → full ≡ false → length names ≤ most_names → IsBuiltCommand c × IsInBounds c
+command_fits line names c after full code h e few = let r : (w : Written) × Reads line names c after code w = said line names c after full code h e few in
+    let is : command_of (names_after names r.0) r.0 ≡ c = ap (λ (p : Parsed). p.command) r.1.parsed in
+    let known : names_after names r.0 ≡ after = ap (λ (p : Parsed). p.names) r.1.parsed in
+    let fits : length (names_after names r.0) ≤ most_names = rw known r.1.fits in
+    (subst IsBuiltCommand is (command-built (names_after names r.0) r.0 r.1.built), subst IsInBounds is (command-bounded names r.0 r.1.says.allowed fits))
 
 -- A line that was read, where a name found no place.
 pub over : (line : List ℕ) (names : List (List ℕ)) (c : Command) (after : List (List ℕ)) (full : Bool) (code : List Item) → line_run line (out names false []) ≡ Some (c, out after full code)

@@ -19,7 +19,7 @@ ghost use Rattle.std.specs.Prelude.{
   IsErrOf,
 };
 ghost use Rattle.script_grammar.specs.Written.{Written};
-ghost use Rattle.script_grammar.specs.Grammar.{SaysOne};
+ghost use Rattle.script_grammar.specs.Grammar.{SaysOne, IsBuiltCommand};
 ghost use Rattle.script_grammar.specs.Names.{IsInBounds};
 ghost use Rattle.script_grammar.specs.ReadAs.{IsOutside, BringsTooMany};
 ghost use Rattle.script_parse.specs.Output.{Out, out, Keeps};
@@ -49,7 +49,6 @@ fn command(line: &[u8], names: &mut AtomNames, code: &mut Code, full: &mut bool)
     ensures read { MatchOption result (command_run line.now (out names.old full.old code.old) ≡ None)
         (λ c. command_run line.now (out names.old full.old code.old) ≡ Some (c, out names.new full.new code.new)) }
     ensures kept { Keeps names.old names.new }
-    ensures within { MatchOption result (Unit {0}) IsInBounds }
 {
     if let Some((n, rest)) = number(line, GREATEST) {
         let verb = process_verb(rest, names, code, full)?;
@@ -66,7 +65,6 @@ fn whole(line: &[u8], names: &mut AtomNames, code: &mut Code, full: &mut bool) -
     ensures read { MatchOption result (line_run line.now (out names.old full.old code.old) ≡ None)
         (λ c. line_run line.now (out names.old full.old code.old) ≡ Some (c, out names.new full.new code.new)) }
     ensures kept { Keeps names.old names.new }
-    ensures within { MatchOption result (Unit {0}) IsInBounds }
 {
     let start = skip(line);
     if silent(start) {
@@ -83,6 +81,7 @@ fn whole(line: &[u8], names: &mut AtomNames, code: &mut Code, full: &mut bool) -
 pub fn parse(line: &[u8], names: &mut AtomNames, code: &mut Code) -> Result<Command, Refusal>
     requires { length line.now ≤ 4096 }
     ensures said { IfOk result (λ c. (w : Written) × Reads line.now names.old c names.new code.new w) }
+    ensures built { IfOk result IsBuiltCommand }
     ensures bounds { IfOk result IsInBounds }
     ensures kept { IfErr result (λ e. (names.new ≡ names.old) × ((e ≡ Refusal.Syntax) ⊎ (e ≡ Refusal.Atoms))) }
     ensures syntax { IsErrOf result Refusal.Syntax → IsOutside line.now }

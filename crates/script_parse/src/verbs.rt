@@ -1,5 +1,5 @@
 ghost use Rattle.std.specs.Prelude.{◌≡◌, ℕ, ◌+◌, ◌≤◌, ◌<◌, Bool, true, false, List, [], ◌∷◌, length, MatchOption, Some, None};
-ghost use Rattle.script_grammar.specs.Names.{Arguments, HasRegisters};
+ghost use Rattle.script_grammar.specs.Names.{Arguments};
 ghost use Rattle.script_grammar.specs.Written.{Kind};
 ghost use Rattle.script_grammar.specs.Written.Kind.{Slot, Body};
 ghost use Rattle.script_parse.specs.Output.{Out, out, Keeps};
@@ -19,7 +19,7 @@ const LEVELS: u64 = 256;
 /// A blank and a register.
 fn register(line: &[u8]) -> Option<(Reg, &[u8])>
     ensures value { MatchOption result (spaced_at (number_at 15) line.now ≡ None) (λ r. spaced_at (number_at 15) line.now ≡ Some (r.0.0, r.1.now)) }
-    ensures within { MatchOption result (Unit {0}) (λ r. (r.0.0 < 16) × (length r.1.now ≤ length line.now)) }
+    ensures shorter { MatchOption result (Unit {0}) (λ r. length r.1.now ≤ length line.now) }
 {
     let rest = gap(line)?;
     let (n, rest) = number(skip(rest), 15)?;
@@ -40,7 +40,6 @@ fn none(line: &[u8]) -> Option<()>
 fn slot(line: &[u8]) -> Option<Reg>
     ensures value { (f : Arguments (Slot ∷ []) → Verb) (o : Out) → MatchOption result (row_run (row (Slot ∷ []) f) line.now o ≡ None)
         (λ r. row_run (row (Slot ∷ []) f) line.now o ≡ Some (f (r.0, tt), o)) }
-    ensures within { MatchOption result (Unit {0}) (λ r. r.0 < 16) }
 {
     let (r, rest) = register(line)?;
     if ends(rest) { Some(r) } else { None }
@@ -53,7 +52,6 @@ fn slot_body(line: &[u8], names: &mut AtomNames, code: &mut Code, full: &mut boo
     ensures read { (f : Arguments (Slot ∷ Body ∷ []) → Verb) → MatchOption result (row_run (row (Slot ∷ Body ∷ []) f) line.now (out names.old full.old code.old) ≡ None)
         (λ r. row_run (row (Slot ∷ Body ∷ []) f) line.now (out names.old full.old code.old) ≡ Some (f (r.0, (tt, tt)), out names.new full.new code.new)) }
     ensures kept { Keeps names.old names.new }
-    ensures within { MatchOption result (Unit {0}) (λ r. r.0 < 16) }
 {
     let (r, rest) = register(line)?;
     let rest = gap(rest)?;
@@ -73,7 +71,6 @@ fn verb(
     ensures read { MatchOption result (verb_run word line.now (out names.old full.old code.old) ≡ None)
         (λ v. verb_run word line.now (out names.old full.old code.old) ≡ Some (v, out names.new full.new code.new)) }
     ensures kept { Keeps names.old names.new }
-    ensures within { MatchOption result (Unit {0}) HasRegisters }
 {
     match word {
         Word::Set => Some(Verb::Set(slot_body(line, names, code, full)?)),
@@ -95,7 +92,6 @@ fn named(line: &[u8], names: &mut AtomNames, code: &mut Code, full: &mut bool) -
     ensures read { MatchOption result (named_run line.now (out names.old full.old code.old) ≡ None)
         (λ v. named_run line.now (out names.old full.old code.old) ≡ Some (v, out names.new full.new code.new)) }
     ensures kept { Keeps names.old names.new }
-    ensures within { MatchOption result (Unit {0}) HasRegisters }
 {
     let n = word_len(line);
     let word = verb_word(&line[..n])?;
@@ -113,7 +109,6 @@ pub(crate) fn process_verb(
     ensures read { MatchOption result (process_run line.now (out names.old full.old code.old) ≡ None)
         (λ v. process_run line.now (out names.old full.old code.old) ≡ Some (v, out names.new full.new code.new)) }
     ensures kept { Keeps names.old names.new }
-    ensures within { MatchOption result (Unit {0}) HasRegisters }
 {
     let rest = gap(line)?;
     named(skip(rest), names, code, full)
