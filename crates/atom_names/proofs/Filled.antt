@@ -9,6 +9,8 @@ use Rattle.atom_names.specs.Rows.{name_of, names_of, AreShort, Holds}
 use Rattle.atom_names.specs.Names.{index_of, with_name}
 use Rattle.atom_names.proofs.Probing.{Finds_push, Finds_same}
 use Rattle.atom_names.proofs.Places.{once_at, index_of_none, with_name_new, index_of_push, AreNames_push, AreNames_take}
+use Rattle.atom_names.specs.declared.names.TheConstants.{MOST_NAMES}
+use Rattle.atom_names.specs.declared.row.TheConstants.{LONGEST_NAME}
 
 pub names_of_len : (rows : List Row) (n : ℕ) → n ≤ length rows → length (names_of rows n) ≡ n
 names_of_len rows n h = length-map (take n rows) name_of ∙ length-take-le n rows h
@@ -23,7 +25,7 @@ names_of_push rows n row h = ap (map name_of) (take_more_set rows n row h) ∙ m
 pub names_of_forget : (rows : List Row) (n count : ℕ) → n ≤ count → names_of rows n ≡ take n (names_of rows count)
 names_of_forget rows n count h = ap (map name_of) (sym (take-take n count rows h)) ∙ sym (take-map name_of n (take count rows))
 
-pub short_set : (rows : List Row) (i : ℕ) (row : Row) → row.len ≤ 63 → AreShort rows → AreShort (set rows i row)
+pub short_set : (rows : List Row) (i : ℕ) (row : Row) → row.len ≤ LONGEST_NAME → AreShort rows → AreShort (set rows i row)
 short_set rows i row low all k d h = ⊎_elim
     (λ same. let e : get_or (set rows i row) k d ≡ row = rw same (get_or-set_same rows i row d (omega (arith, length-set rows i row))) in rw e low)
     (λ apart. rw (get_or-set_other rows i k row d apart) (all k d (omega (arith, length-set rows i row))))
@@ -31,7 +33,7 @@ short_set rows i row low all k d h = ⊎_elim
 
 -- A row is added at the end.
 pub Holds_push : (rows : List Row) (table grown : Table) (count slot : ℕ) (row : Row) (name : List ℕ) → Holds rows table count →
-    count < 16384 → row.len ≤ 63 → name_of row ≡ name → 1 ≤ length name → length name ≤ 63 →
+    count < MOST_NAMES → row.len ≤ LONGEST_NAME → name_of row ≡ name → 1 ≤ length name → length name ≤ LONGEST_NAME →
     index_of (names_of rows count) name ≡ None → IsFree name table.slots.items slot →
     grown.slots.items ≡ set table.slots.items slot (count + 1) → grown.places.items ≡ set table.places.items count slot →
     Holds (set rows count row) grown (count + 1)
@@ -69,7 +71,7 @@ view_len rows table count seen all e = ap length (sym e) ∙ names_of_len rows c
 
 -- The number of the name that is added.
 pub number_of_push : (rows : List Row) (table : Table) (count : ℕ) (row : Row) (name : List ℕ) → Holds rows table count →
-    count < 16384 → name_of row ≡ name → index_of (names_of rows count) name ≡ None →
+    count < MOST_NAMES → name_of row ≡ name → index_of (names_of rows count) name ≡ None →
     index_of (names_of (set rows count row) (count + 1)) name ≡ Some count
 number_of_push rows table count row name all room e none =
     rw (names_of_push rows count row (omega (arith, all.room)), e)
@@ -95,18 +97,18 @@ number_new rows read count name seen same view others =
 
 -- The names after a row is added.
 pub list_of_push : (rows : List Row) (table : Table) (count : ℕ) (row : Row) (name : List ℕ) (seen : List (List ℕ)) → Holds rows table count →
-    count < 16384 → name_of row ≡ name → names_of rows count ≡ seen → index_of seen name ≡ None →
+    count < MOST_NAMES → name_of row ≡ name → names_of rows count ≡ seen → index_of seen name ≡ None →
     names_of (set rows count row) (count + 1) ≡ with_name seen name
 list_of_push rows table count row name seen all room e view none =
     rw (with_name_new seen name none, ← view, ← e) (names_of_push rows count row (omega (arith, all.room)))
 
 -- A row in use holds a name of 1 to 63 bytes.
 pub named_size : (rows : List Row) (table : Table) (count k : ℕ) (seen : List (List ℕ)) (row : Row) (name : List ℕ) → Holds rows table count →
-    names_of rows count ≡ seen → k < length seen → row ≡ get_or rows k row → name ≡ name_of row → (1 ≤ length name) × (length name ≤ 63)
+    names_of rows count ≡ seen → k < length seen → row ≡ get_or rows k row → name ≡ name_of row → (1 ≤ length name) × (length name ≤ LONGEST_NAME)
 named_size rows table count k seen row name all view low at is =
     let inside : k < count = omega (arith, view_len rows table count seen all view) in
     let len : length (names_of rows count) ≡ count = names_of_len rows count (omega (arith, all.room, all.within)) in
     let same : get_or (names_of rows count) k [] ≡ name =
     names_of_at rows count k row inside (omega (arith, all.room, all.within)) ∙ (ap name_of (sym at) ∙ sym is) in
-    let P : List ℕ → Type 0 = λ x. (1 ≤ length x) × (length x ≤ 63) in
+    let P : List ℕ → Type 0 = λ x. (1 ≤ length x) × (length x ≤ LONGEST_NAME) in
     subst P same (all.names.sized k (omega arith))

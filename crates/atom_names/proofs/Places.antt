@@ -8,6 +8,8 @@ use Rattle.std.proofs.lemmas.Slice.Eq.{bytes_eq-Decides}
 use Rattle.std.specs.List.{position_or_len}
 use Rattle.std.specs.Str.{bytes_eq}
 use Rattle.atom_names.specs.Names.{index_of, with_name, AreNames}
+use Rattle.atom_names.specs.declared.names.TheConstants.{MOST_NAMES}
+use Rattle.atom_names.specs.declared.row.TheConstants.{LONGEST_NAME}
 
 -- Lists that differ do not pass the test.
 pub bytes_differ : (xs ys : List ℕ) → xs ≢ ys → bytes_eq xs ys ≡ false
@@ -96,7 +98,7 @@ index_of_take names name k n below fits e =
 pub AreNames_none : AreNames []
 AreNames_none = record { few = omega arith; sized = λ k h. absurd (omega arith); once = λ k h. absurd (omega arith) }
 
-pub AreNames_push : (names : List (List ℕ)) (name : List ℕ) → AreNames names → length names < 16384 → 1 ≤ length name → length name ≤ 63 →
+pub AreNames_push : (names : List (List ℕ)) (name : List ℕ) → AreNames names → length names < MOST_NAMES → 1 ≤ length name → length name ≤ LONGEST_NAME →
     index_of names name ≡ None → AreNames (names ++ name ∷ [])
 AreNames_push names name all room low high none = record {
   few = omega (arith, length_push names name);

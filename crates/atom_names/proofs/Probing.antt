@@ -4,6 +4,7 @@ use Rattle.std.proofs.lemmas.List.{get_or_read, length-set, get_or-set_same, get
 use Rattle.std.proofs.lemmas.Bool.{cases_eq, cases_lt}
 use Rattle.atom_names.specs.Spread.{mixed, mixed_all, first_slot}
 use Rattle.atom_names.specs.Slots.{after, steps, empties, Leads, Finds, IsFree}
+use Rattle.atom_names.specs.declared.names.TheConstants.{MOST_NAMES}
 
 pub mixed_all_low : (bs : List ℕ) (h : ℕ) → h < 2 ^ 32 → mixed_all h bs < 2 ^ 32
 mixed_all_low [] h low = low
@@ -89,7 +90,7 @@ slot_low names n slots places i f low = ⊎_elim
     (cases_lt 0 (get_or slots i 0))
 
 -- With no name every slot is free.
-pub Finds_none : (names : List (List ℕ)) (slots places : List ℕ) → length slots ≡ 65536 → length places ≡ 16384 →
+pub Finds_none : (names : List (List ℕ)) (slots places : List ℕ) → length slots ≡ 65536 → length places ≡ MOST_NAMES →
     ((i : ℕ) → i < 65536 → get_or slots i 0 ≡ 0) → Finds names 0 slots places
 Finds_none names slots places slots_room places_room free = record {
   slots_room = slots_room;
@@ -150,7 +151,7 @@ Finds_pop names n slots places f =
 
 -- A new name is put into its free slot.
 pub Finds_push : (names : List (List ℕ)) (name : List ℕ) (n : ℕ) (slots places : List ℕ) (slot : ℕ) → Finds names n slots places →
-    length names ≡ n → n < 16384 → IsFree name slots slot → Finds (names ++ name ∷ []) (n + 1) (set slots slot (n + 1)) (set places n slot)
+    length names ≡ n → n < MOST_NAMES → IsFree name slots slot → Finds (names ++ name ∷ []) (n + 1) (set slots slot (n + 1)) (set places n slot)
 Finds_push names name n slots places slot f len room free =
     let inside : slot < length slots = omega (arith, free.inside, f.slots_room) in
     let mine : get_or (set places n slot) n 0 ≡ slot = get_or-set_same places n slot 0 (omega (arith, f.places_room)) in
@@ -214,7 +215,7 @@ new_at names name n slots places j f low empty passed k h e =
     (cases_lt (steps (first_slot name) (get_or places k 0)) j)
 
 -- The way does not lead over full slots for ever.
-pub some_free : (names : List (List ℕ)) (name : List ℕ) (n : ℕ) (slots places : List ℕ) → Finds names n slots places → n ≤ 16384 →
+pub some_free : (names : List (List ℕ)) (name : List ℕ) (n : ℕ) (slots places : List ℕ) → Finds names n slots places → n ≤ MOST_NAMES →
     ((j : ℕ) → j < 65536 → 0 < get_or slots (after (first_slot name) j) 0) → ⊥
 some_free names name n slots places f few full =
     let none = empties_none slots (λ i h.

@@ -3,6 +3,8 @@ use Rattle.std.specs.Prelude.{ℕ, ◌≡◌, ◌<◌, ◌≤◌, List, [], ◌�
 use Rattle.std.specs.List.{position}
 use Rattle.std.specs.Option.{is_some}
 use Rattle.std.specs.Str.{bytes_eq}
+use Rattle.atom_names.specs.declared.names.TheConstants.{MOST_NAMES}
+use Rattle.atom_names.specs.declared.row.TheConstants.{LONGEST_NAME}
 
 -- The first place where the name stands.
 abbrev pub index_of : List (List ℕ) → List ℕ → Option ℕ
@@ -14,10 +16,10 @@ with_name names name = if is_some (index_of names name) then names else (names +
 
 -- There are at most so many names.
 abbrev pub most_names : ℕ
-most_names = 16384
+most_names = MOST_NAMES
 
--- At most so many names, of 1 to 63 bytes, none of which stands twice.
+-- At most so many names, none of which stands twice, is empty, or is longer than a name may be.
 pub record AreNames (names : List (List ℕ)) : Type 0 where
   pub few : length names ≤ most_names
-  pub sized : (k : ℕ) → k < length names → (1 ≤ length (slice_index_or names k [])) × (length (slice_index_or names k []) ≤ 63)
+  pub sized : (k : ℕ) → k < length names → (1 ≤ length (slice_index_or names k [])) × (length (slice_index_or names k []) ≤ LONGEST_NAME)
   pub once : (k : ℕ) → k < length names → index_of names (slice_index_or names k []) ≡ Some k

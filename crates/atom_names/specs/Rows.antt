@@ -4,6 +4,8 @@ use Rattle.atom_names.specs.declared.row.Row.{Row}
 use Rattle.atom_names.specs.declared.table.Table.{Table}
 use Rattle.atom_names.specs.Names.{AreNames}
 use Rattle.atom_names.specs.Slots.{Finds}
+use Rattle.atom_names.specs.declared.names.TheConstants.{MOST_NAMES}
+use Rattle.atom_names.specs.declared.row.TheConstants.{LONGEST_NAME}
 
 -- The name of a row.
 abbrev pub name_of : Row → List ℕ
@@ -15,12 +17,12 @@ names_of rows count = map name_of (take count rows)
 
 -- No row is longer than its room.
 abbrev pub AreShort : List Row → Type 0
-AreShort rows = (k : ℕ) (d : Row) → k < length rows → (slice_index_or rows k d).len ≤ 63
+AreShort rows = (k : ℕ) (d : Row) → k < length rows → (slice_index_or rows k d).len ≤ LONGEST_NAME
 
 -- What is true of the rows and their table at any time.
 pub record Holds (rows : List Row) (table : Table) (count : ℕ) : Type 0 where
-  pub room : length rows ≡ 16384
-  pub within : count ≤ 16384
+  pub room : length rows ≡ MOST_NAMES
+  pub within : count ≤ MOST_NAMES
   pub short : AreShort rows
   pub names : AreNames (names_of rows count)
   pub finds : Finds (names_of rows count) count table.slots.items table.places.items

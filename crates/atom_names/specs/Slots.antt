@@ -1,6 +1,7 @@
 -- The table of slots by which a name is found: each slot holds a name's number and 1, or 0.
 use Rattle.std.specs.Prelude.{ℕ, zero, suc, ◌≡◌, ◌+◌, ◌-◌, ◌%◌, ◌<◌, ◌≤◌, List, [], ◌∷◌, length, slice_index, slice_index_or}
 use Rattle.atom_names.specs.Spread.{first_slot}
+use Rattle.atom_names.specs.declared.names.TheConstants.{MOST_NAMES}
 
 -- The slot that is j steps after another one, around the end.
 abbrev pub after : (start j : ℕ) → ℕ
@@ -24,7 +25,7 @@ pub record Leads (slots : List ℕ) (name : List ℕ) (place k : ℕ) : Type 0 w
 -- The first n names are found: each stands at its place, the way there leads over older names, and no slot holds another number.
 pub record Finds (names : List (List ℕ)) (n : ℕ) (slots places : List ℕ) : Type 0 where
   pub slots_room : length slots ≡ 65536
-  pub places_room : length places ≡ 16384
+  pub places_room : length places ≡ MOST_NAMES
   pub placed : (k : ℕ) → k < n → slice_index places k < 65536
   pub own : (k : ℕ) → k < n → slice_index slots (slice_index places k) ≡ k + 1
   pub led : (k : ℕ) → k < n → Leads slots (slice_index_or names k []) (slice_index places k) k

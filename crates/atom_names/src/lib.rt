@@ -7,5 +7,6 @@ mod row;
 mod spread;
 mod table;
 
-pub use names::AtomNames;
+pub use names::{AtomNames, MOST_NAMES};
 pub use open_fault::OpenFault;
+pub use row::LONGEST_NAME;

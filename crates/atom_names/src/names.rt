@@ -22,13 +22,13 @@ ghost use Rattle.atom_names.specs.Names.{AreNames, index_of, with_name};
 ghost use Rattle.atom_names.specs.Rows.{AreShort, name_of};
 
 use crate::open_fault::OpenFault;
-use crate::row::{Row, name_in, row_of};
+use crate::row::{LONGEST_NAME, Row, name_in, row_of};
 use crate::table::Table;
 use std::alloc::Global;
 use std::marker::Model;
 
 /// How many names there may be. This project's own limit.
-pub(crate) const NAMES: usize = 16_384;
+pub const MOST_NAMES: usize = 16_384;
 
 /// The names of atoms in the order of their numbers, from 0 on.
 #[derive(Drop)]
@@ -60,9 +60,9 @@ impl AtomNames {
         };
         let row = Row {
             len: 0,
-            bytes: [0; 63],
+            bytes: [0; LONGEST_NAME],
         };
-        match vec![in alloc; row; NAMES] {
+        match vec![in alloc; row; MOST_NAMES] {
             Ok(rows) => Ok(AtomNames {
                 rows,
                 table,
@@ -74,17 +74,17 @@ impl AtomNames {
 
     /// The number of a name. A new one goes last; `None` where it is new and all numbers are taken.
     pub fn intern(&mut self, name: &[u8]) -> Option<u64>
-        requires { (1 ≤ length name.now) × (length name.now ≤ 63) }
+        requires { (1 ≤ length name.now) × (length name.now ≤ LONGEST_NAME) }
         ensures names { IfSome result (λ _. self.new ≡ with_name self.old name.now) }
         ensures number { IfSome result (λ k. index_of self.new name.now ≡ Some k) }
-        ensures room { IfSome result (λ _. length self.new ≤ 16384) }
-        ensures full { IfNone result ((self.new ≡ self.old) × (index_of self.old name.now ≡ None) × (length self.old ≡ 16384)) }
+        ensures room { IfSome result (λ _. length self.new ≤ MOST_NAMES) }
+        ensures full { IfNone result ((self.new ≡ self.old) × (index_of self.old name.now ≡ None) × (length self.old ≡ MOST_NAMES)) }
     {
         let slot = match self.table.find(&self.rows[..self.count], name) {
             Ok(k) => return Some(k as u64),
             Err(slot) => slot,
         };
-        if self.count == NAMES {
+        if self.count == MOST_NAMES {
             return None;
         }
         let k = self.count;
@@ -106,7 +106,7 @@ impl AtomNames {
     pub fn name(&self, k: u64) -> &[u8]
         requires { k < length self.now }
         ensures value { result.now ≡ slice_index_or self.now k [] }
-        ensures sized { (1 ≤ length result.now) × (length result.now ≤ 63) }
+        ensures sized { (1 ≤ length result.now) × (length result.now ≤ LONGEST_NAME) }
     {
         name_in(&self.rows[k as usize])
     }

@@ -21,7 +21,7 @@ ghost use Rattle.std.specs.Prelude.{
 ghost use Rattle.atom_names.specs.Rows.{AreShort, name_of};
 ghost use Rattle.atom_names.specs.Slots.{Finds, IsFree};
 
-use crate::names::NAMES;
+use crate::names::MOST_NAMES;
 use crate::row::{Row, name_in};
 use crate::spread::spread;
 use std::alloc::{AllocError, Global};
@@ -42,13 +42,13 @@ impl Table {
         ensures { IfOk result (λ table. (names : List (List ℕ)) → Finds names 0 table.slots.items table.places.items) }
     {
         let slots = vec![in alloc; 0; SLOTS]?;
-        let places = vec![in alloc; 0; NAMES]?;
+        let places = vec![in alloc; 0; MOST_NAMES]?;
         Ok(Table { slots, places })
     }
 
     /// The number of the name, or the free slot for it where it is new.
     pub(crate) fn find(&self, rows: &[Row], name: &[u8]) -> Result<usize, usize>
-        requires few { length rows.now ≤ 16384 }
+        requires few { length rows.now ≤ MOST_NAMES }
         requires short { AreShort rows.now }
         requires finds { Finds (map name_of rows.now) (length rows.now) self.now.slots.items self.now.places.items }
         ensures inside { IfOk result (λ k. k < length rows.now) }
@@ -73,10 +73,10 @@ impl Table {
 
     /// Puts the number of a new name into its free slot.
     pub(crate) fn add(&mut self, number: usize, slot: usize)
-        requires number { number < 16384 }
+        requires number { number < MOST_NAMES }
         requires slot { slot < 65536 }
         requires slots_room { length self.old.slots.items ≡ 65536 }
-        requires places_room { length self.old.places.items ≡ 16384 }
+        requires places_room { length self.old.places.items ≡ MOST_NAMES }
         ensures slots { self.new.slots.items ≡ slice_set self.old.slots.items slot (number + 1) }
         ensures places { self.new.places.items ≡ slice_set self.old.places.items number slot }
     {
@@ -86,9 +86,9 @@ impl Table {
 
     /// Frees the slots of the names from the first one given to the last, the last one first.
     pub(crate) fn free(&mut self, first: usize, count: usize)
-        requires order { (first ≤ count) × (count ≤ 16384) }
+        requires order { (first ≤ count) × (count ≤ MOST_NAMES) }
         requires slots_room { length self.old.slots.items ≡ 65536 }
-        requires places_room { length self.old.places.items ≡ 16384 }
+        requires places_room { length self.old.places.items ≡ MOST_NAMES }
         requires placed { (k : ℕ) → k < count → slice_index self.old.places.items k < 65536 }
         ensures { (names : List (List ℕ)) → Finds names count self.old.slots.items self.old.places.items →
             Finds names first self.new.slots.items self.new.places.items }

@@ -10,6 +10,7 @@ use Rattle.std.specs.Str.Lines.{strip_carriage_return}
 use Rattle.line_io.specs.Lines.{Line, is_whole, pieces, line_of, finished, lines, is_too_much}
 use Rattle.line_io.specs.Reader.{IsCutting, IsOpen, line_given}
 use Rattle.line_io.specs.declared.reader.Limits.{Limits}
+use Rattle.line_io.specs.declared.reader.TheConstants.{SIZE}
 use Rattle.line_io.proofs.Pieces.{IsOpen-append, pieces-first, pieces-open, whole_of_open, pieces-some, is_whole_ended, line_of_whole, line_of_open, line_given_long, length-strip, finished-append, or-true}
 
 -- the lines of some bytes, of which the pieces that came first were given
@@ -52,7 +53,7 @@ not_too_much bytes limits few short =
 
 -- bytes are gone exactly from a line that is too long in any case
 abbrev Gone : Bool → List ℕ → Type 0
-Gone is_long gone = MatchBool is_long (8192 ≤ length gone) (gone ≡ [])
+Gone is_long gone = MatchBool is_long (SIZE ≤ length gone) (gone ≡ [])
 
 take-nil : (n : ℕ) → ◌≡◌ {A = List (List ℕ)} (take n []) []
 take-nil zero = refl
@@ -64,7 +65,7 @@ few_pieces [] more no_end some = omega arith
 few_pieces (b ∷ xs) more no_end some = let line : 0 < more = some (omega arith) in omega (arith, line, ap length (pieces-open b xs no_end))
 
 -- a line is begun where bytes are held, or have gone
-line_begun : (is_long : Bool) (gone held : List ℕ) (more : ℕ) → MatchBool is_long ((8192 ≤ length gone) × (0 < more)) (gone ≡ []) → (0 < length held → 0 < more) → 0 < length (gone ++ held) → 0 < more
+line_begun : (is_long : Bool) (gone held : List ℕ) (more : ℕ) → MatchBool is_long ((SIZE ≤ length gone) × (0 < more)) (gone ≡ []) → (0 < length held → 0 < more) → 0 < length (gone ++ held) → 0 < more
 line_begun true gone held more h some begun = h.1
 line_begun false gone held more h some begun = some (omega (arith, begun, ap length h, length-append gone held))
 
@@ -87,7 +88,7 @@ and-true : (b : Bool) → (b && true) ≡ b
 and-true true = refl
 and-true false = refl
 
-more_than : (is_long : Bool) (gone : List ℕ) (more : ℕ) → MatchBool is_long ((8192 ≤ length gone) × (0 < more)) (gone ≡ []) → Gone is_long gone
+more_than : (is_long : Bool) (gone : List ℕ) (more : ℕ) → MatchBool is_long ((SIZE ≤ length gone) × (0 < more)) (gone ≡ []) → Gone is_long gone
 more_than true gone more h = h.0
 more_than false gone more h = h
 
@@ -155,7 +156,7 @@ module _ (limits : Limits) (is_long : Bool) (more room : ℕ) (held bytes : List
   }
 
   -- a full buffer is let go
-  pub lets_go : 8192 ≤ length held → IsOpen held → 0 < more → IsCutting limits is_long more room held bytes given → IsCutting limits true more room [] bytes given
+  pub lets_go : SIZE ≤ length held → IsOpen held → 0 < more → IsCutting limits is_long more room held bytes given → IsCutting limits true more room [] bytes given
   lets_go full no_end line r = record {
     whole = r.whole;
     gone = r.gone ++ held;

@@ -8,6 +8,7 @@ use Rattle.std.specs.List.{list_any, list_all, before_first, position_or_len}
 use Rattle.std.specs.Str.Lines.{strip_carriage_return}
 use Rattle.line_io.specs.Lines.{long, is_end, is_whole, onto_first, pieces, line_of, finished}
 use Rattle.line_io.specs.Reader.{line_given, IsOpen}
+use Rattle.line_io.specs.declared.reader.TheConstants.{LONGEST_LINE}
 
 -- neither holds
 pub or_false : (a b : Bool) → (a || b) ≡ false → (a ≡ false) × (b ≡ false)
@@ -82,8 +83,8 @@ pub line_of_open : (xs : List ℕ) → IsOpen xs → line_of xs ≡ line_given f
 line_of_open xs none = rw none refl
 
 -- a line that is too long in any case
-pub line_given_long : (xs : List ℕ) → 4096 < length xs → line_given false xs ≡ long
-line_given_long xs more = let over : nat_lt 4096 (length xs) ≡ true = grind (arith, nat_tests) in rw over refl
+pub line_given_long : (xs : List ℕ) → LONGEST_LINE < length xs → line_given false xs ≡ long
+line_given_long xs more = let over : nat_lt LONGEST_LINE (length xs) ≡ true = grind (arith, nat_tests) in rw over refl
 
 pub length-strip : (xs : List ℕ) → length xs ≤ length (strip_carriage_return xs) + 1
 length-strip xs = pick (slice_index xs (length xs - 1) == 13)

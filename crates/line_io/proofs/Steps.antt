@@ -11,6 +11,7 @@ use Rattle.line_io.specs.declared.reader.Limits.{Limits}
 use Rattle.line_io.specs.declared.reader.Stop.{Stop}
 use Rattle.line_io.specs.declared.reader.Stop.TheVariants.{Open, Cut, Ended, Faulted, Passed}
 use Rattle.line_io.specs.declared.reader.LineReader.{LineReader}
+use Rattle.line_io.specs.declared.reader.TheConstants.{SIZE}
 use Rattle.line_io.proofs.Cutting.{gives, takes, lets_go, none_left, none_whole, all_given, last_given, cut_none_left, cut_none_whole, open_lines, keeps_limits}
 
 -- a reader that is not at its end has read
@@ -77,7 +78,7 @@ takes_past stop limits is_long more room held held' bytes x given eo past eh h =
     (rw (kept, eh) (takes limits is_long more room held bytes given (take room x) 0 all k), omega (arith, count, past, length-append bytes x))
 
 -- a full buffer is let go
-pub lets_go_by : (stop : Stop) (limits : Limits) (is_long : Bool) (more room : ℕ) (held bytes : List ℕ) (given : List Text) → 8192 ≤ length held → IsOpen held → 0 < more
+pub lets_go_by : (stop : Stop) (limits : Limits) (is_long : Bool) (more room : ℕ) (held bytes : List ℕ) (given : List Text) → SIZE ≤ length held → IsOpen held → 0 < more
     → CutBy stop limits is_long more room held bytes given → CutBy stop limits true more room [] bytes given
 lets_go_by Open limits is_long more room held bytes given full no_end line h = lets_go limits is_long more room held bytes given full no_end line h
 lets_go_by Cut limits is_long more room held bytes given full no_end line h = (lets_go limits is_long more room held (take limits.bytes bytes) given full no_end line h.0, h.1)
@@ -105,7 +106,7 @@ ends_last stop limits is_long more room held bytes given eo line no_end some h =
     let begun : 0 < length (k.gone ++ held) = elim some [ inl held_some ↦ omega (arith, held_some, length-append k.gone held) | inr is ↦ omega (arith, gone_some is_long k.gone more is k.long_is, length-append k.gone held) ] in
     last_given limits is_long more room held bytes given line no_end k begun
   where
-    gone_some : (is_long : Bool) (gone : List ℕ) (more : ℕ) → is_long ≡ true → MatchBool is_long ((8192 ≤ length gone) × (0 < more)) (gone ≡ []) → 0 < length gone
+    gone_some : (is_long : Bool) (gone : List ℕ) (more : ℕ) → is_long ≡ true → MatchBool is_long ((SIZE ≤ length gone) × (0 < more)) (gone ≡ []) → 0 < length gone
     gone_some true gone more is long_is = omega (arith, long_is.0)
     gone_some false gone more is long_is = absurd (cc)
 

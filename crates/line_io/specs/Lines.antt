@@ -3,6 +3,7 @@ use Rattle.std.specs.Prelude.{ℕ, Bool, ◌==◌, ◌&&◌, ◌||◌, nat_lt, n
 use Rattle.std.specs.List.{list_any, before_first}
 use Rattle.std.specs.Str.Lines.{strip_carriage_return}
 use Rattle.line_io.specs.declared.reader.Limits.{Limits}
+use Rattle.line_io.specs.declared.reader.TheConstants.{LONGEST_LINE}
 
 -- a line is a text without its end, or only known to be too long
 pub data Line : Type 0 where
@@ -33,7 +34,7 @@ without_end piece = if is_whole piece then strip_carriage_return (before_first i
 
 -- a piece as a line: too long exactly where more than 4,096 bytes are left of it
 abbrev pub line_of : List ℕ → Line
-line_of piece = if nat_lt 4096 (length (without_end piece)) then long else text (without_end piece)
+line_of piece = if nat_lt LONGEST_LINE (length (without_end piece)) then long else text (without_end piece)
 
 -- the pieces that count as lines: the last one without a line end counts where the input has ended
 abbrev pub finished : Bool → List (List ℕ) → List (List ℕ)

@@ -5,6 +5,7 @@ use Rattle.std.specs.Io.KnownBytes.{IsAtEnd}
 use Rattle.line_io.specs.Lines.{Line, text, long, is_end, is_whole, pieces, line_of, lines, is_too_much}
 use Rattle.line_io.specs.Source.{Gave}
 use Rattle.line_io.specs.declared.reader.Limits.{Limits}
+use Rattle.line_io.specs.declared.reader.TheConstants.{LONGEST_LINE, SIZE}
 use Rattle.line_io.specs.declared.reader.LineGot.{LineGot}
 use Rattle.line_io.specs.declared.reader.LineGot.TheVariants.{Line as GotLine, Long, End, Fault, TooMuch}
 use Rattle.line_io.specs.declared.reader.Stop.{Stop}
@@ -75,7 +76,7 @@ pub record IsCutting (limits : Limits) (is_long : Bool) (lines_left bytes_left :
   pub all_whole : list_all is_whole whole ≡ true
   pub given_is : given ≡ map line_of whole
   pub gone_open : list_any is_end gone ≡ false
-  pub long_is : MatchBool is_long ((8192 ≤ length gone) × (0 < lines_left)) (gone ≡ [])
+  pub long_is : MatchBool is_long ((SIZE ≤ length gone) × (0 < lines_left)) (gone ≡ [])
   pub lines_sum : lines_left + length whole ≡ limits.lines
   pub bytes_sum : bytes_left + length bytes ≡ limits.bytes
 
@@ -133,7 +134,7 @@ HasCut r bytes given = CutsAt r.stop r bytes given
 
 -- a text without its line end as a line, where bytes of it may have gone before
 abbrev pub line_given : Bool → List ℕ → Line
-line_given is_long bytes = if is_long || nat_lt 4096 (length bytes) then long else text bytes
+line_given is_long bytes = if is_long || nat_lt LONGEST_LINE (length bytes) then long else text bytes
 
 -- how many reads at most are still to come
 abbrev pub reads_left : Stop → ℕ → ℕ

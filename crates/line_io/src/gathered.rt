@@ -3,6 +3,7 @@ ghost use Rattle.std.specs.Prelude.{◌≡◌, ℕ, ◌-◌, ◌<◌, ◌≤◌,
 ghost use Rattle.line_io.specs.Faults.{Rose};
 ghost use Rattle.line_io.specs.Sink.{Grew, GrewInPart, TakesWithin, went};
 ghost use Rattle.line_io.specs.declared.sink.Took.{Took};
+ghost use Rattle.line_io.specs.declared.gathered.TheConstants.{ROOM};
 
 use crate::copies::put_at;
 use crate::sink::{Sink, SinkFault, Took, put_all, put_most};
@@ -15,11 +16,11 @@ const ROOM: usize = 1024;
 #[derive(Drop)]
 pub struct Gathered<'a, K> {
     sink: &'a mut K,
-    buf: [u8; 1024],
+    buf: [u8; ROOM],
     from: usize,
     to: usize,
     ghost in_order: { from ≤ to },
-    ghost in_buffer: { to ≤ 1024 },
+    ghost in_buffer: { to ≤ ROOM },
 }
 
 impl<'a, K: Sink> Gathered<'a, K> {
@@ -77,7 +78,7 @@ impl<'a, K: Sink> Gathered<'a, K> {
 
     // Gathers as much as there is room for.
     fn gather(&mut self, bytes: &[u8]) -> usize
-        requires room { self.old.to < 1024 }
+        requires room { self.old.to < ROOM }
         requires some { 0 < length bytes.now }
         ensures some { 0 < result }
         ensures most { result ≤ length bytes.now }

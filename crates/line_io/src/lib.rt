@@ -17,7 +17,7 @@ pub use fault::OpenFault;
 pub use gathered::Gathered;
 pub use mem_sink::MemSink;
 pub use mem_source::MemSource;
-pub use reader::{Limits, LineGot, LineReader};
+pub use reader::{LONGEST_LINE, Limits, LineGot, LineReader};
 pub use sink::{Sink, SinkFault, Took, put_all};
 pub use source::{Got, Source};
 pub use std_sink::StdSink;

@@ -6,6 +6,7 @@ ghost use Rattle.line_io.specs.Faults.{Rose};
 ghost use Rattle.line_io.specs.Lines.{Line};
 ghost use Rattle.line_io.specs.Source.{CountsWithin, EndsAt, Gave, came};
 ghost use Rattle.line_io.specs.declared.source.Got.{Got};
+ghost use Rattle.line_io.specs.declared.reader.TheConstants.{LONGEST_LINE, SIZE};
 
 use crate::fault::OpenFault;
 use crate::source::{Got, Source};
@@ -18,7 +19,7 @@ pub struct Limits {
     pub bytes: u64,
 }
 
-/// A line, a line of more than 4,096 bytes, the end, a fault of the source, or more input than the limits allow.
+/// A line, a line that is longer than `LONGEST_LINE`, the end, a fault of the source, or more input than the limits allow.
 #[derive(Clone, Copy)]
 pub enum LineGot {
     Line,
@@ -41,8 +42,8 @@ enum Stop {
 // The bytes of the buffer. A line that is longer does not fit, so it is let go as it comes.
 const SIZE: usize = 8192;
 
-// The longest line that is given.
-const LONGEST: usize = 4096;
+/// The bytes of the longest line that is given. A longer one is `Long`.
+pub const LONGEST_LINE: usize = 4096;
 
 /// A reader of lines. A line ends with byte 10, before which one byte 13 is part of the end; at the end of the input
 /// a line without an end counts (this project).
@@ -58,12 +59,12 @@ pub struct LineReader {
     lines_left: u64,
     bytes_left: u64,
     limits: Limits,
-    ghost size: { vec_len buf ≡ 8192 },
+    ghost size: { vec_len buf ≡ SIZE },
     ghost in_order: { start ≤ end },
-    ghost in_buffer: { end ≤ 8192 },
+    ghost in_buffer: { end ≤ SIZE },
     ghost line_in_order: { from ≤ to },
-    ghost line_in_buffer: { to ≤ 8192 },
-    ghost line_is_short: { to ≤ from + 4096 },
+    ghost line_in_buffer: { to ≤ SIZE },
+    ghost line_is_short: { to ≤ from + LONGEST_LINE },
     ghost long_is_line: { long ≡ true → 0 < lines_left },
 }
 
@@ -114,7 +115,7 @@ impl LineReader {
         // What a loop over the lines counts by.
         ensures counted { lines_left self.new + lines_in result ≡ lines_left self.old }
         ensures limits { limits_of self.new ≡ limits_of self.old }
-        ensures short { length (line_in self.new) ≤ 4096 }
+        ensures short { length (line_in self.new) ≤ LONGEST_LINE }
     {
         if let Some(answer) = self.answer() {
             return answer;
@@ -140,7 +141,7 @@ impl LineReader {
     /// The text of the line that was given last, without its end.
     pub fn line(&self) -> &[u8]
         ensures line { result.now ≡ line_in self.now }
-        ensures short { length result.now ≤ 4096 }
+        ensures short { length result.now ≤ LONGEST_LINE }
     {
         let all = self.buf.as_slice();
         &all[self.from..self.to]
@@ -233,7 +234,7 @@ impl LineReader {
     fn make_room(&mut self)
         requires open { IsOpen (held self.old) }
         requires line { self.old.start < self.old.end → 0 < self.old.lines_left }
-        ensures room { self.new.end < 8192 }
+        ensures room { self.new.end < SIZE }
         ensures open { IsOpen (held self.new) }
         ensures line { self.new.start < self.new.end → 0 < self.new.lines_left }
         ensures cuts { (bytes : List ℕ) (given : List Line) → HasCut self.old bytes given → HasCut self.new bytes given }
@@ -259,7 +260,7 @@ impl LineReader {
     fn count_in(&mut self, n: usize)
         requires open { self.old.stop ≡ Stop.Open }
         requires some { 0 < n }
-        requires fits { self.old.end + n ≤ 8192 }
+        requires fits { self.old.end + n ≤ SIZE }
         ensures cuts { (bytes : List ℕ) (given : List Line) → HasCut self.old bytes given
             → HasCut self.new (bytes ++ slice_range self.old.buf.items self.old.end (self.old.end + n)) given }
         ensures buf { self.new.buf ≡ self.old.buf }
@@ -325,9 +326,9 @@ fn end_of_text(buf: &[u8], start: usize, at: usize) -> usize
 
 // Whether a line is too long, of which some bytes may have gone before.
 fn is_long(long: bool, len: usize) -> bool
-    ensures { result ≡ (long || nat_lt 4096 len) }
+    ensures { result ≡ (long || nat_lt LONGEST_LINE len) }
 {
-    long || len > LONGEST
+    long || len > LONGEST_LINE
 }
 
 // Moves the bytes from `start` to `end` to the buffer's front.

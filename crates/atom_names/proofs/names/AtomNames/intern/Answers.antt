@@ -15,13 +15,13 @@ returns-in-Ok-clause-number c =
     number_found c.self.inside.rows.items c.deref.result.now c.self.inside.table c.self.inside.count c.in-Ok.k c.args.name.now
     c.args.self.now c.self.invariant c.deref.ensures.value c.self.view_is c.in-Ok.ensures.inside c.in-Ok.ensures.there
 
-pub returns-then-self-eq-NAMES-clause-full : goal.returns-then-self-eq-NAMES-clause-full
-returns-then-self-eq-NAMES-clause-full c = (
+pub returns-then-self-eq-MOST_NAMES-clause-full : goal.returns-then-self-eq-MOST_NAMES-clause-full
+returns-then-self-eq-MOST_NAMES-clause-full c = (
   refl,
   number_new c.self.inside.rows.items c.deref.result.now c.self.inside.count c.args.name.now c.args.self.now c.deref.ensures.value
       c.self.view_is c.in-Err.ensures.new,
   view_len c.self.inside.rows.items c.self.inside.table c.self.inside.count c.args.self.now c.self.invariant c.self.view_is
-      ∙ c.if-self-eq-NAMES.true,
+      ∙ c.if-self-eq-MOST_NAMES.true,
 )
 
 pub invariant_of-self : goal.invariant_of-self
@@ -29,7 +29,7 @@ invariant_of-self c =
     let none = number_new c.self.inside.rows.items c.deref.result.now c.self.inside.count c.args.name.now
     (names_of c.self.inside.rows.items c.self.inside.count) c.deref.ensures.value refl c.in-Err.ensures.new in
     Holds_push c.self.inside.rows.items c.self.inside.table c.add.new.self c.self.inside.count c.in-Err.slot c.row_of.result c.args.name.now
-    c.self.invariant (omega (arith, c.self.invariant.within, c.if-self-eq-NAMES.false)) c.row_of.ensures.short c.row_of.ensures.value
+    c.self.invariant (omega (arith, c.self.invariant.within, c.if-self-eq-MOST_NAMES.false)) c.row_of.ensures.short c.row_of.ensures.value
     c.requires.0 c.requires.1 none c.in-Err.ensures.free c.add.ensures.slots c.add.ensures.places
 
 pub returns-clause-names : goal.returns-clause-names
@@ -37,11 +37,11 @@ returns-clause-names c =
     let none = number_new c.self.inside.rows.items c.deref.result.now c.self.inside.count c.args.name.now c.args.self.now
     c.deref.ensures.value c.self.view_is c.in-Err.ensures.new in
     list_of_push c.self.inside.rows.items c.self.inside.table c.self.inside.count c.row_of.result c.args.name.now c.args.self.now
-    c.self.invariant (omega (arith, c.self.invariant.within, c.if-self-eq-NAMES.false)) c.row_of.ensures.value c.self.view_is none
+    c.self.invariant (omega (arith, c.self.invariant.within, c.if-self-eq-MOST_NAMES.false)) c.row_of.ensures.value c.self.view_is none
 
 pub returns-clause-number : goal.returns-clause-number
 returns-clause-number c =
     let none = number_new c.self.inside.rows.items c.deref.result.now c.self.inside.count c.args.name.now
     (names_of c.self.inside.rows.items c.self.inside.count) c.deref.ensures.value refl c.in-Err.ensures.new in
     number_of_push c.self.inside.rows.items c.self.inside.table c.self.inside.count c.row_of.result c.args.name.now c.self.invariant
-    (omega (arith, c.self.invariant.within, c.if-self-eq-NAMES.false)) c.row_of.ensures.value none
+    (omega (arith, c.self.invariant.within, c.if-self-eq-MOST_NAMES.false)) c.row_of.ensures.value none

@@ -2,11 +2,12 @@ use Rattle.std.proofs.Common.{◌≡◌, ℕ, ◌+◌, ◌-◌, length, get_or, 
 use Rattle.std.proofs.lemmas.List.{length-set}
 use Rattle.atom_names.specs.Slots.{Finds}
 use Rattle.atom_names.proofs.Probing.{Finds_pop, read_is}
+use Rattle.atom_names.specs.declared.names.TheConstants.{MOST_NAMES}
 use Rattle.atom_names.proofs.table.Table.free.Goals as goal
 
 pub loop-number-preserved : goal.loop-number-preserved
 loop-number-preserved c =
-    let places_room : length c.loop-number.self.places.items ≡ 16384 = ap length c.loop-number.invariant.places ∙ c.requires.places_room in
+    let places_room : length c.loop-number.self.places.items ≡ MOST_NAMES = ap length c.loop-number.invariant.places ∙ c.requires.places_room in
     let at : get_or c.loop-number.self.places.items (c.loop-number.number - 1) 0 ≡ c.index.result.now =
     read_is c.loop-number.self.places.items (c.loop-number.number - 1) c.index.result.now
     (omega (arith, places_room, c.loop-number.invariant.high, c.requires.order.1, c.loop-number-test.true)) c.index.ensures in
