@@ -1,15 +1,18 @@
 -- What items spell, and that they spell it alone.
-use Rattle.std.proofs.Common.{◌≡◌, ◌<◌, ◌+◌, ℕ, List, [], ◌∷◌, ◌++◌, ◌==◌, true, false, subst, map, length, refl, sym, ◌∙◌, ap, arith, append_assoc, append-nil}
-use Rattle.plain_term.specs.Tree.{Tree, Trees, trees_len}
+use Rattle.std.proofs.Common.{◌≡◌, ◌<◌, ◌≤◌, ◌+◌, ℕ, nat_le, Option, Some, List, [], ◌∷◌, ◌++◌, ◌==◌, true, false, subst, map, length, refl, sym, ◌∙◌, ap, arith, append_assoc, append-nil, length-append}
+use Rattle.std.specs.Prelude.{IfSome}
+use Rattle.std.proofs.lemmas.List.{map-append}
+use Rattle.std.proofs.lemmas.Bool.Decides.{nat_tests}
+use Rattle.plain_term.specs.Tree.{Tree, Trees, trees_len, trees_append}
 use Rattle.plain_term.specs.Tree.Tree.{Int, Atom, Pid, Nil, Cons, Tuple, Bin}
 use Rattle.plain_term.specs.Tree.Trees.{end, ◌▹◌}
-use Rattle.plain_term.specs.Written.{is_spelled, are_spelled, items_of, items_of_all, Spells, Explains, Begins, ExplainsFront, BeginAll, ExplainsParts, BeginBytes, ExplainsBytes}
+use Rattle.plain_term.specs.Written.{is_spelled, are_spelled, items_of, items_of_all, Spells, Explains, Begins, HasNoTerm, BeginAll, HasNoParts, BeginBytes, HasNoBytes, IsOf, AreOf, Reads, ReadsAll, ReadsBytes}
+use Rattle.plain_term.specs.View.{view, trees_of}
+use Rattle.plain_term.specs.declared.reading.TheConstants.{HEAP_BINARY}
+use Rattle.plain_term.specs.declared.tree.Tree as code
 use Rattle.plain_term.specs.declared.item.Item.{Item}
 use Rattle.plain_term.specs.declared.item.Item.TheVariants as item
-use Rattle.plain_term.specs.declared.tree.TreeFault.{TreeFault}
-use Rattle.plain_term.specs.declared.tree.TreeFault.TheVariants.{Memory, Items}
-use Rattle.plain_term.specs.View.{view, trees_of}
-use Rattle.plain_term.specs.declared.tree.Tree as code
+use Rattle.plain_term.specs.declared.tree.TreeFault.TheVariants.{Items}
 use Rattle.plain_term.proofs.SharedLemmas.{left, right, both, no_way}
 
 abbrev spelled_bytes : List ℕ → List Item
@@ -73,7 +76,7 @@ next_byte (d ∷ ds) (b ∷ bs) x y lt e =
     next_byte ds bs x y (omega (arith, lt)) tails
 
 pub no_byte : (items : List Item) (i n : ℕ) (done : List ℕ) (rest : List Item) → BeginBytes items i done rest → i < n
-    → ((b : ℕ) (more : List Item) → rest ≡ item.Byte b ∷ more → ⊥) → ExplainsBytes items n Items
+    → ((b : ℕ) (more : List Item) → rest ≡ item.Byte b ∷ more → ⊥) → HasNoBytes items n
 no_byte items i n done rest begins lt none bytes y (len, is) =
     let found = next_byte done bytes rest y (omega (arith, len, begins.0, lt)) (sym begins.1 ∙ is) in
     none found.0 found.1 found.2
@@ -89,12 +92,10 @@ next_term (t ▹ ts) (u ▹ us) x y p q lt e =
     let first = unique t u (items_of_all ts ++ x) (items_of_all us ++ y) (left (is_spelled t) (are_spelled ts) p) (left (is_spelled u) (are_spelled us) q) apart in
     next_term ts us x y (right (is_spelled t) (are_spelled ts) p) (right (is_spelled u) (are_spelled us) q) (omega (arith, lt)) first.1
 
-pub no_part : (items : List Item) (i n : ℕ) (done : Trees) (rest : List Item) (fault : TreeFault) → BeginAll items i done rest → i < n
-    → ExplainsFront rest fault → ExplainsParts items n fault
-no_part items i n done rest Memory begin lt front = tt
-no_part items i n done rest Items begin lt front = λ ts y all.
+pub no_part : (items : List Item) (i n : ℕ) (done : Trees) (rest : List Item) → BeginAll items i done rest → i < n → HasNoTerm rest → HasNoParts items n
+no_part items i n done rest begin lt none ts y all =
     let found = next_term done ts rest y begin.0 all.0 (omega (arith, all.1, begin.1, lt)) (sym begin.2 ∙ all.2) in
-    front found.0 found.1 found.2
+    none found.0 found.1 found.2
 
 -- a list needs a tail after its head
 after_head : (rest : List Item) (head : Tree) (after : List Item) → Begins rest head after → (t : Tree) (y : List Item) → Begins (item.Cons ∷ rest) t y → (tail : Tree) × Begins after tail y
@@ -105,9 +106,8 @@ after_head rest head after begins (Cons h t) y (spelled, is) =
     (t, (right (is_spelled h) (is_spelled t) spelled, first.1))
 after_head rest head after begins t y (spelled, is) = absurd cc
 
-pub no_tail : (rest : List Item) (head : Tree) (after : List Item) (fault : TreeFault) → Begins rest head after → ExplainsFront after fault → ExplainsFront (item.Cons ∷ rest) fault
-no_tail rest head after Memory begins front = tt
-no_tail rest head after Items begins front = λ t y it. let found = after_head rest head after begins t y it in front found.0 y found.1
+pub no_tail : (rest : List Item) (head : Tree) (after : List Item) → Begins rest head after → HasNoTerm after → HasNoTerm (item.Cons ∷ rest)
+no_tail rest head after begins none t y it = let found = after_head rest head after begins t y it in none found.0 y found.1
 
 -- a whole term has no items after it
 pub no_more : (items : List Item) (t u : Tree) (rest : List Item) → Begins items t rest → Spells items u → false ≡ (length rest == 0) → ⊥
@@ -116,31 +116,94 @@ no_more items t u rest begins spells some =
     let Some : List Item → Type 0 = λ xs. false ≡ (length xs == 0) in
     no_way (subst Some gone some)
 
-pub no_front : (items : List Item) (fault : TreeFault) → ExplainsFront items fault → Explains items fault
-no_front items Memory front = tt
-no_front items Items front = λ t spells. front t [] (spells.0, spells.1 ∙ sym (append-nil (items_of t)))
+-- items at whose front no term stands are no whole term
+pub no_front : (items : List Item) → HasNoTerm items → Explains items Items
+no_front items none t spells = none t [] (spells.0, spells.1 ∙ sym (append-nil (items_of t)))
 
-are_spelled-push : (ts : List code.Tree) (t : code.Tree) → are_spelled (trees_of (map view ts)) ≡ true → is_spelled (view t) ≡ true → are_spelled (trees_of (map view (ts ++ t ∷ []))) ≡ true
-are_spelled-push [] t p q = both (is_spelled (view t)) true q refl
-are_spelled-push (u ∷ us) t p q = both (is_spelled (view u)) (are_spelled (trees_of (map view (us ++ t ∷ [])))) (left (is_spelled (view u)) (are_spelled (trees_of (map view us))) p)
-    (are_spelled-push us t (right (is_spelled (view u)) (are_spelled (trees_of (map view us))) p) q)
+are_spelled-append : (ts : Trees) (t : Tree) → are_spelled ts ≡ true → is_spelled t ≡ true → are_spelled (trees_append ts (t ▹ end)) ≡ true
+are_spelled-append end t p q = both (is_spelled t) true q refl
+are_spelled-append (u ▹ us) t p q =
+    both (is_spelled u) (are_spelled (trees_append us (t ▹ end))) (left (is_spelled u) (are_spelled us) p) (are_spelled-append us t (right (is_spelled u) (are_spelled us) p) q)
 
-trees_len-push : (ts : List code.Tree) (t : code.Tree) → trees_len (trees_of (map view (ts ++ t ∷ []))) ≡ trees_len (trees_of (map view ts)) + 1
-trees_len-push [] t = refl
-trees_len-push (u ∷ us) t = omega (arith, trees_len-push us t)
+trees_len-append : (ts : Trees) (t : Tree) → trees_len (trees_append ts (t ▹ end)) ≡ trees_len ts + 1
+trees_len-append end t = refl
+trees_len-append (u ▹ us) t = omega (arith, trees_len-append us t)
 
-items_of_all-push : (ts : List code.Tree) (t : code.Tree) (y : List Item) → items_of_all (trees_of (map view (ts ++ t ∷ []))) ++ y ≡ items_of_all (trees_of (map view ts)) ++ (items_of (view t) ++ y)
-items_of_all-push [] t y = ap (λ xs. xs ++ y) (append-nil (items_of (view t)))
-items_of_all-push (u ∷ us) t y =
-    append_assoc (items_of (view u)) (items_of_all (trees_of (map view (us ++ t ∷ [])))) y
-    ∙ ap (λ xs. items_of (view u) ++ xs) (items_of_all-push us t y)
-    ∙ sym (append_assoc (items_of (view u)) (items_of_all (trees_of (map view us))) (items_of (view t) ++ y))
+items_of_all-append : (ts : Trees) (t : Tree) (y : List Item) → items_of_all (trees_append ts (t ▹ end)) ++ y ≡ items_of_all ts ++ (items_of t ++ y)
+items_of_all-append end t y = ap (λ xs. xs ++ y) (append-nil (items_of t))
+items_of_all-append (u ▹ us) t y =
+    append_assoc (items_of u) (items_of_all (trees_append us (t ▹ end))) y
+    ∙ ap (λ xs. items_of u ++ xs) (items_of_all-append us t y)
+    ∙ sym (append_assoc (items_of u) (items_of_all us) (items_of t ++ y))
 
 -- one more term is read
-pub begin_more : (items : List Item) (i : ℕ) (ts : List code.Tree) (rest : List Item) (t : code.Tree) (after : List Item)
-    → BeginAll items i (trees_of (map view ts)) rest → Begins rest (view t) after → BeginAll items (i + 1) (trees_of (map view (ts ++ t ∷ []))) after
+pub begin_more : (items : List Item) (i : ℕ) (ts : Trees) (rest : List Item) (t : Tree) (after : List Item)
+    → BeginAll items i ts rest → Begins rest t after → BeginAll items (i + 1) (trees_append ts (t ▹ end)) after
 begin_more items i ts rest t after begin begins = (
-  are_spelled-push ts t begin.0 begins.0,
-  omega (arith, trees_len-push ts t, begin.1),
-  begin.2 ∙ ap (λ xs. items_of_all (trees_of (map view ts)) ++ xs) begins.1 ∙ sym (items_of_all-push ts t after),
+  are_spelled-append ts t begin.0 begins.0,
+  omega (arith, trees_len-append ts t, begin.1),
+  begin.2 ∙ ap (λ xs. items_of_all ts ++ xs) begins.1 ∙ sym (items_of_all-append ts t after),
 )
+
+-- one more term is read, and kept if all were
+pub reads_more : (items : List Item) (i : ℕ) (values new : Option (List code.Tree)) (rest : List Item) (value : Option code.Tree) (after : List Item) → ReadsAll items i values rest → Reads rest value after
+    → ((ts : Trees) (t : Tree) → AreOf values ts → IsOf value t → AreOf new (trees_append ts (t ▹ end))) → ReadsAll items (i + 1) new after
+reads_more items i values new rest value after all one kept = record {
+  terms = trees_append all.terms (one.term ▹ end);
+  begin = begin_more items i all.terms rest one.term after all.begin one.begins;
+  built = kept all.terms one.term all.built one.built;
+}
+
+-- one more byte is read, and kept if all were
+pub reads_byte : (items : List Item) (i : ℕ) (kept new : Option (List ℕ)) (rest : List Item) (b : ℕ) (after : List Item) → ReadsBytes items i kept rest → rest ≡ item.Byte b ∷ after
+    → ((bs : List ℕ) → IfSome kept (λ xs. xs ≡ bs) → IfSome new (λ xs. xs ≡ bs ++ b ∷ [])) → ReadsBytes items (i + 1) new after
+reads_byte items i kept new rest b after all is more =
+    let begin : length all.bytes ≡ i = all.begin.0 in
+    record {
+      bytes = all.bytes ++ b ∷ [];
+      begin = (
+        omega (arith, begin, length-append all.bytes (b ∷ [])),
+        all.begin.1 ∙ ap (λ l. spelled_bytes all.bytes ++ l) is ∙ sym (append_assoc (spelled_bytes all.bytes) (item.Byte b ∷ []) after)
+            ∙ ap (λ l. l ++ after) (sym (map-append (λ x. item.Byte x) all.bytes (b ∷ []))),
+      );
+      built = more all.bytes all.built;
+    }
+
+-- a list place is read, and built if its parts were
+pub reads_cons : (items rest : List Item) (head : Option code.Tree) (mid : List Item) (tail new : Option code.Tree) (after : List Item) → items ≡ item.Cons ∷ rest → Reads rest head mid → Reads mid tail after
+    → ((h t : Tree) → IsOf head h → IsOf tail t → IsOf new (Cons h t)) → Reads items new after
+reads_cons items rest head mid tail new after is first second made =
+    let a = first.term in
+    let b = second.term in
+    record {
+      term = Cons a b;
+      begins = (
+        both (is_spelled a) (is_spelled b) first.begins.0 second.begins.0,
+        is ∙ ap (λ l. item.Cons ∷ l) (first.begins.1 ∙ ap (λ l. items_of a ++ l) second.begins.1 ∙ sym (append_assoc (items_of a) (items_of b) after)),
+      );
+      built = made a b first.built second.built;
+    }
+
+-- a binary is read, and built if its bytes were kept
+pub reads_bin : (items rest : List Item) (n : ℕ) (kept : Option (List ℕ)) (new : Option code.Tree) (after : List Item) → items ≡ item.Bin n ∷ rest → n ≤ HEAP_BINARY → ReadsBytes rest n kept after
+    → ((bs : List ℕ) → IfSome kept (λ xs. xs ≡ bs) → IsOf new (Bin bs)) → Reads items new after
+reads_bin items rest n kept new after is few all made =
+    let len : length all.bytes ≡ n = all.begin.0 in
+    let short : nat_le (length all.bytes) HEAP_BINARY ≡ true = grind (arith, nat_tests, len, few) in
+    record {
+      term = Bin all.bytes;
+      begins = (short, is ∙ ap (λ l. item.Bin n ∷ l) all.begin.1 ∙ ap (λ m. item.Bin m ∷ (spelled_bytes all.bytes ++ after)) (sym len));
+      built = made all.bytes all.built;
+    }
+
+-- values of a list and one more
+trees_of-push : (xs : List code.Tree) (x : code.Tree) → trees_of (map view (xs ++ x ∷ [])) ≡ trees_append (trees_of (map view xs)) (view x ▹ end)
+trees_of-push [] x = refl
+trees_of-push (y ∷ ys) x = ap (λ us. view y ▹ us) (trees_of-push ys x)
+
+pub are_more : (values : Option (List code.Tree)) (value : Option code.Tree) (xs : List code.Tree) (x : code.Tree) (new : List code.Tree) (ts : Trees) (t : Tree) → values ≡ Some xs → value ≡ Some x → new ≡ xs ++ x ∷ []
+    → AreOf values ts → IsOf value t → trees_of (map view new) ≡ trees_append ts (t ▹ end)
+are_more values value xs x new ts t is one pushed all it =
+    let many : trees_of (map view xs) ≡ ts = subst (λ v. AreOf v ts) is all in
+    let last : view x ≡ t = subst (λ v. IsOf v t) one it in
+    ap (λ l. trees_of (map view l)) pushed ∙ trees_of-push xs x ∙ ap (λ us. trees_append us (view x ▹ end)) many ∙ ap (λ u. trees_append ts (u ▹ end)) last

@@ -9,6 +9,7 @@ use Rattle.plain_term.specs.Beyond.{is_beyond}
 use Rattle.plain_term.specs.Bytes.{bytes_of}
 use Rattle.plain_term.specs.Measures.{magnitude}
 use Rattle.plain_term.specs.Order.{order}
+use Rattle.plain_term.specs.declared.reading.TheConstants.{HEAP_BINARY}
 
 -- Each number is a byte.
 abbrev pub are_bytes : List ℕ → Bool
@@ -39,7 +40,7 @@ abbrev mutual
   is_proper names shared (Cons h t) = is_proper names shared h && is_proper names shared t
   is_proper names shared (Tuple ts) = are_proper names shared ts
   is_proper names shared (Map ps) = nat_le (pairs_len ps) 32 && keys_rise names shared ps && are_proper_pairs names shared ps
-  is_proper names shared (Bin bytes) = nat_le (length bytes) 64 && are_bytes bytes
+  is_proper names shared (Bin bytes) = nat_le (length bytes) HEAP_BINARY && are_bytes bytes
   is_proper names shared (Shared id) = nat_lt 0 id && nat_le id (length shared)
   is_proper names shared (Part base offset len) = is_base base && is_proper names shared base && nat_le (offset + len) (length (bytes_of shared base))
   is_proper names shared (Fun name arity creator env) = nat_lt name (length names) && are_proper names shared env

@@ -1,13 +1,16 @@
 -- The terms that items spell.
-use Rattle.std.specs.Prelude.{◌≡◌, ℕ, ◌^◌, Bool, true, false, ◌&&◌, nat_lt, nat_le, List, [], ◌∷◌, ◌++◌, map, length, IsTrue, ⊤}
+use Rattle.std.specs.Prelude.{◌≡◌, ℕ, ◌^◌, Bool, true, false, ◌&&◌, nat_lt, nat_le, List, [], ◌∷◌, ◌++◌, map, length, IsTrue, ⊤, Option, Some, None, IfSome}
 use Rattle.plain_term.specs.Tree.{Tree, Trees, trees_len}
 use Rattle.plain_term.specs.Tree.Tree.{Int, Atom, Pid, Nil, Cons, Tuple, Bin}
 use Rattle.plain_term.specs.Tree.Trees.{end, ◌▹◌}
 use Rattle.plain_term.specs.Measures.{magnitude}
 use Rattle.plain_term.specs.declared.item.Item.{Item}
 use Rattle.plain_term.specs.declared.item.Item.TheVariants as item
+use Rattle.plain_term.specs.declared.tree.Tree as code
 use Rattle.plain_term.specs.declared.tree.TreeFault.{TreeFault}
 use Rattle.plain_term.specs.declared.tree.TreeFault.TheVariants.{Memory, Items}
+use Rattle.plain_term.specs.View.{view, trees_of}
+use Rattle.plain_term.specs.declared.reading.TheConstants.{HEAP_BINARY}
 
 abbrev mutual
   -- The kinds of terms that items spell: integers of magnitude below 2^127, atoms, pids, nil, lists,
@@ -19,7 +22,7 @@ abbrev mutual
   is_spelled Nil = true
   is_spelled (Cons h t) = is_spelled h && is_spelled t
   is_spelled (Tuple ts) = are_spelled ts
-  is_spelled (Bin bytes) = nat_le (length bytes) 64
+  is_spelled (Bin bytes) = nat_le (length bytes) HEAP_BINARY
   is_spelled _ = false
 
   -- The same of each tree of a list.
@@ -48,9 +51,9 @@ abbrev mutual
 abbrev pub Spells : List Item → Tree → Type 0
 Spells items t = IsTrue (is_spelled t) × (items ≡ items_of t)
 
--- Only items that are not one whole term are a fault of items.
+-- Only items that are not one whole term are a fault of items, and memory is wanting only for one.
 abbrev pub Explains : List Item → TreeFault → Type 0
-Explains items Memory = ⊤
+Explains items Memory = (t : Tree) × Spells items t
 Explains items Items = (t : Tree) → Spells items t → ⊥
 
 -- What is left after a term at the front.
@@ -58,24 +61,49 @@ abbrev pub Begins : List Item → Tree → List Item → Type 0
 Begins items t rest = IsTrue (is_spelled t) × (items ≡ items_of t ++ rest)
 
 -- No term stands at the front.
-abbrev pub ExplainsFront : List Item → TreeFault → Type 0
-ExplainsFront items Memory = ⊤
-ExplainsFront items Items = (t : Tree) (rest : List Item) → Begins items t rest → ⊥
+abbrev pub HasNoTerm : List Item → Type 0
+HasNoTerm items = (t : Tree) (rest : List Item) → Begins items t rest → ⊥
 
 -- What is left after n terms at the front.
 abbrev pub BeginAll : List Item → ℕ → Trees → List Item → Type 0
 BeginAll items n ts rest = IsTrue (are_spelled ts) × (trees_len ts ≡ n) × (items ≡ items_of_all ts ++ rest)
 
 -- No n terms stand at the front.
-abbrev pub ExplainsParts : List Item → ℕ → TreeFault → Type 0
-ExplainsParts items n Memory = ⊤
-ExplainsParts items n Items = (ts : Trees) (rest : List Item) → BeginAll items n ts rest → ⊥
+abbrev pub HasNoParts : List Item → ℕ → Type 0
+HasNoParts items n = (ts : Trees) (rest : List Item) → BeginAll items n ts rest → ⊥
 
 -- What is left after n bytes at the front.
 abbrev pub BeginBytes : List Item → ℕ → List ℕ → List Item → Type 0
 BeginBytes items n bytes rest = (length bytes ≡ n) × (items ≡ map (λ b. item.Byte b) bytes ++ rest)
 
 -- No n bytes stand at the front.
-abbrev pub ExplainsBytes : List Item → ℕ → TreeFault → Type 0
-ExplainsBytes items n Memory = ⊤
-ExplainsBytes items n Items = (bytes : List ℕ) (rest : List Item) → BeginBytes items n bytes rest → ⊥
+abbrev pub HasNoBytes : List Item → ℕ → Type 0
+HasNoBytes items n = (bytes : List ℕ) (rest : List Item) → BeginBytes items n bytes rest → ⊥
+
+-- A value is of a tree, if it was built.
+abbrev pub IsOf : Option code.Tree → Tree → Type 0
+IsOf None t = ⊤
+IsOf (Some value) t = view value ≡ t
+
+-- Values are of trees, if they were built.
+abbrev pub AreOf : Option (List code.Tree) → Trees → Type 0
+AreOf None ts = ⊤
+AreOf (Some values) ts = trees_of (map view values) ≡ ts
+
+-- A term was read from the front, and built unless memory was wanting.
+pub record Reads (items : List Item) (value : Option code.Tree) (rest : List Item) : Type 0 where
+  pub term : Tree
+  pub begins : Begins items term rest
+  pub built : IsOf value term
+
+-- The same of n terms.
+pub record ReadsAll (items : List Item) (n : ℕ) (values : Option (List code.Tree)) (rest : List Item) : Type 0 where
+  pub terms : Trees
+  pub begin : BeginAll items n terms rest
+  pub built : AreOf values terms
+
+-- The same of n bytes.
+pub record ReadsBytes (items : List Item) (n : ℕ) (kept : Option (List ℕ)) (rest : List Item) : Type 0 where
+  pub bytes : List ℕ
+  pub begin : BeginBytes items n bytes rest
+  pub built : IfSome kept (λ xs. xs ≡ bytes)

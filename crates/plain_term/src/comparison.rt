@@ -10,9 +10,11 @@ use std::cmp::Ordering;
 /// The order of two terms: by value, and for different kinds integers first, then atoms,
 /// references, funs, pids, tuples, maps, nil, lists and binaries.
 ///
-/// It speaks of terms that name no shared binary. A name that is not among `names` has no bytes.
+/// A shared binary that is named is compared as if it had no bytes, for they are not in the tree. A name that is
+/// not among `names` has no bytes.
 pub fn order(a: &Tree, b: &Tree, names: &[Vec<u8>]) -> Ordering
-    ensures { (shared : List (List ℕ)) → IsTrue (has_no_shared (view a.now)) → IsTrue (has_no_shared (view b.now)) → result ≡ order_of (map (λ v. v.items) names.now) shared (view a.now) (view b.now) }
+    ensures value { result ≡ order_of (map (λ v. v.items) names.now) [] (view a.now) (view b.now) }
+    ensures exact { (shared : List (List ℕ)) → IsTrue (has_no_shared (view a.now)) → IsTrue (has_no_shared (view b.now)) → result ≡ order_of (map (λ v. v.items) names.now) shared (view a.now) (view b.now) }
 {
     compare(a, b, names)
 }

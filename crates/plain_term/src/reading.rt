@@ -1,125 +1,111 @@
-ghost use Rattle.std.specs.Prelude.{◌≡◌, ◌≢◌, ◌<◌, ◌≤◌, ℕ, List, [], ◌∷◌, map, length, MatchOption, MatchResult};
-ghost use Rattle.plain_term.specs.View.{view, trees_of};
-ghost use Rattle.plain_term.specs.Tree.Tree.{Cons as plain_cons};
+ghost use Rattle.std.specs.Prelude.{◌≡◌, ◌≢◌, ◌<◌, ◌≤◌, ℕ, List, [], ◌∷◌, ◌++◌, length, IfSome, MatchOption, MatchResult};
+ghost use Rattle.plain_term.specs.View.{view};
+ghost use Rattle.plain_term.specs.Tree as plain;
+ghost use Rattle.plain_term.specs.Tree.{Trees, trees_append};
+ghost use Rattle.plain_term.specs.Tree.Trees.{end, ◌▹◌};
+ghost use Rattle.plain_term.specs.Tree.Tree.{Cons as plain_cons, Tuple as plain_tuple, Bin as plain_bin};
 ghost use Rattle.plain_term.specs.declared.item.Item.{Item};
 ghost use Rattle.plain_term.specs.declared.item.Item.TheVariants.{Byte};
-ghost use Rattle.plain_term.specs.declared.tree.TreeFault.TheVariants.{Memory};
-ghost use Rattle.plain_term.specs.Written.{Spells, Explains, Begins, ExplainsFront, BeginAll, ExplainsParts, BeginBytes, ExplainsBytes};
+ghost use Rattle.plain_term.specs.Written.{AreOf, Explains, HasNoBytes, HasNoParts, HasNoTerm, IsOf, Reads, ReadsAll, ReadsBytes, Spells};
 
 use crate::item::Item;
 use crate::tree::{Tree, TreeFault};
 use sqlite_items::{Boxed, Items};
 use std::alloc::Global;
 
+// The bytes of the longest binary that is no shared one.
+const HEAP_BINARY: u64 = 64;
+
 impl Tree {
     /// The tree of a term in prefix form.
     ///
     /// `Items` comes exactly where the items are not one whole term of integers of magnitude below
-    /// 2^127, atoms, pids, nil, lists, tuples and binaries of at most 64 bytes.
+    /// 2^127, atoms, pids, nil, lists, tuples and binaries of at most 64 bytes. `Memory` comes only
+    /// where they are one.
     pub fn of_items(alloc: Global, items: &[Item]) -> Result<Tree, TreeFault>
         ensures { MatchResult result (λ t. Spells items.now (view t)) (λ e. Explains items.now e) }
     {
         match read_term(alloc, items) {
-            Ok((tree, rest)) => {
+            Some((tree, rest)) => {
                 if rest.is_empty() {
-                    Ok(tree)
+                    tree.ok_or(TreeFault::Memory)
                 } else {
                     Err(TreeFault::Items)
                 }
             }
-            Err(fault) => Err(fault),
+            None => Err(TreeFault::Items),
         }
     }
 }
 
-// The term at the front, and the items after it.
+// The term at the front, and the items after it; none where no term stands there. Where memory is
+// wanting the term is not built, and reading goes on.
 #[cycle(reading)]
-fn read_term(alloc: Global, items: &[Item]) -> Result<(Tree, &[Item]), TreeFault>
-    ensures read { MatchResult result (λ p. Begins items.now (view p.0) p.1.now) (λ e. ExplainsFront items.now e) }
-    ensures shorter { MatchResult result (λ p. length p.1.now < length items.now) (λ e. e ≡ e) }
+fn read_term(alloc: Global, items: &[Item]) -> Option<(Option<Tree>, &[Item])>
+    ensures read { MatchOption result (HasNoTerm items.now) (λ p. Reads items.now p.0 p.1.now) }
+    ensures shorter { IfSome result (λ p. length p.1.now < length items.now) }
 {
-    let Some((first, rest)) = first(items) else {
-        return Err(TreeFault::Items);
-    };
+    let (first, rest) = first(items)?;
     match first {
         Item::Int(i) => {
             if i == i128::MIN {
-                Err(TreeFault::Items)
+                None
             } else {
-                Ok((Tree::Int(i), rest))
+                Some((Some(Tree::Int(i)), rest))
             }
         }
-        Item::Atom(k) => Ok((Tree::Atom(k), rest)),
-        Item::Pid(n) => Ok((Tree::Pid(n), rest)),
-        Item::Nil => Ok((Tree::Nil, rest)),
-        Item::Cons => match read_term(alloc, rest) {
-            Ok((head, rest)) => match read_term(alloc, rest) {
-                Ok((tail, rest)) => match cons(alloc, head, tail) {
-                    Ok(tree) => Ok((tree, rest)),
-                    Err(fault) => Err(fault),
-                },
-                Err(fault) => Err(fault),
-            },
-            Err(fault) => Err(fault),
-        },
-        Item::Tuple(n) => match read_parts(alloc, n, rest) {
-            Ok((parts, rest)) => Ok((Tree::Tuple(parts), rest)),
-            Err(fault) => Err(fault),
-        },
+        Item::Atom(k) => Some((Some(Tree::Atom(k)), rest)),
+        Item::Pid(n) => Some((Some(Tree::Pid(n)), rest)),
+        Item::Nil => Some((Some(Tree::Nil), rest)),
+        Item::Cons => {
+            let (head, rest) = read_term(alloc, rest)?;
+            let (tail, rest) = read_term(alloc, rest)?;
+            Some((cons(alloc, head, tail), rest))
+        }
+        Item::Tuple(n) => {
+            let (parts, rest) = read_parts(alloc, n, rest)?;
+            Some((tuple(parts), rest))
+        }
         Item::Bin(n) => {
-            if n > 64 {
-                return Err(TreeFault::Items);
+            if n > HEAP_BINARY {
+                return None;
             }
-            match read_bytes(alloc, n, rest) {
-                Ok((bytes, rest)) => Ok((Tree::Bin(bytes), rest)),
-                Err(fault) => Err(fault),
-            }
+            let (bytes, rest) = read_bytes(alloc, n, rest)?;
+            Some((binary(bytes), rest))
         }
-        Item::Map(_) | Item::Byte(_) | Item::Held(_) => Err(TreeFault::Items),
+        Item::Map(_) | Item::Byte(_) | Item::Held(_) => None,
     }
 }
 
 // The next `n` terms, and the items after them.
 #[cycle(reading)]
-fn read_parts(alloc: Global, n: u64, items: &[Item]) -> Result<(Items<Tree>, &[Item]), TreeFault>
-    ensures read { MatchResult result (λ p. BeginAll items.now n (trees_of (map view p.0)) p.1.now) (λ e. ExplainsParts items.now n e) }
-    ensures shorter { MatchResult result (λ p. length p.1.now ≤ length items.now) (λ e. e ≡ e) }
+fn read_parts(alloc: Global, n: u64, items: &[Item]) -> Option<(Option<Items<Tree>>, &[Item])>
+    ensures read { MatchOption result (HasNoParts items.now n) (λ p. ReadsAll items.now n p.0 p.1.now) }
+    ensures shorter { IfSome result (λ p. length p.1.now ≤ length items.now) }
 {
-    let mut parts = Items::new(alloc);
+    let mut parts = Some(Items::new(alloc));
     let mut rest = items;
     for _i in 0..n {
-        match read_term(alloc, rest) {
-            Ok((part, after)) => {
-                if parts.push(part).is_err() {
-                    return Err(TreeFault::Memory);
-                }
-                rest = after;
-            }
-            Err(fault) => return Err(fault),
-        }
+        let (part, after) = read_term(alloc, rest)?;
+        parts = with_part(parts, part);
+        rest = after;
     }
-    Ok((parts, rest))
+    Some((parts, rest))
 }
 
 // The next `n` bytes, and the items after them.
-fn read_bytes(alloc: Global, n: u64, items: &[Item]) -> Result<(Items<u8>, &[Item]), TreeFault>
-    ensures read { MatchResult result (λ p. BeginBytes items.now n p.0 p.1.now) (λ e. ExplainsBytes items.now n e) }
-    ensures shorter { MatchResult result (λ p. length p.1.now ≤ length items.now) (λ e. e ≡ e) }
+fn read_bytes(alloc: Global, n: u64, items: &[Item]) -> Option<(Option<Items<u8>>, &[Item])>
+    ensures read { MatchOption result (HasNoBytes items.now n) (λ p. ReadsBytes items.now n p.0 p.1.now) }
+    ensures shorter { IfSome result (λ p. length p.1.now ≤ length items.now) }
 {
-    let mut bytes = Items::new(alloc);
+    let mut bytes = Some(Items::new(alloc));
     let mut rest = items;
     for _i in 0..n {
-        match first_byte(rest) {
-            Some((byte, after)) => {
-                if bytes.push(byte).is_err() {
-                    return Err(TreeFault::Memory);
-                }
-                rest = after;
-            }
-            None => return Err(TreeFault::Items),
-        }
+        let (byte, after) = first_byte(rest)?;
+        bytes = with_byte(bytes, byte);
+        rest = after;
     }
-    Ok((bytes, rest))
+    Some((bytes, rest))
 }
 
 // The first item and the others.
@@ -146,15 +132,43 @@ fn first_byte(items: &[Item]) -> Option<(u8, &[Item])>
     }
 }
 
-// A list place, where memory is left for its two parts.
-fn cons(alloc: Global, head: Tree, tail: Tree) -> Result<Tree, TreeFault>
-    ensures { MatchResult result (λ t. view t ≡ plain_cons (view head) (view tail)) (λ e. e ≡ Memory) }
+// A list place of two terms, where both are built and memory is left for it.
+fn cons(alloc: Global, head: Option<Tree>, tail: Option<Tree>) -> Option<Tree>
+    ensures { (h t : plain.Tree) → IsOf head h → IsOf tail t → IsOf result (plain_cons h t) }
 {
-    match Boxed::new(alloc, head) {
-        Ok(head) => match Boxed::new(alloc, tail) {
-            Ok(tail) => Ok(Tree::Cons(head, tail)),
-            Err(_) => Err(TreeFault::Memory),
-        },
-        Err(_) => Err(TreeFault::Memory),
-    }
+    let head = Boxed::new(alloc, head?).ok()?;
+    let tail = Boxed::new(alloc, tail?).ok()?;
+    Some(Tree::Cons(head, tail))
+}
+
+// A tuple of parts that are built.
+fn tuple(parts: Option<Items<Tree>>) -> Option<Tree>
+    ensures { (ts : Trees) → AreOf parts ts → IsOf result (plain_tuple ts) }
+{
+    Some(Tree::Tuple(parts?))
+}
+
+// A binary of bytes that are kept.
+fn binary(bytes: Option<Items<u8>>) -> Option<Tree>
+    ensures { (bs : List ℕ) → IfSome bytes (λ xs. xs ≡ bs) → IsOf result (plain_bin bs) }
+{
+    Some(Tree::Bin(bytes?))
+}
+
+// One part more, where all are built and memory is left for it.
+fn with_part(parts: Option<Items<Tree>>, part: Option<Tree>) -> Option<Items<Tree>>
+    ensures { (ts : Trees) (t : plain.Tree) → AreOf parts ts → IsOf part t → AreOf result (trees_append ts (t ▹ end)) }
+{
+    let mut parts = parts?;
+    parts.push(part?).ok()?;
+    Some(parts)
+}
+
+// One byte more, where all are kept and memory is left for it.
+fn with_byte(bytes: Option<Items<u8>>, byte: u8) -> Option<Items<u8>>
+    ensures { (bs : List ℕ) → IfSome bytes (λ xs. xs ≡ bs) → IfSome result (λ xs. xs ≡ bs ++ byte ∷ []) }
+{
+    let mut bytes = bytes?;
+    bytes.push(byte).ok()?;
+    Some(bytes)
 }

@@ -3,5 +3,5 @@ use Rattle.plain_term.proofs.SharedLemmas.{nodes_any}
 use Rattle.plain_term.specs.View.{view}
 use Rattle.plain_term.proofs.measures.nodes.Goals as goal
 
-pub returns : goal.returns
-returns c = λ shared whole. omega (arith, c.count_nodes.ensures, nodes_any shared (view c.args.t.now) whole)
+pub returns-clause-exact : goal.returns-clause-exact
+returns-clause-exact c = λ shared whole. omega (arith, c.count_nodes.ensures, nodes_any shared (view c.args.t.now) whole)

@@ -1,29 +1,36 @@
-use Rattle.std.proofs.Common.{rules, arith, ◌≡◌, ◌+◌, List, [], ◌∷◌, ◌++◌, map, sym, ap, subst, ◌∙◌}
-use Rattle.plain_term.specs.View.{view, trees_of}
-use Rattle.plain_term.specs.Written.{BeginAll, ExplainsFront}
-use Rattle.plain_term.specs.declared.item.Item.{Item}
-use Rattle.plain_term.specs.declared.tree.Tree.{Tree}
-use Rattle.plain_term.proofs.WrittenLemmas.{no_part, no_tail, begin_more}
+use Rattle.std.proofs.Common.{◌∷◌, ◌≤◌, ap, ◌∙◌, arith}
+use Rattle.plain_term.specs.declared.reading.TheConstants.{HEAP_BINARY}
+use Rattle.plain_term.proofs.WrittenLemmas.{no_part, no_tail, reads_more, reads_cons, reads_bin}
 use Rattle.plain_term.proofs.reading.+reading.Goals as goal
 
-pub read_parts-returns-in-Err-clause-read : goal.read_parts-returns-in-Err-clause-read
-read_parts-returns-in-Err-clause-read t c =
-    no_part c.args.items.now c.loop-i._i c.args.n (trees_of (map view c.loop-i.parts)) c.loop-i.rest.now c.in-Err.fault c.loop-i.invariant.begin c.loop-i-test.true c.in-Err.ensures.read
+pub read_parts-returns-in_err-part-clause-read : goal.read_parts-returns-in_err-part-clause-read
+read_parts-returns-in_err-part-clause-read t c =
+    let done = c.loop-i.invariant.read in
+    rw c.from_residual.ensures (no_part c.args.items.now c.loop-i._i c.args.n done.terms c.loop-i.rest.now done.begin c.loop-i-test.true c.in_err-part.ensures.read)
 
 pub read_parts-loop-i-preserved : goal.read_parts-loop-i-preserved
-read_parts-loop-i-preserved t c =
-    let pushed : c.push.new.self ≡ c.loop-i.parts ++ c.in-Ok.part ∷ [] = search rules in
-    let Begin : List Tree → Type 0 = λ ts. BeginAll c.args.items.now (c.loop-i._i + 1) (trees_of (map view ts)) c.in-Ok.after.now in
-    record {
-      begin = subst Begin (sym pushed)
-          (begin_more c.args.items.now c.loop-i._i c.loop-i.parts c.loop-i.rest.now c.in-Ok.part c.in-Ok.after.now c.loop-i.invariant.begin c.in-Ok.ensures.read);
-      shorter = omega (arith, c.in-Ok.ensures.shorter, c.loop-i.invariant.shorter);
-    }
+read_parts-loop-i-preserved t c = record {
+  read = reads_more c.args.items.now c.loop-i._i c.loop-i.parts c.with_part-parts.result c.loop-i.rest.now c.in_ok-part.part c.in_ok-part.after.now c.loop-i.invariant.read c.in_ok-part.ensures.read c.with_part-parts.ensures;
+  shorter = omega (arith, c.in_ok-part.ensures.shorter, c.loop-i.invariant.shorter);
+}
 
-pub read_term-returns-in-Err-read_term-clause-read :
-    goal.read_term-returns-in-Err-read_term-clause-read
-read_term-returns-in-Err-read_term-clause-read t c =
-    let Front : List Item → Type 0 = λ xs. ExplainsFront xs c.in-Err-read_term.fault in
-    let begins = c.in-Some.ensures in
-    subst Front (sym (begins ∙ ap (λ x. x ∷ c.in-Some.rest.now) c.in-Cons.is))
-    (no_tail c.in-Some.rest.now (view c.in-Ok.head) c.in-Ok.rest.now c.in-Err-read_term.fault c.in-Ok.ensures.read c.in-Err-read_term.ensures.read)
+pub read_term-returns-in_err-tail-in-Cons-clause-read : goal.read_term-returns-in_err-tail-in-Cons-clause-read
+read_term-returns-in_err-tail-in-Cons-clause-read t c =
+    let head = c.in_ok-head-in-Cons.ensures.read in
+    let begins = c.in_ok-first.ensures in
+    rw c.from_residual-in_err-tail-in-Cons.ensures (rw begins (rw c.in-Cons.is (no_tail c.in_ok-first.rest.now head.term c.in_ok-head-in-Cons.rest.now head.begins c.in_err-tail-in-Cons.ensures.read)))
+
+pub read_term-returns-in_ok-tail-in-Cons-clause-read : goal.read_term-returns-in_ok-tail-in-Cons-clause-read
+read_term-returns-in_ok-tail-in-Cons-clause-read t c =
+    let begins = c.in_ok-first.ensures ∙ ap (λ x. x ∷ c.in_ok-first.rest.now) c.in-Cons.is in
+    let head = c.in_ok-head-in-Cons in
+    let tail = c.in_ok-tail-in-Cons in
+    reads_cons c.args.items.now c.in_ok-first.rest.now head.head head.rest.now tail.tail c.cons.result tail.rest.now begins head.ensures.read tail.ensures.read c.cons.ensures
+
+pub read_term-returns-in_ok-bytes-in-Bin-clause-read : goal.read_term-returns-in_ok-bytes-in-Bin-clause-read
+read_term-returns-in_ok-bytes-in-Bin-clause-read t c =
+    let n = c.in-Bin.n in
+    let begins = c.in_ok-first.ensures ∙ ap (λ x. x ∷ c.in_ok-first.rest.now) c.in-Bin.is in
+    let few : n ≤ HEAP_BINARY = omega (arith, c.if-n-gt-HEAP_BINARY.false) in
+    let bytes = c.in_ok-bytes-in-Bin in
+    reads_bin c.args.items.now c.in_ok-first.rest.now n bytes.bytes c.binary.result bytes.rest.now begins few bytes.ensures.read c.binary.ensures
