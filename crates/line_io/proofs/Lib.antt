@@ -6,3 +6,4 @@ pub mod Cutting
 pub mod Found
 pub mod Steps
 pub mod Loop
+pub mod Summing

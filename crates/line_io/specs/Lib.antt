@@ -5,3 +5,5 @@ pub mod Lines
 pub mod Reader
 pub mod Memory
 pub mod Gathered
+pub mod Summary
+pub mod SumSink

@@ -11,6 +11,7 @@ mod sink;
 mod source;
 mod std_sink;
 mod std_source;
+mod sum_sink;
 mod sure_source;
 
 pub use fault::OpenFault;
@@ -22,6 +23,7 @@ pub use sink::{Sink, SinkFault, Took, put_all};
 pub use source::{Got, Source};
 pub use std_sink::StdSink;
 pub use std_source::StdSource;
+pub use sum_sink::{SumSink, Summary};
 pub use sure_source::SureSource;
 
 #[cfg(test)]
