@@ -7,7 +7,7 @@ use Rattle.plain_term.specs.Tree.Trees.{end, ◌▹◌}
 use Rattle.term_words.specs.Object.{IsPointer, object_words}
 use Rattle.term_words.specs.Reach.{Reach, root, part, first_traced, parts_of}
 use Rattle.term_words.specs.Stands.{RowStands, AllStand}
-use Rattle.term_words.proofs.Apart.{words-pair}
+use Rattle.term_words.proofs.Apart.{words-cons}
 use Rattle.term_words.proofs.Reached.{scanned, IsScanned}
 use Rattle.cheney.specs.Plan.{Plan, Ready, Reached, Leaves, In, total, size}
 use Rattle.cheney.specs.Moved.{forward}
@@ -124,7 +124,7 @@ module _ (mem : List ℕ) where
   none-left (v ∷ vs) r = absurd (nothing v (r v (inl refl)))
 
   words-some : (w : ℕ) → IsPointer w → 0 < object_words mem w
-  words-some w (inl tag) = omega (arith, words-pair mem w tag)
+  words-some w (inl tag) = omega (arith, words-cons mem w tag)
   words-some w (inr tag) = let one : (w % 4 == 1) ≡ false = grind (arith, nat_tests) in rw one (omega arith)
 
   -- A bound on the work that is left goes down with each word.

@@ -6,7 +6,7 @@ use Rattle.term_words.specs.Object.{IsPointer}
 use Rattle.term_words.specs.Role.{OfObject}
 use Rattle.term_words.specs.Stands.{Stands}
 use Rattle.term_words.proofs.Apart.{objects-apart, whole, head-no-header, header-there}
-use Rattle.term_words.proofs.Inside.{pair-inside, boxed-inside}
+use Rattle.term_words.proofs.Inside.{cons-inside, boxed-inside}
 use Rattle.term_words.proofs.Reached.{reached, scanned}
 use Rattle.term_words.proofs.Roles.{object-role}
 use Rattle.term_words.proofs.Rooms.{is-term}
@@ -48,7 +48,7 @@ module _ (p : Plan) (y : Ready p) where
   stands-there v r = reached p.test p.shared p.start p.roots p.trees y.standing v r
 
   lies-inside : (v : ℕ) → Reached p v → IsPointer v → v / 4 + size p v ≤ length p.start
-  lies-inside v r (inl tag) = let (t, s) = stands-there v r in omega (arith, size-cons p v tag, pair-inside p.start v (is-term p.test p.shared p.start v t s) tag)
+  lies-inside v r (inl tag) = let (t, s) = stands-there v r in omega (arith, size-cons p v tag, cons-inside p.start v (is-term p.test p.shared p.start v t s) tag)
   lies-inside v r (inr tag) = let (t, s) = stands-there v r in omega (arith, size-boxed p v tag, boxed-inside p.start v (is-term p.test p.shared p.start v t s) tag)
 
   role-there : (v q : ℕ) → Reached p v → IsPointer v → IsIn p v q → (k : ℕ) × (OfObject k × (p.test q k ≡ true))

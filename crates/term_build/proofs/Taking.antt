@@ -1,10 +1,12 @@
 -- Words are taken for an object under any test: what stood stands still, and the object stands.
-use Rattle.std.proofs.Common.{◌≡◌, ℕ, zero, suc, ◌+◌, ◌-◌, ◌*◌, ◌<◌, ◌≤◌, ◌⊎◌, Bool, true, List, [], ◌∷◌, length, get_or, refl, sym, ◌∙◌, subst, arith, inl, inr, nat_le, nat_lt}
+use Rattle.std.proofs.Common.{◌≡◌, ℕ, zero, suc, ◌+◌, ◌-◌, ◌<◌, ◌≤◌, ◌⊎◌, Bool, true, List, [], ◌∷◌, length, get_or, refl, sym, ◌∙◌, subst, arith, inl, inr, nat_le, nat_lt}
 use Rattle.std.proofs.lemmas.Bool.Decides.{nat_tests}
 use Rattle.word_mem.specs.declared.ranges.Room.{Room}
 use Rattle.plain_term.specs.Tree.{Tree, Trees, trees_len}
 use Rattle.plain_term.specs.Tree.Tree.{Cons, Tuple}
-use Rattle.term_words.specs.Role.{IsSingle}
+use Rattle.term_tags.specs.Words.{list_word, boxed_word, head_word}
+use Rattle.term_tags.specs.declared.layouts.TheConstants.{TUPLE, MOST_PARTS}
+use Rattle.term_words.specs.Role.{FIRST, FURTHER, IsSingle}
 use Rattle.term_words.specs.Stands.{Stands, AllStand}
 use Rattle.term_words.specs.Kept.{Kept, Keeps}
 use Rattle.term_words.proofs.Makes.{stands-cons, stands-tuple, row-of-all, all-length}
@@ -30,21 +32,21 @@ taken-kept roles c d n old new mem mem2 u t =
     let kept : Kept c d mem mem2 = record { longer = omega (arith, u.same_len); weaker = t.more; same = λ a k content h. u.others a (t.free a k h) } in
     frame c d mem mem2 kept
 
-plain-after : (j : ℕ) → 0 < j → plain j ≡ 4
+plain-after : (j : ℕ) → 0 < j → plain j ≡ FURTHER
 plain-after zero some = absurd (omega arith)
 plain-after (suc j) some = grind (arith, nat_tests)
 
 -- What the test allows at the taken words but the first.
-pub taken-other : (c d : ℕ → ℕ → Bool) (top n q : ℕ) → Taken plain c d top n → top < q → q < top + n → d q 4 ≡ true
+pub taken-other : (c d : ℕ → ℕ → Bool) (top n q : ℕ) → Taken plain c d top n → top < q → q < top + n → d q FURTHER ≡ true
 taken-other c d top n q t above below =
     let P : ℕ → Type 0 = λ k. d q k ≡ true in
     subst P (plain-after (q - top) (omega arith)) (t.new (q - top) q (omega arith) (omega arith))
 
-pub taken-first : (c d : ℕ → ℕ → Bool) (top n : ℕ) → Taken plain c d top n → 0 < n → d top 3 ≡ true
+pub taken-first : (c d : ℕ → ℕ → Bool) (top n : ℕ) → Taken plain c d top n → 0 < n → d top FIRST ≡ true
 taken-first c d top n t some = t.new 0 top some (omega arith)
 
 -- A cons at the taken words.
-pub cons-made : (c d : ℕ → ℕ → Bool) (top : ℕ) (old new : List ℕ) (h t r : ℕ) → top + 2 ≤ length new → Lie new top (h ∷ t ∷ []) → r ≡ top * 4 + 1 → Taken plain c d top 2 → Keeps c d old new
+pub cons-made : (c d : ℕ → ℕ → Bool) (top : ℕ) (old new : List ℕ) (h t r : ℕ) → top + 2 ≤ length new → Lie new top (h ∷ t ∷ []) → r ≡ list_word top → Taken plain c d top 2 → Keeps c d old new
     → (shared : List (List ℕ)) (a b : Tree) → Stands c shared old h a → Stands c shared old t b → Stands d shared new r (Cons a b)
 cons-made c d top old new h t r inside lie is taken k shared a b sa sb =
     let P : ℕ → Type 0 = λ x. Stands d shared new x a in
@@ -54,12 +56,12 @@ cons-made c d top old new h t r inside lie is taken k shared a b sa sb =
     (subst Q (sym (lie.each 1 (top + 1) (omega arith) refl)) (k.each shared t b sb))
 
 -- A tuple at the taken words.
-pub tuple-made : (c d : ℕ → ℕ → Bool) (top n : ℕ) (old new parts : List ℕ) (r : ℕ) → n ≡ length parts → n ≤ 65536 → top + (1 + n) ≤ length new → Lie new top (n * 64 ∷ parts) → r ≡ top * 4 + 2
+pub tuple-made : (c d : ℕ → ℕ → Bool) (top n : ℕ) (old new parts : List ℕ) (r : ℕ) → n ≡ length parts → n ≤ MOST_PARTS → top + (1 + n) ≤ length new → Lie new top (head_word TUPLE n ∷ parts) → r ≡ boxed_word top
     → Taken plain c d top (1 + n) → Keeps c d old new → (shared : List (List ℕ)) (ts : Trees) → AllStand c shared old parts ts → Stands d shared new r (Tuple ts)
 tuple-made c d top n old new parts r count few inside lie is taken k shared ts all =
     let moved : AllStand d shared new parts ts = keep-all c d old new k shared parts ts all in
     let same : length parts ≡ trees_len ts = all-length d shared new parts ts moved in
-    let head : get_or new top 0 ≡ n * 64 = lie.each 0 top (omega arith) (omega arith) in
+    let head : get_or new top 0 ≡ head_word TUPLE n = lie.each 0 top (omega arith) (omega arith) in
     stands-tuple d shared new r top ts is (omega arith) (omega arith) (omega arith)
     (taken-first c d top (1 + n) taken (omega arith))
     (λ q above below. taken-other c d top (1 + n) q taken above (omega arith))

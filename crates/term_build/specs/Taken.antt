@@ -1,9 +1,10 @@
 -- Words that are taken for a new object, under any test of places and roles.
 use Rattle.std.specs.Prelude.{◌≡◌, ℕ, ◌+◌, ◌-◌, ◌<◌, ◌≤◌, ◌⊎◌, ◌==◌, ◌&&◌, nat_le, nat_lt, if◌then◌else◌, Bool, true, List, length, slice_index}
+use Rattle.term_words.specs.Role.{FIRST, FURTHER}
 
 -- The roles of an object's words, by the number of the word: the first, and all others.
 abbrev pub plain : ℕ → ℕ
-plain j = if j == 0 then 3 else 4
+plain j = if j == 0 then FIRST else FURTHER
 
 -- The n words from place `top` on have no role by the test c, and these roles by the test d, which allows no less.
 pub record Taken (roles : ℕ → ℕ) (c d : ℕ → ℕ → Bool) (top n : ℕ) : Type 0 where

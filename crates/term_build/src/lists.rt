@@ -1,4 +1,5 @@
 ghost use Rattle.std.specs.Prelude.{◌≡◌, ℕ, ◌+◌, ◌*◌, ◌≤◌, Bool, List, [], ◌∷◌};
+ghost use Rattle.term_tags.specs.Words.{list_word};
 ghost use Rattle.plain_term.specs.Tree.{Tree};
 ghost use Rattle.plain_term.specs.Tree.Tree.{Cons};
 ghost use Rattle.term_words.specs.Stands.{Stands};
@@ -9,12 +10,12 @@ ghost use Rattle.term_build.specs.Clear.{IsRoom, Clear, KeepsClear, Uses};
 use term_tags::list_at;
 use word_mem::{Room, WordMem};
 
-/// A list place of two words.
+/// A cons of two words.
 pub fn cons(mem: &mut WordMem, room: &mut Room, h: u64, t: u64) -> u64
     requires places { IsRoom room.old mem.old }
     requires words { room.old.top + 2 ≤ room.old.end }
     ensures uses { Uses 2 room.old room.new mem.old mem.new }
-    ensures place { result ≡ room.old.top * 4 + 1 }
+    ensures place { result ≡ list_word room.old.top }
     ensures words { Lie mem.new room.old.top (h ∷ t ∷ []) }
     ensures made { (c d : ℕ → ℕ → Bool) (shared : List (List ℕ)) (a b : Tree) → Taken plain c d room.old.top 2
         → Stands c shared mem.old h a → Stands c shared mem.old t b → Stands d shared mem.new result (Cons a b) }

@@ -19,7 +19,7 @@ fn a_tuple_with_a_list_is_built(rt: HostRuntime) {
     assert_eq!(rt; list, 1);
     assert_eq!(rt; word, 10);
     assert_eq!(rt; room.top, 5);
-    // the list place, then the header with arity 2 and the two parts
+    // the cons, then the header with arity 2 and the two parts
     for (at, want) in [47, 59, 128, 31, 1].into_iter().enumerate() {
         assert_eq!(rt; mem.get(at as u64), want);
     }

@@ -1,4 +1,6 @@
 ghost use Rattle.std.specs.Prelude.{◌≡◌, ℕ, ◌+◌, ◌*◌, ◌<◌, ◌≤◌, ◌⊎◌, Bool, List, ◌∷◌, length, slice_index};
+ghost use Rattle.term_tags.specs.Words.{boxed_word, head_word};
+ghost use Rattle.term_tags.specs.declared.layouts.TheConstants.{MOST_PARTS};
 ghost use Rattle.plain_term.specs.Tree.{Trees};
 ghost use Rattle.plain_term.specs.Tree.Tree.{Tuple};
 ghost use Rattle.term_words.specs.Stands.{Stands, AllStand};
@@ -12,11 +14,11 @@ use word_mem::{Room, WordMem};
 /// A tuple of a header and one word for each part.
 pub fn tuple(mem: &mut WordMem, room: &mut Room, parts: &[u64]) -> u64
     requires places { IsRoom room.old mem.old }
-    requires few { length parts.now ≤ 65536 }
+    requires few { length parts.now ≤ MOST_PARTS }
     requires words { room.old.top + (1 + length parts.now) ≤ room.old.end }
     ensures uses { Uses (1 + length parts.now) room.old room.new mem.old mem.new }
-    ensures place { result ≡ room.old.top * 4 + 2 }
-    ensures words { Lie mem.new room.old.top (length parts.now * 64 ∷ parts.now) }
+    ensures place { result ≡ boxed_word room.old.top }
+    ensures words { Lie mem.new room.old.top (head_word TUPLE (length parts.now) ∷ parts.now) }
     ensures made { (c d : ℕ → ℕ → Bool) (shared : List (List ℕ)) (ts : Trees) → Taken plain c d room.old.top (1 + length parts.now)
         → AllStand c shared mem.old parts.now ts → Stands d shared mem.new result (Tuple ts) }
     ensures kept { (roles : ℕ → ℕ) (c d : ℕ → ℕ → Bool) → Taken roles c d room.old.top (1 + length parts.now) → Keeps c d mem.old mem.new }

@@ -4,7 +4,7 @@ use Rattle.term_tags.specs.Kinds.{Reads}
 use Rattle.term_tags.specs.declared.kinds.Kind.{Kind}
 use Rattle.term_tags.specs.declared.kinds.Kind.TheVariants.{ListAt, BoxedAt}
 use Rattle.term_words.specs.Stands.{IsTerm}
-use Rattle.term_words.proofs.Inside.{pair-inside, boxed-inside}
+use Rattle.term_words.proofs.Inside.{cons-inside, boxed-inside}
 
 list-read : (w p : ℕ) → Reads w (ListAt p) → (w % 4 ≡ 1) × (p ≡ w / 4)
 list-read w p r = (omega arith, omega arith)
@@ -21,7 +21,7 @@ boxed-kind w p k r e = let P : Kind → Type 0 = λ x. Reads w x in boxed-read w
 -- A pointer that stands is in the range of pointers.
 
 pub list-near : (mem : List ℕ) (w : ℕ) → IsTerm mem w → length mem ≤ 2 ^ 24 → w % 4 ≡ 1 → w < 2 ^ 26
-list-near mem w i most tag = omega (arith, pair-inside mem w i tag)
+list-near mem w i most tag = omega (arith, cons-inside mem w i tag)
 
 pub boxed-near : (mem : List ℕ) (w : ℕ) → IsTerm mem w → length mem ≤ 2 ^ 24 → w % 4 ≡ 2 → w < 2 ^ 26
 boxed-near mem w i most tag = omega (arith, boxed-inside mem w i tag)

@@ -17,12 +17,12 @@ abbrev pub place_of : Trees → ℕ → Option Tree
 place_of ts zero = None
 place_of ts (suc i) = part_at ts i
 
--- The head of a list place.
+-- The head of a cons.
 abbrev pub head_of : Tree → Option Tree
 head_of (Cons h t) = Some h
 head_of _ = None
 
--- The tail of a list place.
+-- The tail of a cons.
 abbrev pub tail_of : Tree → Option Tree
 tail_of (Cons h t) = Some t
 tail_of _ = None

@@ -1,4 +1,4 @@
-// The parts of list places.
+// The parts of a cons.
 ghost use Rattle.std.specs.Prelude.{◌≡◌, ◌+◌, ◌/◌, slice_index, IfSome};
 ghost use Rattle.term_words.specs.Stands.{IsTerm};
 ghost use Rattle.term_read.specs.Parts.{Reads, head_of, tail_of};
@@ -6,7 +6,7 @@ ghost use Rattle.term_read.specs.Parts.{Reads, head_of, tail_of};
 use crate::object::cons_at;
 use word_mem::WordMem;
 
-/// The word of the head, or `None` where the tree is no list place.
+/// The word of the head, or `None` where the tree is no cons.
 pub fn hd(mem: &WordMem, w: u64) -> Option<u64>
     requires { IsTerm mem.now w }
     ensures reads { Reads head_of mem.now w result }
@@ -17,7 +17,7 @@ pub fn hd(mem: &WordMem, w: u64) -> Option<u64>
     Some(mem.get(place))
 }
 
-/// The word of the tail, or `None` where the tree is no list place.
+/// The word of the tail, or `None` where the tree is no cons.
 pub fn tl(mem: &WordMem, w: u64) -> Option<u64>
     requires { IsTerm mem.now w }
     ensures reads { Reads tail_of mem.now w result }

@@ -8,7 +8,7 @@ use word_mem::{OpenFault, WordMem};
 // An object of each kind, after the place of its first word; the place of word p * 4 + 1 or + 2 is p.
 const WORDS: [u64; 51] = [
     0,
-    // 1: the list place [1]
+    // 1: the list [1]
     31,
     59,
     // 3: a tuple of an atom and the list

@@ -3,7 +3,8 @@ use Rattle.std.proofs.Common.{◌≡◌, ℕ, ◌+◌, ◌-◌, ◌%◌, ◌/◌
 use Rattle.std.proofs.lemmas.Bool.Decides.{nat_tests}
 use Rattle.term_tags.specs.declared.layouts.Layout.{Layout}
 use Rattle.term_tags.specs.declared.layouts.TheConstants.{TUPLE, POS_BIG, NEG_BIG, REF, FUN, HOLDER, HEAP_BIN, SUB_BIN, MAP}
-use Rattle.term_tags.specs.Table.{row_layout, layout_at, layout_for, head_word, shape, IsRow}
+use Rattle.term_tags.specs.Table.{row_layout, layout_at, layout_for, shape, IsRow}
+use Rattle.term_tags.specs.Words.{head_word}
 
 by_parts : (h s n : ℕ) → h % 4 ≡ 0 → h / 4 % 16 ≡ s → h / 64 ≡ n → layout_for h ≡ layout_at s n
 by_parts h s n tag sub arity = rw (tag, sub, arity) refl

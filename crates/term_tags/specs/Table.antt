@@ -1,7 +1,7 @@
 -- The table of layouts: every object is its header and as many words as its arity says.
-use Rattle.std.specs.Prelude.{◌≡◌, ℕ, ◌+◌, ◌-◌, ◌*◌, ◌/◌, ◌%◌, ◌≤◌, ◌⊎◌, ◌==◌, ◌&&◌, nat_le, if◌then◌else◌, Option, Some, None}
+use Rattle.std.specs.Prelude.{◌≡◌, ℕ, ◌+◌, ◌-◌, ◌/◌, ◌%◌, ◌≤◌, ◌⊎◌, ◌==◌, ◌&&◌, nat_le, if◌then◌else◌, Option, Some, None}
 use Rattle.term_tags.specs.declared.layouts.Layout.{Layout}
-use Rattle.term_tags.specs.declared.layouts.TheConstants.{TUPLE, POS_BIG, NEG_BIG, REF, FUN, HOLDER, HEAP_BIN, SUB_BIN, MAP}
+use Rattle.term_tags.specs.declared.layouts.TheConstants.{TUPLE, POS_BIG, NEG_BIG, REF, FUN, HOLDER, HEAP_BIN, SUB_BIN, MAP, MOST_PARTS, MOST_ENV, MOST_HEAP_BYTES, MOST_KEYS}
 
 -- an object of this arity, which lies between two bounds, with its words traced from one on to its end
 abbrev pub row_layout : (arity least most first : ℕ) → Option Layout
@@ -12,24 +12,20 @@ row_layout arity least most first =
 -- object's end where none is traced
 abbrev pub layout_at : (subtag arity : ℕ) → Option Layout
 layout_at subtag arity =
-    if subtag == TUPLE then row_layout arity 0 65536 1
+    if subtag == TUPLE then row_layout arity 0 MOST_PARTS 1
     else if subtag == POS_BIG then row_layout arity 1 2 (1 + arity)
     else if subtag == NEG_BIG then row_layout arity 1 2 (1 + arity)
     else if subtag == REF then row_layout arity 2 2 3
-    else if subtag == FUN then row_layout arity 5 69 6
+    else if subtag == FUN then row_layout arity 5 (5 + MOST_ENV) 6
     else if subtag == HOLDER then row_layout arity 5 5 6
-    else if subtag == HEAP_BIN then row_layout arity 1 9 (1 + arity)
+    else if subtag == HEAP_BIN then row_layout arity 1 (1 + MOST_HEAP_BYTES / 8) (1 + arity)
     else if subtag == SUB_BIN then row_layout arity 4 4 4
-    else if subtag == MAP then row_layout arity 2 34 2
+    else if subtag == MAP then row_layout arity 2 (2 + MOST_KEYS) 2
     else None
 
 -- the layout of a header; a word that does not end in 00 is none
 abbrev pub layout_for : ℕ → Option Layout
 layout_for header = if header % 4 == 0 then layout_at (header / 4 % 16) (header / 64) else None
-
--- the word of a header
-abbrev pub head_word : (subtag arity : ℕ) → ℕ
-head_word subtag arity = arity * 64 + subtag * 4
 
 -- a layout by its three numbers
 abbrev pub shape : (words first count : ℕ) → Option Layout
@@ -41,5 +37,5 @@ IsIn row least most subtag arity = (subtag ≡ row) × (least ≤ arity) × (ari
 
 -- the subtag and the arity are those of an object
 abbrev pub IsRow : (subtag arity : ℕ) → Type 0
-IsRow s n = IsIn TUPLE 0 65536 s n ⊎ (IsIn POS_BIG 1 2 s n ⊎ (IsIn NEG_BIG 1 2 s n ⊎ (IsIn REF 2 2 s n
-    ⊎ (IsIn FUN 5 69 s n ⊎ (IsIn HOLDER 5 5 s n ⊎ (IsIn HEAP_BIN 1 9 s n ⊎ (IsIn SUB_BIN 4 4 s n ⊎ IsIn MAP 2 34 s n)))))))
+IsRow s n = IsIn TUPLE 0 MOST_PARTS s n ⊎ (IsIn POS_BIG 1 2 s n ⊎ (IsIn NEG_BIG 1 2 s n ⊎ (IsIn REF 2 2 s n
+    ⊎ (IsIn FUN 5 (5 + MOST_ENV) s n ⊎ (IsIn HOLDER 5 5 s n ⊎ (IsIn HEAP_BIN 1 (1 + MOST_HEAP_BYTES / 8) s n ⊎ (IsIn SUB_BIN 4 4 s n ⊎ IsIn MAP 2 (2 + MOST_KEYS) s n)))))))

@@ -4,15 +4,25 @@ ghost use Rattle.term_tags.specs.Words.{small_of_bits, small_value};
 ghost use Rattle.term_tags.specs.Kinds.{InRange, word_of, Reads};
 ghost use Rattle.term_tags.specs.declared.kinds.Kind.{Kind as AnyKind};
 
-// How many places a pointer can name, how many arities a header can have, how many process numbers there are, and how
-// many names the table of atoms can hold.
-const PLACES: u64 = 16777216;
+/// How many places a pointer can name.
+pub const PLACES: u64 = 1 << 24;
 
-const ARITIES: u64 = 16777216;
+/// How many arities a header can have, and how many subtags.
+pub const ARITIES: u64 = 1 << 24;
 
-const PIDS: u64 = 2199023255552;
+pub const SUBTAGS: u64 = 16;
 
-const ATOMS: u64 = 16384;
+/// How many process numbers there are.
+pub const PIDS: u64 = 1 << 41;
+
+/// How many names the table of atoms can hold.
+pub const ATOMS: u64 = 16384;
+
+/// The word of the empty list.
+pub const NIL: u64 = 59;
+
+/// How many small integers there are, half of them negative.
+pub const SMALLS: i64 = 1 << 60;
 
 /// The kinds of words. A pointer has the place that it leads to, a header its subtag and its arity, and `Other` is every
 /// word that no maker gives.
@@ -36,7 +46,7 @@ pub fn kind_of(w: u64) -> Kind
     ensures small { w % 16 ≡ 15 → result ≡ Kind.Small (small_value w) }
     ensures pid { w % 16 ≡ 3 → w < 2 ^ 45 → result ≡ Kind.Pid (w / 16) }
     ensures atom { w % 64 ≡ 11 → w < 2 ^ 20 → result ≡ Kind.Atom (w / 64) }
-    ensures nil { w ≡ 59 → result ≡ Kind.Nil }
+    ensures nil { w ≡ NIL → result ≡ Kind.Nil }
     ensures list { w % 4 ≡ 1 → w < 2 ^ 26 → result ≡ Kind.ListAt (w / 4) }
     ensures boxed { w % 4 ≡ 2 → w < 2 ^ 26 → result ≡ Kind.BoxedAt (w / 4) }
     ensures header { w % 4 ≡ 0 → w < 2 ^ 30 → result ≡ Kind.Header (w / 4 % 16) (w / 64) }
@@ -68,14 +78,14 @@ fn immediate_of(w: u64) -> Kind
     ensures small { w % 16 ≡ 15 → result ≡ Kind.Small (small_value w) }
     ensures pid { w % 16 ≡ 3 → result ≡ (if nat_lt w (2 ^ 45) then Kind.Pid (w / 16) else Kind.Other) }
     ensures atom { w % 64 ≡ 11 → result ≡ (if nat_lt w (2 ^ 20) then Kind.Atom (w / 64) else Kind.Other) }
-    ensures nil { w ≡ 59 → result ≡ Kind.Nil }
-    ensures other { w % 16 ≢ 15 → w % 16 ≢ 3 → w % 64 ≢ 11 → w ≢ 59 → result ≡ Kind.Other }
+    ensures nil { w ≡ NIL → result ≡ Kind.Nil }
+    ensures other { w % 16 ≢ 15 → w % 16 ≢ 3 → w % 64 ≢ 11 → w ≢ NIL → result ≡ Kind.Other }
 {
     match w % 16 {
         15 => Kind::Small(value_of(w / 16)),
         3 if w / 16 < PIDS => Kind::Pid(w / 16),
         11 if w % 64 == 11 && w / 64 < ATOMS => Kind::Atom(w / 64),
-        11 if w == 59 => Kind::Nil,
+        11 if w == NIL => Kind::Nil,
         _ => Kind::Other,
     }
 }
@@ -85,9 +95,9 @@ fn value_of(bits: u64) -> i64
     requires { bits < 2 ^ 60 }
     ensures { result ≡ small_of_bits bits }
 {
-    if bits < 576460752303423488 {
+    if bits < 1 << 59 {
         bits as i64
     } else {
-        bits as i64 - 1152921504606846976
+        bits as i64 - SMALLS
     }
 }

@@ -2,8 +2,7 @@
 ghost use Rattle.std.specs.Prelude.{◌≡◌, ◌+◌, ◌/◌, ◌%◌, ◌≤◌, IfSome};
 ghost use Rattle.term_tags.specs.Table.{layout_for, row_layout};
 
-/// The subtag of a tuple of n parts: header, then the parts. Arity n, at most 65,536 (this project, as all numbers
-/// of subtags).
+/// The subtag of a tuple of n parts: header, then the parts. Arity n (this project, as all numbers of subtags).
 pub const TUPLE: u8 = 0;
 /// The subtag of a positive big integer: header, one or two digits of 64 bits, the least first. Arity 1 or 2.
 pub const POS_BIG: u8 = 2;
@@ -12,17 +11,26 @@ pub const NEG_BIG: u8 = 3;
 /// The subtag of a reference: header, process number, its number in that process. Arity 2.
 pub const REF: u8 = 4;
 /// The subtag of a fun of k environment words: header, record place, next, arity, k, creator's pid word, the
-/// environment. Header arity k + 5, k at most 64.
+/// environment. Header arity k + 5.
 pub const FUN: u8 = 5;
 /// The subtag of a holder: header, size in bytes, next, record place, bytes, flags. Arity 5.
 pub const HOLDER: u8 = 8;
 /// The subtag of a binary on the heap: header, size in bytes, its bytes in words. Arity 1 and the number of those
-/// words, at most 8.
+/// words.
 pub const HEAP_BIN: u8 = 9;
 /// The subtag of a sub binary: header, size, offset, bit word, the boxed original. Arity 4.
 pub const SUB_BIN: u8 = 10;
-/// The subtag of a flat map of n keys: header, n, the boxed tuple of keys, n values. Arity n + 2, n at most 32.
+/// The subtag of a flat map of n keys: header, n, the boxed tuple of keys, n values. Arity n + 2.
 pub const MAP: u8 = 15;
+
+/// The most parts of a tuple.
+pub const MOST_PARTS: u64 = 65536;
+/// The most environment words of a fun.
+pub const MOST_ENV: u64 = 64;
+/// The most bytes of a binary on the heap.
+pub const MOST_HEAP_BYTES: u64 = 64;
+/// The most keys of a flat map.
+pub const MOST_KEYS: u64 = 32;
 
 /// The shape of an object, in words: its size with the header, and its traced words, which are its last `count` words,
 /// from the word `first` on. Where no word is traced, `first` is the size.
@@ -43,21 +51,21 @@ pub fn layout_of(header: u64) -> Option<Layout>
     }
     let arity = header / 64;
     match (header / 4 % 16) as u8 {
-        TUPLE => row(arity, 0, 65536, 1),
+        TUPLE => row(arity, 0, MOST_PARTS, 1),
         POS_BIG | NEG_BIG => row(arity, 1, 2, 1 + arity),
         REF => row(arity, 2, 2, 3),
-        FUN => row(arity, 5, 69, 6),
+        FUN => row(arity, 5, 5 + MOST_ENV, 6),
         HOLDER => row(arity, 5, 5, 6),
-        HEAP_BIN => row(arity, 1, 9, 1 + arity),
+        HEAP_BIN => row(arity, 1, 1 + MOST_HEAP_BYTES / 8, 1 + arity),
         SUB_BIN => row(arity, 4, 4, 4),
-        MAP => row(arity, 2, 34, 2),
+        MAP => row(arity, 2, 2 + MOST_KEYS, 2),
         _ => None,
     }
 }
 
 // The layout of an object whose arity lies between two bounds, and whose words are traced from `first` on.
 fn row(arity: u64, least: u64, most: u64, first: u64) -> Option<Layout>
-    requires bound { most ≤ 65536 }
+    requires bound { most ≤ MOST_PARTS }
     requires traced { least ≤ arity → first ≤ 1 + arity }
     ensures { result ≡ row_layout arity least most first }
 {

@@ -1,16 +1,19 @@
-// The words of terms: tags, headers, and the layout of the object behind a header.
+//! The words of terms: tags, headers, and the layout of the object behind a header.
 #![tactic(auto)]
 
 mod kinds;
 mod laws;
 mod layouts;
 mod makers;
+mod records;
 #[cfg(test)]
 mod tests;
 
-pub use kinds::{Kind, kind_of};
+pub use kinds::{ATOMS, Kind, PIDS, PLACES, kind_of};
 pub use laws::table_of_layouts;
 pub use layouts::{
-    FUN, HEAP_BIN, HOLDER, Layout, MAP, NEG_BIG, POS_BIG, REF, SUB_BIN, TUPLE, layout_of,
+    FUN, HEAP_BIN, HOLDER, Layout, MAP, MOST_ENV, MOST_HEAP_BYTES, MOST_KEYS, MOST_PARTS, NEG_BIG,
+    POS_BIG, REF, SUB_BIN, TUPLE, layout_of,
 };
 pub use makers::{atom, boxed_at, head_of, list_at, nil, pid, small};
+pub use records::{BIN_RECORD, FUN_RECORD};

@@ -97,8 +97,8 @@ whole-fun_record c mem v name arity single o = record {
 
 -- The size of an object is read from its pointer's tag and its header.
 
-pub words-pair : (mem : List ℕ) (w : ℕ) → w % 4 ≡ 1 → object_words mem w ≡ 2
-words-pair mem w tag = grind (arith, nat_tests)
+pub words-cons : (mem : List ℕ) (w : ℕ) → w % 4 ≡ 1 → object_words mem w ≡ 2
+words-cons mem w tag = grind (arith, nat_tests)
 
 pub words-boxed : (mem : List ℕ) (w arity low : ℕ) → w % 4 ≡ 2 → get_or mem (w / 4) 0 ≡ arity * 64 + low → low < 64 → object_words mem w ≡ 1 + arity
 words-boxed mem w arity low tag header small =
@@ -122,7 +122,7 @@ whole-int c mem w (negsuc n) single (inr (inr o)) tag = whole-boxed c mem w 3 2 
 -- What a pointer that stands leads to is whole.
 pub whole : (c : ℕ → ℕ → Bool) (shared : List (List ℕ)) (mem : List ℕ) (w : ℕ) (t : Tree) → IsSingle c → Stands c shared mem w t → IsPointer w → IsWhole c 3 (w / 4) (object_words mem w)
 unfolding Stands
-whole c shared mem w (Cons h t) single (o, sh, st) p = at-size c 3 (w / 4) 2 (object_words mem w) (words-pair mem w o.tag) (whole-object c mem (w / 4) 2 single o.object)
+whole c shared mem w (Cons h t) single (o, sh, st) p = at-size c 3 (w / 4) 2 (object_words mem w) (words-cons mem w o.tag) (whole-object c mem (w / 4) 2 single o.object)
 whole c shared mem w (Int i) single s p = whole-int c mem w i single s (elim (told c shared mem w (Int i) s) [ inl low ↦ omega (arith, p) | inr big ↦ big.0 ])
 whole c shared mem w (Ref n k) single s p = whole-boxed c mem w 4 2 single (omega arith) s.boxed
 whole c shared mem w (Tuple ts) single (o, row) p = whole-boxed c mem w 0 (trees_len ts) single (omega arith) o.boxed

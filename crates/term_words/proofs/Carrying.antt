@@ -7,7 +7,7 @@ use Rattle.term_words.specs.Object.{IsObject, IsPointer, object_words}
 use Rattle.term_words.specs.Stands.{Stands, AllStand}
 use Rattle.term_words.specs.Kept.{Carried}
 use Rattle.term_words.specs.Reach.{Reach, root, part, first_of, first_traced}
-use Rattle.term_words.proofs.Apart.{words-pair, words-boxed}
+use Rattle.term_words.proofs.Apart.{words-cons, words-boxed}
 use Rattle.term_words.proofs.Reached.{scanned, reached}
 use Rattle.term_words.proofs.Roles.{first-role}
 
@@ -20,7 +20,7 @@ in-object c mem p n q o from below =
 traced-role : (c : ℕ → ℕ → Bool) (shared : List (List ℕ)) (mem : List ℕ) (w : ℕ) (t : Tree) (k : ℕ) → Stands c shared mem w t → IsPointer w → first_traced mem w ≤ k → k < object_words mem w
     → (c (w / 4 + k) 3 ≡ true) ⊎ (c (w / 4 + k) 4 ≡ true)
 unfolding Stands
-traced-role c shared mem w (Cons h t) k (o, sh, st) p from below = in-object c mem (w / 4) 2 (w / 4 + k) o.object (omega arith) (omega (arith, words-pair mem w o.tag))
+traced-role c shared mem w (Cons h t) k (o, sh, st) p from below = in-object c mem (w / 4) 2 (w / 4 + k) o.object (omega arith) (omega (arith, words-cons mem w o.tag))
 traced-role c shared mem w (Tuple ts) k (o, row) p from below =
     in-object c mem (w / 4) _ (w / 4 + k) o.boxed.object (omega arith) (omega (arith, words-boxed mem w _ 0 o.boxed.tag o.boxed.header (omega arith)))
 traced-role c shared mem w (Map ps) k (o, ks, vs) p from below =

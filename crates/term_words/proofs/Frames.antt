@@ -6,7 +6,7 @@ use Rattle.plain_term.specs.Tree.{Tree, Trees, Pairs, trees_len, pairs_len}
 use Rattle.plain_term.specs.Tree.Tree.{Int, Atom, Pid, Ref, Nil, Cons, Tuple, Map, Bin, Shared, Part, Fun}
 use Rattle.plain_term.specs.Tree.Trees.{end, ◌▹◌}
 use Rattle.plain_term.specs.Tree.Pairs.{stop, pair}
-use Rattle.term_words.specs.Object.{byte_of, IsObject, IsPair, IsBoxed, IsInt, IsRef, IsTuple, IsMap, IsHeapBin, IsBinRecord, IsFunRecord, IsHolder, IsFun, IsShared, IsSub, sign_tag}
+use Rattle.term_words.specs.Object.{byte_of, IsObject, IsCons, IsBoxed, IsInt, IsRef, IsTuple, IsMap, IsHeapBin, IsBinRecord, IsFunRecord, IsHolder, IsFun, IsShared, IsSub, sign_tag}
 use Rattle.term_words.specs.Stands.{Stands, RowStands, KeysStand, ValuesStand, AllStand}
 use Rattle.term_words.specs.Kept.{Kept, Carried, Keeps}
 
@@ -20,8 +20,8 @@ module _ (c d : ℕ → ℕ → Bool) (old new : List ℕ) (k : Carried c d old 
     others = λ q above below. k.others q (o.others q above below);
   }
 
-  pair-carried : (w : ℕ) → IsPair c old w → IsPair d new w
-  pair-carried w o = record { tag = o.tag; object = object-carried (w / 4) 2 o.object }
+  cons-carried : (w : ℕ) → IsCons c old w → IsCons d new w
+  cons-carried w o = record { tag = o.tag; object = object-carried (w / 4) 2 o.object }
 
   boxed-carried : (w subtag arity : ℕ) → IsBoxed c old w subtag arity → IsBoxed d new w subtag arity
   boxed-carried w subtag arity o = record {
@@ -148,7 +148,7 @@ module _ (c d : ℕ → ℕ → Bool) (old new : List ℕ) (k : Carried c d old 
         let tail : get_or old (w / 4 + 1) 0 ≡ get_or new (w / 4 + 1) 0 = sym (word-carried (w / 4) 2 (w / 4 + 1) o.object (omega arith) (omega arith)) in
         let P : ℕ → Type 0 = λ x. Stands d shared new x h in
         let Q : ℕ → Type 0 = λ x. Stands d shared new x t in
-        (pair-carried w o, subst P head (carry shared (get_or old (w / 4) 0) h sh), subst Q tail (carry shared (get_or old (w / 4 + 1) 0) t st))
+        (cons-carried w o, subst P head (carry shared (get_or old (w / 4) 0) h sh), subst Q tail (carry shared (get_or old (w / 4 + 1) 0) t st))
     carry shared w (Tuple ts) (o, row) =
         (tuple-carried w (trees_len ts) o, carry-row shared (w / 4 + 1) ts row (λ q from below. word-carried (w / 4) (1 + trees_len ts) q o.boxed.object (omega arith) (omega arith)))
     carry shared w (Map ps) (o, ks, vs) =

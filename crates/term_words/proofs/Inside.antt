@@ -7,14 +7,14 @@ use Rattle.term_words.specs.Stands.{Stands, IsTerm}
 use Rattle.term_words.specs.Role.{always}
 use Rattle.term_words.proofs.Shapes.{told}
 
-pair-within : (c : ℕ → ℕ → Bool) (shared : List (List ℕ)) (mem : List ℕ) (w : ℕ) (t : Tree) → Stands c shared mem w t → w % 4 ≡ 1 → w / 4 + 2 ≤ length mem
+cons-within : (c : ℕ → ℕ → Bool) (shared : List (List ℕ)) (mem : List ℕ) (w : ℕ) (t : Tree) → Stands c shared mem w t → w % 4 ≡ 1 → w / 4 + 2 ≤ length mem
 unfolding Stands
-pair-within c shared mem w (Cons h t) (o, sh, st) tag = o.object.within
-pair-within c shared mem w t s tag = absurd (omega (arith, told c shared mem w t s))
+cons-within c shared mem w (Cons h t) (o, sh, st) tag = o.object.within
+cons-within c shared mem w t s tag = absurd (omega (arith, told c shared mem w t s))
 
 -- A list pointer leads to two words of the memory.
-pub pair-inside : (mem : List ℕ) (w : ℕ) → IsTerm mem w → w % 4 ≡ 1 → w / 4 + 2 ≤ length mem
-pair-inside mem w i tag = pair-within always i.shared mem w i.tree i.standing tag
+pub cons-inside : (mem : List ℕ) (w : ℕ) → IsTerm mem w → w % 4 ≡ 1 → w / 4 + 2 ≤ length mem
+cons-inside mem w i tag = cons-within always i.shared mem w i.tree i.standing tag
 
 int-within : (c : ℕ → ℕ → Bool) (mem : List ℕ) (w : ℕ) (i : ℤ) → IsInt c mem w i → w % 4 ≡ 2 → w / 4 + (1 + get_or mem (w / 4) 0 / 64) ≤ length mem
 int-within c mem w i (inl s) tag = absurd (omega arith)

@@ -4,7 +4,7 @@ use Rattle.plain_term.specs.Measures.{is_small}
 use Rattle.plain_term.specs.Tree.{Tree, Trees, trees_len}
 use Rattle.plain_term.specs.Tree.Tree.{Int, Atom, Pid, Nil, Cons, Tuple}
 use Rattle.plain_term.specs.Tree.Trees.{end, ◌▹◌}
-use Rattle.term_words.specs.Object.{IsObject, IsPair, IsBoxed}
+use Rattle.term_words.specs.Object.{IsObject, IsCons, IsBoxed}
 use Rattle.term_tags.specs.Words.{small_word}
 use Rattle.term_words.specs.Stands.{Stands, RowStands, AllStand}
 
@@ -28,7 +28,7 @@ stands-small c shared mem w i s e = inl (record { small = s; word = e })
 
 -- A pair and a tuple, by the place of the object.
 
-pub pair-at : (c : ℕ → ℕ → Bool) (mem : List ℕ) (w p : ℕ) → w ≡ p * 4 + 1 → p + 2 ≤ length mem → c p 3 ≡ true → c (p + 1) 4 ≡ true → IsPair c mem w
+pub pair-at : (c : ℕ → ℕ → Bool) (mem : List ℕ) (w p : ℕ) → w ≡ p * 4 + 1 → p + 2 ≤ length mem → c p 3 ≡ true → c (p + 1) 4 ≡ true → IsCons c mem w
 pair-at c mem w p e l f s =
     let same : p ≡ w / 4 = omega arith in
     let P : ℕ → Type 0 = λ x. IsObject c mem x 2 in

@@ -12,7 +12,7 @@ use Rattle.term_words.specs.Object.{IsTuple, IsInt, IsPointer, object_words}
 use Rattle.term_words.specs.Stands.{Stands, RowStands, AllStand}
 use Rattle.term_words.specs.Reach.{first_of, first_traced, parts_of, Reach, root, part}
 use Rattle.term_words.proofs.Makes.{all-length}
-use Rattle.term_words.proofs.Apart.{words-pair, words-boxed}
+use Rattle.term_words.proofs.Apart.{words-cons, words-boxed}
 use Rattle.term_words.proofs.Pairs.{keys-row, values-row, keys-len, values-len}
 use Rattle.term_words.proofs.Sizes.{flat-one, flat-two}
 use Rattle.term_words.proofs.Shapes.{row-at, all-at, tree_at}
@@ -43,8 +43,8 @@ boxed-traced mem w subtag arity least most first tag header small row low high =
     let read : Option Layout → ℕ = λ l. first_of l (object_words mem w) in
     ap pick two ∙ ap read (layout-parts (get_or mem (w / 4) 0) arity subtag small header ∙ row) ∙ row-traced arity least most first (object_words mem w) low high
 
-pair-traced : (mem : List ℕ) (w : ℕ) → w % 4 ≡ 1 → first_traced mem w ≡ 0
-pair-traced mem w tag = grind (arith, nat_tests)
+cons-traced : (mem : List ℕ) (w : ℕ) → w % 4 ≡ 1 → first_traced mem w ≡ 0
+cons-traced mem w tag = grind (arith, nat_tests)
 
 -- An object's traced words stand for the parts of its tree, and are its last.
 
@@ -92,8 +92,8 @@ leaf c shared mem w t none first size =
 pub scanned : (c : ℕ → ℕ → Bool) (shared : List (List ℕ)) (mem : List ℕ) (w : ℕ) (t : Tree) → Stands c shared mem w t → IsPointer w → IsScanned c shared mem w t
 unfolding Stands RowStands
 scanned c shared mem w (Cons h t) (o, sh, st) p =
-    let first : first_traced mem w ≡ 0 = pair-traced mem w o.tag in
-    let words : object_words mem w ≡ 2 = words-pair mem w o.tag in
+    let first : first_traced mem w ≡ 0 = cons-traced mem w o.tag in
+    let words : object_words mem w ≡ 2 = words-cons mem w o.tag in
     record { row = at-row c shared mem (w / 4) (w / 4 + first_traced mem w) (h ▹ t ▹ end) (omega arith) (sh, (st, tt)); ends = omega arith; left = omega arith }
 scanned c shared mem w (Tuple ts) (o, row) p =
     let first : first_traced mem w ≡ 1 = boxed-traced mem w 0 (trees_len ts) 0 65536 1 o.boxed.tag o.boxed.header (omega arith) refl (omega arith) o.range in

@@ -7,7 +7,7 @@ use Rattle.plain_term.specs.Measures.{bin_words}
 use Rattle.term_words.specs.Role.{IsSingle, OfObject, OfRecord}
 use Rattle.term_words.specs.Object.{IsObject, IsBoxed, IsInt, IsRecord, IsPointer, object_words}
 use Rattle.term_words.specs.Stands.{Stands}
-use Rattle.term_words.proofs.Apart.{IsWhole, whole-apart, whole-bin, whole-fun_record, at-size, words-pair, words-boxed}
+use Rattle.term_words.proofs.Apart.{IsWhole, whole-apart, whole-bin, whole-fun_record, at-size, words-cons, words-boxed}
 
 -- A place given by its number has the role that is known there.
 at-place : (c : ℕ → ℕ → Bool) (q a k : ℕ) → OfObject k → c a k ≡ true → q ≡ a → (r : ℕ) × (OfObject r × (c q r ≡ true))
@@ -35,7 +35,7 @@ pub object-role : (c : ℕ → ℕ → Bool) (shared : List (List ℕ)) (mem : L
 unfolding Stands
 object-role c shared mem w (Int i) q s p from below = role-int c mem w i q s p from below
 object-role c shared mem w (Ref n k) q s p from below = role-boxed c mem w 4 2 q (omega arith) s.boxed from below
-object-role c shared mem w (Cons h t) q (o, sh, st) p from below = role-of c mem (w / 4) 2 q o.object from (omega (arith, words-pair mem w o.tag))
+object-role c shared mem w (Cons h t) q (o, sh, st) p from below = role-of c mem (w / 4) 2 q o.object from (omega (arith, words-cons mem w o.tag))
 object-role c shared mem w (Tuple ts) q (o, row) p from below = role-boxed c mem w 0 (trees_len ts) q (omega arith) o.boxed from below
 object-role c shared mem w (Map ps) q (o, ks, vs) p from below = role-boxed c mem w 15 (pairs_len ps + 2) q (omega arith) o.boxed from below
 object-role c shared mem w (Bin bytes) q o p from below = role-boxed c mem w 9 (1 + bin_words (length bytes)) q (omega arith) o.boxed from below

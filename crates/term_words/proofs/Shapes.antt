@@ -4,7 +4,7 @@ use Rattle.plain_term.specs.Bytes.{bytes_of}
 use Rattle.plain_term.specs.Tree.{Tree, Trees, Pairs, trees_len, pairs_len}
 use Rattle.plain_term.specs.Tree.Tree.{Int, Atom, Pid, Ref, Nil, Cons, Tuple, Map, Bin, Shared, Part, Fun}
 use Rattle.plain_term.specs.Tree.Trees.{end, ◌▹◌}
-use Rattle.term_words.specs.Object.{IsPair, IsAtom, IsPid, IsInt, IsRef, IsTuple, IsMap, IsHeapBin, IsFun, IsShared, IsSub, sign_tag}
+use Rattle.term_words.specs.Object.{IsCons, IsAtom, IsPid, IsInt, IsRef, IsTuple, IsMap, IsHeapBin, IsFun, IsShared, IsSub, sign_tag}
 use Rattle.term_words.specs.Stands.{Stands, RowStands, KeysStand, ValuesStand, AllStand, IsBase}
 
 module _ (c : ℕ → ℕ → Bool) (shared : List (List ℕ)) (mem : List ℕ) (w : ℕ) where
@@ -31,7 +31,7 @@ module _ (c : ℕ → ℕ → Bool) (shared : List (List ℕ)) (mem : List ℕ) 
   un-nil s = s
 
   pub un-cons : (h t : Tree) → Stands c shared mem w (Cons h t)
-      → IsPair c mem w × Stands c shared mem (get_or mem (w / 4) 0) h × Stands c shared mem (get_or mem (w / 4 + 1) 0) t
+      → IsCons c mem w × Stands c shared mem (get_or mem (w / 4) 0) h × Stands c shared mem (get_or mem (w / 4 + 1) 0) t
   unfolding Stands
   un-cons h t s = s
 

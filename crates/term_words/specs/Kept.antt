@@ -1,6 +1,7 @@
 -- What keeps trees standing while the memory changes.
 use Rattle.std.specs.Prelude.{◌≡◌, ℕ, ◌≤◌, Bool, true, List, length, slice_index}
 use Rattle.plain_term.specs.Tree.{Tree}
+use Rattle.term_words.specs.Role.{NEXT, FIRST, FURTHER, NAMES, IsContent}
 use Rattle.term_words.specs.Stands.{Stands}
 use Rattle.term_words.specs.Object.{IsBinRecord, IsFunRecord}
 
@@ -12,17 +13,17 @@ pub record Keeps (c d : ℕ → ℕ → Bool) (old new : List ℕ) : Type 0 wher
 pub record Kept (c d : ℕ → ℕ → Bool) (old new : List ℕ) : Type 0 where
   pub longer : length old ≤ length new
   pub weaker : (a k : ℕ) → c a k ≡ true → d a k ≡ true
-  pub same : (a k : ℕ) → 3 ≤ k → c a k ≡ true → slice_index new a ≡ slice_index old a
+  pub same : (a k : ℕ) → IsContent k → c a k ≡ true → slice_index new a ≡ slice_index old a
 
 -- The words of objects are the same; what names a record names one with the same content, though
 -- perhaps at another place.
 pub record Carried (c d : ℕ → ℕ → Bool) (old new : List ℕ) : Type 0 where
   pub longer : length old ≤ length new
-  pub nexts : (a : ℕ) → c a 1 ≡ true → d a 1 ≡ true
-  pub firsts : (a : ℕ) → c a 3 ≡ true → d a 3 ≡ true
-  pub first_same : (a : ℕ) → c a 3 ≡ true → slice_index new a ≡ slice_index old a
-  pub others : (a : ℕ) → c a 4 ≡ true → d a 4 ≡ true
-  pub other_same : (a : ℕ) → c a 4 ≡ true → slice_index new a ≡ slice_index old a
-  pub names : (a : ℕ) → c a 5 ≡ true → d a 5 ≡ true
-  pub bins : (a serial : ℕ) (bytes : List ℕ) → c a 5 ≡ true → IsBinRecord c old (slice_index old a) serial bytes → IsBinRecord d new (slice_index new a) serial bytes
-  pub funs : (a name arity : ℕ) → c a 5 ≡ true → IsFunRecord c old (slice_index old a) name arity → IsFunRecord d new (slice_index new a) name arity
+  pub nexts : (a : ℕ) → c a NEXT ≡ true → d a NEXT ≡ true
+  pub firsts : (a : ℕ) → c a FIRST ≡ true → d a FIRST ≡ true
+  pub first_same : (a : ℕ) → c a FIRST ≡ true → slice_index new a ≡ slice_index old a
+  pub others : (a : ℕ) → c a FURTHER ≡ true → d a FURTHER ≡ true
+  pub other_same : (a : ℕ) → c a FURTHER ≡ true → slice_index new a ≡ slice_index old a
+  pub names : (a : ℕ) → c a NAMES ≡ true → d a NAMES ≡ true
+  pub bins : (a serial : ℕ) (bytes : List ℕ) → c a NAMES ≡ true → IsBinRecord c old (slice_index old a) serial bytes → IsBinRecord d new (slice_index new a) serial bytes
+  pub funs : (a name arity : ℕ) → c a NAMES ≡ true → IsFunRecord c old (slice_index old a) name arity → IsFunRecord d new (slice_index new a) name arity

@@ -1,8 +1,45 @@
--- A test says of a place and a role whether the word at that place may have that role. Roles are
--- numbers: 1 the word `next` of a holder or fun, 2 the count of a record, 3 the first word of an
--- object, 4 another word of an object, 5 the word that names a record, 6 a word of a record, 8 the
--- first word of a record. Roles 1 and 2 may change under standing trees; 3 and above are content.
+-- A test says of a place and a role whether the word at that place may have that role.
 use Rattle.std.specs.Prelude.{◌≡◌, ℕ, ◌≤◌, ◌⊎◌, Bool, true, ◌||◌, ◌&&◌, ◌==◌, nat_lt, nat_le}
+
+-- The role of the word `next` of a holder or a fun.
+abbrev pub NEXT : ℕ
+NEXT = 1
+
+-- The role of the count of a record.
+abbrev pub COUNT : ℕ
+COUNT = 2
+
+-- The role of the first word of an object.
+abbrev pub FIRST : ℕ
+FIRST = 3
+
+-- The role of another word of an object.
+abbrev pub FURTHER : ℕ
+FURTHER = 4
+
+-- The role of the word that names a record.
+abbrev pub NAMES : ℕ
+NAMES = 5
+
+-- The role of a word of a record, other than its first and its count.
+abbrev pub RECORD : ℕ
+RECORD = 6
+
+-- The role of the first word of a record.
+abbrev pub RECORD_FIRST : ℕ
+RECORD_FIRST = 8
+
+-- Words of these roles do not change under standing trees; the words `next` and the counts may.
+abbrev pub IsContent : ℕ → Type 0
+IsContent k = FIRST ≤ k
+
+-- The roles of the words of objects.
+abbrev pub OfObject : ℕ → Type 0
+OfObject k = (k ≡ NEXT) ⊎ ((FIRST ≤ k) × (k ≤ NAMES))
+
+-- The roles of the words of records.
+abbrev pub OfRecord : ℕ → Type 0
+OfRecord k = (k ≡ COUNT) ⊎ ((k ≡ RECORD) ⊎ (k ≡ RECORD_FIRST))
 
 -- Every word may have every role.
 abbrev pub always : ℕ → ℕ → Bool
@@ -20,14 +57,6 @@ roles_of r a k = nat_lt 0 k && r a == k
 pub record IsSingle (c : ℕ → ℕ → Bool) : Type 0 where
   pub one : (a j k : ℕ) → c a j ≡ true → c a k ≡ true → j ≡ k
 
--- The roles of the words of objects.
-abbrev pub OfObject : ℕ → Type 0
-OfObject k = (k ≡ 1) ⊎ ((3 ≤ k) × (k ≤ 5))
-
--- The roles of the words of records.
-abbrev pub OfRecord : ℕ → Type 0
-OfRecord k = (k ≡ 2) ⊎ ((k ≡ 6) ⊎ (k ≡ 8))
-
 -- No content lies at place a.
 abbrev pub Idle : (ℕ → ℕ → Bool) → ℕ → Type 0
-Idle c a = (k : ℕ) → 3 ≤ k → c a k ≡ true → ⊥
+Idle c a = (k : ℕ) → IsContent k → c a k ≡ true → ⊥

@@ -5,8 +5,9 @@ use Rattle.plain_term.specs.Tree.Tree.{Int, Atom, Pid, Ref, Nil, Cons, Tuple, Ma
 use Rattle.plain_term.specs.Tree.Trees.{end, ◌▹◌}
 use Rattle.plain_term.specs.Tree.Pairs.{stop, pair}
 use Rattle.plain_term.specs.Bytes.{bytes_of}
+use Rattle.term_tags.specs.declared.kinds.TheConstants.{NIL}
 use Rattle.term_words.specs.Role.{always}
-use Rattle.term_words.specs.Object.{IsPair, IsAtom, IsPid, IsInt, IsRef, IsTuple, IsMap, IsHeapBin, IsFun, IsShared, IsSub}
+use Rattle.term_words.specs.Object.{IsCons, IsAtom, IsPid, IsInt, IsRef, IsTuple, IsMap, IsHeapBin, IsFun, IsShared, IsSub}
 
 -- The original of a part is a binary of its own.
 abbrev pub IsBase : Tree → Type 0
@@ -21,8 +22,8 @@ unfoldable mutual
   Stands c shared mem w (Atom k) = IsAtom w k
   Stands c shared mem w (Pid n) = IsPid w n
   Stands c shared mem w (Ref n k) = IsRef c mem w n k
-  Stands c shared mem w Nil = w ≡ 59
-  Stands c shared mem w (Cons h t) = IsPair c mem w × Stands c shared mem (slice_index mem (w / 4)) h × Stands c shared mem (slice_index mem (w / 4 + 1)) t
+  Stands c shared mem w Nil = w ≡ NIL
+  Stands c shared mem w (Cons h t) = IsCons c mem w × Stands c shared mem (slice_index mem (w / 4)) h × Stands c shared mem (slice_index mem (w / 4 + 1)) t
   Stands c shared mem w (Tuple ts) = IsTuple c mem w (trees_len ts) × RowStands c shared mem (w / 4 + 1) ts
   Stands c shared mem w (Map ps) = IsMap c mem w (pairs_len ps) × KeysStand c shared mem (slice_index mem (w / 4 + 2) / 4 + 1) ps × ValuesStand c shared mem (w / 4 + 3) ps
   Stands c shared mem w (Bin bytes) = IsHeapBin c mem w bytes
@@ -52,7 +53,8 @@ AllStand c shared mem (w ∷ ws) (t ▹ ts) = Stands c shared mem w t × AllStan
 AllStand c shared mem [] (t ▹ ts) = ⊥
 AllStand c shared mem (w ∷ ws) end = ⊥
 
--- The word stands for the tree, wherever its objects and records lie.
+-- The word stands for the tree, wherever its objects and records lie. Objects may have words in common by it: a list
+-- pointer to the middle of a tuple stands for a cons of two of its parts. One role a place rules that out.
 abbrev pub stands : List (List ℕ) → List ℕ → ℕ → Tree → Type 0
 stands shared mem w t = Stands always shared mem w t
 

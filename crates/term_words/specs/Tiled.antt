@@ -3,11 +3,13 @@
 use Rattle.std.specs.Prelude.{◌≡◌, ℕ, ◌+◌, ◌/◌, ◌%◌, ◌≤◌, ◌⊎◌, ◌==◌, if◌then◌else◌, List, [], ◌∷◌, slice_index, Some}
 use Rattle.term_tags.specs.Table.{layout_for}
 use Rattle.term_tags.specs.declared.layouts.Layout.{Layout}
+use Rattle.term_tags.specs.Words.{record_word}
+use Rattle.term_tags.specs.declared.records.TheConstants.{BIN_RECORD, FUN_RECORD}
 use Rattle.term_words.specs.Object.{object_words}
 
--- The header of a record: 4 words at least, and 6 for the bytes of a binary; 4 words, and 7 for a fun.
+-- The header of a record: 4 words at least for the bytes of a binary, 4 for a fun.
 abbrev pub IsRecordHeader : ℕ → Type 0
-IsRecordHeader h = ((4 ≤ h / 16) × (h % 16 ≡ 6)) ⊎ (h ≡ 71)
+IsRecordHeader h = ((4 ≤ h / 16) × (h % 16 ≡ BIN_RECORD)) ⊎ (h ≡ record_word FUN_RECORD 4)
 
 -- The words of what a tile names.
 abbrev pub tile_words : List ℕ → ℕ → ℕ

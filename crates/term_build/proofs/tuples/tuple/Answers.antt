@@ -1,5 +1,7 @@
-use Rattle.std.proofs.Common.{rules, arith, ◌+◌, ◌*◌, length, refl}
+use Rattle.std.proofs.Common.{rules, arith, ◌+◌, length, refl}
 use Rattle.std.proofs.lemmas.Grind.{common_steps}
+use Rattle.term_tags.specs.Words.{head_word}
+use Rattle.term_tags.specs.declared.layouts.TheConstants.{TUPLE}
 use Rattle.term_words.specs.Role.{outside}
 use Rattle.term_words.specs.Stands.{Stands}
 use Rattle.plain_term.specs.Tree.Tree.{Tuple}
@@ -19,7 +21,7 @@ returns-clause-uses c = record {
 
 pub returns-clause-words : goal.returns-clause-words
 returns-clause-words c =
-    lie-first c.put_row.new.mem c.args.room.now.top (length c.args.parts.now * 64) c.args.parts.now (grind (arith, common_steps, c.put_row.ensures.others c.args.room.now.top))
+    lie-first c.put_row.new.mem c.args.room.now.top (head_word TUPLE (length c.args.parts.now)) c.args.parts.now (grind (arith, common_steps, c.put_row.ensures.others c.args.room.now.top))
     (record { each = λ j q below e. c.put_row.ensures.row q j below e })
 
 pub returns-clause-kept : goal.returns-clause-kept
