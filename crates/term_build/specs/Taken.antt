@@ -6,9 +6,13 @@ use Rattle.term_words.specs.Role.{FIRST, FURTHER}
 abbrev pub plain : ℕ → ℕ
 plain j = if j == 0 then FIRST else FURTHER
 
+-- No word from one place up to another has a role.
+abbrev pub IsFree : (ℕ → ℕ → Bool) → (from to : ℕ) → Type 0
+IsFree c from to = (a k : ℕ) → c a k ≡ true → (a < from) ⊎ (to ≤ a)
+
 -- The n words from place `top` on have no role by the test c, and these roles by the test d, which allows no less.
 pub record Taken (roles : ℕ → ℕ) (c d : ℕ → ℕ → Bool) (top n : ℕ) : Type 0 where
-  pub free : (a k : ℕ) → c a k ≡ true → (a < top) ⊎ (top + n ≤ a)
+  pub free : IsFree c top (top + n)
   pub more : (a k : ℕ) → c a k ≡ true → d a k ≡ true
   pub new : (j q : ℕ) → j < n → q ≡ top + j → d q (roles j) ≡ true
 

@@ -7,6 +7,6 @@ mod lists;
 mod tests;
 mod tuples;
 
-pub use laws::taken_words_keep_one_role;
+pub use laws::{roles_grow_one_after_the_other, taken_words_keep_one_role};
 pub use lists::cons;
 pub use tuples::tuple;

@@ -5,7 +5,8 @@ ghost use Rattle.plain_term.specs.Tree.{Trees};
 ghost use Rattle.plain_term.specs.Tree.Tree.{Tuple};
 ghost use Rattle.term_words.specs.Stands.{Stands, AllStand};
 ghost use Rattle.term_words.specs.Kept.{Keeps};
-ghost use Rattle.term_build.specs.Taken.{Taken, Lie, plain};
+ghost use Rattle.term_build.specs.Taken.{Taken, IsFree, Lie, plain};
+ghost use Rattle.term_build.specs.Grows.{Built};
 ghost use Rattle.term_build.specs.Clear.{IsRoom, Clear, AllClear, KeepsClear, Uses};
 
 use term_tags::{TUPLE, boxed_at, head_of};
@@ -22,6 +23,8 @@ pub fn tuple(mem: &mut WordMem, room: &mut Room, parts: &[u64]) -> u64
     ensures made { (c d : ℕ → ℕ → Bool) (shared : List (List ℕ)) (ts : Trees) → Taken plain c d room.old.top (1 + length parts.now)
         → AllStand c shared mem.old parts.now ts → Stands d shared mem.new result (Tuple ts) }
     ensures kept { (roles : ℕ → ℕ) (c d : ℕ → ℕ → Bool) → Taken roles c d room.old.top (1 + length parts.now) → Keeps c d mem.old mem.new }
+    ensures built { (c : ℕ → ℕ → Bool) (shared : List (List ℕ)) (ts : Trees) → IsFree c room.old.top (room.old.top + (1 + length parts.now))
+        → AllStand c shared mem.old parts.now ts → Built c room.old.top (1 + length parts.now) mem.old mem.new shared result (Tuple ts) }
     ensures made_clear { (shared : List (List ℕ)) (ts : Trees) → AllClear room.old shared mem.old parts.now ts
         → Clear room.new shared mem.new result (Tuple ts) }
     ensures kept_clear { KeepsClear room.old room.new mem.old mem.new }

@@ -5,8 +5,9 @@ use Rattle.term_tags.specs.declared.layouts.TheConstants.{TUPLE}
 use Rattle.term_words.specs.Role.{outside}
 use Rattle.term_words.specs.Stands.{Stands}
 use Rattle.plain_term.specs.Tree.Tree.{Tuple}
-use Rattle.term_build.specs.Taken.{plain}
-use Rattle.term_build.proofs.Taking.{lie-first, taken-kept, tuple-made}
+use Rattle.term_build.specs.Taken.{plain, with_object}
+use Rattle.term_build.proofs.Taking.{lie-first, taken-kept, with-object-taken, tuple-made}
+use Rattle.term_build.proofs.Growing.{grown}
 use Rattle.term_build.proofs.Rooms.{room-taken, room-moved, taken-keeps}
 use Rattle.term_build.proofs.tuples.tuple.Goals as goal
 
@@ -40,3 +41,11 @@ returns-clause-made_clear c = λ shared ts all.
     room-moved (1 + length c.args.parts.now) _ _ _ _ (λ d. Stands d shared c.put_row.new.mem c.boxed_at.result (Tuple ts)) (returns-clause-uses c)
     (returns-clause-made c (outside c.args.room.now.top c.args.room.now.end) (outside (c.args.room.now.top + (1 + length c.args.parts.now)) c.args.room.now.end) shared ts
     (room-taken plain (1 + length c.args.parts.now) c.args.room.now.top c.args.room.now.end c.requires.words) all)
+
+pub returns-clause-built : goal.returns-clause-built
+returns-clause-built c = λ k shared ts free all. record {
+  test = with_object plain k c.args.room.now.top (1 + length c.args.parts.now);
+  grows = grown plain k (1 + length c.args.parts.now) c.args.room.now _ _ _ free (returns-clause-uses c);
+  made = returns-clause-made c k (with_object plain k c.args.room.now.top (1 + length c.args.parts.now)) shared ts
+      (with-object-taken plain k c.args.room.now.top (1 + length c.args.parts.now) free) all;
+}
