@@ -13,3 +13,5 @@ pub mod Inside
 pub mod Reached
 pub mod Carrying
 pub mod Tiles
+pub mod Members
+pub mod Flat

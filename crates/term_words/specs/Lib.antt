@@ -4,3 +4,4 @@ pub mod Stands
 pub mod Kept
 pub mod Reach
 pub mod Tiled
+pub mod Counted

@@ -7,6 +7,7 @@ ghost use Rattle.term_words.specs.Object.{IsPointer, IsRecord, object_words};
 ghost use Rattle.term_words.specs.Stands.{Stands, AllStand};
 ghost use Rattle.term_words.specs.Reach.{Reach};
 ghost use Rattle.term_words.specs.Tiled.{Tiled};
+ghost use Rattle.term_words.specs.Counted.{In, Distinct, total, Listed};
 ghost use Rattle.term_words.specs.Kept.{Kept, Carried, Keeps};
 
 /// What keeps the content of a memory, allows no less and makes it no shorter keeps every tree.
@@ -77,6 +78,14 @@ pub fn words_stand_for_one_tree()
 /// Each object that standing roots reach has at most the flat words of their trees.
 pub fn flat_size_covers_objects()
     ensures { (c : ℕ → ℕ → Bool) (shared : List (List ℕ)) (mem roots : List ℕ) (ts : Trees) (w : ℕ) → AllStand c shared mem roots ts → Reach mem roots w → IsPointer w → object_words mem w ≤ flat_of_all ts }
+{}
+
+/// The objects that standing roots reach can be listed, each once, and a list of such objects without repetition takes at
+/// most the flat words of the roots' trees together.
+pub fn flat_size_covers_lists_of_objects()
+    ensures words { (c : ℕ → ℕ → Bool) (shared : List (List ℕ)) (mem roots : List ℕ) (ts : Trees) (vs : List ℕ) → AllStand c shared mem roots ts → Distinct vs
+        → ((v : ℕ) → In v vs → IsPointer v × Reach mem roots v) → total (object_words mem) vs ≤ flat_of_all ts }
+    ensures listed { (c : ℕ → ℕ → Bool) (shared : List (List ℕ)) (mem roots : List ℕ) (ts : Trees) → AllStand c shared mem roots ts → Listed mem roots }
 {}
 
 /// A word stands for its tree still when shared lists are added.
