@@ -11,12 +11,13 @@ use Rattle.script_grammar.specs.Grammar.{SaysOne}
 use Rattle.script_grammar.specs.Names.{Parsed, parsed_of, names_after}
 use Rattle.plain_machine.specs.State.{State}
 use Rattle.plain_machine.specs.Tightness.{grow}
-use Rattle.plain_machine.specs.Step.{Outcome, step, is_printing}
-use Rattle.plain_machine.specs.Step.Outcome.{Accepted, Refused}
+use Rattle.plain_machine.specs.Step.{Outcome, step}
+use Rattle.plain_machine.specs.Step.Outcome.{Accepted, Refused, Mapped}
 use Rattle.script_grammar.specs.ReadAs.{IsReadAs, Reading}
 use Rattle.plain_machine.specs.Run.{Run, LineStep, ReadingStep, CommandStep, Gives, Skips, LacksSpace, Refuses, is_nothing}
 use Rattle.script_grammar.specs.ReadAs.Reading.{Means, NoSyntax, NoAtoms}
-use Rattle.plain_machine.proofs.Told.{IsTold, command-told, gives-leaves, parsed-names}
+use Rattle.plain_machine.proofs.Commands.{IsTold, command-does}
+use Rattle.plain_machine.proofs.Told.{gives-leaves}
 
 -- two steps of one command with one reply
 pub record Agree (quits ends : Bool) (new other : State) : Type 0 where
@@ -26,6 +27,7 @@ pub record Agree (quits ends : Bool) (new other : State) : Type 0 where
 gives-twice : (o : Outcome) (s : State) (c : Command) (quits ends : Bool) (rs : List (List ℕ)) (new other : State) → Gives o s c quits rs new → Gives o s c ends rs other → Agree quits ends new other
 gives-twice (Accepted next reply) s c quits ends rs new other g h = record { same = g.is ∙ sym h.is; alike = g.ends ∙ sym h.ends }
 gives-twice (Refused r) s c quits ends rs new other g h = record { same = g.same ∙ sym h.same; alike = g.goes_on ∙ sym h.goes_on }
+gives-twice Mapped s c quits ends rs new other g h = record { same = g.same ∙ sym h.same; alike = g.goes_on ∙ sym h.goes_on }
 
 gives-lacks : (o : Outcome) (s : State) (c : Command) (quits ends : Bool) (rs : List (List ℕ)) (new other : State) (n : ℕ) → IsTold s c o → Gives o s c quits rs new → Refuses (NoSpace n) s ends rs other → Agree quits ends new other
 gives-lacks o s c quits ends rs new other n t g h =
@@ -34,11 +36,11 @@ gives-lacks o s c quits ends rs new other n t g h =
     record { same = k.0 ∙ sym h.same; alike = k.1 ∙ sym h.goes_on }
 
 command-twice : (may : ℕ → State → Parsed → Bool) (words : ℕ) (s : State) (p : Parsed) (quits ends : Bool) (rs : List (List ℕ)) (new other : State)
-    → (is_printing p.command ≡ true → p.names ≡ s.names) → CommandStep may words s p quits rs new → CommandStep may words s p ends rs other → Agree quits ends new other
-command-twice may words s p quits ends rs new other k g h = at (is_nothing p.command) g h
+    → CommandStep may words s p quits rs new → CommandStep may words s p ends rs other → Agree quits ends new other
+command-twice may words s p quits ends rs new other g h = at (is_nothing p.command) g h
   where
     told : IsTold s p.command (step s p)
-    told = command-told s p p.command refl k
+    told = (command-does s p p.command).told
 
     flip : Agree ends quits other new → Agree quits ends new other
     flip a = record { same = sym a.same; alike = sym a.alike }
@@ -58,6 +60,7 @@ HasOne rs = length rs ≡ 1
 gives-one : (o : Outcome) (s : State) (c : Command) (quits : Bool) (rs : List (List ℕ)) (new : State) → Gives o s c quits rs new → HasOne rs
 gives-one (Accepted next reply) s c quits rs new g = ap length g.said
 gives-one (Refused r) s c quits rs new g = ap length g.said
+gives-one Mapped s c quits rs new g = ap length g.said
 
 command-count : (may : ℕ → State → Parsed → Bool) (words : ℕ) (s : State) (p : Parsed) (quits ends : Bool) (rs ts : List (List ℕ)) (new other : State)
     → CommandStep may words s p quits rs new → CommandStep may words s p ends ts other → length rs ≡ length ts
@@ -78,10 +81,10 @@ pub record Pair (quits ends : Bool) (rs ts : List (List ℕ)) (new other : State
   pub agree : rs ≡ ts → Agree quits ends new other
 
 command-pair : (may : ℕ → State → Parsed → Bool) (words : ℕ) (s : State) (p : Parsed) (quits ends : Bool) (rs ts : List (List ℕ)) (new other : State)
-    → (is_printing p.command ≡ true → p.names ≡ s.names) → CommandStep may words s p quits rs new → CommandStep may words s p ends ts other → Pair quits ends rs ts new other
-command-pair may words s p quits ends rs ts new other k g h = record {
+    → CommandStep may words s p quits rs new → CommandStep may words s p ends ts other → Pair quits ends rs ts new other
+command-pair may words s p quits ends rs ts new other g h = record {
   count = command-count may words s p quits ends rs ts new other g h;
-  agree = λ e. command-twice may words s p quits ends rs new other k g (let P : List (List ℕ) → Type 0 = λ z. CommandStep may words s p ends z other in subst P (sym e) h);
+  agree = λ e. command-twice may words s p quits ends rs new other g (let P : List (List ℕ) → Type 0 = λ z. CommandStep may words s p ends z other in subst P (sym e) h);
 }
 
 refused-pair : (r t : Refusal) (s : State) (quits ends : Bool) (rs ts : List (List ℕ)) (new other : State) → Refuses r s quits rs new → Refuses t s ends ts other → Pair quits ends rs ts new other
@@ -98,7 +101,7 @@ reading-pair : SaysOne → (may : ℕ → State → Parsed → Bool) (words : �
 reading-pair one may words s line (Means p) (Means q) quits ends rs ts new other x y g h =
     let w : x.written ≡ y.written = one line x.written y.written x.says y.says x.built y.built in
     let e : q ≡ p = y.is ∙ (ap (parsed_of s.names) (sym w) ∙ sym x.is) in
-    command-pair may words s p quits ends rs ts new other (parsed-names s.names p x.written x.is) g (let P : Parsed → Type 0 = λ z. CommandStep may words s z ends ts other in subst P e h)
+    command-pair may words s p quits ends rs ts new other g (let P : Parsed → Type 0 = λ z. CommandStep may words s z ends ts other in subst P e h)
 reading-pair one may words s line (Means p) NoSyntax quits ends rs ts new other x y g h = absurd (y x.written x.says x.built)
 reading-pair one may words s line (Means p) NoAtoms quits ends rs ts new other x y g h = absurd (few-many s.names x.written y.written (one line x.written y.written x.says y.says x.built y.built) p x.is x.few y.many)
 reading-pair one may words s line NoSyntax (Means p) quits ends rs ts new other x y g h = absurd (x y.written y.says y.built)

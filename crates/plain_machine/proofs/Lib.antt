@@ -1,7 +1,11 @@
 pub mod Runs
+pub mod Growing
+pub mod Making
+pub mod Numbers
+pub mod Holding
+pub mod Commands
+pub mod Printing
 pub mod Numbered
 pub mod Told
-pub mod Determined
-pub mod Making
-pub mod Growing
 pub mod Living
+pub mod Determined

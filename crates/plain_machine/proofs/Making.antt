@@ -1,5 +1,5 @@
 -- What a written term of the built forms makes: a proper tree, and no shared binary.
-use Rattle.std.proofs.Common.{◌≡◌, ℕ, ◌-◌, ◌^◌, Bool, true, false, ◌&&◌, List, length, refl, ◌∙◌, lt-ltb}
+use Rattle.std.proofs.Common.{◌≡◌, ℕ, ◌-◌, ◌^◌, ◌<◌, Bool, true, false, ◌&&◌, List, [], ◌∷◌, ◌++◌, length, refl, ◌∙◌, lt-ltb}
 use Rattle.std.proofs.lemmas.Bool.{and_from}
 use Rattle.plain_term.specs.Tree.{Tree, Trees}
 use Rattle.plain_term.specs.Tree.{Tree as tree}
@@ -12,7 +12,24 @@ use Rattle.script_grammar.specs.Written.Terms.{end, ◌▹◌}
 use Rattle.script_grammar.specs.Grammar.{MayStand, AllMayStand, IsBuiltTerm, AreBuiltTerms}
 use Rattle.script_grammar.specs.Names.{number_of, atoms_of, atoms_of_all}
 use Rattle.plain_machine.specs.Made.{tree_of, trees_of, list_tree}
-use Rattle.script_grammar.proofs.Naming.{ArePlaced, placed-front, placed-back, number-below}
+use Rattle.script_grammar.proofs.Naming.{ArePlaced, number-below}
+
+-- each of the atoms has a number
+abbrev pub HaveNumbers : List (List ℕ) → List (List ℕ) → Type 0
+HaveNumbers names [] = Unit {0}
+HaveNumbers names (a ∷ atoms) = (number_of names a < length names) × HaveNumbers names atoms
+
+numbers-front : (names xs ys : List (List ℕ)) → HaveNumbers names (xs ++ ys) → HaveNumbers names xs
+numbers-front names [] ys h = tt
+numbers-front names (x ∷ xs) ys h = (h.0, numbers-front names xs ys h.1)
+
+numbers-back : (names xs ys : List (List ℕ)) → HaveNumbers names (xs ++ ys) → HaveNumbers names ys
+numbers-back names [] ys h = h
+numbers-back names (x ∷ xs) ys h = numbers-back names xs ys h.1
+
+pub placed-numbers : (names atoms : List (List ℕ)) → ArePlaced names atoms → HaveNumbers names atoms
+placed-numbers names [] h = tt
+placed-numbers names (a ∷ atoms) h = (number-below names a h.0, placed-numbers names atoms h.1)
 
 -- no shared binary is made by a term of the built forms
 mutual
@@ -44,10 +61,10 @@ module _ (names shared : List (List ℕ)) where
 
   mutual
     -- the tree of a term of the built forms whose atoms have numbers
-    pub made-proper : (given : List Tree) (levels : ℕ) (t : Term) (before : List (List ℕ)) → IsBuiltTerm t → MayStand levels t → ArePlaced names (atoms_of t)
+    pub made-proper : (given : List Tree) (levels : ℕ) (t : Term) (before : List (List ℕ)) → IsBuiltTerm t → MayStand levels t → HaveNumbers names (atoms_of t)
         → is_proper names shared ((tree_of names given t before).0) ≡ true
     made-proper given levels (Int i) before b m p = lt-ltb (magnitude i) (2 ^ 127) m
-    made-proper given levels (Atom a) before b m p = lt-ltb (number_of names a) (length names) (number-below names a p.0)
+    made-proper given levels (Atom a) before b m p = lt-ltb (number_of names a) (length names) p.0
     made-proper given levels (Pid n) before b m p = refl
     made-proper given levels (Held r) before b m p = absurd b
     made-proper given levels (Listed ts) before b m p = list-proper ((trees_of names given ts before).0) (all-made-proper given (levels - 1) ts before b m.1 p)
@@ -56,11 +73,11 @@ module _ (names shared : List (List ℕ)) where
     made-proper given levels (Map qs) before b m p = absurd b
     made-proper given levels (Bin bytes) before b m p = absurd b
 
-    pub all-made-proper : (given : List Tree) (levels : ℕ) (ts : Terms) (before : List (List ℕ)) → AreBuiltTerms ts → AllMayStand levels ts → ArePlaced names (atoms_of_all ts)
+    pub all-made-proper : (given : List Tree) (levels : ℕ) (ts : Terms) (before : List (List ℕ)) → AreBuiltTerms ts → AllMayStand levels ts → HaveNumbers names (atoms_of_all ts)
         → are_proper names shared ((trees_of names given ts before).0) ≡ true
     all-made-proper given levels end before b m p = refl
     all-made-proper given levels (t ▹ ts) before b m p =
         let first : Tree × List (List ℕ) = tree_of names given t before in
         and_from (is_proper names shared (first.0)) (are_proper names shared ((trees_of names given ts (first.1)).0))
-        (made-proper given levels t before b.0 m.0 (placed-front names (atoms_of t) (atoms_of_all ts) p))
-        (all-made-proper given levels ts (first.1) b.1 m.1 (placed-back names (atoms_of t) (atoms_of_all ts) p))
+        (made-proper given levels t before b.0 m.0 (numbers-front names (atoms_of t) (atoms_of_all ts) p))
+        (all-made-proper given levels ts (first.1) b.1 m.1 (numbers-back names (atoms_of t) (atoms_of_all ts) p))

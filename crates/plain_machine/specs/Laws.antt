@@ -3,11 +3,13 @@ use Rattle.std.specs.Prelude.{ℕ, ◌≡◌, ◌<◌, ◌≤◌, Bool, true, fa
 use Rattle.line_io.specs.Lines.{Line}
 use Rattle.plain_term.specs.Tree.{Tree}
 use Rattle.plain_term.specs.Proper.{is_proper}
-use Rattle.script_grammar.specs.Names.{Parsed}
+use Rattle.script_grammar.specs.Written.{Written}
+use Rattle.script_grammar.specs.Names.{Parsed, parsed_of}
 use Rattle.script_grammar.specs.declared.refusal.Refusal.{Refusal}
-use Rattle.plain_machine.specs.State.{State, live_numbers}
-use Rattle.plain_machine.specs.Tightness.{living_trees}
-use Rattle.plain_machine.specs.Run.{LineStep, Run, refusal_text}
+use Rattle.plain_machine.specs.State.{State, is_live, live_numbers}
+use Rattle.plain_machine.specs.Tightness.{grow, living_trees}
+use Rattle.plain_machine.specs.Step.{is_printing}
+use Rattle.plain_machine.specs.Run.{CommandStep, LineStep, Run, refusal_text}
 
 -- A run over two lists of lines is the two runs one after the other.
 abbrev pub RunsJoin : Type 0
@@ -28,10 +30,17 @@ AreNumbered low (n ∷ ns) next = (low < n) × AreNumbered n ns next
 pub record IsNumbered (s : State) : Type 0 where
   pub numbered : AreNumbered 0 (live_numbers s) s.next
 
--- In each run from such a state the numbers stay so, and the next number never falls: none is given twice.
+-- What a run leaves of the numbers: they stay so, the next number never falls, and a number that lives after the run
+-- and not before it is one of those between: none is given twice.
+pub record AreFresh (s new : State) : Type 0 where
+  pub numbered : IsNumbered new
+  pub rises : s.next ≤ new.next
+  pub fresh : (n : ℕ) → is_live n new ≡ true → is_live n s ≡ false → (s.next ≤ n) × (n < new.next)
+
+-- In each run from a state whose numbers rise, a line alone among them.
 abbrev pub NumbersAreFresh : Type 0
 NumbersAreFresh = (may : ℕ → State → Parsed → Bool) (words : ℕ) (quits : Bool) (s new : State) (lines : List Line) (replies : List (List ℕ))
-    → IsNumbered s → Run may words quits s lines replies new → IsNumbered new × (s.next ≤ new.next)
+    → IsNumbered s → Run may words quits s lines replies new → AreFresh s new
 
 -- Each tree of a list is proper.
 abbrev pub AreProper : (names shared : List (List ℕ)) → List Tree → Type 0
@@ -46,6 +55,17 @@ pub record HoldsProper (s : State) : Type 0 where
 abbrev pub TreesStayProper : Type 0
 TreesStayProper = (may : ℕ → State → Parsed → Bool) (words : ℕ) (quits : Bool) (s new : State) (lines : List Line) (replies : List (List ℕ))
     → HoldsProper s → Run may words quits s lines replies new → HoldsProper new
+
+-- What is true of a line that prints: it brings no name, asks for no word, and leaves the state, whatever it is answered.
+pub record OnlyPrints (s : State) (p : Parsed) : Type 0 where
+  pub names : p.names ≡ s.names
+  pub words : grow s p ≡ 0
+  pub leaves : (may : ℕ → State → Parsed → Bool) (words : ℕ) (quits : Bool) (replies : List (List ℕ)) (new : State)
+      → CommandStep may words s p quits replies new → new ≡ s
+
+-- Each line that prints, built or not, in every state.
+abbrev pub PrintingLeaves : Type 0
+PrintingLeaves = (s : State) (w : Written) → is_printing (parsed_of s.names w).command ≡ true → OnlyPrints s (parsed_of s.names w)
 
 -- Lines and their replies determine the state after them, whichever of them found no space.
 abbrev pub RepliesDetermine : Type 0

@@ -2,6 +2,7 @@ pub mod State
 pub mod Made
 pub mod Tightness
 pub mod Step
+pub mod Maps
 pub mod May
 pub mod Run
 pub mod Laws

@@ -10,7 +10,7 @@ use Rattle.script_grammar.specs.Names.{Parsed}
 use Rattle.plain_machine.specs.State.{State}
 use Rattle.plain_machine.specs.Tightness.{grow, is_tight}
 use Rattle.plain_machine.specs.Step.{Outcome, step}
-use Rattle.plain_machine.specs.Step.Outcome.{Accepted, Refused}
+use Rattle.plain_machine.specs.Step.Outcome.{Accepted, Refused, Mapped}
 
 abbrev pub is_purge : Command → Bool
 is_purge (System (Purge area)) = true
@@ -30,6 +30,7 @@ is_of_keys _ = false
 -- The line is accepted, or it builds a term that is refused only for its keys.
 abbrev pub gets_to_space : Command → Outcome → Bool
 gets_to_space c (Accepted s reply) = true
+gets_to_space c Mapped = true
 gets_to_space c (Refused r) = builds_first c && is_of_keys r
 
 -- The line asks for words, and no other refusal stands before the want of them.

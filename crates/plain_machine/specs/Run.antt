@@ -12,7 +12,8 @@ use Rattle.script_grammar.specs.ReadAs.Reading.{Means, NoSyntax, NoAtoms}
 use Rattle.plain_machine.specs.State.{State}
 use Rattle.plain_machine.specs.Tightness.{grow}
 use Rattle.plain_machine.specs.Step.{Outcome, step}
-use Rattle.plain_machine.specs.Step.Outcome.{Accepted, Refused}
+use Rattle.plain_machine.specs.Step.Outcome.{Accepted, Refused, Mapped}
+use Rattle.plain_machine.specs.Maps.{is_map, IsMapOf}
 
 -- The table of the refusals: what each is answered by.
 abbrev pub refusal_text : Refusal → List ℕ
@@ -57,17 +58,27 @@ pub record Accepts (next : State) (reply : List ℕ) (c : Command) (quits : Bool
   pub said : replies ≡ reply ∷ []
   pub is : new ≡ next
 
+-- The command is answered by a map of the store, the state stays, and the script goes on.
+pub record Maps (c : Command) (s : State) (quits : Bool) (replies : List (List ℕ)) (new : State) : Type 0 where
+  pub goes_on : quits ≡ false
+  pub map : List ℕ
+  pub allowed : IsMapOf c s map
+  pub said : replies ≡ map ∷ []
+  pub same : new ≡ s
+
 -- The reply and the state are those of the machine's step.
 abbrev pub Gives : Outcome → State → Command → (quits : Bool) (replies : List (List ℕ)) (new : State) → Type 0
 Gives (Accepted next reply) s c quits replies new = Accepts next reply c quits replies new
 Gives (Refused r) s c quits replies new = Refuses r s quits replies new
+Gives Mapped s c quits replies new = Maps c s quits replies new
 
--- The line is answered that there is no space, where that may be.
+-- The line is answered that there is no space, where that may be. A map line never is.
 pub record LacksSpace (may : ℕ → State → Parsed → Bool) (words : ℕ) (s : State) (p : Parsed) (quits : Bool) (replies : List (List ℕ)) (new : State) : Type 0 where
   pub allowed : may words s p ≡ true
+  pub no_map : is_map p.command ≡ false
   pub refuses : Refuses (NoSpace (grow s p)) s quits replies new
 
--- A parsed line: nothing, or the machine's step, or no space.
+-- A parsed line: nothing, or the machine's step, which may be a map of the store, or no space.
 abbrev pub CommandStep : (may : ℕ → State → Parsed → Bool) (words : ℕ) (s : State) (p : Parsed) (quits : Bool) (replies : List (List ℕ)) (new : State) → Type 0
 CommandStep may words s p quits replies new = MatchBool (is_nothing p.command)
     (Skips s quits replies new)

@@ -1,5 +1,5 @@
 -- The state of the plain machine: processes that hold trees by value, and what they share.
-use Rattle.std.specs.Prelude.{ℕ, ◌+◌, ◌==◌, Bool, false, not, List, [], ◌∷◌, ◌++◌, map, get_or, set, replicate, if◌then◌else◌, Option}
+use Rattle.std.specs.Prelude.{ℕ, ◌≡◌, ◌+◌, ◌==◌, Bool, false, not, List, [], ◌∷◌, ◌++◌, map, get_or, set, replicate, if◌then◌else◌, Option}
 use Rattle.std.specs.List.{find, filter, list_any}
 use Rattle.plain_term.specs.Tree.{Tree}
 use Rattle.plain_term.specs.Tree.Tree.{Nil}
@@ -37,6 +37,11 @@ fresh_process number = record { number = number; registers = replicate 16 Nil; s
 -- The first state: process 1 lives.
 abbrev pub first_state : State
 first_state = record { processes = fresh_process 1 ∷ []; shared = []; areas = []; names = []; next = 2; swept = false; asked = 0 }
+
+-- The names are those of the state, with more after them.
+pub record HasNames (s : State) (names : List (List ℕ)) : Type 0 where
+  pub more : List (List ℕ)
+  pub are : names ≡ s.names ++ more
 
 -- The live process with this number.
 abbrev pub process_of : ℕ → State → Option Process

@@ -1,5 +1,5 @@
 -- What one command makes of a state, and what is answered.
-use Rattle.std.specs.Prelude.{ℕ, ◌+◌, Bool, true, false, nat_le, if◌then◌else◌, List, [], ◌∷◌, ◌++◌, length, codes, decimal, Option, Some, None}
+use Rattle.std.specs.Prelude.{ℕ, ◌+◌, Bool, true, false, nat_le, List, [], ◌∷◌, ◌++◌, length, codes, decimal, Option, Some, None, Result, Ok, Err}
 use Rattle.plain_term.specs.Tree.{Tree}
 use Rattle.plain_term.specs.Tree.Tree.{Pid, Nil}
 use Rattle.plain_term.specs.Beyond.{is_beyond}
@@ -16,13 +16,16 @@ use Rattle.script_grammar.specs.Written.{Terms}
 use Rattle.script_grammar.specs.Written.Terms.{end, ◌▹◌}
 use Rattle.script_grammar.specs.Names.{Parsed}
 use Rattle.plain_machine.specs.Made.{tree_of}
+use Rattle.plain_machine.specs.declared.limits.TheConstants.{MOST_PROCESSES}
 use Rattle.plain_machine.specs.State.{Process as Live, State, process_of, with_process, without_process, with_spawned, live_numbers, register, with_register}
 use Rattle.plain_machine.specs.Tightness.{grow}
 
--- What a command comes to: a new state and the reply, or a refusal that leaves the state.
+-- What a command comes to: a new state and the reply; a refusal that leaves the state; or a map of the store
+-- as the reply, which leaves the state too.
 pub data Outcome : Type 0 where
   Accepted : State → List ℕ → Outcome
   Refused : Refusal → Outcome
+  Mapped : Outcome
 
 -- The verbs that print and change nothing.
 abbrev pub is_printing_verb : Verb → Bool
@@ -54,13 +57,10 @@ abbrev pub is_sweep : Command → Bool
 is_sweep (System Sweep) = true
 is_sweep _ = false
 
--- A printing line leaves `swept`, `sys sweep` makes it true, every other accepted command makes it false.
-abbrev pub swept_after : Command → Bool → Bool
-swept_after c swept = if is_printing c then swept else is_sweep c
-
--- The changed state after an accepted command: it has the line's new names, and what it asked for.
+-- The changed state after an accepted command: it has the line's new names, and what it asked for. `sys sweep` makes
+-- `swept` true, every other command that changes something makes it false.
 abbrev pub settled : State → Parsed → State → State
-settled s p changed = record changed { names = p.names; swept = swept_after p.command s.swept; asked = s.asked + grow s p }
+settled s p changed = record changed { names = p.names; swept = is_sweep p.command; asked = s.asked + grow s p }
 
 -- The command is accepted with this reply.
 abbrev pub answers : State → Parsed → State → List ℕ → Outcome
@@ -99,60 +99,70 @@ pop_from (t ∷ stack) s p q r = does s p (with_process (record (with_register r
 abbrev pub pop_step : State → Parsed → Live → ℕ → Outcome
 pop_step s p q r = pop_from q.stack s p q r
 
--- `print`: the text of the register's tree, where the tree is within the walk limit.
-abbrev pub print_if : Bool → State → Parsed → Tree → Outcome
-print_if true s p t = Refused Big
-print_if false s p t = answers s p s (text p.names s.shared t)
-
-abbrev pub print_step : State → Parsed → Live → ℕ → Outcome
-print_step s p q r = print_if (is_beyond s.shared (register r q)) s p (register r q)
-
 -- `exit`: the process is gone.
 abbrev pub exit_step : State → Parsed → Live → Outcome
 exit_step s p q = does s p (without_process q.number s)
 
--- A verb at a live process.
+-- The command prints a text, or is refused; both leave the state.
+abbrev pub tells : State → Result (List ℕ) Refusal → Outcome
+tells s (Ok text) = Accepted s text
+tells s (Err r) = Refused r
+
+-- A text where the tree is within the walk limit.
+abbrev pub unless_beyond : Bool → List ℕ → Result (List ℕ) Refusal
+unless_beyond true text = Err Big
+unless_beyond false text = Ok text
+
+-- `print`: the text of the register's tree, where the tree is within the walk limit.
+abbrev pub print_text : State → Parsed → Tree → Result (List ℕ) Refusal
+print_text s p t = unless_beyond (is_beyond s.shared t) (text p.names s.shared t)
+
+-- What the verbs that print tell of a live process. A verb that is not built is none of the grammar.
+abbrev pub told_of : State → Parsed → Live → Verb → Result (List ℕ) Refusal
+told_of s p q (Print r) = print_text s p (register r.0 q)
+told_of s p q _ = Err Syntax
+
+-- A verb at a live process: what changes something has its row here, all else tells.
 abbrev pub by_verb : State → Parsed → Live → Verb → Outcome
 by_verb s p q (Set r) = set_step s p q r.0
 by_verb s p q (Own r) = self_step s p q r.0
 by_verb s p q (Push r) = push_step s p q r.0
 by_verb s p q (Pop r) = pop_step s p q r.0
-by_verb s p q (Print r) = print_step s p q r.0
 by_verb s p q Exit = exit_step s p q
-by_verb s p q _ = Refused Syntax
+by_verb s p q verb = tells s (told_of s p q verb)
 
 abbrev pub in_process : Option Live → State → Parsed → Verb → Outcome
 in_process None s p verb = Refused NoProc
 in_process (Some q) s p verb = by_verb s p q verb
 
--- At most so many processes live at a time.
-abbrev pub most_processes : ℕ
-most_processes = 1024
-
--- `spawn`: one process more, and its number is told.
+-- `spawn`: one process more, and its number is told. At most so many processes live at a time.
 abbrev pub spawn_if : Bool → State → Parsed → Outcome
 spawn_if true s p = Refused TooMany
 spawn_if false s p = answers s p (with_spawned s) (codes "ok " ++ decimal s.next)
 
 abbrev pub spawn_step : State → Parsed → Outcome
-spawn_step s p = spawn_if (nat_le most_processes (length s.processes)) s p
+spawn_step s p = spawn_if (nat_le MOST_PROCESSES (length s.processes)) s p
 
 -- `procs`: the live numbers.
-abbrev pub procs_step : State → Parsed → Outcome
-procs_step s p = answers s p s (codes "[" ++ (numbers_text (live_numbers s) ++ codes "]"))
+abbrev pub procs_text : State → List ℕ
+procs_text s = codes "[" ++ (numbers_text (live_numbers s) ++ codes "]")
 
--- A verb of the whole machine.
+-- What the verbs of the system that print tell.
+abbrev pub told_of_system : State → SysVerb → Result (List ℕ) Refusal
+told_of_system s Procs = Ok (procs_text s)
+told_of_system s Quit = Ok (codes "ok")
+told_of_system s _ = Err Syntax
+
+-- A verb of the whole machine: what changes something has its row here, all else tells.
 abbrev pub by_system : State → Parsed → SysVerb → Outcome
 by_system s p Spawn = spawn_step s p
-by_system s p Procs = procs_step s p
-by_system s p Quit = does s p s
-by_system s p _ = Refused Syntax
+by_system s p verb = tells s (told_of_system s verb)
 
 abbrev pub by_command : State → Parsed → Command → Outcome
 by_command s p Nothing = Accepted s []
 by_command s p (Process number verb) = in_process (process_of number s) s p verb
 by_command s p (System verb) = by_system s p verb
 
--- The one step of a parsed line; a verb that is not built is none of the grammar.
+-- The one step of a parsed line.
 abbrev pub step : State → Parsed → Outcome
 step s p = by_command s p p.command

@@ -23,11 +23,12 @@ use Rattle.script_grammar.specs.Written.{Term as term}
 use Rattle.script_grammar.specs.Written.{Terms as terms}
 use Rattle.script_grammar.specs.Written.{TermPairs as pairs}
 use Rattle.script_grammar.specs.Names.{Parsed}
+use Rattle.plain_machine.specs.declared.costs.TheConstants.{PROCESS_COST, AREA_COST, PLACE_COST, MESSAGE_COST, RECORD_COST, COUNTED_COST}
 use Rattle.plain_machine.specs.State.{Process as Live, Area, State, process_of, is_live, register}
 
 -- A binary of so many bytes: up to 64 of them stand on the heap, more in a record with a holder.
 abbrev pub fill_words : ℕ → ℕ
-fill_words len = if nat_le len 64 then 2 + bin_words len else 10 + bin_words len
+fill_words len = if nat_le len 64 then 2 + bin_words len else COUNTED_COST + bin_words len
 
 abbrev mutual
   -- The words of the parts of a written term: every written pair of a map counts.
@@ -75,7 +76,7 @@ receiver (ToHeld r) q = number_in (register r.0 q)
 -- A copy for a live process; a process that does not live gets none.
 abbrev pub send_words : Option ℕ → State → Tree → ℕ
 send_words None s t = 0
-send_words (Some n) s t = if is_live n s then 8 + flat t else 0
+send_words (Some n) s t = if is_live n s then MESSAGE_COST + flat t else 0
 
 -- What a verb asks for at a live process.
 abbrev pub verb_words : State → Parsed → Live → Verb → ℕ
@@ -83,10 +84,10 @@ verb_words s p q (Set r) = build_words_of_all p.terms
 verb_words s p q (MapPut r m k v) = 6 + 2 * keys_in (register m.0 q)
 verb_words s p q (Choose r m (pick.Part offset len)) = 5
 verb_words s p q (Fill r len byte) = fill_words len
-verb_words s p q (MakeFun r name arity) = 10 + terms_len p.terms
+verb_words s p q (MakeFun r name arity) = COUNTED_COST + terms_len p.terms
 verb_words s p q (MakeRef r) = 3
 verb_words s p q (Repeat r shape n t) = repeat_words shape n
-verb_words s p q (Push r) = 2
+verb_words s p q (Push r) = PLACE_COST
 verb_words s p q (Send r to) = send_words (receiver to q) s (register r.0 q)
 verb_words s p q _ = 0
 
@@ -95,8 +96,8 @@ process_words None s p verb = 0
 process_words (Some q) s p verb = verb_words s p q verb
 
 abbrev pub system_words : Parsed → SysVerb → ℕ
-system_words p Spawn = 16
-system_words p (Load area count) = 16 + terms_len p.terms + build_words_of_all p.terms
+system_words p Spawn = PROCESS_COST
+system_words p (Load area count) = AREA_COST + terms_len p.terms + build_words_of_all p.terms
 system_words p _ = 0
 
 abbrev pub command_words : State → Parsed → Command → ℕ
@@ -171,16 +172,16 @@ living_trees s = flat_map held_trees s.processes ++ flat_map (λ a. a.literals) 
 
 -- What a live process asks for, its messages among it.
 abbrev pub process_demand : Live → ℕ
-process_demand q = 16 + (2 * length q.stack + (sum_by flat q.registers + (sum_by flat q.stack + sum_by (λ t. 8 + flat t) q.queue)))
+process_demand q = PROCESS_COST + (PLACE_COST * length q.stack + (sum_by flat q.registers + (sum_by flat q.stack + sum_by (λ t. MESSAGE_COST + flat t) q.queue)))
 
 -- What a literal area asks for.
 abbrev pub area_demand : Area → ℕ
-area_demand a = 16 + (length a.literals + sum_by flat a.literals)
+area_demand a = AREA_COST + (length a.literals + sum_by flat a.literals)
 
 -- A counted record for each shared binary that occurs, and for each pair of a fun's name and arity.
 abbrev pub record_demand : State → ℕ
-record_demand s = sum_by (λ id. 4 + bin_words (length (shared_bytes s.shared id))) (each_once (flat_map ids_in (living_trees s)))
-    + 4 * length (each_once (flat_map funs_in (living_trees s)))
+record_demand s = sum_by (λ id. RECORD_COST + bin_words (length (shared_bytes s.shared id))) (each_once (flat_map ids_in (living_trees s)))
+    + RECORD_COST * length (each_once (flat_map funs_in (living_trees s)))
 
 -- The words that all that lives asks for, fixed costs included.
 abbrev pub demand : State → ℕ

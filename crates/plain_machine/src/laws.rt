@@ -1,6 +1,6 @@
 ghost use Rattle.script_grammar.specs.Grammar.{SaysOne};
 ghost use Rattle.plain_machine.specs.State.{first_state};
-ghost use Rattle.plain_machine.specs.Laws.{HoldsProper, IsNumbered, NumbersAreFresh, RefusalsLeave, RepliesDetermine, RunsJoin, TreesStayProper};
+ghost use Rattle.plain_machine.specs.Laws.{HoldsProper, IsNumbered, NumbersAreFresh, PrintingLeaves, RefusalsLeave, RepliesDetermine, RunsJoin, TreesStayProper};
 
 /// A run over two lists of lines is the two runs one after the other.
 pub fn runs_join()
@@ -12,7 +12,12 @@ pub fn refusals_leave()
     ensures { RefusalsLeave }
 {}
 
-/// Process numbers rise, and none is given twice.
+/// A line that prints brings no name, asks for no word and leaves the state.
+pub fn printing_leaves()
+    ensures { PrintingLeaves }
+{}
+
+/// Process numbers rise, and a number that comes to live was given to none before it.
 pub fn numbers_are_fresh()
     ensures first { IsNumbered first_state }
     ensures always { NumbersAreFresh }

@@ -1,0 +1,5 @@
+use Rattle.plain_machine.proofs.Printing.{only-prints}
+use Rattle.plain_machine.proofs.laws.printing_leaves.Goals as goal
+
+pub returns : goal.returns
+returns c = only-prints
