@@ -1,5 +1,5 @@
 -- What the calls of a space give, in the words of the plain machine.
-use Rattle.std.specs.Prelude.{ℕ, ◌≡◌, ◌<◌, ◌≤◌, ◌⊎◌, Bool, true, List, [], ◌∷◌, length, Result, Ok, Err, All}
+use Rattle.std.specs.Prelude.{ℕ, ◌≡◌, ◌+◌, ◌^◌, ◌<◌, ◌≤◌, ◌⊎◌, Bool, true, List, [], ◌∷◌, length, Result, Ok, Err, All}
 use Rattle.line_io.specs.Sink.{Grew, GrewInPart}
 use Rattle.plain_term.specs.declared.item.Item.{Item}
 use Rattle.plain_term.specs.declared.item.Item.TheVariants as item
@@ -13,13 +13,25 @@ use Rattle.script_grammar.specs.Names.{Parsed, items_of}
 use Rattle.plain_machine.specs.State.{State}
 use Rattle.plain_machine.specs.Tightness.{grow}
 use Rattle.plain_machine.specs.Step.{Outcome, step}
-use Rattle.plain_machine.specs.Step.Outcome.{Accepted, Refused}
+use Rattle.plain_machine.specs.Step.Outcome.{Accepted, Refused, Mapped}
 use Rattle.space_api.specs.declared.space.Stop.{Stop}
 use Rattle.space_api.specs.declared.space.Stop.TheVariants.{Big, Fault}
 
 -- A command with its written terms and all names that there are after it.
 abbrev pub said : Command → Terms → List (List ℕ) → Parsed
 said c terms names = record { command = c; terms = terms; names = names }
+
+-- The most changing calls of a space's life. Numbers of processes and counters of a space rise by at most one in each, so
+-- numbers stay below 2 ^ 40, and no counter passes its type.
+abbrev pub most_calls : ℕ
+most_calls = 2 ^ 36
+
+-- What a changing call leaves of a space's numbers: the words stay, the count of calls rises by one at most, and the
+-- bound of its names is at most this.
+pub record KeepsBooks {S : Type 0} (words calls named : S → ℕ) (old new : S) (bound : ℕ) : Type 0 where
+  pub same_words : words new ≡ words old
+  pub one_call : calls new ≤ calls old + 1
+  pub few_names : named new ≤ bound
 
 -- The numbers rise from above a number on.
 abbrev pub AreRising : ℕ → List ℕ → Type 0
@@ -54,6 +66,7 @@ Follows (Accepted next reply) s (Ok a) Stands = Stands next
 Follows (Accepted next reply) s (Err e) Stands = ⊥
 Follows (Refused r) s (Ok a) Stands = ⊥
 Follows (Refused r) s (Err e) Stands = (e ≡ r) × Stands s
+Follows Mapped s r Stands = ⊥
 
 -- The call answers that there is no space for what the line asks, where that may be; the state is as before.
 abbrev pub Stays : {A : Type 0} → (may : ℕ → State → Parsed → Bool) → ℕ → State → Parsed → Result A Refusal → (State → Type 0) → Type 0
@@ -68,6 +81,7 @@ Becomes may words s p result Stands = Follows (step s p) s result Stands ⊎ Sta
 abbrev pub Passes : Outcome → (State → Type 0) → Type 0
 Passes (Accepted next reply) Stands = Stands next
 Passes (Refused r) Stands = ⊥
+Passes Mapped Stands = ⊥
 
 -- The reply of the machine's step was written, or a proper front of it at a fault; or the step is refused by the walk limit.
 abbrev pub Prints : {A K : Type 0} → Outcome → (wrote : K → List ℕ → Type 0) (old new : K) → Result A Stop → Type 0
@@ -77,3 +91,12 @@ Prints (Accepted next reply) wrote old new (Err Fault) = GrewInPart wrote old ne
 Prints (Refused r) wrote old new (Ok a) = ⊥
 Prints (Refused r) wrote old new (Err Big) = r ≡ TooBig
 Prints (Refused r) wrote old new (Err Fault) = ⊥
+Prints Mapped wrote old new r = ⊥
+
+-- A value that is told: the reply is its text, or the call is refused as the machine's step is.
+abbrev pub Tells : {A : Type 0} → Outcome → (text : A → List ℕ) → Result A Refusal → Type 0
+Tells (Accepted next reply) text (Ok a) = reply ≡ text a
+Tells (Accepted next reply) text (Err e) = ⊥
+Tells (Refused r) text (Ok a) = ⊥
+Tells (Refused r) text (Err e) = e ≡ r
+Tells Mapped text r = ⊥

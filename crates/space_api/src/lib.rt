@@ -3,4 +3,4 @@
 
 mod space;
 
-pub use space::{Space, Stop};
+pub use space::{Seat, Space, Stop};

@@ -1,31 +1,30 @@
 ghost use Rattle.std.specs.Prelude.{
   ◌≡◌,
   ℕ,
-  ◌+◌,
-  ◌^◌,
   ◌<◌,
   ◌≤◌,
   Bool,
-  true,
   length,
   max,
   List,
   IfSome,
   IfOk,
   OnErr,
-  Ok,
+  OnOk,
+  is_some,
   find,
   nat_lt,
 };
 ghost use Rattle.line_io.specs.Faults.{Rose};
+ghost use Rattle.script_grammar.specs.declared.command.Command.{Command};
 ghost use Rattle.script_grammar.specs.declared.command.Command.TheVariants.{Process, System};
 ghost use Rattle.script_grammar.specs.declared.command.Verb.TheVariants as verb;
 ghost use Rattle.script_grammar.specs.declared.command.SysVerb.TheVariants as sysverb;
-ghost use Rattle.script_grammar.specs.Names.{Parsed, IsRegister, items_of};
+ghost use Rattle.script_grammar.specs.Names.{Parsed, IsRegister};
 ghost use Rattle.script_grammar.specs.Written.{Term, Terms};
-ghost use Rattle.plain_machine.specs.State.{State, is_live, live_numbers};
+ghost use Rattle.plain_machine.specs.State.{State, HasNames, is_live, live_numbers};
 ghost use Rattle.plain_machine.specs.Step.{step};
-ghost use Rattle.space_api.specs.Calls.{AreRising, Becomes, Follows, HasTerm, IsTerm, Passes, Prints, one_term, said};
+ghost use Rattle.space_api.specs.Calls.{AreRising, Becomes, Follows, HasTerm, IsTerm, KeepsBooks, Passes, Prints, most_calls, one_term, said};
 
 use atom_names::AtomNames;
 use line_io::Sink;
@@ -39,16 +38,26 @@ pub enum Stop {
     Fault,
 }
 
+/// Where a live process is found: its number, and the row that it has in the space's table.
+#[derive(Clone, Copy)]
+pub struct Seat {
+    pub pid: u64,
+    pub row: usize,
+}
+
 /// The processes of a machine with all that they hold.
 ///
 /// A call that changes something gives the state of the machine's step, or the refusal with the
-/// state as before. `names` are the names of all atoms, the new ones of the line among them.
+/// state as before. `names` are the names of the state, with the new ones of the line after them. A
+/// call for a process takes the seat where `find` found it; it stays good until a process is made or ends.
 pub trait Space {
+    ghost use Rattle.space_api.specs.declared.space.Seat.{Seat};
+
     /// The states that the space stands for. Their names are not the space's.
     ghost stands: { Self → State → Type 0 };
 
-    /// Whether a process with this number lives.
-    ghost lives: { Self → ℕ → Bool };
+    /// The process with the seat's number lives and has its row there.
+    ghost sits: { Self → Seat → Type 0 };
 
     /// How many words the space has.
     ghost words: { Self → ℕ };
@@ -62,10 +71,13 @@ pub trait Space {
     /// Whether a space with so many words may answer in this state that it has none for this command.
     ghost may: { ℕ → State → Parsed → Bool };
 
-    /// Whether this process lives.
-    fn live(&self, pid: u64) -> bool
-        ensures is { result ≡ lives self.now pid }
-        ensures means { (s : State) → stands self.now s → lives self.now pid ≡ is_live pid s };
+    /// The text of the store as it is, which answers a map line, with these names.
+    ghost text: { Self → List (List ℕ) → Command → List ℕ };
+
+    /// Where this process is found; `None` exactly where no such process lives.
+    fn find(&self, pid: u64) -> Option<Seat>
+        ensures found { IfSome result (λ seat. (seat.pid ≡ pid) × sits self.now seat) }
+        ensures lives { (s : State) → stands self.now s → is_some result ≡ is_live pid s };
 
     /// The least live number above `pid`.
     fn live_after(&self, pid: u64) -> Option<u64>
@@ -75,79 +87,74 @@ pub trait Space {
 
     /// Makes a process, whose number is the answer. Refused by `Procs` where too many live, and for want of space.
     fn spawn(&mut self) -> Result<u64, Refusal>
-        requires { calls self.old < 2 ^ 36 }
-        ensures becomes { (s : State) (terms : Terms) (names : List (List ℕ)) → stands self.old s
+        requires calls { calls self.old < most_calls }
+        ensures becomes { (s : State) (terms : Terms) (names : List (List ℕ)) → stands self.old s → HasNames s names
             → Becomes may (words self.old) s (said (System sysverb.Spawn) terms names) result (stands self.new) }
         ensures number { (s : State) → stands self.old s → IfOk result (λ n. n ≡ s.next) }
-        ensures words { words self.new ≡ words self.old }
-        ensures calls { calls self.new ≤ calls self.old + 1 }
-        ensures named { named self.new ≤ named self.old };
+        ensures books { KeepsBooks words calls named self.old self.new (named self.old) };
 
     /// Ends a process.
-    fn exit(&mut self, pid: u64)
-        requires lives { lives self.old pid ≡ true }
-        requires calls { calls self.old < 2 ^ 36 }
-        ensures passes { (s : State) (terms : Terms) (names : List (List ℕ)) → stands self.old s
-            → Passes (step s (said (Process pid verb.Exit) terms names)) (stands self.new) }
-        ensures words { words self.new ≡ words self.old }
-        ensures calls { calls self.new ≤ calls self.old + 1 }
-        ensures named { named self.new ≤ named self.old };
+    fn exit(&mut self, seat: Seat)
+        requires sits { sits self.old seat }
+        requires calls { calls self.old < most_calls }
+        ensures passes { (s : State) (terms : Terms) (names : List (List ℕ)) → stands self.old s → HasNames s names
+            → Passes (step s (said (Process seat.pid verb.Exit) terms names)) (stands self.new) }
+        ensures books { KeepsBooks words calls named self.old self.new (named self.old) };
 
     /// Builds the written term in the register. Refused for want of space.
-    fn build(&mut self, names: &AtomNames, pid: u64, r: Reg, code: &[Item]) -> Result<(), Refusal>
-        requires lives { lives self.old pid ≡ true }
+    fn build(&mut self, names: &AtomNames, seat: Seat, r: Reg, code: &[Item]) -> Result<(), Refusal>
+        requires sits { sits self.old seat }
         requires register { IsRegister r }
-        requires calls { calls self.old < 2 ^ 36 }
+        requires calls { calls self.old < most_calls }
         requires named { named self.old ≤ length names.now }
         requires term { HasTerm names.now code.now }
-        ensures becomes { (s : State) (t : Term) → stands self.old s → IsTerm names.now code.now t
-            → Becomes may (words self.old) s (said (Process pid (verb.Set r)) (one_term t) names.now) result (stands self.new) }
-        ensures words { words self.new ≡ words self.old }
-        ensures calls { calls self.new ≤ calls self.old + 1 }
-        ensures named { named self.new ≤ max (named self.old) (length names.now) }
+        ensures becomes { (s : State) (t : Term) → stands self.old s → HasNames s names.now → IsTerm names.now code.now t
+            → Becomes may (words self.old) s (said (Process seat.pid (verb.Set r)) (one_term t) names.now) result (stands self.new) }
+        ensures books { KeepsBooks words calls named self.old self.new (max (named self.old) (length names.now)) }
         ensures refused { OnErr result (named self.new ≤ named self.old) };
 
     /// Puts the process's own pid in the register.
-    fn own_pid(&mut self, pid: u64, r: Reg)
-        requires lives { lives self.old pid ≡ true }
+    fn own_pid(&mut self, seat: Seat, r: Reg)
+        requires sits { sits self.old seat }
         requires register { IsRegister r }
-        requires calls { calls self.old < 2 ^ 36 }
-        ensures passes { (s : State) (terms : Terms) (names : List (List ℕ)) → stands self.old s
-            → Passes (step s (said (Process pid (verb.Own r)) terms names)) (stands self.new) }
-        ensures words { words self.new ≡ words self.old }
-        ensures calls { calls self.new ≤ calls self.old + 1 }
-        ensures named { named self.new ≤ named self.old };
+        requires calls { calls self.old < most_calls }
+        ensures passes { (s : State) (terms : Terms) (names : List (List ℕ)) → stands self.old s → HasNames s names
+            → Passes (step s (said (Process seat.pid (verb.Own r)) terms names)) (stands self.new) }
+        ensures books { KeepsBooks words calls named self.old self.new (named self.old) };
 
     /// Puts the register's term on the stack. Refused for want of space.
-    fn push(&mut self, pid: u64, s: Reg) -> Result<(), Refusal>
-        requires lives { lives self.old pid ≡ true }
+    fn push(&mut self, seat: Seat, s: Reg) -> Result<(), Refusal>
+        requires sits { sits self.old seat }
         requires register { IsRegister s }
-        requires calls { calls self.old < 2 ^ 36 }
-        ensures becomes { (state : State) (terms : Terms) (names : List (List ℕ)) → stands self.old state
-            → Becomes may (words self.old) state (said (Process pid (verb.Push s)) terms names) result (stands self.new) }
-        ensures words { words self.new ≡ words self.old }
-        ensures calls { calls self.new ≤ calls self.old + 1 }
-        ensures named { named self.new ≤ named self.old };
+        requires calls { calls self.old < most_calls }
+        ensures becomes { (state : State) (terms : Terms) (names : List (List ℕ)) → stands self.old state → HasNames state names
+            → Becomes may (words self.old) state (said (Process seat.pid (verb.Push s)) terms names) result (stands self.new) }
+        ensures books { KeepsBooks words calls named self.old self.new (named self.old) };
 
     /// Takes the term that was pushed last off the stack into the register. Refused by `Empty`.
-    fn pop(&mut self, pid: u64, r: Reg) -> Result<(), Refusal>
-        requires lives { lives self.old pid ≡ true }
+    fn pop(&mut self, seat: Seat, r: Reg) -> Result<(), Refusal>
+        requires sits { sits self.old seat }
         requires register { IsRegister r }
-        requires calls { calls self.old < 2 ^ 36 }
-        ensures follows { (s : State) (terms : Terms) (names : List (List ℕ)) → stands self.old s
-            → Follows (step s (said (Process pid (verb.Pop r)) terms names)) s result (stands self.new) }
-        ensures words { words self.new ≡ words self.old }
-        ensures calls { calls self.new ≤ calls self.old + 1 }
-        ensures named { named self.new ≤ named self.old };
+        requires calls { calls self.old < most_calls }
+        ensures follows { (s : State) (terms : Terms) (names : List (List ℕ)) → stands self.old s → HasNames s names
+            → Follows (step s (said (Process seat.pid (verb.Pop r)) terms names)) s result (stands self.new) }
+        ensures books { KeepsBooks words calls named self.old self.new (named self.old) };
 
     /// Writes the text of the register's term. Where the term is beyond the walk limit nothing is written.
-    fn print<K: Sink>(&self, names: &AtomNames, pid: u64, s: Reg, sink: &mut K) -> Result<(), Stop>
-        requires lives { lives self.now pid ≡ true }
+    fn print<K: Sink>(
+        &self,
+        names: &AtomNames,
+        seat: Seat,
+        s: Reg,
+        sink: &mut K,
+    ) -> Result<(), Stop>
+        requires sits { sits self.now seat }
         requires register { IsRegister s }
         requires named { named self.now ≤ length names.now }
         ensures prints { (state : State) (terms : Terms) → stands self.now state
-            → Prints (step state (said (Process pid (verb.Print s)) terms names.now)) K.wrote sink.old sink.new result }
+            → Prints (step state (said (Process seat.pid (verb.Print s)) terms names.now)) K.wrote sink.old sink.new result }
         ensures big { result ≡ Err Stop.Big → sink.new ≡ sink.old }
         ensures later { K.faults sink.old ≤ K.faults sink.new }
-        ensures rose { result ≡ Err Stop.Fault → Rose (K.faults sink.old) (K.faults sink.new) };
+        ensures rose { result ≡ Err Stop.Fault → Rose (K.faults sink.old) (K.faults sink.new) }
+        ensures told { OnOk result (K.faults sink.new ≡ K.faults sink.old) };
 }
