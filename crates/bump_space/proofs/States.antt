@@ -21,7 +21,7 @@ use Rattle.script_grammar.specs.Grammar.{IsBuiltTerm}
 use Rattle.script_grammar.specs.Names.{Parsed, items_of}
 use Rattle.plain_machine.specs.Made.{tree_of}
 use Rattle.plain_machine.specs.State.{Process, State, process_of, with_process, with_register, register, fresh_process}
-use Rattle.plain_machine.specs.Step.{step, in_process, settled, swept_after, spawn_if, pop_from, print_if}
+use Rattle.plain_machine.specs.Step.{step, in_process, settled, is_sweep, spawn_if, pop_from, tells, unless_beyond}
 use Rattle.plain_machine.specs.Tightness.{grow, process_words, build_words}
 use Rattle.plain_machine.specs.May.{may_of_all_asked, gets_to_space, is_purge}
 use Rattle.space_api.specs.Calls.{Becomes, Follows, Passes, Prints, IsTerm, IsNamedBelow, said, one_term}
@@ -35,7 +35,7 @@ use Rattle.bump_space.proofs.Terms.{Each, each-of, forest-term, plain-term, deep
 
 -- The space stands for the state with one process changed.
 pub settled-stands : (b c : Bump) (s : State) (p : Parsed) (q : Process) → BumpStands b s → ProcsStand c.room c.mem c.named c.procs (map (replaced q) s.processes) → c.next ≡ b.next → c.room.top ≡ b.room.top + grow s p
-    → swept_after p.command s.swept ≡ false → BumpStands c (settled s p (with_process q s))
+    → is_sweep p.command ≡ false → BumpStands c (settled s p (with_process q s))
 settled-stands b c s p q h ps next top swept = record {
   processes = ps;
   next = h.next ∙ sym next;
@@ -218,7 +218,7 @@ pub prints-all : {K : Type 0} (wrote : K → List ℕ → Type 0) (old new : K) 
     → Grew wrote old new (text names [] (register r q)) → Prints {A = Unit {0}} {K = K} (step s (said (OfProcess pid (verb.Print (record { 0 = r }))) terms names)) wrote old new (Ok tt)
 prints-all {K} wrote old new b s pid r n terms names q h found m g =
     let P : Option Process → Type 0 = λ o. Prints {A = Unit {0}} {K = K} (in_process o s (said (OfProcess pid (verb.Print (record { 0 = r }))) terms names) (verb.Print (record { 0 = r }))) wrote old new (Ok tt) in
-    let Q : Bool → Type 0 = λ x. Prints {A = Unit {0}} {K = K} (print_if x s (said (OfProcess pid (verb.Print (record { 0 = r }))) terms names) (register r q)) wrote old new (Ok tt) in
+    let Q : Bool → Type 0 = λ x. Prints {A = Unit {0}} {K = K} (tells s (unless_beyond x (text names s.shared (register r q)))) wrote old new (Ok tt) in
     let R : List (List ℕ) → Type 0 = λ x. Grew wrote old new (text names x (register r q)) in
     subst P (sym found) (subst Q (sym (not-beyond n s.shared (register r q) h.shared m)) (subst R (sym h.shared) g))
 
@@ -226,7 +226,7 @@ pub prints-part : {K : Type 0} (wrote : K → List ℕ → Type 0) (old new : K)
     → GrewInPart wrote old new (text names [] (register r q)) → Prints {A = Unit {0}} {K = K} (step s (said (OfProcess pid (verb.Print (record { 0 = r }))) terms names)) wrote old new (Err Fault)
 prints-part {K} wrote old new b s pid r n terms names q h found m g =
     let P : Option Process → Type 0 = λ o. Prints {A = Unit {0}} {K = K} (in_process o s (said (OfProcess pid (verb.Print (record { 0 = r }))) terms names) (verb.Print (record { 0 = r }))) wrote old new (Err Fault) in
-    let Q : Bool → Type 0 = λ x. Prints {A = Unit {0}} {K = K} (print_if x s (said (OfProcess pid (verb.Print (record { 0 = r }))) terms names) (register r q)) wrote old new (Err Fault) in
+    let Q : Bool → Type 0 = λ x. Prints {A = Unit {0}} {K = K} (tells s (unless_beyond x (text names s.shared (register r q)))) wrote old new (Err Fault) in
     let R : List (List ℕ) → Type 0 = λ x. GrewInPart wrote old new (text names x (register r q)) in
     subst P (sym found) (subst Q (sym (not-beyond n s.shared (register r q) h.shared m)) (subst R (sym h.shared) g))
 

@@ -1,6 +1,6 @@
 -- Texts that are written, however they are put.
-use Rattle.std.proofs.Common.{◌≡◌, ℕ, ◌≤◌, List, Result, Ok, Err, subst, arith}
-use Rattle.std.specs.Result.{OnErr}
+use Rattle.std.proofs.Common.{◌≡◌, ℕ, ◌≤◌, List, Result, Ok, Err, subst, ◌∙◌, arith}
+use Rattle.std.specs.Result.{OnErr, OnOk}
 use Rattle.line_io.specs.Faults.{Rose}
 use Rattle.line_io.specs.Sink.{Grew, GrewInPart, Writes}
 
@@ -18,3 +18,8 @@ part-as wrote old new x y e p = let P : List ℕ → Type 0 = λ z. GrewInPart w
 pub rose-from : {A E : Type 0} (r : Result A E) (a b d : ℕ) → a ≤ b → OnErr r (Rose b d) → OnErr r (Rose a d)
 rose-from (Ok x) a b d below h = h
 rose-from (Err e) a b d below h = omega (arith, h)
+
+-- A count that is that of a later one is that of an earlier one.
+pub told-from : {A E : Type 0} (r : Result A E) (a b d : ℕ) → b ≡ a → OnOk r (d ≡ b) → OnOk r (d ≡ a)
+told-from (Ok x) a b d same h = h ∙ same
+told-from (Err e) a b d same h = h

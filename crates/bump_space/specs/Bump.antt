@@ -5,6 +5,7 @@ use Rattle.word_mem.specs.declared.ranges.Room.{Room}
 use Rattle.plain_term.specs.Tree.{Tree}
 use Rattle.plain_term.specs.Tree.Tree.{Nil}
 use Rattle.plain_machine.specs.State.{Process, State}
+use Rattle.space_api.specs.declared.space.Seat.{Seat}
 use Rattle.space_api.specs.Calls.{AreRising}
 use Rattle.term_build.specs.Clear.{Clear}
 use Rattle.bump_space.specs.Print.{IsModest}
@@ -67,6 +68,11 @@ numbers ps = map (λ p. p.number) ps
 -- The number of the entry at a place.
 abbrev pub number_at : List Proc → ℕ → ℕ
 number_at ps i = slice_index (numbers ps) i
+
+-- The process with the seat's number has its entry at the seat's row.
+pub record BumpSits (b : Bump) (seat : Seat) : Type 0 where
+  pub within : seat.row < length b.procs
+  pub number : number_at b.procs seat.row ≡ seat.pid
 
 -- A process with this number is among the entries.
 abbrev pub is_among : List Proc → ℕ → Bool

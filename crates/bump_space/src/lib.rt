@@ -5,7 +5,5 @@ mod building;
 mod printing;
 mod space;
 mod table;
-#[cfg(test)]
-mod tests;
 
 pub use space::BumpSpace;

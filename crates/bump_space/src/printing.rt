@@ -1,5 +1,5 @@
 // The text of a term, from its word.
-ghost use Rattle.std.specs.Prelude.{◌≡◌, ℕ, ◌+◌, ◌*◌, ◌<◌, ◌≤◌, ◌++◌, List, [], length, codes, decimal, OnErr};
+ghost use Rattle.std.specs.Prelude.{◌≡◌, ℕ, ◌+◌, ◌*◌, ◌<◌, ◌≤◌, ◌++◌, List, [], length, codes, decimal, OnErr, OnOk};
 ghost use Rattle.std.specs.Fmt.{signed_decimal};
 ghost use Rattle.line_io.specs.Faults.{Rose};
 ghost use Rattle.line_io.specs.Sink.{Writes};
@@ -29,6 +29,7 @@ pub fn print_word<K: Sink>(
     ensures puts { (t : Tree) → Printable (length names.now) level mem.now w t → Writes K.wrote sink.old sink.new result (text names.now [] t) }
     ensures later { K.faults sink.old ≤ K.faults sink.new }
     ensures rose { OnErr result (Rose (K.faults sink.old) (K.faults sink.new)) }
+    ensures told { OnOk result (K.faults sink.new ≡ K.faults sink.old) }
 {
     let _len = mem.len();
     match kind_of(w) {
@@ -56,6 +57,7 @@ fn print_after<K: Sink>(
         → Writes K.wrote sink.old sink.new result (mark.now ++ text names.now [] t) }
     ensures later { K.faults sink.old ≤ K.faults sink.new }
     ensures rose { OnErr result (Rose (K.faults sink.old) (K.faults sink.new)) }
+    ensures told { OnOk result (K.faults sink.new ≡ K.faults sink.old) }
 {
     put_all(sink, mark)?;
     print_word(mem, names, w, level, sink)
@@ -75,6 +77,7 @@ fn print_list<K: Sink>(
         → Writes K.wrote sink.old sink.new result (text names.now [] t) }
     ensures later { K.faults sink.old ≤ K.faults sink.new }
     ensures rose { OnErr result (Rose (K.faults sink.old) (K.faults sink.new)) }
+    ensures told { OnOk result (K.faults sink.new ≡ K.faults sink.old) }
 {
     let _len = mem.len();
     let head = mem.get(place);
@@ -104,6 +107,7 @@ fn print_tuple<K: Sink>(
         → Writes K.wrote sink.old sink.new result (text names.now [] t) }
     ensures later { K.faults sink.old ≤ K.faults sink.new }
     ensures rose { OnErr result (Rose (K.faults sink.old) (K.faults sink.new)) }
+    ensures told { OnOk result (K.faults sink.new ≡ K.faults sink.old) }
 {
     let _len = mem.len();
     let count = mem.get(place) / 64;
@@ -124,6 +128,7 @@ fn print_small<K: Sink>(i: i64, sink: &mut K) -> Result<(), SinkFault>
     ensures puts { Writes K.wrote sink.old sink.new result (signed_decimal i) }
     ensures later { K.faults sink.old ≤ K.faults sink.new }
     ensures rose { OnErr result (Rose (K.faults sink.old) (K.faults sink.new)) }
+    ensures told { OnOk result (K.faults sink.new ≡ K.faults sink.old) }
 {
     let mut buffer = Buffer::new();
     put_all(sink, buffer.format(i).as_bytes())
@@ -134,6 +139,7 @@ fn print_pid<K: Sink>(n: u64, sink: &mut K) -> Result<(), SinkFault>
     ensures puts { Writes K.wrote sink.old sink.new result (codes "<0." ++ (decimal n ++ codes ".0>")) }
     ensures later { K.faults sink.old ≤ K.faults sink.new }
     ensures rose { OnErr result (Rose (K.faults sink.old) (K.faults sink.new)) }
+    ensures told { OnOk result (K.faults sink.new ≡ K.faults sink.old) }
 {
     let mut buffer = Buffer::new();
     put_all(sink, b"<0.")?;

@@ -7,25 +7,19 @@ use crate::printing::print_word;
 use crate::table::{Proc, find, first_above, fresh};
 use atom_names::AtomNames;
 use line_io::Sink;
-use plain_machine::{Refusal, Reg};
+use plain_machine::{MOST_PROCESSES, PLACE_COST, PROCESS_COST, Refusal, Reg};
 use plain_term::Item;
-use space_api::{Space, Stop};
+use space_api::{Seat, Space, Stop};
 use std::alloc::Global;
 use std::marker::Model;
 use term_tags::pid as pid_word;
 use word_mem::{OpenFault, Room, WordMem};
-
-// How many processes may live (this project).
-const MOST_PROCESSES: usize = 1024;
 
 // The most items of a line, and so the most words of terms that are not yet put together.
 const ROW: usize = 4096;
 
 // The most levels of brackets in a line, and so the depth of a term.
 const LEVELS: u64 = 256;
-
-// The words that a process counts for beside what it holds.
-const PROCESS_WORDS: u64 = 16;
 
 /// A memory of which words are taken in order, and the processes that hold what stands in it.
 #[derive(Drop)]
@@ -85,13 +79,14 @@ impl BumpSpace {
 }
 
 impl Space for BumpSpace {
-    ghost use Rattle.std.specs.Prelude.{◌-◌, length};
+    ghost use Rattle.std.specs.Prelude.{◌-◌, [], length};
     ghost use Rattle.plain_machine.specs.May.{may_of_all_asked};
-    ghost use Rattle.bump_space.specs.Bump.{BumpStands, is_among};
+    ghost use Rattle.space_api.specs.Calls.{Properly};
+    ghost use Rattle.bump_space.specs.Bump.{BumpSits, BumpStands};
 
-    ghost stands = { BumpStands };
+    ghost stands = { λ b s. Properly (BumpStands b) s };
 
-    ghost lives = { λ b pid. is_among b.procs pid };
+    ghost sits = { λ b seat. BumpSits b seat };
 
     ghost words = { λ b. length b.mem };
 
@@ -101,8 +96,13 @@ impl Space for BumpSpace {
 
     ghost may = { may_of_all_asked };
 
-    fn live(&self, pid: u64) -> bool {
-        find(&self.procs, pid).is_some()
+    ghost text = { λ b names c. [] };
+
+    fn find(&self, pid: u64) -> Option<Seat> {
+        match find(&self.procs, pid) {
+            Some(row) => Some(Seat { pid, row }),
+            None => None,
+        }
     }
 
     fn live_after(&self, pid: u64) -> Option<u64> {
@@ -118,56 +118,53 @@ impl Space for BumpSpace {
         if self.procs.len() >= MOST_PROCESSES {
             return Err(Refusal::Procs);
         }
-        if self.room.end - self.room.top < PROCESS_WORDS {
-            return Err(Refusal::NoSpace(PROCESS_WORDS));
+        if self.room.end - self.room.top < PROCESS_COST {
+            return Err(Refusal::NoSpace(PROCESS_COST));
         }
         let number = self.next;
         self.procs.push_reserved(fresh(number));
-        self.room.top += PROCESS_WORDS;
+        self.room.top += PROCESS_COST;
         self.next += 1;
         Ok(number)
     }
 
-    fn exit(&mut self, pid: u64) {
-        if let Some(at) = find(&self.procs, pid) {
-            let _ = self.procs.remove(at);
-        }
+    fn exit(&mut self, seat: Seat) {
+        let _ = self.procs.remove(seat.row);
     }
 
-    fn build(&mut self, names: &AtomNames, pid: u64, r: Reg, code: &[Item]) -> Result<(), Refusal> {
-        let Some(at) = find(&self.procs, pid) else {
-            return Err(Refusal::NoProc);
-        };
+    fn build(
+        &mut self,
+        names: &AtomNames,
+        seat: Seat,
+        r: Reg,
+        code: &[Item],
+    ) -> Result<(), Refusal> {
         let named = names.count();
         let grow = words_needed(code);
         if self.room.end - self.room.top < grow {
             return Err(Refusal::NoSpace(grow));
         }
         let w = build(&mut self.mem, &mut self.room, &mut self.row, code);
-        self.procs[at].regs[r.0 as usize] = w;
+        self.procs[seat.row].regs[r.0 as usize] = w;
         self.named = named;
         Ok(())
     }
 
-    fn own_pid(&mut self, pid: u64, r: Reg) {
-        if let Some(at) = find(&self.procs, pid) {
-            self.procs[at].regs[r.0 as usize] = pid_word(pid);
-        }
+    fn own_pid(&mut self, seat: Seat, r: Reg) {
+        let process = &mut self.procs[seat.row];
+        process.regs[r.0 as usize] = pid_word(seat.pid);
     }
 
-    fn push(&mut self, pid: u64, s: Reg) -> Result<(), Refusal> {
-        let Some(at) = find(&self.procs, pid) else {
-            return Err(Refusal::NoProc);
-        };
-        if self.room.end - self.room.top < 2 {
-            return Err(Refusal::NoSpace(2));
+    fn push(&mut self, seat: Seat, s: Reg) -> Result<(), Refusal> {
+        if self.room.end - self.room.top < PLACE_COST {
+            return Err(Refusal::NoSpace(PLACE_COST));
         }
         let place = self.room.top;
-        let process = self.procs[at];
+        let process = self.procs[seat.row];
         self.mem.set(place, process.regs[s.0 as usize]);
         self.mem.set(place + 1, process.stack);
-        self.room.top = place + 2;
-        self.procs[at] = Proc {
+        self.room.top = place + PLACE_COST;
+        self.procs[seat.row] = Proc {
             stack: place,
             depth: process.depth + 1,
             ..process
@@ -175,11 +172,8 @@ impl Space for BumpSpace {
         Ok(())
     }
 
-    fn pop(&mut self, pid: u64, r: Reg) -> Result<(), Refusal> {
-        let Some(at) = find(&self.procs, pid) else {
-            return Err(Refusal::NoProc);
-        };
-        let mut process = self.procs[at];
+    fn pop(&mut self, seat: Seat, r: Reg) -> Result<(), Refusal> {
+        let mut process = self.procs[seat.row];
         if process.depth == 0 {
             return Err(Refusal::Empty);
         }
@@ -188,21 +182,18 @@ impl Space for BumpSpace {
         process.regs[r.0 as usize] = self.mem.get(place);
         process.stack = self.mem.get(place + 1);
         process.depth -= 1;
-        self.procs[at] = process;
+        self.procs[seat.row] = process;
         Ok(())
     }
 
     fn print<K: Sink>(
         &self,
         names: &AtomNames,
-        pid: u64,
+        seat: Seat,
         s: Reg,
         sink: &mut K,
     ) -> Result<(), Stop> {
-        let Some(at) = find(&self.procs, pid) else {
-            return Err(Stop::Fault);
-        };
-        let w = self.procs[at].regs[s.0 as usize];
+        let w = self.procs[seat.row].regs[s.0 as usize];
         match print_word(&self.mem, names, w, LEVELS, sink) {
             Ok(()) => Ok(()),
             Err(_) => Err(Stop::Fault),

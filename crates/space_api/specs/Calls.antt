@@ -13,6 +13,7 @@ use Rattle.script_grammar.specs.Names.{Parsed, items_of}
 use Rattle.plain_machine.specs.State.{State}
 use Rattle.plain_machine.specs.Tightness.{grow}
 use Rattle.plain_machine.specs.Step.{Outcome, step}
+use Rattle.plain_machine.specs.Laws.{HoldsProper}
 use Rattle.plain_machine.specs.Step.Outcome.{Accepted, Refused, Mapped}
 use Rattle.space_api.specs.declared.space.Stop.{Stop}
 use Rattle.space_api.specs.declared.space.Stop.TheVariants.{Big, Fault}
@@ -32,6 +33,10 @@ pub record KeepsBooks {S : Type 0} (words calls named : S → ℕ) (old new : S)
   pub same_words : words new ≡ words old
   pub one_call : calls new ≤ calls old + 1
   pub few_names : named new ≤ bound
+
+-- The space stands for the state, all of whose trees are proper. Each space says so of its own states.
+abbrev pub Properly : (Stands : State → Type 0) → State → Type 0
+Properly Stands s = Stands s × HoldsProper s
 
 -- The numbers rise from above a number on.
 abbrev pub AreRising : ℕ → List ℕ → Type 0

@@ -7,7 +7,7 @@ use Rattle.bump_space.specs.Print.{CanPrint}
 use Rattle.std.specs.Int.{w64}
 use Rattle.bump_space.proofs.Smalls.{value-kept}
 use Rattle.line_io.proofs.Growth.{writes-after, writes-fault, writes-of}
-use Rattle.bump_space.proofs.Texts.{writes-as, rose-from}
+use Rattle.bump_space.proofs.Texts.{writes-as, rose-from, told-from}
 use Rattle.bump_space.proofs.Words.{kind-is, text-small, text-atom, atom-below, text-pid, text-nil, list-deep, boxed-deep, printable-as, list-part, tuple-parts}
 use Rattle.bump_space.proofs.Lists.{list-begins, list-begins-badly, next-part, list-goes, list-goes-badly, list-ends, empty-text, first-of, tuple-first, tuple-begins, tuple-begins-badly, next-in-tuple, tuple-goes, tuple-goes-badly, tuple-ends}
 use Rattle.bump_space.proofs.printing.+print.Goals as goal
@@ -47,6 +47,7 @@ print_list-loop-next-init g t c =
           let q = list-part (length c.args.names.now) c.args.level c.args.mem.now c.args.place t' p in
           list-begins g.K.Sink.wrote c.args.names.now (length c.args.names.now) c.args.level c.args.mem.now c.args.sink.now c.print_after.new.sink c.args.place c.get-rest.result t' q p.modest.few c.get-rest.ensures (c.in_ok-print_after.ensures.puts q.head (printable-as (length c.args.names.now) c.args.level c.args.level (get_or c.args.mem.now c.args.place 0) c.get-head.result c.args.mem.now q.head refl (sym c.get-head.ensures) q.front));
       later = c.in_ok-print_after.ensures.later;
+      told = c.in_ok-print_after.ensures.told;
     }
 
 pub print_list-get-part-requires : goal.print_list-get-part-requires
@@ -78,6 +79,7 @@ print_list-loop-next-preserved g t c =
           list-goes g.K.Sink.wrote c.args.names.now (length c.args.names.now) c.args.level c.args.mem.now c.args.sink.now c.loop-next.sink c.print_after-in-ListAt.new.sink c.loop-next.rest c.loop-next.left c.in-ListAt.next c.get-rest-in-ListAt.result t' (c.loop-next.invariant.goes t' p) q c.get-rest-in-ListAt.ensures
           (c.in_ok-print_after-2.ensures.puts q.head (printable-as (length c.args.names.now) c.args.level c.args.level (get_or c.args.mem.now c.in-ListAt.next 0) c.get-part.result c.args.mem.now q.head refl (sym c.get-part.ensures) q.front));
       later = omega (arith, c.loop-next.invariant.later, c.in_ok-print_after-2.ensures.later);
+      told = c.in_ok-print_after-2.ensures.told ∙ c.loop-next.invariant.told;
     }
 
 pub print_list-returns : goal.print_list-returns
@@ -88,6 +90,7 @@ print_list-returns g t c =
           (writes-of g.K.Sink.wrote c.loop-next.sink c.put_all.new.sink (codes "]") c.put_all.result c.put_all.ensures.all c.put_all.ensures.part);
       later = omega (arith, c.loop-next.invariant.later, c.put_all.ensures.later);
       rose = rose-from c.put_all.result (g.K.Sink.faults c.args.sink.now) (g.K.Sink.faults c.loop-next.sink) (g.K.Sink.faults c.put_all.new.sink) c.loop-next.invariant.later c.put_all.ensures.rose;
+      told = told-from c.put_all.result (g.K.Sink.faults c.args.sink.now) (g.K.Sink.faults c.loop-next.sink) (g.K.Sink.faults c.put_all.new.sink) c.loop-next.invariant.told c.put_all.ensures.told;
     }
 
 pub print_tuple-get-count-requires : goal.print_tuple-get-count-requires
@@ -130,6 +133,7 @@ print_tuple-loop-i-init g t c =
           let f = first-of q.parts (trees_len q.parts) refl (omega (arith, q.header, c.get-count.ensures, c.if-count-eq0.false)) in
           tuple-begins g.K.Sink.wrote c.args.names.now (length c.args.names.now) c.args.level c.args.mem.now c.args.sink.now c.print_after.new.sink c.args.place (c.args.place + 1 + 1) left t' q f (omega (arith, e, c.get-count.ensures)) refl (c.in_ok-print_after.ensures.puts f.first (printable-as (length c.args.names.now) c.args.level c.args.level (get_or c.args.mem.now (c.args.place + 1) 0) c.get-first.result c.args.mem.now f.first refl (sym c.get-first.ensures) (tuple-first g.K.Sink.wrote c.args.names.now (length c.args.names.now) c.args.level c.args.mem.now c.args.place t' q f)));
       later = c.in_ok-print_after.ensures.later;
+      told = c.in_ok-print_after.ensures.told;
     }
 
 pub print_tuple-overflow_add-place-in-loop-i : goal.print_tuple-overflow_add-place-in-loop-i
@@ -168,6 +172,7 @@ print_tuple-loop-i-preserved g t c =
           tuple-goes g.K.Sink.wrote c.args.names.now (length c.args.names.now) c.args.level c.args.mem.now c.args.sink.now c.loop-i.sink c.print_after-in-loop-i.new.sink (c.args.place + 1 + c.loop-i.i) (c.args.place + 1 + (c.loop-i.i + 1)) (left + 1) left t' goes f refl (omega arith)
           (c.in_ok-print_after-2.ensures.puts f.first (printable-as (length c.args.names.now) c.args.level c.args.level (get_or c.args.mem.now (c.args.place + 1 + c.loop-i.i) 0) c.get-part.result c.args.mem.now f.first refl (sym c.get-part.ensures) (next-in-tuple g.K.Sink.wrote c.args.names.now (length c.args.names.now) c.args.level c.args.mem.now c.args.sink.now c.loop-i.sink (c.args.place + 1 + c.loop-i.i) (left + 1) t' goes f)));
       later = omega (arith, c.loop-i.invariant.later, c.in_ok-print_after-2.ensures.later);
+      told = c.in_ok-print_after-2.ensures.told ∙ c.loop-i.invariant.told;
     }
 
 pub print_tuple-returns-clause-puts : goal.print_tuple-returns-clause-puts

@@ -21,6 +21,7 @@ invariant-print_list-loop-next g l = record {
   goes : (t : Tree) → Printable (length l.names) (l.level + 1) l.mem (l.place * 4 + 1) t
       → ListGoes l.names (l.level + 1) l.mem l.rest l.left g.K.Sink.wrote l.fn.sink l.sink (length l.names) t;
   later : g.K.Sink.faults l.fn.sink ≤ g.K.Sink.faults l.sink;
+  told : g.K.Sink.faults l.sink ≡ g.K.Sink.faults l.fn.sink;
 }
 
 abbrev pub decreases-print_list-loop-next : goal.decreases-print_list-loop-next
@@ -31,4 +32,5 @@ invariant-print_tuple-loop-i g l = record {
   goes : (t : Tree) → Printable (length l.names) (l.level + 1) l.mem (l.place * 4 + 2) t
       → (left : ℕ) → l.i + left ≡ l.count → TupleGoes l.names l.level l.mem (l.place + 1 + l.i) left g.K.Sink.wrote l.fn.sink l.sink (length l.names) t;
   later : g.K.Sink.faults l.fn.sink ≤ g.K.Sink.faults l.sink;
+  told : g.K.Sink.faults l.sink ≡ g.K.Sink.faults l.fn.sink;
 }

@@ -1,6 +1,7 @@
 use Rattle.std.proofs.Common.{◌≡◌, List, [], ◌∷◌, ◌++◌, length, refl, sym, ◌∙◌, ap, subst, arith}
 use Rattle.std.specs.Vec.{vec_len, vec_capacity}
 use Rattle.bump_space.specs.declared.table.Proc.{Proc}
+use Rattle.plain_machine.proofs.Living.{first-proper}
 use Rattle.bump_space.proofs.Changes.{start-stands, start-holds}
 use Rattle.std.proofs.lemmas.List.{length-replicate}
 use Rattle.bump_space.proofs.space.BumpSpace.start.Goals as goal
@@ -12,4 +13,4 @@ invariant_of-result c =
 
 pub returns-clause-first : goal.returns-clause-first
 returns-clause-first c =
-    start-stands (record { start = 0; top = 0; end = c.args.words }) c.in_ok-mem.mem c.push_reserved.new.self.items c.fresh.result refl (let P : List Proc → Type 0 = λ x. c.push_reserved.new.self.items ≡ x ++ c.fresh.result ∷ [] in subst P c.in-Ok.ensures.items c.push_reserved.ensures.items) c.fresh.ensures.number c.fresh.ensures.regs c.fresh.ensures.depth
+    (start-stands (record { start = 0; top = 0; end = c.args.words }) c.in_ok-mem.mem c.push_reserved.new.self.items c.fresh.result refl (let P : List Proc → Type 0 = λ x. c.push_reserved.new.self.items ≡ x ++ c.fresh.result ∷ [] in subst P c.in-Ok.ensures.items c.push_reserved.ensures.items) c.fresh.ensures.number c.fresh.ensures.regs c.fresh.ensures.depth, first-proper)

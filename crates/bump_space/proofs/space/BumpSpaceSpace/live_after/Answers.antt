@@ -12,7 +12,7 @@ use Rattle.bump_space.proofs.space.BumpSpaceSpace.live_after.Goals as goal
 pub returns-then-above-len-clause-means : goal.returns-then-above-len-clause-means
 returns-then-above-len-clause-means c =
     λ s h.
-    let old : BumpStands (record { mem = c.self.inside.mem; room = c.self.inside.room; procs = c.self.inside.procs.items; next = c.self.inside.next; named = c.self.inside.named }) s = (let P : Bump → Type 0 = λ x. BumpStands x s in subst P (sym c.self.view_is) h) in
+    let old : BumpStands (record { mem = c.self.inside.mem; room = c.self.inside.room; procs = c.self.inside.procs.items; next = c.self.inside.next; named = c.self.inside.named }) s = (let P : Bump → Type 0 = λ x. BumpStands x s in subst P (sym c.self.view_is) (h.0)) in
     let same : live_numbers s ≡ numbers c.self.inside.procs.items = numbers-same c.self.inside.room c.self.inside.mem c.self.inside.named c.self.inside.procs.items s.processes old.processes in
     let within : c.first_above-above.result < length c.self.inside.procs.items = omega (arith, c.self.inside.procs.ok, c.len.ensures, c.if-above-len.true) in
     let Q : List Proc → Type 0 = λ x. c.first_above-above.result < length x → c.args.pid < number_at x c.first_above-above.result in
@@ -24,7 +24,7 @@ returns-then-above-len-clause-means c =
 pub returns-then-above-len-clause-rising : goal.returns-then-above-len-clause-rising
 returns-then-above-len-clause-rising c =
     λ s h.
-    let old : BumpStands (record { mem = c.self.inside.mem; room = c.self.inside.room; procs = c.self.inside.procs.items; next = c.self.inside.next; named = c.self.inside.named }) s = (let P : Bump → Type 0 = λ x. BumpStands x s in subst P (sym c.self.view_is) h) in
+    let old : BumpStands (record { mem = c.self.inside.mem; room = c.self.inside.room; procs = c.self.inside.procs.items; next = c.self.inside.next; named = c.self.inside.named }) s = (let P : Bump → Type 0 = λ x. BumpStands x s in subst P (sym c.self.view_is) (h.0)) in
     let same : live_numbers s ≡ numbers c.self.inside.procs.items = numbers-same c.self.inside.room c.self.inside.mem c.self.inside.named c.self.inside.procs.items s.processes old.processes in
     let P : List ℕ → Type 0 = λ x. AreRising 0 x in
     subst P (sym same) c.self.invariant.rising
@@ -32,7 +32,7 @@ returns-then-above-len-clause-rising c =
 pub returns-else-above-len-clause-means : goal.returns-else-above-len-clause-means
 returns-else-above-len-clause-means c =
     λ s h.
-    let old : BumpStands (record { mem = c.self.inside.mem; room = c.self.inside.room; procs = c.self.inside.procs.items; next = c.self.inside.next; named = c.self.inside.named }) s = (let P : Bump → Type 0 = λ x. BumpStands x s in subst P (sym c.self.view_is) h) in
+    let old : BumpStands (record { mem = c.self.inside.mem; room = c.self.inside.room; procs = c.self.inside.procs.items; next = c.self.inside.next; named = c.self.inside.named }) s = (let P : Bump → Type 0 = λ x. BumpStands x s in subst P (sym c.self.view_is) (h.0)) in
     let same : live_numbers s ≡ numbers c.self.inside.procs.items = numbers-same c.self.inside.room c.self.inside.mem c.self.inside.named c.self.inside.procs.items s.processes old.processes in
     let over : length c.self.inside.procs.items ≤ c.first_above-above.result = omega (arith, c.self.inside.procs.ok, c.len.ensures, c.if-above-len.false) in
     let R : List ℕ → Type 0 = λ x. None ≡ find (λ n. nat_lt c.args.pid n) x in
@@ -41,7 +41,7 @@ returns-else-above-len-clause-means c =
 pub returns-else-above-len-clause-rising : goal.returns-else-above-len-clause-rising
 returns-else-above-len-clause-rising c =
     λ s h.
-    let old : BumpStands (record { mem = c.self.inside.mem; room = c.self.inside.room; procs = c.self.inside.procs.items; next = c.self.inside.next; named = c.self.inside.named }) s = (let P : Bump → Type 0 = λ x. BumpStands x s in subst P (sym c.self.view_is) h) in
+    let old : BumpStands (record { mem = c.self.inside.mem; room = c.self.inside.room; procs = c.self.inside.procs.items; next = c.self.inside.next; named = c.self.inside.named }) s = (let P : Bump → Type 0 = λ x. BumpStands x s in subst P (sym c.self.view_is) (h.0)) in
     let same : live_numbers s ≡ numbers c.self.inside.procs.items = numbers-same c.self.inside.room c.self.inside.mem c.self.inside.named c.self.inside.procs.items s.processes old.processes in
     let P : List ℕ → Type 0 = λ x. AreRising 0 x in
     subst P (sym same) c.self.invariant.rising

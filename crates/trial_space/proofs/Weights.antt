@@ -11,7 +11,7 @@ use Rattle.script_grammar.specs.Grammar.{IsBuiltTerm, AreBuiltTerms}
 use Rattle.script_grammar.specs.Names.{items_of, listed_items, all_items}
 use Rattle.plain_machine.specs.Made.{tree_of}
 use Rattle.plain_machine.specs.Tightness.{build_words, build_words_of_all}
-use Rattle.list_space.specs.Items.{alone, weight}
+use Rattle.trial_space.specs.Items.{alone, weight}
 
 weight-append : (xs ys : List Item) → weight (xs ++ ys) ≡ weight xs + weight ys
 weight-append [] ys = omega arith

@@ -6,29 +6,26 @@ use crate::printing::print_item;
 use crate::weight::weigh;
 use atom_names::AtomNames;
 use line_io::Sink;
-use plain_machine::{Refusal, Reg};
+use plain_machine::{PLACE_COST, PROCESS_COST, Refusal, Reg};
 use plain_term::Item;
-use space_api::{Space, Stop};
-
-// The words that a process counts for beside what it holds.
-const PROCESS_WORDS: u64 = 16;
+use space_api::{Seat, Space, Stop};
 
 /// Process 1 alone, with one item in each register, and no word of memory: what asks for words is refused.
 #[derive(Drop)]
-pub struct ListSpace {
+pub struct TrialSpace {
     alive: bool,
     registers: [Item; 16],
     named: u64,
 }
 
-impl ListSpace {
+impl TrialSpace {
     /// A space in which process 1 lives, with nil in each register.
-    pub fn start() -> ListSpace
-        ensures first { ⟦<ListSpace as Space>⟧.stands result first_state }
-        ensures calls { ⟦<ListSpace as Space>⟧.calls result ≡ 0 }
-        ensures named { ⟦<ListSpace as Space>⟧.named result ≡ 0 }
+    pub fn start() -> TrialSpace
+        ensures first { ⟦<TrialSpace as Space>⟧.stands result first_state }
+        ensures calls { ⟦<TrialSpace as Space>⟧.calls result ≡ 0 }
+        ensures named { ⟦<TrialSpace as Space>⟧.named result ≡ 0 }
     {
-        ListSpace {
+        TrialSpace {
             alive: true,
             registers: [Item::Nil; 16],
             named: 0,
@@ -36,14 +33,15 @@ impl ListSpace {
     }
 }
 
-impl Space for ListSpace {
-    ghost use Rattle.std.specs.Prelude.{◌&&◌, ◌==◌};
+impl Space for TrialSpace {
+    ghost use Rattle.std.specs.Prelude.{[]};
     ghost use Rattle.plain_machine.specs.May.{asks_space};
-    ghost use Rattle.list_space.specs.Items.{ListStands};
+    ghost use Rattle.space_api.specs.Calls.{Properly};
+    ghost use Rattle.trial_space.specs.Items.{TrialSits, TrialStands};
 
-    ghost stands = { λ b s. ListStands b.alive b.registers s };
+    ghost stands = { λ b s. Properly (TrialStands b.alive b.registers) s };
 
-    ghost lives = { λ b pid. b.alive && (pid == 1) };
+    ghost sits = { λ b seat. TrialSits b.alive seat };
 
     ghost words = { λ b. 0 };
 
@@ -53,8 +51,13 @@ impl Space for ListSpace {
 
     ghost may = { λ words s p. asks_space s p };
 
-    fn live(&self, pid: u64) -> bool {
-        self.alive && pid == 1
+    ghost text = { λ b names c. [] };
+
+    fn find(&self, pid: u64) -> Option<Seat> {
+        if self.alive && pid == 1 {
+            return Some(Seat { pid, row: 0 });
+        }
+        None
     }
 
     fn live_after(&self, pid: u64) -> Option<u64> {
@@ -68,14 +71,20 @@ impl Space for ListSpace {
     }
 
     fn spawn(&mut self) -> Result<u64, Refusal> {
-        Err(Refusal::NoSpace(PROCESS_WORDS))
+        Err(Refusal::NoSpace(PROCESS_COST))
     }
 
-    fn exit(&mut self, pid: u64) {
+    fn exit(&mut self, seat: Seat) {
         self.alive = false;
     }
 
-    fn build(&mut self, names: &AtomNames, pid: u64, r: Reg, code: &[Item]) -> Result<(), Refusal> {
+    fn build(
+        &mut self,
+        names: &AtomNames,
+        seat: Seat,
+        r: Reg,
+        code: &[Item],
+    ) -> Result<(), Refusal> {
         let weight = weigh(code);
         if weight > 1 {
             return Err(Refusal::NoSpace(weight - 1));
@@ -85,22 +94,22 @@ impl Space for ListSpace {
         Ok(())
     }
 
-    fn own_pid(&mut self, pid: u64, r: Reg) {
-        self.registers[r.0 as usize] = Item::Pid(pid);
+    fn own_pid(&mut self, seat: Seat, r: Reg) {
+        self.registers[r.0 as usize] = Item::Pid(seat.pid);
     }
 
-    fn push(&mut self, pid: u64, s: Reg) -> Result<(), Refusal> {
-        Err(Refusal::NoSpace(2))
+    fn push(&mut self, seat: Seat, s: Reg) -> Result<(), Refusal> {
+        Err(Refusal::NoSpace(PLACE_COST))
     }
 
-    fn pop(&mut self, pid: u64, r: Reg) -> Result<(), Refusal> {
+    fn pop(&mut self, seat: Seat, r: Reg) -> Result<(), Refusal> {
         Err(Refusal::Empty)
     }
 
     fn print<K: Sink>(
         &self,
         names: &AtomNames,
-        pid: u64,
+        seat: Seat,
         s: Reg,
         sink: &mut K,
     ) -> Result<(), Stop> {

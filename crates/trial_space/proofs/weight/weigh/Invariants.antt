@@ -1,6 +1,6 @@
 use Rattle.std.proofs.Common.{◌≡◌, ◌+◌, ◌*◌, ◌≤◌, length, drop}
-use Rattle.list_space.specs.Items.{weight}
-use Rattle.list_space.proofs.weight.weigh.Given as goal
+use Rattle.trial_space.specs.Items.{weight}
+use Rattle.trial_space.proofs.weight.weigh.Given as goal
 
 abbrev pub invariant-loop-i : goal.invariant-loop-i
 invariant-loop-i l = (l.i ≤ length l.code) × (l.sum ≡ weight (drop l.i l.code)) × (l.sum + 2 * l.i ≤ 8192)

@@ -1,11 +1,11 @@
 // The text of an item that stands alone.
-ghost use Rattle.std.specs.Prelude.{◌≡◌, ℕ, ◌≤◌, ◌++◌, List, [], codes, decimal, OnErr};
+ghost use Rattle.std.specs.Prelude.{◌≡◌, ℕ, ◌≤◌, ◌++◌, List, [], codes, decimal, OnErr, OnOk};
 ghost use Rattle.line_io.specs.Faults.{Rose};
 ghost use Rattle.std.specs.Fmt.{signed_decimal};
 ghost use Rattle.plain_term.specs.Order.{name_of};
 ghost use Rattle.plain_term.specs.Text.{text};
 ghost use Rattle.line_io.specs.Sink.{Writes};
-ghost use Rattle.list_space.specs.Items.{alone};
+ghost use Rattle.trial_space.specs.Items.{alone};
 
 use atom_names::AtomNames;
 use itoa::Buffer;
@@ -17,6 +17,7 @@ pub fn print_item<K: Sink>(names: &AtomNames, item: Item, sink: &mut K) -> Resul
     ensures writes { Writes K.wrote sink.old sink.new result (text names.now [] (alone item)) }
     ensures later { K.faults sink.old ≤ K.faults sink.new }
     ensures rose { OnErr result (Rose (K.faults sink.old) (K.faults sink.new)) }
+    ensures told { OnOk result (K.faults sink.new ≡ K.faults sink.old) }
 {
     match item {
         Item::Int(i) => print_int(i, sink),
@@ -31,6 +32,7 @@ fn print_int<K: Sink>(i: i128, sink: &mut K) -> Result<(), SinkFault>
     ensures writes { Writes K.wrote sink.old sink.new result (signed_decimal i) }
     ensures later { K.faults sink.old ≤ K.faults sink.new }
     ensures rose { OnErr result (Rose (K.faults sink.old) (K.faults sink.new)) }
+    ensures told { OnOk result (K.faults sink.new ≡ K.faults sink.old) }
 {
     let mut buffer = Buffer::new();
     put_all(sink, buffer.format(i).as_bytes())
@@ -41,6 +43,7 @@ fn print_name<K: Sink>(names: &AtomNames, k: u64, sink: &mut K) -> Result<(), Si
     ensures writes { Writes K.wrote sink.old sink.new result (name_of names.now k) }
     ensures later { K.faults sink.old ≤ K.faults sink.new }
     ensures rose { OnErr result (Rose (K.faults sink.old) (K.faults sink.new)) }
+    ensures told { OnOk result (K.faults sink.new ≡ K.faults sink.old) }
 {
     if k < names.count() {
         return put_all(sink, names.name(k));
@@ -53,6 +56,7 @@ fn print_pid<K: Sink>(n: u64, sink: &mut K) -> Result<(), SinkFault>
     ensures writes { Writes K.wrote sink.old sink.new result (codes "<0." ++ (decimal n ++ codes ".0>")) }
     ensures later { K.faults sink.old ≤ K.faults sink.new }
     ensures rose { OnErr result (Rose (K.faults sink.old) (K.faults sink.new)) }
+    ensures told { OnOk result (K.faults sink.new ≡ K.faults sink.old) }
 {
     let mut buffer = Buffer::new();
     put_all(sink, b"<0.")?;

@@ -5,6 +5,7 @@ use Rattle.plain_term.specs.declared.item.Item.TheVariants as item
 use Rattle.plain_term.specs.Tree.{Tree}
 use Rattle.plain_term.specs.Tree.Tree.{Int, Atom, Pid, Nil}
 use Rattle.plain_machine.specs.State.{Process, State}
+use Rattle.space_api.specs.declared.space.Seat.{Seat}
 
 -- The tree of an item that stands alone; an item that needs parts has none and is taken for nil.
 abbrev pub alone : Item → Tree
@@ -32,8 +33,14 @@ abbrev pub processes_of : Bool → List Item → List Process
 processes_of false items = []
 processes_of true items = one_process items ∷ []
 
+-- The seat is that of process 1, which is alive.
+pub record TrialSits (alive : Bool) (seat : Seat) : Type 0 where
+  pub lives : alive ≡ true
+  pub first : seat.pid ≡ 1
+  pub row : seat.row ≡ 0
+
 -- The state has process 1 alone, where it is alive, and none was made beside it.
-pub record ListStands (alive : Bool) (items : List Item) (s : State) : Type 0 where
+pub record TrialStands (alive : Bool) (items : List Item) (s : State) : Type 0 where
   pub processes : s.processes ≡ processes_of alive items
   pub next : s.next ≡ 2
   pub shared : s.shared ≡ []

@@ -1,6 +1,6 @@
 // How many words the parts of a written term ask for, by its items.
 ghost use Rattle.std.specs.Prelude.{◌≡◌, ◌≤◌, length};
-ghost use Rattle.list_space.specs.Items.{item_weight, weight};
+ghost use Rattle.trial_space.specs.Items.{item_weight, weight};
 
 use plain_term::Item;
 

@@ -1,0 +1,8 @@
+//! A space for tests alone, at which the engine is tried: one process whose registers hold immediates, and no memory.
+#![tactic(auto)]
+
+mod printing;
+mod space;
+mod weight;
+
+pub use space::TrialSpace;
