@@ -112,7 +112,8 @@ module _ (s : State) (p : Parsed) (n : ℕ) (q : Live) (found : process_of n s �
     numbers = keeps-gone s _ q.number refl refl;
     told = inl (codes "k", refl);
     proper = λ h m t. record {
-      proper = all-live p.names s.shared (filter (λ p. not (p.number == q.number)) s.processes) s.areas (gone-proper p.names s.shared q.number s.processes (names-before h m).held) (names-before h m).literals;
+      proper =
+          all-live p.names s.shared (filter (λ p. not (p.number == q.number)) s.processes) s.areas (gone-proper p.names s.shared q.number s.processes (names-before h m).held) (names-before h m).literals;
     };
     printing = λ e. absurd (cc);
   }

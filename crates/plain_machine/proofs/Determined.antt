@@ -29,7 +29,8 @@ gives-twice (Accepted next reply) s c quits ends rs new other g h = record { sam
 gives-twice (Refused r) s c quits ends rs new other g h = record { same = g.same ∙ sym h.same; alike = g.goes_on ∙ sym h.goes_on }
 gives-twice Mapped s c quits ends rs new other g h = record { same = g.same ∙ sym h.same; alike = g.goes_on ∙ sym h.goes_on }
 
-gives-lacks : (o : Outcome) (s : State) (c : Command) (quits ends : Bool) (rs : List (List ℕ)) (new other : State) (n : ℕ) → IsTold s c o → Gives o s c quits rs new → Refuses (NoSpace n) s ends rs other → Agree quits ends new other
+gives-lacks : (o : Outcome) (s : State) (c : Command) (quits ends : Bool) (rs : List (List ℕ)) (new other : State) (n : ℕ) → IsTold s c o → Gives o s c quits rs new
+    → Refuses (NoSpace n) s ends rs other → Agree quits ends new other
 gives-lacks o s c quits ends rs new other n t g h =
     let P : List (List ℕ) → Type 0 = λ z. Gives o s c quits z new in
     let k : (new ≡ s) × (quits ≡ false) = gives-leaves o s c quits (NoSpace n) new t (subst P h.said g) in
@@ -103,11 +104,13 @@ reading-pair one may words s line (Means p) (Means q) quits ends rs ts new other
     let e : q ≡ p = y.is ∙ (ap (parsed_of s.names) (sym w) ∙ sym x.is) in
     command-pair may words s p quits ends rs ts new other g (let P : Parsed → Type 0 = λ z. CommandStep may words s z ends ts other in subst P e h)
 reading-pair one may words s line (Means p) NoSyntax quits ends rs ts new other x y g h = absurd (y x.written x.says x.built)
-reading-pair one may words s line (Means p) NoAtoms quits ends rs ts new other x y g h = absurd (few-many s.names x.written y.written (one line x.written y.written x.says y.says x.built y.built) p x.is x.few y.many)
+reading-pair one may words s line (Means p) NoAtoms quits ends rs ts new other x y g h =
+    absurd (few-many s.names x.written y.written (one line x.written y.written x.says y.says x.built y.built) p x.is x.few y.many)
 reading-pair one may words s line NoSyntax (Means p) quits ends rs ts new other x y g h = absurd (x y.written y.says y.built)
 reading-pair one may words s line NoSyntax NoSyntax quits ends rs ts new other x y g h = refused-pair _ _ s quits ends rs ts new other g h
 reading-pair one may words s line NoSyntax NoAtoms quits ends rs ts new other x y g h = absurd (x y.written y.says y.built)
-reading-pair one may words s line NoAtoms (Means p) quits ends rs ts new other x y g h = absurd (few-many s.names y.written x.written (one line y.written x.written y.says x.says y.built x.built) p y.is y.few x.many)
+reading-pair one may words s line NoAtoms (Means p) quits ends rs ts new other x y g h =
+    absurd (few-many s.names y.written x.written (one line y.written x.written y.says x.says y.built x.built) p y.is y.few x.many)
 reading-pair one may words s line NoAtoms NoSyntax quits ends rs ts new other x y g h = absurd (y x.written x.says x.built)
 reading-pair one may words s line NoAtoms NoAtoms quits ends rs ts new other x y g h = refused-pair _ _ s quits ends rs ts new other g h
 

@@ -115,7 +115,8 @@ before s names m h =
     record { held = k.0; literals = k.1 }
 
 -- all trees of processes, and those of areas
-pub all-live : (names shared : List (List ℕ)) (qs : List Live) (areas : List Area) → AreProper names shared (flat_map held_trees qs) → AreProper names shared (flat_map (λ (a : Area). a.literals) areas)
+pub all-live : (names shared : List (List ℕ)) (qs : List Live) (areas : List Area) → AreProper names shared (flat_map held_trees qs)
+    → AreProper names shared (flat_map (λ (a : Area). a.literals) areas)
     → AreProper names shared (flat_map held_trees qs ++ flat_map (λ (a : Area). a.literals) areas)
 all-live names shared qs areas h k = joined-proper names shared (flat_map held_trees qs) (flat_map (λ (a : Area). a.literals) areas) h k
 

@@ -64,11 +64,13 @@ reading-proper may words s line (Means p) quits replies new h x g =
 reading-proper may words s line NoSyntax quits replies new h x g = subst HoldsProper (sym g.same) h
 reading-proper may words s line NoAtoms quits replies new h x g = subst HoldsProper (sym g.same) h
 
-line-proper : (may : ℕ → State → Parsed → Bool) (words : ℕ) (s : State) (line : Line) (quits : Bool) (replies : List (List ℕ)) (new : State) → HoldsProper s → LineStep may words s line quits replies new → HoldsProper new
+line-proper : (may : ℕ → State → Parsed → Bool) (words : ℕ) (s : State) (line : Line) (quits : Bool) (replies : List (List ℕ)) (new : State) → HoldsProper s
+    → LineStep may words s line quits replies new → HoldsProper new
 line-proper may words s long quits replies new h g = subst HoldsProper (sym g.same) h
 line-proper may words s (text line) quits replies new h g = reading-proper may words s line g.reading quits replies new h g.reads g.follows
 
-pub run-proper : (may : ℕ → State → Parsed → Bool) (words : ℕ) (quits : Bool) (s new : State) (lines : List Line) (replies : List (List ℕ)) → HoldsProper s → Run may words quits s lines replies new → HoldsProper new
+pub run-proper : (may : ℕ → State → Parsed → Bool) (words : ℕ) (quits : Bool) (s new : State) (lines : List Line) (replies : List (List ℕ)) → HoldsProper s → Run may words quits s lines replies new
+    → HoldsProper new
 unfolding Run
 run-proper may words quits s new [] replies h g = subst HoldsProper (sym (g.2)) h
 run-proper may words quits s new (line ∷ lines) replies h g = at (g.0) (g.6) (line-proper may words s line (g.0) (g.1) (g.3) h (g.4)) (λ k l. run-proper may words quits (g.3) new lines (g.2) k l)

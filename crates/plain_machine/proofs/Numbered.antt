@@ -19,7 +19,8 @@ gives-keeps (Accepted next reply) s c quits replies new k g = subst (Keeps s) (s
 gives-keeps (Refused r) s c quits replies new k g = keeps-same s new g.same
 gives-keeps Mapped s c quits replies new k g = keeps-same s new g.same
 
-pub step-keeps : (may : ℕ → State → Parsed → Bool) (words : ℕ) (s : State) (p : Parsed) (quits : Bool) (replies : List (List ℕ)) (new : State) → CommandStep may words s p quits replies new → Keeps s new
+pub step-keeps : (may : ℕ → State → Parsed → Bool) (words : ℕ) (s : State) (p : Parsed) (quits : Bool) (replies : List (List ℕ)) (new : State) → CommandStep may words s p quits replies new
+    → Keeps s new
 step-keeps may words s p quits replies new h = at (is_nothing p.command) h
   where
     at : (b : Bool) → MatchBool b (Skips s quits replies new) (Gives (step s p) s p.command quits replies new ⊎ LacksSpace may words s p quits replies new) → Keeps s new
@@ -27,7 +28,8 @@ step-keeps may words s p quits replies new h = at (is_nothing p.command) h
     at false (inl k) = gives-keeps (step s p) s p.command quits replies new (command-does s p p.command).numbers k
     at false (inr k) = keeps-same s new k.refuses.same
 
-reading-keeps : (may : ℕ → State → Parsed → Bool) (words : ℕ) (s : State) (r : Reading) (quits : Bool) (replies : List (List ℕ)) (new : State) → ReadingStep may words s r quits replies new → Keeps s new
+reading-keeps : (may : ℕ → State → Parsed → Bool) (words : ℕ) (s : State) (r : Reading) (quits : Bool) (replies : List (List ℕ)) (new : State) → ReadingStep may words s r quits replies new
+    → Keeps s new
 reading-keeps may words s (Means p) quits replies new h = step-keeps may words s p quits replies new h
 reading-keeps may words s NoSyntax quits replies new h = keeps-same s new h.same
 reading-keeps may words s NoAtoms quits replies new h = keeps-same s new h.same
@@ -46,7 +48,8 @@ run-keeps may words quits s new (line ∷ lines) replies h = at (h.0) (h.6) (lin
     at true k one more = subst (Keeps s) (sym (k.3)) one
     at false k one more = keeps-then s (h.3) new one (more k)
 
-pub run-fresh : (may : ℕ → State → Parsed → Bool) (words : ℕ) (quits : Bool) (s new : State) (lines : List Line) (replies : List (List ℕ)) → IsNumbered s → Run may words quits s lines replies new → AreFresh s new
+pub run-fresh : (may : ℕ → State → Parsed → Bool) (words : ℕ) (quits : Bool) (s new : State) (lines : List Line) (replies : List (List ℕ)) → IsNumbered s → Run may words quits s lines replies new
+    → AreFresh s new
 run-fresh may words quits s new lines replies h r =
     let k : Keeps s new = run-keeps may words quits s new lines replies r in
     record { numbered = k.numbers h; rises = k.next; fresh = λ n e f. (k.fresh n e f, live-below new n (k.numbers h) e) }

@@ -122,7 +122,8 @@ load-two_terms = refl
 pub others-grow : map (λ w. grow (holding two_keys) (parsed_of [] w)) (
     OfProcess 1 word.Hd (0, (1, tt)) ∷ OfProcess 1 word.Tl (0, (1, tt)) ∷ OfProcess 1 word.Elem (0, (1, (2, tt))) ∷ OfProcess 1 word.MapGet (1, (0, (2, tt)))
     ∷ OfProcess 1 word.Env (0, (1, (2, tt))) ∷ OfProcess 1 word.Own (0, tt) ∷ OfProcess 1 word.Pop (0, tt) ∷ OfProcess 1 word.Recv (0, tt)
-    ∷ OfProcess 1 word.Queue tt ∷ OfProcess 1 word.Print (0, tt) ∷ OfProcess 1 word.Eq (0, (1, tt)) ∷ OfProcess 1 word.Cmp (0, (1, tt)) ∷ OfProcess 1 word.Flat (0, tt)
+    ∷ OfProcess 1 word.Queue tt ∷ OfProcess 1 word.Print (0, tt)
+    ∷ OfProcess 1 word.Eq (0, (1, tt)) ∷ OfProcess 1 word.Cmp (0, (1, tt)) ∷ OfProcess 1 word.Flat (0, tt)
     ∷ OfProcess 1 word.Lit (0, (codes "a", (1, tt))) ∷ OfProcess 1 word.Gc (Minor, tt) ∷ OfProcess 1 word.Gc (Major, tt) ∷ OfProcess 1 word.Hibernate tt
     ∷ OfProcess 1 word.Info tt ∷ OfProcess 1 word.Heap tt ∷ OfProcess 1 word.Exit tt
     ∷ OfSystem sys.Purge (codes "a", tt) ∷ OfSystem sys.Sweep tt ∷ OfSystem sys.Counts tt ∷ OfSystem sys.Dump tt ∷ OfSystem sys.Procs tt ∷ OfSystem sys.Quit tt
@@ -193,7 +194,8 @@ pub crowded-demand : demand crowded ≡ (16 + 2 + 6) + (8 + 11) + (16 + 1 + 6) +
 crowded-demand = refl
 
 -- A process that does not live refuses every line, before all else that could be wrong with it.
-pub dead-first : map (λ w. step first_state (parsed_of [] w)) (OfProcess 2 word.Pop (0, tt) ∷ OfProcess 0 word.Print (0, tt) ∷ []) ≡ Refused NoProc ∷ Refused NoProc ∷ []
+pub dead-first : map (λ w. step first_state (parsed_of [] w)) (OfProcess 2 word.Pop (0, tt) ∷ OfProcess 0 word.Print (0, tt) ∷ [])
+    ≡ Refused NoProc ∷ Refused NoProc ∷ []
 dead-first = refl
 
 pub pop-empty : step first_state (line word.Pop (0, tt)) ≡ Refused Empty
@@ -214,14 +216,17 @@ spawn-full = refl
 pub self-accepted : step first_state (line word.Own (0, tt)) ≡ Accepted (holding (tree.Pid 1)) (codes "ok")
 self-accepted = refl
 
-pub print-accepted : step (holding (tree.Cons (tree.Int (pos 1)) tree.Nil)) (line word.Print (0, tt)) ≡ Accepted (holding (tree.Cons (tree.Int (pos 1)) tree.Nil)) (codes "[1]")
+pub print-accepted : step (holding (tree.Cons (tree.Int (pos 1)) tree.Nil)) (line word.Print (0, tt))
+    ≡ Accepted (holding (tree.Cons (tree.Int (pos 1)) tree.Nil)) (codes "[1]")
 unfolding digits
 print-accepted = refl
 
-pub set-accepted : step first_state (line word.Set (0, (Atom (codes "a"), tt))) ≡ Accepted (record (holding (tree.Atom 0)) { names = codes "a" ∷ [] }) (codes "ok")
+pub set-accepted : step first_state (line word.Set (0, (Atom (codes "a"), tt)))
+    ≡ Accepted (record (holding (tree.Atom 0)) { names = codes "a" ∷ [] }) (codes "ok")
 set-accepted = refl
 
-pub spawn-accepted : step first_state (parsed_of [] (OfSystem sys.Spawn tt)) ≡ Accepted (record first_state { processes = fresh_process 1 ∷ fresh_process 2 ∷ []; next = 3; asked = 16 }) (codes "ok 2")
+pub spawn-accepted : step first_state (parsed_of [] (OfSystem sys.Spawn tt))
+    ≡ Accepted (record first_state { processes = fresh_process 1 ∷ fresh_process 2 ∷ []; next = 3; asked = 16 }) (codes "ok 2")
 unfolding digits
 spawn-accepted = refl
 

@@ -5,7 +5,8 @@ use Rattle.script_grammar.specs.declared.command.Command.{Command}
 use Rattle.script_grammar.specs.declared.command.Command.TheVariants.{Nothing, System}
 use Rattle.script_grammar.specs.declared.command.SysVerb.TheVariants.{Quit}
 use Rattle.script_grammar.specs.declared.refusal.Refusal.{Refusal}
-use Rattle.script_grammar.specs.declared.refusal.Refusal.TheVariants.{NoProc, BadArg, Empty, Big, NoSpace, NoArea, AreaThere, MapSize, Procs, Atoms, Syntax, Long}
+use Rattle.script_grammar.specs.declared.refusal.Refusal.TheVariants.{NoProc, BadArg, Empty, Big, NoSpace, NoArea}
+use Rattle.script_grammar.specs.declared.refusal.Refusal.TheVariants.{AreaThere, MapSize, Procs, Atoms, Syntax, Long}
 use Rattle.script_grammar.specs.Names.{Parsed}
 use Rattle.script_grammar.specs.ReadAs.{Reading, IsReadAs}
 use Rattle.script_grammar.specs.ReadAs.Reading.{Means, NoSyntax, NoAtoms}
@@ -53,7 +54,8 @@ pub record Skips (s : State) (quits : Bool) (replies : List (List ℕ)) (new : S
   pub same : new ≡ s
 
 -- The command is accepted with this state and this reply.
-pub record Accepts (next : State) (reply : List ℕ) (c : Command) (quits : Bool) (replies : List (List ℕ)) (new : State) : Type 0 where
+pub record Accepts (next : State) (reply : List ℕ) (c : Command)
+    (quits : Bool) (replies : List (List ℕ)) (new : State) : Type 0 where
   pub ends : quits ≡ is_quit c
   pub said : replies ≡ reply ∷ []
   pub is : new ≡ next
@@ -73,7 +75,8 @@ Gives (Refused r) s c quits replies new = Refuses r s quits replies new
 Gives Mapped s c quits replies new = Maps c s quits replies new
 
 -- The line is answered that there is no space, where that may be. A map line never is.
-pub record LacksSpace (may : ℕ → State → Parsed → Bool) (words : ℕ) (s : State) (p : Parsed) (quits : Bool) (replies : List (List ℕ)) (new : State) : Type 0 where
+pub record LacksSpace (may : ℕ → State → Parsed → Bool) (words : ℕ) (s : State) (p : Parsed)
+    (quits : Bool) (replies : List (List ℕ)) (new : State) : Type 0 where
   pub allowed : may words s p ≡ true
   pub no_map : is_map p.command ≡ false
   pub refuses : Refuses (NoSpace (grow s p)) s quits replies new

@@ -172,7 +172,8 @@ living_trees s = flat_map held_trees s.processes ++ flat_map (λ a. a.literals) 
 
 -- What a live process asks for, its messages among it.
 abbrev pub process_demand : Live → ℕ
-process_demand q = PROCESS_COST + (PLACE_COST * length q.stack + (sum_by flat q.registers + (sum_by flat q.stack + sum_by (λ t. MESSAGE_COST + flat t) q.queue)))
+process_demand q =
+    PROCESS_COST + (PLACE_COST * length q.stack + (sum_by flat q.registers + (sum_by flat q.stack + sum_by (λ t. MESSAGE_COST + flat t) q.queue)))
 
 -- What a literal area asks for.
 abbrev pub area_demand : Area → ℕ

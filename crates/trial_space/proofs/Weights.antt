@@ -46,7 +46,8 @@ some-items [] h = h
 some-items (x ∷ xs) h = omega arith
 
 -- A term that asks for no words is one item, which stands alone.
-pub alone-is : (names : List (List ℕ)) (held : List Tree) (t : Term) (shared : List (List ℕ)) (d : Item) → IsBuiltTerm t → build_words t ≡ 0 → tree_of names held t shared ≡ (alone (get_or (items_of names t) 0 d), shared)
+pub alone-is : (names : List (List ℕ)) (held : List Tree) (t : Term) (shared : List (List ℕ)) (d : Item) → IsBuiltTerm t → build_words t ≡ 0
+    → tree_of names held t shared ≡ (alone (get_or (items_of names t) 0 d), shared)
 alone-is names held (Int i) shared d b z = refl
 alone-is names held (Atom x) shared d b z = refl
 alone-is names held (Pid k) shared d b z = refl
