@@ -1,5 +1,6 @@
 pub mod Writing
 pub mod Replies
 pub mod Acts
+pub mod Rules
 pub mod Steps
 pub mod Serving

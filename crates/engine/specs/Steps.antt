@@ -3,17 +3,29 @@ use Rattle.std.specs.Prelude.{ℕ, ◌≡◌, ◌≤◌, Bool, true, false, List
 use Rattle.line_io.specs.Faults.{Rose}
 use Rattle.line_io.specs.Lines.{Line}
 use Rattle.line_io.specs.Sink.{Grew, GrewInPart}
-use Rattle.script_grammar.specs.Names.{Parsed}
 use Rattle.plain_machine.specs.State.{State}
 use Rattle.plain_machine.specs.Run.{LineStep, replies_text}
+use Rattle.engine.specs.Rules.{Supply, Output}
 use Rattle.engine.specs.declared.machine.Stepped.{Stepped}
 use Rattle.engine.specs.declared.machine.Stepped.TheVariants.{Next, Quit, SinkFault}
 
--- The whole text was written, or a proper front of it at a fault, for which the sink's count rose.
-abbrev pub StepWrites : {K : Type 0} → (wrote : K → List ℕ → Type 0) (faults : K → ℕ) (old new : K) → List ℕ → Stepped → Type 0
-StepWrites wrote faults old new x Next = Grew wrote old new x
-StepWrites wrote faults old new x Quit = Grew wrote old new x
-StepWrites wrote faults old new x SinkFault = GrewInPart wrote old new x × Rose (faults old) (faults new)
+-- The sink's faults are as many as before.
+abbrev pub IsQuiet : {K : Type 0} → Output K → Type 0
+IsQuiet out = out.faults out.after ≡ out.faults out.before
+
+-- What was written grew by exactly the text, with no fault.
+abbrev pub WritesAll : {K : Type 0} → Output K → List ℕ → Type 0
+WritesAll out x = Grew out.wrote out.before out.after x × IsQuiet out
+
+-- What was written grew by a proper front of the text, and the count of faults rose.
+abbrev pub WritesPart : {K : Type 0} → Output K → List ℕ → Type 0
+WritesPart out x = GrewInPart out.wrote out.before out.after x × Rose (out.faults out.before) (out.faults out.after)
+
+-- The whole text was written, or a proper front of it at a fault.
+abbrev pub StepWrites : {K : Type 0} → Output K → List ℕ → Stepped → Type 0
+StepWrites out x Next = WritesAll out x
+StepWrites out x Quit = WritesAll out x
+StepWrites out x SinkFault = WritesPart out x
 
 -- Where nothing failed, the answer says whether the script ends.
 abbrev pub TellsQuit : Stepped → Bool → Type 0
@@ -22,13 +34,12 @@ TellsQuit Quit quits = quits ≡ true
 TellsQuit SinkFault quits = Unit {0}
 
 -- One line: the machine's step, the state that the machine stands for after it, and what was written.
-pub record Steps (may : ℕ → State → Parsed → Bool) (words : ℕ) (s : State) (line : Line) (Stands : State → Type 0)
-    {K : Type 0} (wrote : K → List ℕ → Type 0) (faults : K → ℕ) (old now : K) (result : Stepped) : Type 0 where
+pub record Steps (supply : Supply) (s : State) (line : Line) (Stands : State → Type 0) {K : Type 0} (out : Output K) (result : Stepped) : Type 0 where
   pub quits : Bool
   pub replies : List (List ℕ)
   pub new : State
-  pub follows : LineStep may words s line quits replies new
+  pub follows : LineStep supply.may supply.words s line quits replies new
   pub stands : Stands new
-  pub writes : StepWrites wrote faults old now (replies_text replies) result
+  pub writes : StepWrites out (replies_text replies) result
   pub tells : TellsQuit result quits
-  pub later : faults old ≤ faults now
+  pub later : out.faults out.before ≤ out.faults out.after

@@ -3,9 +3,9 @@ ghost use Rattle.plain_machine.specs.Run.{replies_text};
 ghost use Rattle.plain_machine.specs.State.{State};
 ghost use Rattle.line_io.specs.Lines.{text, long};
 ghost use Rattle.line_io.specs.Sink.{Written};
-ghost use Rattle.engine.specs.Replies.{CanReply, reply_lines};
+ghost use Rattle.engine.specs.Replies.{CanReply, ends_script, reply_lines};
 ghost use Rattle.engine.specs.Acts.{StandsWith, Takes};
-ghost use Rattle.engine.specs.Steps.{Steps};
+ghost use Rattle.engine.specs.Steps.{StepWrites, Steps, TellsQuit};
 
 use crate::act::act;
 use crate::reply::{Reply, put_reply};
@@ -72,21 +72,15 @@ fn send<S: Space, K: Sink>(
     gathered.finish()
 }
 
-/// Does one line of a script of at most 4,096 bytes, and writes its reply.
-///
-/// The state becomes the next one first. At `SinkFault` a proper front of the reply was written.
-pub fn step<S: Space, K: Sink>(m: &mut Machine<S>, line: &[u8], sink: &mut K) -> Stepped
-    requires short { length line.now ≤ 4096 }
-    requires calls { S.calls m.old.space < 2 ^ 36 }
-    requires named { S.named m.old.space ≤ length m.old.names }
-    ensures steps { (s : State) → StandsWith (S.stands m.old.space) m.old.names s
-        → Steps S.may (S.words m.old.space) s (text line.now) (StandsWith (S.stands m.new.space) m.new.names)
-        K.wrote K.faults sink.old sink.new result }
-    ensures words { S.words m.new.space ≡ S.words m.old.space }
-    ensures calls { S.calls m.new.space ≤ S.calls m.old.space + 1 }
-    ensures named { S.named m.new.space ≤ length m.new.names }
+/// Writes the lines of a reply, and says what the line comes to.
+fn answer<S: Space, K: Sink>(m: &Machine<S>, reply: Reply, sink: &mut K) -> Stepped
+    requires can { CanReply S.lives S.named m.now.space m.now.names reply }
+    ensures tells { TellsQuit result (ends_script reply) }
+    ensures writes { (s : State) → S.stands m.now.space s
+        → StepWrites (record { wrote = K.wrote; faults = K.faults; before = sink.old; after = sink.new })
+        (replies_text (reply_lines reply s m.now.names)) result }
+    ensures later { (s : State) → S.stands m.now.space s → K.faults sink.old ≤ K.faults sink.new }
 {
-    let reply = take_line(&mut m.space, &mut m.names, &mut m.code, line);
     if let Err(SinkFault) = send(&m.space, &m.names, reply, sink) {
         return Stepped::SinkFault;
     }
@@ -96,14 +90,29 @@ pub fn step<S: Space, K: Sink>(m: &mut Machine<S>, line: &[u8], sink: &mut K) ->
     Stepped::Next
 }
 
+/// Does one line of a script of at most 4,096 bytes, and writes its reply.
+///
+/// The state becomes the next one first. At `SinkFault` a proper front of the reply was written.
+pub fn step<S: Space, K: Sink>(m: &mut Machine<S>, line: &[u8], sink: &mut K) -> Stepped
+    requires short { length line.now ≤ 4096 }
+    requires calls { S.calls m.old.space < 2 ^ 36 }
+    requires named { S.named m.old.space ≤ length m.old.names }
+    ensures steps { (s : State) → StandsWith (S.stands m.old.space) m.old.names s
+        → Steps (record { may = S.may; words = S.words m.old.space }) s (text line.now) (StandsWith (S.stands m.new.space) m.new.names)
+        (record { wrote = K.wrote; faults = K.faults; before = sink.old; after = sink.new }) result }
+    ensures words { S.words m.new.space ≡ S.words m.old.space }
+    ensures calls { S.calls m.new.space ≤ S.calls m.old.space + 1 }
+    ensures named { S.named m.new.space ≤ length m.new.names }
+{
+    let reply = take_line(&mut m.space, &mut m.names, &mut m.code, line);
+    answer(m, reply, sink)
+}
+
 /// Answers a line of more than 4,096 bytes.
 pub(crate) fn refuse_long<S: Space, K: Sink>(m: &Machine<S>, sink: &mut K) -> Stepped
     ensures steps { (s : State) → StandsWith (S.stands m.now.space) m.now.names s
-        → Steps S.may (S.words m.now.space) s long (StandsWith (S.stands m.now.space) m.now.names)
-        K.wrote K.faults sink.old sink.new result }
+        → Steps (record { may = S.may; words = S.words m.now.space }) s long (StandsWith (S.stands m.now.space) m.now.names)
+        (record { wrote = K.wrote; faults = K.faults; before = sink.old; after = sink.new }) result }
 {
-    if let Err(SinkFault) = send(&m.space, &m.names, Reply::Refused(Refusal::Long), sink) {
-        return Stepped::SinkFault;
-    }
-    Stepped::Next
+    answer(m, Reply::Refused(Refusal::Long), sink)
 }

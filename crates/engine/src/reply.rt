@@ -1,4 +1,4 @@
-ghost use Rattle.std.specs.Prelude.{◌≡◌, ℕ, ◌≤◌, ◌++◌, ◌∷◌, [], List, OnErr, codes, length};
+ghost use Rattle.std.specs.Prelude.{◌≡◌, ℕ, ◌≤◌, ◌++◌, ◌∷◌, [], List, OnErr, OnOk, codes, length};
 ghost use Rattle.line_io.specs.Faults.{Rose};
 ghost use Rattle.plain_machine.specs.Run.{replies_text};
 ghost use Rattle.plain_machine.specs.State.{State};
@@ -37,6 +37,7 @@ fn put_text<S: Space, K: Sink>(
         → Writes K.wrote sink.old sink.new result (replies_text (reply_lines (Reply.Text pid r) s names.now)) }
     ensures later { K.faults sink.old ≤ K.faults sink.new }
     ensures rose { OnErr result (Rose (K.faults sink.old) (K.faults sink.new)) }
+    ensures told { OnOk result (K.faults sink.new ≡ K.faults sink.old) }
 {
     match space.print(names, pid, r, sink) {
         Ok(()) => put_all(sink, b"\n"),
@@ -57,6 +58,7 @@ pub(crate) fn put_reply<S: Space, K: Sink>(
         → Writes K.wrote sink.old sink.new result (replies_text (reply_lines reply s names.now)) }
     ensures later { K.faults sink.old ≤ K.faults sink.new }
     ensures rose { OnErr result (Rose (K.faults sink.old) (K.faults sink.new)) }
+    ensures told { OnOk result (K.faults sink.new ≡ K.faults sink.old) }
 {
     match reply {
         Reply::Nothing => Ok(()),

@@ -1,10 +1,8 @@
 ghost use Rattle.std.specs.Prelude.{◌≡◌, ℕ, ◌+◌, ◌^◌, ◌<◌, ◌≤◌, List, Option, length};
-ghost use Rattle.line_io.specs.Faults.{Rose};
-ghost use Rattle.line_io.specs.Lines.{Line};
-ghost use Rattle.line_io.specs.Reader.{HasRead, IsFaulted, lines_left, limits_of};
+ghost use Rattle.line_io.specs.Reader.{IsFaulted, lines_left, limits_of};
 ghost use Rattle.plain_machine.specs.State.{State};
 ghost use Rattle.engine.specs.Acts.{StandsWith};
-ghost use Rattle.engine.specs.Serving.{IsNew, Served, Turns, turn_of};
+ghost use Rattle.engine.specs.Serving.{Going, IsNew, Served, TellsRead, TurnTellsRead, Turns, turn_of};
 
 use crate::machine::{Machine, Stepped, refuse_long, step};
 use line_io::{LineGot, LineReader, Sink, Source};
@@ -49,12 +47,16 @@ fn take_turn<S: Space, T: Source, K: Sink>(
     requires calls { S.calls m.old.space + lines_left reader.old ≤ 2 ^ 36 }
     requires named { S.named m.old.space ≤ length m.old.names }
     requires no_fault { IsFaulted reader.old → ⊥ }
-    ensures turns { (s : State) (bytes : List ℕ) (given : List Line) → StandsWith (S.stands m.old.space) m.old.names s
-        → HasRead reader.old (T.left source.old) bytes given
-        → Turns result S.may (S.words m.old.space) s (limits_of reader.old) (StandsWith (S.stands m.new.space) m.new.names)
-        (T.left source.old) (T.left source.new) reader.new bytes given K.wrote K.faults sink.old sink.new }
-    ensures later { (s : State) → StandsWith (S.stands m.old.space) m.old.names s → K.faults sink.old ≤ K.faults sink.new }
-    ensures fault { result ≡ Turn.Stop Status.ReadFault → Rose (T.faults source.old) (T.faults source.new) }
+    ensures turns { (first : State) (left : Option (List ℕ)) (start : K)
+        → Going (record { supply = record { may = S.may; words = S.words m.old.space }; first = first; limits = limits_of reader.old })
+        (record { before = left; after = T.left source.old })
+        (record { wrote = K.wrote; faults = K.faults; before = start; after = sink.old })
+        reader.old (StandsWith (S.stands m.old.space) m.old.names)
+        → Turns result (record { supply = record { may = S.may; words = S.words m.old.space }; first = first; limits = limits_of reader.old })
+        (record { before = left; after = T.left source.new })
+        (record { wrote = K.wrote; faults = K.faults; before = start; after = sink.new })
+        reader.new (StandsWith (S.stands m.new.space) m.new.names) }
+    ensures told { TurnTellsRead result (T.faults source.old) (T.faults source.new) }
     ensures read_later { T.faults source.old ≤ T.faults source.new }
     ensures going { result ≡ Turn.On → (IsFaulted reader.new → ⊥) × (lines_left reader.new < lines_left reader.old) }
     ensures words { S.words m.new.space ≡ S.words m.old.space }
@@ -85,9 +87,11 @@ pub fn serve<S: Space, T: Source, K: Sink>(
     requires calls { S.calls m.old.space + (limits_of reader.old).lines ≤ 2 ^ 36 }
     requires named { S.named m.old.space ≤ length m.old.names }
     ensures served { (first : State) → StandsWith (S.stands m.old.space) m.old.names first
-        → Served S.may (S.words m.old.space) first (limits_of reader.old) (StandsWith (S.stands m.new.space) m.new.names)
-        (T.left source.old) (T.left source.new) K.wrote K.faults sink.old sink.new result }
-    ensures fault { result ≡ Status.ReadFault → Rose (T.faults source.old) (T.faults source.new) }
+        → Served (record { supply = record { may = S.may; words = S.words m.old.space }; first = first; limits = limits_of reader.old })
+        (record { before = T.left source.old; after = T.left source.new })
+        (record { wrote = K.wrote; faults = K.faults; before = sink.old; after = sink.new })
+        (StandsWith (S.stands m.new.space) m.new.names) result }
+    ensures told { TellsRead result (T.faults source.old) (T.faults source.new) }
     ensures read_later { T.faults source.old ≤ T.faults source.new }
     ensures words { S.words m.new.space ≡ S.words m.old.space }
     ensures named { S.named m.new.space ≤ length m.new.names }

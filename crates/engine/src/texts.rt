@@ -1,4 +1,4 @@
-ghost use Rattle.std.specs.Prelude.{◌≡◌, ℕ, ◌≤◌, ◌++◌, ◌∷◌, [], List, OnErr, codes, decimal};
+ghost use Rattle.std.specs.Prelude.{◌≡◌, ℕ, ◌≤◌, ◌++◌, ◌∷◌, [], List, OnErr, OnOk, codes, decimal};
 ghost use Rattle.line_io.specs.Faults.{Rose};
 ghost use Rattle.plain_machine.specs.Run.{refusal_text};
 ghost use Rattle.line_io.specs.Sink.{Writes};
@@ -13,6 +13,7 @@ pub(crate) fn put_number<K: Sink>(n: u64, sink: &mut K) -> Result<(), SinkFault>
     ensures writes { Writes K.wrote sink.old sink.new result (decimal n) }
     ensures later { K.faults sink.old ≤ K.faults sink.new }
     ensures rose { OnErr result (Rose (K.faults sink.old) (K.faults sink.new)) }
+    ensures told { OnOk result (K.faults sink.new ≡ K.faults sink.old) }
 {
     let mut buffer = Buffer::new();
     put_all(sink, buffer.format(n).as_bytes())
@@ -23,6 +24,7 @@ pub(crate) fn put_line<K: Sink>(text: &[u8], sink: &mut K) -> Result<(), SinkFau
     ensures writes { Writes K.wrote sink.old sink.new result (end_of_line text.now) }
     ensures later { K.faults sink.old ≤ K.faults sink.new }
     ensures rose { OnErr result (Rose (K.faults sink.old) (K.faults sink.new)) }
+    ensures told { OnOk result (K.faults sink.new ≡ K.faults sink.old) }
 {
     put_all(sink, text)?;
     put_all(sink, b"\n")
@@ -33,6 +35,7 @@ pub(crate) fn put_counted<K: Sink>(text: &[u8], n: u64, sink: &mut K) -> Result<
     ensures writes { Writes K.wrote sink.old sink.new result (end_of_line (text.now ++ decimal n)) }
     ensures later { K.faults sink.old ≤ K.faults sink.new }
     ensures rose { OnErr result (Rose (K.faults sink.old) (K.faults sink.new)) }
+    ensures told { OnOk result (K.faults sink.new ≡ K.faults sink.old) }
 {
     put_all(sink, text)?;
     put_number(n, sink)?;
@@ -64,6 +67,7 @@ pub(crate) fn put_refusal<K: Sink>(refusal: Refusal, sink: &mut K) -> Result<(),
     ensures writes { Writes K.wrote sink.old sink.new result (end_of_line (refusal_text refusal)) }
     ensures later { K.faults sink.old ≤ K.faults sink.new }
     ensures rose { OnErr result (Rose (K.faults sink.old) (K.faults sink.new)) }
+    ensures told { OnOk result (K.faults sink.new ≡ K.faults sink.old) }
 {
     let words = words_of(refusal);
     if let Refusal::NoSpace(n) = refusal {

@@ -24,5 +24,5 @@ returns g c = record {
       let w = e.writes s h in
       let f = c.finish.ensures in
       let names = sym made.same_reference ∙ same_sink g.K.Sink.wrote old new _ made.empty w in
-      finished g.K.Sink.wrote old new g.K.Sink.faults _ _ _ _ c.finish.result made.sink made.empty w e.later (record { all = f.all; part = f.part; later = f.later; rose = f.rose }) (c.sink-2-1.given.1 names);
+      finished g.K.Sink.wrote old new g.K.Sink.faults _ _ _ _ c.finish.result made.sink made.empty w e.later e.told (record { all = f.all; part = f.part; later = f.later; rose = f.rose; told = f.told }) (c.sink-2-1.given.1 names);
 }

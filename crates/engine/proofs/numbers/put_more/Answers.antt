@@ -24,7 +24,7 @@ returns-in_err-put_number-clause-writes g c = λ s h.
 pub loop-n-preserved : goal.loop-n-preserved
 loop-n-preserved g c = record {
   fits = omega arith;
-  later = omega (arith, c.loop-n.invariant.later, c.put_all.ensures.later, c.put_number.ensures.later);
+  told = c.in_ok-put_number.ensures.told ∙ c.in_ok-put_all.ensures.told ∙ c.loop-n.invariant.told;
   wrote = λ s h. rest-grew g.K.Sink.wrote c.args.sink.now c.loop-n.sink c.put_all.new.sink c.put_number.new.sink _ ((c.loop-n.invariant.wrote s h).0) _ (codes ",") (decimal c.in-Some.n) _
       ((c.loop-n.invariant.wrote s h).2)
       (more-found c.loop-n.last c.in-Some.n 0 (live_numbers s) (c.live_after.ensures.rising s h) (sym (c.live_after.ensures.means s h) ∙ c.in-Some.is))

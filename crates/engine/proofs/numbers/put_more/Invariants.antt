@@ -8,7 +8,7 @@ use Rattle.engine.proofs.numbers.put_more.Given as goal
 abbrev pub invariant-loop-n : goal.invariant-loop-n
 invariant-loop-n g l = record {
   fits : l.last < 2 ^ 64;
-  later : g.K.Sink.faults l.initial.sink ≤ g.K.Sink.faults l.sink;
+  told : g.K.Sink.faults l.sink ≡ g.K.Sink.faults l.initial.sink;
   wrote : (s : State) → g.S.Space.stands l.space s
       → (part : List ℕ) × Grew g.K.Sink.wrote l.initial.sink l.sink part
       × (more_numbers (above l.initial.last (live_numbers s)) ≡ part ++ more_numbers (above l.last (live_numbers s)));

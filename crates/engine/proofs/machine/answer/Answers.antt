@@ -1,0 +1,1 @@
+use Rattle.engine.proofs.machine.answer.Goals as goal

@@ -1,0 +1,28 @@
+-- What is constant while a script is served, and what the source and the sink are before and after.
+use Rattle.std.specs.Prelude.{ℕ, Bool, Option, List}
+use Rattle.line_io.specs.declared.reader.Limits.{Limits}
+use Rattle.script_grammar.specs.Names.{Parsed}
+use Rattle.plain_machine.specs.State.{State}
+
+-- When a space may answer that it has none, and how many words it has.
+pub record Supply : Type 0 where
+  pub may : ℕ → State → Parsed → Bool
+  pub words : ℕ
+
+-- What a script is served by: the supply, the state before its first line, and the limits of its input.
+pub record Rules : Type 0 where
+  pub supply : Supply
+  pub first : State
+  pub limits : Limits
+
+-- What a source has to come, before and after.
+pub record Input : Type 0 where
+  pub before : Option (List ℕ)
+  pub after : Option (List ℕ)
+
+-- What may have been written to a sink, and the count of its faults; the sink before and after.
+pub record Output (K : Type 0) : Type 1 where
+  pub wrote : K → List ℕ → Type 0
+  pub faults : K → ℕ
+  pub before : K
+  pub after : K
