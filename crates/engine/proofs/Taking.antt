@@ -1,8 +1,11 @@
 -- From what a line says to the step that it comes to.
-use Rattle.std.proofs.Common.{◌≡◌, ℕ, ◌<◌, ◌≤◌, ◌⊎◌, inl, inr, Bool, List, [], length, take, refl, sym, ap, subst, ◌∙◌, append-nil}
+use Rattle.std.proofs.Common.{◌≡◌, ℕ, ◌<◌, ◌≤◌, ◌⊎◌, inl, inr, Bool, true, false, cond, List, [], ◌∷◌, ◌++◌, length, take, refl, sym, ap, subst, ◌∙◌, append-nil, arith}
 use Rattle.atom_names.specs.Names.{most_names}
 use Rattle.plain_term.specs.declared.item.Item.{Item}
 use Rattle.script_grammar.specs.declared.command.Command.{Command}
+use Rattle.script_grammar.specs.declared.command.Command.TheVariants.{Nothing as NoCommand, Process, System}
+use Rattle.script_grammar.specs.declared.command.Verb.TheVariants.{Info, Heap}
+use Rattle.script_grammar.specs.declared.command.SysVerb.TheVariants.{Counts, Dump}
 use Rattle.script_grammar.specs.declared.refusal.Refusal.{Refusal}
 use Rattle.script_grammar.specs.declared.refusal.Refusal.TheVariants.{Atoms, Syntax}
 use Rattle.script_grammar.specs.Written.{Written, Term}
@@ -12,17 +15,20 @@ use Rattle.script_grammar.specs.Grammar.{Says, IsAllowed, IsBuilt}
 use Rattle.script_grammar.specs.Names.{Parsed, parsed_of, names_after, command_of, terms_of, all_atoms, all_items, items_of, atoms_of, with_names}
 use Rattle.plain_machine.specs.State.{State}
 use Rattle.plain_machine.specs.Step.{is_printing}
-use Rattle.plain_machine.proofs.Told.{prints-none}
-use Rattle.script_grammar.specs.ReadAs.{IsOutside, BringsTooMany}
+use Rattle.plain_machine.specs.Maps.{is_map}
+use Rattle.plain_machine.proofs.Printing.{prints-none}
+use Rattle.script_grammar.specs.ReadAs.{IsRead, IsOutside, BringsTooMany}
 use Rattle.plain_machine.specs.Run.{CommandStep}
 use Rattle.script_grammar.specs.ReadAs.Reading.{Means, NoSyntax, NoAtoms}
 use Rattle.space_api.specs.Calls.{said}
 use Rattle.script_parse.specs.Parses.{Reads as Parsing}
+use Rattle.script_parse.proofs.OneLine.{one_line}
 use Rattle.engine.specs.declared.reply.Reply.{Reply}
-use Rattle.engine.specs.declared.reply.Reply.TheVariants.{Nothing as Silence, Done, Spawned, Numbers, Text, Quit, Refused}
+use Rattle.engine.specs.declared.reply.Reply.TheVariants.{Refused}
 use Rattle.engine.specs.Replies.{reply_lines, ends_script}
-use Rattle.engine.specs.Acts.{Acts, Fits, HasCode, TermsFit, Takes, StandsWith, names_left}
-use Rattle.script_grammar.proofs.Naming.{ArePlaced, with-names-placed, names-back, names-longer, placed-front}
+use Rattle.engine.specs.Rules.{Supply, After}
+use Rattle.engine.specs.Acts.{Acts, Fits, HasCode, TermsFit, Takes, TellsMap, StandsWith, names_left}
+use Rattle.script_grammar.proofs.Naming.{ArePlaced, with-names-placed, with-names-more, names-back, names-longer, placed-front}
 use Rattle.engine.proofs.Naming.{AreBelow, items-below, below-all}
 
 -- the code of a line that builds is its term
@@ -83,65 +89,108 @@ told-code line names c after code w t few =
     let P : Command → Type 0 = λ z. HasCode z after code in
     subst P (sym t.command) (has-code after w code t.says.allowed t.built t.code_is few (subst (λ z. ArePlaced z (all_atoms w)) (sym t.names_are) (with-names-placed names (all_atoms w))))
 
-pub told-fits : (line : List ℕ) (names : List (List ℕ)) (c : Command) (after : List (List ℕ)) (code : List Item) (w : Written) → Told line names c after code w → Fits c after code (terms_of w) names
-told-fits line names c after code w t = record {
-  term = let P : Command → Type 0 = λ z. TermsFit z after code (terms_of w) in subst P (sym t.command) (terms-fit after w code t.says.allowed t.built t.code_is);
-  kept = λ e. t.names_are ∙ ap (with_names names) (prints-none after w (ap is_printing (sym t.command) ∙ e));
-}
+pub told-fits : (line : List ℕ) (names : List (List ℕ)) (c : Command) (after : List (List ℕ)) (code : List Item) (w : Written) (items : List Item) (s : State)
+    → Told line names c after code w → items ≡ code → names ≡ s.names → Fits c after items (terms_of w) s
+told-fits line names c after code w items s t e same =
+    subst (λ z. Fits c after z (terms_of w) s) (sym e) (record {
+      term = let P : Command → Type 0 = λ z. TermsFit z after code (terms_of w) in subst P (sym t.command) (terms-fit after w code t.says.allowed t.built t.code_is);
+      longer = let m = with-names-more names (all_atoms w) in record { more = m.0; are = t.names_are ∙ m.1 ∙ ap (λ z. z ++ m.0) same };
+    })
 
--- the same of the items that the command is done with, and of the state's names
-pub told-fits-at : (line : List ℕ) (names : List (List ℕ)) (c : Command) (after : List (List ℕ)) (code : List Item) (w : Written) (items : List Item) (old : List (List ℕ))
-    → Told line names c after code w → items ≡ code → names ≡ old → Fits c after items (terms_of w) old
-told-fits-at line names c after code w items old t e same =
-    subst (λ z. Fits c after z (terms_of w) old) (sym e) (subst (λ z. Fits c after code (terms_of w) z) same (told-fits line names c after code w t))
+-- a map line prints
+map-prints : (c : Command) → is_map c ≡ true → is_printing c ≡ true
+map-prints (Process n Info) e = refl
+map-prints (Process n Heap) e = refl
+map-prints (System Counts) e = refl
+map-prints (System Dump) e = refl
+map-prints (Process n _) e = absurd (cc)
+map-prints (System _) e = absurd (cc)
+map-prints NoCommand e = absurd (cc)
 
--- a refusal says nothing of the names
-pub lines-either : (reply : Reply) (s new : State) (p : Parsed) (names : List (List ℕ)) → names ≡ names_left reply s p → reply_lines reply new p.names ≡ reply_lines reply new names
-lines-either (Refused e) s new p names h = refl
-lines-either Silence s new p names h = refl
-lines-either Done s new p names h = refl
-lines-either (Spawned n) s new p names h = refl
-lines-either Numbers s new p names h = refl
-lines-either (Text pid r) s new p names h = ap (reply_lines (Text pid r) new) (sym h)
-lines-either Quit s new p names h = refl
+module _ (line : List ℕ) (before : List (List ℕ)) (c : Command) (after : List (List ℕ)) (code : List Item) (w : Written) (t : Told line before c after code w) where
+  -- one that prints brings no name
+  pub told-same : is_printing c ≡ true → after ≡ before
+  told-same e = t.names_are ∙ ap (with_names before) (prints-none after w (ap is_printing (sym t.command) ∙ e))
 
--- the command was done
-pub takes-command : (may : ℕ → State → Parsed → Bool) (words : ℕ) (s : State) (line : List ℕ) (before : List (List ℕ)) (c : Command) (after : List (List ℕ)) (code : List Item) (w : Written) (reply : Reply) (Stands : State → Type 0) (names : List (List ℕ))
-    → before ≡ s.names → Told line before c after code w → Acts may words s (said c (terms_of w) after) reply Stands → names ≡ names_left reply s (said c (terms_of w) after)
-    → Takes may words s line reply Stands names
-takes-command may words s line before c after code w reply Stands names same t a left = record {
-  new = a.new;
-  stands = (a.stands, left ∙ sym a.names);
-  steps = record {
-    reading = Means (said c (terms_of w) after);
-    reads = record { written = w; says = t.says; built = t.built; is = t.is ∙ ap (λ z. parsed_of z w) same; few = t.fits };
-    follows = subst (λ z. CommandStep may words s (said c (terms_of w) after) (ends_script reply) z a.new) (lines-either reply s a.new (said c (terms_of w) after) names left) a.steps;
-  };
-}
+  -- the line comes to no other command
+  pub told-one : (p : Parsed) → IsRead before line p → p ≡ said c (terms_of w) after
+  told-one p r = r.is ∙ ap (parsed_of before) (one_line line r.written w r.says t.says r.built t.built) ∙ sym t.is
 
--- the names after a reply that is no refusal
-pub left-all : (reply : Reply) (s : State) (p : Parsed) → ((e : Refusal) → reply ≡ Refused e → ⊥) → p.names ≡ names_left reply s p
-left-all (Refused e) s p h = absurd (h e refl)
-left-all _ s p h = refl
+  -- so it prints where it comes to one that does
+  pub told-prints : (p : Parsed) → IsRead before line p → is_printing p.command ≡ true → is_printing c ≡ true
+  told-prints p r e = ap (λ (z : Parsed). is_printing z.command) (sym (told-one p r)) ∙ e
 
-pub left-none : (reply : Reply) (e : Refusal) (s : State) (p : Parsed) → reply ≡ Refused e → s.names ≡ names_left reply s p
-left-none reply e s p h = subst (λ z. s.names ≡ names_left z s p) (sym h) refl
+  module _ (supply : Supply) (s : State) (reply : Reply) (stands : State → Type 0) (text : List (List ℕ) → Command → List ℕ) (same : before ≡ s.names)
+      (a : Acts supply s (said c (terms_of w) after) reply (record { stands = stands; text = text after })) where
+    -- what the line is read as
+    reads : IsRead s.names line (said c (terms_of w) after)
+    reads = record { written = w; says = t.says; built = t.built; is = t.is ∙ ap (λ z. parsed_of z w) same; few = t.fits }
+
+    read-one : (p : Parsed) → IsRead s.names line p → said c (terms_of w) after ≡ p
+    read-one p r = sym (told-one p (subst (λ z. IsRead z line p) (sym same) r))
+
+    -- the names of the state after it, where it is not refused
+    left-all : (reply : Reply) → ((e : Refusal) → reply ≡ Refused e → ⊥) → after ≡ names_left reply s (said c (terms_of w) after)
+    left-all (Refused e) h = absurd (h e refl)
+    left-all _ h = at (is_printing c) (λ e. told-same e ∙ same)
+      where
+        at : (b : Bool) → (b ≡ true → after ≡ s.names) → after ≡ cond b s.names after
+        at true k = k refl
+        at false k = refl
+
+    -- the line was done
+    pub takes-done : ((e : Refusal) → reply ≡ Refused e → ⊥) → Takes supply s line reply (record { stands = stands; text = text after }) after
+    takes-done h = record {
+      new = a.new;
+      stands = (a.stands, left-all reply h ∙ sym a.names);
+      steps = record { reading = Means (said c (terms_of w) after); reads = reads; follows = a.steps };
+      maps = λ p r. let P : Parsed → Type 0 = λ z. TellsMap s z (text after) (reply_lines reply (record { state = a.new; names = after; text = text after })) in subst P (read-one p r) a.maps;
+    }
+
+    -- the line was refused, and its names were given back
+    pub takes-refused : (e : Refusal) (names : List (List ℕ)) → reply ≡ Refused e → names ≡ before → Takes supply s line reply (record { stands = stands; text = text names }) names
+    takes-refused e names k back = record {
+      new = a.new;
+      stands = (a.stands, back ∙ same ∙ sym (a.names ∙ ap (λ x. names_left x s (said c (terms_of w) after)) k));
+      steps = record {
+        reading = Means (said c (terms_of w) after);
+        reads = reads;
+        follows = subst (λ z. CommandStep supply.may supply.words s (said c (terms_of w) after) (ends_script reply) z a.new) (lines names) a.steps;
+      };
+      maps = λ p r. let P : Parsed → Type 0 = λ z. TellsMap s z (text names) (reply_lines reply (record { state = a.new; names = names; text = text names })) in
+          subst P (read-one p r) (λ m o. sym (lines names) ∙ a.maps m o ∙ ap (λ z. text z c ∷ []) (told-same (map-prints c m) ∙ sym back));
+    }
+      where
+        lines : (names : List (List ℕ)) → reply_lines reply (record { state = a.new; names = after; text = text after }) ≡ reply_lines reply (record { state = a.new; names = names; text = text names })
+        lines names = ap (λ x. reply_lines x (record { state = a.new; names = after; text = text after })) k
+            ∙ sym (ap (λ x. reply_lines x (record { state = a.new; names = names; text = text names })) k)
 
 -- the line is refused before it comes to a command
-pub takes-nothing : (may : ℕ → State → Parsed → Bool) (words : ℕ) (s : State) (line : List ℕ) (e : Refusal) (before names : List (List ℕ)) (Stands : State → Type 0)
-    → StandsWith Stands before s → names ≡ before → (e ≡ Syntax) ⊎ (e ≡ Atoms)
-    → (e ≡ Syntax → IsOutside line) → (e ≡ Atoms → BringsTooMany before line) → Takes may words s line (Refused e) Stands names
-takes-nothing may words s line e before names Stands st same (inl h) out over =
-    let P : Refusal → Type 0 = λ z. Takes may words s line (Refused z) Stands names in
-    subst P (sym h) (record { new = s; stands = (st.0, same ∙ st.1); steps = record { reading = NoSyntax; reads = out h; follows = record { goes_on = refl; said = refl; same = refl } } })
-takes-nothing may words s line e before names Stands st same (inr h) out over =
-    let P : Refusal → Type 0 = λ z. Takes may words s line (Refused z) Stands names in
+pub takes-nothing : (supply : Supply) (s : State) (line : List ℕ) (e : Refusal) (before names : List (List ℕ)) (after : After)
+    → StandsWith after.stands before s → names ≡ before → (e ≡ Syntax) ⊎ (e ≡ Atoms)
+    → (e ≡ Syntax → IsOutside line) → (e ≡ Atoms → BringsTooMany before line) → Takes supply s line (Refused e) after names
+takes-nothing supply s line e before names after st same (inl h) out over =
+    let P : Refusal → Type 0 = λ z. Takes supply s line (Refused z) after names in
     subst P (sym h) (record {
       new = s;
       stands = (st.0, same ∙ st.1);
-      steps = record {
-        reading = NoAtoms;
-        reads = subst (λ z. BringsTooMany z line) st.1 (over h);
-        follows = record { goes_on = refl; said = refl; same = refl };
-      };
+      steps = record { reading = NoSyntax; reads = out h; follows = record { goes_on = refl; said = refl; same = refl } };
+      maps = λ p r. absurd (out h r.written r.says r.built);
     })
+takes-nothing supply s line e before names after st same (inr h) out over =
+    let P : Refusal → Type 0 = λ z. Takes supply s line (Refused z) after names in
+    let many : BringsTooMany s.names line = subst (λ z. BringsTooMany z line) st.1 (over h) in
+    subst P (sym h) (record {
+      new = s;
+      stands = (st.0, same ∙ st.1);
+      steps = record { reading = NoAtoms; reads = many; follows = record { goes_on = refl; said = refl; same = refl } };
+      maps = λ p r. absurd (not-both s.names line p r many);
+    })
+  where
+    -- a line that brings too many names comes to no command
+    not-both : (names : List (List ℕ)) (line : List ℕ) (p : Parsed) → IsRead names line p → BringsTooMany names line → ⊥
+    not-both names line p r b =
+        let one : b.written ≡ r.written = one_line line b.written r.written b.says r.says b.built r.built in
+        let few : length (names_after names r.written) ≤ most_names = subst (λ (z : Parsed). length z.names ≤ most_names) r.is r.few in
+        let many : most_names < length (names_after names r.written) = subst (λ z. most_names < length (names_after names z)) one b.many in
+        omega arith

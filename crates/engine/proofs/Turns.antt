@@ -1,5 +1,5 @@
 -- From the turns to the whole.
-use Rattle.std.proofs.Common.{◌≡◌, ℕ, ◌≤◌, inl, inr, Bool, false, Option, List, [], ◌∷◌, ◌++◌, refl, sym, ap, subst, ◌∙◌, arith, append-nil, append_assoc}
+use Rattle.std.proofs.Common.{◌≡◌, ℕ, ◌≤◌, inl, inr, Bool, false, Option, List, [], ◌∷◌, ◌++◌, refl, sym, ap, subst, ◌∙◌, arith, append-nil}
 use Rattle.line_io.specs.Faults.{Rose}
 use Rattle.line_io.specs.Sink.{Grew}
 use Rattle.line_io.specs.Source.{Gave}
@@ -15,7 +15,7 @@ use Rattle.script_grammar.specs.Names.{Parsed}
 use Rattle.plain_machine.specs.State.{State}
 use Rattle.plain_machine.specs.Run.{Run, LineStep, replies_text}
 use Rattle.plain_machine.proofs.Runs.{run-append, run-one, run-none, text-append}
-use Rattle.engine.specs.Rules.{Supply, Rules, Input, Output}
+use Rattle.engine.specs.Rules.{After, Rules, Input, Output}
 use Rattle.engine.specs.Steps.{Steps, StepWrites, TellsQuit, WritesAll}
 use Rattle.engine.specs.Serving.{Course, EndsBy, Going, Served, Turns, turn_of}
 use Rattle.engine.specs.declared.serving.Status.{Status}
@@ -70,12 +70,12 @@ module _ {K : Type 0} (wrote : K → List ℕ → Type 0) (faults : K → ℕ) w
     }
 
     -- a line was read, done and answered
-    pub turn-line : (answer : LineGot) (line : Line) (New : State → Type 0) (new : K) (stepped : Stepped) (turn : Turn)
+    pub turn-line : (answer : LineGot) (line : Line) (left : After) (new : K) (stepped : Stepped) (turn : Turn)
         → turn ≡ turn_of stepped → came_line answer (line_in next) ≡ line ∷ []
-        → Reads now after rules.limits next g.bytes g.given answer → Steps rules.supply g.state line New (sink_from mid new) stepped
-        → Turns turn rules (source_from before after) (sink_from start new) next New
-    turn-line answer line New new stepped turn e came r p =
-        let P : Turn → Type 0 = λ t. Turns t rules (source_from before after) (sink_from start new) next New in
+        → Reads now after rules.limits next g.bytes g.given answer → Steps rules.supply g.state line left (sink_from mid new) stepped
+        → Turns turn rules (source_from before after) (sink_from start new) next left.stands
+    turn-line answer line left new stepped turn e came r p =
+        let P : Turn → Type 0 = λ t. Turns t rules (source_from before after) (sink_from start new) next left.stands in
         subst P (sym e) (at stepped p.writes p.tells)
       where
         took_it : Gave before after (g.bytes ++ r.x)
@@ -93,7 +93,7 @@ module _ {K : Type 0} (wrote : K → List ℕ → Type 0) (faults : K → ℕ) w
             (subst (λ b. LineStep rules.supply.may rules.supply.words g.state line b p.replies p.new) q p.follows))
 
         at : (stepped : Stepped) → StepWrites (sink_from mid new) (replies_text p.replies) stepped → TellsQuit stepped p.quits
-            → Turns (turn_of stepped) rules (source_from before after) (sink_from start new) next New
+            → Turns (turn_of stepped) rules (source_from before after) (sink_from start new) next left.stands
         at Next w q = record {
           bytes = g.bytes ++ r.x;
           given = g.given ++ line ∷ [];

@@ -1,19 +1,22 @@
 -- What doing a line leaves, before its reply is written.
-use Rattle.std.specs.Prelude.{ℕ, ◌≡◌, Bool, true, List, Result, Ok, Err}
+use Rattle.std.specs.Prelude.{ℕ, ◌≡◌, true, if◌then◌else◌, List, [], ◌∷◌}
 use Rattle.plain_term.specs.declared.item.Item.{Item}
 use Rattle.script_grammar.specs.declared.command.Command.{Command}
 use Rattle.script_grammar.specs.declared.command.Command.TheVariants.{Process}
 use Rattle.script_grammar.specs.declared.command.Verb.TheVariants.{Set}
-use Rattle.script_grammar.specs.declared.refusal.Refusal.{Refusal}
 use Rattle.script_grammar.specs.Written.{Term, Terms}
 use Rattle.script_grammar.specs.Names.{Parsed}
-use Rattle.plain_machine.specs.State.{State}
-use Rattle.plain_machine.specs.Step.{is_printing}
+use Rattle.script_grammar.specs.ReadAs.{IsRead}
+use Rattle.plain_machine.specs.State.{State, HasNames}
+use Rattle.plain_machine.specs.Step.{step, is_printing}
+use Rattle.plain_machine.specs.Step.Outcome.{Mapped}
 use Rattle.plain_machine.specs.Run.{CommandStep, TextStep}
+use Rattle.plain_machine.specs.Maps.{is_map}
 use Rattle.space_api.specs.Calls.{HasTerm, IsTerm, one_term}
 use Rattle.engine.specs.declared.reply.Reply.{Reply}
-use Rattle.engine.specs.declared.reply.Reply.TheVariants.{Spawned, Refused}
-use Rattle.engine.specs.Replies.{reply_lines, ends_script}
+use Rattle.engine.specs.declared.reply.Reply.TheVariants.{Refused}
+use Rattle.engine.specs.Replies.{Shown, reply_lines, ends_script}
+use Rattle.engine.specs.Rules.{Supply, After}
 
 -- The space stands for the state, and these are its names.
 abbrev pub StandsWith : (stands : State → Type 0) (names : List (List ℕ)) → State → Type 0
@@ -29,35 +32,40 @@ abbrev pub TermsFit : Command → List (List ℕ) → List Item → Terms → Ty
 TermsFit (Process number (Set r)) names code terms = (t : Term) × (terms ≡ one_term t) × IsTerm names code t
 TermsFit _ names code terms = Unit {0}
 
--- The command's terms and names fit to its code and to the names before it.
-pub record Fits (c : Command) (names : List (List ℕ)) (code : List Item) (terms : Terms) (old : List (List ℕ)) : Type 0 where
+-- The command's terms fit to its code, and its names are those of the state with more.
+pub record Fits (c : Command) (names : List (List ℕ)) (code : List Item) (terms : Terms) (s : State) : Type 0 where
   pub term : TermsFit c names code terms
-  pub kept : is_printing c ≡ true → names ≡ old
+  pub longer : HasNames s names
 
--- The names of the state after a command: a refused one brings none.
+-- The names of the state after a command: one that prints or is refused brings none.
 abbrev pub names_left : Reply → State → Parsed → List (List ℕ)
 names_left (Refused e) s p = s.names
-names_left _ s p = p.names
+names_left _ s p = if is_printing p.command then s.names else p.names
 
--- The command was done: the space stands for a state, to which and to the lines of the reply the machine steps.
-pub record Acts (may : ℕ → State → Parsed → Bool) (words : ℕ) (s : State) (p : Parsed) (reply : Reply) (Stands : State → Type 0) : Type 0 where
+-- The reply to an accepted map line is the text of the store.
+abbrev pub TellsMap : State → Parsed → (text : Command → List ℕ) → (replies : List (List ℕ)) → Type 0
+TellsMap s p text replies = is_map p.command ≡ true → step s p ≡ Mapped → replies ≡ text p.command ∷ []
+
+-- What a reply is read from, where this state is stood for.
+abbrev pub shown : After → State → List (List ℕ) → Shown
+shown after s names = record { state = s; names = names; text = after.text }
+
+-- The command was done: a state is stood for to which, and to the lines of the reply, the machine steps.
+pub record Acts (supply : Supply) (s : State) (p : Parsed) (reply : Reply) (after : After) : Type 0 where
   pub new : State
-  pub stands : Stands new
+  pub stands : after.stands new
   pub names : new.names ≡ names_left reply s p
-  pub steps : CommandStep may words s p (ends_script reply) (reply_lines reply new p.names) new
+  pub steps : CommandStep supply.may supply.words s p (ends_script reply) (reply_lines reply (shown after new p.names)) new
+  pub maps : TellsMap s p after.text (reply_lines reply (shown after new p.names))
 
 -- The line was done.
-pub record Takes (may : ℕ → State → Parsed → Bool) (words : ℕ) (s : State) (line : List ℕ) (reply : Reply) (Stands : State → Type 0) (names : List (List ℕ)) : Type 0 where
+pub record Takes (supply : Supply) (s : State) (line : List ℕ) (reply : Reply) (after : After) (names : List (List ℕ)) : Type 0 where
   pub new : State
-  pub stands : StandsWith Stands names new
-  pub steps : TextStep may words s line (ends_script reply) (reply_lines reply new names) new
+  pub stands : StandsWith after.stands names new
+  pub steps : TextStep supply.may supply.words s line (ends_script reply) (reply_lines reply (shown after new names)) new
+  pub maps : (p : Parsed) → IsRead s.names line p → TellsMap s p after.text (reply_lines reply (shown after new names))
 
 -- What holds where the reply is a refusal.
 abbrev pub OnRefused : Reply → Type 0 → Type 0
 OnRefused (Refused e) P = P
 OnRefused _ P = Unit {0}
-
--- The reply to the number of a new process.
-abbrev pub reply_of_spawn : Result ℕ Refusal → Reply
-reply_of_spawn (Ok n) = Spawned n
-reply_of_spawn (Err e) = Refused e

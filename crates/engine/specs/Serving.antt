@@ -10,8 +10,8 @@ use Rattle.line_io.specs.declared.reader.Limits.{Limits}
 use Rattle.line_io.specs.declared.reader.LineReader.{LineReader}
 use Rattle.plain_machine.specs.State.{State}
 use Rattle.plain_machine.specs.Run.{Run, LineStep, replies_text}
-use Rattle.engine.specs.Rules.{Rules, Supply, Input, Output}
-use Rattle.engine.specs.Steps.{IsQuiet, WritesAll}
+use Rattle.engine.specs.Rules.{Rules, Input, Output}
+use Rattle.engine.specs.Steps.{WritesAll}
 use Rattle.engine.specs.declared.serving.Status.{Status}
 use Rattle.engine.specs.declared.serving.Status.TheVariants.{Done, Usage, ReadFault, WriteFault, Memory, TooMuch}
 use Rattle.engine.specs.declared.serving.Turn.{Turn}

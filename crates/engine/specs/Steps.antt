@@ -1,11 +1,14 @@
 -- What one line leaves: of the machine, and of the sink.
 use Rattle.std.specs.Prelude.{ℕ, ◌≡◌, ◌≤◌, Bool, true, false, List}
 use Rattle.line_io.specs.Faults.{Rose}
-use Rattle.line_io.specs.Lines.{Line}
+use Rattle.line_io.specs.Lines.{Line, text, long}
 use Rattle.line_io.specs.Sink.{Grew, GrewInPart}
+use Rattle.script_grammar.specs.Names.{Parsed}
+use Rattle.script_grammar.specs.ReadAs.{IsRead}
 use Rattle.plain_machine.specs.State.{State}
 use Rattle.plain_machine.specs.Run.{LineStep, replies_text}
-use Rattle.engine.specs.Rules.{Supply, Output}
+use Rattle.engine.specs.Acts.{TellsMap}
+use Rattle.engine.specs.Rules.{Supply, After, Output}
 use Rattle.engine.specs.declared.machine.Stepped.{Stepped}
 use Rattle.engine.specs.declared.machine.Stepped.TheVariants.{Next, Quit, SinkFault}
 
@@ -33,13 +36,20 @@ TellsQuit Next quits = quits ≡ false
 TellsQuit Quit quits = quits ≡ true
 TellsQuit SinkFault quits = Unit {0}
 
--- One line: the machine's step, the state that the machine stands for after it, and what was written.
-pub record Steps (supply : Supply) (s : State) (line : Line) (Stands : State → Type 0) {K : Type 0} (out : Output K) (result : Stepped) : Type 0 where
+-- The line comes to this command, where these names are known before it.
+abbrev pub ComesTo : (names : List (List ℕ)) → Line → Parsed → Type 0
+ComesTo names long p = ⊥
+ComesTo names (text line) p = IsRead names line p
+
+-- One line: the machine's step, the state that is stood for after it, and what was written. The reply to a map line is
+-- the text of the store.
+pub record Steps (supply : Supply) (s : State) (line : Line) (after : After) {K : Type 0} (out : Output K) (result : Stepped) : Type 0 where
   pub quits : Bool
   pub replies : List (List ℕ)
   pub new : State
   pub follows : LineStep supply.may supply.words s line quits replies new
-  pub stands : Stands new
+  pub stands : after.stands new
+  pub maps : (p : Parsed) → ComesTo s.names line p → TellsMap s p after.text replies
   pub writes : StepWrites out (replies_text replies) result
   pub tells : TellsQuit result quits
   pub later : out.faults out.before ≤ out.faults out.after

@@ -1,22 +1,25 @@
-ghost use Rattle.std.specs.Prelude.{◌≡◌, ℕ, ◌+◌, ◌^◌, ◌<◌, ◌≤◌, List, length, max, true};
+ghost use Rattle.std.specs.Prelude.{◌≡◌, ℕ, ◌<◌, ◌≤◌, List, length, true};
+ghost use Rattle.script_grammar.specs.declared.command.Command.{Command};
 ghost use Rattle.script_grammar.specs.declared.command.Command.TheVariants.{Process, System};
+ghost use Rattle.script_grammar.specs.Grammar.{IsBuiltCommand};
 ghost use Rattle.script_grammar.specs.Names.{HasRegisters, IsInBounds};
-ghost use Rattle.plain_machine.specs.State.{State, is_live};
-ghost use Rattle.plain_term.specs.declared.item.Item.{Item};
 ghost use Rattle.script_grammar.specs.Written.{Terms};
-ghost use Rattle.space_api.specs.Calls.{said};
+ghost use Rattle.plain_term.specs.declared.item.Item.{Item};
+ghost use Rattle.plain_machine.specs.State.{State};
+ghost use Rattle.plain_machine.specs.Step.{is_printing};
+ghost use Rattle.space_api.specs.Calls.{KeepsBooks, most_calls, said};
 ghost use Rattle.engine.specs.Replies.{CanReply, reply_of};
-ghost use Rattle.engine.specs.Acts.{Acts, Fits, HasCode, OnRefused, reply_of_spawn};
+ghost use Rattle.engine.specs.Acts.{Acts, Fits, HasCode, OnRefused};
 
 use crate::reply::Reply;
 use atom_names::AtomNames;
 use plain_machine::{Command, Refusal, SysVerb, Verb};
 use plain_term::Item;
-use space_api::Space;
+use space_api::{Seat, Space};
 
 /// The reply to an answer of the space that tells nothing.
 fn done(answer: Result<(), Refusal>) -> Reply
-    ensures { result ≡ reply_of answer }
+    ensures { result ≡ reply_of (λ _. Reply.Done) answer }
 {
     match answer {
         Ok(()) => Reply::Done,
@@ -26,7 +29,7 @@ fn done(answer: Result<(), Refusal>) -> Reply
 
 /// The reply to the number of a new process.
 fn spawned(answer: Result<u64, Refusal>) -> Reply
-    ensures { result ≡ reply_of_spawn answer }
+    ensures { result ≡ reply_of Reply.Spawned answer }
 {
     match answer {
         Ok(n) => Reply::Spawned(n),
@@ -35,84 +38,92 @@ fn spawned(answer: Result<u64, Refusal>) -> Reply
 }
 
 /// Does a verb at a live process.
-fn act_in<S: Space>(space: &mut S, names: &AtomNames, pid: u64, verb: Verb, code: &[Item]) -> Reply
-    requires lives { S.lives space.old pid ≡ true }
-    requires alive { (s : State) → S.stands space.old s → is_live pid s ≡ true }
+fn act_in<S: Space>(
+    space: &mut S,
+    names: &AtomNames,
+    seat: Seat,
+    verb: Verb,
+    code: &[Item],
+) -> Reply
+    requires sits { S.sits space.old seat }
+    requires built { IsBuiltCommand (Process seat.pid verb) }
     requires registers { HasRegisters verb }
-    requires calls { S.calls space.old < 2 ^ 36 }
+    requires calls { S.calls space.old < most_calls }
     requires named { S.named space.old ≤ length names.now }
-    requires code { HasCode (Process pid verb) names.now code.now }
-    ensures acts { (s : State) (terms : Terms) → S.stands space.old s → Fits (Process pid verb) names.now code.now terms s.names
-        → Acts S.may (S.words space.old) s (said (Process pid verb) terms names.now) result (S.stands space.new) }
-    ensures can { CanReply S.lives S.named space.new names.now result }
-    ensures words { S.words space.new ≡ S.words space.old }
-    ensures calls { S.calls space.new ≤ S.calls space.old + 1 }
-    ensures named { S.named space.new ≤ length names.now }
+    requires code { HasCode (Process seat.pid verb) names.now code.now }
+    ensures acts { (s : State) (terms : Terms) → S.stands space.old s → Fits (Process seat.pid verb) names.now code.now terms s
+        → Acts (record { may = S.may; words = S.words space.old }) s (said (Process seat.pid verb) terms names.now) result
+        (record { stands = S.stands space.new; text = S.text space.new names.now }) }
+    ensures can { CanReply S.sits S.named space.new names.now result }
+    ensures books { KeepsBooks S.words S.calls S.named space.old space.new (length names.now) }
     ensures refused { OnRefused result (S.named space.new ≤ S.named space.old) }
+    ensures leaves { is_printing (Process seat.pid verb) ≡ true → space.new ≡ space.old }
 {
     match verb {
-        Verb::Set(r) => done(space.build(names, pid, r, code)),
+        Verb::Set(r) => done(space.build(names, seat, r, code)),
         Verb::Own(r) => {
-            space.own_pid(pid, r);
+            space.own_pid(seat, r);
             Reply::Done
         }
-        Verb::Push(r) => done(space.push(pid, r)),
-        Verb::Pop(r) => done(space.pop(pid, r)),
-        Verb::Print(r) => Reply::Text(pid, r),
+        Verb::Push(r) => done(space.push(seat, r)),
+        Verb::Pop(r) => done(space.pop(seat, r)),
+        Verb::Print(r) => Reply::Text(seat, r),
         Verb::Exit => {
-            space.exit(pid);
+            space.exit(seat);
             Reply::Done
         }
-        _ => Reply::Refused(Refusal::Syntax),
+        _ => unreachable!(),
     }
 }
 
 /// Does a verb of the system.
 fn act_system<S: Space>(space: &mut S, names: &AtomNames, verb: SysVerb) -> Reply
-    requires calls { S.calls space.old < 2 ^ 36 }
+    requires built { IsBuiltCommand (System verb) }
+    requires calls { S.calls space.old < most_calls }
     requires named { S.named space.old ≤ length names.now }
-    ensures acts { (s : State) (terms : Terms) (code : List Item) → S.stands space.old s → Fits (System verb) names.now code terms s.names
-        → Acts S.may (S.words space.old) s (said (System verb) terms names.now) result (S.stands space.new) }
-    ensures can { CanReply S.lives S.named space.new names.now result }
-    ensures words { S.words space.new ≡ S.words space.old }
-    ensures calls { S.calls space.new ≤ S.calls space.old + 1 }
-    ensures named { S.named space.new ≤ length names.now }
+    ensures acts { (s : State) (terms : Terms) (code : List Item) → S.stands space.old s → Fits (System verb) names.now code terms s
+        → Acts (record { may = S.may; words = S.words space.old }) s (said (System verb) terms names.now) result
+        (record { stands = S.stands space.new; text = S.text space.new names.now }) }
+    ensures can { CanReply S.sits S.named space.new names.now result }
+    ensures books { KeepsBooks S.words S.calls S.named space.old space.new (length names.now) }
     ensures refused { OnRefused result (S.named space.new ≤ S.named space.old) }
+    ensures leaves { is_printing (System verb) ≡ true → space.new ≡ space.old }
 {
     match verb {
         SysVerb::Spawn => spawned(space.spawn()),
         SysVerb::Procs => Reply::Numbers,
         SysVerb::Quit => Reply::Quit,
-        _ => Reply::Refused(Refusal::Syntax),
+        _ => unreachable!(),
     }
 }
 
-/// Does a command.
+/// Does a command. One that prints leaves the space as it is.
 pub(crate) fn act<S: Space>(
     space: &mut S,
     names: &AtomNames,
     command: Command,
     code: &[Item],
 ) -> Reply
+    requires built { IsBuiltCommand command }
     requires bounds { IsInBounds command }
-    requires calls { S.calls space.old < 2 ^ 36 }
+    requires calls { S.calls space.old < most_calls }
     requires named { S.named space.old ≤ length names.now }
     requires code { HasCode command names.now code.now }
-    ensures acts { (s : State) (terms : Terms) → S.stands space.old s → Fits command names.now code.now terms s.names
-        → Acts S.may (S.words space.old) s (said command terms names.now) result (S.stands space.new) }
-    ensures can { CanReply S.lives S.named space.new names.now result }
-    ensures words { S.words space.new ≡ S.words space.old }
-    ensures calls { S.calls space.new ≤ S.calls space.old + 1 }
-    ensures named { S.named space.new ≤ length names.now }
+    ensures acts { (s : State) (terms : Terms) → S.stands space.old s → Fits command names.now code.now terms s
+        → Acts (record { may = S.may; words = S.words space.old }) s (said command terms names.now) result
+        (record { stands = S.stands space.new; text = S.text space.new names.now }) }
+    ensures can { CanReply S.sits S.named space.new names.now result }
+    ensures books { KeepsBooks S.words S.calls S.named space.old space.new (length names.now) }
     ensures refused { OnRefused result (S.named space.new ≤ S.named space.old) }
+    ensures leaves { is_printing command ≡ true → space.new ≡ space.old }
 {
     match command {
         Command::Nothing => Reply::Nothing,
         Command::Process(pid, verb) => {
-            if !space.live(pid) {
+            let Some(seat) = space.find(pid) else {
                 return Reply::Refused(Refusal::NoProc);
-            }
-            act_in(space, names, pid, verb, code)
+            };
+            act_in(space, names, seat, verb, code)
         }
         Command::System(verb) => act_system(space, names, verb),
     }

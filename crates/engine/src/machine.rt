@@ -1,8 +1,14 @@
-ghost use Rattle.std.specs.Prelude.{◌≡◌, ℕ, ◌+◌, ◌^◌, ◌<◌, ◌≤◌, List, length};
+ghost use Rattle.std.specs.Prelude.{◌≡◌, ℕ, ◌+◌, ◌<◌, ◌≤◌, List, length, true};
+ghost use Rattle.script_grammar.specs.Names.{Parsed};
+ghost use Rattle.script_grammar.specs.ReadAs.{IsRead};
+ghost use Rattle.script_grammar.specs.declared.command.Command.{Command};
 ghost use Rattle.plain_machine.specs.Run.{replies_text};
 ghost use Rattle.plain_machine.specs.State.{State};
+ghost use Rattle.plain_machine.specs.Step.{is_printing};
 ghost use Rattle.line_io.specs.Lines.{text, long};
 ghost use Rattle.line_io.specs.Sink.{Written};
+ghost use Rattle.line_io.specs.declared.reader.TheConstants.{LONGEST_LINE};
+ghost use Rattle.space_api.specs.Calls.{KeepsBooks, most_calls};
 ghost use Rattle.engine.specs.Replies.{CanReply, ends_script, reply_lines};
 ghost use Rattle.engine.specs.Acts.{StandsWith, Takes};
 ghost use Rattle.engine.specs.Steps.{StepWrites, Steps, TellsQuit};
@@ -33,15 +39,16 @@ pub enum Stepped {
 
 /// Reads a line and does what it says. A refused line leaves no name.
 fn take_line<S: Space>(space: &mut S, names: &mut AtomNames, code: &mut Code, line: &[u8]) -> Reply
-    requires short { length line.now ≤ 4096 }
-    requires calls { S.calls space.old < 2 ^ 36 }
+    requires short { length line.now ≤ LONGEST_LINE }
+    requires calls { S.calls space.old < most_calls }
     requires named { S.named space.old ≤ length names.old }
     ensures takes { (s : State) → StandsWith (S.stands space.old) names.old s
-        → Takes S.may (S.words space.old) s line.now result (S.stands space.new) names.new }
-    ensures can { CanReply S.lives S.named space.new names.new result }
-    ensures words { S.words space.new ≡ S.words space.old }
-    ensures calls { S.calls space.new ≤ S.calls space.old + 1 }
-    ensures named { S.named space.new ≤ length names.new }
+        → Takes (record { may = S.may; words = S.words space.old }) s line.now result
+        (record { stands = S.stands space.new; text = S.text space.new names.new }) names.new }
+    ensures can { CanReply S.sits S.named space.new names.new result }
+    ensures books { KeepsBooks S.words S.calls S.named space.old space.new (length names.new) }
+    ensures leaves { (p : Parsed) → IsRead names.old line.now p → is_printing p.command ≡ true
+        → (space.new ≡ space.old) × (names.new ≡ names.old) }
 {
     let before = names.count();
     match parse(line, names, code) {
@@ -63,9 +70,9 @@ fn send<S: Space, K: Sink>(
     reply: Reply,
     sink: &mut K,
 ) -> Result<(), SinkFault>
-    requires can { CanReply S.lives S.named space.now names.now reply }
+    requires can { CanReply S.sits S.named space.now names.now reply }
     ensures sent { (s : State) → S.stands space.now s
-        → Written K.wrote K.faults sink.old sink.new (replies_text (reply_lines reply s names.now)) result }
+        → Written K.wrote K.faults sink.old sink.new (replies_text (reply_lines reply (record { state = s; names = names.now; text = S.text space.now names.now }))) result }
 {
     let mut gathered = Gathered::new(sink);
     put_reply(space, names, reply, &mut gathered)?;
@@ -74,11 +81,11 @@ fn send<S: Space, K: Sink>(
 
 /// Writes the lines of a reply, and says what the line comes to.
 fn answer<S: Space, K: Sink>(m: &Machine<S>, reply: Reply, sink: &mut K) -> Stepped
-    requires can { CanReply S.lives S.named m.now.space m.now.names reply }
+    requires can { CanReply S.sits S.named m.now.space m.now.names reply }
     ensures tells { TellsQuit result (ends_script reply) }
     ensures writes { (s : State) → S.stands m.now.space s
         → StepWrites (record { wrote = K.wrote; faults = K.faults; before = sink.old; after = sink.new })
-        (replies_text (reply_lines reply s m.now.names)) result }
+        (replies_text (reply_lines reply (record { state = s; names = m.now.names; text = S.text m.now.space m.now.names }))) result }
     ensures later { (s : State) → S.stands m.now.space s → K.faults sink.old ≤ K.faults sink.new }
 {
     if let Err(SinkFault) = send(&m.space, &m.names, reply, sink) {
@@ -90,28 +97,32 @@ fn answer<S: Space, K: Sink>(m: &Machine<S>, reply: Reply, sink: &mut K) -> Step
     Stepped::Next
 }
 
-/// Does one line of a script of at most 4,096 bytes, and writes its reply.
+/// Does one line of a script of at most `LONGEST_LINE` bytes, and writes its reply.
 ///
 /// The state becomes the next one first. At `SinkFault` a proper front of the reply was written.
 pub fn step<S: Space, K: Sink>(m: &mut Machine<S>, line: &[u8], sink: &mut K) -> Stepped
-    requires short { length line.now ≤ 4096 }
-    requires calls { S.calls m.old.space < 2 ^ 36 }
+    requires short { length line.now ≤ LONGEST_LINE }
+    requires calls { S.calls m.old.space < most_calls }
     requires named { S.named m.old.space ≤ length m.old.names }
+    // The machine of plain trees makes this step, and a map line is answered by the text of the store.
     ensures steps { (s : State) → StandsWith (S.stands m.old.space) m.old.names s
-        → Steps (record { may = S.may; words = S.words m.old.space }) s (text line.now) (StandsWith (S.stands m.new.space) m.new.names)
+        → Steps (record { may = S.may; words = S.words m.old.space }) s (text line.now)
+        (record { stands = StandsWith (S.stands m.new.space) m.new.names; text = S.text m.new.space m.new.names })
         (record { wrote = K.wrote; faults = K.faults; before = sink.old; after = sink.new }) result }
-    ensures words { S.words m.new.space ≡ S.words m.old.space }
-    ensures calls { S.calls m.new.space ≤ S.calls m.old.space + 1 }
-    ensures named { S.named m.new.space ≤ length m.new.names }
+    // A line that prints, a map line among them, leaves the store as it is.
+    ensures leaves { (p : Parsed) → IsRead m.old.names line.now p → is_printing p.command ≡ true
+        → (m.new.space ≡ m.old.space) × (m.new.names ≡ m.old.names) }
+    ensures books { KeepsBooks S.words S.calls S.named m.old.space m.new.space (length m.new.names) }
 {
     let reply = take_line(&mut m.space, &mut m.names, &mut m.code, line);
     answer(m, reply, sink)
 }
 
-/// Answers a line of more than 4,096 bytes.
+/// Answers a line of more than `LONGEST_LINE` bytes.
 pub(crate) fn refuse_long<S: Space, K: Sink>(m: &Machine<S>, sink: &mut K) -> Stepped
     ensures steps { (s : State) → StandsWith (S.stands m.now.space) m.now.names s
-        → Steps (record { may = S.may; words = S.words m.now.space }) s long (StandsWith (S.stands m.now.space) m.now.names)
+        → Steps (record { may = S.may; words = S.words m.now.space }) s long
+        (record { stands = StandsWith (S.stands m.now.space) m.now.names; text = S.text m.now.space m.now.names })
         (record { wrote = K.wrote; faults = K.faults; before = sink.old; after = sink.new }) result }
 {
     answer(m, Reply::Refused(Refusal::Long), sink)

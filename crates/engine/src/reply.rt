@@ -2,6 +2,7 @@ ghost use Rattle.std.specs.Prelude.{◌≡◌, ℕ, ◌≤◌, ◌++◌, ◌∷�
 ghost use Rattle.line_io.specs.Faults.{Rose};
 ghost use Rattle.plain_machine.specs.Run.{replies_text};
 ghost use Rattle.plain_machine.specs.State.{State};
+ghost use Rattle.script_grammar.specs.declared.command.Command.{Command};
 ghost use Rattle.line_io.specs.Sink.{Writes};
 ghost use Rattle.engine.specs.Replies.{reply_lines, CanReply};
 
@@ -10,7 +11,7 @@ use crate::texts::{put_counted, put_line, put_refusal};
 use atom_names::AtomNames;
 use line_io::{Sink, SinkFault, put_all};
 use plain_machine::{Refusal, Reg};
-use space_api::{Space, Stop};
+use space_api::{Seat, Space, Stop};
 
 /// How a line that was done is answered.
 #[derive(Clone, Copy)]
@@ -19,7 +20,7 @@ pub(crate) enum Reply {
     Done,
     Spawned(u64),
     Numbers,
-    Text(u64, Reg),
+    Text(Seat, Reg),
     Quit,
     Refused(Refusal),
 }
@@ -28,18 +29,18 @@ pub(crate) enum Reply {
 fn put_text<S: Space, K: Sink>(
     space: &S,
     names: &AtomNames,
-    pid: u64,
+    seat: Seat,
     r: Reg,
     sink: &mut K,
 ) -> Result<(), SinkFault>
-    requires can { CanReply S.lives S.named space.now names.now (Reply.Text pid r) }
+    requires can { CanReply S.sits S.named space.now names.now (Reply.Text seat r) }
     ensures writes { (s : State) → S.stands space.now s
-        → Writes K.wrote sink.old sink.new result (replies_text (reply_lines (Reply.Text pid r) s names.now)) }
+        → Writes K.wrote sink.old sink.new result (replies_text (reply_lines (Reply.Text seat r) (record { state = s; names = names.now; text = S.text space.now names.now }))) }
     ensures later { K.faults sink.old ≤ K.faults sink.new }
     ensures rose { OnErr result (Rose (K.faults sink.old) (K.faults sink.new)) }
     ensures told { OnOk result (K.faults sink.new ≡ K.faults sink.old) }
 {
-    match space.print(names, pid, r, sink) {
+    match space.print(names, seat, r, sink) {
         Ok(()) => put_all(sink, b"\n"),
         Err(Stop::Big) => put_refusal(Refusal::Big, sink),
         Err(Stop::Fault) => Err(SinkFault),
@@ -53,9 +54,9 @@ pub(crate) fn put_reply<S: Space, K: Sink>(
     reply: Reply,
     sink: &mut K,
 ) -> Result<(), SinkFault>
-    requires can { CanReply S.lives S.named space.now names.now reply }
+    requires can { CanReply S.sits S.named space.now names.now reply }
     ensures writes { (s : State) → S.stands space.now s
-        → Writes K.wrote sink.old sink.new result (replies_text (reply_lines reply s names.now)) }
+        → Writes K.wrote sink.old sink.new result (replies_text (reply_lines reply (record { state = s; names = names.now; text = S.text space.now names.now }))) }
     ensures later { K.faults sink.old ≤ K.faults sink.new }
     ensures rose { OnErr result (Rose (K.faults sink.old) (K.faults sink.new)) }
     ensures told { OnOk result (K.faults sink.new ≡ K.faults sink.old) }
@@ -65,7 +66,7 @@ pub(crate) fn put_reply<S: Space, K: Sink>(
         Reply::Done => put_line(b"ok", sink),
         Reply::Spawned(n) => put_counted(b"ok ", n, sink),
         Reply::Numbers => put_numbers(space, sink),
-        Reply::Text(pid, r) => put_text(space, names, pid, r, sink),
+        Reply::Text(seat, r) => put_text(space, names, seat, r, sink),
         Reply::Quit => put_line(b"ok", sink),
         Reply::Refused(refusal) => put_refusal(refusal, sink),
     }

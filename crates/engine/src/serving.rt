@@ -1,6 +1,7 @@
-ghost use Rattle.std.specs.Prelude.{◌≡◌, ℕ, ◌+◌, ◌^◌, ◌<◌, ◌≤◌, List, Option, length};
+ghost use Rattle.std.specs.Prelude.{◌≡◌, ℕ, ◌+◌, ◌<◌, ◌≤◌, List, Option, length};
 ghost use Rattle.line_io.specs.Reader.{IsFaulted, lines_left, limits_of};
 ghost use Rattle.plain_machine.specs.State.{State};
+ghost use Rattle.space_api.specs.Calls.{most_calls};
 ghost use Rattle.engine.specs.Acts.{StandsWith};
 ghost use Rattle.engine.specs.Serving.{Going, IsNew, Served, TellsRead, TurnTellsRead, Turns, turn_of};
 
@@ -44,7 +45,7 @@ fn take_turn<S: Space, T: Source, K: Sink>(
     source: &mut T,
     sink: &mut K,
 ) -> Turn
-    requires calls { S.calls m.old.space + lines_left reader.old ≤ 2 ^ 36 }
+    requires calls { S.calls m.old.space + lines_left reader.old ≤ most_calls }
     requires named { S.named m.old.space ≤ length m.old.names }
     requires no_fault { IsFaulted reader.old → ⊥ }
     ensures turns { (first : State) (left : Option (List ℕ)) (start : K)
@@ -84,7 +85,7 @@ pub fn serve<S: Space, T: Source, K: Sink>(
     sink: &mut K,
 ) -> Status
     requires new { IsNew reader.old }
-    requires calls { S.calls m.old.space + (limits_of reader.old).lines ≤ 2 ^ 36 }
+    requires calls { S.calls m.old.space + (limits_of reader.old).lines ≤ most_calls }
     requires named { S.named m.old.space ≤ length m.old.names }
     ensures served { (first : State) → StandsWith (S.stands m.old.space) m.old.names first
         → Served (record { supply = record { may = S.may; words = S.words m.old.space }; first = first; limits = limits_of reader.old })

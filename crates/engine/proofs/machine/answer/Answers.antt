@@ -1,1 +1,0 @@
-use Rattle.engine.proofs.machine.answer.Goals as goal

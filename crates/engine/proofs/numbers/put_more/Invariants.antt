@@ -1,4 +1,4 @@
-use Rattle.std.proofs.Common.{◌≡◌, ℕ, ◌≤◌, ◌<◌, ◌^◌, ◌-◌, ◌++◌, List}
+use Rattle.std.proofs.Common.{◌≡◌, ℕ, ◌<◌, ◌^◌, ◌-◌, ◌++◌, List}
 use Rattle.line_io.specs.Sink.{Grew}
 use Rattle.plain_term.specs.Text.{more_numbers}
 use Rattle.plain_machine.specs.State.{State, live_numbers}

@@ -20,9 +20,9 @@ pub returns-in-Stop-clause-served : goal.returns-in-Stop-clause-served
 returns-in-Stop-clause-served g c = λ first h.
     let kept = c.loop-status.invariant in
     let past : Rules → Type 0 = λ r. Going r (source_from (g.T.Source.left c.args.source.now) (g.T.Source.left c.loop-status.source))
-        (sink_from g.K.Sink.wrote g.K.Sink.faults c.args.sink.now c.loop-status.sink) c.loop-status.reader (StandsWith (g.S.Space.stands c.loop-status.m.space) c.loop-status.m.names) in
+    (sink_from g.K.Sink.wrote g.K.Sink.faults c.args.sink.now c.loop-status.sink) c.loop-status.reader (StandsWith (g.S.Space.stands c.loop-status.m.space) c.loop-status.m.names) in
     let ends : Rules → Type 0 = λ r. Served r (source_from (g.T.Source.left c.args.source.now) (g.T.Source.left c.take_turn.new.source))
-        (sink_from g.K.Sink.wrote g.K.Sink.faults c.args.sink.now c.take_turn.new.sink) (StandsWith (g.S.Space.stands c.take_turn.new.m.space) c.take_turn.new.m.names) c.in-Stop.status in
+    (sink_from g.K.Sink.wrote g.K.Sink.faults c.args.sink.now c.take_turn.new.sink) (StandsWith (g.S.Space.stands c.take_turn.new.m.space) c.take_turn.new.m.names) c.in-Stop.status in
     same-rules ends g.S.Space.may _ _ first _ _ kept.words kept.limits
     (c.in-Stop.ensures.turns first _ _ (same-rules past g.S.Space.may _ _ first _ _ (sym kept.words) (sym kept.limits) (kept.going first h)))
 
@@ -36,9 +36,9 @@ pub loop-status-preserved : goal.loop-status-preserved
 loop-status-preserved g c =
     let kept = c.loop-status.invariant in
     let past : Rules → Type 0 = λ r. Going r (source_from (g.T.Source.left c.args.source.now) (g.T.Source.left c.loop-status.source))
-        (sink_from g.K.Sink.wrote g.K.Sink.faults c.args.sink.now c.loop-status.sink) c.loop-status.reader (StandsWith (g.S.Space.stands c.loop-status.m.space) c.loop-status.m.names) in
+    (sink_from g.K.Sink.wrote g.K.Sink.faults c.args.sink.now c.loop-status.sink) c.loop-status.reader (StandsWith (g.S.Space.stands c.loop-status.m.space) c.loop-status.m.names) in
     let next : Rules → Type 0 = λ r. Going r (source_from (g.T.Source.left c.args.source.now) (g.T.Source.left c.take_turn.new.source))
-        (sink_from g.K.Sink.wrote g.K.Sink.faults c.args.sink.now c.take_turn.new.sink) c.take_turn.new.reader (StandsWith (g.S.Space.stands c.take_turn.new.m.space) c.take_turn.new.m.names) in
+    (sink_from g.K.Sink.wrote g.K.Sink.faults c.args.sink.now c.take_turn.new.sink) c.take_turn.new.reader (StandsWith (g.S.Space.stands c.take_turn.new.m.space) c.take_turn.new.m.names) in
     record {
       going = λ first h. same-rules next g.S.Space.may _ _ first _ _ kept.words kept.limits
           (c.in_default.ensures.turns first _ _ (same-rules past g.S.Space.may _ _ first _ _ (sym kept.words) (sym kept.limits) (kept.going first h)));

@@ -1,6 +1,7 @@
-use Rattle.std.proofs.Common.{◌≡◌, ◌+◌, ◌^◌, ◌≤◌, length}
+use Rattle.std.proofs.Common.{◌≡◌, ◌+◌, ◌≤◌, length}
 use Rattle.line_io.specs.Reader.{IsFaulted, lines_left, limits_of}
 use Rattle.plain_machine.specs.State.{State}
+use Rattle.space_api.specs.Calls.{most_calls}
 use Rattle.engine.specs.Acts.{StandsWith}
 use Rattle.engine.specs.Serving.{Going}
 use Rattle.engine.proofs.serving.serve.Given as goal
@@ -15,7 +16,7 @@ invariant-loop-status g l = record {
   no_fault : IsFaulted l.reader → ⊥;
   read_told : g.T.Source.faults l.source ≡ g.T.Source.faults l.initial.source;
   words : g.S.Space.words l.m.space ≡ g.S.Space.words l.initial.m.space;
-  calls : g.S.Space.calls l.m.space + lines_left l.reader ≤ 2 ^ 36;
+  calls : g.S.Space.calls l.m.space + lines_left l.reader ≤ most_calls;
   named : g.S.Space.named l.m.space ≤ length l.m.names;
   limits : limits_of l.reader ≡ limits_of l.initial.reader;
 }
