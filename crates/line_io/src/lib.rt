@@ -13,6 +13,7 @@ mod std_sink;
 mod std_source;
 mod sum_sink;
 mod sure_source;
+mod tries;
 
 pub use fault::OpenFault;
 pub use gathered::Gathered;

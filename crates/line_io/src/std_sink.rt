@@ -5,10 +5,12 @@ ghost use Rattle.line_io.specs.Sink.{CountsWrite, Grew, TakesWithin, went};
 ghost use Rattle.line_io.specs.declared.sink.Took.{Took};
 
 use crate::sink::{Sink, Took};
+use crate::tries::{try_flush, try_write};
 use std::io::Write;
 
-/// A sink over a writer of std, flushed after each write. It tells no bytes, so each list may have been written;
-/// each error, of a write or of a flush, and each write of 0 bytes is one fault.
+/// A sink over a writer of std, flushed after each write. It tells no bytes, so each list may have been written. It
+/// takes as many bytes at once as the writer does. A write or a flush that a signal interrupts is tried again, up to
+/// 100 times in all; each other error, 100 interrupts on end, and a write of 0 bytes are one fault.
 #[derive(Drop)]
 pub struct StdSink<W> {
     writer: W,
@@ -28,13 +30,13 @@ impl<W: Write> StdSink<W> {
         ensures bound { result ≤ length bytes.now }
         ensures faults { self.new.faults ≡ self.old.faults }
     {
-        let Ok(n) = self.writer.write(bytes) else {
+        let Some(n) = try_write(&mut self.writer, bytes) else {
             return 0;
         };
-        match self.writer.flush() {
-            Ok(()) => n,
-            Err(_) => 0,
+        if try_flush(&mut self.writer) {
+            return n;
         }
+        0
     }
 }
 

@@ -5,9 +5,11 @@ ghost use Rattle.line_io.specs.Source.{CountsRead, CountsWithin, EndsAt, Gave, c
 ghost use Rattle.line_io.specs.declared.source.Got.{Got};
 
 use crate::source::{Got, Source};
+use crate::tries::try_read;
 use std::io::Read;
 
-/// A source over a reader of std. It tells no bytes; each error of the reader is one fault.
+/// A source over a reader of std. It tells no bytes. A read that a signal interrupts is tried again, up to 100 times
+/// in all; each other error of the reader, and 100 interrupts on end, are one fault.
 #[derive(Drop)]
 pub struct StdSource<R> {
     reader: R,
@@ -40,10 +42,10 @@ impl<R: Read> Source for StdSource<R> {
         // A fault is counted once, and nothing else is.
         ensures faults { CountsRead result self.old.faults self.new.faults }
     {
-        match self.reader.read(buf) {
-            Ok(0) => Got::End,
-            Ok(n) => Got::Got(n),
-            Err(_) => {
+        match try_read(&mut self.reader, buf) {
+            Some(0) => Got::End,
+            Some(n) => Got::Got(n),
+            None => {
                 self.faults = self.faults.saturating_add(1);
                 Got::Failed
             }
