@@ -15,3 +15,5 @@ pub mod Carrying
 pub mod Tiles
 pub mod Members
 pub mod Flat
+pub mod Counts
+pub mod Packing

@@ -133,7 +133,7 @@ meet a n b m = grind arith
 pub object-some : (mem : List ℕ) (w : ℕ) → 0 < object_words mem w
 object-some mem w = grind (arith, nat_tests)
 
-record-some : (c : ℕ → ℕ → Bool) (mem : List ℕ) (v n : ℕ) → IsRecord c mem v n → 0 < n
+pub record-some : (c : ℕ → ℕ → Bool) (mem : List ℕ) (v n : ℕ) → IsRecord c mem v n → 0 < n
 record-some c mem v n (inl (serial, bytes, o, words)) = omega arith
 record-some c mem v n (inr (name, arity, o, words)) = omega arith
 
