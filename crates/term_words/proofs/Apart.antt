@@ -1,6 +1,6 @@
 -- Two objects that stand by a test with one role a place are one or apart; so are two records, and an
 -- object and a record.
-use Rattle.std.proofs.Common.{◌≡◌, ℕ, ◌+◌, ◌*◌, ◌/◌, ◌%◌, ◌<◌, ◌≤◌, ◌⊎◌, Bool, true, List, length, get_or, refl, sym, ◌∙◌, subst, arith, inl, inr, ℤ, pos, negsuc}
+use Rattle.std.proofs.Common.{◌≡◌, ℕ, ◌+◌, ◌*◌, ◌/◌, ◌%◌, ◌<◌, ◌≤◌, ◌⊎◌, ◌==◌, Bool, true, false, List, length, get_or, refl, sym, ◌∙◌, subst, arith, inl, inr, ℤ, pos, negsuc}
 use Rattle.std.proofs.lemmas.Bool.Decides.{nat_tests}
 use Rattle.plain_term.specs.Measures.{bin_words}
 use Rattle.plain_term.specs.Tree.{Tree, trees_len, pairs_len}
@@ -99,6 +99,9 @@ whole-fun_record c mem v name arity single o = record {
 
 pub words-cons : (mem : List ℕ) (w : ℕ) → w % 4 ≡ 1 → object_words mem w ≡ 2
 words-cons mem w tag = grind (arith, nat_tests)
+
+pub words-header : (mem : List ℕ) (w : ℕ) → w % 4 ≡ 2 → object_words mem w ≡ 1 + get_or mem (w / 4) 0 / 64
+words-header mem w tag = let two : (w % 4 == 1) ≡ false = grind (arith, nat_tests) in rw two refl
 
 pub words-boxed : (mem : List ℕ) (w arity low : ℕ) → w % 4 ≡ 2 → get_or mem (w / 4) 0 ≡ arity * 64 + low → low < 64 → object_words mem w ≡ 1 + arity
 words-boxed mem w arity low tag header small =

@@ -11,7 +11,7 @@ use Rattle.term_words.proofs.Apart.{words-cons, words-boxed}
 use Rattle.term_words.proofs.Reached.{scanned, reached}
 use Rattle.term_words.proofs.Roles.{first-role}
 
-in-object : (c : ℕ → ℕ → Bool) (mem : List ℕ) (p n q : ℕ) → IsObject c mem p n → p ≤ q → q < p + n → (c q 3 ≡ true) ⊎ (c q 4 ≡ true)
+pub in-object : (c : ℕ → ℕ → Bool) (mem : List ℕ) (p n q : ℕ) → IsObject c mem p n → p ≤ q → q < p + n → (c q 3 ≡ true) ⊎ (c q 4 ≡ true)
 in-object c mem p n q o from below =
     let which : (q ≡ p) ⊎ (p < q) = grind arith in
     elim which [ inl e ↦ inl (let P : ℕ → Type 0 = λ x. c x 3 ≡ true in subst P (sym e) o.first) | inr far ↦ inr (o.others q far below) ]

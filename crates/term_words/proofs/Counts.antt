@@ -1,5 +1,5 @@
 -- Places that pass a test, counted.
-use Rattle.std.proofs.Common.{◌≡◌, ℕ, zero, suc, ◌+◌, ◌-◌, ◌<◌, ◌≤◌, ◌⊎◌, ◌||◌, Bool, true, false, refl, ap, arith, inl, inr}
+use Rattle.std.proofs.Common.{◌≡◌, ℕ, zero, suc, ◌+◌, ◌-◌, ◌<◌, ◌≤◌, ◌||◌, Bool, true, false, refl, ap, arith, inl, inr}
 use Rattle.term_words.specs.Counted.{count}
 use Rattle.term_words.proofs.Members.{true-or-false}
 

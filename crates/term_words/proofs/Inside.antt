@@ -2,9 +2,10 @@
 use Rattle.std.proofs.Common.{◌≡◌, ℕ, ◌+◌, ◌/◌, ◌%◌, ◌≤◌, Bool, List, length, get_or, sym, subst, arith, inl, inr, ℤ, pos, negsuc}
 use Rattle.plain_term.specs.Tree.{Tree}
 use Rattle.plain_term.specs.Tree.Tree.{Int, Atom, Pid, Ref, Nil, Cons, Tuple, Map, Bin, Shared, Part, Fun}
-use Rattle.term_words.specs.Object.{IsInt}
+use Rattle.term_words.specs.Object.{IsInt, IsPointer, IsRecord, object_words}
 use Rattle.term_words.specs.Stands.{Stands, IsTerm}
 use Rattle.term_words.specs.Role.{always}
+use Rattle.term_words.proofs.Apart.{words-cons, words-header}
 use Rattle.term_words.proofs.Shapes.{told}
 
 cons-within : (c : ℕ → ℕ → Bool) (shared : List (List ℕ)) (mem : List ℕ) (w : ℕ) (t : Tree) → Stands c shared mem w t → w % 4 ≡ 1 → w / 4 + 2 ≤ length mem
@@ -87,3 +88,13 @@ pub binary-inside : (mem : List ℕ) (w p s : ℕ) → IsTerm mem w → w % 4 �
 binary-inside mem w p s i tag same =
     let P : ℕ → Type 0 = λ x. get_or mem x 0 / 4 % 16 ≡ s → 8 ≤ s → s ≤ 10 → (1 ≤ get_or mem x 0 / 64) × (s ≡ 8 → get_or mem x 0 / 64 ≡ 5) × (s ≡ 10 → get_or mem x 0 / 64 ≡ 4) in
     subst P (sym same) (λ sub low high. binary-within always i.shared mem w i.tree i.standing tag s sub low high)
+
+-- All words of a standing object lie in the memory, and all words of a record.
+
+pub object-inside : (c : ℕ → ℕ → Bool) (shared : List (List ℕ)) (mem : List ℕ) (w : ℕ) (t : Tree) → Stands c shared mem w t → IsPointer w → w / 4 + object_words mem w ≤ length mem
+object-inside c shared mem w t s (inl tag) = omega (arith, cons-within c shared mem w t s tag, words-cons mem w tag)
+object-inside c shared mem w t s (inr tag) = let words : object_words mem w ≡ 1 + get_or mem (w / 4) 0 / 64 = words-header mem w tag in omega (arith, boxed-within c shared mem w t s tag)
+
+pub record-inside : (c : ℕ → ℕ → Bool) (mem : List ℕ) (v n : ℕ) → IsRecord c mem v n → v + n ≤ length mem
+record-inside c mem v n (inl (serial, bytes, o, words)) = omega (arith, o.within, words)
+record-inside c mem v n (inr (name, arity, o, words)) = omega (arith, o.within, words)

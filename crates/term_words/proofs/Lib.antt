@@ -17,3 +17,5 @@ pub mod Members
 pub mod Flat
 pub mod Counts
 pub mod Packing
+pub mod Relocating
+pub mod Narrowing

@@ -9,13 +9,13 @@ use Rattle.plain_term.specs.Tree.Pairs.{stop, pair}
 use Rattle.term_tags.specs.Table.{layout_for, layout_at, row_layout}
 use Rattle.term_tags.specs.declared.layouts.Layout.{Layout}
 use Rattle.term_words.specs.Object.{IsTuple, IsInt, IsPointer, object_words}
-use Rattle.term_words.specs.Stands.{Stands, RowStands, AllStand}
+use Rattle.term_words.specs.Stands.{tree_at, Stands, RowStands, AllStand}
 use Rattle.term_words.specs.Reach.{first_of, first_traced, parts_of, Reach, root, part}
 use Rattle.term_words.proofs.Makes.{all-length}
 use Rattle.term_words.proofs.Apart.{words-cons, words-boxed}
 use Rattle.term_words.proofs.Pairs.{keys-row, values-row, keys-len, values-len}
 use Rattle.term_words.proofs.Sizes.{flat-one, flat-two}
-use Rattle.term_words.proofs.Shapes.{row-at, all-at, tree_at}
+use Rattle.term_words.proofs.Shapes.{row-at, all-at}
 
 -- The layout of a header is that of its subtag and its arity.
 pub layout-parts : (h arity subtag : ℕ) → subtag < 16 → h ≡ arity * 64 + subtag * 4 → layout_for h ≡ layout_at subtag arity
@@ -43,7 +43,7 @@ boxed-traced mem w subtag arity least most first tag header small row low high =
     let read : Option Layout → ℕ = λ l. first_of l (object_words mem w) in
     ap pick two ∙ ap read (layout-parts (get_or mem (w / 4) 0) arity subtag small header ∙ row) ∙ row-traced arity least most first (object_words mem w) low high
 
-cons-traced : (mem : List ℕ) (w : ℕ) → w % 4 ≡ 1 → first_traced mem w ≡ 0
+pub cons-traced : (mem : List ℕ) (w : ℕ) → w % 4 ≡ 1 → first_traced mem w ≡ 0
 cons-traced mem w tag = grind (arith, nat_tests)
 
 -- An object's traced words stand for the parts of its tree, and are its last.

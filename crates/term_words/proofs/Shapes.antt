@@ -5,7 +5,7 @@ use Rattle.plain_term.specs.Tree.{Tree, Trees, Pairs, trees_len, pairs_len}
 use Rattle.plain_term.specs.Tree.Tree.{Int, Atom, Pid, Ref, Nil, Cons, Tuple, Map, Bin, Shared, Part, Fun}
 use Rattle.plain_term.specs.Tree.Trees.{end, ◌▹◌}
 use Rattle.term_words.specs.Object.{IsCons, IsAtom, IsPid, IsInt, IsRef, IsTuple, IsMap, IsHeapBin, IsFun, IsShared, IsSub, sign_tag}
-use Rattle.term_words.specs.Stands.{Stands, RowStands, KeysStand, ValuesStand, AllStand, IsBase}
+use Rattle.term_words.specs.Stands.{tree_at, Stands, RowStands, KeysStand, ValuesStand, AllStand, IsBase}
 
 module _ (c : ℕ → ℕ → Bool) (shared : List (List ℕ)) (mem : List ℕ) (w : ℕ) where
   -- What stands for a tree of a known kind.
@@ -179,12 +179,6 @@ pub row-first : (c : ℕ → ℕ → Bool) (shared : List (List ℕ)) (mem : Lis
     → Stands c shared mem (get_or mem p 0) t × RowStands c shared mem (p + 1) ts
 unfolding RowStands
 row-first c shared mem p t ts row = row
-
--- Tree i of a list, from 0; nil past its end.
-abbrev pub tree_at : Trees → ℕ → Tree
-tree_at end i = Nil
-tree_at (t ▹ ts) zero = t
-tree_at (t ▹ ts) (suc i) = tree_at ts i
 
 pub row-at : (c : ℕ → ℕ → Bool) (shared : List (List ℕ)) (mem : List ℕ) (p : ℕ) (ts : Trees) (i : ℕ) → RowStands c shared mem p ts → i < trees_len ts
     → Stands c shared mem (get_or mem (p + i) 0) (tree_at ts i)

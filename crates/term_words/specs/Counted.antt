@@ -1,5 +1,5 @@
 -- Lists without repetition of objects and of other things that take words, and places that are counted.
-use Rattle.std.specs.Prelude.{◌≡◌, ℕ, zero, suc, ◌+◌, ◌*◌, ◌/◌, ◌<◌, ◌≤◌, ◌⊎◌, if◌then◌else◌, Bool, true, List, [], ◌∷◌}
+use Rattle.std.specs.Prelude.{◌≡◌, ℕ, zero, suc, ◌+◌, ◌*◌, ◌<◌, ◌≤◌, ◌⊎◌, if◌then◌else◌, Bool, true, List, [], ◌∷◌}
 use Rattle.plain_term.specs.Tree.{Tree}
 use Rattle.term_words.specs.Object.{IsPointer, IsRecord}
 use Rattle.term_words.specs.Stands.{Stands}

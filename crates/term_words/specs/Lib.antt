@@ -5,3 +5,4 @@ pub mod Kept
 pub mod Reach
 pub mod Tiled
 pub mod Counted
+pub mod Relocated

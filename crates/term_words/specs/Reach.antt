@@ -1,11 +1,12 @@
 -- What a list of roots reaches.
-use Rattle.std.specs.Prelude.{◌≡◌, ℕ, ◌+◌, ◌/◌, ◌%◌, ◌<◌, ◌≤◌, ◌==◌, if◌then◌else◌, List, length, slice_index, Option, Some, None}
+use Rattle.std.specs.Prelude.{◌≡◌, ℕ, ◌+◌, ◌/◌, ◌%◌, ◌<◌, ◌≤◌, ◌==◌, if◌then◌else◌, Bool, true, List, length, slice_index, Option, Some, None}
 use Rattle.plain_term.specs.Tree.{Tree, Trees, keys_of, values_of}
 use Rattle.plain_term.specs.Tree.Tree.{Cons, Tuple, Map, Part, Fun}
 use Rattle.plain_term.specs.Tree.Trees.{end, ◌▹◌}
 use Rattle.term_tags.specs.Table.{layout_for}
 use Rattle.term_tags.specs.declared.layouts.Layout.{Layout}
-use Rattle.term_words.specs.Object.{IsPointer, object_words}
+use Rattle.term_words.specs.Role.{NAMES}
+use Rattle.term_words.specs.Object.{IsPointer, IsRecord, object_words}
 
 -- The first traced word of a layout, or the end of an object that has none.
 abbrev pub first_of : Option Layout → ℕ → ℕ
@@ -30,3 +31,19 @@ parts_of _ = end
 pub data Reach (mem roots : List ℕ) : ℕ → Type 0 where
   root : (i w : ℕ) → i < length roots → w ≡ slice_index roots i → Reach mem roots w
   part : (v k w : ℕ) → Reach mem roots v → IsPointer v → first_traced mem v ≤ k → k < object_words mem v → w ≡ slice_index mem (v / 4 + k) → Reach mem roots w
+
+-- An object that the roots reach names the record at the place.
+pub record IsNamed (c : ℕ → ℕ → Bool) (mem roots : List ℕ) (v : ℕ) : Type 0 where
+  pub w : ℕ
+  pub j : ℕ
+  pub reached : Reach mem roots w
+  pub pointer : IsPointer w
+  pub below : j < object_words mem w
+  pub role : c (w / 4 + j) NAMES ≡ true
+  pub names : v ≡ slice_index mem (w / 4 + j)
+
+-- Each word of the objects that the roots reach, and of the records that these name, that has a role by the first test has
+-- it by the second one.
+pub record Passes (c d : ℕ → ℕ → Bool) (mem roots : List ℕ) : Type 0 where
+  pub objects : (w q k : ℕ) → Reach mem roots w → IsPointer w → w / 4 ≤ q → q < w / 4 + object_words mem w → c q k ≡ true → d q k ≡ true
+  pub records : (v n q k : ℕ) → IsNamed c mem roots v → IsRecord c mem v n → v ≤ q → q < v + n → c q k ≡ true → d q k ≡ true

@@ -49,6 +49,10 @@ always a k = true
 unfoldable pub outside : ℕ → ℕ → ℕ → ℕ → Bool
 outside top limit a k = nat_lt a top || nat_le limit a
 
+-- What both tests allow.
+abbrev pub both : (c d : ℕ → ℕ → Bool) → ℕ → ℕ → Bool
+both c d a k = c a k && d a k
+
 -- Each place has one role, 0 for none.
 unfoldable pub roles_of : (ℕ → ℕ) → ℕ → ℕ → Bool
 roles_of r a k = nat_lt 0 k && r a == k

@@ -1,5 +1,5 @@
 -- What tree a word stands for. One recursion on the tree; the test says where the words may lie.
-use Rattle.std.specs.Prelude.{◌≡◌, ℕ, ◌+◌, ◌/◌, Bool, List, [], ◌∷◌, length, slice_index}
+use Rattle.std.specs.Prelude.{◌≡◌, ℕ, zero, suc, ◌+◌, ◌/◌, Bool, List, [], ◌∷◌, length, slice_index}
 use Rattle.plain_term.specs.Tree.{Tree, Trees, Pairs, trees_len, pairs_len}
 use Rattle.plain_term.specs.Tree.Tree.{Int, Atom, Pid, Ref, Nil, Cons, Tuple, Map, Bin, Shared, Part, Fun}
 use Rattle.plain_term.specs.Tree.Trees.{end, ◌▹◌}
@@ -45,6 +45,12 @@ unfoldable mutual
   pub ValuesStand : (ℕ → ℕ → Bool) → List (List ℕ) → List ℕ → ℕ → Pairs → Type 0
   ValuesStand c shared mem p stop = Unit {0}
   ValuesStand c shared mem p (pair k v ps) = Stands c shared mem (slice_index mem p) v × ValuesStand c shared mem (p + 1) ps
+
+-- Tree i of a list, from 0; nil past its end.
+abbrev pub tree_at : Trees → ℕ → Tree
+tree_at end i = Nil
+tree_at (t ▹ ts) zero = t
+tree_at (t ▹ ts) (suc i) = tree_at ts i
 
 -- The words of a list, such as registers or roots, stand for the trees in order.
 unfoldable pub AllStand : (ℕ → ℕ → Bool) → List (List ℕ) → List ℕ → List ℕ → Trees → Type 0

@@ -1,11 +1,12 @@
 // What holds of all words that stand for trees: each law is the contract of a function that does nothing.
-ghost use Rattle.std.specs.Prelude.{◌≡◌, ℕ, Bool, true, false, List, filter, ◌||◌, [], ◌∷◌, ◌+◌, ◌*◌, ◌/◌, ◌<◌, ◌≤◌, ◌⊎◌, ◌↔◌, ◌++◌, length, slice_index, slice_set};
-ghost use Rattle.plain_term.specs.Tree.{Tree, Trees, trees_append};
+ghost use Rattle.std.specs.Prelude.{◌≡◌, ℕ, Bool, true, false, List, filter, map, ◌||◌, [], ◌∷◌, ◌+◌, ◌*◌, ◌/◌, ◌<◌, ◌≤◌, ◌⊎◌, ◌↔◌, ◌++◌, length, slice_index, slice_set};
+ghost use Rattle.plain_term.specs.Tree.{Tree, Trees, trees_append, trees_len};
 ghost use Rattle.plain_term.specs.Measures.{flat_of_all};
-ghost use Rattle.term_words.specs.Role.{outside, roles_of, Idle, IsSingle, OfObject, OfRecord};
+ghost use Rattle.term_words.specs.Role.{outside, both, roles_of, Idle, IsSingle, OfObject, OfRecord};
 ghost use Rattle.term_words.specs.Object.{IsPointer, IsRecord, object_words};
-ghost use Rattle.term_words.specs.Stands.{Stands, AllStand};
-ghost use Rattle.term_words.specs.Reach.{Reach};
+ghost use Rattle.term_words.specs.Stands.{tree_at, Stands, RowStands, AllStand};
+ghost use Rattle.term_words.specs.Reach.{Reach, Passes};
+ghost use Rattle.term_words.specs.Relocated.{Relocated};
 ghost use Rattle.term_words.specs.Tiled.{Tiled, tile_words};
 ghost use Rattle.term_words.specs.Counted.{In, Distinct, total, count, Listed, ArePacked, IsLaid};
 ghost use Rattle.term_words.specs.Kept.{Kept, Carried, Keeps};
@@ -131,6 +132,44 @@ pub fn lists_stand_side_by_side()
     ensures joined { (c : ℕ → ℕ → Bool) (shared : List (List ℕ)) (mem xs ys : List ℕ) (ts us : Trees) → AllStand c shared mem xs ts → AllStand c shared mem ys us → AllStand c shared mem (xs ++ ys) (trees_append ts us) }
     ensures split { (c : ℕ → ℕ → Bool) (shared : List (List ℕ)) (mem xs ys : List ℕ) (vs : Trees) → AllStand c shared mem (xs ++ ys) vs
         → (ts us : Trees) × ((vs ≡ trees_append ts us) × (AllStand c shared mem xs ts × AllStand c shared mem ys us)) }
+{}
+
+/// A list of words stands for a list of trees exactly where each word stands for the tree at its place; some trees will do
+/// where each word stands for some tree; and the list stands exactly where its words lie in the memory as a row that does.
+pub fn lists_stand_word_by_word()
+    ensures each { (c : ℕ → ℕ → Bool) (shared : List (List ℕ)) (mem ws : List ℕ) (ts : Trees) → AllStand c shared mem ws ts
+        → (length ws ≡ trees_len ts) × ((i : ℕ) → i < length ws → Stands c shared mem (slice_index ws i) (tree_at ts i)) }
+    ensures all { (c : ℕ → ℕ → Bool) (shared : List (List ℕ)) (mem ws : List ℕ) (ts : Trees) → length ws ≡ trees_len ts
+        → ((i : ℕ) → i < length ws → Stands c shared mem (slice_index ws i) (tree_at ts i)) → AllStand c shared mem ws ts }
+    ensures some { (c : ℕ → ℕ → Bool) (shared : List (List ℕ)) (mem ws : List ℕ) → ((w : ℕ) → In w ws → (t : Tree) × Stands c shared mem w t) → (ts : Trees) × AllStand c shared mem ws ts }
+    ensures member { (c : ℕ → ℕ → Bool) (shared : List (List ℕ)) (mem ws : List ℕ) (ts : Trees) → AllStand c shared mem ws ts → (w : ℕ) → In w ws → (t : Tree) × Stands c shared mem w t }
+    ensures row { (c : ℕ → ℕ → Bool) (shared : List (List ℕ)) (mem : List ℕ) (p : ℕ) (ws : List ℕ) (ts : Trees) → AllStand c shared mem ws ts
+        → ((j : ℕ) → j < length ws → slice_index mem (p + j) ≡ slice_index ws j) → RowStands c shared mem p ts }
+    ensures list { (c : ℕ → ℕ → Bool) (shared : List (List ℕ)) (mem : List ℕ) (p : ℕ) (ws : List ℕ) (ts : Trees) → length ws ≡ trees_len ts
+        → ((j : ℕ) → j < length ws → slice_index mem (p + j) ≡ slice_index ws j) → RowStands c shared mem p ts → AllStand c shared mem ws ts }
+{}
+
+/// Where what the roots reach lies at new places, each word's image stands for the tree that the word stood for, and what
+/// the images of the roots reach are exactly the images of what the roots reached: a slide of the memory, a purge by
+/// copying, a sweep in slices. Only what the roots reach is asked for: objects that stand by the same test and are not
+/// reached may be left behind.
+pub fn relocated_words_stand()
+    ensures word { (c d : ℕ → ℕ → Bool) (shared : List (List ℕ)) (old new roots : List ℕ) (f g : ℕ → ℕ) → Relocated c d old new roots f g
+        → (w : ℕ) (t : Tree) → Reach old roots w → Stands c shared old w t → Stands d shared new (f w) t }
+    ensures roots { (c d : ℕ → ℕ → Bool) (shared : List (List ℕ)) (old new roots : List ℕ) (f g : ℕ → ℕ) → Relocated c d old new roots f g
+        → (ts : Trees) → AllStand c shared old roots ts → AllStand d shared new (map f roots) ts }
+    ensures reached { (c d : ℕ → ℕ → Bool) (shared : List (List ℕ)) (old new roots : List ℕ) (f g : ℕ → ℕ) → Relocated c d old new roots f g
+        → (ts : Trees) → AllStand c shared old roots ts → (w : ℕ) → Reach old roots w → Reach new (map f roots) (f w) }
+    ensures no_more { (c d : ℕ → ℕ → Bool) (shared : List (List ℕ)) (old new roots : List ℕ) (f g : ℕ → ℕ) → Relocated c d old new roots f g
+        → (ts : Trees) → AllStand c shared old roots ts → (x : ℕ) → Reach new (map f roots) x → (w : ℕ) × (Reach old roots w × (x ≡ f w)) }
+{}
+
+/// Where all words of the objects that standing roots reach, and of the records that these name, pass a further test, what
+/// the roots reach stands by both tests: it lies in one half, or in some process's blocks.
+pub fn roots_stand_by_narrower_tests()
+    ensures roots { (c d : ℕ → ℕ → Bool) (shared : List (List ℕ)) (mem roots : List ℕ) (ts : Trees) → AllStand c shared mem roots ts → Passes c d mem roots → AllStand (both c d) shared mem roots ts }
+    ensures word { (c d : ℕ → ℕ → Bool) (shared : List (List ℕ)) (mem roots : List ℕ) (ts : Trees) → AllStand c shared mem roots ts → Passes c d mem roots
+        → (w : ℕ) (t : Tree) → Reach mem roots w → Stands c shared mem w t → Stands (both c d) shared mem w t }
 {}
 
 /// What standing roots reach stands for trees.
