@@ -2,9 +2,10 @@
 use Rattle.std.proofs.Common.{◌≡◌, ℕ, ◌+◌, ◌/◌, ◌%◌, ◌<◌, ◌≤◌, ◌⊎◌, Bool, true, false, List, [], get_or, set, refl, sym, ◌∙◌, ap, subst, arith, inl, inr}
 use Rattle.std.proofs.lemmas.Bool.Decides.{nat_tests}
 use Rattle.std.proofs.lemmas.List.{length-set, get_or-set_other}
-use Rattle.term_words.specs.Object.{IsPointer}
+use Rattle.term_words.specs.Object.{IsPointer, object_words}
+use Rattle.term_words.specs.Reach.{first_traced}
 use Rattle.cheney.specs.declared.moving.Moving.{Moving}
-use Rattle.cheney.specs.Plan.{IsIn, IsNoTail, IsOutside, Plan, Ready, Reached, Leaves}
+use Rattle.cheney.specs.Plan.{IsIn, IsNoTail, IsOutside, Plan, Ready, Reached, Leaves, size, first}
 use Rattle.cheney.specs.Moved.{moved, forward, IsImage}
 use Rattle.cheney.specs.Zones.{Marks, Gone, Invariant, scanned_at, object_at, at_objects}
 use Rattle.cheney.specs.Rooms.{top_of, Agrees, Runs}
@@ -13,7 +14,7 @@ use Rattle.cheney.specs.Collected.{IsBeside, RootsMoved, Collected, Composes}
 use Rattle.cheney.proofs.Basics.{not-both, moved-cons, moved-boxed, moved-same, forward-same, size-some, shows-in, size-cons, reach-part}
 use Rattle.cheney.proofs.Ground.{Ground, ground, not-shown, stay-not-shown}
 use Rattle.cheney.proofs.Facts.{Grows, image-later, row-later}
-use Rattle.cheney.proofs.Ends.{collected, composes}
+use Rattle.cheney.proofs.Ends.{collected, composes, shape-image}
 
 -- No object shows a move before one is made.
 not-moved : (p : Plan) → Ground p → (v : ℕ) → Reached p v → IsPointer v → moved p.start v ≡ false
@@ -116,8 +117,8 @@ beside-runs p m n mv k run o = record { ready = run.ready; agrees = run.agrees; 
 pub image-beside : (p : Plan) (m n : List ℕ) (top : Bool → ℕ) (w x : ℕ) → Ready p → IsBeside p m n top → Reached p w → IsImage p m w x → IsImage p n w x
 image-beside p m n top w x y o r i = image-later p m n w x (beside-grows p (ground p y) m n top o) r i
 
-pub image-kept : (p : Plan) (m n : List ℕ) (w x : ℕ) → Later p m n → Reached p w → IsImage p m w x → IsImage p n w x
-image-kept p m n w x later r i = image-later p m n w x (record { gone = later.gone; same = later.same }) r i
+pub image-kept : (p : Plan) (s : ℕ → Bool) (m n : List ℕ) (w x : ℕ) → Later p s m n → Reached p w → IsImage p m w x → IsImage p n w x
+image-kept p s m n w x later r i = image-later p m n w x (record { gone = later.gone; same = later.same }) r i
 
 pub done : (mv : Moving) (b : Bool) → scanned_at (at_objects mv.aged.top mv.young.top) b ≡ top_of mv b
 done mv true = refl
@@ -129,6 +130,10 @@ has-collected p m mv run roots = collected p run.ready (ground p run.ready) m (t
 pub has-composed : (p : Plan) (m : List ℕ) (mv : Moving) → Runs p m mv (at_objects mv.aged.top mv.young.top) → RootsMoved p m → Composes p m
 has-composed p m mv run roots = composes p run.ready (ground p run.ready) m (top_of mv) (at_objects mv.aged.top mv.young.top) run.holds (done mv) roots.each
 
+pub has-shape : (p : Plan) (m : List ℕ) (mv : Moving) (v x : ℕ) → Runs p m mv (at_objects mv.aged.top mv.young.top) → RootsMoved p m → Reached p v → IsPointer v → IsImage p m v x
+    → (object_words m x ≡ size p v) × (first_traced m x ≡ first p v)
+has-shape p m mv v x run roots r i im = shape-image p run.ready (ground p run.ready) m (top_of mv) (at_objects mv.aged.top mv.young.top) run.holds (done mv) roots.each v x r i im
+
 -- A word without a role, outside the used places of the rooms, may be written.
 pub write-beside : (p : Plan) (m : List ℕ) (top : Bool → ℕ) (a w : ℕ) → ((b : Bool) → (a < p.low b) ⊎ (top b ≤ a)) → ((k : ℕ) → p.test a k ≡ true → ⊥) → IsBeside p m (set m a w) top
 write-beside p m top a w away none = record {
@@ -139,12 +144,12 @@ write-beside p m top a w away none = record {
 
 -- What no call changes.
 
-module _ (p : Plan) (a b : List ℕ) (later : Later p a b) where
-  pub free-aside : (q : ℕ) → Ready p → IsOutside p q → ((k : ℕ) → p.test q k ≡ true → ⊥) → get_or b q 0 ≡ get_or a q 0
-  free-aside q y out none = later.elsewhere q out (λ v r l s. let (k, h) = (ground p y).role v q r l.pointer (shows-in p v q l.pointer s) in none k h)
+module _ (p : Plan) (s : ℕ → Bool) (a b : List ℕ) (later : Later p s a b) where
+  pub free-aside : (q : ℕ) → s q ≡ false → Ready p → IsOutside p q → ((k : ℕ) → p.test q k ≡ true → ⊥) → get_or b q 0 ≡ get_or a q 0
+  free-aside q past y out none = later.elsewhere q past out (λ v r l s. let (k, h) = (ground p y).role v q r l.pointer (shows-in p v q l.pointer s) in none k h)
 
-  pub other-aside : (q k : ℕ) → Ready p → p.test q k ≡ true → (k ≡ 3 → ⊥) → (k ≡ 4 → ⊥) → get_or b q 0 ≡ get_or a q 0
-  other-aside q k y h three four = later.elsewhere q (y.clear q k h) (λ v r l s. not-shown p y v q k r l.pointer h three four s)
+  pub other-aside : (q k : ℕ) → s q ≡ false → Ready p → p.test q k ≡ true → (k ≡ 3 → ⊥) → (k ≡ 4 → ⊥) → get_or b q 0 ≡ get_or a q 0
+  other-aside q k past y h three four = later.elsewhere q past (y.clear q k h) (λ v r l s. not-shown p y v q k r l.pointer h three four s)
 
-  pub stay-aside : (q : ℕ) → IsOutside p q → p.stay q ≡ true → IsNoTail p q → get_or b q 0 ≡ get_or a q 0
-  stay-aside q out stay whole = later.elsewhere q out (λ v r l s. stay-not-shown p v q r l stay whole s)
+  pub stay-aside : (q : ℕ) → s q ≡ false → IsOutside p q → p.stay q ≡ true → IsNoTail p q → get_or b q 0 ≡ get_or a q 0
+  stay-aside q past out stay whole = later.elsewhere q past out (λ v r l s. stay-not-shown p v q r l stay whole s)

@@ -1,13 +1,14 @@
 -- A room holds the objects that go there where it has as many words as the counted places that they lie in.
-use Rattle.std.proofs.Common.{◌≡◌, ℕ, zero, suc, ◌+◌, ◌-◌, ◌/◌, ◌<◌, ◌≤◌, ◌⊎◌, Bool, true, List, [], ◌∷◌, length, refl, sym, ap, subst, arith, inl, inr}
+use Rattle.std.proofs.Common.{◌≡◌, ℕ, zero, suc, ◌+◌, ◌-◌, ◌/◌, ◌<◌, ◌≤◌, ◌⊎◌, Bool, true, List, [], ◌∷◌, ◌++◌, length, refl, sym, ap, subst, arith, inl, inr}
 use Rattle.plain_term.specs.Measures.{flat_of_all}
 use Rattle.term_words.specs.Role.{IsSingle}
 use Rattle.term_words.specs.Stands.{AllStand}
 use Rattle.term_words.proofs.Apart.{objects-apart}
 use Rattle.term_words.proofs.Reached.{reached}
-use Rattle.cheney.specs.Plan.{Plan, Reached, Leaves, In, IsIn, Fits, count, total, size}
+use Rattle.cheney.specs.Plan.{Plan, Reached, Leaves, In, IsIn, Fits, LiesIn, count, total, size}
 use Rattle.cheney.proofs.Basics.{true-or-false, same-room, one-or-not, leaves-or-not, size-some}
-use Rattle.cheney.proofs.Counts.{Distinct, Listed, listed}
+use Rattle.cheney.proofs.Counts.{Distinct, Listed, both-total, listed}
+use Rattle.cheney.proofs.Rows.{in-joined}
 
 in-or-not : (v : ℕ) (us : List ℕ) → In v us ⊎ (In v us → ⊥)
 in-or-not v [] = inr (λ i. i)
@@ -16,50 +17,54 @@ in-or-not v (u ∷ us) = elim (one-or-not v u) [
   | inr n ↦ elim (in-or-not v us) [ inl i ↦ inl (inr i) | inr m ↦ inr (λ x. elim x [ inl e ↦ n e | inr i ↦ m i ]) ]
 ]
 
--- The object leaves, and goes to this room.
-Goes : Plan → Bool → ℕ → Type 0
-Goes p b v = Leaves p v × (p.mature (v / 4) ≡ b)
+-- The object leaves, goes to this room, and is none of a list.
+record Goes (p : Plan) (b : Bool) (others : List ℕ) (v : ℕ) : Type 0 where
+  pub leaves : Leaves p v
+  pub room : p.mature (v / 4) ≡ b
+  pub other : In v others → ⊥
 
-goes-or-not : (p : Plan) (b : Bool) (v : ℕ) → Goes p b v ⊎ (Goes p b v → ⊥)
-unfolding Goes
-goes-or-not p b v = elim (leaves-or-not p v) [
-  | inr n ↦ inr (λ g. n g.0)
-  | inl l ↦ elim (same-room (p.mature (v / 4)) b) [ inl e ↦ inl (l, e) | inr n ↦ inr (λ g. n g.1) ]
+goes-or-not : (p : Plan) (b : Bool) (others : List ℕ) (v : ℕ) → Goes p b others v ⊎ (Goes p b others v → ⊥)
+goes-or-not p b others v = elim (leaves-or-not p v) [
+  | inr n ↦ inr (λ g. n g.leaves)
+  | inl l ↦ elim (same-room (p.mature (v / 4)) b) [
+    | inr n ↦ inr (λ g. n g.room)
+    | inl e ↦ elim (in-or-not v others) [ inl i ↦ inr (λ g. g.other i) | inr n ↦ inl (record { leaves = l; room = e; other = n }) ]
+  ]
 ]
 
 -- The objects of a list that go to a room, each once.
-record Chosen (p : Plan) (b : Bool) (us : List ℕ) : Type 0 where
+record Chosen (p : Plan) (b : Bool) (others us : List ℕ) : Type 0 where
   pub each : List ℕ
   pub apart : Distinct each
-  pub all : (v : ℕ) → In v us → Goes p b v → In v each
-  pub only : (v : ℕ) → In v each → In v us × Goes p b v
+  pub all : (v : ℕ) → In v us → Goes p b others v → In v each
+  pub only : (v : ℕ) → In v each → In v us × Goes p b others v
 
-chosen : (p : Plan) (b : Bool) (us : List ℕ) → Chosen p b us
+chosen : (p : Plan) (b : Bool) (others us : List ℕ) → Chosen p b others us
 unfolding Distinct
-chosen p b [] = record { each = []; apart = tt; all = λ v i g. i; only = λ v i. absurd i }
-chosen p b (u ∷ us) =
-    let o : Chosen p b us = chosen p b us in
-    let keep : (In u o.each) ⊎ (Goes p b u → ⊥) → Chosen p b (u ∷ us) = λ why. record {
+chosen p b others [] = record { each = []; apart = tt; all = λ v i g. i; only = λ v i. absurd i }
+chosen p b others (u ∷ us) =
+    let o : Chosen p b others us = chosen p b others us in
+    let keep : (In u o.each) ⊎ (Goes p b others u → ⊥) → Chosen p b others (u ∷ us) = λ why. record {
       each = o.each;
       apart = o.apart;
       all = λ v i g. elim i [
         | inr j ↦ o.all v j g
         | inl e ↦ elim why [
           | inl there ↦ (let P : ℕ → Type 0 = λ z. In z o.each in subst P (sym e) there)
-          | inr n ↦ absurd (let P : ℕ → Type 0 = λ z. Goes p b z in n (subst P e g))
+          | inr n ↦ absurd (let P : ℕ → Type 0 = λ z. Goes p b others z in n (subst P e g))
         ]
       ];
       only = λ v i. (inr (o.only v i).0, (o.only v i).1);
     } in
     elim (in-or-not u o.each) [
       | inl there ↦ keep (inl there)
-      | inr fresh ↦ elim (goes-or-not p b u) [
+      | inr fresh ↦ elim (goes-or-not p b others u) [
         | inr n ↦ keep (inr n)
         | inl g ↦ record {
           each = u ∷ o.each;
           apart = (fresh, o.apart);
           all = λ v i h. elim i [ inl e ↦ inl e | inr j ↦ inr (o.all v j h) ];
-          only = λ v i. elim i [ inl e ↦ (inl e, (let P : ℕ → Type 0 = λ z. Goes p b z in subst P (sym e) g)) | inr j ↦ (inr (o.only v j).0, (o.only v j).1) ];
+          only = λ v i. elim i [ inl e ↦ (inl e, (let P : ℕ → Type 0 = λ z. Goes p b others z in subst P (sym e) g)) | inr j ↦ (inr (o.only v j).0, (o.only v j).1) ];
         }
       ]
     ]
@@ -177,44 +182,51 @@ packed (suc f) p s from n (v ∷ vs) le (fresh, d) a w m =
     count-three s from n (v / 4) (size p v) (omega (arith, here)) (omega (arith, here)) (λ q at less. m v q (inl refl) (record { from = at; below = less })) in
     omega (arith, low, high, o.words, parts)
 
-module _ (p : Plan) (b : Bool) (from to : ℕ) (standing : AllStand p.test p.shared p.start p.roots p.trees) (single : IsSingle p.test) (order : from ≤ to)
-    (lies : (v : ℕ) → Reached p v → Leaves p v → p.mature (v / 4) ≡ b → (from ≤ v / 4) × (v / 4 + size p v ≤ to)) where
+module _ (p : Plan) (b : Bool) (from to : ℕ) (standing : AllStand p.test p.shared p.start p.roots p.trees) (single : IsSingle p.test) (order : from ≤ to) where
   all-words : Listed p.start p.roots
   all-words = listed p.start (flat_of_all p.trees + length p.roots) p.test p.shared p.roots p.trees standing (omega arith)
 
-  reached-one : (l : Listed p.start p.roots) (o : Chosen p b l.each) (v : ℕ) → In v o.each → Reached p v × (Leaves p v × (p.mature (v / 4) ≡ b))
-  unfolding Goes
-  reached-one l o v i = (l.only v (o.only v i).0, (o.only v i).1)
+  module _ (others : List ℕ) (s : ℕ → Bool) (lies : (v : ℕ) → Reached p v → Leaves p v → p.mature (v / 4) ≡ b → In v others ⊎ LiesIn p s from to v) where
+    lies-in : (l : Listed p.start p.roots) (o : Chosen p b others l.each) (v : ℕ) → In v o.each → Reached p v × (Leaves p v × LiesIn p s from to v)
+    lies-in l o v i =
+        let g : Goes p b others v = (o.only v i).1 in
+        let r : Reached p v = l.only v (o.only v i).0 in
+        (r, (g.leaves, elim (lies v r g.leaves g.room) [ inl j ↦ absurd (g.other j) | inr there ↦ there ]))
 
-  spread : (l : Listed p.start p.roots) (o : Chosen p b l.each) → Spread p o.each
-  unfolding Spread size
-  spread l o v w i j =
-      let (r, (x, e)) = reached-one l o v i in
-      let (s, (z, f)) = reached-one l o w j in
-      let (t, a) = reached p.test p.shared p.start p.roots p.trees standing v r in
-      let (u, c) = reached p.test p.shared p.start p.roots p.trees standing w s in
-      objects-apart p.test p.shared p.start v w t u single a c x.pointer z.pointer
+    spread : (l : Listed p.start p.roots) (o : Chosen p b others l.each) → Spread p o.each
+    unfolding Spread size
+    spread l o v w i j =
+        let (r, (x, e)) = lies-in l o v i in
+        let (u, (z, f)) = lies-in l o w j in
+        let (t, a) = reached p.test p.shared p.start p.roots p.trees standing v r in
+        let (y, c) = reached p.test p.shared p.start p.roots p.trees standing w u in
+        objects-apart p.test p.shared p.start v w t y single a c x.pointer z.pointer
 
-  in-range : (l : Listed p.start p.roots) (o : Chosen p b l.each) → Within p from (from + (to - from)) o.each
-  unfolding Within
-  in-range l o v i = let (r, (x, e)) = reached-one l o v i in ((lies v r x e).0, (omega (arith, (lies v r x e).1, order), size-some p v x.pointer))
+    in-range : (l : Listed p.start p.roots) (o : Chosen p b others l.each) → Within p from (from + (to - from)) o.each
+    unfolding Within
+    in-range l o v i = let (r, (x, e)) = lies-in l o v i in (e.above, (omega (arith, e.below, order), size-some p v x.pointer))
 
-  module _ (s : ℕ → Bool) (passes : (v q : ℕ) → Reached p v → Leaves p v → p.mature (v / 4) ≡ b → IsIn p v q → s q ≡ true) where
-    marked : (l : Listed p.start p.roots) (o : Chosen p b l.each) → Marked p s o.each
+    marked : (l : Listed p.start p.roots) (o : Chosen p b others l.each) → Marked p s o.each
     unfolding Marked
-    marked l o v q i h = let (r, (x, e)) = reached-one l o v i in passes v q r x e h
+    marked l o v q i h = let (r, (x, e)) = lies-in l o v i in e.passes q h
 
-    fits-by : (l : Listed p.start p.roots) (o : Chosen p b l.each) → p.low b + count s from (to - from) ≤ p.high b → Fits p b
-    unfolding Goes
+    fits-by : (l : Listed p.start p.roots) (o : Chosen p b others l.each) → p.low b + (count s from (to - from) + total p others) ≤ p.high b → Fits p b
     fits-by l o room = record {
-      each = o.each;
-      all = λ w r x goes. o.all w (l.all w r) (x, goes);
-      words = omega (arith, room, packed (length o.each) p s from (to - from) o.each (omega arith) o.apart (spread l o) (in-range l o) (marked l o));
+      each = o.each ++ others;
+      all = λ w r x goes. in-joined w o.each others (elim (in-or-not w others) [
+        | inl i ↦ inr i
+        | inr n ↦ inl (o.all w (l.all w r) (record { leaves = x; room = goes; other = n }))
+      ]);
+      words = omega (arith, room, both-total p o.each others, packed (length o.each) p s from (to - from) o.each (omega arith) o.apart (spread l o) (in-range l o) (marked l o));
     }
 
-    pub fits-by-places : p.low b + count s from (to - from) ≤ p.high b → Fits p b
-    fits-by-places room = fits-by all-words (chosen p b all-words.each) room
+    pub fits-further : p.low b + (count s from (to - from) + total p others) ≤ p.high b → Fits p b
+    fits-further room = fits-by all-words (chosen p b others all-words.each) room
 
-  -- The whole range is counted.
-  pub fits-by-range : p.low b + (to - from) ≤ p.high b → Fits p b
-  fits-by-range room = fits-by-places (λ q. true) (λ v q r x e h. refl) (omega (arith, room, count-most (λ q. true) from (to - from)))
+  module _ (lies : (v : ℕ) → Reached p v → Leaves p v → p.mature (v / 4) ≡ b → (from ≤ v / 4) × (v / 4 + size p v ≤ to)) where
+    pub fits-by-places : (s : ℕ → Bool) → ((v q : ℕ) → Reached p v → Leaves p v → p.mature (v / 4) ≡ b → IsIn p v q → s q ≡ true) → p.low b + count s from (to - from) ≤ p.high b → Fits p b
+    fits-by-places s passes room = fits-further [] s (λ v r l e. inr (record { above = (lies v r l e).0; below = (lies v r l e).1; passes = λ q i. passes v q r l e i })) (omega (arith, room))
+
+    -- The whole range is counted.
+    pub fits-by-range : p.low b + (to - from) ≤ p.high b → Fits p b
+    fits-by-range room = fits-by-places (λ q. true) (λ v q r x e h. refl) (omega (arith, room, count-most (λ q. true) from (to - from)))

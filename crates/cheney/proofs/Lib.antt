@@ -10,8 +10,8 @@ pub mod Homes
 pub mod Ends
 pub mod Counts
 pub mod Begins
-pub mod Roots
+pub mod Rows
 pub mod Sample
 pub mod Fitting
 pub mod Next
-pub mod Stack
+pub mod Places

@@ -21,7 +21,7 @@ use Rattle.cheney.proofs.Begins.{done}
 use Rattle.cheney.proofs.Counts.{both-total, in-row}
 use Rattle.cheney.proofs.Ends.{Covers, covers, old_place, row-total, fresh, shape-image}
 use Rattle.cheney.proofs.Ground.{ground}
-use Rattle.cheney.proofs.Roots.{in-joined}
+use Rattle.cheney.proofs.Rows.{in-joined}
 
 both-true : (a b : Bool) → (a && b) ≡ true → (a ≡ true) × (b ≡ true)
 both-true true b h = (refl, h)

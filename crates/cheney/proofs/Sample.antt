@@ -1,7 +1,7 @@
 -- A memory laid out by hand, with an object of each kind: a collection can begin there.
-use Rattle.std.proofs.Common.{◌≡◌, ℕ, zero, suc, ◌+◌, ◌-◌, ◌*◌, ◌/◌, ◌%◌, ◌<◌, ◌≤◌, ◌⊎◌, Bool, true, false, List, [], ◌∷◌, length, get_or, refl, sym, ◌∙◌, ap, subst, arith, inl, inr, pos, lit≤, lit<, ◌==◌, ◌&&◌, ◌||◌, if◌then◌else◌, nat_lt}
+use Rattle.std.proofs.Common.{◌≡◌, ℕ, zero, suc, ◌+◌, ◌-◌, ◌*◌, ◌/◌, ◌%◌, ◌<◌, ◌≤◌, ◌⊎◌, Bool, true, false, List, [], ◌∷◌, length, drop, get_or, refl, sym, ◌∙◌, ap, subst, arith, inl, inr, pos, lit≤, lit<, ◌==◌, ◌&&◌, ◌||◌, if◌then◌else◌, nat_lt}
 use Rattle.std.proofs.lemmas.Bool.{eqb-true}
-use Rattle.std.proofs.lemmas.List.{get_or_past}
+use Rattle.std.proofs.lemmas.List.{get_or-drop, get_or-take, get_or_past}
 use Rattle.std.proofs.lemmas.Bool.Decides.{nat_tests}
 use Rattle.std.specs.Prelude.{Result, Ok, IfOk}
 use Rattle.plain_term.specs.Measures.{bin_words}
@@ -21,10 +21,13 @@ use Rattle.cheney.specs.Spans.{in_span, in_spans}
 use Rattle.cheney.specs.Ranges.{stays}
 use Rattle.cheney.specs.Plan.{Plan, Ready, Reached, Leaves, In, Fits, size, first}
 use Rattle.cheney.specs.declared.moving.Moving.{Moving}
-use Rattle.cheney.specs.Rooms.{top_of}
+use Rattle.cheney.specs.Rooms.{Runs, top_of}
 use Rattle.cheney.specs.Collected.{Begins, CanCollect, Collected, used}
 use Rattle.cheney.specs.Next.{Ended, GoesOn, HasRoles, Remains, Succeeds}
-use Rattle.cheney.specs.Stack.{CanCollectStack, words_at}
+use Rattle.cheney.specs.Roots.{AreRoots, CanMovePlaces, PlacesEvacuated}
+use Rattle.cheney.specs.Calls.{CanScan}
+use Rattle.cheney.specs.Zones.{Marks, at_objects}
+use Rattle.cheney.proofs.Rows.{start-runs, starts}
 use Rattle.cheney.proofs.Next.{fits-again, has-roles, ready-again}
 
 abbrev pub sample : List ℕ
@@ -361,8 +364,11 @@ ready = record {
 
 -- The memory that was laid out is this one, and nothing else stays.
 
+moves-first : (q : ℕ) → in_span (record { start = 1; end = 42 }) q ≡ true → in_span kept q ≡ false
+moves-first q h = grind (arith, nat_tests)
+
 abbrev pub first-rooms : Stay → Room → Room → Moving
-first-rooms stay aged young = record { stay = stay; mature = record { start = 1; end = 9 }; aged = aged; young = young }
+first-rooms stay aged young = record { stay = stay; from_space = record { start = 1; end = 42 }; mature = record { start = 1; end = 9 }; aged = aged; young = young }
 
 pub begins-there : {E : Type 0} (r : Result (List ℕ) E) (m : List ℕ) (none stay : Stay) (aged young : Room) → r ≡ Ok m → IfOk r (λ x. x ≡ sample) → none.spans.items ≡ [] → ((q : ℕ) → stays stay q ≡ (stays none q || in_span kept q))
     → aged ≡ record { start = 51; top = 51; end = 60 } → young ≡ record { start = 60; top = 60; end = 91 } → Begins plan m (first-rooms stay aged young) roots
@@ -375,6 +381,7 @@ begins-there {E} r m none stay aged young e h n s a y =
       ready = ready;
       agrees = record {
         stay = λ q. s q ∙ ap (λ xs. in_spans xs q || in_span kept q) n;
+        moves = moves-first;
         mature = λ q. refl;
         aged_low = ap (λ z. z.start) a;
         aged_high = ap (λ z. z.end) a;
@@ -393,22 +400,41 @@ high-to : (b : Bool) → high b ≤ 91
 high-to true = lit≤ tt
 high-to false = lit≤ tt
 
+stacked-root : (j : ℕ) → j < 13 → get_or sample (91 + j) 0 ≡ get_or roots j 0
+stacked-root j less = sym (get_or-take 13 (drop 91 sample) j 0 less ∙ get_or-drop 91 sample j 0)
+
 -- The roots stand on a stack, too.
-pub stack-there : {E : Type 0} (r : Result (List ℕ) E) (m : List ℕ) (none stay : Stay) (aged young : Room) → r ≡ Ok m → IfOk r (λ x. x ≡ sample) → none.spans.items ≡ [] → ((q : ℕ) → stays stay q ≡ (stays none q || in_span kept q))
-    → aged ≡ record { start = 51; top = 51; end = 60 } → young ≡ record { start = 60; top = 60; end = 91 } → CanCollectStack m (first-rooms stay aged young) 91 13
-stack-there {E} r m none stay aged young e h n s a y =
+stacked : {E : Type 0} (r : Result (List ℕ) E) (m : List ℕ) (none stay : Stay) (aged young : Room) → r ≡ Ok m → IfOk r (λ x. x ≡ sample) → none.spans.items ≡ [] → ((q : ℕ) → stays stay q ≡ (stays none q || in_span kept q))
+    → aged ≡ record { start = 51; top = 51; end = 60 } → young ≡ record { start = 60; top = 60; end = 91 } → AreRoots plan m 91 1 13
+stacked {E} r m none stay aged young e h n s a y =
     let P : Result (List ℕ) E → Type 0 = λ x. IfOk x (λ z. z ≡ sample) in
     let same : m ≡ sample = subst P e h in
-    let B : List ℕ → Type 0 = λ z. Begins plan m (first-rooms stay aged young) (words_at z 91 13) in
+    let b : Begins plan m (first-rooms stay aged young) roots = begins-there r m none stay aged young e h n s a y in
+    let there : (j : ℕ) → j < 13 → get_or m (91 + j * 1) 0 ≡ get_or roots j 0 = λ j less.
+    let at : 91 + j * 1 ≡ 91 + j = omega arith in
+    ap (λ z. get_or z (91 + j * 1) 0) same ∙ ap (λ z. get_or sample z 0) at ∙ stacked-root j less in
     record {
-      plan = plan;
-      begins = record {
-        begins = subst B (sym same) (begins-there r m none stay aged young e h n s a y);
-        inside = omega (arith, ap length same);
-        outside = λ q from below b. inr (omega (arith, from, high-to b));
-        free = λ q k from below role_at. role-none q k (get_or_past roles q 0 (omega arith)) role_at;
-      };
+      free = λ j less. record { inside = omega arith; outside = λ c. inr (omega (arith, high-to c)); none = λ k role_at. role-none (91 + j * 1) k (get_or_past roles (91 + j * 1) 0 (omega arith)) role_at };
+      reached = λ j less. let Q : ℕ → Type 0 = λ z. Reached plan z in subst Q (sym (there j less)) (root j (get_or roots j 0) less refl);
     }
+
+pub stack-there : {E : Type 0} (r : Result (List ℕ) E) (m : List ℕ) (none stay : Stay) (aged young : Room) → r ≡ Ok m → IfOk r (λ x. x ≡ sample) → none.spans.items ≡ [] → ((q : ℕ) → stays stay q ≡ (stays none q || in_span kept q))
+    → aged ≡ record { start = 51; top = 51; end = 60 } → young ≡ record { start = 60; top = 60; end = 91 } → CanMovePlaces m (first-rooms stay aged young) 91 1 13
+stack-there r m none stay aged young e h n s a y = record {
+  plan = plan;
+  marks = at_objects aged.start young.start;
+  runs = start-runs plan m (first-rooms stay aged young) roots (begins-there r m none stay aged young e h n s a y);
+  roots = stacked r m none stay aged young e h n s a y;
+}
+
+pub stack-scans : {E : Type 0} (r : Result (List ℕ) E) (m m2 : List ℕ) (none stay : Stay) (aged young : Room) (mv2 : Moving) → r ≡ Ok m → IfOk r (λ x. x ≡ sample) → none.spans.items ≡ [] → ((q : ℕ) → stays stay q ≡ (stays none q || in_span kept q))
+    → aged ≡ record { start = 51; top = 51; end = 60 } → young ≡ record { start = 60; top = 60; end = 91 }
+    → ((p : Plan) (k : Marks) → Runs p m (first-rooms stay aged young) k → AreRoots p m 91 1 13 → PlacesEvacuated p m m2 mv2 k 91 1 13) → CanScan m2 mv2
+stack-scans r m m2 none stay aged young mv2 e h n s a y moves =
+    let c : CanMovePlaces m (first-rooms stay aged young) 91 1 13 = stack-there r m none stay aged young e h n s a y in
+    let b : Begins plan m (first-rooms stay aged young) roots = begins-there r m none stay aged young e h n s a y in
+    let run : Runs plan m (first-rooms stay aged young) (at_objects aged.start young.start) = start-runs plan m (first-rooms stay aged young) roots b in
+    record { plan = plan; runs = starts plan m m2 (first-rooms stay aged young) mv2 (at_objects aged.start young.start) run (moves plan (at_objects aged.start young.start) run (stacked r m none stay aged young e h n s a y)).runs }
 
 -- A second collection goes to the free words at the end.
 
@@ -458,6 +484,9 @@ low-from false = lit≤ tt
 not-kept : (a : ℕ) → 51 ≤ a → in_span kept a ≡ false
 not-kept a h = grind (arith, nat_tests)
 
+from-next : (q : ℕ) → in_span (record { start = 51; end = 90 }) q ≡ true → 51 ≤ q
+from-next q h = grind (arith, nat_tests)
+
 never-old : (a : ℕ) → in_span none a ≡ true → ⊥
 never-old a h = grind (arith, nat_tests)
 
@@ -491,7 +520,7 @@ goes-on m ws mv e r = record {
 }
 
 abbrev pub second-rooms : Stay → Room → Room → Moving
-second-rooms stay aged young = record { stay = stay; mature = record { start = 0; end = 0 }; aged = aged; young = young }
+second-rooms stay aged young = record { stay = stay; from_space = record { start = 51; end = 90 }; mature = record { start = 0; end = 0 }; aged = aged; young = young }
 
 pub can-go-on : (m ws : List ℕ) (mv : Moving) (no_span stay : Stay) (aged young : Room) → Ended plan m mv ws → no_span.spans.items ≡ [] → ((q : ℕ) → stays stay q ≡ (stays no_span q || in_span kept q))
     → aged ≡ record { start = 0; top = 0; end = 0 } → young ≡ record { start = 104; top = 104; end = 144 } → CanCollect m (second-rooms stay aged young) ws
@@ -507,6 +536,7 @@ can-go-on m ws mv no_span stay aged young e n s a y =
         ready = ready-again plan (plan-again m ws r) m mv e.runs e.moved e.collected on.succeeds below r on;
         agrees = record {
           stay = λ q. s q ∙ ap (λ xs. in_spans xs q || in_span kept q) n;
+          moves = λ q h. not-kept q (from-next q h);
           mature = λ q. refl;
           aged_low = ap (λ z. z.start) a;
           aged_high = ap (λ z. z.end) a;

@@ -1,5 +1,5 @@
 -- The calls of a collection, from what they write to what they promise.
-use Rattle.std.proofs.Common.{◌≡◌, ℕ, ◌+◌, ◌-◌, ◌/◌, ◌%◌, ◌<◌, ◌≤◌, ◌⊎◌, ◌==◌, Bool, true, false, List, length, get_or, set, refl, sym, ◌∙◌, ap, subst, arith, inl, inr}
+use Rattle.std.proofs.Common.{◌≡◌, ℕ, ◌+◌, ◌-◌, ◌/◌, ◌%◌, ◌<◌, ◌≤◌, ◌⊎◌, ◌==◌, ◌||◌, Bool, true, false, List, length, get_or, set, refl, sym, ◌∙◌, ap, subst, arith, inl, inr}
 use Rattle.std.proofs.lemmas.Bool.Decides.{nat_tests}
 use Rattle.std.proofs.lemmas.List.{get_or-set_other}
 use Rattle.term_words.specs.Object.{IsPointer, object_words}
@@ -12,9 +12,9 @@ use Rattle.cheney.specs.Ranges.{stays}
 use Rattle.cheney.specs.Plan.{Plan, Reached, Leaves, size, first}
 use Rattle.cheney.specs.Moved.{moved, forward, IsImage, Copies}
 use Rattle.cheney.specs.Zones.{Marks, Gone, IsPart, IsCopy, Holds, Invariant, scanned_at, object_at, mark, at_objects}
-use Rattle.cheney.specs.Rooms.{top_of, Agrees, Runs, Advances}
-use Rattle.cheney.specs.Calls.{CanMove, Went, Later, Evacuated, CanOpen, CanStep, RunsOn, Shape}
-use Rattle.cheney.proofs.Basics.{moved-cons, moved-boxed, forward-cons, forward-boxed, not-both, reach-part, size-words, size-some, size-cons, size-boxed, first-cons, first-boxed}
+use Rattle.cheney.specs.Rooms.{FromMoves, top_of, Agrees, Runs, Advances}
+use Rattle.cheney.specs.Calls.{CanMove, Went, either, nowhere, Later, Evacuated, CanOpen, CanStep, RunsOn, Shape}
+use Rattle.cheney.proofs.Basics.{moved-cons, moved-boxed, forward-cons, forward-boxed, true-or-false, not-both, reach-part, size-words, size-some, size-cons, size-boxed, first-cons, first-boxed}
 use Rattle.cheney.proofs.Ground.{Ground, ground}
 use Rattle.cheney.proofs.Facts.{Grows, copy-later, Without, without}
 use Rattle.cheney.proofs.Moves.{move-keeps, move-grows}
@@ -60,6 +60,12 @@ module _ (p : Plan) (mem : List ℕ) (mv : Moving) (k : Marks) (w : ℕ) (run : 
             ])
       ]
 
+pub from-moves : (mem : List ℕ) (mv : Moving) (w : ℕ) → CanMove mem mv w → FromMoves mv
+from-moves mem mv w c = λ q h. c.runs.agrees.stay q ∙ c.runs.agrees.moves q h
+
+pub from-stays : (mv : Moving) (q : ℕ) → FromMoves mv → true ≡ in_span mv.from_space q → false ≡ stays mv.stay q
+from-stays mv q f e = sym (f q (sym e))
+
 -- What a caller that may move an object knows of it.
 pub record Place (mem : List ℕ) (mv : Moving) (w : ℕ) : Type 0 where
   pub fits : top_of mv (in_span mv.mature (w / 4)) + object_words mem w ≤ length mem
@@ -102,6 +108,7 @@ went-aged mem mem2 mv room w x n mature i s here size c e =
     let D : Bool → Type 0 = λ d. Advances mv (record mv { aged = room }) d (object_words mem w) in
     let adv : Advances mv (record mv { aged = room }) true (object_words mem w) = record {
       stay = refl;
+      from_space = refl;
       mature = refl;
       aged_low = ap (λ z. z.start) e;
       aged_high = ap (λ z. z.end) e;
@@ -122,6 +129,7 @@ went-young mem mem2 mv room w x n mature i s here size c e =
     let D : Bool → Type 0 = λ d. Advances mv (record mv { young = room }) d (object_words mem w) in
     let adv : Advances mv (record mv { young = room }) false (object_words mem w) = record {
       stay = refl;
+      from_space = refl;
       mature = refl;
       young_low = ap (λ z. z.start) e;
       young_high = ap (λ z. z.end) e;
@@ -132,18 +140,29 @@ went-young mem mem2 mv room w x n mature i s here size c e =
     } in
     inr (inr (record { pointer = i; leaves = s; here = here; copies = subst B (sym mature) (subst A size c); grows = subst D (sym mature) adv }))
 
-pub later-same : (p : Plan) (mem : List ℕ) → Later p mem mem
-later-same p mem = record { gone = λ v r l y. y; same = λ v r l y. refl; elsewhere = λ q a b. refl }
+pub later-same : (p : Plan) (mem : List ℕ) → Later p nowhere mem mem
+later-same p mem = record { gone = λ v r l y. y; same = λ v r l y. refl; elsewhere = λ q past a b. refl }
 
-pub later-then : (p : Plan) (a b c : List ℕ) → Later p a b → Later p b c → Later p a c
-later-then p a b c g h = record {
+neither : (x y : Bool) → (x || y) ≡ false → (x ≡ false) × (y ≡ false)
+neither true y e = absurd (not-both true refl e)
+neither false y e = (refl, e)
+
+pub later-then : (p : Plan) (s t : ℕ → Bool) (a b c : List ℕ) → Later p s a b → Later p t b c → Later p (either s t) a c
+later-then p s t a b c g h = record {
   gone = λ v r l y. h.gone v r l (g.gone v r l y);
   same = λ v r l y. h.same v r l (g.gone v r l y) ∙ g.same v r l y;
-  elsewhere = λ q x y. h.elsewhere q x y ∙ g.elsewhere q x y;
+  elsewhere = λ q past x y. let (first, second) = neither (s q) (t q) past in h.elsewhere q second x y ∙ g.elsewhere q first x y;
 }
 
-pub later-grows : (p : Plan) (a b : List ℕ) → Later p a b → Grows p a b
-later-grows p a b g = record { gone = g.gone; same = g.same }
+pub later-wider : (p : Plan) (s t : ℕ → Bool) (a b : List ℕ) → ((q : ℕ) → s q ≡ true → t q ≡ true) → Later p s a b → Later p t a b
+later-wider p s t a b wide g = record {
+  gone = g.gone;
+  same = g.same;
+  elsewhere = λ q past x y. g.elsewhere q (elim (true-or-false (s q)) [ inl e ↦ absurd (not-both (t q) (wide q e) past) | inr e ↦ e ]) x y;
+}
+
+pub later-grows : (p : Plan) (s : ℕ → Bool) (a b : List ℕ) → Later p s a b → Grows p a b
+later-grows p s a b g = record { gone = g.gone; same = g.same }
 
 -- Nothing was written.
 not-written : (p : Plan) (mem mem2 : List ℕ) (mv mv2 : Moving) (k : Marks) (w x : ℕ) → mem2 ≡ mem → mv2 ≡ mv → Runs p mem mv k → IsImage p mem w x → Evacuated p mem mem2 mv2 k w x
@@ -155,6 +174,7 @@ not-written p mem mem2 mv mv2 k w x e f run i =
 agrees-on : (p : Plan) (mv mv2 : Moving) (b : Bool) (n : ℕ) → Agrees p mv → Advances mv mv2 b n → Agrees p mv2
 agrees-on p mv mv2 b n a o = record {
   stay = λ q. ap (λ z. stays z q) o.stay ∙ a.stay q;
+  moves = λ q h. a.moves q (sym (ap (λ z. in_span z q) o.from_space) ∙ h);
   mature = λ q. ap (λ z. in_span z q) o.mature ∙ a.mature q;
   aged_low = o.aged_low ∙ a.aged_low;
   aged_high = o.aged_high ∙ a.aged_high;
@@ -174,7 +194,7 @@ module _ (p : Plan) (mem mem2 : List ℕ) (mv mv2 : Moving) (k : Marks) (w x : �
         later = record {
           gone = grows.gone;
           same = grows.same;
-          elsewhere = λ q away hides. c.rest q (elim (away (p.mature (w / 4))) [
+          elsewhere = λ q past away hides. c.rest q (elim (away (p.mature (w / 4))) [
             | inl z ↦ inl (omega (arith, z, run.holds.begins (p.mature (w / 4)), run.holds.inner (p.mature (w / 4)), run.holds.outer (p.mature (w / 4))))
             | inr z ↦ inr (omega (arith, z, fit))
           ]) (hides w r l);
@@ -292,13 +312,13 @@ step-within mem mv at c =
 
 module _ (p : Plan) (mem mem2 : List ℕ) (mv mv2 : Moving) (k : Marks) (b : Bool) (at x : ℕ) (run : Runs p mem mv k) (s : scanned_at k b ≡ at) (o : IsPart p mem k b at) (ev : Evacuated p mem mem2 mv2 k (get_or mem at 0) x) where
   part-on : IsPart p mem2 k b at
-  part-on = record { v = o.v; from = o.from; copy = copy-later p mem mem2 b o.v o.from (later-grows p mem mem2 ev.later) o.copy; ends = o.ends; traced = o.traced; below = o.below }
+  part-on = record { v = o.v; from = o.from; copy = copy-later p mem mem2 b o.v o.from (later-grows p nowhere mem mem2 ev.later) o.copy; ends = o.ends; traced = o.traced; below = o.below }
 
   word-on : get_or mem2 at 0 ≡ get_or mem at 0
   word-on =
       let low : o.from ≤ at = omega (arith, o.traced) in
       let below : at < o.from + size p o.v = omega (arith, o.below, o.ends) in
-      raw-at p mem2 mv2 k b at ev.runs s o.v o.from (copy-later p mem mem2 b o.v o.from (later-grows p mem mem2 ev.later) o.copy) low below ∙ sym (raw-at p mem mv k b at run s o.v o.from o.copy low below)
+      raw-at p mem2 mv2 k b at ev.runs s o.v o.from (copy-later p mem mem2 b o.v o.from (later-grows p nowhere mem mem2 ev.later) o.copy) low below ∙ sym (raw-at p mem mv k b at run s o.v o.from o.copy low below)
 
   image-on : IsImage p mem2 (get_or mem2 at 0) x
   image-on = let P : ℕ → Type 0 = λ z. IsImage p mem2 z x in subst P (sym word-on) ev.image
@@ -311,10 +331,10 @@ module _ (p : Plan) (mem mem2 : List ℕ) (mv mv2 : Moving) (k : Marks) (b : Boo
       let P : List ℕ → Type 0 = λ z. RunsOn p mem z mv2 (mark k b (at + 1) (object_at k b)) in
       subst P (sym e) (record {
         runs = record { ready = run.ready; agrees = ev.runs.agrees; holds = write-keeps p g mem2 (top_of mv2) k ev.runs.holds b at x s part-on image-on };
-        later = later-then p mem mem2 (set mem2 at x) ev.later (record {
+        later = later-then p nowhere nowhere mem mem2 (set mem2 at x) ev.later (record {
           gone = grows.gone;
           same = grows.same;
-          elsewhere = λ q away hides. get_or-set_other mem2 at q x 0 (λ y. elim (away b) [ inl z ↦ omega (arith, z, in-room, y) | inr z ↦ omega (arith, z, in-room, y) ]);
+          elsewhere = λ q past away hides. get_or-set_other mem2 at q x 0 (λ y. elim (away b) [ inl z ↦ omega (arith, z, in-room, y) | inr z ↦ omega (arith, z, in-room, y) ]);
         });
       })
 
@@ -385,7 +405,7 @@ going-on p mem mem2 mem3 mv2 mv3 k b at end go less on part =
     let B : Marks → Type 0 = λ z. IsPart p mem3 z b (at + 1) in
     let r : RunsOn p mem2 mem3 mv3 (mark k b (at + 1) end) = subst A marks (on (go.part less)) in
     record {
-      on = record { runs = r.runs; later = later-then p mem mem2 mem3 go.on.later r.later };
+      on = record { runs = r.runs; later = later-then p nowhere nowhere mem mem2 mem3 go.on.later r.later };
       part = λ more. subst B marks (part (go.part less) (omega (arith, more, ob)));
       within = omega arith;
     }
@@ -414,10 +434,10 @@ went-there p mem mem2 mv mv2 k b at w x e ev run s o =
     subst P e (ev p k run (subst Q (sym e) (reached-there p mem mv k b at run s o)))
 
 pub aged-on : (p : Plan) (mem mem2 mem3 : List ℕ) (mv2 mv3 : Moving) (aged young next : ℕ) → RunsOn p mem mem2 mv2 (at_objects aged young) → RunsOn p mem2 mem3 mv3 (mark (at_objects aged young) true next next) → RunsOn p mem mem3 mv3 (at_objects next young)
-aged-on p mem mem2 mem3 mv2 mv3 aged young next a b = record { runs = b.runs; later = later-then p mem mem2 mem3 a.later b.later }
+aged-on p mem mem2 mem3 mv2 mv3 aged young next a b = record { runs = b.runs; later = later-then p nowhere nowhere mem mem2 mem3 a.later b.later }
 
 pub young-on : (p : Plan) (mem mem2 mem3 : List ℕ) (mv2 mv3 : Moving) (aged young next : ℕ) → RunsOn p mem mem2 mv2 (at_objects aged young) → RunsOn p mem2 mem3 mv3 (mark (at_objects aged young) false next next) → RunsOn p mem mem3 mv3 (at_objects aged next)
-young-on p mem mem2 mem3 mv2 mv3 aged young next a b = record { runs = b.runs; later = later-then p mem mem2 mem3 a.later b.later }
+young-on p mem mem2 mem3 mv2 mv3 aged young next a b = record { runs = b.runs; later = later-then p nowhere nowhere mem mem2 mem3 a.later b.later }
 
 pub can-open-aged : (p : Plan) (mem mem2 : List ℕ) (mv : Moving) (aged young : ℕ) → RunsOn p mem mem2 mv (at_objects aged young) → aged < mv.aged.top → CanOpen mem2 mv aged
 can-open-aged p mem mem2 mv aged young a less = record { plan = p; marks = at_objects aged young; room = true; runs = a.runs; scanned = refl; object = refl; below = less }

@@ -1,5 +1,5 @@
 -- What the calls of a collection ask and promise.
-use Rattle.std.specs.Prelude.{◌≡◌, ℕ, ◌+◌, ◌/◌, ◌%◌, ◌<◌, ◌⊎◌, Bool, true, false, List, slice_index}
+use Rattle.std.specs.Prelude.{◌≡◌, ℕ, ◌+◌, ◌/◌, ◌%◌, ◌<◌, ◌⊎◌, ◌||◌, Bool, true, false, List, slice_index}
 use Rattle.term_words.specs.Object.{IsPointer, object_words}
 use Rattle.term_words.specs.Reach.{first_of}
 use Rattle.term_tags.specs.Table.{layout_for}
@@ -46,16 +46,25 @@ pub record Copied (mem mem2 : List ℕ) (mv mv2 : Moving) (w x : ℕ) : Type 0 w
 abbrev pub Went : List ℕ → List ℕ → Moving → Moving → ℕ → ℕ → Type 0
 Went mem mem2 mv mv2 w x = Stayed mem mem2 mv mv2 w x ⊎ (Found mem mem2 mv mv2 w x ⊎ Copied mem mem2 mv mv2 w x)
 
--- What was moved stays moved, to the same place; words outside the rooms and the moved objects stay.
-pub record Later (p : Plan) (mem mem2 : List ℕ) : Type 0 where
+-- No place.
+abbrev pub nowhere : ℕ → Bool
+nowhere q = false
+
+-- One of two tests passes.
+abbrev pub either : (ℕ → Bool) → (ℕ → Bool) → ℕ → Bool
+either s t q = s q || t q
+
+-- What was moved stays moved, to the same place; words outside the rooms, the moved objects and the places that were written
+-- beside them stay.
+pub record Later (p : Plan) (written : ℕ → Bool) (mem mem2 : List ℕ) : Type 0 where
   pub gone : (v : ℕ) → Reached p v → Leaves p v → moved mem v ≡ true → moved mem2 v ≡ true
   pub same : (v : ℕ) → Reached p v → Leaves p v → moved mem v ≡ true → forward mem2 v ≡ forward mem v
-  pub elsewhere : (q : ℕ) → IsOutside p q → ((v : ℕ) → Reached p v → Leaves p v → Shows v q → ⊥) → slice_index mem2 q ≡ slice_index mem q
+  pub elsewhere : (q : ℕ) → written q ≡ false → IsOutside p q → ((v : ℕ) → Reached p v → Leaves p v → Shows v q → ⊥) → slice_index mem2 q ≡ slice_index mem q
 
 -- The collection runs on, and the answer is what the word has become.
 pub record Evacuated (p : Plan) (mem mem2 : List ℕ) (mv2 : Moving) (k : Marks) (w x : ℕ) : Type 0 where
   pub runs : Runs p mem2 mv2 k
-  pub later : Later p mem mem2
+  pub later : Later p nowhere mem mem2
   pub image : IsImage p mem2 w x
 
 -- A collection runs, and a whole object of a room that is not scanned lies at the place.
@@ -71,7 +80,7 @@ pub record CanOpen (mem : List ℕ) (mv : Moving) (place : ℕ) : Type 0 where
 -- The collection runs on.
 pub record RunsOn (p : Plan) (mem mem2 : List ℕ) (mv2 : Moving) (k : Marks) : Type 0 where
   pub runs : Runs p mem2 mv2 k
-  pub later : Later p mem mem2
+  pub later : Later p nowhere mem mem2
 
 -- A collection runs, and nothing of its rooms is scanned.
 pub record CanScan (mem : List ℕ) (mv : Moving) : Type 0 where

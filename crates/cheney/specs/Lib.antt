@@ -7,4 +7,4 @@ pub mod Rooms
 pub mod Calls
 pub mod Collected
 pub mod Next
-pub mod Stack
+pub mod Roots

@@ -64,6 +64,12 @@ unfoldable pub count : (ℕ → Bool) → ℕ → ℕ → ℕ
 count s from zero = 0
 count s from (suc n) = (if s from then 1 else 0) + count s (from + 1) n
 
+-- The object lies between two places, and all its places pass the test.
+pub record LiesIn (p : Plan) (s : ℕ → Bool) (from to w : ℕ) : Type 0 where
+  pub above : from ≤ w / 4
+  pub below : w / 4 + size p w ≤ to
+  pub passes : (q : ℕ) → IsIn p w q → s q ≡ true
+
 -- The room holds the objects that go there, each once.
 pub record Fits (p : Plan) (room : Bool) : Type 0 where
   pub each : List ℕ

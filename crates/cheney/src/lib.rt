@@ -1,19 +1,30 @@
-// Moving objects: each object that the roots reach is copied once, and the words that name it follow.
+//! The collector: what the roots reach is copied to two rooms, each object once, and all words that name it follow.
+//! A whole collection moves each root by one of the calls below, and then scans what was copied, until nothing of it names
+//! the old places. It promises the new words of the roots for the trees that the old ones stood for, and that what stays is as
+//! it was. A caller owes a plan (what the roots stand for, what stays, two rooms that hold what goes there) and, between
+//! calls, writes only where no object, record or room lies.
 #![tactic(auto)]
 
+mod collection;
 mod laws;
 mod moving;
 mod objects;
 mod parts;
+mod roots;
 mod stay;
 #[cfg(test)]
 mod tests;
 
+pub use collection::collect;
 pub use laws::{
-    again_law, aside_law, begin_law, beside_law, collected_law, compose_law, count_law, fits_law,
-    later_law, roles_law, roots_law, tiled_law, write_law,
+    calls_change_no_other_words, collections_can_follow, counted_places_bound_rooms,
+    images_keep_their_shape, images_last, memories_get_single_roles, new_roots_reach_the_copies,
+    places_are_counted_in_parts, places_without_roles_lie_beside, ready_collections_run,
+    rooms_are_tiled, roots_become_images, scanned_collections_are_whole,
+    writes_beside_keep_collections,
 };
 pub use moving::Moving;
 pub use objects::evacuate;
 pub use parts::scan;
+pub use roots::{evacuate_all, evacuate_at, evacuate_places};
 pub use stay::Stay;

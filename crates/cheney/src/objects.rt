@@ -3,7 +3,8 @@ ghost use Rattle.std.specs.Prelude.{◌≡◌, ℕ, ◌+◌, ◌*◌, ◌/◌, �
 ghost use Rattle.cheney.specs.Plan.{Plan, Reached};
 ghost use Rattle.cheney.specs.Moved.{Copies};
 ghost use Rattle.cheney.specs.Zones.{Marks};
-ghost use Rattle.cheney.specs.Rooms.{Runs};
+ghost use Rattle.cheney.specs.Ranges.{stays};
+ghost use Rattle.cheney.specs.Rooms.{FromMoves, Runs};
 ghost use Rattle.cheney.specs.Calls.{CanMove, Went, Evacuated};
 ghost use Rattle.cheney.specs.Spans.{in_span};
 
@@ -45,7 +46,7 @@ fn move_cons(mem: &mut WordMem, mv: &mut Moving, w: u64) -> u64
 {
     let _len = mem.len();
     let at = w / 4;
-    if mv.stay.has(at) {
+    if stays_at(mv, at) {
         return w;
     }
     let head = mem.get(at);
@@ -67,7 +68,7 @@ fn move_boxed(mem: &mut WordMem, mv: &mut Moving, w: u64) -> u64
 {
     let _len = mem.len();
     let at = w / 4;
-    if mv.stay.has(at) {
+    if stays_at(mv, at) {
         return w;
     }
     let header = mem.get(at);
@@ -79,6 +80,18 @@ fn move_boxed(mem: &mut WordMem, mv: &mut Moving, w: u64) -> u64
     } else {
         boxed_to(mem, &mut mv.young, w, header)
     }
+}
+
+// Whether what lies at the place stays.
+#[inline]
+fn stays_at(mv: &Moving, place: u64) -> bool
+    requires { FromMoves mv.now }
+    ensures { result ≡ stays mv.now.stay place }
+{
+    if is_in(&mv.from_space, place) {
+        return false;
+    }
+    mv.stay.has(place)
 }
 
 // Whether a span holds the place.

@@ -25,6 +25,16 @@ impl Stay {
         }
     }
 
+    /// The same spans: a caller keeps its own beside a collection's.
+    pub fn copied(&self) -> Stay
+        ensures places { (q : ℕ) → stays result q ≡ stays self.now q }
+        ensures len { array_vec_len result.spans ≡ array_vec_len self.now.spans }
+    {
+        let mut spans = ArrayVec::new();
+        let _ = spans.try_extend_from_slice(self.spans.as_slice());
+        Stay { spans }
+    }
+
     /// One span more.
     pub fn with(&self, span: Span) -> Stay
         requires { array_vec_len self.now.spans < 72 }

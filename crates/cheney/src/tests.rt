@@ -1,15 +1,11 @@
-ghost use Rattle.std.specs.Prelude.{◌≡◌, ◌+◌, ◌≤◌, ◌^◌, length, IfOk};
-ghost use Rattle.cheney.specs.Plan.{Plan};
-ghost use Rattle.cheney.specs.Collected.{Begins, CanCollect};
-ghost use Rattle.cheney.specs.Next.{Ended};
-ghost use Rattle.cheney.specs.Stack.{CanCollectStack, StackBegins, words_at};
+ghost use Rattle.std.specs.Prelude.{◌≡◌, ◌≤◌, ◌^◌, length, IfOk};
 
+use crate::collection::collect;
 use crate::moving::Moving;
-use crate::objects::evacuate;
 use crate::parts::scan;
+use crate::roots::evacuate_places;
 use crate::stay::Stay;
 use std::alloc::Global;
-use std::process::Abort;
 use std::rt::HostRuntime;
 use word_mem::{OpenFault, Room, Span, WordMem};
 
@@ -26,44 +22,21 @@ fn laid(alloc: Global, words: &[u64]) -> Result<WordMem, OpenFault>
     Ok(mem)
 }
 
-// A whole collection from a slice of roots, which become the new ones.
-fn collect(mem: &mut WordMem, mv: &mut Moving, roots: &mut [u64])
-    requires { CanCollect mem.old mv.old roots.old }
-    ensures len { length mem.new ≡ length mem.old }
-    ensures done { (p : Plan) → Begins p mem.old mv.old roots.old → Ended p mem.new mv.new roots.new }
+// Whether the memory holds these words from a place on.
+fn holds(mem: &WordMem, from: u64, words: &[u64]) -> bool
+    requires { from ≤ 2 ^ 24 }
 {
-    for i in 0..roots.len() {
-        let w = roots[i];
-        roots[i] = evacuate(mem, mv, w);
-    }
-    scan(mem, mv);
-}
-
-// A whole collection from roots that stand in the memory, as on a stack: the words at `count` places, which become the new
-// ones.
-fn collect_stack(mem: &mut WordMem, mv: &mut Moving, from: u64, count: u64)
-    requires { CanCollectStack mem.old mv.old from count }
-    ensures len { length mem.new ≡ length mem.old }
-    ensures done { (p : Plan) → StackBegins p mem.old mv.old from count → Ended p mem.new mv.new (words_at mem.new from count) }
-{
-    let _len = mem.len();
-    for i in 0..count {
-        let w = mem.get(from + i);
-        let new = evacuate(mem, mv, w);
-        mem.set(from + i, new);
-    }
-    scan(mem, mv);
-}
-
-// The memory holds these words from a place on.
-fn holds(rt: &impl Abort, mem: &WordMem, from: u64, words: &[u64])
-    requires { from + length words.now ≤ length mem.now }
-{
-    let _len = mem.len();
+    let len = mem.len();
     for i in 0..words.len() {
         let place = from + i as u64;
-        assert_eq!(rt; mem.get(place), words[i], "place {place}");
+        if place >= len {
+            return false;
+        }
+        if mem.get(place) != words[i] {
+            return false;
+        }
     }
+    true
 }
 
 // An empty room.
@@ -121,46 +94,76 @@ const MOVED_AGAIN: [u64; 13] = [
     417, 426, 438, 450, 474, 494, 522, 170, 538, 546, 550, 417, 79,
 ];
 
-#[test]
-fn each_kind_is_moved_once(rt: HostRuntime) {
-    let mut mem = laid(rt.alloc(), &BEFORE).expect(&rt, "a memory");
-    let kept = Span { start: 42, end: 45 };
+// A collection of each kind, and a second one of what it has moved: the roots, the ends of the rooms and all words are
+// as they have to be after each.
+fn is_moved_twice(alloc: Global) -> Result<bool, OpenFault> {
+    let mut mem = laid(alloc, &BEFORE)?;
+    let stay = Stay::none().with(Span { start: 42, end: 45 });
+    let mut again = Moving {
+        stay: stay.copied(),
+        from_space: Span { start: 51, end: 90 },
+        mature: Span { start: 0, end: 0 },
+        aged: empty(0, 0),
+        young: empty(104, 144),
+    };
     let mut mv = Moving {
-        stay: Stay::none().with(kept),
+        stay,
+        from_space: Span { start: 1, end: 42 },
         mature: Span { start: 1, end: 9 },
         aged: empty(51, 60),
         young: empty(60, 91),
     };
     let mut roots = ROOTS;
     collect(&mut mem, &mut mv, &mut roots);
-    assert_eq!(rt; roots, MOVED);
-    assert_eq!(rt; (mv.aged.top, mv.young.top), (59, 90));
-    holds(&rt, &mem, 0, &AFTER);
-    let mut again = Moving {
-        stay: Stay::none().with(kept),
-        mature: Span { start: 0, end: 0 },
-        aged: empty(0, 0),
-        young: empty(104, 144),
-    };
+    if roots != MOVED || mv.aged.top != 59 || mv.young.top != 90 || !holds(&mem, 0, &AFTER) {
+        return Ok(false);
+    }
     collect(&mut mem, &mut again, &mut roots);
-    assert_eq!(rt; roots, MOVED_AGAIN);
-    assert_eq!(rt; (again.aged.top, again.young.top), (0, 142));
-    holds(&rt, &mem, 104, &AGAIN);
+    Ok(
+        roots == MOVED_AGAIN
+            && again.aged.top == 0
+            && again.young.top == 142
+            && holds(&mem, 104, &AGAIN),
+    )
 }
 
-#[test]
-fn roots_on_a_stack_are_moved(rt: HostRuntime) {
-    let mut mem = laid(rt.alloc(), &BEFORE).expect(&rt, "a memory");
+// The same roots, as they stand on a stack in the memory.
+fn is_moved_from_a_stack(alloc: Global) -> Result<bool, OpenFault> {
+    let mut mem = laid(alloc, &BEFORE)?;
     let mut mv = Moving {
         stay: Stay::none().with(Span { start: 42, end: 45 }),
+        from_space: Span { start: 1, end: 42 },
         mature: Span { start: 1, end: 9 },
         aged: empty(51, 60),
         young: empty(60, 91),
     };
-    collect_stack(&mut mem, &mut mv, 91, 13);
-    holds(&rt, &mem, 0, &AFTER);
-    holds(&rt, &mem, 91, &MOVED);
+    evacuate_places(&mut mem, &mut mv, 91, 1, 13);
+    scan(&mut mem, &mut mv);
+    Ok(holds(&mem, 0, &AFTER) && holds(&mem, 91, &MOVED))
 }
+
+#[test]
+fn each_kind_is_moved_once(rt: HostRuntime) {
+    assert!(rt; is_moved_twice(rt.alloc()).expect(&rt, "a memory"));
+}
+
+#[test]
+fn roots_on_a_stack_are_moved(rt: HostRuntime) {
+    assert!(rt; is_moved_from_a_stack(rt.alloc()).expect(&rt, "a memory"));
+}
+
+// Places, and whether they stay by the spans of the test below.
+const STAYING: [(u64, bool); 9] = [
+    (3, false),
+    (4, true),
+    (7, true),
+    (8, false),
+    (9, false),
+    (10, true),
+    (14, true),
+    (25, true),
+    (30, false),
+];
 
 #[test]
 fn spans_that_overlap_are_found(rt: HostRuntime) {
@@ -169,19 +172,7 @@ fn spans_that_overlap_are_found(rt: HostRuntime) {
         .with(Span { start: 4, end: 8 })
         .with(Span { start: 12, end: 13 })
         .with(Span { start: 15, end: 30 });
-    // place, and whether it stays
-    let rows = [
-        (3, false),
-        (4, true),
-        (7, true),
-        (8, false),
-        (9, false),
-        (10, true),
-        (14, true),
-        (25, true),
-        (30, false),
-    ];
-    for (place, want) in rows {
-        assert_eq!(rt; stay.has(place), want, "place {place}");
+    for (place, want) in &STAYING {
+        assert!(rt; stay.has(*place) == *want, "place {place}");
     }
 }

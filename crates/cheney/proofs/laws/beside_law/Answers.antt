@@ -1,8 +1,0 @@
-use Rattle.cheney.proofs.Begins.{beside-runs, image-beside}
-use Rattle.cheney.proofs.laws.beside_law.Goals as goal
-
-pub returns-clause-runs : goal.returns-clause-runs
-returns-clause-runs c = beside-runs
-
-pub returns-clause-images : goal.returns-clause-images
-returns-clause-images c = image-beside

@@ -1,5 +1,0 @@
-use Rattle.cheney.proofs.Next.{has-roles}
-use Rattle.cheney.proofs.laws.roles_law.Goals as goal
-
-pub returns : goal.returns
-returns c = λ p m top s y o z. has-roles p y m top o s z
