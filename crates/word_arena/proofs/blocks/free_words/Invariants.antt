@@ -1,0 +1,14 @@
+use Rattle.std.proofs.Common.{◌≡◌, ℕ, ◌-◌, ◌≤◌, List}
+use Rattle.word_arena.specs.Blocks.{Blocks, free_in}
+use Rattle.word_arena.specs.Calls.{Stop}
+use Rattle.word_arena.proofs.Summing.{Sum}
+use Rattle.word_arena.proofs.blocks.free_words.Given as goal
+
+abbrev pub invariant-loop-at : goal.invariant-loop-at
+invariant-loop-at l = record {
+  stop : Stop l.mem l.at;
+  sum : Sum l.mem l.at l.all;
+}
+
+abbrev pub decreases-loop-at : goal.decreases-loop-at
+decreases-loop-at l = l.len - l.at

@@ -1,0 +1,75 @@
+-- The memory as a row of blocks. Places and sizes are in words; the first word of a block is its header.
+use Rattle.std.specs.Prelude.{◌≡◌, ℕ, zero, suc, ◌+◌, ◌*◌, ◌/◌, ◌%◌, ◌<◌, ◌≤◌, ◌⊎◌, ◌==◌, nat_lt, if◌then◌else◌, List, [], ◌∷◌, length, slice_index}
+use Rattle.word_arena.specs.declared.blocks.TheConstants.{LAST_KIND}
+
+-- How many words the block at a place has.
+abbrev pub size_at : List ℕ → ℕ → ℕ
+size_at mem at = slice_index mem at / 16
+
+-- The kind of the block at a place; that of a free block is 0.
+abbrev pub kind_at : List ℕ → ℕ → ℕ
+kind_at mem at = slice_index mem at % 16
+
+-- Whose the block at a place is; a free block has no owner.
+abbrev pub owner_at : List ℕ → ℕ → ℕ
+owner_at mem at = slice_index mem (at + 1)
+
+-- How many free words the block at a place has: all of a free block, none of another.
+abbrev pub free_at : List ℕ → ℕ → ℕ
+free_at mem at = if kind_at mem at == 0 then size_at mem at else 0
+
+-- The header of a block of so many words and of this kind.
+abbrev pub header : (size kind : ℕ) → ℕ
+header size kind = size * 16 + kind
+
+-- A word is a block's header: a free block has a word at least, any other has two.
+pub record IsHeader (word : ℕ) : Type 0 where
+  pub kind : word % 16 ≤ LAST_KIND
+  pub sized : 1 ≤ word / 16
+  pub owned : 1 ≤ word % 16 → 2 ≤ word / 16
+
+-- The words from one place up to another are blocks that begin at these places, without a gap.
+abbrev pub Blocks : List ℕ → (from : ℕ) → (places : List ℕ) → (to : ℕ) → Type 0
+Blocks mem from [] to = from ≡ to
+Blocks mem from (p ∷ ps) to = (p ≡ from) × IsHeader (slice_index mem p) × Blocks mem (from + size_at mem p) ps to
+
+-- The places to which the headers lead from one place on, up to the memory's end, in at most so many steps.
+abbrev pub places_from : List ℕ → (steps : ℕ) → (at : ℕ) → List ℕ
+places_from mem zero at = []
+places_from mem (suc steps) at = if nat_lt at (length mem) then at ∷ places_from mem steps (at + size_at mem at) else []
+
+-- The places where blocks begin, from the memory's first word on.
+unfoldable pub places_of : List ℕ → List ℕ
+places_of mem = places_from mem (length mem) 0
+
+-- The memory is a row of blocks.
+pub record Blocked (mem : List ℕ) : Type 0 where
+  pub row : Blocks mem 0 (places_of mem) (length mem)
+
+-- Blocks lead from the memory's first word to the place.
+pub record Reaches (mem : List ℕ) (at : ℕ) : Type 0 where
+  pub places : List ℕ
+  pub row : Blocks mem 0 places at
+
+-- The place stands in the list.
+abbrev pub In : ℕ → List ℕ → Type 0
+In p [] = ⊥
+In p (q ∷ qs) = (p ≡ q) ⊎ In p qs
+
+-- A block begins at the place.
+pub record Begins (mem : List ℕ) (at : ℕ) : Type 0 where
+  pub listed : In at (places_of mem)
+
+-- A block begins at the place that is not free.
+pub record IsUsed (mem : List ℕ) (at : ℕ) : Type 0 where
+  pub begins : Begins mem at
+  pub kind : 1 ≤ kind_at mem at
+
+-- The free words of the blocks at these places.
+abbrev pub free_in : List ℕ → List ℕ → ℕ
+free_in mem [] = 0
+free_in mem (p ∷ ps) = free_at mem p + free_in mem ps
+
+-- The free words of all blocks.
+unfoldable pub free_of : List ℕ → ℕ
+free_of mem = free_in mem (places_of mem)

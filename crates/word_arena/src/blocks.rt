@@ -1,0 +1,140 @@
+// Blocks read in a memory.
+ghost use Rattle.std.specs.Prelude.{◌≡◌, ℕ, ◌+◌, ◌-◌, ◌<◌, ◌≤◌, ◌≢◌, length, slice_index, IfSome, IfNone};
+ghost use Rattle.word_arena.specs.Blocks.{size_at, kind_at, free_at, Blocked, Begins, free_of};
+ghost use Rattle.word_arena.specs.Calls.{Stop, freed, free_end};
+
+use word_mem::WordMem;
+
+/// The last kind of block; kinds count from 1, and 0 is that of a free block.
+pub const LAST_KIND: u64 = 8;
+
+// Headers hold the size above so many numbers of kinds.
+pub(crate) const KIND_NUMBERS: u64 = 16;
+
+/// The words of the block at a place.
+pub(crate) fn size(mem: &WordMem, at: u64) -> u64
+    requires { at < length mem.now }
+    ensures { result ≡ size_at mem.now at }
+{
+    mem.get(at) / KIND_NUMBERS
+}
+
+/// The kind of the block at a place.
+pub(crate) fn kind(mem: &WordMem, at: u64) -> u64
+    requires { at < length mem.now }
+    ensures { result ≡ kind_at mem.now at }
+{
+    mem.get(at) % KIND_NUMBERS
+}
+
+/// The free words of the block at a place.
+pub(crate) fn free(mem: &WordMem, at: u64) -> u64
+    requires { at < length mem.now }
+    ensures { result ≡ free_at mem.now at }
+{
+    if kind(mem, at) == 0 { size(mem, at) } else { 0 }
+}
+
+/// Where the next block begins behind the one at a place, or the memory's end.
+pub(crate) fn next(mem: &WordMem, at: u64) -> u64
+    requires blocked { Blocked mem.now }
+    requires block { Begins mem.now at }
+    ensures value { result ≡ at + size_at mem.now at }
+    ensures stop { Stop mem.now result }
+    ensures after { at < result }
+{
+    let _len = mem.len();
+    at + size(mem, at)
+}
+
+/// Where the words end that are free from a place on.
+pub(crate) fn free_end(mem: &WordMem, at: u64) -> u64
+    requires blocked { Blocked mem.now }
+    requires stop { Stop mem.now at }
+    ensures value { result ≡ free_end mem.now at }
+    ensures inside { result ≤ length mem.now }
+    ensures after { at ≤ result }
+{
+    if at < mem.len() {
+        at + free(mem, at)
+    } else {
+        at
+    }
+}
+
+/// The first block with so many free words among those that begin from one place on and before another.
+pub(crate) fn first_fit(mem: &WordMem, from: u64, end: u64, words: u64) -> Option<u64>
+    requires blocked { Blocked mem.now }
+    requires from { Stop mem.now from }
+    requires end { end ≤ length mem.now }
+    ensures none { IfNone result ((p : ℕ) → Begins mem.now p → from ≤ p → p < end → free_at mem.now p < words) }
+    ensures begins { IfSome result (λ at. Begins mem.now at) }
+    ensures inside { IfSome result (λ at. (from ≤ at) × (at < end)) }
+    ensures fits { IfSome result (λ at. words ≤ free_at mem.now at) }
+    ensures first { IfSome result (λ at. (p : ℕ) → Begins mem.now p → from ≤ p → p < at → free_at mem.now p < words) }
+{
+    let _len = mem.len();
+    let mut at = from;
+    while at < end {
+        if words <= free(mem, at) {
+            return Some(at);
+        }
+        at = next(mem, at);
+    }
+    None
+}
+
+/// The free block that ends at a place, among the blocks that begin from one place on and before another.
+pub(crate) fn free_before(mem: &WordMem, from: u64, end: u64, at: u64) -> Option<u64>
+    requires blocked { Blocked mem.now }
+    requires from { Stop mem.now from }
+    requires end { end ≤ at }
+    requires at { at ≤ length mem.now }
+    ensures none { IfNone result ((p : ℕ) → Begins mem.now p → from ≤ p → p < end → kind_at mem.now p ≡ 0 → p + size_at mem.now p ≢ at) }
+    ensures begins { IfSome result (λ p. Begins mem.now p) }
+    ensures free { IfSome result (λ p. kind_at mem.now p ≡ 0) }
+    ensures ends { IfSome result (λ p. p + size_at mem.now p ≡ at) }
+{
+    let _len = mem.len();
+    let mut p = from;
+    while p < end {
+        if p + free(mem, p) == at {
+            return Some(p);
+        }
+        p = next(mem, p);
+    }
+    None
+}
+
+/// The most free words of a block among those that begin from one place on and before another.
+pub(crate) fn greatest(mem: &WordMem, from: u64, end: u64) -> u64
+    requires blocked { Blocked mem.now }
+    requires from { Stop mem.now from }
+    requires end { end ≤ length mem.now }
+    ensures above { (p : ℕ) → Begins mem.now p → from ≤ p → p < end → free_at mem.now p ≤ result }
+    ensures met { 0 < result → (p : ℕ) × Begins mem.now p × (from ≤ p) × (p < end) × (free_at mem.now p ≡ result) }
+{
+    let _len = mem.len();
+    let mut most = 0;
+    let mut at = from;
+    while at < end {
+        most = most.max(free(mem, at));
+        at = next(mem, at);
+    }
+    most
+}
+
+/// The free words of all blocks.
+pub(crate) fn free_words(mem: &WordMem) -> u64
+    requires { Blocked mem.now }
+    ensures { result ≡ free_of mem.now }
+{
+    let len = mem.len();
+    let mut all = 0;
+    let mut at = 0;
+    while at < len {
+        all += free(mem, at);
+        at = next(mem, at);
+    }
+    all
+}

@@ -1,0 +1,9 @@
+//! The arena: a memory as a row of blocks side by side, each free or with a kind and an owner.
+#![tactic(auto)]
+
+mod arena;
+mod blocks;
+mod rows;
+
+pub use arena::Arena;
+pub use blocks::LAST_KIND;
