@@ -8,7 +8,7 @@ use Rattle.std.proofs.lemmas.List.Folds.{length-prefix_len}
 use Rattle.script_grammar.specs.Grammar.{is_small_letter, is_name_byte, AreAll, IsName}
 use Rattle.script_parse.specs.Reading.{atom_at, is_solid, word_at, after_word}
 use Rattle.script_parse.proofs.Tools.{chosen, both}
-use Rattle.script_parse.proofs.PartSteps.{unequal}
+use Rattle.script_parse.proofs.Tools.{unequal}
 use Rattle.script_parse.proofs.GapSteps.{Stops}
 
 take_step : (p : ℕ → Bool) (b : ℕ) (xs : List ℕ) (t : Bool) → p b ≡ t → AreAll p (take (prefix_len p xs) xs) → AreAll p (take (prefix_len p (b ∷ xs)) (b ∷ xs))

@@ -1,34 +1,32 @@
 -- What is in the grammar and built is read.
-use Rattle.std.proofs.Common.{◌≡◌, ℕ, zero, suc, ◌+◌, ◌-◌, ◌^◌, ◌<◌, ◌≤◌, ◌≢◌, Bool, true, false, nat_eq, nat_le, ℤ, pos, negsuc, List, [], ◌∷◌, ◌++◌, length, Some, None, codes, refl, sym, ◌∙◌, ap, arith, eq-eqb, add-one, zero-add}
+use Rattle.std.proofs.Common.{◌≡◌, ℕ, zero, suc, ◌+◌, ◌^◌, ◌<◌, ◌≤◌, Bool, true, false, nat_eq, nat_le, ℤ, pos, negsuc, List, [], ◌∷◌, ◌++◌, length, Option, Some, None, codes, refl, sym, ◌∙◌, ap, subst, inl, inr, arith}
 use Rattle.std.proofs.lemmas.Bool.{leb-true}
-use Rattle.plain_term.specs.declared.item.Item.TheVariants as item
 use Rattle.plain_term.specs.Measures.{is_small}
-use Rattle.script_grammar.specs.Written.{Term, Terms, terms_len}
-use Rattle.script_grammar.specs.Written.Term.{Int, Atom, Pid, Held, Listed, Barred, Tuple, Map, Bin}
-use Rattle.script_grammar.specs.Written.Terms.{end, ◌▹◌}
-use Rattle.script_grammar.specs.Grammar.{is_blank, is_digit, is_small_letter, is_name_byte, AreAll, IsNumber, IsName, Piece, Lies, term_pieces, parts_pieces, more_pieces, MayStand, AllMayStand, IsBuiltTerm, AreBuiltTerms}
+use Rattle.script_grammar.specs.Written.{Term}
+use Rattle.script_grammar.specs.Written.Term.{Int, Atom, Pid}
+use Rattle.script_grammar.specs.Grammar.{is_blank, is_digit, is_small_letter, AreAll, IsNumber, IsName, Piece, Lies, term_pieces, MayStand, IsBuiltTerm}
 use Rattle.script_grammar.specs.Grammar.Piece.{Text, Whole, Process}
-use Rattle.script_parse.specs.Output.{Out, push, push_place, put, put_all}
-use Rattle.script_parse.specs.Reading.{after_blanks, byte_at, integer_at, atom_at, integer_run, atom_run, leaf_run, after_part, parts_run, term_run}
-use Rattle.script_parse.proofs.Tools.{not_blank, apart, both_true, far}
-use Rattle.script_parse.proofs.PartSteps.{unequal}
-use Rattle.script_parse.proofs.TermSteps.{term_leaf, term_list, term_tuple}
+use Rattle.script_parse.specs.declared.forms.Form.{Form}
+use Rattle.script_parse.specs.declared.forms.Form.TheVariants as form
+use Rattle.script_parse.specs.Forms.{all_forms, opening, closing}
+use Rattle.script_parse.specs.Output.{Out, begun, led, ended, put}
+use Rattle.script_parse.specs.Reading.{then_read, after_blanks, text_at, integer_at, atom_at, leaf_at, parts_run, part_run, form_in, form_run, any_run, term_run}
+use Rattle.script_parse.proofs.Tools.{unequal, not_blank, apart, both_true, far_from}
+use Rattle.script_parse.proofs.TermSteps.{term_leaf}
 use Rattle.script_parse.proofs.GapSteps.{Token, token, Divides, stops}
-use Rattle.script_parse.proofs.NumberSteps.{Begun, begun, stops_digits, integer_found, pid_found, pid_text}
+use Rattle.script_parse.proofs.NumberSteps.{Begun, begun as number_begun, stops_digits, integer_found, pid_found, pid_text}
 use Rattle.script_parse.proofs.AtomSteps.{atom_found}
-use Rattle.script_parse.proofs.Sound.{tuple_empty}
+use Rattle.script_parse.proofs.Divided.{Each, more_of, parts_of, more_divides, put_each, Mark, Opened, opened, mark_no_comma, mark_divides, DonePart, DoneParts, parts_done}
+use Rattle.script_parse.proofs.FormRows.{PartOf, part_pieces, part_put, IsPart, IsLeaf, leaf_or_made, made, made_pieces, made_put, made_are, made_level, opening_mark, closing_mark, form_found, opening_no_end, marks, unmarked, pid_closes_none}
 
--- A term of the grammar is read, and the pieces after it stand in the rest.
-pub record Done (levels : ℕ) (t : Term) (ps : List Piece) (line : List ℕ) (o : Out) : Type 0 where
+-- A term without parts of the grammar is read, no form is opened or closed there, and the pieces after it stand in the rest.
+pub record DoneLeaf (t : Term) (ps : List Piece) (line : List ℕ) : Type 0 where
   pub rest : List ℕ
-  pub read : term_run levels line o ≡ Some (rest, put t o)
+  pub read : leaf_at (after_blanks line) ≡ Some (t, rest)
   pub lies : Lies ps rest
   pub shorter : length rest < length line
-  pub head : ℕ
-  pub more : List ℕ
-  pub front : after_blanks line ≡ head ∷ more
-  pub no_list_end : head ≢ 93
-  pub no_tuple_end : head ≢ 125
+  pub no_form : form_in all_forms (after_blanks line) ≡ None
+  pub no_end : (f : Form) → text_at (closing f) (after_blanks line) ≡ None
 
 -- The bytes that a leaf of a kind begins with begin no other form.
 digit_not_letter : (b : ℕ) → is_digit b ≡ true → is_small_letter b ≡ false
@@ -39,252 +37,153 @@ digit_not_letter b h = let k : (nat_le 48 b ≡ true) × (nat_le b 57 ≡ true) 
       | false ↦ λ f. refl
     ] (both_true (nat_le 97 b) (nat_le b 122))
 
-letter_run : (b : ℕ) (bytes : List ℕ) (o : Out) → is_small_letter b ≡ true → leaf_run (b ∷ bytes) o ≡ atom_run (b ∷ bytes) o
-letter_run b bytes o h = rw (unequal b 60 (apart is_small_letter b 60 refl h), h) refl
+letter_run : (b : ℕ) (bytes : List ℕ) → is_small_letter b ≡ true → leaf_at (b ∷ bytes) ≡ then_read {B = Term × List ℕ} (atom_at (b ∷ bytes)) (λ r. Some (Atom (r.0), r.1))
+letter_run b bytes h = rw (unequal b 60 (apart is_small_letter b 60 refl h), h) refl
 
-digit_run : (b : ℕ) (bytes : List ℕ) (o : Out) → is_digit b ≡ true → leaf_run (b ∷ bytes) o ≡ integer_run (b ∷ bytes) o
-digit_run b bytes o h = rw (unequal b 60 (apart is_digit b 60 refl h), digit_not_letter b h) refl
+digit_run : (b : ℕ) (bytes : List ℕ) → is_digit b ≡ true → leaf_at (b ∷ bytes) ≡ then_read {B = Term × List ℕ} (integer_at (b ∷ bytes)) (λ r. Some (Int (r.0), r.1))
+digit_run b bytes h = rw (unequal b 60 (apart is_digit b 60 refl h), digit_not_letter b h) refl
+
+-- A leaf that begins with a byte of a kind that opens and closes nothing.
+leaf_done : (t : Term) (ps : List Piece) (line : List ℕ) (p : ℕ → Bool) (b : ℕ) (text rest : List ℕ) → far_from p marks ≡ true → p b ≡ true → after_blanks line ≡ b ∷ (text ++ rest)
+    → leaf_at (b ∷ (text ++ rest)) ≡ Some (t, rest) → Lies ps rest → length rest < length line → DoneLeaf t ps line
+leaf_done t ps line p b text rest h e front read l s = let k = unmarked p b (text ++ rest) h e in
+    record { rest = rest; read = ap leaf_at front ∙ read; lies = l; shorter = s; no_form = ap (form_in all_forms) front ∙ k.0; no_end = λ f. ap (text_at (closing f)) front ∙ k.1 f }
 
 -- An integer.
-unsigned_done : (levels n : ℕ) (ps : List Piece) (line : List ℕ) (o : Out) (gap text rest : List ℕ) → AreAll is_blank gap → IsNumber n text → line ≡ gap ++ (text ++ rest)
-    → Lies ps rest → Divides ps → is_small (pos n) ≡ true → Done levels (Int (pos n)) ps line o
-unsigned_done levels n ps line o gap text rest g i e l d small =
-    let b : Begun text = begun n text i in
+unsigned_done : (n : ℕ) (ps : List Piece) (line gap text rest : List ℕ) → AreAll is_blank gap → IsNumber n text → line ≡ gap ++ (text ++ rest)
+    → Lies ps rest → Divides ps → is_small (pos n) ≡ true → DoneLeaf (Int (pos n)) ps line
+unsigned_done n ps line gap text rest g i e l d small =
+    let b : Begun text = number_begun n text i in
     let whole : line ≡ gap ++ ((b.first ∷ b.more) ++ rest) = rw b.whole at e in
     let number : IsNumber n (b.first ∷ b.more) = rw b.whole at i in
     let k : Token (Whole (pos n)) ps line b.first b.more = token (Whole (pos n)) ps line gap b.more rest b.first g (not_blank is_digit b.first refl refl b.digit) whole l in
     let f : integer_at ((b.first ∷ b.more) ++ k.rest) ≡ Some (pos n, k.rest) = integer_found (pos n) (b.first ∷ b.more) k.rest number small (stops_digits k.rest (stops ps k.rest d k.lies)) in
-    record {
-      rest = k.rest;
-      read = term_leaf levels line (b.more ++ k.rest) b.first o k.front (apart is_digit b.first 91 refl b.digit) (apart is_digit b.first 123 refl b.digit)
-          ∙ (ap (λ (z : List ℕ). leaf_run z o) k.front ∙ (digit_run b.first (b.more ++ k.rest) o b.digit ∙ rw f refl));
-      lies = k.lies;
-      shorter = k.shorter;
-      head = b.first;
-      more = b.more ++ k.rest;
-      front = k.front;
-      no_list_end = apart is_digit b.first 93 refl b.digit;
-      no_tuple_end = apart is_digit b.first 125 refl b.digit;
-    }
+    leaf_done (Int (pos n)) ps line is_digit b.first b.more k.rest refl b.digit k.front (digit_run b.first (b.more ++ k.rest) b.digit ∙ rw f refl) k.lies k.shorter
 
-signed_done : (levels m : ℕ) (ps : List Piece) (line : List ℕ) (o : Out) (gap digits rest : List ℕ) → AreAll is_blank gap → IsNumber (m + 1) digits → line ≡ gap ++ ((45 ∷ digits) ++ rest)
-    → Lies ps rest → Divides ps → is_small (negsuc m) ≡ true → Done levels (Int (negsuc m)) ps line o
-signed_done levels m ps line o gap digits rest g i e l d small =
+signed_done : (m : ℕ) (ps : List Piece) (line gap digits rest : List ℕ) → AreAll is_blank gap → IsNumber (m + 1) digits → line ≡ gap ++ ((45 ∷ digits) ++ rest)
+    → Lies ps rest → Divides ps → is_small (negsuc m) ≡ true → DoneLeaf (Int (negsuc m)) ps line
+signed_done m ps line gap digits rest g i e l d small =
     let k : Token (Whole (negsuc m)) ps line 45 digits = token (Whole (negsuc m)) ps line gap digits rest 45 g refl e l in
     let f : integer_at ((45 ∷ digits) ++ k.rest) ≡ Some (negsuc m, k.rest) = integer_found (negsuc m) (45 ∷ digits) k.rest (digits, i, refl) small (stops_digits k.rest (stops ps k.rest d k.lies)) in
-    record {
-      rest = k.rest;
-      read = term_leaf levels line (digits ++ k.rest) 45 o k.front (far 45 91 refl) (far 45 123 refl) ∙ rw (k.front, f) refl;
-      lies = k.lies;
-      shorter = k.shorter;
-      head = 45;
-      more = digits ++ k.rest;
-      front = k.front;
-      no_list_end = far 45 93 refl;
-      no_tuple_end = far 45 125 refl;
-    }
+    leaf_done (Int (negsuc m)) ps line (λ b. nat_eq b 45) 45 digits k.rest refl refl k.front (rw f refl) k.lies k.shorter
 
-integer_done : (levels : ℕ) (i : ℤ) (ps : List Piece) (line : List ℕ) (o : Out) → Divides ps → is_small i ≡ true → Lies (Whole i ∷ ps) line → Done levels (Int i) ps line o
-integer_done levels (pos n) ps line o d small (gap, text, rest, g, i, e, l) = unsigned_done levels n ps line o gap text rest g i e l d small
-integer_done levels (negsuc m) ps line o d small (gap, text, rest, g, (digits, i, s), e, l) = signed_done levels m ps line o gap digits rest g i (rw s at e) l d small
+integer_done : (i : ℤ) (ps : List Piece) (line : List ℕ) → Divides ps → is_small i ≡ true → Lies (Whole i ∷ ps) line → DoneLeaf (Int i) ps line
+integer_done (pos n) ps line d small (gap, text, rest, g, i, e, l) = unsigned_done n ps line gap text rest g i e l d small
+integer_done (negsuc m) ps line d small (gap, text, rest, g, (digits, i, s), e, l) = signed_done m ps line gap digits rest g i (rw s at e) l d small
 
 -- An atom.
-atom_done : (levels : ℕ) (a : List ℕ) (ps : List Piece) (line : List ℕ) (o : Out) → Divides ps → IsName a → Lies (Text a ∷ ps) line → Done levels (Atom a) ps line o
-atom_done levels [] ps line o d h l = absurd h
-atom_done levels (b ∷ bytes) ps line o d h (gap, text, rest, g, s, e, l) =
+atom_done : (a : List ℕ) (ps : List Piece) (line : List ℕ) → Divides ps → IsName a → Lies (Text a ∷ ps) line → DoneLeaf (Atom a) ps line
+atom_done [] ps line d h l = absurd h
+atom_done (b ∷ bytes) ps line d h (gap, text, rest, g, s, e, l) =
     let k : Token (Text (b ∷ bytes)) ps line b bytes = token (Text (b ∷ bytes)) ps line gap bytes rest b g (not_blank is_small_letter b refl refl (h.0)) (rw s at e) l in
     let f : atom_at ((b ∷ bytes) ++ k.rest) ≡ Some (b ∷ bytes, k.rest) = atom_found (b ∷ bytes) k.rest h (stops ps k.rest d k.lies) in
-    record {
-      rest = k.rest;
-      read = term_leaf levels line (bytes ++ k.rest) b o k.front (apart is_small_letter b 91 refl (h.0)) (apart is_small_letter b 123 refl (h.0))
-          ∙ (ap (λ (z : List ℕ). leaf_run z o) k.front ∙ (letter_run b (bytes ++ k.rest) o (h.0) ∙ rw f refl));
-      lies = k.lies;
-      shorter = k.shorter;
-      head = b;
-      more = bytes ++ k.rest;
-      front = k.front;
-      no_list_end = apart is_small_letter b 93 refl (h.0);
-      no_tuple_end = apart is_small_letter b 125 refl (h.0);
-    }
+    leaf_done (Atom (b ∷ bytes)) ps line is_small_letter b bytes k.rest refl (h.0) k.front (letter_run b (bytes ++ k.rest) (h.0) ∙ rw f refl) k.lies k.shorter
 
 -- A pid.
-pid_done : (levels n : ℕ) (ps : List Piece) (line : List ℕ) (o : Out) → 1 ≤ n → n < 2 ^ 40 → Lies (Process n ∷ ps) line → Done levels (Pid n) ps line o
-pid_done levels n ps line o some within (gap, text, rest, g, (digits, i, s), e, l) =
+pid_done : (n : ℕ) (ps : List Piece) (line : List ℕ) → 1 ≤ n → n < 2 ^ 40 → Lies (Process n ∷ ps) line → DoneLeaf (Pid n) ps line
+pid_done n ps line some within (gap, text, rest, g, (digits, i, s), e, l) =
     let k : Token (Process n) ps line 60 (codes "0." ++ (digits ++ codes ".0>")) = token (Process n) ps line gap (codes "0." ++ (digits ++ codes ".0>")) rest 60 g refl (rw s at e) l in
     let front : after_blanks line ≡ 60 ∷ (codes "0." ++ (digits ++ (codes ".0>" ++ k.rest))) = k.front ∙ sym (pid_text digits k.rest) in
     record {
       rest = k.rest;
-      read = term_leaf levels line (codes "0." ++ (digits ++ (codes ".0>" ++ k.rest))) 60 o front (far 60 91 refl) (far 60 123 refl) ∙ rw (front, pid_found n digits k.rest i some within) refl;
+      read = rw (front, pid_found n digits k.rest i some within) refl;
       lies = k.lies;
       shorter = k.shorter;
-      head = 60;
-      more = codes "0." ++ (digits ++ (codes ".0>" ++ k.rest));
-      front = front;
-      no_list_end = far 60 93 refl;
-      no_tuple_end = far 60 125 refl;
+      no_form = rw front refl;
+      no_end = λ f. ap (text_at (closing f)) front ∙ pid_closes_none f (codes "0." ++ (digits ++ (codes ".0>" ++ k.rest)));
     }
 
--- Terms after one that was read, up to a closing byte.
-pub record DoneParts (levels : ℕ) (listed : Bool) (close left n : ℕ) (ts : Terms) (ps : List Piece) (mid : List ℕ) (o : Out) : Type 0 where
+pub leaf_of_grammar : (t : Term) (levels : ℕ) (ps : List Piece) (line : List ℕ) → IsLeaf t → Divides ps → MayStand levels t → IsBuiltTerm t → Lies (term_pieces t ps) line → DoneLeaf t ps line
+leaf_of_grammar (Int i) levels ps line h d m b l = integer_done i ps line d b l
+leaf_of_grammar (Atom a) levels ps line h d m b l = atom_done a ps line d m l
+leaf_of_grammar (Pid n) levels ps line h d m b l = pid_done n ps line (m.0) (m.1) l
+leaf_of_grammar _ levels ps line h d m b l = absurd h
+
+-- A term of the grammar is read, no form is closed there, and the pieces after it stand in the rest.
+pub record Done (levels : ℕ) (t : Term) (ps : List Piece) (line : List ℕ) (o : Out) : Type 0 where
   pub rest : List ℕ
-  pub read : after_part close (after_blanks mid) (n + 1, o) (λ bytes. parts_run (term_run levels) listed close left bytes (n + 1) o)
-      ≡ Some (rest, (terms_len ts + (n + 1), put_all listed ts o))
+  pub read : term_run levels line o ≡ Some (rest, put t o)
   pub lies : Lies ps rest
-  pub shorter : length rest < length mid
+  pub shorter : length rest < length line
+  pub no_end : (f : Form) → text_at (closing f) (after_blanks line) ≡ None
 
-pub divides_more : (ts : Terms) (close : ℕ) (ps : List Piece) → is_name_byte close ≡ false → Divides (more_pieces ts (Text (close ∷ []) ∷ ps))
-divides_more end close ps h = h
-divides_more (t ▹ ts) close ps h = refl
+-- With so many levels terms of the grammar are read.
+abbrev pub AreDone : (levels : ℕ) → Type 0
+AreDone levels = (t : Term) (ps : List Piece) (line : List ℕ) (o : Out) → Divides ps → MayStand levels t → IsBuiltTerm t → Lies (term_pieces t ps) line → Done levels t ps line o
 
-comma_step : (levels : ℕ) (listed : Bool) (close left n : ℕ) (mid bytes rest : List ℕ) (o q : Out) → after_blanks mid ≡ 44 ∷ bytes → close ≢ 44 → 0 < left
-    → term_run levels bytes (push_place listed o) ≡ Some (rest, q)
-    → after_part close (after_blanks mid) (n + 1, o) (λ b. parts_run (term_run levels) listed close left b (n + 1) o)
-    ≡ after_part close (after_blanks rest) (n + 1 + 1, q) (λ b. parts_run (term_run levels) listed close (left - 1) b (n + 1 + 1) q)
-comma_step levels listed close zero n mid bytes rest o q e c l r = absurd (omega arith)
-comma_step levels listed close (suc k) n mid bytes rest o q e c l r = let back : suc k - 1 ≡ k = omega arith in
-    let other : nat_eq 44 close ≡ false = unequal 44 close (λ z. c (sym z)) in rw (e, other, back, r) refl
+-- The end of a form where it has no parts, and a part where it has some.
+form_empty : (inner : List ℕ → Out → Option (List ℕ × Out)) (f : Form) (line rest : List ℕ) (o : Out) → text_at (closing f) (after_blanks line) ≡ Some rest
+    → form_run inner f line o ≡ Some (rest, ended f (length o.items) 0 (begun f o))
+form_empty inner f line rest o e = rw e refl
 
-close_step : (levels : ℕ) (listed : Bool) (close left n : ℕ) (mid rest : List ℕ) (o : Out) → after_blanks mid ≡ close ∷ rest
-    → after_part close (after_blanks mid) (n + 1, o) (λ b. parts_run (term_run levels) listed close left b (n + 1) o) ≡ Some (rest, (0 + (n + 1), o))
-close_step levels listed close left n mid rest o e = rw (e, eq-eqb close close refl, zero-add (n + 1)) refl
+form_full : (inner : List ℕ → Out → Option (List ℕ × Out)) (f : Form) (line mid rest : List ℕ) (o : Out) (n : ℕ) (q : Out) → text_at (closing f) (after_blanks line) ≡ None
+    → parts_run (part_run inner f) (length line + 1) line 0 (begun f o) ≡ Some (mid, (n + 0, q)) → text_at (closing f) (after_blanks mid) ≡ Some rest
+    → form_run inner f line o ≡ Some (rest, ended f (length o.items) n q)
+form_full inner f line mid rest o n q e r g = let same : n + 0 ≡ n = omega arith in rw (e, r, g, same) refl
 
-first_step : (levels : ℕ) (listed : Bool) (close : ℕ) (bytes rest : List ℕ) (o q : Out) → term_run levels bytes (push_place listed o) ≡ Some (rest, q)
-    → parts_run (term_run levels) listed close (length bytes + 1) bytes 0 o
-    ≡ after_part close (after_blanks rest) (0 + 1, q) (λ b. parts_run (term_run levels) listed close (length bytes) b (0 + 1) q)
-first_step levels listed close bytes rest o q r = rw (add-one (length bytes), r) refl
-
-empty_step : (c : ℕ) (line rest : List ℕ) → after_blanks line ≡ c ∷ rest → byte_at c (after_blanks line) ≡ Some rest
-empty_step c line rest e = rw (e, eq-eqb c c refl) refl
-
-full_step : (c b : ℕ) (line more : List ℕ) → after_blanks line ≡ b ∷ more → b ≢ c → byte_at c (after_blanks line) ≡ None
-full_step c b line more e h = rw (e, unequal b c h) refl
-
--- The pieces after an opening byte.
-pub record Opened (ps : List Piece) (line : List ℕ) (b : ℕ) : Type 0 where
+pub record DoneForm (levels : ℕ) (f : Form) (xs : List (PartOf f)) (ps : List Piece) (line : List ℕ) (o : Out) : Type 0 where
   pub rest : List ℕ
-  pub front : after_blanks line ≡ b ∷ rest
+  pub read : form_run (term_run levels) f line o ≡ Some (rest, ended f (length o.items) (length xs) (put_each (part_put f) xs (begun f o)))
   pub lies : Lies ps rest
   pub shorter : length rest < length line
 
-pub opened : (ps : List Piece) (line : List ℕ) (b : ℕ) → is_blank b ≡ false → Lies (Text (b ∷ []) ∷ ps) line → Opened ps line b
-opened ps line b n (gap, text, rest, g, s, e, l) = let k : Token (Text (b ∷ [])) ps line b [] = token (Text (b ∷ [])) ps line gap [] rest b g n (rw s at e) l in
-    record { rest = k.rest; front = k.front; lies = k.lies; shorter = k.shorter }
+-- A part of the grammar is read, and no form is closed where it begins.
+pub part_done : (levels : ℕ) → AreDone levels → (f : Form) (x : PartOf f) (ps : List Piece) (line : List ℕ) (o : Out) → Divides ps → IsPart levels f x → Lies (part_pieces f x ps) line
+    → DonePart (part_put f) (part_run (term_run levels) f) x ps line o × ((g : Form) → text_at (closing g) (after_blanks line) ≡ None)
+part_done levels ih form.List x ps line o d is l = let k : Done levels x ps line (led form.List o) = ih x ps line (led form.List o) d (is.0) (is.1) l in
+    (record { rest = k.rest; read = k.read; lies = k.lies; shorter = k.shorter }, k.no_end)
+part_done levels ih form.Tuple x ps line o d is l = let k : Done levels x ps line (led form.Tuple o) = ih x ps line (led form.Tuple o) d (is.0) (is.1) l in
+    (record { rest = k.rest; read = k.read; lies = k.lies; shorter = k.shorter }, k.no_end)
 
-list_end : (levels : ℕ) (ps : List Piece) (line : List ℕ) (o : Out) → 0 < levels → Lies (Text (codes "[") ∷ Text (codes "]") ∷ ps) line → Done levels (Listed end) ps line o
-list_end levels ps line o h l = let k : Opened (Text (codes "]") ∷ ps) line 91 = opened (Text (codes "]") ∷ ps) line 91 refl l in
-    let m : Opened ps k.rest 93 = opened ps k.rest 93 refl k.lies in
+form_done : (levels : ℕ) → AreDone levels → (f : Form) (xs : List (PartOf f)) (ps : List Piece) (line : List ℕ) (o : Out) → Each (IsPart levels f) xs
+    → Lies (parts_of (part_pieces f) xs (Text (closing f) ∷ ps)) line → DoneForm levels f xs ps line o
+form_done levels ih f [] ps line o is l = let m : Mark (closing f) = closing_mark f in
+    let k : Opened (closing f) ps line = opened (closing f) m.first m.more ps line m.is m.solid l in
+    record { rest = k.rest; read = form_empty (term_run levels) f line k.rest o k.found; lies = k.lies; shorter = k.shorter }
+form_done levels ih f (x ∷ xs) ps line o is l = let m : Mark (closing f) = closing_mark f in
+    let none : text_at (closing f) (after_blanks line) ≡ None
+    = (part_done levels ih f x (more_of (part_pieces f) xs (Text (closing f) ∷ ps)) line o (more_divides (part_pieces f) xs (Text (closing f) ∷ ps) (mark_divides (closing f) ps m)) (is.0) l).1 f in
+    let q : DoneParts (part_put f) (part_run (term_run levels) f) (x ∷ xs) (Text (closing f) ∷ ps) (length line + 1) line 0 (begun f o)
+    = parts_done (part_pieces f) (part_put f) (IsPart levels f) (part_run (term_run levels) f) (λ y qs mid p d s k. (part_done levels ih f y qs mid p d s k).0) x xs (Text (closing f) ∷ ps)
+    (length line + 1) line 0 (begun f o) (mark_divides (closing f) ps m) (mark_no_comma (closing f) ps m) (omega arith) is l in
+    let k : Opened (closing f) ps q.rest = opened (closing f) m.first m.more ps q.rest m.is m.solid q.lies in
     record {
-      rest = m.rest;
-      read = term_list levels line k.rest 91 o k.front refl h ∙ rw (empty_step 93 k.rest m.rest m.front) refl;
-      lies = m.lies;
-      shorter = omega (arith, k.shorter, m.shorter);
-      head = 91;
-      more = k.rest;
-      front = k.front;
-      no_list_end = far 91 93 refl;
-      no_tuple_end = far 91 125 refl;
+      rest = k.rest;
+      read = form_full (term_run levels) f line q.rest k.rest o (length (x ∷ xs)) (put_each (part_put f) (x ∷ xs) (begun f o)) none q.read k.found;
+      lies = k.lies;
+      shorter = omega (arith, q.shorter, k.shorter);
     }
 
-tuple_end : (levels : ℕ) (ps : List Piece) (line : List ℕ) (o : Out) → 0 < levels → Lies (Text (codes "{") ∷ Text (codes "}") ∷ ps) line → Done levels (Tuple end) ps line o
-tuple_end levels ps line o h l = let k : Opened (Text (codes "}") ∷ ps) line 123 = opened (Text (codes "}") ∷ ps) line 123 refl l in
-    let m : Opened ps k.rest 125 = opened ps k.rest 125 refl k.lies in
-    record {
-      rest = m.rest;
-      read = term_tuple levels line k.rest 123 o k.front (far 123 91 refl) refl h ∙ (rw (empty_step 125 k.rest m.rest m.front) refl ∙ ap (λ (z : Out). Some (m.rest, z)) (tuple_empty o));
-      lies = m.lies;
-      shorter = omega (arith, k.shorter, m.shorter);
-      head = 123;
-      more = k.rest;
-      front = k.front;
-      no_list_end = far 123 93 refl;
-      no_tuple_end = far 123 125 refl;
-    }
+-- The pieces after what opens a form.
+pub form_opened : (f : Form) (xs : List (PartOf f)) (ps : List Piece) (line : List ℕ) → Lies (term_pieces (made f xs) ps) line
+    → Opened (opening f) (parts_of (part_pieces f) xs (Text (closing f) ∷ ps)) line
+form_opened f xs ps line l = let m : Mark (opening f) = opening_mark f in
+    opened (opening f) m.first m.more (parts_of (part_pieces f) xs (Text (closing f) ∷ ps)) line m.is m.solid (rw (made_pieces f xs ps) at l)
 
-list_full : (levels : ℕ) (t : Term) (ts : Terms) (ps : List Piece) (line : List ℕ) (o : Out) → 0 < levels
-    → (k : Opened (parts_pieces (t ▹ ts) (Text (codes "]") ∷ ps)) line 91)
-    → (d : Done (levels - 1) t (more_pieces ts (Text (codes "]") ∷ ps)) k.rest (push_place true o))
-    → DoneParts (levels - 1) true 93 (length k.rest) 0 ts ps d.rest (put t (push_place true o)) → Done levels (Listed (t ▹ ts)) ps line o
-list_full levels t ts ps line o h k d q = record {
-  rest = q.rest;
-  read = term_list levels line k.rest 91 o k.front refl h
-      ∙ rw (full_step 93 d.head k.rest d.more d.front d.no_list_end, first_step (levels - 1) true 93 k.rest d.rest o (put t (push_place true o)) d.read, q.read) refl;
-  lies = q.lies;
-  shorter = omega (arith, k.shorter, d.shorter, q.shorter);
-  head = 91;
-  more = k.rest;
-  front = k.front;
-  no_list_end = far 91 93 refl;
-  no_tuple_end = far 91 125 refl;
-}
-
-tuple_full : (levels : ℕ) (t : Term) (ts : Terms) (ps : List Piece) (line : List ℕ) (o : Out) → 0 < levels
-    → (k : Opened (parts_pieces (t ▹ ts) (Text (codes "}") ∷ ps)) line 123)
-    → (d : Done (levels - 1) t (more_pieces ts (Text (codes "}") ∷ ps)) k.rest (push_place false (push o (item.Tuple 0))))
-    → DoneParts (levels - 1) false 125 (length k.rest) 0 ts ps d.rest (put t (push_place false (push o (item.Tuple 0)))) → Done levels (Tuple (t ▹ ts)) ps line o
-tuple_full levels t ts ps line o h k d q = record {
-  rest = q.rest;
-  read = term_tuple levels line k.rest 123 o k.front (far 123 91 refl) refl h
-      ∙ rw (
-        full_step 125 d.head k.rest d.more d.front d.no_tuple_end,
-        first_step (levels - 1) false 125 k.rest d.rest (push o (item.Tuple 0)) (put t (push_place false (push o (item.Tuple 0)))) d.read,
-        q.read,
-      ) refl;
-  lies = q.lies;
-  shorter = omega (arith, k.shorter, d.shorter, q.shorter);
-  head = 123;
-  more = k.rest;
-  front = k.front;
-  no_list_end = far 123 93 refl;
-  no_tuple_end = far 123 125 refl;
-}
-
-parts_end : (levels : ℕ) (listed : Bool) (close left n : ℕ) (ps : List Piece) (mid : List ℕ) (o : Out) → is_blank close ≡ false → Lies (Text (close ∷ []) ∷ ps) mid
-    → DoneParts levels listed close left n end ps mid o
-parts_end levels listed close left n ps mid o b l = let k : Opened ps mid close = opened ps mid close b l in
-    record { rest = k.rest; read = close_step levels listed close left n mid k.rest o k.front; lies = k.lies; shorter = k.shorter }
-
-parts_full : (levels : ℕ) (listed : Bool) (close left n : ℕ) (t : Term) (ts : Terms) (ps : List Piece) (mid : List ℕ) (o : Out) → close ≢ 44 → length mid ≤ left
-    → (k : Opened (term_pieces t (more_pieces ts (Text (close ∷ []) ∷ ps))) mid 44)
-    → (d : Done levels t (more_pieces ts (Text (close ∷ []) ∷ ps)) k.rest (push_place listed o))
-    → DoneParts levels listed close (left - 1) (n + 1) ts ps d.rest (put t (push_place listed o)) → DoneParts levels listed close left n (t ▹ ts) ps mid o
-parts_full levels listed close left n t ts ps mid o c h k d q = let some : 0 < left = omega (arith, k.shorter) in
-    let count : terms_len ts + (n + 1 + 1) ≡ terms_len (t ▹ ts) + (n + 1) = omega arith in
+made_done : (levels : ℕ) → AreDone levels → (f : Form) (xs : List (PartOf f)) (ps : List Piece) (line : List ℕ) (o : Out) → MayStand (suc levels) (made f xs) → IsBuiltTerm (made f xs)
+    → Lies (term_pieces (made f xs) ps) line → Done (suc levels) (made f xs) ps line o
+made_done levels ih f xs ps line o m b l =
+    let k : Opened (opening f) (parts_of (part_pieces f) xs (Text (closing f) ∷ ps)) line = form_opened f xs ps line l in
+    let q : DoneForm levels f xs ps k.rest o = form_done levels ih f xs ps k.rest o (made_are levels f xs m b) k.lies in
     record {
       rest = q.rest;
-      read = comma_step levels listed close left n mid k.rest d.rest o (put t (push_place listed o)) k.front c some d.read
-          ∙ (q.read ∙ ap (λ (z : ℕ). Some (q.rest, (z, put_all listed ts (put t (push_place listed o))))) count);
+      read = ap (λ (z : List ℕ). any_run (term_run levels) z o) k.front ∙ (rw (form_found f k.rest) q.read ∙ ap (λ (z : Out). Some (q.rest, z)) (sym (made_put f xs o)));
       lies = q.lies;
-      shorter = omega (arith, k.shorter, d.shorter, q.shorter);
+      shorter = omega (arith, k.shorter, q.shorter);
+      no_end = λ g. ap (text_at (closing g)) k.front ∙ opening_no_end f g k.rest;
     }
 
-mutual
-  pub term_done : (t : Term) (levels : ℕ) (ps : List Piece) (line : List ℕ) (o : Out) → Divides ps → MayStand levels t → IsBuiltTerm t → Lies (term_pieces t ps) line → Done levels t ps line o
-  term_done (Int i) levels ps line o d m b l = integer_done levels i ps line o d b l
-  term_done (Atom a) levels ps line o d m b l = atom_done levels a ps line o d m l
-  term_done (Pid n) levels ps line o d m b l = pid_done levels n ps line o (m.0) (m.1) l
-  term_done (Held r) levels ps line o d m b l = absurd b
-  term_done (Listed end) levels ps line o d m b l = list_end levels ps line o (m.0) l
-  term_done (Listed (t ▹ ts)) levels ps line o d m b l = let k : Opened (parts_pieces (t ▹ ts) (Text (codes "]") ∷ ps)) line 91 = opened (parts_pieces (t ▹ ts) (Text (codes "]") ∷ ps)) line 91 refl l in
-      let f : Done (levels - 1) t (more_pieces ts (Text (codes "]") ∷ ps)) k.rest (push_place true o)
-      = term_done t (levels - 1) (more_pieces ts (Text (codes "]") ∷ ps)) k.rest (push_place true o) (divides_more ts 93 ps refl) (m.1.0) (b.0) k.lies in
-      list_full levels t ts ps line o (m.0) k f
-      (parts_done ts (levels - 1) true 93 (length k.rest) 0 ps f.rest (put t (push_place true o)) refl refl (far 93 44 refl) (m.1.1) (b.1) f.lies (omega (arith, f.shorter)))
-  term_done (Barred ts t) levels ps line o d m b l = absurd b
-  term_done (Tuple end) levels ps line o d m b l = tuple_end levels ps line o (m.0) l
-  term_done (Tuple (t ▹ ts)) levels ps line o d m b l = let k : Opened (parts_pieces (t ▹ ts) (Text (codes "}") ∷ ps)) line 123 = opened (parts_pieces (t ▹ ts) (Text (codes "}") ∷ ps)) line 123 refl l in
-      let f : Done (levels - 1) t (more_pieces ts (Text (codes "}") ∷ ps)) k.rest (push_place false (push o (item.Tuple 0)))
-      = term_done t (levels - 1) (more_pieces ts (Text (codes "}") ∷ ps)) k.rest (push_place false (push o (item.Tuple 0))) (divides_more ts 125 ps refl) (m.1.0) (b.0) k.lies in
-      tuple_full levels t ts ps line o (m.0) k f
-      (parts_done ts (levels - 1) false 125 (length k.rest) 0 ps f.rest (put t (push_place false (push o (item.Tuple 0)))) refl refl (far 125 44 refl) (m.1.1) (b.1) f.lies (omega (arith, f.shorter)))
-  term_done (Map qs) levels ps line o d m b l = absurd b
-  term_done (Bin bytes) levels ps line o d m b l = absurd b
+leaf_term_done : (levels : ℕ) (t : Term) (ps : List Piece) (line : List ℕ) (o : Out) → IsLeaf t → Divides ps → MayStand levels t → IsBuiltTerm t → Lies (term_pieces t ps) line → Done levels t ps line o
+leaf_term_done levels t ps line o h d m b l = let k : DoneLeaf t ps line = leaf_of_grammar t levels ps line h d m b l in
+    record { rest = k.rest; read = term_leaf levels line o k.no_form ∙ rw k.read refl; lies = k.lies; shorter = k.shorter; no_end = k.no_end }
 
-  pub parts_done : (ts : Terms) (levels : ℕ) (listed : Bool) (close left n : ℕ) (ps : List Piece) (mid : List ℕ) (o : Out) → is_name_byte close ≡ false → is_blank close ≡ false → close ≢ 44
-      → AllMayStand levels ts → AreBuiltTerms ts → Lies (more_pieces ts (Text (close ∷ []) ∷ ps)) mid → length mid ≤ left → DoneParts levels listed close left n ts ps mid o
-  parts_done end levels listed close left n ps mid o y z c m b l h = parts_end levels listed close left n ps mid o z l
-  parts_done (t ▹ ts) levels listed close left n ps mid o y z c m b l h =
-      let k : Opened (term_pieces t (more_pieces ts (Text (close ∷ []) ∷ ps))) mid 44 = opened (term_pieces t (more_pieces ts (Text (close ∷ []) ∷ ps))) mid 44 refl l in
-      let f : Done levels t (more_pieces ts (Text (close ∷ []) ∷ ps)) k.rest (push_place listed o)
-      = term_done t levels (more_pieces ts (Text (close ∷ []) ∷ ps)) k.rest (push_place listed o) (divides_more ts close ps y) (m.0) (b.0) k.lies in
-      parts_full levels listed close left n t ts ps mid o c h k f
-      (parts_done ts levels listed close (left - 1) (n + 1) ps f.rest (put t (push_place listed o)) y z c (m.1) (b.1) f.lies (omega (arith, f.shorter, k.shorter, h)))
+pub term_done : (levels : ℕ) → AreDone levels
+term_done zero t ps line o d m b l = elim (leaf_or_made t b) [
+  | inl h ↦ leaf_term_done zero t ps line o h d m b l
+  | inr h ↦ let n : MayStand zero (made (h.0) (h.1)) = rw (h.2) at m in made_level (h.0) (h.1) n
+]
+term_done (suc levels) t ps line o d m b l = elim (leaf_or_made t b) [
+  | inl h ↦ leaf_term_done (suc levels) t ps line o h d m b l
+  | inr h ↦ let P : Term → Type 0 = λ z. MayStand (suc levels) z → IsBuiltTerm z → Lies (term_pieces z ps) line → Done (suc levels) z ps line o in
+      subst P (sym (h.2)) (made_done levels (term_done levels) (h.0) (h.1) ps line o) m b l
+]

@@ -6,6 +6,8 @@ pub mod Tools
 pub mod GapSteps
 pub mod NumberSteps
 pub mod AtomSteps
+pub mod Divided
+pub mod FormRows
 pub mod Sound
 pub mod Complete
 pub mod Meaning

@@ -22,7 +22,7 @@ use Rattle.script_grammar.specs.declared.command.SysVerb.{SysVerb}
 use Rattle.script_parse.specs.Output.{Out, put, put_name}
 use Rattle.script_parse.specs.Reading.{then_read, after_blanks, gap_at, number_at, is_solid, word_at, after_word, is_silent, atom_at, receiver_at, title_at, extent_at, operand_at, operands_at, Row, row, row_run, row_of, sys_row_of, process_run, system_run, line_run}
 use Rattle.script_parse.proofs.Tools.{not_blank, apart, false_not}
-use Rattle.script_parse.proofs.PartSteps.{unequal}
+use Rattle.script_parse.proofs.Tools.{unequal}
 use Rattle.script_parse.proofs.GapSteps.{Gap, gap_found, Token, token, Stops, Divides, stops, blank_end}
 use Rattle.script_parse.proofs.NumberSteps.{Begun, begun, stops_digits, number_found}
 use Rattle.script_parse.proofs.AtomSteps.{atom_found, word_found}
@@ -131,7 +131,7 @@ operand_stands Extent x ps line o d a b l = let f : Fronts extent_at x ps line =
 operand_stands Title x ps line o d a b l = let f : Fronts title_at x ps line = title_fronts x ps line a d l in
     record { argument = number_of (with_name o.names x) x; rest = f.rest; after = put_name o x; read = rw (f.gap, f.read) refl; lies = f.lies }
 operand_stands Body t ps line o d a b l = let g : Gap (term_pieces t ps) line = gap_found (term_pieces t ps) line l in
-    let f : Done 256 t ps g.rest o = term_done t 256 ps g.rest o d a b g.lies in
+    let f : Done 256 t ps g.rest o = term_done 256 t ps g.rest o d a b g.lies in
     record { argument = tt; rest = f.rest; after = put t o; read = rw (g.found, f.read) refl; lies = f.lies }
 operand_stands _ x ps line o d a b l = absurd b
 

@@ -22,11 +22,11 @@ use Rattle.script_grammar.specs.declared.command.Verb.{Verb}
 use Rattle.script_grammar.specs.declared.command.SysVerb.{SysVerb}
 use Rattle.script_parse.specs.Output.{Out, put, put_name}
 use Rattle.script_parse.specs.Reading.{then_read, after_blanks, gap_at, text_at, number_at, is_solid, word_at, after_word, is_end, is_silent, spaced_at, receiver_at, title_at, extent_at, plain_run, title_run, body_run, term_run, operand_at, operands_at, Row, row, row_run, row_of, sys_row_of, process_run, system_run, command_run, line_run}
-use Rattle.script_parse.proofs.Tools.{chosen, read_some, inside, both}
+use Rattle.script_parse.proofs.Tools.{chosen, read_some, found_cases, inside, both}
 use Rattle.script_parse.proofs.GapSteps.{lies, gap_lies, end_blank}
 use Rattle.script_parse.proofs.NumberSteps.{Counted, number_read, text_read}
 use Rattle.script_parse.proofs.AtomSteps.{Named, atom_read}
-use Rattle.script_parse.proofs.Sound.{Found, term_read, found_cases}
+use Rattle.script_parse.proofs.Sound.{Found, term_read}
 use Rattle.script_parse.proofs.Meaning.{Put, put_none, put_then, term_put, number_stays, name_put, names_grown, as_items}
 use Rattle.script_parse.proofs.Tables.{found_text, row_is, sys_row_is}
 

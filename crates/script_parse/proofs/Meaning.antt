@@ -12,7 +12,9 @@ use Rattle.script_grammar.specs.Written.Terms.{end, ◌▹◌}
 use Rattle.script_grammar.specs.Grammar.{IsBuiltTerm, AreBuiltTerms}
 use Rattle.script_grammar.specs.Names.{number_of, with_names, atoms_of, atoms_of_all, items_of, listed_items, all_items}
 use Rattle.atom_names.proofs.Places.{index_of_append, index_of_push}
-use Rattle.script_parse.specs.Output.{Out, out, push, push_place, with_place, put_at, put_atom, put_name, put, put_all}
+use Rattle.script_parse.specs.declared.forms.Form.{Form}
+use Rattle.script_parse.specs.declared.forms.Form.TheVariants as form
+use Rattle.script_parse.specs.Output.{Out, out, push, led_items, led, put_at, put_atom, put_name, put, put_all}
 
 -- The names and items that came, so long as each name found a place.
 pub record Put (o : Out) (atoms : List (List ℕ)) (its : List (List ℕ) → List Item) (p : Out) : Type 0 where
@@ -136,22 +138,22 @@ counted o q n xs its f = record {
   items = λ c more. ap (λ (z : List Item). set z (length o.items) (item.Tuple n)) (f.items c more) ∙ set-append_seam o.items (item.Tuple 0) (its (q.names ++ more)) (item.Tuple n);
 }
 
-place_put : (listed : Bool) (o : Out) → Put o [] (λ names. with_place listed []) (push_place listed o)
-place_put true o = put_item o item.Cons
-place_put false o = put_none o
+led_put : (f : Form) (o : Out) → Put o [] (λ names. led_items f []) (led f o)
+led_put form.List o = put_item o item.Cons
+led_put form.Tuple o = put_none o
 
--- The items of parts, in a list each after its place.
-abbrev pub part_items : (listed : Bool) → Terms → List (List ℕ) → List Item
-part_items listed end names = []
-part_items listed (t ▹ ts) names = with_place listed [] ++ (items_of names t ++ part_items listed ts names)
+-- The items of the terms of a form, each after what stands before it.
+abbrev pub part_items : Form → Terms → List (List ℕ) → List Item
+part_items f end names = []
+part_items f (t ▹ ts) names = led_items f [] ++ (items_of names t ++ part_items f ts names)
 
-tuple_items : (ts : Terms) (names : List (List ℕ)) → part_items false ts names ≡ all_items names ts
+tuple_items : (ts : Terms) (names : List (List ℕ)) → part_items form.Tuple ts names ≡ all_items names ts
 tuple_items end names = refl
 tuple_items (t ▹ ts) names = ap (λ (z : List Item). items_of names t ++ z) (tuple_items ts names)
 
-list_items : (ts : Terms) (names : List (List ℕ)) (last : List Item) → part_items true ts names ++ last ≡ listed_items names ts last
+list_items : (ts : Terms) (names : List (List ℕ)) (last : List Item) → part_items form.List ts names ++ last ≡ listed_items names ts last
 list_items end names last = refl
-list_items (t ▹ ts) names last = ap (λ (z : List Item). item.Cons ∷ z) (append_assoc (items_of names t) (part_items true ts names) last ∙ ap (λ (z : List Item). items_of names t ++ z) (list_items ts names last))
+list_items (t ▹ ts) names last = ap (λ (z : List Item). item.Cons ∷ z) (append_assoc (items_of names t) (part_items form.List ts names) last ∙ ap (λ (z : List Item). items_of names t ++ z) (list_items ts names last))
 
 -- The same with the items said in another way.
 pub as_items : (o p : Out) (xs : List (List ℕ)) (its jts : List (List ℕ) → List Item) → ((names : List (List ℕ)) → its names ≡ jts names) → Put o xs its p → Put o xs jts p
@@ -166,20 +168,20 @@ mutual
   term_put (Atom a) o b = atom_step o a (nat_le (length (with_name o.names a)) most_names) refl
   term_put (Pid n) o b = put_item o (item.Pid n)
   term_put (Held r) o b = absurd b
-  term_put (Listed ts) o b = as_atoms o (push (put_all true ts o) item.Nil) (atoms_of_all ts ++ []) (atoms_of_all ts) (λ names. listed_items names ts (item.Nil ∷ [])) (append-nil (atoms_of_all ts))
-      (as_items o (push (put_all true ts o) item.Nil) (atoms_of_all ts ++ []) (λ names. part_items true ts names ++ item.Nil ∷ []) (λ names. listed_items names ts (item.Nil ∷ [])) (λ names. list_items ts names (item.Nil ∷ []))
-      (put_then o (put_all true ts o) (push (put_all true ts o) item.Nil) (atoms_of_all ts) [] (part_items true ts) (λ names. item.Nil ∷ []) (all_put ts true o b) (put_item (put_all true ts o) item.Nil)))
+  term_put (Listed ts) o b = as_atoms o (push (put_all form.List ts o) item.Nil) (atoms_of_all ts ++ []) (atoms_of_all ts) (λ names. listed_items names ts (item.Nil ∷ [])) (append-nil (atoms_of_all ts))
+      (as_items o (push (put_all form.List ts o) item.Nil) (atoms_of_all ts ++ []) (λ names. part_items form.List ts names ++ item.Nil ∷ []) (λ names. listed_items names ts (item.Nil ∷ [])) (λ names. list_items ts names (item.Nil ∷ []))
+      (put_then o (put_all form.List ts o) (push (put_all form.List ts o) item.Nil) (atoms_of_all ts) [] (part_items form.List ts) (λ names. item.Nil ∷ []) (all_put ts form.List o b) (put_item (put_all form.List ts o) item.Nil)))
   term_put (Barred ts t) o b = absurd b
-  term_put (Tuple ts) o b = as_items o (put (Tuple ts) o) (atoms_of_all ts) (λ names. item.Tuple (terms_len ts) ∷ part_items false ts names) (λ names. item.Tuple (terms_len ts) ∷ all_items names ts)
+  term_put (Tuple ts) o b = as_items o (put (Tuple ts) o) (atoms_of_all ts) (λ names. item.Tuple (terms_len ts) ∷ part_items form.Tuple ts names) (λ names. item.Tuple (terms_len ts) ∷ all_items names ts)
       (λ names. ap (λ (z : List Item). item.Tuple (terms_len ts) ∷ z) (tuple_items ts names))
-      (counted o (put_all false ts (push o (item.Tuple 0))) (terms_len ts) (atoms_of_all ts) (part_items false ts)
-      (put_then o (push o (item.Tuple 0)) (put_all false ts (push o (item.Tuple 0))) [] (atoms_of_all ts) (λ names. item.Tuple 0 ∷ []) (part_items false ts) (put_item o (item.Tuple 0)) (all_put ts false (push o (item.Tuple 0)) b)))
+      (counted o (put_all form.Tuple ts (push o (item.Tuple 0))) (terms_len ts) (atoms_of_all ts) (part_items form.Tuple ts)
+      (put_then o (push o (item.Tuple 0)) (put_all form.Tuple ts (push o (item.Tuple 0))) [] (atoms_of_all ts) (λ names. item.Tuple 0 ∷ []) (part_items form.Tuple ts) (put_item o (item.Tuple 0)) (all_put ts form.Tuple (push o (item.Tuple 0)) b)))
   term_put (Map ps) o b = absurd b
   term_put (Bin bytes) o b = absurd b
 
-  pub all_put : (ts : Terms) (listed : Bool) (o : Out) → AreBuiltTerms ts → Put o (atoms_of_all ts) (part_items listed ts) (put_all listed ts o)
-  all_put end listed o b = put_none o
-  all_put (t ▹ ts) listed o b = put_then o (push_place listed o) (put_all listed ts (put t (push_place listed o))) [] (atoms_of t ++ atoms_of_all ts) (λ names. with_place listed []) (λ names. items_of names t ++ part_items listed ts names)
-      (place_put listed o)
-      (put_then (push_place listed o) (put t (push_place listed o)) (put_all listed ts (put t (push_place listed o))) (atoms_of t) (atoms_of_all ts) (λ names. items_of names t) (part_items listed ts)
-      (term_put t (push_place listed o) (b.0)) (all_put ts listed (put t (push_place listed o)) (b.1)))
+  pub all_put : (ts : Terms) (f : Form) (o : Out) → AreBuiltTerms ts → Put o (atoms_of_all ts) (part_items f ts) (put_all f ts o)
+  all_put end f o b = put_none o
+  all_put (t ▹ ts) f o b = put_then o (led f o) (put_all f ts (put t (led f o))) [] (atoms_of t ++ atoms_of_all ts) (λ names. led_items f []) (λ names. items_of names t ++ part_items f ts names)
+      (led_put f o)
+      (put_then (led f o) (put t (led f o)) (put_all f ts (put t (led f o))) (atoms_of t) (atoms_of_all ts) (λ names. items_of names t) (part_items f ts)
+      (term_put t (led f o) (b.0)) (all_put ts f (put t (led f o)) (b.1)))

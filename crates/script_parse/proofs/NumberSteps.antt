@@ -5,7 +5,7 @@ use Rattle.plain_term.specs.Measures.{is_small}
 use Rattle.script_grammar.specs.Grammar.{is_name_byte, is_digit, is_small_letter, AreAll, value_after, HasNoLeadingZero, IsNumber, IsInteger}
 use Rattle.script_parse.specs.Reading.{then_read, byte_at, text_at, digits_at, number_at, signed, integer_at, pid_end, pid_at}
 use Rattle.script_parse.proofs.Tools.{chosen, read_some, inside, both, both_true, either_false, apart}
-use Rattle.script_parse.proofs.PartSteps.{unequal}
+use Rattle.script_parse.proofs.Tools.{unequal}
 use Rattle.script_parse.proofs.GapSteps.{Stops}
 
 -- A first digit counts by itself.

@@ -13,7 +13,8 @@ use Rattle.script_parse.proofs.GapSteps.{Gap, gap_found, Divides, Token, token}
 use Rattle.script_parse.proofs.Tables.{named_so, sys_named_so, is_word, text_word, sys_text_word}
 use Rattle.script_parse.proofs.LineSound.{pair_same}
 use Rattle.script_parse.proofs.LineComplete.{Numbers, number_stands, Fronts, number_fronts, receiver_fronts, title_fronts, extent_fronts, Words, word_stands, Parts, operands_part, operands_divide, silent_found}
-use Rattle.script_parse.proofs.OneReading.{Same, term_same, heads}
+use Rattle.script_parse.proofs.OneReading.{term_same}
+use Rattle.script_parse.proofs.Divided.{Same}
 
 -- A space read twice leaves the same rest.
 pub record TwiceGap (ps qs : List Piece) (line : List ℕ) : Type 0 where
@@ -55,8 +56,8 @@ operand_same Receiver x y ps qs line d e a b f g k l = plain_twice receiver_at x
 operand_same Title x y ps qs line d e a b f g k l = plain_twice title_at x y ps qs line (title_fronts x ps line a d k) (title_fronts y qs line b e l)
 operand_same Extent x y ps qs line d e a b f g k l = plain_twice extent_at x y ps qs line (extent_fronts x ps line k) (extent_fronts y qs line l)
 operand_same Body x y ps qs line d e a b f g k l = let s : TwiceGap (term_pieces x ps) (term_pieces y qs) line = gap_twice (term_pieces x ps) (term_pieces y qs) line k l in
-    let t : Same x y ps qs s.rest = term_same x y 256 ps qs s.rest d e a b f g s.left s.right in
-    (t.terms, t.rest, t.left, t.right)
+    let t : Same x y ps qs = term_same 256 x y ps qs s.rest d e a b f g s.left s.right in
+    (t.same, t.rest, t.left, t.right)
 operand_same _ x y ps qs line d e a b f g k l = absurd f
 
 -- The operands of a row, read twice, are the same.
@@ -111,7 +112,7 @@ system_same : (w x : SysWord) (ops : Operands (sys_kinds_of w)) (pos : Operands 
 system_same w x ops pos line a b c d k l =
     let f : Token (Text (codes "sys")) (Space ∷ Text (sys_text_of w) ∷ operands_pieces (sys_kinds_of w) ops) line 115 (codes "ys") = sys_tail w ops line k in
     let g : Token (Text (codes "sys")) (Space ∷ Text (sys_text_of x) ∷ operands_pieces (sys_kinds_of x) pos) line 115 (codes "ys") = sys_tail x pos line l in
-    let h : codes "ys" ++ g.rest ≡ codes "ys" ++ f.rest = (heads line 115 115 (codes "ys" ++ g.rest) (codes "ys" ++ f.rest) g.front f.front).1 in
+    let h : codes "sys" ++ g.rest ≡ codes "sys" ++ f.rest = sym g.front ∙ f.front in
     let i : g.rest ≡ f.rest = cc in
     let P : List ℕ → Type 0 = λ z. Lies (Space ∷ Text (sys_text_of x) ∷ operands_pieces (sys_kinds_of x) pos) z in
     let v : TwiceWord w x (operands_pieces (sys_kinds_of w) ops) (operands_pieces (sys_kinds_of x) pos)

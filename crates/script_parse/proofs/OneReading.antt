@@ -1,213 +1,118 @@
--- A line says one built command at most.
-use Rattle.std.proofs.Common.{◌≡◌, ℕ, ◌-◌, false, nat_eq, List, [], ◌∷◌, ◌++◌, codes, refl, sym, ◌∙◌, ap, subst}
-use Rattle.script_grammar.specs.Written.{Term, Terms}
-use Rattle.script_grammar.specs.Written.Term.{Int, Atom, Pid, Held, Listed, Barred, Tuple, Map, Bin}
-use Rattle.script_grammar.specs.Written.Terms.{end, ◌▹◌}
-use Rattle.script_grammar.specs.Grammar.{is_blank, is_name_byte, Piece, Lies, term_pieces, parts_pieces, more_pieces, MayStand, AllMayStand, IsBuiltTerm, AreBuiltTerms}
+-- Two readings of a term on one line are one.
+use Rattle.std.proofs.Common.{◌≡◌, ℕ, zero, suc, false, List, [], ◌∷◌, Some, None, refl, sym, ◌∙◌, ap, subst, inl, inr}
+use Rattle.script_grammar.specs.Written.{Term}
+use Rattle.script_grammar.specs.Grammar.{Piece, Lies, term_pieces, MayStand, IsBuiltTerm}
 use Rattle.script_grammar.specs.Grammar.Piece.{Text}
-use Rattle.script_parse.specs.Output.{Out, out, put}
-use Rattle.script_parse.specs.Reading.{after_blanks}
-use Rattle.script_parse.proofs.Tools.{far, both}
+use Rattle.script_parse.specs.declared.forms.Form.{Form}
+use Rattle.script_parse.specs.declared.forms.Form.TheVariants as form
+use Rattle.script_parse.specs.Forms.{all_forms, opening, closing}
+use Rattle.script_parse.specs.Output.{out}
+use Rattle.script_parse.specs.Reading.{after_blanks, text_at, form_in}
+use Rattle.script_parse.proofs.Tools.{both, none_some}
 use Rattle.script_parse.proofs.GapSteps.{Divides}
-use Rattle.script_grammar.specs.Names.{items_of}
-use Rattle.script_parse.proofs.Meaning.{term_put}
-use Rattle.script_parse.proofs.Complete.{Done, term_done, Opened, opened, divides_more}
+use Rattle.script_parse.proofs.Divided.{Each, more_of, parts_of, more_divides, Mark, Opened, opened, mark_no_comma, mark_divides, Twice, text_twice, Same, parts_same}
+use Rattle.script_parse.proofs.FormRows.{PartOf, part_pieces, IsPart, IsLeaf, IsMade, leaf_or_made, made, made_are, made_level, closing_mark, form_found}
+use Rattle.script_parse.proofs.Complete.{DoneLeaf, leaf_of_grammar, part_done, term_done, form_opened}
 
--- With nothing known, a term without parts goes last as itself alone.
-empty : Out
-empty = out [] false []
+-- With so many levels two readings of a term are one.
+abbrev pub AreOne : (levels : ℕ) → Type 0
+AreOne levels = (t u : Term) (ps qs : List Piece) (line : List ℕ) → Divides ps → Divides qs → MayStand levels t → MayStand levels u → IsBuiltTerm t → IsBuiltTerm u
+    → Lies (term_pieces t ps) line → Lies (term_pieces u qs) line → Same t u ps qs
 
--- Two readings of a term on one line are one, and what follows is the same.
-pub record Same (t u : Term) (ps qs : List Piece) (line : List ℕ) : Type 0 where
-  pub terms : t ≡ u
-  pub rest : List ℕ
-  pub left : Lies ps rest
-  pub right : Lies qs rest
-
--- What both were read to.
-pub record Met (t u : Term) (ps qs : List Piece) (line : List ℕ) : Type 0 where
-  pub rest : List ℕ
-  pub left : Lies ps rest
-  pub right : Lies qs rest
-  pub puts : (o : Out) → put t o ≡ put u o
-  pub head : ℕ
-  pub more : List ℕ
-  pub front : after_blanks line ≡ head ∷ more
-
-met : (t u : Term) (levels : ℕ) (ps qs : List Piece) (line : List ℕ) → Divides ps → Divides qs → MayStand levels t → MayStand levels u → IsBuiltTerm t → IsBuiltTerm u
-    → Lies (term_pieces t ps) line → Lies (term_pieces u qs) line → Met t u ps qs line
-met t u levels ps qs line d e m n b c k l =
-    let f : (o : Out) → Done levels t ps line o = λ o. term_done t levels ps line o d m b k in
-    let g : (o : Out) → Done levels u qs line o = λ o. term_done u levels qs line o e n c l in
-    let j : (o : Out) → ((f o).rest ≡ (g o).rest) × (put t o ≡ put u o) = λ o. both (sym (f o).read ∙ (g o).read) in
-    let o : Out = out [] false [] in
+leaf_same : (t u : Term) (levels : ℕ) (ps qs : List Piece) (line : List ℕ) → IsLeaf t → IsLeaf u → Divides ps → Divides qs → MayStand levels t → MayStand levels u → IsBuiltTerm t → IsBuiltTerm u
+    → Lies (term_pieces t ps) line → Lies (term_pieces u qs) line → Same t u ps qs
+leaf_same t u levels ps qs line h i d e m n b c k l = let x : DoneLeaf t ps line = leaf_of_grammar t levels ps line h d m b k in let y : DoneLeaf u qs line = leaf_of_grammar u levels qs line i e n c l in
+    let j : (t ≡ u) × (x.rest ≡ y.rest) = both (sym x.read ∙ y.read) in
     let P : List ℕ → Type 0 = λ z. Lies qs z in
-    record { rest = (f o).rest; left = (f o).lies; right = subst P (sym ((j o).0)) (g o).lies; puts = λ o. (j o).1; head = (f o).head; more = (f o).more; front = (f o).front }
+    record { same = j.0; rest = x.rest; left = x.lies; right = subst P (sym (j.1)) y.lies }
 
--- A form without parts.
-abbrev pub IsLeaf : Term → Type 0
-IsLeaf (Int i) = Unit {0}
-IsLeaf (Atom a) = Unit {0}
-IsLeaf (Pid n) = Unit {0}
-IsLeaf _ = ⊥
+-- A form that is opened.
+made_form : (f : Form) (xs : List (PartOf f)) (ps : List Piece) (line : List ℕ) → Lies (term_pieces (made f xs) ps) line → (rest : List ℕ) × (form_in all_forms (after_blanks line) ≡ Some (f, rest))
+    × Lies (parts_of (part_pieces f) xs (Text (closing f) ∷ ps)) rest
+made_form f xs ps line l = let k : Opened (opening f) (parts_of (part_pieces f) xs (Text (closing f) ∷ ps)) line = form_opened f xs ps line l in
+    (k.rest, ap (form_in all_forms) k.front ∙ form_found f k.rest, k.lies)
 
-leaf_clear : (t : Term) → IsLeaf t → (put t empty).full ≡ false
-unfolding empty
-leaf_clear (Int i) h = refl
-leaf_clear (Atom a) h = refl
-leaf_clear (Pid n) h = refl
-leaf_clear (Held r) h = absurd h
-leaf_clear (Listed ts) h = absurd h
-leaf_clear (Barred ts t) h = absurd h
-leaf_clear (Tuple ts) h = absurd h
-leaf_clear (Map ps) h = absurd h
-leaf_clear (Bin bytes) h = absurd h
+-- A term without parts opens none.
+leaf_made : {A : Type 0} (t : Term) (f : Form) (ys : List (PartOf f)) (levels : ℕ) (ps qs : List Piece) (line : List ℕ) → IsLeaf t → Divides ps → MayStand levels t → IsBuiltTerm t
+    → Lies (term_pieces t ps) line → Lies (term_pieces (made f ys) qs) line → A
+leaf_made t f ys levels ps qs line h d m b k l = let x : DoneLeaf t ps line = leaf_of_grammar t levels ps line h d m b k in
+    let y = made_form f ys qs line l in absurd (none_some (sym x.no_form ∙ y.1))
 
--- Where two go last alike and the first has no parts, their items are the same.
-leaf_items : (t u : Term) → IsLeaf t → IsBuiltTerm t → IsBuiltTerm u → put t empty ≡ put u empty → (names : List (List ℕ)) × (items_of names t ≡ items_of names u)
-unfolding empty
-leaf_items t u h b c e = let full : (put t empty).full ≡ false = leaf_clear t h in
-    let other : (put u empty).full ≡ false = sym (ap (λ (z : Out). z.full) e) ∙ full in
-    let x : (put t empty).items ≡ items_of ((put t empty).names ++ []) t = (term_put t empty b).items full [] in
-    let y : (put u empty).items ≡ items_of ((put u empty).names ++ []) u = (term_put u empty c).items other [] in
-    let same : (put u empty).names ≡ (put t empty).names = sym (ap (λ (z : Out). z.names) e) in
-    ((put t empty).names ++ [], sym x ∙ (ap (λ (z : Out). z.items) e ∙ (y ∙ ap (λ (z : List (List ℕ)). items_of (z ++ []) u) same)))
+part_same : (levels : ℕ) → AreOne levels → (f : Form) (x y : PartOf f) (ps qs : List Piece) (line : List ℕ) → Divides ps → Divides qs → IsPart levels f x → IsPart levels f y
+    → Lies (part_pieces f x ps) line → Lies (part_pieces f y qs) line → Same x y ps qs
+part_same levels ih form.List x y ps qs line d e m n k l = ih x y ps qs line d e (m.0) (n.0) (m.1) (n.1) k l
+part_same levels ih form.Tuple x y ps qs line d e m n k l = ih x y ps qs line d e (m.0) (n.0) (m.1) (n.1) k l
 
-leaf_terms : (t u : Term) (names : List (List ℕ)) → IsLeaf t → IsBuiltTerm u → items_of names t ≡ items_of names u → put t empty ≡ put u empty → t ≡ u
-unfolding empty
-leaf_terms (Int i) (Int j) names h c e f = cc
-leaf_terms (Int i) (Atom a) names h c e f = cc
-leaf_terms (Int i) (Pid n) names h c e f = cc
-leaf_terms (Int i) (Listed end) names h c e f = cc
-leaf_terms (Int i) (Listed (t ▹ ts)) names h c e f = cc
-leaf_terms (Int i) (Tuple ts) names h c e f = cc
-leaf_terms (Atom a) (Int j) names h c e f = cc
-leaf_terms (Atom a) (Atom b) names h c e f = let g : a ∷ [] ≡ b ∷ [] = ap (λ (z : Out). z.names) f in cc
-leaf_terms (Atom a) (Pid n) names h c e f = cc
-leaf_terms (Atom a) (Listed end) names h c e f = cc
-leaf_terms (Atom a) (Listed (t ▹ ts)) names h c e f = cc
-leaf_terms (Atom a) (Tuple ts) names h c e f = cc
-leaf_terms (Pid n) (Int j) names h c e f = cc
-leaf_terms (Pid n) (Atom b) names h c e f = cc
-leaf_terms (Pid n) (Pid m) names h c e f = cc
-leaf_terms (Pid n) (Listed end) names h c e f = cc
-leaf_terms (Pid n) (Listed (t ▹ ts)) names h c e f = cc
-leaf_terms (Pid n) (Tuple ts) names h c e f = cc
-leaf_terms t (Held r) names h c e f = absurd c
-leaf_terms t (Barred ts u) names h c e f = absurd c
-leaf_terms t (Map ps) names h c e f = absurd c
-leaf_terms t (Bin bytes) names h c e f = absurd c
-leaf_terms t u names h c e f = absurd h
+-- A part does not begin with what closes its form.
+part_ends : {A : Type 0} (levels : ℕ) (f : Form) (x : PartOf f) (xs : List (PartOf f)) (ps qs : List Piece) (line : List ℕ) → IsPart levels f x
+    → Lies (parts_of (part_pieces f) (x ∷ xs) (Text (closing f) ∷ ps)) line → Lies (Text (closing f) ∷ qs) line → A
+part_ends levels f x xs ps qs line is k l = let m : Mark (closing f) = closing_mark f in
+    let q : Opened (closing f) qs line = opened (closing f) m.first m.more qs line m.is m.solid l in
+    let none : text_at (closing f) (after_blanks line) ≡ None
+    = (part_done levels (term_done levels) f x (more_of (part_pieces f) xs (Text (closing f) ∷ ps)) line (out [] false []) (more_divides (part_pieces f) xs (Text (closing f) ∷ ps) (mark_divides (closing f) ps m)) is k).1 f in
+    absurd (none_some (sym none ∙ q.found))
 
-leaf_same : (t u : Term) (ps qs : List Piece) (line : List ℕ) → IsLeaf t → IsBuiltTerm t → IsBuiltTerm u → Met t u ps qs line → Same t u ps qs line
-leaf_same t u ps qs line h b c m = let i : (names : List (List ℕ)) × (items_of names t ≡ items_of names u) = leaf_items t u h b c (m.puts empty) in
-    record { terms = leaf_terms t u (i.0) h c (i.1) (m.puts empty); rest = m.rest; left = m.left; right = m.right }
+form_same : (levels : ℕ) → AreOne levels → (f : Form) (xs ys : List (PartOf f)) (ps qs : List Piece) (line : List ℕ) → Each (IsPart levels f) xs → Each (IsPart levels f) ys
+    → Lies (parts_of (part_pieces f) xs (Text (closing f) ∷ ps)) line → Lies (parts_of (part_pieces f) ys (Text (closing f) ∷ qs)) line → Same xs ys ps qs
+form_same levels ih f [] [] ps qs line a b k l = let m : Mark (closing f) = closing_mark f in
+    let t : Twice ps qs line = text_twice (closing f) m.first m.more ps qs line m.is m.solid k l in record { same = refl; rest = t.rest; left = t.left; right = t.right }
+form_same levels ih f [] (y ∷ ys) ps qs line a b k l = part_ends levels f y ys qs ps line (b.0) l k
+form_same levels ih f (x ∷ xs) [] ps qs line a b k l = part_ends levels f x xs ps qs line (a.0) k l
+form_same levels ih f (x ∷ xs) (y ∷ ys) ps qs line a b k l = let m : Mark (closing f) = closing_mark f in
+    let s : Same (x ∷ xs) (y ∷ ys) (Text (closing f) ∷ ps) (Text (closing f) ∷ qs)
+    = parts_same (part_pieces f) (IsPart levels f) (part_same levels ih f) x y xs ys (Text (closing f) ∷ ps) (Text (closing f) ∷ qs) line (mark_divides (closing f) ps m) (mark_divides (closing f) qs m)
+    (mark_no_comma (closing f) ps m) (mark_no_comma (closing f) qs m) a b k l in
+    let t : Twice ps qs s.rest = text_twice (closing f) m.first m.more ps qs s.rest m.is m.solid s.left s.right in
+    record { same = s.same; rest = t.rest; left = t.left; right = t.right }
 
-flip : (t u : Term) (ps qs : List Piece) (line : List ℕ) → Same u t qs ps line → Same t u ps qs line
-flip t u ps qs line s = record { terms = sym s.terms; rest = s.rest; left = s.right; right = s.left }
+-- What parts of a form that is opened make.
+abbrev Making : (levels : ℕ) (ps : List Piece) (rest : List ℕ) → Form → Term → Type 0
+Making levels ps rest f t = (xs : List (PartOf f)) × (t ≡ made f xs) × Each (IsPart levels f) xs × Lies (parts_of (part_pieces f) xs (Text (closing f) ∷ ps)) rest
 
-pub heads : (line : List ℕ) (b c : ℕ) (x y : List ℕ) → after_blanks line ≡ b ∷ x → after_blanks line ≡ c ∷ y → (b ≡ c) × (x ≡ y)
-heads line b c x y e f = let g : b ∷ x ≡ c ∷ y = sym e ∙ f in (cc, cc)
+made_same : (levels : ℕ) → AreOne levels → (t u : Term) (f g : Form) (ps qs : List Piece) (rest next : List ℕ) → f ≡ g → rest ≡ next → Making levels ps rest f t → Making levels qs next g u → Same t u ps qs
+made_same levels ih t u f g ps qs rest next e h x y =
+    let P : Form → Type 0 = λ z. Making levels qs rest z u in
+    let Q : List ℕ → Type 0 = λ z. Making levels qs z g u in
+    let w : Making levels qs rest f u = subst P (sym e) (subst Q (sym h) y) in
+    let s : Same (x.0) (w.0) ps qs = form_same levels ih f (x.0) (w.0) ps qs rest (x.2) (w.2) (x.3) (w.3) in
+    record { same = x.1 ∙ (ap (made f) s.same ∙ sym (w.1)); rest = s.rest; left = s.left; right = s.right }
 
--- Brackets around the same terms are the same.
-wrap : (t u : Term) (ps qs : List Piece) (line : List ℕ) → t ≡ u → (rest : List ℕ) → Lies ps rest → Lies qs rest → Same t u ps qs line
-wrap t u ps qs line e rest k l = record { terms = e; rest = rest; left = k; right = l }
+making : (levels : ℕ) (t : Term) (ps : List Piece) (line : List ℕ) (h : IsMade t) → MayStand (suc levels) t → IsBuiltTerm t → Lies (term_pieces t ps) line
+    → (rest : List ℕ) × (form_in all_forms (after_blanks line) ≡ Some (h.0, rest)) × Making levels ps rest (h.0) t
+making levels t ps line h m b l = let n : MayStand (suc levels) (made (h.0) (h.1)) = rw (h.2) at m in let c : IsBuiltTerm (made (h.0) (h.1)) = rw (h.2) at b in
+    let k : Lies (term_pieces (made (h.0) (h.1)) ps) line = rw (h.2) at l in
+    let q = made_form (h.0) (h.1) ps line k in
+    (q.0, q.1, (h.1, h.2, made_are levels (h.0) (h.1) n c, q.2))
 
--- Two openings of one line with one byte leave the same rest.
-pub record Twice (ps qs : List Piece) (line : List ℕ) (b : ℕ) : Type 0 where
-  pub rest : List ℕ
-  pub front : after_blanks line ≡ b ∷ rest
-  pub left : Lies ps rest
-  pub right : Lies qs rest
+two_same : (levels : ℕ) → AreOne levels → (t u : Term) (ps qs : List Piece) (line : List ℕ) (h : IsMade t) (i : IsMade u) → MayStand (suc levels) t → MayStand (suc levels) u → IsBuiltTerm t → IsBuiltTerm u
+    → Lies (term_pieces t ps) line → Lies (term_pieces u qs) line → Same t u ps qs
+two_same levels ih t u ps qs line h i m n b c k l =
+    let x = making levels t ps line h m b k in let y = making levels u qs line i n c l in
+    let j : (h.0 ≡ i.0) × (x.0 ≡ y.0) = both (sym (x.1) ∙ y.1) in
+    made_same levels ih t u (h.0) (i.0) ps qs (x.0) (y.0) (j.0) (j.1) (x.2) (y.2)
 
-twice : (ps qs : List Piece) (line : List ℕ) (b : ℕ) → is_blank b ≡ false → Lies (Text (b ∷ []) ∷ ps) line → Lies (Text (b ∷ []) ∷ qs) line → Twice ps qs line b
-twice ps qs line b n k l = let x : Opened ps line b = opened ps line b n k in let y : Opened qs line b = opened qs line b n l in
-    let e : (b ≡ b) × (y.rest ≡ x.rest) = heads line b b y.rest x.rest y.front x.front in
-    let P : List ℕ → Type 0 = λ z. Lies qs z in
-    record { rest = x.rest; front = x.front; left = x.lies; right = subst P (e.1) y.lies }
+no_level : {A : Type 0} (t : Term) → IsMade t → MayStand zero t → A
+no_level t h m = let n : MayStand zero (made (h.0) (h.1)) = rw (h.2) at m in made_level (h.0) (h.1) n
 
--- One line does not open with two bytes.
-clash : {A : Type 0} (ps qs : List Piece) (line : List ℕ) (b c : ℕ) → nat_eq b c ≡ false → is_blank b ≡ false → is_blank c ≡ false → Lies (Text (b ∷ []) ∷ ps) line → Lies (Text (c ∷ []) ∷ qs) line → A
-clash ps qs line b c f n m k l = let x : Opened ps line b = opened ps line b n k in let y : Opened qs line c = opened qs line c m l in
-    absurd (far b c f ((heads line b c x.rest y.rest x.front y.front).0))
+apart_made : {A : Type 0} (levels : ℕ) (t u : Term) (ps qs : List Piece) (line : List ℕ) → IsLeaf t → IsMade u → Divides ps → MayStand levels t → IsBuiltTerm t
+    → Lies (term_pieces t ps) line → Lies (term_pieces u qs) line → A
+apart_made levels t u ps qs line h i d m b k l = let w : Lies (term_pieces (made (i.0) (i.1)) qs) line = rw (i.2) at l in leaf_made t (i.0) (i.1) levels ps qs line h d m b k w
 
--- A term does not begin with a closing byte.
-no_end : {A : Type 0} (t : Term) (levels : ℕ) (ps qs : List Piece) (line : List ℕ) → Divides ps → MayStand levels t → IsBuiltTerm t → Lies (term_pieces t ps) line → Lies (Text (codes "]") ∷ qs) line → A
-no_end t levels ps qs line d m b k l = let x : Done levels t ps line empty = term_done t levels ps line empty d m b k in let y : Opened qs line 93 = opened qs line 93 refl l in
-    absurd (x.no_list_end ((heads line x.head 93 x.more y.rest x.front y.front).0))
-
-no_tuple_end : {A : Type 0} (t : Term) (levels : ℕ) (ps qs : List Piece) (line : List ℕ) → Divides ps → MayStand levels t → IsBuiltTerm t → Lies (term_pieces t ps) line → Lies (Text (codes "}") ∷ qs) line → A
-no_tuple_end t levels ps qs line d m b k l = let x : Done levels t ps line empty = term_done t levels ps line empty d m b k in let y : Opened qs line 125 = opened qs line 125 refl l in
-    absurd (x.no_tuple_end ((heads line x.head 125 x.more y.rest x.front y.front).0))
-
--- Terms after one, read twice.
-pub record SameParts (ts us : Terms) (ps qs : List Piece) : Type 0 where
-  pub terms : ts ≡ us
-  pub rest : List ℕ
-  pub left : Lies ps rest
-  pub right : Lies qs rest
-
-mutual
-  pub term_same : (t u : Term) (levels : ℕ) (ps qs : List Piece) (line : List ℕ) → Divides ps → Divides qs → MayStand levels t → MayStand levels u → IsBuiltTerm t → IsBuiltTerm u
-      → Lies (term_pieces t ps) line → Lies (term_pieces u qs) line → Same t u ps qs line
-  term_same (Int i) u levels ps qs line d e m n b c k l = leaf_same (Int i) u ps qs line tt b c (met (Int i) u levels ps qs line d e m n b c k l)
-  term_same (Atom a) u levels ps qs line d e m n b c k l = leaf_same (Atom a) u ps qs line tt b c (met (Atom a) u levels ps qs line d e m n b c k l)
-  term_same (Pid p) u levels ps qs line d e m n b c k l = leaf_same (Pid p) u ps qs line tt b c (met (Pid p) u levels ps qs line d e m n b c k l)
-  term_same (Held r) u levels ps qs line d e m n b c k l = absurd b
-  term_same (Barred ts t) u levels ps qs line d e m n b c k l = absurd b
-  term_same (Map vs) u levels ps qs line d e m n b c k l = absurd b
-  term_same (Bin bytes) u levels ps qs line d e m n b c k l = absurd b
-  term_same t (Int i) levels ps qs line d e m n b c k l = flip t (Int i) ps qs line (leaf_same (Int i) t qs ps line tt c b (met (Int i) t levels qs ps line e d n m c b l k))
-  term_same t (Atom a) levels ps qs line d e m n b c k l = flip t (Atom a) ps qs line (leaf_same (Atom a) t qs ps line tt c b (met (Atom a) t levels qs ps line e d n m c b l k))
-  term_same t (Pid p) levels ps qs line d e m n b c k l = flip t (Pid p) ps qs line (leaf_same (Pid p) t qs ps line tt c b (met (Pid p) t levels qs ps line e d n m c b l k))
-  term_same t (Held r) levels ps qs line d e m n b c k l = absurd c
-  term_same t (Barred ts u) levels ps qs line d e m n b c k l = absurd c
-  term_same t (Map vs) levels ps qs line d e m n b c k l = absurd c
-  term_same t (Bin bytes) levels ps qs line d e m n b c k l = absurd c
-  term_same (Listed ts) (Tuple us) levels ps qs line d e m n b c k l = clash (parts_pieces ts (Text (codes "]") ∷ ps)) (parts_pieces us (Text (codes "}") ∷ qs)) line 91 123 refl refl refl k l
-  term_same (Tuple ts) (Listed us) levels ps qs line d e m n b c k l = clash (parts_pieces ts (Text (codes "}") ∷ ps)) (parts_pieces us (Text (codes "]") ∷ qs)) line 123 91 refl refl refl k l
-  term_same (Listed end) (Listed end) levels ps qs line d e m n b c k l =
-      let x : Twice (Text (codes "]") ∷ ps) (Text (codes "]") ∷ qs) line 91 = twice (Text (codes "]") ∷ ps) (Text (codes "]") ∷ qs) line 91 refl k l in
-      let y : Twice ps qs x.rest 93 = twice ps qs x.rest 93 refl x.left x.right in wrap (Listed end) (Listed end) ps qs line refl y.rest y.left y.right
-  term_same (Listed end) (Listed (u ▹ us)) levels ps qs line d e m n b c k l =
-      let x : Twice (Text (codes "]") ∷ ps) (parts_pieces (u ▹ us) (Text (codes "]") ∷ qs)) line 91 = twice (Text (codes "]") ∷ ps) (parts_pieces (u ▹ us) (Text (codes "]") ∷ qs)) line 91 refl k l in
-      no_end u (levels - 1) (more_pieces us (Text (codes "]") ∷ qs)) ps x.rest (divides_more us 93 qs refl) (n.1.0) (c.0) x.right x.left
-  term_same (Listed (t ▹ ts)) (Listed end) levels ps qs line d e m n b c k l =
-      let x : Twice (parts_pieces (t ▹ ts) (Text (codes "]") ∷ ps)) (Text (codes "]") ∷ qs) line 91 = twice (parts_pieces (t ▹ ts) (Text (codes "]") ∷ ps)) (Text (codes "]") ∷ qs) line 91 refl k l in
-      no_end t (levels - 1) (more_pieces ts (Text (codes "]") ∷ ps)) qs x.rest (divides_more ts 93 ps refl) (m.1.0) (b.0) x.left x.right
-  term_same (Listed (t ▹ ts)) (Listed (u ▹ us)) levels ps qs line d e m n b c k l =
-      let x : Twice (parts_pieces (t ▹ ts) (Text (codes "]") ∷ ps)) (parts_pieces (u ▹ us) (Text (codes "]") ∷ qs)) line 91
-      = twice (parts_pieces (t ▹ ts) (Text (codes "]") ∷ ps)) (parts_pieces (u ▹ us) (Text (codes "]") ∷ qs)) line 91 refl k l in
-      let f : Same t u (more_pieces ts (Text (codes "]") ∷ ps)) (more_pieces us (Text (codes "]") ∷ qs)) x.rest
-      = term_same t u (levels - 1) (more_pieces ts (Text (codes "]") ∷ ps)) (more_pieces us (Text (codes "]") ∷ qs)) x.rest (divides_more ts 93 ps refl) (divides_more us 93 qs refl) (m.1.0) (n.1.0) (b.0) (c.0) x.left x.right in
-      let g : SameParts ts us ps qs = parts_same ts us (levels - 1) 93 ps qs f.rest refl refl refl (m.1.1) (n.1.1) (b.1) (c.1) f.left f.right in
-      wrap (Listed (t ▹ ts)) (Listed (u ▹ us)) ps qs line (ap (λ (z : Term). Listed (z ▹ ts)) f.terms ∙ ap (λ (z : Terms). Listed (u ▹ z)) g.terms) g.rest g.left g.right
-  term_same (Tuple end) (Tuple end) levels ps qs line d e m n b c k l =
-      let x : Twice (Text (codes "}") ∷ ps) (Text (codes "}") ∷ qs) line 123 = twice (Text (codes "}") ∷ ps) (Text (codes "}") ∷ qs) line 123 refl k l in
-      let y : Twice ps qs x.rest 125 = twice ps qs x.rest 125 refl x.left x.right in wrap (Tuple end) (Tuple end) ps qs line refl y.rest y.left y.right
-  term_same (Tuple end) (Tuple (u ▹ us)) levels ps qs line d e m n b c k l =
-      let x : Twice (Text (codes "}") ∷ ps) (parts_pieces (u ▹ us) (Text (codes "}") ∷ qs)) line 123 = twice (Text (codes "}") ∷ ps) (parts_pieces (u ▹ us) (Text (codes "}") ∷ qs)) line 123 refl k l in
-      no_tuple_end u (levels - 1) (more_pieces us (Text (codes "}") ∷ qs)) ps x.rest (divides_more us 125 qs refl) (n.1.0) (c.0) x.right x.left
-  term_same (Tuple (t ▹ ts)) (Tuple end) levels ps qs line d e m n b c k l =
-      let x : Twice (parts_pieces (t ▹ ts) (Text (codes "}") ∷ ps)) (Text (codes "}") ∷ qs) line 123 = twice (parts_pieces (t ▹ ts) (Text (codes "}") ∷ ps)) (Text (codes "}") ∷ qs) line 123 refl k l in
-      no_tuple_end t (levels - 1) (more_pieces ts (Text (codes "}") ∷ ps)) qs x.rest (divides_more ts 125 ps refl) (m.1.0) (b.0) x.left x.right
-  term_same (Tuple (t ▹ ts)) (Tuple (u ▹ us)) levels ps qs line d e m n b c k l =
-      let x : Twice (parts_pieces (t ▹ ts) (Text (codes "}") ∷ ps)) (parts_pieces (u ▹ us) (Text (codes "}") ∷ qs)) line 123
-      = twice (parts_pieces (t ▹ ts) (Text (codes "}") ∷ ps)) (parts_pieces (u ▹ us) (Text (codes "}") ∷ qs)) line 123 refl k l in
-      let f : Same t u (more_pieces ts (Text (codes "}") ∷ ps)) (more_pieces us (Text (codes "}") ∷ qs)) x.rest
-      = term_same t u (levels - 1) (more_pieces ts (Text (codes "}") ∷ ps)) (more_pieces us (Text (codes "}") ∷ qs)) x.rest (divides_more ts 125 ps refl) (divides_more us 125 qs refl) (m.1.0) (n.1.0) (b.0) (c.0) x.left x.right in
-      let g : SameParts ts us ps qs = parts_same ts us (levels - 1) 125 ps qs f.rest refl refl refl (m.1.1) (n.1.1) (b.1) (c.1) f.left f.right in
-      wrap (Tuple (t ▹ ts)) (Tuple (u ▹ us)) ps qs line (ap (λ (z : Term). Tuple (z ▹ ts)) f.terms ∙ ap (λ (z : Terms). Tuple (u ▹ z)) g.terms) g.rest g.left g.right
-
-  pub parts_same : (ts us : Terms) (levels close : ℕ) (ps qs : List Piece) (mid : List ℕ) → is_name_byte close ≡ false → is_blank close ≡ false → nat_eq close 44 ≡ false
-      → AllMayStand levels ts → AllMayStand levels us → AreBuiltTerms ts → AreBuiltTerms us → Lies (more_pieces ts (Text (close ∷ []) ∷ ps)) mid → Lies (more_pieces us (Text (close ∷ []) ∷ qs)) mid → SameParts ts us ps qs
-  parts_same end end levels close ps qs mid y z x m n b c k l = let f : Twice ps qs mid close = twice ps qs mid close z k l in record { terms = refl; rest = f.rest; left = f.left; right = f.right }
-  parts_same end (u ▹ us) levels close ps qs mid y z x m n b c k l = clash ps (term_pieces u (more_pieces us (Text (close ∷ []) ∷ qs))) mid close 44 x z refl k l
-  parts_same (t ▹ ts) end levels close ps qs mid y z x m n b c k l = clash qs (term_pieces t (more_pieces ts (Text (close ∷ []) ∷ ps))) mid close 44 x z refl l k
-  parts_same (t ▹ ts) (u ▹ us) levels close ps qs mid y z x m n b c k l =
-      let h : Twice (term_pieces t (more_pieces ts (Text (close ∷ []) ∷ ps))) (term_pieces u (more_pieces us (Text (close ∷ []) ∷ qs))) mid 44
-      = twice (term_pieces t (more_pieces ts (Text (close ∷ []) ∷ ps))) (term_pieces u (more_pieces us (Text (close ∷ []) ∷ qs))) mid 44 refl k l in
-      let f : Same t u (more_pieces ts (Text (close ∷ []) ∷ ps)) (more_pieces us (Text (close ∷ []) ∷ qs)) h.rest
-      = term_same t u levels (more_pieces ts (Text (close ∷ []) ∷ ps)) (more_pieces us (Text (close ∷ []) ∷ qs)) h.rest (divides_more ts close ps y) (divides_more us close qs y) (m.0) (n.0) (b.0) (c.0) h.left h.right in
-      let g : SameParts ts us ps qs = parts_same ts us levels close ps qs f.rest y z x (m.1) (n.1) (b.1) (c.1) f.left f.right in
-      record { terms = ap (λ (z : Term). z ▹ ts) f.terms ∙ ap (λ (z : Terms). u ▹ z) g.terms; rest = g.rest; left = g.left; right = g.right }
+pub term_same : (levels : ℕ) → AreOne levels
+term_same zero t u ps qs line d e m n b c k l = elim (leaf_or_made t b) [
+  | inl h ↦ elim (leaf_or_made u c) [
+    | inl i ↦ leaf_same t u zero ps qs line h i d e m n b c k l
+    | inr i ↦ no_level u i n
+  ]
+  | inr h ↦ no_level t h m
+]
+term_same (suc levels) t u ps qs line d e m n b c k l = elim (leaf_or_made t b) [
+  | inl h ↦ elim (leaf_or_made u c) [
+    | inl i ↦ leaf_same t u (suc levels) ps qs line h i d e m n b c k l
+    | inr i ↦ apart_made (suc levels) t u ps qs line h i d m b k l
+  ]
+  | inr h ↦ elim (leaf_or_made u c) [
+    | inl i ↦ apart_made (suc levels) u t qs ps line i h e n c l k
+    | inr i ↦ two_same levels (term_same levels) t u ps qs line h i m n b c k l
+  ]
+]

@@ -1,20 +1,21 @@
 -- What is read is in the grammar.
-use Rattle.std.proofs.Common.{◌≡◌, ℕ, zero, suc, ◌+◌, ◌-◌, ◌^◌, ◌<◌, ◌⊎◌, Bool, true, false, nat_eq, ℤ, pos, negsuc, List, [], ◌∷◌, ◌++◌, length, Option, Some, None, codes, refl, sym, ◌∙◌, ap, subst, inl, inr, arith, eqb-true, ltb-true, slice_set}
-use Rattle.std.proofs.Math.Seq.{set-append_seam}
-use Rattle.plain_term.specs.declared.item.Item.{Item}
-use Rattle.plain_term.specs.declared.item.Item.TheVariants as item
+use Rattle.std.proofs.Common.{◌≡◌, ℕ, zero, suc, ◌+◌, ◌^◌, ◌<◌, true, nat_eq, ℤ, pos, negsuc, List, [], ◌∷◌, ◌++◌, length, Some, codes, refl, sym, ◌∙◌, ap, subst, inl, inr, arith, eqb-true, ltb-true}
 use Rattle.plain_term.specs.Measures.{is_small, magnitude}
-use Rattle.script_grammar.specs.Written.{Term, Terms, terms_len}
-use Rattle.script_grammar.specs.Written.Term.{Int, Atom, Pid, Listed, Tuple}
-use Rattle.script_grammar.specs.Written.Terms.{end, ◌▹◌}
-use Rattle.script_grammar.specs.Grammar.{is_small_letter, Piece, Lies, term_pieces, parts_pieces, more_pieces, MayStand, AllMayStand, IsBuiltTerm, AreBuiltTerms}
+use Rattle.script_grammar.specs.Written.{Term}
+use Rattle.script_grammar.specs.Written.Term.{Int, Atom, Pid}
+use Rattle.script_grammar.specs.Grammar.{is_small_letter, Piece, Lies, term_pieces, MayStand, IsBuiltTerm}
 use Rattle.script_grammar.specs.Grammar.Piece.{Text, Whole, Process}
-use Rattle.script_parse.specs.Output.{Out, out, push, push_place, put_at, put_atom, put, put_all}
-use Rattle.script_parse.specs.Reading.{then_read, found_or, after_blanks, byte_at, integer_at, pid_at, atom_at, integer_run, pid_run, atom_run, leaf_run, after_part, parts_run, list_run, tuple_run, any_run, term_run}
-use Rattle.script_parse.proofs.Tools.{chosen, read_some, both}
+use Rattle.script_parse.specs.declared.forms.Form.{Form}
+use Rattle.script_parse.specs.declared.forms.Form.TheVariants as form
+use Rattle.script_parse.specs.Forms.{all_forms, opening, closing}
+use Rattle.script_parse.specs.Output.{Out, begun, led, ended, put}
+use Rattle.script_parse.specs.Reading.{then_read, after_blanks, text_at, integer_at, pid_at, atom_at, leaf_at, leaf_run, parts_run, part_run, end_run, form_in, form_run, any_run, term_run}
+use Rattle.script_parse.proofs.Tools.{chosen, read_some, found_cases, both}
 use Rattle.script_parse.proofs.GapSteps.{lies}
-use Rattle.script_parse.proofs.NumberSteps.{Integral, integer_read, Numbered, pid_read, byte_read}
+use Rattle.script_parse.proofs.NumberSteps.{Integral, integer_read, Numbered, pid_read, text_read}
 use Rattle.script_parse.proofs.AtomSteps.{Named, atom_read}
+use Rattle.script_parse.proofs.Divided.{Each, parts_of, put_each, FoundPart, FoundParts, parts_found}
+use Rattle.script_parse.proofs.FormRows.{PartOf, part_pieces, part_put, IsPart, made, made_pieces, made_put, made_is, form_read}
 
 -- A term that was read: it may stand, is built, went last, and stands in the line.
 pub record Found (levels : ℕ) (line : List ℕ) (o : Out) (rest : List ℕ) (p : Out) : Type 0 where
@@ -32,198 +33,123 @@ in_range : (i : ℤ) → is_small i ≡ true → magnitude i < 2 ^ 127
 in_range (pos n) h = let below : n < 2 ^ 59 = ltb-true n (2 ^ 59) h in omega arith
 in_range (negsuc n) h = let below : n < 2 ^ 59 = ltb-true n (2 ^ 59) h in omega arith
 
-pid_step : (levels b : ℕ) (line bytes : List ℕ) (o : Out) (rest : List ℕ) (p : Out) → after_blanks line ≡ b ∷ bytes → nat_eq b 60 ≡ true
-    → pid_run bytes o ≡ Some (rest, p) → Found levels line o rest p
-pid_step levels b line bytes o rest p front e h =
-    let r : (x : ℕ × List ℕ) × (pid_at bytes ≡ Some x) × (Some (x.1, push o (item.Pid (x.0))) ≡ Some (rest, p)) = read_some (pid_at bytes) (λ r. Some (r.1, push o (item.Pid (r.0)))) h in
+-- A term without parts that was read.
+pub record FoundLeaf (line rest : List ℕ) (t : Term) : Type 0 where
+  pub may : (levels : ℕ) → MayStand levels t
+  pub built : IsBuiltTerm t
+  pub lies : (ps : List Piece) → Lies ps rest → Lies (term_pieces t ps) line
+
+leaf_moved : (line rest next : List ℕ) (t u : Term) → (t ≡ u) × (rest ≡ next) → FoundLeaf line rest t → FoundLeaf line next u
+leaf_moved line rest next t u e f = let P : List ℕ → Type 0 = λ z. FoundLeaf line z u in let Q : Term → Type 0 = λ z. FoundLeaf line rest z in
+    subst P (e.1) (subst Q (e.0) f)
+
+pid_step : (b : ℕ) (line bytes rest : List ℕ) (t : Term) → after_blanks line ≡ b ∷ bytes → nat_eq b 60 ≡ true
+    → then_read {B = Term × List ℕ} (pid_at bytes) (λ r. Some (Pid (r.0), r.1)) ≡ Some (t, rest) → FoundLeaf line rest t
+pid_step b line bytes rest t front e h =
+    let r : (x : ℕ × List ℕ) × (pid_at bytes ≡ Some x) × (Some (Pid (x.0), x.1) ≡ Some (t, rest)) = read_some {B = Term × List ℕ} (pid_at bytes) (λ r. Some (Pid (r.0), r.1)) h in
     let q : Numbered (r.0.0) bytes (r.0.1) = pid_read (r.0.0) bytes (r.0.1) (r.1) in
-    let j : (r.0.1 ≡ rest) × (push o (item.Pid (r.0.0)) ≡ p) = both (r.2) in
     let begins : after_blanks line ≡ (codes "<0." ++ (q.text ++ codes ".0>")) ++ r.0.1 = front ∙ (ap (λ (z : ℕ). z ∷ bytes) (eqb-true b 60 e) ∙ q.whole) in
-    moved levels line o (r.0.1) rest (push o (item.Pid (r.0.0))) p (record {
-      term = Pid (r.0.0);
-      may = (q.some, q.within);
+    leaf_moved line (r.0.1) rest (Pid (r.0.0)) t (both (r.2)) (record {
+      may = λ levels. (q.some, q.within);
       built = tt;
-      put = refl;
       lies = λ ps l. lies (Process (r.0.0)) ps line (codes "<0." ++ (q.text ++ codes ".0>")) (r.0.1) begins (q.text, q.number, refl) l;
-    }) (j.0) (j.1)
+    })
 
-atom_step : (levels b : ℕ) (line bytes : List ℕ) (o : Out) (rest : List ℕ) (p : Out) → after_blanks line ≡ b ∷ bytes → is_small_letter b ≡ true
-    → atom_run (b ∷ bytes) o ≡ Some (rest, p) → Found levels line o rest p
-atom_step levels b line bytes o rest p front e h =
-    let r : (x : List ℕ × List ℕ) × (atom_at (b ∷ bytes) ≡ Some x) × (Some (x.1, put_atom o (x.0)) ≡ Some (rest, p)) = read_some (atom_at (b ∷ bytes)) (λ r. Some (r.1, put_atom o (r.0))) h in
+atom_step : (b : ℕ) (line bytes rest : List ℕ) (t : Term) → after_blanks line ≡ b ∷ bytes → is_small_letter b ≡ true
+    → then_read {B = Term × List ℕ} (atom_at (b ∷ bytes)) (λ r. Some (Atom (r.0), r.1)) ≡ Some (t, rest) → FoundLeaf line rest t
+atom_step b line bytes rest t front e h =
+    let r : (x : List ℕ × List ℕ) × (atom_at (b ∷ bytes) ≡ Some x) × (Some (Atom (x.0), x.1) ≡ Some (t, rest)) = read_some {B = Term × List ℕ} (atom_at (b ∷ bytes)) (λ r. Some (Atom (r.0), r.1)) h in
     let q : Named (r.0.0) (b ∷ bytes) (r.0.1) = atom_read b bytes (r.0.0) (r.0.1) e (r.1) in
-    let j : (r.0.1 ≡ rest) × (put_atom o (r.0.0) ≡ p) = both (r.2) in
-    moved levels line o (r.0.1) rest (put_atom o (r.0.0)) p (record {
-      term = Atom (r.0.0);
-      may = q.is_name;
+    leaf_moved line (r.0.1) rest (Atom (r.0.0)) t (both (r.2)) (record {
+      may = λ levels. q.is_name;
       built = tt;
-      put = refl;
       lies = λ ps l. lies (Text (r.0.0)) ps line (r.0.0) (r.0.1) (front ∙ q.whole) refl l;
-    }) (j.0) (j.1)
+    })
 
-integer_step : (levels b : ℕ) (line bytes : List ℕ) (o : Out) (rest : List ℕ) (p : Out) → after_blanks line ≡ b ∷ bytes
-    → integer_run (b ∷ bytes) o ≡ Some (rest, p) → Found levels line o rest p
-integer_step levels b line bytes o rest p front h =
-    let r : (x : ℤ × List ℕ) × (integer_at (b ∷ bytes) ≡ Some x) × (Some (x.1, push o (item.Int (x.0))) ≡ Some (rest, p)) = read_some (integer_at (b ∷ bytes)) (λ r. Some (r.1, push o (item.Int (r.0)))) h in
+integer_step : (b : ℕ) (line bytes rest : List ℕ) (t : Term) → after_blanks line ≡ b ∷ bytes
+    → then_read {B = Term × List ℕ} (integer_at (b ∷ bytes)) (λ r. Some (Int (r.0), r.1)) ≡ Some (t, rest) → FoundLeaf line rest t
+integer_step b line bytes rest t front h =
+    let r : (x : ℤ × List ℕ) × (integer_at (b ∷ bytes) ≡ Some x) × (Some (Int (x.0), x.1) ≡ Some (t, rest)) = read_some {B = Term × List ℕ} (integer_at (b ∷ bytes)) (λ r. Some (Int (r.0), r.1)) h in
     let q : Integral (r.0.0) (b ∷ bytes) (r.0.1) = integer_read (r.0.0) (b ∷ bytes) (r.0.1) (r.1) in
-    let j : (r.0.1 ≡ rest) × (push o (item.Int (r.0.0)) ≡ p) = both (r.2) in
-    moved levels line o (r.0.1) rest (push o (item.Int (r.0.0))) p (record {
-      term = Int (r.0.0);
-      may = in_range (r.0.0) q.small;
+    leaf_moved line (r.0.1) rest (Int (r.0.0)) t (both (r.2)) (record {
+      may = λ levels. in_range (r.0.0) q.small;
       built = q.small;
-      put = refl;
       lies = λ ps l. lies (Whole (r.0.0)) ps line q.text (r.0.1) (front ∙ q.whole) q.integer l;
-    }) (j.0) (j.1)
+    })
 
-leaf_read : (levels : ℕ) (line front : List ℕ) (o : Out) (rest : List ℕ) (p : Out) → after_blanks line ≡ front → leaf_run front o ≡ Some (rest, p) → Found levels line o rest p
-leaf_read levels line [] o rest p e h = cc
-leaf_read levels line (b ∷ bytes) o rest p e h = elim (chosen (nat_eq b 60) h) [
-  | inl f ↦ pid_step levels b line bytes o rest p e (f.0) (f.1)
+leaf_step : (line front rest : List ℕ) (t : Term) → after_blanks line ≡ front → leaf_at front ≡ Some (t, rest) → FoundLeaf line rest t
+leaf_step line [] rest t e h = cc
+leaf_step line (b ∷ bytes) rest t e h = elim (chosen (nat_eq b 60) h) [
+  | inl f ↦ pid_step b line bytes rest t e (f.0) (f.1)
   | inr f ↦ elim (chosen (is_small_letter b) (f.1)) [
-    | inl g ↦ atom_step levels b line bytes o rest p e (g.0) (g.1)
-    | inr g ↦ integer_step levels b line bytes o rest p e (g.1)
+    | inl g ↦ atom_step b line bytes rest t e (g.0) (g.1)
+    | inr g ↦ integer_step b line bytes rest t e (g.1)
   ]
 ]
 
--- Terms that were read, up to a closing byte.
-pub record FoundParts (levels : ℕ) (listed : Bool) (close : ℕ) (line : List ℕ) (n : ℕ) (o : Out) (rest : List ℕ) (m : ℕ) (p : Out) : Type 0 where
-  pub head : Term
-  pub tail : Terms
-  pub may : AllMayStand levels (head ▹ tail)
-  pub built : AreBuiltTerms (head ▹ tail)
-  pub count : m ≡ terms_len (head ▹ tail) + n
-  pub put : p ≡ put_all listed (head ▹ tail) o
-  pub lies : (ps : List Piece) → Lies ps rest → Lies (term_pieces head (more_pieces tail (Text (close ∷ []) ∷ ps))) line
+leaf_read : (levels : ℕ) (line : List ℕ) (o : Out) (rest : List ℕ) (p : Out) → leaf_run (after_blanks line) o ≡ Some (rest, p) → Found levels line o rest p
+leaf_read levels line o rest p h =
+    let r : (x : Term × List ℕ) × (leaf_at (after_blanks line) ≡ Some x) × (Some (x.1, put (x.0) o) ≡ Some (rest, p)) = read_some (leaf_at (after_blanks line)) (λ r. Some (r.1, put (r.0) o)) h in
+    let j : (r.0.1 ≡ rest) × (put (r.0.0) o ≡ p) = both (r.2) in
+    let f : FoundLeaf line (r.0.1) (r.0.0) = leaf_step line (after_blanks line) (r.0.1) (r.0.0) refl (r.1) in
+    moved levels line o (r.0.1) rest (put (r.0.0) o) p (record { term = r.0.0; may = f.may levels; built = f.built; put = refl; lies = f.lies }) (j.0) (j.1)
 
-after_step : (levels : ℕ) (listed : Bool) (close left : ℕ) (line : List ℕ) (n : ℕ) (o : Out) (rest : List ℕ) (m : ℕ) (p : Out) (mid front : List ℕ) (q : Out)
-    → Found levels line (push_place listed o) mid q
-    → ((bytes : List ℕ) → parts_run (term_run levels) listed close left bytes (n + 1) q ≡ Some (rest, (m, p)) → FoundParts levels listed close bytes (n + 1) q rest m p)
-    → after_blanks mid ≡ front
-    → after_part close front (n + 1, q) (λ bytes. parts_run (term_run levels) listed close left bytes (n + 1) q) ≡ Some (rest, (m, p))
-    → FoundParts levels listed close line n o rest m p
-after_step levels listed close left line n o rest m p mid [] q f more e h = cc
-after_step levels listed close left line n o rest m p mid (b ∷ bytes) q f more e h = elim (chosen (nat_eq b close) h) [
-  | inl c ↦ let j : (bytes ≡ rest) × ((n + 1, q) ≡ (m, p)) = both (c.1) in
-      let count : n + 1 ≡ m = ap (λ (r : ℕ × Out). r.0) (j.1) in
-      let last : q ≡ p = ap (λ (r : ℕ × Out). r.1) (j.1) in
-      let closed : after_blanks mid ≡ (close ∷ []) ++ rest = e ∙ (ap (λ (z : ℕ). z ∷ bytes) (eqb-true b close (c.0)) ∙ ap (λ (z : List ℕ). close ∷ z) (j.0)) in
-      record {
-        head = f.term;
-        tail = end;
-        may = (f.may, tt);
-        built = (f.built, tt);
-        count = omega (arith, count);
-        put = sym last ∙ f.put;
-        lies = λ ps l. f.lies (Text (close ∷ []) ∷ ps) (lies (Text (close ∷ [])) ps mid (close ∷ []) rest closed refl l);
-      }
-  | inr c ↦ elim (chosen (nat_eq b 44) (c.1)) [
-    | inl d ↦ let g : FoundParts levels listed close bytes (n + 1) q rest m p = more bytes (d.1) in
-        let comma : after_blanks mid ≡ codes "," ++ bytes = e ∙ ap (λ (z : ℕ). z ∷ bytes) (eqb-true b 44 (d.0)) in
-        record {
-          head = f.term;
-          tail = g.head ▹ g.tail;
-          may = (f.may, g.may);
-          built = (f.built, g.built);
-          count = omega (arith, g.count);
-          put = g.put ∙ ap (λ (z : Out). put_all listed (g.head ▹ g.tail) z) f.put;
-          lies = λ ps l. f.lies (more_pieces (g.head ▹ g.tail) (Text (close ∷ []) ∷ ps)) (lies (Text (codes ",")) (term_pieces g.head (more_pieces g.tail (Text (close ∷ []) ∷ ps))) mid (codes ",") bytes comma refl (g.lies ps l));
-        }
-    | inr d ↦ let none : None ≡ Some (rest, (m, p)) = d.1 in cc
-  ]
-]
+-- Terms with so many levels that are read are in the grammar.
+abbrev pub AreRead : (levels : ℕ) → Type 0
+AreRead levels = (line : List ℕ) (o : Out) (rest : List ℕ) (p : Out) → term_run levels line o ≡ Some (rest, p) → Found levels line o rest p
 
-parts_read : (levels : ℕ) (listed : Bool) (close : ℕ)
-    → ((line : List ℕ) (o : Out) (rest : List ℕ) (p : Out) → term_run levels line o ≡ Some (rest, p) → Found levels line o rest p)
-    → (left : ℕ) (line : List ℕ) (n : ℕ) (o : Out) (rest : List ℕ) (m : ℕ) (p : Out) → parts_run (term_run levels) listed close left line n o ≡ Some (rest, (m, p))
-    → FoundParts levels listed close line n o rest m p
-parts_read levels listed close ih zero line n o rest m p h = cc
-parts_read levels listed close ih (suc left) line n o rest m p h =
-    let r : (x : List ℕ × Out) × (term_run levels line (push_place listed o) ≡ Some x)
-    × (after_part close (after_blanks (x.0)) (n + 1, x.1) (λ bytes. parts_run (term_run levels) listed close left bytes (n + 1) (x.1)) ≡ Some (rest, (m, p)))
-    = read_some (term_run levels line (push_place listed o)) (λ x. after_part close (after_blanks (x.0)) (n + 1, x.1) (λ bytes. parts_run (term_run levels) listed close left bytes (n + 1) (x.1))) h in
-    after_step levels listed close left line n o rest m p (r.0.0) (after_blanks (r.0.0)) (r.0.1)
-    (ih line (push_place listed o) (r.0.0) (r.0.1) (r.1))
-    (λ bytes g. parts_read levels listed close ih left bytes (n + 1) (r.0.1) rest m p g) refl (r.2)
+part_read : (levels : ℕ) → AreRead levels → (f : Form) (line : List ℕ) (o : Out) (rest : List ℕ) (p : Out) → part_run (term_run levels) f line o ≡ Some (rest, p)
+    → FoundPart (part_pieces f) (part_put f) (IsPart levels f) line o rest p
+part_read levels ih form.List line o rest p h = let t : Found levels line (led form.List o) rest p = ih line (led form.List o) rest p h in
+    record { part = t.term; is = (t.may, t.built); put = t.put; lies = t.lies }
+part_read levels ih form.Tuple line o rest p h = let t : Found levels line (led form.Tuple o) rest p = ih line (led form.Tuple o) rest p h in
+    record { part = t.term; is = (t.may, t.built); put = t.put; lies = t.lies }
 
--- Found one way or the other.
-pub found_cases : {A B : Type 0} (r : Option A) (f : A → B) (d : B) {z : B} → found_or r f d ≡ z → ((x : A) × (r ≡ Some x) × (f x ≡ z)) ⊎ ((r ≡ None) × (d ≡ z))
-found_cases None f d e = inr (refl, e)
-found_cases (Some x) f d e = inl (x, refl, e)
+-- A form whose parts were read, up to what closes it.
+made_read : (levels : ℕ) (f : Form) (xs : List (PartOf f)) (line bytes : List ℕ) (o q : Out) (rest : List ℕ) (p : Out) → after_blanks line ≡ opening f ++ bytes → Each (IsPart levels f) xs
+    → q ≡ put_each (part_put f) xs (begun f o) → ended f (length o.items) (length xs) q ≡ p
+    → ((ps : List Piece) → Lies ps rest → Lies (parts_of (part_pieces f) xs (Text (closing f) ∷ ps)) bytes) → Found (suc levels) line o rest p
+made_read levels f xs line bytes o q rest p e is g h l = let k : MayStand (suc levels) (made f xs) × IsBuiltTerm (made f xs) = made_is levels f xs is in
+    record {
+      term = made f xs;
+      may = k.0;
+      built = k.1;
+      put = sym h ∙ (ap (λ (z : Out). ended f (length o.items) (length xs) z) g ∙ sym (made_put f xs o));
+      lies = λ ps m. rw (made_pieces f xs ps) (lies (Text (opening f)) (parts_of (part_pieces f) xs (Text (closing f) ∷ ps)) line (opening f) bytes e refl (l ps m));
+    }
 
-deeper : (levels : ℕ) (ts : Terms) → AllMayStand levels ts → AllMayStand (suc levels - 1) ts
-deeper levels ts h = let e : suc levels - 1 ≡ levels = omega arith in rw e h
+closed : (f : Form) (line mid : List ℕ) (ps : List Piece) → text_at (closing f) (after_blanks mid) ≡ Some line → Lies ps line → Lies (Text (closing f) ∷ ps) mid
+closed f line mid ps e l = lies (Text (closing f)) ps mid (closing f) line (text_read (closing f) (after_blanks mid) line e) refl l
 
-list_read : (levels : ℕ) → ((line : List ℕ) (o : Out) (rest : List ℕ) (p : Out) → term_run levels line o ≡ Some (rest, p) → Found levels line o rest p)
-    → (line bytes : List ℕ) (o : Out) (rest : List ℕ) (p : Out) → after_blanks line ≡ codes "[" ++ bytes → list_run (term_run levels) bytes o ≡ Some (rest, p) → Found (suc levels) line o rest p
-list_read levels ih line bytes o rest p e h = elim (found_cases (byte_at 93 (after_blanks bytes)) (λ r. Some (r, push o item.Nil))
-    (then_read (parts_run (term_run levels) true 93 (length bytes + 1) bytes 0 o) (λ r. Some (r.0, push (r.1.1) item.Nil))) h) [
-      | inl f ↦ let j : (f.0 ≡ rest) × (push o item.Nil ≡ p) = both (f.2) in
-          moved (suc levels) line o (f.0) rest (push o item.Nil) p (record {
-            term = Listed end;
-            may = (omega arith, tt);
-            built = tt;
-            put = refl;
-            lies = λ ps l. lies (Text (codes "[")) (Text (codes "]") ∷ ps) line (codes "[") bytes e refl
-                (lies (Text (codes "]")) ps bytes (codes "]") (f.0) (byte_read 93 (after_blanks bytes) (f.0) (f.1)) refl l);
-          }) (j.0) (j.1)
-      | inr f ↦ let r : (x : List ℕ × (ℕ × Out)) × (parts_run (term_run levels) true 93 (length bytes + 1) bytes 0 o ≡ Some x) × (Some (x.0, push (x.1.1) item.Nil) ≡ Some (rest, p))
-          = read_some (parts_run (term_run levels) true 93 (length bytes + 1) bytes 0 o) (λ r. Some (r.0, push (r.1.1) item.Nil)) (f.1) in
-          let j : (r.0.0 ≡ rest) × (push (r.0.1.1) item.Nil ≡ p) = both (r.2) in
-          let g : FoundParts levels true 93 bytes 0 o (r.0.0) (r.0.1.0) (r.0.1.1) = parts_read levels true 93 ih (length bytes + 1) bytes 0 o (r.0.0) (r.0.1.0) (r.0.1.1) (r.1) in
-          moved (suc levels) line o (r.0.0) rest (push (r.0.1.1) item.Nil) p (record {
-            term = Listed (g.head ▹ g.tail);
-            may = (omega arith, deeper levels (g.head ▹ g.tail) g.may);
-            built = g.built;
-            put = ap (λ (z : Out). push z item.Nil) g.put;
-            lies = λ ps l. lies (Text (codes "[")) (parts_pieces (g.head ▹ g.tail) (Text (codes "]") ∷ ps)) line (codes "[") bytes e refl (g.lies ps l);
-          }) (j.0) (j.1)
-    ]
+made_full : (levels : ℕ) (f : Form) (line bytes : List ℕ) (o : Out) (rest : List ℕ) (p : Out) → AreRead levels → after_blanks line ≡ opening f ++ bytes
+    → then_read (parts_run (part_run (term_run levels) f) (length bytes + 1) bytes 0 (begun f o)) (λ r. end_run f (length o.items) (r.1.0) (r.0) (r.1.1)) ≡ Some (rest, p) → Found (suc levels) line o rest p
+made_full levels f line bytes o rest p ih e h =
+    let r : (x : List ℕ × (ℕ × Out)) × (parts_run (part_run (term_run levels) f) (length bytes + 1) bytes 0 (begun f o) ≡ Some x) × (end_run f (length o.items) (x.1.0) (x.0) (x.1.1) ≡ Some (rest, p))
+    = read_some (parts_run (part_run (term_run levels) f) (length bytes + 1) bytes 0 (begun f o)) (λ r. end_run f (length o.items) (r.1.0) (r.0) (r.1.1)) h in
+    let s : (y : List ℕ) × (text_at (closing f) (after_blanks (r.0.0)) ≡ Some y) × (Some (y, ended f (length o.items) (r.0.1.0) (r.0.1.1)) ≡ Some (rest, p))
+    = read_some (text_at (closing f) (after_blanks (r.0.0))) (λ y. Some (y, ended f (length o.items) (r.0.1.0) (r.0.1.1))) (r.2) in
+    let j : (s.0 ≡ rest) × (ended f (length o.items) (r.0.1.0) (r.0.1.1) ≡ p) = both (s.2) in
+    let g : FoundParts (part_pieces f) (part_put f) (IsPart levels f) bytes 0 (begun f o) (r.0.0) (r.0.1.0) (r.0.1.1)
+    = parts_found (part_pieces f) (part_put f) (IsPart levels f) (part_run (term_run levels) f) (part_read levels ih f) (length bytes + 1) bytes 0 (begun f o) (r.0.0) (r.0.1.0) (r.0.1.1) (r.1) in
+    let count : length g.parts ≡ r.0.1.0 = omega (arith, g.count) in
+    let P : List ℕ → Type 0 = λ z. Found (suc levels) line o z p in
+    subst P (j.0) (made_read levels f g.parts line bytes o (r.0.1.1) (s.0) p e g.are g.put (ap (λ (z : ℕ). ended f (length o.items) z (r.0.1.1)) count ∙ j.1)
+    (λ ps m. g.lies (Text (closing f) ∷ ps) (closed f (s.0) (r.0.0) ps (s.1) m)))
 
-pub tuple_empty : (o : Out) → push o (item.Tuple 0) ≡ put_at (length o.items) (item.Tuple 0) (push o (item.Tuple 0))
-tuple_empty o = let e : o.items ++ item.Tuple 0 ∷ [] ≡ slice_set (o.items ++ item.Tuple 0 ∷ []) (length o.items) (item.Tuple 0)
-    = sym (set-append_seam o.items (item.Tuple 0) [] (item.Tuple 0)) in ap (λ (z : List Item). out o.names o.full z) e
-
-tuple_read : (levels : ℕ) → ((line : List ℕ) (o : Out) (rest : List ℕ) (p : Out) → term_run levels line o ≡ Some (rest, p) → Found levels line o rest p)
-    → (line bytes : List ℕ) (o : Out) (rest : List ℕ) (p : Out) → after_blanks line ≡ codes "{" ++ bytes → tuple_run (term_run levels) bytes o ≡ Some (rest, p) → Found (suc levels) line o rest p
-tuple_read levels ih line bytes o rest p e h = elim (found_cases (byte_at 125 (after_blanks bytes)) (λ r. Some (r, push o (item.Tuple 0)))
-    (then_read (parts_run (term_run levels) false 125 (length bytes + 1) bytes 0 (push o (item.Tuple 0))) (λ r. Some (r.0, put_at (length o.items) (item.Tuple (r.1.0)) (r.1.1)))) h) [
-      | inl f ↦ let j : (f.0 ≡ rest) × (push o (item.Tuple 0) ≡ p) = both (f.2) in
-          moved (suc levels) line o (f.0) rest (push o (item.Tuple 0)) p (record {
-            term = Tuple end;
-            may = (omega arith, tt);
-            built = tt;
-            put = tuple_empty o;
-            lies = λ ps l. lies (Text (codes "{")) (Text (codes "}") ∷ ps) line (codes "{") bytes e refl
-                (lies (Text (codes "}")) ps bytes (codes "}") (f.0) (byte_read 125 (after_blanks bytes) (f.0) (f.1)) refl l);
-          }) (j.0) (j.1)
-      | inr f ↦ let r : (x : List ℕ × (ℕ × Out)) × (parts_run (term_run levels) false 125 (length bytes + 1) bytes 0 (push o (item.Tuple 0)) ≡ Some x)
-          × (Some (x.0, put_at (length o.items) (item.Tuple (x.1.0)) (x.1.1)) ≡ Some (rest, p))
-          = read_some (parts_run (term_run levels) false 125 (length bytes + 1) bytes 0 (push o (item.Tuple 0))) (λ r. Some (r.0, put_at (length o.items) (item.Tuple (r.1.0)) (r.1.1))) (f.1) in
-          let j : (r.0.0 ≡ rest) × (put_at (length o.items) (item.Tuple (r.0.1.0)) (r.0.1.1) ≡ p) = both (r.2) in
-          let g : FoundParts levels false 125 bytes 0 (push o (item.Tuple 0)) (r.0.0) (r.0.1.0) (r.0.1.1)
-          = parts_read levels false 125 ih (length bytes + 1) bytes 0 (push o (item.Tuple 0)) (r.0.0) (r.0.1.0) (r.0.1.1) (r.1) in
-          let count : r.0.1.0 ≡ terms_len (g.head ▹ g.tail) = omega (arith, g.count) in
-          moved (suc levels) line o (r.0.0) rest (put_at (length o.items) (item.Tuple (r.0.1.0)) (r.0.1.1)) p (record {
-            term = Tuple (g.head ▹ g.tail);
-            may = (omega arith, deeper levels (g.head ▹ g.tail) g.may);
-            built = g.built;
-            put = ap (λ (z : ℕ). put_at (length o.items) (item.Tuple z) (r.0.1.1)) count ∙ ap (λ (z : Out). put_at (length o.items) (item.Tuple (terms_len (g.head ▹ g.tail))) z) g.put;
-            lies = λ ps l. lies (Text (codes "{")) (parts_pieces (g.head ▹ g.tail) (Text (codes "}") ∷ ps)) line (codes "{") bytes e refl (g.lies ps l);
-          }) (j.0) (j.1)
-    ]
-
-any_read : (levels : ℕ) → ((line : List ℕ) (o : Out) (rest : List ℕ) (p : Out) → term_run levels line o ≡ Some (rest, p) → Found levels line o rest p)
-    → (line front : List ℕ) (o : Out) (rest : List ℕ) (p : Out) → after_blanks line ≡ front → any_run (term_run levels) front o ≡ Some (rest, p) → Found (suc levels) line o rest p
-any_read levels ih line [] o rest p e h = cc
-any_read levels ih line (b ∷ bytes) o rest p e h = elim (chosen (nat_eq b 91) h) [
-  | inl f ↦ list_read levels ih line bytes o rest p (e ∙ ap (λ (z : ℕ). z ∷ bytes) (eqb-true b 91 (f.0))) (f.1)
-  | inr f ↦ elim (chosen (nat_eq b 123) (f.1)) [
-    | inl g ↦ tuple_read levels ih line bytes o rest p (e ∙ ap (λ (z : ℕ). z ∷ bytes) (eqb-true b 123 (g.0))) (g.1)
-    | inr g ↦ leaf_read (suc levels) line (b ∷ bytes) o rest p e (g.1)
-  ]
+any_read : (levels : ℕ) (line : List ℕ) (o : Out) (rest : List ℕ) (p : Out) → AreRead levels → any_run (term_run levels) (after_blanks line) o ≡ Some (rest, p) → Found (suc levels) line o rest p
+any_read levels line o rest p ih h = elim (found_cases (form_in all_forms (after_blanks line)) (λ r. form_run (term_run levels) (r.0) (r.1) o) (leaf_run (after_blanks line) o) h) [
+  | inl g ↦ let e : after_blanks line ≡ opening (g.0.0) ++ g.0.1 = form_read all_forms (after_blanks line) (g.0.0) (g.0.1) (g.1) in
+      elim (found_cases (text_at (closing (g.0.0)) (after_blanks (g.0.1))) (λ r. Some (r, ended (g.0.0) (length o.items) 0 (begun (g.0.0) o)))
+      (then_read (parts_run (part_run (term_run levels) (g.0.0)) (length (g.0.1) + 1) (g.0.1) 0 (begun (g.0.0) o)) (λ r. end_run (g.0.0) (length o.items) (r.1.0) (r.0) (r.1.1))) (g.2)) [
+        | inl c ↦ let j : (c.0 ≡ rest) × (ended (g.0.0) (length o.items) 0 (begun (g.0.0) o) ≡ p) = both (c.2) in
+            let P : List ℕ → Type 0 = λ z. Found (suc levels) line o z p in
+            subst P (j.0) (made_read levels (g.0.0) [] line (g.0.1) o (begun (g.0.0) o) (c.0) p e tt refl (j.1) (λ ps m. closed (g.0.0) (c.0) (g.0.1) ps (c.1) m))
+        | inr c ↦ made_full levels (g.0.0) line (g.0.1) o rest p ih e (c.1)
+      ]
+  | inr g ↦ leaf_read (suc levels) line o rest p (g.1)
 ]
 
 -- A term that was read is in the grammar.
 pub term_read : (levels : ℕ) (line : List ℕ) (o : Out) (rest : List ℕ) (p : Out) → term_run levels line o ≡ Some (rest, p) → Found levels line o rest p
-term_read zero line o rest p h = leaf_read 0 line (after_blanks line) o rest p refl h
-term_read (suc levels) line o rest p h = any_read levels (term_read levels) line (after_blanks line) o rest p refl h
+term_read zero line o rest p h = leaf_read 0 line o rest p h
+term_read (suc levels) line o rest p h = any_read levels line o rest p (term_read levels) h

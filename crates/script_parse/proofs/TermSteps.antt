@@ -1,33 +1,28 @@
--- The first step of reading a term.
-use Rattle.std.proofs.Common.{◌≡◌, ℕ, zero, suc, ◌+◌, ◌-◌, ◌<◌, ◌≤◌, ◌≢◌, Bool, true, false, List, [], ◌∷◌, length, None, refl, arith, eq-eqb, sub-one, length-append}
+-- The first step of reading a term, and the room that it takes.
+use Rattle.std.proofs.Common.{◌≡◌, ℕ, zero, suc, ◌+◌, ◌-◌, ◌<◌, ◌≤◌, List, [], length, Some, None, refl, arith, sub-one, length-append}
 use Rattle.plain_term.specs.declared.item.Item.{Item}
-use Rattle.script_parse.specs.Output.{Out, with_place}
-use Rattle.script_parse.specs.Reading.{after_blanks, leaf_run, list_run, tuple_run, term_run}
-use Rattle.script_parse.proofs.PartSteps.{unequal}
+use Rattle.script_parse.specs.declared.forms.Form.{Form}
+use Rattle.script_parse.specs.declared.forms.Form.TheVariants as form
+use Rattle.script_parse.specs.Forms.{all_forms}
+use Rattle.script_parse.specs.Output.{Out, led_items}
+use Rattle.script_parse.specs.Reading.{after_blanks, leaf_run, form_in, form_run, term_run}
 
-pub term_flat : (levels : ℕ) (line : List ℕ) (o : Out) → levels ≡ 0 → term_run levels line o ≡ leaf_run (after_blanks line) o
-term_flat levels line o h = rw h refl
+pub term_form : (levels : ℕ) (line rest : List ℕ) (f : Form) (o : Out) → form_in all_forms (after_blanks line) ≡ Some (f, rest) → 0 < levels
+    → term_run levels line o ≡ form_run (term_run (levels - 1)) f rest o
+term_form zero line rest f o e l = absurd (omega arith)
+term_form (suc k) line rest f o e l = rw (e, sub-one) refl
 
-pub term_bare : (levels : ℕ) (line : List ℕ) (o : Out) → after_blanks line ≡ [] → term_run levels line o ≡ None
-term_bare zero line o e = rw e refl
-term_bare (suc k) line o e = rw e refl
+-- No form opens the line, at any number of levels.
+pub term_leaf : (levels : ℕ) (line : List ℕ) (o : Out) → form_in all_forms (after_blanks line) ≡ None → term_run levels line o ≡ leaf_run (after_blanks line) o
+term_leaf zero line o e = refl
+term_leaf (suc k) line o e = rw e refl
 
-pub term_list : (levels : ℕ) (line rest : List ℕ) (b : ℕ) (o : Out) → after_blanks line ≡ b ∷ rest → b ≡ 91 → 0 < levels
-    → term_run levels line o ≡ list_run (term_run (levels - 1)) rest o
-term_list zero line rest b o e h l = absurd (omega arith)
-term_list (suc k) line rest b o e h l = rw (e, eq-eqb b 91 h, sub-one) refl
+-- How many items stand before each part of a form.
+pub led_len : (f : Form) (items : List Item) → length (led_items f items) ≡ length items + length (led_items f [])
+led_len form.List items = simp length-append refl
+led_len form.Tuple items = omega arith
 
-pub term_tuple : (levels : ℕ) (line rest : List ℕ) (b : ℕ) (o : Out) → after_blanks line ≡ b ∷ rest → b ≢ 91 → b ≡ 123 → 0 < levels
-    → term_run levels line o ≡ tuple_run (term_run (levels - 1)) rest o
-term_tuple zero line rest b o e g h l = absurd (omega arith)
-term_tuple (suc k) line rest b o e g h l = rw (e, unequal b 91 g, eq-eqb b 123 h, sub-one) refl
-
-pub term_leaf : (levels : ℕ) (line rest : List ℕ) (b : ℕ) (o : Out) → after_blanks line ≡ b ∷ rest → b ≢ 91 → b ≢ 123
-    → term_run levels line o ≡ leaf_run (after_blanks line) o
-term_leaf zero line rest b o e g h = refl
-term_leaf (suc k) line rest b o e g h = rw (e, unequal b 91 g, unequal b 123 h) refl
-
--- At most one item more.
-pub place_len : (listed : Bool) (items : List Item) → length (with_place listed items) ≤ length items + 1
-place_len true items = simp length-append (omega arith)
-place_len false items = omega arith
+-- At most one.
+pub led_few : (f : Form) → length (led_items f []) ≤ 1
+led_few form.List = omega arith
+led_few form.Tuple = omega arith

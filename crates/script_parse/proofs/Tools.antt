@@ -1,7 +1,7 @@
 -- Reading a test, and what was found.
-use Rattle.std.proofs.Common.{◌≡◌, ℕ, ◌≢◌, ◌⊎◌, Bool, true, false, nat_eq, ◌||◌, ◌&&◌, cond, Option, Some, None, refl, ap, inl, inr, eqb-true, eq-eqb}
+use Rattle.std.proofs.Common.{◌≡◌, ℕ, ◌≢◌, ◌⊎◌, Bool, true, false, not, nat_eq, ◌||◌, ◌&&◌, cond, List, [], ◌∷◌, Option, Some, None, refl, ap, inl, inr, eqb-true, eq-eqb}
 use Rattle.script_grammar.specs.Grammar.{is_blank}
-use Rattle.script_parse.specs.Reading.{then_read}
+use Rattle.script_parse.specs.Reading.{then_read, found_or}
 
 -- A test with its answer.
 pub chosen : {A : Type 0} (b : Bool) {x y z : A} → cond b x y ≡ z → ((b ≡ true) × (x ≡ z)) ⊎ ((b ≡ false) × (y ≡ z))
@@ -12,6 +12,11 @@ chosen false e = inr (refl, e)
 pub read_some : {A B : Type 0} (r : Option A) (f : A → Option B) {y : B} → then_read r f ≡ Some y → (x : A) × (r ≡ Some x) × (f x ≡ Some y)
 read_some None f e = cc
 read_some (Some x) f e = (x, refl, e)
+
+-- Found one way or the other.
+pub found_cases : {A B : Type 0} (r : Option A) (f : A → B) (d : B) {z : B} → found_or r f d ≡ z → ((x : A) × (r ≡ Some x) × (f x ≡ z)) ⊎ ((r ≡ None) × (d ≡ z))
+found_cases None f d e = inr (refl, e)
+found_cases (Some x) f d e = inl (x, refl, e)
 
 pub inside : {A : Type 0} {x y : A} → Some x ≡ Some y → x ≡ y
 inside e = cc
@@ -46,6 +51,9 @@ not_blank p b f g h = elim (is_blank b) as (λ t. (t ≡ true → (b ≡ 32) ⊎
   | false ↦ λ k. refl
 ] (blank_is b)
 
+pub unequal : (a b : ℕ) → a ≢ b → nat_eq a b ≡ false
+unequal a b h = elim (nat_eq a b) as (λ t. ((t ≡ true) → a ≡ b) → t ≡ false) [ true ↦ λ d. absurd (h (d refl)) | false ↦ λ d. refl ] (eqb-true a b)
+
 -- A byte of a kind is none that is not of it.
 pub apart : (p : ℕ → Bool) (b c : ℕ) → p c ≡ false → p b ≡ true → b ≢ c
 apart p b c f h e = let g : p c ≡ true = rw e at h in cc
@@ -63,3 +71,22 @@ false_not e = cc
 
 pub none_some : {A : Type 0} {x : A} → None ≡ Some x → ⊥
 none_some e = cc
+
+-- None of the bytes passes the test.
+abbrev pub far_from : (ℕ → Bool) → List ℕ → Bool
+far_from p [] = true
+far_from p (m ∷ ms) = not (p m) && far_from p ms
+
+not_true : (b : Bool) → not b ≡ true → b ≡ false
+not_true true e = cc
+not_true false e = refl
+
+-- A byte that passes is none of them.
+abbrev pub IsNone : ℕ → List ℕ → Type 0
+IsNone b [] = Unit {0}
+IsNone b (m ∷ ms) = (nat_eq b m ≡ false) × IsNone b ms
+
+pub none_of : (p : ℕ → Bool) (b : ℕ) (ms : List ℕ) → far_from p ms ≡ true → p b ≡ true → IsNone b ms
+none_of p b [] h e = tt
+none_of p b (m ∷ ms) h e = let k : (not (p m) ≡ true) × (far_from p ms ≡ true) = both_true (not (p m)) (far_from p ms) h in
+    (unequal b m (apart p b m (not_true (p m) (k.0)) e), none_of p b ms (k.1) e)

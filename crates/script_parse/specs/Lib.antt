@@ -1,3 +1,4 @@
+pub mod Forms
 pub mod Output
 pub mod Reading
 pub mod Parses

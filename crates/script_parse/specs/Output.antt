@@ -1,5 +1,5 @@
 -- What a line gives while it is read: names, items, and whether a name found no place.
-use Rattle.std.specs.Prelude.{ℕ, ◌+◌, ◌<◌, ◌≤◌, nat_le, Bool, true, false, List, [], ◌∷◌, ◌++◌, length, take, slice_set, if◌then◌else◌, ◌≡◌}
+use Rattle.std.specs.Prelude.{ℕ, ◌+◌, ◌<◌, ◌≤◌, nat_le, Bool, true, List, [], ◌∷◌, ◌++◌, length, take, slice_set, if◌then◌else◌, ◌≡◌}
 use Rattle.atom_names.specs.Names.{most_names, with_name}
 use Rattle.plain_term.specs.declared.item.Item.{Item}
 use Rattle.plain_term.specs.declared.item.Item.TheVariants as item
@@ -7,6 +7,9 @@ use Rattle.script_grammar.specs.Written.{Term, Terms, terms_len}
 use Rattle.script_grammar.specs.Written.Term.{Int, Atom, Pid, Held, Listed, Barred, Tuple, Map, Bin}
 use Rattle.script_grammar.specs.Written.Terms.{end, ◌▹◌}
 use Rattle.script_grammar.specs.Names.{number_of}
+use Rattle.script_parse.specs.declared.forms.Form.{Form}
+use Rattle.script_parse.specs.declared.forms.Form.TheVariants as form
+use Rattle.script_parse.specs.declared.output.Output.{Output}
 
 -- The names so far, whether one of them found no place, and the items so far.
 pub record Out : Type 0 where
@@ -23,30 +26,52 @@ pub record Keeps (old new : List (List ℕ)) : Type 0 where
   pub longer : length old ≤ length new
   pub same : (n : ℕ) → n ≤ length old → take n new ≡ take n old
 
+-- What an output of the code has so far.
+abbrev pub given : Output → Out
+given o = out o.names.now o.full o.code.now
+
+-- Both lend the same names and the same buffer of items.
+abbrev pub IsSame : (old new : Output) → Type 0
+IsSame old new = (new.names.ghost_name ≡ old.names.ghost_name) × (new.code.ghost_name ≡ old.code.ghost_name)
+
 -- All names stay in their places, and items only come.
-abbrev pub Grows : (old new : List (List ℕ)) (before after : List Item) → Type 0
-Grows old new before after = Keeps old new × (length before ≤ length after)
+abbrev pub Grows : (old new : Output) → Type 0
+Grows old new = IsSame old new × Keeps old.names.now new.names.now × (length old.code.now ≤ length new.code.now)
 
 -- Something of the line was read, and its bytes make up for the items that came, but for so many.
-abbrev pub Spends : (spare : ℕ) (line rest : List ℕ) (before after : List Item) → Type 0
-Spends spare line rest before after = (length after + length rest ≤ length before + length line + spare) × (length rest < length line)
+abbrev pub Spends : (spare : ℕ) (line rest : List ℕ) (old new : Output) → Type 0
+Spends spare line rest old new = (length new.code.now + length rest ≤ length old.code.now + length line + spare) × (length rest < length line)
 
 -- An item goes last.
 abbrev pub push : Out → Item → Out
 push o i = record { names = o.names; full = o.full; items = o.items ++ i ∷ [] }
 
--- Items with a list's place at their end where a list is read, the same where a tuple is.
-abbrev pub with_place : (listed : Bool) → List Item → List Item
-with_place true items = items ++ item.Cons ∷ []
-with_place false items = items
-
--- A list's place goes last where a list is read.
-abbrev pub push_place : (listed : Bool) → Out → Out
-push_place listed o = record { names = o.names; full = o.full; items = with_place listed o.items }
-
 -- The item of a place becomes another.
 abbrev pub put_at : ℕ → Item → Out → Out
 put_at at i o = record { names = o.names; full = o.full; items = slice_set o.items at i }
+
+-- The items with what a form puts before its parts: a tuple's count comes later.
+abbrev pub begun_items : Form → List Item → List Item
+begun_items form.List items = items
+begun_items form.Tuple items = items ++ item.Tuple 0 ∷ []
+
+-- What a form puts before its parts goes last.
+abbrev pub begun : Form → Out → Out
+begun f o = record { names = o.names; full = o.full; items = begun_items f o.items }
+
+-- The items with what a form puts before each part.
+abbrev pub led_items : Form → List Item → List Item
+led_items form.List items = items ++ item.Cons ∷ []
+led_items form.Tuple items = items
+
+-- What a form puts before each part goes last.
+abbrev pub led : Form → Out → Out
+led f o = record { names = o.names; full = o.full; items = led_items f o.items }
+
+-- A form that began at this place and has so many parts is complete.
+abbrev pub ended : Form → (at n : ℕ) → Out → Out
+ended form.List at n o = push o item.Nil
+ended form.Tuple at n o = put_at at (item.Tuple n) o
 
 -- An atom goes last by its number. Where it is new and finds no place, that is kept in mind.
 abbrev pub put_atom : Out → List ℕ → Out
@@ -67,13 +92,13 @@ abbrev mutual
   put (Atom a) o = put_atom o a
   put (Pid n) o = push o (item.Pid n)
   put (Held r) o = o
-  put (Listed ts) o = push (put_all true ts o) item.Nil
+  put (Listed ts) o = ended form.List (length o.items) (terms_len ts) (put_all form.List ts (begun form.List o))
   put (Barred ts t) o = o
-  put (Tuple ts) o = put_at (length o.items) (item.Tuple (terms_len ts)) (put_all false ts (push o (item.Tuple 0)))
+  put (Tuple ts) o = ended form.Tuple (length o.items) (terms_len ts) (put_all form.Tuple ts (begun form.Tuple o))
   put (Map ps) o = o
   put (Bin bytes) o = o
 
-  -- Terms go last, in a list each after its place.
-  pub put_all : (listed : Bool) → Terms → Out → Out
-  put_all listed end o = o
-  put_all listed (t ▹ ts) o = put_all listed ts (put t (push_place listed o))
+  -- The terms of a form go last.
+  pub put_all : Form → Terms → Out → Out
+  put_all f end o = o
+  put_all f (t ▹ ts) o = put_all f ts (put t (led f o))

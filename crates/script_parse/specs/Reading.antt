@@ -5,7 +5,6 @@ use Rattle.std.specs.Borrow.{Bor}
 use Rattle.std.specs.List.{prefix_len, find}
 use Rattle.std.specs.Str.{bytes_eq}
 use Rattle.atom_names.specs.Names.{with_name}
-use Rattle.plain_term.specs.declared.item.Item.TheVariants as item
 use Rattle.script_grammar.specs.Grammar.{is_blank, is_digit, is_small_letter, is_name_byte, is_built, is_sys_built}
 use Rattle.script_grammar.specs.Names.{number_of, reg, ArgumentOf, Arguments, verb_with, sys_verb_with}
 use Rattle.script_grammar.specs.Written.{Kind, all_words, text_of, kinds_of, all_sys_words, sys_text_of, sys_kinds_of}
@@ -22,7 +21,11 @@ use Rattle.script_grammar.specs.declared.command.Command.{Command}
 use Rattle.script_grammar.specs.declared.command.Command.TheVariants as command
 use Rattle.script_grammar.specs.declared.command.Verb.{Verb}
 use Rattle.script_grammar.specs.declared.command.SysVerb.{SysVerb}
-use Rattle.script_parse.specs.Output.{Out, push, push_place, put_at, put_atom, put_name}
+use Rattle.script_grammar.specs.Written.{Term}
+use Rattle.script_grammar.specs.Written.Term.{Int, Atom, Pid}
+use Rattle.script_parse.specs.declared.forms.Form.{Form}
+use Rattle.script_parse.specs.Forms.{all_forms, opening, closing}
+use Rattle.script_parse.specs.Output.{Out, begun, led, ended, put, put_name}
 
 -- What was found, and the rest after it, go on.
 abbrev pub then_read : {A B : Type 0} → Option A → (A → Option B) → Option B
@@ -92,51 +95,44 @@ abbrev pub atom_at : List ℕ → Option (List ℕ × List ℕ)
 atom_at line = cond (nat_eq (prefix_len is_name_byte line) 0) None (cond (nat_le (prefix_len is_name_byte line) 63)
     (Some (take (prefix_len is_name_byte line) line, drop (prefix_len is_name_byte line) line)) None)
 
--- An integer goes last.
-abbrev pub integer_run : List ℕ → Out → Option (List ℕ × Out)
-integer_run line o = then_read (integer_at line) (λ r. Some (r.1, push o (item.Int (r.0))))
+-- A term without parts at the front.
+abbrev pub leaf_at : List ℕ → Option (Term × List ℕ)
+leaf_at [] = None
+leaf_at (b ∷ bytes) = if nat_eq b 60 then then_read (pid_at bytes) (λ r. Some (Pid (r.0), r.1)) else
+    (if is_small_letter b then then_read (atom_at (b ∷ bytes)) (λ r. Some (Atom (r.0), r.1)) else
+    then_read (integer_at (b ∷ bytes)) (λ r. Some (Int (r.0), r.1)))
 
--- A pid goes last.
-abbrev pub pid_run : List ℕ → Out → Option (List ℕ × Out)
-pid_run line o = then_read (pid_at line) (λ r. Some (r.1, push o (item.Pid (r.0))))
-
--- An atom goes last.
-abbrev pub atom_run : List ℕ → Out → Option (List ℕ × Out)
-atom_run line o = then_read (atom_at line) (λ r. Some (r.1, put_atom o (r.0)))
-
--- A term without parts.
+-- It goes last.
 abbrev pub leaf_run : List ℕ → Out → Option (List ℕ × Out)
-leaf_run [] o = None
-leaf_run (b ∷ bytes) o = if nat_eq b 60 then pid_run bytes o else
-    (if is_small_letter b then atom_run (b ∷ bytes) o else integer_run (b ∷ bytes) o)
+leaf_run line o = then_read (leaf_at line) (λ r. Some (r.1, put (r.0) o))
 
--- After a term: the closing byte ends, a comma goes on, all else is refused.
-abbrev pub after_part : (close : ℕ) → List ℕ → ℕ × Out → (List ℕ → Option (List ℕ × (ℕ × Out))) → Option (List ℕ × (ℕ × Out))
-after_part close [] done more = None
-after_part close (b ∷ bytes) done more = if nat_eq b close then Some (bytes, done) else (if nat_eq b 44 then more bytes else None)
+-- Parts divided by commas, at most `left` of them, `n` having been read.
+abbrev pub parts_run : (part : List ℕ → Out → Option (List ℕ × Out)) (left : ℕ) → List ℕ → ℕ → Out → Option (List ℕ × (ℕ × Out))
+parts_run part zero line n o = None
+parts_run part (suc left) line n o = then_read (part line o)
+    (λ r. found_or (byte_at 44 (after_blanks (r.0))) (λ bytes. parts_run part left bytes (n + 1) (r.1)) (Some (r.0, (n + 1, r.1))))
 
--- Terms divided by commas up to the closing byte, at most `left` of them, `n` having been read.
-abbrev pub parts_run : (inner : List ℕ → Out → Option (List ℕ × Out)) (listed : Bool) (close left : ℕ) → List ℕ → ℕ → Out → Option (List ℕ × (ℕ × Out))
-parts_run inner listed close zero line n o = None
-parts_run inner listed close (suc left) line n o = then_read (inner line (push_place listed o))
-    (λ r. after_part close (after_blanks (r.0)) (n + 1, r.1) (λ bytes. parts_run inner listed close left bytes (n + 1) (r.1)))
+-- A part of a form.
+abbrev pub part_run : (inner : List ℕ → Out → Option (List ℕ × Out)) → Form → List ℕ → Out → Option (List ℕ × Out)
+part_run inner f line o = inner line (led f o)
 
--- A list after its first byte.
-abbrev pub list_run : (inner : List ℕ → Out → Option (List ℕ × Out)) → List ℕ → Out → Option (List ℕ × Out)
-list_run inner line o = found_or (byte_at 93 (after_blanks line)) (λ rest. Some (rest, push o item.Nil))
-    (then_read (parts_run inner true 93 (length line + 1) line 0 o) (λ r. Some (r.0, push (r.1.1) item.Nil)))
+-- The end of a form that began at this place, after so many parts.
+abbrev pub end_run : Form → (at n : ℕ) → List ℕ → Out → Option (List ℕ × Out)
+end_run f at n line o = then_read (text_at (closing f) (after_blanks line)) (λ rest. Some (rest, ended f at n o))
 
--- A tuple after its first byte.
-abbrev pub tuple_run : (inner : List ℕ → Out → Option (List ℕ × Out)) → List ℕ → Out → Option (List ℕ × Out)
-tuple_run inner line o = found_or (byte_at 125 (after_blanks line)) (λ rest. Some (rest, push o (item.Tuple 0)))
-    (then_read (parts_run inner false 125 (length line + 1) line 0 (push o (item.Tuple 0)))
-    (λ r. Some (r.0, put_at (length o.items) (item.Tuple (r.1.0)) (r.1.1))))
+-- A form after its opening: no parts, or parts divided by commas.
+abbrev pub form_run : (inner : List ℕ → Out → Option (List ℕ × Out)) → Form → List ℕ → Out → Option (List ℕ × Out)
+form_run inner f line o = found_or (text_at (closing f) (after_blanks line)) (λ rest. Some (rest, ended f (length o.items) 0 (begun f o)))
+    (then_read (parts_run (part_run inner f) (length line + 1) line 0 (begun f o)) (λ r. end_run f (length o.items) (r.1.0) (r.0) (r.1.1)))
+
+-- The first of these forms that is opened at the front, and the line after its opening.
+abbrev pub form_in : List Form → List ℕ → Option (Form × List ℕ)
+form_in [] line = None
+form_in (f ∷ forms) line = found_or (text_at (opening f) line) (λ rest. Some (f, rest)) (form_in forms line)
 
 -- A term that may have parts.
 abbrev pub any_run : (inner : List ℕ → Out → Option (List ℕ × Out)) → List ℕ → Out → Option (List ℕ × Out)
-any_run inner [] o = None
-any_run inner (b ∷ bytes) o = if nat_eq b 91 then list_run inner bytes o else
-    (if nat_eq b 123 then tuple_run inner bytes o else leaf_run (b ∷ bytes) o)
+any_run inner line o = found_or (form_in all_forms line) (λ r. form_run inner (r.0) (r.1) o) (leaf_run line o)
 
 -- A term with at most so many levels of brackets.
 abbrev pub term_run : (levels : ℕ) → List ℕ → Out → Option (List ℕ × Out)

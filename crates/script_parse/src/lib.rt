@@ -1,11 +1,13 @@
-//! Lines of a script read into commands, by the grammar of the plain machine.
+//! Lines of a script read into commands, by the grammar of `script_grammar`.
 #![tactic(auto)]
 
 mod atoms;
 mod blanks;
 mod buffer;
+mod forms;
 mod lines;
 mod numbers;
+mod output;
 mod terms;
 #[cfg(test)]
 mod tests;

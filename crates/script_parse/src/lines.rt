@@ -22,13 +22,14 @@ ghost use Rattle.script_grammar.specs.Written.{Written};
 ghost use Rattle.script_grammar.specs.Grammar.{SaysOne, IsBuiltCommand};
 ghost use Rattle.script_grammar.specs.Names.{IsInBounds};
 ghost use Rattle.script_grammar.specs.ReadAs.{IsOutside, BringsTooMany};
-ghost use Rattle.script_parse.specs.Output.{Out, out, Keeps};
+ghost use Rattle.script_parse.specs.Output.{out, given, Grows, Keeps};
 ghost use Rattle.script_parse.specs.Parses.{Reads};
 ghost use Rattle.script_parse.specs.Reading.{is_silent, command_run, line_run};
 
 use crate::blanks::{after_text, skip};
 use crate::buffer::Code;
 use crate::numbers::{GREATEST, number};
+use crate::output::Output;
 use crate::verbs::{process_verb, system_verb};
 use atom_names::AtomNames;
 use script_grammar::{Command, Refusal};
@@ -44,33 +45,46 @@ fn silent(line: &[u8]) -> bool
 }
 
 /// A command. The line begins with its first byte.
-fn command(line: &[u8], names: &mut AtomNames, code: &mut Code, full: &mut bool) -> Option<Command>
-    requires { length code.old + length line.now ≤ 4096 }
-    ensures read { MatchOption result (command_run line.now (out names.old full.old code.old) ≡ None)
-        (λ c. command_run line.now (out names.old full.old code.old) ≡ Some (c, out names.new full.new code.new)) }
-    ensures kept { Keeps names.old names.new }
+fn command(line: &[u8], out: &mut Output) -> Option<Command>
+    requires { length out.old.code.now + length line.now ≤ 4096 }
+    ensures read { MatchOption result (command_run line.now (given out.old) ≡ None) (λ c. command_run line.now (given out.old) ≡ Some (c, given out.new)) }
+    ensures grown { Grows out.old out.new }
 {
     if let Some((n, rest)) = number(line, GREATEST) {
-        let verb = process_verb(rest, names, code, full)?;
+        let verb = process_verb(rest, out)?;
         return Some(Command::Process(n, verb));
     }
     let rest = after_text(line, b"sys")?;
-    let verb = system_verb(rest)?;
+    let verb = system_verb(rest, out)?;
     Some(Command::System(verb))
 }
 
 /// A whole line.
-fn whole(line: &[u8], names: &mut AtomNames, code: &mut Code, full: &mut bool) -> Option<Command>
-    requires { length code.old + length line.now ≤ 4096 }
-    ensures read { MatchOption result (line_run line.now (out names.old full.old code.old) ≡ None)
-        (λ c. line_run line.now (out names.old full.old code.old) ≡ Some (c, out names.new full.new code.new)) }
-    ensures kept { Keeps names.old names.new }
+fn whole(line: &[u8], out: &mut Output) -> Option<Command>
+    requires { length out.old.code.now + length line.now ≤ 4096 }
+    ensures read { MatchOption result (line_run line.now (given out.old) ≡ None) (λ c. line_run line.now (given out.old) ≡ Some (c, given out.new)) }
+    ensures grown { Grows out.old out.new }
 {
     let start = skip(line);
     if silent(start) {
         return Some(Command::Nothing);
     }
-    command(start, names, code, full)
+    command(start, out)
+}
+
+/// What a line says, and whether a name found no place. All names stay in their places.
+fn read(line: &[u8], names: &mut AtomNames, code: &mut Code) -> Option<(Command, bool)>
+    requires { length code.old + length line.now ≤ 4096 }
+    ensures read { MatchOption result (line_run line.now (out names.old false code.old) ≡ None) (λ r. line_run line.now (out names.old false code.old) ≡ Some (r.0, out names.new r.1 code.new)) }
+    ensures kept { Keeps names.old names.new }
+{
+    let mut out = Output {
+        names,
+        code,
+        full: false,
+    };
+    let command = whole(line, &mut out)?;
+    Some((command, out.full))
 }
 
 /// Reads a line of at most 4,096 bytes without its end. The items of its terms are left in `code`,
@@ -89,11 +103,9 @@ pub fn parse(line: &[u8], names: &mut AtomNames, code: &mut Code) -> Result<Comm
 {
     code.clear();
     let before = names.count();
-    let mut full = false;
-    let found = whole(line, names, code, &mut full);
-    if let Some(c) = found {
+    if let Some((command, full)) = read(line, names, code) {
         if !full {
-            return Ok(c);
+            return Ok(command);
         }
         names.forget(before);
         return Err(Refusal::Atoms);

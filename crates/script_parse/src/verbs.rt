@@ -2,15 +2,14 @@ ghost use Rattle.std.specs.Prelude.{◌≡◌, ℕ, ◌+◌, ◌≤◌, ◌<◌,
 ghost use Rattle.script_grammar.specs.Names.{Arguments};
 ghost use Rattle.script_grammar.specs.Written.{Kind};
 ghost use Rattle.script_grammar.specs.Written.Kind.{Slot, Body};
-ghost use Rattle.script_parse.specs.Output.{Out, out, Keeps};
+ghost use Rattle.script_parse.specs.Output.{given, Grows};
 ghost use Rattle.script_parse.specs.Reading.{number_at, spaced_at, row, row_run, verb_run, named_run, process_run, sys_verb_run, sys_named_run, system_run};
 
 use crate::blanks::{ends, gap, skip, word_len};
-use crate::buffer::Code;
 use crate::numbers::number;
+use crate::output::Output;
 use crate::terms::term;
 use crate::words::{sys_word, verb_word};
-use atom_names::AtomNames;
 use script_grammar::{Reg, SysVerb, SysWord, Verb, Word};
 
 /// How many levels of brackets may be open.
@@ -28,18 +27,20 @@ fn register(line: &[u8]) -> Option<(Reg, &[u8])>
 
 /// No operand, and nothing more.
 #[tactic(auto, unfolding(crate::specs::Reading::row_run))]
-fn none(line: &[u8]) -> Option<()>
-    ensures process { (f : Arguments [] → Verb) (o : Out) → MatchOption result (row_run (row [] f) line.now o ≡ None) (λ r. row_run (row [] f) line.now o ≡ Some (f tt, o)) }
-    ensures system { (f : Arguments [] → SysVerb) (o : Out) → MatchOption result (row_run (row [] f) line.now o ≡ None) (λ r. row_run (row [] f) line.now o ≡ Some (f tt, o)) }
+fn none(line: &[u8], out: &mut Output) -> Option<()>
+    ensures process { (f : Arguments [] → Verb) → MatchOption result (row_run (row [] f) line.now (given out.old) ≡ None) (λ r. row_run (row [] f) line.now (given out.old) ≡ Some (f tt, given out.new)) }
+    ensures system { (f : Arguments [] → SysVerb) → MatchOption result (row_run (row [] f) line.now (given out.old) ≡ None) (λ r. row_run (row [] f) line.now (given out.old) ≡ Some (f tt, given out.new)) }
+    ensures grown { Grows out.old out.new }
 {
     if ends(line) { Some(()) } else { None }
 }
 
 /// A register, and nothing more.
 #[tactic(auto, unfolding(crate::specs::Reading::row_run))]
-fn slot(line: &[u8]) -> Option<Reg>
-    ensures value { (f : Arguments (Slot ∷ []) → Verb) (o : Out) → MatchOption result (row_run (row (Slot ∷ []) f) line.now o ≡ None)
-        (λ r. row_run (row (Slot ∷ []) f) line.now o ≡ Some (f (r.0, tt), o)) }
+fn slot(line: &[u8], out: &mut Output) -> Option<Reg>
+    ensures value { (f : Arguments (Slot ∷ []) → Verb) → MatchOption result (row_run (row (Slot ∷ []) f) line.now (given out.old) ≡ None)
+        (λ r. row_run (row (Slot ∷ []) f) line.now (given out.old) ≡ Some (f (r.0, tt), given out.new)) }
+    ensures grown { Grows out.old out.new }
 {
     let (r, rest) = register(line)?;
     if ends(rest) { Some(r) } else { None }
@@ -47,39 +48,32 @@ fn slot(line: &[u8]) -> Option<Reg>
 
 /// A register and a term, and nothing more. The term goes last.
 #[tactic(auto, unfolding(crate::specs::Reading::row_run))]
-fn slot_body(line: &[u8], names: &mut AtomNames, code: &mut Code, full: &mut bool) -> Option<Reg>
-    requires { length code.old + length line.now ≤ 4096 }
-    ensures read { (f : Arguments (Slot ∷ Body ∷ []) → Verb) → MatchOption result (row_run (row (Slot ∷ Body ∷ []) f) line.now (out names.old full.old code.old) ≡ None)
-        (λ r. row_run (row (Slot ∷ Body ∷ []) f) line.now (out names.old full.old code.old) ≡ Some (f (r.0, (tt, tt)), out names.new full.new code.new)) }
-    ensures kept { Keeps names.old names.new }
+fn slot_body(line: &[u8], out: &mut Output) -> Option<Reg>
+    requires { length out.old.code.now + length line.now ≤ 4096 }
+    ensures read { (f : Arguments (Slot ∷ Body ∷ []) → Verb) → MatchOption result (row_run (row (Slot ∷ Body ∷ []) f) line.now (given out.old) ≡ None)
+        (λ r. row_run (row (Slot ∷ Body ∷ []) f) line.now (given out.old) ≡ Some (f (r.0, (tt, tt)), given out.new)) }
+    ensures grown { Grows out.old out.new }
 {
     let (r, rest) = register(line)?;
     let rest = gap(rest)?;
-    let rest = term(rest, LEVELS, names, code, full)?;
+    let rest = term(rest, LEVELS, out)?;
     if ends(rest) { Some(r) } else { None }
 }
 
 /// The operands of a verb of a process, by the table of what is built.
-fn verb(
-    word: Word,
-    line: &[u8],
-    names: &mut AtomNames,
-    code: &mut Code,
-    full: &mut bool,
-) -> Option<Verb>
-    requires { length code.old + length line.now ≤ 4096 }
-    ensures read { MatchOption result (verb_run word line.now (out names.old full.old code.old) ≡ None)
-        (λ v. verb_run word line.now (out names.old full.old code.old) ≡ Some (v, out names.new full.new code.new)) }
-    ensures kept { Keeps names.old names.new }
+fn verb(word: Word, line: &[u8], out: &mut Output) -> Option<Verb>
+    requires { length out.old.code.now + length line.now ≤ 4096 }
+    ensures read { MatchOption result (verb_run word line.now (given out.old) ≡ None) (λ v. verb_run word line.now (given out.old) ≡ Some (v, given out.new)) }
+    ensures grown { Grows out.old out.new }
 {
     match word {
-        Word::Set => Some(Verb::Set(slot_body(line, names, code, full)?)),
-        Word::Own => Some(Verb::Own(slot(line)?)),
-        Word::Push => Some(Verb::Push(slot(line)?)),
-        Word::Pop => Some(Verb::Pop(slot(line)?)),
-        Word::Print => Some(Verb::Print(slot(line)?)),
+        Word::Set => Some(Verb::Set(slot_body(line, out)?)),
+        Word::Own => Some(Verb::Own(slot(line, out)?)),
+        Word::Push => Some(Verb::Push(slot(line, out)?)),
+        Word::Pop => Some(Verb::Pop(slot(line, out)?)),
+        Word::Print => Some(Verb::Print(slot(line, out)?)),
         Word::Exit => {
-            none(line)?;
+            none(line, out)?;
             Some(Verb::Exit)
         }
         _ => None,
@@ -87,48 +81,43 @@ fn verb(
 }
 
 /// A verb of a process and its operands. The line begins with its word.
-fn named(line: &[u8], names: &mut AtomNames, code: &mut Code, full: &mut bool) -> Option<Verb>
-    requires { length code.old + length line.now ≤ 4096 }
-    ensures read { MatchOption result (named_run line.now (out names.old full.old code.old) ≡ None)
-        (λ v. named_run line.now (out names.old full.old code.old) ≡ Some (v, out names.new full.new code.new)) }
-    ensures kept { Keeps names.old names.new }
+fn named(line: &[u8], out: &mut Output) -> Option<Verb>
+    requires { length out.old.code.now + length line.now ≤ 4096 }
+    ensures read { MatchOption result (named_run line.now (given out.old) ≡ None) (λ v. named_run line.now (given out.old) ≡ Some (v, given out.new)) }
+    ensures grown { Grows out.old out.new }
 {
     let n = word_len(line);
     let word = verb_word(&line[..n])?;
-    verb(word, &line[n..], names, code, full)
+    verb(word, &line[n..], out)
 }
 
 /// A process line after its number.
-pub(crate) fn process_verb(
-    line: &[u8],
-    names: &mut AtomNames,
-    code: &mut Code,
-    full: &mut bool,
-) -> Option<Verb>
-    requires { length code.old + length line.now ≤ 4096 }
-    ensures read { MatchOption result (process_run line.now (out names.old full.old code.old) ≡ None)
-        (λ v. process_run line.now (out names.old full.old code.old) ≡ Some (v, out names.new full.new code.new)) }
-    ensures kept { Keeps names.old names.new }
+pub(crate) fn process_verb(line: &[u8], out: &mut Output) -> Option<Verb>
+    requires { length out.old.code.now + length line.now ≤ 4096 }
+    ensures read { MatchOption result (process_run line.now (given out.old) ≡ None) (λ v. process_run line.now (given out.old) ≡ Some (v, given out.new)) }
+    ensures grown { Grows out.old out.new }
 {
     let rest = gap(line)?;
-    named(skip(rest), names, code, full)
+    named(skip(rest), out)
 }
 
 /// The operands of a verb of the system, by the table of what is built.
-fn sys_verb(word: SysWord, line: &[u8]) -> Option<SysVerb>
-    ensures { (o : Out) → MatchOption result (sys_verb_run word line.now o ≡ None) (λ v. sys_verb_run word line.now o ≡ Some (v, o)) }
+fn sys_verb(word: SysWord, line: &[u8], out: &mut Output) -> Option<SysVerb>
+    requires { length out.old.code.now + length line.now ≤ 4096 }
+    ensures read { MatchOption result (sys_verb_run word line.now (given out.old) ≡ None) (λ v. sys_verb_run word line.now (given out.old) ≡ Some (v, given out.new)) }
+    ensures grown { Grows out.old out.new }
 {
     match word {
         SysWord::Spawn => {
-            none(line)?;
+            none(line, out)?;
             Some(SysVerb::Spawn)
         },
         SysWord::Procs => {
-            none(line)?;
+            none(line, out)?;
             Some(SysVerb::Procs)
         },
         SysWord::Quit => {
-            none(line)?;
+            none(line, out)?;
             Some(SysVerb::Quit)
         },
         _ => None,
@@ -136,18 +125,22 @@ fn sys_verb(word: SysWord, line: &[u8]) -> Option<SysVerb>
 }
 
 /// A verb of the system and its operands. The line begins with its word.
-fn sys_named(line: &[u8]) -> Option<SysVerb>
-    ensures { (o : Out) → MatchOption result (sys_named_run line.now o ≡ None) (λ v. sys_named_run line.now o ≡ Some (v, o)) }
+fn sys_named(line: &[u8], out: &mut Output) -> Option<SysVerb>
+    requires { length out.old.code.now + length line.now ≤ 4096 }
+    ensures read { MatchOption result (sys_named_run line.now (given out.old) ≡ None) (λ v. sys_named_run line.now (given out.old) ≡ Some (v, given out.new)) }
+    ensures grown { Grows out.old out.new }
 {
     let n = word_len(line);
     let word = sys_word(&line[..n])?;
-    sys_verb(word, &line[n..])
+    sys_verb(word, &line[n..], out)
 }
 
 /// A system line after its first word.
-pub(crate) fn system_verb(line: &[u8]) -> Option<SysVerb>
-    ensures { (o : Out) → MatchOption result (system_run line.now o ≡ None) (λ v. system_run line.now o ≡ Some (v, o)) }
+pub(crate) fn system_verb(line: &[u8], out: &mut Output) -> Option<SysVerb>
+    requires { length out.old.code.now + length line.now ≤ 4096 }
+    ensures read { MatchOption result (system_run line.now (given out.old) ≡ None) (λ v. system_run line.now (given out.old) ≡ Some (v, given out.new)) }
+    ensures grown { Grows out.old out.new }
 {
     let rest = gap(line)?;
-    sys_named(skip(rest))
+    sys_named(skip(rest), out)
 }

@@ -1,0 +1,18 @@
+-- The table of the forms of terms in brackets that are built: what opens and what closes each.
+use Rattle.std.specs.Prelude.{ℕ, List, [], ◌∷◌, codes}
+use Rattle.script_parse.specs.declared.forms.Form.{Form}
+use Rattle.script_parse.specs.declared.forms.Form.TheVariants as form
+
+-- The forms.
+abbrev pub all_forms : List Form
+all_forms = form.List ∷ form.Tuple ∷ []
+
+-- What opens a form.
+abbrev pub opening : Form → List ℕ
+opening form.List = codes "["
+opening form.Tuple = codes "{"
+
+-- What closes it.
+abbrev pub closing : Form → List ℕ
+closing form.List = codes "]"
+closing form.Tuple = codes "}"

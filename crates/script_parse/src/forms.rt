@@ -1,0 +1,59 @@
+//! The forms of terms in brackets.
+ghost use Rattle.std.specs.Prelude.{◌≡◌, ℕ, ◌<◌, List, length, MatchOption};
+ghost use Rattle.script_parse.specs.Forms.{opening, closing, all_forms};
+ghost use Rattle.script_parse.specs.Reading.{form_in};
+
+use crate::blanks::after_text;
+
+/// A form in brackets that is built.
+#[derive(Clone, Copy)]
+pub(crate) enum Form {
+    List,
+    Tuple,
+}
+
+/// The forms in brackets that are built.
+const FORMS: [Form; 2] = [Form::List, Form::Tuple];
+
+impl Form {
+    /// What opens the form.
+    fn opening(self) -> &'static [u8]
+        ensures { result.now ≡ opening self }
+    {
+        match self {
+            Form::List => b"[",
+            Form::Tuple => b"{",
+        }
+    }
+
+    /// What closes it.
+    pub(crate) fn closing(self) -> &'static [u8]
+        ensures { result.now ≡ closing self }
+    {
+        match self {
+            Form::List => b"]",
+            Form::Tuple => b"}",
+        }
+    }
+}
+
+/// The first of these forms that is opened here, and the line after its opening.
+fn opened_of<'a>(forms: &[Form], line: &'a [u8]) -> Option<(Form, &'a [u8])>
+    ensures value { MatchOption result (form_in forms.now line.now ≡ None) (λ r. form_in forms.now line.now ≡ Some (r.0, r.1.now)) }
+    ensures shorter { MatchOption result (Unit {0}) (λ r. length r.1.now < length line.now) }
+{
+    for form in forms {
+        if let Some(rest) = after_text(line, form.opening()) {
+            return Some((*form, rest));
+        }
+    }
+    None
+}
+
+/// The form that is opened here, and the line after its opening.
+pub(crate) fn opened(line: &[u8]) -> Option<(Form, &[u8])>
+    ensures value { MatchOption result (form_in all_forms line.now ≡ None) (λ r. form_in all_forms line.now ≡ Some (r.0, r.1.now)) }
+    ensures shorter { MatchOption result (Unit {0}) (λ r. length r.1.now < length line.now) }
+{
+    opened_of(&FORMS, line)
+}
