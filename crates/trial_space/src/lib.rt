@@ -3,6 +3,8 @@
 
 mod printing;
 mod space;
+#[cfg(test)]
+mod tests;
 mod weight;
 
 pub use space::TrialSpace;
