@@ -4,7 +4,7 @@ use Rattle.std.specs.Prelude.{IfSome}
 use Rattle.std.proofs.lemmas.List.{map-append}
 use Rattle.std.proofs.lemmas.Bool.Decides.{nat_tests}
 use Rattle.plain_term.specs.Tree.{Tree, Trees, trees_len, trees_append}
-use Rattle.plain_term.specs.Tree.Tree.{Int, Atom, Pid, Nil, Cons, Tuple, Bin}
+use Rattle.plain_term.specs.Tree.Tree.{Int, Atom, Pid, Ref, Nil, Cons, Tuple, Map, Bin, Shared, Part, Fun}
 use Rattle.plain_term.specs.Tree.Trees.{end, ◌▹◌}
 use Rattle.plain_term.specs.Written.{is_spelled, are_spelled, items_of, items_of_all, Spells, Explains, Begins, HasNoTerm, BeginAll, HasNoParts, BeginBytes, HasNoBytes, IsOf, AreOf, Reads, ReadsAll, ReadsBytes}
 use Rattle.plain_term.specs.View.{view, trees_of}
@@ -30,7 +30,56 @@ unique_bytes (a ∷ cs) (b ∷ bs) x y n e =
     let heads : a ≡ b = cc in
     ((λ i. heads i ∷ more.0 i), more.1)
 
+-- a number for each kind of tree
+kind : Tree → ℕ
+kind (Int i) = 1
+kind (Atom k) = 2
+kind (Pid n) = 3
+kind Nil = 4
+kind (Cons h t) = 5
+kind (Tuple ts) = 6
+kind (Bin bytes) = 7
+kind (Ref n k) = 8
+kind (Map ps) = 9
+kind (Shared id) = 10
+kind (Part base offset len) = 11
+kind (Fun name arity creator env) = 12
+
+-- the kind of tree that begins with an item
+kind_of_item : Item → ℕ
+kind_of_item (item.Int i) = 1
+kind_of_item (item.Atom k) = 2
+kind_of_item (item.Pid n) = 3
+kind_of_item item.Nil = 4
+kind_of_item item.Cons = 5
+kind_of_item (item.Tuple n) = 6
+kind_of_item (item.Bin n) = 7
+kind_of_item _ = 0
+
+kind_of_first : List Item → ℕ
+kind_of_first [] = 0
+kind_of_first (i ∷ items) = kind_of_item i
+
+first-kind : (t : Tree) (x : List Item) → is_spelled t ≡ true → kind_of_first (items_of t ++ x) ≡ kind t
+unfolding kind kind_of_item kind_of_first
+first-kind (Int i) x p = refl
+first-kind (Atom k) x p = refl
+first-kind (Pid n) x p = refl
+first-kind Nil x p = refl
+first-kind (Cons h t) x p = refl
+first-kind (Tuple ts) x p = refl
+first-kind (Bin bytes) x p = refl
+first-kind _ x p = no_way p
+
+-- trees whose items begin alike are of one kind
+same-kind : (a b : Tree) (x y : List Item) → is_spelled a ≡ true → is_spelled b ≡ true → items_of a ++ x ≡ items_of b ++ y → kind a ≡ kind b
+same-kind a b x y p q e = sym (first-kind a x p) ∙ ap kind_of_first e ∙ first-kind b y q
+
+apart : {P : Type 0} (m n : ℕ) → (m == n) ≡ false → m ≡ n → P
+apart m n differ same = absurd (grind (arith, nat_tests, differ, same))
+
 mutual
+  unfolding kind
   unique : (a b : Tree) (x y : List Item) → is_spelled a ≡ true → is_spelled b ≡ true → items_of a ++ x ≡ items_of b ++ y → (a ≡ b) × (x ≡ y)
   unique (Int i) (Int j) x y p q e = let same : i ≡ j = cc in (ap Int same, cc)
   unique (Atom i) (Atom j) x y p q e = let same : i ≡ j = cc in (ap Atom same, cc)
@@ -52,7 +101,12 @@ mutual
       let lens : length a ≡ length b = cc in
       let bytes = unique_bytes a b x y lens tails in
       (ap Bin bytes.0, bytes.1)
-  unique a b x y p q e = absurd cc
+  unique (Ref n k) (Ref m j) x y p q e = no_way p
+  unique (Map ps) (Map qs) x y p q e = no_way p
+  unique (Shared i) (Shared j) x y p q e = no_way p
+  unique (Part b o l) (Part c n m) x y p q e = no_way p
+  unique (Fun f n c ts) (Fun g m d us) x y p q e = no_way p
+  unique a b x y p q e = apart (kind a) (kind b) refl (same-kind a b x y p q e)
 
   unique_all : (ts us : Trees) (x y : List Item) → trees_len ts ≡ trees_len us → are_spelled ts ≡ true → are_spelled us ≡ true → items_of_all ts ++ x ≡ items_of_all us ++ y → (ts ≡ us) × (x ≡ y)
   unique_all end end x y n p q e = (refl, e)
@@ -99,12 +153,13 @@ no_part items i n done rest begin lt none ts y all =
 
 -- a list needs a tail after its head
 after_head : (rest : List Item) (head : Tree) (after : List Item) → Begins rest head after → (t : Tree) (y : List Item) → Begins (item.Cons ∷ rest) t y → (tail : Tree) × Begins after tail y
+unfolding kind kind_of_item kind_of_first
 after_head rest head after begins (Cons h t) y (spelled, is) =
     let tails : rest ≡ (items_of h ++ items_of t) ++ y = cc in
     let apart : items_of head ++ after ≡ items_of h ++ (items_of t ++ y) = sym begins.1 ∙ tails ∙ append_assoc (items_of h) (items_of t) y in
     let first = unique head h after (items_of t ++ y) begins.0 (left (is_spelled h) (is_spelled t) spelled) apart in
     (t, (right (is_spelled h) (is_spelled t) spelled, first.1))
-after_head rest head after begins t y (spelled, is) = absurd cc
+after_head rest head after begins t y (spelled, is) = apart 5 (kind t) refl (ap kind_of_first is ∙ first-kind t y spelled)
 
 pub no_tail : (rest : List Item) (head : Tree) (after : List Item) → Begins rest head after → HasNoTerm after → HasNoTerm (item.Cons ∷ rest)
 no_tail rest head after begins none t y it = let found = after_head rest head after begins t y it in none found.0 y found.1
