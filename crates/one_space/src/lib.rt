@@ -1,0 +1,9 @@
+//! A space of two halves: objects and stacks of all processes stand in one of them, and a collection moves all that lives to the other.
+#![tactic(auto)]
+
+mod halves;
+mod roots;
+mod table;
+
+pub use halves::Halves;
+pub use table::{Proc, fresh};

@@ -1,0 +1,62 @@
+// Moving what the registers and the stacks of all processes name.
+ghost use Rattle.std.specs.Prelude.{◌≡◌, ℕ};
+ghost use Rattle.cheney.specs.declared.moving.Moving.{Moving};
+ghost use Rattle.cheney.specs.Plan.{In, Plan, Reached};
+ghost use Rattle.cheney.specs.Zones.{Marks};
+ghost use Rattle.cheney.specs.Rooms.{Runs};
+ghost use Rattle.one_space.specs.Rows.{CanMoveRow, CanMoveRows, CanMoveStack, CanMoveWords, RowMoved, RowMoves, RowsMoved, RowsMove, StackMoved, StackMoves, WordsMoved};
+
+use crate::halves::PLACE_WORDS;
+use crate::table::Proc;
+use cheney::{Moving, evacuate};
+use word_mem::WordMem;
+
+/// Moves what the registers and stack places of all processes name. The stack places are copied to the words up to `end`,
+/// those of one process below those of the one before.
+pub fn move_roots(mem: &mut WordMem, mv: &mut Moving, procs: &mut [Proc], end: u64)
+    requires { CanMoveRows mem.old mv.old procs.old end }
+    ensures { (p : Plan) (k : Marks) (low limit : ℕ) → RowsMove p mem.old mv.old k low limit procs.old end → RowsMoved p mem.old mem.new mv.new k procs.old procs.new end }
+{
+    let mut low = end;
+    for process in procs.iter_mut() {
+        low -= PLACE_WORDS * process.depth;
+        move_process(mem, mv, process, low);
+    }
+}
+
+// Moves what one process names; its stack places are copied to the words from `to` on.
+fn move_process(mem: &mut WordMem, mv: &mut Moving, process: &mut Proc, to: u64)
+    requires { CanMoveRow mem.old mv.old process.old to }
+    ensures { (p : Plan) (k : Marks) (low limit : ℕ) → RowMoves p mem.old mv.old k low limit process.old to → RowMoved p mem.old mem.new mv.new k process.old process.new to }
+{
+    move_words(mem, mv, &mut process.regs);
+    move_stack(mem, mv, process.stack, process.depth, to);
+    process.stack = to;
+}
+
+// Moves what the words name.
+fn move_words(mem: &mut WordMem, mv: &mut Moving, words: &mut [u64])
+    requires { CanMoveWords mem.old mv.old words.old }
+    ensures { (p : Plan) (k : Marks) → Runs p mem.old mv.old k → ((w : ℕ) → In w words.old → Reached p w) → WordsMoved p mem.old mem.new mv.new k words.old words.new }
+{
+    for i in 0..words.len() {
+        words[i] = evacuate(mem, mv, words[i]);
+    }
+}
+
+// Moves what the places of a stack name. The last place is copied to the words from `to` on, and after each the one below it.
+fn move_stack(mem: &mut WordMem, mv: &mut Moving, from: u64, depth: u64, to: u64)
+    requires { CanMoveStack mem.old mv.old from depth to }
+    ensures { (p : Plan) (k : Marks) (low limit : ℕ) → StackMoves p mem.old mv.old k low limit from depth to → StackMoved p mem.old mem.new mv.new k from depth to }
+{
+    let mut place = from;
+    for i in 0..depth {
+        let next = to + PLACE_WORDS * i;
+        let w = mem.get(place);
+        let below = mem.get(place + 1);
+        let new = evacuate(mem, mv, w);
+        mem.set(next, new);
+        mem.set(next + 1, next + PLACE_WORDS);
+        place = below;
+    }
+}

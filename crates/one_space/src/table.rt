@@ -1,0 +1,25 @@
+// The rows of processes.
+ghost use Rattle.std.specs.Prelude.{◌≡◌, replicate};
+
+/// One process: its number, the words of its registers, the place of the last thing on its stack, and how many lie there.
+#[derive(Clone, Copy)]
+pub struct Proc {
+    pub number: u64,
+    pub regs: [u64; 16],
+    pub stack: u64,
+    pub depth: u64,
+}
+
+/// A process with nil in each register and nothing on its stack.
+pub fn fresh(number: u64) -> Proc
+    ensures number { result.number ≡ number }
+    ensures regs { result.regs ≡ replicate 16 59 }
+    ensures depth { result.depth ≡ 0 }
+{
+    Proc {
+        number,
+        regs: [term_tags::nil(); 16],
+        stack: 0,
+        depth: 0,
+    }
+}
