@@ -49,6 +49,7 @@ fn move_stack(mem: &mut WordMem, mv: &mut Moving, from: u64, depth: u64, to: u64
     requires { CanMoveStack mem.old mv.old from depth to }
     ensures { (p : Plan) (k : Marks) (low limit : ℕ) → StackMoves p mem.old mv.old k low limit from depth to → StackMoved p mem.old mem.new mv.new k from depth to }
 {
+    let _len = mem.len();
     let mut place = from;
     for i in 0..depth {
         let next = to + PLACE_WORDS * i;
