@@ -1,2 +1,5 @@
 mod Going
 mod Stacking
+mod Stacks
+mod Rowing
+mod AllRows
