@@ -3,3 +3,5 @@ mod Stacking
 mod Stacks
 mod Rowing
 mod AllRows
+mod Held
+mod Planned
