@@ -6,7 +6,7 @@ use Rattle.cheney.specs.Plan.{In, Plan, Reached}
 use Rattle.cheney.specs.Moved.{IsImage}
 use Rattle.cheney.specs.Zones.{Marks}
 use Rattle.cheney.specs.Rooms.{Runs, top_of}
-use Rattle.cheney.specs.Calls.{Later}
+use Rattle.cheney.specs.Calls.{Later, nowhere}
 use Rattle.cheney.specs.Collected.{AllImages, IsBeside}
 use Rattle.cheney.proofs.Begins.{beside-runs, free-aside, image-beside, image-kept, write-beside}
 use Rattle.one_space.specs.Rows.{Goes, IsAside}
@@ -14,11 +14,11 @@ use Rattle.one_space.specs.Rows.{Goes, IsAside}
 pub goes-same : (p : Plan) (m : List ℕ) (mv : Moving) (k : Marks) (from to : ℕ) → Runs p m mv k → Goes p m m mv k from to
 goes-same p m mv k from to run = record { runs = run; images = λ w x r i. i; aside = λ q a o. refl }
 
-pub goes-call : (p : Plan) (m n : List ℕ) (mv : Moving) (k : Marks) (from to : ℕ) → Runs p n mv k → Later p m n → Goes p m n mv k from to
+pub goes-call : (p : Plan) (m n : List ℕ) (mv : Moving) (k : Marks) (from to : ℕ) → Runs p n mv k → Later p nowhere m n → Goes p m n mv k from to
 goes-call p m n mv k from to run later = record {
   runs = run;
-  images = λ w x r i. image-kept p m n w x later r i;
-  aside = λ q a o. free-aside p m n later q run.ready a.outside a.free;
+  images = λ w x r i. image-kept p nowhere m n w x later r i;
+  aside = λ q a o. free-aside p nowhere m n later q refl run.ready a.outside a.free;
 }
 
 pub goes-write : (p : Plan) (m : List ℕ) (mv : Moving) (k : Marks) (a w from to : ℕ) → Runs p m mv k → IsAside p a → from ≤ a → a < to → Goes p m (set m a w) mv k from to

@@ -16,7 +16,7 @@ use Rattle.cheney.specs.Rooms.{Agrees, Runs}
 use Rattle.cheney.proofs.Basics.{not-both}
 use Rattle.cheney.proofs.Begins.{begins}
 use Rattle.cheney.proofs.Fitting.{fits-by-range}
-use Rattle.cheney.proofs.Roots.{root-in}
+use Rattle.cheney.proofs.Rows.{root-in}
 use Rattle.word_mem.specs.declared.ranges.Room.{Room}
 use Rattle.word_mem.specs.declared.ranges.Span.{Span}
 use Rattle.one_space.specs.Halves.{HalvesStand, IsLaid, depths, end_of, front_of, half_of}
@@ -50,6 +50,7 @@ no-span q = grind (arith, nat_tests)
 pub agrees : (h : Halves) (shared : List (List ℕ)) (qs : List Process) (test : ℕ → ℕ → Bool) (from to : ℕ) (mv : Moving) → IsBetween from to mv → Agrees (plan_of h shared qs test from to) mv
 agrees h shared qs test from to mv b = record {
   stay = λ q. ap (λ z. in_spans z q) b.stay;
+  moves = λ q e. refl;
   mature = λ q. ap (λ z. in_span z q) b.mature ∙ no-span q;
   aged_low = ap (λ z. z.start) b.aged;
   aged_high = ap (λ z. z.end) b.aged;

@@ -4,8 +4,9 @@ use Rattle.cheney.specs.declared.moving.Moving.{Moving}
 use Rattle.cheney.specs.Plan.{In, Plan, Reached}
 use Rattle.cheney.specs.Zones.{Marks}
 use Rattle.cheney.specs.Collected.{AllImages}
+use Rattle.cheney.specs.Roots.{AllEvacuated}
 use Rattle.one_space.specs.Stack.{IsStack, values}
-use Rattle.one_space.specs.Rows.{CanMoveRow, CanMoveStack, CanMoveWords, Goes, HasPlaces, IsAside, IsMovedRow, RowMoved, RowMoves, StackMoved, StackMoves, WordsMoved}
+use Rattle.one_space.specs.Rows.{Goes, HasPlaces, IsAside, IsMovedRow, RowMoved, RowMoves, StackMoved, StackMoves}
 use Rattle.one_space.specs.declared.table.Proc.{Proc}
 use Rattle.one_space.proofs.Going.{goes-call, goes-then, images-on}
 use Rattle.one_space.proofs.Stacks.{AreKept, stack-kept, stack-wider, values-kept}
@@ -50,7 +51,7 @@ row-on p start mem mem2 mv2 k low limit f t old new r g free apart registers sta
       values_are = subst P (sym (values-kept mem mem2 low limit new.stack new.depth same r.places)) (images-on p mem mem2 (values start old.stack old.depth) (values mem new.stack new.depth) g.images stack r.values_are);
     }
 
-module _ (p : Plan) (mem mem1 : List ℕ) (mv mv1 : Moving) (k : Marks) (low limit to : ℕ) (row : Proc) (regs : List ℕ) (r : RowMoves p mem mv k low limit row to) (w : WordsMoved p mem mem1 mv1 k row.regs regs) where
+module _ (p : Plan) (mem mem1 : List ℕ) (mv mv1 : Moving) (k : Marks) (low limit to : ℕ) (row : Proc) (regs : List ℕ) (r : RowMoves p mem mv k low limit row to) (w : AllEvacuated p mem mem1 mv1 k row.regs regs) where
   pub stack-next : StackMoves p mem1 mv1 k low limit row.stack row.depth to
   stack-next = stack-on p mem mem1 mv mv1 k low limit row.stack row.depth to r.stack (goes-call p mem mem1 mv1 k low low w.runs w.later)
 

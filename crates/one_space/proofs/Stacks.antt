@@ -1,7 +1,7 @@
 -- Stacks and roots of a memory that keeps their words.
 use Rattle.std.proofs.Common.{◌≡◌, ℕ, zero, suc, ◌+◌, ◌<◌, ◌≤◌, List, [], ◌∷◌, ◌++◌, length, get_or, refl, sym, ◌∙◌, ap, subst, arith, inl, inr}
 use Rattle.cheney.specs.Plan.{In}
-use Rattle.cheney.proofs.Roots.{in-joined}
+use Rattle.cheney.proofs.Rows.{in-joined}
 use Rattle.one_space.specs.Stack.{IsStack, values}
 use Rattle.one_space.specs.Reached.{roots_in}
 use Rattle.one_space.specs.Rows.{HaveStacks}

@@ -5,7 +5,6 @@ use Rattle.cheney.specs.Plan.{In, IsOutside, Plan, Reached}
 use Rattle.cheney.specs.Moved.{IsImage}
 use Rattle.cheney.specs.Zones.{Marks}
 use Rattle.cheney.specs.Rooms.{Runs}
-use Rattle.cheney.specs.Calls.{Later}
 use Rattle.cheney.specs.Collected.{AllImages}
 use Rattle.one_space.specs.Stack.{IsStack, values}
 use Rattle.one_space.specs.Halves.{depths}
@@ -24,19 +23,6 @@ pub record Goes (p : Plan) (mem mem2 : List ℕ) (mv2 : Moving) (k : Marks) (fro
   pub runs : Runs p mem2 mv2 k
   pub images : (w x : ℕ) → Reached p w → IsImage p mem w x → IsImage p mem2 w x
   pub aside : (q : ℕ) → IsAside p q → (q < from) ⊎ (to ≤ q) → slice_index mem2 q ≡ slice_index mem q
-
--- The words are reached, and may move.
-pub record CanMoveWords (mem : List ℕ) (mv : Moving) (ws : List ℕ) : Type 0 where
-  pub plan : Plan
-  pub marks : Marks
-  pub runs : Runs plan mem mv marks
-  pub reached : (w : ℕ) → In w ws → Reached plan w
-
--- They have moved.
-pub record WordsMoved (p : Plan) (mem mem2 : List ℕ) (mv2 : Moving) (k : Marks) (olds news : List ℕ) : Type 0 where
-  pub runs : Runs p mem2 mv2 k
-  pub later : Later p mem mem2
-  pub images : AllImages p mem2 olds news
 
 -- A collection runs, and so many words from `to` on are free for stack places, aside and apart from the words between `low`
 -- and `limit`, which hold the old stack places.

@@ -61,7 +61,7 @@ impl Halves {
         let base = if self.base == 0 { half } else { 0 };
         let end = base + half;
         let low = end - PLACE_WORDS * count_places(&self.procs);
-        let mut mv = moving_between(base + UNUSED, low);
+        let mut mv = moving_between(self.base, self.top, base + UNUSED, low);
         move_roots(&mut self.mem, &mut mv, &mut self.procs, end);
         scan(&mut self.mem, &mut mv);
         self.base = base;
@@ -83,13 +83,16 @@ fn count_places(procs: &[Proc]) -> u64
     sum
 }
 
-// A collection to the words from one place up to another, in which all moves.
-fn moving_between(start: u64, end: u64) -> Moving
-    requires { start ≤ end }
+// A collection of what lies between two places to the words between two others, in which all moves.
+fn moving_between(old: u64, old_end: u64, start: u64, end: u64) -> Moving
     ensures { IsBetween start end result }
 {
     Moving {
         stay: Stay::none(),
+        from_space: Span {
+            start: old,
+            end: old_end,
+        },
         mature: Span { start: 0, end: 0 },
         aged: Room {
             start,

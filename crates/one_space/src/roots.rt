@@ -1,14 +1,12 @@
 // Moving what the registers and the stacks of all processes name.
-ghost use Rattle.std.specs.Prelude.{◌≡◌, ℕ};
-ghost use Rattle.cheney.specs.declared.moving.Moving.{Moving};
-ghost use Rattle.cheney.specs.Plan.{In, Plan, Reached};
+ghost use Rattle.std.specs.Prelude.{ℕ};
+ghost use Rattle.cheney.specs.Plan.{Plan};
 ghost use Rattle.cheney.specs.Zones.{Marks};
-ghost use Rattle.cheney.specs.Rooms.{Runs};
-ghost use Rattle.one_space.specs.Rows.{CanMoveRow, CanMoveRows, CanMoveStack, CanMoveWords, RowMoved, RowMoves, RowsMoved, RowsMove, StackMoved, StackMoves, WordsMoved};
+ghost use Rattle.one_space.specs.Rows.{CanMoveRow, CanMoveRows, CanMoveStack, RowMoved, RowMoves, RowsMoved, RowsMove, StackMoved, StackMoves};
 
 use crate::halves::PLACE_WORDS;
 use crate::table::Proc;
-use cheney::{Moving, evacuate};
+use cheney::{Moving, evacuate, evacuate_all};
 use word_mem::WordMem;
 
 /// Moves what the registers and stack places of all processes name. The stack places are copied to the words up to `end`,
@@ -29,19 +27,9 @@ fn move_process(mem: &mut WordMem, mv: &mut Moving, process: &mut Proc, to: u64)
     requires { CanMoveRow mem.old mv.old process.old to }
     ensures { (p : Plan) (k : Marks) (low limit : ℕ) → RowMoves p mem.old mv.old k low limit process.old to → RowMoved p mem.old mem.new mv.new k process.old process.new to }
 {
-    move_words(mem, mv, &mut process.regs);
+    evacuate_all(mem, mv, &mut process.regs);
     move_stack(mem, mv, process.stack, process.depth, to);
     process.stack = to;
-}
-
-// Moves what the words name.
-fn move_words(mem: &mut WordMem, mv: &mut Moving, words: &mut [u64])
-    requires { CanMoveWords mem.old mv.old words.old }
-    ensures { (p : Plan) (k : Marks) → Runs p mem.old mv.old k → ((w : ℕ) → In w words.old → Reached p w) → WordsMoved p mem.old mem.new mv.new k words.old words.new }
-{
-    for i in 0..words.len() {
-        words[i] = evacuate(mem, mv, words[i]);
-    }
 }
 
 // Moves what the places of a stack name. The last place is copied to the words from `to` on, and after each the one below it.

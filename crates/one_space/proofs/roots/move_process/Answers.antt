@@ -1,8 +1,8 @@
 use Rattle.one_space.proofs.Rowing.{row-moved, stack-next}
 use Rattle.one_space.proofs.roots.move_process.Goals as goal
 
-pub move_words-requires : goal.move_words-requires
-move_words-requires c = record {
+pub evacuate_all-requires : goal.evacuate_all-requires
+evacuate_all-requires c = record {
   plan = c.requires.plan;
   marks = c.requires.marks;
   runs = c.requires.moves.stack.room.runs;
@@ -15,11 +15,11 @@ move_stack-requires c = record {
   marks = c.requires.marks;
   low = c.requires.low;
   limit = c.requires.limit;
-  moves = stack-next c.requires.plan c.args.mem.now c.move_words.new.mem c.args.mv.now c.move_words.new.mv c.requires.marks c.requires.low c.requires.limit c.args.to c.args.process.now c.move_words.new.words c.requires.moves
-    (c.move_words.ensures c.requires.plan c.requires.marks c.requires.moves.stack.room.runs c.requires.moves.reached);
+  moves = stack-next c.requires.plan c.args.mem.now c.evacuate_all.new.mem c.args.mv.now c.evacuate_all.new.mv c.requires.marks c.requires.low c.requires.limit c.args.to c.args.process.now c.evacuate_all.new.words c.requires.moves
+    (c.evacuate_all.ensures.each c.requires.plan c.requires.marks c.requires.moves.stack.room.runs c.requires.moves.reached);
 }
 
 pub returns : goal.returns
 returns c = λ p k low limit r.
-    row-moved p c.args.mem.now c.move_words.new.mem c.args.mv.now c.move_words.new.mv k low limit c.args.to c.args.process.now c.move_words.new.words r (c.move_words.ensures p k r.stack.room.runs r.reached) c.move_stack.new.mem c.move_stack.new.mv
-    (c.move_stack.ensures p k low limit (stack-next p c.args.mem.now c.move_words.new.mem c.args.mv.now c.move_words.new.mv k low limit c.args.to c.args.process.now c.move_words.new.words r (c.move_words.ensures p k r.stack.room.runs r.reached)))
+    row-moved p c.args.mem.now c.evacuate_all.new.mem c.args.mv.now c.evacuate_all.new.mv k low limit c.args.to c.args.process.now c.evacuate_all.new.words r (c.evacuate_all.ensures.each p k r.stack.room.runs r.reached) c.move_stack.new.mem c.move_stack.new.mv
+    (c.move_stack.ensures p k low limit (stack-next p c.args.mem.now c.evacuate_all.new.mem c.args.mv.now c.evacuate_all.new.mv k low limit c.args.to c.args.process.now c.evacuate_all.new.words r (c.evacuate_all.ensures.each p k r.stack.room.runs r.reached)))
