@@ -5,3 +5,4 @@ mod Rowing
 mod AllRows
 mod Held
 mod Planned
+mod Ended

@@ -30,6 +30,9 @@ use Rattle.one_space.proofs.Held.{have-stacks, roots-stand, trees_of}
 pub record IsOther (h : Halves) (base : ℕ) : Type 0 where
   pub side : ((h.base ≡ 0) × (base ≡ half_of h)) ⊎ ((h.base ≡ half_of h) × (base ≡ 0))
 
+pub is-other : (h : Halves) (base words : ℕ) → IsLaid h → words ≡ length h.mem → base ≡ words / 2 - h.base → IsOther h base
+is-other h base words laid len e = record { side = elim laid.side [ inl a ↦ inl (a, omega (arith, len, e, a)) | inr a ↦ inr (a, omega (arith, len, e, a)) ] }
+
 -- The plan: all that the roots reach goes to the words between two places.
 abbrev pub plan_of : (h : Halves) (shared : List (List ℕ)) (qs : List Process) (test : ℕ → ℕ → Bool) (from to : ℕ) → Plan
 plan_of h shared qs test from to = record {
@@ -99,7 +102,7 @@ module _ (named : ℕ) (h : Halves) (shared : List (List ℕ)) (qs : List Proces
     free = λ k e. omega (arith, above, laid.order, (s.objects q k e).1.0);
   }
 
-  aside-there : (q : ℕ) → to ≤ q → q < base + half_of h → IsAside (plan_of h shared qs s.test from to) q
+  pub aside-there : (q : ℕ) → to ≤ q → q < base + half_of h → IsAside (plan_of h shared qs s.test from to) q
   aside-there q above below = record {
     outside = outside-there q above;
     free = λ k e. elim sides.apart [

@@ -38,14 +38,22 @@ stack-at mem low limit [] i less s = absurd (omega arith)
 stack-at mem low limit (r ∷ rows) zero less (first, rest) = first
 stack-at mem low limit (r ∷ rows) (suc i) less (first, rest) = stack-at mem low limit rows i (omega arith) rest
 
+-- The roots of rows: registers and values of the first, and the roots of the others.
+pub registers-in : (mem : List ℕ) (r : Proc) (rows : List Proc) (w : ℕ) → In w r.regs → In w (roots_in mem (r ∷ rows))
+registers-in mem r rows w h = in-joined w r.regs (values mem r.stack r.depth ++ roots_in mem rows) (inl h)
+
+pub values-in : (mem : List ℕ) (r : Proc) (rows : List Proc) (w : ℕ) → In w (values mem r.stack r.depth) → In w (roots_in mem (r ∷ rows))
+values-in mem r rows w h = in-joined w r.regs (values mem r.stack r.depth ++ roots_in mem rows) (inr (in-joined w (values mem r.stack r.depth) (roots_in mem rows) (inl h)))
+
+pub others-in : (mem : List ℕ) (r : Proc) (rows : List Proc) (w : ℕ) → In w (roots_in mem rows) → In w (roots_in mem (r ∷ rows))
+others-in mem r rows w h = in-joined w r.regs (values mem r.stack r.depth ++ roots_in mem rows) (inr (in-joined w (values mem r.stack r.depth) (roots_in mem rows) (inr h)))
+
 pub register-root : (mem : List ℕ) (rows : List Proc) (i w : ℕ) → i < length rows → In w (get_or rows i no_row).regs → In w (roots_in mem rows)
 register-root mem [] i w less h = absurd (omega arith)
-register-root mem (r ∷ rows) zero w less h = in-joined w r.regs (values mem r.stack r.depth ++ roots_in mem rows) (inl h)
-register-root mem (r ∷ rows) (suc i) w less h =
-    in-joined w r.regs (values mem r.stack r.depth ++ roots_in mem rows) (inr (in-joined w (values mem r.stack r.depth) (roots_in mem rows) (inr (register-root mem rows i w (omega arith) h))))
+register-root mem (r ∷ rows) zero w less h = registers-in mem r rows w h
+register-root mem (r ∷ rows) (suc i) w less h = others-in mem r rows w (register-root mem rows i w (omega arith) h)
 
 pub value-root : (mem : List ℕ) (rows : List Proc) (i w : ℕ) → i < length rows → In w (values mem (get_or rows i no_row).stack (get_or rows i no_row).depth) → In w (roots_in mem rows)
 value-root mem [] i w less h = absurd (omega arith)
-value-root mem (r ∷ rows) zero w less h = in-joined w r.regs (values mem r.stack r.depth ++ roots_in mem rows) (inr (in-joined w (values mem r.stack r.depth) (roots_in mem rows) (inl h)))
-value-root mem (r ∷ rows) (suc i) w less h =
-    in-joined w r.regs (values mem r.stack r.depth ++ roots_in mem rows) (inr (in-joined w (values mem r.stack r.depth) (roots_in mem rows) (inr (value-root mem rows i w (omega arith) h))))
+value-root mem (r ∷ rows) zero w less h = values-in mem r rows w h
+value-root mem (r ∷ rows) (suc i) w less h = others-in mem r rows w (value-root mem rows i w (omega arith) h)

@@ -58,7 +58,7 @@ impl Halves {
         ensures { Collects self.old self.new }
     {
         let half = self.mem.len() / 2;
-        let base = if self.base == 0 { half } else { 0 };
+        let base = half - self.base;
         let end = base + half;
         let low = end - PLACE_WORDS * count_places(&self.procs);
         let mut mv = moving_between(self.base, self.top, base + UNUSED, low);
