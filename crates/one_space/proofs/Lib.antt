@@ -6,3 +6,4 @@ mod AllRows
 mod Held
 mod Planned
 mod Ended
+mod Tight

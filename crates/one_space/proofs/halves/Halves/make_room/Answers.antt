@@ -1,8 +1,11 @@
-use Rattle.std.proofs.Common.{rules, ◌≡◌, ◌-◌, ◌+◌, ◌<◌, ◌≤◌, ◌^◌, ℕ, ◌*◌, length, ◌/◌, ◌%◌, Bool, true, false, nat_eq, nat_lt, List, [], ◌∷◌, ◌++◌, slice_index_or, slice_set, bit_and, bit_or, Fits, w8, w32, w64, Bor, MutBor}
-use Rattle.one_space.specs.Halves.{depths, free_in}
-use Rattle.one_space.specs.Collecting.{CanCollect, Collects, IsBetween, MakesRoom}
+use Rattle.std.proofs.Common.{◌<◌, nat_le, sym, subst, ap, arith}
+use Rattle.std.proofs.Common.{ℕ}
+use Rattle.one_space.specs.Halves.{free_in}
+use Rattle.one_space.specs.Collecting.{MakesRoom}
+use Rattle.one_space.proofs.Tight.{room-after}
 use Rattle.one_space.proofs.halves.Halves.make_room.Goals as goal
 
--- src/halves.rt:42:5
 pub returns : goal.returns
-returns c = ?
+returns c =
+    let P : ℕ → Type 0 = λ z. MakesRoom c.args.n c.args.self.now c.collect.new.self (nat_le c.args.n z) in
+    subst P (sym c.free-2.ensures) (room-after c.args.n c.args.self.now c.requires.can c.collect.new.self (omega (arith, c.free.ensures, c.if-n-free.false)) c.collect.ensures)
