@@ -2,8 +2,11 @@ use Rattle.std.proofs.Common.{◌<◌, nat_le, sym, subst, ap, arith}
 use Rattle.std.proofs.Common.{ℕ}
 use Rattle.one_space.specs.Halves.{free_in}
 use Rattle.one_space.specs.Collecting.{MakesRoom}
-use Rattle.one_space.proofs.Tight.{room-after}
+use Rattle.one_space.proofs.Tight.{room-after, room-before}
 use Rattle.one_space.proofs.halves.Halves.make_room.Goals as goal
+
+pub returns-then-n-free : goal.returns-then-n-free
+returns-then-n-free c = room-before c.args.n c.args.self.now c.requires.can (omega (arith, c.free.ensures, c.if-n-free.true))
 
 pub returns : goal.returns
 returns c =
