@@ -1,7 +1,7 @@
 -- What the whole program promises: the store that a run leaves, and what a run was.
-use Rattle.std.specs.Prelude.{ℕ, ◌≡◌, ◌^◌, ◌⊎◌, List}
-use Rattle.line_io.specs.declared.reader.Limits.{Limits}
+use Rattle.std.specs.Prelude.{ℕ, ◌≡◌, ◌⊎◌, length}
 use Rattle.plain_machine.specs.State.{State}
+use Rattle.space_api.specs.Calls.{Properly}
 use Rattle.engine.specs.Acts.{StandsWith}
 use Rattle.engine.specs.declared.serving.Status.{Status}
 use Rattle.engine.specs.declared.serving.Status.TheVariants.{Done, Usage, ReadFault, WriteFault, Memory, TooMuch}
@@ -9,18 +9,10 @@ use Rattle.bump_space.specs.Bump.{BumpStands}
 use Rattle.beam_heap.specs.declared.store.Store.{Store}
 use Rattle.beam_heap.specs.declared.store.Store.TheVariants.{Vacant, One}
 
--- The machine in the store stands for the state, names and all; a vacant store stands for none.
-abbrev pub StoreStands : Store → State → Type 0
-StoreStands Vacant s = ⊥
-StoreStands (One m) s = StandsWith (BumpStands m.space) m.names s
-
--- How many words the arena has.
-abbrev pub arena_words : ℕ
-arena_words = 1048576
-
--- How many lines and bytes a script may have.
-abbrev pub script_limits : Limits
-script_limits = record { lines = 2 ^ 32; bytes = 2 ^ 48 }
+-- The machine in the store stands for the state, names and all, over an arena of so many words; a vacant store stands for none.
+abbrev pub StoreStands : (words : ℕ) → Store → State → Type 0
+StoreStands words Vacant s = ⊥
+StoreStands words (One m) s = StandsWith (Properly (BumpStands m.space)) m.names s × (length m.space.mem ≡ words)
 
 -- The first where a script was served, the second where the run ended before its first line.
 abbrev pub IfServed : Status → (served unopened : Type 0) → Type 0

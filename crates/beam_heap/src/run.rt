@@ -1,12 +1,11 @@
-ghost use Rattle.std.specs.Prelude.{◌≡◌, ◌↔◌, ◌⊎◌, ℕ, ◌+◌, ◌<◌, ◌≤◌, length, IfSome, Option, List};
+ghost use Rattle.std.specs.Prelude.{◌≡◌, ◌↔◌, ℕ, ◌+◌, ◌<◌, ◌≤◌, length, IfSome, Option, List};
 ghost use Rattle.line_io.specs.Faults.{Rose};
 ghost use Rattle.line_io.specs.Reader.{limits_of};
 ghost use Rattle.plain_machine.specs.State.{first_state, State};
 ghost use Rattle.plain_machine.specs.May.{may_of_all_asked};
 ghost use Rattle.engine.specs.Acts.{StandsWith};
-ghost use Rattle.engine.specs.Serving.{IsNew, Served};
-ghost use Rattle.bump_space.specs.Bump.{BumpStands};
-ghost use Rattle.beam_heap.specs.Contract.{StoreStands, IfServed, IsComplete, arena_words, script_limits};
+ghost use Rattle.engine.specs.Serving.{IsNew, Served, TellsRead, TellsWrite};
+ghost use Rattle.beam_heap.specs.Contract.{StoreStands, IfServed, IsComplete};
 
 use crate::store::Store;
 use atom_names::AtomNames;
@@ -17,11 +16,11 @@ use script_parse::Code;
 use space_api::Space;
 use std::alloc::Global;
 
-// How many words the arena has (this project).
-const ARENA_WORDS: u64 = 1_048_576;
+/// How many words the arena has (this project).
+pub const ARENA_WORDS: u64 = 1_048_576;
 
-// How many lines and bytes a script may have (this project).
-const LIMITS: Limits = Limits {
+/// How many lines and bytes a script may have: 2^32 and 2^48 (this project).
+pub const LIMITS: Limits = Limits {
     lines: 4_294_967_296,
     bytes: 281_474_976_710_656,
 };
@@ -29,7 +28,7 @@ const LIMITS: Limits = Limits {
 /// A machine in its first state: process 1 lives, and there are no names.
 fn first_machine(alloc: Global) -> Option<Machine<BumpSpace>>
     ensures stands { IfSome result (λ m. StandsWith (⟦<BumpSpace as Space>⟧.stands m.space) m.names first_state) }
-    ensures words { IfSome result (λ m. ⟦<BumpSpace as Space>⟧.words m.space ≡ arena_words) }
+    ensures words { IfSome result (λ m. ⟦<BumpSpace as Space>⟧.words m.space ≡ ARENA_WORDS) }
     ensures calls { IfSome result (λ m. ⟦<BumpSpace as Space>⟧.calls m.space ≡ 0) }
     ensures named { IfSome result (λ m. ⟦<BumpSpace as Space>⟧.named m.space ≤ length m.names) }
 {
@@ -60,16 +59,18 @@ pub fn run<S: Source, K: Sink>(
     // Only the program's name may stand on the command line.
     ensures usage { result ≡ Status.Usage ↔ (1 < length words.now) }
 
-    // Each line was answered as by a machine of plain trees, and the store stands for its last state;
-    // else nothing was read or written, and the store is vacant.
+    // Each line was answered as by a machine of plain trees, and the store stands for its last state, over the arena of
+    // that many words; else nothing was read or written, and the store is vacant.
     ensures served { IfServed result
-        (Served may_of_all_asked arena_words first_state script_limits (StoreStands store.new)
-        (S.left source.old) (S.left source.new) K.wrote K.faults sink.old sink.new result)
+        (Served (record { supply = record { may = may_of_all_asked; words = ARENA_WORDS }; first = first_state; limits = LIMITS })
+        (record { before = S.left source.old; after = S.left source.new })
+        (record { wrote = K.wrote; faults = K.faults; before = sink.old; after = sink.new })
+        (StoreStands ARENA_WORDS store.new) result)
         ((store.new ≡ Store.Vacant) × (source.new ≡ source.old) × (sink.new ≡ sink.old)) }
 
-    // A fault of reading or writing has a fault of that object as its cause.
-    ensures read_fault { result ≡ Status.ReadFault → Rose (S.faults source.old) (S.faults source.new) }
-    ensures write_fault { result ≡ Status.WriteFault → Rose (K.faults sink.old) (K.faults sink.new) }
+    // A fault is told: the count of an object's faults rose where the status says so, and else is as before.
+    ensures read_told { TellsRead result (S.faults source.old) (S.faults source.new) }
+    ensures write_told { TellsWrite result (K.faults sink.old) (K.faults sink.new) }
 
     // Where there was memory and nothing failed, every line has its reply.
     ensures complete { IsComplete result (Rose (S.faults source.old) (S.faults source.new))

@@ -98,6 +98,11 @@ abbrev pub TellsRead : Status → (before now : ℕ) → Type 0
 TellsRead ReadFault before now = Rose before now
 TellsRead _ before now = now ≡ before
 
+-- The same of the sink and of writing.
+abbrev pub TellsWrite : Status → (before now : ℕ) → Type 0
+TellsWrite WriteFault before now = Rose before now
+TellsWrite _ before now = now ≡ before
+
 -- All lines that were read so far are done and answered, and serving goes on.
 pub record Going (rules : Rules) (source : Input) {K : Type 0} (out : Output K) (reader : LineReader) (Stands : State → Type 0) : Type 0 where
   pub bytes : List ℕ
@@ -115,7 +120,7 @@ abbrev pub Turns : {K : Type 0} → Turn → Rules → Input → Output K → Li
 Turns On rules source out reader Stands = Going rules source out reader Stands
 Turns (Stop status) rules source out reader Stands = Served rules source out Stands status
 
--- The same of a turn.
+-- What a turn tells of reading.
 abbrev pub TurnTellsRead : Turn → (before now : ℕ) → Type 0
 TurnTellsRead On before now = now ≡ before
 TurnTellsRead (Stop status) before now = TellsRead status before now
