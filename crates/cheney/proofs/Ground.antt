@@ -1,5 +1,5 @@
 -- What is true of all that the roots reach when a collection begins.
-use Rattle.std.proofs.Common.{◌≡◌, ℕ, ◌+◌, ◌/◌, ◌%◌, ◌<◌, ◌≤◌, ◌⊎◌, Bool, true, false, length, get_or, List, refl, sym, ◌∙◌, ap, subst, arith, inl, inr}
+use Rattle.std.proofs.Common.{◌≡◌, ℕ, ◌+◌, ◌/◌, ◌%◌, ◌<◌, ◌≤◌, ◌⊎◌, Bool, true, false, length, get_or, List, refl, sym, ◌∙◌, ap, subst, arith, inl, inr, Some}
 use Rattle.plain_term.specs.Tree.{Tree}
 use Rattle.plain_term.specs.Tree.Tree.{Int, Atom, Pid, Nil, Cons}
 use Rattle.term_words.specs.Object.{IsPointer}
@@ -11,6 +11,9 @@ use Rattle.term_words.proofs.Reached.{reached, scanned}
 use Rattle.term_words.proofs.Roles.{object-role}
 use Rattle.term_words.proofs.Rooms.{is-term}
 use Rattle.term_words.proofs.Shapes.{told}
+use Rattle.term_words.proofs.Tiles.{has-layout}
+use Rattle.term_tags.specs.Table.{layout_for}
+use Rattle.term_tags.specs.declared.layouts.Layout.{Layout}
 use Rattle.cheney.specs.Plan.{Plan, Ready, Reached, Leaves, IsIn, IsOutside, size, first}
 use Rattle.cheney.specs.Moved.{Shows}
 use Rattle.cheney.proofs.Basics.{not-both, size-cons, size-boxed}
@@ -19,6 +22,7 @@ pub record Ground (p : Plan) : Type 0 where
   pub inside : (v : ℕ) → Reached p v → IsPointer v → v / 4 + size p v ≤ length p.start
   pub head : (v : ℕ) → Reached p v → v % 4 ≡ 1 → get_or p.start (v / 4) 0 % 4 ≡ 0 → ⊥
   pub header : (v : ℕ) → Reached p v → v % 4 ≡ 2 → get_or p.start (v / 4) 0 % 4 ≡ 0
+  pub layout : (v : ℕ) → Reached p v → v % 4 ≡ 2 → (l : Layout) × (layout_for (get_or p.start (v / 4) 0) ≡ Some l)
   pub within : (v : ℕ) → Reached p v → IsPointer v → first p v ≤ size p v
   pub apart : (v w : ℕ) → Reached p v → IsPointer v → Reached p w → IsPointer w → (v ≡ w) ⊎ ((v / 4 + size p v ≤ w / 4) ⊎ (w / 4 + size p w ≤ v / 4))
   pub clear : (v q : ℕ) (b : Bool) → Reached p v → IsPointer v → IsIn p v q → (q < p.low b) ⊎ (p.high b ≤ q)
@@ -77,6 +81,7 @@ module _ (p : Plan) (y : Ready p) where
     inside = lies-inside;
     head = λ v r tag e. let (t, s) = stands-there v r in head-no-header p.test p.shared p.start v t s tag e;
     header = λ v r tag. let (t, s) = stands-there v r in header-there t v (get_or p.start (v / 4) 0) (told p.test p.shared p.start v t s) tag;
+    layout = λ v r tag. let (t, s) = stands-there v r in has-layout p.test p.shared p.start v t s tag;
     within = words-within;
     apart = one-or-apart;
     clear = λ v q b r i j. let (k, (small, h)) = role-there v q r i j in y.clear q k h b;

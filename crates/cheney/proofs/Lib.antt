@@ -5,6 +5,7 @@ pub mod Moves
 pub mod Writing
 pub mod Copying
 pub mod Steps
+pub mod Scanning
 pub mod Spans
 pub mod Homes
 pub mod Ends

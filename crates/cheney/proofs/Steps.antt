@@ -13,7 +13,7 @@ use Rattle.cheney.specs.Plan.{Plan, Reached, Leaves, size, first}
 use Rattle.cheney.specs.Moved.{moved, forward, IsImage, Copies}
 use Rattle.cheney.specs.Zones.{Marks, Gone, IsPart, IsCopy, Holds, Invariant, scanned_at, object_at, mark, at_objects}
 use Rattle.cheney.specs.Rooms.{FromMoves, top_of, Agrees, Runs, Advances}
-use Rattle.cheney.specs.Calls.{CanMove, Went, either, nowhere, Later, Evacuated, CanOpen, CanStep, RunsOn, Shape}
+use Rattle.cheney.specs.Calls.{CanMove, Copied, IsFresh, Went, either, nowhere, Later, Evacuated, CanOpen, CanStep, RunsOn, Shape}
 use Rattle.cheney.proofs.Basics.{moved-cons, moved-boxed, forward-cons, forward-boxed, true-or-false, not-both, reach-part, size-words, size-some, size-cons, size-boxed, first-cons, first-boxed}
 use Rattle.cheney.proofs.Ground.{Ground, ground}
 use Rattle.cheney.proofs.Facts.{Grows, copy-later, Without, without}
@@ -25,10 +25,10 @@ module _ (p : Plan) (mem : List ℕ) (mv : Moving) (k : Marks) (w : ℕ) (run : 
   lies : IsPointer w → w / 4 + size p w ≤ length mem
   lies i = let g : Ground p = ground p run.ready in omega (arith, g.inside w r i, run.holds.same_len)
 
-  header-same : Leaves p w → moved mem w ≡ false → get_or mem (w / 4) 0 ≡ get_or p.start (w / 4) 0
+  pub header-same : Leaves p w → moved mem w ≡ false → get_or mem (w / 4) 0 ≡ get_or p.start (w / 4) 0
   header-same l here = run.holds.waiting w (w / 4) r l here (record { from = omega arith; below = omega (arith, size-some p w l.pointer) })
 
-  leaves : IsPointer w → stays mv.stay (w / 4) ≡ false → Leaves p w
+  pub leaves : IsPointer w → stays mv.stay (w / 4) ≡ false → Leaves p w
   leaves i s = record { pointer = i; leaves = sym (run.agrees.stay (w / 4)) ∙ s }
 
   room-fits : Leaves p w → moved mem w ≡ false → top_of mv (p.mature (w / 4)) + size p w ≤ p.high (p.mature (w / 4))
@@ -99,9 +99,9 @@ pub boxed-some : (mem : List ℕ) (mv : Moving) (w : ℕ) → CanMove mem mv w �
 boxed-some mem mv w c tag = omega (arith, lies c.plan mem mv c.marks w c.runs c.reached (inr tag), size-some c.plan w (inr tag))
 
 -- The object went to the aged room.
-pub went-aged : (mem mem2 : List ℕ) (mv : Moving) (room : Room) (w x n : ℕ) → in_span mv.mature (w / 4) ≡ true → IsPointer w → stays mv.stay (w / 4) ≡ false → moved mem w ≡ false
-    → n ≡ object_words mem w → Copies mem mem2 w mv.aged.top n x → room ≡ record mv.aged { top = mv.aged.top + n } → Went mem mem2 mv (record mv { aged = room }) w x
-went-aged mem mem2 mv room w x n mature i s here size c e =
+copied-aged : (mem mem2 : List ℕ) (mv : Moving) (room : Room) (w x n : ℕ) → in_span mv.mature (w / 4) ≡ true → IsPointer w → stays mv.stay (w / 4) ≡ false → moved mem w ≡ false
+    → n ≡ object_words mem w → Copies mem mem2 w mv.aged.top n x → room ≡ record mv.aged { top = mv.aged.top + n } → Copied mem mem2 mv (record mv { aged = room }) w x
+copied-aged mem mem2 mv room w x n mature i s here size c e =
     let A : ℕ → Type 0 = λ z. Copies mem mem2 w mv.aged.top z x in
     let B : Bool → Type 0 = λ d. Copies mem mem2 w (top_of mv d) (object_words mem w) x in
     let top : room.top ≡ mv.aged.top + object_words mem w = ap (λ z. z.top) e ∙ ap (λ z. mv.aged.top + z) size in
@@ -117,12 +117,12 @@ went-aged mem mem2 mv room w x n mature i s here size c e =
       here = top;
       there = λ b. elim b as (λ d. (d ≡ true → ⊥) → top_of (record mv { aged = room }) d ≡ top_of mv d) [ true ↦ λ ne. absurd (ne refl) | false ↦ λ ne. refl ];
     } in
-    inr (inr (record { pointer = i; leaves = s; here = here; copies = subst B (sym mature) (subst A size c); grows = subst D (sym mature) adv }))
+    record { pointer = i; leaves = s; here = here; copies = subst B (sym mature) (subst A size c); grows = subst D (sym mature) adv }
 
 -- The object went to the young room.
-pub went-young : (mem mem2 : List ℕ) (mv : Moving) (room : Room) (w x n : ℕ) → in_span mv.mature (w / 4) ≡ false → IsPointer w → stays mv.stay (w / 4) ≡ false → moved mem w ≡ false
-    → n ≡ object_words mem w → Copies mem mem2 w mv.young.top n x → room ≡ record mv.young { top = mv.young.top + n } → Went mem mem2 mv (record mv { young = room }) w x
-went-young mem mem2 mv room w x n mature i s here size c e =
+copied-young : (mem mem2 : List ℕ) (mv : Moving) (room : Room) (w x n : ℕ) → in_span mv.mature (w / 4) ≡ false → IsPointer w → stays mv.stay (w / 4) ≡ false → moved mem w ≡ false
+    → n ≡ object_words mem w → Copies mem mem2 w mv.young.top n x → room ≡ record mv.young { top = mv.young.top + n } → Copied mem mem2 mv (record mv { young = room }) w x
+copied-young mem mem2 mv room w x n mature i s here size c e =
     let A : ℕ → Type 0 = λ z. Copies mem mem2 w mv.young.top z x in
     let B : Bool → Type 0 = λ d. Copies mem mem2 w (top_of mv d) (object_words mem w) x in
     let top : room.top ≡ mv.young.top + object_words mem w = ap (λ z. z.top) e ∙ ap (λ z. mv.young.top + z) size in
@@ -138,7 +138,7 @@ went-young mem mem2 mv room w x n mature i s here size c e =
       here = top;
       there = λ b. elim b as (λ d. (d ≡ false → ⊥) → top_of (record mv { young = room }) d ≡ top_of mv d) [ false ↦ λ ne. absurd (ne refl) | true ↦ λ ne. refl ];
     } in
-    inr (inr (record { pointer = i; leaves = s; here = here; copies = subst B (sym mature) (subst A size c); grows = subst D (sym mature) adv }))
+    record { pointer = i; leaves = s; here = here; copies = subst B (sym mature) (subst A size c); grows = subst D (sym mature) adv }
 
 pub later-same : (p : Plan) (mem : List ℕ) → Later p nowhere mem mem
 later-same p mem = record { gone = λ v r l y. y; same = λ v r l y. refl; elsewhere = λ q past a b. refl }
@@ -224,7 +224,7 @@ module _ (p : Plan) (mem mem2 : List ℕ) (mv mv2 : Moving) (k : Marks) (w x : �
       by-copy l o.here (subst B b (subst A n o.copies)) (subst D b (subst C n o.grows))
 
 -- The two words of a cons, by its tag.
-cons-words : (mem : List ℕ) (w : ℕ) → w % 4 ≡ 1 → object_words mem w ≡ 2
+pub cons-words : (mem : List ℕ) (w : ℕ) → w % 4 ≡ 1 → object_words mem w ≡ 2
 cons-words mem w tag = let one : (w % 4 == 1) ≡ true = grind (arith, nat_tests) in rw one refl
 
 boxed-words : (mem : List ℕ) (w : ℕ) → w % 4 ≡ 2 → object_words mem w ≡ 1 + get_or mem (w / 4) 0 / 64
@@ -249,8 +249,14 @@ spot mem mv w n b c i s here words e =
     let B : Bool → Type 0 = λ z. Spot mem mv w (object_words mem w) z in
     subst A words (subst B e (record { fits = o.fits; apart = o.apart; within = o.within }))
 
-pub cons-spot : (mem : List ℕ) (mv : Moving) (w head : ℕ) (b : Bool) → CanMove mem mv w → w % 4 ≡ 1 → false ≡ stays mv.stay (w / 4) → head ≡ get_or mem (w / 4) 0 → (head ≡ 0 → ⊥) → b ≡ in_span mv.mature (w / 4) → Spot mem mv w 2 b
-cons-spot mem mv w head b c tag s e ne m = spot mem mv w 2 b c (inl tag) (sym s) (cons-here mem w head tag e ne) (cons-words mem w tag) (sym m)
+pub is-fresh : (mem : List ℕ) (mv : Moving) (w head tail : ℕ) → w % 4 ≡ 1 → false ≡ stays mv.stay (w / 4) → head ≡ get_or mem (w / 4) 0 → (head ≡ 0 → ⊥) → tail ≡ get_or mem (w / 4 + 1) 0 → IsFresh mem mv w head tail
+is-fresh mem mv w head tail tag s h ne t = record { tag = tag; leaves = sym s; head_is = h; tail_is = t; here = ne }
+
+pub fresh-here : (mem : List ℕ) (mv : Moving) (w head tail : ℕ) → IsFresh mem mv w head tail → moved mem w ≡ false
+fresh-here mem mv w head tail f = cons-here mem w head f.tag f.head_is f.here
+
+pub cons-spot : (mem : List ℕ) (mv : Moving) (w head tail : ℕ) (b : Bool) → CanMove mem mv w → IsFresh mem mv w head tail → b ≡ in_span mv.mature (w / 4) → Spot mem mv w 2 b
+cons-spot mem mv w head tail b c f m = spot mem mv w 2 b c (inl f.tag) f.leaves (fresh-here mem mv w head tail f) (cons-words mem w f.tag) (sym m)
 
 pub boxed-spot : (mem : List ℕ) (mv : Moving) (w header : ℕ) (b : Bool) → CanMove mem mv w → w % 4 ≡ 2 → false ≡ stays mv.stay (w / 4) → header ≡ get_or mem (w / 4) 0 → (header % 4 ≡ 2 → ⊥) → b ≡ in_span mv.mature (w / 4) → Spot mem mv w (1 + header / 64) b
 boxed-spot mem mv w header b c tag s e ne m =
@@ -266,26 +272,26 @@ boxed-found mem mv w header tag s e z =
     let two : get_or mem (w / 4) 0 % 4 ≡ 2 = ap (λ x. x % 4) (sym e) ∙ z in
     inr (inl (record { word = e ∙ sym (forward-boxed mem w tag); mem_same = refl; mv_same = refl; pointer = inr tag; leaves = sym s; gone = moved-boxed mem w tag ∙ (rw two refl) }))
 
-pub cons-aged : (mem mem2 : List ℕ) (mv : Moving) (room : Room) (w head x : ℕ) → w % 4 ≡ 1 → false ≡ stays mv.stay (w / 4) → head ≡ get_or mem (w / 4) 0 → (head ≡ 0 → ⊥) → true ≡ in_span mv.mature (w / 4)
-    → Copies mem mem2 w mv.aged.top 2 x → room ≡ record mv.aged { top = mv.aged.top + 2 } → Went mem mem2 mv (record mv { aged = room }) w x
-cons-aged mem mem2 mv room w head x tag s e ne m c r = went-aged mem mem2 mv room w x 2 (sym m) (inl tag) (sym s) (cons-here mem w head tag e ne) (sym (cons-words mem w tag)) c r
+pub cons-aged : (mem mem2 : List ℕ) (mv : Moving) (room : Room) (w head tail x : ℕ) → IsFresh mem mv w head tail → true ≡ in_span mv.mature (w / 4)
+    → Copies mem mem2 w mv.aged.top 2 x → room ≡ record mv.aged { top = mv.aged.top + 2 } → Copied mem mem2 mv (record mv { aged = room }) w x
+cons-aged mem mem2 mv room w head tail x f m c r = copied-aged mem mem2 mv room w x 2 (sym m) (inl f.tag) f.leaves (fresh-here mem mv w head tail f) (sym (cons-words mem w f.tag)) c r
 
-pub cons-young : (mem mem2 : List ℕ) (mv : Moving) (room : Room) (w head x : ℕ) → w % 4 ≡ 1 → false ≡ stays mv.stay (w / 4) → head ≡ get_or mem (w / 4) 0 → (head ≡ 0 → ⊥) → false ≡ in_span mv.mature (w / 4)
-    → Copies mem mem2 w mv.young.top 2 x → room ≡ record mv.young { top = mv.young.top + 2 } → Went mem mem2 mv (record mv { young = room }) w x
-cons-young mem mem2 mv room w head x tag s e ne m c r = went-young mem mem2 mv room w x 2 (sym m) (inl tag) (sym s) (cons-here mem w head tag e ne) (sym (cons-words mem w tag)) c r
+pub cons-young : (mem mem2 : List ℕ) (mv : Moving) (room : Room) (w head tail x : ℕ) → IsFresh mem mv w head tail → false ≡ in_span mv.mature (w / 4)
+    → Copies mem mem2 w mv.young.top 2 x → room ≡ record mv.young { top = mv.young.top + 2 } → Copied mem mem2 mv (record mv { young = room }) w x
+cons-young mem mem2 mv room w head tail x f m c r = copied-young mem mem2 mv room w x 2 (sym m) (inl f.tag) f.leaves (fresh-here mem mv w head tail f) (sym (cons-words mem w f.tag)) c r
 
 pub boxed-aged : (mem mem2 : List ℕ) (mv : Moving) (room : Room) (w header x : ℕ) → w % 4 ≡ 2 → false ≡ stays mv.stay (w / 4) → header ≡ get_or mem (w / 4) 0 → (header % 4 ≡ 2 → ⊥) → true ≡ in_span mv.mature (w / 4)
     → Copies mem mem2 w mv.aged.top (1 + header / 64) x → room ≡ record mv.aged { top = mv.aged.top + (1 + header / 64) } → Went mem mem2 mv (record mv { aged = room }) w x
 boxed-aged mem mem2 mv room w header x tag s e ne m c r =
-    went-aged mem mem2 mv room w x (1 + header / 64) (sym m) (inr tag) (sym s) (boxed-here mem w header tag e ne) (sym (boxed-words mem w tag ∙ ap (λ z. 1 + z / 64) (sym e))) c r
+    inr (inr (copied-aged mem mem2 mv room w x (1 + header / 64) (sym m) (inr tag) (sym s) (boxed-here mem w header tag e ne) (sym (boxed-words mem w tag ∙ ap (λ z. 1 + z / 64) (sym e))) c r))
 
 pub boxed-young : (mem mem2 : List ℕ) (mv : Moving) (room : Room) (w header x : ℕ) → w % 4 ≡ 2 → false ≡ stays mv.stay (w / 4) → header ≡ get_or mem (w / 4) 0 → (header % 4 ≡ 2 → ⊥) → false ≡ in_span mv.mature (w / 4)
     → Copies mem mem2 w mv.young.top (1 + header / 64) x → room ≡ record mv.young { top = mv.young.top + (1 + header / 64) } → Went mem mem2 mv (record mv { young = room }) w x
 boxed-young mem mem2 mv room w header x tag s e ne m c r =
-    went-young mem mem2 mv room w x (1 + header / 64) (sym m) (inr tag) (sym s) (boxed-here mem w header tag e ne) (sym (boxed-words mem w tag ∙ ap (λ z. 1 + z / 64) (sym e))) c r
+    inr (inr (copied-young mem mem2 mv room w x (1 + header / 64) (sym m) (inr tag) (sym s) (boxed-here mem w header tag e ne) (sym (boxed-words mem w tag ∙ ap (λ z. 1 + z / 64) (sym e))) c r))
 
--- The word at the mark `scanned` is that of a part of the object there.
-raw-at : (p : Plan) (mem : List ℕ) (mv : Moving) (k : Marks) (b : Bool) (at : ℕ) → Runs p mem mv k → scanned_at k b ≡ at → (v from : ℕ) → IsCopy p mem b v from → from ≤ at → at < from + size p v
+-- A word from the mark `scanned` on is that of a part of the object there.
+pub raw-at : (p : Plan) (mem : List ℕ) (mv : Moving) (k : Marks) (b : Bool) (at : ℕ) → Runs p mem mv k → scanned_at k b ≤ at → (v from : ℕ) → IsCopy p mem b v from → from ≤ at → at < from + size p v
     → get_or mem at 0 ≡ get_or p.start (v / 4 + (at - from)) 0
 raw-at p mem mv k b at run s v from c low below =
     let G : Gone p mem (top_of mv) (scanned_at k) v (forward mem v) = run.holds.gone v c.reached c.leaves c.gone in
@@ -299,16 +305,16 @@ reached-there p mem mv k b at run s o =
     let low : o.from ≤ at = omega (arith, o.traced) in
     let below : at < o.from + size p o.v = omega (arith, o.below, o.ends) in
     let P : ℕ → Type 0 = λ x. Reached p x in
-    subst P (sym (raw-at p mem mv k b at run s o.v o.from o.copy low below)) (reach-part p o.v (at - o.from) o.copy.reached o.copy.leaves.pointer (omega (arith, o.traced)) (omega arith))
+    subst P (sym (raw-at p mem mv k b at run (omega (arith, s)) o.v o.from o.copy low below)) (reach-part p o.v (at - o.from) o.copy.reached o.copy.leaves.pointer (omega (arith, o.traced)) (omega arith))
 
-pub step-moves : (mem : List ℕ) (mv : Moving) (at : ℕ) → CanStep mem mv at → CanMove mem mv (get_or mem at 0)
-step-moves mem mv at c = record { plan = c.plan; marks = c.marks; runs = c.runs; reached = reached-there c.plan mem mv c.marks c.room at c.runs c.scanned c.part }
+pub step-moves : (mem : List ℕ) (mv : Moving) (b : Bool) (at w : ℕ) → CanStep mem mv b at → w ≡ get_or mem at 0 → CanMove mem mv w
+step-moves mem mv b at w c e = record { plan = c.plan; marks = c.marks; runs = c.runs; reached = let P : ℕ → Type 0 = λ z. Reached c.plan z in subst P (sym e) (reached-there c.plan mem mv c.marks b at c.runs c.scanned c.part) }
 
 -- A place in a room that is not scanned lies in the memory.
-pub step-within : (mem : List ℕ) (mv : Moving) (at : ℕ) → CanStep mem mv at → at < length mem
-step-within mem mv at c =
+pub step-within : (mem : List ℕ) (mv : Moving) (b : Bool) (at : ℕ) → CanStep mem mv b at → at < length mem
+step-within mem mv b at c =
     let g : Ground c.plan = ground c.plan c.runs.ready in
-    omega (arith, c.part.below, c.runs.holds.outer c.room, c.runs.holds.ends c.room, g.ends c.room, c.runs.holds.same_len)
+    omega (arith, c.part.below, c.runs.holds.outer b, c.runs.holds.ends b, g.ends b, c.runs.holds.same_len)
 
 module _ (p : Plan) (mem mem2 : List ℕ) (mv mv2 : Moving) (k : Marks) (b : Bool) (at x : ℕ) (run : Runs p mem mv k) (s : scanned_at k b ≡ at) (o : IsPart p mem k b at) (ev : Evacuated p mem mem2 mv2 k (get_or mem at 0) x) where
   part-on : IsPart p mem2 k b at
@@ -318,7 +324,7 @@ module _ (p : Plan) (mem mem2 : List ℕ) (mv mv2 : Moving) (k : Marks) (b : Boo
   word-on =
       let low : o.from ≤ at = omega (arith, o.traced) in
       let below : at < o.from + size p o.v = omega (arith, o.below, o.ends) in
-      raw-at p mem2 mv2 k b at ev.runs s o.v o.from (copy-later p mem mem2 b o.v o.from (later-grows p nowhere mem mem2 ev.later) o.copy) low below ∙ sym (raw-at p mem mv k b at run s o.v o.from o.copy low below)
+      raw-at p mem2 mv2 k b at ev.runs (omega (arith, s)) o.v o.from (copy-later p mem mem2 b o.v o.from (later-grows p nowhere mem mem2 ev.later) o.copy) low below ∙ sym (raw-at p mem mv k b at run (omega (arith, s)) o.v o.from o.copy low below)
 
   image-on : IsImage p mem2 (get_or mem2 at 0) x
   image-on = let P : ℕ → Type 0 = λ z. IsImage p mem2 z x in subst P (sym word-on) ev.image
@@ -345,8 +351,8 @@ module _ (p : Plan) (mem mem2 : List ℕ) (mv mv2 : Moving) (k : Marks) (b : Boo
       subst P (sym e) (write-part p g mem2 (top_of mv2) k ev.runs.holds b at x s part-on image-on more)
 
 -- A place in a room that is not scanned lies in the memory after the move too.
-pub step-after : (mem mem2 : List ℕ) (mv mv2 : Moving) (at x : ℕ) (c : CanStep mem mv at) → Evacuated c.plan mem mem2 mv2 c.marks (get_or mem at 0) x → at < length mem2
-step-after mem mem2 mv mv2 at x c ev = omega (arith, step-within mem mv at c, c.runs.holds.same_len, ev.runs.holds.same_len)
+pub step-after : (mem mem2 : List ℕ) (mv mv2 : Moving) (b : Bool) (at x : ℕ) (c : CanStep mem mv b at) → Evacuated c.plan mem mem2 mv2 c.marks (get_or mem at 0) x → at < length mem2
+step-after mem mem2 mv mv2 b at x c ev = omega (arith, step-within mem mv b at c, c.runs.holds.same_len, ev.runs.holds.same_len)
 
 -- The object at a place of a room is opened, and its words are gone through one by one.
 pub record Going (p : Plan) (mem mem2 : List ℕ) (mv2 : Moving) (k : Marks) (b : Bool) (at end : ℕ) : Type 0 where
@@ -360,7 +366,10 @@ shape-first p mem v place from words g r (inl tag) e sh =
     ((sh.pair ne).0 ∙ sym (first-cons p v tag), (sh.pair ne).1 ∙ sym (size-cons p v tag))
 shape-first p mem v place from words g r (inr tag) e sh =
     let h : get_or mem place 0 % 4 ≡ 0 = ap (λ x. x % 4) e ∙ g.header v r tag in
-    ((sh.boxed h).0 ∙ ap (λ x. first_of (layout_for x) (1 + x / 64)) e ∙ sym (first-boxed p v tag), (sh.boxed h).1 ∙ ap (λ x. 1 + x / 64) e ∙ sym (size-boxed p v tag))
+    let (l, is) = g.layout v r tag in
+    let (f, n) = sh.boxed h l (ap layout_for e ∙ is) in
+    let there : first_of (layout_for (get_or p.start (v / 4) 0)) (1 + get_or p.start (v / 4) 0 / 64) ≡ l.first = ap (λ z. first_of z (1 + get_or p.start (v / 4) 0 / 64)) is in
+    (f ∙ sym there ∙ sym (first-boxed p v tag), n ∙ ap (λ x. 1 + x / 64) e ∙ sym (size-boxed p v tag))
 
 pub record Opened (p : Plan) (mem : List ℕ) (mv : Moving) (k : Marks) (b : Bool) (place from words : ℕ) : Type 0 where
   pub going : Going p mem mem mv k b (place + from) (place + words)
@@ -411,8 +420,8 @@ going-on p mem mem2 mem3 mv2 mv3 k b at end go less on part =
     }
 
 -- The word that the loop is at can be stepped over.
-pub going-step : (p : Plan) (mem mem2 : List ℕ) (mv2 : Moving) (k : Marks) (b : Bool) (at end : ℕ) → Going p mem mem2 mv2 k b at end → at < end → CanStep mem2 mv2 at
-going-step p mem mem2 mv2 k b at end go less = record { plan = p; marks = mark k b at end; room = b; runs = go.on.runs; scanned = scanned-here k b at end; part = go.part less }
+pub going-step : (p : Plan) (mem mem2 : List ℕ) (mv2 : Moving) (k : Marks) (b : Bool) (at end : ℕ) → Going p mem mem2 mv2 k b at end → at < end → CanStep mem2 mv2 b at
+going-step p mem mem2 mv2 k b at end go less = record { plan = p; marks = mark k b at end; runs = go.on.runs; scanned = scanned-here k b at end; part = go.part less }
 
 -- At its end the object is done.
 pub gone-through : (p : Plan) (mem mem2 : List ℕ) (mv2 : Moving) (k : Marks) (b : Bool) (at end : ℕ) → Going p mem mem2 mv2 k b at end → end ≤ at → RunsOn p mem mem2 mv2 (mark k b end end)
@@ -439,11 +448,11 @@ aged-on p mem mem2 mem3 mv2 mv3 aged young next a b = record { runs = b.runs; la
 pub young-on : (p : Plan) (mem mem2 mem3 : List ℕ) (mv2 mv3 : Moving) (aged young next : ℕ) → RunsOn p mem mem2 mv2 (at_objects aged young) → RunsOn p mem2 mem3 mv3 (mark (at_objects aged young) false next next) → RunsOn p mem mem3 mv3 (at_objects aged next)
 young-on p mem mem2 mem3 mv2 mv3 aged young next a b = record { runs = b.runs; later = later-then p nowhere nowhere mem mem2 mem3 a.later b.later }
 
-pub can-open-aged : (p : Plan) (mem mem2 : List ℕ) (mv : Moving) (aged young : ℕ) → RunsOn p mem mem2 mv (at_objects aged young) → aged < mv.aged.top → CanOpen mem2 mv aged
-can-open-aged p mem mem2 mv aged young a less = record { plan = p; marks = at_objects aged young; room = true; runs = a.runs; scanned = refl; object = refl; below = less }
+pub can-open-aged : (p : Plan) (mem mem2 : List ℕ) (mv : Moving) (aged young : ℕ) → RunsOn p mem mem2 mv (at_objects aged young) → aged < mv.aged.top → CanOpen mem2 mv true aged
+can-open-aged p mem mem2 mv aged young a less = record { plan = p; marks = at_objects aged young; runs = a.runs; scanned = refl; object = refl; below = less }
 
-pub can-open-young : (p : Plan) (mem mem2 : List ℕ) (mv : Moving) (aged young : ℕ) → RunsOn p mem mem2 mv (at_objects aged young) → young < mv.young.top → CanOpen mem2 mv young
-can-open-young p mem mem2 mv aged young a less = record { plan = p; marks = at_objects aged young; room = false; runs = a.runs; scanned = refl; object = refl; below = less }
+pub can-open-young : (p : Plan) (mem mem2 : List ℕ) (mv : Moving) (aged young : ℕ) → RunsOn p mem mem2 mv (at_objects aged young) → young < mv.young.top → CanOpen mem2 mv false young
+can-open-young p mem mem2 mv aged young a less = record { plan = p; marks = at_objects aged young; runs = a.runs; scanned = refl; object = refl; below = less }
 
 pub all-scanned : (p : Plan) (mem mem2 : List ℕ) (mv : Moving) (aged young : ℕ) → RunsOn p mem mem2 mv (at_objects aged young) → mv.aged.top ≤ aged → mv.young.top ≤ young → RunsOn p mem mem2 mv (at_objects mv.aged.top mv.young.top)
 all-scanned p mem mem2 mv aged young a x y =

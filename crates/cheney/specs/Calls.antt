@@ -1,8 +1,8 @@
 -- What the calls of a collection ask and promise.
-use Rattle.std.specs.Prelude.{◌≡◌, ℕ, ◌+◌, ◌/◌, ◌%◌, ◌<◌, ◌⊎◌, ◌||◌, Bool, true, false, List, slice_index}
+use Rattle.std.specs.Prelude.{◌≡◌, ℕ, ◌+◌, ◌/◌, ◌%◌, ◌<◌, ◌⊎◌, ◌||◌, Bool, true, false, List, slice_index, Some}
 use Rattle.term_words.specs.Object.{IsPointer, object_words}
-use Rattle.term_words.specs.Reach.{first_of}
 use Rattle.term_tags.specs.Table.{layout_for}
+use Rattle.term_tags.specs.declared.layouts.Layout.{Layout}
 use Rattle.cheney.specs.declared.moving.Moving.{Moving}
 use Rattle.cheney.specs.Spans.{in_span}
 use Rattle.cheney.specs.Ranges.{stays}
@@ -42,6 +42,14 @@ pub record Copied (mem mem2 : List ℕ) (mv mv2 : Moving) (w x : ℕ) : Type 0 w
   pub copies : Copies mem mem2 w (top_of mv (in_span mv.mature (w / 4))) (object_words mem w) x
   pub grows : Advances mv mv2 (in_span mv.mature (w / 4)) (object_words mem w)
 
+-- The word names a cons that neither stays nor was moved, with this head and this tail.
+pub record IsFresh (mem : List ℕ) (mv : Moving) (w head tail : ℕ) : Type 0 where
+  pub tag : w % 4 ≡ 1
+  pub leaves : stays mv.stay (w / 4) ≡ false
+  pub head_is : head ≡ slice_index mem (w / 4)
+  pub tail_is : tail ≡ slice_index mem (w / 4 + 1)
+  pub here : head ≡ 0 → ⊥
+
 -- What becomes of a word.
 abbrev pub Went : List ℕ → List ℕ → Moving → Moving → ℕ → ℕ → Type 0
 Went mem mem2 mv mv2 w x = Stayed mem mem2 mv mv2 w x ⊎ (Found mem mem2 mv mv2 w x ⊎ Copied mem mem2 mv mv2 w x)
@@ -67,11 +75,10 @@ pub record Evacuated (p : Plan) (mem mem2 : List ℕ) (mv2 : Moving) (k : Marks)
   pub later : Later p nowhere mem mem2
   pub image : IsImage p mem2 w x
 
--- A collection runs, and a whole object of a room that is not scanned lies at the place.
-pub record CanOpen (mem : List ℕ) (mv : Moving) (place : ℕ) : Type 0 where
+-- A collection runs, and a whole object of the room, which is not scanned, lies at the place.
+pub record CanOpen (mem : List ℕ) (mv : Moving) (room : Bool) (place : ℕ) : Type 0 where
   pub plan : Plan
   pub marks : Marks
-  pub room : Bool
   pub runs : Runs plan mem mv marks
   pub scanned : scanned_at marks room ≡ place
   pub object : object_at marks room ≡ place
@@ -87,16 +94,22 @@ pub record CanScan (mem : List ℕ) (mv : Moving) : Type 0 where
   pub plan : Plan
   pub runs : Runs plan mem mv (at_objects mv.aged.start mv.young.start)
 
--- A collection runs, and a word that is not scanned lies at the place: the word of a traced part.
-pub record CanStep (mem : List ℕ) (mv : Moving) (place : ℕ) : Type 0 where
+-- A collection runs, and a word of the room that is not scanned lies at the place: the word of a traced part.
+pub record CanStep (mem : List ℕ) (mv : Moving) (room : Bool) (place : ℕ) : Type 0 where
   pub plan : Plan
   pub marks : Marks
-  pub room : Bool
   pub runs : Runs plan mem mv marks
   pub scanned : scanned_at marks room ≡ place
   pub part : IsPart plan mem marks room place
 
+-- A cons that was copied a moment ago lies at the place of the room, with this head and this tail, and is not scanned.
+pub record IsNext (mem : List ℕ) (mv : Moving) (room : Bool) (place head tail : ℕ) : Type 0 where
+  pub head_is : head ≡ slice_index mem place
+  pub tail_is : tail ≡ slice_index mem (place + 1)
+  pub no_header : head % 4 ≡ 0 → ⊥
+  pub below : place < top_of mv room
+
 -- The first traced word and the size of an object, by the word that it begins with: a word that is no header is the head of a cons.
 pub record Shape (word from words : ℕ) : Type 0 where
   pub pair : (word % 4 ≡ 0 → ⊥) → (from ≡ 0) × (words ≡ 2)
-  pub boxed : word % 4 ≡ 0 → (from ≡ first_of (layout_for word) (1 + word / 64)) × (words ≡ 1 + word / 64)
+  pub boxed : word % 4 ≡ 0 → (l : Layout) → layout_for word ≡ Some l → (from ≡ l.first) × (words ≡ 1 + word / 64)

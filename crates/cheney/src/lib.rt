@@ -11,6 +11,7 @@ mod moving;
 mod objects;
 mod parts;
 mod roots;
+mod spine;
 mod stay;
 #[cfg(test)]
 mod tests;

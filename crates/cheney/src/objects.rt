@@ -5,7 +5,7 @@ ghost use Rattle.cheney.specs.Moved.{Copies};
 ghost use Rattle.cheney.specs.Zones.{Marks};
 ghost use Rattle.cheney.specs.Ranges.{stays};
 ghost use Rattle.cheney.specs.Rooms.{FromMoves, Runs};
-ghost use Rattle.cheney.specs.Calls.{CanMove, Went, Evacuated};
+ghost use Rattle.cheney.specs.Calls.{CanMove, Copied, Evacuated, IsFresh, Went};
 ghost use Rattle.cheney.specs.Spans.{in_span};
 
 use crate::moving::Moving;
@@ -54,7 +54,17 @@ fn move_cons(mem: &mut WordMem, mv: &mut Moving, w: u64) -> u64
     if head == 0 {
         return tail;
     }
-    if is_in(&mv.mature, at) {
+    copy_cons(mem, mv, w, head, tail)
+}
+
+/// Copies a cons that neither stays nor was moved to the room where it goes, and answers its new word.
+#[inline]
+pub fn copy_cons(mem: &mut WordMem, mv: &mut Moving, w: u64, head: u64, tail: u64) -> u64
+    requires can { CanMove mem.old mv.old w }
+    requires fresh { IsFresh mem.old mv.old w head tail }
+    ensures { Copied mem.old mem.new mv.old mv.new w result }
+{
+    if is_in(&mv.mature, w / 4) {
         cons_to(mem, &mut mv.aged, w, head, tail)
     } else {
         cons_to(mem, &mut mv.young, w, head, tail)
@@ -84,7 +94,7 @@ fn move_boxed(mem: &mut WordMem, mv: &mut Moving, w: u64) -> u64
 
 // Whether what lies at the place stays.
 #[inline]
-fn stays_at(mv: &Moving, place: u64) -> bool
+pub fn stays_at(mv: &Moving, place: u64) -> bool
     requires { FromMoves mv.now }
     ensures { result ≡ stays mv.now.stay place }
 {
@@ -96,7 +106,7 @@ fn stays_at(mv: &Moving, place: u64) -> bool
 
 // Whether a span holds the place.
 #[inline]
-fn is_in(span: &Span, place: u64) -> bool
+pub fn is_in(span: &Span, place: u64) -> bool
     ensures { result ≡ in_span span.now place }
 {
     span.start <= place && place < span.end
@@ -126,6 +136,43 @@ fn cons_to(mem: &mut WordMem, room: &mut Room, w: u64, head: u64, tail: u64) -> 
     new
 }
 
+// The most words that are copied one by one: a call costs more.
+const FEW: u64 = 8;
+
+// Copies words to places that are apart from theirs.
+#[inline]
+fn copy_rest(mem: &mut WordMem, src: u64, dst: u64, n: u64)
+    requires source { src + n ≤ length mem.old }
+    requires target { dst + n ≤ length mem.old }
+    requires apart { (src + n ≤ dst) ⊎ (dst + n ≤ src) }
+    ensures same_len { length mem.new ≡ length mem.old }
+    ensures moved { (p q : ℕ) → dst ≤ q → q < dst + n → p + dst ≡ q + src → slice_index mem.new q ≡ slice_index mem.old p }
+    ensures kept { (q : ℕ) → (q < dst) ⊎ (dst + n ≤ q) → slice_index mem.new q ≡ slice_index mem.old q }
+{
+    if n <= FEW {
+        copy_few(mem, src, dst, n);
+    } else {
+        mem.copy_words(src, dst, n);
+    }
+}
+
+// The same, one word after the other.
+#[inline]
+fn copy_few(mem: &mut WordMem, src: u64, dst: u64, n: u64)
+    requires source { src + n ≤ length mem.old }
+    requires target { dst + n ≤ length mem.old }
+    requires apart { (src + n ≤ dst) ⊎ (dst + n ≤ src) }
+    ensures same_len { length mem.new ≡ length mem.old }
+    ensures moved { (p q : ℕ) → dst ≤ q → q < dst + n → p + dst ≡ q + src → slice_index mem.new q ≡ slice_index mem.old p }
+    ensures kept { (q : ℕ) → (q < dst) ⊎ (dst + n ≤ q) → slice_index mem.new q ≡ slice_index mem.old q }
+{
+    let _len = mem.len();
+    for i in 0..n {
+        let w = mem.get(src + i);
+        mem.set(dst + i, w);
+    }
+}
+
 // Copies an object with a header to the top of a room and leaves the new place in the old one.
 #[inline]
 fn boxed_to(mem: &mut WordMem, room: &mut Room, w: u64, header: u64) -> u64
@@ -141,7 +188,7 @@ fn boxed_to(mem: &mut WordMem, room: &mut Room, w: u64, header: u64) -> u64
     let at = w / 4;
     let to = room.top;
     let rest = header / 64;
-    mem.copy_words(at + 1, to + 1, rest);
+    copy_rest(mem, at + 1, to + 1, rest);
     mem.set(to, header);
     let new = to * 4 + 2;
     mem.set(at, new);

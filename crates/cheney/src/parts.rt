@@ -1,13 +1,17 @@
 // Moving the parts of what was moved.
-ghost use Rattle.std.specs.Prelude.{◌≡◌, ℕ, Bool, ◌+◌, ◌/◌, ◌%◌, ◌<◌, ◌≤◌, length, slice_index, slice_set};
+ghost use Rattle.std.specs.Prelude.{◌≡◌, ℕ, Bool, true, false, ◌+◌, ◌/◌, ◌%◌, ◌<◌, ◌≤◌, ◌⊎◌, length, slice_index, slice_set, Some};
+ghost use Rattle.term_words.specs.Object.{IsPointer};
+ghost use Rattle.term_tags.specs.Table.{layout_for};
+ghost use Rattle.term_tags.specs.declared.layouts.Layout.{Layout};
 ghost use Rattle.cheney.specs.Plan.{Plan};
 ghost use Rattle.cheney.specs.Zones.{Marks, IsPart, at_objects, mark, object_at, scanned_at};
 ghost use Rattle.cheney.specs.Rooms.{Runs, top_of};
-ghost use Rattle.cheney.specs.Calls.{CanScan, CanOpen, CanStep, RunsOn, Shape};
+ghost use Rattle.cheney.specs.Calls.{CanScan, CanOpen, CanStep, RunsOn};
 
 use crate::moving::Moving;
 use crate::objects::evacuate;
-use term_tags::layout_of;
+use crate::spine::scan_spine;
+use term_tags::{FUN, MAP, SUB_BIN, TUPLE};
 use word_mem::WordMem;
 
 /// Moves all parts of the objects that lie in the two rooms, and then the parts of these, until each moved object has
@@ -21,56 +25,95 @@ pub fn scan(mem: &mut WordMem, mv: &mut Moving)
     let mut young = mv.young.start;
     loop {
         if aged < mv.aged.top {
-            aged = scan_object(mem, mv, aged);
+            aged = scan_object(mem, mv, true, aged);
         } else if young < mv.young.top {
-            young = scan_object(mem, mv, young);
+            young = scan_object(mem, mv, false, young);
         } else {
             break;
         }
     }
 }
 
-// Moves the parts of the object at a place, and answers the place after it.
-fn scan_object(mem: &mut WordMem, mv: &mut Moving, place: u64) -> u64
-    requires { CanOpen mem.old mv.old place }
+// Moves the parts of the object at a place of the aged or of the young room, and of the conses of its list that lie right
+// behind it then; answers the place after these.
+#[inline]
+fn scan_object(mem: &mut WordMem, mv: &mut Moving, aged: bool, place: u64) -> u64
+    requires { CanOpen mem.old mv.old aged place }
+    ensures each { (p : Plan) (k : Marks) → Runs p mem.old mv.old k → scanned_at k aged ≡ place → object_at k aged ≡ place → place < top_of mv.old aged → RunsOn p mem.old mem.new mv.new (mark k aged result result) }
+    ensures further { place < result }
+    ensures ends { (mv.new.aged.end ≡ mv.old.aged.end) × (mv.new.young.end ≡ mv.old.young.end) }
+{
+    let _len = mem.len();
+    let word = mem.get(place);
+    if word % 4 == 0 {
+        scan_boxed(mem, mv, place, word)
+    } else {
+        scan_spine(mem, mv, aged, place, word)
+    }
+}
+
+// Moves the parts of the object with a header at a place, and answers the place after it.
+fn scan_boxed(mem: &mut WordMem, mv: &mut Moving, place: u64, header: u64) -> u64
+    requires can { (b : Bool) × CanOpen mem.old mv.old b place }
+    requires header { header ≡ slice_index mem.old place }
+    requires boxed { header % 4 ≡ 0 }
     ensures each { (p : Plan) (k : Marks) (b : Bool) → Runs p mem.old mv.old k → scanned_at k b ≡ place → object_at k b ≡ place → place < top_of mv.old b → RunsOn p mem.old mem.new mv.new (mark k b result result) }
     ensures further { place < result }
     ensures ends { (mv.new.aged.end ≡ mv.old.aged.end) × (mv.new.young.end ≡ mv.old.young.end) }
 {
     let _len = mem.len();
-    let (first, words) = shape_of(mem.get(place));
-    let end = place + words;
-    let mut at = place + first;
+    let end = place + (1 + header / 64);
+    let mut at = place + first_word(header);
     while at < end {
-        scan_word(mem, mv, at);
+        let w = mem.get(at);
+        scan_word(mem, mv, at, w);
         at += 1;
     }
     end
 }
 
-// Moves the part that the word at a place points to.
+/// Moves what the word at a place points to. A word that points to nothing is not written again.
 #[inline]
-fn scan_word(mem: &mut WordMem, mv: &mut Moving, at: u64)
-    requires { CanStep mem.old mv.old at }
+pub fn scan_word(mem: &mut WordMem, mv: &mut Moving, at: u64, w: u64)
+    requires can { (b : Bool) × CanStep mem.old mv.old b at }
+    requires word { w ≡ slice_index mem.old at }
     ensures each { (p : Plan) (k : Marks) (b : Bool) → Runs p mem.old mv.old k → scanned_at k b ≡ at → IsPart p mem.old k b at → RunsOn p mem.old mem.new mv.new (mark k b (at + 1) (object_at k b)) }
     ensures copies { (p : Plan) (k : Marks) (b : Bool) → Runs p mem.old mv.old k → scanned_at k b ≡ at → IsPart p mem.old k b at → at + 1 < object_at k b → IsPart p mem.new (mark k b (at + 1) (object_at k b)) b (at + 1) }
 {
-    let w = mem.get(at);
-    let new = evacuate(mem, mv, w);
-    mem.set(at, new);
+    if is_pointer(w) {
+        let new = evacuate(mem, mv, w);
+        mem.set(at, new);
+    }
 }
 
-// The first traced word of the object that begins with this word, and its size. A word that is no header is the head of
-// a cons.
+// Whether a word is a list pointer or a boxed one.
 #[inline]
-fn shape_of(word: u64) -> (u64, u64)
-    ensures { Shape word result.0 result.1 }
+fn is_pointer(w: u64) -> bool
+    ensures yes { result ≡ true → IsPointer w }
+    ensures no { result ≡ false → IsPointer w → ⊥ }
 {
-    if word % 4 != 0 {
-        return (0, 2);
+    let tag = w % 4;
+    tag == 1 || tag == 2
+}
+
+// The first traced word of the object with this header, counted from its place; its size, if it has none.
+#[inline]
+fn first_word(header: u64) -> u64
+    ensures first { (l : Layout) → layout_for header ≡ Some l → result ≡ l.first }
+    ensures most { result ≤ 6 ⊎ (result ≡ 1 + header / 64) }
+{
+    let subtag = (header / 4 % 16) as u8;
+    if subtag == TUPLE {
+        return 1;
     }
-    let Some(layout) = layout_of(word) else {
-        return (1 + word / 64, 1 + word / 64);
-    };
-    (layout.first, layout.words)
+    if subtag == MAP {
+        return 2;
+    }
+    if subtag == SUB_BIN {
+        return 4;
+    }
+    if subtag == FUN {
+        return 6;
+    }
+    1 + header / 64
 }

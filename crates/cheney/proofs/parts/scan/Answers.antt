@@ -12,12 +12,12 @@ scan_object-young-requires c = can-open-young c.requires.plan c.args.mem.now c.l
 pub loop-aged-preserved-then-aged-mv : goal.loop-aged-preserved-then-aged-mv
 loop-aged-preserved-then-aged-mv c = λ p run.
     aged-on p c.args.mem.now c.loop-aged.mem c.scan_object-aged.new.mem c.loop-aged.mv c.scan_object-aged.new.mv c.loop-aged.aged c.loop-aged.young c.scan_object-aged.result (c.loop-aged.invariant p run)
-    (c.scan_object-aged.ensures.each p (at_objects c.loop-aged.aged c.loop-aged.young) true (c.loop-aged.invariant p run).runs refl refl c.if-aged-mv.true)
+    (c.scan_object-aged.ensures.each p (at_objects c.loop-aged.aged c.loop-aged.young) (c.loop-aged.invariant p run).runs refl refl c.if-aged-mv.true)
 
 pub loop-aged-preserved : goal.loop-aged-preserved
 loop-aged-preserved c = λ p run.
     young-on p c.args.mem.now c.loop-aged.mem c.scan_object-young.new.mem c.loop-aged.mv c.scan_object-young.new.mv c.loop-aged.aged c.loop-aged.young c.scan_object-young.result (c.loop-aged.invariant p run)
-    (c.scan_object-young.ensures.each p (at_objects c.loop-aged.aged c.loop-aged.young) false (c.loop-aged.invariant p run).runs refl refl c.if-young-mv.true)
+    (c.scan_object-young.ensures.each p (at_objects c.loop-aged.aged c.loop-aged.young) (c.loop-aged.invariant p run).runs refl refl c.if-young-mv.true)
 
 pub returns : goal.returns
 returns c = λ p run. all-scanned p c.args.mem.now c.loop-aged.mem c.loop-aged.mv c.loop-aged.aged c.loop-aged.young (c.loop-aged.invariant p run) c.if-aged-mv.false c.if-young-mv.false

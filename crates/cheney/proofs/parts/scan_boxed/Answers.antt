@@ -1,0 +1,42 @@
+use Rattle.std.proofs.Common.{ℕ, subst, ◌+◌, ◌/◌}
+use Rattle.cheney.specs.Calls.{Shape}
+use Rattle.cheney.specs.Zones.{mark}
+use Rattle.cheney.proofs.Steps.{Going, opened-there, going-on, going-step, gone-through, same-ends, step-within}
+use Rattle.cheney.proofs.Scanning.{boxed-shape}
+use Rattle.cheney.proofs.Writing.{scanned-here}
+use Rattle.cheney.proofs.parts.scan_boxed.Goals as goal
+
+pub loop-at-init : goal.loop-at-init
+loop-at-init c = λ p k b run s o less.
+    let P : ℕ → Type 0 = λ x. Shape x c.first_word.result (1 + c.args.header / 64) in
+    (opened-there p c.args.mem.now c.args.mv.now k b c.args.place c.first_word.result (1 + c.args.header / 64) run s o less (subst P c.requires.header (boxed-shape c.args.header c.first_word.result c.requires.boxed c.first_word.ensures.first))).going
+
+pub get-w-requires : goal.get-w-requires
+get-w-requires c =
+    step-within c.loop-at.mem c.loop-at.mv c.requires.can.0 c.loop-at.at
+    (going-step c.requires.can.1.plan c.args.mem.now c.loop-at.mem c.loop-at.mv c.requires.can.1.marks c.requires.can.0 c.loop-at.at (c.args.place + (1 + c.args.header / 64))
+    (c.loop-at.invariant c.requires.can.1.plan c.requires.can.1.marks c.requires.can.0 c.requires.can.1.runs c.requires.can.1.scanned c.requires.can.1.object c.requires.can.1.below) c.loop-at-test.true)
+
+pub scan_word-requires-clause-can : goal.scan_word-requires-clause-can
+scan_word-requires-clause-can c = (
+  c.requires.can.0,
+  going-step c.requires.can.1.plan c.args.mem.now c.loop-at.mem c.loop-at.mv c.requires.can.1.marks c.requires.can.0 c.loop-at.at (c.args.place + (1 + c.args.header / 64))
+      (c.loop-at.invariant c.requires.can.1.plan c.requires.can.1.marks c.requires.can.0 c.requires.can.1.runs c.requires.can.1.scanned c.requires.can.1.object c.requires.can.1.below) c.loop-at-test.true,
+)
+
+pub loop-at-preserved : goal.loop-at-preserved
+loop-at-preserved c = λ p k b run s o less.
+    let end : ℕ = c.args.place + (1 + c.args.header / 64) in
+    let go : Going p c.args.mem.now c.loop-at.mem c.loop-at.mv k b c.loop-at.at (c.args.place + (1 + c.args.header / 64)) = c.loop-at.invariant p k b run s o less in
+    going-on p c.args.mem.now c.loop-at.mem c.scan_word.new.mem c.loop-at.mv c.scan_word.new.mv k b c.loop-at.at (c.args.place + (1 + c.args.header / 64)) go c.loop-at-test.true
+    (c.scan_word.ensures.each p (mark k b c.loop-at.at (c.args.place + (1 + c.args.header / 64))) b go.on.runs (scanned-here k b c.loop-at.at (c.args.place + (1 + c.args.header / 64))))
+    (c.scan_word.ensures.copies p (mark k b c.loop-at.at (c.args.place + (1 + c.args.header / 64))) b go.on.runs (scanned-here k b c.loop-at.at (c.args.place + (1 + c.args.header / 64))))
+
+pub returns-clause-each : goal.returns-clause-each
+returns-clause-each c = λ p k b run s o less.
+    gone-through p c.args.mem.now c.loop-at.mem c.loop-at.mv k b c.loop-at.at (c.args.place + (1 + c.args.header / 64)) (c.loop-at.invariant p k b run s o less) c.loop-at-test.false
+
+pub returns-clause-ends : goal.returns-clause-ends
+returns-clause-ends c =
+    same-ends c.requires.can.1.plan c.args.mem.now c.loop-at.mem c.args.mv.now c.loop-at.mv c.requires.can.1.marks (mark c.requires.can.1.marks c.requires.can.0 c.loop-at.at (c.args.place + (1 + c.args.header / 64))) c.requires.can.1.runs
+    (c.loop-at.invariant c.requires.can.1.plan c.requires.can.1.marks c.requires.can.0 c.requires.can.1.runs c.requires.can.1.scanned c.requires.can.1.object c.requires.can.1.below).on.runs
