@@ -24,26 +24,3 @@ pub fn next_size(n: u64) -> Option<u64>
     }
     None
 }
-
-#[cfg(test)]
-mod tests {
-    use super::*;
-
-    #[test]
-    fn answers_the_least_size_that_is_enough(rt: HostRuntime) {
-        let rows = [
-            (0, Some(12)),
-            (12, Some(12)),
-            (13, Some(38)),
-            (233, Some(233)),
-            (234, Some(376)),
-            (833_026, Some(833_026)),
-            (833_027, Some(999_631)),
-            (15_401_305, Some(15_401_305)),
-            (15_401_306, None),
-        ];
-        for (n, size) in rows {
-            assert_eq!(rt; next_size(n), size);
-        }
-    }
-}

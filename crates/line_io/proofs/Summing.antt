@@ -1,5 +1,5 @@
 -- How the numbers of some bytes, and the state of their line begun, go on with one byte more.
-use Rattle.std.proofs.Common.{◌≡◌, ℕ, zero, suc, ◌+◌, ◌*◌, ◌%◌, ◌^◌, ◌<◌, ◌==◌, ◌&&◌, ◌||◌, Bool, true, false, cond, nat_lt, nat_eq, Option, Some, None, List, [], ◌∷◌, ◌++◌, length, refl, sym, ap, subst, ◌∙◌, arith, append_assoc, append-nil, length-append, slice_index}
+use Rattle.std.proofs.Common.{◌≡◌, ℕ, suc, ◌+◌, ◌*◌, ◌%◌, ◌^◌, ◌<◌, ◌==◌, ◌&&◌, ◌||◌, Bool, true, false, cond, nat_lt, Option, Some, None, List, [], ◌∷◌, ◌++◌, length, refl, sym, ap, subst, ◌∙◌, arith, append-nil, length-append, slice_index}
 use Rattle.std.proofs.lemmas.List.Folds.{list_any-append}
 use Rattle.std.proofs.lemmas.List.Sums.{sum_by-cons}
 use Rattle.std.proofs.lemmas.Bool.Decides.{nat_tests}
@@ -7,7 +7,6 @@ use Rattle.std.specs.List.{list_any, count_by}
 use Rattle.line_io.specs.Lines.{is_end, onto_first, pieces}
 use Rattle.line_io.specs.Reader.{IsOpen}
 use Rattle.line_io.specs.Summary.{begins_with, completes, error_begun, error_lines, front_of, further, line_begun, one_more, sum_from, summary_of}
-use Rattle.line_io.specs.declared.sum_sink.Summary.{Summary}
 use Rattle.line_io.specs.declared.sum_sink.TheConstants.{ERROR_WORD}
 use Rattle.line_io.proofs.Pieces.{IsOpen-append, or-true, or-false_end, pieces-first, pieces-open}
 

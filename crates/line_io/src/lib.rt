@@ -26,6 +26,3 @@ pub use std_sink::StdSink;
 pub use std_source::StdSource;
 pub use sum_sink::{SumSink, Summary};
 pub use sure_source::SureSource;
-
-#[cfg(test)]
-mod tests;

@@ -6,8 +6,6 @@ mod item;
 pub mod laws;
 mod measures;
 mod reading;
-#[cfg(test)]
-mod tests;
 mod tree;
 
 pub use comparison::order;

@@ -4,8 +4,6 @@
 mod fault;
 mod mem;
 mod ranges;
-#[cfg(test)]
-mod tests;
 mod words;
 
 pub use fault::OpenFault;

@@ -1,0 +1,21 @@
+//! Tests of the crates below, which need no test of their own: tables of rows, each looked at by a small function.
+#![tactic(auto)]
+
+#[cfg(test)]
+mod lines;
+#[cfg(test)]
+mod names;
+#[cfg(test)]
+mod ordering;
+#[cfg(test)]
+mod sizes;
+#[cfg(test)]
+mod std_edges;
+#[cfg(test)]
+mod sums;
+#[cfg(test)]
+mod trees;
+#[cfg(test)]
+mod words;
+#[cfg(test)]
+mod writes;

@@ -1,0 +1,187 @@
+// What std's readers and writers do, as sources and sinks tell it.
+ghost use Rattle.std.specs.Prelude.{◌≤◌, IfOk};
+
+use line_io::{Got, Sink, Source, StdSink, StdSource, Took, put_all};
+use std::alloc::Global;
+use std::io;
+use std::io::{ErrorKind, Read, Write};
+use std::test::Fail;
+
+// What a reader or writer does at a call: it gives or takes at most so many bytes, is interrupted, or fails.
+#[derive(Clone, Copy)]
+enum Turn {
+    Moves(usize),
+    Interrupt,
+    Break,
+}
+
+// A reader of the byte `x` and a writer that does its turns one after the other, and then the last one for ever.
+#[derive(Drop)]
+struct Scripted<'a> {
+    turns: &'a [Turn],
+    last: Turn,
+}
+
+impl<'a> Scripted<'a> {
+    fn turn(&mut self, len: usize) -> io::Result<usize>
+        ensures { IfOk result (λ n. n ≤ len) }
+    {
+        match self.next_turn() {
+            Turn::Moves(n) => Ok(len.min(n)),
+            Turn::Interrupt => Err(io::Error::from(ErrorKind::Interrupted)),
+            Turn::Break => Err(io::Error::from(ErrorKind::BrokenPipe)),
+        }
+    }
+
+    fn next_turn(&mut self) -> Turn {
+        match self.turns.split_first() {
+            Some((turn, others)) => {
+                self.turns = others;
+                *turn
+            }
+            None => self.last,
+        }
+    }
+}
+
+impl<'a> Read for Scripted<'a> {
+    fn read(&mut self, buf: &mut [u8]) -> io::Result<usize> {
+        let n = self.turn(buf.len())?;
+        buf[..n].fill(b'x');
+        Ok(n)
+    }
+}
+
+impl<'a> Write for Scripted<'a> {
+    fn write(&mut self, bytes: &[u8]) -> io::Result<usize> {
+        self.turn(bytes.len())
+    }
+
+    fn flush(&mut self) -> io::Result<()> {
+        self.turn(0)?;
+        Ok(())
+    }
+}
+
+// What a read is to bring.
+enum Reading {
+    Bytes(usize),
+    End,
+    Fault,
+}
+
+// The turns of a reader, what it does from then on, and what reads into four bytes bring.
+const READS: [(&[Turn], Turn, &[Reading]); 4] = [
+    (
+        &[Turn::Moves(2), Turn::Break, Turn::Moves(9), Turn::Break],
+        Turn::Moves(0),
+        &[
+            Reading::Bytes(2),
+            Reading::Fault,
+            Reading::Bytes(4),
+            Reading::Fault,
+            Reading::End,
+        ],
+    ),
+    (
+        &[Turn::Interrupt, Turn::Moves(3), Turn::Interrupt],
+        Turn::Moves(0),
+        &[Reading::Bytes(3), Reading::End],
+    ),
+    (&[Turn::Interrupt], Turn::Break, &[Reading::Fault]),
+    (&[], Turn::Interrupt, &[Reading::Fault, Reading::Fault]),
+];
+
+fn is_reading(got: Got, buf: &[u8], reading: &Reading) -> bool {
+    match reading {
+        Reading::Bytes(count) => {
+            matches!(got, Got::Got(_)) && buf.iter().filter(|b| **b == b'x').count() == *count
+        }
+        Reading::End => matches!(got, Got::End),
+        Reading::Fault => matches!(got, Got::Failed),
+    }
+}
+
+fn reads_as(turns: &[Turn], last: Turn, readings: &[Reading]) -> bool {
+    let mut source = StdSource::new(Scripted { turns, last });
+    for reading in readings {
+        let mut buf = *b"abcd";
+        let got = source.read(&mut buf);
+        if !is_reading(got, &buf, reading) {
+            return false;
+        }
+    }
+    true
+}
+
+#[test]
+fn a_reader_of_std_gives_its_bytes_its_faults_and_its_end(rt: HostRuntime) {
+    for (turns, last, readings) in &READS {
+        assert!(rt; reads_as(turns, *last, readings));
+    }
+}
+
+// The turns of a write of four bytes and of the flush after it, and how many bytes are told; none for a fault.
+const WRITES: [(&[Turn], Option<usize>); 10] = [
+    (&[Turn::Moves(2), Turn::Moves(0)], Some(2)),
+    (&[Turn::Moves(9), Turn::Moves(0)], Some(4)),
+    (&[Turn::Moves(0), Turn::Moves(0)], None),
+    (&[Turn::Moves(0), Turn::Break], None),
+    (&[Turn::Moves(4), Turn::Break], None),
+    (&[Turn::Break, Turn::Moves(0)], None),
+    (&[Turn::Interrupt, Turn::Moves(3), Turn::Moves(0)], Some(3)),
+    (&[Turn::Moves(3), Turn::Interrupt, Turn::Moves(0)], Some(3)),
+    (&[], None),
+    (&[Turn::Moves(4)], None),
+];
+
+fn takes_as(turns: &[Turn], taken: Option<usize>) -> bool {
+    let last = Turn::Interrupt;
+    let mut sink = StdSink::new(Scripted { turns, last });
+    match sink.write(b"abcd") {
+        Took::Took(n) => taken == Some(n),
+        Took::Failed => taken.is_none(),
+    }
+}
+
+#[test]
+fn a_writer_of_std_takes_bytes_or_fails(rt: HostRuntime) {
+    for (turns, taken) in &WRITES {
+        assert!(rt; takes_as(turns, *taken));
+    }
+}
+
+// A writer that takes at most 300 bytes at once, and keeps them.
+#[derive(Drop)]
+struct Keeps<'a> {
+    kept: &'a mut Vec<u8>,
+}
+
+impl<'a> Write for Keeps<'a> {
+    fn write(&mut self, bytes: &[u8]) -> io::Result<usize> {
+        let n = bytes.len().min(300);
+        self.kept.extend_from_slice(&bytes[..n])?;
+        Ok(n)
+    }
+
+    fn flush(&mut self) -> io::Result<()> {
+        Ok(())
+    }
+}
+
+fn parts_arrive(alloc: Global) -> Result<bool, Fail> {
+    let mut bytes = Vec::new(alloc);
+    for i in 0..1024u32 {
+        bytes.push((i % 251) as u8)?;
+    }
+    let mut kept = Vec::new(alloc);
+    let mut sink = StdSink::new(Keeps { kept: &mut kept });
+    let written = put_all(&mut sink, bytes.as_slice()).is_ok();
+    Ok(written && kept.as_slice() == bytes.as_slice())
+}
+
+#[test]
+fn bytes_that_are_taken_in_parts_arrive_in_order(rt: HostRuntime) -> Result<(), Fail> {
+    assert!(rt; parts_arrive(rt.alloc())?);
+    Ok(())
+}

@@ -1,0 +1,42 @@
+// Trees of written terms, and their measures.
+use plain_term::{Item, Tree, TreeFault, depth, flat, nodes};
+use std::alloc::Global;
+
+// Items, and the nodes, the depth and the flat size of their tree; none where they are no whole term.
+const ROWS: [(&[Item], Option<[u64; 3]>); 8] = [
+    (&[], None),
+    (&[Item::Cons, Item::Int(1)], None),
+    (&[Item::Nil, Item::Nil], None),
+    (&[Item::Held(0)], None),
+    (&[Item::Tuple(0)], Some([1, 1, 1])),
+    (&[Item::Int(-576_460_752_303_423_489)], Some([1, 0, 2])),
+    (
+        &[Item::Bin(2), Item::Byte(1), Item::Byte(2)],
+        Some([2, 0, 3]),
+    ),
+    (
+        &[
+            Item::Tuple(2),
+            Item::Int(1),
+            Item::Cons,
+            Item::Int(2),
+            Item::Nil,
+        ],
+        Some([5, 2, 5]),
+    ),
+];
+
+fn measures_as(alloc: Global, items: &[Item], measures: &Option<[u64; 3]>) -> bool {
+    match Tree::of_items(alloc, items) {
+        Ok(tree) => *measures == Some([nodes(&tree), depth(&tree), flat(&tree)]),
+        Err(TreeFault::Items) => measures.is_none(),
+        Err(TreeFault::Memory) => false,
+    }
+}
+
+#[test]
+fn written_terms_have_their_measures(rt: HostRuntime) {
+    for (items, measures) in &ROWS {
+        assert!(rt; measures_as(rt.alloc(), items, measures));
+    }
+}
