@@ -1,0 +1,174 @@
+// Scripts at the limits, too long to be written out.
+use super::is_answered;
+use itoa::Buffer;
+use std::alloc::Global;
+use std::test::Fail;
+
+// A part of a text: it stands once or several times, or is the number of its block.
+#[derive(Clone, Copy)]
+enum Part {
+    Once(&'static [u8]),
+    Times(&'static [u8], usize),
+    Number,
+}
+
+// Lines and replies, for each number from `first` to before `past`.
+struct Block {
+    first: u64,
+    past: u64,
+    script: &'static [Part],
+    replies: &'static [Part],
+}
+
+// Blocks one after the other, and what they show.
+struct Grown {
+    name: &'static str,
+    blocks: &'static [Block],
+}
+
+const GROWN: [Grown; 5] = [
+    Grown {
+        name: "faulty lines are refused one by one, and the last line needs no end",
+        blocks: &[Block {
+            first: 0,
+            past: 1,
+            script: &[
+                Part::Times(b"a", 4097),
+                Part::Once(b"\n1 set 0 {1,\n1 set 0 \xc3\n1 print 16\n1 print 0"),
+            ],
+            replies: &[Part::Once(b"error long\nerror syntax\nerror syntax\nerror syntax\n[]\n")],
+        }],
+    },
+    Grown {
+        name: "lines of 4,095, 4,096 and 4,097 bytes, and 256 and 257 levels of brackets",
+        blocks: &[Block {
+            first: 0,
+            past: 1,
+            script: &[
+                Part::Times(b"a", 4097),
+                Part::Once(b"\n1 set 0 {}"),
+                Part::Times(b" ", 4085),
+                Part::Once(b"\n1 set 0 {}"),
+                Part::Times(b" ", 4086),
+                Part::Once(b"\n1 set 0 {}"),
+                Part::Times(b" ", 4087),
+                Part::Once(b"\n1 set 0 "),
+                Part::Times(b"{", 256),
+                Part::Times(b"}", 256),
+                Part::Once(b"\n1 set 0 "),
+                Part::Times(b"{", 257),
+                Part::Times(b"}", 257),
+                Part::Once(b"\n"),
+            ],
+            replies: &[Part::Once(b"error long\nok\nok\nerror long\nok\nerror syntax\n")],
+        }],
+    },
+    Grown {
+        name: "words are never used twice: 257 lines of 4,095 bytes, each of which asks for 4,086 words",
+        blocks: &[
+            Block {
+                first: 0,
+                past: 257,
+                script: &[
+                    Part::Once(b"1 set 0 [1"),
+                    Part::Times(b",1", 2042),
+                    Part::Once(b"]\n"),
+                ],
+                replies: &[],
+            },
+            Block {
+                first: 0,
+                past: 1,
+                script: &[],
+                replies: &[
+                    Part::Times(b"ok\n", 256),
+                    Part::Once(b"error nospace 4086\n"),
+                ],
+            },
+        ],
+    },
+    Grown {
+        name: "1,024 processes may live",
+        blocks: &[
+            Block {
+                first: 2,
+                past: 1025,
+                script: &[Part::Once(b"sys spawn\n")],
+                replies: &[Part::Once(b"ok "), Part::Number, Part::Once(b"\n")],
+            },
+            Block {
+                first: 0,
+                past: 1,
+                script: &[Part::Once(b"sys spawn\n")],
+                replies: &[Part::Once(b"error procs\n")],
+            },
+        ],
+    },
+    Grown {
+        name: "16,384 names may stand, and a refused line brings none",
+        blocks: &[
+            Block {
+                first: 0,
+                past: 16384,
+                script: &[Part::Once(b"1 set 0 a"), Part::Number, Part::Once(b"\n")],
+                replies: &[Part::Once(b"ok\n")],
+            },
+            Block {
+                first: 0,
+                past: 1,
+                script: &[Part::Once(b"1 set 0 fresh\n99 set 0 fresh\n1 set 0 {}\n1 set 0 a7\n")],
+                replies: &[Part::Once(b"error atoms\nerror atoms\nok\nok\n")],
+            },
+        ],
+    },
+];
+
+// Appends the parts of a text.
+fn push_parts(text: &mut Vec<u8>, parts: &[Part], number: u64) -> Result<(), Fail> {
+    for part in parts {
+        match *part {
+            Part::Once(bytes) => text.extend_from_slice(bytes)?,
+            Part::Times(bytes, times) => push_times(text, bytes, times)?,
+            Part::Number => {
+                let mut buffer = Buffer::new();
+                text.extend_from_slice(buffer.format(number).as_bytes())?;
+            }
+        }
+    }
+    Ok(())
+}
+
+// Appends bytes so many times.
+fn push_times(text: &mut Vec<u8>, bytes: &[u8], times: usize) -> Result<(), Fail> {
+    for _ in 0..times {
+        text.extend_from_slice(bytes)?;
+    }
+    Ok(())
+}
+
+// Appends a block to a script and to its replies.
+fn push_block(script: &mut Vec<u8>, replies: &mut Vec<u8>, block: &Block) -> Result<(), Fail> {
+    for number in block.first..block.past {
+        push_parts(script, block.script, number)?;
+        push_parts(replies, block.replies, number)?;
+    }
+    Ok(())
+}
+
+// Whether the blocks are answered as they say.
+fn are_answered(alloc: Global, blocks: &[Block]) -> Result<bool, Fail> {
+    let mut script = Vec::new(alloc);
+    let mut replies = Vec::new(alloc);
+    for block in blocks {
+        push_block(&mut script, &mut replies, block)?;
+    }
+    is_answered(alloc, script.as_slice(), replies.as_slice())
+}
+
+#[test]
+fn limits_are_kept(rt: HostRuntime) -> Result<(), Fail> {
+    for row in &GROWN {
+        assert!(rt; are_answered(rt.alloc(), row.blocks)?, "{}", row.name);
+    }
+    Ok(())
+}
