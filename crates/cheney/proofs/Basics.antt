@@ -4,12 +4,9 @@ use Rattle.std.proofs.lemmas.Bool.Decides.{nat_tests}
 use Rattle.term_words.specs.Object.{IsPointer, object_words}
 use Rattle.term_words.specs.Reach.{first_of, part}
 use Rattle.term_tags.specs.Table.{layout_for}
+use Rattle.term_words.proofs.Members.{one-or-not, pointer-or-not, true-or-false}
 use Rattle.cheney.specs.Plan.{Plan, Reached, Leaves, IsIn, size, first}
 use Rattle.cheney.specs.Moved.{moved, forward, Shows}
-
-pub true-or-false : (b : Bool) → (b ≡ true) ⊎ (b ≡ false)
-true-or-false true = inl refl
-true-or-false false = inr refl
 
 tested : Bool → Type 0
 tested true = Unit {0}
@@ -24,18 +21,6 @@ same-room true true = inl refl
 same-room true false = inr (λ e. not-both true refl e)
 same-room false true = inr (λ e. not-both true refl (sym e))
 same-room false false = inl refl
-
-pub one-or-not : (a b : ℕ) → (a ≡ b) ⊎ (a ≡ b → ⊥)
-one-or-not a b =
-    let order : (a ≡ b) ⊎ ((a < b) ⊎ (b < a)) = grind arith in
-    elim order [ inl e ↦ inl e | inr (inl l) ↦ inr (λ e. omega arith) | inr (inr l) ↦ inr (λ e. omega arith) ]
-
-pub pointer-or-not : (w : ℕ) → IsPointer w ⊎ (IsPointer w → ⊥)
-pointer-or-not w =
-    elim (one-or-not (w % 4) 1) [
-      | inl a ↦ inl (inl a)
-      | inr a ↦ elim (one-or-not (w % 4) 2) [ inl b ↦ inl (inr b) | inr b ↦ inr (λ x. elim x [ inl c ↦ a c | inr c ↦ b c ]) ]
-    ]
 
 pub leaves-or-not : (p : Plan) (w : ℕ) → Leaves p w ⊎ (Leaves p w → ⊥)
 leaves-or-not p w =

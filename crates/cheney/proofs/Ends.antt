@@ -8,11 +8,13 @@ use Rattle.term_words.specs.Object.{IsPointer, object_words}
 use Rattle.term_words.specs.Reach.{Reach, root, part, first_traced}
 use Rattle.term_words.specs.Role.{always}
 use Rattle.term_words.specs.Stands.{Stands, AllStand}
-use Rattle.cheney.specs.Plan.{Plan, Ready, Reached, Leaves, In, total, size, first}
+use Rattle.term_words.specs.Counted.{In, total}
+use Rattle.cheney.specs.Plan.{Plan, Ready, Reached, Leaves, size, first}
 use Rattle.cheney.specs.Moved.{moved, forward, IsImage}
 use Rattle.cheney.specs.Zones.{Marks, IsCopy, Row, IsRow, Gone, Invariant, scanned_at}
 use Rattle.cheney.specs.Collected.{IsMoved, IsFilled, IsLeftOrMoved, Follows, Collected, AreImages, Composes}
-use Rattle.cheney.proofs.Basics.{moved-boxed, true-or-false, same-room, not-both, leaves-or-not, reach-part, size-some, size-cons, size-boxed, first-cons, first-boxed}
+use Rattle.term_words.proofs.Members.{true-or-false}
+use Rattle.cheney.proofs.Basics.{moved-boxed, same-room, not-both, leaves-or-not, reach-part, size-some, size-cons, size-boxed, first-cons, first-boxed}
 use Rattle.cheney.proofs.Counts.{words-bounded}
 use Rattle.cheney.proofs.Ground.{Ground, not-shown, shown-header, stay-not-shown}
 use Rattle.cheney.proofs.Homes.{Home, Settled, settled}
@@ -45,7 +47,7 @@ covers p m b place (v ∷ vs) top q (c, row) low high =
     ]
 
 -- The words of a row are those of its objects.
-pub row-total : (p : Plan) (m : List ℕ) (b : Bool) (place : ℕ) (vs : List ℕ) (top : ℕ) → Row p m b place vs top → place + total p vs ≡ top
+pub row-total : (p : Plan) (m : List ℕ) (b : Bool) (place : ℕ) (vs : List ℕ) (top : ℕ) → Row p m b place vs top → place + total (size p) vs ≡ top
 row-total p m b place [] top row = omega (arith, row)
 row-total p m b place (v ∷ vs) top (c, row) = omega (arith, row-total p m b (place + size p v) vs top row)
 

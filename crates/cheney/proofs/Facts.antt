@@ -1,6 +1,7 @@
 -- What a step keeps of what was moved, of images and of rows.
 use Rattle.std.proofs.Common.{◌≡◌, ℕ, ◌+◌, Bool, true, List, [], ◌∷◌, ◌++◌, sym, ◌∙◌, ap, subst, arith, inl, inr}
-use Rattle.cheney.specs.Plan.{Plan, Reached, Leaves, In, total, size}
+use Rattle.term_words.specs.Counted.{In, total}
+use Rattle.cheney.specs.Plan.{Plan, Reached, Leaves, size}
 use Rattle.cheney.specs.Moved.{moved, forward, IsImage}
 use Rattle.cheney.specs.Zones.{IsCopy, Row}
 
@@ -36,7 +37,7 @@ row-more p m b place (v ∷ vs) top w (d, r) c = (d, row-more p m b (place + siz
 -- A list without one of its objects.
 pub record Without (p : Plan) (w : ℕ) (us : List ℕ) : Type 0 where
   pub rest : List ℕ
-  pub words : total p rest + size p w ≡ total p us
+  pub words : total (size p) rest + size p w ≡ total (size p) us
   pub others : (v : ℕ) → (v ≡ w → ⊥) → In v us → In v rest
 
 pub without : (p : Plan) (w : ℕ) (us : List ℕ) → In w us → Without p w us

@@ -4,7 +4,8 @@ use Rattle.term_words.specs.Object.{IsPointer}
 use Rattle.cheney.specs.Plan.{Plan, Reached, Leaves, IsIn, size}
 use Rattle.cheney.specs.Moved.{moved, forward, IsImage, Shows, Copies}
 use Rattle.cheney.specs.Zones.{Marks, IsShown, IsCopy, Row, IsRow, Gone, Holds, Invariant, scanned_at, object_at}
-use Rattle.cheney.proofs.Basics.{shows-or-not, reach-part, one-or-not, same-room, not-both, moved-same, forward-same, size-some, size-cons, shows-in}
+use Rattle.term_words.proofs.Members.{one-or-not}
+use Rattle.cheney.proofs.Basics.{shows-or-not, reach-part, same-room, not-both, moved-same, forward-same, size-some, size-cons, shows-in}
 use Rattle.cheney.proofs.Ground.{Ground}
 use Rattle.cheney.proofs.Facts.{Grows, image-later, row-later, row-more, Without, without}
 

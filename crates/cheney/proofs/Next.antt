@@ -10,15 +10,17 @@ use Rattle.term_words.proofs.Reached.{reached}
 use Rattle.term_words.proofs.Tiles.{tiled-object}
 use Rattle.term_words.specs.Stands.{AllStand}
 use Rattle.cheney.specs.declared.moving.Moving.{Moving}
-use Rattle.cheney.specs.Plan.{Plan, Ready, Reached, Leaves, In, Fits, total, size, first}
+use Rattle.term_words.specs.Counted.{In, total}
+use Rattle.cheney.specs.Plan.{Plan, Ready, Reached, Leaves, Fits, size, first}
 use Rattle.cheney.specs.Moved.{forward, IsImage}
 use Rattle.cheney.specs.Zones.{Row, at_objects}
 use Rattle.cheney.specs.Rooms.{Runs, top_of}
 use Rattle.cheney.specs.Collected.{Collected, IsMoved, RootsMoved, used}
 use Rattle.cheney.specs.Next.{GoesOn, HasRoles, IsCarried, IsTiled, Remains, Succeeds}
-use Rattle.cheney.proofs.Basics.{true-or-false, not-both, leaves-or-not, size-some}
+use Rattle.cheney.proofs.Basics.{not-both, leaves-or-not, size-some}
 use Rattle.cheney.proofs.Begins.{done}
-use Rattle.cheney.proofs.Counts.{both-total, in-row}
+use Rattle.term_words.proofs.Members.{both-total, true-or-false}
+use Rattle.cheney.proofs.Counts.{in-row}
 use Rattle.cheney.proofs.Ends.{Covers, covers, old_place, row-total, fresh, shape-image}
 use Rattle.cheney.proofs.Ground.{ground}
 use Rattle.cheney.proofs.Rows.{in-joined}
@@ -254,7 +256,7 @@ module _ (p q : Plan) (m : List ℕ) (mv : Moving) (run : Runs p m mv (at_object
       ]
 
   -- The copies of a row have the words of its objects.
-  total-again : (b : Bool) (place : ℕ) (vs : List ℕ) (top : ℕ) → Row p m b place vs top → total q (forwards m vs) ≡ total p vs
+  total-again : (b : Bool) (place : ℕ) (vs : List ℕ) (top : ℕ) → Row p m b place vs top → total (size q) (forwards m vs) ≡ total (size p) vs
   unfolding forwards
   total-again b place [] top row = refl
   total-again b place (v ∷ vs) top (c, row) = omega (arith, total-again b (place + size p v) vs top row, (shape v (forward m v) c.reached c.leaves.pointer (moved-image v c.reached c.leaves)).0)
@@ -276,7 +278,7 @@ module _ (p q : Plan) (m : List ℕ) (mv : Moving) (run : Runs p m mv (at_object
       words = omega (
         arith,
         room,
-        both-total q (forwards m (o.filled true).each) (forwards m (o.filled false).each),
+        both-total (size q) (forwards m (o.filled true).each) (forwards m (o.filled false).each),
         total-again true (p.low true) (o.filled true).each (top_of mv true) (o.filled true).row,
         total-again false (p.low false) (o.filled false).each (top_of mv false) (o.filled false).row,
         row-total p m true (p.low true) (o.filled true).each (top_of mv true) (o.filled true).row,

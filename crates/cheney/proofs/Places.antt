@@ -11,7 +11,8 @@ use Rattle.cheney.specs.Rooms.{Runs, top_of}
 use Rattle.cheney.specs.Calls.{CanMove, Evacuated, Later, either, nowhere}
 use Rattle.cheney.specs.Collected.{AllImages, IsBeside}
 use Rattle.cheney.specs.Roots.{AreRoots, CanMoveAt, CanMovePlaces, EvacuatedAt, IsFree, PlacesEvacuated, in_places, is_at, words_at}
-use Rattle.cheney.proofs.Basics.{not-both, one-or-not, true-or-false}
+use Rattle.term_words.proofs.Members.{one-or-not, true-or-false}
+use Rattle.cheney.proofs.Basics.{not-both}
 use Rattle.cheney.proofs.Begins.{beside-grows, beside-runs, free-aside, image-beside, image-kept, write-beside}
 use Rattle.cheney.proofs.Ground.{ground}
 use Rattle.cheney.proofs.Rows.{images-back}

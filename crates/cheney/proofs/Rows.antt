@@ -2,8 +2,10 @@
 use Rattle.std.proofs.Common.{◌≡◌, ℕ, zero, suc, ◌+◌, ◌<◌, ◌≤◌, ◌⊎◌, Bool, true, List, [], ◌∷◌, ◌++◌, length, get_or, set, refl, sym, ◌∙◌, ap, subst, arith, inl, inr}
 use Rattle.std.proofs.lemmas.List.{length-set, get_or-set_other, get_or-set_same}
 use Rattle.term_words.specs.Reach.{Reach, root}
+use Rattle.term_words.proofs.Members.{in-left, in-right, one-or-not}
 use Rattle.cheney.specs.declared.moving.Moving.{Moving}
-use Rattle.cheney.specs.Plan.{In, Leaves, Plan, Ready, Reached}
+use Rattle.term_words.specs.Counted.{In}
+use Rattle.cheney.specs.Plan.{Leaves, Plan, Ready, Reached}
 use Rattle.cheney.specs.Moved.{IsImage, moved}
 use Rattle.cheney.specs.Zones.{Marks, at_objects}
 use Rattle.cheney.specs.Rooms.{Runs}
@@ -11,7 +13,6 @@ use Rattle.cheney.specs.Calls.{CanMove, Evacuated, Later, RunsOn, nowhere}
 use Rattle.cheney.specs.Collected.{AllImages, AreImages, Begins, IsBeside, RootsMoved}
 use Rattle.cheney.specs.Roots.{AllEvacuated, CanMoveAll}
 use Rattle.cheney.specs.Next.{Ended}
-use Rattle.cheney.proofs.Basics.{one-or-not}
 use Rattle.cheney.proofs.Begins.{begins, beside-grows, has-collected, image-kept}
 use Rattle.cheney.proofs.Facts.{Grows, image-later}
 use Rattle.cheney.proofs.Ground.{ground}
@@ -25,11 +26,8 @@ in-at (w ∷ ws) zero less = inl refl
 in-at (w ∷ ws) (suc j) less = inr (in-at ws j (omega arith))
 
 pub in-joined : (w : ℕ) (vs ws : List ℕ) → In w vs ⊎ In w ws → In w (vs ++ ws)
-in-joined w [] ws (inl i) = absurd i
-in-joined w [] ws (inr i) = i
-in-joined w (v ∷ vs) ws (inl (inl e)) = inl e
-in-joined w (v ∷ vs) ws (inl (inr i)) = inr (in-joined w vs ws (inl i))
-in-joined w (v ∷ vs) ws (inr i) = inr (in-joined w vs ws (inr i))
+in-joined w vs ws (inl i) = in-left w vs ws i
+in-joined w vs ws (inr i) = in-right w vs ws i
 
 reach-in : (mem roots : List ℕ) (w : ℕ) (k : ℕ) (ws : List ℕ) → ((j : ℕ) → j < length ws → (k + j < length roots) × (get_or ws j 0 ≡ get_or roots (k + j) 0)) → In w ws → Reach mem roots w
 reach-in mem roots w k [] tail i = absurd i

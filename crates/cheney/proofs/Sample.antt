@@ -19,7 +19,8 @@ use Rattle.word_mem.specs.declared.ranges.Span.{Span}
 use Rattle.cheney.specs.declared.stay.Stay.{Stay}
 use Rattle.cheney.specs.Spans.{in_span, in_spans}
 use Rattle.cheney.specs.Ranges.{stays}
-use Rattle.cheney.specs.Plan.{Plan, Ready, Reached, Leaves, In, Fits, size, first}
+use Rattle.term_words.specs.Counted.{In}
+use Rattle.cheney.specs.Plan.{Plan, Ready, Reached, Leaves, Fits, size, first}
 use Rattle.cheney.specs.declared.moving.Moving.{Moving}
 use Rattle.cheney.specs.Rooms.{Runs, top_of}
 use Rattle.cheney.specs.Collected.{Begins, CanCollect, Collected, used}

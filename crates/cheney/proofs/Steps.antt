@@ -14,7 +14,8 @@ use Rattle.cheney.specs.Moved.{moved, forward, IsImage, Copies}
 use Rattle.cheney.specs.Zones.{Marks, Gone, IsPart, IsCopy, Holds, Invariant, scanned_at, object_at, mark, at_objects}
 use Rattle.cheney.specs.Rooms.{FromMoves, top_of, Agrees, Runs, Advances}
 use Rattle.cheney.specs.Calls.{CanMove, Copied, IsFresh, Went, either, nowhere, Later, Evacuated, CanOpen, CanStep, RunsOn, Shape}
-use Rattle.cheney.proofs.Basics.{moved-cons, moved-boxed, forward-cons, forward-boxed, true-or-false, not-both, reach-part, size-words, size-some, size-cons, size-boxed, first-cons, first-boxed}
+use Rattle.term_words.proofs.Members.{true-or-false}
+use Rattle.cheney.proofs.Basics.{moved-cons, moved-boxed, forward-cons, forward-boxed, not-both, reach-part, size-words, size-some, size-cons, size-boxed, first-cons, first-boxed}
 use Rattle.cheney.proofs.Ground.{Ground, ground}
 use Rattle.cheney.proofs.Facts.{Grows, copy-later, Without, without}
 use Rattle.cheney.proofs.Moves.{move-keeps, move-grows}

@@ -5,7 +5,8 @@ use Rattle.term_words.specs.Object.{IsPointer}
 use Rattle.cheney.specs.Plan.{Plan, Reached, Leaves, IsIn, size, first}
 use Rattle.cheney.specs.Moved.{moved, forward, IsImage}
 use Rattle.cheney.specs.Zones.{Marks, IsCopy, IsPart, Row, IsRow, Gone, Invariant, scanned_at, object_at, mark}
-use Rattle.cheney.proofs.Basics.{reach-part, one-or-not, same-room, moved-same, forward-same, size-some, size-cons}
+use Rattle.term_words.proofs.Members.{one-or-not}
+use Rattle.cheney.proofs.Basics.{reach-part, same-room, moved-same, forward-same, size-some, size-cons}
 use Rattle.cheney.proofs.Ground.{Ground}
 use Rattle.cheney.proofs.Facts.{Grows, image-later, row-later, copy-later}
 

@@ -7,7 +7,8 @@ use Rattle.term_words.specs.Reach.{Reach}
 use Rattle.term_words.specs.Stands.{Stands, stands, AllStand}
 use Rattle.cheney.specs.declared.moving.Moving.{Moving}
 use Rattle.cheney.specs.Rooms.{Agrees}
-use Rattle.cheney.specs.Plan.{Plan, Ready, Reached, Leaves, IsIn, IsNoTail, In, size, first}
+use Rattle.term_words.specs.Counted.{In}
+use Rattle.cheney.specs.Plan.{Plan, Ready, Reached, Leaves, IsIn, IsNoTail, size, first}
 use Rattle.cheney.specs.Moved.{moved, forward, IsImage}
 use Rattle.cheney.specs.Zones.{Row, IsShown}
 

@@ -4,7 +4,8 @@ use Rattle.term_words.specs.Object.{IsPointer}
 use Rattle.term_words.specs.Role.{IsSingle}
 use Rattle.term_words.specs.Tiled.{Tiled}
 use Rattle.cheney.specs.declared.moving.Moving.{Moving}
-use Rattle.cheney.specs.Plan.{Plan, Reached, Leaves, Fits, In, IsIn, IsOutside, size}
+use Rattle.term_words.specs.Counted.{In}
+use Rattle.cheney.specs.Plan.{Plan, Reached, Leaves, Fits, IsIn, IsOutside, size}
 use Rattle.cheney.specs.Moved.{forward}
 use Rattle.cheney.specs.Zones.{at_objects}
 use Rattle.cheney.specs.Rooms.{Runs, top_of}

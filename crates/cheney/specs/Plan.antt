@@ -1,10 +1,11 @@
 -- What is constant while a collection runs.
-use Rattle.std.specs.Prelude.{◌≡◌, ℕ, zero, suc, ◌+◌, ◌/◌, ◌%◌, ◌<◌, ◌≤◌, ◌⊎◌, if◌then◌else◌, Bool, true, false, List, [], ◌∷◌, length, slice_index}
+use Rattle.std.specs.Prelude.{◌≡◌, ℕ, ◌+◌, ◌/◌, ◌%◌, ◌<◌, ◌≤◌, ◌⊎◌, Bool, true, false, List, length, slice_index}
 use Rattle.plain_term.specs.Tree.{Trees}
 use Rattle.term_words.specs.Object.{IsPointer, object_words}
 use Rattle.term_words.specs.Reach.{Reach, first_traced}
 use Rattle.term_words.specs.Stands.{AllStand}
 use Rattle.term_words.specs.Role.{IsSingle}
+use Rattle.term_words.specs.Counted.{In, total}
 
 -- The memory that a collection begins with, the roots, the trees that they stand for, a test that says where the words of
 -- these trees lie, which places stay, which go to the aged room, and both rooms: `true` is the aged one, `false` the young one.
@@ -49,21 +50,6 @@ IsOutside p q = (b : Bool) → (q < p.low b) ⊎ (p.high b ≤ q)
 abbrev pub IsNoTail : Plan → ℕ → Type 0
 IsNoTail p q = (v : ℕ) → Reached p v → v % 4 ≡ 1 → q ≡ v / 4 + 1 → p.stay (v / 4) ≡ true
 
--- The word is in the list.
-abbrev pub In : ℕ → List ℕ → Type 0
-In w [] = ⊥
-In w (v ∷ vs) = (w ≡ v) ⊎ In w vs
-
--- The words of all objects of a list.
-abbrev pub total : Plan → List ℕ → ℕ
-total p [] = 0
-total p (v ∷ vs) = size p v + total p vs
-
--- How many of n places, counted from a place on, pass the test.
-unfoldable pub count : (ℕ → Bool) → ℕ → ℕ → ℕ
-count s from zero = 0
-count s from (suc n) = (if s from then 1 else 0) + count s (from + 1) n
-
 -- The object lies between two places, and all its places pass the test.
 pub record LiesIn (p : Plan) (s : ℕ → Bool) (from to w : ℕ) : Type 0 where
   pub above : from ≤ w / 4
@@ -74,7 +60,7 @@ pub record LiesIn (p : Plan) (s : ℕ → Bool) (from to w : ℕ) : Type 0 where
 pub record Fits (p : Plan) (room : Bool) : Type 0 where
   pub each : List ℕ
   pub all : (w : ℕ) → Reached p w → Leaves p w → p.mature (w / 4) ≡ room → In w each
-  pub words : p.low room + total p each ≤ p.high room
+  pub words : p.low room + total (size p) each ≤ p.high room
 
 -- A collection can begin: the roots stand, the objects and records that they reach are one or apart, and clear of the
 -- rooms; what stays points to nothing that moves; the rooms are apart, and each holds the objects that go there, once.

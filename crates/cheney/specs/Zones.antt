@@ -1,7 +1,8 @@
 -- The state of a collection between two of its steps.
 use Rattle.std.specs.Prelude.{◌≡◌, ℕ, ◌+◌, ◌*◌, ◌/◌, ◌%◌, ◌<◌, ◌≤◌, ◌⊎◌, Bool, true, false, List, [], ◌∷◌, length, slice_index}
 use Rattle.term_words.specs.Object.{IsPointer}
-use Rattle.cheney.specs.Plan.{Plan, Reached, Leaves, IsIn, In, total, size, first}
+use Rattle.term_words.specs.Counted.{In, total}
+use Rattle.cheney.specs.Plan.{Plan, Reached, Leaves, IsIn, size, first}
 use Rattle.cheney.specs.Moved.{moved, forward, IsImage, Shows}
 
 -- How far a room is scanned: each word below `scanned` is done, and `object` is the place of the next whole object.
@@ -60,7 +61,7 @@ pub record IsRow (p : Plan) (m : List ℕ) (room : Bool) (place top : ℕ) : Typ
 pub record Holds (p : Plan) (m : List ℕ) (room : Bool) (place : ℕ) : Type 0 where
   pub each : List ℕ
   pub all : (w : ℕ) → Reached p w → Leaves p w → p.mature (w / 4) ≡ room → moved m w ≡ false → In w each
-  pub words : place + total p each ≤ p.high room
+  pub words : place + total (size p) each ≤ p.high room
 
 -- The word at the place shows where a reached object went.
 pub record IsShown (p : Plan) (m : List ℕ) (a : ℕ) : Type 0 where

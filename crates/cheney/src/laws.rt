@@ -5,7 +5,8 @@ ghost use Rattle.term_words.specs.Stands.{AllStand};
 ghost use Rattle.cheney.specs.declared.moving.Moving.{Moving};
 ghost use Rattle.term_words.specs.Object.{IsPointer, object_words};
 ghost use Rattle.term_words.specs.Reach.{first_traced};
-ghost use Rattle.cheney.specs.Plan.{Fits, In, IsIn, IsNoTail, IsOutside, Leaves, LiesIn, Plan, Ready, Reached, count, first, size, total};
+ghost use Rattle.term_words.specs.Counted.{In, count, total};
+ghost use Rattle.cheney.specs.Plan.{Fits, IsIn, IsNoTail, IsOutside, Leaves, LiesIn, Plan, Ready, Reached, first, size};
 ghost use Rattle.cheney.specs.Moved.{IsImage, moved};
 ghost use Rattle.cheney.specs.Zones.{Marks, at_objects};
 ghost use Rattle.cheney.specs.Rooms.{Agrees, Runs, top_of};
@@ -24,17 +25,7 @@ pub fn counted_places_bound_rooms()
         → ((v : ℕ) → Reached p v → Leaves p v → p.mature (v / 4) ≡ b → (from ≤ v / 4) × (v / 4 + size p v ≤ to))
         → ((v q : ℕ) → Reached p v → Leaves p v → p.mature (v / 4) ≡ b → IsIn p v q → s q ≡ true) → p.low b + count s from (to - from) ≤ p.high b → Fits p b }
     ensures further { (p : Plan) (b : Bool) (from to : ℕ) (s : ℕ → Bool) (others : List ℕ) → AllStand p.test p.shared p.start p.roots p.trees → IsSingle p.test → from ≤ to
-        → ((v : ℕ) → Reached p v → Leaves p v → p.mature (v / 4) ≡ b → In v others ⊎ LiesIn p s from to v) → p.low b + (count s from (to - from) + total p others) ≤ p.high b → Fits p b }
-{}
-
-/// Places are counted part by part; no more pass than there are, all of them where each passes, and no fewer pass a test
-/// that allows more.
-pub fn places_are_counted_in_parts()
-    ensures empty { (s : ℕ → Bool) (from : ℕ) → count s from 0 ≡ 0 }
-    ensures join { (s : ℕ → Bool) (from m n : ℕ) → count s from (m + n) ≡ count s from m + count s (from + m) n }
-    ensures most { (s : ℕ → Bool) (from n : ℕ) → count s from n ≤ n }
-    ensures all { (s : ℕ → Bool) (from n : ℕ) → ((q : ℕ) → from ≤ q → q < from + n → s q ≡ true) → count s from n ≡ n }
-    ensures wider { (s t : ℕ → Bool) (from n : ℕ) → ((q : ℕ) → from ≤ q → q < from + n → s q ≡ true → t q ≡ true) → count s from n ≤ count t from n }
+        → ((v : ℕ) → Reached p v → Leaves p v → p.mature (v / 4) ≡ b → In v others ⊎ LiesIn p s from to v) → p.low b + (count s from (to - from) + total (size p) others) ≤ p.high b → Fits p b }
 {}
 
 /// A collection that is ready, with two empty rooms, runs.

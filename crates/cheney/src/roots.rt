@@ -1,6 +1,7 @@
 // Moving roots: words of a row, and words that stand in the memory itself.
 ghost use Rattle.std.specs.Prelude.{◌≡◌, ℕ, ◌+◌, ◌*◌, ◌<◌, length, slice_index};
-ghost use Rattle.cheney.specs.Plan.{In, Plan, Reached};
+ghost use Rattle.term_words.specs.Counted.{In};
+ghost use Rattle.cheney.specs.Plan.{Plan, Reached};
 ghost use Rattle.cheney.specs.Zones.{Marks};
 ghost use Rattle.cheney.specs.Rooms.{Runs};
 ghost use Rattle.cheney.specs.Roots.{AllEvacuated, AreRoots, CanMoveAll, CanMoveAt, CanMovePlaces, EvacuatedAt, IsFree, PlacesEvacuated};
