@@ -6,3 +6,6 @@ pub mod Summing
 pub mod Runs
 pub mod Writes
 pub mod Taking
+pub mod Levels
+pub mod Table
+pub mod Searching

@@ -1,6 +1,6 @@
 -- The free words of the blocks before a place.
 use Rattle.std.proofs.Common.{◌≡◌, ℕ, ◌+◌, ◌<◌, ◌≤◌, List, [], ◌∷◌, ◌++◌, length, refl, sym, ◌∙◌, subst, arith}
-use Rattle.word_arena.specs.Blocks.{size_at, free_at, Blocks, Blocked, Begins, free_in, free_of}
+use Rattle.word_arena.specs.Blocks.{size_at, free_at, Blocks, Blocked, places_of, Begins, free_in, free_of}
 use Rattle.word_arena.proofs.Places.{free_in-append}
 use Rattle.word_arena.proofs.Tiling.{blocks-append, places_of-row}
 use Rattle.word_arena.proofs.Facts.{block-within, free-most}
@@ -34,3 +34,6 @@ free_in-most mem a b (p ∷ ps) (place, is, rest) = omega (arith, free_in-most m
 
 pub sum-most : (mem : List ℕ) (at all : ℕ) → Sum mem at all → all ≤ at
 sum-most mem at all s = omega (arith, free_in-most mem 0 at s.ps s.row, s.is)
+
+pub free_of-most : (mem : List ℕ) → Blocked mem → free_of mem ≤ length mem
+free_of-most mem blocked = omega (arith, free_in-most mem 0 (length mem) (places_of mem) blocked.row, free_of-row mem (places_of mem) refl)

@@ -89,7 +89,6 @@ took old at words kind owner blocked fit some used low =
         has_owner = taken-owner old at words kind owner fit.fits in_row.to some;
       };
       free = omega (arith, c.relaid.free, was.sum, is.sum);
-      rest = λ below. c.relaid.made (at + words) (is.second (omega arith));
     }
 
 -- Where the free words end behind a block.
@@ -148,9 +147,10 @@ was_cut old at words blocked used some fits =
         has_owner = shortened-owner old at words e kind (omega arith) inside some (at + 1) (omega arith) (omega arith);
       };
       free = omega (arith, c.relaid.free, was.sum, is.sum);
+      rest = λ below. (c.relaid.made (at + words) (is.second (omega arith)), omega (arith, is.whole (omega arith)));
     }
 
-from-begins : (old : List ℕ) (at from : ℕ) → Begins old at → FreeFrom old at from → Begins old from
+pub from-begins : (old : List ℕ) (at from : ℕ) → Begins old at → FreeFrom old at from → Begins old from
 from-begins old at from begins free =
     elim free.place as (λ _. Begins old from) [ inl same ↦ (let P : ℕ → Type 0 = λ z. Begins old z in subst P (sym same) begins) | inr before ↦ before.0 ]
 
@@ -179,7 +179,7 @@ gave old at from blocked used free =
     } in
     let are : (p : ℕ) → In p is.ps → (p ≡ from) ⊎ ((p ≡ at) ⊎ (p ≡ at + n)) = λ p is_in. inl (is.only p is_in) in
     let c = changed old new from e at (at + n) at was.ps is.ps blocked ch was.only are was.free (λ p is_in other. is.free p is_in) in
-    record { blocked = c.relaid.blocked; mem = refl; others = c.others; frame = c.frame; begins = c.relaid.made from (is.some (omega arith)); free = omega (arith, c.relaid.free, was.sum, is.sum) }
+    record { blocked = c.relaid.blocked; mem = refl; others = c.others; frame = c.frame; begins = c.relaid.made from (is.some (omega arith)); order = (below, omega (arith, is.whole (omega arith))); free = omega (arith, c.relaid.free, was.sum, is.sum) }
 
 pub closed : (old : List ℕ) (end_of_row : ℕ) → Reaches old end_of_row → end_of_row ≤ length old → Closed old (freed old end_of_row (length old)) end_of_row
 closed old end_of_row reach inside =
@@ -209,16 +209,3 @@ closed old end_of_row reach inside =
             none,
           );
     }
-
--- Only one block ends at a place.
-pub ends-one : (mem : List ℕ) (p q : ℕ) → Blocked mem → Begins mem p → Begins mem q → p + size_at mem p ≡ q + size_at mem q → p ≡ q
-ends-one mem p q blocked first second same =
-    let some : 1 ≤ size_at mem p = (block-within mem p blocked first).header.sized in
-    let also : 1 ≤ size_at mem q = (block-within mem q blocked second).header.sized in
-    elim (cases_lt p q) as (λ _. p ≡ q) [
-      | inl below ↦ absurd (omega (arith, apart mem p q blocked first second below))
-      | inr above ↦ elim (cases_lt q p) as (λ _. p ≡ q) [
-        | inl more ↦ absurd (omega (arith, apart mem q p blocked second first more))
-        | inr less ↦ omega arith
-      ]
-    ]

@@ -81,7 +81,6 @@ pub record Took (old new : List ℕ) (at words kind owner : ℕ) : Type 0 where
   pub others : OthersStay old new at
   pub free : free_of new + words ≡ free_of old
   pub frame : Frame old new at at (at + words)
-  pub rest : words < size_at old at → Begins new (at + words)
 
 -- The block at the place was cut to so many words.
 pub record Shortened (old new : List ℕ) (at words : ℕ) : Type 0 where
@@ -91,6 +90,7 @@ pub record Shortened (old new : List ℕ) (at words : ℕ) : Type 0 where
   pub others : OthersStay old new at
   pub free : free_of new + words ≡ free_of old + size_at old at
   pub frame : Frame old new at (at + words) (at + size_at old at)
+  pub rest : words < size_at old at → Begins new (at + words) × (at + size_at old at ≤ at + words + size_at new (at + words))
 
 -- The block at the place was freed and is one with the free words beside it, from the given place on.
 pub record Gave (old new : List ℕ) (at from : ℕ) : Type 0 where
@@ -100,6 +100,7 @@ pub record Gave (old new : List ℕ) (at from : ℕ) : Type 0 where
   pub others : OthersStay old new at
   pub free : free_of new ≡ free_of old + size_at old at
   pub frame : Frame old new from at (at + size_at old at)
+  pub order : (from ≤ at) × (at + size_at old at ≤ from + size_at new from)
 
 -- The memory is a row of blocks whose last, from the place on, is free, where the place is not the end.
 pub record Closed (old new : List ℕ) (end_of_row : ℕ) : Type 0 where

@@ -1,3 +1,6 @@
 pub mod Blocks
 pub mod Calls
+pub mod Over
+pub mod Tops
+pub mod Stretches
 pub mod Sound

@@ -1,35 +1,43 @@
 // The arena and its calls.
-ghost use Rattle.std.specs.Prelude.{◌≡◌, ◌≢◌, ℕ, ◌+◌, ◌-◌, ◌<◌, ◌≤◌, List, length, IfSome, IfNone};
+ghost use Rattle.std.specs.Prelude.{◌≡◌, ◌≢◌, ℕ, ◌+◌, ◌-◌, ◌<◌, ◌≤◌, List, length, IfOk, IfSome, IfNone};
 ghost use Rattle.word_arena.specs.Blocks.{size_at, kind_at, owner_at, Blocks, Reaches, Begins, IsUsed, free_in, free_of};
 ghost use Rattle.word_arena.specs.Calls.{NoneFits, FirstFit, IsGreatest, freed, taken, shortened, FreeFrom, Merged, OthersStay, IsBlock};
 
-use crate::blocks::{LAST_KIND, first_fit, free_before, free_words, greatest, next};
+use crate::blocks::{LAST_KIND, first_fit, free_before, next, size};
+use crate::holes::{Holes, stretch_end, stretch_of};
 use crate::rows::{carve, close, merge, shorten};
-use word_mem::WordMem;
+use std::alloc::Global;
+use word_mem::{OpenFault, WordMem};
 
-/// A memory that is a row of blocks.
+/// A memory that is a row of blocks, and the table by which its free blocks are found.
 #[derive(Drop)]
 pub struct Arena {
     pub mem: WordMem,
+    holes: Holes,
 }
 
 impl Arena {
+    ghost use Rattle.word_arena.specs.Stretches.{HasRoom};
     ghost use Rattle.word_arena.specs.Sound.{Sound};
 
-    /// The memory as one free block.
-    pub fn lay(mem: WordMem) -> Arena
+    /// The memory as one free block, with a table beside it; `Memory` where there is no room for the table.
+    pub fn lay(alloc: Global, mem: WordMem) -> Result<Arena, OpenFault>
         requires { 2 ≤ length mem }
-        ensures sound { Sound result }
-        ensures mem { result.mem ≡ freed mem 0 (length mem) }
-        ensures free { free_of result.mem ≡ length mem }
+        ensures sound { IfOk result (λ a. Sound a) }
+        ensures mem { IfOk result (λ a. a.mem ≡ freed mem 0 (length mem)) }
+        ensures free { IfOk result (λ a. free_of a.mem ≡ length mem) }
     {
-        let mut mem = mem;
-        close(&mut mem, 0);
-        Arena { mem }
+        let Ok(holes) = Holes::new(alloc, mem.len()) else {
+            return Err(OpenFault::Memory);
+        };
+        let mut arena = Arena { mem, holes };
+        arena.relay(0);
+        Ok(arena)
     }
 
     /// Takes up the blocks that stand before a place, and makes all behind them one free block, as after a slide.
     pub fn relay(&mut self, end: u64)
+        requires room { HasRoom self.old.mem self.old.holes }
         requires row { Reaches self.old.mem end }
         requires inside { end ≤ length self.old.mem }
         ensures sound { Sound self.new }
@@ -37,6 +45,7 @@ impl Arena {
         ensures free { (places : List ℕ) → Blocks self.old.mem 0 places end → free_of self.new.mem + end ≡ free_in self.old.mem places + length self.old.mem }
     {
         close(&mut self.mem, end);
+        self.holes.renew(&self.mem);
     }
 
     /// The place of a new block at the front of the first free block that has the words; `None` where none has.
@@ -52,8 +61,11 @@ impl Arena {
         ensures others { IfSome result (λ at. OthersStay self.old.mem self.new.mem at) }
         ensures free { IfSome result (λ _. free_of self.new.mem + words ≡ free_of self.old.mem) }
     {
-        let at = first_fit(&self.mem, 0, self.mem.len(), words)?;
+        let at = self.first_fit(words)?;
         carve(&mut self.mem, at, words, kind, owner);
+        self.holes.settle_at(&self.mem, at);
+        self.holes.settle_behind(&self.mem, at, at + words);
+        self.holes.free -= words;
         Some(at)
     }
 
@@ -66,8 +78,13 @@ impl Arena {
         ensures others { OthersStay self.old.mem self.new.mem at }
         ensures free { free_of self.new.mem ≡ free_of self.old.mem + size_at self.old.mem at }
     {
+        let size = size(&self.mem, at);
         let from = self.free_start(at);
         merge(&mut self.mem, at, from);
+        self.holes.settle_at(&self.mem, from);
+        self.holes.settle_behind(&self.mem, from, at);
+        self.holes.settle_behind(&self.mem, from, at + size);
+        self.holes.free += size;
     }
 
     /// Cuts the block at a place to its first words. The rest becomes one with a free block behind it.
@@ -82,7 +99,13 @@ impl Arena {
         ensures others { OthersStay self.old.mem self.new.mem at }
         ensures free { free_of self.new.mem + words ≡ free_of self.old.mem + size_at self.old.mem at }
     {
+        let size = size(&self.mem, at);
         shorten(&mut self.mem, at, words);
+        self.holes.settle_at(&self.mem, at);
+        self.holes.settle_behind(&self.mem, at, at + words);
+        let last = if words < size { at + words } else { at };
+        self.holes.settle_behind(&self.mem, last, at + size);
+        self.holes.free += size - words;
     }
 
     /// The words of all free blocks.
@@ -90,7 +113,7 @@ impl Arena {
         requires { Sound self.now }
         ensures { result ≡ free_of self.now.mem }
     {
-        free_words(&self.mem)
+        self.holes.free
     }
 
     /// The words of the greatest free block, 0 where there is none.
@@ -98,7 +121,7 @@ impl Arena {
         requires { Sound self.now }
         ensures { IsGreatest self.now.mem result }
     {
-        greatest(&self.mem, 0, self.mem.len())
+        self.holes.tops.greatest()
     }
 
     /// The place of the block behind the one at a place; `None` at the end.
@@ -116,16 +139,34 @@ impl Arena {
         }
     }
 
-    // Where the free words before a block begin.
+    // The first free block that has so many words: in the first stretch with such a block, the first such.
+    fn first_fit(&self, words: u64) -> Option<u64>
+        requires sound { Sound self.now }
+        requires words { 1 ≤ words }
+        ensures none { IfNone result (NoneFits self.now.mem words) }
+        ensures first { IfSome result (λ at. FirstFit self.now.mem words at) }
+    {
+        let stretch = self.holes.tops.first(words)?;
+        let end = stretch_end(&self.mem, stretch);
+        first_fit(&self.mem, self.holes.start(stretch), end, words)
+    }
+
+    // Where the free words before a block begin. A free block that ends at the place begins in the place's stretch, where
+    // that has a block before the place, else in the last stretch before with a free block.
     fn free_start(&self, at: u64) -> u64
         requires sound { Sound self.now }
         requires block { Begins self.now.mem at }
         ensures { FreeFrom self.now.mem at result }
     {
-        let _len = self.mem.len();
-        match free_before(&self.mem, 0, at, at) {
-            Some(before) => before,
-            None => at,
+        let stretch = stretch_of(at);
+        let own = self.holes.start(stretch);
+        if own < at {
+            return free_before(&self.mem, own, at, at);
         }
+        let Some(stretch) = self.holes.tops.last_before(stretch) else {
+            return at;
+        };
+        let end = stretch_end(&self.mem, stretch);
+        free_before(&self.mem, self.holes.start(stretch), end, at)
     }
 }

@@ -1,5 +1,5 @@
 // Blocks read in a memory.
-ghost use Rattle.std.specs.Prelude.{◌≡◌, ℕ, ◌+◌, ◌-◌, ◌<◌, ◌≤◌, ◌≢◌, length, slice_index, IfSome, IfNone};
+ghost use Rattle.std.specs.Prelude.{◌≡◌, ℕ, ◌+◌, ◌-◌, ◌<◌, ◌≤◌, ◌≢◌, ◌⊎◌, length, slice_index, IfSome, IfNone};
 ghost use Rattle.word_arena.specs.Blocks.{size_at, kind_at, free_at, Blocked, Begins, free_of};
 ghost use Rattle.word_arena.specs.Calls.{Stop, freed, free_end};
 
@@ -84,35 +84,44 @@ pub(crate) fn first_fit(mem: &WordMem, from: u64, end: u64, words: u64) -> Optio
     None
 }
 
-/// The free block that ends at a place, among the blocks that begin from one place on and before another.
-pub(crate) fn free_before(mem: &WordMem, from: u64, end: u64, at: u64) -> Option<u64>
+/// Where the free block begins that ends at a place, among the blocks that begin from one place on and before another;
+/// where none does, the place itself.
+pub(crate) fn free_before(mem: &WordMem, from: u64, end: u64, at: u64) -> u64
     requires blocked { Blocked mem.now }
     requires from { Stop mem.now from }
     requires end { end ≤ at }
     requires at { at ≤ length mem.now }
-    ensures none { IfNone result ((p : ℕ) → Begins mem.now p → from ≤ p → p < end → kind_at mem.now p ≡ 0 → p + size_at mem.now p ≢ at) }
-    ensures begins { IfSome result (λ p. Begins mem.now p) }
-    ensures free { IfSome result (λ p. kind_at mem.now p ≡ 0) }
-    ensures ends { IfSome result (λ p. p + size_at mem.now p ≡ at) }
+    ensures place { (result ≡ at) ⊎ (Begins mem.now result × (kind_at mem.now result ≡ 0) × (result + size_at mem.now result ≡ at)) }
+    ensures none { result ≡ at → (p : ℕ) → Begins mem.now p → from ≤ p → p < end → kind_at mem.now p ≡ 0 → p + size_at mem.now p ≢ at }
 {
     let _len = mem.len();
     let mut p = from;
     while p < end {
         if p + free(mem, p) == at {
-            return Some(p);
+            return p;
         }
         p = next(mem, p);
     }
-    None
+    at
 }
 
-/// The most free words of a block among those that begin from one place on and before another.
-pub(crate) fn greatest(mem: &WordMem, from: u64, end: u64) -> u64
+/// The most free words of a block among some, and where the next block begins behind them.
+#[derive(Drop)]
+pub(crate) struct Walk {
+    pub(crate) most: u64,
+    pub(crate) at: u64,
+}
+
+/// Walks over the blocks that begin from one place on and before another.
+pub(crate) fn greatest(mem: &WordMem, from: u64, end: u64) -> Walk
     requires blocked { Blocked mem.now }
     requires from { Stop mem.now from }
     requires end { end ≤ length mem.now }
-    ensures above { (p : ℕ) → Begins mem.now p → from ≤ p → p < end → free_at mem.now p ≤ result }
-    ensures met { 0 < result → (p : ℕ) × Begins mem.now p × (from ≤ p) × (p < end) × (free_at mem.now p ≡ result) }
+    ensures above { (p : ℕ) → Begins mem.now p → from ≤ p → p < end → free_at mem.now p ≤ result.most }
+    ensures met { 0 < result.most → (p : ℕ) × Begins mem.now p × (from ≤ p) × (p < end) × (free_at mem.now p ≡ result.most) }
+    ensures stop { Stop mem.now result.at }
+    ensures past { end ≤ result.at }
+    ensures next { (p : ℕ) → Begins mem.now p → from ≤ p → end ≤ p → result.at ≤ p }
 {
     let _len = mem.len();
     let mut most = 0;
@@ -121,7 +130,7 @@ pub(crate) fn greatest(mem: &WordMem, from: u64, end: u64) -> u64
         most = most.max(free(mem, at));
         at = next(mem, at);
     }
-    most
+    Walk { most, at }
 }
 
 /// The free words of all blocks.

@@ -3,7 +3,9 @@
 
 mod arena;
 mod blocks;
+mod holes;
 mod rows;
+mod tops;
 
 pub use arena::Arena;
 pub use blocks::LAST_KIND;

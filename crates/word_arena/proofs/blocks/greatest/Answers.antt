@@ -20,6 +20,9 @@ loop-at-preserved c =
           walked (λ z. free_at c.args.mem.now z ≤ c.max-most.result) c.args.mem.now c.args.from c.loop-at.at c.requires.blocked here
           (λ q is from to. omega (arith, c.loop-at.invariant.above q is from to, upper)) (omega (arith, also, c.free.ensures))
           p begins low (omega (arith, high, c.next-at.ensures.value));
+      inner = λ p begins low high.
+          walked (λ z. z < c.args.end) c.args.mem.now c.args.from c.loop-at.at c.requires.blocked here
+          c.loop-at.invariant.inner c.loop-at-test.true p begins low (omega (arith, high, c.next-at.ensures.value));
       met = λ some. elim (cases_lt c.loop-at.most c.free.result) as (λ _. Met c.args.mem.now c.args.from c.args.end c.max-most.result) [
         | inl more ↦ (let e : free_at c.args.mem.now c.loop-at.at ≡ c.max-most.result = grind (arith, nat_tests, c.max-most.ensures, c.free.ensures, more) in
             (c.loop-at.at, here, c.loop-at.invariant.from, c.loop-at-test.true, e))
@@ -28,3 +31,10 @@ loop-at-preserved c =
             (m.0, m.1, m.2, m.3, omega (arith, m.4, e)))
       ];
     }
+
+pub returns-clause-next : goal.returns-clause-next
+returns-clause-next c = λ p begins from past.
+    elim (cases_lt p c.loop-at.at) as (λ _. c.loop-at.at ≤ p) [
+      | inl below ↦ absurd (omega (arith, c.loop-at.invariant.inner p begins from below, past))
+      | inr above ↦ above
+    ]

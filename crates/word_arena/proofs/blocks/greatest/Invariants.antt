@@ -8,6 +8,7 @@ invariant-loop-at l = record {
   stop : Stop l.mem l.at;
   from : l.from ≤ l.at;
   above : (p : ℕ) → Begins l.mem p → l.from ≤ p → p < l.at → free_at l.mem p ≤ l.most;
+  inner : (p : ℕ) → Begins l.mem p → l.from ≤ p → p < l.at → p < l.end;
   met : 0 < l.most → (p : ℕ) × Begins l.mem p × (l.from ≤ p) × (p < l.end) × (free_at l.mem p ≡ l.most);
 }
 

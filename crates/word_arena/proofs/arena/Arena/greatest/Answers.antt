@@ -1,5 +1,5 @@
-use Rattle.word_arena.proofs.Facts.{stop-zero}
+use Rattle.word_arena.proofs.Searching.{greatest-is}
 use Rattle.word_arena.proofs.arena.Arena.greatest.Goals as goal
 
-pub greatest-requires-clause-from : goal.greatest-requires-clause-from
-greatest-requires-clause-from c = stop-zero _ c.requires.blocked
+pub returns : goal.returns
+returns c = greatest-is c.args.self.now.mem c.args.self.now.holes c.greatest.result c.requires.blocked c.requires.agrees c.greatest.ensures.above c.greatest.ensures.met

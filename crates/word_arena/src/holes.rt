@@ -1,0 +1,127 @@
+// The table beside the memory: of each stretch of 64 words where its first block begins, and its greatest free block.
+ghost use Rattle.std.specs.Prelude.{◌≡◌, ◌≢◌, ℕ, ◌+◌, ◌*◌, ◌/◌, ◌<◌, ◌≤◌, ◌^◌, List, length, min, IfOk, slice_index};
+ghost use Rattle.word_arena.specs.Blocks.{size_at, Blocked, Begins};
+ghost use Rattle.word_arena.specs.Calls.{Stop};
+
+use crate::blocks::{free_words, greatest, next};
+use crate::tops::Tops;
+use std::alloc::{AllocError, Global};
+use word_mem::WordMem;
+
+// How many words a stretch has.
+const STRETCH: u64 = 64;
+
+/// What is known of the blocks, stretch by stretch, and the sum of free words.
+#[derive(Drop)]
+pub struct Holes {
+    pub(crate) tops: Tops,
+    pub(crate) firsts: Vec<u8>,
+    pub(crate) free: u64,
+}
+
+/// The stretch of a place.
+pub(crate) fn stretch_of(at: u64) -> usize
+    ensures { result ≡ at / 64 }
+{
+    (at / STRETCH) as usize
+}
+
+/// Where the words of a stretch end that the memory has.
+pub(crate) fn stretch_end(mem: &WordMem, stretch: usize) -> u64
+    requires { stretch < 2 ^ 20 }
+    ensures { result ≡ min (stretch * 64 + 64) (length mem.now) }
+{
+    (stretch as u64 * STRETCH + STRETCH).min(mem.len())
+}
+
+impl Holes {
+    ghost use Rattle.word_arena.specs.Stretches.{IsFirst, Right, IsStart, HasRoom, Agrees, Settled};
+
+    /// A table with room for so many words, of which it knows nothing yet.
+    pub(crate) fn new(alloc: Global, words: u64) -> Result<Holes, AllocError>
+        requires { words ≤ 2 ^ 24 }
+        ensures { IfOk result (λ h. (mem : List ℕ) → length mem ≡ words → HasRoom mem h) }
+    {
+        let tops = Tops::new(alloc, stretch_of(words))?;
+        let firsts = vec![in alloc; 0; tops.len()]?;
+        Ok(Holes {
+            tops,
+            firsts,
+            free: 0,
+        })
+    }
+
+    /// Where the first block of a stretch begins, or the stretch ends.
+    pub(crate) fn start(&self, stretch: usize) -> u64
+        requires inside { stretch < length self.now.firsts.items }
+        requires few { length self.now.firsts.items ≤ 2 ^ 20 }
+        ensures { result ≡ stretch * 64 + slice_index self.now.firsts.items stretch }
+    {
+        stretch as u64 * STRETCH + u64::from(self.firsts[stretch])
+    }
+
+    /// Brings a stretch up to date, of which the first block at or behind its start is known, and tells that of the next.
+    pub(crate) fn settle(&mut self, mem: &WordMem, stretch: usize, from: u64) -> u64
+        requires blocked { Blocked mem.now }
+        requires room { HasRoom mem.now self.old }
+        requires inside { stretch < length self.old.firsts.items }
+        requires start { IsStart mem.now stretch from }
+        ensures right { Right mem.now self.new.firsts.items self.new.tops stretch }
+        ensures settled { Settled mem.now self.old self.new }
+        ensures next { IsStart mem.now (stretch + 1) result }
+    {
+        let end = stretch_end(mem, stretch);
+        let walk = greatest(mem, from, end);
+        self.tops.set(stretch, walk.most);
+        let first = if from < end {
+            from - stretch as u64 * STRETCH
+        } else {
+            STRETCH
+        };
+        self.firsts[stretch] = first as u8;
+        walk.at
+    }
+
+    /// Brings the stretch of a block up to date, whose first block is known.
+    pub(crate) fn settle_at(&mut self, mem: &WordMem, at: u64)
+        requires blocked { Blocked mem.now }
+        requires room { HasRoom mem.now self.old }
+        requires block { Begins mem.now at }
+        requires first { IsFirst mem.now (at / 64) (slice_index self.old.firsts.items (at / 64)) }
+        ensures right { Right mem.now self.new.firsts.items self.new.tops (at / 64) }
+        ensures settled { Settled mem.now self.old self.new }
+    {
+        let stretch = stretch_of(at);
+        let from = self.start(stretch);
+        self.settle(mem, stretch, from);
+    }
+
+    /// Brings the stretch of a place in a block, or at its end, up to date where it is another than that of the block.
+    pub(crate) fn settle_behind(&mut self, mem: &WordMem, block: u64, at: u64)
+        requires blocked { Blocked mem.now }
+        requires room { HasRoom mem.now self.old }
+        requires block { Begins mem.now block }
+        requires place { (block ≤ at) × (at ≤ block + size_at mem.now block) }
+        ensures right { at / 64 ≢ block / 64 → Right mem.now self.new.firsts.items self.new.tops (at / 64) }
+        ensures settled { Settled mem.now self.old self.new }
+    {
+        let stretch = stretch_of(at);
+        if stretch != stretch_of(block) {
+            let from = next(mem, block);
+            self.settle(mem, stretch, from);
+        }
+    }
+
+    /// Takes up all blocks of a memory.
+    pub(crate) fn renew(&mut self, mem: &WordMem)
+        requires blocked { Blocked mem.now }
+        requires room { HasRoom mem.now self.old }
+        ensures { Agrees mem.now self.new }
+    {
+        let mut at = 0;
+        for stretch in 0..self.firsts.len() {
+            at = self.settle(mem, stretch, at);
+        }
+        self.free = free_words(mem);
+    }
+}
