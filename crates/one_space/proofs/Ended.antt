@@ -23,7 +23,7 @@ use Rattle.cheney.proofs.Begins.{has-collected, has-composed}
 use Rattle.cheney.proofs.Next.{has-roles, is-tiled}
 use Rattle.cheney.proofs.Rows.{images-all, images-join, root-in}
 use Rattle.one_space.specs.Stack.{IsStack, values}
-use Rattle.one_space.specs.Halves.{HalvesStand, HoldTrees, IsLaid, ProcStands, ProcsStand, depths, end_of, front_of, half_of, used_in}
+use Rattle.one_space.specs.Halves.{HalvesStand, HoldTrees, IsLaid, ProcStands, ProcsStand, Standing, depths, end_of, used_in}
 use Rattle.one_space.specs.Reached.{AllReached, held_words, roots_in, roots_of}
 use Rattle.one_space.specs.Rows.{AreMovedRows, CanMoveRows, Goes, IsAside, IsMovedRow, RowsMove, RowsMoved}
 use Rattle.one_space.specs.Collecting.{AreSameRows, CanCollect, Collects, IsBetween}
@@ -31,13 +31,13 @@ use Rattle.one_space.specs.declared.halves.Halves.{Halves}
 use Rattle.one_space.specs.declared.table.Proc.{Proc}
 use Rattle.one_space.proofs.Going.{goes-call}
 use Rattle.one_space.proofs.Held.{held-words, trees_of}
-use Rattle.one_space.proofs.Planned.{IsOther, Sides, aside-there, plan_of, rows-move, sides}
+use Rattle.one_space.proofs.Planned.{AreSides, IsTarget, Target, aside-there, plan_of, rows-move, sides}
 use Rattle.one_space.proofs.Rowing.{row-on}
 use Rattle.one_space.proofs.Stacks.{others-in, registers-in, values-in}
 
 -- Rows that moved stay moved while the collection goes on elsewhere.
-rows-on : (p : Plan) (start mem mem2 : List ℕ) (mv2 : Moving) (k : Marks) (low limit f t : ℕ) (olds news : List Proc) → AreMovedRows p start mem low limit olds news → Goes p mem mem2 mv2 k f t → ((q : ℕ) → low ≤ q → q < limit → IsAside p q)
-    → (limit ≤ f) ⊎ (t ≤ low) → ((w : ℕ) → In w (roots_in start olds) → Reached p w) → AreMovedRows p start mem2 low limit olds news
+rows-on : (p : Plan) (start mem mem2 : List ℕ) (mv2 : Moving) (k : Marks) (low limit f t : ℕ) (olds news : List Proc) → AreMovedRows p start mem low limit olds news
+    → Goes p mem mem2 mv2 k f t → ((q : ℕ) → low ≤ q → q < limit → IsAside p q) → (limit ≤ f) ⊎ (t ≤ low) → ((w : ℕ) → In w (roots_in start olds) → Reached p w) → AreMovedRows p start mem2 low limit olds news
 rows-on p start mem mem2 mv2 k low limit f t [] [] a g free apart r = tt
 rows-on p start mem mem2 mv2 k low limit f t [] (n ∷ ns) a g free apart r = absurd a
 rows-on p start mem mem2 mv2 k low limit f t (o ∷ os) [] a g free apart r = absurd a
@@ -84,7 +84,8 @@ image-count p m (v ∷ vs) [] a = absurd a
 image-count p m (v ∷ vs) (x ∷ xs) (i, a) = ap suc (image-count p m vs xs a)
 
 -- What the words have become holds their trees.
-module _ (p : Plan) (c d : ℕ → ℕ → Bool) (shared : List (List ℕ)) (start mem : List ℕ) (named low limit low2 limit2 : ℕ) (stand : (w x : ℕ) (t : Tree) → Reached p w → IsImage p mem w x → Stands c shared start w t → Stands d shared mem x t) where
+module _ (p : Plan) (c d : ℕ → ℕ → Bool) (shared : List (List ℕ)) (start mem : List ℕ) (named : ℕ)
+    (stand : (w x : ℕ) (t : Tree) → Reached p w → IsImage p mem w x → Stands c shared start w t → Stands d shared mem x t) where
   trees-held : (ws xs : List ℕ) (ts : List Tree) → ((w : ℕ) → In w ws → Reached p w) → AllImages p mem ws xs → HoldTrees c shared start named ws ts → HoldTrees d shared mem named xs ts
   unfolding AllImages
   trees-held [] [] [] r a h = tt
@@ -92,193 +93,191 @@ module _ (p : Plan) (c d : ℕ → ℕ → Bool) (shared : List (List ℕ)) (sta
   trees-held [] (x ∷ xs) ts r a h = absurd a
   trees-held (w ∷ ws) [] ts r a h = absurd a
   trees-held (w ∷ ws) (x ∷ xs) [] r a h = absurd h
-  trees-held (w ∷ ws) (x ∷ xs) (t ∷ ts) r (i, a) (first, rest) = (record { standing = stand w x t (r w (inl refl)) i first.standing; modest = first.modest }, trees-held ws xs ts (λ v j. r v (inr j)) a rest)
+  trees-held (w ∷ ws) (x ∷ xs) (t ∷ ts) r (i, a) (first, rest) =
+      (record { standing = stand w x t (r w (inl refl)) i first.standing; modest = first.modest }, trees-held ws xs ts (λ v j. r v (inr j)) a rest)
 
-  pub procs-stand : (olds news : List Proc) (qs : List Process) → ((w : ℕ) → In w (roots_in start olds) → Reached p w) → AreMovedRows p start mem low2 limit2 olds news → ProcsStand c shared start low limit named olds qs
-      → ProcsStand d shared mem low2 limit2 named news qs
-  procs-stand [] [] [] r a s = tt
-  procs-stand [] [] (q ∷ qs) r a s = absurd s
-  procs-stand [] (n ∷ ns) qs r a s = absurd a
-  procs-stand (o ∷ os) [] qs r a s = absurd a
-  procs-stand (o ∷ os) (n ∷ ns) [] r a s = absurd s
-  procs-stand (o ∷ os) (n ∷ ns) (q ∷ qs) r (moved, a) (first, s) = (
+  procs-stand : (low limit low2 limit2 : ℕ) (olds news : List Proc) (qs : List Process) → ((w : ℕ) → In w (roots_in start olds) → Reached p w)
+      → AreMovedRows p start mem low2 limit2 olds news → ProcsStand c shared start low limit named olds qs → ProcsStand d shared mem low2 limit2 named news qs
+  procs-stand low limit low2 limit2 [] [] [] r a s = tt
+  procs-stand low limit low2 limit2 [] [] (q ∷ qs) r a s = absurd s
+  procs-stand low limit low2 limit2 [] (n ∷ ns) qs r a s = absurd a
+  procs-stand low limit low2 limit2 (o ∷ os) [] qs r a s = absurd a
+  procs-stand low limit low2 limit2 (o ∷ os) (n ∷ ns) [] r a s = absurd s
+  procs-stand low limit low2 limit2 (o ∷ os) (n ∷ ns) (q ∷ qs) r (moved, a) (first, s) = (
     record {
       number = first.number ∙ sym moved.number;
       count = image-count p mem o.regs n.regs moved.registers ∙ first.count;
       registers = trees-held o.regs n.regs q.registers (λ w i. r w (registers-in start o os w i)) moved.registers first.registers;
       places = moved.places;
-      stack = trees-held (values start o.stack o.depth) (values mem n.stack n.depth) q.stack
-        (λ w i. r w (values-in start o os w i)) moved.values_are first.stack;
+      stack = trees-held (values start o.stack o.depth) (values mem n.stack n.depth) q.stack (λ w i. r w (values-in start o os w i)) moved.values_are first.stack;
       queue = first.queue;
       refs = first.refs;
     },
-    procs-stand os ns qs (λ w i. r w (others-in start o os w i)) a s,
+    procs-stand low limit low2 limit2 os ns qs (λ w i. r w (others-in start o os w i)) a s,
   )
 
 -- The halves after a collection.
-abbrev pub moved_to : Halves → (mem : List ℕ) → (base top low : ℕ) → List Proc → Halves
-moved_to h mem base top low news = record { mem = mem; base = base; top = top; low = low; procs = with_items h.procs news; sweeps = h.sweeps + 1 }
+abbrev pub moved_to : Halves → Target → (mem : List ℕ) → (top : ℕ) → List Proc → Halves
+moved_to h t mem top news = record { mem = mem; base = t.base; top = top; low = t.to; procs = with_items h.procs news; sweeps = h.sweeps + 1 }
 
-module _ (named : ℕ) (h : Halves) (shared : List (List ℕ)) (qs : List Process) (laid : IsLaid h) (s : HalvesStand named h shared qs) (base from to : ℕ) (o : IsOther h base) (first : from ≡ base + 2) (last : to ≡ base + half_of h - 2 * depths h.procs.items)
-    (end : ℕ) (is_end : end ≡ base + half_of h) (mem2 : List ℕ) (mv2 : Moving) (news : List Proc) (moved : RowsMoved (plan_of h shared qs s.test from to) h.mem mem2 mv2 (at_objects from from) h.procs.items news end) where
+module _ (h : Halves) (laid : IsLaid h) (t : Target) (is : IsTarget h t) (x : Standing h) (mem2 : List ℕ) (mv2 : Moving) (news : List Proc)
+    (moved : RowsMoved (plan_of h x t) h.mem mem2 mv2 (at_objects t.from t.from) h.procs.items news t.end) where
   -- All is moved that the roots name, and nothing is scanned.
-  pub runs-next : Runs (plan_of h shared qs s.test from to) mem2 mv2 (at_objects mv2.aged.start mv2.young.start)
+  runs-next : Runs (plan_of h x t) mem2 mv2 (at_objects mv2.aged.start mv2.young.start)
   runs-next =
-      let P : ℕ → Type 0 = λ z. Runs (plan_of h shared qs s.test from to) mem2 mv2 (at_objects z from) in
-      let Q : ℕ → Type 0 = λ z. Runs (plan_of h shared qs s.test from to) mem2 mv2 (at_objects mv2.aged.start z) in
+      let P : ℕ → Type 0 = λ z. Runs (plan_of h x t) mem2 mv2 (at_objects z t.from) in
+      let Q : ℕ → Type 0 = λ z. Runs (plan_of h x t) mem2 mv2 (at_objects mv2.aged.start z) in
       subst Q (sym moved.goes.runs.agrees.young_low) (subst P (sym moved.goes.runs.agrees.aged_low) moved.goes.runs)
 
-  module _ (mem3 : List ℕ) (mv3 : Moving) (on : RunsOn (plan_of h shared qs s.test from to) mem2 mem3 mv3 (at_objects mv3.aged.top mv3.young.top)) where
-    both : Sides named h shared qs laid s base from to o first last
-    both = sides named h shared qs laid s base from to o first last
+  -- All is scanned.
+  module _ (mem3 : List ℕ) (mv3 : Moving) (on : RunsOn (plan_of h x t) mem2 mem3 mv3 (at_objects mv3.aged.top mv3.young.top)) where
+    both : AreSides h t
+    both = sides h laid t is
 
-    rows : AreMovedRows (plan_of h shared qs s.test from to) h.mem mem3 to end h.procs.items news
+    rows : AreMovedRows (plan_of h x t) h.mem mem3 t.to t.end h.procs.items news
     rows =
-        let low : end - 2 * depths h.procs.items ≡ to = omega (arith, last, is_end) in
-        let P : ℕ → Type 0 = λ z. AreMovedRows (plan_of h shared qs s.test from to) h.mem mem2 z end h.procs.items news in
-        rows-on (plan_of h shared qs s.test from to) h.mem mem2 mem3 mv3 (at_objects mv3.aged.top mv3.young.top) to end to to h.procs.items news (subst P low moved.are)
-        (goes-call (plan_of h shared qs s.test from to) mem2 mem3 mv3 (at_objects mv3.aged.top mv3.young.top) to to on.runs on.later)
-        (λ q above below. aside-there named h shared qs laid s base from to o first last q above (omega (arith, below, is_end))) (inr (omega arith)) (root-in (plan_of h shared qs s.test from to))
+        let P : ℕ → Type 0 = λ z. AreMovedRows (plan_of h x t) h.mem mem2 z t.end h.procs.items news in
+        rows-on (plan_of h x t) h.mem mem2 mem3 mv3 (at_objects mv3.aged.top mv3.young.top) t.to t.end t.to t.to h.procs.items news (subst P (sym is.last) moved.are)
+        (goes-call (plan_of h x t) mem2 mem3 mv3 (at_objects mv3.aged.top mv3.young.top) t.to t.to on.runs on.later) (aside-there h laid t is x) (inr (omega arith)) (root-in (plan_of h x t))
 
-    ended : RootsMoved (plan_of h shared qs s.test from to) mem3 × AreImages (plan_of h shared qs s.test from to) mem3 (roots_in mem3 news)
-    ended = images-all (plan_of h shared qs s.test from to) mem3 (roots_in mem3 news) (root-images (plan_of h shared qs s.test from to) h.mem mem3 to end h.procs.items news rows)
+    ended : RootsMoved (plan_of h x t) mem3 × AreImages (plan_of h x t) mem3 (roots_in mem3 news)
+    ended = images-all (plan_of h x t) mem3 (roots_in mem3 news) (root-images (plan_of h x t) h.mem mem3 t.to t.end h.procs.items news rows)
 
-    whole : Collected (plan_of h shared qs s.test from to) mem3 (top_of mv3)
-    whole = has-collected (plan_of h shared qs s.test from to) mem3 mv3 on.runs ended.0
+    whole : Collected (plan_of h x t) mem3 (top_of mv3)
+    whole = has-collected (plan_of h x t) mem3 mv3 on.runs ended.0
 
-    remains : Remains (plan_of h shared qs s.test from to) (λ a k. false)
+    remains : Remains (plan_of h x t) (λ a k. false)
     remains = record {
       stays = λ v q k r i e. absurd (not-both false e refl);
-      counts = λ a e. absurd (omega (arith, (s.objects a 2 e).1.1));
-      records = λ a k big e. absurd (omega (arith, big, (s.objects a k e).1.1));
+      counts = λ a e. absurd (omega (arith, (x.stands.objects a 2 e).1.1));
+      records = λ a k big e. absurd (omega (arith, big, (x.stands.objects a k e).1.1));
     }
 
-    roles : HasRoles (plan_of h shared qs s.test from to) mem3 (λ a k. false)
-    roles = has-roles (plan_of h shared qs s.test from to) on.runs.ready mem3 (top_of mv3) whole (λ a k. false) remains
+    roles : HasRoles (plan_of h x t) mem3 (λ a k. false)
+    roles = has-roles (plan_of h x t) on.runs.ready mem3 (top_of mv3) whole (λ a k. false) remains
 
-    objects : (a k : ℕ) → roles.test a k ≡ true → (from ≤ a) × ((a < mv3.young.top) × OfObject k)
+    objects : (a k : ℕ) → roles.test a k ≡ true → (t.base + 2 ≤ a) × ((a < mv3.young.top) × OfObject k)
     objects a k e = elim (roles.comes a k e) [
       | inl c ↦ (
-          let copy : IsMoved (plan_of h shared qs s.test from to) mem3 (top_of mv3) c.v (forward mem3 c.v) = whole.copies c.v c.reached c.leaves in
-          (omega (arith, c.place, copy.from), (omega (arith, c.place, copy.below, c.below), (s.objects (c.v / 4 + c.j) k c.role).1.1))
+          let copy : IsMoved (plan_of h x t) mem3 (top_of mv3) c.v (forward mem3 c.v) = whole.copies c.v c.reached c.leaves in
+          (omega (arith, c.place, copy.from, is.first), (omega (arith, c.place, copy.below, c.below), (x.stands.objects (c.v / 4 + c.j) k c.role).1.1))
         )
-      | inr both ↦ absurd (not-both false both.1 refl)
+      | inr kept ↦ absurd (not-both false kept.1 refl)
     ]
 
     same : AreSameRows h.procs.items news
-    same = same-rows (plan_of h shared qs s.test from to) h.mem mem3 to end h.procs.items news rows
+    same = same-rows (plan_of h x t) h.mem mem3 t.to t.end h.procs.items news rows
 
     -- The table has the new rows.
     rows-there : (with_items h.procs news).items ≡ news
     rows-there = with_items_is h.procs news (row-count h.procs.items news same ∙ sym h.procs.ok.0)
 
-    depths-there : depths news ≡ depths h.procs.items
-    depths-there = same-depths h.procs.items news same
-
-    places-there : to + 2 * depths news ≤ base + length mem3 / 2
-    places-there = omega (arith, whole.same_len, both.ends, depths-there)
-
-    pub same-there : AreSameRows h.procs.items (with_items h.procs news).items
+    same-there : AreSameRows h.procs.items (with_items h.procs news).items
     same-there = subst (AreSameRows h.procs.items) (sym rows-there) same
 
-    pub laid-there : IsLaid (moved_to h mem3 base mv3.young.top to news)
-    laid-there = record {
-      even = omega (arith, whole.same_len, laid.even);
-      side = elim o.side [ inl e ↦ inr (omega (arith, e, whole.same_len)) | inr e ↦ inl e.1 ];
-      front = omega (arith, first, on.runs.holds.begins false, on.runs.holds.inner false, on.runs.holds.outer false);
-      order = whole.ends false;
-      places = (let P : List Proc → Type 0 = λ z. to + 2 * depths z ≤ base + length mem3 / 2 in subst P (sym rows-there) places-there);
-    }
+    places-there : t.to + 2 * depths news ≤ t.base + length mem3 / 2
+    places-there = omega (arith, whole.same_len, both.ends, is.ends, same-depths h.procs.items news same)
 
-    pub stand-there : HalvesStand named (moved_to h mem3 base mv3.young.top to news) shared qs
-    stand-there = record {
-      test = roles.test;
-      single = roles.single;
-      objects = λ a k e. (omega (arith, first, (objects a k e).0), (objects a k e).1);
-      processes =
-        let limit : end ≡ base + length mem3 / 2 = omega (arith, is_end, whole.same_len) in
-        let P : ℕ → Type 0 = λ z. ProcsStand roles.test shared mem3 to z named news qs in
-        let Q : List Proc → Type 0 = λ z. ProcsStand roles.test shared mem3 to (base + length mem3 / 2) named z qs in
-        subst Q (sym rows-there) (subst P limit
-        (procs-stand (plan_of h shared qs s.test from to) s.test roles.test shared h.mem mem3 named h.low (end_of h) to end (λ w x t. whole.trees roles.test roles.follows w x t) h.procs.items news qs (root-in (plan_of h shared qs s.test from to)) rows s.processes));
-    }
-
-    -- The copies are what the new roots reach.
-    pub reached-there : AllReached (moved_to h mem3 base mv3.young.top to news)
-    reached-there =
-        let t : IsTiled (plan_of h shared qs s.test from to) mem3 false mv3.young.top = is-tiled (plan_of h shared qs s.test from to) mem3 mv3 on.runs ended.0 whole false in
-        let c : Composes (plan_of h shared qs s.test from to) mem3 = has-composed (plan_of h shared qs s.test from to) mem3 mv3 on.runs ended.0 in
-        let P : ℕ → Type 0 = λ z. Tiled mem3 z t.tiles mv3.young.top in
+    laid-there : IsLaid (moved_to h t mem3 mv3.young.top news)
+    laid-there =
+        let P : List Proc → Type 0 = λ z. t.to + 2 * depths z ≤ t.base + length mem3 / 2 in
         record {
-          tiles = t.tiles;
-          row = subst P first t.row;
-          all = λ x i.
-            let Q : List Proc → Type 0 = λ z. Reach mem3 (roots_in mem3 z) x in
-            let (v, (r, (l, (goes, e)))) = t.only x i in
-            subst Q (sym rows-there) (c.reached (roots_in mem3 news) ended.1 v x r (record { kept = λ stays. absurd (stays l); gone = λ z. (whole.complete v r l, e) }));
+          even = omega (arith, whole.same_len, laid.even);
+          side = elim is.side [ inl e ↦ inr (omega (arith, e, whole.same_len)) | inr e ↦ inl e.1 ];
+          front = omega (arith, is.first, on.runs.holds.begins false, on.runs.holds.inner false, on.runs.holds.outer false);
+          order = whole.ends false;
+          places = subst P (sym rows-there) places-there;
         }
 
-    pub used-there : used_in (moved_to h mem3 base mv3.young.top to news) ≤ 2 + held_words qs
+    procs-there : ProcsStand roles.test x.shared mem3 t.to (t.base + length mem3 / 2) x.named (with_items h.procs news).items x.processes
+    procs-there =
+        let limit : t.end ≡ t.base + length mem3 / 2 = omega (arith, is.ends, whole.same_len) in
+        let P : ℕ → Type 0 = λ z. ProcsStand roles.test x.shared mem3 t.to z x.named news x.processes in
+        let Q : List Proc → Type 0 = λ z. ProcsStand roles.test x.shared mem3 t.to (t.base + length mem3 / 2) x.named z x.processes in
+        subst Q (sym rows-there)
+        (subst P limit
+        (procs-stand (plan_of h x t) x.stands.test roles.test x.shared h.mem mem3 x.named (λ w y u. whole.trees roles.test roles.follows w y u) h.low (end_of h) t.to t.end h.procs.items news x.processes
+        (root-in (plan_of h x t)) rows x.stands.processes))
+
+    stand-there : HalvesStand x.named (moved_to h t mem3 mv3.young.top news) x.shared x.processes
+    stand-there = record { test = roles.test; single = roles.single; objects = objects; processes = procs-there }
+
+    -- The copies are what the new roots reach.
+    reached-there : AllReached (moved_to h t mem3 mv3.young.top news)
+    reached-there =
+        let tiled : IsTiled (plan_of h x t) mem3 false mv3.young.top = is-tiled (plan_of h x t) mem3 mv3 on.runs ended.0 whole false in
+        let composes : Composes (plan_of h x t) mem3 = has-composed (plan_of h x t) mem3 mv3 on.runs ended.0 in
+        let P : ℕ → Type 0 = λ z. Tiled mem3 z tiled.tiles mv3.young.top in
+        record {
+          tiles = tiled.tiles;
+          row = subst P is.first tiled.row;
+          all = λ y i.
+            let Q : List Proc → Type 0 = λ z. Reach mem3 (roots_in mem3 z) y in
+            let (v, (r, (l, (goes, e)))) = tiled.only y i in
+            subst Q (sym rows-there)
+            (composes.reached (roots_in mem3 news) ended.1 v y r (record { kept = λ stays. absurd (stays l); gone = λ z. (whole.complete v r l, e) }));
+        }
+
+    used-there : used_in (moved_to h t mem3 mv3.young.top news) ≤ 2 + held_words x.processes
     used-there =
         omega (
           arith,
-          first,
+          is.first,
+          is.ends,
           whole.words,
           whole.same_len,
           both.ends,
           on.runs.holds.begins false,
           on.runs.holds.inner false,
           on.runs.holds.outer false,
-          held-words s.test shared h.mem h.low (end_of h) named h.procs.items qs s.processes,
+          held-words x.stands.test x.shared h.mem h.low (end_of h) x.named h.procs.items x.processes x.stands.processes,
         )
 
 -- The collection.
-module _ (h : Halves) (r : CanCollect h) (base from to : ℕ) (o : IsOther h base) (first : from ≡ base + 2) (last : to ≡ base + half_of h - 2 * depths h.procs.items) (mv : Moving) (b : IsBetween from to mv) (end : ℕ) (is_end : end ≡ base + half_of h) where
-  pub can-move-rows : CanMoveRows h.mem mv h.procs.items end
-  can-move-rows = record {
-    plan = plan_of h r.shared r.processes r.stands.test from to;
-    marks = at_objects from from;
-    low = h.low;
-    limit = end_of h;
-    moves = rows-move r.named h r.shared r.processes r.laid r.stands base from to o first last mv b end is_end;
-  }
+module _ (h : Halves) (r : CanCollect h) (t : Target) (is : IsTarget h t) (mv : Moving) (b : IsBetween t.from t.to mv) (rows : List Proc) (table : rows ≡ h.procs.items) where
+  pub can-move-rows : CanMoveRows h.mem mv rows t.end
+  can-move-rows =
+      let P : List Proc → Type 0 = λ z. CanMoveRows h.mem mv z t.end in
+      subst P (sym table) (record {
+        plan = plan_of h r.standing t;
+        marks = at_objects t.from t.from;
+        low = h.low;
+        limit = end_of h;
+        moves = rows-move h r.laid t is r.standing mv b;
+      })
 
-  module _ (mem2 : List ℕ) (mv2 : Moving) (news : List Proc) (moves : (p : Plan) (k : Marks) (low limit : ℕ) → RowsMove p h.mem mv k low limit h.procs.items end → RowsMoved p h.mem mem2 mv2 k h.procs.items news end) where
-    moved : (named : ℕ) (shared : List (List ℕ)) (qs : List Process) (s : HalvesStand named h shared qs) → RowsMoved (plan_of h shared qs s.test from to) h.mem mem2 mv2 (at_objects from from) h.procs.items news end
-    moved named shared qs s = moves (plan_of h shared qs s.test from to) (at_objects from from) h.low (end_of h) (rows-move named h shared qs r.laid s base from to o first last mv b end is_end)
+  module _ (mem2 : List ℕ) (mv2 : Moving) (news : List Proc)
+      (moves : (p : Plan) (k : Marks) (low limit : ℕ) → RowsMove p h.mem mv k low limit rows t.end → RowsMoved p h.mem mem2 mv2 k rows news t.end) where
+    moved : (x : Standing h) → RowsMoved (plan_of h x t) h.mem mem2 mv2 (at_objects t.from t.from) h.procs.items news t.end
+    moved x =
+        let P : List Proc → Type 0 = λ z. RowsMoved (plan_of h x t) h.mem mem2 mv2 (at_objects t.from t.from) z news t.end in
+        let Q : List Proc → Type 0 = λ z. RowsMove (plan_of h x t) h.mem mv (at_objects t.from t.from) h.low (end_of h) z t.end in
+        subst P table (moves (plan_of h x t) (at_objects t.from t.from) h.low (end_of h) (subst Q (sym table) (rows-move h r.laid t is x mv b)))
 
-    runs : (named : ℕ) (shared : List (List ℕ)) (qs : List Process) (s : HalvesStand named h shared qs) → Runs (plan_of h shared qs s.test from to) mem2 mv2 (at_objects mv2.aged.start mv2.young.start)
-    runs named shared qs s = runs-next named h shared qs r.laid s base from to o first last end is_end mem2 mv2 news (moved named shared qs s)
+    runs : (x : Standing h) → Runs (plan_of h x t) mem2 mv2 (at_objects mv2.aged.start mv2.young.start)
+    runs x = runs-next h r.laid t is x mem2 mv2 news (moved x)
 
     pub can-scan : CanScan mem2 mv2
-    can-scan = record { plan = plan_of h r.shared r.processes r.stands.test from to; runs = runs r.named r.shared r.processes r.stands }
+    can-scan = record { plan = plan_of h r.standing t; runs = runs r.standing }
 
-    pub collects : (mem3 : List ℕ) (mv3 : Moving) → ((p : Plan) → Runs p mem2 mv2 (at_objects mv2.aged.start mv2.young.start) → RunsOn p mem2 mem3 mv3 (at_objects mv3.aged.top mv3.young.top))
-        → Collects h (moved_to h mem3 base mv3.young.top to news)
-    collects mem3 mv3 scans =
-        let on : (named : ℕ) (shared : List (List ℕ)) (qs : List Process) (s : HalvesStand named h shared qs) → RunsOn (plan_of h shared qs s.test from to) mem2 mem3 mv3 (at_objects mv3.aged.top mv3.young.top) = λ named shared qs s.
-        scans (plan_of h shared qs s.test from to) (runs named shared qs s) in
-        record {
-          same_len = (on r.named r.shared r.processes r.stands).runs.holds.same_len;
-          laid = laid-there r.named h r.shared r.processes r.laid r.stands base from to o first last end is_end mem2 mv2 news (moved r.named r.shared r.processes r.stands) mem3 mv3 (on r.named r.shared r.processes r.stands);
-          rows = same-there r.named h r.shared r.processes r.laid r.stands base from to o first last end is_end mem2 mv2 news (moved r.named r.shared r.processes r.stands) mem3 mv3 (on r.named r.shared r.processes r.stands);
-          capacity = refl;
-          counted = refl;
-          stands = λ named shared qs s. stand-there named h shared qs r.laid s base from to o first last end is_end mem2 mv2 news (moved named shared qs s) mem3 mv3 (on named shared qs s);
-          reached = reached-there r.named h r.shared r.processes r.laid r.stands base from to o first last end is_end mem2 mv2 news (moved r.named r.shared r.processes r.stands) mem3 mv3 (on r.named r.shared r.processes r.stands);
-          bound = λ named shared qs s. used-there named h shared qs r.laid s base from to o first last end is_end mem2 mv2 news (moved named shared qs s) mem3 mv3 (on named shared qs s);
-        }
+    module _ (mem3 : List ℕ) (mv3 : Moving)
+        (scans : (p : Plan) → Runs p mem2 mv2 (at_objects mv2.aged.start mv2.young.start) → RunsOn p mem2 mem3 mv3 (at_objects mv3.aged.top mv3.young.top)) where
+      on : (x : Standing h) → RunsOn (plan_of h x t) mem2 mem3 mv3 (at_objects mv3.aged.top mv3.young.top)
+      on x = scans (plan_of h x t) (runs x)
 
--- The bounds as the code reckons them.
-pub half-end : (h : Halves) (base words : ℕ) → words ≡ length h.mem → base + words / 2 ≡ base + half_of h
-half-end h base words e = omega (arith, e)
-
-pub room-end : (h : Halves) (base words n : ℕ) (rows : List Proc) → words ≡ length h.mem → n ≡ depths rows → rows ≡ h.procs.items → base + words / 2 - 2 * n ≡ base + half_of h - 2 * depths h.procs.items
-room-end h base words n rows e f g = omega (arith, e, f, ap depths g)
-
-pub rows-back : (h : Halves) (mv : Moving) (end : ℕ) (rows : List Proc) (mem2 : List ℕ) (mv2 : Moving) (news : List Proc) → rows ≡ h.procs.items
-    → ((p : Plan) (k : Marks) (low limit : ℕ) → RowsMove p h.mem mv k low limit rows end → RowsMoved p h.mem mem2 mv2 k rows news end)
-    → (p : Plan) (k : Marks) (low limit : ℕ) → RowsMove p h.mem mv k low limit h.procs.items end → RowsMoved p h.mem mem2 mv2 k h.procs.items news end
-rows-back h mv end rows mem2 mv2 news same moves =
-    let P : List Proc → Type 0 = λ z. (p : Plan) (k : Marks) (low limit : ℕ) → RowsMove p h.mem mv k low limit z end → RowsMoved p h.mem mem2 mv2 k z news end in
-    subst P same moves
+      pub collects : Collects h (moved_to h t mem3 mv3.young.top news)
+      collects =
+          record {
+            same_len = (on r.standing).runs.holds.same_len;
+            laid = laid-there h r.laid t is r.standing mem2 mv2 news (moved r.standing) mem3 mv3 (on r.standing);
+            rows = same-there h r.laid t is r.standing mem2 mv2 news (moved r.standing) mem3 mv3 (on r.standing);
+            capacity = refl;
+            counted = refl;
+            stands = λ named shared qs s.
+              let x : Standing h = record { named = named; shared = shared; processes = qs; stands = s } in
+              stand-there h r.laid t is x mem2 mv2 news (moved x) mem3 mv3 (on x);
+            reached = reached-there h r.laid t is r.standing mem2 mv2 news (moved r.standing) mem3 mv3 (on r.standing);
+            bound = λ named shared qs s.
+              let x : Standing h = record { named = named; shared = shared; processes = qs; stands = s } in
+              used-there h r.laid t is x mem2 mv2 news (moved x) mem3 mv3 (on x);
+          }

@@ -22,14 +22,16 @@ abbrev pub trees_of : List Process → Trees
 trees_of [] = end
 trees_of (q ∷ qs) = onto q.registers (onto q.stack (trees_of qs))
 
-all-onto : (c : ℕ → ℕ → Bool) (shared : List (List ℕ)) (mem : List ℕ) (named : ℕ) (ws rest : List ℕ) (ts : List Tree) (us : Trees) → HoldTrees c shared mem named ws ts → AllStand c shared mem rest us → AllStand c shared mem (ws ++ rest) (onto ts us)
+all-onto : (c : ℕ → ℕ → Bool) (shared : List (List ℕ)) (mem : List ℕ) (named : ℕ) (ws rest : List ℕ) (ts : List Tree) (us : Trees) → HoldTrees c shared mem named ws ts
+    → AllStand c shared mem rest us → AllStand c shared mem (ws ++ rest) (onto ts us)
 unfolding AllStand
 all-onto c shared mem named [] rest [] us h a = a
 all-onto c shared mem named [] rest (t ∷ ts) us h a = absurd h
 all-onto c shared mem named (w ∷ ws) rest [] us h a = absurd h
 all-onto c shared mem named (w ∷ ws) rest (t ∷ ts) us (first, h) a = (first.standing, all-onto c shared mem named ws rest ts us h a)
 
-pub roots-stand : (c : ℕ → ℕ → Bool) (shared : List (List ℕ)) (mem : List ℕ) (low limit named : ℕ) (ps : List Proc) (qs : List Process) → ProcsStand c shared mem low limit named ps qs → AllStand c shared mem (roots_in mem ps) (trees_of qs)
+pub roots-stand : (c : ℕ → ℕ → Bool) (shared : List (List ℕ)) (mem : List ℕ) (low limit named : ℕ) (ps : List Proc) (qs : List Process) → ProcsStand c shared mem low limit named ps qs
+    → AllStand c shared mem (roots_in mem ps) (trees_of qs)
 unfolding AllStand
 roots-stand c shared mem low limit named [] [] s = tt
 roots-stand c shared mem low limit named [] (q ∷ qs) s = absurd s
@@ -38,7 +40,8 @@ roots-stand c shared mem low limit named (p ∷ ps) (q ∷ qs) (first, rest) =
     all-onto c shared mem named p.regs (values mem p.stack p.depth ++ roots_in mem ps) q.registers (onto q.stack (trees_of qs)) first.registers
     (all-onto c shared mem named (values mem p.stack p.depth) (roots_in mem ps) q.stack (trees_of qs) first.stack (roots-stand c shared mem low limit named ps qs rest))
 
-pub have-stacks : (c : ℕ → ℕ → Bool) (shared : List (List ℕ)) (mem : List ℕ) (low limit named : ℕ) (ps : List Proc) (qs : List Process) → ProcsStand c shared mem low limit named ps qs → HaveStacks mem low limit ps
+pub have-stacks : (c : ℕ → ℕ → Bool) (shared : List (List ℕ)) (mem : List ℕ) (low limit named : ℕ) (ps : List Proc) (qs : List Process) → ProcsStand c shared mem low limit named ps qs
+    → HaveStacks mem low limit ps
 have-stacks c shared mem low limit named [] [] s = tt
 have-stacks c shared mem low limit named [] (q ∷ qs) s = absurd s
 have-stacks c shared mem low limit named (p ∷ ps) [] s = absurd s
@@ -63,7 +66,8 @@ flat-onto [] us = omega arith
 flat-onto (t ∷ ts) us = omega (arith, flat-onto ts us, sum_by-cons flat t ts)
 
 -- The trees of all roots and two words a stack place are the words that the processes hold.
-pub held-words : (c : ℕ → ℕ → Bool) (shared : List (List ℕ)) (mem : List ℕ) (low limit named : ℕ) (ps : List Proc) (qs : List Process) → ProcsStand c shared mem low limit named ps qs → flat_of_all (trees_of qs) + 2 * depths ps ≡ held_words qs
+pub held-words : (c : ℕ → ℕ → Bool) (shared : List (List ℕ)) (mem : List ℕ) (low limit named : ℕ) (ps : List Proc) (qs : List Process) → ProcsStand c shared mem low limit named ps qs
+    → flat_of_all (trees_of qs) + 2 * depths ps ≡ held_words qs
 held-words c shared mem low limit named [] [] s = refl
 held-words c shared mem low limit named [] (q ∷ qs) s = absurd s
 held-words c shared mem low limit named (p ∷ ps) [] s = absurd s

@@ -1,6 +1,7 @@
 mod Going
-mod Stacking
+mod Placing
 mod Stacks
+mod Stacking
 mod Rowing
 mod AllRows
 mod Held

@@ -6,7 +6,7 @@ use Rattle.plain_machine.specs.Tightness.{demand}
 use Rattle.word_mem.specs.declared.ranges.Room.{Room}
 use Rattle.word_mem.specs.declared.ranges.Span.{Span}
 use Rattle.cheney.specs.declared.moving.Moving.{Moving}
-use Rattle.one_space.specs.Halves.{HalvesStand, IsLaid, free_in, used_in}
+use Rattle.one_space.specs.Halves.{HalvesStand, IsLaid, Standing, free_in, used_in}
 use Rattle.one_space.specs.Reached.{AllReached, held_words}
 use Rattle.one_space.specs.declared.table.Proc.{Proc}
 use Rattle.one_space.specs.declared.halves.Halves.{Halves}
@@ -26,13 +26,10 @@ AreSameRows (o ∷ os) (n ∷ ns) = (n.number ≡ o.number) × ((n.depth ≡ o.d
 AreSameRows [] (n ∷ ns) = ⊥
 AreSameRows (o ∷ os) [] = ⊥
 
--- The half in use stands for some processes.
+-- The half in use is laid out and stands for some processes.
 pub record CanCollect (h : Halves) : Type 0 where
   pub laid : IsLaid h
-  pub named : ℕ
-  pub shared : List (List ℕ)
-  pub processes : List Process
-  pub stands : HalvesStand named h shared processes
+  pub standing : Standing h
 
 -- A collection: whatever processes the old half stood for, the new one does, and the words in use are at most those that
 -- they hold; and every object in the new half is reachable.
@@ -59,4 +56,5 @@ pub record MakesRoom (n : ℕ) (old new : Halves) (result : Bool) : Type 0 where
   pub answer : result ≡ nat_le n (free_in new)
   pub stands : (named : ℕ) (shared : List (List ℕ)) (qs : List Process) → HalvesStand named old shared qs → HalvesStand named new shared qs
   pub laid : IsLaid new
-  pub tight : (named : ℕ) (s : State) (asked : ℕ) → HalvesStand named old s.shared s.processes → LooksFor s asked n → result ≡ false → length old.mem < 2 * (demand s + asked)
+  pub tight : (named : ℕ) (s : State) (asked : ℕ) → HalvesStand named old s.shared s.processes → LooksFor s asked n → result ≡ false
+      → length old.mem < 2 * (demand s + asked)

@@ -68,7 +68,8 @@ pub record ProcStands (c : ℕ → ℕ → Bool) (shared : List (List ℕ)) (mem
 -- The rows stand for the processes, in order.
 abbrev pub ProcsStand : (ℕ → ℕ → Bool) → List (List ℕ) → List ℕ → (low limit named : ℕ) → List Proc → List Process → Type 0
 ProcsStand c shared mem low limit named [] [] = Unit {0}
-ProcsStand c shared mem low limit named (p ∷ ps) (q ∷ qs) = ProcStands c shared mem low limit named p q × ProcsStand c shared mem low limit named ps qs
+ProcsStand c shared mem low limit named (p ∷ ps) (q ∷ qs) = ProcStands c shared mem low limit named p q
+    × ProcsStand c shared mem low limit named ps qs
 ProcsStand c shared mem low limit named [] (q ∷ qs) = ⊥
 ProcsStand c shared mem low limit named (p ∷ ps) [] = ⊥
 
@@ -79,3 +80,10 @@ pub record HalvesStand (named : ℕ) (h : Halves) (shared : List (List ℕ)) (qs
   pub single : IsSingle test
   pub objects : (a k : ℕ) → test a k ≡ true → (front_of h ≤ a) × ((a < h.top) × OfObject k)
   pub processes : ProcsStand test shared h.mem h.low (end_of h) named h.procs.items qs
+
+-- Some processes that the half in use stands for.
+pub record Standing (h : Halves) : Type 0 where
+  pub named : ℕ
+  pub shared : List (List ℕ)
+  pub processes : List Process
+  pub stands : HalvesStand named h shared processes

@@ -24,6 +24,20 @@ pub record Goes (p : Plan) (mem mem2 : List ℕ) (mv2 : Moving) (k : Marks) (fro
   pub images : (w x : ℕ) → Reached p w → IsImage p mem w x → IsImage p mem2 w x
   pub aside : (q : ℕ) → IsAside p q → (q < from) ⊎ (to ≤ q) → slice_index mem2 q ≡ slice_index mem q
 
+-- A collection runs, its roots reach the value of the stack place, and the two words from `to` on lie aside.
+pub record PlaceMoves (p : Plan) (mem : List ℕ) (mv : Moving) (k : Marks) (place to : ℕ) : Type 0 where
+  pub runs : Runs p mem mv k
+  pub reached : Reached p (slice_index mem place)
+  pub first : IsAside p to
+  pub second : IsAside p (to + 1)
+
+-- The new place holds what the value has become, and names the place that follows; the answer is the place below the old one.
+pub record PlaceMoved (p : Plan) (mem mem2 : List ℕ) (mv2 : Moving) (k : Marks) (place to below : ℕ) : Type 0 where
+  pub goes : Goes p mem mem2 mv2 k to (to + PLACE_WORDS)
+  pub image : IsImage p mem2 (slice_index mem place) (slice_index mem2 to)
+  pub next : slice_index mem2 (to + 1) ≡ to + PLACE_WORDS
+  pub below_is : below ≡ slice_index mem (place + 1)
+
 -- A collection runs, and so many words from `to` on are free for stack places, aside and apart from the words between `low`
 -- and `limit`, which hold the old stack places.
 pub record HasPlaces (p : Plan) (mem : List ℕ) (mv : Moving) (k : Marks) (low limit to n : ℕ) : Type 0 where

@@ -1,8 +1,9 @@
 // Moving what the registers and the stacks of all processes name.
-ghost use Rattle.std.specs.Prelude.{ℕ};
+ghost use Rattle.std.specs.Prelude.{ℕ, ◌+◌, ◌≤◌, length, slice_index};
 ghost use Rattle.cheney.specs.Plan.{Plan};
 ghost use Rattle.cheney.specs.Zones.{Marks};
-ghost use Rattle.one_space.specs.Rows.{CanMoveRow, CanMoveRows, CanMoveStack, RowMoved, RowMoves, RowsMoved, RowsMove, StackMoved, StackMoves};
+ghost use Rattle.cheney.specs.Calls.{CanMove};
+ghost use Rattle.one_space.specs.Rows.{CanMoveRow, CanMoveRows, CanMoveStack, PlaceMoved, PlaceMoves, RowMoved, RowMoves, RowsMoved, RowsMove, StackMoved, StackMoves};
 
 use crate::halves::PLACE_WORDS;
 use crate::table::Proc;
@@ -40,12 +41,23 @@ fn move_stack(mem: &mut WordMem, mv: &mut Moving, from: u64, depth: u64, to: u64
     let _len = mem.len();
     let mut place = from;
     for i in 0..depth {
-        let next = to + PLACE_WORDS * i;
-        let w = mem.get(place);
-        let below = mem.get(place + 1);
-        let new = evacuate(mem, mv, w);
-        mem.set(next, new);
-        mem.set(next + 1, next + PLACE_WORDS);
-        place = below;
+        place = move_place(mem, mv, place, to + PLACE_WORDS * i);
     }
+}
+
+// Moves what the value of a stack place names, and writes what it has become, above the place that follows, to the words
+// from `to` on. Answers the place below the old one.
+fn move_place(mem: &mut WordMem, mv: &mut Moving, place: u64, to: u64) -> u64
+    requires can { CanMove mem.old mv.old (slice_index mem.old place) }
+    requires old { place + PLACE_WORDS ≤ length mem.old }
+    requires new { to + PLACE_WORDS ≤ length mem.old }
+    ensures { (p : Plan) (k : Marks) → PlaceMoves p mem.old mv.old k place to → PlaceMoved p mem.old mem.new mv.new k place to result }
+{
+    let _len = mem.len();
+    let w = mem.get(place);
+    let below = mem.get(place + 1);
+    let new = evacuate(mem, mv, w);
+    mem.set(to, new);
+    mem.set(to + 1, to + PLACE_WORDS);
+    below
 }
