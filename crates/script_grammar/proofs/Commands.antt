@@ -1,12 +1,13 @@
 -- What holds of the command of what a line says: its verb is built, and its numbers are in their bounds.
-use Rattle.std.proofs.Common.{◌≡◌, ℕ, ◌^◌, ◌<◌, ◌≤◌, true, List, [], ◌∷◌, ◌++◌, length, refl, sym, arith}
+use Rattle.std.proofs.Common.{◌≡◌, ℕ, ◌<◌, ◌≤◌, List, [], ◌∷◌, length, refl, arith}
 use Rattle.atom_names.specs.Names.{most_names}
+use Rattle.script_grammar.specs.declared.limits.TheConstants.{REGISTERS}
 use Rattle.script_grammar.specs.declared.word.Word.{Word}
 use Rattle.script_grammar.specs.declared.word.Word.TheVariants as word
 use Rattle.script_grammar.specs.declared.word.SysWord.{SysWord}
 use Rattle.script_grammar.specs.declared.word.SysWord.TheVariants as sys
 use Rattle.script_grammar.specs.Written.{Kind, OperandOf, Operands, kinds_of, sys_kinds_of, Written}
-use Rattle.script_grammar.specs.Written.Kind.{Slot, Count, Receiver, Title, Environment, Extent, Body, Bodies}
+use Rattle.script_grammar.specs.Written.Kind.{Slot, Receiver, Title}
 use Rattle.script_grammar.specs.Written.Written.{Nothing, OfProcess, OfSystem}
 use Rattle.script_grammar.specs.Grammar.{word_of, sys_word_of, IsBuilt, IsBuiltCommand, MayReceive, IsOperand, AreOperands, IsAllowed}
 use Rattle.script_grammar.specs.Names.{ArgumentOf, Arguments, argument, arguments, operand_atoms, operands_atoms, all_atoms, names_after, verb_with, sys_verb_with, command_of, HasRegisters, HasName, HasArea, IsInBounds}
@@ -29,7 +30,7 @@ command-built names (OfSystem w ops) b = rw (sys-word-of-with w (arguments names
 
 -- the bounds of an argument, and of those of a row
 abbrev pub IsBounded : (k : Kind) → ArgumentOf k → Type 0
-IsBounded Slot r = r < 16
+IsBounded Slot r = r < REGISTERS
 IsBounded Receiver to = MayReceive to
 IsBounded Title n = n < most_names
 IsBounded _ _ = Unit {0}

@@ -2,6 +2,8 @@
 use Rattle.std.specs.Prelude.{ℕ, ◌≡◌, ◌+◌, ◌-◌, ◌*◌, ◌^◌, ◌<◌, ◌≤◌, ◌⊎◌, ◌≢◌, ◌||◌, ◌&&◌, Bool, true, false, nat_eq, nat_le, ℤ, pos, negsuc, List, [], ◌∷◌, ◌++◌, length, All, codes}
 use Rattle.plain_term.specs.Measures.{is_small, magnitude}
 use Rattle.script_grammar.specs.Written.{Term, Terms, TermPairs, terms_len, Kind, OperandOf, Operands, text_of, kinds_of, sys_text_of, sys_kinds_of, Written}
+use Rattle.atom_names.specs.declared.row.TheConstants.{LONGEST_NAME}
+use Rattle.script_grammar.specs.declared.limits.TheConstants.{REGISTERS, NUMBERS, LEVELS, MOST_HELD}
 use Rattle.script_grammar.specs.declared.word.Word.{Word}
 use Rattle.script_grammar.specs.declared.word.SysWord.{SysWord}
 use Rattle.script_grammar.specs.Written.Term.{Int, Atom, Pid, Held, Listed, Barred, Tuple, Map, Bin}
@@ -72,7 +74,7 @@ IsInteger (negsuc n) text = (digits : List ℕ) × IsNumber (n + 1) digits × (t
 -- The bytes are an atom.
 abbrev pub IsName : List ℕ → Type 0
 IsName [] = ⊥
-IsName (b ∷ bytes) = (is_small_letter b ≡ true) × AreAll is_name_byte bytes × (length bytes < 63)
+IsName (b ∷ bytes) = (is_small_letter b ≡ true) × AreAll is_name_byte bytes × (length bytes < LONGEST_NAME)
 
 -- A piece of a line: at least one blank, or a token, before which blanks may stand.
 pub data Piece : Type 0 where
@@ -198,8 +200,8 @@ abbrev mutual
   pub MayStand : (levels : ℕ) → Term → Type 0
   MayStand levels (Int i) = magnitude i < 2 ^ 127
   MayStand levels (Atom a) = IsName a
-  MayStand levels (Pid n) = (1 ≤ n) × (n < 2 ^ 40)
-  MayStand levels (Held r) = r < 16
+  MayStand levels (Pid n) = (1 ≤ n) × (n < NUMBERS)
+  MayStand levels (Held r) = r < REGISTERS
   MayStand levels (Listed ts) = (0 < levels) × AllMayStand (levels - 1) ts
   MayStand levels (Barred ts t) = (0 < levels) × (0 < terms_len ts) × AllMayStand (levels - 1) ts × MayStand (levels - 1) t
   MayStand levels (Tuple ts) = (0 < levels) × AllMayStand (levels - 1) ts
@@ -239,23 +241,22 @@ abbrev mutual
   PairsHoldNone stop = Unit {0}
   PairsHoldNone (pair k v qs) = HoldsNone k × HoldsNone v × PairsHoldNone qs
 
--- A receiver's bounds: a process has a number below 2 ^ 40, a register one below 16.
+-- A receiver is in its bounds: a process by a number of a line, a register by one that a process has.
 abbrev pub MayReceive : To → Type 0
-MayReceive (to.Number n) = n < 2 ^ 40
-MayReceive (to.Held r) = (r.0) < 16
+MayReceive (to.Number n) = n < NUMBERS
+MayReceive (to.Held r) = (r.0) < REGISTERS
 
--- The ranges of an operand: registers below 16, numbers below 2 ^ 40, brackets in at most 256
--- levels, at most 64 registers in an environment, and at least one term where they are divided by
--- semicolons, with no register in it.
+-- The ranges of an operand: registers that a process has, numbers of a line, brackets in so many levels at most, so many
+-- registers at most in an environment, and at least one term where they are divided by semicolons, with no register in it.
 abbrev pub IsOperand : (k : Kind) → OperandOf k → Type 0
-IsOperand Slot r = r < 16
-IsOperand Count n = n < 2 ^ 40
+IsOperand Slot r = r < REGISTERS
+IsOperand Count n = n < NUMBERS
 IsOperand Receiver to = MayReceive to
 IsOperand Title a = IsName a
-IsOperand Environment rs = All (λ r. r < 16) rs × (length rs ≤ 64)
+IsOperand Environment rs = All (λ r. r < REGISTERS) rs × (length rs ≤ MOST_HELD)
 IsOperand Extent d = Unit {0}
-IsOperand Body t = MayStand 256 t
-IsOperand Bodies ts = (0 < terms_len ts) × AllMayStand 256 ts × AllHoldNone ts
+IsOperand Body t = MayStand LEVELS t
+IsOperand Bodies ts = (0 < terms_len ts) × AllMayStand LEVELS ts × AllHoldNone ts
 
 -- The ranges of the operands of a row.
 abbrev pub AreOperands : (ks : List Kind) → Operands ks → Type 0
@@ -265,7 +266,7 @@ AreOperands (k ∷ ks) ops = IsOperand k (ops.0) × AreOperands ks (ops.1)
 -- The ranges of a command.
 abbrev pub IsAllowed : Written → Type 0
 IsAllowed Nothing = Unit {0}
-IsAllowed (OfProcess n w ops) = (n < 2 ^ 40) × AreOperands (kinds_of w) ops
+IsAllowed (OfProcess n w ops) = (n < NUMBERS) × AreOperands (kinds_of w) ops
 IsAllowed (OfSystem w ops) = AreOperands (sys_kinds_of w) ops
 
 -- The line says the command.

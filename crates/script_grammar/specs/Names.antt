@@ -1,9 +1,10 @@
 -- A written command with the names of its atoms in numbers: its items, the command.
-use Rattle.std.specs.Prelude.{ℕ, ◌^◌, ◌<◌, List, [], ◌∷◌, ◌++◌, length, map, unwrap_or}
+use Rattle.std.specs.Prelude.{ℕ, ◌<◌, List, [], ◌∷◌, ◌++◌, length, map, unwrap_or}
 use Rattle.atom_names.specs.Names.{most_names, index_of, with_name}
 use Rattle.plain_term.specs.declared.item.Item.{Item}
 use Rattle.plain_term.specs.declared.item.Item.TheVariants as item
 use Rattle.script_grammar.specs.Written.{Term, Terms, TermPairs, terms_len, pairs_len, joined, Kind, OperandOf, Operands, kinds_of, sys_kinds_of, Written}
+use Rattle.script_grammar.specs.declared.limits.TheConstants.{REGISTERS, NUMBERS}
 use Rattle.script_grammar.specs.declared.word.Word.{Word}
 use Rattle.script_grammar.specs.declared.word.SysWord.{SysWord}
 use Rattle.script_grammar.specs.Written.Term.{Int, Atom, Pid, Held, Listed, Barred, Tuple, Map, Bin}
@@ -203,16 +204,16 @@ command_of names Nothing = command.Nothing
 command_of names (OfProcess n w ops) = command.Process n (verb_of names w ops)
 command_of names (OfSystem w ops) = command.System (sys_verb_of names w ops)
 
--- A register's number is below 16.
+-- A process has the register.
 abbrev pub IsRegister : Reg → Type 0
-IsRegister r = (r.0) < 16
+IsRegister r = (r.0) < REGISTERS
 
--- A register that the pick names is below 16.
+-- A process has the register that the pick names.
 abbrev pub PicksRegister : Pick → Type 0
 PicksRegister (pick.MapGet r) = IsRegister r
 PicksRegister _ = Unit {0}
 
--- Each register that the verb names is below 16, and a receiver's number below 2 ^ 40.
+-- A process has each register that the verb names, and a receiver is in its bounds.
 abbrev pub HasRegisters : Verb → Type 0
 HasRegisters (verb.Set r) = IsRegister r
 HasRegisters (verb.Choose r s p) = IsRegister r × IsRegister s × PicksRegister p
@@ -245,11 +246,11 @@ HasArea (sysverb.Load name count) = name < most_names
 HasArea (sysverb.Purge name) = name < most_names
 HasArea _ = Unit {0}
 
--- Each number of a process that the command names is below 2 ^ 40, each register below 16, and each number of a name
--- or an area below the bound of names.
+-- The number of a process is one of a line, a process has each register, and each number of a name or an area is below
+-- the bound of names.
 abbrev pub IsInBounds : Command → Type 0
 IsInBounds command.Nothing = Unit {0}
-IsInBounds (command.Process n v) = (n < 2 ^ 40) × HasRegisters v × HasName v
+IsInBounds (command.Process n v) = (n < NUMBERS) × HasRegisters v × HasName v
 IsInBounds (command.System v) = HasArea v
 
 -- Registers as terms.

@@ -1,5 +1,6 @@
 -- Atoms and words as they are read, and as the grammar has them.
 use Rattle.std.proofs.Common.{◌≡◌, ℕ, suc, ◌≤◌, Bool, true, false, nat_eq, nat_le, cond, List, [], ◌∷◌, ◌++◌, length, take, drop, Some, None, refl, sym, ◌∙◌, ap, subst, inl, inr, arith, one-add}
+use Rattle.atom_names.specs.declared.row.TheConstants.{LONGEST_NAME}
 use Rattle.std.specs.List.{prefix_len}
 use Rattle.std.proofs.lemmas.Bool.{le-leb, leb-true}
 use Rattle.std.proofs.lemmas.List.{take-append-drop}
@@ -35,14 +36,14 @@ named_len : (b : ℕ) (bytes : List ℕ) → is_small_letter b ≡ true → pref
 named_len b bytes h = rw (h, one-add) refl
 
 pub atom_read : (b : ℕ) (bytes name rest : List ℕ) → is_small_letter b ≡ true → atom_at (b ∷ bytes) ≡ Some (name, rest) → Named name (b ∷ bytes) rest
-atom_read b bytes name rest small h = let k : cond (nat_eq (suc (prefix_len is_name_byte bytes)) 0) None (cond (nat_le (suc (prefix_len is_name_byte bytes)) 63)
+atom_read b bytes name rest small h = let k : cond (nat_eq (suc (prefix_len is_name_byte bytes)) 0) None (cond (nat_le (suc (prefix_len is_name_byte bytes)) LONGEST_NAME)
     (Some (b ∷ take (prefix_len is_name_byte bytes) bytes, drop (prefix_len is_name_byte bytes) bytes)) None) ≡ Some (name, rest) = rw (named_len b bytes small) at h in
     elim (chosen (nat_eq (suc (prefix_len is_name_byte bytes)) 0) k) [
       | inl e ↦ let none : None ≡ Some (name, rest) = e.1 in cc
-      | inr e ↦ elim (chosen (nat_le (suc (prefix_len is_name_byte bytes)) 63) (e.1)) [
+      | inr e ↦ elim (chosen (nat_le (suc (prefix_len is_name_byte bytes)) LONGEST_NAME) (e.1)) [
         | inl f ↦ let j : ((b ∷ take (prefix_len is_name_byte bytes) bytes) ≡ name) × (drop (prefix_len is_name_byte bytes) bytes ≡ rest) = both (f.1) in
             let P : List ℕ → Type 0 = λ z. Named z (b ∷ bytes) rest in
-            let short : suc (prefix_len is_name_byte bytes) ≤ 63 = leb-true (suc (prefix_len is_name_byte bytes)) 63 (f.0) in
+            let short : suc (prefix_len is_name_byte bytes) ≤ LONGEST_NAME = leb-true (suc (prefix_len is_name_byte bytes)) LONGEST_NAME (f.0) in
             subst P (j.0) (record {
               whole = ap (λ (r : List ℕ). b ∷ r) (sym (take-append-drop (prefix_len is_name_byte bytes) bytes) ∙ ap (λ (r : List ℕ). take (prefix_len is_name_byte bytes) bytes ++ r) (j.1));
               is_name = (small, take_all is_name_byte bytes, omega (arith, length-prefix_len is_name_byte bytes));
@@ -58,7 +59,7 @@ atom_found (b ∷ bytes) rest h s = let whole : AreAll is_name_byte (b ∷ bytes
     rw (
       prefix_exact is_name_byte (b ∷ bytes) rest whole s,
       unequal (length (b ∷ bytes)) 0 (λ q. omega arith),
-      le-leb (length (b ∷ bytes)) 63 (omega (arith, h.2)),
+      le-leb (length (b ∷ bytes)) LONGEST_NAME (omega (arith, h.2)),
       take-append_seam (b ∷ bytes) rest,
       drop-append_seam (b ∷ bytes) rest,
     ) refl

@@ -1,5 +1,6 @@
 -- What is in the grammar and built is read.
-use Rattle.std.proofs.Common.{◌≡◌, ℕ, zero, suc, ◌+◌, ◌^◌, ◌<◌, ◌≤◌, Bool, true, false, nat_eq, nat_le, ℤ, pos, negsuc, List, [], ◌∷◌, ◌++◌, length, Option, Some, None, codes, refl, sym, ◌∙◌, ap, subst, inl, inr, arith}
+use Rattle.std.proofs.Common.{◌≡◌, ℕ, zero, suc, ◌+◌, ◌<◌, ◌≤◌, Bool, true, false, nat_eq, nat_le, ℤ, pos, negsuc, List, [], ◌∷◌, ◌++◌, length, Option, Some, None, codes, refl, sym, ◌∙◌, ap, subst, inl, inr, arith}
+use Rattle.script_grammar.specs.declared.limits.TheConstants.{NUMBERS}
 use Rattle.std.proofs.lemmas.Bool.{leb-true}
 use Rattle.plain_term.specs.Measures.{is_small}
 use Rattle.script_grammar.specs.Written.{Term}
@@ -80,7 +81,7 @@ atom_done (b ∷ bytes) ps line d h (gap, text, rest, g, s, e, l) =
     leaf_done (Atom (b ∷ bytes)) ps line is_small_letter b bytes k.rest refl (h.0) k.front (letter_run b (bytes ++ k.rest) (h.0) ∙ rw f refl) k.lies k.shorter
 
 -- A pid.
-pid_done : (n : ℕ) (ps : List Piece) (line : List ℕ) → 1 ≤ n → n < 2 ^ 40 → Lies (Process n ∷ ps) line → DoneLeaf (Pid n) ps line
+pid_done : (n : ℕ) (ps : List Piece) (line : List ℕ) → 1 ≤ n → n < NUMBERS → Lies (Process n ∷ ps) line → DoneLeaf (Pid n) ps line
 pid_done n ps line some within (gap, text, rest, g, (digits, i, s), e, l) =
     let k : Token (Process n) ps line 60 (codes "0." ++ (digits ++ codes ".0>")) = token (Process n) ps line gap (codes "0." ++ (digits ++ codes ".0>")) rest 60 g refl (rw s at e) l in
     let front : after_blanks line ≡ 60 ∷ (codes "0." ++ (digits ++ (codes ".0>" ++ k.rest))) = k.front ∙ sym (pid_text digits k.rest) in

@@ -1,5 +1,7 @@
 -- A line that says a built command is read.
-use Rattle.std.proofs.Common.{◌≡◌, ℕ, ◌^◌, ◌<◌, ◌≤◌, Bool, true, false, cond, List, [], ◌∷◌, ◌++◌, Option, Some, None, codes, refl, ◌∙◌, ap, inl, inr, arith}
+use Rattle.std.proofs.Common.{◌≡◌, ℕ, ◌<◌, ◌≤◌, Bool, true, false, cond, List, [], ◌∷◌, ◌++◌, Option, Some, None, codes, refl, ◌∙◌, ap, inl, inr, arith}
+use Rattle.script_parse.specs.declared.numbers.TheConstants.{GREATEST, LAST_REGISTER}
+use Rattle.script_grammar.specs.declared.limits.TheConstants.{LEVELS, REGISTERS, NUMBERS}
 use Rattle.std.specs.List.{find}
 use Rattle.std.specs.Str.{bytes_eq}
 use Rattle.atom_names.specs.Names.{with_name}
@@ -62,18 +64,18 @@ number_fronts limit n ps line h d l = let g : Gap (Number n ∷ ps) line = gap_f
     let f : Numbers limit n ps g.rest = number_stands limit n ps g.rest h d g.lies in
     record { start = g.rest; gap = g.found; rest = f.rest; read = f.read; lies = f.lies }
 
-held_start : (r : Reg) (ps : List Piece) (start : List ℕ) → (r.0) < 16 → Divides ps → Lies (Register (r.0) ∷ ps) start → (rest : List ℕ) × (receiver_at (after_blanks start) ≡ Some (to.Held r, rest)) × Lies ps rest
+held_start : (r : Reg) (ps : List Piece) (start : List ℕ) → (r.0) < REGISTERS → Divides ps → Lies (Register (r.0) ∷ ps) start → (rest : List ℕ) × (receiver_at (after_blanks start) ≡ Some (to.Held r, rest)) × Lies ps rest
 held_start r ps start h d (gap, text, rest, g, (digits, i, s), e, l) = let k : Token (Register (r.0)) ps start 36 digits = token (Register (r.0)) ps start gap digits rest 36 g refl (rw s at e) l in
-    let f : number_at 15 (digits ++ k.rest) ≡ Some (r.0, k.rest) = number_found 15 (r.0) digits k.rest i (omega arith) (stops_digits k.rest (stops ps k.rest d k.lies)) in
+    let f : number_at LAST_REGISTER (digits ++ k.rest) ≡ Some (r.0, k.rest) = number_found LAST_REGISTER (r.0) digits k.rest i (omega arith) (stops_digits k.rest (stops ps k.rest d k.lies)) in
     (k.rest, rw (k.front, f) refl, k.lies)
 
-counted_start : (n : ℕ) (ps : List Piece) (start : List ℕ) → n < 2 ^ 40 → Divides ps → Lies (Number n ∷ ps) start → (rest : List ℕ) × (receiver_at (after_blanks start) ≡ Some (to.Number n, rest)) × Lies ps rest
+counted_start : (n : ℕ) (ps : List Piece) (start : List ℕ) → n < NUMBERS → Divides ps → Lies (Number n ∷ ps) start → (rest : List ℕ) × (receiver_at (after_blanks start) ≡ Some (to.Number n, rest)) × Lies ps rest
 counted_start n ps start h d (gap, text, rest, g, i, e, l) =
     let b : Begun text = begun n text i in
     let whole : start ≡ gap ++ ((b.first ∷ b.more) ++ rest) = rw b.whole at e in
     let number : IsNumber n (b.first ∷ b.more) = rw b.whole at i in
     let k : Token (Number n) ps start b.first b.more = token (Number n) ps start gap b.more rest b.first g (not_blank is_digit b.first refl refl b.digit) whole l in
-    let f : number_at 1099511627775 ((b.first ∷ b.more) ++ k.rest) ≡ Some (n, k.rest) = number_found 1099511627775 n (b.first ∷ b.more) k.rest number (omega arith) (stops_digits k.rest (stops ps k.rest d k.lies)) in
+    let f : number_at GREATEST ((b.first ∷ b.more) ++ k.rest) ≡ Some (n, k.rest) = number_found GREATEST n (b.first ∷ b.more) k.rest number (omega arith) (stops_digits k.rest (stops ps k.rest d k.lies)) in
     (k.rest, rw (k.front, unequal b.first 36 (apart is_digit b.first 36 refl b.digit), f) refl, k.lies)
 
 pub receiver_fronts : (a : To) (ps : List Piece) (line : List ℕ) → MayReceive a → Divides ps → Lies (Space ∷ receiver_pieces a ps) line → Fronts receiver_at a ps line
@@ -120,9 +122,9 @@ pub record Stands (k : Kind) (ps : List Piece) (line : List ℕ) (o : Out) : Typ
   pub lies : Lies ps rest
 
 operand_stands : (k : Kind) (x : OperandOf k) (ps : List Piece) (line : List ℕ) (o : Out) → Divides ps → IsOperand k x → IsBuiltOperand k x → Lies (operand_pieces k x ps) line → Stands k ps line o
-operand_stands Slot x ps line o d a b l = let f : Fronts (number_at 15) x ps line = number_fronts 15 x ps line (omega arith) d l in
+operand_stands Slot x ps line o d a b l = let f : Fronts (number_at LAST_REGISTER) x ps line = number_fronts LAST_REGISTER x ps line (omega arith) d l in
     record { argument = x; rest = f.rest; after = o; read = rw (f.gap, f.read) refl; lies = f.lies }
-operand_stands Count x ps line o d a b l = let f : Fronts (number_at 1099511627775) x ps line = number_fronts 1099511627775 x ps line (omega arith) d l in
+operand_stands Count x ps line o d a b l = let f : Fronts (number_at GREATEST) x ps line = number_fronts GREATEST x ps line (omega arith) d l in
     record { argument = x; rest = f.rest; after = o; read = rw (f.gap, f.read) refl; lies = f.lies }
 operand_stands Receiver x ps line o d a b l = let f : Fronts receiver_at x ps line = receiver_fronts x ps line a d l in
     record { argument = x; rest = f.rest; after = o; read = rw (f.gap, f.read) refl; lies = f.lies }
@@ -131,7 +133,7 @@ operand_stands Extent x ps line o d a b l = let f : Fronts extent_at x ps line =
 operand_stands Title x ps line o d a b l = let f : Fronts title_at x ps line = title_fronts x ps line a d l in
     record { argument = number_of (with_name o.names x) x; rest = f.rest; after = put_name o x; read = rw (f.gap, f.read) refl; lies = f.lies }
 operand_stands Body t ps line o d a b l = let g : Gap (term_pieces t ps) line = gap_found (term_pieces t ps) line l in
-    let f : Done 256 t ps g.rest o = term_done 256 t ps g.rest o d a b g.lies in
+    let f : Done LEVELS t ps g.rest o = term_done LEVELS t ps g.rest o d a b g.lies in
     record { argument = tt; rest = f.rest; after = put t o; read = rw (g.found, f.read) refl; lies = f.lies }
 operand_stands _ x ps line o d a b l = absurd b
 
@@ -238,11 +240,11 @@ silent_found [] h = refl
 silent_found (b ∷ bytes) (inl e) = rw e refl
 silent_found (b ∷ bytes) (inr h) = rw (h.0) (silent_found bytes (h.1))
 
-process_line : (n : ℕ) (w : Word) (ops : Operands (kinds_of w)) (line : List ℕ) (o : Out) → n < 2 ^ 40 → is_built w ≡ true → AreOperands (kinds_of w) ops → AreBuiltOperands (kinds_of w) ops
+process_line : (n : ℕ) (w : Word) (ops : Operands (kinds_of w)) (line : List ℕ) (o : Out) → n < NUMBERS → is_built w ≡ true → AreOperands (kinds_of w) ops → AreBuiltOperands (kinds_of w) ops
     → Lies (Number n ∷ Space ∷ Text (text_of w) ∷ operands_pieces (kinds_of w) ops) line → Any (line_run line o)
 process_line n w ops line o h b a c l =
-    let f : Numbers 1099511627775 n (Space ∷ Text (text_of w) ∷ operands_pieces (kinds_of w) ops) line
-    = number_stands 1099511627775 n (Space ∷ Text (text_of w) ∷ operands_pieces (kinds_of w) ops) line (omega arith) tt l in
+    let f : Numbers GREATEST n (Space ∷ Text (text_of w) ∷ operands_pieces (kinds_of w) ops) line
+    = number_stands GREATEST n (Space ∷ Text (text_of w) ∷ operands_pieces (kinds_of w) ops) line (omega arith) tt l in
     let v : (x : Verb × Out) × (process_run f.rest o ≡ Some x) = process_any w ops f.rest o b a c f.lies in
     ((command.Process n (v.0.0), v.0.1), rw (f.loud, f.read, v.1) refl)
 

@@ -1,5 +1,7 @@
 -- A line that is read says what was read.
 use Rattle.std.proofs.Common.{◌≡◌, ℕ, ◌≤◌, Bool, true, false, nat_eq, cond, List, [], ◌∷◌, ◌++◌, Option, Some, None, codes, refl, sym, ◌∙◌, ap, subst, inl, inr, arith, eqb-true, append_assoc}
+use Rattle.script_parse.specs.declared.numbers.TheConstants.{GREATEST, LAST_REGISTER}
+use Rattle.script_grammar.specs.declared.limits.TheConstants.{LEVELS}
 use Rattle.std.specs.List.{prefix_len, find}
 use Rattle.std.specs.Str.{bytes_eq}
 use Rattle.std.proofs.lemmas.List.{take-append-drop, append-nil}
@@ -77,8 +79,8 @@ none_put o p e = let P : Out → Type 0 = λ z. Put o [] (λ names. []) z in sub
 
 body_read : (line : List ℕ) (o : Out) (rest : List ℕ) (p : Out) → body_run line o ≡ Some (rest, p) → Operand Body line o tt rest p
 body_read line o rest p h =
-    let f : (x : List ℕ) × (gap_at line ≡ Some x) × (term_run 256 x o ≡ Some (rest, p)) = read_some (gap_at line) (λ z. term_run 256 z o) h in
-    let t : Found 256 (f.0) o rest p = term_read 256 (f.0) o rest p (f.2) in
+    let f : (x : List ℕ) × (gap_at line ≡ Some x) × (term_run LEVELS x o ≡ Some (rest, p)) = read_some (gap_at line) (λ z. term_run LEVELS z o) h in
+    let t : Found LEVELS (f.0) o rest p = term_read LEVELS (f.0) o rest p (f.2) in
     let P : Out → Type 0 = λ z. Put o (atoms_of t.term) (λ names. items_of names t.term ++ []) z in
     record {
       operand = t.term;
@@ -92,15 +94,15 @@ body_read line o rest p h =
 receiver_step : (line : List ℕ) (o : Out) (a : To) (start rest : List ℕ) (p : Out) (front : List ℕ) → after_blanks start ≡ front → gap_at line ≡ Some start → o ≡ p → receiver_at front ≡ Some (a, rest) → Operand Receiver line o a rest p
 receiver_step line o a start rest p [] e g same h = cc
 receiver_step line o a start rest p (b ∷ bytes) e g same h = let P : To → Type 0 = λ z. Operand Receiver line o z rest p in elim (chosen (nat_eq b 36) h) [
-  | inl f ↦ let r : (x : ℕ × List ℕ) × (number_at 15 bytes ≡ Some x) × (Some (to.Held (reg (x.0)), x.1) ≡ Some (a, rest)) = read_some (number_at 15 bytes) (λ r. Some (to.Held (reg (r.0)), r.1)) (f.1) in
+  | inl f ↦ let r : (x : ℕ × List ℕ) × (number_at LAST_REGISTER bytes ≡ Some x) × (Some (to.Held (reg (x.0)), x.1) ≡ Some (a, rest)) = read_some (number_at LAST_REGISTER bytes) (λ r. Some (to.Held (reg (r.0)), r.1)) (f.1) in
       let j : (to.Held (reg (r.0.0)) ≡ a) × (r.0.1 ≡ rest) = both (r.2) in
-      let c : Counted 15 (r.0.0) bytes (r.0.1) = number_read 15 (r.0.0) bytes (r.0.1) (omega arith) (r.1) in
+      let c : Counted LAST_REGISTER (r.0.0) bytes (r.0.1) = number_read LAST_REGISTER (r.0.0) bytes (r.0.1) (omega arith) (r.1) in
       let whole : after_blanks start ≡ (36 ∷ c.text) ++ rest = e ∙ (ap (λ (z : ℕ). z ∷ bytes) (eqb-true b 36 (f.0)) ∙ ap (λ (z : List ℕ). 36 ∷ z) (c.whole ∙ ap (λ (z : List ℕ). c.text ++ z) (j.1))) in
       let s : Spaced (Register (r.0.0)) line rest = spaced_read (Register (r.0.0)) line start rest g (record { text = 36 ∷ c.text; whole = whole; spells = (c.text, c.number, refl) }) in
       subst P (j.0) (record { operand = to.Held (reg (r.0.0)); allowed = omega (arith, c.within); built = tt; is = λ c more. refl; put = none_put o p same; lies = s.lies })
-  | inr f ↦ let r : (x : ℕ × List ℕ) × (number_at 1099511627775 (b ∷ bytes) ≡ Some x) × (Some (to.Number (x.0), x.1) ≡ Some (a, rest)) = read_some (number_at 1099511627775 (b ∷ bytes)) (λ r. Some (to.Number (r.0), r.1)) (f.1) in
+  | inr f ↦ let r : (x : ℕ × List ℕ) × (number_at GREATEST (b ∷ bytes) ≡ Some x) × (Some (to.Number (x.0), x.1) ≡ Some (a, rest)) = read_some (number_at GREATEST (b ∷ bytes)) (λ r. Some (to.Number (r.0), r.1)) (f.1) in
       let j : (to.Number (r.0.0) ≡ a) × (r.0.1 ≡ rest) = both (r.2) in
-      let c : Counted 1099511627775 (r.0.0) (b ∷ bytes) (r.0.1) = number_read 1099511627775 (r.0.0) (b ∷ bytes) (r.0.1) (omega arith) (r.1) in
+      let c : Counted GREATEST (r.0.0) (b ∷ bytes) (r.0.1) = number_read GREATEST (r.0.0) (b ∷ bytes) (r.0.1) (omega arith) (r.1) in
       let s : Spaced (Number (r.0.0)) line rest = spaced_read (Number (r.0.0)) line start rest g (record { text = c.text; whole = e ∙ (c.whole ∙ ap (λ (z : List ℕ). c.text ++ z) (j.1)); spells = c.number }) in
       subst P (j.0) (record { operand = to.Number (r.0.0); allowed = omega (arith, c.within); built = tt; is = λ c more. refl; put = none_put o p same; lies = s.lies })
 ]
@@ -148,11 +150,11 @@ number_step limit n line o rest p l f = let c : Counted limit n (after_blanks f.
 
 -- An operand that is read is in the grammar.
 operand_read : (k : Kind) (line : List ℕ) (o : Out) (a : ArgumentOf k) (rest : List ℕ) (p : Out) → operand_at k line o ≡ Some (a, (rest, p)) → Operand k line o a rest p
-operand_read Slot line o a rest p h = let f : Plain (number_at 15) line o a rest p = plain_read (number_at 15) line o a rest p h in
-    let s : (a ≤ 15) × Spaced (Number a) line rest = number_step 15 a line o rest p (omega arith) f in
+operand_read Slot line o a rest p h = let f : Plain (number_at LAST_REGISTER) line o a rest p = plain_read (number_at LAST_REGISTER) line o a rest p h in
+    let s : (a ≤ LAST_REGISTER) × Spaced (Number a) line rest = number_step LAST_REGISTER a line o rest p (omega arith) f in
     record { operand = a; allowed = omega (arith, s.0); built = tt; is = λ c more. refl; put = none_put o p f.same; lies = s.1.lies }
-operand_read Count line o a rest p h = let f : Plain (number_at 1099511627775) line o a rest p = plain_read (number_at 1099511627775) line o a rest p h in
-    let s : (a ≤ 1099511627775) × Spaced (Number a) line rest = number_step 1099511627775 a line o rest p (omega arith) f in
+operand_read Count line o a rest p h = let f : Plain (number_at GREATEST) line o a rest p = plain_read (number_at GREATEST) line o a rest p h in
+    let s : (a ≤ GREATEST) × Spaced (Number a) line rest = number_step GREATEST a line o rest p (omega arith) f in
     record { operand = a; allowed = omega (arith, s.0); built = tt; is = λ c more. refl; put = none_put o p f.same; lies = s.1.lies }
 operand_read Receiver line o a rest p h = let f : Plain receiver_at line o a rest p = plain_read receiver_at line o a rest p h in
     receiver_step line o a f.start rest p (after_blanks f.start) refl f.gap f.same f.read
@@ -299,7 +301,7 @@ silent_read : (line : List ℕ) → is_silent (after_blanks line) ≡ true → I
 silent_read [] h = tt
 silent_read (b ∷ bytes) h = silent_step b bytes (is_blank b) refl (silent_read bytes) h
 
-process_line : (line rest : List ℕ) (o : Out) (n : ℕ) (v : Verb) (p : Out) → Counted 1099511627775 n (after_blanks line) rest → process_run rest o ≡ Some (v, p) → LineRead line o (command.Process n v) p
+process_line : (line rest : List ℕ) (o : Out) (n : ℕ) (v : Verb) (p : Out) → Counted GREATEST n (after_blanks line) rest → process_run rest o ≡ Some (v, p) → LineRead line o (command.Process n v) p
 process_line line rest o n v p c h = let b : Spoken text_of kinds_of verb_with is_built rest o v p = process_read rest o v p h in
     record {
       written = OfProcess n b.word b.operands;
@@ -329,10 +331,10 @@ same_read : (line : List ℕ) (o : Out) (c d : Command) (p q : Out) → (c ≡ d
 same_read line o c d p q e r = let P : Command → Type 0 = λ z. LineRead line o z q in let Q : Out → Type 0 = λ z. LineRead line o c z in subst P (e.0) (subst Q (e.1) r)
 
 command_read : (line : List ℕ) (o : Out) (c : Command) (p : Out) → command_run (after_blanks line) o ≡ Some (c, p) → LineRead line o c p
-command_read line o c p h = elim (found_cases (number_at 1099511627775 (after_blanks line))
+command_read line o c p h = elim (found_cases (number_at GREATEST (after_blanks line))
     (λ r. then_read (process_run (r.1) o) (λ v. Some (command.Process (r.0) (v.0), v.1)))
     (then_read (text_at (codes "sys") (after_blanks line)) (λ rest. then_read (system_run rest o) (λ v. Some (command.System (v.0), v.1)))) h) [
-      | inl f ↦ let n : Counted 1099511627775 (f.0.0) (after_blanks line) (f.0.1) = number_read 1099511627775 (f.0.0) (after_blanks line) (f.0.1) (omega arith) (f.1) in
+      | inl f ↦ let n : Counted GREATEST (f.0.0) (after_blanks line) (f.0.1) = number_read GREATEST (f.0.0) (after_blanks line) (f.0.1) (omega arith) (f.1) in
           let g : (x : Verb × Out) × (process_run (f.0.1) o ≡ Some x) × (Some (command.Process (f.0.0) (x.0), x.1) ≡ Some (c, p))
           = read_some (process_run (f.0.1) o) (λ v. Some (command.Process (f.0.0) (v.0), v.1)) (f.2) in
           same_read line o (command.Process (f.0.0) (g.0.0)) c (g.0.1) p (both (g.2)) (process_line line (f.0.1) o (f.0.0) (g.0.0) (g.0.1) n (g.1))

@@ -1,5 +1,7 @@
 -- Numbers as they are read, and as the grammar has them.
 use Rattle.std.proofs.Common.{◌≡◌, ℕ, ◌+◌, ◌-◌, ◌*◌, ◌^◌, ◌<◌, ◌≤◌, ◌≢◌, Bool, true, false, nat_eq, nat_le, ◌&&◌, ◌||◌, ℤ, pos, negsuc, List, [], ◌∷◌, ◌++◌, Some, None, codes, refl, sym, ◌∙◌, ap, subst, inl, inr, arith, eq-eqb, eqb-true, lt-ltb, ltb-true, append_assoc}
+use Rattle.script_grammar.specs.declared.limits.TheConstants.{NUMBERS}
+use Rattle.script_parse.specs.declared.numbers.TheConstants.{GREATEST, SMALL}
 use Rattle.std.proofs.lemmas.Bool.{leb-true, le-leb}
 use Rattle.plain_term.specs.Measures.{is_small}
 use Rattle.script_grammar.specs.Grammar.{is_name_byte, is_digit, is_small_letter, AreAll, value_after, HasNoLeadingZero, IsNumber, IsInteger}
@@ -129,7 +131,7 @@ pub record Integral (i : ℤ) (line rest : List ℕ) : Type 0 where
   pub whole : line ≡ text ++ rest
   pub small : is_small i ≡ true
 
-negative : (n : ℕ) (i : ℤ) (line bytes rest : List ℕ) (t : Bool) → nat_eq n 0 ≡ t → Counted 576460752303423488 n line bytes → signed true (n, bytes) ≡ Some (i, rest)
+negative : (n : ℕ) (i : ℤ) (line bytes rest : List ℕ) (t : Bool) → nat_eq n 0 ≡ t → Counted (SMALL + 1) n line bytes → signed true (n, bytes) ≡ Some (i, rest)
     → Integral i (45 ∷ line) rest
 negative n i line bytes rest true e c h = let k : None ≡ Some (i, rest) = rw e at h in cc
 negative n i line bytes rest false e c h = let k : Some (negsuc (n - 1), bytes) ≡ Some (i, rest) = rw e at h in
@@ -141,20 +143,20 @@ negative n i line bytes rest false e c h = let k : Some (negsuc (n - 1), bytes) 
     let small : is_small (negsuc (n - 1)) ≡ true = lt-ltb (n - 1) (2 ^ 59) (omega (arith, some, c.within)) in
     subst Q (j.0) (record { text = 45 ∷ c.text; integer = (c.text, subst P whole c.number, refl); whole = ap (λ (r : List ℕ). 45 ∷ r) (c.whole ∙ ap (λ (r : List ℕ). c.text ++ r) (j.1)); small = small })
 
-positive : (n : ℕ) (i : ℤ) (line bytes rest : List ℕ) → Counted 576460752303423487 n line bytes → signed false (n, bytes) ≡ Some (i, rest) → Integral i line rest
+positive : (n : ℕ) (i : ℤ) (line bytes rest : List ℕ) → Counted SMALL n line bytes → signed false (n, bytes) ≡ Some (i, rest) → Integral i line rest
 positive n i line bytes rest c h = let j : (pos n ≡ i) × (bytes ≡ rest) = both h in
     let Q : ℤ → Type 0 = λ z. Integral z line rest in
     let small : is_small (pos n) ≡ true = lt-ltb n (2 ^ 59) (omega (arith, c.within)) in
     subst Q (j.0) (record { text = c.text; integer = c.number; whole = c.whole ∙ ap (λ (r : List ℕ). c.text ++ r) (j.1); small = small })
 
 integer_step : (i : ℤ) (b : ℕ) (bytes rest : List ℕ) (t : Bool) → nat_eq b 45 ≡ t → integer_at (b ∷ bytes) ≡ Some (i, rest) → Integral i (b ∷ bytes) rest
-integer_step i b bytes rest true e h = let k : then_read (number_at 576460752303423488 bytes) (signed true) ≡ Some (i, rest) = rw e at h in
-    let r : (x : ℕ × List ℕ) × (number_at 576460752303423488 bytes ≡ Some x) × (signed true x ≡ Some (i, rest)) = read_some (number_at 576460752303423488 bytes) (signed true) k in
+integer_step i b bytes rest true e h = let k : then_read (number_at (SMALL + 1) bytes) (signed true) ≡ Some (i, rest) = rw e at h in
+    let r : (x : ℕ × List ℕ) × (number_at (SMALL + 1) bytes ≡ Some x) × (signed true x ≡ Some (i, rest)) = read_some (number_at (SMALL + 1) bytes) (signed true) k in
     let Q : ℕ → Type 0 = λ z. Integral i (z ∷ bytes) rest in
-    subst Q (sym (eqb-true b 45 e)) (negative (r.0.0) i bytes (r.0.1) rest (nat_eq (r.0.0) 0) refl (number_read 576460752303423488 (r.0.0) bytes (r.0.1) (omega arith) (r.1)) (r.2))
-integer_step i b bytes rest false e h = let k : then_read (number_at 576460752303423487 (b ∷ bytes)) (signed false) ≡ Some (i, rest) = rw e at h in
-    let r : (x : ℕ × List ℕ) × (number_at 576460752303423487 (b ∷ bytes) ≡ Some x) × (signed false x ≡ Some (i, rest)) = read_some (number_at 576460752303423487 (b ∷ bytes)) (signed false) k in
-    positive (r.0.0) i (b ∷ bytes) (r.0.1) rest (number_read 576460752303423487 (r.0.0) (b ∷ bytes) (r.0.1) (omega arith) (r.1)) (r.2)
+    subst Q (sym (eqb-true b 45 e)) (negative (r.0.0) i bytes (r.0.1) rest (nat_eq (r.0.0) 0) refl (number_read (SMALL + 1) (r.0.0) bytes (r.0.1) (omega arith) (r.1)) (r.2))
+integer_step i b bytes rest false e h = let k : then_read (number_at SMALL (b ∷ bytes)) (signed false) ≡ Some (i, rest) = rw e at h in
+    let r : (x : ℕ × List ℕ) × (number_at SMALL (b ∷ bytes) ≡ Some x) × (signed false x ≡ Some (i, rest)) = read_some (number_at SMALL (b ∷ bytes)) (signed false) k in
+    positive (r.0.0) i (b ∷ bytes) (r.0.1) rest (number_read SMALL (r.0.0) (b ∷ bytes) (r.0.1) (omega arith) (r.1)) (r.2)
 
 pub integer_read : (i : ℤ) (line rest : List ℕ) → integer_at line ≡ Some (i, rest) → Integral i line rest
 integer_read i [] rest h = cc
@@ -165,10 +167,10 @@ pub integer_found : (i : ℤ) (text rest : List ℕ) → IsInteger i text → is
 integer_found (pos n) [] rest h small s = absurd h.first
 integer_found (pos n) (b ∷ text) rest h small s = let below : n < 2 ^ 59 = ltb-true n (2 ^ 59) small in
     let not_sign : b ≢ 45 = apart is_digit b 45 refl ((h.digits).0) in
-    rw (unequal b 45 not_sign, number_found 576460752303423487 n (b ∷ text) rest h (omega arith) s) refl
+    rw (unequal b 45 not_sign, number_found SMALL n (b ∷ text) rest h (omega arith) s) refl
 integer_found (negsuc m) text rest (digits, number, e) small s = let below : m < 2 ^ 59 = ltb-true m (2 ^ 59) small in
     let P : List ℕ → Type 0 = λ z. integer_at (z ++ rest) ≡ Some (negsuc m, rest) in
-    let f : number_at 576460752303423488 (digits ++ rest) ≡ Some (m + 1, rest) = number_found 576460752303423488 (m + 1) digits rest number (omega arith) s in
+    let f : number_at (SMALL + 1) (digits ++ rest) ≡ Some (m + 1, rest) = number_found (SMALL + 1) (m + 1) digits rest number (omega arith) s in
     let nonzero : nat_eq (m + 1) 0 ≡ false = unequal (m + 1) 0 (λ q. omega arith) in
     let back : m + 1 - 1 ≡ m = omega arith in
     subst P (sym e) (rw (f, nonzero, back) refl)
@@ -196,12 +198,12 @@ pub record Numbered (n : ℕ) (line rest : List ℕ) : Type 0 where
   pub number : IsNumber n text
   pub whole : 60 ∷ line ≡ (codes "<0." ++ (text ++ codes ".0>")) ++ rest
   pub some : 1 ≤ n
-  pub within : n < 2 ^ 40
+  pub within : n < NUMBERS
 
 pub pid_text : (text rest : List ℕ) → 60 ∷ (codes "0." ++ (text ++ (codes ".0>" ++ rest))) ≡ (codes "<0." ++ (text ++ codes ".0>")) ++ rest
 pid_text text rest = simp append_assoc
 
-numbered : (n m : ℕ) (line front bytes rest : List ℕ) (t : Bool) → nat_eq m 0 ≡ t → line ≡ codes "0." ++ front → Counted 1099511627775 m front bytes
+numbered : (n m : ℕ) (line front bytes rest : List ℕ) (t : Bool) → nat_eq m 0 ≡ t → line ≡ codes "0." ++ front → Counted GREATEST m front bytes
     → pid_end (m, bytes) ≡ Some (n, rest) → Numbered n line rest
 numbered n m line front bytes rest true e l c h = let k : None ≡ Some (n, rest) = rw e at h in cc
 numbered n m line front bytes rest false e l c h = let k : then_read (text_at (codes ".0>") bytes) (λ z. Some (m, z)) ≡ Some (n, rest) = rw e at h in
@@ -221,14 +223,14 @@ numbered n m line front bytes rest false e l c h = let k : then_read (text_at (c
 
 pub pid_read : (n : ℕ) (line rest : List ℕ) → pid_at line ≡ Some (n, rest) → Numbered n line rest
 pid_read n line rest h =
-    let r : (x : List ℕ) × (text_at (codes "0.") line ≡ Some x) × (then_read (number_at 1099511627775 x) pid_end ≡ Some (n, rest))
-    = read_some (text_at (codes "0.") line) (λ z. then_read (number_at 1099511627775 z) pid_end) h in
-    let q : (x : ℕ × List ℕ) × (number_at 1099511627775 (r.0) ≡ Some x) × (pid_end x ≡ Some (n, rest)) = read_some (number_at 1099511627775 (r.0)) pid_end (r.2) in
+    let r : (x : List ℕ) × (text_at (codes "0.") line ≡ Some x) × (then_read (number_at GREATEST x) pid_end ≡ Some (n, rest))
+    = read_some (text_at (codes "0.") line) (λ z. then_read (number_at GREATEST z) pid_end) h in
+    let q : (x : ℕ × List ℕ) × (number_at GREATEST (r.0) ≡ Some x) × (pid_end x ≡ Some (n, rest)) = read_some (number_at GREATEST (r.0)) pid_end (r.2) in
     numbered n (q.0.0) line (r.0) (q.0.1) rest (nat_eq (q.0.0) 0) refl (text_read (codes "0.") line (r.0) (r.1))
-    (number_read 1099511627775 (q.0.0) (r.0) (q.0.1) (omega arith) (q.1)) (q.2)
+    (number_read GREATEST (q.0.0) (r.0) (q.0.1) (omega arith) (q.1)) (q.2)
 
 -- A pid that the grammar has is read, after its first byte.
-pub pid_found : (n : ℕ) (digits rest : List ℕ) → IsNumber n digits → 1 ≤ n → n < 2 ^ 40
+pub pid_found : (n : ℕ) (digits rest : List ℕ) → IsNumber n digits → 1 ≤ n → n < NUMBERS
     → pid_at (codes "0." ++ (digits ++ (codes ".0>" ++ rest))) ≡ Some (n, rest)
 pid_found n digits rest i some within = let nonzero : nat_eq n 0 ≡ false = unequal n 0 (λ q. omega arith) in
-    rw (number_found 1099511627775 n digits (codes ".0>" ++ rest) i (omega arith) refl, nonzero) refl
+    rw (number_found GREATEST n digits (codes ".0>" ++ rest) i (omega arith) refl, nonzero) refl

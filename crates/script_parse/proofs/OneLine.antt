@@ -1,5 +1,7 @@
 -- A whole line says one built command at most.
-use Rattle.std.proofs.Common.{◌≡◌, ℕ, ◌^◌, ◌<◌, ◌≤◌, true, false, List, [], ◌∷◌, ◌++◌, Option, Some, None, codes, refl, sym, ◌∙◌, ap, subst, arith}
+use Rattle.std.proofs.Common.{◌≡◌, ℕ, ◌<◌, ◌≤◌, true, false, List, [], ◌∷◌, ◌++◌, Option, Some, None, codes, refl, sym, ◌∙◌, ap, subst, arith}
+use Rattle.script_parse.specs.declared.numbers.TheConstants.{GREATEST, LAST_REGISTER}
+use Rattle.script_grammar.specs.declared.limits.TheConstants.{LEVELS, NUMBERS}
 use Rattle.script_grammar.specs.Written.{Kind, OperandOf, Operands, text_of, kinds_of, sys_text_of, sys_kinds_of}
 use Rattle.script_grammar.specs.Written.Kind.{Slot, Count, Receiver, Title, Extent, Body}
 use Rattle.script_grammar.specs.Written.Written.{Nothing, OfProcess, OfSystem}
@@ -50,13 +52,13 @@ plain_twice front x y ps qs line f g = let same : f.start ≡ g.start = inside (
 
 operand_same : (k : Kind) (x y : OperandOf k) (ps qs : List Piece) (line : List ℕ) → Divides ps → Divides qs → IsOperand k x → IsOperand k y → IsBuiltOperand k x → IsBuiltOperand k y
     → Lies (operand_pieces k x ps) line → Lies (operand_pieces k y qs) line → (x ≡ y) × (rest : List ℕ) × Lies ps rest × Lies qs rest
-operand_same Slot x y ps qs line d e a b f g k l = plain_twice (number_at 15) x y ps qs line (number_fronts 15 x ps line (omega arith) d k) (number_fronts 15 y qs line (omega arith) e l)
-operand_same Count x y ps qs line d e a b f g k l = plain_twice (number_at 1099511627775) x y ps qs line (number_fronts 1099511627775 x ps line (omega arith) d k) (number_fronts 1099511627775 y qs line (omega arith) e l)
+operand_same Slot x y ps qs line d e a b f g k l = plain_twice (number_at LAST_REGISTER) x y ps qs line (number_fronts LAST_REGISTER x ps line (omega arith) d k) (number_fronts LAST_REGISTER y qs line (omega arith) e l)
+operand_same Count x y ps qs line d e a b f g k l = plain_twice (number_at GREATEST) x y ps qs line (number_fronts GREATEST x ps line (omega arith) d k) (number_fronts GREATEST y qs line (omega arith) e l)
 operand_same Receiver x y ps qs line d e a b f g k l = plain_twice receiver_at x y ps qs line (receiver_fronts x ps line a d k) (receiver_fronts y qs line b e l)
 operand_same Title x y ps qs line d e a b f g k l = plain_twice title_at x y ps qs line (title_fronts x ps line a d k) (title_fronts y qs line b e l)
 operand_same Extent x y ps qs line d e a b f g k l = plain_twice extent_at x y ps qs line (extent_fronts x ps line k) (extent_fronts y qs line l)
 operand_same Body x y ps qs line d e a b f g k l = let s : TwiceGap (term_pieces x ps) (term_pieces y qs) line = gap_twice (term_pieces x ps) (term_pieces y qs) line k l in
-    let t : Same x y ps qs = term_same 256 x y ps qs s.rest d e a b f g s.left s.right in
+    let t : Same x y ps qs = term_same LEVELS x y ps qs s.rest d e a b f g s.left s.right in
     (t.same, t.rest, t.left, t.right)
 operand_same _ x y ps qs line d e a b f g k l = absurd f
 
@@ -86,13 +88,13 @@ word_twice text find w x ps qs line named solid d e k l =
     let i : find (text w) ≡ find (text x) = ap find (sym f.word ∙ h.word) in
     record { same = inside (sym (named w) ∙ (i ∙ named x)); rest = after_word (after_blanks g.rest); left = f.lies; right = h.lies }
 
-process_same : (n m : ℕ) (w x : Word) (ops : Operands (kinds_of w)) (pos : Operands (kinds_of x)) (line : List ℕ) → n < 2 ^ 40 → m < 2 ^ 40
+process_same : (n m : ℕ) (w x : Word) (ops : Operands (kinds_of w)) (pos : Operands (kinds_of x)) (line : List ℕ) → n < NUMBERS → m < NUMBERS
     → AreOperands (kinds_of w) ops → AreOperands (kinds_of x) pos → AreBuiltOperands (kinds_of w) ops → AreBuiltOperands (kinds_of x) pos
     → Lies (Number n ∷ Space ∷ Text (text_of w) ∷ operands_pieces (kinds_of w) ops) line → Lies (Number m ∷ Space ∷ Text (text_of x) ∷ operands_pieces (kinds_of x) pos) line
     → OfProcess n w ops ≡ OfProcess m x pos
 process_same n m w x ops pos line h i a d e f k l =
     let t : TwiceNumber n m (Space ∷ Text (text_of w) ∷ operands_pieces (kinds_of w) ops) (Space ∷ Text (text_of x) ∷ operands_pieces (kinds_of x) pos)
-    = number_twice 1099511627775 n m (Space ∷ Text (text_of w) ∷ operands_pieces (kinds_of w) ops) (Space ∷ Text (text_of x) ∷ operands_pieces (kinds_of x) pos) line (omega arith) (omega arith) tt tt k l in
+    = number_twice GREATEST n m (Space ∷ Text (text_of w) ∷ operands_pieces (kinds_of w) ops) (Space ∷ Text (text_of x) ∷ operands_pieces (kinds_of x) pos) line (omega arith) (omega arith) tt tt k l in
     let v : TwiceWord w x (operands_pieces (kinds_of w) ops) (operands_pieces (kinds_of x) pos)
     = word_twice text_of word_named w x (operands_pieces (kinds_of w) ops) (operands_pieces (kinds_of x) pos) t.rest named_so text_word (operands_part (kinds_of w) ops) (operands_part (kinds_of x) pos) t.left t.right in
     let Q : Word → Type 0 = λ z. (others : Operands (kinds_of z)) → AreOperands (kinds_of z) others → AreBuiltOperands (kinds_of z) others → Lies (operands_pieces (kinds_of z) others) v.rest
@@ -124,19 +126,19 @@ system_same w x ops pos line a b c d k l =
     subst Q v.same start pos b d v.right
 
 -- Lines of two kinds are apart.
-silent_process : {A : Type 0} (n : ℕ) (ps : List Piece) (line : List ℕ) → n < 2 ^ 40 → Divides ps → Lies (Number n ∷ ps) line → IsSilent line → A
-silent_process n ps line h d l s = let x : Numbers 1099511627775 n ps line = number_stands 1099511627775 n ps line (omega arith) d l in
+silent_process : {A : Type 0} (n : ℕ) (ps : List Piece) (line : List ℕ) → n < NUMBERS → Divides ps → Lies (Number n ∷ ps) line → IsSilent line → A
+silent_process n ps line h d l s = let x : Numbers GREATEST n ps line = number_stands GREATEST n ps line (omega arith) d l in
     absurd (false_not (sym x.loud ∙ silent_found line s))
 
 silent_system : {A : Type 0} (w : SysWord) (ops : Operands (sys_kinds_of w)) (line : List ℕ) → Lies (Text (codes "sys") ∷ Space ∷ Text (sys_text_of w) ∷ operands_pieces (sys_kinds_of w) ops) line → IsSilent line → A
 silent_system w ops line l s = let f : Token (Text (codes "sys")) (Space ∷ Text (sys_text_of w) ∷ operands_pieces (sys_kinds_of w) ops) line 115 (codes "ys") = sys_tail w ops line l in
     let e : false ≡ true = ap is_silent (sym f.front) ∙ silent_found line s in absurd (false_not e)
 
-process_system : {A : Type 0} (n : ℕ) (ps : List Piece) (w : SysWord) (ops : Operands (sys_kinds_of w)) (line : List ℕ) → n < 2 ^ 40 → Divides ps → Lies (Number n ∷ ps) line
+process_system : {A : Type 0} (n : ℕ) (ps : List Piece) (w : SysWord) (ops : Operands (sys_kinds_of w)) (line : List ℕ) → n < NUMBERS → Divides ps → Lies (Number n ∷ ps) line
     → Lies (Text (codes "sys") ∷ Space ∷ Text (sys_text_of w) ∷ operands_pieces (sys_kinds_of w) ops) line → A
-process_system n ps w ops line h d k l = let x : Numbers 1099511627775 n ps line = number_stands 1099511627775 n ps line (omega arith) d k in
+process_system n ps w ops line h d k l = let x : Numbers GREATEST n ps line = number_stands GREATEST n ps line (omega arith) d k in
     let f : Token (Text (codes "sys")) (Space ∷ Text (sys_text_of w) ∷ operands_pieces (sys_kinds_of w) ops) line 115 (codes "ys") = sys_tail w ops line l in
-    let e : None ≡ Some (n, x.rest) = ap (number_at 1099511627775) (sym f.front) ∙ x.read in absurd (none_some e)
+    let e : None ≡ Some (n, x.rest) = ap (number_at GREATEST) (sym f.front) ∙ x.read in absurd (none_some e)
 
 pub one_line : SaysOne
 one_line line Nothing Nothing s t b c = refl

@@ -1,6 +1,9 @@
 -- Reading from left to right: each function takes the rest of a line, and gives what it read with
 -- the rest after it, or nothing.
 use Rattle.std.specs.Prelude.{ℕ, zero, suc, ◌+◌, ◌-◌, ◌*◌, nat_eq, nat_le, Bool, true, false, not, ◌&&◌, ℤ, pos, negsuc, List, [], ◌∷◌, length, take, drop, Option, Some, None, cond, codes, if◌then◌else◌}
+use Rattle.script_parse.specs.declared.numbers.TheConstants.{GREATEST, SMALL, LAST_REGISTER}
+use Rattle.script_grammar.specs.declared.limits.TheConstants.{LEVELS}
+use Rattle.atom_names.specs.declared.row.TheConstants.{LONGEST_NAME}
 use Rattle.std.specs.Borrow.{Bor}
 use Rattle.std.specs.List.{prefix_len, find}
 use Rattle.std.specs.Str.{bytes_eq}
@@ -79,8 +82,8 @@ signed true r = cond (nat_eq (r.0) 0) None (Some (negsuc (r.0 - 1), r.1))
 abbrev pub integer_at : List ℕ → Option (ℤ × List ℕ)
 integer_at [] = None
 integer_at (b ∷ bytes) = if nat_eq b 45
-    then then_read (number_at 576460752303423488 bytes) (signed true)
-    else then_read (number_at 576460752303423487 (b ∷ bytes)) (signed false)
+    then then_read (number_at (SMALL + 1) bytes) (signed true)
+    else then_read (number_at SMALL (b ∷ bytes)) (signed false)
 
 -- The end of a pid, whose number is not 0.
 abbrev pub pid_end : ℕ × List ℕ → Option (ℕ × List ℕ)
@@ -88,11 +91,11 @@ pid_end r = cond (nat_eq (r.0) 0) None (then_read (text_at (codes ".0>") (r.1)) 
 
 -- A pid after its first byte.
 abbrev pub pid_at : List ℕ → Option (ℕ × List ℕ)
-pid_at line = then_read (text_at (codes "0.") line) (λ rest. then_read (number_at 1099511627775 rest) pid_end)
+pid_at line = then_read (text_at (codes "0.") line) (λ rest. then_read (number_at GREATEST rest) pid_end)
 
 -- An atom at the front, whose first byte is known to be a small letter: all bytes of names.
 abbrev pub atom_at : List ℕ → Option (List ℕ × List ℕ)
-atom_at line = cond (nat_eq (prefix_len is_name_byte line) 0) None (cond (nat_le (prefix_len is_name_byte line) 63)
+atom_at line = cond (nat_eq (prefix_len is_name_byte line) 0) None (cond (nat_le (prefix_len is_name_byte line) LONGEST_NAME)
     (Some (take (prefix_len is_name_byte line) line, drop (prefix_len is_name_byte line) line)) None)
 
 -- A term without parts at the front.
@@ -163,8 +166,8 @@ spaced_at front line = then_read (gap_at line) (λ rest. front (after_blanks res
 -- A process by its number, or by `$` and a register.
 abbrev pub receiver_at : List ℕ → Option (To × List ℕ)
 receiver_at [] = None
-receiver_at (b ∷ bytes) = if nat_eq b 36 then then_read (number_at 15 bytes) (λ r. Some (to.Held (reg (r.0)), r.1)) else
-    then_read (number_at 1099511627775 (b ∷ bytes)) (λ r. Some (to.Number (r.0), r.1))
+receiver_at (b ∷ bytes) = if nat_eq b 36 then then_read (number_at LAST_REGISTER bytes) (λ r. Some (to.Held (reg (r.0)), r.1)) else
+    then_read (number_at GREATEST (b ∷ bytes)) (λ r. Some (to.Number (r.0), r.1))
 
 -- An atom, which begins with a small letter.
 abbrev pub title_at : List ℕ → Option (List ℕ × List ℕ)
@@ -186,12 +189,12 @@ title_run line o = then_read (spaced_at title_at line) (λ r. Some (number_of (w
 
 -- A blank and a term.
 abbrev pub body_run : List ℕ → Out → Option (List ℕ × Out)
-body_run line o = then_read (gap_at line) (λ rest. term_run 256 rest o)
+body_run line o = then_read (gap_at line) (λ rest. term_run LEVELS rest o)
 
 -- An operand of a kind: its argument, and the rest after it. Kinds that are not built have no reader.
 abbrev pub operand_at : (k : Kind) → List ℕ → Out → Option (ArgumentOf k × (List ℕ × Out))
-operand_at Slot line o = plain_run (number_at 15) line o
-operand_at Count line o = plain_run (number_at 1099511627775) line o
+operand_at Slot line o = plain_run (number_at LAST_REGISTER) line o
+operand_at Count line o = plain_run (number_at GREATEST) line o
 operand_at Receiver line o = plain_run receiver_at line o
 operand_at Title line o = title_run line o
 operand_at Extent line o = plain_run extent_at line o
@@ -266,7 +269,7 @@ system_run line o = then_read (gap_at line) (λ rest. sys_named_run (after_blank
 
 -- A line that has a command, from its first byte that is no blank.
 abbrev pub command_run : List ℕ → Out → Option (Command × Out)
-command_run line o = found_or (number_at 1099511627775 line)
+command_run line o = found_or (number_at GREATEST line)
     (λ r. then_read (process_run (r.1) o) (λ v. Some (command.Process (r.0) (v.0), v.1)))
     (then_read (text_at (codes "sys") line) (λ rest. then_read (system_run rest o) (λ v. Some (command.System (v.0), v.1))))
 

@@ -1,12 +1,13 @@
 ghost use Rattle.std.specs.Prelude.{◌≡◌, ℕ, ◌+◌, ◌<◌, ◌≤◌, List, [], ◌∷◌, ◌++◌, length, take, slice_set, IfOk};
+ghost use Rattle.script_parse.specs.declared.buffer.TheConstants.{MOST_ITEMS};
 
 use atom_names::OpenFault;
 use plain_term::Item;
 use std::alloc::Global;
 use std::marker::Model;
 
-/// How many places there are, as many as a line may have bytes.
-pub(crate) const PLACES: usize = 4096;
+/// How many items there may be: as many as a line may have bytes.
+pub const MOST_ITEMS: usize = 4096;
 
 /// The items of the terms of one line, in prefix form.
 #[derive(Drop)]
@@ -18,12 +19,13 @@ pub struct Code {
 impl Model for Code {
     ghost use Rattle.std.specs.Prelude.{◌≡◌, ◌≤◌, List, take, length};
     ghost use Rattle.plain_term.specs.declared.item.Item.{Item};
+    ghost use Rattle.script_parse.specs.declared.buffer.TheConstants.{MOST_ITEMS};
 
     ghost Value = { List Item };
 
     ghost view = { λ c. take c.len c.places.items };
 
-    ghost invariant = { λ c. (length c.places.items ≡ 4096) × (c.len ≤ 4096) };
+    ghost invariant = { λ c. (length c.places.items ≡ MOST_ITEMS) × (c.len ≤ MOST_ITEMS) };
 }
 
 impl Code {
@@ -31,7 +33,7 @@ impl Code {
     pub fn new(alloc: Global) -> Result<Code, OpenFault>
         ensures { IfOk result (λ code. code ≡ []) }
     {
-        match vec![in alloc; Item::Nil; PLACES] {
+        match vec![in alloc; Item::Nil; MOST_ITEMS] {
             Ok(places) => Ok(Code { places, len: 0 }),
             Err(_) => Err(OpenFault::Memory),
         }
@@ -40,7 +42,7 @@ impl Code {
     /// The items of the last parse.
     pub fn items(&self) -> &[Item]
         ensures value { result.now ≡ self.now }
-        ensures few { length self.now ≤ 4096 }
+        ensures few { length self.now ≤ MOST_ITEMS }
     {
         &self.places[..self.len]
     }
@@ -48,7 +50,7 @@ impl Code {
     /// How many items there are.
     pub(crate) fn len(&self) -> usize
         ensures value { result ≡ length self.now }
-        ensures few { length self.now ≤ 4096 }
+        ensures few { length self.now ≤ MOST_ITEMS }
     {
         self.len
     }
@@ -62,7 +64,7 @@ impl Code {
 
     /// Puts an item at the end.
     pub(crate) fn push(&mut self, item: Item)
-        requires { length self.old < 4096 }
+        requires { length self.old < MOST_ITEMS }
         ensures { self.new ≡ self.old ++ item ∷ [] }
     {
         self.places[self.len] = item;

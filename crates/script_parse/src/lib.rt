@@ -14,5 +14,5 @@ mod tests;
 mod verbs;
 mod words;
 
-pub use buffer::Code;
+pub use buffer::{Code, MOST_ITEMS};
 pub use lines::{one_reading, parse};

@@ -22,6 +22,7 @@ ghost use Rattle.script_grammar.specs.Written.{Written};
 ghost use Rattle.script_grammar.specs.Grammar.{SaysOne, IsBuiltCommand};
 ghost use Rattle.script_grammar.specs.Names.{IsInBounds};
 ghost use Rattle.script_grammar.specs.ReadAs.{IsOutside, BringsTooMany};
+ghost use Rattle.script_parse.specs.declared.buffer.TheConstants.{MOST_ITEMS};
 ghost use Rattle.script_parse.specs.Output.{out, given, Grows, Keeps};
 ghost use Rattle.script_parse.specs.Parses.{Reads};
 ghost use Rattle.script_parse.specs.Reading.{is_silent, command_run, line_run};
@@ -46,7 +47,7 @@ fn silent(line: &[u8]) -> bool
 
 /// A command. The line begins with its first byte.
 fn command(line: &[u8], out: &mut Output) -> Option<Command>
-    requires { length out.old.code.now + length line.now ≤ 4096 }
+    requires { length out.old.code.now + length line.now ≤ MOST_ITEMS }
     ensures read { MatchOption result (command_run line.now (given out.old) ≡ None) (λ c. command_run line.now (given out.old) ≡ Some (c, given out.new)) }
     ensures grown { Grows out.old out.new }
 {
@@ -61,7 +62,7 @@ fn command(line: &[u8], out: &mut Output) -> Option<Command>
 
 /// A whole line.
 fn whole(line: &[u8], out: &mut Output) -> Option<Command>
-    requires { length out.old.code.now + length line.now ≤ 4096 }
+    requires { length out.old.code.now + length line.now ≤ MOST_ITEMS }
     ensures read { MatchOption result (line_run line.now (given out.old) ≡ None) (λ c. line_run line.now (given out.old) ≡ Some (c, given out.new)) }
     ensures grown { Grows out.old out.new }
 {
@@ -74,7 +75,7 @@ fn whole(line: &[u8], out: &mut Output) -> Option<Command>
 
 /// What a line says, and whether a name found no place. All names stay in their places.
 fn read(line: &[u8], names: &mut AtomNames, code: &mut Code) -> Option<(Command, bool)>
-    requires { length code.old + length line.now ≤ 4096 }
+    requires { length code.old + length line.now ≤ MOST_ITEMS }
     ensures read { MatchOption result (line_run line.now (out names.old false code.old) ≡ None) (λ r. line_run line.now (out names.old false code.old) ≡ Some (r.0, out names.new r.1 code.new)) }
     ensures kept { Keeps names.old names.new }
 {
@@ -87,13 +88,13 @@ fn read(line: &[u8], names: &mut AtomNames, code: &mut Code) -> Option<(Command,
     Some((command, out.full))
 }
 
-/// Reads a line of at most 4,096 bytes without its end. The items of its terms are left in `code`,
+/// Reads a line of at most `MOST_ITEMS` bytes without its end. The items of its terms are left in `code`,
 /// its new names go last in `names`.
 ///
 /// `Syntax` where the line is not in the grammar, or is in it only through a verb or a form that is
 /// not built; `Atoms` where it is, and its new names are too many.
 pub fn parse(line: &[u8], names: &mut AtomNames, code: &mut Code) -> Result<Command, Refusal>
-    requires { length line.now ≤ 4096 }
+    requires { length line.now ≤ MOST_ITEMS }
     ensures said { IfOk result (λ c. (w : Written) × Reads line.now names.old c names.new code.new w) }
     ensures built { IfOk result IsBuiltCommand }
     ensures bounds { IfOk result IsInBounds }

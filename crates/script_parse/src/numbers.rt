@@ -1,14 +1,19 @@
 ghost use Rattle.std.specs.Prelude.{◌≡◌, ℕ, ◌+◌, ◌≤◌, ◌<◌, ◌^◌, pos, List, length, MatchOption};
 ghost use Rattle.script_grammar.specs.Grammar.{is_digit};
+ghost use Rattle.script_parse.specs.declared.numbers.TheConstants.{SMALL};
 ghost use Rattle.script_parse.specs.Reading.{digits_at, number_at, integer_at, pid_at};
 
 use crate::blanks::{after_text, first};
+use script_grammar::{NUMBERS, REGISTERS};
 
-/// The greatest number that an operand may be.
-pub(crate) const GREATEST: u64 = 1_099_511_627_775;
+/// The greatest number of a line but those in terms.
+pub(crate) const GREATEST: u64 = NUMBERS - 1;
+
+/// The last register of a process.
+pub(crate) const LAST_REGISTER: u64 = REGISTERS - 1;
 
 /// The greatest small integer.
-const SMALL: u64 = 576_460_752_303_423_487;
+pub(crate) const SMALL: u64 = (1 << 59) - 1;
 
 /// A digit.
 fn digit(b: u8) -> bool
@@ -19,7 +24,7 @@ fn digit(b: u8) -> bool
 
 /// A number goes on by the digits at the front, up to a limit.
 fn digits(line: &[u8], limit: u64, start: u64) -> Option<(u64, &[u8])>
-    requires limit { limit ≤ 2 ^ 59 }
+    requires limit { limit ≤ SMALL + 1 }
     requires start { start ≤ limit }
     ensures value { MatchOption result (digits_at limit start line.now ≡ None) (λ r. digits_at limit start line.now ≡ Some (r.0, r.1.now)) }
     ensures within { MatchOption result (Unit {0}) (λ r. (r.0 ≤ limit) × (length r.1.now ≤ length line.now)) }
@@ -41,7 +46,7 @@ fn digits(line: &[u8], limit: u64, start: u64) -> Option<(u64, &[u8])>
 
 /// A number without sign and without leading zeros, up to a limit.
 pub(crate) fn number(line: &[u8], limit: u64) -> Option<(u64, &[u8])>
-    requires { (9 ≤ limit) × (limit ≤ 2 ^ 59) }
+    requires { (9 ≤ limit) × (limit ≤ SMALL + 1) }
     ensures value { MatchOption result (number_at limit line.now ≡ None) (λ r. number_at limit line.now ≡ Some (r.0, r.1.now)) }
     ensures within { MatchOption result (Unit {0}) (λ r. (r.0 ≤ limit) × (length r.1.now < length line.now)) }
 {

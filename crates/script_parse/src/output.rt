@@ -1,5 +1,7 @@
 //! What a line gives while it is read.
 ghost use Rattle.std.specs.Prelude.{◌≡◌, ℕ, ◌+◌, ◌≤◌, ◌<◌, List, [], ◌++◌, length};
+ghost use Rattle.atom_names.specs.declared.row.TheConstants.{LONGEST_NAME};
+ghost use Rattle.script_parse.specs.declared.buffer.TheConstants.{MOST_ITEMS};
 ghost use Rattle.script_parse.specs.Output.{given, push, put_at, put_atom, begun, begun_items, led, ended, led_items, Grows};
 
 use crate::buffer::Code;
@@ -18,7 +20,7 @@ pub(crate) struct Output<'a> {
 impl<'a> Output<'a> {
     /// An item goes last.
     pub(crate) fn push(&mut self, item: Item)
-        requires { length self.old.code.now < 4096 }
+        requires { length self.old.code.now < MOST_ITEMS }
         ensures item { given self.new ≡ push (given self.old) item }
         ensures grown { Grows self.old self.new }
     {
@@ -27,8 +29,8 @@ impl<'a> Output<'a> {
 
     /// An atom goes last by its number. Where it is new and there is no number for it, that is kept in mind.
     pub(crate) fn put_atom(&mut self, name: &[u8])
-        requires sized { (1 ≤ length name.now) × (length name.now ≤ 63) }
-        requires room { length self.old.code.now < 4096 }
+        requires sized { (1 ≤ length name.now) × (length name.now ≤ LONGEST_NAME) }
+        requires room { length self.old.code.now < MOST_ITEMS }
         ensures atom { given self.new ≡ put_atom (given self.old) name.now }
         ensures grown { Grows self.old self.new }
         ensures one { length self.new.code.now ≡ length self.old.code.now + 1 }
@@ -44,7 +46,7 @@ impl<'a> Output<'a> {
 
     /// What stands before the parts of a form.
     pub(crate) fn begin(&mut self, form: Form)
-        requires { length self.old.code.now < 4096 }
+        requires { length self.old.code.now < MOST_ITEMS }
         ensures items { given self.new ≡ begun form (given self.old) }
         ensures grown { Grows self.old self.new }
     {
@@ -56,7 +58,7 @@ impl<'a> Output<'a> {
 
     /// What stands before each part of a form.
     pub(crate) fn lead(&mut self, form: Form)
-        requires { length (led_items form self.old.code.now) ≤ 4096 }
+        requires { length (led_items form self.old.code.now) ≤ MOST_ITEMS }
         ensures items { given self.new ≡ led form (given self.old) }
         ensures grown { Grows self.old self.new }
     {
@@ -68,7 +70,7 @@ impl<'a> Output<'a> {
 
     /// A form whose items begin at this place and that has so many parts is complete.
     pub(crate) fn end(&mut self, form: Form, at: usize, n: u64)
-        requires room { length self.old.code.now < 4096 }
+        requires room { length self.old.code.now < MOST_ITEMS }
         requires at { at + length (begun_items form []) ≤ length self.old.code.now }
         ensures items { given self.new ≡ ended form at n (given self.old) }
         ensures grown { Grows self.old self.new }

@@ -1,4 +1,5 @@
 ghost use Rattle.std.specs.Prelude.{◌≡◌, ℕ, ◌+◌, ◌≤◌, ◌<◌, Bool, List, length, MatchOption, Some, None};
+ghost use Rattle.script_parse.specs.declared.buffer.TheConstants.{MOST_ITEMS};
 ghost use Rattle.script_parse.specs.Output.{given, begun, led_items, Grows, Spends};
 ghost use Rattle.script_parse.specs.Reading.{leaf_run, parts_run, part_run, form_run, term_run};
 
@@ -7,11 +8,12 @@ use crate::blanks::{after_byte, after_text, first, skip};
 use crate::forms::{Form, opened};
 use crate::numbers::{integer, pid};
 use crate::output::Output;
+use atom_names::LONGEST_NAME;
 use plain_term::Item;
 
 /// A term without parts goes last. The line begins with its first byte.
 fn leaf<'a>(line: &'a [u8], out: &mut Output) -> Option<&'a [u8]>
-    requires { length out.old.code.now + length line.now ≤ 4096 }
+    requires { length out.old.code.now + length line.now ≤ MOST_ITEMS }
     ensures read { MatchOption result (leaf_run line.now (given out.old) ≡ None) (λ r. leaf_run line.now (given out.old) ≡ Some (r.now, given out.new)) }
     ensures grown { Grows out.old out.new }
     ensures room { MatchOption result (Unit {0}) (λ r. Spends 0 line.now r.now out.old out.new) }
@@ -24,7 +26,7 @@ fn leaf<'a>(line: &'a [u8], out: &mut Output) -> Option<&'a [u8]>
     }
     if small_letter(b) {
         let n = name_len(line);
-        if n > 63 {
+        if n > LONGEST_NAME {
             return None;
         }
         out.put_atom(&line[..n]);
@@ -38,7 +40,7 @@ fn leaf<'a>(line: &'a [u8], out: &mut Output) -> Option<&'a [u8]>
 /// The parts of a form go last. The line begins after its opening. Answers how many there are, too.
 #[cycle(terms)]
 fn parts<'a>(form: Form, line: &'a [u8], levels: u64, out: &mut Output) -> Option<(&'a [u8], u64)>
-    requires { length (led_items form out.old.code.now) + length line.now ≤ 4096 }
+    requires { length (led_items form out.old.code.now) + length line.now ≤ MOST_ITEMS }
     ensures read { MatchOption result (parts_run (part_run (term_run levels) form) (length line.now + 1) line.now 0 (given out.old) ≡ None)
         (λ r. parts_run (part_run (term_run levels) form) (length line.now + 1) line.now 0 (given out.old) ≡ Some (r.0.now, (r.1, given out.new))) }
     ensures grown { Grows out.old out.new }
@@ -59,7 +61,7 @@ fn parts<'a>(form: Form, line: &'a [u8], levels: u64, out: &mut Output) -> Optio
 /// A form goes last. The line begins after its opening.
 #[cycle(terms)]
 fn bracketed<'a>(form: Form, line: &'a [u8], levels: u64, out: &mut Output) -> Option<&'a [u8]>
-    requires { length out.old.code.now + length line.now < 4096 }
+    requires { length out.old.code.now + length line.now < MOST_ITEMS }
     ensures read { MatchOption result (form_run (term_run levels) form line.now (given out.old) ≡ None)
         (λ r. form_run (term_run levels) form line.now (given out.old) ≡ Some (r.now, given out.new)) }
     ensures grown { Grows out.old out.new }
@@ -80,7 +82,7 @@ fn bracketed<'a>(form: Form, line: &'a [u8], levels: u64, out: &mut Output) -> O
 /// A term goes last, with at most so many levels of brackets.
 #[cycle(terms)]
 pub(crate) fn term<'a>(line: &'a [u8], levels: u64, out: &mut Output) -> Option<&'a [u8]>
-    requires { length out.old.code.now + length line.now ≤ 4096 }
+    requires { length out.old.code.now + length line.now ≤ MOST_ITEMS }
     ensures read { MatchOption result (term_run levels line.now (given out.old) ≡ None) (λ r. term_run levels line.now (given out.old) ≡ Some (r.now, given out.new)) }
     ensures grown { Grows out.old out.new }
     ensures room { MatchOption result (Unit {0}) (λ r. Spends 0 line.now r.now out.old out.new) }

@@ -2,26 +2,25 @@ ghost use Rattle.std.specs.Prelude.{◌≡◌, ℕ, ◌+◌, ◌≤◌, ◌<◌,
 ghost use Rattle.script_grammar.specs.Names.{Arguments};
 ghost use Rattle.script_grammar.specs.Written.{Kind};
 ghost use Rattle.script_grammar.specs.Written.Kind.{Slot, Body};
+ghost use Rattle.script_parse.specs.declared.buffer.TheConstants.{MOST_ITEMS};
+ghost use Rattle.script_parse.specs.declared.numbers.TheConstants.{LAST_REGISTER};
 ghost use Rattle.script_parse.specs.Output.{given, Grows};
 ghost use Rattle.script_parse.specs.Reading.{number_at, spaced_at, row, row_run, verb_run, named_run, process_run, sys_verb_run, sys_named_run, system_run};
 
 use crate::blanks::{ends, gap, skip, word_len};
-use crate::numbers::number;
+use crate::numbers::{LAST_REGISTER, number};
 use crate::output::Output;
 use crate::terms::term;
 use crate::words::{sys_word, verb_word};
-use script_grammar::{Reg, SysVerb, SysWord, Verb, Word};
-
-/// How many levels of brackets may be open.
-const LEVELS: u64 = 256;
+use script_grammar::{LEVELS, Reg, SysVerb, SysWord, Verb, Word};
 
 /// A blank and a register.
 fn register(line: &[u8]) -> Option<(Reg, &[u8])>
-    ensures value { MatchOption result (spaced_at (number_at 15) line.now ≡ None) (λ r. spaced_at (number_at 15) line.now ≡ Some (r.0.0, r.1.now)) }
+    ensures value { MatchOption result (spaced_at (number_at LAST_REGISTER) line.now ≡ None) (λ r. spaced_at (number_at LAST_REGISTER) line.now ≡ Some (r.0.0, r.1.now)) }
     ensures shorter { MatchOption result (Unit {0}) (λ r. length r.1.now ≤ length line.now) }
 {
     let rest = gap(line)?;
-    let (n, rest) = number(skip(rest), 15)?;
+    let (n, rest) = number(skip(rest), LAST_REGISTER)?;
     Some((Reg(n as u8), rest))
 }
 
@@ -49,7 +48,7 @@ fn slot(line: &[u8], out: &mut Output) -> Option<Reg>
 /// A register and a term, and nothing more. The term goes last.
 #[tactic(auto, unfolding(crate::specs::Reading::row_run))]
 fn slot_body(line: &[u8], out: &mut Output) -> Option<Reg>
-    requires { length out.old.code.now + length line.now ≤ 4096 }
+    requires { length out.old.code.now + length line.now ≤ MOST_ITEMS }
     ensures read { (f : Arguments (Slot ∷ Body ∷ []) → Verb) → MatchOption result (row_run (row (Slot ∷ Body ∷ []) f) line.now (given out.old) ≡ None)
         (λ r. row_run (row (Slot ∷ Body ∷ []) f) line.now (given out.old) ≡ Some (f (r.0, (tt, tt)), given out.new)) }
     ensures grown { Grows out.old out.new }
@@ -62,7 +61,7 @@ fn slot_body(line: &[u8], out: &mut Output) -> Option<Reg>
 
 /// The operands of a verb of a process, by the table of what is built.
 fn verb(word: Word, line: &[u8], out: &mut Output) -> Option<Verb>
-    requires { length out.old.code.now + length line.now ≤ 4096 }
+    requires { length out.old.code.now + length line.now ≤ MOST_ITEMS }
     ensures read { MatchOption result (verb_run word line.now (given out.old) ≡ None) (λ v. verb_run word line.now (given out.old) ≡ Some (v, given out.new)) }
     ensures grown { Grows out.old out.new }
 {
@@ -82,7 +81,7 @@ fn verb(word: Word, line: &[u8], out: &mut Output) -> Option<Verb>
 
 /// A verb of a process and its operands. The line begins with its word.
 fn named(line: &[u8], out: &mut Output) -> Option<Verb>
-    requires { length out.old.code.now + length line.now ≤ 4096 }
+    requires { length out.old.code.now + length line.now ≤ MOST_ITEMS }
     ensures read { MatchOption result (named_run line.now (given out.old) ≡ None) (λ v. named_run line.now (given out.old) ≡ Some (v, given out.new)) }
     ensures grown { Grows out.old out.new }
 {
@@ -93,7 +92,7 @@ fn named(line: &[u8], out: &mut Output) -> Option<Verb>
 
 /// A process line after its number.
 pub(crate) fn process_verb(line: &[u8], out: &mut Output) -> Option<Verb>
-    requires { length out.old.code.now + length line.now ≤ 4096 }
+    requires { length out.old.code.now + length line.now ≤ MOST_ITEMS }
     ensures read { MatchOption result (process_run line.now (given out.old) ≡ None) (λ v. process_run line.now (given out.old) ≡ Some (v, given out.new)) }
     ensures grown { Grows out.old out.new }
 {
@@ -103,7 +102,7 @@ pub(crate) fn process_verb(line: &[u8], out: &mut Output) -> Option<Verb>
 
 /// The operands of a verb of the system, by the table of what is built.
 fn sys_verb(word: SysWord, line: &[u8], out: &mut Output) -> Option<SysVerb>
-    requires { length out.old.code.now + length line.now ≤ 4096 }
+    requires { length out.old.code.now + length line.now ≤ MOST_ITEMS }
     ensures read { MatchOption result (sys_verb_run word line.now (given out.old) ≡ None) (λ v. sys_verb_run word line.now (given out.old) ≡ Some (v, given out.new)) }
     ensures grown { Grows out.old out.new }
 {
@@ -126,7 +125,7 @@ fn sys_verb(word: SysWord, line: &[u8], out: &mut Output) -> Option<SysVerb>
 
 /// A verb of the system and its operands. The line begins with its word.
 fn sys_named(line: &[u8], out: &mut Output) -> Option<SysVerb>
-    requires { length out.old.code.now + length line.now ≤ 4096 }
+    requires { length out.old.code.now + length line.now ≤ MOST_ITEMS }
     ensures read { MatchOption result (sys_named_run line.now (given out.old) ≡ None) (λ v. sys_named_run line.now (given out.old) ≡ Some (v, given out.new)) }
     ensures grown { Grows out.old out.new }
 {
@@ -137,7 +136,7 @@ fn sys_named(line: &[u8], out: &mut Output) -> Option<SysVerb>
 
 /// A system line after its first word.
 pub(crate) fn system_verb(line: &[u8], out: &mut Output) -> Option<SysVerb>
-    requires { length out.old.code.now + length line.now ≤ 4096 }
+    requires { length out.old.code.now + length line.now ≤ MOST_ITEMS }
     ensures read { MatchOption result (system_run line.now (given out.old) ≡ None) (λ v. system_run line.now (given out.old) ≡ Some (v, given out.new)) }
     ensures grown { Grows out.old out.new }
 {
