@@ -8,6 +8,8 @@ mod names;
 #[cfg(test)]
 mod ordering;
 #[cfg(test)]
+mod parsing;
+#[cfg(test)]
 mod sizes;
 #[cfg(test)]
 mod std_edges;

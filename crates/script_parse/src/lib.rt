@@ -9,8 +9,6 @@ mod lines;
 mod numbers;
 mod output;
 mod terms;
-#[cfg(test)]
-mod tests;
 mod verbs;
 mod words;
 

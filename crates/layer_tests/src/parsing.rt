@@ -1,0 +1,346 @@
+// Lines are read, refused as faults of syntax, or refused for their names, and what was read is left as items.
+ghost use Rattle.std.specs.Prelude.{◌≡◌, ◌≤◌, length};
+
+use atom_names::{AtomNames, LONGEST_NAME, MOST_NAMES};
+use plain_term::Item;
+use script_grammar::{Command, LEVELS, Refusal, Reg, Verb};
+use script_parse::{Code, MOST_ITEMS, parse};
+use std::alloc::{AllocError, Global};
+use std::test::Fail;
+
+// What a line is answered.
+#[derive(Clone, Copy, PartialEq)]
+enum Answer {
+    Read,
+    Syntax,
+    Atoms,
+    Other,
+}
+
+fn answer_to(line: &[u8], names: &mut AtomNames, code: &mut Code) -> Answer {
+    if line.len() > MOST_ITEMS {
+        return Answer::Other;
+    }
+    match parse(line, names, code) {
+        Ok(_) => Answer::Read,
+        Err(Refusal::Syntax) => Answer::Syntax,
+        Err(Refusal::Atoms) => Answer::Atoms,
+        Err(_) => Answer::Other,
+    }
+}
+
+// Lines that are read: nothing, or one command.
+const READ: [&[u8]; 27] = [
+    b"",
+    b" \t ",
+    b"% any \x00\xff bytes",
+    b" \t% too",
+    b"1 set 0 1",
+    b"  1\tset \t 0  [1 , 2]  ",
+    b"1 set 0 {1,[2]}",
+    b"1 set 0 { }",
+    b"1 set 0 [ ]",
+    b"1 set 0 0",
+    b"1 set 0 -1",
+    b"1 set 0 <0.1.0>",
+    b"1 set 0 a@_Z9",
+    b"1 set 15 a",
+    b"0 exit",
+    b"1 print 0",
+    b"1 push 0",
+    b"1 pop 1",
+    b"2 self 0",
+    b"1 exit",
+    b"sys spawn",
+    b" sys  procs ",
+    b"sys quit",
+    b"1099511627775 exit",
+    b"1 set 0 576460752303423487",
+    b"1 set 0 -576460752303423488",
+    b"1 set 0 <0.1099511627775.0>",
+];
+
+// Lines that are in no grammar, or only in that of what is not built.
+const UNREAD: [&[u8]; 67] = [
+    b"1099511627776 exit",
+    b"01 exit",
+    b"+1 exit",
+    b"-1 exit",
+    b"1exit",
+    b"1 exit 0",
+    b"1 exit % word",
+    b"1 exitx",
+    b"1 Exit",
+    b"1",
+    b"1 ",
+    b"sys",
+    b"sys ",
+    b"sysspawn",
+    b"sys spawn 1",
+    b"Sys spawn",
+    b"spawn",
+    b"1 print",
+    b"1 print 16",
+    b"1 print 00",
+    b"1 print 0 0",
+    b"1 print $0",
+    b"1 print 0%",
+    b"1 set 0",
+    b"1 set 0 ",
+    b"1 set 0{1}",
+    b"1 set 0 1 1",
+    b"1 set 0 01",
+    b"1 set 0 -0",
+    b"1 set 0 - 1",
+    b"1 set 0 +1",
+    b"1 set 0 576460752303423488",
+    b"1 set 0 -576460752303423489",
+    b"1 set 0 170141183460469231731687303715884105728",
+    b"1 set 0 [|a]",
+    b"1 set 0 [a|]",
+    b"1 set 0 [a|b]",
+    b"1 set 0 [a|b|c]",
+    b"1 set 0 {,}",
+    b"1 set 0 [,]",
+    b"1 set 0 [1,]",
+    b"1 set 0 [1",
+    b"1 set 0 {1,",
+    b"1 set 0 [1}",
+    b"1 set 0 {1]",
+    b"1 set 0 [1 2]",
+    b"1 set 0 1]",
+    b"1 set 0 #{a}",
+    b"1 set 0 #{a=>}",
+    b"1 set 0 #{}",
+    b"1 set 0 <<256>>",
+    b"1 set 0 <<1,>>",
+    b"1 set 0 <<>>",
+    b"1 set 0 <0.0.0>",
+    b"1 set 0 <0.1.1>",
+    b"1 set 0 <1.1.0>",
+    b"1 set 0 <0.01.0>",
+    b"1 set 0 <0. 1.0>",
+    b"1 set 0 <0.1099511627776.0>",
+    b"1 set 0 $0",
+    b"1 set 0 $16",
+    b"1 set 0 Abc",
+    b"1 set 0 _a",
+    b"1 set 0 a-b",
+    b"1 set 0 \xc3",
+    b"1 set 0 a\x00",
+    b"1 hd 0 1",
+];
+
+// Whether each of the lines is answered so.
+fn all_answer(alloc: Global, lines: &[&[u8]], want: Answer) -> Result<bool, Fail> {
+    let mut names = AtomNames::new(alloc)?;
+    let mut code = Code::new(alloc)?;
+    for line in lines {
+        if answer_to(line, &mut names, &mut code) != want {
+            return Ok(false);
+        }
+    }
+    Ok(true)
+}
+
+#[test]
+fn commands_are_read(rt: HostRuntime) -> Result<(), Fail> {
+    assert!(rt; all_answer(rt.alloc(), &READ, Answer::Read)?);
+    Ok(())
+}
+
+#[test]
+fn all_else_is_a_fault_of_syntax(rt: HostRuntime) -> Result<(), Fail> {
+    assert!(rt; all_answer(rt.alloc(), &UNREAD, Answer::Syntax)?);
+    Ok(())
+}
+
+// A line that is made: brackets in so many levels, lists and tuples in turn, or an atom of so many bytes.
+#[derive(Clone, Copy)]
+enum Made {
+    Nested(u64),
+    Atom(usize),
+}
+
+// Lines at the limits, and beyond them.
+const LIMITS: [(Made, Answer); 4] = [
+    (Made::Nested(LEVELS), Answer::Read),
+    (Made::Nested(LEVELS + 1), Answer::Syntax),
+    (Made::Atom(LONGEST_NAME), Answer::Read),
+    (Made::Atom(LONGEST_NAME + 1), Answer::Syntax),
+];
+
+fn nested(alloc: Global, levels: u64) -> Result<Vec<u8>, AllocError> {
+    let mut line = b"1 set 0 ".to_vec(alloc)?;
+    for k in 0..levels {
+        line.push(if k % 2 == 0 { b'[' } else { b'{' })?;
+    }
+    for k in 0..levels {
+        line.push(if (levels - 1 - k) % 2 == 0 {
+            b']'
+        } else {
+            b'}'
+        })?;
+    }
+    Ok(line)
+}
+
+fn long_atom(alloc: Global, len: usize) -> Result<Vec<u8>, AllocError> {
+    let mut line = b"1 set 0 ".to_vec(alloc)?;
+    for _ in 0..len {
+        line.push(b'a')?;
+    }
+    Ok(line)
+}
+
+fn line_of(alloc: Global, made: Made) -> Result<Vec<u8>, AllocError> {
+    match made {
+        Made::Nested(levels) => nested(alloc, levels),
+        Made::Atom(len) => long_atom(alloc, len),
+    }
+}
+
+fn limit_holds(alloc: Global, made: Made, want: Answer) -> Result<bool, Fail> {
+    let line = line_of(alloc, made)?;
+    all_answer(alloc, &[line.as_slice()], want)
+}
+
+#[test]
+fn limits_are_met(rt: HostRuntime) -> Result<(), Fail> {
+    for (made, want) in &LIMITS {
+        assert!(rt; limit_holds(rt.alloc(), *made, *want)?);
+    }
+    Ok(())
+}
+
+// Lines over a full table, which has the names aaa to ygd.
+const FULL: [(&[u8], Answer); 6] = [
+    (b"1 set 0 fresh", Answer::Atoms),
+    (b"99 set 0 [aaa,fresh]", Answer::Atoms),
+    (b"1 set 0 [fresh", Answer::Syntax),
+    (b"1 set 0 [aaa,ygz]", Answer::Atoms),
+    (b"1 set 0 [aaa,ygd]", Answer::Read),
+    (b"1 set 0 {}", Answer::Read),
+];
+
+// Whether names of three letters take all numbers.
+fn fill(names: &mut AtomNames) -> bool {
+    for k in 0..MOST_NAMES as u32 {
+        let name = [
+            b'a' + (k / 676) as u8,
+            b'a' + (k / 26 % 26) as u8,
+            b'a' + (k % 26) as u8,
+        ];
+        if names.intern(&name).is_none() {
+            return false;
+        }
+    }
+    true
+}
+
+fn full_holds(alloc: Global) -> Result<bool, Fail> {
+    let mut names = AtomNames::new(alloc)?;
+    let mut code = Code::new(alloc)?;
+    if !fill(&mut names) {
+        return Ok(false);
+    }
+    for (line, want) in &FULL {
+        if answer_to(line, &mut names, &mut code) != *want {
+            return Ok(false);
+        }
+    }
+    Ok(names.count() == MOST_NAMES as u64)
+}
+
+#[test]
+fn a_full_table_takes_no_new_name(rt: HostRuntime) -> Result<(), Fail> {
+    assert!(rt; full_holds(rt.alloc())?);
+    Ok(())
+}
+
+// A line, its items, and how many names there are after it, each line after the one before.
+struct Row {
+    line: &'static [u8],
+    items: &'static [Item],
+    names: u64,
+}
+
+const ROWS: [Row; 3] = [
+    Row {
+        line: b"1 set 3 {a,[-7,b],<0.2.0>,a}",
+        items: &[
+            Item::Tuple(4),
+            Item::Atom(0),
+            Item::Cons,
+            Item::Int(-7),
+            Item::Cons,
+            Item::Atom(1),
+            Item::Nil,
+            Item::Pid(2),
+            Item::Atom(0),
+        ],
+        names: 2,
+    },
+    Row {
+        line: b"1 set 3 [{ }, [ ]]",
+        items: &[Item::Cons, Item::Tuple(0), Item::Cons, Item::Nil, Item::Nil],
+        names: 2,
+    },
+    Row {
+        line: b"1 set 3 [c]",
+        items: &[Item::Cons, Item::Atom(2), Item::Nil],
+        names: 3,
+    },
+];
+
+fn same_item(a: Item, b: Item) -> bool {
+    match a {
+        Item::Int(i) => matches!(b, Item::Int(j) if i == j),
+        Item::Atom(k) => matches!(b, Item::Atom(j) if k == j),
+        Item::Pid(n) => matches!(b, Item::Pid(m) if n == m),
+        Item::Tuple(n) => matches!(b, Item::Tuple(m) if n == m),
+        Item::Nil => matches!(b, Item::Nil),
+        Item::Cons => matches!(b, Item::Cons),
+        _ => false,
+    }
+}
+
+fn same_items(a: &[Item], b: &[Item]) -> bool {
+    for (i, item) in a.iter().enumerate() {
+        match b.get(i) {
+            Some(other) if same_item(*item, *other) => {},
+            _ => return false,
+        }
+    }
+    a.len() == b.len()
+}
+
+fn sets_third(line: &[u8], names: &mut AtomNames, code: &mut Code) -> bool {
+    line.len() <= MOST_ITEMS
+        && matches!(
+            parse(line, names, code),
+            Ok(Command::Process(1, Verb::Set(Reg(3))))
+        )
+}
+
+fn rows_hold(alloc: Global) -> Result<bool, Fail> {
+    let mut names = AtomNames::new(alloc)?;
+    let mut code = Code::new(alloc)?;
+    for row in &ROWS {
+        if !sets_third(row.line, &mut names, &mut code) || !same_items(code.items(), row.items) {
+            return Ok(false);
+        }
+        if answer_to(b"1 set 0 [x,y", &mut names, &mut code) != Answer::Syntax
+            || names.count() != row.names
+        {
+            return Ok(false);
+        }
+    }
+    Ok(true)
+}
+
+#[test]
+fn a_line_gives_its_items_and_a_broken_one_no_name(rt: HostRuntime) -> Result<(), Fail> {
+    assert!(rt; rows_hold(rt.alloc())?);
+    Ok(())
+}
