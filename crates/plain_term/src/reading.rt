@@ -59,8 +59,9 @@ fn read_term(alloc: Global, items: &[Item]) -> Option<(Option<Tree>, &[Item])>
         Item::Nil => Some((Some(Tree::Nil), rest)),
         Item::Cons => {
             let (head, rest) = read_term(alloc, rest)?;
+            let head = boxed(alloc, head);
             let (tail, rest) = read_term(alloc, rest)?;
-            Some((cons(alloc, head, tail), rest))
+            Some((cons(head, boxed(alloc, tail)), rest))
         }
         Item::Tuple(n) => {
             let (parts, rest) = read_parts(alloc, n, rest)?;
@@ -132,13 +133,18 @@ fn first_byte(items: &[Item]) -> Option<(u8, &[Item])>
     }
 }
 
-// A list place of two terms, where both are built and memory is left for it.
-fn cons(alloc: Global, head: Option<Tree>, tail: Option<Tree>) -> Option<Tree>
+// A term in a box, where it is built and memory is left for it.
+fn boxed(alloc: Global, tree: Option<Tree>) -> Option<Boxed<Tree>>
+    ensures { (t : plain.Tree) → IsOf tree t → IsOf result t }
+{
+    Boxed::new(alloc, tree?).ok()
+}
+
+// A list place of two terms that are built.
+fn cons(head: Option<Boxed<Tree>>, tail: Option<Boxed<Tree>>) -> Option<Tree>
     ensures { (h t : plain.Tree) → IsOf head h → IsOf tail t → IsOf result (plain_cons h t) }
 {
-    let head = Boxed::new(alloc, head?).ok()?;
-    let tail = Boxed::new(alloc, tail?).ok()?;
-    Some(Tree::Cons(head, tail))
+    Some(Tree::Cons(head?, tail?))
 }
 
 // A tuple of parts that are built.

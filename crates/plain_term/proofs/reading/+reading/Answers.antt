@@ -25,7 +25,8 @@ read_term-returns-in_ok-tail-in-Cons-clause-read t c =
     let begins = c.in_ok-first.ensures ∙ ap (λ x. x ∷ c.in_ok-first.rest.now) c.in-Cons.is in
     let head = c.in_ok-head-in-Cons in
     let tail = c.in_ok-tail-in-Cons in
-    reads_cons c.args.items.now c.in_ok-first.rest.now head.head head.rest.now tail.tail c.cons.result tail.rest.now begins head.ensures.read tail.ensures.read c.cons.ensures
+    reads_cons c.args.items.now c.in_ok-first.rest.now head.head head.rest.now tail.tail c.cons.result tail.rest.now begins head.ensures.read tail.ensures.read
+    (λ h u hd tl. c.cons.ensures h u (c.boxed-head.ensures h hd) (c.boxed.ensures u tl))
 
 pub read_term-returns-in_ok-bytes-in-Bin-clause-read : goal.read_term-returns-in_ok-bytes-in-Bin-clause-read
 read_term-returns-in_ok-bytes-in-Bin-clause-read t c =
