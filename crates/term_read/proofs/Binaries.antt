@@ -9,7 +9,7 @@ use Rattle.term_words.specs.Object.{byte_of, BytesLie}
 use Rattle.term_words.specs.Stands.{Stands, IsTerm, IsBase}
 use Rattle.term_read.specs.Parts.{binary_of, whole_of, Tells, byte_len_in, byte_in}
 use Rattle.term_read.specs.Data.{BytesFrom, IsData, HasData, IsFirst, HasFirst}
-use Rattle.term_read.specs.declared.binary.Data.{Data}
+use Rattle.term_read.specs.declared.binary.Bytes.{Bytes}
 use Rattle.term_words.proofs.Shapes.{told}
 
 some-is : {A : Type 0} (x y : A) → Some x ≡ Some y → x ≡ y
@@ -18,7 +18,7 @@ some-is x y e = cc
 none-some : {A : Type 0} (x : A) → None ≡ Some x → ⊥
 none-some x e = cc
 
-lies-from : (mem : List ℕ) (q : ℕ) (bytes : List ℕ) → BytesLie mem q bytes → q + bin_words (length bytes) ≤ length mem → BytesFrom mem q 0 bytes
+pub lies-from : (mem : List ℕ) (q : ℕ) (bytes : List ℕ) → BytesLie mem q bytes → q + bin_words (length bytes) ≤ length mem → BytesFrom mem q 0 bytes
 lies-from mem q bytes lie inside = record {
   within = λ i below. omega arith;
   each = λ i below. rw (zero-add i) (lie.each i (q + i / 8) (omega arith) refl);
@@ -82,7 +82,7 @@ base-term mem w p i tag same =
     subst P (sym same) (λ sub. let (base, s) = part-base always i.shared mem w i.tree i.standing tag sub in record { shared = i.shared; tree = base; standing = s })
 
 -- The bytes of a part are those of its original from the offset on.
-slice-from : (mem : List ℕ) (first offset len : ℕ) (whole : List ℕ) → BytesFrom mem first 0 whole → offset + len ≤ length whole → BytesFrom mem first offset (take len (drop offset whole))
+pub slice-from : (mem : List ℕ) (first offset len : ℕ) (whole : List ℕ) → BytesFrom mem first 0 whole → offset + len ≤ length whole → BytesFrom mem first offset (take len (drop offset whole))
 slice-from mem first offset len whole b inside = record {
   within = λ i below.
       let short : i < len = omega (arith, length-take len (drop offset whole)) in
@@ -97,12 +97,12 @@ slice-from mem first offset len whole b inside = record {
       subst P same there ∙ sym read;
 }
 
-base-some : (mem : List ℕ) (shared : List (List ℕ)) (base : Tree) (v : ℕ) → IsBase base → IsFirst mem (whole_of shared base) (Some v) → BytesFrom mem v 0 (bytes_of shared base)
+pub base-some : (mem : List ℕ) (shared : List (List ℕ)) (base : Tree) (v : ℕ) → IsBase base → IsFirst mem (whole_of shared base) (Some v) → BytesFrom mem v 0 (bytes_of shared base)
 base-some mem shared (Bin bytes) v is (u, e, b) = let P : ℕ → Type 0 = λ x. BytesFrom mem x 0 bytes in subst P (sym (some-is v u e)) b
 base-some mem shared (Shared id) v is (u, e, b) = let P : ℕ → Type 0 = λ x. BytesFrom mem x 0 (shared_bytes shared id) in subst P (sym (some-is v u e)) b
 base-some mem shared _ v is b = absurd is
 
-base-none : (mem : List ℕ) (shared : List (List ℕ)) (base : Tree) → IsBase base → IsFirst mem (whole_of shared base) None → ⊥
+pub base-none : (mem : List ℕ) (shared : List (List ℕ)) (base : Tree) → IsBase base → IsFirst mem (whole_of shared base) None → ⊥
 base-none mem shared (Bin bytes) is (u, e, b) = none-some u e
 base-none mem shared (Shared id) is (u, e, b) = none-some u e
 base-none mem shared _ is b = absurd is
@@ -180,7 +180,7 @@ has-no_data mem w other h = record { each = λ c shared t s. whole-none c shared
 
 -- What the readers make of it.
 
-len-told : (mem : List ℕ) (o : Option (List ℕ)) (d : Data) → IsData mem o (Some d) → Some d.len ≡ option_map length o
+len-told : (mem : List ℕ) (o : Option (List ℕ)) (d : Bytes) → IsData mem o (Some d) → Some d.len ≡ option_map length o
 len-told mem None d e = absurd (none-some d (sym e))
 len-told mem (Some bytes) d (x, e, b, l) = ap Some (ap (λ z. z.len) (some-is d x e) ∙ l)
 
@@ -188,7 +188,7 @@ len-none : (mem : List ℕ) (o : Option (List ℕ)) → IsData mem o None → No
 len-none mem None e = refl
 len-none mem (Some bytes) (x, e, b, l) = absurd (none-some x e)
 
-pub tells-len : (mem : List ℕ) (w : ℕ) (d : Data) → HasData mem w (Some d) → Tells byte_len_in mem w (Some d.len)
+pub tells-len : (mem : List ℕ) (w : ℕ) (d : Bytes) → HasData mem w (Some d) → Tells byte_len_in mem w (Some d.len)
 tells-len mem w d h = record { each = λ c shared t s. len-told mem (binary_of shared t) d (h.each c shared t s) }
 
 pub no-len : (mem : List ℕ) (w : ℕ) → HasData mem w None → Tells byte_len_in mem w None
@@ -204,36 +204,36 @@ get-none [] i far = refl
 get-none (x ∷ xs) zero far = absurd (omega arith)
 get-none (x ∷ xs) (suc i) far = get-none xs i (omega arith)
 
-byte-told : (mem : List ℕ) (o : Option (List ℕ)) (d : Data) (i : ℕ) → IsData mem o (Some d) → i < d.len → Some (byte_of (get_or mem (d.first + (d.start + i) / 8) 0) ((d.start + i) % 8)) ≡ option_and_then (λ bytes. slice_get bytes i) o
+byte-told : (mem : List ℕ) (o : Option (List ℕ)) (d : Bytes) (i : ℕ) → IsData mem o (Some d) → i < d.len → Some (byte_of (get_or mem (d.first + (d.start + i) / 8) 0) ((d.start + i) % 8)) ≡ option_and_then (λ bytes. slice_get bytes i) o
 byte-told mem None d i e below = absurd (none-some d (sym e))
 byte-told mem (Some bytes) d i (x, e, b, l) below =
-    let P : Data → Type 0 = λ z. i < z.len → Some (byte_of (get_or mem (z.first + (z.start + i) / 8) 0) ((z.start + i) % 8)) ≡ slice_get bytes i in
+    let P : Bytes → Type 0 = λ z. i < z.len → Some (byte_of (get_or mem (z.first + (z.start + i) / 8) 0) ((z.start + i) % 8)) ≡ slice_get bytes i in
     subst P (sym (some-is d x e)) (λ h. ap Some (b.each i (omega arith)) ∙ sym (get-some bytes i (omega arith))) below
 
-byte-past : (mem : List ℕ) (o : Option (List ℕ)) (d : Data) (i : ℕ) → IsData mem o (Some d) → d.len ≤ i → None ≡ option_and_then (λ bytes. slice_get bytes i) o
+byte-past : (mem : List ℕ) (o : Option (List ℕ)) (d : Bytes) (i : ℕ) → IsData mem o (Some d) → d.len ≤ i → None ≡ option_and_then (λ bytes. slice_get bytes i) o
 byte-past mem None d i e far = absurd (none-some d (sym e))
 byte-past mem (Some bytes) d i (x, e, b, l) far =
-    let P : Data → Type 0 = λ z. z.len ≤ i → None ≡ slice_get bytes i in
+    let P : Bytes → Type 0 = λ z. z.len ≤ i → None ≡ slice_get bytes i in
     subst P (sym (some-is d x e)) (λ h. sym (get-none bytes i (omega arith))) far
 
 byte-none : (mem : List ℕ) (o : Option (List ℕ)) (i : ℕ) → IsData mem o None → None ≡ option_and_then (λ bytes. slice_get bytes i) o
 byte-none mem None i e = refl
 byte-none mem (Some bytes) i (x, e, b, l) = absurd (none-some x e)
 
-pub tells-byte : (mem : List ℕ) (w i : ℕ) (d : Data) → HasData mem w (Some d) → i < d.len → Tells (byte_in i) mem w (Some (byte_of (get_or mem (d.first + (d.start + i) / 8) 0) ((d.start + i) % 8)))
+pub tells-byte : (mem : List ℕ) (w i : ℕ) (d : Bytes) → HasData mem w (Some d) → i < d.len → Tells (byte_in i) mem w (Some (byte_of (get_or mem (d.first + (d.start + i) / 8) 0) ((d.start + i) % 8)))
 tells-byte mem w i d h below = record { each = λ c shared t s. byte-told mem (binary_of shared t) d i (h.each c shared t s) below }
 
-pub past-byte : (mem : List ℕ) (w i : ℕ) (d : Data) → HasData mem w (Some d) → d.len ≤ i → Tells (byte_in i) mem w None
+pub past-byte : (mem : List ℕ) (w i : ℕ) (d : Bytes) → HasData mem w (Some d) → d.len ≤ i → Tells (byte_in i) mem w None
 past-byte mem w i d h far = record { each = λ c shared t s. byte-past mem (binary_of shared t) d i (h.each c shared t s) far }
 
 pub no-byte : (mem : List ℕ) (w i : ℕ) → HasData mem w None → Tells (byte_in i) mem w None
 no-byte mem w i h = record { each = λ c shared t s. byte-none mem (binary_of shared t) i (h.each c shared t s) }
 
-byte-within : (mem : List ℕ) (o : Option (List ℕ)) (d : Data) (i : ℕ) → IsData mem o (Some d) → i < d.len → d.first + (d.start + i) / 8 < length mem
+byte-within : (mem : List ℕ) (o : Option (List ℕ)) (d : Bytes) (i : ℕ) → IsData mem o (Some d) → i < d.len → d.first + (d.start + i) / 8 < length mem
 byte-within mem None d i e below = absurd (none-some d (sym e))
 byte-within mem (Some bytes) d i (x, e, b, l) below =
-    let P : Data → Type 0 = λ z. i < z.len → z.first + (z.start + i) / 8 < length mem in
+    let P : Bytes → Type 0 = λ z. i < z.len → z.first + (z.start + i) / 8 < length mem in
     subst P (sym (some-is d x e)) (λ h. b.within i (omega arith)) below
 
-pub byte-inside : (mem : List ℕ) (w i : ℕ) (d : Data) → IsTerm mem w → HasData mem w (Some d) → i < d.len → d.first + (d.start + i) / 8 < length mem
+pub byte-inside : (mem : List ℕ) (w i : ℕ) (d : Bytes) → IsTerm mem w → HasData mem w (Some d) → i < d.len → d.first + (d.start + i) / 8 < length mem
 byte-inside mem w i d term h below = byte-within mem (binary_of term.shared term.tree) d i (h.each always term.shared term.tree term.standing) below

@@ -1,4 +1,5 @@
 pub mod Reading
 pub mod Pointers
 pub mod Binaries
+pub mod Seen
 pub mod Sample

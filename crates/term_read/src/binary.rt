@@ -9,7 +9,7 @@ use word_mem::WordMem;
 
 // `len` bytes from byte `start` of the words from place `first` on.
 #[derive(Clone, Copy)]
-pub struct Data {
+pub struct Bytes {
     pub first: u64,
     pub start: u64,
     pub len: u64,
@@ -41,21 +41,21 @@ pub fn byte_at(mem: &WordMem, w: u64, i: u64) -> Option<u8>
 }
 
 // Where the bytes of a binary lie.
-fn data_of(mem: &WordMem, w: u64) -> Option<Data>
+fn data_of(mem: &WordMem, w: u64) -> Option<Bytes>
     requires { IsTerm mem.now w }
     ensures { HasData mem.now w result }
 {
     let _len = mem.len();
     if let Some(place) = object_at(mem, w, SUB_BIN) {
         let first = first_word(mem, mem.get(place + 4))?;
-        return Some(Data {
+        return Some(Bytes {
             first,
             start: mem.get(place + 2),
             len: mem.get(place + 1),
         });
     }
     let first = first_word(mem, w)?;
-    Some(Data {
+    Some(Bytes {
         first,
         start: 0,
         len: mem.get(w / 4 + 1),
@@ -63,7 +63,7 @@ fn data_of(mem: &WordMem, w: u64) -> Option<Data>
 }
 
 // The place of the first word of bytes of a binary that is no part of another.
-fn first_word(mem: &WordMem, w: u64) -> Option<u64>
+pub fn first_word(mem: &WordMem, w: u64) -> Option<u64>
     requires { IsTerm mem.now w }
     ensures { HasFirst mem.now w result }
 {

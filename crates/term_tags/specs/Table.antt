@@ -1,7 +1,35 @@
 -- The table of layouts: every object is its header and as many words as its arity says.
 use Rattle.std.specs.Prelude.{◌≡◌, ℕ, ◌+◌, ◌-◌, ◌/◌, ◌%◌, ◌≤◌, ◌⊎◌, ◌==◌, ◌&&◌, nat_le, if◌then◌else◌, Option, Some, None}
 use Rattle.term_tags.specs.declared.layouts.Layout.{Layout}
+use Rattle.term_tags.specs.declared.layouts.Object.{Object}
+use Rattle.term_tags.specs.declared.layouts.Object.TheVariants as object
 use Rattle.term_tags.specs.declared.layouts.TheConstants.{TUPLE, POS_BIG, NEG_BIG, REF, FUN, HOLDER, HEAP_BIN, SUB_BIN, MAP, MOST_PARTS, MOST_ENV, MOST_HEAP_BYTES, MOST_KEYS}
+
+-- the subtag of each kind of object
+abbrev pub subtag_of : Object → ℕ
+subtag_of object.Tuple = TUPLE
+subtag_of object.PosBig = POS_BIG
+subtag_of object.NegBig = NEG_BIG
+subtag_of object.Ref = REF
+subtag_of object.Fun = FUN
+subtag_of object.Holder = HOLDER
+subtag_of object.HeapBin = HEAP_BIN
+subtag_of object.SubBin = SUB_BIN
+subtag_of object.Map = MAP
+
+-- the kind of object of a subtag
+abbrev pub object_for : ℕ → Option Object
+object_for subtag =
+    if subtag == TUPLE then Some object.Tuple
+    else if subtag == POS_BIG then Some object.PosBig
+    else if subtag == NEG_BIG then Some object.NegBig
+    else if subtag == REF then Some object.Ref
+    else if subtag == FUN then Some object.Fun
+    else if subtag == HOLDER then Some object.Holder
+    else if subtag == HEAP_BIN then Some object.HeapBin
+    else if subtag == SUB_BIN then Some object.SubBin
+    else if subtag == MAP then Some object.Map
+    else None
 
 -- an object of this arity, which lies between two bounds, with its words traced from one on to its end
 abbrev pub row_layout : (arity least most first : ℕ) → Option Layout

@@ -1,6 +1,6 @@
 // The layout of the object behind a header.
 ghost use Rattle.std.specs.Prelude.{◌≡◌, ◌+◌, ◌/◌, ◌%◌, ◌≤◌, IfSome};
-ghost use Rattle.term_tags.specs.Table.{layout_for, row_layout};
+ghost use Rattle.term_tags.specs.Table.{subtag_of, object_for, layout_for, row_layout};
 
 /// The subtag of a tuple of n parts: header, then the parts. Arity n (this project, as all numbers of subtags).
 pub const TUPLE: u8 = 0;
@@ -31,6 +31,40 @@ pub const MOST_ENV: u64 = 64;
 pub const MOST_HEAP_BYTES: u64 = 64;
 /// The most keys of a flat map.
 pub const MOST_KEYS: u64 = 32;
+
+/// The kinds of objects with a header, one for each subtag.
+#[derive(Clone, Copy)]
+pub enum Object {
+    Tuple,
+    PosBig,
+    NegBig,
+    Ref,
+    Fun,
+    Holder,
+    HeapBin,
+    SubBin,
+    Map,
+}
+
+/// The kind of object that the subtag of a header tells, or `None` for a subtag of no object.
+#[inline]
+pub fn object_of(header: u64) -> Option<Object>
+    ensures table { result ≡ object_for (header / 4 % 16) }
+    ensures subtag { IfSome result (λ o. header / 4 % 16 ≡ subtag_of o) }
+{
+    match (header / 4 % 16) as u8 {
+        TUPLE => Some(Object::Tuple),
+        POS_BIG => Some(Object::PosBig),
+        NEG_BIG => Some(Object::NegBig),
+        REF => Some(Object::Ref),
+        FUN => Some(Object::Fun),
+        HOLDER => Some(Object::Holder),
+        HEAP_BIN => Some(Object::HeapBin),
+        SUB_BIN => Some(Object::SubBin),
+        MAP => Some(Object::Map),
+        _ => None,
+    }
+}
 
 /// The shape of an object, in words: its size with the header, and its traced words, which are its last `count` words,
 /// from the word `first` on. Where no word is traced, `first` is the size.

@@ -13,7 +13,7 @@ pub use kinds::{ATOMS, Kind, PIDS, PLACES, kind_of};
 pub use laws::table_of_layouts;
 pub use layouts::{
     FUN, HEAP_BIN, HOLDER, Layout, MAP, MOST_ENV, MOST_HEAP_BYTES, MOST_KEYS, MOST_PARTS, NEG_BIG,
-    POS_BIG, REF, SUB_BIN, TUPLE, layout_of,
+    Object, POS_BIG, REF, SUB_BIN, TUPLE, layout_of, object_of,
 };
 pub use makers::{atom, boxed_at, head_of, list_at, nil, pid, small};
 pub use records::{BIN_RECORD, FUN_RECORD};
