@@ -1,15 +1,15 @@
 -- Where the bytes of a binary lie, from the numbers that the readers read.
-use Rattle.std.proofs.Common.{◌≡◌, ℕ, zero, suc, ◌+◌, ◌/◌, ◌%◌, ◌<◌, ◌≤◌, Bool, List, [], ◌∷◌, length, get_or, take, drop, refl, sym, ◌∙◌, ap, subst, arith, pos, negsuc, Option, Some, None, zero-add, slice_get, length-take, length-drop, get_or-take, get_or-drop, option_map, option_and_then}
+use Rattle.std.proofs.Common.{◌≡◌, ℕ, zero, suc, ◌+◌, ◌/◌, ◌%◌, ◌<◌, ◌≤◌, Bool, List, [], ◌∷◌, length, get_or, take, drop, refl, sym, ◌∙◌, ap, subst, arith, pos, negsuc, Option, Some, None, zero-add, slice_get, length-take, get_or-take, get_or-drop, option_map, option_and_then}
 use Rattle.plain_term.specs.Measures.{bin_words}
 use Rattle.plain_term.specs.Bytes.{bytes_of, shared_bytes}
 use Rattle.plain_term.specs.Tree.{Tree}
-use Rattle.plain_term.specs.Tree.Tree.{Int, Atom, Pid, Ref, Nil, Cons, Tuple, Map, Bin, Shared, Part, Fun}
+use Rattle.plain_term.specs.Tree.Tree.{Int, Bin, Shared, Part}
 use Rattle.term_words.specs.Role.{always}
 use Rattle.term_words.specs.Object.{byte_of, BytesLie}
 use Rattle.term_words.specs.Stands.{Stands, IsTerm, IsBase}
 use Rattle.term_read.specs.Parts.{binary_of, whole_of, Tells, byte_len_in, byte_in}
 use Rattle.term_read.specs.Data.{BytesFrom, IsData, HasData, IsFirst, HasFirst}
-use Rattle.term_read.specs.declared.binary.Bytes.{Bytes}
+use Rattle.term_read.specs.declared.looks.Bytes.{Bytes}
 use Rattle.term_words.proofs.Shapes.{told}
 
 some-is : {A : Type 0} (x y : A) → Some x ≡ Some y → x ≡ y
@@ -106,77 +106,6 @@ pub base-none : (mem : List ℕ) (shared : List (List ℕ)) (base : Tree) → Is
 base-none mem shared (Bin bytes) is (u, e, b) = none-some u e
 base-none mem shared (Shared id) is (u, e, b) = none-some u e
 base-none mem shared _ is b = absurd is
-
-part-data : (c : ℕ → ℕ → Bool) (shared : List (List ℕ)) (mem : List ℕ) (w : ℕ) (t : Tree) (first : ℕ) → Stands c shared mem w t → w % 4 ≡ 2 → get_or mem (w / 4) 0 / 4 % 16 ≡ 10
-    → HasFirst mem (get_or mem (w / 4 + 4) 0) (Some first) → IsData mem (binary_of shared t) (Some (record { first = first; start = get_or mem (w / 4 + 2) 0; len = get_or mem (w / 4 + 1) 0 }))
-unfolding Stands
-part-data c shared mem w (Part base offset len) first (o, is, sb) tag sub h =
-    let whole : BytesFrom mem first 0 (bytes_of shared base) = base-some mem shared base first is (h.each c shared base sb) in
-    let P : ℕ → Type 0 = λ x. BytesFrom mem first x (take len (drop offset (bytes_of shared base))) in (
-      record { first = first; start = get_or mem (w / 4 + 2) 0; len = get_or mem (w / 4 + 1) 0 },
-      refl,
-      subst P (sym o.start) (slice-from mem first offset len (bytes_of shared base) whole o.inside),
-      omega (arith, o.size, o.inside, length-take len (drop offset (bytes_of shared base)), length-drop offset (bytes_of shared base)),
-    )
-part-data c shared mem w (Int (pos n)) first s tag sub h = absurd (omega (arith, told c shared mem w (Int (pos n)) s))
-part-data c shared mem w (Int (negsuc n)) first s tag sub h = absurd (omega (arith, told c shared mem w (Int (negsuc n)) s))
-part-data c shared mem w t first s tag sub h = absurd (omega (arith, told c shared mem w t s))
-
-pub has-part_data : (mem : List ℕ) (w p first : ℕ) → w % 4 ≡ 2 → p ≡ w / 4 → get_or mem p 0 / 4 % 16 ≡ 10 → HasFirst mem (get_or mem (p + 4) 0) (Some first)
-    → HasData mem w (Some (record { first = first; start = get_or mem (p + 2) 0; len = get_or mem (p + 1) 0 }))
-has-part_data mem w p first tag same =
-    let P : ℕ → Type 0 = λ x. get_or mem x 0 / 4 % 16 ≡ 10 → HasFirst mem (get_or mem (x + 4) 0) (Some first) → HasData mem w (Some (record { first = first; start = get_or mem (x + 2) 0; len = get_or mem (x + 1) 0 })) in
-    subst P (sym same) (λ sub h. record { each = λ c shared t s. part-data c shared mem w t first s tag sub h })
-
-part-none : (c : ℕ → ℕ → Bool) (shared : List (List ℕ)) (mem : List ℕ) (w : ℕ) (t : Tree) → Stands c shared mem w t → w % 4 ≡ 2 → get_or mem (w / 4) 0 / 4 % 16 ≡ 10
-    → HasFirst mem (get_or mem (w / 4 + 4) 0) None → IsData mem (binary_of shared t) None
-unfolding Stands
-part-none c shared mem w (Part base offset len) (o, is, sb) tag sub h = absurd (base-none mem shared base is (h.each c shared base sb))
-part-none c shared mem w (Int (pos n)) s tag sub h = absurd (omega (arith, told c shared mem w (Int (pos n)) s))
-part-none c shared mem w (Int (negsuc n)) s tag sub h = absurd (omega (arith, told c shared mem w (Int (negsuc n)) s))
-part-none c shared mem w t s tag sub h = absurd (omega (arith, told c shared mem w t s))
-
-pub has-no_part : (mem : List ℕ) (w p : ℕ) → w % 4 ≡ 2 → p ≡ w / 4 → get_or mem p 0 / 4 % 16 ≡ 10 → HasFirst mem (get_or mem (p + 4) 0) None → HasData mem w None
-has-no_part mem w p tag same =
-    let P : ℕ → Type 0 = λ x. get_or mem x 0 / 4 % 16 ≡ 10 → HasFirst mem (get_or mem (x + 4) 0) None → HasData mem w None in
-    subst P (sym same) (λ sub h. record { each = λ c shared t s. part-none c shared mem w t s tag sub h })
-
--- A whole binary, where the word is no part.
-
-whole-data : (c : ℕ → ℕ → Bool) (shared : List (List ℕ)) (mem : List ℕ) (w : ℕ) (t : Tree) (first : ℕ) → Stands c shared mem w t → (w % 4 ≡ 2 → get_or mem (w / 4) 0 / 4 % 16 ≡ 10 → ⊥)
-    → HasFirst mem w (Some first) → IsData mem (binary_of shared t) (Some (record { first = first; start = 0; len = get_or mem (w / 4 + 1) 0 })) × (w / 4 + 1 < length mem)
-unfolding Stands
-whole-data c shared mem w (Bin bytes) first o other h =
-    ((record { first = first; start = 0; len = get_or mem (w / 4 + 1) 0 }, refl, base-some mem shared (Bin bytes) first tt (h.each c shared (Bin bytes) o), o.size), omega (arith, o.boxed.object.within))
-whole-data c shared mem w (Shared id) first o other h =
-    ((record { first = first; start = 0; len = get_or mem (w / 4 + 1) 0 }, refl, base-some mem shared (Shared id) first tt (h.each c shared (Shared id) o), o.holder.size), omega (arith, o.holder.within))
-whole-data c shared mem w (Part base offset len) first (o, is, sb) other h = absurd (other o.boxed.tag (omega (arith, o.boxed.header)))
-whole-data c shared mem w (Int i) first s other h = absurd (none-some first (sym (h.each c shared (Int i) s)))
-whole-data c shared mem w (Atom k) first s other h = absurd (none-some first (sym (h.each c shared (Atom k) s)))
-whole-data c shared mem w (Pid n) first s other h = absurd (none-some first (sym (h.each c shared (Pid n) s)))
-whole-data c shared mem w (Ref n k) first s other h = absurd (none-some first (sym (h.each c shared (Ref n k) s)))
-whole-data c shared mem w Nil first s other h = absurd (none-some first (sym (h.each c shared Nil s)))
-whole-data c shared mem w (Cons x y) first s other h = absurd (none-some first (sym (h.each c shared (Cons x y) s)))
-whole-data c shared mem w (Tuple ts) first s other h = absurd (none-some first (sym (h.each c shared (Tuple ts) s)))
-whole-data c shared mem w (Map ps) first s other h = absurd (none-some first (sym (h.each c shared (Map ps) s)))
-whole-data c shared mem w (Fun name arity creator env) first s other h = absurd (none-some first (sym (h.each c shared (Fun name arity creator env) s)))
-
-pub has-whole_data : (mem : List ℕ) (w first : ℕ) → (w % 4 ≡ 2 → get_or mem (w / 4) 0 / 4 % 16 ≡ 10 → ⊥) → HasFirst mem w (Some first) → HasData mem w (Some (record { first = first; start = 0; len = get_or mem (w / 4 + 1) 0 }))
-has-whole_data mem w first other h = record { each = λ c shared t s. (whole-data c shared mem w t first s other h).0 }
-
-pub size-inside : (mem : List ℕ) (w first : ℕ) → IsTerm mem w → (w % 4 ≡ 2 → get_or mem (w / 4) 0 / 4 % 16 ≡ 10 → ⊥) → HasFirst mem w (Some first) → w / 4 + 1 < length mem
-size-inside mem w first i other h = (whole-data always i.shared mem w i.tree first i.standing other h).1
-
-whole-none : (c : ℕ → ℕ → Bool) (shared : List (List ℕ)) (mem : List ℕ) (w : ℕ) (t : Tree) → Stands c shared mem w t → (w % 4 ≡ 2 → get_or mem (w / 4) 0 / 4 % 16 ≡ 10 → ⊥)
-    → HasFirst mem w None → IsData mem (binary_of shared t) None
-unfolding Stands
-whole-none c shared mem w (Bin bytes) o other h = absurd (base-none mem shared (Bin bytes) tt (h.each c shared (Bin bytes) o))
-whole-none c shared mem w (Shared id) o other h = absurd (base-none mem shared (Shared id) tt (h.each c shared (Shared id) o))
-whole-none c shared mem w (Part base offset len) (o, is, sb) other h = absurd (other o.boxed.tag (omega (arith, o.boxed.header)))
-whole-none c shared mem w t s other h = refl
-
-pub has-no_data : (mem : List ℕ) (w : ℕ) → (w % 4 ≡ 2 → get_or mem (w / 4) 0 / 4 % 16 ≡ 10 → ⊥) → HasFirst mem w None → HasData mem w None
-has-no_data mem w other h = record { each = λ c shared t s. whole-none c shared mem w t s other h }
 
 -- What the readers make of it.
 

@@ -1,5 +1,5 @@
 -- What a look tells, from the numbers that it reads.
-use Rattle.std.proofs.Common.{◌≡◌, ℕ, ◌+◌, ◌*◌, ◌/◌, ◌%◌, ◌^◌, ◌<◌, ◌≤◌, ◌⊎◌, if◌then◌else◌, Bool, true, false, List, [], length, get_or, drop, refl, sym, ◌∙◌, ap, subst, arith, inl, inr, ℤ, pos, negsuc, to_z, of_z, Some, None, length-take, length-drop}
+use Rattle.std.proofs.Common.{◌≡◌, ℕ, ◌+◌, ◌*◌, ◌/◌, ◌%◌, ◌^◌, ◌<◌, ◌≤◌, ◌⊎◌, if◌then◌else◌, Bool, true, false, List, [], length, get_or, drop, refl, sym, ◌∙◌, ap, subst, arith, inl, inr, ℤ, pos, negsuc, to_z, of_z, Option, Some, None, length-take, length-drop}
 use Rattle.std.proofs.lemmas.Bool.Decides.{nat_tests}
 use Rattle.std.proofs.lemmas.Int.{ints, to_z-of_z}
 use Rattle.std.specs.Int.{w64}
@@ -24,9 +24,12 @@ use Rattle.term_words.proofs.Pairs.{keys-row, values-row, keys-len, values-len}
 use Rattle.term_words.proofs.Rooms.{is-term}
 use Rattle.term_words.proofs.Shapes.{Told, told, row-at}
 use Rattle.term_words.proofs.Single.{single}
-use Rattle.term_read.specs.Data.{BytesFrom, HasFirst}
-use Rattle.term_read.specs.Look.{is_negative, HasDigits, IsSeen, Sees, AreTerms, LiesIn}
+use Rattle.term_read.specs.Data.{BytesFrom, IsData, HasData, HasFirst}
+use Rattle.term_read.specs.Parts.{binary_of}
+use Rattle.term_read.specs.Look.{is_negative, HasDigits, IsSeen, Sees, data_in, AreTerms, LiesIn}
 use Rattle.term_read.specs.declared.looks.Digits.{Digits}
+use Rattle.term_read.specs.declared.looks.Bytes.{Bytes}
+use Rattle.term_read.specs.declared.looks.PartBytes.{PartBytes}
 use Rattle.term_read.specs.declared.looks.Look.{Look}
 use Rattle.term_read.specs.declared.looks.Look.TheVariants as look
 use Rattle.term_read.proofs.Pointers.{list-near, boxed-near}
@@ -441,3 +444,35 @@ has-object mem w p h i tag same e none =
       | inr (inr (inr (inr (inr (inr (inr (inl a))))))) ↦ at 10 object.SubBin refl a
       | inr (inr (inr (inr (inr (inr (inr (inr a))))))) ↦ at 15 object.Map refl a
     ]
+
+-- Where the bytes of a binary lie.
+
+data-seen : (c : ℕ → ℕ → Bool) (shared : List (List ℕ)) (mem : List ℕ) (w : ℕ) (t : Tree) (l : Look) → IsSeen c shared mem w t l → IsData mem (binary_of shared t) (data_in l)
+data-seen c shared mem w (Bin bytes) l (e, from) =
+    let P : Look → Type 0 = λ x. IsData mem (Some bytes) (data_in x) in
+    subst P (sym e) (record { first = w / 4 + 2; start = 0; len = length bytes }, refl, from, refl)
+data-seen c shared mem w (Shared id) l (e, from) =
+    let P : Look → Type 0 = λ x. IsData mem (Some (shared_bytes shared id)) (data_in x) in
+    subst P (sym e) (record { first = get_or mem (w / 4 + 3) 0 + 4; start = 0; len = length (shared_bytes shared id) }, refl, from, refl)
+data-seen c shared mem w (Part base offset len) l (v, e, sb, size, from) =
+    let P : Look → Type 0 = λ x. IsData mem (Some (bytes_of shared (Part base offset len))) (data_in x) in
+    subst P (sym e) (record { first = v; start = offset; len = len }, refl, from, sym size)
+data-seen c shared mem w (Int i) l (inl (small, e)) = ap data_in e
+data-seen c shared mem w (Int i) l (inr (d, has, e)) = ap data_in e
+data-seen c shared mem w (Atom k) l e = ap data_in e
+data-seen c shared mem w (Pid n) l e = ap data_in e
+data-seen c shared mem w (Ref n k) l e = ap data_in e
+data-seen c shared mem w Nil l e = ap data_in e
+data-seen c shared mem w (Cons h t) l (e, inside, sh, st) = ap data_in e
+data-seen c shared mem w (Tuple ts) l (e, inside, row) = ap data_in e
+data-seen c shared mem w (Map ps) l (e, keys, values, ks, vs) = ap data_in e
+data-seen c shared mem w (Fun name arity creator env) l (e, inside, row) = ap data_in e
+
+pub has-data : (mem : List ℕ) (w : ℕ) (l : Look) (o : Option Bytes) → Sees mem w l → data_in l ≡ o → HasData mem w o
+has-data mem w l o s e = let P : Option Bytes → Type 0 = λ x. HasData mem w x in subst P e (record { each = λ c shared t r. data-seen c shared mem w t l (s.each c shared t r) })
+
+pub no-data : (l : Look) → ((b : Bytes) → l ≡ look.Heap b → ⊥) → ((b : Bytes) → l ≡ look.Holder b → ⊥) → ((p : PartBytes) → l ≡ look.Part p → ⊥) → data_in l ≡ None
+no-data (look.Heap b) n m k = absurd (n b refl)
+no-data (look.Holder b) n m k = absurd (m b refl)
+no-data (look.Part p) n m k = absurd (k p refl)
+no-data _ n m k = refl

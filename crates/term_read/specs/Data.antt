@@ -4,7 +4,7 @@ use Rattle.term_words.specs.Object.{byte_of}
 use Rattle.plain_term.specs.Tree.{Tree}
 use Rattle.term_words.specs.Stands.{Stands}
 use Rattle.term_read.specs.Parts.{binary_of, whole_of}
-use Rattle.term_read.specs.declared.binary.Bytes.{Bytes}
+use Rattle.term_read.specs.declared.looks.Bytes.{Bytes}
 
 -- The bytes lie in the words from place `first` on, from byte `start` of these.
 pub record BytesFrom (mem : List ℕ) (first start : ℕ) (bytes : List ℕ) : Type 0 where

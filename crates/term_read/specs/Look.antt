@@ -1,12 +1,12 @@
 -- What a look at a word tells of each tree that it stands for.
-use Rattle.std.specs.Prelude.{◌≡◌, ℕ, ◌+◌, ◌*◌, ◌/◌, ◌^◌, ◌<◌, ◌≤◌, ◌⊎◌, Bool, true, false, List, length, slice_index, ℤ, pos, negsuc}
+use Rattle.std.specs.Prelude.{◌≡◌, ℕ, ◌+◌, ◌*◌, ◌/◌, ◌^◌, ◌<◌, ◌≤◌, ◌⊎◌, Bool, true, false, List, length, slice_index, ℤ, pos, negsuc, Option, Some, None}
 use Rattle.plain_term.specs.Measures.{is_small, magnitude}
 use Rattle.plain_term.specs.Bytes.{bytes_of, shared_bytes}
 use Rattle.plain_term.specs.Tree.{Tree, trees_len, pairs_len}
 use Rattle.plain_term.specs.Tree.Tree.{Int, Atom, Pid, Ref, Nil, Cons, Tuple, Map, Bin, Shared, Part, Fun}
 use Rattle.term_words.specs.Stands.{Stands, RowStands, KeysStand, ValuesStand, IsTerm}
 use Rattle.term_read.specs.Data.{BytesFrom}
-use Rattle.term_read.specs.declared.binary.Bytes.{Bytes}
+use Rattle.term_read.specs.declared.looks.Bytes.{Bytes}
 use Rattle.term_read.specs.declared.looks.Digits.{Digits}
 use Rattle.term_read.specs.declared.looks.Look.{Look}
 use Rattle.term_read.specs.declared.looks.Look.TheVariants as look
@@ -50,6 +50,13 @@ IsSeen c shared mem w (Part base offset len) l =
 -- So it is of each tree that the word stands for.
 pub record Sees (mem : List ℕ) (w : ℕ) (l : Look) : Type 0 where
   pub each : (c : ℕ → ℕ → Bool) (shared : List (List ℕ)) (t : Tree) → Stands c shared mem w t → IsSeen c shared mem w t l
+
+-- Where the bytes of a binary lie.
+abbrev pub data_in : Look → Option Bytes
+data_in (look.Heap bytes) = Some bytes
+data_in (look.Holder bytes) = Some bytes
+data_in (look.Part part) = Some part.bytes
+data_in _ = None
 
 -- The n words from a place on are words of the memory, and each stands for a tree.
 pub record AreTerms (mem : List ℕ) (first n : ℕ) : Type 0 where

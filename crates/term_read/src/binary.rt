@@ -1,19 +1,10 @@
 // The bytes of binaries: on the heap, in a record that a holder names, or a part of either.
 ghost use Rattle.term_words.specs.Stands.{IsTerm};
 ghost use Rattle.term_read.specs.Parts.{Tells, byte_len_in, byte_in};
-ghost use Rattle.term_read.specs.Data.{HasData, HasFirst};
+ghost use Rattle.term_read.specs.Data.{HasData};
 
-use crate::object::object_at;
-use term_tags::{HEAP_BIN, HOLDER, SUB_BIN};
+use crate::looks::{Bytes, Look, look_at};
 use word_mem::WordMem;
-
-// `len` bytes from byte `start` of the words from place `first` on.
-#[derive(Clone, Copy)]
-pub struct Bytes {
-    pub first: u64,
-    pub start: u64,
-    pub len: u64,
-}
 
 /// The number of bytes, or `None` where the tree is no binary.
 pub fn byte_len(mem: &WordMem, w: u64) -> Option<u64>
@@ -45,32 +36,10 @@ fn data_of(mem: &WordMem, w: u64) -> Option<Bytes>
     requires { IsTerm mem.now w }
     ensures { HasData mem.now w result }
 {
-    let _len = mem.len();
-    if let Some(place) = object_at(mem, w, SUB_BIN) {
-        let first = first_word(mem, mem.get(place + 4))?;
-        return Some(Bytes {
-            first,
-            start: mem.get(place + 2),
-            len: mem.get(place + 1),
-        });
+    match look_at(mem, w) {
+        Look::Heap(bytes) => Some(bytes),
+        Look::Holder(bytes) => Some(bytes),
+        Look::Part(part) => Some(part.bytes),
+        _ => None,
     }
-    let first = first_word(mem, w)?;
-    Some(Bytes {
-        first,
-        start: 0,
-        len: mem.get(w / 4 + 1),
-    })
-}
-
-// The place of the first word of bytes of a binary that is no part of another.
-pub fn first_word(mem: &WordMem, w: u64) -> Option<u64>
-    requires { IsTerm mem.now w }
-    ensures { HasFirst mem.now w result }
-{
-    let _len = mem.len();
-    if let Some(place) = object_at(mem, w, HEAP_BIN) {
-        return Some(place + 2);
-    }
-    let place = object_at(mem, w, HOLDER)?;
-    Some(mem.get(place + 3) + 4)
 }

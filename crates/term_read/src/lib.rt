@@ -11,9 +11,9 @@ mod object;
 mod tests;
 mod tuple;
 
-pub use binary::{Bytes, byte_at, byte_len};
+pub use binary::{byte_at, byte_len};
 pub use cons::{hd, tl};
 pub use fun_thing::fun_env;
-pub use looks::{Digits, FunParts, Look, PairRows, PartBytes, Row, look_at};
+pub use looks::{Bytes, Digits, FunParts, Look, PairRows, PartBytes, Row, look_at};
 pub use map::{map_key, map_len, map_value};
 pub use tuple::element;

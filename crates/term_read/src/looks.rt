@@ -2,10 +2,11 @@
 ghost use Rattle.std.specs.Prelude.{◌≡◌, ◌/◌, ◌%◌, slice_index, if◌then◌else◌};
 ghost use Rattle.term_words.specs.Stands.{IsTerm};
 ghost use Rattle.term_tags.specs.declared.layouts.TheConstants.{POS_BIG, NEG_BIG, FUN, SUB_BIN};
+ghost use Rattle.term_read.specs.Data.{HasFirst};
 ghost use Rattle.term_read.specs.Look.{Sees, LiesIn};
 
-use crate::binary::{Bytes, first_word};
-use term_tags::{Kind, Object, kind_of, object_of};
+use crate::object::object_at;
+use term_tags::{HEAP_BIN, HOLDER, Kind, Object, kind_of, object_of};
 use word_mem::WordMem;
 
 /// `len` words side by side from place `first` on, each of a part.
@@ -38,6 +39,14 @@ pub struct Digits {
     pub negative: bool,
     pub low: u64,
     pub high: u64,
+}
+
+/// `len` bytes from byte `start` of the words from place `first` on.
+#[derive(Clone, Copy)]
+pub struct Bytes {
+    pub first: u64,
+    pub start: u64,
+    pub len: u64,
 }
 
 /// A part of a binary: the word of its original, and its own bytes.
@@ -190,4 +199,17 @@ fn part_look(mem: &WordMem, w: u64, place: u64) -> Look
             len: mem.get(place + 1),
         },
     })
+}
+
+// The place of the first word of bytes of a binary that is no part of another.
+fn first_word(mem: &WordMem, w: u64) -> Option<u64>
+    requires { IsTerm mem.now w }
+    ensures { HasFirst mem.now w result }
+{
+    let _len = mem.len();
+    if let Some(place) = object_at(mem, w, HEAP_BIN) {
+        return Some(place + 2);
+    }
+    let place = object_at(mem, w, HOLDER)?;
+    Some(mem.get(place + 3) + 4)
 }
