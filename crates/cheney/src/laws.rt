@@ -44,7 +44,7 @@ pub fn images_last()
 
 /// What no call changes but at places that it writes as roots: a word in no room that has no role, such as a stack place; a
 /// word with a role that is neither 3 nor 4, such as a record's or a `next`; and each word in no room that stays, reached or
-/// not, where no list place that moves reaches into it.
+/// not, where no cons that moves reaches into it.
 pub fn calls_change_no_other_words()
     ensures free { (p : Plan) (s : ℕ → Bool) (a b : List ℕ) (q : ℕ) → Ready p → Later p s a b → s q ≡ false → IsOutside p q → ((k : ℕ) → p.test q k ≡ true → ⊥) → slice_index b q ≡ slice_index a q }
     ensures other { (p : Plan) (s : ℕ → Bool) (a b : List ℕ) (q k : ℕ) → Ready p → Later p s a b → s q ≡ false → p.test q k ≡ true → (k ≡ 3 → ⊥) → (k ≡ 4 → ⊥) → slice_index b q ≡ slice_index a q }
@@ -104,8 +104,9 @@ pub fn rooms_are_tiled()
     ensures { (p : Plan) (m : List ℕ) (mv : Moving) (b : Bool) → Runs p m mv (at_objects mv.aged.top mv.young.top) → RootsMoved p m → IsTiled p m b (top_of mv b) }
 {}
 
-/// A collection can follow another, as between two halves: what it moves lies in the rooms that the first one filled, so a
-/// room holds all of it where it has as many words as these have in use.
+/// A collection can follow another whose rooms hold no record and nothing else that keeps a role, as between two halves of
+/// objects alone: what it moves lies in the rooms that the first one filled, so a room holds all of it where it has as many
+/// words as these have in use.
 pub fn collections_can_follow()
     ensures lies { (p q : Plan) (m : List ℕ) (mv : Moving) → Runs p m mv (at_objects mv.aged.top mv.young.top) → RootsMoved p m → Succeeds p q m
         → (v : ℕ) → Reached q v → Leaves q v → (b : Bool) × ((p.low b ≤ v / 4) × (v / 4 + size q v ≤ top_of mv b)) }

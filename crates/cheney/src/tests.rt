@@ -54,7 +54,7 @@ fn empty(start: u64, end: u64) -> Room
 // 2^63, a big integer's digit.
 const BIG: u64 = 1 << 63;
 
-// An object of each kind; the word of place p is p * 4 + 1 for a list place, else p * 4 + 2. At 1 the list place [1]; at 3 a
+// An object of each kind; the word of place p is p * 4 + 1 for a cons, else p * 4 + 2. At 1 the cons [1]; at 3 a
 // tuple of an atom and that list; at 6 the bytes 7, 8, 9; at 9 the record of the shared bytes 1, 2, at 14 its holder, at 20
 // byte 1 of these; at 25 the record of a fun, at 29 the fun, with one place; at 36 the keys of a map, at 38 the map of an
 // atom to 9; at 42 a reference, which stays; at 45 2^63; at 47 the empty tuple; at 48 2^64. From 51 on all is free, but for
@@ -68,7 +68,7 @@ const BEFORE: [u64; 144] = [
     0, 0, 0, 0, 0,
 ];
 
-// A moved object has its new word in its first place, a moved list place in its second. From 51 on: the list place, the
+// A moved object has its new word in its first place, a moved cons in its second. From 51 on: the cons, the
 // tuple, the bytes. From 60 on: the holder, the part of it, the fun, the map, 2^63, the empty tuple, 2^64, the keys.
 const AFTER: [u64; 91] = [
     0, 0, 205, 214, 331, 5, 226, 3, 591879, 86, 1, 1, 2, 513, 242, 2, 0, 9, 0, 0, 266, 1, 1, 0, 58,
@@ -83,7 +83,7 @@ const AGAIN: [u64; 40] = [
     19, 79, 252, 1, 562, 159, 72, BIG, 0, 136, 0, 1, 64, 75, 0, 0,
 ];
 
-// The roots, the word of the list place twice and an integer at the end; and what they become.
+// The roots, the word of the cons twice and an integer at the end; and what they become.
 const ROOTS: [u64; 13] = [5, 14, 26, 58, 82, 118, 154, 170, 182, 190, 194, 5, 79];
 
 const MOVED: [u64; 13] = [
