@@ -1,5 +1,5 @@
 -- A collection has ended: what stood in the one half stands in the other.
-use Rattle.std.proofs.Common.{◌≡◌, ℕ, suc, ◌+◌, ◌-◌, ◌*◌, ◌/◌, ◌%◌, ◌<◌, ◌≤◌, ◌⊎◌, if◌then◌else◌, Bool, true, false, List, [], ◌∷◌, ◌++◌, length, sum_by, get_or, refl, sym, ◌∙◌, ap, subst, arith, inl, inr}
+use Rattle.std.proofs.Common.{◌≡◌, ℕ, suc, ◌+◌, ◌-◌, ◌*◌, ◌/◌, ◌%◌, ◌<◌, ◌≤◌, ◌⊎◌, if◌then◌else◌, Bool, true, false, List, [], ◌∷◌, ◌++◌, length, refl, sym, ◌∙◌, ap, subst, arith, inl, inr}
 use Rattle.std.specs.Vec.{with_items}
 use Rattle.std.proofs.lemmas.List.{with_items_is}
 use Rattle.std.proofs.lemmas.List.Sums.{sum_by-cons}
@@ -37,15 +37,16 @@ use Rattle.one_space.proofs.Stacks.{others-in, registers-in, values-in}
 
 -- Rows that moved stay moved while the collection goes on elsewhere.
 rows-on : (p : Plan) (start mem mem2 : List ℕ) (mv2 : Moving) (k : Marks) (low limit f t : ℕ) (olds news : List Proc) → AreMovedRows p start mem low limit olds news
-    → Goes p mem mem2 mv2 k f t → ((q : ℕ) → low ≤ q → q < limit → IsAside p q) → (limit ≤ f) ⊎ (t ≤ low) → ((w : ℕ) → In w (roots_in start olds) → Reached p w) → AreMovedRows p start mem2 low limit olds news
+    → Goes p mem mem2 mv2 k f t → ((q : ℕ) → low ≤ q → q < limit → IsAside p q) → (limit ≤ f) ⊎ (t ≤ low)
+    → ((w : ℕ) → In w (roots_in start olds) → Reached p w) → AreMovedRows p start mem2 low limit olds news
 rows-on p start mem mem2 mv2 k low limit f t [] [] a g free apart r = tt
 rows-on p start mem mem2 mv2 k low limit f t [] (n ∷ ns) a g free apart r = absurd a
 rows-on p start mem mem2 mv2 k low limit f t (o ∷ os) [] a g free apart r = absurd a
 rows-on p start mem mem2 mv2 k low limit f t (o ∷ os) (n ∷ ns) (first, rest) g free apart r = (
   row-on p start mem mem2 mv2 k low limit f t o n first g free apart (λ w i. r w (registers-in start o os w i))
-  (λ w i. r w (values-in start o os w i)),
+      (λ w i. r w (values-in start o os w i)),
   rows-on p start mem mem2 mv2 k low limit f t os ns rest g free apart
-  (λ w i. r w (others-in start o os w i)),
+      (λ w i. r w (others-in start o os w i)),
 )
 
 -- The new roots are what the old ones have become.
@@ -161,7 +162,7 @@ module _ (h : Halves) (laid : IsLaid h) (t : Target) (is : IsTarget h t) (x : St
       | inl c ↦ (
           let copy : IsMoved (plan_of h x t) mem3 (top_of mv3) c.v (forward mem3 c.v) = whole.copies c.v c.reached c.leaves in
           (omega (arith, c.place, copy.from, is.first), (omega (arith, c.place, copy.below, c.below), (x.stands.objects (c.v / 4 + c.j) k c.role).1.1))
-        )
+          )
       | inr kept ↦ absurd (not-both false kept.1 refl)
     ]
 
@@ -196,8 +197,8 @@ module _ (h : Halves) (laid : IsLaid h) (t : Target) (is : IsTarget h t) (x : St
         let Q : List Proc → Type 0 = λ z. ProcsStand roles.test x.shared mem3 t.to (t.base + length mem3 / 2) x.named z x.processes in
         subst Q (sym rows-there)
         (subst P limit
-        (procs-stand (plan_of h x t) x.stands.test roles.test x.shared h.mem mem3 x.named (λ w y u. whole.trees roles.test roles.follows w y u) h.low (end_of h) t.to t.end h.procs.items news x.processes
-        (root-in (plan_of h x t)) rows x.stands.processes))
+        (procs-stand (plan_of h x t) x.stands.test roles.test x.shared h.mem mem3 x.named (λ w y u. whole.trees roles.test roles.follows w y u) h.low (end_of h) t.to t.end h.procs.items news
+        x.processes (root-in (plan_of h x t)) rows x.stands.processes))
 
     stand-there : HalvesStand x.named (moved_to h t mem3 mv3.young.top news) x.shared x.processes
     stand-there = record { test = roles.test; single = roles.single; objects = objects; processes = procs-there }
@@ -212,10 +213,10 @@ module _ (h : Halves) (laid : IsLaid h) (t : Target) (is : IsTarget h t) (x : St
           tiles = tiled.tiles;
           row = subst P is.first tiled.row;
           all = λ y i.
-            let Q : List Proc → Type 0 = λ z. Reach mem3 (roots_in mem3 z) y in
-            let (v, (r, (l, (goes, e)))) = tiled.only y i in
-            subst Q (sym rows-there)
-            (composes.reached (roots_in mem3 news) ended.1 v y r (record { kept = λ stays. absurd (stays l); gone = λ z. (whole.complete v r l, e) }));
+              let Q : List Proc → Type 0 = λ z. Reach mem3 (roots_in mem3 z) y in
+              let (v, (r, (l, (goes, e)))) = tiled.only y i in
+              subst Q (sym rows-there)
+              (composes.reached (roots_in mem3 news) ended.1 v y r (record { kept = λ stays. absurd (stays l); gone = λ z. (whole.complete v r l, e) }));
         }
 
     used-there : used_in (moved_to h t mem3 mv3.young.top news) ≤ 2 + held_words x.processes
@@ -274,10 +275,10 @@ module _ (h : Halves) (r : CanCollect h) (t : Target) (is : IsTarget h t) (mv : 
             capacity = refl;
             counted = refl;
             stands = λ named shared qs s.
-              let x : Standing h = record { named = named; shared = shared; processes = qs; stands = s } in
-              stand-there h r.laid t is x mem2 mv2 news (moved x) mem3 mv3 (on x);
+                let x : Standing h = record { named = named; shared = shared; processes = qs; stands = s } in
+                stand-there h r.laid t is x mem2 mv2 news (moved x) mem3 mv3 (on x);
             reached = reached-there h r.laid t is r.standing mem2 mv2 news (moved r.standing) mem3 mv3 (on r.standing);
             bound = λ named shared qs s.
-              let x : Standing h = record { named = named; shared = shared; processes = qs; stands = s } in
-              used-there h r.laid t is x mem2 mv2 news (moved x) mem3 mv3 (on x);
+                let x : Standing h = record { named = named; shared = shared; processes = qs; stands = s } in
+                used-there h r.laid t is x mem2 mv2 news (moved x) mem3 mv3 (on x);
           }

@@ -31,7 +31,8 @@ goes-write p m mv k a w from to run free above below =
       aside = λ q s o. get_or-set_other m a q w 0 (λ e. elim o [ inl l ↦ omega (arith, l, e, above) | inr h ↦ omega (arith, h, e, below) ]);
     }
 
-pub goes-then : (p : Plan) (a b c : List ℕ) (mv mv2 : Moving) (k k2 : Marks) (f t g u from to : ℕ) → Goes p a b mv k f t → Goes p b c mv2 k2 g u → from ≤ f → t ≤ to → from ≤ g → u ≤ to → Goes p a c mv2 k2 from to
+pub goes-then : (p : Plan) (a b c : List ℕ) (mv mv2 : Moving) (k k2 : Marks) (f t g u from to : ℕ) → Goes p a b mv k f t → Goes p b c mv2 k2 g u
+    → from ≤ f → t ≤ to → from ≤ g → u ≤ to → Goes p a c mv2 k2 from to
 goes-then p a b c mv mv2 k k2 f t g u from to one two lf lt lg lu = record {
   runs = two.runs;
   images = λ w x r i. two.images w x r (one.images w x r i);

@@ -49,23 +49,19 @@ lined-stack : (mem : List ℕ) (low limit to n : ℕ) → AreLined mem to n → 
 lined-stack mem low limit to zero links above below = tt
 lined-stack mem low limit to (suc n) links above below =
     let P : ℕ → Type 0 = λ z. IsStack mem low limit z n in
-    (
-      above,
-      omega (arith, below),
-      subst P (sym (links 0 to (omega arith) (omega arith))) (lined-stack mem low limit (to + 2) n (λ j q less e. links (suc j) q (omega arith) (omega (arith, e))) (omega (arith, above)) (omega (arith, below))),
-    )
+    let rest = lined-stack mem low limit (to + 2) n (λ j q less e. links (suc j) q (omega arith) (omega (arith, e))) (omega (arith, above)) (omega (arith, below)) in
+    (above, omega (arith, below), subst P (sym (links 0 to (omega arith) (omega arith))) rest)
 
 lined-images : (p : Plan) (old mem : List ℕ) (from to n : ℕ) → HoldImages p old mem from to n → AreLined mem to n → AllImages p mem (values old from n) (values mem to n)
 unfolding AllImages
 lined-images p old mem from to zero images links = tt
 lined-images p old mem from to (suc n) images links =
-    let P : ℕ → Type 0 = λ z. AllImages p mem (values old (get_or old (from + 1) 0) n) (values mem z n) in
-    (
+    let P : ℕ → Type 0 = λ z. AllImages p mem (values old (get_or old (from + 1) 0) n) (values mem z n) in (
       images 0 to (omega arith) (omega arith),
       subst P (sym (links 0 to (omega arith) (omega arith)))
-      (lined-images p old mem (get_or old (from + 1) 0) (to + 2) n
-      (λ j q less e. let Q : ℕ → Type 0 = λ z. IsImage p mem (get_or old z 0) (get_or mem q 0) in subst Q (place-under old from j) (images (suc j) q (omega arith) (omega (arith, e))))
-      (λ j q less e. links (suc j) q (omega arith) (omega (arith, e)))),
+          (lined-images p old mem (get_or old (from + 1) 0) (to + 2) n
+          (λ j q less e. let Q : ℕ → Type 0 = λ z. IsImage p mem (get_or old z 0) (get_or mem q 0) in subst Q (place-under old from j) (images (suc j) q (omega arith) (omega (arith, e))))
+          (λ j q less e. links (suc j) q (omega arith) (omega (arith, e)))),
     )
 
 -- The first places are moved.
@@ -154,13 +150,13 @@ module _ (p : Plan) (old : List ℕ) (mv0 : Moving) (k : Marks) (low limit from 
           let R : ℕ → Type 0 = λ z. IsImage p mem2 z (get_or mem2 next 0) in
           let here : next ≡ q = omega (arith, last, is, e) in
           subst P (sym last) (subst Q here (subst R value m.image))
-        )
+          )
       | inr other ↦ (
           let earlier : j < i = omega (arith, small, other) in
           let r : Reached p (get_or old (place_at old from j) 0) = s.reached (get_or old (place_at old from j) 0) (value-in old from depth j (omega (arith, earlier, less))) in
           let P : ℕ → Type 0 = λ z. IsImage p mem2 (get_or old (place_at old from j) 0) z in
           subst P (sym (before q (omega (arith, is)) (omega (arith, is, e, earlier)))) (m.goes.images (get_or old (place_at old from j) 0) (get_or mem q 0) r (g.images j q earlier is))
-        )
+          )
     ]
 
     links-more : AreLined mem2 to (i + 1)
@@ -169,7 +165,7 @@ module _ (p : Plan) (old : List ℕ) (mv0 : Moving) (k : Marks) (low limit from 
           let P : ℕ → Type 0 = λ z. get_or mem2 (z + 1) 0 ≡ z + 2 in
           let here : next ≡ q = omega (arith, last, is, e) in
           subst P here m.next
-        )
+          )
       | inr other ↦ (let earlier : j < i = omega (arith, small, other) in before (q + 1) (omega (arith, is)) (omega (arith, is, e, earlier)) ∙ g.links j q earlier is)
     ]
 
@@ -181,7 +177,8 @@ module _ (p : Plan) (old : List ℕ) (mv0 : Moving) (k : Marks) (low limit from 
     }
 
 -- The same where some stack may move.
-module _ (old : List ℕ) (mv0 : Moving) (from depth to : ℕ) (r : CanMoveStack old mv0 from depth to) (mem : List ℕ) (mv : Moving) (i place : ℕ) (l : StackLoop old mv0 from depth to mem mv i place) (less : i < depth) where
+module _ (old : List ℕ) (mv0 : Moving) (from depth to : ℕ) (r : CanMoveStack old mv0 from depth to) (mem : List ℕ) (mv : Moving) (i place : ℕ)
+    (l : StackLoop old mv0 from depth to mem mv i place) (less : i < depth) where
   here : Stacking r.plan old mem mv r.marks from depth to i
   here = l.moves r.plan r.marks r.low r.limit r.moves
 
@@ -189,8 +186,10 @@ module _ (old : List ℕ) (mv0 : Moving) (from depth to : ℕ) (r : CanMoveStack
   step-old = old-inside r.plan old mv0 r.marks r.low r.limit from depth to r.moves mem mv i place here less l.at
 
   pub step-new : (to + 2 * i + 2 ≤ length mem) × (length mem ≡ length old)
-  step-new =
-      (new-inside r.plan old mv0 r.marks r.low r.limit from depth to r.moves mem mv i place here less l.at, len r.plan old mv0 r.marks r.low r.limit from depth to r.moves mem mv i place here less l.at)
+  step-new = (
+    new-inside r.plan old mv0 r.marks r.low r.limit from depth to r.moves mem mv i place here less l.at,
+    len r.plan old mv0 r.marks r.low r.limit from depth to r.moves mem mv i place here less l.at,
+  )
 
   pub step-moves : CanMove mem mv (get_or mem place 0)
   step-moves =
@@ -201,9 +200,10 @@ module _ (old : List ℕ) (mv0 : Moving) (from depth to : ℕ) (r : CanMoveStack
       → StackLoop old mv0 from depth to mem2 mv2 (i + 1) below
   step-more mem2 mv2 below moved = record {
     at =
-      (moved r.plan r.marks (moves r.plan old mv0 r.marks r.low r.limit from depth to r.moves mem mv i place here less l.at (to + 2 * i) refl)).below_is
-      ∙ under r.plan old mv0 r.marks r.low r.limit from depth to r.moves mem mv i place here less l.at;
+        (moved r.plan r.marks (moves r.plan old mv0 r.marks r.low r.limit from depth to r.moves mem mv i place here less l.at (to + 2 * i) refl)).below_is
+        ∙ under r.plan old mv0 r.marks r.low r.limit from depth to r.moves mem mv i place here less l.at;
     moves = λ p k low limit s.
-      let g : Stacking p old mem mv k from depth to i = l.moves p k low limit s in
-      more p old mv0 k low limit from depth to s mem mv i place g less l.at mem2 mv2 (to + 2 * i) below refl (moved p k (moves p old mv0 k low limit from depth to s mem mv i place g less l.at (to + 2 * i) refl));
+        let g : Stacking p old mem mv k from depth to i = l.moves p k low limit s in
+        more p old mv0 k low limit from depth to s mem mv i place g less l.at mem2 mv2 (to + 2 * i) below refl
+        (moved p k (moves p old mv0 k low limit from depth to s mem mv i place g less l.at (to + 2 * i) refl));
   }

@@ -33,7 +33,8 @@ stack-wider mem low limit low2 limit2 from zero down up s = tt
 stack-wider mem low limit low2 limit2 from (suc n) down up (above, below, rest) =
     (omega (arith, above, down), omega (arith, below, up), stack-wider mem low limit low2 limit2 (get_or mem (from + 1) 0) n down up rest)
 
-pub stack-at : (mem : List ℕ) (low limit : ℕ) (rows : List Proc) (i : ℕ) → i < length rows → HaveStacks mem low limit rows → IsStack mem low limit (get_or rows i no_row).stack (get_or rows i no_row).depth
+pub stack-at : (mem : List ℕ) (low limit : ℕ) (rows : List Proc) (i : ℕ) → i < length rows → HaveStacks mem low limit rows
+    → IsStack mem low limit (get_or rows i no_row).stack (get_or rows i no_row).depth
 stack-at mem low limit [] i less s = absurd (omega arith)
 stack-at mem low limit (r ∷ rows) zero less (first, rest) = first
 stack-at mem low limit (r ∷ rows) (suc i) less (first, rest) = stack-at mem low limit rows i (omega arith) rest

@@ -20,7 +20,8 @@ held-less (q ∷ qs) = omega (arith, held-less qs, sum_by-cons held_by q qs, sum
 pub held-demand : (s : State) → held_words s.processes + 16 * length s.processes ≤ demand s
 held-demand s = omega (arith, held-less s.processes)
 
-pub is-tight : (old new : Halves) (n named asked : ℕ) (s : State) → IsLaid old → Collects old new → HalvesStand named old s.shared s.processes → LooksFor s asked n → free_in new < n → length old.mem < 2 * (demand s + asked)
+pub is-tight : (old new : Halves) (n named asked : ℕ) (s : State) → IsLaid old → Collects old new → HalvesStand named old s.shared s.processes
+    → LooksFor s asked n → free_in new < n → length old.mem < 2 * (demand s + asked)
 is-tight old new n named asked s laid c stands looks few =
     let bound : used_in new ≤ 2 + held_words s.processes = c.bound named s.shared s.processes stands in
     let half : half_of new ≤ used_in new + free_in new = omega arith in
