@@ -3,10 +3,11 @@ use Rattle.std.proofs.Common.{◌≡◌, ℕ, suc, zero, ◌+◌, ◌-◌, ◌*�
 use Rattle.std.proofs.lemmas.List.{get_or-set_other, get_or-set_same, length-set, take_all}
 use Rattle.std.proofs.lemmas.List.Sums.{sum_by_more, sum_by_more_le, sum_by-take-le}
 use Rattle.cheney.specs.declared.moving.Moving.{Moving}
-use Rattle.cheney.specs.Plan.{In, Plan, Reached}
+use Rattle.term_words.specs.Counted.{In}
+use Rattle.cheney.specs.Plan.{Plan, Reached}
 use Rattle.cheney.specs.Zones.{Marks}
 use Rattle.cheney.specs.Collected.{AllImages}
-use Rattle.cheney.proofs.Basics.{one-or-not}
+use Rattle.term_words.proofs.Members.{one-or-not}
 use Rattle.one_space.specs.Stack.{IsStack, values}
 use Rattle.one_space.specs.Halves.{depths}
 use Rattle.one_space.specs.Rows.{AreMovedRows, CanMoveRow, CanMoveRows, Goes, HasPlaces, IsMovedRow, RowMoved, RowMoves, RowsMove, RowsMoved}

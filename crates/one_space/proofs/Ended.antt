@@ -11,7 +11,8 @@ use Rattle.term_words.specs.Role.{OfObject}
 use Rattle.term_words.specs.Tiled.{Tiled}
 use Rattle.term_words.specs.Stands.{Stands}
 use Rattle.cheney.specs.declared.moving.Moving.{Moving}
-use Rattle.cheney.specs.Plan.{In, Leaves, Plan, Ready, Reached, size}
+use Rattle.term_words.specs.Counted.{In}
+use Rattle.cheney.specs.Plan.{Leaves, Plan, Ready, Reached, size}
 use Rattle.cheney.specs.Moved.{IsImage, forward}
 use Rattle.cheney.specs.Zones.{Marks, at_objects}
 use Rattle.cheney.specs.Rooms.{Runs, top_of}

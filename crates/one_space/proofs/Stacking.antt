@@ -1,13 +1,14 @@
 -- A stack moves place by place.
 use Rattle.std.proofs.Common.{◌≡◌, ℕ, zero, suc, ◌+◌, ◌*◌, ◌<◌, ◌≤◌, ◌⊎◌, List, [], ◌∷◌, length, get_or, set, refl, sym, ◌∙◌, ap, subst, arith, inl, inr}
 use Rattle.cheney.specs.declared.moving.Moving.{Moving}
-use Rattle.cheney.specs.Plan.{In, Plan, Reached}
+use Rattle.term_words.specs.Counted.{In}
+use Rattle.cheney.specs.Plan.{Plan, Reached}
 use Rattle.cheney.specs.Moved.{IsImage}
 use Rattle.cheney.specs.Zones.{Marks}
 use Rattle.cheney.specs.Rooms.{Runs}
 use Rattle.cheney.specs.Calls.{CanMove, Evacuated}
 use Rattle.cheney.specs.Collected.{AllImages}
-use Rattle.cheney.proofs.Basics.{one-or-not}
+use Rattle.term_words.proofs.Members.{one-or-not}
 use Rattle.one_space.specs.Stack.{IsStack, values}
 use Rattle.one_space.specs.Rows.{CanMoveStack, Goes, IsAside, PlaceMoved, PlaceMoves, StackMoved, StackMoves}
 use Rattle.one_space.proofs.Going.{goes-same, goes-then}

@@ -1,6 +1,6 @@
 -- Stacks and roots of a memory that keeps their words.
 use Rattle.std.proofs.Common.{◌≡◌, ℕ, zero, suc, ◌+◌, ◌<◌, ◌≤◌, List, [], ◌∷◌, ◌++◌, length, get_or, refl, sym, ◌∙◌, ap, subst, arith, inl, inr}
-use Rattle.cheney.specs.Plan.{In}
+use Rattle.term_words.specs.Counted.{In}
 use Rattle.cheney.proofs.Rows.{in-joined}
 use Rattle.one_space.specs.Stack.{IsStack, values}
 use Rattle.one_space.specs.Reached.{roots_in}

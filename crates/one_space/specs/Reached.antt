@@ -4,7 +4,7 @@ use Rattle.plain_term.specs.Measures.{flat}
 use Rattle.plain_machine.specs.State.{Process}
 use Rattle.term_words.specs.Reach.{Reach}
 use Rattle.term_words.specs.Tiled.{Tiled}
-use Rattle.cheney.specs.Plan.{In}
+use Rattle.term_words.specs.Counted.{In}
 use Rattle.one_space.specs.Stack.{values}
 use Rattle.one_space.specs.Halves.{front_of}
 use Rattle.one_space.specs.declared.table.Proc.{Proc}

@@ -1,7 +1,8 @@
 -- What moving the roots asks and promises.
 use Rattle.std.specs.Prelude.{◌≡◌, ℕ, ◌+◌, ◌-◌, ◌*◌, ◌<◌, ◌≤◌, ◌⊎◌, Bool, true, List, [], ◌∷◌, length, slice_index}
 use Rattle.cheney.specs.declared.moving.Moving.{Moving}
-use Rattle.cheney.specs.Plan.{In, IsOutside, Plan, Reached}
+use Rattle.term_words.specs.Counted.{In}
+use Rattle.cheney.specs.Plan.{IsOutside, Plan, Reached}
 use Rattle.cheney.specs.Moved.{IsImage}
 use Rattle.cheney.specs.Zones.{Marks}
 use Rattle.cheney.specs.Rooms.{Runs}
