@@ -1,31 +1,36 @@
 -- From the answer of a space's call to the machine's step.
-use Rattle.std.proofs.Common.{◌≡◌, ℕ, inl, inr, Bool, true, false, cond, ◌||◌, ◌⊎◌, List, [], ◌∷◌, ◌++◌, codes, decimal, Option, Some, None, Result, Ok, Err, IfOk, refl, sym, ap, subst, nat_le, length}
+use Rattle.std.proofs.Common.{◌≡◌, ℕ, inl, inr, Bool, true, false, not, cond, ◌||◌, ◌⊎◌, List, [], ◌∷◌, ◌++◌, codes, decimal, Option, Some, None, Result, Ok, Err, IfOk, refl, sym, ap, subst, ◌∙◌, nat_le, length}
 use Rattle.std.specs.Prelude.{MatchBool}
 use Rattle.std.specs.List.{find, list_any}
 use Rattle.plain_term.specs.Tree.{Tree}
 use Rattle.plain_term.specs.declared.item.Item.{Item}
 use Rattle.script_grammar.specs.declared.command.Reg.{Reg}
+use Rattle.script_grammar.specs.declared.command.Pick.{Pick}
+use Rattle.script_grammar.specs.declared.command.Pick.TheVariants as pick
+use Rattle.script_grammar.specs.declared.command.Shape.{Shape}
+use Rattle.script_grammar.specs.declared.command.Shape.TheVariants as shape
 use Rattle.script_grammar.specs.declared.command.Command.{Command}
 use Rattle.script_grammar.specs.declared.command.Command.TheVariants.{Process, System}
 use Rattle.script_grammar.specs.declared.command.Verb.{Verb}
-use Rattle.script_grammar.specs.declared.command.Verb.TheVariants.{Set, Pop, Print}
+use Rattle.script_grammar.specs.declared.command.Verb.TheVariants.{Set, Own, Push, Pop, Print, Exit, Choose, Repeat}
 use Rattle.script_grammar.specs.declared.command.SysVerb.TheVariants.{Spawn}
 use Rattle.script_grammar.specs.declared.refusal.Refusal.{Refusal}
 use Rattle.script_grammar.specs.declared.refusal.Refusal.TheVariants.{NoProc}
 use Rattle.script_grammar.specs.Written.{Term, Terms}
 use Rattle.script_grammar.specs.Written.Terms.{end}
-use Rattle.script_grammar.specs.Names.{Parsed}
+use Rattle.script_grammar.specs.Grammar.{is_built, word_of}
+use Rattle.script_grammar.specs.Names.{Parsed, HasRegisters}
 use Rattle.plain_machine.specs.declared.limits.TheConstants.{MOST_PROCESSES}
-use Rattle.plain_machine.specs.State.{Process as Live, State, HasNames, process_of, is_live, register}
-use Rattle.plain_machine.specs.Step.{Outcome, step, in_process, by_verb, pop_from, spawn_if, tells, print_text}
+use Rattle.plain_machine.specs.State.{Process as Live, State, HasNames, process_of, is_live}
+use Rattle.plain_machine.specs.Step.{Outcome, step, in_process, by_verb, pop_from, spawn_if, tells, told_of, is_printing_verb}
 use Rattle.plain_machine.specs.Step.Outcome.{Accepted, Refused as IsRefused, Mapped}
 use Rattle.plain_machine.specs.Run.{CommandStep, Skips, Gives, LacksSpace, refusal_text, is_nothing, is_quit}
 use Rattle.plain_machine.specs.Maps.{is_map}
 use Rattle.space_api.specs.declared.space.Seat.{Seat}
 use Rattle.space_api.specs.Calls.{said, Follows, Stays, Becomes, Passes, one_term, IsTerm}
 use Rattle.engine.specs.declared.reply.Reply.{Reply}
-use Rattle.engine.specs.declared.reply.Reply.TheVariants.{Done, Spawned, Text, Refused}
-use Rattle.engine.specs.Replies.{reply_lines, reply_of, ends_script, outcome_text}
+use Rattle.engine.specs.declared.reply.Reply.TheVariants.{Done, Spawned, Told, Refused}
+use Rattle.engine.specs.Replies.{CanTell, reply_lines, reply_of, ends_script, outcome_text}
 use Rattle.engine.specs.Rules.{Supply, After}
 use Rattle.engine.specs.Acts.{Acts, Fits, names_left, shown}
 
@@ -175,26 +180,87 @@ module _ (supply : Supply) (number : ℕ) (names : List (List ℕ)) (code : List
         maps = λ k m. absurd (cc);
       })
 
--- the text that is told of a register
+-- a verb that prints tells, and what it tells does not depend on the line's terms
+verb-tells : (s : State) (p : Parsed) (q : Live) (v : Verb) → is_printing_verb v ≡ true → is_map (Process 0 v) ≡ false → by_verb s p q v ≡ tells s (told_of s p q v)
+verb-tells s p q (Set r) e m = absurd (cc)
+verb-tells s p q (Own r) e m = absurd (cc)
+verb-tells s p q (Push r) e m = absurd (cc)
+verb-tells s p q (Pop r) e m = absurd (cc)
+verb-tells s p q Exit e m = absurd (cc)
+verb-tells s p q _ e m = refl
+
+terms-untold : (s : State) (c : Command) (terms : Terms) (names : List (List ℕ)) (q : Live) (v : Verb) → told_of s (said c terms names) q v ≡ told_of s (said c end names) q v
+terms-untold s c terms names q (Print r) = refl
+terms-untold s c terms names q _ = refl
+
 told-gives : (s : State) (c : Command) (r : Result (List ℕ) Refusal) → is_quit c ≡ false → Gives (tells s r) s c false (outcome_text (tells s r) ∷ []) s
 told-gives s c (Ok t) e = record { ends = sym e; said = refl; is = refl }
 told-gives s c (Err x) e = record { goes_on = refl; said = refl; same = refl }
 
--- `print`, which leaves the space
-pub print-does : (supply : Supply) (seat : Seat) (names : List (List ℕ)) (code : List Item) (after : After) (r : Reg)
-    → DoesVerb supply seat.pid names code (Text seat r) after.stands after (Print r)
-print-does supply seat names code after r = λ s terms h f. record {
+-- a verb that prints, which leaves the space
+pub told-does : (supply : Supply) (seat : Seat) (names : List (List ℕ)) (code : List Item) (after : After) (v : Verb) → CanTell v
+    → DoesVerb supply seat.pid names code (Told seat v) after.stands after v
+told-does supply seat names code after v can = λ s terms h f. record {
   new = s;
   stands = h;
-  names = refl;
+  names = ap (λ b. cond b s.names names) (sym can.prints);
   steps = inl (at s terms (process_of seat.pid s));
-  maps = λ k m. absurd (cc);
+  maps = λ k m. absurd (map-or-not (is_map (Process 0 v)) k can.no_map);
 }
   where
-    at : (s : State) (terms : Terms) (o : Option Live) → Gives (in_process o s (said (Process seat.pid (Print r)) terms names) (Print r)) s (Process seat.pid (Print r)) false
-        (outcome_text (in_process o s (said (Process seat.pid (Print r)) end names) (Print r)) ∷ []) s
+    map-or-not : (b : Bool) → b ≡ true → b ≡ false → ⊥
+    map-or-not b e f = absurd (cc)
+
+    at : (s : State) (terms : Terms) (o : Option Live) → Gives (in_process o s (said (Process seat.pid v) terms names) v) s (Process seat.pid v) false
+        (outcome_text (in_process o s (said (Process seat.pid v) end names) v) ∷ []) s
     at s terms None = record { goes_on = refl; said = refl; same = refl }
-    at s terms (Some q) = told-gives s (Process seat.pid (Print r)) (print_text s (said (Process seat.pid (Print r)) terms names) (register r.0 q)) refl
+    at s terms (Some q) =
+        let c : Command = Process seat.pid v in
+        let P : Outcome → Type 0 = λ o. Gives o s c false (outcome_text (by_verb s (said c end names) q v) ∷ []) s in
+        let Q : Outcome → Type 0 = λ o. Gives (tells s (told_of s (said c terms names) q v)) s c false (outcome_text o ∷ []) s in
+        let same : by_verb s (said c end names) q v ≡ tells s (told_of s (said c terms names) q v) =
+        verb-tells s (said c end names) q v can.prints can.no_map ∙ ap (tells s) (sym (terms-untold s c terms names q v)) in
+        subst P (sym (verb-tells s (said c terms names) q v can.prints can.no_map))
+        (subst Q (sym same) (told-gives s c (told_of s (said c terms names) q v) refl))
+
+-- the verbs of more than one word that are not built
+pick-unbuilt : (r s : Reg) (k : Pick) → is_built (word_of (Choose r s k)) ≡ true → ⊥
+pick-unbuilt r s pick.Hd b = absurd (cc)
+pick-unbuilt r s pick.Tl b = absurd (cc)
+pick-unbuilt r s (pick.Elem i) b = absurd (cc)
+pick-unbuilt r s (pick.MapGet k) b = absurd (cc)
+pick-unbuilt r s (pick.Env i) b = absurd (cc)
+pick-unbuilt r s (pick.Part offset len) b = absurd (cc)
+
+repeat-unbuilt : (r s : Reg) (n : ℕ) (k : Shape) → is_built (word_of (Repeat r k n s)) ≡ true → ⊥
+repeat-unbuilt r s n shape.Tuple b = absurd (cc)
+repeat-unbuilt r s n shape.List b = absurd (cc)
+
+-- what is built and does not change anything tells
+if-then : (b c : Bool) → (not b || c) ≡ true → b ≡ true → c ≡ true
+if-then true c h e = h
+if-then false c h e = absurd (cc)
+
+pub can-tell : (v : Verb) → is_built (word_of v) ≡ true → HasRegisters v → ((r : Reg) → v ≡ Set r → ⊥) → ((r : Reg) → v ≡ Own r → ⊥) → ((r : Reg) → v ≡ Push r → ⊥) → ((r : Reg) → v ≡ Pop r → ⊥)
+    → (v ≡ Exit → ⊥) → CanTell v
+can-tell (Set r) b h s o u p x = absurd (s r refl)
+can-tell (Own r) b h s o u p x = absurd (o r refl)
+can-tell (Push r) b h s o u p x = absurd (u r refl)
+can-tell (Pop r) b h s o u p x = absurd (p r refl)
+can-tell Exit b h s o u p x = absurd (x refl)
+can-tell (Choose r m k) b h s o u p x = absurd (pick-unbuilt r m k b)
+can-tell (Repeat r k n m) b h s o u p x = absurd (repeat-unbuilt r m n k b)
+can-tell v b h s o u p x = record {
+  built = b;
+  prints = if-then (is_built (word_of v)) (is_printing_verb v) refl b;
+  no_map = not-map (is_built (word_of v)) (is_map (Process 0 v)) refl b;
+  registers = h;
+}
+  where
+    not-map : (b c : Bool) → (not b || not c) ≡ true → b ≡ true → c ≡ false
+    not-map true true h e = absurd (cc)
+    not-map true false h e = refl
+    not-map false c h e = absurd (cc)
 
 module _ (supply : Supply) (names : List (List ℕ)) (code : List Item) (reply : Reply) (Old : State → Type 0) (after : After) where
   -- what is promised of a command

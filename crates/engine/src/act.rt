@@ -37,7 +37,7 @@ fn spawned(answer: Result<u64, Refusal>) -> Reply
     }
 }
 
-/// Does a verb at a live process.
+/// Does a verb at a live process. One that changes nothing is told when the reply is written.
 fn act_in<S: Space>(
     space: &mut S,
     names: &AtomNames,
@@ -67,12 +67,11 @@ fn act_in<S: Space>(
         }
         Verb::Push(r) => done(space.push(seat, r)),
         Verb::Pop(r) => done(space.pop(seat, r)),
-        Verb::Print(r) => Reply::Text(seat, r),
         Verb::Exit => {
             space.exit(seat);
             Reply::Done
         }
-        _ => unreachable!(),
+        _ => Reply::Told(seat, verb),
     }
 }
 

@@ -3,6 +3,7 @@ ghost use Rattle.line_io.specs.Faults.{Rose};
 ghost use Rattle.plain_machine.specs.Run.{replies_text};
 ghost use Rattle.plain_machine.specs.State.{State};
 ghost use Rattle.script_grammar.specs.declared.command.Command.{Command};
+ghost use Rattle.script_grammar.specs.declared.command.Verb.TheVariants.{Print};
 ghost use Rattle.line_io.specs.Sink.{Writes};
 ghost use Rattle.engine.specs.Replies.{reply_lines, CanReply};
 
@@ -10,7 +11,7 @@ use crate::numbers::put_numbers;
 use crate::texts::{put_counted, put_line, put_refusal};
 use atom_names::AtomNames;
 use line_io::{Sink, SinkFault, put_all};
-use plain_machine::{Refusal, Reg};
+use plain_machine::{Refusal, Reg, Verb};
 use space_api::{Seat, Space, Stop};
 
 /// How a line that was done is answered.
@@ -20,7 +21,8 @@ pub(crate) enum Reply {
     Done,
     Spawned(u64),
     Numbers,
-    Text(Seat, Reg),
+    /// What a verb that prints tells of a process.
+    Told(Seat, Verb),
     Quit,
     Refused(Refusal),
 }
@@ -33,9 +35,9 @@ fn put_text<S: Space, K: Sink>(
     r: Reg,
     sink: &mut K,
 ) -> Result<(), SinkFault>
-    requires can { CanReply S.sits S.named space.now names.now (Reply.Text seat r) }
+    requires can { CanReply S.sits S.named space.now names.now (Reply.Told seat (Print r)) }
     ensures writes { (s : State) → S.stands space.now s
-        → Writes K.wrote sink.old sink.new result (replies_text (reply_lines (Reply.Text seat r) (record { state = s; names = names.now; text = S.text space.now names.now }))) }
+        → Writes K.wrote sink.old sink.new result (replies_text (reply_lines (Reply.Told seat (Print r)) (record { state = s; names = names.now; text = S.text space.now names.now }))) }
     ensures later { K.faults sink.old ≤ K.faults sink.new }
     ensures rose { OnErr result (Rose (K.faults sink.old) (K.faults sink.new)) }
     ensures told { OnOk result (K.faults sink.new ≡ K.faults sink.old) }
@@ -44,6 +46,27 @@ fn put_text<S: Space, K: Sink>(
         Ok(()) => put_all(sink, b"\n"),
         Err(Stop::Big) => put_refusal(Refusal::Big, sink),
         Err(Stop::Fault) => Err(SinkFault),
+    }
+}
+
+/// Writes the line of what a verb that prints tells.
+fn put_told<S: Space, K: Sink>(
+    space: &S,
+    names: &AtomNames,
+    seat: Seat,
+    verb: Verb,
+    sink: &mut K,
+) -> Result<(), SinkFault>
+    requires can { CanReply S.sits S.named space.now names.now (Reply.Told seat verb) }
+    ensures writes { (s : State) → S.stands space.now s
+        → Writes K.wrote sink.old sink.new result (replies_text (reply_lines (Reply.Told seat verb) (record { state = s; names = names.now; text = S.text space.now names.now }))) }
+    ensures later { K.faults sink.old ≤ K.faults sink.new }
+    ensures rose { OnErr result (Rose (K.faults sink.old) (K.faults sink.new)) }
+    ensures told { OnOk result (K.faults sink.new ≡ K.faults sink.old) }
+{
+    match verb {
+        Verb::Print(r) => put_text(space, names, seat, r, sink),
+        _ => unreachable!(),
     }
 }
 
@@ -66,7 +89,7 @@ pub(crate) fn put_reply<S: Space, K: Sink>(
         Reply::Done => put_line(b"ok", sink),
         Reply::Spawned(n) => put_counted(b"ok ", n, sink),
         Reply::Numbers => put_numbers(space, sink),
-        Reply::Text(seat, r) => put_text(space, names, seat, r, sink),
+        Reply::Told(seat, verb) => put_told(space, names, seat, verb, sink),
         Reply::Quit => put_line(b"ok", sink),
         Reply::Refused(refusal) => put_refusal(refusal, sink),
     }
