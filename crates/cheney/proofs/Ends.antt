@@ -1,5 +1,5 @@
 -- Where all is scanned: what the collection has done.
-use Rattle.std.proofs.Common.{◌≡◌, ℕ, ◌+◌, ◌-◌, ◌/◌, ◌%◌, ◌<◌, ◌≤◌, ◌⊎◌, ◌==◌, if◌then◌else◌, nat_lt, Bool, true, false, List, [], ◌∷◌, length, suc, get_or, refl, sym, ◌∙◌, ap, subst, arith, inl, inr}
+use Rattle.std.proofs.Common.{◌≡◌, ℕ, ◌+◌, ◌-◌, ◌/◌, ◌%◌, ◌<◌, ◌≤◌, ◌⊎◌, if◌then◌else◌, nat_lt, Bool, true, false, List, [], ◌∷◌, length, suc, get_or, refl, sym, ◌∙◌, ap, subst, arith, inl, inr}
 use Rattle.std.proofs.lemmas.Bool.Decides.{nat_tests}
 use Rattle.plain_term.specs.Measures.{flat_of_all}
 use Rattle.plain_term.specs.Tree.{Tree, Trees}
@@ -14,10 +14,10 @@ use Rattle.cheney.specs.Moved.{moved, forward, IsImage}
 use Rattle.cheney.specs.Zones.{Marks, IsCopy, Row, IsRow, Gone, Invariant, scanned_at}
 use Rattle.cheney.specs.Collected.{IsMoved, IsFilled, IsLeftOrMoved, Follows, Collected, AreImages, Composes}
 use Rattle.term_words.proofs.Members.{true-or-false}
-use Rattle.cheney.proofs.Basics.{moved-boxed, same-room, not-both, leaves-or-not, reach-part, size-some, size-cons, size-boxed, first-cons, first-boxed}
+use Rattle.cheney.proofs.Basics.{moved-boxed, same-room, not-both, leaves-or-not, size-some}
 use Rattle.cheney.proofs.Counts.{words-bounded}
 use Rattle.cheney.proofs.Ground.{Ground, not-shown, shown-header, stay-not-shown}
-use Rattle.cheney.proofs.Homes.{Home, Settled, settled}
+use Rattle.cheney.proofs.Homes.{Home, Settled, composed, image-stands, shape}
 use Rattle.cheney.proofs.Writing.{at-copy}
 
 -- Where the word at a place of a row stood before it was copied.
@@ -158,10 +158,10 @@ module _ (p : Plan) (y : Ready p) (g : Ground p) (m : List ℕ) (top : Bool → 
     ]
 
     is-settled : Settled p m d
-    is-settled = record { home = home; longer = omega (arith, i.same_len); records = i.records; counts = f.counts; tests = f.records }
+    is-settled = record { complete = complete; home = home; longer = omega (arith, i.same_len); records = i.records; counts = f.counts; tests = f.records }
 
     pub stands-on : (w x : ℕ) (t : Tree) → Reached p w → IsImage p m w x → Stands p.test p.shared p.start w t → Stands d p.shared m x t
-    stands-on w x t r im s = settled p m d is-settled w x t r im s
+    stands-on w x t r im s = image-stands p y m d is-settled w x t r im s
 
   any-place : Follows p m always
   any-place = record { moves = λ v j q k r l less e h. refl; stays = λ v q k r t s j h. refl; counts = λ a h. refl; records = λ a k big h. refl }
@@ -225,90 +225,14 @@ module _ (p : Plan) (y : Ready p) (g : Ground p) (m : List ℕ) (top : Bool → 
     touched = i.touched;
   }
 
-  -- The image of a reached word.
-  image-of : (v : ℕ) → Reached p v → (x : ℕ) × IsImage p m v x
-  image-of v r = elim (leaves-or-not p v) [
-    | inl l ↦ (forward m v, record { kept = λ n. absurd (n l); gone = λ z. (complete v r l, refl) })
-    | inr n ↦ (v, record { kept = λ z. refl; gone = λ l. absurd (n l) })
-  ]
-
-  one-image : (v x z : ℕ) → IsImage p m v x → IsImage p m v z → x ≡ z
-  one-image v x z a b = elim (leaves-or-not p v) [
-    | inl l ↦ (a.gone l).1 ∙ sym (b.gone l).1
-    | inr n ↦ a.kept n ∙ sym (b.kept n)
-  ]
-
-  -- The image of a pointer is a pointer, and so is the word of a pointer.
-  pointer-image : (v x : ℕ) → Reached p v → IsPointer v → IsImage p m v x → IsPointer x
-  pointer-image v x r t im = elim (leaves-or-not p v) [
-    | inl l ↦ (let c : IsMoved p m top v (forward m v) = copied v r l (complete v r l) in
-        elim t [ inl a ↦ inl (omega (arith, a, c.tag, (im.gone l).1)) | inr a ↦ inr (omega (arith, a, c.tag, (im.gone l).1)) ])
-    | inr n ↦ (let P : ℕ → Type 0 = λ z. IsPointer z in subst P (sym (im.kept n)) t)
-  ]
-
-  pointer-before : (v x : ℕ) → IsPointer x → IsImage p m v x → IsPointer v
-  pointer-before v x t im = elim (leaves-or-not p v) [
-    | inl l ↦ l.pointer
-    | inr n ↦ (let P : ℕ → Type 0 = λ z. IsPointer z in subst P (im.kept n) t)
-  ]
-
-  -- A boxed object's header is that of its copy.
-  header-image : (v x : ℕ) → Reached p v → v % 4 ≡ 2 → Home p m always v x → get_or m (x / 4) 0 ≡ get_or p.start (v / 4) 0
-  header-image v x r tag h =
-      let cut : (0 < first p v) ⊎ (first p v ≤ 0) = grind arith in
-      let there : get_or p.start (v / 4 + 0) 0 ≡ get_or p.start (v / 4) 0 = ap (λ z. get_or p.start z 0) (omega arith) in
-      let header : get_or p.start (v / 4) 0 % 4 ≡ 0 = g.header v r tag in
-      let low : get_or p.start (v / 4 + 0) 0 % 4 ≡ 0 = ap (λ z. z % 4) there ∙ header in
-      elim cut [
-        | inl z ↦ h.same 0 (x / 4) z (size-some p v (inr tag)) (omega arith) ∙ there
-        | inr z ↦ (h.mapped 0 (x / 4) z (size-some p v (inr tag)) (omega arith)).kept (λ l. omega (arith, low, l.pointer)) ∙ there
-      ]
-
-  pub shape-image : (v x : ℕ) → Reached p v → IsPointer v → IsImage p m v x → (object_words m x ≡ size p v) × (first_traced m x ≡ first p v)
-  shape-image v x r (inl tag) im =
-      let h : Home p m always v x = home always any-place v x r (inl tag) im in
-      let t : x % 4 ≡ 1 = h.tag ∙ tag in
-      let one : (x % 4 == 1) ≡ true = grind (arith, nat_tests) in
-      ((rw one (sym (size-cons p v tag))), (rw one (sym (first-cons p v tag))))
-  shape-image v x r (inr tag) im =
-      let h : Home p m always v x = home always any-place v x r (inr tag) im in
-      let t : x % 4 ≡ 2 = h.tag ∙ tag in
-      let one : (x % 4 == 1) ≡ false = grind (arith, nat_tests) in
-      let e : get_or m (x / 4) 0 ≡ get_or p.start (v / 4) 0 = header-image v x r tag h in
-      ((rw (one, e) (sym (size-boxed p v tag))), (rw (one, e) (sym (first-boxed p v tag))))
-
-  pub fresh : (ws : List ℕ) → AreImages p m ws → (x : ℕ) → Reach m ws x → (v : ℕ) × (Reached p v × IsImage p m v x)
-  fresh ws a x (root j z below e) =
-      let less : j < length p.roots = omega (arith, a.count) in
-      let P : ℕ → Type 0 = λ q. IsImage p m (get_or p.roots j 0) q in
-      (get_or p.roots j 0, (root j (get_or p.roots j 0) less refl, subst P (sym e) (a.each j less)))
-  fresh ws a x (part u j z r q from below e) =
-      let (v, (rv, iv)) = fresh ws a u r in
-      let t : IsPointer v = pointer-before v u q iv in
-      let h : Home p m always v u = home always any-place v u rv t iv in
-      let (size_is, first_is) = shape-image v u rv t iv in
-      let P : ℕ → Type 0 = λ s. IsImage p m (get_or p.start (v / 4 + j) 0) s in
-      (get_or p.start (v / 4 + j) 0, (reach-part p v j rv t (omega (arith, first_is)) (omega (arith, size_is)), subst P (sym e) (h.mapped j (u / 4 + j) (omega (arith, first_is)) (omega (arith, size_is)) refl)))
-
-  by-part : (ws : List ℕ) (u j v x y2 : ℕ) → Reached p u → IsPointer u → first p u ≤ j → j < size p u → v ≡ get_or p.start (u / 4 + j) 0 → IsImage p m v x → IsImage p m u y2 → Reach m ws y2 → Reach m ws x
-  by-part ws u j v x y2 r t from below e im iu ih =
-      let h : Home p m always u y2 = home always any-place u y2 r t iu in
-      let (size_is, first_is) = shape-image u y2 r t iu in
-      let P : ℕ → Type 0 = λ z. IsImage p m z (get_or m (y2 / 4 + j) 0) in
-      let there : IsImage p m v (get_or m (y2 / 4 + j) 0) = subst P (sym e) (h.mapped j (y2 / 4 + j) from below refl) in
-      part y2 j x ih (pointer-image u y2 r t iu) (omega (arith, first_is)) (omega (arith, size_is)) (one-image v x (get_or m (y2 / 4 + j) 0) im there)
-
-  by-parts : (ws : List ℕ) (u j v x y2 : ℕ) → Reached p u → IsPointer u → first_traced p.start u ≤ j → j < object_words p.start u → v ≡ get_or p.start (u / 4 + j) 0 → IsImage p m v x → IsImage p m u y2 → Reach m ws y2 → Reach m ws x
-  unfolding first size
-  by-parts ws u j v x y2 r t from below e im iu ih = by-part ws u j v x y2 r t from below e im iu ih
-
-  reaches : (ws : List ℕ) → AreImages p m ws → (v x : ℕ) → Reach p.start p.roots v → IsImage p m v x → Reach m ws x
-  reaches ws a v x (root j z below e) im =
-      let P : ℕ → Type 0 = λ q. IsImage p m q (get_or ws j 0) in
-      root j x (omega (arith, a.count)) (one-image v x (get_or ws j 0) im (subst P (sym e) (a.each j below)))
-  reaches ws a v x (part u j z r t from below e) im =
-      let (y2, iu) = image-of u r in
-      by-parts ws u j v x y2 r t from below e im iu (reaches ws a u y2 r iu)
+  all-settled : Settled p m always
+  all-settled = is-settled always any-place
 
   pub composes : Composes p m
-  composes = record { fresh = fresh; reached = reaches }
+  composes = composed p y m always all-settled
+
+  pub shape-image : (v x : ℕ) → Reached p v → IsPointer v → IsImage p m v x → (object_words m x ≡ size p v) × (first_traced m x ≡ first p v)
+  shape-image v x r t im = shape p y m always all-settled v x r t im
+
+  pub fresh : (ws : List ℕ) → AreImages p m ws → (x : ℕ) → Reach m ws x → (v : ℕ) × (Reached p v × IsImage p m v x)
+  fresh = composes.fresh

@@ -1,5 +1,5 @@
 -- A room holds the objects that go there where it has as many words as the counted places that they lie in.
-use Rattle.std.proofs.Common.{◌≡◌, ℕ, ◌+◌, ◌-◌, ◌/◌, ◌<◌, ◌≤◌, ◌⊎◌, Bool, true, List, [], ◌∷◌, ◌++◌, refl, sym, subst, arith, inl, inr}
+use Rattle.std.proofs.Common.{◌≡◌, ℕ, ◌+◌, ◌-◌, ◌/◌, ◌≤◌, ◌⊎◌, Bool, true, List, [], ◌∷◌, ◌++◌, refl, sym, subst, arith, inl, inr}
 use Rattle.term_words.specs.Counted.{ArePacked, Distinct, In, Listed, count, total}
 use Rattle.term_words.specs.Role.{IsSingle}
 use Rattle.term_words.specs.Stands.{AllStand}

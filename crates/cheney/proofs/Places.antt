@@ -1,16 +1,16 @@
 -- Words at places of the memory with a step between, moved one by one.
-use Rattle.std.proofs.Common.{◌≡◌, ℕ, zero, suc, ◌+◌, ◌*◌, ◌<◌, ◌≤◌, ◌⊎◌, ◌==◌, ◌||◌, Bool, true, false, List, [], ◌∷◌, length, get_or, set, refl, sym, ◌∙◌, ap, subst, arith, inl, inr}
+use Rattle.std.proofs.Common.{◌≡◌, ℕ, zero, suc, ◌+◌, ◌*◌, ◌<◌, ◌≤◌, ◌⊎◌, ◌==◌, ◌||◌, Bool, true, false, List, length, get_or, set, refl, sym, ◌∙◌, ap, subst, arith, inl, inr}
 use Rattle.std.proofs.Math.Nat.{mul-le-mul_right, suc-mul}
 use Rattle.std.proofs.lemmas.Bool.Decides.{nat_tests}
 use Rattle.std.proofs.lemmas.List.{get_or-set_other, get_or-set_same}
 use Rattle.cheney.specs.declared.moving.Moving.{Moving}
-use Rattle.cheney.specs.Plan.{IsOutside, Plan, Reached}
+use Rattle.cheney.specs.Plan.{Plan, Reached}
 use Rattle.cheney.specs.Moved.{IsImage}
 use Rattle.cheney.specs.Zones.{Marks}
 use Rattle.cheney.specs.Rooms.{Runs, top_of}
 use Rattle.cheney.specs.Calls.{CanMove, Evacuated, Later, either, nowhere}
-use Rattle.cheney.specs.Collected.{AllImages, IsBeside}
-use Rattle.cheney.specs.Roots.{AreRoots, CanMoveAt, CanMovePlaces, EvacuatedAt, IsFree, PlacesEvacuated, in_places, is_at, words_at}
+use Rattle.cheney.specs.Collected.{IsBeside}
+use Rattle.cheney.specs.Roots.{AreRoots, CanMoveAt, EvacuatedAt, IsFree, PlacesEvacuated, in_places, is_at, words_at}
 use Rattle.term_words.proofs.Members.{one-or-not, true-or-false}
 use Rattle.cheney.proofs.Basics.{not-both}
 use Rattle.cheney.proofs.Begins.{beside-grows, beside-runs, free-aside, image-beside, image-kept, write-beside}

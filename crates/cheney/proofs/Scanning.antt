@@ -1,20 +1,20 @@
 -- The words of copies, scanned one by one, and a list along its spine.
-use Rattle.std.proofs.Common.{◌≡◌, ℕ, ◌+◌, ◌-◌, ◌*◌, ◌/◌, ◌%◌, ◌<◌, ◌≤◌, ◌⊎◌, ◌==◌, ◌&&◌, if◌then◌else◌, nat_le, Bool, true, false, List, length, get_or, set, refl, sym, ◌∙◌, ap, subst, arith, inl, inr, Option, Some, None}
+use Rattle.std.proofs.Common.{◌≡◌, ℕ, ◌+◌, ◌-◌, ◌/◌, ◌%◌, ◌<◌, ◌≤◌, ◌⊎◌, ◌==◌, ◌&&◌, if◌then◌else◌, nat_le, Bool, true, false, List, length, get_or, set, refl, sym, ◌∙◌, ap, subst, arith, inl, inr, Option, Some, None}
 use mathlib.Core.Bool.{beq}
 use Rattle.std.proofs.lemmas.Bool.{eqb-true}
 use Rattle.std.proofs.lemmas.Bool.Decides.{nat_tests}
 use Rattle.std.proofs.lemmas.List.{get_or-set_other, set-get_or}
 use Rattle.term_words.specs.Object.{IsPointer, object_words}
-use Rattle.term_tags.specs.Table.{layout_for, layout_at, row_layout}
+use Rattle.term_tags.specs.Table.{layout_for, row_layout}
 use Rattle.term_tags.specs.declared.layouts.Layout.{Layout}
 use Rattle.term_tags.specs.declared.layouts.TheConstants.{TUPLE, POS_BIG, NEG_BIG, REF, FUN, HOLDER, HEAP_BIN, SUB_BIN, MAP}
 use Rattle.cheney.specs.declared.moving.Moving.{Moving}
 use Rattle.cheney.specs.Spans.{in_span}
 use Rattle.cheney.specs.Plan.{Plan, Reached, Leaves, size}
-use Rattle.cheney.specs.Moved.{moved, Copies}
-use Rattle.cheney.specs.Zones.{Marks, IsCopy, IsPart, scanned_at, object_at, mark}
+use Rattle.cheney.specs.Moved.{Copies}
+use Rattle.cheney.specs.Zones.{Marks, IsPart, scanned_at, object_at, mark}
 use Rattle.cheney.specs.Rooms.{top_of, Runs}
-use Rattle.cheney.specs.Calls.{CanMove, CanOpen, CanStep, Copied, Evacuated, IsFresh, IsNext, RunsOn, Shape, nowhere}
+use Rattle.cheney.specs.Calls.{CanOpen, CanStep, Copied, Evacuated, IsFresh, IsNext, RunsOn, Shape, nowhere}
 use Rattle.cheney.proofs.Facts.{copy-later}
 use Rattle.cheney.proofs.Ground.{Ground, ground}
 use Rattle.cheney.proofs.Steps.{Going, Opened, cons-words, evacuated, fresh-here, going-on, going-step, gone-through, later-grows, later-same, later-then, leaves, header-same, opened-there, raw-at, reached-there, step-part, stepped}

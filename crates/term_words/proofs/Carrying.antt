@@ -17,7 +17,7 @@ in-object c mem p n q o from below =
     elim which [ inl e ↦ inl (let P : ℕ → Type 0 = λ x. c x 3 ≡ true in subst P (sym e) o.first) | inr far ↦ inr (o.others q far below) ]
 
 -- A traced word is an object's first word, or another that is content.
-traced-role : (c : ℕ → ℕ → Bool) (shared : List (List ℕ)) (mem : List ℕ) (w : ℕ) (t : Tree) (k : ℕ) → Stands c shared mem w t → IsPointer w → first_traced mem w ≤ k → k < object_words mem w
+pub traced-role : (c : ℕ → ℕ → Bool) (shared : List (List ℕ)) (mem : List ℕ) (w : ℕ) (t : Tree) (k : ℕ) → Stands c shared mem w t → IsPointer w → first_traced mem w ≤ k → k < object_words mem w
     → (c (w / 4 + k) 3 ≡ true) ⊎ (c (w / 4 + k) 4 ≡ true)
 unfolding Stands
 traced-role c shared mem w (Cons h t) k (o, sh, st) p from below = in-object c mem (w / 4) 2 (w / 4 + k) o.object (omega arith) (omega (arith, words-cons mem w o.tag))

@@ -376,7 +376,7 @@ module _ (c d : ℕ → ℕ → Bool) (shared : List (List ℕ)) (old new roots 
     header-kept w t r tag s =
         plain w 0 (f w / 4) (w / 4) (z.objects w r (inr tag)) (header-first c shared old w t s tag) (object-some old w) (omega arith) (omega arith) (inl (first-role c shared old w t s (inr tag)))
 
-    words-kept : (w : ℕ) → Reach old roots w → IsPointer w → (object_words new (f w) ≡ object_words old w) × (first_traced new (f w) ≡ first_traced old w)
+    pub words-kept : (w : ℕ) → Reach old roots w → IsPointer w → (object_words new (f w) ≡ object_words old w) × (first_traced new (f w) ≡ first_traced old w)
     words-kept w r (inl tag) =
         let there : f w % 4 ≡ 1 = omega (arith, (z.objects w r (inl tag)).tag) in
         (words-cons new (f w) there ∙ sym (words-cons old w tag), cons-traced new (f w) there ∙ sym (cons-traced old w tag))

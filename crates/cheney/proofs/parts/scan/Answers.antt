@@ -1,4 +1,4 @@
-use Rattle.std.proofs.Common.{true, false, refl}
+use Rattle.std.proofs.Common.{refl}
 use Rattle.cheney.specs.Zones.{at_objects}
 use Rattle.cheney.proofs.Steps.{aged-on, young-on, can-open-aged, can-open-young, all-scanned}
 use Rattle.cheney.proofs.parts.scan.Goals as goal

@@ -1,4 +1,3 @@
-use Rattle.std.proofs.Common.{ℕ, subst, sym}
 use Rattle.cheney.proofs.Steps.{step-after, step-moves, step-part, stepped, went-there}
 use Rattle.cheney.proofs.Scanning.{kept-part, kept-word}
 use Rattle.cheney.proofs.parts.scan_word.Goals as goal

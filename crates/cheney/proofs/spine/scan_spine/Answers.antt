@@ -1,6 +1,6 @@
-use Rattle.std.proofs.Common.{◌≡◌, ℕ, ◌+◌, ◌<◌, ◌≤◌, length, subst, sym, arith}
+use Rattle.std.proofs.Common.{ℕ, ◌+◌, ◌≤◌, length, subst, sym, arith}
 use Rattle.cheney.specs.Zones.{mark}
-use Rattle.cheney.specs.Calls.{IsNext, RunsOn}
+use Rattle.cheney.specs.Calls.{RunsOn}
 use Rattle.cheney.proofs.Scanning.{cell-done, cell-inside, cell-step, spine-inside, spine-start, spine-within, tail-kept, tail-step}
 use Rattle.cheney.proofs.Steps.{same-ends}
 use Rattle.cheney.proofs.spine.scan_spine.Goals as goal
