@@ -14,7 +14,7 @@ use Rattle.cheney.specs.Plan.{Plan, Reached, Leaves, size}
 use Rattle.cheney.specs.Moved.{Copies}
 use Rattle.cheney.specs.Zones.{Marks, IsPart, scanned_at, object_at, mark}
 use Rattle.cheney.specs.Rooms.{top_of, Runs}
-use Rattle.cheney.specs.Calls.{CanOpen, CanStep, Copied, Evacuated, IsFresh, IsNext, RunsOn, Shape, nowhere}
+use Rattle.cheney.specs.Calls.{CanOpen, CanStep, Copied, Evacuated, GoesOnWithin, IsFresh, IsNext, RunsOn, ScansWord, Shape, nowhere}
 use Rattle.cheney.proofs.Facts.{copy-later}
 use Rattle.cheney.proofs.Ground.{Ground, ground}
 use Rattle.cheney.proofs.Steps.{Going, Opened, cons-words, evacuated, fresh-here, going-on, going-step, gone-through, later-grows, later-same, later-then, leaves, header-same, opened-there, raw-at, reached-there, step-part, stepped}
@@ -171,8 +171,8 @@ module _ (p : Plan) (old mem : List ℕ) (mv : Moving) (k : Marks) (b : Bool) (a
   pub cell-step : CanStep mem mv b at
   cell-step = going-step p mem mem mv (mark k b at at) b at (at + 2) cell-going (omega arith)
 
-  module _ (mem1 : List ℕ) (mv1 : Moving) (each : (q : Plan) (l : Marks) (d : Bool) → Runs q mem mv l → scanned_at l d ≡ at → IsPart q mem l d at → RunsOn q mem mem1 mv1 (mark l d (at + 1) (object_at l d)))
-      (copies : (q : Plan) (l : Marks) (d : Bool) → Runs q mem mv l → scanned_at l d ≡ at → IsPart q mem l d at → at + 1 < object_at l d → IsPart q mem1 (mark l d (at + 1) (object_at l d)) d (at + 1)) where
+  module _ (mem1 : List ℕ) (mv1 : Moving) (each : ScansWord mem mem1 mv mv1 at)
+      (copies : GoesOnWithin mem mem1 mv at) where
     head-done : Going p mem mem1 mv1 (mark k b at at) b (at + 1) (at + 2)
     head-done =
         going-on p mem mem mem1 mv mv1 (mark k b at at) b at (at + 2) cell-going (omega arith)
@@ -195,7 +195,7 @@ module _ (p : Plan) (old mem : List ℕ) (mv : Moving) (k : Marks) (b : Bool) (a
         (copy-later p mem mem1 b o.v o.from (later-grows p nowhere mem mem1 head-done.on.later) o.copy) low (omega (arith, end)) in
         c.tail_is ∙ before ∙ sym after
 
-    pub cell-done : (mem2 : List ℕ) (mv2 : Moving) → ((q : Plan) (l : Marks) (d : Bool) → Runs q mem1 mv1 l → scanned_at l d ≡ at + 1 → IsPart q mem1 l d (at + 1) → RunsOn q mem1 mem2 mv2 (mark l d (at + 1 + 1) (object_at l d)))
+    pub cell-done : (mem2 : List ℕ) (mv2 : Moving) → ScansWord mem1 mem2 mv1 mv2 (at + 1)
         → RunsOn p old mem2 mv2 (mark k b (at + 2) (at + 2))
     cell-done mem2 mv2 last =
         let go : Going p mem mem2 mv2 (mark k b at at) b (at + 1 + 1) (at + 2) =

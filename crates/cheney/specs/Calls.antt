@@ -8,7 +8,7 @@ use Rattle.cheney.specs.Spans.{in_span}
 use Rattle.cheney.specs.Ranges.{stays}
 use Rattle.cheney.specs.Plan.{Plan, Reached, Leaves, IsOutside}
 use Rattle.cheney.specs.Moved.{moved, forward, IsImage, Shows, Copies}
-use Rattle.cheney.specs.Zones.{Marks, IsPart, scanned_at, object_at, at_objects}
+use Rattle.cheney.specs.Zones.{Marks, IsPart, mark, scanned_at, object_at, at_objects}
 use Rattle.cheney.specs.Rooms.{top_of, Advances, Runs}
 
 -- A collection runs, and its roots reach the word.
@@ -67,7 +67,8 @@ either s t q = s q || t q
 pub record Later (p : Plan) (written : ℕ → Bool) (mem mem2 : List ℕ) : Type 0 where
   pub gone : (v : ℕ) → Reached p v → Leaves p v → moved mem v ≡ true → moved mem2 v ≡ true
   pub same : (v : ℕ) → Reached p v → Leaves p v → moved mem v ≡ true → forward mem2 v ≡ forward mem v
-  pub elsewhere : (q : ℕ) → written q ≡ false → IsOutside p q → ((v : ℕ) → Reached p v → Leaves p v → Shows v q → ⊥) → slice_index mem2 q ≡ slice_index mem q
+  pub elsewhere : (q : ℕ) → written q ≡ false → IsOutside p q → ((v : ℕ) → Reached p v → Leaves p v → Shows v q → ⊥)
+      → slice_index mem2 q ≡ slice_index mem q
 
 -- The collection runs on, and the answer is what the word has become.
 pub record Evacuated (p : Plan) (mem mem2 : List ℕ) (mv2 : Moving) (k : Marks) (w x : ℕ) : Type 0 where
@@ -101,6 +102,21 @@ pub record CanStep (mem : List ℕ) (mv : Moving) (room : Bool) (place : ℕ) : 
   pub runs : Runs plan mem mv marks
   pub scanned : scanned_at marks room ≡ place
   pub part : IsPart plan mem marks room place
+
+-- Each collection whose next word to scan, a traced part's, lies at the place has come one word further.
+abbrev pub ScansWord : (mem mem2 : List ℕ) (mv mv2 : Moving) (at : ℕ) → Type 0
+ScansWord mem mem2 mv mv2 at = (p : Plan) (k : Marks) (b : Bool) → Runs p mem mv k → scanned_at k b ≡ at → IsPart p mem k b at
+    → RunsOn p mem mem2 mv2 (mark k b (at + 1) (object_at k b))
+
+-- Its next word is again one of that object, unless the object ends there.
+abbrev pub GoesOnWithin : (mem mem2 : List ℕ) (mv : Moving) (at : ℕ) → Type 0
+GoesOnWithin mem mem2 mv at = (p : Plan) (k : Marks) (b : Bool) → Runs p mem mv k → scanned_at k b ≡ at → IsPart p mem k b at
+    → at + 1 < object_at k b → IsPart p mem2 (mark k b (at + 1) (object_at k b)) b (at + 1)
+
+-- Each collection whose next whole object of the room lies at the place has come to a whole object at another one.
+abbrev pub ScansObjects : (mem mem2 : List ℕ) (mv mv2 : Moving) (room : Bool) (place next : ℕ) → Type 0
+ScansObjects mem mem2 mv mv2 room place next = (p : Plan) (k : Marks) → Runs p mem mv k → scanned_at k room ≡ place → object_at k room ≡ place
+    → place < top_of mv room → RunsOn p mem mem2 mv2 (mark k room next next)
 
 -- A cons that was copied a moment ago lies at the place of the room, with this head and this tail, and is not scanned.
 pub record IsNext (mem : List ℕ) (mv : Moving) (room : Bool) (place head tail : ℕ) : Type 0 where

@@ -73,7 +73,8 @@ pub record Collected (p : Plan) (m : List ℕ) (top : Bool → ℕ) : Type 0 whe
   pub filled : (b : Bool) → IsFilled p m b (top b)
   pub ends : (b : Bool) → top b ≤ p.high b
   pub words : used p top ≤ flat_of_all p.trees
-  pub trees : (d : ℕ → ℕ → Bool) → Follows p m d → (w x : ℕ) (t : Tree) → Reached p w → IsImage p m w x → Stands p.test p.shared p.start w t → Stands d p.shared m x t
+  pub trees : (d : ℕ → ℕ → Bool) → Follows p m d → (w x : ℕ) (t : Tree) → Reached p w → IsImage p m w x → Stands p.test p.shared p.start w t
+      → Stands d p.shared m x t
   pub roots : (d : ℕ → ℕ → Bool) → Follows p m d → (ws : List ℕ) → AreImages p m ws → AllStand d p.shared m ws p.trees
   pub standing : (w x : ℕ) (t : Tree) → Reached p w → IsImage p m w x → Stands p.test p.shared p.start w t → stands p.shared m x t
   pub still : (v q : ℕ) → Reached p v → IsPointer v → p.stay (v / 4) ≡ true → IsIn p v q → slice_index m q ≡ slice_index p.start q

@@ -50,7 +50,8 @@ pub record Gone (p : Plan) (m : List ℕ) (top scanned : Bool → ℕ) (v x : �
   pub from : p.low (p.mature (v / 4)) ≤ x / 4
   pub below : x / 4 + size p v ≤ top (p.mature (v / 4))
   pub raw : (j q : ℕ) → j < size p v → q ≡ x / 4 + j → (scanned (p.mature (v / 4)) ≤ q) ⊎ (j < first p v) → slice_index m q ≡ slice_index p.start (v / 4 + j)
-  pub image : (j q : ℕ) → first p v ≤ j → j < size p v → q ≡ x / 4 + j → q < scanned (p.mature (v / 4)) → IsImage p m (slice_index p.start (v / 4 + j)) (slice_index m q)
+  pub image : (j q : ℕ) → first p v ≤ j → j < size p v → q ≡ x / 4 + j → q < scanned (p.mature (v / 4))
+      → IsImage p m (slice_index p.start (v / 4 + j)) (slice_index m q)
 
 -- A row of whole copies, of some list of objects.
 pub record IsRow (p : Plan) (m : List ℕ) (room : Bool) (place top : ℕ) : Type 0 where

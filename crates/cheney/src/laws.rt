@@ -20,17 +20,21 @@ ghost use Rattle.cheney.specs.Next.{GoesOn, HasRoles, IsTiled, Remains, Succeeds
 /// objects of a list together, where those that do not lie so are in the list.
 pub fn counted_places_bound_rooms()
     ensures range { (p : Plan) (b : Bool) (from to : ℕ) → AllStand p.test p.shared p.start p.roots p.trees → IsSingle p.test → from ≤ to
-        → ((v : ℕ) → Reached p v → Leaves p v → p.mature (v / 4) ≡ b → (from ≤ v / 4) × (v / 4 + size p v ≤ to)) → p.low b + (to - from) ≤ p.high b → Fits p b }
+        → ((v : ℕ) → Reached p v → Leaves p v → p.mature (v / 4) ≡ b → (from ≤ v / 4) × (v / 4 + size p v ≤ to)) → p.low b + (to - from) ≤ p.high b
+        → Fits p b }
     ensures places { (p : Plan) (b : Bool) (from to : ℕ) (s : ℕ → Bool) → AllStand p.test p.shared p.start p.roots p.trees → IsSingle p.test → from ≤ to
         → ((v : ℕ) → Reached p v → Leaves p v → p.mature (v / 4) ≡ b → (from ≤ v / 4) × (v / 4 + size p v ≤ to))
         → ((v q : ℕ) → Reached p v → Leaves p v → p.mature (v / 4) ≡ b → IsIn p v q → s q ≡ true) → p.low b + count s from (to - from) ≤ p.high b → Fits p b }
-    ensures further { (p : Plan) (b : Bool) (from to : ℕ) (s : ℕ → Bool) (others : List ℕ) → AllStand p.test p.shared p.start p.roots p.trees → IsSingle p.test → from ≤ to
-        → ((v : ℕ) → Reached p v → Leaves p v → p.mature (v / 4) ≡ b → In v others ⊎ LiesIn p s from to v) → p.low b + (count s from (to - from) + total (size p) others) ≤ p.high b → Fits p b }
+    ensures further { (p : Plan) (b : Bool) (from to : ℕ) (s : ℕ → Bool) (others : List ℕ) → AllStand p.test p.shared p.start p.roots p.trees
+        → IsSingle p.test → from ≤ to
+        → ((v : ℕ) → Reached p v → Leaves p v → p.mature (v / 4) ≡ b → In v others ⊎ LiesIn p s from to v)
+        → p.low b + (count s from (to - from) + total (size p) others) ≤ p.high b → Fits p b }
 {}
 
 /// A collection that is ready, with two empty rooms, runs.
 pub fn ready_collections_run()
-    ensures { (p : Plan) (mv : Moving) → Ready p → Agrees p mv → mv.aged.top ≡ mv.aged.start → mv.young.top ≡ mv.young.start → Runs p p.start mv (at_objects mv.aged.start mv.young.start) }
+    ensures { (p : Plan) (mv : Moving) → Ready p → Agrees p mv → mv.aged.top ≡ mv.aged.start → mv.young.top ≡ mv.young.start
+        → Runs p p.start mv (at_objects mv.aged.start mv.young.start) }
 {}
 
 /// What a word has become stays that, whatever is moved later; and what two calls do, one after the other, is again what
@@ -46,20 +50,25 @@ pub fn images_last()
 /// word with a role that is neither 3 nor 4, such as a record's or a `next`; and each word in no room that stays, reached or
 /// not, where no cons that moves reaches into it.
 pub fn calls_change_no_other_words()
-    ensures free { (p : Plan) (s : ℕ → Bool) (a b : List ℕ) (q : ℕ) → Ready p → Later p s a b → s q ≡ false → IsOutside p q → ((k : ℕ) → p.test q k ≡ true → ⊥) → slice_index b q ≡ slice_index a q }
-    ensures other { (p : Plan) (s : ℕ → Bool) (a b : List ℕ) (q k : ℕ) → Ready p → Later p s a b → s q ≡ false → p.test q k ≡ true → (k ≡ 3 → ⊥) → (k ≡ 4 → ⊥) → slice_index b q ≡ slice_index a q }
-    ensures stays { (p : Plan) (s : ℕ → Bool) (a b : List ℕ) (q : ℕ) → Later p s a b → s q ≡ false → IsOutside p q → p.stay q ≡ true → IsNoTail p q → slice_index b q ≡ slice_index a q }
+    ensures free { (p : Plan) (s : ℕ → Bool) (a b : List ℕ) (q : ℕ) → Ready p → Later p s a b → s q ≡ false → IsOutside p q → ((k : ℕ)
+        → p.test q k ≡ true → ⊥) → slice_index b q ≡ slice_index a q }
+    ensures other { (p : Plan) (s : ℕ → Bool) (a b : List ℕ) (q k : ℕ) → Ready p → Later p s a b → s q ≡ false → p.test q k ≡ true → (k ≡ 3 → ⊥) → (k ≡ 4
+        → ⊥) → slice_index b q ≡ slice_index a q }
+    ensures stays { (p : Plan) (s : ℕ → Bool) (a b : List ℕ) (q : ℕ) → Later p s a b → s q ≡ false → IsOutside p q → p.stay q ≡ true → IsNoTail p q
+        → slice_index b q ≡ slice_index a q }
 {}
 
 /// A caller may write between two calls, away from the rooms and from all words with a role: roots that stand in the memory.
 pub fn writes_beside_keep_collections()
     ensures runs { (p : Plan) (mem mem2 : List ℕ) (mv : Moving) (k : Marks) → Runs p mem mv k → IsBeside p mem mem2 (top_of mv) → Runs p mem2 mv k }
-    ensures images { (p : Plan) (mem mem2 : List ℕ) (top : Bool → ℕ) (w x : ℕ) → Ready p → IsBeside p mem mem2 top → Reached p w → IsImage p mem w x → IsImage p mem2 w x }
+    ensures images { (p : Plan) (mem mem2 : List ℕ) (top : Bool → ℕ) (w x : ℕ) → Ready p → IsBeside p mem mem2 top → Reached p w → IsImage p mem w x
+        → IsImage p mem2 w x }
 {}
 
 /// A word outside the used places of the rooms that has no role may be written: a stack place, a register in the memory.
 pub fn places_without_roles_lie_beside()
-    ensures { (p : Plan) (mem : List ℕ) (top : Bool → ℕ) (a w : ℕ) → ((b : Bool) → (a < p.low b) ⊎ (top b ≤ a)) → ((k : ℕ) → p.test a k ≡ true → ⊥) → IsBeside p mem (slice_set mem a w) top }
+    ensures { (p : Plan) (mem : List ℕ) (top : Bool → ℕ) (a w : ℕ) → ((b : Bool) → (a < p.low b) ⊎ (top b ≤ a)) → ((k : ℕ) → p.test a k ≡ true → ⊥)
+        → IsBeside p mem (slice_set mem a w) top }
 {}
 
 /// Roots by membership, and what they have become list by list: registers and stacks of one process after another. Words at
@@ -70,8 +79,10 @@ pub fn roots_become_images()
     ensures reached { (p : Plan) (w : ℕ) → In w p.roots → Reached p w }
     ensures moved { (p : Plan) (m : List ℕ) → ((w : ℕ) → In w p.roots → Leaves p w → moved m w ≡ true) → RootsMoved p m }
     ensures join { (p : Plan) (m vs xs ws ys : List ℕ) → AllImages p m vs xs → AllImages p m ws ys → AllImages p m (vs ++ ws) (xs ++ ys) }
-    ensures later { (p : Plan) (s : ℕ → Bool) (m n vs xs : List ℕ) → Later p s m n → ((w : ℕ) → In w vs → Reached p w) → AllImages p m vs xs → AllImages p n vs xs }
-    ensures beside { (p : Plan) (m n vs xs : List ℕ) (top : Bool → ℕ) → Ready p → IsBeside p m n top → ((w : ℕ) → In w vs → Reached p w) → AllImages p m vs xs → AllImages p n vs xs }
+    ensures later { (p : Plan) (s : ℕ → Bool) (m n vs xs : List ℕ) → Later p s m n → ((w : ℕ) → In w vs → Reached p w) → AllImages p m vs xs
+        → AllImages p n vs xs }
+    ensures beside { (p : Plan) (m n vs xs : List ℕ) (top : Bool → ℕ) → Ready p → IsBeside p m n top → ((w : ℕ) → In w vs → Reached p w)
+        → AllImages p m vs xs → AllImages p n vs xs }
     ensures all { (p : Plan) (m ws : List ℕ) → AllImages p m p.roots ws → RootsMoved p m × AreImages p m ws }
     ensures back { (p : Plan) (m ws : List ℕ) → AreImages p m ws → AllImages p m p.roots ws }
     ensures elsewhere { (from step n q : ℕ) → ((j : ℕ) → j < n → (q ≡ from + j * step) → ⊥) → in_places from step n q ≡ false }
@@ -85,7 +96,8 @@ pub fn scanned_collections_are_whole()
 
 /// What an object has become has its size and its first traced word.
 pub fn images_keep_their_shape()
-    ensures { (p : Plan) (m : List ℕ) (mv : Moving) (v x : ℕ) → Runs p m mv (at_objects mv.aged.top mv.young.top) → RootsMoved p m → Reached p v → IsPointer v → IsImage p m v x
+    ensures { (p : Plan) (m : List ℕ) (mv : Moving) (v x : ℕ) → Runs p m mv (at_objects mv.aged.top mv.young.top) → RootsMoved p m → Reached p v
+        → IsPointer v → IsImage p m v x
         → (object_words m x ≡ size p v) × (first_traced m x ≡ first p v) }
 {}
 
@@ -101,7 +113,8 @@ pub fn memories_get_single_roles()
 
 /// Each room is filled with whole objects, side by side.
 pub fn rooms_are_tiled()
-    ensures { (p : Plan) (m : List ℕ) (mv : Moving) (b : Bool) → Runs p m mv (at_objects mv.aged.top mv.young.top) → RootsMoved p m → IsTiled p m b (top_of mv b) }
+    ensures { (p : Plan) (m : List ℕ) (mv : Moving) (b : Bool) → Runs p m mv (at_objects mv.aged.top mv.young.top) → RootsMoved p m
+        → IsTiled p m b (top_of mv b) }
 {}
 
 /// A collection can follow another whose rooms hold no record and nothing else that keeps a role, as between two halves of
@@ -112,5 +125,6 @@ pub fn collections_can_follow()
         → (v : ℕ) → Reached q v → Leaves q v → (b : Bool) × ((p.low b ≤ v / 4) × (v / 4 + size q v ≤ top_of mv b)) }
     ensures fits { (p q : Plan) (m : List ℕ) (mv : Moving) → Runs p m mv (at_objects mv.aged.top mv.young.top) → RootsMoved p m → Succeeds p q m
         → (b : Bool) → q.low b ≤ q.high b → (q.low b + used p (top_of mv) ≤ q.high b) ⊎ ((a : ℕ) → q.mature a ≡ b → ⊥) → Fits q b }
-    ensures ready { (p q : Plan) (m : List ℕ) (mv : Moving) (s : ℕ → ℕ → Bool) → Runs p m mv (at_objects mv.aged.top mv.young.top) → RootsMoved p m → (r : HasRoles p m s) → GoesOn p q m (top_of mv) s r → Ready q }
+    ensures ready { (p q : Plan) (m : List ℕ) (mv : Moving) (s : ℕ → ℕ → Bool) → Runs p m mv (at_objects mv.aged.top mv.young.top) → RootsMoved p m
+        → (r : HasRoles p m s) → GoesOn p q m (top_of mv) s r → Ready q }
 {}

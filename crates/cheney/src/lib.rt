@@ -1,8 +1,6 @@
-//! The collector: what the roots reach is copied to two rooms, each object once, and all words that name it follow.
-//! A whole collection moves each root by one of the calls below, and then scans what was copied, until nothing of it names
-//! the old places. It promises the new words of the roots for the trees that the old ones stood for, and that what stays is as
-//! it was. A caller owes a plan (what the roots stand for, what stays, two rooms that hold what goes there) and, between
-//! calls, writes only where no object, record or room lies.
+//! The collector. A whole collection moves each root by one of the calls below and scans until nothing copied names an old place.
+//! It promises that the roots' new words stand for the trees of the old ones, each object copied once, and that what stays stays.
+//! A caller owes a plan (what the roots stand for, what stays, rooms that hold the rest), and writes only beside these in between.
 #![tactic(auto)]
 
 mod collection;

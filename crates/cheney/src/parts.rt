@@ -4,9 +4,9 @@ ghost use Rattle.term_words.specs.Object.{IsPointer};
 ghost use Rattle.term_tags.specs.Table.{layout_for};
 ghost use Rattle.term_tags.specs.declared.layouts.Layout.{Layout};
 ghost use Rattle.cheney.specs.Plan.{Plan};
-ghost use Rattle.cheney.specs.Zones.{Marks, IsPart, at_objects, mark, object_at, scanned_at};
-ghost use Rattle.cheney.specs.Rooms.{Runs, top_of};
-ghost use Rattle.cheney.specs.Calls.{CanScan, CanOpen, CanStep, RunsOn};
+ghost use Rattle.cheney.specs.Zones.{at_objects};
+ghost use Rattle.cheney.specs.Rooms.{Runs};
+ghost use Rattle.cheney.specs.Calls.{CanScan, CanOpen, CanStep, GoesOnWithin, RunsOn, ScansObjects, ScansWord};
 
 use crate::moving::Moving;
 use crate::objects::evacuate;
@@ -19,7 +19,8 @@ use word_mem::WordMem;
 /// that is in use already is given from its first free place on.
 pub fn scan(mem: &mut WordMem, mv: &mut Moving)
     requires { CanScan mem.old mv.old }
-    ensures { (p : Plan) → Runs p mem.old mv.old (at_objects mv.old.aged.start mv.old.young.start) → RunsOn p mem.old mem.new mv.new (at_objects mv.new.aged.top mv.new.young.top) }
+    ensures { (p : Plan) → Runs p mem.old mv.old (at_objects mv.old.aged.start mv.old.young.start)
+        → RunsOn p mem.old mem.new mv.new (at_objects mv.new.aged.top mv.new.young.top) }
 {
     let mut aged = mv.aged.start;
     let mut young = mv.young.start;
@@ -39,7 +40,7 @@ pub fn scan(mem: &mut WordMem, mv: &mut Moving)
 #[inline]
 fn scan_object(mem: &mut WordMem, mv: &mut Moving, aged: bool, place: u64) -> u64
     requires { CanOpen mem.old mv.old aged place }
-    ensures each { (p : Plan) (k : Marks) → Runs p mem.old mv.old k → scanned_at k aged ≡ place → object_at k aged ≡ place → place < top_of mv.old aged → RunsOn p mem.old mem.new mv.new (mark k aged result result) }
+    ensures each { ScansObjects mem.old mem.new mv.old mv.new aged place result }
     ensures further { place < result }
     ensures ends { (mv.new.aged.end ≡ mv.old.aged.end) × (mv.new.young.end ≡ mv.old.young.end) }
 {
@@ -57,7 +58,7 @@ fn scan_boxed(mem: &mut WordMem, mv: &mut Moving, place: u64, header: u64) -> u6
     requires can { (b : Bool) × CanOpen mem.old mv.old b place }
     requires header { header ≡ slice_index mem.old place }
     requires boxed { header % 4 ≡ 0 }
-    ensures each { (p : Plan) (k : Marks) (b : Bool) → Runs p mem.old mv.old k → scanned_at k b ≡ place → object_at k b ≡ place → place < top_of mv.old b → RunsOn p mem.old mem.new mv.new (mark k b result result) }
+    ensures each { (b : Bool) → ScansObjects mem.old mem.new mv.old mv.new b place result }
     ensures further { place < result }
     ensures ends { (mv.new.aged.end ≡ mv.old.aged.end) × (mv.new.young.end ≡ mv.old.young.end) }
 {
@@ -77,8 +78,8 @@ fn scan_boxed(mem: &mut WordMem, mv: &mut Moving, place: u64, header: u64) -> u6
 pub fn scan_word(mem: &mut WordMem, mv: &mut Moving, at: u64, w: u64)
     requires can { (b : Bool) × CanStep mem.old mv.old b at }
     requires word { w ≡ slice_index mem.old at }
-    ensures each { (p : Plan) (k : Marks) (b : Bool) → Runs p mem.old mv.old k → scanned_at k b ≡ at → IsPart p mem.old k b at → RunsOn p mem.old mem.new mv.new (mark k b (at + 1) (object_at k b)) }
-    ensures copies { (p : Plan) (k : Marks) (b : Bool) → Runs p mem.old mv.old k → scanned_at k b ≡ at → IsPart p mem.old k b at → at + 1 < object_at k b → IsPart p mem.new (mark k b (at + 1) (object_at k b)) b (at + 1) }
+    ensures each { ScansWord mem.old mem.new mv.old mv.new at }
+    ensures copies { GoesOnWithin mem.old mem.new mv.old at }
 {
     if is_pointer(w) {
         let new = evacuate(mem, mv, w);

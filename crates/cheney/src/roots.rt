@@ -14,7 +14,8 @@ use word_mem::WordMem;
 pub fn evacuate_all(mem: &mut WordMem, mv: &mut Moving, words: &mut [u64])
     requires { CanMoveAll mem.old mv.old words.old }
     ensures len { length words.new ≡ length words.old }
-    ensures each { (p : Plan) (k : Marks) → Runs p mem.old mv.old k → ((w : ℕ) → In w words.old → Reached p w) → AllEvacuated p mem.old mem.new mv.new k words.old words.new }
+    ensures each { (p : Plan) (k : Marks) → Runs p mem.old mv.old k → ((w : ℕ) → In w words.old → Reached p w)
+        → AllEvacuated p mem.old mem.new mv.new k words.old words.new }
 {
     for i in 0..words.len() {
         let w = words[i];
@@ -27,7 +28,8 @@ pub fn evacuate_all(mem: &mut WordMem, mv: &mut Moving, words: &mut [u64])
 #[inline]
 pub fn evacuate_at(mem: &mut WordMem, mv: &mut Moving, place: u64)
     requires { CanMoveAt mem.old mv.old place }
-    ensures { (p : Plan) (k : Marks) → Runs p mem.old mv.old k → IsFree p place → Reached p (slice_index mem.old place) → EvacuatedAt p mem.old mem.new mv.new k place }
+    ensures { (p : Plan) (k : Marks) → Runs p mem.old mv.old k → IsFree p place → Reached p (slice_index mem.old place)
+        → EvacuatedAt p mem.old mem.new mv.new k place }
 {
     let _len = mem.len();
     let w = mem.get(place);
@@ -39,7 +41,8 @@ pub fn evacuate_at(mem: &mut WordMem, mv: &mut Moving, place: u64)
 pub fn evacuate_places(mem: &mut WordMem, mv: &mut Moving, from: u64, step: u64, count: u64)
     requires apart { 0 < step }
     requires can { CanMovePlaces mem.old mv.old from step count }
-    ensures { (p : Plan) (k : Marks) → Runs p mem.old mv.old k → AreRoots p mem.old from step count → PlacesEvacuated p mem.old mem.new mv.new k from step count }
+    ensures { (p : Plan) (k : Marks) → Runs p mem.old mv.old k → AreRoots p mem.old from step count
+        → PlacesEvacuated p mem.old mem.new mv.new k from step count }
 {
     let _len = mem.len();
     for i in 0..count {

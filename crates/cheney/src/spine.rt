@@ -1,9 +1,6 @@
 // Moving a list along its spine.
 ghost use Rattle.std.specs.Prelude.{◌≡◌, ℕ, Bool, ◌+◌, ◌%◌, ◌<◌, slice_index, IfSome, IfNone};
-ghost use Rattle.cheney.specs.Plan.{Plan};
-ghost use Rattle.cheney.specs.Zones.{Marks, IsPart, mark, object_at, scanned_at};
-ghost use Rattle.cheney.specs.Rooms.{Runs, top_of};
-ghost use Rattle.cheney.specs.Calls.{CanMove, CanOpen, CanStep, IsFresh, IsNext, RunsOn};
+ghost use Rattle.cheney.specs.Calls.{CanMove, CanOpen, CanStep, IsFresh, IsNext, ScansObjects, ScansWord};
 
 use crate::moving::Moving;
 use crate::objects::{copy_cons, is_in, stays_at};
@@ -24,7 +21,7 @@ pub fn scan_spine(mem: &mut WordMem, mv: &mut Moving, aged: bool, place: u64, he
     requires can { CanOpen mem.old mv.old aged place }
     requires head { head ≡ slice_index mem.old place }
     requires cons { head % 4 ≡ 0 → ⊥ }
-    ensures each { (p : Plan) (k : Marks) → Runs p mem.old mv.old k → scanned_at k aged ≡ place → object_at k aged ≡ place → place < top_of mv.old aged → RunsOn p mem.old mem.new mv.new (mark k aged result result) }
+    ensures each { ScansObjects mem.old mem.new mv.old mv.new aged place result }
     ensures further { place < result }
     ensures ends { (mv.new.aged.end ≡ mv.old.aged.end) × (mv.new.young.end ≡ mv.old.young.end) }
 {
@@ -51,7 +48,7 @@ pub fn scan_spine(mem: &mut WordMem, mv: &mut Moving, aged: bool, place: u64, he
 fn scan_tail(mem: &mut WordMem, mv: &mut Moving, aged: bool, at: u64, w: u64) -> Option<Cell>
     requires can { CanStep mem.old mv.old aged at }
     requires word { w ≡ slice_index mem.old at }
-    ensures each { (p : Plan) (k : Marks) (b : Bool) → Runs p mem.old mv.old k → scanned_at k b ≡ at → IsPart p mem.old k b at → RunsOn p mem.old mem.new mv.new (mark k b (at + 1) (object_at k b)) }
+    ensures each { ScansWord mem.old mem.new mv.old mv.new at }
     ensures next { IfSome result (λ c. IsNext mem.new mv.new aged c.place c.head c.tail) }
 {
     let Some((head, tail)) = fresh_cons(mem, mv, w) else {

@@ -33,7 +33,7 @@ loop-at-preserved c = λ p k b run s o less.
     (c.scan_word.ensures.copies p (mark k b c.loop-at.at (c.args.place + (1 + c.args.header / 64))) b go.on.runs (scanned-here k b c.loop-at.at (c.args.place + (1 + c.args.header / 64))))
 
 pub returns-clause-each : goal.returns-clause-each
-returns-clause-each c = λ p k b run s o less.
+returns-clause-each c = λ b p k run s o less.
     gone-through p c.args.mem.now c.loop-at.mem c.loop-at.mv k b c.loop-at.at (c.args.place + (1 + c.args.header / 64)) (c.loop-at.invariant p k b run s o less) c.loop-at-test.false
 
 pub returns-clause-ends : goal.returns-clause-ends
