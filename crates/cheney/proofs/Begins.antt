@@ -18,7 +18,8 @@ use Rattle.cheney.proofs.Ends.{collected, composes, shape-image}
 
 -- No object shows a move before one is made.
 not-moved : (p : Plan) → Ground p → (v : ℕ) → Reached p v → IsPointer v → moved p.start v ≡ false
-not-moved p g v r (inl tag) = moved-cons p.start v tag ∙ (let n : get_or p.start (v / 4) 0 % 4 ≡ 0 → ⊥ = g.head v r tag in let m : get_or p.start (v / 4) 0 ≡ 0 → ⊥ = λ e. n (ap (λ z. z % 4) e) in grind (arith, nat_tests))
+not-moved p g v r (inl tag) = moved-cons p.start v tag ∙ (let n : get_or p.start (v / 4) 0 % 4 ≡ 0 → ⊥ = g.head v r tag in let m : get_or p.start (v / 4) 0 ≡ 0 → ⊥ = λ e. n
+    (ap (λ z. z % 4) e) in grind (arith, nat_tests))
 not-moved p g v r (inr tag) = moved-boxed p.start v tag ∙ (let h : get_or p.start (v / 4) 0 % 4 ≡ 0 = g.header v r tag in rw h refl)
 
 module _ (p : Plan) (mv : Moving) (y : Ready p) (a : Agrees p mv) (et : mv.aged.top ≡ mv.aged.start) (eu : mv.young.top ≡ mv.young.start) where

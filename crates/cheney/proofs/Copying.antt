@@ -53,10 +53,12 @@ module _ (m a b d n : List ℕ) (w to head tail : ℕ) (tag : w % 4 ≡ 1) (h : 
         ];
     shown = moved-cons n w tag ∙ (rw at-head refl);
     found = forward-cons n w tag ∙ at-tail;
-    rest = λ q away hides. after-b q (λ e. hides (inl e)) (λ e. hides (inr (tag, e))) ∙ other-of a b (to + 1) tail e2 q (λ e. omega (arith, away)) ∙ other-of m a to head e1 q (λ e. omega (arith, away));
+    rest = λ q away hides. after-b q (λ e. hides (inl e)) (λ e. hides (inr (tag, e))) ∙ other-of a b (to + 1) tail e2 q (λ e. omega (arith, away)) ∙ other-of m a to head e1 q
+        (λ e. omega (arith, away));
   }
 
-module _ (m a b n : List ℕ) (w to header rest : ℕ) (tag : w % 4 ≡ 2) (h : header ≡ get_or m (w / 4) 0) (size : rest ≡ header / 64) (within : w / 4 + (1 + rest) ≤ length m) (fits : to + (1 + rest) ≤ length m)
+module _ (m a b n : List ℕ) (w to header rest : ℕ) (tag : w % 4 ≡ 2) (h : header ≡ get_or m (w / 4) 0) (size : rest ≡ header / 64) (within : w / 4 + (1 + rest) ≤ length m)
+    (fits : to + (1 + rest) ≤ length m)
     (apart : (w / 4 + (1 + rest) ≤ to) ⊎ (to + (1 + rest) ≤ w / 4)) (len-a : length a ≡ length m)
     (brought : (p q : ℕ) → to + 1 ≤ q → q < to + 1 + rest → p + (to + 1) ≡ q + (w / 4 + 1) → get_or a q 0 ≡ get_or m p 0)
     (stayed : (q : ℕ) → (q < to + 1) ⊎ (to + 1 + rest ≤ q) → get_or a q 0 ≡ get_or m q 0)
@@ -80,5 +82,6 @@ module _ (m a b n : List ℕ) (w to header rest : ℕ) (tag : w % 4 ≡ 2) (h : 
         ];
     shown = moved-boxed n w tag ∙ (let two : (to * 4 + 2) % 4 ≡ 2 = omega arith in rw at-place (grind (arith, nat_tests)));
     found = forward-boxed n w tag ∙ at-place;
-    rest = λ q away hides. other-of b n (w / 4) (to * 4 + 2) e3 q (λ e. hides (inl e)) ∙ other-of a b to header e2 q (λ e. omega (arith, away)) ∙ stayed q (elim away [ inl z ↦ inl (omega arith) | inr z ↦ inr (omega arith) ]);
+    rest = λ q away hides. other-of b n (w / 4) (to * 4 + 2) e3 q (λ e. hides (inl e)) ∙ other-of a b to header e2 q (λ e. omega (arith, away)) ∙ stayed q
+        (elim away [ inl z ↦ inl (omega arith) | inr z ↦ inr (omega arith) ]);
   }

@@ -15,7 +15,8 @@ unfolding size
 total-words p [] = refl
 total-words p (v ∷ vs) = ap (λ z. object_words p.start v + z) (total-words p vs)
 
-pub in-row : (p : Plan) (m : List ℕ) (b : Bool) (place : ℕ) (vs : List ℕ) (top : ℕ) → Row p m b place vs top → (v : ℕ) → In v vs → Reached p v × (Leaves p v × ((p.mature (v / 4) ≡ b) × (place ≤ forward m v / 4)))
+pub in-row : (p : Plan) (m : List ℕ) (b : Bool) (place : ℕ) (vs : List ℕ) (top : ℕ) → Row p m b place vs top → (v : ℕ) → In v vs → Reached p v ×
+    (Leaves p v × ((p.mature (v / 4) ≡ b) × (place ≤ forward m v / 4)))
 in-row p m b place [] top row v i = absurd i
 in-row p m b place (u ∷ vs) top (c, row) v (inl e) =
     let P : ℕ → Type 0 = λ z. Reached p z × (Leaves p z × ((p.mature (z / 4) ≡ b) × (place ≤ forward m z / 4))) in
@@ -24,8 +25,11 @@ in-row p m b place (u ∷ vs) top (c, row) v (inr i) = let (r, (l, (g, h))) = in
 
 row-distinct : (p : Plan) (m : List ℕ) (b : Bool) (place : ℕ) (vs : List ℕ) (top : ℕ) → Row p m b place vs top → Distinct vs
 row-distinct p m b place [] top row = tt
-row-distinct p m b place (v ∷ vs) top (c, row) =
-    ((λ i. let (r, (l, (g, h))) = in-row p m b (place + size p v) vs top row v i in omega (arith, h, c.word, c.leaves.pointer, size-some p v c.leaves.pointer)), row-distinct p m b (place + size p v) vs top row)
+row-distinct p m b place (v ∷ vs) top (c, row) = (
+  (λ i. let (r, (l, (g, h))) = in-row p m b (place + size p v) vs top row v i in omega (arith, h, c.word, c.leaves.pointer, size-some p v c.leaves.pointer)),
+  row-distinct p m b
+      (place + size p v) vs top row,
+)
 
 pub words-bounded : (p : Plan) → Ready p → (m : List ℕ) (a b c e : ℕ) (xs zs : List ℕ) → Row p m true a xs b → Row p m false c zs e → total (size p) xs + total (size p) zs ≤ flat_of_all p.trees
 words-bounded p y m a b c e xs zs r s =

@@ -43,7 +43,16 @@ covers p m b place (v ∷ vs) top q (c, row) low high =
     elim cut [
       | inl z ↦ record { v = v; from = place; listed = inl refl; copy = c; above = low; below = z; old = (let e : nat_lt q (place + size p v) ≡ true = grind (arith, nat_tests) in rw e refl) }
       | inr z ↦ (let o : Covers p m b (place + size p v) vs q = covers p m b (place + size p v) vs top q row z high in
-          record { v = o.v; from = o.from; listed = inr o.listed; copy = o.copy; above = o.above; below = o.below; old = (let e : nat_lt q (place + size p v) ≡ false = grind (arith, nat_tests) in rw e o.old) })
+          record {
+            v = o.v;
+            from = o.from;
+            listed = inr o.listed;
+            copy = o.copy;
+            above = o.above;
+            below = o.below;
+            old =
+                (let e : nat_lt q (place + size p v) ≡ false = grind (arith, nat_tests) in rw e o.old);
+          })
     ]
 
 -- The words of a row are those of its objects.
@@ -119,7 +128,8 @@ module _ (p : Plan) (y : Ready p) (g : Ground p) (m : List ℕ) (top : Bool → 
             let low : p.low b ≤ forward m v / 4 = subst P goes c.from in
             let high : forward m v / 4 + size p v ≤ top b = subst Q goes c.below in
             let at : Covers p m b (p.low b) o.each (forward m v / 4) = covers p m b (p.low b) o.each (top b) (forward m v / 4) o.row low (omega arith) in
-            let same : (v ≡ at.v) × (forward m v / 4 ≡ at.from + 0) = at-copy p m top k i b at.v at.from at.copy v 0 (forward m v / 4) r l (complete v r l) goes (omega arith) some at.above at.below in
+            let same : (v ≡ at.v) × (forward m v / 4 ≡ at.from + 0) = at-copy p m top k i b at.v at.from at.copy v 0 (forward m v / 4) r l (complete v r l) goes (omega arith) some at.above
+            at.below in
             let R : ℕ → Type 0 = λ z. In z o.each in
             subst R (sym same.0) at.listed;
       }

@@ -112,7 +112,12 @@ module _ (p : Plan) (y : Ready p) (m : List ℕ) (d : ℕ → ℕ → Bool) (z :
   role-kept a k r h of t =
       let e : r ≡ k = y.single.one a r k h t in
       let P : ℕ → Type 0 = λ x. d a x ≡ true in
-      subst P e (elim of [ inl two ↦ (let Q : ℕ → Type 0 = λ x. p.test a x ≡ true in subst P (sym two) (z.counts a (subst Q two h))) | inr (inl six) ↦ z.tests a r (omega arith) h | inr (inr eight) ↦ z.tests a r (omega arith) h ])
+      subst P e (elim of [
+        | inl two ↦ (let Q : ℕ → Type 0 = λ x. p.test a x ≡ true in subst P (sym two) (z.counts a (subst Q two h)))
+        | inr (inl six) ↦ z.tests a r (omega arith) h
+        | inr
+            (inr eight) ↦ z.tests a r (omega arith) h
+      ])
 
   copied-to : (v n : ℕ) → IsRecord p.test p.start v n → IsCopiedTo p.test d p.start m v v n
   copied-to v n o = record {

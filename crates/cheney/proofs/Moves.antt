@@ -149,7 +149,8 @@ module _ (p : Plan) (g : Ground p) (m n : List ℕ) (top more : Bool → ℕ) (k
         let made : IsRow p m (p.mature (w / 4)) place (top (p.mature (w / 4))) → IsRow p n (p.mature (w / 4)) place (more (p.mature (w / 4))) = λ y. record {
           each = y.each ++ w ∷ [];
           row = (let Q : ℕ → Type 0 = λ z. Row p n (p.mature (w / 4)) place (y.each ++ w ∷ []) z in
-              subst Q (sym grown) (row-more p n (p.mature (w / 4)) place y.each (top (p.mature (w / 4))) w (row-later p m n (p.mature (w / 4)) place y.each (top (p.mature (w / 4))) move-grows y.row) new-copy));
+              subst Q (sym grown) (row-more p n (p.mature (w / 4)) place y.each (top (p.mature (w / 4))) w
+              (row-later p m n (p.mature (w / 4)) place y.each (top (p.mature (w / 4))) move-grows y.row) new-copy));
         } in
         subst P (sym e) made o)
     | inr ne ↦ record {

@@ -89,7 +89,8 @@ module _ (p : Plan) (y : Ready p) (m : List ℕ) (top : Bool → ℕ) (o : Colle
       let b : Bool = p.mature (v / 4) in
       let c : IsMoved p m top v (forward m v) = o.copies v r l in
       let at : Covers p m (p.mature (v / 4)) (p.low (p.mature (v / 4))) (o.filled (p.mature (v / 4))).each q =
-      covers p m (p.mature (v / 4)) (p.low (p.mature (v / 4))) (o.filled (p.mature (v / 4))).each (top (p.mature (v / 4))) q (o.filled (p.mature (v / 4))).row (omega (arith, c.from, e)) (omega (arith, c.below, e, less)) in
+      covers p m (p.mature (v / 4)) (p.low (p.mature (v / 4))) (o.filled (p.mature (v / 4))).each (top (p.mature (v / 4))) q (o.filled (p.mature (v / 4))).row (omega (arith, c.from, e))
+      (omega (arith, c.below, e, less)) in
       let home : forward m at.v / 4 ≡ at.from = omega (arith, at.copy.word, at.copy.leaves.pointer) in
       origin-in (p.mature (v / 4)) q (omega (arith, c.from, e)) (omega (arith, c.below, e, less)) ∙ at.old ∙ (elim (o.one_to_one v at.v r l at.copy.reached at.copy.leaves) [
         | inl same ↦ (let f : forward m v / 4 ≡ at.from = ap (λ z. forward m z / 4) same ∙ home in omega (arith, ap (λ z. z / 4) same, f, e))
@@ -185,8 +186,14 @@ module _ (p : Plan) (m : List ℕ) (mv : Moving) (run : Runs p m mv (at_objects 
       let c : IsMoved p m (top_of mv) v (forward m v) = o.copies v r l in
       let pointer : IsPointer (forward m v) = elim l.pointer [ inl a ↦ inl (omega (arith, a, c.tag)) | inr a ↦ inr (omega (arith, a, c.tag)) ] in
       let (here, is, rest) = tiled-object always p.shared m (forward m v) t (o.standing v (forward m v) t r im s) pointer in
-      let other : (forward m v % 4 == 0) ≡ false = grind (arith, nat_tests, pointer) in
-      (omega (arith, e, l.pointer), (is, (rw other (shape-image p run.ready (ground p run.ready) m (top_of mv) (at_objects mv.aged.top mv.young.top) run.holds (done mv) roots.each v (forward m v) r l.pointer im).0)))
+      let other : (forward m v % 4 == 0) ≡ false = grind (arith, nat_tests, pointer) in (
+        omega (arith, e, l.pointer),
+        (
+          is,
+          (rw other (shape-image p run.ready (ground p run.ready) m (top_of mv) (at_objects mv.aged.top mv.young.top) run.holds (done mv) roots.each v
+              (forward m v) r l.pointer im).0),
+        ),
+      )
 
   row-tiled : (b : Bool) (place : ℕ) (vs : List ℕ) (top : ℕ) → Row p m b place vs top → Tiled m place (forwards m vs) top
   unfolding forwards
@@ -201,7 +208,8 @@ module _ (p : Plan) (m : List ℕ) (mv : Moving) (run : Runs p m mv (at_objects 
     tiles = forwards m (o.filled b).each;
     row = row-tiled b (p.low b) (o.filled b).each (top_of mv b) (o.filled b).row;
     all = λ v r l goes. in-forwards m v (forward m v) (o.filled b).each ((o.filled b).all v r l goes) refl;
-    only = λ x i. let (v, (j, e)) = of-forwards m x (o.filled b).each i in let (r, (l, (goes, low))) = in-row p m b (p.low b) (o.filled b).each (top_of mv b) (o.filled b).row v j in (v, (r, (l, (goes, e))));
+    only = λ x i. let (v, (j, e)) = of-forwards m x (o.filled b).each i in let (r, (l, (goes, low))) = in-row p m b (p.low b) (o.filled b).each (top_of mv b) (o.filled b).row v j in
+        (v, (r, (l, (goes, e))));
   }
 
 module _ (p q : Plan) (m : List ℕ) (mv : Moving) (run : Runs p m mv (at_objects mv.aged.top mv.young.top)) (roots : RootsMoved p m) (o : Collected p m (top_of mv)) (n : Succeeds p q m) where
@@ -237,7 +245,8 @@ module _ (p q : Plan) (m : List ℕ) (mv : Moving) (run : Runs p m mv (at_object
       (p.mature (v / 4), subst P (sym e) (c.from, omega (arith, c.below, (shape v (forward m v) tv lv.pointer (moved-image v tv lv)).0)))
 
   -- What stays points to nothing that moves, where the rooms in use hold nothing that stays.
-  closed-again : ((a : ℕ) (b : Bool) → p.low b ≤ a → a < top_of mv b → p.stay a ≡ false) → (x j : ℕ) → Reached q x → IsPointer x → q.stay (x / 4) ≡ true → first q x ≤ j → j < size q x → Leaves q (get_or q.start (x / 4 + j) 0) → ⊥
+  closed-again : ((a : ℕ) (b : Bool) → p.low b ≤ a → a < top_of mv b → p.stay a ≡ false) → (x j : ℕ) → Reached q x → IsPointer x → q.stay (x / 4) ≡ true → first q x ≤ j → j < size q x →
+      Leaves q (get_or q.start (x / 4 + j) 0) → ⊥
   closed-again moving x j t i stay from below l =
       let (v, (tv, im)) = source x t in
       let there : p.stay (x / 4) ≡ true = sym (n.stay (x / 4)) ∙ stay in
@@ -250,9 +259,11 @@ module _ (p q : Plan) (m : List ℕ) (mv : Moving) (run : Runs p m mv (at_object
             let I : ℕ → Type 0 = λ z. IsImage p m z x in
             let tx : Reached p x = subst R e tv in
             let (size_is, first_is) = shape x x tx i (subst I e im) in
-            let word : get_or q.start (x / 4 + j) 0 ≡ get_or p.start (x / 4 + j) 0 = ap (λ z. get_or z (x / 4 + j) 0) n.memory ∙ o.still x (x / 4 + j) tx i there (record { from = omega arith; below = omega (arith, below, size_is) }) in
+            let word : get_or q.start (x / 4 + j) 0 ≡ get_or p.start (x / 4 + j) 0 = ap (λ z. get_or z (x / 4 + j) 0) n.memory ∙ o.still x (x / 4 + j) tx i there
+            (record { from = omega arith; below = omega (arith, below, size_is) }) in
             let L : ℕ → Type 0 = λ z. Leaves p z in
-            run.ready.closed x j tx i there (omega (arith, from, first_is)) (omega (arith, below, size_is)) (subst L word (record { pointer = l.pointer; leaves = sym (n.stay (get_or q.start (x / 4 + j) 0 / 4)) ∙ l.leaves })))
+            run.ready.closed x j tx i there (omega (arith, from, first_is)) (omega (arith, below, size_is))
+            (subst L word (record { pointer = l.pointer; leaves = sym (n.stay (get_or q.start (x / 4 + j) 0 / 4)) ∙ l.leaves })))
       ]
 
   -- The copies of a row have the words of its objects.

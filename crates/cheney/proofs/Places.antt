@@ -145,7 +145,8 @@ module _ (p : Plan) (old mem : List ℕ) (mv : Moving) (k : Marks) (from step n 
   module _ (mem2 : List ℕ) (mv2 : Moving) (less : i < n) (one : EvacuatedAt p mem mem2 mv2 k (from + i * step)) where
     other : (j : ℕ) → (j ≡ i → ⊥) → j < n → get_or mem2 (from + j * step) 0 ≡ get_or mem (from + j * step) 0
     other j ne below =
-        free-aside p (is_at (from + i * step)) mem mem2 one.later (from + j * step) (is-not (from + i * step) (from + j * step) (places-apart from step i j apart ne)) c.runs.ready (o.free j below).outside (o.free j below).none
+        free-aside p (is_at (from + i * step)) mem mem2 one.later (from + j * step) (is-not (from + i * step) (from + j * step) (places-apart from step i j apart ne)) c.runs.ready
+        (o.free j below).outside (o.free j below).none
 
     pub places-further : PlacesMoving p old mem2 mv2 k from step n (i + 1)
     places-further = record {
@@ -153,14 +154,16 @@ module _ (p : Plan) (old mem : List ℕ) (mv : Moving) (k : Marks) (from step n 
       later = later-wider p (either (in_places from step n) (is_at (from + i * step))) (in_places from step n) old mem2
           (λ q h. elim (true-or-false (in_places from step n q)) [
             | inl t ↦ t
-            | inr f ↦ in-place from step n i q less (is-this (from + i * step) q (let e : (in_places from step n q || ((from + i * step) == q)) ≡ ((from + i * step) == q) = (rw f refl) in sym e ∙ h))
+            | inr f ↦ in-place from step n i q less (is-this (from + i * step) q
+                (let e : (in_places from step n q || ((from + i * step) == q)) ≡ ((from + i * step) == q) = (rw f refl) in sym e ∙ h))
           ]) (later-then p (in_places from step n) (is_at (from + i * step)) old mem mem2 c.later one.later);
       done = λ j below in_range. elim (one-or-not j i) [
         | inl same ↦ (let P : ℕ → Type 0 = λ z. IsImage p mem2 (get_or old (from + z * step) 0) (get_or mem2 (from + z * step) 0) in
             let Q : ℕ → Type 0 = λ z. IsImage p mem2 z (get_or mem2 (from + i * step) 0) in
             subst P (sym same) (subst Q (c.todo i (omega arith) less) one.image))
         | inr ne ↦ (let S : ℕ → Type 0 = λ z. IsImage p mem2 (get_or old (from + j * step) 0) z in
-            subst S (sym (other j ne in_range)) (image-kept p (is_at (from + i * step)) mem mem2 (get_or old (from + j * step) 0) (get_or mem (from + j * step) 0) one.later (o.reached j in_range) (c.done j (omega (arith, ne)) in_range)))
+            subst S (sym (other j ne in_range)) (image-kept p (is_at (from + i * step)) mem mem2 (get_or old (from + j * step) 0) (get_or mem (from + j * step) 0) one.later
+            (o.reached j in_range) (c.done j (omega (arith, ne)) in_range)))
       ];
       todo = λ j above below. other j (λ same. omega arith) below ∙ c.todo j (omega arith) below;
     }

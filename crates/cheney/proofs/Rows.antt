@@ -32,7 +32,8 @@ in-joined w vs ws (inr i) = in-right w vs ws i
 reach-in : (mem roots : List ℕ) (w : ℕ) (k : ℕ) (ws : List ℕ) → ((j : ℕ) → j < length ws → (k + j < length roots) × (get_or ws j 0 ≡ get_or roots (k + j) 0)) → In w ws → Reach mem roots w
 reach-in mem roots w k [] tail i = absurd i
 reach-in mem roots w k (v ∷ vs) tail (inl e) = let (less, same) = tail 0 (omega arith) in root (k + 0) w less (e ∙ same)
-reach-in mem roots w k (v ∷ vs) tail (inr i) = reach-in mem roots w (k + 1) vs (λ j below. let (less, same) = tail (suc j) (omega arith) in (omega (arith, less), same ∙ ap (λ z. get_or roots z 0) (omega arith))) i
+reach-in mem roots w k (v ∷ vs) tail (inr i) = reach-in mem roots w (k + 1) vs (λ j below. let (less, same) = tail (suc j) (omega arith) in
+    (omega (arith, less), same ∙ ap (λ z. get_or roots z 0) (omega arith))) i
 
 pub root-in : (p : Plan) (w : ℕ) → In w p.roots → Reached p w
 root-in p w i = reach-in p.start p.roots w 0 p.roots (λ j less. (omega (arith, less), ap (λ z. get_or p.roots z 0) (omega arith))) i
@@ -120,7 +121,8 @@ module _ (p : Plan) (old mem : List ℕ) (mv : Moving) (k : Marks) (vs ws : List
           let R : ℕ → Type 0 = λ z. IsImage p mem2 z x in
           subst P (sym same) (subst Q (sym now) (subst R (c.todo i (omega arith)) ev.image)))
       | inr ne ↦ (let S : ℕ → Type 0 = λ z. IsImage p mem2 (get_or vs j 0) z in
-          subst S (sym (get_or-set_other ws i j x 0 ne)) (image-kept p nowhere mem mem2 (get_or vs j 0) (get_or ws j 0) ev.later (each (get_or vs j 0) (in-at vs j in_range)) (c.done j (omega (arith, ne)) in_range)))
+          subst S (sym (get_or-set_other ws i j x 0 ne)) (image-kept p nowhere mem mem2 (get_or vs j 0) (get_or ws j 0) ev.later (each (get_or vs j 0) (in-at vs j in_range))
+          (c.done j (omega (arith, ne)) in_range)))
     ];
     todo = λ j above. get_or-set_other ws i j x 0 (λ s. omega arith) ∙ c.todo j (omega arith);
   }
@@ -131,7 +133,8 @@ module _ (p : Plan) (old mem : List ℕ) (mv : Moving) (k : Marks) (vs ws : List
 -- A whole collection from a row.
 
 -- The rooms start where they did.
-pub starts : (p : Plan) (mem mem2 : List ℕ) (mv mv2 : Moving) (k : Marks) → Runs p mem mv k → Runs p mem2 mv2 (at_objects mv.aged.start mv.young.start) → Runs p mem2 mv2 (at_objects mv2.aged.start mv2.young.start)
+pub starts : (p : Plan) (mem mem2 : List ℕ) (mv mv2 : Moving) (k : Marks) → Runs p mem mv k → Runs p mem2 mv2 (at_objects mv.aged.start mv.young.start) → Runs p mem2 mv2
+    (at_objects mv2.aged.start mv2.young.start)
 starts p mem mem2 mv mv2 k a b =
     let e : mv.aged.start ≡ mv2.aged.start = a.agrees.aged_low ∙ sym b.agrees.aged_low in
     let f : mv.young.start ≡ mv2.young.start = a.agrees.young_low ∙ sym b.agrees.young_low in

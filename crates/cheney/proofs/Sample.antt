@@ -32,7 +32,10 @@ use Rattle.cheney.proofs.Rows.{start-runs, starts}
 use Rattle.cheney.proofs.Next.{fits-again, has-roles, ready-again}
 
 abbrev pub sample : List ℕ
-sample = 0 ∷ 31 ∷ 59 ∷ 128 ∷ 331 ∷ 5 ∷ 164 ∷ 3 ∷ 591879 ∷ 86 ∷ 1 ∷ 1 ∷ 2 ∷ 513 ∷ 352 ∷ 2 ∷ 0 ∷ 9 ∷ 0 ∷ 0 ∷ 296 ∷ 1 ∷ 1 ∷ 0 ∷ 58 ∷ 71 ∷ 770 ∷ 1 ∷ 0 ∷ 404 ∷ 25 ∷ 0 ∷ 2 ∷ 1 ∷ 19 ∷ 79 ∷ 64 ∷ 75 ∷ 252 ∷ 1 ∷ 146 ∷ 159 ∷ 144 ∷ 1 ∷ 7 ∷ 72 ∷ 9223372036854775808 ∷ 0 ∷ 136 ∷ 0 ∷ 1 ∷ 0 ∷ 0 ∷ 0 ∷ 0 ∷ 0 ∷ 0 ∷ 0 ∷ 0 ∷ 0 ∷ 0 ∷ 0 ∷ 0 ∷ 0 ∷ 0 ∷ 0 ∷ 0 ∷ 0 ∷ 0 ∷ 0 ∷ 0 ∷ 0 ∷ 0 ∷ 0 ∷ 0 ∷ 0 ∷ 0 ∷ 0 ∷ 0 ∷ 0 ∷ 0 ∷ 0 ∷ 0 ∷ 0 ∷ 0 ∷ 0 ∷ 0 ∷ 0 ∷ 0 ∷ 0 ∷ 0 ∷ 5 ∷ 14 ∷ 26 ∷ 58 ∷ 82 ∷ 118 ∷ 154 ∷ 170 ∷ 182 ∷ 190 ∷ 194 ∷ 5 ∷ 79 ∷ 0 ∷ 0 ∷ 0 ∷ 0 ∷ 0 ∷ 0 ∷ 0 ∷ 0 ∷ 0 ∷ 0 ∷ 0 ∷ 0 ∷ 0 ∷ 0 ∷ 0 ∷ 0 ∷ 0 ∷ 0 ∷ 0 ∷ 0 ∷ 0 ∷ 0 ∷ 0 ∷ 0 ∷ 0 ∷ 0 ∷ 0 ∷ 0 ∷ 0 ∷ 0 ∷ 0 ∷ 0 ∷ 0 ∷ 0 ∷ 0 ∷ 0 ∷ 0 ∷ 0 ∷ 0 ∷ 0 ∷ []
+sample = 0 ∷ 31 ∷ 59 ∷ 128 ∷ 331 ∷ 5 ∷ 164 ∷ 3 ∷ 591879 ∷ 86 ∷ 1 ∷ 1 ∷ 2 ∷ 513 ∷ 352 ∷ 2 ∷ 0 ∷ 9 ∷ 0 ∷ 0 ∷ 296 ∷ 1 ∷ 1 ∷ 0 ∷ 58 ∷ 71 ∷ 770 ∷ 1 ∷ 0 ∷ 404 ∷ 25 ∷ 0 ∷ 2 ∷ 1 ∷ 19 ∷ 79 ∷ 64 ∷
+    75 ∷ 252 ∷ 1 ∷ 146 ∷ 159 ∷ 144 ∷ 1 ∷ 7 ∷ 72 ∷ 9223372036854775808 ∷ 0 ∷ 136 ∷ 0 ∷ 1 ∷ 0 ∷ 0 ∷ 0 ∷ 0 ∷ 0 ∷ 0 ∷ 0 ∷ 0 ∷ 0 ∷ 0 ∷ 0 ∷ 0 ∷ 0 ∷ 0 ∷ 0 ∷ 0 ∷ 0 ∷ 0 ∷ 0 ∷ 0 ∷ 0 ∷ 0 ∷ 0 ∷ 0 ∷ 0
+    ∷ 0 ∷ 0 ∷ 0 ∷ 0 ∷ 0 ∷ 0 ∷ 0 ∷ 0 ∷ 0 ∷ 0 ∷ 0 ∷ 0 ∷ 0 ∷ 0 ∷ 0 ∷ 5 ∷ 14 ∷ 26 ∷ 58 ∷ 82 ∷ 118 ∷ 154 ∷ 170 ∷ 182 ∷ 190 ∷ 194 ∷ 5 ∷ 79 ∷ 0 ∷ 0 ∷ 0 ∷ 0 ∷ 0 ∷ 0 ∷ 0 ∷ 0 ∷ 0 ∷ 0 ∷ 0 ∷ 0 ∷ 0 ∷ 0
+    ∷ 0 ∷ 0 ∷ 0 ∷ 0 ∷ 0 ∷ 0 ∷ 0 ∷ 0 ∷ 0 ∷ 0 ∷ 0 ∷ 0 ∷ 0 ∷ 0 ∷ 0 ∷ 0 ∷ 0 ∷ 0 ∷ 0 ∷ 0 ∷ 0 ∷ 0 ∷ 0 ∷ 0 ∷ 0 ∷ 0 ∷ []
 
 abbrev pub roots : List ℕ
 roots = 5 ∷ 14 ∷ 26 ∷ 58 ∷ 82 ∷ 118 ∷ 154 ∷ 170 ∷ 182 ∷ 190 ∷ 194 ∷ 5 ∷ 79 ∷ []
@@ -42,7 +45,8 @@ lists = (1 ∷ 2 ∷ []) ∷ []
 
 -- The role of each place.
 abbrev roles : List ℕ
-roles = 0 ∷ 3 ∷ 4 ∷ 3 ∷ 4 ∷ 4 ∷ 3 ∷ 4 ∷ 4 ∷ 8 ∷ 6 ∷ 2 ∷ 6 ∷ 6 ∷ 3 ∷ 4 ∷ 1 ∷ 5 ∷ 4 ∷ 4 ∷ 3 ∷ 4 ∷ 4 ∷ 4 ∷ 4 ∷ 8 ∷ 6 ∷ 2 ∷ 6 ∷ 3 ∷ 5 ∷ 1 ∷ 4 ∷ 4 ∷ 4 ∷ 4 ∷ 3 ∷ 4 ∷ 3 ∷ 4 ∷ 4 ∷ 4 ∷ 3 ∷ 4 ∷ 4 ∷ 3 ∷ 4 ∷ 3 ∷ 3 ∷ 4 ∷ 4 ∷ []
+roles = 0 ∷ 3 ∷ 4 ∷ 3 ∷ 4 ∷ 4 ∷ 3 ∷ 4 ∷ 4 ∷ 8 ∷ 6 ∷ 2 ∷ 6 ∷ 6 ∷ 3 ∷ 4 ∷ 1 ∷ 5 ∷ 4 ∷ 4 ∷ 3 ∷ 4 ∷ 4 ∷ 4 ∷ 4 ∷ 8 ∷ 6 ∷ 2 ∷ 6 ∷ 3 ∷ 5 ∷ 1 ∷ 4 ∷ 4 ∷ 4 ∷ 4 ∷ 3 ∷ 4 ∷ 3 ∷ 4 ∷ 4 ∷ 4 ∷ 3 ∷ 4 ∷ 4 ∷
+    3 ∷ 4 ∷ 3 ∷ 3 ∷ 4 ∷ 4 ∷ []
 
 abbrev role : ℕ → ℕ
 role a = get_or roles a 0
@@ -65,7 +69,8 @@ high true = 60
 high false = 91
 
 abbrev the-trees : Trees
-the-trees = Cons (Int (pos 1)) Nil ▹ Tuple (Atom 5 ▹ Cons (Int (pos 1)) Nil ▹ end) ▹ Bin (7 ∷ 8 ∷ 9 ∷ []) ▹ Shared 1 ▹ Part (Shared 1) 1 1 ▹ Fun 3 2 1 (Int (pos 4) ▹ end) ▹ Map (pair (Atom 1) (Int (pos 9)) stop)
+the-trees = Cons (Int (pos 1)) Nil ▹ Tuple (Atom 5 ▹ Cons (Int (pos 1)) Nil ▹ end) ▹ Bin (7 ∷ 8 ∷ 9 ∷ []) ▹ Shared 1 ▹ Part (Shared 1) 1 1 ▹ Fun 3 2 1 (Int (pos 4) ▹ end) ▹ Map
+    (pair (Atom 1) (Int (pos 9)) stop)
     ▹ Ref 1 7 ▹ Int (pos 9223372036854775808) ▹ Tuple end ▹ Int (pos 18446744073709551616) ▹ Cons (Int (pos 1)) Nil ▹ Int (pos 4) ▹ end
 
 abbrev pub plan : Plan
@@ -144,8 +149,32 @@ unfolding Stands lie roles_of run
 the-shared = record {
   from_one = lit< tt;
   known = lit≤ tt;
-  holder = record { tag = refl; within = lit≤ tt; header = refl; size = refl; bytes_word = refl; flags_word = refl; first = refl; second = refl; next = refl; names = refl; fifth = refl; sixth = refl };
-  record_is = record { within = lit≤ tt; header = refl; owner = refl; size = refl; content = lies 13 (1 ∷ 2 ∷ []) refl; first = refl; second = refl; counted = refl; others = λ q from below. run-at 6 12 2 refl q from below };
+  holder = record {
+    tag = refl;
+    within = lit≤ tt;
+    header = refl;
+    size = refl;
+    bytes_word = refl;
+    flags_word = refl;
+    first = refl;
+    second = refl;
+    next = refl;
+    names = refl;
+    fifth = refl;
+    sixth = refl;
+  };
+  record_is = record {
+    within = lit≤ tt;
+    header = refl;
+    owner = refl;
+    size = refl;
+    content = lies 13 (1 ∷ 2 ∷ []) refl;
+    first = refl;
+    second = refl;
+    counted = refl;
+    others = λ q from
+        below. run-at 6 12 2 refl q from below;
+  };
 }
 
 the-part : Stands (roles_of role) lists sample 82 (Part (Shared 1) 1 1)
@@ -348,8 +377,18 @@ to-young = 58 ∷ 82 ∷ 118 ∷ 154 ∷ 182 ∷ 190 ∷ 194 ∷ 146 ∷ []
 
 fits-there : (b : Bool) → Fits plan b
 unfolding every has room-test size same_bool
-fits-there true = record { each = to-aged; all = λ w r l goes. has-in to-aged w (room-has true to-aged w (every-has (room-test true to-aged) known w refl (found w r)) l.pointer l.leaves goes); words = lit≤ tt }
-fits-there false = record { each = to-young; all = λ w r l goes. has-in to-young w (room-has false to-young w (every-has (room-test false to-young) known w refl (found w r)) l.pointer l.leaves goes); words = lit≤ tt }
+fits-there true = record {
+  each = to-aged;
+  all = λ w r l goes. has-in to-aged w (room-has true to-aged w (every-has (room-test true to-aged) known w refl (found w r)) l.pointer l.leaves
+      goes);
+  words = lit≤ tt;
+}
+fits-there false = record {
+  each = to-young;
+  all = λ w r l goes. has-in to-young w
+      (room-has false to-young w (every-has (room-test false to-young) known w refl (found w r)) l.pointer l.leaves goes);
+  words = lit≤ tt;
+}
 
 ready : Ready plan
 ready = record {
@@ -371,7 +410,8 @@ moves-first q h = grind (arith, nat_tests)
 abbrev pub first-rooms : Stay → Room → Room → Moving
 first-rooms stay aged young = record { stay = stay; from_space = record { start = 1; end = 42 }; mature = record { start = 1; end = 9 }; aged = aged; young = young }
 
-pub begins-there : {E : Type 0} (r : Result (List ℕ) E) (m : List ℕ) (none stay : Stay) (aged young : Room) → r ≡ Ok m → IfOk r (λ x. x ≡ sample) → none.spans.items ≡ [] → ((q : ℕ) → stays stay q ≡ (stays none q || in_span kept q))
+pub begins-there : {E : Type 0} (r : Result (List ℕ) E) (m : List ℕ) (none stay : Stay) (aged young : Room) → r ≡ Ok m → IfOk r (λ x. x ≡ sample) → none.spans.items ≡ [] →
+    ((q : ℕ) → stays stay q ≡ (stays none q || in_span kept q))
     → aged ≡ record { start = 51; top = 51; end = 60 } → young ≡ record { start = 60; top = 60; end = 91 } → Begins plan m (first-rooms stay aged young) roots
 begins-there {E} r m none stay aged young e h n s a y =
     let P : Result (List ℕ) E → Type 0 = λ x. IfOk x (λ z. z ≡ sample) in
@@ -393,7 +433,8 @@ begins-there {E} r m none stay aged young e h n s a y =
       young_empty = ap (λ z. z.top) y ∙ sym (ap (λ z. z.start) y);
     }
 
-pub can-collect : {E : Type 0} (r : Result (List ℕ) E) (m : List ℕ) (none stay : Stay) (aged young : Room) → r ≡ Ok m → IfOk r (λ x. x ≡ sample) → none.spans.items ≡ [] → ((q : ℕ) → stays stay q ≡ (stays none q || in_span kept q))
+pub can-collect : {E : Type 0} (r : Result (List ℕ) E) (m : List ℕ) (none stay : Stay) (aged young : Room) → r ≡ Ok m → IfOk r (λ x. x ≡ sample) → none.spans.items ≡ [] →
+    ((q : ℕ) → stays stay q ≡ (stays none q || in_span kept q))
     → aged ≡ record { start = 51; top = 51; end = 60 } → young ≡ record { start = 60; top = 60; end = 91 } → CanCollect m (first-rooms stay aged young) roots
 can-collect r m none stay aged young e h n s a y = record { plan = plan; begins = begins-there r m none stay aged young e h n s a y }
 
@@ -405,7 +446,8 @@ stacked-root : (j : ℕ) → j < 13 → get_or sample (91 + j) 0 ≡ get_or root
 stacked-root j less = sym (get_or-take 13 (drop 91 sample) j 0 less ∙ get_or-drop 91 sample j 0)
 
 -- The roots stand on a stack, too.
-stacked : {E : Type 0} (r : Result (List ℕ) E) (m : List ℕ) (none stay : Stay) (aged young : Room) → r ≡ Ok m → IfOk r (λ x. x ≡ sample) → none.spans.items ≡ [] → ((q : ℕ) → stays stay q ≡ (stays none q || in_span kept q))
+stacked : {E : Type 0} (r : Result (List ℕ) E) (m : List ℕ) (none stay : Stay) (aged young : Room) → r ≡ Ok m → IfOk r (λ x. x ≡ sample) → none.spans.items ≡ [] →
+    ((q : ℕ) → stays stay q ≡ (stays none q || in_span kept q))
     → aged ≡ record { start = 51; top = 51; end = 60 } → young ≡ record { start = 60; top = 60; end = 91 } → AreRoots plan m 91 1 13
 stacked {E} r m none stay aged young e h n s a y =
     let P : Result (List ℕ) E → Type 0 = λ x. IfOk x (λ z. z ≡ sample) in
@@ -415,11 +457,17 @@ stacked {E} r m none stay aged young e h n s a y =
     let at : 91 + j * 1 ≡ 91 + j = omega arith in
     ap (λ z. get_or z (91 + j * 1) 0) same ∙ ap (λ z. get_or sample z 0) at ∙ stacked-root j less in
     record {
-      free = λ j less. record { inside = omega arith; outside = λ c. inr (omega (arith, high-to c)); none = λ k role_at. role-none (91 + j * 1) k (get_or_past roles (91 + j * 1) 0 (omega arith)) role_at };
+      free = λ j less. record {
+        inside = omega arith;
+        outside = λ c. inr (omega (arith, high-to c));
+        none = λ k role_at. role-none (91 + j * 1) k
+            (get_or_past roles (91 + j * 1) 0 (omega arith)) role_at;
+      };
       reached = λ j less. let Q : ℕ → Type 0 = λ z. Reached plan z in subst Q (sym (there j less)) (root j (get_or roots j 0) less refl);
     }
 
-pub stack-there : {E : Type 0} (r : Result (List ℕ) E) (m : List ℕ) (none stay : Stay) (aged young : Room) → r ≡ Ok m → IfOk r (λ x. x ≡ sample) → none.spans.items ≡ [] → ((q : ℕ) → stays stay q ≡ (stays none q || in_span kept q))
+pub stack-there : {E : Type 0} (r : Result (List ℕ) E) (m : List ℕ) (none stay : Stay) (aged young : Room) → r ≡ Ok m → IfOk r (λ x. x ≡ sample) → none.spans.items ≡ [] →
+    ((q : ℕ) → stays stay q ≡ (stays none q || in_span kept q))
     → aged ≡ record { start = 51; top = 51; end = 60 } → young ≡ record { start = 60; top = 60; end = 91 } → CanMovePlaces m (first-rooms stay aged young) 91 1 13
 stack-there r m none stay aged young e h n s a y = record {
   plan = plan;
@@ -428,14 +476,19 @@ stack-there r m none stay aged young e h n s a y = record {
   roots = stacked r m none stay aged young e h n s a y;
 }
 
-pub stack-scans : {E : Type 0} (r : Result (List ℕ) E) (m m2 : List ℕ) (none stay : Stay) (aged young : Room) (mv2 : Moving) → r ≡ Ok m → IfOk r (λ x. x ≡ sample) → none.spans.items ≡ [] → ((q : ℕ) → stays stay q ≡ (stays none q || in_span kept q))
+pub stack-scans : {E : Type 0} (r : Result (List ℕ) E) (m m2 : List ℕ) (none stay : Stay) (aged young : Room) (mv2 : Moving) → r ≡ Ok m → IfOk r (λ x. x ≡ sample) → none.spans.items ≡ [] →
+    ((q : ℕ) → stays stay q ≡ (stays none q || in_span kept q))
     → aged ≡ record { start = 51; top = 51; end = 60 } → young ≡ record { start = 60; top = 60; end = 91 }
     → ((p : Plan) (k : Marks) → Runs p m (first-rooms stay aged young) k → AreRoots p m 91 1 13 → PlacesEvacuated p m m2 mv2 k 91 1 13) → CanScan m2 mv2
 stack-scans r m m2 none stay aged young mv2 e h n s a y moves =
     let c : CanMovePlaces m (first-rooms stay aged young) 91 1 13 = stack-there r m none stay aged young e h n s a y in
     let b : Begins plan m (first-rooms stay aged young) roots = begins-there r m none stay aged young e h n s a y in
     let run : Runs plan m (first-rooms stay aged young) (at_objects aged.start young.start) = start-runs plan m (first-rooms stay aged young) roots b in
-    record { plan = plan; runs = starts plan m m2 (first-rooms stay aged young) mv2 (at_objects aged.start young.start) run (moves plan (at_objects aged.start young.start) run (stacked r m none stay aged young e h n s a y)).runs }
+    record {
+      plan = plan;
+      runs = starts plan m m2 (first-rooms stay aged young) mv2 (at_objects aged.start young.start) run
+          (moves plan (at_objects aged.start young.start) run (stacked r m none stay aged young e h n s a y)).runs;
+    }
 
 -- A second collection goes to the free words at the end.
 
@@ -499,7 +552,8 @@ clear-again a false h = inl (omega arith)
 succeeds : (m ws : List ℕ) (mv : Moving) → Ended plan m mv ws → (r : HasRoles plan m below) → Succeeds plan (plan-again m ws r) m
 succeeds m ws mv e r = record { memory = refl; images = e.images; stay = λ a. refl }
 
-room-again : (m : List ℕ) (mv : Moving) → Collected plan m (top_of mv) → (b : Bool) → (low-again b ≤ high-again b) × ((low-again b + used plan (top_of mv) ≤ high-again b) ⊎ ((a : ℕ) → in_span none a ≡ b → ⊥))
+room-again : (m : List ℕ) (mv : Moving) → Collected plan m (top_of mv) → (b : Bool) → (low-again b ≤ high-again b) ×
+    ((low-again b + used plan (top_of mv) ≤ high-again b) ⊎ ((a : ℕ) → in_span none a ≡ b → ⊥))
 unfolding low-again high-again
 room-again m mv o true = (lit≤ tt, inr never-old)
 room-again m mv o false = (lit≤ tt, inl (omega (arith, o.ends true, o.ends false)))
@@ -523,7 +577,8 @@ goes-on m ws mv e r = record {
 abbrev pub second-rooms : Stay → Room → Room → Moving
 second-rooms stay aged young = record { stay = stay; from_space = record { start = 51; end = 90 }; mature = record { start = 0; end = 0 }; aged = aged; young = young }
 
-pub can-go-on : (m ws : List ℕ) (mv : Moving) (no_span stay : Stay) (aged young : Room) → Ended plan m mv ws → no_span.spans.items ≡ [] → ((q : ℕ) → stays stay q ≡ (stays no_span q || in_span kept q))
+pub can-go-on : (m ws : List ℕ) (mv : Moving) (no_span stay : Stay) (aged young : Room) → Ended plan m mv ws → no_span.spans.items ≡ [] →
+    ((q : ℕ) → stays stay q ≡ (stays no_span q || in_span kept q))
     → aged ≡ record { start = 0; top = 0; end = 0 } → young ≡ record { start = 104; top = 104; end = 144 } → CanCollect m (second-rooms stay aged young) ws
 unfolding low-again high-again
 can-go-on m ws mv no_span stay aged young e n s a y =

@@ -80,7 +80,8 @@ boxed-shape h from zero_end each = record { pair = λ n. absurd (n zero_end); bo
 
 -- A word that points to nothing is left as it is.
 
-module _ (p : Plan) (mem : List ℕ) (mv : Moving) (k : Marks) (b : Bool) (at w : ℕ) (run : Runs p mem mv k) (s : scanned_at k b ≡ at) (o : IsPart p mem k b at) (e : w ≡ get_or mem at 0) (no_pointer : IsPointer w → ⊥) where
+module _ (p : Plan) (mem : List ℕ) (mv : Moving) (k : Marks) (b : Bool) (at w : ℕ) (run : Runs p mem mv k) (s : scanned_at k b ≡ at) (o : IsPart p mem k b at) (e : w ≡ get_or mem at 0)
+    (no_pointer : IsPointer w → ⊥) where
   itself : Evacuated p mem mem mv k (get_or mem at 0) (get_or mem at 0)
   itself =
       let P : ℕ → Type 0 = λ z. Evacuated p mem mem mv k z z in
@@ -97,13 +98,15 @@ module _ (p : Plan) (mem : List ℕ) (mv : Moving) (k : Marks) (b : Bool) (at w 
 
 -- A tail whose cons is copied.
 
-pub tail-moved : (p : Plan) (mem mem2 mem3 : List ℕ) (mv mv2 : Moving) (k : Marks) (b : Bool) (at w x : ℕ) → Runs p mem mv k → scanned_at k b ≡ at → IsPart p mem k b at → w ≡ get_or mem at 0 → Copied mem mem2 mv mv2 w x
+pub tail-moved : (p : Plan) (mem mem2 mem3 : List ℕ) (mv mv2 : Moving) (k : Marks) (b : Bool) (at w x : ℕ) → Runs p mem mv k → scanned_at k b ≡ at → IsPart p mem k b at → w ≡ get_or mem at
+    0 → Copied mem mem2 mv mv2 w x
     → mem3 ≡ set mem2 at x → RunsOn p mem mem3 mv2 (mark k b (at + 1) (object_at k b))
 tail-moved p mem mem2 mem3 mv mv2 k b at w x run s o e c written =
     let P : ℕ → Type 0 = λ z. Copied mem mem2 mv mv2 z x in
     stepped p mem mem2 mv mv2 k b at x run s o (evacuated p mem mem2 mv mv2 k (get_or mem at 0) x run (reached-there p mem mv k b at run s o) (inr (inr (subst P e c)))) mem3 written
 
-module _ (mem mem2 mem3 : List ℕ) (mv mv2 : Moving) (b : Bool) (at w head tail x : ℕ) (c : CanStep mem mv b at) (e : w ≡ get_or mem at 0) (f : IsFresh mem mv w head tail) (o : Copied mem mem2 mv mv2 w x) (here : in_span mv.mature (w / 4) ≡ b) (written : mem3 ≡ set mem2 at x) where
+module _ (mem mem2 mem3 : List ℕ) (mv mv2 : Moving) (b : Bool) (at w head tail x : ℕ) (c : CanStep mem mv b at) (e : w ≡ get_or mem at 0) (f : IsFresh mem mv w head tail)
+    (o : Copied mem mem2 mv mv2 w x) (here : in_span mv.mature (w / 4) ≡ b) (written : mem3 ≡ set mem2 at x) where
   copy-there : Copies mem mem2 w (top_of mv b) 2 x
   copy-there =
       let P : ℕ → Type 0 = λ z. Copies mem mem2 w (top_of mv b) z x in
@@ -150,7 +153,8 @@ mark-self : (k : Marks) (b : Bool) → mark k b (scanned_at k b) (object_at k b)
 mark-self k true = refl
 mark-self k false = refl
 
-pub spine-start : (p : Plan) (mem : List ℕ) (mv : Moving) (k : Marks) (b : Bool) (place : ℕ) → Runs p mem mv k → scanned_at k b ≡ place → object_at k b ≡ place → RunsOn p mem mem mv (mark k b place place)
+pub spine-start : (p : Plan) (mem : List ℕ) (mv : Moving) (k : Marks) (b : Bool) (place : ℕ) → Runs p mem mv k → scanned_at k b ≡ place → object_at k b ≡ place → RunsOn p mem mem mv
+    (mark k b place place)
 spine-start p mem mv k b place run s o =
     let P : Marks → Type 0 = λ z. RunsOn p mem mem mv z in
     let e : mark k b place place ≡ k = ap (λ z. mark k b z place) (sym s) ∙ ap (λ z. mark k b (scanned_at k b) z) (sym o) ∙ mark-self k b in

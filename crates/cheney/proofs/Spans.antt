@@ -92,7 +92,8 @@ swap-or false false true = refl
 swap-or false false false = refl
 
 -- What `put` gives when one of two spans is put and the other is carried on.
-pub carry-on : (xs acc new : List Span) (span carried next first second : Span) (i : ℕ) → IsOrdered xs → i < length xs → next ≡ get_or xs i (record { start = 0; end = 0 }) → Carrying xs span acc carried i
+pub carry-on : (xs acc new : List Span) (span carried next first second : Span) (i : ℕ) → IsOrdered xs → i < length xs → next ≡ get_or xs i (record { start = 0; end = 0 }) → Carrying xs
+    span acc carried i
     → first.start ≤ second.start → (((first ≡ carried) × (second ≡ next)) ⊎ ((first ≡ next) × (second ≡ carried)))
     → ((q : ℕ) → in_spans new q ≡ (in_spans acc q || in_span first q)) → length new ≡ length acc + 1 → ((j : ℕ) → j < length new → start_at new j ≤ first.start)
     → Carrying xs span new second (i + 1)
@@ -100,11 +101,14 @@ carry-on xs acc new span carried next first second i o less e c le same put len 
   places = λ q.
       let step : (in_spans acc q || in_span first q) || in_span second q ≡ (in_spans acc q || in_span carried q) || in_span next q = elim same [
         | inl s ↦ ap (λ z. (in_spans acc q || in_span z q) || in_span second q) s.0 ∙ ap (λ z. (in_spans acc q || in_span carried q) || in_span z q) s.1
-        | inr s ↦ ap (λ z. (in_spans acc q || in_span z q) || in_span second q) s.0 ∙ ap (λ z. (in_spans acc q || in_span next q) || in_span z q) s.1 ∙ swap-or (in_spans acc q) (in_span next q) (in_span carried q)
+        | inr s ↦ ap (λ z. (in_spans acc q || in_span z q) || in_span second q) s.0 ∙ ap (λ z. (in_spans acc q || in_span next q) || in_span z q) s.1 ∙ swap-or (in_spans acc q)
+            (in_span next q) (in_span carried q)
       ] in
       let took : in_spans (take (i + 1) xs) q ≡ (in_spans (take i xs) q || in_span next q) =
-      ap (λ z. in_spans z q) (take_more xs i (record { start = 0; end = 0 }) less) ∙ spans-more (take i xs) (get_or xs i (record { start = 0; end = 0 })) q ∙ ap (λ z. in_spans (take i xs) q || in_span z q) (sym e) in
-      ap (λ z. z || in_span second q) (put q) ∙ step ∙ ap (λ z. z || in_span next q) (c.places q) ∙ swap-or (in_spans (take i xs) q) (in_span span q) (in_span next q) ∙ ap (λ z. z || in_span span q) (sym took);
+      ap (λ z. in_spans z q) (take_more xs i (record { start = 0; end = 0 }) less) ∙ spans-more (take i xs) (get_or xs i (record { start = 0; end = 0 })) q ∙ ap
+      (λ z. in_spans (take i xs) q || in_span z q) (sym e) in
+      ap (λ z. z || in_span second q) (put q) ∙ step ∙ ap (λ z. z || in_span next q) (c.places q) ∙ swap-or (in_spans (take i xs) q) (in_span span q) (in_span next q) ∙ ap
+      (λ z. z || in_span span q) (sym took);
   len = omega (arith, len, c.len);
   later = λ j k l above below.
       let next_k : next.start ≤ start_at xs k = (let P : Span → Type 0 = λ z. z.start ≤ start_at xs k in subst P (sym e) (o.starts i k (omega arith) below)) in
@@ -124,11 +128,13 @@ carry-after xs acc span carried next first second i less e c same j l = elim sam
   | inr s ↦ (let P : Span → Type 0 = λ z. start_at acc j ≤ z.start in subst P (sym (s.0 ∙ e)) (c.later j i l (omega arith) less))
 ]
 
-pub carry-end : (xs acc new : List Span) (span carried : Span) (i : ℕ) → Carrying xs span acc carried i → length xs ≤ i → ((q : ℕ) → in_spans new q ≡ (in_spans acc q || in_span carried q)) → (q : ℕ) → in_spans new q ≡ (in_spans xs q || in_span span q)
+pub carry-end : (xs acc new : List Span) (span carried : Span) (i : ℕ) → Carrying xs span acc carried i → length xs ≤ i → ((q : ℕ) → in_spans new q ≡ (in_spans acc q || in_span carried q))
+    → (q : ℕ) → in_spans new q ≡ (in_spans xs q || in_span span q)
 carry-end xs acc new span carried i c far put q = put q ∙ c.places q ∙ ap (λ z. in_spans z q || in_span span q) (take_all i xs far)
 
 -- Where the span that begins last at or before a place does not hold it, none does.
-pub found-or-not : (xs : List Span) (q low : ℕ) → IsOrdered xs → low < length xs → start_at xs low ≤ q → ((i : ℕ) → low + 1 ≤ i → i < length xs → q < start_at xs i) → nat_lt q (end_at xs low) ≡ in_spans xs q
+pub found-or-not : (xs : List Span) (q low : ℕ) → IsOrdered xs → low < length xs → start_at xs low ≤ q → ((i : ℕ) → low + 1 ≤ i → i < length xs → q < start_at xs i) → nat_lt q
+    (end_at xs low) ≡ in_spans xs q
 found-or-not xs q low o less from above =
     let cut : (q < end_at xs low) ⊎ (end_at xs low ≤ q) = grind arith in
     elim cut [
@@ -162,7 +168,8 @@ slice-after ys xs q e o n h =
     let Q : (length xs ≡ 0 → ⊥) → end_at xs (length xs - 1) ≤ q → false ≡ in_spans xs q = λ m g. none-after xs q o (some-of (length xs) m) g in
     subst P (sym e) Q n h
 
-pub slice-found : (ys xs : List Span) (q low high : ℕ) → ys ≡ xs → IsOrdered xs → low < high → high ≤ length ys → start_at ys low ≤ q → ((i : ℕ) → high ≤ i → i < length ys → q < start_at ys i) → high - low ≤ 1
+pub slice-found : (ys xs : List Span) (q low high : ℕ) → ys ≡ xs → IsOrdered xs → low < high → high ≤ length ys → start_at ys low ≤ q →
+    ((i : ℕ) → high ≤ i → i < length ys → q < start_at ys i) → high - low ≤ 1
     → nat_lt q (end_at ys low) ≡ in_spans xs q
 slice-found ys xs q low high e o order within from above near =
     let P : List Span → Type 0 = λ z. high ≤ length z → start_at z low ≤ q → ((i : ℕ) → high ≤ i → i < length z → q < start_at z i) → nat_lt q (end_at z low) ≡ in_spans xs q in

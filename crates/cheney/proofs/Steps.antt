@@ -191,7 +191,12 @@ module _ (p : Plan) (mem mem2 : List ℕ) (mv mv2 : Moving) (k : Marks) (w x : �
       let fit : top_of mv (p.mature (w / 4)) + size p w ≤ p.high (p.mature (w / 4)) = room-fits p mem mv k w run r l here in
       let grows : Grows p mem mem2 = move-grows p g mem mem2 (top_of mv) (top_of mv2) k run.holds w x r l here c fit a.here a.there in
       record {
-        runs = record { ready = run.ready; agrees = agrees-on p mv mv2 (p.mature (w / 4)) (size p w) run.agrees a; holds = move-keeps p g mem mem2 (top_of mv) (top_of mv2) k run.holds w x r l here c fit a.here a.there };
+        runs = record {
+          ready = run.ready;
+          agrees = agrees-on p mv mv2 (p.mature (w / 4)) (size p w) run.agrees a;
+          holds = move-keeps p g mem mem2 (top_of mv) (top_of mv2) k run.holds w x
+              r l here c fit a.here a.there;
+        };
         later = record {
           gone = grows.gone;
           same = grows.same;
@@ -243,14 +248,16 @@ pub record Spot (mem : List ℕ) (mv : Moving) (w n : ℕ) (b : Bool) : Type 0 w
   pub apart : (w / 4 + n ≤ top_of mv b) ⊎ (top_of mv b + n ≤ w / 4)
   pub within : w / 4 + n ≤ length mem
 
-spot : (mem : List ℕ) (mv : Moving) (w n : ℕ) (b : Bool) → CanMove mem mv w → IsPointer w → stays mv.stay (w / 4) ≡ false → moved mem w ≡ false → object_words mem w ≡ n → in_span mv.mature (w / 4) ≡ b → Spot mem mv w n b
+spot : (mem : List ℕ) (mv : Moving) (w n : ℕ) (b : Bool) → CanMove mem mv w → IsPointer w → stays mv.stay (w / 4) ≡ false → moved mem w ≡ false → object_words mem w ≡ n → in_span mv.mature
+    (w / 4) ≡ b → Spot mem mv w n b
 spot mem mv w n b c i s here words e =
     let o : Place mem mv w = has-place mem mv w c i s here in
     let A : ℕ → Type 0 = λ z. Spot mem mv w z b in
     let B : Bool → Type 0 = λ z. Spot mem mv w (object_words mem w) z in
     subst A words (subst B e (record { fits = o.fits; apart = o.apart; within = o.within }))
 
-pub is-fresh : (mem : List ℕ) (mv : Moving) (w head tail : ℕ) → w % 4 ≡ 1 → false ≡ stays mv.stay (w / 4) → head ≡ get_or mem (w / 4) 0 → (head ≡ 0 → ⊥) → tail ≡ get_or mem (w / 4 + 1) 0 → IsFresh mem mv w head tail
+pub is-fresh : (mem : List ℕ) (mv : Moving) (w head tail : ℕ) → w % 4 ≡ 1 → false ≡ stays mv.stay (w / 4) → head ≡ get_or mem (w / 4) 0 → (head ≡ 0 → ⊥) → tail ≡ get_or mem (w / 4 + 1) 0 →
+    IsFresh mem mv w head tail
 is-fresh mem mv w head tail tag s h ne t = record { tag = tag; leaves = sym s; head_is = h; tail_is = t; here = ne }
 
 pub fresh-here : (mem : List ℕ) (mv : Moving) (w head tail : ℕ) → IsFresh mem mv w head tail → moved mem w ≡ false
@@ -259,11 +266,13 @@ fresh-here mem mv w head tail f = cons-here mem w head f.tag f.head_is f.here
 pub cons-spot : (mem : List ℕ) (mv : Moving) (w head tail : ℕ) (b : Bool) → CanMove mem mv w → IsFresh mem mv w head tail → b ≡ in_span mv.mature (w / 4) → Spot mem mv w 2 b
 cons-spot mem mv w head tail b c f m = spot mem mv w 2 b c (inl f.tag) f.leaves (fresh-here mem mv w head tail f) (cons-words mem w f.tag) (sym m)
 
-pub boxed-spot : (mem : List ℕ) (mv : Moving) (w header : ℕ) (b : Bool) → CanMove mem mv w → w % 4 ≡ 2 → false ≡ stays mv.stay (w / 4) → header ≡ get_or mem (w / 4) 0 → (header % 4 ≡ 2 → ⊥) → b ≡ in_span mv.mature (w / 4) → Spot mem mv w (1 + header / 64) b
+pub boxed-spot : (mem : List ℕ) (mv : Moving) (w header : ℕ) (b : Bool) → CanMove mem mv w → w % 4 ≡ 2 → false ≡ stays mv.stay (w / 4) → header ≡ get_or mem (w / 4) 0 →
+    (header % 4 ≡ 2 → ⊥) → b ≡ in_span mv.mature (w / 4) → Spot mem mv w (1 + header / 64) b
 boxed-spot mem mv w header b c tag s e ne m =
     spot mem mv w (1 + header / 64) b c (inr tag) (sym s) (boxed-here mem w header tag e ne) (boxed-words mem w tag ∙ ap (λ z. 1 + z / 64) (sym e)) (sym m)
 
-pub cons-found : (mem : List ℕ) (mv : Moving) (w head tail : ℕ) → w % 4 ≡ 1 → false ≡ stays mv.stay (w / 4) → head ≡ get_or mem (w / 4) 0 → head ≡ 0 → tail ≡ get_or mem (w / 4 + 1) 0 → Went mem mem mv mv w tail
+pub cons-found : (mem : List ℕ) (mv : Moving) (w head tail : ℕ) → w % 4 ≡ 1 → false ≡ stays mv.stay (w / 4) → head ≡ get_or mem (w / 4) 0 → head ≡ 0 → tail ≡ get_or mem (w / 4 + 1) 0 →
+    Went mem mem mv mv w tail
 cons-found mem mv w head tail tag s e z t =
     let zero_there : get_or mem (w / 4) 0 ≡ 0 = sym e ∙ z in
     inr (inl (record { word = t ∙ sym (forward-cons mem w tag); mem_same = refl; mv_same = refl; pointer = inl tag; leaves = sym s; gone = moved-cons mem w tag ∙ (rw zero_there refl) }))
@@ -281,12 +290,14 @@ pub cons-young : (mem mem2 : List ℕ) (mv : Moving) (room : Room) (w head tail 
     → Copies mem mem2 w mv.young.top 2 x → room ≡ record mv.young { top = mv.young.top + 2 } → Copied mem mem2 mv (record mv { young = room }) w x
 cons-young mem mem2 mv room w head tail x f m c r = copied-young mem mem2 mv room w x 2 (sym m) (inl f.tag) f.leaves (fresh-here mem mv w head tail f) (sym (cons-words mem w f.tag)) c r
 
-pub boxed-aged : (mem mem2 : List ℕ) (mv : Moving) (room : Room) (w header x : ℕ) → w % 4 ≡ 2 → false ≡ stays mv.stay (w / 4) → header ≡ get_or mem (w / 4) 0 → (header % 4 ≡ 2 → ⊥) → true ≡ in_span mv.mature (w / 4)
+pub boxed-aged : (mem mem2 : List ℕ) (mv : Moving) (room : Room) (w header x : ℕ) → w % 4 ≡ 2 → false ≡ stays mv.stay (w / 4) → header ≡ get_or mem (w / 4) 0 → (header % 4 ≡ 2 → ⊥) → true
+    ≡ in_span mv.mature (w / 4)
     → Copies mem mem2 w mv.aged.top (1 + header / 64) x → room ≡ record mv.aged { top = mv.aged.top + (1 + header / 64) } → Went mem mem2 mv (record mv { aged = room }) w x
 boxed-aged mem mem2 mv room w header x tag s e ne m c r =
     inr (inr (copied-aged mem mem2 mv room w x (1 + header / 64) (sym m) (inr tag) (sym s) (boxed-here mem w header tag e ne) (sym (boxed-words mem w tag ∙ ap (λ z. 1 + z / 64) (sym e))) c r))
 
-pub boxed-young : (mem mem2 : List ℕ) (mv : Moving) (room : Room) (w header x : ℕ) → w % 4 ≡ 2 → false ≡ stays mv.stay (w / 4) → header ≡ get_or mem (w / 4) 0 → (header % 4 ≡ 2 → ⊥) → false ≡ in_span mv.mature (w / 4)
+pub boxed-young : (mem mem2 : List ℕ) (mv : Moving) (room : Room) (w header x : ℕ) → w % 4 ≡ 2 → false ≡ stays mv.stay (w / 4) → header ≡ get_or mem (w / 4) 0 → (header % 4 ≡ 2 → ⊥) →
+    false ≡ in_span mv.mature (w / 4)
     → Copies mem mem2 w mv.young.top (1 + header / 64) x → room ≡ record mv.young { top = mv.young.top + (1 + header / 64) } → Went mem mem2 mv (record mv { young = room }) w x
 boxed-young mem mem2 mv room w header x tag s e ne m c r =
     inr (inr (copied-young mem mem2 mv room w x (1 + header / 64) (sym m) (inr tag) (sym s) (boxed-here mem w header tag e ne) (sym (boxed-words mem w tag ∙ ap (λ z. 1 + z / 64) (sym e))) c r))
@@ -306,10 +317,17 @@ reached-there p mem mv k b at run s o =
     let low : o.from ≤ at = omega (arith, o.traced) in
     let below : at < o.from + size p o.v = omega (arith, o.below, o.ends) in
     let P : ℕ → Type 0 = λ x. Reached p x in
-    subst P (sym (raw-at p mem mv k b at run (omega (arith, s)) o.v o.from o.copy low below)) (reach-part p o.v (at - o.from) o.copy.reached o.copy.leaves.pointer (omega (arith, o.traced)) (omega arith))
+    subst P (sym (raw-at p mem mv k b at run (omega (arith, s)) o.v o.from o.copy low below))
+    (reach-part p o.v (at - o.from) o.copy.reached o.copy.leaves.pointer (omega (arith, o.traced)) (omega arith))
 
 pub step-moves : (mem : List ℕ) (mv : Moving) (b : Bool) (at w : ℕ) → CanStep mem mv b at → w ≡ get_or mem at 0 → CanMove mem mv w
-step-moves mem mv b at w c e = record { plan = c.plan; marks = c.marks; runs = c.runs; reached = let P : ℕ → Type 0 = λ z. Reached c.plan z in subst P (sym e) (reached-there c.plan mem mv c.marks b at c.runs c.scanned c.part) }
+step-moves mem mv b at w c e = record {
+  plan = c.plan;
+  marks = c.marks;
+  runs = c.runs;
+  reached = let P : ℕ → Type 0 = λ z. Reached c.plan z in subst P (sym e)
+      (reached-there c.plan mem mv c.marks b at c.runs c.scanned c.part);
+}
 
 -- A place in a room that is not scanned lies in the memory.
 pub step-within : (mem : List ℕ) (mv : Moving) (b : Bool) (at : ℕ) → CanStep mem mv b at → at < length mem
@@ -317,7 +335,8 @@ step-within mem mv b at c =
     let g : Ground c.plan = ground c.plan c.runs.ready in
     omega (arith, c.part.below, c.runs.holds.outer b, c.runs.holds.ends b, g.ends b, c.runs.holds.same_len)
 
-module _ (p : Plan) (mem mem2 : List ℕ) (mv mv2 : Moving) (k : Marks) (b : Bool) (at x : ℕ) (run : Runs p mem mv k) (s : scanned_at k b ≡ at) (o : IsPart p mem k b at) (ev : Evacuated p mem mem2 mv2 k (get_or mem at 0) x) where
+module _ (p : Plan) (mem mem2 : List ℕ) (mv mv2 : Moving) (k : Marks) (b : Bool) (at x : ℕ) (run : Runs p mem mv k) (s : scanned_at k b ≡ at) (o : IsPart p mem k b at)
+    (ev : Evacuated p mem mem2 mv2 k (get_or mem at 0) x) where
   part-on : IsPart p mem2 k b at
   part-on = record { v = o.v; from = o.from; copy = copy-later p mem mem2 b o.v o.from (later-grows p nowhere mem mem2 ev.later) o.copy; ends = o.ends; traced = o.traced; below = o.below }
 
@@ -325,7 +344,8 @@ module _ (p : Plan) (mem mem2 : List ℕ) (mv mv2 : Moving) (k : Marks) (b : Boo
   word-on =
       let low : o.from ≤ at = omega (arith, o.traced) in
       let below : at < o.from + size p o.v = omega (arith, o.below, o.ends) in
-      raw-at p mem2 mv2 k b at ev.runs (omega (arith, s)) o.v o.from (copy-later p mem mem2 b o.v o.from (later-grows p nowhere mem mem2 ev.later) o.copy) low below ∙ sym (raw-at p mem mv k b at run (omega (arith, s)) o.v o.from o.copy low below)
+      raw-at p mem2 mv2 k b at ev.runs (omega (arith, s)) o.v o.from (copy-later p mem mem2 b o.v o.from (later-grows p nowhere mem mem2 ev.later) o.copy) low below ∙ sym
+      (raw-at p mem mv k b at run (omega (arith, s)) o.v o.from o.copy low below)
 
   image-on : IsImage p mem2 (get_or mem2 at 0) x
   image-on = let P : ℕ → Type 0 = λ z. IsImage p mem2 z x in subst P (sym word-on) ev.image
@@ -361,7 +381,8 @@ pub record Going (p : Plan) (mem mem2 : List ℕ) (mv2 : Moving) (k : Marks) (b 
   pub part : at < end → IsPart p mem2 (mark k b at end) b at
   pub within : at ≤ end
 
-shape-first : (p : Plan) (mem : List ℕ) (v place from words : ℕ) → Ground p → Reached p v → IsPointer v → get_or mem place 0 ≡ get_or p.start (v / 4) 0 → Shape (get_or mem place 0) from words → (from ≡ first p v) × (words ≡ size p v)
+shape-first : (p : Plan) (mem : List ℕ) (v place from words : ℕ) → Ground p → Reached p v → IsPointer v → get_or mem place 0 ≡ get_or p.start (v / 4) 0 → Shape (get_or mem place 0) from
+    words → (from ≡ first p v) × (words ≡ size p v)
 shape-first p mem v place from words g r (inl tag) e sh =
     let ne : get_or mem place 0 % 4 ≡ 0 → ⊥ = λ z. g.head v r tag (ap (λ x. x % 4) (sym e) ∙ z) in
     ((sh.pair ne).0 ∙ sym (first-cons p v tag), (sh.pair ne).1 ∙ sym (size-cons p v tag))
@@ -377,7 +398,8 @@ pub record Opened (p : Plan) (mem : List ℕ) (mv : Moving) (k : Marks) (b : Boo
   pub inside : place + words ≤ length mem
   pub small : from ≤ words
 
-pub opened-there : (p : Plan) (mem : List ℕ) (mv : Moving) (k : Marks) (b : Bool) (place from words : ℕ) → Runs p mem mv k → scanned_at k b ≡ place → object_at k b ≡ place → place < top_of mv b → Shape (get_or mem place 0) from words
+pub opened-there : (p : Plan) (mem : List ℕ) (mv : Moving) (k : Marks) (b : Bool) (place from words : ℕ) → Runs p mem mv k → scanned_at k b ≡ place → object_at k b ≡ place → place < top_of
+    mv b → Shape (get_or mem place 0) from words
     → Opened p mem mv k b place from words
 opened-there p mem mv k b place from words run s o less sh =
     let g : Ground p = ground p run.ready in
@@ -436,17 +458,20 @@ pub same-ends : (p : Plan) (mem mem2 : List ℕ) (mv mv2 : Moving) (k l : Marks)
 same-ends p mem mem2 mv mv2 k l a b = (b.agrees.aged_high ∙ sym a.agrees.aged_high, b.agrees.young_high ∙ sym a.agrees.young_high)
 
 -- The loop of scanning, one object further.
-pub went-there : (p : Plan) (mem mem2 : List ℕ) (mv mv2 : Moving) (k : Marks) (b : Bool) (at w x : ℕ) → w ≡ get_or mem at 0 → ((q : Plan) (l : Marks) → Runs q mem mv l → Reached q w → Evacuated q mem mem2 mv2 l w x)
+pub went-there : (p : Plan) (mem mem2 : List ℕ) (mv mv2 : Moving) (k : Marks) (b : Bool) (at w x : ℕ) → w ≡ get_or mem at 0 →
+    ((q : Plan) (l : Marks) → Runs q mem mv l → Reached q w → Evacuated q mem mem2 mv2 l w x)
     → Runs p mem mv k → scanned_at k b ≡ at → IsPart p mem k b at → Evacuated p mem mem2 mv2 k (get_or mem at 0) x
 went-there p mem mem2 mv mv2 k b at w x e ev run s o =
     let P : ℕ → Type 0 = λ z. Evacuated p mem mem2 mv2 k z x in
     let Q : ℕ → Type 0 = λ z. Reached p z in
     subst P e (ev p k run (subst Q (sym e) (reached-there p mem mv k b at run s o)))
 
-pub aged-on : (p : Plan) (mem mem2 mem3 : List ℕ) (mv2 mv3 : Moving) (aged young next : ℕ) → RunsOn p mem mem2 mv2 (at_objects aged young) → RunsOn p mem2 mem3 mv3 (mark (at_objects aged young) true next next) → RunsOn p mem mem3 mv3 (at_objects next young)
+pub aged-on : (p : Plan) (mem mem2 mem3 : List ℕ) (mv2 mv3 : Moving) (aged young next : ℕ) → RunsOn p mem mem2 mv2 (at_objects aged young) → RunsOn p mem2 mem3 mv3
+    (mark (at_objects aged young) true next next) → RunsOn p mem mem3 mv3 (at_objects next young)
 aged-on p mem mem2 mem3 mv2 mv3 aged young next a b = record { runs = b.runs; later = later-then p nowhere nowhere mem mem2 mem3 a.later b.later }
 
-pub young-on : (p : Plan) (mem mem2 mem3 : List ℕ) (mv2 mv3 : Moving) (aged young next : ℕ) → RunsOn p mem mem2 mv2 (at_objects aged young) → RunsOn p mem2 mem3 mv3 (mark (at_objects aged young) false next next) → RunsOn p mem mem3 mv3 (at_objects aged next)
+pub young-on : (p : Plan) (mem mem2 mem3 : List ℕ) (mv2 mv3 : Moving) (aged young next : ℕ) → RunsOn p mem mem2 mv2 (at_objects aged young) → RunsOn p mem2 mem3 mv3
+    (mark (at_objects aged young) false next next) → RunsOn p mem mem3 mv3 (at_objects aged next)
 young-on p mem mem2 mem3 mv2 mv3 aged young next a b = record { runs = b.runs; later = later-then p nowhere nowhere mem mem2 mem3 a.later b.later }
 
 pub can-open-aged : (p : Plan) (mem mem2 : List ℕ) (mv : Moving) (aged young : ℕ) → RunsOn p mem mem2 mv (at_objects aged young) → aged < mv.aged.top → CanOpen mem2 mv true aged
@@ -455,7 +480,8 @@ can-open-aged p mem mem2 mv aged young a less = record { plan = p; marks = at_ob
 pub can-open-young : (p : Plan) (mem mem2 : List ℕ) (mv : Moving) (aged young : ℕ) → RunsOn p mem mem2 mv (at_objects aged young) → young < mv.young.top → CanOpen mem2 mv false young
 can-open-young p mem mem2 mv aged young a less = record { plan = p; marks = at_objects aged young; runs = a.runs; scanned = refl; object = refl; below = less }
 
-pub all-scanned : (p : Plan) (mem mem2 : List ℕ) (mv : Moving) (aged young : ℕ) → RunsOn p mem mem2 mv (at_objects aged young) → mv.aged.top ≤ aged → mv.young.top ≤ young → RunsOn p mem mem2 mv (at_objects mv.aged.top mv.young.top)
+pub all-scanned : (p : Plan) (mem mem2 : List ℕ) (mv : Moving) (aged young : ℕ) → RunsOn p mem mem2 mv (at_objects aged young) → mv.aged.top ≤ aged → mv.young.top ≤ young → RunsOn p mem
+    mem2 mv (at_objects mv.aged.top mv.young.top)
 all-scanned p mem mem2 mv aged young a x y =
     let e : aged ≡ mv.aged.top = omega (arith, a.runs.holds.outer true) in
     let f : young ≡ mv.young.top = omega (arith, a.runs.holds.outer false) in

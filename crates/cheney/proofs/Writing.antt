@@ -35,7 +35,8 @@ mark-twice k true s o t u = refl
 mark-twice k false s o t u = refl
 
 -- The copy of a moved object that a place of the room lies in is that of one object.
-pub at-copy : (p : Plan) (m : List ℕ) (top : Bool → ℕ) (k : Marks) → Invariant p m top k → (b : Bool) (v from : ℕ) → IsCopy p m b v from → (u j q : ℕ) → Reached p u → Leaves p u → moved m u ≡ true → p.mature (u / 4) ≡ b
+pub at-copy : (p : Plan) (m : List ℕ) (top : Bool → ℕ) (k : Marks) → Invariant p m top k → (b : Bool) (v from : ℕ) → IsCopy p m b v from → (u j q : ℕ) → Reached p u → Leaves p u → moved m
+    u ≡ true → p.mature (u / 4) ≡ b
     → q ≡ forward m u / 4 + j → j < size p u → from ≤ q → q < from + size p v → (u ≡ v) × (q ≡ from + j)
 at-copy p m top k i b v from c u j q r l y goes e less above below =
     let place : forward m v / 4 ≡ from = omega (arith, c.word, c.leaves.pointer) in
@@ -45,7 +46,8 @@ at-copy p m top k i b v from c u j q r l y goes e less above below =
       | inr (inr a) ↦ absurd (omega (arith, a, place))
     ]
 
-module _ (p : Plan) (g : Ground p) (m : List ℕ) (top : Bool → ℕ) (k : Marks) (i : Invariant p m top k) (b : Bool) (place y : ℕ) (at : scanned_at k b ≡ place) (o : IsPart p m k b place) (z : IsImage p m (get_or m place 0) y) where
+module _ (p : Plan) (g : Ground p) (m : List ℕ) (top : Bool → ℕ) (k : Marks) (i : Invariant p m top k) (b : Bool) (place y : ℕ) (at : scanned_at k b ≡ place) (o : IsPart p m k b place)
+    (z : IsImage p m (get_or m place 0) y) where
   in-zone : (p.low b ≤ place) × (place < top b)
   in-zone = (omega (arith, i.begins b, at), omega (arith, o.below, i.outer b))
 
@@ -145,7 +147,8 @@ module _ (p : Plan) (g : Ground p) (m : List ℕ) (top : Bool → ℕ) (k : Mark
     same_len = length-set m place y ∙ i.same_len;
     begins = λ c. omega (arith, i.begins c, further c);
     inner = λ c. elim (same-room c b) [
-      | inl e ↦ (let P : Bool → Type 0 = λ x. scanned_at (mark k b (place + 1) (object_at k b)) x ≤ object_at (mark k b (place + 1) (object_at k b)) x in subst P (sym e) (omega (arith, next-here, object-here k b (place + 1) (object_at k b), o.below)))
+      | inl e ↦ (let P : Bool → Type 0 = λ x. scanned_at (mark k b (place + 1) (object_at k b)) x ≤ object_at (mark k b (place + 1) (object_at k b)) x in subst P (sym e)
+          (omega (arith, next-here, object-here k b (place + 1) (object_at k b), o.below)))
       | inr ne ↦ omega (arith, i.inner c, scanned-there k b c (place + 1) (object_at k b) ne, object-there k b c (place + 1) (object_at k b) ne)
     ];
     outer = λ c. omega (arith, i.outer c, objects-at c);
@@ -199,7 +202,8 @@ module _ (p : Plan) (g : Ground p) (m : List ℕ) (top : Bool → ℕ) (k : Mark
       let s : ℕ = place + first p v in
       let further : (d : Bool) → (scanned_at k d ≤ scanned_at (mark k b (place + first p v) (place + size p v)) d) = λ d.
       elim (same-room d b) [
-        | inl e ↦ (let P : Bool → Type 0 = λ x. scanned_at k x ≤ scanned_at (mark k b (place + first p v) (place + size p v)) x in subst P (sym e) (omega (arith, at, scanned-here k b (place + first p v) (place + size p v))))
+        | inl e ↦ (let P : Bool → Type 0 = λ x. scanned_at k x ≤ scanned_at (mark k b (place + first p v) (place + size p v)) x in subst P (sym e)
+            (omega (arith, at, scanned-here k b (place + first p v) (place + size p v))))
         | inr ne ↦ omega (arith, scanned-there k b d (place + first p v) (place + size p v) ne)
       ] in
       record {
@@ -241,7 +245,8 @@ module _ (p : Plan) (g : Ground p) (m : List ℕ) (top : Bool → ℕ) (k : Mark
                       let cut : (q < place) ⊎ (place ≤ q) = grind arith in
                       subst R (sym d) (elim cut [
                         | inl a ↦ omega arith
-                        | inr a ↦ absurd (let both : (u ≡ v) × (q ≡ place + j) = at-copy p m top k i b v place c u j q r l h d e less a (omega (arith, low2, scanned-here k b (place + first p v) (place + size p v))) in
+                        | inr a ↦ absurd (let both : (u ≡ v) × (q ≡ place + j) = at-copy p m top k i b v place c u j q r l h d e less a
+                            (omega (arith, low2, scanned-here k b (place + first p v) (place + size p v))) in
                             let f : first p u ≡ first p v = ap (first p) both.0 in
                             omega (arith, low2, scanned-here k b (place + first p v) (place + size p v), both, f, from))
                       ]))

@@ -9,14 +9,16 @@ pub scan-requires : goal.scan-requires
 scan-requires c = record {
   plan = c.requires.plan;
   runs = then-scans c.requires.plan c.args.mem.now c.args.mv.now c.args.roots.now c.requires.begins c.evacuate_all.new.mem c.evacuate_all.new.mv c.evacuate_all.new.words
-      (c.evacuate_all.ensures.each c.requires.plan (at_objects c.args.mv.now.aged.start c.args.mv.now.young.start) (start-runs c.requires.plan c.args.mem.now c.args.mv.now c.args.roots.now c.requires.begins)
+      (c.evacuate_all.ensures.each c.requires.plan (at_objects c.args.mv.now.aged.start c.args.mv.now.young.start)
+      (start-runs c.requires.plan c.args.mem.now c.args.mv.now c.args.roots.now c.requires.begins)
       (start-reached c.requires.plan c.args.mem.now c.args.mv.now c.args.roots.now c.requires.begins));
 }
 
 pub returns-clause-len : goal.returns-clause-len
 returns-clause-len c =
     same-length c.requires.plan c.args.mem.now c.args.mv.now c.args.roots.now c.requires.begins c.evacuate_all.new.mem c.evacuate_all.new.mv c.evacuate_all.new.words
-    (c.evacuate_all.ensures.each c.requires.plan (at_objects c.args.mv.now.aged.start c.args.mv.now.young.start) (start-runs c.requires.plan c.args.mem.now c.args.mv.now c.args.roots.now c.requires.begins)
+    (c.evacuate_all.ensures.each c.requires.plan (at_objects c.args.mv.now.aged.start c.args.mv.now.young.start)
+    (start-runs c.requires.plan c.args.mem.now c.args.mv.now c.args.roots.now c.requires.begins)
     (start-reached c.requires.plan c.args.mem.now c.args.mv.now c.args.roots.now c.requires.begins)) c.scan.new.mem c.scan.new.mv (c.scan.ensures c.requires.plan)
 
 pub returns-clause-done : goal.returns-clause-done

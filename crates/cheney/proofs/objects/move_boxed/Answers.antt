@@ -9,30 +9,38 @@ pub returns-then-header-eq2 : goal.returns-then-header-eq2
 returns-then-header-eq2 c = boxed-found c.args.mem.now c.args.mv.now c.args.w c.get-header.result c.requires.tag c.if-stays_at.ensures c.get-header.ensures c.if-header-eq2.true
 
 pub boxed_to-requires-clause-within : goal.boxed_to-requires-clause-within
-boxed_to-requires-clause-within c = (boxed-spot c.args.mem.now c.args.mv.now c.args.w c.get-header.result true c.requires.can c.requires.tag c.if-stays_at.ensures c.get-header.ensures c.if-header-eq2.false c.if-is_in.ensures).within
+boxed_to-requires-clause-within c = (boxed-spot c.args.mem.now c.args.mv.now c.args.w c.get-header.result true c.requires.can c.requires.tag c.if-stays_at.ensures c.get-header.ensures
+    c.if-header-eq2.false c.if-is_in.ensures).within
 
 pub boxed_to-requires-clause-fits : goal.boxed_to-requires-clause-fits
-boxed_to-requires-clause-fits c = (boxed-spot c.args.mem.now c.args.mv.now c.args.w c.get-header.result true c.requires.can c.requires.tag c.if-stays_at.ensures c.get-header.ensures c.if-header-eq2.false c.if-is_in.ensures).fits
+boxed_to-requires-clause-fits c = (boxed-spot c.args.mem.now c.args.mv.now c.args.w c.get-header.result true c.requires.can c.requires.tag c.if-stays_at.ensures c.get-header.ensures
+    c.if-header-eq2.false c.if-is_in.ensures).fits
 
 pub boxed_to-requires-clause-apart : goal.boxed_to-requires-clause-apart
-boxed_to-requires-clause-apart c = (boxed-spot c.args.mem.now c.args.mv.now c.args.w c.get-header.result true c.requires.can c.requires.tag c.if-stays_at.ensures c.get-header.ensures c.if-header-eq2.false c.if-is_in.ensures).apart
+boxed_to-requires-clause-apart c = (boxed-spot c.args.mem.now c.args.mv.now c.args.w c.get-header.result true c.requires.can c.requires.tag c.if-stays_at.ensures c.get-header.ensures
+    c.if-header-eq2.false c.if-is_in.ensures).apart
 
 pub boxed_to-requires-else-is_in-clause-within : goal.boxed_to-requires-else-is_in-clause-within
-boxed_to-requires-else-is_in-clause-within c = (boxed-spot c.args.mem.now c.args.mv.now c.args.w c.get-header.result false c.requires.can c.requires.tag c.if-stays_at.ensures c.get-header.ensures c.if-header-eq2.false c.if-is_in.ensures).within
+boxed_to-requires-else-is_in-clause-within c = (boxed-spot c.args.mem.now c.args.mv.now c.args.w c.get-header.result false c.requires.can c.requires.tag c.if-stays_at.ensures
+    c.get-header.ensures c.if-header-eq2.false c.if-is_in.ensures).within
 
 pub boxed_to-requires-else-is_in-clause-fits : goal.boxed_to-requires-else-is_in-clause-fits
-boxed_to-requires-else-is_in-clause-fits c = (boxed-spot c.args.mem.now c.args.mv.now c.args.w c.get-header.result false c.requires.can c.requires.tag c.if-stays_at.ensures c.get-header.ensures c.if-header-eq2.false c.if-is_in.ensures).fits
+boxed_to-requires-else-is_in-clause-fits c = (boxed-spot c.args.mem.now c.args.mv.now c.args.w c.get-header.result false c.requires.can c.requires.tag c.if-stays_at.ensures
+    c.get-header.ensures c.if-header-eq2.false c.if-is_in.ensures).fits
 
 pub boxed_to-requires-else-is_in-clause-apart : goal.boxed_to-requires-else-is_in-clause-apart
-boxed_to-requires-else-is_in-clause-apart c = (boxed-spot c.args.mem.now c.args.mv.now c.args.w c.get-header.result false c.requires.can c.requires.tag c.if-stays_at.ensures c.get-header.ensures c.if-header-eq2.false c.if-is_in.ensures).apart
+boxed_to-requires-else-is_in-clause-apart c = (boxed-spot c.args.mem.now c.args.mv.now c.args.w c.get-header.result false c.requires.can c.requires.tag c.if-stays_at.ensures
+    c.get-header.ensures c.if-header-eq2.false c.if-is_in.ensures).apart
 
 pub returns-then-is_in : goal.returns-then-is_in
 returns-then-is_in c =
-    boxed-aged c.args.mem.now c.boxed_to.new.mem c.args.mv.now c.boxed_to.new.room c.args.w c.get-header.result c.boxed_to.result c.requires.tag c.if-stays_at.ensures c.get-header.ensures c.if-header-eq2.false c.if-is_in.ensures c.boxed_to.ensures.copies c.boxed_to.ensures.room
+    boxed-aged c.args.mem.now c.boxed_to.new.mem c.args.mv.now c.boxed_to.new.room c.args.w c.get-header.result c.boxed_to.result c.requires.tag c.if-stays_at.ensures c.get-header.ensures
+    c.if-header-eq2.false c.if-is_in.ensures c.boxed_to.ensures.copies c.boxed_to.ensures.room
 
 pub returns-else-is_in : goal.returns-else-is_in
 returns-else-is_in c =
-    boxed-young c.args.mem.now c.boxed_to-else-is_in.new.mem c.args.mv.now c.boxed_to-else-is_in.new.room c.args.w c.get-header.result c.boxed_to-else-is_in.result c.requires.tag c.if-stays_at.ensures c.get-header.ensures c.if-header-eq2.false c.if-is_in.ensures
+    boxed-young c.args.mem.now c.boxed_to-else-is_in.new.mem c.args.mv.now c.boxed_to-else-is_in.new.room c.args.w c.get-header.result c.boxed_to-else-is_in.result c.requires.tag
+    c.if-stays_at.ensures c.get-header.ensures c.if-header-eq2.false c.if-is_in.ensures
     c.boxed_to-else-is_in.ensures.copies c.boxed_to-else-is_in.ensures.room
 
 pub stays_at-requires : goal.stays_at-requires

@@ -12,10 +12,12 @@ pub get-tail-requires : goal.get-tail-requires
 get-tail-requires c = omega (arith, cons-within c.args.mem.now c.args.mv.now c.args.w c.requires.can c.requires.tag)
 
 pub returns-then-head-eq0 : goal.returns-then-head-eq0
-returns-then-head-eq0 c = cons-found c.args.mem.now c.args.mv.now c.args.w c.get-head.result c.get-tail.result c.requires.tag c.if-stays_at.ensures c.get-head.ensures c.if-head-eq0.true c.get-tail.ensures
+returns-then-head-eq0 c = cons-found c.args.mem.now c.args.mv.now c.args.w c.get-head.result c.get-tail.result c.requires.tag c.if-stays_at.ensures c.get-head.ensures c.if-head-eq0.true
+    c.get-tail.ensures
 
 pub copy_cons-requires-clause-fresh : goal.copy_cons-requires-clause-fresh
-copy_cons-requires-clause-fresh c = is-fresh c.args.mem.now c.args.mv.now c.args.w c.get-head.result c.get-tail.result c.requires.tag c.if-stays_at.ensures c.get-head.ensures c.if-head-eq0.false c.get-tail.ensures
+copy_cons-requires-clause-fresh c = is-fresh c.args.mem.now c.args.mv.now c.args.w c.get-head.result c.get-tail.result c.requires.tag c.if-stays_at.ensures c.get-head.ensures
+    c.if-head-eq0.false c.get-tail.ensures
 
 pub returns : goal.returns
 returns c = inr (inr c.copy_cons.ensures)

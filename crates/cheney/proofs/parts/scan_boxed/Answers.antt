@@ -9,19 +9,22 @@ use Rattle.cheney.proofs.parts.scan_boxed.Goals as goal
 pub loop-at-init : goal.loop-at-init
 loop-at-init c = λ p k b run s o less.
     let P : ℕ → Type 0 = λ x. Shape x c.first_word.result (1 + c.args.header / 64) in
-    (opened-there p c.args.mem.now c.args.mv.now k b c.args.place c.first_word.result (1 + c.args.header / 64) run s o less (subst P c.requires.header (boxed-shape c.args.header c.first_word.result c.requires.boxed c.first_word.ensures.first))).going
+    (opened-there p c.args.mem.now c.args.mv.now k b c.args.place c.first_word.result (1 + c.args.header / 64) run s o less
+    (subst P c.requires.header (boxed-shape c.args.header c.first_word.result c.requires.boxed c.first_word.ensures.first))).going
 
 pub get-w-requires : goal.get-w-requires
 get-w-requires c =
     step-within c.loop-at.mem c.loop-at.mv c.requires.can.0 c.loop-at.at
     (going-step c.requires.can.1.plan c.args.mem.now c.loop-at.mem c.loop-at.mv c.requires.can.1.marks c.requires.can.0 c.loop-at.at (c.args.place + (1 + c.args.header / 64))
-    (c.loop-at.invariant c.requires.can.1.plan c.requires.can.1.marks c.requires.can.0 c.requires.can.1.runs c.requires.can.1.scanned c.requires.can.1.object c.requires.can.1.below) c.loop-at-test.true)
+    (c.loop-at.invariant c.requires.can.1.plan c.requires.can.1.marks c.requires.can.0 c.requires.can.1.runs c.requires.can.1.scanned c.requires.can.1.object c.requires.can.1.below)
+    c.loop-at-test.true)
 
 pub scan_word-requires-clause-can : goal.scan_word-requires-clause-can
 scan_word-requires-clause-can c = (
   c.requires.can.0,
   going-step c.requires.can.1.plan c.args.mem.now c.loop-at.mem c.loop-at.mv c.requires.can.1.marks c.requires.can.0 c.loop-at.at (c.args.place + (1 + c.args.header / 64))
-      (c.loop-at.invariant c.requires.can.1.plan c.requires.can.1.marks c.requires.can.0 c.requires.can.1.runs c.requires.can.1.scanned c.requires.can.1.object c.requires.can.1.below) c.loop-at-test.true,
+      (c.loop-at.invariant c.requires.can.1.plan c.requires.can.1.marks c.requires.can.0 c.requires.can.1.runs c.requires.can.1.scanned c.requires.can.1.object c.requires.can.1.below)
+      c.loop-at-test.true,
 )
 
 pub loop-at-preserved : goal.loop-at-preserved
@@ -38,5 +41,6 @@ returns-clause-each c = λ b p k run s o less.
 
 pub returns-clause-ends : goal.returns-clause-ends
 returns-clause-ends c =
-    same-ends c.requires.can.1.plan c.args.mem.now c.loop-at.mem c.args.mv.now c.loop-at.mv c.requires.can.1.marks (mark c.requires.can.1.marks c.requires.can.0 c.loop-at.at (c.args.place + (1 + c.args.header / 64))) c.requires.can.1.runs
+    same-ends c.requires.can.1.plan c.args.mem.now c.loop-at.mem c.args.mv.now c.loop-at.mv c.requires.can.1.marks
+    (mark c.requires.can.1.marks c.requires.can.0 c.loop-at.at (c.args.place + (1 + c.args.header / 64))) c.requires.can.1.runs
     (c.loop-at.invariant c.requires.can.1.plan c.requires.can.1.marks c.requires.can.0 c.requires.can.1.runs c.requires.can.1.scanned c.requires.can.1.object c.requires.can.1.below).on.runs

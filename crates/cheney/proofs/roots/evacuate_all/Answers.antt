@@ -13,10 +13,12 @@ loop-i-preserved c = record {
   len = length-set c.loop-i.words c.loop-i.i c.evacuate.result ∙ c.loop-i.invariant.len;
   each = λ p k run each.
       let less : c.loop-i.i < length c.loop-i.words = omega (arith, c.loop-i-test.true, c.loop-i.invariant.len) in
-      row-further p c.args.mem.now c.loop-i.mem c.loop-i.mv k c.args.words.now c.loop-i.words c.loop-i.i (c.loop-i.invariant.each p k run each) each c.evacuate.new.mem c.evacuate.new.mv c.evacuate.result less
+      row-further p c.args.mem.now c.loop-i.mem c.loop-i.mv k c.args.words.now c.loop-i.words c.loop-i.i (c.loop-i.invariant.each p k run each) each c.evacuate.new.mem c.evacuate.new.mv
+      c.evacuate.result less
       (c.evacuate.ensures p k (c.loop-i.invariant.each p k run each).runs
       (row-reached p c.args.mem.now c.loop-i.mem c.loop-i.mv k c.args.words.now c.loop-i.words c.loop-i.i (c.loop-i.invariant.each p k run each) each less));
 }
 
 pub returns-clause-each : goal.returns-clause-each
-returns-clause-each c = λ p k run each. row-done p c.args.mem.now c.loop-i.mem c.loop-i.mv k c.args.words.now c.loop-i.words c.loop-i.i (c.loop-i.invariant.each p k run each) each c.loop-i-test.false
+returns-clause-each c = λ p k run each. row-done p c.args.mem.now c.loop-i.mem c.loop-i.mv k c.args.words.now c.loop-i.words c.loop-i.i (c.loop-i.invariant.each p k run each) each
+    c.loop-i-test.false

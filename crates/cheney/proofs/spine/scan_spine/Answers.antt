@@ -16,49 +16,75 @@ loop-further-init c = record {
 }
 
 pub scan_word-requires-clause-can : goal.scan_word-requires-clause-can
-scan_word-requires-clause-can c =
-    (c.args.aged, cell-step c.requires.can.plan c.args.mem.now c.loop-further.mem c.loop-further.mv c.requires.can.marks c.args.aged c.loop-further.cell.place c.loop-further.cell.head c.loop-further.cell.tail (c.loop-further.invariant.each c.requires.can.plan c.requires.can.marks c.requires.can.runs c.requires.can.scanned c.requires.can.object c.requires.can.below) c.loop-further.invariant.next)
+scan_word-requires-clause-can c = (
+  c.args.aged,
+  cell-step c.requires.can.plan c.args.mem.now c.loop-further.mem c.loop-further.mv c.requires.can.marks c.args.aged c.loop-further.cell.place c.loop-further.cell.head
+      c.loop-further.cell.tail (c.loop-further.invariant.each c.requires.can.plan c.requires.can.marks c.requires.can.runs c.requires.can.scanned c.requires.can.object
+      c.requires.can.below) c.loop-further.invariant.next,
+)
 
 pub scan_tail-next-requires-clause-can : goal.scan_tail-next-requires-clause-can
 scan_tail-next-requires-clause-can c =
-    tail-step c.requires.can.plan c.args.mem.now c.loop-further.mem c.loop-further.mv c.requires.can.marks c.args.aged c.loop-further.cell.place c.loop-further.cell.head c.loop-further.cell.tail (c.loop-further.invariant.each c.requires.can.plan c.requires.can.marks c.requires.can.runs c.requires.can.scanned c.requires.can.object c.requires.can.below) c.loop-further.invariant.next
+    tail-step c.requires.can.plan c.args.mem.now c.loop-further.mem c.loop-further.mv c.requires.can.marks c.args.aged c.loop-further.cell.place c.loop-further.cell.head
+    c.loop-further.cell.tail (c.loop-further.invariant.each c.requires.can.plan c.requires.can.marks c.requires.can.runs c.requires.can.scanned c.requires.can.object
+    c.requires.can.below) c.loop-further.invariant.next
     c.scan_word.new.mem c.scan_word.new.mv c.scan_word.ensures.each c.scan_word.ensures.copies
 
 pub scan_tail-next-requires-clause-word : goal.scan_tail-next-requires-clause-word
 scan_tail-next-requires-clause-word c =
-    tail-kept c.requires.can.plan c.args.mem.now c.loop-further.mem c.loop-further.mv c.requires.can.marks c.args.aged c.loop-further.cell.place c.loop-further.cell.head c.loop-further.cell.tail (c.loop-further.invariant.each c.requires.can.plan c.requires.can.marks c.requires.can.runs c.requires.can.scanned c.requires.can.object c.requires.can.below) c.loop-further.invariant.next
+    tail-kept c.requires.can.plan c.args.mem.now c.loop-further.mem c.loop-further.mv c.requires.can.marks c.args.aged c.loop-further.cell.place c.loop-further.cell.head
+    c.loop-further.cell.tail (c.loop-further.invariant.each c.requires.can.plan c.requires.can.marks c.requires.can.runs c.requires.can.scanned c.requires.can.object
+    c.requires.can.below) c.loop-further.invariant.next
     c.scan_word.new.mem c.scan_word.new.mv c.scan_word.ensures.each c.scan_word.ensures.copies
 
 pub returns-in_default-clause-each : goal.returns-in_default-clause-each
 returns-in_default-clause-each c = λ p k run s o less.
-    cell-done p c.args.mem.now c.loop-further.mem c.loop-further.mv k c.args.aged c.loop-further.cell.place c.loop-further.cell.head c.loop-further.cell.tail (c.loop-further.invariant.each p k run s o less) c.loop-further.invariant.next c.scan_word.new.mem c.scan_word.new.mv c.scan_word.ensures.each c.scan_word.ensures.copies c.scan_tail-next.new.mem c.scan_tail-next.new.mv c.scan_tail-next.ensures.each
+    cell-done p c.args.mem.now c.loop-further.mem c.loop-further.mv k c.args.aged c.loop-further.cell.place c.loop-further.cell.head c.loop-further.cell.tail
+    (c.loop-further.invariant.each p k run s o less) c.loop-further.invariant.next c.scan_word.new.mem c.scan_word.new.mv c.scan_word.ensures.each c.scan_word.ensures.copies
+    c.scan_tail-next.new.mem c.scan_tail-next.new.mv c.scan_tail-next.ensures.each
 
 pub returns-in_default-clause-ends : goal.returns-in_default-clause-ends
 returns-in_default-clause-ends c =
-    same-ends c.requires.can.plan c.args.mem.now c.scan_tail-next.new.mem c.args.mv.now c.scan_tail-next.new.mv c.requires.can.marks (mark c.requires.can.marks c.args.aged (c.loop-further.cell.place + 2) (c.loop-further.cell.place + 2)) c.requires.can.runs
-    (cell-done c.requires.can.plan c.args.mem.now c.loop-further.mem c.loop-further.mv c.requires.can.marks c.args.aged c.loop-further.cell.place c.loop-further.cell.head c.loop-further.cell.tail (c.loop-further.invariant.each c.requires.can.plan c.requires.can.marks c.requires.can.runs c.requires.can.scanned c.requires.can.object c.requires.can.below) c.loop-further.invariant.next c.scan_word.new.mem c.scan_word.new.mv c.scan_word.ensures.each c.scan_word.ensures.copies c.scan_tail-next.new.mem c.scan_tail-next.new.mv c.scan_tail-next.ensures.each).runs
+    same-ends c.requires.can.plan c.args.mem.now c.scan_tail-next.new.mem c.args.mv.now c.scan_tail-next.new.mv c.requires.can.marks
+    (mark c.requires.can.marks c.args.aged (c.loop-further.cell.place + 2) (c.loop-further.cell.place + 2)) c.requires.can.runs
+    (cell-done c.requires.can.plan c.args.mem.now c.loop-further.mem c.loop-further.mv c.requires.can.marks c.args.aged c.loop-further.cell.place c.loop-further.cell.head
+    c.loop-further.cell.tail (c.loop-further.invariant.each c.requires.can.plan c.requires.can.marks c.requires.can.runs c.requires.can.scanned c.requires.can.object
+    c.requires.can.below) c.loop-further.invariant.next c.scan_word.new.mem c.scan_word.new.mv c.scan_word.ensures.each c.scan_word.ensures.copies c.scan_tail-next.new.mem
+    c.scan_tail-next.new.mv c.scan_tail-next.ensures.each).runs
 
 pub returns-then-further-at-clause-each : goal.returns-then-further-at-clause-each
 returns-then-further-at-clause-each c = λ p k run s o less.
-    cell-done p c.args.mem.now c.loop-further.mem c.loop-further.mv k c.args.aged c.loop-further.cell.place c.loop-further.cell.head c.loop-further.cell.tail (c.loop-further.invariant.each p k run s o less) c.loop-further.invariant.next c.scan_word.new.mem c.scan_word.new.mv c.scan_word.ensures.each c.scan_word.ensures.copies c.scan_tail-next.new.mem c.scan_tail-next.new.mv c.scan_tail-next.ensures.each
+    cell-done p c.args.mem.now c.loop-further.mem c.loop-further.mv k c.args.aged c.loop-further.cell.place c.loop-further.cell.head c.loop-further.cell.tail
+    (c.loop-further.invariant.each p k run s o less) c.loop-further.invariant.next c.scan_word.new.mem c.scan_word.new.mv c.scan_word.ensures.each c.scan_word.ensures.copies
+    c.scan_tail-next.new.mem c.scan_tail-next.new.mv c.scan_tail-next.ensures.each
 
 pub returns-then-further-at-clause-ends : goal.returns-then-further-at-clause-ends
 returns-then-further-at-clause-ends c =
-    same-ends c.requires.can.plan c.args.mem.now c.scan_tail-next.new.mem c.args.mv.now c.scan_tail-next.new.mv c.requires.can.marks (mark c.requires.can.marks c.args.aged (c.loop-further.cell.place + 2) (c.loop-further.cell.place + 2)) c.requires.can.runs
-    (cell-done c.requires.can.plan c.args.mem.now c.loop-further.mem c.loop-further.mv c.requires.can.marks c.args.aged c.loop-further.cell.place c.loop-further.cell.head c.loop-further.cell.tail (c.loop-further.invariant.each c.requires.can.plan c.requires.can.marks c.requires.can.runs c.requires.can.scanned c.requires.can.object c.requires.can.below) c.loop-further.invariant.next c.scan_word.new.mem c.scan_word.new.mv c.scan_word.ensures.each c.scan_word.ensures.copies c.scan_tail-next.new.mem c.scan_tail-next.new.mv c.scan_tail-next.ensures.each).runs
+    same-ends c.requires.can.plan c.args.mem.now c.scan_tail-next.new.mem c.args.mv.now c.scan_tail-next.new.mv c.requires.can.marks
+    (mark c.requires.can.marks c.args.aged (c.loop-further.cell.place + 2) (c.loop-further.cell.place + 2)) c.requires.can.runs
+    (cell-done c.requires.can.plan c.args.mem.now c.loop-further.mem c.loop-further.mv c.requires.can.marks c.args.aged c.loop-further.cell.place c.loop-further.cell.head
+    c.loop-further.cell.tail (c.loop-further.invariant.each c.requires.can.plan c.requires.can.marks c.requires.can.runs c.requires.can.scanned c.requires.can.object
+    c.requires.can.below) c.loop-further.invariant.next c.scan_word.new.mem c.scan_word.new.mv c.scan_word.ensures.each c.scan_word.ensures.copies c.scan_tail-next.new.mem
+    c.scan_tail-next.new.mv c.scan_tail-next.ensures.each).runs
 
 pub loop-further-smaller : goal.loop-further-smaller
 loop-further-smaller c =
     let inside : c.loop-further.cell.place + 2 ≤ length c.args.mem.now =
-    spine-inside c.requires.can.plan c.args.mem.now c.loop-further.mem c.args.mv.now c.loop-further.mv c.requires.can.marks (mark c.requires.can.marks c.args.aged c.loop-further.cell.place c.loop-further.cell.place) c.loop-further.cell.place c.requires.can.runs
-    (c.loop-further.invariant.each c.requires.can.plan c.requires.can.marks c.requires.can.runs c.requires.can.scanned c.requires.can.object c.requires.can.below).runs (cell-inside c.requires.can.plan c.args.mem.now c.loop-further.mem c.loop-further.mv c.requires.can.marks c.args.aged c.loop-further.cell.place c.loop-further.cell.head c.loop-further.cell.tail (c.loop-further.invariant.each c.requires.can.plan c.requires.can.marks c.requires.can.runs c.requires.can.scanned c.requires.can.object c.requires.can.below) c.loop-further.invariant.next) in
+    spine-inside c.requires.can.plan c.args.mem.now c.loop-further.mem c.args.mv.now c.loop-further.mv c.requires.can.marks
+    (mark c.requires.can.marks c.args.aged c.loop-further.cell.place c.loop-further.cell.place) c.loop-further.cell.place c.requires.can.runs
+    (c.loop-further.invariant.each c.requires.can.plan c.requires.can.marks c.requires.can.runs c.requires.can.scanned c.requires.can.object c.requires.can.below).runs
+    (cell-inside c.requires.can.plan c.args.mem.now c.loop-further.mem c.loop-further.mv c.requires.can.marks c.args.aged c.loop-further.cell.place c.loop-further.cell.head
+    c.loop-further.cell.tail (c.loop-further.invariant.each c.requires.can.plan c.requires.can.marks c.requires.can.runs c.requires.can.scanned c.requires.can.object
+    c.requires.can.below) c.loop-further.invariant.next) in
     omega (arith, c.if-further-at.false, inside)
 
 pub loop-further-preserved : goal.loop-further-preserved
 loop-further-preserved c = record {
   each = λ p k run s o less.
       let P : ℕ → Type 0 = λ z. RunsOn p c.args.mem.now c.scan_tail-next.new.mem c.scan_tail-next.new.mv (mark k c.args.aged z z) in
-      subst P (sym c.if-further-at.false) (cell-done p c.args.mem.now c.loop-further.mem c.loop-further.mv k c.args.aged c.loop-further.cell.place c.loop-further.cell.head c.loop-further.cell.tail (c.loop-further.invariant.each p k run s o less) c.loop-further.invariant.next c.scan_word.new.mem c.scan_word.new.mv c.scan_word.ensures.each c.scan_word.ensures.copies c.scan_tail-next.new.mem c.scan_tail-next.new.mv c.scan_tail-next.ensures.each);
+      subst P (sym c.if-further-at.false) (cell-done p c.args.mem.now c.loop-further.mem c.loop-further.mv k c.args.aged c.loop-further.cell.place c.loop-further.cell.head
+      c.loop-further.cell.tail (c.loop-further.invariant.each p k run s o less) c.loop-further.invariant.next c.scan_word.new.mem c.scan_word.new.mv c.scan_word.ensures.each
+      c.scan_word.ensures.copies c.scan_tail-next.new.mem c.scan_tail-next.new.mv c.scan_tail-next.ensures.each);
   next = c.in-Some.ensures.next;
   above = omega (arith, c.if-further-at.false, c.loop-further.invariant.above);
 }

@@ -10,12 +10,15 @@ pub copy_cons-new-requires-clause-can : goal.copy_cons-new-requires-clause-can
 copy_cons-new-requires-clause-can c = step-moves c.args.mem.now c.args.mv.now c.args.aged c.args.at c.args.w c.requires.can c.requires.word
 
 pub returns-then-here-clause-each : goal.returns-then-here-clause-each
-returns-then-here-clause-each c = λ p k b run s o. tail-moved p c.args.mem.now c.copy_cons-new.new.mem c.set.new.self c.args.mv.now c.copy_cons-new.new.mv k b c.args.at c.args.w c.copy_cons-new.result run s o c.requires.word c.copy_cons-new.ensures c.set.ensures
+returns-then-here-clause-each c = λ p k b run s o. tail-moved p c.args.mem.now c.copy_cons-new.new.mem c.set.new.self c.args.mv.now c.copy_cons-new.new.mv k b c.args.at c.args.w
+    c.copy_cons-new.result run s o c.requires.word c.copy_cons-new.ensures c.set.ensures
 
 pub returns-then-here-clause-next : goal.returns-then-here-clause-next
 returns-then-here-clause-next c =
-    is-next c.args.mem.now c.copy_cons-new.new.mem c.set.new.self c.args.mv.now c.copy_cons-new.new.mv c.args.aged c.args.at c.args.w c.in-Some.head c.in-Some.tail c.copy_cons-new.result c.requires.can c.requires.word
+    is-next c.args.mem.now c.copy_cons-new.new.mem c.set.new.self c.args.mv.now c.copy_cons-new.new.mv c.args.aged c.args.at c.args.w c.in-Some.head c.in-Some.tail c.copy_cons-new.result
+    c.requires.can c.requires.word
     c.in-Some.ensures c.copy_cons-new.ensures (sym c.is_in.ensures ∙ same-bool c.is_in.result c.args.aged c.if-here.true) c.set.ensures
 
 pub returns-else-here-clause-each : goal.returns-else-here-clause-each
-returns-else-here-clause-each c = λ p k b run s o. tail-moved p c.args.mem.now c.copy_cons-new.new.mem c.set.new.self c.args.mv.now c.copy_cons-new.new.mv k b c.args.at c.args.w c.copy_cons-new.result run s o c.requires.word c.copy_cons-new.ensures c.set.ensures
+returns-else-here-clause-each c = λ p k b run s o. tail-moved p c.args.mem.now c.copy_cons-new.new.mem c.set.new.self c.args.mv.now c.copy_cons-new.new.mv k b c.args.at c.args.w
+    c.copy_cons-new.result run s o c.requires.word c.copy_cons-new.ensures c.set.ensures

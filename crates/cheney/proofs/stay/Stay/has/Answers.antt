@@ -5,7 +5,8 @@ pub returns-then-place-spans : goal.returns-then-place-spans
 returns-then-place-spans c = slice-before c.as_slice-spans.result.now c.args.self.now.spans.items c.args.place c.as_slice-spans.ensures.value c.args.self.now.ordered c.if-place-spans.true
 
 pub returns-then-spans-count : goal.returns-then-spans-count
-returns-then-spans-count c = slice-after c.as_slice-spans.result.now c.args.self.now.spans.items c.args.place c.as_slice-spans.ensures.value c.args.self.now.ordered c.if-count-eq0.false c.if-spans-count.true
+returns-then-spans-count c = slice-after c.as_slice-spans.result.now c.args.self.now.spans.items c.args.place c.as_slice-spans.ensures.value c.args.self.now.ordered c.if-count-eq0.false
+    c.if-spans-count.true
 
 pub returns : goal.returns
 returns c =
