@@ -9,3 +9,4 @@ pub mod Taking
 pub mod Levels
 pub mod Table
 pub mod Searching
+pub mod Lent

@@ -59,6 +59,11 @@ pub record OthersStay (old new : List ℕ) (at : ℕ) : Type 0 where
   pub only : (p : ℕ) → p ≢ at → IsUsed new p → IsUsed old p
   pub words : (p q : ℕ) → p ≢ at → IsUsed old p → p ≤ q → q < p + size_at old p → slice_index new q ≡ slice_index old q
 
+-- The headers are as they were, whatever else was written.
+pub record HeadersStay (old new : List ℕ) : Type 0 where
+  pub same_len : length new ≡ length old
+  pub same : (p : ℕ) → Begins old p → slice_index new p ≡ slice_index old p
+
 -- Blocks begin where they did, with the same headers, but for three places.
 pub record Frame (old new : List ℕ) (a b c : ℕ) : Type 0 where
   pub same_len : length new ≡ length old

@@ -13,7 +13,7 @@ const STRETCH: u64 = 64;
 
 /// What is known of the blocks, stretch by stretch, and the sum of free words.
 #[derive(Drop)]
-pub struct Holes {
+pub(crate) struct Holes {
     pub(crate) tops: Tops,
     pub(crate) firsts: Vec<u8>,
     pub(crate) free: u64,

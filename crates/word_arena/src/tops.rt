@@ -10,7 +10,7 @@ const FAN: usize = 64;
 
 /// The numbers, and above each 64 of them their greatest, twice.
 #[derive(Drop)]
-pub struct Tops {
+pub(crate) struct Tops {
     leaves: Vec<u32>,
     groups: Vec<u32>,
     regions: Vec<u32>,
