@@ -2,6 +2,8 @@
 #![tactic(auto)]
 
 #[cfg(test)]
+mod building;
+#[cfg(test)]
 mod lines;
 #[cfg(test)]
 mod names;
@@ -15,6 +17,10 @@ mod sizes;
 mod std_edges;
 #[cfg(test)]
 mod sums;
+#[cfg(test)]
+mod tags;
+#[cfg(test)]
+mod term_parts;
 #[cfg(test)]
 mod trees;
 #[cfg(test)]

@@ -3,8 +3,6 @@
 
 mod laws;
 mod lists;
-#[cfg(test)]
-mod tests;
 mod tuples;
 
 pub use laws::{roles_grow_one_after_the_other, taken_words_keep_one_role};

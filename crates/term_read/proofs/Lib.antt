@@ -2,4 +2,3 @@ pub mod Reading
 pub mod Pointers
 pub mod Binaries
 pub mod Seen
-pub mod Sample

@@ -7,8 +7,6 @@ mod fun_thing;
 mod looks;
 mod map;
 mod object;
-#[cfg(test)]
-mod tests;
 mod tuple;
 
 pub use binary::{byte_at, byte_len};

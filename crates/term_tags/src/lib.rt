@@ -6,8 +6,6 @@ mod laws;
 mod layouts;
 mod makers;
 mod records;
-#[cfg(test)]
-mod tests;
 
 pub use kinds::{ATOMS, Kind, PIDS, PLACES, kind_of};
 pub use laws::table_of_layouts;

@@ -1,0 +1,110 @@
+// Words of terms and layouts of objects, written out by hand.
+use term_tags::{
+    Kind, Layout, atom, boxed_at, head_of, kind_of, layout_of, list_at, nil, pid, small,
+};
+
+// Words of each kind up to the last of its range, and at the end those of no kind: a port, a catch, a second nil, and what is
+// past its range, a pid, an atom, two pointers, a header.
+const KINDS: [(u64, Kind); 21] = [
+    (18_446_744_073_709_551_615, Kind::Small(-1)),
+    (15, Kind::Small(0)),
+    (
+        9_223_372_036_854_775_807,
+        Kind::Small(576_460_752_303_423_487),
+    ),
+    (
+        9_223_372_036_854_775_823,
+        Kind::Small(-576_460_752_303_423_488),
+    ),
+    (19, Kind::Pid(1)),
+    (35_184_372_088_819, Kind::Pid(2_199_023_255_551)),
+    (331, Kind::Atom(5)),
+    (1_048_523, Kind::Atom(16_383)),
+    (59, Kind::Nil),
+    (29, Kind::ListAt(7)),
+    (30, Kind::BoxedAt(7)),
+    (0, Kind::Header(0, 0)),
+    (316, Kind::Header(15, 4)),
+    (7, Kind::Other),
+    (27, Kind::Other),
+    (123, Kind::Other),
+    (35_184_372_088_835, Kind::Other),
+    (1_048_587, Kind::Other),
+    (67_108_865, Kind::Other),
+    (67_108_866, Kind::Other),
+    (1_073_741_824, Kind::Other),
+];
+
+fn is_kind(word: u64, kind: Kind) -> bool {
+    match (kind_of(word), kind) {
+        (Kind::Small(i), Kind::Small(j)) => i == j,
+        (Kind::Pid(n), Kind::Pid(m)) => n == m,
+        (Kind::Atom(n), Kind::Atom(m)) => n == m,
+        (Kind::ListAt(p), Kind::ListAt(q)) => p == q,
+        (Kind::BoxedAt(p), Kind::BoxedAt(q)) => p == q,
+        (Kind::Header(s, n), Kind::Header(r, m)) => s == r && n == m,
+        (Kind::Nil, Kind::Nil) => true,
+        (Kind::Other, Kind::Other) => true,
+        _ => false,
+    }
+}
+
+#[test]
+fn words_are_told_apart(rt: HostRuntime) {
+    for (word, kind) in &KINDS {
+        assert!(rt; is_kind(*word, *kind));
+    }
+}
+
+fn immediates_are_made() -> bool {
+    small(-1) == 18_446_744_073_709_551_615
+        && small(0) == 15
+        && pid(1) == 19
+        && atom(2) == 139
+        && nil() == 59
+}
+
+fn pointers_and_headers_are_made() -> bool {
+    list_at(5) == 21 && boxed_at(5) == 22 && head_of(0, 2) == 128 && head_of(15, 4) == 316
+}
+
+#[test]
+fn words_are_made(rt: HostRuntime) {
+    assert!(rt; immediates_are_made());
+    assert!(rt; pointers_and_headers_are_made());
+}
+
+// Headers, with the words of their objects, the first traced one, and how many are traced.
+const LAYOUTS: [(u64, Option<(u64, u64, u64)>); 18] = [
+    // tuples of 0, of 65,536 and of 65,537 parts
+    (0, Some((1, 1, 0))),
+    (4_194_304, Some((65_537, 1, 65_536))),
+    (4_194_368, None),
+    // subtag 1; big integers of one digit, of two and of three
+    (4, None),
+    (72, Some((2, 2, 0))),
+    (140, Some((3, 3, 0))),
+    (200, None),
+    // a reference; funs of arity 7 and 4; subtag 6
+    (144, Some((3, 3, 0))),
+    (468, Some((8, 6, 2))),
+    (276, None),
+    (88, None),
+    // a holder; heap binaries of arity 1 and 10; a part
+    (352, Some((6, 6, 0))),
+    (100, Some((2, 2, 0))),
+    (676, None),
+    (296, Some((5, 4, 1))),
+    // maps of arity 4 and 35; a pointer
+    (316, Some((5, 2, 3))),
+    (2_300, None),
+    (22, None),
+];
+
+#[test]
+fn layouts_are_those_of_the_table(rt: HostRuntime) {
+    for (header, shape) in &LAYOUTS {
+        let told = layout_of(*header).map(|l: Layout| (l.words, l.first, l.count));
+        assert!(rt; told == *shape);
+    }
+}

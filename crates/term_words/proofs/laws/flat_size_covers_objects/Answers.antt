@@ -1,5 +1,0 @@
-use Rattle.term_words.proofs.Reached.{reached-words}
-use Rattle.term_words.proofs.laws.flat_size_covers_objects.Goals as goal
-
-pub returns : goal.returns
-returns c = reached-words

@@ -1,5 +1,0 @@
-use Rattle.term_words.proofs.Growing.{grow}
-use Rattle.term_words.proofs.laws.more_lists_keep_trees.Goals as goal
-
-pub returns : goal.returns
-returns c = λ k shared more mem w t s. grow k shared more mem w t s

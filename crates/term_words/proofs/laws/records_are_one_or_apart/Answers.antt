@@ -1,8 +1,0 @@
-use Rattle.term_words.proofs.Roles.{records-apart, object-record-apart}
-use Rattle.term_words.proofs.laws.records_are_one_or_apart.Goals as goal
-
-pub returns-clause-records : goal.returns-clause-records
-returns-clause-records c = records-apart
-
-pub returns-clause-object : goal.returns-clause-object
-returns-clause-object c = object-record-apart

@@ -1,0 +1,5 @@
+use Rattle.term_words.proofs.Frames.{frame}
+use Rattle.term_words.proofs.standing.kept_content_keeps_trees.Goals as goal
+
+pub returns : goal.returns
+returns c = λ k d old new h. frame k d old new h
