@@ -2,23 +2,25 @@
 use Rattle.std.proofs.Common.{ℕ, ◌+◌, Bool, List, arith, inl, inr}
 use Rattle.word_mem.specs.declared.ranges.Room.{Room}
 use Rattle.plain_term.specs.Tree.{Tree}
+use Rattle.term_words.specs.Role.{OfObject}
 use Rattle.term_build.specs.Taken.{IsFree, with_object}
 use Rattle.term_build.specs.Clear.{Uses}
 use Rattle.term_build.specs.Grows.{Grows, Built}
-use Rattle.term_build.proofs.Taking.{taken-kept, with-object-taken, with-object-single, with-object-within}
+use Rattle.term_build.proofs.Taking.{taken-kept, with-object-of, with-object-taken, with-object-single, with-object-within}
 
 -- The roles of one object beside the old ones.
-pub grown : (roles : ℕ → ℕ) (c : ℕ → ℕ → Bool) (n : ℕ) (old new : Room) (mem mem2 : List ℕ) → IsFree c old.top (old.top + n) → Uses n old new mem mem2
-    → Grows c (with_object roles c old.top n) old.top n mem mem2
-grown roles c n old new mem mem2 free u = record {
+pub grown : (roles : ℕ → ℕ) (c : ℕ → ℕ → Bool) (n : ℕ) (old new : Room) (mem mem2 : List ℕ) → ((j : ℕ) → OfObject (roles j)) → IsFree c old.top (old.top + n)
+    → Uses n old new mem mem2 → Grows c (with_object roles c old.top n) old.top n mem mem2
+grown roles c n old new mem mem2 of_object free u = record {
   more = (with-object-taken roles c old.top n free).more;
   within = λ a k h. with-object-within roles c old.top n a k h;
+  objects = λ a k h. with-object-of roles c old.top n a k of_object h;
   single = with-object-single roles c old.top n;
   kept = taken-kept roles c (with_object roles c old.top n) n old new mem mem2 u (with-object-taken roles c old.top n free);
 }
 
 pub grows-none : (c : ℕ → ℕ → Bool) (top : ℕ) (mem : List ℕ) → Grows c c top 0 mem mem
-grows-none c top mem = record { more = λ a k h. h; within = λ a k h. inl h; single = λ s. s; kept = record { each = λ shared w t s. s } }
+grows-none c top mem = record { more = λ a k h. h; within = λ a k h. inl h; objects = λ a k h. inl h; single = λ s. s; kept = record { each = λ shared w t s. s } }
 
 pub grows-then : (c d e : ℕ → ℕ → Bool) (top m n : ℕ) (old mid new : List ℕ) → Grows c d top m old mid → Grows d e (top + m) n mid new → Grows c e top (m + n) old new
 grows-then c d e top m n old mid new a b = record {
@@ -27,6 +29,7 @@ grows-then c d e top m n old mid new a b = record {
     | inl before ↦ elim (a.within q k before) [ inl first ↦ inl first | inr inside ↦ inr (inside.0, omega arith) ]
     | inr inside ↦ inr (omega (arith, inside), omega (arith, inside))
   ];
+  objects = λ q k h. elim (b.objects q k h) [ inl before ↦ a.objects q k before | inr is ↦ inr is ];
   single = λ s. b.single (a.single s);
   kept = record { each = λ shared w t s. b.kept.each shared w t (a.kept.each shared w t s) };
 }

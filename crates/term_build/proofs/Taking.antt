@@ -6,7 +6,7 @@ use Rattle.plain_term.specs.Tree.{Tree, Trees, trees_len}
 use Rattle.plain_term.specs.Tree.Tree.{Cons, Tuple}
 use Rattle.term_tags.specs.Words.{list_word, boxed_word, head_word}
 use Rattle.term_tags.specs.declared.layouts.TheConstants.{TUPLE, MOST_PARTS}
-use Rattle.term_words.specs.Role.{FIRST, FURTHER, IsSingle}
+use Rattle.term_words.specs.Role.{FIRST, FURTHER, IsSingle, OfObject}
 use Rattle.term_words.specs.Stands.{Stands, AllStand}
 use Rattle.term_words.specs.Kept.{Kept, Keeps}
 use Rattle.term_words.proofs.Makes.{stands-cons, stands-tuple, row-of-all, all-length}
@@ -107,3 +107,14 @@ with-object-single roles c top n single = record {
 
 pub with-object-within : (roles : ℕ → ℕ) (c : ℕ → ℕ → Bool) (top n a k : ℕ) → with_object roles c top n a k ≡ true → (c a k ≡ true) ⊎ ((top ≤ a) × (a < top + n))
 with-object-within roles c top n a k h = elim (cut top n a) [ inl apart ↦ inl (sym (beside-old roles c top n a k apart) ∙ h) | inr inner ↦ inr inner ]
+
+-- New roles are those of the object.
+pub with-object-of : (roles : ℕ → ℕ) (c : ℕ → ℕ → Bool) (top n a k : ℕ) → ((j : ℕ) → OfObject (roles j)) → with_object roles c top n a k ≡ true → (c a k ≡ true) ⊎ OfObject k
+with-object-of roles c top n a k of_object h = elim (cut top n a) [
+  | inl apart ↦ inl (sym (beside-old roles c top n a k apart) ∙ h)
+  | inr inside ↦ inr (subst OfObject (beside-new roles c top n a k inside.0 inside.1 h) (of_object (a - top)))
+]
+
+pub plain-object : (j : ℕ) → OfObject (plain j)
+plain-object zero = inr (omega arith, omega arith)
+plain-object (suc j) = inr (omega (arith, plain-after (suc j) (omega arith)), omega (arith, plain-after (suc j) (omega arith)))

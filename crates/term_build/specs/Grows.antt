@@ -1,15 +1,16 @@
 -- How the roles of places grow while objects are built.
 use Rattle.std.specs.Prelude.{◌≡◌, ℕ, ◌+◌, ◌<◌, ◌≤◌, ◌⊎◌, Bool, true, List}
 use Rattle.plain_term.specs.Tree.{Tree}
-use Rattle.term_words.specs.Role.{IsSingle}
+use Rattle.term_words.specs.Role.{IsSingle, OfObject}
 use Rattle.term_words.specs.Stands.{Stands}
 use Rattle.term_words.specs.Kept.{Keeps}
 
--- The test d allows no less than c and no new role but in the n words from place `top` on, one role a place stays one,
--- and every tree that stood by c in the old memory stands by d in the new one.
+-- The test d allows no less than c and no new role but roles of objects in the n words from place `top` on, one role a
+-- place stays one, and every tree that stood by c in the old memory stands by d in the new one.
 pub record Grows (c d : ℕ → ℕ → Bool) (top n : ℕ) (old new : List ℕ) : Type 0 where
   pub more : (a k : ℕ) → c a k ≡ true → d a k ≡ true
   pub within : (a k : ℕ) → d a k ≡ true → (c a k ≡ true) ⊎ ((top ≤ a) × (a < top + n))
+  pub objects : (a k : ℕ) → d a k ≡ true → (c a k ≡ true) ⊎ OfObject k
   pub single : IsSingle c → IsSingle d
   pub kept : Keeps c d old new
 

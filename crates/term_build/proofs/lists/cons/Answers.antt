@@ -4,7 +4,7 @@ use Rattle.term_words.specs.Role.{outside}
 use Rattle.term_words.specs.Stands.{Stands}
 use Rattle.plain_term.specs.Tree.Tree.{Cons}
 use Rattle.term_build.specs.Taken.{plain, with_object}
-use Rattle.term_build.proofs.Taking.{lie-none, lie-first, taken-kept, with-object-taken, cons-made}
+use Rattle.term_build.proofs.Taking.{plain-object, lie-none, lie-first, taken-kept, with-object-taken, cons-made}
 use Rattle.term_build.proofs.Growing.{grown}
 use Rattle.term_build.proofs.Rooms.{room-taken, room-moved, taken-keeps}
 use Rattle.term_build.proofs.lists.cons.Goals as goal
@@ -43,6 +43,6 @@ returns-clause-made_clear c = λ shared a b sa sb.
 pub returns-clause-built : goal.returns-clause-built
 returns-clause-built c = λ k shared a b free sa sb. record {
   test = with_object plain k c.args.room.now.top 2;
-  grows = grown plain k 2 c.args.room.now _ _ _ free (returns-clause-uses c);
+  grows = grown plain k 2 c.args.room.now _ _ _ plain-object free (returns-clause-uses c);
   made = returns-clause-made c k (with_object plain k c.args.room.now.top 2) shared a b (with-object-taken plain k c.args.room.now.top 2 free) sa sb;
 }

@@ -6,7 +6,7 @@ use Rattle.term_words.specs.Role.{outside}
 use Rattle.term_words.specs.Stands.{Stands}
 use Rattle.plain_term.specs.Tree.Tree.{Tuple}
 use Rattle.term_build.specs.Taken.{plain, with_object}
-use Rattle.term_build.proofs.Taking.{lie-first, taken-kept, with-object-taken, tuple-made}
+use Rattle.term_build.proofs.Taking.{plain-object, lie-first, taken-kept, with-object-taken, tuple-made}
 use Rattle.term_build.proofs.Growing.{grown}
 use Rattle.term_build.proofs.Rooms.{room-taken, room-moved, taken-keeps}
 use Rattle.term_build.proofs.tuples.tuple.Goals as goal
@@ -45,7 +45,7 @@ returns-clause-made_clear c = λ shared ts all.
 pub returns-clause-built : goal.returns-clause-built
 returns-clause-built c = λ k shared ts free all. record {
   test = with_object plain k c.args.room.now.top (1 + length c.args.parts.now);
-  grows = grown plain k (1 + length c.args.parts.now) c.args.room.now _ _ _ free (returns-clause-uses c);
+  grows = grown plain k (1 + length c.args.parts.now) c.args.room.now _ _ _ plain-object free (returns-clause-uses c);
   made = returns-clause-made c k (with_object plain k c.args.room.now.top (1 + length c.args.parts.now)) shared ts
       (with-object-taken plain k c.args.room.now.top (1 + length c.args.parts.now) free) all;
 }
