@@ -1,5 +1,6 @@
 -- From the answer of a space's call to the machine's step.
-use Rattle.std.proofs.Common.{◌≡◌, ℕ, inl, inr, Bool, true, false, not, cond, ◌||◌, ◌⊎◌, List, [], ◌∷◌, ◌++◌, codes, decimal, Option, Some, None, Result, Ok, Err, IfOk, refl, sym, ap, subst, ◌∙◌, nat_le, length}
+use Rattle.std.proofs.Common.{◌≡◌, ℕ, inl, inr, Bool, true, false, not, cond, ◌||◌, ◌⊎◌, List, [], ◌∷◌, ◌++◌, codes, decimal, nat_le, length}
+use Rattle.std.proofs.Common.{Option, Some, None, Result, Ok, Err, IfOk, refl, sym, ap, subst, ◌∙◌}
 use Rattle.std.specs.Prelude.{MatchBool}
 use Rattle.std.specs.List.{find, list_any}
 use Rattle.plain_term.specs.Tree.{Tree}
@@ -283,7 +284,8 @@ pub spawn-does : (supply : Supply) (names : List (List ℕ)) (code : List Item) 
 spawn-does supply names code reply Old after r e next b = λ s terms h f.
     let p : Parsed = said (System Spawn) terms names in
     let P : Reply → Type 0 = λ x. Acts supply s p x after in
-    subst P (sym e) (acts-becomes supply s p after refl refl Spawned r (λ n k. spawned-fits after s terms names (nat_le MOST_PROCESSES (length s.processes)) n (number s n k (next s h))) (b s terms h f.longer))
+    subst P (sym e) (acts-becomes supply s p after refl refl Spawned r
+    (λ n k. spawned-fits after s terms names (nat_le MOST_PROCESSES (length s.processes)) n (number s n k (next s h))) (b s terms h f.longer))
   where
     number : (s : State) (n : ℕ) → r ≡ Ok n → IfOk r (λ n. n ≡ s.next) → n ≡ s.next
     number s n k h = let P : Result ℕ Refusal → Type 0 = λ z. IfOk z (λ n. n ≡ s.next) in subst P k h

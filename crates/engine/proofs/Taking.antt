@@ -25,7 +25,7 @@ use Rattle.script_parse.specs.Parses.{Reads as Parsing}
 use Rattle.script_parse.proofs.OneLine.{one_line}
 use Rattle.engine.specs.declared.reply.Reply.{Reply}
 use Rattle.engine.specs.declared.reply.Reply.TheVariants.{Refused}
-use Rattle.engine.specs.Replies.{reply_lines, ends_script}
+use Rattle.engine.specs.Replies.{Shown, reply_lines, ends_script}
 use Rattle.engine.specs.Rules.{Supply, After}
 use Rattle.engine.specs.Acts.{Acts, Fits, HasCode, TermsFit, Takes, TellsMap, StandsWith, names_left}
 use Rattle.script_grammar.proofs.Naming.{ArePlaced, with-names-placed, with-names-more, names-back, names-longer, placed-front}
@@ -77,26 +77,6 @@ told line names c after code w r = record {
   fits = r.fits;
 }
 
--- the names before a line, and after it
-pub told-longer : (line : List ℕ) (names : List (List ℕ)) (c : Command) (after : List (List ℕ)) (code : List Item) (w : Written) → Told line names c after code w → length names ≤ length after
-told-longer line names c after code w t = subst (λ z. length names ≤ length z) (sym t.names_are) (names-longer names (all_atoms w))
-
-pub told-back : (line : List ℕ) (names : List (List ℕ)) (c : Command) (after : List (List ℕ)) (code : List Item) (w : Written) → Told line names c after code w → take (length names) after ≡ names
-told-back line names c after code w t = ap (take (length names)) t.names_are ∙ names-back names (all_atoms w)
-
-pub told-code : (line : List ℕ) (names : List (List ℕ)) (c : Command) (after : List (List ℕ)) (code : List Item) (w : Written) → Told line names c after code w → length code ≤ 4096 → HasCode c after code
-told-code line names c after code w t few =
-    let P : Command → Type 0 = λ z. HasCode z after code in
-    subst P (sym t.command) (has-code after w code t.says.allowed t.built t.code_is few (subst (λ z. ArePlaced z (all_atoms w)) (sym t.names_are) (with-names-placed names (all_atoms w))))
-
-pub told-fits : (line : List ℕ) (names : List (List ℕ)) (c : Command) (after : List (List ℕ)) (code : List Item) (w : Written) (items : List Item) (s : State)
-    → Told line names c after code w → items ≡ code → names ≡ s.names → Fits c after items (terms_of w) s
-told-fits line names c after code w items s t e same =
-    subst (λ z. Fits c after z (terms_of w) s) (sym e) (record {
-      term = let P : Command → Type 0 = λ z. TermsFit z after code (terms_of w) in subst P (sym t.command) (terms-fit after w code t.says.allowed t.built t.code_is);
-      longer = let m = with-names-more names (all_atoms w) in record { more = m.0; are = t.names_are ∙ m.1 ∙ ap (λ z. z ++ m.0) same };
-    })
-
 -- a map line prints
 map-prints : (c : Command) → is_map c ≡ true → is_printing c ≡ true
 map-prints (Process n Info) e = refl
@@ -108,6 +88,27 @@ map-prints (System _) e = absurd (cc)
 map-prints NoCommand e = absurd (cc)
 
 module _ (line : List ℕ) (before : List (List ℕ)) (c : Command) (after : List (List ℕ)) (code : List Item) (w : Written) (t : Told line before c after code w) where
+  -- the names before a line, and after it
+  pub told-longer : length before ≤ length after
+  told-longer = subst (λ z. length before ≤ length z) (sym t.names_are) (names-longer before (all_atoms w))
+
+  pub told-back : take (length before) after ≡ before
+  told-back = ap (take (length before)) t.names_are ∙ names-back before (all_atoms w)
+
+  -- the code is that of the command
+  pub told-code : (items : List Item) → items ≡ code → length code ≤ 4096 → HasCode c after items
+  told-code items e few =
+      let P : Command → Type 0 = λ z. HasCode z after code in
+      let placed : ArePlaced after (all_atoms w) = subst (λ z. ArePlaced z (all_atoms w)) (sym t.names_are) (with-names-placed before (all_atoms w)) in
+      subst (HasCode c after) (sym e) (subst P (sym t.command) (has-code after w code t.says.allowed t.built t.code_is few placed))
+
+  -- so are its terms, and its names are those before it with more
+  pub told-fits : (items : List Item) (s : State) → items ≡ code → before ≡ s.names → Fits c after items (terms_of w) s
+  told-fits items s e same = subst (λ z. Fits c after z (terms_of w) s) (sym e) (record {
+    term = let P : Command → Type 0 = λ z. TermsFit z after code (terms_of w) in subst P (sym t.command) (terms-fit after w code t.says.allowed t.built t.code_is);
+    longer = let m = with-names-more before (all_atoms w) in record { more = m.0; are = t.names_are ∙ m.1 ∙ ap (λ z. z ++ m.0) same };
+  })
+
   -- one that prints brings no name
   pub told-same : is_printing c ≡ true → after ≡ before
   told-same e = t.names_are ∙ ap (with_names before) (prints-none after w (ap is_printing (sym t.command) ∙ e))
@@ -122,6 +123,10 @@ module _ (line : List ℕ) (before : List (List ℕ)) (c : Command) (after : Lis
 
   module _ (supply : Supply) (s : State) (reply : Reply) (stands : State → Type 0) (text : List (List ℕ) → Command → List ℕ) (same : before ≡ s.names)
       (a : Acts supply s (said c (terms_of w) after) reply (record { stands = stands; text = text after })) where
+    -- what the reply is read from, where these are the names
+    abbrev seen : (names : List (List ℕ)) → Shown
+    seen names = record { state = a.new; names = names; text = text names }
+
     -- what the line is read as
     reads : IsRead s.names line (said c (terms_of w) after)
     reads = record { written = w; says = t.says; built = t.built; is = t.is ∙ ap (λ z. parsed_of z w) same; few = t.fits }
@@ -144,7 +149,7 @@ module _ (line : List ℕ) (before : List (List ℕ)) (c : Command) (after : Lis
       new = a.new;
       stands = (a.stands, left-all reply h ∙ sym a.names);
       steps = record { reading = Means (said c (terms_of w) after); reads = reads; follows = a.steps };
-      maps = λ p r. let P : Parsed → Type 0 = λ z. TellsMap s z (text after) (reply_lines reply (record { state = a.new; names = after; text = text after })) in subst P (read-one p r) a.maps;
+      maps = λ p r. let P : Parsed → Type 0 = λ z. TellsMap s z (text after) (reply_lines reply (seen after)) in subst P (read-one p r) a.maps;
     }
 
     -- the line was refused, and its names were given back
@@ -157,13 +162,13 @@ module _ (line : List ℕ) (before : List (List ℕ)) (c : Command) (after : Lis
         reads = reads;
         follows = subst (λ z. CommandStep supply.may supply.words s (said c (terms_of w) after) (ends_script reply) z a.new) (lines names) a.steps;
       };
-      maps = λ p r. let P : Parsed → Type 0 = λ z. TellsMap s z (text names) (reply_lines reply (record { state = a.new; names = names; text = text names })) in
+      maps = λ p r. let P : Parsed → Type 0 = λ z. TellsMap s z (text names) (reply_lines reply (seen names)) in
           subst P (read-one p r) (λ m o. sym (lines names) ∙ a.maps m o ∙ ap (λ z. text z c ∷ []) (told-same (map-prints c m) ∙ sym back));
     }
       where
-        lines : (names : List (List ℕ)) → reply_lines reply (record { state = a.new; names = after; text = text after }) ≡ reply_lines reply (record { state = a.new; names = names; text = text names })
-        lines names = ap (λ x. reply_lines x (record { state = a.new; names = after; text = text after })) k
-            ∙ sym (ap (λ x. reply_lines x (record { state = a.new; names = names; text = text names })) k)
+        lines : (names : List (List ℕ)) → reply_lines reply (seen after) ≡ reply_lines reply (seen names)
+        lines names = ap (λ x. reply_lines x (seen after)) k
+            ∙ sym (ap (λ x. reply_lines x (seen names)) k)
 
 -- the line is refused before it comes to a command
 pub takes-nothing : (supply : Supply) (s : State) (line : List ℕ) (e : Refusal) (before names : List (List ℕ)) (after : After)

@@ -34,7 +34,8 @@ module _ {K : Type 0} (wrote : K → List ℕ → Type 0) (faults : K → ℕ) w
   sink_from before after = record { wrote = wrote; faults = faults; before = before; after = after }
 
   -- the text of replies one after the other was written
-  pub texts-written : (old mid new : K) (xs ys : List (List ℕ)) → WritesAll (sink_from old mid) (replies_text xs) → WritesAll (sink_from mid new) (replies_text ys) → WritesAll (sink_from old new) (replies_text (xs ++ ys))
+  pub texts-written : (old mid new : K) (xs ys : List (List ℕ)) → WritesAll (sink_from old mid) (replies_text xs)
+      → WritesAll (sink_from mid new) (replies_text ys) → WritesAll (sink_from old new) (replies_text (xs ++ ys))
   texts-written old mid new xs ys g h = (
     subst (Grew wrote old new) (sym (text-append xs ys)) (Grew-append wrote old mid new (replies_text xs) (replies_text ys) g.0 h.0),
     h.1 ∙ g.1,

@@ -72,7 +72,8 @@ fn send<S: Space, K: Sink>(
 ) -> Result<(), SinkFault>
     requires can { CanReply S.sits S.named space.now names.now reply }
     ensures sent { (s : State) → S.stands space.now s
-        → Written K.wrote K.faults sink.old sink.new (replies_text (reply_lines reply (record { state = s; names = names.now; text = S.text space.now names.now }))) result }
+        → Written K.wrote K.faults sink.old sink.new
+        (replies_text (reply_lines reply (record { state = s; names = names.now; text = S.text space.now names.now }))) result }
 {
     let mut gathered = Gathered::new(sink);
     put_reply(space, names, reply, &mut gathered)?;

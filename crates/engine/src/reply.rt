@@ -37,7 +37,8 @@ fn put_text<S: Space, K: Sink>(
 ) -> Result<(), SinkFault>
     requires can { CanReply S.sits S.named space.now names.now (Reply.Told seat (Print r)) }
     ensures writes { (s : State) → S.stands space.now s
-        → Writes K.wrote sink.old sink.new result (replies_text (reply_lines (Reply.Told seat (Print r)) (record { state = s; names = names.now; text = S.text space.now names.now }))) }
+        → Writes K.wrote sink.old sink.new result
+        (replies_text (reply_lines (Reply.Told seat (Print r)) (record { state = s; names = names.now; text = S.text space.now names.now }))) }
     ensures later { K.faults sink.old ≤ K.faults sink.new }
     ensures rose { OnErr result (Rose (K.faults sink.old) (K.faults sink.new)) }
     ensures told { OnOk result (K.faults sink.new ≡ K.faults sink.old) }
@@ -59,7 +60,8 @@ fn put_told<S: Space, K: Sink>(
 ) -> Result<(), SinkFault>
     requires can { CanReply S.sits S.named space.now names.now (Reply.Told seat verb) }
     ensures writes { (s : State) → S.stands space.now s
-        → Writes K.wrote sink.old sink.new result (replies_text (reply_lines (Reply.Told seat verb) (record { state = s; names = names.now; text = S.text space.now names.now }))) }
+        → Writes K.wrote sink.old sink.new result
+        (replies_text (reply_lines (Reply.Told seat verb) (record { state = s; names = names.now; text = S.text space.now names.now }))) }
     ensures later { K.faults sink.old ≤ K.faults sink.new }
     ensures rose { OnErr result (Rose (K.faults sink.old) (K.faults sink.new)) }
     ensures told { OnOk result (K.faults sink.new ≡ K.faults sink.old) }
@@ -79,7 +81,8 @@ pub(crate) fn put_reply<S: Space, K: Sink>(
 ) -> Result<(), SinkFault>
     requires can { CanReply S.sits S.named space.now names.now reply }
     ensures writes { (s : State) → S.stands space.now s
-        → Writes K.wrote sink.old sink.new result (replies_text (reply_lines reply (record { state = s; names = names.now; text = S.text space.now names.now }))) }
+        → Writes K.wrote sink.old sink.new result
+        (replies_text (reply_lines reply (record { state = s; names = names.now; text = S.text space.now names.now }))) }
     ensures later { K.faults sink.old ≤ K.faults sink.new }
     ensures rose { OnErr result (Rose (K.faults sink.old) (K.faults sink.new)) }
     ensures told { OnOk result (K.faults sink.new ≡ K.faults sink.old) }
