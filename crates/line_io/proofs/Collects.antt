@@ -75,7 +75,8 @@ module _ {K : Type 0} (wrote : K → List ℕ → Type 0) (old new : Gathered K)
 
   -- the adapter wrote x, and finished: last is what the sink is then
   pub finished : {E : Type 0} (faults : K → ℕ) (start last final : K) (x : List ℕ) (r : Result (Unit {0}) E) → old.sink.now ≡ start → pending old ≡ [] → Grew (gathered_wrote wrote) old new x
-      → faults old.sink.now ≤ faults new.sink.now → faults new.sink.now ≡ faults old.sink.now → Written wrote faults new.sink.now last (pending new) r → final ≡ last → Written wrote faults start final x r
+      → faults old.sink.now ≤ faults new.sink.now → faults new.sink.now ≡ faults old.sink.now → Written wrote faults new.sink.now last (pending new) r → final ≡ last
+      → Written wrote faults start final x r
   finished {E} faults start last final x (Ok u) starts empty grew later told rest ends =
       let whole : Grew wrote old.sink.now last x = sent_all last x (sent x empty grew) rest.all in
       let P : K → Type 0 = λ k. Written {E = E} wrote faults k last x (Ok u) in
@@ -88,7 +89,8 @@ module _ {K : Type 0} (wrote : K → List ℕ → Type 0) (old new : Gathered K)
       subst Q (sym ends) (subst P starts (record { all = tt; part = short; later = omega (arith, later, rest.later); rose = omega (arith, later, rest.later, rest.rose); told = tt }))
 
   -- writing x to the adapter failed, and it was given up
-  pub given_up : {E : Type 0} (faults : K → ℕ) (start final : K) (x : List ℕ) (r : Result (Unit {0}) E) → IsErr r → old.sink.now ≡ start → pending old ≡ [] → GrewInPart (gathered_wrote wrote) old new x
+  pub given_up : {E : Type 0} (faults : K → ℕ) (start final : K) (x : List ℕ) (r : Result (Unit {0}) E) → IsErr r → old.sink.now ≡ start → pending old ≡ []
+      → GrewInPart (gathered_wrote wrote) old new x
       → faults old.sink.now ≤ faults new.sink.now → Rose (faults old.sink.now) (faults new.sink.now) → final ≡ new.sink.now → Written wrote faults start final x r
   given_up faults start final x (Ok u) failed starts empty grew later rose ends = cc
   given_up {E} faults start final x (Err e) failed starts empty grew later rose ends =

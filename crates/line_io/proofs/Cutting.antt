@@ -14,7 +14,8 @@ use Rattle.line_io.specs.declared.reader.TheConstants.{SIZE}
 use Rattle.line_io.proofs.Pieces.{IsOpen-append, pieces-first, pieces-open, whole_of_open, pieces-some, is_whole_ended, line_of_whole, line_of_open, line_given_long, length-strip, finished-append, or-true}
 
 -- the lines of some bytes, of which the pieces that came first were given
-pub lines-cut : (bytes : List ℕ) (ended : Bool) (limits : Limits) (whole ps : List (List ℕ)) (more : ℕ) → pieces (take limits.bytes bytes) ≡ whole ++ ps → list_all is_whole whole ≡ true → more + length whole ≡ limits.lines
+pub lines-cut : (bytes : List ℕ) (ended : Bool) (limits : Limits) (whole ps : List (List ℕ)) (more : ℕ) → pieces (take limits.bytes bytes) ≡ whole ++ ps → list_all is_whole whole ≡ true
+    → more + length whole ≡ limits.lines
     → lines bytes ended limits ≡ map line_of whole ++ map line_of (take more (finished (ended && nat_le (length bytes) limits.bytes) ps))
 unfolding lines
 lines-cut bytes ended limits whole ps more cut all sum =
@@ -27,7 +28,8 @@ lines-cut bytes ended limits whole ps more cut all sum =
     ∙ map-append line_of whole (take more (finished last ps))
 
 -- the pieces of the bytes that were taken
-pub cut_pieces : (limits : Limits) (is_long : Bool) (more room : ℕ) (held bytes : List ℕ) (given : List Line) (r : IsCutting limits is_long more room held bytes given) → pieces bytes ≡ r.whole ++ pieces (r.gone ++ held)
+pub cut_pieces : (limits : Limits) (is_long : Bool) (more room : ℕ) (held bytes : List ℕ) (given : List Line) (r : IsCutting limits is_long more room held bytes given)
+    → pieces bytes ≡ r.whole ++ pieces (r.gone ++ held)
 cut_pieces limits is_long more room held bytes given r =
     ap pieces (sym (append-nil bytes)) ∙ r.cuts [] ∙ ap (λ l. r.whole ++ pieces (r.gone ++ l)) (append-nil held)
 
@@ -128,13 +130,16 @@ module _ (limits : Limits) (is_long : Bool) (more room : ℕ) (held bytes : List
       → IsCutting limits false fewer room rest bytes (given ++ (line_given is_long (strip_carriage_return t) ∷ []))
   gives t rest fewer parts no_end one r =
       let first : (later : List ℕ) → pieces (r.gone ++ ((t ++ (10 ∷ rest)) ++ later)) ≡ ((r.gone ++ t) ++ (10 ∷ [])) ∷ pieces (rest ++ later) =
-      λ later. ap pieces (ap (λ l. r.gone ++ l) (append_assoc t (10 ∷ rest) later) ∙ sym (append_assoc r.gone t (10 ∷ (rest ++ later)))) ∙ pieces-first (r.gone ++ t) (rest ++ later) (IsOpen-append r.gone t r.gone_open no_end) in
+      λ later. ap pieces (ap (λ l. r.gone ++ l) (append_assoc t (10 ∷ rest) later) ∙ sym (append_assoc r.gone t (10 ∷ (rest ++ later))))
+      ∙ pieces-first (r.gone ++ t) (rest ++ later) (IsOpen-append r.gone t r.gone_open no_end) in
       record {
         whole = r.whole ++ ((r.gone ++ t) ++ (10 ∷ [])) ∷ [];
         gone = [];
-        cuts = λ later. r.cuts later ∙ ap (λ l. r.whole ++ pieces (r.gone ++ (l ++ later))) parts ∙ ap (λ l. r.whole ++ l) (first later) ∙ sym (append_assoc r.whole (((r.gone ++ t) ++ (10 ∷ [])) ∷ []) (pieces (rest ++ later)));
+        cuts = λ later. r.cuts later ∙ ap (λ l. r.whole ++ pieces (r.gone ++ (l ++ later))) parts ∙ ap (λ l. r.whole ++ l) (first later)
+            ∙ sym (append_assoc r.whole (((r.gone ++ t) ++ (10 ∷ [])) ∷ []) (pieces (rest ++ later)));
         all_whole = list_all-append is_whole r.whole (((r.gone ++ t) ++ (10 ∷ [])) ∷ []) ∙ rw (r.all_whole, is_whole_ended (r.gone ++ t)) refl;
-        given_is = ap (λ l. l ++ (line_given is_long (strip_carriage_return t) ∷ [])) r.given_is ∙ ap (λ x. map line_of r.whole ++ (x ∷ [])) (sym (same_line t no_end r)) ∙ sym (map-append line_of r.whole (((r.gone ++ t) ++ (10 ∷ [])) ∷ []));
+        given_is = ap (λ l. l ++ (line_given is_long (strip_carriage_return t) ∷ [])) r.given_is ∙ ap (λ x. map line_of r.whole ++ (x ∷ [])) (sym (same_line t no_end r))
+            ∙ sym (map-append line_of r.whole (((r.gone ++ t) ++ (10 ∷ [])) ∷ []));
         gone_open = refl;
         long_is = refl;
         lines_sum = omega (arith, r.lines_sum, one, length-append r.whole (((r.gone ++ t) ++ (10 ∷ [])) ∷ []));
@@ -174,7 +179,15 @@ module _ (limits : Limits) (is_long : Bool) (more room : ℕ) (held bytes : List
   none_left some none r =
       let rest = r.gone ++ held in
       let more_lines : limits.lines < length (pieces bytes) =
-      omega (arith, ap length (cut_pieces limits is_long more room held bytes given r), length-append r.whole (pieces rest), pieces-some rest (omega (arith, some, length-append r.gone held)), r.lines_sum, none) in
+      omega (
+        arith,
+        ap length (cut_pieces limits is_long more room held bytes given r),
+        length-append r.whole (pieces rest),
+        pieces-some rest
+            (omega (arith, some, length-append r.gone held)),
+        r.lines_sum,
+        none,
+      ) in
       (λ ended. open_lines ended r ∙ ap (λ n. given ++ map line_of (take n (finished ended (pieces rest)))) none ∙ append-nil given, too_many_lines bytes limits more_lines)
 
   -- without a line end no whole line is held
@@ -204,7 +217,8 @@ module _ (limits : Limits) (is_long : Bool) (more room : ℕ) (held bytes : List
   last_given line no_end r some =
       let rest = r.gone ++ held in
       let one : pieces rest ≡ rest ∷ [] = one_piece rest some (IsOpen-append r.gone held r.gone_open no_end) in
-      let same : line_of rest ≡ line_given is_long held = line_of_open rest (IsOpen-append r.gone held r.gone_open no_end) ∙ last_line is_long r.gone held (more_than is_long r.gone more r.long_is) in (
+      let same : line_of rest ≡ line_given is_long held = line_of_open rest (IsOpen-append r.gone held r.gone_open no_end)
+      ∙ last_line is_long r.gone held (more_than is_long r.gone more r.long_is) in (
         open_lines true r ∙ ap (λ ps. given ++ map line_of (take more ps)) one ∙ ap (λ ps. given ++ map line_of ps) (take_one more rest line) ∙ ap (λ l. given ++ (l ∷ [])) same,
         keeps_limits no_end (λ held_some. line) r,
       )

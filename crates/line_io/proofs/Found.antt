@@ -80,6 +80,7 @@ found_line buf start looked end i behind within before at =
     )
 
 -- no line end among them
-pub none_held : (buf : List ℕ) (start looked end : ℕ) → start ≤ looked → looked ≤ end → IsOpen (slice_range buf start looked) → position is_end (slice_range buf looked end) ≡ None → IsOpen (slice_range buf start end)
+pub none_held : (buf : List ℕ) (start looked end : ℕ) → start ≤ looked → looked ≤ end → IsOpen (slice_range buf start looked) → position is_end (slice_range buf looked end) ≡ None
+    → IsOpen (slice_range buf start end)
 none_held buf start looked end behind within before at =
     subst IsOpen (sym (range_joins buf start looked end behind within)) (IsOpen-append (slice_range buf start looked) (slice_range buf looked end) before (none_found (slice_range buf looked end) at))

@@ -53,7 +53,8 @@ writes-after wrote old mid new x y (Ok a) g w = Grew-append wrote old mid new x 
 writes-after wrote old mid new x y (Err e) g w = part-after wrote old mid new x y g w
 
 -- the two clauses of a call as one
-pub writes-of : {A E K : Type 0} (wrote : K → List ℕ → Type 0) (old new : K) (x : List ℕ) (r : Result A E) → OnOk r (Grew wrote old new x) → OnErr r (GrewInPart wrote old new x) → Writes wrote old new r x
+pub writes-of : {A E K : Type 0} (wrote : K → List ℕ → Type 0) (old new : K) (x : List ℕ) (r : Result A E) → OnOk r (Grew wrote old new x) → OnErr r (GrewInPart wrote old new x)
+    → Writes wrote old new r x
 writes-of wrote old new x (Ok a) all part = all
 writes-of wrote old new x (Err e) all part = part
 

@@ -64,7 +64,8 @@ at_end_by (Some (b ∷ left)) e = absurd (cc)
 at_end_by None e = refl
 
 -- the lines that were not given
-rest_of : (stop : Stop) (r : LineReader) (left : Option (List ℕ)) (bytes : List ℕ) (given : List Text) → ReadAt stop r left bytes given → (rest : List Text) × (lines bytes (ended_by stop left) r.limits ≡ given ++ rest)
+rest_of : (stop : Stop) (r : LineReader) (left : Option (List ℕ)) (bytes : List ℕ) (given : List Text) → ReadAt stop r left bytes given
+    → (rest : List Text) × (lines bytes (ended_by stop left) r.limits ≡ given ++ rest)
 rest_of Open r left bytes given h = (_, open_lines r.limits r.long r.lines_left r.bytes_left (held r) bytes given (ended_by Open left) h)
 rest_of Cut r left bytes given h = (_, cut_lines r.limits r.long r.lines_left r.bytes_left (held r) bytes given (ended_by Cut left) h.1 h.0)
 rest_of Ended r left bytes given h = ([], ap (λ e. lines bytes e r.limits) (at_end_by left h.2) ∙ h.0 ∙ sym (append-nil given))
@@ -76,7 +77,8 @@ rest_of Faulted r left bytes given h = pick (ended_by Faulted left)
 rest_of Passed r left bytes given h = ([], h.0 (ended_by Passed left) ∙ sym (append-nil given))
 
 -- what the answer says of the lines
-ends_of : (answer : LineGot) (stop : Stop) (r : LineReader) (left : Option (List ℕ)) (bytes : List ℕ) (given : List Text) (h : ReadAt stop r left bytes (given ++ came_line answer (line_in r))) → Settles answer (answer_at stop)
+ends_of : (answer : LineGot) (stop : Stop) (r : LineReader) (left : Option (List ℕ)) (bytes : List ℕ) (given : List Text) (h : ReadAt stop r left bytes (given ++ came_line answer (line_in r)))
+    → Settles answer (answer_at stop)
     → EndsLines answer r.limits bytes given (ended_by stop left) (rest_of stop r left bytes (given ++ came_line answer (line_in r)) h).0 left
 unfolding rest_of
 ends_of Line stop r left bytes given h settles = tt
@@ -137,8 +139,10 @@ settles_again Fault stays e = e
 settles_again TooMuch stays e = e
 
 -- a last answer that is given again
-pub reads_again : (answer : LineGot) (r : LineReader) (left : Option (List ℕ)) (bytes : List ℕ) (given : List Text) → answered r ≡ Some answer → HasRead r left bytes given → Reads left left (limits_of r) r bytes given answer
+pub reads_again : (answer : LineGot) (r : LineReader) (left : Option (List ℕ)) (bytes : List ℕ) (given : List Text) → answered r ≡ Some answer → HasRead r left bytes given
+    → Reads left left (limits_of r) r bytes given answer
 reads_again answer r left bytes given e has =
     let same : given ++ came_line answer (line_in r) ≡ given = ap (λ l. given ++ l) (came_none answer r.stop (line_in r) e) ∙ append-nil given in
-    let again : HasRead r left (bytes ++ []) (given ++ came_line answer (line_in r)) = subst (λ b. HasRead r left b (given ++ came_line answer (line_in r))) (sym (append-nil bytes)) (subst (HasRead r left bytes) (sym same) has) in
+    let again : HasRead r left (bytes ++ []) (given ++ came_line answer (line_in r)) =
+    subst (λ b. HasRead r left b (given ++ came_line answer (line_in r))) (sym (append-nil bytes)) (subst (HasRead r left bytes) (sym same) has) in
     reads_of answer r left left (limits_of r) bytes [] given refl (Gave-nil left) again (settles_again answer (answered r) e)

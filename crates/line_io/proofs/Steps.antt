@@ -30,7 +30,8 @@ nothing_more : (limits : Limits) (bytes : List ℕ) (given : List Text) → Pass
 nothing_more limits bytes given h = (λ ended. h.0 ended ∙ sym (append-nil given), h.1)
 
 -- a further byte is held where no more lines are allowed
-pub passes_many : (stop : Stop) (limits : Limits) (is_long : Bool) (more room : ℕ) (held bytes : List ℕ) (given : List Text) → more ≡ 0 → 0 < length held → CutBy stop limits is_long more room held bytes given
+pub passes_many : (stop : Stop) (limits : Limits) (is_long : Bool) (more room : ℕ) (held bytes : List ℕ) (given : List Text) → more ≡ 0 → 0 < length held
+    → CutBy stop limits is_long more room held bytes given
     → Passes limits bytes (given ++ [])
 passes_many Open limits is_long more room held bytes given none some h = nothing_more limits bytes given (none_left limits is_long more room held bytes given some none h)
 passes_many Cut limits is_long more room held bytes given none some h = nothing_more limits bytes given (cut_none_left limits is_long more room held bytes given none h.1 h.0)
@@ -39,7 +40,8 @@ passes_many Faulted limits is_long more room held bytes given none some h = absu
 passes_many Passed limits is_long more room held bytes given none some h = absurd h
 
 -- no whole line is held, and bytes were cut off
-pub passes_cut : (stop : Stop) (limits : Limits) (is_long : Bool) (more room : ℕ) (held bytes : List ℕ) (given : List Text) → stop ≡ Cut → IsOpen held → CutBy stop limits is_long more room held bytes given
+pub passes_cut : (stop : Stop) (limits : Limits) (is_long : Bool) (more room : ℕ) (held bytes : List ℕ) (given : List Text) → stop ≡ Cut → IsOpen held
+    → CutBy stop limits is_long more room held bytes given
     → Passes limits bytes (given ++ [])
 passes_cut stop limits is_long more room held bytes given cut no_end h =
     let k = subst (λ s. CutBy s limits is_long more room held bytes given) cut h in
@@ -54,7 +56,8 @@ gives_at Ended limits is_long more fewer room held rest bytes t given one parts 
 gives_at Faulted limits is_long more fewer room held rest bytes t given one parts no_end h = absurd h
 gives_at Passed limits is_long more fewer room held rest bytes t given one parts no_end h = absurd h
 
-pub gives_by : (stop stop' : Stop) (limits limits' : Limits) (is_long is_long' : Bool) (more more' room room' : ℕ) (held held' bytes t : List ℕ) (given came : List Text) → stop' ≡ stop → limits' ≡ limits → is_long' ≡ false
+pub gives_by : (stop stop' : Stop) (limits limits' : Limits) (is_long is_long' : Bool) (more more' room room' : ℕ) (held held' bytes t : List ℕ) (given came : List Text) → stop' ≡ stop
+    → limits' ≡ limits → is_long' ≡ false
     → room' ≡ room → more' + 1 ≡ more → held ≡ t ++ (10 ∷ held') → IsOpen t → came ≡ line_given is_long (strip_carriage_return t) ∷ []
     → CutBy stop limits is_long more room held bytes given → CutBy stop' limits' is_long' more' room' held' bytes (given ++ came)
 gives_by stop stop' limits limits' is_long is_long' more more' room room' held held' bytes t given came es el ei er one parts no_end ec h =
@@ -91,7 +94,8 @@ abbrev pub Ends : Limits → List ℕ → List Text → Type 0
 Ends limits bytes given = (lines bytes true limits ≡ given) × (is_too_much bytes limits ≡ false)
 
 -- the input ended where nothing was held
-pub ends_empty : (stop : Stop) (limits : Limits) (is_long : Bool) (more room : ℕ) (held bytes : List ℕ) (given : List Text) → stop ≡ Open → is_long ≡ false → held ≡ [] → CutBy stop limits is_long more room held bytes given
+pub ends_empty : (stop : Stop) (limits : Limits) (is_long : Bool) (more room : ℕ) (held bytes : List ℕ) (given : List Text) → stop ≡ Open → is_long ≡ false → held ≡ []
+    → CutBy stop limits is_long more room held bytes given
     → Ends limits bytes (given ++ [])
 ends_empty stop limits is_long more room held bytes given eo short empty h =
     let k = subst (λ s. CutBy s limits is_long more room held bytes given) eo h in
@@ -103,7 +107,8 @@ pub ends_last : (stop : Stop) (limits : Limits) (is_long : Bool) (more room : �
     → CutBy stop limits is_long more room held bytes given → Ends limits bytes (given ++ (line_given is_long held ∷ []))
 ends_last stop limits is_long more room held bytes given eo line no_end some h =
     let k = subst (λ s. CutBy s limits is_long more room held bytes given) eo h in
-    let begun : 0 < length (k.gone ++ held) = elim some [ inl held_some ↦ omega (arith, held_some, length-append k.gone held) | inr is ↦ omega (arith, gone_some is_long k.gone more is k.long_is, length-append k.gone held) ] in
+    let begun : 0 < length (k.gone ++ held) =
+    elim some [ inl held_some ↦ omega (arith, held_some, length-append k.gone held) | inr is ↦ omega (arith, gone_some is_long k.gone more is k.long_is, length-append k.gone held) ] in
     last_given limits is_long more room held bytes given line no_end k begun
   where
     gone_some : (is_long : Bool) (gone : List ℕ) (more : ℕ) → is_long ≡ true → MatchBool is_long ((SIZE ≤ length gone) × (0 < more)) (gone ≡ []) → 0 < length gone
@@ -111,7 +116,8 @@ ends_last stop limits is_long more room held bytes given eo line no_end some h =
     gone_some false gone more is long_is = absurd (cc)
 
 -- a reader whose input has ended
-pub read_of_end : (stop : Stop) (r : LineReader) (limits : Limits) (left : Option (List ℕ)) (bytes : List ℕ) (given : List Text) → stop ≡ Ended → r.limits ≡ limits → Ends limits bytes given → IsAtEnd left
+pub read_of_end : (stop : Stop) (r : LineReader) (limits : Limits) (left : Option (List ℕ)) (bytes : List ℕ) (given : List Text) → stop ≡ Ended → r.limits ≡ limits → Ends limits bytes given
+    → IsAtEnd left
     → ReadAt stop r left bytes given
 read_of_end stop r limits left bytes given es el e at_end =
     let P : Limits → Type 0 = λ l. Ends l bytes given in

@@ -41,7 +41,8 @@ begun-end (c ∷ bytes) b e =
 begun-more : (bytes : List ℕ) (b : ℕ) → is_end b ≡ false → line_begun (bytes ++ b ∷ []) ≡ line_begun bytes ++ b ∷ []
 begun-more [] b e = rw e refl
 begun-more (c ∷ bytes) b e =
-    let same : list_any is_end (bytes ++ b ∷ []) ≡ list_any is_end bytes = list_any-append is_end bytes (b ∷ []) ∙ ap (λ t. list_any is_end bytes || t) (rw e refl) ∙ or-false_end (list_any is_end bytes) in
+    let same : list_any is_end (bytes ++ b ∷ []) ≡ list_any is_end bytes = list_any-append is_end bytes (b ∷ []) ∙ ap (λ t. list_any is_end bytes || t) (rw e refl)
+    ∙ or-false_end (list_any is_end bytes) in
     ap (λ t. cond (is_end c || t) (line_begun (bytes ++ b ∷ [])) (c ∷ (bytes ++ b ∷ []))) same ∙ pick (is_end c || list_any is_end bytes) (begun-more bytes b e)
   where
     pick : (t : Bool) → line_begun (bytes ++ b ∷ []) ≡ line_begun bytes ++ b ∷ [] → cond t (line_begun (bytes ++ b ∷ [])) (c ∷ (bytes ++ b ∷ [])) ≡ cond t (line_begun bytes) (c ∷ bytes) ++ b ∷ []
@@ -85,7 +86,8 @@ front-more (w ∷ v ∷ word) [] b = pick (nat_lt 1 (length (w ∷ v ∷ word)))
     pick s e false = rw e refl
 front-more (w ∷ word) (c ∷ line) b = pick (c == w) (front-more word line b)
   where
-    pick : (t : Bool) → front_of word (line ++ b ∷ []) ≡ further word (front_of word line) b → cond t (one_more (front_of word (line ++ b ∷ []))) None ≡ further (w ∷ word) (cond t (one_more (front_of word line)) None) b
+    pick : (t : Bool) → front_of word (line ++ b ∷ []) ≡ further word (front_of word line) b
+        → cond t (one_more (front_of word (line ++ b ∷ []))) None ≡ further (w ∷ word) (cond t (one_more (front_of word line)) None) b
     pick true same = ap one_more same ∙ further-more w word (front_of word line) b
     pick false same = refl
 
@@ -126,7 +128,8 @@ begins-more (w ∷ []) (c ∷ line) b some = pick (c == w)
 begins-more (w ∷ v ∷ word) (c ∷ line) b some = pick (begins-more (v ∷ word) line b (omega arith)) (c == w)
   where
     pick : one_if (begins_with (v ∷ word) (line ++ b ∷ [])) ≡ one_if (begins_with (v ∷ word) line) + one_if (completes (v ∷ word) (front_of (v ∷ word) line) b)
-        → (t : Bool) → one_if (t && begins_with (v ∷ word) (line ++ b ∷ [])) ≡ one_if (t && begins_with (v ∷ word) line) + one_if (completes (w ∷ v ∷ word) (cond t (one_more (front_of (v ∷ word) line)) None) b)
+        → (t : Bool)
+        → one_if (t && begins_with (v ∷ word) (line ++ b ∷ [])) ≡ one_if (t && begins_with (v ∷ word) line) + one_if (completes (w ∷ v ∷ word) (cond t (one_more (front_of (v ∷ word) line)) None) b)
     pick same true = same ∙ ap (λ t. one_if (begins_with (v ∷ word) line) + one_if t) (sym (completes-more w (v ∷ word) (front_of (v ∷ word) line) b))
     pick same false = refl
 

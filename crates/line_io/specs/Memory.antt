@@ -57,5 +57,6 @@ failing_writes s = s.failing.items
 
 -- a sink fails at its next call exactly where that call's number stands among the failing ones, or its room is used up
 abbrev pub TakesNext : MemSink → ℕ → Took → Type 0
-TakesNext s given (Taken n) = (is_among (failing_writes s) (next_write s) ≡ false) × (n ≡ min (min (sink_room s - length (bytes_taken s)) (write_piece s)) given)
+TakesNext s given (Taken n) =
+    (is_among (failing_writes s) (next_write s) ≡ false) × (n ≡ min (min (sink_room s - length (bytes_taken s)) (write_piece s)) given)
 TakesNext s given WriteFailed = (is_among (failing_writes s) (next_write s) ≡ true) ⊎ (length (bytes_taken s) ≡ sink_room s)

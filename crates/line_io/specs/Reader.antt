@@ -97,7 +97,8 @@ abbrev pub ReadAt : Stop → LineReader → Option (List ℕ) → List ℕ → L
 ReadAt Open r left bytes given = CutsAt Open r bytes given
 ReadAt Cut r left bytes given = CutsAt Cut r bytes given
 ReadAt Ended r left bytes given = (lines bytes true r.limits ≡ given) × (is_too_much bytes r.limits ≡ false) × IsAtEnd left
-ReadAt Faulted r left bytes given = (lines bytes false r.limits ≡ given) × ((rest : List Line) × (lines bytes true r.limits ≡ given ++ rest)) × (is_too_much bytes r.limits ≡ false)
+ReadAt Faulted r left bytes given =
+    (lines bytes false r.limits ≡ given) × ((rest : List Line) × (lines bytes true r.limits ≡ given ++ rest)) × (is_too_much bytes r.limits ≡ false)
 ReadAt Passed r left bytes given = ((ended : Bool) → lines bytes ended r.limits ≡ given) × (is_too_much bytes r.limits ≡ true)
 
 -- the reader took these bytes from its source, which has `left` to come, and gave these lines
@@ -150,7 +151,8 @@ IsOpen bytes = list_any is_end bytes ≡ false
 
 -- from the reader `old` the answer leads to `new`, whatever was read before and whatever the source has left
 pub record Answers (old new : LineReader) (answer : LineGot) : Type 0 where
-  pub reads : (left : Option (List ℕ)) (bytes : List ℕ) (given : List Line) → HasCut old bytes given → HasRead new left bytes (given ++ came_line answer (line_in new))
+  pub reads : (left : Option (List ℕ)) (bytes : List ℕ) (given : List Line) → HasCut old bytes given
+      → HasRead new left bytes (given ++ came_line answer (line_in new))
   pub settles : Settles answer (answered new)
   pub counted : lines_left new + lines_in answer ≡ lines_left old
   pub limits : limits_of new ≡ limits_of old

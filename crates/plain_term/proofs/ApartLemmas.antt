@@ -51,7 +51,8 @@ apart-Ref names a b n k e apart = by_levels names a b (Tree-F.Ref n k) (e ∙ sy
     at (Tree-F.Ref n' k') e' = absurd (apart n' k' (sym e' ∙ rolls-Ref n' k'))
     at _ e' = refl
 
-pub apart-Fun : (names : List (List ℕ)) (a b : Tree) (f : ℕ) (n : ℕ) (c : ℕ) (ts : List Tree) → a ≡ Fun f n c ts → ((f' : ℕ) (n' : ℕ) (c' : ℕ) (ts' : List Tree) → b ≡ Fun f' n' c' ts' → ⊥) → IsByKind names (view a) (view b)
+pub apart-Fun : (names : List (List ℕ)) (a b : Tree) (f : ℕ) (n : ℕ) (c : ℕ) (ts : List Tree) → a ≡ Fun f n c ts → ((f' : ℕ) (n' : ℕ) (c' : ℕ) (ts' : List Tree) → b ≡ Fun f' n' c' ts' → ⊥)
+    → IsByKind names (view a) (view b)
 apart-Fun names a b f n c ts e apart = by_levels names a b (Tree-F.Fun f n c ts) (e ∙ sym (rolls-Fun f n c ts)) at
   where
     at : (x : Tree-F Tree) → roll-Tree x ≡ b → IsByKind names (seen (Tree-F.Fun f n c ts)) (seen x)
@@ -94,8 +95,11 @@ apart-Cons names a b h t e apart = by_levels names a b (Tree-F.Cons h t) (e ∙ 
     at _ e' = refl
 
 -- A binary is in its place whatever the other term is.
-pub apart-others : (names : List (List ℕ)) (a b : Tree) → ((i : ℤ) → a ≡ Int i → ⊥) → ((k : ℕ) → a ≡ Atom k → ⊥) → ((n : ℕ) (k : ℕ) → a ≡ Ref n k → ⊥) → ((f : ℕ) (n : ℕ) (c : ℕ) (ts : List Tree) → a ≡ Fun f n c ts → ⊥) → ((n : ℕ) → a ≡ Pid n → ⊥) → ((ts : List Tree) → a ≡ Tuple ts → ⊥) → ((ps : List (Tree × Tree)) → a ≡ Map ps → ⊥) → (a ≡ Nil → ⊥) → ((h : Tree) (t : Tree) → a ≡ Cons h t → ⊥) → IsByKind names (view a) (view b)
-apart-others names a b not-Int not-Atom not-Ref not-Fun not-Pid not-Tuple not-Map not-Nil not-Cons = subst (λ v. IsByKind names v (view b)) (sym (fold_out-Tree plain.Tree level a)) (at (out-Tree a) (roll-out-Tree a))
+pub apart-others : (names : List (List ℕ)) (a b : Tree) → ((i : ℤ) → a ≡ Int i → ⊥) → ((k : ℕ) → a ≡ Atom k → ⊥) → ((n : ℕ) (k : ℕ) → a ≡ Ref n k → ⊥)
+    → ((f : ℕ) (n : ℕ) (c : ℕ) (ts : List Tree) → a ≡ Fun f n c ts → ⊥) → ((n : ℕ) → a ≡ Pid n → ⊥) → ((ts : List Tree) → a ≡ Tuple ts → ⊥) → ((ps : List (Tree × Tree)) → a ≡ Map ps → ⊥)
+    → (a ≡ Nil → ⊥) → ((h : Tree) (t : Tree) → a ≡ Cons h t → ⊥) → IsByKind names (view a) (view b)
+apart-others names a b not-Int not-Atom not-Ref not-Fun not-Pid not-Tuple not-Map not-Nil not-Cons =
+    subst (λ v. IsByKind names v (view b)) (sym (fold_out-Tree plain.Tree level a)) (at (out-Tree a) (roll-out-Tree a))
   where
     at : (x : Tree-F Tree) → roll-Tree x ≡ a → IsByKind names (seen x) (view b)
     at (Tree-F.Int i) e = absurd (not-Int i (sym e ∙ rolls-Int i))

@@ -162,6 +162,7 @@ reads_back (negsuc n) h =
 
 pub part_length : (names s : List (List ℕ)) (base : Tree) (offset len : ℕ) → is_proper names s (Part base offset len) ≡ true → length (bytes_of s (Part base offset len)) ≡ len
 part_length names s base offset len h =
-    let within : offset + len ≤ length (bytes_of s base) = leb-true (offset + len) (length (bytes_of s base)) (right (is_base base && is_proper names s base) (nat_le (offset + len) (length (bytes_of s base))) h) in
+    let within : offset + len ≤ length (bytes_of s base) =
+    leb-true (offset + len) (length (bytes_of s base)) (right (is_base base && is_proper names s base) (nat_le (offset + len) (length (bytes_of s base))) h) in
     let dropped : length (drop offset (bytes_of s base)) ≡ length (bytes_of s base) - offset = length-drop offset (bytes_of s base) in
     length-take len (drop offset (bytes_of s base)) ∙ omega (arith, dropped, within)

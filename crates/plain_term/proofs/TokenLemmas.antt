@@ -95,14 +95,16 @@ mutual
   tokens-cmp names s (Pid n) (Pid m) xs ys = number n m xs ys (by_ints xs ys) refl
   tokens-cmp names s (Tuple ts) (Tuple us) xs ys =
       let sizes = nat_cmp (trees_len ts) (trees_len us) in
-      number (trees_len ts) (trees_len us) (tokens_all names s ts xs) (tokens_all names s us ys) (ordering_then (order_of_all names s ts us) (by_ints xs ys)) (tokens_all-cmp names s ts us xs ys) ∙ sym (then-then sizes (order_of_all names s ts us) (by_ints xs ys))
+      number (trees_len ts) (trees_len us) (tokens_all names s ts xs) (tokens_all names s us ys) (ordering_then (order_of_all names s ts us) (by_ints xs ys)) (tokens_all-cmp names s ts us xs ys)
+      ∙ sym (then-then sizes (order_of_all names s ts us) (by_ints xs ys))
   tokens-cmp names s (Map ps) (Map qs) xs ys =
       let sizes = nat_cmp (pairs_len ps) (pairs_len qs) in
       let keys = order_of_keys names s ps qs in
       let values = order_of_values names s ps qs in
       let after-1 = tokens_values names s ps xs in
       let after-2 = tokens_values names s qs ys in
-      number (pairs_len ps) (pairs_len qs) (tokens_keys names s ps after-1) (tokens_keys names s qs after-2) (ordering_then keys (by_ints after-1 after-2)) (tokens_keys-cmp names s ps qs after-1 after-2)
+      number (pairs_len ps) (pairs_len qs) (tokens_keys names s ps after-1) (tokens_keys names s qs after-2) (ordering_then keys (by_ints after-1 after-2))
+      (tokens_keys-cmp names s ps qs after-1 after-2)
       ∙ ap (λ o. ordering_then sizes (ordering_then keys o)) (tokens_values-cmp names s ps qs xs ys)
       ∙ ap (λ o. ordering_then sizes o) (sym (then-then keys values (by_ints xs ys)))
       ∙ sym (then-then sizes (ordering_then keys values) (by_ints xs ys))
@@ -122,7 +124,8 @@ mutual
   tokens-cmp names s (Part a n m) (Part b o l) xs ys = coded-cmp (bytes_of s (Part a n m)) (bytes_of s (Part b o l)) xs ys
   tokens-cmp names s a b xs ys = refl
 
-  tokens_all-cmp : (names s : List (List ℕ)) (ts us : Trees) (xs ys : List ℤ) → by_ints (tokens_all names s ts xs) (tokens_all names s us ys) ≡ ordering_then (order_of_all names s ts us) (by_ints xs ys)
+  tokens_all-cmp : (names s : List (List ℕ)) (ts us : Trees) (xs ys : List ℤ)
+      → by_ints (tokens_all names s ts xs) (tokens_all names s us ys) ≡ ordering_then (order_of_all names s ts us) (by_ints xs ys)
   tokens_all-cmp names s end end xs ys = refl
   tokens_all-cmp names s end (u ▹ us) xs ys = refl
   tokens_all-cmp names s (t ▹ ts) end xs ys = refl
@@ -131,7 +134,8 @@ mutual
       ∙ ap (λ o. ordering_then (order names s t u) o) (tokens_all-cmp names s ts us xs ys)
       ∙ sym (then-then (order names s t u) (order_of_all names s ts us) (by_ints xs ys))
 
-  tokens_keys-cmp : (names s : List (List ℕ)) (ps qs : Pairs) (xs ys : List ℤ) → by_ints (tokens_keys names s ps xs) (tokens_keys names s qs ys) ≡ ordering_then (order_of_keys names s ps qs) (by_ints xs ys)
+  tokens_keys-cmp : (names s : List (List ℕ)) (ps qs : Pairs) (xs ys : List ℤ)
+      → by_ints (tokens_keys names s ps xs) (tokens_keys names s qs ys) ≡ ordering_then (order_of_keys names s ps qs) (by_ints xs ys)
   tokens_keys-cmp names s stop stop xs ys = refl
   tokens_keys-cmp names s stop (pair k v qs) xs ys = refl
   tokens_keys-cmp names s (pair k v ps) stop xs ys = refl
@@ -140,7 +144,8 @@ mutual
       ∙ ap (λ o. ordering_then (order names s k j) o) (tokens_keys-cmp names s ps qs xs ys)
       ∙ sym (then-then (order names s k j) (order_of_keys names s ps qs) (by_ints xs ys))
 
-  tokens_values-cmp : (names s : List (List ℕ)) (ps qs : Pairs) (xs ys : List ℤ) → by_ints (tokens_values names s ps xs) (tokens_values names s qs ys) ≡ ordering_then (order_of_values names s ps qs) (by_ints xs ys)
+  tokens_values-cmp : (names s : List (List ℕ)) (ps qs : Pairs) (xs ys : List ℤ)
+      → by_ints (tokens_values names s ps xs) (tokens_values names s qs ys) ≡ ordering_then (order_of_values names s ps qs) (by_ints xs ys)
   tokens_values-cmp names s stop stop xs ys = refl
   tokens_values-cmp names s stop (pair k v qs) xs ys = refl
   tokens_values-cmp names s (pair k v ps) stop xs ys = refl

@@ -80,6 +80,7 @@ apart m n differ same = absurd (grind (arith, nat_tests, differ, same))
 
 mutual
   unfolding kind
+
   unique : (a b : Tree) (x y : List Item) → is_spelled a ≡ true → is_spelled b ≡ true → items_of a ++ x ≡ items_of b ++ y → (a ≡ b) × (x ≡ y)
   unique (Int i) (Int j) x y p q e = let same : i ≡ j = cc in (ap Int same, cc)
   unique (Atom i) (Atom j) x y p q e = let same : i ≡ j = cc in (ap Atom same, cc)
@@ -113,7 +114,8 @@ mutual
   unique_all end (u ▹ us) x y n p q e = absurd (omega (arith, n))
   unique_all (t ▹ ts) end x y n p q e = absurd (omega (arith, n))
   unique_all (t ▹ ts) (u ▹ us) x y n p q e =
-      let apart : items_of t ++ (items_of_all ts ++ x) ≡ items_of u ++ (items_of_all us ++ y) = sym (append_assoc (items_of t) (items_of_all ts) x) ∙ e ∙ append_assoc (items_of u) (items_of_all us) y in
+      let apart : items_of t ++ (items_of_all ts ++ x) ≡ items_of u ++ (items_of_all us ++ y) = sym (append_assoc (items_of t) (items_of_all ts) x) ∙ e
+      ∙ append_assoc (items_of u) (items_of_all us) y in
       let first = unique t u (items_of_all ts ++ x) (items_of_all us ++ y) (left (is_spelled t) (are_spelled ts) p) (left (is_spelled u) (are_spelled us) q) apart in
       let lens : trees_len ts ≡ trees_len us = omega (arith, n) in
       let rest = unique_all ts us x y lens (right (is_spelled t) (are_spelled ts) p) (right (is_spelled u) (are_spelled us) q) first.1 in
@@ -201,7 +203,8 @@ begin_more items i ts rest t after begin begins = (
 )
 
 -- one more term is read, and kept if all were
-pub reads_more : (items : List Item) (i : ℕ) (values new : Option (List code.Tree)) (rest : List Item) (value : Option code.Tree) (after : List Item) → ReadsAll items i values rest → Reads rest value after
+pub reads_more : (items : List Item) (i : ℕ) (values new : Option (List code.Tree)) (rest : List Item) (value : Option code.Tree) (after : List Item) → ReadsAll items i values rest
+    → Reads rest value after
     → ((ts : Trees) (t : Tree) → AreOf values ts → IsOf value t → AreOf new (trees_append ts (t ▹ end))) → ReadsAll items (i + 1) new after
 reads_more items i values new rest value after all one kept = record {
   terms = trees_append all.terms (one.term ▹ end);
@@ -225,7 +228,8 @@ reads_byte items i kept new rest b after all is more =
     }
 
 -- a list place is read, and built if its parts were
-pub reads_cons : (items rest : List Item) (head : Option code.Tree) (mid : List Item) (tail new : Option code.Tree) (after : List Item) → items ≡ item.Cons ∷ rest → Reads rest head mid → Reads mid tail after
+pub reads_cons : (items rest : List Item) (head : Option code.Tree) (mid : List Item) (tail new : Option code.Tree) (after : List Item) → items ≡ item.Cons ∷ rest → Reads rest head mid
+    → Reads mid tail after
     → ((h t : Tree) → IsOf head h → IsOf tail t → IsOf new (Cons h t)) → Reads items new after
 reads_cons items rest head mid tail new after is first second made =
     let a = first.term in
@@ -256,7 +260,8 @@ trees_of-push : (xs : List code.Tree) (x : code.Tree) → trees_of (map view (xs
 trees_of-push [] x = refl
 trees_of-push (y ∷ ys) x = ap (λ us. view y ▹ us) (trees_of-push ys x)
 
-pub are_more : (values : Option (List code.Tree)) (value : Option code.Tree) (xs : List code.Tree) (x : code.Tree) (new : List code.Tree) (ts : Trees) (t : Tree) → values ≡ Some xs → value ≡ Some x → new ≡ xs ++ x ∷ []
+pub are_more : (values : Option (List code.Tree)) (value : Option code.Tree) (xs : List code.Tree) (x : code.Tree) (new : List code.Tree) (ts : Trees) (t : Tree) → values ≡ Some xs → value ≡ Some x
+    → new ≡ xs ++ x ∷ []
     → AreOf values ts → IsOf value t → trees_of (map view new) ≡ trees_append ts (t ▹ end)
 are_more values value xs x new ts t is one pushed all it =
     let many : trees_of (map view xs) ≡ ts = subst (λ v. AreOf v ts) is all in

@@ -53,4 +53,5 @@ abbrev mutual
   -- The same of each key and value, no key being beyond the walk limit.
   pub are_proper_pairs : (names shared : List (List ℕ)) → Pairs → Bool
   are_proper_pairs names shared stop = true
-  are_proper_pairs names shared (pair k v ps) = is_proper names shared k && not (is_beyond shared k) && is_proper names shared v && are_proper_pairs names shared ps
+  are_proper_pairs names shared (pair k v ps) =
+      is_proper names shared k && not (is_beyond shared k) && is_proper names shared v && are_proper_pairs names shared ps

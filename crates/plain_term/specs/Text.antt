@@ -63,7 +63,8 @@ abbrev mutual
   -- The texts of pairs, each after a comma.
   pub more_pairs : (names shared : List (List ℕ)) → Pairs → List ℕ
   more_pairs names shared stop = []
-  more_pairs names shared (pair k v ps) = codes "," ++ (text_as names shared false k ++ (codes "=>" ++ (text_as names shared false v ++ more_pairs names shared ps)))
+  more_pairs names shared (pair k v ps) =
+      codes "," ++ (text_as names shared false k ++ (codes "=>" ++ (text_as names shared false v ++ more_pairs names shared ps)))
 
 -- The text of a term.
 abbrev pub text : (names shared : List (List ℕ)) → Tree → List ℕ

@@ -14,7 +14,8 @@ use std::cmp::Ordering;
 /// not among `names` has no bytes.
 pub fn order(a: &Tree, b: &Tree, names: &[Vec<u8>]) -> Ordering
     ensures value { result ≡ order_of (map (λ v. v.items) names.now) [] (view a.now) (view b.now) }
-    ensures exact { (shared : List (List ℕ)) → IsTrue (has_no_shared (view a.now)) → IsTrue (has_no_shared (view b.now)) → result ≡ order_of (map (λ v. v.items) names.now) shared (view a.now) (view b.now) }
+    ensures exact { (shared : List (List ℕ)) → IsTrue (has_no_shared (view a.now)) → IsTrue (has_no_shared (view b.now))
+        → result ≡ order_of (map (λ v. v.items) names.now) shared (view a.now) (view b.now) }
 {
     compare(a, b, names)
 }

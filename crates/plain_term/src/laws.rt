@@ -14,17 +14,20 @@ ghost use Rattle.plain_term.specs.Text.{text};
 /// The order of terms is total, and two terms are equal exactly where neither is less.
 pub fn order_is_total()
     ensures total { (names shared : List (List ℕ)) → IsTotalOrder (order names shared) }
-    ensures equal { (names shared : List (List ℕ)) (a b : Tree) → (order names shared a b ≡ Equal) ↔ ((order names shared a b ≢ Less) × (order names shared b a ≢ Less)) }
+    ensures equal { (names shared : List (List ℕ)) (a b : Tree)
+        → (order names shared a b ≡ Equal) ↔ ((order names shared a b ≢ Less) × (order names shared b a ≢ Less)) }
 {}
 
 /// Two binaries are equal exactly where their bytes are the same.
 pub fn binaries_are_equal_by_bytes()
-    ensures { (names shared : List (List ℕ)) (a b : Tree) → IsTrue (is_binary a) → IsTrue (is_binary b) → (order names shared a b ≡ Equal) ↔ (bytes_of shared a ≡ bytes_of shared b) }
+    ensures { (names shared : List (List ℕ)) (a b : Tree) → IsTrue (is_binary a) → IsTrue (is_binary b)
+        → (order names shared a b ≡ Equal) ↔ (bytes_of shared a ≡ bytes_of shared b) }
 {}
 
 /// A part has as many bytes as it says.
 pub fn parts_have_their_length()
-    ensures { (names shared : List (List ℕ)) (base : Tree) (offset len : ℕ) → IsTrue (is_proper names shared (Part base offset len)) → length (bytes_of shared (Part base offset len)) ≡ len }
+    ensures { (names shared : List (List ℕ)) (base : Tree) (offset len : ℕ) → IsTrue (is_proper names shared (Part base offset len))
+        → length (bytes_of shared (Part base offset len)) ≡ len }
 {}
 
 /// Terms that are equal have as many nodes and are as deep.

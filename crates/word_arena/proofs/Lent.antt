@@ -47,11 +47,12 @@ lent-agrees old new h blocked same agrees =
       same_len = same.same_len;
       keeps = λ p na nb nc begins. lent-begins old new p blocked same begins;
       comes = λ p na nb nc begins. lent-began old new p blocked same begins;
-      same = λ p na nb nc begins. same.same p begins } in
+      same = λ p na nb nc begins. same.same p begins;
+    } in
     record {
       room = lent-room old new h same.same_len agrees.room;
       right = λ i inside. frame-right old new h.firsts.items h.tops none none none i frame (omega (arith, inside)) (omega (arith, inside)) (omega (arith, inside)) (agrees.right i inside);
-      free = agrees.free ∙ sym (lent-free old new blocked same)
+      free = agrees.free ∙ sym (lent-free old new blocked same);
     }
 
 pub lent : (a : Arena) (new : List ℕ) → Sound a → HeadersStay a.mem new → Sound (record { mem = new; holes = a.holes })

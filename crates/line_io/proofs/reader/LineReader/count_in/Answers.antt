@@ -12,7 +12,8 @@ returns-then-n64-self-clause-cuts c =
     let b = w.buf.items in
     let x = slice_range b w.end (w.end + n) in
     let whole : length x ≡ n = length_range b w.end n (omega (arith, c.requires.fits, w.size)) in
-    λ bytes given cuts. takes_past w.stop w.limits w.long w.lines_left w.bytes_left (held w) (slice_range b w.start (w.end + w.bytes_left)) bytes x given c.requires.open (omega (arith, whole, c.if-n64-self.true))
+    λ bytes given cuts. takes_past w.stop w.limits w.long w.lines_left w.bytes_left (held w) (slice_range b w.start (w.end + w.bytes_left)) bytes x given c.requires.open
+    (omega (arith, whole, c.if-n64-self.true))
     (range_joins b w.start w.end (w.end + w.bytes_left) w.in_order (omega arith) ∙ ap (λ l. held w ++ l) (sym (range_take b w.end (w.end + n) w.bytes_left (omega (arith, c.if-n64-self.true))))) cuts
 
 pub returns-else-n64-self-clause-cuts : goal.returns-else-n64-self-clause-cuts

@@ -17,8 +17,11 @@ returns-clause-reads c =
     let w = c.args.self.now in
     let new = c.give.new.self in
     let e = c.give.ensures in
-    let begun : (0 < length (held w)) ⊎ (w.long ≡ true) = elim c.else-self.branch [ else-self-via-then-self+else-not-self v ↦ inr v.if-not-self.false | else-self-via-else-self v ↦ inl (omega (arith, length-held w)) ] in
+    let begun : (0 < length (held w)) ⊎ (w.long ≡ true) =
+    elim c.else-self.branch [ else-self-via-then-self+else-not-self v ↦ inr v.if-not-self.false | else-self-via-else-self v ↦ inl (omega (arith, length-held w)) ] in
     let line : 0 < w.lines_left = omega (arith, e.counted) in
     λ left bytes given at_end cuts. record {
-      here = rw e.line (read_of_end new.stop new w.limits left bytes _ e.stop e.limits (ends_last w.stop w.limits w.long w.lines_left w.bytes_left (held w) bytes given c.requires.going line c.requires.open begun cuts) at_end);
+      here = rw e.line
+          (read_of_end new.stop new w.limits left bytes _ e.stop e.limits
+          (ends_last w.stop w.limits w.long w.lines_left w.bytes_left (held w) bytes given c.requires.going line c.requires.open begun cuts) at_end);
     }

@@ -14,7 +14,8 @@ returns-in-Some-ready-clause-reads g c = λ bytes given h.
     let inv = c.reading.invariant in
     let a = c.in-Some-ready.ensures.some in
     let t = inv.took bytes given h in
-    reads_of c.in-Some-ready.answer c.ready.new.self (g.S.Source.left c.args.source.now) (g.S.Source.left c.reading.source) _ bytes t.0 given (a.limits ∙ inv.limits) t.1 (a.reads _ (bytes ++ t.0) given t.2) a.settles
+    reads_of c.in-Some-ready.answer c.ready.new.self (g.S.Source.left c.args.source.now) (g.S.Source.left c.reading.source) _ bytes t.0 given
+    (a.limits ∙ inv.limits) t.1 (a.reads _ (bytes ++ t.0) given t.2) a.settles
 
 pub reading-preserved : goal.reading-preserved
 reading-preserved g c =
@@ -28,7 +29,8 @@ reading-preserved g c =
     let buf = c.fill.new.buf in
     let items = take m.buf.len (buf ++ drop (length buf) m.buf.items) in
     let over : items ≡ buf = written_over m.buf.len buf m.buf.items (omega (arith, c.fill.auto.buf, c.deref_mut.ensures.len)) in
-    let kept : slice_range items m.start m.end ≡ held m = range_kept m.buf.items items m.start m.end m.in_order (ap (take m.end) over ∙ c.fill.ensures.front ∙ ap (take m.end) c.deref_mut.ensures.value) in
+    let kept : slice_range items m.start m.end ≡ held m =
+    range_kept m.buf.items items m.start m.end m.in_order (ap (take m.end) over ∙ c.fill.ensures.front ∙ ap (take m.end) c.deref_mut.ensures.value) in
     let count : m.end + n - m.end ≡ n = omega arith in
     let x : slice_range items m.end (m.end + n) ≡ take n (drop m.end buf) = ap (λ l. take (m.end + n - m.end) (drop m.end l)) over ∙ ap (λ z. take z (drop m.end buf)) count in
     let no_end : IsOpen (slice_range new.buf.items new.start m.end) =
@@ -45,7 +47,8 @@ reading-preserved g c =
           let t = inv.took bytes given h in
           let at_start = me.cuts (bytes ++ t.0) given (subst (λ w. HasCut w (bytes ++ t.0) given) (sym r.same) t.2) in
           let read = k.cuts (bytes ++ t.0) given (subst (λ l. CutBy m.stop m.limits m.long m.lines_left m.bytes_left l (bytes ++ t.0) given) (sym kept) at_start) in
-          let all : (bytes ++ t.0) ++ slice_range items m.end (m.end + n) ≡ bytes ++ (t.0 ++ take n (drop m.end buf)) = ap (λ l. (bytes ++ t.0) ++ l) x ∙ append_assoc bytes t.0 (take n (drop m.end buf)) in
+          let all : (bytes ++ t.0) ++ slice_range items m.end (m.end + n) ≡ bytes ++ (t.0 ++ take n (drop m.end buf)) = ap (λ l. (bytes ++ t.0) ++ l) x
+          ∙ append_assoc bytes t.0 (take n (drop m.end buf)) in
           (t.0 ++ take n (drop m.end buf), Gave-append _ _ _ t.0 _ t.1 c.in-Got.ensures.bytes, subst (λ b. HasCut new b given) all read);
     }
 
@@ -55,7 +58,8 @@ last_line-requires-clause-open g c =
     let buf = c.fill.new.buf in
     let items = take m.buf.len (buf ++ drop (length buf) m.buf.items) in
     let over : items ≡ buf = written_over m.buf.len buf m.buf.items (omega (arith, c.fill.auto.buf, c.deref_mut.ensures.len)) in
-    let kept : slice_range items m.start m.end ≡ held m = range_kept m.buf.items items m.start m.end m.in_order (ap (take m.end) over ∙ c.fill.ensures.front ∙ ap (take m.end) c.deref_mut.ensures.value) in
+    let kept : slice_range items m.start m.end ≡ held m =
+    range_kept m.buf.items items m.start m.end m.in_order (ap (take m.end) over ∙ c.fill.ensures.front ∙ ap (take m.end) c.deref_mut.ensures.value) in
     subst IsOpen (sym kept) c.make_room.ensures.open
 
 pub returns-in-End-clause-reads : goal.returns-in-End-clause-reads
@@ -68,7 +72,8 @@ returns-in-End-clause-reads g c = λ bytes given h.
     let buf = c.fill.new.buf in
     let items = take m.buf.len (buf ++ drop (length buf) m.buf.items) in
     let over : items ≡ buf = written_over m.buf.len buf m.buf.items (omega (arith, c.fill.auto.buf, c.deref_mut.ensures.len)) in
-    let kept : slice_range items m.start m.end ≡ held m = range_kept m.buf.items items m.start m.end m.in_order (ap (take m.end) over ∙ c.fill.ensures.front ∙ ap (take m.end) c.deref_mut.ensures.value) in
+    let kept : slice_range items m.start m.end ≡ held m =
+    range_kept m.buf.items items m.start m.end m.in_order (ap (take m.end) over ∙ c.fill.ensures.front ∙ ap (take m.end) c.deref_mut.ensures.value) in
     let t = inv.took bytes given h in
     let at_start = me.cuts (bytes ++ t.0) given (subst (λ w. HasCut w (bytes ++ t.0) given) (sym r.same) t.2) in
     let cuts = subst (λ x. CutBy m.stop m.limits m.long m.lines_left m.bytes_left x (bytes ++ t.0) given) (sym kept) at_start in
