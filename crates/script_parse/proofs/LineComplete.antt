@@ -22,7 +22,7 @@ use Rattle.script_grammar.specs.declared.command.Command.TheVariants as command
 use Rattle.script_grammar.specs.declared.command.Verb.{Verb}
 use Rattle.script_grammar.specs.declared.command.SysVerb.{SysVerb}
 use Rattle.script_parse.specs.Output.{Out, put, put_name}
-use Rattle.script_parse.specs.Reading.{then_read, after_blanks, gap_at, number_at, is_solid, word_at, after_word, is_silent, atom_at, receiver_at, title_at, extent_at, operand_at, operands_at, Row, row, row_run, row_of, sys_row_of, process_run, system_run, line_run}
+use Rattle.script_parse.specs.Reading.{then_read, after_blanks, gap_at, number_at, is_solid, word_at, after_word, is_silent, atom_at, receiver_at, title_at, extent_at, operand_at, operands_at, Row, row, row_run, row_of, sys_row_of, process_run, system_run, line_run, term_run}
 use Rattle.script_parse.proofs.Tools.{not_blank, apart, false_not}
 use Rattle.script_parse.proofs.Tools.{unequal}
 use Rattle.script_parse.proofs.GapSteps.{Gap, gap_found, Token, token, Stops, Divides, stops, blank_end}
@@ -121,6 +121,11 @@ pub record Stands (k : Kind) (ps : List Piece) (line : List ℕ) (o : Out) : Typ
   pub read : operand_at k line o ≡ Some (argument, (rest, after))
   pub lies : Lies ps rest
 
+-- A term after a blank.
+body_at : (levels : ℕ) (line start rest : List ℕ) (o p : Out) → gap_at line ≡ Some start → term_run levels start o ≡ Some (rest, p)
+    → then_read {B = Unit {0} × (List ℕ × Out)} (then_read (gap_at line) (λ r. term_run levels r o)) (λ r. Some (tt, r)) ≡ Some (tt, (rest, p))
+body_at levels line start rest o p g h = rw (g, h) refl
+
 operand_stands : (k : Kind) (x : OperandOf k) (ps : List Piece) (line : List ℕ) (o : Out) → Divides ps → IsOperand k x → IsBuiltOperand k x → Lies (operand_pieces k x ps) line → Stands k ps line o
 operand_stands Slot x ps line o d a b l = let f : Fronts (number_at LAST_REGISTER) x ps line = number_fronts LAST_REGISTER x ps line (omega arith) d l in
     record { argument = x; rest = f.rest; after = o; read = rw (f.gap, f.read) refl; lies = f.lies }
@@ -134,7 +139,7 @@ operand_stands Title x ps line o d a b l = let f : Fronts title_at x ps line = t
     record { argument = number_of (with_name o.names x) x; rest = f.rest; after = put_name o x; read = rw (f.gap, f.read) refl; lies = f.lies }
 operand_stands Body t ps line o d a b l = let g : Gap (term_pieces t ps) line = gap_found (term_pieces t ps) line l in
     let f : Done LEVELS t ps g.rest o = term_done LEVELS t ps g.rest o d a b g.lies in
-    record { argument = tt; rest = f.rest; after = put t o; read = rw (g.found, f.read) refl; lies = f.lies }
+    record { argument = tt; rest = f.rest; after = put t o; read = body_at LEVELS line g.rest f.rest o (put t o) g.found f.read; lies = f.lies }
 operand_stands _ x ps line o d a b l = absurd b
 
 -- Pieces before which a word ends.
