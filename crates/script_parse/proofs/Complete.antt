@@ -174,7 +174,8 @@ made_done levels ih f xs ps line o m b l =
       no_end = λ g. ap (text_at (closing g)) k.front ∙ opening_no_end f g k.rest;
     }
 
-leaf_term_done : (levels : ℕ) (t : Term) (ps : List Piece) (line : List ℕ) (o : Out) → IsLeaf t → Divides ps → MayStand levels t → IsBuiltTerm t → Lies (term_pieces t ps) line → Done levels t ps line o
+leaf_term_done : (levels : ℕ) (t : Term) (ps : List Piece) (line : List ℕ) (o : Out) → IsLeaf t → Divides ps → MayStand levels t → IsBuiltTerm t → Lies (term_pieces t ps) line
+    → Done levels t ps line o
 leaf_term_done levels t ps line o h d m b l = let k : DoneLeaf t ps line = leaf_of_grammar t levels ps line h d m b l in
     record { rest = k.rest; read = term_leaf levels line o k.no_form ∙ rw k.read refl; lies = k.lies; shorter = k.shorter; no_end = k.no_end }
 

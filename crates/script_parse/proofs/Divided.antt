@@ -176,7 +176,8 @@ pub record Twice (ps qs : List Piece) (line : List ℕ) : Type 0 where
   pub left : Lies ps rest
   pub right : Lies qs rest
 
-pub text_twice : (text : List ℕ) (b : ℕ) (more : List ℕ) (ps qs : List Piece) (line : List ℕ) → text ≡ b ∷ more → is_blank b ≡ false → Lies (Text text ∷ ps) line → Lies (Text text ∷ qs) line → Twice ps qs line
+pub text_twice : (text : List ℕ) (b : ℕ) (more : List ℕ) (ps qs : List Piece) (line : List ℕ) → text ≡ b ∷ more → is_blank b ≡ false → Lies (Text text ∷ ps) line → Lies (Text text ∷ qs) line
+    → Twice ps qs line
 text_twice text b more ps qs line e n k l = let x : Opened text ps line = opened text b more ps line e n k in let y : Opened text qs line = opened text b more qs line e n l in
     let same : Some y.rest ≡ Some x.rest = sym y.found ∙ x.found in
     let P : List ℕ → Type 0 = λ z. Lies qs z in

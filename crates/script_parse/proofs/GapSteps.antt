@@ -54,7 +54,13 @@ pub record Gap (ps : List Piece) (line : List ℕ) : Type 0 where
 
 space_gap : (ps : List Piece) (gap rest : List ℕ) (b : ℕ) → AreAll is_blank gap → is_blank b ≡ true → Lies ps rest → Gap ps (gap ++ (b ∷ rest))
 space_gap ps [] rest b h e l = record { rest = rest; found = rw e refl; lies = l; shorter = omega arith }
-space_gap ps (g ∷ gap) rest b h e l = record { rest = gap ++ (b ∷ rest); found = rw (h.0) refl; lies = lies_blanks ps gap (b ∷ rest) (h.1) (lies_blanks ps (b ∷ []) rest (e, tt) l); shorter = omega arith }
+space_gap ps (g ∷ gap) rest b h e l = record {
+  rest = gap ++ (b ∷ rest);
+  found = rw (h.0) refl;
+  lies = lies_blanks ps gap (b ∷ rest) (h.1) (lies_blanks ps (b ∷ []) rest (e, tt) l);
+  shorter
+      = omega arith;
+}
 
 -- A space is one blank, and more blanks before what follows.
 pub gap_found : (ps : List Piece) (line : List ℕ) → Lies (Space ∷ ps) line → Gap ps line

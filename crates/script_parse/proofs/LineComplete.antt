@@ -64,18 +64,21 @@ number_fronts limit n ps line h d l = let g : Gap (Number n ∷ ps) line = gap_f
     let f : Numbers limit n ps g.rest = number_stands limit n ps g.rest h d g.lies in
     record { start = g.rest; gap = g.found; rest = f.rest; read = f.read; lies = f.lies }
 
-held_start : (r : Reg) (ps : List Piece) (start : List ℕ) → (r.0) < REGISTERS → Divides ps → Lies (Register (r.0) ∷ ps) start → (rest : List ℕ) × (receiver_at (after_blanks start) ≡ Some (to.Held r, rest)) × Lies ps rest
+held_start : (r : Reg) (ps : List Piece) (start : List ℕ) → (r.0) < REGISTERS → Divides ps → Lies (Register (r.0) ∷ ps) start
+    → (rest : List ℕ) × (receiver_at (after_blanks start) ≡ Some (to.Held r, rest)) × Lies ps rest
 held_start r ps start h d (gap, text, rest, g, (digits, i, s), e, l) = let k : Token (Register (r.0)) ps start 36 digits = token (Register (r.0)) ps start gap digits rest 36 g refl (rw s at e) l in
     let f : number_at LAST_REGISTER (digits ++ k.rest) ≡ Some (r.0, k.rest) = number_found LAST_REGISTER (r.0) digits k.rest i (omega arith) (stops_digits k.rest (stops ps k.rest d k.lies)) in
     (k.rest, rw (k.front, f) refl, k.lies)
 
-counted_start : (n : ℕ) (ps : List Piece) (start : List ℕ) → n < NUMBERS → Divides ps → Lies (Number n ∷ ps) start → (rest : List ℕ) × (receiver_at (after_blanks start) ≡ Some (to.Number n, rest)) × Lies ps rest
+counted_start : (n : ℕ) (ps : List Piece) (start : List ℕ) → n < NUMBERS → Divides ps → Lies (Number n ∷ ps) start
+    → (rest : List ℕ) × (receiver_at (after_blanks start) ≡ Some (to.Number n, rest)) × Lies ps rest
 counted_start n ps start h d (gap, text, rest, g, i, e, l) =
     let b : Begun text = begun n text i in
     let whole : start ≡ gap ++ ((b.first ∷ b.more) ++ rest) = rw b.whole at e in
     let number : IsNumber n (b.first ∷ b.more) = rw b.whole at i in
     let k : Token (Number n) ps start b.first b.more = token (Number n) ps start gap b.more rest b.first g (not_blank is_digit b.first refl refl b.digit) whole l in
-    let f : number_at GREATEST ((b.first ∷ b.more) ++ k.rest) ≡ Some (n, k.rest) = number_found GREATEST n (b.first ∷ b.more) k.rest number (omega arith) (stops_digits k.rest (stops ps k.rest d k.lies)) in
+    let f : number_at GREATEST ((b.first ∷ b.more) ++ k.rest) ≡ Some (n, k.rest)
+    = number_found GREATEST n (b.first ∷ b.more) k.rest number (omega arith) (stops_digits k.rest (stops ps k.rest d k.lies)) in
     (k.rest, rw (k.front, unequal b.first 36 (apart is_digit b.first 36 refl b.digit), f) refl, k.lies)
 
 pub receiver_fronts : (a : To) (ps : List Piece) (line : List ℕ) → MayReceive a → Divides ps → Lies (Space ∷ receiver_pieces a ps) line → Fronts receiver_at a ps line
@@ -87,8 +90,10 @@ receiver_fronts (to.Held r) ps line h d l = let g : Gap (Register (r.0) ∷ ps) 
     record { start = g.rest; gap = g.found; rest = f.0; read = f.1; lies = f.2 }
 
 -- A text that begins with no blank stands at the front.
-text_start : (b : ℕ) (text : List ℕ) (ps : List Piece) (start : List ℕ) → is_blank b ≡ false → Lies (Text (b ∷ text) ∷ ps) start → (rest : List ℕ) × (after_blanks start ≡ (b ∷ text) ++ rest) × Lies ps rest
-text_start b text ps start n (gap, t, rest, g, s, e, l) = let k : Token (Text (b ∷ text)) ps start b text = token (Text (b ∷ text)) ps start gap text rest b g n (rw s at e) l in (k.rest, k.front, k.lies)
+text_start : (b : ℕ) (text : List ℕ) (ps : List Piece) (start : List ℕ) → is_blank b ≡ false → Lies (Text (b ∷ text) ∷ ps) start
+    → (rest : List ℕ) × (after_blanks start ≡ (b ∷ text) ++ rest) × Lies ps rest
+text_start b text ps start n (gap, t, rest, g, s, e, l) = let k : Token (Text (b ∷ text)) ps start b text
+    = token (Text (b ∷ text)) ps start gap text rest b g n (rw s at e) l in (k.rest, k.front, k.lies)
 
 pub extent_fronts : (a : Depth) (ps : List Piece) (line : List ℕ) → Lies (Space ∷ extent_pieces a ps) line → Fronts extent_at a ps line
 extent_fronts Minor ps line l = let g : Gap (Text (codes "minor") ∷ ps) line = gap_found (Text (codes "minor") ∷ ps) line l in
@@ -225,7 +230,8 @@ word_stands (b ∷ text) ps line w d (gap, t, rest, g, s, e, l) =
 spoken_any : {W V : Type 0} (text : W → List ℕ) (ks : List Kind) (made : Arguments ks → V) (built : W → Bool) (all : List W) (rows : W → Row V) (w : W) (ops : Operands ks) (line : List ℕ) (o : Out)
     → find (λ x. bytes_eq (text w) (text x)) all ≡ Some w → is_word (text w) ≡ true → rows w ≡ row ks made → built w ≡ true → AreOperands ks ops → AreBuiltOperands ks ops
     → Lies (Space ∷ Text (text w) ∷ operands_pieces ks ops) line
-    → Any (then_read (gap_at line) (λ rest. then_read (find (λ x. bytes_eq (word_at (after_blanks rest)) (text x)) all) (λ x. cond (built x) (row_run (rows x) (after_word (after_blanks rest)) o) None)))
+    → Any (then_read (gap_at line) (λ rest. then_read (find (λ x. bytes_eq (word_at (after_blanks rest)) (text x)) all)
+    (λ x. cond (built x) (row_run (rows x) (after_word (after_blanks rest)) o) None)))
 spoken_any {W} {V} text ks made built all rows w ops line o named solid same b a c l =
     let g : Gap (Text (text w) ∷ operands_pieces ks ops) line = gap_found (Text (text w) ∷ operands_pieces ks ops) line l in
     let f : Words (text w) (operands_pieces ks ops) g.rest = word_stands (text w) (operands_pieces ks ops) g.rest solid (operands_part ks ops) g.lies in

@@ -55,7 +55,8 @@ pub record Plain {A : Type 0} (front : List ℕ → Option (A × List ℕ)) (lin
   pub read : front (after_blanks start) ≡ Some (a, rest)
   pub same : o ≡ p
 
-plain_read : {A : Type 0} (front : List ℕ → Option (A × List ℕ)) (line : List ℕ) (o : Out) (a : A) (rest : List ℕ) (p : Out) → plain_run front line o ≡ Some (a, (rest, p)) → Plain front line o a rest p
+plain_read : {A : Type 0} (front : List ℕ → Option (A × List ℕ)) (line : List ℕ) (o : Out) (a : A) (rest : List ℕ) (p : Out) → plain_run front line o ≡ Some (a, (rest, p))
+    → Plain front line o a rest p
 plain_read {A} front line o a rest p h =
     let f : (x : A × List ℕ) × (spaced_at front line ≡ Some x) × (Some (x.0, (x.1, o)) ≡ Some (a, (rest, p))) = read_some (spaced_at front line) (λ r. Some (r.0, (r.1, o))) h in
     let j : (f.0.0 ≡ a) × ((f.0.1, o) ≡ (rest, p)) = both (f.2) in
@@ -87,34 +88,41 @@ body_read line o rest p h =
       allowed = t.may;
       built = t.built;
       is = λ c more. refl;
-      put = subst P (sym t.put) (as_items o (put t.term o) (atoms_of t.term) (λ names. items_of names t.term) (λ names. items_of names t.term ++ []) (λ names. sym (append-nil (items_of names t.term))) (term_put t.term o t.built));
+      put = subst P (sym t.put) (as_items o (put t.term o) (atoms_of t.term) (λ names. items_of names t.term) (λ names. items_of names t.term ++ [])
+          (λ names. sym (append-nil (items_of names t.term))) (term_put t.term o t.built));
       lies = λ ps l. gap_lies (term_pieces t.term ps) line (f.0) (f.1) (t.lies ps l);
     }
 
-receiver_step : (line : List ℕ) (o : Out) (a : To) (start rest : List ℕ) (p : Out) (front : List ℕ) → after_blanks start ≡ front → gap_at line ≡ Some start → o ≡ p → receiver_at front ≡ Some (a, rest) → Operand Receiver line o a rest p
+receiver_step : (line : List ℕ) (o : Out) (a : To) (start rest : List ℕ) (p : Out) (front : List ℕ) → after_blanks start ≡ front → gap_at line ≡ Some start → o ≡ p
+    → receiver_at front ≡ Some (a, rest) → Operand Receiver line o a rest p
 receiver_step line o a start rest p [] e g same h = cc
 receiver_step line o a start rest p (b ∷ bytes) e g same h = let P : To → Type 0 = λ z. Operand Receiver line o z rest p in elim (chosen (nat_eq b 36) h) [
-  | inl f ↦ let r : (x : ℕ × List ℕ) × (number_at LAST_REGISTER bytes ≡ Some x) × (Some (to.Held (reg (x.0)), x.1) ≡ Some (a, rest)) = read_some (number_at LAST_REGISTER bytes) (λ r. Some (to.Held (reg (r.0)), r.1)) (f.1) in
+  | inl f ↦ let r : (x : ℕ × List ℕ) × (number_at LAST_REGISTER bytes ≡ Some x) × (Some (to.Held (reg (x.0)), x.1) ≡ Some (a, rest))
+      = read_some (number_at LAST_REGISTER bytes) (λ r. Some (to.Held (reg (r.0)), r.1)) (f.1) in
       let j : (to.Held (reg (r.0.0)) ≡ a) × (r.0.1 ≡ rest) = both (r.2) in
       let c : Counted LAST_REGISTER (r.0.0) bytes (r.0.1) = number_read LAST_REGISTER (r.0.0) bytes (r.0.1) (omega arith) (r.1) in
       let whole : after_blanks start ≡ (36 ∷ c.text) ++ rest = e ∙ (ap (λ (z : ℕ). z ∷ bytes) (eqb-true b 36 (f.0)) ∙ ap (λ (z : List ℕ). 36 ∷ z) (c.whole ∙ ap (λ (z : List ℕ). c.text ++ z) (j.1))) in
       let s : Spaced (Register (r.0.0)) line rest = spaced_read (Register (r.0.0)) line start rest g (record { text = 36 ∷ c.text; whole = whole; spells = (c.text, c.number, refl) }) in
       subst P (j.0) (record { operand = to.Held (reg (r.0.0)); allowed = omega (arith, c.within); built = tt; is = λ c more. refl; put = none_put o p same; lies = s.lies })
-  | inr f ↦ let r : (x : ℕ × List ℕ) × (number_at GREATEST (b ∷ bytes) ≡ Some x) × (Some (to.Number (x.0), x.1) ≡ Some (a, rest)) = read_some (number_at GREATEST (b ∷ bytes)) (λ r. Some (to.Number (r.0), r.1)) (f.1) in
+  | inr f ↦ let r : (x : ℕ × List ℕ) × (number_at GREATEST (b ∷ bytes) ≡ Some x) × (Some (to.Number (x.0), x.1) ≡ Some (a, rest))
+      = read_some (number_at GREATEST (b ∷ bytes)) (λ r. Some (to.Number (r.0), r.1)) (f.1) in
       let j : (to.Number (r.0.0) ≡ a) × (r.0.1 ≡ rest) = both (r.2) in
       let c : Counted GREATEST (r.0.0) (b ∷ bytes) (r.0.1) = number_read GREATEST (r.0.0) (b ∷ bytes) (r.0.1) (omega arith) (r.1) in
-      let s : Spaced (Number (r.0.0)) line rest = spaced_read (Number (r.0.0)) line start rest g (record { text = c.text; whole = e ∙ (c.whole ∙ ap (λ (z : List ℕ). c.text ++ z) (j.1)); spells = c.number }) in
+      let s : Spaced (Number (r.0.0)) line rest
+      = spaced_read (Number (r.0.0)) line start rest g (record { text = c.text; whole = e ∙ (c.whole ∙ ap (λ (z : List ℕ). c.text ++ z) (j.1)); spells = c.number }) in
       subst P (j.0) (record { operand = to.Number (r.0.0); allowed = omega (arith, c.within); built = tt; is = λ c more. refl; put = none_put o p same; lies = s.lies })
 ]
 
-extent_step : (line : List ℕ) (o : Out) (a : Depth) (start rest : List ℕ) (p : Out) → gap_at line ≡ Some start → o ≡ p → extent_at (after_blanks start) ≡ Some (a, rest) → Operand Extent line o a rest p
+extent_step : (line : List ℕ) (o : Out) (a : Depth) (start rest : List ℕ) (p : Out) → gap_at line ≡ Some start → o ≡ p → extent_at (after_blanks start) ≡ Some (a, rest)
+    → Operand Extent line o a rest p
 extent_step line o a start rest p g same h = let P : Depth → Type 0 = λ z. Operand Extent line o z rest p in
     elim (found_cases (text_at (codes "minor") (after_blanks start)) (λ r. Some (Minor, r)) (then_read (text_at (codes "major") (after_blanks start)) (λ r. Some (Major, r))) h) [
       | inl f ↦ let j : (Minor ≡ a) × (f.0 ≡ rest) = both (f.2) in
           let s : Spaced (Text (codes "minor")) line rest = spaced_read (Text (codes "minor")) line start rest g
           (record { text = codes "minor"; whole = text_read (codes "minor") (after_blanks start) (f.0) (f.1) ∙ ap (λ (z : List ℕ). codes "minor" ++ z) (j.1); spells = refl }) in
           subst P (j.0) (record { operand = Minor; allowed = tt; built = tt; is = λ c more. refl; put = none_put o p same; lies = s.lies })
-      | inr f ↦ let r : (x : List ℕ) × (text_at (codes "major") (after_blanks start) ≡ Some x) × (Some (Major, x) ≡ Some (a, rest)) = read_some (text_at (codes "major") (after_blanks start)) (λ r. Some (Major, r)) (f.1) in
+      | inr f ↦ let r : (x : List ℕ) × (text_at (codes "major") (after_blanks start) ≡ Some x) × (Some (Major, x) ≡ Some (a, rest))
+          = read_some (text_at (codes "major") (after_blanks start)) (λ r. Some (Major, r)) (f.1) in
           let j : (Major ≡ a) × (r.0 ≡ rest) = both (r.2) in
           let s : Spaced (Text (codes "major")) line rest = spaced_read (Text (codes "major")) line start rest g
           (record { text = codes "major"; whole = text_read (codes "major") (after_blanks start) (r.0) (r.1) ∙ ap (λ (z : List ℕ). codes "major" ++ z) (j.1); spells = refl }) in
@@ -186,7 +194,8 @@ joined_items : (ts us : Terms) (names : List (List ℕ)) → all_items names ts 
 joined_items end us names = refl
 joined_items (t ▹ ts) us names = append_assoc (items_of names t) (all_items names ts) (all_items names us) ∙ ap (λ (z : List Item). items_of names t ++ z) (joined_items ts us names)
 
-operands_then : (k : Kind) (ks : List Kind) (line mid : List ℕ) (o q p : Out) (a : ArgumentOf k) (args : Arguments ks) → Operand k line o a mid q → Operated ks mid q args p → Operated (k ∷ ks) line o (a, args) p
+operands_then : (k : Kind) (ks : List Kind) (line mid : List ℕ) (o q p : Out) (a : ArgumentOf k) (args : Arguments ks) → Operand k line o a mid q → Operated ks mid q args p
+    → Operated (k ∷ ks) line o (a, args) p
 operands_then k ks line mid o q p a args x y = record {
   operands = (x.operand, y.operands);
   allowed = (x.allowed, y.allowed);
@@ -199,7 +208,8 @@ operands_then k ks line mid o q p a args x y = record {
       (λ names. all_items names (operand_terms k x.operand) ++ all_items names (operands_terms ks y.operands))
       (λ names. all_items names (joined (operand_terms k x.operand) (operands_terms ks y.operands)))
       (λ names. joined_items (operand_terms k x.operand) (operands_terms ks y.operands) names)
-      (put_then o q p (operand_atoms k x.operand) (operands_atoms ks y.operands) (λ names. all_items names (operand_terms k x.operand)) (λ names. all_items names (operands_terms ks y.operands)) x.put y.put);
+      (put_then o q p (operand_atoms k x.operand) (operands_atoms ks y.operands) (λ names. all_items names (operand_terms k x.operand))
+      (λ names. all_items names (operands_terms ks y.operands)) x.put y.put);
   lies = x.lies (operands_pieces ks y.operands) y.lies;
 }
 
@@ -228,7 +238,8 @@ pub record Made {V : Type 0} (r : Row V) (line : List ℕ) (o : Out) (v : V) (p 
 row_read : {V : Type 0} (r : Row V) (line : List ℕ) (o : Out) (v : V) (p : Out) → row_run r line o ≡ Some (v, p) → Made r line o v p
 unfolding row_run
 row_read r line o v p h =
-    let f : (x : Arguments r.kinds × Out) × (operands_at r.kinds line o ≡ Some x) × (Some (r.made (x.0), x.1) ≡ Some (v, p)) = read_some (operands_at r.kinds line o) (λ x. Some (r.made (x.0), x.1)) h in
+    let f : (x : Arguments r.kinds × Out) × (operands_at r.kinds line o ≡ Some x) × (Some (r.made (x.0), x.1) ≡ Some (v, p))
+    = read_some (operands_at r.kinds line o) (λ x. Some (r.made (x.0), x.1)) h in
     let j : (r.made (f.0.0) ≡ v) × (f.0.1 ≡ p) = both (f.2) in
     let P : Out → Type 0 = λ z. Operated r.kinds line o (f.0.0) z in
     record { arguments = f.0.0; operated = subst P (j.1) (operands_read r.kinds line o (f.0.0) (f.0.1) (f.1)); is = sym (j.0) }
@@ -250,7 +261,8 @@ pub record Spoken {W V : Type 0} (text : W → List ℕ) (kinds : W → List Kin
 
 -- The word was found and is built, and its operands were read.
 spoken_word : {W V : Type 0} (text : W → List ℕ) (kinds : W → List Kind) (with : (w : W) → Arguments (kinds w) → V) (built : W → Bool) (line start : List ℕ) (o : Out) (v : V) (p : Out) (w : W)
-    → gap_at line ≡ Some start → word_at (after_blanks start) ≡ text w → built w ≡ true → Made (row (kinds w) (with w)) (after_word (after_blanks start)) o v p → Spoken text kinds with built line o v p
+    → gap_at line ≡ Some start → word_at (after_blanks start) ≡ text w → built w ≡ true → Made (row (kinds w) (with w)) (after_word (after_blanks start)) o v p
+    → Spoken text kinds with built line o v p
 spoken_word text kinds with built line start o v p w g t b m = record {
   word = w;
   is_built = b;
@@ -265,11 +277,14 @@ spoken_word text kinds with built line start o v p w g t b m = record {
 
 spoken : {W V : Type 0} (text : W → List ℕ) (kinds : W → List Kind) (with : (w : W) → Arguments (kinds w) → V) (built : W → Bool) (all : List W) (rows : W → Row V)
     → ((w : W) → rows w ≡ row (kinds w) (with w)) → (line : List ℕ) (o : Out) (v : V) (p : Out)
-    → then_read (gap_at line) (λ rest. then_read (find (λ w. bytes_eq (word_at (after_blanks rest)) (text w)) all) (λ w. cond (built w) (row_run (rows w) (after_word (after_blanks rest)) o) None)) ≡ Some (v, p)
+    → then_read (gap_at line) (λ rest. then_read (find (λ w. bytes_eq (word_at (after_blanks rest)) (text w)) all)
+    (λ w. cond (built w) (row_run (rows w) (after_word (after_blanks rest)) o) None)) ≡ Some (v, p)
     → Spoken text kinds with built line o v p
 spoken {W} {V} text kinds with built all rows same line o v p h =
-    let f : (x : List ℕ) × (gap_at line ≡ Some x) × (then_read (find (λ w. bytes_eq (word_at (after_blanks x)) (text w)) all) (λ w. cond (built w) (row_run (rows w) (after_word (after_blanks x)) o) None) ≡ Some (v, p))
-    = read_some (gap_at line) (λ rest. then_read (find (λ w. bytes_eq (word_at (after_blanks rest)) (text w)) all) (λ w. cond (built w) (row_run (rows w) (after_word (after_blanks rest)) o) None)) h in
+    let f : (x : List ℕ) × (gap_at line ≡ Some x)
+    × (then_read (find (λ w. bytes_eq (word_at (after_blanks x)) (text w)) all) (λ w. cond (built w) (row_run (rows w) (after_word (after_blanks x)) o) None) ≡ Some (v, p))
+    = read_some (gap_at line) (λ rest. then_read (find (λ w. bytes_eq (word_at (after_blanks rest)) (text w)) all) (λ w. cond (built w) (row_run (rows w) (after_word (after_blanks rest)) o) None))
+    h in
     let g : (w : W) × (find (λ w. bytes_eq (word_at (after_blanks (f.0))) (text w)) all ≡ Some w) × (cond (built w) (row_run (rows w) (after_word (after_blanks (f.0))) o) None ≡ Some (v, p))
     = read_some (find (λ w. bytes_eq (word_at (after_blanks (f.0))) (text w)) all) (λ w. cond (built w) (row_run (rows w) (after_word (after_blanks (f.0))) o) None) (f.2) in
     elim (chosen (built (g.0)) (g.2)) [
@@ -320,7 +335,8 @@ system_line line rest o v p t h = let b : Spoken sys_text_of sys_kinds_of sys_ve
       written = OfSystem b.word b.operands;
       says = record {
         allowed = b.allowed;
-        spelled = lies (Text (codes "sys")) (Space ∷ Text (sys_text_of b.word) ∷ operands_pieces (sys_kinds_of b.word) b.operands) line (codes "sys") rest (text_read (codes "sys") (after_blanks line) rest t) refl b.lies;
+        spelled = lies (Text (codes "sys")) (Space ∷ Text (sys_text_of b.word) ∷ operands_pieces (sys_kinds_of b.word) b.operands) line (codes "sys") rest
+            (text_read (codes "sys") (after_blanks line) rest t) refl b.lies;
       };
       built = (b.is_built, b.are_built);
       is = λ e more. ap (λ (z : SysVerb). command.System z) (b.is e more);
@@ -340,7 +356,8 @@ command_read line o c p h = elim (found_cases (number_at GREATEST (after_blanks 
           same_read line o (command.Process (f.0.0) (g.0.0)) c (g.0.1) p (both (g.2)) (process_line line (f.0.1) o (f.0.0) (g.0.0) (g.0.1) n (g.1))
       | inr f ↦ let g : (x : List ℕ) × (text_at (codes "sys") (after_blanks line) ≡ Some x) × (then_read (system_run x o) (λ v. Some (command.System (v.0), v.1)) ≡ Some (c, p))
           = read_some (text_at (codes "sys") (after_blanks line)) (λ rest. then_read (system_run rest o) (λ v. Some (command.System (v.0), v.1))) (f.1) in
-          let k : (x : SysVerb × Out) × (system_run (g.0) o ≡ Some x) × (Some (command.System (x.0), x.1) ≡ Some (c, p)) = read_some (system_run (g.0) o) (λ v. Some (command.System (v.0), v.1)) (g.2) in
+          let k : (x : SysVerb × Out) × (system_run (g.0) o ≡ Some x) × (Some (command.System (x.0), x.1) ≡ Some (c, p))
+          = read_some (system_run (g.0) o) (λ v. Some (command.System (v.0), v.1)) (g.2) in
           same_read line o (command.System (k.0.0)) c (k.0.1) p (both (k.2)) (system_line line (g.0) o (k.0.0) (k.0.1) (g.1) (k.1))
     ]
 

@@ -153,7 +153,8 @@ tuple_items (t ▹ ts) names = ap (λ (z : List Item). items_of names t ++ z) (t
 
 list_items : (ts : Terms) (names : List (List ℕ)) (last : List Item) → part_items form.List ts names ++ last ≡ listed_items names ts last
 list_items end names last = refl
-list_items (t ▹ ts) names last = ap (λ (z : List Item). item.Cons ∷ z) (append_assoc (items_of names t) (part_items form.List ts names) last ∙ ap (λ (z : List Item). items_of names t ++ z) (list_items ts names last))
+list_items (t ▹ ts) names last = ap (λ (z : List Item). item.Cons ∷ z)
+    (append_assoc (items_of names t) (part_items form.List ts names) last ∙ ap (λ (z : List Item). items_of names t ++ z) (list_items ts names last))
 
 -- The same with the items said in another way.
 pub as_items : (o p : Out) (xs : List (List ℕ)) (its jts : List (List ℕ) → List Item) → ((names : List (List ℕ)) → its names ≡ jts names) → Put o xs its p → Put o xs jts p
@@ -168,14 +169,19 @@ mutual
   term_put (Atom a) o b = atom_step o a (nat_le (length (with_name o.names a)) most_names) refl
   term_put (Pid n) o b = put_item o (item.Pid n)
   term_put (Held r) o b = absurd b
-  term_put (Listed ts) o b = as_atoms o (push (put_all form.List ts o) item.Nil) (atoms_of_all ts ++ []) (atoms_of_all ts) (λ names. listed_items names ts (item.Nil ∷ [])) (append-nil (atoms_of_all ts))
-      (as_items o (push (put_all form.List ts o) item.Nil) (atoms_of_all ts ++ []) (λ names. part_items form.List ts names ++ item.Nil ∷ []) (λ names. listed_items names ts (item.Nil ∷ [])) (λ names. list_items ts names (item.Nil ∷ []))
-      (put_then o (put_all form.List ts o) (push (put_all form.List ts o) item.Nil) (atoms_of_all ts) [] (part_items form.List ts) (λ names. item.Nil ∷ []) (all_put ts form.List o b) (put_item (put_all form.List ts o) item.Nil)))
+  term_put (Listed ts) o b = as_atoms o (push (put_all form.List ts o) item.Nil) (atoms_of_all ts ++ []) (atoms_of_all ts) (λ names. listed_items names ts (item.Nil ∷ []))
+      (append-nil (atoms_of_all ts))
+      (as_items o (push (put_all form.List ts o) item.Nil) (atoms_of_all ts ++ []) (λ names. part_items form.List ts names ++ item.Nil ∷ []) (λ names. listed_items names ts (item.Nil ∷ []))
+      (λ names. list_items ts names (item.Nil ∷ []))
+      (put_then o (put_all form.List ts o) (push (put_all form.List ts o) item.Nil) (atoms_of_all ts) [] (part_items form.List ts) (λ names. item.Nil ∷ []) (all_put ts form.List o b)
+      (put_item (put_all form.List ts o) item.Nil)))
   term_put (Barred ts t) o b = absurd b
-  term_put (Tuple ts) o b = as_items o (put (Tuple ts) o) (atoms_of_all ts) (λ names. item.Tuple (terms_len ts) ∷ part_items form.Tuple ts names) (λ names. item.Tuple (terms_len ts) ∷ all_items names ts)
+  term_put (Tuple ts) o b = as_items o (put (Tuple ts) o) (atoms_of_all ts) (λ names. item.Tuple (terms_len ts) ∷ part_items form.Tuple ts names)
+      (λ names. item.Tuple (terms_len ts) ∷ all_items names ts)
       (λ names. ap (λ (z : List Item). item.Tuple (terms_len ts) ∷ z) (tuple_items ts names))
       (counted o (put_all form.Tuple ts (push o (item.Tuple 0))) (terms_len ts) (atoms_of_all ts) (part_items form.Tuple ts)
-      (put_then o (push o (item.Tuple 0)) (put_all form.Tuple ts (push o (item.Tuple 0))) [] (atoms_of_all ts) (λ names. item.Tuple 0 ∷ []) (part_items form.Tuple ts) (put_item o (item.Tuple 0)) (all_put ts form.Tuple (push o (item.Tuple 0)) b)))
+      (put_then o (push o (item.Tuple 0)) (put_all form.Tuple ts (push o (item.Tuple 0))) [] (atoms_of_all ts) (λ names. item.Tuple 0 ∷ []) (part_items form.Tuple ts) (put_item o (item.Tuple 0))
+      (all_put ts form.Tuple (push o (item.Tuple 0)) b)))
   term_put (Map ps) o b = absurd b
   term_put (Bin bytes) o b = absurd b
 

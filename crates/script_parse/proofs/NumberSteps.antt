@@ -141,7 +141,13 @@ negative n i line bytes rest false e c h = let k : Some (negsuc (n - 1), bytes) 
     let P : ℕ → Type 0 = λ z. IsNumber z c.text in
     let Q : ℤ → Type 0 = λ z. Integral z (45 ∷ line) rest in
     let small : is_small (negsuc (n - 1)) ≡ true = lt-ltb (n - 1) (2 ^ 59) (omega (arith, some, c.within)) in
-    subst Q (j.0) (record { text = 45 ∷ c.text; integer = (c.text, subst P whole c.number, refl); whole = ap (λ (r : List ℕ). 45 ∷ r) (c.whole ∙ ap (λ (r : List ℕ). c.text ++ r) (j.1)); small = small })
+    subst Q (j.0) (record {
+      text = 45 ∷ c.text;
+      integer = (c.text, subst P whole c.number, refl);
+      whole = ap (λ (r : List ℕ). 45 ∷ r) (c.whole ∙ ap (λ (r : List ℕ). c.text ++ r) (j.1));
+      small
+          = small;
+    })
 
 positive : (n : ℕ) (i : ℤ) (line bytes rest : List ℕ) → Counted SMALL n line bytes → signed false (n, bytes) ≡ Some (i, rest) → Integral i line rest
 positive n i line bytes rest c h = let j : (pos n ≡ i) × (bytes ≡ rest) = both h in

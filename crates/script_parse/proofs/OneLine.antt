@@ -44,7 +44,8 @@ number_twice limit n m ps qs line h i d e k l = let x : Numbers limit n ps line 
     record { same = j.0; rest = x.rest; left = x.lies; right = subst P (sym (j.1)) y.lies }
 
 -- An operand read twice is one.
-plain_twice : {A : Type 0} (front : List ℕ → Option (A × List ℕ)) (x y : A) (ps qs : List Piece) (line : List ℕ) → Fronts front x ps line → Fronts front y qs line → (x ≡ y) × (rest : List ℕ) × Lies ps rest × Lies qs rest
+plain_twice : {A : Type 0} (front : List ℕ → Option (A × List ℕ)) (x y : A) (ps qs : List Piece) (line : List ℕ) → Fronts front x ps line → Fronts front y qs line
+    → (x ≡ y) × (rest : List ℕ) × Lies ps rest × Lies qs rest
 plain_twice front x y ps qs line f g = let same : f.start ≡ g.start = inside (sym f.gap ∙ g.gap) in
     let j : (x ≡ y) × (f.rest ≡ g.rest) = both (sym f.read ∙ (ap (λ (z : List ℕ). front (after_blanks z)) same ∙ g.read)) in
     let P : List ℕ → Type 0 = λ z. Lies qs z in
@@ -52,8 +53,10 @@ plain_twice front x y ps qs line f g = let same : f.start ≡ g.start = inside (
 
 operand_same : (k : Kind) (x y : OperandOf k) (ps qs : List Piece) (line : List ℕ) → Divides ps → Divides qs → IsOperand k x → IsOperand k y → IsBuiltOperand k x → IsBuiltOperand k y
     → Lies (operand_pieces k x ps) line → Lies (operand_pieces k y qs) line → (x ≡ y) × (rest : List ℕ) × Lies ps rest × Lies qs rest
-operand_same Slot x y ps qs line d e a b f g k l = plain_twice (number_at LAST_REGISTER) x y ps qs line (number_fronts LAST_REGISTER x ps line (omega arith) d k) (number_fronts LAST_REGISTER y qs line (omega arith) e l)
-operand_same Count x y ps qs line d e a b f g k l = plain_twice (number_at GREATEST) x y ps qs line (number_fronts GREATEST x ps line (omega arith) d k) (number_fronts GREATEST y qs line (omega arith) e l)
+operand_same Slot x y ps qs line d e a b f g k l
+    = plain_twice (number_at LAST_REGISTER) x y ps qs line (number_fronts LAST_REGISTER x ps line (omega arith) d k) (number_fronts LAST_REGISTER y qs line (omega arith) e l)
+operand_same Count x y ps qs line d e a b f g k l
+    = plain_twice (number_at GREATEST) x y ps qs line (number_fronts GREATEST x ps line (omega arith) d k) (number_fronts GREATEST y qs line (omega arith) e l)
 operand_same Receiver x y ps qs line d e a b f g k l = plain_twice receiver_at x y ps qs line (receiver_fronts x ps line a d k) (receiver_fronts y qs line b e l)
 operand_same Title x y ps qs line d e a b f g k l = plain_twice title_at x y ps qs line (title_fronts x ps line a d k) (title_fronts y qs line b e l)
 operand_same Extent x y ps qs line d e a b f g k l = plain_twice extent_at x y ps qs line (extent_fronts x ps line k) (extent_fronts y qs line l)
@@ -94,9 +97,11 @@ process_same : (n m : ℕ) (w x : Word) (ops : Operands (kinds_of w)) (pos : Ope
     → OfProcess n w ops ≡ OfProcess m x pos
 process_same n m w x ops pos line h i a d e f k l =
     let t : TwiceNumber n m (Space ∷ Text (text_of w) ∷ operands_pieces (kinds_of w) ops) (Space ∷ Text (text_of x) ∷ operands_pieces (kinds_of x) pos)
-    = number_twice GREATEST n m (Space ∷ Text (text_of w) ∷ operands_pieces (kinds_of w) ops) (Space ∷ Text (text_of x) ∷ operands_pieces (kinds_of x) pos) line (omega arith) (omega arith) tt tt k l in
+    = number_twice GREATEST n m (Space ∷ Text (text_of w) ∷ operands_pieces (kinds_of w) ops) (Space ∷ Text (text_of x) ∷ operands_pieces (kinds_of x) pos) line (omega arith)
+    (omega arith) tt tt k l in
     let v : TwiceWord w x (operands_pieces (kinds_of w) ops) (operands_pieces (kinds_of x) pos)
-    = word_twice text_of word_named w x (operands_pieces (kinds_of w) ops) (operands_pieces (kinds_of x) pos) t.rest named_so text_word (operands_part (kinds_of w) ops) (operands_part (kinds_of x) pos) t.left t.right in
+    = word_twice text_of word_named w x (operands_pieces (kinds_of w) ops) (operands_pieces (kinds_of x) pos) t.rest named_so text_word (operands_part (kinds_of w) ops)
+    (operands_part (kinds_of x) pos) t.left t.right in
     let Q : Word → Type 0 = λ z. (others : Operands (kinds_of z)) → AreOperands (kinds_of z) others → AreBuiltOperands (kinds_of z) others → Lies (operands_pieces (kinds_of z) others) v.rest
     → OfProcess n w ops ≡ OfProcess m z others in
     let start : Q w = λ others p q r. let y : ops ≡ others = operands_same (kinds_of w) ops others v.rest a p e q v.left r in
@@ -109,7 +114,8 @@ sys_tail w ops line (gap, text, rest, g, s, e, l) = token (Text (codes "sys")) (
 
 system_same : (w x : SysWord) (ops : Operands (sys_kinds_of w)) (pos : Operands (sys_kinds_of x)) (line : List ℕ)
     → AreOperands (sys_kinds_of w) ops → AreOperands (sys_kinds_of x) pos → AreBuiltOperands (sys_kinds_of w) ops → AreBuiltOperands (sys_kinds_of x) pos
-    → Lies (Text (codes "sys") ∷ Space ∷ Text (sys_text_of w) ∷ operands_pieces (sys_kinds_of w) ops) line → Lies (Text (codes "sys") ∷ Space ∷ Text (sys_text_of x) ∷ operands_pieces (sys_kinds_of x) pos) line
+    → Lies (Text (codes "sys") ∷ Space ∷ Text (sys_text_of w) ∷ operands_pieces (sys_kinds_of w) ops) line
+    → Lies (Text (codes "sys") ∷ Space ∷ Text (sys_text_of x) ∷ operands_pieces (sys_kinds_of x) pos) line
     → OfSystem w ops ≡ OfSystem x pos
 system_same w x ops pos line a b c d k l =
     let f : Token (Text (codes "sys")) (Space ∷ Text (sys_text_of w) ∷ operands_pieces (sys_kinds_of w) ops) line 115 (codes "ys") = sys_tail w ops line k in
@@ -120,7 +126,8 @@ system_same w x ops pos line a b c d k l =
     let v : TwiceWord w x (operands_pieces (sys_kinds_of w) ops) (operands_pieces (sys_kinds_of x) pos)
     = word_twice sys_text_of sys_word_named w x (operands_pieces (sys_kinds_of w) ops) (operands_pieces (sys_kinds_of x) pos) f.rest sys_named_so sys_text_word
     (operands_part (sys_kinds_of w) ops) (operands_part (sys_kinds_of x) pos) f.lies (subst P i g.lies) in
-    let Q : SysWord → Type 0 = λ z. (others : Operands (sys_kinds_of z)) → AreOperands (sys_kinds_of z) others → AreBuiltOperands (sys_kinds_of z) others → Lies (operands_pieces (sys_kinds_of z) others) v.rest
+    let Q : SysWord → Type 0
+    = λ z. (others : Operands (sys_kinds_of z)) → AreOperands (sys_kinds_of z) others → AreBuiltOperands (sys_kinds_of z) others → Lies (operands_pieces (sys_kinds_of z) others) v.rest
     → OfSystem w ops ≡ OfSystem z others in
     let start : Q w = λ others p q r. ap (λ (z : Operands (sys_kinds_of w)). OfSystem w z) (operands_same (sys_kinds_of w) ops others v.rest a p c q v.left r) in
     subst Q v.same start pos b d v.right
@@ -130,7 +137,8 @@ silent_process : {A : Type 0} (n : ℕ) (ps : List Piece) (line : List ℕ) → 
 silent_process n ps line h d l s = let x : Numbers GREATEST n ps line = number_stands GREATEST n ps line (omega arith) d l in
     absurd (false_not (sym x.loud ∙ silent_found line s))
 
-silent_system : {A : Type 0} (w : SysWord) (ops : Operands (sys_kinds_of w)) (line : List ℕ) → Lies (Text (codes "sys") ∷ Space ∷ Text (sys_text_of w) ∷ operands_pieces (sys_kinds_of w) ops) line → IsSilent line → A
+silent_system : {A : Type 0} (w : SysWord) (ops : Operands (sys_kinds_of w)) (line : List ℕ) → Lies (Text (codes "sys") ∷ Space ∷ Text (sys_text_of w) ∷ operands_pieces (sys_kinds_of w) ops) line
+    → IsSilent line → A
 silent_system w ops line l s = let f : Token (Text (codes "sys")) (Space ∷ Text (sys_text_of w) ∷ operands_pieces (sys_kinds_of w) ops) line 115 (codes "ys") = sys_tail w ops line l in
     let e : false ≡ true = ap is_silent (sym f.front) ∙ silent_found line s in absurd (false_not e)
 

@@ -21,7 +21,8 @@ AreOne levels = (t u : Term) (ps qs : List Piece) (line : List ℕ) → Divides 
 
 leaf_same : (t u : Term) (levels : ℕ) (ps qs : List Piece) (line : List ℕ) → IsLeaf t → IsLeaf u → Divides ps → Divides qs → MayStand levels t → MayStand levels u → IsBuiltTerm t → IsBuiltTerm u
     → Lies (term_pieces t ps) line → Lies (term_pieces u qs) line → Same t u ps qs
-leaf_same t u levels ps qs line h i d e m n b c k l = let x : DoneLeaf t ps line = leaf_of_grammar t levels ps line h d m b k in let y : DoneLeaf u qs line = leaf_of_grammar u levels qs line i e n c l in
+leaf_same t u levels ps qs line h i d e m n b c k l = let x : DoneLeaf t ps line = leaf_of_grammar t levels ps line h d m b k in let y : DoneLeaf u qs line
+    = leaf_of_grammar u levels qs line i e n c l in
     let j : (t ≡ u) × (x.rest ≡ y.rest) = both (sym x.read ∙ y.read) in
     let P : List ℕ → Type 0 = λ z. Lies qs z in
     record { same = j.0; rest = x.rest; left = x.lies; right = subst P (sym (j.1)) y.lies }
@@ -49,7 +50,8 @@ part_ends : {A : Type 0} (levels : ℕ) (f : Form) (x : PartOf f) (xs : List (Pa
 part_ends levels f x xs ps qs line is k l = let m : Mark (closing f) = closing_mark f in
     let q : Opened (closing f) qs line = opened (closing f) m.first m.more qs line m.is m.solid l in
     let none : text_at (closing f) (after_blanks line) ≡ None
-    = (part_done levels (term_done levels) f x (more_of (part_pieces f) xs (Text (closing f) ∷ ps)) line (out [] false []) (more_divides (part_pieces f) xs (Text (closing f) ∷ ps) (mark_divides (closing f) ps m)) is k).1 f in
+    = (part_done levels (term_done levels) f x (more_of (part_pieces f) xs (Text (closing f) ∷ ps)) line (out [] false [])
+    (more_divides (part_pieces f) xs (Text (closing f) ∷ ps) (mark_divides (closing f) ps m)) is k).1 f in
     absurd (none_some (sym none ∙ q.found))
 
 form_same : (levels : ℕ) → AreOne levels → (f : Form) (xs ys : List (PartOf f)) (ps qs : List Piece) (line : List ℕ) → Each (IsPart levels f) xs → Each (IsPart levels f) ys
@@ -60,7 +62,8 @@ form_same levels ih f [] (y ∷ ys) ps qs line a b k l = part_ends levels f y ys
 form_same levels ih f (x ∷ xs) [] ps qs line a b k l = part_ends levels f x xs ps qs line (a.0) k l
 form_same levels ih f (x ∷ xs) (y ∷ ys) ps qs line a b k l = let m : Mark (closing f) = closing_mark f in
     let s : Same (x ∷ xs) (y ∷ ys) (Text (closing f) ∷ ps) (Text (closing f) ∷ qs)
-    = parts_same (part_pieces f) (IsPart levels f) (part_same levels ih f) x y xs ys (Text (closing f) ∷ ps) (Text (closing f) ∷ qs) line (mark_divides (closing f) ps m) (mark_divides (closing f) qs m)
+    = parts_same (part_pieces f) (IsPart levels f) (part_same levels ih f) x y xs ys (Text (closing f) ∷ ps) (Text (closing f) ∷ qs) line (mark_divides (closing f) ps m)
+    (mark_divides (closing f) qs m)
     (mark_no_comma (closing f) ps m) (mark_no_comma (closing f) qs m) a b k l in
     let t : Twice ps qs s.rest = text_twice (closing f) m.first m.more ps qs s.rest m.is m.solid s.left s.right in
     record { same = s.same; rest = t.rest; left = t.left; right = t.right }
@@ -69,7 +72,8 @@ form_same levels ih f (x ∷ xs) (y ∷ ys) ps qs line a b k l = let m : Mark (c
 abbrev Making : (levels : ℕ) (ps : List Piece) (rest : List ℕ) → Form → Term → Type 0
 Making levels ps rest f t = (xs : List (PartOf f)) × (t ≡ made f xs) × Each (IsPart levels f) xs × Lies (parts_of (part_pieces f) xs (Text (closing f) ∷ ps)) rest
 
-made_same : (levels : ℕ) → AreOne levels → (t u : Term) (f g : Form) (ps qs : List Piece) (rest next : List ℕ) → f ≡ g → rest ≡ next → Making levels ps rest f t → Making levels qs next g u → Same t u ps qs
+made_same : (levels : ℕ) → AreOne levels → (t u : Term) (f g : Form) (ps qs : List Piece) (rest next : List ℕ) → f ≡ g → rest ≡ next → Making levels ps rest f t → Making levels qs next g u
+    → Same t u ps qs
 made_same levels ih t u f g ps qs rest next e h x y =
     let P : Form → Type 0 = λ z. Making levels qs rest z u in
     let Q : List ℕ → Type 0 = λ z. Making levels qs z g u in
@@ -84,7 +88,8 @@ making levels t ps line h m b l = let n : MayStand (suc levels) (made (h.0) (h.1
     let q = made_form (h.0) (h.1) ps line k in
     (q.0, q.1, (h.1, h.2, made_are levels (h.0) (h.1) n c, q.2))
 
-two_same : (levels : ℕ) → AreOne levels → (t u : Term) (ps qs : List Piece) (line : List ℕ) (h : IsMade t) (i : IsMade u) → MayStand (suc levels) t → MayStand (suc levels) u → IsBuiltTerm t → IsBuiltTerm u
+two_same : (levels : ℕ) → AreOne levels → (t u : Term) (ps qs : List Piece) (line : List ℕ) (h : IsMade t) (i : IsMade u) → MayStand (suc levels) t → MayStand (suc levels) u → IsBuiltTerm t
+    → IsBuiltTerm u
     → Lies (term_pieces t ps) line → Lies (term_pieces u qs) line → Same t u ps qs
 two_same levels ih t u ps qs line h i m n b c k l =
     let x = making levels t ps line h m b k in let y = making levels u qs line i n c l in

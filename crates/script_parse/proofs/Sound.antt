@@ -122,7 +122,8 @@ closed : (f : Form) (line mid : List ℕ) (ps : List Piece) → text_at (closing
 closed f line mid ps e l = lies (Text (closing f)) ps mid (closing f) line (text_read (closing f) (after_blanks mid) line e) refl l
 
 made_full : (levels : ℕ) (f : Form) (line bytes : List ℕ) (o : Out) (rest : List ℕ) (p : Out) → AreRead levels → after_blanks line ≡ opening f ++ bytes
-    → then_read (parts_run (part_run (term_run levels) f) (length bytes + 1) bytes 0 (begun f o)) (λ r. end_run f (length o.items) (r.1.0) (r.0) (r.1.1)) ≡ Some (rest, p) → Found (suc levels) line o rest p
+    → then_read (parts_run (part_run (term_run levels) f) (length bytes + 1) bytes 0 (begun f o)) (λ r. end_run f (length o.items) (r.1.0) (r.0) (r.1.1)) ≡ Some (rest, p)
+    → Found (suc levels) line o rest p
 made_full levels f line bytes o rest p ih e h =
     let r : (x : List ℕ × (ℕ × Out)) × (parts_run (part_run (term_run levels) f) (length bytes + 1) bytes 0 (begun f o) ≡ Some x) × (end_run f (length o.items) (x.1.0) (x.0) (x.1.1) ≡ Some (rest, p))
     = read_some (parts_run (part_run (term_run levels) f) (length bytes + 1) bytes 0 (begun f o)) (λ r. end_run f (length o.items) (r.1.0) (r.0) (r.1.1)) h in

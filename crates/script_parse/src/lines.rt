@@ -76,7 +76,8 @@ fn whole(line: &[u8], out: &mut Output) -> Option<Command>
 /// What a line says, and whether a name found no place. All names stay in their places.
 fn read(line: &[u8], names: &mut AtomNames, code: &mut Code) -> Option<(Command, bool)>
     requires { length code.old + length line.now ≤ MOST_ITEMS }
-    ensures read { MatchOption result (line_run line.now (out names.old false code.old) ≡ None) (λ r. line_run line.now (out names.old false code.old) ≡ Some (r.0, out names.new r.1 code.new)) }
+    ensures read { MatchOption result (line_run line.now (out names.old false code.old) ≡ None)
+        (λ r. line_run line.now (out names.old false code.old) ≡ Some (r.0, out names.new r.1 code.new)) }
     ensures kept { Keeps names.old names.new }
 {
     let mut out = Output {

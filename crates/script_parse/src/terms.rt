@@ -44,7 +44,8 @@ fn parts<'a>(form: Form, line: &'a [u8], levels: u64, out: &mut Output) -> Optio
     ensures read { MatchOption result (parts_run (part_run (term_run levels) form) (length line.now + 1) line.now 0 (given out.old) ≡ None)
         (λ r. parts_run (part_run (term_run levels) form) (length line.now + 1) line.now 0 (given out.old) ≡ Some (r.0.now, (r.1, given out.new))) }
     ensures grown { Grows out.old out.new }
-    ensures room { MatchOption result (Unit {0}) (λ r. (length out.new.code.now + length r.0.now ≤ length (led_items form out.old.code.now) + length line.now) × (length r.0.now < length line.now)) }
+    ensures room { MatchOption result (Unit {0})
+        (λ r. (length out.new.code.now + length r.0.now ≤ length (led_items form out.old.code.now) + length line.now) × (length r.0.now < length line.now)) }
 {
     let mut at = line;
     for n in 0..line.len() + 1 {
@@ -83,7 +84,8 @@ fn bracketed<'a>(form: Form, line: &'a [u8], levels: u64, out: &mut Output) -> O
 #[cycle(terms)]
 pub(crate) fn term<'a>(line: &'a [u8], levels: u64, out: &mut Output) -> Option<&'a [u8]>
     requires { length out.old.code.now + length line.now ≤ MOST_ITEMS }
-    ensures read { MatchOption result (term_run levels line.now (given out.old) ≡ None) (λ r. term_run levels line.now (given out.old) ≡ Some (r.now, given out.new)) }
+    ensures read { MatchOption result (term_run levels line.now (given out.old) ≡ None)
+        (λ r. term_run levels line.now (given out.old) ≡ Some (r.now, given out.new)) }
     ensures grown { Grows out.old out.new }
     ensures room { MatchOption result (Unit {0}) (λ r. Spends 0 line.now r.now out.old out.new) }
 {

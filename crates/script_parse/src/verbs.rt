@@ -16,7 +16,8 @@ use script_grammar::{LEVELS, Reg, SysVerb, SysWord, Verb, Word};
 
 /// A blank and a register.
 fn register(line: &[u8]) -> Option<(Reg, &[u8])>
-    ensures value { MatchOption result (spaced_at (number_at LAST_REGISTER) line.now ≡ None) (λ r. spaced_at (number_at LAST_REGISTER) line.now ≡ Some (r.0.0, r.1.now)) }
+    ensures value { MatchOption result (spaced_at (number_at LAST_REGISTER) line.now ≡ None)
+        (λ r. spaced_at (number_at LAST_REGISTER) line.now ≡ Some (r.0.0, r.1.now)) }
     ensures shorter { MatchOption result (Unit {0}) (λ r. length r.1.now ≤ length line.now) }
 {
     let rest = gap(line)?;
@@ -27,8 +28,10 @@ fn register(line: &[u8]) -> Option<(Reg, &[u8])>
 /// No operand, and nothing more.
 #[tactic(auto, unfolding(crate::specs::Reading::row_run))]
 fn none(line: &[u8], out: &mut Output) -> Option<()>
-    ensures process { (f : Arguments [] → Verb) → MatchOption result (row_run (row [] f) line.now (given out.old) ≡ None) (λ r. row_run (row [] f) line.now (given out.old) ≡ Some (f tt, given out.new)) }
-    ensures system { (f : Arguments [] → SysVerb) → MatchOption result (row_run (row [] f) line.now (given out.old) ≡ None) (λ r. row_run (row [] f) line.now (given out.old) ≡ Some (f tt, given out.new)) }
+    ensures process { (f : Arguments [] → Verb) → MatchOption result (row_run (row [] f) line.now (given out.old) ≡ None)
+        (λ r. row_run (row [] f) line.now (given out.old) ≡ Some (f tt, given out.new)) }
+    ensures system { (f : Arguments [] → SysVerb) → MatchOption result (row_run (row [] f) line.now (given out.old) ≡ None)
+        (λ r. row_run (row [] f) line.now (given out.old) ≡ Some (f tt, given out.new)) }
     ensures grown { Grows out.old out.new }
 {
     if ends(line) { Some(()) } else { None }
@@ -62,7 +65,8 @@ fn slot_body(line: &[u8], out: &mut Output) -> Option<Reg>
 /// The operands of a verb of a process, by the table of what is built.
 fn verb(word: Word, line: &[u8], out: &mut Output) -> Option<Verb>
     requires { length out.old.code.now + length line.now ≤ MOST_ITEMS }
-    ensures read { MatchOption result (verb_run word line.now (given out.old) ≡ None) (λ v. verb_run word line.now (given out.old) ≡ Some (v, given out.new)) }
+    ensures read { MatchOption result (verb_run word line.now (given out.old) ≡ None)
+        (λ v. verb_run word line.now (given out.old) ≡ Some (v, given out.new)) }
     ensures grown { Grows out.old out.new }
 {
     match word {
@@ -103,7 +107,8 @@ pub(crate) fn process_verb(line: &[u8], out: &mut Output) -> Option<Verb>
 /// The operands of a verb of the system, by the table of what is built.
 fn sys_verb(word: SysWord, line: &[u8], out: &mut Output) -> Option<SysVerb>
     requires { length out.old.code.now + length line.now ≤ MOST_ITEMS }
-    ensures read { MatchOption result (sys_verb_run word line.now (given out.old) ≡ None) (λ v. sys_verb_run word line.now (given out.old) ≡ Some (v, given out.new)) }
+    ensures read { MatchOption result (sys_verb_run word line.now (given out.old) ≡ None)
+        (λ v. sys_verb_run word line.now (given out.old) ≡ Some (v, given out.new)) }
     ensures grown { Grows out.old out.new }
 {
     match word {
