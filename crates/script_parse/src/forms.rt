@@ -1,4 +1,4 @@
-//! The forms of terms in brackets.
+// The forms of terms in brackets.
 ghost use Rattle.std.specs.Prelude.{◌≡◌, ℕ, ◌<◌, List, length, MatchOption};
 ghost use Rattle.script_parse.specs.Forms.{opening, closing, all_forms};
 ghost use Rattle.script_parse.specs.Reading.{form_in};

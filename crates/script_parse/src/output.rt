@@ -1,4 +1,4 @@
-//! What a line gives while it is read.
+// What a line gives while it is read.
 ghost use Rattle.std.specs.Prelude.{◌≡◌, ℕ, ◌+◌, ◌≤◌, ◌<◌, List, [], ◌++◌, length};
 ghost use Rattle.atom_names.specs.declared.row.TheConstants.{LONGEST_NAME};
 ghost use Rattle.script_parse.specs.declared.buffer.TheConstants.{MOST_ITEMS};
