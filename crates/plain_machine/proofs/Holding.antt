@@ -5,6 +5,7 @@ use Rattle.std.specs.List.{find}
 use Rattle.plain_term.specs.Tree.{Tree}
 use Rattle.plain_term.specs.Tree.{Tree as tree}
 use Rattle.plain_term.specs.Proper.{is_proper}
+use Rattle.script_grammar.specs.declared.limits.TheConstants.{REGISTERS, LEVELS}
 use Rattle.script_grammar.specs.Written.{Term, Terms}
 use Rattle.script_grammar.specs.Written.Terms.{end, ◌▹◌}
 use Rattle.script_grammar.specs.Grammar.{MayStand, IsBuiltTerm}
@@ -63,7 +64,7 @@ module _ (names shared : List (List ℕ)) where
   held q h = joined-proper q.registers (q.stack ++ q.queue) h.registers (joined-proper q.stack q.queue h.stack h.queue)
 
   fresh-proper : (n : ℕ) → AreProper names shared (held_trees (fresh_process n))
-  fresh-proper n = held (fresh_process n) (record { registers = nils-proper 16; stack = tt; queue = tt })
+  fresh-proper n = held (fresh_process n) (record { registers = nils-proper REGISTERS; stack = tt; queue = tt })
 
   -- the process with a number
   pub found-proper : (n : ℕ) (qs : List Live) (q : Live) → AreProper names shared (flat_map held_trees qs) → find (λ p. p.number == n) qs ≡ Some q → Holds q
@@ -135,7 +136,7 @@ pub record Builds (terms : Terms) (names : List (List ℕ)) : Type 0 where
   pub term : Term
   pub one : terms ≡ term ▹ end
   pub built : IsBuiltTerm term
-  pub allowed : MayStand 256 term
+  pub allowed : MayStand LEVELS term
   pub numbers : HaveNumbers names (atoms_of term)
 
 -- its tree in a register, and the rest as before
@@ -148,4 +149,4 @@ built-leaves s p q r b h t =
     let made : Tree × List (List ℕ) = tree_of p.names q.registers t.term s.shared in
     let Q : List (List ℕ) → Type 0 = λ z. AreProper p.names z (flat_map held_trees (map (λ u. cond (u.number == q.number) (with_register r (made.0) q) u) s.processes) ++ flat_map (λ (a : Area). a.literals) s.areas) in
     subst P (sym t.one) (subst Q (sym (shared-kept p.names q.registers t.term s.shared t.built))
-    (in-register s p.names q r (made.0) b h (made-proper p.names s.shared q.registers 256 t.term s.shared t.built t.allowed t.numbers)))
+    (in-register s p.names q r (made.0) b h (made-proper p.names s.shared q.registers LEVELS t.term s.shared t.built t.allowed t.numbers)))

@@ -3,8 +3,9 @@ use Rattle.std.specs.Prelude.{ℕ, ◌≡◌, ◌+◌, ◌==◌, Bool, false, no
 use Rattle.std.specs.List.{find, filter, list_any}
 use Rattle.plain_term.specs.Tree.{Tree}
 use Rattle.plain_term.specs.Tree.Tree.{Nil}
+use Rattle.script_grammar.specs.declared.limits.TheConstants.{REGISTERS}
 
--- A live process: its number, the trees of its 16 registers, its stack from the last pushed, its
+-- A live process: its number, the trees of its registers, its stack from the last pushed, its
 -- queue from the first to be received, and how many references it has made.
 pub record Process : Type 0 where
   pub number : ℕ
@@ -32,7 +33,7 @@ pub record State : Type 0 where
 
 -- A process that was just made: nil in each register, and nothing else.
 abbrev pub fresh_process : ℕ → Process
-fresh_process number = record { number = number; registers = replicate 16 Nil; stack = []; queue = []; refs = 0 }
+fresh_process number = record { number = number; registers = replicate REGISTERS Nil; stack = []; queue = []; refs = 0 }
 
 -- The first state: process 1 lives.
 abbrev pub first_state : State

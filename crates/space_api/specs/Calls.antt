@@ -1,6 +1,8 @@
 -- What the calls of a space give, in the words of the plain machine.
 use Rattle.std.specs.Prelude.{ℕ, ◌≡◌, ◌+◌, ◌^◌, ◌<◌, ◌≤◌, ◌⊎◌, Bool, true, List, [], ◌∷◌, length, Result, Ok, Err, All}
+use Rattle.line_io.specs.declared.reader.TheConstants.{LONGEST_LINE}
 use Rattle.line_io.specs.Sink.{Grew, GrewInPart}
+use Rattle.script_grammar.specs.declared.limits.TheConstants.{LEVELS}
 use Rattle.plain_term.specs.declared.item.Item.{Item}
 use Rattle.plain_term.specs.declared.item.Item.TheVariants as item
 use Rattle.script_grammar.specs.declared.command.Command.{Command}
@@ -52,18 +54,18 @@ abbrev pub IsNamedBelow : ℕ → Item → Type 0
 IsNamedBelow count (item.Atom k) = k < count
 IsNamedBelow count _ = Unit {0}
 
--- The items are the prefix form of a written term of the built forms, in at most 256 levels of brackets.
+-- The items are the prefix form of a written term of the built forms, in as many levels of brackets as there may be.
 pub record IsTerm (names : List (List ℕ)) (code : List Item) (t : Term) : Type 0 where
   pub items : items_of names t ≡ code
-  pub allowed : MayStand 256 t
+  pub allowed : MayStand LEVELS t
   pub built : IsBuiltTerm t
 
--- The items are the prefix form of some written term, all atoms have names, and there are not too many.
+-- The items are the prefix form of some written term, all atoms have names, and there are no more than a line has bytes.
 pub record HasTerm (names : List (List ℕ)) (code : List Item) : Type 0 where
   pub term : Term
   pub is : IsTerm names code term
   pub named : All (IsNamedBelow (length names)) code
-  pub few : length code ≤ 4096
+  pub few : length code ≤ LONGEST_LINE
 
 -- The call does what the machine's step does, or is refused as it is, and then the state is as before.
 abbrev pub Follows : {A : Type 0} → Outcome → State → Result A Refusal → (State → Type 0) → Type 0

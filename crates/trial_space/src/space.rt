@@ -8,13 +8,17 @@ use atom_names::AtomNames;
 use line_io::Sink;
 use plain_machine::{PLACE_COST, PROCESS_COST, Refusal, Reg};
 use plain_term::Item;
+use script_grammar::REGISTERS;
 use space_api::{Seat, Space, Stop};
+
+// How many registers the process has.
+const SLOTS: usize = REGISTERS as usize;
 
 /// Process 1 alone, with one item in each register, and no word of memory: what asks for words is refused.
 #[derive(Drop)]
 pub struct TrialSpace {
     alive: bool,
-    registers: [Item; 16],
+    registers: [Item; SLOTS],
     named: u64,
 }
 
@@ -27,7 +31,7 @@ impl TrialSpace {
     {
         TrialSpace {
             alive: true,
-            registers: [Item::Nil; 16],
+            registers: [Item::Nil; SLOTS],
             named: 0,
         }
     }

@@ -2,6 +2,7 @@
 ghost use Rattle.std.specs.Prelude.{◌≡◌, ◌≤◌, length};
 ghost use Rattle.trial_space.specs.Items.{item_weight, weight};
 
+use line_io::LONGEST_LINE;
 use plain_term::Item;
 
 // One for each item, and one more for a tuple.
@@ -16,7 +17,7 @@ fn weigh_item(item: Item) -> u64
 
 /// The weight of a written term: one more than the words that it asks for.
 pub fn weigh(code: &[Item]) -> u64
-    requires few { length code.now ≤ 4096 }
+    requires few { length code.now ≤ LONGEST_LINE }
     ensures { result ≡ weight code.now }
 {
     let mut sum = 0;
