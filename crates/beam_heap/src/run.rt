@@ -19,10 +19,10 @@ use std::alloc::Global;
 /// How many words the arena has (this project).
 pub const ARENA_WORDS: u64 = 1_048_576;
 
-/// How many lines and bytes a script may have: 2^32 and 2^48 (this project).
+/// How many lines and bytes a script may have (this project).
 pub const LIMITS: Limits = Limits {
-    lines: 4_294_967_296,
-    bytes: 281_474_976_710_656,
+    lines: 1 << 32,
+    bytes: 1 << 48,
 };
 
 /// A machine in its first state: process 1 lives, and there are no names.

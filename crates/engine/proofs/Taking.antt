@@ -21,6 +21,7 @@ use Rattle.script_grammar.specs.ReadAs.{IsRead, IsOutside, BringsTooMany}
 use Rattle.plain_machine.specs.Run.{CommandStep}
 use Rattle.script_grammar.specs.ReadAs.Reading.{Means, NoSyntax, NoAtoms}
 use Rattle.space_api.specs.Calls.{said}
+use Rattle.script_parse.specs.declared.buffer.TheConstants.{MOST_ITEMS}
 use Rattle.script_parse.specs.Parses.{Reads as Parsing}
 use Rattle.script_parse.proofs.OneLine.{one_line}
 use Rattle.engine.specs.declared.reply.Reply.{Reply}
@@ -32,7 +33,7 @@ use Rattle.script_grammar.proofs.Naming.{ArePlaced, with-names-placed, with-name
 use Rattle.engine.proofs.Naming.{AreBelow, items-below, below-all}
 
 -- the code of a line that builds is its term
-pub has-code : (names : List (List ℕ)) (w : Written) (code : List Item) → IsAllowed w → IsBuilt w → code ≡ all_items names (terms_of w) → length code ≤ 4096
+pub has-code : (names : List (List ℕ)) (w : Written) (code : List Item) → IsAllowed w → IsBuilt w → code ≡ all_items names (terms_of w) → length code ≤ MOST_ITEMS
     → ArePlaced names (all_atoms w) → HasCode (command_of names w) names code
 has-code names (OfProcess n word.Set ops) code a b e few p =
     let t : Term = ops.1.0 in
@@ -96,7 +97,7 @@ module _ (line : List ℕ) (before : List (List ℕ)) (c : Command) (after : Lis
   told-back = ap (take (length before)) t.names_are ∙ names-back before (all_atoms w)
 
   -- the code is that of the command
-  pub told-code : (items : List Item) → items ≡ code → length code ≤ 4096 → HasCode c after items
+  pub told-code : (items : List Item) → items ≡ code → length code ≤ MOST_ITEMS → HasCode c after items
   told-code items e few =
       let P : Command → Type 0 = λ z. HasCode z after code in
       let placed : ArePlaced after (all_atoms w) = subst (λ z. ArePlaced z (all_atoms w)) (sym t.names_are) (with-names-placed before (all_atoms w)) in
