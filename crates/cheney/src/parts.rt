@@ -37,7 +37,7 @@ pub fn scan(mem: &mut WordMem, mv: &mut Moving)
 
 // Moves the parts of the object at a place of the aged or of the young room, and of the conses of its list that lie right
 // behind it then; answers the place after these.
-#[inline]
+#[inline(always)]
 fn scan_object(mem: &mut WordMem, mv: &mut Moving, aged: bool, place: u64) -> u64
     requires { CanOpen mem.old mv.old aged place }
     ensures each { ScansObjects mem.old mem.new mv.old mv.new aged place result }

@@ -17,6 +17,7 @@ pub struct Cell {
 
 /// Moves the parts of the cons at a place of the aged or of the young room, and goes on with the cons that its tail names
 /// as long as that was copied right behind it: its words need not be read again. Answers the place after the last one.
+#[inline(always)]
 pub fn scan_spine(mem: &mut WordMem, mv: &mut Moving, aged: bool, place: u64, head: u64) -> u64
     requires can { CanOpen mem.old mv.old aged place }
     requires head { head ≡ slice_index mem.old place }
