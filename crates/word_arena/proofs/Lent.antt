@@ -1,7 +1,8 @@
 -- An arena whose memory was lent, and came back with the headers as they were, is sound.
 use Rattle.std.proofs.Common.{◌≡◌, ◌≢◌, ℕ, ◌+◌, ◌*◌, ◌/◌, ◌<◌, ◌≤◌, List, length, get_or, refl, sym, ◌∙◌, ap, subst, arith}
 use Rattle.word_arena.specs.Blocks.{Blocks, Blocked, places_of, In, Begins, free_of, free_in}
-use Rattle.word_arena.specs.Calls.{HeadersStay, Frame}
+use Rattle.word_arena.specs.Calls.{HeadersStay}
+use Rattle.word_arena.specs.Changes.{Frame}
 use Rattle.word_arena.specs.Sound.{Sound}
 use Rattle.word_arena.specs.Stretches.{HasRoom, Agrees}
 use Rattle.word_arena.specs.declared.arena.Arena.{Arena}

@@ -2,8 +2,8 @@
 use Rattle.std.proofs.Common.{◌≡◌, ◌≢◌, ℕ, ◌+◌, ◌*◌, ◌/◌, ◌%◌, ◌<◌, ◌≤◌, ◌⊎◌, List, length, get_or, min, refl, sym, ◌∙◌, ap, subst, arith, inl, inr, Option, Some, None, IfSome, IfNone}
 use Rattle.std.proofs.lemmas.Bool.{cases_lt}
 use Rattle.std.proofs.lemmas.List.{get_or_past}
-use Rattle.word_arena.specs.Blocks.{size_at, kind_at, free_at, Blocked, Begins}
-use Rattle.word_arena.specs.Calls.{Stop, NoneFits, FirstFit, FreeFrom, IsGreatest}
+use Rattle.word_arena.specs.Blocks.{size_at, kind_at, free_at, Blocked, Begins, Stop}
+use Rattle.word_arena.specs.Calls.{NoneFits, FirstFit, FreeFrom, IsGreatest}
 use Rattle.word_arena.specs.Stretches.{IsFirst, IsTop, Right, IsStart, Agrees}
 use Rattle.word_arena.specs.declared.holes.Holes.{Holes}
 use Rattle.word_arena.proofs.Tiling.{Within}

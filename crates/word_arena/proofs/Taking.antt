@@ -3,7 +3,8 @@ use Rattle.std.proofs.Common.{◌≡◌, ◌≢◌, ℕ, ◌+◌, ◌-◌, ◌*�
 use Rattle.std.proofs.lemmas.Bool.{cases_lt}
 use Rattle.std.proofs.lemmas.List.{get_or_past, get_or-set_same, get_or-set_other, length-set}
 use Rattle.word_arena.specs.Blocks.{size_at, kind_at, owner_at, free_at, header, IsHeader, Blocks, Blocked, Reaches, In, Begins, IsUsed, free_in, free_of}
-use Rattle.word_arena.specs.Calls.{FirstFit, taken, shortened, free_end, freed, FreeFrom, OthersStay, IsBlock, Frame, Took, Shortened, Gave, Closed}
+use Rattle.word_arena.specs.Calls.{FirstFit, taken, shortened, free_end, freed, FreeFrom, OthersStay, IsBlock}
+use Rattle.word_arena.specs.Changes.{Frame, Took, Shortened, Gave, Closed}
 use Rattle.word_arena.proofs.Places.{free_in-append, free_in-same}
 use Rattle.word_arena.proofs.Tiling.{Within, blocks-within, blocks-same, blocks-append, Front, blocks-front, places_of-row, blocked-row}
 use Rattle.word_arena.proofs.Facts.{free-all, free-none, some-free, made-header, header-size, header-kind, block-within, next-begins, apart}

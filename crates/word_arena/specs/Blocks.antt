@@ -1,14 +1,14 @@
 -- The memory as a row of blocks. Places and sizes are in words; the first word of a block is its header.
 use Rattle.std.specs.Prelude.{◌≡◌, ℕ, zero, suc, ◌+◌, ◌*◌, ◌/◌, ◌%◌, ◌<◌, ◌≤◌, ◌⊎◌, ◌==◌, nat_lt, if◌then◌else◌, List, [], ◌∷◌, length, slice_index}
-use Rattle.word_arena.specs.declared.blocks.TheConstants.{LAST_KIND}
+use Rattle.word_arena.specs.declared.blocks.TheConstants.{KINDS, LAST_KIND}
 
 -- How many words the block at a place has.
 abbrev pub size_at : List ℕ → ℕ → ℕ
-size_at mem at = slice_index mem at / 16
+size_at mem at = slice_index mem at / KINDS
 
 -- The kind of the block at a place; that of a free block is 0.
 abbrev pub kind_at : List ℕ → ℕ → ℕ
-kind_at mem at = slice_index mem at % 16
+kind_at mem at = slice_index mem at % KINDS
 
 -- Whose the block at a place is; a free block has no owner.
 abbrev pub owner_at : List ℕ → ℕ → ℕ
@@ -20,13 +20,13 @@ free_at mem at = if kind_at mem at == 0 then size_at mem at else 0
 
 -- The header of a block of so many words and of this kind.
 abbrev pub header : (size kind : ℕ) → ℕ
-header size kind = size * 16 + kind
+header size kind = size * KINDS + kind
 
 -- A word is a block's header: a free block has a word at least, any other has two.
 pub record IsHeader (word : ℕ) : Type 0 where
-  pub kind : word % 16 ≤ LAST_KIND
-  pub sized : 1 ≤ word / 16
-  pub owned : 1 ≤ word % 16 → 2 ≤ word / 16
+  pub kind : word % KINDS ≤ LAST_KIND
+  pub sized : 1 ≤ word / KINDS
+  pub owned : 1 ≤ word % KINDS → 2 ≤ word / KINDS
 
 -- The words from one place up to another are blocks that begin at these places, without a gap.
 abbrev pub Blocks : List ℕ → (from : ℕ) → (places : List ℕ) → (to : ℕ) → Type 0
@@ -64,6 +64,11 @@ pub record Begins (mem : List ℕ) (at : ℕ) : Type 0 where
 pub record IsUsed (mem : List ℕ) (at : ℕ) : Type 0 where
   pub begins : Begins mem at
   pub kind : 1 ≤ kind_at mem at
+
+-- A block begins at the place, or the memory ends there.
+pub record Stop (mem : List ℕ) (at : ℕ) : Type 0 where
+  pub inside : at ≤ length mem
+  pub begins : at < length mem → Begins mem at
 
 -- The free words of the blocks at these places.
 abbrev pub free_in : List ℕ → List ℕ → ℕ

@@ -4,14 +4,17 @@ ghost use Rattle.word_arena.specs.Blocks.{size_at, kind_at, owner_at, Blocks, Re
 ghost use Rattle.word_arena.specs.Calls.{NoneFits, FirstFit, IsGreatest, freed, taken, shortened, FreeFrom, Merged, OthersStay, IsBlock};
 
 use crate::blocks::{LAST_KIND, first_fit, free_before, next, size};
-use crate::holes::{Holes, stretch_end, stretch_of};
+use crate::holes::Holes;
 use crate::rows::{carve, close, merge, shorten};
+use crate::stretches::{stretch_end, stretch_of};
 use std::alloc::Global;
 use word_mem::{OpenFault, WordMem};
 
 /// A memory that is a row of blocks, and the table by which its free blocks are found.
 #[derive(Drop)]
 pub struct Arena {
+    /// Lent to those who read it or write inside blocks. While the headers are as they were, the arena stays sound; after
+    /// others were written, `relay` takes up the blocks anew.
     pub mem: WordMem,
     holes: Holes,
 }

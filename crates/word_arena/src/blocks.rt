@@ -1,22 +1,22 @@
 // Blocks read in a memory.
 ghost use Rattle.std.specs.Prelude.{◌≡◌, ℕ, ◌+◌, ◌-◌, ◌<◌, ◌≤◌, ◌≢◌, ◌⊎◌, length, slice_index, IfSome, IfNone};
-ghost use Rattle.word_arena.specs.Blocks.{size_at, kind_at, free_at, Blocked, Begins, free_of};
-ghost use Rattle.word_arena.specs.Calls.{Stop, freed, free_end};
+ghost use Rattle.word_arena.specs.Blocks.{size_at, kind_at, free_at, Blocked, Begins, Stop, free_of};
+ghost use Rattle.word_arena.specs.Calls.{free_end};
 
 use word_mem::WordMem;
 
+/// A header is the block's size times this number, and its kind.
+pub const KINDS: u64 = 16;
+
 /// The last kind of block; kinds count from 1, and 0 is that of a free block.
 pub const LAST_KIND: u64 = 8;
-
-// Headers hold the size above so many numbers of kinds.
-pub(crate) const KIND_NUMBERS: u64 = 16;
 
 /// The words of the block at a place.
 pub(crate) fn size(mem: &WordMem, at: u64) -> u64
     requires { at < length mem.now }
     ensures { result ≡ size_at mem.now at }
 {
-    mem.get(at) / KIND_NUMBERS
+    mem.get(at) / KINDS
 }
 
 /// The kind of the block at a place.
@@ -24,7 +24,7 @@ pub(crate) fn kind(mem: &WordMem, at: u64) -> u64
     requires { at < length mem.now }
     ensures { result ≡ kind_at mem.now at }
 {
-    mem.get(at) % KIND_NUMBERS
+    mem.get(at) % KINDS
 }
 
 /// The free words of the block at a place.

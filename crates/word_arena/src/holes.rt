@@ -1,15 +1,12 @@
 // The table beside the memory: of each stretch of 64 words where its first block begins, and its greatest free block.
-ghost use Rattle.std.specs.Prelude.{◌≡◌, ◌≢◌, ℕ, ◌+◌, ◌*◌, ◌/◌, ◌<◌, ◌≤◌, ◌^◌, List, length, min, IfOk, slice_index};
+ghost use Rattle.std.specs.Prelude.{◌≡◌, ◌≢◌, ℕ, ◌+◌, ◌*◌, ◌/◌, ◌<◌, ◌≤◌, ◌^◌, List, length, IfOk, slice_index};
 ghost use Rattle.word_arena.specs.Blocks.{size_at, Blocked, Begins};
-ghost use Rattle.word_arena.specs.Calls.{Stop};
 
 use crate::blocks::{free_words, greatest, next};
+use crate::stretches::{STRETCH, stretch_end, stretch_of};
 use crate::tops::Tops;
 use std::alloc::{AllocError, Global};
 use word_mem::WordMem;
-
-// How many words a stretch has.
-const STRETCH: u64 = 64;
 
 /// What is known of the blocks, stretch by stretch, and the sum of free words.
 #[derive(Drop)]
@@ -17,21 +14,6 @@ pub(crate) struct Holes {
     pub(crate) tops: Tops,
     pub(crate) firsts: Vec<u8>,
     pub(crate) free: u64,
-}
-
-/// The stretch of a place.
-pub(crate) fn stretch_of(at: u64) -> usize
-    ensures { result ≡ at / 64 }
-{
-    (at / STRETCH) as usize
-}
-
-/// Where the words of a stretch end that the memory has.
-pub(crate) fn stretch_end(mem: &WordMem, stretch: usize) -> u64
-    requires { stretch < 2 ^ 20 }
-    ensures { result ≡ min (stretch * 64 + 64) (length mem.now) }
-{
-    (stretch as u64 * STRETCH + STRETCH).min(mem.len())
 }
 
 impl Holes {
@@ -54,8 +36,8 @@ impl Holes {
     /// Where the first block of a stretch begins, or the stretch ends.
     pub(crate) fn start(&self, stretch: usize) -> u64
         requires inside { stretch < length self.now.firsts.items }
-        requires few { length self.now.firsts.items ≤ 2 ^ 20 }
-        ensures { result ≡ stretch * 64 + slice_index self.now.firsts.items stretch }
+        requires few { length self.now.firsts.items ≤ 2 ^ 24 }
+        ensures { result ≡ stretch * STRETCH + slice_index self.now.firsts.items stretch }
     {
         stretch as u64 * STRETCH + u64::from(self.firsts[stretch])
     }
@@ -87,8 +69,8 @@ impl Holes {
         requires blocked { Blocked mem.now }
         requires room { HasRoom mem.now self.old }
         requires block { Begins mem.now at }
-        requires first { IsFirst mem.now (at / 64) (slice_index self.old.firsts.items (at / 64)) }
-        ensures right { Right mem.now self.new.firsts.items self.new.tops (at / 64) }
+        requires first { IsFirst mem.now (at / STRETCH) (slice_index self.old.firsts.items (at / STRETCH)) }
+        ensures right { Right mem.now self.new.firsts.items self.new.tops (at / STRETCH) }
         ensures settled { Settled mem.now self.old self.new }
     {
         let stretch = stretch_of(at);
@@ -102,7 +84,7 @@ impl Holes {
         requires room { HasRoom mem.now self.old }
         requires block { Begins mem.now block }
         requires place { (block ≤ at) × (at ≤ block + size_at mem.now block) }
-        ensures right { at / 64 ≢ block / 64 → Right mem.now self.new.firsts.items self.new.tops (at / 64) }
+        ensures right { at / STRETCH ≢ block / STRETCH → Right mem.now self.new.firsts.items self.new.tops (at / STRETCH) }
         ensures settled { Settled mem.now self.old self.new }
     {
         let stretch = stretch_of(at);

@@ -5,7 +5,8 @@ mod arena;
 mod blocks;
 mod holes;
 mod rows;
+mod stretches;
 mod tops;
 
 pub use arena::Arena;
-pub use blocks::LAST_KIND;
+pub use blocks::{KINDS, LAST_KIND};

@@ -1,9 +1,10 @@
 // Blocks taken, cut and given back in a memory.
 ghost use Rattle.std.specs.Prelude.{◌≡◌, ℕ, ◌+◌, ◌-◌, ◌<◌, ◌≤◌, length};
 ghost use Rattle.word_arena.specs.Blocks.{size_at, Blocked, Reaches, IsUsed};
-ghost use Rattle.word_arena.specs.Calls.{FirstFit, FreeFrom, freed, Took, Shortened, Gave, Closed};
+ghost use Rattle.word_arena.specs.Calls.{FirstFit, FreeFrom, freed};
+ghost use Rattle.word_arena.specs.Changes.{Took, Shortened, Gave, Closed};
 
-use crate::blocks::{KIND_NUMBERS, LAST_KIND, free_end, kind, next};
+use crate::blocks::{KINDS, LAST_KIND, free_end, kind, next};
 use word_mem::WordMem;
 
 /// Takes a block from the front of the first free block that has its words.
@@ -17,7 +18,7 @@ pub(crate) fn carve(mem: &mut WordMem, at: u64, words: u64, kind: u64, owner: u6
     let _len = mem.len();
     let end = next(mem, at);
     set_free(mem, at + words, end);
-    mem.set(at, words * KIND_NUMBERS + kind);
+    mem.set(at, words * KINDS + kind);
     mem.set(at + 1, owner);
 }
 
@@ -33,7 +34,7 @@ pub(crate) fn shorten(mem: &mut WordMem, at: u64, words: u64)
     let end = free_end(mem, next(mem, at));
     let kind = kind(mem, at);
     set_free(mem, at + words, end);
-    mem.set(at, words * KIND_NUMBERS + kind);
+    mem.set(at, words * KINDS + kind);
 }
 
 /// Frees a block, which becomes one with the free words before it, from the given place on, and behind it.
@@ -44,8 +45,9 @@ pub(crate) fn merge(mem: &mut WordMem, at: u64, from: u64)
     ensures { Gave mem.old mem.new at from }
 {
     let _len = mem.len();
-    let end = free_end(mem, next(mem, at));
-    mem.set(from, (end - from) * KIND_NUMBERS);
+    let behind = next(mem, at);
+    let end = free_end(mem, behind);
+    mem.set(from, (end - from) * KINDS);
 }
 
 /// Makes the words from the end of a row of blocks to the memory's end one free block.
@@ -65,6 +67,6 @@ fn set_free(mem: &mut WordMem, from: u64, to: u64)
 {
     let _len = mem.len();
     if from < to {
-        mem.set(from, (to - from) * KIND_NUMBERS);
+        mem.set(from, (to - from) * KINDS);
     }
 }

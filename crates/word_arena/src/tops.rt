@@ -8,7 +8,7 @@ use std::marker::Model;
 // How many numbers of a row stand under one of the row above.
 const FAN: usize = 64;
 
-/// The numbers, and above each 64 of them their greatest, twice.
+/// The numbers, and above so many of them side by side their greatest, twice.
 #[derive(Drop)]
 pub(crate) struct Tops {
     leaves: Vec<u32>,
@@ -32,7 +32,7 @@ impl Tops {
     /// More than `count` numbers, each 0.
     pub(crate) fn new(alloc: Global, count: usize) -> Result<Tops, AllocError>
         requires { count ≤ 2 ^ 32 }
-        ensures { IfOk result (λ t. (count < length t) × (length t ≤ count + 4096) × (t ≡ replicate (length t) 0)) }
+        ensures { IfOk result (λ t. (count < length t) × (length t ≤ count + FAN * FAN) × (t ≡ replicate (length t) 0)) }
     {
         let regions = count / (FAN * FAN) + 1;
         Ok(Tops {
@@ -106,11 +106,11 @@ impl Tops {
     }
 }
 
-// The greatest of 64 numbers from a place on.
+// The greatest of the numbers under one of the row above, from a place on.
 fn largest(row: &[u32], from: usize) -> u32
-    requires { from + 64 ≤ length row.now }
-    ensures above { (i : ℕ) → from ≤ i → i < from + 64 → slice_index row.now i ≤ result }
-    ensures met { 0 < result → (i : ℕ) × (from ≤ i) × (i < from + 64) × (slice_index row.now i ≡ result) }
+    requires { from + FAN ≤ length row.now }
+    ensures above { (i : ℕ) → from ≤ i → i < from + FAN → slice_index row.now i ≤ result }
+    ensures met { 0 < result → (i : ℕ) × (from ≤ i) × (i < from + FAN) × (slice_index row.now i ≡ result) }
 {
     let mut most = 0;
     for i in from..from + FAN {

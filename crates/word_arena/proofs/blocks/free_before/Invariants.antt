@@ -1,6 +1,5 @@
 use Rattle.std.proofs.Common.{◌≡◌, ◌≢◌, ℕ, ◌+◌, ◌-◌, ◌<◌, ◌≤◌}
-use Rattle.word_arena.specs.Blocks.{size_at, kind_at, Begins}
-use Rattle.word_arena.specs.Calls.{Stop}
+use Rattle.word_arena.specs.Blocks.{size_at, kind_at, Begins, Stop}
 use Rattle.word_arena.proofs.blocks.free_before.Given as goal
 
 abbrev pub invariant-loop-p : goal.invariant-loop-p

@@ -1,6 +1,5 @@
 use Rattle.std.proofs.Common.{◌≡◌, ℕ, ◌<◌, ◌≤◌, arith, sym, subst}
-use Rattle.word_arena.specs.Blocks.{free_at, Begins}
-use Rattle.word_arena.specs.Calls.{Stop}
+use Rattle.word_arena.specs.Blocks.{free_at, Begins, Stop}
 use Rattle.word_arena.proofs.Facts.{stop-zero, free-most, block-within}
 use Rattle.word_arena.proofs.Summing.{Sum, sum-zero, sum-next, sum-all, sum-most}
 use Rattle.word_arena.proofs.blocks.free_words.Goals as goal

@@ -1,6 +1,5 @@
 use Rattle.std.proofs.Common.{◌≡◌, ℕ, ◌-◌, ◌<◌, ◌≤◌}
-use Rattle.word_arena.specs.Blocks.{free_at, Begins}
-use Rattle.word_arena.specs.Calls.{Stop}
+use Rattle.word_arena.specs.Blocks.{free_at, Begins, Stop}
 use Rattle.word_arena.proofs.blocks.greatest.Given as goal
 
 abbrev pub invariant-loop-at : goal.invariant-loop-at

@@ -1,6 +1,7 @@
 use Rattle.std.proofs.Common.{◌≡◌, ℕ, ◌+◌, ◌*◌, ◌≤◌, List, set, refl, arith, ap, subst, sym, ◌∙◌}
 use Rattle.word_arena.specs.Blocks.{size_at}
-use Rattle.word_arena.specs.Calls.{Took, taken, freed}
+use Rattle.word_arena.specs.Calls.{taken, freed}
+use Rattle.word_arena.specs.Changes.{Took}
 use Rattle.word_arena.proofs.Facts.{block-within}
 use Rattle.word_arena.proofs.Taking.{took}
 use Rattle.word_arena.proofs.rows.carve.Goals as goal

@@ -1,6 +1,7 @@
 use Rattle.std.proofs.Common.{◌≡◌, ℕ, ◌≤◌, List, refl, arith, subst, sym}
 use Rattle.word_arena.specs.Blocks.{size_at, kind_at}
-use Rattle.word_arena.specs.Calls.{Shortened, shortened}
+use Rattle.word_arena.specs.Calls.{shortened}
+use Rattle.word_arena.specs.Changes.{Shortened}
 use Rattle.word_arena.proofs.Facts.{block-within}
 use Rattle.word_arena.proofs.Taking.{was_cut}
 use Rattle.word_arena.proofs.rows.shorten.Goals as goal

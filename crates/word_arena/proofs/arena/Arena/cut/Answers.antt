@@ -1,7 +1,7 @@
 use Rattle.std.proofs.Common.{◌≡◌, ◌≢◌, ℕ, ◌+◌, ◌-◌, ◌/◌, ◌<◌, ◌≤◌, ◌⊎◌, List, ap, refl, sym, ◌∙◌, subst, inl, inr, arith}
 use Rattle.std.proofs.lemmas.Bool.{cases_eq}
 use Rattle.word_arena.specs.Blocks.{size_at, Begins}
-use Rattle.word_arena.specs.Calls.{Shortened}
+use Rattle.word_arena.specs.Changes.{Shortened}
 use Rattle.word_arena.specs.Stretches.{Settled, Right}
 use Rattle.word_arena.proofs.Facts.{block-within}
 use Rattle.word_arena.proofs.Summing.{free_of-most}

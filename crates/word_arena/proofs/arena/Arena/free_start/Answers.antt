@@ -1,6 +1,5 @@
 use Rattle.std.proofs.Common.{◌≡◌, ◌≢◌, ℕ, ◌+◌, ◌*◌, ◌/◌, ◌<◌, ◌≤◌, get_or, sym, ap, ◌∙◌, subst, arith, inl, refl}
-use Rattle.word_arena.specs.Blocks.{size_at, kind_at, Begins}
-use Rattle.word_arena.specs.Calls.{Stop}
+use Rattle.word_arena.specs.Blocks.{size_at, kind_at, Begins, Stop}
 use Rattle.word_arena.proofs.Table.{begins-below}
 use Rattle.word_arena.proofs.Searching.{own-stop, free-from, own-none, earlier-none, earlier-last}
 use Rattle.word_arena.proofs.arena.Arena.free_start.Goals as goal

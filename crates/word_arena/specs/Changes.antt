@@ -1,0 +1,46 @@
+-- What each call does to the memory, for the table beside it.
+use Rattle.std.specs.Prelude.{◌≡◌, ◌≢◌, ℕ, ◌+◌, ◌-◌, ◌<◌, ◌≤◌, List, length, slice_index, slice_set}
+use Rattle.word_arena.specs.Blocks.{size_at, kind_at, owner_at, header, Blocks, Blocked, Begins, free_in, free_of}
+use Rattle.word_arena.specs.Calls.{IsBlock, freed, taken, free_end, shortened, OthersStay}
+
+-- Blocks begin where they did, with the same headers, but for three places.
+pub record Frame (old new : List ℕ) (a b c : ℕ) : Type 0 where
+  pub same_len : length new ≡ length old
+  pub keeps : (p : ℕ) → p ≢ a → p ≢ b → p ≢ c → Begins old p → Begins new p
+  pub comes : (p : ℕ) → p ≢ a → p ≢ b → p ≢ c → Begins new p → Begins old p
+  pub same : (p : ℕ) → p ≢ a → p ≢ b → p ≢ c → Begins old p → slice_index new p ≡ slice_index old p
+
+-- A block was taken from the front of the free block at the place.
+pub record Took (old new : List ℕ) (at words kind owner : ℕ) : Type 0 where
+  pub blocked : Blocked new
+  pub mem : new ≡ taken old at words kind owner
+  pub block : IsBlock new at words kind owner
+  pub others : OthersStay old new at
+  pub free : free_of new + words ≡ free_of old
+  pub frame : Frame old new at at (at + words)
+
+-- The block at the place was cut to so many words.
+pub record Shortened (old new : List ℕ) (at words : ℕ) : Type 0 where
+  pub blocked : Blocked new
+  pub mem : new ≡ shortened old at words
+  pub block : IsBlock new at words (kind_at old at) (owner_at old at)
+  pub others : OthersStay old new at
+  pub free : free_of new + words ≡ free_of old + size_at old at
+  pub frame : Frame old new at (at + words) (at + size_at old at)
+  pub rest : words < size_at old at → Begins new (at + words) × (at + size_at old at ≤ at + words + size_at new (at + words))
+
+-- The block at the place was freed and is one with the free words beside it, from the given place on.
+pub record Gave (old new : List ℕ) (at from : ℕ) : Type 0 where
+  pub blocked : Blocked new
+  pub mem : new ≡ slice_set old from (header (free_end old (at + size_at old at) - from) 0)
+  pub begins : Begins new from
+  pub others : OthersStay old new at
+  pub free : free_of new ≡ free_of old + size_at old at
+  pub frame : Frame old new from at (at + size_at old at)
+  pub order : (from ≤ at) × (at + size_at old at ≤ from + size_at new from)
+
+-- The memory is a row of blocks whose last, from the place on, is free, where the place is not the end.
+pub record Closed (old new : List ℕ) (end_of_row : ℕ) : Type 0 where
+  pub blocked : Blocked new
+  pub mem : new ≡ freed old end_of_row (length old)
+  pub free : (places : List ℕ) → Blocks old 0 places end_of_row → free_of new + end_of_row ≡ free_in old places + length old

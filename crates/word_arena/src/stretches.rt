@@ -1,0 +1,22 @@
+// The stretches of a memory: so many words side by side.
+ghost use Rattle.std.specs.Prelude.{◌≡◌, ◌+◌, ◌*◌, ◌/◌, ◌<◌, ◌^◌, length, min};
+
+use word_mem::WordMem;
+
+/// The words of a stretch.
+pub(crate) const STRETCH: u64 = 64;
+
+/// The stretch of a place.
+pub(crate) fn stretch_of(at: u64) -> usize
+    ensures { result ≡ at / STRETCH }
+{
+    (at / STRETCH) as usize
+}
+
+/// Where the words of a stretch end that the memory has.
+pub(crate) fn stretch_end(mem: &WordMem, stretch: usize) -> u64
+    requires { stretch < 2 ^ 24 }
+    ensures { result ≡ min (stretch * STRETCH + STRETCH) (length mem.now) }
+{
+    (stretch as u64 * STRETCH + STRETCH).min(mem.len())
+}
