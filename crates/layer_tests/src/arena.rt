@@ -92,7 +92,12 @@ fn free(row: &mut Vec<Block>, k: usize) {
     }
 }
 
-fn plain_take(row: &mut Vec<Block>, words: u64, kind: u64, owner: u64) -> Result<Option<u64>, Fail> {
+fn plain_take(
+    row: &mut Vec<Block>,
+    words: u64,
+    kind: u64,
+    owner: u64,
+) -> Result<Option<u64>, Fail> {
     let Some(k) = first_of(row, words) else {
         return Ok(None);
     };
@@ -193,7 +198,9 @@ fn run_agrees(alloc: Global, words: u64, most: u64, calls: u32) -> Result<bool, 
     let mut row = vec![in alloc; free_block(words); 1]?;
     let mut draw = words;
     for _ in 0..calls {
-        draw = draw.wrapping_mul(6_364_136_223_846_793_005).wrapping_add(1_442_695_040_888_963_407);
+        draw = draw
+            .wrapping_mul(6_364_136_223_846_793_005)
+            .wrapping_add(1_442_695_040_888_963_407);
         if !call(&mut arena, &mut row, most, draw >> 16)? || !is_as(&arena, &row) {
             return Ok(false);
         }
