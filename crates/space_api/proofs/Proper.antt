@@ -1,5 +1,5 @@
 -- A space may say that all trees of its states are proper: each call keeps it, as the machine does.
-use Rattle.std.proofs.Common.{◌≡◌, ℕ, ◌⊎◌, inl, inr, Bool, List, Result, Ok, Err, Option, Some, None}
+use Rattle.std.proofs.Common.{ℕ, inl, inr, Bool, List, Result, Ok, Err}
 use Rattle.script_grammar.specs.declared.command.Command.{Command}
 use Rattle.script_grammar.specs.declared.refusal.Refusal.{Refusal}
 use Rattle.script_grammar.specs.Written.{Terms}

@@ -49,7 +49,7 @@ pub struct Seat {
 ///
 /// A call that changes something gives the state of the machine's step, or the refusal with the
 /// state as before. `names` are the names of the state, with the new ones of the line after them. A
-/// call for a process takes the seat where `find` found it; it stays good until a process is made or ends.
+/// call for a process takes the seat where `find` found it.
 pub trait Space {
     ghost use Rattle.space_api.specs.declared.space.Seat.{Seat};
 
