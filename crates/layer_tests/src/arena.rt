@@ -151,7 +151,7 @@ fn block_behind(arena: &Arena, blocks: u64) -> u64
     ensures inside { result < length arena.now.mem }
 {
     let mut at = 0;
-    for _ in 0..blocks {
+    'walk: for _ in 0..blocks {
         let Some(next) = arena.next_block(at) else {
             return at;
         };
@@ -163,11 +163,12 @@ fn block_behind(arena: &Arena, blocks: u64) -> u64
 // A call on both, drawn at random: a take where the block that was drawn is free, else a give or a cut of it.
 fn call(arena: &mut Arena, row: &mut Vec<Block>, most: u64, draw: u64) -> Result<bool, Fail>
     requires sound { Sound arena.old }
-    requires some { 0 < length arena.old.mem }
-    requires most { 1 ≤ most × (most ≤ 2 ^ 20) }
-    ensures sound { Sound arena.new }
-    ensures some { 0 < length arena.new.mem }
+    requires most { (1 ≤ most) × (most ≤ 2 ^ 20) }
+    ensures { Sound arena.new }
 {
+    if arena.mem.len() == 0 {
+        return Ok(false);
+    }
     let at = block_behind(arena, draw % 512);
     let header = arena.mem.get(at);
     let k = block_at(row, at);
@@ -190,14 +191,14 @@ fn call(arena: &mut Arena, row: &mut Vec<Block>, most: u64, draw: u64) -> Result
 }
 
 fn run_agrees(alloc: Global, words: u64, most: u64, calls: u32) -> Result<bool, Fail>
-    requires words { 2 ≤ words × (words ≤ 2 ^ 24) }
-    requires most { 1 ≤ most × (most ≤ 2 ^ 20) }
+    requires words { (2 ≤ words) × (words ≤ 2 ^ 24) }
+    requires most { (1 ≤ most) × (most ≤ 2 ^ 20) }
 {
     let mem = WordMem::new(alloc, words)?;
     let mut arena = Arena::lay(alloc, mem)?;
     let mut row = vec![in alloc; free_block(words); 1]?;
     let mut draw = words;
-    for _ in 0..calls {
+    'run: for _ in 0..calls {
         draw = draw
             .wrapping_mul(6_364_136_223_846_793_005)
             .wrapping_add(1_442_695_040_888_963_407);
@@ -218,7 +219,7 @@ fn an_arena_answers_as_a_list_of_blocks(rt: HostRuntime) -> Result<(), Fail> {
 
 // The whole arena is taken, nothing is left, and it is given back.
 fn whole_is_taken(alloc: Global, words: u64) -> Result<bool, Fail>
-    requires { 2 ≤ words × (words ≤ 2 ^ 24) }
+    requires { (2 ≤ words) × (words ≤ 2 ^ 24) }
 {
     let mem = WordMem::new(alloc, words)?;
     let mut arena = Arena::lay(alloc, mem)?;

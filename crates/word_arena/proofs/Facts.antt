@@ -2,7 +2,8 @@
 use Rattle.std.proofs.Common.{◌≡◌, ℕ, ◌+◌, ◌*◌, ◌/◌, ◌%◌, ◌<◌, ◌≤◌, ◌⊎◌, Bool, true, false, ◌==◌, if◌then◌else◌, List, [], ◌∷◌, ◌++◌, length, get_or, refl, sym, ◌∙◌, ap, subst, arith, inl, inr}
 use Rattle.std.proofs.lemmas.Bool.{cases_lt}
 use Rattle.std.proofs.lemmas.Bool.Decides.{nat_tests}
-use Rattle.word_arena.specs.Blocks.{size_at, kind_at, free_at, header, IsHeader, Blocks, Blocked, places_of, In, Begins, IsUsed, Stop}
+use Rattle.word_arena.specs.Blocks.{size_at, kind_at, free_at, header, IsHeader, Blocks, Blocked, places_of, In, Begins, IsUsed, Stop, FreeApart}
+use Rattle.word_arena.specs.Calls.{free_end}
 use Rattle.word_arena.proofs.Places.{in-right, Around, around}
 use Rattle.word_arena.proofs.Tiling.{Parted, blocks-part, Within, blocks-within, blocks-apart}
 
@@ -90,4 +91,23 @@ walked P mem from at blocked begins before here p is low high =
         | inl inner ↦ (let far : at + size_at mem at ≤ p = apart mem at p blocked begins is inner in absurd (omega arith))
         | inr same ↦ (let e : at ≡ p = omega arith in subst P e here)
       ]
+    ]
+
+-- What begins where the free words end is in use.
+pub behind-used : (mem : List ℕ) (a : ℕ) → Blocked mem → FreeApart mem → (a < length mem → Begins mem a) → free_end mem a < length mem → 1 ≤ kind_at mem (free_end mem a)
+behind-used mem a blocked fa begins below =
+    elim (cases_lt 0 (free_at mem a)) as (λ _. 1 ≤ kind_at mem (free_end mem a)) [
+      | inl some ↦ (
+          let free : kind_at mem a ≡ 0 = some-free mem a some in
+          let all : free_at mem a ≡ size_at mem a = free-all mem a free in
+          let P : ℕ → Type 0 = λ z. 1 ≤ kind_at mem (a + z) in
+          subst P (sym all) (fa.apart a (begins (omega arith)) free (omega arith)))
+      | inr none ↦ (
+          let is : Begins mem a = begins (omega arith) in
+          let same : a ≡ a + free_at mem a = omega arith in
+          let P : ℕ → Type 0 = λ z. 1 ≤ kind_at mem z in
+          subst P same (elim (cases_lt 0 (kind_at mem a)) as (λ _. 1 ≤ kind_at mem a) [
+            | inl used ↦ used
+            | inr zero ↦ (let free : kind_at mem a ≡ 0 = omega arith in absurd (omega (arith, free-all mem a free, (block-within mem a blocked is).header.sized)))
+          ]))
     ]

@@ -1,13 +1,13 @@
 -- An arena whose memory was lent, and came back with the headers as they were, is sound.
 use Rattle.std.proofs.Common.{◌≡◌, ◌≢◌, ℕ, ◌+◌, ◌*◌, ◌/◌, ◌<◌, ◌≤◌, List, length, get_or, refl, sym, ◌∙◌, ap, subst, arith}
-use Rattle.word_arena.specs.Blocks.{Blocks, Blocked, places_of, In, Begins, free_of, free_in}
+use Rattle.word_arena.specs.Blocks.{size_at, kind_at, Blocks, Blocked, places_of, In, Begins, free_of, free_in, FreeApart}
 use Rattle.word_arena.specs.Calls.{HeadersStay}
 use Rattle.word_arena.specs.Changes.{Frame}
 use Rattle.word_arena.specs.Sound.{Sound}
 use Rattle.word_arena.specs.Stretches.{HasRoom, Agrees}
 use Rattle.word_arena.specs.declared.arena.Arena.{Arena}
 use Rattle.word_arena.specs.declared.holes.Holes.{Holes}
-use Rattle.word_arena.proofs.Facts.{block-within}
+use Rattle.word_arena.proofs.Facts.{next-begins}
 use Rattle.word_arena.proofs.Places.{free_in-same}
 use Rattle.word_arena.proofs.Relaid.{free_of-row}
 use Rattle.word_arena.proofs.Table.{frame-right}
@@ -36,6 +36,19 @@ lent-free old new blocked same =
     free_of-row new (places_of old) (lent-places old new blocked same)
     ∙ free_in-same old new (places_of old) (λ p listed. same.same p (record { listed = listed }))
     ∙ sym (free_of-row old (places_of old) refl)
+
+pub lent-apart : (old new : List ℕ) → Blocked old → HeadersStay old new → FreeApart old → FreeApart new
+lent-apart old new blocked same fa =
+    record {
+      apart = λ p begins free below.
+          let was : Begins old p = lent-began old new p blocked same begins in
+          let word : get_or new p 0 ≡ get_or old p 0 = same.same p was in
+          let size : size_at new p ≡ size_at old p = ap (λ (h : ℕ). h / 16) word in
+          let inside : p + size_at old p < length old = omega (arith, below, size, same.same_len) in
+          let next : get_or new (p + size_at old p) 0 ≡ get_or old (p + size_at old p) 0 = same.same (p + size_at old p) (next-begins old p blocked was inside) in
+          let P : ℕ → Type 0 = λ z. 1 ≤ kind_at new (p + z) in
+          subst P (sym size) (omega (arith, next, fa.apart p was (omega (arith, word, free)) inside));
+    }
 
 pub lent-room : (old new : List ℕ) (h : Holes) → length new ≡ length old → HasRoom old h → HasRoom new h
 lent-room old new h same room = record { stretches = omega (arith, room.stretches); tops = room.tops; few = room.few }

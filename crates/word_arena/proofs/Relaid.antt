@@ -1,6 +1,7 @@
 -- Blocks side by side are laid anew: the words outside of them stay, and so do all other blocks.
 use Rattle.std.proofs.Common.{◌≡◌, ◌≢◌, ℕ, ◌+◌, ◌*◌, ◌/◌, ◌%◌, ◌<◌, ◌≤◌, ◌⊎◌, List, [], ◌∷◌, ◌++◌, length, get_or, refl, sym, ◌∙◌, ap, subst, arith, inl, inr}
-use Rattle.word_arena.specs.Blocks.{size_at, kind_at, free_at, IsHeader, Blocks, Blocked, places_of, In, Begins, IsUsed, free_in, free_of}
+use Rattle.std.proofs.lemmas.Bool.{cases_lt}
+use Rattle.word_arena.specs.Blocks.{size_at, kind_at, free_at, IsHeader, Blocks, Blocked, places_of, In, Begins, IsUsed, free_in, free_of, FreeApart}
 use Rattle.word_arena.specs.Calls.{OthersStay}
 use Rattle.word_arena.proofs.Places.{in-left, in-right, in-append, free_in-append, free_in-same}
 use Rattle.word_arena.proofs.Tiling.{blocks-append, blocks-within, blocks-same, Front, blocks-front, places_of-row, blocked-row}
@@ -191,4 +192,42 @@ others-stay old new a e at cs ds blocked ch cs_free ds_free =
             | inr d ↦ absurd (omega (arith, ds_free p d other, used.kind))
           ];
       words = λ p q other used from to. outside-word old new a e p q cs ds blocked ch used.begins (out p other used) from to;
+    }
+
+apart-old : (old new : List ℕ) (a e p : ℕ) (cs ds : List ℕ) → Blocked old → Change old new a e cs ds
+    → ((q : ℕ) → Begins old q → kind_at old q ≡ 0 → q + size_at old q ≡ a → 1 ≤ kind_at new a)
+    → Begins old p → kind_at old p ≡ 0 → 1 ≤ kind_at old (p + size_at old p) → (p < a) ⊎ (e ≤ p) → 1 ≤ kind_at new (p + size_at old p)
+apart-old old new a e p cs ds blocked ch before begins free used (inl low) =
+    let far : p + size_at old p ≤ a = apart old p a blocked begins ch.begins low in
+    elim (cases_lt (p + size_at old p) a) as (λ _. 1 ≤ kind_at new (p + size_at old p)) [
+      | inl inner ↦ omega (arith, ch.same (p + size_at old p) (inl inner), used)
+      | inr past ↦ (
+          let here : p + size_at old p ≡ a = omega arith in
+          let P : ℕ → Type 0 = λ z. 1 ≤ kind_at new z in
+          subst P (sym here) (before p begins free here))
+    ]
+apart-old old new a e p cs ds blocked ch before begins free used (inr high) =
+    omega (arith, ch.same (p + size_at old p) (inr (omega arith)), used)
+
+-- No two free blocks meet after a change where none met before, where what ends at its begin or begins at its end is used,
+-- and where a free block that it makes is its last.
+pub apart-again : (old new : List ℕ) (a e : ℕ) (cs ds : List ℕ) → Blocked old → Change old new a e cs ds → FreeApart old
+    → ((p : ℕ) → Begins old p → kind_at old p ≡ 0 → p + size_at old p ≡ a → 1 ≤ kind_at new a)
+    → (e < length old → 1 ≤ kind_at old e) → ((p : ℕ) → In p ds → kind_at new p ≡ 0 → p + size_at new p ≡ e) → FreeApart new
+apart-again old new a e cs ds blocked ch fa before behind last =
+    let r = relaid old new a e cs ds blocked ch in
+    record {
+      apart = λ p begins free below.
+          elim (r.comes p begins) as (λ _. 1 ≤ kind_at new (p + size_at new p)) [
+            | inl o ↦ (
+                let word : get_or new p 0 ≡ get_or old p 0 = ch.same p o.1 in
+                let size : size_at new p ≡ size_at old p = ap (λ (h : ℕ). h / 16) word in
+                let P : ℕ → Type 0 = λ z. 1 ≤ kind_at new (p + z) in
+                subst P (sym size) (apart-old old new a e p cs ds blocked ch before o.0 (omega (arith, word, free))
+                (fa.apart p o.0 (omega (arith, word, free)) (omega (arith, below, size, ch.same_len))) o.1))
+            | inr d ↦ (
+                let end_of_p : p + size_at new p ≡ e = last p d free in
+                let P : ℕ → Type 0 = λ z. 1 ≤ kind_at new z in
+                subst P (sym end_of_p) (omega (arith, ch.same e (inr (omega arith)), behind (omega (arith, below, end_of_p, ch.same_len)))))
+          ];
     }

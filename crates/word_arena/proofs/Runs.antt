@@ -17,13 +17,14 @@ pub record Run (mem : List ℕ) (a e : ℕ) : Type 0 where
   pub sum : free_in mem ps + a ≡ e
   pub some : a < e → In a ps
   pub whole : a < e → a + size_at mem a ≡ e
+  pub last : (p : ℕ) → In p ps → p + size_at mem p ≡ e
 
 only-in : (p a : ℕ) → In p (a ∷ []) → p ≡ a
 only-in p a (inl same) = same
 only-in p a (inr none) = elim none [ ]
 
 pub no-run : (mem : List ℕ) (a : ℕ) → Run mem a a
-no-run mem a = record { ps = []; row = refl; only = λ p is. elim is [ ]; free = λ p is. elim is [ ]; sum = omega arith; some = λ below. absurd (omega arith); whole = λ below. absurd (omega arith) }
+no-run mem a = record { ps = []; row = refl; only = λ p is. elim is [ ]; free = λ p is. elim is [ ]; sum = omega arith; some = λ below. absurd (omega arith); whole = λ below. absurd (omega arith); last = λ p is. elim is [ ] }
 
 pub one-run : (mem : List ℕ) (a : ℕ) → IsHeader (get_or mem a 0) → kind_at mem a ≡ 0 → Run mem a (a + size_at mem a)
 one-run mem a is free =
@@ -36,6 +37,7 @@ one-run mem a is free =
       sum = omega (arith, free-all mem a free);
       some = λ below. inl refl;
       whole = λ below. refl;
+      last = λ p listed. ap (λ (z : ℕ). z + size_at mem z) (only-in p a listed);
     }
 
 -- The run that begins at a place at which a block begins, or the memory ends.
@@ -84,6 +86,7 @@ pub record Led (mem : List ℕ) (at b e : ℕ) : Type 0 where
   pub sum : free_in mem ps + b ≡ e
   pub second : b < e → In b ps
   pub whole : b < e → b + size_at mem b ≡ e
+  pub last : (p : ℕ) → In p ps → kind_at mem p ≡ 0 → p + size_at mem p ≡ e
 
 pub led : (mem : List ℕ) (at b e : ℕ) → IsHeader (get_or mem at 0) → 1 ≤ kind_at mem at → at + size_at mem at ≡ b → Run mem b e → Led mem at b e
 led mem at b e is used size run =
@@ -101,6 +104,10 @@ led mem at b e is used size run =
       sum = omega (arith, free-none mem at used, run.sum);
       second = λ below. inr (run.some below);
       whole = run.whole;
+      last = λ p listed free. elim listed as (λ _. p + size_at mem p ≡ e) [
+        | inl here ↦ absurd (omega (arith, used, ap (λ (z : ℕ). kind_at mem z) here, free))
+        | inr there ↦ run.last p there
+      ];
     }
 
 -- A run, a block that is not free, and the run behind it.

@@ -2,13 +2,13 @@
 use Rattle.std.proofs.Common.{◌≡◌, ◌≢◌, ℕ, ◌+◌, ◌-◌, ◌*◌, ◌/◌, ◌%◌, ◌<◌, ◌≤◌, ◌⊎◌, List, [], ◌∷◌, ◌++◌, length, get_or, set, refl, sym, ◌∙◌, ap, subst, arith, inl, inr}
 use Rattle.std.proofs.lemmas.Bool.{cases_lt}
 use Rattle.std.proofs.lemmas.List.{get_or_past, get_or-set_same, get_or-set_other, length-set}
-use Rattle.word_arena.specs.Blocks.{size_at, kind_at, owner_at, free_at, header, IsHeader, Blocks, Blocked, Reaches, In, Begins, IsUsed, free_in, free_of}
+use Rattle.word_arena.specs.Blocks.{size_at, kind_at, owner_at, free_at, header, IsHeader, Blocks, Blocked, Reaches, In, Begins, IsUsed, free_in, free_of, FreeApart}
 use Rattle.word_arena.specs.Calls.{FirstFit, taken, shortened, free_end, freed, FreeFrom, OthersStay, IsBlock}
 use Rattle.word_arena.specs.Changes.{Frame, Took, Shortened, Gave, Closed}
-use Rattle.word_arena.proofs.Places.{free_in-append, free_in-same}
+use Rattle.word_arena.proofs.Places.{in-append, free_in-append, free_in-same}
 use Rattle.word_arena.proofs.Tiling.{Within, blocks-within, blocks-same, blocks-append, Front, blocks-front, places_of-row, blocked-row}
-use Rattle.word_arena.proofs.Facts.{free-all, free-none, some-free, made-header, header-size, header-kind, block-within, next-begins, apart}
-use Rattle.word_arena.proofs.Relaid.{free_of-row, Change, Relaid, relaid, others-stay}
+use Rattle.word_arena.proofs.Facts.{free-all, free-none, some-free, made-header, header-size, header-kind, block-within, next-begins, behind-used}
+use Rattle.word_arena.proofs.Relaid.{free_of-row, Change, Relaid, relaid, others-stay, apart-again}
 use Rattle.word_arena.proofs.Summing.{free_in-most}
 use Rattle.word_arena.proofs.Runs.{Run, one-run, run-behind, run-before, made-run, Led, led, Between, between}
 use Rattle.word_arena.proofs.Writes.{freed-length, freed-first, freed-other, Written, shortened-written, shortened-owner, taken-written, taken-owner}
@@ -83,6 +83,8 @@ took old at words kind owner blocked fit some used low =
       mem = refl;
       others = c.others;
       frame = c.frame;
+      apart = λ fa. apart-again old new at e was.ps is.ps blocked ch fa (λ p begins free ends. omega (arith, header-kind (get_or new at 0) words kind w.head low))
+          (λ below. fa.apart at fit.begins fit.free below) is.last;
       block = record {
         begins = c.relaid.made at is.first;
         has_words = header-size (get_or new at 0) words kind w.head low;
@@ -141,6 +143,8 @@ was_cut old at words blocked used some fits =
       mem = refl;
       others = c.others;
       frame = c.frame;
+      apart = λ fa. apart-again old new at e was.ps is.ps blocked ch fa (λ p begins free ends. omega (arith, header-kind (get_or new at 0) words kind w.head low, used.kind))
+          (behind-used old (at + n) blocked fa (λ below. next-begins old at blocked used.begins below)) is.last;
       block = record {
         begins = c.relaid.made at is.first;
         has_words = header-size (get_or new at 0) words kind w.head low;
@@ -157,6 +161,18 @@ from-begins old at from begins free =
 
 from-below : (old : List ℕ) (at from : ℕ) → FreeFrom old at from → from ≤ at
 from-below old at from free = elim free.place as (λ _. from ≤ at) [ inl same ↦ omega arith | inr before ↦ omega (arith, before.2) ]
+
+-- No free block ends where the free words before a place begin.
+none-before : (old : List ℕ) (at from p : ℕ) → Blocked old → FreeApart old → FreeFrom old at from → from < length old → Begins old p → kind_at old p ≡ 0 → p + size_at old p ≡ from → ⊥
+none-before old at from p blocked fa free inside begins is_free ends =
+    let some : 1 ≤ size_at old p = (block-within old p blocked begins).header.sized in
+    elim free.place as (λ _. ⊥) [
+      | inl same ↦ omega (arith, free.only p begins is_free (ends ∙ same))
+      | inr before ↦ (
+          let P : ℕ → Type 0 = λ z. 1 ≤ kind_at old z in
+          let used : 1 ≤ kind_at old from = subst P ends (fa.apart p begins is_free (omega arith)) in
+          omega (arith, used, before.1))
+    ]
 
 pub gave : (old : List ℕ) (at from : ℕ) → Blocked old → IsUsed old at → FreeFrom old at from
     → Gave old (set old from (header (free_end old (at + size_at old at) - from) 0)) at from
@@ -180,7 +196,17 @@ gave old at from blocked used free =
     } in
     let are : (p : ℕ) → In p is.ps → (p ≡ from) ⊎ ((p ≡ at) ⊎ (p ≡ at + n)) = λ p is_in. inl (is.only p is_in) in
     let c = changed old new from e at (at + n) at was.ps is.ps blocked ch was.only are was.free (λ p is_in other. is.free p is_in) in
-    record { blocked = c.relaid.blocked; mem = refl; others = c.others; frame = c.frame; begins = c.relaid.made from (is.some (omega arith)); order = (below, omega (arith, is.whole (omega arith))); free = omega (arith, c.relaid.free, was.sum, is.sum) }
+    record {
+      blocked = c.relaid.blocked;
+      mem = refl;
+      others = c.others;
+      frame = c.frame;
+      apart = λ fa. apart-again old new from e was.ps is.ps blocked ch fa (λ p begins was_free ends. absurd (none-before old at from p blocked fa free (omega arith) begins was_free ends))
+          (behind-used old (at + n) blocked fa (λ z. next-begins old at blocked used.begins z)) (λ p listed is_free. is.last p listed);
+      begins = c.relaid.made from (is.some (omega arith));
+      order = (below, omega (arith, is.whole (omega arith)));
+      free = omega (arith, c.relaid.free, was.sum, is.sum);
+    }
 
 pub closed : (old : List ℕ) (end_of_row : ℕ) → Reaches old end_of_row → end_of_row ≤ length old → Closed old (freed old end_of_row (length old)) end_of_row
 closed old end_of_row reach inside =
@@ -195,6 +221,15 @@ closed old end_of_row reach inside =
     let row : Blocks new 0 (reach.places ++ is.ps) (length new) = subst P (sym len) (blocks-append new 0 end_of_row (length old) reach.places is.ps front is.row) in
     record {
       blocked = blocked-row new (reach.places ++ is.ps) row;
+      apart = λ used. record {
+        apart = λ p begins is_free below.
+            let P : List ℕ → Type 0 = λ z. In p z in
+            elim (in-append p reach.places is.ps (subst P (places_of-row new (reach.places ++ is.ps) row) begins.listed)) as (λ _. 1 ≤ kind_at new (p + size_at new p)) [
+              | inl first ↦ (let w = blocks-within old 0 end_of_row p reach.places reach.row first in
+                  absurd (omega (arith, used p begins (omega (arith, w.to, w.header.sized)), is_free)))
+              | inr second ↦ absurd (omega (arith, is.last p second, below, len))
+            ];
+      };
       mem = refl;
       free = λ ps other.
           let f = blocks-front old 0 end_of_row end_of_row ps reach.places other reach.row (omega arith) in

@@ -78,3 +78,7 @@ free_in mem (p ∷ ps) = free_at mem p + free_in mem ps
 -- The free words of all blocks.
 unfoldable pub free_of : List ℕ → ℕ
 free_of mem = free_in mem (places_of mem)
+
+-- No two free blocks stand side by side.
+pub record FreeApart (mem : List ℕ) : Type 0 where
+  pub apart : (p : ℕ) → Begins mem p → kind_at mem p ≡ 0 → p + size_at mem p < length mem → 1 ≤ kind_at mem (p + size_at mem p)

@@ -1,6 +1,6 @@
 -- What each call does to the memory, for the table beside it.
 use Rattle.std.specs.Prelude.{◌≡◌, ◌≢◌, ℕ, ◌+◌, ◌-◌, ◌<◌, ◌≤◌, List, length, slice_index, slice_set}
-use Rattle.word_arena.specs.Blocks.{size_at, kind_at, owner_at, header, Blocks, Blocked, Begins, free_in, free_of}
+use Rattle.word_arena.specs.Blocks.{size_at, kind_at, owner_at, header, Blocks, Blocked, Begins, free_in, free_of, FreeApart}
 use Rattle.word_arena.specs.Calls.{IsBlock, freed, taken, free_end, shortened, OthersStay}
 
 -- Blocks begin where they did, with the same headers, but for three places.
@@ -18,6 +18,7 @@ pub record Took (old new : List ℕ) (at words kind owner : ℕ) : Type 0 where
   pub others : OthersStay old new at
   pub free : free_of new + words ≡ free_of old
   pub frame : Frame old new at at (at + words)
+  pub apart : FreeApart old → FreeApart new
 
 -- The block at the place was cut to so many words.
 pub record Shortened (old new : List ℕ) (at words : ℕ) : Type 0 where
@@ -27,6 +28,7 @@ pub record Shortened (old new : List ℕ) (at words : ℕ) : Type 0 where
   pub others : OthersStay old new at
   pub free : free_of new + words ≡ free_of old + size_at old at
   pub frame : Frame old new at (at + words) (at + size_at old at)
+  pub apart : FreeApart old → FreeApart new
   pub rest : words < size_at old at → Begins new (at + words) × (at + size_at old at ≤ at + words + size_at new (at + words))
 
 -- The block at the place was freed and is one with the free words beside it, from the given place on.
@@ -37,6 +39,7 @@ pub record Gave (old new : List ℕ) (at from : ℕ) : Type 0 where
   pub others : OthersStay old new at
   pub free : free_of new ≡ free_of old + size_at old at
   pub frame : Frame old new from at (at + size_at old at)
+  pub apart : FreeApart old → FreeApart new
   pub order : (from ≤ at) × (at + size_at old at ≤ from + size_at new from)
 
 -- The memory is a row of blocks whose last, from the place on, is free, where the place is not the end.
@@ -44,3 +47,4 @@ pub record Closed (old new : List ℕ) (end_of_row : ℕ) : Type 0 where
   pub blocked : Blocked new
   pub mem : new ≡ freed old end_of_row (length old)
   pub free : (places : List ℕ) → Blocks old 0 places end_of_row → free_of new + end_of_row ≡ free_in old places + length old
+  pub apart : ((p : ℕ) → Begins new p → p < end_of_row → 1 ≤ kind_at new p) → FreeApart new

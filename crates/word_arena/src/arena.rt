@@ -1,6 +1,6 @@
 // The arena and its calls.
 ghost use Rattle.std.specs.Prelude.{◌≡◌, ◌≢◌, ℕ, ◌+◌, ◌-◌, ◌<◌, ◌≤◌, List, length, IfOk, IfSome, IfNone};
-ghost use Rattle.word_arena.specs.Blocks.{size_at, kind_at, owner_at, Blocks, Reaches, Begins, IsUsed, free_in, free_of};
+ghost use Rattle.word_arena.specs.Blocks.{size_at, kind_at, owner_at, Blocks, Reaches, Begins, IsUsed, free_in, free_of, FreeApart};
 ghost use Rattle.word_arena.specs.Calls.{NoneFits, FirstFit, IsGreatest, freed, taken, shortened, FreeFrom, Merged, OthersStay, IsBlock};
 
 use crate::blocks::{LAST_KIND, first_fit, free_before, next, size};
@@ -29,6 +29,7 @@ impl Arena {
         ensures sound { IfOk result (λ a. Sound a) }
         ensures mem { IfOk result (λ a. a.mem ≡ freed mem 0 (length mem)) }
         ensures free { IfOk result (λ a. free_of a.mem ≡ length mem) }
+        ensures apart { IfOk result (λ a. FreeApart a.mem) }
     {
         let Ok(holes) = Holes::new(alloc, mem.len()) else {
             return Err(OpenFault::Memory);
@@ -46,6 +47,7 @@ impl Arena {
         ensures sound { Sound self.new }
         ensures mem { self.new.mem ≡ freed self.old.mem end (length self.old.mem) }
         ensures free { (places : List ℕ) → Blocks self.old.mem 0 places end → free_of self.new.mem + end ≡ free_in self.old.mem places + length self.old.mem }
+        ensures apart { ((p : ℕ) → Begins self.new.mem p → p < end → 1 ≤ kind_at self.new.mem p) → FreeApart self.new.mem }
     {
         close(&mut self.mem, end);
         self.holes.renew(&self.mem);
@@ -63,6 +65,7 @@ impl Arena {
         ensures block { IfSome result (λ at. IsBlock self.new.mem at words kind owner) }
         ensures others { IfSome result (λ at. OthersStay self.old.mem self.new.mem at) }
         ensures free { IfSome result (λ _. free_of self.new.mem + words ≡ free_of self.old.mem) }
+        ensures apart { FreeApart self.old.mem → FreeApart self.new.mem }
     {
         let at = self.first_fit(words)?;
         carve(&mut self.mem, at, words, kind, owner);
@@ -80,6 +83,7 @@ impl Arena {
         ensures mem { Merged self.old.mem self.new.mem at }
         ensures others { OthersStay self.old.mem self.new.mem at }
         ensures free { free_of self.new.mem ≡ free_of self.old.mem + size_at self.old.mem at }
+        ensures apart { FreeApart self.old.mem → FreeApart self.new.mem }
     {
         let size = size(&self.mem, at);
         let from = self.free_start(at);
@@ -101,6 +105,7 @@ impl Arena {
         ensures block { IsBlock self.new.mem at words (kind_at self.old.mem at) (owner_at self.old.mem at) }
         ensures others { OthersStay self.old.mem self.new.mem at }
         ensures free { free_of self.new.mem + words ≡ free_of self.old.mem + size_at self.old.mem at }
+        ensures apart { FreeApart self.old.mem → FreeApart self.new.mem }
     {
         let size = size(&self.mem, at);
         shorten(&mut self.mem, at, words);

@@ -16,8 +16,8 @@ pub(crate) fn carve(mem: &mut WordMem, at: u64, words: u64, kind: u64, owner: u6
     ensures { Took mem.old mem.new at words kind owner }
 {
     let _len = mem.len();
-    let end = next(mem, at);
-    set_free(mem, at + words, end);
+    let behind = next(mem, at);
+    set_free(mem, at + words, behind);
     mem.set(at, words * KINDS + kind);
     mem.set(at + 1, owner);
 }
@@ -31,7 +31,8 @@ pub(crate) fn shorten(mem: &mut WordMem, at: u64, words: u64)
     ensures { Shortened mem.old mem.new at words }
 {
     let _len = mem.len();
-    let end = free_end(mem, next(mem, at));
+    let behind = next(mem, at);
+    let end = free_end(mem, behind);
     let kind = kind(mem, at);
     set_free(mem, at + words, end);
     mem.set(at, words * KINDS + kind);

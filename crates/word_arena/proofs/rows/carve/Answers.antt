@@ -21,6 +21,6 @@ returns c =
     let k = c.requires.kind in
     let low : c.args.kind ≤ 8 = omega (arith, k) in
     let e : c.set-2.new.self ≡ taken c.args.mem.now c.args.at c.args.words c.args.kind c.args.owner =
-    rw (c.set-2.ensures, c.set.ensures, c.set_free.ensures, c.next-end.ensures.value) refl in
+    rw (c.set-2.ensures, c.set.ensures, c.set_free.ensures, c.next-behind.ensures.value) refl in
     let P : List ℕ → Type 0 = λ z. Took c.args.mem.now z c.args.at c.args.words c.args.kind c.args.owner in
     subst P (sym e) (took c.args.mem.now c.args.at c.args.words c.args.kind c.args.owner c.requires.blocked c.requires.first c.requires.words k.0 low)

@@ -19,6 +19,6 @@ overflow_add-words c =
 pub returns : goal.returns
 returns c =
     let e : c.set.new.self ≡ shortened c.args.mem.now c.args.at c.args.words =
-    rw (c.set.ensures, c.set_free.ensures, c.kind-kind.ensures, c.free_end-end.ensures.value, c.next.ensures.value) refl in
+    rw (c.set.ensures, c.set_free.ensures, c.kind-kind.ensures, c.free_end-end.ensures.value, c.next-behind.ensures.value) refl in
     let P : List ℕ → Type 0 = λ z. Shortened c.args.mem.now z c.args.at c.args.words in
     subst P (sym e) (was_cut c.args.mem.now c.args.at c.args.words c.requires.blocked c.requires.block c.requires.least c.requires.most)
