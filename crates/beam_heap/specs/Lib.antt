@@ -1,1 +1,2 @@
 pub mod Contract
+pub mod Figures

@@ -95,7 +95,8 @@ const READS: [(&[Turn], Turn, &[Reading]); 4] = [
 fn is_reading(got: Got, buf: &[u8], reading: &Reading) -> bool {
     match reading {
         Reading::Bytes(count) => {
-            matches!(got, Got::Got(_)) && buf.iter().filter(|b| **b == b'x').count() == *count
+            matches!(got, Got::Got(n) if n == *count)
+                && buf.iter().filter(|b| **b == b'x').count() == *count
         }
         Reading::End => matches!(got, Got::End),
         Reading::Fault => matches!(got, Got::Failed),

@@ -7,3 +7,4 @@ pub mod Memory
 pub mod Gathered
 pub mod Summary
 pub mod SumSink
+pub mod Figures

@@ -7,3 +7,4 @@ pub mod May
 pub mod Run
 pub mod Laws
 pub mod Examples
+pub mod Figures

@@ -1,0 +1,12 @@
+-- The longest line and the word of an error in figures: a constant that is cited by its name is pinned here.
+use Rattle.std.specs.Prelude.{ℕ, ◌≡◌, codes, refl}
+use Rattle.line_io.specs.declared.reader.TheConstants.{LONGEST_LINE}
+use Rattle.line_io.specs.declared.sum_sink.TheConstants.{ERROR_WORD}
+
+-- A line has at most 4,096 bytes before its end.
+pub longest-line : LONGEST_LINE ≡ 4096
+longest-line = refl
+
+-- A line counts as an error from its first six bytes on.
+pub word-of-errors : ERROR_WORD ≡ codes "error "
+word-of-errors = refl
