@@ -1,11 +1,11 @@
 -- What is known of the blocks of a memory that is a row of blocks.
-use Rattle.std.proofs.Common.{◌≡◌, ℕ, ◌+◌, ◌*◌, ◌/◌, ◌%◌, ◌<◌, ◌≤◌, ◌⊎◌, Bool, true, false, ◌==◌, if◌then◌else◌, List, [], ◌∷◌, ◌++◌, length, get_or, refl, sym, ◌∙◌, ap, subst, arith, inl, inr}
+use Rattle.std.proofs.Common.{◌≡◌, ℕ, ◌+◌, ◌/◌, ◌%◌, ◌<◌, ◌≤◌, true, false, ◌==◌, List, [], ◌∷◌, ◌++◌, length, refl, sym, subst, arith, inl, inr}
 use Rattle.std.proofs.lemmas.Bool.{cases_lt}
 use Rattle.std.proofs.lemmas.Bool.Decides.{nat_tests}
-use Rattle.word_arena.specs.Blocks.{size_at, kind_at, free_at, header, IsHeader, Blocks, Blocked, places_of, In, Begins, IsUsed, Stop, FreeApart}
+use Rattle.word_arena.specs.Blocks.{size_at, kind_at, free_at, header, IsHeader, Blocks, Blocked, places_of, In, Begins, Stop, FreeApart}
 use Rattle.word_arena.specs.Calls.{free_end}
-use Rattle.word_arena.proofs.Places.{in-right, Around, around}
-use Rattle.word_arena.proofs.Tiling.{Parted, blocks-part, Within, blocks-within, blocks-apart}
+use Rattle.word_arena.proofs.Places.{in-right, around}
+use Rattle.word_arena.proofs.Tiling.{blocks-part, Within, blocks-within, blocks-apart}
 
 -- The free words of a free block and of another.
 

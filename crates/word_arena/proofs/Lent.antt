@@ -1,6 +1,6 @@
 -- An arena whose memory was lent, and came back with the headers as they were, is sound.
-use Rattle.std.proofs.Common.{◌≡◌, ◌≢◌, ℕ, ◌+◌, ◌*◌, ◌/◌, ◌<◌, ◌≤◌, List, length, get_or, refl, sym, ◌∙◌, ap, subst, arith}
-use Rattle.word_arena.specs.Blocks.{size_at, kind_at, Blocks, Blocked, places_of, In, Begins, free_of, free_in, FreeApart}
+use Rattle.std.proofs.Common.{◌≡◌, ℕ, ◌+◌, ◌*◌, ◌/◌, ◌<◌, ◌≤◌, List, length, get_or, refl, sym, ◌∙◌, ap, subst, arith}
+use Rattle.word_arena.specs.Blocks.{size_at, kind_at, Blocks, Blocked, places_of, In, Begins, free_of, FreeApart}
 use Rattle.word_arena.specs.Calls.{HeadersStay}
 use Rattle.word_arena.specs.Changes.{Frame}
 use Rattle.word_arena.specs.Sound.{Sound}

@@ -1,6 +1,6 @@
 -- Places in lists of places.
-use Rattle.std.proofs.Common.{◌≡◌, ℕ, ◌+◌, ◌<◌, ◌≤◌, ◌⊎◌, List, [], ◌∷◌, ◌++◌, length, get_or, refl, sym, ◌∙◌, ap, subst, arith, inl, inr, append_assoc}
-use Rattle.word_arena.specs.Blocks.{In, free_at, free_in}
+use Rattle.std.proofs.Common.{◌≡◌, ℕ, ◌+◌, ◌⊎◌, List, [], ◌∷◌, ◌++◌, get_or, refl, sym, ap, arith, inl, inr}
+use Rattle.word_arena.specs.Blocks.{In, free_in}
 
 pub in-left : (p : ℕ) (xs ys : List ℕ) → In p xs → In p (xs ++ ys)
 in-left p [] ys is = elim is [ ]

@@ -1,11 +1,11 @@
 -- Blocks side by side are laid anew: the words outside of them stay, and so do all other blocks.
-use Rattle.std.proofs.Common.{◌≡◌, ◌≢◌, ℕ, ◌+◌, ◌*◌, ◌/◌, ◌%◌, ◌<◌, ◌≤◌, ◌⊎◌, List, [], ◌∷◌, ◌++◌, length, get_or, refl, sym, ◌∙◌, ap, subst, arith, inl, inr}
+use Rattle.std.proofs.Common.{◌≡◌, ◌≢◌, ℕ, ◌+◌, ◌/◌, ◌<◌, ◌≤◌, ◌⊎◌, List, ◌∷◌, ◌++◌, length, get_or, sym, ◌∙◌, ap, subst, arith, inl, inr}
 use Rattle.std.proofs.lemmas.Bool.{cases_lt}
-use Rattle.word_arena.specs.Blocks.{size_at, kind_at, free_at, IsHeader, Blocks, Blocked, places_of, In, Begins, IsUsed, free_in, free_of, FreeApart}
+use Rattle.word_arena.specs.Blocks.{size_at, kind_at, Blocks, Blocked, places_of, In, Begins, IsUsed, free_in, free_of, FreeApart}
 use Rattle.word_arena.specs.Calls.{OthersStay}
 use Rattle.word_arena.proofs.Places.{in-left, in-right, in-append, free_in-append, free_in-same}
-use Rattle.word_arena.proofs.Tiling.{blocks-append, blocks-within, blocks-same, Front, blocks-front, places_of-row, blocked-row}
-use Rattle.word_arena.proofs.Facts.{At, row-at, block-within, apart}
+use Rattle.word_arena.proofs.Tiling.{blocks-append, blocks-within, blocks-same, blocks-front, places_of-row, blocked-row}
+use Rattle.word_arena.proofs.Facts.{row-at, apart}
 
 -- The blocks from a to e were `cs` and are `ds`, and no word outside of them changed.
 pub record Change (old new : List ℕ) (a e : ℕ) (cs ds : List ℕ) : Type 0 where

@@ -1,12 +1,12 @@
 -- Runs of free blocks: none, or one.
-use Rattle.std.proofs.Common.{◌≡◌, ◌≢◌, ℕ, ◌+◌, ◌-◌, ◌*◌, ◌/◌, ◌%◌, ◌<◌, ◌≤◌, ◌⊎◌, List, [], ◌∷◌, ◌++◌, length, get_or, refl, sym, ◌∙◌, ap, subst, arith, inl, inr}
+use Rattle.std.proofs.Common.{◌≡◌, ◌≢◌, ℕ, ◌+◌, ◌-◌, ◌<◌, ◌≤◌, ◌⊎◌, List, [], ◌∷◌, ◌++◌, length, get_or, refl, sym, ap, subst, arith, inl, inr}
 use Rattle.std.proofs.lemmas.Bool.{cases_lt}
 use Rattle.std.proofs.lemmas.List.{get_or_past}
-use Rattle.word_arena.specs.Blocks.{size_at, kind_at, free_at, header, IsHeader, Blocks, Blocked, In, Begins, IsUsed, free_in}
+use Rattle.word_arena.specs.Blocks.{size_at, kind_at, free_at, header, IsHeader, Blocks, Blocked, In, Begins, free_in}
 use Rattle.word_arena.specs.Calls.{free_end, FreeFrom}
 use Rattle.word_arena.proofs.Places.{in-append, free_in-append}
-use Rattle.word_arena.proofs.Tiling.{Within, blocks-append}
-use Rattle.word_arena.proofs.Facts.{free-all, free-none, some-free, made-header, header-size, header-kind, block-within, next-begins}
+use Rattle.word_arena.proofs.Tiling.{blocks-append}
+use Rattle.word_arena.proofs.Facts.{free-all, free-none, some-free, made-header, header-size, block-within}
 
 -- The words from a to e are one free block, or there are none.
 pub record Run (mem : List ℕ) (a e : ℕ) : Type 0 where

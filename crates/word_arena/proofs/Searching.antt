@@ -1,12 +1,11 @@
 -- Searches by the table.
-use Rattle.std.proofs.Common.{◌≡◌, ◌≢◌, ℕ, ◌+◌, ◌*◌, ◌/◌, ◌%◌, ◌<◌, ◌≤◌, ◌⊎◌, List, length, get_or, min, refl, sym, ◌∙◌, ap, subst, arith, inl, inr, Option, Some, None, IfSome, IfNone}
+use Rattle.std.proofs.Common.{◌≡◌, ◌≢◌, ℕ, ◌+◌, ◌*◌, ◌/◌, ◌<◌, ◌≤◌, ◌⊎◌, List, length, get_or, min, refl, sym, ◌∙◌, subst, arith, inl, inr, Option, Some, None, IfSome, IfNone}
 use Rattle.std.proofs.lemmas.Bool.{cases_lt}
 use Rattle.std.proofs.lemmas.List.{get_or_past}
 use Rattle.word_arena.specs.Blocks.{size_at, kind_at, free_at, Blocked, Begins, Stop}
 use Rattle.word_arena.specs.Calls.{NoneFits, FirstFit, FreeFrom, IsGreatest}
-use Rattle.word_arena.specs.Stretches.{IsFirst, IsTop, Right, IsStart, Agrees}
+use Rattle.word_arena.specs.Stretches.{Right, Agrees}
 use Rattle.word_arena.specs.declared.holes.Holes.{Holes}
-use Rattle.word_arena.proofs.Tiling.{Within}
 use Rattle.word_arena.proofs.Facts.{free-all, free-most, some-free, block-within, apart}
 use Rattle.word_arena.proofs.Table.{begins-below, start-first}
 

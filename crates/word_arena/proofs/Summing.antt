@@ -1,5 +1,5 @@
 -- The free words of the blocks before a place.
-use Rattle.std.proofs.Common.{◌≡◌, ℕ, ◌+◌, ◌<◌, ◌≤◌, List, [], ◌∷◌, ◌++◌, length, refl, sym, ◌∙◌, subst, arith}
+use Rattle.std.proofs.Common.{◌≡◌, ℕ, ◌+◌, ◌≤◌, List, [], ◌∷◌, ◌++◌, length, refl, subst, arith}
 use Rattle.word_arena.specs.Blocks.{size_at, free_at, Blocks, Blocked, places_of, Begins, free_in, free_of}
 use Rattle.word_arena.proofs.Places.{free_in-append}
 use Rattle.word_arena.proofs.Tiling.{blocks-append, places_of-row}

@@ -1,12 +1,11 @@
 -- The table of stretches.
-use Rattle.std.proofs.Common.{◌≡◌, ◌≢◌, ℕ, ◌+◌, ◌-◌, ◌*◌, ◌/◌, ◌%◌, ◌<◌, ◌≤◌, ◌⊎◌, ◌==◌, if◌then◌else◌, List, length, get_or, set, min, refl, sym, ◌∙◌, ap, subst, arith, inl, inr}
+use Rattle.std.proofs.Common.{◌≡◌, ◌≢◌, ℕ, ◌+◌, ◌-◌, ◌*◌, ◌/◌, ◌%◌, ◌<◌, ◌≤◌, ◌==◌, if◌then◌else◌, List, length, get_or, set, min, refl, sym, ◌∙◌, ap, subst, arith, inl, inr}
 use Rattle.std.proofs.lemmas.Bool.{cases_lt, cases_eq}
 use Rattle.std.proofs.lemmas.List.{get_or-set_same, get_or-set_other}
-use Rattle.word_arena.specs.Blocks.{size_at, kind_at, free_at, Blocked, Begins, free_of, Stop}
+use Rattle.word_arena.specs.Blocks.{size_at, free_at, Blocked, Begins, free_of, Stop}
 use Rattle.word_arena.specs.Changes.{Frame}
 use Rattle.word_arena.specs.Stretches.{IsFirst, IsTop, Right, IsStart, Agrees, Settled}
 use Rattle.word_arena.specs.declared.holes.Holes.{Holes}
-use Rattle.word_arena.proofs.Tiling.{Within}
 use Rattle.word_arena.proofs.Facts.{block-within, apart, stop-next}
 
 pub begins-below : (mem : List ℕ) (p : ℕ) → Blocked mem → Begins mem p → p < length mem

@@ -1,16 +1,16 @@
 -- What a block that is taken, cut or given back leaves.
-use Rattle.std.proofs.Common.{◌≡◌, ◌≢◌, ℕ, ◌+◌, ◌-◌, ◌*◌, ◌/◌, ◌%◌, ◌<◌, ◌≤◌, ◌⊎◌, List, [], ◌∷◌, ◌++◌, length, get_or, set, refl, sym, ◌∙◌, ap, subst, arith, inl, inr}
+use Rattle.std.proofs.Common.{◌≡◌, ◌≢◌, ℕ, ◌+◌, ◌-◌, ◌<◌, ◌≤◌, ◌⊎◌, List, ◌++◌, length, get_or, set, refl, sym, ◌∙◌, ap, subst, arith, inl, inr}
 use Rattle.std.proofs.lemmas.Bool.{cases_lt}
 use Rattle.std.proofs.lemmas.List.{get_or_past, get_or-set_same, get_or-set_other, length-set}
-use Rattle.word_arena.specs.Blocks.{size_at, kind_at, owner_at, free_at, header, IsHeader, Blocks, Blocked, Reaches, In, Begins, IsUsed, free_in, free_of, FreeApart}
-use Rattle.word_arena.specs.Calls.{FirstFit, taken, shortened, free_end, freed, FreeFrom, OthersStay, IsBlock}
+use Rattle.word_arena.specs.Blocks.{size_at, kind_at, free_at, header, Blocks, Blocked, Reaches, In, Begins, IsUsed, free_in, FreeApart}
+use Rattle.word_arena.specs.Calls.{FirstFit, taken, shortened, free_end, freed, FreeFrom, OthersStay}
 use Rattle.word_arena.specs.Changes.{Frame, Took, Shortened, Gave, Closed}
 use Rattle.word_arena.proofs.Places.{in-append, free_in-append, free_in-same}
-use Rattle.word_arena.proofs.Tiling.{Within, blocks-within, blocks-same, blocks-append, Front, blocks-front, places_of-row, blocked-row}
-use Rattle.word_arena.proofs.Facts.{free-all, free-none, some-free, made-header, header-size, header-kind, block-within, next-begins, behind-used}
+use Rattle.word_arena.proofs.Tiling.{blocks-within, blocks-same, blocks-append, blocks-front, places_of-row, blocked-row}
+use Rattle.word_arena.proofs.Facts.{free-all, some-free, made-header, header-size, header-kind, block-within, next-begins, behind-used}
 use Rattle.word_arena.proofs.Relaid.{free_of-row, Change, Relaid, relaid, others-stay, apart-again}
 use Rattle.word_arena.proofs.Summing.{free_in-most}
-use Rattle.word_arena.proofs.Runs.{Run, one-run, run-behind, run-before, made-run, Led, led, Between, between}
+use Rattle.word_arena.proofs.Runs.{one-run, run-behind, run-before, made-run, Led, led, between}
 use Rattle.word_arena.proofs.Writes.{freed-length, freed-first, freed-other, Written, shortened-written, shortened-owner, taken-written, taken-owner}
 
 -- A call changed the blocks from a to e, which begin at a, b or c, before and after it.

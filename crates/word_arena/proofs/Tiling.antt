@@ -1,8 +1,7 @@
 -- Rows of blocks.
-use Rattle.std.proofs.Common.{◌≡◌, ℕ, zero, suc, ◌+◌, ◌*◌, ◌/◌, ◌%◌, ◌<◌, ◌≤◌, ◌⊎◌, Bool, true, false, nat_lt, if◌then◌else◌, List, [], ◌∷◌, ◌++◌, length, get_or, refl, sym, ◌∙◌, ap, subst, arith, inl, inr}
+use Rattle.std.proofs.Common.{◌≡◌, ℕ, zero, suc, ◌+◌, ◌/◌, ◌<◌, ◌≤◌, true, false, nat_lt, List, [], ◌∷◌, ◌++◌, length, get_or, refl, sym, ◌∙◌, ap, subst, arith, inl, inr}
 use Rattle.std.proofs.lemmas.Bool.Decides.{nat_tests}
-use Rattle.word_arena.specs.Blocks.{size_at, kind_at, free_at, IsHeader, Blocks, Blocked, places_from, places_of, In, Begins, free_in, free_of}
-use Rattle.word_arena.proofs.Places.{in-left, in-right, in-append, Around, around, free_in-append, free_in-same}
+use Rattle.word_arena.specs.Blocks.{size_at, IsHeader, Blocks, Blocked, places_from, places_of, In}
 
 -- One row after another.
 pub blocks-append : (mem : List ℕ) (a b c : ℕ) (xs ys : List ℕ) → Blocks mem a xs b → Blocks mem b ys c → Blocks mem a (xs ++ ys) c

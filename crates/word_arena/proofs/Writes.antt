@@ -1,10 +1,10 @@
 -- The words of the memory after a call.
-use Rattle.std.proofs.Common.{◌≡◌, ◌≢◌, ℕ, ◌+◌, ◌-◌, ◌*◌, ◌/◌, ◌%◌, ◌<◌, ◌≤◌, ◌⊎◌, Bool, true, false, nat_lt, if◌then◌else◌, List, length, get_or, set, refl, sym, ◌∙◌, ap, subst, arith, inl, inr}
+use Rattle.std.proofs.Common.{◌≡◌, ◌≢◌, ℕ, ◌+◌, ◌-◌, ◌<◌, ◌≤◌, ◌⊎◌, true, false, nat_lt, List, length, get_or, set, refl, ◌∙◌, ap, arith, inl, inr}
 use Rattle.std.proofs.lemmas.Bool.{cases_lt}
 use Rattle.std.proofs.lemmas.Bool.Decides.{nat_tests}
 use Rattle.std.proofs.lemmas.List.{get_or-set_same, get_or-set_other, length-set}
-use Rattle.word_arena.specs.Blocks.{size_at, kind_at, header}
-use Rattle.word_arena.specs.Calls.{freed, taken, shortened, free_end}
+use Rattle.word_arena.specs.Blocks.{size_at, header}
+use Rattle.word_arena.specs.Calls.{freed, taken}
 
 pub freed-none : (mem : List ℕ) (a e : ℕ) → e ≤ a → freed mem a e ≡ mem
 freed-none mem a e none = let test : nat_lt a e ≡ false = grind (arith, nat_tests) in rw test refl

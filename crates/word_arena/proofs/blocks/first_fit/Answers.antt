@@ -1,4 +1,4 @@
-use Rattle.std.proofs.Common.{◌≡◌, ℕ, ◌<◌, ◌≤◌, arith, subst, sym}
+use Rattle.std.proofs.Common.{◌<◌, arith}
 use Rattle.word_arena.specs.Blocks.{free_at, Begins}
 use Rattle.word_arena.proofs.Facts.{walked}
 use Rattle.word_arena.proofs.blocks.first_fit.Goals as goal

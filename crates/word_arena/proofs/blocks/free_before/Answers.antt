@@ -1,4 +1,4 @@
-use Rattle.std.proofs.Common.{◌≡◌, ◌≢◌, ℕ, ◌+◌, ◌<◌, ◌≤◌, arith}
+use Rattle.std.proofs.Common.{◌≡◌, ◌≢◌, ◌+◌, arith}
 use Rattle.word_arena.specs.Blocks.{size_at, kind_at, Begins}
 use Rattle.word_arena.proofs.Facts.{walked, free-all, free-most, block-within}
 use Rattle.word_arena.proofs.blocks.free_before.Goals as goal

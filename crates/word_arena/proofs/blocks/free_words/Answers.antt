@@ -1,7 +1,7 @@
-use Rattle.std.proofs.Common.{◌≡◌, ℕ, ◌<◌, ◌≤◌, arith, sym, subst}
-use Rattle.word_arena.specs.Blocks.{free_at, Begins, Stop}
+use Rattle.std.proofs.Common.{arith}
+use Rattle.word_arena.specs.Blocks.{Begins}
 use Rattle.word_arena.proofs.Facts.{stop-zero, free-most, block-within}
-use Rattle.word_arena.proofs.Summing.{Sum, sum-zero, sum-next, sum-all, sum-most}
+use Rattle.word_arena.proofs.Summing.{sum-zero, sum-next, sum-all, sum-most}
 use Rattle.word_arena.proofs.blocks.free_words.Goals as goal
 
 pub loop-at-init : goal.loop-at-init

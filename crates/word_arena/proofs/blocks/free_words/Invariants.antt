@@ -1,5 +1,5 @@
-use Rattle.std.proofs.Common.{◌≡◌, ℕ, ◌-◌, ◌≤◌, List}
-use Rattle.word_arena.specs.Blocks.{Blocks, free_in, Stop}
+use Rattle.std.proofs.Common.{◌-◌}
+use Rattle.word_arena.specs.Blocks.{Stop}
 use Rattle.word_arena.proofs.Summing.{Sum}
 use Rattle.word_arena.proofs.blocks.free_words.Given as goal
 

@@ -1,6 +1,5 @@
-use Rattle.std.proofs.Common.{◌≡◌, ℕ, ◌+◌, ◌*◌, ◌≤◌, List, set, refl, arith, ap, subst, sym, ◌∙◌}
-use Rattle.word_arena.specs.Blocks.{size_at}
-use Rattle.word_arena.specs.Calls.{taken, freed}
+use Rattle.std.proofs.Common.{◌≡◌, ℕ, ◌≤◌, List, refl, arith, subst, sym}
+use Rattle.word_arena.specs.Calls.{taken}
 use Rattle.word_arena.specs.Changes.{Took}
 use Rattle.word_arena.proofs.Facts.{block-within}
 use Rattle.word_arena.proofs.Taking.{took}

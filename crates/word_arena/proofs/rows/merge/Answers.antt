@@ -1,4 +1,4 @@
-use Rattle.std.proofs.Common.{◌≡◌, ℕ, ◌+◌, ◌-◌, List, set, refl, arith, add-zero, subst, sym, ◌∙◌}
+use Rattle.std.proofs.Common.{◌≡◌, ℕ, ◌+◌, ◌-◌, List, set, refl, arith, add-zero, subst, sym}
 use Rattle.word_arena.specs.Blocks.{size_at, header}
 use Rattle.word_arena.specs.Calls.{free_end}
 use Rattle.word_arena.specs.Changes.{Gave}

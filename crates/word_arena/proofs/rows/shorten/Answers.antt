@@ -1,5 +1,4 @@
-use Rattle.std.proofs.Common.{◌≡◌, ℕ, ◌≤◌, List, refl, arith, subst, sym}
-use Rattle.word_arena.specs.Blocks.{size_at, kind_at}
+use Rattle.std.proofs.Common.{◌≡◌, ℕ, List, refl, arith, subst, sym}
 use Rattle.word_arena.specs.Calls.{shortened}
 use Rattle.word_arena.specs.Changes.{Shortened}
 use Rattle.word_arena.proofs.Facts.{block-within}

@@ -1,4 +1,4 @@
-use Rattle.std.proofs.Common.{◌≡◌, ℕ, ◌+◌, ◌*◌, ◌<◌, ◌≤◌, List, get_or, Option, Some, None, IfSome, IfNone, sym, subst, arith}
+use Rattle.std.proofs.Common.{ℕ, ◌<◌, ◌≤◌, List, Option, Some, None, IfSome, IfNone, subst}
 use Rattle.word_arena.specs.Blocks.{free_at, Begins}
 use Rattle.word_arena.specs.Calls.{NoneFits}
 use Rattle.word_arena.proofs.Searching.{fits-none, fits-some, fits-end}

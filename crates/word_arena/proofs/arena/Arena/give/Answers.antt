@@ -1,4 +1,4 @@
-use Rattle.std.proofs.Common.{◌≡◌, ◌≢◌, ℕ, ◌+◌, ◌-◌, ◌/◌, ◌≤◌, ap, subst, arith}
+use Rattle.std.proofs.Common.{◌≡◌, ◌≢◌, ℕ, ◌+◌, ◌/◌, ap, subst, arith}
 use Rattle.word_arena.specs.Blocks.{size_at}
 use Rattle.word_arena.specs.Stretches.{Settled, Right}
 use Rattle.word_arena.proofs.Facts.{block-within}

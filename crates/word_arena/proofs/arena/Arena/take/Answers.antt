@@ -1,7 +1,7 @@
-use Rattle.std.proofs.Common.{◌≡◌, ◌≢◌, ℕ, ◌+◌, ◌-◌, ◌/◌, ◌≤◌, arith, refl}
+use Rattle.std.proofs.Common.{◌+◌, ◌-◌, ◌/◌, arith, refl}
 use Rattle.word_arena.specs.Stretches.{Settled}
 use Rattle.word_arena.proofs.Facts.{block-within}
-use Rattle.word_arena.proofs.Table.{frame-first, settled-then, agrees-again, begins-below}
+use Rattle.word_arena.proofs.Table.{frame-first, settled-then, agrees-again}
 use Rattle.word_arena.proofs.Searching.{right-at}
 use Rattle.word_arena.proofs.arena.Arena.take.Goals as goal
 

@@ -1,4 +1,4 @@
-use Rattle.std.proofs.Common.{◌≡◌, ℕ, arith}
+use Rattle.std.proofs.Common.{arith}
 use Rattle.word_arena.proofs.holes.Holes.new.Goals as goal
 
 pub returns : goal.returns

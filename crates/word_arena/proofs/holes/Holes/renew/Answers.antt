@@ -1,4 +1,4 @@
-use Rattle.std.proofs.Common.{ℕ, rules, arith}
+use Rattle.std.proofs.Common.{rules, arith}
 use Rattle.word_arena.proofs.Facts.{stop-zero}
 use Rattle.word_arena.proofs.holes.Holes.renew.Goals as goal
 

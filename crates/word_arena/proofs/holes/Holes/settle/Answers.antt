@@ -1,7 +1,7 @@
-use Rattle.std.proofs.Common.{◌≡◌, ℕ, ◌+◌, ◌-◌, ◌*◌, ◌<◌, ◌≤◌, ◌⊎◌, List, length, set, refl, sym, subst, arith, inl, inr}
+use Rattle.std.proofs.Common.{◌≡◌, ℕ, ◌-◌, ◌*◌, ◌<◌, ◌≤◌, List, length, set, refl, sym, subst, arith, inl, inr}
 use Rattle.std.proofs.lemmas.Bool.{cases_lt}
 use Rattle.std.proofs.lemmas.List.{length-set}
-use Rattle.word_arena.specs.Stretches.{IsFirst, IsTop, Right, Settled, HasRoom}
+use Rattle.word_arena.specs.Stretches.{Right}
 use Rattle.word_arena.proofs.Facts.{free-most, block-within}
 use Rattle.word_arena.proofs.Table.{first-right, top-right, start-next, written-right, written-keeps}
 use Rattle.word_arena.proofs.holes.Holes.settle.Goals as goal

@@ -1,4 +1,4 @@
-use Rattle.std.proofs.Common.{◌≡◌, ℕ, ◌*◌, ◌+◌, ◌/◌, ◌<◌, List, length, get_or, refl, sym, ap, ◌∙◌, subst, arith}
+use Rattle.std.proofs.Common.{◌≡◌, ℕ, ◌*◌, ◌+◌, ◌/◌, get_or, refl, sym, subst, arith}
 use Rattle.word_arena.specs.Stretches.{IsStart}
 use Rattle.word_arena.proofs.Table.{start-first, begins-below}
 use Rattle.word_arena.proofs.holes.Holes.settle_at.Goals as goal

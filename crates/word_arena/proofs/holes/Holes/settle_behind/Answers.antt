@@ -1,4 +1,4 @@
-use Rattle.std.proofs.Common.{◌≡◌, ◌≢◌, ℕ, ◌+◌, ◌/◌, sym, ◌∙◌, subst, arith}
+use Rattle.std.proofs.Common.{◌≡◌, ℕ, ◌+◌, ◌/◌, sym, ◌∙◌, subst}
 use Rattle.word_arena.specs.Blocks.{size_at}
 use Rattle.word_arena.specs.Stretches.{IsStart}
 use Rattle.word_arena.proofs.Table.{start-behind}

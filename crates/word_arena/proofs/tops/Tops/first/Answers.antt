@@ -1,4 +1,4 @@
-use Rattle.std.proofs.Common.{◌≡◌, ℕ, ◌*◌, ◌<◌, ◌≤◌, List, get_or, Some, IfSome, sym, subst, arith}
+use Rattle.std.proofs.Common.{ℕ, ◌*◌, ◌<◌, ◌≤◌, List, get_or, Some, IfSome, subst, arith}
 use Rattle.word_arena.proofs.Levels.{first-some}
 use Rattle.word_arena.proofs.tops.Tops.first.Goals as goal
 

@@ -1,4 +1,4 @@
-use Rattle.std.proofs.Common.{◌≡◌, ℕ, ◌+◌, ◌*◌, ◌/◌, ◌<◌, ◌≤◌, List, get_or, Option, Some, None, IfSome, IfNone, sym, subst, arith}
+use Rattle.std.proofs.Common.{◌≡◌, ℕ, ◌+◌, ◌*◌, ◌/◌, ◌<◌, ◌≤◌, List, get_or, Option, Some, None, IfSome, IfNone, subst}
 use Rattle.word_arena.specs.Over.{Over}
 use Rattle.word_arena.proofs.Levels.{last-some, last-there}
 use Rattle.word_arena.proofs.tops.Tops.last_before.Goals as goal
