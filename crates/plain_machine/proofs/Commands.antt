@@ -6,14 +6,14 @@ use Rattle.script_grammar.specs.Written.{Terms}
 use Rattle.script_grammar.specs.declared.command.Command.{Command}
 use Rattle.script_grammar.specs.declared.command.Command.TheVariants.{Nothing, Process, System}
 use Rattle.script_grammar.specs.declared.command.Verb.{Verb}
-use Rattle.script_grammar.specs.declared.command.Verb.TheVariants.{Set, Own, Push, Pop, Exit}
+use Rattle.script_grammar.specs.declared.command.Verb.TheVariants.{Set, Own, Push, Pop, Gc, Exit}
 use Rattle.script_grammar.specs.declared.command.SysVerb.{SysVerb}
-use Rattle.script_grammar.specs.declared.command.SysVerb.TheVariants.{Spawn, Quit}
+use Rattle.script_grammar.specs.declared.command.SysVerb.TheVariants.{Spawn, Sweep, Quit}
 use Rattle.script_grammar.specs.declared.refusal.Refusal.{Refusal}
 use Rattle.script_grammar.specs.Names.{Parsed}
 use Rattle.plain_machine.specs.declared.limits.TheConstants.{MOST_PROCESSES}
 use Rattle.plain_machine.specs.State.{Process as Live, State, HasNames, process_of, fresh_process, register, with_register}
-use Rattle.plain_machine.specs.Step.{Outcome, by_command, in_process, by_verb, by_system, pop_from, spawn_if, tells, told_of, told_of_system, written_tree, is_printing}
+use Rattle.plain_machine.specs.Step.{Outcome, by_command, in_process, by_verb, by_system, collect_step, pop_from, spawn_if, tells, told_of, told_of_system, written_tree, is_printing}
 use Rattle.plain_machine.specs.Step.Outcome.{Accepted, Refused, Mapped}
 use Rattle.plain_machine.specs.Run.{is_quit}
 use Rattle.plain_machine.specs.Laws.{AreProper, HoldsProper}
@@ -64,6 +64,15 @@ tells-does : (s : State) (p : Parsed) (c : Command) (r : Result (List ℕ) Refus
 tells-does s p c (Ok text) e = record { numbers = keeps-same s s refl; told = inr (refl, e); proper = λ h m t. h; printing = λ e. refl }
 tells-does s p c (Err r) e = refused-does s p c r
 
+-- `gc` and `sys sweep`
+collect-does : (s : State) (p : Parsed) (c : Command) → is_printing c ≡ false → Does s p c (collect_step s p)
+collect-does s p c e = record {
+  numbers = keeps-same s _ refl;
+  told = inl (codes "k", refl);
+  proper = λ h m t. let b = before s p.names m h in record { proper = all-live p.names s.shared s.processes s.areas b.held b.literals };
+  printing = λ f. absurd (cc);
+}
+
 -- `pop`
 pop-does : (s : State) (p : Parsed) (q : Live) (n r : ℕ) (x : Verb) (stack : List Tree) → is_printing (Process n x) ≡ false
     → (HoldsProper s → HasNames s p.names → Before s p.names × Holds p.names s.shared q × AreProper p.names s.shared stack) → Does s p (Process n x) (pop_from stack s p q r)
@@ -108,6 +117,7 @@ module _ (s : State) (p : Parsed) (n : ℕ) (q : Live) (found : process_of n s �
     printing = λ e. absurd (cc);
   }
   verb-does (Pop r) = pop-does s p q n (r.0) (Pop r) q.stack refl (λ h m. (names-before h m, holds h m, (holds h m).stack))
+  verb-does (Gc depth) = collect-does s p (Process n (Gc depth)) refl
   verb-does Exit = record {
     numbers = keeps-gone s _ q.number refl refl;
     told = inl (codes "k", refl);
@@ -137,6 +147,7 @@ spawn-does s p false = record {
 
 system-does : (s : State) (p : Parsed) (v : SysVerb) → Does s p (System v) (by_system s p v)
 system-does s p Spawn = spawn-does s p (nat_le MOST_PROCESSES (length s.processes))
+system-does s p Sweep = collect-does s p (System Sweep) refl
 system-does s p Quit = record { numbers = keeps-same s s refl; told = inl (codes "k", refl); proper = λ h m t. h; printing = λ e. refl }
 system-does s p v = tells-does s p (System v) (told_of_system s v) refl
 

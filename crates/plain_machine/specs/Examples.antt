@@ -21,7 +21,7 @@ use Rattle.plain_machine.specs.State.{Process, State, fresh_process, first_state
 use Rattle.plain_machine.specs.Tightness.{grow, demand, is_tight}
 use Rattle.plain_machine.specs.Step.{step}
 use Rattle.plain_machine.specs.Step.Outcome.{Accepted, Refused}
-use Rattle.plain_machine.specs.May.{may_of_all_asked, may_of_tight}
+use Rattle.plain_machine.specs.May.{may_of_tight}
 
 -- What the line of process 1 comes to in a state without names.
 abbrev pub line : (w : Word) → Operands (kinds_of w) → Parsed
@@ -226,9 +226,20 @@ pub set-accepted : step first_state (line word.Set (0, (Atom (codes "a"), tt)))
 set-accepted = refl
 
 pub spawn-accepted : step first_state (parsed_of [] (OfSystem sys.Spawn tt))
-    ≡ Accepted (record first_state { processes = fresh_process 1 ∷ fresh_process 2 ∷ []; next = 3; asked = 16 }) (codes "ok 2")
+    ≡ Accepted (record first_state { processes = fresh_process 1 ∷ fresh_process 2 ∷ []; next = 3 }) (codes "ok 2")
 unfolding digits
 spawn-accepted = refl
+
+pub gc-accepted : step first_state (line word.Gc (Minor, tt)) ∷ step first_state (line word.Gc (Major, tt)) ∷ []
+    ≡ Accepted first_state (codes "ok") ∷ Accepted first_state (codes "ok") ∷ []
+gc-accepted = refl
+
+-- `swept` is so until the next line that changes something.
+pub sweep-accepted : step first_state (parsed_of [] (OfSystem sys.Sweep tt)) ≡ Accepted (record first_state { swept = true }) (codes "ok")
+sweep-accepted = refl
+
+pub swept-until_gc : step (record first_state { swept = true }) (line word.Gc (Major, tt)) ≡ Accepted first_state (codes "ok")
+swept-until_gc = refl
 
 pub exit-accepted : step first_state (line word.Exit tt) ≡ Accepted (record first_state { processes = [] }) (codes "ok")
 exit-accepted = refl
@@ -245,13 +256,3 @@ may-dead = refl
 
 pub may-asks_nothing : may_of_tight 0 first_state (line word.Own (0, tt)) ≡ false
 may-asks_nothing = refl
-
--- Where words are never given back: 256 of the longest lists of ones fit into 1048576 words, and no further one.
-abbrev pub longest_list : Parsed
-longest_list = line word.Set (0, (Listed (ones 2043), tt))
-
-pub last_list-fits : may_of_all_asked 1048576 (record first_state { asked = 255 * 4086 }) longest_list ≡ false
-last_list-fits = refl
-
-pub further_list-exceeds : may_of_all_asked 1048576 (record first_state { asked = 256 * 4086 }) longest_list ≡ true
-further_list-exceeds = refl

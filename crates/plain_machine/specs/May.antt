@@ -1,5 +1,5 @@
 -- When a line may be answered that there is no space.
-use Rattle.std.specs.Prelude.{ℕ, ◌+◌, Bool, true, false, ◌&&◌, ◌||◌, nat_lt}
+use Rattle.std.specs.Prelude.{ℕ, Bool, true, false, ◌&&◌, ◌||◌, nat_lt}
 use Rattle.script_grammar.specs.declared.command.Command.{Command}
 use Rattle.script_grammar.specs.declared.command.Command.TheVariants.{Process, System}
 use Rattle.script_grammar.specs.declared.command.Verb.TheVariants.{Set}
@@ -37,10 +37,6 @@ gets_to_space c (Refused r) = builds_first c && is_of_keys r
 abbrev pub asks_space : State → Parsed → Bool
 asks_space s p = (nat_lt 0 (grow s p) || is_purge p.command) && gets_to_space p.command (step s p)
 
--- A space that never gives words back: all that was ever asked for, with this line, exceeds the words.
-abbrev pub may_of_all_asked : (words : ℕ) → State → Parsed → Bool
-may_of_all_asked words s p = nat_lt words (s.asked + grow s p) && asks_space s p
-
--- A space that gives words back: the line is tight.
+-- The line is tight, and asks for space.
 abbrev pub may_of_tight : (words : ℕ) → State → Parsed → Bool
 may_of_tight words s p = is_tight words s p && asks_space s p

@@ -21,7 +21,7 @@ pub record Area : Type 0 where
 
 -- The whole state: the live processes by rising number, the bytes of each shared binary made so far
 -- (the first has id 1), the literal areas, the names by number, the number of the next process,
--- whether nothing has changed since the last sweep, and how many words the accepted lines asked for.
+-- and whether nothing has changed since the last sweep.
 pub record State : Type 0 where
   pub processes : List Process
   pub shared : List (List ℕ)
@@ -29,7 +29,6 @@ pub record State : Type 0 where
   pub names : List (List ℕ)
   pub next : ℕ
   pub swept : Bool
-  pub asked : ℕ
 
 -- A process that was just made: nil in each register, and nothing else.
 abbrev pub fresh_process : ℕ → Process
@@ -37,7 +36,7 @@ fresh_process number = record { number = number; registers = replicate REGISTERS
 
 -- The first state: process 1 lives.
 abbrev pub first_state : State
-first_state = record { processes = fresh_process 1 ∷ []; shared = []; areas = []; names = []; next = 2; swept = false; asked = 0 }
+first_state = record { processes = fresh_process 1 ∷ []; shared = []; areas = []; names = []; next = 2; swept = false }
 
 -- The names are those of the state, with more after them.
 pub record HasNames (s : State) (names : List (List ℕ)) : Type 0 where

@@ -7,7 +7,7 @@ use Rattle.plain_term.specs.Text.{text, numbers_text}
 use Rattle.script_grammar.specs.declared.command.Command.{Command}
 use Rattle.script_grammar.specs.declared.command.Command.TheVariants.{Nothing, Process, System}
 use Rattle.script_grammar.specs.declared.command.Verb.{Verb}
-use Rattle.script_grammar.specs.declared.command.Verb.TheVariants.{Set, Own, Push, Pop, Queue, Print, Eq, Cmp, Flat, Info, Heap, Exit}
+use Rattle.script_grammar.specs.declared.command.Verb.TheVariants.{Set, Own, Push, Pop, Queue, Print, Eq, Cmp, Flat, Gc, Info, Heap, Exit}
 use Rattle.script_grammar.specs.declared.command.SysVerb.{SysVerb}
 use Rattle.script_grammar.specs.declared.command.SysVerb.TheVariants.{Spawn, Sweep, Counts, Dump, Procs, Quit}
 use Rattle.script_grammar.specs.declared.refusal.Refusal.{Refusal}
@@ -18,7 +18,6 @@ use Rattle.script_grammar.specs.Names.{Parsed}
 use Rattle.plain_machine.specs.Made.{tree_of}
 use Rattle.plain_machine.specs.declared.limits.TheConstants.{MOST_PROCESSES}
 use Rattle.plain_machine.specs.State.{Process as Live, State, process_of, with_process, without_process, with_spawned, live_numbers, register, with_register}
-use Rattle.plain_machine.specs.Tightness.{grow}
 
 -- What a command comes to: a new state and the reply; a refusal that leaves the state; or a map of the store
 -- as the reply, which leaves the state too.
@@ -57,18 +56,18 @@ abbrev pub is_sweep : Command → Bool
 is_sweep (System Sweep) = true
 is_sweep _ = false
 
--- The changed state after an accepted command: it has the line's new names, and what it asked for. `sys sweep` makes
--- `swept` true, every other command that changes something makes it false.
-abbrev pub settled : State → Parsed → State → State
-settled s p changed = record changed { names = p.names; swept = is_sweep p.command; asked = s.asked + grow s p }
+-- The changed state after an accepted command: it has the line's new names. `sys sweep` makes `swept` true, every other
+-- command that changes something makes it false.
+abbrev pub settled : Parsed → State → State
+settled p changed = record changed { names = p.names; swept = is_sweep p.command }
 
 -- The command is accepted with this reply.
-abbrev pub answers : State → Parsed → State → List ℕ → Outcome
-answers s p changed reply = Accepted (settled s p changed) reply
+abbrev pub answers : Parsed → State → List ℕ → Outcome
+answers p changed reply = Accepted (settled p changed) reply
 
 -- The command is accepted, and only that is said.
-abbrev pub does : State → Parsed → State → Outcome
-does s p changed = answers s p changed (codes "ok")
+abbrev pub does : Parsed → State → Outcome
+does p changed = answers p changed (codes "ok")
 
 -- The tree of the line's written term, and the shared byte lists with the term's own at their end.
 abbrev pub written_tree : State → Parsed → Live → Terms → Tree × List (List ℕ)
@@ -81,27 +80,31 @@ with_made s q r made = record (with_process (with_register r (made.0) q) s) { sh
 
 -- `set`: the register holds the written term.
 abbrev pub set_step : State → Parsed → Live → ℕ → Outcome
-set_step s p q r = does s p (with_made s q r (written_tree s p q p.terms))
+set_step s p q r = does p (with_made s q r (written_tree s p q p.terms))
 
 -- `self`: the register holds the pid of the process.
 abbrev pub self_step : State → Parsed → Live → ℕ → Outcome
-self_step s p q r = does s p (with_process (with_register r (Pid q.number) q) s)
+self_step s p q r = does p (with_process (with_register r (Pid q.number) q) s)
 
 -- `push`: the register's tree goes on the stack.
 abbrev pub push_step : State → Parsed → Live → ℕ → Outcome
-push_step s p q r = does s p (with_process (record q { stack = register r q ∷ q.stack }) s)
+push_step s p q r = does p (with_process (record q { stack = register r q ∷ q.stack }) s)
 
 -- `pop`: the register holds the tree that was pushed last, which leaves the stack.
 abbrev pub pop_from : List Tree → State → Parsed → Live → ℕ → Outcome
 pop_from [] s p q r = Refused Empty
-pop_from (t ∷ stack) s p q r = does s p (with_process (record (with_register r t q) { stack = stack }) s)
+pop_from (t ∷ stack) s p q r = does p (with_process (record (with_register r t q) { stack = stack }) s)
 
 abbrev pub pop_step : State → Parsed → Live → ℕ → Outcome
 pop_step s p q r = pop_from q.stack s p q r
 
+-- `gc` and `sys sweep`: every tree stays.
+abbrev pub collect_step : State → Parsed → Outcome
+collect_step s p = does p s
+
 -- `exit`: the process is gone.
 abbrev pub exit_step : State → Parsed → Live → Outcome
-exit_step s p q = does s p (without_process q.number s)
+exit_step s p q = does p (without_process q.number s)
 
 -- The command prints a text, or is refused; both leave the state.
 abbrev pub tells : State → Result (List ℕ) Refusal → Outcome
@@ -128,6 +131,7 @@ by_verb s p q (Set r) = set_step s p q r.0
 by_verb s p q (Own r) = self_step s p q r.0
 by_verb s p q (Push r) = push_step s p q r.0
 by_verb s p q (Pop r) = pop_step s p q r.0
+by_verb s p q (Gc depth) = collect_step s p
 by_verb s p q Exit = exit_step s p q
 by_verb s p q verb = tells s (told_of s p q verb)
 
@@ -138,7 +142,7 @@ in_process (Some q) s p verb = by_verb s p q verb
 -- `spawn`: one process more, and its number is told. At most so many processes live at a time.
 abbrev pub spawn_if : Bool → State → Parsed → Outcome
 spawn_if true s p = Refused TooMany
-spawn_if false s p = answers s p (with_spawned s) (codes "ok " ++ decimal s.next)
+spawn_if false s p = answers p (with_spawned s) (codes "ok " ++ decimal s.next)
 
 abbrev pub spawn_step : State → Parsed → Outcome
 spawn_step s p = spawn_if (nat_le MOST_PROCESSES (length s.processes)) s p
@@ -156,6 +160,7 @@ told_of_system s _ = Err Syntax
 -- A verb of the whole machine: what changes something has its row here, all else tells.
 abbrev pub by_system : State → Parsed → SysVerb → Outcome
 by_system s p Spawn = spawn_step s p
+by_system s p Sweep = collect_step s p
 by_system s p verb = tells s (told_of_system s verb)
 
 abbrev pub by_command : State → Parsed → Command → Outcome

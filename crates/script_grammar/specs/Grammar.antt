@@ -281,12 +281,14 @@ is_built word.Own = true
 is_built word.Push = true
 is_built word.Pop = true
 is_built word.Print = true
+is_built word.Gc = true
 is_built word.Exit = true
 is_built _ = false
 
 -- The table of the verbs of the system that are built.
 abbrev pub is_sys_built : SysWord → Bool
 is_sys_built sys.Spawn = true
+is_sys_built sys.Sweep = true
 is_sys_built sys.Procs = true
 is_sys_built sys.Quit = true
 is_sys_built _ = false

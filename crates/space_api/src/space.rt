@@ -28,7 +28,7 @@ ghost use Rattle.space_api.specs.Calls.{AreRising, Becomes, Follows, HasTerm, Is
 
 use atom_names::AtomNames;
 use line_io::Sink;
-use plain_machine::{Refusal, Reg};
+use plain_machine::{Depth, Refusal, Reg};
 use plain_term::Item;
 
 /// Why a text was not written: the term is beyond the walk limit, or the sink failed.
@@ -138,6 +138,21 @@ pub trait Space {
         requires calls { calls self.old < most_calls }
         ensures follows { (s : State) (terms : Terms) (names : List (List ℕ)) → stands self.old s → HasNames s names
             → Follows (step s (said (Process seat.pid (verb.Pop r)) terms names)) s result (stands self.new) }
+        ensures books { KeepsBooks words calls named self.old self.new (named self.old) };
+
+    /// Collects the process, to this depth.
+    fn collect(&mut self, seat: Seat, depth: Depth)
+        requires sits { sits self.old seat }
+        requires calls { calls self.old < most_calls }
+        ensures passes { (s : State) (terms : Terms) (names : List (List ℕ)) → stands self.old s → HasNames s names
+            → Passes (step s (said (Process seat.pid (verb.Gc depth)) terms names)) (stands self.new) }
+        ensures books { KeepsBooks words calls named self.old self.new (named self.old) };
+
+    /// Sweeps every process fully.
+    fn sweep_all(&mut self)
+        requires calls { calls self.old < most_calls }
+        ensures passes { (s : State) (terms : Terms) (names : List (List ℕ)) → stands self.old s → HasNames s names
+            → Passes (step s (said (System sysverb.Sweep) terms names)) (stands self.new) }
         ensures books { KeepsBooks words calls named self.old self.new (named self.old) };
 
     /// Writes the text of the register's term. Where the term is beyond the walk limit nothing is written.
