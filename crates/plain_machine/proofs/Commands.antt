@@ -17,7 +17,7 @@ use Rattle.plain_machine.specs.Step.{Outcome, by_command, in_process, by_verb, b
 use Rattle.plain_machine.specs.Step.Outcome.{Accepted, Refused, Mapped}
 use Rattle.plain_machine.specs.Run.{is_quit}
 use Rattle.plain_machine.specs.Laws.{AreProper, HoldsProper}
-use Rattle.plain_machine.proofs.Numbers.{Keeps, keeps-same, keeps-process, keeps-gone, keeps-come}
+use Rattle.plain_machine.proofs.Numbers.{Keeps, keeps-same, keeps-numbers, keeps-process, keeps-gone, keeps-come}
 use Rattle.plain_machine.proofs.Holding.{Holds, Before, Builds, before, found-proper, all-live, in-place, in-register, built-leaves, at-proper, set-proper, gone-proper, spawned-proper}
 
 -- the numbers after an outcome
@@ -67,7 +67,7 @@ tells-does s p c (Err r) e = refused-does s p c r
 -- `gc` and `sys sweep`
 collect-does : (s : State) (p : Parsed) (c : Command) → is_printing c ≡ false → Does s p c (collect_step s p)
 collect-does s p c e = record {
-  numbers = keeps-same s _ refl;
+  numbers = keeps-numbers s _ refl refl;
   told = inl (codes "k", refl);
   proper = λ h m t. let b = before s p.names m h in record { proper = all-live p.names s.shared s.processes s.areas b.held b.literals };
   printing = λ f. absurd (cc);
