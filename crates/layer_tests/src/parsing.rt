@@ -30,7 +30,7 @@ fn answer_to(line: &[u8], names: &mut AtomNames, code: &mut Code) -> Answer {
 }
 
 // Lines that are read: nothing, or one command.
-const READ: [&[u8]; 27] = [
+const READ: [&[u8]; 30] = [
     b"",
     b" \t ",
     b"% any \x00\xff bytes",
@@ -54,6 +54,9 @@ const READ: [&[u8]; 27] = [
     b"sys spawn",
     b" sys  procs ",
     b"sys quit",
+    b"1 gc minor",
+    b"1  gc\tmajor ",
+    b"sys sweep",
     b"1099511627775 exit",
     b"1 set 0 576460752303423487",
     b"1 set 0 -576460752303423488",
@@ -61,7 +64,7 @@ const READ: [&[u8]; 27] = [
 ];
 
 // Lines that are in no grammar, or only in that of what is not built.
-const UNREAD: [&[u8]; 67] = [
+const UNREAD: [&[u8]; 75] = [
     b"1099511627776 exit",
     b"01 exit",
     b"+1 exit",
@@ -129,6 +132,14 @@ const UNREAD: [&[u8]; 67] = [
     b"1 set 0 \xc3",
     b"1 set 0 a\x00",
     b"1 hd 0 1",
+    b"1 gc",
+    b"1 gc 0",
+    b"1 gc full",
+    b"1 gcminor",
+    b"1 gc minormajor",
+    b"1 gc minor major",
+    b"sys gc minor",
+    b"sys sweep 1",
 ];
 
 // Whether each of the lines is answered so.

@@ -1,18 +1,18 @@
 ghost use Rattle.std.specs.Prelude.{◌≡◌, ℕ, ◌+◌, ◌≤◌, ◌<◌, Bool, true, false, List, [], ◌∷◌, length, MatchOption, Some, None};
 ghost use Rattle.script_grammar.specs.Names.{Arguments};
 ghost use Rattle.script_grammar.specs.Written.{Kind};
-ghost use Rattle.script_grammar.specs.Written.Kind.{Slot, Body};
+ghost use Rattle.script_grammar.specs.Written.Kind.{Slot, Extent, Body};
 ghost use Rattle.script_parse.specs.declared.buffer.TheConstants.{MOST_ITEMS};
 ghost use Rattle.script_parse.specs.declared.numbers.TheConstants.{LAST_REGISTER};
 ghost use Rattle.script_parse.specs.Output.{given, Grows};
-ghost use Rattle.script_parse.specs.Reading.{number_at, spaced_at, row, row_run, verb_run, named_run, process_run, sys_verb_run, sys_named_run, system_run};
+ghost use Rattle.script_parse.specs.Reading.{extent_at, number_at, spaced_at, row, row_run, verb_run, named_run, process_run, sys_verb_run, sys_named_run, system_run};
 
-use crate::blanks::{ends, gap, skip, word_len};
+use crate::blanks::{after_text, ends, gap, skip, word_len};
 use crate::numbers::{LAST_REGISTER, number};
 use crate::output::Output;
 use crate::terms::term;
 use crate::words::{sys_word, verb_word};
-use script_grammar::{LEVELS, Reg, SysVerb, SysWord, Verb, Word};
+use script_grammar::{Depth, LEVELS, Reg, SysVerb, SysWord, Verb, Word};
 
 /// A blank and a register.
 fn register(line: &[u8]) -> Option<(Reg, &[u8])>
@@ -23,6 +23,17 @@ fn register(line: &[u8]) -> Option<(Reg, &[u8])>
     let rest = gap(line)?;
     let (n, rest) = number(skip(rest), LAST_REGISTER)?;
     Some((Reg(n as u8), rest))
+}
+
+/// A depth of collection.
+fn depth(line: &[u8]) -> Option<(Depth, &[u8])>
+    ensures value { MatchOption result (extent_at line.now ≡ None) (λ r. extent_at line.now ≡ Some (r.0, r.1.now)) }
+{
+    if let Some(rest) = after_text(line, b"minor") {
+        return Some((Depth::Minor, rest));
+    }
+    let rest = after_text(line, b"major")?;
+    Some((Depth::Major, rest))
 }
 
 /// No operand, and nothing more.
@@ -46,6 +57,18 @@ fn slot(line: &[u8], out: &mut Output) -> Option<Reg>
 {
     let (r, rest) = register(line)?;
     if ends(rest) { Some(r) } else { None }
+}
+
+/// A depth of collection, and nothing more.
+#[tactic(auto, unfolding(crate::specs::Reading::row_run))]
+fn extent(line: &[u8], out: &mut Output) -> Option<Depth>
+    ensures value { (f : Arguments (Extent ∷ []) → Verb) → MatchOption result (row_run (row (Extent ∷ []) f) line.now (given out.old) ≡ None)
+        (λ r. row_run (row (Extent ∷ []) f) line.now (given out.old) ≡ Some (f (r, tt), given out.new)) }
+    ensures grown { Grows out.old out.new }
+{
+    let rest = gap(line)?;
+    let (depth, rest) = depth(skip(rest))?;
+    if ends(rest) { Some(depth) } else { None }
 }
 
 /// A register and a term, and nothing more. The term goes last.
@@ -75,6 +98,7 @@ fn verb(word: Word, line: &[u8], out: &mut Output) -> Option<Verb>
         Word::Push => Some(Verb::Push(slot(line, out)?)),
         Word::Pop => Some(Verb::Pop(slot(line, out)?)),
         Word::Print => Some(Verb::Print(slot(line, out)?)),
+        Word::Gc => Some(Verb::Gc(extent(line, out)?)),
         Word::Exit => {
             none(line, out)?;
             Some(Verb::Exit)
@@ -115,6 +139,10 @@ fn sys_verb(word: SysWord, line: &[u8], out: &mut Output) -> Option<SysVerb>
         SysWord::Spawn => {
             none(line, out)?;
             Some(SysVerb::Spawn)
+        },
+        SysWord::Sweep => {
+            none(line, out)?;
+            Some(SysVerb::Sweep)
         },
         SysWord::Procs => {
             none(line, out)?;
