@@ -8,13 +8,14 @@ use Rattle.plain_term.specs.declared.item.Item.{Item}
 use Rattle.script_grammar.specs.declared.command.Reg.{Reg}
 use Rattle.script_grammar.specs.declared.command.Pick.{Pick}
 use Rattle.script_grammar.specs.declared.command.Pick.TheVariants as pick
+use Rattle.script_grammar.specs.declared.command.Depth.{Depth}
 use Rattle.script_grammar.specs.declared.command.Shape.{Shape}
 use Rattle.script_grammar.specs.declared.command.Shape.TheVariants as shape
 use Rattle.script_grammar.specs.declared.command.Command.{Command}
 use Rattle.script_grammar.specs.declared.command.Command.TheVariants.{Process, System}
 use Rattle.script_grammar.specs.declared.command.Verb.{Verb}
-use Rattle.script_grammar.specs.declared.command.Verb.TheVariants.{Set, Own, Push, Pop, Print, Exit, Choose, Repeat}
-use Rattle.script_grammar.specs.declared.command.SysVerb.TheVariants.{Spawn}
+use Rattle.script_grammar.specs.declared.command.Verb.TheVariants.{Set, Own, Push, Pop, Print, Gc, Exit, Choose, Repeat}
+use Rattle.script_grammar.specs.declared.command.SysVerb.TheVariants.{Spawn, Sweep}
 use Rattle.script_grammar.specs.declared.refusal.Refusal.{Refusal}
 use Rattle.script_grammar.specs.declared.refusal.Refusal.TheVariants.{NoProc}
 use Rattle.script_grammar.specs.Written.{Term, Terms}
@@ -187,6 +188,7 @@ verb-tells s p q (Set r) e m = absurd (cc)
 verb-tells s p q (Own r) e m = absurd (cc)
 verb-tells s p q (Push r) e m = absurd (cc)
 verb-tells s p q (Pop r) e m = absurd (cc)
+verb-tells s p q (Gc d) e m = absurd (cc)
 verb-tells s p q Exit e m = absurd (cc)
 verb-tells s p q _ e m = refl
 
@@ -243,15 +245,16 @@ if-then true c h e = h
 if-then false c h e = absurd (cc)
 
 pub can-tell : (v : Verb) → is_built (word_of v) ≡ true → HasRegisters v → ((r : Reg) → v ≡ Set r → ⊥) → ((r : Reg) → v ≡ Own r → ⊥) → ((r : Reg) → v ≡ Push r → ⊥) → ((r : Reg) → v ≡ Pop r → ⊥)
-    → (v ≡ Exit → ⊥) → CanTell v
-can-tell (Set r) b h s o u p x = absurd (s r refl)
-can-tell (Own r) b h s o u p x = absurd (o r refl)
-can-tell (Push r) b h s o u p x = absurd (u r refl)
-can-tell (Pop r) b h s o u p x = absurd (p r refl)
-can-tell Exit b h s o u p x = absurd (x refl)
-can-tell (Choose r m k) b h s o u p x = absurd (pick-unbuilt r m k b)
-can-tell (Repeat r k n m) b h s o u p x = absurd (repeat-unbuilt r m n k b)
-can-tell v b h s o u p x = record {
+    → ((d : Depth) → v ≡ Gc d → ⊥) → (v ≡ Exit → ⊥) → CanTell v
+can-tell (Set r) b h s o u p g x = absurd (s r refl)
+can-tell (Own r) b h s o u p g x = absurd (o r refl)
+can-tell (Push r) b h s o u p g x = absurd (u r refl)
+can-tell (Pop r) b h s o u p g x = absurd (p r refl)
+can-tell (Gc d) b h s o u p g x = absurd (g d refl)
+can-tell Exit b h s o u p g x = absurd (x refl)
+can-tell (Choose r m k) b h s o u p g x = absurd (pick-unbuilt r m k b)
+can-tell (Repeat r k n m) b h s o u p g x = absurd (repeat-unbuilt r m n k b)
+can-tell v b h s o u p g x = record {
   built = b;
   prints = if-then (is_built (word_of v)) (is_printing_verb v) refl b;
   no_map = not-map (is_built (word_of v)) (is_map (Process 0 v)) refl b;
@@ -289,3 +292,13 @@ spawn-does supply names code reply Old after r e next b = λ s terms h f.
   where
     number : (s : State) (n : ℕ) → r ≡ Ok n → IfOk r (λ n. n ≡ s.next) → n ≡ s.next
     number s n k h = let P : Result ℕ Refusal → Type 0 = λ z. IfOk z (λ n. n ≡ s.next) in subst P k h
+
+-- `sys sweep`
+pub sweep-does : (supply : Supply) (names : List (List ℕ)) (code : List Item) (Old : State → Type 0) (after : After)
+    → ((s : State) (terms : Terms) → Old s → HasNames s names → Passes (step s (said (System Sweep) terms names)) after.stands)
+    → DoesCommand supply names code Done Old after (System Sweep)
+sweep-does supply names code Old after b = λ s terms h f.
+    let p : Parsed = said (System Sweep) terms names in
+    let u : Unit {0} = tt in
+    acts-gave supply s p after refl refl Done
+    (gave s p after (λ (a : Unit {0}). Done) (step s p) (Ok u) (λ a k. (refl, refl, refl)) (passes-follows (step s p) s u after.stands (b s terms h f.longer)))

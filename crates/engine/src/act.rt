@@ -67,6 +67,10 @@ fn act_in<S: Space>(
         }
         Verb::Push(r) => done(space.push(seat, r)),
         Verb::Pop(r) => done(space.pop(seat, r)),
+        Verb::Gc(depth) => {
+            space.collect(seat, depth);
+            Reply::Done
+        }
         Verb::Exit => {
             space.exit(seat);
             Reply::Done
@@ -90,6 +94,10 @@ fn act_system<S: Space>(space: &mut S, names: &AtomNames, verb: SysVerb) -> Repl
 {
     match verb {
         SysVerb::Spawn => spawned(space.spawn()),
+        SysVerb::Sweep => {
+            space.sweep_all();
+            Reply::Done
+        }
         SysVerb::Procs => Reply::Numbers,
         SysVerb::Quit => Reply::Quit,
         _ => unreachable!(),

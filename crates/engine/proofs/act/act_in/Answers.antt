@@ -1,5 +1,5 @@
 use Rattle.std.proofs.Common.{refl}
-use Rattle.script_grammar.specs.declared.command.Verb.TheVariants.{Own, Push, Exit}
+use Rattle.script_grammar.specs.declared.command.Verb.TheVariants.{Own, Push, Gc, Exit}
 use Rattle.engine.proofs.Acting.{does-same, becomes-does, set-does, passes-does, pop-does, told-does, can-tell}
 use Rattle.engine.proofs.act.act_in.Goals as goal
 
@@ -19,17 +19,21 @@ pub returns-in-Pop-clause-acts : goal.returns-in-Pop-clause-acts
 returns-in-Pop-clause-acts g c = does-same _ _ _ _ _ _ _ _ _ c.in-Pop.is
     (pop-does _ _ _ _ _ _ _ c.in-Pop.r c.pop.result c.done-in-Pop.ensures (λ s terms h m. c.pop.ensures.follows s terms c.args.names.now h m))
 
+pub returns-in-Gc-clause-acts : goal.returns-in-Gc-clause-acts
+returns-in-Gc-clause-acts g c = does-same _ _ _ _ _ _ _ _ _ c.in-Gc.is
+    (passes-does _ _ _ _ _ _ _ (Gc c.in-Gc.depth) refl refl (λ s terms q. (refl, refl, refl)) (λ s terms h m. c.collect.ensures.passes s terms c.args.names.now h m))
+
 pub returns-in-Exit-clause-acts : goal.returns-in-Exit-clause-acts
 returns-in-Exit-clause-acts g c = does-same _ _ _ _ _ _ _ _ _ c.in-Exit.is
     (passes-does _ _ _ _ _ _ _ Exit refl refl (λ s terms q. (refl, refl, refl)) (λ s terms h m. c.exit.ensures.passes s terms c.args.names.now h m))
 
 pub returns-in_default-clause-acts : goal.returns-in_default-clause-acts
 returns-in_default-clause-acts g c = told-does _ c.args.seat _ _ _ c.args.verb
-    (can-tell c.args.verb c.requires.built c.requires.registers c.in_default.not-Set c.in_default.not-Own c.in_default.not-Push c.in_default.not-Pop c.in_default.not-Exit)
+    (can-tell c.args.verb c.requires.built c.requires.registers c.in_default.not-Set c.in_default.not-Own c.in_default.not-Push c.in_default.not-Pop c.in_default.not-Gc c.in_default.not-Exit)
 
 pub returns-in_default-clause-can : goal.returns-in_default-clause-can
 returns-in_default-clause-can g c = (
   c.requires.sits,
-  can-tell c.args.verb c.requires.built c.requires.registers c.in_default.not-Set c.in_default.not-Own c.in_default.not-Push c.in_default.not-Pop c.in_default.not-Exit,
+  can-tell c.args.verb c.requires.built c.requires.registers c.in_default.not-Set c.in_default.not-Own c.in_default.not-Push c.in_default.not-Pop c.in_default.not-Gc c.in_default.not-Exit,
   c.requires.named,
 )
