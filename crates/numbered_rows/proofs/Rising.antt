@@ -6,6 +6,25 @@ use Rattle.std.proofs.lemmas.Bool.Decides.{nat_tests}
 use Rattle.space_api.specs.Calls.{AreRising}
 use Rattle.numbered_rows.specs.Numbers.{numbers, number_at, is_among}
 
+-- Every number is above the one that they rise from.
+pub rising-above : (a : ℕ) (ns : List ℕ) (j : ℕ) → AreRising a ns → j < length ns → a < get_or ns j 0
+rising-above a [] j r below = absurd (omega arith)
+rising-above a (n ∷ ns) zero r below = r.0
+rising-above a (n ∷ ns) (suc j) r below = omega (arith, r.0, rising-above n ns j r.1 (omega arith))
+
+pub rising-pair : (a : ℕ) (ns : List ℕ) (i j : ℕ) → AreRising a ns → i < j → j < length ns → get_or ns i 0 < get_or ns j 0
+rising-pair a [] i j r less below = absurd (omega arith)
+rising-pair a (n ∷ ns) i zero r less below = absurd (omega arith)
+rising-pair a (n ∷ ns) zero (suc j) r less below = rising-above n ns j r.1 (omega arith)
+rising-pair a (n ∷ ns) (suc i) (suc j) r less below = rising-pair n ns i j r.1 (omega arith) (omega arith)
+
+pub rising-weak : (a : ℕ) (ns : List ℕ) (i j : ℕ) → AreRising a ns → i ≤ j → j < length ns → get_or ns i 0 ≤ get_or ns j 0
+rising-weak a [] i j r less below = absurd (omega arith)
+rising-weak a (n ∷ ns) zero zero r less below = omega arith
+rising-weak a (n ∷ ns) zero (suc j) r less below = omega (arith, rising-above n ns j r.1 (omega arith))
+rising-weak a (n ∷ ns) (suc i) zero r less below = absurd (omega arith)
+rising-weak a (n ∷ ns) (suc i) (suc j) r less below = rising-weak n ns i j r.1 (omega arith) (omega arith)
+
 module _ {R : Type 0} (f : R → ℕ) where
   pub numbers-len : (ps : List R) → length (numbers f ps) ≡ length ps
   numbers-len [] = refl
@@ -20,25 +39,6 @@ module _ {R : Type 0} (f : R → ℕ) where
   -- The number of a row that was read.
   pub number-read : (ps : List R) (i : ℕ) (x : R) → i < length ps → x ≡ get_or ps i x → number_at f ps i ≡ f x
   number-read ps i x below is = number-is ps i x below ∙ sym (ap f is)
-
-  -- Every number is above the one that they rise from.
-  pub rising-above : (a : ℕ) (ns : List ℕ) (j : ℕ) → AreRising a ns → j < length ns → a < get_or ns j 0
-  rising-above a [] j r below = absurd (omega arith)
-  rising-above a (n ∷ ns) zero r below = r.0
-  rising-above a (n ∷ ns) (suc j) r below = omega (arith, r.0, rising-above n ns j r.1 (omega arith))
-
-  pub rising-pair : (a : ℕ) (ns : List ℕ) (i j : ℕ) → AreRising a ns → i < j → j < length ns → get_or ns i 0 < get_or ns j 0
-  rising-pair a [] i j r less below = absurd (omega arith)
-  rising-pair a (n ∷ ns) i zero r less below = absurd (omega arith)
-  rising-pair a (n ∷ ns) zero (suc j) r less below = rising-above n ns j r.1 (omega arith)
-  rising-pair a (n ∷ ns) (suc i) (suc j) r less below = rising-pair n ns i j r.1 (omega arith) (omega arith)
-
-  pub rising-weak : (a : ℕ) (ns : List ℕ) (i j : ℕ) → AreRising a ns → i ≤ j → j < length ns → get_or ns i 0 ≤ get_or ns j 0
-  rising-weak a [] i j r less below = absurd (omega arith)
-  rising-weak a (n ∷ ns) zero zero r less below = omega arith
-  rising-weak a (n ∷ ns) zero (suc j) r less below = omega (arith, rising-above n ns j r.1 (omega arith))
-  rising-weak a (n ∷ ns) (suc i) zero r less below = absurd (omega arith)
-  rising-weak a (n ∷ ns) (suc i) (suc j) r less below = rising-weak n ns i j r.1 (omega arith) (omega arith)
 
   pub rising-upto : (ps : List R) (k m pid : ℕ) → AreRising 0 (numbers f ps) → k < m + 1 → m < length ps → number_at f ps m ≤ pid → number_at f ps k ≤ pid
   rising-upto ps k m pid r less below h = omega (arith, rising-weak 0 (numbers f ps) k m r (omega arith) (omega (arith, numbers-len ps)))

@@ -66,13 +66,13 @@ same-rows p start mem low limit [] (n ∷ ns) a = absurd a
 same-rows p start mem low limit (o ∷ os) [] a = absurd a
 same-rows p start mem low limit (o ∷ os) (n ∷ ns) (first, rest) = (first.number, (first.depth, same-rows p start mem low limit os ns rest))
 
-same-depths : (olds news : List Proc) → AreSameRows olds news → depths news ≡ depths olds
+pub same-depths : (olds news : List Proc) → AreSameRows olds news → depths news ≡ depths olds
 same-depths [] [] a = refl
 same-depths [] (n ∷ ns) a = absurd a
 same-depths (o ∷ os) [] a = absurd a
 same-depths (o ∷ os) (n ∷ ns) (number, (depth, rest)) = omega (arith, depth, same-depths os ns rest, sum_by-cons (λ x. x.depth) o os, sum_by-cons (λ x. x.depth) n ns)
 
-row-count : (olds news : List Proc) → AreSameRows olds news → length news ≡ length olds
+pub row-count : (olds news : List Proc) → AreSameRows olds news → length news ≡ length olds
 row-count [] [] a = refl
 row-count [] (n ∷ ns) a = absurd a
 row-count (o ∷ os) [] a = absurd a

@@ -8,3 +8,10 @@ mod Held
 mod Planned
 mod Ended
 mod Tight
+mod Seats
+mod Changing
+mod Rooms
+mod Turning
+mod Seated
+mod Sweeping
+mod Acting

@@ -4,7 +4,7 @@ use Rattle.plain_term.specs.Tree.{Tree}
 use Rattle.plain_machine.specs.State.{Process}
 use Rattle.term_words.specs.Role.{IsSingle, OfObject}
 use Rattle.term_words.specs.Stands.{Stands}
-use Rattle.one_space.specs.Modest.{IsModest}
+use Rattle.item_build.specs.Modest.{IsModest}
 use Rattle.one_space.specs.Stack.{IsStack, values}
 use Rattle.one_space.specs.declared.table.Proc.{Proc}
 use Rattle.one_space.specs.declared.halves.Halves.{Halves}

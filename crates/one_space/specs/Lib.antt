@@ -1,6 +1,7 @@
-pub mod Modest
 pub mod Stack
 pub mod Halves
 pub mod Reached
 pub mod Rows
 pub mod Collecting
+pub mod One
+pub mod Doing

@@ -2,8 +2,10 @@
 #![tactic(auto)]
 
 mod halves;
+mod one;
 mod roots;
 mod table;
 
 pub use halves::Halves;
+pub use one::One;
 pub use table::{Proc, fresh};

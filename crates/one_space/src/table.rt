@@ -1,6 +1,8 @@
 // The rows of processes.
 ghost use Rattle.std.specs.Prelude.{◌≡◌, replicate};
 
+use numbered_rows::Numbered;
+
 /// One process: its number, the words of its registers, the place of the last thing on its stack, and how many lie there.
 #[derive(Clone, Copy)]
 pub struct Proc {
@@ -8,6 +10,14 @@ pub struct Proc {
     pub regs: [u64; 16],
     pub stack: u64,
     pub depth: u64,
+}
+
+impl Numbered for Proc {
+    ghost number_of = { λ p. p.number };
+
+    fn number(&self) -> u64 {
+        self.number
+    }
 }
 
 /// A process with nil in each register and nothing on its stack.

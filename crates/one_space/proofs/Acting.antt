@@ -1,0 +1,122 @@
+-- What the calls that ask for no words make of a space.
+use Rattle.std.proofs.Common.{Vec, ◌≡◌, ℕ, zero, suc, ◌+◌, ◌-◌, ◌*◌, ◌/◌, ◌<◌, ◌≤◌, ◌^◌, Bool, true, false, List, [], ◌∷◌, length, map, get_or, set, Option, Some, Ok, Err, refl, sym, ◌∙◌, ap, subst, arith}
+use Rattle.std.specs.List.{filter, remove}
+use Rattle.std.specs.Vec.{vec_len, vec_capacity, with_item}
+
+use Rattle.std.specs.declared.alloc.Global.{Global}
+use Rattle.std.proofs.lemmas.List.{length-set}
+use Rattle.std.proofs.lemmas.List.Sums.{sum_by-remove, sum_by-set}
+use Rattle.plain_term.specs.Tree.{Tree}
+use Rattle.plain_term.specs.Tree.Tree.{Pid}
+use Rattle.script_grammar.specs.declared.command.Command.{Command}
+use Rattle.script_grammar.specs.declared.command.Command.TheVariants.{Process as OfProcess}
+use Rattle.script_grammar.specs.declared.command.Reg.{Reg}
+use Rattle.script_grammar.specs.declared.command.Verb.TheVariants as verb
+use Rattle.script_grammar.specs.declared.refusal.Refusal.TheVariants as refusal
+use Rattle.script_grammar.specs.Written.{Terms}
+use Rattle.script_grammar.specs.Written.Terms.{end}
+use Rattle.script_grammar.specs.Names.{Parsed}
+use Rattle.term_tags.specs.Words.{pid_word}
+use Rattle.term_words.specs.Role.{IsSingle, OfObject}
+use Rattle.term_words.proofs.Makes.{stands-pid}
+use Rattle.plain_machine.specs.State.{Process, State, with_process, with_register, without_process}
+use Rattle.plain_machine.specs.Step.{in_process, pop_from, settled, step}
+use Rattle.space_api.specs.Calls.{AreRising, Follows, Passes, said}
+use Rattle.space_api.specs.declared.space.Seat.{Seat}
+use Rattle.numbered_rows.specs.Numbers.{AreBelow, numbers}
+use Rattle.numbered_rows.proofs.Changing.{below-remove, numbers-set, rising-remove}
+use Rattle.numbered_rows.proofs.Rising.{number-read}
+use Rattle.one_space.specs.Stack.{values}
+use Rattle.one_space.specs.Halves.{HalvesStand, HoldTrees, HoldsTree, IsLaid, ProcsStand, depths, end_of, front_of}
+use Rattle.one_space.specs.One.{Holds, IsCounted, OneStands, Sits, number_in, numbers_of}
+use Rattle.one_space.specs.Doing.{DoesAlways, DoesAtOnce}
+use Rattle.one_space.specs.declared.halves.Halves.{Halves}
+use Rattle.one_space.specs.declared.one.One.{One}
+use Rattle.one_space.specs.declared.table.Proc.{Proc}
+use Rattle.one_space.proofs.Changing.{no_process, procs-remove}
+use Rattle.one_space.proofs.Rooms.{follows-some, passes-some}
+use Rattle.one_space.proofs.Seated.{found-there, number-there, removed-there, set-there, settled-stands}
+use Rattle.one_space.proofs.Seats.{is_other, replaced}
+use Rattle.one_space.proofs.Turning.{none-held, popped, register-set, row-stands, top-here, with_stack, with_word}
+
+-- The halves with another memory, other bounds and another table.
+abbrev pub laid_out : Halves → (mem : List ℕ) → (top low : ℕ) → Vec Proc Global → Halves
+laid_out h mem top low v = record { mem = mem; base = h.base; top = top; low = low; procs = v; sweeps = h.sweeps }
+
+-- The space after a call that changed something.
+abbrev pub after : One → Halves → One
+after b h = record { halves = h; row = b.row; next = b.next; named = b.named; calls = b.calls + 1; swept = false }
+
+-- The numbers of a space, where the rows have the same.
+pub counts-same : (b b2 : One) → IsCounted b → IsLaid b2.halves → numbers_of b2 ≡ numbers_of b → length b2.halves.procs.items ≡ length b.halves.procs.items → vec_capacity b2.halves.procs ≡ vec_capacity b.halves.procs
+    → vec_len b2.row ≡ vec_len b.row → b2.next ≡ b.next → b.calls ≤ b2.calls → b2.halves.sweeps ≡ b.halves.sweeps → IsCounted b2
+counts-same b b2 c laid same count capacity row next calls sweeps =
+    let P : List ℕ → Type 0 = λ z. AreBelow b.next z in
+    let Q : ℕ → Type 0 = λ z. AreBelow z (numbers_of b2) in
+    record {
+      laid = laid;
+      enough = row ∙ c.enough;
+      places = omega (arith, c.places, capacity);
+      few = omega (arith, c.few, count);
+      rising = subst (AreRising 0) (sym same) c.rising;
+      below = subst Q (sym next) (subst P (sym same) c.below);
+      second = omega (arith, c.second, next);
+      numbered = omega (arith, c.numbered, next, calls);
+      counted = omega (arith, c.counted, calls, sweeps);
+    }
+
+-- A row is written.
+pub numbers-row : (rows : List Proc) (i : ℕ) (p old : Proc) → i < length rows → old ≡ get_or rows i old → p.number ≡ old.number → numbers number_in (set rows i p) ≡ numbers number_in rows
+numbers-row rows i p old less is same = numbers-set number_in rows i p less (same ∙ sym (number-read number_in rows i old less is))
+
+pub depths-row : (rows : List Proc) (i : ℕ) (p old : Proc) → i < length rows → old ≡ get_or rows i old → depths (set rows i p) + old.depth ≡ depths rows + p.depth
+depths-row rows i p old less is = omega (arith, sum_by-set (λ r. r.depth) rows i p old less, ap (λ r. r.depth) is)
+
+-- The space is whole still.
+pub holds-passed : (b : One) (c : Command) (s : State) → IsCounted b → Passes (step s (said c end [])) (OneStands b) → Holds b
+holds-passed b c s counts f = let t = passes-some (step s (said c end [])) (OneStands b) f in record { counts = counts; state = t.0; stands = t.1 }
+
+-- The number of a seat is below the next one.
+pub seat-below : (rows : List Proc) (i limit : ℕ) (d : Proc) → i < length rows → AreBelow limit (numbers number_in rows) → (get_or rows i d).number < limit
+seat-below [] i limit d less b = absurd (omega arith)
+seat-below (r ∷ rows) zero limit d less b = b.0
+seat-below (r ∷ rows) (suc i) limit d less b = seat-below rows i limit d (omega arith) b.1
+
+-- `self`.
+module _ (b : One) (holds : Holds b) (seat : Seat) (x : Sits b seat) (r : Reg) (p : Proc) (is : p ≡ get_or b.halves.procs.items seat.row p) (w : ℕ) (word : w ≡ pid_word seat.pid) (small : seat.pid < 2 ^ 41) where
+  own-passes : (s : State) (terms : Terms) (names : List (List ℕ)) → OneStands b s
+      → Passes (step s (said (OfProcess seat.pid (verb.Own r)) terms names)) (OneStands (after b (laid_out b.halves b.halves.mem b.halves.top b.halves.low (with_item b.halves.procs seat.row (with_word p r.0 w)))))
+  own-passes s terms names o =
+      let b2 : One = after b (laid_out b.halves b.halves.mem b.halves.top b.halves.low (with_item b.halves.procs seat.row (with_word p r.0 w))) in
+      let q : Process = get_or s.processes seat.row no_process in
+      let line : Parsed = said (OfProcess seat.pid (verb.Own r)) terms names in
+      let number : q.number ≡ seat.pid = number-there b s o holds.counts seat x in
+      let held : HoldsTree o.processes.test s.shared b.halves.mem b.named w (Pid q.number) = record {
+        standing = stands-pid o.processes.test s.shared b.halves.mem w q.number (omega (arith, number, small)) (word ∙ ap pid_word (sym number));
+        modest = record { plain = tt; deep = omega arith; few = omega arith };
+      } in
+      let stands : HalvesStand b.named b2.halves s.shared (set s.processes seat.row (with_register r.0 (Pid q.number) q)) = record {
+        test = o.processes.test;
+        single = o.processes.single;
+        objects = o.processes.objects;
+        processes = register-set o.processes.test s.shared b.halves.mem b.halves.low (end_of b.halves) b.named b.halves.procs.items s.processes seat.row p x.within is o.processes.processes r.0 w (Pid q.number) held;
+      } in
+      let P : Option Process → Type 0 = λ z. Passes (in_process z s line (verb.Own r)) (OneStands b2) in
+      let Q : List Process → Type 0 = λ z. HalvesStand b.named b2.halves s.shared z in
+      subst P (sym (found-there b s o holds.counts seat x))
+      (settled-stands b b2 s line (with_register r.0 (Pid q.number) q) o (subst Q (sym (set-there b s o holds.counts seat x (with_register r.0 (Pid q.number) q) number)) stands) refl refl)
+
+  own-counts : IsCounted (after b (laid_out b.halves b.halves.mem b.halves.top b.halves.low (with_item b.halves.procs seat.row (with_word p r.0 w))))
+  own-counts =
+      let same : depths (set b.halves.procs.items seat.row (with_word p r.0 w)) ≡ depths b.halves.procs.items = omega (arith, depths-row b.halves.procs.items seat.row (with_word p r.0 w) p x.within is) in
+      counts-same b (after b (laid_out b.halves b.halves.mem b.halves.top b.halves.low (with_item b.halves.procs seat.row (with_word p r.0 w)))) holds.counts
+      (record { even = holds.counts.laid.even; side = holds.counts.laid.side; front = holds.counts.laid.front; order = holds.counts.laid.order; places = omega (arith, holds.counts.laid.places, same) })
+      (numbers-row b.halves.procs.items seat.row (with_word p r.0 w) p x.within is refl) (length-set b.halves.procs.items seat.row (with_word p r.0 w)) refl refl refl (omega arith) refl
+
+  pub own-does : DoesAlways (OfProcess seat.pid (verb.Own r)) b (after b (laid_out b.halves b.halves.mem b.halves.top b.halves.low (with_item b.halves.procs seat.row (with_word p r.0 w))))
+  own-does = record {
+    holds = holds-passed (after b (laid_out b.halves b.halves.mem b.halves.top b.halves.low (with_item b.halves.procs seat.row (with_word p r.0 w)))) (OfProcess seat.pid (verb.Own r)) holds.state own-counts
+      (own-passes holds.state end [] holds.stands);
+    passes = own-passes;
+    books = record { same_words = refl; one_call = omega arith; few_names = omega arith };
+  }

@@ -1,0 +1,39 @@
+-- A collection that a line asks for.
+use Rattle.std.proofs.Common.{◌≡◌, ℕ, ◌+◌, Bool, List, refl, ◌∙◌, subst, sym, arith}
+use Rattle.plain_machine.specs.State.{Process, State}
+use Rattle.one_space.specs.Halves.{HalvesStand}
+use Rattle.one_space.specs.Collecting.{Collects}
+use Rattle.one_space.specs.One.{Holds, OneStands}
+use Rattle.one_space.specs.Doing.{Sweeps}
+use Rattle.one_space.specs.declared.halves.Halves.{Halves}
+use Rattle.one_space.specs.declared.one.One.{One}
+use Rattle.one_space.proofs.Rooms.{counts-roomed, stays-collected}
+use Rattle.one_space.proofs.Seated.{count-there}
+use Rattle.one_space.proofs.Turning.{popped, pushed, register-set}
+
+pub sweeps : (all : Bool) (b : One) (h : Halves) → Holds b → Collects b.halves h → Sweeps all b (record { halves = h; row = b.row; next = b.next; named = b.named; calls = b.calls + 1; swept = all })
+sweeps all b h holds c =
+    let stands : (s : State) → OneStands b s → OneStands (record { halves = h; row = b.row; next = b.next; named = b.named; calls = b.calls + 1; swept = all }) (record s { swept = all }) = λ s o.
+    record { processes = c.stands b.named s.shared s.processes o.processes; next = o.next; swept = refl; shared = o.shared; areas = o.areas } in
+    let counts = counts-roomed b h holds.counts (stays-collected b.halves h c) c.laid in
+    record {
+      holds = record {
+        counts = record {
+          laid = counts.laid;
+          enough = counts.enough;
+          places = counts.places;
+          few = counts.few;
+          rising = counts.rising;
+          below = counts.below;
+          second = counts.second;
+          numbered = counts.numbered;
+          counted = counts.counted;
+        };
+        state = record holds.state { swept = all };
+        stands = stands holds.state holds.stands;
+      };
+      stands = stands;
+      once = c.counted;
+      reached = c.reached;
+      books = record { same_words = c.same_len; one_call = omega arith; few_names = omega arith };
+    }

@@ -1,0 +1,25 @@
+use Rattle.std.proofs.Common.{arith}
+use Rattle.one_space.proofs.Acting.{own-does, seat-below}
+use Rattle.one_space.proofs.Stacks.{no_row}
+use Rattle.one_space.proofs.one.One.own_pid.Goals as goal
+
+pub pid-requires : goal.pid-requires
+pid-requires c =
+    omega (
+      arith,
+      seat-below c.args.self.now.halves.procs.items c.args.seat.row c.args.self.now.next no_row c.requires.sits.within c.requires.holds.counts.below,
+      c.requires.sits.number no_row,
+      c.requires.holds.counts.numbered,
+      c.requires.calls,
+    )
+
+pub returns : goal.returns
+returns c =
+    own-does c.args.self.now c.requires.holds c.args.seat c.requires.sits c.args.r c.index_mut-process.result.now c.index_mut-process.ensures.value c.pid.result c.pid.ensures
+    (omega (
+      arith,
+      seat-below c.args.self.now.halves.procs.items c.args.seat.row c.args.self.now.next no_row c.requires.sits.within c.requires.holds.counts.below,
+      c.requires.sits.number no_row,
+      c.requires.holds.counts.numbered,
+      c.requires.calls,
+    ))

@@ -1,0 +1,64 @@
+-- What the calls of a space leave, in the words of the plain machine.
+use Rattle.std.specs.Prelude.{◌≡◌, ℕ, ◌+◌, ◌<◌, ◌≤◌, Bool, List, length, max, Result, Ok, Err, OnErr, All}
+use Rattle.plain_term.specs.declared.item.Item.{Item}
+use Rattle.script_grammar.specs.declared.command.Command.{Command}
+use Rattle.script_grammar.specs.declared.command.Command.TheVariants.{Process}
+use Rattle.script_grammar.specs.declared.command.Verb.TheVariants as verb
+use Rattle.script_grammar.specs.declared.command.Reg.{Reg}
+use Rattle.script_grammar.specs.declared.refusal.Refusal.{Refusal}
+use Rattle.script_grammar.specs.declared.refusal.Refusal.TheVariants.{NoSpace}
+use Rattle.script_grammar.specs.Written.{Term, Terms}
+use Rattle.plain_machine.specs.State.{State}
+use Rattle.plain_machine.specs.Step.{step}
+use Rattle.plain_machine.specs.May.{may_of_tight}
+use Rattle.space_api.specs.Calls.{Becomes, Follows, IsTerm, KeepsBooks, Passes, one_term, said}
+use Rattle.one_space.specs.Halves.{free_in}
+use Rattle.one_space.specs.Reached.{AllReached}
+use Rattle.one_space.specs.One.{Holds, OneStands, words_of}
+use Rattle.one_space.specs.declared.one.One.{One}
+
+-- A changing call keeps the numbers of the space; the bound of its names is at most this.
+abbrev pub Books : (old new : One) (bound : ℕ) → Type 0
+Books old new bound = KeepsBooks words_of (λ b. b.calls) (λ b. b.named) old new bound
+
+-- The space is whole, and it was done what the machine's step does, or refused as that is, or the line is tight.
+pub record Does {A : Type 0} (c : Command) (old new : One) (result : Result A Refusal) : Type 0 where
+  pub holds : Holds new
+  pub becomes : (s : State) (terms : Terms) (names : List (List ℕ)) → OneStands old s → Becomes may_of_tight (words_of old) s (said c terms names) result (OneStands new)
+  pub books : Books old new old.named
+
+-- The same of a call that is never refused.
+pub record DoesAlways (c : Command) (old new : One) : Type 0 where
+  pub holds : Holds new
+  pub passes : (s : State) (terms : Terms) (names : List (List ℕ)) → OneStands old s → Passes (step s (said c terms names)) (OneStands new)
+  pub books : Books old new old.named
+
+-- The same of a call that asks for no words.
+pub record DoesAtOnce {A : Type 0} (c : Command) (old new : One) (result : Result A Refusal) : Type 0 where
+  pub holds : Holds new
+  pub follows : (s : State) (terms : Terms) (names : List (List ℕ)) → OneStands old s → Follows (step s (said c terms names)) s result (OneStands new)
+  pub books : Books old new old.named
+
+-- The same of a written term, whose items are these.
+pub record Builds {A : Type 0} (names : List (List ℕ)) (pid : ℕ) (r : Reg) (code : List Item) (old new : One) (result : Result A Refusal) : Type 0 where
+  pub holds : Holds new
+  pub becomes : (s : State) (t : Term) → OneStands old s → IsTerm names code t
+      → Becomes may_of_tight (words_of old) s (said (Process pid (verb.Set r)) (one_term t) names) result (OneStands new)
+  pub books : Books old new (max old.named (length names))
+  pub refused : OnErr result (new.named ≤ old.named)
+
+-- A call looks for n free words: one collection is made exactly where there are fewer, and where it answers that there is no
+-- space, every object is reachable and there are fewer still.
+pub record Asks {A : Type 0} (n : ℕ) (old new : One) (result : Result A Refusal) : Type 0 where
+  pub idle : n ≤ free_in old.halves → new.halves.sweeps ≡ old.halves.sweeps
+  pub once : free_in old.halves < n → new.halves.sweeps ≡ old.halves.sweeps + 1
+  pub refused : (g : ℕ) → result ≡ Err (NoSpace g) → AllReached new.halves × (free_in new.halves < n)
+
+-- A collection that a line asks for, of all processes: it is the one that is made, every object is reachable after it, and
+-- the state is as before but for whether all is swept.
+pub record Sweeps (all : Bool) (old new : One) : Type 0 where
+  pub holds : Holds new
+  pub stands : (s : State) → OneStands old s → OneStands new (record s { swept = all })
+  pub once : new.halves.sweeps ≡ old.halves.sweeps + 1
+  pub reached : AllReached new.halves
+  pub books : Books old new old.named

@@ -1,0 +1,57 @@
+-- What a space holds, and the states that it stands for.
+use Rattle.std.specs.Prelude.{◌≡◌, ℕ, ◌+◌, ◌<◌, ◌≤◌, List, [], length, get_or}
+use Rattle.std.specs.Vec.{vec_len, vec_capacity}
+use Rattle.plain_machine.specs.State.{State}
+use Rattle.plain_machine.specs.declared.limits.TheConstants.{MOST_PROCESSES}
+use Rattle.space_api.specs.Calls.{AreRising}
+use Rattle.space_api.specs.declared.space.Seat.{Seat}
+use Rattle.numbered_rows.specs.Numbers.{AreBelow}
+use Rattle.numbered_rows.specs.Numbers.{numbers as numbers_by}
+use Rattle.one_space.specs.Halves.{HalvesStand, IsLaid, Standing}
+use Rattle.one_space.specs.declared.table.Proc.{Proc}
+use Rattle.one_space.specs.declared.one.One.{One}
+use Rattle.one_space.specs.declared.one.TheConstants.{ROW}
+
+-- The number of a row.
+abbrev pub number_in : Proc → ℕ
+number_in p = p.number
+
+-- The numbers of the rows.
+abbrev pub numbers_of : One → List ℕ
+numbers_of b = numbers_by number_in b.halves.procs.items
+
+-- The words of the memory.
+abbrev pub words_of : One → ℕ
+words_of b = length b.halves.mem
+
+-- The space stands for the state: what the state has beside processes is nothing yet.
+pub record OneStands (b : One) (s : State) : Type 0 where
+  pub processes : HalvesStand b.named b.halves s.shared s.processes
+  pub next : s.next ≡ b.next
+  pub swept : s.swept ≡ b.swept
+  pub shared : s.shared ≡ []
+  pub areas : s.areas ≡ []
+
+-- The numbers of a space: they rise and stay below the next one, which no more than calls have raised, as they have the
+-- collections; and the tables have room for what a line and the most processes ask.
+pub record IsCounted (b : One) : Type 0 where
+  pub laid : IsLaid b.halves
+  pub enough : vec_len b.row ≡ ROW
+  pub places : MOST_PROCESSES ≤ vec_capacity b.halves.procs
+  pub few : length b.halves.procs.items ≤ MOST_PROCESSES
+  pub rising : AreRising 0 (numbers_of b)
+  pub below : AreBelow b.next (numbers_of b)
+  pub second : 2 ≤ b.next
+  pub numbered : b.next ≤ b.calls + 2
+  pub counted : b.halves.sweeps ≤ b.calls
+
+-- What is true of a space at any time: it stands for some state.
+pub record Holds (b : One) : Type 0 where
+  pub counts : IsCounted b
+  pub state : State
+  pub stands : OneStands b state
+
+-- The process with the seat's number has its row there.
+pub record Sits (b : One) (seat : Seat) : Type 0 where
+  pub within : seat.row < length b.halves.procs.items
+  pub number : (d : Proc) → (get_or b.halves.procs.items seat.row d).number ≡ seat.pid

@@ -1,0 +1,180 @@
+// The space as a plain record, and what each call makes of it.
+ghost use Rattle.std.specs.Prelude.{◌≡◌, ℕ, ◌<◌, ◌≤◌, length, Err, IfOk, List};
+ghost use Rattle.script_grammar.specs.declared.command.Command.TheVariants.{Process, System};
+ghost use Rattle.script_grammar.specs.declared.command.Verb.TheVariants as verb;
+ghost use Rattle.script_grammar.specs.declared.command.SysVerb.TheVariants as sysverb;
+ghost use Rattle.script_grammar.specs.declared.refusal.Refusal.TheVariants.{Procs};
+ghost use Rattle.script_grammar.specs.Names.{IsRegister};
+ghost use Rattle.space_api.specs.Calls.{HasTerm, most_calls};
+ghost use Rattle.item_build.specs.Forest.{words_of as item_words_of};
+ghost use Rattle.one_space.specs.One.{Holds, Sits};
+ghost use Rattle.one_space.specs.Doing.{Asks, Builds, Does, DoesAlways, DoesAtOnce, Sweeps};
+
+use crate::halves::{Halves, PLACE_WORDS, UNUSED};
+use crate::table::{Proc, fresh};
+use atom_names::AtomNames;
+use item_build::{build, words_needed};
+use plain_machine::{MOST_PROCESSES, PLACE_COST, PROCESS_COST, Refusal, Reg};
+use plain_term::Item;
+use space_api::Seat;
+use term_tags::pid as pid_word;
+use word_mem::Room;
+
+/// The most items of a line, and so the most words of terms that are not yet put together.
+pub const ROW: usize = 4096;
+
+/// The free words that a new process asks for: it takes none, and what a half never uses is among what it counts for.
+pub const SPAWN_WORDS: u64 = PROCESS_COST - UNUSED;
+
+/// Two halves with their processes; a row of words for terms that are being put together; the number of the next process; a
+/// number above all atoms; how many calls changed something; and whether nothing has since all was swept.
+#[derive(Drop)]
+pub struct One {
+    pub halves: Halves,
+    pub row: Vec<u64>,
+    pub next: u64,
+    pub named: u64,
+    pub calls: u64,
+    pub swept: bool,
+}
+
+impl One {
+    /// Makes a process.
+    pub fn spawn(&mut self) -> Result<u64, Refusal>
+        requires holds { Holds self.old }
+        requires calls { self.old.calls < most_calls }
+        ensures does { Does (System sysverb.Spawn) self.old self.new result }
+        ensures number { IfOk result (λ n. n ≡ self.old.next) }
+        ensures asks { (result ≡ Err Procs → ⊥) → Asks SPAWN_WORDS self.old self.new result }
+    {
+        if self.halves.procs.len() >= MOST_PROCESSES {
+            return Err(Refusal::Procs);
+        }
+        self.calls += 1;
+        if !self.halves.make_room(SPAWN_WORDS) {
+            return Err(Refusal::NoSpace(PROCESS_COST));
+        }
+        let number = self.next;
+        self.halves.procs.push_reserved(fresh(number));
+        self.next += 1;
+        self.swept = false;
+        Ok(number)
+    }
+
+    /// Ends a process.
+    pub fn exit(&mut self, seat: Seat)
+        requires holds { Holds self.old }
+        requires calls { self.old.calls < most_calls }
+        requires sits { Sits self.old seat }
+        ensures { DoesAlways (Process seat.pid verb.Exit) self.old self.new }
+    {
+        let _ = self.halves.procs.remove(seat.row);
+        self.calls += 1;
+        self.swept = false;
+    }
+
+    /// Builds a written term in a register.
+    pub fn build(&mut self, names: &AtomNames, seat: Seat, r: Reg, code: &[Item]) -> Result<(), Refusal>
+        requires holds { Holds self.old }
+        requires calls { self.old.calls < most_calls }
+        requires sits { Sits self.old seat }
+        requires register { IsRegister r }
+        requires named { self.old.named ≤ length names.now }
+        requires term { HasTerm names.now code.now }
+        ensures builds { Builds names.now seat.pid r code.now self.old self.new result }
+        ensures asks { Asks (item_words_of code.now) self.old self.new result }
+    {
+        let named = names.count();
+        let grow = words_needed(code);
+        self.calls += 1;
+        if !self.halves.make_room(grow) {
+            return Err(Refusal::NoSpace(grow));
+        }
+        let mut room = Room {
+            start: self.halves.base,
+            top: self.halves.top,
+            end: self.halves.low,
+        };
+        let w = build(&mut self.halves.mem, &mut room, &mut self.row, code);
+        self.halves.top = room.top;
+        self.halves.procs[seat.row].regs[r.0 as usize] = w;
+        self.named = named;
+        self.swept = false;
+        Ok(())
+    }
+
+    /// Puts the process's own pid in a register.
+    pub fn own_pid(&mut self, seat: Seat, r: Reg)
+        requires holds { Holds self.old }
+        requires calls { self.old.calls < most_calls }
+        requires sits { Sits self.old seat }
+        requires register { IsRegister r }
+        ensures { DoesAlways (Process seat.pid (verb.Own r)) self.old self.new }
+    {
+        let process = &mut self.halves.procs[seat.row];
+        process.regs[r.0 as usize] = pid_word(seat.pid);
+        self.calls += 1;
+        self.swept = false;
+    }
+
+    /// Puts a register's term on the stack.
+    pub fn push(&mut self, seat: Seat, s: Reg) -> Result<(), Refusal>
+        requires holds { Holds self.old }
+        requires calls { self.old.calls < most_calls }
+        requires sits { Sits self.old seat }
+        requires register { IsRegister s }
+        ensures does { Does (Process seat.pid (verb.Push s)) self.old self.new result }
+        ensures asks { Asks PLACE_COST self.old self.new result }
+    {
+        self.calls += 1;
+        if !self.halves.make_room(PLACE_COST) {
+            return Err(Refusal::NoSpace(PLACE_COST));
+        }
+        let place = self.halves.low - PLACE_WORDS;
+        let process = self.halves.procs[seat.row];
+        self.halves.mem.set(place, process.regs[s.0 as usize]);
+        self.halves.mem.set(place + 1, process.stack);
+        self.halves.low = place;
+        self.halves.procs[seat.row] = Proc {
+            stack: place,
+            depth: process.depth + 1,
+            ..process
+        };
+        self.swept = false;
+        Ok(())
+    }
+
+    /// Takes the term that was pushed last off the stack into a register.
+    pub fn pop(&mut self, seat: Seat, r: Reg) -> Result<(), Refusal>
+        requires holds { Holds self.old }
+        requires calls { self.old.calls < most_calls }
+        requires sits { Sits self.old seat }
+        requires register { IsRegister r }
+        ensures { DoesAtOnce (Process seat.pid (verb.Pop r)) self.old self.new result }
+    {
+        let mut process = self.halves.procs[seat.row];
+        if process.depth == 0 {
+            return Err(Refusal::Empty);
+        }
+        let _len = self.halves.mem.len();
+        let place = process.stack;
+        process.regs[r.0 as usize] = self.halves.mem.get(place);
+        process.stack = self.halves.mem.get(place + 1);
+        process.depth -= 1;
+        self.halves.procs[seat.row] = process;
+        self.calls += 1;
+        self.swept = false;
+        Ok(())
+    }
+
+    /// One collection. `all` where every process was to be swept.
+    pub fn collect(&mut self, all: bool)
+        requires holds { Holds self.old }
+        requires calls { self.old.calls < most_calls }
+        ensures { Sweeps all self.old self.new }
+    {
+        self.calls += 1;
+        self.halves.collect();
+        self.swept = all;
+    }
+}
