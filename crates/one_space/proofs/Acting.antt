@@ -1,10 +1,11 @@
 -- What the calls that ask for no words make of a space.
-use Rattle.std.proofs.Common.{Vec, ◌≡◌, ℕ, zero, suc, ◌+◌, ◌-◌, ◌*◌, ◌/◌, ◌<◌, ◌≤◌, ◌^◌, Bool, true, false, List, [], ◌∷◌, length, map, get_or, set, Option, Some, Ok, Err, refl, sym, ◌∙◌, ap, subst, arith}
+use Rattle.std.proofs.Common.{Vec, ◌≡◌, ℕ, zero, suc, ◌+◌, ◌-◌, ◌*◌, ◌/◌, ◌<◌, ◌≤◌, ◌^◌, Bool, true, false, List, [], ◌∷◌, length, map, get_or, set, Option, Some, Ok, Err, inl, inr, refl, sym, ◌∙◌, ap, subst, arith}
 use Rattle.std.specs.List.{filter, remove}
 use Rattle.std.specs.Vec.{vec_len, vec_capacity, with_item}
 
 use Rattle.std.specs.declared.alloc.Global.{Global}
 use Rattle.std.proofs.lemmas.List.{length-set}
+use Rattle.std.proofs.lemmas.List.Edits.{length-remove}
 use Rattle.std.proofs.lemmas.List.Sums.{sum_by-remove, sum_by-set}
 use Rattle.plain_term.specs.Tree.{Tree}
 use Rattle.plain_term.specs.Tree.Tree.{Pid}
@@ -37,7 +38,8 @@ use Rattle.one_space.proofs.Changing.{no_process, procs-remove}
 use Rattle.one_space.proofs.Rooms.{follows-some, passes-some}
 use Rattle.one_space.proofs.Seated.{found-there, number-there, removed-there, set-there, settled-stands}
 use Rattle.one_space.proofs.Seats.{is_other, replaced}
-use Rattle.one_space.proofs.Turning.{none-held, popped, register-set, row-stands, top-here, with_stack, with_word}
+use Rattle.one_space.proofs.Stacks.{no_row}
+use Rattle.one_space.proofs.Turning.{TopOf, none-held, popped, register-set, row-stands, top-here, with_stack, with_word}
 
 -- The halves with another memory, other bounds and another table.
 abbrev pub laid_out : Halves → (mem : List ℕ) → (top low : ℕ) → Vec Proc Global → Halves
@@ -64,6 +66,10 @@ counts-same b b2 c laid same count capacity row next calls sweeps =
       numbered = omega (arith, c.numbered, next, calls);
       counted = omega (arith, c.counted, calls, sweeps);
     }
+
+-- The half in use lies in the memory.
+pub half-within : (h : Halves) → IsLaid h → end_of h ≤ length h.mem
+half-within h laid = elim laid.side [ inl e ↦ omega (arith, e) | inr e ↦ omega (arith, e) ]
 
 -- A row is written.
 pub numbers-row : (rows : List Proc) (i : ℕ) (p old : Proc) → i < length rows → old ≡ get_or rows i old → p.number ≡ old.number → numbers number_in (set rows i p) ≡ numbers number_in rows
@@ -120,3 +126,119 @@ module _ (b : One) (holds : Holds b) (seat : Seat) (x : Sits b seat) (r : Reg) (
     passes = own-passes;
     books = record { same_words = refl; one_call = omega arith; few_names = omega arith };
   }
+
+-- `exit`.
+module _ (b : One) (holds : Holds b) (seat : Seat) (x : Sits b seat) (v : Vec Proc Global) (items : v.items ≡ remove b.halves.procs.items seat.row) (capacity : vec_capacity v ≡ vec_capacity b.halves.procs) where
+  exit-passes : (s : State) (terms : Terms) (names : List (List ℕ)) → OneStands b s
+      → Passes (step s (said (OfProcess seat.pid verb.Exit) terms names)) (OneStands (after b (laid_out b.halves b.halves.mem b.halves.top b.halves.low v)))
+  exit-passes s terms names o =
+      let b2 : One = after b (laid_out b.halves b.halves.mem b.halves.top b.halves.low v) in
+      let q : Process = get_or s.processes seat.row no_process in
+      let line : Parsed = said (OfProcess seat.pid verb.Exit) terms names in
+      let number : q.number ≡ seat.pid = number-there b s o holds.counts seat x in
+      let P : Option Process → Type 0 = λ z. Passes (in_process z s line verb.Exit) (OneStands b2) in
+      let Q : ℕ → Type 0 = λ n. HalvesStand b.named b2.halves s.shared (filter (is_other n) s.processes) in
+      let R : List Process → Type 0 = λ z. HalvesStand b.named b2.halves s.shared z in
+      let S : List Proc → Type 0 = λ z. ProcsStand o.processes.test s.shared b.halves.mem b.halves.low (end_of b.halves) b.named z (remove s.processes seat.row) in
+      let stands : HalvesStand b.named b2.halves s.shared (remove s.processes seat.row) = record {
+        test = o.processes.test;
+        single = o.processes.single;
+        objects = o.processes.objects;
+        processes = subst S (sym items) (procs-remove o.processes.test s.shared b.halves.mem b.named b.halves.low (end_of b.halves) b.halves.procs.items s.processes seat.row o.processes.processes);
+      } in
+      subst P (sym (found-there b s o holds.counts seat x)) (record {
+        processes = subst Q (sym number) (subst R (sym (removed-there b s o holds.counts seat x)) stands);
+        next = o.next;
+        swept = refl;
+        shared = o.shared;
+        areas = o.areas;
+      })
+
+  exit-counts : IsCounted (after b (laid_out b.halves b.halves.mem b.halves.top b.halves.low v))
+  exit-counts =
+      let P : List Proc → Type 0 = λ z. AreRising 0 (numbers number_in z) in
+      let Q : List Proc → Type 0 = λ z. AreBelow b.next (numbers number_in z) in
+      let fewer : length v.items + 1 ≡ length b.halves.procs.items = ap (λ z. length z + 1) items ∙ length-remove b.halves.procs.items seat.row x.within in
+      let less : depths v.items ≤ depths b.halves.procs.items = omega (arith, ap depths items, sum_by-remove (λ r. r.depth) b.halves.procs.items seat.row no_row x.within) in
+      record {
+        laid = record { even = holds.counts.laid.even; side = holds.counts.laid.side; front = holds.counts.laid.front; order = holds.counts.laid.order; places = omega (arith, holds.counts.laid.places, less) };
+        enough = holds.counts.enough;
+        places = omega (arith, holds.counts.places, capacity);
+        few = omega (arith, holds.counts.few, fewer);
+        rising = subst P (sym items) (rising-remove number_in b.halves.procs.items seat.row 0 holds.counts.rising);
+        below = subst Q (sym items) (below-remove number_in b.halves.procs.items seat.row b.next holds.counts.below);
+        second = holds.counts.second;
+        numbered = omega (arith, holds.counts.numbered);
+        counted = omega (arith, holds.counts.counted);
+      }
+
+  pub exit-does : DoesAlways (OfProcess seat.pid verb.Exit) b (after b (laid_out b.halves b.halves.mem b.halves.top b.halves.low v))
+  exit-does = record {
+    holds = holds-passed (after b (laid_out b.halves b.halves.mem b.halves.top b.halves.low v)) (OfProcess seat.pid verb.Exit) holds.state exit-counts (exit-passes holds.state end [] holds.stands);
+    passes = exit-passes;
+    books = record { same_words = refl; one_call = omega arith; few_names = omega arith };
+  }
+
+-- `pop`, of an empty stack.
+pub pop-empty : (b : One) (holds : Holds b) (seat : Seat) → Sits b seat → (r : Reg) (p : Proc) → p ≡ get_or b.halves.procs.items seat.row p → p.depth ≡ 0
+    → DoesAtOnce {A = Unit {0}} (OfProcess seat.pid (verb.Pop r)) b b (Err refusal.Empty)
+pop-empty b holds seat x r p is none = record {
+  holds = holds;
+  follows = λ s terms names o.
+    let q : Process = get_or s.processes seat.row no_process in
+    let line : Parsed = said (OfProcess seat.pid (verb.Pop r)) terms names in
+    let h = row-stands o.processes.test s.shared b.halves.mem b.halves.low (end_of b.halves) b.named b.halves.procs.items s.processes seat.row p x.within is o.processes.processes in
+    let empty : q.stack ≡ [] = none-held o.processes.test s.shared b.halves.mem b.named p.stack p.depth q.stack none h.stack in
+    let P : Option Process → Type 0 = λ z. Follows {A = Unit {0}} (in_process z s line (verb.Pop r)) s (Err refusal.Empty) (OneStands b) in
+    let Q : List Tree → Type 0 = λ z. Follows {A = Unit {0}} (pop_from z s line q r.0) s (Err refusal.Empty) (OneStands b) in
+    subst P (sym (found-there b s o holds.counts seat x)) (subst Q (sym empty) (refl, o));
+  books = record { same_words = refl; one_call = omega arith; few_names = omega arith };
+}
+
+-- `pop`.
+module _ (b : One) (holds : Holds b) (seat : Seat) (x : Sits b seat) (r : Reg) (p : Proc) (is : p ≡ get_or b.halves.procs.items seat.row p) (some : p.depth ≡ 0 → ⊥) where
+  top-there : (s : State) (o : OneStands b s) → TopOf o.processes.test s.shared b.halves.mem b.halves.low (end_of b.halves) b.named p.stack p.depth ((get_or s.processes seat.row no_process).stack)
+  top-there s o = top-here o.processes.test s.shared b.halves.mem b.halves.low (end_of b.halves) b.named b.halves.procs.items s.processes seat.row p x.within is o.processes.processes some
+
+  pub pop-inside : p.stack + 2 ≤ end_of b.halves
+  pop-inside = (top-there holds.state holds.stands).within
+
+  module _ (w u d : ℕ) (value : w ≡ get_or b.halves.mem p.stack 0) (below : u ≡ get_or b.halves.mem (p.stack + 1) 0) (depth : d ≡ p.depth - 1) where
+    pop-follows : (s : State) (terms : Terms) (names : List (List ℕ)) → OneStands b s → Follows {A = Unit {0}} (step s (said (OfProcess seat.pid (verb.Pop r)) terms names)) s (Ok tt)
+        (OneStands (after b (laid_out b.halves b.halves.mem b.halves.top b.halves.low (with_item b.halves.procs seat.row (with_stack (with_word p r.0 w) u d)))))
+    unfolding top-there
+    pop-follows s terms names o =
+        let b2 : One = after b (laid_out b.halves b.halves.mem b.halves.top b.halves.low (with_item b.halves.procs seat.row (with_stack (with_word p r.0 w) u d))) in
+        let q : Process = get_or s.processes seat.row no_process in
+        let line : Parsed = said (OfProcess seat.pid (verb.Pop r)) terms names in
+        let q2 : Process = record (with_register r.0 (top-there s o).value q) { stack = (top-there s o).rest } in
+        let stands : HalvesStand b.named b2.halves s.shared (set s.processes seat.row q2) = record {
+          test = o.processes.test;
+          single = o.processes.single;
+          objects = o.processes.objects;
+          processes =
+            popped o.processes.test s.shared b.halves.mem b.halves.low (end_of b.halves) b.named b.halves.procs.items s.processes seat.row p x.within is o.processes.processes some r.0 w u d value below depth;
+        } in
+        let P : Option Process → Type 0 = λ z. Follows {A = Unit {0}} (in_process z s line (verb.Pop r)) s (Ok tt) (OneStands b2) in
+        let Q : List Tree → Type 0 = λ z. Follows {A = Unit {0}} (pop_from z s line q r.0) s (Ok tt) (OneStands b2) in
+        let R : List Process → Type 0 = λ z. HalvesStand b.named b2.halves s.shared z in
+        subst P (sym (found-there b s o holds.counts seat x)) (subst Q (sym (top-there s o).shape)
+        (settled-stands b b2 s line q2 o (subst R (sym (set-there b s o holds.counts seat x q2 (number-there b s o holds.counts seat x))) stands) refl refl))
+
+    pop-counts : IsCounted (after b (laid_out b.halves b.halves.mem b.halves.top b.halves.low (with_item b.halves.procs seat.row (with_stack (with_word p r.0 w) u d))))
+    pop-counts =
+        let fewer : depths (set b.halves.procs.items seat.row (with_stack (with_word p r.0 w) u d)) ≤ depths b.halves.procs.items =
+        omega (arith, depth, depths-row b.halves.procs.items seat.row (with_stack (with_word p r.0 w) u d) p x.within is) in
+        counts-same b (after b (laid_out b.halves b.halves.mem b.halves.top b.halves.low (with_item b.halves.procs seat.row (with_stack (with_word p r.0 w) u d)))) holds.counts
+        (record { even = holds.counts.laid.even; side = holds.counts.laid.side; front = holds.counts.laid.front; order = holds.counts.laid.order; places = omega (arith, holds.counts.laid.places, fewer) })
+        (numbers-row b.halves.procs.items seat.row (with_stack (with_word p r.0 w) u d) p x.within is refl) (length-set b.halves.procs.items seat.row (with_stack (with_word p r.0 w) u d)) refl refl refl (omega arith) refl
+
+    pub pop-does : DoesAtOnce {A = Unit {0}} (OfProcess seat.pid (verb.Pop r)) b (after b (laid_out b.halves b.halves.mem b.halves.top b.halves.low (with_item b.halves.procs seat.row (with_stack (with_word p r.0 w) u d)))) (Ok tt)
+    pop-does =
+        let b2 : One = after b (laid_out b.halves b.halves.mem b.halves.top b.halves.low (with_item b.halves.procs seat.row (with_stack (with_word p r.0 w) u d))) in
+        let f = follows-some (step holds.state (said (OfProcess seat.pid (verb.Pop r)) end [])) holds.state (Ok tt) (OneStands b2) (pop-follows holds.state end [] holds.stands) in
+        record {
+          holds = record { counts = pop-counts; state = f.0; stands = f.1 };
+          follows = pop-follows;
+          books = record { same_words = refl; one_call = omega arith; few_names = omega arith };
+        }

@@ -15,3 +15,4 @@ mod Turning
 mod Seated
 mod Sweeping
 mod Acting
+mod Growing

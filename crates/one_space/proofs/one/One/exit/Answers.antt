@@ -1,15 +1,5 @@
-use Rattle.std.proofs.Common.{rules, ◌≡◌, ℕ, ◌<◌, ◌≤◌, length, Err, IfOk, List, ◌+◌, ◌-◌, ◌*◌, ◌/◌, ◌%◌, Bool, true, false, nat_eq, nat_lt, [], ◌∷◌, ◌++◌, slice_index_or, slice_set, bit_and, bit_or, Fits, w8, w32, w64, Bor, MutBor}
-use Rattle.script_grammar.specs.declared.command.Command.TheVariants.{Process, System}
-use Rattle.script_grammar.specs.declared.command.Verb.TheVariants as verb
-use Rattle.script_grammar.specs.declared.command.SysVerb.TheVariants as sysverb
-use Rattle.script_grammar.specs.declared.refusal.Refusal.TheVariants.{Procs}
-use Rattle.script_grammar.specs.Names.{IsRegister}
-use Rattle.space_api.specs.Calls.{HasTerm, most_calls}
-use Rattle.item_build.specs.Forest.{words_of as item_words_of}
-use Rattle.one_space.specs.One.{Holds, Sits}
-use Rattle.one_space.specs.Doing.{Asks, Builds, Does, DoesAlways, DoesAtOnce, Sweeps}
+use Rattle.one_space.proofs.Acting.{exit-does}
 use Rattle.one_space.proofs.one.One.exit.Goals as goal
 
--- src/one.rt:65:5
 pub returns : goal.returns
-returns c = ?
+returns c = exit-does c.args.self.now c.requires.holds c.args.seat c.requires.sits c.remove.new.self c.remove.ensures.items c.remove.ensures.capacity

@@ -1,31 +1,35 @@
-use Rattle.std.proofs.Common.{rules, ◌≡◌, ℕ, ◌<◌, ◌≤◌, length, Err, IfOk, List, ◌+◌, ◌-◌, ◌*◌, ◌/◌, ◌%◌, Bool, true, false, nat_eq, nat_lt, [], ◌∷◌, ◌++◌, slice_index_or, slice_set, bit_and, bit_or, Fits, w8, w32, w64, Bor, MutBor}
-use Rattle.script_grammar.specs.declared.command.Command.TheVariants.{Process, System}
-use Rattle.script_grammar.specs.declared.command.Verb.TheVariants as verb
-use Rattle.script_grammar.specs.declared.command.SysVerb.TheVariants as sysverb
-use Rattle.script_grammar.specs.declared.refusal.Refusal.TheVariants.{Procs}
-use Rattle.script_grammar.specs.Names.{IsRegister}
-use Rattle.space_api.specs.Calls.{HasTerm, most_calls}
-use Rattle.item_build.specs.Forest.{words_of as item_words_of}
-use Rattle.one_space.specs.One.{Holds, Sits}
-use Rattle.one_space.specs.Doing.{Asks, Builds, Does, DoesAlways, DoesAtOnce, Sweeps}
+use Rattle.std.proofs.Common.{◌-◌, arith, refl}
+use Rattle.one_space.proofs.Acting.{half-within, pop-does, pop-empty, pop-inside}
 use Rattle.one_space.proofs.one.One.pop.Goals as goal
 
--- src/one.rt:157:13
 pub returns-then-process-eq0 : goal.returns-then-process-eq0
-returns-then-process-eq0 c = ?
+returns-then-process-eq0 c = pop-empty c.args.self.now c.requires.holds c.args.seat c.requires.sits c.args.r c.index.result.now c.index.ensures c.if-process-eq0.true
 
--- src/one.rt:161:38
 pub get-requires : goal.get-requires
-get-requires c = ?
+get-requires c =
+    omega (
+      arith,
+      half-within c.args.self.now.halves c.requires.holds.counts.laid,
+      pop-inside c.args.self.now c.requires.holds c.args.seat c.requires.sits c.args.r c.index.result.now c.index.ensures c.if-process-eq0.false,
+    )
 
--- src/one.rt:162:45
 pub overflow_add-place : goal.overflow_add-place
-overflow_add-place c = ?
+overflow_add-place c =
+    omega (
+      arith,
+      c.len-len.ensures.most,
+      half-within c.args.self.now.halves c.requires.holds.counts.laid,
+      pop-inside c.args.self.now c.requires.holds c.args.seat c.requires.sits c.args.r c.index.result.now c.index.ensures c.if-process-eq0.false,
+    )
 
--- src/one.rt:162:25
 pub get-requires-2 : goal.get-requires-2
-get-requires-2 c = ?
+get-requires-2 c =
+    omega (
+      arith,
+      half-within c.args.self.now.halves c.requires.holds.counts.laid,
+      pop-inside c.args.self.now c.requires.holds c.args.seat c.requires.sits c.args.r c.index.result.now c.index.ensures c.if-process-eq0.false,
+    )
 
--- src/one.rt:148:5
 pub returns : goal.returns
-returns c = ?
+returns c =
+    pop-does c.args.self.now c.requires.holds c.args.seat c.requires.sits c.args.r c.index.result.now c.index.ensures c.if-process-eq0.false c.get.result c.get-2.result (c.index.result.now.depth - 1) c.get.ensures c.get-2.ensures refl

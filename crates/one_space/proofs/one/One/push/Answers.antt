@@ -1,31 +1,22 @@
-use Rattle.std.proofs.Common.{rules, ◌≡◌, ℕ, ◌<◌, ◌≤◌, length, Err, IfOk, List, ◌+◌, ◌-◌, ◌*◌, ◌/◌, ◌%◌, Bool, true, false, nat_eq, nat_lt, [], ◌∷◌, ◌++◌, slice_index_or, slice_set, bit_and, bit_or, Fits, w8, w32, w64, Bor, MutBor}
-use Rattle.script_grammar.specs.declared.command.Command.TheVariants.{Process, System}
-use Rattle.script_grammar.specs.declared.command.Verb.TheVariants as verb
-use Rattle.script_grammar.specs.declared.command.SysVerb.TheVariants as sysverb
-use Rattle.script_grammar.specs.declared.refusal.Refusal.TheVariants.{Procs}
-use Rattle.script_grammar.specs.Names.{IsRegister}
-use Rattle.space_api.specs.Calls.{HasTerm, most_calls}
-use Rattle.item_build.specs.Forest.{words_of as item_words_of}
-use Rattle.one_space.specs.One.{Holds, Sits}
-use Rattle.one_space.specs.Doing.{Asks, Builds, Does, DoesAlways, DoesAtOnce, Sweeps}
+use Rattle.std.proofs.Common.{arith}
+use Rattle.one_space.proofs.Growing.{push-does, push-fits, push-refused, push-within}
 use Rattle.one_space.proofs.one.One.push.Goals as goal
 
--- src/one.rt:131:13
 pub returns-then-not-make_room-clause-does : goal.returns-then-not-make_room-clause-does
-returns-then-not-make_room-clause-does c = ?
+returns-then-not-make_room-clause-does c =
+    push-refused c.args.self.now c.requires.holds c.args.seat c.requires.sits c.args.s c.make_room.new.self c.make_room.result c.make_room.ensures ?
 
--- src/one.rt:134:23
 pub index-requires : goal.index-requires
-index-requires c = ?
+index-requires c =
+    push-within c.args.self.now c.requires.holds c.args.seat c.requires.sits c.args.s c.make_room.new.self c.make_room.result c.make_room.ensures
 
--- src/one.rt:140:20
 pub overflow_add-process : goal.overflow_add-process
 overflow_add-process c = ?
 
--- src/one.rt:138:9
 pub index_mut-requires : goal.index_mut-requires
-index_mut-requires c = ?
+index_mut-requires c =
+    push-within c.args.self.now c.requires.holds c.args.seat c.requires.sits c.args.s c.make_room.new.self c.make_room.result c.make_room.ensures
 
--- src/one.rt:121:5
 pub returns-clause-does : goal.returns-clause-does
-returns-clause-does c = ?
+returns-clause-does c =
+    push-does c.args.self.now c.requires.holds c.args.seat c.requires.sits c.args.s c.make_room.new.self c.make_room.result c.make_room.ensures ? c.index.result.now c.index.ensures c.requires.register c.set-2.new.self ?

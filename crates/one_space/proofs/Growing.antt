@@ -1,0 +1,238 @@
+-- What the calls that ask for words make of a space: there is room, or the line is tight.
+use Rattle.std.proofs.Common.{Vec, ◌≡◌, ℕ, zero, suc, ◌+◌, ◌-◌, ◌*◌, ◌/◌, ◌<◌, ◌≤◌, Bool, true, false, nat_le, List, [], ◌∷◌, ◌++◌, length, map, get_or, set, replicate, sum_by, Option, Some, Result, Ok, Err, refl, sym, ◌∙◌, ap, subst, arith, inl, inr}
+use Rattle.std.specs.Vec.{vec_len, vec_capacity, with_item}
+use Rattle.std.specs.declared.alloc.Global.{Global}
+use Rattle.std.proofs.lemmas.Bool.{leb-true}
+use Rattle.std.proofs.lemmas.Bool.Decides.{nat_tests}
+use Rattle.std.proofs.lemmas.List.{length-append, length-set}
+use Rattle.std.proofs.lemmas.List.Sums.{sum_by_push}
+use Rattle.plain_term.specs.Tree.{Tree}
+use Rattle.script_grammar.specs.declared.command.Command.{Command}
+use Rattle.script_grammar.specs.declared.command.Command.TheVariants.{Process as OfProcess, System}
+use Rattle.script_grammar.specs.declared.command.Reg.{Reg}
+use Rattle.script_grammar.specs.declared.command.Verb.{Verb}
+use Rattle.script_grammar.specs.declared.command.Verb.TheVariants as verb
+use Rattle.script_grammar.specs.declared.command.SysVerb.TheVariants as sysverb
+use Rattle.script_grammar.specs.declared.refusal.Refusal.{Refusal}
+use Rattle.script_grammar.specs.declared.refusal.Refusal.TheVariants as refusal
+use Rattle.script_grammar.specs.Written.{Terms}
+use Rattle.script_grammar.specs.Written.Terms.{end}
+use Rattle.script_grammar.specs.Names.{Parsed}
+use Rattle.plain_machine.specs.State.{Process, State, fresh_process, process_of, register}
+use Rattle.plain_machine.specs.Step.{in_process, settled, spawn_if, step}
+use Rattle.plain_machine.specs.Tightness.{demand, grow, process_words}
+use Rattle.plain_machine.specs.May.{gets_to_space, may_of_tight}
+use Rattle.space_api.specs.Calls.{AreRising, Becomes, Follows, said}
+use Rattle.space_api.specs.declared.space.Seat.{Seat}
+use Rattle.numbered_rows.specs.Numbers.{AreBelow, numbers}
+use Rattle.numbered_rows.proofs.Changing.{below-push, rising-push}
+use Rattle.one_space.specs.Halves.{HalvesStand, IsLaid, ProcsStand, depths, end_of, free_in}
+use Rattle.one_space.specs.Collecting.{LooksFor, MakesRoom}
+use Rattle.one_space.specs.One.{Holds, IsCounted, OneStands, Sits, number_in, words_of}
+use Rattle.one_space.specs.Doing.{Does}
+use Rattle.one_space.specs.declared.halves.Halves.{Halves}
+use Rattle.one_space.specs.declared.one.One.{One}
+use Rattle.one_space.specs.declared.table.Proc.{Proc}
+use Rattle.one_space.proofs.Acting.{after, counts-same, depths-row, half-within, laid_out, numbers-row}
+use Rattle.one_space.proofs.Changing.{fresh-stands, no_process, procs-push}
+use Rattle.one_space.proofs.Ended.{row-count}
+use Rattle.one_space.proofs.Rooms.{becomes-some, counts-roomed, no-space, roomed, sits-roomed, stands-roomed, stays-roomed}
+use Rattle.one_space.proofs.Seated.{count-there, found-there, number-there, set-there, settled-stands}
+use Rattle.one_space.proofs.Turning.{pushed, pushed-len, with_stack}
+
+-- A space that stands for something after a call.
+pub holds-become : {A : Type 0} (words : ℕ) (b : One) (s : State) (line : Parsed) (r : Result A Refusal) → IsCounted b → Becomes may_of_tight words s line r (OneStands b) → Holds b
+holds-become words b s line r counts f = let t = becomes-some words s line r (OneStands b) f in record { counts = counts; state = t.0; stands = t.1 }
+
+-- What a line asks for where its process lives.
+pub grow-at : (s : State) (pid : ℕ) (terms : Terms) (names : List (List ℕ)) (v : Verb) (q : Process) → process_of pid s ≡ Some q
+    → grow s (said (OfProcess pid v) terms names) ≡ process_words (Some q) s (said (OfProcess pid v) terms names) v
+grow-at s pid terms names v q e = ap (λ o. process_words o s (said (OfProcess pid v) terms names) v) e
+
+-- The half has so many free words.
+pub room-there : (n : ℕ) (old new : Halves) (r : Bool) → MakesRoom n old new r → r ≡ true → n ≤ free_in new
+room-there n old new r m yes = leb-true n (free_in new) (sym m.answer ∙ yes)
+
+module _ (b : One) (holds : Holds b) (n : ℕ) (h : Halves) (ok : Bool) (room : MakesRoom n b.halves h ok) where
+  pub counts-there : IsCounted (roomed b h)
+  counts-there = counts-roomed b h holds.counts (stays-roomed n b.halves h ok room) room.laid
+
+  pub roomed-there : (s : State) → OneStands b s → OneStands (roomed b h) s
+  roomed-there s o = stands-roomed b h s o (room.stands b.named s.shared s.processes o.processes)
+
+  pub sits-there : (seat : Seat) → Sits b seat → Sits (roomed b h) seat
+  sits-there seat x = sits-roomed b h seat (stays-roomed n b.halves h ok room) x
+
+  -- There is no space.
+  module _ (A : Type 0) (c : Command) (g : ℕ) (no : ok ≡ false) (some : 0 < g)
+      (asks : (s : State) (terms : Terms) (names : List (List ℕ)) → OneStands b s
+        → (grow s (said c terms names) ≡ g) × (LooksFor s g n × (gets_to_space c (step s (said c terms names)) ≡ true))) where
+    refused-becomes : (s : State) (terms : Terms) (names : List (List ℕ)) → OneStands b s → Becomes {A = A} may_of_tight (words_of b) s (said c terms names) (Err (refusal.NoSpace g)) (OneStands (roomed b h))
+    refused-becomes s terms names o =
+        let a = asks s terms names o in
+        no-space A (words_of b) (roomed b h) s (said c terms names) g (roomed-there s o) a.0 (room.tight b.named s g o.processes a.1.0 no) some a.1.1
+
+    pub refused-does : Does {A = A} c b (roomed b h) (Err (refusal.NoSpace g))
+    refused-does = record {
+      holds = holds-become {A = A} (words_of b) (roomed b h) holds.state (said c end []) (Err (refusal.NoSpace g)) counts-there (refused-becomes holds.state end [] holds.stands);
+      becomes = refused-becomes;
+      books = record { same_words = (stays-roomed n b.halves h ok room).same_len; one_call = omega arith; few_names = omega arith };
+    }
+
+-- The space after a process was made.
+abbrev pub spawned : One → Halves → One
+spawned b h = record { halves = h; row = b.row; next = b.next + 1; named = b.named; calls = b.calls + 1; swept = false }
+
+at-least : (m n : ℕ) → m ≤ n → nat_le m n ≡ true
+at-least m n h = grind (arith, nat_tests)
+
+not-least : (m n : ℕ) → n < m → nat_le m n ≡ false
+not-least m n h = grind (arith, nat_tests)
+
+-- `push`.
+module _ (b : One) (holds : Holds b) (seat : Seat) (x : Sits b seat) (r : Reg) (h : Halves) (ok : Bool) (room : MakesRoom 2 b.halves h ok) where
+  some-process : (s : State) → OneStands b s → 0 < length s.processes
+  some-process s o = omega (arith, count-there b s o holds.counts, x.within)
+
+  pub push-refused : ok ≡ false → Does {A = Unit {0}} (OfProcess seat.pid (verb.Push r)) b (roomed b h) (Err (refusal.NoSpace 2))
+  push-refused no = refused-does b holds 2 h ok room (Unit {0}) (OfProcess seat.pid (verb.Push r)) 2 no (omega arith) (λ s terms names o.
+    let P : Option Process → Type 0 = λ z. gets_to_space (OfProcess seat.pid (verb.Push r)) (in_process z s (said (OfProcess seat.pid (verb.Push r)) terms names) (verb.Push r)) ≡ true in (
+      grow-at s seat.pid terms names (verb.Push r) (get_or s.processes seat.row no_process) (found-there b s o holds.counts seat x),
+      (inl (omega arith, some-process s o), subst P (sym (found-there b s o holds.counts seat x)) refl),
+    ))
+
+  pub push-within : seat.row < vec_len h.procs
+  push-within = omega (arith, (sits-there b holds 2 h ok room seat x).within, h.procs.ok.0)
+
+  module _ (yes : ok ≡ true) (p : Proc) (is : p ≡ get_or h.procs.items seat.row p) (small : r.0 < 16) (mem2 : List ℕ) (written : mem2 ≡ set (set h.mem (h.low - 2) (get_or p.regs r.0 0)) (h.low - 2 + 1) p.stack) where
+    counts1 : IsCounted (roomed b h)
+    counts1 = counts-there b holds 2 h ok room
+
+    sits1 : Sits (roomed b h) seat
+    sits1 = sits-there b holds 2 h ok room seat x
+
+    fits : h.top + 2 ≤ h.low
+    fits = omega (arith, room-there 2 b.halves h ok room yes, room.laid.order)
+
+    order : h.low ≤ end_of h
+    order = omega (arith, room.laid.places)
+
+    -- A stack has no more places than words.
+    pub push-fits : p.depth ≤ length h.mem
+    push-fits = omega (arith, sum_by_one_le seat.row, room.laid.places, half-within h room.laid)
+      where
+        sum_by_one_le : ℕ → p.depth ≤ depths h.procs.items
+        sum_by_one_le i = omega (arith, depths-row h.procs.items seat.row (with_stack p p.stack 0) p sits1.within is)
+
+    push-becomes : (s : State) (terms : Terms) (names : List (List ℕ)) → OneStands b s → Becomes {A = Unit {0}} may_of_tight (words_of b) s (said (OfProcess seat.pid (verb.Push r)) terms names) (Ok tt)
+        (OneStands (after b (laid_out h mem2 h.top (h.low - 2) (with_item h.procs seat.row (with_stack p (h.low - 2) (p.depth + 1))))))
+    push-becomes s terms names o =
+        let b2 : One = after b (laid_out h mem2 h.top (h.low - 2) (with_item h.procs seat.row (with_stack p (h.low - 2) (p.depth + 1)))) in
+        let o1 : OneStands (roomed b h) s = roomed-there b holds 2 h ok room s o in
+        let q : Process = get_or s.processes seat.row no_process in
+        let q2 : Process = record q { stack = register r.0 q ∷ q.stack } in
+        let line : Parsed = said (OfProcess seat.pid (verb.Push r)) terms names in
+        let roles : (a k : ℕ) → o1.processes.test a k ≡ true → a < h.top = λ a k e. (o1.processes.objects a k e).1.0 in
+        let rows = pushed o1.processes.test s.shared h.mem h.top h.low (end_of h) b.named h.procs.items s.processes seat.row r.0 p sits1.within is small o1.processes.processes roles fits (half-within h room.laid) order mem2 written in
+        let len : length mem2 ≡ length h.mem = pushed-len o1.processes.test s.shared h.mem h.top h.low (end_of h) b.named h.procs.items s.processes seat.row r.0 p sits1.within is small o1.processes.processes roles fits (half-within h room.laid) order mem2 written in
+        let limit : end_of h ≡ h.base + length mem2 / 2 = omega (arith, len) in
+        let P : ℕ → Type 0 = λ z. ProcsStand o1.processes.test s.shared mem2 (h.low - 2) z b.named (set h.procs.items seat.row (with_stack p (h.low - 2) (p.depth + 1))) (set s.processes seat.row q2) in
+        let stands : HalvesStand b.named b2.halves s.shared (set s.processes seat.row q2) = record { test = o1.processes.test; single = o1.processes.single; objects = o1.processes.objects; processes = subst P limit rows } in
+        let Q : Option Process → Type 0 = λ z. Follows {A = Unit {0}} (in_process z s line (verb.Push r)) s (Ok tt) (OneStands b2) in
+        let R : List Process → Type 0 = λ z. HalvesStand b.named b2.halves s.shared z in
+        inl (subst Q (sym (found-there (roomed b h) s o1 counts1 seat sits1))
+        (settled-stands (roomed b h) b2 s line q2 o1 (subst R (sym (set-there (roomed b h) s o1 counts1 seat sits1 q2 (number-there (roomed b h) s o1 counts1 seat sits1))) stands) refl refl))
+
+    push-counts : IsCounted (after b (laid_out h mem2 h.top (h.low - 2) (with_item h.procs seat.row (with_stack p (h.low - 2) (p.depth + 1)))))
+    push-counts =
+        let b2 : One = after b (laid_out h mem2 h.top (h.low - 2) (with_item h.procs seat.row (with_stack p (h.low - 2) (p.depth + 1)))) in
+        let more : depths (set h.procs.items seat.row (with_stack p (h.low - 2) (p.depth + 1))) ≡ depths h.procs.items + 1 = omega (arith, depths-row h.procs.items seat.row (with_stack p (h.low - 2) (p.depth + 1)) p sits1.within is) in
+        let len : length mem2 ≡ length h.mem =
+        ap length written ∙ length-set (set h.mem (h.low - 2) (get_or p.regs r.0 0)) (h.low - 2 + 1) p.stack ∙ length-set h.mem (h.low - 2) (get_or p.regs r.0 0) in
+        counts-same (roomed b h) b2 counts1
+        (record {
+          even = omega (arith, len, room.laid.even);
+          side = elim room.laid.side [ inl e ↦ inl e | inr e ↦ inr (omega (arith, e, len)) ];
+          front = room.laid.front;
+          order = omega (arith, fits);
+          places = omega (arith, room.laid.places, more, len, fits);
+        })
+        (numbers-row h.procs.items seat.row (with_stack p (h.low - 2) (p.depth + 1)) p sits1.within is refl) (length-set h.procs.items seat.row (with_stack p (h.low - 2) (p.depth + 1))) refl refl refl (omega arith) refl
+
+    pub push-does : Does {A = Unit {0}} (OfProcess seat.pid (verb.Push r)) b (after b (laid_out h mem2 h.top (h.low - 2) (with_item h.procs seat.row (with_stack p (h.low - 2) (p.depth + 1))))) (Ok tt)
+    push-does =
+        let b2 : One = after b (laid_out h mem2 h.top (h.low - 2) (with_item h.procs seat.row (with_stack p (h.low - 2) (p.depth + 1)))) in
+        let len : length mem2 ≡ length h.mem =
+        ap length written ∙ length-set (set h.mem (h.low - 2) (get_or p.regs r.0 0)) (h.low - 2 + 1) p.stack ∙ length-set h.mem (h.low - 2) (get_or p.regs r.0 0) in
+        record {
+          holds = holds-become {A = Unit {0}} (words_of b) b2 holds.state (said (OfProcess seat.pid (verb.Push r)) end []) (Ok tt) push-counts (push-becomes holds.state end [] holds.stands);
+          becomes = push-becomes;
+          books = record { same_words = len ∙ (stays-roomed 2 b.halves h ok room).same_len; one_call = omega arith; few_names = omega arith };
+        }
+
+-- `spawn`.
+module _ (b : One) (holds : Holds b) where
+  pub spawn-refused : 1024 ≤ length b.halves.procs.items → Does {A = ℕ} (System sysverb.Spawn) b b (Err refusal.Procs)
+  spawn-refused many = record {
+    holds = holds;
+    becomes = λ s terms names o.
+      let full : nat_le 1024 (length s.processes) ≡ true = at-least 1024 (length s.processes) (omega (arith, many, count-there b s o holds.counts)) in
+      let P : Bool → Type 0 = λ z. Follows {A = ℕ} (spawn_if z s (said (System sysverb.Spawn) terms names)) s (Err refusal.Procs) (OneStands b) in
+      inl (subst P (sym full) (refl, o));
+    books = record { same_words = refl; one_call = omega arith; few_names = omega arith };
+  }
+
+  module _ (few : length b.halves.procs.items < 1024) (h : Halves) (ok : Bool) (room : MakesRoom 14 b.halves h ok) where
+    not-full : (s : State) → OneStands b s → nat_le 1024 (length s.processes) ≡ false
+    not-full s o = not-least 1024 (length s.processes) (omega (arith, few, count-there b s o holds.counts))
+
+    pub spawn-tight : ok ≡ false → Does {A = ℕ} (System sysverb.Spawn) b (roomed b h) (Err (refusal.NoSpace 16))
+    spawn-tight no = refused-does b holds 14 h ok room ℕ (System sysverb.Spawn) 16 no (omega arith) (λ s terms names o.
+      let P : Bool → Type 0 = λ z. gets_to_space (System sysverb.Spawn) (spawn_if z s (said (System sysverb.Spawn) terms names)) ≡ true in
+      (refl, (inr (omega arith), subst P (sym (not-full s o)) refl)))
+
+    module _ (v : Vec Proc Global) (p : Proc) (items : v.items ≡ h.procs.items ++ p ∷ []) (capacity : vec_capacity v ≡ vec_capacity h.procs) (number : p.number ≡ b.next) (regs : p.regs ≡ replicate 16 59) (depth : p.depth ≡ 0) where
+      counts2 : IsCounted (roomed b h)
+      counts2 = counts-there b holds 14 h ok room
+
+      spawn-becomes : (s : State) (terms : Terms) (names : List (List ℕ)) → OneStands b s → Becomes {A = ℕ} may_of_tight (words_of b) s (said (System sysverb.Spawn) terms names) (Ok b.next)
+          (OneStands (spawned b (laid_out h h.mem h.top h.low v)))
+      spawn-becomes s terms names o =
+          let b2 : One = spawned b (laid_out h h.mem h.top h.low v) in
+          let o1 : OneStands (roomed b h) s = roomed-there b holds 14 h ok room s o in
+          let new = fresh-stands o1.processes.test s.shared h.mem b.named h.low (end_of h) p s.next (number ∙ sym o.next) regs depth in
+          let P : List Proc → Type 0 = λ z. ProcsStand o1.processes.test s.shared h.mem h.low (end_of h) b.named z (s.processes ++ fresh_process s.next ∷ []) in
+          let stands : HalvesStand b.named b2.halves s.shared (s.processes ++ fresh_process s.next ∷ []) = record {
+            test = o1.processes.test;
+            single = o1.processes.single;
+            objects = o1.processes.objects;
+            processes = subst P (sym items) (procs-push o1.processes.test s.shared h.mem b.named h.low (end_of h) h.procs.items s.processes p (fresh_process s.next) o1.processes.processes new);
+          } in
+          let Q : Bool → Type 0 = λ z. Follows {A = ℕ} (spawn_if z s (said (System sysverb.Spawn) terms names)) s (Ok b.next) (OneStands b2) in
+          inl (subst Q (sym (not-full s o)) (record { processes = stands; next = ap (λ z. z + 1) o.next; swept = refl; shared = o.shared; areas = o.areas }))
+
+      spawn-counts : IsCounted (spawned b (laid_out h h.mem h.top h.low v))
+      spawn-counts =
+          let P : List Proc → Type 0 = λ z. AreRising 0 (numbers number_in z) in
+          let Q : List Proc → Type 0 = λ z. AreBelow (b.next + 1) (numbers number_in z) in
+          let R : ℕ → Type 0 = λ z. AreBelow z (numbers number_in h.procs.items) in
+          let one : length v.items ≡ length h.procs.items + 1 = ap length items ∙ length-append h.procs.items (p ∷ []) in
+          let same : depths v.items ≡ depths h.procs.items = omega (arith, ap depths items, sum_by_push (λ r. r.depth) h.procs.items p, depth) in
+          record {
+            laid = record { even = room.laid.even; side = room.laid.side; front = room.laid.front; order = room.laid.order; places = omega (arith, room.laid.places, same) };
+            enough = counts2.enough;
+            places = omega (arith, counts2.places, capacity);
+            few = omega (arith, one, few, row-count b.halves.procs.items h.procs.items (stays-roomed 14 b.halves h ok room).rows);
+            rising = subst P (sym items) (rising-push number_in h.procs.items p 0 counts2.rising (subst R (sym number) counts2.below) (omega (arith, number, counts2.second)));
+            below = subst Q (sym items) (below-push number_in h.procs.items p b.next (b.next + 1) counts2.below (omega arith) (omega (arith, number)));
+            second = omega (arith, counts2.second);
+            numbered = omega (arith, holds.counts.numbered);
+            counted = counts2.counted;
+          }
+
+      pub spawn-does : Does {A = ℕ} (System sysverb.Spawn) b (spawned b (laid_out h h.mem h.top h.low v)) (Ok b.next)
+      spawn-does = record {
+        holds = holds-become {A = ℕ} (words_of b) (spawned b (laid_out h h.mem h.top h.low v)) holds.state (said (System sysverb.Spawn) end []) (Ok b.next) spawn-counts (spawn-becomes holds.state end [] holds.stands);
+        becomes = spawn-becomes;
+        books = record { same_words = (stays-roomed 14 b.halves h ok room).same_len; one_call = omega arith; few_names = omega arith };
+      }
