@@ -51,7 +51,7 @@ grow-at s pid terms names v q e = ap (λ o. process_words o s (said (OfProcess p
 
 -- The half has so many free words.
 pub room-there : (n : ℕ) (old new : Halves) (r : Bool) → MakesRoom n old new r → r ≡ true → n ≤ free_in new
-room-there n old new r m yes = leb-true n (free_in new) (sym m.answer ∙ yes)
+room-there n old new r m given = leb-true n (free_in new) (sym m.answer ∙ given)
 
 module _ (b : One) (holds : Holds b) (n : ℕ) (h : Halves) (ok : Bool) (room : MakesRoom n b.halves h ok) where
   pub counts-there : IsCounted (roomed b h)
@@ -64,13 +64,13 @@ module _ (b : One) (holds : Holds b) (n : ℕ) (h : Halves) (ok : Bool) (room : 
   sits-there seat x = sits-roomed b h seat (stays-roomed n b.halves h ok room) x
 
   -- There is no space.
-  module _ (A : Type 0) (c : Command) (g : ℕ) (no : ok ≡ false) (some : 0 < g)
+  module _ (A : Type 0) (c : Command) (g : ℕ) (lacking : ok ≡ false) (some : 0 < g)
       (asks : (s : State) (terms : Terms) (names : List (List ℕ)) → OneStands b s
         → (grow s (said c terms names) ≡ g) × (LooksFor s g n × (gets_to_space c (step s (said c terms names)) ≡ true))) where
     refused-becomes : (s : State) (terms : Terms) (names : List (List ℕ)) → OneStands b s → Becomes {A = A} may_of_tight (words_of b) s (said c terms names) (Err (refusal.NoSpace g)) (OneStands (roomed b h))
     refused-becomes s terms names o =
         let a = asks s terms names o in
-        no-space A (words_of b) (roomed b h) s (said c terms names) g (roomed-there s o) a.0 (room.tight b.named s g o.processes a.1.0 no) some a.1.1
+        no-space A (words_of b) (roomed b h) s (said c terms names) g (roomed-there s o) a.0 (room.tight b.named s g o.processes a.1.0 lacking) some a.1.1
 
     pub refused-does : Does {A = A} c b (roomed b h) (Err (refusal.NoSpace g))
     refused-does = record {
@@ -95,7 +95,7 @@ module _ (b : One) (holds : Holds b) (seat : Seat) (x : Sits b seat) (r : Reg) (
   some-process s o = omega (arith, count-there b s o holds.counts, x.within)
 
   pub push-refused : ok ≡ false → Does {A = Unit {0}} (OfProcess seat.pid (verb.Push r)) b (roomed b h) (Err (refusal.NoSpace 2))
-  push-refused no = refused-does b holds 2 h ok room (Unit {0}) (OfProcess seat.pid (verb.Push r)) 2 no (omega arith) (λ s terms names o.
+  push-refused lacking = refused-does b holds 2 h ok room (Unit {0}) (OfProcess seat.pid (verb.Push r)) 2 lacking (omega arith) (λ s terms names o.
     let P : Option Process → Type 0 = λ z. gets_to_space (OfProcess seat.pid (verb.Push r)) (in_process z s (said (OfProcess seat.pid (verb.Push r)) terms names) (verb.Push r)) ≡ true in (
       grow-at s seat.pid terms names (verb.Push r) (get_or s.processes seat.row no_process) (found-there b s o holds.counts seat x),
       (inl (omega arith, some-process s o), subst P (sym (found-there b s o holds.counts seat x)) refl),
@@ -104,7 +104,13 @@ module _ (b : One) (holds : Holds b) (seat : Seat) (x : Sits b seat) (r : Reg) (
   pub push-within : seat.row < vec_len h.procs
   push-within = omega (arith, (sits-there b holds 2 h ok room seat x).within, h.procs.ok.0)
 
-  module _ (yes : ok ≡ true) (p : Proc) (is : p ≡ get_or h.procs.items seat.row p) (small : r.0 < 16) (mem2 : List ℕ) (written : mem2 ≡ set (set h.mem (h.low - 2) (get_or p.regs r.0 0)) (h.low - 2 + 1) p.stack) where
+  -- A stack has no more places than words.
+  pub push-fits : (p : Proc) → p ≡ get_or h.procs.items seat.row p → p.depth ≤ length h.mem
+  push-fits p is =
+      let one : p.depth ≤ depths h.procs.items = omega (arith, depths-row h.procs.items seat.row (with_stack p p.stack 0) p (sits-there b holds 2 h ok room seat x).within is) in
+      omega (arith, one, room.laid.places, half-within h room.laid)
+
+  module _ (given : ok ≡ true) (p : Proc) (is : p ≡ get_or h.procs.items seat.row p) (small : r.0 < 16) (mem2 : List ℕ) (written : mem2 ≡ set (set h.mem (h.low - 2) (get_or p.regs r.0 0)) (h.low - 2 + 1) p.stack) where
     counts1 : IsCounted (roomed b h)
     counts1 = counts-there b holds 2 h ok room
 
@@ -112,17 +118,10 @@ module _ (b : One) (holds : Holds b) (seat : Seat) (x : Sits b seat) (r : Reg) (
     sits1 = sits-there b holds 2 h ok room seat x
 
     fits : h.top + 2 ≤ h.low
-    fits = omega (arith, room-there 2 b.halves h ok room yes, room.laid.order)
+    fits = omega (arith, room-there 2 b.halves h ok room given, room.laid.order)
 
     order : h.low ≤ end_of h
     order = omega (arith, room.laid.places)
-
-    -- A stack has no more places than words.
-    pub push-fits : p.depth ≤ length h.mem
-    push-fits = omega (arith, sum_by_one_le seat.row, room.laid.places, half-within h room.laid)
-      where
-        sum_by_one_le : ℕ → p.depth ≤ depths h.procs.items
-        sum_by_one_le i = omega (arith, depths-row h.procs.items seat.row (with_stack p p.stack 0) p sits1.within is)
 
     push-becomes : (s : State) (terms : Terms) (names : List (List ℕ)) → OneStands b s → Becomes {A = Unit {0}} may_of_tight (words_of b) s (said (OfProcess seat.pid (verb.Push r)) terms names) (Ok tt)
         (OneStands (after b (laid_out h mem2 h.top (h.low - 2) (with_item h.procs seat.row (with_stack p (h.low - 2) (p.depth + 1))))))
@@ -186,8 +185,18 @@ module _ (b : One) (holds : Holds b) where
     not-full : (s : State) → OneStands b s → nat_le 1024 (length s.processes) ≡ false
     not-full s o = not-least 1024 (length s.processes) (omega (arith, few, count-there b s o holds.counts))
 
+    pub room-for-one : vec_len h.procs < vec_capacity h.procs
+    room-for-one = omega (
+      arith,
+      few,
+      h.procs.ok.0,
+      holds.counts.places,
+      (stays-roomed 14 b.halves h ok room).capacity,
+      row-count b.halves.procs.items h.procs.items (stays-roomed 14 b.halves h ok room).rows,
+    )
+
     pub spawn-tight : ok ≡ false → Does {A = ℕ} (System sysverb.Spawn) b (roomed b h) (Err (refusal.NoSpace 16))
-    spawn-tight no = refused-does b holds 14 h ok room ℕ (System sysverb.Spawn) 16 no (omega arith) (λ s terms names o.
+    spawn-tight lacking = refused-does b holds 14 h ok room ℕ (System sysverb.Spawn) 16 lacking (omega arith) (λ s terms names o.
       let P : Bool → Type 0 = λ z. gets_to_space (System sysverb.Spawn) (spawn_if z s (said (System sysverb.Spawn) terms names)) ≡ true in
       (refl, (inr (omega arith), subst P (sym (not-full s o)) refl)))
 

@@ -130,6 +130,7 @@ impl One {
         if !self.halves.make_room(PLACE_COST) {
             return Err(Refusal::NoSpace(PLACE_COST));
         }
+        let _len = self.halves.mem.len();
         let place = self.halves.low - PLACE_WORDS;
         let process = self.halves.procs[seat.row];
         self.halves.mem.set(place, process.regs[s.0 as usize]);

@@ -1,17 +1,23 @@
-use Rattle.std.proofs.Common.{arith}
+use Rattle.std.proofs.Common.{◌+◌, ◌-◌, set, ◌∙◌, ap, arith}
 use Rattle.one_space.proofs.Growing.{push-does, push-fits, push-refused, push-within}
 use Rattle.one_space.proofs.one.One.push.Goals as goal
 
 pub returns-then-not-make_room-clause-does : goal.returns-then-not-make_room-clause-does
 returns-then-not-make_room-clause-does c =
-    push-refused c.args.self.now c.requires.holds c.args.seat c.requires.sits c.args.s c.make_room.new.self c.make_room.result c.make_room.ensures ?
+    push-refused c.args.self.now c.requires.holds c.args.seat c.requires.sits c.args.s c.make_room.new.self c.make_room.result c.make_room.ensures c.if-not-make_room.true
 
 pub index-requires : goal.index-requires
 index-requires c =
     push-within c.args.self.now c.requires.holds c.args.seat c.requires.sits c.args.s c.make_room.new.self c.make_room.result c.make_room.ensures
 
 pub overflow_add-process : goal.overflow_add-process
-overflow_add-process c = ?
+overflow_add-process c =
+    omega (
+      arith,
+      c.len-len.ensures.most,
+      push-fits c.args.self.now c.requires.holds c.args.seat c.requires.sits c.args.s c.make_room.new.self c.make_room.result c.make_room.ensures
+      c.index.result.now c.index.ensures,
+    )
 
 pub index_mut-requires : goal.index_mut-requires
 index_mut-requires c =
@@ -19,4 +25,6 @@ index_mut-requires c =
 
 pub returns-clause-does : goal.returns-clause-does
 returns-clause-does c =
-    push-does c.args.self.now c.requires.holds c.args.seat c.requires.sits c.args.s c.make_room.new.self c.make_room.result c.make_room.ensures ? c.index.result.now c.index.ensures c.requires.register c.set-2.new.self ?
+    push-does c.args.self.now c.requires.holds c.args.seat c.requires.sits c.args.s c.make_room.new.self c.make_room.result c.make_room.ensures
+    c.if-not-make_room.false c.index.result.now c.index.ensures c.requires.register c.set-2.new.self
+    (c.set-2.ensures ∙ ap (λ z. set z (c.make_room.new.self.low - 2 + 1) c.index.result.now.stack) c.set.ensures)

@@ -1,16 +1,23 @@
 use Rattle.std.proofs.Common.{arith}
-use Rattle.one_space.proofs.Growing.{spawn-does, spawn-refused, spawn-tight}
+use Rattle.one_space.proofs.Growing.{room-for-one, spawn-does, spawn-refused, spawn-tight}
 use Rattle.one_space.proofs.one.One.spawn.Goals as goal
 
 pub returns-then-len-ge-MOST_PROCESSES-clause-does : goal.returns-then-len-ge-MOST_PROCESSES-clause-does
-returns-then-len-ge-MOST_PROCESSES-clause-does c = spawn-refused c.args.self.now c.requires.holds ?
+returns-then-len-ge-MOST_PROCESSES-clause-does c =
+    spawn-refused c.args.self.now c.requires.holds (omega (arith, c.len.ensures, c.args.self.now.halves.procs.ok.0, c.if-len-ge-MOST_PROCESSES.true))
 
 pub returns-then-not-make_room-clause-does : goal.returns-then-not-make_room-clause-does
-returns-then-not-make_room-clause-does c = spawn-tight c.args.self.now c.requires.holds ? c.make_room.new.self c.make_room.result c.make_room.ensures ?
+returns-then-not-make_room-clause-does c =
+    spawn-tight c.args.self.now c.requires.holds (omega (arith, c.len.ensures, c.args.self.now.halves.procs.ok.0, c.if-len-ge-MOST_PROCESSES.false))
+    c.make_room.new.self c.make_room.result c.make_room.ensures c.if-not-make_room.true
 
 pub push_reserved-requires : goal.push_reserved-requires
-push_reserved-requires c = ?
+push_reserved-requires c =
+    room-for-one c.args.self.now c.requires.holds (omega (arith, c.len.ensures, c.args.self.now.halves.procs.ok.0, c.if-len-ge-MOST_PROCESSES.false))
+    c.make_room.new.self c.make_room.result c.make_room.ensures
 
 pub returns-clause-does : goal.returns-clause-does
 returns-clause-does c =
-    spawn-does c.args.self.now c.requires.holds ? c.make_room.new.self c.make_room.result c.make_room.ensures c.push_reserved.new.self c.fresh.result c.push_reserved.ensures.items c.push_reserved.ensures.capacity c.fresh.ensures.number c.fresh.ensures.regs c.fresh.ensures.depth
+    spawn-does c.args.self.now c.requires.holds (omega (arith, c.len.ensures, c.args.self.now.halves.procs.ok.0, c.if-len-ge-MOST_PROCESSES.false))
+    c.make_room.new.self c.make_room.result c.make_room.ensures c.push_reserved.new.self c.fresh.result c.push_reserved.ensures.items c.push_reserved.ensures.capacity c.fresh.ensures.number
+    c.fresh.ensures.regs c.fresh.ensures.depth
