@@ -16,7 +16,7 @@ use Rattle.plain_machine.specs.Made.{tree_of, trees_of, list_tree}
 use Rattle.plain_machine.specs.Tightness.{build_words, build_words_of_all}
 use Rattle.space_api.specs.Calls.{IsNamedBelow}
 use Rattle.item_build.specs.Forest.{Forest, words_of}
-use Rattle.item_build.specs.Modest.{IsTail, IsPlain, ArePlain}
+use Rattle.item_build.specs.Modest.{IsModest, IsTail, IsPlain, ArePlain}
 
 -- A fact of each of a row, one after the other.
 abbrev pub Each : {X : Type 0} → (X → Type 0) → List X → Type 0
@@ -179,3 +179,21 @@ module _ (names : List (List ℕ)) (held : List Tree) (n : ℕ) where
     pub words-all : (ts : Terms) → AreBuiltTerms ts → words_of (all_items names ts) ≡ build_words_of_all ts
     words-all end b = refl
     words-all (t ▹ ts) b = omega (arith, words-term t b.0, words-all ts b.1, words-append (items_of names t) (all_items names ts))
+
+-- More names allow more.
+mutual
+  plain-more : (n m : ℕ) (t : Tree) → n ≤ m → IsPlain n t → IsPlain m t
+  plain-more n m (tree.Int i) more p = p
+  plain-more n m (tree.Atom k) more p = omega (arith, more, p)
+  plain-more n m (tree.Pid k) more p = tt
+  plain-more n m tree.Nil more p = tt
+  plain-more n m (tree.Cons h t) more p = (plain-more n m h more p.0, p.1, plain-more n m t more p.2)
+  plain-more n m (tree.Tuple ts) more p = plain-all-more n m ts more p
+  plain-more n m _ more p = absurd p
+
+  plain-all-more : (n m : ℕ) (ts : Trees) → n ≤ m → ArePlain n ts → ArePlain m ts
+  plain-all-more n m trees.end more p = tt
+  plain-all-more n m (trees.◌▹◌ t ts) more p = (plain-more n m t more p.0, plain-all-more n m ts more p.1)
+
+pub modest-more : (n m level : ℕ) (t : Tree) → n ≤ m → IsModest n level t → IsModest m level t
+modest-more n m level t more h = record { plain = plain-more n m t more h.plain; deep = h.deep; few = h.few }

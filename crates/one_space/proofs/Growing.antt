@@ -89,16 +89,17 @@ at-least m n h = grind (arith, nat_tests)
 not-least : (m n : ℕ) → n < m → nat_le m n ≡ false
 not-least m n h = grind (arith, nat_tests)
 
+-- A process lives where one has a seat.
+pub some-process : (b : One) → Holds b → (seat : Seat) → Sits b seat → (s : State) → OneStands b s → 0 < length s.processes
+some-process b holds seat x s o = omega (arith, count-there b s o holds.counts, x.within)
+
 -- `push`.
 module _ (b : One) (holds : Holds b) (seat : Seat) (x : Sits b seat) (r : Reg) (h : Halves) (ok : Bool) (room : MakesRoom 2 b.halves h ok) where
-  some-process : (s : State) → OneStands b s → 0 < length s.processes
-  some-process s o = omega (arith, count-there b s o holds.counts, x.within)
-
   pub push-refused : ok ≡ false → Does {A = Unit {0}} (OfProcess seat.pid (verb.Push r)) b (roomed b h) (Err (refusal.NoSpace 2))
   push-refused lacking = refused-does b holds 2 h ok room (Unit {0}) (OfProcess seat.pid (verb.Push r)) 2 lacking (omega arith) (λ s terms names o.
     let P : Option Process → Type 0 = λ z. gets_to_space (OfProcess seat.pid (verb.Push r)) (in_process z s (said (OfProcess seat.pid (verb.Push r)) terms names) (verb.Push r)) ≡ true in (
       grow-at s seat.pid terms names (verb.Push r) (get_or s.processes seat.row no_process) (found-there b s o holds.counts seat x),
-      (inl (omega arith, some-process s o), subst P (sym (found-there b s o holds.counts seat x)) refl),
+      (inl (omega arith, some-process b holds seat x s o), subst P (sym (found-there b s o holds.counts seat x)) refl),
     ))
 
   pub push-within : seat.row < vec_len h.procs

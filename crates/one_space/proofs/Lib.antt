@@ -16,3 +16,4 @@ mod Seated
 mod Sweeping
 mod Acting
 mod Growing
+mod Setting

@@ -1,35 +1,39 @@
-use Rattle.std.proofs.Common.{rules, ◌≡◌, ℕ, ◌<◌, ◌≤◌, length, Err, IfOk, List, ◌+◌, ◌-◌, ◌*◌, ◌/◌, ◌%◌, Bool, true, false, nat_eq, nat_lt, [], ◌∷◌, ◌++◌, slice_index_or, slice_set, bit_and, bit_or, Fits, w8, w32, w64, Bor, MutBor}
-use Rattle.script_grammar.specs.declared.command.Command.TheVariants.{Process, System}
-use Rattle.script_grammar.specs.declared.command.Verb.TheVariants as verb
-use Rattle.script_grammar.specs.declared.command.SysVerb.TheVariants as sysverb
-use Rattle.script_grammar.specs.declared.refusal.Refusal.TheVariants.{Procs}
-use Rattle.script_grammar.specs.Names.{IsRegister}
-use Rattle.space_api.specs.Calls.{HasTerm, most_calls}
-use Rattle.item_build.specs.Forest.{words_of as item_words_of}
-use Rattle.one_space.specs.One.{Holds, Sits}
-use Rattle.one_space.specs.Doing.{Asks, Builds, Does, DoesAlways, DoesAtOnce, Sweeps}
+use Rattle.std.proofs.Common.{refl}
+use Rattle.std.specs.Vec.{with_items}
+use Rattle.item_build.proofs.Written.{is-written}
+use Rattle.one_space.proofs.Setting.{asks-done, needed-words, set-does, set-fits, set-refused, set-within}
 use Rattle.one_space.proofs.one.One.build.Goals as goal
 
--- src/one.rt:91:13
 pub returns-then-not-make_room-clause-builds : goal.returns-then-not-make_room-clause-builds
-returns-then-not-make_room-clause-builds c = ?
+returns-then-not-make_room-clause-builds c =
+    set-refused c.args.self.now c.requires.holds c.args.seat c.requires.sits c.args.r c.args.names.now c.args.code.now c.requires.term c.count-named.ensures.names.few c.words_needed-grow.result
+    (needed-words c.args.names.now c.args.code.now c.requires.term c.words_needed-grow.result c.count-named.ensures.names.few c.words_needed-grow.ensures)
+    c.make_room.new.self c.make_room.result c.make_room.ensures c.requires.named c.if-not-make_room.true
 
--- src/one.rt:98:13
 pub build-w-requires-clause-term : goal.build-w-requires-clause-term
-build-w-requires-clause-term c = ?
+build-w-requires-clause-term c = is-written c.args.names.now c.args.code.now c.requires.term.term c.requires.term.is c.requires.term.named c.count-named.ensures.names.few
 
--- src/one.rt:98:13
 pub build-w-requires-clause-words : goal.build-w-requires-clause-words
-build-w-requires-clause-words c = ?
+build-w-requires-clause-words c =
+    set-fits c.args.self.now c.requires.holds c.args.seat c.requires.sits c.args.r c.args.names.now c.args.code.now c.requires.term c.count-named.ensures.names.few c.words_needed-grow.result
+    (needed-words c.args.names.now c.args.code.now c.requires.term c.words_needed-grow.result c.count-named.ensures.names.few c.words_needed-grow.ensures)
+    c.make_room.new.self c.make_room.result c.make_room.ensures c.requires.named c.if-not-make_room.false
 
--- src/one.rt:100:9
 pub index_mut-requires : goal.index_mut-requires
-index_mut-requires c = ?
+index_mut-requires c =
+    set-within c.args.self.now c.requires.holds c.args.seat c.requires.sits c.args.r c.args.names.now c.args.code.now c.requires.term c.count-named.ensures.names.few c.words_needed-grow.result
+    (needed-words c.args.names.now c.args.code.now c.requires.term c.words_needed-grow.result c.count-named.ensures.names.few c.words_needed-grow.ensures)
+    c.make_room.new.self c.make_room.result c.make_room.ensures c.requires.named
 
--- src/one.rt:77:5
 pub returns-clause-builds : goal.returns-clause-builds
-returns-clause-builds c = ?
+returns-clause-builds c =
+    set-does c.args.self.now c.requires.holds c.args.seat c.requires.sits c.args.r c.args.names.now c.args.code.now c.requires.term c.count-named.ensures.names.few c.words_needed-grow.result
+    (needed-words c.args.names.now c.args.code.now c.requires.term c.words_needed-grow.result c.count-named.ensures.names.few c.words_needed-grow.ensures)
+    c.make_room.new.self c.make_room.result c.make_room.ensures c.requires.named c.if-not-make_room.false
+    c.build-w.new.mem _ c.build-w.new.room refl c.build-w.result c.build-w.ensures.uses c.build-w.ensures.built c.index_mut.result.now c.index_mut.ensures.value
+    (with_items c.args.self.now.row c.build-w.new.scratch) refl c.count-named.result c.count-named.ensures.value
 
--- src/one.rt:77:5
 pub returns-clause-asks : goal.returns-clause-asks
-returns-clause-asks c = ?
+returns-clause-asks c =
+    asks-done c.words_needed-grow.result _ c.args.self.now _ c.make_room.new.self c.make_room.result _ c.make_room.ensures
+    (needed-words c.args.names.now c.args.code.now c.requires.term c.words_needed-grow.result c.count-named.ensures.names.few c.words_needed-grow.ensures) refl
