@@ -1,0 +1,12 @@
+use Rattle.std.proofs.Common.{◌≤◌, length, reverse}
+use Rattle.term_walk.proofs.Steps.{Skips}
+use Rattle.term_walk.proofs.levels.next_word.Given as goal
+
+abbrev pub invariant-loop-rest : goal.invariant-loop-rest
+invariant-loop-rest l = record {
+  skips : Skips l.mem (reverse l.fn.levels.items) (reverse l.levels.items);
+  few : length l.levels.items ≤ 1024;
+}
+
+abbrev pub decreases-loop-rest : goal.decreases-loop-rest
+decreases-loop-rest l = length l.levels.items

@@ -1,0 +1,12 @@
+//! One bounded walk over the words of a term, and the measures that it finds.
+#![tactic(auto)]
+
+mod levels;
+mod measured;
+mod measuring;
+mod weights;
+
+pub use levels::{DEPTH_LIMIT, Further, NODE_LIMIT, Rest, go_on};
+pub use measured::{Measure, Measured};
+pub use measuring::measure;
+pub use weights::{own_flat, own_nodes};
