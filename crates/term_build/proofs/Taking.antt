@@ -11,7 +11,7 @@ use Rattle.term_words.specs.Stands.{Stands, AllStand}
 use Rattle.term_words.specs.Kept.{Kept, Keeps}
 use Rattle.term_words.proofs.Makes.{stands-cons, stands-tuple, row-of-all, all-length}
 use Rattle.term_words.proofs.Frames.{frame, keep-all}
-use Rattle.term_build.specs.Taken.{Taken, Lie, plain, with_object}
+use Rattle.term_build.specs.Taken.{Taken, Lie, plain, of_holder, of_fun, with_object}
 use Rattle.term_build.specs.Clear.{Uses}
 
 -- Words in a row, one after the other.
@@ -26,11 +26,13 @@ lie-first mem p w ws first rest = record { each = λ j q below e. at j q below e
     at zero q below e = let same : p ≡ q = omega arith in let P : ℕ → Type 0 = λ x. get_or mem x 0 ≡ w in subst P same first
     at (suc j) q below e = rest.each j q (omega arith) (omega arith)
 
--- Taking words that have no role keeps every tree.
+-- Taking words that have no role keeps all content, and so every tree.
+
+pub taken-content : (roles : ℕ → ℕ) (c d : ℕ → ℕ → Bool) (n : ℕ) (old new : Room) (mem mem2 : List ℕ) → Uses n old new mem mem2 → Taken roles c d old.top n → Kept c d mem mem2
+taken-content roles c d n old new mem mem2 u t = record { longer = omega (arith, u.same_len); weaker = t.more; same = λ a k content h. u.others a (t.free a k h) }
+
 pub taken-kept : (roles : ℕ → ℕ) (c d : ℕ → ℕ → Bool) (n : ℕ) (old new : Room) (mem mem2 : List ℕ) → Uses n old new mem mem2 → Taken roles c d old.top n → Keeps c d mem mem2
-taken-kept roles c d n old new mem mem2 u t =
-    let kept : Kept c d mem mem2 = record { longer = omega (arith, u.same_len); weaker = t.more; same = λ a k content h. u.others a (t.free a k h) } in
-    frame c d mem mem2 kept
+taken-kept roles c d n old new mem mem2 u t = frame c d mem mem2 (taken-content roles c d n old new mem mem2 u t)
 
 plain-after : (j : ℕ) → 0 < j → plain j ≡ FURTHER
 plain-after zero some = absurd (omega arith)
@@ -118,3 +120,24 @@ with-object-of roles c top n a k of_object h = elim (cut top n a) [
 pub plain-object : (j : ℕ) → OfObject (plain j)
 plain-object zero = inr (omega arith, omega arith)
 plain-object (suc j) = inr (omega (arith, plain-after (suc j) (omega arith)), omega (arith, plain-after (suc j) (omega arith)))
+
+-- The roles of a holder and of a fun past the words that have one of their own.
+
+holder-after : (j : ℕ) → 3 < j → of_holder j ≡ FURTHER
+holder-after j above = grind (arith, nat_tests)
+
+pub fun-after : (j : ℕ) → 2 < j → of_fun j ≡ FURTHER
+fun-after j above = grind (arith, nat_tests)
+
+pub holder-object : (j : ℕ) → OfObject (of_holder j)
+holder-object zero = inr (omega arith, omega arith)
+holder-object (suc zero) = inr (omega arith, omega arith)
+holder-object (suc (suc zero)) = inl refl
+holder-object (suc (suc (suc zero))) = inr (omega arith, omega arith)
+holder-object (suc (suc (suc (suc j)))) = subst OfObject (sym (holder-after (suc (suc (suc (suc j)))) (omega arith))) (inr (omega arith, omega arith))
+
+pub fun-object : (j : ℕ) → OfObject (of_fun j)
+fun-object zero = inr (omega arith, omega arith)
+fun-object (suc zero) = inr (omega arith, omega arith)
+fun-object (suc (suc zero)) = inl refl
+fun-object (suc (suc (suc j))) = subst OfObject (sym (fun-after (suc (suc (suc j))) (omega arith))) (inr (omega arith, omega arith))

@@ -1,3 +1,4 @@
 pub mod Taken
 pub mod Clear
 pub mod Grows
+pub mod Parts

@@ -1,10 +1,18 @@
 -- Words that are taken for a new object, under any test of places and roles.
 use Rattle.std.specs.Prelude.{◌≡◌, ℕ, ◌+◌, ◌-◌, ◌<◌, ◌≤◌, ◌⊎◌, ◌==◌, ◌&&◌, nat_le, nat_lt, if◌then◌else◌, Bool, true, List, length, slice_index}
-use Rattle.term_words.specs.Role.{FIRST, FURTHER}
+use Rattle.term_words.specs.Role.{NEXT, FIRST, FURTHER, NAMES}
 
 -- The roles of an object's words, by the number of the word: the first, and all others.
 abbrev pub plain : ℕ → ℕ
 plain j = if j == 0 then FIRST else FURTHER
+
+-- The roles of a holder's words: word 2 is `next`, and word 3 names its record.
+abbrev pub of_holder : ℕ → ℕ
+of_holder j = if j == 2 then NEXT else (if j == 3 then NAMES else plain j)
+
+-- The roles of a fun's words: word 1 names its record, and word 2 is `next`.
+abbrev pub of_fun : ℕ → ℕ
+of_fun j = if j == 1 then NAMES else (if j == 2 then NEXT else plain j)
 
 -- No word from one place up to another has a role.
 abbrev pub IsFree : (ℕ → ℕ → Bool) → (from to : ℕ) → Type 0
