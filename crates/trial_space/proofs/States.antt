@@ -11,6 +11,7 @@ use Rattle.plain_term.specs.Tree.Tree.{Pid}
 use Rattle.script_grammar.specs.declared.command.Command.TheVariants.{Process as OfProcess}
 use Rattle.script_grammar.specs.declared.command.Verb.{Verb}
 use Rattle.script_grammar.specs.declared.command.Verb.TheVariants as verb
+use Rattle.script_grammar.specs.declared.command.Depth.{Depth}
 use Rattle.script_grammar.specs.declared.command.Reg.{Reg}
 use Rattle.script_grammar.specs.declared.refusal.Refusal.TheVariants as refusal
 use Rattle.script_grammar.specs.Written.{Term, Terms}
@@ -61,6 +62,11 @@ module _ (alive : Bool) (items : List Item) (s : State) (seat : Seat) (h : Trial
     areas = h.areas;
   })
 
+  -- `gc`.
+  pub gc-passes : (d : Depth) (terms : Terms) (names : List (List ℕ)) → Passes (step s (said (OfProcess seat.pid (verb.Gc d)) terms names)) (TrialStands alive items)
+  gc-passes d terms names = at-process (λ o. Passes o (TrialStands alive items)) (said (OfProcess seat.pid (verb.Gc d)) terms names) (verb.Gc d)
+      (record { processes = h.processes; next = h.next; shared = h.shared; areas = h.areas })
+
   -- What a line of the process asks for.
   asks : (v : Verb) (terms : Terms) (names : List (List ℕ)) → grow s (said (OfProcess seat.pid v) terms names) ≡ process_words (Some (one_process items)) s (said (OfProcess seat.pid v) terms names) v
   asks v terms names = ap (λ o. process_words o s (said (OfProcess seat.pid v) terms names) v) found
@@ -90,7 +96,7 @@ module _ (alive : Bool) (items : List Item) (s : State) (seat : Seat) (h : Trial
       let single = alone-is names (map alone items) t s.shared d is.built none in
       let first : alone (get_or (items_of names t) 0 d) ≡ alone (get_or code 0 d) = ap (λ z. alone (get_or z 0 d)) is.items in
       let New : State → Type 0 = TrialStands alive (set items r.0 (get_or code 0 d)) in
-      let Q : Tree × List (List ℕ) → Type 0 = λ made. New (settled s (said (OfProcess seat.pid (verb.Set r)) (one_term t) names) (with_made s (one_process items) r.0 made)) in
+      let Q : Tree × List (List ℕ) → Type 0 = λ made. New (settled (said (OfProcess seat.pid (verb.Set r)) (one_term t) names) (with_made s (one_process items) r.0 made)) in
       inl (at-process (λ o. Follows {A = Unit {0}} o s (Ok tt) New) (said (OfProcess seat.pid (verb.Set r)) (one_term t) names) (verb.Set r) (subst Q (sym single) (record {
         processes = held r.0 (alone (get_or (items_of names t) 0 d)) (get_or code 0 d) first;
         next = h.next;

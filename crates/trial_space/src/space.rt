@@ -6,7 +6,7 @@ use crate::printing::print_item;
 use crate::weight::weigh;
 use atom_names::AtomNames;
 use line_io::Sink;
-use plain_machine::{PLACE_COST, PROCESS_COST, Refusal, Reg};
+use plain_machine::{Depth, PLACE_COST, PROCESS_COST, Refusal, Reg};
 use plain_term::Item;
 use script_grammar::REGISTERS;
 use space_api::{Seat, Space, Stop};
@@ -109,6 +109,10 @@ impl Space for TrialSpace {
     fn pop(&mut self, seat: Seat, r: Reg) -> Result<(), Refusal> {
         Err(Refusal::Empty)
     }
+
+    fn collect(&mut self, seat: Seat, depth: Depth) {}
+
+    fn sweep_all(&mut self) {}
 
     fn print<K: Sink>(
         &self,

@@ -9,10 +9,10 @@ use std::test::Fail;
 
 // Nothing is read after `sys quit`.
 const SCRIPT: &[u8] =
-    b"1 set 0 a\n1 print 0\n1 set 1 [a]\n1 set 1 {a,{}}\n1 push 0\nsys spawn\n1 pop 0\n1 self 2\n1 print 2\n% a comment\n\n1 set 3 -7\n1 print 3\n1 print 4\n2 print 0\nsys procs\n1 exit\n1 print 0\nsys procs\nsys quit\n1 print 0\n";
+    b"1 set 0 a\n1 print 0\n1 set 1 [a]\n1 set 1 {a,{}}\n1 push 0\nsys spawn\n1 pop 0\n1 self 2\n1 print 2\n% a comment\n\n1 set 3 -7\n1 print 3\n1 gc minor\n1 gc major\nsys sweep\n1 print 4\n2 print 0\nsys procs\n1 exit\n1 print 0\nsys procs\nsys quit\n1 print 0\n";
 
 const REPLIES: &[u8] =
-    b"ok\na\nerror nospace 2\nerror nospace 4\nerror nospace 2\nerror nospace 16\nerror empty\nok\n<0.1.0>\nok\n-7\n[]\nerror noproc\n[1]\nok\nerror noproc\n[]\nok\n";
+    b"ok\na\nerror nospace 2\nerror nospace 4\nerror nospace 2\nerror nospace 16\nerror empty\nok\n<0.1.0>\nok\n-7\nok\nok\nok\n[]\nerror noproc\n[1]\nok\nerror noproc\n[]\nok\n";
 
 #[test]
 fn a_script_is_served_at_a_space_that_is_no_arena(rt: HostRuntime) -> Result<(), Fail> {
