@@ -2,7 +2,6 @@
 use Rattle.std.proofs.Common.{Vec, ◌≡◌, ℕ, zero, suc, ◌+◌, ◌-◌, ◌*◌, ◌/◌, ◌<◌, ◌≤◌, ◌^◌, Bool, true, false, List, [], ◌∷◌, length, map, get_or, set, Option, Some, Ok, Err, inl, inr, refl, sym, ◌∙◌, ap, subst, arith}
 use Rattle.std.specs.List.{filter, remove}
 use Rattle.std.specs.Vec.{vec_len, vec_capacity, with_item}
-
 use Rattle.std.specs.declared.alloc.Global.{Global}
 use Rattle.std.proofs.lemmas.List.{length-set}
 use Rattle.std.proofs.lemmas.List.Edits.{length-remove}
@@ -122,7 +121,7 @@ module _ (b : One) (holds : Holds b) (seat : Seat) (x : Sits b seat) (r : Reg) (
   pub own-does : DoesAlways (OfProcess seat.pid (verb.Own r)) b (after b (laid_out b.halves b.halves.mem b.halves.top b.halves.low (with_item b.halves.procs seat.row (with_word p r.0 w))))
   own-does = record {
     holds = holds-passed (after b (laid_out b.halves b.halves.mem b.halves.top b.halves.low (with_item b.halves.procs seat.row (with_word p r.0 w)))) (OfProcess seat.pid (verb.Own r)) holds.state own-counts
-      (own-passes holds.state end [] holds.stands);
+        (own-passes holds.state end [] holds.stands);
     passes = own-passes;
     books = record { same_words = refl; one_call = omega arith; few_names = omega arith };
   }
@@ -185,13 +184,13 @@ pub pop-empty : (b : One) (holds : Holds b) (seat : Seat) → Sits b seat → (r
 pop-empty b holds seat x r p is none = record {
   holds = holds;
   follows = λ s terms names o.
-    let q : Process = get_or s.processes seat.row no_process in
-    let line : Parsed = said (OfProcess seat.pid (verb.Pop r)) terms names in
-    let h = row-stands o.processes.test s.shared b.halves.mem b.halves.low (end_of b.halves) b.named b.halves.procs.items s.processes seat.row p x.within is o.processes.processes in
-    let empty : q.stack ≡ [] = none-held o.processes.test s.shared b.halves.mem b.named p.stack p.depth q.stack none h.stack in
-    let P : Option Process → Type 0 = λ z. Follows {A = Unit {0}} (in_process z s line (verb.Pop r)) s (Err refusal.Empty) (OneStands b) in
-    let Q : List Tree → Type 0 = λ z. Follows {A = Unit {0}} (pop_from z s line q r.0) s (Err refusal.Empty) (OneStands b) in
-    subst P (sym (found-there b s o holds.counts seat x)) (subst Q (sym empty) (refl, o));
+      let q : Process = get_or s.processes seat.row no_process in
+      let line : Parsed = said (OfProcess seat.pid (verb.Pop r)) terms names in
+      let h = row-stands o.processes.test s.shared b.halves.mem b.halves.low (end_of b.halves) b.named b.halves.procs.items s.processes seat.row p x.within is o.processes.processes in
+      let empty : q.stack ≡ [] = none-held o.processes.test s.shared b.halves.mem b.named p.stack p.depth q.stack none h.stack in
+      let P : Option Process → Type 0 = λ z. Follows {A = Unit {0}} (in_process z s line (verb.Pop r)) s (Err refusal.Empty) (OneStands b) in
+      let Q : List Tree → Type 0 = λ z. Follows {A = Unit {0}} (pop_from z s line q r.0) s (Err refusal.Empty) (OneStands b) in
+      subst P (sym (found-there b s o holds.counts seat x)) (subst Q (sym empty) (refl, o));
   books = record { same_words = refl; one_call = omega arith; few_names = omega arith };
 }
 
@@ -217,7 +216,7 @@ module _ (b : One) (holds : Holds b) (seat : Seat) (x : Sits b seat) (r : Reg) (
           single = o.processes.single;
           objects = o.processes.objects;
           processes =
-            popped o.processes.test s.shared b.halves.mem b.halves.low (end_of b.halves) b.named b.halves.procs.items s.processes seat.row p x.within is o.processes.processes some r.0 w u d value below depth;
+              popped o.processes.test s.shared b.halves.mem b.halves.low (end_of b.halves) b.named b.halves.procs.items s.processes seat.row p x.within is o.processes.processes some r.0 w u d value below depth;
         } in
         let P : Option Process → Type 0 = λ z. Follows {A = Unit {0}} (in_process z s line (verb.Pop r)) s (Ok tt) (OneStands b2) in
         let Q : List Tree → Type 0 = λ z. Follows {A = Unit {0}} (pop_from z s line q r.0) s (Ok tt) (OneStands b2) in

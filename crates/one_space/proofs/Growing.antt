@@ -66,7 +66,7 @@ module _ (b : One) (holds : Holds b) (n : ℕ) (h : Halves) (ok : Bool) (room : 
   -- There is no space.
   module _ (A : Type 0) (c : Command) (g : ℕ) (lacking : ok ≡ false) (some : 0 < g)
       (asks : (s : State) (terms : Terms) (names : List (List ℕ)) → OneStands b s
-        → (grow s (said c terms names) ≡ g) × (LooksFor s g n × (gets_to_space c (step s (said c terms names)) ≡ true))) where
+      → (grow s (said c terms names) ≡ g) × (LooksFor s g n × (gets_to_space c (step s (said c terms names)) ≡ true))) where
     refused-becomes : (s : State) (terms : Terms) (names : List (List ℕ)) → OneStands b s → Becomes {A = A} may_of_tight (words_of b) s (said c terms names) (Err (refusal.NoSpace g)) (OneStands (roomed b h))
     refused-becomes s terms names o =
         let a = asks s terms names o in
@@ -97,10 +97,10 @@ some-process b holds seat x s o = omega (arith, count-there b s o holds.counts, 
 module _ (b : One) (holds : Holds b) (seat : Seat) (x : Sits b seat) (r : Reg) (h : Halves) (ok : Bool) (room : MakesRoom 2 b.halves h ok) where
   pub push-refused : ok ≡ false → Does {A = Unit {0}} (OfProcess seat.pid (verb.Push r)) b (roomed b h) (Err (refusal.NoSpace 2))
   push-refused lacking = refused-does b holds 2 h ok room (Unit {0}) (OfProcess seat.pid (verb.Push r)) 2 lacking (omega arith) (λ s terms names o.
-    let P : Option Process → Type 0 = λ z. gets_to_space (OfProcess seat.pid (verb.Push r)) (in_process z s (said (OfProcess seat.pid (verb.Push r)) terms names) (verb.Push r)) ≡ true in (
-      grow-at s seat.pid terms names (verb.Push r) (get_or s.processes seat.row no_process) (found-there b s o holds.counts seat x),
-      (inl (omega arith, some-process b holds seat x s o), subst P (sym (found-there b s o holds.counts seat x)) refl),
-    ))
+      let P : Option Process → Type 0 = λ z. gets_to_space (OfProcess seat.pid (verb.Push r)) (in_process z s (said (OfProcess seat.pid (verb.Push r)) terms names) (verb.Push r)) ≡ true in (
+        grow-at s seat.pid terms names (verb.Push r) (get_or s.processes seat.row no_process) (found-there b s o holds.counts seat x),
+        (inl (omega arith, some-process b holds seat x s o), subst P (sym (found-there b s o holds.counts seat x)) refl),
+      ))
 
   pub push-within : seat.row < vec_len h.procs
   push-within = omega (arith, (sits-there b holds 2 h ok room seat x).within, h.procs.ok.0)
@@ -176,9 +176,9 @@ module _ (b : One) (holds : Holds b) where
   spawn-refused many = record {
     holds = holds;
     becomes = λ s terms names o.
-      let full : nat_le 1024 (length s.processes) ≡ true = at-least 1024 (length s.processes) (omega (arith, many, count-there b s o holds.counts)) in
-      let P : Bool → Type 0 = λ z. Follows {A = ℕ} (spawn_if z s (said (System sysverb.Spawn) terms names)) s (Err refusal.Procs) (OneStands b) in
-      inl (subst P (sym full) (refl, o));
+        let full : nat_le 1024 (length s.processes) ≡ true = at-least 1024 (length s.processes) (omega (arith, many, count-there b s o holds.counts)) in
+        let P : Bool → Type 0 = λ z. Follows {A = ℕ} (spawn_if z s (said (System sysverb.Spawn) terms names)) s (Err refusal.Procs) (OneStands b) in
+        inl (subst P (sym full) (refl, o));
     books = record { same_words = refl; one_call = omega arith; few_names = omega arith };
   }
 
@@ -198,8 +198,8 @@ module _ (b : One) (holds : Holds b) where
 
     pub spawn-tight : ok ≡ false → Does {A = ℕ} (System sysverb.Spawn) b (roomed b h) (Err (refusal.NoSpace 16))
     spawn-tight lacking = refused-does b holds 14 h ok room ℕ (System sysverb.Spawn) 16 lacking (omega arith) (λ s terms names o.
-      let P : Bool → Type 0 = λ z. gets_to_space (System sysverb.Spawn) (spawn_if z s (said (System sysverb.Spawn) terms names)) ≡ true in
-      (refl, (inr (omega arith), subst P (sym (not-full s o)) refl)))
+        let P : Bool → Type 0 = λ z. gets_to_space (System sysverb.Spawn) (spawn_if z s (said (System sysverb.Spawn) terms names)) ≡ true in
+        (refl, (inr (omega arith), subst P (sym (not-full s o)) refl)))
 
     module _ (v : Vec Proc Global) (p : Proc) (items : v.items ≡ h.procs.items ++ p ∷ []) (capacity : vec_capacity v ≡ vec_capacity h.procs) (number : p.number ≡ b.next) (regs : p.regs ≡ replicate 16 59) (depth : p.depth ≡ 0) where
       counts2 : IsCounted (roomed b h)

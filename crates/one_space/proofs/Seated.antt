@@ -25,7 +25,6 @@ module _ (b : One) (s : State) (o : OneStands b s) (c : IsCounted b) where
     within-there : seat.row < length s.processes
     within-there = omega (arith, x.within, count-there)
 
-
     pub number-there : (get_or s.processes seat.row no_process).number ≡ seat.pid
     number-there =
         (procs-at o.processes.test s.shared b.halves.mem b.named b.halves.low (end_of b.halves) b.halves.procs.items s.processes seat.row no_row no_process x.within o.processes.processes).number

@@ -90,7 +90,7 @@ module _ (b : One) (holds : Holds b) (seat : Seat) (x : Sits b seat) (r : Reg) (
   pub set-refused : ok ≡ false → Builds {A = Unit {0}} names seat.pid r code b (roomed b h) (Err (refusal.NoSpace n))
   set-refused lacking = record {
     holds = holds-become {A = Unit {0}} (memory_words b) (roomed b h) holds.state (said (OfProcess seat.pid (verb.Set r)) (one_term has.term) names) (Err (refusal.NoSpace n)) (counts-there b holds n h ok room)
-      (refused-becomes lacking holds.state has.term holds.stands has.is);
+        (refused-becomes lacking holds.state has.term holds.stands has.is);
     becomes = refused-becomes lacking;
     books = record { same_words = (stays-roomed n b.halves h ok room).same_len; one_call = omega arith; few_names = omega arith };
     refused = omega arith;
@@ -121,7 +121,7 @@ module _ (b : One) (holds : Holds b) (seat : Seat) (x : Sits b seat) (r : Reg) (
 
       b-test : Built o1.processes.test y.top (words_of code) h.mem mem2 s.shared w ((tree_of names (get_or s.processes seat.row no_process).registers t s.shared).0)
       b-test = built o1.processes.test s.shared ((tree_of names (get_or s.processes seat.row no_process).registers t s.shared).0) (λ a k e. inl (omega (arith, top-is, (o1.processes.objects a k e).1.0)))
-        (term-forest names (get_or s.processes seat.row no_process).registers (length names) t code s.shared is_term (each-named names code t is_term has.named) few)
+          (term-forest names (get_or s.processes seat.row no_process).registers (length names) t code s.shared is_term (each-named names code t is_term has.named) few)
 
       trees : (v : ℕ) (u : Tree) → HoldsTree o1.processes.test s.shared h.mem b.named v u → HoldsTree b-test.test s.shared mem2 (length names) v u
       trees v u held = record { standing = b-test.grows.kept.each s.shared v u held.standing; modest = modest-more b.named (length names) 256 u more held.modest }
@@ -136,7 +136,7 @@ module _ (b : One) (holds : Holds b) (seat : Seat) (x : Sits b seat) (r : Reg) (
       }
 
       rows : ProcsStand b-test.test s.shared mem2 h.low (end_of h) (length names) (set h.procs.items seat.row (with_word p r.0 w))
-        (set s.processes seat.row (with_register r.0 ((tree_of names (get_or s.processes seat.row no_process).registers t s.shared).0) (get_or s.processes seat.row no_process)))
+          (set s.processes seat.row (with_register r.0 ((tree_of names (get_or s.processes seat.row no_process).registers t s.shared).0) (get_or s.processes seat.row no_process)))
       rows =
           register-set b-test.test s.shared mem2 h.low (end_of h) (length names) h.procs.items s.processes seat.row p sits1.within is
           (procs-on o1.processes.test b-test.test s.shared h.mem mem2 b.named (length names) h.low h.low (end_of h) trees kept (omega arith) h.procs.items s.processes o1.processes.processes)
@@ -152,7 +152,7 @@ module _ (b : One) (holds : Holds b) (seat : Seat) (x : Sits b seat) (r : Reg) (
       )
 
       stands : HalvesStand (length names) (laid_out h mem2 z.top h.low (with_item h.procs seat.row (with_word p r.0 w))) s.shared
-        (set s.processes seat.row (with_register r.0 ((tree_of names (get_or s.processes seat.row no_process).registers t s.shared).0) (get_or s.processes seat.row no_process)))
+          (set s.processes seat.row (with_register r.0 ((tree_of names (get_or s.processes seat.row no_process).registers t s.shared).0) (get_or s.processes seat.row no_process)))
       stands =
           let limit : end_of h ≡ h.base + length mem2 / 2 = omega (arith, uses.same_len) in
           let P : ℕ → Type 0 = λ v. ProcsStand b-test.test s.shared mem2 h.low v (length names) (set h.procs.items seat.row (with_word p r.0 w))
@@ -195,7 +195,7 @@ module _ (b : One) (holds : Holds b) (seat : Seat) (x : Sits b seat) (r : Reg) (
         → Builds {A = Unit {0}} names seat.pid r code b (built_in b (laid_out h mem2 z.top h.low (with_item h.procs seat.row (with_word p r.0 w))) row named) (Ok tt)
     set-does named is_named = record {
       holds = holds-become {A = Unit {0}} (memory_words b) (built_in b (laid_out h mem2 z.top h.low (with_item h.procs seat.row (with_word p r.0 w))) row named) holds.state
-        (said (OfProcess seat.pid (verb.Set r)) (one_term has.term) names) (Ok tt) (set-counts named) (set-becomes holds.state has.term holds.stands has.is named is_named);
+          (said (OfProcess seat.pid (verb.Set r)) (one_term has.term) names) (Ok tt) (set-counts named) (set-becomes holds.state has.term holds.stands has.is named is_named);
       becomes = λ s t o is_term. set-becomes s t o is_term named is_named;
       books = record { same_words = uses.same_len ∙ (stays-roomed n b.halves h ok room).same_len; one_call = omega arith; few_names = omega (arith, is_named) };
       refused = tt;

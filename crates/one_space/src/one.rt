@@ -74,7 +74,13 @@ impl One {
     }
 
     /// Builds a written term in a register.
-    pub fn build(&mut self, names: &AtomNames, seat: Seat, r: Reg, code: &[Item]) -> Result<(), Refusal>
+    pub fn build(
+        &mut self,
+        names: &AtomNames,
+        seat: Seat,
+        r: Reg,
+        code: &[Item],
+    ) -> Result<(), Refusal>
         requires holds { Holds self.old }
         requires calls { self.old.calls < most_calls }
         requires sits { Sits self.old seat }

@@ -16,7 +16,7 @@ overflow_add-process c =
       arith,
       c.len-len.ensures.most,
       push-fits c.args.self.now c.requires.holds c.args.seat c.requires.sits c.args.s c.make_room.new.self c.make_room.result c.make_room.ensures
-      c.index.result.now c.index.ensures,
+          c.index.result.now c.index.ensures,
     )
 
 pub index_mut-requires : goal.index_mut-requires

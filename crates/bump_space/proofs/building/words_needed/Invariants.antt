@@ -1,9 +1,0 @@
-use Rattle.std.proofs.Common.{◌≡◌, ◌-◌, ◌≤◌, ◌^◌, length, drop, min}
-use Rattle.bump_space.specs.Forest.{words_of}
-use Rattle.bump_space.proofs.building.words_needed.Given as goal
-
-abbrev pub invariant-loop-i : goal.invariant-loop-i
-invariant-loop-i l = (l.i ≤ length l.code) × (l.sum ≡ min (words_of (drop l.i l.code)) (2 ^ 64 - 1))
-
-abbrev pub decreases-loop-i : goal.decreases-loop-i
-decreases-loop-i l = l.i

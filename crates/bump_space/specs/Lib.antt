@@ -1,3 +1,0 @@
-pub mod Forest
-pub mod Print
-pub mod Bump
