@@ -1,22 +1,25 @@
 -- When the words of a room are an object that stands: one lemma a kind, by the words that lie there.
-use Rattle.std.proofs.Common.{◌≡◌, ℕ, zero, suc, ◌+◌, ◌-◌, ◌/◌, ◌%◌, ◌^◌, ◌<◌, ◌≤◌, ◌⊎◌, Bool, true, false, List, [], ◌∷◌, length, replicate, get_or, refl, sym, ◌∙◌, subst, arith, inl, inr, nat_lt, ℤ}
+use Rattle.std.proofs.Common.{◌≡◌, ℕ, zero, suc, ◌+◌, ◌-◌, ◌*◌, ◌/◌, ◌%◌, ◌^◌, ◌<◌, ◌≤◌, ◌⊎◌, Bool, true, false, List, [], ◌∷◌, ◌++◌, length, replicate, get_or, refl, sym, ◌∙◌, subst, arith, inl, inr, nat_lt, ℤ}
 use Rattle.std.proofs.lemmas.Bool.Decides.{nat_tests}
-use Rattle.plain_term.specs.Tree.{Tree, Trees, trees_len}
-use Rattle.plain_term.specs.Tree.Tree.{Int, Ref, Bin, Shared, Part, Fun}
+use Rattle.plain_term.specs.Tree.{Tree, Trees, Pairs, trees_len, pairs_len, keys_of, values_of}
+use Rattle.plain_term.specs.Tree.Tree.{Int, Ref, Map, Bin, Shared, Part, Fun}
+use Rattle.plain_term.specs.Tree.Pairs.{stop, pair}
 use Rattle.plain_term.specs.Bytes.{bytes_of, shared_bytes}
 use Rattle.plain_term.specs.Measures.{bin_words, is_small, magnitude, int_flat}
 use Rattle.term_tags.specs.Words.{small_word, boxed_word, head_word, pid_word}
 use Rattle.term_tags.specs.declared.kinds.TheConstants.{PIDS}
-use Rattle.term_tags.specs.declared.layouts.TheConstants.{REF, FUN, HOLDER, HEAP_BIN, SUB_BIN, MOST_ENV, MOST_HEAP_BYTES}
+use Rattle.term_tags.specs.declared.layouts.TheConstants.{TUPLE, MAP, MOST_KEYS, REF, FUN, HOLDER, HEAP_BIN, SUB_BIN, MOST_ENV, MOST_HEAP_BYTES}
 use Rattle.term_words.specs.Role.{FURTHER}
-use Rattle.term_words.specs.Object.{IsObject, IsBoxed, IsFunRecord, IsBinRecord, BytesLie, sign_tag}
-use Rattle.term_words.specs.Stands.{Stands, AllStand, IsBase}
+use Rattle.term_words.specs.Object.{IsObject, IsBoxed, IsTuple, IsMap, IsFunRecord, IsBinRecord, BytesLie, sign_tag}
+use Rattle.term_words.specs.Stands.{Stands, RowStands, KeysStand, ValuesStand, AllStand, IsBase}
 use Rattle.term_words.specs.Kept.{Kept, Keeps}
 use Rattle.term_words.proofs.Makes.{stands-small, boxed-at, row-of-all, all-length}
 use Rattle.term_words.proofs.Frames.{keep-all}
-use Rattle.term_build.specs.Taken.{Taken, Lie, plain, of_holder, of_fun}
+use Rattle.term_words.proofs.Pairs.{keys-len}
+use Rattle.term_build.specs.Taken.{Taken, Lie, plain, of_holder, of_fun, of_map}
 use Rattle.term_build.specs.Parts.{IsNamed, integer_words, same_trees}
-use Rattle.term_build.proofs.Taking.{taken-first, taken-other, fun-after}
+use Rattle.term_build.proofs.Taking.{taken-first, taken-other, taken-keys, taken-map, fun-after}
+use Rattle.term_build.proofs.Putting.{lie-front, lie-back}
 use Rattle.term_build.proofs.Records.{bin-record-kept, fun-record-kept}
 
 -- An object with a header at the taken words.
@@ -39,7 +42,8 @@ ref-made c d top new r n k is inside lie taken shared = record {
   count = lie.each 2 (r / 4 + 2) (omega arith) (omega arith);
 }
 
-pub part-made : (c d : ℕ → ℕ → Bool) (top : ℕ) (old new : List ℕ) (r base off len : ℕ) → r ≡ boxed_word top → top + 5 ≤ length new → Lie new top (head_word SUB_BIN 4 ∷ len ∷ off ∷ 0 ∷ base ∷ []) → Taken plain c d top 5
+pub part-made : (c d : ℕ → ℕ → Bool) (top : ℕ) (old new : List ℕ) (r base off len : ℕ) → r ≡ boxed_word top → top + 5 ≤ length new → Lie new top (head_word SUB_BIN 4 ∷ len ∷ off ∷ 0 ∷ base ∷ [])
+    → Taken plain c d top 5
     → Keeps c d old new → (shared : List (List ℕ)) (t : Tree) → IsBase t → off + len ≤ length (bytes_of shared t) → Stands c shared old base t → Stands d shared new r (Part t off len)
 unfolding Stands
 part-made c d top old new r base off len is inside lie taken k shared t whole fits s =
@@ -181,3 +185,48 @@ pub same-row : (c : ℕ → ℕ → Bool) (shared : List (List ℕ)) (mem : List
 unfolding AllStand
 same-row c shared mem zero w t s = tt
 same-row c shared mem (suc n) w t s = (s, same-row c shared mem n w t s)
+
+-- A row of keys, and one of values, stands for the pairs.
+
+row-keys : (c : ℕ → ℕ → Bool) (shared : List (List ℕ)) (mem : List ℕ) (p : ℕ) (ps : Pairs) → RowStands c shared mem p (keys_of ps) → KeysStand c shared mem p ps
+unfolding RowStands KeysStand
+row-keys c shared mem p stop row = tt
+row-keys c shared mem p (pair k v ps) (first, rest) = (first, row-keys c shared mem (p + 1) ps rest)
+
+row-values : (c : ℕ → ℕ → Bool) (shared : List (List ℕ)) (mem : List ℕ) (p : ℕ) (ps : Pairs) → RowStands c shared mem p (values_of ps) → ValuesStand c shared mem p ps
+unfolding RowStands ValuesStand
+row-values c shared mem p stop row = tt
+row-values c shared mem p (pair k v ps) (first, rest) = (first, row-values c shared mem (p + 1) ps rest)
+
+-- A map behind the tuple of its keys.
+pub map-made : (c d : ℕ → ℕ → Bool) (top n : ℕ) (old new keys values : List ℕ) (r : ℕ) → n ≡ length keys → length values ≡ n → n ≤ MOST_KEYS → r ≡ boxed_word (top + (1 + n))
+    → top + (4 + 2 * n) ≤ length new → Lie new top ((head_word TUPLE n ∷ keys) ++ (head_word MAP (n + 2) ∷ n ∷ boxed_word top ∷ values))
+    → Taken (of_map n) c d top (4 + 2 * n) → Keeps c d old new → (shared : List (List ℕ)) (ps : Pairs)
+    → AllStand c shared old keys (keys_of ps) → AllStand c shared old values (values_of ps) → Stands d shared new r (Map ps)
+unfolding Stands
+map-made c d top n old new keys values r count same few is inside lie taken kept shared ps ks vs =
+    let low : Lie new top (head_word TUPLE n ∷ keys) = lie-front (head_word TUPLE n ∷ keys) _ new top lie in
+    let high : Lie new (top + (1 + n)) (head_word MAP (n + 2) ∷ n ∷ boxed_word top ∷ values) = lie-back (head_word TUPLE n ∷ keys) _ new top (top + (1 + n)) (omega arith) lie in
+    let ks2 : AllStand d shared new keys (keys_of ps) = keep-all c d old new kept shared keys (keys_of ps) ks in
+    let vs2 : AllStand d shared new values (values_of ps) = keep-all c d old new kept shared values (values_of ps) vs in
+    let size : n ≡ pairs_len ps = omega (arith, count, all-length d shared new keys (keys_of ps) ks2, keys-len ps) in
+    let named : get_or new (r / 4 + 2) 0 ≡ boxed_word top = high.each 2 (r / 4 + 2) (omega arith) (omega arith) in
+    let at : top + 1 ≡ get_or new (r / 4 + 2) 0 / 4 + 1 = omega arith in
+    let P : ℕ → Type 0 = λ x. KeysStand d shared new x ps in
+    let Q : ℕ → Type 0 = λ x. IsTuple d new x n in
+    let R : ℕ → Type 0 = λ x. IsMap d new r x in
+    let tuple_is : IsTuple d new (boxed_word top) n = record {
+      range = omega arith;
+      boxed = boxed-made c d top (1 + n) new (boxed_word top) TUPLE n refl refl (omega arith) (low.each 0 top (omega arith) (omega arith)) (taken-keys c d top n taken);
+    } in
+    let map_is : IsMap d new r n = record {
+      range = few;
+      boxed = boxed-made c d (top + (1 + n)) (3 + n) new r MAP (n + 2) is (omega arith) (omega arith) (high.each 0 (top + (1 + n)) (omega arith) (omega arith)) (taken-map c d top n taken);
+      count = high.each 1 (r / 4 + 1) (omega arith) (omega arith);
+      keys = subst Q (sym named) tuple_is;
+    } in (
+      subst R size map_is,
+      subst P at (row-keys d shared new (top + 1) ps (row-of-all d shared new (top + 1) keys (keys_of ps) ks2 (λ j below. low.each (suc j) (top + 1 + j) (omega arith) (omega arith)))),
+      row-values d shared new (r / 4 + 3) ps
+          (row-of-all d shared new (r / 4 + 3) values (values_of ps) vs2 (λ j below. high.each (suc (suc (suc j))) (r / 4 + 3 + j) (omega arith) (omega arith))),
+    )

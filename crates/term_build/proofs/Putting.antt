@@ -1,6 +1,6 @@
 -- What a builder's clauses follow from: the words that it wrote, and that its object stands where they are taken.
-use Rattle.std.proofs.Common.{◌≡◌, ℕ, zero, suc, ◌+◌, ◌<◌, ◌≤◌, Bool, List, [], ◌∷◌, ◌++◌, length, replicate, get_or, sym, ◌∙◌, subst, arith, inl}
-use Rattle.std.proofs.lemmas.List.{length-replicate, get_or-replicate}
+use Rattle.std.proofs.Common.{◌≡◌, ℕ, zero, suc, ◌+◌, ◌*◌, ◌<◌, ◌≤◌, Bool, List, [], ◌∷◌, ◌++◌, length, replicate, get_or, sym, ◌∙◌, subst, arith, inl}
+use Rattle.std.proofs.lemmas.List.{length-append, length-replicate, get_or_append_left, get_or-replicate}
 use Rattle.word_mem.specs.declared.ranges.Room.{Room}
 use Rattle.plain_term.specs.Tree.{Tree}
 use Rattle.term_words.specs.Role.{outside, OfObject}
@@ -42,6 +42,18 @@ lie-join (x ∷ xs) ys mem p q next a b =
     at more zero r below e = a.each 0 r (omega arith) e
     at more (suc j) r below e = more.each j r (omega arith) (omega arith)
 
+-- The first of joined words, and the last.
+
+pub lie-front : (xs ys : List ℕ) (mem : List ℕ) (p : ℕ) → Lie mem p (xs ++ ys) → Lie mem p xs
+lie-front xs ys mem p lie = record {
+  each = λ j q below e. lie.each j q (omega (arith, length-append xs ys)) e ∙ get_or_append_left xs ys 0 j below;
+}
+
+pub lie-back : (xs ys : List ℕ) (mem : List ℕ) (p q : ℕ) → q ≡ p + length xs → Lie mem p (xs ++ ys) → Lie mem q ys
+lie-back [] ys mem p q next lie = let same : p ≡ q = omega arith in let P : ℕ → Type 0 = λ x. Lie mem x ys in subst P same lie
+lie-back (x ∷ xs) ys mem p q next lie =
+    lie-back xs ys mem (p + 1) q (omega arith) (record { each = λ j r below e. lie.each (suc j) r (omega arith) (omega arith) })
+
 -- The same word n times lies where each word is that one.
 pub lie-same : (n i w p : ℕ) (mem : List ℕ) → n ≤ i → ((q j : ℕ) → j < i → q ≡ p + j → get_or mem q 0 ≡ w) → Lie mem p (replicate n w)
 lie-same n i w p mem all row = record {
@@ -56,3 +68,22 @@ uses-both m n x y z mem mem2 mem3 a b =
     let turned : n + m ≡ m + n = omega arith in
     let P : ℕ → Type 0 = λ k. Uses k x z mem mem3 in
     subst P turned (uses-then m n x y z mem mem2 mem3 a b)
+
+-- A tuple of keys and the map behind it, written part by part.
+pub map-lies : (n h g b : ℕ) (keys values : List ℕ) (x y z u v : Room) (m0 m1 m2 m3 m4 : List ℕ) → length keys ≡ n → length values ≡ n
+    → Uses 1 x y m0 m1 → Lie m1 x.top (h ∷ []) → Uses (length keys) y z m1 m2 → Lie m2 y.top keys
+    → Uses 3 z u m2 m3 → Lie m3 z.top (g ∷ n ∷ b ∷ []) → Uses (length values) u v m3 m4 → Lie m4 u.top values
+    → Uses (4 + 2 * n) x v m0 m4 × (Lie m4 x.top (h ∷ keys) × Lie m4 (x.top + (1 + n)) (g ∷ n ∷ b ∷ values))
+map-lies n h g b keys values x y z u v m0 m1 m2 m3 m4 few same u1 l1 u2 l2 u3 l3 u4 l4 =
+    let front : Uses (1 + length keys) x z m0 m2 = uses-both 1 (length keys) x y z m0 m1 m2 u1 u2 in
+    let back : Uses (3 + length values) z v m2 m4 = uses-both 3 (length values) z u v m2 m3 m4 u3 u4 in
+    let all : (1 + length keys) + (3 + length values) ≡ 4 + 2 * n = omega arith in
+    let at : z.top ≡ x.top + (1 + n) = omega (arith, front.moved) in
+    let P : ℕ → Type 0 = λ k. Uses k x v m0 m4 in
+    let Q : ℕ → Type 0 = λ p. Lie m4 p (g ∷ n ∷ b ∷ values) in
+    let low : Lie m2 x.top (h ∷ keys) = lie-join (h ∷ []) keys m2 x.top y.top u1.moved (lie-still (h ∷ []) (length keys) y z m1 m2 x.top u1.moved u2 l1) l2 in
+    let high : Lie m4 z.top (g ∷ n ∷ b ∷ values) =
+    lie-join (g ∷ n ∷ b ∷ []) values m4 z.top u.top u3.moved (lie-still (g ∷ n ∷ b ∷ []) (length values) u v m3 m4 z.top u3.moved u4 l3) l4 in (
+      subst P all (uses-both (1 + length keys) (3 + length values) x z v m0 m2 m4 front back),
+      (lie-still (h ∷ keys) (3 + length values) z v m2 m4 x.top (omega (arith, front.moved)) back low, subst Q at high),
+    )

@@ -1,5 +1,5 @@
 -- Words are taken for an object under any test: what stood stands still, and the object stands.
-use Rattle.std.proofs.Common.{◌≡◌, ℕ, zero, suc, ◌+◌, ◌-◌, ◌<◌, ◌≤◌, ◌⊎◌, Bool, true, List, [], ◌∷◌, length, get_or, refl, sym, ◌∙◌, subst, arith, inl, inr, nat_le, nat_lt}
+use Rattle.std.proofs.Common.{◌≡◌, ℕ, zero, suc, ◌+◌, ◌-◌, ◌*◌, ◌<◌, ◌≤◌, ◌⊎◌, Bool, true, false, List, [], ◌∷◌, length, get_or, refl, sym, ◌∙◌, subst, arith, inl, inr, nat_le, nat_lt}
 use Rattle.std.proofs.lemmas.Bool.Decides.{nat_tests}
 use Rattle.word_mem.specs.declared.ranges.Room.{Room}
 use Rattle.plain_term.specs.Tree.{Tree, Trees, trees_len}
@@ -11,7 +11,7 @@ use Rattle.term_words.specs.Stands.{Stands, AllStand}
 use Rattle.term_words.specs.Kept.{Kept, Keeps}
 use Rattle.term_words.proofs.Makes.{stands-cons, stands-tuple, row-of-all, all-length}
 use Rattle.term_words.proofs.Frames.{frame, keep-all}
-use Rattle.term_build.specs.Taken.{Taken, Lie, plain, of_holder, of_fun, with_object}
+use Rattle.term_build.specs.Taken.{Taken, Lie, plain, of_holder, of_fun, of_map, with_object}
 use Rattle.term_build.specs.Clear.{Uses}
 
 -- Words in a row, one after the other.
@@ -58,8 +58,8 @@ cons-made c d top old new h t r inside lie is taken k shared a b sa sb =
     (subst Q (sym (lie.each 1 (top + 1) (omega arith) refl)) (k.each shared t b sb))
 
 -- A tuple at the taken words.
-pub tuple-made : (c d : ℕ → ℕ → Bool) (top n : ℕ) (old new parts : List ℕ) (r : ℕ) → n ≡ length parts → n ≤ MOST_PARTS → top + (1 + n) ≤ length new → Lie new top (head_word TUPLE n ∷ parts) → r ≡ boxed_word top
-    → Taken plain c d top (1 + n) → Keeps c d old new → (shared : List (List ℕ)) (ts : Trees) → AllStand c shared old parts ts → Stands d shared new r (Tuple ts)
+pub tuple-made : (c d : ℕ → ℕ → Bool) (top n : ℕ) (old new parts : List ℕ) (r : ℕ) → n ≡ length parts → n ≤ MOST_PARTS → top + (1 + n) ≤ length new
+    → Lie new top (head_word TUPLE n ∷ parts) → r ≡ boxed_word top → Taken plain c d top (1 + n) → Keeps c d old new → (shared : List (List ℕ)) (ts : Trees) → AllStand c shared old parts ts → Stands d shared new r (Tuple ts)
 tuple-made c d top n old new parts r count few inside lie is taken k shared ts all =
     let moved : AllStand d shared new parts ts = keep-all c d old new k shared parts ts all in
     let same : length parts ≡ trees_len ts = all-length d shared new parts ts moved in
@@ -141,3 +141,43 @@ fun-object zero = inr (omega arith, omega arith)
 fun-object (suc zero) = inr (omega arith, omega arith)
 fun-object (suc (suc zero)) = inl refl
 fun-object (suc (suc (suc j))) = subst OfObject (sym (fun-after (suc (suc (suc j))) (omega arith))) (inr (omega arith, omega arith))
+
+-- The words of a map are those of two objects.
+
+map-low : (n j : ℕ) → j ≤ n → of_map n j ≡ plain j
+map-low n j low = rw (is j n low) refl
+  where
+    is : (j n : ℕ) → j ≤ n → nat_le j n ≡ true
+    is j n low = grind (arith, nat_tests)
+
+map-high : (n j : ℕ) → of_map n (1 + n + j) ≡ plain j
+map-high n j =
+    let past : nat_le (1 + n + j) n ≡ false = grind (arith, nat_tests) in
+    let back : 1 + n + j - (1 + n) ≡ j = omega arith in
+    rw (past, back) refl
+
+pub map-object : (n j : ℕ) → OfObject (of_map n j)
+map-object n j = elim (le_or n j) [ inl low ↦ subst OfObject (sym (map-low n j low)) (plain-object j) | inr high ↦ subst OfObject (high-role high) (plain-object (j - (1 + n))) ]
+  where
+    le_or : (n j : ℕ) → (j ≤ n) ⊎ (n < j)
+    le_or n j = grind arith
+
+    high-role : n < j → plain (j - (1 + n)) ≡ of_map n j
+    high-role high =
+        let back : 1 + n + (j - (1 + n)) ≡ j = omega arith in
+        let P : ℕ → Type 0 = λ x. plain (j - (1 + n)) ≡ of_map n x in
+        subst P back (sym (map-high n (j - (1 + n))))
+
+pub taken-keys : (c d : ℕ → ℕ → Bool) (top n : ℕ) → Taken (of_map n) c d top (4 + 2 * n) → Taken plain c d top (1 + n)
+taken-keys c d top n t = record {
+  free = λ a k h. elim (t.free a k h) [ inl low ↦ inl low | inr high ↦ inr (omega arith) ];
+  more = t.more;
+  new = λ j q below e. let P : ℕ → Type 0 = λ k. d q k ≡ true in subst P (map-low n j (omega arith)) (t.new j q (omega arith) e);
+}
+
+pub taken-map : (c d : ℕ → ℕ → Bool) (top n : ℕ) → Taken (of_map n) c d top (4 + 2 * n) → Taken plain c d (top + (1 + n)) (3 + n)
+taken-map c d top n t = record {
+  free = λ a k h. elim (t.free a k h) [ inl low ↦ inl (omega arith) | inr high ↦ inr (omega arith) ];
+  more = t.more;
+  new = λ j q below e. let P : ℕ → Type 0 = λ k. d q k ≡ true in subst P (map-high n j) (t.new (1 + n + j) q (omega arith) (omega arith));
+}

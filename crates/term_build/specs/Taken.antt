@@ -14,6 +14,10 @@ of_holder j = if j == 2 then NEXT else (if j == 3 then NAMES else plain j)
 abbrev pub of_fun : ℕ → ℕ
 of_fun j = if j == 1 then NAMES else (if j == 2 then NEXT else plain j)
 
+-- The roles of the words of a tuple of n keys and of the map behind it.
+abbrev pub of_map : ℕ → ℕ → ℕ
+of_map n j = if nat_le j n then plain j else plain (j - (1 + n))
+
 -- No word from one place up to another has a role.
 abbrev pub IsFree : (ℕ → ℕ → Bool) → (from to : ℕ) → Type 0
 IsFree c from to = (a k : ℕ) → c a k ≡ true → (a < from) ⊎ (to ≤ a)

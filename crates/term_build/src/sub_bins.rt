@@ -21,10 +21,12 @@ pub fn sub_bin(mem: &mut WordMem, room: &mut Room, base: u64, off: u64, len: u64
     ensures uses { Uses 5 room.old room.new mem.old mem.new }
     ensures place { result ≡ boxed_word room.old.top }
     ensures words { Lie mem.new room.old.top (head_word SUB_BIN 4 ∷ len ∷ off ∷ 0 ∷ base ∷ []) }
-    ensures made { (c d : ℕ → ℕ → Bool) (shared : List (List ℕ)) (t : Tree) → Taken plain c d room.old.top 5 → IsBase t → off + len ≤ length (bytes_of shared t)
+    ensures made { (c d : ℕ → ℕ → Bool) (shared : List (List ℕ)) (t : Tree) → Taken plain c d room.old.top 5 → IsBase t
+        → off + len ≤ length (bytes_of shared t)
         → Stands c shared mem.old base t → Stands d shared mem.new result (Part t off len) }
     ensures kept { (roles : ℕ → ℕ) (c d : ℕ → ℕ → Bool) → Taken roles c d room.old.top 5 → Keeps c d mem.old mem.new }
-    ensures built { (c : ℕ → ℕ → Bool) (shared : List (List ℕ)) (t : Tree) → IsFree c room.old.top (room.old.top + 5) → IsBase t → off + len ≤ length (bytes_of shared t)
+    ensures built { (c : ℕ → ℕ → Bool) (shared : List (List ℕ)) (t : Tree) → IsFree c room.old.top (room.old.top + 5) → IsBase t
+        → off + len ≤ length (bytes_of shared t)
         → Stands c shared mem.old base t → Built c room.old.top 5 mem.old mem.new shared result (Part t off len) }
     ensures made_clear { (shared : List (List ℕ)) (t : Tree) → IsBase t → off + len ≤ length (bytes_of shared t) → Clear room.old shared mem.old base t
         → Clear room.new shared mem.new result (Part t off len) }

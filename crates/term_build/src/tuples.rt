@@ -53,7 +53,8 @@ pub fn same_tuple(mem: &mut WordMem, room: &mut Room, n: u64, w: u64) -> u64
     ensures kept { (roles : ℕ → ℕ) (c d : ℕ → ℕ → Bool) → Taken roles c d room.old.top (1 + n) → Keeps c d mem.old mem.new }
     ensures built { (c : ℕ → ℕ → Bool) (shared : List (List ℕ)) (t : Tree) → IsFree c room.old.top (room.old.top + (1 + n))
         → Stands c shared mem.old w t → Built c room.old.top (1 + n) mem.old mem.new shared result (Tuple (same_trees n t)) }
-    ensures made_clear { (shared : List (List ℕ)) (t : Tree) → Clear room.old shared mem.old w t → Clear room.new shared mem.new result (Tuple (same_trees n t)) }
+    ensures made_clear { (shared : List (List ℕ)) (t : Tree) → Clear room.old shared mem.old w t
+        → Clear room.new shared mem.new result (Tuple (same_trees n t)) }
     ensures kept_clear { KeepsClear room.old room.new mem.old mem.new }
 {
     let _len = mem.len();

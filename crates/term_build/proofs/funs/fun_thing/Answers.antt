@@ -20,7 +20,8 @@ pub returns-clause-words : goal.returns-clause-words
 returns-clause-words c =
     let P : ℕ → Type 0 = λ h. Lie c.put-place.new.mem c.args.room.now.top (h ∷ c.args.rec ∷ c.args.next ∷ c.args.arity ∷ length c.args.env.now ∷ c.pid.result ∷ []) in
     let Q : ℕ → Type 0 = λ p. Lie c.put-place.new.mem c.args.room.now.top (head_word FUN (5 + length c.args.env.now) ∷ c.args.rec ∷ c.args.next ∷ c.args.arity ∷ length c.args.env.now ∷ p ∷ []) in
-    let first : Lie c.put-place.new.mem c.args.room.now.top (head_word FUN (5 + length c.args.env.now) ∷ c.args.rec ∷ c.args.next ∷ c.args.arity ∷ length c.args.env.now ∷ pid_word c.args.creator ∷ []) =
+    let first : Lie c.put-place.new.mem c.args.room.now.top
+    (head_word FUN (5 + length c.args.env.now) ∷ c.args.rec ∷ c.args.next ∷ c.args.arity ∷ length c.args.env.now ∷ pid_word c.args.creator ∷ []) =
     subst Q c.pid.ensures (subst P c.head_of.ensures c.put-place.ensures.words) in
     lie-join _ _ c.put.new.mem c.args.room.now.top c.put-place.new.room.top c.put-place.ensures.uses.moved
     (lie-still _ (length c.args.env.now) c.put-place.new.room _ _ _ c.args.room.now.top c.put-place.ensures.uses.moved c.put.ensures.uses first) c.put.ensures.words

@@ -21,7 +21,8 @@ returns-clause-kept c = λ roles k d taken. taken-kept roles k d 6 _ _ _ _ c.put
 
 pub returns-clause-made : goal.returns-clause-made
 returns-clause-made c = λ k d shared id taken named.
-    shared-made k d c.args.room.now.top c.args.mem.now c.put-place.new.mem c.boxed_at.result c.args.rec c.args.len c.args.next (returns-clause-place c) (omega (arith, c.requires.words, c.requires.places.inside, c.put-place.ensures.uses.same_len))
+    shared-made k d c.args.room.now.top c.args.mem.now c.put-place.new.mem c.boxed_at.result c.args.rec c.args.len c.args.next (returns-clause-place c)
+    (omega (arith, c.requires.words, c.requires.places.inside, c.put-place.ensures.uses.same_len))
     (returns-clause-words c) taken (taken-content of_holder k d 6 _ _ _ _ c.put-place.ensures.uses taken) shared id named
 
 pub returns-clause-built : goal.returns-clause-built

@@ -21,7 +21,8 @@ returns-clause-kept c = λ roles k d taken. taken-kept roles k d 3 _ _ _ _ c.put
 
 pub returns-clause-made : goal.returns-clause-made
 returns-clause-made c = λ k d shared taken.
-    ref-made k d c.args.room.now.top c.put-place.new.mem c.boxed_at.result c.args.n c.args.k (returns-clause-place c) (omega (arith, c.requires.words, c.requires.places.inside, c.put-place.ensures.uses.same_len)) (returns-clause-words c) taken shared
+    ref-made k d c.args.room.now.top c.put-place.new.mem c.boxed_at.result c.args.n c.args.k (returns-clause-place c)
+    (omega (arith, c.requires.words, c.requires.places.inside, c.put-place.ensures.uses.same_len)) (returns-clause-words c) taken shared
 
 pub returns-clause-built : goal.returns-clause-built
 returns-clause-built c = λ k shared free.

@@ -21,7 +21,8 @@ returns-clause-kept c = λ roles k d taken. taken-kept roles k d 5 _ _ _ _ c.put
 
 pub returns-clause-made : goal.returns-clause-made
 returns-clause-made c = λ k d shared t taken whole fits s.
-    part-made k d c.args.room.now.top c.args.mem.now c.put-place.new.mem c.boxed_at.result c.args.base c.args.off c.args.len (returns-clause-place c) (omega (arith, c.requires.words, c.requires.places.inside, c.put-place.ensures.uses.same_len))
+    part-made k d c.args.room.now.top c.args.mem.now c.put-place.new.mem c.boxed_at.result c.args.base c.args.off c.args.len (returns-clause-place c)
+    (omega (arith, c.requires.words, c.requires.places.inside, c.put-place.ensures.uses.same_len))
     (returns-clause-words c) taken (returns-clause-kept c plain k d taken) shared t whole fits s
 
 pub returns-clause-built : goal.returns-clause-built

@@ -31,7 +31,8 @@ returns-clause-kept c = λ roles k d taken. taken-kept roles k d (1 + length c.a
 pub returns-clause-made : goal.returns-clause-made
 returns-clause-made c = λ k d shared ts taken all.
     tuple-made k d c.args.room.now.top (length c.args.parts.now) c.args.mem.now c.put_row.new.mem c.args.parts.now c.boxed_at.result refl c.requires.few
-    (omega (arith, c.requires.words, c.requires.places.inside, (returns-clause-uses c).same_len)) (returns-clause-words c) c.boxed_at.ensures taken (returns-clause-kept c plain k d taken) shared ts all
+    (omega (arith, c.requires.words, c.requires.places.inside, (returns-clause-uses c).same_len))
+    (returns-clause-words c) c.boxed_at.ensures taken (returns-clause-kept c plain k d taken) shared ts all
 
 pub returns-clause-kept_clear : goal.returns-clause-kept_clear
 returns-clause-kept_clear c = taken-keeps (1 + length c.args.parts.now) _ _ _ _ c.requires.words (returns-clause-uses c)
