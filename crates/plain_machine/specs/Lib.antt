@@ -6,5 +6,6 @@ pub mod Maps
 pub mod May
 pub mod Run
 pub mod Laws
+pub mod Image
 pub mod Examples
 pub mod Figures
