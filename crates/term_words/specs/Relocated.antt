@@ -23,7 +23,8 @@ pub record IsCopiedTo (c d : ℕ → ℕ → Bool) (old new : List ℕ) (v u n :
   pub same : (j q : ℕ) → j < n → (j ≡ 2 → ⊥) → q ≡ u + j → slice_index new q ≡ slice_index old (v + j)
 
 -- Each object that the roots reach was moved so, each record that one of them names has its copy, and all other words are
--- their own images.
+-- their own images. By a test of one role a place, that is: where the first test gives a traced word the role NAMES too, as
+-- `always` does, the word's image by f would have to be its image by g.
 pub record Relocated (c d : ℕ → ℕ → Bool) (old new roots : List ℕ) (f g : ℕ → ℕ) : Type 0 where
   pub immediates : (w : ℕ) → Reach old roots w → (IsPointer w → ⊥) → f w ≡ w
   pub objects : (w : ℕ) → Reach old roots w → IsPointer w → IsMovedTo c d old new f g w
