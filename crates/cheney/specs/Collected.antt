@@ -2,6 +2,7 @@
 use Rattle.std.specs.Prelude.{◌≡◌, ℕ, ◌+◌, ◌-◌, ◌/◌, ◌%◌, ◌<◌, ◌≤◌, ◌⊎◌, Bool, true, false, List, [], ◌∷◌, length, slice_index}
 use Rattle.plain_term.specs.Tree.{Tree}
 use Rattle.plain_term.specs.Measures.{flat_of_all}
+use Rattle.term_words.specs.Role.{COUNT, FIRST, FURTHER, RECORD}
 use Rattle.term_words.specs.Object.{IsPointer}
 use Rattle.term_words.specs.Reach.{Reach}
 use Rattle.term_words.specs.Stands.{Stands, stands, AllStand}
@@ -35,8 +36,8 @@ pub record IsFilled (p : Plan) (m : List ℕ) (b : Bool) (top : ℕ) : Type 0 wh
 pub record Follows (p : Plan) (m : List ℕ) (d : ℕ → ℕ → Bool) : Type 0 where
   pub moves : (v j q k : ℕ) → Reached p v → Leaves p v → j < size p v → q ≡ forward m v / 4 + j → p.test (v / 4 + j) k ≡ true → d q k ≡ true
   pub stays : (v q k : ℕ) → Reached p v → IsPointer v → p.stay (v / 4) ≡ true → IsIn p v q → p.test q k ≡ true → d q k ≡ true
-  pub counts : (a : ℕ) → p.test a 2 ≡ true → d a 2 ≡ true
-  pub records : (a k : ℕ) → 6 ≤ k → p.test a k ≡ true → d a k ≡ true
+  pub counts : (a : ℕ) → p.test a COUNT ≡ true → d a COUNT ≡ true
+  pub records : (a k : ℕ) → RECORD ≤ k → p.test a k ≡ true → d a k ≡ true
 
 -- Each root was moved, where it points to what moves.
 pub record RootsMoved (p : Plan) (m : List ℕ) : Type 0 where
@@ -61,9 +62,9 @@ IsLeftOrMoved p m v = ((slice_index m (v / 4) ≡ slice_index p.start (v / 4)) �
 -- The whole collection. The forwarding words are a map, one to one, that is defined on exactly the objects outside `stay`
 -- that the roots reach; the objects of `mature` lie in the aged room, all others in the young one, each once and whole;
 -- what each word has become stands for the tree that it stood for; and what stays, reached or not, has a role and no list
--- place that moves reaches into, each word whose role is neither 3 nor 4, the records among them, and all words of a moved
--- boxed object but the first are as they were. A header that stands where the test says shows whether its object was
--- reached. A word with a role that is not as it was shows where a reached object went.
+-- place that moves reaches into, each word whose role is neither FIRST nor FURTHER, the records among them, and all words
+-- of a moved boxed object but the first are as they were. A header that stands where the test says shows whether its object
+-- was reached. A word with a role that is not as it was shows where a reached object went.
 pub record Collected (p : Plan) (m : List ℕ) (top : Bool → ℕ) : Type 0 where
   pub same_len : length m ≡ length p.start
   pub complete : (v : ℕ) → Reached p v → Leaves p v → moved m v ≡ true
@@ -79,10 +80,10 @@ pub record Collected (p : Plan) (m : List ℕ) (top : Bool → ℕ) : Type 0 whe
   pub standing : (w x : ℕ) (t : Tree) → Reached p w → IsImage p m w x → Stands p.test p.shared p.start w t → stands p.shared m x t
   pub still : (v q : ℕ) → Reached p v → IsPointer v → p.stay (v / 4) ≡ true → IsIn p v q → slice_index m q ≡ slice_index p.start q
   pub tails : (v q : ℕ) → Reached p v → Leaves p v → v % 4 ≡ 2 → IsIn p v q → v / 4 < q → slice_index m q ≡ slice_index p.start q
-  pub records : (a k : ℕ) → 6 ≤ k → p.test a k ≡ true → slice_index m a ≡ slice_index p.start a
-  pub untouched : (a k : ℕ) → p.test a k ≡ true → (k ≡ 3 → ⊥) → (k ≡ 4 → ⊥) → slice_index m a ≡ slice_index p.start a
+  pub records : (a k : ℕ) → RECORD ≤ k → p.test a k ≡ true → slice_index m a ≡ slice_index p.start a
+  pub untouched : (a k : ℕ) → p.test a k ≡ true → (k ≡ FIRST → ⊥) → (k ≡ FURTHER → ⊥) → slice_index m a ≡ slice_index p.start a
   pub unmoved : (a k : ℕ) → p.test a k ≡ true → p.stay a ≡ true → IsNoTail p a → slice_index m a ≡ slice_index p.start a
-  pub headers : (v : ℕ) → v % 4 ≡ 2 → p.test (v / 4) 3 ≡ true → slice_index p.start (v / 4) % 4 ≡ 0 → IsLeftOrMoved p m v
+  pub headers : (v : ℕ) → v % 4 ≡ 2 → p.test (v / 4) FIRST ≡ true → slice_index p.start (v / 4) % 4 ≡ 0 → IsLeftOrMoved p m v
   pub touched : (a k : ℕ) → p.test a k ≡ true → (slice_index m a ≡ slice_index p.start a) ⊎ IsShown p m a
 
 -- What the new roots reach is exactly what the words that the roots reached have become: another collection may follow.

@@ -1,7 +1,7 @@
 -- The collection after one that has ended: the roles that the words of the new memory have, and when it can begin.
 use Rattle.std.specs.Prelude.{◌≡◌, ℕ, ◌+◌, ◌/◌, ◌<◌, ◌≤◌, ◌⊎◌, Bool, true, false, List, length}
 use Rattle.term_words.specs.Object.{IsPointer}
-use Rattle.term_words.specs.Role.{IsSingle}
+use Rattle.term_words.specs.Role.{COUNT, RECORD, IsSingle}
 use Rattle.term_words.specs.Tiled.{Tiled}
 use Rattle.cheney.specs.declared.moving.Moving.{Moving}
 use Rattle.term_words.specs.Counted.{In}
@@ -31,8 +31,8 @@ pub record IsCarried (p : Plan) (m : List ℕ) (a k : ℕ) : Type 0 where
 -- The test keeps the roles of the reached objects that stay, and of all records; what else it keeps is free.
 pub record Remains (p : Plan) (s : ℕ → ℕ → Bool) : Type 0 where
   pub stays : (v q k : ℕ) → Reached p v → IsPointer v → p.stay (v / 4) ≡ true → IsIn p v q → p.test q k ≡ true → s q k ≡ true
-  pub counts : (a : ℕ) → p.test a 2 ≡ true → s a 2 ≡ true
-  pub records : (a k : ℕ) → 6 ≤ k → p.test a k ≡ true → s a k ≡ true
+  pub counts : (a : ℕ) → p.test a COUNT ≡ true → s a COUNT ≡ true
+  pub records : (a k : ℕ) → RECORD ≤ k → p.test a k ≡ true → s a k ≡ true
 
 -- A test of the new memory, one role a place, under which all that was reached stands: it allows the roles that moved
 -- with their words, those that s keeps, and no other.

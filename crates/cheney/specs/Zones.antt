@@ -1,5 +1,6 @@
 -- The state of a collection between two of its steps.
 use Rattle.std.specs.Prelude.{◌≡◌, ℕ, ◌+◌, ◌*◌, ◌/◌, ◌%◌, ◌<◌, ◌≤◌, ◌⊎◌, Bool, true, false, List, [], ◌∷◌, length, slice_index}
+use Rattle.term_words.specs.Role.{RECORD}
 use Rattle.term_words.specs.Object.{IsPointer}
 use Rattle.term_words.specs.Counted.{In, total}
 use Rattle.cheney.specs.Plan.{Plan, Reached, Leaves, IsIn, size, first}
@@ -82,7 +83,7 @@ pub record Invariant (p : Plan) (m : List ℕ) (top : Bool → ℕ) (k : Marks) 
   pub still : (v q : ℕ) → Reached p v → IsPointer v → p.stay (v / 4) ≡ true → IsIn p v q → slice_index m q ≡ slice_index p.start q
   pub waiting : (v q : ℕ) → Reached p v → Leaves p v → moved m v ≡ false → IsIn p v q → slice_index m q ≡ slice_index p.start q
   pub tails : (v q : ℕ) → Reached p v → Leaves p v → v % 4 ≡ 2 → IsIn p v q → v / 4 < q → slice_index m q ≡ slice_index p.start q
-  pub records : (a r : ℕ) → 6 ≤ r → p.test a r ≡ true → slice_index m a ≡ slice_index p.start a
+  pub records : (a r : ℕ) → RECORD ≤ r → p.test a r ≡ true → slice_index m a ≡ slice_index p.start a
   pub touched : (a r : ℕ) → p.test a r ≡ true → (slice_index m a ≡ slice_index p.start a) ⊎ IsShown p m a
   pub gone : (v : ℕ) → Reached p v → Leaves p v → moved m v ≡ true → Gone p m top (scanned_at k) v (forward m v)
   pub apart : (v w : ℕ) → Reached p v → Leaves p v → moved m v ≡ true → Reached p w → Leaves p w → moved m w ≡ true → p.mature (v / 4) ≡ p.mature (w / 4)

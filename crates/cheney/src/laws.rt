@@ -1,6 +1,6 @@
 // What holds of each collection: each law is the contract of a function that does nothing.
 ghost use Rattle.std.specs.Prelude.{◌≡◌, ℕ, ◌+◌, ◌-◌, ◌*◌, ◌/◌, ◌<◌, ◌≤◌, ◌⊎◌, ◌++◌, Bool, true, false, List, length, slice_index, slice_set};
-ghost use Rattle.term_words.specs.Role.{IsSingle};
+ghost use Rattle.term_words.specs.Role.{FIRST, FURTHER, IsSingle};
 ghost use Rattle.term_words.specs.Stands.{AllStand};
 ghost use Rattle.cheney.specs.declared.moving.Moving.{Moving};
 ghost use Rattle.term_words.specs.Object.{IsPointer, object_words};
@@ -47,13 +47,13 @@ pub fn images_last()
 {}
 
 /// What no call changes but at places that it writes as roots: a word in no room that has no role, such as a stack place; a
-/// word with a role that is neither 3 nor 4, such as a record's or a `next`; and each word in no room that stays, reached or
-/// not, where no cons that moves reaches into it.
+/// word whose role is neither FIRST nor FURTHER, such as a record's or a `next`; and each word in no room that stays,
+/// reached or not, where no cons that moves reaches into it.
 pub fn calls_change_no_other_words()
     ensures free { (p : Plan) (s : ℕ → Bool) (a b : List ℕ) (q : ℕ) → Ready p → Later p s a b → s q ≡ false → IsOutside p q → ((k : ℕ)
         → p.test q k ≡ true → ⊥) → slice_index b q ≡ slice_index a q }
-    ensures other { (p : Plan) (s : ℕ → Bool) (a b : List ℕ) (q k : ℕ) → Ready p → Later p s a b → s q ≡ false → p.test q k ≡ true → (k ≡ 3 → ⊥) → (k ≡ 4
-        → ⊥) → slice_index b q ≡ slice_index a q }
+    ensures other { (p : Plan) (s : ℕ → Bool) (a b : List ℕ) (q k : ℕ) → Ready p → Later p s a b → s q ≡ false → p.test q k ≡ true → (k ≡ FIRST → ⊥)
+        → (k ≡ FURTHER → ⊥) → slice_index b q ≡ slice_index a q }
     ensures stays { (p : Plan) (s : ℕ → Bool) (a b : List ℕ) (q : ℕ) → Later p s a b → s q ≡ false → IsOutside p q → p.stay q ≡ true → IsNoTail p q
         → slice_index b q ≡ slice_index a q }
 {}
