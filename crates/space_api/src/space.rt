@@ -62,7 +62,7 @@ pub trait Space {
     /// How many words the space has.
     ghost words: { Self → ℕ };
 
-    /// A number above every atom and every fun's name that the space keeps.
+    /// A number that the space says is above every atom and every fun's name that it keeps.
     ghost named: { Self → ℕ };
 
     /// A number that each changing call raises by at most one.
