@@ -76,7 +76,7 @@ last-word h l e tuple map part fun =
     ]
 
 pub boxed-shape : (h from : ℕ) → h % 4 ≡ 0 → ((l : Layout) → layout_for h ≡ Some l → from ≡ l.first) → Shape h from (1 + h / 64)
-boxed-shape h from zero_end each = record { pair = λ n. absurd (n zero_end); boxed = λ z l is. (each l is, refl) }
+boxed-shape h from zero_end each = record { cons = λ n. absurd (n zero_end); boxed = λ z l is. (each l is, refl) }
 
 -- A word that points to nothing is left as it is.
 
@@ -164,7 +164,7 @@ module _ (p : Plan) (old mem : List ℕ) (mv : Moving) (k : Marks) (b : Bool) (a
   cell-opened : Opened p mem mv (mark k b at at) b at 0 2
   cell-opened =
       opened-there p mem mv (mark k b at at) b at 0 2 on.runs (scanned-here k b at at) (object-here k b at at) c.below
-      (record { pair = λ n. (refl, refl); boxed = λ z l is. absurd (c.no_header (ap (λ y. y % 4) c.head_is ∙ z)) })
+      (record { cons = λ n. (refl, refl); boxed = λ z l is. absurd (c.no_header (ap (λ y. y % 4) c.head_is ∙ z)) })
 
   pub cell-inside : at + 2 ≤ length mem
   cell-inside = cell-opened.inside
@@ -213,7 +213,7 @@ module _ (p : Plan) (old mem : List ℕ) (mv : Moving) (k : Marks) (b : Bool) (a
 -- The cons lies in the memory.
 pub spine-within : (mem : List ℕ) (mv : Moving) (b : Bool) (place head : ℕ) → CanOpen mem mv b place → head ≡ get_or mem place 0 → (head % 4 ≡ 0 → ⊥) → place + 2 ≤ length mem
 spine-within mem mv b place head c e n =
-    (opened-there c.plan mem mv c.marks b place 0 2 c.runs c.scanned c.object c.below (record { pair = λ x. (refl, refl); boxed = λ z l is. absurd (n (ap (λ y. y % 4) e ∙ z)) })).inside
+    (opened-there c.plan mem mv c.marks b place 0 2 c.runs c.scanned c.object c.below (record { cons = λ x. (refl, refl); boxed = λ z l is. absurd (n (ap (λ y. y % 4) e ∙ z)) })).inside
 
 -- It lies there after other conses, too.
 pub spine-inside : (p : Plan) (old mem : List ℕ) (mv mv2 : Moving) (k l : Marks) (at : ℕ) → Runs p old mv k → Runs p mem mv2 l → at + 2 ≤ length mem → at + 2 ≤ length old

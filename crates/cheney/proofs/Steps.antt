@@ -385,7 +385,7 @@ shape-first : (p : Plan) (mem : List ℕ) (v place from words : ℕ) → Ground 
     words → (from ≡ first p v) × (words ≡ size p v)
 shape-first p mem v place from words g r (inl tag) e sh =
     let ne : get_or mem place 0 % 4 ≡ 0 → ⊥ = λ z. g.head v r tag (ap (λ x. x % 4) (sym e) ∙ z) in
-    ((sh.pair ne).0 ∙ sym (first-cons p v tag), (sh.pair ne).1 ∙ sym (size-cons p v tag))
+    ((sh.cons ne).0 ∙ sym (first-cons p v tag), (sh.cons ne).1 ∙ sym (size-cons p v tag))
 shape-first p mem v place from words g r (inr tag) e sh =
     let h : get_or mem place 0 % 4 ≡ 0 = ap (λ x. x % 4) e ∙ g.header v r tag in
     let (l, is) = g.layout v r tag in

@@ -127,5 +127,5 @@ pub record IsNext (mem : List ℕ) (mv : Moving) (room : Bool) (place head tail 
 
 -- The first traced word and the size of an object, by the word that it begins with: a word that is no header is the head of a cons.
 pub record Shape (word from words : ℕ) : Type 0 where
-  pub pair : (word % 4 ≡ 0 → ⊥) → (from ≡ 0) × (words ≡ 2)
+  pub cons : (word % 4 ≡ 0 → ⊥) → (from ≡ 0) × (words ≡ 2)
   pub boxed : word % 4 ≡ 0 → (l : Layout) → layout_for word ≡ Some l → (from ≡ l.first) × (words ≡ 1 + word / 64)
