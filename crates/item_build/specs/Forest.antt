@@ -1,5 +1,5 @@
 -- What items read as: trees side by side. Each item stands before what follows it and takes its parts from there.
-use Rattle.std.specs.Prelude.{◌≡◌, ℕ, Bool, ◌+◌, ◌<◌, ◌≤◌, ◌^◌, true, List, [], ◌∷◌}
+use Rattle.std.specs.Prelude.{◌≡◌, ℕ, Bool, ◌+◌, ◌<◌, ◌≤◌, true, List, [], ◌∷◌}
 use Rattle.term_words.specs.Stands.{AllStand}
 use Rattle.term_build.specs.Grows.{Grows}
 use Rattle.plain_term.specs.declared.item.Item.{Item}
@@ -8,12 +8,14 @@ use Rattle.plain_term.specs.Tree.{Tree, Trees, trees_len, trees_append}
 use Rattle.plain_term.specs.Tree.{Tree as tree}
 use Rattle.plain_term.specs.Tree.Trees.{end, ◌▹◌}
 use Rattle.plain_term.specs.Measures.{is_small}
+use Rattle.term_tags.specs.declared.kinds.TheConstants.{ATOMS, PIDS}
+use Rattle.term_tags.specs.declared.layouts.TheConstants.{MOST_PARTS}
 
--- An item put before trees: an immediate is one tree more; a list place and a tuple take their parts from the front.
+-- An item put before trees: an immediate is one tree more; a cons and a tuple take their parts from the front.
 abbrev pub Put : Item → Trees → Trees → Type 0
 Put (Int i) ts us = (is_small i ≡ true) × (us ≡ tree.Int i ▹ ts)
-Put (Atom k) ts us = (k < 16384) × (us ≡ tree.Atom k ▹ ts)
-Put (Pid n) ts us = (n < 2 ^ 41) × (us ≡ tree.Pid n ▹ ts)
+Put (Atom k) ts us = (k < ATOMS) × (us ≡ tree.Atom k ▹ ts)
+Put (Pid n) ts us = (n < PIDS) × (us ≡ tree.Pid n ▹ ts)
 Put Nil ts us = us ≡ tree.Nil ▹ ts
 Put Cons ts us = (h t : Tree) × (rest : Trees) × (ts ≡ h ▹ t ▹ rest) × (us ≡ tree.Cons h t ▹ rest)
 Put (Tuple n) ts us = (parts rest : Trees) × (trees_len parts ≡ n) × (ts ≡ trees_append parts rest) × (us ≡ tree.Tuple parts ▹ rest)
@@ -49,9 +51,9 @@ pub record AllBuilt (c : ℕ → ℕ → Bool) (top n : ℕ) (old new : List ℕ
 -- An item can be put before the words from place `sp` on of a row of `len` words.
 abbrev pub CanPut : Item → (sp len : ℕ) → Type 0
 CanPut (Int i) sp len = (is_small i ≡ true) × (0 < sp) × (sp ≤ len)
-CanPut (Atom k) sp len = (k < 16384) × (0 < sp) × (sp ≤ len)
-CanPut (Pid n) sp len = (n < 2 ^ 41) × (0 < sp) × (sp ≤ len)
+CanPut (Atom k) sp len = (k < ATOMS) × (0 < sp) × (sp ≤ len)
+CanPut (Pid n) sp len = (n < PIDS) × (0 < sp) × (sp ≤ len)
 CanPut Nil sp len = (0 < sp) × (sp ≤ len)
 CanPut Cons sp len = sp + 2 ≤ len
-CanPut (Tuple n) sp len = (n ≤ 65536) × (0 < sp) × (sp + n ≤ len)
+CanPut (Tuple n) sp len = (n ≤ MOST_PARTS) × (0 < sp) × (sp + n ≤ len)
 CanPut _ sp len = ⊥
