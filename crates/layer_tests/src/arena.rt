@@ -5,7 +5,7 @@ ghost use Rattle.word_arena.specs.Sound.{Sound};
 
 use std::alloc::Global;
 use std::test::Fail;
-use word_arena::{Arena, LAST_KIND};
+use word_arena::{Arena, KINDS, LAST_KIND};
 use word_mem::WordMem;
 
 // A block of the plain list; it begins where the words of those before it end.
@@ -127,7 +127,9 @@ fn is_as(arena: &Arena, row: &[Block]) -> bool
     let mut free = 0u64;
     let mut most = 0u64;
     for block in row {
-        if at >= len || arena.mem.get(at) != block.words.wrapping_mul(16).wrapping_add(block.kind) {
+        if at >= len
+            || arena.mem.get(at) != block.words.wrapping_mul(KINDS).wrapping_add(block.kind)
+        {
             return false;
         }
         let owner = at.wrapping_add(1);
@@ -173,12 +175,12 @@ fn call(arena: &mut Arena, row: &mut Vec<Block>, most: u64, draw: u64) -> Result
     let header = arena.mem.get(at);
     let k = block_at(row, at);
     let draw = draw / 512;
-    if header % 16 == 0 {
+    if header % KINDS == 0 {
         let words = 2 + draw % most;
         let kind = 1 + draw % LAST_KIND;
         return Ok(arena.take(words, kind, draw) == plain_take(row, words, kind, draw)?);
     }
-    let size = header / 16;
+    let size = header / KINDS;
     if draw % 2 == 0 || size < 2 {
         arena.give(at);
         free(row, k);
