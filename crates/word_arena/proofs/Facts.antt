@@ -5,7 +5,7 @@ use Rattle.std.proofs.lemmas.Bool.Decides.{nat_tests}
 use Rattle.word_arena.specs.Blocks.{size_at, kind_at, free_at, header, IsHeader, Blocks, Blocked, places_of, In, Begins, Stop, FreeApart}
 use Rattle.word_arena.specs.Calls.{free_end}
 use Rattle.word_arena.proofs.Places.{in-right, around}
-use Rattle.word_arena.proofs.Tiling.{blocks-part, Within, blocks-within, blocks-apart}
+use Rattle.word_arena.proofs.Tiling.{blocks-part, Within, blocks-within, blocks-apart, Covers, blocks-cover}
 
 -- The free words of a free block and of another.
 
@@ -55,6 +55,13 @@ row-at mem p blocked begins =
 pub block-within : (mem : List ℕ) (p : ℕ) → Blocked mem → Begins mem p → Within mem 0 (length mem) p
 block-within mem p blocked begins = blocks-within mem 0 (length mem) p (places_of mem) blocked.row begins.listed
 
+-- Each place of the memory lies in a block.
+pub block-around : (mem : List ℕ) (q : ℕ) → Blocked mem → q < length mem → (p : ℕ) × Begins mem p × (p ≤ q) × (q < p + size_at mem p)
+block-around mem q blocked inside =
+    let c = blocks-cover mem 0 (length mem) q (places_of mem) blocked.row (omega arith) inside in
+    (c.p, record { listed = c.listed }, c.from, c.to)
+
+-- Two blocks are one or apart.
 pub apart : (mem : List ℕ) (p q : ℕ) → Blocked mem → Begins mem p → Begins mem q → p < q → p + size_at mem p ≤ q
 apart mem p q blocked first second below =
     blocks-apart mem 0 (length mem) p q (places_of mem) blocked.row first.listed second.listed below

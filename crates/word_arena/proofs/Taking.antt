@@ -203,6 +203,7 @@ gave old at from blocked used free =
       frame = c.frame;
       apart = λ fa. apart-again old new from e was.ps is.ps blocked ch fa (λ p begins was_free ends. absurd (none-before old at from p blocked fa free (omega arith) begins was_free ends))
           (behind-used old (at + n) blocked fa (λ z. next-begins old at blocked used.begins z)) (λ p listed is_free. is.last p listed);
+      gone = λ still. elim (c.relaid.comes at still.begins) as (λ _. ⊥) [ inl o ↦ omega (arith, o.1, below, some) | inr d ↦ omega (arith, is.free at d, still.kind) ];
       begins = c.relaid.made from (is.some (omega arith));
       order = (below, omega (arith, is.whole (omega arith)));
       free = omega (arith, c.relaid.free, was.sum, is.sum);

@@ -1,5 +1,6 @@
 -- Rows of blocks.
 use Rattle.std.proofs.Common.{◌≡◌, ℕ, zero, suc, ◌+◌, ◌/◌, ◌<◌, ◌≤◌, true, false, nat_lt, List, [], ◌∷◌, ◌++◌, length, get_or, refl, sym, ◌∙◌, ap, subst, arith, inl, inr}
+use Rattle.std.proofs.lemmas.Bool.{cases_lt}
 use Rattle.std.proofs.lemmas.Bool.Decides.{nat_tests}
 use Rattle.word_arena.specs.Blocks.{size_at, IsHeader, Blocks, Blocked, places_from, places_of, In}
 
@@ -62,6 +63,23 @@ blocks-apart mem a b p q (x ∷ xs) (place, is, rest) (inr first) (inl there) be
     absurd (omega (arith, r.from, place, is.sized))
 blocks-apart mem a b p q (x ∷ xs) (place, is, rest) (inr first) (inr second) below =
     blocks-apart mem (a + size_at mem x) b p q xs rest first second below
+
+-- The block in which a place lies; that it is one block is `blocks-apart`.
+pub record Covers (mem : List ℕ) (q : ℕ) (xs : List ℕ) : Type 0 where
+  pub p : ℕ
+  pub listed : In p xs
+  pub from : p ≤ q
+  pub to : q < p + size_at mem p
+
+pub blocks-cover : (mem : List ℕ) (a b q : ℕ) (xs : List ℕ) → Blocks mem a xs b → a ≤ q → q < b → Covers mem q xs
+blocks-cover mem a b q [] same low high = absurd (omega (arith, same))
+blocks-cover mem a b q (x ∷ xs) (place, is, rest) low high =
+    elim (cases_lt q (a + size_at mem x)) as (λ _. Covers mem q (x ∷ xs)) [
+      | inl here ↦ record { p = x; listed = inl refl; from = omega (arith, place); to = omega (arith, place) }
+      | inr past ↦ (
+          let r = blocks-cover mem (a + size_at mem x) b q xs rest past high in
+          record { p = r.p; listed = inr r.listed; from = r.from; to = r.to })
+    ]
 
 -- A row that reaches no farther than another from the same place is its front.
 pub record Front (mem : List ℕ) (b c : ℕ) (xs ys : List ℕ) : Type 0 where

@@ -1,6 +1,6 @@
 -- What each call does to the memory, for the table beside it.
 use Rattle.std.specs.Prelude.{◌≡◌, ◌≢◌, ℕ, ◌+◌, ◌-◌, ◌<◌, ◌≤◌, List, length, slice_index, slice_set}
-use Rattle.word_arena.specs.Blocks.{size_at, kind_at, owner_at, header, Blocks, Blocked, Begins, free_in, free_of, FreeApart}
+use Rattle.word_arena.specs.Blocks.{size_at, kind_at, owner_at, header, Blocks, Blocked, Begins, IsUsed, free_in, free_of, FreeApart}
 use Rattle.word_arena.specs.Calls.{IsBlock, freed, taken, free_end, shortened, OthersStay}
 
 -- Blocks begin where they did, with the same headers, but for three places.
@@ -40,6 +40,7 @@ pub record Gave (old new : List ℕ) (at from : ℕ) : Type 0 where
   pub free : free_of new ≡ free_of old + size_at old at
   pub frame : Frame old new from at (at + size_at old at)
   pub apart : FreeApart old → FreeApart new
+  pub gone : IsUsed new at → ⊥
   pub order : (from ≤ at) × (at + size_at old at ≤ from + size_at new from)
 
 -- The memory is a row of blocks whose last, from the place on, is free, where the place is not the end.

@@ -81,6 +81,7 @@ impl Arena {
         requires block { IsUsed self.old.mem at }
         ensures sound { Sound self.new }
         ensures mem { Merged self.old.mem self.new.mem at }
+        ensures gone { IsUsed self.new.mem at → ⊥ }
         ensures others { OthersStay self.old.mem self.new.mem at }
         ensures free { free_of self.new.mem ≡ free_of self.old.mem + size_at self.old.mem at }
         ensures apart { FreeApart self.old.mem → FreeApart self.new.mem }
