@@ -10,10 +10,14 @@ mod Ended
 mod Tight
 mod Seats
 mod Changing
-mod Rooms
 mod Turning
+mod Rooms
 mod Seated
-mod Sweeping
 mod Acting
 mod Growing
 mod Setting
+mod Sweeping
+mod Texts
+mod Words
+mod Lists
+mod Calling

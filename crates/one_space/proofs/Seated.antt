@@ -41,5 +41,5 @@ module _ (b : One) (s : State) (o : OneStands b s) (c : IsCounted b) where
 
 -- The space stands for the state with one process changed.
 pub settled-stands : (b c : One) (s : State) (p : Parsed) (q : Process) → OneStands b s → HalvesStand c.named c.halves s.shared (map (replaced q) s.processes) → c.next ≡ b.next → c.swept ≡ is_sweep p.command
-    → OneStands c (settled s p (with_process q s))
+    → OneStands c (settled p (with_process q s))
 settled-stands b c s p q o h next swept = record { processes = h; next = o.next ∙ sym next; swept = sym swept; shared = o.shared; areas = o.areas }

@@ -62,3 +62,8 @@ pub record Sweeps (all : Bool) (old new : One) : Type 0 where
   pub once : new.halves.sweeps ≡ old.halves.sweeps + 1
   pub reached : AllReached new.halves
   pub books : Books old new old.named
+
+-- One collection was made, and every object is reachable after it.
+pub record IsSwept (old new : One) : Type 0 where
+  pub once : new.halves.sweeps ≡ old.halves.sweeps + 1
+  pub reached : AllReached new.halves

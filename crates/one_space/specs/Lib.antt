@@ -5,3 +5,4 @@ pub mod Rows
 pub mod Collecting
 pub mod One
 pub mod Doing
+pub mod Print

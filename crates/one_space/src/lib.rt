@@ -3,9 +3,9 @@
 
 mod halves;
 mod one;
+mod printing;
 mod roots;
+mod space;
 mod table;
 
-pub use halves::Halves;
-pub use one::One;
-pub use table::{Proc, fresh};
+pub use space::{LEAST_WORDS, OneSpace};

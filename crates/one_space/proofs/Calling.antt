@@ -1,0 +1,180 @@
+-- The calls of the space, from those of what it holds.
+use Rattle.std.proofs.Common.{◌≡◌, ℕ, ◌+◌, ◌*◌, ◌^◌, ◌<◌, ◌≤◌, ◌%◌, ◌/◌, ◌||◌, Bool, true, false, nat_lt, List, [], ◌∷◌, length, get_or, Option, Some, None, Result, Ok, Err, replicate, refl, sym, ◌∙◌, ap, subst, arith, inl}
+use Rattle.std.specs.List.{find}
+use Rattle.std.specs.Vec.{vec_len, vec_capacity}
+use Rattle.std.proofs.lemmas.Bool.Decides.{nat_tests}
+use Rattle.line_io.specs.Sink.{Grew, GrewInPart}
+use Rattle.plain_term.specs.Beyond.{is_beyond}
+use Rattle.plain_term.specs.Measures.{nodes, depth}
+use Rattle.plain_term.specs.Text.{text}
+use Rattle.plain_term.specs.Tree.{Tree}
+use Rattle.plain_term.specs.Tree.Tree.{Nil}
+use Rattle.script_grammar.specs.declared.command.Command.{Command}
+use Rattle.script_grammar.specs.declared.command.Command.TheVariants.{Process as OfProcess, System}
+use Rattle.script_grammar.specs.declared.command.Verb.TheVariants as verb
+use Rattle.script_grammar.specs.declared.command.SysVerb.TheVariants as sysverb
+use Rattle.script_grammar.specs.declared.command.Depth.{Depth}
+use Rattle.script_grammar.specs.declared.refusal.Refusal.{Refusal}
+use Rattle.script_grammar.specs.Written.{Terms}
+use Rattle.plain_machine.specs.State.{HasNames, Process, State, fresh_process, first_state, process_of, register}
+use Rattle.plain_machine.specs.May.{may_of_tight}
+use Rattle.plain_machine.specs.Step.{in_process, settled, step, tells, unless_beyond}
+use Rattle.plain_machine.proofs.Commands.{TermsOf}
+use Rattle.space_api.specs.Calls.{AreRising, Becomes, Follows, Passes, Prints, Properly, said}
+use Rattle.space_api.specs.declared.space.Seat.{Seat}
+use Rattle.space_api.specs.declared.space.Stop.TheVariants.{Fault}
+use Rattle.space_api.proofs.Proper.{becomes-proper, follows-proper, passes-proper}
+use Rattle.term_words.specs.Role.{always}
+use Rattle.term_words.proofs.Rooms.{weaken}
+use Rattle.item_build.specs.Modest.{IsModest}
+use Rattle.item_build.proofs.Terms.{modest-more}
+use Rattle.numbered_rows.specs.Numbers.{AreBelow, numbers}
+use Rattle.one_space.specs.Halves.{HoldsTree, IsLaid, ProcsStand, depths, end_of}
+use Rattle.one_space.specs.One.{Holds, IsCounted, OneStands, Sits, number_in, numbers_of, words_of}
+use Rattle.one_space.specs.Doing.{Sweeps}
+use Rattle.one_space.specs.Print.{Printable}
+use Rattle.one_space.specs.declared.halves.Halves.{Halves}
+use Rattle.one_space.specs.declared.one.One.{One}
+use Rattle.one_space.specs.declared.table.Proc.{Proc}
+use Rattle.one_space.proofs.Changing.{fresh-stands, held-at, no_process, procs-at}
+use Rattle.one_space.proofs.Seated.{found-there}
+use Rattle.one_space.proofs.Stacks.{no_row}
+
+-- A call of what the space holds is one of the space, all of whose trees are proper.
+module _ (a b : One) (same : a ≡ b) (c : Command) (terms : Terms) (names : List (List ℕ)) (s : State) (h : Properly (OneStands b) s) (has : HasNames s names) (made : TermsOf c terms names) where
+  pub becomes-so : {A : Type 0} (r : Result A Refusal) (Stands : State → Type 0) → (OneStands a s → Becomes may_of_tight (words_of a) s (said c terms names) r Stands)
+      → Becomes may_of_tight (words_of b) s (said c terms names) r (Properly Stands)
+  becomes-so r Stands f =
+      let P : One → Type 0 = λ x. OneStands x s → Becomes may_of_tight (words_of x) s (said c terms names) r Stands in
+      becomes-proper s c terms names h.1 has made may_of_tight (words_of b) r Stands (subst P same f h.0)
+
+  pub passes-so : (Stands : State → Type 0) → (OneStands a s → Passes (step s (said c terms names)) Stands) → Passes (step s (said c terms names)) (Properly Stands)
+  passes-so Stands f =
+      let P : One → Type 0 = λ x. OneStands x s → Passes (step s (said c terms names)) Stands in
+      passes-proper s c terms names h.1 has made Stands (subst P same f h.0)
+
+  pub follows-so : {A : Type 0} (r : Result A Refusal) (Stands : State → Type 0) → (OneStands a s → Follows (step s (said c terms names)) s r Stands)
+      → Follows (step s (said c terms names)) s r (Properly Stands)
+  follows-so r Stands f =
+      let P : One → Type 0 = λ x. OneStands x s → Follows (step s (said c terms names)) s r Stands in
+      follows-proper s c terms names h.1 has made r Stands (subst P same f h.0)
+
+-- `gc` and `sys sweep`.
+pub gc-passes : (b c : One) (seat : Seat) (depth : Depth) (terms : Terms) (names : List (List ℕ)) (s : State) → IsCounted b → Sits b seat → Sweeps false b c → OneStands b s
+    → Passes (step s (said (OfProcess seat.pid (verb.Gc depth)) terms names)) (OneStands c)
+gc-passes b c seat depth terms names s counts sits w o =
+    let n = w.stands s o in
+    let P : Option Process → Type 0 = λ x. Passes (in_process x s (said (OfProcess seat.pid (verb.Gc depth)) terms names) (verb.Gc depth)) (OneStands c) in
+    subst P (sym (found-there b s o counts seat sits)) (record { processes = n.processes; next = n.next; swept = n.swept; shared = n.shared; areas = n.areas })
+
+pub sweep-passes : (b c : One) (terms : Terms) (names : List (List ℕ)) (s : State) → Sweeps true b c → OneStands b s → Passes (step s (said (System sysverb.Sweep) terms names)) (OneStands c)
+sweep-passes b c terms names s w o =
+    let n = w.stands s o in
+    record { processes = n.processes; next = n.next; swept = n.swept; shared = n.shared; areas = n.areas }
+
+-- The process of a seat.
+abbrev pub process_there : State → Seat → Process
+process_there s seat = get_or s.processes seat.row no_process
+
+-- A term that a register holds can be printed.
+module _ (b : One) (s : State) (o : OneStands b s) (seat : Seat) (sits : Sits b seat) (count : ℕ) (more : b.named ≤ count) (r : ℕ) (small : r < 16) (d : Proc) where
+  holds-there : HoldsTree o.processes.test s.shared b.halves.mem b.named (get_or (get_or b.halves.procs.items seat.row d).regs r 0) (register r (process_there s seat))
+  holds-there =
+      let p = procs-at o.processes.test s.shared b.halves.mem b.named b.halves.low (end_of b.halves) b.halves.procs.items s.processes seat.row d no_process sits.within o.processes.processes in
+      held-at o.processes.test s.shared b.halves.mem b.named (get_or b.halves.procs.items seat.row d).regs (process_there s seat).registers r (omega (arith, small, p.count)) p.registers
+
+  pub modest-there : IsModest count 256 (register r (process_there s seat))
+  modest-there = modest-more b.named count 256 (register r (process_there s seat)) more holds-there.modest
+
+  pub printable-there : Printable count 256 b.halves.mem (get_or (get_or b.halves.procs.items seat.row d).regs r 0) (register r (process_there s seat))
+  printable-there =
+      let P : List (List ℕ) → Type 0 = λ x. HoldsTree o.processes.test x b.halves.mem b.named (get_or (get_or b.halves.procs.items seat.row d).regs r 0) (register r (process_there s seat)) in
+      let h = subst P o.shared holds-there in
+      record {
+        standing = (weaken o.processes.test always b.halves.mem (λ a k e. refl)).each [] (get_or (get_or b.halves.procs.items seat.row d).regs r 0) (register r (process_there s seat)) h.standing;
+        modest = modest-there;
+      }
+
+not-beyond : (n : ℕ) (shared : List (List ℕ)) (t : Tree) → shared ≡ [] → IsModest n 256 t → is_beyond shared t ≡ false
+not-beyond n shared t none m =
+    let P : List (List ℕ) → Type 0 = λ x. is_beyond x t ≡ false in
+    let few : nodes [] t ≤ 4096 = m.few in
+    let deep : depth t ≤ 256 = m.deep in
+    subst P (sym none) (within (nodes [] t) (depth t) few deep)
+  where
+    within : (a b : ℕ) → a ≤ 4096 → b ≤ 256 → (nat_lt 1048576 a || nat_lt 1024 b) ≡ false
+    within a b x y = grind (arith, nat_tests)
+
+module _ {K : Type 0} (wrote : K → List ℕ → Type 0) (old new : K) (s : State) (pid r n : ℕ) (terms : Terms) (names : List (List ℕ)) (q : Process) (none : s.shared ≡ []) (found : process_of pid s ≡ Some q) (m : IsModest n 256 (register r q)) where
+  pub prints-all : Grew wrote old new (text names [] (register r q)) → Prints {A = Unit {0}} {K = K} (step s (said (OfProcess pid (verb.Print (record { 0 = r }))) terms names)) wrote old new (Ok tt)
+  prints-all g =
+      let P : Option Process → Type 0 = λ o. Prints {A = Unit {0}} {K = K} (in_process o s (said (OfProcess pid (verb.Print (record { 0 = r }))) terms names) (verb.Print (record { 0 = r }))) wrote old new (Ok tt) in
+      let Q : Bool → Type 0 = λ x. Prints {A = Unit {0}} {K = K} (tells s (unless_beyond x (text names s.shared (register r q)))) wrote old new (Ok tt) in
+      let R : List (List ℕ) → Type 0 = λ x. Grew wrote old new (text names x (register r q)) in
+      subst P (sym found) (subst Q (sym (not-beyond n s.shared (register r q) none m)) (subst R (sym none) g))
+
+  pub prints-part : GrewInPart wrote old new (text names [] (register r q)) → Prints {A = Unit {0}} {K = K} (step s (said (OfProcess pid (verb.Print (record { 0 = r }))) terms names)) wrote old new (Err Fault)
+  prints-part g =
+      let P : Option Process → Type 0 = λ o. Prints {A = Unit {0}} {K = K} (in_process o s (said (OfProcess pid (verb.Print (record { 0 = r }))) terms names) (verb.Print (record { 0 = r }))) wrote old new (Err Fault) in
+      let Q : Bool → Type 0 = λ x. Prints {A = Unit {0}} {K = K} (tells s (unless_beyond x (text names s.shared (register r q)))) wrote old new (Err Fault) in
+      let R : List (List ℕ) → Type 0 = λ x. GrewInPart wrote old new (text names x (register r q)) in
+      subst P (sym found) (subst Q (sym (not-beyond n s.shared (register r q) none m)) (subst R (sym none) g))
+
+-- The first space.
+abbrev never : ℕ → ℕ → Bool
+never a k = false
+
+module _ (b : One) (p : Proc) (one : b.halves.procs.items ≡ p ∷ []) (number : p.number ≡ 1) (regs : p.regs ≡ replicate 16 59) (flat : p.depth ≡ 0) (next : b.next ≡ 2) (swept : b.swept ≡ false) where
+  pub first-stands : OneStands b first_state
+  first-stands =
+      let P : List Proc → Type 0 = λ x. ProcsStand never [] b.halves.mem b.halves.low (end_of b.halves) b.named x (fresh_process 1 ∷ []) in
+      record {
+        processes = record {
+          test = never;
+          single = record { one = λ a j k x y. absurd (cc) };
+          objects = λ a k e. absurd (cc);
+          processes = subst P (sym one) (fresh-stands never [] b.halves.mem b.named b.halves.low (end_of b.halves) p 1 number regs flat, tt);
+        };
+        next = sym next;
+        swept = sym swept;
+        shared = refl;
+        areas = refl;
+      }
+
+  module _ (words : ℕ) (len : length b.halves.mem ≡ words) (least : 4096 ≤ words) (even : words % 2 ≡ 0) (base : b.halves.base ≡ 0) (top : b.halves.top ≡ 2) (low : b.halves.low ≡ words / 2) (row : vec_len b.row ≡ 4096)
+      (capacity : 1024 ≤ vec_capacity b.halves.procs) (calls : b.calls ≡ 0) (sweeps : b.halves.sweeps ≡ 0) where
+    depths-none : depths b.halves.procs.items ≡ 0
+    depths-none = ap depths one ∙ omega (arith, flat)
+
+    half-is : length b.halves.mem / 2 ≡ words / 2
+    half-is = ap (λ x. x / 2) len
+
+    laid-first : IsLaid b.halves
+    laid-first = record {
+      even = ap (λ x. x % 2) len ∙ even;
+      side = inl base;
+      front = omega (arith, base, top);
+      order = omega (arith, top, low, least);
+      places = omega (arith, base, low, half-is, depths-none);
+    }
+
+    pub first-holds : Holds b
+    first-holds =
+        let P : List Proc → Type 0 = λ x. AreRising 0 (numbers number_in x) in
+        let Q : List Proc → Type 0 = λ x. AreBelow 2 (numbers number_in x) in
+        let R : ℕ → Type 0 = λ x. AreBelow x (numbers_of b) in
+        record {
+          counts = record {
+            laid = laid-first;
+            enough = row;
+            places = capacity;
+            few = omega (arith, ap length one);
+            rising = subst P (sym one) (omega (arith, number), tt);
+            below = subst R (sym next) (subst Q (sym one) (omega (arith, number), tt));
+            second = omega (arith, next);
+            numbered = omega (arith, next);
+            counted = omega (arith, sweeps);
+          };
+          state = first_state;
+          stands = first-stands;
+        }

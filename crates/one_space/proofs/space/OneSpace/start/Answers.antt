@@ -1,0 +1,25 @@
+use Rattle.std.proofs.Common.{◌≡◌, ◌/◌, false, List, [], ◌∷◌, ◌++◌, length, refl, sym, ◌∙◌, ap, subst, arith}
+use Rattle.std.proofs.lemmas.List.{length-replicate}
+use Rattle.plain_machine.proofs.Living.{first-proper}
+use Rattle.one_space.specs.declared.halves.Halves.{Halves}
+use Rattle.one_space.specs.declared.one.One.{One}
+use Rattle.one_space.specs.declared.table.Proc.{Proc}
+use Rattle.one_space.proofs.Calling.{first-holds, first-stands}
+use Rattle.one_space.proofs.space.OneSpace.start.Goals as goal
+
+pub invariant_of-result : goal.invariant_of-result
+invariant_of-result c =
+    let P : List Proc → Type 0 = λ x. c.push_reserved.new.self.items ≡ x ++ c.fresh.result ∷ [] in
+    let one : c.push_reserved.new.self.items ≡ c.fresh.result ∷ [] = subst P c.in-Ok.ensures.items c.push_reserved.ensures.items in
+    let h : Halves = record { mem = c.in_ok-mem.mem; base = 0; top = 2; low = c.args.words / 2; procs = c.push_reserved.new.self; sweeps = 0 } in
+    let b : One = record { halves = h; row = c.in-Ok-from_elem.row; next = 2; named = 0; calls = 0; swept = false } in
+    first-holds b c.fresh.result one c.fresh.ensures.number c.fresh.ensures.regs c.fresh.ensures.depth refl refl c.args.words (ap length c.in_ok-mem.ensures ∙ length-replicate c.args.words 0) c.requires.least c.requires.even refl refl refl c.in-Ok-from_elem.ensures.len
+    (omega (arith, c.in-Ok.ensures.capacity, c.push_reserved.ensures.capacity)) refl refl
+
+pub returns-clause-first : goal.returns-clause-first
+returns-clause-first c =
+    let P : List Proc → Type 0 = λ x. c.push_reserved.new.self.items ≡ x ++ c.fresh.result ∷ [] in
+    let one : c.push_reserved.new.self.items ≡ c.fresh.result ∷ [] = subst P c.in-Ok.ensures.items c.push_reserved.ensures.items in
+    let h : Halves = record { mem = c.in_ok-mem.mem; base = 0; top = 2; low = c.args.words / 2; procs = c.push_reserved.new.self; sweeps = 0 } in
+    let b : One = record { halves = h; row = c.in-Ok-from_elem.row; next = 2; named = 0; calls = 0; swept = false } in
+    (first-stands b c.fresh.result one c.fresh.ensures.number c.fresh.ensures.regs c.fresh.ensures.depth refl refl, first-proper)

@@ -1,0 +1,211 @@
+// The space.
+ghost use Rattle.std.specs.Prelude.{◌≡◌, ℕ, ◌%◌, ◌<◌, ◌≤◌, ◌^◌, Err, IfOk, OnErr, List, length, max};
+ghost use Rattle.script_grammar.specs.declared.command.Command.TheVariants.{Process, System};
+ghost use Rattle.script_grammar.specs.declared.command.Verb.TheVariants as verb;
+ghost use Rattle.script_grammar.specs.declared.command.SysVerb.TheVariants as sysverb;
+ghost use Rattle.script_grammar.specs.declared.refusal.Refusal.TheVariants.{Procs};
+ghost use Rattle.script_grammar.specs.Written.{Term, Terms};
+ghost use Rattle.plain_machine.specs.State.{HasNames, State, first_state};
+ghost use Rattle.plain_machine.specs.Step.{step};
+ghost use Rattle.space_api.specs.Calls.{Becomes, HasTerm, IsTerm, Passes, most_calls, one_term, said};
+ghost use Rattle.script_grammar.specs.Names.{IsRegister};
+
+use crate::halves::{Halves, UNUSED};
+use crate::one::{One, ROW, SPAWN_WORDS};
+use crate::printing::print_word;
+use crate::table::fresh;
+use atom_names::AtomNames;
+use line_io::Sink;
+use numbered_rows::{find, first_above};
+use plain_machine::{Depth, MOST_PROCESSES, PLACE_COST, Refusal, Reg};
+use plain_term::Item;
+use space_api::{Seat, Space, Stop};
+use std::alloc::Global;
+use std::marker::Model;
+use word_mem::{OpenFault, WordMem};
+
+/// The fewest words of a space.
+pub const LEAST_WORDS: u64 = 4096;
+
+// The most levels of brackets in a line, and so the depth of a term.
+const LEVELS: u64 = 256;
+
+/// A memory in two halves: all that lives stands in one of them, and a collection moves it to the other.
+#[derive(Drop)]
+pub struct OneSpace {
+    one: One,
+}
+
+impl Model for OneSpace {
+    ghost use Rattle.one_space.specs.declared.one.One.{One};
+    ghost use Rattle.one_space.specs.One.{Holds};
+
+    ghost Value = { One };
+
+    ghost view = { λ a. a.one };
+
+    ghost invariant = { λ a. Holds a.one };
+}
+
+impl OneSpace {
+    /// A space of so many words in which process 1 lives alone. All memory that it will ever need is taken here.
+    pub fn start(alloc: Global, words: u64) -> Result<OneSpace, OpenFault>
+        requires least { LEAST_WORDS ≤ words }
+        requires most { words ≤ 2 ^ 24 }
+        requires even { words % 2 ≡ 0 }
+        ensures first { IfOk result (λ b. ⟦<OneSpace as Space>⟧.stands b first_state) }
+        ensures words { IfOk result (λ b. ⟦<OneSpace as Space>⟧.words b ≡ words) }
+        ensures calls { IfOk result (λ b. ⟦<OneSpace as Space>⟧.calls b ≡ 0) }
+        ensures named { IfOk result (λ b. ⟦<OneSpace as Space>⟧.named b ≡ 0) }
+    {
+        let mem = WordMem::new(alloc, words)?;
+        let Ok(mut procs) = Vec::with_capacity(alloc, MOST_PROCESSES) else {
+            return Err(OpenFault::Memory);
+        };
+        let Ok(row) = Vec::from_elem(alloc, 0u64, ROW) else {
+            return Err(OpenFault::Memory);
+        };
+        procs.push_reserved(fresh(1));
+        Ok(OneSpace {
+            one: One {
+                halves: Halves {
+                    mem,
+                    base: 0,
+                    top: UNUSED,
+                    low: words / 2,
+                    procs,
+                    sweeps: 0,
+                },
+                row,
+                next: 2,
+                named: 0,
+                calls: 0,
+                swept: false,
+            },
+        })
+    }
+}
+
+impl Space for OneSpace {
+    ghost use Rattle.std.specs.Prelude.{[]};
+    ghost use Rattle.plain_machine.specs.May.{may_of_tight};
+    ghost use Rattle.space_api.specs.Calls.{Properly};
+    ghost use Rattle.one_space.specs.One.{OneStands, Sits, words_of};
+    ghost use Rattle.one_space.specs.Doing.{Asks, Books, IsSwept};
+    ghost use Rattle.item_build.specs.Forest.{words_of as item_words_of};
+
+    ghost stands = { λ b s. Properly (OneStands b) s };
+
+    ghost sits = { λ b seat. Sits b seat };
+
+    ghost words = { λ b. words_of b };
+
+    ghost named = { λ b. b.named };
+
+    ghost calls = { λ b. b.calls };
+
+    ghost may = { may_of_tight };
+
+    ghost text = { λ b names c. [] };
+
+    fn find(&self, pid: u64) -> Option<Seat> {
+        match find(&self.one.halves.procs, pid) {
+            Some(row) => Some(Seat { pid, row }),
+            None => None,
+        }
+    }
+
+    fn live_after(&self, pid: u64) -> Option<u64> {
+        let above = first_above(&self.one.halves.procs, pid);
+        if above < self.one.halves.procs.len() {
+            Some(self.one.halves.procs[above].number)
+        } else {
+            None
+        }
+    }
+
+    fn spawn(&mut self) -> Result<u64, Refusal>
+        requires calls { self.old.calls < most_calls }
+        ensures becomes { (s : State) (terms : Terms) (names : List (List ℕ)) → Properly (OneStands self.old) s → HasNames s names
+            → Becomes may_of_tight (words_of self.old) s (said (System sysverb.Spawn) terms names) result (Properly (OneStands self.new)) }
+        ensures number { (s : State) → Properly (OneStands self.old) s → IfOk result (λ n. n ≡ s.next) }
+        ensures books { Books self.old self.new self.old.named }
+        ensures asks { (result ≡ Err Procs → ⊥) → Asks SPAWN_WORDS self.old self.new result }
+    {
+        self.one.spawn()
+    }
+
+    fn exit(&mut self, seat: Seat) {
+        self.one.exit(seat)
+    }
+
+    fn build(&mut self, names: &AtomNames, seat: Seat, r: Reg, code: &[Item]) -> Result<(), Refusal>
+        requires sits { Sits self.old seat }
+        requires register { IsRegister r }
+        requires calls { self.old.calls < most_calls }
+        requires named { self.old.named ≤ length names.now }
+        requires term { HasTerm names.now code.now }
+        ensures becomes { (s : State) (t : Term) → Properly (OneStands self.old) s → HasNames s names.now → IsTerm names.now code.now t
+            → Becomes may_of_tight (words_of self.old) s (said (Process seat.pid (verb.Set r)) (one_term t) names.now) result (Properly (OneStands self.new)) }
+        ensures books { Books self.old self.new (max self.old.named (length names.now)) }
+        ensures refused { OnErr result (self.new.named ≤ self.old.named) }
+        ensures asks { Asks (item_words_of code.now) self.old self.new result }
+    {
+        self.one.build(names, seat, r, code)
+    }
+
+    fn own_pid(&mut self, seat: Seat, r: Reg) {
+        self.one.own_pid(seat, r)
+    }
+
+    fn push(&mut self, seat: Seat, s: Reg) -> Result<(), Refusal>
+        requires sits { Sits self.old seat }
+        requires register { IsRegister s }
+        requires calls { self.old.calls < most_calls }
+        ensures becomes { (state : State) (terms : Terms) (names : List (List ℕ)) → Properly (OneStands self.old) state → HasNames state names
+            → Becomes may_of_tight (words_of self.old) state (said (Process seat.pid (verb.Push s)) terms names) result (Properly (OneStands self.new)) }
+        ensures books { Books self.old self.new self.old.named }
+        ensures asks { Asks PLACE_COST self.old self.new result }
+    {
+        self.one.push(seat, s)
+    }
+
+    fn pop(&mut self, seat: Seat, r: Reg) -> Result<(), Refusal> {
+        self.one.pop(seat, r)
+    }
+
+    fn collect(&mut self, seat: Seat, depth: Depth)
+        requires sits { Sits self.old seat }
+        requires calls { self.old.calls < most_calls }
+        ensures passes { (s : State) (terms : Terms) (names : List (List ℕ)) → Properly (OneStands self.old) s → HasNames s names
+            → Passes (step s (said (Process seat.pid (verb.Gc depth)) terms names)) (Properly (OneStands self.new)) }
+        ensures books { Books self.old self.new self.old.named }
+        ensures swept { IsSwept self.old self.new }
+    {
+        self.one.collect(false)
+    }
+
+    fn sweep_all(&mut self)
+        requires calls { self.old.calls < most_calls }
+        ensures passes { (s : State) (terms : Terms) (names : List (List ℕ)) → Properly (OneStands self.old) s → HasNames s names
+            → Passes (step s (said (System sysverb.Sweep) terms names)) (Properly (OneStands self.new)) }
+        ensures books { Books self.old self.new self.old.named }
+        ensures swept { IsSwept self.old self.new }
+    {
+        self.one.collect(true)
+    }
+
+    fn print<K: Sink>(
+        &self,
+        names: &AtomNames,
+        seat: Seat,
+        s: Reg,
+        sink: &mut K,
+    ) -> Result<(), Stop> {
+        let w = self.one.halves.procs[seat.row].regs[s.0 as usize];
+        match print_word(&self.one.halves.mem, names, w, LEVELS, sink) {
+            Ok(()) => Ok(()),
+            Err(_) => Err(Stop::Fault),
+        }
+    }
+}
