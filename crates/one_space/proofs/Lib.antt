@@ -21,3 +21,4 @@ mod Texts
 mod Words
 mod Lists
 mod Calling
+mod Imaged

@@ -4,5 +4,6 @@ pub mod Reached
 pub mod Rows
 pub mod Collecting
 pub mod One
+pub mod Image
 pub mod Doing
 pub mod Print
