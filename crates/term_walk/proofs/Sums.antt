@@ -24,7 +24,7 @@ use Rattle.term_walk.specs.Measured.{measured, Measures, Counting, Counts}
 
 -- The sums of two lists one after the other, and of pairs as two rows.
 
-nodes-append : (shared : List (List ℕ)) (ts us : Trees) → nodes_of_all shared (trees_append ts us) ≡ nodes_of_all shared ts + nodes_of_all shared us
+pub nodes-append : (shared : List (List ℕ)) (ts us : Trees) → nodes_of_all shared (trees_append ts us) ≡ nodes_of_all shared ts + nodes_of_all shared us
 nodes-append shared end us = omega arith
 nodes-append shared (t ▹ ts) us = omega (arith, nodes-append shared ts us)
 
@@ -57,11 +57,11 @@ nodes-own c shared mem w (Bin bytes) l (e, from) = rw e (omega arith)
 nodes-own c shared mem w (Shared id) l (e, from) = rw e (omega arith)
 nodes-own c shared mem w (Part base offset len) l (v, e, sb, size, from) = rw e (omega (arith, size))
 
-when-true : {A : Type 0} (b : Bool) (x y : A) → b ≡ true → (if b then x else y) ≡ x
+pub when-true : {A : Type 0} (b : Bool) (x y : A) → b ≡ true → (if b then x else y) ≡ x
 when-true true x y e = refl
 when-true false x y e = absurd cc
 
-when-false : {A : Type 0} (b : Bool) (x y : A) → b ≡ false → (if b then x else y) ≡ y
+pub when-false : {A : Type 0} (b : Bool) (x y : A) → b ≡ false → (if b then x else y) ≡ y
 when-false true x y e = absurd cc
 when-false false x y e = refl
 
@@ -139,22 +139,22 @@ counts-on mem first word next levels new l seen words n total flats k sees has g
 
 -- The answers.
 
-or-false : (a b : Bool) → a ≡ false → b ≡ false → (a || b) ≡ false
+pub or-false : (a b : Bool) → a ≡ false → b ≡ false → (a || b) ≡ false
 or-false true b e f = absurd cc
 or-false false b e f = f
 
-or-left : (a b : Bool) → a ≡ true → (a || b) ≡ true
+pub or-left : (a b : Bool) → a ≡ true → (a || b) ≡ true
 or-left true b e = refl
 or-left false b e = absurd cc
 
-or-right : (a b : Bool) → b ≡ true → (a || b) ≡ true
+pub or-right : (a b : Bool) → b ≡ true → (a || b) ≡ true
 or-right true b e = refl
 or-right false b e = e
 
-test-true : (a b : ℕ) → a < b → nat_lt a b ≡ true
+pub test-true : (a b : ℕ) → a < b → nat_lt a b ≡ true
 test-true a b h = grind (arith, nat_tests)
 
-test-false : (a b : ℕ) → b ≤ a → nat_lt a b ≡ false
+pub test-false : (a b : ℕ) → b ≤ a → nat_lt a b ≡ false
 test-false a b h = grind (arith, nat_tests)
 
 is-within : (shared : List (List ℕ)) (t : Tree) (n f : ℕ) → nodes shared t ≡ n → flat t ≡ f → n ≤ node_limit → depth t ≤ depth_limit → Within (record { nodes = n; flat = f }) ≡ measured shared t

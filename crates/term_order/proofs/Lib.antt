@@ -1,0 +1,3 @@
+pub mod Strings
+pub mod Owning
+pub mod Walks

@@ -1,0 +1,10 @@
+//! The order of two terms by their words.
+#![tactic(auto)]
+
+mod bytes;
+mod compared;
+mod comparing;
+mod looks;
+
+pub use compared::Compared;
+pub use comparing::compare;
