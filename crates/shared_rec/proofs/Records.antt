@@ -1,39 +1,48 @@
 -- Records stay where their content does.
-use Rattle.std.proofs.Common.{◌≡◌, ℕ, ◌+◌, ◌%◌, ◌<◌, Bool, true, List, get_or, ◌∙◌, ap, arith, inl, inr}
+use Rattle.std.proofs.Common.{◌≡◌, ℕ, ◌+◌, ◌%◌, ◌<◌, ◌≤◌, Bool, true, List, length, get_or, ◌∙◌, ap, arith, inl, inr}
 use Rattle.term_words.specs.Role.{IsSingle, Idle, COUNT, RECORD, RECORD_FIRST}
 use Rattle.term_words.specs.Object.{byte_of, IsBinRecord, IsFunRecord, IsRecord}
 use Rattle.term_words.specs.Kept.{Kept}
 
+module _ (c d : ℕ → ℕ → Bool) (old new : List ℕ) (longer : length old ≤ length new) (weaker : (a k : ℕ) → c a k ≡ true → d a k ≡ true)
+    (same : (a k : ℕ) → RECORD ≤ k → c a k ≡ true → get_or new a 0 ≡ get_or old a 0) where
+  -- Where the words of records are the same, records are.
+  pub bin-same : (v serial : ℕ) (bytes : List ℕ) → IsBinRecord c old v serial bytes → IsBinRecord d new v serial bytes
+  bin-same v serial bytes o = record {
+    within = omega (arith, longer, o.within);
+    header = same v RECORD_FIRST (omega arith) o.first ∙ o.header;
+    owner = same (v + 1) RECORD (omega arith) o.second ∙ o.owner;
+    size = same (v + 3) RECORD (omega arith) (o.others (v + 3) (omega arith) (omega arith)) ∙ o.size;
+    content = record {
+      each = λ i a below place.
+          let there : get_or new a 0 ≡ get_or old a 0 = same a RECORD (omega arith) (o.others a (omega arith) (omega arith)) in
+          ap (λ x. byte_of x (i % 8)) there ∙ o.content.each i a below place;
+    };
+    first = weaker v RECORD_FIRST o.first;
+    second = weaker (v + 1) RECORD o.second;
+    counted = weaker (v + 2) COUNT o.counted;
+    others = λ q from below. weaker q RECORD (o.others q from below);
+  }
+
+  pub fun-same : (v name arity : ℕ) → IsFunRecord c old v name arity → IsFunRecord d new v name arity
+  fun-same v name arity o = record {
+    named = o.named;
+    arity_range = o.arity_range;
+    within = omega (arith, longer, o.within);
+    header = same v RECORD_FIRST (omega arith) o.first ∙ o.header;
+    owner = same (v + 1) RECORD (omega arith) o.second ∙ o.owner;
+    zero_word = same (v + 3) RECORD (omega arith) o.fourth ∙ o.zero_word;
+    first = weaker v RECORD_FIRST o.first;
+    second = weaker (v + 1) RECORD o.second;
+    counted = weaker (v + 2) COUNT o.counted;
+    fourth = weaker (v + 3) RECORD o.fourth;
+  }
+
 pub bin-stays : (c d : ℕ → ℕ → Bool) (old new : List ℕ) (v serial : ℕ) (bytes : List ℕ) → Kept c d old new → IsBinRecord c old v serial bytes → IsBinRecord d new v serial bytes
-bin-stays c d old new v serial bytes k o = record {
-  within = omega (arith, k.longer, o.within);
-  header = k.same v RECORD_FIRST (omega arith) o.first ∙ o.header;
-  owner = k.same (v + 1) RECORD (omega arith) o.second ∙ o.owner;
-  size = k.same (v + 3) RECORD (omega arith) (o.others (v + 3) (omega arith) (omega arith)) ∙ o.size;
-  content = record {
-    each = λ i a below place.
-        let same : get_or new a 0 ≡ get_or old a 0 = k.same a RECORD (omega arith) (o.others a (omega arith) (omega arith)) in
-        ap (λ x. byte_of x (i % 8)) same ∙ o.content.each i a below place;
-  };
-  first = k.weaker v RECORD_FIRST o.first;
-  second = k.weaker (v + 1) RECORD o.second;
-  counted = k.weaker (v + 2) COUNT o.counted;
-  others = λ q from below. k.weaker q RECORD (o.others q from below);
-}
+bin-stays c d old new v serial bytes k o = bin-same c d old new k.longer k.weaker (λ a j past h. k.same a j (omega (arith, past)) h) v serial bytes o
 
 pub fun-stays : (c d : ℕ → ℕ → Bool) (old new : List ℕ) (v name arity : ℕ) → Kept c d old new → IsFunRecord c old v name arity → IsFunRecord d new v name arity
-fun-stays c d old new v name arity k o = record {
-  named = o.named;
-  arity_range = o.arity_range;
-  within = omega (arith, k.longer, o.within);
-  header = k.same v RECORD_FIRST (omega arith) o.first ∙ o.header;
-  owner = k.same (v + 1) RECORD (omega arith) o.second ∙ o.owner;
-  zero_word = k.same (v + 3) RECORD (omega arith) o.fourth ∙ o.zero_word;
-  first = k.weaker v RECORD_FIRST o.first;
-  second = k.weaker (v + 1) RECORD o.second;
-  counted = k.weaker (v + 2) COUNT o.counted;
-  fourth = k.weaker (v + 3) RECORD o.fourth;
-}
+fun-stays c d old new v name arity k o = fun-same c d old new k.longer k.weaker (λ a j past h. k.same a j (omega (arith, past)) h) v name arity o
 
 pub record-stays : (c d : ℕ → ℕ → Bool) (old new : List ℕ) (v n : ℕ) → Kept c d old new → IsRecord c old v n → IsRecord d new v n
 record-stays c d old new v n k (inl (serial, bytes, o, words)) = inl (serial, bytes, bin-stays c d old new v serial bytes k o, words)

@@ -173,7 +173,8 @@ replicate-past (suc n) zero b past = absurd (omega (arith, past))
 replicate-past (suc n) (suc i) b past = replicate-past n i b (omega (arith, past))
 
 -- All bytes are written.
-pub bytes-filled : (c : ℕ → ℕ → Bool) (old new : List ℕ) (v serial b m : ℕ) (bytes : List ℕ) → b < 256 → m ≡ length bytes → IsBinRecord c old v serial bytes → Writes (v + 4) (v + 4 + bin_words m) old new
+pub bytes-filled : (c : ℕ → ℕ → Bool) (old new : List ℕ) (v serial b m : ℕ) (bytes : List ℕ) → b < 256 → m ≡ length bytes
+    → IsBinRecord c old v serial bytes → Writes (v + 4) (v + 4 + bin_words m) old new
     → ((q : ℕ) → v + 4 ≤ q → q < v + 4 + m / 8 → get_or new q 0 ≡ equal_bytes b)
     → (0 < m % 8 → get_or new (v + 4 + m / 8) 0 ≡ equal_bytes b / 2 ^ (64 - m % 8 * 8))
     → IsBinRecord c new v serial (replicate (length bytes) b)

@@ -1,0 +1,6 @@
+use Rattle.std.proofs.Common.{◌+◌}
+use Rattle.term_words.proofs.Rooms.{write-keeps}
+use Rattle.off_heap_list.proofs.links.set_next.Goals as goal
+
+pub returns-clause-kept : goal.returns-clause-kept
+returns-clause-kept c = λ k idle. rw c.set.ensures (write-keeps k c.args.mem.now (c.args.object + 2) _ idle)

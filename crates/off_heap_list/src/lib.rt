@@ -1,0 +1,12 @@
+//! Chains of holders and funs: lists of distinct objects, by which the counts of the records that they name are kept.
+#![tactic(auto)]
+
+mod chains;
+mod laws;
+mod links;
+mod sweep;
+
+pub use chains::{Unchained, chain, unchain};
+pub use laws::{chained_objects_stay, holders_and_funs_are_links};
+pub use links::{next_of, record_of, set_next, set_record};
+pub use sweep::{Swept, sweep_one};

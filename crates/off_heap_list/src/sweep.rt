@@ -1,0 +1,72 @@
+// A chain after a collection.
+ghost use Rattle.std.specs.Prelude.{◌≡◌, ℕ, ◌+◌, ◌-◌, ◌<◌, ◌≤◌, Bool, true, false, List, Some, None, length, slice_set};
+ghost use Rattle.term_words.specs.Role.{Idle};
+ghost use Rattle.term_words.specs.Kept.{Keeps};
+ghost use Rattle.shared_rec.specs.Record.{count_in};
+ghost use Rattle.off_heap_list.specs.Links.{named, next_in};
+ghost use Rattle.off_heap_list.specs.Swept.{is_moved, new_place, held_words, freed_at};
+
+use crate::chains::freed_by;
+use crate::links::{next_of, record_of};
+use shared_rec::drop_one;
+use term_tags::{HOLDER, head_of};
+use word_mem::WordMem;
+
+/// What became of an object of a chain: the next object, its new place where it was moved, the record that it named where it
+/// was left behind as the last one that did, and the words of bytes of a holder that was moved.
+#[derive(Clone, Copy)]
+pub struct Swept {
+    pub next: u64,
+    pub moved: Option<u64>,
+    pub freed: Option<u64>,
+    pub words: u64,
+}
+
+/// Looks at an object of a chain after a collection. Where it was left behind, its record does not count it any more.
+pub fn sweep_one(mem: &mut WordMem, at: u64) -> Swept
+    requires object { at + 6 ≤ length mem.old }
+    requires moved { is_moved mem.old at ≡ true → new_place mem.old at + 6 ≤ length mem.old }
+    requires of_record { is_moved mem.old at ≡ false → named mem.old at + 4 ≤ length mem.old }
+    requires count { is_moved mem.old at ≡ false → 1 ≤ count_in mem.old (named mem.old at) }
+    ensures next { result.next ≡ next_in mem.old at }
+    ensures moved { is_moved mem.old at ≡ true
+        → (result.moved ≡ Some (new_place mem.old at)) × (result.freed ≡ None) × (result.words ≡ held_words mem.old (new_place mem.old at))
+        × (mem.new ≡ mem.old) }
+    ensures left { is_moved mem.old at ≡ false
+        → (result.moved ≡ None) × (result.freed ≡ freed_at (named mem.old at) (count_in mem.old (named mem.old at) - 1)) × (result.words ≡ 0)
+        × (mem.new ≡ slice_set mem.old (named mem.old at + 2) (count_in mem.old (named mem.old at) - 1)) }
+    ensures kept { (c : ℕ → ℕ → Bool) → Idle c (named mem.old at + 2) → Keeps c c mem.old mem.new }
+{
+    let next = next_of(mem, at);
+    let first = mem.get(at);
+    if first % 4 == 2 {
+        let place = first / 4;
+        let words = held_in(mem, place);
+        return Swept {
+            next,
+            moved: Some(place),
+            freed: None,
+            words,
+        };
+    }
+    let record = record_of(mem, at);
+    let freed = freed_by(drop_one(mem, record), record);
+    Swept {
+        next,
+        moved: None,
+        freed,
+        words: 0,
+    }
+}
+
+// The words of the bytes that a holder has, 0 for a fun.
+fn held_in(mem: &WordMem, object: u64) -> u64
+    requires { object + 6 ≤ length mem.now }
+    ensures { result ≡ held_words mem.now object }
+{
+    let _len = mem.len();
+    if mem.get(object) != head_of(HOLDER, 5) {
+        return 0;
+    }
+    mem.get(object + 1).div_ceil(8)
+}
