@@ -1,5 +1,5 @@
 // The order of terms, kind by kind.
-use plain_term::{Item, Tree, TreeFault, order};
+use plain_term::{Item, Tree, TreeFault, flat, nodes, order};
 use sqlite_items::{Boxed, Items};
 use std::alloc::{AllocError, Global};
 use std::cmp::Ordering;
@@ -142,14 +142,16 @@ fn terms_are_in_order(rt: HostRuntime) -> Result<(), Fail> {
     Ok(())
 }
 
-fn part_equals_bytes(alloc: Global) -> Result<bool, Fail> {
+// A part of two bytes is equal to them, has their nodes, and its own words beside those of the whole.
+fn part_is_its_bytes(alloc: Global) -> Result<bool, Fail> {
     let part = part_of(alloc, &[0, 1, 2, 3], 1, 2)?;
-    let whole = Tree::Bin(Items::from_slice(alloc, &[1, 2])?);
-    Ok(order(&part, &whole, &[]) == Ordering::Equal)
+    let bytes = Tree::Bin(Items::from_slice(alloc, &[1, 2])?);
+    let equal = order(&part, &bytes, &[]) == Ordering::Equal;
+    Ok(equal && nodes(&part) == 2 && flat(&part) == 8)
 }
 
 #[test]
 fn a_part_is_its_bytes(rt: HostRuntime) -> Result<(), Fail> {
-    assert!(rt; part_equals_bytes(rt.alloc())?);
+    assert!(rt; part_is_its_bytes(rt.alloc())?);
     Ok(())
 }

@@ -59,13 +59,19 @@ fn words_are_told_apart(rt: HostRuntime) {
 fn immediates_are_made() -> bool {
     small(-1) == 18_446_744_073_709_551_615
         && small(0) == 15
+        && small(576_460_752_303_423_487) == 9_223_372_036_854_775_807
+        && small(-576_460_752_303_423_488) == 9_223_372_036_854_775_823
         && pid(1) == 19
         && atom(2) == 139
         && nil() == 59
 }
 
 fn pointers_and_headers_are_made() -> bool {
-    list_at(5) == 21 && boxed_at(5) == 22 && head_of(0, 2) == 128 && head_of(15, 4) == 316
+    list_at(5) == 21
+        && boxed_at(5) == 22
+        && head_of(0, 0) == 0
+        && head_of(0, 2) == 128
+        && head_of(15, 4) == 316
 }
 
 #[test]
