@@ -16,7 +16,8 @@ pub fn taken_words_keep_one_role()
 /// Roles that grow in some words and then in the next ones grow in all of these, what is built last stands by them, and
 /// what was free behind them stays free.
 pub fn roles_grow_one_after_the_other()
-    ensures joined { (c d e : ℕ → ℕ → Bool) (top m n : ℕ) (old mid new : List ℕ) → Grows c d top m old mid → Grows d e (top + m) n mid new → Grows c e top (m + n) old new }
+    ensures joined { (c d e : ℕ → ℕ → Bool) (top m n : ℕ) (old mid new : List ℕ) → Grows c d top m old mid → Grows d e (top + m) n mid new
+        → Grows c e top (m + n) old new }
     ensures built { (c d : ℕ → ℕ → Bool) (top m n : ℕ) (old mid new : List ℕ) (shared : List (List ℕ)) (w : ℕ) (t : Tree) → Grows c d top m old mid
         → Built d (top + m) n mid new shared w t → Built c top (m + n) old new shared w t }
     ensures free { (c d : ℕ → ℕ → Bool) (top n limit : ℕ) (old new : List ℕ) → Grows c d top n old new → IsFree c top limit → IsFree d (top + n) limit }

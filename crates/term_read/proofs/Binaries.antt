@@ -26,7 +26,8 @@ lies-from mem q bytes lie inside = record {
 
 -- The first word of the bytes of a whole binary.
 
-heap-first : (c : ℕ → ℕ → Bool) (shared : List (List ℕ)) (mem : List ℕ) (w : ℕ) (t : Tree) → Stands c shared mem w t → w % 4 ≡ 2 → get_or mem (w / 4) 0 / 4 % 16 ≡ 9 → IsFirst mem (whole_of shared t) (Some (w / 4 + 2))
+heap-first : (c : ℕ → ℕ → Bool) (shared : List (List ℕ)) (mem : List ℕ) (w : ℕ) (t : Tree) → Stands c shared mem w t → w % 4 ≡ 2 → get_or mem (w / 4) 0 / 4 % 16 ≡ 9
+    → IsFirst mem (whole_of shared t) (Some (w / 4 + 2))
 unfolding Stands
 heap-first c shared mem w (Bin bytes) o tag sub = (w / 4 + 2, refl, lies-from mem (w / 4 + 2) bytes o.content (omega (arith, o.boxed.object.within)))
 heap-first c shared mem w (Int (pos n)) s tag sub = absurd (omega (arith, told c shared mem w (Int (pos n)) s))
@@ -41,8 +42,10 @@ has-heap_first mem w p tag same =
 holder-first : (c : ℕ → ℕ → Bool) (shared : List (List ℕ)) (mem : List ℕ) (w : ℕ) (t : Tree) → Stands c shared mem w t → w % 4 ≡ 2 → get_or mem (w / 4) 0 / 4 % 16 ≡ 8
     → IsFirst mem (whole_of shared t) (Some (get_or mem (w / 4 + 3) 0 + 4)) × (get_or mem (w / 4 + 3) 0 + 4 ≤ length mem)
 unfolding Stands
-holder-first c shared mem w (Shared id) o tag sub =
-    ((get_or mem (w / 4 + 3) 0 + 4, refl, lies-from mem (get_or mem (w / 4 + 3) 0 + 4) (shared_bytes shared id) o.record_is.content (omega (arith, o.record_is.within))), omega (arith, o.record_is.within))
+holder-first c shared mem w (Shared id) o tag sub = (
+  (get_or mem (w / 4 + 3) 0 + 4, refl, lies-from mem (get_or mem (w / 4 + 3) 0 + 4) (shared_bytes shared id) o.record_is.content (omega (arith, o.record_is.within))),
+  omega (arith, o.record_is.within),
+)
 holder-first c shared mem w (Int (pos n)) s tag sub = absurd (omega (arith, told c shared mem w (Int (pos n)) s))
 holder-first c shared mem w (Int (negsuc n)) s tag sub = absurd (omega (arith, told c shared mem w (Int (negsuc n)) s))
 holder-first c shared mem w t s tag sub = absurd (omega (arith, told c shared mem w t s))
@@ -69,7 +72,8 @@ has-no_first mem w a b = record { each = λ c shared t s. no-whole c shared mem 
 
 -- A part has its original behind it.
 
-part-base : (c : ℕ → ℕ → Bool) (shared : List (List ℕ)) (mem : List ℕ) (w : ℕ) (t : Tree) → Stands c shared mem w t → w % 4 ≡ 2 → get_or mem (w / 4) 0 / 4 % 16 ≡ 10 → (base : Tree) × Stands c shared mem (get_or mem (w / 4 + 4) 0) base
+part-base : (c : ℕ → ℕ → Bool) (shared : List (List ℕ)) (mem : List ℕ) (w : ℕ) (t : Tree) → Stands c shared mem w t → w % 4 ≡ 2 → get_or mem (w / 4) 0 / 4 % 16 ≡ 10
+    → (base : Tree) × Stands c shared mem (get_or mem (w / 4 + 4) 0) base
 unfolding Stands
 part-base c shared mem w (Part base offset len) (o, is, sb) tag sub = (base, sb)
 part-base c shared mem w (Int (pos n)) s tag sub = absurd (omega (arith, told c shared mem w (Int (pos n)) s))
@@ -133,7 +137,8 @@ get-none [] i far = refl
 get-none (x ∷ xs) zero far = absurd (omega arith)
 get-none (x ∷ xs) (suc i) far = get-none xs i (omega arith)
 
-byte-told : (mem : List ℕ) (o : Option (List ℕ)) (d : Bytes) (i : ℕ) → IsData mem o (Some d) → i < d.len → Some (byte_of (get_or mem (d.first + (d.start + i) / 8) 0) ((d.start + i) % 8)) ≡ option_and_then (λ bytes. slice_get bytes i) o
+byte-told : (mem : List ℕ) (o : Option (List ℕ)) (d : Bytes) (i : ℕ) → IsData mem o (Some d) → i < d.len
+    → Some (byte_of (get_or mem (d.first + (d.start + i) / 8) 0) ((d.start + i) % 8)) ≡ option_and_then (λ bytes. slice_get bytes i) o
 byte-told mem None d i e below = absurd (none-some d (sym e))
 byte-told mem (Some bytes) d i (x, e, b, l) below =
     let P : Bytes → Type 0 = λ z. i < z.len → Some (byte_of (get_or mem (z.first + (z.start + i) / 8) 0) ((z.start + i) % 8)) ≡ slice_get bytes i in

@@ -10,7 +10,8 @@ use Rattle.term_words.proofs.Pairs.{keys-row, values-row, keys-len, values-len}
 
 -- Rows by index.
 
-row-part : (c : ℕ → ℕ → Bool) (shared : List (List ℕ)) (mem : List ℕ) (p : ℕ) (ts : Trees) (i a : ℕ) → RowStands c shared mem p ts → i < trees_len ts → a ≡ p + i → Answers c shared mem (part_at ts i) (Some (get_or mem a 0))
+row-part : (c : ℕ → ℕ → Bool) (shared : List (List ℕ)) (mem : List ℕ) (p : ℕ) (ts : Trees) (i a : ℕ) → RowStands c shared mem p ts → i < trees_len ts → a ≡ p + i
+    → Answers c shared mem (part_at ts i) (Some (get_or mem a 0))
 unfolding RowStands
 row-part c shared mem p end i a row below e = absurd (omega arith)
 row-part c shared mem p (t ▹ ts) zero a (first, rest) below e =
@@ -27,7 +28,8 @@ past-part (t ▹ ts) (suc i) far = past-part ts i (omega arith)
 none : (c : ℕ → ℕ → Bool) (shared : List (List ℕ)) (mem : List ℕ) (o : Option Tree) → o ≡ None → Answers c shared mem o None
 none c shared mem o e = let P : Option Tree → Type 0 = λ x. Answers c shared mem x None in subst P (sym e) refl
 
-place-part : (c : ℕ → ℕ → Bool) (shared : List (List ℕ)) (mem : List ℕ) (p : ℕ) (ts : Trees) (i a : ℕ) → RowStands c shared mem p ts → 1 ≤ i → i ≤ trees_len ts → a + 1 ≡ p + i → Answers c shared mem (place_of ts i) (Some (get_or mem a 0))
+place-part : (c : ℕ → ℕ → Bool) (shared : List (List ℕ)) (mem : List ℕ) (p : ℕ) (ts : Trees) (i a : ℕ) → RowStands c shared mem p ts → 1 ≤ i → i ≤ trees_len ts → a + 1 ≡ p + i
+    → Answers c shared mem (place_of ts i) (Some (get_or mem a 0))
 place-part c shared mem p ts zero a row low high e = absurd (omega arith)
 place-part c shared mem p ts (suc i) a row low high e = row-part c shared mem p ts i a row (omega arith) (omega arith)
 
@@ -149,7 +151,8 @@ no-env mem w i other = record { each = λ c shared t s. env-none c shared mem w 
 
 -- Pairs of a map.
 
-map-answer : (c : ℕ → ℕ → Bool) (shared : List (List ℕ)) (mem : List ℕ) (w : ℕ) (t : Tree) → Stands c shared mem w t → w % 4 ≡ 2 → get_or mem (w / 4) 0 / 4 % 16 ≡ 15 → Some (get_or mem (w / 4 + 1) 0) ≡ map_len_of t
+map-answer : (c : ℕ → ℕ → Bool) (shared : List (List ℕ)) (mem : List ℕ) (w : ℕ) (t : Tree) → Stands c shared mem w t → w % 4 ≡ 2 → get_or mem (w / 4) 0 / 4 % 16 ≡ 15
+    → Some (get_or mem (w / 4 + 1) 0) ≡ map_len_of t
 unfolding Stands
 map-answer c shared mem w (Map ps) (o, ks, vs) tag sub = ap Some o.count
 map-answer c shared mem w (Int (pos n)) s tag sub = absurd (omega (arith, told c shared mem w (Int (pos n)) s))
@@ -173,7 +176,8 @@ key-answer : (c : ℕ → ℕ → Bool) (shared : List (List ℕ)) (mem : List �
     → i < get_or mem (w / 4 + 1) 0 → Answers c shared mem (key_of i t) (Some (get_or mem (get_or mem (w / 4 + 2) 0 / 4 + 1 + i) 0))
 unfolding Stands
 key-answer c shared mem w (Map ps) i (o, ks, vs) tag sub below =
-    row-part c shared mem (get_or mem (w / 4 + 2) 0 / 4 + 1) (keys_of ps) i (get_or mem (w / 4 + 2) 0 / 4 + 1 + i) (keys-row c shared mem (get_or mem (w / 4 + 2) 0 / 4 + 1) ps ks) (omega (arith, o.count, keys-len ps)) refl
+    row-part c shared mem (get_or mem (w / 4 + 2) 0 / 4 + 1) (keys_of ps) i (get_or mem (w / 4 + 2) 0 / 4 + 1 + i) (keys-row c shared mem (get_or mem (w / 4 + 2) 0 / 4 + 1) ps ks)
+    (omega (arith, o.count, keys-len ps)) refl
 key-answer c shared mem w (Int (pos n)) i s tag sub below = absurd (omega (arith, told c shared mem w (Int (pos n)) s))
 key-answer c shared mem w (Int (negsuc n)) i s tag sub below = absurd (omega (arith, told c shared mem w (Int (negsuc n)) s))
 key-answer c shared mem w t i s tag sub below = absurd (omega (arith, told c shared mem w t s))
@@ -189,7 +193,8 @@ unfolding Stands
 key-none c shared mem w (Map ps) i (o, ks, vs) other = absurd (other o.boxed.tag (omega (arith, o.boxed.header)))
 key-none c shared mem w t i s other = refl
 
-pub reads-key : (mem : List ℕ) (w p i : ℕ) → w % 4 ≡ 2 → p ≡ w / 4 → get_or mem p 0 / 4 % 16 ≡ 15 → i < get_or mem (p + 1) 0 → Reads (key_of i) mem w (Some (get_or mem (get_or mem (p + 2) 0 / 4 + 1 + i) 0))
+pub reads-key : (mem : List ℕ) (w p i : ℕ) → w % 4 ≡ 2 → p ≡ w / 4 → get_or mem p 0 / 4 % 16 ≡ 15 → i < get_or mem (p + 1) 0
+    → Reads (key_of i) mem w (Some (get_or mem (get_or mem (p + 2) 0 / 4 + 1 + i) 0))
 reads-key mem w p i tag same =
     let P : ℕ → Type 0 = λ x. get_or mem x 0 / 4 % 16 ≡ 15 → i < get_or mem (x + 1) 0 → Reads (key_of i) mem w (Some (get_or mem (get_or mem (x + 2) 0 / 4 + 1 + i) 0)) in
     subst P (sym same) (λ sub below. record { each = λ c shared t s. key-answer c shared mem w t i s tag sub below })

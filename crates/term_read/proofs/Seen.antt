@@ -148,7 +148,14 @@ pub sees-fun : (mem : List ℕ) (w p : ℕ) → w % 4 ≡ 2 → p ≡ w / 4 → 
   env = record { first = p + 6; len = get_or mem (p + 4) 0 };
 }))
 sees-fun mem w p tag same =
-    let P : ℕ → Type 0 = λ x. get_or mem x 0 / 4 % 16 ≡ 5 → Sees mem w (look.Fun (record { name = get_or mem (get_or mem (x + 1) 0 + 1) 0 / 256; arity = get_or mem (x + 3) 0; creator = get_or mem (x + 5) 0 / 16; env = record { first = x + 6; len = get_or mem (x + 4) 0 } })) in
+    let P : ℕ → Type 0 =
+    λ x. get_or mem x 0 / 4 % 16 ≡ 5 → Sees mem w (look.Fun
+    (record {
+      name = get_or mem (get_or mem (x + 1) 0 + 1) 0 / 256;
+      arity = get_or mem (x + 3) 0;
+      creator = get_or mem (x + 5) 0 / 16;
+      env = record { first = x + 6; len = get_or mem (x + 4) 0 };
+    })) in
     subst P (sym same) (λ sub. record { each = λ c shared t s. (fun-seen c shared mem w t s tag sub).0 })
 
 -- The record of a fun lies in the memory.
@@ -214,7 +221,8 @@ head-sign (negsuc n) arity h e = omega arith
 one-digit : (c : ℕ → ℕ → Bool) (mem : List ℕ) (w : ℕ) (i : ℤ) (negative : Bool) → IsInt c mem w i → w % 4 ≡ 2 → get_or mem (w / 4) 0 / 4 % 16 ≡ (if negative then 3 else 2)
     → (get_or mem (w / 4) 0 / 64 ≡ 2 → ⊥) → HasDigits i (record { negative = negative; low = get_or mem (w / 4 + 1) 0; high = 0 })
 one-digit c mem w i negative (inl s) tag sub one = absurd (omega arith)
-one-digit c mem w i negative (inr (inl o)) tag sub one = record { big = o.big; sign = sign-told i negative (get_or mem (w / 4) 0) (head-sign i 1 (get_or mem (w / 4) 0) o.boxed.header) sub; digits = omega (arith, o.digit) }
+one-digit c mem w i negative (inr (inl o)) tag sub one =
+    record { big = o.big; sign = sign-told i negative (get_or mem (w / 4) 0) (head-sign i 1 (get_or mem (w / 4) 0) o.boxed.header) sub; digits = omega (arith, o.digit) }
 one-digit c mem w (pos n) negative (inr (inr o)) tag sub one = absurd (one (omega (arith, o.boxed.header)))
 one-digit c mem w (negsuc n) negative (inr (inr o)) tag sub one = absurd (one (omega (arith, o.boxed.header)))
 
@@ -229,7 +237,8 @@ two-digits c mem w i negative (inr (inr o)) tag sub two = record {
   digits = o.digits;
 }
 
-big-seen : (c : ℕ → ℕ → Bool) (shared : List (List ℕ)) (mem : List ℕ) (w : ℕ) (t : Tree) (d : Digits) → Stands c shared mem w t → w % 4 ≡ 2 → 2 ≤ get_or mem (w / 4) 0 / 4 % 16 → get_or mem (w / 4) 0 / 4 % 16 ≤ 3
+big-seen : (c : ℕ → ℕ → Bool) (shared : List (List ℕ)) (mem : List ℕ) (w : ℕ) (t : Tree) (d : Digits) → Stands c shared mem w t → w % 4 ≡ 2 → 2 ≤ get_or mem (w / 4) 0 / 4 % 16
+    → get_or mem (w / 4) 0 / 4 % 16 ≤ 3
     → ((i : ℤ) → IsInt c mem w i → HasDigits i d) → IsSeen c shared mem w t (look.Big d)
 unfolding Stands
 big-seen c shared mem w (Int i) d s tag low high has = inr (d, has i s, refl)
@@ -242,7 +251,8 @@ range-of false n e = (omega arith, omega arith)
 pub sees-one-digit : (mem : List ℕ) (w p : ℕ) (negative : Bool) → w % 4 ≡ 2 → p ≡ w / 4 → get_or mem p 0 / 4 % 16 ≡ (if negative then 3 else 2) → (get_or mem p 0 / 64 ≡ 2 → ⊥)
     → Sees mem w (look.Big (record { negative = negative; low = get_or mem (p + 1) 0; high = 0 }))
 sees-one-digit mem w p negative tag same =
-    let P : ℕ → Type 0 = λ x. get_or mem x 0 / 4 % 16 ≡ (if negative then 3 else 2) → (get_or mem x 0 / 64 ≡ 2 → ⊥) → Sees mem w (look.Big (record { negative = negative; low = get_or mem (x + 1) 0; high = 0 })) in
+    let P : ℕ → Type 0 =
+    λ x. get_or mem x 0 / 4 % 16 ≡ (if negative then 3 else 2) → (get_or mem x 0 / 64 ≡ 2 → ⊥) → Sees mem w (look.Big (record { negative = negative; low = get_or mem (x + 1) 0; high = 0 })) in
     subst P (sym same) (λ sub one. record {
       each = λ c shared t s.
           let (low, high) = range-of negative (get_or mem (w / 4) 0 / 4 % 16) sub in
@@ -252,7 +262,9 @@ sees-one-digit mem w p negative tag same =
 pub sees-two-digits : (mem : List ℕ) (w p : ℕ) (negative : Bool) → w % 4 ≡ 2 → p ≡ w / 4 → get_or mem p 0 / 4 % 16 ≡ (if negative then 3 else 2) → get_or mem p 0 / 64 ≡ 2
     → Sees mem w (look.Big (record { negative = negative; low = get_or mem (p + 1) 0; high = get_or mem (p + 2) 0 }))
 sees-two-digits mem w p negative tag same =
-    let P : ℕ → Type 0 = λ x. get_or mem x 0 / 4 % 16 ≡ (if negative then 3 else 2) → get_or mem x 0 / 64 ≡ 2 → Sees mem w (look.Big (record { negative = negative; low = get_or mem (x + 1) 0; high = get_or mem (x + 2) 0 })) in
+    let P : ℕ → Type 0 =
+    λ x. get_or mem x 0 / 4 % 16 ≡ (if negative then 3 else 2) → get_or mem x 0 / 64 ≡ 2 → Sees mem w
+    (look.Big (record { negative = negative; low = get_or mem (x + 1) 0; high = get_or mem (x + 2) 0 })) in
     subst P (sym same) (λ sub two. record {
       each = λ c shared t s.
           let (low, high) = range-of negative (get_or mem (w / 4) 0 / 4 % 16) sub in
@@ -286,16 +298,19 @@ holder-seen c shared mem w (Int (pos n)) s tag sub = absurd (omega (arith, told 
 holder-seen c shared mem w (Int (negsuc n)) s tag sub = absurd (omega (arith, told c shared mem w (Int (negsuc n)) s))
 holder-seen c shared mem w t s tag sub = absurd (omega (arith, told c shared mem w t s))
 
-pub sees-holder : (mem : List ℕ) (w p : ℕ) → w % 4 ≡ 2 → p ≡ w / 4 → get_or mem p 0 / 4 % 16 ≡ 8 → Sees mem w (look.Holder (record { first = get_or mem (p + 3) 0 + 4; start = 0; len = get_or mem (p + 1) 0 }))
+pub sees-holder : (mem : List ℕ) (w p : ℕ) → w % 4 ≡ 2 → p ≡ w / 4 → get_or mem p 0 / 4 % 16 ≡ 8
+    → Sees mem w (look.Holder (record { first = get_or mem (p + 3) 0 + 4; start = 0; len = get_or mem (p + 1) 0 }))
 sees-holder mem w p tag same =
     let P : ℕ → Type 0 = λ x. get_or mem x 0 / 4 % 16 ≡ 8 → Sees mem w (look.Holder (record { first = get_or mem (x + 3) 0 + 4; start = 0; len = get_or mem (x + 1) 0 })) in
     subst P (sym same) (λ sub. record { each = λ c shared t s. holder-seen c shared mem w t s tag sub })
 
 same-part : (base first start1 start2 len1 len2 : ℕ) → start1 ≡ start2 → len1 ≡ len2
-    → look.Part (record { base = base; bytes = record { first = first; start = start1; len = len1 } }) ≡ look.Part (record { base = base; bytes = record { first = first; start = start2; len = len2 } })
+    → look.Part (record { base = base; bytes = record { first = first; start = start1; len = len1 } }) ≡ look.Part
+    (record { base = base; bytes = record { first = first; start = start2; len = len2 } })
 same-part base first start1 start2 len1 len2 p q = rw (p, q) refl
 
-part-seen : (c : ℕ → ℕ → Bool) (shared : List (List ℕ)) (mem : List ℕ) (w : ℕ) (t : Tree) (first : ℕ) → Stands c shared mem w t → w % 4 ≡ 2 → get_or mem (w / 4) 0 / 4 % 16 ≡ 10 → HasFirst mem (get_or mem (w / 4 + 4) 0) (Some first)
+part-seen : (c : ℕ → ℕ → Bool) (shared : List (List ℕ)) (mem : List ℕ) (w : ℕ) (t : Tree) (first : ℕ) → Stands c shared mem w t → w % 4 ≡ 2 → get_or mem (w / 4) 0 / 4 % 16 ≡ 10
+    → HasFirst mem (get_or mem (w / 4 + 4) 0) (Some first)
     → IsSeen c shared mem w t (look.Part (record { base = get_or mem (w / 4 + 4) 0; bytes = record { first = first; start = get_or mem (w / 4 + 2) 0; len = get_or mem (w / 4 + 1) 0 } }))
 unfolding Stands
 part-seen c shared mem w (Part base offset len) first (o, is, sb) tag sub h =
@@ -319,7 +334,8 @@ sees-part mem w p first tag same =
 
 -- The original of a part is a binary.
 
-part-whole : (c : ℕ → ℕ → Bool) (shared : List (List ℕ)) (mem : List ℕ) (w : ℕ) (t : Tree) → Stands c shared mem w t → w % 4 ≡ 2 → get_or mem (w / 4) 0 / 4 % 16 ≡ 10 → HasFirst mem (get_or mem (w / 4 + 4) 0) None → ⊥
+part-whole : (c : ℕ → ℕ → Bool) (shared : List (List ℕ)) (mem : List ℕ) (w : ℕ) (t : Tree) → Stands c shared mem w t → w % 4 ≡ 2 → get_or mem (w / 4) 0 / 4 % 16 ≡ 10
+    → HasFirst mem (get_or mem (w / 4 + 4) 0) None → ⊥
 unfolding Stands
 part-whole c shared mem w (Part base offset len) (o, is, sb) tag sub h = base-none mem shared base is (h.each c shared base sb)
 part-whole c shared mem w (Int (pos n)) s tag sub h = absurd (omega (arith, told c shared mem w (Int (pos n)) s))
@@ -354,7 +370,8 @@ told-subtag (Cons x y) w h s tag = absurd (omega arith)
 row-terms : (c : ℕ → ℕ → Bool) (shared : List (List ℕ)) (mem : List ℕ) (p n : ℕ) (ts : Trees) → p + n ≤ length mem → n ≡ trees_len ts → RowStands c shared mem p ts → AreTerms mem p n
 row-terms c shared mem p n ts inside count row = record { within = inside; each = λ j below. is-term c shared mem (get_or mem (p + j) 0) (tree_at ts j) (row-at c shared mem p ts j row (omega arith)) }
 
-pub two-terms : (c : ℕ → ℕ → Bool) (shared : List (List ℕ)) (mem : List ℕ) (p : ℕ) (h t : Tree) → p + 2 ≤ length mem → Stands c shared mem (get_or mem p 0) h → Stands c shared mem (get_or mem (p + 1) 0) t → AreTerms mem p 2
+pub two-terms : (c : ℕ → ℕ → Bool) (shared : List (List ℕ)) (mem : List ℕ) (p : ℕ) (h t : Tree) → p + 2 ≤ length mem → Stands c shared mem (get_or mem p 0) h
+    → Stands c shared mem (get_or mem (p + 1) 0) t → AreTerms mem p 2
 unfolding RowStands
 two-terms c shared mem p h t inside sh st = row-terms c shared mem p 2 (h ▹ t ▹ end) inside refl (sh, (st, tt))
 
@@ -386,8 +403,10 @@ OfTerm (kind.Header s n) = ⊥
 OfTerm kind.Other = ⊥
 OfTerm _ = Unit {0}
 
-module _ (mem : List ℕ) (w : ℕ) (k : Kind) (i : IsTerm mem w) (most : length mem ≤ 2 ^ 24) (small : w % 16 ≡ 15 → k ≡ kind.Small (small_value w)) (pid : w % 16 ≡ 3 → w < 2 ^ 45 → k ≡ kind.Pid (w / 16))
-    (atom : w % 64 ≡ 11 → w < 2 ^ 20 → k ≡ kind.Atom (w / 64)) (nil : w ≡ 59 → k ≡ kind.Nil) (list : w % 4 ≡ 1 → w < 2 ^ 26 → k ≡ kind.ListAt (w / 4)) (boxed : w % 4 ≡ 2 → w < 2 ^ 26 → k ≡ kind.BoxedAt (w / 4)) where
+module _ (mem : List ℕ) (w : ℕ) (k : Kind) (i : IsTerm mem w) (most : length mem ≤ 2 ^ 24) (small : w % 16 ≡ 15 → k ≡ kind.Small (small_value w))
+    (pid : w % 16 ≡ 3 → w < 2 ^ 45 → k ≡ kind.Pid (w / 16))
+    (atom : w % 64 ≡ 11 → w < 2 ^ 20 → k ≡ kind.Atom (w / 64)) (nil : w ≡ 59 → k ≡ kind.Nil) (list : w % 4 ≡ 1 → w < 2 ^ 26 → k ≡ kind.ListAt (w / 4))
+    (boxed : w % 4 ≡ 2 → w < 2 ^ 26 → k ≡ kind.BoxedAt (w / 4)) where
   boxed-term : w % 4 ≡ 2 → OfTerm k
   boxed-term tag = subst OfTerm (sym (boxed tag (boxed-near mem w i most tag))) tt
 
@@ -414,7 +433,9 @@ module _ (mem : List ℕ) (w : ℕ) (k : Kind) (i : IsTerm mem w) (most : length
 is-subtag : (mem : List ℕ) (w p : ℕ) → IsTerm mem w → w % 4 ≡ 2 → p ≡ w / 4 → let h : ℕ = get_or mem p 0 in
     (h / 4 % 16 ≡ 0) ⊎ ((h / 4 % 16 ≡ 2) ⊎ ((h / 4 % 16 ≡ 3) ⊎ ((h / 4 % 16 ≡ 4) ⊎ ((h / 4 % 16 ≡ 5) ⊎ ((h / 4 % 16 ≡ 8) ⊎ ((h / 4 % 16 ≡ 9) ⊎ ((h / 4 % 16 ≡ 10) ⊎ (h / 4 % 16 ≡ 15))))))))
 is-subtag mem w p i tag same =
-    let P : ℕ → Type 0 = λ x. let h : ℕ = get_or mem x 0 in (h / 4 % 16 ≡ 0) ⊎ ((h / 4 % 16 ≡ 2) ⊎ ((h / 4 % 16 ≡ 3) ⊎ ((h / 4 % 16 ≡ 4) ⊎ ((h / 4 % 16 ≡ 5) ⊎ ((h / 4 % 16 ≡ 8) ⊎ ((h / 4 % 16 ≡ 9) ⊎ ((h / 4 % 16 ≡ 10) ⊎ (h / 4 % 16 ≡ 15)))))))) in
+    let P : ℕ → Type 0 =
+    λ x. let h : ℕ = get_or mem x 0 in (h / 4 % 16 ≡ 0) ⊎ ((h / 4 % 16 ≡ 2)
+    ⊎ ((h / 4 % 16 ≡ 3) ⊎ ((h / 4 % 16 ≡ 4) ⊎ ((h / 4 % 16 ≡ 5) ⊎ ((h / 4 % 16 ≡ 8) ⊎ ((h / 4 % 16 ≡ 9) ⊎ ((h / 4 % 16 ≡ 10) ⊎ (h / 4 % 16 ≡ 15)))))))) in
     subst P (sym same) (told-subtag i.tree w (get_or mem (w / 4) 0) (told always i.shared mem w i.tree i.standing) tag)
 
 -- The subtag at a place, by the kind of object that it tells, and the words of the object there.

@@ -22,7 +22,8 @@ pub fn cons_at(mem: &WordMem, w: u64) -> Option<u64>
 // The place of the object of a boxed pointer, where its header has this subtag.
 pub fn object_at(mem: &WordMem, w: u64, subtag: u8) -> Option<u64>
     requires { IsTerm mem.now w }
-    ensures some { IfSome result (λ p. (w % 4 ≡ 2) × (p ≡ w / 4) × (slice_index mem.now p / 4 % 16 ≡ subtag) × (p + (1 + slice_index mem.now p / 64) ≤ length mem.now)) }
+    ensures some { IfSome result (λ p. (w % 4 ≡ 2) × (p ≡ w / 4) × (slice_index mem.now p / 4 % 16 ≡ subtag)
+        × (p + (1 + slice_index mem.now p / 64) ≤ length mem.now)) }
     ensures none { IfNone result (w % 4 ≡ 2 → slice_index mem.now (w / 4) / 4 % 16 ≡ subtag → ⊥) }
 {
     let _len = mem.len();

@@ -134,7 +134,8 @@ whole c shared mem w (Bin bytes) single o p = whole-boxed c mem w 9 (1 + bin_wor
 whole c shared mem w (Shared id) single o p = at-size c 3 (w / 4) 6 (object_words mem w) (words-boxed mem w 5 32 o.holder.tag o.holder.header (omega arith)) (whole-holder c mem w _ single o.holder)
 whole c shared mem w (Part base offset len) single (o, is, sb) p = whole-boxed c mem w 10 4 single (omega arith) o.boxed
 whole c shared mem w (Fun name arity creator env) single (o, row) p =
-    at-size c 3 (w / 4) (6 + trees_len env) (object_words mem w) (words-boxed mem w (trees_len env + 5) 20 o.tag o.header (omega arith) ∙ omega arith) (whole-fun c mem w name arity creator (trees_len env) single o)
+    at-size c 3 (w / 4) (6 + trees_len env) (object_words mem w) (words-boxed mem w (trees_len env + 5) 20 o.tag o.header (omega arith) ∙ omega arith)
+    (whole-fun c mem w name arity creator (trees_len env) single o)
 whole c shared mem w (Atom k) single s p = absurd (omega (arith, p))
 whole c shared mem w (Pid n) single s p = absurd (omega (arith, p))
 whole c shared mem w Nil single s p = absurd (omega (arith, p))

@@ -35,9 +35,11 @@ module _ (s : ℕ → Bool) where
   count-none from (suc n) each = rw (each from (omega arith) (omega arith)) (omega (arith, count-none (from + 1) n (λ q low high. each q (omega arith) (omega arith))))
 
   -- A range in three parts, of which the middle one is counted whole.
-  pub count-three : (from n at k : ℕ) → from ≤ at → at + k ≤ from + n → ((q : ℕ) → at ≤ q → q < at + k → s q ≡ true) → count s from (at - from) + (k + count s (at + k) (from + n - (at + k))) ≡ count s from n
+  pub count-three : (from n at k : ℕ) → from ≤ at → at + k ≤ from + n → ((q : ℕ) → at ≤ q → q < at + k → s q ≡ true)
+      → count s from (at - from) + (k + count s (at + k) (from + n - (at + k))) ≡ count s from n
   count-three from n at k low high each =
-      let first : count s from (at - from + (k + (from + n - (at + k)))) ≡ count s from (at - from) + count s (from + (at - from)) (k + (from + n - (at + k))) = count-join from (at - from) (k + (from + n - (at + k))) in
+      let first : count s from (at - from + (k + (from + n - (at + k)))) ≡ count s from (at - from) + count s (from + (at - from)) (k + (from + n - (at + k))) =
+      count-join from (at - from) (k + (from + n - (at + k))) in
       let last : count s at (k + (from + n - (at + k))) ≡ count s at k + count s (at + k) (from + n - (at + k)) = count-join at k (from + n - (at + k)) in
       let whole : count s from (at - from + (k + (from + n - (at + k)))) ≡ count s from n = ap (count s from) (omega arith) in
       let here : count s (from + (at - from)) (k + (from + n - (at + k))) ≡ count s at (k + (from + n - (at + k))) = ap (λ z. count s z (k + (from + n - (at + k)))) (omega arith) in

@@ -28,7 +28,8 @@ module _ (mem : List ℕ) where
   length-onto p end ws = omega arith
   length-onto p (t ▹ ts) ws = omega (arith, length-onto (p + 1) ts ws)
 
-  all-onto : (c : ℕ → ℕ → Bool) (shared : List (List ℕ)) (p : ℕ) (ts : Trees) (ws : List ℕ) (us : Trees) → RowStands c shared mem p ts → AllStand c shared mem ws us → AllStand c shared mem (onto p ts ws) (trees_append ts us)
+  all-onto : (c : ℕ → ℕ → Bool) (shared : List (List ℕ)) (p : ℕ) (ts : Trees) (ws : List ℕ) (us : Trees) → RowStands c shared mem p ts → AllStand c shared mem ws us
+      → AllStand c shared mem (onto p ts ws) (trees_append ts us)
   unfolding onto RowStands AllStand
   all-onto c shared p end ws us row all = all
   all-onto c shared p (t ▹ ts) ws us (s, row) all = (s, all-onto c shared (p + 1) ts ws us row all)
@@ -113,7 +114,8 @@ module _ (mem : List ℕ) where
       ]
 
   -- A word of the row or of the others is one of these.
-  onto-place : (p : ℕ) (ts : Trees) (ws : List ℕ) (i v : ℕ) → i < length (onto p ts ws) → v ≡ get_or (onto p ts ws) i 0 → ((j : ℕ) × ((j < trees_len ts) × (v ≡ get_or mem (p + j) 0))) ⊎ ((j : ℕ) × ((j < length ws) × (v ≡ get_or ws j 0)))
+  onto-place : (p : ℕ) (ts : Trees) (ws : List ℕ) (i v : ℕ) → i < length (onto p ts ws) → v ≡ get_or (onto p ts ws) i 0
+      → ((j : ℕ) × ((j < trees_len ts) × (v ≡ get_or mem (p + j) 0))) ⊎ ((j : ℕ) × ((j < length ws) × (v ≡ get_or ws j 0)))
   unfolding onto
   onto-place p end ws i v below e = inr (i, (below, e))
   onto-place p (t ▹ ts) ws zero v below e = inl (0, (omega arith, e ∙ ap (λ z. get_or mem z 0) (omega arith)))
@@ -124,7 +126,8 @@ module _ (mem : List ℕ) where
       ]
 
   -- What the parts of a pointer and other words reach, the pointer and these reach.
-  back : (w : ℕ) (ts : Trees) (ws : List ℕ) → IsPointer w → first_traced mem w + trees_len ts ≡ object_words mem w → (v : ℕ) → Reach mem (onto (w / 4 + first_traced mem w) ts ws) v → Reach mem (w ∷ ws) v
+  back : (w : ℕ) (ts : Trees) (ws : List ℕ) → IsPointer w → first_traced mem w + trees_len ts ≡ object_words mem w → (v : ℕ) → Reach mem (onto (w / 4 + first_traced mem w) ts ws) v
+      → Reach mem (w ∷ ws) v
   back w ts ws y ends v (root i x below e) =
       elim (onto-place (w / 4 + first_traced mem w) ts ws i v below e) [
         | inl (j, (l, f)) ↦ part w (first_traced mem w + j) v (root 0 w (omega arith) refl) y (omega arith) (omega (arith, ends)) (f ∙ ap (λ z. get_or mem z 0) (omega arith))
@@ -133,7 +136,8 @@ module _ (mem : List ℕ) where
   back w ts ws y ends v (part u k x r q from below e) = part u k v (back w ts ws y ends u r) q from below e
 
   -- The list of what is reached grows by the first word where this is an object and is not in it.
-  with-first : (w : ℕ) (ws us : List ℕ) (o : Listed mem us) → IsPointer w → ((v : ℕ) → Reach mem (w ∷ ws) v → (v ≡ w) ⊎ Reach mem us v) → ((v : ℕ) → Reach mem us v → Reach mem (w ∷ ws) v) → Listed mem (w ∷ ws)
+  with-first : (w : ℕ) (ws us : List ℕ) (o : Listed mem us) → IsPointer w → ((v : ℕ) → Reach mem (w ∷ ws) v → (v ≡ w) ⊎ Reach mem us v) → ((v : ℕ) → Reach mem us v → Reach mem (w ∷ ws) v)
+      → Listed mem (w ∷ ws)
   with-first w ws us o y out into =
       elim (in-or-not w o.each) [
         | inl there ↦ record {
@@ -177,7 +181,8 @@ module _ (mem : List ℕ) where
             with-first w ws (onto (w / 4 + first_traced mem w) (parts_of t) ws) o y (split w (parts_of t) ws sc.ends) (back w (parts_of t) ws y sc.ends))
       ]
 
-pub flat-total : (c : ℕ → ℕ → Bool) (shared : List (List ℕ)) (mem roots : List ℕ) (ts : Trees) (vs : List ℕ) → AllStand c shared mem roots ts → Distinct vs → ((v : ℕ) → In v vs → IsPointer v × Reach mem roots v)
+pub flat-total : (c : ℕ → ℕ → Bool) (shared : List (List ℕ)) (mem roots : List ℕ) (ts : Trees) (vs : List ℕ) → AllStand c shared mem roots ts → Distinct vs
+    → ((v : ℕ) → In v vs → IsPointer v × Reach mem roots v)
     → total (object_words mem) vs ≤ flat_of_all ts
 flat-total c shared mem roots ts vs all d r = bounded mem (flat_of_all ts + length roots) c shared roots ts all (omega arith) vs d r
 

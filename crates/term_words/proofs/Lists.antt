@@ -60,5 +60,7 @@ module _ (c : ℕ → ℕ → Bool) (shared : List (List ℕ)) (mem : List ℕ) 
 
   -- Words that stand in the memory side by side.
 
-  pub all-row : (p : ℕ) (ws : List ℕ) (ts : Trees) → length ws ≡ trees_len ts → ((j : ℕ) → j < length ws → get_or mem (p + j) 0 ≡ get_or ws j 0) → RowStands c shared mem p ts → AllStand c shared mem ws ts
-  all-row p ws ts count same row = all-at-each ws ts count (λ j below. let P : ℕ → Type 0 = λ x. Stands c shared mem x (tree_at ts j) in subst P (same j below) (row-at c shared mem p ts j row (omega arith)))
+  pub all-row : (p : ℕ) (ws : List ℕ) (ts : Trees) → length ws ≡ trees_len ts → ((j : ℕ) → j < length ws → get_or mem (p + j) 0 ≡ get_or ws j 0) → RowStands c shared mem p ts
+      → AllStand c shared mem ws ts
+  all-row p ws ts count same row = all-at-each ws ts count (λ j below. let P : ℕ → Type 0 = λ x. Stands c shared mem x (tree_at ts j) in subst P (same j below)
+      (row-at c shared mem p ts j row (omega arith)))

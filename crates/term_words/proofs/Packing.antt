@@ -52,7 +52,8 @@ module _ (at size : ℕ → ℕ) where
       ]
 
   -- A part of a list that lies in a part of the range.
-  part-packed : (s : ℕ → Bool) (from n low m : ℕ) (vs us : List ℕ) → ArePacked at size s from n vs → Distinct us → ((u : ℕ) → In u us → In u vs × ((low ≤ at u) × (at u + size u ≤ low + m))) → ArePacked at size s low m us
+  part-packed : (s : ℕ → Bool) (from n low m : ℕ) (vs us : List ℕ) → ArePacked at size s from n vs → Distinct us → ((u : ℕ) → In u us → In u vs × ((low ≤ at u) × (at u + size u ≤ low + m)))
+      → ArePacked at size s low m us
   part-packed s from n low m vs us p d inner = record {
     once = d;
     apart = λ x z i j. p.apart x z (inner x i).0 (inner z j).0;
@@ -75,7 +76,8 @@ module _ (at size : ℕ → ℕ) where
       let low : total size o.low ≤ count s from (at v - from) = packed-by f s from (at v - from) o.low (omega (arith, o.shorter, le))
       (part-packed s from n from (at v - from) (v ∷ vs) o.low p o.low_once (λ u i. (inr (o.low_in u i).0, ((p.inside u (inr (o.low_in u i).0)).0, omega (arith, here, (o.low_in u i).1))))) in
       let high : total size o.high ≤ count s (at v + size v) (from + n - (at v + size v)) = packed-by f s (at v + size v) (from + n - (at v + size v)) o.high (omega (arith, o.shorter, le))
-      (part-packed s from n (at v + size v) (from + n - (at v + size v)) (v ∷ vs) o.high p o.high_once (λ u i. (inr (o.high_in u i).0, ((o.high_in u i).1, omega (arith, here, (p.inside u (inr (o.high_in u i).0)).1))))) in
+      (part-packed s from n (at v + size v) (from + n - (at v + size v)) (v ∷ vs) o.high p o.high_once
+      (λ u i. (inr (o.high_in u i).0, ((o.high_in u i).1, omega (arith, here, (p.inside u (inr (o.high_in u i).0)).1))))) in
       let parts : count s from (at v - from) + (size v + count s (at v + size v) (from + n - (at v + size v))) ≡ count s from n =
       count-three s from n (at v) (size v) here.0 here.1 (λ q from2 below. p.passes v q (inl refl) from2 below) in
       omega (arith, low, high, o.words, parts)

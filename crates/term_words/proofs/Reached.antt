@@ -81,7 +81,8 @@ at-row : (c : ℕ → ℕ → Bool) (shared : List (List ℕ)) (mem : List ℕ) 
 at-row c shared mem p q ts e row = let P : ℕ → Type 0 = λ x. RowStands c shared mem x ts in subst P (sym e) row
 
 -- Nothing is traced.
-leaf : (c : ℕ → ℕ → Bool) (shared : List (List ℕ)) (mem : List ℕ) (w : ℕ) (t : Tree) → parts_of t ≡ end → first_traced mem w ≡ object_words mem w → flat t ≡ object_words mem w → IsScanned c shared mem w t
+leaf : (c : ℕ → ℕ → Bool) (shared : List (List ℕ)) (mem : List ℕ) (w : ℕ) (t : Tree) → parts_of t ≡ end → first_traced mem w ≡ object_words mem w → flat t ≡ object_words mem w
+    → IsScanned c shared mem w t
 unfolding RowStands
 leaf c shared mem w t none first size =
     let P : Trees → Type 0 = λ x. RowStands c shared mem (w / 4 + first_traced mem w) x in
@@ -124,7 +125,8 @@ scanned c shared mem w (Ref n m) s p =
     let words : object_words mem w ≡ 3 = words-boxed mem w 2 16 s.boxed.tag s.boxed.header (omega arith) in
     leaf c shared mem w (Ref n m) refl (omega arith) (omega arith)
 scanned c shared mem w (Bin bytes) s p =
-    let first : first_traced mem w ≡ 1 + (1 + bin_words (length bytes)) = boxed-traced mem w 9 (1 + bin_words (length bytes)) 1 9 (1 + (1 + bin_words (length bytes))) s.boxed.tag s.boxed.header (omega arith) refl (omega arith) (omega (arith, s.range)) in
+    let first : first_traced mem w ≡ 1 + (1 + bin_words (length bytes)) =
+    boxed-traced mem w 9 (1 + bin_words (length bytes)) 1 9 (1 + (1 + bin_words (length bytes))) s.boxed.tag s.boxed.header (omega arith) refl (omega arith) (omega (arith, s.range)) in
     let words : object_words mem w ≡ 1 + (1 + bin_words (length bytes)) = words-boxed mem w (1 + bin_words (length bytes)) 36 s.boxed.tag s.boxed.header (omega arith) in
     leaf c shared mem w (Bin bytes) refl (first ∙ sym words) (omega arith)
 scanned c shared mem w (Shared id) s p =
@@ -150,11 +152,15 @@ part-stands c shared mem w t k s p from below =
     let there : w / 4 + first_traced mem w + (k - first_traced mem w) ≡ w / 4 + k = omega arith in
     let among : k - first_traced mem w < trees_len (parts_of t) = omega (arith, scan.ends) in (
       tree_at (parts_of t) (k - first_traced mem w),
-      (subst P there (row-at c shared mem (w / 4 + first_traced mem w) (parts_of t) (k - first_traced mem w) scan.row among), omega (arith, scan.left, flat-at (parts_of t) (k - first_traced mem w) among)),
+      (
+        subst P there (row-at c shared mem (w / 4 + first_traced mem w) (parts_of t) (k - first_traced mem w) scan.row among),
+        omega (arith, scan.left, flat-at (parts_of t) (k - first_traced mem w) among),
+      ),
     )
 
 -- What standing roots reach stands, for a tree within the flat words of theirs.
-within : (c : ℕ → ℕ → Bool) (shared : List (List ℕ)) (mem roots : List ℕ) (ts : Trees) → AllStand c shared mem roots ts → (w : ℕ) → Reach mem roots w → (u : Tree) × (Stands c shared mem w u × (flat u ≤ flat_of_all ts))
+within : (c : ℕ → ℕ → Bool) (shared : List (List ℕ)) (mem roots : List ℕ) (ts : Trees) → AllStand c shared mem roots ts → (w : ℕ) → Reach mem roots w
+    → (u : Tree) × (Stands c shared mem w u × (flat u ≤ flat_of_all ts))
 within c shared mem roots ts all w (root i x below e) =
     let P : ℕ → Type 0 = λ x. Stands c shared mem x (tree_at ts i) in
     (tree_at ts i, (subst P (sym e) (all-at c shared mem roots ts i all below), flat-at ts i (omega (arith, all-length c shared mem roots ts all))))
@@ -168,7 +174,8 @@ pub reached : (c : ℕ → ℕ → Bool) (shared : List (List ℕ)) (mem roots :
 reached c shared mem roots ts all w r = let (u, (s, small)) = within c shared mem roots ts all w r in (u, s)
 
 -- Each object that standing roots reach has at most the flat words of their trees.
-pub reached-words : (c : ℕ → ℕ → Bool) (shared : List (List ℕ)) (mem roots : List ℕ) (ts : Trees) (w : ℕ) → AllStand c shared mem roots ts → Reach mem roots w → IsPointer w → object_words mem w ≤ flat_of_all ts
+pub reached-words : (c : ℕ → ℕ → Bool) (shared : List (List ℕ)) (mem roots : List ℕ) (ts : Trees) (w : ℕ) → AllStand c shared mem roots ts → Reach mem roots w → IsPointer w
+    → object_words mem w ≤ flat_of_all ts
 reached-words c shared mem roots ts w all r p =
     let (u, (s, small)) = within c shared mem roots ts all w r in
     omega (arith, small, (scanned c shared mem w u s p).left)

@@ -31,7 +31,8 @@ unfolding AllStand
 header-first c shared mem w t s tag =
     elim (some-or-none (first_traced mem w)) [
       | inl some ↦ some
-      | inr none ↦ (let (u, there) = reached c shared mem (w ∷ []) (t ▹ end) (s, tt) (get_or mem (w / 4 + 0) 0) (part w 0 (get_or mem (w / 4 + 0) 0) (root 0 w (omega arith) refl) (inr tag) (omega arith) (object-some mem w) refl) in
+      | inr none ↦ (let (u, there) = reached c shared mem (w ∷ []) (t ▹ end) (s, tt) (get_or mem (w / 4 + 0) 0)
+          (part w 0 (get_or mem (w / 4 + 0) 0) (root 0 w (omega arith) refl) (inr tag) (omega arith) (object-some mem w) refl) in
           let header : get_or mem (w / 4) 0 % 4 ≡ 0 = header-there t w (get_or mem (w / 4) 0) (told c shared mem w t s) tag in
           let same : w / 4 ≡ w / 4 + 0 = omega arith in
           let P : ℕ → Type 0 = λ q. get_or mem q 0 % 4 ≡ 0 in
@@ -92,7 +93,8 @@ module _ (c d : ℕ → ℕ → Bool) (shared : List (List ℕ)) (old new roots 
   role : (w j q a k : ℕ) → IsMovedTo c d old new f g w → j < object_words old w → q ≡ f w / 4 + j → a ≡ w / 4 + j → c a k ≡ true → d q k ≡ true
   role w j q a k h below e i t = let P : ℕ → Type 0 = λ y. c y k ≡ true in h.roles j q k below e (subst P i t)
 
-  plain : (w j q a : ℕ) → IsMovedTo c d old new f g w → j < first_traced old w → j < object_words old w → q ≡ f w / 4 + j → a ≡ w / 4 + j → (c a FIRST ≡ true) ⊎ (c a FURTHER ≡ true) → get_or new q 0 ≡ get_or old a 0
+  plain : (w j q a : ℕ) → IsMovedTo c d old new f g w → j < first_traced old w → j < object_words old w → q ≡ f w / 4 + j → a ≡ w / 4 + j → (c a FIRST ≡ true) ⊎ (c a FURTHER ≡ true)
+      → get_or new q 0 ≡ get_or old a 0
   plain w j q a h less below e i t =
       let P : ℕ → Type 0 = λ y. (c y FIRST ≡ true) ⊎ (c y FURTHER ≡ true) in
       h.same j q less below e (subst P i t) ∙ ap (λ y. get_or old y 0) (sym i)
@@ -122,7 +124,8 @@ module _ (c d : ℕ → ℕ → Bool) (shared : List (List ℕ)) (old new roots 
     object = object w (1 + arity) h e (omega arith) o.object;
   }
 
-  boxed-word : (w subtag arity j q a : ℕ) → IsMovedTo c d old new f g w → object_words old w ≡ 1 + arity → IsBoxed c old w subtag arity → j < first_traced old w → j < 1 + arity → q ≡ f w / 4 + j → a ≡ w / 4 + j
+  boxed-word : (w subtag arity j q a : ℕ) → IsMovedTo c d old new f g w → object_words old w ≡ 1 + arity → IsBoxed c old w subtag arity → j < first_traced old w → j < 1 + arity → q ≡ f w / 4 + j
+      → a ≡ w / 4 + j
       → get_or new q 0 ≡ get_or old a 0
   boxed-word w subtag arity j q a h e o less below at from = plain w j q a h less (omega (arith, e)) at from (of-object (w / 4) (1 + arity) a o.object (omega arith) (omega arith))
 
@@ -215,8 +218,10 @@ module _ (c d : ℕ → ℕ → Bool) (shared : List (List ℕ)) (old new roots 
         let k : object_words old w ≡ 2 = words-cons old w o.tag in
         let e : first_traced old w ≡ 0 = cons-traced old w o.tag in (
           record { tag = omega (arith, h.tag, o.tag); object = object w 2 h k (omega arith) o.object },
-          there (w / 4) (f w / 4) a (mapped w 0 (f w / 4) (w / 4) h (omega arith) (omega arith) (omega arith) (omega arith)) (settled (get_or old (w / 4) 0) a (reach-at w 0 (w / 4) r y (omega arith) (omega arith) (omega arith)) sa),
-          there (w / 4 + 1) (f w / 4 + 1) b (mapped w 1 (f w / 4 + 1) (w / 4 + 1) h (omega arith) (omega arith) refl refl) (settled (get_or old (w / 4 + 1) 0) b (reach-at w 1 (w / 4 + 1) r y (omega arith) (omega arith) refl) sb),
+          there (w / 4) (f w / 4) a (mapped w 0 (f w / 4) (w / 4) h (omega arith) (omega arith) (omega arith) (omega arith))
+              (settled (get_or old (w / 4) 0) a (reach-at w 0 (w / 4) r y (omega arith) (omega arith) (omega arith)) sa),
+          there (w / 4 + 1) (f w / 4 + 1) b (mapped w 1 (f w / 4 + 1) (w / 4 + 1) h (omega arith) (omega arith) refl refl)
+              (settled (get_or old (w / 4 + 1) 0) b (reach-at w 1 (w / 4 + 1) r y (omega arith) (omega arith) refl) sb),
         )
     settled w (Tuple ts) r (o, row) =
         let y : IsPointer w = inr o.boxed.tag in
@@ -248,7 +253,8 @@ module _ (c d : ℕ → ℕ → Bool) (shared : List (List ℕ)) (old new roots 
           },
           subst Q (sym ki) (settled-keys (get_or old (w / 4 + 2) 0 / 4 + 1) (f (get_or old (w / 4 + 2) 0) / 4 + 1) ps
               (λ j below. reach-at (get_or old (w / 4 + 2) 0) (1 + j) (get_or old (w / 4 + 2) 0 / 4 + 1 + j) kr ky (omega arith) (omega arith) (omega arith))
-              (λ j below. mapped (get_or old (w / 4 + 2) 0) (1 + j) (f (get_or old (w / 4 + 2) 0) / 4 + 1 + j) (get_or old (w / 4 + 2) 0 / 4 + 1 + j) kh (omega arith) (omega arith) (omega arith) (omega arith)) ks),
+              (λ j below. mapped (get_or old (w / 4 + 2) 0) (1 + j) (f (get_or old (w / 4 + 2) 0) / 4 + 1 + j) (get_or old (w / 4 + 2) 0 / 4 + 1 + j) kh (omega arith) (omega arith) (omega arith)
+              (omega arith)) ks),
           settled-values (w / 4 + 3) (f w / 4 + 3) ps (λ j below. reach-at w (3 + j) (w / 4 + 3 + j) r y (omega arith) (omega arith) (omega arith))
               (λ j below. mapped w (3 + j) (f w / 4 + 3 + j) (w / 4 + 3 + j) h (omega arith) (omega arith) (omega arith) (omega arith)) vs,
         )
@@ -263,7 +269,8 @@ module _ (c d : ℕ → ℕ → Bool) (shared : List (List ℕ)) (old new roots 
           size = boxed-word w HEAP_BIN (1 + bin_words (length bytes)) 1 (f w / 4 + 1) (w / 4 + 1) h k s.boxed (omega (arith, e, k)) (omega arith) refl refl ∙ s.size;
           content = record {
             each = λ i a below place.
-                ap (λ b. byte_of b (i % 8)) (boxed-word w HEAP_BIN (1 + bin_words (length bytes)) (2 + i / 8) a (w / 4 + 2 + i / 8) h k s.boxed (omega (arith, e, k)) (omega arith) (omega arith) (omega arith)) ∙ s.content.each i (w / 4 + 2 + i / 8) below refl;
+                ap (λ b. byte_of b (i % 8)) (boxed-word w HEAP_BIN (1 + bin_words (length bytes)) (2 + i / 8) a (w / 4 + 2 + i / 8) h k s.boxed (omega (arith, e, k)) (omega arith) (omega arith)
+                (omega arith)) ∙ s.content.each i (w / 4 + 2 + i / 8) below refl;
           };
         }
     settled w (Shared id) r s =
@@ -293,7 +300,8 @@ module _ (c d : ℕ → ℕ → Bool) (shared : List (List ℕ)) (old new roots 
             fifth = role w 4 (f w / 4 + 4) (w / 4 + 4) FURTHER h (omega arith) refl refl s.holder.fifth;
             sixth = role w 5 (f w / 4 + 5) (w / 4 + 5) FURTHER h (omega arith) refl refl s.holder.sixth;
           };
-          record_is = subst P (sym (h.names 3 (f w / 4 + 3) (omega arith) refl s.holder.names)) (bin-copied (get_or old (w / 4 + 3) 0) (g (get_or old (w / 4 + 3) 0)) id (shared_bytes shared id) copied s.record_is);
+          record_is = subst P (sym (h.names 3 (f w / 4 + 3) (omega arith) refl s.holder.names))
+              (bin-copied (get_or old (w / 4 + 3) 0) (g (get_or old (w / 4 + 3) 0)) id (shared_bytes shared id) copied s.record_is);
         }
     settled w (Part base offset len) r (o, is, sb) =
         let y : IsPointer w = inr o.boxed.tag in
@@ -308,7 +316,8 @@ module _ (c d : ℕ → ℕ → Bool) (shared : List (List ℕ)) (old new roots 
             inside = o.inside;
           },
           is,
-          there (w / 4 + 4) (f w / 4 + 4) base (mapped w 4 (f w / 4 + 4) (w / 4 + 4) h (omega arith) (omega arith) refl refl) (settled (get_or old (w / 4 + 4) 0) base (reach-at w 4 (w / 4 + 4) r y (omega arith) (omega arith) refl) sb),
+          there (w / 4 + 4) (f w / 4 + 4) base (mapped w 4 (f w / 4 + 4) (w / 4 + 4) h (omega arith) (omega arith) refl refl)
+              (settled (get_or old (w / 4 + 4) 0) base (reach-at w 4 (w / 4 + 4) r y (omega arith) (omega arith) refl) sb),
         )
     settled w (Fun name arity creator env) r (o, row) =
         let y : IsPointer w = inr o.tag in

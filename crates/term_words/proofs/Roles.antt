@@ -20,7 +20,8 @@ role-of c mem a n q o from below =
     let which : (q ≡ a) ⊎ (a < q) = grind arith in
     elim which [ inl e ↦ at-place c q a 3 (inr (omega arith, omega arith)) o.first e | inr far ↦ at-place c q q 4 (inr (omega arith, omega arith)) (o.others q far below) refl ]
 
-role-boxed : (c : ℕ → ℕ → Bool) (mem : List ℕ) (w subtag arity q : ℕ) → subtag < 16 → IsBoxed c mem w subtag arity → w / 4 ≤ q → q < w / 4 + object_words mem w → (k : ℕ) × (OfObject k × (c q k ≡ true))
+role-boxed : (c : ℕ → ℕ → Bool) (mem : List ℕ) (w subtag arity q : ℕ) → subtag < 16 → IsBoxed c mem w subtag arity → w / 4 ≤ q → q < w / 4 + object_words mem w
+    → (k : ℕ) × (OfObject k × (c q k ≡ true))
 role-boxed c mem w subtag arity q small o from below =
     role-of c mem (w / 4) (1 + arity) q o.object from (omega (arith, words-boxed mem w arity (subtag * 4) o.tag o.header (omega arith)))
 
@@ -31,7 +32,8 @@ role-int c mem w (negsuc n) q (inr (inl o)) p from below = role-boxed c mem w 3 
 role-int c mem w (pos n) q (inr (inr o)) p from below = role-boxed c mem w 2 2 q (omega arith) o.boxed from below
 role-int c mem w (negsuc n) q (inr (inr o)) p from below = role-boxed c mem w 3 2 q (omega arith) o.boxed from below
 
-pub object-role : (c : ℕ → ℕ → Bool) (shared : List (List ℕ)) (mem : List ℕ) (w : ℕ) (t : Tree) (q : ℕ) → Stands c shared mem w t → IsPointer w → w / 4 ≤ q → q < w / 4 + object_words mem w → (k : ℕ) × (OfObject k × (c q k ≡ true))
+pub object-role : (c : ℕ → ℕ → Bool) (shared : List (List ℕ)) (mem : List ℕ) (w : ℕ) (t : Tree) (q : ℕ) → Stands c shared mem w t → IsPointer w → w / 4 ≤ q → q < w / 4 + object_words mem w
+    → (k : ℕ) × (OfObject k × (c q k ≡ true))
 unfolding Stands
 object-role c shared mem w (Int i) q s p from below = role-int c mem w i q s p from below
 object-role c shared mem w (Ref n k) q s p from below = role-boxed c mem w 4 2 q (omega arith) s.boxed from below

@@ -94,7 +94,8 @@ module _ (c d : ℕ → ℕ → Bool) (shared other : List (List ℕ)) (mem : Li
         let (bs, off, n, e) = shape-part u w (get_or mem (w / 4) 0) (told d other mem w u r) o.boxed.tag (omega arith) in
         let P : Tree → Type 0 = λ z. Stands d other mem w z in
         let there : Stands d other mem w (Part bs off n) = subst P e r in
-        ap (λ z. Part z offset len) (single (get_or mem (w / 4 + 4) 0) base bs sb there.2) ∙ ap (λ z. Part bs z len) (sym o.start ∙ there.0.start) ∙ ap (λ z. Part bs off z) (sym o.size ∙ there.0.size) ∙ sym e
+        ap (λ z. Part z offset len) (single (get_or mem (w / 4 + 4) 0) base bs sb there.2) ∙ ap (λ z. Part bs z len) (sym o.start ∙ there.0.start) ∙ ap (λ z. Part bs off z)
+        (sym o.size ∙ there.0.size) ∙ sym e
     single w (Fun name arity creator env) u (o, row) r =
         let (m, a, cr, us, e) = shape-fun u w (get_or mem (w / 4) 0) (told d other mem w u r) o.tag (omega arith) in
         let P : Tree → Type 0 = λ z. Stands d other mem w z in
@@ -112,7 +113,8 @@ module _ (c d : ℕ → ℕ → Bool) (shared other : List (List ℕ)) (mem : Li
     single-row p (t ▹ ts) (u ▹ us) same (first, rest) (one, more) =
         ap (λ z. z ▹ ts) (single (get_or mem p 0) t u first one) ∙ ap (λ z. u ▹ z) (single-row (p + 1) ts us (omega arith) rest more)
 
-    single-pairs : (p q : ℕ) (ps qs : Pairs) → pairs_len ps ≡ pairs_len qs → KeysStand c shared mem p ps → ValuesStand c shared mem q ps → KeysStand d other mem p qs → ValuesStand d other mem q qs → ps ≡ qs
+    single-pairs : (p q : ℕ) (ps qs : Pairs) → pairs_len ps ≡ pairs_len qs → KeysStand c shared mem p ps → ValuesStand c shared mem q ps → KeysStand d other mem p qs → ValuesStand d other mem q qs
+        → ps ≡ qs
     single-pairs p q stop stop same ks vs kt vt = refl
     single-pairs p q stop (pair x y qs) same ks vs kt vt = absurd (omega arith)
     single-pairs p q (pair x y ps) stop same ks vs kt vt = absurd (omega arith)

@@ -80,7 +80,8 @@ has-layout c shared mem w (Bin bytes) s tag =
     header-layout (get_or mem (w / 4) 0) 9 (1 + bin_words (length bytes)) 1 9 (1 + (1 + bin_words (length bytes))) s.boxed.header (omega arith) refl (omega arith) (omega (arith, s.range))
 has-layout c shared mem w (Shared id) s tag = header-layout (get_or mem (w / 4) 0) 8 5 5 5 6 s.holder.header (omega arith) refl (omega arith) (omega arith)
 has-layout c shared mem w (Part base offset len) (o, is, sb) tag = header-layout (get_or mem (w / 4) 0) 10 4 4 4 4 o.boxed.header (omega arith) refl (omega arith) (omega arith)
-has-layout c shared mem w (Fun name arity creator env) (o, row) tag = header-layout (get_or mem (w / 4) 0) 5 (trees_len env + 5) 5 69 6 o.header (omega arith) refl (omega arith) (omega (arith, o.range))
+has-layout c shared mem w (Fun name arity creator env) (o, row) tag =
+    header-layout (get_or mem (w / 4) 0) 5 (trees_len env + 5) 5 69 6 o.header (omega arith) refl (omega arith) (omega (arith, o.range))
 has-layout c shared mem w t s tag = absurd (omega (arith, told c shared mem w t s))
 
 -- A standing object, and a record, is a row of one.

@@ -25,5 +25,6 @@ pub record Carried (c d : ℕ → ℕ → Bool) (old new : List ℕ) : Type 0 wh
   pub others : (a : ℕ) → c a FURTHER ≡ true → d a FURTHER ≡ true
   pub other_same : (a : ℕ) → c a FURTHER ≡ true → slice_index new a ≡ slice_index old a
   pub names : (a : ℕ) → c a NAMES ≡ true → d a NAMES ≡ true
-  pub bins : (a serial : ℕ) (bytes : List ℕ) → c a NAMES ≡ true → IsBinRecord c old (slice_index old a) serial bytes → IsBinRecord d new (slice_index new a) serial bytes
+  pub bins : (a serial : ℕ) (bytes : List ℕ) → c a NAMES ≡ true → IsBinRecord c old (slice_index old a) serial bytes
+      → IsBinRecord d new (slice_index new a) serial bytes
   pub funs : (a name arity : ℕ) → c a NAMES ≡ true → IsFunRecord c old (slice_index old a) name arity → IsFunRecord d new (slice_index new a) name arity

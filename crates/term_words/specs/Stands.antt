@@ -25,10 +25,12 @@ unfoldable mutual
   Stands c shared mem w Nil = w ≡ NIL
   Stands c shared mem w (Cons h t) = IsCons c mem w × Stands c shared mem (slice_index mem (w / 4)) h × Stands c shared mem (slice_index mem (w / 4 + 1)) t
   Stands c shared mem w (Tuple ts) = IsTuple c mem w (trees_len ts) × RowStands c shared mem (w / 4 + 1) ts
-  Stands c shared mem w (Map ps) = IsMap c mem w (pairs_len ps) × KeysStand c shared mem (slice_index mem (w / 4 + 2) / 4 + 1) ps × ValuesStand c shared mem (w / 4 + 3) ps
+  Stands c shared mem w (Map ps) = IsMap c mem w (pairs_len ps) × KeysStand c shared mem (slice_index mem (w / 4 + 2) / 4 + 1) ps × ValuesStand c shared mem
+      (w / 4 + 3) ps
   Stands c shared mem w (Bin bytes) = IsHeapBin c mem w bytes
   Stands c shared mem w (Shared id) = IsShared c shared mem w id
-  Stands c shared mem w (Part base offset len) = IsSub c mem w offset len (length (bytes_of shared base)) × IsBase base × Stands c shared mem (slice_index mem (w / 4 + 4)) base
+  Stands c shared mem w (Part base offset len) = IsSub c mem w offset len (length (bytes_of shared base)) × IsBase base × Stands c shared mem
+      (slice_index mem (w / 4 + 4)) base
   Stands c shared mem w (Fun name arity creator env) = IsFun c mem w name arity creator (trees_len env) × RowStands c shared mem (w / 4 + 6) env
 
   -- The words from place p on stand for the trees in order.

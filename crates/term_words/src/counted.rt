@@ -11,7 +11,8 @@ ghost use Rattle.term_words.specs.Counted.{In, Distinct, total, count, Listed, A
 
 /// Each object that standing roots reach has at most the flat words of their trees.
 pub fn flat_size_covers_objects()
-    ensures { (c : ℕ → ℕ → Bool) (shared : List (List ℕ)) (mem roots : List ℕ) (ts : Trees) (w : ℕ) → AllStand c shared mem roots ts → Reach mem roots w → IsPointer w → object_words mem w ≤ flat_of_all ts }
+    ensures { (c : ℕ → ℕ → Bool) (shared : List (List ℕ)) (mem roots : List ℕ) (ts : Trees) (w : ℕ) → AllStand c shared mem roots ts → Reach mem roots w
+        → IsPointer w → object_words mem w ≤ flat_of_all ts }
 {}
 
 /// The objects that standing roots reach can be listed, each once, and a list of such objects without repetition takes at

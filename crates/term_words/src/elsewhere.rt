@@ -24,7 +24,8 @@ pub fn relocated_words_stand()
 /// Where all words of the objects that standing roots reach, and of the records that these name, pass a further test, what
 /// the roots reach stands by both tests: it lies in one half, or in some process's blocks.
 pub fn roots_stand_by_narrower_tests()
-    ensures roots { (c d : ℕ → ℕ → Bool) (shared : List (List ℕ)) (mem roots : List ℕ) (ts : Trees) → AllStand c shared mem roots ts → Passes c d mem roots → AllStand (both c d) shared mem roots ts }
+    ensures roots { (c d : ℕ → ℕ → Bool) (shared : List (List ℕ)) (mem roots : List ℕ) (ts : Trees) → AllStand c shared mem roots ts → Passes c d mem roots
+        → AllStand (both c d) shared mem roots ts }
     ensures word { (c d : ℕ → ℕ → Bool) (shared : List (List ℕ)) (mem roots : List ℕ) (ts : Trees) → AllStand c shared mem roots ts → Passes c d mem roots
         → (w : ℕ) (t : Tree) → Reach mem roots w → Stands c shared mem w t → Stands (both c d) shared mem w t }
 {}

@@ -46,10 +46,12 @@ pub fn more_lists_keep_trees()
 
 /// What standing roots reach stands for trees.
 pub fn reached_words_stand()
-    ensures { (c : ℕ → ℕ → Bool) (shared : List (List ℕ)) (mem roots : List ℕ) (ts : Trees) → AllStand c shared mem roots ts → (w : ℕ) → Reach mem roots w → (t : Tree) × Stands c shared mem w t }
+    ensures { (c : ℕ → ℕ → Bool) (shared : List (List ℕ)) (mem roots : List ℕ) (ts : Trees) → AllStand c shared mem roots ts → (w : ℕ) → Reach mem roots w
+        → (t : Tree) × Stands c shared mem w t }
 {}
 
 /// A word stands for one tree at most, whatever the tests and the shared lists.
 pub fn words_stand_for_one_tree()
-    ensures { (c d : ℕ → ℕ → Bool) (shared other : List (List ℕ)) (mem : List ℕ) (w : ℕ) (t u : Tree) → Stands c shared mem w t → Stands d other mem w u → t ≡ u }
+    ensures { (c d : ℕ → ℕ → Bool) (shared other : List (List ℕ)) (mem : List ℕ) (w : ℕ) (t u : Tree) → Stands c shared mem w t → Stands d other mem w u
+        → t ≡ u }
 {}

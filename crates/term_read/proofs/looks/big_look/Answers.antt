@@ -5,13 +5,21 @@ use Rattle.term_read.proofs.looks.big_look.Goals as goal
 pub get-low-requires : goal.get-low-requires
 get-low-requires c =
     let (low, high) = range-of c.args.negative (get_or c.args.mem.now c.args.place 0 / 4 % 16) c.requires.subtag in
-    omega (arith, object-within c.args.mem.now c.args.w c.args.place c.requires.term c.requires.pointer.0 c.requires.pointer.1, big-words c.args.mem.now c.args.w c.args.place c.requires.term c.requires.pointer.0 c.requires.pointer.1 low high)
+    omega (
+      arith,
+      object-within c.args.mem.now c.args.w c.args.place c.requires.term c.requires.pointer.0 c.requires.pointer.1,
+      big-words c.args.mem.now c.args.w c.args.place c.requires.term c.requires.pointer.0 c.requires.pointer.1 low high,
+    )
 
 pub get-high-requires : goal.get-high-requires
 get-high-requires c = omega (arith, object-within c.args.mem.now c.args.w c.args.place c.requires.term c.requires.pointer.0 c.requires.pointer.1, c.get.ensures, c.if-get-eq2.true)
 
 pub returns-then-get-eq2 : goal.returns-then-get-eq2
-returns-then-get-eq2 c = rw (c.get-low.ensures, c.get-high.ensures) (sees-two-digits c.args.mem.now c.args.w c.args.place c.args.negative c.requires.pointer.0 c.requires.pointer.1 c.requires.subtag (ap (λ x. x / 64) (sym c.get.ensures) ∙ c.if-get-eq2.true))
+returns-then-get-eq2 c =
+    rw (c.get-low.ensures, c.get-high.ensures) (sees-two-digits c.args.mem.now c.args.w c.args.place c.args.negative c.requires.pointer.0 c.requires.pointer.1 c.requires.subtag
+    (ap (λ x. x / 64) (sym c.get.ensures) ∙ c.if-get-eq2.true))
 
 pub returns-else-get-eq2 : goal.returns-else-get-eq2
-returns-else-get-eq2 c = rw c.get-low.ensures (sees-one-digit c.args.mem.now c.args.w c.args.place c.args.negative c.requires.pointer.0 c.requires.pointer.1 c.requires.subtag (λ e. c.if-get-eq2.false (ap (λ x. x / 64) c.get.ensures ∙ e)))
+returns-else-get-eq2 c =
+    rw c.get-low.ensures (sees-one-digit c.args.mem.now c.args.w c.args.place c.args.negative c.requires.pointer.0 c.requires.pointer.1 c.requires.subtag
+    (λ e. c.if-get-eq2.false (ap (λ x. x / 64) c.get.ensures ∙ e)))

@@ -6,7 +6,9 @@ use Rattle.term_read.proofs.Seen.{sees-small-word, sees-atom, sees-pid, sees-nil
 use Rattle.term_read.proofs.looks.look_at.Goals as goal
 
 pub unreachable-requires : goal.unreachable-requires
-unreachable-requires c = no-other c.args.mem.now c.args.w c.kind_of.result c.requires c.len-len.ensures.most c.kind_of.ensures.small c.kind_of.ensures.pid c.kind_of.ensures.atom c.kind_of.ensures.nil c.kind_of.ensures.list c.kind_of.ensures.boxed c.in-Header.is
+unreachable-requires c =
+    no-other c.args.mem.now c.args.w c.kind_of.result c.requires c.len-len.ensures.most c.kind_of.ensures.small c.kind_of.ensures.pid
+    c.kind_of.ensures.atom c.kind_of.ensures.nil c.kind_of.ensures.list c.kind_of.ensures.boxed c.in-Header.is
 
 pub returns-in-Small-clause-tree : goal.returns-in-Small-clause-tree
 returns-in-Small-clause-tree c = let P : Kind → Type 0 = λ k. Reads c.args.w k in sees-small-word c.args.mem.now c.args.w c.in-Small.i (subst P c.in-Small.is c.kind_of.ensures.exact)

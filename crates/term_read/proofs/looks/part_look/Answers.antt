@@ -29,4 +29,5 @@ get-requires-2 c =
 
 pub returns : goal.returns
 returns c =
-    rw (c.get.ensures, c.get-2.ensures, c.get-base.ensures) (sees-part c.args.mem.now c.args.w c.args.place c.in-Some.first c.requires.pointer.0 c.requires.pointer.1 c.requires.subtag (rw (← c.get-base.ensures) c.in-Some.ensures))
+    rw (c.get.ensures, c.get-2.ensures, c.get-base.ensures) (sees-part c.args.mem.now c.args.w c.args.place c.in-Some.first c.requires.pointer.0 c.requires.pointer.1 c.requires.subtag
+    (rw (← c.get-base.ensures) c.in-Some.ensures))
