@@ -67,4 +67,4 @@ IsIn row least most subtag arity = (subtag ≡ row) × (least ≤ arity) × (ari
 abbrev pub IsRow : (subtag arity : ℕ) → Type 0
 IsRow s n = IsIn TUPLE 0 MOST_PARTS s n ⊎ (IsIn POS_BIG 1 2 s n ⊎ (IsIn NEG_BIG 1 2 s n ⊎ (IsIn REF 2 2 s n
     ⊎ (IsIn FUN 5 (5 + MOST_ENV) s n ⊎ (IsIn HOLDER 5 5 s n ⊎ (IsIn HEAP_BIN 1 (1 + MOST_HEAP_BYTES / 8) s n
-        ⊎ (IsIn SUB_BIN 4 4 s n ⊎ IsIn MAP 2 (2 + MOST_KEYS) s n)))))))
+    ⊎ (IsIn SUB_BIN 4 4 s n ⊎ IsIn MAP 2 (2 + MOST_KEYS) s n)))))))
