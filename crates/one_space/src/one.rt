@@ -66,7 +66,8 @@ impl One {
         requires holds { Holds self.old }
         requires calls { self.old.calls < most_calls }
         requires sits { Sits self.old seat }
-        ensures { DoesAlways (Process seat.pid verb.Exit) self.old self.new }
+        ensures does { DoesAlways (Process seat.pid verb.Exit) self.old self.new }
+        ensures idle { self.new.halves.sweeps ≡ self.old.halves.sweeps }
     {
         let _ = self.halves.procs.remove(seat.row);
         self.calls += 1;
@@ -115,7 +116,8 @@ impl One {
         requires calls { self.old.calls < most_calls }
         requires sits { Sits self.old seat }
         requires register { IsRegister r }
-        ensures { DoesAlways (Process seat.pid (verb.Own r)) self.old self.new }
+        ensures does { DoesAlways (Process seat.pid (verb.Own r)) self.old self.new }
+        ensures idle { self.new.halves.sweeps ≡ self.old.halves.sweeps }
     {
         let process = &mut self.halves.procs[seat.row];
         process.regs[r.0 as usize] = pid_word(seat.pid);
@@ -157,7 +159,8 @@ impl One {
         requires calls { self.old.calls < most_calls }
         requires sits { Sits self.old seat }
         requires register { IsRegister r }
-        ensures { DoesAtOnce (Process seat.pid (verb.Pop r)) self.old self.new result }
+        ensures does { DoesAtOnce (Process seat.pid (verb.Pop r)) self.old self.new result }
+        ensures idle { self.new.halves.sweeps ≡ self.old.halves.sweeps }
     {
         let mut process = self.halves.procs[seat.row];
         if process.depth == 0 {

@@ -7,7 +7,7 @@ ghost use Rattle.script_grammar.specs.declared.refusal.Refusal.TheVariants.{Proc
 ghost use Rattle.script_grammar.specs.Written.{Term, Terms};
 ghost use Rattle.plain_machine.specs.State.{HasNames, State, first_state};
 ghost use Rattle.plain_machine.specs.Step.{step};
-ghost use Rattle.space_api.specs.Calls.{Becomes, HasTerm, IsTerm, Passes, most_calls, one_term, said};
+ghost use Rattle.space_api.specs.Calls.{Becomes, Follows, HasTerm, IsTerm, Passes, most_calls, one_term, said};
 ghost use Rattle.script_grammar.specs.Names.{IsRegister};
 
 use crate::halves::{Halves, UNUSED};
@@ -135,7 +135,14 @@ impl Space for OneSpace {
         self.one.spawn()
     }
 
-    fn exit(&mut self, seat: Seat) {
+    fn exit(&mut self, seat: Seat)
+        requires sits { Sits self.old seat }
+        requires calls { self.old.calls < most_calls }
+        ensures passes { (s : State) (terms : Terms) (names : List (List ℕ)) → Properly (OneStands self.old) s → HasNames s names
+            → Passes (step s (said (Process seat.pid verb.Exit) terms names)) (Properly (OneStands self.new)) }
+        ensures books { Books self.old self.new self.old.named }
+        ensures idle { self.new.halves.sweeps ≡ self.old.halves.sweeps }
+    {
         self.one.exit(seat)
     }
 
@@ -154,7 +161,15 @@ impl Space for OneSpace {
         self.one.build(names, seat, r, code)
     }
 
-    fn own_pid(&mut self, seat: Seat, r: Reg) {
+    fn own_pid(&mut self, seat: Seat, r: Reg)
+        requires sits { Sits self.old seat }
+        requires register { IsRegister r }
+        requires calls { self.old.calls < most_calls }
+        ensures passes { (s : State) (terms : Terms) (names : List (List ℕ)) → Properly (OneStands self.old) s → HasNames s names
+            → Passes (step s (said (Process seat.pid (verb.Own r)) terms names)) (Properly (OneStands self.new)) }
+        ensures books { Books self.old self.new self.old.named }
+        ensures idle { self.new.halves.sweeps ≡ self.old.halves.sweeps }
+    {
         self.one.own_pid(seat, r)
     }
 
@@ -170,7 +185,15 @@ impl Space for OneSpace {
         self.one.push(seat, s)
     }
 
-    fn pop(&mut self, seat: Seat, r: Reg) -> Result<(), Refusal> {
+    fn pop(&mut self, seat: Seat, r: Reg) -> Result<(), Refusal>
+        requires sits { Sits self.old seat }
+        requires register { IsRegister r }
+        requires calls { self.old.calls < most_calls }
+        ensures follows { (s : State) (terms : Terms) (names : List (List ℕ)) → Properly (OneStands self.old) s → HasNames s names
+            → Follows (step s (said (Process seat.pid (verb.Pop r)) terms names)) s result (Properly (OneStands self.new)) }
+        ensures books { Books self.old self.new self.old.named }
+        ensures idle { self.new.halves.sweeps ≡ self.old.halves.sweeps }
+    {
         self.one.pop(seat, r)
     }
 

@@ -13,8 +13,8 @@ pid-requires c =
       c.requires.calls,
     )
 
-pub returns : goal.returns
-returns c =
+pub returns-clause-does : goal.returns-clause-does
+returns-clause-does c =
     own-does c.args.self.now c.requires.holds c.args.seat c.requires.sits c.args.r c.index_mut-process.result.now c.index_mut-process.ensures.value c.pid.result c.pid.ensures
     (omega (
       arith,

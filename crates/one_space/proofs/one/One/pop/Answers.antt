@@ -2,8 +2,8 @@ use Rattle.std.proofs.Common.{◌-◌, arith, refl}
 use Rattle.one_space.proofs.Acting.{half-within, pop-does, pop-empty, pop-inside}
 use Rattle.one_space.proofs.one.One.pop.Goals as goal
 
-pub returns-then-process-eq0 : goal.returns-then-process-eq0
-returns-then-process-eq0 c = pop-empty c.args.self.now c.requires.holds c.args.seat c.requires.sits c.args.r c.index.result.now c.index.ensures c.if-process-eq0.true
+pub returns-then-process-eq0-clause-does : goal.returns-then-process-eq0-clause-does
+returns-then-process-eq0-clause-does c = pop-empty c.args.self.now c.requires.holds c.args.seat c.requires.sits c.args.r c.index.result.now c.index.ensures c.if-process-eq0.true
 
 pub get-requires : goal.get-requires
 get-requires c =
@@ -30,6 +30,6 @@ get-requires-2 c =
       pop-inside c.args.self.now c.requires.holds c.args.seat c.requires.sits c.args.r c.index.result.now c.index.ensures c.if-process-eq0.false,
     )
 
-pub returns : goal.returns
-returns c =
+pub returns-clause-does : goal.returns-clause-does
+returns-clause-does c =
     pop-does c.args.self.now c.requires.holds c.args.seat c.requires.sits c.args.r c.index.result.now c.index.ensures c.if-process-eq0.false c.get.result c.get-2.result (c.index.result.now.depth - 1) c.get.ensures c.get-2.ensures refl
