@@ -1,5 +1,5 @@
 -- What the calls that ask for no words make of a space.
-use Rattle.std.proofs.Common.{Vec, ◌≡◌, ℕ, zero, suc, ◌+◌, ◌-◌, ◌*◌, ◌/◌, ◌<◌, ◌≤◌, ◌^◌, Bool, true, false, List, [], ◌∷◌, length, map, get_or, set, Option, Some, Ok, Err, inl, inr, refl, sym, ◌∙◌, ap, subst, arith}
+use Rattle.std.proofs.Common.{Vec, ◌≡◌, ℕ, zero, suc, ◌+◌, ◌-◌, ◌<◌, ◌≤◌, ◌^◌, false, List, [], ◌∷◌, length, get_or, set, Option, Ok, Err, inl, inr, refl, sym, ◌∙◌, ap, subst, arith}
 use Rattle.std.specs.List.{filter, remove}
 use Rattle.std.specs.Vec.{vec_len, vec_capacity, with_item}
 use Rattle.std.specs.declared.alloc.Global.{Global}
@@ -17,17 +17,15 @@ use Rattle.script_grammar.specs.Written.{Terms}
 use Rattle.script_grammar.specs.Written.Terms.{end}
 use Rattle.script_grammar.specs.Names.{Parsed}
 use Rattle.term_tags.specs.Words.{pid_word}
-use Rattle.term_words.specs.Role.{IsSingle, OfObject}
 use Rattle.term_words.proofs.Makes.{stands-pid}
-use Rattle.plain_machine.specs.State.{Process, State, with_process, with_register, without_process}
-use Rattle.plain_machine.specs.Step.{in_process, pop_from, settled, step}
+use Rattle.plain_machine.specs.State.{Process, State, with_register}
+use Rattle.plain_machine.specs.Step.{in_process, pop_from, step}
 use Rattle.space_api.specs.Calls.{AreRising, Follows, Passes, said}
 use Rattle.space_api.specs.declared.space.Seat.{Seat}
 use Rattle.numbered_rows.specs.Numbers.{AreBelow, numbers}
 use Rattle.numbered_rows.proofs.Changing.{below-remove, numbers-set, rising-remove}
 use Rattle.numbered_rows.proofs.Rising.{number-read}
-use Rattle.one_space.specs.Stack.{values}
-use Rattle.one_space.specs.Halves.{HalvesStand, HoldTrees, HoldsTree, IsLaid, ProcsStand, depths, end_of, front_of}
+use Rattle.one_space.specs.Halves.{HalvesStand, HoldsTree, IsLaid, ProcsStand, depths, end_of}
 use Rattle.one_space.specs.One.{Holds, IsCounted, OneStands, Sits, number_in, numbers_of}
 use Rattle.one_space.specs.Doing.{DoesAlways, DoesAtOnce}
 use Rattle.one_space.specs.declared.halves.Halves.{Halves}
@@ -36,7 +34,7 @@ use Rattle.one_space.specs.declared.table.Proc.{Proc}
 use Rattle.one_space.proofs.Changing.{no_process, procs-remove}
 use Rattle.one_space.proofs.Rooms.{follows-some, passes-some}
 use Rattle.one_space.proofs.Seated.{found-there, number-there, removed-there, set-there, settled-stands}
-use Rattle.one_space.proofs.Seats.{is_other, replaced}
+use Rattle.one_space.proofs.Seats.{is_other}
 use Rattle.one_space.proofs.Stacks.{no_row}
 use Rattle.one_space.proofs.Turning.{TopOf, none-held, popped, register-set, row-stands, top-here, with_stack, with_word}
 

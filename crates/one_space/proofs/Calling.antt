@@ -1,6 +1,5 @@
 -- The calls of the space, from those of what it holds.
-use Rattle.std.proofs.Common.{◌≡◌, ℕ, ◌+◌, ◌*◌, ◌^◌, ◌<◌, ◌≤◌, ◌%◌, ◌/◌, ◌||◌, Bool, true, false, nat_lt, List, [], ◌∷◌, length, get_or, Option, Some, None, Result, Ok, Err, replicate, refl, sym, ◌∙◌, ap, subst, arith, inl}
-use Rattle.std.specs.List.{find}
+use Rattle.std.proofs.Common.{◌≡◌, ℕ, ◌<◌, ◌≤◌, ◌%◌, ◌/◌, ◌||◌, Bool, true, false, nat_lt, List, [], ◌∷◌, length, get_or, Option, Some, Result, Ok, Err, replicate, refl, sym, ◌∙◌, ap, subst, arith, inl}
 use Rattle.std.specs.Vec.{vec_len, vec_capacity}
 use Rattle.std.proofs.lemmas.Bool.Decides.{nat_tests}
 use Rattle.line_io.specs.Sink.{Grew, GrewInPart}
@@ -8,7 +7,6 @@ use Rattle.plain_term.specs.Beyond.{is_beyond}
 use Rattle.plain_term.specs.Measures.{nodes, depth}
 use Rattle.plain_term.specs.Text.{text}
 use Rattle.plain_term.specs.Tree.{Tree}
-use Rattle.plain_term.specs.Tree.Tree.{Nil}
 use Rattle.script_grammar.specs.declared.command.Command.{Command}
 use Rattle.script_grammar.specs.declared.command.Command.TheVariants.{Process as OfProcess, System}
 use Rattle.script_grammar.specs.declared.command.Verb.TheVariants as verb
@@ -18,7 +16,7 @@ use Rattle.script_grammar.specs.declared.refusal.Refusal.{Refusal}
 use Rattle.script_grammar.specs.Written.{Terms}
 use Rattle.plain_machine.specs.State.{HasNames, Process, State, fresh_process, first_state, process_of, register}
 use Rattle.plain_machine.specs.May.{may_of_tight}
-use Rattle.plain_machine.specs.Step.{in_process, settled, step, tells, unless_beyond}
+use Rattle.plain_machine.specs.Step.{in_process, step, tells, unless_beyond}
 use Rattle.plain_machine.proofs.Commands.{TermsOf}
 use Rattle.space_api.specs.Calls.{AreRising, Becomes, Follows, Passes, Prints, Properly, said}
 use Rattle.space_api.specs.declared.space.Seat.{Seat}
@@ -33,12 +31,10 @@ use Rattle.one_space.specs.Halves.{HoldsTree, IsLaid, ProcsStand, depths, end_of
 use Rattle.one_space.specs.One.{Holds, IsCounted, OneStands, Sits, number_in, numbers_of, words_of}
 use Rattle.one_space.specs.Doing.{Sweeps}
 use Rattle.one_space.specs.Print.{Printable}
-use Rattle.one_space.specs.declared.halves.Halves.{Halves}
 use Rattle.one_space.specs.declared.one.One.{One}
 use Rattle.one_space.specs.declared.table.Proc.{Proc}
 use Rattle.one_space.proofs.Changing.{fresh-stands, held-at, no_process, procs-at}
 use Rattle.one_space.proofs.Seated.{found-there}
-use Rattle.one_space.proofs.Stacks.{no_row}
 
 -- A call of what the space holds is one of the space, all of whose trees are proper.
 module _ (a b : One) (same : a ≡ b) (c : Command) (terms : Terms) (names : List (List ℕ)) (s : State) (h : Properly (OneStands b) s) (has : HasNames s names) (made : TermsOf c terms names) where

@@ -1,5 +1,5 @@
 -- Rows that stand for processes: read, written, taken out, added, and kept while the memory fills.
-use Rattle.std.proofs.Common.{◌≡◌, ℕ, zero, suc, ◌+◌, ◌<◌, ◌≤◌, ◌==◌, ◌||◌, Bool, List, [], ◌∷◌, ◌++◌, length, map, get_or, set, replicate, refl, sym, ◌∙◌, ap, subst, arith}
+use Rattle.std.proofs.Common.{◌≡◌, ℕ, zero, suc, ◌<◌, ◌≤◌, ◌==◌, ◌||◌, Bool, List, [], ◌∷◌, ◌++◌, length, get_or, set, replicate, refl, sym, ◌∙◌, ap, subst, arith}
 use Rattle.std.specs.List.{list_any, remove}
 use Rattle.plain_term.specs.Tree.{Tree}
 use Rattle.plain_term.specs.Tree.Tree.{Nil}
@@ -11,7 +11,7 @@ use Rattle.one_space.specs.Halves.{HoldTrees, HoldsTree, ProcStands, ProcsStand}
 use Rattle.one_space.specs.One.{number_in}
 use Rattle.one_space.specs.declared.table.Proc.{Proc}
 use Rattle.one_space.proofs.Seats.{process_numbers}
-use Rattle.one_space.proofs.Stacks.{AreKept, no_row, stack-kept, stack-wider, values-kept}
+use Rattle.one_space.proofs.Stacks.{AreKept, stack-kept, stack-wider, values-kept}
 
 -- A process for places that are not there.
 abbrev pub no_process : Process

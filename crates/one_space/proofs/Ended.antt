@@ -1,10 +1,9 @@
 -- A collection has ended: what stood in the one half stands in the other.
-use Rattle.std.proofs.Common.{◌≡◌, ℕ, suc, ◌+◌, ◌-◌, ◌*◌, ◌/◌, ◌%◌, ◌<◌, ◌≤◌, ◌⊎◌, if◌then◌else◌, Bool, true, false, List, [], ◌∷◌, ◌++◌, length, refl, sym, ◌∙◌, ap, subst, arith, inl, inr}
+use Rattle.std.proofs.Common.{◌≡◌, ℕ, suc, ◌+◌, ◌*◌, ◌/◌, ◌<◌, ◌≤◌, ◌⊎◌, Bool, true, false, List, [], ◌∷◌, ◌++◌, length, refl, sym, ◌∙◌, ap, subst, arith, inl, inr}
 use Rattle.std.specs.Vec.{with_items}
 use Rattle.std.proofs.lemmas.List.{with_items_is}
 use Rattle.std.proofs.lemmas.List.Sums.{sum_by-cons}
-use Rattle.plain_term.specs.Tree.{Tree, Trees}
-use Rattle.plain_term.specs.Measures.{flat_of_all}
+use Rattle.plain_term.specs.Tree.{Tree}
 use Rattle.plain_machine.specs.State.{Process}
 use Rattle.term_words.specs.Reach.{Reach}
 use Rattle.term_words.specs.Role.{OfObject}
@@ -12,26 +11,26 @@ use Rattle.term_words.specs.Tiled.{Tiled}
 use Rattle.term_words.specs.Stands.{Stands}
 use Rattle.cheney.specs.declared.moving.Moving.{Moving}
 use Rattle.term_words.specs.Counted.{In}
-use Rattle.cheney.specs.Plan.{Leaves, Plan, Ready, Reached, size}
+use Rattle.cheney.specs.Plan.{Plan, Reached}
 use Rattle.cheney.specs.Moved.{IsImage, forward}
 use Rattle.cheney.specs.Zones.{Marks, at_objects}
 use Rattle.cheney.specs.Rooms.{Runs, top_of}
 use Rattle.cheney.specs.Calls.{CanScan, RunsOn}
-use Rattle.cheney.specs.Collected.{AllImages, AreImages, Collected, Composes, Follows, IsMoved, RootsMoved}
-use Rattle.cheney.specs.Next.{HasRoles, IsCarried, IsTiled, Remains}
+use Rattle.cheney.specs.Collected.{AllImages, AreImages, Collected, Composes, IsMoved, RootsMoved}
+use Rattle.cheney.specs.Next.{HasRoles, IsTiled, Remains}
 use Rattle.cheney.proofs.Basics.{not-both}
 use Rattle.cheney.proofs.Begins.{has-collected, has-composed}
 use Rattle.cheney.proofs.Next.{has-roles, is-tiled}
 use Rattle.cheney.proofs.Rows.{images-all, images-join, root-in}
-use Rattle.one_space.specs.Stack.{IsStack, values}
-use Rattle.one_space.specs.Halves.{HalvesStand, HoldTrees, IsLaid, ProcStands, ProcsStand, Standing, depths, end_of, used_in}
-use Rattle.one_space.specs.Reached.{AllReached, held_words, roots_in, roots_of}
-use Rattle.one_space.specs.Rows.{AreMovedRows, CanMoveRows, Goes, IsAside, IsMovedRow, RowsMove, RowsMoved}
+use Rattle.one_space.specs.Stack.{values}
+use Rattle.one_space.specs.Halves.{HalvesStand, HoldTrees, IsLaid, ProcsStand, Standing, depths, end_of, used_in}
+use Rattle.one_space.specs.Reached.{AllReached, held_words, roots_in}
+use Rattle.one_space.specs.Rows.{AreMovedRows, CanMoveRows, Goes, IsAside, RowsMove, RowsMoved}
 use Rattle.one_space.specs.Collecting.{AreSameRows, CanCollect, Collects, IsBetween}
 use Rattle.one_space.specs.declared.halves.Halves.{Halves}
 use Rattle.one_space.specs.declared.table.Proc.{Proc}
 use Rattle.one_space.proofs.Going.{goes-call}
-use Rattle.one_space.proofs.Held.{held-words, trees_of}
+use Rattle.one_space.proofs.Held.{held-words}
 use Rattle.one_space.proofs.Planned.{AreSides, IsTarget, Target, aside-there, plan_of, rows-move, sides}
 use Rattle.one_space.proofs.Rowing.{row-on}
 use Rattle.one_space.proofs.Stacks.{others-in, registers-in, values-in}

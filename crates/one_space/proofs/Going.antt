@@ -1,5 +1,5 @@
 -- A collection goes on: by its calls, and by writes to places that lie aside.
-use Rattle.std.proofs.Common.{◌≡◌, ℕ, ◌+◌, ◌*◌, ◌<◌, ◌≤◌, ◌⊎◌, Bool, List, [], ◌∷◌, get_or, set, refl, sym, ◌∙◌, arith, inl, inr}
+use Rattle.std.proofs.Common.{ℕ, ◌<◌, ◌≤◌, ◌⊎◌, Bool, List, [], ◌∷◌, set, refl, ◌∙◌, arith, inl, inr}
 use Rattle.std.proofs.lemmas.List.{get_or-set_other}
 use Rattle.cheney.specs.declared.moving.Moving.{Moving}
 use Rattle.term_words.specs.Counted.{In}

@@ -1,12 +1,11 @@
 -- What the calls that ask for words make of a space: there is room, or the line is tight.
-use Rattle.std.proofs.Common.{Vec, ◌≡◌, ℕ, zero, suc, ◌+◌, ◌-◌, ◌*◌, ◌/◌, ◌<◌, ◌≤◌, Bool, true, false, nat_le, List, [], ◌∷◌, ◌++◌, length, map, get_or, set, replicate, sum_by, Option, Some, Result, Ok, Err, refl, sym, ◌∙◌, ap, subst, arith, inl, inr}
+use Rattle.std.proofs.Common.{Vec, ◌≡◌, ℕ, ◌+◌, ◌-◌, ◌/◌, ◌<◌, ◌≤◌, Bool, true, false, nat_le, List, [], ◌∷◌, ◌++◌, length, get_or, set, replicate, Option, Some, Result, Ok, Err, refl, sym, ◌∙◌, ap, subst, arith, inl, inr}
 use Rattle.std.specs.Vec.{vec_len, vec_capacity, with_item}
 use Rattle.std.specs.declared.alloc.Global.{Global}
 use Rattle.std.proofs.lemmas.Bool.{leb-true}
 use Rattle.std.proofs.lemmas.Bool.Decides.{nat_tests}
 use Rattle.std.proofs.lemmas.List.{length-append, length-set}
 use Rattle.std.proofs.lemmas.List.Sums.{sum_by_push}
-use Rattle.plain_term.specs.Tree.{Tree}
 use Rattle.script_grammar.specs.declared.command.Command.{Command}
 use Rattle.script_grammar.specs.declared.command.Command.TheVariants.{Process as OfProcess, System}
 use Rattle.script_grammar.specs.declared.command.Reg.{Reg}
@@ -19,14 +18,14 @@ use Rattle.script_grammar.specs.Written.{Terms}
 use Rattle.script_grammar.specs.Written.Terms.{end}
 use Rattle.script_grammar.specs.Names.{Parsed}
 use Rattle.plain_machine.specs.State.{Process, State, fresh_process, process_of, register}
-use Rattle.plain_machine.specs.Step.{in_process, settled, spawn_if, step}
-use Rattle.plain_machine.specs.Tightness.{demand, grow, process_words}
+use Rattle.plain_machine.specs.Step.{in_process, spawn_if, step}
+use Rattle.plain_machine.specs.Tightness.{grow, process_words}
 use Rattle.plain_machine.specs.May.{gets_to_space, may_of_tight}
 use Rattle.space_api.specs.Calls.{AreRising, Becomes, Follows, said}
 use Rattle.space_api.specs.declared.space.Seat.{Seat}
 use Rattle.numbered_rows.specs.Numbers.{AreBelow, numbers}
 use Rattle.numbered_rows.proofs.Changing.{below-push, rising-push}
-use Rattle.one_space.specs.Halves.{HalvesStand, IsLaid, ProcsStand, depths, end_of, free_in}
+use Rattle.one_space.specs.Halves.{HalvesStand, ProcsStand, depths, end_of, free_in}
 use Rattle.one_space.specs.Collecting.{LooksFor, MakesRoom}
 use Rattle.one_space.specs.One.{Holds, IsCounted, OneStands, Sits, number_in, words_of}
 use Rattle.one_space.specs.Doing.{Does}

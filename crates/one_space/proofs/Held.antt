@@ -1,13 +1,13 @@
 -- The roots of all processes, and the trees that they stand for.
-use Rattle.std.proofs.Common.{◌≡◌, ℕ, zero, suc, ◌+◌, ◌*◌, ◌<◌, ◌≤◌, Bool, List, [], ◌∷◌, ◌++◌, length, get_or, sum_by, refl, sym, ◌∙◌, ap, subst, arith}
+use Rattle.std.proofs.Common.{◌≡◌, ℕ, zero, suc, ◌+◌, ◌*◌, Bool, List, [], ◌∷◌, ◌++◌, length, get_or, sum_by, refl, ◌∙◌, ap, arith}
 use Rattle.std.proofs.lemmas.List.Sums.{sum_by-cons}
 use Rattle.plain_term.specs.Tree.{Tree, Trees}
 use Rattle.plain_term.specs.Tree.Trees.{end, ◌▹◌}
 use Rattle.plain_term.specs.Measures.{flat, flat_of_all}
 use Rattle.plain_machine.specs.State.{Process}
 use Rattle.term_words.specs.Stands.{AllStand}
-use Rattle.one_space.specs.Stack.{IsStack, values}
-use Rattle.one_space.specs.Halves.{HoldTrees, HoldsTree, ProcStands, ProcsStand, depths}
+use Rattle.one_space.specs.Stack.{values}
+use Rattle.one_space.specs.Halves.{HoldTrees, ProcStands, ProcsStand, depths}
 use Rattle.one_space.specs.Reached.{held_by, held_words, roots_in}
 use Rattle.one_space.specs.Rows.{HaveStacks}
 use Rattle.one_space.specs.declared.table.Proc.{Proc}

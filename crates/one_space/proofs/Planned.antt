@@ -14,8 +14,6 @@ use Rattle.cheney.proofs.Basics.{not-both}
 use Rattle.cheney.proofs.Begins.{begins}
 use Rattle.cheney.proofs.Fitting.{fits-by-range}
 use Rattle.cheney.proofs.Rows.{root-in}
-use Rattle.word_mem.specs.declared.ranges.Room.{Room}
-use Rattle.word_mem.specs.declared.ranges.Span.{Span}
 use Rattle.one_space.specs.Halves.{IsLaid, Standing, depths, end_of, front_of, half_of}
 use Rattle.one_space.specs.Reached.{roots_of}
 use Rattle.one_space.specs.Rows.{IsAside, RowsMove}

@@ -1,5 +1,5 @@
 -- What a call of make_room keeps beside what stands: the rows with their numbers, the room for more, and the count of collections.
-use Rattle.std.proofs.Common.{◌≡◌, ℕ, zero, suc, ◌+◌, ◌<◌, ◌≤◌, ◌⊎◌, ◌&&◌, ◌||◌, Bool, true, false, nat_le, nat_lt, List, [], ◌∷◌, length, get_or, ◌*◌, Ok, Err, Result, refl, sym, ◌∙◌, ap, subst, arith, inl, inr}
+use Rattle.std.proofs.Common.{◌≡◌, ℕ, zero, suc, ◌+◌, ◌<◌, ◌≤◌, ◌&&◌, ◌||◌, Bool, true, false, nat_lt, List, [], ◌∷◌, length, get_or, ◌*◌, Ok, Err, Result, refl, sym, ◌∙◌, ap, subst, arith, inl, inr}
 use Rattle.std.specs.Vec.{vec_capacity}
 use Rattle.std.proofs.Math.Decide.{dec_le}
 use Rattle.std.proofs.lemmas.Bool.Decides.{nat_tests}
@@ -14,8 +14,8 @@ use Rattle.plain_machine.specs.May.{gets_to_space, is_purge, may_of_tight}
 use Rattle.space_api.specs.Calls.{AreRising, Becomes, Follows, Passes}
 use Rattle.numbered_rows.specs.Numbers.{AreBelow, numbers}
 use Rattle.one_space.specs.Halves.{HalvesStand, IsLaid, free_in}
-use Rattle.one_space.specs.Collecting.{AreSameRows, Collects, LooksFor, MakesRoom}
-use Rattle.one_space.specs.One.{Holds, IsCounted, OneStands, Sits, number_in, numbers_of, words_of}
+use Rattle.one_space.specs.Collecting.{AreSameRows, Collects, MakesRoom}
+use Rattle.one_space.specs.One.{IsCounted, OneStands, Sits, number_in}
 use Rattle.one_space.specs.declared.halves.Halves.{Halves}
 use Rattle.one_space.specs.declared.one.One.{One}
 use Rattle.one_space.specs.declared.table.Proc.{Proc}

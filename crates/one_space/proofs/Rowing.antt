@@ -1,16 +1,16 @@
 -- What a row names moves, and then what the next row names.
-use Rattle.std.proofs.Common.{◌≡◌, ℕ, ◌+◌, ◌-◌, ◌*◌, ◌<◌, ◌≤◌, ◌⊎◌, List, [], ◌∷◌, length, take, get_or, set, refl, sym, ◌∙◌, ap, subst, arith, inl, inr}
+use Rattle.std.proofs.Common.{ℕ, ◌+◌, ◌*◌, ◌<◌, ◌≤◌, ◌⊎◌, List, refl, sym, subst, arith, inl, inr}
 use Rattle.cheney.specs.declared.moving.Moving.{Moving}
 use Rattle.term_words.specs.Counted.{In}
 use Rattle.cheney.specs.Plan.{Plan, Reached}
 use Rattle.cheney.specs.Zones.{Marks}
 use Rattle.cheney.specs.Collected.{AllImages}
 use Rattle.cheney.specs.Roots.{AllEvacuated}
-use Rattle.one_space.specs.Stack.{IsStack, values}
+use Rattle.one_space.specs.Stack.{values}
 use Rattle.one_space.specs.Rows.{Goes, HasPlaces, IsAside, IsMovedRow, RowMoved, RowMoves, StackMoved, StackMoves}
 use Rattle.one_space.specs.declared.table.Proc.{Proc}
 use Rattle.one_space.proofs.Going.{goes-call, goes-then, images-on}
-use Rattle.one_space.proofs.Stacks.{AreKept, stack-kept, stack-wider, values-kept}
+use Rattle.one_space.proofs.Stacks.{AreKept, stack-kept, values-kept}
 
 -- The places are there still.
 pub room-on : (p : Plan) (mem mem2 : List ℕ) (mv mv2 : Moving) (k : Marks) (low limit to n f t : ℕ) → HasPlaces p mem mv k low limit to n → Goes p mem mem2 mv2 k f t

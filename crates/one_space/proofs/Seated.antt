@@ -1,12 +1,12 @@
 -- The process of a seat in a state that the space stands for.
-use Rattle.std.proofs.Common.{◌≡◌, ℕ, ◌+◌, ◌<◌, ◌≤◌, List, length, map, get_or, set, Option, Some, refl, sym, ◌∙◌, ap, subst, arith}
+use Rattle.std.proofs.Common.{◌≡◌, ◌<◌, length, map, get_or, set, Some, sym, ◌∙◌, subst, arith}
 use Rattle.std.specs.List.{filter, remove}
 use Rattle.plain_machine.specs.State.{Process, State, process_of, with_process}
 use Rattle.plain_machine.specs.Step.{is_sweep, settled}
 use Rattle.script_grammar.specs.Names.{Parsed}
 use Rattle.space_api.specs.Calls.{AreRising}
 use Rattle.space_api.specs.declared.space.Seat.{Seat}
-use Rattle.one_space.specs.Halves.{HalvesStand, ProcStands, end_of}
+use Rattle.one_space.specs.Halves.{HalvesStand, end_of}
 use Rattle.one_space.specs.One.{IsCounted, OneStands, Sits}
 use Rattle.one_space.specs.declared.one.One.{One}
 use Rattle.one_space.proofs.Changing.{no_process, procs-at, procs-count, procs-numbers}

@@ -1,5 +1,5 @@
 -- Processes whose numbers rise: the one with a number stands at one place.
-use Rattle.std.proofs.Common.{◌≡◌, ℕ, zero, suc, ◌+◌, ◌<◌, ◌≤◌, ◌==◌, Bool, not, List, [], ◌∷◌, length, map, get_or, set, if◌then◌else◌, Some, refl, sym, ◌∙◌, ap, arith}
+use Rattle.std.proofs.Common.{◌≡◌, ℕ, zero, suc, ◌<◌, ◌≤◌, ◌==◌, Bool, not, List, [], ◌∷◌, length, map, get_or, set, if◌then◌else◌, Some, refl, ◌∙◌, ap, arith}
 use Rattle.std.specs.List.{find, filter, remove}
 use Rattle.std.proofs.lemmas.Bool.Decides.{nat_tests}
 use Rattle.plain_machine.specs.State.{Process}

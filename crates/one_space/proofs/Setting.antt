@@ -1,6 +1,6 @@
 -- `set`: a written term is built in a register, or there is no space.
-use Rattle.std.proofs.Common.{Vec, ◌≡◌, ℕ, ◌+◌, ◌-◌, ◌^◌, ◌/◌, min, ◌<◌, ◌≤◌, Bool, true, false, nat_le, All, List, [], ◌∷◌, length, map, max, get_or, set, Option, Some, Result, Ok, Err, refl, sym, ◌∙◌, ap, subst, arith, inl, inr}
-use Rattle.std.specs.Vec.{vec_len, with_item, with_items}
+use Rattle.std.proofs.Common.{Vec, ◌≡◌, ℕ, ◌+◌, ◌-◌, ◌^◌, ◌/◌, min, ◌<◌, ◌≤◌, Bool, true, false, List, length, map, get_or, set, Option, Ok, Err, refl, sym, ◌∙◌, ap, subst, arith, inl, inr}
+use Rattle.std.specs.Vec.{vec_len, with_item}
 use Rattle.std.specs.declared.alloc.Global.{Global}
 use Rattle.std.proofs.lemmas.Bool.{leb-false}
 use Rattle.std.proofs.lemmas.List.{length-set}
@@ -14,23 +14,23 @@ use Rattle.script_grammar.specs.declared.command.Verb.TheVariants as verb
 use Rattle.script_grammar.specs.declared.refusal.Refusal.{Refusal}
 use Rattle.script_grammar.specs.declared.refusal.Refusal.TheVariants as refusal
 use Rattle.script_grammar.specs.Written.{Term}
-use Rattle.script_grammar.specs.Names.{Parsed, items_of}
+use Rattle.script_grammar.specs.Names.{Parsed}
 use Rattle.term_words.specs.Role.{OfObject}
 use Rattle.term_build.specs.Taken.{IsFree}
 use Rattle.term_build.specs.Grows.{Built}
 use Rattle.term_build.specs.Clear.{Uses}
 use Rattle.plain_machine.specs.Made.{tree_of}
 use Rattle.plain_machine.specs.State.{Process, State, with_register}
-use Rattle.plain_machine.specs.Step.{in_process, step}
+use Rattle.plain_machine.specs.Step.{in_process}
 use Rattle.plain_machine.specs.Tightness.{grow}
 use Rattle.plain_machine.specs.May.{gets_to_space, may_of_tight}
 use Rattle.plain_machine.proofs.Making.{shared-kept}
-use Rattle.space_api.specs.Calls.{Becomes, Follows, HasTerm, IsNamedBelow, IsTerm, one_term, said}
+use Rattle.space_api.specs.Calls.{Becomes, Follows, HasTerm, IsTerm, one_term, said}
 use Rattle.space_api.specs.declared.space.Seat.{Seat}
-use Rattle.item_build.specs.Forest.{Forest, IsWritten, words_of}
+use Rattle.item_build.specs.Forest.{Forest, words_of}
 use Rattle.item_build.proofs.Terms.{modest-more}
 use Rattle.item_build.proofs.Written.{each-named, is-written, term-forest, term-modest, term-words, words-few}
-use Rattle.one_space.specs.Halves.{HalvesStand, HoldsTree, IsLaid, ProcsStand, depths, end_of, free_in, front_of}
+use Rattle.one_space.specs.Halves.{HalvesStand, HoldsTree, ProcsStand, depths, end_of, free_in, front_of}
 use Rattle.one_space.specs.Collecting.{MakesRoom}
 use Rattle.one_space.specs.One.{Holds, IsCounted, OneStands, Sits}
 use Rattle.one_space.specs.One.{words_of as memory_words}
@@ -38,7 +38,7 @@ use Rattle.one_space.specs.Doing.{Asks, Builds}
 use Rattle.one_space.specs.declared.halves.Halves.{Halves}
 use Rattle.one_space.specs.declared.one.One.{One}
 use Rattle.one_space.specs.declared.table.Proc.{Proc}
-use Rattle.one_space.proofs.Acting.{counts-same, depths-row, half-within, laid_out, numbers-row}
+use Rattle.one_space.proofs.Acting.{counts-same, depths-row, laid_out, numbers-row}
 use Rattle.one_space.proofs.Changing.{no_process, procs-on}
 use Rattle.one_space.proofs.Growing.{counts-there, grow-at, holds-become, room-there, roomed-there, sits-there, some-process}
 use Rattle.one_space.proofs.Rooms.{no-space, roomed, stays-roomed}

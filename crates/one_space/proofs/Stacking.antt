@@ -1,12 +1,11 @@
 -- A stack moves place by place.
-use Rattle.std.proofs.Common.{◌≡◌, ℕ, zero, suc, ◌+◌, ◌*◌, ◌<◌, ◌≤◌, ◌⊎◌, List, [], ◌∷◌, length, get_or, set, refl, sym, ◌∙◌, ap, subst, arith, inl, inr}
+use Rattle.std.proofs.Common.{◌≡◌, ℕ, zero, suc, ◌+◌, ◌*◌, ◌<◌, ◌≤◌, List, length, get_or, refl, sym, ◌∙◌, ap, subst, arith, inl, inr}
 use Rattle.cheney.specs.declared.moving.Moving.{Moving}
 use Rattle.term_words.specs.Counted.{In}
 use Rattle.cheney.specs.Plan.{Plan, Reached}
 use Rattle.cheney.specs.Moved.{IsImage}
 use Rattle.cheney.specs.Zones.{Marks}
-use Rattle.cheney.specs.Rooms.{Runs}
-use Rattle.cheney.specs.Calls.{CanMove, Evacuated}
+use Rattle.cheney.specs.Calls.{CanMove}
 use Rattle.cheney.specs.Collected.{AllImages}
 use Rattle.term_words.proofs.Members.{one-or-not}
 use Rattle.one_space.specs.Stack.{IsStack, values}

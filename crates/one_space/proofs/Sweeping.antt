@@ -1,15 +1,12 @@
 -- A collection that a line asks for.
-use Rattle.std.proofs.Common.{◌≡◌, ℕ, ◌+◌, Bool, List, refl, ◌∙◌, subst, sym, arith}
-use Rattle.plain_machine.specs.State.{Process, State}
-use Rattle.one_space.specs.Halves.{HalvesStand}
+use Rattle.std.proofs.Common.{◌+◌, Bool, refl, arith}
+use Rattle.plain_machine.specs.State.{State}
 use Rattle.one_space.specs.Collecting.{Collects}
 use Rattle.one_space.specs.One.{Holds, OneStands}
 use Rattle.one_space.specs.Doing.{Sweeps}
 use Rattle.one_space.specs.declared.halves.Halves.{Halves}
 use Rattle.one_space.specs.declared.one.One.{One}
 use Rattle.one_space.proofs.Rooms.{counts-roomed, stays-collected}
-use Rattle.one_space.proofs.Seated.{count-there}
-use Rattle.one_space.proofs.Turning.{popped, pushed, register-set}
 
 pub sweeps : (all : Bool) (b : One) (h : Halves) → Holds b → Collects b.halves h → Sweeps all b (record { halves = h; row = b.row; next = b.next; named = b.named; calls = b.calls + 1; swept = all })
 sweeps all b h holds c =

@@ -1,11 +1,10 @@
 -- Where a collection frees too little, twice all that lives and is asked for exceeds the memory.
-use Rattle.std.proofs.Common.{◌≡◌, ℕ, ◌+◌, ◌-◌, ◌*◌, ◌/◌, ◌<◌, ◌≤◌, ◌⊎◌, Bool, true, false, nat_le, List, [], ◌∷◌, length, sum_by, refl, sym, ◌∙◌, ap, subst, arith, inl, inr}
+use Rattle.std.proofs.Common.{◌≡◌, ℕ, ◌+◌, ◌*◌, ◌<◌, ◌≤◌, true, nat_le, List, [], ◌∷◌, length, sum_by, refl, arith, inl, inr}
 use Rattle.std.proofs.lemmas.Bool.{leb-false}
 use Rattle.std.proofs.lemmas.Bool.Decides.{nat_tests}
 use Rattle.std.proofs.lemmas.List.Sums.{sum_by-cons}
-use Rattle.plain_term.specs.Measures.{flat}
 use Rattle.plain_machine.specs.State.{Process, State}
-use Rattle.plain_machine.specs.Tightness.{area_demand, demand, process_demand, record_demand}
+use Rattle.plain_machine.specs.Tightness.{demand, process_demand}
 use Rattle.cheney.proofs.Basics.{not-both}
 use Rattle.one_space.specs.Halves.{HalvesStand, IsLaid, free_in, half_of, used_in}
 use Rattle.one_space.specs.Reached.{held_by, held_words}

@@ -1,10 +1,9 @@
 -- One row is changed: a register is written, a stack grows or shrinks.
-use Rattle.std.proofs.Common.{◌≡◌, ℕ, zero, suc, ◌+◌, ◌-◌, ◌/◌, ◌<◌, ◌≤◌, Bool, true, List, [], ◌∷◌, length, get_or, set, refl, sym, ◌∙◌, ap, subst, arith, inl, inr}
+use Rattle.std.proofs.Common.{◌≡◌, ℕ, zero, suc, ◌+◌, ◌-◌, ◌<◌, ◌≤◌, Bool, true, List, [], ◌∷◌, length, get_or, set, refl, sym, ◌∙◌, ap, subst, arith}
 use Rattle.std.proofs.lemmas.List.{get_or-set_other, get_or-set_same, length-set}
 use Rattle.plain_term.specs.Tree.{Tree}
-use Rattle.plain_term.specs.Tree.Tree.{Nil}
 use Rattle.plain_machine.specs.State.{Process, register, with_register}
-use Rattle.term_words.specs.Kept.{Kept, Keeps}
+use Rattle.term_words.specs.Kept.{Keeps}
 use Rattle.term_words.proofs.Frames.{frame}
 use Rattle.one_space.specs.Stack.{IsStack, values}
 use Rattle.one_space.specs.Halves.{HoldTrees, HoldsTree, ProcStands, ProcsStand}

@@ -1,10 +1,8 @@
 -- What a collection asks and promises, and when a call may answer that there is no space.
-use Rattle.std.specs.Prelude.{◌≡◌, ℕ, ◌+◌, ◌*◌, ◌<◌, ◌≤◌, ◌⊎◌, ◌^◌, Bool, false, List, [], ◌∷◌, length, nat_le}
+use Rattle.std.specs.Prelude.{◌≡◌, ℕ, ◌+◌, ◌*◌, ◌<◌, ◌≤◌, ◌⊎◌, Bool, false, List, [], ◌∷◌, length, nat_le}
 use Rattle.std.specs.Vec.{vec_capacity}
 use Rattle.plain_machine.specs.State.{Process, State}
 use Rattle.plain_machine.specs.Tightness.{demand}
-use Rattle.word_mem.specs.declared.ranges.Room.{Room}
-use Rattle.word_mem.specs.declared.ranges.Span.{Span}
 use Rattle.cheney.specs.declared.moving.Moving.{Moving}
 use Rattle.one_space.specs.Halves.{HalvesStand, IsLaid, Standing, free_in, used_in}
 use Rattle.one_space.specs.Reached.{AllReached, held_words}

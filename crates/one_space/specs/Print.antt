@@ -1,10 +1,9 @@
 -- Words that are printed: how a text comes out piece by piece.
-use Rattle.std.specs.Prelude.{◌≡◌, ℕ, ◌+◌, ◌<◌, ◌≤◌, true, ◌*◌, List, [], ◌++◌, length, slice_index, codes}
+use Rattle.std.specs.Prelude.{◌≡◌, ℕ, ◌+◌, ◌≤◌, true, ◌*◌, List, [], ◌++◌, length, slice_index, codes}
 use Rattle.line_io.specs.Sink.{Grew}
 use Rattle.plain_term.specs.Tree.{Tree, Trees, trees_len}
-use Rattle.plain_term.specs.Tree.Tree.{Int, Atom, Pid, Nil, Cons, Tuple}
-use Rattle.plain_term.specs.Tree.Trees.{end, ◌▹◌}
-use Rattle.plain_term.specs.Measures.{is_small, nodes, nodes_of_all, depth, greatest_depth}
+use Rattle.plain_term.specs.Tree.Tree.{Cons, Tuple}
+use Rattle.plain_term.specs.Measures.{nodes, nodes_of_all, greatest_depth}
 use Rattle.plain_term.specs.Text.{text, text_as, more_terms}
 use Rattle.term_words.specs.Stands.{RowStands, stands}
 use Rattle.term_words.specs.Role.{always}

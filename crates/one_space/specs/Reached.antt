@@ -1,5 +1,5 @@
 -- What the processes reach, and the words that they hold by value.
-use Rattle.std.specs.Prelude.{◌≡◌, ℕ, ◌+◌, ◌*◌, List, [], ◌∷◌, ◌++◌, length, sum_by}
+use Rattle.std.specs.Prelude.{ℕ, ◌+◌, ◌*◌, List, [], ◌∷◌, ◌++◌, length, sum_by}
 use Rattle.plain_term.specs.Measures.{flat}
 use Rattle.plain_machine.specs.State.{Process}
 use Rattle.term_words.specs.Reach.{Reach}

@@ -1,4 +1,4 @@
-use Rattle.std.proofs.Common.{◌+◌, length, ap, arith}
+use Rattle.std.proofs.Common.{length, ap, arith}
 use Rattle.std.proofs.lemmas.List.{length-set}
 use Rattle.one_space.proofs.Placing.{place-inside, place-moved}
 use Rattle.one_space.proofs.roots.move_place.Goals as goal

@@ -1,6 +1,5 @@
-use Rattle.std.proofs.Common.{◌<◌, nat_le, sym, subst, ap, arith}
+use Rattle.std.proofs.Common.{nat_le, sym, subst, arith}
 use Rattle.std.proofs.Common.{ℕ}
-use Rattle.one_space.specs.Halves.{free_in}
 use Rattle.one_space.specs.Collecting.{MakesRoom}
 use Rattle.one_space.proofs.Tight.{room-after, room-before}
 use Rattle.one_space.proofs.halves.Halves.make_room.Goals as goal

@@ -1,4 +1,4 @@
-use Rattle.std.proofs.Common.{ℕ, ◌≤◌, length, get_or, sym, subst}
+use Rattle.std.proofs.Common.{◌≤◌, length, get_or, sym, subst}
 use Rattle.plain_machine.specs.State.{register}
 use Rattle.one_space.specs.Print.{Printable}
 use Rattle.one_space.specs.One.{OneStands, Sits}
