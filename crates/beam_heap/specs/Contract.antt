@@ -1,18 +1,18 @@
 -- What the whole program promises: the store that a run leaves, and what a run was.
-use Rattle.std.specs.Prelude.{ℕ, ◌≡◌, ◌⊎◌, length}
+use Rattle.std.specs.Prelude.{ℕ, ◌≡◌, ◌⊎◌}
 use Rattle.plain_machine.specs.State.{State}
 use Rattle.space_api.specs.Calls.{Properly}
 use Rattle.engine.specs.Acts.{StandsWith}
 use Rattle.engine.specs.declared.serving.Status.{Status}
 use Rattle.engine.specs.declared.serving.Status.TheVariants.{Done, Usage, ReadFault, WriteFault, Memory, TooMuch}
-use Rattle.bump_space.specs.Bump.{BumpStands}
+use Rattle.one_space.specs.One.{OneStands, words_of}
 use Rattle.beam_heap.specs.declared.store.Store.{Store}
 use Rattle.beam_heap.specs.declared.store.Store.TheVariants.{Vacant, One}
 
 -- The machine in the store stands for the state, names and all, over an arena of so many words; a vacant store stands for none.
 abbrev pub StoreStands : (words : ℕ) → Store → State → Type 0
 StoreStands words Vacant s = ⊥
-StoreStands words (One m) s = StandsWith (Properly (BumpStands m.space)) m.names s × (length m.space.mem ≡ words)
+StoreStands words (One m) s = StandsWith (Properly (OneStands m.space)) m.names s × (words_of m.space ≡ words)
 
 -- The first where a script was served, the second where the run ended before its first line.
 abbrev pub IfServed : Status → (served unopened : Type 0) → Type 0

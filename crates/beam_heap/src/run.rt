@@ -2,21 +2,21 @@ ghost use Rattle.std.specs.Prelude.{◌≡◌, ◌↔◌, ℕ, ◌+◌, ◌<◌,
 ghost use Rattle.line_io.specs.Faults.{Rose};
 ghost use Rattle.line_io.specs.Reader.{limits_of};
 ghost use Rattle.plain_machine.specs.State.{first_state, State};
-ghost use Rattle.plain_machine.specs.May.{may_of_all_asked};
+ghost use Rattle.plain_machine.specs.May.{may_of_tight};
 ghost use Rattle.engine.specs.Acts.{StandsWith};
 ghost use Rattle.engine.specs.Serving.{IsNew, Served, TellsRead, TellsWrite};
 ghost use Rattle.beam_heap.specs.Contract.{StoreStands, IfServed, IsComplete};
 
 use crate::store::Store;
 use atom_names::AtomNames;
-use bump_space::BumpSpace;
 use engine::{Machine, Status, serve};
 use line_io::{Limits, LineReader, Sink, Source};
+use one_space::OneSpace;
 use script_parse::Code;
 use space_api::Space;
 use std::alloc::Global;
 
-/// How many words the arena has (this project).
+/// How many words the arena has, both halves (this project).
 pub const ARENA_WORDS: u64 = 1_048_576;
 
 /// How many lines and bytes a script may have (this project).
@@ -26,13 +26,13 @@ pub const LIMITS: Limits = Limits {
 };
 
 /// A machine in its first state: process 1 lives, and there are no names.
-fn first_machine(alloc: Global) -> Option<Machine<BumpSpace>>
-    ensures stands { IfSome result (λ m. StandsWith (⟦<BumpSpace as Space>⟧.stands m.space) m.names first_state) }
-    ensures words { IfSome result (λ m. ⟦<BumpSpace as Space>⟧.words m.space ≡ ARENA_WORDS) }
-    ensures calls { IfSome result (λ m. ⟦<BumpSpace as Space>⟧.calls m.space ≡ 0) }
-    ensures named { IfSome result (λ m. ⟦<BumpSpace as Space>⟧.named m.space ≤ length m.names) }
+fn first_machine(alloc: Global) -> Option<Machine<OneSpace>>
+    ensures stands { IfSome result (λ m. StandsWith (⟦<OneSpace as Space>⟧.stands m.space) m.names first_state) }
+    ensures words { IfSome result (λ m. ⟦<OneSpace as Space>⟧.words m.space ≡ ARENA_WORDS) }
+    ensures calls { IfSome result (λ m. ⟦<OneSpace as Space>⟧.calls m.space ≡ 0) }
+    ensures named { IfSome result (λ m. ⟦<OneSpace as Space>⟧.named m.space ≤ length m.names) }
 {
-    let Ok(space) = BumpSpace::start(alloc, ARENA_WORDS) else {
+    let Ok(space) = OneSpace::start(alloc, ARENA_WORDS) else {
         return None;
     };
     let Ok(names) = AtomNames::new(alloc) else {
@@ -62,7 +62,7 @@ pub fn run<S: Source, K: Sink>(
     // Each line was answered as by a machine of plain trees, and the store stands for its last state, over the arena of
     // that many words; else nothing was read or written, and the store is vacant.
     ensures served { IfServed result
-        (Served (record { supply = record { may = may_of_all_asked; words = ARENA_WORDS }; first = first_state; limits = LIMITS })
+        (Served (record { supply = record { may = may_of_tight; words = ARENA_WORDS }; first = first_state; limits = LIMITS })
         (record { before = S.left source.old; after = S.left source.new })
         (record { wrote = K.wrote; faults = K.faults; before = sink.old; after = sink.new })
         (StoreStands ARENA_WORDS store.new) result)

@@ -1,13 +1,13 @@
 ghost use Rattle.std.specs.Prelude.{◌≡◌};
 
-use bump_space::BumpSpace;
 use engine::Machine;
+use one_space::OneSpace;
 
 /// What a run leaves: nothing where it did not begin, else the machine in its last state.
 #[derive(Drop)]
 pub enum Store {
     Vacant,
-    One(Machine<BumpSpace>),
+    One(Machine<OneSpace>),
 }
 
 impl Store {

@@ -4,6 +4,7 @@ ghost use Rattle.std.specs.Prelude.{◌<◌};
 mod faults;
 mod grown;
 mod rows;
+mod small;
 
 use crate::arguments::{complaint, number};
 use crate::run::run;

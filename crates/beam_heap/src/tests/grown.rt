@@ -6,7 +6,7 @@ use std::test::Fail;
 
 // A part of a text: it stands once or several times, or is the number of its block.
 #[derive(Clone, Copy)]
-enum Part {
+pub(super) enum Part {
     Once(&'static [u8]),
     Times(&'static [u8], usize),
     Number,
@@ -26,7 +26,7 @@ struct Grown {
     blocks: &'static [Block],
 }
 
-const GROWN: [Grown; 5] = [
+const GROWN: [Grown; 6] = [
     Grown {
         name: "faulty lines are refused one by one, and the last line needs no end",
         blocks: &[Block {
@@ -64,26 +64,40 @@ const GROWN: [Grown; 5] = [
         }],
     },
     Grown {
-        name: "words are never used twice: 257 lines of 4,095 bytes, each of which asks for 4,086 words",
+        name: "words that nothing reaches are used again: 257 lines of 4,095 bytes, each of which asks for 4,086 words",
+        blocks: &[Block {
+            first: 0,
+            past: 257,
+            script: &[
+                Part::Once(b"1 set 0 [1"),
+                Part::Times(b",1", 2042),
+                Part::Once(b"]\n"),
+            ],
+            replies: &[Part::Once(b"ok\n")],
+        }],
+    },
+    Grown {
+        name: "what is reached stays: 128 such lists with their stack places fill a half",
         blocks: &[
             Block {
                 first: 0,
-                past: 257,
+                past: 128,
                 script: &[
                     Part::Once(b"1 set 0 [1"),
                     Part::Times(b",1", 2042),
-                    Part::Once(b"]\n"),
+                    Part::Once(b"]\n1 push 0\n"),
                 ],
-                replies: &[],
+                replies: &[Part::Once(b"ok\nok\n")],
             },
             Block {
                 first: 0,
                 past: 1,
-                script: &[],
-                replies: &[
-                    Part::Times(b"ok\n", 256),
-                    Part::Once(b"error nospace 4086\n"),
+                script: &[
+                    Part::Once(b"1 set 0 [1"),
+                    Part::Times(b",1", 2042),
+                    Part::Once(b"]\n1 push 0\n"),
                 ],
+                replies: &[Part::Once(b"error nospace 4086\nok\n")],
             },
         ],
     },
@@ -124,7 +138,7 @@ const GROWN: [Grown; 5] = [
 ];
 
 // Appends the parts of a text.
-fn push_parts(text: &mut Vec<u8>, parts: &[Part], number: u64) -> Result<(), Fail> {
+pub(super) fn push_parts(text: &mut Vec<u8>, parts: &[Part], number: u64) -> Result<(), Fail> {
     for part in parts {
         match *part {
             Part::Once(bytes) => text.extend_from_slice(bytes)?,

@@ -9,7 +9,7 @@ struct Row {
     replies: &'static [u8],
 }
 
-const ROWS: [Row; 23] = [
+const ROWS: [Row; 25] = [
     Row {
         name: "a term is written and printed",
         script: b"1 set 0 {1,[2]}\n1 print 0\n",
@@ -112,8 +112,18 @@ const ROWS: [Row; 23] = [
     },
     Row {
         name: "verbs and forms that are not built",
-        script: b"1 hd 0 0\n1 set 0 [1|2]\n1 set 0 $1\nsys sweep\n1 frob 0\n",
+        script: b"1 hd 0 0\n1 set 0 [1|2]\n1 set 0 $1\nsys counts\n1 frob 0\n",
         replies: b"error syntax\nerror syntax\nerror syntax\nerror syntax\nerror syntax\n",
+    },
+    Row {
+        name: "collections keep the terms of registers and stacks",
+        script: b"sys spawn\n1 set 0 {a,[1,2]}\n1 push 0\n2 set 5 [x]\n2 push 5\n2 push 5\n1 set 0 []\n1 gc minor\n2 gc major\nsys sweep\n1 pop 3\n1 print 3\n2 pop 1\n2 print 1\n2 pop 1\n2 print 5\n2 pop 1\n",
+        replies: b"ok 2\nok\nok\nok\nok\nok\nok\nok\nok\nok\nok\n{a,[1,2]}\nok\n[x]\nok\n[x]\nerror empty\n",
+    },
+    Row {
+        name: "collections that are not written so",
+        script: b"2 gc minor\n1 gc\n1 gc minors\nsys sweep 1\n",
+        replies: b"error noproc\nerror syntax\nerror syntax\nerror syntax\n",
     },
     Row {
         name: "the greatest number of a process",

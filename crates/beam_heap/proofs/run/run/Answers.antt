@@ -2,7 +2,7 @@
 use Rattle.std.proofs.Common.{◌∙◌, arith}
 use Rattle.plain_machine.specs.State.{State, first_state}
 use Rattle.space_api.specs.Calls.{Properly}
-use Rattle.bump_space.specs.Bump.{BumpStands}
+use Rattle.one_space.specs.One.{OneStands}
 use Rattle.engine.specs.Acts.{StandsWith}
 use Rattle.engine.specs.Rules.{Input, Output}
 use Rattle.engine.specs.Serving.{Served}
@@ -24,7 +24,7 @@ returns-clause-served g c =
     let all = c.serve-status.ensures.served first_state c.in-Some.ensures.stands in
     let before : Input = record { before = g.S.Source.left c.args.source.now; after = g.S.Source.left c.serve-status.new.source } in
     let out : Output g.row.K.Denot = record { wrote = g.K.Sink.wrote; faults = g.K.Sink.faults; before = c.args.sink.now; after = c.serve-status.new.sink } in
-    let machine : State → Type 0 = StandsWith (Properly (BumpStands c.serve-status.new.m.space)) c.serve-status.new.m.names in
+    let machine : State → Type 0 = StandsWith (Properly (OneStands c.serve-status.new.m.space)) c.serve-status.new.m.names in
     if_served _ before out _ _ _
     (stands_so _ before out machine (StoreStands ARENA_WORDS (One c.serve-status.new.m)) _ (λ s h. (h, c.serve-status.ensures.words ∙ c.in-Some.ensures.words))
     (same-rules (λ r. Served r before out machine c.serve-status.result) _ _ _ _ _ _ c.in-Some.ensures.words c.in-Ok.ensures.limits all))
