@@ -1,0 +1,5 @@
+mod Members
+mod Putting
+mod Left
+mod Compares
+mod Sorting

@@ -1,0 +1,17 @@
+use Rattle.std.proofs.Common.{◌≡◌, ℕ, ◌≤◌, Bool, false, List, length}
+use Rattle.plain_term.specs.Tree.{Pairs}
+use Rattle.term_tags.specs.declared.layouts.TheConstants.{MOST_KEYS}
+use Rattle.term_words.specs.Counted.{In}
+use Rattle.term_maps.specs.InOrder.{has_beyond}
+use Rattle.term_maps.specs.Given.{PairsStand, keys_in}
+use Rattle.term_maps.proofs.Sorting.{Sorting}
+use Rattle.term_maps.proofs.maps.sort.Given as goal
+
+abbrev pub invariant-loop-i : goal.invariant-loop-i
+invariant-loop-i g l = record {
+  keys : (w : ℕ) → In w l.sorted.keys.items → In w (keys_in l.pairs);
+  few : length l.sorted.keys.items ≤ MOST_KEYS;
+  same_len : length l.sorted.values.items ≡ length l.sorted.keys.items;
+  sorting : (c : ℕ → ℕ → Bool) (shared : List (List ℕ)) (given : Pairs) → PairsStand c shared l.mem l.pairs given → has_beyond shared given ≡ false
+      → Sorting c (g.C.Comparison.names l.order) shared l.mem given l.i l.sorted;
+}

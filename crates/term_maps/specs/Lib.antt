@@ -1,0 +1,4 @@
+pub mod Compared
+pub mod InOrder
+pub mod Spots
+pub mod Given
