@@ -1,0 +1,5 @@
+pub mod Draws
+pub mod Lines
+pub mod Pieces
+pub mod Script
+pub mod Figures
