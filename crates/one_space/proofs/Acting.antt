@@ -47,7 +47,8 @@ abbrev pub after : One → Halves → One
 after b h = record { halves = h; row = b.row; next = b.next; named = b.named; calls = b.calls + 1; swept = false }
 
 -- The numbers of a space, where the rows have the same.
-pub counts-same : (b b2 : One) → IsCounted b → IsLaid b2.halves → numbers_of b2 ≡ numbers_of b → length b2.halves.procs.items ≡ length b.halves.procs.items → vec_capacity b2.halves.procs ≡ vec_capacity b.halves.procs
+pub counts-same : (b b2 : One) → IsCounted b → IsLaid b2.halves → numbers_of b2 ≡ numbers_of b → length b2.halves.procs.items ≡ length b.halves.procs.items
+    → vec_capacity b2.halves.procs ≡ vec_capacity b.halves.procs
     → vec_len b2.row ≡ vec_len b.row → b2.next ≡ b.next → b.calls ≤ b2.calls → b2.halves.sweeps ≡ b.halves.sweeps → IsCounted b2
 counts-same b b2 c laid same count capacity row next calls sweeps =
     let P : List ℕ → Type 0 = λ z. AreBelow b.next z in
@@ -86,9 +87,11 @@ seat-below (r ∷ rows) zero limit d less b = b.0
 seat-below (r ∷ rows) (suc i) limit d less b = seat-below rows i limit d (omega arith) b.1
 
 -- `self`.
-module _ (b : One) (holds : Holds b) (seat : Seat) (x : Sits b seat) (r : Reg) (p : Proc) (is : p ≡ get_or b.halves.procs.items seat.row p) (w : ℕ) (word : w ≡ pid_word seat.pid) (small : seat.pid < 2 ^ 41) where
+module _ (b : One) (holds : Holds b) (seat : Seat) (x : Sits b seat) (r : Reg) (p : Proc) (is : p ≡ get_or b.halves.procs.items seat.row p) (w : ℕ) (word : w ≡ pid_word seat.pid)
+    (small : seat.pid < 2 ^ 41) where
   own-passes : (s : State) (terms : Terms) (names : List (List ℕ)) → OneStands b s
-      → Passes (step s (said (OfProcess seat.pid (verb.Own r)) terms names)) (OneStands (after b (laid_out b.halves b.halves.mem b.halves.top b.halves.low (with_item b.halves.procs seat.row (with_word p r.0 w)))))
+      → Passes (step s (said (OfProcess seat.pid (verb.Own r)) terms names))
+          (OneStands (after b (laid_out b.halves b.halves.mem b.halves.top b.halves.low (with_item b.halves.procs seat.row (with_word p r.0 w)))))
   own-passes s terms names o =
       let b2 : One = after b (laid_out b.halves b.halves.mem b.halves.top b.halves.low (with_item b.halves.procs seat.row (with_word p r.0 w))) in
       let q : Process = get_or s.processes seat.row no_process in
@@ -102,7 +105,8 @@ module _ (b : One) (holds : Holds b) (seat : Seat) (x : Sits b seat) (r : Reg) (
         test = o.processes.test;
         single = o.processes.single;
         objects = o.processes.objects;
-        processes = register-set o.processes.test s.shared b.halves.mem b.halves.low (end_of b.halves) b.named b.halves.procs.items s.processes seat.row p x.within is o.processes.processes r.0 w (Pid q.number) held;
+        processes = register-set o.processes.test s.shared b.halves.mem b.halves.low (end_of b.halves) b.named b.halves.procs.items s.processes seat.row p x.within is o.processes.processes r.0 w
+            (Pid q.number) held;
       } in
       let P : Option Process → Type 0 = λ z. Passes (in_process z s line (verb.Own r)) (OneStands b2) in
       let Q : List Process → Type 0 = λ z. HalvesStand b.named b2.halves s.shared z in
@@ -111,21 +115,25 @@ module _ (b : One) (holds : Holds b) (seat : Seat) (x : Sits b seat) (r : Reg) (
 
   own-counts : IsCounted (after b (laid_out b.halves b.halves.mem b.halves.top b.halves.low (with_item b.halves.procs seat.row (with_word p r.0 w))))
   own-counts =
-      let same : depths (set b.halves.procs.items seat.row (with_word p r.0 w)) ≡ depths b.halves.procs.items = omega (arith, depths-row b.halves.procs.items seat.row (with_word p r.0 w) p x.within is) in
+      let same : depths (set b.halves.procs.items seat.row (with_word p r.0 w)) ≡ depths b.halves.procs.items =
+          omega (arith, depths-row b.halves.procs.items seat.row (with_word p r.0 w) p x.within is) in
       counts-same b (after b (laid_out b.halves b.halves.mem b.halves.top b.halves.low (with_item b.halves.procs seat.row (with_word p r.0 w)))) holds.counts
-      (record { even = holds.counts.laid.even; side = holds.counts.laid.side; front = holds.counts.laid.front; order = holds.counts.laid.order; places = omega (arith, holds.counts.laid.places, same) })
+      (record { even = holds.counts.laid.even; side = holds.counts.laid.side; front = holds.counts.laid.front; order = holds.counts.laid.order; places =
+          omega (arith, holds.counts.laid.places, same) })
       (numbers-row b.halves.procs.items seat.row (with_word p r.0 w) p x.within is refl) (length-set b.halves.procs.items seat.row (with_word p r.0 w)) refl refl refl (omega arith) refl
 
   pub own-does : DoesAlways (OfProcess seat.pid (verb.Own r)) b (after b (laid_out b.halves b.halves.mem b.halves.top b.halves.low (with_item b.halves.procs seat.row (with_word p r.0 w))))
   own-does = record {
-    holds = holds-passed (after b (laid_out b.halves b.halves.mem b.halves.top b.halves.low (with_item b.halves.procs seat.row (with_word p r.0 w)))) (OfProcess seat.pid (verb.Own r)) holds.state own-counts
+    holds = holds-passed (after b (laid_out b.halves b.halves.mem b.halves.top b.halves.low (with_item b.halves.procs seat.row (with_word p r.0 w)))) (OfProcess seat.pid (verb.Own r)) holds.state
+        own-counts
         (own-passes holds.state end [] holds.stands);
     passes = own-passes;
     books = record { same_words = refl; one_call = omega arith; few_names = omega arith };
   }
 
 -- `exit`.
-module _ (b : One) (holds : Holds b) (seat : Seat) (x : Sits b seat) (v : Vec Proc Global) (items : v.items ≡ remove b.halves.procs.items seat.row) (capacity : vec_capacity v ≡ vec_capacity b.halves.procs) where
+module _ (b : One) (holds : Holds b) (seat : Seat) (x : Sits b seat) (v : Vec Proc Global) (items : v.items ≡ remove b.halves.procs.items seat.row)
+    (capacity : vec_capacity v ≡ vec_capacity b.halves.procs) where
   exit-passes : (s : State) (terms : Terms) (names : List (List ℕ)) → OneStands b s
       → Passes (step s (said (OfProcess seat.pid verb.Exit) terms names)) (OneStands (after b (laid_out b.halves b.halves.mem b.halves.top b.halves.low v)))
   exit-passes s terms names o =
@@ -158,7 +166,8 @@ module _ (b : One) (holds : Holds b) (seat : Seat) (x : Sits b seat) (v : Vec Pr
       let fewer : length v.items + 1 ≡ length b.halves.procs.items = ap (λ z. length z + 1) items ∙ length-remove b.halves.procs.items seat.row x.within in
       let less : depths v.items ≤ depths b.halves.procs.items = omega (arith, ap depths items, sum_by-remove (λ r. r.depth) b.halves.procs.items seat.row no_row x.within) in
       record {
-        laid = record { even = holds.counts.laid.even; side = holds.counts.laid.side; front = holds.counts.laid.front; order = holds.counts.laid.order; places = omega (arith, holds.counts.laid.places, less) };
+        laid = record { even = holds.counts.laid.even; side = holds.counts.laid.side; front = holds.counts.laid.front; order = holds.counts.laid.order; places =
+            omega (arith, holds.counts.laid.places, less) };
         enough = holds.counts.enough;
         places = omega (arith, holds.counts.places, capacity);
         few = omega (arith, holds.counts.few, fewer);
@@ -214,7 +223,8 @@ module _ (b : One) (holds : Holds b) (seat : Seat) (x : Sits b seat) (r : Reg) (
           single = o.processes.single;
           objects = o.processes.objects;
           processes =
-              popped o.processes.test s.shared b.halves.mem b.halves.low (end_of b.halves) b.named b.halves.procs.items s.processes seat.row p x.within is o.processes.processes some r.0 w u d value below depth;
+              popped o.processes.test s.shared b.halves.mem b.halves.low (end_of b.halves) b.named b.halves.procs.items s.processes seat.row p x.within is o.processes.processes some r.0 w u d value
+                  below depth;
         } in
         let P : Option Process → Type 0 = λ z. Follows {A = Unit {0}} (in_process z s line (verb.Pop r)) s (Ok tt) (OneStands b2) in
         let Q : List Tree → Type 0 = λ z. Follows {A = Unit {0}} (pop_from z s line q r.0) s (Ok tt) (OneStands b2) in
@@ -227,10 +237,13 @@ module _ (b : One) (holds : Holds b) (seat : Seat) (x : Sits b seat) (r : Reg) (
         let fewer : depths (set b.halves.procs.items seat.row (with_stack (with_word p r.0 w) u d)) ≤ depths b.halves.procs.items =
         omega (arith, depth, depths-row b.halves.procs.items seat.row (with_stack (with_word p r.0 w) u d) p x.within is) in
         counts-same b (after b (laid_out b.halves b.halves.mem b.halves.top b.halves.low (with_item b.halves.procs seat.row (with_stack (with_word p r.0 w) u d)))) holds.counts
-        (record { even = holds.counts.laid.even; side = holds.counts.laid.side; front = holds.counts.laid.front; order = holds.counts.laid.order; places = omega (arith, holds.counts.laid.places, fewer) })
-        (numbers-row b.halves.procs.items seat.row (with_stack (with_word p r.0 w) u d) p x.within is refl) (length-set b.halves.procs.items seat.row (with_stack (with_word p r.0 w) u d)) refl refl refl (omega arith) refl
+        (record { even = holds.counts.laid.even; side = holds.counts.laid.side; front = holds.counts.laid.front; order = holds.counts.laid.order; places =
+            omega (arith, holds.counts.laid.places, fewer) })
+        (numbers-row b.halves.procs.items seat.row (with_stack (with_word p r.0 w) u d) p x.within is refl) (length-set b.halves.procs.items seat.row (with_stack (with_word p r.0 w) u d)) refl refl
+            refl (omega arith) refl
 
-    pub pop-does : DoesAtOnce {A = Unit {0}} (OfProcess seat.pid (verb.Pop r)) b (after b (laid_out b.halves b.halves.mem b.halves.top b.halves.low (with_item b.halves.procs seat.row (with_stack (with_word p r.0 w) u d)))) (Ok tt)
+    pub pop-does : DoesAtOnce {A = Unit {0}} (OfProcess seat.pid (verb.Pop r)) b
+        (after b (laid_out b.halves b.halves.mem b.halves.top b.halves.low (with_item b.halves.procs seat.row (with_stack (with_word p r.0 w) u d)))) (Ok tt)
     pop-does =
         let b2 : One = after b (laid_out b.halves b.halves.mem b.halves.top b.halves.low (with_item b.halves.procs seat.row (with_stack (with_word p r.0 w) u d))) in
         let f = follows-some (step holds.state (said (OfProcess seat.pid (verb.Pop r)) end [])) holds.state (Ok tt) (OneStands b2) (pop-follows holds.state end [] holds.stands) in

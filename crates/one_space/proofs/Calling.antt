@@ -101,17 +101,21 @@ not-beyond n shared t none m =
     within : (a b : ℕ) → a ≤ 4096 → b ≤ 256 → (nat_lt 1048576 a || nat_lt 1024 b) ≡ false
     within a b x y = grind (arith, nat_tests)
 
-module _ {K : Type 0} (wrote : K → List ℕ → Type 0) (old new : K) (s : State) (pid r n : ℕ) (terms : Terms) (names : List (List ℕ)) (q : Process) (none : s.shared ≡ []) (found : process_of pid s ≡ Some q) (m : IsModest n 256 (register r q)) where
+module _ {K : Type 0} (wrote : K → List ℕ → Type 0) (old new : K) (s : State) (pid r n : ℕ) (terms : Terms) (names : List (List ℕ)) (q : Process) (none : s.shared ≡ [])
+    (found : process_of pid s ≡ Some q) (m : IsModest n 256 (register r q)) where
   pub prints-all : Grew wrote old new (text names [] (register r q)) → Prints {A = Unit {0}} {K = K} (step s (said (OfProcess pid (verb.Print (record { 0 = r }))) terms names)) wrote old new (Ok tt)
   prints-all g =
-      let P : Option Process → Type 0 = λ o. Prints {A = Unit {0}} {K = K} (in_process o s (said (OfProcess pid (verb.Print (record { 0 = r }))) terms names) (verb.Print (record { 0 = r }))) wrote old new (Ok tt) in
+      let P : Option Process → Type 0 = λ o. Prints {A = Unit {0}} {K = K} (in_process o s (said (OfProcess pid (verb.Print (record { 0 = r }))) terms names) (verb.Print (record { 0 = r }))) wrote
+          old new (Ok tt) in
       let Q : Bool → Type 0 = λ x. Prints {A = Unit {0}} {K = K} (tells s (unless_beyond x (text names s.shared (register r q)))) wrote old new (Ok tt) in
       let R : List (List ℕ) → Type 0 = λ x. Grew wrote old new (text names x (register r q)) in
       subst P (sym found) (subst Q (sym (not-beyond n s.shared (register r q) none m)) (subst R (sym none) g))
 
-  pub prints-part : GrewInPart wrote old new (text names [] (register r q)) → Prints {A = Unit {0}} {K = K} (step s (said (OfProcess pid (verb.Print (record { 0 = r }))) terms names)) wrote old new (Err Fault)
+  pub prints-part : GrewInPart wrote old new (text names [] (register r q))
+      → Prints {A = Unit {0}} {K = K} (step s (said (OfProcess pid (verb.Print (record { 0 = r }))) terms names)) wrote old new (Err Fault)
   prints-part g =
-      let P : Option Process → Type 0 = λ o. Prints {A = Unit {0}} {K = K} (in_process o s (said (OfProcess pid (verb.Print (record { 0 = r }))) terms names) (verb.Print (record { 0 = r }))) wrote old new (Err Fault) in
+      let P : Option Process → Type 0 = λ o. Prints {A = Unit {0}} {K = K} (in_process o s (said (OfProcess pid (verb.Print (record { 0 = r }))) terms names) (verb.Print (record { 0 = r }))) wrote
+          old new (Err Fault) in
       let Q : Bool → Type 0 = λ x. Prints {A = Unit {0}} {K = K} (tells s (unless_beyond x (text names s.shared (register r q)))) wrote old new (Err Fault) in
       let R : List (List ℕ) → Type 0 = λ x. GrewInPart wrote old new (text names x (register r q)) in
       subst P (sym found) (subst Q (sym (not-beyond n s.shared (register r q) none m)) (subst R (sym none) g))
@@ -137,7 +141,8 @@ module _ (b : One) (p : Proc) (one : b.halves.procs.items ≡ p ∷ []) (number 
         areas = refl;
       }
 
-  module _ (words : ℕ) (len : length b.halves.mem ≡ words) (least : 4096 ≤ words) (even : words % 2 ≡ 0) (base : b.halves.base ≡ 0) (top : b.halves.top ≡ 2) (low : b.halves.low ≡ words / 2) (row : vec_len b.row ≡ 4096)
+  module _ (words : ℕ) (len : length b.halves.mem ≡ words) (least : 4096 ≤ words) (even : words % 2 ≡ 0) (base : b.halves.base ≡ 0) (top : b.halves.top ≡ 2) (low : b.halves.low ≡ words / 2)
+      (row : vec_len b.row ≡ 4096)
       (capacity : 1024 ≤ vec_capacity b.halves.procs) (calls : b.calls ≡ 0) (sweeps : b.halves.sweeps ≡ 0) where
     depths-none : depths b.halves.procs.items ≡ 0
     depths-none = ap depths one ∙ omega (arith, flat)

@@ -54,7 +54,8 @@ module _ (c : ℕ → ℕ → Bool) (shared : List (List ℕ)) (mem : List ℕ) 
           refs = refl;
         }
 
-    pub procs-at : (ps : List Proc) (qs : List Process) (i : ℕ) (d : Proc) (e : Process) → i < length ps → ProcsStand c shared mem low limit named ps qs → ProcStands c shared mem low limit named (get_or ps i d) (get_or qs i e)
+    pub procs-at : (ps : List Proc) (qs : List Process) (i : ℕ) (d : Proc) (e : Process) → i < length ps → ProcsStand c shared mem low limit named ps qs
+        → ProcStands c shared mem low limit named (get_or ps i d) (get_or qs i e)
     procs-at [] qs i d e less s = absurd (omega arith)
     procs-at (p ∷ ps) [] i d e less s = absurd s
     procs-at (p ∷ ps) (q ∷ qs) zero d e less s = s.0
@@ -103,7 +104,8 @@ module _ (c : ℕ → ℕ → Bool) (shared : List (List ℕ)) (mem : List ℕ) 
         ap (λ x. (x == pid) || list_any (λ p. p.number == pid) ps) (sym s.0.number) ∙ ap (λ x. (v.number == pid) || x) (procs-among ps qs pid s.1)
 
 -- What stands still stands, where trees do and stack places are the same.
-module _ (c d : ℕ → ℕ → Bool) (shared : List (List ℕ)) (mem mem2 : List ℕ) (named named2 low low2 limit : ℕ) (trees : (w : ℕ) (t : Tree) → HoldsTree c shared mem named w t → HoldsTree d shared mem2 named2 w t)
+module _ (c d : ℕ → ℕ → Bool) (shared : List (List ℕ)) (mem mem2 : List ℕ) (named named2 low low2 limit : ℕ)
+    (trees : (w : ℕ) (t : Tree) → HoldsTree c shared mem named w t → HoldsTree d shared mem2 named2 w t)
     (same : AreKept mem mem2 low limit) (down : low2 ≤ low) where
   pub held-on : (ws : List ℕ) (ts : List Tree) → HoldTrees c shared mem named ws ts → HoldTrees d shared mem2 named2 ws ts
   held-on [] [] h = tt

@@ -66,7 +66,8 @@ module _ (b : One) (holds : Holds b) (n : ℕ) (h : Halves) (ok : Bool) (room : 
   module _ (A : Type 0) (c : Command) (g : ℕ) (lacking : ok ≡ false) (some : 0 < g)
       (asks : (s : State) (terms : Terms) (names : List (List ℕ)) → OneStands b s
       → (grow s (said c terms names) ≡ g) × (LooksFor s g n × (gets_to_space c (step s (said c terms names)) ≡ true))) where
-    refused-becomes : (s : State) (terms : Terms) (names : List (List ℕ)) → OneStands b s → Becomes {A = A} may_of_tight (words_of b) s (said c terms names) (Err (refusal.NoSpace g)) (OneStands (roomed b h))
+    refused-becomes : (s : State) (terms : Terms) (names : List (List ℕ)) → OneStands b s
+        → Becomes {A = A} may_of_tight (words_of b) s (said c terms names) (Err (refusal.NoSpace g)) (OneStands (roomed b h))
     refused-becomes s terms names o =
         let a = asks s terms names o in
         no-space A (words_of b) (roomed b h) s (said c terms names) g (roomed-there s o) a.0 (room.tight b.named s g o.processes a.1.0 lacking) some a.1.1
@@ -110,7 +111,8 @@ module _ (b : One) (holds : Holds b) (seat : Seat) (x : Sits b seat) (r : Reg) (
       let one : p.depth ≤ depths h.procs.items = omega (arith, depths-row h.procs.items seat.row (with_stack p p.stack 0) p (sits-there b holds 2 h ok room seat x).within is) in
       omega (arith, one, room.laid.places, half-within h room.laid)
 
-  module _ (given : ok ≡ true) (p : Proc) (is : p ≡ get_or h.procs.items seat.row p) (small : r.0 < 16) (mem2 : List ℕ) (written : mem2 ≡ set (set h.mem (h.low - 2) (get_or p.regs r.0 0)) (h.low - 2 + 1) p.stack) where
+  module _ (given : ok ≡ true) (p : Proc) (is : p ≡ get_or h.procs.items seat.row p) (small : r.0 < 16) (mem2 : List ℕ)
+      (written : mem2 ≡ set (set h.mem (h.low - 2) (get_or p.regs r.0 0)) (h.low - 2 + 1) p.stack) where
     counts1 : IsCounted (roomed b h)
     counts1 = counts-there b holds 2 h ok room
 
@@ -123,7 +125,8 @@ module _ (b : One) (holds : Holds b) (seat : Seat) (x : Sits b seat) (r : Reg) (
     order : h.low ≤ end_of h
     order = omega (arith, room.laid.places)
 
-    push-becomes : (s : State) (terms : Terms) (names : List (List ℕ)) → OneStands b s → Becomes {A = Unit {0}} may_of_tight (words_of b) s (said (OfProcess seat.pid (verb.Push r)) terms names) (Ok tt)
+    push-becomes : (s : State) (terms : Terms) (names : List (List ℕ)) → OneStands b s
+        → Becomes {A = Unit {0}} may_of_tight (words_of b) s (said (OfProcess seat.pid (verb.Push r)) terms names) (Ok tt)
         (OneStands (after b (laid_out h mem2 h.top (h.low - 2) (with_item h.procs seat.row (with_stack p (h.low - 2) (p.depth + 1))))))
     push-becomes s terms names o =
         let b2 : One = after b (laid_out h mem2 h.top (h.low - 2) (with_item h.procs seat.row (with_stack p (h.low - 2) (p.depth + 1)))) in
@@ -132,11 +135,15 @@ module _ (b : One) (holds : Holds b) (seat : Seat) (x : Sits b seat) (r : Reg) (
         let q2 : Process = record q { stack = register r.0 q ∷ q.stack } in
         let line : Parsed = said (OfProcess seat.pid (verb.Push r)) terms names in
         let roles : (a k : ℕ) → o1.processes.test a k ≡ true → a < h.top = λ a k e. (o1.processes.objects a k e).1.0 in
-        let rows = pushed o1.processes.test s.shared h.mem h.top h.low (end_of h) b.named h.procs.items s.processes seat.row r.0 p sits1.within is small o1.processes.processes roles fits (half-within h room.laid) order mem2 written in
-        let len : length mem2 ≡ length h.mem = pushed-len o1.processes.test s.shared h.mem h.top h.low (end_of h) b.named h.procs.items s.processes seat.row r.0 p sits1.within is small o1.processes.processes roles fits (half-within h room.laid) order mem2 written in
+        let rows = pushed o1.processes.test s.shared h.mem h.top h.low (end_of h) b.named h.procs.items s.processes seat.row r.0 p sits1.within is small o1.processes.processes roles fits
+            (half-within h room.laid) order mem2 written in
+        let len : length mem2 ≡ length h.mem = pushed-len o1.processes.test s.shared h.mem h.top h.low (end_of h) b.named h.procs.items s.processes seat.row r.0 p sits1.within is small
+            o1.processes.processes roles fits (half-within h room.laid) order mem2 written in
         let limit : end_of h ≡ h.base + length mem2 / 2 = omega (arith, len) in
-        let P : ℕ → Type 0 = λ z. ProcsStand o1.processes.test s.shared mem2 (h.low - 2) z b.named (set h.procs.items seat.row (with_stack p (h.low - 2) (p.depth + 1))) (set s.processes seat.row q2) in
-        let stands : HalvesStand b.named b2.halves s.shared (set s.processes seat.row q2) = record { test = o1.processes.test; single = o1.processes.single; objects = o1.processes.objects; processes = subst P limit rows } in
+        let P : ℕ → Type 0 = λ z. ProcsStand o1.processes.test s.shared mem2 (h.low - 2) z b.named (set h.procs.items seat.row (with_stack p (h.low - 2) (p.depth + 1)))
+            (set s.processes seat.row q2) in
+        let stands : HalvesStand b.named b2.halves s.shared (set s.processes seat.row q2) =
+            record { test = o1.processes.test; single = o1.processes.single; objects = o1.processes.objects; processes = subst P limit rows } in
         let Q : Option Process → Type 0 = λ z. Follows {A = Unit {0}} (in_process z s line (verb.Push r)) s (Ok tt) (OneStands b2) in
         let R : List Process → Type 0 = λ z. HalvesStand b.named b2.halves s.shared z in
         inl (subst Q (sym (found-there (roomed b h) s o1 counts1 seat sits1))
@@ -145,7 +152,8 @@ module _ (b : One) (holds : Holds b) (seat : Seat) (x : Sits b seat) (r : Reg) (
     push-counts : IsCounted (after b (laid_out h mem2 h.top (h.low - 2) (with_item h.procs seat.row (with_stack p (h.low - 2) (p.depth + 1)))))
     push-counts =
         let b2 : One = after b (laid_out h mem2 h.top (h.low - 2) (with_item h.procs seat.row (with_stack p (h.low - 2) (p.depth + 1)))) in
-        let more : depths (set h.procs.items seat.row (with_stack p (h.low - 2) (p.depth + 1))) ≡ depths h.procs.items + 1 = omega (arith, depths-row h.procs.items seat.row (with_stack p (h.low - 2) (p.depth + 1)) p sits1.within is) in
+        let more : depths (set h.procs.items seat.row (with_stack p (h.low - 2) (p.depth + 1))) ≡ depths h.procs.items + 1 =
+            omega (arith, depths-row h.procs.items seat.row (with_stack p (h.low - 2) (p.depth + 1)) p sits1.within is) in
         let len : length mem2 ≡ length h.mem =
         ap length written ∙ length-set (set h.mem (h.low - 2) (get_or p.regs r.0 0)) (h.low - 2 + 1) p.stack ∙ length-set h.mem (h.low - 2) (get_or p.regs r.0 0) in
         counts-same (roomed b h) b2 counts1
@@ -156,7 +164,8 @@ module _ (b : One) (holds : Holds b) (seat : Seat) (x : Sits b seat) (r : Reg) (
           order = omega (arith, fits);
           places = omega (arith, room.laid.places, more, len, fits);
         })
-        (numbers-row h.procs.items seat.row (with_stack p (h.low - 2) (p.depth + 1)) p sits1.within is refl) (length-set h.procs.items seat.row (with_stack p (h.low - 2) (p.depth + 1))) refl refl refl (omega arith) refl
+        (numbers-row h.procs.items seat.row (with_stack p (h.low - 2) (p.depth + 1)) p sits1.within is refl) (length-set h.procs.items seat.row (with_stack p (h.low - 2) (p.depth + 1))) refl refl
+            refl (omega arith) refl
 
     pub push-does : Does {A = Unit {0}} (OfProcess seat.pid (verb.Push r)) b (after b (laid_out h mem2 h.top (h.low - 2) (with_item h.procs seat.row (with_stack p (h.low - 2) (p.depth + 1))))) (Ok tt)
     push-does =
@@ -200,7 +209,8 @@ module _ (b : One) (holds : Holds b) where
         let P : Bool → Type 0 = λ z. gets_to_space (System sysverb.Spawn) (spawn_if z s (said (System sysverb.Spawn) terms names)) ≡ true in
         (refl, (inr (omega arith), subst P (sym (not-full s o)) refl)))
 
-    module _ (v : Vec Proc Global) (p : Proc) (items : v.items ≡ h.procs.items ++ p ∷ []) (capacity : vec_capacity v ≡ vec_capacity h.procs) (number : p.number ≡ b.next) (regs : p.regs ≡ replicate 16 59) (depth : p.depth ≡ 0) where
+    module _ (v : Vec Proc Global) (p : Proc) (items : v.items ≡ h.procs.items ++ p ∷ []) (capacity : vec_capacity v ≡ vec_capacity h.procs) (number : p.number ≡ b.next)
+        (regs : p.regs ≡ replicate 16 59) (depth : p.depth ≡ 0) where
       counts2 : IsCounted (roomed b h)
       counts2 = counts-there b holds 14 h ok room
 
@@ -241,7 +251,8 @@ module _ (b : One) (holds : Holds b) where
 
       pub spawn-does : Does {A = ℕ} (System sysverb.Spawn) b (spawned b (laid_out h h.mem h.top h.low v)) (Ok b.next)
       spawn-does = record {
-        holds = holds-become {A = ℕ} (words_of b) (spawned b (laid_out h h.mem h.top h.low v)) holds.state (said (System sysverb.Spawn) end []) (Ok b.next) spawn-counts (spawn-becomes holds.state end [] holds.stands);
+        holds = holds-become {A = ℕ} (words_of b) (spawned b (laid_out h h.mem h.top h.low v)) holds.state (said (System sysverb.Spawn) end []) (Ok b.next) spawn-counts
+            (spawn-becomes holds.state end [] holds.stands);
         becomes = spawn-becomes;
         books = record { same_words = (stays-roomed 14 b.halves h ok room).same_len; one_call = omega arith; few_names = omega arith };
       }

@@ -32,7 +32,8 @@ module _ {K : Type 0} (wrote : K → List ℕ → Type 0) (names : List (List �
       let P : ℕ → Type 0 = λ x. Printable count (level + 1) mem x p.tail in
       record { tail = p.tail; came = codes "[" ++ text names [] p.head; whole = list-text place t p; grew = g; ends = p.ends; is = subst P (sym is) p.back; few = omega (arith, p.fewer) }
 
-  pub list-begins-badly : (old new : K) (place : ℕ) (t : Tree) (p : ListPart count level mem place t) → GrewInPart wrote old new (codes "[" ++ text names [] p.head) → GrewInPart wrote old new (text names [] t)
+  pub list-begins-badly : (old new : K) (place : ℕ) (t : Tree) (p : ListPart count level mem place t)
+      → GrewInPart wrote old new (codes "[" ++ text names [] p.head) → GrewInPart wrote old new (text names [] t)
   list-begins-badly old new place t p g =
       part-as wrote old new ((codes "[" ++ text names [] p.head) ++ text_as names [] true p.tail) (text names [] t) (sym (list-text place t p))
       (part-front wrote old new (codes "[" ++ text names [] p.head) (text_as names [] true p.tail) g)
@@ -71,7 +72,8 @@ module _ {K : Type 0} (wrote : K → List ℕ → Type 0) (names : List (List �
   tail-nil w (Cons h t) k ends e none = absurd (none (w / 4) e)
   tail-nil w _ k ends e none = absurd ends
 
-  pub list-ends : {A E : Type 0} (old mid new : K) (r : Result A E) (rest left : ℕ) (t : Tree) (k : Kind) → length mem ≤ 2 ^ 24 → (goes : ListGoes names (level + 1) mem rest left wrote old mid count t)
+  pub list-ends : {A E : Type 0} (old mid new : K) (r : Result A E) (rest left : ℕ) (t : Tree) (k : Kind) → length mem ≤ 2 ^ 24
+      → (goes : ListGoes names (level + 1) mem rest left wrote old mid count t)
       → ((x : Kind) → InRange x → rest ≡ word_of x → k ≡ x) → ((q : ℕ) → k ≡ kind.ListAt q → ⊥) → Writes wrote mid new r (codes "]") → Writes wrote old new r (text names [] t)
   list-ends old mid new r rest left t k len goes back none p =
       let is = kind-is count (level + 1) mem rest goes.tail k len goes.is back in
@@ -107,7 +109,8 @@ module _ {K : Type 0} (wrote : K → List ℕ → Type 0) (names : List (List �
       let S : Trees → Type 0 = λ x. nodes_of_all [] x ≤ most_nodes in
       row-part count level mem (place + 1) f.first f.others (subst P f.is p.row) (subst Q f.is p.plain) (subst R f.is p.deep) (subst S f.is p.few)
 
-  tuple-text : (place : ℕ) (t : Tree) (p : TupleParts count level mem place t) (f : FirstOf p.parts) → text names [] t ≡ (codes "{" ++ text names [] f.first) ++ (more_terms names [] f.others ++ codes "}")
+  tuple-text : (place : ℕ) (t : Tree) (p : TupleParts count level mem place t) (f : FirstOf p.parts)
+      → text names [] t ≡ (codes "{" ++ text names [] f.first) ++ (more_terms names [] f.others ++ codes "}")
   tuple-text place t p f =
       ap (text names []) p.shape ∙ (ap (λ x. text names [] (Tuple x)) f.is
       ∙ (ap (λ x. codes "{" ++ x) (append_assoc (text names [] f.first) (more_terms names [] f.others) (codes "}"))
@@ -137,7 +140,8 @@ module _ {K : Type 0} (wrote : K → List ℕ → Type 0) (names : List (List �
         count_left = omega (arith, p.header);
       }
 
-  pub tuple-begins-badly : (old new : K) (place : ℕ) (t : Tree) (p : TupleParts count level mem place t) (f : FirstOf p.parts) → GrewInPart wrote old new (codes "{" ++ text names [] f.first) → GrewInPart wrote old new (text names [] t)
+  pub tuple-begins-badly : (old new : K) (place : ℕ) (t : Tree) (p : TupleParts count level mem place t) (f : FirstOf p.parts)
+      → GrewInPart wrote old new (codes "{" ++ text names [] f.first) → GrewInPart wrote old new (text names [] t)
   tuple-begins-badly old new place t p f g =
       part-as wrote old new ((codes "{" ++ text names [] f.first) ++ (more_terms names [] f.others ++ codes "}")) (text names [] t) (sym (tuple-text place t p f))
       (part-front wrote old new (codes "{" ++ text names [] f.first) (more_terms names [] f.others ++ codes "}") g)
@@ -193,7 +197,8 @@ module _ {K : Type 0} (wrote : K → List ℕ → Type 0) (names : List (List �
   no-more end e = refl
   no-more (x ▹ xs) e = absurd (omega arith)
 
-  pub tuple-ends : {A E : Type 0} (old mid new : K) (r : Result A E) (p : ℕ) (t : Tree) (goes : TupleGoes names level mem p 0 wrote old mid count t) → Writes wrote mid new r (codes "}") → Writes wrote old new r (text names [] t)
+  pub tuple-ends : {A E : Type 0} (old mid new : K) (r : Result A E) (p : ℕ) (t : Tree) (goes : TupleGoes names level mem p 0 wrote old mid count t) → Writes wrote mid new r (codes "}")
+      → Writes wrote old new r (text names [] t)
   tuple-ends old mid new r p t goes last =
       writes-as wrote old new r (goes.came ++ codes "}") (text names [] t) (ap (λ x. goes.came ++ x) (sym (no-more goes.rest goes.count_left)) ∙ sym goes.whole)
       (writes-after wrote old mid new goes.came (codes "}") r goes.grew last)

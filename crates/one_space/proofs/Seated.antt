@@ -40,6 +40,7 @@ module _ (b : One) (s : State) (o : OneStands b s) (c : IsCounted b) where
     removed-there = seat-removed s.processes seat.row seat.pid 0 no_process rising-there within-there number-there
 
 -- The space stands for the state with one process changed.
-pub settled-stands : (b c : One) (s : State) (p : Parsed) (q : Process) → OneStands b s → HalvesStand c.named c.halves s.shared (map (replaced q) s.processes) → c.next ≡ b.next → c.swept ≡ is_sweep p.command
+pub settled-stands : (b c : One) (s : State) (p : Parsed) (q : Process) → OneStands b s → HalvesStand c.named c.halves s.shared (map (replaced q) s.processes) → c.next ≡ b.next
+    → c.swept ≡ is_sweep p.command
     → OneStands c (settled p (with_process q s))
 settled-stands b c s p q o h next swept = record { processes = h; next = o.next ∙ sym next; swept = sym swept; shared = o.shared; areas = o.areas }

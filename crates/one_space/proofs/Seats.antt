@@ -29,7 +29,8 @@ found-first q qs pid e = grind (arith, nat_tests)
 found-later : (q : Process) (qs : List Process) (pid : ℕ) → (q.number ≡ pid → ⊥) → find (λ x. x.number == pid) (q ∷ qs) ≡ find (λ x. x.number == pid) qs
 found-later q qs pid other = grind (arith, nat_tests)
 
-pub seat-found : (qs : List Process) (i pid a : ℕ) (d : Process) → AreRising a (process_numbers qs) → i < length qs → (get_or qs i d).number ≡ pid → find (λ x. x.number == pid) qs ≡ Some (get_or qs i d)
+pub seat-found : (qs : List Process) (i pid a : ℕ) (d : Process) → AreRising a (process_numbers qs) → i < length qs → (get_or qs i d).number ≡ pid
+    → find (λ x. x.number == pid) qs ≡ Some (get_or qs i d)
 seat-found [] i pid a d r less e = absurd (omega arith)
 seat-found (q ∷ qs) zero pid a d r less e = found-first q qs pid e
 seat-found (q ∷ qs) (suc i) pid a d r less e =

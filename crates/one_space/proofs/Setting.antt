@@ -66,7 +66,8 @@ asks-done n m b b2 h ok a room same sweeps = record {
     differ : {A : Type 0} (a : A) (x : Refusal) → Ok a ≡ Err x → ⊥
     differ a x e = cc
 
-module _ (b : One) (holds : Holds b) (seat : Seat) (x : Sits b seat) (r : Reg) (names : List (List ℕ)) (code : List Item) (has : HasTerm names code) (few : length names ≤ 16384) (n : ℕ) (is_n : n ≡ words_of code)
+module _ (b : One) (holds : Holds b) (seat : Seat) (x : Sits b seat) (r : Reg) (names : List (List ℕ)) (code : List Item) (has : HasTerm names code) (few : length names ≤ 16384) (n : ℕ)
+    (is_n : n ≡ words_of code)
     (h : Halves) (ok : Bool) (room : MakesRoom n b.halves h ok) (more : b.named ≤ length names) where
   asks-words : (s : State) (t : Term) → OneStands b s → IsTerm names code t → grow s (said (OfProcess seat.pid (verb.Set r)) (one_term t) names) ≡ n
   asks-words s t o is =
@@ -89,7 +90,8 @@ module _ (b : One) (holds : Holds b) (seat : Seat) (x : Sits b seat) (r : Reg) (
 
   pub set-refused : ok ≡ false → Builds {A = Unit {0}} names seat.pid r code b (roomed b h) (Err (refusal.NoSpace n))
   set-refused lacking = record {
-    holds = holds-become {A = Unit {0}} (memory_words b) (roomed b h) holds.state (said (OfProcess seat.pid (verb.Set r)) (one_term has.term) names) (Err (refusal.NoSpace n)) (counts-there b holds n h ok room)
+    holds = holds-become {A = Unit {0}} (memory_words b) (roomed b h) holds.state (said (OfProcess seat.pid (verb.Set r)) (one_term has.term) names) (Err (refusal.NoSpace n))
+        (counts-there b holds n h ok room)
         (refused-becomes lacking holds.state has.term holds.stands has.is);
     becomes = refused-becomes lacking;
     books = record { same_words = (stays-roomed n b.halves h ok room).same_len; one_call = omega arith; few_names = omega arith };
@@ -120,7 +122,8 @@ module _ (b : One) (holds : Holds b) (seat : Seat) (x : Sits b seat) (r : Reg) (
       o1 = roomed-there b holds n h ok room s o
 
       b-test : Built o1.processes.test y.top (words_of code) h.mem mem2 s.shared w ((tree_of names (get_or s.processes seat.row no_process).registers t s.shared).0)
-      b-test = built o1.processes.test s.shared ((tree_of names (get_or s.processes seat.row no_process).registers t s.shared).0) (λ a k e. inl (omega (arith, top-is, (o1.processes.objects a k e).1.0)))
+      b-test = built o1.processes.test s.shared ((tree_of names (get_or s.processes seat.row no_process).registers t s.shared).0)
+          (λ a k e. inl (omega (arith, top-is, (o1.processes.objects a k e).1.0)))
           (term-forest names (get_or s.processes seat.row no_process).registers (length names) t code s.shared is_term (each-named names code t is_term has.named) few)
 
       trees : (v : ℕ) (u : Tree) → HoldsTree o1.processes.test s.shared h.mem b.named v u → HoldsTree b-test.test s.shared mem2 (length names) v u
@@ -165,7 +168,8 @@ module _ (b : One) (holds : Holds b) (seat : Seat) (x : Sits b seat) (r : Reg) (
           let line : Parsed = said (OfProcess seat.pid (verb.Set r)) (one_term t) names in
           let h2 : Halves = laid_out h mem2 z.top h.low (with_item h.procs seat.row (with_word p r.0 w)) in
           let q2 : Process = with_register r.0 ((tree_of names (get_or s.processes seat.row no_process).registers t s.shared).0) (get_or s.processes seat.row no_process) in
-          let shared2 : (tree_of names (get_or s.processes seat.row no_process).registers t s.shared).1 ≡ s.shared = shared-kept names (get_or s.processes seat.row no_process).registers t s.shared is_term.built in
+          let shared2 : (tree_of names (get_or s.processes seat.row no_process).registers t s.shared).1 ≡ s.shared = shared-kept names (get_or s.processes seat.row no_process).registers t s.shared
+              is_term.built in
           let P : Option Process → Type 0 = λ v. Follows {A = Unit {0}} (in_process v s line (verb.Set r)) s (Ok tt) (OneStands (built_in b h2 row named)) in
           let Q : List Process → Type 0 = λ v. HalvesStand (length names) h2 s.shared v in
           let R : List (List ℕ) → Type 0 = λ v. HalvesStand (length names) h2 v (map (replaced q2) s.processes) in

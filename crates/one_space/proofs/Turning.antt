@@ -19,13 +19,15 @@ with_word p r w = record { number = p.number; regs = set p.regs r w; stack = p.s
 abbrev pub with_stack : Proc → (stack depth : ℕ) → Proc
 with_stack p stack depth = record { number = p.number; regs = p.regs; stack = stack; depth = depth }
 
-module _ (c : ℕ → ℕ → Bool) (shared : List (List ℕ)) (mem : List ℕ) (low limit named : ℕ) (ps : List Proc) (qs : List Process) (i : ℕ) (p : Proc) (less : i < length ps) (is : p ≡ get_or ps i p) (s : ProcsStand c shared mem low limit named ps qs) where
+module _ (c : ℕ → ℕ → Bool) (shared : List (List ℕ)) (mem : List ℕ) (low limit named : ℕ) (ps : List Proc) (qs : List Process) (i : ℕ) (p : Proc) (less : i < length ps) (is : p ≡ get_or ps i p)
+    (s : ProcsStand c shared mem low limit named ps qs) where
   pub row-stands : ProcStands c shared mem low limit named p (get_or qs i no_process)
   row-stands =
       let P : Proc → Type 0 = λ z. ProcStands c shared mem low limit named z (get_or qs i no_process) in
       subst P (sym is) (procs-at c shared mem named low limit ps qs i p no_process less s)
 
-  pub register-set : (r w : ℕ) (t : Tree) → HoldsTree c shared mem named w t → ProcsStand c shared mem low limit named (set ps i (with_word p r w)) (set qs i (with_register r t (get_or qs i no_process)))
+  pub register-set : (r w : ℕ) (t : Tree) → HoldsTree c shared mem named w t
+      → ProcsStand c shared mem low limit named (set ps i (with_word p r w)) (set qs i (with_register r t (get_or qs i no_process)))
   register-set r w t h = procs-set c shared mem named low limit ps qs i (with_word p r w) (with_register r t (get_or qs i no_process)) s (record {
     number = row-stands.number;
     count = length-set p.regs r w ∙ row-stands.count;
@@ -46,7 +48,8 @@ pub record TopOf (c : ℕ → ℕ → Bool) (shared : List (List ℕ)) (mem : Li
   pub places : IsStack mem low limit (get_or mem (place + 1) 0) (depth - 1)
   pub within : place + 2 ≤ limit
 
-top-over : (c : ℕ → ℕ → Bool) (shared : List (List ℕ)) (mem : List ℕ) (low limit named place n depth : ℕ) (stack : List Tree) → n ≡ depth - 1 → IsStack mem low limit place (suc n) → HoldTrees c shared mem named (values mem place (suc n)) stack
+top-over : (c : ℕ → ℕ → Bool) (shared : List (List ℕ)) (mem : List ℕ) (low limit named place n depth : ℕ) (stack : List Tree) → n ≡ depth - 1 → IsStack mem low limit place (suc n)
+    → HoldTrees c shared mem named (values mem place (suc n)) stack
     → TopOf c shared mem low limit named place depth stack
 top-over c shared mem low limit named place n depth [] e s h = absurd h
 top-over c shared mem low limit named place n depth (t ∷ ts) e s h =
@@ -54,18 +57,21 @@ top-over c shared mem low limit named place n depth (t ∷ ts) e s h =
     let Q : ℕ → Type 0 = λ z. IsStack mem low limit (get_or mem (place + 1) 0) z in
     record { value = t; rest = ts; shape = refl; here = h.0; under = subst P e h.1; places = subst Q e s.2; within = s.1 }
 
-pub top-of : (c : ℕ → ℕ → Bool) (shared : List (List ℕ)) (mem : List ℕ) (low limit named place depth : ℕ) (stack : List Tree) → (depth ≡ 0 → ⊥) → IsStack mem low limit place depth → HoldTrees c shared mem named (values mem place depth) stack
+pub top-of : (c : ℕ → ℕ → Bool) (shared : List (List ℕ)) (mem : List ℕ) (low limit named place depth : ℕ) (stack : List Tree) → (depth ≡ 0 → ⊥) → IsStack mem low limit place depth
+    → HoldTrees c shared mem named (values mem place depth) stack
     → TopOf c shared mem low limit named place depth stack
 top-of c shared mem low limit named place zero stack some s h = absurd (some refl)
 top-of c shared mem low limit named place (suc n) stack some s h = top-over c shared mem low limit named place n (suc n) stack (omega arith) s h
 
 -- An empty stack.
-pub none-held : (c : ℕ → ℕ → Bool) (shared : List (List ℕ)) (mem : List ℕ) (named place depth : ℕ) (stack : List Tree) → depth ≡ 0 → HoldTrees c shared mem named (values mem place depth) stack → stack ≡ []
+pub none-held : (c : ℕ → ℕ → Bool) (shared : List (List ℕ)) (mem : List ℕ) (named place depth : ℕ) (stack : List Tree) → depth ≡ 0 → HoldTrees c shared mem named (values mem place depth) stack
+    → stack ≡ []
 none-held c shared mem named place zero [] e h = refl
 none-held c shared mem named place zero (t ∷ ts) e h = absurd h
 none-held c shared mem named place (suc n) stack e h = absurd (omega (arith, e))
 
-module _ (c : ℕ → ℕ → Bool) (shared : List (List ℕ)) (mem : List ℕ) (low limit named : ℕ) (ps : List Proc) (qs : List Process) (i : ℕ) (p : Proc) (less : i < length ps) (is : p ≡ get_or ps i p) (s : ProcsStand c shared mem low limit named ps qs) (some : p.depth ≡ 0 → ⊥) where
+module _ (c : ℕ → ℕ → Bool) (shared : List (List ℕ)) (mem : List ℕ) (low limit named : ℕ) (ps : List Proc) (qs : List Process) (i : ℕ) (p : Proc) (less : i < length ps) (is : p ≡ get_or ps i p)
+    (s : ProcsStand c shared mem low limit named ps qs) (some : p.depth ≡ 0 → ⊥) where
   pub top-here : TopOf c shared mem low limit named p.stack p.depth ((get_or qs i no_process).stack)
   top-here =
       let h = row-stands c shared mem low limit named ps qs i p less is s in
@@ -89,7 +95,8 @@ module _ (c : ℕ → ℕ → Bool) (shared : List (List ℕ)) (mem : List ℕ) 
       })
 
 -- A place more below all others; no role is among them.
-module _ (c : ℕ → ℕ → Bool) (shared : List (List ℕ)) (mem : List ℕ) (top low limit named : ℕ) (ps : List Proc) (qs : List Process) (i r : ℕ) (p : Proc) (less : i < length ps) (is : p ≡ get_or ps i p) (small : r < 16)
+module _ (c : ℕ → ℕ → Bool) (shared : List (List ℕ)) (mem : List ℕ) (top low limit named : ℕ) (ps : List Proc) (qs : List Process) (i r : ℕ) (p : Proc) (less : i < length ps)
+    (is : p ≡ get_or ps i p) (small : r < 16)
     (s : ProcsStand c shared mem low limit named ps qs) (roles : (a k : ℕ) → c a k ≡ true → a < top) (fits : top + 2 ≤ low) (inside : limit ≤ length mem) (order : low ≤ limit)
     (mem2 : List ℕ) (written : mem2 ≡ set (set mem (low - 2) (get_or p.regs r 0)) (low - 2 + 1) p.stack) where
   others : (q : ℕ) → (q ≡ low - 2 → ⊥) → (q ≡ low - 2 + 1 → ⊥) → get_or mem2 q 0 ≡ get_or mem q 0
@@ -122,18 +129,22 @@ module _ (c : ℕ → ℕ → Bool) (shared : List (List ℕ)) (mem : List ℕ) 
   places : AreKept mem mem2 low limit
   places q above below = others q (λ e. omega (arith, e, above, fits)) (λ e. omega (arith, e, above, fits))
 
-  pub pushed : ProcsStand c shared mem2 (low - 2) limit named (set ps i (with_stack p (low - 2) (p.depth + 1))) (set qs i (record (get_or qs i no_process) { stack = register r (get_or qs i no_process) ∷ (get_or qs i no_process).stack }))
+  pub pushed : ProcsStand c shared mem2 (low - 2) limit named (set ps i (with_stack p (low - 2) (p.depth + 1)))
+      (set qs i (record (get_or qs i no_process) { stack = register r (get_or qs i no_process) ∷ (get_or qs i no_process).stack }))
   pushed =
       let old = row-stands c shared mem low limit named ps qs i p less is s in
-      let h : ProcStands c shared mem2 (low - 2) limit named p (get_or qs i no_process) = proc-on c c shared mem mem2 named named low (low - 2) limit trees places (omega arith) p (get_or qs i no_process) old in
-      let value : HoldsTree c shared mem2 named (get_or p.regs r 0) (register r (get_or qs i no_process)) = held-at c shared mem2 named p.regs ((get_or qs i no_process).registers) r (omega (arith, small, h.count)) h.registers in
+      let h : ProcStands c shared mem2 (low - 2) limit named p (get_or qs i no_process) = proc-on c c shared mem mem2 named named low (low - 2) limit trees places (omega arith) p
+          (get_or qs i no_process) old in
+      let value : HoldsTree c shared mem2 named (get_or p.regs r 0) (register r (get_or qs i no_process)) = held-at c shared mem2 named p.regs ((get_or qs i no_process).registers) r
+          (omega (arith, small, h.count)) h.registers in
       let one_more : suc p.depth ≡ p.depth + 1 = omega arith in
       let P : ℕ → Type 0 = λ z. HoldsTree c shared mem2 named z (register r (get_or qs i no_process)) in
       let Q : ℕ → Type 0 = λ z. HoldTrees c shared mem2 named (values mem2 z p.depth) ((get_or qs i no_process).stack) in
       let R : ℕ → Type 0 = λ z. IsStack mem2 (low - 2) limit z p.depth in
       let S : ℕ → Type 0 = λ z. IsStack mem2 (low - 2) limit (low - 2) z in
       let T : ℕ → Type 0 = λ z. HoldTrees c shared mem2 named (values mem2 (low - 2) z) (register r (get_or qs i no_process) ∷ (get_or qs i no_process).stack) in
-      procs-set c shared mem2 named (low - 2) limit ps qs i (with_stack p (low - 2) (p.depth + 1)) (record (get_or qs i no_process) { stack = register r (get_or qs i no_process) ∷ (get_or qs i no_process).stack })
+      procs-set c shared mem2 named (low - 2) limit ps qs i (with_stack p (low - 2) (p.depth + 1))
+          (record (get_or qs i no_process) { stack = register r (get_or qs i no_process) ∷ (get_or qs i no_process).stack })
       (procs-on c c shared mem mem2 named named low (low - 2) limit trees places (omega arith) ps qs s)
       (record {
         number = h.number;

@@ -77,7 +77,8 @@ text-pid count w names (Pid m) n p e = let same : n ≡ m = cc in ap (λ x. code
 text-pid count w names _ n p e = absurd (cc)
 
 -- What is left is nil.
-pub text-nil : (count w : ℕ) (names : List (List ℕ)) (t : Tree) (k : Kind) → IsPlain count t → k ≡ kind_for w t → ((i : ℤ) → k ≡ kind.Small i → ⊥) → ((n : ℕ) → k ≡ kind.Pid n → ⊥) → ((a : ℕ) → k ≡ kind.Atom a → ⊥)
+pub text-nil : (count w : ℕ) (names : List (List ℕ)) (t : Tree) (k : Kind) → IsPlain count t → k ≡ kind_for w t → ((i : ℤ) → k ≡ kind.Small i → ⊥) → ((n : ℕ) → k ≡ kind.Pid n → ⊥)
+    → ((a : ℕ) → k ≡ kind.Atom a → ⊥)
     → ((q : ℕ) → k ≡ kind.ListAt q → ⊥) → ((q : ℕ) → k ≡ kind.BoxedAt q → ⊥) → codes "[]" ≡ text names [] t
 text-nil count w names Nil k p e a b c d f = refl
 text-nil count w names (Int i) k p e a b c d f = absurd (a i e)
@@ -160,7 +161,8 @@ tuple-parts count level mem place (Cons h t) p = let o = un-cons always [] mem (
 tuple-parts count level mem place _ p = absurd p.modest.plain
 
 -- The first of a row of parts.
-pub row-part : (count level : ℕ) (mem : List ℕ) (p : ℕ) (t : Tree) (ts : Trees) → RowStands always [] mem p (t ▹ ts) → ArePlain count (t ▹ ts) → greatest_depth (t ▹ ts) ≤ level → nodes_of_all [] (t ▹ ts) ≤ most_nodes
+pub row-part : (count level : ℕ) (mem : List ℕ) (p : ℕ) (t : Tree) (ts : Trees) → RowStands always [] mem p (t ▹ ts) → ArePlain count (t ▹ ts) → greatest_depth (t ▹ ts) ≤ level
+    → nodes_of_all [] (t ▹ ts) ≤ most_nodes
     → Printable count level mem (get_or mem p 0) t
 row-part count level mem p t ts row plain deep few = record {
   standing = (row-first always [] mem p t ts row).0;

@@ -24,7 +24,8 @@ Books old new bound = KeepsBooks words_of (λ b. b.calls) (λ b. b.named) old ne
 -- The space is whole, and it was done what the machine's step does, or refused as that is, or the line is tight.
 pub record Does {A : Type 0} (c : Command) (old new : One) (result : Result A Refusal) : Type 0 where
   pub holds : Holds new
-  pub becomes : (s : State) (terms : Terms) (names : List (List ℕ)) → OneStands old s → Becomes may_of_tight (words_of old) s (said c terms names) result (OneStands new)
+  pub becomes : (s : State) (terms : Terms) (names : List (List ℕ)) → OneStands old s
+      → Becomes may_of_tight (words_of old) s (said c terms names) result (OneStands new)
   pub books : Books old new old.named
 
 -- The same of a call that is never refused.

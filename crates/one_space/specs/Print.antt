@@ -20,7 +20,8 @@ pub record CanPrint (count level : ℕ) (mem : List ℕ) (w : ℕ) : Type 0 wher
   pub is : Printable count level mem w tree
 
 -- A list is printed up to a tail: what came so far, and what is left.
-pub record ListGoes {K : Type 0} (names : List (List ℕ)) (level : ℕ) (mem : List ℕ) (rest left : ℕ) (wrote : K → List ℕ → Type 0) (old now : K) (count : ℕ) (t : Tree) : Type 0 where
+pub record ListGoes {K : Type 0} (names : List (List ℕ)) (level : ℕ) (mem : List ℕ) (rest left : ℕ) (wrote : K → List ℕ → Type 0) (old now : K) (count : ℕ)
+    (t : Tree) : Type 0 where
   pub tail : Tree
   pub came : List ℕ
   pub whole : text names [] t ≡ came ++ text_as names [] true tail
@@ -30,7 +31,8 @@ pub record ListGoes {K : Type 0} (names : List (List ℕ)) (level : ℕ) (mem : 
   pub few : nodes [] tail ≤ left
 
 -- A tuple is printed up to its part before place p: what came so far, and what is left.
-pub record TupleGoes {K : Type 0} (names : List (List ℕ)) (level : ℕ) (mem : List ℕ) (p left : ℕ) (wrote : K → List ℕ → Type 0) (old now : K) (count : ℕ) (t : Tree) : Type 0 where
+pub record TupleGoes {K : Type 0} (names : List (List ℕ)) (level : ℕ) (mem : List ℕ) (p left : ℕ) (wrote : K → List ℕ → Type 0) (old now : K) (count : ℕ)
+    (t : Tree) : Type 0 where
   pub rest : Trees
   pub came : List ℕ
   pub whole : text names [] t ≡ came ++ (more_terms names [] rest ++ codes "}")
