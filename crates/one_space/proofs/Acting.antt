@@ -91,7 +91,7 @@ module _ (b : One) (holds : Holds b) (seat : Seat) (x : Sits b seat) (r : Reg) (
     (small : seat.pid < 2 ^ 41) where
   own-passes : (s : State) (terms : Terms) (names : List (List ℕ)) → OneStands b s
       → Passes (step s (said (OfProcess seat.pid (verb.Own r)) terms names))
-          (OneStands (after b (laid_out b.halves b.halves.mem b.halves.top b.halves.low (with_item b.halves.procs seat.row (with_word p r.0 w)))))
+      (OneStands (after b (laid_out b.halves b.halves.mem b.halves.top b.halves.low (with_item b.halves.procs seat.row (with_word p r.0 w)))))
   own-passes s terms names o =
       let b2 : One = after b (laid_out b.halves b.halves.mem b.halves.top b.halves.low (with_item b.halves.procs seat.row (with_word p r.0 w))) in
       let q : Process = get_or s.processes seat.row no_process in
@@ -116,10 +116,15 @@ module _ (b : One) (holds : Holds b) (seat : Seat) (x : Sits b seat) (r : Reg) (
   own-counts : IsCounted (after b (laid_out b.halves b.halves.mem b.halves.top b.halves.low (with_item b.halves.procs seat.row (with_word p r.0 w))))
   own-counts =
       let same : depths (set b.halves.procs.items seat.row (with_word p r.0 w)) ≡ depths b.halves.procs.items =
-          omega (arith, depths-row b.halves.procs.items seat.row (with_word p r.0 w) p x.within is) in
+      omega (arith, depths-row b.halves.procs.items seat.row (with_word p r.0 w) p x.within is) in
       counts-same b (after b (laid_out b.halves b.halves.mem b.halves.top b.halves.low (with_item b.halves.procs seat.row (with_word p r.0 w)))) holds.counts
-      (record { even = holds.counts.laid.even; side = holds.counts.laid.side; front = holds.counts.laid.front; order = holds.counts.laid.order; places =
-          omega (arith, holds.counts.laid.places, same) })
+      (record {
+        even = holds.counts.laid.even;
+        side = holds.counts.laid.side;
+        front = holds.counts.laid.front;
+        order = holds.counts.laid.order;
+        places = omega (arith, holds.counts.laid.places, same);
+      })
       (numbers-row b.halves.procs.items seat.row (with_word p r.0 w) p x.within is refl) (length-set b.halves.procs.items seat.row (with_word p r.0 w)) refl refl refl (omega arith) refl
 
   pub own-does : DoesAlways (OfProcess seat.pid (verb.Own r)) b (after b (laid_out b.halves b.halves.mem b.halves.top b.halves.low (with_item b.halves.procs seat.row (with_word p r.0 w))))
@@ -166,8 +171,13 @@ module _ (b : One) (holds : Holds b) (seat : Seat) (x : Sits b seat) (v : Vec Pr
       let fewer : length v.items + 1 ≡ length b.halves.procs.items = ap (λ z. length z + 1) items ∙ length-remove b.halves.procs.items seat.row x.within in
       let less : depths v.items ≤ depths b.halves.procs.items = omega (arith, ap depths items, sum_by-remove (λ r. r.depth) b.halves.procs.items seat.row no_row x.within) in
       record {
-        laid = record { even = holds.counts.laid.even; side = holds.counts.laid.side; front = holds.counts.laid.front; order = holds.counts.laid.order; places =
-            omega (arith, holds.counts.laid.places, less) };
+        laid = record {
+          even = holds.counts.laid.even;
+          side = holds.counts.laid.side;
+          front = holds.counts.laid.front;
+          order = holds.counts.laid.order;
+          places = omega (arith, holds.counts.laid.places, less);
+        };
         enough = holds.counts.enough;
         places = omega (arith, holds.counts.places, capacity);
         few = omega (arith, holds.counts.few, fewer);
@@ -224,7 +234,7 @@ module _ (b : One) (holds : Holds b) (seat : Seat) (x : Sits b seat) (r : Reg) (
           objects = o.processes.objects;
           processes =
               popped o.processes.test s.shared b.halves.mem b.halves.low (end_of b.halves) b.named b.halves.procs.items s.processes seat.row p x.within is o.processes.processes some r.0 w u d value
-                  below depth;
+              below depth;
         } in
         let P : Option Process → Type 0 = λ z. Follows {A = Unit {0}} (in_process z s line (verb.Pop r)) s (Ok tt) (OneStands b2) in
         let Q : List Tree → Type 0 = λ z. Follows {A = Unit {0}} (pop_from z s line q r.0) s (Ok tt) (OneStands b2) in
@@ -237,10 +247,15 @@ module _ (b : One) (holds : Holds b) (seat : Seat) (x : Sits b seat) (r : Reg) (
         let fewer : depths (set b.halves.procs.items seat.row (with_stack (with_word p r.0 w) u d)) ≤ depths b.halves.procs.items =
         omega (arith, depth, depths-row b.halves.procs.items seat.row (with_stack (with_word p r.0 w) u d) p x.within is) in
         counts-same b (after b (laid_out b.halves b.halves.mem b.halves.top b.halves.low (with_item b.halves.procs seat.row (with_stack (with_word p r.0 w) u d)))) holds.counts
-        (record { even = holds.counts.laid.even; side = holds.counts.laid.side; front = holds.counts.laid.front; order = holds.counts.laid.order; places =
-            omega (arith, holds.counts.laid.places, fewer) })
+        (record {
+          even = holds.counts.laid.even;
+          side = holds.counts.laid.side;
+          front = holds.counts.laid.front;
+          order = holds.counts.laid.order;
+          places = omega (arith, holds.counts.laid.places, fewer);
+        })
         (numbers-row b.halves.procs.items seat.row (with_stack (with_word p r.0 w) u d) p x.within is refl) (length-set b.halves.procs.items seat.row (with_stack (with_word p r.0 w) u d)) refl refl
-            refl (omega arith) refl
+        refl (omega arith) refl
 
     pub pop-does : DoesAtOnce {A = Unit {0}} (OfProcess seat.pid (verb.Pop r)) b
         (after b (laid_out b.halves b.halves.mem b.halves.top b.halves.low (with_item b.halves.procs seat.row (with_stack (with_word p r.0 w) u d)))) (Ok tt)

@@ -106,7 +106,7 @@ module _ {K : Type 0} (wrote : K → List ℕ → Type 0) (old new : K) (s : Sta
   pub prints-all : Grew wrote old new (text names [] (register r q)) → Prints {A = Unit {0}} {K = K} (step s (said (OfProcess pid (verb.Print (record { 0 = r }))) terms names)) wrote old new (Ok tt)
   prints-all g =
       let P : Option Process → Type 0 = λ o. Prints {A = Unit {0}} {K = K} (in_process o s (said (OfProcess pid (verb.Print (record { 0 = r }))) terms names) (verb.Print (record { 0 = r }))) wrote
-          old new (Ok tt) in
+      old new (Ok tt) in
       let Q : Bool → Type 0 = λ x. Prints {A = Unit {0}} {K = K} (tells s (unless_beyond x (text names s.shared (register r q)))) wrote old new (Ok tt) in
       let R : List (List ℕ) → Type 0 = λ x. Grew wrote old new (text names x (register r q)) in
       subst P (sym found) (subst Q (sym (not-beyond n s.shared (register r q) none m)) (subst R (sym none) g))
@@ -115,7 +115,7 @@ module _ {K : Type 0} (wrote : K → List ℕ → Type 0) (old new : K) (s : Sta
       → Prints {A = Unit {0}} {K = K} (step s (said (OfProcess pid (verb.Print (record { 0 = r }))) terms names)) wrote old new (Err Fault)
   prints-part g =
       let P : Option Process → Type 0 = λ o. Prints {A = Unit {0}} {K = K} (in_process o s (said (OfProcess pid (verb.Print (record { 0 = r }))) terms names) (verb.Print (record { 0 = r }))) wrote
-          old new (Err Fault) in
+      old new (Err Fault) in
       let Q : Bool → Type 0 = λ x. Prints {A = Unit {0}} {K = K} (tells s (unless_beyond x (text names s.shared (register r q)))) wrote old new (Err Fault) in
       let R : List (List ℕ) → Type 0 = λ x. GrewInPart wrote old new (text names x (register r q)) in
       subst P (sym found) (subst Q (sym (not-beyond n s.shared (register r q) none m)) (subst R (sym none) g))

@@ -136,14 +136,14 @@ module _ (b : One) (holds : Holds b) (seat : Seat) (x : Sits b seat) (r : Reg) (
         let line : Parsed = said (OfProcess seat.pid (verb.Push r)) terms names in
         let roles : (a k : ℕ) → o1.processes.test a k ≡ true → a < h.top = λ a k e. (o1.processes.objects a k e).1.0 in
         let rows = pushed o1.processes.test s.shared h.mem h.top h.low (end_of h) b.named h.procs.items s.processes seat.row r.0 p sits1.within is small o1.processes.processes roles fits
-            (half-within h room.laid) order mem2 written in
+        (half-within h room.laid) order mem2 written in
         let len : length mem2 ≡ length h.mem = pushed-len o1.processes.test s.shared h.mem h.top h.low (end_of h) b.named h.procs.items s.processes seat.row r.0 p sits1.within is small
-            o1.processes.processes roles fits (half-within h room.laid) order mem2 written in
+        o1.processes.processes roles fits (half-within h room.laid) order mem2 written in
         let limit : end_of h ≡ h.base + length mem2 / 2 = omega (arith, len) in
         let P : ℕ → Type 0 = λ z. ProcsStand o1.processes.test s.shared mem2 (h.low - 2) z b.named (set h.procs.items seat.row (with_stack p (h.low - 2) (p.depth + 1)))
-            (set s.processes seat.row q2) in
+        (set s.processes seat.row q2) in
         let stands : HalvesStand b.named b2.halves s.shared (set s.processes seat.row q2) =
-            record { test = o1.processes.test; single = o1.processes.single; objects = o1.processes.objects; processes = subst P limit rows } in
+        record { test = o1.processes.test; single = o1.processes.single; objects = o1.processes.objects; processes = subst P limit rows } in
         let Q : Option Process → Type 0 = λ z. Follows {A = Unit {0}} (in_process z s line (verb.Push r)) s (Ok tt) (OneStands b2) in
         let R : List Process → Type 0 = λ z. HalvesStand b.named b2.halves s.shared z in
         inl (subst Q (sym (found-there (roomed b h) s o1 counts1 seat sits1))
@@ -153,7 +153,7 @@ module _ (b : One) (holds : Holds b) (seat : Seat) (x : Sits b seat) (r : Reg) (
     push-counts =
         let b2 : One = after b (laid_out h mem2 h.top (h.low - 2) (with_item h.procs seat.row (with_stack p (h.low - 2) (p.depth + 1)))) in
         let more : depths (set h.procs.items seat.row (with_stack p (h.low - 2) (p.depth + 1))) ≡ depths h.procs.items + 1 =
-            omega (arith, depths-row h.procs.items seat.row (with_stack p (h.low - 2) (p.depth + 1)) p sits1.within is) in
+        omega (arith, depths-row h.procs.items seat.row (with_stack p (h.low - 2) (p.depth + 1)) p sits1.within is) in
         let len : length mem2 ≡ length h.mem =
         ap length written ∙ length-set (set h.mem (h.low - 2) (get_or p.regs r.0 0)) (h.low - 2 + 1) p.stack ∙ length-set h.mem (h.low - 2) (get_or p.regs r.0 0) in
         counts-same (roomed b h) b2 counts1
@@ -165,7 +165,7 @@ module _ (b : One) (holds : Holds b) (seat : Seat) (x : Sits b seat) (r : Reg) (
           places = omega (arith, room.laid.places, more, len, fits);
         })
         (numbers-row h.procs.items seat.row (with_stack p (h.low - 2) (p.depth + 1)) p sits1.within is refl) (length-set h.procs.items seat.row (with_stack p (h.low - 2) (p.depth + 1))) refl refl
-            refl (omega arith) refl
+        refl (omega arith) refl
 
     pub push-does : Does {A = Unit {0}} (OfProcess seat.pid (verb.Push r)) b (after b (laid_out h mem2 h.top (h.low - 2) (with_item h.procs seat.row (with_stack p (h.low - 2) (p.depth + 1))))) (Ok tt)
     push-does =

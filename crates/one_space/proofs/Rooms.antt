@@ -112,7 +112,7 @@ no-space A words new s p n o is tight some gets =
     let asks : 0 < grow s p = omega (arith, some, is) in
     let may : may_of_tight words s p ≡ true =
     all-true (nat_lt words (2 * (demand s + grow s p))) (nat_lt 0 (grow s p)) (is_purge p.command) (gets_to_space p.command (step s p)) (lt-true words (2 * (demand s + grow s p)) more)
-        (lt-true 0 (grow s p) asks) gets in
+    (lt-true 0 (grow s p) asks) gets in
     inr (may, ap NoSpace (sym is), o)
 
 -- What stands after a call, whatever its result.

@@ -169,7 +169,7 @@ module _ (b : One) (holds : Holds b) (seat : Seat) (x : Sits b seat) (r : Reg) (
           let h2 : Halves = laid_out h mem2 z.top h.low (with_item h.procs seat.row (with_word p r.0 w)) in
           let q2 : Process = with_register r.0 ((tree_of names (get_or s.processes seat.row no_process).registers t s.shared).0) (get_or s.processes seat.row no_process) in
           let shared2 : (tree_of names (get_or s.processes seat.row no_process).registers t s.shared).1 ≡ s.shared = shared-kept names (get_or s.processes seat.row no_process).registers t s.shared
-              is_term.built in
+          is_term.built in
           let P : Option Process → Type 0 = λ v. Follows {A = Unit {0}} (in_process v s line (verb.Set r)) s (Ok tt) (OneStands (built_in b h2 row named)) in
           let Q : List Process → Type 0 = λ v. HalvesStand (length names) h2 s.shared v in
           let R : List (List ℕ) → Type 0 = λ v. HalvesStand (length names) h2 v (map (replaced q2) s.processes) in

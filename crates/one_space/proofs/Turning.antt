@@ -134,9 +134,9 @@ module _ (c : ℕ → ℕ → Bool) (shared : List (List ℕ)) (mem : List ℕ) 
   pushed =
       let old = row-stands c shared mem low limit named ps qs i p less is s in
       let h : ProcStands c shared mem2 (low - 2) limit named p (get_or qs i no_process) = proc-on c c shared mem mem2 named named low (low - 2) limit trees places (omega arith) p
-          (get_or qs i no_process) old in
+      (get_or qs i no_process) old in
       let value : HoldsTree c shared mem2 named (get_or p.regs r 0) (register r (get_or qs i no_process)) = held-at c shared mem2 named p.regs ((get_or qs i no_process).registers) r
-          (omega (arith, small, h.count)) h.registers in
+      (omega (arith, small, h.count)) h.registers in
       let one_more : suc p.depth ≡ p.depth + 1 = omega arith in
       let P : ℕ → Type 0 = λ z. HoldsTree c shared mem2 named z (register r (get_or qs i no_process)) in
       let Q : ℕ → Type 0 = λ z. HoldTrees c shared mem2 named (values mem2 z p.depth) ((get_or qs i no_process).stack) in
@@ -144,7 +144,7 @@ module _ (c : ℕ → ℕ → Bool) (shared : List (List ℕ)) (mem : List ℕ) 
       let S : ℕ → Type 0 = λ z. IsStack mem2 (low - 2) limit (low - 2) z in
       let T : ℕ → Type 0 = λ z. HoldTrees c shared mem2 named (values mem2 (low - 2) z) (register r (get_or qs i no_process) ∷ (get_or qs i no_process).stack) in
       procs-set c shared mem2 named (low - 2) limit ps qs i (with_stack p (low - 2) (p.depth + 1))
-          (record (get_or qs i no_process) { stack = register r (get_or qs i no_process) ∷ (get_or qs i no_process).stack })
+      (record (get_or qs i no_process) { stack = register r (get_or qs i no_process) ∷ (get_or qs i no_process).stack })
       (procs-on c c shared mem mem2 named named low (low - 2) limit trees places (omega arith) ps qs s)
       (record {
         number = h.number;

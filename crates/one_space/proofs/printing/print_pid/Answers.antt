@@ -13,7 +13,7 @@ returns-in_err-put_all-2-clause-puts g c =
     let number : c.as_bytes.result.now ≡ decimal c.args.n = c.as_bytes.ensures.value ∙ c.format.ensures.text in
     let p = part-as g.K.Sink.wrote c.put_all.new.sink c.put_all-2.new.sink c.as_bytes.result.now (decimal c.args.n) number c.in_err-put_all-2.ensures.part in
     writes-fault g.K.Sink.wrote c.args.sink.now c.put_all-2.new.sink (codes "<0." ++ (decimal c.args.n ++ codes ".0>")) c.from_residual-in_err-put_all-2.result
-        c.from_residual-in_err-put_all-2.ensures.0
+    c.from_residual-in_err-put_all-2.ensures.0
     (part-after g.K.Sink.wrote c.args.sink.now c.put_all.new.sink c.put_all-2.new.sink (codes "<0.") (decimal c.args.n ++ codes ".0>") c.in_ok-put_all.ensures.all
     (part-front g.K.Sink.wrote c.put_all.new.sink c.put_all-2.new.sink (decimal c.args.n) (codes ".0>") p))
 

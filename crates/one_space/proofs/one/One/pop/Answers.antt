@@ -33,4 +33,4 @@ get-requires-2 c =
 pub returns-clause-does : goal.returns-clause-does
 returns-clause-does c =
     pop-does c.args.self.now c.requires.holds c.args.seat c.requires.sits c.args.r c.index.result.now c.index.ensures c.if-process-eq0.false c.get.result c.get-2.result
-        (c.index.result.now.depth - 1) c.get.ensures c.get-2.ensures refl
+    (c.index.result.now.depth - 1) c.get.ensures c.get-2.ensures refl

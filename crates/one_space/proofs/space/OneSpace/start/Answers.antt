@@ -14,7 +14,7 @@ invariant_of-result c =
     let h : Halves = record { mem = c.in_ok-mem.mem; base = 0; top = 2; low = c.args.words / 2; procs = c.push_reserved.new.self; sweeps = 0 } in
     let b : One = record { halves = h; row = c.in-Ok-from_elem.row; next = 2; named = 0; calls = 0; swept = false } in
     first-holds b c.fresh.result one c.fresh.ensures.number c.fresh.ensures.regs c.fresh.ensures.depth refl refl c.args.words (ap length c.in_ok-mem.ensures ∙ length-replicate c.args.words 0)
-        c.requires.least c.requires.even refl refl refl c.in-Ok-from_elem.ensures.len
+    c.requires.least c.requires.even refl refl refl c.in-Ok-from_elem.ensures.len
     (omega (arith, c.in-Ok.ensures.capacity, c.push_reserved.ensures.capacity)) refl refl
 
 pub returns-clause-first : goal.returns-clause-first

@@ -9,5 +9,5 @@ use Rattle.one_space.proofs.space.OneSpaceSpace.build.Goals as goal
 pub returns-clause-becomes : goal.returns-clause-becomes
 returns-clause-becomes c = λ s t h has is_term.
     becomes-so c.self.inside.one c.args.self.now c.self.view_is (Process c.args.seat.pid (verb.Set c.args.r)) (one_term t) c.args.names.now s h has
-        (builds c.args.names.now c.args.code.now t is_term c.requires.term.named)
+    (builds c.args.names.now c.args.code.now t is_term c.requires.term.named)
     c.build.result (OneStands c.build.new.self) (λ o. c.build.ensures.builds.becomes s t o is_term)

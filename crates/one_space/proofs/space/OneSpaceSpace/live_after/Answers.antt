@@ -17,7 +17,7 @@ returns-then-above-len-clause-means c = λ s h.
     let b : One = c.self.inside.one in
     let o : OneStands c.self.inside.one s = subst V (sym c.self.view_is) h.0 in
     let same : live_numbers s ≡ numbers_of c.self.inside.one = procs-numbers o.processes.test s.shared b.halves.mem b.named b.halves.low (end_of b.halves) b.halves.procs.items s.processes
-        o.processes.processes in
+    o.processes.processes in
     let within : c.first_above-above.result < length c.self.inside.one.halves.procs.items = omega (arith, c.self.inside.one.halves.procs.ok, c.len.ensures, c.if-above-len.true) in
     let P : List Proc → Type 0 = λ x. c.first_above-above.result < length x → c.args.pid < number_at number_in x c.first_above-above.result in
     let Q : List Proc → Type 0 = λ x. (k : ℕ) → k < c.first_above-above.result → number_at number_in x k ≤ c.args.pid in
@@ -26,7 +26,7 @@ returns-then-above-len-clause-means c = λ s h.
     let low = subst Q c.deref.ensures.value (λ k less. c.first_above-above.ensures.low k less) in
     let here = number-read number_in c.self.inside.one.halves.procs.items c.first_above-above.result c.index.result.now within c.index.ensures in
     subst R (sym same) (sym (find-above (numbers_of c.self.inside.one) c.first_above-above.result c.args.pid (omega (arith, within, numbers-len number_in c.self.inside.one.halves.procs.items)) low
-        up ∙ ap Some here))
+    up ∙ ap Some here))
 
 pub returns-then-above-len-clause-rising : goal.returns-then-above-len-clause-rising
 returns-then-above-len-clause-rising c = λ s h.
@@ -41,7 +41,7 @@ returns-else-above-len-clause-means c = λ s h.
     let b : One = c.self.inside.one in
     let o : OneStands c.self.inside.one s = subst V (sym c.self.view_is) h.0 in
     let same : live_numbers s ≡ numbers_of c.self.inside.one = procs-numbers o.processes.test s.shared b.halves.mem b.named b.halves.low (end_of b.halves) b.halves.procs.items s.processes
-        o.processes.processes in
+    o.processes.processes in
     let over : length c.self.inside.one.halves.procs.items ≤ c.first_above-above.result = omega (arith, c.self.inside.one.halves.procs.ok, c.len.ensures, c.if-above-len.false) in
     let Q : List Proc → Type 0 = λ x. (k : ℕ) → k < c.first_above-above.result → number_at number_in x k ≤ c.args.pid in
     let R : List ℕ → Type 0 = λ x. None ≡ find (λ n. nat_lt c.args.pid n) x in

@@ -7,4 +7,4 @@ use Rattle.one_space.proofs.space.OneSpaceSpace.pop.Goals as goal
 pub returns-clause-follows : goal.returns-clause-follows
 returns-clause-follows c = λ s terms names h has.
     follows-so c.self.inside.one c.args.self.now c.self.view_is (Process c.args.seat.pid (verb.Pop c.args.r)) terms names s h has tt c.pop.result (OneStands c.pop.new.self)
-        (λ o. c.pop.ensures.does.follows s terms names o)
+    (λ o. c.pop.ensures.does.follows s terms names o)

@@ -18,8 +18,11 @@ print_word-requires g c =
     let sits : Sits c.self.inside.one c.args.seat = subst S (sym c.self.view_is) c.requires.sits in
     let more : c.self.inside.one.named ≤ length c.args.names.now = subst N (sym c.self.view_is) c.requires.named in
     let P : Proc → Type 0 = λ x. Printable (length c.args.names.now) 256 c.self.inside.one.halves.mem (get_or x.regs c.args.s.0 0) (register c.args.s.0 (process_there s c.args.seat)) in
-    record { tree = register c.args.s.0 (process_there s c.args.seat); is = subst P (sym c.index.ensures)
-        (printable-there b s o c.args.seat sits (length c.args.names.now) more c.args.s.0 c.requires.register c.index.result.now) }
+    record {
+      tree = register c.args.s.0 (process_there s c.args.seat);
+      is = subst P (sym c.index.ensures)
+          (printable-there b s o c.args.seat sits (length c.args.names.now) more c.args.s.0 c.requires.register c.index.result.now);
+    }
 
 pub returns-in-Ok-clause-prints : goal.returns-in-Ok-clause-prints
 returns-in-Ok-clause-prints g c = λ s terms h.
@@ -33,10 +36,10 @@ returns-in-Ok-clause-prints g c = λ s terms h.
     let q = process_there s c.args.seat in
     let P : Proc → Type 0 = λ x. Printable (length c.args.names.now) 256 c.self.inside.one.halves.mem (get_or x.regs c.args.s.0 0) (register c.args.s.0 q) in
     prints-all g.K.Sink.wrote c.args.sink.now c.print_word.new.sink s c.args.seat.pid c.args.s.0 (length c.args.names.now) terms c.args.names.now q o.shared
-        (found-there b s o c.self.invariant.counts c.args.seat sits)
+    (found-there b s o c.self.invariant.counts c.args.seat sits)
     (modest-there b s o c.args.seat sits (length c.args.names.now) more c.args.s.0 c.requires.register c.index.result.now)
     (c.in-Ok.ensures.puts (register c.args.s.0 q) (subst P (sym c.index.ensures)
-        (printable-there b s o c.args.seat sits (length c.args.names.now) more c.args.s.0 c.requires.register c.index.result.now)))
+    (printable-there b s o c.args.seat sits (length c.args.names.now) more c.args.s.0 c.requires.register c.index.result.now)))
 
 pub returns-in-Err-clause-prints : goal.returns-in-Err-clause-prints
 returns-in-Err-clause-prints g c = λ s terms h.
@@ -50,7 +53,7 @@ returns-in-Err-clause-prints g c = λ s terms h.
     let q = process_there s c.args.seat in
     let P : Proc → Type 0 = λ x. Printable (length c.args.names.now) 256 c.self.inside.one.halves.mem (get_or x.regs c.args.s.0 0) (register c.args.s.0 q) in
     prints-part g.K.Sink.wrote c.args.sink.now c.print_word.new.sink s c.args.seat.pid c.args.s.0 (length c.args.names.now) terms c.args.names.now q o.shared
-        (found-there b s o c.self.invariant.counts c.args.seat sits)
+    (found-there b s o c.self.invariant.counts c.args.seat sits)
     (modest-there b s o c.args.seat sits (length c.args.names.now) more c.args.s.0 c.requires.register c.index.result.now)
     (c.in-Err.ensures.puts (register c.args.s.0 q) (subst P (sym c.index.ensures)
-        (printable-there b s o c.args.seat sits (length c.args.names.now) more c.args.s.0 c.requires.register c.index.result.now)))
+    (printable-there b s o c.args.seat sits (length c.args.names.now) more c.args.s.0 c.requires.register c.index.result.now)))

@@ -7,4 +7,4 @@ use Rattle.one_space.proofs.space.OneSpaceSpace.push.Goals as goal
 pub returns-clause-becomes : goal.returns-clause-becomes
 returns-clause-becomes c = λ s terms names h has.
     becomes-so c.self.inside.one c.args.self.now c.self.view_is (Process c.args.seat.pid (verb.Push c.args.s)) terms names s h has tt c.push.result (OneStands c.push.new.self)
-        (λ o. c.push.ensures.does.becomes s terms names o)
+    (λ o. c.push.ensures.does.becomes s terms names o)

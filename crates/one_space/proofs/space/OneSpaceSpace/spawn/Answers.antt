@@ -7,4 +7,4 @@ use Rattle.one_space.proofs.space.OneSpaceSpace.spawn.Goals as goal
 pub returns-clause-becomes : goal.returns-clause-becomes
 returns-clause-becomes c = λ s terms names h has.
     becomes-so c.self.inside.one c.args.self.now c.self.view_is (System sysverb.Spawn) terms names s h has tt c.spawn.result (OneStands c.spawn.new.self)
-        (λ o. c.spawn.ensures.does.becomes s terms names o)
+    (λ o. c.spawn.ensures.does.becomes s terms names o)
