@@ -9,11 +9,11 @@ use Rattle.term_words.specs.Stands.{Stands, AllStand, tree_at}
 use Rattle.term_words.proofs.Shapes.{all-at}
 use Rattle.term_words.proofs.Makes.{all-length}
 use Rattle.term_words.proofs.Pairs.{keys-len, values-len}
-use Rattle.term_maps.specs.Compared.{answer_of, compared, Compares}
+use Rattle.term_order.specs.Compared.{answer_of, compared, Compares}
 use Rattle.term_maps.specs.InOrder.{has_beyond}
 use Rattle.term_maps.specs.Spots.{IsAbove}
-use Rattle.term_maps.specs.declared.comparison.Compared.{Compared}
-use Rattle.term_maps.specs.declared.comparison.Compared.TheVariants as answer
+use Rattle.term_order.specs.declared.compared.Compared.{Compared}
+use Rattle.term_order.specs.declared.compared.Compared.TheVariants as answer
 use Rattle.term_maps.proofs.Putting.{key-within}
 
 compared-within : (names shared : List (List ℕ)) (s t : Tree) → is_beyond shared s ≡ false → is_beyond shared t ≡ false → compared names shared s t ≡ answer_of (order names shared s t)

@@ -3,3 +3,4 @@ mod Putting
 mod Left
 mod Compares
 mod Sorting
+mod Named

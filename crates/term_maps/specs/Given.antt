@@ -1,17 +1,20 @@
 -- Words of pairs, and the map that is made of them.
-use Rattle.std.specs.Prelude.{◌≡◌, ℕ, ◌+◌, ◌*◌, ◌≤◌, Bool, List, [], ◌∷◌, None}
+use Rattle.std.specs.Prelude.{◌≡◌, ℕ, ◌+◌, ◌*◌, ◌≤◌, Bool, true, List, [], ◌∷◌, length, None}
 use Rattle.word_mem.specs.declared.ranges.Room.{Room}
 use Rattle.plain_term.specs.Tree.{Pairs, pairs_len}
 use Rattle.plain_term.specs.Tree.Tree.{Map}
 use Rattle.plain_term.specs.Tree.Pairs.{stop, pair}
 use Rattle.term_tags.specs.Words.{boxed_word}
 use Rattle.term_tags.specs.declared.layouts.TheConstants.{MOST_KEYS}
+use Rattle.term_words.specs.Role.{always}
 use Rattle.term_words.specs.Stands.{Stands}
 use Rattle.term_words.specs.Counted.{In}
 use Rattle.term_words.specs.Kept.{Keeps}
 use Rattle.term_build.specs.Taken.{Taken, IsFree, of_map}
 use Rattle.term_build.specs.Clear.{Uses}
 use Rattle.term_build.specs.Grows.{Built}
+use Rattle.term_order.specs.Named.{pairs_named}
+use Rattle.term_order.specs.Compared.{AreNamed}
 use Rattle.term_maps.specs.InOrder.{in_order, why_not}
 use Rattle.term_maps.specs.Spots.{SortedStand}
 use Rattle.term_maps.specs.declared.sorted.Sorted.{Sorted}
@@ -29,15 +32,15 @@ keys_in [] = []
 keys_in (p ∷ words) = p.0 ∷ keys_in words
 
 -- Each two of the keys can be compared.
-pub record KeysCan (can : ℕ → ℕ → Type 0) (keys : List ℕ) : Type 0 where
-  pub each : (a b : ℕ) → In a keys → In b keys → can a b
+pub record KeysNamed (mem : List ℕ) (names : List (List ℕ)) (keys : List ℕ) : Type 0 where
+  pub each : (a b : ℕ) → In a keys → In b keys → AreNamed mem names a b
 
--- The pairs stand for trees, and the room has the words of their map.
-pub record HasRoom (names : List (List ℕ)) (room : Room) (mem : List ℕ) (words : List (ℕ × ℕ)) : Type 0 where
-  pub test : ℕ → ℕ → Bool
+-- The pairs stand for trees whose names are among the names, and the room has the words of their map where there is one.
+pub record CanMap (names : List (List ℕ)) (room : Room) (mem : List ℕ) (words : List (ℕ × ℕ)) : Type 0 where
   pub shared : List (List ℕ)
   pub given : Pairs
-  pub standing : PairsStand test shared mem words given
+  pub standing : PairsStand always shared mem words given
+  pub named : pairs_named (length names) given ≡ true
   pub fits : pairs_len (in_order names shared given) ≤ MOST_KEYS → room.top + (4 + 2 * pairs_len (in_order names shared given)) ≤ room.end
 
 -- The sorted words stand for the map's pairs, and nothing is in the way of the map.

@@ -1,4 +1,3 @@
-pub mod Compared
 pub mod InOrder
 pub mod Spots
 pub mod Given

@@ -1,9 +1,7 @@
 //! Maps built from pairs in any order: the keys are sorted, and the later of two equal ones stands.
 #![tactic(auto)]
 
-mod comparison;
 mod maps;
 mod sorted;
 
-pub use comparison::{Compared, Comparison};
 pub use maps::{MapStop, map};

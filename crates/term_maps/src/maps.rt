@@ -9,12 +9,14 @@ ghost use Rattle.term_words.specs.Kept.{Keeps};
 ghost use Rattle.term_build.specs.Taken.{Taken, IsFree, of_map};
 ghost use Rattle.term_build.specs.Grows.{Built};
 ghost use Rattle.term_build.specs.Clear.{IsRoom, Clear, KeepsClear, Uses};
+ghost use Rattle.term_order.specs.Compared.{AreNamed};
 ghost use Rattle.term_maps.specs.InOrder.{has_beyond, in_order, why_not};
-ghost use Rattle.term_maps.specs.Given.{PairsStand, keys_in, KeysCan, HasRoom, IsSorted, IsMade};
+ghost use Rattle.term_maps.specs.Given.{PairsStand, keys_in, KeysNamed, CanMap, IsSorted, IsMade};
 
-use crate::comparison::{Compared, Comparison};
 use crate::sorted::Sorted;
+use atom_names::AtomNames;
 use term_build::map_in_order;
+use term_order::{Compared, compare};
 use word_mem::{Room, WordMem};
 
 /// Why no map is made: a key is beyond the walk limit, or there are more than 32 distinct keys.
@@ -27,40 +29,39 @@ pub enum MapStop {
 /// The map of pairs of a key and a value, in any order: where two keys are equal, the later pair stands, with its own key.
 /// Four words and two for each distinct key. `Big` comes where a key is beyond the walk limit; `Size` where none is and more
 /// than 32 are distinct. The room and the memory are then as they were.
-pub fn map<C: Comparison>(
+pub fn map(
     mem: &mut WordMem,
     room: &mut Room,
-    order: &C,
+    names: &AtomNames,
     pairs: &[(u64, u64)],
 ) -> Result<u64, MapStop>
     requires places { IsRoom room.old mem.old }
-    requires keys { KeysCan (C.can order.now mem.old) (keys_in pairs.now) }
-    requires words { HasRoom (C.names order.now) room.old mem.old pairs.now }
+    requires pairs { CanMap names.now room.old mem.old pairs.now }
     ensures stop { IfErr result (λ e. (c : ℕ → ℕ → Bool) (shared : List (List ℕ)) (given : Pairs) → PairsStand c shared mem.old pairs.now given
-        → why_not (C.names order.now) shared given ≡ Some e) }
+        → why_not names.now shared given ≡ Some e) }
     ensures stopped { OnErr result ((room.new ≡ room.old) × (mem.new ≡ mem.old)) }
     ensures made { IfOk result (λ w. (c : ℕ → ℕ → Bool) (shared : List (List ℕ)) (given : Pairs) → PairsStand c shared mem.old pairs.now given
-        → IsMade c (C.names order.now) shared given room.old room.new mem.old mem.new w) }
+        → IsMade c names.now shared given room.old room.new mem.old mem.new w) }
     ensures kept_clear { KeepsClear room.old room.new mem.old mem.new }
 {
-    let sorted = sort(mem, order, pairs)?;
+    let sorted = sort(mem, names, pairs)?;
     Ok(map_in_order(mem, room, sorted.keys.as_slice(), sorted.values.as_slice()))
 }
 
 // The pairs by their keys.
-fn sort<C: Comparison>(mem: &WordMem, order: &C, pairs: &[(u64, u64)]) -> Result<Sorted, MapStop>
-    requires { KeysCan (C.can order.now mem.now) (keys_in pairs.now) }
+fn sort(mem: &WordMem, names: &AtomNames, pairs: &[(u64, u64)]) -> Result<Sorted, MapStop>
+    requires { KeysNamed mem.now names.now (keys_in pairs.now) }
     ensures stop { IfErr result (λ e. (c : ℕ → ℕ → Bool) (shared : List (List ℕ)) (given : Pairs) → PairsStand c shared mem.now pairs.now given
-        → why_not (C.names order.now) shared given ≡ Some e) }
+        → why_not names.now shared given ≡ Some e) }
     ensures sorted { IfOk result (λ s. (c : ℕ → ℕ → Bool) (shared : List (List ℕ)) (given : Pairs) → PairsStand c shared mem.now pairs.now given
-        → IsSorted c (C.names order.now) shared mem.now given s) }
+        → IsSorted c names.now shared mem.now given s) }
 {
-    if has_big_key(mem, order, pairs) {
+    if has_big_key(mem, names, pairs) {
         return Err(MapStop::Big);
     }
     let mut sorted = Sorted::new();
     for (i, pair) in pairs.iter().enumerate() {
-        if !sorted.put(mem, order, pair.0, pair.1) {
+        if !sorted.put(mem, names, pair.0, pair.1) {
             return Err(MapStop::Size);
         }
     }
@@ -68,12 +69,12 @@ fn sort<C: Comparison>(mem: &WordMem, order: &C, pairs: &[(u64, u64)]) -> Result
 }
 
 // Whether a key is beyond the walk limit.
-fn has_big_key<C: Comparison>(mem: &WordMem, order: &C, pairs: &[(u64, u64)]) -> bool
-    requires { KeysCan (C.can order.now mem.now) (keys_in pairs.now) }
+fn has_big_key(mem: &WordMem, names: &AtomNames, pairs: &[(u64, u64)]) -> bool
+    requires { KeysNamed mem.now names.now (keys_in pairs.now) }
     ensures { (c : ℕ → ℕ → Bool) (shared : List (List ℕ)) (given : Pairs) → PairsStand c shared mem.now pairs.now given → result ≡ has_beyond shared given }
 {
     for (i, pair) in pairs.iter().enumerate() {
-        if let Compared::Beyond = order.compare(mem, pair.0, pair.0) {
+        if let Compared::Beyond = compare(mem, names, pair.0, pair.0) {
             return true;
         }
     }

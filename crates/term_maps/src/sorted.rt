@@ -5,11 +5,13 @@ ghost use Rattle.term_tags.specs.declared.layouts.TheConstants.{MOST_KEYS};
 ghost use Rattle.plain_term.specs.Beyond.{is_beyond};
 ghost use Rattle.term_words.specs.Stands.{Stands, AllStand};
 ghost use Rattle.term_words.specs.Counted.{In};
+ghost use Rattle.term_order.specs.Compared.{AreNamed};
 ghost use Rattle.term_maps.specs.InOrder.{has_beyond};
 ghost use Rattle.term_maps.specs.Spots.{IsWithin, Finds, SortedStand, Puts};
 
-use crate::comparison::{Compared, Comparison};
 use arrayvec::ArrayVec;
+use atom_names::AtomNames;
+use term_order::{Compared, compare};
 use term_tags::MOST_KEYS;
 use word_mem::WordMem;
 
@@ -41,8 +43,8 @@ impl Sorted {
     }
 
     // Puts a pair among the others, or answers false where it is a key too many.
-    pub fn put<C: Comparison>(&mut self, mem: &WordMem, order: &C, key: u64, value: u64) -> bool
-        requires can { (w : ℕ) → In w self.old.keys.items → C.can order.now mem.now key w }
+    pub fn put(&mut self, mem: &WordMem, names: &AtomNames, key: u64, value: u64) -> bool
+        requires can { (w : ℕ) → In w self.old.keys.items → AreNamed mem.now names.now key w }
         requires few { length self.old.keys.items ≤ MOST_KEYS }
         requires same_len { length self.old.values.items ≡ length self.old.keys.items }
         ensures keys { (w : ℕ) → In w self.new.keys.items → (w ≡ key) ⊎ In w self.old.keys.items }
@@ -50,9 +52,9 @@ impl Sorted {
         ensures same_len { length self.new.values.items ≡ length self.new.keys.items }
         ensures puts { (c : ℕ → ℕ → Bool) (shared : List (List ℕ)) (ps : Pairs) (k v : Tree) → SortedStand c shared mem.now self.old ps
             → Stands c shared mem.now key k → Stands c shared mem.now value v → has_beyond shared ps ≡ false → is_beyond shared k ≡ false
-            → Puts c (C.names order.now) shared mem.now self.new ps k v result }
+            → Puts c names.now shared mem.now self.new ps k v result }
     {
-        match spot_of(mem, order, self.keys.as_slice(), key) {
+        match spot_of(mem, names, self.keys.as_slice(), key) {
             Spot::Same(at) => {
                 replace(&mut self.keys, at, key);
                 replace(&mut self.values, at, value);
@@ -78,14 +80,14 @@ fn replace(words: &mut ArrayVec<u64, ROOM>, at: usize, word: u64)
 }
 
 // Finds the key among keys that rise.
-fn spot_of<C: Comparison>(mem: &WordMem, order: &C, keys: &[u64], key: u64) -> Spot
-    requires { (w : ℕ) → In w keys.now → C.can order.now mem.now key w }
+fn spot_of(mem: &WordMem, names: &AtomNames, keys: &[u64], key: u64) -> Spot
+    requires { (w : ℕ) → In w keys.now → AreNamed mem.now names.now key w }
     ensures within { IsWithin (length keys.now) result }
     ensures finds { (c : ℕ → ℕ → Bool) (shared : List (List ℕ)) (ps : Pairs) (k : Tree) → AllStand c shared mem.now keys.now (keys_of ps) → Stands c shared mem.now key k
-        → has_beyond shared ps ≡ false → is_beyond shared k ≡ false → Finds (C.names order.now) shared (keys_of ps) k result }
+        → has_beyond shared ps ≡ false → is_beyond shared k ≡ false → Finds names.now shared (keys_of ps) k result }
 {
     for (i, other) in keys.iter().enumerate() {
-        match order.compare(mem, key, *other) {
+        match compare(mem, names, key, *other) {
             Compared::More | Compared::Beyond => {}
             Compared::Same => return Spot::Same(i),
             Compared::Less => return Spot::New(i),

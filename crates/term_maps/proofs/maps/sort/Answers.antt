@@ -8,7 +8,7 @@ use Rattle.term_maps.proofs.Sorting.{sorting-begins, sorting-goes, sorting-stops
 use Rattle.term_maps.proofs.maps.sort.Goals as goal
 
 pub loop-i-init : goal.loop-i-init
-loop-i-init g c = record {
+loop-i-init c = record {
   keys = λ w h. let P : List ℕ → Type 0 = λ ws. In w ws in absurd (subst P c.new-sorted.ensures.keys h);
   few = omega (arith, ap length c.new-sorted.ensures.keys);
   same_len = ap length c.new-sorted.ensures.values ∙ sym (ap length c.new-sorted.ensures.keys);
@@ -16,20 +16,20 @@ loop-i-init g c = record {
 }
 
 pub put-requires-clause-can : goal.put-requires-clause-can
-put-requires-clause-can g c = λ w h. c.requires.each _ w (key-in c.args.pairs.now c.loop-i.i _ (omega (arith, c.loop-i-test.true))) (c.loop-i.invariant.keys w h)
+put-requires-clause-can c = λ w h. c.requires.each _ w (key-in c.args.pairs.now c.loop-i.i _ (omega (arith, c.loop-i-test.true))) (c.loop-i.invariant.keys w h)
 
 pub returns-then-not-put-clause-stop : goal.returns-then-not-put-clause-stop
-returns-then-not-put-clause-stop g c = λ k shared given stand.
+returns-then-not-put-clause-stop c = λ k shared given stand.
     let within = sym (c.has_big_key.ensures k shared given stand) ∙ c.if-has_big_key.false in
     let now = c.loop-i.invariant.sorting k shared given stand within in
     let next = next-pair k shared c.args.mem.now c.args.pairs.now given c.loop-i.i (0, 0) stand (omega (arith, c.loop-i-test.true)) in
     let small = next-within k shared c.args.mem.now given c.loop-i.i _ next within in
-    let P : Bool → Type 0 = λ b. Puts k (g.C.Comparison.names c.args.order.now) shared c.args.mem.now c.put.new.self now.now next.key next.value b in
+    let P : Bool → Type 0 = λ b. Puts k c.args.names.now shared c.args.mem.now c.put.new.self now.now next.key next.value b in
     sorting-stops k _ shared c.args.mem.now given c.loop-i.i _ c.loop-i.sorted now next within
     (subst P c.if-not-put.true (c.put.ensures.puts k shared now.now next.key next.value now.stand next.key_stands next.value_stands now.within small))
 
 pub loop-i-preserved : goal.loop-i-preserved
-loop-i-preserved g c = record {
+loop-i-preserved c = record {
   keys = λ w h. elim (c.put.ensures.keys w h) [
     | inl is ↦ let P : ℕ → Type 0 = λ x. In x (keys_in c.args.pairs.now) in subst P (sym is) (key-in c.args.pairs.now c.loop-i.i _ (omega (arith, c.loop-i-test.true)))
     | inr old ↦ c.loop-i.invariant.keys w old
@@ -40,13 +40,13 @@ loop-i-preserved g c = record {
       let now = c.loop-i.invariant.sorting k shared given stand within in
       let next = next-pair k shared c.args.mem.now c.args.pairs.now given c.loop-i.i (0, 0) stand (omega (arith, c.loop-i-test.true)) in
       let small = next-within k shared c.args.mem.now given c.loop-i.i _ next within in
-      let P : Bool → Type 0 = λ b. Puts k (g.C.Comparison.names c.args.order.now) shared c.args.mem.now c.put.new.self now.now next.key next.value b in
+      let P : Bool → Type 0 = λ b. Puts k c.args.names.now shared c.args.mem.now c.put.new.self now.now next.key next.value b in
       sorting-goes k _ shared c.args.mem.now given c.loop-i.i _ c.loop-i.sorted c.put.new.self now next within
       (subst P c.if-not-put.false (c.put.ensures.puts k shared now.now next.key next.value now.stand next.key_stands next.value_stands now.within small));
 }
 
 pub returns-clause-sorted : goal.returns-clause-sorted
-returns-clause-sorted g c = λ k shared given stand.
+returns-clause-sorted c = λ k shared given stand.
     let within = sym (c.has_big_key.ensures k shared given stand) ∙ c.if-has_big_key.false in
     sorting-ends k _ shared c.args.mem.now given c.loop-i.i c.loop-i.sorted (c.loop-i.invariant.sorting k shared given stand within)
     (none-left k shared c.args.mem.now c.args.pairs.now given c.loop-i.i stand (omega (arith, c.loop-i-test.false))) within c.loop-i.invariant.few

@@ -8,10 +8,10 @@ use Rattle.term_maps.proofs.Sorting.{Sorting}
 use Rattle.term_maps.proofs.maps.sort.Given as goal
 
 abbrev pub invariant-loop-i : goal.invariant-loop-i
-invariant-loop-i g l = record {
+invariant-loop-i l = record {
   keys : (w : ℕ) → In w l.sorted.keys.items → In w (keys_in l.pairs);
   few : length l.sorted.keys.items ≤ MOST_KEYS;
   same_len : length l.sorted.values.items ≡ length l.sorted.keys.items;
   sorting : (c : ℕ → ℕ → Bool) (shared : List (List ℕ)) (given : Pairs) → PairsStand c shared l.mem l.pairs given → has_beyond shared given ≡ false
-      → Sorting c (g.C.Comparison.names l.order) shared l.mem given l.i l.sorted;
+      → Sorting c l.names shared l.mem given l.i l.sorted;
 }

@@ -6,10 +6,10 @@ use Rattle.term_maps.proofs.Compares.{order-told, is-less, is-equal, is-greater,
 use Rattle.term_maps.proofs.sorted.spot_of.Goals as goal
 
 pub compare-requires : goal.compare-requires
-compare-requires g c = c.requires _ (in-at c.args.keys.now c.loop-i.i (omega (arith, c.loop-i-test.true)))
+compare-requires c = c.requires _ (in-at c.args.keys.now c.loop-i.i (omega (arith, c.loop-i-test.true)))
 
 pub returns-in-Same-clause-finds : goal.returns-in-Same-clause-finds
-returns-in-Same-clause-finds g c = λ k shared ps t all s within small. (
+returns-in-Same-clause-finds c = λ k shared ps t all s within small. (
   omega (arith, c.loop-i-test.true, all-length k shared c.args.mem.now c.args.keys.now (keys_of ps) all),
   (
     c.loop-i.invariant.above k shared ps t all s within small,
@@ -19,7 +19,7 @@ returns-in-Same-clause-finds g c = λ k shared ps t all s within small. (
 )
 
 pub returns-in-Less-clause-finds : goal.returns-in-Less-clause-finds
-returns-in-Less-clause-finds g c = λ k shared ps t all s within small. (
+returns-in-Less-clause-finds c = λ k shared ps t all s within small. (
   omega (arith, c.loop-i-test.true, all-length k shared c.args.mem.now c.args.keys.now (keys_of ps) all),
   (
     c.loop-i.invariant.above k shared ps t all s within small,
@@ -29,7 +29,7 @@ returns-in-Less-clause-finds g c = λ k shared ps t all s within small. (
 )
 
 pub loop-i-preserved : goal.loop-i-preserved
-loop-i-preserved g c = record {
+loop-i-preserved c = record {
   above = λ k shared ps t all s within small.
       above-more _ shared (keys_of ps) t c.loop-i.i (c.loop-i.invariant.above k shared ps t all s within small)
       (is-greater _ c.compare.result c.in-More.is
@@ -37,7 +37,7 @@ loop-i-preserved g c = record {
 }
 
 pub returns-clause-finds : goal.returns-clause-finds
-returns-clause-finds g c = λ k shared ps t all s within small. (
+returns-clause-finds c = λ k shared ps t all s within small. (
   omega (arith, all-length k shared c.args.mem.now c.args.keys.now (keys_of ps) all),
   (
     λ j below. c.loop-i.invariant.above k shared ps t all s within small j (omega (arith, c.loop-i-test.false)),

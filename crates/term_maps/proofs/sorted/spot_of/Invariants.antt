@@ -7,7 +7,7 @@ use Rattle.term_maps.specs.Spots.{IsAbove}
 use Rattle.term_maps.proofs.sorted.spot_of.Given as goal
 
 abbrev pub invariant-loop-i : goal.invariant-loop-i
-invariant-loop-i g l = record {
+invariant-loop-i l = record {
   above : (c : ℕ → ℕ → Bool) (shared : List (List ℕ)) (ps : Pairs) (k : Tree) → AllStand c shared l.mem l.keys (keys_of ps) → Stands c shared l.mem l.key k
-      → has_beyond shared ps ≡ false → is_beyond shared k ≡ false → IsAbove (g.C.Comparison.names l.order) shared (keys_of ps) k l.i;
+      → has_beyond shared ps ≡ false → is_beyond shared k ≡ false → IsAbove l.names shared (keys_of ps) k l.i;
 }
