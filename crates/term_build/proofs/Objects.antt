@@ -1,5 +1,6 @@
 -- When the words of a room are an object that stands: one lemma a kind, by the words that lie there.
-use Rattle.std.proofs.Common.{◌≡◌, ℕ, zero, suc, ◌+◌, ◌-◌, ◌*◌, ◌/◌, ◌%◌, ◌^◌, ◌<◌, ◌≤◌, ◌⊎◌, Bool, true, false, List, [], ◌∷◌, ◌++◌, length, replicate, get_or, refl, sym, ◌∙◌, subst, arith, inl, inr, nat_lt, ℤ}
+use Rattle.std.proofs.Common.{◌≡◌, ℕ, zero, suc, ◌+◌, ◌-◌, ◌*◌, ◌/◌, ◌%◌, ◌^◌, ◌<◌, ◌≤◌, ◌⊎◌, Bool, true, false, List, [], ◌∷◌, ◌++◌, length, replicate, get_or, ℤ}
+use Rattle.std.proofs.Common.{refl, sym, ◌∙◌, subst, arith, inl, inr, nat_lt}
 use Rattle.std.proofs.lemmas.Bool.Decides.{nat_tests}
 use Rattle.plain_term.specs.Tree.{Tree, Trees, Pairs, trees_len, pairs_len, keys_of, values_of}
 use Rattle.plain_term.specs.Tree.Tree.{Int, Ref, Map, Bin, Shared, Part, Fun}
@@ -99,7 +100,8 @@ shared-made c d top old new r rec len next is inside lie taken k shared id named
       record_is = subst P (sym (lie.each 3 (r / 4 + 3) (omega arith) (omega arith))) (bin-record-kept c d old new k rec id (shared_bytes shared id) named.record_is);
     }
 
-pub fun-made : (c d : ℕ → ℕ → Bool) (top n : ℕ) (old new env : List ℕ) (r rec next arity creator : ℕ) → n ≡ length env → r ≡ boxed_word top → n ≤ MOST_ENV → creator < PIDS → top + (6 + n) ≤ length new
+pub fun-made : (c d : ℕ → ℕ → Bool) (top n : ℕ) (old new env : List ℕ) (r rec next arity creator : ℕ) → n ≡ length env → r ≡ boxed_word top → n ≤ MOST_ENV → creator < PIDS
+    → top + (6 + n) ≤ length new
     → Lie new top (head_word FUN (5 + n) ∷ rec ∷ next ∷ arity ∷ n ∷ pid_word creator ∷ env) → Taken of_fun c d top (6 + n) → Kept c d old new → Keeps c d old new
     → (shared : List (List ℕ)) (name : ℕ) (ts : Trees) → IsFunRecord c old rec name arity → AllStand c shared old env ts → Stands d shared new r (Fun name arity creator ts)
 unfolding Stands

@@ -59,7 +59,8 @@ cons-made c d top old new h t r inside lie is taken k shared a b sa sb =
 
 -- A tuple at the taken words.
 pub tuple-made : (c d : ℕ → ℕ → Bool) (top n : ℕ) (old new parts : List ℕ) (r : ℕ) → n ≡ length parts → n ≤ MOST_PARTS → top + (1 + n) ≤ length new
-    → Lie new top (head_word TUPLE n ∷ parts) → r ≡ boxed_word top → Taken plain c d top (1 + n) → Keeps c d old new → (shared : List (List ℕ)) (ts : Trees) → AllStand c shared old parts ts → Stands d shared new r (Tuple ts)
+    → Lie new top (head_word TUPLE n ∷ parts) → r ≡ boxed_word top → Taken plain c d top (1 + n) → Keeps c d old new → (shared : List (List ℕ)) (ts : Trees) → AllStand c shared old parts ts
+    → Stands d shared new r (Tuple ts)
 tuple-made c d top n old new parts r count few inside lie is taken k shared ts all =
     let moved : AllStand d shared new parts ts = keep-all c d old new k shared parts ts all in
     let same : length parts ≡ trees_len ts = all-length d shared new parts ts moved in

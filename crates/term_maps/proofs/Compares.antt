@@ -29,7 +29,8 @@ values-many c shared mem ws ps all = all-length c shared mem ws (values_of ps) a
 
 -- A key against key i of others.
 pub order-told : (c : ℕ → ℕ → Bool) (names shared : List (List ℕ)) (mem : List ℕ) (key : ℕ) (keys : List ℕ) (ps : Pairs) (k : Tree) (i : ℕ) (result : Compared)
-    → Compares mem names key (get_or keys i 0) result → i < length keys → AllStand c shared mem keys (keys_of ps) → Stands c shared mem key k → has_beyond shared ps ≡ false → is_beyond shared k ≡ false
+    → Compares mem names key (get_or keys i 0) result → i < length keys → AllStand c shared mem keys (keys_of ps) → Stands c shared mem key k → has_beyond shared ps ≡ false
+    → is_beyond shared k ≡ false
     → result ≡ answer_of (order names shared k (tree_at (keys_of ps) i))
 order-told c names shared mem key keys ps k i result told below all s within small =
     told.each c shared k (tree_at (keys_of ps) i) s (all-at c shared mem keys (keys_of ps) i all below)
@@ -75,13 +76,15 @@ either false = inr refl
 
 -- A word against itself tells whether its tree is beyond the walk limit.
 
-pub is-beyond : (c : ℕ → ℕ → Bool) (names shared : List (List ℕ)) (mem : List ℕ) (w : ℕ) (t : Tree) (r : Compared) → Compares mem names w w r → Stands c shared mem w t → r ≡ answer.Beyond → is_beyond shared t ≡ true
+pub is-beyond : (c : ℕ → ℕ → Bool) (names shared : List (List ℕ)) (mem : List ℕ) (w : ℕ) (t : Tree) (r : Compared) → Compares mem names w w r → Stands c shared mem w t → r ≡ answer.Beyond
+    → is_beyond shared t ≡ true
 is-beyond c names shared mem w t r told s is = elim (either (is_beyond shared t)) [
   | inl beyond ↦ beyond
   | inr within ↦ absurd (never-beyond (order names shared t t) r is (told.each c shared t t s s ∙ compared-within names shared t t within within))
 ]
 
-pub is-within : (c : ℕ → ℕ → Bool) (names shared : List (List ℕ)) (mem : List ℕ) (w : ℕ) (t : Tree) (r : Compared) → Compares mem names w w r → Stands c shared mem w t → (r ≡ answer.Beyond → ⊥) → is_beyond shared t ≡ false
+pub is-within : (c : ℕ → ℕ → Bool) (names shared : List (List ℕ)) (mem : List ℕ) (w : ℕ) (t : Tree) (r : Compared) → Compares mem names w w r → Stands c shared mem w t
+    → (r ≡ answer.Beyond → ⊥) → is_beyond shared t ≡ false
 is-within c names shared mem w t r told s is = elim (either (is_beyond shared t)) [ inl beyond ↦ absurd (is (told.each c shared t t s s ∙ past beyond)) | inr within ↦ within ]
   where
     past : is_beyond shared t ≡ true → compared names shared t t ≡ answer.Beyond

@@ -34,7 +34,8 @@ next-pair c shared mem (p ∷ words) (pair k v ps) (suc i) d s below =
     record { key = more.key; value = more.value; left = subst P turned more.left; key_stands = more.key_stands; value_stands = more.value_stands }
 
 -- None are left behind the last.
-pub none-left : (c : ℕ → ℕ → Bool) (shared : List (List ℕ)) (mem : List ℕ) (words : List (ℕ × ℕ)) (given : Pairs) (i : ℕ) → PairsStand c shared mem words given → length words ≤ i → pairs_drop i given ≡ stop
+pub none-left : (c : ℕ → ℕ → Bool) (shared : List (List ℕ)) (mem : List ℕ) (words : List (ℕ × ℕ)) (given : Pairs) (i : ℕ) → PairsStand c shared mem words given → length words ≤ i
+    → pairs_drop i given ≡ stop
 unfolding PairsStand
 none-left c shared mem [] stop zero s all = refl
 none-left c shared mem [] stop (suc i) s all = refl

@@ -17,7 +17,8 @@ and-second true b h = h
 and-second false b h = absurd cc
 
 -- A key's tree.
-key-named : (mem : List ℕ) (names shared : List (List ℕ)) (words : List (ℕ × ℕ)) (given : Pairs) (a : ℕ) → PairsStand always shared mem words given → pairs_named (length names) given ≡ true → In a (keys_in words)
+key-named : (mem : List ℕ) (names shared : List (List ℕ)) (words : List (ℕ × ℕ)) (given : Pairs) (a : ℕ) → PairsStand always shared mem words given → pairs_named (length names) given ≡ true
+    → In a (keys_in words)
     → (t : Tree) × (Stands always shared mem a t × (is_named (length names) t ≡ true))
 unfolding PairsStand
 key-named mem names shared [] given a s n h = absurd h

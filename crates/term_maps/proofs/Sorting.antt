@@ -95,7 +95,8 @@ sorting-ends c names shared mem given i s g ended h few =
     record { pairs = pairs; none = rw (h, fits) refl }
 
 -- The map is made where it is made of as many keys.
-pub is-made : (c : ℕ → ℕ → Bool) (names shared : List (List ℕ)) (given : Pairs) (old new : Room) (mem mem2 : List ℕ) (w n : ℕ) → n ≡ pairs_len (in_order names shared given) → why_not names shared given ≡ None
+pub is-made : (c : ℕ → ℕ → Bool) (names shared : List (List ℕ)) (given : Pairs) (old new : Room) (mem mem2 : List ℕ) (w n : ℕ) → n ≡ pairs_len (in_order names shared given)
+    → why_not names shared given ≡ None
     → Uses (4 + 2 * n) old new mem mem2 → w ≡ boxed_word (old.top + (1 + n))
     → ((d : ℕ → ℕ → Bool) → Taken (of_map n) c d old.top (4 + 2 * n) → Stands d shared mem2 w (Map (in_order names shared given)))
     → ((roles : ℕ → ℕ) (d : ℕ → ℕ → Bool) → Taken roles c d old.top (4 + 2 * n) → Keeps c d mem mem2)

@@ -37,4 +37,5 @@ has_beyond shared (pair k v ps) = is_beyond shared k || has_beyond shared ps
 
 -- Why no map is made of these pairs, if none is.
 abbrev pub why_not : (names shared : List (List ℕ)) → Pairs → Option MapStop
-why_not names shared given = if has_beyond shared given then Some why.Big else (if nat_lt MOST_KEYS (pairs_len (in_order names shared given)) then Some why.Size else None)
+why_not names shared given = if has_beyond shared given then Some why.Big
+    else (if nat_lt MOST_KEYS (pairs_len (in_order names shared given)) then Some why.Size else None)

@@ -83,7 +83,8 @@ fn replace(words: &mut ArrayVec<u64, ROOM>, at: usize, word: u64)
 fn spot_of(mem: &WordMem, names: &AtomNames, keys: &[u64], key: u64) -> Spot
     requires { (w : ℕ) → In w keys.now → AreNamed mem.now names.now key w }
     ensures within { IsWithin (length keys.now) result }
-    ensures finds { (c : ℕ → ℕ → Bool) (shared : List (List ℕ)) (ps : Pairs) (k : Tree) → AllStand c shared mem.now keys.now (keys_of ps) → Stands c shared mem.now key k
+    ensures finds { (c : ℕ → ℕ → Bool) (shared : List (List ℕ)) (ps : Pairs) (k : Tree) → AllStand c shared mem.now keys.now (keys_of ps)
+        → Stands c shared mem.now key k
         → has_beyond shared ps ≡ false → is_beyond shared k ≡ false → Finds names.now shared (keys_of ps) k result }
 {
     for (i, other) in keys.iter().enumerate() {

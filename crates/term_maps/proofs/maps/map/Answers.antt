@@ -1,6 +1,6 @@
 use Rattle.std.proofs.Common.{◌≡◌, ℕ, List, length, sym, ◌∙◌, ap, subst, arith}
 use Rattle.plain_term.specs.Tree.{pairs_len, keys_of, values_of}
-use Rattle.term_words.specs.Role.{always}
+use Rattle.term_words.specs.Role.{always, outside}
 use Rattle.term_words.specs.Stands.{AllStand}
 use Rattle.term_maps.specs.InOrder.{in_order}
 use Rattle.term_maps.proofs.Compares.{keys-many, values-many}
@@ -33,3 +33,10 @@ returns-clause-made c = λ k shared given stand.
     is-made k _ shared given _ _ _ _ _ (length c.as_slice.result.now) (ap length c.as_slice.ensures.value ∙ keys-many _ _ _ _ _ sorted.pairs.keys) sorted.none
     c.map_in_order.ensures.uses c.map_in_order.ensures.place (λ d taken. c.map_in_order.ensures.made k d shared _ taken keys values)
     (λ roles d taken. c.map_in_order.ensures.kept roles k d taken) (λ free. c.map_in_order.ensures.built k shared _ free keys values)
+
+pub returns-clause-made_clear : goal.returns-clause-made_clear
+returns-clause-made_clear c = λ shared given stand.
+    let sorted = c.in_ok-sorted.ensures.sorted (outside c.args.room.now.top c.args.room.now.end) shared given stand in
+    let P : List ℕ → Type 0 = λ ws. AllStand (outside c.args.room.now.top c.args.room.now.end) shared c.args.mem.now ws (keys_of (in_order c.args.names.now shared given)) in
+    let Q : List ℕ → Type 0 = λ ws. AllStand (outside c.args.room.now.top c.args.room.now.end) shared c.args.mem.now ws (values_of (in_order c.args.names.now shared given)) in
+    c.map_in_order.ensures.made_clear shared _ (subst P (sym c.as_slice.ensures.value) sorted.pairs.keys) (subst Q (sym c.as_slice-2.ensures.value) sorted.pairs.values)
