@@ -42,7 +42,7 @@ kept-then c x y z a b = record {
 }
 
 -- Two roles are at two places.
-roles-apart : (c : ℕ → ℕ → Bool) (a b : ℕ) → IsSingle c → c a NEXT ≡ true → c b COUNT ≡ true → a ≡ b → ⊥
+pub roles-apart : (c : ℕ → ℕ → Bool) (a b : ℕ) → IsSingle c → c a NEXT ≡ true → c b COUNT ≡ true → a ≡ b → ⊥
 roles-apart c a b single h k e =
     let P : ℕ → Type 0 = λ x. c x NEXT ≡ true in
     let same : NEXT ≡ COUNT = single.one b NEXT COUNT (subst P e h) k in
@@ -50,7 +50,7 @@ roles-apart c a b single h k e =
 
 -- Objects of a chain.
 
-place-same : (old new : List ℕ) (p : ℕ) → get_or new p 0 ≡ get_or old p 0 → name_place new p ≡ name_place old p
+pub place-same : (old new : List ℕ) (p : ℕ) → get_or new p 0 ≡ get_or old p 0 → name_place new p ≡ name_place old p
 place-same old new p e = ap (λ x. if x == head_word HOLDER 5 then p + 3 else p + 1) e
 
 pub link-named : (c d : ℕ → ℕ → Bool) (old new : List ℕ) (p : ℕ) → Kept c d old new → IsLink c old p → named new p ≡ named old p
@@ -83,10 +83,10 @@ leads-stays old new from (p ∷ os) to same (first, rest) =
     let P : ℕ → Type 0 = λ x. Leads new x os to in
     (first, subst P (sym (same p (inl refl))) (leads-stays old new (get_or old (p + 2) 0) os to (λ q inside. same q (inr inside)) rest))
 
-one-naming : (x v : ℕ) → x ≡ v → names_it x v ≡ 1
+pub one-naming : (x v : ℕ) → x ≡ v → names_it x v ≡ 1
 one-naming x v e = grind (arith, nat_tests, e)
 
-no-naming : (x v : ℕ) → (x < v) ⊎ (v < x) → names_it x v ≡ 0
+pub no-naming : (x v : ℕ) → (x < v) ⊎ (v < x) → names_it x v ≡ 0
 no-naming x v apart = grind (arith, nat_tests, apart)
 
 -- An object comes into a chain: its word `next` and the count of its record are written.
@@ -162,7 +162,7 @@ unchain-links c old new head p r os further single is kept back others less l =
 
 -- Both, over the memory that is written.
 
-record-inside : (c : ℕ → ℕ → Bool) (mem : List ℕ) (v n : ℕ) → IsRecord c mem v n → v + 4 ≤ length mem
+pub record-inside : (c : ℕ → ℕ → Bool) (mem : List ℕ) (v n : ℕ) → IsRecord c mem v n → v + 4 ≤ length mem
 record-inside c mem v n (inl (serial, bytes, o, words)) = omega (arith, o.within)
 record-inside c mem v n (inr (name, arity, o, words)) = o.within
 

@@ -1,10 +1,12 @@
 // What objects have a word `next`, and what keeps chains.
-ghost use Rattle.std.specs.Prelude.{◌≡◌, ℕ, ◌+◌, ◌/◌, ◌<◌, Bool, List, length, slice_index};
+ghost use Rattle.std.specs.Prelude.{◌≡◌, ℕ, ◌+◌, ◌/◌, ◌<◌, ◌≤◌, Bool, true, false, List, [], ◌∷◌, length};
 ghost use Rattle.plain_term.specs.Tree.{Trees};
 ghost use Rattle.plain_term.specs.Tree.Tree.{Shared, Fun};
 ghost use Rattle.term_words.specs.Stands.{Stands};
 ghost use Rattle.term_words.specs.Kept.{Kept};
-ghost use Rattle.off_heap_list.specs.Links.{IsLink};
+ghost use Rattle.shared_rec.specs.Record.{count_in};
+ghost use Rattle.off_heap_list.specs.Links.{named, IsLink, Links};
+ghost use Rattle.off_heap_list.specs.Swept.{is_moved, new_place, IsOld, Sweeping};
 
 /// A shared binary that stands, and a fun, can be chained, but for one at place 0.
 pub fn holders_and_funs_are_links()
@@ -17,4 +19,23 @@ pub fn holders_and_funs_are_links()
 /// An object that can be chained can be still where content is kept.
 pub fn chained_objects_stay()
     ensures { (c d : ℕ → ℕ → Bool) (old new : List ℕ) (p : ℕ) → Kept c d old new → IsLink c old p → IsLink d new p }
+{}
+
+/// Where a sweep is not at its end, the next object lies in the memory, at its new place too, and the record of one that was
+/// left behind counts it.
+pub fn sweeps_go_on()
+    ensures object { (c : ℕ → ℕ → Bool) (mem : List ℕ) (head p first : ℕ) (os kept further : List ℕ) → Sweeping c mem head (p ∷ os) first kept further
+        → (head ≡ p) × (head + 6 ≤ length mem) × IsOld c mem head }
+    ensures moved { (c : ℕ → ℕ → Bool) (mem : List ℕ) (head p first : ℕ) (os kept further : List ℕ) → Sweeping c mem head (p ∷ os) first kept further
+        → is_moved mem head ≡ true → new_place mem head + 6 ≤ length mem }
+    ensures of_record { (c : ℕ → ℕ → Bool) (mem : List ℕ) (head p first : ℕ) (os kept further : List ℕ) → Sweeping c mem head (p ∷ os) first kept further
+        → is_moved mem head ≡ false → named mem head + 4 ≤ length mem }
+    ensures count { (c : ℕ → ℕ → Bool) (mem : List ℕ) (head p first : ℕ) (os kept further : List ℕ) → Sweeping c mem head (p ∷ os) first kept further
+        → is_moved mem head ≡ false → 1 ≤ count_in mem (named mem head) }
+{}
+
+/// Where every object was seen, the new chain has exactly the objects that were moved, and counts are namings by it.
+pub fn sweeps_end()
+    ensures { (c : ℕ → ℕ → Bool) (mem : List ℕ) (head first : ℕ) (kept further : List ℕ)
+        → Sweeping c mem head [] first kept further → Links c mem first kept further }
 {}

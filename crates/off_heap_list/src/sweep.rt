@@ -1,13 +1,13 @@
 // A chain after a collection.
-ghost use Rattle.std.specs.Prelude.{◌≡◌, ℕ, ◌+◌, ◌-◌, ◌<◌, ◌≤◌, Bool, true, false, List, Some, None, length, slice_set};
-ghost use Rattle.term_words.specs.Role.{Idle};
+ghost use Rattle.std.specs.Prelude.{◌≡◌, ℕ, ◌+◌, ◌-◌, ◌<◌, ◌≤◌, Bool, true, false, List, ◌∷◌, Some, None, length, slice_set};
+ghost use Rattle.term_words.specs.Role.{IsSingle, Idle};
 ghost use Rattle.term_words.specs.Kept.{Keeps};
 ghost use Rattle.shared_rec.specs.Record.{count_in};
 ghost use Rattle.off_heap_list.specs.Links.{named, next_in};
-ghost use Rattle.off_heap_list.specs.Swept.{is_moved, new_place, held_words, freed_at};
+ghost use Rattle.off_heap_list.specs.Swept.{is_moved, new_place, held_words, freed_at, joined, Relinked, IsOld, Sweeping};
 
 use crate::chains::freed_by;
-use crate::links::{next_of, record_of};
+use crate::links::{next_of, record_of, set_next};
 use shared_rec::drop_one;
 use term_tags::{HOLDER, head_of};
 use word_mem::WordMem;
@@ -57,6 +57,48 @@ pub fn sweep_one(mem: &mut WordMem, at: u64) -> Swept
         freed,
         words: 0,
     }
+}
+
+/// A sweep of a chain: the object of the old chain that comes next, 0 at its end, and the first object of the new chain,
+/// which has those that were moved, the last one first. It begins at the old chain's first object, with no new chain: 0.
+#[derive(Clone, Copy)]
+pub struct Sweep {
+    pub rest: u64,
+    pub first: u64,
+}
+
+/// Sweeps the next object: one that was moved joins the new chain, the record of one that was left behind does not count it
+/// any more. The answer is what became of it. Every tree stands at every moment.
+pub fn sweep_next(mem: &mut WordMem, sweep: &mut Sweep) -> Swept
+    requires object { sweep.old.rest + 6 ≤ length mem.old }
+    requires moved { is_moved mem.old sweep.old.rest ≡ true → new_place mem.old sweep.old.rest + 6 ≤ length mem.old }
+    requires of_record { is_moved mem.old sweep.old.rest ≡ false → named mem.old sweep.old.rest + 4 ≤ length mem.old }
+    requires count { is_moved mem.old sweep.old.rest ≡ false → 1 ≤ count_in mem.old (named mem.old sweep.old.rest) }
+    ensures rest { (sweep.new.rest ≡ next_in mem.old sweep.old.rest) × (result.next ≡ next_in mem.old sweep.old.rest) }
+    ensures moved { is_moved mem.old sweep.old.rest ≡ true
+        → (result.moved ≡ Some (new_place mem.old sweep.old.rest)) × (result.freed ≡ None)
+        × (result.words ≡ held_words mem.old (new_place mem.old sweep.old.rest))
+        × (sweep.new.first ≡ new_place mem.old sweep.old.rest) × (mem.new ≡ slice_set mem.old (new_place mem.old sweep.old.rest + 2) sweep.old.first) }
+    ensures left { is_moved mem.old sweep.old.rest ≡ false
+        → (result.moved ≡ None) × (result.freed ≡ freed_at (named mem.old sweep.old.rest) (count_in mem.old (named mem.old sweep.old.rest) - 1))
+        × (result.words ≡ 0) × (sweep.new.first ≡ sweep.old.first)
+        × (mem.new ≡ slice_set mem.old (named mem.old sweep.old.rest + 2) (count_in mem.old (named mem.old sweep.old.rest) - 1)) }
+    ensures writes { (c : ℕ → ℕ → Bool) → IsOld c mem.old sweep.old.rest → Relinked c mem.old mem.new }
+    ensures kept { (c : ℕ → ℕ → Bool) → IsSingle c → IsOld c mem.old sweep.old.rest → Keeps c c mem.old mem.new }
+    ensures goes_on { (c : ℕ → ℕ → Bool) (p : ℕ) (os kept further : List ℕ) → IsSingle c
+        → Sweeping c mem.old sweep.old.rest (p ∷ os) sweep.old.first kept further
+        → Sweeping c mem.new sweep.new.rest os sweep.new.first (joined mem.old sweep.old.rest kept) further }
+{
+    let _len = mem.len();
+    let at = sweep.rest;
+    let word = mem.get(at);
+    let swept = sweep_one(mem, at);
+    sweep.rest = swept.next;
+    if word % 4 == 2 {
+        set_next(mem, word / 4, sweep.first);
+        sweep.first = word / 4;
+    }
+    swept
 }
 
 // The words of the bytes that a holder has, 0 for a fun.
