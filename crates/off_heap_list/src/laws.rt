@@ -6,6 +6,7 @@ ghost use Rattle.term_words.specs.Stands.{Stands};
 ghost use Rattle.term_words.specs.Kept.{Kept};
 ghost use Rattle.shared_rec.specs.Record.{count_in};
 ghost use Rattle.off_heap_list.specs.Links.{named, IsLink, Links};
+ghost use Rattle.off_heap_list.specs.Exact.{ListsHeld, Exact};
 ghost use Rattle.off_heap_list.specs.Swept.{is_moved, new_place, IsOld, Sweeping};
 
 /// A shared binary that stands, and a fun, can be chained, but for one at place 0.
@@ -38,4 +39,10 @@ pub fn sweeps_go_on()
 pub fn sweeps_end()
     ensures { (c : ℕ → ℕ → Bool) (mem : List ℕ) (head first : ℕ) (kept further : List ℕ)
         → Sweeping c mem head [] first kept further → Links c mem first kept further }
+{}
+
+/// Where a chain lists exactly the holders and funs that the roots reach, and nothing beside it names a record, each record's
+/// count is the number of them that name it.
+pub fn chains_of_what_is_reached_count_exactly()
+    ensures { (c : ℕ → ℕ → Bool) (mem roots : List ℕ) (head : ℕ) (os : List ℕ) → Links c mem head os [] → ListsHeld c mem roots os → Exact c mem roots }
 {}

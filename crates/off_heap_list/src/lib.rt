@@ -7,6 +7,9 @@ mod links;
 mod sweep;
 
 pub use chains::{Unchained, chain, unchain};
-pub use laws::{chained_objects_stay, holders_and_funs_are_links, sweeps_end, sweeps_go_on};
+pub use laws::{
+    chained_objects_stay, chains_of_what_is_reached_count_exactly, holders_and_funs_are_links,
+    sweeps_end, sweeps_go_on,
+};
 pub use links::{next_of, record_of, set_next, set_record};
 pub use sweep::{Sweep, Swept, sweep_next, sweep_one};
