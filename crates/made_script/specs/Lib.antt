@@ -3,3 +3,4 @@ pub mod Lines
 pub mod Pieces
 pub mod Script
 pub mod Figures
+pub mod Worked
