@@ -7,3 +7,4 @@ pub mod One
 pub mod Image
 pub mod Doing
 pub mod Print
+pub mod Figures
