@@ -1,5 +1,5 @@
 -- The order of two trees is that of their words, and then that of their parts.
-use Rattle.std.proofs.Common.{◌≡◌, ℕ, ◌+◌, ◌-◌, ◌*◌, ◌^◌, ◌<◌, ◌==◌, nat_lt, if◌then◌else◌, ◌&&◌, Bool, true, false, List, [], length, refl, sym, ◌∙◌, ap, subst, inl, inr, arith, ℤ, pos, negsuc}
+use Rattle.std.proofs.Common.{◌≡◌, ℕ, ◌+◌, ◌-◌, ◌*◌, ◌^◌, ◌<◌, ◌==◌, nat_lt, if◌then◌else◌, ◌&&◌, Bool, true, false, List, [], ◌∷◌, length, refl, sym, ◌∙◌, ap, subst, inl, inr, arith, ℤ, pos, negsuc}
 use Rattle.std.proofs.lemmas.Bool.Decides.{nat_tests}
 use Rattle.std.proofs.lemmas.Cmp.{ranked}
 use Rattle.std.specs.Ordering.{int_cmp, nat_cmp, ordering_then}
@@ -18,6 +18,7 @@ use Rattle.term_words.proofs.Pairs.{keys-len, values-len}
 use Rattle.term_read.specs.Look.{HasDigits, IsSeen, LiesIn}
 use Rattle.term_read.specs.declared.looks.Digits.{Digits}
 use Rattle.term_read.specs.declared.looks.Look.{Look}
+use Rattle.term_read.specs.declared.looks.Look.TheVariants as look
 use Rattle.term_walk.specs.Left.{parts_of}
 use Rattle.term_order.specs.Named.{is_named, are_named, pairs_named}
 use Rattle.term_order.specs.Own.{look_rank, signed, look_int, look_name, look_first, look_second, look_third, look_data, IsBytes, IsReadable, looks_order}
@@ -286,7 +287,7 @@ looks-own c names shared mem v w t u l m e f =
 
 -- All that is compared can be read.
 
-both-true : (a b : Bool) → (a && b) ≡ true → (a ≡ true) × (b ≡ true)
+pub both-true : (a b : Bool) → (a && b) ≡ true → (a ≡ true) × (b ≡ true)
 both-true true b e = (refl, e)
 both-true false b e = absurd cc
 
@@ -360,3 +361,16 @@ pub step-named : (n : ℕ) (now next : Tree) (rest after : Trees) → is_named n
 step-named n now next rest after p q e =
     let all : are_named n (next ▹ after) ≡ true = sym (ap (are_named n) e) ∙ are-append n (parts_of now) rest (parts-named n now p) q in
     both-true (is_named n next) (are_named n after) all
+
+-- Two conses do not differ before their parts.
+
+no-more : (xs : List ℕ) → 0 ≡ length xs → xs ≡ []
+no-more [] e = refl
+no-more (x ∷ xs) e = absurd (omega (arith, e))
+
+pub conses-same : (mem : List ℕ) (names : List (List ℕ)) (l m : Look) (p q : ℕ) (xs ys : List ℕ) → l ≡ look.Cons p → m ≡ look.Cons q → IsBytes mem (look_data l) xs → IsBytes mem (look_data m) ys
+    → Equal ≡ looks_order names l m xs ys
+conses-same mem names l m p q xs ys el em hx hy =
+    let ex : xs ≡ [] = no-more xs (sym (ap (λ z. (look_data z).len) el) ∙ hx.count) in
+    let ey : ys ≡ [] = no-more ys (sym (ap (λ z. (look_data z).len) em) ∙ hy.count) in
+    sym (λ i. looks_order names (el i) (em i) (ex i) (ey i))

@@ -5,23 +5,28 @@ use Rattle.std.specs.Ordering.{ordering_then, ordering_index}
 use Rattle.std.specs.declared.cmp.Ordering.{Ordering}
 use Rattle.std.specs.declared.cmp.Ordering.TheVariants as ordering
 use Rattle.plain_term.specs.Tree.{Tree, Trees, trees_append}
+use Rattle.plain_term.specs.Tree.Tree.{Int, Atom, Pid, Ref, Nil, Cons, Tuple, Map, Bin, Shared, Part, Fun}
+use Rattle.plain_term.specs.Tree.Trees.{◌▹◌}
 use Rattle.plain_term.specs.Bytes.{bytes_of}
 use Rattle.plain_term.specs.Measures.{nodes, nodes_of_all, depth}
 use Rattle.plain_term.specs.Beyond.{node_limit, depth_limit, is_beyond}
 use Rattle.plain_term.specs.Order.{order, order_of_all}
 use Rattle.term_words.specs.Role.{always}
 use Rattle.term_words.specs.Stands.{Stands, IsTerm}
+use Rattle.term_words.proofs.Single.{single}
+use Rattle.std.proofs.lemmas.Cmp.{tied_itself}
+use Rattle.plain_term.proofs.TokenLemmas.{order_total}
 use Rattle.term_read.specs.Look.{IsSeen, Sees, LiesIn}
 use Rattle.term_read.specs.declared.looks.Look.{Look}
 use Rattle.term_read.specs.declared.looks.Look.TheVariants as look
 use Rattle.term_walk.specs.declared.levels.Rest.{Rest}
-use Rattle.term_walk.specs.Left.{AreLeft, left_of, deepest, parts_of, CanGo}
+use Rattle.term_walk.specs.Left.{AreLeft, left_of, deepest, parts_of, CanGo, HasLeft, IsNext, Yields}
 use Rattle.term_walk.specs.Weights.{nodes_in}
 use Rattle.term_walk.proofs.Sums.{nodes-append, nodes-own}
 use Rattle.term_order.specs.Named.{is_named, are_named}
 use Rattle.term_order.specs.Own.{look_data, IsReadable, IsBytes, looks_order}
 use Rattle.term_order.specs.Compared.{AreNamed, AreWithin, Orders, at_end, IsStep, Steps}
-use Rattle.term_order.proofs.Owning.{own_order, order-own, order-append, own-len, own-bytes, looks-own, readable, step-named}
+use Rattle.term_order.proofs.Owning.{own_order, order-own, order-append, own-len, own-bytes, looks-own, readable, both-true, step-named}
 
 -- A walk over a tree is at a word, after so many steps: no more nodes are left, it is nowhere deeper, and it meets no other names.
 pub record Walking (c : ℕ → ℕ → Bool) (shared : List (List ℕ)) (mem : List ℕ) (n : ℕ) (t : Tree) (word : ℕ) (levels : List Rest) (steps : ℕ) : Type 0 where
@@ -31,7 +36,7 @@ pub record Walking (c : ℕ → ℕ → Bool) (shared : List (List ℕ)) (mem : 
   pub left : AreLeft c shared mem levels rests
   pub few : length levels ≤ depth_limit
   pub nodes_are : steps + (nodes shared now + nodes_of_all shared (left_of rests)) ≤ nodes shared t
-  pub depth_is : max depth_limit (depth t) ≡ max depth_limit (max (length levels + depth now) (deepest levels rests))
+  pub depth_is : max (length levels + depth now) (deepest levels rests) ≤ max depth_limit (depth t)
   pub named : is_named n t ≡ true → (is_named n now ≡ true) × (are_named n (left_of rests) ≡ true)
 
 -- Two walks are at two words, and the order of their trees is that of what is left.
@@ -81,11 +86,43 @@ walk-on c shared mem n t word next levels new l steps k sees g = record {
   left = g.left;
   few = g.few;
   nodes_are = omega (arith, k.nodes_are, nodes-own c shared mem word k.now l sees, one-node l, nodes-append shared (parts_of k.now) (left_of k.rests), ap (nodes_of_all shared) g.order);
-  depth_is = k.depth_is ∙ g.depths;
+  depth_is = omega (arith, k.depth_is, g.depths);
   named = λ e. step-named n k.now g.now (left_of k.rests) (left_of g.rests) (k.named e).0 (k.named e).1 g.order;
 }
 
--- Where the two words are equal, the order is that of the parts and of what is left behind them.
+-- A step past a word and its parts.
+
+one-tree : (shared : List (List ℕ)) (t : Tree) → 1 ≤ nodes shared t
+one-tree shared (Int i) = omega arith
+one-tree shared (Atom k) = omega arith
+one-tree shared (Pid n) = omega arith
+one-tree shared (Ref n k) = omega arith
+one-tree shared (Nil) = omega arith
+one-tree shared (Cons h t) = omega arith
+one-tree shared (Tuple ts) = omega arith
+one-tree shared (Map ps) = omega arith
+one-tree shared (Bin bytes) = omega arith
+one-tree shared (Shared id) = omega arith
+one-tree shared (Part base offset len) = omega arith
+one-tree shared (Fun f a c env) = omega arith
+
+past-named : (n : ℕ) (next : Tree) (rest after : Trees) → are_named n rest ≡ true → rest ≡ next ▹ after → (is_named n next ≡ true) × (are_named n after ≡ true)
+past-named n next rest after q e = both-true (is_named n next) (are_named n after) (sym (ap (are_named n) e) ∙ q)
+
+walk-past : (c : ℕ → ℕ → Bool) (shared : List (List ℕ)) (mem : List ℕ) (n : ℕ) (t : Tree) (word next : ℕ) (levels new : List Rest) (steps : ℕ)
+    → (k : Walking c shared mem n t word levels steps) → IsNext c shared mem levels k.rests (Some next) new → Walking c shared mem n t next new (steps + 1)
+walk-past c shared mem n t word next levels new steps k g = record {
+  now = g.now;
+  rests = g.rests;
+  standing = g.standing;
+  left = g.left;
+  few = g.few;
+  nodes_are = omega (arith, k.nodes_are, one-tree shared k.now, ap (nodes_of_all shared) g.order);
+  depth_is = omega (arith, k.depth_is, g.depths);
+  named = λ e. past-named n g.now (left_of k.rests) (left_of g.rests) (k.named e).1 g.order;
+}
+
+-- Where the two words do not differ before their parts, the order is that of the parts and of what is left behind them.
 order-parts : (c : ℕ → ℕ → Bool) (shared : List (List ℕ)) (mem : List ℕ) (names : List (List ℕ)) (t u : Tree) (x y : ℕ) (left right : List Rest) (steps : ℕ)
     → (k : Comparing c shared mem names t u x y left right steps) → own_order names shared k.first.now k.second.now ≡ ordering.Equal
     → order names shared t u ≡ order_of_all names shared (trees_append (parts_of k.first.now) (left_of k.first.rests)) (trees_append (parts_of k.second.now) (left_of k.second.rests))
@@ -226,6 +263,74 @@ module _ (mem : List ℕ) (names : List (List ℕ)) (a b x y : ℕ) (left right 
   pub orders-more : (v : ℕ) → p ≡ Some v → q ≡ None → Orders mem names a b ordering.Greater
   orders-more v ep eq = record { each = λ c shared t u st su. some-order c shared t u v st su ep eq }
 
+as-next : (c : ℕ → ℕ → Bool) (shared : List (List ℕ)) (mem : List ℕ) (old : List Rest) (rests : List Trees) (p q : Option ℕ) (new : List Rest) → p ≡ q
+    → IsNext c shared mem old rests p new → IsNext c shared mem old rests q new
+as-next c shared mem old rests p q new e s = let P : Option ℕ → Type 0 = λ z. IsNext c shared mem old rests z new in subst P e s
+
+-- Two walks at one word go on past it.
+module _ (mem : List ℕ) (names : List (List ℕ)) (a b x y : ℕ) (left right : List Rest) (steps : ℕ) (k : Comparisons mem names a b x y left right steps) (same : x ≡ y)
+    (p q : Option ℕ) (left2 right2 : List Rest) (np : Yields mem left p left2) (nq : Yields mem right q right2) where
+  past-order : (c : ℕ → ℕ → Bool) (shared : List (List ℕ)) (t u : Tree) (st : Stands c shared mem a t) (su : Stands c shared mem b u)
+      → order names shared t u ≡ order_of_all names shared (left_of (k c shared t u st su).first.rests) (left_of (k c shared t u st su).second.rests)
+  past-order c shared t u st su =
+      let here : Comparing c shared mem names t u x y left right steps = k c shared t u st su in
+      let P : ℕ → Type 0 = λ z. Stands c shared mem z here.second.now in
+      let tree : here.first.now ≡ here.second.now = single c c shared shared mem x here.first.now here.second.now here.first.standing (subst P (sym same) here.second.standing) in
+      let behind : Ordering = order_of_all names shared (left_of here.first.rests) (left_of here.second.rests) in
+      here.order_is
+      ∙ ap (λ z. ordering_then (order names shared z here.second.now) behind) tree
+      ∙ ap (λ z. ordering_then z behind) (tied_itself (order_total names shared) here.second.now)
+
+  first-past : (c : ℕ → ℕ → Bool) (shared : List (List ℕ)) (t u : Tree) (st : Stands c shared mem a t) (su : Stands c shared mem b u) (o : Option ℕ) → p ≡ o
+      → IsNext c shared mem left (k c shared t u st su).first.rests o left2
+  first-past c shared t u st su o e =
+      let here : Walking c shared mem (length names) t x left steps = (k c shared t u st su).first in
+      as-next c shared mem left here.rests p o left2 e (np.each c shared here.rests here.few here.left)
+
+  second-past : (c : ℕ → ℕ → Bool) (shared : List (List ℕ)) (t u : Tree) (st : Stands c shared mem a t) (su : Stands c shared mem b u) (o : Option ℕ) → q ≡ o
+      → IsNext c shared mem right (k c shared t u st su).second.rests o right2
+  second-past c shared t u st su o e =
+      let here : Walking c shared mem (length names) u y right steps = (k c shared t u st su).second in
+      as-next c shared mem right here.rests q o right2 e (nq.each c shared here.rests here.few here.left)
+
+  past-both : (v z : ℕ) → p ≡ Some v → q ≡ Some z → (c : ℕ → ℕ → Bool) (shared : List (List ℕ)) (t u : Tree) → Stands c shared mem a t → Stands c shared mem b u
+      → Comparing c shared mem names t u v z left2 right2 (steps + 1)
+  unfolding walk-past
+  past-both v z ep eq c shared t u st su =
+      let here : Comparing c shared mem names t u x y left right steps = k c shared t u st su in
+      let gp : IsNext c shared mem left here.first.rests (Some v) left2 = first-past c shared t u st su (Some v) ep in
+      let gq : IsNext c shared mem right here.second.rests (Some z) right2 = second-past c shared t u st su (Some z) eq in
+      record {
+        first = walk-past c shared mem (length names) t x v left left2 steps here.first gp;
+        second = walk-past c shared mem (length names) u y z right right2 steps here.second gq;
+        order_is = past-order c shared t u st su ∙ (λ i. order_of_all names shared (gp.order i) (gq.order i));
+      }
+
+  pub compares-past : (v z : ℕ) → p ≡ Some v → q ≡ Some z → Comparisons mem names a b v z left2 right2 (steps + 1)
+  compares-past v z ep eq = λ c shared t u st su. past-both v z ep eq c shared t u st su
+
+  past-none : (c : ℕ → ℕ → Bool) (shared : List (List ℕ)) (t u : Tree) → Stands c shared mem a t → Stands c shared mem b u → p ≡ None → (o : Option ℕ) → q ≡ o → at_end o ≡ order names shared t u
+  past-none c shared t u st su ep None eq =
+      let gp : IsNext c shared mem left (k c shared t u st su).first.rests None left2 = first-past c shared t u st su None ep in
+      let gq : IsNext c shared mem right (k c shared t u st su).second.rests None right2 = second-past c shared t u st su None eq in
+      sym (past-order c shared t u st su ∙ (λ i. order_of_all names shared (gp.none i) (gq.none i)))
+  past-none c shared t u st su ep (Some z) eq =
+      let gp : IsNext c shared mem left (k c shared t u st su).first.rests None left2 = first-past c shared t u st su None ep in
+      let gq : IsNext c shared mem right (k c shared t u st su).second.rests (Some z) right2 = second-past c shared t u st su (Some z) eq in
+      sym (past-order c shared t u st su ∙ (λ i. order_of_all names shared (gp.none i) (gq.order i)))
+
+  pub orders-end-past : (o : Ordering) → p ≡ None → o ≡ at_end q → Orders mem names a b o
+  orders-end-past o ep eo = record { each = λ c shared t u st su. eo ∙ past-none c shared t u st su ep q refl }
+
+  past-some : (c : ℕ → ℕ → Bool) (shared : List (List ℕ)) (t u : Tree) (v : ℕ) → Stands c shared mem a t → Stands c shared mem b u → p ≡ Some v → q ≡ None → ordering.Greater ≡ order names shared t u
+  past-some c shared t u v st su ep eq =
+      let gp : IsNext c shared mem left (k c shared t u st su).first.rests (Some v) left2 = first-past c shared t u st su (Some v) ep in
+      let gq : IsNext c shared mem right (k c shared t u st su).second.rests None right2 = second-past c shared t u st su None eq in
+      sym (past-order c shared t u st su ∙ (λ i. order_of_all names shared (gp.order i) (gq.none i)))
+
+  pub orders-more-past : (v : ℕ) → p ≡ Some v → q ≡ None → Orders mem names a b ordering.Greater
+  orders-more-past v ep eq = record { each = λ c shared t u st su. past-some c shared t u v st su ep eq }
+
 -- What the calls of a step ask for.
 
 module _ (mem : List ℕ) (names : List (List ℕ)) (a b x y : ℕ) (left right : List Rest) (steps : ℕ) (i : AreNamed mem names a b) (k : Comparisons mem names a b x y left right steps) where
@@ -250,8 +355,14 @@ module _ (mem : List ℕ) (names : List (List ℕ)) (a b x y : ℕ) (left right 
   pub second-go : (l : Look) → Sees mem y l → CanGo mem right l
   second-go l sees = record { shared = i.shared; word = y; now = start.second.now; rests = start.second.rests; standing = start.second.standing; seen = sees.each always i.shared start.second.now start.second.standing; few = start.second.few; left = start.second.left }
 
-  pub steps-few : (l : Look) → AreWithin mem a b → Sees mem x l → steps < node_limit
-  steps-few l w sees = omega (arith, start.first.nodes_are, nodes-own always i.shared mem x start.first.now l (sees.each always i.shared start.first.now start.first.standing), one-node l, (within-depth i.shared i.first (w.first always i.shared i.first i.first_stands)).0)
+  pub steps-few : AreWithin mem a b → steps < node_limit
+  steps-few w = omega (arith, start.first.nodes_are, one-tree i.shared start.first.now, (within-depth i.shared i.first (w.first always i.shared i.first i.first_stands)).0)
+
+  pub first-left : HasLeft mem left
+  first-left = record { shared = i.shared; rests = start.first.rests; few = start.first.few; left = start.first.left }
+
+  pub second-left : HasLeft mem right
+  second-left = record { shared = i.shared; rests = start.second.rests; few = start.second.few; left = start.second.left }
 
 -- A test of equality with the order of equal terms.
 

@@ -12,7 +12,7 @@ use arrayvec::ArrayVec;
 use atom_names::AtomNames;
 use std::cmp::Ordering;
 use term_read::{Look, look_at};
-use term_walk::{DEPTH_LIMIT, Further, Measured, Rest, go_on, measure};
+use term_walk::{DEPTH_LIMIT, Further, Measured, Rest, go_on, measure, next_word};
 use word_mem::WordMem;
 
 /// The order of two terms; `Beyond` exactly where one of them is beyond the walk limit.
@@ -44,7 +44,8 @@ fn is_beyond(mem: &WordMem, w: u64) -> bool
     }
 }
 
-// The order of two terms within the walk limit: that of the first words of their walks that differ.
+// The order of two terms within the walk limit: that of the first words of their walks that differ. Where both
+// walks are at one word, they pass over its parts.
 fn order_within(mem: &WordMem, names: &AtomNames, a: u64, b: u64) -> Ordering
     requires named { AreNamed mem.now names.now a b }
     requires within { AreWithin mem.now a b }
@@ -56,6 +57,20 @@ fn order_within(mem: &WordMem, names: &AtomNames, a: u64, b: u64) -> Ordering
     let mut y = b;
     let mut steps: u64 = 0;
     loop {
+        if x == y {
+            let p = next_word(mem, &mut left);
+            let q = next_word(mem, &mut right);
+            let Some(p) = p else {
+                return ended(q);
+            };
+            let Some(q) = q else {
+                return Ordering::Greater;
+            };
+            x = p;
+            y = q;
+            steps += 1;
+            continue;
+        }
         let l = look_at(mem, x);
         let m = look_at(mem, y);
         let order = order_looks(mem, names, l, m);

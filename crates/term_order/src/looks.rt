@@ -15,6 +15,11 @@ pub fn order_looks(mem: &WordMem, names: &AtomNames, l: Look, m: Look) -> Orderi
     requires second { IsReadable mem.now names.now m }
     ensures { (xs ys : List ℕ) → IsBytes mem.now (look_data l) xs → IsBytes mem.now (look_data m) ys → result ≡ looks_order names.now l m xs ys }
 {
+    if let Look::Cons(_) = l {
+        if let Look::Cons(_) = m {
+            return Ordering::Equal;
+        }
+    }
     let kinds = rank(l).cmp(&rank(m));
     let values = integer(mem, names, l).cmp(&integer(mem, names, m));
     let named = name(mem, names, l).cmp(name(mem, names, m));

@@ -91,8 +91,8 @@ fn rest_of(look: Look) -> Option<Rest>
     }
 }
 
-// Takes the first word that is left; levels without one are let go.
-fn next_word(mem: &WordMem, levels: &mut ArrayVec<Rest, DEPTH_LIMIT>) -> Option<u64>
+/// Takes the first word that is left, whatever the parts of the word before; levels without one are let go.
+pub fn next_word(mem: &WordMem, levels: &mut ArrayVec<Rest, DEPTH_LIMIT>) -> Option<u64>
     requires { HasLeft mem.now (reverse levels.old.items) }
     ensures { Yields mem.now (reverse levels.old.items) result (reverse levels.new.items) }
 {

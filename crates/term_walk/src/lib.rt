@@ -6,7 +6,7 @@ mod measured;
 mod measuring;
 mod weights;
 
-pub use levels::{DEPTH_LIMIT, Further, NODE_LIMIT, Rest, go_on};
+pub use levels::{DEPTH_LIMIT, Further, NODE_LIMIT, Rest, go_on, next_word};
 pub use measured::{Measure, Measured};
 pub use measuring::measure;
 pub use weights::{own_flat, own_nodes};

@@ -3,8 +3,8 @@ use Rattle.plain_term.specs.Beyond.{node_limit}
 use Rattle.term_order.proofs.Walks.{Comparisons}
 use Rattle.term_order.proofs.comparing.order_within.Given as goal
 
-abbrev pub invariant-loop-left : goal.invariant-loop-left
-invariant-loop-left l = Comparisons l.mem l.names l.a l.b l.x l.y (reverse l.left.items) (reverse l.right.items) l.steps
+abbrev pub invariant-loop-x : goal.invariant-loop-x
+invariant-loop-x l = Comparisons l.mem l.names l.a l.b l.x l.y (reverse l.left.items) (reverse l.right.items) l.steps
 
-abbrev pub decreases-loop-left : goal.decreases-loop-left
-decreases-loop-left l = node_limit - l.steps
+abbrev pub decreases-loop-x : goal.decreases-loop-x
+decreases-loop-x l = node_limit - l.steps
