@@ -11,7 +11,7 @@ use Rattle.term_words.specs.Role.{always}
 use Rattle.term_words.specs.Object.{byte_of, BytesLie, IsObject}
 use Rattle.term_words.specs.Stands.{Stands, RowStands, KeysStand, ValuesStand, IsTerm}
 
-lists : List (List ℕ)
+pub lists : List (List ℕ)
 lists = (1 ∷ 2 ∷ []) ∷ []
 
 object : (p n : ℕ) → p + n ≤ length sample → IsObject always sample p n
@@ -46,23 +46,23 @@ lies q bytes h = record {
       subst P (sym place) (lies-below sample q bytes (bin_words (length bytes) * 8) h i below);
 }
 
-the-list : Stands always lists sample 5 (Cons (Int (pos 1)) Nil)
+pub the-list : Stands always lists sample 5 (Cons (Int (pos 1)) Nil)
 unfolding Stands
 the-list = (record { tag = refl; object = object 1 2 (lit≤ tt) }, inl (record { small = refl; word = refl }), refl)
 
-the-tuple : Stands always lists sample 14 (Tuple (Atom 5 ▹ Cons (Int (pos 1)) Nil ▹ end))
+pub the-tuple : Stands always lists sample 14 (Tuple (Atom 5 ▹ Cons (Int (pos 1)) Nil ▹ end))
 unfolding Stands RowStands
 the-tuple = (record { range = lit≤ tt; boxed = record { tag = refl; header = refl; object = object 3 3 (lit≤ tt) } }, (record { range = lit< tt; word = refl }, (the-list, tt)))
 
-the-empty : Stands always lists sample 190 (Tuple end)
+pub the-empty : Stands always lists sample 190 (Tuple end)
 unfolding Stands RowStands
 the-empty = (record { range = lit≤ tt; boxed = record { tag = refl; header = refl; object = object 47 1 (lit≤ tt) } }, tt)
 
-the-bytes : Stands always lists sample 26 (Bin (7 ∷ 8 ∷ 9 ∷ []))
+pub the-bytes : Stands always lists sample 26 (Bin (7 ∷ 8 ∷ 9 ∷ []))
 unfolding Stands lie
 the-bytes = record { range = lit≤ tt; boxed = record { tag = refl; header = refl; object = object 6 3 (lit≤ tt) }; size = refl; content = lies 8 (7 ∷ 8 ∷ 9 ∷ []) refl }
 
-the-shared : Stands always lists sample 58 (Shared 1)
+pub the-shared : Stands always lists sample 58 (Shared 1)
 unfolding Stands lie lists
 the-shared = record {
   from_one = lit< tt;
@@ -71,11 +71,11 @@ the-shared = record {
   record_is = record { within = lit≤ tt; header = refl; owner = refl; size = refl; content = lies 13 (1 ∷ 2 ∷ []) refl; first = refl; second = refl; counted = refl; others = λ q from below. refl };
 }
 
-the-part : Stands always lists sample 82 (Part (Shared 1) 1 1)
+pub the-part : Stands always lists sample 82 (Part (Shared 1) 1 1)
 unfolding Stands lists
 the-part = (record { boxed = record { tag = refl; header = refl; object = object 20 5 (lit≤ tt) }; size = refl; start = refl; bits = refl; inside = lit≤ tt }, tt, the-shared)
 
-the-fun : Stands always lists sample 118 (Fun 3 2 1 (Int (pos 4) ▹ end))
+pub the-fun : Stands always lists sample 118 (Fun 3 2 1 (Int (pos 4) ▹ end))
 unfolding Stands RowStands
 the-fun = (
   record {
@@ -96,7 +96,7 @@ the-fun = (
   (inl (record { small = refl; word = refl }), tt),
 )
 
-the-map : Stands always lists sample 154 (Map (pair (Atom 1) (Int (pos 9)) stop))
+pub the-map : Stands always lists sample 154 (Map (pair (Atom 1) (Int (pos 9)) stop))
 unfolding Stands KeysStand ValuesStand
 the-map = (
   record {
@@ -109,15 +109,15 @@ the-map = (
   (inl (record { small = refl; word = refl }), tt),
 )
 
-the-reference : Stands always lists sample 170 (Ref 1 7)
+pub the-reference : Stands always lists sample 170 (Ref 1 7)
 unfolding Stands
 the-reference = record { boxed = record { tag = refl; header = refl; object = object 42 3 (lit≤ tt) }; number = refl; count = refl }
 
-the-big : Stands always lists sample 182 (Int (pos 9223372036854775808))
+pub the-big : Stands always lists sample 182 (Int (pos 9223372036854775808))
 unfolding Stands
 the-big = inr (inl (record { big = refl; boxed = record { tag = refl; header = refl; object = object 45 2 (lit≤ tt) }; digit = refl; range = lit< tt }))
 
-the-wide : Stands always lists sample 194 (Int (pos 18446744073709551616))
+pub the-wide : Stands always lists sample 194 (Int (pos 18446744073709551616))
 unfolding Stands
 the-wide = inr (inr (record { boxed = record { tag = refl; header = refl; object = object 48 3 (lit≤ tt) }; low = lit< tt; high = lit< tt; digits = refl; range = lit< tt }))
 

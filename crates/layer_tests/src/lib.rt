@@ -6,6 +6,8 @@ mod arena;
 #[cfg(test)]
 mod building;
 #[cfg(test)]
+mod ladder;
+#[cfg(test)]
 mod lines;
 #[cfg(test)]
 mod names;

@@ -10,7 +10,7 @@ use term_read::{
 use word_mem::{OpenFault, WordMem};
 
 // An object of each kind, after the place of its first word; the word of place p is p * 4 + 1 or + 2.
-const WORDS: [u64; 51] = [
+pub const WORDS: [u64; 51] = [
     0,
     // 1: the list [1]
     31,
@@ -77,7 +77,7 @@ const WORDS: [u64; 51] = [
 ];
 
 // A memory of these words.
-fn laid(alloc: Global, words: &[u64]) -> Result<WordMem, OpenFault>
+pub fn laid(alloc: Global, words: &[u64]) -> Result<WordMem, OpenFault>
     requires least { 1 ≤ length words.now }
     requires most { length words.now ≤ 2 ^ 24 }
     ensures { IfOk result (λ m. m ≡ words.now) }
