@@ -4,3 +4,4 @@ mod Left
 mod Compares
 mod Sorting
 mod Named
+mod Rising

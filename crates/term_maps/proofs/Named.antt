@@ -8,11 +8,11 @@ use Rattle.term_words.specs.Stands.{Stands}
 use Rattle.term_order.specs.Named.{is_named, pairs_named}
 use Rattle.term_maps.specs.Given.{PairsStand, keys_in, KeysNamed}
 
-and-first : (a b : Bool) → a && b ≡ true → a ≡ true
+pub and-first : (a b : Bool) → a && b ≡ true → a ≡ true
 and-first true b h = refl
 and-first false b h = h
 
-and-second : (a b : Bool) → a && b ≡ true → b ≡ true
+pub and-second : (a b : Bool) → a && b ≡ true → b ≡ true
 and-second true b h = h
 and-second false b h = absurd cc
 
