@@ -23,7 +23,7 @@ use Rattle.cheney.proofs.Begins.{has-collected, has-composed}
 use Rattle.cheney.proofs.Next.{has-roles, is-tiled}
 use Rattle.cheney.proofs.Rows.{images-all, images-join, root-in}
 use Rattle.one_space.specs.Stack.{values}
-use Rattle.one_space.specs.Halves.{HalvesStand, HoldTrees, IsLaid, ProcsStand, Standing, depths, end_of, used_in}
+use Rattle.one_space.specs.Halves.{HalvesStand, HoldTrees, IsLaid, ProcsStand, Standing, depths, end_of, front_of, used_in}
 use Rattle.one_space.specs.Reached.{AllReached, held_words, roots_in}
 use Rattle.one_space.specs.Rows.{AreMovedRows, CanMoveRows, Goes, IsAside, RowsMove, RowsMoved}
 use Rattle.one_space.specs.Collecting.{AreSameRows, CanCollect, Collects, IsBetween}
@@ -31,7 +31,8 @@ use Rattle.one_space.specs.declared.halves.Halves.{Halves}
 use Rattle.one_space.specs.declared.table.Proc.{Proc}
 use Rattle.one_space.proofs.Going.{goes-call}
 use Rattle.one_space.proofs.Held.{held-words}
-use Rattle.one_space.proofs.Planned.{AreSides, IsTarget, Target, aside-there, plan_of, rows-move, sides}
+use Rattle.one_space.proofs.Packed.{row-fits}
+use Rattle.one_space.proofs.Planned.{AreSides, IsTarget, Target, aside-there, object-here, plan_of, rows-move, sides}
 use Rattle.one_space.proofs.Rowing.{row-on}
 use Rattle.one_space.proofs.Stacks.{others-in, registers-in, values-in}
 
@@ -234,6 +235,12 @@ module _ (h : Halves) (laid : IsLaid h) (t : Target) (is : IsTarget h t) (x : St
           held-words x.stands.test x.shared h.mem h.low (end_of h) x.named h.procs.items x.processes x.stands.processes,
         )
 
+    once-there : used_in (moved_to h t mem3 mv3.young.top news) ≤ used_in h
+    once-there =
+        let o = whole.filled false in
+        let fits = row-fits (plan_of h x t) on.runs.ready mem3 false t.from mv3.young.top (front_of h) h.top o.each o.row laid.front (object-here h laid t is x) in
+        omega (arith, fits, is.first, is.ends, whole.same_len, both.ends, laid.front, laid.order, laid.places, whole.ends false)
+
 -- The collection.
 module _ (h : Halves) (r : CanCollect h) (t : Target) (is : IsTarget h t) (mv : Moving) (b : IsBetween t.from t.to mv) (rows : List Proc) (table : rows ≡ h.procs.items) where
   pub can-move-rows : CanMoveRows h.mem mv rows t.end
@@ -278,6 +285,7 @@ module _ (h : Halves) (r : CanCollect h) (t : Target) (is : IsTarget h t) (mv : 
                 let x : Standing h = record { named = named; shared = shared; processes = qs; stands = s } in
                 stand-there h r.laid t is x mem2 mv2 news (moved x) mem3 mv3 (on x);
             reached = reached-there h r.laid t is r.standing mem2 mv2 news (moved r.standing) mem3 mv3 (on r.standing);
+            once = once-there h r.laid t is r.standing mem2 mv2 news (moved r.standing) mem3 mv3 (on r.standing);
             bound = λ named shared qs s.
                 let x : Standing h = record { named = named; shared = shared; processes = qs; stands = s } in
                 used-there h r.laid t is x mem2 mv2 news (moved x) mem3 mv3 (on x);

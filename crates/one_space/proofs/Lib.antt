@@ -6,6 +6,7 @@ mod Rowing
 mod AllRows
 mod Held
 mod Planned
+mod Packed
 mod Ended
 mod Tight
 mod Seats

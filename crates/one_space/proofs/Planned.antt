@@ -132,7 +132,7 @@ module _ (h : Halves) (laid : IsLaid h) (t : Target) (is : IsTarget h t) where
     }
 
     -- All objects that are reached lie in the half in use.
-    object-here : (v : ℕ) → Reached (plan_of h x t) v → IsPointer v → (front_of h ≤ v / 4) × (v / 4 + size (plan_of h x t) v ≤ h.top)
+    pub object-here : (v : ℕ) → Reached (plan_of h x t) v → IsPointer v → (front_of h ≤ v / 4) × (v / 4 + size (plan_of h x t) v ≤ h.top)
     unfolding size
     object-here v r i =
         let (u, st) = reached x.stands.test x.shared h.mem (roots_of h) (trees_of x.processes) standing v r in

@@ -30,7 +30,7 @@ pub record CanCollect (h : Halves) : Type 0 where
   pub standing : Standing h
 
 -- A collection: whatever processes the old half stood for, the new one does, and the words in use are at most those that
--- they hold; and every object in the new half is reachable.
+-- they hold, and no more than there were, since each object is copied once; and every object in the new half is reachable.
 pub record Collects (old new : Halves) : Type 0 where
   pub same_len : length new.mem ≡ length old.mem
   pub laid : IsLaid new
@@ -39,6 +39,7 @@ pub record Collects (old new : Halves) : Type 0 where
   pub counted : new.sweeps ≡ old.sweeps + 1
   pub stands : (named : ℕ) (shared : List (List ℕ)) (qs : List Process) → HalvesStand named old shared qs → HalvesStand named new shared qs
   pub reached : AllReached new
+  pub once : used_in new ≤ used_in old
   pub bound : (named : ℕ) (shared : List (List ℕ)) (qs : List Process) → HalvesStand named old shared qs → used_in new ≤ UNUSED + held_words qs
 
 -- A line that asks for so many words looks for n free ones: no more than it asks for where a process lives, else fewer by

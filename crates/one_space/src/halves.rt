@@ -51,7 +51,7 @@ impl Halves {
         n <= self.free()
     }
 
-    /// Moves all that lives to the other half; what is not reached is left behind.
+    /// Moves all that lives to the other half, each object once; what is not reached is left behind.
     pub fn collect(&mut self)
         requires can { CanCollect self.old }
         requires counted { self.old.sweeps < 2 ^ 64 - 1 }
