@@ -59,8 +59,8 @@ pub fn run<S: Source, K: Sink>(
     // Only the program's name may stand on the command line.
     ensures usage { result ≡ Status.Usage ↔ (1 < length words.now) }
 
-    // Each line was answered as by a machine of plain trees, and the store stands for its last state, over the arena of
-    // that many words; else nothing was read or written, and the store is vacant.
+    // Each line was answered as by a machine of plain trees, and the store and its image stand for its last state, over the
+    // arena of that many words; else nothing was read or written, and the store is vacant.
     ensures served { IfServed result
         (Served (record { supply = record { may = may_of_tight; words = ARENA_WORDS }; first = first_state; limits = LIMITS })
         (record { before = S.left source.old; after = S.left source.new })
@@ -87,6 +87,7 @@ pub fn run<S: Source, K: Sink>(
         return Status::Memory;
     };
     let status = serve(&mut machine, &mut reader, source, sink);
+    machine.space.images_stand();
     *store = Store::One(machine);
     status
 }

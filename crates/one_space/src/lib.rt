@@ -2,12 +2,10 @@
 #![tactic(auto)]
 
 mod halves;
-mod laws;
 mod one;
 mod printing;
 mod roots;
 mod space;
 mod table;
 
-pub use laws::images_stand;
 pub use space::{LEAST_WORDS, OneSpace};

@@ -48,6 +48,10 @@ impl Model for OneSpace {
 }
 
 impl OneSpace {
+    ghost use Rattle.plain_machine.specs.Image.{ImageStands};
+    ghost use Rattle.one_space.specs.Image.{image};
+    ghost use Rattle.one_space.specs.One.{OneStands};
+
     /// A space of so many words in which process 1 lives alone. All memory that it will ever need is taken here.
     pub fn start(alloc: Global, words: u64) -> Result<OneSpace, OpenFault>
         requires least { LEAST_WORDS ≤ words }
@@ -83,6 +87,13 @@ impl OneSpace {
                 swept: false,
             },
         })
+    }
+
+    /// The image of the space stands for each state that the space stands for.
+    pub fn images_stand(&self)
+        ensures { (s : State) → OneStands self.now s → ImageStands (image self.now) s }
+    {
+        let _one = &self.one;
     }
 }
 

@@ -26,7 +26,7 @@ returns-clause-served g c =
     let out : Output g.row.K.Denot = record { wrote = g.K.Sink.wrote; faults = g.K.Sink.faults; before = c.args.sink.now; after = c.serve-status.new.sink } in
     let machine : State → Type 0 = StandsWith (Properly (OneStands c.serve-status.new.m.space)) c.serve-status.new.m.names in
     if_served _ before out _ _ _
-    (stands_so _ before out machine (StoreStands ARENA_WORDS (One c.serve-status.new.m)) _ (λ s h. (h, c.serve-status.ensures.words ∙ c.in-Some.ensures.words))
+    (stands_so _ before out machine (StoreStands ARENA_WORDS (One c.serve-status.new.m)) _ (λ s h. (h, c.images_stand.ensures s h.0.0, c.serve-status.ensures.words ∙ c.in-Some.ensures.words))
     (same-rules (λ r. Served r before out machine c.serve-status.result) _ _ _ _ _ _ c.in-Some.ensures.words c.in-Ok.ensures.limits all))
 
 pub returns-clause-write_told : goal.returns-clause-write_told
