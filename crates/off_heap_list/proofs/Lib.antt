@@ -1,3 +1,4 @@
 pub mod Chained
 pub mod Sweeping
 pub mod Exact
+pub mod Turning

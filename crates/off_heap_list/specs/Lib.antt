@@ -1,3 +1,4 @@
 pub mod Links
 pub mod Swept
 pub mod Exact
+pub mod Turned

@@ -7,6 +7,7 @@ ghost use Rattle.term_words.specs.Kept.{Kept};
 ghost use Rattle.shared_rec.specs.Record.{count_in};
 ghost use Rattle.off_heap_list.specs.Links.{named, IsLink, Links};
 ghost use Rattle.off_heap_list.specs.Exact.{ListsHeld, Exact};
+ghost use Rattle.off_heap_list.specs.Turned.{Turning};
 ghost use Rattle.off_heap_list.specs.Swept.{is_moved, new_place, IsOld, Sweeping};
 
 /// A shared binary that stands, and a fun, can be chained, but for one at place 0.
@@ -45,4 +46,11 @@ pub fn sweeps_end()
 /// count is the number of them that name it.
 pub fn chains_of_what_is_reached_count_exactly()
     ensures { (c : ℕ → ℕ → Bool) (mem roots : List ℕ) (head : ℕ) (os : List ℕ) → Links c mem head os [] → ListsHeld c mem roots os → Exact c mem roots }
+{}
+
+/// A chain can be turned round, and when all of its objects were seen the new chain has them, the last one first.
+pub fn turns_begin_and_end()
+    ensures begins { (c : ℕ → ℕ → Bool) (mem : List ℕ) (head : ℕ) (os further : List ℕ) → Links c mem head os further → Turning c mem head os 0 [] further }
+    ensures ends { (c : ℕ → ℕ → Bool) (mem : List ℕ) (head first : ℕ) (kept further : List ℕ)
+        → Turning c mem head [] first kept further → Links c mem first kept further }
 {}

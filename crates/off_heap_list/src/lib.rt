@@ -5,11 +5,13 @@ mod chains;
 mod laws;
 mod links;
 mod sweep;
+mod turn;
 
 pub use chains::{Unchained, chain, unchain};
 pub use laws::{
     chained_objects_stay, chains_of_what_is_reached_count_exactly, holders_and_funs_are_links,
-    sweeps_end, sweeps_go_on,
+    sweeps_end, sweeps_go_on, turns_begin_and_end,
 };
 pub use links::{next_of, record_of, set_next, set_record};
 pub use sweep::{Sweep, Swept, sweep_next, sweep_one};
+pub use turn::{Turn, turn_next};
