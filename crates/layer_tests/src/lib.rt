@@ -1,6 +1,10 @@
 //! Tests of the crates below, which need no test of their own: tables of rows, each looked at by a small function.
 #![tactic(auto)]
 
+mod laws;
+
+pub use laws::{roots_that_reach_no_free_word_are_clear, what_lies_in_some_words_takes_no_more};
+
 #[cfg(test)]
 mod arena;
 #[cfg(test)]
