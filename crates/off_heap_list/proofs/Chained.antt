@@ -9,14 +9,15 @@ use Rattle.plain_term.specs.Tree.Tree.{Shared, Fun}
 use Rattle.plain_term.specs.Bytes.{shared_bytes}
 use Rattle.term_tags.specs.Words.{head_word}
 use Rattle.term_tags.specs.declared.layouts.TheConstants.{FUN, HOLDER}
-use Rattle.term_words.specs.Role.{NEXT, COUNT, FIRST, FURTHER, NAMES, IsSingle, Idle}
+use Rattle.term_words.specs.Role.{NEXT, COUNT, FIRST, FURTHER, NAMES, RECORD, IsSingle, Idle}
 use Rattle.term_words.specs.Object.{IsBinRecord, IsFunRecord, IsRecord}
 use Rattle.term_words.specs.Kept.{Kept, Carried, Keeps}
 use Rattle.term_words.specs.Stands.{Stands}
 use Rattle.term_words.proofs.Frames.{carry}
 use Rattle.term_words.specs.Counted.{In}
+use Rattle.shared_rec.specs.Record.{length_in}
 use Rattle.shared_rec.proofs.Records.{bin-same, fun-same, record-stays, record-counted, role-idle}
-use Rattle.off_heap_list.specs.Links.{names_it, name_place, named, Leads, naming, IsLink, Links, SameContent}
+use Rattle.off_heap_list.specs.Links.{names_it, name_place, named, Leads, naming, IsLinkHeader, IsLink, Links, SameContent}
 
 -- A write at a place without content keeps it all, forwards and back.
 
@@ -57,6 +58,11 @@ pub link-named : (c d : ℕ → ℕ → Bool) (old new : List ℕ) (p : ℕ) →
 link-named c d old new p k l =
     ap (λ q. get_or new q 0) (place-same old new p (k.same p FIRST (omega arith) l.first)) ∙ k.same (name_place old p) NAMES (omega arith) l.names
 
+-- A record keeps its length where content is kept.
+length-stays : (c d : ℕ → ℕ → Bool) (old new : List ℕ) (v n : ℕ) → Kept c d old new → IsRecord c old v n → length_in new v ≡ length_in old v
+length-stays c d old new v n k (inl (serial, bytes, o, words)) = k.same (v + 3) RECORD (omega arith) (o.others (v + 3) (omega arith) (omega arith))
+length-stays c d old new v n k (inr (name, arity, o, words)) = k.same (v + 3) RECORD (omega arith) o.fourth
+
 pub link-stays : (c d : ℕ → ℕ → Bool) (old new : List ℕ) (p : ℕ) → Kept c d old new → IsLink c old p → IsLink d new p
 link-stays c d old new p k l =
     let P : ℕ → Type 0 = λ q. d q NAMES ≡ true in
@@ -67,6 +73,13 @@ link-stays c d old new p k l =
       first = k.weaker p FIRST l.first;
       next = k.weaker (p + 2) NEXT l.next;
       names = subst P (sym (place-same old new p (k.same p FIRST (omega arith) l.first))) (k.weaker (name_place old p) NAMES l.names);
+      kind = subst IsLinkHeader (sym (k.same p FIRST (omega arith) l.first)) l.kind;
+      size = λ h.
+          let s = l.size (sym (k.same p FIRST (omega arith) l.first) ∙ h) in (
+            k.weaker (p + 1) FURTHER s.0,
+            k.same (p + 1) FURTHER (omega arith) s.0
+                ∙ (s.1 ∙ (sym (length-stays c d old new (named old p) l.words k l.record_is) ∙ ap (λ v. length_in new v) (sym (link-named c d old new p k l)))),
+          );
       words = l.words;
       record_is = subst Q (sym (link-named c d old new p k l)) (record-stays c d old new (named old p) l.words k l.record_is);
     }
@@ -261,6 +274,10 @@ holder-link c shared mem w id s some =
       first = s.holder.first;
       next = s.holder.next;
       names = subst P at s.holder.names;
+      kind = inl s.holder.header;
+      size = λ h.
+          let R : ℕ → Type 0 = λ q. get_or mem (w / 4 + 1) 0 ≡ get_or mem (get_or mem q 0 + 3) 0 in
+          (s.holder.second, subst R at (s.holder.size ∙ sym s.record_is.size));
       words = 4 + bin_words (length (shared_bytes shared id));
       record_is = subst Q at (inl (id, shared_bytes shared id, s.record_is, refl));
     }
@@ -278,6 +295,8 @@ fun-link c shared mem w name arity creator env (o, row) some =
       first = o.first;
       next = o.next;
       names = subst P at o.names;
+      kind = inr (trees_len env, (o.range, o.header));
+      size = λ h. absurd (omega (arith, o.header, h));
       words = 4;
       record_is = subst Q at (inr (name, arity, o.record_is, refl));
     }

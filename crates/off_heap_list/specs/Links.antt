@@ -1,11 +1,11 @@
 -- Chains of holders and funs, and the counts of the records that they name. An object is given by its place.
-use Rattle.std.specs.Prelude.{◌≡◌, ℕ, ◌+◌, ◌<◌, ◌≤◌, ◌==◌, if◌then◌else◌, Bool, true, List, [], ◌∷◌, length, slice_index}
+use Rattle.std.specs.Prelude.{◌≡◌, ℕ, ◌+◌, ◌<◌, ◌≤◌, ◌⊎◌, ◌==◌, if◌then◌else◌, Bool, true, List, [], ◌∷◌, length, slice_index}
 use Rattle.term_tags.specs.Words.{head_word}
-use Rattle.term_tags.specs.declared.layouts.TheConstants.{HOLDER}
-use Rattle.term_words.specs.Role.{NEXT, FIRST, NAMES}
+use Rattle.term_tags.specs.declared.layouts.TheConstants.{FUN, HOLDER, MOST_ENV}
+use Rattle.term_words.specs.Role.{NEXT, FIRST, FURTHER, NAMES}
 use Rattle.term_words.specs.Object.{IsBinRecord, IsFunRecord, IsRecord}
 use Rattle.term_words.specs.Counted.{In, Distinct}
-use Rattle.shared_rec.specs.Record.{count_in}
+use Rattle.shared_rec.specs.Record.{count_in, length_in}
 
 -- The place of the word that names an object's record: word 3 of a holder, word 1 of a fun.
 abbrev pub name_place : List ℕ → ℕ → ℕ
@@ -37,13 +37,19 @@ abbrev pub naming : List ℕ → (v : ℕ) → List ℕ → ℕ
 naming mem v [] = 0
 naming mem v (p ∷ os) = names_it (named mem p) v + naming mem v os
 
--- A holder or fun lies at place p, not at place 0, and the record that it names stands.
+-- The first word of a holder, or that of a fun.
+abbrev pub IsLinkHeader : ℕ → Type 0
+IsLinkHeader word = (word ≡ head_word HOLDER 5) ⊎ ((k : ℕ) × ((k ≤ MOST_ENV) × (word ≡ head_word FUN (k + 5))))
+
+-- A holder or fun lies at place p, not at place 0, and the record that it names stands; a holder has its record's length.
 pub record IsLink (c : ℕ → ℕ → Bool) (mem : List ℕ) (p : ℕ) : Type 0 where
   pub somewhere : 0 < p
   pub within : p + 6 ≤ length mem
   pub first : c p FIRST ≡ true
   pub next : c (p + 2) NEXT ≡ true
   pub names : c (name_place mem p) NAMES ≡ true
+  pub kind : IsLinkHeader (slice_index mem p)
+  pub size : slice_index mem p ≡ head_word HOLDER 5 → (c (p + 1) FURTHER ≡ true) × (slice_index mem (p + 1) ≡ length_in mem (named mem p))
   pub words : ℕ
   pub record_is : IsRecord c mem (named mem p) words
 

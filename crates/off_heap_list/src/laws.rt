@@ -26,20 +26,24 @@ pub fn chained_objects_stay()
 /// Where a sweep is not at its end, the next object lies in the memory, at its new place too, and the record of one that was
 /// left behind counts it.
 pub fn sweeps_go_on()
-    ensures object { (c : ℕ → ℕ → Bool) (mem : List ℕ) (head p first : ℕ) (os kept further : List ℕ) → Sweeping c mem head (p ∷ os) first kept further
+    ensures object { (c : ℕ → ℕ → Bool) (mem : List ℕ) (head p : ℕ) (os : List ℕ) (first : ℕ) (kept : List ℕ) (last : ℕ) (ends further : List ℕ)
+        → Sweeping c mem head (p ∷ os) first kept last ends further
         → (head ≡ p) × (head + 6 ≤ length mem) × IsOld c mem head }
-    ensures moved { (c : ℕ → ℕ → Bool) (mem : List ℕ) (head p first : ℕ) (os kept further : List ℕ) → Sweeping c mem head (p ∷ os) first kept further
+    ensures moved { (c : ℕ → ℕ → Bool) (mem : List ℕ) (head p : ℕ) (os : List ℕ) (first : ℕ) (kept : List ℕ) (last : ℕ) (ends further : List ℕ)
+        → Sweeping c mem head (p ∷ os) first kept last ends further
         → is_moved mem head ≡ true → new_place mem head + 6 ≤ length mem }
-    ensures of_record { (c : ℕ → ℕ → Bool) (mem : List ℕ) (head p first : ℕ) (os kept further : List ℕ) → Sweeping c mem head (p ∷ os) first kept further
+    ensures of_record { (c : ℕ → ℕ → Bool) (mem : List ℕ) (head p : ℕ) (os : List ℕ) (first : ℕ) (kept : List ℕ) (last : ℕ) (ends further : List ℕ)
+        → Sweeping c mem head (p ∷ os) first kept last ends further
         → is_moved mem head ≡ false → named mem head + 4 ≤ length mem }
-    ensures count { (c : ℕ → ℕ → Bool) (mem : List ℕ) (head p first : ℕ) (os kept further : List ℕ) → Sweeping c mem head (p ∷ os) first kept further
+    ensures count { (c : ℕ → ℕ → Bool) (mem : List ℕ) (head p : ℕ) (os : List ℕ) (first : ℕ) (kept : List ℕ) (last : ℕ) (ends further : List ℕ)
+        → Sweeping c mem head (p ∷ os) first kept last ends further
         → is_moved mem head ≡ false → 1 ≤ count_in mem (named mem head) }
 {}
 
 /// Where every object was seen, the new chain has exactly the objects that were moved, and counts are namings by it.
 pub fn sweeps_end()
-    ensures { (c : ℕ → ℕ → Bool) (mem : List ℕ) (head first : ℕ) (kept further : List ℕ)
-        → Sweeping c mem head [] first kept further → Links c mem first kept further }
+    ensures { (c : ℕ → ℕ → Bool) (mem : List ℕ) (head first : ℕ) (kept : List ℕ) (last : ℕ) (ends further : List ℕ)
+        → Sweeping c mem head [] first kept last ends further → Links c mem first kept further }
 {}
 
 /// Where a chain lists exactly the holders and funs that the roots reach, and nothing beside it names a record, each record's

@@ -6,6 +6,7 @@ mod laws;
 mod links;
 mod sweep;
 mod turn;
+mod whole;
 
 pub use chains::{Unchained, chain, unchain};
 pub use laws::{
@@ -15,3 +16,4 @@ pub use laws::{
 pub use links::{next_of, record_of, set_next, set_record};
 pub use sweep::{Sweep, Swept, sweep_next, sweep_one};
 pub use turn::{Turn, turn_next};
+pub use whole::{Order, Survivors, sweep_chain, turn_chain};

@@ -1,10 +1,10 @@
 // A chain after a collection.
-ghost use Rattle.std.specs.Prelude.{◌≡◌, ℕ, ◌+◌, ◌-◌, ◌<◌, ◌≤◌, Bool, true, false, List, ◌∷◌, Some, None, length, slice_set};
+ghost use Rattle.std.specs.Prelude.{◌≡◌, ℕ, ◌+◌, ◌-◌, ◌<◌, ◌≤◌, ◌==◌, if◌then◌else◌, Bool, true, false, List, [], ◌∷◌, Some, None, length, slice_set};
 ghost use Rattle.term_words.specs.Role.{IsSingle, Idle};
 ghost use Rattle.term_words.specs.Kept.{Keeps};
 ghost use Rattle.shared_rec.specs.Record.{count_in};
 ghost use Rattle.off_heap_list.specs.Links.{named, next_in};
-ghost use Rattle.off_heap_list.specs.Swept.{is_moved, new_place, held_words, freed_at, joined, Relinked, IsOld, Sweeping};
+ghost use Rattle.off_heap_list.specs.Swept.{is_moved, new_place, held_words, count_less, freed_at, left_behind, joined, ended, Relinked, IsOld, Sweeping, Since};
 
 use crate::chains::freed_by;
 use crate::links::{next_of, record_of, set_next};
@@ -59,12 +59,14 @@ pub fn sweep_one(mem: &mut WordMem, at: u64) -> Swept
     }
 }
 
-/// A sweep of a chain: the object of the old chain that comes next, 0 at its end, and the first object of the new chain,
-/// which has those that were moved, the last one first. It begins at the old chain's first object, with no new chain: 0.
+/// A sweep of a chain: the object of the old chain that comes next, 0 at its end; the first object of the new chain, which
+/// has those that were moved, the last one first; and the last of the objects left behind that ended a record, which lead by
+/// their words `next` to those before them. It begins at the old chain's first object, with 0 for the other two.
 #[derive(Clone, Copy)]
 pub struct Sweep {
     pub rest: u64,
     pub first: u64,
+    pub last: u64,
 }
 
 /// Sweeps the next object: one that was moved joins the new chain, the record of one that was left behind does not count it
@@ -78,16 +80,22 @@ pub fn sweep_next(mem: &mut WordMem, sweep: &mut Sweep) -> Swept
     ensures moved { is_moved mem.old sweep.old.rest ≡ true
         → (result.moved ≡ Some (new_place mem.old sweep.old.rest)) × (result.freed ≡ None)
         × (result.words ≡ held_words mem.old (new_place mem.old sweep.old.rest))
-        × (sweep.new.first ≡ new_place mem.old sweep.old.rest) × (mem.new ≡ slice_set mem.old (new_place mem.old sweep.old.rest + 2) sweep.old.first) }
+        × (sweep.new.first ≡ new_place mem.old sweep.old.rest) × (sweep.new.last ≡ sweep.old.last)
+        × (mem.new ≡ slice_set mem.old (new_place mem.old sweep.old.rest + 2) sweep.old.first) }
     ensures left { is_moved mem.old sweep.old.rest ≡ false
-        → (result.moved ≡ None) × (result.freed ≡ freed_at (named mem.old sweep.old.rest) (count_in mem.old (named mem.old sweep.old.rest) - 1))
+        → (result.moved ≡ None) × (result.freed ≡ freed_at (named mem.old sweep.old.rest) (count_less mem.old sweep.old.rest))
         × (result.words ≡ 0) × (sweep.new.first ≡ sweep.old.first)
-        × (mem.new ≡ slice_set mem.old (named mem.old sweep.old.rest + 2) (count_in mem.old (named mem.old sweep.old.rest) - 1)) }
-    ensures writes { (c : ℕ → ℕ → Bool) → IsOld c mem.old sweep.old.rest → Relinked c mem.old mem.new }
+        × (sweep.new.last ≡ (if count_less mem.old sweep.old.rest == 0 then sweep.old.rest else sweep.old.last))
+        × (mem.new ≡ left_behind mem.old sweep.old.rest sweep.old.last) }
+    ensures writes { (c : ℕ → ℕ → Bool) → IsOld c mem.old sweep.old.rest → Relinked c (sweep.old.rest ∷ []) mem.old mem.new }
     ensures kept { (c : ℕ → ℕ → Bool) → IsSingle c → IsOld c mem.old sweep.old.rest → Keeps c c mem.old mem.new }
-    ensures goes_on { (c : ℕ → ℕ → Bool) (p : ℕ) (os kept further : List ℕ) → IsSingle c
-        → Sweeping c mem.old sweep.old.rest (p ∷ os) sweep.old.first kept further
-        → Sweeping c mem.new sweep.new.rest os sweep.new.first (joined mem.old sweep.old.rest kept) further }
+    ensures goes_on { (c : ℕ → ℕ → Bool) (p : ℕ) (os kept ends further : List ℕ) → IsSingle c
+        → Sweeping c mem.old sweep.old.rest (p ∷ os) sweep.old.first kept sweep.old.last ends further
+        → Sweeping c mem.new sweep.new.rest os sweep.new.first (joined mem.old sweep.old.rest kept) sweep.new.last (ended mem.old sweep.old.rest ends)
+        further }
+    ensures since { (c : ℕ → ℕ → Bool) (p : ℕ) (os kept ends further start : List ℕ) → IsSingle c
+        → Sweeping c mem.old sweep.old.rest (p ∷ os) sweep.old.first kept sweep.old.last ends further → Since c start mem.old (p ∷ os) ends
+        → Since c start mem.new os (ended mem.old sweep.old.rest ends) }
 {
     let _len = mem.len();
     let at = sweep.rest;
@@ -97,6 +105,11 @@ pub fn sweep_next(mem: &mut WordMem, sweep: &mut Sweep) -> Swept
     if word % 4 == 2 {
         set_next(mem, word / 4, sweep.first);
         sweep.first = word / 4;
+        return swept;
+    }
+    if swept.freed.is_some() {
+        set_next(mem, at, sweep.last);
+        sweep.last = at;
     }
     swept
 }

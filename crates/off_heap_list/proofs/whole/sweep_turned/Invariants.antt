@@ -1,0 +1,11 @@
+use Rattle.std.proofs.Common.{◌≡◌, ℕ, Bool, List, [], length}
+use Rattle.term_words.specs.Role.{IsSingle}
+use Rattle.off_heap_list.specs.Swept.{Sweeping}
+use Rattle.off_heap_list.proofs.Tallied.{Sweeps}
+use Rattle.off_heap_list.proofs.whole.sweep_turned.Given as goal
+
+abbrev pub invariant-loop-i : goal.invariant-loop-i
+invariant-loop-i l = record {
+  each : (c : ℕ → ℕ → Bool) (os further : List ℕ) → IsSingle c → length os ≡ l.len → Sweeping c l.initial.mem l.head os 0 [] 0 [] further
+      → Sweeps c l.initial.mem l.mem l.sweep.rest l.sweep.first l.sweep.last l.tally.len l.tally.words l.tally.freed l.i os further;
+}
