@@ -242,7 +242,7 @@ record SeenAs (names shared : List (List ℕ)) (mem : List ℕ) (t : Tree) (l : 
 no-bytes : (mem : List ℕ) → IsBytes mem (record { first = 0; start = 0; len = 0 }) []
 no-bytes mem = record { from = record { within = λ i h. absurd (omega (arith, h)); each = λ i h. absurd (omega (arith, h)) }; count = refl }
 
-signed-is : (i : ℤ) (d : Digits) → HasDigits i d → signed d.negative (d.low + d.high * 2 ^ 64) ≡ i
+pub signed-is : (i : ℤ) (d : Digits) → HasDigits i d → signed d.negative (d.low + d.high * 2 ^ 64) ≡ i
 signed-is (pos n) d has = ap (λ z. signed z (d.low + d.high * 2 ^ 64)) has.sign ∙ ap pos has.digits
 signed-is (negsuc n) d has =
     let e : d.low + d.high * 2 ^ 64 - 1 ≡ n = omega (arith, has.digits) in
@@ -329,7 +329,7 @@ readable c names shared mem w (Part base offset len) l s (v, e, sb, size, from) 
 
 -- The names of a tree's parts are among the names.
 
-both-are : (a b : Bool) → a ≡ true → b ≡ true → (a && b) ≡ true
+pub both-are : (a b : Bool) → a ≡ true → b ≡ true → (a && b) ≡ true
 both-are true b p q = q
 both-are false b p q = p
 

@@ -92,7 +92,7 @@ walk-on c shared mem n t word next levels new l steps k sees g = record {
 
 -- A step past a word and its parts.
 
-one-tree : (shared : List (List ℕ)) (t : Tree) → 1 ≤ nodes shared t
+pub one-tree : (shared : List (List ℕ)) (t : Tree) → 1 ≤ nodes shared t
 one-tree shared (Int i) = omega arith
 one-tree shared (Atom k) = omega arith
 one-tree shared (Pid n) = omega arith

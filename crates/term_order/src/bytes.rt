@@ -53,8 +53,8 @@ fn equal_words(mem: &WordMem, b: Bytes, d: Bytes, most: u64) -> u64
     at
 }
 
-// Byte `i` of a binary, from 0.
-fn byte(mem: &WordMem, b: Bytes, i: u64) -> u8
+/// Byte `i` of a binary, from 0.
+pub fn byte(mem: &WordMem, b: Bytes, i: u64) -> u8
     requires bytes { HasBytes mem.now b }
     requires below { i < b.len }
     ensures { result ≡ byte_in mem.now b i }

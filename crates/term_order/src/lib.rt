@@ -6,5 +6,7 @@ mod compared;
 mod comparing;
 mod looks;
 
+pub use bytes::byte;
 pub use compared::Compared;
 pub use comparing::compare;
+pub use looks::{data, integer};

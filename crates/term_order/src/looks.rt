@@ -49,8 +49,8 @@ fn rank(look: Look) -> u64
     }
 }
 
-// The value of an integer, 0 of anything else.
-fn integer(mem: &WordMem, names: &AtomNames, look: Look) -> i128
+/// The value of an integer, 0 of anything else.
+pub fn integer(mem: &WordMem, names: &AtomNames, look: Look) -> i128
     requires { IsReadable mem.now names.now look }
     ensures { result ≡ look_int look }
 {
@@ -125,8 +125,8 @@ fn third(look: Look) -> u64
     }
 }
 
-// Where the bytes of a binary lie; nothing else has any.
-fn data(look: Look) -> Bytes
+/// Where the bytes of a binary lie; nothing else has any.
+pub fn data(look: Look) -> Bytes
     ensures { result ≡ look_data look }
 {
     match look {

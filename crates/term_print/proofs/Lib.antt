@@ -1,0 +1,6 @@
+pub mod Writing
+pub mod Texts
+pub mod Numbers
+pub mod Opening
+pub mod Taking
+pub mod Going

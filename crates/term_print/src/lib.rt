@@ -1,0 +1,10 @@
+//! The text of a term, written from its word.
+#![tactic(auto)]
+
+mod binary;
+mod levels;
+mod own;
+mod printing;
+mod put;
+
+pub use printing::print;
