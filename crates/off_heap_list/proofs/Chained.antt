@@ -9,14 +9,14 @@ use Rattle.plain_term.specs.Tree.Tree.{Shared, Fun}
 use Rattle.plain_term.specs.Bytes.{shared_bytes}
 use Rattle.term_tags.specs.Words.{head_word}
 use Rattle.term_tags.specs.declared.layouts.TheConstants.{FUN, HOLDER}
-use Rattle.term_words.specs.Role.{NEXT, COUNT, FIRST, FURTHER, NAMES, RECORD, IsSingle, Idle}
+use Rattle.term_words.specs.Role.{NEXT, COUNT, FIRST, FURTHER, NAMES, IsSingle, Idle}
 use Rattle.term_words.specs.Object.{IsBinRecord, IsFunRecord, IsRecord}
 use Rattle.term_words.specs.Kept.{Kept, Carried, Keeps}
 use Rattle.term_words.specs.Stands.{Stands}
 use Rattle.term_words.proofs.Frames.{carry}
 use Rattle.term_words.specs.Counted.{In}
 use Rattle.shared_rec.specs.Record.{length_in}
-use Rattle.shared_rec.proofs.Records.{bin-same, fun-same, record-stays, record-counted, role-idle}
+use Rattle.shared_rec.proofs.Records.{bin-same, fun-same, record-length, record-stays, record-counted, role-idle}
 use Rattle.off_heap_list.specs.Links.{names_it, name_place, named, Leads, naming, IsLinkHeader, IsLink, Links, SameContent}
 
 -- A write at a place without content keeps it all, forwards and back.
@@ -58,11 +58,6 @@ pub link-named : (c d : ℕ → ℕ → Bool) (old new : List ℕ) (p : ℕ) →
 link-named c d old new p k l =
     ap (λ q. get_or new q 0) (place-same old new p (k.same p FIRST (omega arith) l.first)) ∙ k.same (name_place old p) NAMES (omega arith) l.names
 
--- A record keeps its length where content is kept.
-length-stays : (c d : ℕ → ℕ → Bool) (old new : List ℕ) (v n : ℕ) → Kept c d old new → IsRecord c old v n → length_in new v ≡ length_in old v
-length-stays c d old new v n k (inl (serial, bytes, o, words)) = k.same (v + 3) RECORD (omega arith) (o.others (v + 3) (omega arith) (omega arith))
-length-stays c d old new v n k (inr (name, arity, o, words)) = k.same (v + 3) RECORD (omega arith) o.fourth
-
 pub link-stays : (c d : ℕ → ℕ → Bool) (old new : List ℕ) (p : ℕ) → Kept c d old new → IsLink c old p → IsLink d new p
 link-stays c d old new p k l =
     let P : ℕ → Type 0 = λ q. d q NAMES ≡ true in
@@ -78,7 +73,8 @@ link-stays c d old new p k l =
           let s = l.size (sym (k.same p FIRST (omega arith) l.first) ∙ h) in (
             k.weaker (p + 1) FURTHER s.0,
             k.same (p + 1) FURTHER (omega arith) s.0
-                ∙ (s.1 ∙ (sym (length-stays c d old new (named old p) l.words k l.record_is) ∙ ap (λ v. length_in new v) (sym (link-named c d old new p k l)))),
+                ∙ (s.1 ∙
+            (sym (record-length c old new (λ a r past h. k.same a r (omega (arith, past)) h) (named old p) l.words l.record_is) ∙ ap (λ v. length_in new v) (sym (link-named c d old new p k l)))),
           );
       words = l.words;
       record_is = subst Q (sym (link-named c d old new p k l)) (record-stays c d old new (named old p) l.words k l.record_is);
@@ -216,10 +212,10 @@ module _ (c : ℕ → ℕ → Bool) (old : List ℕ) (a u : ℕ) (single : IsSin
   other-role q k apart h = get_or-set_other old a q u 0 (λ e. let P : ℕ → Type 0 = λ x. c x k ≡ true in apart (single.one a k NAMES (subst P e h) name))
 
   bin-there : (v serial : ℕ) (bytes : List ℕ) → IsBinRecord c old v serial bytes → IsBinRecord c (set old a u) v serial bytes
-  bin-there = bin-same c c old (set old a u) (omega (arith, length-set old a u)) (λ q k h. h) (λ q k past h. other-role q k (λ e. omega (arith, e, past)) h)
+  bin-there = bin-same c c old (set old a u) (omega (arith, length-set old a u)) (λ q k of h. h) (λ q k past h. other-role q k (λ e. omega (arith, e, past)) h)
 
   fun-there : (v n arity : ℕ) → IsFunRecord c old v n arity → IsFunRecord c (set old a u) v n arity
-  fun-there = fun-same c c old (set old a u) (omega (arith, length-set old a u)) (λ q k h. h) (λ q k past h. other-role q k (λ e. omega (arith, e, past)) h)
+  fun-there = fun-same c c old (set old a u) (omega (arith, length-set old a u)) (λ q k of h. h) (λ q k past h. other-role q k (λ e. omega (arith, e, past)) h)
 
   cut-place : (q : ℕ) → (q ≡ a) ⊎ (get_or (set old a u) q 0 ≡ get_or old q 0)
   cut-place q =

@@ -1,0 +1,6 @@
+//! From a collection to the sweep of its chain: what has become of the chain's objects when all is scanned.
+#![tactic(auto)]
+
+mod laws;
+
+pub use laws::collections_leave_sweeps;
