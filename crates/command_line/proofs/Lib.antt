@@ -1,2 +1,3 @@
 mod Numbers
 mod Program
+pub mod Arenas
