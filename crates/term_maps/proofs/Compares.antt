@@ -1,5 +1,5 @@
 -- What an answer of a comparison tells of the order.
-use Rattle.std.proofs.Common.{◌≡◌, ℕ, ◌+◌, ◌<◌, ◌⊎◌, Bool, true, false, List, length, get_or, refl, sym, ◌∙◌, subst, arith, inl, inr}
+use Rattle.std.proofs.Common.{◌≡◌, ℕ, ◌+◌, ◌<◌, ◌⊎◌, Bool, false, List, length, get_or, refl, sym, ◌∙◌, subst, arith, inl, inr}
 use Rattle.std.specs.declared.cmp.Ordering.{Ordering}
 use Rattle.std.specs.declared.cmp.Ordering.TheVariants.{Less, Equal, Greater}
 use Rattle.plain_term.specs.Tree.{Tree, Trees, Pairs, pairs_len, keys_of, values_of}
@@ -64,28 +64,3 @@ above-more names shared ks k i above here = λ j below. elim (before j i below) 
   where
     before : (j i : ℕ) → j < i + 1 → (j < i) ⊎ (j ≡ i)
     before j i below = grind arith
-
-never-beyond : (o : Ordering) (r : Compared) → r ≡ answer.Beyond → r ≡ answer_of o → ⊥
-never-beyond Less r is told = absurd cc
-never-beyond Equal r is told = absurd cc
-never-beyond Greater r is told = absurd cc
-
-either : (b : Bool) → (b ≡ true) ⊎ (b ≡ false)
-either true = inl refl
-either false = inr refl
-
--- A word against itself tells whether its tree is beyond the walk limit.
-
-pub is-beyond : (c : ℕ → ℕ → Bool) (names shared : List (List ℕ)) (mem : List ℕ) (w : ℕ) (t : Tree) (r : Compared) → Compares mem names w w r → Stands c shared mem w t → r ≡ answer.Beyond
-    → is_beyond shared t ≡ true
-is-beyond c names shared mem w t r told s is = elim (either (is_beyond shared t)) [
-  | inl beyond ↦ beyond
-  | inr within ↦ absurd (never-beyond (order names shared t t) r is (told.each c shared t t s s ∙ compared-within names shared t t within within))
-]
-
-pub is-within : (c : ℕ → ℕ → Bool) (names shared : List (List ℕ)) (mem : List ℕ) (w : ℕ) (t : Tree) (r : Compared) → Compares mem names w w r → Stands c shared mem w t
-    → (r ≡ answer.Beyond → ⊥) → is_beyond shared t ≡ false
-is-within c names shared mem w t r told s is = elim (either (is_beyond shared t)) [ inl beyond ↦ absurd (is (told.each c shared t t s s ∙ past beyond)) | inr within ↦ within ]
-  where
-    past : is_beyond shared t ≡ true → compared names shared t t ≡ answer.Beyond
-    past beyond = rw beyond refl

@@ -1,7 +1,8 @@
 mod Members
-mod Putting
+pub mod Putting
 mod Left
 mod Compares
+mod Turns
 mod Sorting
-mod Named
+pub mod Named
 mod Rising

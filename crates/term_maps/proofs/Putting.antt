@@ -8,7 +8,7 @@ use Rattle.plain_term.specs.Tree.Pairs.{stop, pair}
 use Rattle.plain_term.specs.Beyond.{is_beyond}
 use Rattle.plain_term.specs.Order.{order}
 use Rattle.term_words.specs.Stands.{Stands, AllStand, tree_at}
-use Rattle.term_maps.specs.InOrder.{by_order, put_pair, put_all, has_beyond}
+use Rattle.term_maps.specs.InOrder.{by_order, put_pair, put_all, in_order, has_beyond}
 use Rattle.term_maps.specs.Spots.{IsAbove}
 
 module _ (c : ℕ → ℕ → Bool) (names shared : List (List ℕ)) (mem : List ℕ) (kw vw : ℕ) (k v : Tree) (sk : Stands c shared mem kw k) (sv : Stands c shared mem vw v) where
@@ -85,6 +85,28 @@ all-grows names shared ps (pair k v given) =
     let one : pairs_len ps ≤ pairs_len (put_pair names shared k v ps) = put-grows names shared k v ps in
     let rest : pairs_len (put_pair names shared k v ps) ≤ pairs_len (put_all names shared (put_pair names shared k v ps) given) = all-grows names shared (put_pair names shared k v ps) given in
     omega arith
+
+-- And never bring more than there are.
+
+put-few : (names shared : List (List ℕ)) (k v : Tree) (ps : Pairs) → pairs_len (put_pair names shared k v ps) ≤ pairs_len ps + 1
+put-few names shared k v stop = omega arith
+put-few names shared k v (pair j w ps) = by (order names shared k j) (put-few names shared k v ps)
+  where
+    by : (o : Ordering) → pairs_len (put_pair names shared k v ps) ≤ pairs_len ps + 1
+        → pairs_len (by_order o (pair k v (pair j w ps)) (pair k v ps) (pair j w (put_pair names shared k v ps))) ≤ pairs_len ps + 1 + 1
+    by Less rest = omega arith
+    by Equal rest = omega arith
+    by Greater rest = omega arith
+
+all-few : (names shared : List (List ℕ)) (ps given : Pairs) → pairs_len (put_all names shared ps given) ≤ pairs_len ps + pairs_len given
+all-few names shared ps stop = omega arith
+all-few names shared ps (pair k v given) =
+    let one : pairs_len (put_pair names shared k v ps) ≤ pairs_len ps + 1 = put-few names shared k v ps in
+    let rest : pairs_len (put_all names shared (put_pair names shared k v ps) given) ≤ pairs_len (put_pair names shared k v ps) + pairs_len given = all-few names shared (put_pair names shared k v ps) given in
+    omega arith
+
+pub in-order-few : (names shared : List (List ℕ)) (given : Pairs) → pairs_len (in_order names shared given) ≤ pairs_len given
+in-order-few names shared given = omega (arith, all-few names shared stop given)
 
 -- Keys within the walk limit stay so.
 

@@ -1,5 +1,5 @@
 -- The keys of pairs that are put in order rise.
-use Rattle.std.proofs.Common.{◌≡◌, ℕ, ◌&&◌, ◌||◌, Bool, true, false, List, refl, sym, ◌∙◌, ap}
+use Rattle.std.proofs.Common.{◌≡◌, ℕ, true, false, List, refl, ◌∙◌, ap}
 use Rattle.std.specs.Ordering.{is_lt, ordering_reverse}
 use Rattle.std.specs.declared.cmp.Ordering.{Ordering}
 use Rattle.std.specs.declared.cmp.Ordering.TheVariants.{Less, Equal, Greater}
@@ -9,7 +9,7 @@ use Rattle.plain_term.specs.Beyond.{is_beyond}
 use Rattle.plain_term.specs.Order.{order}
 use Rattle.plain_term.specs.Proper.{keys_rise}
 use Rattle.plain_term.proofs.TokenLemmas.{order_total}
-use Rattle.term_maps.specs.InOrder.{by_order, put_pair, put_all, in_order, has_beyond}
+use Rattle.term_maps.specs.InOrder.{by_order, put_pair, put_all, has_beyond}
 use Rattle.term_maps.proofs.Putting.{or-first, or-second, put-within}
 use Rattle.term_maps.proofs.Named.{and-first, and-second}
 

@@ -1,5 +1,5 @@
 -- Words of pairs, and the map that is made of them.
-use Rattle.std.specs.Prelude.{◌≡◌, ℕ, ◌+◌, ◌*◌, ◌≤◌, Bool, true, List, [], ◌∷◌, length, None}
+use Rattle.std.specs.Prelude.{◌≡◌, ℕ, ◌+◌, ◌*◌, ◌≤◌, Bool, true, false, List, [], ◌∷◌, length, None}
 use Rattle.word_mem.specs.declared.ranges.Room.{Room}
 use Rattle.plain_term.specs.Tree.{Pairs, pairs_len}
 use Rattle.plain_term.specs.Tree.Tree.{Map}
@@ -7,7 +7,7 @@ use Rattle.plain_term.specs.Tree.Pairs.{stop, pair}
 use Rattle.term_tags.specs.Words.{boxed_word}
 use Rattle.term_tags.specs.declared.layouts.TheConstants.{MOST_KEYS}
 use Rattle.term_words.specs.Role.{always}
-use Rattle.term_words.specs.Stands.{Stands}
+use Rattle.term_words.specs.Stands.{Stands, IsTerm}
 use Rattle.term_words.specs.Counted.{In}
 use Rattle.term_words.specs.Kept.{Keeps}
 use Rattle.term_build.specs.Taken.{Taken, IsFree, of_map}
@@ -15,7 +15,7 @@ use Rattle.term_build.specs.Clear.{Uses}
 use Rattle.term_build.specs.Grows.{Built}
 use Rattle.term_order.specs.Named.{pairs_named}
 use Rattle.term_order.specs.Compared.{AreNamed}
-use Rattle.term_maps.specs.InOrder.{in_order, why_not}
+use Rattle.term_maps.specs.InOrder.{has_beyond, in_order, why_not}
 use Rattle.term_maps.specs.Spots.{SortedStand}
 use Rattle.term_maps.specs.declared.sorted.Sorted.{Sorted}
 
@@ -26,6 +26,11 @@ PairsStand c shared mem (p ∷ words) (pair k v ps) = (Stands c shared mem p.0 k
 PairsStand c shared mem [] (pair k v ps) = ⊥
 PairsStand c shared mem (p ∷ words) stop = ⊥
 
+-- The words of a row by twos: each key with the value behind it.
+abbrev pub pairs_in : List ℕ → List (ℕ × ℕ)
+pairs_in (k ∷ v ∷ row) = (k, v) ∷ pairs_in row
+pairs_in _ = []
+
 -- The words of the keys.
 abbrev pub keys_in : List (ℕ × ℕ) → List ℕ
 keys_in [] = []
@@ -34,6 +39,14 @@ keys_in (p ∷ words) = p.0 ∷ keys_in words
 -- Each two of the keys can be compared.
 pub record KeysNamed (mem : List ℕ) (names : List (List ℕ)) (keys : List ℕ) : Type 0 where
   pub each : (a b : ℕ) → In a keys → In b keys → AreNamed mem names a b
+
+-- Each of the keys stands for a tree.
+pub record KeysStand (mem : List ℕ) (keys : List ℕ) : Type 0 where
+  pub each : (w : ℕ) → In w keys → IsTerm mem w
+
+-- No key of the pairs is beyond the walk limit.
+pub record KeysWithin (mem : List ℕ) (words : List (ℕ × ℕ)) : Type 0 where
+  pub each : (c : ℕ → ℕ → Bool) (shared : List (List ℕ)) (given : Pairs) → PairsStand c shared mem words given → has_beyond shared given ≡ false
 
 -- The pairs stand for trees whose names are among the names, and the room has the words of their map where there is one.
 pub record CanMap (names : List (List ℕ)) (room : Room) (mem : List ℕ) (words : List (ℕ × ℕ)) : Type 0 where

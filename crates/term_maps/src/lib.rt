@@ -6,4 +6,4 @@ mod maps;
 mod sorted;
 
 pub use laws::keys_in_order_rise;
-pub use maps::{MapStop, map};
+pub use maps::{MapStop, map, map_of_row};

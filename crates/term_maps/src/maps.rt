@@ -1,7 +1,7 @@
 // The map of pairs.
-ghost use Rattle.std.specs.Prelude.{◌≡◌, ℕ, ◌+◌, ◌*◌, Bool, List, Some, None, IfOk, IfErr, OnErr};
+ghost use Rattle.std.specs.Prelude.{◌≡◌, ℕ, ◌+◌, ◌*◌, Bool, List, Some, None, IfOk, IfErr, OnErr, IfNone, IfSome};
 ghost use Rattle.term_tags.specs.Words.{boxed_word};
-ghost use Rattle.plain_term.specs.Tree.{Pairs, pairs_len};
+ghost use Rattle.plain_term.specs.Tree.{Tree, Pairs, pairs_len};
 ghost use Rattle.plain_term.specs.Tree.Tree.{Map};
 ghost use Rattle.term_words.specs.Role.{outside};
 ghost use Rattle.term_words.specs.Stands.{Stands};
@@ -9,14 +9,15 @@ ghost use Rattle.term_words.specs.Kept.{Keeps};
 ghost use Rattle.term_build.specs.Taken.{Taken, IsFree, of_map};
 ghost use Rattle.term_build.specs.Grows.{Built};
 ghost use Rattle.term_build.specs.Clear.{IsRoom, Clear, KeepsClear, Uses};
-ghost use Rattle.term_order.specs.Compared.{AreNamed};
+ghost use Rattle.plain_term.specs.Beyond.{is_beyond as beyond};
+ghost use Rattle.term_words.specs.Stands.{IsTerm};
 ghost use Rattle.term_maps.specs.InOrder.{has_beyond, in_order, why_not};
-ghost use Rattle.term_maps.specs.Given.{PairsStand, keys_in, KeysNamed, CanMap, IsSorted, IsMade};
+ghost use Rattle.term_maps.specs.Given.{PairsStand, keys_in, KeysNamed, KeysStand, KeysWithin, CanMap, IsSorted, IsMade, pairs_in};
 
 use crate::sorted::Sorted;
 use atom_names::AtomNames;
 use term_build::map_in_order;
-use term_order::{Compared, compare};
+use term_walk::{Measured, measure};
 use word_mem::{Room, WordMem};
 
 /// Why no map is made: a key is beyond the walk limit, or there are more than 32 distinct keys.
@@ -58,7 +59,7 @@ fn sort(mem: &WordMem, names: &AtomNames, pairs: &[(u64, u64)]) -> Result<Sorted
     ensures sorted { IfOk result (λ s. (c : ℕ → ℕ → Bool) (shared : List (List ℕ)) (given : Pairs) → PairsStand c shared mem.now pairs.now given
         → IsSorted c names.now shared mem.now given s) }
 {
-    if has_big_key(mem, names, pairs) {
+    if has_big_key(mem, pairs) {
         return Err(MapStop::Big);
     }
     let mut sorted = Sorted::new();
@@ -71,14 +72,59 @@ fn sort(mem: &WordMem, names: &AtomNames, pairs: &[(u64, u64)]) -> Result<Sorted
 }
 
 // Whether a key is beyond the walk limit.
-fn has_big_key(mem: &WordMem, names: &AtomNames, pairs: &[(u64, u64)]) -> bool
-    requires { KeysNamed mem.now names.now (keys_in pairs.now) }
+fn has_big_key(mem: &WordMem, pairs: &[(u64, u64)]) -> bool
+    requires { KeysStand mem.now (keys_in pairs.now) }
     ensures { (c : ℕ → ℕ → Bool) (shared : List (List ℕ)) (given : Pairs) → PairsStand c shared mem.now pairs.now given → result ≡ has_beyond shared given }
 {
     for (i, pair) in pairs.iter().enumerate() {
-        if let Compared::Beyond = compare(mem, names, pair.0, pair.0) {
+        if is_beyond(mem, pair.0) {
             return true;
         }
     }
     false
+}
+
+// Whether a key is beyond the walk limit.
+fn is_beyond(mem: &WordMem, w: u64) -> bool
+    requires { IsTerm mem.now w }
+    ensures { (c : ℕ → ℕ → Bool) (shared : List (List ℕ)) (t : Tree) → Stands c shared mem.now w t → result ≡ beyond shared t }
+{
+    match measure(mem, w) {
+        Measured::Within(_) => false,
+        Measured::Beyond => true,
+    }
+}
+
+/// The map of keys and values that stand in turn in a row, each key before its value, and no key beyond the walk limit; as
+/// of `map`. `None` where more than 32 keys are distinct. The room and the memory are then as they were.
+pub fn map_of_row(mem: &mut WordMem, room: &mut Room, names: &AtomNames, row: &[u64]) -> Option<u64>
+    requires places { IsRoom room.old mem.old }
+    requires pairs { CanMap names.now room.old mem.old (pairs_in row.now) }
+    requires within { KeysWithin mem.old (pairs_in row.now) }
+    ensures none { IfNone result ((c : ℕ → ℕ → Bool) (shared : List (List ℕ)) (given : Pairs) → PairsStand c shared mem.old (pairs_in row.now) given
+        → why_not names.now shared given ≡ Some MapStop.Size) }
+    ensures stopped { IfNone result ((room.new ≡ room.old) × (mem.new ≡ mem.old)) }
+    ensures made { IfSome result (λ w. (c : ℕ → ℕ → Bool) (shared : List (List ℕ)) (given : Pairs) → PairsStand c shared mem.old (pairs_in row.now) given
+        → IsMade c names.now shared given room.old room.new mem.old mem.new w) }
+{
+    let sorted = sort_row(mem, names, row)?;
+    Some(map_in_order(mem, room, sorted.keys.as_slice(), sorted.values.as_slice()))
+}
+
+// The keys and values of a row by their keys, or nothing where there are too many.
+fn sort_row(mem: &WordMem, names: &AtomNames, row: &[u64]) -> Option<Sorted>
+    requires named { KeysNamed mem.now names.now (keys_in (pairs_in row.now)) }
+    requires within { KeysWithin mem.now (pairs_in row.now) }
+    ensures none { IfNone result ((c : ℕ → ℕ → Bool) (shared : List (List ℕ)) (given : Pairs) → PairsStand c shared mem.now (pairs_in row.now) given
+        → why_not names.now shared given ≡ Some MapStop.Size) }
+    ensures sorted { IfSome result (λ s. (c : ℕ → ℕ → Bool) (shared : List (List ℕ)) (given : Pairs) → PairsStand c shared mem.now (pairs_in row.now) given
+        → IsSorted c names.now shared mem.now given s) }
+{
+    let mut sorted = Sorted::new();
+    for i in 0..row.len() / 2 {
+        if !sorted.put(mem, names, row[2 * i], row[2 * i + 1]) {
+            return None;
+        }
+    }
+    Some(sorted)
 }

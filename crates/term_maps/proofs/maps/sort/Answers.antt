@@ -15,6 +15,13 @@ loop-i-init c = record {
   sorting = λ k shared given stand within. sorting-begins k _ shared c.args.mem.now given _ c.new-sorted.ensures.keys c.new-sorted.ensures.values;
 }
 
+pub has_big_key-requires : goal.has_big_key-requires
+has_big_key-requires c = record {
+  each = λ w h.
+      let both = c.requires.each w w h h in
+      record { shared = both.shared; tree = both.first; standing = both.first_stands };
+}
+
 pub put-requires-clause-can : goal.put-requires-clause-can
 put-requires-clause-can c = λ w h. c.requires.each _ w (key-in c.args.pairs.now c.loop-i.i _ (omega (arith, c.loop-i-test.true))) (c.loop-i.invariant.keys w h)
 
