@@ -112,13 +112,15 @@ pub record Coming {K : Type 0} (c : ℕ → ℕ → Bool) (shared : List (List �
 
 -- The tree's own text is written, and the level of its parts is among the others.
 
-record Pushed (c : ℕ → ℕ → Bool) (shared : List (List ℕ)) (mem : List ℕ) (names : List (List ℕ)) (tail : Bool) (now : Tree) (own : List ℕ) (levels new : List Level) (rests : List Trees) (seen : ℕ) : Type 0 where
+record Pushed (c : ℕ → ℕ → Bool) (shared : List (List ℕ)) (mem : List ℕ) (names : List (List ℕ)) (tail : Bool) (now : Tree) (own : List ℕ) (levels new : List Level) (rests : List Trees)
+    (seen : ℕ) : Type 0 where
   more : List Trees
   left : AreLeft c shared mem new more
   whole : text_as names shared tail now ++ text_left names shared levels rests ≡ own ++ text_left names shared new more
   fits : NextFits (length names) shared now levels rests seen → StaysPrintable (length names) shared new more (seen + 1)
 
-pushed : (c : ℕ → ℕ → Bool) (shared : List (List ℕ)) (mem : List ℕ) (names : List (List ℕ)) (tail : Bool) (now : Tree) (own : List ℕ) (parts : Option Level) (levels : List Level) (rests : List Trees) (seen : ℕ)
+pushed : (c : ℕ → ℕ → Bool) (shared : List (List ℕ)) (mem : List ℕ) (names : List (List ℕ)) (tail : Bool) (now : Tree) (own : List ℕ) (parts : Option Level) (levels : List Level)
+    (rests : List Trees) (seen : ℕ)
     → AreLeft c shared mem levels rests → Opens c shared mem names tail now own parts → Pushed c shared mem names tail now own levels (after_level parts levels) rests seen
 pushed c shared mem names tail now own None levels rests seen left o = record {
   more = rests;
@@ -162,8 +164,8 @@ goes-on {K} {E} c shared mem names t mark tail word levels new seen wrote faults
 
 -- A fault came in it.
 
-pub goes-off : {K E F : Type 0} (c : ℕ → ℕ → Bool) (shared : List (List ℕ)) (mem : List ℕ) (names : List (List ℕ)) (t : Tree) (mark : List ℕ) (tail : Bool) (word : ℕ) (levels new : List Level) (seen : ℕ)
-    (wrote : K → List ℕ → Type 0) (faults : K → ℕ) (start before after : K) (e : E) (r : Result (Unit {0}) F) → IsErr r → faults before ≡ faults start
+pub goes-off : {K E F : Type 0} (c : ℕ → ℕ → Bool) (shared : List (List ℕ)) (mem : List ℕ) (names : List (List ℕ)) (t : Tree) (mark : List ℕ) (tail : Bool) (word : ℕ) (levels new : List Level)
+    (seen : ℕ) (wrote : K → List ℕ → Type 0) (faults : K → ℕ) (start before after : K) (e : E) (r : Result (Unit {0}) F) → IsErr r → faults before ≡ faults start
     → (n : Coming c shared mem names t mark tail word levels seen wrote start before)
     → Begins c shared mem names mark tail n.next levels new wrote faults before after (Err e) → Written wrote faults start after (text names shared t) r
 goes-off {K} {E} {F} c shared mem names t mark tail word levels new seen wrote faults start before after e r failed same n b =
@@ -173,8 +175,8 @@ goes-off {K} {E} {F} c shared mem names t mark tail word levels new seen wrote f
 
 -- The first word.
 
-abbrev pub comes-first : {K : Type 0} (c : ℕ → ℕ → Bool) (shared : List (List ℕ)) (mem : List ℕ) (names : List (List ℕ)) (t : Tree) (w : ℕ) (wrote : K → List ℕ → Type 0) (start : K) → Stands c shared mem w t
-    → Coming c shared mem names t [] false w [] 0 wrote start start
+abbrev pub comes-first : {K : Type 0} (c : ℕ → ℕ → Bool) (shared : List (List ℕ)) (mem : List ℕ) (names : List (List ℕ)) (t : Tree) (w : ℕ) (wrote : K → List ℕ → Type 0) (start : K)
+    → Stands c shared mem w t → Coming c shared mem names t [] false w [] 0 wrote start start
 comes-first c shared mem names t w wrote start s = record {
   next = t;
   rests = [];
@@ -197,8 +199,8 @@ record Kept (c : ℕ → ℕ → Bool) (shared : List (List ℕ)) (mem : List �
   shallow : (now : Tree) (deep : ℕ) → IsNoDeeper more after now deep → length levels + deep ≤ depth_limit → AreShallow levels rests
       → AreShallow (after_level more levels) all × (length (after_level more levels) + depth now ≤ depth_limit)
 
-kept : (c : ℕ → ℕ → Bool) (shared : List (List ℕ)) (mem : List ℕ) (names : List (List ℕ)) (more : Option Level) (after : Trees) (levels : List Level) (rests : List Trees) → AreLeft c shared mem levels rests
-    → IsMore c shared mem more after → Kept c shared mem names more after levels rests
+kept : (c : ℕ → ℕ → Bool) (shared : List (List ℕ)) (mem : List ℕ) (names : List (List ℕ)) (more : Option Level) (after : Trees) (levels : List Level) (rests : List Trees)
+    → AreLeft c shared mem levels rests → IsMore c shared mem more after → Kept c shared mem names more after levels rests
 kept c shared mem names None after levels rests left m = record {
   all = rests;
   left = left;
@@ -216,8 +218,8 @@ kept c shared mem names (Some l) after levels rests left m = record {
   shallow = λ now deep d room s. ((omega (arith, d.1, room), s), omega (arith, d.0, room));
 }
 
-comes-part : {K : Type 0} (c : ℕ → ℕ → Bool) (shared : List (List ℕ)) (mem : List ℕ) (names : List (List ℕ)) (t : Tree) (l : Level) (ls : List Level) (p : Part) (seen : ℕ) (wrote : K → List ℕ → Type 0) (start now : K)
-    → taken l ≡ step.Part p → Printing c shared mem names t (l ∷ ls) seen wrote start now
+comes-part : {K : Type 0} (c : ℕ → ℕ → Bool) (shared : List (List ℕ)) (mem : List ℕ) (names : List (List ℕ)) (t : Tree) (l : Level) (ls : List Level) (p : Part) (seen : ℕ)
+    (wrote : K → List ℕ → Type 0) (start now : K) → taken l ≡ step.Part p → Printing c shared mem names t (l ∷ ls) seen wrote start now
     → Coming c shared mem names t (mark_text p.mark) p.tail (get_or mem p.place 0) (after_level p.more ls) seen wrote start now
 comes-part {K} c shared mem names t l ls p seen wrote start now e g =
     let top : TopLeft c shared mem l ls g.rests = top-left c shared mem l ls g.rests g.left in
@@ -252,15 +254,15 @@ comes-part {K} c shared mem names t l ls p seen wrote start now e g =
 
 -- An object ends.
 
-level-ends : {K : Type 0} (c : ℕ → ℕ → Bool) (shared : List (List ℕ)) (mem : List ℕ) (names : List (List ℕ)) (t : Tree) (l : Level) (ls : List Level) (last : Bool) (seen : ℕ) (wrote : K → List ℕ → Type 0) (start now : K)
-    → taken l ≡ step.End last → (g : Printing c shared mem names t (l ∷ ls) seen wrote start now)
+level-ends : {K : Type 0} (c : ℕ → ℕ → Bool) (shared : List (List ℕ)) (mem : List ℕ) (names : List (List ℕ)) (t : Tree) (l : Level) (ls : List Level) (last : Bool) (seen : ℕ)
+    (wrote : K → List ℕ → Type 0) (start now : K) → taken l ≡ step.End last → (g : Printing c shared mem names t (l ∷ ls) seen wrote start now)
     → (top : TopLeft c shared mem l ls g.rests) → text names shared t ≡ g.came ++ (closing last ++ text_left names shared ls top.others)
 level-ends c shared mem names t l ls last seen wrote start now e g top =
     g.whole ∙ ap (λ z. g.came ++ text_left names shared (l ∷ ls) z) top.cons
     ∙ ap (λ z. g.came ++ (z ++ text_left names shared ls top.others)) (ends c shared mem names l last top.top top.is_left e)
 
-end-goes : {K : Type 0} (c : ℕ → ℕ → Bool) (shared : List (List ℕ)) (mem : List ℕ) (names : List (List ℕ)) (t : Tree) (l : Level) (ls : List Level) (last : Bool) (seen : ℕ) (wrote : K → List ℕ → Type 0)
-    (start before after : K) → taken l ≡ step.End last → Printing c shared mem names t (l ∷ ls) seen wrote start before → Grew wrote before after (closing last)
+end-goes : {K : Type 0} (c : ℕ → ℕ → Bool) (shared : List (List ℕ)) (mem : List ℕ) (names : List (List ℕ)) (t : Tree) (l : Level) (ls : List Level) (last : Bool) (seen : ℕ)
+    (wrote : K → List ℕ → Type 0) (start before after : K) → taken l ≡ step.End last → Printing c shared mem names t (l ∷ ls) seen wrote start before → Grew wrote before after (closing last)
     → Printing c shared mem names t ls seen wrote start after
 end-goes {K} c shared mem names t l ls last seen wrote start before after e g w =
     let top : TopLeft c shared mem l ls g.rests = top-left c shared mem l ls g.rests g.left in
@@ -276,7 +278,8 @@ end-goes {K} c shared mem names t l ls last seen wrote start before after e g w 
           record { few = omega (arith, s.few); shallow = s.shallow.1; named = s.named.1 };
     }
 
-end-stops : {K E F : Type 0} (c : ℕ → ℕ → Bool) (shared : List (List ℕ)) (mem : List ℕ) (names : List (List ℕ)) (t : Tree) (l : Level) (ls : List Level) (last : Bool) (seen : ℕ) (wrote : K → List ℕ → Type 0) (faults : K → ℕ)
+end-stops : {K E F : Type 0} (c : ℕ → ℕ → Bool) (shared : List (List ℕ)) (mem : List ℕ) (names : List (List ℕ)) (t : Tree) (l : Level) (ls : List Level) (last : Bool) (seen : ℕ)
+    (wrote : K → List ℕ → Type 0) (faults : K → ℕ)
     (start before after : K) (e : E) (r : Result (Unit {0}) F) → IsErr r → faults before ≡ faults start → taken l ≡ step.End last → Printing c shared mem names t (l ∷ ls) seen wrote start before
     → Written wrote faults before after (closing last) (Err e) → Written wrote faults start after (text names shared t) r
 end-stops {K} {E} {F} c shared mem names t l ls last seen wrote faults start before after e r failed same is g w =
@@ -286,7 +289,8 @@ end-stops {K} {E} {F} c shared mem names t l ls last seen wrote faults start bef
 
 -- All is written where no level is left.
 
-all-came : {K E : Type 0} (c : ℕ → ℕ → Bool) (shared : List (List ℕ)) (mem : List ℕ) (names : List (List ℕ)) (t : Tree) (levels : List Level) (seen : ℕ) (wrote : K → List ℕ → Type 0) (faults : K → ℕ) (start now : K) (u : Unit {0})
+all-came : {K E : Type 0} (c : ℕ → ℕ → Bool) (shared : List (List ℕ)) (mem : List ℕ) (names : List (List ℕ)) (t : Tree) (levels : List Level) (seen : ℕ) (wrote : K → List ℕ → Type 0)
+    (faults : K → ℕ) (start now : K) (u : Unit {0})
     → levels ≡ [] → faults now ≡ faults start → Printing c shared mem names t levels seen wrote start now → Written {K = K} {E = E} wrote faults start now (text names shared t) (Ok u)
 all-came {K} {E} c shared mem names t levels seen wrote faults start now u none same g =
     let e : text names shared t ≡ g.came = g.whole ∙ ap (λ z. g.came ++ text_left names shared z g.rests) none ∙ append-nil g.came in
@@ -309,46 +313,54 @@ prints-first {K} {E} mem names w old new wrote faults start after u none b = λ 
     let P : List Level → Type 0 = λ z. Begins {K = K} {E = E} c shared mem names [] false t z new wrote faults start after (Ok u) in
     goes-on c shared mem names t [] false w [] new 0 wrote faults start start after u (comes-first c shared mem names t w wrote start s) (subst P none (b c shared t s))
 
-pub first-stops : {K E F : Type 0} (mem : List ℕ) (names : List (List ℕ)) (w : ℕ) (old new : List Level) (wrote : K → List ℕ → Type 0) (faults : K → ℕ) (start after : K) (e : E) (r : Result (Unit {0}) F) → IsErr r → old ≡ []
+pub first-stops : {K E F : Type 0} (mem : List ℕ) (names : List (List ℕ)) (w : ℕ) (old new : List Level) (wrote : K → List ℕ → Type 0) (faults : K → ℕ) (start after : K) (e : E)
+    (r : Result (Unit {0}) F) → IsErr r → old ≡ []
     → ((c : ℕ → ℕ → Bool) (shared : List (List ℕ)) (now : Tree) → Stands c shared mem w now → Begins {K = K} {E = E} c shared mem names [] false now old new wrote faults start after (Err e))
     → (c : ℕ → ℕ → Bool) (shared : List (List ℕ)) (t : Tree) → Stands c shared mem w t → Written wrote faults start after (text names shared t) r
 first-stops {K} {E} {F} mem names w old new wrote faults start after e r failed none b = λ c shared t s.
     let P : List Level → Type 0 = λ z. Begins {K = K} {E = E} c shared mem names [] false t z new wrote faults start after (Err e) in
     goes-off c shared mem names t [] false w [] new 0 wrote faults start start after e r failed refl (comes-first c shared mem names t w wrote start s) (subst P none (b c shared t s))
 
-pub prints-end : {K : Type 0} (mem : List ℕ) (names : List (List ℕ)) (w : ℕ) (l : Level) (ls : List Level) (last : Bool) (seen : ℕ) (wrote : K → List ℕ → Type 0) (start before after : K) → taken l ≡ step.End last
-    → Prints mem names w (l ∷ ls) seen wrote start before → Grew wrote before after (closing last) → Prints mem names w ls seen wrote start after
+pub prints-end : {K : Type 0} (mem : List ℕ) (names : List (List ℕ)) (w : ℕ) (l : Level) (ls : List Level) (last : Bool) (seen : ℕ) (wrote : K → List ℕ → Type 0) (start before after : K)
+    → taken l ≡ step.End last → Prints mem names w (l ∷ ls) seen wrote start before → Grew wrote before after (closing last) → Prints mem names w ls seen wrote start after
 prints-end mem names w l ls last seen wrote start before after e p g = λ c shared t s. end-goes c shared mem names t l ls last seen wrote start before after e (p c shared t s) g
 
-pub prints-end-stops : {K E F : Type 0} (mem : List ℕ) (names : List (List ℕ)) (w : ℕ) (l : Level) (ls : List Level) (last : Bool) (seen : ℕ) (wrote : K → List ℕ → Type 0) (faults : K → ℕ) (start before after : K) (e : E)
-    (r : Result (Unit {0}) F) → IsErr r → faults before ≡ faults start → taken l ≡ step.End last → Prints mem names w (l ∷ ls) seen wrote start before → Written wrote faults before after (closing last) (Err e)
+pub prints-end-stops : {K E F : Type 0} (mem : List ℕ) (names : List (List ℕ)) (w : ℕ) (l : Level) (ls : List Level) (last : Bool) (seen : ℕ) (wrote : K → List ℕ → Type 0) (faults : K → ℕ)
+    (start before after : K) (e : E)
+    (r : Result (Unit {0}) F) → IsErr r → faults before ≡ faults start → taken l ≡ step.End last → Prints mem names w (l ∷ ls) seen wrote start before
+    → Written wrote faults before after (closing last) (Err e)
     → (c : ℕ → ℕ → Bool) (shared : List (List ℕ)) (t : Tree) → Stands c shared mem w t → Written wrote faults start after (text names shared t) r
 prints-end-stops mem names w l ls last seen wrote faults start before after e r failed same is p g = λ c shared t s.
     end-stops c shared mem names t l ls last seen wrote faults start before after e r failed same is (p c shared t s) g
 
-pub prints-part : {K E : Type 0} (mem : List ℕ) (names : List (List ℕ)) (w : ℕ) (l : Level) (ls : List Level) (p : Part) (word : ℕ) (old new : List Level) (seen : ℕ) (wrote : K → List ℕ → Type 0) (faults : K → ℕ)
-    (start before after : K) (u : Unit {0}) → taken l ≡ step.Part p → word ≡ get_or mem p.place 0 → old ≡ after_level p.more ls → Prints mem names w (l ∷ ls) seen wrote start before
+pub prints-part : {K E : Type 0} (mem : List ℕ) (names : List (List ℕ)) (w : ℕ) (l : Level) (ls : List Level) (p : Part) (word : ℕ) (old new : List Level) (seen : ℕ) (wrote : K → List ℕ → Type 0)
+    (faults : K → ℕ) (start before after : K) (u : Unit {0}) → taken l ≡ step.Part p → word ≡ get_or mem p.place 0 → old ≡ after_level p.more ls → Prints mem names w (l ∷ ls) seen wrote start before
     → ((c : ℕ → ℕ → Bool) (shared : List (List ℕ)) (now : Tree) → Stands c shared mem word now → Begins {K = K} {E = E} c shared mem names (mark_text p.mark) p.tail now old new wrote faults before after (Ok u))
     → Prints mem names w new (seen + 1) wrote start after
 prints-part {K} {E} mem names w l ls p word old new seen wrote faults start before after u e at is g b = λ c shared t s.
-    let n : Coming c shared mem names t (mark_text p.mark) p.tail (get_or mem p.place 0) (after_level p.more ls) seen wrote start before = comes-part c shared mem names t l ls p seen wrote start before e (g c shared t s) in
+    let n : Coming c shared mem names t (mark_text p.mark) p.tail (get_or mem p.place 0) (after_level p.more ls) seen wrote start before = comes-part c shared mem names t l ls p seen wrote start
+    before e (g c shared t s) in
     let P : List Level → Type 0 = λ z. Begins {K = K} {E = E} c shared mem names (mark_text p.mark) p.tail n.next z new wrote faults before after (Ok u) in
     let Q : ℕ → Type 0 = λ z. Stands c shared mem z n.next in
-    goes-on c shared mem names t (mark_text p.mark) p.tail (get_or mem p.place 0) (after_level p.more ls) new seen wrote faults start before after u n (subst P is (b c shared n.next (subst Q (sym at) n.standing)))
+    goes-on c shared mem names t (mark_text p.mark) p.tail (get_or mem p.place 0) (after_level p.more ls) new seen wrote faults start before after u n
+    (subst P is (b c shared n.next (subst Q (sym at) n.standing)))
 
-pub prints-part-stops : {K E F : Type 0} (mem : List ℕ) (names : List (List ℕ)) (w : ℕ) (l : Level) (ls : List Level) (p : Part) (word : ℕ) (old new : List Level) (seen : ℕ) (wrote : K → List ℕ → Type 0) (faults : K → ℕ)
+pub prints-part-stops : {K E F : Type 0} (mem : List ℕ) (names : List (List ℕ)) (w : ℕ) (l : Level) (ls : List Level) (p : Part) (word : ℕ) (old new : List Level) (seen : ℕ)
+    (wrote : K → List ℕ → Type 0) (faults : K → ℕ)
     (start before after : K) (x : E) (r : Result (Unit {0}) F) → IsErr r → faults before ≡ faults start → taken l ≡ step.Part p → word ≡ get_or mem p.place 0 → old ≡ after_level p.more ls
     → Prints mem names w (l ∷ ls) seen wrote start before
     → ((c : ℕ → ℕ → Bool) (shared : List (List ℕ)) (now : Tree) → Stands c shared mem word now → Begins {K = K} {E = E} c shared mem names (mark_text p.mark) p.tail now old new wrote faults before after (Err x))
     → (c : ℕ → ℕ → Bool) (shared : List (List ℕ)) (t : Tree) → Stands c shared mem w t → Written wrote faults start after (text names shared t) r
 prints-part-stops {K} {E} {F} mem names w l ls p word old new seen wrote faults start before after x r failed same e at is g b = λ c shared t s.
-    let n : Coming c shared mem names t (mark_text p.mark) p.tail (get_or mem p.place 0) (after_level p.more ls) seen wrote start before = comes-part c shared mem names t l ls p seen wrote start before e (g c shared t s) in
+    let n : Coming c shared mem names t (mark_text p.mark) p.tail (get_or mem p.place 0) (after_level p.more ls) seen wrote start before = comes-part c shared mem names t l ls p seen wrote start
+    before e (g c shared t s) in
     let P : List Level → Type 0 = λ z. Begins {K = K} {E = E} c shared mem names (mark_text p.mark) p.tail n.next z new wrote faults before after (Err x) in
     let Q : ℕ → Type 0 = λ z. Stands c shared mem z n.next in
-    goes-off c shared mem names t (mark_text p.mark) p.tail (get_or mem p.place 0) (after_level p.more ls) new seen wrote faults start before after x r failed same n (subst P is (b c shared n.next (subst Q (sym at) n.standing)))
+    goes-off c shared mem names t (mark_text p.mark) p.tail (get_or mem p.place 0) (after_level p.more ls) new seen wrote faults start before after x r failed same n
+    (subst P is (b c shared n.next (subst Q (sym at) n.standing)))
 
-pub prints-all : {K E : Type 0} (mem : List ℕ) (names : List (List ℕ)) (w : ℕ) (levels : List Level) (seen : ℕ) (wrote : K → List ℕ → Type 0) (faults : K → ℕ) (start now : K) (u : Unit {0}) → levels ≡ []
-    → faults now ≡ faults start → Prints mem names w levels seen wrote start now
+pub prints-all : {K E : Type 0} (mem : List ℕ) (names : List (List ℕ)) (w : ℕ) (levels : List Level) (seen : ℕ) (wrote : K → List ℕ → Type 0) (faults : K → ℕ) (start now : K) (u : Unit {0})
+    → levels ≡ [] → faults now ≡ faults start → Prints mem names w levels seen wrote start now
     → (c : ℕ → ℕ → Bool) (shared : List (List ℕ)) (t : Tree) → Stands c shared mem w t → Written {K = K} {E = E} wrote faults start now (text names shared t) (Ok u)
 prints-all mem names w levels seen wrote faults start now u none same p = λ c shared t s. all-came c shared mem names t levels seen wrote faults start now u none same (p c shared t s)
 
@@ -377,8 +389,8 @@ pub record PartAsks (mem : List ℕ) (names : List (List ℕ)) (ls : List Level)
   pub begins : CanBegin mem names (after_level p.more ls) (get_or mem p.place 0)
   pub few : seen + 1 ≤ node_limit
 
-pub part-asks : {K : Type 0} (mem : List ℕ) (names : List (List ℕ)) (w : ℕ) (l : Level) (ls : List Level) (p : Part) (seen : ℕ) (wrote : K → List ℕ → Type 0) (start now : K) → CanPrint mem names w → taken l ≡ step.Part p
-    → Prints mem names w (l ∷ ls) seen wrote start now → PartAsks mem names ls p seen
+pub part-asks : {K : Type 0} (mem : List ℕ) (names : List (List ℕ)) (w : ℕ) (l : Level) (ls : List Level) (p : Part) (seen : ℕ) (wrote : K → List ℕ → Type 0) (start now : K)
+    → CanPrint mem names w → taken l ≡ step.Part p → Prints mem names w (l ∷ ls) seen wrote start now → PartAsks mem names ls p seen
 part-asks mem names w l ls p seen wrote start now h e g =
     let here = g always h.shared h.tree h.standing in
     let n = comes-part always h.shared mem names h.tree l ls p seen wrote start now e here in
@@ -405,8 +417,8 @@ begins-kept mem names ls new p seen word at is a =
     let Q : List Level → Type 0 = λ z. CanBegin mem names z (get_or mem p.place 0) in
     subst P (sym at) (subst Q (sym is) a.begins)
 
-pub level-counts : {K : Type 0} (mem : List ℕ) (names : List (List ℕ)) (w : ℕ) (l : Level) (ls : List Level) (seen : ℕ) (wrote : K → List ℕ → Type 0) (start now : K) → CanPrint mem names w → length mem ≤ 2 ^ 24
-    → Prints mem names w (l ∷ ls) seen wrote start now → IsCountable l
+pub level-counts : {K : Type 0} (mem : List ℕ) (names : List (List ℕ)) (w : ℕ) (l : Level) (ls : List Level) (seen : ℕ) (wrote : K → List ℕ → Type 0) (start now : K) → CanPrint mem names w
+    → length mem ≤ 2 ^ 24 → Prints mem names w (l ∷ ls) seen wrote start now → IsCountable l
 level-counts mem names w l ls seen wrote start now h most g =
     let here = g always h.shared h.tree h.standing in
     let top = top-left always h.shared mem l ls here.rests here.left in

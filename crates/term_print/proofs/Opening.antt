@@ -58,7 +58,8 @@ cons-opens c shared mem names w true h t within sh st = record {
       both-are (is_named (length names) h) (are_named (length names) (t ▹ end)) head (both-are (is_named (length names) t) true tail refl);
 }
 
-pub opens : (c : ℕ → ℕ → Bool) (shared : List (List ℕ)) (mem : List ℕ) (names : List (List ℕ)) (w : ℕ) (tail : Bool) (now : Tree) (l : Look) → IsSeen c shared mem w now l → OpensBy c shared mem names tail now l
+pub opens : (c : ℕ → ℕ → Bool) (shared : List (List ℕ)) (mem : List ℕ) (names : List (List ℕ)) (w : ℕ) (tail : Bool) (now : Tree) (l : Look) → IsSeen c shared mem w now l
+    → OpensBy c shared mem names tail now l
 opens c shared mem names w tail (Int i) l (inl (small, e)) = subst (OpensBy c shared mem names tail (Int i)) (sym e) refl
 opens c shared mem names w tail (Int i) l (inr (d, has, e)) = subst (OpensBy c shared mem names tail (Int i)) (sym e) (ap (λ z. placed tail (signed_decimal z)) (sym (signed-is i d has)))
 opens c shared mem names w tail (Atom k) l e = subst (OpensBy c shared mem names tail (Atom k)) (sym e) refl
@@ -91,12 +92,13 @@ opens c shared mem names w tail (Part base offset len) l (v, e, sb, size, from) 
 
 -- What beginning a word's term asks for.
 
-opens-room : (c : ℕ → ℕ → Bool) (shared : List (List ℕ)) (mem : List ℕ) (names : List (List ℕ)) (tail : Bool) (now : Tree) (own : List ℕ) (m : Option Level) (n : ℕ) → Opens c shared mem names tail now own m
-    → n + depth now ≤ depth_limit → IfSome m (λ l. n < 1024)
+opens-room : (c : ℕ → ℕ → Bool) (shared : List (List ℕ)) (mem : List ℕ) (names : List (List ℕ)) (tail : Bool) (now : Tree) (own : List ℕ) (m : Option Level) (n : ℕ)
+    → Opens c shared mem names tail now own m → n + depth now ≤ depth_limit → IfSome m (λ l. n < 1024)
 opens-room c shared mem names tail now own None n o room = tt
 opens-room c shared mem names tail now own (Some l) n o room = omega (arith, o.some, room)
 
-pub begins-room : (mem : List ℕ) (names : List (List ℕ)) (levels : List Level) (word : ℕ) (tail : Bool) (l : Look) → CanBegin mem names levels word → Sees mem word l → IfSome (level_in l tail) (λ m. length levels < 1024)
+pub begins-room : (mem : List ℕ) (names : List (List ℕ)) (levels : List Level) (word : ℕ) (tail : Bool) (l : Look) → CanBegin mem names levels word → Sees mem word l → IfSome (level_in l tail)
+    (λ m. length levels < 1024)
 begins-room mem names levels word tail l h sees =
     opens-room always h.shared mem names tail h.now (own_text names tail (bytes_of h.shared h.now) l) (level_in l tail) (length levels)
     (opens always h.shared mem names word tail h.now l (sees.each always h.shared h.now h.standing)) h.room
@@ -110,7 +112,8 @@ begins-term mem names levels word h = record { shared = h.shared; tree = h.now; 
 
 -- A word's term was begun, or a fault came before its own text.
 
-pub begins : {K E : Type 0} (c : ℕ → ℕ → Bool) (shared : List (List ℕ)) (mem : List ℕ) (names : List (List ℕ)) (mark put : List ℕ) (tail : Bool) (now : Tree) (w : ℕ) (l : Look) (old new : List Level) (kept : Option Level)
+pub begins : {K E : Type 0} (c : ℕ → ℕ → Bool) (shared : List (List ℕ)) (mem : List ℕ) (names : List (List ℕ)) (mark put : List ℕ) (tail : Bool) (now : Tree) (w : ℕ) (l : Look)
+    (old new : List Level) (kept : Option Level)
     (wrote : K → List ℕ → Type 0) (faults : K → ℕ) (before mid after : K) (r : Result (Unit {0}) E) → IsSeen c shared mem w now l → kept ≡ level_in l tail → new ≡ after_level kept old → put ≡ mark
     → Grew wrote before mid put → faults mid ≡ faults before → Written wrote faults mid after (own_text names tail (bytes_of shared now) l) r
     → Begins c shared mem names mark tail now old new wrote faults before after r
@@ -124,8 +127,10 @@ begins {K} {E} c shared mem names mark put tail now w l old new kept wrote fault
       written = subst P marked (written-after wrote faults before mid after put (own_text names tail (bytes_of shared now) l) r grew told written);
     }
 
-pub begins-badly : {K E F : Type 0} (c : ℕ → ℕ → Bool) (shared : List (List ℕ)) (mem : List ℕ) (names : List (List ℕ)) (mark put : List ℕ) (tail : Bool) (now : Tree) (w : ℕ) (l : Look) (old new : List Level) (kept : Option Level)
-    (wrote : K → List ℕ → Type 0) (faults : K → ℕ) (before after : K) (e : E) (r : Result (Unit {0}) F) → IsErr r → IsSeen c shared mem w now l → kept ≡ level_in l tail → new ≡ after_level kept old → put ≡ mark
+pub begins-badly : {K E F : Type 0} (c : ℕ → ℕ → Bool) (shared : List (List ℕ)) (mem : List ℕ) (names : List (List ℕ)) (mark put : List ℕ) (tail : Bool) (now : Tree) (w : ℕ) (l : Look)
+    (old new : List Level) (kept : Option Level)
+    (wrote : K → List ℕ → Type 0) (faults : K → ℕ) (before after : K) (e : E) (r : Result (Unit {0}) F) → IsErr r → IsSeen c shared mem w now l → kept ≡ level_in l tail
+    → new ≡ after_level kept old → put ≡ mark
     → Written wrote faults before after put (Err e) → Begins c shared mem names mark tail now old new wrote faults before after r
 begins-badly {K} {E} {F} c shared mem names mark put tail now w l old new kept wrote faults before after e r failed seen is levels marked written =
     let P : List ℕ → Type 0 = λ z. Written {K = K} {E = F} wrote faults before after (z ++ own_text names tail (bytes_of shared now) l) r in

@@ -165,8 +165,8 @@ value-took c shared mem rows (pair k v ps) names last count kw vw ks vs some ts 
       deep = (omega arith, omega arith);
     })
 
-pairs-took : (c : ℕ → ℕ → Bool) (shared : List (List ℕ)) (mem : List ℕ) (names : List (List ℕ)) (rows : PairRows) (mark : Mark) (last : Bool) (ts : Trees) → ArePairs c shared mem rows mark ts → 0 < rows.len
-    → Took c shared mem names (level.Pairs rows mark last) (pair_taken rows mark last) ts
+pairs-took : (c : ℕ → ℕ → Bool) (shared : List (List ℕ)) (mem : List ℕ) (names : List (List ℕ)) (rows : PairRows) (mark : Mark) (last : Bool) (ts : Trees) → ArePairs c shared mem rows mark ts
+    → 0 < rows.len → Took c shared mem names (level.Pairs rows mark last) (pair_taken rows mark last) ts
 pairs-took c shared mem names rows Nothing last ts r some =
     key-took c shared mem rows r.pairs names Nothing last r.count r.keys_within r.values_within r.keys_stand r.values_stand some ts r.left refl
 pairs-took c shared mem names rows Comma last ts r some =

@@ -33,12 +33,14 @@ pairs-row names shared (pair k v ps) =
 
 -- A tuple and a map, as they stand or behind a bar.
 
-pub tuple-text : (names shared : List (List ℕ)) (tail : Bool) (ts : Trees) → placed tail (codes "{" ++ (text_of_all names shared ts ++ codes "}")) ≡ tuple_begun tail ++ (row_text names shared false Nothing ts ++ closing tail)
+pub tuple-text : (names shared : List (List ℕ)) (tail : Bool) (ts : Trees)
+    → placed tail (codes "{" ++ (text_of_all names shared ts ++ codes "}")) ≡ tuple_begun tail ++ (row_text names shared false Nothing ts ++ closing tail)
 tuple-text names shared false ts = ap (λ z. codes "{" ++ (z ++ codes "}")) (all-row names shared ts)
 tuple-text names shared true ts =
     ap (λ z. codes "|{" ++ z) (append_assoc (text_of_all names shared ts) (codes "}") (codes "]")) ∙ ap (λ z. codes "|{" ++ (z ++ codes "}]")) (all-row names shared ts)
 
-pub map-text : (names shared : List (List ℕ)) (tail : Bool) (ps : Pairs) → placed tail (codes "#{" ++ (text_of_pairs names shared ps ++ codes "}")) ≡ map_begun tail ++ (row_text names shared true Nothing (in_turn ps) ++ closing tail)
+pub map-text : (names shared : List (List ℕ)) (tail : Bool) (ps : Pairs)
+    → placed tail (codes "#{" ++ (text_of_pairs names shared ps ++ codes "}")) ≡ map_begun tail ++ (row_text names shared true Nothing (in_turn ps) ++ closing tail)
 map-text names shared false ps = ap (λ z. codes "#{" ++ (z ++ codes "}")) (pairs-row names shared ps)
 map-text names shared true ps =
     ap (λ z. codes "|#{" ++ z) (append_assoc (text_of_pairs names shared ps) (codes "}") (codes "]")) ∙ ap (λ z. codes "|#{" ++ (z ++ codes "}]")) (pairs-row names shared ps)

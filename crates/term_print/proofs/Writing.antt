@@ -13,7 +13,8 @@ written-after wrote faults old mid new x y (Err e) g same w =
     record { all = tt; part = part-after wrote old mid new x y g w.part; later = omega (arith, same, w.later); rose = omega (arith, same, w.rose); told = tt }
 
 -- What was written is the text, however that is said.
-pub written-as : {K E : Type 0} (wrote : K → List ℕ → Type 0) (faults : K → ℕ) (old new : K) (x y : List ℕ) (r : Result (Unit {0}) E) → x ≡ y → Written wrote faults old new x r → Written wrote faults old new y r
+pub written-as : {K E : Type 0} (wrote : K → List ℕ → Type 0) (faults : K → ℕ) (old new : K) (x y : List ℕ) (r : Result (Unit {0}) E) → x ≡ y → Written wrote faults old new x r
+    → Written wrote faults old new y r
 written-as {K} {E} wrote faults old new x y r e w = let P : List ℕ → Type 0 = λ z. Written {K = K} {E = E} wrote faults old new z r in subst P e w
 
 -- A fault in the first text is one in both.

@@ -91,8 +91,8 @@ fn put_small<K: Sink>(i: i64, sink: &mut K) -> Result<(), SinkFault>
 fn put_integer<K: Sink>(i: i128, sink: &mut K) -> Result<(), SinkFault>
     ensures { Written K.wrote K.faults sink.old sink.new (signed_decimal i) result }
 {
-    let mut buffer = Buffer::new();
-    put(sink, buffer.format(i).as_bytes())
+    let mut digits = Buffer::new();
+    put(sink, digits.format(i).as_bytes())
 }
 
 // Writes a pid by its number.

@@ -21,8 +21,8 @@ returns-in_err-put_byte g c = λ xs h.
 
 pub loop-i-preserved : goal.loop-i-preserved
 loop-i-preserved g c = record {
-  come = λ xs h. bytes-more c.args.mem.now c.args.bytes xs c.loop-i.i c.byte.result g.K.Sink.wrote c.args.sink.now c.loop-i.sink c.put_byte.new.sink h c.loop-i-test.true c.byte.ensures (c.loop-i.invariant.come xs h)
-      (subst (Grew g.K.Sink.wrote c.loop-i.sink c.put_byte.new.sink) (ap (λ z. z ++ decimal c.byte.result) c.comma.ensures) c.in_ok-put_byte.ensures.all);
+  come = λ xs h. bytes-more c.args.mem.now c.args.bytes xs c.loop-i.i c.byte.result g.K.Sink.wrote c.args.sink.now c.loop-i.sink c.put_byte.new.sink h c.loop-i-test.true c.byte.ensures
+      (c.loop-i.invariant.come xs h) (subst (Grew g.K.Sink.wrote c.loop-i.sink c.put_byte.new.sink) (ap (λ z. z ++ decimal c.byte.result) c.comma.ensures) c.in_ok-put_byte.ensures.all);
   told = c.in_ok-put_byte.ensures.told ∙ c.loop-i.invariant.told;
 }
 

@@ -23,8 +23,8 @@ loop-level-init g c = record {
 
 pub loop-level-preserved-in-Continue-branch-2 : goal.loop-level-preserved-in-Continue-branch-2
 loop-level-preserved-in-Continue-branch-2 g c = record {
-  prints = prints-end c.args.mem.now c.args.names.now c.args.w c.in-Some.level (reverse c.pop.new.self.items) c.in-End.last c.loop-level.nodes g.K.Sink.wrote c.args.sink.now c.loop-level.sink c.put.new.sink
-      (sym c.next.ensures ∙ c.in-End.is)
+  prints = prints-end c.args.mem.now c.args.names.now c.args.w c.in-Some.level (reverse c.pop.new.self.items) c.in-End.last c.loop-level.nodes g.K.Sink.wrote c.args.sink.now c.loop-level.sink
+      c.put.new.sink (sym c.next.ensures ∙ c.in-End.is)
       (prints-popped c.args.mem.now c.args.names.now c.args.w c.loop-level.levels.items c.pop.new.self.items c.in-Some.level c.loop-level.nodes g.K.Sink.wrote c.args.sink.now c.loop-level.sink
       c.in-Some.ensures.items c.loop-level.invariant.prints)
       (subst (Grew g.K.Sink.wrote c.loop-level.sink c.put.new.sink) c.end_bytes.ensures c.in_ok-put-in-End.ensures.all);
@@ -34,11 +34,13 @@ loop-level-preserved-in-Continue-branch-2 g c = record {
 
 pub returns-in_err-put-in-End : goal.returns-in_err-put-in-End
 returns-in_err-put-in-End g c =
-    prints-end-stops c.args.mem.now c.args.names.now c.args.w c.in-Some.level (reverse c.pop.new.self.items) c.in-End.last c.loop-level.nodes g.K.Sink.wrote g.K.Sink.faults c.args.sink.now c.loop-level.sink c.put.new.sink
+    prints-end-stops c.args.mem.now c.args.names.now c.args.w c.in-Some.level (reverse c.pop.new.self.items) c.in-End.last c.loop-level.nodes g.K.Sink.wrote g.K.Sink.faults c.args.sink.now
+    c.loop-level.sink c.put.new.sink
     c.in_err-put-in-End.field-0.0 c.from_residual-in_err-put-in-End.result c.from_residual-in_err-put-in-End.ensures.0 c.loop-level.invariant.told (sym c.next.ensures ∙ c.in-End.is)
     (prints-popped c.args.mem.now c.args.names.now c.args.w c.loop-level.levels.items c.pop.new.self.items c.in-Some.level c.loop-level.nodes g.K.Sink.wrote c.args.sink.now c.loop-level.sink
     c.in-Some.ensures.items c.loop-level.invariant.prints)
-    (written-as g.K.Sink.wrote g.K.Sink.faults c.loop-level.sink c.put.new.sink c.end_bytes.result.now (closing c.in-End.last) (Err c.in_err-put-in-End.field-0.0) c.end_bytes.ensures c.in_err-put-in-End.ensures)
+    (written-as g.K.Sink.wrote g.K.Sink.faults c.loop-level.sink c.put.new.sink c.end_bytes.result.now (closing c.in-End.last) (Err c.in_err-put-in-End.field-0.0) c.end_bytes.ensures
+    c.in_err-put-in-End.ensures)
 
 pub keep-requires : goal.keep-requires
 keep-requires g c =
@@ -65,7 +67,8 @@ begin-requires-in-Part g c =
 
 pub returns-in_err-begin-in-Part : goal.returns-in_err-begin-in-Part
 returns-in_err-begin-in-Part g c =
-    prints-part-stops c.args.mem.now c.args.names.now c.args.w c.in-Some.level (reverse c.pop.new.self.items) c.in-Part.part c.get-word.result (reverse c.keep.new.levels.items) (reverse c.begin-in-Part.new.levels.items)
+    prints-part-stops c.args.mem.now c.args.names.now c.args.w c.in-Some.level (reverse c.pop.new.self.items) c.in-Part.part c.get-word.result (reverse c.keep.new.levels.items)
+    (reverse c.begin-in-Part.new.levels.items)
     c.loop-level.nodes g.K.Sink.wrote g.K.Sink.faults c.args.sink.now c.loop-level.sink c.begin-in-Part.new.sink
     c.in_err-begin-in-Part.field-0.0 c.from_residual-in_err-begin-in-Part.result c.from_residual-in_err-begin-in-Part.ensures.0 c.loop-level.invariant.told (sym c.next.ensures ∙ c.in-Part.is)
     c.get-word.ensures c.keep.ensures
@@ -75,21 +78,25 @@ returns-in_err-begin-in-Part g c =
 
 pub loop-level-smaller : goal.loop-level-smaller
 loop-level-smaller g c =
-    let asks = part-asks c.args.mem.now c.args.names.now c.args.w c.in-Some.level (reverse c.pop.new.self.items) c.in-Part.part c.loop-level.nodes g.K.Sink.wrote c.args.sink.now c.loop-level.sink c.requires
+    let asks = part-asks c.args.mem.now c.args.names.now c.args.w c.in-Some.level (reverse c.pop.new.self.items) c.in-Part.part c.loop-level.nodes g.K.Sink.wrote c.args.sink.now c.loop-level.sink
+    c.requires
     (sym c.next.ensures ∙ c.in-Part.is)
     (prints-popped c.args.mem.now c.args.names.now c.args.w c.loop-level.levels.items c.pop.new.self.items c.in-Some.level c.loop-level.nodes g.K.Sink.wrote c.args.sink.now c.loop-level.sink
     c.in-Some.ensures.items c.loop-level.invariant.prints) in
-    let began = c.in_ok-begin-in-Part.ensures always asks.begins.shared asks.begins.now (subst (λ z. Stands always asks.begins.shared c.args.mem.now z asks.begins.now) (sym c.get-word.ensures) asks.begins.standing) in
+    let began = c.in_ok-begin-in-Part.ensures always asks.begins.shared asks.begins.now (subst (λ z. Stands always asks.begins.shared c.args.mem.now z asks.begins.now) (sym c.get-word.ensures)
+    asks.begins.standing) in
     let grown = levels-grow began.parts c.in-Part.part.more (reverse c.pop.new.self.items) (reverse c.keep.new.levels.items) (reverse c.begin-in-Part.new.levels.items) c.keep.ensures began.levels in
     omega (arith, grown, asks.few, c.in-Some.ensures.len, length-reverse c.pop.new.self.items, length-reverse c.begin-in-Part.new.levels.items)
 
 pub loop-level-preserved : goal.loop-level-preserved
 loop-level-preserved g c =
-    let asks = part-asks c.args.mem.now c.args.names.now c.args.w c.in-Some.level (reverse c.pop.new.self.items) c.in-Part.part c.loop-level.nodes g.K.Sink.wrote c.args.sink.now c.loop-level.sink c.requires
+    let asks = part-asks c.args.mem.now c.args.names.now c.args.w c.in-Some.level (reverse c.pop.new.self.items) c.in-Part.part c.loop-level.nodes g.K.Sink.wrote c.args.sink.now c.loop-level.sink
+    c.requires
     (sym c.next.ensures ∙ c.in-Part.is)
     (prints-popped c.args.mem.now c.args.names.now c.args.w c.loop-level.levels.items c.pop.new.self.items c.in-Some.level c.loop-level.nodes g.K.Sink.wrote c.args.sink.now c.loop-level.sink
     c.in-Some.ensures.items c.loop-level.invariant.prints) in
-    let began = c.in_ok-begin-in-Part.ensures always asks.begins.shared asks.begins.now (subst (λ z. Stands always asks.begins.shared c.args.mem.now z asks.begins.now) (sym c.get-word.ensures) asks.begins.standing) in
+    let began = c.in_ok-begin-in-Part.ensures always asks.begins.shared asks.begins.now (subst (λ z. Stands always asks.begins.shared c.args.mem.now z asks.begins.now) (sym c.get-word.ensures)
+    asks.begins.standing) in
     record {
       prints = prints-part c.args.mem.now c.args.names.now c.args.w c.in-Some.level (reverse c.pop.new.self.items) c.in-Part.part c.get-word.result (reverse c.keep.new.levels.items)
           (reverse c.begin-in-Part.new.levels.items) c.loop-level.nodes g.K.Sink.wrote g.K.Sink.faults c.args.sink.now c.loop-level.sink c.begin-in-Part.new.sink c.in_ok-begin-in-Part.field-0

@@ -4,4 +4,5 @@ use Rattle.term_print.proofs.put.put_three.Goals as goal
 
 pub returns : goal.returns
 returns g c =
-    written-after g.K.Sink.wrote g.K.Sink.faults c.args.sink.now c.put.new.sink c.put_two.new.sink c.args.a.now (c.args.b.now ++ c.args.c.now) c.put_two.result c.in_ok-put.ensures.all c.in_ok-put.ensures.told c.put_two.ensures
+    written-after g.K.Sink.wrote g.K.Sink.faults c.args.sink.now c.put.new.sink c.put_two.new.sink c.args.a.now (c.args.b.now ++ c.args.c.now) c.put_two.result c.in_ok-put.ensures.all
+    c.in_ok-put.ensures.told c.put_two.ensures
