@@ -1,1 +1,4 @@
+mod Arena
 mod Served
+mod Quits
+mod Making

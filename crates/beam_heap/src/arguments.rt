@@ -1,4 +1,11 @@
-// The command line, and what a run's status is outside.
+// The command line.
+ghost use Rattle.std.specs.Prelude.{◌≡◌, ◌≢◌, ◌↔◌, ◌⊎◌, IfErr, IfSome, map, None, string_bytes};
+ghost use Rattle.std.specs.IoError.{error_kind};
+ghost use Rattle.std.specs.Vec.Iter.{into_iter_items};
+ghost use Rattle.engine.specs.Serving.{TellsRead, TellsWrite};
+ghost use Rattle.beam_heap.specs.Arguments.{asked_by};
+ghost use Rattle.beam_heap.specs.Contract.{IfBegun, Ran};
+
 use crate::run::run;
 use crate::store::Store;
 use engine::Status;
@@ -8,61 +15,73 @@ use std::env::Args;
 use std::io;
 use std::io::ErrorKind;
 
-/// Runs with the words of the command line. One that is no UTF-8 is a faulty command line.
-pub(crate) fn run_with<S: Source, K: Sink>(
-    alloc: Global,
-    args: io::Result<Args>,
-    source: &mut S,
-    sink: &mut K,
-) -> Status {
-    let args = match args {
-        Ok(args) => args,
-        Err(fault) => return unread(&fault),
-    };
+/// All words, in order.
+fn words_of(alloc: Global, args: Args) -> Option<Vec<String>>
+    ensures { IfSome result (λ v. v.items ≡ into_iter_items args) }
+{
     let mut words = Vec::new(alloc);
     for word in args {
         let Ok(()) = words.push(word) else {
-            return Status::Memory;
+            return None;
         };
     }
-    let mut texts = Vec::new(alloc);
-    for word in &words {
-        let Ok(()) = texts.push(word.as_str()) else {
-            return Status::Memory;
-        };
-    }
-    let mut store = Store::empty();
-    run(alloc, texts.as_slice(), &mut store, source, sink)
+    Some(words)
 }
 
-/// The status where the words could not be had.
-fn unread(fault: &io::Error) -> Status {
+/// The texts of words, in order.
+fn texts_of<'a>(alloc: Global, words: &'a [String]) -> Option<Vec<&'a str>>
+    ensures { IfSome result (λ v. map (λ t. t.now) v.items ≡ map string_bytes words.now) }
+{
+    let mut texts = Vec::new(alloc);
+    for word in words {
+        let Ok(()) = texts.push(word.as_str()) else {
+            return None;
+        };
+    }
+    Some(texts)
+}
+
+/// The status where the words could not be had: one that is no UTF-8 is a faulty command line.
+fn unread(fault: &io::Error) -> Status
+    ensures memory { result ≡ Status.Memory ↔ (error_kind fault.now ≡ ErrorKind.OutOfMemory) }
+    ensures usage { error_kind fault.now ≢ ErrorKind.OutOfMemory → result ≡ Status.Usage }
+{
     match fault.kind() {
         ErrorKind::OutOfMemory => Status::Memory,
         _ => Status::Usage,
     }
 }
 
-/// The number that the process ends with.
-pub(crate) fn number(status: Status) -> u8 {
-    match status {
-        Status::Done => 0,
-        Status::Usage => 1,
-        Status::ReadFault => 2,
-        Status::WriteFault => 3,
-        Status::Memory => 4,
-        Status::TooMuch => 5,
-    }
-}
-
-/// The line that standard error gets.
-pub(crate) fn complaint(status: Status) -> Option<&'static str> {
-    match status {
-        Status::Done => None,
-        Status::Usage => Some("usage: beam_heap < SCRIPT"),
-        Status::ReadFault => Some("beam_heap: read fault"),
-        Status::WriteFault => Some("beam_heap: write fault"),
-        Status::Memory => Some("beam_heap: no memory"),
-        Status::TooMuch => Some("beam_heap: script too long"),
-    }
+/// Runs with the words of the command line, each one.
+pub(crate) fn run_with<S: Source, K: Sink>(
+    alloc: Global,
+    args: io::Result<Args>,
+    store: &mut Store,
+    source: &mut S,
+    sink: &mut K,
+) -> Status
+    // What `run` promises for its words, for those of the command line.
+    requires vacant { store.old ≡ Store.Vacant }
+    ensures usage { result ≡ Status.Usage → asked_by args ≡ None }
+    ensures refused { asked_by args ≡ None → (result ≡ Status.Usage) ⊎ (result ≡ Status.Memory) }
+    ensures unread { IfErr args (λ e. error_kind e ≢ ErrorKind.OutOfMemory → result ≡ Status.Usage) }
+    ensures ran { IfBegun result
+        (Ran (asked_by args) (source.new ≡ source.old)
+        (record { before = S.left source.old; after = S.left source.new })
+        (record { wrote = K.wrote; faults = K.faults; before = sink.old; after = sink.new }) store.new result)
+        ((store.new ≡ Store.Vacant) × (source.new ≡ source.old) × (sink.new ≡ sink.old)) }
+    ensures read_told { TellsRead result (S.faults source.old) (S.faults source.new) }
+    ensures write_told { TellsWrite result (K.faults sink.old) (K.faults sink.new) }
+{
+    let args = match args {
+        Ok(args) => args,
+        Err(fault) => return unread(&fault),
+    };
+    let Some(words) = words_of(alloc, args) else {
+        return Status::Memory;
+    };
+    let Some(texts) = texts_of(alloc, words.as_slice()) else {
+        return Status::Memory;
+    };
+    run(alloc, texts.as_slice(), store, source, sink)
 }

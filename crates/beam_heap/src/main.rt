@@ -2,8 +2,13 @@
 #![tactic(auto)]
 
 mod arguments;
+mod made;
+mod opening;
 mod run;
+mod serving;
+mod statuses;
 mod store;
+mod summary;
 #[cfg(test)]
 mod tests;
 
@@ -15,11 +20,18 @@ use std::{env, io};
 pub use store::Store;
 
 fn main(rt: HostRuntime) -> ExitCode {
+    let mut store = Store::empty();
     let mut source = StdSource::new(rt.reader());
     let mut sink = StdSink::new(io::writer(&rt));
-    let status = arguments::run_with(rt.alloc(), env::args(&rt), &mut source, &mut sink);
-    if let Some(text) = arguments::complaint(status) {
+    let status = arguments::run_with(
+        rt.alloc(),
+        env::args(&rt),
+        &mut store,
+        &mut source,
+        &mut sink,
+    );
+    if let Some(text) = statuses::complaint(status) {
         let _ = eprintln!(rt; "{text}");
     }
-    ExitCode::from(arguments::number(status))
+    ExitCode::from(statuses::number(status))
 }

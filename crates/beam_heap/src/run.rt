@@ -1,54 +1,58 @@
-ghost use Rattle.std.specs.Prelude.{◌≡◌, ◌↔◌, ℕ, ◌+◌, ◌<◌, ◌≤◌, length, IfSome, Option, List};
+ghost use Rattle.std.specs.Prelude.{◌≡◌, ◌≢◌, ◌⊎◌, map, true, None};
 ghost use Rattle.line_io.specs.Faults.{Rose};
-ghost use Rattle.line_io.specs.Reader.{limits_of};
-ghost use Rattle.plain_machine.specs.State.{first_state, State};
-ghost use Rattle.plain_machine.specs.May.{may_of_tight};
-ghost use Rattle.engine.specs.Acts.{StandsWith};
-ghost use Rattle.engine.specs.Serving.{IsNew, Served, TellsRead, TellsWrite};
-ghost use Rattle.beam_heap.specs.Contract.{StoreStands, IfServed, IsComplete};
+ghost use Rattle.command_line.specs.Words.{asks};
+ghost use Rattle.engine.specs.Serving.{TellsRead, TellsWrite};
+ghost use Rattle.command_line.specs.Values.{is_arena};
+ghost use Rattle.beam_heap.specs.Contract.{IfBegun, IsComplete, Ran, RunBy, refused_by};
 
+use crate::made::run_made;
+use crate::serving::run_read;
 use crate::store::Store;
-use atom_names::AtomNames;
-use engine::{Machine, Status, serve};
-use line_io::{Limits, LineReader, Sink, Source};
-use one_space::OneSpace;
-use script_parse::Code;
-use space_api::Space;
+use command_line::{Options, Refusal, read_options};
+use engine::Status;
+use line_io::{Sink, Source};
 use std::alloc::Global;
 
-/// How many words the arena has, both halves (this project).
-pub const ARENA_WORDS: u64 = 1_048_576;
-
-/// How many lines and bytes a script may have (this project).
-pub const LIMITS: Limits = Limits {
-    lines: 1 << 32,
-    bytes: 1 << 48,
-};
-
-/// A machine in its first state: process 1 lives, and there are no names.
-fn first_machine(alloc: Global) -> Option<Machine<OneSpace>>
-    ensures stands { IfSome result (λ m. StandsWith (⟦<OneSpace as Space>⟧.stands m.space) m.names first_state) }
-    ensures words { IfSome result (λ m. ⟦<OneSpace as Space>⟧.words m.space ≡ ARENA_WORDS) }
-    ensures calls { IfSome result (λ m. ⟦<OneSpace as Space>⟧.calls m.space ≡ 0) }
-    ensures named { IfSome result (λ m. ⟦<OneSpace as Space>⟧.named m.space ≤ length m.names) }
+/// The status where the words of the command line give no options.
+fn refused(refusal: Refusal) -> Status
+    ensures { result ≡ refused_by refusal }
 {
-    let Ok(space) = OneSpace::start(alloc, ARENA_WORDS) else {
-        return None;
-    };
-    let Ok(names) = AtomNames::new(alloc) else {
-        return None;
-    };
-    let Ok(code) = Code::new(alloc) else {
-        return None;
-    };
-    Some(Machine { space, names, code })
+    match refusal {
+        Refusal::Usage => Status::Usage,
+        Refusal::Memory => Status::Memory,
+    }
 }
 
-/// Serves the script of `source`, writes its replies to `sink`, and leaves the machine in `store`.
+/// Does what the options ask for.
+fn run_by<S: Source, K: Sink>(
+    alloc: Global,
+    options: Options,
+    store: &mut Store,
+    source: &mut S,
+    sink: &mut K,
+) -> Status
+    requires arena { is_arena options.arena ≡ true }
+    requires vacant { store.old ≡ Store.Vacant }
+    ensures begins { result ≢ Status.Usage }
+    ensures ran { IfBegun result
+        (RunBy options (source.new ≡ source.old)
+        (record { before = S.left source.old; after = S.left source.new })
+        (record { wrote = K.wrote; faults = K.faults; before = sink.old; after = sink.new }) store.new result)
+        ((store.new ≡ Store.Vacant) × (source.new ≡ source.old) × (sink.new ≡ sink.old)) }
+    ensures read_told { TellsRead result (S.faults source.old) (S.faults source.new) }
+    ensures write_told { TellsWrite result (K.faults sink.old) (K.faults sink.new) }
+{
+    match options.made_from {
+        None => run_read(alloc, options.arena, store, source, sink),
+        Some(number) => run_made(alloc, options.arena, number, store, sink),
+    }
+}
+
+/// Does what the words of the command line ask for, and leaves the machine in `store`: serves the script of `source`
+/// and writes its replies to `sink`, or makes a script from a number and writes the summary of its replies.
 ///
-/// `words` are those of the command line, the program's name first; with any word after it the answer
-/// is `Usage`. What the store held is dropped. All memory is taken before the first line is read, and
-/// only then `Memory` can come. After a fault of the sink the last line read is part of the state.
+/// `words` begin with the program's name. What the store held is dropped. All memory is taken before the first line,
+/// and only then `Memory` can come. After a fault of the sink the last line read is part of the state.
 pub fn run<S: Source, K: Sink>(
     alloc: Global,
     words: &[&str],
@@ -56,16 +60,16 @@ pub fn run<S: Source, K: Sink>(
     source: &mut S,
     sink: &mut K,
 ) -> Status
-    // Only the program's name may stand on the command line.
-    ensures usage { result ≡ Status.Usage ↔ (1 < length words.now) }
+    // `Usage` comes exactly where the words ask for nothing that there is, if there is memory to read them.
+    ensures usage { result ≡ Status.Usage → asks (map (λ w. w.now) words.now) ≡ None }
+    ensures refused { asks (map (λ w. w.now) words.now) ≡ None → (result ≡ Status.Usage) ⊎ (result ≡ Status.Memory) }
 
     // Each line was answered as by a machine of plain trees, and the store and its image stand for its last state, over the
-    // arena of that many words; else nothing was read or written, and the store is vacant.
-    ensures served { IfServed result
-        (Served (record { supply = record { may = may_of_tight; words = ARENA_WORDS }; first = first_state; limits = LIMITS })
+    // arena that the words ask for; else nothing was read or written, and the store is vacant.
+    ensures ran { IfBegun result
+        (Ran (asks (map (λ w. w.now) words.now)) (source.new ≡ source.old)
         (record { before = S.left source.old; after = S.left source.new })
-        (record { wrote = K.wrote; faults = K.faults; before = sink.old; after = sink.new })
-        (StoreStands ARENA_WORDS store.new) result)
+        (record { wrote = K.wrote; faults = K.faults; before = sink.old; after = sink.new }) store.new result)
         ((store.new ≡ Store.Vacant) × (source.new ≡ source.old) × (sink.new ≡ sink.old)) }
 
     // A fault is told: the count of an object's faults rose where the status says so, and else is as before.
@@ -77,17 +81,8 @@ pub fn run<S: Source, K: Sink>(
         (Rose (K.faults sink.old) (K.faults sink.new)) }
 {
     *store = Store::Vacant;
-    if words.len() > 1 {
-        return Status::Usage;
+    match read_options(alloc, words) {
+        Ok(options) => run_by(alloc, options, store, source, sink),
+        Err(refusal) => refused(refusal),
     }
-    let Some(mut machine) = first_machine(alloc) else {
-        return Status::Memory;
-    };
-    let Ok(mut reader) = LineReader::new(alloc, LIMITS) else {
-        return Status::Memory;
-    };
-    let status = serve(&mut machine, &mut reader, source, sink);
-    machine.space.images_stand();
-    *store = Store::One(machine);
-    status
 }

@@ -1,7 +1,7 @@
 // Reads and writes that fail, each call in turn.
 ghost use Rattle.std.specs.Prelude.{◌<◌, ◌≤◌};
 
-use super::{Failing, ends_with};
+use super::{Ending, Failing, NAME_ALONE, ends_with};
 use engine::Status;
 use std::alloc::Global;
 use std::test::Fail;
@@ -25,6 +25,17 @@ const CALLS: usize = 32;
 struct End {
     status: Status,
     written: usize,
+}
+
+// The same with the replies.
+fn ending_of(end: End) -> Ending<'static>
+    requires { end.written ≤ 9 }
+{
+    Ending {
+        status: end.status,
+        written: &REPLIES[..end.written],
+        vacant: false,
+    }
 }
 
 // The end where this read fails: the whole lines that came before were answered. The last read finds the end.
@@ -77,14 +88,7 @@ fn reading_is_told(alloc: Global, piece: usize) -> Result<bool, Fail>
             reads: &[call as u64],
             writes: &[],
         };
-        if !ends_with(
-            alloc,
-            SCRIPT,
-            piece,
-            failing,
-            end.status,
-            &REPLIES[..end.written],
-        )? {
+        if !ends_with(alloc, NAME_ALONE, SCRIPT, piece, failing, ending_of(end))? {
             return Ok(false);
         }
     }
@@ -101,14 +105,7 @@ fn writing_is_told(alloc: Global, piece: usize) -> Result<bool, Fail>
             reads: &[],
             writes: &[call as u64],
         };
-        if !ends_with(
-            alloc,
-            SCRIPT,
-            piece,
-            failing,
-            end.status,
-            &REPLIES[..end.written],
-        )? {
+        if !ends_with(alloc, NAME_ALONE, SCRIPT, piece, failing, ending_of(end))? {
             return Ok(false);
         }
     }

@@ -1,6 +1,16 @@
 -- The machine is made of a space in its first state and of no names.
 use Rattle.std.proofs.Common.{arith}
-use Rattle.beam_heap.proofs.run.first_machine.Goals as goal
+use Rattle.beam_heap.proofs.Arena.{arena-bounds}
+use Rattle.beam_heap.proofs.opening.first_machine.Goals as goal
+
+pub start-requires-clause-least : goal.start-requires-clause-least
+start-requires-clause-least c = (arena-bounds c.args.words c.requires).0
+
+pub start-requires-clause-most : goal.start-requires-clause-most
+start-requires-clause-most c = (arena-bounds c.args.words c.requires).1
+
+pub start-requires-clause-even : goal.start-requires-clause-even
+start-requires-clause-even c = (arena-bounds c.args.words c.requires).2
 
 pub returns-clause-stands : goal.returns-clause-stands
 returns-clause-stands c = (c.in-Ok.ensures.first, c.in-Ok-new.ensures)
