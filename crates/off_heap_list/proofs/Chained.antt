@@ -74,7 +74,7 @@ link-stays c d old new p k l =
             k.weaker (p + 1) FURTHER s.0,
             k.same (p + 1) FURTHER (omega arith) s.0
                 ∙ (s.1 ∙
-            (sym (record-length c old new (λ a r past h. k.same a r (omega (arith, past)) h) (named old p) l.words l.record_is) ∙ ap (λ v. length_in new v) (sym (link-named c d old new p k l)))),
+                (sym (record-length c old new (λ a r past h. k.same a r (omega (arith, past)) h) (named old p) l.words l.record_is) ∙ ap (λ v. length_in new v) (sym (link-named c d old new p k l)))),
           );
       words = l.words;
       record_is = subst Q (sym (link-named c d old new p k l)) (record-stays c d old new (named old p) l.words k l.record_is);

@@ -1,0 +1,3 @@
+pub mod Moving
+pub mod Walking
+pub mod Narrow
