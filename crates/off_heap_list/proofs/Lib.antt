@@ -1,5 +1,5 @@
 pub mod Chained
 pub mod Sweeping
-pub mod Exact
 pub mod Tallied
 pub mod Turning
+pub mod Exact

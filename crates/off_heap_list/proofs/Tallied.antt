@@ -302,5 +302,7 @@ sweeps-done c start mem head first last len words freed i os further s end =
       };
       freed = s.freed_is;
       writes = s.writes;
+      content = s.since.content;
+      back = s.since.back;
       trees = frame c c start mem s.since.content;
     }

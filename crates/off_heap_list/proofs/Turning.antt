@@ -11,7 +11,7 @@ use Rattle.off_heap_list.specs.Swept.{records_of, IsReadAt, Relinked, IsLast}
 use Rattle.off_heap_list.specs.declared.whole.Survivors.{Survivors}
 use Rattle.off_heap_list.specs.Whole.{turned, held_by, OnlyNext, EndRecords, SweptWhole, TurnedWhole}
 use Rattle.off_heap_list.specs.Turned.{Turning}
-use Rattle.off_heap_list.proofs.Chained.{roles-apart, link-named, link-stays, naming-stays, leads-stays}
+use Rattle.off_heap_list.proofs.Chained.{kept-then, roles-apart, link-named, link-stays, naming-stays, leads-stays}
 use Rattle.off_heap_list.proofs.Sweeping.{relinked-next, relinked-kept, relinked-back, relinked-then, relinked-wider, relinked-keeps, SameObject, moved-same, named-same, old-stays, records-same}
 use Rattle.off_heap_list.proofs.Tallied.{Goes, goes, none-left, all-held-stay}
 
@@ -208,5 +208,7 @@ in-old-order c start mem mem2 os xs further left first single s t =
       records = ends-still c start mem mem2 left.last s.ends single t.writes s.records;
       freed = s.freed;
       writes = relinked-then c os start mem mem2 s.writes (relinked-wider c [] os mem mem2 (λ p i. absurd i) (only-relinked c mem mem2 t.writes));
+      content = kept-then c start mem mem2 s.content (relinked-kept c [] mem mem2 single (λ x k i h. i) (only-relinked c mem mem2 t.writes));
+      back = kept-then c mem2 mem start back s.back;
       trees = record { each = λ shared w u st. t.trees.each shared w u (s.trees.each shared w u st) };
     }

@@ -2,7 +2,7 @@
 use Rattle.std.specs.Prelude.{◌≡◌, ℕ, ◌+◌, ◌<◌, if◌then◌else◌, Bool, true, List, [], ◌∷◌, Option, Some, None, length, slice_index}
 use Rattle.term_words.specs.Role.{NEXT, IsSingle}
 use Rattle.term_words.specs.Object.{IsRecord}
-use Rattle.term_words.specs.Kept.{Keeps}
+use Rattle.term_words.specs.Kept.{Kept, Keeps}
 use Rattle.term_words.specs.Counted.{In, Distinct}
 use Rattle.shared_rec.specs.Record.{count_in}
 use Rattle.off_heap_list.specs.declared.whole.Order.{Order}
@@ -55,6 +55,8 @@ pub record SweptWhole (c : ℕ → ℕ → Bool) (start mem : List ℕ) (os kept
   pub records : EndRecords c start mem left.last ends
   pub freed : left.freed ≡ length ends
   pub writes : Relinked c os start mem
+  pub content : Kept c c start mem
+  pub back : Kept c c mem start
   pub trees : Keeps c c start mem
 
 -- A chain of so many objects stands before a sweep.

@@ -1,14 +1,18 @@
 // What objects have a word `next`, and what keeps chains.
-ghost use Rattle.std.specs.Prelude.{◌≡◌, ℕ, ◌+◌, ◌/◌, ◌<◌, ◌≤◌, Bool, true, false, List, [], ◌∷◌, length};
+ghost use Rattle.std.specs.Prelude.{◌≡◌, ℕ, ◌+◌, ◌/◌, ◌<◌, ◌≤◌, ◌⊎◌, Bool, true, false, List, [], ◌∷◌, ◌++◌, length};
 ghost use Rattle.plain_term.specs.Tree.{Trees};
 ghost use Rattle.plain_term.specs.Tree.Tree.{Shared, Fun};
 ghost use Rattle.term_words.specs.Stands.{Stands};
 ghost use Rattle.term_words.specs.Kept.{Kept};
 ghost use Rattle.shared_rec.specs.Record.{count_in};
 ghost use Rattle.off_heap_list.specs.Links.{named, IsLink, Links};
-ghost use Rattle.off_heap_list.specs.Exact.{ListsHeld, Exact};
+ghost use Rattle.off_heap_list.specs.Exact.{ListsHeld, AllCounted, Exact, OwnChain, AreOwn, objects_of, Chained};
 ghost use Rattle.off_heap_list.specs.Turned.{Turning};
-ghost use Rattle.off_heap_list.specs.Swept.{is_moved, new_place, IsOld, Sweeping};
+ghost use Rattle.off_heap_list.specs.Swept.{is_moved, new_place, records_of, IsOld, Sweeping};
+ghost use Rattle.off_heap_list.specs.Whole.{SweptWhole};
+ghost use Rattle.off_heap_list.specs.declared.whole.Survivors.{Survivors};
+ghost use Rattle.term_words.specs.Object.{IsRecord};
+ghost use Rattle.term_words.specs.Counted.{In, Distinct};
 
 /// A shared binary that stands, and a fun, can be chained, but for one at place 0.
 pub fn holders_and_funs_are_links()
@@ -46,10 +50,28 @@ pub fn sweeps_end()
         → Sweeping c mem head [] first kept last ends further → Links c mem first kept further }
 {}
 
-/// Where a chain lists exactly the holders and funs that the roots reach, and nothing beside it names a record, each record's
-/// count is the number of them that name it.
+/// Where a chain, or several with a further list, have exactly the holders and funs that the roots reach, and no record has
+/// count 0, each record's count is the number of them that name it.
 pub fn chains_of_what_is_reached_count_exactly()
-    ensures { (c : ℕ → ℕ → Bool) (mem roots : List ℕ) (head : ℕ) (os : List ℕ) → Links c mem head os [] → ListsHeld c mem roots os → Exact c mem roots }
+    ensures one { (c : ℕ → ℕ → Bool) (mem roots : List ℕ) (head : ℕ) (os : List ℕ) → Links c mem head os [] → ListsHeld c mem roots os → AllCounted c mem
+        → Exact c mem roots }
+    ensures several { (c : ℕ → ℕ → Bool) (mem roots : List ℕ) (xs : List OwnChain) (further : List ℕ) → Chained c mem roots xs further
+        → ListsHeld c mem roots (objects_of xs ++ further) → Exact c mem roots }
+{}
+
+/// Where no record had count 0 before a sweep, each record has one after it, or is told as freed.
+pub fn swept_records_are_counted_or_told()
+    ensures { (c : ℕ → ℕ → Bool) (start mem os kept further : List ℕ) (left : Survivors) (s : SweptWhole c start mem os kept further left)
+        → AllCounted c start → (v n : ℕ) → IsRecord c mem v n → (1 ≤ count_in mem v) ⊎ In v (records_of mem s.ends) }
+{}
+
+/// One of several chains is a chain with the objects of the others beside it, and back.
+pub fn each_of_several_chains_is_one()
+    ensures one { (c : ℕ → ℕ → Bool) (mem roots : List ℕ) (xs ys : List OwnChain) (x : OwnChain) (further : List ℕ)
+        → Chained c mem roots (xs ++ x ∷ ys) further → Links c mem x.head x.os (objects_of xs ++ (objects_of ys ++ further)) }
+    ensures several { (c : ℕ → ℕ → Bool) (mem roots : List ℕ) (xs ys : List OwnChain) (x : OwnChain) (further : List ℕ)
+        → AreOwn c mem roots (xs ++ x ∷ ys) → Distinct (objects_of (xs ++ x ∷ ys)) → AllCounted c mem
+        → Links c mem x.head x.os (objects_of xs ++ (objects_of ys ++ further)) → Chained c mem roots (xs ++ x ∷ ys) further }
 {}
 
 /// A chain can be turned round, and when all of its objects were seen the new chain has them, the last one first.

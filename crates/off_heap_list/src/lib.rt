@@ -10,8 +10,9 @@ mod whole;
 
 pub use chains::{Unchained, chain, unchain};
 pub use laws::{
-    chained_objects_stay, chains_of_what_is_reached_count_exactly, holders_and_funs_are_links,
-    sweeps_end, sweeps_go_on, turns_begin_and_end,
+    chained_objects_stay, chains_of_what_is_reached_count_exactly, each_of_several_chains_is_one,
+    holders_and_funs_are_links, sweeps_end, sweeps_go_on, swept_records_are_counted_or_told,
+    turns_begin_and_end,
 };
 pub use links::{next_of, record_of, set_next, set_record};
 pub use sweep::{Sweep, Swept, sweep_next, sweep_one};
