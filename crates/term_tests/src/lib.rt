@@ -1,10 +1,8 @@
-//! Tests of terms as words and as trees: their parts, measures, order and builders, over contracts alone.
+//! Tests of the parts of terms, of a builder's words, and of the order of trees, over contracts alone.
 #![tactic(auto)]
 
 #[cfg(test)]
 mod building;
-#[cfg(test)]
-mod ladder;
 #[cfg(test)]
 mod ordering;
 #[cfg(test)]
