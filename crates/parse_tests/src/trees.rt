@@ -3,11 +3,15 @@ use plain_term::{Item, Tree, TreeFault, depth, flat, nodes};
 use std::alloc::Global;
 
 // Items, and the nodes, the depth and the flat size of their tree; none where they are no whole term.
-const ROWS: [(&[Item], Option<[u64; 3]>); 8] = [
+const ROWS: [(&[Item], Option<[u64; 3]>); 9] = [
     (&[], None),
     (&[Item::Cons, Item::Int(1)], None),
     (&[Item::Nil, Item::Nil], None),
     (&[Item::Held(0)], None),
+    (
+        &[Item::Int(-170_141_183_460_469_231_731_687_303_715_884_105_728)],
+        None,
+    ),
     (&[Item::Tuple(0)], Some([1, 1, 1])),
     (&[Item::Int(-576_460_752_303_423_489)], Some([1, 0, 2])),
     (

@@ -35,18 +35,24 @@ const KINDS: [(u64, Kind); 21] = [
     (1_073_741_824, Kind::Other),
 ];
 
-fn is_kind(word: u64, kind: Kind) -> bool {
-    match (kind_of(word), kind) {
-        (Kind::Small(i), Kind::Small(j)) => i == j,
-        (Kind::Pid(n), Kind::Pid(m)) => n == m,
-        (Kind::Atom(n), Kind::Atom(m)) => n == m,
-        (Kind::ListAt(p), Kind::ListAt(q)) => p == q,
-        (Kind::BoxedAt(p), Kind::BoxedAt(q)) => p == q,
-        (Kind::Header(s, n), Kind::Header(r, m)) => s == r && n == m,
-        (Kind::Nil, Kind::Nil) => true,
-        (Kind::Other, Kind::Other) => true,
-        _ => false,
+// A kind by its number, its value and its second number.
+fn told(kind: Kind) -> (u8, i64, u64) {
+    match kind {
+        Kind::Small(i) => (0, i, 0),
+        Kind::Pid(n) => (1, 0, n),
+        Kind::Atom(k) => (2, 0, k),
+        Kind::ListAt(place) => (3, 0, place),
+        Kind::BoxedAt(place) => (4, 0, place),
+        Kind::Header(subtag, arity) => (5, i64::from(subtag), arity),
+        Kind::Nil => (6, 0, 0),
+        Kind::Other => (7, 0, 0),
     }
+}
+
+fn is_kind(word: u64, kind: Kind) -> bool {
+    let (found, value, number) = told(kind_of(word));
+    let (wanted, wanted_value, wanted_number) = told(kind);
+    found == wanted && value == wanted_value && number == wanted_number
 }
 
 #[test]
