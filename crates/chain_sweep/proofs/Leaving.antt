@@ -118,7 +118,7 @@ module _ (p : Plan) (y : Ready p) (m : List ℕ) (top : Bool → ℕ) (w : Colle
   role-goes a k (inr (inl e)) h = r.follows.records a k (omega (arith, e)) h
   role-goes a k (inr (inr e)) h = r.follows.records a k (omega (arith, e)) h
 
-  record-goes : (v n : ℕ) → IsRecord p.test p.start v n → IsRecord r.test m v n
+  pub record-goes : (v n : ℕ) → IsRecord p.test p.start v n → IsRecord r.test m v n
   record-goes = record-same p.test r.test p.start m (omega (arith, w.same_len)) role-goes w.records
 
   length-stays : (v n : ℕ) → IsRecord p.test p.start v n → get_or m (v + 3) 0 ≡ get_or p.start (v + 3) 0
@@ -168,7 +168,7 @@ module _ (p : Plan) (y : Ready p) (m : List ℕ) (top : Bool → ℕ) (w : Colle
   first-at : p.test ((o * 4 + 2) / 4) FIRST ≡ true
   first-at = let P : ℕ → Type 0 = λ q. p.test q FIRST ≡ true in subst P (sym at) l.first
 
-  which : IsLeftOrMoved p m (o * 4 + 2)
+  pub which : IsLeftOrMoved p m (o * 4 + 2)
   which = w.headers (o * 4 + 2) tag first-at header-at
 
   names-at : p.test (o + off (get_or p.start o 0)) NAMES ≡ true
@@ -188,7 +188,7 @@ module _ (p : Plan) (y : Ready p) (m : List ℕ) (top : Bool → ℕ) (w : Colle
   left-word : (get_or m ((o * 4 + 2) / 4) 0 ≡ get_or p.start ((o * 4 + 2) / 4) 0) → get_or m o 0 ≡ get_or p.start o 0
   left-word same = ap (λ q. get_or m q 0) (sym at) ∙ (same ∙ ap (λ q. get_or p.start q 0) at)
 
-  left-not : (get_or m ((o * 4 + 2) / 4) 0 ≡ get_or p.start ((o * 4 + 2) / 4) 0) → is_moved m o ≡ false
+  pub left-not : (get_or m ((o * 4 + 2) / 4) 0 ≡ get_or p.start ((o * 4 + 2) / 4) 0) → is_moved m o ≡ false
   left-not same = let z : get_or m o 0 % 4 ≡ 0 = ap (λ x. x % 4) (left-word same) ∙ header-tag (get_or p.start o 0) l.kind in rw z refl
 
   left-named : (get_or m ((o * 4 + 2) / 4) 0 ≡ get_or p.start ((o * 4 + 2) / 4) 0) → named m o ≡ named p.start o
@@ -243,11 +243,11 @@ module _ (p : Plan) (y : Ready p) (m : List ℕ) (top : Bool → ℕ) (w : Colle
   new-some : ((b : Bool) → 0 < p.low b) → Reached p (o * 4 + 2) → Leaves p (o * 4 + 2) → 0 < new_place m o
   new-some rooms re le = omega (arith, (copied re le).from, place-is, rooms (p.mature ((o * 4 + 2) / 4)))
 
-  new-link : ((b : Bool) → 0 < p.low b) → Reached p (o * 4 + 2) → Leaves p (o * 4 + 2) → IsLink r.test m (new_place m o)
+  pub new-link : ((b : Bool) → 0 < p.low b) → Reached p (o * 4 + 2) → Leaves p (o * 4 + 2) → IsLink r.test m (new_place m o)
   new-link rooms re le = link-there p.test r.test p.start m o (new_place m o) l (new-some rooms re le) (new-within re le) (new-head re le) (λ h. new-word re le 1 (omega arith))
       (new-word re le (off (get_or p.start o 0)) (omega (arith, (off-small (get_or p.start o 0)).1.0))) (new-role re le) (record-goes p y m top w s r) (length-stays p y m top w s r)
 
-  new-named : ((b : Bool) → 0 < p.low b) → Reached p (o * 4 + 2) → Leaves p (o * 4 + 2) → named m (new_place m o) ≡ named p.start o
+  pub new-named : ((b : Bool) → 0 < p.low b) → Reached p (o * 4 + 2) → Leaves p (o * 4 + 2) → named m (new_place m o) ≡ named p.start o
   new-named rooms re le = named-there p.test r.test p.start m o (new_place m o) l (new-some rooms re le) (new-within re le) (new-head re le) (λ h. new-word re le 1 (omega arith))
       (new-word re le (off (get_or p.start o 0)) (omega (arith, (off-small (get_or p.start o 0)).1.0))) (new-role re le) (record-goes p y m top w s r) (length-stays p y m top w s r)
 
