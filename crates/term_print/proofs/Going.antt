@@ -19,7 +19,8 @@ use Rattle.term_print.specs.declared.levels.Part.{Part}
 use Rattle.term_print.specs.declared.levels.Step.TheVariants as step
 use Rattle.term_print.specs.Left.{mark_text, closing, taken, after_level, IsCountable, IsLeft, level_text, reach}
 use Rattle.term_print.specs.Printed.{CanPrint, CanBegin, Opens, Begins}
-use Rattle.term_print.proofs.Writing.{written-stops}
+use Rattle.term_print.specs.Runs.{CanGather, Gathers}
+use Rattle.term_print.proofs.Writing.{written-as, written-stops}
 use Rattle.term_print.proofs.Taking.{IsMore, more_text, IsNoDeeper, Took, ends, took, countable}
 
 -- The words that are left stand for these trees, level by level.
@@ -287,6 +288,48 @@ end-stops {K} {E} {F} c shared mem names t l ls last seen wrote faults start bef
     written-stops wrote faults start before after (text names shared t) g.came (closing last) (text_left names shared ls top.others) e r failed g.grew same
     (level-ends c shared mem names t l ls last seen wrote start before is g top) w
 
+-- What a level begins with was gathered and written, or a fault came in that.
+
+gathered-text : {K : Type 0} (c : ℕ → ℕ → Bool) (shared : List (List ℕ)) (mem : List ℕ) (names : List (List ℕ)) (t : Tree) (l m : Level) (ls : List Level) (x : List ℕ) (seen : ℕ)
+    (wrote : K → List ℕ → Type 0) (start before : K) → (g : Printing c shared mem names t (l ∷ ls) seen wrote start before) → (top : TopLeft c shared mem l ls g.rests)
+    → (k : Gathers c shared mem names l m x top.top) → text names shared t ≡ g.came ++ (x ++ text_left names shared (m ∷ ls) (k.rest ∷ top.others))
+gathered-text c shared mem names t l m ls x seen wrote start before g top k =
+    g.whole ∙ ap (λ z. g.came ++ text_left names shared (l ∷ ls) z) top.cons
+    ∙ ap (λ z. g.came ++ (z ++ text_left names shared ls top.others)) k.whole
+    ∙ ap (λ z. g.came ++ z) (append_assoc x (level_text names shared m k.rest) (text_left names shared ls top.others))
+
+gathered-goes : {K : Type 0} (c : ℕ → ℕ → Bool) (shared : List (List ℕ)) (mem : List ℕ) (names : List (List ℕ)) (t : Tree) (l m : Level) (ls : List Level) (x : List ℕ) (seen : ℕ)
+    (wrote : K → List ℕ → Type 0) (start before after : K) → (g : Printing c shared mem names t (l ∷ ls) seen wrote start before)
+    → ((ts : Trees) → IsLeft c shared mem l ts → Gathers c shared mem names l m x ts) → Grew wrote before after x → Printing c shared mem names t (m ∷ ls) seen wrote start after
+gathered-goes c shared mem names t l m ls x seen wrote start before after g more w =
+    let top : TopLeft c shared mem l ls g.rests = top-left c shared mem l ls g.rests g.left in
+    let k : Gathers c shared mem names l m x top.top = more top.top top.is_left in
+    record {
+      rests = k.rest ∷ top.others;
+      came = g.came ++ x;
+      left = (k.left, top.are_left);
+      whole = gathered-text c shared mem names t l m ls x seen wrote start before g top k ∙ sym (append_assoc g.came x (text_left names shared (m ∷ ls) (k.rest ∷ top.others)));
+      grew = Grew-append wrote start before after g.came x g.grew w;
+      fits = λ f.
+          let P : List Trees → Type 0 = λ z. StaysPrintable (length names) shared (l ∷ ls) z seen in
+          let s : StaysPrintable (length names) shared (l ∷ ls) (top.top ∷ top.others) seen = subst P top.cons (g.fits f) in
+          record {
+            few = omega (arith, s.few, k.fewer);
+            shallow = (omega (arith, s.shallow.0, k.deep), s.shallow.1);
+            named = (k.named s.named.0, s.named.1);
+          };
+    }
+
+gathered-stops : {K E F : Type 0} (c : ℕ → ℕ → Bool) (shared : List (List ℕ)) (mem : List ℕ) (names : List (List ℕ)) (t : Tree) (l m : Level) (ls : List Level) (x : List ℕ) (seen : ℕ)
+    (wrote : K → List ℕ → Type 0) (faults : K → ℕ) (start before after : K) (e : E) (r : Result (Unit {0}) F) → IsErr r → faults before ≡ faults start
+    → (g : Printing c shared mem names t (l ∷ ls) seen wrote start before)
+    → ((ts : Trees) → IsLeft c shared mem l ts → Gathers c shared mem names l m x ts) → Written wrote faults before after x (Err e) → Written wrote faults start after (text names shared t) r
+gathered-stops c shared mem names t l m ls x seen wrote faults start before after e r failed same g more w =
+    let top : TopLeft c shared mem l ls g.rests = top-left c shared mem l ls g.rests g.left in
+    let k : Gathers c shared mem names l m x top.top = more top.top top.is_left in
+    written-stops wrote faults start before after (text names shared t) g.came x (text_left names shared (m ∷ ls) (k.rest ∷ top.others)) e r failed g.grew same
+    (gathered-text c shared mem names t l m ls x seen wrote start before g top k) w
+
 -- All is written where no level is left.
 
 all-came : {K E : Type 0} (c : ℕ → ℕ → Bool) (shared : List (List ℕ)) (mem : List ℕ) (names : List (List ℕ)) (t : Tree) (levels : List Level) (seen : ℕ) (wrote : K → List ℕ → Type 0)
@@ -321,6 +364,26 @@ first-stops {K} {E} {F} mem names w old new wrote faults start after e r failed 
     let P : List Level → Type 0 = λ z. Begins {K = K} {E = E} c shared mem names [] false t z new wrote faults start after (Err e) in
     goes-off c shared mem names t [] false w [] new 0 wrote faults start start after e r failed refl (comes-first c shared mem names t w wrote start s) (subst P none (b c shared t s))
 
+-- What is gathered of a level, of all trees.
+abbrev pub AllGather : List ℕ → (l m : Level) → List ℕ → Type 0
+AllGather mem l m x = (c : ℕ → ℕ → Bool) (shared names : List (List ℕ)) (ts : Trees) → IsLeft c shared mem l ts → Gathers c shared mem names l m x ts
+
+pub prints-gathered : {K : Type 0} (mem : List ℕ) (names : List (List ℕ)) (w : ℕ) (xs ys : List Level) (l m : Level) (x put : List ℕ) (seen : ℕ) (wrote : K → List ℕ → Type 0)
+    (start before after : K) → xs ≡ ys ++ l ∷ [] → put ≡ x → Prints mem names w (reverse xs) seen wrote start before → AllGather mem l m x → Grew wrote before after put
+    → Prints mem names w (m ∷ reverse ys) seen wrote start after
+prints-gathered {K} mem names w xs ys l m x put seen wrote start before after items e p more g = λ c shared t s.
+    let P : List ℕ → Type 0 = λ z. Grew wrote before after z in
+    gathered-goes c shared mem names t l m (reverse ys) x seen wrote start before after (prints-popped mem names w xs ys l seen wrote start before items p c shared t s) (more c shared names)
+    (subst P e g)
+
+pub prints-gathered-stops : {K E F : Type 0} (mem : List ℕ) (names : List (List ℕ)) (w : ℕ) (xs ys : List Level) (l m : Level) (x put : List ℕ) (seen : ℕ) (wrote : K → List ℕ → Type 0)
+    (faults : K → ℕ) (start before after : K) (e : E) (r : Result (Unit {0}) F) → IsErr r → faults before ≡ faults start → xs ≡ ys ++ l ∷ [] → put ≡ x
+    → Prints mem names w (reverse xs) seen wrote start before → AllGather mem l m x → Written wrote faults before after put (Err e)
+    → (c : ℕ → ℕ → Bool) (shared : List (List ℕ)) (t : Tree) → Stands c shared mem w t → Written wrote faults start after (text names shared t) r
+prints-gathered-stops mem names w xs ys l m x put seen wrote faults start before after e r failed same items is p more g = λ c shared t s.
+    gathered-stops c shared mem names t l m (reverse ys) x seen wrote faults start before after e r failed same (prints-popped mem names w xs ys l seen wrote start before items p c shared t s)
+    (more c shared names) (written-as wrote faults before after put x (Err e) is g)
+
 pub prints-end : {K : Type 0} (mem : List ℕ) (names : List (List ℕ)) (w : ℕ) (l : Level) (ls : List Level) (last : Bool) (seen : ℕ) (wrote : K → List ℕ → Type 0) (start before after : K)
     → taken l ≡ step.End last → Prints mem names w (l ∷ ls) seen wrote start before → Grew wrote before after (closing last) → Prints mem names w ls seen wrote start after
 prints-end mem names w l ls last seen wrote start before after e p g = λ c shared t s. end-goes c shared mem names t l ls last seen wrote start before after e (p c shared t s) g
@@ -335,7 +398,8 @@ prints-end-stops mem names w l ls last seen wrote faults start before after e r 
 
 pub prints-part : {K E : Type 0} (mem : List ℕ) (names : List (List ℕ)) (w : ℕ) (l : Level) (ls : List Level) (p : Part) (word : ℕ) (old new : List Level) (seen : ℕ) (wrote : K → List ℕ → Type 0)
     (faults : K → ℕ) (start before after : K) (u : Unit {0}) → taken l ≡ step.Part p → word ≡ get_or mem p.place 0 → old ≡ after_level p.more ls → Prints mem names w (l ∷ ls) seen wrote start before
-    → ((c : ℕ → ℕ → Bool) (shared : List (List ℕ)) (now : Tree) → Stands c shared mem word now → Begins {K = K} {E = E} c shared mem names (mark_text p.mark) p.tail now old new wrote faults before after (Ok u))
+    → ((c : ℕ → ℕ → Bool) (shared : List (List ℕ)) (now : Tree) → Stands c shared mem word now
+    → Begins {K = K} {E = E} c shared mem names (mark_text p.mark) p.tail now old new wrote faults before after (Ok u))
     → Prints mem names w new (seen + 1) wrote start after
 prints-part {K} {E} mem names w l ls p word old new seen wrote faults start before after u e at is g b = λ c shared t s.
     let n : Coming c shared mem names t (mark_text p.mark) p.tail (get_or mem p.place 0) (after_level p.more ls) seen wrote start before = comes-part c shared mem names t l ls p seen wrote start
@@ -349,7 +413,8 @@ pub prints-part-stops : {K E F : Type 0} (mem : List ℕ) (names : List (List �
     (wrote : K → List ℕ → Type 0) (faults : K → ℕ)
     (start before after : K) (x : E) (r : Result (Unit {0}) F) → IsErr r → faults before ≡ faults start → taken l ≡ step.Part p → word ≡ get_or mem p.place 0 → old ≡ after_level p.more ls
     → Prints mem names w (l ∷ ls) seen wrote start before
-    → ((c : ℕ → ℕ → Bool) (shared : List (List ℕ)) (now : Tree) → Stands c shared mem word now → Begins {K = K} {E = E} c shared mem names (mark_text p.mark) p.tail now old new wrote faults before after (Err x))
+    → ((c : ℕ → ℕ → Bool) (shared : List (List ℕ)) (now : Tree) → Stands c shared mem word now
+    → Begins {K = K} {E = E} c shared mem names (mark_text p.mark) p.tail now old new wrote faults before after (Err x))
     → (c : ℕ → ℕ → Bool) (shared : List (List ℕ)) (t : Tree) → Stands c shared mem w t → Written wrote faults start after (text names shared t) r
 prints-part-stops {K} {E} {F} mem names w l ls p word old new seen wrote faults start before after x r failed same e at is g b = λ c shared t s.
     let n : Coming c shared mem names t (mark_text p.mark) p.tail (get_or mem p.place 0) (after_level p.more ls) seen wrote start before = comes-part c shared mem names t l ls p seen wrote start
@@ -416,6 +481,13 @@ begins-kept mem names ls new p seen word at is a =
     let P : ℕ → Type 0 = λ z. CanBegin mem names new z in
     let Q : List Level → Type 0 = λ z. CanBegin mem names z (get_or mem p.place 0) in
     subst P (sym at) (subst Q (sym is) a.begins)
+
+pub level-gathers : {K : Type 0} (mem : List ℕ) (names : List (List ℕ)) (w : ℕ) (l : Level) (ls : List Level) (seen : ℕ) (wrote : K → List ℕ → Type 0) (start now : K) → CanPrint mem names w
+    → Prints mem names w (l ∷ ls) seen wrote start now → CanGather mem l
+level-gathers mem names w l ls seen wrote start now h g =
+    let here = g always h.shared h.tree h.standing in
+    let top = top-left always h.shared mem l ls here.rests here.left in
+    record { shared = h.shared; ts = top.top; left = top.is_left }
 
 pub level-counts : {K : Type 0} (mem : List ℕ) (names : List (List ℕ)) (w : ℕ) (l : Level) (ls : List Level) (seen : ℕ) (wrote : K → List ℕ → Type 0) (start now : K) → CanPrint mem names w
     → length mem ≤ 2 ^ 24 → Prints mem names w (l ∷ ls) seen wrote start now → IsCountable l

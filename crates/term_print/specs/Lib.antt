@@ -1,3 +1,4 @@
 pub mod Left
 pub mod Own
 pub mod Printed
+pub mod Runs

@@ -46,7 +46,8 @@ Opens c shared mem names tail now own (Some l) = HasParts c shared mem names tai
 
 -- The mark and the tree's own text are written, and the level of its parts is on top of the others.
 pub record Begins {K E : Type 0} (c : ℕ → ℕ → Bool) (shared : List (List ℕ)) (mem : List ℕ) (names : List (List ℕ)) (mark : List ℕ)
-    (tail : Bool) (now : Tree) (old new : List Level) (wrote : K → List ℕ → Type 0) (faults : K → ℕ) (before after : K) (result : Result (Unit {0}) E) : Type 0 where
+    (tail : Bool) (now : Tree) (old new : List Level) (wrote : K → List ℕ → Type 0) (faults : K → ℕ) (before after : K)
+    (result : Result (Unit {0}) E) : Type 0 where
   pub own : List ℕ
   pub parts : Option Level
   pub opens : Opens c shared mem names tail now own parts

@@ -6,5 +6,6 @@ mod levels;
 mod own;
 mod printing;
 mod put;
+mod runs;
 
 pub use printing::print;

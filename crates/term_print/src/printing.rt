@@ -11,6 +11,7 @@ ghost use Rattle.term_print.specs.Printed.{Begins, CanBegin, CanPrint};
 use crate::levels::{Level, Mark, Step, end_bytes, keep, level_of, mark_bytes, next};
 use crate::own::put_own;
 use crate::put::put;
+use crate::runs::gather;
 use arrayvec::ArrayVec;
 use atom_names::AtomNames;
 use line_io::{Sink, SinkFault};
@@ -48,9 +49,12 @@ fn print_whole<K: Sink>(
 {
     let _len = mem.len();
     let mut levels = ArrayVec::new();
+    let mut text = ArrayVec::new();
     let mut nodes: u64 = 1;
     begin(mem, names, &mut levels, w, Mark::Nothing, false, sink)?;
-    while let Some(level) = levels.pop() {
+    while let Some(top) = levels.pop() {
+        let level = gather(mem, top, &mut text);
+        put(sink, text.as_slice())?;
         match next(level) {
             Step::End(last) => put(sink, end_bytes(last))?,
             Step::Part(part) => {

@@ -1,0 +1,71 @@
+-- What is gathered of a list.
+use Rattle.std.proofs.Common.{◌≡◌, ℕ, ◌+◌, ◌≤◌, Bool, true, false, List, [], ◌++◌, codes, length, get_or, refl, sym, ap, ◌∙◌, subst, arith, append_assoc, ℤ}
+use Rattle.std.specs.Fmt.{signed_decimal}
+use Rattle.plain_term.specs.Tree.{Tree, Trees}
+use Rattle.plain_term.specs.Tree.Trees.{end, ◌▹◌}
+use Rattle.plain_term.specs.Text.{text_as}
+use Rattle.term_words.specs.Role.{always}
+use Rattle.term_words.specs.Stands.{Stands}
+use Rattle.term_read.specs.Look.{Sees}
+use Rattle.term_read.specs.declared.looks.Look.TheVariants as look
+use Rattle.term_order.specs.Named.{is_named, are_named}
+use Rattle.term_order.proofs.Owning.{both-true}
+use Rattle.term_print.specs.declared.levels.Level.{Level}
+use Rattle.term_print.specs.declared.levels.Level.TheVariants as level
+use Rattle.term_print.specs.Left.{AreTwo, IsLeft, level_text, list_text}
+use Rattle.term_print.specs.Printed.{HasParts}
+use Rattle.term_print.specs.Runs.{CanGather, Gathers}
+use Rattle.term_print.proofs.Opening.{opens}
+
+-- Nothing is gathered.
+pub gathers-none : (c : ℕ → ℕ → Bool) (shared : List (List ℕ)) (mem : List ℕ) (names : List (List ℕ)) (l m : Level) (came : List ℕ) (ts : Trees) → l ≡ m → came ≡ [] → IsLeft c shared mem l ts
+    → Gathers c shared mem names l m came ts
+gathers-none c shared mem names l m came ts e none left =
+    let P : Level → Type 0 = λ z. Gathers c shared mem names l z came ts in
+    let Q : List ℕ → Type 0 = λ z. Gathers c shared mem names l l z ts in
+    subst P e (subst Q (sym none) (record { rest = ts; left = left; whole = refl; fewer = omega arith; deep = omega arith; named = λ p. p }))
+
+-- More is gathered.
+pub gathers-more : (c : ℕ → ℕ → Bool) (shared : List (List ℕ)) (mem : List ℕ) (names : List (List ℕ)) (l m n : Level) (came x all : List ℕ) (ts : Trees) → all ≡ came ++ x
+    → (g : Gathers c shared mem names l m came ts) → Gathers c shared mem names m n x g.rest → Gathers c shared mem names l n all ts
+gathers-more c shared mem names l m n came x all ts e g h =
+    let P : List ℕ → Type 0 = λ z. Gathers c shared mem names l n z ts in
+    subst P (sym e) (record {
+      rest = h.rest;
+      left = h.left;
+      whole = g.whole ∙ ap (λ z. came ++ z) h.whole ∙ sym (append_assoc came x (level_text names shared n h.rest));
+      fewer = omega (arith, g.fewer, h.fewer);
+      deep = omega (arith, g.deep, h.deep);
+      named = λ p. h.named (g.named p);
+    })
+
+-- A place with a small integer, and a place behind it.
+
+two-gathered : (c : ℕ → ℕ → Bool) (shared : List (List ℕ)) (mem : List ℕ) (names : List (List ℕ)) (place next : ℕ) (i : ℤ) (h t : Tree) → text_as names shared false h ≡ signed_decimal i
+    → HasParts c shared mem names true t (codes ",") (level.List next) → Gathers c shared mem names (level.List place) (level.List next) (signed_decimal i ++ codes ",") (h ▹ (t ▹ end))
+two-gathered c shared mem names place next i h t e o = record {
+  rest = o.parts;
+  left = o.left;
+  whole = ap (λ z. z ++ text_as names shared true t) e ∙ ap (λ z. signed_decimal i ++ z) o.whole ∙ sym (append_assoc (signed_decimal i) (codes ",") (list_text names shared o.parts));
+  fewer = omega (arith, o.fewer);
+  deep = omega (arith, o.deep);
+  named = λ p. o.named (both-true (is_named (length names) t) true (both-true (is_named (length names) h) (are_named (length names) (t ▹ end)) p).1).0;
+}
+
+pub cell-gathered : (c : ℕ → ℕ → Bool) (shared : List (List ℕ)) (mem : List ℕ) (names : List (List ℕ)) (place next v w : ℕ) (i : ℤ) (ts : Trees) → v ≡ get_or mem place 0 → w ≡ get_or mem (place + 1) 0
+    → Sees mem v (look.Small i) → Sees mem w (look.Cons next) → AreTwo c shared mem place ts → Gathers c shared mem names (level.List place) (level.List next) (signed_decimal i ++ codes ",") ts
+cell-gathered c shared mem names place next v w i ts ev ew small cons r =
+    let P : Trees → Type 0 = λ z. Gathers c shared mem names (level.List place) (level.List next) (signed_decimal i ++ codes ",") z in
+    let Q : Tree → ℕ → Type 0 = λ t z. Stands c shared mem z t in
+    let head = opens c shared mem names v false r.head (look.Small i) (small.each c shared r.head (subst (Q r.head) (sym ev) r.head_stands)) in
+    let tail = opens c shared mem names w true r.tail (look.Cons next) (cons.each c shared r.tail (subst (Q r.tail) (sym ew) r.tail_stands)) in
+    subst P (sym r.two) (two-gathered c shared mem names place next i r.head r.tail head tail)
+
+-- What a look at a list asks for.
+
+pub gather-within : (mem : List ℕ) (place : ℕ) → CanGather mem (level.List place) → place + 2 ≤ length mem
+gather-within mem place h = h.left.within
+
+pub gathers-can : (mem : List ℕ) (l m : Level) (came : List ℕ) → CanGather mem l
+    → ((c : ℕ → ℕ → Bool) (shared names : List (List ℕ)) (ts : Trees) → IsLeft c shared mem l ts → Gathers c shared mem names l m came ts) → CanGather mem m
+gathers-can mem l m came h g = let here = g always h.shared [] h.ts h.left in record { shared = h.shared; ts = here.rest; left = here.left }

@@ -1,0 +1,58 @@
+// Small integers at the front of a list, which are gathered and written at once.
+ghost use Rattle.std.specs.Prelude.{◌≡◌, ℕ, Bool, List, []};
+ghost use Rattle.plain_term.specs.Tree.{Trees};
+ghost use Rattle.term_print.specs.Left.{AreTwo, IsLeft};
+ghost use Rattle.term_print.specs.Runs.{CanGather, Gathers};
+
+use crate::levels::Level;
+use arrayvec::ArrayVec;
+use itoa::Buffer;
+use term_tags::{Kind, kind_of};
+use word_mem::WordMem;
+
+/// How many bytes are gathered at most.
+pub const ROOM: usize = 1024;
+
+// A run ends once this many are; a number and its comma have room then.
+const ENOUGH: usize = 960;
+
+/// Gathers what a level begins with: of a list the small integers at its front, each with its comma, as far as the text
+/// holds them. Answers what is left.
+pub fn gather(mem: &WordMem, level: Level, text: &mut ArrayVec<u8, ROOM>) -> Level
+    requires { CanGather mem.now level }
+    ensures { (c : ℕ → ℕ → Bool) (shared names : List (List ℕ)) (ts : Trees) → IsLeft c shared mem.now level ts
+        → Gathers c shared mem.now names level result text.new.items ts }
+{
+    text.clear();
+    if let Level::List(place) = level {
+        return Level::List(gather_list(mem, place, text));
+    }
+    level
+}
+
+// The same of a list, to an empty text. Answers the place of the list that is left.
+fn gather_list(mem: &WordMem, place: u64, text: &mut ArrayVec<u8, ROOM>) -> u64
+    requires list { CanGather mem.now (Level.List place) }
+    requires empty { text.old.items ≡ [] }
+    ensures { (c : ℕ → ℕ → Bool) (shared names : List (List ℕ)) (ts : Trees) → AreTwo c shared mem.now place ts
+        → Gathers c shared mem.now names (Level.List place) (Level.List result) text.new.items ts }
+{
+    let _len = mem.len();
+    let mut buffer = Buffer::new();
+    let mut at = place;
+    while text.len() < ENOUGH {
+        let Kind::Small(i) = kind_of(mem.get(at)) else {
+            return at;
+        };
+        let Kind::ListAt(next) = kind_of(mem.get(at + 1)) else {
+            return at;
+        };
+        let digits = buffer.format(i);
+        let Ok(()) = text.try_extend_from_slice(digits.as_bytes()) else {
+            return at;
+        };
+        text.push(b',');
+        at = next;
+    }
+    at
+}
