@@ -12,8 +12,11 @@ use std::test::Fail;
 enum Turn {
     Moves(usize),
     Interrupt,
-    Break,
+    Fails(ErrorKind),
 }
+
+// One of the errors that are faults.
+const BREAK: Turn = Turn::Fails(ErrorKind::BrokenPipe);
 
 // A reader of the byte `x` and a writer that does its turns one after the other, and then the last one for ever.
 #[derive(Drop)]
@@ -29,7 +32,7 @@ impl<'a> Scripted<'a> {
         match self.next_turn() {
             Turn::Moves(n) => Ok(len.min(n)),
             Turn::Interrupt => Err(io::Error::from(ErrorKind::Interrupted)),
-            Turn::Break => Err(io::Error::from(ErrorKind::BrokenPipe)),
+            Turn::Fails(kind) => Err(io::Error::from(kind)),
         }
     }
 
@@ -73,7 +76,7 @@ enum Reading {
 // The turns of a reader, what it does from then on, and what reads into four bytes bring.
 const READS: [(&[Turn], Turn, &[Reading]); 4] = [
     (
-        &[Turn::Moves(2), Turn::Break, Turn::Moves(9), Turn::Break],
+        &[Turn::Moves(2), BREAK, Turn::Moves(9), BREAK],
         Turn::Moves(0),
         &[
             Reading::Bytes(2),
@@ -88,7 +91,7 @@ const READS: [(&[Turn], Turn, &[Reading]); 4] = [
         Turn::Moves(0),
         &[Reading::Bytes(3), Reading::End],
     ),
-    (&[Turn::Interrupt], Turn::Break, &[Reading::Fault]),
+    (&[Turn::Interrupt], BREAK, &[Reading::Fault]),
     (&[], Turn::Interrupt, &[Reading::Fault, Reading::Fault]),
 ];
 
@@ -127,9 +130,9 @@ const WRITES: [(&[Turn], Option<usize>); 10] = [
     (&[Turn::Moves(2), Turn::Moves(0)], Some(2)),
     (&[Turn::Moves(9), Turn::Moves(0)], Some(4)),
     (&[Turn::Moves(0), Turn::Moves(0)], None),
-    (&[Turn::Moves(0), Turn::Break], None),
-    (&[Turn::Moves(4), Turn::Break], None),
-    (&[Turn::Break, Turn::Moves(0)], None),
+    (&[Turn::Moves(0), BREAK], None),
+    (&[Turn::Moves(4), BREAK], None),
+    (&[BREAK, Turn::Moves(0)], None),
     (&[Turn::Interrupt, Turn::Moves(3), Turn::Moves(0)], Some(3)),
     (&[Turn::Moves(3), Turn::Interrupt, Turn::Moves(0)], Some(3)),
     (&[], None),
@@ -149,6 +152,32 @@ fn takes_as(turns: &[Turn], taken: Option<usize>) -> bool {
 fn a_writer_of_std_takes_bytes_or_fails(rt: HostRuntime) {
     for (turns, taken) in &WRITES {
         assert!(rt; takes_as(turns, *taken));
+    }
+}
+
+// Errors that are no interrupt.
+const FAULTS: [ErrorKind; 6] = [
+    ErrorKind::WouldBlock,
+    ErrorKind::UnexpectedEof,
+    ErrorKind::BrokenPipe,
+    ErrorKind::StorageFull,
+    ErrorKind::TimedOut,
+    ErrorKind::Other,
+];
+
+// Whether an error is a fault of a read, of a write and of a flush.
+fn is_fault(kind: ErrorKind) -> bool {
+    let turns = [Turn::Fails(kind)];
+    let flushing = [Turn::Moves(4), Turn::Fails(kind)];
+    reads_as(&turns, Turn::Moves(0), &[Reading::Fault, Reading::End])
+        && takes_as(&turns, None)
+        && takes_as(&flushing, None)
+}
+
+#[test]
+fn each_other_error_is_a_fault(rt: HostRuntime) {
+    for kind in FAULTS {
+        assert!(rt; is_fault(kind));
     }
 }
 
