@@ -1,24 +1,31 @@
 -- What each command does: to the numbers of processes, to proper trees, and what its reply tells. Each law of runs goes by this.
-use Rattle.std.proofs.Common.{◌≡◌, ℕ, ◌⊎◌, inl, inr, Bool, true, false, not, ◌==◌, nat_le, List, [], ◌∷◌, ◌++◌, filter, length, Option, Some, None, Result, Ok, Err, codes, decimal, refl}
-use Rattle.plain_term.specs.Tree.{Tree}
+use Rattle.std.proofs.Common.{◌≡◌, ℕ, ◌+◌, ◌⊎◌, inl, inr, Bool, true, false, not, ◌==◌, nat_le, nat_lt, List, [], ◌∷◌, ◌++◌, filter, length, Option, Some, None, Result, Ok, Err, codes, decimal, refl}
+use Rattle.plain_term.specs.Tree.{Tree, Pairs}
 use Rattle.plain_term.specs.Tree.{Tree as tree}
+use Rattle.plain_term.specs.Beyond.{is_beyond}
+use Rattle.plain_term.specs.Proper.{is_proper}
 use Rattle.script_grammar.specs.Written.{Terms}
 use Rattle.script_grammar.specs.declared.command.Command.{Command}
 use Rattle.script_grammar.specs.declared.command.Command.TheVariants.{Nothing, Process, System}
 use Rattle.script_grammar.specs.declared.command.Verb.{Verb}
-use Rattle.script_grammar.specs.declared.command.Verb.TheVariants.{Set, Own, Push, Pop, Gc, Exit}
+use Rattle.script_grammar.specs.declared.command.Verb.TheVariants.{Set, Choose, MapPut, Ref, Own, Repeat, Push, Pop, Gc, Exit}
 use Rattle.script_grammar.specs.declared.command.SysVerb.{SysVerb}
 use Rattle.script_grammar.specs.declared.command.SysVerb.TheVariants.{Spawn, Sweep, Quit}
 use Rattle.script_grammar.specs.declared.refusal.Refusal.{Refusal}
 use Rattle.script_grammar.specs.Names.{Parsed}
-use Rattle.plain_machine.specs.declared.limits.TheConstants.{MOST_PROCESSES}
-use Rattle.plain_machine.specs.State.{Process as Live, State, HasNames, process_of, fresh_process, register, with_register}
-use Rattle.plain_machine.specs.Step.{Outcome, by_command, in_process, by_verb, by_system, collect_step, pop_from, spawn_if, tells, told_of, told_of_system, written_tree, is_printing}
+use Rattle.plain_machine.specs.declared.limits.TheConstants.{MOST_PROCESSES, MOST_PLACES}
+use Rattle.plain_machine.specs.State.{Process as Live, State, HasNames, process_of, fresh_process, register, with_register, with_process}
+use Rattle.plain_machine.specs.Made.{with_pair, too_many}
+use Rattle.plain_machine.specs.Parts.{picked, pairs_in, repeated}
+use Rattle.plain_machine.specs.Step.{Outcome, by_command, in_process, by_verb, by_system, does, with_made, unless_flawed, written_flaw, choose, put_unless_wide, put_unless_big, put_pair, repeat_if, collect_step, pop_from, spawn_if, tells, told_of, told_of_system, written_tree, is_printing}
 use Rattle.plain_machine.specs.Step.Outcome.{Accepted, Refused, Mapped}
 use Rattle.plain_machine.specs.Run.{is_quit}
 use Rattle.plain_machine.specs.Laws.{AreProper, HoldsProper}
 use Rattle.plain_machine.proofs.Numbers.{Keeps, keeps-same, keeps-numbers, keeps-process, keeps-gone, keeps-come}
-use Rattle.plain_machine.proofs.Holding.{Holds, Before, Builds, before, found-proper, all-live, in-place, in-register, built-leaves, at-proper, set-proper, gone-proper, spawned-proper}
+use Rattle.plain_machine.proofs.Putting.{put-rises, put-proper}
+use Rattle.plain_machine.proofs.Parts.{IfProper, at-proper, picked-proper, map-proper, repeated-proper}
+use Rattle.plain_machine.proofs.Growing.{map-parts}
+use Rattle.plain_machine.proofs.Holding.{Holds, Before, Builds, before, found-proper, all-live, in-place, in-register, built-leaves, set-proper, gone-proper, spawned-proper}
 
 -- the numbers after an outcome
 abbrev pub OutcomeKeeps : State → Outcome → Type 0
@@ -73,6 +80,55 @@ collect-does s p c e = record {
   printing = λ f. absurd (cc);
 }
 
+-- a tree in a register
+register-does : (s : State) (p : Parsed) (q : Live) (n r : ℕ) (x : Verb) (t : Tree) → is_printing (Process n x) ≡ false
+    → (HoldsProper s → HasNames s p.names → Before s p.names × Holds p.names s.shared q × (is_proper p.names s.shared t ≡ true))
+    → Does s p (Process n x) (does p (with_process (with_register r t q) s))
+register-does s p q n r x t e f = record {
+  numbers = keeps-process s _ (with_register r t q) refl refl;
+  told = inl (codes "k", refl);
+  proper = λ h m b. let k = f h m in record { proper = in-register s p.names q r t (k.0) (k.1) (k.2) };
+  printing = λ g. absurd (cc);
+}
+
+-- `hd`, `tl`, `elem`, `mapget`
+choose-does : (s : State) (p : Parsed) (q : Live) (n r : ℕ) (x : Verb) (o : Option Tree) → is_printing (Process n x) ≡ false
+    → (HoldsProper s → HasNames s p.names → Before s p.names × Holds p.names s.shared q × IfProper p.names s.shared o) → Does s p (Process n x) (choose o s p q r)
+choose-does s p q n r x None e f = refused-does s p (Process n x) _
+choose-does s p q n r x (Some t) e f = register-does s p q n r x t e f
+
+-- `mapput`
+put-does : (s : State) (p : Parsed) (q : Live) (n r : ℕ) (x : Verb) (m k v : Tree) → is_printing (Process n x) ≡ false
+    → (HoldsProper s → HasNames s p.names → Before s p.names × Holds p.names s.shared q
+    × (is_proper p.names s.shared m ≡ true) × (is_proper p.names s.shared k ≡ true) × (is_proper p.names s.shared v ≡ true))
+    → Does s p (Process n x) (put_pair (pairs_in m) k v s p q r)
+put-does s p q n r x (tree.Map ps) k v e f = at-key (is_beyond s.shared k) refl
+  where
+    all : Pairs
+    all = with_pair p.names s.shared k v ps
+
+    at-size : (b : Bool) → too_many all ≡ b → is_beyond s.shared k ≡ false → Does s p (Process n x) (put_unless_wide b all s p q r)
+    at-size true wide within = refused-does s p (Process n x) _
+    at-size false wide within = register-does s p q n r x (tree.Map all) e (λ h m.
+        let g = f h m in
+        let parts = map-parts p.names [] s.shared [] ps (g.2) in (
+          g.0,
+          g.1,
+          map-proper p.names s.shared all wide (put-rises p.names s.shared k v ps (parts.1))
+              (put-proper p.names s.shared k v ps (record { key = g.3; within = within; value = g.4 }) (parts.2)),
+        ))
+
+    at-key : (b : Bool) → is_beyond s.shared k ≡ b → Does s p (Process n x) (put_unless_big b all s p q r)
+    at-key true big = refused-does s p (Process n x) _
+    at-key false big = at-size (too_many all) refl big
+put-does s p q n r x _ k v e f = refused-does s p (Process n x) _
+
+-- `mktuple`, `mklist`
+repeat-does : (s : State) (p : Parsed) (q : Live) (n r : ℕ) (x : Verb) (many : Bool) (t : Tree) → is_printing (Process n x) ≡ false
+    → (HoldsProper s → HasNames s p.names → Before s p.names × Holds p.names s.shared q × (is_proper p.names s.shared t ≡ true)) → Does s p (Process n x) (repeat_if many t s p q r)
+repeat-does s p q n r x true t e f = refused-does s p (Process n x) _
+repeat-does s p q n r x false t e f = register-does s p q n r x t e f
+
 -- `pop`
 pop-does : (s : State) (p : Parsed) (q : Live) (n r : ℕ) (x : Verb) (stack : List Tree) → is_printing (Process n x) ≡ false
     → (HoldsProper s → HasNames s p.names → Before s p.names × Holds p.names s.shared q × AreProper p.names s.shared stack) → Does s p (Process n x) (pop_from stack s p q r)
@@ -94,19 +150,36 @@ module _ (s : State) (p : Parsed) (n : ℕ) (q : Live) (found : process_of n s �
   holds : HoldsProper s → HasNames s p.names → Holds p.names s.shared q
   holds h m = found-proper p.names s.shared n s.processes q (before s p.names m h).held found
 
+  in-holds : (r : ℕ) → HoldsProper s → HasNames s p.names → is_proper p.names s.shared (register r q) ≡ true
+  in-holds r h m = at-proper p.names s.shared q.registers r (holds h m).registers
+
   verb-does : (v : Verb) → Does s p (Process n v) (by_verb s p q v)
-  verb-does (Set r) = record {
-    numbers = keeps-process s _ (with_register (r.0) ((written_tree s p q p.terms).0) q) refl refl;
+  verb-does (Set r) = at (written_flaw s p q p.terms) refl
+    where
+      at : (o : Option Refusal) → written_flaw s p q p.terms ≡ o → Does s p (Process n (Set r)) (unless_flawed o (does p (with_made s q (r.0) (written_tree s p q p.terms))))
+      at (Some x) e = refused-does s p (Process n (Set r)) x
+      at None e = record {
+        numbers = keeps-process s _ (with_register (r.0) ((written_tree s p q p.terms).0) q) refl refl;
+        told = inl (codes "k", refl);
+        proper = λ h m t. record { proper = built-leaves s p q (r.0) (names-before h m) (holds h m) t e };
+        printing = λ e. absurd (cc);
+      }
+  verb-does (Choose r m how) = choose-does s p q n (r.0) (Choose r m how) (picked p.names s.shared q how (register (m.0) q)) refl
+      (λ h k. (names-before h k, holds h k, picked-proper p.names s.shared q how (register (m.0) q) (in-holds (m.0) h k)))
+  verb-does (MapPut r m k v) = put-does s p q n (r.0) (MapPut r m k v) (register (m.0) q) (register (k.0) q) (register (v.0) q) refl
+      (λ h x. (names-before h x, holds h x, in-holds (m.0) h x, in-holds (k.0) h x, in-holds (v.0) h x))
+  verb-does (Ref r) = record {
+    numbers = keeps-process s _ (record (with_register (r.0) (tree.Ref q.number (q.refs + 1)) q) { refs = q.refs + 1 }) refl refl;
     told = inl (codes "k", refl);
-    proper = λ h m t. record { proper = built-leaves s p q (r.0) (names-before h m) (holds h m) t };
+    proper = λ h m t. let k = holds h m in record {
+      proper = in-place s p.names (record (with_register (r.0) (tree.Ref q.number (q.refs + 1)) q) { refs = q.refs + 1 }) (names-before h m)
+          (record { registers = set-proper p.names s.shared q.registers (r.0) (tree.Ref q.number (q.refs + 1)) k.registers refl; stack = k.stack; queue = k.queue });
+    };
     printing = λ e. absurd (cc);
   }
-  verb-does (Own r) = record {
-    numbers = keeps-process s _ (with_register (r.0) (tree.Pid q.number) q) refl refl;
-    told = inl (codes "k", refl);
-    proper = λ h m t. record { proper = in-register s p.names q (r.0) (tree.Pid q.number) (names-before h m) (holds h m) refl };
-    printing = λ e. absurd (cc);
-  }
+  verb-does (Own r) = register-does s p q n (r.0) (Own r) (tree.Pid q.number) refl (λ h m. (names-before h m, holds h m, refl))
+  verb-does (Repeat r shape k m) = repeat-does s p q n (r.0) (Repeat r shape k m) (nat_lt MOST_PLACES k) (repeated shape k (register (m.0) q)) refl
+      (λ h x. (names-before h x, holds h x, repeated-proper p.names s.shared shape k (register (m.0) q) (in-holds (m.0) h x)))
   verb-does (Push r) = record {
     numbers = keeps-process s _ (record q { stack = register (r.0) q ∷ q.stack }) refl refl;
     told = inl (codes "k", refl);

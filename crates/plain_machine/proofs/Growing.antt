@@ -21,10 +21,10 @@ module _ (names more s extra : List (List ℕ)) where
   id-grown zero h = refl
   id-grown (suc k) h = get_or_append_left s extra [] k (omega (arith, leb-true (suc k) (length s) h))
 
-  cons-parts : (h t : Tree) → is_proper names s (Cons h t) ≡ true → (is_proper names s h ≡ true) × (is_proper names s t ≡ true)
+  pub cons-parts : (h t : Tree) → is_proper names s (Cons h t) ≡ true → (is_proper names s h ≡ true) × (is_proper names s t ≡ true)
   cons-parts h t e = and_parts (is_proper names s h) (is_proper names s t) e
 
-  all-parts : (t : Tree) (ts : Trees) → are_proper names s (t ▹ ts) ≡ true → (is_proper names s t ≡ true) × (are_proper names s ts ≡ true)
+  pub all-parts : (t : Tree) (ts : Trees) → are_proper names s (t ▹ ts) ≡ true → (is_proper names s t ≡ true) × (are_proper names s ts ≡ true)
   all-parts t ts e = and_parts (is_proper names s t) (are_proper names s ts) e
 
   fun-parts : (f a c : ℕ) (ts : Trees) → is_proper names s (Fun f a c ts) ≡ true → (nat_lt f (length names) ≡ true) × (are_proper names s ts ≡ true)
@@ -36,12 +36,12 @@ module _ (names more s extra : List (List ℕ)) where
       let a = and_parts (is_base base && is_proper names s base) (nat_le (offset + len) (length (bytes_of s base))) e in
       let b = and_parts (is_base base) (is_proper names s base) a.0 in (b.0, b.1, a.1)
 
-  map-parts : (ps : Pairs) → is_proper names s (Map ps) ≡ true → (nat_le (pairs_len ps) 32 ≡ true) × (keys_rise names s ps ≡ true) × (are_proper_pairs names s ps ≡ true)
+  pub map-parts : (ps : Pairs) → is_proper names s (Map ps) ≡ true → (nat_le (pairs_len ps) 32 ≡ true) × (keys_rise names s ps ≡ true) × (are_proper_pairs names s ps ≡ true)
   map-parts ps e =
       let a = and_parts (nat_le (pairs_len ps) 32 && keys_rise names s ps) (are_proper_pairs names s ps) e in
       let b = and_parts (nat_le (pairs_len ps) 32) (keys_rise names s ps) a.0 in (b.0, b.1, a.1)
 
-  pairs-parts : (k v : Tree) (ps : Pairs) → are_proper_pairs names s (pair k v ps) ≡ true
+  pub pairs-parts : (k v : Tree) (ps : Pairs) → are_proper_pairs names s (pair k v ps) ≡ true
       → (is_proper names s k ≡ true) × (not (is_beyond s k) ≡ true) × (is_proper names s v ≡ true) × (are_proper_pairs names s ps ≡ true)
   pairs-parts k v ps e =
       let a = and_parts (is_proper names s k && not (is_beyond s k) && is_proper names s v) (are_proper_pairs names s ps) e in

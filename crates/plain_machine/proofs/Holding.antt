@@ -1,5 +1,5 @@
 -- Proper trees that live: what keeps them when a process changes, comes or goes, and names are added.
-use Rattle.std.proofs.Common.{◌≡◌, ℕ, zero, suc, Bool, true, false, not, cond, ◌==◌, List, [], ◌∷◌, ◌++◌, map, filter, replicate, get_or, set, Some, refl, sym, subst, append-nil}
+use Rattle.std.proofs.Common.{◌≡◌, ℕ, zero, suc, Bool, true, false, not, cond, ◌==◌, List, [], ◌∷◌, ◌++◌, map, filter, replicate, set, None, Some, refl, sym, subst, append-nil}
 use Rattle.std.specs.Prelude.{flat_map}
 use Rattle.std.specs.List.{find}
 use Rattle.plain_term.specs.Tree.{Tree}
@@ -13,7 +13,8 @@ use Rattle.script_grammar.specs.Names.{Parsed, atoms_of}
 use Rattle.plain_machine.specs.Made.{tree_of}
 use Rattle.plain_machine.specs.State.{Process as Live, Area, State, HasNames, fresh_process, with_register}
 use Rattle.plain_machine.specs.Tightness.{held_trees, living_trees}
-use Rattle.plain_machine.specs.Step.{written_tree}
+use Rattle.plain_machine.specs.Flaws.{is_wide, is_big, flaw_of}
+use Rattle.plain_machine.specs.Step.{written_tree, written_flaw}
 use Rattle.plain_machine.specs.Laws.{AreProper, HoldsProper}
 use Rattle.plain_machine.proofs.Growing.{proper-grown}
 use Rattle.plain_machine.proofs.Making.{HaveNumbers, made-proper, shared-kept}
@@ -39,11 +40,6 @@ module _ (names shared : List (List ℕ)) where
   nils-proper : (n : ℕ) → AreProper names shared (replicate n tree.Nil)
   nils-proper zero = tt
   nils-proper (suc n) = (refl, nils-proper n)
-
-  pub at-proper : (ts : List Tree) (k : ℕ) → AreProper names shared ts → is_proper names shared (get_or ts k tree.Nil) ≡ true
-  at-proper [] k h = refl
-  at-proper (t ∷ ts) zero h = h.0
-  at-proper (t ∷ ts) (suc k) h = at-proper ts k h.1
 
   pub set-proper : (ts : List Tree) (k : ℕ) (t : Tree) → AreProper names shared ts → is_proper names shared t ≡ true → AreProper names shared (set ts k t)
   set-proper [] k t h e = tt
@@ -139,14 +135,23 @@ pub record Builds (terms : Terms) (names : List (List ℕ)) : Type 0 where
   pub allowed : MayStand LEVELS term
   pub numbers : HaveNumbers names (atoms_of term)
 
+-- a term of which nothing is refused is neither wide nor big
+flawless : (big wide : Bool) → flaw_of big wide ≡ None → (wide ≡ false) × (big ≡ false)
+flawless true wide h = absurd (cc)
+flawless false true h = absurd (cc)
+flawless false false h = (refl, refl)
+
 -- its tree in a register, and the rest as before
-pub built-leaves : (s : State) (p : Parsed) (q : Live) (r : ℕ) → Before s p.names → Holds p.names s.shared q → Builds p.terms p.names
+pub built-leaves : (s : State) (p : Parsed) (q : Live) (r : ℕ) → Before s p.names → Holds p.names s.shared q → Builds p.terms p.names → written_flaw s p q p.terms ≡ None
     → AreProper p.names ((written_tree s p q p.terms).1)
     (flat_map held_trees (map (λ u. cond (u.number == q.number) (with_register r ((written_tree s p q p.terms).0) q) u) s.processes) ++ flat_map (λ (a : Area). a.literals) s.areas)
-built-leaves s p q r b h t =
+built-leaves s p q r b h t f =
     let P : Terms → Type 0 = λ z. AreProper p.names ((written_tree s p q z).1)
     (flat_map held_trees (map (λ u. cond (u.number == q.number) (with_register r ((written_tree s p q z).0) q) u) s.processes) ++ flat_map (λ (a : Area). a.literals) s.areas) in
+    let F : Terms → Type 0 = λ z. written_flaw s p q z ≡ None in
+    let none = flawless (is_big p.names q.registers t.term s.shared) (is_wide p.names q.registers t.term s.shared) (subst F t.one f) in
     let made : Tree × List (List ℕ) = tree_of p.names q.registers t.term s.shared in
-    let Q : List (List ℕ) → Type 0 = λ z. AreProper p.names z (flat_map held_trees (map (λ u. cond (u.number == q.number) (with_register r (made.0) q) u) s.processes) ++ flat_map (λ (a : Area). a.literals) s.areas) in
+    let Q : List (List ℕ) → Type 0 = λ z. AreProper p.names z
+    (flat_map held_trees (map (λ u. cond (u.number == q.number) (with_register r (made.0) q) u) s.processes) ++ flat_map (λ (a : Area). a.literals) s.areas) in
     subst P (sym t.one) (subst Q (sym (shared-kept p.names q.registers t.term s.shared t.built))
-    (in-register s p.names q r (made.0) b h (made-proper p.names s.shared q.registers LEVELS t.term s.shared t.built t.allowed t.numbers)))
+    (in-register s p.names q r (made.0) b h (made-proper p.names s.shared q.registers h.registers LEVELS t.term s.shared refl t.built t.allowed t.numbers none.0 none.1)))

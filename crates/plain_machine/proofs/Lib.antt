@@ -1,5 +1,7 @@
 pub mod Runs
 pub mod Growing
+pub mod Putting
+pub mod Parts
 pub mod Making
 pub mod Numbers
 pub mod Holding

@@ -1,14 +1,14 @@
 -- Worked values of the definitions.
-use Rattle.std.specs.Prelude.{ℕ, ◌≡◌, ◌+◌, ◌*◌, pos, negsuc, zero, suc, true, false, [], ◌∷◌, map, codes, refl, replicate}
+use Rattle.std.specs.Prelude.{ℕ, ◌≡◌, ◌+◌, pos, negsuc, zero, suc, true, false, List, [], ◌∷◌, map, codes, refl, replicate}
 use Rattle.std.specs.Fmt.{digits}
-use Rattle.plain_term.specs.Tree.{Tree}
+use Rattle.plain_term.specs.Tree.{Tree, Pairs}
 use Rattle.plain_term.specs.Tree.{Tree as tree}
 use Rattle.plain_term.specs.Tree.{Trees as trees}
 use Rattle.plain_term.specs.Tree.{Pairs as pairs}
 use Rattle.script_grammar.specs.declared.command.To.TheVariants.{Number, Held as ByRegister}
 use Rattle.script_grammar.specs.declared.command.Depth.TheVariants.{Minor, Major}
-use Rattle.script_grammar.specs.declared.refusal.Refusal.TheVariants.{NoProc, Empty, Big, Procs}
-use Rattle.script_grammar.specs.Written.{Term, Terms, kinds_of, Operands}
+use Rattle.script_grammar.specs.declared.refusal.Refusal.TheVariants.{NoProc, BadArg, Empty, Big, MapSize, Procs}
+use Rattle.script_grammar.specs.Written.{Term, Terms, TermPairs, kinds_of, Operands}
 use Rattle.script_grammar.specs.declared.word.Word.{Word}
 use Rattle.script_grammar.specs.Written.Term.{Int, Atom, Pid, Held, Listed, Barred, Tuple, Map, Bin}
 use Rattle.script_grammar.specs.Written.Terms.{end, ◌▹◌}
@@ -17,9 +17,9 @@ use Rattle.script_grammar.specs.Written.Written.{Nothing, OfProcess, OfSystem}
 use Rattle.script_grammar.specs.declared.word.Word.TheVariants as word
 use Rattle.script_grammar.specs.declared.word.SysWord.TheVariants as sys
 use Rattle.script_grammar.specs.Names.{Parsed, parsed_of}
-use Rattle.plain_machine.specs.State.{Process, State, fresh_process, first_state, with_register}
+use Rattle.plain_machine.specs.State.{Process, State, fresh_process, first_state, register, with_register}
 use Rattle.plain_machine.specs.Tightness.{grow, demand, is_tight}
-use Rattle.plain_machine.specs.Step.{step}
+use Rattle.plain_machine.specs.Step.{Outcome, step}
 use Rattle.plain_machine.specs.Step.Outcome.{Accepted, Refused}
 use Rattle.plain_machine.specs.May.{may_of_tight}
 
@@ -244,6 +244,198 @@ swept-until_gc = refl
 pub exit-accepted : step first_state (line word.Exit tt) ≡ Accepted (record first_state { processes = [] }) (codes "ok")
 exit-accepted = refl
 
+-- The first state, but process 1 has these trees in registers 1 to 3.
+abbrev pub with_three : (a b c : Tree) → State
+with_three a b c = record first_state { processes = with_register 3 c (with_register 2 b (with_register 1 a (fresh_process 1))) ∷ [] }
+
+-- The reply of a line that is accepted; nothing where it is refused.
+abbrev pub reply_in : Outcome → List (List ℕ)
+reply_in (Accepted s reply) = reply ∷ []
+reply_in _ = []
+
+-- What register 0 holds after a line that is accepted; nothing where it is refused.
+abbrev pub held_after : Outcome → List Tree
+held_after (Accepted s reply) = map (λ (q : Process). register 0 q) s.processes
+held_after _ = []
+
+-- [1|a], where `a` is name 0.
+abbrev pub one_before_a : Tree
+one_before_a = tree.Cons (tree.Int (pos 1)) (tree.Atom 0)
+
+pub hd-of_list_place : held_after (step (with_three one_before_a tree.Nil tree.Nil) (line word.Hd (0, (1, tt)))) ≡ tree.Int (pos 1) ∷ []
+hd-of_list_place = refl
+
+pub tl-of_list_place : held_after (step (with_three one_before_a tree.Nil tree.Nil) (line word.Tl (0, (1, tt)))) ≡ tree.Atom 0 ∷ []
+tl-of_list_place = refl
+
+pub hd-tl-of_nil : step first_state (line word.Hd (0, (1, tt))) ∷ step first_state (line word.Tl (0, (1, tt))) ∷ [] ≡ Refused BadArg ∷ Refused BadArg ∷ []
+hd-tl-of_nil = refl
+
+-- {1,a}
+abbrev pub one_and_a : Tree
+one_and_a = tree.Tuple (trees.◌▹◌ (tree.Int (pos 1)) (trees.◌▹◌ (tree.Atom 0) trees.end))
+
+-- The places of a tuple count from 1.
+pub elem-by_place : map (λ i. held_after (step (with_three one_and_a tree.Nil tree.Nil) (line word.Elem (0, (i, (1, tt)))))) (0 ∷ 1 ∷ 2 ∷ 3 ∷ [])
+    ≡ [] ∷ (tree.Int (pos 1) ∷ []) ∷ (tree.Atom 0 ∷ []) ∷ [] ∷ []
+elem-by_place = refl
+
+pub elem-out_of_range : map (λ i. step (with_three one_and_a tree.Nil tree.Nil) (line word.Elem (0, (i, (1, tt))))) (0 ∷ 3 ∷ [])
+    ≡ Refused BadArg ∷ Refused BadArg ∷ []
+elem-out_of_range = refl
+
+pub elem-of_nil : step first_state (line word.Elem (0, (1, (1, tt)))) ≡ Refused BadArg
+elem-of_nil = refl
+
+-- #{1=>a,2=>[]}
+abbrev pub one_to_a : Tree
+one_to_a = tree.Map (pairs.pair (tree.Int (pos 1)) (tree.Atom 0) (pairs.pair (tree.Int (pos 2)) tree.Nil pairs.stop))
+
+pub mapget-found : held_after (step (with_three one_to_a (tree.Int (pos 1)) tree.Nil) (line word.MapGet (0, (1, (2, tt))))) ≡ tree.Atom 0 ∷ []
+mapget-found = refl
+
+-- A key that is not there, and one beyond the walk limit.
+pub mapget-missing : map (λ k. step (with_three one_to_a k tree.Nil) (line word.MapGet (0, (1, (2, tt))))) (tree.Int (pos 3) ∷ nested 1025 ∷ [])
+    ≡ Refused BadArg ∷ Refused BadArg ∷ []
+mapget-missing = refl
+
+pub mapget-of_nil : step first_state (line word.MapGet (0, (1, (2, tt)))) ≡ Refused BadArg
+mapget-of_nil = refl
+
+-- `mapput` of this key and the pid 1.
+abbrev pub put_pid : (map key : Tree) → Outcome
+put_pid m k = step (with_three m k (tree.Pid 1)) (line word.MapPut (0, (1, (2, (3, tt)))))
+
+-- A key that is there gets the new value.
+pub mapput-value : held_after (put_pid one_to_a (tree.Int (pos 1)))
+    ≡ tree.Map (pairs.pair (tree.Int (pos 1)) (tree.Pid 1) (pairs.pair (tree.Int (pos 2)) tree.Nil pairs.stop)) ∷ []
+mapput-value = refl
+
+-- A new key goes to its place among the others.
+pub mapput-first : held_after (put_pid one_to_a (tree.Int (pos 0)))
+    ≡ tree.Map (pairs.pair (tree.Int (pos 0)) (tree.Pid 1)
+    (pairs.pair (tree.Int (pos 1)) (tree.Atom 0) (pairs.pair (tree.Int (pos 2)) tree.Nil pairs.stop))) ∷ []
+mapput-first = refl
+
+pub mapput-last : held_after (put_pid one_to_a (tree.Atom 0))
+    ≡ tree.Map (pairs.pair (tree.Int (pos 1)) (tree.Atom 0) (pairs.pair (tree.Int (pos 2)) tree.Nil (pairs.pair (tree.Atom 0) (tree.Pid 1) pairs.stop))) ∷ []
+mapput-last = refl
+
+-- The keys from 1 to n, each to nil, before other pairs.
+abbrev pub counted_pairs : ℕ → Pairs → Pairs
+counted_pairs zero ps = ps
+counted_pairs (suc n) ps = counted_pairs n (pairs.pair (tree.Int (pos (suc n))) tree.Nil ps)
+
+abbrev pub counted_map : ℕ → Tree
+counted_map n = tree.Map (counted_pairs n pairs.stop)
+
+-- No map comes before a key beyond the walk limit, and that before a key too many.
+pub mapput-refused : put_pid tree.Nil (nested 1025) ∷ put_pid (counted_map 32) (nested 1025) ∷ put_pid (counted_map 32) (tree.Int (pos 33)) ∷ []
+    ≡ Refused BadArg ∷ Refused Big ∷ Refused MapSize ∷ []
+mapput-refused = refl
+
+-- A 32nd key may be put.
+pub mapput-full : held_after (put_pid (counted_map 31) (tree.Int (pos 32)))
+    ≡ tree.Map (counted_pairs 31 (pairs.pair (tree.Int (pos 32)) (tree.Pid 1) pairs.stop)) ∷ []
+mapput-full = refl
+
+-- References of a process are counted from 1.
+pub ref-counted : step (record first_state { processes = record (fresh_process 1) { refs = 4 } ∷ [] }) (line word.Ref (0, tt))
+    ≡ Accepted (record first_state { processes = record (with_register 0 (tree.Ref 1 5) (fresh_process 1)) { refs = 5 } ∷ [] }) (codes "ok")
+ref-counted = refl
+
+pub mktuple-places : map (λ n. held_after (step (with_three (tree.Atom 0) tree.Nil tree.Nil) (line word.MkTuple (0, (n, (1, tt)))))) (0 ∷ 2 ∷ [])
+    ≡ (tree.Tuple trees.end ∷ []) ∷ (tree.Tuple (trees.◌▹◌ (tree.Atom 0) (trees.◌▹◌ (tree.Atom 0) trees.end)) ∷ []) ∷ []
+mktuple-places = refl
+
+pub mklist-places : map (λ n. held_after (step (with_three (tree.Atom 0) tree.Nil tree.Nil) (line word.MkList (0, (n, (1, tt)))))) (0 ∷ 2 ∷ [])
+    ≡ (tree.Nil ∷ []) ∷ (list_of 2 (tree.Atom 0) ∷ []) ∷ []
+mklist-places = refl
+
+pub repeat-too_many : step first_state (line word.MkTuple (0, (65537, (1, tt)))) ∷ step first_state (line word.MkList (0, (65537, (1, tt)))) ∷ []
+    ≡ Refused BadArg ∷ Refused BadArg ∷ []
+repeat-too_many = refl
+
+-- What a line tells of two trees; nothing where it is refused.
+abbrev pub told_of_two : Word → (a b : Tree) → List (List ℕ)
+told_of_two word.Eq a b = reply_in (step (with_three a b tree.Nil) (line word.Eq (1, (2, tt))))
+told_of_two word.Cmp a b = reply_in (step (with_three a b tree.Nil) (line word.Cmp (1, (2, tt))))
+told_of_two _ a b = []
+
+-- A pid is less than a tuple, a tuple is equal to itself, and greater than one with a lesser part.
+pub cmp-told : map (λ t. told_of_two word.Cmp t one_and_a) (
+    tree.Pid 1 ∷ one_and_a ∷ tree.Tuple (trees.◌▹◌ (tree.Int (pos 2)) (trees.◌▹◌ (tree.Atom 0) trees.end)) ∷ [])
+    ≡ (codes "lt" ∷ []) ∷ (codes "eq" ∷ []) ∷ (codes "gt" ∷ []) ∷ []
+cmp-told = refl
+
+pub eq-told : map (λ t. told_of_two word.Eq t one_and_a) (tree.Pid 1 ∷ one_and_a ∷ []) ≡ (codes "false" ∷ []) ∷ (codes "true" ∷ []) ∷ []
+eq-told = refl
+
+-- One tree beyond the walk limit is enough.
+pub eq-cmp-beyond : map (λ w. step (with_three tree.Nil (nested 1025) tree.Nil) (parsed_of [] w)) (
+    OfProcess 1 word.Eq (1, (2, tt)) ∷ OfProcess 1 word.Cmp (2, (1, tt)) ∷ [])
+    ≡ Refused Big ∷ Refused Big ∷ []
+eq-cmp-beyond = refl
+
+pub flat-told : map (λ t. reply_in (step (holding t) (line word.Flat (0, tt)))) (tree.Nil ∷ one_and_a ∷ two_keys ∷ [])
+    ≡ (codes "0" ∷ []) ∷ (codes "3" ∷ []) ∷ (codes "8" ∷ []) ∷ []
+unfolding digits
+flat-told = refl
+
+pub flat-beyond : step (holding (nested 1025)) (line word.Flat (0, tt)) ≡ Refused Big
+flat-beyond = refl
+
+-- What register 0 holds after `set` of a term, where register 1 holds a tree.
+abbrev pub set_beside : Tree → Term → Outcome
+set_beside t x = step (with_three t tree.Nil tree.Nil) (line word.Set (0, (x, tt)))
+
+-- {$1,$1}
+pub set-register_twice : held_after (set_beside one_and_a (Tuple (Held 1 ▹ Held 1 ▹ end)))
+    ≡ tree.Tuple (trees.◌▹◌ one_and_a (trees.◌▹◌ one_and_a trees.end)) ∷ []
+set-register_twice = refl
+
+-- [1|$1]
+pub set-tail_of_register : held_after (set_beside (list_of 1 tree.Nil) (Barred (Int (pos 1) ▹ end) (Held 1)))
+    ≡ tree.Cons (tree.Int (pos 1)) (list_of 1 tree.Nil) ∷ []
+set-tail_of_register = refl
+
+-- #{2=>[],1=>[],2=><0.1.0>}: the later of two pairs with equal keys stands.
+pub set-later_pair : held_after (set_beside tree.Nil (
+    Map (pair (Int (pos 2)) (Listed end) (pair (Int (pos 1)) (Listed end) (pair (Int (pos 2)) (Pid 1) stop)))))
+    ≡ tree.Map (pairs.pair (tree.Int (pos 1)) tree.Nil (pairs.pair (tree.Int (pos 2)) (tree.Pid 1) pairs.stop)) ∷ []
+set-later_pair = refl
+
+-- The written keys from 1 to n, each to the empty list, before other pairs.
+abbrev pub written_pairs : ℕ → TermPairs → TermPairs
+written_pairs zero ps = ps
+written_pairs (suc n) ps = written_pairs n (pair (Int (pos (suc n))) (Listed end) ps)
+
+-- 32 keys may be written, and one of them again.
+pub set-full_map : held_after (set_beside tree.Nil (Map (written_pairs 32 (pair (Int (pos 7)) (Listed end) stop)))) ≡ counted_map 32 ∷ []
+set-full_map = refl
+
+-- A map with a key too many is refused, also where it is the key or the value of another.
+pub set-wide : map (set_beside tree.Nil) (
+    Map (written_pairs 33 stop) ∷ Map (pair (Map (written_pairs 33 stop)) (Listed end) stop) ∷ Tuple (Map (pair (Pid 1) (Map (written_pairs 33 stop)) stop) ▹ end) ∷ [])
+    ≡ Refused MapSize ∷ Refused MapSize ∷ Refused MapSize ∷ []
+set-wide = refl
+
+-- A key beyond the walk limit comes before a key too many; the pair may be dropped later.
+pub set-big_key : map (set_beside (nested 1025)) (
+    Map (pair (Held 1) (Listed end) stop) ∷ Map (written_pairs 33 (pair (Held 1) (Listed end) stop))
+    ∷ Map (pair (Held 1) (Listed end) (pair (Held 1) (Pid 1) stop)) ∷ [])
+    ≡ Refused Big ∷ Refused Big ∷ Refused Big ∷ []
+set-big_key = refl
+
+-- A key that holds a map with a key too many is not judged, and a value may be beyond the walk limit.
+pub set-unjudged : map (set_beside (nested 1025)) (Map (pair (Tuple (Held 1 ▹ Map (written_pairs 33 stop) ▹ end)) (Listed end) stop) ∷ [])
+    ≡ Refused MapSize ∷ []
+set-unjudged = refl
+
+pub set-big_value : held_after (set_beside (nested 1025) (Map (pair (Int (pos 1)) (Held 1) stop)))
+    ≡ tree.Map (pairs.pair (tree.Int (pos 1)) (nested 1025) pairs.stop) ∷ []
+set-big_value = refl
+
 -- A tight line may find no space, but not where another refusal stands before it, and not where it asks for nothing.
 pub may-tight : may_of_tight 35 first_state (line word.Push (0, tt)) ≡ true
 may-tight = refl
@@ -256,3 +448,10 @@ may-dead = refl
 
 pub may-asks_nothing : may_of_tight 0 first_state (line word.Own (0, tt)) ≡ false
 may-asks_nothing = refl
+
+-- For `set` the want of space stands before what is wrong with the keys of a map, for `mapput` it does not.
+pub may-set_wide : may_of_tight 0 first_state (line word.Set (0, (Map (written_pairs 33 stop), tt))) ≡ true
+may-set_wide = refl
+
+pub may-mapput_wide : may_of_tight 0 (with_three (counted_map 32) (tree.Pid 1) tree.Nil) (line word.MapPut (0, (1, (2, (3, tt))))) ≡ false
+may-mapput_wide = refl

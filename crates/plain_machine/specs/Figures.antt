@@ -1,11 +1,15 @@
 -- The limits and costs of the machine in figures: a constant that is cited by its name is pinned here.
-use Rattle.std.specs.Prelude.{ℕ, ◌≡◌, List, [], ◌∷◌, refl}
-use Rattle.plain_machine.specs.declared.limits.TheConstants.{MOST_PROCESSES}
+use Rattle.std.specs.Prelude.{◌≡◌, [], ◌∷◌, refl}
+use Rattle.plain_machine.specs.declared.limits.TheConstants.{MOST_PROCESSES, MOST_PLACES}
 use Rattle.plain_machine.specs.declared.costs.TheConstants.{PROCESS_COST, AREA_COST, PLACE_COST, MESSAGE_COST, RECORD_COST, COUNTED_COST}
 
 -- At most 1,024 processes live.
 pub most-processes : MOST_PROCESSES ≡ 1024
 most-processes = refl
+
+-- At most 65,536 places are made at a time.
+pub most-places : MOST_PLACES ≡ 65536
+most-places = refl
 
 -- The words of a process, an area, a stack place, a message, a record, and what names a new record.
 pub costs-in-figures : (PROCESS_COST ∷ AREA_COST ∷ PLACE_COST ∷ MESSAGE_COST ∷ RECORD_COST ∷ COUNTED_COST ∷ []) ≡ (16 ∷ 16 ∷ 2 ∷ 8 ∷ 4 ∷ 10 ∷ [])

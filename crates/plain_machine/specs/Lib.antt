@@ -1,5 +1,7 @@
 pub mod State
 pub mod Made
+pub mod Flaws
+pub mod Parts
 pub mod Tightness
 pub mod Step
 pub mod Maps

@@ -1,11 +1,12 @@
 -- The trees that written terms make.
-use Rattle.std.specs.Prelude.{ℕ, ◌+◌, nat_le, List, [], ◌∷◌, ◌++◌, length, slice_index_or, if◌then◌else◌}
-use Rattle.std.specs.declared.cmp.Ordering.TheVariants.{Less, Equal, Greater}
-use Rattle.plain_term.specs.Tree.{Tree, Trees, Pairs}
+use Rattle.std.specs.Prelude.{ℕ, ◌+◌, Bool, nat_le, nat_lt, List, [], ◌∷◌, ◌++◌, length, slice_index_or, if◌then◌else◌}
+use Rattle.std.specs.Ordering.{match_ordering}
+use Rattle.plain_term.specs.Tree.{Tree, Trees, Pairs, pairs_len}
 use Rattle.plain_term.specs.Tree.{Tree as tree}
 use Rattle.plain_term.specs.Tree.{Trees as trees}
 use Rattle.plain_term.specs.Tree.{Pairs as pairs}
 use Rattle.plain_term.specs.Order.{order}
+use Rattle.term_tags.specs.declared.layouts.TheConstants.{MOST_KEYS}
 use Rattle.script_grammar.specs.Written.{Term, Terms, TermPairs}
 use Rattle.script_grammar.specs.Written.Term.{Int, Atom, Pid, Held, Listed, Barred, Tuple, Map, Bin}
 use Rattle.script_grammar.specs.Written.Terms.{end, ◌▹◌}
@@ -15,16 +16,18 @@ use Rattle.script_grammar.specs.Names.{number_of}
 -- A pair put into pairs in key order. Where the key is there already, the new pair stands for it.
 abbrev pub with_pair : (names shared : List (List ℕ)) (key value : Tree) → Pairs → Pairs
 with_pair names shared key value pairs.stop = pairs.pair key value pairs.stop
-with_pair names shared key value (pairs.pair k v ps) = elim (order names shared key k) [
-  | Less ↦ pairs.pair key value (pairs.pair k v ps)
-  | Equal ↦ pairs.pair key value ps
-  | Greater ↦ pairs.pair k v (with_pair names shared key value ps)
-]
+with_pair names shared key value (pairs.pair k v ps) =
+    match_ordering (order names shared key k) (pairs.pair key value (pairs.pair k v ps)) (pairs.pair key value ps)
+    (pairs.pair k v (with_pair names shared key value ps))
 
 -- Pairs put into others one by one, so that the later of two with equal keys stands.
 abbrev pub with_pairs : (names shared : List (List ℕ)) → Pairs → Pairs → Pairs
 with_pairs names shared sorted pairs.stop = sorted
 with_pairs names shared sorted (pairs.pair k v ps) = with_pairs names shared (with_pair names shared k v sorted) ps
+
+-- There are more pairs than a map may have.
+abbrev pub too_many : Pairs → Bool
+too_many ps = nat_lt MOST_KEYS (pairs_len ps)
 
 -- A binary of up to 64 bytes by its bytes, a longer one as a new shared one.
 abbrev pub bin_tree : List ℕ → (shared : List (List ℕ)) → Tree × List (List ℕ)

@@ -1,22 +1,30 @@
 -- What one command makes of a state, and what is answered.
-use Rattle.std.specs.Prelude.{ℕ, ◌+◌, Bool, true, false, nat_le, List, [], ◌∷◌, ◌++◌, length, codes, decimal, Option, Some, None, Result, Ok, Err}
-use Rattle.plain_term.specs.Tree.{Tree}
-use Rattle.plain_term.specs.Tree.Tree.{Pid, Nil}
+use Rattle.std.specs.Prelude.{ℕ, ◌+◌, Bool, true, false, ◌||◌, nat_le, nat_lt, List, [], ◌∷◌, ◌++◌, length, codes, decimal, Option, Some, None, Result, Ok, Err}
+use Rattle.std.specs.declared.cmp.Ordering.{Ordering}
+use Rattle.std.specs.declared.cmp.Ordering.TheVariants.{Less, Equal, Greater}
+use Rattle.plain_term.specs.Tree.{Tree, Pairs}
+use Rattle.plain_term.specs.Tree.Tree.{Pid, Ref as Reference, Nil, Map}
 use Rattle.plain_term.specs.Beyond.{is_beyond}
+use Rattle.plain_term.specs.Measures.{flat}
+use Rattle.plain_term.specs.Order.{order}
 use Rattle.plain_term.specs.Text.{text, numbers_text}
 use Rattle.script_grammar.specs.declared.command.Command.{Command}
 use Rattle.script_grammar.specs.declared.command.Command.TheVariants.{Nothing, Process, System}
 use Rattle.script_grammar.specs.declared.command.Verb.{Verb}
-use Rattle.script_grammar.specs.declared.command.Verb.TheVariants.{Set, Own, Push, Pop, Queue, Print, Eq, Cmp, Flat, Gc, Info, Heap, Exit}
+use Rattle.script_grammar.specs.declared.command.Verb.TheVariants.{Set, Choose, MapPut, Ref, Own, Repeat, Push, Pop, Queue, Print, Eq, Cmp, Flat, Gc, Info, Heap, Exit}
+use Rattle.script_grammar.specs.declared.command.Pick.{Pick}
+use Rattle.script_grammar.specs.declared.command.Shape.{Shape}
 use Rattle.script_grammar.specs.declared.command.SysVerb.{SysVerb}
 use Rattle.script_grammar.specs.declared.command.SysVerb.TheVariants.{Spawn, Sweep, Counts, Dump, Procs, Quit}
 use Rattle.script_grammar.specs.declared.refusal.Refusal.{Refusal}
-use Rattle.script_grammar.specs.declared.refusal.Refusal.TheVariants.{NoProc, Empty, Big, Procs as TooMany, Syntax}
+use Rattle.script_grammar.specs.declared.refusal.Refusal.TheVariants.{NoProc, BadArg, Empty, Big, MapSize, Procs as TooMany, Syntax}
 use Rattle.script_grammar.specs.Written.{Terms}
 use Rattle.script_grammar.specs.Written.Terms.{end, ◌▹◌}
 use Rattle.script_grammar.specs.Names.{Parsed}
-use Rattle.plain_machine.specs.Made.{tree_of}
-use Rattle.plain_machine.specs.declared.limits.TheConstants.{MOST_PROCESSES}
+use Rattle.plain_machine.specs.Made.{tree_of, with_pair, too_many}
+use Rattle.plain_machine.specs.Flaws.{is_wide, is_big, flaw_of}
+use Rattle.plain_machine.specs.Parts.{picked, pairs_in, repeated}
+use Rattle.plain_machine.specs.declared.limits.TheConstants.{MOST_PROCESSES, MOST_PLACES}
 use Rattle.plain_machine.specs.State.{Process as Live, State, process_of, with_process, without_process, with_spawned, live_numbers, register, with_register}
 
 -- What a command comes to: a new state and the reply; a refusal that leaves the state; or a map of the store
@@ -78,9 +86,57 @@ written_tree s p q (t ▹ ts) = tree_of p.names q.registers t s.shared
 abbrev pub with_made : State → Live → ℕ → Tree × List (List ℕ) → State
 with_made s q r made = record (with_process (with_register r (made.0) q) s) { shared = made.1 }
 
--- `set`: the register holds the written term.
+-- The outcome, but where a written term is refused.
+abbrev pub unless_flawed : Option Refusal → Outcome → Outcome
+unless_flawed None o = o
+unless_flawed (Some r) o = Refused r
+
+-- Why the line's written term is refused, if it is.
+abbrev pub written_flaw : State → Parsed → Live → Terms → Option Refusal
+written_flaw s p q end = None
+written_flaw s p q (t ▹ ts) = flaw_of (is_big p.names q.registers t s.shared) (is_wide p.names q.registers t s.shared)
+
+-- `set`: the register holds the written term, where its maps can be made.
 abbrev pub set_step : State → Parsed → Live → ℕ → Outcome
-set_step s p q r = does p (with_made s q r (written_tree s p q p.terms))
+set_step s p q r = unless_flawed (written_flaw s p q p.terms) (does p (with_made s q r (written_tree s p q p.terms)))
+
+-- `hd`, `tl`, `elem`, `mapget`: the register holds the part that is picked.
+abbrev pub choose : Option Tree → State → Parsed → Live → ℕ → Outcome
+choose None s p q r = Refused BadArg
+choose (Some t) s p q r = does p (with_process (with_register r t q) s)
+
+abbrev pub choose_step : State → Parsed → Live → (r m : ℕ) → Pick → Outcome
+choose_step s p q r m how = choose (picked p.names s.shared q how (register m q)) s p q r
+
+-- `mapput`: the register holds the map of these pairs, where there are not too many.
+abbrev pub put_unless_wide : Bool → Pairs → State → Parsed → Live → ℕ → Outcome
+put_unless_wide true ps s p q r = Refused MapSize
+put_unless_wide false ps s p q r = does p (with_process (with_register r (Map ps) q) s)
+
+-- No key of a map is beyond the walk limit.
+abbrev pub put_unless_big : Bool → Pairs → State → Parsed → Live → ℕ → Outcome
+put_unless_big true ps s p q r = Refused Big
+put_unless_big false ps s p q r = put_unless_wide (too_many ps) ps s p q r
+
+-- A pair is put into those of a map.
+abbrev pub put_pair : Option Pairs → (key value : Tree) → State → Parsed → Live → ℕ → Outcome
+put_pair None key value s p q r = Refused BadArg
+put_pair (Some ps) key value s p q r = put_unless_big (is_beyond s.shared key) (with_pair p.names s.shared key value ps) s p q r
+
+abbrev pub mapput_step : State → Parsed → Live → (r m k v : ℕ) → Outcome
+mapput_step s p q r m k v = put_pair (pairs_in (register m q)) (register k q) (register v q) s p q r
+
+-- `ref`: the register holds a reference that the process has not made before.
+abbrev pub ref_step : State → Parsed → Live → ℕ → Outcome
+ref_step s p q r = does p (with_process (record (with_register r (Reference q.number (q.refs + 1)) q) { refs = q.refs + 1 }) s)
+
+-- `mktuple` and `mklist`: the register holds so many times the other's tree, but not in too many places.
+abbrev pub repeat_if : Bool → Tree → State → Parsed → Live → ℕ → Outcome
+repeat_if true t s p q r = Refused BadArg
+repeat_if false t s p q r = does p (with_process (with_register r t q) s)
+
+abbrev pub repeat_step : State → Parsed → Live → ℕ → Shape → (n m : ℕ) → Outcome
+repeat_step s p q r shape n m = repeat_if (nat_lt MOST_PLACES n) (repeated shape n (register m q)) s p q r
 
 -- `self`: the register holds the pid of the process.
 abbrev pub self_step : State → Parsed → Live → ℕ → Outcome
@@ -120,15 +176,41 @@ unless_beyond false text = Ok text
 abbrev pub print_text : State → Parsed → Tree → Result (List ℕ) Refusal
 print_text s p t = unless_beyond (is_beyond s.shared t) (text p.names s.shared t)
 
+-- `eq`: whether two trees are equal.
+abbrev pub eq_text : Ordering → List ℕ
+eq_text Equal = codes "true"
+eq_text _ = codes "false"
+
+-- `cmp`: how the first of two trees stands to the second.
+abbrev pub cmp_text : Ordering → List ℕ
+cmp_text Less = codes "lt"
+cmp_text Equal = codes "eq"
+cmp_text Greater = codes "gt"
+
+-- The text of an order where both trees are within the walk limit.
+abbrev pub order_text : State → Parsed → (Ordering → List ℕ) → (t u : Tree) → Result (List ℕ) Refusal
+order_text s p tell t u = unless_beyond (is_beyond s.shared t || is_beyond s.shared u) (tell (order p.names s.shared t u))
+
+-- `flat`: the flat size of the register's tree, where the tree is within the walk limit.
+abbrev pub flat_text : State → Tree → Result (List ℕ) Refusal
+flat_text s t = unless_beyond (is_beyond s.shared t) (decimal (flat t))
+
 -- What the verbs that print tell of a live process. A verb that is not built is none of the grammar.
 abbrev pub told_of : State → Parsed → Live → Verb → Result (List ℕ) Refusal
 told_of s p q (Print r) = print_text s p (register r.0 q)
+told_of s p q (Eq a b) = order_text s p eq_text (register a.0 q) (register b.0 q)
+told_of s p q (Cmp a b) = order_text s p cmp_text (register a.0 q) (register b.0 q)
+told_of s p q (Flat r) = flat_text s (register r.0 q)
 told_of s p q _ = Err Syntax
 
 -- A verb at a live process: what changes something has its row here, all else tells.
 abbrev pub by_verb : State → Parsed → Live → Verb → Outcome
 by_verb s p q (Set r) = set_step s p q r.0
+by_verb s p q (Choose r m how) = choose_step s p q r.0 m.0 how
+by_verb s p q (MapPut r m k v) = mapput_step s p q r.0 m.0 k.0 v.0
+by_verb s p q (Ref r) = ref_step s p q r.0
 by_verb s p q (Own r) = self_step s p q r.0
+by_verb s p q (Repeat r shape n m) = repeat_step s p q r.0 shape n m.0
 by_verb s p q (Push r) = push_step s p q r.0
 by_verb s p q (Pop r) = pop_step s p q r.0
 by_verb s p q (Gc depth) = collect_step s p

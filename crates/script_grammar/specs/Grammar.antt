@@ -1,6 +1,6 @@
 -- The grammar of lines, as a relation between a whole line and what it says.
 use Rattle.std.specs.Prelude.{ℕ, ◌≡◌, ◌+◌, ◌-◌, ◌*◌, ◌^◌, ◌<◌, ◌≤◌, ◌⊎◌, ◌≢◌, ◌||◌, ◌&&◌, Bool, true, false, nat_eq, nat_le, ℤ, pos, negsuc, List, [], ◌∷◌, ◌++◌, length, All, codes}
-use Rattle.plain_term.specs.Measures.{is_small, magnitude}
+use Rattle.plain_term.specs.Measures.{magnitude}
 use Rattle.script_grammar.specs.Written.{Term, Terms, TermPairs, terms_len, Kind, OperandOf, Operands, text_of, kinds_of, sys_text_of, sys_kinds_of, Written}
 use Rattle.atom_names.specs.declared.row.TheConstants.{LONGEST_NAME}
 use Rattle.script_grammar.specs.declared.limits.TheConstants.{REGISTERS, NUMBERS, LEVELS, MOST_HELD}
@@ -277,10 +277,21 @@ pub record Says (line : List ℕ) (w : Written) : Type 0 where
 -- The table of the verbs of a process that are built.
 abbrev pub is_built : Word → Bool
 is_built word.Set = true
+is_built word.Hd = true
+is_built word.Tl = true
+is_built word.Elem = true
+is_built word.MapGet = true
+is_built word.MapPut = true
+is_built word.Ref = true
 is_built word.Own = true
+is_built word.MkTuple = true
+is_built word.MkList = true
 is_built word.Push = true
 is_built word.Pop = true
 is_built word.Print = true
+is_built word.Eq = true
+is_built word.Cmp = true
+is_built word.Flat = true
 is_built word.Gc = true
 is_built word.Exit = true
 is_built _ = false
@@ -351,22 +362,27 @@ IsBuiltCommand (command.Process n v) = is_built (word_of v) ≡ true
 IsBuiltCommand (command.System v) = is_sys_built (sys_word_of v) ≡ true
 
 abbrev mutual
-  -- The table of the forms of terms that are built; of the integers these are the small ones.
+  -- The table of the forms of terms that are built: all but binaries.
   pub IsBuiltTerm : Term → Type 0
-  IsBuiltTerm (Int i) = is_small i ≡ true
+  IsBuiltTerm (Int i) = Unit {0}
   IsBuiltTerm (Atom a) = Unit {0}
   IsBuiltTerm (Pid n) = Unit {0}
-  IsBuiltTerm (Held r) = ⊥
+  IsBuiltTerm (Held r) = Unit {0}
   IsBuiltTerm (Listed ts) = AreBuiltTerms ts
-  IsBuiltTerm (Barred ts t) = ⊥
+  IsBuiltTerm (Barred ts t) = AreBuiltTerms ts × IsBuiltTerm t
   IsBuiltTerm (Tuple ts) = AreBuiltTerms ts
-  IsBuiltTerm (Map qs) = ⊥
+  IsBuiltTerm (Map qs) = AreBuiltPairs qs
   IsBuiltTerm (Bin bytes) = ⊥
 
   -- Each of the terms is of a built form.
   pub AreBuiltTerms : Terms → Type 0
   AreBuiltTerms end = Unit {0}
   AreBuiltTerms (t ▹ ts) = IsBuiltTerm t × AreBuiltTerms ts
+
+  -- Each key and value is of a built form.
+  pub AreBuiltPairs : TermPairs → Type 0
+  AreBuiltPairs stop = Unit {0}
+  AreBuiltPairs (pair k v qs) = IsBuiltTerm k × IsBuiltTerm v × AreBuiltPairs qs
 
 -- The table of the kinds of operands that are built. A term is of a built form.
 abbrev pub IsBuiltOperand : (k : Kind) → OperandOf k → Type 0

@@ -11,6 +11,9 @@ ghost use Rattle.std.specs.Prelude.{
   IfOk,
   OnErr,
   OnOk,
+  Some,
+  decimal,
+  true,
   is_some,
   find,
   nat_lt,
@@ -20,16 +23,19 @@ ghost use Rattle.script_grammar.specs.declared.command.Command.{Command};
 ghost use Rattle.script_grammar.specs.declared.command.Command.TheVariants.{Process, System};
 ghost use Rattle.script_grammar.specs.declared.command.Verb.TheVariants as verb;
 ghost use Rattle.script_grammar.specs.declared.command.SysVerb.TheVariants as sysverb;
-ghost use Rattle.script_grammar.specs.Names.{Parsed, IsRegister};
+ghost use Rattle.script_grammar.specs.Grammar.{is_built, pick_word};
+ghost use Rattle.script_grammar.specs.Names.{Parsed, IsRegister, PicksRegister};
 ghost use Rattle.script_grammar.specs.Written.{Term, Terms};
-ghost use Rattle.plain_machine.specs.State.{State, HasNames, is_live, live_numbers};
-ghost use Rattle.plain_machine.specs.Step.{step};
-ghost use Rattle.space_api.specs.Calls.{AreRising, Becomes, Follows, HasTerm, IsTerm, KeepsBooks, Passes, Prints, most_calls, one_term, said};
+ghost use Rattle.plain_term.specs.Measures.{nodes};
+ghost use Rattle.plain_machine.specs.State.{Process as Live, State, HasNames, is_live, live_numbers, process_of, register};
+ghost use Rattle.plain_machine.specs.Step.{step, eq_text, cmp_text};
+ghost use Rattle.space_api.specs.Calls.{AreRising, Becomes, Follows, HasTerm, IsTerm, KeepsBooks, Passes, Prints, Tells, most_calls, one_term, said};
 
 use atom_names::AtomNames;
 use line_io::Sink;
-use plain_machine::{Depth, Refusal, Reg};
+use plain_machine::{Depth, Measure, Pick, Refusal, Reg, Shape};
 use plain_term::Item;
+use std::cmp::Ordering;
 
 /// Why a text was not written: the term is beyond the walk limit, or the sink failed.
 #[derive(Clone, Copy)]
@@ -101,7 +107,7 @@ pub trait Space {
             → Passes (step s (said (Process seat.pid verb.Exit) terms names)) (stands self.new) }
         ensures books { KeepsBooks words calls named self.old self.new (named self.old) };
 
-    /// Builds the written term in the register. Refused for want of space.
+    /// Builds the written term in the register. Refused for want of space, else by `Big` or `MapSize` for its maps.
     fn build(&mut self, names: &AtomNames, seat: Seat, r: Reg, code: &[Item]) -> Result<(), Refusal>
         requires sits { sits self.old seat }
         requires register { IsRegister r }
@@ -112,6 +118,68 @@ pub trait Space {
             → Becomes may (words self.old) s (said (Process seat.pid (verb.Set r)) (one_term t) names.now) result (stands self.new) }
         ensures books { KeepsBooks words calls named self.old self.new (max (named self.old) (length names.now)) }
         ensures refused { OnErr result (named self.new ≤ named self.old) };
+
+    /// Puts a part of the second register's term in the first. Refused by `BadArg` where there is none.
+    fn pick(
+        &mut self,
+        names: &AtomNames,
+        seat: Seat,
+        r: Reg,
+        s: Reg,
+        how: Pick,
+    ) -> Result<(), Refusal>
+        requires sits { sits self.old seat }
+        requires register { IsRegister r }
+        requires other { IsRegister s }
+        requires key { PicksRegister how }
+        requires built { is_built (pick_word how) ≡ true }
+        requires calls { calls self.old < most_calls }
+        requires named { named self.old ≤ length names.now }
+        ensures becomes { (state : State) (terms : Terms) → stands self.old state → HasNames state names.now
+            → Becomes may (words self.old) state (said (Process seat.pid (verb.Choose r s how)) terms names.now) result (stands self.new) }
+        ensures books { KeepsBooks words calls named self.old self.new (named self.old) };
+
+    /// Puts the map of `s` with the term of `k` bound to that of `v` in the register `r`. Refused by `BadArg` where there is no
+    /// map, `Big` where the key is beyond the walk limit, `MapSize` where it is a key too many, and for want of space.
+    fn map_put(
+        &mut self,
+        names: &AtomNames,
+        seat: Seat,
+        r: Reg,
+        s: Reg,
+        k: Reg,
+        v: Reg,
+    ) -> Result<(), Refusal>
+        requires sits { sits self.old seat }
+        requires register { IsRegister r }
+        requires map { IsRegister s }
+        requires key { IsRegister k }
+        requires value { IsRegister v }
+        requires calls { calls self.old < most_calls }
+        requires named { named self.old ≤ length names.now }
+        ensures becomes { (state : State) (terms : Terms) → stands self.old state → HasNames state names.now
+            → Becomes may (words self.old) state (said (Process seat.pid (verb.MapPut r s k v)) terms names.now) result (stands self.new) }
+        ensures books { KeepsBooks words calls named self.old self.new (named self.old) };
+
+    /// Puts a new reference in the register. Refused for want of space.
+    fn make_ref(&mut self, seat: Seat, r: Reg) -> Result<(), Refusal>
+        requires sits { sits self.old seat }
+        requires register { IsRegister r }
+        requires calls { calls self.old < most_calls }
+        ensures becomes { (s : State) (terms : Terms) (names : List (List ℕ)) → stands self.old s → HasNames s names
+            → Becomes may (words self.old) s (said (Process seat.pid (verb.Ref r)) terms names) result (stands self.new) }
+        ensures books { KeepsBooks words calls named self.old self.new (named self.old) };
+
+    /// Puts a tuple or a list of `n` times the second register's term in the first. Refused by `BadArg` where that is more than
+    /// 65,536 places, and for want of space.
+    fn repeat(&mut self, seat: Seat, r: Reg, shape: Shape, n: u64, s: Reg) -> Result<(), Refusal>
+        requires sits { sits self.old seat }
+        requires register { IsRegister r }
+        requires other { IsRegister s }
+        requires calls { calls self.old < most_calls }
+        ensures becomes { (state : State) (terms : Terms) (names : List (List ℕ)) → stands self.old state → HasNames state names
+            → Becomes may (words self.old) state (said (Process seat.pid (verb.Repeat r shape n s)) terms names) result (stands self.new) }
+        ensures books { KeepsBooks words calls named self.old self.new (named self.old) };
 
     /// Puts the process's own pid in the register.
     fn own_pid(&mut self, seat: Seat, r: Reg)
@@ -154,6 +222,27 @@ pub trait Space {
         ensures passes { (s : State) (terms : Terms) (names : List (List ℕ)) → stands self.old s → HasNames s names
             → Passes (step s (said (System sysverb.Sweep) terms names)) (stands self.new) }
         ensures books { KeepsBooks words calls named self.old self.new (named self.old) };
+
+    /// The nodes and the flat size of the register's term. Refused by `Big` where it is beyond the walk limit.
+    fn measure(&self, seat: Seat, s: Reg) -> Result<Measure, Refusal>
+        requires sits { sits self.now seat }
+        requires register { IsRegister s }
+        ensures flat { (state : State) (terms : Terms) (names : List (List ℕ)) → stands self.now state
+            → Tells (step state (said (Process seat.pid (verb.Flat s)) terms names)) (λ m. decimal m.flat) result }
+        ensures nodes { (state : State) (q : Live) → stands self.now state → process_of seat.pid state ≡ Some q
+            → IfOk result (λ m. m.nodes ≡ nodes state.shared (register s.0 q)) };
+
+    /// How the first register's term stands to the second's in the order of terms. Refused by `Big` where one of the two is
+    /// beyond the walk limit.
+    fn compare(&self, names: &AtomNames, seat: Seat, a: Reg, b: Reg) -> Result<Ordering, Refusal>
+        requires sits { sits self.now seat }
+        requires register { IsRegister a }
+        requires other { IsRegister b }
+        requires named { named self.now ≤ length names.now }
+        ensures equal { (state : State) (terms : Terms) → stands self.now state
+            → Tells (step state (said (Process seat.pid (verb.Eq a b)) terms names.now)) eq_text result }
+        ensures order { (state : State) (terms : Terms) → stands self.now state
+            → Tells (step state (said (Process seat.pid (verb.Cmp a b)) terms names.now)) cmp_text result };
 
     /// Writes the text of the register's term. Where the term is beyond the walk limit nothing is written.
     fn print<K: Sink>(

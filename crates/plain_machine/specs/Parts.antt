@@ -1,0 +1,75 @@
+-- The parts of trees, maps with a key more, and trees of many places.
+use Rattle.std.specs.Prelude.{ℕ, zero, suc, if◌then◌else◌, List, Option, Some, None}
+use Rattle.std.specs.Ordering.{is_eq}
+use Rattle.plain_term.specs.Tree.{Tree, Trees, Pairs}
+use Rattle.plain_term.specs.Tree.Tree.{Nil, Cons, Tuple, Map}
+use Rattle.plain_term.specs.Tree.Trees.{end, ◌▹◌}
+use Rattle.plain_term.specs.Tree.Pairs.{stop, pair}
+use Rattle.plain_term.specs.Beyond.{is_beyond}
+use Rattle.plain_term.specs.Order.{order}
+use Rattle.script_grammar.specs.declared.command.Pick.{Pick}
+use Rattle.script_grammar.specs.declared.command.Pick.TheVariants.{Hd, Tl, Elem, MapGet, Env, Part}
+use Rattle.script_grammar.specs.declared.command.Shape.{Shape}
+use Rattle.script_grammar.specs.declared.command.Shape.TheVariants.{Tuple as InTuple, List as InList}
+use Rattle.plain_machine.specs.Made.{list_tree}
+use Rattle.plain_machine.specs.State.{Process as Live, register}
+
+-- The head of a list place; no other tree has one.
+abbrev pub head_in : Tree → Option Tree
+head_in (Cons h t) = Some h
+head_in _ = None
+
+-- The tail of a list place; no other tree has one.
+abbrev pub tail_in : Tree → Option Tree
+tail_in (Cons h t) = Some t
+tail_in _ = None
+
+-- The tree with so many before it.
+abbrev pub tree_after : Trees → ℕ → Option Tree
+tree_after end k = None
+tree_after (t ▹ ts) zero = Some t
+tree_after (t ▹ ts) (suc k) = tree_after ts k
+
+-- The tree at a place, counted from 1.
+abbrev pub element_in : Trees → ℕ → Option Tree
+element_in ts zero = None
+element_in ts (suc k) = tree_after ts k
+
+-- The element of a tuple at a place; no other tree has one.
+abbrev pub place_in : ℕ → Tree → Option Tree
+place_in i (Tuple ts) = element_in ts i
+place_in i _ = None
+
+-- The value of the first key that is equal to this one.
+abbrev pub value_of : (names shared : List (List ℕ)) → (key : Tree) → Pairs → Option Tree
+value_of names shared key stop = None
+value_of names shared key (pair k v ps) = if is_eq (order names shared key k) then Some v else value_of names shared key ps
+
+-- The value that a map has for a key; no other tree has one. A key beyond the walk limit is in no map.
+abbrev pub value_in : (names shared : List (List ℕ)) → (key : Tree) → Tree → Option Tree
+value_in names shared key (Map ps) = if is_beyond shared key then None else value_of names shared key ps
+value_in names shared key _ = None
+
+-- The part that is picked of a tree, if it has one. The key of a map is that of a register.
+abbrev pub picked : (names shared : List (List ℕ)) → Live → Pick → Tree → Option Tree
+picked names shared q Hd t = head_in t
+picked names shared q Tl t = tail_in t
+picked names shared q (Elem i) t = place_in i t
+picked names shared q (MapGet k) t = value_in names shared (register k.0 q) t
+picked names shared q (Env i) t = None
+picked names shared q (Part offset len) t = None
+
+-- The pairs of a map; no other tree has any.
+abbrev pub pairs_in : Tree → Option Pairs
+pairs_in (Map ps) = Some ps
+pairs_in _ = None
+
+-- So many times a tree.
+abbrev pub times : ℕ → Tree → Trees
+times zero t = end
+times (suc n) t = t ▹ times n t
+
+-- A tuple or a list of so many times a tree.
+abbrev pub repeated : Shape → ℕ → Tree → Tree
+repeated InTuple n t = Tuple (times n t)
+repeated InList n t = list_tree (times n t) Nil
