@@ -1,20 +1,19 @@
 -- From the answer of a space's call to the machine's step.
-use Rattle.std.proofs.Common.{◌≡◌, ℕ, inl, inr, Bool, true, false, not, cond, ◌||◌, ◌⊎◌, List, [], ◌∷◌, ◌++◌, codes, decimal, nat_le, length}
+use Rattle.std.proofs.Common.{◌≡◌, ℕ, inl, inr, Bool, true, false, not, cond, ◌||◌, ◌⊎◌, List, [], ◌∷◌, ◌++◌, codes, decimal, nat_le, nat_lt, length}
 use Rattle.std.proofs.Common.{Option, Some, None, Result, Ok, Err, IfOk, refl, sym, ap, subst, ◌∙◌}
 use Rattle.std.specs.Prelude.{MatchBool}
 use Rattle.std.specs.List.{find, list_any}
-use Rattle.plain_term.specs.Tree.{Tree}
+use Rattle.plain_term.specs.Tree.{Tree, Pairs}
+use Rattle.plain_term.specs.Beyond.{is_beyond}
 use Rattle.plain_term.specs.declared.item.Item.{Item}
 use Rattle.script_grammar.specs.declared.command.Reg.{Reg}
 use Rattle.script_grammar.specs.declared.command.Pick.{Pick}
-use Rattle.script_grammar.specs.declared.command.Pick.TheVariants as pick
 use Rattle.script_grammar.specs.declared.command.Depth.{Depth}
 use Rattle.script_grammar.specs.declared.command.Shape.{Shape}
-use Rattle.script_grammar.specs.declared.command.Shape.TheVariants as shape
 use Rattle.script_grammar.specs.declared.command.Command.{Command}
 use Rattle.script_grammar.specs.declared.command.Command.TheVariants.{Process, System}
 use Rattle.script_grammar.specs.declared.command.Verb.{Verb}
-use Rattle.script_grammar.specs.declared.command.Verb.TheVariants.{Set, Own, Push, Pop, Print, Gc, Exit, Choose, Repeat}
+use Rattle.script_grammar.specs.declared.command.Verb.TheVariants.{Set, Choose, MapPut, Ref, Own, Repeat, Push, Pop, Print, Eq, Cmp, Flat, Gc, Exit}
 use Rattle.script_grammar.specs.declared.command.SysVerb.TheVariants.{Spawn, Sweep}
 use Rattle.script_grammar.specs.declared.refusal.Refusal.{Refusal}
 use Rattle.script_grammar.specs.declared.refusal.Refusal.TheVariants.{NoProc}
@@ -22,9 +21,11 @@ use Rattle.script_grammar.specs.Written.{Term, Terms}
 use Rattle.script_grammar.specs.Written.Terms.{end}
 use Rattle.script_grammar.specs.Grammar.{is_built, word_of}
 use Rattle.script_grammar.specs.Names.{Parsed, HasRegisters}
-use Rattle.plain_machine.specs.declared.limits.TheConstants.{MOST_PROCESSES}
-use Rattle.plain_machine.specs.State.{Process as Live, State, HasNames, process_of, is_live}
-use Rattle.plain_machine.specs.Step.{Outcome, step, in_process, by_verb, pop_from, spawn_if, tells, told_of, is_printing_verb}
+use Rattle.plain_machine.specs.declared.limits.TheConstants.{MOST_PROCESSES, MOST_PLACES}
+use Rattle.plain_machine.specs.State.{Process as Live, State, HasNames, process_of, is_live, register}
+use Rattle.plain_machine.specs.Made.{with_pair, too_many}
+use Rattle.plain_machine.specs.Parts.{picked, pairs_in, repeated}
+use Rattle.plain_machine.specs.Step.{Outcome, step, settled, with_made, written_tree, written_flaw, unless_flawed, choose, put_unless_wide, put_unless_big, put_pair, repeat_if, in_process, by_verb, pop_from, spawn_if, tells, told_of, is_printing_verb}
 use Rattle.plain_machine.specs.Step.Outcome.{Accepted, Refused as IsRefused, Mapped}
 use Rattle.plain_machine.specs.Run.{CommandStep, Skips, Gives, LacksSpace, refusal_text, is_nothing, is_quit}
 use Rattle.plain_machine.specs.Maps.{is_map}
@@ -114,6 +115,37 @@ pop-fits : (after : After) (s : State) (p : Parsed) (q : Live) (r : ℕ) (stack 
 pop-fits after s p q r [] e g = tt
 pop-fits after s p q r (t ∷ stack) e g = (refl, sym e, sym g)
 
+-- `set` says it where its maps can be made
+set-fits : (after : After) (s : State) (p : Parsed) (next : State) (o : Option Refusal) → next.names ≡ names_left Done s p → is_quit p.command ≡ false
+    → Fitting after s p Done (unless_flawed o (Accepted next (codes "ok")))
+set-fits after s p next None e g = (refl, e, sym g)
+set-fits after s p next (Some x) e g = tt
+
+-- so do the verbs that put a tree in a register
+choose-fits : (after : After) (s : State) (p : Parsed) (q : Live) (r : ℕ) (o : Option Tree) → names_left Done s p ≡ p.names → is_quit p.command ≡ false → Fitting after s p Done (choose o s p q r)
+choose-fits after s p q r None e g = tt
+choose-fits after s p q r (Some t) e g = (refl, sym e, sym g)
+
+repeat-fits : (after : After) (s : State) (p : Parsed) (q : Live) (r : ℕ) (many : Bool) (t : Tree) → names_left Done s p ≡ p.names → is_quit p.command ≡ false
+    → Fitting after s p Done (repeat_if many t s p q r)
+repeat-fits after s p q r true t e g = tt
+repeat-fits after s p q r false t e g = (refl, sym e, sym g)
+
+wide-fits : (after : After) (s : State) (p : Parsed) (q : Live) (r : ℕ) (wide : Bool) (ps : Pairs) → names_left Done s p ≡ p.names → is_quit p.command ≡ false
+    → Fitting after s p Done (put_unless_wide wide ps s p q r)
+wide-fits after s p q r true ps e g = tt
+wide-fits after s p q r false ps e g = (refl, sym e, sym g)
+
+big-fits : (after : After) (s : State) (p : Parsed) (q : Live) (r : ℕ) (big : Bool) (ps : Pairs) → names_left Done s p ≡ p.names → is_quit p.command ≡ false
+    → Fitting after s p Done (put_unless_big big ps s p q r)
+big-fits after s p q r true ps e g = tt
+big-fits after s p q r false ps e g = wide-fits after s p q r (too_many ps) ps e g
+
+put-fits : (after : After) (s : State) (p : Parsed) (q : Live) (r : ℕ) (o : Option Pairs) (k v : Tree) → names_left Done s p ≡ p.names → is_quit p.command ≡ false
+    → Fitting after s p Done (put_pair o k v s p q r)
+put-fits after s p q r None k v e g = tt
+put-fits after s p q r (Some ps) k v e g = big-fits after s p q r (is_beyond s.shared k) (with_pair p.names s.shared k v ps) e g
+
 -- where the process is found or not
 fits-in : (after : After) (s : State) (p : Parsed) (x : Reply) (verb : Verb) (o : Option Live) → ((q : Live) → Fitting after s p x (by_verb s p q verb)) → Fitting after s p x (in_process o s p verb)
 fits-in after s p x verb None h = tt
@@ -138,17 +170,17 @@ module _ (supply : Supply) (number : ℕ) (names : List (List ℕ)) (code : List
       subst P (sym e) (acts-becomes supply s p after refl no_map say r (λ a k. fits-in after s p (say a) verb (process_of number s) (λ q. fit s terms q a)) (b s terms h f.longer))
 
   -- `set`, whose terms are those of the code
-  pub set-does : {A : Type 0} (say : A → Reply) (x : Reg) (r : Result A Refusal) → reply ≡ reply_of say r
-      → ((s : State) (terms : Terms) (q : Live) (a : A) → Fitting after s (said (Process number (Set x)) terms names) (say a) (by_verb s (said (Process number (Set x)) terms names) q (Set x)))
+  pub set-does : {A : Type 0} (x : Reg) (r : Result A Refusal) → reply ≡ reply_of (λ (a : A). Done) r
       → ((s : State) (t : Term) → Old s → HasNames s names → IsTerm names code t → Becomes supply.may supply.words s (said (Process number (Set x)) (one_term t) names) r after.stands)
       → DoesVerb (Set x)
-  set-does say x r e fit b = λ s terms h f.
+  set-does {A} x r e b = λ s terms h f.
       let t : Term = f.term.0 in
       let p : Parsed = said (Process number (Set x)) (one_term t) names in
       let P : Terms → Type 0 = λ z. Acts supply s (said (Process number (Set x)) z names) reply after in
       let Q : Reply → Type 0 = λ y. Acts supply s p y after in
+      let fit = λ (q : Live). set-fits after s p (settled p (with_made s q x.0 (written_tree s p q p.terms))) (written_flaw s p q p.terms) refl refl in
       subst P (sym (f.term.1))
-      (subst Q (sym e) (acts-becomes supply s p after refl refl say r (λ a k. fits-in after s p (say a) (Set x) (process_of number s) (λ q. fit s (one_term t) q a)) (b s t h f.longer (f.term.2))))
+      (subst Q (sym e) (acts-becomes supply s p after refl refl (λ (a : A). Done) r (λ a k. fits-in after s p Done (Set x) (process_of number s) fit) (b s t h f.longer (f.term.2))))
 
   -- the call of a verb that is never refused
   pub passes-does : (verb : Verb) → reply ≡ Done → is_map (Process number verb) ≡ false
@@ -166,6 +198,25 @@ module _ (supply : Supply) (number : ℕ) (names : List (List ℕ)) (code : List
       → DoesVerb (Pop x)
   pop-does {A} x r e b = becomes-does (λ (a : A). Done) (Pop x) r e refl
       (λ s terms q a. pop-fits after s (said (Process number (Pop x)) terms names) q x.0 q.stack refl refl) (λ s terms h m. inl (b s terms h m))
+
+  -- the verbs that put a tree in a register
+  pub pick-does : {A : Type 0} (x m : Reg) (how : Pick) (r : Result A Refusal) → reply ≡ reply_of (λ (a : A). Done) r
+      → ((s : State) (terms : Terms) → Old s → HasNames s names → Becomes supply.may supply.words s (said (Process number (Choose x m how)) terms names) r after.stands)
+      → DoesVerb (Choose x m how)
+  pick-does {A} x m how r e b = becomes-does (λ (a : A). Done) (Choose x m how) r e refl
+      (λ s terms q a. choose-fits after s (said (Process number (Choose x m how)) terms names) q x.0 (picked names s.shared q how (register m.0 q)) refl refl) b
+
+  pub put-does : {A : Type 0} (x m k v : Reg) (r : Result A Refusal) → reply ≡ reply_of (λ (a : A). Done) r
+      → ((s : State) (terms : Terms) → Old s → HasNames s names → Becomes supply.may supply.words s (said (Process number (MapPut x m k v)) terms names) r after.stands)
+      → DoesVerb (MapPut x m k v)
+  put-does {A} x m k v r e b = becomes-does (λ (a : A). Done) (MapPut x m k v) r e refl
+      (λ s terms q a. put-fits after s (said (Process number (MapPut x m k v)) terms names) q x.0 (pairs_in (register m.0 q)) (register k.0 q) (register v.0 q) refl refl) b
+
+  pub repeat-does : {A : Type 0} (x m : Reg) (shape : Shape) (n : ℕ) (r : Result A Refusal) → reply ≡ reply_of (λ (a : A). Done) r
+      → ((s : State) (terms : Terms) → Old s → HasNames s names → Becomes supply.may supply.words s (said (Process number (Repeat x shape n m)) terms names) r after.stands)
+      → DoesVerb (Repeat x shape n m)
+  repeat-does {A} x m shape n r e b = becomes-does (λ (a : A). Done) (Repeat x shape n m) r e refl
+      (λ s terms q a. repeat-fits after s (said (Process number (Repeat x shape n m)) terms names) q x.0 (nat_lt MOST_PLACES n) (repeated shape n (register m.0 q)) refl refl) b
 
   -- a process that does not live
   pub noproc-does : (verb : Verb) → reply ≡ Refused NoProc → ((s : State) → Old s → after.stands s) → ((s : State) → Old s → is_live number s ≡ false) → DoesVerb verb
@@ -185,6 +236,10 @@ module _ (supply : Supply) (number : ℕ) (names : List (List ℕ)) (code : List
 -- a verb that prints tells, and what it tells does not depend on the line's terms
 verb-tells : (s : State) (p : Parsed) (q : Live) (v : Verb) → is_printing_verb v ≡ true → is_map (Process 0 v) ≡ false → by_verb s p q v ≡ tells s (told_of s p q v)
 verb-tells s p q (Set r) e m = absurd (cc)
+verb-tells s p q (Choose r k how) e m = absurd (cc)
+verb-tells s p q (MapPut r k i v) e m = absurd (cc)
+verb-tells s p q (Ref r) e m = absurd (cc)
+verb-tells s p q (Repeat r shape n k) e m = absurd (cc)
 verb-tells s p q (Own r) e m = absurd (cc)
 verb-tells s p q (Push r) e m = absurd (cc)
 verb-tells s p q (Pop r) e m = absurd (cc)
@@ -194,6 +249,9 @@ verb-tells s p q _ e m = refl
 
 terms-untold : (s : State) (c : Command) (terms : Terms) (names : List (List ℕ)) (q : Live) (v : Verb) → told_of s (said c terms names) q v ≡ told_of s (said c end names) q v
 terms-untold s c terms names q (Print r) = refl
+terms-untold s c terms names q (Eq a b) = refl
+terms-untold s c terms names q (Cmp a b) = refl
+terms-untold s c terms names q (Flat r) = refl
 terms-untold s c terms names q _ = refl
 
 told-gives : (s : State) (c : Command) (r : Result (List ℕ) Refusal) → is_quit c ≡ false → Gives (tells s r) s c false (outcome_text (tells s r) ∷ []) s
@@ -226,35 +284,36 @@ told-does supply seat names code after v can = λ s terms h f. record {
         subst P (sym (verb-tells s (said c terms names) q v can.prints can.no_map))
         (subst Q (sym same) (told-gives s c (told_of s (said c terms names) q v) refl))
 
--- the verbs of more than one word that are not built
-pick-unbuilt : (r s : Reg) (k : Pick) → is_built (word_of (Choose r s k)) ≡ true → ⊥
-pick-unbuilt r s pick.Hd b = absurd (cc)
-pick-unbuilt r s pick.Tl b = absurd (cc)
-pick-unbuilt r s (pick.Elem i) b = absurd (cc)
-pick-unbuilt r s (pick.MapGet k) b = absurd (cc)
-pick-unbuilt r s (pick.Env i) b = absurd (cc)
-pick-unbuilt r s (pick.Part offset len) b = absurd (cc)
-
-repeat-unbuilt : (r s : Reg) (n : ℕ) (k : Shape) → is_built (word_of (Repeat r k n s)) ≡ true → ⊥
-repeat-unbuilt r s n shape.Tuple b = absurd (cc)
-repeat-unbuilt r s n shape.List b = absurd (cc)
-
 -- what is built and does not change anything tells
 if-then : (b c : Bool) → (not b || c) ≡ true → b ≡ true → c ≡ true
 if-then true c h e = h
 if-then false c h e = absurd (cc)
 
-pub can-tell : (v : Verb) → is_built (word_of v) ≡ true → HasRegisters v → ((r : Reg) → v ≡ Set r → ⊥) → ((r : Reg) → v ≡ Own r → ⊥) → ((r : Reg) → v ≡ Push r → ⊥) → ((r : Reg) → v ≡ Pop r → ⊥)
-    → ((d : Depth) → v ≡ Gc d → ⊥) → (v ≡ Exit → ⊥) → CanTell v
-can-tell (Set r) b h s o u p g x = absurd (s r refl)
-can-tell (Own r) b h s o u p g x = absurd (o r refl)
-can-tell (Push r) b h s o u p g x = absurd (u r refl)
-can-tell (Pop r) b h s o u p g x = absurd (p r refl)
-can-tell (Gc d) b h s o u p g x = absurd (g d refl)
-can-tell Exit b h s o u p g x = absurd (x refl)
-can-tell (Choose r m k) b h s o u p g x = absurd (pick-unbuilt r m k b)
-can-tell (Repeat r k n m) b h s o u p g x = absurd (repeat-unbuilt r m n k b)
-can-tell v b h s o u p g x = record {
+-- the verb is none of those that change something
+pub record IsOther (v : Verb) : Type 0 where
+  pub set : (r : Reg) → v ≡ Set r → ⊥
+  pub choose : (r m : Reg) (how : Pick) → v ≡ Choose r m how → ⊥
+  pub put : (r m k i : Reg) → v ≡ MapPut r m k i → ⊥
+  pub ref : (r : Reg) → v ≡ Ref r → ⊥
+  pub own : (r : Reg) → v ≡ Own r → ⊥
+  pub repeat : (r : Reg) (shape : Shape) (n : ℕ) (m : Reg) → v ≡ Repeat r shape n m → ⊥
+  pub push : (r : Reg) → v ≡ Push r → ⊥
+  pub pop : (r : Reg) → v ≡ Pop r → ⊥
+  pub gc : (d : Depth) → v ≡ Gc d → ⊥
+  pub exit : v ≡ Exit → ⊥
+
+pub can-tell : (v : Verb) → is_built (word_of v) ≡ true → HasRegisters v → IsOther v → CanTell v
+can-tell (Set r) b h o = absurd (o.set r refl)
+can-tell (Choose r m how) b h o = absurd (o.choose r m how refl)
+can-tell (MapPut r m k i) b h o = absurd (o.put r m k i refl)
+can-tell (Ref r) b h o = absurd (o.ref r refl)
+can-tell (Own r) b h o = absurd (o.own r refl)
+can-tell (Repeat r shape n m) b h o = absurd (o.repeat r shape n m refl)
+can-tell (Push r) b h o = absurd (o.push r refl)
+can-tell (Pop r) b h o = absurd (o.pop r refl)
+can-tell (Gc d) b h o = absurd (o.gc d refl)
+can-tell Exit b h o = absurd (o.exit refl)
+can-tell v b h o = record {
   built = b;
   prints = if-then (is_built (word_of v)) (is_printing_verb v) refl b;
   no_map = not-map (is_built (word_of v)) (is_map (Process 0 v)) refl b;

@@ -3,11 +3,12 @@ use Rattle.std.proofs.Common.{ℕ, zero, suc, ◌<◌, List, [], ◌∷◌, ◌+
 use Rattle.std.specs.Prelude.{All}
 use Rattle.plain_term.specs.declared.item.Item.{Item}
 use Rattle.plain_term.specs.declared.item.Item.TheVariants as item
-use Rattle.script_grammar.specs.Written.{Term, Terms}
+use Rattle.script_grammar.specs.Written.{Term, Terms, TermPairs}
 use Rattle.script_grammar.specs.Written.Term.{Int, Atom, Pid, Held, Listed, Barred, Tuple, Map, Bin}
 use Rattle.script_grammar.specs.Written.Terms.{end, ◌▹◌}
-use Rattle.script_grammar.specs.Grammar.{IsBuiltTerm, AreBuiltTerms}
-use Rattle.script_grammar.specs.Names.{atoms_of, atoms_of_all, items_of, listed_items, all_items}
+use Rattle.script_grammar.specs.Written.TermPairs.{stop, pair}
+use Rattle.script_grammar.specs.Grammar.{IsBuiltTerm, AreBuiltTerms, AreBuiltPairs}
+use Rattle.script_grammar.specs.Names.{atoms_of, atoms_of_all, atoms_of_pairs, items_of, listed_items, all_items, pairs_items}
 use Rattle.script_grammar.proofs.Naming.{ArePlaced, placed-front, placed-back, number-below}
 use Rattle.space_api.specs.Calls.{IsNamedBelow}
 
@@ -34,22 +35,33 @@ mutual
   items-below names (Int i) b p = (tt, tt)
   items-below names (Atom a) b p = (number-below names a p.0, tt)
   items-below names (Pid n) b p = (tt, tt)
-  items-below names (Held r) b p = absurd b
-  items-below names (Listed ts) b p = listed-below names ts b p
-  items-below names (Barred ts t) b p = absurd b
+  items-below names (Held r) b p = (tt, tt)
+  items-below names (Listed ts) b p = listed-below names ts (item.Nil ∷ []) b p (tt, tt)
+  items-below names (Barred ts t) b p = listed-below names ts (items_of names t) b.0 (placed-front names (atoms_of_all ts) (atoms_of t) p)
+      (items-below names t b.1 (placed-back names (atoms_of_all ts) (atoms_of t) p))
   items-below names (Tuple ts) b p = (tt, all-below names ts b p)
-  items-below names (Map ps) b p = absurd b
+  items-below names (Map ps) b p = (tt, pairs-below names ps b p)
   items-below names (Bin bytes) b p = absurd b
 
-  pub listed-below : (names : List (List ℕ)) (ts : Terms) → AreBuiltTerms ts → ArePlaced names (atoms_of_all ts) → AreBelow (length names) (listed_items names ts (item.Nil ∷ []))
-  listed-below names end b p = (tt, tt)
-  listed-below names (t ▹ ts) b p = (
+  pub listed-below : (names : List (List ℕ)) (ts : Terms) (tail : List Item) → AreBuiltTerms ts → ArePlaced names (atoms_of_all ts) → AreBelow (length names) tail
+      → AreBelow (length names) (listed_items names ts tail)
+  listed-below names end tail b p h = h
+  listed-below names (t ▹ ts) tail b p h = (
     tt,
-    below-append (length names) (items_of names t) (listed_items names ts (item.Nil ∷ []))
-        (items-below names t b.0 (placed-front names (atoms_of t) (atoms_of_all ts) p)) (listed-below names ts b.1 (placed-back names (atoms_of t) (atoms_of_all ts) p)),
+    below-append (length names) (items_of names t) (listed_items names ts tail)
+        (items-below names t b.0 (placed-front names (atoms_of t) (atoms_of_all ts) p)) (listed-below names ts tail b.1 (placed-back names (atoms_of t) (atoms_of_all ts) p) h),
   )
 
   pub all-below : (names : List (List ℕ)) (ts : Terms) → AreBuiltTerms ts → ArePlaced names (atoms_of_all ts) → AreBelow (length names) (all_items names ts)
   all-below names end b p = tt
   all-below names (t ▹ ts) b p = below-append (length names) (items_of names t) (all_items names ts)
       (items-below names t b.0 (placed-front names (atoms_of t) (atoms_of_all ts) p)) (all-below names ts b.1 (placed-back names (atoms_of t) (atoms_of_all ts) p))
+
+  pub pairs-below : (names : List (List ℕ)) (ps : TermPairs) → AreBuiltPairs ps → ArePlaced names (atoms_of_pairs ps) → AreBelow (length names) (pairs_items names ps)
+  pairs-below names stop b p = tt
+  pairs-below names (pair k v ps) b p =
+      let later = placed-back names (atoms_of k) (atoms_of v ++ atoms_of_pairs ps) p in
+      below-append (length names) (items_of names k) (items_of names v ++ pairs_items names ps)
+      (items-below names k b.0 (placed-front names (atoms_of k) (atoms_of v ++ atoms_of_pairs ps) p))
+      (below-append (length names) (items_of names v) (pairs_items names ps)
+      (items-below names v b.1 (placed-front names (atoms_of v) (atoms_of_pairs ps) later)) (pairs-below names ps b.2 (placed-back names (atoms_of v) (atoms_of_pairs ps) later)))

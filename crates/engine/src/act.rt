@@ -61,6 +61,10 @@ fn act_in<S: Space>(
 {
     match verb {
         Verb::Set(r) => done(space.build(names, seat, r, code)),
+        Verb::Choose(r, s, how) => done(space.pick(names, seat, r, s, how)),
+        Verb::MapPut(r, s, k, v) => done(space.map_put(names, seat, r, s, k, v)),
+        Verb::Ref(r) => done(space.make_ref(seat, r)),
+        Verb::Repeat(r, shape, n, s) => done(space.repeat(seat, r, shape, n, s)),
         Verb::Own(r) => {
             space.own_pid(seat, r);
             Reply::Done

@@ -2,8 +2,9 @@ ghost use Rattle.std.specs.Prelude.{◌≡◌, ℕ, ◌≤◌, ◌++◌, ◌∷�
 ghost use Rattle.line_io.specs.Faults.{Rose};
 ghost use Rattle.plain_machine.specs.Run.{replies_text};
 ghost use Rattle.plain_machine.specs.State.{State};
+ghost use Rattle.plain_machine.specs.Step.{eq_text, cmp_text};
 ghost use Rattle.script_grammar.specs.declared.command.Command.{Command};
-ghost use Rattle.script_grammar.specs.declared.command.Verb.TheVariants.{Print};
+ghost use Rattle.script_grammar.specs.declared.command.Verb.TheVariants.{Print, Eq, Cmp, Flat};
 ghost use Rattle.line_io.specs.Sink.{Writes};
 ghost use Rattle.engine.specs.Replies.{reply_lines, CanReply};
 
@@ -13,6 +14,7 @@ use atom_names::AtomNames;
 use line_io::{Sink, SinkFault, put_all};
 use plain_machine::{Refusal, Reg, Verb};
 use space_api::{Seat, Space, Stop};
+use std::cmp::Ordering;
 
 /// How a line that was done is answered.
 #[derive(Clone, Copy)]
@@ -50,6 +52,95 @@ fn put_text<S: Space, K: Sink>(
     }
 }
 
+/// The word for whether two terms are equal.
+fn equal_word(order: Ordering) -> &'static [u8]
+    ensures { result.now ≡ eq_text order }
+{
+    match order {
+        Ordering::Equal => b"true",
+        _ => b"false",
+    }
+}
+
+/// The word for how a term stands to another.
+fn order_word(order: Ordering) -> &'static [u8]
+    ensures { result.now ≡ cmp_text order }
+{
+    match order {
+        Ordering::Less => b"lt",
+        Ordering::Equal => b"eq",
+        Ordering::Greater => b"gt",
+    }
+}
+
+/// Writes the line of whether two registers' terms are equal.
+fn put_equal<S: Space, K: Sink>(
+    space: &S,
+    names: &AtomNames,
+    seat: Seat,
+    a: Reg,
+    b: Reg,
+    sink: &mut K,
+) -> Result<(), SinkFault>
+    requires can { CanReply S.sits S.named space.now names.now (Reply.Told seat (Eq a b)) }
+    ensures writes { (s : State) → S.stands space.now s
+        → Writes K.wrote sink.old sink.new result
+        (replies_text (reply_lines (Reply.Told seat (Eq a b)) (record { state = s; names = names.now; text = S.text space.now names.now }))) }
+    ensures later { K.faults sink.old ≤ K.faults sink.new }
+    ensures rose { OnErr result (Rose (K.faults sink.old) (K.faults sink.new)) }
+    ensures told { OnOk result (K.faults sink.new ≡ K.faults sink.old) }
+{
+    match space.compare(names, seat, a, b) {
+        Ok(order) => put_line(equal_word(order), sink),
+        Err(refusal) => put_refusal(refusal, sink),
+    }
+}
+
+/// Writes the line of how the first register's term stands to the second's.
+fn put_order<S: Space, K: Sink>(
+    space: &S,
+    names: &AtomNames,
+    seat: Seat,
+    a: Reg,
+    b: Reg,
+    sink: &mut K,
+) -> Result<(), SinkFault>
+    requires can { CanReply S.sits S.named space.now names.now (Reply.Told seat (Cmp a b)) }
+    ensures writes { (s : State) → S.stands space.now s
+        → Writes K.wrote sink.old sink.new result
+        (replies_text (reply_lines (Reply.Told seat (Cmp a b)) (record { state = s; names = names.now; text = S.text space.now names.now }))) }
+    ensures later { K.faults sink.old ≤ K.faults sink.new }
+    ensures rose { OnErr result (Rose (K.faults sink.old) (K.faults sink.new)) }
+    ensures told { OnOk result (K.faults sink.new ≡ K.faults sink.old) }
+{
+    match space.compare(names, seat, a, b) {
+        Ok(order) => put_line(order_word(order), sink),
+        Err(refusal) => put_refusal(refusal, sink),
+    }
+}
+
+/// Writes the line of the flat size of a register's term.
+fn put_flat<S: Space, K: Sink>(
+    space: &S,
+    names: &AtomNames,
+    seat: Seat,
+    r: Reg,
+    sink: &mut K,
+) -> Result<(), SinkFault>
+    requires can { CanReply S.sits S.named space.now names.now (Reply.Told seat (Flat r)) }
+    ensures writes { (s : State) → S.stands space.now s
+        → Writes K.wrote sink.old sink.new result
+        (replies_text (reply_lines (Reply.Told seat (Flat r)) (record { state = s; names = names.now; text = S.text space.now names.now }))) }
+    ensures later { K.faults sink.old ≤ K.faults sink.new }
+    ensures rose { OnErr result (Rose (K.faults sink.old) (K.faults sink.new)) }
+    ensures told { OnOk result (K.faults sink.new ≡ K.faults sink.old) }
+{
+    match space.measure(seat, r) {
+        Ok(measure) => put_counted(b"", measure.flat, sink),
+        Err(refusal) => put_refusal(refusal, sink),
+    }
+}
+
 /// Writes the line of what a verb that prints tells.
 fn put_told<S: Space, K: Sink>(
     space: &S,
@@ -68,6 +159,9 @@ fn put_told<S: Space, K: Sink>(
 {
     match verb {
         Verb::Print(r) => put_text(space, names, seat, r, sink),
+        Verb::Eq(a, b) => put_equal(space, names, seat, a, b, sink),
+        Verb::Cmp(a, b) => put_order(space, names, seat, a, b, sink),
+        Verb::Flat(r) => put_flat(space, names, seat, r, sink),
         _ => unreachable!(),
     }
 }
