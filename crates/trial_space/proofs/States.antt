@@ -1,13 +1,26 @@
 -- The state after each call.
-use Rattle.std.proofs.Common.{◌≡◌, ℕ, ◌+◌, ◌<◌, ◌≤◌, ◌==◌, ◌&&◌, ◌||◌, Bool, true, false, nat_lt, List, [], ◌∷◌}
-use Rattle.std.proofs.Common.{map, get_or, set, Option, Some, Ok, Err, if◌then◌else◌, refl, sym, ◌∙◌, ap, subst, arith, inl, inr}
+use Rattle.std.proofs.Common.{◌≡◌, ℕ, ◌+◌, ◌<◌, ◌≤◌, ◌==◌, ◌||◌, Bool, true, false, nat_lt, List, [], ◌∷◌, decimal}
+use Rattle.std.proofs.Common.{map, get_or, set, Option, None, Some, Ok, Err, if◌then◌else◌, refl, sym, ◌∙◌, ap, subst, arith, inl, inr}
 use Rattle.std.specs.List.{find}
+use Rattle.std.specs.declared.cmp.Ordering.{Ordering}
 use Rattle.std.proofs.lemmas.Bool.Decides.{nat_tests}
 use Rattle.std.proofs.lemmas.List.{map-set}
 use Rattle.plain_term.specs.declared.item.Item.{Item}
 use Rattle.plain_term.specs.declared.item.Item.TheVariants as item
-use Rattle.plain_term.specs.Tree.{Tree}
+use Rattle.plain_term.specs.Tree.{Tree, Pairs}
 use Rattle.plain_term.specs.Tree.Tree.{Pid}
+use Rattle.plain_term.specs.Beyond.{is_beyond}
+use Rattle.plain_term.specs.Measures.{flat, nodes}
+use Rattle.plain_term.specs.Order.{order}
+use Rattle.script_grammar.specs.declared.limits.TheConstants.{LEVELS}
+use Rattle.script_grammar.specs.declared.command.Measure.{Measure}
+use Rattle.script_grammar.specs.declared.command.Pick.{Pick}
+use Rattle.script_grammar.specs.declared.command.Shape.{Shape}
+use Rattle.script_grammar.specs.declared.refusal.Refusal.{Refusal}
+use Rattle.plain_machine.specs.declared.limits.TheConstants.{MOST_PLACES}
+use Rattle.plain_machine.specs.Made.{tree_of}
+use Rattle.plain_machine.specs.Flaws.{is_wide, is_big, flaw_of}
+use Rattle.plain_machine.specs.Parts.{picked, pairs_in, repeated}
 use Rattle.script_grammar.specs.declared.command.Command.TheVariants.{Process as OfProcess}
 use Rattle.script_grammar.specs.declared.command.Verb.{Verb}
 use Rattle.script_grammar.specs.declared.command.Verb.TheVariants as verb
@@ -16,19 +29,21 @@ use Rattle.script_grammar.specs.declared.command.Reg.{Reg}
 use Rattle.script_grammar.specs.declared.refusal.Refusal.TheVariants as refusal
 use Rattle.script_grammar.specs.Written.{Term, Terms}
 use Rattle.script_grammar.specs.Names.{Parsed, items_of}
-use Rattle.plain_machine.specs.State.{Process, State, process_of, with_process, with_register}
-use Rattle.plain_machine.specs.Step.{Outcome, step, in_process, by_verb, settled, with_made}
-use Rattle.plain_machine.specs.Tightness.{grow, process_words, build_words}
-use Rattle.plain_machine.specs.May.{asks_space, gets_to_space}
+use Rattle.plain_machine.specs.State.{Process, State, process_of, with_process, register, with_register}
+use Rattle.plain_machine.specs.Step.{Outcome, step, in_process, by_verb, settled, does, with_made, unless_flawed, choose, put_pair, repeat_if, tells, unless_beyond, order_text, flat_text}
+use Rattle.plain_machine.specs.Tightness.{grow, process_words, build_words, repeat_words}
+use Rattle.plain_machine.specs.May.{gets_to_space}
 use Rattle.space_api.specs.declared.space.Seat.{Seat}
-use Rattle.space_api.specs.Calls.{Becomes, Follows, Passes, IsTerm, said, one_term}
-use Rattle.trial_space.specs.Items.{TrialStands, TrialSits, alone, weight, one_process, processes_of}
-use Rattle.trial_space.proofs.Weights.{weight-term, alone-is}
+use Rattle.space_api.specs.Calls.{Becomes, Follows, Passes, Tells, IsTerm, said, one_term}
+use Rattle.trial_space.specs.Items.{TrialStands, TrialSits, alone, put_item, weight, one_process, processes_of}
+use Rattle.trial_space.proofs.Weights.{weight-term, held-alone, alone-is, no-flaw}
+use Rattle.trial_space.proofs.Alone.{near, no-part, no-pairs, one-node}
 
-all-true : (a b c : Bool) → a ≡ true → c ≡ true → ((a || b) && c) ≡ true
-all-true true b true x y = refl
-all-true true b false x y = absurd (cc)
-all-true false b c x y = absurd (cc)
+lt-false : (m n : ℕ) → n ≤ m → nat_lt m n ≡ false
+lt-false m n h = grind (arith, nat_tests)
+
+inside : (p q : Process) → Some p ≡ Some q → p ≡ q
+inside p q e = cc
 
 lt-true : (m n : ℕ) → m < n → nat_lt m n ≡ true
 lt-true m n h = grind (arith, nat_tests)
@@ -71,35 +86,115 @@ module _ (alive : Bool) (items : List Item) (s : State) (seat : Seat) (h : Trial
   asks : (v : Verb) (terms : Terms) (names : List (List ℕ)) → grow s (said (OfProcess seat.pid v) terms names) ≡ process_words (Some (one_process items)) s (said (OfProcess seat.pid v) terms names) v
   asks v terms names = ap (λ o. process_words o s (said (OfProcess seat.pid v) terms names) v) found
 
-  -- A line that is accepted and asks for words may be answered that there is no space.
-  pub lacks : (v : Verb) (terms : Terms) (names : List (List ℕ)) (n : ℕ) → process_words (Some (one_process items)) s (said (OfProcess seat.pid v) terms names) v ≡ n → 0 < n
+  -- A line that is not refused for another cause may be answered that there is no space.
+  pub lacks : (v : Verb) (terms : Terms) (names : List (List ℕ)) (n : ℕ) → process_words (Some (one_process items)) s (said (OfProcess seat.pid v) terms names) v ≡ n
       → gets_to_space (OfProcess seat.pid v) (by_verb s (said (OfProcess seat.pid v) terms names) (one_process items) v) ≡ true
-      → Becomes {A = Unit {0}} (λ words s p. asks_space s p) 0 s (said (OfProcess seat.pid v) terms names) (Err (refusal.NoSpace n)) (TrialStands alive items)
-  lacks v terms names n e some gets =
+      → Becomes {A = Unit {0}} (λ words s p. gets_to_space p.command (step s p)) 0 s (said (OfProcess seat.pid v) terms names) (Err (refusal.NoSpace n)) (TrialStands alive items)
+  lacks v terms names n e gets =
       let p : Parsed = said (OfProcess seat.pid v) terms names in
-      let more : 0 < grow s p = omega (arith, asks v terms names, e, some) in
-      inr (
-        all-true (nat_lt 0 (grow s p)) false (gets_to_space p.command (step s p)) (lt-true 0 (grow s p) more) (at-process (λ o. gets_to_space (OfProcess seat.pid v) o ≡ true) p v gets),
-        ap refusal.NoSpace (sym (asks v terms names ∙ e)),
-        h,
-      )
+      inr (at-process (λ o. gets_to_space (OfProcess seat.pid v) o ≡ true) p v gets, ap refusal.NoSpace (sym (asks v terms names ∙ e)), h)
 
   -- `set`.
-  pub build-lacks : (r : Reg) (t : Term) (names : List (List ℕ)) (code : List Item) (n : ℕ) → IsTerm names code t → n + 1 ≡ weight code → 0 < n
-      → Becomes {A = Unit {0}} (λ words s p. asks_space s p) 0 s (said (OfProcess seat.pid (verb.Set r)) (one_term t) names) (Err (refusal.NoSpace n)) (TrialStands alive items)
-  build-lacks r t names code n is heavy some = lacks (verb.Set r) (one_term t) names n (omega (arith, heavy, weight-term names t is.built, ap weight is.items)) some refl
+  pub build-lacks : (r : Reg) (t : Term) (names : List (List ℕ)) (code : List Item) (n : ℕ) → IsTerm names code t → n + 1 ≡ weight code
+      → Becomes {A = Unit {0}} (λ words s p. gets_to_space p.command (step s p)) 0 s (said (OfProcess seat.pid (verb.Set r)) (one_term t) names) (Err (refusal.NoSpace n)) (TrialStands alive items)
+  build-lacks r t names code n is heavy = lacks (verb.Set r) (one_term t) names n (omega (arith, heavy, weight-term names t is.built, ap weight is.items))
+      (set-gets (is_big names (map alone items) t s.shared) (is_wide names (map alone items) t s.shared))
+    where
+      set-gets : (big wide : Bool) → gets_to_space (OfProcess seat.pid (verb.Set r)) (unless_flawed (flaw_of big wide)
+          (does (said (OfProcess seat.pid (verb.Set r)) (one_term t) names) (with_made s (one_process items) r.0 (tree_of names (map alone items) t s.shared)))) ≡ true
+      set-gets true wide = refl
+      set-gets false true = refl
+      set-gets false false = refl
 
-  pub build-holds : (r : Reg) (t : Term) (names : List (List ℕ)) (code : List Item) (d : Item) → IsTerm names code t → weight code ≤ 1
-      → Becomes {A = Unit {0}} (λ words s p. asks_space s p) 0 s (said (OfProcess seat.pid (verb.Set r)) (one_term t) names) (Ok tt) (TrialStands alive (set items r.0 (get_or code 0 d)))
-  build-holds r t names code d is light =
+  pub build-holds : (r : Reg) (t : Term) (names : List (List ℕ)) (code : List Item) (d x : Item) → IsTerm names code t → x ≡ put_item items (get_or code 0 d) → weight code ≤ 1
+      → Becomes {A = Unit {0}} (λ words s p. gets_to_space p.command (step s p)) 0 s (said (OfProcess seat.pid (verb.Set r)) (one_term t) names) (Ok tt) (TrialStands alive (set items r.0 x))
+  build-holds r t names code d x is put light =
       let none : build_words t ≡ 0 = omega (arith, weight-term names t is.built, ap weight is.items) in
-      let single = alone-is names (map alone items) t s.shared d is.built none in
-      let first : alone (get_or (items_of names t) 0 d) ≡ alone (get_or code 0 d) = ap (λ z. alone (get_or z 0 d)) is.items in
-      let New : State → Type 0 = TrialStands alive (set items r.0 (get_or code 0 d)) in
-      let Q : Tree × List (List ℕ) → Type 0 = λ made. New (settled (said (OfProcess seat.pid (verb.Set r)) (one_term t) names) (with_made s (one_process items) r.0 made)) in
-      inl (at-process (λ o. Follows {A = Unit {0}} o s (Ok tt) New) (said (OfProcess seat.pid (verb.Set r)) (one_term t) names) (verb.Set r) (subst Q (sym single) (record {
-        processes = held r.0 (alone (get_or (items_of names t) 0 d)) (get_or code 0 d) first;
+      let single = alone-is names items LEVELS t s.shared d is.built is.allowed none in
+      let first : alone (put_item items (get_or (items_of names t) 0 d)) ≡ alone x = ap (λ z. alone (put_item items (get_or z 0 d))) is.items ∙ ap alone (sym put) in
+      let New : State → Type 0 = TrialStands alive (set items r.0 x) in
+      let p : Parsed = said (OfProcess seat.pid (verb.Set r)) (one_term t) names in
+      let Q : Tree × List (List ℕ) → Type 0 = λ made. New (settled p (with_made s (one_process items) r.0 made)) in
+      let P : Option Refusal → Type 0 = λ f. Follows {A = Unit {0}} (unless_flawed f (does p (with_made s (one_process items) r.0 (tree_of names (map alone items) t s.shared)))) s (Ok tt) New in
+      inl (at-process (λ o. Follows {A = Unit {0}} o s (Ok tt) New) p (verb.Set r) (subst P (sym (no-flaw names (map alone items) t s.shared none)) (subst Q (sym single) (record {
+        processes = held r.0 (alone (put_item items (get_or (items_of names t) 0 d))) x first;
         next = h.next;
         shared = h.shared;
         areas = h.areas;
-      })))
+      }))))
+
+  -- A register's tree is that of its item.
+  in-register : (r : ℕ) → register r (one_process items) ≡ alone (get_or items r item.Nil)
+  in-register r = held-alone items r
+
+  -- `hd`, `tl`, `elem`, `mapget`.
+  pub pick-refused : (r m : Reg) (how : Pick) (terms : Terms) (names : List (List ℕ))
+      → Follows {A = Unit {0}} (step s (said (OfProcess seat.pid (verb.Choose r m how)) terms names)) s (Err refusal.BadArg) (TrialStands alive items)
+  pick-refused r m how terms names =
+      let p : Parsed = said (OfProcess seat.pid (verb.Choose r m how)) terms names in
+      let none : picked names s.shared (one_process items) how (register m.0 (one_process items)) ≡ None =
+      ap (picked names s.shared (one_process items) how) (in-register m.0) ∙ no-part names s.shared (one_process items) how (get_or items m.0 item.Nil) in
+      let P : Option Tree → Type 0 = λ o. Follows {A = Unit {0}} (choose o s p (one_process items) r.0) s (Err refusal.BadArg) (TrialStands alive items) in
+      at-process (λ o. Follows {A = Unit {0}} o s (Err refusal.BadArg) (TrialStands alive items)) p (verb.Choose r m how) (subst P (sym none) (refl, h))
+
+  -- `mapput`.
+  pub put-refused : (r m k v : Reg) (terms : Terms) (names : List (List ℕ))
+      → Follows {A = Unit {0}} (step s (said (OfProcess seat.pid (verb.MapPut r m k v)) terms names)) s (Err refusal.BadArg) (TrialStands alive items)
+  put-refused r m k v terms names =
+      let p : Parsed = said (OfProcess seat.pid (verb.MapPut r m k v)) terms names in
+      let q : Process = one_process items in
+      let none : pairs_in (register m.0 q) ≡ None = ap pairs_in (in-register m.0) ∙ no-pairs (get_or items m.0 item.Nil) in
+      let P : Option Pairs → Type 0 = λ o. Follows {A = Unit {0}} (put_pair o (register k.0 q) (register v.0 q) s p q r.0) s (Err refusal.BadArg) (TrialStands alive items) in
+      at-process (λ o. Follows {A = Unit {0}} o s (Err refusal.BadArg) (TrialStands alive items)) p (verb.MapPut r m k v) (subst P (sym none) (refl, h))
+
+  -- `mktuple`, `mklist`.
+  pub repeat-refused : (r m : Reg) (shape : Shape) (n : ℕ) (terms : Terms) (names : List (List ℕ)) → MOST_PLACES < n
+      → Follows {A = Unit {0}} (step s (said (OfProcess seat.pid (verb.Repeat r shape n m)) terms names)) s (Err refusal.BadArg) (TrialStands alive items)
+  repeat-refused r m shape n terms names many =
+      let p : Parsed = said (OfProcess seat.pid (verb.Repeat r shape n m)) terms names in
+      let q : Process = one_process items in
+      let P : Bool → Type 0 = λ b. Follows {A = Unit {0}} (repeat_if b (repeated shape n (register m.0 q)) s p q r.0) s (Err refusal.BadArg) (TrialStands alive items) in
+      at-process (λ o. Follows {A = Unit {0}} o s (Err refusal.BadArg) (TrialStands alive items)) p (verb.Repeat r shape n m) (subst P (sym (lt-true MOST_PLACES n many)) (refl, h))
+
+  pub repeat-lacks : (r m : Reg) (shape : Shape) (n : ℕ) (terms : Terms) (names : List (List ℕ)) → n ≤ MOST_PLACES
+      → Becomes {A = Unit {0}} (λ words s p. gets_to_space p.command (step s p)) 0 s (said (OfProcess seat.pid (verb.Repeat r shape n m)) terms names)
+      (Err (refusal.NoSpace (repeat_words shape n))) (TrialStands alive items)
+  repeat-lacks r m shape n terms names few = lacks (verb.Repeat r shape n m) terms names (repeat_words shape n) refl (gets (nat_lt MOST_PLACES n) (lt-false MOST_PLACES n few))
+    where
+      gets : (b : Bool) → b ≡ false → gets_to_space (OfProcess seat.pid (verb.Repeat r shape n m))
+          (repeat_if b (repeated shape n (register m.0 (one_process items))) s (said (OfProcess seat.pid (verb.Repeat r shape n m)) terms names) (one_process items) r.0) ≡ true
+      gets true e = absurd (cc)
+      gets false e = refl
+
+  -- `flat`.
+  pub flat-told : (m : Reg) (terms : Terms) (names : List (List ℕ)) (n : ℕ) → n ≡ flat (alone (get_or items m.0 item.Nil))
+      → Tells (step s (said (OfProcess seat.pid (verb.Flat m)) terms names)) (λ (x : Measure). decimal x.flat) (Ok (record { nodes = 1; flat = n }))
+  flat-told m terms names n e =
+      let p : Parsed = said (OfProcess seat.pid (verb.Flat m)) terms names in
+      let x : Item = get_or items m.0 item.Nil in
+      let T : Outcome → Type 0 = λ o. Tells o (λ (x : Measure). decimal x.flat) (Ok (record { nodes = 1; flat = n })) in
+      let P : Tree → Type 0 = λ t. T (tells s (flat_text s t)) in
+      let Q : Bool → Type 0 = λ b. T (tells s (unless_beyond b (decimal (flat (alone x))))) in
+      at-process T p (verb.Flat m) (subst P (sym (in-register m.0)) (subst Q (sym (near s.shared x)) (ap decimal (sym e))))
+
+  -- `eq` and `cmp`.
+  pub order-told : (a b : Reg) (v : Verb) (tell : Ordering → List ℕ) (terms : Terms) (names : List (List ℕ)) (x y : Item) (o : Ordering)
+      → by_verb s (said (OfProcess seat.pid v) terms names) (one_process items) v
+      ≡ tells s (order_text s (said (OfProcess seat.pid v) terms names) tell (register a.0 (one_process items)) (register b.0 (one_process items)))
+      → x ≡ get_or items a.0 item.Nil → y ≡ get_or items b.0 item.Nil → o ≡ order names [] (alone x) (alone y)
+      → Tells (step s (said (OfProcess seat.pid v) terms names)) tell (Ok o)
+  order-told a b v tell terms names x y o is first second e =
+      let p : Parsed = said (OfProcess seat.pid v) terms names in
+      let T : Outcome → Type 0 = λ z. Tells z tell (Ok o) in
+      let P : Tree → Type 0 = λ t. T (tells s (order_text s p tell t (register b.0 (one_process items)))) in
+      let Q : Tree → Type 0 = λ t. T (tells s (order_text s p tell (alone x) t)) in
+      let R : Bool → Type 0 = λ c. T (tells s (unless_beyond c (tell (order names s.shared (alone x) (alone y))))) in
+      let within : (is_beyond s.shared (alone x) || is_beyond s.shared (alone y)) ≡ false = rw (near s.shared x, near s.shared y) refl in
+      at-process T p v (subst T (sym is) (subst P (sym (in-register a.0 ∙ ap alone (sym first))) (subst Q (sym (in-register b.0 ∙ ap alone (sym second))) (subst R (sym within)
+      (ap (λ z. tell (order names z (alone x) (alone y))) h.shared ∙ ap tell (sym e))))))
+
+  -- The nodes of a register's tree.
+  pub nodes-told : (m : Reg) (q : Process) → process_of seat.pid s ≡ Some q → 1 ≡ nodes s.shared (register m.0 q)
+  nodes-told m q e =
+      let same : one_process items ≡ q = inside (one_process items) q (sym found ∙ e) in
+      sym (ap (λ (z : Process). nodes s.shared (register m.0 z)) (sym same) ∙ ap (nodes s.shared) (in-register m.0) ∙ one-node s.shared (get_or items m.0 item.Nil))

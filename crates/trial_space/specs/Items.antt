@@ -1,9 +1,12 @@
 -- Items that stand alone, and the states that registers of them stand for.
-use Rattle.std.specs.Prelude.{ℕ, ◌≡◌, ◌+◌, Bool, true, false, List, [], ◌∷◌, map}
+use Rattle.std.specs.Prelude.{ℕ, ◌≡◌, ◌+◌, ◌<◌, Bool, true, false, ℤ, pos, List, [], ◌∷◌, map, get_or}
 use Rattle.plain_term.specs.declared.item.Item.{Item}
 use Rattle.plain_term.specs.declared.item.Item.TheVariants as item
 use Rattle.plain_term.specs.Tree.{Tree}
 use Rattle.plain_term.specs.Tree.Tree.{Int, Atom, Pid, Nil}
+use Rattle.plain_term.specs.Measures.{int_flat}
+use Rattle.plain_term.specs.Order.{name_of}
+use Rattle.script_grammar.specs.declared.limits.TheConstants.{REGISTERS}
 use Rattle.plain_machine.specs.State.{Process, State}
 use Rattle.space_api.specs.declared.space.Seat.{Seat}
 
@@ -14,15 +17,49 @@ alone (item.Atom k) = Atom k
 alone (item.Pid n) = Pid n
 alone _ = Nil
 
--- One for an item, and one more for a tuple.
+-- One for an item, and the words that it asks for beside its parts: two are counted for each part of a map.
 abbrev pub item_weight : Item → ℕ
+item_weight (item.Int i) = 1 + int_flat i
 item_weight (item.Tuple n) = 2
+item_weight (item.Map n) = 5
 item_weight _ = 1
 
 -- The weight of all items: for a written term one more than the words that it asks for.
 abbrev pub weight : List Item → ℕ
 weight [] = 0
 weight (x ∷ xs) = item_weight x + weight xs
+
+-- The place of an item's kind among the kinds.
+abbrev pub item_rank : Item → ℕ
+item_rank (item.Int i) = 0
+item_rank (item.Atom k) = 1
+item_rank (item.Pid n) = 4
+item_rank _ = 7
+
+-- The value of an integer.
+abbrev pub item_value : Item → ℤ
+item_value (item.Int i) = i
+item_value _ = pos 0
+
+-- The number of a pid.
+abbrev pub item_number : Item → ℕ
+item_number (item.Pid n) = n
+item_number _ = 0
+
+-- The name of an atom.
+abbrev pub item_name : (names : List (List ℕ)) → Item → List ℕ
+item_name names (item.Atom k) = name_of names k
+item_name names _ = []
+
+-- The item that a register holds where this one is written, which may name another register.
+abbrev pub put_item : List Item → Item → Item
+put_item items (item.Held r) = get_or items r item.Nil
+put_item items x = x
+
+-- A register that the item names is one that a process has.
+abbrev pub NamesRegister : Item → Type 0
+NamesRegister (item.Held r) = r < REGISTERS
+NamesRegister _ = Unit {0}
 
 -- Process 1 with these items in its registers.
 abbrev pub one_process : List Item → Process

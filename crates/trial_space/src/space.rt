@@ -1,20 +1,28 @@
 // The space.
-ghost use Rattle.std.specs.Prelude.{◌≡◌, length};
+ghost use Rattle.std.specs.Prelude.{◌≡◌, get_or, length};
+ghost use Rattle.plain_term.specs.declared.item.Item.TheVariants.{Nil};
+ghost use Rattle.script_grammar.specs.Names.{IsRegister};
 ghost use Rattle.plain_machine.specs.State.{first_state};
+ghost use Rattle.trial_space.specs.Items.{NamesRegister, put_item};
 
+use crate::comparing::item_order;
 use crate::printing::print_item;
-use crate::weight::weigh;
+use crate::weight::{flat_alone, many_words, weigh};
 use atom_names::AtomNames;
 use line_io::Sink;
-use plain_machine::{Depth, PLACE_COST, PROCESS_COST, Refusal, Reg};
+use plain_machine::{
+    Depth, MOST_PLACES, Measure, PLACE_COST, PROCESS_COST, Pick, Refusal, Reg, Shape,
+};
 use plain_term::Item;
 use script_grammar::REGISTERS;
 use space_api::{Seat, Space, Stop};
+use std::cmp::Ordering;
 
 // How many registers the process has.
 const SLOTS: usize = REGISTERS as usize;
 
-/// Process 1 alone, with one item in each register, and no word of memory: what asks for words is refused.
+/// Process 1 alone, with one item in each register, and no word of memory: what asks for words is refused, and every list that
+/// is made of one term.
 #[derive(Drop)]
 pub struct TrialSpace {
     alive: bool,
@@ -37,9 +45,31 @@ impl TrialSpace {
     }
 }
 
+// What the registers hold.
+impl TrialSpace {
+    fn item(&self, r: Reg) -> Item
+        requires { IsRegister r }
+        ensures { result ≡ get_or self.now.registers r.0 Nil }
+    {
+        self.registers[r.0 as usize]
+    }
+
+    // The item of the register that this one names, or itself.
+    fn meant(&self, item: Item) -> Item
+        requires { NamesRegister item }
+        ensures { result ≡ put_item self.now.registers item }
+    {
+        match item {
+            Item::Held(r) => self.item(Reg(r)),
+            _ => item,
+        }
+    }
+}
+
 impl Space for TrialSpace {
     ghost use Rattle.std.specs.Prelude.{[]};
-    ghost use Rattle.plain_machine.specs.May.{asks_space};
+    ghost use Rattle.plain_machine.specs.May.{gets_to_space};
+    ghost use Rattle.plain_machine.specs.Step.{step};
     ghost use Rattle.space_api.specs.Calls.{Properly};
     ghost use Rattle.trial_space.specs.Items.{TrialSits, TrialStands};
 
@@ -53,7 +83,7 @@ impl Space for TrialSpace {
 
     ghost calls = { λ b. 0 };
 
-    ghost may = { λ words s p. asks_space s p };
+    ghost may = { λ words s p. gets_to_space p.command (step s p) };
 
     ghost text = { λ b names c. [] };
 
@@ -93,9 +123,43 @@ impl Space for TrialSpace {
         if weight > 1 {
             return Err(Refusal::NoSpace(weight - 1));
         }
-        self.registers[r.0 as usize] = code[0];
+        self.registers[r.0 as usize] = self.meant(code[0]);
         self.named = names.count();
         Ok(())
+    }
+
+    fn pick(
+        &mut self,
+        names: &AtomNames,
+        seat: Seat,
+        r: Reg,
+        s: Reg,
+        how: Pick,
+    ) -> Result<(), Refusal> {
+        Err(Refusal::BadArg)
+    }
+
+    fn map_put(
+        &mut self,
+        names: &AtomNames,
+        seat: Seat,
+        r: Reg,
+        s: Reg,
+        k: Reg,
+        v: Reg,
+    ) -> Result<(), Refusal> {
+        Err(Refusal::BadArg)
+    }
+
+    fn make_ref(&mut self, seat: Seat, r: Reg) -> Result<(), Refusal> {
+        Err(Refusal::NoSpace(3))
+    }
+
+    fn repeat(&mut self, seat: Seat, r: Reg, shape: Shape, n: u64, s: Reg) -> Result<(), Refusal> {
+        if n > MOST_PLACES {
+            return Err(Refusal::BadArg);
+        }
+        Err(Refusal::NoSpace(many_words(shape, n)))
     }
 
     fn own_pid(&mut self, seat: Seat, r: Reg) {
@@ -114,6 +178,15 @@ impl Space for TrialSpace {
 
     fn sweep_all(&mut self) {}
 
+    fn measure(&self, seat: Seat, s: Reg) -> Result<Measure, Refusal> {
+        let flat = flat_alone(self.item(s));
+        Ok(Measure { nodes: 1, flat })
+    }
+
+    fn compare(&self, names: &AtomNames, seat: Seat, a: Reg, b: Reg) -> Result<Ordering, Refusal> {
+        Ok(item_order(names, self.item(a), self.item(b)))
+    }
+
     fn print<K: Sink>(
         &self,
         names: &AtomNames,
@@ -121,7 +194,7 @@ impl Space for TrialSpace {
         s: Reg,
         sink: &mut K,
     ) -> Result<(), Stop> {
-        match print_item(names, self.registers[s.0 as usize], sink) {
+        match print_item(names, self.item(s), sink) {
             Ok(()) => Ok(()),
             Err(_) => Err(Stop::Fault),
         }

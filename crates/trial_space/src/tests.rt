@@ -4,6 +4,7 @@ use engine::{Machine, Status, Stepped, serve, step};
 use line_io::{Limits, LineReader, MemSink, MemSource};
 use script_parse::Code;
 use space_api::Space;
+use std::alloc::Global;
 use std::rt::HostRuntime;
 use std::test::Fail;
 
@@ -14,21 +15,39 @@ const SCRIPT: &[u8] =
 const REPLIES: &[u8] =
     b"ok\na\nerror nospace 2\nerror nospace 4\nerror nospace 2\nerror nospace 16\nerror empty\nok\n<0.1.0>\nok\n-7\nok\nok\nok\n[]\nerror noproc\n[1]\nok\nerror noproc\n[]\nok\n";
 
-#[test]
-fn a_script_is_served_at_a_space_that_is_no_arena(rt: HostRuntime) -> Result<(), Fail> {
-    let names = AtomNames::new(rt.alloc())?;
-    let code = Code::new(rt.alloc())?;
+// The verbs on terms: what needs no word is done, and each refusal stands before the want of words.
+const VERBS: &[u8] =
+    b"1 set 0 a\n1 set 1 $0\n1 print 1\n1 eq 0 1\n1 set 1 b\n1 eq 0 1\n1 cmp 0 1\n1 cmp 1 0\n1 cmp 1 1\n1 self 2\n1 cmp 0 2\n1 cmp 3 2\n1 set 4 -9\n1 set 5 7\n1 cmp 4 5\n1 flat 4\n1 hd 0 0\n1 elem 0 1 0\n1 mapget 0 0 0\n1 mapput 0 0 0 0\n1 ref 0\n1 mktuple 0 2 0\n1 mklist 0 2 0\n1 mklist 0 65537 0\n1 set 0 576460752303423488\n1 set 0 [a|b]\n1 set 0 #{a=>$0,b=>{}}\n1 print 0\n";
+
+const TOLD: &[u8] =
+    b"ok\nok\na\ntrue\nok\nfalse\nlt\ngt\neq\nok\nlt\ngt\nok\nok\nlt\n0\nerror badarg\nerror badarg\nerror badarg\nerror badarg\nerror nospace 3\nerror nospace 3\nerror nospace 4\nerror badarg\nerror nospace 2\nerror nospace 2\nerror nospace 9\na\n";
+
+// Whether a script is answered by these replies.
+fn serves(alloc: Global, script: &[u8], replies: &[u8]) -> Result<bool, Fail> {
+    let names = AtomNames::new(alloc)?;
+    let code = Code::new(alloc)?;
     let space = TrialSpace::start();
     let mut machine = Machine { space, names, code };
     let limits = Limits {
         lines: 100,
         bytes: 1000,
     };
-    let mut reader = LineReader::new(rt.alloc(), limits)?;
-    let mut source = MemSource::new(rt.alloc(), SCRIPT, 7, &[])?;
-    let mut sink = MemSink::new(rt.alloc(), 1000, 5, &[])?;
+    let mut reader = LineReader::new(alloc, limits)?;
+    let mut source = MemSource::new(alloc, script, 7, &[])?;
+    let mut sink = MemSink::new(alloc, 1000, 5, &[])?;
     let status = serve(&mut machine, &mut reader, &mut source, &mut sink);
-    assert!(rt; matches!(status, Status::Done) && sink.bytes() == REPLIES);
+    Ok(matches!(status, Status::Done) && sink.bytes() == replies)
+}
+
+#[test]
+fn a_script_is_served_at_a_space_that_is_no_arena(rt: HostRuntime) -> Result<(), Fail> {
+    assert!(rt; serves(rt.alloc(), SCRIPT, REPLIES)?);
+    Ok(())
+}
+
+#[test]
+fn what_needs_no_word_of_the_verbs_on_terms_is_done(rt: HostRuntime) -> Result<(), Fail> {
+    assert!(rt; serves(rt.alloc(), VERBS, TOLD)?);
     Ok(())
 }
 

@@ -1,17 +1,57 @@
 // How many words the parts of a written term ask for, by its items.
 ghost use Rattle.std.specs.Prelude.{◌≡◌, ◌≤◌, length};
-ghost use Rattle.trial_space.specs.Items.{item_weight, weight};
+ghost use Rattle.plain_term.specs.Measures.{flat, int_flat};
+ghost use Rattle.plain_machine.specs.declared.limits.TheConstants.{MOST_PLACES};
+ghost use Rattle.plain_machine.specs.Tightness.{repeat_words};
+ghost use Rattle.trial_space.specs.Items.{alone, item_weight, weight};
 
 use line_io::LONGEST_LINE;
+use plain_machine::{MOST_PLACES, Shape};
 use plain_term::Item;
 
-// One for each item, and one more for a tuple.
+// The words of an integer.
+fn int_words(i: i128) -> u64
+    ensures { result ≡ int_flat i }
+{
+    if -(1 << 59) <= i && i < 1 << 59 {
+        0
+    } else if i.unsigned_abs() < 1 << 64 {
+        2
+    } else {
+        3
+    }
+}
+
+/// The flat size of an item that stands alone.
+pub fn flat_alone(item: Item) -> u64
+    ensures { result ≡ flat (alone item) }
+{
+    match item {
+        Item::Int(i) => int_words(i),
+        _ => 0,
+    }
+}
+
+// The weight of an item without its parts.
 fn weigh_item(item: Item) -> u64
     ensures { result ≡ item_weight item }
 {
     match item {
+        Item::Int(i) => 1 + int_words(i),
         Item::Tuple(_) => 2,
+        Item::Map(_) => 5,
         _ => 1,
+    }
+}
+
+/// The words of so many places.
+pub fn many_words(shape: Shape, n: u64) -> u64
+    requires { n ≤ MOST_PLACES }
+    ensures { result ≡ repeat_words shape n }
+{
+    match shape {
+        Shape::Tuple => 1 + n,
+        Shape::List => 2 * n,
     }
 }
 
