@@ -1,24 +1,25 @@
 -- What is in the grammar and built is read.
 use Rattle.std.proofs.Common.{◌≡◌, ℕ, zero, suc, ◌+◌, ◌<◌, ◌≤◌, Bool, true, false, nat_eq, nat_le, ℤ, pos, negsuc, List, [], ◌∷◌, ◌++◌, length, Option, Some, None, codes, refl, sym, ◌∙◌, ap, subst, inl, inr, arith}
-use Rattle.script_grammar.specs.declared.limits.TheConstants.{NUMBERS}
+use Rattle.script_grammar.specs.declared.limits.TheConstants.{NUMBERS, REGISTERS}
+use Rattle.script_parse.specs.declared.numbers.TheConstants.{LAST_REGISTER, WIDEST}
 use Rattle.std.proofs.lemmas.Bool.{leb-true}
-use Rattle.plain_term.specs.Measures.{is_small}
+use Rattle.plain_term.specs.Measures.{magnitude}
 use Rattle.script_grammar.specs.Written.{Term}
-use Rattle.script_grammar.specs.Written.Term.{Int, Atom, Pid}
+use Rattle.script_grammar.specs.Written.Term.{Int, Atom, Pid, Held}
 use Rattle.script_grammar.specs.Grammar.{is_blank, is_digit, is_small_letter, AreAll, IsNumber, IsName, Piece, Lies, term_pieces, MayStand, IsBuiltTerm}
-use Rattle.script_grammar.specs.Grammar.Piece.{Text, Whole, Process}
+use Rattle.script_grammar.specs.Grammar.Piece.{Text, Whole, Process, Register}
 use Rattle.script_parse.specs.declared.forms.Form.{Form}
 use Rattle.script_parse.specs.declared.forms.Form.TheVariants as form
-use Rattle.script_parse.specs.Forms.{all_forms, opening, closing}
+use Rattle.script_parse.specs.Forms.{all_forms, opening, closing, has_tail}
 use Rattle.script_parse.specs.Output.{Out, begun, led, ended, put}
-use Rattle.script_parse.specs.Reading.{then_read, after_blanks, text_at, integer_at, atom_at, leaf_at, parts_run, part_run, form_in, form_run, any_run, term_run}
+use Rattle.script_parse.specs.Reading.{then_read, after_blanks, text_at, number_at, integer_at, atom_at, leaf_at, parts_run, pair_run, part_run, end_run, form_in, form_run, any_run, term_run}
 use Rattle.script_parse.proofs.Tools.{unequal, not_blank, apart, both_true, far_from}
 use Rattle.script_parse.proofs.TermSteps.{term_leaf}
 use Rattle.script_parse.proofs.GapSteps.{Token, token, Divides, stops}
-use Rattle.script_parse.proofs.NumberSteps.{Begun, begun as number_begun, stops_digits, integer_found, pid_found, pid_text}
+use Rattle.script_parse.proofs.NumberSteps.{Begun, begun as number_begun, stops_digits, number_found, integer_found, pid_found, pid_text}
 use Rattle.script_parse.proofs.AtomSteps.{atom_found}
-use Rattle.script_parse.proofs.Divided.{Each, more_of, parts_of, more_divides, put_each, Mark, Opened, opened, mark_no_comma, mark_divides, DonePart, DoneParts, parts_done}
-use Rattle.script_parse.proofs.FormRows.{PartOf, part_pieces, part_put, IsPart, IsLeaf, leaf_or_made, made, made_pieces, made_put, made_are, made_level, opening_mark, closing_mark, form_found, opening_no_end, marks, unmarked, pid_closes_none}
+use Rattle.script_parse.proofs.Divided.{Each, more_of, parts_of, more_divides, put_each, Mark, Opened, opened, mark_divides, DonePart, DoneParts, parts_done}
+use Rattle.script_parse.proofs.FormRows.{PartOf, pair_pieces, part_pieces, part_put, IsPair, IsPart, end_pieces, end_put, CanEnd, IsEnd, end_divides, end_no_comma, closing_no_bar, IsLeaf, leaf_or_made, made, made_pieces, made_put, made_are, made_level, opening_mark, closing_mark, form_found, opening_no_end, marks, unmarked, pid_closes_none}
 
 -- A term without parts of the grammar is read, no form is opened or closed there, and the pieces after it stand in the rest.
 pub record DoneLeaf (t : Term) (ps : List Piece) (line : List ℕ) : Type 0 where
@@ -39,10 +40,10 @@ digit_not_letter b h = let k : (nat_le 48 b ≡ true) × (nat_le b 57 ≡ true) 
     ] (both_true (nat_le 97 b) (nat_le b 122))
 
 letter_run : (b : ℕ) (bytes : List ℕ) → is_small_letter b ≡ true → leaf_at (b ∷ bytes) ≡ then_read {B = Term × List ℕ} (atom_at (b ∷ bytes)) (λ r. Some (Atom (r.0), r.1))
-letter_run b bytes h = rw (unequal b 60 (apart is_small_letter b 60 refl h), h) refl
+letter_run b bytes h = rw (unequal b 60 (apart is_small_letter b 60 refl h), unequal b 36 (apart is_small_letter b 36 refl h), h) refl
 
 digit_run : (b : ℕ) (bytes : List ℕ) → is_digit b ≡ true → leaf_at (b ∷ bytes) ≡ then_read {B = Term × List ℕ} (integer_at (b ∷ bytes)) (λ r. Some (Int (r.0), r.1))
-digit_run b bytes h = rw (unequal b 60 (apart is_digit b 60 refl h), digit_not_letter b h) refl
+digit_run b bytes h = rw (unequal b 60 (apart is_digit b 60 refl h), unequal b 36 (apart is_digit b 36 refl h), digit_not_letter b h) refl
 
 -- A leaf that begins with a byte of a kind that opens and closes nothing.
 leaf_done : (t : Term) (ps : List Piece) (line : List ℕ) (p : ℕ → Bool) (b : ℕ) (text rest : List ℕ) → far_from p marks ≡ true → p b ≡ true → after_blanks line ≡ b ∷ (text ++ rest)
@@ -52,25 +53,25 @@ leaf_done t ps line p b text rest h e front read l s = let k = unmarked p b (tex
 
 -- An integer.
 unsigned_done : (n : ℕ) (ps : List Piece) (line gap text rest : List ℕ) → AreAll is_blank gap → IsNumber n text → line ≡ gap ++ (text ++ rest)
-    → Lies ps rest → Divides ps → is_small (pos n) ≡ true → DoneLeaf (Int (pos n)) ps line
-unsigned_done n ps line gap text rest g i e l d small =
+    → Lies ps rest → Divides ps → n ≤ WIDEST → DoneLeaf (Int (pos n)) ps line
+unsigned_done n ps line gap text rest g i e l d within =
     let b : Begun text = number_begun n text i in
     let whole : line ≡ gap ++ ((b.first ∷ b.more) ++ rest) = rw b.whole at e in
     let number : IsNumber n (b.first ∷ b.more) = rw b.whole at i in
     let k : Token (Whole (pos n)) ps line b.first b.more = token (Whole (pos n)) ps line gap b.more rest b.first g (not_blank is_digit b.first refl refl b.digit) whole l in
-    let f : integer_at ((b.first ∷ b.more) ++ k.rest) ≡ Some (pos n, k.rest) = integer_found (pos n) (b.first ∷ b.more) k.rest number small (stops_digits k.rest (stops ps k.rest d k.lies)) in
+    let f : integer_at ((b.first ∷ b.more) ++ k.rest) ≡ Some (pos n, k.rest) = integer_found (pos n) (b.first ∷ b.more) k.rest number within (stops_digits k.rest (stops ps k.rest d k.lies)) in
     leaf_done (Int (pos n)) ps line is_digit b.first b.more k.rest refl b.digit k.front (digit_run b.first (b.more ++ k.rest) b.digit ∙ rw f refl) k.lies k.shorter
 
 signed_done : (m : ℕ) (ps : List Piece) (line gap digits rest : List ℕ) → AreAll is_blank gap → IsNumber (m + 1) digits → line ≡ gap ++ ((45 ∷ digits) ++ rest)
-    → Lies ps rest → Divides ps → is_small (negsuc m) ≡ true → DoneLeaf (Int (negsuc m)) ps line
-signed_done m ps line gap digits rest g i e l d small =
+    → Lies ps rest → Divides ps → m + 1 ≤ WIDEST → DoneLeaf (Int (negsuc m)) ps line
+signed_done m ps line gap digits rest g i e l d within =
     let k : Token (Whole (negsuc m)) ps line 45 digits = token (Whole (negsuc m)) ps line gap digits rest 45 g refl e l in
-    let f : integer_at ((45 ∷ digits) ++ k.rest) ≡ Some (negsuc m, k.rest) = integer_found (negsuc m) (45 ∷ digits) k.rest (digits, i, refl) small (stops_digits k.rest (stops ps k.rest d k.lies)) in
+    let f : integer_at ((45 ∷ digits) ++ k.rest) ≡ Some (negsuc m, k.rest) = integer_found (negsuc m) (45 ∷ digits) k.rest (digits, i, refl) within (stops_digits k.rest (stops ps k.rest d k.lies)) in
     leaf_done (Int (negsuc m)) ps line (λ b. nat_eq b 45) 45 digits k.rest refl refl k.front (rw f refl) k.lies k.shorter
 
-integer_done : (i : ℤ) (ps : List Piece) (line : List ℕ) → Divides ps → is_small i ≡ true → Lies (Whole i ∷ ps) line → DoneLeaf (Int i) ps line
-integer_done (pos n) ps line d small (gap, text, rest, g, i, e, l) = unsigned_done n ps line gap text rest g i e l d small
-integer_done (negsuc m) ps line d small (gap, text, rest, g, (digits, i, s), e, l) = signed_done m ps line gap digits rest g i (rw s at e) l d small
+integer_done : (i : ℤ) (ps : List Piece) (line : List ℕ) → Divides ps → magnitude i ≤ WIDEST → Lies (Whole i ∷ ps) line → DoneLeaf (Int i) ps line
+integer_done (pos n) ps line d within (gap, text, rest, g, i, e, l) = unsigned_done n ps line gap text rest g i e l d within
+integer_done (negsuc m) ps line d within (gap, text, rest, g, (digits, i, s), e, l) = signed_done m ps line gap digits rest g i (rw s at e) l d within
 
 -- An atom.
 atom_done : (a : List ℕ) (ps : List Piece) (line : List ℕ) → Divides ps → IsName a → Lies (Text a ∷ ps) line → DoneLeaf (Atom a) ps line
@@ -94,10 +95,18 @@ pid_done n ps line some within (gap, text, rest, g, (digits, i, s), e, l) =
       no_end = λ f. ap (text_at (closing f)) front ∙ pid_closes_none f (codes "0." ++ (digits ++ (codes ".0>" ++ k.rest)));
     }
 
+-- A register.
+held_done : (r : ℕ) (ps : List Piece) (line : List ℕ) → Divides ps → r < REGISTERS → Lies (Register r ∷ ps) line → DoneLeaf (Held r) ps line
+held_done r ps line d within (gap, text, rest, g, (digits, i, s), e, l) =
+    let k : Token (Register r) ps line 36 digits = token (Register r) ps line gap digits rest 36 g refl (rw s at e) l in
+    let f : number_at LAST_REGISTER (digits ++ k.rest) ≡ Some (r, k.rest) = number_found LAST_REGISTER r digits k.rest i (omega (arith, within)) (stops_digits k.rest (stops ps k.rest d k.lies)) in
+    leaf_done (Held r) ps line (λ b. nat_eq b 36) 36 digits k.rest refl refl k.front (rw f refl) k.lies k.shorter
+
 pub leaf_of_grammar : (t : Term) (levels : ℕ) (ps : List Piece) (line : List ℕ) → IsLeaf t → Divides ps → MayStand levels t → IsBuiltTerm t → Lies (term_pieces t ps) line → DoneLeaf t ps line
-leaf_of_grammar (Int i) levels ps line h d m b l = integer_done i ps line d b l
+leaf_of_grammar (Int i) levels ps line h d m b l = integer_done i ps line d (omega (arith, m)) l
 leaf_of_grammar (Atom a) levels ps line h d m b l = atom_done a ps line d m l
 leaf_of_grammar (Pid n) levels ps line h d m b l = pid_done n ps line (m.0) (m.1) l
+leaf_of_grammar (Held r) levels ps line h d m b l = held_done r ps line d m l
 leaf_of_grammar _ levels ps line h d m b l = absurd h
 
 -- A term of the grammar is read, no form is closed there, and the pieces after it stand in the rest.
@@ -117,16 +126,67 @@ form_empty : (inner : List ℕ → Out → Option (List ℕ × Out)) (f : Form) 
     → form_run inner f line o ≡ Some (rest, ended f (length o.items) 0 (begun f o))
 form_empty inner f line rest o e = rw e refl
 
-form_full : (inner : List ℕ → Out → Option (List ℕ × Out)) (f : Form) (line mid rest : List ℕ) (o : Out) (n : ℕ) (q : Out) → text_at (closing f) (after_blanks line) ≡ None
-    → parts_run (part_run inner f) (length line + 1) line 0 (begun f o) ≡ Some (mid, (n + 0, q)) → text_at (closing f) (after_blanks mid) ≡ Some rest
-    → form_run inner f line o ≡ Some (rest, ended f (length o.items) n q)
-form_full inner f line mid rest o n q e r g = let same : n + 0 ≡ n = omega arith in rw (e, r, g, same) refl
+form_full : (inner : List ℕ → Out → Option (List ℕ × Out)) (f : Form) (line mid rest : List ℕ) (o : Out) (n : ℕ) (q p : Out) → text_at (closing f) (after_blanks line) ≡ None
+    → parts_run (part_run inner f) (length line + 1) line 0 (begun f o) ≡ Some (mid, (n + 0, q)) → end_run inner f (length o.items) n mid q ≡ Some (rest, p)
+    → form_run inner f line o ≡ Some (rest, p)
+form_full inner f line mid rest o n q p e r g = let same : n + 0 ≡ n = omega arith in rw (e, r, same) g
 
-pub record DoneForm (levels : ℕ) (f : Form) (xs : List (PartOf f)) (ps : List Piece) (line : List ℕ) (o : Out) : Type 0 where
+-- A last tail, and then what closes its form.
+tail_found : (inner : List ℕ → Out → Option (List ℕ × Out)) (f : Form) (at n : ℕ) (line bytes mid rest : List ℕ) (o p : Out) → after_blanks line ≡ codes "|" ++ bytes → has_tail f ≡ true
+    → inner bytes o ≡ Some (mid, p) → text_at (closing f) (after_blanks mid) ≡ Some rest → end_run inner f at n line o ≡ Some (rest, p)
+tail_found inner f at n line bytes mid rest o p e t h g = rw (e, closing_no_bar f bytes, t, h, g) refl
+
+-- What closes a form.
+pub closing_opened : (f : Form) (ps : List Piece) (line : List ℕ) → Lies (Text (closing f) ∷ ps) line → Opened (closing f) ps line
+closing_opened f ps line l = let m : Mark (closing f) = closing_mark f in opened (closing f) m.first m.more ps line m.is m.solid l
+
+-- The end of a form of the grammar is read.
+pub record DoneEnd (levels : ℕ) (f : Form) (e : Option Term) (at n : ℕ) (ps : List Piece) (line : List ℕ) (o : Out) : Type 0 where
   pub rest : List ℕ
-  pub read : form_run (term_run levels) f line o ≡ Some (rest, ended f (length o.items) (length xs) (put_each (part_put f) xs (begun f o)))
+  pub read : end_run (term_run levels) f at n line o ≡ Some (rest, end_put f e at n o)
   pub lies : Lies ps rest
   pub shorter : length rest < length line
+
+end_done : (levels : ℕ) → AreDone levels → (f : Form) (e : Option Term) (at n : ℕ) (ps : List Piece) (line : List ℕ) (o : Out) → IsEnd levels n f e → Lies (end_pieces f e ps) line
+    → DoneEnd levels f e at n ps line o
+end_done levels ih f None at n ps line o is l = let k : Opened (closing f) ps line = closing_opened f ps line l in
+    record { rest = k.rest; read = rw k.found refl; lies = k.lies; shorter = k.shorter }
+end_done levels ih f (Some t) at n ps line o is l =
+    let b : Opened (codes "|") (term_pieces t (Text (closing f) ∷ ps)) line = opened (codes "|") 124 [] (term_pieces t (Text (closing f) ∷ ps)) line refl refl l in
+    let v : Done levels t (Text (closing f) ∷ ps) b.rest o = ih t (Text (closing f) ∷ ps) b.rest o (mark_divides (closing f) ps (closing_mark f)) (is.2.0) (is.2.1) b.lies in
+    let k : Opened (closing f) ps v.rest = closing_opened f ps v.rest v.lies in
+    record {
+      rest = k.rest;
+      read = tail_found (term_run levels) f at n line b.rest v.rest k.rest o (put t o) b.front (is.0) v.read k.found;
+      lies = k.lies;
+      shorter = omega (arith, b.shorter, v.shorter, k.shorter);
+    }
+
+pub record DoneForm (levels : ℕ) (f : Form) (xs : List (PartOf f)) (e : Option Term) (ps : List Piece) (line : List ℕ) (o : Out) : Type 0 where
+  pub rest : List ℕ
+  pub read : form_run (term_run levels) f line o ≡ Some (rest, end_put f e (length o.items) (length xs) (put_each (part_put f) xs (begun f o)))
+  pub lies : Lies ps rest
+  pub shorter : length rest < length line
+
+-- A pair of the grammar is read, and no form is closed where it begins.
+pair_found : (inner : List ℕ → Out → Option (List ℕ × Out)) (line mid bytes rest : List ℕ) (o q p : Out) → inner line o ≡ Some (mid, q) → text_at (codes "=>") (after_blanks mid) ≡ Some bytes
+    → inner bytes q ≡ Some (rest, p) → pair_run inner line o ≡ Some (rest, p)
+pair_found inner line mid bytes rest o q p h e g = rw (h, e) g
+
+pair_done : (levels : ℕ) → AreDone levels → (q : Term × Term) (ps : List Piece) (line : List ℕ) (o : Out) → Divides ps → IsPair levels q → Lies (pair_pieces q ps) line
+    → DonePart (part_put form.Map) (part_run (term_run levels) form.Map) q ps line o × ((g : Form) → text_at (closing g) (after_blanks line) ≡ None)
+pair_done levels ih q ps line o d is l =
+    let k : Done levels (q.0) (Text (codes "=>") ∷ term_pieces (q.1) ps) line o = ih (q.0) (Text (codes "=>") ∷ term_pieces (q.1) ps) line o refl (is.0.0) (is.0.1) l in
+    let a : Opened (codes "=>") (term_pieces (q.1) ps) k.rest = opened (codes "=>") 61 (codes ">") (term_pieces (q.1) ps) k.rest refl refl k.lies in
+    let v : Done levels (q.1) ps a.rest (put (q.0) o) = ih (q.1) ps a.rest (put (q.0) o) d (is.1.0) (is.1.1) a.lies in (
+      record {
+        rest = v.rest;
+        read = pair_found (term_run levels) line k.rest a.rest v.rest o (put (q.0) o) (put (q.1) (put (q.0) o)) k.read a.found v.read;
+        lies = v.lies;
+        shorter = omega (arith, k.shorter, a.shorter, v.shorter);
+      },
+      k.no_end,
+    )
 
 -- A part of the grammar is read, and no form is closed where it begins.
 pub part_done : (levels : ℕ) → AreDone levels → (f : Form) (x : PartOf f) (ps : List Piece) (line : List ℕ) (o : Out) → Divides ps → IsPart levels f x → Lies (part_pieces f x ps) line
@@ -135,40 +195,43 @@ part_done levels ih form.List x ps line o d is l = let k : Done levels x ps line
     (record { rest = k.rest; read = k.read; lies = k.lies; shorter = k.shorter }, k.no_end)
 part_done levels ih form.Tuple x ps line o d is l = let k : Done levels x ps line (led form.Tuple o) = ih x ps line (led form.Tuple o) d (is.0) (is.1) l in
     (record { rest = k.rest; read = k.read; lies = k.lies; shorter = k.shorter }, k.no_end)
+part_done levels ih form.Map x ps line o d is l = pair_done levels ih x ps line o d is l
 
-form_done : (levels : ℕ) → AreDone levels → (f : Form) (xs : List (PartOf f)) (ps : List Piece) (line : List ℕ) (o : Out) → Each (IsPart levels f) xs
-    → Lies (parts_of (part_pieces f) xs (Text (closing f) ∷ ps)) line → DoneForm levels f xs ps line o
-form_done levels ih f [] ps line o is l = let m : Mark (closing f) = closing_mark f in
-    let k : Opened (closing f) ps line = opened (closing f) m.first m.more ps line m.is m.solid l in
+form_done : (levels : ℕ) → AreDone levels → (f : Form) (xs : List (PartOf f)) (e : Option Term) (ps : List Piece) (line : List ℕ) (o : Out) → Each (IsPart levels f) xs → IsEnd levels (length xs) f e
+    → Lies (parts_of (part_pieces f) xs (end_pieces f e ps)) line → DoneForm levels f xs e ps line o
+form_done levels ih f [] None ps line o is i l = let k : Opened (closing f) ps line = closing_opened f ps line l in
     record { rest = k.rest; read = form_empty (term_run levels) f line k.rest o k.found; lies = k.lies; shorter = k.shorter }
-form_done levels ih f (x ∷ xs) ps line o is l = let m : Mark (closing f) = closing_mark f in
+form_done levels ih f [] (Some t) ps line o is i l = absurd (omega (arith, i.1))
+form_done levels ih f (x ∷ xs) e ps line o is i l =
     let none : text_at (closing f) (after_blanks line) ≡ None
-    = (part_done levels ih f x (more_of (part_pieces f) xs (Text (closing f) ∷ ps)) line o (more_divides (part_pieces f) xs (Text (closing f) ∷ ps) (mark_divides (closing f) ps m)) (is.0) l).1 f in
-    let q : DoneParts (part_put f) (part_run (term_run levels) f) (x ∷ xs) (Text (closing f) ∷ ps) (length line + 1) line 0 (begun f o)
-    = parts_done (part_pieces f) (part_put f) (IsPart levels f) (part_run (term_run levels) f) (λ y qs mid p d s k. (part_done levels ih f y qs mid p d s k).0) x xs (Text (closing f) ∷ ps)
-    (length line + 1) line 0 (begun f o) (mark_divides (closing f) ps m) (mark_no_comma (closing f) ps m) (omega arith) is l in
-    let k : Opened (closing f) ps q.rest = opened (closing f) m.first m.more ps q.rest m.is m.solid q.lies in
+    = (part_done levels ih f x (more_of (part_pieces f) xs (end_pieces f e ps)) line o (more_divides (part_pieces f) xs (end_pieces f e ps) (end_divides f e ps)) (is.0) l).1 f in
+    let q : DoneParts (part_put f) (part_run (term_run levels) f) (x ∷ xs) (end_pieces f e ps) (length line + 1) line 0 (begun f o)
+    = parts_done (part_pieces f) (part_put f) (IsPart levels f) (part_run (term_run levels) f) (λ y qs mid p d s k. (part_done levels ih f y qs mid p d s k).0) x xs (end_pieces f e ps)
+    (length line + 1) line 0 (begun f o) (end_divides f e ps) (end_no_comma f e ps) (omega arith) is l in
+    let p : Out = put_each (part_put f) (x ∷ xs) (begun f o) in
+    let k : DoneEnd levels f e (length o.items) (length (x ∷ xs)) ps q.rest p = end_done levels ih f e (length o.items) (length (x ∷ xs)) ps q.rest p i q.lies in
     record {
       rest = k.rest;
-      read = form_full (term_run levels) f line q.rest k.rest o (length (x ∷ xs)) (put_each (part_put f) (x ∷ xs) (begun f o)) none q.read k.found;
+      read = form_full (term_run levels) f line q.rest k.rest o (length (x ∷ xs)) p (end_put f e (length o.items) (length (x ∷ xs)) p) none q.read k.read;
       lies = k.lies;
       shorter = omega (arith, q.shorter, k.shorter);
     }
 
 -- The pieces after what opens a form.
-pub form_opened : (f : Form) (xs : List (PartOf f)) (ps : List Piece) (line : List ℕ) → Lies (term_pieces (made f xs) ps) line
-    → Opened (opening f) (parts_of (part_pieces f) xs (Text (closing f) ∷ ps)) line
-form_opened f xs ps line l = let m : Mark (opening f) = opening_mark f in
-    opened (opening f) m.first m.more (parts_of (part_pieces f) xs (Text (closing f) ∷ ps)) line m.is m.solid (rw (made_pieces f xs ps) at l)
+pub form_opened : (f : Form) (xs : List (PartOf f)) (e : Option Term) (ps : List Piece) (line : List ℕ) → CanEnd f e → Lies (term_pieces (made f xs e) ps) line
+    → Opened (opening f) (parts_of (part_pieces f) xs (end_pieces f e ps)) line
+form_opened f xs e ps line c l = let m : Mark (opening f) = opening_mark f in
+    opened (opening f) m.first m.more (parts_of (part_pieces f) xs (end_pieces f e ps)) line m.is m.solid (rw (made_pieces f xs e ps c) at l)
 
-made_done : (levels : ℕ) → AreDone levels → (f : Form) (xs : List (PartOf f)) (ps : List Piece) (line : List ℕ) (o : Out) → MayStand (suc levels) (made f xs) → IsBuiltTerm (made f xs)
-    → Lies (term_pieces (made f xs) ps) line → Done (suc levels) (made f xs) ps line o
-made_done levels ih f xs ps line o m b l =
-    let k : Opened (opening f) (parts_of (part_pieces f) xs (Text (closing f) ∷ ps)) line = form_opened f xs ps line l in
-    let q : DoneForm levels f xs ps k.rest o = form_done levels ih f xs ps k.rest o (made_are levels f xs m b) k.lies in
+made_done : (levels : ℕ) → AreDone levels → (f : Form) (xs : List (PartOf f)) (e : Option Term) (ps : List Piece) (line : List ℕ) (o : Out) → CanEnd f e → MayStand (suc levels) (made f xs e)
+    → IsBuiltTerm (made f xs e) → Lies (term_pieces (made f xs e) ps) line → Done (suc levels) (made f xs e) ps line o
+made_done levels ih f xs e ps line o c m b l =
+    let k : Opened (opening f) (parts_of (part_pieces f) xs (end_pieces f e ps)) line = form_opened f xs e ps line c l in
+    let is : Each (IsPart levels f) xs × IsEnd levels (length xs) f e = made_are levels f xs e c m b in
+    let q : DoneForm levels f xs e ps k.rest o = form_done levels ih f xs e ps k.rest o (is.0) (is.1) k.lies in
     record {
       rest = q.rest;
-      read = ap (λ (z : List ℕ). any_run (term_run levels) z o) k.front ∙ (rw (form_found f k.rest) q.read ∙ ap (λ (z : Out). Some (q.rest, z)) (sym (made_put f xs o)));
+      read = ap (λ (z : List ℕ). any_run (term_run levels) z o) k.front ∙ (rw (form_found f k.rest) q.read ∙ ap (λ (z : Out). Some (q.rest, z)) (sym (made_put f xs e o c)));
       lies = q.lies;
       shorter = omega (arith, k.shorter, q.shorter);
       no_end = λ g. ap (text_at (closing g)) k.front ∙ opening_no_end f g k.rest;
@@ -182,10 +245,10 @@ leaf_term_done levels t ps line o h d m b l = let k : DoneLeaf t ps line = leaf_
 pub term_done : (levels : ℕ) → AreDone levels
 term_done zero t ps line o d m b l = elim (leaf_or_made t b) [
   | inl h ↦ leaf_term_done zero t ps line o h d m b l
-  | inr h ↦ let n : MayStand zero (made (h.0) (h.1)) = rw (h.2) at m in made_level (h.0) (h.1) n
+  | inr h ↦ let n : MayStand zero (made (h.0) (h.1) (h.2)) = rw (h.4) at m in made_level (h.0) (h.1) (h.2) n
 ]
 term_done (suc levels) t ps line o d m b l = elim (leaf_or_made t b) [
   | inl h ↦ leaf_term_done (suc levels) t ps line o h d m b l
   | inr h ↦ let P : Term → Type 0 = λ z. MayStand (suc levels) z → IsBuiltTerm z → Lies (term_pieces z ps) line → Done (suc levels) z ps line o in
-      subst P (sym (h.2)) (made_done levels (term_done levels) (h.0) (h.1) ps line o) m b l
+      subst P (sym (h.4)) (made_done levels (term_done levels) (h.0) (h.1) (h.2) ps line o (h.3)) m b l
 ]

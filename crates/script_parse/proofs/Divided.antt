@@ -87,6 +87,7 @@ pub record FoundPart {P : Type 0} (pieces : P → List Piece → List Piece) (pu
 pub record FoundParts {P : Type 0} (pieces : P → List Piece → List Piece) (puts : P → Out → Out) (Is : P → Type 0) (line : List ℕ) (n : ℕ) (o : Out) (rest : List ℕ) (m : ℕ) (p : Out) : Type 0 where
   pub parts : List P
   pub are : Each Is parts
+  pub some : 0 < length parts
   pub count : m ≡ length parts + n
   pub put : p ≡ put_each puts parts o
   pub lies : (ps : List Piece) → Lies ps rest → Lies (parts_of pieces parts ps) line
@@ -108,6 +109,7 @@ module _ {P : Type 0} (pieces : P → List Piece → List Piece) (puts : P → O
             record {
               parts = f.part ∷ g.parts;
               are = (f.is, g.are);
+              some = omega arith;
               count = omega (arith, g.count);
               put = g.put ∙ ap (λ (z : Out). put_each puts g.parts z) f.put;
               lies = λ ps l. f.lies (more_of pieces g.parts ps) (g.after ps l (r.0.0) comma);
@@ -120,6 +122,7 @@ module _ {P : Type 0} (pieces : P → List Piece → List Piece) (puts : P → O
             record {
               parts = f.part ∷ [];
               are = (f.is, tt);
+              some = omega arith;
               count = omega (arith, count);
               put = sym last ∙ f.put;
               lies = back;

@@ -1,38 +1,80 @@
 -- What holds of each row of the table of forms in brackets: its parts, the term that they make, and its marks.
-use Rattle.std.proofs.Common.{◌≡◌, ℕ, zero, suc, ◌-◌, ◌⊎◌, Bool, true, List, [], ◌∷◌, ◌++◌, length, Some, None, codes, refl, ◌∙◌, ap, inl, inr, arith}
-use Rattle.script_grammar.specs.Written.{Term, Terms, terms_len}
+use Rattle.std.proofs.Common.{◌≡◌, ℕ, zero, suc, ◌-◌, ◌<◌, ◌⊎◌, Bool, true, List, [], ◌∷◌, ◌++◌, length, Option, Some, None, codes, refl, ◌∙◌, ap, inl, inr, arith}
+use Rattle.script_grammar.specs.Written.{Term, Terms, TermPairs, terms_len, pairs_len}
 use Rattle.script_grammar.specs.Written.Term.{Int, Atom, Pid, Held, Listed, Barred, Tuple, Map, Bin}
 use Rattle.script_grammar.specs.Written.Terms.{end, ◌▹◌}
-use Rattle.script_grammar.specs.Grammar.{Piece, term_pieces, parts_pieces, more_pieces, MayStand, AllMayStand, IsBuiltTerm, AreBuiltTerms}
+use Rattle.script_grammar.specs.Written.TermPairs.{stop, pair}
+use Rattle.script_grammar.specs.Grammar.{Piece, term_pieces, parts_pieces, more_pieces, pairs_pieces, more_pairs_pieces, MayStand, AllMayStand, PairsMayStand, IsBuiltTerm, AreBuiltTerms, AreBuiltPairs}
 use Rattle.script_grammar.specs.Grammar.Piece.{Text}
 use Rattle.script_parse.specs.declared.forms.Form.{Form}
 use Rattle.script_parse.specs.declared.forms.Form.TheVariants as form
-use Rattle.script_parse.specs.Forms.{all_forms, opening, closing}
-use Rattle.script_parse.specs.Output.{Out, begun, led, ended, put, put_all}
+use Rattle.script_parse.specs.Forms.{all_forms, opening, closing, has_tail}
+use Rattle.script_parse.specs.Output.{Out, begun, led, ended, put, put_all, put_pairs}
 use Rattle.script_parse.specs.Reading.{text_at, form_in}
-use Rattle.script_parse.proofs.Tools.{found_cases, both, far_from, IsNone, none_of}
+use Rattle.script_parse.proofs.Tools.{found_cases, both, false_not, far_from, IsNone, none_of}
+use Rattle.script_parse.proofs.GapSteps.{Divides}
 use Rattle.script_parse.proofs.NumberSteps.{text_read}
-use Rattle.script_parse.proofs.Divided.{Each, more_of, parts_of, put_each, Mark}
+use Rattle.script_parse.proofs.Divided.{Each, more_of, parts_of, put_each, Mark, NoComma, mark_divides, mark_no_comma}
 
--- What stands between two commas of a form.
+-- What stands between two commas of a form: a term, but in a map a key and its value.
 abbrev pub PartOf : Form → Type 0
 PartOf form.List = Term
 PartOf form.Tuple = Term
+PartOf form.Map = Term × Term
 
--- How it is written.
+-- How a key and its value are written.
+abbrev pub pair_pieces : Term × Term → List Piece → List Piece
+pair_pieces q ps = term_pieces (q.0) (Text (codes "=>") ∷ term_pieces (q.1) ps)
+
+-- How a part is written.
 abbrev pub part_pieces : (f : Form) → PartOf f → List Piece → List Piece
 part_pieces form.List = term_pieces
 part_pieces form.Tuple = term_pieces
+part_pieces form.Map = pair_pieces
 
 -- How it goes last.
 abbrev pub part_put : (f : Form) → PartOf f → Out → Out
 part_put form.List = λ t o. put t (led form.List o)
 part_put form.Tuple = λ t o. put t (led form.Tuple o)
+part_put form.Map = λ q o. put (q.1) (put (q.0) o)
 
--- It may stand with so many levels left, and is of a built form.
+-- A term may stand with so many levels left, and is of a built form.
+abbrev pub IsTerm : (levels : ℕ) → Term → Type 0
+IsTerm levels t = MayStand levels t × IsBuiltTerm t
+
+-- Both terms of a pair.
+abbrev pub IsPair : (levels : ℕ) → Term × Term → Type 0
+IsPair levels q = IsTerm levels (q.0) × IsTerm levels (q.1)
+
+-- So are all terms of a part.
 abbrev pub IsPart : (levels : ℕ) (f : Form) → PartOf f → Type 0
-IsPart levels form.List = λ t. MayStand levels t × IsBuiltTerm t
-IsPart levels form.Tuple = λ t. MayStand levels t × IsBuiltTerm t
+IsPart levels form.List = IsTerm levels
+IsPart levels form.Tuple = IsTerm levels
+IsPart levels form.Map = IsPair levels
+
+-- What stands after the parts of a form: what closes it, or a bar, a last tail and then that.
+abbrev pub end_pieces : Form → Option Term → List Piece → List Piece
+end_pieces f None ps = Text (closing f) ∷ ps
+end_pieces f (Some t) ps = Text (codes "|") ∷ term_pieces t (Text (closing f) ∷ ps)
+
+-- How a form that began at this place is completed after so many parts.
+abbrev pub end_put : Form → Option Term → (at n : ℕ) → Out → Out
+end_put f None at n o = ended f at n o
+end_put f (Some t) at n o = put t o
+
+-- The form may end so.
+abbrev pub CanEnd : Form → Option Term → Type 0
+CanEnd f None = Unit {0}
+CanEnd f (Some t) = has_tail f ≡ true
+
+-- It may end so after so many parts, with so many levels left for a last tail.
+abbrev pub IsEnd : (levels n : ℕ) → Form → Option Term → Type 0
+IsEnd levels n f None = Unit {0}
+IsEnd levels n f (Some t) = (has_tail f ≡ true) × (0 < n) × IsTerm levels t
+
+pub can_end : (levels n : ℕ) (f : Form) (e : Option Term) → IsEnd levels n f e → CanEnd f e
+can_end levels n f None h = tt
+can_end levels n f (Some t) h = h.0
 
 -- Terms as they are written, and as a list.
 abbrev pub terms_from : List Term → Terms
@@ -43,10 +85,21 @@ abbrev pub list_of : Terms → List Term
 list_of end = []
 list_of (t ▹ ts) = t ∷ list_of ts
 
+-- Pairs as they are written, and as a list.
+abbrev pub pairs_from : List (Term × Term) → TermPairs
+pairs_from [] = stop
+pairs_from (q ∷ qs) = pair (q.0) (q.1) (pairs_from qs)
+
+abbrev pub pairs_of : TermPairs → List (Term × Term)
+pairs_of stop = []
+pairs_of (pair k v qs) = (k, v) ∷ pairs_of qs
+
 -- The term that parts make.
-abbrev pub made : (f : Form) → List (PartOf f) → Term
-made form.List = λ ts. Listed (terms_from ts)
-made form.Tuple = λ ts. Tuple (terms_from ts)
+abbrev pub made : (f : Form) → List (PartOf f) → Option Term → Term
+made form.List ts None = Listed (terms_from ts)
+made form.List ts (Some t) = Barred (terms_from ts) t
+made form.Tuple ts e = Tuple (terms_from ts)
+made form.Map qs e = Map (pairs_from qs)
 
 terms_back : (ts : Terms) → ts ≡ terms_from (list_of ts)
 terms_back end = refl
@@ -68,13 +121,42 @@ terms_put : (f : Form) (ts : List Term) (o : Out) → put_all f (terms_from ts) 
 terms_put f [] o = refl
 terms_put f (t ∷ ts) o = terms_put f ts (put t (led f o))
 
-terms_are : (levels : ℕ) (ts : List Term) → Each (λ t. MayStand levels t × IsBuiltTerm t) ts → AllMayStand levels (terms_from ts) × AreBuiltTerms (terms_from ts)
+terms_are : (levels : ℕ) (ts : List Term) → Each (IsTerm levels) ts → AllMayStand levels (terms_from ts) × AreBuiltTerms (terms_from ts)
 terms_are levels [] h = (tt, tt)
 terms_are levels (t ∷ ts) h = let k : AllMayStand levels (terms_from ts) × AreBuiltTerms (terms_from ts) = terms_are levels ts (h.1) in ((h.0.0, k.0), (h.0.1, k.1))
 
-each_is : (levels : ℕ) (ts : List Term) → AllMayStand levels (terms_from ts) → AreBuiltTerms (terms_from ts) → Each (λ t. MayStand levels t × IsBuiltTerm t) ts
+each_is : (levels : ℕ) (ts : List Term) → AllMayStand levels (terms_from ts) → AreBuiltTerms (terms_from ts) → Each (IsTerm levels) ts
 each_is levels [] m b = tt
 each_is levels (t ∷ ts) m b = ((m.0, b.0), each_is levels ts (m.1) (b.1))
+
+pairs_back : (qs : TermPairs) → qs ≡ pairs_from (pairs_of qs)
+pairs_back stop = refl
+pairs_back (pair k v qs) = ap (λ (z : TermPairs). pair k v z) (pairs_back qs)
+
+pairs_more : (qs : List (Term × Term)) (ps : List Piece) → more_pairs_pieces (pairs_from qs) ps ≡ more_of pair_pieces qs ps
+pairs_more [] ps = refl
+pairs_more (q ∷ qs) ps = ap (λ (z : List Piece). Text (codes ",") ∷ pair_pieces q z) (pairs_more qs ps)
+
+pairs_written : (qs : List (Term × Term)) (ps : List Piece) → pairs_pieces (pairs_from qs) ps ≡ parts_of pair_pieces qs ps
+pairs_written [] ps = refl
+pairs_written (q ∷ qs) ps = ap (λ (z : List Piece). pair_pieces q z) (pairs_more qs ps)
+
+pairs_count : (qs : List (Term × Term)) → pairs_len (pairs_from qs) ≡ length qs
+pairs_count [] = refl
+pairs_count (q ∷ qs) = omega (arith, pairs_count qs)
+
+pairs_put : (qs : List (Term × Term)) (o : Out) → put_pairs (pairs_from qs) o ≡ put_each (part_put form.Map) qs o
+pairs_put [] o = refl
+pairs_put (q ∷ qs) o = pairs_put qs (put (q.1) (put (q.0) o))
+
+pairs_are : (levels : ℕ) (qs : List (Term × Term)) → Each (IsPair levels) qs → PairsMayStand levels (pairs_from qs) × AreBuiltPairs (pairs_from qs)
+pairs_are levels [] h = (tt, tt)
+pairs_are levels (q ∷ qs) h = let k : PairsMayStand levels (pairs_from qs) × AreBuiltPairs (pairs_from qs) = pairs_are levels qs (h.1) in
+    ((h.0.0.0, h.0.1.0, k.0), (h.0.0.1, h.0.1.1, k.1))
+
+each_pair : (levels : ℕ) (qs : List (Term × Term)) → PairsMayStand levels (pairs_from qs) → AreBuiltPairs (pairs_from qs) → Each (IsPair levels) qs
+each_pair levels [] m b = tt
+each_pair levels (q ∷ qs) m b = (((m.0, b.0), (m.1, b.1)), each_pair levels qs (m.2) (b.2))
 
 one_less : (levels : ℕ) → suc levels - 1 ≡ levels
 one_less levels = omega arith
@@ -84,84 +166,134 @@ abbrev pub IsLeaf : Term → Type 0
 IsLeaf (Int i) = Unit {0}
 IsLeaf (Atom a) = Unit {0}
 IsLeaf (Pid n) = Unit {0}
+IsLeaf (Held r) = Unit {0}
 IsLeaf _ = ⊥
 
 -- A term that parts make.
 abbrev pub IsMade : Term → Type 0
-IsMade t = (f : Form) × (xs : List (PartOf f)) × (t ≡ made f xs)
+IsMade t = (f : Form) × (xs : List (PartOf f)) × (e : Option Term) × CanEnd f e × (t ≡ made f xs e)
 
 -- Each term of a built form is one of them.
 pub leaf_or_made : (t : Term) → IsBuiltTerm t → IsLeaf t ⊎ IsMade t
 leaf_or_made (Int i) b = inl tt
 leaf_or_made (Atom a) b = inl tt
 leaf_or_made (Pid n) b = inl tt
-leaf_or_made (Held r) b = absurd b
-leaf_or_made (Listed ts) b = inr (form.List, list_of ts, ap (λ (z : Terms). Listed z) (terms_back ts))
-leaf_or_made (Barred ts t) b = absurd b
-leaf_or_made (Tuple ts) b = inr (form.Tuple, list_of ts, ap (λ (z : Terms). Tuple z) (terms_back ts))
-leaf_or_made (Map ps) b = absurd b
+leaf_or_made (Held r) b = inl tt
+leaf_or_made (Listed ts) b = inr (form.List, list_of ts, None, tt, ap (λ (z : Terms). Listed z) (terms_back ts))
+leaf_or_made (Barred ts t) b = inr (form.List, list_of ts, Some t, refl, ap (λ (z : Terms). Barred z t) (terms_back ts))
+leaf_or_made (Tuple ts) b = inr (form.Tuple, list_of ts, None, tt, ap (λ (z : Terms). Tuple z) (terms_back ts))
+leaf_or_made (Map qs) b = inr (form.Map, pairs_of qs, None, tt, ap (λ (z : TermPairs). Map z) (pairs_back qs))
 leaf_or_made (Bin bytes) b = absurd b
 
-pub made_pieces : (f : Form) (xs : List (PartOf f)) (ps : List Piece) → term_pieces (made f xs) ps ≡ Text (opening f) ∷ parts_of (part_pieces f) xs (Text (closing f) ∷ ps)
-made_pieces form.List xs ps = ap (λ (z : List Piece). Text (codes "[") ∷ z) (terms_pieces xs (Text (codes "]") ∷ ps))
-made_pieces form.Tuple xs ps = ap (λ (z : List Piece). Text (codes "{") ∷ z) (terms_pieces xs (Text (codes "}") ∷ ps))
+pub made_pieces : (f : Form) (xs : List (PartOf f)) (e : Option Term) (ps : List Piece) → CanEnd f e
+    → term_pieces (made f xs e) ps ≡ Text (opening f) ∷ parts_of (part_pieces f) xs (end_pieces f e ps)
+made_pieces form.List xs None ps c = ap (λ (z : List Piece). Text (codes "[") ∷ z) (terms_pieces xs (Text (codes "]") ∷ ps))
+made_pieces form.List xs (Some t) ps c = ap (λ (z : List Piece). Text (codes "[") ∷ z) (terms_pieces xs (Text (codes "|") ∷ term_pieces t (Text (codes "]") ∷ ps)))
+made_pieces form.Tuple xs None ps c = ap (λ (z : List Piece). Text (codes "{") ∷ z) (terms_pieces xs (Text (codes "}") ∷ ps))
+made_pieces form.Tuple xs (Some t) ps c = absurd (false_not c)
+made_pieces form.Map xs None ps c = ap (λ (z : List Piece). Text (codes "#{") ∷ z) (pairs_written xs (Text (codes "}") ∷ ps))
+made_pieces form.Map xs (Some t) ps c = absurd (false_not c)
 
-pub made_put : (f : Form) (xs : List (PartOf f)) (o : Out) → put (made f xs) o ≡ ended f (length o.items) (length xs) (put_each (part_put f) xs (begun f o))
-made_put form.List xs o = ap (λ (z : Out). ended form.List (length o.items) (length xs) z) (terms_put form.List xs (begun form.List o))
-made_put form.Tuple xs o = ap (λ (z : ℕ). ended form.Tuple (length o.items) z (put_all form.Tuple (terms_from xs) (begun form.Tuple o))) (terms_count xs)
+pub made_put : (f : Form) (xs : List (PartOf f)) (e : Option Term) (o : Out) → CanEnd f e
+    → put (made f xs e) o ≡ end_put f e (length o.items) (length xs) (put_each (part_put f) xs (begun f o))
+made_put form.List xs None o c = ap (λ (z : Out). ended form.List (length o.items) (length xs) z) (terms_put form.List xs (begun form.List o))
+made_put form.List xs (Some t) o c = ap (λ (z : Out). put t z) (terms_put form.List xs (begun form.List o))
+made_put form.Tuple xs None o c = ap (λ (z : ℕ). ended form.Tuple (length o.items) z (put_all form.Tuple (terms_from xs) (begun form.Tuple o))) (terms_count xs)
     ∙ ap (λ (z : Out). ended form.Tuple (length o.items) (length xs) z) (terms_put form.Tuple xs (begun form.Tuple o))
+made_put form.Tuple xs (Some t) o c = absurd (false_not c)
+made_put form.Map xs None o c = ap (λ (z : ℕ). ended form.Map (length o.items) z (put_pairs (pairs_from xs) (begun form.Map o))) (pairs_count xs)
+    ∙ ap (λ (z : Out). ended form.Map (length o.items) (length xs) z) (pairs_put xs (begun form.Map o))
+made_put form.Map xs (Some t) o c = absurd (false_not c)
 
-pub made_is : (levels : ℕ) (f : Form) (xs : List (PartOf f)) → Each (IsPart levels f) xs → MayStand (suc levels) (made f xs) × IsBuiltTerm (made f xs)
-made_is levels form.List xs h = let k = terms_are levels xs h in ((omega arith, rw (one_less levels) (k.0)), k.1)
-made_is levels form.Tuple xs h = let k = terms_are levels xs h in ((omega arith, rw (one_less levels) (k.0)), k.1)
+pub made_is : (levels : ℕ) (f : Form) (xs : List (PartOf f)) (e : Option Term) → Each (IsPart levels f) xs → IsEnd levels (length xs) f e → MayStand (suc levels) (made f xs e) × IsBuiltTerm (made f xs e)
+made_is levels form.List xs None h i = let k = terms_are levels xs h in ((omega arith, rw (one_less levels) (k.0)), k.1)
+made_is levels form.List xs (Some t) h i = let k = terms_are levels xs h in
+    ((omega arith, rw (terms_count xs) (i.1), rw (one_less levels) (k.0), rw (one_less levels) (i.2.0)), (k.1, i.2.1))
+made_is levels form.Tuple xs e h i = let k = terms_are levels xs h in ((omega arith, rw (one_less levels) (k.0)), k.1)
+made_is levels form.Map xs e h i = let k = pairs_are levels xs h in ((omega arith, rw (one_less levels) (k.0)), k.1)
 
-pub made_are : (levels : ℕ) (f : Form) (xs : List (PartOf f)) → MayStand (suc levels) (made f xs) → IsBuiltTerm (made f xs) → Each (IsPart levels f) xs
-made_are levels form.List xs m b = each_is levels xs (rw (one_less levels) at m.1) b
-made_are levels form.Tuple xs m b = each_is levels xs (rw (one_less levels) at m.1) b
+pub made_are : (levels : ℕ) (f : Form) (xs : List (PartOf f)) (e : Option Term) → CanEnd f e → MayStand (suc levels) (made f xs e) → IsBuiltTerm (made f xs e)
+    → Each (IsPart levels f) xs × IsEnd levels (length xs) f e
+made_are levels form.List xs None c m b = (each_is levels xs (rw (one_less levels) at m.1) b, tt)
+made_are levels form.List xs (Some t) c m b = (each_is levels xs (rw (one_less levels) at m.2) (b.0), (refl, rw (terms_count xs) at m.1, (rw (one_less levels) at m.3, b.1)))
+made_are levels form.Tuple xs None c m b = (each_is levels xs (rw (one_less levels) at m.1) b, tt)
+made_are levels form.Tuple xs (Some t) c m b = absurd (false_not c)
+made_are levels form.Map xs None c m b = (each_pair levels xs (rw (one_less levels) at m.1) b, tt)
+made_are levels form.Map xs (Some t) c m b = absurd (false_not c)
 
 -- It stands only where a level is left.
-pub made_level : {A : Type 0} (f : Form) (xs : List (PartOf f)) → MayStand zero (made f xs) → A
-made_level form.List xs m = absurd (omega (arith, m.0))
-made_level form.Tuple xs m = absurd (omega (arith, m.0))
+pub made_level : {A : Type 0} (f : Form) (xs : List (PartOf f)) (e : Option Term) → MayStand zero (made f xs e) → A
+made_level form.List xs None m = absurd (omega (arith, m.0))
+made_level form.List xs (Some t) m = absurd (omega (arith, m.0))
+made_level form.Tuple xs e m = absurd (omega (arith, m.0))
+made_level form.Map xs e m = absurd (omega (arith, m.0))
 
 -- What opens and closes a form begins with no blank, no byte of a name and no comma.
 pub opening_mark : (f : Form) → Mark (opening f)
 opening_mark form.List = record { first = 91; more = []; is = refl; solid = refl; divides = refl; no_comma = refl }
 opening_mark form.Tuple = record { first = 123; more = []; is = refl; solid = refl; divides = refl; no_comma = refl }
+opening_mark form.Map = record { first = 35; more = codes "{"; is = refl; solid = refl; divides = refl; no_comma = refl }
 
 pub closing_mark : (f : Form) → Mark (closing f)
 closing_mark form.List = record { first = 93; more = []; is = refl; solid = refl; divides = refl; no_comma = refl }
 closing_mark form.Tuple = record { first = 125; more = []; is = refl; solid = refl; divides = refl; no_comma = refl }
+closing_mark form.Map = record { first = 125; more = []; is = refl; solid = refl; divides = refl; no_comma = refl }
+
+-- So does a bar, and it closes none.
+bar_mark : Mark (codes "|")
+bar_mark = record { first = 124; more = []; is = refl; solid = refl; divides = refl; no_comma = refl }
+
+pub closing_no_bar : (f : Form) (rest : List ℕ) → text_at (closing f) (codes "|" ++ rest) ≡ None
+closing_no_bar form.List rest = refl
+closing_no_bar form.Tuple rest = refl
+closing_no_bar form.Map rest = refl
+
+-- No name goes on before the end of a form, and it begins with no comma.
+pub end_divides : (f : Form) (e : Option Term) (ps : List Piece) → Divides (end_pieces f e ps)
+end_divides f None ps = mark_divides (closing f) ps (closing_mark f)
+end_divides f (Some t) ps = refl
+
+pub end_no_comma : (f : Form) (e : Option Term) (ps : List Piece) → NoComma (end_pieces f e ps)
+end_no_comma f None ps = mark_no_comma (closing f) ps (closing_mark f)
+end_no_comma f (Some t) ps = mark_no_comma (codes "|") (term_pieces t (Text (closing f) ∷ ps)) bar_mark
 
 -- A form is found by what opens it.
 pub form_found : (f : Form) (rest : List ℕ) → form_in all_forms (opening f ++ rest) ≡ Some (f, rest)
 form_found form.List rest = refl
 form_found form.Tuple rest = refl
+form_found form.Map rest = refl
 
 -- What opens a form closes none.
 pub opening_no_end : (f g : Form) (rest : List ℕ) → text_at (closing g) (opening f ++ rest) ≡ None
 opening_no_end form.List form.List rest = refl
 opening_no_end form.List form.Tuple rest = refl
+opening_no_end form.List form.Map rest = refl
 opening_no_end form.Tuple form.List rest = refl
 opening_no_end form.Tuple form.Tuple rest = refl
+opening_no_end form.Tuple form.Map rest = refl
+opening_no_end form.Map form.List rest = refl
+opening_no_end form.Map form.Tuple rest = refl
+opening_no_end form.Map form.Map rest = refl
 
 -- The bytes with which something opens or closes.
 abbrev pub marks : List ℕ
-marks = 91 ∷ 93 ∷ 123 ∷ 125 ∷ []
+marks = 91 ∷ 93 ∷ 123 ∷ 125 ∷ 35 ∷ []
 
 -- A line that begins with another byte opens no form and closes none.
 pub unmarked : (p : ℕ → Bool) (b : ℕ) (bytes : List ℕ) → far_from p marks ≡ true → p b ≡ true → (form_in all_forms (b ∷ bytes) ≡ None) × ((f : Form) → text_at (closing f) (b ∷ bytes) ≡ None)
 unmarked p b bytes h e = let k : IsNone b marks = none_of p b marks h e in
-    (rw (k.0, k.1.1.0) refl, closes k)
+    (rw (k.0, k.1.1.0, k.1.1.1.1.0) refl, closes k)
   where
     closes : IsNone b marks → (f : Form) → text_at (closing f) (b ∷ bytes) ≡ None
     closes k form.List = rw (k.1.0) refl
     closes k form.Tuple = rw (k.1.1.1.0) refl
+    closes k form.Map = rw (k.1.1.1.0) refl
 
 -- A pid closes no form.
 pub pid_closes_none : (f : Form) (bytes : List ℕ) → text_at (closing f) (60 ∷ bytes) ≡ None
 pid_closes_none form.List bytes = refl
 pid_closes_none form.Tuple bytes = refl
+pid_closes_none form.Map bytes = refl
 
 -- What was found to open the line opens it.
 pub form_read : (forms : List Form) (line : List ℕ) (f : Form) (rest : List ℕ) → form_in forms line ≡ Some (f, rest) → line ≡ opening f ++ rest

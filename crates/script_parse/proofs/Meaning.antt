@@ -6,15 +6,16 @@ use Rattle.std.proofs.Math.Seq.{set-append_seam}
 use Rattle.atom_names.specs.Names.{index_of, most_names, with_name}
 use Rattle.plain_term.specs.declared.item.Item.{Item}
 use Rattle.plain_term.specs.declared.item.Item.TheVariants as item
-use Rattle.script_grammar.specs.Written.{Term, Terms, terms_len}
+use Rattle.script_grammar.specs.Written.{Term, Terms, TermPairs, terms_len, pairs_len}
 use Rattle.script_grammar.specs.Written.Term.{Int, Atom, Pid, Held, Listed, Barred, Tuple, Map, Bin}
 use Rattle.script_grammar.specs.Written.Terms.{end, ◌▹◌}
-use Rattle.script_grammar.specs.Grammar.{IsBuiltTerm, AreBuiltTerms}
-use Rattle.script_grammar.specs.Names.{number_of, with_names, atoms_of, atoms_of_all, items_of, listed_items, all_items}
+use Rattle.script_grammar.specs.Written.TermPairs.{stop, pair}
+use Rattle.script_grammar.specs.Grammar.{IsBuiltTerm, AreBuiltTerms, AreBuiltPairs}
+use Rattle.script_grammar.specs.Names.{number_of, with_names, atoms_of, atoms_of_all, atoms_of_pairs, items_of, listed_items, all_items, pairs_items}
 use Rattle.atom_names.proofs.Places.{index_of_append, index_of_push}
 use Rattle.script_parse.specs.declared.forms.Form.{Form}
 use Rattle.script_parse.specs.declared.forms.Form.TheVariants as form
-use Rattle.script_parse.specs.Output.{Out, out, push, led_items, led, put_at, put_atom, put_name, put, put_all}
+use Rattle.script_parse.specs.Output.{Out, out, push, led_items, led, put_at, put_atom, put_name, put, put_all, put_pairs}
 
 -- The names and items that came, so long as each name found a place.
 pub record Put (o : Out) (atoms : List (List ℕ)) (its : List (List ℕ) → List Item) (p : Out) : Type 0 where
@@ -127,20 +128,21 @@ name_step o a false e = let same : put_name o a ≡ out o.names true o.items = r
 pub name_put : (o : Out) (a : List ℕ) → Put o (a ∷ []) (λ names. []) (put_name o a)
 name_put o a = name_step o a (nat_le (length (with_name o.names a)) most_names) refl
 
--- The item that a tuple was given before its parts were counted is put right.
-counted : (o q : Out) (n : ℕ) (xs : List (List ℕ)) (its : List (List ℕ) → List Item) → Put o xs (λ names. item.Tuple 0 ∷ its names) q
-    → Put o xs (λ names. item.Tuple n ∷ its names) (put_at (length o.items) (item.Tuple n) q)
-counted o q n xs its f = record {
+-- The item that a form was given before its parts were counted is put right.
+counted : (o q : Out) (i j : Item) (xs : List (List ℕ)) (its : List (List ℕ) → List Item) → Put o xs (λ names. i ∷ its names) q
+    → Put o xs (λ names. j ∷ its names) (put_at (length o.items) j q)
+counted o q i j xs its f = record {
   clear = f.clear;
   names = f.names;
   fits = f.fits;
   over = f.over;
-  items = λ c more. ap (λ (z : List Item). set z (length o.items) (item.Tuple n)) (f.items c more) ∙ set-append_seam o.items (item.Tuple 0) (its (q.names ++ more)) (item.Tuple n);
+  items = λ c more. ap (λ (z : List Item). set z (length o.items) j) (f.items c more) ∙ set-append_seam o.items i (its (q.names ++ more)) j;
 }
 
 led_put : (f : Form) (o : Out) → Put o [] (λ names. led_items f []) (led f o)
 led_put form.List o = put_item o item.Cons
 led_put form.Tuple o = put_none o
+led_put form.Map o = put_none o
 
 -- The items of the terms of a form, each after what stands before it.
 abbrev pub part_items : Form → Terms → List (List ℕ) → List Item
@@ -168,21 +170,26 @@ mutual
   term_put (Int i) o b = put_item o (item.Int i)
   term_put (Atom a) o b = atom_step o a (nat_le (length (with_name o.names a)) most_names) refl
   term_put (Pid n) o b = put_item o (item.Pid n)
-  term_put (Held r) o b = absurd b
+  term_put (Held r) o b = put_item o (item.Held r)
   term_put (Listed ts) o b = as_atoms o (push (put_all form.List ts o) item.Nil) (atoms_of_all ts ++ []) (atoms_of_all ts) (λ names. listed_items names ts (item.Nil ∷ []))
       (append-nil (atoms_of_all ts))
       (as_items o (push (put_all form.List ts o) item.Nil) (atoms_of_all ts ++ []) (λ names. part_items form.List ts names ++ item.Nil ∷ []) (λ names. listed_items names ts (item.Nil ∷ []))
       (λ names. list_items ts names (item.Nil ∷ []))
       (put_then o (put_all form.List ts o) (push (put_all form.List ts o) item.Nil) (atoms_of_all ts) [] (part_items form.List ts) (λ names. item.Nil ∷ []) (all_put ts form.List o b)
       (put_item (put_all form.List ts o) item.Nil)))
-  term_put (Barred ts t) o b = absurd b
+  term_put (Barred ts t) o b = as_items o (put t (put_all form.List ts o)) (atoms_of_all ts ++ atoms_of t) (λ names. part_items form.List ts names ++ items_of names t)
+      (λ names. listed_items names ts (items_of names t)) (λ names. list_items ts names (items_of names t))
+      (put_then o (put_all form.List ts o) (put t (put_all form.List ts o)) (atoms_of_all ts) (atoms_of t) (part_items form.List ts) (λ names. items_of names t) (all_put ts form.List o (b.0))
+      (term_put t (put_all form.List ts o) (b.1)))
   term_put (Tuple ts) o b = as_items o (put (Tuple ts) o) (atoms_of_all ts) (λ names. item.Tuple (terms_len ts) ∷ part_items form.Tuple ts names)
       (λ names. item.Tuple (terms_len ts) ∷ all_items names ts)
       (λ names. ap (λ (z : List Item). item.Tuple (terms_len ts) ∷ z) (tuple_items ts names))
-      (counted o (put_all form.Tuple ts (push o (item.Tuple 0))) (terms_len ts) (atoms_of_all ts) (part_items form.Tuple ts)
+      (counted o (put_all form.Tuple ts (push o (item.Tuple 0))) (item.Tuple 0) (item.Tuple (terms_len ts)) (atoms_of_all ts) (part_items form.Tuple ts)
       (put_then o (push o (item.Tuple 0)) (put_all form.Tuple ts (push o (item.Tuple 0))) [] (atoms_of_all ts) (λ names. item.Tuple 0 ∷ []) (part_items form.Tuple ts) (put_item o (item.Tuple 0))
       (all_put ts form.Tuple (push o (item.Tuple 0)) b)))
-  term_put (Map ps) o b = absurd b
+  term_put (Map qs) o b = counted o (put_pairs qs (push o (item.Map 0))) (item.Map 0) (item.Map (pairs_len qs)) (atoms_of_pairs qs) (λ names. pairs_items names qs)
+      (put_then o (push o (item.Map 0)) (put_pairs qs (push o (item.Map 0))) [] (atoms_of_pairs qs) (λ names. item.Map 0 ∷ []) (λ names. pairs_items names qs) (put_item o (item.Map 0))
+      (pairs_put qs (push o (item.Map 0)) b))
   term_put (Bin bytes) o b = absurd b
 
   pub all_put : (ts : Terms) (f : Form) (o : Out) → AreBuiltTerms ts → Put o (atoms_of_all ts) (part_items f ts) (put_all f ts o)
@@ -191,3 +198,10 @@ mutual
       (led_put f o)
       (put_then (led f o) (put t (led f o)) (put_all f ts (put t (led f o))) (atoms_of t) (atoms_of_all ts) (λ names. items_of names t) (part_items f ts)
       (term_put t (led f o) (b.0)) (all_put ts f (put t (led f o)) (b.1)))
+
+  pub pairs_put : (qs : TermPairs) (o : Out) → AreBuiltPairs qs → Put o (atoms_of_pairs qs) (λ names. pairs_items names qs) (put_pairs qs o)
+  pairs_put stop o b = put_none o
+  pairs_put (pair k v qs) o b = put_then o (put k o) (put_pairs qs (put v (put k o))) (atoms_of k) (atoms_of v ++ atoms_of_pairs qs) (λ names. items_of names k)
+      (λ names. items_of names v ++ pairs_items names qs) (term_put k o (b.0))
+      (put_then (put k o) (put v (put k o)) (put_pairs qs (put v (put k o))) (atoms_of v) (atoms_of_pairs qs) (λ names. items_of names v) (λ names. pairs_items names qs)
+      (term_put v (put k o) (b.1)) (pairs_put qs (put v (put k o)) (b.2)))

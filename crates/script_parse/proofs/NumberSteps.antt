@@ -1,9 +1,9 @@
 -- Numbers as they are read, and as the grammar has them.
-use Rattle.std.proofs.Common.{◌≡◌, ℕ, ◌+◌, ◌-◌, ◌*◌, ◌^◌, ◌<◌, ◌≤◌, ◌≢◌, Bool, true, false, nat_eq, nat_le, ◌&&◌, ◌||◌, ℤ, pos, negsuc, List, [], ◌∷◌, ◌++◌, Some, None, codes, refl, sym, ◌∙◌, ap, subst, inl, inr, arith, eq-eqb, eqb-true, lt-ltb, ltb-true, append_assoc}
+use Rattle.std.proofs.Common.{◌≡◌, ℕ, ◌+◌, ◌-◌, ◌*◌, ◌<◌, ◌≤◌, ◌≢◌, Bool, true, false, nat_eq, nat_le, ◌&&◌, ◌||◌, ℤ, pos, negsuc, List, [], ◌∷◌, ◌++◌, Some, None, codes, refl, sym, ◌∙◌, ap, subst, inl, inr, arith, eq-eqb, eqb-true, append_assoc}
 use Rattle.script_grammar.specs.declared.limits.TheConstants.{NUMBERS}
-use Rattle.script_parse.specs.declared.numbers.TheConstants.{GREATEST, SMALL}
+use Rattle.script_parse.specs.declared.numbers.TheConstants.{GREATEST, WIDEST}
 use Rattle.std.proofs.lemmas.Bool.{leb-true, le-leb}
-use Rattle.plain_term.specs.Measures.{is_small}
+use Rattle.plain_term.specs.Measures.{magnitude}
 use Rattle.script_grammar.specs.Grammar.{is_name_byte, is_digit, is_small_letter, AreAll, value_after, HasNoLeadingZero, IsNumber, IsInteger}
 use Rattle.script_parse.specs.Reading.{then_read, byte_at, text_at, digits_at, number_at, signed, integer_at, pid_end, pid_at}
 use Rattle.script_parse.proofs.Tools.{chosen, read_some, inside, both, both_true, either_false, apart}
@@ -129,9 +129,9 @@ pub record Integral (i : ℤ) (line rest : List ℕ) : Type 0 where
   pub text : List ℕ
   pub integer : IsInteger i text
   pub whole : line ≡ text ++ rest
-  pub small : is_small i ≡ true
+  pub within : magnitude i ≤ WIDEST
 
-negative : (n : ℕ) (i : ℤ) (line bytes rest : List ℕ) (t : Bool) → nat_eq n 0 ≡ t → Counted (SMALL + 1) n line bytes → signed true (n, bytes) ≡ Some (i, rest)
+negative : (n : ℕ) (i : ℤ) (line bytes rest : List ℕ) (t : Bool) → nat_eq n 0 ≡ t → Counted WIDEST n line bytes → signed true (n, bytes) ≡ Some (i, rest)
     → Integral i (45 ∷ line) rest
 negative n i line bytes rest true e c h = let k : None ≡ Some (i, rest) = rw e at h in cc
 negative n i line bytes rest false e c h = let k : Some (negsuc (n - 1), bytes) ≡ Some (i, rest) = rw e at h in
@@ -140,43 +140,40 @@ negative n i line bytes rest false e c h = let k : Some (negsuc (n - 1), bytes) 
     let whole : n ≡ n - 1 + 1 = omega (arith, some) in
     let P : ℕ → Type 0 = λ z. IsNumber z c.text in
     let Q : ℤ → Type 0 = λ z. Integral z (45 ∷ line) rest in
-    let small : is_small (negsuc (n - 1)) ≡ true = lt-ltb (n - 1) (2 ^ 59) (omega (arith, some, c.within)) in
+    let R : ℕ → Type 0 = λ z. z ≤ WIDEST in
     subst Q (j.0) (record {
       text = 45 ∷ c.text;
       integer = (c.text, subst P whole c.number, refl);
       whole = ap (λ (r : List ℕ). 45 ∷ r) (c.whole ∙ ap (λ (r : List ℕ). c.text ++ r) (j.1));
-      small
-          = small;
+      within = subst R whole c.within;
     })
 
-positive : (n : ℕ) (i : ℤ) (line bytes rest : List ℕ) → Counted SMALL n line bytes → signed false (n, bytes) ≡ Some (i, rest) → Integral i line rest
+positive : (n : ℕ) (i : ℤ) (line bytes rest : List ℕ) → Counted WIDEST n line bytes → signed false (n, bytes) ≡ Some (i, rest) → Integral i line rest
 positive n i line bytes rest c h = let j : (pos n ≡ i) × (bytes ≡ rest) = both h in
     let Q : ℤ → Type 0 = λ z. Integral z line rest in
-    let small : is_small (pos n) ≡ true = lt-ltb n (2 ^ 59) (omega (arith, c.within)) in
-    subst Q (j.0) (record { text = c.text; integer = c.number; whole = c.whole ∙ ap (λ (r : List ℕ). c.text ++ r) (j.1); small = small })
+    subst Q (j.0) (record { text = c.text; integer = c.number; whole = c.whole ∙ ap (λ (r : List ℕ). c.text ++ r) (j.1); within = c.within })
 
 integer_step : (i : ℤ) (b : ℕ) (bytes rest : List ℕ) (t : Bool) → nat_eq b 45 ≡ t → integer_at (b ∷ bytes) ≡ Some (i, rest) → Integral i (b ∷ bytes) rest
-integer_step i b bytes rest true e h = let k : then_read (number_at (SMALL + 1) bytes) (signed true) ≡ Some (i, rest) = rw e at h in
-    let r : (x : ℕ × List ℕ) × (number_at (SMALL + 1) bytes ≡ Some x) × (signed true x ≡ Some (i, rest)) = read_some (number_at (SMALL + 1) bytes) (signed true) k in
+integer_step i b bytes rest true e h = let k : then_read (number_at WIDEST bytes) (signed true) ≡ Some (i, rest) = rw e at h in
+    let r : (x : ℕ × List ℕ) × (number_at WIDEST bytes ≡ Some x) × (signed true x ≡ Some (i, rest)) = read_some (number_at WIDEST bytes) (signed true) k in
     let Q : ℕ → Type 0 = λ z. Integral i (z ∷ bytes) rest in
-    subst Q (sym (eqb-true b 45 e)) (negative (r.0.0) i bytes (r.0.1) rest (nat_eq (r.0.0) 0) refl (number_read (SMALL + 1) (r.0.0) bytes (r.0.1) (omega arith) (r.1)) (r.2))
-integer_step i b bytes rest false e h = let k : then_read (number_at SMALL (b ∷ bytes)) (signed false) ≡ Some (i, rest) = rw e at h in
-    let r : (x : ℕ × List ℕ) × (number_at SMALL (b ∷ bytes) ≡ Some x) × (signed false x ≡ Some (i, rest)) = read_some (number_at SMALL (b ∷ bytes)) (signed false) k in
-    positive (r.0.0) i (b ∷ bytes) (r.0.1) rest (number_read SMALL (r.0.0) (b ∷ bytes) (r.0.1) (omega arith) (r.1)) (r.2)
+    subst Q (sym (eqb-true b 45 e)) (negative (r.0.0) i bytes (r.0.1) rest (nat_eq (r.0.0) 0) refl (number_read WIDEST (r.0.0) bytes (r.0.1) (omega arith) (r.1)) (r.2))
+integer_step i b bytes rest false e h = let k : then_read (number_at WIDEST (b ∷ bytes)) (signed false) ≡ Some (i, rest) = rw e at h in
+    let r : (x : ℕ × List ℕ) × (number_at WIDEST (b ∷ bytes) ≡ Some x) × (signed false x ≡ Some (i, rest)) = read_some (number_at WIDEST (b ∷ bytes)) (signed false) k in
+    positive (r.0.0) i (b ∷ bytes) (r.0.1) rest (number_read WIDEST (r.0.0) (b ∷ bytes) (r.0.1) (omega arith) (r.1)) (r.2)
 
 pub integer_read : (i : ℤ) (line rest : List ℕ) → integer_at line ≡ Some (i, rest) → Integral i line rest
 integer_read i [] rest h = cc
 integer_read i (b ∷ bytes) rest h = integer_step i b bytes rest (nat_eq b 45) refl h
 
--- A small integer that the grammar has is read.
-pub integer_found : (i : ℤ) (text rest : List ℕ) → IsInteger i text → is_small i ≡ true → Stops is_digit rest → integer_at (text ++ rest) ≡ Some (i, rest)
-integer_found (pos n) [] rest h small s = absurd h.first
-integer_found (pos n) (b ∷ text) rest h small s = let below : n < 2 ^ 59 = ltb-true n (2 ^ 59) small in
-    let not_sign : b ≢ 45 = apart is_digit b 45 refl ((h.digits).0) in
-    rw (unequal b 45 not_sign, number_found SMALL n (b ∷ text) rest h (omega arith) s) refl
-integer_found (negsuc m) text rest (digits, number, e) small s = let below : m < 2 ^ 59 = ltb-true m (2 ^ 59) small in
+-- An integer that the grammar has is read.
+pub integer_found : (i : ℤ) (text rest : List ℕ) → IsInteger i text → magnitude i ≤ WIDEST → Stops is_digit rest → integer_at (text ++ rest) ≡ Some (i, rest)
+integer_found (pos n) [] rest h within s = absurd h.first
+integer_found (pos n) (b ∷ text) rest h within s = let not_sign : b ≢ 45 = apart is_digit b 45 refl ((h.digits).0) in
+    rw (unequal b 45 not_sign, number_found WIDEST n (b ∷ text) rest h within s) refl
+integer_found (negsuc m) text rest (digits, number, e) within s =
     let P : List ℕ → Type 0 = λ z. integer_at (z ++ rest) ≡ Some (negsuc m, rest) in
-    let f : number_at (SMALL + 1) (digits ++ rest) ≡ Some (m + 1, rest) = number_found (SMALL + 1) (m + 1) digits rest number (omega arith) s in
+    let f : number_at WIDEST (digits ++ rest) ≡ Some (m + 1, rest) = number_found WIDEST (m + 1) digits rest number within s in
     let nonzero : nat_eq (m + 1) 0 ≡ false = unequal (m + 1) 0 (λ q. omega arith) in
     let back : m + 1 - 1 ≡ m = omega arith in
     subst P (sym e) (rw (f, nonzero, back) refl)

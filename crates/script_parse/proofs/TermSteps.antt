@@ -21,8 +21,10 @@ term_leaf (suc k) line o e = rw e refl
 pub led_len : (f : Form) (items : List Item) → length (led_items f items) ≡ length items + length (led_items f [])
 led_len form.List items = simp length-append refl
 led_len form.Tuple items = omega arith
+led_len form.Map items = omega arith
 
 -- At most one.
 pub led_few : (f : Form) → length (led_items f []) ≤ 1
 led_few form.List = omega arith
 led_few form.Tuple = omega arith
+led_few form.Map = omega arith

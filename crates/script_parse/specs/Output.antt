@@ -3,9 +3,10 @@ use Rattle.std.specs.Prelude.{ℕ, ◌+◌, ◌<◌, ◌≤◌, nat_le, Bool, tr
 use Rattle.atom_names.specs.Names.{most_names, with_name}
 use Rattle.plain_term.specs.declared.item.Item.{Item}
 use Rattle.plain_term.specs.declared.item.Item.TheVariants as item
-use Rattle.script_grammar.specs.Written.{Term, Terms, terms_len}
+use Rattle.script_grammar.specs.Written.{Term, Terms, TermPairs, terms_len, pairs_len}
 use Rattle.script_grammar.specs.Written.Term.{Int, Atom, Pid, Held, Listed, Barred, Tuple, Map, Bin}
 use Rattle.script_grammar.specs.Written.Terms.{end, ◌▹◌}
+use Rattle.script_grammar.specs.Written.TermPairs.{stop, pair}
 use Rattle.script_grammar.specs.Names.{number_of}
 use Rattle.script_parse.specs.declared.forms.Form.{Form}
 use Rattle.script_parse.specs.declared.forms.Form.TheVariants as form
@@ -50,10 +51,11 @@ push o i = record { names = o.names; full = o.full; items = o.items ++ i ∷ [] 
 abbrev pub put_at : ℕ → Item → Out → Out
 put_at at i o = record { names = o.names; full = o.full; items = slice_set o.items at i }
 
--- The items with what a form puts before its parts: a tuple's count comes later.
+-- The items with what a form puts before its parts: the count of a tuple or a map comes later.
 abbrev pub begun_items : Form → List Item → List Item
 begun_items form.List items = items
 begun_items form.Tuple items = items ++ item.Tuple 0 ∷ []
+begun_items form.Map items = items ++ item.Map 0 ∷ []
 
 -- What a form puts before its parts goes last.
 abbrev pub begun : Form → Out → Out
@@ -63,6 +65,7 @@ begun f o = record { names = o.names; full = o.full; items = begun_items f o.ite
 abbrev pub led_items : Form → List Item → List Item
 led_items form.List items = items ++ item.Cons ∷ []
 led_items form.Tuple items = items
+led_items form.Map items = items
 
 -- What a form puts before each part goes last.
 abbrev pub led : Form → Out → Out
@@ -72,6 +75,7 @@ led f o = record { names = o.names; full = o.full; items = led_items f o.items }
 abbrev pub ended : Form → (at n : ℕ) → Out → Out
 ended form.List at n o = push o item.Nil
 ended form.Tuple at n o = put_at at (item.Tuple n) o
+ended form.Map at n o = put_at at (item.Map n) o
 
 -- An atom goes last by its number. Where it is new and finds no place, that is kept in mind.
 abbrev pub put_atom : Out → List ℕ → Out
@@ -91,14 +95,19 @@ abbrev mutual
   put (Int i) o = push o (item.Int i)
   put (Atom a) o = put_atom o a
   put (Pid n) o = push o (item.Pid n)
-  put (Held r) o = o
+  put (Held r) o = push o (item.Held r)
   put (Listed ts) o = ended form.List (length o.items) (terms_len ts) (put_all form.List ts (begun form.List o))
-  put (Barred ts t) o = o
+  put (Barred ts t) o = put t (put_all form.List ts (begun form.List o))
   put (Tuple ts) o = ended form.Tuple (length o.items) (terms_len ts) (put_all form.Tuple ts (begun form.Tuple o))
-  put (Map ps) o = o
+  put (Map qs) o = ended form.Map (length o.items) (pairs_len qs) (put_pairs qs (begun form.Map o))
   put (Bin bytes) o = o
 
   -- The terms of a form go last.
   pub put_all : Form → Terms → Out → Out
   put_all f end o = o
   put_all f (t ▹ ts) o = put_all f ts (put t (led f o))
+
+  -- The pairs of a map go last, each key before its value.
+  pub put_pairs : TermPairs → Out → Out
+  put_pairs stop o = o
+  put_pairs (pair k v qs) o = put_pairs qs (put v (put k o))

@@ -1,7 +1,7 @@
 -- Reading from left to right: each function takes the rest of a line, and gives what it read with
 -- the rest after it, or nothing.
 use Rattle.std.specs.Prelude.{ℕ, zero, suc, ◌+◌, ◌-◌, ◌*◌, nat_eq, nat_le, Bool, true, false, not, ◌&&◌, ℤ, pos, negsuc, List, [], ◌∷◌, length, take, drop, Option, Some, None, cond, codes, if◌then◌else◌}
-use Rattle.script_parse.specs.declared.numbers.TheConstants.{GREATEST, SMALL, LAST_REGISTER}
+use Rattle.script_parse.specs.declared.numbers.TheConstants.{GREATEST, WIDEST, LAST_REGISTER}
 use Rattle.script_grammar.specs.declared.limits.TheConstants.{LEVELS}
 use Rattle.atom_names.specs.declared.row.TheConstants.{LONGEST_NAME}
 use Rattle.std.specs.Borrow.{Bor}
@@ -25,9 +25,10 @@ use Rattle.script_grammar.specs.declared.command.Command.TheVariants as command
 use Rattle.script_grammar.specs.declared.command.Verb.{Verb}
 use Rattle.script_grammar.specs.declared.command.SysVerb.{SysVerb}
 use Rattle.script_grammar.specs.Written.{Term}
-use Rattle.script_grammar.specs.Written.Term.{Int, Atom, Pid}
+use Rattle.script_grammar.specs.Written.Term.{Int, Atom, Pid, Held}
 use Rattle.script_parse.specs.declared.forms.Form.{Form}
-use Rattle.script_parse.specs.Forms.{all_forms, opening, closing}
+use Rattle.script_parse.specs.declared.forms.Form.TheVariants as form
+use Rattle.script_parse.specs.Forms.{all_forms, opening, closing, has_tail}
 use Rattle.script_parse.specs.Output.{Out, begun, led, ended, put, put_name}
 
 -- What was found, and the rest after it, go on.
@@ -78,12 +79,12 @@ abbrev pub signed : Bool → ℕ × List ℕ → Option (ℤ × List ℕ)
 signed false r = Some (pos (r.0), r.1)
 signed true r = cond (nat_eq (r.0) 0) None (Some (negsuc (r.0 - 1), r.1))
 
--- A small integer at the front.
+-- An integer at the front.
 abbrev pub integer_at : List ℕ → Option (ℤ × List ℕ)
 integer_at [] = None
 integer_at (b ∷ bytes) = if nat_eq b 45
-    then then_read (number_at (SMALL + 1) bytes) (signed true)
-    else then_read (number_at SMALL (b ∷ bytes)) (signed false)
+    then then_read (number_at WIDEST bytes) (signed true)
+    else then_read (number_at WIDEST (b ∷ bytes)) (signed false)
 
 -- The end of a pid, whose number is not 0.
 abbrev pub pid_end : ℕ × List ℕ → Option (ℕ × List ℕ)
@@ -102,8 +103,9 @@ atom_at line = cond (nat_eq (prefix_len is_name_byte line) 0) None (cond (nat_le
 abbrev pub leaf_at : List ℕ → Option (Term × List ℕ)
 leaf_at [] = None
 leaf_at (b ∷ bytes) = if nat_eq b 60 then then_read (pid_at bytes) (λ r. Some (Pid (r.0), r.1)) else
+    (if nat_eq b 36 then then_read (number_at LAST_REGISTER bytes) (λ r. Some (Held (r.0), r.1)) else
     (if is_small_letter b then then_read (atom_at (b ∷ bytes)) (λ r. Some (Atom (r.0), r.1)) else
-    then_read (integer_at (b ∷ bytes)) (λ r. Some (Int (r.0), r.1)))
+    then_read (integer_at (b ∷ bytes)) (λ r. Some (Int (r.0), r.1))))
 
 -- It goes last.
 abbrev pub leaf_run : List ℕ → Out → Option (List ℕ × Out)
@@ -115,18 +117,29 @@ parts_run part zero line n o = None
 parts_run part (suc left) line n o = then_read (part line o)
     (λ r. found_or (byte_at 44 (after_blanks (r.0))) (λ bytes. parts_run part left bytes (n + 1) (r.1)) (Some (r.0, (n + 1, r.1))))
 
--- A part of a form.
+-- A key, `=>` and its value.
+abbrev pub pair_run : (inner : List ℕ → Out → Option (List ℕ × Out)) → List ℕ → Out → Option (List ℕ × Out)
+pair_run inner line o = then_read (inner line o) (λ r. then_read (text_at (codes "=>") (after_blanks (r.0))) (λ rest. inner rest (r.1)))
+
+-- A part of a form: a term, but in a map a pair.
 abbrev pub part_run : (inner : List ℕ → Out → Option (List ℕ × Out)) → Form → List ℕ → Out → Option (List ℕ × Out)
-part_run inner f line o = inner line (led f o)
+part_run inner form.List line o = inner line (led form.List o)
+part_run inner form.Tuple line o = inner line (led form.Tuple o)
+part_run inner form.Map line o = pair_run inner line o
+
+-- A bar, a last tail and what closes the form, where it may have a last tail.
+abbrev pub tail_run : (inner : List ℕ → Out → Option (List ℕ × Out)) → Form → List ℕ → Out → Option (List ℕ × Out)
+tail_run inner f line o = cond (has_tail f) (then_read (byte_at 124 line) (λ bytes. then_read (inner bytes o)
+    (λ r. then_read (text_at (closing f) (after_blanks (r.0))) (λ rest. Some (rest, r.1))))) None
 
 -- The end of a form that began at this place, after so many parts.
-abbrev pub end_run : Form → (at n : ℕ) → List ℕ → Out → Option (List ℕ × Out)
-end_run f at n line o = then_read (text_at (closing f) (after_blanks line)) (λ rest. Some (rest, ended f at n o))
+abbrev pub end_run : (inner : List ℕ → Out → Option (List ℕ × Out)) → Form → (at n : ℕ) → List ℕ → Out → Option (List ℕ × Out)
+end_run inner f at n line o = found_or (text_at (closing f) (after_blanks line)) (λ rest. Some (rest, ended f at n o)) (tail_run inner f (after_blanks line) o)
 
 -- A form after its opening: no parts, or parts divided by commas.
 abbrev pub form_run : (inner : List ℕ → Out → Option (List ℕ × Out)) → Form → List ℕ → Out → Option (List ℕ × Out)
 form_run inner f line o = found_or (text_at (closing f) (after_blanks line)) (λ rest. Some (rest, ended f (length o.items) 0 (begun f o)))
-    (then_read (parts_run (part_run inner f) (length line + 1) line 0 (begun f o)) (λ r. end_run f (length o.items) (r.1.0) (r.0) (r.1.1)))
+    (then_read (parts_run (part_run inner f) (length line + 1) line 0 (begun f o)) (λ r. end_run inner f (length o.items) (r.1.0) (r.0) (r.1.1)))
 
 -- The first of these forms that is opened at the front, and the line after its opening.
 abbrev pub form_in : List Form → List ℕ → Option (Form × List ℕ)

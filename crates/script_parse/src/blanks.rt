@@ -1,4 +1,4 @@
-ghost use Rattle.std.specs.Prelude.{◌≡◌, ℕ, ◌≢◌, List, [], ◌∷◌, ◌++◌, length, MatchOption, ◌≤◌, ◌<◌};
+ghost use Rattle.std.specs.Prelude.{◌≡◌, ℕ, ◌≢◌, ◌+◌, List, [], ◌∷◌, ◌++◌, length, MatchOption, ◌≤◌, ◌<◌};
 ghost use Rattle.std.specs.List.{prefix_len};
 ghost use Rattle.script_grammar.specs.Grammar.{is_blank};
 ghost use Rattle.script_parse.specs.Reading.{after_blanks, gap_at, byte_at, text_at, is_end, is_solid};
@@ -56,7 +56,7 @@ pub(crate) fn after_byte(line: &[u8], c: u8) -> Option<&[u8]>
 /// The line after this text.
 pub(crate) fn after_text<'a>(line: &'a [u8], text: &[u8]) -> Option<&'a [u8]>
     ensures value { MatchOption result (text_at text.now line.now ≡ None) (λ r. text_at text.now line.now ≡ Some r.now) }
-    ensures shorter { MatchOption result (Unit {0}) (λ r. length r.now ≤ length line.now) }
+    ensures shorter { MatchOption result (Unit {0}) (λ r. length r.now + length text.now ≤ length line.now) }
 {
     let mut rest = line;
     for b in text {

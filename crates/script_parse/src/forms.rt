@@ -1,6 +1,6 @@
 // The forms of terms in brackets.
 ghost use Rattle.std.specs.Prelude.{◌≡◌, ℕ, ◌<◌, List, length, MatchOption};
-ghost use Rattle.script_parse.specs.Forms.{opening, closing, all_forms};
+ghost use Rattle.script_parse.specs.Forms.{opening, closing, has_tail, all_forms};
 ghost use Rattle.script_parse.specs.Reading.{form_in};
 
 use crate::blanks::after_text;
@@ -10,10 +10,11 @@ use crate::blanks::after_text;
 pub(crate) enum Form {
     List,
     Tuple,
+    Map,
 }
 
 /// The forms in brackets that are built.
-const FORMS: [Form; 2] = [Form::List, Form::Tuple];
+const FORMS: [Form; 3] = [Form::List, Form::Tuple, Form::Map];
 
 impl Form {
     /// What opens the form.
@@ -23,17 +24,26 @@ impl Form {
         match self {
             Form::List => b"[",
             Form::Tuple => b"{",
+            Form::Map => b"#{",
         }
     }
 
     /// What closes it.
     pub(crate) fn closing(self) -> &'static [u8]
-        ensures { result.now ≡ closing self }
+        ensures value { result.now ≡ closing self }
+        ensures some { 0 < length result.now }
     {
         match self {
             Form::List => b"]",
-            Form::Tuple => b"}",
+            Form::Tuple | Form::Map => b"}",
         }
+    }
+
+    /// Whether a last tail may stand before its end, after a bar.
+    pub(crate) fn has_tail(self) -> bool
+        ensures { result ≡ has_tail self }
+    {
+        matches!(self, Form::List)
     }
 }
 

@@ -1,6 +1,6 @@
 ghost use Rattle.std.specs.Prelude.{◌≡◌, ℕ, ◌+◌, ◌≤◌, ◌<◌, ◌^◌, pos, List, length, MatchOption};
 ghost use Rattle.script_grammar.specs.Grammar.{is_digit};
-ghost use Rattle.script_parse.specs.declared.numbers.TheConstants.{SMALL};
+ghost use Rattle.script_parse.specs.declared.numbers.TheConstants.{GREATEST, WIDEST};
 ghost use Rattle.script_parse.specs.Reading.{digits_at, number_at, integer_at, pid_at};
 
 use crate::blanks::{after_text, first};
@@ -12,8 +12,8 @@ pub(crate) const GREATEST: u64 = NUMBERS - 1;
 /// The last register of a process.
 pub(crate) const LAST_REGISTER: u64 = REGISTERS - 1;
 
-/// The greatest small integer.
-pub(crate) const SMALL: u64 = (1 << 59) - 1;
+/// The greatest magnitude of an integer.
+pub(crate) const WIDEST: u128 = (1 << 127) - 1;
 
 /// A digit.
 fn digit(b: u8) -> bool
@@ -24,7 +24,7 @@ fn digit(b: u8) -> bool
 
 /// A number goes on by the digits at the front, up to a limit.
 fn digits(line: &[u8], limit: u64, start: u64) -> Option<(u64, &[u8])>
-    requires limit { limit ≤ SMALL + 1 }
+    requires limit { limit ≤ GREATEST }
     requires start { start ≤ limit }
     ensures value { MatchOption result (digits_at limit start line.now ≡ None) (λ r. digits_at limit start line.now ≡ Some (r.0, r.1.now)) }
     ensures within { MatchOption result (Unit {0}) (λ r. (r.0 ≤ limit) × (length r.1.now ≤ length line.now)) }
@@ -46,7 +46,7 @@ fn digits(line: &[u8], limit: u64, start: u64) -> Option<(u64, &[u8])>
 
 /// A number without sign and without leading zeros, up to a limit.
 pub(crate) fn number(line: &[u8], limit: u64) -> Option<(u64, &[u8])>
-    requires { (9 ≤ limit) × (limit ≤ SMALL + 1) }
+    requires { (9 ≤ limit) × (limit ≤ GREATEST) }
     ensures value { MatchOption result (number_at limit line.now ≡ None) (λ r. number_at limit line.now ≡ Some (r.0, r.1.now)) }
     ensures within { MatchOption result (Unit {0}) (λ r. (r.0 ≤ limit) × (length r.1.now < length line.now)) }
 {
@@ -60,17 +60,56 @@ pub(crate) fn number(line: &[u8], limit: u64) -> Option<(u64, &[u8])>
     digits(rest, limit, (b - b'0') as u64)
 }
 
-/// A small integer.
+/// A magnitude goes on by the digits at the front.
+fn more_digits(line: &[u8], start: u128) -> Option<(u128, &[u8])>
+    requires { start ≤ WIDEST }
+    ensures value { MatchOption result (digits_at WIDEST start line.now ≡ None) (λ r. digits_at WIDEST start line.now ≡ Some (r.0, r.1.now)) }
+    ensures within { MatchOption result (Unit {0}) (λ r. (r.0 ≤ WIDEST) × (length r.1.now ≤ length line.now)) }
+{
+    let mut rest = line;
+    let mut n = start;
+    while let Some((b, after)) = first(rest) {
+        if !digit(b) {
+            return Some((n, rest));
+        }
+        if n > WIDEST / 10 {
+            return None;
+        }
+        n = n * 10 + (b - b'0') as u128;
+        if n > WIDEST {
+            return None;
+        }
+        rest = after;
+    }
+    Some((n, rest))
+}
+
+/// The magnitude of an integer, without leading zeros.
+fn magnitude(line: &[u8]) -> Option<(u128, &[u8])>
+    ensures value { MatchOption result (number_at WIDEST line.now ≡ None) (λ r. number_at WIDEST line.now ≡ Some (r.0, r.1.now)) }
+    ensures within { MatchOption result (Unit {0}) (λ r. (r.0 ≤ WIDEST) × (length r.1.now < length line.now)) }
+{
+    let (b, rest) = first(line)?;
+    if !digit(b) {
+        return None;
+    }
+    if b > b'0' {
+        return more_digits(rest, (b - b'0') as u128);
+    }
+    Some((0, rest))
+}
+
+/// An integer.
 pub(crate) fn integer(line: &[u8]) -> Option<(i128, &[u8])>
     ensures value { MatchOption result (integer_at line.now ≡ None) (λ r. integer_at line.now ≡ Some (r.0, r.1.now)) }
     ensures shorter { MatchOption result (Unit {0}) (λ r. length r.1.now < length line.now) }
 {
     let (b, after) = first(line)?;
     if b != b'-' {
-        let (n, rest) = number(line, SMALL)?;
+        let (n, rest) = magnitude(line)?;
         return Some((n as i128, rest));
     }
-    let (n, rest) = number(after, SMALL + 1)?;
+    let (n, rest) = magnitude(after)?;
     if n == 0 {
         return None;
     }

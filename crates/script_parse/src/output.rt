@@ -53,6 +53,7 @@ impl<'a> Output<'a> {
         match form {
             Form::List => {},
             Form::Tuple => self.code.push(Item::Tuple(0)),
+            Form::Map => self.code.push(Item::Map(0)),
         }
     }
 
@@ -64,7 +65,7 @@ impl<'a> Output<'a> {
     {
         match form {
             Form::List => self.code.push(Item::Cons),
-            Form::Tuple => {},
+            Form::Tuple | Form::Map => {},
         }
     }
 
@@ -79,6 +80,7 @@ impl<'a> Output<'a> {
         match form {
             Form::List => self.code.push(Item::Nil),
             Form::Tuple => self.code.put(at, Item::Tuple(n)),
+            Form::Map => self.code.put(at, Item::Map(n)),
         }
     }
 }

@@ -1,12 +1,12 @@
-ghost use Rattle.std.specs.Prelude.{◌≡◌, ℕ, ◌+◌, ◌≤◌, ◌<◌, Bool, List, length, MatchOption, Some, None};
+ghost use Rattle.std.specs.Prelude.{◌≡◌, ℕ, ◌+◌, ◌≤◌, ◌<◌, Bool, List, [], length, MatchOption, Some, None};
 ghost use Rattle.script_parse.specs.declared.buffer.TheConstants.{MOST_ITEMS};
-ghost use Rattle.script_parse.specs.Output.{given, begun, led_items, Grows, Spends};
-ghost use Rattle.script_parse.specs.Reading.{leaf_run, parts_run, part_run, form_run, term_run};
+ghost use Rattle.script_parse.specs.Output.{given, begun, begun_items, led_items, Grows, Spends};
+ghost use Rattle.script_parse.specs.Reading.{leaf_run, pair_run, part_run, parts_run, tail_run, end_run, form_run, term_run};
 
 use crate::atoms::{name_len, small_letter};
 use crate::blanks::{after_byte, after_text, first, skip};
 use crate::forms::{Form, opened};
-use crate::numbers::{integer, pid};
+use crate::numbers::{LAST_REGISTER, integer, number, pid};
 use crate::output::Output;
 use atom_names::LONGEST_NAME;
 use plain_term::Item;
@@ -24,6 +24,11 @@ fn leaf<'a>(line: &'a [u8], out: &mut Output) -> Option<&'a [u8]>
         out.push(Item::Pid(n));
         return Some(rest);
     }
+    if b == b'$' {
+        let (r, rest) = number(rest, LAST_REGISTER)?;
+        out.push(Item::Held(r as u8));
+        return Some(rest);
+    }
     if small_letter(b) {
         let n = name_len(line);
         if n > LONGEST_NAME {
@@ -35,6 +40,39 @@ fn leaf<'a>(line: &'a [u8], out: &mut Output) -> Option<&'a [u8]>
     let (i, rest) = integer(line)?;
     out.push(Item::Int(i));
     Some(rest)
+}
+
+/// A key and its value go last.
+#[cycle(terms)]
+fn pair<'a>(line: &'a [u8], levels: u64, out: &mut Output) -> Option<&'a [u8]>
+    requires { length out.old.code.now + length line.now ≤ MOST_ITEMS }
+    ensures read { MatchOption result (pair_run (term_run levels) line.now (given out.old) ≡ None)
+        (λ r. pair_run (term_run levels) line.now (given out.old) ≡ Some (r.now, given out.new)) }
+    ensures grown { Grows out.old out.new }
+    ensures room { MatchOption result (Unit {0}) (λ r. Spends 0 line.now r.now out.old out.new) }
+{
+    let rest = term(line, levels, out)?;
+    let rest = after_text(skip(rest), b"=>")?;
+    term(rest, levels, out)
+}
+
+/// A part of a form goes last.
+#[cycle(terms)]
+fn part<'a>(form: Form, line: &'a [u8], levels: u64, out: &mut Output) -> Option<&'a [u8]>
+    requires { length (led_items form out.old.code.now) + length line.now ≤ MOST_ITEMS }
+    ensures read { MatchOption result (part_run (term_run levels) form line.now (given out.old) ≡ None)
+        (λ r. part_run (term_run levels) form line.now (given out.old) ≡ Some (r.now, given out.new)) }
+    ensures grown { Grows out.old out.new }
+    ensures room { MatchOption result (Unit {0})
+        (λ r. (length out.new.code.now + length r.now ≤ length (led_items form out.old.code.now) + length line.now) × (length r.now < length line.now)) }
+{
+    match form {
+        Form::Map => pair(line, levels, out),
+        Form::List | Form::Tuple => {
+            out.lead(form);
+            term(line, levels, out)
+        }
+    }
 }
 
 /// The parts of a form go last. The line begins after its opening. Answers how many there are, too.
@@ -49,14 +87,55 @@ fn parts<'a>(form: Form, line: &'a [u8], levels: u64, out: &mut Output) -> Optio
 {
     let mut at = line;
     for n in 0..line.len() + 1 {
-        out.lead(form);
-        let rest = term(at, levels, out)?;
+        let rest = part(form, at, levels, out)?;
         let Some(after) = after_byte(skip(rest), b',') else {
             return Some((rest, n as u64 + 1));
         };
         at = after;
     }
     None
+}
+
+/// A last tail goes last, and its form is complete. The line begins with the bar.
+#[cycle(terms)]
+fn tail<'a>(form: Form, line: &'a [u8], levels: u64, out: &mut Output) -> Option<&'a [u8]>
+    requires { length out.old.code.now + length line.now ≤ MOST_ITEMS }
+    ensures read { MatchOption result (tail_run (term_run levels) form line.now (given out.old) ≡ None)
+        (λ r. tail_run (term_run levels) form line.now (given out.old) ≡ Some (r.now, given out.new)) }
+    ensures grown { Grows out.old out.new }
+    ensures room { MatchOption result (Unit {0}) (λ r. Spends 0 line.now r.now out.old out.new) }
+{
+    if !form.has_tail() {
+        return None;
+    }
+    let rest = after_byte(line, b'|')?;
+    let rest = term(rest, levels, out)?;
+    after_text(skip(rest), form.closing())
+}
+
+/// A form whose items begin at this place and that has so many parts is completed.
+#[cycle(terms)]
+fn ending<'a>(
+    form: Form,
+    line: &'a [u8],
+    levels: u64,
+    at: usize,
+    n: u64,
+    out: &mut Output,
+) -> Option<&'a [u8]>
+    requires room { length out.old.code.now + length line.now ≤ MOST_ITEMS }
+    requires at { at + length (begun_items form []) ≤ length out.old.code.now }
+    ensures read { MatchOption result (end_run (term_run levels) form at n line.now (given out.old) ≡ None)
+        (λ r. end_run (term_run levels) form at n line.now (given out.old) ≡ Some (r.now, given out.new)) }
+    ensures grown { Grows out.old out.new }
+    ensures room { MatchOption result (Unit {0}) (λ r. Spends 0 line.now r.now out.old out.new) }
+{
+    let line = skip(line);
+    if let Some(rest) = after_text(line, form.closing()) {
+        out.end(form, at, n);
+        return Some(rest);
+    }
+    tail(form, line, levels, out)
 }
 
 /// A form goes last. The line begins after its opening.
@@ -75,9 +154,7 @@ fn bracketed<'a>(form: Form, line: &'a [u8], levels: u64, out: &mut Output) -> O
         return Some(rest);
     }
     let (rest, n) = parts(form, line, levels, out)?;
-    let rest = after_text(skip(rest), form.closing())?;
-    out.end(form, at, n);
-    Some(rest)
+    ending(form, rest, levels, at, n, out)
 }
 
 /// A term goes last, with at most so many levels of brackets.

@@ -1,18 +1,18 @@
 ghost use Rattle.std.specs.Prelude.{◌≡◌, ℕ, ◌+◌, ◌≤◌, ◌<◌, Bool, true, false, List, [], ◌∷◌, length, MatchOption, Some, None};
 ghost use Rattle.script_grammar.specs.Names.{Arguments};
 ghost use Rattle.script_grammar.specs.Written.{Kind};
-ghost use Rattle.script_grammar.specs.Written.Kind.{Slot, Extent, Body};
+ghost use Rattle.script_grammar.specs.Written.Kind.{Slot, Count, Extent, Body};
 ghost use Rattle.script_parse.specs.declared.buffer.TheConstants.{MOST_ITEMS};
-ghost use Rattle.script_parse.specs.declared.numbers.TheConstants.{LAST_REGISTER};
+ghost use Rattle.script_parse.specs.declared.numbers.TheConstants.{GREATEST, LAST_REGISTER};
 ghost use Rattle.script_parse.specs.Output.{given, Grows};
 ghost use Rattle.script_parse.specs.Reading.{extent_at, number_at, spaced_at, row, row_run, verb_run, named_run, process_run, sys_verb_run, sys_named_run, system_run};
 
 use crate::blanks::{after_text, ends, gap, skip, word_len};
-use crate::numbers::{LAST_REGISTER, number};
+use crate::numbers::{GREATEST, LAST_REGISTER, number};
 use crate::output::Output;
 use crate::terms::term;
 use crate::words::{sys_word, verb_word};
-use script_grammar::{Depth, LEVELS, Reg, SysVerb, SysWord, Verb, Word};
+use script_grammar::{Depth, LEVELS, Pick, Reg, Shape, SysVerb, SysWord, Verb, Word};
 
 /// A blank and a register.
 fn register(line: &[u8]) -> Option<(Reg, &[u8])>
@@ -23,6 +23,15 @@ fn register(line: &[u8]) -> Option<(Reg, &[u8])>
     let rest = gap(line)?;
     let (n, rest) = number(skip(rest), LAST_REGISTER)?;
     Some((Reg(n as u8), rest))
+}
+
+/// A blank and a number.
+fn count(line: &[u8]) -> Option<(u64, &[u8])>
+    ensures value { MatchOption result (spaced_at (number_at GREATEST) line.now ≡ None)
+        (λ r. spaced_at (number_at GREATEST) line.now ≡ Some (r.0, r.1.now)) }
+{
+    let rest = gap(line)?;
+    number(skip(rest), GREATEST)
 }
 
 /// A depth of collection.
@@ -57,6 +66,61 @@ fn slot(line: &[u8], out: &mut Output) -> Option<Reg>
 {
     let (r, rest) = register(line)?;
     if ends(rest) { Some(r) } else { None }
+}
+
+/// Two registers, and nothing more.
+#[tactic(auto, unfolding(crate::specs::Reading::row_run))]
+fn two_slots(line: &[u8], out: &mut Output) -> Option<(Reg, Reg)>
+    ensures value { (f : Arguments (Slot ∷ Slot ∷ []) → Verb) → MatchOption result (row_run (row (Slot ∷ Slot ∷ []) f) line.now (given out.old) ≡ None)
+        (λ r. row_run (row (Slot ∷ Slot ∷ []) f) line.now (given out.old) ≡ Some (f (r.0.0, (r.1.0, tt)), given out.new)) }
+    ensures grown { Grows out.old out.new }
+{
+    let (r, rest) = register(line)?;
+    let (s, rest) = register(rest)?;
+    if ends(rest) { Some((r, s)) } else { None }
+}
+
+/// Three registers, and nothing more.
+#[tactic(auto, unfolding(crate::specs::Reading::row_run))]
+fn three_slots(line: &[u8], out: &mut Output) -> Option<(Reg, Reg, Reg)>
+    ensures value { (f : Arguments (Slot ∷ Slot ∷ Slot ∷ []) → Verb)
+        → MatchOption result (row_run (row (Slot ∷ Slot ∷ Slot ∷ []) f) line.now (given out.old) ≡ None)
+        (λ r. row_run (row (Slot ∷ Slot ∷ Slot ∷ []) f) line.now (given out.old) ≡ Some (f (r.0.0, (r.1.0, (r.2.0, tt))), given out.new)) }
+    ensures grown { Grows out.old out.new }
+{
+    let (r, rest) = register(line)?;
+    let (s, rest) = register(rest)?;
+    let (t, rest) = register(rest)?;
+    if ends(rest) { Some((r, s, t)) } else { None }
+}
+
+/// Four registers, and nothing more.
+#[tactic(auto, unfolding(crate::specs::Reading::row_run))]
+fn four_slots(line: &[u8], out: &mut Output) -> Option<(Reg, Reg, Reg, Reg)>
+    ensures value { (f : Arguments (Slot ∷ Slot ∷ Slot ∷ Slot ∷ []) → Verb)
+        → MatchOption result (row_run (row (Slot ∷ Slot ∷ Slot ∷ Slot ∷ []) f) line.now (given out.old) ≡ None)
+        (λ r. row_run (row (Slot ∷ Slot ∷ Slot ∷ Slot ∷ []) f) line.now (given out.old) ≡ Some (f (r.0.0, (r.1.0, (r.2.0, (r.3.0, tt)))), given out.new)) }
+    ensures grown { Grows out.old out.new }
+{
+    let (r, rest) = register(line)?;
+    let (s, rest) = register(rest)?;
+    let (t, rest) = register(rest)?;
+    let (u, rest) = register(rest)?;
+    if ends(rest) { Some((r, s, t, u)) } else { None }
+}
+
+/// A register, a number and a register, and nothing more.
+#[tactic(auto, unfolding(crate::specs::Reading::row_run))]
+fn slot_count_slot(line: &[u8], out: &mut Output) -> Option<(Reg, u64, Reg)>
+    ensures value { (f : Arguments (Slot ∷ Count ∷ Slot ∷ []) → Verb)
+        → MatchOption result (row_run (row (Slot ∷ Count ∷ Slot ∷ []) f) line.now (given out.old) ≡ None)
+        (λ r. row_run (row (Slot ∷ Count ∷ Slot ∷ []) f) line.now (given out.old) ≡ Some (f (r.0.0, (r.1, (r.2.0, tt))), given out.new)) }
+    ensures grown { Grows out.old out.new }
+{
+    let (r, rest) = register(line)?;
+    let (n, rest) = count(rest)?;
+    let (s, rest) = register(rest)?;
+    if ends(rest) { Some((r, n, s)) } else { None }
 }
 
 /// A depth of collection, and nothing more.
@@ -94,10 +158,48 @@ fn verb(word: Word, line: &[u8], out: &mut Output) -> Option<Verb>
 {
     match word {
         Word::Set => Some(Verb::Set(slot_body(line, out)?)),
+        Word::Hd => {
+            let (r, s) = two_slots(line, out)?;
+            Some(Verb::Choose(r, s, Pick::Hd))
+        },
+        Word::Tl => {
+            let (r, s) = two_slots(line, out)?;
+            Some(Verb::Choose(r, s, Pick::Tl))
+        },
+        Word::Elem => {
+            let (r, i, s) = slot_count_slot(line, out)?;
+            Some(Verb::Choose(r, s, Pick::Elem(i)))
+        },
+        Word::MapGet => {
+            let (r, s, k) = three_slots(line, out)?;
+            Some(Verb::Choose(r, s, Pick::MapGet(k)))
+        },
+        Word::MapPut => {
+            let (r, s, k, v) = four_slots(line, out)?;
+            Some(Verb::MapPut(r, s, k, v))
+        },
+        Word::Ref => Some(Verb::Ref(slot(line, out)?)),
         Word::Own => Some(Verb::Own(slot(line, out)?)),
+        Word::MkTuple => {
+            let (r, n, s) = slot_count_slot(line, out)?;
+            Some(Verb::Repeat(r, Shape::Tuple, n, s))
+        },
+        Word::MkList => {
+            let (r, n, s) = slot_count_slot(line, out)?;
+            Some(Verb::Repeat(r, Shape::List, n, s))
+        },
         Word::Push => Some(Verb::Push(slot(line, out)?)),
         Word::Pop => Some(Verb::Pop(slot(line, out)?)),
         Word::Print => Some(Verb::Print(slot(line, out)?)),
+        Word::Eq => {
+            let (r, s) = two_slots(line, out)?;
+            Some(Verb::Eq(r, s))
+        },
+        Word::Cmp => {
+            let (r, s) = two_slots(line, out)?;
+            Some(Verb::Cmp(r, s))
+        },
+        Word::Flat => Some(Verb::Flat(slot(line, out)?)),
         Word::Gc => Some(Verb::Gc(extent(line, out)?)),
         Word::Exit => {
             none(line, out)?;

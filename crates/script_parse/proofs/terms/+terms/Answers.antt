@@ -16,15 +16,12 @@ pub parts-loop-n-preserved : goal.parts-loop-n-preserved
 parts-loop-n-preserved t c =
     let left : length c.args.line.now + 1 - c.loop-n.n ≡ (length c.args.line.now + 1 - (c.loop-n.n + 1)) + 1 = omega (arith, c.loop-n-test.true) in
     let comma : byte_at 44 (after_blanks c.in_ok-rest.rest.now) ≡ Some c.in-Some.after.now = sym (ap (byte_at 44) c.skip.ensures.value) ∙ c.in-Some.ensures.value in
-    let read : part_run (term_run c.args.levels) c.args.form c.loop-n.at.now (given c.loop-n.out) ≡ Some (c.in_ok-rest.rest.now, given c.term.new.out)
-    = rw c.lead.ensures.items at c.in_ok-rest.ensures.read in
-    let placed : length c.lead.new.self.code.now ≡ length (led_items c.args.form c.loop-n.out.code.now) = ap (λ o. length o.items) c.lead.ensures.items in
     let one : length (led_items c.args.form c.loop-n.out.code.now) ≤ length c.loop-n.out.code.now + 1 = omega (arith, led_len c.args.form c.loop-n.out.code.now, led_few c.args.form) in
     record {
       read = sym (parts_more (part_run (term_run c.args.levels) c.args.form) (length c.args.line.now + 1 - (c.loop-n.n + 1)) (length c.args.line.now + 1 - c.loop-n.n)
-          c.loop-n.at.now c.loop-n.n (given c.loop-n.out) left c.in_ok-rest.rest.now c.in-Some.after.now (given c.term.new.out) read comma)
+          c.loop-n.at.now c.loop-n.n (given c.loop-n.out) left c.in_ok-rest.rest.now c.in-Some.after.now (given c.part.new.out) c.in_ok-rest.ensures.read comma)
           ∙ c.loop-n.invariant.read;
-      grown = grows_then c.args.out.now c.lead.new.self c.term.new.out (grows_then c.args.out.now c.loop-n.out c.lead.new.self c.loop-n.invariant.grown c.lead.ensures.grown) c.term.ensures.grown;
-      room = omega (arith, c.loop-n.invariant.room, c.in_ok-rest.ensures.room, placed, one, c.skip.ensures.shorter, c.in-Some.ensures.shorter);
+      grown = grows_then c.args.out.now c.loop-n.out c.part.new.out c.loop-n.invariant.grown c.part.ensures.grown;
+      room = omega (arith, c.loop-n.invariant.room, c.in_ok-rest.ensures.room, one, c.skip.ensures.shorter, c.in-Some.ensures.shorter);
       within = omega (arith, c.loop-n.invariant.within, c.in_ok-rest.ensures.room, c.skip.ensures.shorter, c.in-Some.ensures.shorter);
     }

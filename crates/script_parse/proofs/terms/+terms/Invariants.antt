@@ -4,13 +4,25 @@ use Rattle.script_parse.specs.Reading.{parts_run, part_run, term_run}
 use Rattle.script_parse.proofs.terms.+terms.Given as goal
 
 abbrev pub decreases-term : goal.decreases-term
-decreases-term l = 3 * l.levels
+decreases-term l = 5 * l.levels
+
+abbrev pub decreases-pair : goal.decreases-pair
+decreases-pair l = 5 * l.levels + 1
+
+abbrev pub decreases-tail : goal.decreases-tail
+decreases-tail l = 5 * l.levels + 1
+
+abbrev pub decreases-part : goal.decreases-part
+decreases-part l = 5 * l.levels + 2
+
+abbrev pub decreases-ending : goal.decreases-ending
+decreases-ending l = 5 * l.levels + 2
 
 abbrev pub decreases-parts : goal.decreases-parts
-decreases-parts l = 3 * l.levels + 1
+decreases-parts l = 5 * l.levels + 3
 
 abbrev pub decreases-bracketed : goal.decreases-bracketed
-decreases-bracketed l = 3 * l.levels + 2
+decreases-bracketed l = 5 * l.levels + 4
 
 -- What is left goes on from the parts so far.
 abbrev pub invariant-parts-loop-n : goal.invariant-parts-loop-n
