@@ -247,6 +247,23 @@ sys_row_of w = row (sys_kinds_of w) (sys_verb_with w)
 abbrev pub verb_run : Word → List ℕ → Out → Option (Verb × Out)
 verb_run w line o = cond (is_built w) (row_run (row_of w) line o) None
 
+-- The built verbs of a process that take several operands, none of them a term.
+abbrev pub takes_several : Word → Bool
+takes_several word.Hd = true
+takes_several word.Tl = true
+takes_several word.Elem = true
+takes_several word.MapGet = true
+takes_several word.MapPut = true
+takes_several word.MkTuple = true
+takes_several word.MkList = true
+takes_several word.Eq = true
+takes_several word.Cmp = true
+takes_several _ = false
+
+-- One of these with the operands after it.
+abbrev pub several_run : Word → List ℕ → Out → Option (Verb × Out)
+several_run w line o = cond (takes_several w) (row_run (row_of w) line o) None
+
 -- A verb of the system with the operands after it, where it is built.
 abbrev pub sys_verb_run : SysWord → List ℕ → Out → Option (SysVerb × Out)
 sys_verb_run w line o = cond (is_sys_built w) (row_run (sys_row_of w) line o) None

@@ -5,7 +5,7 @@ ghost use Rattle.script_grammar.specs.Written.Kind.{Slot, Count, Extent, Body};
 ghost use Rattle.script_parse.specs.declared.buffer.TheConstants.{MOST_ITEMS};
 ghost use Rattle.script_parse.specs.declared.numbers.TheConstants.{GREATEST, LAST_REGISTER};
 ghost use Rattle.script_parse.specs.Output.{given, Grows};
-ghost use Rattle.script_parse.specs.Reading.{extent_at, number_at, spaced_at, row, row_run, verb_run, named_run, process_run, sys_verb_run, sys_named_run, system_run};
+ghost use Rattle.script_parse.specs.Reading.{extent_at, number_at, spaced_at, row, row_run, several_run, verb_run, named_run, process_run, sys_verb_run, sys_named_run, system_run};
 
 use crate::blanks::{after_text, ends, gap, skip, word_len};
 use crate::numbers::{GREATEST, LAST_REGISTER, number};
@@ -149,15 +149,13 @@ fn slot_body(line: &[u8], out: &mut Output) -> Option<Reg>
     if ends(rest) { Some(r) } else { None }
 }
 
-/// The operands of a verb of a process, by the table of what is built.
-fn verb(word: Word, line: &[u8], out: &mut Output) -> Option<Verb>
-    requires { length out.old.code.now + length line.now ≤ MOST_ITEMS }
-    ensures read { MatchOption result (verb_run word line.now (given out.old) ≡ None)
-        (λ v. verb_run word line.now (given out.old) ≡ Some (v, given out.new)) }
+/// The operands of a verb of a process that takes several, none of them a term.
+fn several(word: Word, line: &[u8], out: &mut Output) -> Option<Verb>
+    ensures read { MatchOption result (several_run word line.now (given out.old) ≡ None)
+        (λ v. several_run word line.now (given out.old) ≡ Some (v, given out.new)) }
     ensures grown { Grows out.old out.new }
 {
     match word {
-        Word::Set => Some(Verb::Set(slot_body(line, out)?)),
         Word::Hd => {
             let (r, s) = two_slots(line, out)?;
             Some(Verb::Choose(r, s, Pick::Hd))
@@ -178,8 +176,6 @@ fn verb(word: Word, line: &[u8], out: &mut Output) -> Option<Verb>
             let (r, s, k, v) = four_slots(line, out)?;
             Some(Verb::MapPut(r, s, k, v))
         },
-        Word::Ref => Some(Verb::Ref(slot(line, out)?)),
-        Word::Own => Some(Verb::Own(slot(line, out)?)),
         Word::MkTuple => {
             let (r, n, s) = slot_count_slot(line, out)?;
             Some(Verb::Repeat(r, Shape::Tuple, n, s))
@@ -188,9 +184,6 @@ fn verb(word: Word, line: &[u8], out: &mut Output) -> Option<Verb>
             let (r, n, s) = slot_count_slot(line, out)?;
             Some(Verb::Repeat(r, Shape::List, n, s))
         },
-        Word::Push => Some(Verb::Push(slot(line, out)?)),
-        Word::Pop => Some(Verb::Pop(slot(line, out)?)),
-        Word::Print => Some(Verb::Print(slot(line, out)?)),
         Word::Eq => {
             let (r, s) = two_slots(line, out)?;
             Some(Verb::Eq(r, s))
@@ -199,13 +192,31 @@ fn verb(word: Word, line: &[u8], out: &mut Output) -> Option<Verb>
             let (r, s) = two_slots(line, out)?;
             Some(Verb::Cmp(r, s))
         },
+        _ => None,
+    }
+}
+
+/// The operands of a verb of a process, by the table of what is built.
+fn verb(word: Word, line: &[u8], out: &mut Output) -> Option<Verb>
+    requires { length out.old.code.now + length line.now ≤ MOST_ITEMS }
+    ensures read { MatchOption result (verb_run word line.now (given out.old) ≡ None)
+        (λ v. verb_run word line.now (given out.old) ≡ Some (v, given out.new)) }
+    ensures grown { Grows out.old out.new }
+{
+    match word {
+        Word::Set => Some(Verb::Set(slot_body(line, out)?)),
+        Word::Ref => Some(Verb::Ref(slot(line, out)?)),
+        Word::Own => Some(Verb::Own(slot(line, out)?)),
+        Word::Push => Some(Verb::Push(slot(line, out)?)),
+        Word::Pop => Some(Verb::Pop(slot(line, out)?)),
+        Word::Print => Some(Verb::Print(slot(line, out)?)),
         Word::Flat => Some(Verb::Flat(slot(line, out)?)),
         Word::Gc => Some(Verb::Gc(extent(line, out)?)),
         Word::Exit => {
             none(line, out)?;
             Some(Verb::Exit)
-        }
-        _ => None,
+        },
+        _ => several(word, line, out),
     }
 }
 
