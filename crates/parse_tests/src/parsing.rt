@@ -30,7 +30,7 @@ fn answer_to(line: &[u8], names: &mut AtomNames, code: &mut Code) -> Answer {
 }
 
 // Lines that are read: nothing, or one command.
-const READ: [&[u8]; 30] = [
+const READ: [&[u8]; 52] = [
     b"",
     b" \t ",
     b"% any \x00\xff bytes",
@@ -58,13 +58,35 @@ const READ: [&[u8]; 30] = [
     b"1  gc\tmajor ",
     b"sys sweep",
     b"1099511627775 exit",
-    b"1 set 0 576460752303423487",
-    b"1 set 0 -576460752303423488",
+    b"1 set 0 576460752303423488",
+    b"1 set 0 -576460752303423489",
+    b"1 set 0 170141183460469231731687303715884105727",
+    b"1 set 0 -170141183460469231731687303715884105727",
     b"1 set 0 <0.1099511627775.0>",
+    b"1 set 0 $0",
+    b"1 set 0 { $15 , $9 }",
+    b"1 set 0 [a|b]",
+    b"1 set 0 [ a , b | [ c ] ]",
+    b"1 set 0 [1|[]]",
+    b"1 set 0 #{}",
+    b"1 set 0 #{ }",
+    b"1 set 0 #{a=>1}",
+    b"1 set 0 #{ a => 1 , #{ } => [b|c] , $0=>$0 }",
+    b"1 hd 0 1",
+    b"1 tl 15 0",
+    b"1 elem 0 1099511627775 1",
+    b"1 mapget 0 1 2",
+    b"1 mapput 0 1 2 15",
+    b"1 ref 0",
+    b"1 mktuple 0 0 1",
+    b" 1  mklist\t0 65537  1 ",
+    b"1 eq 0 1",
+    b"1 cmp 0 0",
+    b"1 flat 0",
 ];
 
 // Lines that are in no grammar, or only in that of what is not built.
-const UNREAD: [&[u8]; 75] = [
+const UNREAD: [&[u8]; 112] = [
     b"1099511627776 exit",
     b"01 exit",
     b"+1 exit",
@@ -94,15 +116,21 @@ const UNREAD: [&[u8]; 75] = [
     b"1 set 0 1 1",
     b"1 set 0 01",
     b"1 set 0 -0",
+    b"1 set 0 -01",
     b"1 set 0 - 1",
     b"1 set 0 +1",
-    b"1 set 0 576460752303423488",
-    b"1 set 0 -576460752303423489",
     b"1 set 0 170141183460469231731687303715884105728",
+    b"1 set 0 -170141183460469231731687303715884105728",
+    b"1 set 0 340282366920938463463374607431768211457",
+    b"1 set 0 1701411834604692317316873037158841057270",
     b"1 set 0 [|a]",
+    b"1 set 0 [ | a]",
     b"1 set 0 [a|]",
-    b"1 set 0 [a|b]",
+    b"1 set 0 [a,|b]",
     b"1 set 0 [a|b|c]",
+    b"1 set 0 [a|b,c]",
+    b"1 set 0 [a|b",
+    b"1 set 0 {a|b}",
     b"1 set 0 {,}",
     b"1 set 0 [,]",
     b"1 set 0 [1,]",
@@ -114,7 +142,17 @@ const UNREAD: [&[u8]; 75] = [
     b"1 set 0 1]",
     b"1 set 0 #{a}",
     b"1 set 0 #{a=>}",
-    b"1 set 0 #{}",
+    b"1 set 0 #{=>a}",
+    b"1 set 0 #{a= >b}",
+    b"1 set 0 #{a,b}",
+    b"1 set 0 #{a=>b,}",
+    b"1 set 0 #{a=>b=>c}",
+    b"1 set 0 #{a=>b|c}",
+    b"1 set 0 #{a=>b",
+    b"1 set 0 #{a=>b]",
+    b"1 set 0 # {}",
+    b"1 set 0 {a=>b}",
+    b"1 set 0 #[]",
     b"1 set 0 <<256>>",
     b"1 set 0 <<1,>>",
     b"1 set 0 <<>>",
@@ -124,14 +162,35 @@ const UNREAD: [&[u8]; 75] = [
     b"1 set 0 <0.01.0>",
     b"1 set 0 <0. 1.0>",
     b"1 set 0 <0.1099511627776.0>",
-    b"1 set 0 $0",
     b"1 set 0 $16",
+    b"1 set 0 $00",
+    b"1 set 0 $01",
+    b"1 set 0 $ 1",
+    b"1 set 0 $",
+    b"1 set 0 $-1",
+    b"1 set 0 $1 $2",
     b"1 set 0 Abc",
     b"1 set 0 _a",
     b"1 set 0 a-b",
     b"1 set 0 \xc3",
     b"1 set 0 a\x00",
-    b"1 hd 0 1",
+    b"1 hd 0",
+    b"1 hd 0 1 2",
+    b"1 tl 0 16",
+    b"1 elem 0 1",
+    b"1 elem 0 01 1",
+    b"1 elem 0 1099511627776 1",
+    b"1 mapget 0 1",
+    b"1 mapput 0 1 2",
+    b"1 mapput 0 1 2 3 4",
+    b"1 mktuple 0 1",
+    b"1 mklist 0 a 1",
+    b"1 eq 0",
+    b"1 eq $0 $1",
+    b"1 cmp 0 1 2",
+    b"1 flat 0 0",
+    b"1 ref",
+    b"1 recv 0",
     b"1 gc",
     b"1 gc 0",
     b"1 gc full",
@@ -166,32 +225,43 @@ fn all_else_is_a_fault_of_syntax(rt: HostRuntime) -> Result<(), Fail> {
     Ok(())
 }
 
-// A line that is made: brackets in so many levels, lists and tuples in turn, or an atom of so many bytes.
+// A line that is made: a term within so many levels of one form, what opens and what closes each, or an atom of so many
+// bytes.
 #[derive(Clone, Copy)]
 enum Made {
-    Nested(u64),
+    Nested(&'static [u8], &'static [u8], u64),
     Atom(usize),
 }
 
 // Lines at the limits, and beyond them.
-const LIMITS: [(Made, Answer); 4] = [
-    (Made::Nested(LEVELS), Answer::Read),
-    (Made::Nested(LEVELS + 1), Answer::Syntax),
+const LIMITS: [(Made, Answer); 12] = [
+    (Made::Nested(b"[", b"]", LEVELS), Answer::Read),
+    (Made::Nested(b"[", b"]", LEVELS + 1), Answer::Syntax),
+    (Made::Nested(b"{", b"}", LEVELS), Answer::Read),
+    (Made::Nested(b"{", b"}", LEVELS + 1), Answer::Syntax),
+    (Made::Nested(b"[a|", b"]", LEVELS), Answer::Read),
+    (Made::Nested(b"[a|", b"]", LEVELS + 1), Answer::Syntax),
+    (Made::Nested(b"#{a=>", b"}", LEVELS), Answer::Read),
+    (Made::Nested(b"#{a=>", b"}", LEVELS + 1), Answer::Syntax),
+    (Made::Nested(b"#{", b"=>a}", LEVELS), Answer::Read),
+    (Made::Nested(b"#{", b"=>a}", LEVELS + 1), Answer::Syntax),
     (Made::Atom(LONGEST_NAME), Answer::Read),
     (Made::Atom(LONGEST_NAME + 1), Answer::Syntax),
 ];
 
-fn nested(alloc: Global, levels: u64) -> Result<Vec<u8>, AllocError> {
+fn nested(
+    alloc: Global,
+    opening: &[u8],
+    closing: &[u8],
+    levels: u64,
+) -> Result<Vec<u8>, AllocError> {
     let mut line = b"1 set 0 ".to_vec(alloc)?;
-    for k in 0..levels {
-        line.push(if k % 2 == 0 { b'[' } else { b'{' })?;
+    for _ in 0..levels {
+        line.extend_from_slice(opening)?;
     }
-    for k in 0..levels {
-        line.push(if (levels - 1 - k) % 2 == 0 {
-            b']'
-        } else {
-            b'}'
-        })?;
+    line.push(b'b')?;
+    for _ in 0..levels {
+        line.extend_from_slice(closing)?;
     }
     Ok(line)
 }
@@ -206,7 +276,7 @@ fn long_atom(alloc: Global, len: usize) -> Result<Vec<u8>, AllocError> {
 
 fn line_of(alloc: Global, made: Made) -> Result<Vec<u8>, AllocError> {
     match made {
-        Made::Nested(levels) => nested(alloc, levels),
+        Made::Nested(opening, closing, levels) => nested(alloc, opening, closing, levels),
         Made::Atom(len) => long_atom(alloc, len),
     }
 }
@@ -276,7 +346,7 @@ struct Row {
     names: u64,
 }
 
-const ROWS: [Row; 3] = [
+const ROWS: [Row; 5] = [
     Row {
         line: b"1 set 3 {a,[-7,b],<0.2.0>,a}",
         items: &[
@@ -302,6 +372,34 @@ const ROWS: [Row; 3] = [
         items: &[Item::Cons, Item::Atom(2), Item::Nil],
         names: 3,
     },
+    Row {
+        line: b"1 set 3 [$15, 170141183460469231731687303715884105727 | -9223372036854775808]",
+        items: &[
+            Item::Cons,
+            Item::Held(15),
+            Item::Cons,
+            Item::Int(170_141_183_460_469_231_731_687_303_715_884_105_727),
+            Item::Int(-9_223_372_036_854_775_808),
+        ],
+        names: 3,
+    },
+    Row {
+        line: b"1 set 3 #{d=>[a,b|c], #{ }=>{}, d=>$0}",
+        items: &[
+            Item::Map(3),
+            Item::Atom(3),
+            Item::Cons,
+            Item::Atom(0),
+            Item::Cons,
+            Item::Atom(1),
+            Item::Atom(2),
+            Item::Map(0),
+            Item::Tuple(0),
+            Item::Atom(3),
+            Item::Held(0),
+        ],
+        names: 4,
+    },
 ];
 
 fn same_item(a: Item, b: Item) -> bool {
@@ -309,7 +407,9 @@ fn same_item(a: Item, b: Item) -> bool {
         Item::Int(i) => matches!(b, Item::Int(j) if i == j),
         Item::Atom(k) => matches!(b, Item::Atom(j) if k == j),
         Item::Pid(n) => matches!(b, Item::Pid(m) if n == m),
+        Item::Held(r) => matches!(b, Item::Held(s) if r == s),
         Item::Tuple(n) => matches!(b, Item::Tuple(m) if n == m),
+        Item::Map(n) => matches!(b, Item::Map(m) if n == m),
         Item::Nil => matches!(b, Item::Nil),
         Item::Cons => matches!(b, Item::Cons),
         _ => false,
