@@ -205,7 +205,8 @@ made_put form.Map xs None o c = ap (λ (z : ℕ). ended form.Map (length o.items
     ∙ ap (λ (z : Out). ended form.Map (length o.items) (length xs) z) (pairs_put xs (begun form.Map o))
 made_put form.Map xs (Some t) o c = absurd (false_not c)
 
-pub made_is : (levels : ℕ) (f : Form) (xs : List (PartOf f)) (e : Option Term) → Each (IsPart levels f) xs → IsEnd levels (length xs) f e → MayStand (suc levels) (made f xs e) × IsBuiltTerm (made f xs e)
+pub made_is : (levels : ℕ) (f : Form) (xs : List (PartOf f)) (e : Option Term) → Each (IsPart levels f) xs → IsEnd levels (length xs) f e
+    → MayStand (suc levels) (made f xs e) × IsBuiltTerm (made f xs e)
 made_is levels form.List xs None h i = let k = terms_are levels xs h in ((omega arith, rw (one_less levels) (k.0)), k.1)
 made_is levels form.List xs (Some t) h i = let k = terms_are levels xs h in
     ((omega arith, rw (terms_count xs) (i.1), rw (one_less levels) (k.0), rw (one_less levels) (i.2.0)), (k.1, i.2.1))

@@ -213,14 +213,16 @@ made_full levels f line bytes o rest p ih e h =
     = parts_found (part_pieces f) (part_put f) (IsPart levels f) (part_run (term_run levels) f) (part_read levels ih f) (length bytes + 1) bytes 0 (begun f o) (r.0.0) (r.0.1.0) (r.0.1.1) (r.1) in
     let count : r.0.1.0 ≡ length g.parts = omega (arith, g.count) in
     let P : ℕ → Type 0 = λ z. end_run (term_run levels) f (length o.items) z (r.0.0) (r.0.1.1) ≡ Some (rest, p) in
-    let s : FoundEnd levels f (length o.items) (length g.parts) (r.0.0) (r.0.1.1) rest p = end_read levels ih f (length o.items) (length g.parts) (r.0.0) (r.0.1.1) rest p g.some (subst P count (r.2)) in
+    let s : FoundEnd levels f (length o.items) (length g.parts) (r.0.0) (r.0.1.1) rest p
+    = end_read levels ih f (length o.items) (length g.parts) (r.0.0) (r.0.1.1) rest p g.some (subst P count (r.2)) in
     made_read levels f g.parts s.tail line bytes o (r.0.1.1) rest p e g.are s.is g.put s.put (λ ps m. g.lies (end_pieces f s.tail ps) (s.lies ps m))
 
 any_read : (levels : ℕ) (line : List ℕ) (o : Out) (rest : List ℕ) (p : Out) → AreRead levels → any_run (term_run levels) (after_blanks line) o ≡ Some (rest, p) → Found (suc levels) line o rest p
 any_read levels line o rest p ih h = elim (found_cases (form_in all_forms (after_blanks line)) (λ r. form_run (term_run levels) (r.0) (r.1) o) (leaf_run (after_blanks line) o) h) [
   | inl g ↦ let e : after_blanks line ≡ opening (g.0.0) ++ g.0.1 = form_read all_forms (after_blanks line) (g.0.0) (g.0.1) (g.1) in
       elim (found_cases (text_at (closing (g.0.0)) (after_blanks (g.0.1))) (λ r. Some (r, ended (g.0.0) (length o.items) 0 (begun (g.0.0) o)))
-      (then_read (parts_run (part_run (term_run levels) (g.0.0)) (length (g.0.1) + 1) (g.0.1) 0 (begun (g.0.0) o)) (λ r. end_run (term_run levels) (g.0.0) (length o.items) (r.1.0) (r.0) (r.1.1))) (g.2)) [
+      (then_read (parts_run (part_run (term_run levels) (g.0.0)) (length (g.0.1) + 1) (g.0.1) 0 (begun (g.0.0) o))
+      (λ r. end_run (term_run levels) (g.0.0) (length o.items) (r.1.0) (r.0) (r.1.1))) (g.2)) [
         | inl c ↦ let j : (c.0 ≡ rest) × (ended (g.0.0) (length o.items) 0 (begun (g.0.0) o) ≡ p) = both (c.2) in
             let P : List ℕ → Type 0 = λ z. Found (suc levels) line o z p in
             subst P (j.0) (made_read levels (g.0.0) [] None line (g.0.1) o (begun (g.0.0) o) (c.0) p e tt tt refl (sym (j.1)) (λ ps m. closed (g.0.0) (c.0) (g.0.1) ps (c.1) m))

@@ -4,7 +4,7 @@ ghost use Rattle.script_grammar.specs.Written.{Kind};
 ghost use Rattle.script_grammar.specs.Written.Kind.{Slot, Count, Extent, Body};
 ghost use Rattle.script_parse.specs.declared.buffer.TheConstants.{MOST_ITEMS};
 ghost use Rattle.script_parse.specs.declared.numbers.TheConstants.{GREATEST, LAST_REGISTER};
-ghost use Rattle.script_parse.specs.Output.{given, Grows};
+ghost use Rattle.script_parse.specs.Output.{Out, given, Grows};
 ghost use Rattle.script_parse.specs.Reading.{extent_at, number_at, spaced_at, row, row_run, several_run, verb_run, named_run, process_run, sys_verb_run, sys_named_run, system_run};
 
 use crate::blanks::{after_text, ends, gap, skip, word_len};
@@ -47,22 +47,20 @@ fn depth(line: &[u8]) -> Option<(Depth, &[u8])>
 
 /// No operand, and nothing more.
 #[tactic(auto, unfolding(crate::specs::Reading::row_run))]
-fn none(line: &[u8], out: &mut Output) -> Option<()>
-    ensures process { (f : Arguments [] → Verb) → MatchOption result (row_run (row [] f) line.now (given out.old) ≡ None)
-        (λ r. row_run (row [] f) line.now (given out.old) ≡ Some (f tt, given out.new)) }
-    ensures system { (f : Arguments [] → SysVerb) → MatchOption result (row_run (row [] f) line.now (given out.old) ≡ None)
-        (λ r. row_run (row [] f) line.now (given out.old) ≡ Some (f tt, given out.new)) }
-    ensures grown { Grows out.old out.new }
+fn none(line: &[u8]) -> Option<()>
+    ensures process { (o : Out) (f : Arguments [] → Verb) → MatchOption result (row_run (row [] f) line.now o ≡ None)
+        (λ r. row_run (row [] f) line.now o ≡ Some (f tt, o)) }
+    ensures system { (o : Out) (f : Arguments [] → SysVerb) → MatchOption result (row_run (row [] f) line.now o ≡ None)
+        (λ r. row_run (row [] f) line.now o ≡ Some (f tt, o)) }
 {
     if ends(line) { Some(()) } else { None }
 }
 
 /// A register, and nothing more.
 #[tactic(auto, unfolding(crate::specs::Reading::row_run))]
-fn slot(line: &[u8], out: &mut Output) -> Option<Reg>
-    ensures value { (f : Arguments (Slot ∷ []) → Verb) → MatchOption result (row_run (row (Slot ∷ []) f) line.now (given out.old) ≡ None)
-        (λ r. row_run (row (Slot ∷ []) f) line.now (given out.old) ≡ Some (f (r.0, tt), given out.new)) }
-    ensures grown { Grows out.old out.new }
+fn slot(line: &[u8]) -> Option<Reg>
+    ensures value { (o : Out) (f : Arguments (Slot ∷ []) → Verb) → MatchOption result (row_run (row (Slot ∷ []) f) line.now o ≡ None)
+        (λ r. row_run (row (Slot ∷ []) f) line.now o ≡ Some (f (r.0, tt), o)) }
 {
     let (r, rest) = register(line)?;
     if ends(rest) { Some(r) } else { None }
@@ -70,10 +68,9 @@ fn slot(line: &[u8], out: &mut Output) -> Option<Reg>
 
 /// Two registers, and nothing more.
 #[tactic(auto, unfolding(crate::specs::Reading::row_run))]
-fn two_slots(line: &[u8], out: &mut Output) -> Option<(Reg, Reg)>
-    ensures value { (f : Arguments (Slot ∷ Slot ∷ []) → Verb) → MatchOption result (row_run (row (Slot ∷ Slot ∷ []) f) line.now (given out.old) ≡ None)
-        (λ r. row_run (row (Slot ∷ Slot ∷ []) f) line.now (given out.old) ≡ Some (f (r.0.0, (r.1.0, tt)), given out.new)) }
-    ensures grown { Grows out.old out.new }
+fn two_slots(line: &[u8]) -> Option<(Reg, Reg)>
+    ensures value { (o : Out) (f : Arguments (Slot ∷ Slot ∷ []) → Verb) → MatchOption result (row_run (row (Slot ∷ Slot ∷ []) f) line.now o ≡ None)
+        (λ r. row_run (row (Slot ∷ Slot ∷ []) f) line.now o ≡ Some (f (r.0.0, (r.1.0, tt)), o)) }
 {
     let (r, rest) = register(line)?;
     let (s, rest) = register(rest)?;
@@ -82,11 +79,10 @@ fn two_slots(line: &[u8], out: &mut Output) -> Option<(Reg, Reg)>
 
 /// Three registers, and nothing more.
 #[tactic(auto, unfolding(crate::specs::Reading::row_run))]
-fn three_slots(line: &[u8], out: &mut Output) -> Option<(Reg, Reg, Reg)>
-    ensures value { (f : Arguments (Slot ∷ Slot ∷ Slot ∷ []) → Verb)
-        → MatchOption result (row_run (row (Slot ∷ Slot ∷ Slot ∷ []) f) line.now (given out.old) ≡ None)
-        (λ r. row_run (row (Slot ∷ Slot ∷ Slot ∷ []) f) line.now (given out.old) ≡ Some (f (r.0.0, (r.1.0, (r.2.0, tt))), given out.new)) }
-    ensures grown { Grows out.old out.new }
+fn three_slots(line: &[u8]) -> Option<(Reg, Reg, Reg)>
+    ensures value { (o : Out) (f : Arguments (Slot ∷ Slot ∷ Slot ∷ []) → Verb)
+        → MatchOption result (row_run (row (Slot ∷ Slot ∷ Slot ∷ []) f) line.now o ≡ None)
+        (λ r. row_run (row (Slot ∷ Slot ∷ Slot ∷ []) f) line.now o ≡ Some (f (r.0.0, (r.1.0, (r.2.0, tt))), o)) }
 {
     let (r, rest) = register(line)?;
     let (s, rest) = register(rest)?;
@@ -96,11 +92,10 @@ fn three_slots(line: &[u8], out: &mut Output) -> Option<(Reg, Reg, Reg)>
 
 /// Four registers, and nothing more.
 #[tactic(auto, unfolding(crate::specs::Reading::row_run))]
-fn four_slots(line: &[u8], out: &mut Output) -> Option<(Reg, Reg, Reg, Reg)>
-    ensures value { (f : Arguments (Slot ∷ Slot ∷ Slot ∷ Slot ∷ []) → Verb)
-        → MatchOption result (row_run (row (Slot ∷ Slot ∷ Slot ∷ Slot ∷ []) f) line.now (given out.old) ≡ None)
-        (λ r. row_run (row (Slot ∷ Slot ∷ Slot ∷ Slot ∷ []) f) line.now (given out.old) ≡ Some (f (r.0.0, (r.1.0, (r.2.0, (r.3.0, tt)))), given out.new)) }
-    ensures grown { Grows out.old out.new }
+fn four_slots(line: &[u8]) -> Option<(Reg, Reg, Reg, Reg)>
+    ensures value { (o : Out) (f : Arguments (Slot ∷ Slot ∷ Slot ∷ Slot ∷ []) → Verb)
+        → MatchOption result (row_run (row (Slot ∷ Slot ∷ Slot ∷ Slot ∷ []) f) line.now o ≡ None)
+        (λ r. row_run (row (Slot ∷ Slot ∷ Slot ∷ Slot ∷ []) f) line.now o ≡ Some (f (r.0.0, (r.1.0, (r.2.0, (r.3.0, tt)))), o)) }
 {
     let (r, rest) = register(line)?;
     let (s, rest) = register(rest)?;
@@ -111,11 +106,10 @@ fn four_slots(line: &[u8], out: &mut Output) -> Option<(Reg, Reg, Reg, Reg)>
 
 /// A register, a number and a register, and nothing more.
 #[tactic(auto, unfolding(crate::specs::Reading::row_run))]
-fn slot_count_slot(line: &[u8], out: &mut Output) -> Option<(Reg, u64, Reg)>
-    ensures value { (f : Arguments (Slot ∷ Count ∷ Slot ∷ []) → Verb)
-        → MatchOption result (row_run (row (Slot ∷ Count ∷ Slot ∷ []) f) line.now (given out.old) ≡ None)
-        (λ r. row_run (row (Slot ∷ Count ∷ Slot ∷ []) f) line.now (given out.old) ≡ Some (f (r.0.0, (r.1, (r.2.0, tt))), given out.new)) }
-    ensures grown { Grows out.old out.new }
+fn slot_count_slot(line: &[u8]) -> Option<(Reg, u64, Reg)>
+    ensures value { (o : Out) (f : Arguments (Slot ∷ Count ∷ Slot ∷ []) → Verb)
+        → MatchOption result (row_run (row (Slot ∷ Count ∷ Slot ∷ []) f) line.now o ≡ None)
+        (λ r. row_run (row (Slot ∷ Count ∷ Slot ∷ []) f) line.now o ≡ Some (f (r.0.0, (r.1, (r.2.0, tt))), o)) }
 {
     let (r, rest) = register(line)?;
     let (n, rest) = count(rest)?;
@@ -125,10 +119,9 @@ fn slot_count_slot(line: &[u8], out: &mut Output) -> Option<(Reg, u64, Reg)>
 
 /// A depth of collection, and nothing more.
 #[tactic(auto, unfolding(crate::specs::Reading::row_run))]
-fn extent(line: &[u8], out: &mut Output) -> Option<Depth>
-    ensures value { (f : Arguments (Extent ∷ []) → Verb) → MatchOption result (row_run (row (Extent ∷ []) f) line.now (given out.old) ≡ None)
-        (λ r. row_run (row (Extent ∷ []) f) line.now (given out.old) ≡ Some (f (r, tt), given out.new)) }
-    ensures grown { Grows out.old out.new }
+fn extent(line: &[u8]) -> Option<Depth>
+    ensures value { (o : Out) (f : Arguments (Extent ∷ []) → Verb) → MatchOption result (row_run (row (Extent ∷ []) f) line.now o ≡ None)
+        (λ r. row_run (row (Extent ∷ []) f) line.now o ≡ Some (f (r, tt), o)) }
 {
     let rest = gap(line)?;
     let (depth, rest) = depth(skip(rest))?;
@@ -150,46 +143,44 @@ fn slot_body(line: &[u8], out: &mut Output) -> Option<Reg>
 }
 
 /// The operands of a verb of a process that takes several, none of them a term.
-fn several(word: Word, line: &[u8], out: &mut Output) -> Option<Verb>
-    ensures read { MatchOption result (several_run word line.now (given out.old) ≡ None)
-        (λ v. several_run word line.now (given out.old) ≡ Some (v, given out.new)) }
-    ensures grown { Grows out.old out.new }
+fn several(word: Word, line: &[u8]) -> Option<Verb>
+    ensures { (o : Out) → MatchOption result (several_run word line.now o ≡ None) (λ v. several_run word line.now o ≡ Some (v, o)) }
 {
     match word {
         Word::Hd => {
-            let (r, s) = two_slots(line, out)?;
+            let (r, s) = two_slots(line)?;
             Some(Verb::Choose(r, s, Pick::Hd))
         },
         Word::Tl => {
-            let (r, s) = two_slots(line, out)?;
+            let (r, s) = two_slots(line)?;
             Some(Verb::Choose(r, s, Pick::Tl))
         },
         Word::Elem => {
-            let (r, i, s) = slot_count_slot(line, out)?;
+            let (r, i, s) = slot_count_slot(line)?;
             Some(Verb::Choose(r, s, Pick::Elem(i)))
         },
         Word::MapGet => {
-            let (r, s, k) = three_slots(line, out)?;
+            let (r, s, k) = three_slots(line)?;
             Some(Verb::Choose(r, s, Pick::MapGet(k)))
         },
         Word::MapPut => {
-            let (r, s, k, v) = four_slots(line, out)?;
+            let (r, s, k, v) = four_slots(line)?;
             Some(Verb::MapPut(r, s, k, v))
         },
         Word::MkTuple => {
-            let (r, n, s) = slot_count_slot(line, out)?;
+            let (r, n, s) = slot_count_slot(line)?;
             Some(Verb::Repeat(r, Shape::Tuple, n, s))
         },
         Word::MkList => {
-            let (r, n, s) = slot_count_slot(line, out)?;
+            let (r, n, s) = slot_count_slot(line)?;
             Some(Verb::Repeat(r, Shape::List, n, s))
         },
         Word::Eq => {
-            let (r, s) = two_slots(line, out)?;
+            let (r, s) = two_slots(line)?;
             Some(Verb::Eq(r, s))
         },
         Word::Cmp => {
-            let (r, s) = two_slots(line, out)?;
+            let (r, s) = two_slots(line)?;
             Some(Verb::Cmp(r, s))
         },
         _ => None,
@@ -205,18 +196,18 @@ fn verb(word: Word, line: &[u8], out: &mut Output) -> Option<Verb>
 {
     match word {
         Word::Set => Some(Verb::Set(slot_body(line, out)?)),
-        Word::Ref => Some(Verb::Ref(slot(line, out)?)),
-        Word::Own => Some(Verb::Own(slot(line, out)?)),
-        Word::Push => Some(Verb::Push(slot(line, out)?)),
-        Word::Pop => Some(Verb::Pop(slot(line, out)?)),
-        Word::Print => Some(Verb::Print(slot(line, out)?)),
-        Word::Flat => Some(Verb::Flat(slot(line, out)?)),
-        Word::Gc => Some(Verb::Gc(extent(line, out)?)),
+        Word::Ref => Some(Verb::Ref(slot(line)?)),
+        Word::Own => Some(Verb::Own(slot(line)?)),
+        Word::Push => Some(Verb::Push(slot(line)?)),
+        Word::Pop => Some(Verb::Pop(slot(line)?)),
+        Word::Print => Some(Verb::Print(slot(line)?)),
+        Word::Flat => Some(Verb::Flat(slot(line)?)),
+        Word::Gc => Some(Verb::Gc(extent(line)?)),
         Word::Exit => {
-            none(line, out)?;
+            none(line)?;
             Some(Verb::Exit)
         },
-        _ => several(word, line, out),
+        _ => several(word, line),
     }
 }
 
@@ -250,19 +241,19 @@ fn sys_verb(word: SysWord, line: &[u8], out: &mut Output) -> Option<SysVerb>
 {
     match word {
         SysWord::Spawn => {
-            none(line, out)?;
+            none(line)?;
             Some(SysVerb::Spawn)
         },
         SysWord::Sweep => {
-            none(line, out)?;
+            none(line)?;
             Some(SysVerb::Sweep)
         },
         SysWord::Procs => {
-            none(line, out)?;
+            none(line)?;
             Some(SysVerb::Procs)
         },
         SysWord::Quit => {
-            none(line, out)?;
+            none(line)?;
             Some(SysVerb::Quit)
         },
         _ => None,
