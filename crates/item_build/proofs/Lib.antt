@@ -1,6 +1,6 @@
-pub mod Rows
-pub mod Forests
-pub mod Smalls
-pub mod Items
+pub mod Marks
+mod Whole
+mod Makes
+pub mod Steps
 pub mod Terms
 pub mod Written

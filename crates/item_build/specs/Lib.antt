@@ -1,2 +1,2 @@
-pub mod Modest
-pub mod Forest
+pub mod Reading
+pub mod Building

@@ -2,5 +2,8 @@
 #![tactic(auto)]
 
 mod building;
+mod needs;
+mod putting;
 
-pub use building::{build, words_needed};
+pub use building::{BuildStop, build};
+pub use needs::words_needed;

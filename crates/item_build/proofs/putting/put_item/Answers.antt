@@ -1,0 +1,44 @@
+use Rattle.std.proofs.Common.{◌+◌, ◌-◌, length, take, drop, sym, ◌∙◌, arith}
+use Rattle.std.proofs.lemmas.List.{length-take}
+use Rattle.term_words.specs.Role.{always}
+use Rattle.item_build.specs.Reading.{all_of, parts_of as parts_in, tree_where}
+use Rattle.item_build.proofs.Marks.{named-take}
+use Rattle.item_build.proofs.Makes.{marks-put, parts-split}
+use Rattle.item_build.proofs.putting.put_item.Goals as goal
+
+pub is_big_item-requires : goal.is_big_item-requires
+is_big_item-requires c = record {
+  shared = c.requires.can.shared;
+  marks = take (parts_in c.args.item) c.requires.can.marks;
+  standing = (parts-split always c.requires.can.shared c.args.mem.now c.args.scratch.now c.args.sp (parts_in c.args.item) c.parts_of.result c.requires.can.marks c.parts_of.ensures c.requires.can.parts
+      c.requires.can.standing).0;
+}
+
+pub returns-then-is_big_item-clause-puts : goal.returns-then-is_big_item-clause-puts
+returns-then-is_big_item-clause-puts c = λ k shared trees ms free held all.
+    let two = parts-split k shared c.args.mem.now c.args.scratch.now c.args.sp (parts_in c.args.item) c.parts_of.result ms c.parts_of.ensures c.requires.can.parts all in
+    sym (c.is_big_item.ensures k shared (take (parts_in c.args.item) ms) two.0) ∙ c.if-is_big_item.true
+
+pub mark_of-w-requires-clause-can : goal.mark_of-w-requires-clause-can
+mark_of-w-requires-clause-can c = record {
+  item = c.requires.can.item;
+  parts = omega (arith, length-take (c.args.sp + c.parts_of.result - c.args.sp) (drop c.args.sp c.args.scratch.now), c.parts_of.ensures, c.requires.can.parts);
+  few = c.requires.can.few;
+  places = c.requires.can.places;
+  words = c.requires.can.words;
+  shared = c.requires.can.shared;
+  marks = take (parts_in c.args.item) c.requires.can.marks;
+  standing = (parts-split always c.requires.can.shared c.args.mem.now c.args.scratch.now c.args.sp (parts_in c.args.item) c.parts_of.result c.requires.can.marks c.parts_of.ensures c.requires.can.parts
+      c.requires.can.standing).0;
+  named = named-take (length c.args.names.now) (parts_in c.args.item) c.requires.can.marks c.requires.can.named;
+}
+
+pub returns-clause-puts : goal.returns-clause-puts
+returns-clause-puts c = λ k shared trees ms free held all.
+    let two = parts-split k shared c.args.mem.now c.args.scratch.now c.args.sp (parts_in c.args.item) c.parts_of.result ms c.parts_of.ensures c.requires.can.parts all in (
+      sym (c.is_big_item.ensures k shared (take (parts_in c.args.item) ms) two.0) ∙ c.if-is_big_item.false,
+      marks-put k c.args.room.now.top (c.mark_of-w.new.room.top - c.args.room.now.top) c.args.mem.now c.mark_of-w.new.mem shared c.mark_of-w.result
+          (drop (c.args.sp + c.parts_of.result) c.args.scratch.now) (drop c.put_word.result c.put_word.new.scratch)
+          (tree_where c.args.names.now shared trees c.args.item (all_of (take (parts_in c.args.item) ms))) (drop (parts_in c.args.item) ms) c.put_word.ensures.row
+          (c.mark_of-w.ensures.built k shared trees (take (parts_in c.args.item) ms) free held two.0) two.1,
+    )

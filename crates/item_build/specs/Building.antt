@@ -1,0 +1,122 @@
+-- Words of the terms that items are read as, and what building leaves of a memory.
+use Rattle.std.specs.Prelude.{◌≡◌, ℕ, ◌+◌, ◌-◌, ◌<◌, ◌≤◌, ◌⊎◌, ◌==◌, Bool, true, false, List, [], ◌∷◌, length, drop, slice_index, slice_index_or, Option, Some, None, Result, Ok, Err}
+use Rattle.std.specs.List.{list_any}
+use Rattle.word_mem.specs.declared.ranges.Room.{Room}
+use Rattle.plain_term.specs.declared.item.Item.{Item}
+use Rattle.plain_term.specs.Tree.{Tree}
+use Rattle.plain_term.specs.Tree.Tree.{Nil}
+use Rattle.term_tags.specs.declared.layouts.TheConstants.{MOST_PARTS}
+use Rattle.term_order.specs.Named.{is_named}
+use Rattle.term_words.specs.Role.{always}
+use Rattle.term_words.specs.Stands.{Stands}
+use Rattle.term_build.specs.Taken.{IsFree}
+use Rattle.term_build.specs.Grows.{Grows, Built}
+use Rattle.term_build.specs.Clear.{IsRoom, Uses}
+use Rattle.item_build.specs.declared.building.BuildStop.{BuildStop}
+use Rattle.item_build.specs.declared.putting.TheConstants.{WIDE}
+use Rattle.item_build.specs.Reading.{IsItem, is_big_item, item_words, parts_of}
+
+-- The held words stand for these trees, in order.
+pub record HeldStand (c : ℕ → ℕ → Bool) (shared : List (List ℕ)) (mem held : List ℕ) (trees : List Tree) : Type 0 where
+  pub each : (r : ℕ) → r < length held → Stands c shared mem (slice_index held r) (slice_index_or trees r Nil)
+
+-- So it is by some test without a role for the first n free words of the room, and all names of the trees are among the names.
+pub record HasHeld (names : List (List ℕ)) (n : ℕ) (room : Room) (mem held : List ℕ) : Type 0 where
+  pub test : ℕ → ℕ → Bool
+  pub shared : List (List ℕ)
+  pub trees : List Tree
+  pub free : IsFree test room.top (room.top + n)
+  pub standing : HeldStand test shared mem held trees
+  pub named : (r : ℕ) → r < length held → is_named (length names) (slice_index_or trees r Nil) ≡ true
+
+-- Some of the first n free words of the room are taken, and all words but these are as before.
+pub record UsesSome (n : ℕ) (old new : Room) (mem mem' : List ℕ) : Type 0 where
+  pub used : ℕ
+  pub few : used ≤ n
+  pub uses : Uses used old new mem mem'
+
+-- All words but the first n free words of the room are as before.
+pub record Spares (n : ℕ) (room : Room) (mem mem' : List ℕ) : Type 0 where
+  pub same_len : length mem' ≡ length mem
+  pub others : (q : ℕ) → (q < room.top) ⊎ (room.top + n ≤ q) → slice_index mem' q ≡ slice_index mem q
+
+-- What was built is what the items come to: a word that stands for their tree, where roles grew in the words that were
+-- taken, or the same reason for none.
+abbrev pub Builds : (ℕ → ℕ → Bool) → List (List ℕ) → (old new : Room) (mem mem' : List ℕ) → Result ℕ BuildStop → Result Tree BuildStop → Type 0
+Builds c shared old new mem mem' (Ok w) (Ok t) = Built c old.top (new.top - old.top) mem mem' shared w t
+Builds c shared old new mem mem' (Err e) (Err f) = e ≡ f
+Builds c shared old new mem mem' (Ok w) (Err f) = ⊥
+Builds c shared old new mem mem' (Err e) (Ok t) = ⊥
+
+-- The word stands for the tree; that of a wide term is no word of a term.
+abbrev pub IsMark : (ℕ → ℕ → Bool) → List (List ℕ) → List ℕ → ℕ → Option Tree → Type 0
+IsMark c shared mem w None = w ≡ WIDE
+IsMark c shared mem w (Some t) = Stands c shared mem w t
+
+-- So does each of the words, in order.
+unfoldable pub AreMarks : (ℕ → ℕ → Bool) → List (List ℕ) → List ℕ → List ℕ → List (Option Tree) → Type 0
+AreMarks c shared mem [] [] = Unit {0}
+AreMarks c shared mem (w ∷ ws) (m ∷ ms) = IsMark c shared mem w m × AreMarks c shared mem ws ms
+AreMarks c shared mem [] (m ∷ ms) = ⊥
+AreMarks c shared mem (w ∷ ws) [] = ⊥
+
+-- All names of the trees that are there are below n.
+abbrev pub MarksNamed : (n : ℕ) → List (Option Tree) → Type 0
+MarksNamed n [] = Unit {0}
+MarksNamed n (None ∷ ms) = MarksNamed n ms
+MarksNamed n (Some t ∷ ms) = (is_named n t ≡ true) × MarksNamed n ms
+
+-- Some word is that of a wide term.
+abbrev pub holds_wide : List ℕ → Bool
+holds_wide ws = list_any (λ w. w == WIDE) ws
+
+-- The word stands for a tree, or for a wide term.
+pub record HasMark (mem : List ℕ) (w : ℕ) : Type 0 where
+  pub shared : List (List ℕ)
+  pub mark : Option Tree
+  pub standing : IsMark always shared mem w mark
+
+-- So does each of the words.
+pub record HasMarks (mem ws : List ℕ) : Type 0 where
+  pub shared : List (List ℕ)
+  pub marks : List (Option Tree)
+  pub standing : AreMarks always shared mem ws marks
+
+-- An item can be put before terms, of which these are the words: its parts are among them, the room has its own words, and
+-- all names of the terms are below `names`.
+pub record CanPut (names held : ℕ) (room : Room) (mem ws : List ℕ) (x : Item) : Type 0 where
+  pub item : IsItem names held x
+  pub parts : parts_of x ≤ length ws
+  pub few : parts_of x ≤ MOST_PARTS
+  pub places : IsRoom room mem
+  pub words : room.top + item_words x ≤ room.end
+  pub shared : List (List ℕ)
+  pub marks : List (Option Tree)
+  pub standing : AreMarks always shared mem ws marks
+  pub named : MarksNamed names marks
+
+-- The item is no map with a big key, where these are the words of its parts.
+pub record HasNoBigKey (mem ws : List ℕ) (x : Item) : Type 0 where
+  pub each : (c : ℕ → ℕ → Bool) (shared : List (List ℕ)) (ms : List (Option Tree)) → AreMarks c shared mem ws ms → is_big_item shared x ms ≡ false
+
+-- Roles grew in the n words from place `top` on, and by them the word stands for the tree or for a wide term.
+pub record MarkBuilt (c : ℕ → ℕ → Bool) (top n : ℕ) (old new : List ℕ) (shared : List (List ℕ)) (w : ℕ) (m : Option Tree) : Type 0 where
+  pub test : ℕ → ℕ → Bool
+  pub grows : Grows c test top n old new
+  pub made : IsMark test shared new w m
+
+-- The same of words, in order.
+pub record MarksBuilt (c : ℕ → ℕ → Bool) (top n : ℕ) (old new : List ℕ) (shared : List (List ℕ)) (ws : List ℕ) (ms : List (Option Tree)) : Type 0 where
+  pub test : ℕ → ℕ → Bool
+  pub grows : Grows c test top n old new
+  pub made : AreMarks test shared new ws ms
+
+-- An item was put, and the words from this place on stand for these terms; or it has a big key.
+abbrev pub Puts : (ℕ → ℕ → Bool) → List (List ℕ) → (old new : Room) (mem mem' : List ℕ) → Option ℕ → List ℕ → (big : Bool) → List (Option Tree) → Type 0
+Puts c shared old new mem mem' None row big ms = big ≡ true
+Puts c shared old new mem mem' (Some sp) row big ms = (big ≡ false) × MarksBuilt c old.top (new.top - old.top) mem mem' shared (drop sp row) ms
+
+-- All items were put, and the word stands for the one term; or one has a big key.
+abbrev pub Reads : (ℕ → ℕ → Bool) → List (List ℕ) → (old new : Room) (mem mem' : List ℕ) → Option ℕ → (big : Bool) → List (Option Tree) → Type 0
+Reads c shared old new mem mem' None big ms = big ≡ true
+Reads c shared old new mem mem' (Some w) big ms = (big ≡ false) × MarksBuilt c old.top (new.top - old.top) mem mem' shared (w ∷ []) ms

@@ -1,0 +1,185 @@
+// One item of a written term.
+ghost use Rattle.std.specs.Prelude.{◌≡◌, ℕ, ◌+◌, ◌-◌, ◌*◌, ◌<◌, ◌≤◌, Bool, true, false, List, ◌∷◌, length, take, drop, Option, IfSome, IfNone};
+ghost use Rattle.plain_term.specs.Tree.{Tree, Trees, Pairs, pairs_len};
+ghost use Rattle.term_tags.specs.declared.layouts.TheConstants.{MOST_PARTS};
+ghost use Rattle.term_words.specs.Stands.{AllStand};
+ghost use Rattle.term_build.specs.Taken.{IsFree};
+ghost use Rattle.term_build.specs.Clear.{IsRoom};
+ghost use Rattle.term_maps.specs.Given.{CanMap, KeysWithin, PairsStand, pairs_in};
+ghost use Rattle.item_build.specs.Reading.{all_of, has_big_key as has_big, is_big_item as is_big, is_big_key as is_big_mark, item_words, map_of, parts_of as parts_in, read_item, tree_where, tree_with};
+ghost use Rattle.item_build.specs.Building.{AreMarks, CanPut, HasMark, HasMarks, HasNoBigKey, HeldStand, IsMark, MarkBuilt, Puts, UsesSome, holds_wide};
+
+use atom_names::AtomNames;
+use plain_term::Item;
+use term_build::{cons, integer, tuple};
+use term_maps::map_of_row;
+use term_tags::{atom, nil, pid};
+use term_walk::{Measured, measure};
+use word_mem::{Room, WordMem};
+
+/// What stands for a term in which a map has too many different keys. It is no word of a term.
+pub const WIDE: u64 = 0;
+
+// One item before the terms whose words stand from `sp` on: it takes the words of its parts off and puts its own on. Nothing
+// where it is a map with a key that is too big.
+pub fn put_item(
+    mem: &mut WordMem,
+    room: &mut Room,
+    names: &AtomNames,
+    scratch: &mut [u64],
+    sp: usize,
+    held: &[u64],
+    item: Item,
+) -> Option<usize>
+    requires within { sp ≤ length scratch.old }
+    requires some { 0 < sp + parts_in item }
+    requires can { CanPut (length names.now) (length held.now) room.old mem.old (drop sp scratch.old) item }
+    ensures puts { (c : ℕ → ℕ → Bool) (shared : List (List ℕ)) (trees : List Tree) (ms : List (Option Tree)) → IsFree c room.old.top (room.old.top + item_words item)
+        → HeldStand c shared mem.old held.now trees → AreMarks c shared mem.old (drop sp scratch.old) ms
+        → Puts c shared room.old room.new mem.old mem.new result scratch.new (is_big shared item (take (parts_in item) ms)) (read_item names.now shared trees item ms) }
+    ensures uses { IfSome result (λ r. UsesSome (item_words item) room.old room.new mem.old mem.new) }
+    ensures place { IfSome result (λ r. r < length scratch.new) }
+    ensures stopped { IfNone result ((room.new ≡ room.old) × (mem.new ≡ mem.old)) }
+    ensures row { length scratch.new ≡ length scratch.old }
+{
+    let rest = sp + parts_of(item);
+    let parts = &scratch[sp..rest];
+    if is_big_item(mem, item, parts) {
+        return None;
+    }
+    let w = mark_of(mem, room, names, held, item, parts);
+    Some(put_word(scratch, rest, w))
+}
+
+// How many terms an item takes off.
+fn parts_of(item: Item) -> usize
+    requires { parts_in item ≤ MOST_PARTS }
+    ensures { result ≡ parts_in item }
+{
+    match item {
+        Item::Cons => 2,
+        Item::Tuple(n) => n as usize,
+        Item::Map(n) => 2 * n as usize,
+        _ => 0,
+    }
+}
+
+// The word before those that stand from `sp` on.
+fn put_word(scratch: &mut [u64], sp: usize, w: u64) -> usize
+    requires some { 0 < sp }
+    requires within { sp ≤ length scratch.old }
+    ensures within { result < length scratch.new }
+    ensures row { drop result scratch.new ≡ w ∷ drop sp scratch.old }
+    ensures same_len { length scratch.new ≡ length scratch.old }
+{
+    scratch[sp - 1] = w;
+    sp - 1
+}
+
+// Whether the item is a map and one of its keys is beyond the walk limit.
+fn is_big_item(mem: &WordMem, item: Item, parts: &[u64]) -> bool
+    requires { HasMarks mem.now parts.now }
+    ensures { (c : ℕ → ℕ → Bool) (shared : List (List ℕ)) (ms : List (Option Tree)) → AreMarks c shared mem.now parts.now ms → result ≡ is_big shared item ms }
+{
+    match item {
+        Item::Map(_) => has_big_key(mem, parts),
+        _ => false,
+    }
+}
+
+// Of keys and values in turn, whether a key that is not wide is beyond the walk limit.
+fn has_big_key(mem: &WordMem, row: &[u64]) -> bool
+    requires { HasMarks mem.now row.now }
+    ensures { (c : ℕ → ℕ → Bool) (shared : List (List ℕ)) (ms : List (Option Tree)) → AreMarks c shared mem.now row.now ms → result ≡ has_big shared ms }
+{
+    for i in 0..row.len() / 2 {
+        if is_big_key(mem, row[2 * i]) {
+            return true;
+        }
+    }
+    false
+}
+
+// Whether the key is beyond the walk limit, and not wide.
+fn is_big_key(mem: &WordMem, w: u64) -> bool
+    requires { HasMark mem.now w }
+    ensures { (c : ℕ → ℕ → Bool) (shared : List (List ℕ)) (m : Option Tree) → IsMark c shared mem.now w m → result ≡ is_big_mark shared m }
+{
+    if w == WIDE {
+        return false;
+    }
+    match measure(mem, w) {
+        Measured::Within(_) => false,
+        Measured::Beyond => true,
+    }
+}
+
+// The word of an item: that of a wide term where one of its parts is.
+fn mark_of(
+    mem: &mut WordMem,
+    room: &mut Room,
+    names: &AtomNames,
+    held: &[u64],
+    item: Item,
+    parts: &[u64],
+) -> u64
+    requires can { CanPut (length names.now) (length held.now) room.old mem.old parts.now item }
+    requires exact { length parts.now ≡ parts_in item }
+    requires keys { HasNoBigKey mem.old parts.now item }
+    ensures built { (c : ℕ → ℕ → Bool) (shared : List (List ℕ)) (trees : List Tree) (ms : List (Option Tree)) → IsFree c room.old.top (room.old.top + item_words item)
+        → HeldStand c shared mem.old held.now trees → AreMarks c shared mem.old parts.now ms
+        → MarkBuilt c room.old.top (room.new.top - room.old.top) mem.old mem.new shared result (tree_where names.now shared trees item (all_of ms)) }
+    ensures uses { UsesSome (item_words item) room.old room.new mem.old mem.new }
+{
+    if parts.contains(&WIDE) {
+        return WIDE;
+    }
+    word_of(mem, room, names, held, item, parts)
+}
+
+// The word of an item, none of whose parts is wide.
+fn word_of(
+    mem: &mut WordMem,
+    room: &mut Room,
+    names: &AtomNames,
+    held: &[u64],
+    item: Item,
+    parts: &[u64],
+) -> u64
+    requires can { CanPut (length names.now) (length held.now) room.old mem.old parts.now item }
+    requires exact { length parts.now ≡ parts_in item }
+    requires keys { HasNoBigKey mem.old parts.now item }
+    requires narrow { holds_wide parts.now ≡ false }
+    ensures built { (c : ℕ → ℕ → Bool) (shared : List (List ℕ)) (trees : List Tree) (ts : Trees) → IsFree c room.old.top (room.old.top + item_words item)
+        → HeldStand c shared mem.old held.now trees → AllStand c shared mem.old parts.now ts
+        → MarkBuilt c room.old.top (room.new.top - room.old.top) mem.old mem.new shared result (tree_with names.now shared trees item ts) }
+    ensures uses { UsesSome (item_words item) room.old room.new mem.old mem.new }
+{
+    match item {
+        Item::Int(i) => integer(mem, room, i),
+        Item::Atom(k) => atom(k),
+        Item::Pid(n) => pid(n),
+        Item::Nil => nil(),
+        Item::Cons => cons(mem, room, parts[0], parts[1]),
+        Item::Tuple(_) => tuple(mem, room, parts),
+        Item::Map(_) => map_word(mem, room, names, parts),
+        Item::Held(r) => held[r as usize],
+        _ => unreachable!(),
+    }
+}
+
+// The map of the keys and values that stand in turn, none of which is wide or too big.
+fn map_word(mem: &mut WordMem, room: &mut Room, names: &AtomNames, parts: &[u64]) -> u64
+    requires places { IsRoom room.old mem.old }
+    requires pairs { CanMap names.now room.old mem.old (pairs_in parts.now) }
+    requires within { KeysWithin mem.old (pairs_in parts.now) }
+    ensures built { (c : ℕ → ℕ → Bool) (shared : List (List ℕ)) (given : Pairs) → IsFree c room.old.top (room.old.top + (4 + 2 * pairs_len given))
+        → PairsStand c shared mem.old (pairs_in parts.now) given
+        → MarkBuilt c room.old.top (room.new.top - room.old.top) mem.old mem.new shared result (map_of names.now shared given) }
+    ensures uses { UsesSome (4 + length parts.now) room.old room.new mem.old mem.new }
+{
+    match map_of_row(mem, room, names, parts) {
+        Some(w) => w,
+        None => WIDE,
+    }
+}
