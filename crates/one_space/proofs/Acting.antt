@@ -18,20 +18,21 @@ use Rattle.script_grammar.specs.Written.Terms.{end}
 use Rattle.script_grammar.specs.Names.{Parsed}
 use Rattle.term_tags.specs.Words.{pid_word}
 use Rattle.term_words.proofs.Makes.{stands-pid}
-use Rattle.plain_machine.specs.State.{Process, State, with_register}
-use Rattle.plain_machine.specs.Step.{in_process, pop_from, step}
+use Rattle.plain_machine.specs.State.{Process, State, with_process, with_register}
+use Rattle.plain_machine.specs.Step.{in_process, is_sweep, pop_from, settled, step}
 use Rattle.space_api.specs.Calls.{AreRising, Follows, Passes, said}
 use Rattle.space_api.specs.declared.space.Seat.{Seat}
 use Rattle.numbered_rows.specs.Numbers.{AreBelow, numbers}
 use Rattle.numbered_rows.proofs.Changing.{below-remove, numbers-set, rising-remove}
 use Rattle.numbered_rows.proofs.Rising.{number-read}
 use Rattle.one_space.specs.Halves.{HalvesStand, HoldsTree, IsLaid, ProcsStand, depths, end_of}
-use Rattle.one_space.specs.One.{Holds, IsCounted, OneStands, Sits, number_in, numbers_of}
+use Rattle.one_space.specs.One.{HaveMade, Holds, IsCounted, OneStands, Sits, number_in, numbers_of}
 use Rattle.one_space.specs.Doing.{DoesAlways, DoesAtOnce}
 use Rattle.one_space.specs.declared.halves.Halves.{Halves}
 use Rattle.one_space.specs.declared.one.One.{One}
 use Rattle.one_space.specs.declared.table.Proc.{Proc}
 use Rattle.one_space.proofs.Changing.{no_process, procs-remove}
+use Rattle.one_space.proofs.Counting.{made-remove, made-row}
 use Rattle.one_space.proofs.Rooms.{follows-some, passes-some}
 use Rattle.one_space.proofs.Seated.{found-there, number-there, removed-there, set-there, settled-stands}
 use Rattle.one_space.proofs.Seats.{is_other}
@@ -49,8 +50,8 @@ after b h = record { halves = h; row = b.row; next = b.next; named = b.named; ca
 -- The numbers of a space, where the rows have the same.
 pub counts-same : (b b2 : One) → IsCounted b → IsLaid b2.halves → numbers_of b2 ≡ numbers_of b → length b2.halves.procs.items ≡ length b.halves.procs.items
     → vec_capacity b2.halves.procs ≡ vec_capacity b.halves.procs
-    → vec_len b2.row ≡ vec_len b.row → b2.next ≡ b.next → b.calls ≤ b2.calls → b2.halves.sweeps ≡ b.halves.sweeps → IsCounted b2
-counts-same b b2 c laid same count capacity row next calls sweeps =
+    → vec_len b2.row ≡ vec_len b.row → b2.next ≡ b.next → b.calls ≤ b2.calls → b2.halves.sweeps ≡ b.halves.sweeps → HaveMade b2.calls b2.halves.procs.items → IsCounted b2
+counts-same b b2 c laid same count capacity row next calls sweeps made =
     let P : List ℕ → Type 0 = λ z. AreBelow b.next z in
     let Q : ℕ → Type 0 = λ z. AreBelow z (numbers_of b2) in
     record {
@@ -63,6 +64,7 @@ counts-same b b2 c laid same count capacity row next calls sweeps =
       second = omega (arith, c.second, next);
       numbered = omega (arith, c.numbered, next, calls);
       counted = omega (arith, c.counted, calls, sweeps);
+      made = made;
     }
 
 -- The half in use lies in the memory.
@@ -86,38 +88,31 @@ seat-below [] i limit d less b = absurd (omega arith)
 seat-below (r ∷ rows) zero limit d less b = b.0
 seat-below (r ∷ rows) (suc i) limit d less b = seat-below rows i limit d (omega arith) b.1
 
--- `self`.
-module _ (b : One) (holds : Holds b) (seat : Seat) (x : Sits b seat) (r : Reg) (p : Proc) (is : p ≡ get_or b.halves.procs.items seat.row p) (w : ℕ) (word : w ≡ pid_word seat.pid)
-    (small : seat.pid < 2 ^ 41) where
-  own-passes : (s : State) (terms : Terms) (names : List (List ℕ)) → OneStands b s
-      → Passes (step s (said (OfProcess seat.pid (verb.Own r)) terms names))
-      (OneStands (after b (laid_out b.halves b.halves.mem b.halves.top b.halves.low (with_item b.halves.procs seat.row (with_word p r.0 w)))))
-  own-passes s terms names o =
-      let b2 : One = after b (laid_out b.halves b.halves.mem b.halves.top b.halves.low (with_item b.halves.procs seat.row (with_word p r.0 w))) in
+-- A word is put in a register.
+module _ (b : One) (holds : Holds b) (seat : Seat) (x : Sits b seat) (r : Reg) (p : Proc) (is : p ≡ get_or b.halves.procs.items seat.row p) (w : ℕ) where
+  -- The space after it.
+  abbrev pub worded : One
+  worded = after b (laid_out b.halves b.halves.mem b.halves.top b.halves.low (with_item b.halves.procs seat.row (with_word p r.0 w)))
+
+  pub word-stands : (s : State) (o : OneStands b s) (t : Tree) → HoldsTree o.processes.test s.shared b.halves.mem b.named w t → (line : Parsed) → is_sweep line.command ≡ false
+      → OneStands worded (settled line (with_process (with_register r.0 t (get_or s.processes seat.row no_process)) s))
+  word-stands s o t held line other =
       let q : Process = get_or s.processes seat.row no_process in
-      let line : Parsed = said (OfProcess seat.pid (verb.Own r)) terms names in
       let number : q.number ≡ seat.pid = number-there b s o holds.counts seat x in
-      let held : HoldsTree o.processes.test s.shared b.halves.mem b.named w (Pid q.number) = record {
-        standing = stands-pid o.processes.test s.shared b.halves.mem w q.number (omega (arith, number, small)) (word ∙ ap pid_word (sym number));
-        modest = record { plain = tt; deep = omega arith; few = omega arith };
-      } in
-      let stands : HalvesStand b.named b2.halves s.shared (set s.processes seat.row (with_register r.0 (Pid q.number) q)) = record {
+      let stands : HalvesStand b.named worded.halves s.shared (set s.processes seat.row (with_register r.0 t q)) = record {
         test = o.processes.test;
         single = o.processes.single;
         objects = o.processes.objects;
-        processes = register-set o.processes.test s.shared b.halves.mem b.halves.low (end_of b.halves) b.named b.halves.procs.items s.processes seat.row p x.within is o.processes.processes r.0 w
-            (Pid q.number) held;
+        processes = register-set o.processes.test s.shared b.halves.mem b.halves.low (end_of b.halves) b.named b.halves.procs.items s.processes seat.row p x.within is o.processes.processes r.0 w t held;
       } in
-      let P : Option Process → Type 0 = λ z. Passes (in_process z s line (verb.Own r)) (OneStands b2) in
-      let Q : List Process → Type 0 = λ z. HalvesStand b.named b2.halves s.shared z in
-      subst P (sym (found-there b s o holds.counts seat x))
-      (settled-stands b b2 s line (with_register r.0 (Pid q.number) q) o (subst Q (sym (set-there b s o holds.counts seat x (with_register r.0 (Pid q.number) q) number)) stands) refl refl)
+      let Q : List Process → Type 0 = λ z. HalvesStand b.named worded.halves s.shared z in
+      settled-stands b worded s line (with_register r.0 t q) o (subst Q (sym (set-there b s o holds.counts seat x (with_register r.0 t q) number)) stands) refl (sym other)
 
-  own-counts : IsCounted (after b (laid_out b.halves b.halves.mem b.halves.top b.halves.low (with_item b.halves.procs seat.row (with_word p r.0 w))))
-  own-counts =
+  pub word-counts : IsCounted worded
+  word-counts =
       let same : depths (set b.halves.procs.items seat.row (with_word p r.0 w)) ≡ depths b.halves.procs.items =
       omega (arith, depths-row b.halves.procs.items seat.row (with_word p r.0 w) p x.within is) in
-      counts-same b (after b (laid_out b.halves b.halves.mem b.halves.top b.halves.low (with_item b.halves.procs seat.row (with_word p r.0 w)))) holds.counts
+      counts-same b worded holds.counts
       (record {
         even = holds.counts.laid.even;
         side = holds.counts.laid.side;
@@ -126,15 +121,28 @@ module _ (b : One) (holds : Holds b) (seat : Seat) (x : Sits b seat) (r : Reg) (
         places = omega (arith, holds.counts.laid.places, same);
       })
       (numbers-row b.halves.procs.items seat.row (with_word p r.0 w) p x.within is refl) (length-set b.halves.procs.items seat.row (with_word p r.0 w)) refl refl refl (omega arith) refl
+      (made-row b.calls (b.calls + 1) b.halves.procs.items seat.row (with_word p r.0 w) p (omega arith) x.within is refl holds.counts.made)
 
-  pub own-does : DoesAlways (OfProcess seat.pid (verb.Own r)) b (after b (laid_out b.halves b.halves.mem b.halves.top b.halves.low (with_item b.halves.procs seat.row (with_word p r.0 w))))
-  own-does = record {
-    holds = holds-passed (after b (laid_out b.halves b.halves.mem b.halves.top b.halves.low (with_item b.halves.procs seat.row (with_word p r.0 w)))) (OfProcess seat.pid (verb.Own r)) holds.state
-        own-counts
-        (own-passes holds.state end [] holds.stands);
-    passes = own-passes;
-    books = record { same_words = refl; one_call = omega arith; few_names = omega arith };
-  }
+  -- `self`.
+  module _ (word : w ≡ pid_word seat.pid) (small : seat.pid < 2 ^ 41) where
+    own-passes : (s : State) (terms : Terms) (names : List (List ℕ)) → OneStands b s → Passes (step s (said (OfProcess seat.pid (verb.Own r)) terms names)) (OneStands worded)
+    own-passes s terms names o =
+        let q : Process = get_or s.processes seat.row no_process in
+        let line : Parsed = said (OfProcess seat.pid (verb.Own r)) terms names in
+        let number : q.number ≡ seat.pid = number-there b s o holds.counts seat x in
+        let held : HoldsTree o.processes.test s.shared b.halves.mem b.named w (Pid q.number) = record {
+          standing = stands-pid o.processes.test s.shared b.halves.mem w q.number (omega (arith, number, small)) (word ∙ ap pid_word (sym number));
+          names = refl;
+        } in
+        let P : Option Process → Type 0 = λ z. Passes (in_process z s line (verb.Own r)) (OneStands worded) in
+        subst P (sym (found-there b s o holds.counts seat x)) (word-stands s o (Pid q.number) held line refl)
+
+    pub own-does : DoesAlways (OfProcess seat.pid (verb.Own r)) b worded
+    own-does = record {
+      holds = holds-passed worded (OfProcess seat.pid (verb.Own r)) holds.state word-counts (own-passes holds.state end [] holds.stands);
+      passes = own-passes;
+      books = record { same_words = refl; one_call = omega arith; few_names = omega arith };
+    }
 
 -- `exit`.
 module _ (b : One) (holds : Holds b) (seat : Seat) (x : Sits b seat) (v : Vec Proc Global) (items : v.items ≡ remove b.halves.procs.items seat.row)
@@ -186,6 +194,8 @@ module _ (b : One) (holds : Holds b) (seat : Seat) (x : Sits b seat) (v : Vec Pr
         second = holds.counts.second;
         numbered = omega (arith, holds.counts.numbered);
         counted = omega (arith, holds.counts.counted);
+        made = let S : List Proc → Type 0 = λ z. HaveMade (b.calls + 1) z in
+            subst S (sym items) (made-remove b.calls (b.calls + 1) (omega arith) b.halves.procs.items seat.row holds.counts.made);
       }
 
   pub exit-does : DoesAlways (OfProcess seat.pid verb.Exit) b (after b (laid_out b.halves b.halves.mem b.halves.top b.halves.low v))
@@ -256,6 +266,7 @@ module _ (b : One) (holds : Holds b) (seat : Seat) (x : Sits b seat) (r : Reg) (
         })
         (numbers-row b.halves.procs.items seat.row (with_stack (with_word p r.0 w) u d) p x.within is refl) (length-set b.halves.procs.items seat.row (with_stack (with_word p r.0 w) u d)) refl refl
         refl (omega arith) refl
+        (made-row b.calls (b.calls + 1) b.halves.procs.items seat.row (with_stack (with_word p r.0 w) u d) p (omega arith) x.within is refl holds.counts.made)
 
     pub pop-does : DoesAtOnce {A = Unit {0}} (OfProcess seat.pid (verb.Pop r)) b
         (after b (laid_out b.halves b.halves.mem b.halves.top b.halves.low (with_item b.halves.procs seat.row (with_stack (with_word p r.0 w) u d)))) (Ok tt)

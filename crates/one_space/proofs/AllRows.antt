@@ -30,6 +30,7 @@ row-wider : (p : Plan) (start mem : List ℕ) (low limit low2 limit2 : ℕ) (old
 row-wider p start mem low limit low2 limit2 old new down up r = record {
   number = r.number;
   depth = r.depth;
+  refs = r.refs;
   registers = r.registers;
   places = stack-wider mem low limit low2 limit2 new.stack new.depth down up r.places;
   values_are = r.values_are;
@@ -118,6 +119,7 @@ module _ (p : Plan) (old : List ℕ) (mv0 : Moving) (k : Marks) (low limit : ℕ
         row-wider p old mem2 to (to + 2 * row.depth) to end row new (omega arith) (omega (arith, down, row-fits, l.at)) (record {
           number = r.is.number;
           depth = r.is.depth;
+          refs = r.is.refs;
           registers = r.is.registers;
           places = r.is.places;
           values_are = subst P (values-kept old mem low limit row.stack row.depth kept places) r.is.values_are;

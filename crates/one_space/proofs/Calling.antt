@@ -1,12 +1,6 @@
 -- The calls of the space, from those of what it holds.
 use Rattle.std.proofs.Common.{◌≡◌, ℕ, ◌<◌, ◌≤◌, ◌%◌, ◌/◌, ◌||◌, Bool, true, false, nat_lt, List, [], ◌∷◌, length, get_or, Option, Some, Result, Ok, Err, replicate, refl, sym, ◌∙◌, ap, subst, arith, inl}
 use Rattle.std.specs.Vec.{vec_len, vec_capacity}
-use Rattle.std.proofs.lemmas.Bool.Decides.{nat_tests}
-use Rattle.line_io.specs.Sink.{Grew, GrewInPart}
-use Rattle.plain_term.specs.Beyond.{is_beyond}
-use Rattle.plain_term.specs.Measures.{nodes, depth}
-use Rattle.plain_term.specs.Text.{text}
-use Rattle.plain_term.specs.Tree.{Tree}
 use Rattle.script_grammar.specs.declared.command.Command.{Command}
 use Rattle.script_grammar.specs.declared.command.Command.TheVariants.{Process as OfProcess, System}
 use Rattle.script_grammar.specs.declared.command.Verb.TheVariants as verb
@@ -14,26 +8,20 @@ use Rattle.script_grammar.specs.declared.command.SysVerb.TheVariants as sysverb
 use Rattle.script_grammar.specs.declared.command.Depth.{Depth}
 use Rattle.script_grammar.specs.declared.refusal.Refusal.{Refusal}
 use Rattle.script_grammar.specs.Written.{Terms}
-use Rattle.plain_machine.specs.State.{HasNames, Process, State, fresh_process, first_state, process_of, register}
+use Rattle.plain_machine.specs.State.{HasNames, Process, State, fresh_process, first_state}
 use Rattle.plain_machine.specs.May.{may_of_tight}
-use Rattle.plain_machine.specs.Step.{in_process, step, tells, unless_beyond}
+use Rattle.plain_machine.specs.Step.{in_process, step}
 use Rattle.plain_machine.proofs.Commands.{TermsOf}
-use Rattle.space_api.specs.Calls.{AreRising, Becomes, Follows, Passes, Prints, Properly, said}
+use Rattle.space_api.specs.Calls.{AreRising, Becomes, Follows, Passes, Properly, said}
 use Rattle.space_api.specs.declared.space.Seat.{Seat}
-use Rattle.space_api.specs.declared.space.Stop.TheVariants.{Fault}
 use Rattle.space_api.proofs.Proper.{becomes-proper, follows-proper, passes-proper}
-use Rattle.term_words.specs.Role.{always}
-use Rattle.term_words.proofs.Rooms.{weaken}
-use Rattle.item_build.specs.Modest.{IsModest}
-use Rattle.item_build.proofs.Terms.{modest-more}
 use Rattle.numbered_rows.specs.Numbers.{AreBelow, numbers}
-use Rattle.one_space.specs.Halves.{HoldsTree, IsLaid, ProcsStand, depths, end_of}
-use Rattle.one_space.specs.One.{Holds, IsCounted, OneStands, Sits, number_in, numbers_of, words_of}
+use Rattle.one_space.specs.Halves.{IsLaid, ProcsStand, depths, end_of}
+use Rattle.one_space.specs.One.{HaveMade, Holds, IsCounted, OneStands, Sits, number_in, numbers_of, words_of}
 use Rattle.one_space.specs.Doing.{Sweeps}
-use Rattle.one_space.specs.Print.{Printable}
 use Rattle.one_space.specs.declared.one.One.{One}
 use Rattle.one_space.specs.declared.table.Proc.{Proc}
-use Rattle.one_space.proofs.Changing.{fresh-stands, held-at, no_process, procs-at}
+use Rattle.one_space.proofs.Changing.{fresh-stands}
 use Rattle.one_space.proofs.Seated.{found-there}
 
 -- A call of what the space holds is one of the space, all of whose trees are proper.
@@ -68,63 +56,11 @@ sweep-passes b c terms names s w o =
     let n = w.stands s o in
     record { processes = n.processes; next = n.next; swept = n.swept; shared = n.shared; areas = n.areas }
 
--- The process of a seat.
-abbrev pub process_there : State → Seat → Process
-process_there s seat = get_or s.processes seat.row no_process
-
--- A term that a register holds can be printed.
-module _ (b : One) (s : State) (o : OneStands b s) (seat : Seat) (sits : Sits b seat) (count : ℕ) (more : b.named ≤ count) (r : ℕ) (small : r < 16) (d : Proc) where
-  holds-there : HoldsTree o.processes.test s.shared b.halves.mem b.named (get_or (get_or b.halves.procs.items seat.row d).regs r 0) (register r (process_there s seat))
-  holds-there =
-      let p = procs-at o.processes.test s.shared b.halves.mem b.named b.halves.low (end_of b.halves) b.halves.procs.items s.processes seat.row d no_process sits.within o.processes.processes in
-      held-at o.processes.test s.shared b.halves.mem b.named (get_or b.halves.procs.items seat.row d).regs (process_there s seat).registers r (omega (arith, small, p.count)) p.registers
-
-  pub modest-there : IsModest count 256 (register r (process_there s seat))
-  modest-there = modest-more b.named count 256 (register r (process_there s seat)) more holds-there.modest
-
-  pub printable-there : Printable count 256 b.halves.mem (get_or (get_or b.halves.procs.items seat.row d).regs r 0) (register r (process_there s seat))
-  printable-there =
-      let P : List (List ℕ) → Type 0 = λ x. HoldsTree o.processes.test x b.halves.mem b.named (get_or (get_or b.halves.procs.items seat.row d).regs r 0) (register r (process_there s seat)) in
-      let h = subst P o.shared holds-there in
-      record {
-        standing = (weaken o.processes.test always b.halves.mem (λ a k e. refl)).each [] (get_or (get_or b.halves.procs.items seat.row d).regs r 0) (register r (process_there s seat)) h.standing;
-        modest = modest-there;
-      }
-
-not-beyond : (n : ℕ) (shared : List (List ℕ)) (t : Tree) → shared ≡ [] → IsModest n 256 t → is_beyond shared t ≡ false
-not-beyond n shared t none m =
-    let P : List (List ℕ) → Type 0 = λ x. is_beyond x t ≡ false in
-    let few : nodes [] t ≤ 4096 = m.few in
-    let deep : depth t ≤ 256 = m.deep in
-    subst P (sym none) (within (nodes [] t) (depth t) few deep)
-  where
-    within : (a b : ℕ) → a ≤ 4096 → b ≤ 256 → (nat_lt 1048576 a || nat_lt 1024 b) ≡ false
-    within a b x y = grind (arith, nat_tests)
-
-module _ {K : Type 0} (wrote : K → List ℕ → Type 0) (old new : K) (s : State) (pid r n : ℕ) (terms : Terms) (names : List (List ℕ)) (q : Process) (none : s.shared ≡ [])
-    (found : process_of pid s ≡ Some q) (m : IsModest n 256 (register r q)) where
-  pub prints-all : Grew wrote old new (text names [] (register r q)) → Prints {A = Unit {0}} {K = K} (step s (said (OfProcess pid (verb.Print (record { 0 = r }))) terms names)) wrote old new (Ok tt)
-  prints-all g =
-      let P : Option Process → Type 0 = λ o. Prints {A = Unit {0}} {K = K} (in_process o s (said (OfProcess pid (verb.Print (record { 0 = r }))) terms names) (verb.Print (record { 0 = r }))) wrote
-      old new (Ok tt) in
-      let Q : Bool → Type 0 = λ x. Prints {A = Unit {0}} {K = K} (tells s (unless_beyond x (text names s.shared (register r q)))) wrote old new (Ok tt) in
-      let R : List (List ℕ) → Type 0 = λ x. Grew wrote old new (text names x (register r q)) in
-      subst P (sym found) (subst Q (sym (not-beyond n s.shared (register r q) none m)) (subst R (sym none) g))
-
-  pub prints-part : GrewInPart wrote old new (text names [] (register r q))
-      → Prints {A = Unit {0}} {K = K} (step s (said (OfProcess pid (verb.Print (record { 0 = r }))) terms names)) wrote old new (Err Fault)
-  prints-part g =
-      let P : Option Process → Type 0 = λ o. Prints {A = Unit {0}} {K = K} (in_process o s (said (OfProcess pid (verb.Print (record { 0 = r }))) terms names) (verb.Print (record { 0 = r }))) wrote
-      old new (Err Fault) in
-      let Q : Bool → Type 0 = λ x. Prints {A = Unit {0}} {K = K} (tells s (unless_beyond x (text names s.shared (register r q)))) wrote old new (Err Fault) in
-      let R : List (List ℕ) → Type 0 = λ x. GrewInPart wrote old new (text names x (register r q)) in
-      subst P (sym found) (subst Q (sym (not-beyond n s.shared (register r q) none m)) (subst R (sym none) g))
-
 -- The first space.
 abbrev never : ℕ → ℕ → Bool
 never a k = false
 
-module _ (b : One) (p : Proc) (one : b.halves.procs.items ≡ p ∷ []) (number : p.number ≡ 1) (regs : p.regs ≡ replicate 16 59) (flat : p.depth ≡ 0) (next : b.next ≡ 2) (swept : b.swept ≡ false) where
+module _ (b : One) (p : Proc) (one : b.halves.procs.items ≡ p ∷ []) (number : p.number ≡ 1) (regs : p.regs ≡ replicate 16 59) (flat : p.depth ≡ 0) (none : p.refs ≡ 0) (next : b.next ≡ 2) (swept : b.swept ≡ false) where
   pub first-stands : OneStands b first_state
   first-stands =
       let P : List Proc → Type 0 = λ x. ProcsStand never [] b.halves.mem b.halves.low (end_of b.halves) b.named x (fresh_process 1 ∷ []) in
@@ -133,7 +69,7 @@ module _ (b : One) (p : Proc) (one : b.halves.procs.items ≡ p ∷ []) (number 
           test = never;
           single = record { one = λ a j k x y. absurd (cc) };
           objects = λ a k e. absurd (cc);
-          processes = subst P (sym one) (fresh-stands never [] b.halves.mem b.named b.halves.low (end_of b.halves) p 1 number regs flat, tt);
+          processes = subst P (sym one) (fresh-stands never [] b.halves.mem b.named b.halves.low (end_of b.halves) p 1 number regs flat none, tt);
         };
         next = sym next;
         swept = sym swept;
@@ -164,6 +100,7 @@ module _ (b : One) (p : Proc) (one : b.halves.procs.items ≡ p ∷ []) (number 
         let P : List Proc → Type 0 = λ x. AreRising 0 (numbers number_in x) in
         let Q : List Proc → Type 0 = λ x. AreBelow 2 (numbers number_in x) in
         let R : ℕ → Type 0 = λ x. AreBelow x (numbers_of b) in
+        let S : List Proc → Type 0 = λ x. HaveMade b.calls x in
         record {
           counts = record {
             laid = laid-first;
@@ -175,6 +112,7 @@ module _ (b : One) (p : Proc) (one : b.halves.procs.items ≡ p ∷ []) (number 
             second = omega (arith, next);
             numbered = omega (arith, next);
             counted = omega (arith, sweeps);
+            made = subst S (sym one) (omega (arith, none), tt);
           };
           state = first_state;
           stands = first-stands;

@@ -32,15 +32,15 @@ module _ (c : ℕ → ℕ → Bool) (shared : List (List ℕ)) (mem : List ℕ) 
   held-set (v ∷ ws) (u ∷ ts) (suc r) w t h x = (h.0, held-set ws ts r w t h.1 x)
 
   nil-holds : HoldsTree c shared mem named 59 Nil
-  nil-holds = record { standing = stands-nil c shared mem 59 refl; modest = record { plain = tt; deep = omega arith; few = omega arith } }
+  nil-holds = record { standing = stands-nil c shared mem 59 refl; names = refl }
 
   nils-hold : (n : ℕ) → HoldTrees c shared mem named (replicate n 59) (replicate n Nil)
   nils-hold zero = tt
   nils-hold (suc n) = (nil-holds, nils-hold n)
 
   module _ (low limit : ℕ) where
-    pub fresh-stands : (p : Proc) (n : ℕ) → p.number ≡ n → p.regs ≡ replicate 16 59 → p.depth ≡ 0 → ProcStands c shared mem low limit named p (fresh_process n)
-    fresh-stands p n is regs depth =
+    pub fresh-stands : (p : Proc) (n : ℕ) → p.number ≡ n → p.regs ≡ replicate 16 59 → p.depth ≡ 0 → p.refs ≡ 0 → ProcStands c shared mem low limit named p (fresh_process n)
+    fresh-stands p n is regs depth none =
         let P : ℕ → Type 0 = λ z. IsStack mem low limit p.stack z in
         let Q : ℕ → Type 0 = λ z. HoldTrees c shared mem named (values mem p.stack z) [] in
         let R : List ℕ → Type 0 = λ z. HoldTrees c shared mem named z (replicate 16 Nil) in
@@ -51,7 +51,7 @@ module _ (c : ℕ → ℕ → Bool) (shared : List (List ℕ)) (mem : List ℕ) 
           places = subst P (sym depth) tt;
           stack = subst Q (sym depth) tt;
           queue = refl;
-          refs = refl;
+          refs = sym none;
         }
 
     pub procs-at : (ps : List Proc) (qs : List Process) (i : ℕ) (d : Proc) (e : Process) → i < length ps → ProcsStand c shared mem low limit named ps qs

@@ -64,19 +64,19 @@ pub same-rows : (p : Plan) (start mem : List ℕ) (low limit : ℕ) (olds news :
 same-rows p start mem low limit [] [] a = tt
 same-rows p start mem low limit [] (n ∷ ns) a = absurd a
 same-rows p start mem low limit (o ∷ os) [] a = absurd a
-same-rows p start mem low limit (o ∷ os) (n ∷ ns) (first, rest) = (first.number, (first.depth, same-rows p start mem low limit os ns rest))
+same-rows p start mem low limit (o ∷ os) (n ∷ ns) (first, rest) = (first.number, (first.depth, (first.refs, same-rows p start mem low limit os ns rest)))
 
 pub same-depths : (olds news : List Proc) → AreSameRows olds news → depths news ≡ depths olds
 same-depths [] [] a = refl
 same-depths [] (n ∷ ns) a = absurd a
 same-depths (o ∷ os) [] a = absurd a
-same-depths (o ∷ os) (n ∷ ns) (number, (depth, rest)) = omega (arith, depth, same-depths os ns rest, sum_by-cons (λ x. x.depth) o os, sum_by-cons (λ x. x.depth) n ns)
+same-depths (o ∷ os) (n ∷ ns) (number, (depth, (refs, rest))) = omega (arith, depth, same-depths os ns rest, sum_by-cons (λ x. x.depth) o os, sum_by-cons (λ x. x.depth) n ns)
 
 pub row-count : (olds news : List Proc) → AreSameRows olds news → length news ≡ length olds
 row-count [] [] a = refl
 row-count [] (n ∷ ns) a = absurd a
 row-count (o ∷ os) [] a = absurd a
-row-count (o ∷ os) (n ∷ ns) (number, (depth, rest)) = ap suc (row-count os ns rest)
+row-count (o ∷ os) (n ∷ ns) (number, (depth, (refs, rest))) = ap suc (row-count os ns rest)
 
 image-count : (p : Plan) (m vs xs : List ℕ) → AllImages p m vs xs → length xs ≡ length vs
 unfolding AllImages
@@ -96,7 +96,7 @@ module _ (p : Plan) (c d : ℕ → ℕ → Bool) (shared : List (List ℕ)) (sta
   trees-held (w ∷ ws) [] ts r a h = absurd a
   trees-held (w ∷ ws) (x ∷ xs) [] r a h = absurd h
   trees-held (w ∷ ws) (x ∷ xs) (t ∷ ts) r (i, a) (first, rest) =
-      (record { standing = stand w x t (r w (inl refl)) i first.standing; modest = first.modest }, trees-held ws xs ts (λ v j. r v (inr j)) a rest)
+      (record { standing = stand w x t (r w (inl refl)) i first.standing; names = first.names }, trees-held ws xs ts (λ v j. r v (inr j)) a rest)
 
   procs-stand : (low limit low2 limit2 : ℕ) (olds news : List Proc) (qs : List Process) → ((w : ℕ) → In w (roots_in start olds) → Reached p w)
       → AreMovedRows p start mem low2 limit2 olds news → ProcsStand c shared start low limit named olds qs → ProcsStand d shared mem low2 limit2 named news qs
@@ -113,7 +113,7 @@ module _ (p : Plan) (c d : ℕ → ℕ → Bool) (shared : List (List ℕ)) (sta
       places = moved.places;
       stack = trees-held (values start o.stack o.depth) (values mem n.stack n.depth) q.stack (λ w i. r w (values-in start o os w i)) moved.values_are first.stack;
       queue = first.queue;
-      refs = first.refs;
+      refs = first.refs ∙ sym moved.refs;
     },
     procs-stand low limit low2 limit2 os ns qs (λ w i. r w (others-in start o os w i)) a s,
   )

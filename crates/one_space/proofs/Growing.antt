@@ -2,7 +2,7 @@
 use Rattle.std.proofs.Common.{Vec, ◌≡◌, ℕ, ◌+◌, ◌-◌, ◌/◌, ◌<◌, ◌≤◌, Bool, true, false, nat_le, List, [], ◌∷◌, ◌++◌, length, get_or, set, replicate, Option, Some, Result, Ok, Err, refl, sym, ◌∙◌, ap, subst, arith, inl, inr}
 use Rattle.std.specs.Vec.{vec_len, vec_capacity, with_item}
 use Rattle.std.specs.declared.alloc.Global.{Global}
-use Rattle.std.proofs.lemmas.Bool.{leb-true}
+use Rattle.std.proofs.lemmas.Bool.{leb-false, leb-true}
 use Rattle.std.proofs.lemmas.Bool.Decides.{nat_tests}
 use Rattle.std.proofs.lemmas.List.{length-append, length-set}
 use Rattle.std.proofs.lemmas.List.Sums.{sum_by_push}
@@ -27,13 +27,14 @@ use Rattle.numbered_rows.specs.Numbers.{AreBelow, numbers}
 use Rattle.numbered_rows.proofs.Changing.{below-push, rising-push}
 use Rattle.one_space.specs.Halves.{HalvesStand, ProcsStand, depths, end_of, free_in}
 use Rattle.one_space.specs.Collecting.{LooksFor, MakesRoom}
-use Rattle.one_space.specs.One.{Holds, IsCounted, OneStands, Sits, number_in, words_of}
-use Rattle.one_space.specs.Doing.{Does}
+use Rattle.one_space.specs.One.{HaveMade, Holds, IsCounted, OneStands, Sits, number_in, words_of}
+use Rattle.one_space.specs.Doing.{Books, Does}
 use Rattle.one_space.specs.declared.halves.Halves.{Halves}
 use Rattle.one_space.specs.declared.one.One.{One}
 use Rattle.one_space.specs.declared.table.Proc.{Proc}
 use Rattle.one_space.proofs.Acting.{after, counts-same, depths-row, half-within, laid_out, numbers-row}
 use Rattle.one_space.proofs.Changing.{fresh-stands, no_process, procs-push}
+use Rattle.one_space.proofs.Counting.{made-push, made-row}
 use Rattle.one_space.proofs.Ended.{row-count}
 use Rattle.one_space.proofs.Rooms.{becomes-some, counts-roomed, no-space, roomed, sits-roomed, stands-roomed, stays-roomed}
 use Rattle.one_space.proofs.Seated.{count-there, found-there, number-there, set-there, settled-stands}
@@ -62,21 +63,29 @@ module _ (b : One) (holds : Holds b) (n : ℕ) (h : Halves) (ok : Bool) (room : 
   pub sits-there : (seat : Seat) → Sits b seat → Sits (roomed b h) seat
   sits-there seat x = sits-roomed b h seat (stays-roomed n b.halves h ok room) x
 
-  -- There is no space.
-  module _ (A : Type 0) (c : Command) (g : ℕ) (lacking : ok ≡ false) (some : 0 < g)
-      (asks : (s : State) (terms : Terms) (names : List (List ℕ)) → OneStands b s
-      → (grow s (said c terms names) ≡ g) × (LooksFor s g n × (gets_to_space c (step s (said c terms names)) ≡ true))) where
-    refused-becomes : (s : State) (terms : Terms) (names : List (List ℕ)) → OneStands b s
-        → Becomes {A = A} may_of_tight (words_of b) s (said c terms names) (Err (refusal.NoSpace g)) (OneStands (roomed b h))
-    refused-becomes s terms names o =
-        let a = asks s terms names o in
-        no-space A (words_of b) (roomed b h) s (said c terms names) g (roomed-there s o) a.0 (room.tight b.named s g o.processes a.1.0 lacking) some a.1.1
+  pub holds-there : Holds (roomed b h)
+  holds-there = record { counts = counts-there; state = holds.state; stands = roomed-there holds.state holds.stands }
 
-    pub refused-does : Does {A = A} c b (roomed b h) (Err (refusal.NoSpace g))
-    refused-does = record {
-      holds = holds-become {A = A} (words_of b) (roomed b h) holds.state (said c end []) (Err (refusal.NoSpace g)) counts-there (refused-becomes holds.state end [] holds.stands);
-      becomes = refused-becomes;
-      books = record { same_words = (stays-roomed n b.halves h ok room).same_len; one_call = omega arith; few_names = omega arith };
+  pub books-there : Books b (roomed b h) b.named
+  books-there = record { same_words = (stays-roomed n b.halves h ok room).same_len; one_call = omega arith; few_names = omega arith }
+
+  -- There is no space.
+  module _ (lacking : ok ≡ false) where
+    pub some-words : 0 < n
+    some-words = omega (arith, leb-false n (free_in h) (sym room.answer ∙ lacking))
+
+    pub lacks-space : (A : Type 0) (s : State) (line : Parsed) (g : ℕ) → OneStands b s → grow s line ≡ g → LooksFor s g n → 0 < g → gets_to_space line.command (step s line) ≡ true
+        → Becomes {A = A} may_of_tight (words_of b) s line (Err (refusal.NoSpace g)) (OneStands (roomed b h))
+    lacks-space A s line g o asked looks some gets = no-space A (words_of b) (roomed b h) s line g (roomed-there s o) asked (room.tight b.named s g o.processes looks lacking) some gets
+
+    pub refused-does : (A : Type 0) (c : Command) (g : ℕ) → 0 < g
+        → ((s : State) (terms : Terms) (names : List (List ℕ)) → OneStands b s
+        → (grow s (said c terms names) ≡ g) × (LooksFor s g n × (gets_to_space c (step s (said c terms names)) ≡ true)))
+        → Does {A = A} c b (roomed b h) (Err (refusal.NoSpace g))
+    refused-does A c g some asks = record {
+      holds = holds-there;
+      becomes = λ s terms names o. let a = asks s terms names o in lacks-space A s (said c terms names) g o a.0 a.1.0 some a.1.1;
+      books = books-there;
     }
 
 -- The space after a process was made.
@@ -96,7 +105,7 @@ some-process b holds seat x s o = omega (arith, count-there b s o holds.counts, 
 -- `push`.
 module _ (b : One) (holds : Holds b) (seat : Seat) (x : Sits b seat) (r : Reg) (h : Halves) (ok : Bool) (room : MakesRoom 2 b.halves h ok) where
   pub push-refused : ok ≡ false → Does {A = Unit {0}} (OfProcess seat.pid (verb.Push r)) b (roomed b h) (Err (refusal.NoSpace 2))
-  push-refused lacking = refused-does b holds 2 h ok room (Unit {0}) (OfProcess seat.pid (verb.Push r)) 2 lacking (omega arith) (λ s terms names o.
+  push-refused lacking = refused-does b holds 2 h ok room lacking (Unit {0}) (OfProcess seat.pid (verb.Push r)) 2 (omega arith) (λ s terms names o.
       let P : Option Process → Type 0 = λ z. gets_to_space (OfProcess seat.pid (verb.Push r)) (in_process z s (said (OfProcess seat.pid (verb.Push r)) terms names) (verb.Push r)) ≡ true in (
         grow-at s seat.pid terms names (verb.Push r) (get_or s.processes seat.row no_process) (found-there b s o holds.counts seat x),
         (inl (omega arith, some-process b holds seat x s o), subst P (sym (found-there b s o holds.counts seat x)) refl),
@@ -166,6 +175,7 @@ module _ (b : One) (holds : Holds b) (seat : Seat) (x : Sits b seat) (r : Reg) (
         })
         (numbers-row h.procs.items seat.row (with_stack p (h.low - 2) (p.depth + 1)) p sits1.within is refl) (length-set h.procs.items seat.row (with_stack p (h.low - 2) (p.depth + 1))) refl refl
         refl (omega arith) refl
+        (made-row (b.calls + 1) (b.calls + 1) h.procs.items seat.row (with_stack p (h.low - 2) (p.depth + 1)) p (omega arith) sits1.within is refl counts1.made)
 
     pub push-does : Does {A = Unit {0}} (OfProcess seat.pid (verb.Push r)) b (after b (laid_out h mem2 h.top (h.low - 2) (with_item h.procs seat.row (with_stack p (h.low - 2) (p.depth + 1))))) (Ok tt)
     push-does =
@@ -205,12 +215,12 @@ module _ (b : One) (holds : Holds b) where
     )
 
     pub spawn-tight : ok ≡ false → Does {A = ℕ} (System sysverb.Spawn) b (roomed b h) (Err (refusal.NoSpace 16))
-    spawn-tight lacking = refused-does b holds 14 h ok room ℕ (System sysverb.Spawn) 16 lacking (omega arith) (λ s terms names o.
+    spawn-tight lacking = refused-does b holds 14 h ok room lacking ℕ (System sysverb.Spawn) 16 (omega arith) (λ s terms names o.
         let P : Bool → Type 0 = λ z. gets_to_space (System sysverb.Spawn) (spawn_if z s (said (System sysverb.Spawn) terms names)) ≡ true in
         (refl, (inr (omega arith), subst P (sym (not-full s o)) refl)))
 
     module _ (v : Vec Proc Global) (p : Proc) (items : v.items ≡ h.procs.items ++ p ∷ []) (capacity : vec_capacity v ≡ vec_capacity h.procs) (number : p.number ≡ b.next)
-        (regs : p.regs ≡ replicate 16 59) (depth : p.depth ≡ 0) where
+        (regs : p.regs ≡ replicate 16 59) (depth : p.depth ≡ 0) (none : p.refs ≡ 0) where
       counts2 : IsCounted (roomed b h)
       counts2 = counts-there b holds 14 h ok room
 
@@ -219,7 +229,7 @@ module _ (b : One) (holds : Holds b) where
       spawn-becomes s terms names o =
           let b2 : One = spawned b (laid_out h h.mem h.top h.low v) in
           let o1 : OneStands (roomed b h) s = roomed-there b holds 14 h ok room s o in
-          let new = fresh-stands o1.processes.test s.shared h.mem b.named h.low (end_of h) p s.next (number ∙ sym o.next) regs depth in
+          let new = fresh-stands o1.processes.test s.shared h.mem b.named h.low (end_of h) p s.next (number ∙ sym o.next) regs depth none in
           let P : List Proc → Type 0 = λ z. ProcsStand o1.processes.test s.shared h.mem h.low (end_of h) b.named z (s.processes ++ fresh_process s.next ∷ []) in
           let stands : HalvesStand b.named b2.halves s.shared (s.processes ++ fresh_process s.next ∷ []) = record {
             test = o1.processes.test;
@@ -247,6 +257,8 @@ module _ (b : One) (holds : Holds b) where
             second = omega (arith, counts2.second);
             numbered = omega (arith, holds.counts.numbered);
             counted = counts2.counted;
+            made = let S : List Proc → Type 0 = λ z. HaveMade (b.calls + 1) z in
+                subst S (sym items) (made-push (b.calls + 1) (b.calls + 1) (omega arith) h.procs.items p counts2.made (omega (arith, none)));
           }
 
       pub spawn-does : Does {A = ℕ} (System sysverb.Spawn) b (spawned b (laid_out h h.mem h.top h.low v)) (Ok b.next)

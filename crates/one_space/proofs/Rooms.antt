@@ -20,6 +20,7 @@ use Rattle.one_space.specs.declared.halves.Halves.{Halves}
 use Rattle.one_space.specs.declared.one.One.{One}
 use Rattle.one_space.specs.declared.table.Proc.{Proc}
 use Rattle.space_api.specs.declared.space.Seat.{Seat}
+use Rattle.one_space.proofs.Counting.{made-same}
 use Rattle.one_space.proofs.Ended.{row-count}
 
 -- The space with other halves, one call later.
@@ -28,20 +29,20 @@ roomed b h = record { halves = h; row = b.row; next = b.next; named = b.named; c
 
 same-self : (ps : List Proc) → AreSameRows ps ps
 same-self [] = tt
-same-self (p ∷ ps) = (refl, (refl, same-self ps))
+same-self (p ∷ ps) = (refl, (refl, (refl, same-self ps)))
 
 same-numbers : (os ns : List Proc) → AreSameRows os ns → numbers number_in ns ≡ numbers number_in os
 same-numbers [] [] s = refl
 same-numbers [] (n ∷ ns) s = absurd s
 same-numbers (o ∷ os) [] s = absurd s
-same-numbers (o ∷ os) (n ∷ ns) s = ap (λ x. x ∷ numbers number_in ns) s.0 ∙ ap (λ x. o.number ∷ x) (same-numbers os ns s.1.1)
+same-numbers (o ∷ os) (n ∷ ns) s = ap (λ x. x ∷ numbers number_in ns) s.0 ∙ ap (λ x. o.number ∷ x) (same-numbers os ns s.1.1.1)
 
 same-number : (os ns : List Proc) (i : ℕ) (d : Proc) → AreSameRows os ns → (get_or ns i d).number ≡ (get_or os i d).number
 same-number [] [] i d s = refl
 same-number [] (n ∷ ns) i d s = absurd s
 same-number (o ∷ os) [] i d s = absurd s
 same-number (o ∷ os) (n ∷ ns) zero d s = s.0
-same-number (o ∷ os) (n ∷ ns) (suc i) d s = same-number os ns i d s.1.1
+same-number (o ∷ os) (n ∷ ns) (suc i) d s = same-number os ns i d s.1.1.1
 
 -- What stays.
 pub record Stays (old new : Halves) : Type 0 where
@@ -76,6 +77,7 @@ counts-roomed b h c s laid =
       second = c.second;
       numbered = omega (arith, c.numbered);
       counted = omega (arith, c.counted, s.sweeps);
+      made = made-same b.calls (b.calls + 1) (omega arith) b.halves.procs.items h.procs.items s.rows c.made;
     }
 
 -- A seat stays good.

@@ -51,6 +51,7 @@ row-on p start mem mem2 mv2 k low limit f t old new r g free apart registers sta
     record {
       number = r.number;
       depth = r.depth;
+      refs = r.refs;
       registers = images-on p mem mem2 old.regs new.regs g.images registers r.registers;
       places = stack-kept mem mem2 low limit new.stack new.depth same r.places;
       values_are =
@@ -64,7 +65,7 @@ module _ (p : Plan) (mem mem1 : List ℕ) (mv mv1 : Moving) (k : Marks) (low lim
   stack-next = stack-on p mem mem1 mv mv1 k low limit row.stack row.depth to r.stack (goes-call p mem mem1 mv1 k low low w.runs w.later)
 
   pub row-moved : (mem2 : List ℕ) (mv2 : Moving) → StackMoved p mem1 mem2 mv2 k row.stack row.depth to
-      → RowMoved p mem mem2 mv2 k row (record { number = row.number; regs = regs; stack = to; depth = row.depth }) to
+      → RowMoved p mem mem2 mv2 k row (record { number = row.number; regs = regs; stack = to; depth = row.depth; refs = row.refs }) to
   row-moved mem2 mv2 s =
       let g : Goes p mem mem1 mv1 k to (to + 2 * row.depth) = goes-call p mem mem1 mv1 k to (to + 2 * row.depth) w.runs w.later in
       let same : AreKept mem mem1 low limit = old-kept p mem mem1 mv mv1 k low limit to (2 * row.depth) low low r.stack.room (goes-call p mem mem1 mv1 k low low w.runs w.later) (inr (omega arith)) in
@@ -74,6 +75,7 @@ module _ (p : Plan) (mem mem1 : List ℕ) (mv mv1 : Moving) (k : Marks) (low lim
         is = record {
           number = refl;
           depth = refl;
+          refs = refl;
           registers = images-on p mem1 mem2 row.regs regs s.goes.images r.reached w.images;
           places = s.places;
           values_are = subst P (values-kept mem mem1 low limit row.stack row.depth same r.stack.places) s.images;

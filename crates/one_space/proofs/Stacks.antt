@@ -9,7 +9,7 @@ use Rattle.one_space.specs.declared.table.Proc.{Proc}
 
 -- A row for places that are not there.
 abbrev pub no_row : Proc
-no_row = record { number = 0; regs = []; stack = 0; depth = 0 }
+no_row = record { number = 0; regs = []; stack = 0; depth = 0; refs = 0 }
 
 -- The words between these bounds are the same.
 abbrev pub AreKept : (mem mem2 : List ℕ) → (low limit : ℕ) → Type 0

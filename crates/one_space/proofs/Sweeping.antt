@@ -25,6 +25,7 @@ sweeps all b h holds c =
           second = counts.second;
           numbered = counts.numbered;
           counted = counts.counted;
+          made = counts.made;
         };
         state = record holds.state { swept = all };
         stands = stands holds.state holds.stands;

@@ -13,11 +13,11 @@ use Rattle.one_space.proofs.Stacks.{AreKept}
 
 -- A row with another word in a register.
 abbrev pub with_word : Proc → ℕ → ℕ → Proc
-with_word p r w = record { number = p.number; regs = set p.regs r w; stack = p.stack; depth = p.depth }
+with_word p r w = record { number = p.number; regs = set p.regs r w; stack = p.stack; depth = p.depth; refs = p.refs }
 
 -- A row with another stack.
 abbrev pub with_stack : Proc → (stack depth : ℕ) → Proc
-with_stack p stack depth = record { number = p.number; regs = p.regs; stack = stack; depth = depth }
+with_stack p stack depth = record { number = p.number; regs = p.regs; stack = stack; depth = depth; refs = p.refs }
 
 module _ (c : ℕ → ℕ → Bool) (shared : List (List ℕ)) (mem : List ℕ) (low limit named : ℕ) (ps : List Proc) (qs : List Process) (i : ℕ) (p : Proc) (less : i < length ps) (is : p ≡ get_or ps i p)
     (s : ProcsStand c shared mem low limit named ps qs) where
@@ -124,7 +124,7 @@ module _ (c : ℕ → ℕ → Bool) (shared : List (List ℕ)) (mem : List ℕ) 
   })
 
   trees : (w : ℕ) (t : Tree) → HoldsTree c shared mem named w t → HoldsTree c shared mem2 named w t
-  trees w t h = record { standing = kept.each shared w t h.standing; modest = h.modest }
+  trees w t h = record { standing = kept.each shared w t h.standing; names = h.names }
 
   places : AreKept mem mem2 low limit
   places q above below = others q (λ e. omega (arith, e, above, fits)) (λ e. omega (arith, e, above, fits))

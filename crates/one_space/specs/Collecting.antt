@@ -17,10 +17,10 @@ pub record IsBetween (from to : ℕ) (mv : Moving) : Type 0 where
   pub aged : mv.aged ≡ record { start = from; top = from; end = from }
   pub young : mv.young ≡ record { start = from; top = from; end = to }
 
--- Rows of the same processes, with stacks as deep.
+-- Rows of the same processes, with stacks as deep and as many references made.
 abbrev pub AreSameRows : List Proc → List Proc → Type 0
 AreSameRows [] [] = Unit {0}
-AreSameRows (o ∷ os) (n ∷ ns) = (n.number ≡ o.number) × ((n.depth ≡ o.depth) × AreSameRows os ns)
+AreSameRows (o ∷ os) (n ∷ ns) = (n.number ≡ o.number) × ((n.depth ≡ o.depth) × ((n.refs ≡ o.refs) × AreSameRows os ns))
 AreSameRows [] (n ∷ ns) = ⊥
 AreSameRows (o ∷ os) [] = ⊥
 

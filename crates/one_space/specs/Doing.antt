@@ -1,17 +1,21 @@
 -- What the calls of a space leave, in the words of the plain machine.
-use Rattle.std.specs.Prelude.{◌≡◌, ℕ, ◌+◌, ◌<◌, ◌≤◌, Bool, List, length, max, Result, Err, OnErr}
+use Rattle.std.specs.Prelude.{◌≡◌, ℕ, ◌+◌, ◌<◌, ◌≤◌, Bool, true, false, List, length, max, Result, Err, OnErr}
 use Rattle.plain_term.specs.declared.item.Item.{Item}
 use Rattle.script_grammar.specs.declared.command.Command.{Command}
 use Rattle.script_grammar.specs.declared.command.Command.TheVariants.{Process}
 use Rattle.script_grammar.specs.declared.command.Verb.TheVariants as verb
 use Rattle.script_grammar.specs.declared.command.Reg.{Reg}
 use Rattle.script_grammar.specs.declared.refusal.Refusal.{Refusal}
-use Rattle.script_grammar.specs.declared.refusal.Refusal.TheVariants.{NoSpace}
+use Rattle.script_grammar.specs.declared.refusal.Refusal.TheVariants.{BadArg, Big, MapSize, NoSpace}
 use Rattle.script_grammar.specs.Written.{Term, Terms}
-use Rattle.plain_machine.specs.State.{State}
+use Rattle.plain_machine.specs.State.{HasNames, State}
 use Rattle.plain_machine.specs.Step.{step}
 use Rattle.plain_machine.specs.May.{may_of_tight}
-use Rattle.space_api.specs.Calls.{Becomes, Follows, IsTerm, KeepsBooks, Passes, one_term, said}
+use Rattle.space_api.specs.Calls.{Becomes, Follows, IsTerm, KeepsBooks, Passes, Properly, one_term, said}
+use Rattle.item_build.specs.declared.building.BuildStop.{BuildStop}
+use Rattle.item_build.specs.declared.building.BuildStop.TheVariants as stop
+use Rattle.term_verbs.specs.declared.pairs.PutStop.{PutStop}
+use Rattle.term_verbs.specs.declared.pairs.PutStop.TheVariants as put
 use Rattle.one_space.specs.Halves.{free_in}
 use Rattle.one_space.specs.Reached.{AllReached}
 use Rattle.one_space.specs.One.{Holds, OneStands, words_of}
@@ -25,6 +29,13 @@ Books old new bound = KeepsBooks words_of (λ b. b.calls) (λ b. b.named) old ne
 pub record Does {A : Type 0} (c : Command) (old new : One) (result : Result A Refusal) : Type 0 where
   pub holds : Holds new
   pub becomes : (s : State) (terms : Terms) (names : List (List ℕ)) → OneStands old s
+      → Becomes may_of_tight (words_of old) s (said c terms names) result (OneStands new)
+  pub books : Books old new old.named
+
+-- The same of a call that is given the names that there are after its line, in a state all of whose trees are proper.
+pub record DoesBy {A : Type 0} (names : List (List ℕ)) (c : Command) (old new : One) (result : Result A Refusal) : Type 0 where
+  pub holds : Holds new
+  pub becomes : (s : State) (terms : Terms) → Properly (OneStands old) s → HasNames s names
       → Becomes may_of_tight (words_of old) s (said c terms names) result (OneStands new)
   pub books : Books old new old.named
 
@@ -54,6 +65,29 @@ pub record Asks {A : Type 0} (n : ℕ) (old new : One) (result : Result A Refusa
   pub idle : n ≤ free_in old.halves → new.halves.sweeps ≡ old.halves.sweeps
   pub once : free_in old.halves < n → new.halves.sweeps ≡ old.halves.sweeps + 1
   pub refused : (g : ℕ) → result ≡ Err (NoSpace g) → AllReached new.halves × (free_in new.halves < n)
+
+-- The call is refused by what stands before the want of space.
+abbrev pub is_early : {A : Type 0} → Result A Refusal → Bool
+is_early (Err BadArg) = true
+is_early (Err Big) = true
+is_early (Err MapSize) = true
+is_early _ = false
+
+-- The same, but where the call is refused before: then nothing at all changes.
+pub record AsksUnless {A : Type 0} (n : ℕ) (old new : One) (result : Result A Refusal) : Type 0 where
+  pub early : is_early result ≡ true → new ≡ old
+  pub asks : is_early result ≡ false → Asks n old new result
+
+-- The refusal of a written term that is not built.
+abbrev pub refusal_for : BuildStop → Refusal
+refusal_for stop.Big = Big
+refusal_for stop.Size = MapSize
+
+-- The refusal of a pair that is not put.
+abbrev pub refusal_of_put : PutStop → Refusal
+refusal_of_put put.NoMap = BadArg
+refusal_of_put put.Big = Big
+refusal_of_put put.Full = MapSize
 
 -- A collection that a line asks for, of all processes: it is the one that is made, every object is reachable after it, and
 -- the state is as before but for whether all is swept.

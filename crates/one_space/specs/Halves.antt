@@ -4,7 +4,7 @@ use Rattle.plain_term.specs.Tree.{Tree}
 use Rattle.plain_machine.specs.State.{Process}
 use Rattle.term_words.specs.Role.{IsSingle, OfObject}
 use Rattle.term_words.specs.Stands.{Stands}
-use Rattle.item_build.specs.Modest.{IsModest}
+use Rattle.term_order.specs.Named.{is_named}
 use Rattle.one_space.specs.Stack.{IsStack, values}
 use Rattle.one_space.specs.declared.table.Proc.{Proc}
 use Rattle.one_space.specs.declared.halves.Halves.{Halves}
@@ -43,10 +43,10 @@ pub record IsLaid (h : Halves) : Type 0 where
   pub order : h.top ≤ h.low
   pub places : h.low + PLACE_WORDS * depths h.procs.items ≤ end_of h
 
--- The word stands for the tree where the test allows it, and the tree is one that a line may write.
+-- The word stands for the tree where the test allows it, and all names of the tree are below a number.
 pub record HoldsTree (c : ℕ → ℕ → Bool) (shared : List (List ℕ)) (mem : List ℕ) (named w : ℕ) (t : Tree) : Type 0 where
   pub standing : Stands c shared mem w t
-  pub modest : IsModest named 256 t
+  pub names : is_named named t ≡ true
 
 -- Each of the words holds its tree, in order.
 abbrev pub HoldTrees : (ℕ → ℕ → Bool) → List (List ℕ) → List ℕ → ℕ → List ℕ → List Tree → Type 0
@@ -63,7 +63,7 @@ pub record ProcStands (c : ℕ → ℕ → Bool) (shared : List (List ℕ)) (mem
   pub places : IsStack mem low limit p.stack p.depth
   pub stack : HoldTrees c shared mem named (values mem p.stack p.depth) q.stack
   pub queue : q.queue ≡ []
-  pub refs : q.refs ≡ 0
+  pub refs : q.refs ≡ p.refs
 
 -- The rows stand for the processes, in order.
 abbrev pub ProcsStand : (ℕ → ℕ → Bool) → List (List ℕ) → List ℕ → (low limit named : ℕ) → List Proc → List Process → Type 0

@@ -12,9 +12,9 @@ use Rattle.one_space.specs.declared.one.One.{One}
 abbrev pub object_region : Halves → Region
 object_region h = record { place = front_of h; words = take (h.top - front_of h) (drop (front_of h) h.mem) }
 
--- A row with its stack from the first pushed. No references are made yet.
+-- A row with its stack from the first pushed.
 abbrev pub rooted : List ℕ → Proc → Rooted
-rooted mem p = record { number = p.number; refs = 0; registers = p.regs; stack = reverse (values mem p.stack p.depth) }
+rooted mem p = record { number = p.number; refs = p.refs; registers = p.regs; stack = reverse (values mem p.stack p.depth) }
 
 -- The whole image. No shared binaries are made yet.
 abbrev pub image : One → Image

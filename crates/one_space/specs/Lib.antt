@@ -6,5 +6,5 @@ pub mod Collecting
 pub mod One
 pub mod Image
 pub mod Doing
-pub mod Print
+pub mod Telling
 pub mod Figures

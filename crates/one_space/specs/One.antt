@@ -1,5 +1,5 @@
 -- What a space holds, and the states that it stands for.
-use Rattle.std.specs.Prelude.{◌≡◌, ℕ, ◌+◌, ◌<◌, ◌≤◌, List, [], length, get_or}
+use Rattle.std.specs.Prelude.{◌≡◌, ℕ, ◌+◌, ◌<◌, ◌≤◌, List, [], ◌∷◌, length, get_or}
 use Rattle.std.specs.Vec.{vec_len, vec_capacity}
 use Rattle.plain_machine.specs.State.{State}
 use Rattle.plain_machine.specs.declared.limits.TheConstants.{MOST_PROCESSES}
@@ -32,8 +32,13 @@ pub record OneStands (b : One) (s : State) : Type 0 where
   pub shared : s.shared ≡ []
   pub areas : s.areas ≡ []
 
+-- Each of the rows has made at most so many references.
+abbrev pub HaveMade : ℕ → List Proc → Type 0
+HaveMade most [] = Unit {0}
+HaveMade most (p ∷ ps) = (p.refs ≤ most) × HaveMade most ps
+
 -- The numbers of a space: they rise and stay below the next one, which no more than calls have raised, as they have the
--- collections; and the tables have room for what a line and the most processes ask.
+-- collections and the references of each process; and the tables have room for what a line and the most processes ask.
 pub record IsCounted (b : One) : Type 0 where
   pub laid : IsLaid b.halves
   pub enough : vec_len b.row ≡ ROW
@@ -44,6 +49,7 @@ pub record IsCounted (b : One) : Type 0 where
   pub second : 2 ≤ b.next
   pub numbered : b.next ≤ b.calls + 2
   pub counted : b.halves.sweeps ≤ b.calls
+  pub made : HaveMade b.calls b.halves.procs.items
 
 -- What is true of a space at any time: it stands for some state.
 pub record Holds (b : One) : Type 0 where

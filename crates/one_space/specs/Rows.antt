@@ -73,6 +73,7 @@ pub record CanMoveStack (mem : List ℕ) (mv : Moving) (from depth to : ℕ) : T
 pub record IsMovedRow (p : Plan) (start mem : List ℕ) (low limit : ℕ) (old new : Proc) : Type 0 where
   pub number : new.number ≡ old.number
   pub depth : new.depth ≡ old.depth
+  pub refs : new.refs ≡ old.refs
   pub registers : AllImages p mem old.regs new.regs
   pub places : IsStack mem low limit new.stack new.depth
   pub values_are : AllImages p mem (values start old.stack old.depth) (values mem new.stack new.depth)

@@ -38,6 +38,18 @@ impl Halves {
         self.low - self.top
     }
 
+    /// The free words, for new objects.
+    #[inline]
+    pub fn room(&self) -> Room
+        ensures { result ≡ record { start = self.now.base; top = self.now.top; end = self.now.low } }
+    {
+        Room {
+            start: self.base,
+            top: self.top,
+            end: self.low,
+        }
+    }
+
     /// Whether there are `n` free words, where need be after a collection.
     pub fn make_room(&mut self, n: u64) -> bool
         requires can { CanCollect self.old }

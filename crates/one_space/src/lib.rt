@@ -3,9 +3,10 @@
 
 mod halves;
 mod one;
-mod printing;
 mod roots;
 mod space;
 mod table;
+mod terms;
+mod told;
 
 pub use space::{LEAST_WORDS, OneSpace};

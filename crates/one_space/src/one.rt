@@ -1,24 +1,19 @@
 // The space as a plain record, and what each call makes of it.
-ghost use Rattle.std.specs.Prelude.{◌≡◌, ℕ, ◌<◌, ◌≤◌, length, Err, IfOk, List};
+ghost use Rattle.std.specs.Prelude.{◌≡◌, ℕ, ◌<◌, ◌≤◌, Err, IfOk};
 ghost use Rattle.script_grammar.specs.declared.command.Command.TheVariants.{Process, System};
 ghost use Rattle.script_grammar.specs.declared.command.Verb.TheVariants as verb;
 ghost use Rattle.script_grammar.specs.declared.command.SysVerb.TheVariants as sysverb;
 ghost use Rattle.script_grammar.specs.declared.refusal.Refusal.TheVariants.{Procs};
 ghost use Rattle.script_grammar.specs.Names.{IsRegister};
-ghost use Rattle.space_api.specs.Calls.{HasTerm, most_calls};
-ghost use Rattle.item_build.specs.Forest.{words_of as item_words_of};
+ghost use Rattle.space_api.specs.Calls.{most_calls};
 ghost use Rattle.one_space.specs.One.{Holds, Sits};
-ghost use Rattle.one_space.specs.Doing.{Asks, Builds, Does, DoesAlways, DoesAtOnce, Sweeps};
+ghost use Rattle.one_space.specs.Doing.{Asks, Does, DoesAlways, DoesAtOnce, Sweeps};
 
 use crate::halves::{Halves, PLACE_WORDS, UNUSED};
 use crate::table::{Proc, fresh};
-use atom_names::AtomNames;
-use item_build::{build, words_needed};
 use plain_machine::{MOST_PROCESSES, PLACE_COST, PROCESS_COST, Refusal, Reg};
-use plain_term::Item;
 use space_api::Seat;
 use term_tags::pid as pid_word;
-use word_mem::Room;
 
 /// The most items of a line, and so the most words of terms that are not yet put together.
 pub const ROW: usize = 4096;
@@ -72,42 +67,6 @@ impl One {
         let _ = self.halves.procs.remove(seat.row);
         self.calls += 1;
         self.swept = false;
-    }
-
-    /// Builds a written term in a register.
-    pub fn build(
-        &mut self,
-        names: &AtomNames,
-        seat: Seat,
-        r: Reg,
-        code: &[Item],
-    ) -> Result<(), Refusal>
-        requires holds { Holds self.old }
-        requires calls { self.old.calls < most_calls }
-        requires sits { Sits self.old seat }
-        requires register { IsRegister r }
-        requires named { self.old.named ≤ length names.now }
-        requires term { HasTerm names.now code.now }
-        ensures builds { Builds names.now seat.pid r code.now self.old self.new result }
-        ensures asks { Asks (item_words_of code.now) self.old self.new result }
-    {
-        let named = names.count();
-        let grow = words_needed(code);
-        self.calls += 1;
-        if !self.halves.make_room(grow) {
-            return Err(Refusal::NoSpace(grow));
-        }
-        let mut room = Room {
-            start: self.halves.base,
-            top: self.halves.top,
-            end: self.halves.low,
-        };
-        let w = build(&mut self.halves.mem, &mut room, &mut self.row, code);
-        self.halves.top = room.top;
-        self.halves.procs[seat.row].regs[r.0 as usize] = w;
-        self.named = named;
-        self.swept = false;
-        Ok(())
     }
 
     /// Puts the process's own pid in a register.

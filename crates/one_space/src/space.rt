@@ -1,5 +1,5 @@
 // The space.
-ghost use Rattle.std.specs.Prelude.{◌≡◌, ℕ, ◌%◌, ◌<◌, ◌≤◌, ◌^◌, Err, IfOk, OnErr, List, length, max};
+ghost use Rattle.std.specs.Prelude.{◌≡◌, ℕ, ◌+◌, ◌*◌, ◌%◌, ◌<◌, ◌≤◌, ◌^◌, true, Err, Some, IfOk, OnErr, List, length, max};
 ghost use Rattle.script_grammar.specs.declared.command.Command.TheVariants.{Process, System};
 ghost use Rattle.script_grammar.specs.declared.command.Verb.TheVariants as verb;
 ghost use Rattle.script_grammar.specs.declared.command.SysVerb.TheVariants as sysverb;
@@ -8,27 +8,25 @@ ghost use Rattle.script_grammar.specs.Written.{Term, Terms};
 ghost use Rattle.plain_machine.specs.State.{HasNames, State, first_state};
 ghost use Rattle.plain_machine.specs.Step.{step};
 ghost use Rattle.space_api.specs.Calls.{Becomes, Follows, HasTerm, IsTerm, Passes, most_calls, one_term, said};
-ghost use Rattle.script_grammar.specs.Names.{IsRegister};
+ghost use Rattle.script_grammar.specs.Names.{IsRegister, PicksRegister};
 
 use crate::halves::{Halves, UNUSED};
 use crate::one::{One, ROW, SPAWN_WORDS};
-use crate::printing::print_word;
 use crate::table::fresh;
+use crate::terms::REF_WORDS;
 use atom_names::AtomNames;
 use line_io::Sink;
 use numbered_rows::{find, first_above};
-use plain_machine::{Depth, MOST_PROCESSES, PLACE_COST, Refusal, Reg};
+use plain_machine::{Depth, MOST_PROCESSES, Measure, PLACE_COST, Pick, Refusal, Reg, Shape};
 use plain_term::Item;
 use space_api::{Seat, Space, Stop};
 use std::alloc::Global;
+use std::cmp::Ordering;
 use std::marker::Model;
 use word_mem::{OpenFault, WordMem};
 
 /// The fewest words of a space.
 pub const LEAST_WORDS: u64 = 4096;
-
-// The most levels of brackets in a line, and so the depth of a term.
-const LEVELS: u64 = 256;
 
 /// A memory in two halves: all that lives stands in one of them, and a collection moves it to the other.
 #[derive(Drop)]
@@ -102,8 +100,11 @@ impl Space for OneSpace {
     ghost use Rattle.plain_machine.specs.May.{may_of_tight};
     ghost use Rattle.space_api.specs.Calls.{Properly};
     ghost use Rattle.one_space.specs.One.{OneStands, Sits, words_of};
-    ghost use Rattle.one_space.specs.Doing.{Asks, Books, IsSwept};
-    ghost use Rattle.item_build.specs.Forest.{words_of as item_words_of};
+    ghost use Rattle.one_space.specs.Doing.{Asks, AsksUnless, Books, IsSwept};
+    ghost use Rattle.item_build.specs.Reading.{words_of as item_words_of};
+    ghost use Rattle.script_grammar.specs.Grammar.{is_built, pick_word};
+    ghost use Rattle.plain_machine.specs.State.{Process as Live, process_of, register};
+    ghost use Rattle.plain_machine.specs.Tightness.{keys_in, repeat_words};
 
     ghost stands = { λ b s. Properly (OneStands b) s };
 
@@ -172,6 +173,80 @@ impl Space for OneSpace {
         self.one.build(names, seat, r, code)
     }
 
+    fn pick(
+        &mut self,
+        names: &AtomNames,
+        seat: Seat,
+        r: Reg,
+        s: Reg,
+        how: Pick,
+    ) -> Result<(), Refusal>
+        requires sits { Sits self.old seat }
+        requires register { IsRegister r }
+        requires other { IsRegister s }
+        requires key { PicksRegister how }
+        requires built { is_built (pick_word how) ≡ true }
+        requires calls { self.old.calls < most_calls }
+        requires named { self.old.named ≤ length names.now }
+        ensures becomes { (state : State) (terms : Terms) → Properly (OneStands self.old) state → HasNames state names.now
+            → Becomes may_of_tight (words_of self.old) state (said (Process seat.pid (verb.Choose r s how)) terms names.now) result (Properly (OneStands self.new)) }
+        ensures books { Books self.old self.new self.old.named }
+        ensures idle { self.new.halves.sweeps ≡ self.old.halves.sweeps }
+        ensures refused { OnErr result (self.new ≡ self.old) }
+    {
+        self.one.pick(names, seat, r, s, how)
+    }
+
+    fn map_put(
+        &mut self,
+        names: &AtomNames,
+        seat: Seat,
+        r: Reg,
+        s: Reg,
+        k: Reg,
+        v: Reg,
+    ) -> Result<(), Refusal>
+        requires sits { Sits self.old seat }
+        requires register { IsRegister r }
+        requires map { IsRegister s }
+        requires key { IsRegister k }
+        requires value { IsRegister v }
+        requires calls { self.old.calls < most_calls }
+        requires named { self.old.named ≤ length names.now }
+        ensures becomes { (state : State) (terms : Terms) → Properly (OneStands self.old) state → HasNames state names.now
+            → Becomes may_of_tight (words_of self.old) state (said (Process seat.pid (verb.MapPut r s k v)) terms names.now) result (Properly (OneStands self.new)) }
+        ensures books { Books self.old self.new self.old.named }
+        ensures asks { (state : State) (q : Live) → Properly (OneStands self.old) state → process_of seat.pid state ≡ Some q
+            → AsksUnless (6 + 2 * keys_in (register s.0 q)) self.old self.new result }
+    {
+        self.one.map_put(names, seat, r, s, k, v)
+    }
+
+    fn make_ref(&mut self, seat: Seat, r: Reg) -> Result<(), Refusal>
+        requires sits { Sits self.old seat }
+        requires register { IsRegister r }
+        requires calls { self.old.calls < most_calls }
+        ensures becomes { (s : State) (terms : Terms) (names : List (List ℕ)) → Properly (OneStands self.old) s → HasNames s names
+            → Becomes may_of_tight (words_of self.old) s (said (Process seat.pid (verb.Ref r)) terms names) result (Properly (OneStands self.new)) }
+        ensures books { Books self.old self.new self.old.named }
+        ensures asks { Asks REF_WORDS self.old self.new result }
+    {
+        self.one.make_ref(seat, r)
+    }
+
+    fn repeat(&mut self, seat: Seat, r: Reg, shape: Shape, n: u64, s: Reg) -> Result<(), Refusal>
+        requires sits { Sits self.old seat }
+        requires register { IsRegister r }
+        requires other { IsRegister s }
+        requires calls { self.old.calls < most_calls }
+        ensures becomes { (state : State) (terms : Terms) (names : List (List ℕ)) → Properly (OneStands self.old) state → HasNames state names
+            → Becomes may_of_tight (words_of self.old) state (said (Process seat.pid (verb.Repeat r shape n s)) terms names) result (Properly (OneStands self.new)) }
+        ensures books { Books self.old self.new self.old.named }
+        ensures asks { AsksUnless (repeat_words shape n) self.old self.new result }
+    {
+        self.one.repeat(seat, r, shape, n, s)
+    }
+
     fn own_pid(&mut self, seat: Seat, r: Reg)
         requires sits { Sits self.old seat }
         requires register { IsRegister r }
@@ -229,6 +304,14 @@ impl Space for OneSpace {
         self.one.collect(true)
     }
 
+    fn measure(&self, seat: Seat, s: Reg) -> Result<Measure, Refusal> {
+        self.one.measure(seat, s)
+    }
+
+    fn compare(&self, names: &AtomNames, seat: Seat, a: Reg, b: Reg) -> Result<Ordering, Refusal> {
+        self.one.compare(names, seat, a, b)
+    }
+
     fn print<K: Sink>(
         &self,
         names: &AtomNames,
@@ -236,10 +319,6 @@ impl Space for OneSpace {
         s: Reg,
         sink: &mut K,
     ) -> Result<(), Stop> {
-        let w = self.one.halves.procs[seat.row].regs[s.0 as usize];
-        match print_word(&self.one.halves.mem, names, w, LEVELS, sink) {
-            Ok(()) => Ok(()),
-            Err(_) => Err(Stop::Fault),
-        }
+        self.one.print(names, seat, s, sink)
     }
 }

@@ -3,13 +3,15 @@ ghost use Rattle.std.specs.Prelude.{◌≡◌, replicate};
 
 use numbered_rows::Numbered;
 
-/// One process: its number, the words of its registers, the place of the last thing on its stack, and how many lie there.
+/// One process: its number, the words of its registers, the place of the last thing on its stack, how many lie there, and how
+/// many references it has made.
 #[derive(Clone, Copy)]
 pub struct Proc {
     pub number: u64,
     pub regs: [u64; 16],
     pub stack: u64,
     pub depth: u64,
+    pub refs: u64,
 }
 
 impl Numbered for Proc {
@@ -25,11 +27,13 @@ pub fn fresh(number: u64) -> Proc
     ensures number { result.number ≡ number }
     ensures regs { result.regs ≡ replicate 16 59 }
     ensures depth { result.depth ≡ 0 }
+    ensures refs { result.refs ≡ 0 }
 {
     Proc {
         number,
         regs: [term_tags::nil(); 16],
         stack: 0,
         depth: 0,
+        refs: 0,
     }
 }

@@ -1,7 +1,7 @@
-mod Members
+pub mod Members
 pub mod Putting
 mod Left
-mod Compares
+pub mod Compares
 mod Turns
 mod Sorting
 pub mod Named

@@ -7,3 +7,4 @@ mod sorted;
 
 pub use laws::keys_in_order_rise;
 pub use maps::{MapStop, map, map_of_row};
+pub use sorted::Spot;

@@ -24,7 +24,7 @@ pub struct Sorted {
     pub values: ArrayVec<u64, ROOM>,
 }
 
-// Where a key stands among keys that rise: it is the same as one, or new before one.
+/// Where a key stands among keys that rise: it is the same as one, or new before one.
 #[derive(Clone, Copy)]
 pub enum Spot {
     Same(usize),

@@ -1,7 +1,10 @@
-use Rattle.std.proofs.Common.{refl}
+use Rattle.std.proofs.Common.{length, refl, sym, subst, Err, arith}
 use Rattle.std.specs.Vec.{with_items}
+use Rattle.script_grammar.specs.declared.refusal.Refusal.{Refusal}
 use Rattle.item_build.proofs.Written.{is-written}
-use Rattle.one_space.proofs.Setting.{asks-done, needed-words, set-does, set-fits, set-refused, set-within}
+use Rattle.one_space.specs.Doing.{Builds}
+use Rattle.one_space.proofs.Setting.{needed-words, set-does, set-held, set-refused, set-regs, set-stops, stopped_in}
+use Rattle.one_space.proofs.Terming.{term-within}
 use Rattle.one_space.proofs.one.One.build.Goals as goal
 
 pub returns-then-not-make_room-clause-builds : goal.returns-then-not-make_room-clause-builds
@@ -10,30 +13,43 @@ returns-then-not-make_room-clause-builds c =
     (needed-words c.args.names.now c.args.code.now c.requires.term c.words_needed-grow.result c.count-named.ensures.names.few c.words_needed-grow.ensures)
     c.make_room.new.self c.make_room.result c.make_room.ensures c.requires.named c.if-not-make_room.true
 
-pub build-w-requires-clause-term : goal.build-w-requires-clause-term
-build-w-requires-clause-term c = is-written c.args.names.now c.args.code.now c.requires.term.term c.requires.term.is c.requires.term.named c.count-named.ensures.names.few
+pub index-requires : goal.index-requires
+index-requires c = term-within c.args.self.now c.requires.holds c.args.seat c.requires.sits c.words_needed-grow.result c.make_room.new.self c.make_room.result c.make_room.ensures
 
-pub build-w-requires-clause-words : goal.build-w-requires-clause-words
-build-w-requires-clause-words c =
-    set-fits c.args.self.now c.requires.holds c.args.seat c.requires.sits c.args.r c.args.names.now c.args.code.now c.requires.term c.count-named.ensures.names.few c.words_needed-grow.result
-    (needed-words c.args.names.now c.args.code.now c.requires.term c.words_needed-grow.result c.count-named.ensures.names.few c.words_needed-grow.ensures)
-    c.make_room.new.self c.make_room.result c.make_room.ensures c.requires.named c.if-not-make_room.false
+pub build-requires-clause-term : goal.build-requires-clause-term
+build-requires-clause-term c =
+    is-written c.args.names.now c.args.code.now c.requires.term.term (length c.index.result.now.regs) c.requires.term.is c.requires.term.named c.count-named.ensures.names.few
+    (omega (
+      arith,
+      set-regs c.args.self.now c.requires.holds c.args.seat c.requires.sits c.args.r c.args.names.now c.args.code.now c.requires.term c.count-named.ensures.names.few
+          c.words_needed-grow.result
+          (needed-words c.args.names.now c.args.code.now c.requires.term c.words_needed-grow.result c.count-named.ensures.names.few c.words_needed-grow.ensures)
+          c.make_room.new.self c.make_room.result c.make_room.ensures c.requires.named c.if-not-make_room.false c.room-room.result c.room-room.ensures c.index.result.now c.index.ensures,
+    ))
 
-pub index_mut-requires : goal.index_mut-requires
-index_mut-requires c =
-    set-within c.args.self.now c.requires.holds c.args.seat c.requires.sits c.args.r c.args.names.now c.args.code.now c.requires.term c.count-named.ensures.names.few c.words_needed-grow.result
+pub build-requires-clause-held : goal.build-requires-clause-held
+build-requires-clause-held c =
+    set-held c.args.self.now c.requires.holds c.args.seat c.requires.sits c.args.r c.args.names.now c.args.code.now c.requires.term c.count-named.ensures.names.few c.words_needed-grow.result
     (needed-words c.args.names.now c.args.code.now c.requires.term c.words_needed-grow.result c.count-named.ensures.names.few c.words_needed-grow.ensures)
-    c.make_room.new.self c.make_room.result c.make_room.ensures c.requires.named
+    c.make_room.new.self c.make_room.result c.make_room.ensures c.requires.named c.if-not-make_room.false c.room-room.result c.room-room.ensures c.index.result.now c.index.ensures
+
+pub returns-in-Err-clause-builds : goal.returns-in-Err-clause-builds
+returns-in-Err-clause-builds c =
+    let P : Refusal → Type 0 = λ e. Builds {A = Unit {0}} c.args.names.now c.args.seat.pid c.args.r c.args.code.now c.args.self.now
+    (stopped_in c.args.self.now c.make_room.new.self c.build.new.mem (with_items c.args.self.now.row c.build.new.scratch)) (Err e) in
+    subst P (sym c.refusal_of.ensures)
+    (set-stops c.args.self.now c.requires.holds c.args.seat c.requires.sits c.args.r c.args.names.now c.args.code.now c.requires.term c.count-named.ensures.names.few c.words_needed-grow.result
+    (needed-words c.args.names.now c.args.code.now c.requires.term c.words_needed-grow.result c.count-named.ensures.names.few c.words_needed-grow.ensures)
+    c.make_room.new.self c.make_room.result c.make_room.ensures c.requires.named c.if-not-make_room.false c.room-room.result c.room-room.ensures c.index.result.now c.index.ensures
+    c.build.new.mem c.build.new.room (with_items c.args.self.now.row c.build.new.scratch) refl c.in-Err.stop c.in-Err.ensures.stopped.0 c.in-Err.ensures.stopped.1 c.in-Err.ensures.builds)
+
+pub index_mut-process-requires : goal.index_mut-process-requires
+index_mut-process-requires c = term-within c.args.self.now c.requires.holds c.args.seat c.requires.sits c.words_needed-grow.result c.make_room.new.self c.make_room.result c.make_room.ensures
 
 pub returns-clause-builds : goal.returns-clause-builds
 returns-clause-builds c =
     set-does c.args.self.now c.requires.holds c.args.seat c.requires.sits c.args.r c.args.names.now c.args.code.now c.requires.term c.count-named.ensures.names.few c.words_needed-grow.result
     (needed-words c.args.names.now c.args.code.now c.requires.term c.words_needed-grow.result c.count-named.ensures.names.few c.words_needed-grow.ensures)
-    c.make_room.new.self c.make_room.result c.make_room.ensures c.requires.named c.if-not-make_room.false
-    c.build-w.new.mem _ c.build-w.new.room refl c.build-w.result c.build-w.ensures.uses c.build-w.ensures.built c.index_mut.result.now c.index_mut.ensures.value
-    (with_items c.args.self.now.row c.build-w.new.scratch) refl c.count-named.result c.count-named.ensures.value
-
-pub returns-clause-asks : goal.returns-clause-asks
-returns-clause-asks c =
-    asks-done c.words_needed-grow.result _ c.args.self.now _ c.make_room.new.self c.make_room.result _ c.make_room.ensures
-    (needed-words c.args.names.now c.args.code.now c.requires.term c.words_needed-grow.result c.count-named.ensures.names.few c.words_needed-grow.ensures) refl
+    c.make_room.new.self c.make_room.result c.make_room.ensures c.requires.named c.if-not-make_room.false c.room-room.result c.room-room.ensures c.index.result.now c.index.ensures
+    c.build.new.mem c.build.new.room (with_items c.args.self.now.row c.build.new.scratch) refl c.index_mut-process.result.now c.index_mut-process.ensures.value c.in-Ok.w
+    c.in-Ok.ensures.uses c.in-Ok.ensures.builds c.count-named.result c.count-named.ensures.value

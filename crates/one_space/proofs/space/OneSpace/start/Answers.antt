@@ -13,7 +13,7 @@ invariant_of-result c =
     let one : c.push_reserved.new.self.items ≡ c.fresh.result ∷ [] = subst P c.in-Ok.ensures.items c.push_reserved.ensures.items in
     let h : Halves = record { mem = c.in_ok-mem.mem; base = 0; top = 2; low = c.args.words / 2; procs = c.push_reserved.new.self; sweeps = 0 } in
     let b : One = record { halves = h; row = c.in-Ok-from_elem.row; next = 2; named = 0; calls = 0; swept = false } in
-    first-holds b c.fresh.result one c.fresh.ensures.number c.fresh.ensures.regs c.fresh.ensures.depth refl refl c.args.words (ap length c.in_ok-mem.ensures ∙ length-replicate c.args.words 0)
+    first-holds b c.fresh.result one c.fresh.ensures.number c.fresh.ensures.regs c.fresh.ensures.depth c.fresh.ensures.refs refl refl c.args.words (ap length c.in_ok-mem.ensures ∙ length-replicate c.args.words 0)
     c.requires.least c.requires.even refl refl refl c.in-Ok-from_elem.ensures.len
     (omega (arith, c.in-Ok.ensures.capacity, c.push_reserved.ensures.capacity)) refl refl
 
@@ -23,4 +23,4 @@ returns-clause-first c =
     let one : c.push_reserved.new.self.items ≡ c.fresh.result ∷ [] = subst P c.in-Ok.ensures.items c.push_reserved.ensures.items in
     let h : Halves = record { mem = c.in_ok-mem.mem; base = 0; top = 2; low = c.args.words / 2; procs = c.push_reserved.new.self; sweeps = 0 } in
     let b : One = record { halves = h; row = c.in-Ok-from_elem.row; next = 2; named = 0; calls = 0; swept = false } in
-    (first-stands b c.fresh.result one c.fresh.ensures.number c.fresh.ensures.regs c.fresh.ensures.depth refl refl, first-proper)
+    (first-stands b c.fresh.result one c.fresh.ensures.number c.fresh.ensures.regs c.fresh.ensures.depth c.fresh.ensures.refs refl refl, first-proper)

@@ -1,0 +1,161 @@
+-- A new term in a register: what the space stands for after it, whatever was built.
+use Rattle.std.proofs.Common.{Vec, ◌≡◌, ℕ, ◌+◌, ◌/◌, ◌<◌, ◌≤◌, Bool, true, false, List, length, map, get_or, set, Option, Some, refl, sym, ◌∙◌, ap, subst, arith, inl, inr}
+use Rattle.std.specs.Vec.{vec_len, with_item}
+use Rattle.std.specs.declared.alloc.Global.{Global}
+use Rattle.std.proofs.lemmas.List.{length-set}
+use Rattle.word_mem.specs.declared.ranges.Room.{Room}
+use Rattle.plain_term.specs.Tree.{Tree}
+use Rattle.script_grammar.specs.declared.command.Command.TheVariants.{Process as OfProcess}
+use Rattle.script_grammar.specs.declared.command.Verb.{Verb}
+use Rattle.script_grammar.specs.Written.{Terms}
+use Rattle.term_words.specs.Role.{OfObject}
+use Rattle.term_order.specs.Named.{is_named}
+use Rattle.term_build.specs.Taken.{IsFree}
+use Rattle.term_build.specs.Grows.{Built}
+use Rattle.term_build.specs.Clear.{IsRoom, Uses}
+use Rattle.plain_machine.specs.State.{Process, State, process_of, with_process, with_register}
+use Rattle.plain_machine.specs.Step.{settled}
+use Rattle.space_api.specs.Calls.{said}
+use Rattle.space_api.specs.declared.space.Seat.{Seat}
+use Rattle.one_space.specs.Halves.{HalvesStand, HoldsTree, ProcsStand, depths, end_of, free_in, front_of}
+use Rattle.one_space.specs.Collecting.{MakesRoom}
+use Rattle.one_space.specs.One.{HaveMade, Holds, IsCounted, OneStands, Sits}
+use Rattle.one_space.specs.declared.halves.Halves.{Halves}
+use Rattle.one_space.specs.declared.one.One.{One}
+use Rattle.one_space.specs.declared.table.Proc.{Proc}
+use Rattle.one_space.proofs.Acting.{counts-same, depths-row, half-within, laid_out, numbers-row}
+use Rattle.one_space.proofs.Changing.{held-set, no_process, procs-on, procs-set}
+use Rattle.one_space.proofs.Counting.{made-at, made-set}
+use Rattle.one_space.proofs.Growing.{counts-there, room-there, roomed-there, sits-there}
+use Rattle.one_space.proofs.Naming.{named-more}
+use Rattle.one_space.proofs.Rooms.{roomed}
+use Rattle.one_space.proofs.Seated.{found-there, number-there, set-there, settled-stands}
+use Rattle.one_space.proofs.Seats.{replaced}
+use Rattle.one_space.proofs.Stacks.{AreKept}
+use Rattle.one_space.proofs.Turning.{row-stands}
+
+-- The space after a term was built.
+abbrev pub built_in : One → Halves → Vec ℕ Global → (named : ℕ) → One
+built_in b h row named = record { halves = h; row = row; next = b.next; named = named; calls = b.calls + 1; swept = false }
+
+-- A row with another word in a register, and so many references made.
+abbrev pub with_term : Proc → (r w refs : ℕ) → Proc
+with_term p r w refs = record { number = p.number; regs = set p.regs r w; stack = p.stack; depth = p.depth; refs = refs }
+
+-- A process with another tree in a register, and so many references made.
+abbrev pub with_tree : Process → (r : ℕ) → Tree → (refs : ℕ) → Process
+with_tree q r t refs = record (with_register r t q) { refs = refs }
+
+module _ (b : One) (holds : Holds b) (seat : Seat) (x : Sits b seat) (n : ℕ) (h : Halves) (ok : Bool) (room : MakesRoom n b.halves h ok) where
+  counts1 : IsCounted (roomed b h)
+  counts1 = counts-there b holds n h ok room
+
+  sits1 : Sits (roomed b h) seat
+  sits1 = sits-there b holds n h ok room seat x
+
+  pub term-within : seat.row < vec_len h.procs
+  term-within = omega (arith, sits1.within, h.procs.ok.0)
+
+  -- The words between the objects and the stack places are a room of the memory.
+  pub is-room : (y : Room) → y ≡ record { start = h.base; top = h.top; end = h.low } → IsRoom y h.mem
+  is-room y start =
+      let P : Room → Type 0 = λ z. IsRoom z h.mem in
+      subst P (sym start) (record {
+        start_first = omega (arith, room.laid.front);
+        top_next = room.laid.order;
+        inside = omega (arith, room.laid.places, half-within h room.laid);
+      })
+
+  -- A row has made no more references than there were calls.
+  pub row-made : (p : Proc) → p ≡ get_or h.procs.items seat.row p → p.refs ≤ b.calls + 1
+  row-made p is = omega (arith, ap (λ v. v.refs) is, made-at (b.calls + 1) h.procs.items seat.row p sits1.within counts1.made)
+
+  module _ (given : ok ≡ true) where
+    pub term-fits : h.top + n ≤ h.low
+    term-fits = omega (arith, room-there n b.halves h ok room given, room.laid.order)
+
+    -- No word of the room has a role.
+    pub room-free : (s : State) (o : OneStands b s) (m : ℕ) → IsFree (roomed-there b holds n h ok room s o).processes.test h.top (h.top + m)
+    room-free s o m a k e = inl ((roomed-there b holds n h ok room s o).processes.objects a k e).1.0
+
+    module _ (mem2 : List ℕ) (z : Room) (used : ℕ) (few : used ≤ n) (uses : Uses used (record { start = h.base; top = h.top; end = h.low }) z h.mem mem2)
+        (p : Proc) (is : p ≡ get_or h.procs.items seat.row p) (r w made : ℕ) (row : Vec ℕ Global) (same_row : vec_len row ≡ vec_len b.row) where
+      abbrev h2 : Halves
+      h2 = laid_out h mem2 z.top h.low (with_item h.procs seat.row (with_term p r w made))
+
+      pub term-counts : (named : ℕ) → made ≤ b.calls + 1 → IsCounted (built_in b h2 row named)
+      term-counts named most =
+          let same : depths (set h.procs.items seat.row (with_term p r w made)) ≡ depths h.procs.items =
+          omega (arith, depths-row h.procs.items seat.row (with_term p r w made) p sits1.within is) in
+          counts-same (roomed b h) (built_in b h2 row named) counts1
+          (record {
+            even = omega (arith, uses.same_len, room.laid.even);
+            side = elim room.laid.side [ inl e ↦ inl e | inr e ↦ inr (omega (arith, e, uses.same_len)) ];
+            front = omega (arith, room.laid.front, uses.moved);
+            order = omega (arith, uses.moved, few, term-fits);
+            places = omega (arith, room.laid.places, same, uses.same_len);
+          })
+          (numbers-row h.procs.items seat.row (with_term p r w made) p sits1.within is refl) (length-set h.procs.items seat.row (with_term p r w made)) refl same_row refl (omega arith) refl
+          (made-set (b.calls + 1) (b.calls + 1) (omega arith) h.procs.items seat.row (with_term p r w made) counts1.made most)
+
+      module _ (s : State) (o : OneStands b s) (t : Tree) (named refs : ℕ) (more : b.named ≤ named) (names : is_named named t ≡ true) (same_refs : refs ≡ made)
+          (built : Built (roomed-there b holds n h ok room s o).processes.test h.top used h.mem mem2 s.shared w t) where
+        o1 : OneStands (roomed b h) s
+        o1 = roomed-there b holds n h ok room s o
+
+        abbrev q : Process
+        q = get_or s.processes seat.row no_process
+
+        trees : (v : ℕ) (u : Tree) → HoldsTree o1.processes.test s.shared h.mem b.named v u → HoldsTree built.test s.shared mem2 named v u
+        unfolding o1
+        trees v u held = record { standing = built.grows.kept.each s.shared v u held.standing; names = named-more b.named named more u held.names }
+
+        kept : AreKept h.mem mem2 h.low (end_of h)
+        kept a above below = uses.others a (inr (omega (arith, above, few, term-fits)))
+
+        rows : ProcsStand built.test s.shared mem2 h.low (end_of h) named h.procs.items s.processes
+        rows = procs-on o1.processes.test built.test s.shared h.mem mem2 b.named named h.low h.low (end_of h) trees kept (omega arith) h.procs.items s.processes o1.processes.processes
+
+        set-rows : ProcsStand built.test s.shared mem2 h.low (end_of h) named (set h.procs.items seat.row (with_term p r w made)) (set s.processes seat.row (with_tree q r t refs))
+        set-rows =
+            let old = row-stands built.test s.shared mem2 h.low (end_of h) named h.procs.items s.processes seat.row p sits1.within is rows in
+            procs-set built.test s.shared mem2 named h.low (end_of h) h.procs.items s.processes seat.row (with_term p r w made) (with_tree q r t refs) rows (record {
+              number = old.number;
+              count = length-set p.regs r w ∙ old.count;
+              registers = held-set built.test s.shared mem2 named p.regs q.registers r w t old.registers (record { standing = built.made; names = names });
+              places = old.places;
+              stack = old.stack;
+              queue = old.queue;
+              refs = same_refs;
+            })
+
+        objects : (a k : ℕ) → built.test a k ≡ true → (front_of h ≤ a) × ((a < z.top) × OfObject k)
+        unfolding o1
+        objects a k e = (
+          elim (built.grows.within a k e) [ inl old ↦ (o1.processes.objects a k old).0 | inr new ↦ omega (arith, new, room.laid.front) ],
+          (
+            elim (built.grows.within a k e) [ inl old ↦ omega (arith, (o1.processes.objects a k old).1.0, uses.moved) | inr new ↦ omega (arith, new, uses.moved) ],
+            elim (built.grows.objects a k e) [ inl old ↦ (o1.processes.objects a k old).1.1 | inr role ↦ role ],
+          ),
+        )
+
+        halves-stand : HalvesStand named h2 s.shared (set s.processes seat.row (with_tree q r t refs))
+        unfolding o1
+        halves-stand =
+            let limit : end_of h ≡ h.base + length mem2 / 2 = omega (arith, uses.same_len) in
+            let P : ℕ → Type 0 = λ v. ProcsStand built.test s.shared mem2 h.low v named (set h.procs.items seat.row (with_term p r w made)) (set s.processes seat.row (with_tree q r t refs)) in
+            record { test = built.test; single = built.grows.single o1.processes.single; objects = objects; processes = subst P limit set-rows }
+
+        pub replaced-stand : HalvesStand named h2 s.shared (map (replaced (with_tree q r t refs)) s.processes)
+        replaced-stand =
+            let P : List Process → Type 0 = λ v. HalvesStand named h2 s.shared v in
+            subst P (sym (set-there (roomed b h) s o1 counts1 seat sits1 (with_tree q r t refs) (number-there (roomed b h) s o1 counts1 seat sits1))) halves-stand
+
+        -- The space stands for the state with the tree in the register.
+        pub term-stands : (v : Verb) (terms : Terms) (lines : List (List ℕ))
+            → OneStands (built_in b h2 row named) (settled (said (OfProcess seat.pid v) terms lines) (with_process (with_tree q r t refs) s))
+        term-stands v terms lines =
+            settled-stands (roomed b h) (built_in b h2 row named) s (said (OfProcess seat.pid v) terms lines) (with_tree q r t refs) o1 replaced-stand refl refl
+
+        pub term-found : process_of seat.pid s ≡ Some q
+        term-found = found-there (roomed b h) s o1 counts1 seat sits1

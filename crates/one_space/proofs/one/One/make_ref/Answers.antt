@@ -1,0 +1,36 @@
+use Rattle.std.proofs.Common.{ℕ, ◌+◌, Bool, List, refl, subst, arith}
+use Rattle.word_mem.specs.declared.ranges.Room.{Room}
+use Rattle.plain_term.specs.Tree.Tree.{Ref}
+use Rattle.term_build.specs.Clear.{Uses}
+use Rattle.term_build.specs.Grows.{Built}
+use Rattle.term_build.specs.Taken.{IsFree}
+use Rattle.one_space.proofs.Referring.{ref-does, ref-refused, refs-few}
+use Rattle.one_space.proofs.Terming.{term-within}
+use Rattle.one_space.proofs.one.One.make_ref.Goals as goal
+
+pub returns-then-not-make_room-clause-does : goal.returns-then-not-make_room-clause-does
+returns-then-not-make_room-clause-does c =
+    ref-refused c.args.self.now c.requires.holds c.args.seat c.requires.sits c.args.r c.make_room.new.self c.make_room.result c.make_room.ensures c.if-not-make_room.true
+
+pub index-requires : goal.index-requires
+index-requires c = term-within c.args.self.now c.requires.holds c.args.seat c.requires.sits 3 c.make_room.new.self c.make_room.result c.make_room.ensures
+
+pub overflow_add-count : goal.overflow_add-count
+overflow_add-count c =
+    omega (
+      arith,
+      c.requires.calls,
+      refs-few c.args.self.now c.requires.holds c.args.seat c.requires.sits c.args.r c.make_room.new.self c.make_room.result c.make_room.ensures c.index.result.now c.index.ensures,
+    )
+
+pub index_mut-process-requires : goal.index_mut-process-requires
+index_mut-process-requires c = term-within c.args.self.now c.requires.holds c.args.seat c.requires.sits 3 c.make_room.new.self c.make_room.result c.make_room.ensures
+
+pub returns-clause-does : goal.returns-clause-does
+returns-clause-does c =
+    let U : Room → Type 0 = λ y. Uses 3 y c.reference-w.new.room c.make_room.new.self.mem c.reference-w.new.mem in
+    let V : Room → Type 0 = λ y. (k : ℕ → ℕ → Bool) (shared : List (List ℕ)) → IsFree k y.top (y.top + 3)
+    → Built k y.top 3 c.make_room.new.self.mem c.reference-w.new.mem shared c.reference-w.result (Ref c.args.seat.pid (c.index.result.now.refs + 1)) in
+    ref-does c.args.self.now c.requires.holds c.args.seat c.requires.sits c.args.r c.make_room.new.self c.make_room.result c.make_room.ensures c.if-not-make_room.false c.reference-w.new.mem
+    c.reference-w.new.room (subst U c.room-room.ensures c.reference-w.ensures.uses) c.index.result.now c.index.ensures c.index_mut-process.result.now c.index_mut-process.ensures.value
+    c.reference-w.result (c.index.result.now.refs + 1) refl (subst V c.room-room.ensures c.reference-w.ensures.built)

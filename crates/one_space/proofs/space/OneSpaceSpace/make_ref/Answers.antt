@@ -1,0 +1,10 @@
+use Rattle.script_grammar.specs.declared.command.Command.TheVariants.{Process}
+use Rattle.script_grammar.specs.declared.command.Verb.TheVariants as verb
+use Rattle.one_space.specs.One.{OneStands}
+use Rattle.one_space.proofs.Calling.{becomes-so}
+use Rattle.one_space.proofs.space.OneSpaceSpace.make_ref.Goals as goal
+
+pub returns-clause-becomes : goal.returns-clause-becomes
+returns-clause-becomes c = λ s terms names h has.
+    becomes-so c.self.inside.one c.args.self.now c.self.view_is (Process c.args.seat.pid (verb.Ref c.args.r)) terms names s h has tt c.make_ref.result (OneStands c.make_ref.new.self)
+    (λ o. c.make_ref.ensures.does.becomes s terms names o)

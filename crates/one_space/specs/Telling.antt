@@ -1,0 +1,36 @@
+-- What is told of the terms of registers.
+use Rattle.std.specs.Prelude.{◌≡◌, ℕ, true, Some, Result, Ok, Err}
+use Rattle.std.specs.declared.cmp.Ordering.{Ordering}
+use Rattle.std.specs.declared.cmp.Ordering.TheVariants as ordering
+use Rattle.script_grammar.specs.declared.command.Measure.{Measure}
+use Rattle.script_grammar.specs.declared.command.Reg.{Reg}
+use Rattle.script_grammar.specs.declared.refusal.Refusal.{Refusal}
+use Rattle.script_grammar.specs.declared.refusal.Refusal.TheVariants.{Big}
+use Rattle.plain_machine.specs.State.{Process, State, process_of, register}
+use Rattle.term_words.specs.Role.{always}
+use Rattle.term_words.specs.Stands.{Stands}
+use Rattle.term_walk.specs.declared.measured.Measured.{Measured}
+use Rattle.term_walk.specs.declared.measured.Measured.TheVariants as measured
+use Rattle.term_order.specs.Named.{is_named}
+use Rattle.term_order.specs.declared.compared.Compared.{Compared}
+use Rattle.term_order.specs.declared.compared.Compared.TheVariants as compared
+use Rattle.one_space.specs.declared.one.One.{One}
+
+-- The word stands for the tree of the process's register, whose names are among those of the space.
+pub record IsHeld (b : One) (s : State) (pid : ℕ) (r : Reg) (w : ℕ) : Type 0 where
+  pub process : Process
+  pub found : process_of pid s ≡ Some process
+  pub standing : Stands always s.shared b.halves.mem w (register r.0 process)
+  pub named : is_named b.named (register r.0 process) ≡ true
+
+-- What is told of a measured term: one that is beyond the walk limit is refused.
+abbrev pub measure_told : Measured → Result Measure Refusal
+measure_told (measured.Within m) = Ok (record { nodes = m.nodes; flat = m.flat })
+measure_told measured.Beyond = Err Big
+
+-- What is told of two compared terms.
+abbrev pub order_told : Compared → Result Ordering Refusal
+order_told compared.Less = Ok ordering.Less
+order_told compared.Same = Ok ordering.Equal
+order_told compared.More = Ok ordering.Greater
+order_told compared.Beyond = Err Big

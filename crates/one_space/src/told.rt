@@ -1,0 +1,127 @@
+// What is told of the terms of registers.
+ghost use Rattle.std.specs.Prelude.{◌≡◌, ℕ, ◌≤◌, Err, IfOk, List, OnErr, OnOk, Some, decimal, length};
+ghost use Rattle.line_io.specs.Faults.{Rose};
+ghost use Rattle.plain_term.specs.Measures.{nodes};
+ghost use Rattle.script_grammar.specs.declared.command.Command.TheVariants.{Process};
+ghost use Rattle.script_grammar.specs.declared.command.Verb.TheVariants as verb;
+ghost use Rattle.script_grammar.specs.Names.{IsRegister};
+ghost use Rattle.script_grammar.specs.Written.{Terms};
+ghost use Rattle.plain_machine.specs.State.{State, process_of, register};
+ghost use Rattle.plain_machine.specs.State.{Process as Live};
+ghost use Rattle.plain_machine.specs.Step.{step, eq_text, cmp_text};
+ghost use Rattle.space_api.specs.Calls.{Prints, Tells, said};
+ghost use Rattle.one_space.specs.One.{Holds, OneStands, Sits};
+ghost use Rattle.one_space.specs.Telling.{IsHeld, measure_told, order_told};
+
+use crate::one::One;
+use atom_names::AtomNames;
+use line_io::Sink;
+use plain_machine::{Measure, Refusal, Reg};
+use space_api::{Seat, Stop};
+use std::cmp::Ordering;
+use term_order::{Compared, compare};
+use term_print::print;
+use term_verbs::is_big;
+use term_walk::{Measured, measure};
+
+impl One {
+    // The word of a register.
+    fn word(&self, seat: Seat, r: Reg) -> u64
+        requires holds { Holds self.now }
+        requires sits { Sits self.now seat }
+        requires register { IsRegister r }
+        ensures { (s : State) → OneStands self.now s → IsHeld self.now s seat.pid r result }
+    {
+        self.halves.procs[seat.row].regs[r.0 as usize]
+    }
+
+    /// The nodes and the flat size of a register's term.
+    pub fn measure(&self, seat: Seat, s: Reg) -> Result<Measure, Refusal>
+        requires holds { Holds self.now }
+        requires sits { Sits self.now seat }
+        requires register { IsRegister s }
+        ensures flat { (state : State) (terms : Terms) (names : List (List ℕ)) → OneStands self.now state
+            → Tells (step state (said (Process seat.pid (verb.Flat s)) terms names)) (λ m. decimal m.flat) result }
+        ensures nodes { (state : State) (q : Live) → OneStands self.now state → process_of seat.pid state ≡ Some q
+            → IfOk result (λ m. m.nodes ≡ nodes state.shared (register s.0 q)) }
+    {
+        told_measure(measure(&self.halves.mem, self.word(seat, s)))
+    }
+
+    /// How a register's term stands to another's in the order of terms.
+    pub fn compare(
+        &self,
+        names: &AtomNames,
+        seat: Seat,
+        a: Reg,
+        b: Reg,
+    ) -> Result<Ordering, Refusal>
+        requires holds { Holds self.now }
+        requires sits { Sits self.now seat }
+        requires register { IsRegister a }
+        requires other { IsRegister b }
+        requires named { self.now.named ≤ length names.now }
+        ensures equal { (state : State) (terms : Terms) → OneStands self.now state
+            → Tells (step state (said (Process seat.pid (verb.Eq a b)) terms names.now)) eq_text result }
+        ensures order { (state : State) (terms : Terms) → OneStands self.now state
+            → Tells (step state (said (Process seat.pid (verb.Cmp a b)) terms names.now)) cmp_text result }
+    {
+        let first = self.word(seat, a);
+        let second = self.word(seat, b);
+        told_order(compare(&self.halves.mem, names, first, second))
+    }
+
+    /// Writes the text of a register's term.
+    pub fn print<K: Sink>(
+        &self,
+        names: &AtomNames,
+        seat: Seat,
+        s: Reg,
+        sink: &mut K,
+    ) -> Result<(), Stop>
+        requires holds { Holds self.now }
+        requires sits { Sits self.now seat }
+        requires register { IsRegister s }
+        requires named { self.now.named ≤ length names.now }
+        ensures prints { (state : State) (terms : Terms) → OneStands self.now state
+            → Prints (step state (said (Process seat.pid (verb.Print s)) terms names.now)) K.wrote sink.old sink.new result }
+        ensures big { result ≡ Err Stop.Big → sink.new ≡ sink.old }
+        ensures later { K.faults sink.old ≤ K.faults sink.new }
+        ensures rose { result ≡ Err Stop.Fault → Rose (K.faults sink.old) (K.faults sink.new) }
+        ensures told { OnOk result (K.faults sink.new ≡ K.faults sink.old) }
+    {
+        let w = self.word(seat, s);
+        if is_big(&self.halves.mem, w) {
+            return Err(Stop::Big);
+        }
+        match print(&self.halves.mem, names, w, sink) {
+            Ok(()) => Ok(()),
+            Err(_) => Err(Stop::Fault),
+        }
+    }
+}
+
+// What is told of a measured term.
+fn told_measure(measured: Measured) -> Result<Measure, Refusal>
+    ensures { result ≡ measure_told measured }
+{
+    match measured {
+        Measured::Within(m) => Ok(Measure {
+            nodes: m.nodes,
+            flat: m.flat,
+        }),
+        Measured::Beyond => Err(Refusal::Big),
+    }
+}
+
+// What is told of two compared terms.
+fn told_order(compared: Compared) -> Result<Ordering, Refusal>
+    ensures { result ≡ order_told compared }
+{
+    match compared {
+        Compared::Less => Ok(Ordering::Less),
+        Compared::Same => Ok(Ordering::Equal),
+        Compared::More => Ok(Ordering::Greater),
+        Compared::Beyond => Err(Refusal::Big),
+    }
+}
