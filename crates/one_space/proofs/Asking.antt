@@ -7,7 +7,7 @@ use Rattle.script_grammar.specs.declared.refusal.Refusal.{Refusal}
 use Rattle.script_grammar.specs.declared.refusal.Refusal.TheVariants as refusal
 use Rattle.one_space.specs.Halves.{free_in}
 use Rattle.one_space.specs.Collecting.{MakesRoom}
-use Rattle.one_space.specs.Doing.{Asks, AsksUnless, is_early, refusal_of_put}
+use Rattle.one_space.specs.Doing.{Asks, AsksUnless, refusal_of_put}
 use Rattle.one_space.specs.declared.halves.Halves.{Halves}
 use Rattle.one_space.specs.declared.one.One.{One}
 use Rattle.one_space.proofs.Rooms.{roomed}

@@ -1,5 +1,5 @@
 -- The calls of the space, from those of what it holds.
-use Rattle.std.proofs.Common.{◌≡◌, ℕ, ◌<◌, ◌≤◌, ◌%◌, ◌/◌, ◌||◌, Bool, true, false, nat_lt, List, [], ◌∷◌, length, get_or, Option, Some, Result, Ok, Err, replicate, refl, sym, ◌∙◌, ap, subst, arith, inl}
+use Rattle.std.proofs.Common.{◌≡◌, ℕ, ◌≤◌, ◌%◌, ◌/◌, Bool, true, false, List, [], ◌∷◌, length, Option, Result, replicate, refl, sym, ◌∙◌, ap, subst, arith, inl}
 use Rattle.std.specs.Vec.{vec_len, vec_capacity}
 use Rattle.script_grammar.specs.declared.command.Command.{Command}
 use Rattle.script_grammar.specs.declared.command.Command.TheVariants.{Process as OfProcess, System}

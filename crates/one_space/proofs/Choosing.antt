@@ -1,9 +1,6 @@
 -- `hd`, `tl`, `elem` and `mapget`: the part that is picked in a register, or there is none.
-use Rattle.std.proofs.Common.{◌≡◌, ℕ, ◌<◌, ◌≤◌, Bool, true, false, List, [], length, get_or, Option, Some, None, Ok, Err, refl, sym, ◌∙◌, subst, arith, inl}
-use Rattle.std.specs.Vec.{with_item}
+use Rattle.std.proofs.Common.{◌≡◌, ℕ, ◌<◌, ◌≤◌, Bool, List, length, get_or, Option, Some, None, Ok, Err, refl, sym, subst, arith, inl}
 use Rattle.plain_term.specs.Tree.{Tree}
-use Rattle.plain_term.specs.Tree.Tree.{Int, Atom, Pid, Ref, Nil, Cons, Tuple, Map, Bin, Shared, Part, Fun}
-use Rattle.plain_term.specs.Proper.{is_proper}
 use Rattle.script_grammar.specs.declared.command.Command.TheVariants.{Process as OfProcess}
 use Rattle.script_grammar.specs.declared.command.Reg.{Reg}
 use Rattle.script_grammar.specs.declared.command.Pick.{Pick}
@@ -12,24 +9,20 @@ use Rattle.script_grammar.specs.declared.command.Verb.{Verb}
 use Rattle.script_grammar.specs.declared.command.Verb.TheVariants as verb
 use Rattle.script_grammar.specs.declared.refusal.Refusal.TheVariants as refusal
 use Rattle.script_grammar.specs.Names.{PicksRegister}
-use Rattle.script_grammar.specs.Written.{Terms}
 use Rattle.script_grammar.specs.Written.Terms.{end}
 use Rattle.term_words.specs.Stands.{Stands}
 use Rattle.term_words.proofs.Rooms.{is-term}
 use Rattle.term_words.proofs.Single.{single}
 use Rattle.term_read.specs.Parts.{Answers}
-use Rattle.term_order.specs.Named.{is_named}
 use Rattle.term_verbs.specs.Picked.{CanPick, CanSeek, HasKey, HasSorted, IsPart}
 use Rattle.term_verbs.proofs.Sorted.{proper-sorted}
 use Rattle.plain_machine.specs.State.{HasNames, Process, State, register}
-use Rattle.plain_machine.specs.Laws.{HoldsProper}
 use Rattle.plain_machine.specs.Parts.{picked}
 use Rattle.plain_machine.specs.Step.{choose, in_process}
-use Rattle.plain_machine.specs.May.{may_of_tight}
-use Rattle.space_api.specs.Calls.{Becomes, Follows, Properly, said}
+use Rattle.space_api.specs.Calls.{Follows, Properly, said}
 use Rattle.space_api.specs.declared.space.Seat.{Seat}
 use Rattle.one_space.specs.Halves.{HoldsTree}
-use Rattle.one_space.specs.One.{Holds, OneStands, Sits, words_of}
+use Rattle.one_space.specs.One.{Holds, OneStands, Sits}
 use Rattle.one_space.specs.Doing.{DoesBy}
 use Rattle.one_space.specs.declared.one.One.{One}
 use Rattle.one_space.specs.declared.table.Proc.{Proc}

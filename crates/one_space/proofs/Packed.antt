@@ -1,6 +1,6 @@
 -- Each object is copied once: the copies take no more words than the places that the objects lie in.
 use Rattle.std.proofs.Common.{◌≡◌, ℕ, ◌+◌, ◌-◌, ◌/◌, ◌≤◌, Bool, true, List, [], ◌∷◌, refl, arith}
-use Rattle.term_words.specs.Counted.{ArePacked, Distinct, In, total}
+use Rattle.term_words.specs.Counted.{ArePacked, Distinct, total}
 use Rattle.term_words.specs.Object.{IsPointer}
 use Rattle.term_words.proofs.Counts.{count-most}
 use Rattle.term_words.proofs.Packing.{packed}

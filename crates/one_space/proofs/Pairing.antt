@@ -1,12 +1,12 @@
 -- `mapput`: a map with a pair more in a register, or none.
-use Rattle.std.proofs.Common.{◌≡◌, ℕ, ◌+◌, ◌*◌, ◌<◌, ◌≤◌, Bool, true, false, nat_lt, List, [], length, get_or, Option, Some, None, Result, Ok, Err, refl, sym, ◌∙◌, ap, subst, arith, inl}
+use Rattle.std.proofs.Common.{◌≡◌, ℕ, ◌+◌, ◌*◌, ◌<◌, ◌≤◌, Bool, true, false, nat_lt, List, get_or, Option, Some, Result, Ok, Err, refl, sym, ◌∙◌, ap, subst, arith, inl}
 use Rattle.std.proofs.lemmas.Bool.Decides.{nat_tests}
 use Rattle.std.specs.Vec.{with_item}
 use Rattle.std.specs.Ordering.{match_ordering}
 use Rattle.std.specs.declared.cmp.Ordering.{Ordering}
 use Rattle.std.specs.declared.cmp.Ordering.TheVariants.{Less, Equal, Greater}
 use Rattle.word_mem.specs.declared.ranges.Room.{Room}
-use Rattle.plain_term.specs.Tree.{Tree, Pairs, pairs_len, keys_of}
+use Rattle.plain_term.specs.Tree.{Tree, Pairs, pairs_len}
 use Rattle.plain_term.specs.Tree.Tree.{Int, Atom, Pid, Ref, Nil, Cons, Tuple, Map, Bin, Shared, Part, Fun}
 use Rattle.plain_term.specs.Tree.Pairs.{stop, pair}
 use Rattle.plain_term.specs.Beyond.{is_beyond}
@@ -27,7 +27,6 @@ use Rattle.term_build.specs.Grows.{Built}
 use Rattle.term_build.specs.Clear.{Uses}
 use Rattle.term_order.specs.Named.{is_named}
 use Rattle.term_maps.specs.InOrder.{by_order, put_pair}
-use Rattle.term_maps.specs.Spots.{IsWithin}
 use Rattle.term_maps.specs.declared.sorted.Spot.{Spot}
 use Rattle.term_maps.specs.declared.sorted.Spot.TheVariants as spot
 use Rattle.term_verbs.specs.declared.pairs.Place.{Place}
@@ -35,10 +34,9 @@ use Rattle.term_verbs.specs.declared.pairs.PutStop.{PutStop}
 use Rattle.term_verbs.specs.declared.pairs.PutStop.TheVariants as put
 use Rattle.term_verbs.specs.Found.{AreSorted}
 use Rattle.term_verbs.specs.Picked.{HasSorted}
-use Rattle.term_verbs.specs.Placed.{Fits, HasPlace, IsFull, IsPlace, count_placed, placed}
+use Rattle.term_verbs.specs.Placed.{Fits, HasPlace, IsPlace, count_placed, placed}
 use Rattle.term_verbs.proofs.Placing.{placed-count, placed-put}
 use Rattle.term_verbs.proofs.Sorted.{proper-sorted}
-use Rattle.plain_term.specs.Proper.{is_proper}
 use Rattle.plain_machine.specs.Made.{with_pair}
 use Rattle.plain_machine.specs.Parts.{pairs_in}
 use Rattle.plain_machine.specs.State.{HasNames, Process, State, process_of, register, with_process, with_register}
@@ -47,12 +45,12 @@ use Rattle.plain_machine.specs.Step.{Outcome, does, in_process, put_unless_big, 
 use Rattle.plain_machine.specs.Step.Outcome.{Refused}
 use Rattle.plain_machine.specs.Step.{put_pair as put_step}
 use Rattle.plain_machine.specs.Tightness.{keys_in}
-use Rattle.plain_machine.specs.May.{gets_to_space, may_of_tight}
-use Rattle.space_api.specs.Calls.{Becomes, Follows, Properly, said}
+use Rattle.plain_machine.specs.May.{gets_to_space}
+use Rattle.space_api.specs.Calls.{Follows, Properly, said}
 use Rattle.space_api.specs.declared.space.Seat.{Seat}
 use Rattle.one_space.specs.Halves.{HoldsTree}
 use Rattle.one_space.specs.Collecting.{MakesRoom}
-use Rattle.one_space.specs.One.{Holds, IsCounted, OneStands, Sits, words_of}
+use Rattle.one_space.specs.One.{Holds, OneStands, Sits}
 use Rattle.one_space.specs.Doing.{DoesBy, refusal_of_put}
 use Rattle.one_space.specs.declared.halves.Halves.{Halves}
 use Rattle.one_space.specs.declared.one.One.{One}
@@ -61,7 +59,7 @@ use Rattle.one_space.proofs.Acting.{after, laid_out}
 use Rattle.one_space.proofs.Changing.{no_process}
 use Rattle.one_space.proofs.Growing.{books-there, counts-there, grow-at, holds-there, lacks-space, roomed-there, sits-there, some-process}
 use Rattle.one_space.proofs.Naming.{placed-named}
-use Rattle.one_space.proofs.Registers.{held-there, proper-there, row-there, word-there}
+use Rattle.one_space.proofs.Registers.{held-there, proper-there, row-there}
 use Rattle.one_space.proofs.Rooms.{roomed, stays-roomed}
 use Rattle.one_space.proofs.Seated.{found-there}
 use Rattle.one_space.proofs.Terming.{room-free, row-made, term-counts, term-fits, term-stands, with_term}

@@ -1,8 +1,7 @@
 -- `ref`: a new reference in a register, or there is no space.
-use Rattle.std.proofs.Common.{Vec, ◌≡◌, ℕ, ◌+◌, ◌<◌, ◌≤◌, Bool, true, false, List, [], length, get_or, Option, Some, Ok, Err, refl, sym, ◌∙◌, ap, subst, arith, inl}
-use Rattle.std.specs.Vec.{vec_len, with_item}
+use Rattle.std.proofs.Common.{◌≡◌, ℕ, ◌+◌, ◌≤◌, Bool, true, false, List, [], get_or, Option, Ok, Err, refl, sym, ◌∙◌, ap, subst, arith, inl}
+use Rattle.std.specs.Vec.{with_item}
 use Rattle.word_mem.specs.declared.ranges.Room.{Room}
-use Rattle.plain_term.specs.Tree.{Tree}
 use Rattle.plain_term.specs.Tree.Tree.{Ref}
 use Rattle.script_grammar.specs.declared.command.Command.TheVariants.{Process as OfProcess}
 use Rattle.script_grammar.specs.declared.command.Reg.{Reg}
@@ -30,8 +29,8 @@ use Rattle.one_space.proofs.Counting.{made-at, made-same}
 use Rattle.one_space.proofs.Growing.{counts-there, grow-at, holds-become, refused-does, roomed-there, sits-there, some-process}
 use Rattle.one_space.proofs.Registers.{row-there}
 use Rattle.one_space.proofs.Rooms.{roomed, stays-roomed}
-use Rattle.one_space.proofs.Seated.{found-there, number-there, settled-stands}
-use Rattle.one_space.proofs.Terming.{built_in, room-free, term-counts, term-found, term-stands, with_term, with_tree}
+use Rattle.one_space.proofs.Seated.{found-there, number-there}
+use Rattle.one_space.proofs.Terming.{room-free, term-counts, term-stands, with_term}
 
 module _ (b : One) (holds : Holds b) (seat : Seat) (x : Sits b seat) (r : Reg) (h : Halves) (ok : Bool) (room : MakesRoom 3 b.halves h ok) where
   pub ref-refused : ok ≡ false → Does {A = Unit {0}} (OfProcess seat.pid (verb.Ref r)) b (roomed b h) (Err (refusal.NoSpace 3))

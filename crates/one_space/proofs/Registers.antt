@@ -1,7 +1,6 @@
 -- What a row says of its process in a state that the space stands for.
-use Rattle.std.proofs.Common.{◌≡◌, ℕ, ◌<◌, ◌≤◌, ◌∙◌, Bool, true, List, length, get_or, refl, arith}
-use Rattle.plain_term.specs.Tree.{Tree}
-use Rattle.plain_machine.specs.State.{HasNames, Process, State, process_of, register}
+use Rattle.std.proofs.Common.{◌≡◌, ℕ, ◌<◌, ◌≤◌, true, List, length, get_or, refl, arith}
+use Rattle.plain_machine.specs.State.{HasNames, Process, State, register}
 use Rattle.plain_machine.specs.Laws.{HoldsProper}
 use Rattle.plain_machine.proofs.Holding.{before, found-proper}
 use Rattle.plain_machine.proofs.Parts.{at-proper}
@@ -11,7 +10,6 @@ use Rattle.term_words.specs.Stands.{Stands}
 use Rattle.term_words.proofs.Rooms.{weaken}
 use Rattle.term_order.specs.Named.{is_named}
 use Rattle.term_order.specs.Compared.{AreNamed}
-use Rattle.space_api.specs.Calls.{Properly}
 use Rattle.space_api.specs.declared.space.Seat.{Seat}
 use Rattle.one_space.specs.Halves.{HoldsTree, ProcStands, end_of}
 use Rattle.one_space.specs.One.{IsCounted, OneStands, Sits}
@@ -19,7 +17,7 @@ use Rattle.one_space.specs.declared.one.One.{One}
 use Rattle.one_space.specs.declared.table.Proc.{Proc}
 use Rattle.one_space.proofs.Changing.{held-at, no_process}
 use Rattle.one_space.proofs.Naming.{named-more}
-use Rattle.one_space.proofs.Seated.{found-there, number-there}
+use Rattle.one_space.proofs.Seated.{found-there}
 use Rattle.one_space.proofs.Turning.{row-stands}
 
 module _ (b : One) (counts : IsCounted b) (seat : Seat) (x : Sits b seat) (p : Proc) (is : p ≡ get_or b.halves.procs.items seat.row p) (s : State) (o : OneStands b s) where

@@ -1,5 +1,5 @@
 -- `mktuple` and `mklist`: a term in many places, too many, or there is no space.
-use Rattle.std.proofs.Common.{Vec, ◌≡◌, ℕ, ◌+◌, ◌<◌, ◌≤◌, Bool, true, false, nat_lt, List, [], length, get_or, Option, Some, Ok, Err, refl, sym, ◌∙◌, subst, arith, inl}
+use Rattle.std.proofs.Common.{◌≡◌, ℕ, ◌+◌, ◌<◌, ◌≤◌, Bool, true, false, nat_lt, List, [], get_or, Option, Ok, Err, refl, sym, ◌∙◌, subst, arith, inl}
 use Rattle.std.proofs.lemmas.Bool.Decides.{nat_tests}
 use Rattle.std.specs.Vec.{with_item}
 use Rattle.word_mem.specs.declared.ranges.Room.{Room}
@@ -38,7 +38,6 @@ use Rattle.one_space.proofs.Registers.{held-there, row-there}
 use Rattle.one_space.proofs.Rooms.{roomed, stays-roomed}
 use Rattle.one_space.proofs.Seated.{found-there}
 use Rattle.one_space.proofs.Terming.{room-free, row-made, term-counts, term-stands, with_term}
-use Rattle.one_space.proofs.Turning.{with_word}
 
 too-many : (n : ℕ) → MOST_PLACES < n → nat_lt MOST_PLACES n ≡ true
 too-many n many = grind (arith, nat_tests)

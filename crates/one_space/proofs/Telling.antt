@@ -1,5 +1,5 @@
 -- What is told of registers is what the machine tells of their trees.
-use Rattle.std.proofs.Common.{◌≡◌, ℕ, ◌||◌, Bool, true, false, cond, List, [], length, decimal, Option, Some, Result, Ok, Err, IfOk, refl, sym, ap, subst, ◌∙◌, ◌≤◌}
+use Rattle.std.proofs.Common.{◌≡◌, ℕ, ◌||◌, Bool, true, false, cond, List, length, decimal, Option, Some, Result, Ok, Err, IfOk, refl, sym, ap, subst, ◌∙◌, ◌≤◌}
 use Rattle.std.specs.declared.cmp.Ordering.{Ordering}
 use Rattle.std.specs.declared.cmp.Ordering.TheVariants.{Less, Equal, Greater}
 use Rattle.line_io.specs.Sink.{Grew, GrewInPart}
@@ -14,7 +14,6 @@ use Rattle.script_grammar.specs.declared.command.Reg.{Reg}
 use Rattle.script_grammar.specs.declared.command.Verb.{Verb}
 use Rattle.script_grammar.specs.declared.command.Verb.TheVariants as verb
 use Rattle.script_grammar.specs.declared.refusal.Refusal.{Refusal}
-use Rattle.script_grammar.specs.declared.refusal.Refusal.TheVariants.{Big}
 use Rattle.script_grammar.specs.Written.{Terms}
 use Rattle.plain_machine.specs.State.{Process, State, process_of, register}
 use Rattle.plain_machine.specs.Step.{Outcome, by_verb, in_process, step, tells, unless_beyond, order_text}
@@ -26,12 +25,10 @@ use Rattle.term_walk.specs.Measured.{Measures, measured}
 use Rattle.term_walk.specs.declared.measured.Measured.{Measured}
 use Rattle.term_walk.specs.declared.measured.Measured.TheVariants.{Within, Beyond}
 use Rattle.term_order.specs.Compared.{AreNamed, Compares, answer_of, compared}
-use Rattle.term_order.specs.Named.{is_named}
 use Rattle.term_order.specs.declared.compared.Compared.{Compared}
 use Rattle.term_order.specs.declared.compared.Compared.TheVariants as answer
 use Rattle.term_print.specs.Printed.{CanPrint}
 use Rattle.term_words.specs.Role.{always}
-use Rattle.one_space.specs.One.{Holds, OneStands, Sits}
 use Rattle.one_space.specs.Telling.{IsHeld, measure_told, order_told}
 use Rattle.one_space.specs.declared.one.One.{One}
 use Rattle.one_space.proofs.Naming.{named-more}

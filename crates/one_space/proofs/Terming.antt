@@ -1,5 +1,5 @@
 -- A new term in a register: what the space stands for after it, whatever was built.
-use Rattle.std.proofs.Common.{Vec, ◌≡◌, ℕ, ◌+◌, ◌/◌, ◌<◌, ◌≤◌, Bool, true, false, List, length, map, get_or, set, Option, Some, refl, sym, ◌∙◌, ap, subst, arith, inl, inr}
+use Rattle.std.proofs.Common.{Vec, ◌≡◌, ℕ, ◌+◌, ◌/◌, ◌<◌, ◌≤◌, Bool, true, false, List, length, map, get_or, set, Some, refl, sym, ◌∙◌, ap, subst, arith, inl, inr}
 use Rattle.std.specs.Vec.{vec_len, with_item}
 use Rattle.std.specs.declared.alloc.Global.{Global}
 use Rattle.std.proofs.lemmas.List.{length-set}
@@ -17,9 +17,9 @@ use Rattle.plain_machine.specs.State.{Process, State, process_of, with_process, 
 use Rattle.plain_machine.specs.Step.{settled}
 use Rattle.space_api.specs.Calls.{said}
 use Rattle.space_api.specs.declared.space.Seat.{Seat}
-use Rattle.one_space.specs.Halves.{HalvesStand, HoldsTree, ProcsStand, depths, end_of, free_in, front_of}
+use Rattle.one_space.specs.Halves.{HalvesStand, HoldsTree, ProcsStand, depths, end_of, front_of}
 use Rattle.one_space.specs.Collecting.{MakesRoom}
-use Rattle.one_space.specs.One.{HaveMade, Holds, IsCounted, OneStands, Sits}
+use Rattle.one_space.specs.One.{Holds, IsCounted, OneStands, Sits}
 use Rattle.one_space.specs.declared.halves.Halves.{Halves}
 use Rattle.one_space.specs.declared.one.One.{One}
 use Rattle.one_space.specs.declared.table.Proc.{Proc}

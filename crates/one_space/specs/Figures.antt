@@ -1,5 +1,5 @@
 -- The words of a half, of a stack place and of a space in figures: a constant that is cited by its name is pinned here.
-use Rattle.std.specs.Prelude.{ℕ, ◌≡◌, List, [], ◌∷◌, refl}
+use Rattle.std.specs.Prelude.{◌≡◌, [], ◌∷◌, refl}
 use Rattle.one_space.specs.declared.halves.TheConstants.{UNUSED, PLACE_WORDS}
 use Rattle.one_space.specs.declared.one.TheConstants.{ROW, SPAWN_WORDS}
 use Rattle.one_space.specs.declared.space.TheConstants.{LEAST_WORDS}

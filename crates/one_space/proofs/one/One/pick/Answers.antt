@@ -1,4 +1,3 @@
-use Rattle.std.proofs.Common.{refl}
 use Rattle.one_space.proofs.Choosing.{can-pick, choose-does, choose-refused}
 use Rattle.one_space.proofs.one.One.pick.Goals as goal
 

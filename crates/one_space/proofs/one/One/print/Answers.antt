@@ -1,7 +1,6 @@
 use Rattle.std.proofs.Common.{sym, ◌∙◌}
 use Rattle.plain_machine.specs.State.{register}
 use Rattle.term_words.specs.Role.{always}
-use Rattle.one_space.specs.Telling.{IsHeld}
 use Rattle.one_space.proofs.Telling.{is-term, can-print, prints-big, prints-all, prints-part}
 use Rattle.one_space.proofs.one.One.print.Goals as goal
 

@@ -1,4 +1,4 @@
-use Rattle.std.proofs.Common.{ℕ, ◌+◌, Bool, List, get_or, subst, arith}
+use Rattle.std.proofs.Common.{ℕ, ◌+◌, Bool, List, get_or, subst}
 use Rattle.word_mem.specs.declared.ranges.Room.{Room}
 use Rattle.plain_term.specs.Tree.{Tree}
 use Rattle.plain_machine.specs.Parts.{repeated}

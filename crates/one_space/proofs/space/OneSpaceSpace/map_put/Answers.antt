@@ -1,7 +1,7 @@
-use Rattle.std.proofs.Common.{◌≡◌, ◌+◌, ◌*◌, Some, subst}
+use Rattle.std.proofs.Common.{◌+◌, ◌*◌, subst}
 use Rattle.script_grammar.specs.declared.command.Command.TheVariants.{Process}
 use Rattle.script_grammar.specs.declared.command.Verb.TheVariants as verb
-use Rattle.plain_machine.specs.State.{Process as Live, State, process_of, register}
+use Rattle.plain_machine.specs.State.{register}
 use Rattle.plain_machine.specs.Tightness.{keys_in}
 use Rattle.one_space.specs.Doing.{AsksUnless}
 use Rattle.one_space.specs.One.{OneStands}
