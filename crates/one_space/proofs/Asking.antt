@@ -1,13 +1,13 @@
 -- What a call asks for: how its collection and its refusal follow from the room that was made.
-use Rattle.std.proofs.Common.{◌≡◌, ℕ, ◌<◌, ◌≤◌, Bool, true, false, nat_le, Ok, Err, refl, sym, ◌∙◌, ap, subst, arith}
+use Rattle.std.proofs.Common.{◌≡◌, ℕ, ◌-◌, ◌/◌, ◌<◌, ◌≤◌, Bool, true, false, nat_le, length, Ok, Err, refl, sym, ◌∙◌, ap, subst, arith}
 use Rattle.std.proofs.Math.Decide.{dec_le}
 use Rattle.std.proofs.lemmas.Bool.Decides.{nat_tests}
 use Rattle.std.proofs.lemmas.Bool.{leb-false}
 use Rattle.script_grammar.specs.declared.refusal.Refusal.{Refusal}
 use Rattle.script_grammar.specs.declared.refusal.Refusal.TheVariants as refusal
-use Rattle.one_space.specs.Halves.{free_in}
+use Rattle.one_space.specs.Halves.{free_in, used_in}
 use Rattle.one_space.specs.Collecting.{MakesRoom}
-use Rattle.one_space.specs.Doing.{Asks, AsksUnless, refusal_of_put}
+use Rattle.one_space.specs.Doing.{Asks, AsksUnless, LeavesWords, refusal_of_put}
 use Rattle.one_space.specs.declared.halves.Halves.{Halves}
 use Rattle.one_space.specs.declared.one.One.{One}
 use Rattle.one_space.proofs.Rooms.{roomed}
@@ -47,6 +47,18 @@ module _ {A : Type 0} (n m : ℕ) (b : One) (h : Halves) (ok : Bool) (room : Mak
     where
       differ : {B : Type 0} (a : B) (x : Refusal) → Ok a ≡ Err x → ⊥
       differ a x e = cc
+
+-- What is left of the words in use where none was taken.
+pub leaves-words : (n m : ℕ) (b c : One) (h : Halves) (ok : Bool) → MakesRoom n b.halves h ok → n ≡ m → length c.halves.mem ≡ length h.mem → c.halves.top ≡ h.top → c.halves.low ≡ h.low
+    → LeavesWords m b c
+leaves-words n m b c h ok room same len top low = record {
+  idle = λ there. used ∙ ap used_in (room.idle (omega (arith, there, same)));
+  once = λ few. omega (arith, used, (room.collects (omega (arith, few, same))).once);
+  bound = λ few s o. omega (arith, used, (room.collects (omega (arith, few, same))).bound b.named s.shared s.processes o.processes);
+}
+  where
+    used : used_in c.halves ≡ used_in h
+    used = λ i. len i / 2 - (low i - top i)
 
 -- A call that was refused before it asked.
 pub asks-nothing : {A : Type 0} (n : ℕ) (b : One) (e : PutStop) → AsksUnless {A = A} n b b (Err (refusal_of_put e))

@@ -16,9 +16,10 @@ use Rattle.item_build.specs.declared.building.BuildStop.{BuildStop}
 use Rattle.item_build.specs.declared.building.BuildStop.TheVariants as stop
 use Rattle.term_verbs.specs.declared.pairs.PutStop.{PutStop}
 use Rattle.term_verbs.specs.declared.pairs.PutStop.TheVariants as put
-use Rattle.one_space.specs.Halves.{free_in}
-use Rattle.one_space.specs.Reached.{AllReached}
+use Rattle.one_space.specs.Halves.{free_in, used_in}
+use Rattle.one_space.specs.Reached.{AllReached, held_words}
 use Rattle.one_space.specs.One.{Holds, OneStands, words_of}
+use Rattle.one_space.specs.declared.halves.TheConstants.{UNUSED}
 use Rattle.one_space.specs.declared.one.One.{One}
 
 -- A changing call keeps the numbers of the space; the bound of its names is at most this.
@@ -65,6 +66,13 @@ pub record Asks {A : Type 0} (n : ℕ) (old new : One) (result : Result A Refusa
   pub idle : n ≤ free_in old.halves → new.halves.sweeps ≡ old.halves.sweeps
   pub once : free_in old.halves < n → new.halves.sweeps ≡ old.halves.sweeps + 1
   pub refused : (g : ℕ) → result ≡ Err (NoSpace g) → AllReached new.halves × (free_in new.halves < n)
+
+-- A call that looked for n free words leaves those in use as they were; where one collection was made, they are no more than
+-- before, and at most what the processes hold.
+pub record LeavesWords (n : ℕ) (old new : One) : Type 0 where
+  pub idle : n ≤ free_in old.halves → used_in new.halves ≡ used_in old.halves
+  pub once : free_in old.halves < n → used_in new.halves ≤ used_in old.halves
+  pub bound : free_in old.halves < n → (s : State) → OneStands old s → used_in new.halves ≤ UNUSED + held_words s.processes
 
 -- The call is refused by what stands before the want of space.
 abbrev pub is_early : {A : Type 0} → Result A Refusal → Bool

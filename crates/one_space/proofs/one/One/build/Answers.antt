@@ -3,6 +3,8 @@ use Rattle.std.specs.Vec.{with_items}
 use Rattle.script_grammar.specs.declared.refusal.Refusal.{Refusal}
 use Rattle.item_build.proofs.Written.{is-written}
 use Rattle.one_space.specs.Doing.{Builds}
+use Rattle.one_space.proofs.Asking.{leaves-words}
+use Rattle.one_space.proofs.Rooms.{roomed}
 use Rattle.one_space.proofs.Setting.{needed-words, set-does, set-held, set-refused, set-regs, set-stops, stopped_in}
 use Rattle.one_space.proofs.Terming.{term-within}
 use Rattle.one_space.proofs.one.One.build.Goals as goal
@@ -53,3 +55,13 @@ returns-clause-builds c =
     c.make_room.new.self c.make_room.result c.make_room.ensures c.requires.named c.if-not-make_room.false c.room-room.result c.room-room.ensures c.index.result.now c.index.ensures
     c.build.new.mem c.build.new.room (with_items c.args.self.now.row c.build.new.scratch) refl c.index_mut-process.result.now c.index_mut-process.ensures.value c.in-Ok.w
     c.in-Ok.ensures.uses c.in-Ok.ensures.builds c.count-named.result c.count-named.ensures.value
+
+pub returns-then-not-make_room-clause-gives_back : goal.returns-then-not-make_room-clause-gives_back
+returns-then-not-make_room-clause-gives_back c = leaves-words c.words_needed-grow.result _ c.args.self.now (roomed c.args.self.now c.make_room.new.self) c.make_room.new.self c.make_room.result c.make_room.ensures
+    (needed-words c.args.names.now c.args.code.now c.requires.term c.words_needed-grow.result c.count-named.ensures.names.few c.words_needed-grow.ensures) refl refl refl
+
+pub returns-in-Err-clause-gives_back : goal.returns-in-Err-clause-gives_back
+returns-in-Err-clause-gives_back c =
+    leaves-words c.words_needed-grow.result _ c.args.self.now (stopped_in c.args.self.now c.make_room.new.self c.build.new.mem (with_items c.args.self.now.row c.build.new.scratch)) c.make_room.new.self
+    c.make_room.result c.make_room.ensures
+    (needed-words c.args.names.now c.args.code.now c.requires.term c.words_needed-grow.result c.count-named.ensures.names.few c.words_needed-grow.ensures) (c.in-Err.ensures.stopped.1.same_len) refl refl
