@@ -9,30 +9,60 @@ use script_parse::Code;
 use std::alloc::Global;
 use std::test::Fail;
 
-// Lists of 700 ones, each of which asks for 1,400 words. A second one is too many as long as the first lives.
-const SCRIPT: &[Part] = &[
-    Part::Once(b"1 set 0 [1"),
-    Part::Times(b",1", 699),
-    Part::Once(b"]\n1 set 1 [1"),
-    Part::Times(b",1", 699),
-    Part::Once(b"]\n1 set 0 []\n1 set 1 [1"),
-    Part::Times(b",1", 699),
-    Part::Once(b"]\n"),
+// A script over an arena of 4,096 words, what it shows, and its replies.
+struct Row {
+    name: &'static str,
+    script: &'static [Part],
+    replies: &'static [Part],
+}
+
+const ROWS: [Row; 3] = [
+    Row {
+        name: "lists of 700 ones ask for 1,400 words: a second one is too many as long as the first lives",
+        script: &[
+            Part::Once(b"1 set 0 [1"),
+            Part::Times(b",1", 699),
+            Part::Once(b"]\n1 set 1 [1"),
+            Part::Times(b",1", 699),
+            Part::Once(b"]\n1 set 0 []\n1 set 1 [1"),
+            Part::Times(b",1", 699),
+            Part::Once(b"]\n"),
+        ],
+        replies: &[Part::Once(b"ok\nerror nospace 1400\nok\nok\n")],
+    },
+    Row {
+        name: "a list that has no room leaves the register as it was",
+        script: &[Part::Once(b"1 mklist 0 600 1\n1 mklist 2 1000 1\n1 flat 0\n1 print 2\n")],
+        replies: &[Part::Once(b"ok\nerror nospace 2000\n1200\n[]\n")],
+    },
+    Row {
+        name: "four processes make lists of 200 words in turn, forty times, and none is refused",
+        script: &[
+            Part::Once(b"sys spawn\nsys spawn\nsys spawn\n"),
+            Part::Times(
+                b"1 mklist 0 100 1\n2 mklist 0 100 1\n3 mklist 0 100 1\n4 mklist 0 100 1\n",
+                40,
+            ),
+        ],
+        replies: &[Part::Once(b"ok 2\nok 3\nok 4\n"), Part::Times(b"ok\n", 160)],
+    },
 ];
 
-const REPLIES: &[u8] = b"ok\nerror nospace 1400\nok\nok\n";
-
-// Whether the lists are answered as they must be.
-fn lists_are_answered(alloc: Global) -> Result<bool, Fail> {
+// Whether the program answers a row by the words that ask for such an arena.
+fn is_row_answered(alloc: Global, row: &Row) -> Result<bool, Fail> {
     let mut script = Vec::new(alloc);
-    push_parts(&mut script, SCRIPT, 0)?;
+    let mut replies = Vec::new(alloc);
+    push_parts(&mut script, row.script, 0)?;
+    push_parts(&mut replies, row.replies, 0)?;
     let words = ["beam_heap", "--arena", "4096"];
-    is_answered_by(alloc, &words, script.as_slice(), REPLIES)
+    is_answered_by(alloc, &words, script.as_slice(), replies.as_slice())
 }
 
 #[test]
-fn words_are_refused_by_what_lives(rt: HostRuntime) -> Result<(), Fail> {
-    assert!(rt; lists_are_answered(rt.alloc())?);
+fn small_arenas_refuse_by_what_lives(rt: HostRuntime) -> Result<(), Fail> {
+    for row in &ROWS {
+        assert!(rt; is_row_answered(rt.alloc(), row)?, "{}", row.name);
+    }
     Ok(())
 }
 
