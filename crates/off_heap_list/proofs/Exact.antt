@@ -102,7 +102,7 @@ module _ (c : ℕ → ℕ → Bool) (mem roots : List ℕ) (xs ys : List OwnChai
   pub one-of-several : Links c mem x.head x.os (objects_of xs ++ (objects_of ys ++ further))
   one-of-several = record {
     chain = (own-at c mem roots xs ys x k.own).chain;
-    once = distinct-left x.os (objects_of ys) (distinct-right (objects_of xs) (x.os ++ objects_of ys) (subst Distinct split k.once));
+    once = distinct-left x.os (objects_of ys) (distinct-right (objects_of xs) (x.os ++ objects_of ys) (subst Distinct split (distinct-left (objects_of (xs ++ x ∷ ys)) further k.once)));
     each = λ p inside. link-at p (in-right p (objects_of xs) (x.os ++ objects_of ys) (in-left p x.os (objects_of ys) inside));
     beside = others-in;
     counts = λ v n there.
@@ -120,7 +120,7 @@ module _ (c : ℕ → ℕ → Bool) (mem roots : List ℕ) (xs ys : List OwnChai
 
 -- And back: where one chain is so and the others are, all are.
 pub several-again : (c : ℕ → ℕ → Bool) (mem roots : List ℕ) (xs ys : List OwnChain) (x : OwnChain) (further : List ℕ) → AreOwn c mem roots (xs ++ x ∷ ys)
-    → Distinct (objects_of (xs ++ x ∷ ys)) → AllCounted c mem → Links c mem x.head x.os (objects_of xs ++ (objects_of ys ++ further)) → Chained c mem roots (xs ++ x ∷ ys) further
+    → Distinct (objects_of (xs ++ x ∷ ys) ++ further) → AllCounted c mem → Links c mem x.head x.os (objects_of xs ++ (objects_of ys ++ further)) → Chained c mem roots (xs ++ x ∷ ys) further
 several-again c mem roots xs ys x further own once some l =
     let split : objects_of (xs ++ x ∷ ys) ≡ objects_of xs ++ (x.os ++ objects_of ys) = objects-both xs (x ∷ ys) in
     record {

@@ -59,11 +59,11 @@ abbrev pub objects_of : List OwnChain → List ℕ
 objects_of [] = []
 objects_of (x ∷ xs) = x.os ++ objects_of xs
 
--- Several chains without a common object: each record's count is the number of objects that name it, in all chains and in a
--- further list, reachable or not, and at least 1.
+-- Several chains and a further list, without a common object and each object once: each record's count is the number of
+-- objects that name it, in all chains and in the further list, reachable or not, and at least 1.
 pub record Chained (c : ℕ → ℕ → Bool) (mem roots : List ℕ) (xs : List OwnChain) (further : List ℕ) : Type 0 where
   pub own : AreOwn c mem roots xs
-  pub once : Distinct (objects_of xs)
+  pub once : Distinct (objects_of xs ++ further)
   pub each : (p : ℕ) → In p (objects_of xs) → IsLink c mem p
   pub beside : (p : ℕ) → In p further → IsLink c mem p
   pub counts : (v n : ℕ) → IsRecord c mem v n → count_in mem v ≡ naming mem v (objects_of xs) + naming mem v further

@@ -54,6 +54,7 @@ pub record IsLink (c : ℕ → ℕ → Bool) (mem : List ℕ) (p : ℕ) : Type 0
   pub record_is : IsRecord c mem (named mem p) words
 
 -- The chain's objects are these, each once, and each record's count is the number of them, and of further objects, that name it.
+-- A further object counts as often as it is listed; `Chained` asks that it is listed once, and in no chain.
 pub record Links (c : ℕ → ℕ → Bool) (mem : List ℕ) (head : ℕ) (os further : List ℕ) : Type 0 where
   pub chain : Chain mem head os
   pub once : Distinct os

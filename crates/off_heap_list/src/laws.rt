@@ -70,7 +70,7 @@ pub fn each_of_several_chains_is_one()
     ensures one { (c : ℕ → ℕ → Bool) (mem roots : List ℕ) (xs ys : List OwnChain) (x : OwnChain) (further : List ℕ)
         → Chained c mem roots (xs ++ x ∷ ys) further → Links c mem x.head x.os (objects_of xs ++ (objects_of ys ++ further)) }
     ensures several { (c : ℕ → ℕ → Bool) (mem roots : List ℕ) (xs ys : List OwnChain) (x : OwnChain) (further : List ℕ)
-        → AreOwn c mem roots (xs ++ x ∷ ys) → Distinct (objects_of (xs ++ x ∷ ys)) → AllCounted c mem
+        → AreOwn c mem roots (xs ++ x ∷ ys) → Distinct (objects_of (xs ++ x ∷ ys) ++ further) → AllCounted c mem
         → Links c mem x.head x.os (objects_of xs ++ (objects_of ys ++ further)) → Chained c mem roots (xs ++ x ∷ ys) further }
 {}
 

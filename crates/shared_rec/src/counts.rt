@@ -1,8 +1,7 @@
 // What a record says, and its count.
-ghost use Rattle.std.specs.Prelude.{◌≡◌, ℕ, ◌+◌, ◌-◌, ◌*◌, ◌^◌, ◌<◌, ◌≤◌, ◌↔◌, Bool, true, false, IsTrue, List, length, slice_index, slice_set};
+ghost use Rattle.std.specs.Prelude.{◌≡◌, ℕ, ◌+◌, ◌-◌, ◌*◌, ◌/◌, ◌%◌, ◌^◌, ◌<◌, ◌≤◌, ◌↔◌, Bool, true, false, IsTrue, List, length, slice_index, slice_set};
 ghost use Rattle.term_tags.specs.Words.{record_word};
 ghost use Rattle.term_tags.specs.declared.records.TheConstants.{FUN_RECORD};
-ghost use Rattle.term_tags.specs.declared.kinds.TheConstants.{ATOMS};
 ghost use Rattle.term_words.specs.Object.{IsBinRecord, IsFunRecord};
 ghost use Rattle.term_words.specs.Role.{Idle};
 ghost use Rattle.term_words.specs.Kept.{Keeps};
@@ -53,10 +52,9 @@ pub fn len_of(mem: &WordMem, at: u64) -> u64
 
 /// Whether the record is that of the funs with this name and arity.
 pub fn is_fun(mem: &WordMem, at: u64, name: u64, arity: u64) -> bool
-    requires places { at + 4 ≤ length mem.now }
-    requires name { name < ATOMS }
-    requires arity { arity ≤ 255 }
-    ensures words { IsTrue result ↔ ((slice_index mem.now at ≡ record_word FUN_RECORD 4) × (owner_in mem.now at ≡ name * 256 + arity)) }
+    requires { at + 4 ≤ length mem.now }
+    ensures words { IsTrue result
+        ↔ ((slice_index mem.now at ≡ record_word FUN_RECORD 4) × ((owner_in mem.now at / 256 ≡ name) × (owner_in mem.now at % 256 ≡ arity))) }
     ensures of_fun { (c : ℕ → ℕ → Bool) (n a : ℕ) → IsFunRecord c mem.now at n a → IsTrue result ↔ ((n ≡ name) × (a ≡ arity)) }
     ensures of_bin { (c : ℕ → ℕ → Bool) (serial : ℕ) (bytes : List ℕ) → IsBinRecord c mem.now at serial bytes → result ≡ false }
 {
@@ -64,7 +62,8 @@ pub fn is_fun(mem: &WordMem, at: u64, name: u64, arity: u64) -> bool
     if mem.get(at) != HEAD_WORDS * 16 + FUN_RECORD {
         return false;
     }
-    mem.get(at + 1) == name * 256 + arity
+    let owner = mem.get(at + 1);
+    owner / 256 == name && owner % 256 == arity
 }
 
 /// One object more names the record.
