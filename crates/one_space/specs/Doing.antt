@@ -1,5 +1,5 @@
 -- What the calls of a space leave, in the words of the plain machine.
-use Rattle.std.specs.Prelude.{◌≡◌, ℕ, ◌+◌, ◌<◌, ◌≤◌, Bool, true, false, List, length, max, Result, Err, OnErr}
+use Rattle.std.specs.Prelude.{◌≡◌, ℕ, ◌+◌, ◌<◌, ◌≤◌, Bool, true, false, not, List, length, max, Result, Err, OnErr}
 use Rattle.plain_term.specs.declared.item.Item.{Item}
 use Rattle.script_grammar.specs.declared.command.Command.{Command}
 use Rattle.script_grammar.specs.declared.command.Command.TheVariants.{Process}
@@ -16,10 +16,11 @@ use Rattle.item_build.specs.declared.building.BuildStop.{BuildStop}
 use Rattle.item_build.specs.declared.building.BuildStop.TheVariants as stop
 use Rattle.term_verbs.specs.declared.pairs.PutStop.{PutStop}
 use Rattle.term_verbs.specs.declared.pairs.PutStop.TheVariants as put
-use Rattle.one_space.specs.Halves.{free_in, used_in}
-use Rattle.one_space.specs.Reached.{AllReached, held_words}
+use Rattle.one_space.specs.Halves.{free_in}
+use Rattle.one_space.specs.Reached.{AllReached}
+use Rattle.one_space.specs.Collecting.{MakesRoom}
+use Rattle.one_space.specs.declared.halves.Halves.{Halves}
 use Rattle.one_space.specs.One.{Holds, OneStands, words_of}
-use Rattle.one_space.specs.declared.halves.TheConstants.{UNUSED}
 use Rattle.one_space.specs.declared.one.One.{One}
 
 -- A changing call keeps the numbers of the space; the bound of its names is at most this.
@@ -60,19 +61,23 @@ pub record Builds {A : Type 0} (names : List (List ℕ)) (pid : ℕ) (r : Reg) (
   pub books : Books old new (max old.named (length names))
   pub refused : OnErr result (new.named ≤ old.named)
 
--- A call looks for n free words: one collection is made exactly where there are fewer, and where it answers that there is no
--- space, every object is reachable and there are fewer still.
+-- The call answers that there is no space.
+abbrev pub is_nospace : {A : Type 0} → Result A Refusal → Bool
+is_nospace (Err (NoSpace n)) = true
+is_nospace _ = false
+
+-- A call looks for n free words, and answers that there is no space exactly where there are fewer after that (MakesRoom): one
+-- collection is made exactly where there are fewer before. Where it answers so, every object is reachable; where it is refused for
+-- any cause, it leaves no words that it began.
 pub record Asks {A : Type 0} (n : ℕ) (old new : One) (result : Result A Refusal) : Type 0 where
+  pub halves : Halves
+  pub there : Bool
+  pub room : MakesRoom n old.halves halves there
+  pub exact : is_nospace result ≡ not there
+  pub given_back : OnErr result ((new.halves.top ≡ halves.top) × (new.halves.low ≡ halves.low))
   pub idle : n ≤ free_in old.halves → new.halves.sweeps ≡ old.halves.sweeps
   pub once : free_in old.halves < n → new.halves.sweeps ≡ old.halves.sweeps + 1
   pub refused : (g : ℕ) → result ≡ Err (NoSpace g) → AllReached new.halves × (free_in new.halves < n)
-
--- A call that looked for n free words leaves those in use as they were; where one collection was made, they are no more than
--- before, and at most what the processes hold.
-pub record LeavesWords (n : ℕ) (old new : One) : Type 0 where
-  pub idle : n ≤ free_in old.halves → used_in new.halves ≡ used_in old.halves
-  pub once : free_in old.halves < n → used_in new.halves ≤ used_in old.halves
-  pub bound : free_in old.halves < n → (s : State) → OneStands old s → used_in new.halves ≤ UNUSED + held_words s.processes
 
 -- The call is refused by what stands before the want of space.
 abbrev pub is_early : {A : Type 0} → Result A Refusal → Bool

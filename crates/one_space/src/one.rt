@@ -40,6 +40,7 @@ impl One {
         requires calls { self.old.calls < most_calls }
         ensures does { Does (System sysverb.Spawn) self.old self.new result }
         ensures number { IfOk result (λ n. n ≡ self.old.next) }
+        ensures early { result ≡ Err Procs → self.new ≡ self.old }
         ensures asks { (result ≡ Err Procs → ⊥) → Asks SPAWN_WORDS self.old self.new result }
     {
         if self.halves.procs.len() >= MOST_PROCESSES {

@@ -100,7 +100,7 @@ impl Space for OneSpace {
     ghost use Rattle.plain_machine.specs.May.{may_of_tight};
     ghost use Rattle.space_api.specs.Calls.{Properly};
     ghost use Rattle.one_space.specs.One.{OneStands, Sits, words_of};
-    ghost use Rattle.one_space.specs.Doing.{Asks, AsksUnless, Books, IsSwept, LeavesWords};
+    ghost use Rattle.one_space.specs.Doing.{Asks, AsksUnless, Books, IsSwept};
     ghost use Rattle.item_build.specs.Reading.{words_of as item_words_of};
     ghost use Rattle.script_grammar.specs.Grammar.{is_built, pick_word};
     ghost use Rattle.plain_machine.specs.State.{Process as Live, process_of, register};
@@ -142,6 +142,7 @@ impl Space for OneSpace {
             → Becomes may_of_tight (words_of self.old) s (said (System sysverb.Spawn) terms names) result (Properly (OneStands self.new)) }
         ensures number { (s : State) → Properly (OneStands self.old) s → IfOk result (λ n. n ≡ s.next) }
         ensures books { Books self.old self.new self.old.named }
+        ensures early { result ≡ Err Procs → self.new ≡ self.old }
         ensures asks { (result ≡ Err Procs → ⊥) → Asks SPAWN_WORDS self.old self.new result }
     {
         self.one.spawn()
@@ -169,7 +170,6 @@ impl Space for OneSpace {
         ensures books { Books self.old self.new (max self.old.named (length names.now)) }
         ensures refused { OnErr result (self.new.named ≤ self.old.named) }
         ensures asks { Asks (item_words_of code.now) self.old self.new result }
-        ensures gives_back { OnErr result (LeavesWords (item_words_of code.now) self.old self.new) }
     {
         self.one.build(names, seat, r, code)
     }

@@ -9,7 +9,7 @@ ghost use Rattle.plain_machine.specs.Tightness.{keys_in, repeat_words as words_b
 ghost use Rattle.space_api.specs.Calls.{HasTerm, most_calls};
 ghost use Rattle.item_build.specs.Reading.{words_of as item_words_of};
 ghost use Rattle.one_space.specs.One.{Holds, OneStands, Sits};
-ghost use Rattle.one_space.specs.Doing.{Asks, AsksUnless, Builds, Does, DoesBy, LeavesWords, refusal_for, refusal_of_put};
+ghost use Rattle.one_space.specs.Doing.{Asks, AsksUnless, Builds, Does, DoesBy, refusal_for, refusal_of_put};
 
 use crate::one::One;
 use atom_names::AtomNames;
@@ -40,7 +40,6 @@ impl One {
         requires term { HasTerm names.now code.now }
         ensures builds { Builds names.now seat.pid r code.now self.old self.new result }
         ensures asks { Asks (item_words_of code.now) self.old self.new result }
-        ensures gives_back { OnErr result (LeavesWords (item_words_of code.now) self.old self.new) }
     {
         let named = names.count();
         let grow = words_needed(code);

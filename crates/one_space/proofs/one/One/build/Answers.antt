@@ -1,10 +1,11 @@
 use Rattle.std.proofs.Common.{length, refl, sym, subst, Err, arith}
 use Rattle.std.specs.Vec.{with_items}
 use Rattle.script_grammar.specs.declared.refusal.Refusal.{Refusal}
+use Rattle.item_build.specs.Reading.{words_of}
 use Rattle.item_build.proofs.Written.{is-written}
-use Rattle.one_space.specs.Doing.{Builds}
-use Rattle.one_space.proofs.Asking.{leaves-words}
-use Rattle.one_space.proofs.Rooms.{roomed}
+use Rattle.one_space.specs.Doing.{Asks, Builds}
+use Rattle.one_space.specs.declared.one.One.{One}
+use Rattle.one_space.proofs.Asking.{asks-grown, asks-lacks, asks-stopped}
 use Rattle.one_space.proofs.Setting.{needed-words, set-does, set-held, set-refused, set-regs, set-stops, stopped_in}
 use Rattle.one_space.proofs.Terming.{term-within}
 use Rattle.one_space.proofs.one.One.build.Goals as goal
@@ -56,12 +57,18 @@ returns-clause-builds c =
     c.build.new.mem c.build.new.room (with_items c.args.self.now.row c.build.new.scratch) refl c.index_mut-process.result.now c.index_mut-process.ensures.value c.in-Ok.w
     c.in-Ok.ensures.uses c.in-Ok.ensures.builds c.count-named.result c.count-named.ensures.value
 
-pub returns-then-not-make_room-clause-gives_back : goal.returns-then-not-make_room-clause-gives_back
-returns-then-not-make_room-clause-gives_back c = leaves-words c.words_needed-grow.result _ c.args.self.now (roomed c.args.self.now c.make_room.new.self) c.make_room.new.self c.make_room.result c.make_room.ensures
-    (needed-words c.args.names.now c.args.code.now c.requires.term c.words_needed-grow.result c.count-named.ensures.names.few c.words_needed-grow.ensures) refl refl refl
+pub returns-then-not-make_room-clause-asks : goal.returns-then-not-make_room-clause-asks
+returns-then-not-make_room-clause-asks c =
+    asks-lacks c.words_needed-grow.result (words_of c.args.code.now) c.args.self.now c.make_room.new.self c.make_room.result c.make_room.ensures (needed-words c.args.names.now c.args.code.now c.requires.term c.words_needed-grow.result c.count-named.ensures.names.few c.words_needed-grow.ensures) c.if-not-make_room.true c.words_needed-grow.result
 
-pub returns-in-Err-clause-gives_back : goal.returns-in-Err-clause-gives_back
-returns-in-Err-clause-gives_back c =
-    leaves-words c.words_needed-grow.result _ c.args.self.now (stopped_in c.args.self.now c.make_room.new.self c.build.new.mem (with_items c.args.self.now.row c.build.new.scratch)) c.make_room.new.self
-    c.make_room.result c.make_room.ensures
-    (needed-words c.args.names.now c.args.code.now c.requires.term c.words_needed-grow.result c.count-named.ensures.names.few c.words_needed-grow.ensures) (c.in-Err.ensures.stopped.1.same_len) refl refl
+pub returns-in-Err-clause-asks : goal.returns-in-Err-clause-asks
+returns-in-Err-clause-asks c =
+    let n = c.words_needed-grow.result in
+    let b : One = c.args.self.now in
+    let new : One = stopped_in b c.make_room.new.self c.build.new.mem (with_items b.row c.build.new.scratch) in
+    let P : Refusal → Type 0 = λ e. Asks {A = Unit {0}} (words_of c.args.code.now) b new (Err e) in
+    subst P (sym c.refusal_of.ensures) (asks-stopped n (words_of c.args.code.now) b c.make_room.new.self c.make_room.result c.make_room.ensures (needed-words c.args.names.now c.args.code.now c.requires.term c.words_needed-grow.result c.count-named.ensures.names.few c.words_needed-grow.ensures) c.if-not-make_room.false new refl refl refl c.in-Err.stop)
+
+pub returns-clause-asks : goal.returns-clause-asks
+returns-clause-asks c =
+    asks-grown c.words_needed-grow.result (words_of c.args.code.now) c.args.self.now c.make_room.new.self c.make_room.result c.make_room.ensures (needed-words c.args.names.now c.args.code.now c.requires.term c.words_needed-grow.result c.count-named.ensures.names.few c.words_needed-grow.ensures) c.if-not-make_room.false _ refl tt

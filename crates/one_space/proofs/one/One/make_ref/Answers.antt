@@ -4,6 +4,7 @@ use Rattle.plain_term.specs.Tree.Tree.{Ref}
 use Rattle.term_build.specs.Clear.{Uses}
 use Rattle.term_build.specs.Grows.{Built}
 use Rattle.term_build.specs.Taken.{IsFree}
+use Rattle.one_space.proofs.Asking.{asks-grown, asks-lacks}
 use Rattle.one_space.proofs.Referring.{ref-does, ref-refused, refs-few}
 use Rattle.one_space.proofs.Terming.{term-within}
 use Rattle.one_space.proofs.one.One.make_ref.Goals as goal
@@ -34,3 +35,9 @@ returns-clause-does c =
     ref-does c.args.self.now c.requires.holds c.args.seat c.requires.sits c.args.r c.make_room.new.self c.make_room.result c.make_room.ensures c.if-not-make_room.false c.reference-w.new.mem
     c.reference-w.new.room (subst U c.room-room.ensures c.reference-w.ensures.uses) c.index.result.now c.index.ensures c.index_mut-process.result.now c.index_mut-process.ensures.value
     c.reference-w.result (c.index.result.now.refs + 1) refl (subst V c.room-room.ensures c.reference-w.ensures.built)
+
+pub returns-then-not-make_room-clause-asks : goal.returns-then-not-make_room-clause-asks
+returns-then-not-make_room-clause-asks c = asks-lacks 3 3 c.args.self.now c.make_room.new.self c.make_room.result c.make_room.ensures refl c.if-not-make_room.true 3
+
+pub returns-clause-asks : goal.returns-clause-asks
+returns-clause-asks c = asks-grown 3 3 c.args.self.now c.make_room.new.self c.make_room.result c.make_room.ensures refl c.if-not-make_room.false _ refl tt

@@ -91,5 +91,5 @@ returns-clause-asks c = λ s q o found. record {
   asks = λ e.
       asks-grown (6 + 2 * c.in-Ok.place.keys) (6 + 2 * keys_in (register c.args.s.0 q)) c.args.self.now c.make_room.new.self c.make_room.result c.make_room.ensures
       (put-asked c.args.self.now c.requires.holds c.args.seat c.requires.sits c.args.r c.args.s c.args.k c.args.v c.requires.map c.requires.key c.requires.value c.index.result.now c.index.ensures
-      c.args.names.now c.place_in.result c.place_in.ensures c.in-Ok.place c.in-Ok.is s o q found) _ refl tt;
+      c.args.names.now c.place_in.result c.place_in.ensures c.in-Ok.place c.in-Ok.is s o q found) c.if-not-make_room.false _ refl tt;
 }

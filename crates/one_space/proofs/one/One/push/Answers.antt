@@ -1,4 +1,5 @@
-use Rattle.std.proofs.Common.{◌+◌, ◌-◌, set, ◌∙◌, ap, arith}
+use Rattle.std.proofs.Common.{refl, ◌+◌, ◌-◌, set, ◌∙◌, ap, arith}
+use Rattle.one_space.proofs.Asking.{asks-grown, asks-lacks}
 use Rattle.one_space.proofs.Growing.{push-does, push-fits, push-refused, push-within}
 use Rattle.one_space.proofs.one.One.push.Goals as goal
 
@@ -28,3 +29,9 @@ returns-clause-does c =
     push-does c.args.self.now c.requires.holds c.args.seat c.requires.sits c.args.s c.make_room.new.self c.make_room.result c.make_room.ensures
     c.if-not-make_room.false c.index.result.now c.index.ensures c.requires.register c.set-2.new.self
     (c.set-2.ensures ∙ ap (λ z. set z (c.make_room.new.self.low - 2 + 1) c.index.result.now.stack) c.set.ensures)
+
+pub returns-then-not-make_room-clause-asks : goal.returns-then-not-make_room-clause-asks
+returns-then-not-make_room-clause-asks c = asks-lacks 2 2 c.args.self.now c.make_room.new.self c.make_room.result c.make_room.ensures refl c.if-not-make_room.true 2
+
+pub returns-clause-asks : goal.returns-clause-asks
+returns-clause-asks c = asks-grown 2 2 c.args.self.now c.make_room.new.self c.make_room.result c.make_room.ensures refl c.if-not-make_room.false _ refl tt

@@ -1,4 +1,4 @@
-use Rattle.std.proofs.Common.{ℕ, ◌+◌, Bool, List, get_or, subst}
+use Rattle.std.proofs.Common.{refl, ℕ, ◌+◌, Bool, List, get_or, subst}
 use Rattle.word_mem.specs.declared.ranges.Room.{Room}
 use Rattle.plain_term.specs.Tree.{Tree}
 use Rattle.plain_machine.specs.Parts.{repeated}
@@ -7,6 +7,7 @@ use Rattle.term_words.specs.Stands.{Stands}
 use Rattle.term_build.specs.Clear.{Uses}
 use Rattle.term_build.specs.Grows.{Built}
 use Rattle.term_build.specs.Taken.{IsFree}
+use Rattle.one_space.proofs.Asking.{unless-grown, unless-lacks}
 use Rattle.one_space.proofs.Repeating.{repeat-does, repeat-lacks, repeat-refused}
 use Rattle.one_space.proofs.Terming.{term-within}
 use Rattle.one_space.proofs.one.One.repeat.Goals as goal
@@ -36,3 +37,11 @@ returns-clause-does c =
     repeat-does c.args.self.now c.requires.holds c.args.seat c.requires.sits c.args.r c.args.shape c.args.n c.args.s c.if-n-gt-MOST_PLACES.false c.repeat_words-grow.result c.repeat_words-grow.ensures
     c.make_room.new.self c.make_room.result c.make_room.ensures c.if-not-make_room.false c.repeated-w.new.mem c.repeated-w.new.room (subst U c.room-room.ensures c.repeated-w.ensures.uses)
     c.index.result.now c.index.ensures c.index_mut-process.result.now c.index_mut-process.ensures.value c.requires.other c.repeated-w.result (subst V c.room-room.ensures c.repeated-w.ensures.built)
+
+pub returns-then-not-make_room-clause-asks : goal.returns-then-not-make_room-clause-asks
+returns-then-not-make_room-clause-asks c =
+    unless-lacks c.repeat_words-grow.result (repeat_words c.args.shape c.args.n) c.args.self.now c.make_room.new.self c.make_room.result c.make_room.ensures c.repeat_words-grow.ensures c.if-not-make_room.true c.repeat_words-grow.result
+
+pub returns-clause-asks : goal.returns-clause-asks
+returns-clause-asks c =
+    unless-grown c.repeat_words-grow.result (repeat_words c.args.shape c.args.n) c.args.self.now c.make_room.new.self c.make_room.result c.make_room.ensures c.repeat_words-grow.ensures c.if-not-make_room.false _ refl tt
