@@ -441,7 +441,7 @@ same-left mem old l g = record { shared = g.shared; rests = g.rests; few = g.few
 
 -- A stack that is not full has room for one level more.
 
-differs : (n : ℕ) → false ≡ nat_eq n 1024 → n ≤ 1024 → n + 1 ≤ 1024
+pub differs : (n : ℕ) → false ≡ nat_eq n 1024 → n ≤ 1024 → n + 1 ≤ 1024
 differs n e few = grind (arith, nat_tests)
 
 pub room-left : (items : List Rest) → false ≡ nat_eq (length items) 1024 → length items ≤ 1024 → length (reverse items) + 1 ≤ depth_limit

@@ -1,3 +1,4 @@
 pub mod Left
 pub mod Weights
 pub mod Measured
+pub mod Runs

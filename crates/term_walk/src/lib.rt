@@ -4,6 +4,7 @@
 mod levels;
 mod measured;
 mod measuring;
+mod runs;
 mod weights;
 
 pub use levels::{DEPTH_LIMIT, Further, NODE_LIMIT, Rest, go_on, next_word};
