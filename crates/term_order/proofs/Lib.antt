@@ -1,3 +1,4 @@
 pub mod Strings
 pub mod Owning
 pub mod Walks
+pub mod Passing

@@ -1,3 +1,4 @@
 pub mod Named
 pub mod Own
 pub mod Compared
+pub mod Runs

@@ -1,18 +1,19 @@
 // The order of two terms.
-ghost use Rattle.std.specs.Prelude.{◌≡◌, ℕ, Bool, List, reverse};
+ghost use Rattle.std.specs.Prelude.{◌≡◌, ℕ, ◌*◌, ◌≤◌, Bool, false, List, reverse};
 ghost use Rattle.plain_term.specs.Tree.{Tree};
-ghost use Rattle.plain_term.specs.Beyond.{is_beyond as beyond};
 ghost use Rattle.term_words.specs.Stands.{Stands, IsTerm};
 ghost use Rattle.term_walk.specs.Left.{CanGo};
 ghost use Rattle.term_order.specs.Compared.{AreNamed, Compares, AreWithin, Orders, Steps, at_end};
+ghost use Rattle.term_order.specs.Runs.{is_beyond_after};
 
 use crate::compared::Compared;
 use crate::looks::order_looks;
+use crate::runs::{Pair, pass_same};
 use arrayvec::ArrayVec;
 use atom_names::AtomNames;
 use std::cmp::Ordering;
 use term_read::{Look, look_at};
-use term_walk::{DEPTH_LIMIT, Further, Measured, Rest, go_on, measure, next_word};
+use term_walk::{DEPTH_LIMIT, Further, Measured, NODE_LIMIT, Rest, go_on, measure, next_word};
 use word_mem::WordMem;
 
 /// The order of two terms; `Beyond` exactly where one of them is beyond the walk limit.
@@ -20,28 +21,43 @@ pub fn compare(mem: &WordMem, names: &AtomNames, a: u64, b: u64) -> Compared
     requires { AreNamed mem.now names.now a b }
     ensures { Compares mem.now names.now a b result }
 {
-    if is_beyond(mem, a) {
+    let behind = pass_same(mem, a, b, NODE_LIMIT / 2);
+    if is_beyond(mem, behind.left, behind.cells) {
         return Compared::Beyond;
     }
-    if is_beyond(mem, b) {
+    if is_other_beyond(mem, behind) {
         return Compared::Beyond;
     }
-    match order_within(mem, names, a, b) {
+    match order_within(mem, names, behind.left, behind.right) {
         Ordering::Less => Compared::Less,
         Ordering::Equal => Compared::Same,
         Ordering::Greater => Compared::More,
     }
 }
 
-// Whether a term is beyond the walk limit.
-fn is_beyond(mem: &WordMem, w: u64) -> bool
-    requires { IsTerm mem.now w }
-    ensures { (c : ℕ → ℕ → Bool) (shared : List (List ℕ)) (t : Tree) → Stands c shared mem.now w t → result ≡ beyond shared t }
+// Whether a term behind so many cells of a list makes the list one beyond the walk limit.
+fn is_beyond(mem: &WordMem, w: u64, cells: u64) -> bool
+    requires term { IsTerm mem.now w }
+    requires few { 2 * cells ≤ NODE_LIMIT }
+    ensures { (c : ℕ → ℕ → Bool) (shared : List (List ℕ)) (t : Tree) → Stands c shared mem.now w t → result ≡ is_beyond_after shared cells t }
 {
     match measure(mem, w) {
-        Measured::Within(_) => false,
+        Measured::Within(found) => found.nodes > NODE_LIMIT - 2 * cells,
         Measured::Beyond => true,
     }
+}
+
+// The same of the right one, where the left one is not beyond the walk limit.
+fn is_other_beyond(mem: &WordMem, behind: Pair) -> bool
+    requires term { IsTerm mem.now behind.right }
+    requires few { 2 * behind.cells ≤ NODE_LIMIT }
+    requires left { (c : ℕ → ℕ → Bool) (shared : List (List ℕ)) (t : Tree) → Stands c shared mem.now behind.left t → false ≡ is_beyond_after shared behind.cells t }
+    ensures { (c : ℕ → ℕ → Bool) (shared : List (List ℕ)) (t : Tree) → Stands c shared mem.now behind.right t → result ≡ is_beyond_after shared behind.cells t }
+{
+    if behind.left == behind.right {
+        return false;
+    }
+    is_beyond(mem, behind.right, behind.cells)
 }
 
 // The order of two terms within the walk limit: that of the first words of their walks that differ. Where both

@@ -5,6 +5,7 @@ mod bytes;
 mod compared;
 mod comparing;
 mod looks;
+mod runs;
 
 pub use bytes::byte;
 pub use compared::Compared;
