@@ -17,6 +17,11 @@ use Rattle.term_build.specs.Clear.{Clear, AllClear, KeepsClear, IsRoom, Uses}
 use Rattle.term_build.proofs.Rooms.{keeps-none, keeps-clear-then, room-after}
 use Rattle.term_build.specs.Parts.{same_trees}
 use Rattle.term_maps.specs.Given.{PairsStand}
+use Rattle.term_print.specs.Printed.{CanPrint}
+use Rattle.term_walk.specs.Measured.{Measures}
+use Rattle.term_walk.specs.declared.measured.Measure.{Measure}
+use Rattle.term_walk.specs.declared.measured.Measured.{Measured}
+use Rattle.term_walk.specs.declared.measured.Measured.TheVariants.{Within, Beyond}
 use Rattle.term_order.specs.Named.{is_named, are_named, pairs_named}
 use Rattle.ladder_tests.specs.Bench.{AreGood, ArePairs, AreTerms, IsBench, IsGood, Makes}
 
@@ -199,6 +204,25 @@ pub term-at : (names : List (List ℕ)) (mem ws : List ℕ) (i : ℕ) → AreTer
 term-at names mem ws i a below =
     let one : IsGood a.shared names a.room mem (get_or ws i 0) = a.good.each i below in
     is-term (outside a.room.top a.room.end) a.shared mem (get_or ws i 0) one.tree one.clear
+
+-- Terms that were measured can be written.
+not-beyond : (b : Bool) (m n : Measure) → Within m ≡ (if b then Beyond else Within n) → b ≡ false
+not-beyond false m n h = refl
+not-beyond true m n h = absurd cc
+
+pub can-print : (names : List (List ℕ)) (mem ws : List ℕ) (i : ℕ) (r : Measured) (m : Measure) → AreTerms names mem ws → i < length ws → Measures mem (get_or ws i 0) r
+    → r ≡ Within m → CanPrint mem names (get_or ws i 0)
+can-print names mem ws i r m a below h is =
+    let one : IsGood a.shared names a.room mem (get_or ws i 0) = a.good.each i below in
+    let k : Keeps (outside a.room.top a.room.end) always mem mem = weaken (outside a.room.top a.room.end) always mem (λ q r h. refl) in
+    let standing = k.each a.shared (get_or ws i 0) one.tree one.clear in
+    record {
+      shared = a.shared;
+      tree = one.tree;
+      standing = standing;
+      within = not-beyond _ m _ (sym is ∙ h.each always a.shared one.tree standing);
+      named = one.named;
+    }
 
 pub terms-named : (names : List (List ℕ)) (mem ws : List ℕ) (i j : ℕ) → AreTerms names mem ws → i < length ws → j < length ws → AreNamed mem names (get_or ws i 0) (get_or ws j 0)
 terms-named names mem ws i j a hi hj =

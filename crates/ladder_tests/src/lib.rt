@@ -1,4 +1,4 @@
-//! Tests of terms that are built, measured and compared: a ladder of every kind, wide maps, and the walk limit.
+//! Tests of terms that are built, measured, compared and written: a ladder of every kind, wide maps, the walk limit, and texts.
 #![tactic(auto)]
 
 #[cfg(test)]
@@ -15,5 +15,7 @@ mod records;
 mod rungs;
 #[cfg(test)]
 mod steps;
+#[cfg(test)]
+mod texts;
 #[cfg(test)]
 mod wide;

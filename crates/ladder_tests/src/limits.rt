@@ -32,8 +32,8 @@ const ROWS: [(&[Step], &[Step], u64, Option<[u64; 2]>); 8] = [
     (&[Nil], &[Nil, Cons], 1_025, None),
 ];
 
-// Makes steps so many times.
-fn put_times(
+/// Makes steps so many times.
+pub fn put_times(
     mem: &mut WordMem,
     room: &mut Room,
     names: &AtomNames,

@@ -8,7 +8,13 @@ use crate::steps::Step::{
 pub type Rung = (&'static [Step], [u64; 3]);
 
 /// The names of atoms and funs, by number.
-pub const NAMES: [&[u8]; 4] = [b"b", b"a", b"ab", b"aa"];
+pub const NAMES: [&[u8]; 5] = [
+    b"b",
+    b"a",
+    b"ab",
+    b"aa",
+    b"the_longest_name_of_an_atom_has_as_many_bytes_as_there_are_here",
+];
 
 /// The lengths of the shared binaries, from number 1 on, and the byte of each.
 pub const ROLLS: [(u64, u8); 3] = [(3, 7), (5, 7), (65, 7)];
