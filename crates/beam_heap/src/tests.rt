@@ -7,6 +7,7 @@ mod grown;
 mod made;
 mod rows;
 mod small;
+mod verbs;
 mod words;
 
 use crate::run::run;

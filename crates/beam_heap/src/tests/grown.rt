@@ -137,6 +137,64 @@ const GROWN: [Grown; 6] = [
     },
 ];
 
+const BEYOND: [Grown; 2] = [
+    Grown {
+        name: "a term of too many nodes",
+        blocks: &[
+            Block {
+                first: 0,
+                past: 25,
+                script: &[Part::Once(b"1 set 0 {$0,$0}\n")],
+                replies: &[Part::Once(b"ok\n")],
+            },
+            Block {
+                first: 0,
+                past: 1,
+                script: &[Part::Once(b"1 gc major\n1 print 0\n1 hd 1 0\n")],
+                replies: &[Part::Once(b"ok\nerror big\nerror badarg\n")],
+            },
+        ],
+    },
+    Grown {
+        name: "a term that is too deep",
+        blocks: &[
+            Block {
+                first: 0,
+                past: 1024,
+                script: &[Part::Once(b"1 set 0 {$0}\n")],
+                replies: &[Part::Once(b"ok\n")],
+            },
+            Block {
+                first: 0,
+                past: 1,
+                script: &[
+                    Part::Once(
+                        b"1 flat 0\n1 set 0 {$0}\n1 flat 0\n1 eq 0 1\n1 cmp 1 0\n1 print 0\n1 set 2 #{}\n1 mapput 3 2 0 1\n1 mapget 3 2 0\n",
+                    ),
+                    Part::Once(
+                        b"1 mapput 3 1 0 1\n1 set 6 #{1=>0,2=>0,3=>0,4=>0,5=>0,6=>0,7=>0,8=>0,9=>0,10=>0,11=>0,12=>0,13=>0,14=>0,15=>0,16=>0,17=>0,18=>0,19=>0,20=>0,21=>0,22=>0,23=>0,24=>0,25=>0,26=>0,27=>0,28=>0,29=>0,30=>0,31=>0,32=>0}\n1 mapput 3 6 0 1\n",
+                    ),
+                    Part::Once(
+                        b"1 set 3 #{1=>0,2=>0,3=>0,4=>0,5=>0,6=>0,7=>0,8=>0,9=>0,10=>0,11=>0,12=>0,13=>0,14=>0,15=>0,16=>0,17=>0,18=>0,19=>0,20=>0,21=>0,22=>0,23=>0,24=>0,25=>0,26=>0,27=>0,28=>0,29=>0,30=>0,31=>0,32=>0,33=>0,$0=>1}\n1 set 3 [#{1=>0,2=>0,3=>0,4=>0,5=>0,6=>0,7=>0,8=>0,9=>0,10=>0,11=>0,12=>0,13=>0,14=>0,15=>0,16=>0,17=>0,18=>0,19=>0,20=>0,21=>0,22=>0,23=>0,24=>0,25=>0,26=>0,27=>0,28=>0,29=>0,30=>0,31=>0,32=>0,33=>0},#{$0=>1}]\n1 set 3 #{[$0|#{1=>0,2=>0,3=>0,4=>0,5=>0,6=>0,7=>0,8=>0,9=>0,10=>0,11=>0,12=>0,13=>0,14=>0,15=>0,16=>0,17=>0,18=>0,19=>0,20=>0,21=>0,22=>0,23=>0,24=>0,25=>0,26=>0,27=>0,28=>0,29=>0,30=>0,31=>0,32=>0,33=>0}]=>1}\n",
+                    ),
+                    Part::Once(
+                        b"1 set 3 #{$0=>1}\n1 set 3 #{1=>$0}\n1 set 4 1\n1 mapget 5 3 4\n1 elem 5 1 5\n1 flat 5\n1 print 3\n",
+                    ),
+                ],
+                replies: &[
+                    Part::Once(
+                        b"2048\nok\nerror big\nerror big\nerror big\nerror big\nok\nerror big\nerror badarg\n",
+                    ),
+                    Part::Once(
+                        b"error badarg\nok\nerror big\nerror big\nerror big\nerror mapsize\n",
+                    ),
+                    Part::Once(b"error big\nok\nok\nok\nok\n2048\nerror big\n"),
+                ],
+            },
+        ],
+    },
+];
+
 // Appends the parts of a text.
 pub(super) fn push_parts(text: &mut Vec<u8>, parts: &[Part], number: u64) -> Result<(), Fail> {
     for part in parts {
@@ -182,6 +240,14 @@ fn are_answered(alloc: Global, blocks: &[Block]) -> Result<bool, Fail> {
 #[test]
 fn limits_are_kept(rt: HostRuntime) -> Result<(), Fail> {
     for row in &GROWN {
+        assert!(rt; are_answered(rt.alloc(), row.blocks)?, "{}", row.name);
+    }
+    Ok(())
+}
+
+#[test]
+fn terms_beyond_the_walk_limit_are_refused(rt: HostRuntime) -> Result<(), Fail> {
+    for row in &BEYOND {
         assert!(rt; are_answered(rt.alloc(), row.blocks)?, "{}", row.name);
     }
     Ok(())

@@ -36,9 +36,9 @@ const ROWS: [Row; 25] = [
         replies: b"error syntax\nerror syntax\nok\n-1\n",
     },
     Row {
-        name: "the ends of small integers",
-        script: b"1 set 0 576460752303423487\n1 print 0\n1 set 0 576460752303423488\n1 set 0 -576460752303423488\n1 print 0\n1 set 0 -576460752303423489\n",
-        replies: b"ok\n576460752303423487\nerror syntax\nok\n-576460752303423488\nerror syntax\n",
+        name: "the ends of small integers and of all integers",
+        script: b"1 set 0 576460752303423487\n1 flat 0\n1 set 0 576460752303423488\n1 flat 0\n1 print 0\n1 set 0 170141183460469231731687303715884105728\n1 print 0\n1 set 0 -170141183460469231731687303715884105727\n1 flat 0\n1 print 0\n",
+        replies: b"ok\n0\nok\n2\n576460752303423488\nerror syntax\n576460752303423488\nok\n3\n-170141183460469231731687303715884105727\n",
     },
     Row {
         name: "blanks",
@@ -112,7 +112,7 @@ const ROWS: [Row; 25] = [
     },
     Row {
         name: "verbs and forms that are not built",
-        script: b"1 hd 0 0\n1 set 0 [1|2]\n1 set 0 $1\nsys counts\n1 frob 0\n",
+        script: b"1 fill 0 1 1\n1 set 0 <<1>>\n1 send 0 1\nsys counts\n1 frob 0\n",
         replies: b"error syntax\nerror syntax\nerror syntax\nerror syntax\nerror syntax\n",
     },
     Row {

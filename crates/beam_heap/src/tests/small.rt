@@ -1,6 +1,7 @@
 // Scripts over an arena of the fewest words, and the limits of a reader.
 use super::grown::{Part, push_parts};
 use super::{ROOM, is_answered_by};
+use crate::serving::LIMITS;
 use atom_names::AtomNames;
 use engine::{Machine, Status, serve};
 use line_io::{Limits, LineReader, MemSink, MemSource};
@@ -62,6 +63,102 @@ fn is_row_answered(alloc: Global, row: &Row) -> Result<bool, Fail> {
 fn small_arenas_refuse_by_what_lives(rt: HostRuntime) -> Result<(), Fail> {
     for row in &ROWS {
         assert!(rt; is_row_answered(rt.alloc(), row)?, "{}", row.name);
+    }
+    Ok(())
+}
+
+// Many places: of a second list there is no space as long as the first lives, and a longer one is none at all.
+const PLACES: &[Part] = &[Part::Once(
+    b"1 mklist 0 600 1\n1 mklist 2 1000 1\n1 flat 0\n1 print 2\n1 mapput 2 0 0 0\n1 mktuple 0 2046 1\n1 mktuple 0 65537 1\n",
+)];
+
+const PLACED: &[Part] = &[Part::Once(
+    b"ok\nerror nospace 2000\n1200\n[]\nerror badarg\nerror nospace 2047\nerror badarg\n",
+)];
+
+// Four processes make a list forty times each: what was dropped is used again.
+const ROUNDS: &[Part] = &[
+    Part::Times(b"sys spawn\n", 3),
+    Part::Times(
+        b"1 mklist 0 100 1\n2 mklist 0 100 1\n3 mklist 0 100 1\n4 mklist 0 100 1\n",
+        40,
+    ),
+];
+
+const ROUNDED: &[Part] = &[Part::Once(b"ok 2\nok 3\nok 4\n"), Part::Times(b"ok\n", 160)];
+
+// Five words are free, then three, then none: what is refused for them leaves all as it was, and stands before the keys of a
+// map, behind what is no map.
+const TIGHT: &[Part] = &[
+    Part::Once(
+        b"1 mktuple 0 2040 1\nsys spawn\n1 set 4 #{a=>1,a=>2}\n1 set 4 #{1=>0,2=>0,3=>0,4=>0,5=>0,6=>0,7=>0,8=>0,9=>0,10=>0,11=>0,12=>0,13=>0,14=>0,15=>0,16=>0,17=>0,18=>0,19=>0,20=>0,21=>0,22=>0,23=>0,24=>0,25=>0,26=>0,27=>0,28=>0,29=>0,30=>0,31=>0,32=>0,33=>0}\n1 push 0\n1 ref 1\n1 ref 2\n",
+    ),
+    Part::Once(
+        b"1 set 3 #{}\n1 mapput 3 0 1 1\n1 pop 5\n1 set 0 []\n1 set 5 []\n1 ref 2\n1 print 2\n",
+    ),
+    Part::Once(b"1 set 3 #{}\n1 mktuple 0 2030 1\n1 mapput 3 3 1 1\n1 print 3\n"),
+];
+
+const TOLD: &[Part] = &[
+    Part::Once(
+        b"ok\nerror nospace 16\nerror nospace 8\nerror nospace 70\nok\nok\nerror nospace 3\n",
+    ),
+    Part::Once(b"error nospace 4\nerror badarg\nok\nok\nok\nok\n#Ref<0.1.2>\n"),
+    Part::Once(b"ok\nok\nerror nospace 6\n#{}\n"),
+];
+
+// Maps that are refused for their keys bring no name.
+const KEYS: &[Part] = &[
+    Part::Once(
+        b"1 set 1 #{a1=>1,a2=>1,a3=>1,a4=>1,a5=>1,a6=>1,a7=>1,a8=>1,a9=>1,b1=>1,b2=>1,b3=>1,b4=>1,b5=>1,b6=>1,b7=>1,b8=>1,b9=>1,",
+    ),
+    Part::Once(
+        b"c1=>1,c2=>1,c3=>1,c4=>1,c5=>1,c6=>1,c7=>1,c8=>1,c9=>1,d1=>1,d2=>1,d3=>1,d4=>1,d5=>1,d6=>1}\n",
+    ),
+    Part::Times(b"1 set 0 {$0,$0}\n", 25),
+    Part::Once(b"1 set 1 #{$0=>fresh}\n1 set 1 z1\n1 print 1\n"),
+];
+
+const KEPT: &[Part] = &[
+    Part::Once(b"error mapsize\n"),
+    Part::Times(b"ok\n", 25),
+    Part::Once(b"error big\nok\nz1\n"),
+];
+
+// Scripts over an arena of 4,096 words, with their replies, and how many names there are after them.
+const SERVED: [(&[Part], &[Part], u64); 4] = [
+    (PLACES, PLACED, 0),
+    (ROUNDS, ROUNDED, 0),
+    (TIGHT, TOLD, 0),
+    (KEYS, KEPT, 1),
+];
+
+// Whether a script over such an arena is answered so, and leaves so many names.
+fn is_served(alloc: Global, script: &[Part], replies: &[Part], names: u64) -> Result<bool, Fail> {
+    let mut text = Vec::new(alloc);
+    push_parts(&mut text, script, 0)?;
+    let mut wanted = Vec::new(alloc);
+    push_parts(&mut wanted, replies, 0)?;
+    let mut machine = Machine {
+        space: OneSpace::start(alloc, 4096)?,
+        names: AtomNames::new(alloc)?,
+        code: Code::new(alloc)?,
+    };
+    let mut reader = LineReader::new(alloc, LIMITS)?;
+    let mut source = MemSource::new(alloc, text.as_slice(), 7, &[])?;
+    let mut sink = MemSink::new(alloc, ROOM, 7, &[])?;
+    let status = serve(&mut machine, &mut reader, &mut source, &mut sink);
+    Ok(
+        matches!(status, Status::Done)
+            && sink.bytes() == wanted.as_slice()
+            && machine.names.count() == names,
+    )
+}
+
+#[test]
+fn verbs_are_refused_by_what_lives(rt: HostRuntime) -> Result<(), Fail> {
+    for (script, replies, names) in SERVED {
+        assert!(rt; is_served(rt.alloc(), script, replies, names)?);
     }
     Ok(())
 }
