@@ -282,6 +282,10 @@ is_built word.Tl = true
 is_built word.Elem = true
 is_built word.MapGet = true
 is_built word.MapPut = true
+is_built word.Part = true
+is_built word.Fill = true
+is_built word.Fun = true
+is_built word.Env = true
 is_built word.Ref = true
 is_built word.Own = true
 is_built word.MkTuple = true
@@ -300,6 +304,7 @@ is_built _ = false
 abbrev pub is_sys_built : SysWord → Bool
 is_sys_built sys.Spawn = true
 is_sys_built sys.Sweep = true
+is_sys_built sys.Counts = true
 is_sys_built sys.Procs = true
 is_sys_built sys.Quit = true
 is_sys_built _ = false
@@ -362,7 +367,7 @@ IsBuiltCommand (command.Process n v) = is_built (word_of v) ≡ true
 IsBuiltCommand (command.System v) = is_sys_built (sys_word_of v) ≡ true
 
 abbrev mutual
-  -- The table of the forms of terms that are built: all but binaries.
+  -- The table of the forms of terms that are built: all of them.
   pub IsBuiltTerm : Term → Type 0
   IsBuiltTerm (Int i) = Unit {0}
   IsBuiltTerm (Atom a) = Unit {0}
@@ -372,7 +377,7 @@ abbrev mutual
   IsBuiltTerm (Barred ts t) = AreBuiltTerms ts × IsBuiltTerm t
   IsBuiltTerm (Tuple ts) = AreBuiltTerms ts
   IsBuiltTerm (Map qs) = AreBuiltPairs qs
-  IsBuiltTerm (Bin bytes) = ⊥
+  IsBuiltTerm (Bin bytes) = Unit {0}
 
   -- Each of the terms is of a built form.
   pub AreBuiltTerms : Terms → Type 0
@@ -390,6 +395,7 @@ IsBuiltOperand Slot r = Unit {0}
 IsBuiltOperand Count n = Unit {0}
 IsBuiltOperand Receiver to = Unit {0}
 IsBuiltOperand Title a = Unit {0}
+IsBuiltOperand Environment rs = Unit {0}
 IsBuiltOperand Extent d = Unit {0}
 IsBuiltOperand Body t = IsBuiltTerm t
 IsBuiltOperand _ _ = ⊥
