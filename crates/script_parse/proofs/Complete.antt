@@ -1,22 +1,23 @@
 -- What is in the grammar and built is read.
 use Rattle.std.proofs.Common.{◌≡◌, ℕ, zero, suc, ◌+◌, ◌<◌, ◌≤◌, Bool, true, false, nat_eq, nat_le, ℤ, pos, negsuc, List, [], ◌∷◌, ◌++◌, length, Option, Some, None, codes, refl, sym, ◌∙◌, ap, subst, inl, inr, arith}
 use Rattle.script_grammar.specs.declared.limits.TheConstants.{NUMBERS, REGISTERS}
-use Rattle.script_parse.specs.declared.numbers.TheConstants.{LAST_REGISTER, WIDEST}
+use Rattle.script_parse.specs.declared.numbers.TheConstants.{LAST_REGISTER, WIDEST, GREATEST_BYTE}
 use Rattle.std.proofs.lemmas.Bool.{leb-true}
 use Rattle.plain_term.specs.Measures.{magnitude}
+use Rattle.plain_term.specs.declared.item.Item.TheVariants as item
 use Rattle.script_grammar.specs.Written.{Term}
 use Rattle.script_grammar.specs.Written.Term.{Int, Atom, Pid, Held}
 use Rattle.script_grammar.specs.Grammar.{is_blank, is_digit, is_small_letter, AreAll, IsNumber, IsName, Piece, Lies, term_pieces, MayStand, IsBuiltTerm}
-use Rattle.script_grammar.specs.Grammar.Piece.{Text, Whole, Process, Register}
+use Rattle.script_grammar.specs.Grammar.Piece.{Text, Number, Whole, Process, Register}
 use Rattle.script_parse.specs.declared.forms.Form.{Form}
 use Rattle.script_parse.specs.declared.forms.Form.TheVariants as form
 use Rattle.script_parse.specs.Forms.{all_forms, opening, closing, has_tail}
-use Rattle.script_parse.specs.Output.{Out, begun, led, ended, put}
+use Rattle.script_parse.specs.Output.{Out, push, begun, led, ended, put}
 use Rattle.script_parse.specs.Reading.{then_read, after_blanks, text_at, number_at, integer_at, atom_at, leaf_at, parts_run, pair_run, part_run, end_run, form_in, form_run, any_run, term_run}
 use Rattle.script_parse.proofs.Tools.{unequal, not_blank, apart, both_true, far_from}
 use Rattle.script_parse.proofs.TermSteps.{term_leaf}
 use Rattle.script_parse.proofs.GapSteps.{Token, token, Divides, stops}
-use Rattle.script_parse.proofs.NumberSteps.{Begun, begun as number_begun, stops_digits, number_found, integer_found, pid_found, pid_text}
+use Rattle.script_parse.proofs.NumberSteps.{Begun, begun as number_begun, stops_digits, number_found, integer_found, pid_found, pid_text, Numbers, number_stands}
 use Rattle.script_parse.proofs.AtomSteps.{atom_found}
 use Rattle.script_parse.proofs.Divided.{Each, more_of, parts_of, more_divides, put_each, Mark, Opened, opened, mark_divides, DonePart, DoneParts, parts_done}
 use Rattle.script_parse.proofs.FormRows.{PartOf, pair_pieces, part_pieces, part_put, IsPair, IsPart, end_pieces, end_put, CanEnd, IsEnd, end_divides, end_no_comma, closing_no_bar, IsLeaf, leaf_or_made, made, made_pieces, made_put, made_are, made_level, opening_mark, closing_mark, form_found, opening_no_end, marks, unmarked, pid_closes_none}
@@ -188,6 +189,18 @@ pair_done levels ih q ps line o d is l =
       k.no_end,
     )
 
+-- So is a byte of a binary.
+byte_read : (inner : List ℕ → Out → Option (List ℕ × Out)) (line rest : List ℕ) (o : Out) (b : ℕ) → number_at GREATEST_BYTE (after_blanks line) ≡ Some (b, rest)
+    → part_run inner form.Binary line o ≡ Some (rest, push o (item.Byte b))
+byte_read inner line rest o b h = rw h refl
+
+byte_done : (levels b : ℕ) (ps : List Piece) (line : List ℕ) (o : Out) → Divides ps → b < 256 → Lies (Number b ∷ ps) line
+    → DonePart (part_put form.Binary) (part_run (term_run levels) form.Binary) b ps line o × ((g : Form) → text_at (closing g) (after_blanks line) ≡ None)
+byte_done levels b ps line o d h l = let k : Numbers GREATEST_BYTE b ps line = number_stands GREATEST_BYTE b ps line (omega arith) d l in (
+  record { rest = k.rest; read = byte_read (term_run levels) line k.rest o b k.read; lies = k.lies; shorter = k.shorter },
+  λ g. ap (text_at (closing g)) k.front ∙ (unmarked is_digit k.first k.more refl k.digit).1 g,
+)
+
 -- A part of the grammar is read, and no form is closed where it begins.
 pub part_done : (levels : ℕ) → AreDone levels → (f : Form) (x : PartOf f) (ps : List Piece) (line : List ℕ) (o : Out) → Divides ps → IsPart levels f x → Lies (part_pieces f x ps) line
     → DonePart (part_put f) (part_run (term_run levels) f) x ps line o × ((g : Form) → text_at (closing g) (after_blanks line) ≡ None)
@@ -196,6 +209,7 @@ part_done levels ih form.List x ps line o d is l = let k : Done levels x ps line
 part_done levels ih form.Tuple x ps line o d is l = let k : Done levels x ps line (led form.Tuple o) = ih x ps line (led form.Tuple o) d (is.0) (is.1) l in
     (record { rest = k.rest; read = k.read; lies = k.lies; shorter = k.shorter }, k.no_end)
 part_done levels ih form.Map x ps line o d is l = pair_done levels ih x ps line o d is l
+part_done levels ih form.Binary x ps line o d is l = byte_done levels x ps line o d is l
 
 form_done : (levels : ℕ) → AreDone levels → (f : Form) (xs : List (PartOf f)) (e : Option Term) (ps : List Piece) (line : List ℕ) (o : Out) → Each (IsPart levels f) xs → IsEnd levels (length xs) f e
     → Lies (parts_of (part_pieces f) xs (end_pieces f e ps)) line → DoneForm levels f xs e ps line o

@@ -1,5 +1,7 @@
 -- Parts divided by commas, whatever a part is: how they are written, and how they are read.
 use Rattle.std.proofs.Common.{◌≡◌, ℕ, zero, suc, ◌+◌, ◌-◌, ◌<◌, false, nat_eq, List, [], ◌∷◌, ◌++◌, length, Option, Some, None, codes, refl, sym, ◌∙◌, ap, subst, inl, inr, arith}
+use Rattle.std.specs.List.{All}
+use Rattle.std.proofs.lemmas.List.Elements.{All-nil, All-cons}
 use Rattle.script_grammar.specs.Grammar.{is_blank, is_name_byte, Piece, Lies}
 use Rattle.script_grammar.specs.Grammar.Piece.{Text}
 use Rattle.script_parse.specs.Output.{Out}
@@ -13,6 +15,14 @@ use Rattle.script_parse.proofs.PartSteps.{parts_last, parts_more}
 abbrev pub Each : {P : Type 0} → (P → Type 0) → List P → Type 0
 Each Is [] = Unit {0}
 Each Is (x ∷ xs) = Is x × Each Is xs
+
+pub all_of_each : {P : Type 0} (Is : P → Type 0) (xs : List P) → Each Is xs → All Is xs
+all_of_each Is [] h = All-nil Is
+all_of_each Is (x ∷ xs) h = All-cons Is x xs (h.0) (all_of_each Is xs (h.1))
+
+pub each_of_all : {P : Type 0} (Is : P → Type 0) (xs : List P) → All Is xs → Each Is xs
+each_of_all Is [] h = tt
+each_of_all Is (x ∷ xs) h = (h 0 x (omega arith), each_of_all Is xs (λ k d l. h (suc k) d (omega (arith, l))))
 
 -- Parts, each after a comma.
 abbrev pub more_of : {P : Type 0} → (P → List Piece → List Piece) → List P → List Piece → List Piece

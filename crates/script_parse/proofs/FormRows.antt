@@ -1,26 +1,28 @@
 -- What holds of each row of the table of forms in brackets: its parts, the term that they make, and its marks.
 use Rattle.std.proofs.Common.{◌≡◌, ℕ, zero, suc, ◌-◌, ◌<◌, ◌⊎◌, Bool, true, List, [], ◌∷◌, ◌++◌, length, Option, Some, None, codes, refl, ◌∙◌, ap, inl, inr, arith}
+use Rattle.plain_term.specs.declared.item.Item.TheVariants as item
 use Rattle.script_grammar.specs.Written.{Term, Terms, TermPairs, terms_len, pairs_len}
 use Rattle.script_grammar.specs.Written.Term.{Int, Atom, Pid, Held, Listed, Barred, Tuple, Map, Bin}
 use Rattle.script_grammar.specs.Written.Terms.{end, ◌▹◌}
 use Rattle.script_grammar.specs.Written.TermPairs.{stop, pair}
-use Rattle.script_grammar.specs.Grammar.{Piece, term_pieces, parts_pieces, more_pieces, pairs_pieces, more_pairs_pieces, MayStand, AllMayStand, PairsMayStand, IsBuiltTerm, AreBuiltTerms, AreBuiltPairs}
-use Rattle.script_grammar.specs.Grammar.Piece.{Text}
+use Rattle.script_grammar.specs.Grammar.{Piece, byte_pieces, more_byte_pieces, term_pieces, parts_pieces, more_pieces, pairs_pieces, more_pairs_pieces, MayStand, AllMayStand, PairsMayStand, IsBuiltTerm, AreBuiltTerms, AreBuiltPairs}
+use Rattle.script_grammar.specs.Grammar.Piece.{Text, Number}
 use Rattle.script_parse.specs.declared.forms.Form.{Form}
 use Rattle.script_parse.specs.declared.forms.Form.TheVariants as form
 use Rattle.script_parse.specs.Forms.{all_forms, opening, closing, has_tail}
-use Rattle.script_parse.specs.Output.{Out, begun, led, ended, put, put_all, put_pairs}
+use Rattle.script_parse.specs.Output.{Out, push, begun, led, ended, put, put_all, put_pairs, put_bytes}
 use Rattle.script_parse.specs.Reading.{text_at, form_in}
 use Rattle.script_parse.proofs.Tools.{found_cases, both, false_not, far_from, IsNone, none_of}
 use Rattle.script_parse.proofs.GapSteps.{Divides}
 use Rattle.script_parse.proofs.NumberSteps.{text_read}
-use Rattle.script_parse.proofs.Divided.{Each, more_of, parts_of, put_each, Mark, NoComma, mark_divides, mark_no_comma}
+use Rattle.script_parse.proofs.Divided.{Each, each_of_all, all_of_each, more_of, parts_of, put_each, Mark, NoComma, mark_divides, mark_no_comma}
 
--- What stands between two commas of a form: a term, but in a map a key and its value.
+-- What stands between two commas of a form: a term, but in a map a key and its value, and in a binary a byte.
 abbrev pub PartOf : Form → Type 0
 PartOf form.List = Term
 PartOf form.Tuple = Term
 PartOf form.Map = Term × Term
+PartOf form.Binary = ℕ
 
 -- How a key and its value are written.
 abbrev pub pair_pieces : Term × Term → List Piece → List Piece
@@ -31,12 +33,14 @@ abbrev pub part_pieces : (f : Form) → PartOf f → List Piece → List Piece
 part_pieces form.List = term_pieces
 part_pieces form.Tuple = term_pieces
 part_pieces form.Map = pair_pieces
+part_pieces form.Binary = λ b ps. Number b ∷ ps
 
 -- How it goes last.
 abbrev pub part_put : (f : Form) → PartOf f → Out → Out
 part_put form.List = λ t o. put t (led form.List o)
 part_put form.Tuple = λ t o. put t (led form.Tuple o)
 part_put form.Map = λ q o. put (q.1) (put (q.0) o)
+part_put form.Binary = λ b o. push o (item.Byte b)
 
 -- A term may stand with so many levels left, and is of a built form.
 abbrev pub IsTerm : (levels : ℕ) → Term → Type 0
@@ -46,11 +50,12 @@ IsTerm levels t = MayStand levels t × IsBuiltTerm t
 abbrev pub IsPair : (levels : ℕ) → Term × Term → Type 0
 IsPair levels q = IsTerm levels (q.0) × IsTerm levels (q.1)
 
--- So are all terms of a part.
+-- So are all terms of a part, and a byte is in its bounds.
 abbrev pub IsPart : (levels : ℕ) (f : Form) → PartOf f → Type 0
 IsPart levels form.List = IsTerm levels
 IsPart levels form.Tuple = IsTerm levels
 IsPart levels form.Map = IsPair levels
+IsPart levels form.Binary = λ b. b < 256
 
 -- What stands after the parts of a form: what closes it, or a bar, a last tail and then that.
 abbrev pub end_pieces : Form → Option Term → List Piece → List Piece
@@ -100,6 +105,7 @@ made form.List ts None = Listed (terms_from ts)
 made form.List ts (Some t) = Barred (terms_from ts) t
 made form.Tuple ts e = Tuple (terms_from ts)
 made form.Map qs e = Map (pairs_from qs)
+made form.Binary bytes e = Bin bytes
 
 terms_back : (ts : Terms) → ts ≡ terms_from (list_of ts)
 terms_back end = refl
@@ -158,6 +164,18 @@ each_pair : (levels : ℕ) (qs : List (Term × Term)) → PairsMayStand levels (
 each_pair levels [] m b = tt
 each_pair levels (q ∷ qs) m b = (((m.0, b.0), (m.1, b.1)), each_pair levels qs (m.2) (b.2))
 
+bytes_more : (bytes : List ℕ) (ps : List Piece) → more_byte_pieces bytes ps ≡ more_of (part_pieces form.Binary) bytes ps
+bytes_more [] ps = refl
+bytes_more (b ∷ bytes) ps = ap (λ (z : List Piece). Text (codes ",") ∷ Number b ∷ z) (bytes_more bytes ps)
+
+bytes_written : (bytes : List ℕ) (ps : List Piece) → byte_pieces bytes ps ≡ parts_of (part_pieces form.Binary) bytes ps
+bytes_written [] ps = refl
+bytes_written (b ∷ bytes) ps = ap (λ (z : List Piece). Number b ∷ z) (bytes_more bytes ps)
+
+bytes_put : (bytes : List ℕ) (o : Out) → put_bytes bytes o ≡ put_each (part_put form.Binary) bytes o
+bytes_put [] o = refl
+bytes_put (b ∷ bytes) o = bytes_put bytes (push o (item.Byte b))
+
 one_less : (levels : ℕ) → suc levels - 1 ≡ levels
 one_less levels = omega arith
 
@@ -183,7 +201,7 @@ leaf_or_made (Listed ts) b = inr (form.List, list_of ts, None, tt, ap (λ (z : T
 leaf_or_made (Barred ts t) b = inr (form.List, list_of ts, Some t, refl, ap (λ (z : Terms). Barred z t) (terms_back ts))
 leaf_or_made (Tuple ts) b = inr (form.Tuple, list_of ts, None, tt, ap (λ (z : Terms). Tuple z) (terms_back ts))
 leaf_or_made (Map qs) b = inr (form.Map, pairs_of qs, None, tt, ap (λ (z : TermPairs). Map z) (pairs_back qs))
-leaf_or_made (Bin bytes) b = absurd b
+leaf_or_made (Bin bytes) b = inr (form.Binary, bytes, None, tt, refl)
 
 pub made_pieces : (f : Form) (xs : List (PartOf f)) (e : Option Term) (ps : List Piece) → CanEnd f e
     → term_pieces (made f xs e) ps ≡ Text (opening f) ∷ parts_of (part_pieces f) xs (end_pieces f e ps)
@@ -193,6 +211,8 @@ made_pieces form.Tuple xs None ps c = ap (λ (z : List Piece). Text (codes "{") 
 made_pieces form.Tuple xs (Some t) ps c = absurd (false_not c)
 made_pieces form.Map xs None ps c = ap (λ (z : List Piece). Text (codes "#{") ∷ z) (pairs_written xs (Text (codes "}") ∷ ps))
 made_pieces form.Map xs (Some t) ps c = absurd (false_not c)
+made_pieces form.Binary xs None ps c = ap (λ (z : List Piece). Text (codes "<<") ∷ z) (bytes_written xs (Text (codes ">>") ∷ ps))
+made_pieces form.Binary xs (Some t) ps c = absurd (false_not c)
 
 pub made_put : (f : Form) (xs : List (PartOf f)) (e : Option Term) (o : Out) → CanEnd f e
     → put (made f xs e) o ≡ end_put f e (length o.items) (length xs) (put_each (part_put f) xs (begun f o))
@@ -204,6 +224,8 @@ made_put form.Tuple xs (Some t) o c = absurd (false_not c)
 made_put form.Map xs None o c = ap (λ (z : ℕ). ended form.Map (length o.items) z (put_pairs (pairs_from xs) (begun form.Map o))) (pairs_count xs)
     ∙ ap (λ (z : Out). ended form.Map (length o.items) (length xs) z) (pairs_put xs (begun form.Map o))
 made_put form.Map xs (Some t) o c = absurd (false_not c)
+made_put form.Binary xs None o c = ap (λ (z : Out). ended form.Binary (length o.items) (length xs) z) (bytes_put xs (begun form.Binary o))
+made_put form.Binary xs (Some t) o c = absurd (false_not c)
 
 pub made_is : (levels : ℕ) (f : Form) (xs : List (PartOf f)) (e : Option Term) → Each (IsPart levels f) xs → IsEnd levels (length xs) f e
     → MayStand (suc levels) (made f xs e) × IsBuiltTerm (made f xs e)
@@ -212,6 +234,7 @@ made_is levels form.List xs (Some t) h i = let k = terms_are levels xs h in
     ((omega arith, rw (terms_count xs) (i.1), rw (one_less levels) (k.0), rw (one_less levels) (i.2.0)), (k.1, i.2.1))
 made_is levels form.Tuple xs e h i = let k = terms_are levels xs h in ((omega arith, rw (one_less levels) (k.0)), k.1)
 made_is levels form.Map xs e h i = let k = pairs_are levels xs h in ((omega arith, rw (one_less levels) (k.0)), k.1)
+made_is levels form.Binary xs e h i = ((omega arith, all_of_each (λ b. b < 256) xs h), tt)
 
 pub made_are : (levels : ℕ) (f : Form) (xs : List (PartOf f)) (e : Option Term) → CanEnd f e → MayStand (suc levels) (made f xs e) → IsBuiltTerm (made f xs e)
     → Each (IsPart levels f) xs × IsEnd levels (length xs) f e
@@ -221,6 +244,8 @@ made_are levels form.Tuple xs None c m b = (each_is levels xs (rw (one_less leve
 made_are levels form.Tuple xs (Some t) c m b = absurd (false_not c)
 made_are levels form.Map xs None c m b = (each_pair levels xs (rw (one_less levels) at m.1) b, tt)
 made_are levels form.Map xs (Some t) c m b = absurd (false_not c)
+made_are levels form.Binary xs None c m b = (each_of_all (λ b. b < 256) xs (m.1), tt)
+made_are levels form.Binary xs (Some t) c m b = absurd (false_not c)
 
 -- It stands only where a level is left.
 pub made_level : {A : Type 0} (f : Form) (xs : List (PartOf f)) (e : Option Term) → MayStand zero (made f xs e) → A
@@ -228,17 +253,20 @@ made_level form.List xs None m = absurd (omega (arith, m.0))
 made_level form.List xs (Some t) m = absurd (omega (arith, m.0))
 made_level form.Tuple xs e m = absurd (omega (arith, m.0))
 made_level form.Map xs e m = absurd (omega (arith, m.0))
+made_level form.Binary xs e m = absurd (omega (arith, m.0))
 
 -- What opens and closes a form begins with no blank, no byte of a name and no comma.
 pub opening_mark : (f : Form) → Mark (opening f)
 opening_mark form.List = record { first = 91; more = []; is = refl; solid = refl; divides = refl; no_comma = refl }
 opening_mark form.Tuple = record { first = 123; more = []; is = refl; solid = refl; divides = refl; no_comma = refl }
 opening_mark form.Map = record { first = 35; more = codes "{"; is = refl; solid = refl; divides = refl; no_comma = refl }
+opening_mark form.Binary = record { first = 60; more = codes "<"; is = refl; solid = refl; divides = refl; no_comma = refl }
 
 pub closing_mark : (f : Form) → Mark (closing f)
 closing_mark form.List = record { first = 93; more = []; is = refl; solid = refl; divides = refl; no_comma = refl }
 closing_mark form.Tuple = record { first = 125; more = []; is = refl; solid = refl; divides = refl; no_comma = refl }
 closing_mark form.Map = record { first = 125; more = []; is = refl; solid = refl; divides = refl; no_comma = refl }
+closing_mark form.Binary = record { first = 62; more = codes ">"; is = refl; solid = refl; divides = refl; no_comma = refl }
 
 -- So does a bar, and it closes none.
 bar_mark : Mark (codes "|")
@@ -248,6 +276,7 @@ pub closing_no_bar : (f : Form) (rest : List ℕ) → text_at (closing f) (codes
 closing_no_bar form.List rest = refl
 closing_no_bar form.Tuple rest = refl
 closing_no_bar form.Map rest = refl
+closing_no_bar form.Binary rest = refl
 
 -- No name goes on before the end of a form, and it begins with no comma.
 pub end_divides : (f : Form) (e : Option Term) (ps : List Piece) → Divides (end_pieces f e ps)
@@ -263,38 +292,48 @@ pub form_found : (f : Form) (rest : List ℕ) → form_in all_forms (opening f +
 form_found form.List rest = refl
 form_found form.Tuple rest = refl
 form_found form.Map rest = refl
+form_found form.Binary rest = refl
 
 -- What opens a form closes none.
 pub opening_no_end : (f g : Form) (rest : List ℕ) → text_at (closing g) (opening f ++ rest) ≡ None
 opening_no_end form.List form.List rest = refl
 opening_no_end form.List form.Tuple rest = refl
 opening_no_end form.List form.Map rest = refl
+opening_no_end form.List form.Binary rest = refl
 opening_no_end form.Tuple form.List rest = refl
 opening_no_end form.Tuple form.Tuple rest = refl
 opening_no_end form.Tuple form.Map rest = refl
+opening_no_end form.Tuple form.Binary rest = refl
 opening_no_end form.Map form.List rest = refl
 opening_no_end form.Map form.Tuple rest = refl
 opening_no_end form.Map form.Map rest = refl
+opening_no_end form.Map form.Binary rest = refl
+opening_no_end form.Binary form.List rest = refl
+opening_no_end form.Binary form.Tuple rest = refl
+opening_no_end form.Binary form.Map rest = refl
+opening_no_end form.Binary form.Binary rest = refl
 
 -- The bytes with which something opens or closes.
 abbrev pub marks : List ℕ
-marks = 91 ∷ 93 ∷ 123 ∷ 125 ∷ 35 ∷ []
+marks = 91 ∷ 93 ∷ 123 ∷ 125 ∷ 35 ∷ 60 ∷ 62 ∷ []
 
 -- A line that begins with another byte opens no form and closes none.
 pub unmarked : (p : ℕ → Bool) (b : ℕ) (bytes : List ℕ) → far_from p marks ≡ true → p b ≡ true → (form_in all_forms (b ∷ bytes) ≡ None) × ((f : Form) → text_at (closing f) (b ∷ bytes) ≡ None)
 unmarked p b bytes h e = let k : IsNone b marks = none_of p b marks h e in
-    (rw (k.0, k.1.1.0, k.1.1.1.1.0) refl, closes k)
+    (rw (k.0, k.1.1.0, k.1.1.1.1.0, k.1.1.1.1.1.0) refl, closes k)
   where
     closes : IsNone b marks → (f : Form) → text_at (closing f) (b ∷ bytes) ≡ None
     closes k form.List = rw (k.1.0) refl
     closes k form.Tuple = rw (k.1.1.1.0) refl
     closes k form.Map = rw (k.1.1.1.0) refl
+    closes k form.Binary = rw (k.1.1.1.1.1.1.0) refl
 
 -- A pid closes no form.
 pub pid_closes_none : (f : Form) (bytes : List ℕ) → text_at (closing f) (60 ∷ bytes) ≡ None
 pid_closes_none form.List bytes = refl
 pid_closes_none form.Tuple bytes = refl
 pid_closes_none form.Map bytes = refl
+pid_closes_none form.Binary bytes = refl
 
 -- What was found to open the line opens it.
 pub form_read : (forms : List Form) (line : List ℕ) (f : Form) (rest : List ℕ) → form_in forms line ≡ Some (f, rest) → line ≡ opening f ++ rest

@@ -1,18 +1,20 @@
 -- A line that says a built command is read.
-use Rattle.std.proofs.Common.{◌≡◌, ℕ, ◌<◌, ◌≤◌, Bool, true, false, cond, List, [], ◌∷◌, ◌++◌, Option, Some, None, codes, refl, ◌∙◌, ap, inl, inr, arith}
+use Rattle.std.proofs.Common.{◌≡◌, ℕ, zero, suc, ◌<◌, ◌≤◌, Bool, true, false, cond, List, [], ◌∷◌, ◌++◌, length, Option, Some, None, codes, refl, sym, ◌∙◌, ap, subst, inl, inr, arith}
 use Rattle.script_parse.specs.declared.numbers.TheConstants.{GREATEST, LAST_REGISTER}
-use Rattle.script_grammar.specs.declared.limits.TheConstants.{LEVELS, REGISTERS, NUMBERS}
+use Rattle.script_grammar.specs.declared.limits.TheConstants.{LEVELS, REGISTERS, NUMBERS, MOST_HELD}
 use Rattle.std.specs.List.{find}
 use Rattle.std.specs.Str.{bytes_eq}
-use Rattle.atom_names.specs.Names.{with_name}
+use Rattle.plain_term.specs.declared.item.Item.TheVariants as item
 use Rattle.script_grammar.specs.Written.{Kind, OperandOf, Operands, text_of, kinds_of, all_words, sys_text_of, sys_kinds_of, all_sys_words, Written}
 use Rattle.script_grammar.specs.Written.Kind.{Slot, Count, Receiver, Title, Environment, Extent, Body}
 use Rattle.script_grammar.specs.Written.Written.{Nothing, OfProcess, OfSystem}
 use Rattle.script_grammar.specs.declared.word.Word.{Word}
+use Rattle.script_grammar.specs.declared.word.Word.TheVariants as word
 use Rattle.script_grammar.specs.declared.word.SysWord.{SysWord}
+use Rattle.script_grammar.specs.declared.word.SysWord.TheVariants as sys
 use Rattle.script_grammar.specs.Grammar.{is_blank, is_digit, is_small_letter, AreAll, IsNumber, IsName, MayReceive, IsSilent, Says, IsBuilt, is_built, is_sys_built, Piece, Lies, term_pieces, held_pieces, receiver_pieces, extent_pieces, operand_pieces, operands_pieces, IsOperand, IsBuiltOperand, AreOperands, AreBuiltOperands}
 use Rattle.script_grammar.specs.Grammar.Piece.{Space, Text, Number, Whole, Process, Register}
-use Rattle.script_grammar.specs.Names.{number_of, ArgumentOf, Arguments, verb_with, sys_verb_with}
+use Rattle.script_grammar.specs.Names.{ArgumentOf, Arguments, verb_with, sys_verb_with}
 use Rattle.script_grammar.specs.declared.command.Reg.{Reg}
 use Rattle.script_grammar.specs.declared.command.To.{To}
 use Rattle.script_grammar.specs.declared.command.To.TheVariants as to
@@ -21,35 +23,16 @@ use Rattle.script_grammar.specs.declared.command.Depth.TheVariants.{Minor, Major
 use Rattle.script_grammar.specs.declared.command.Command.TheVariants as command
 use Rattle.script_grammar.specs.declared.command.Verb.{Verb}
 use Rattle.script_grammar.specs.declared.command.SysVerb.{SysVerb}
-use Rattle.script_parse.specs.Output.{Out, put, put_name}
-use Rattle.script_parse.specs.Reading.{then_read, after_blanks, gap_at, number_at, is_solid, word_at, after_word, is_silent, atom_at, receiver_at, title_at, extent_at, operand_at, operands_at, Row, row, row_run, row_of, sys_row_of, process_run, system_run, line_run, term_run}
+use Rattle.script_parse.specs.Output.{Out, push, put, put_name, named}
+use Rattle.script_parse.specs.Reading.{then_read, after_blanks, gap_at, number_at, is_solid, word_at, after_word, is_silent, atom_at, receiver_at, title_at, extent_at, held_at, held_run, spaced_at, operand_at, operands_at, Row, row, row_run, row_of, sys_row_of, process_run, system_run, line_run, term_run}
 use Rattle.script_parse.proofs.Tools.{not_blank, apart, false_not}
 use Rattle.script_parse.proofs.Tools.{unequal}
 use Rattle.script_parse.proofs.GapSteps.{Gap, gap_found, Token, token, Stops, Divides, stops, blank_end}
-use Rattle.script_parse.proofs.NumberSteps.{Begun, begun, stops_digits, number_found}
+use Rattle.script_parse.proofs.NumberSteps.{Begun, begun, stops_digits, number_found, Numbers, number_stands, number_loud}
 use Rattle.script_parse.proofs.AtomSteps.{atom_found, word_found}
 use Rattle.script_parse.proofs.Tables.{named_so, sys_named_so, row_is, sys_row_is, is_word, word_solid, text_word, sys_text_word}
+use Rattle.script_parse.proofs.Divided.{Each, each_of_all}
 use Rattle.script_parse.proofs.Complete.{Done, term_done}
-
--- A number before pieces that divide is read.
-pub record Numbers (limit n : ℕ) (ps : List Piece) (line : List ℕ) : Type 0 where
-  pub rest : List ℕ
-  pub read : number_at limit (after_blanks line) ≡ Some (n, rest)
-  pub lies : Lies ps rest
-  pub loud : is_silent (after_blanks line) ≡ false
-
-pub number_stands : (limit n : ℕ) (ps : List Piece) (line : List ℕ) → n ≤ limit → Divides ps → Lies (Number n ∷ ps) line → Numbers limit n ps line
-number_stands limit n ps line h d (gap, text, rest, g, i, e, l) =
-    let b : Begun text = begun n text i in
-    let whole : line ≡ gap ++ ((b.first ∷ b.more) ++ rest) = rw b.whole at e in
-    let number : IsNumber n (b.first ∷ b.more) = rw b.whole at i in
-    let k : Token (Number n) ps line b.first b.more = token (Number n) ps line gap b.more rest b.first g (not_blank is_digit b.first refl refl b.digit) whole l in
-    record {
-      rest = k.rest;
-      read = rw k.front (number_found limit n (b.first ∷ b.more) k.rest number h (stops_digits k.rest (stops ps k.rest d k.lies)));
-      lies = k.lies;
-      loud = rw k.front (unequal b.first 37 (apart is_digit b.first 37 refl b.digit));
-    }
 
 -- What a plain operand is read from after its blank.
 pub record Fronts {A : Type 0} (front : List ℕ → Option (A × List ℕ)) (a : A) (ps : List Piece) (line : List ℕ) : Type 0 where
@@ -118,6 +101,71 @@ title_fronts a ps line h d l = let g : Gap (Text a ∷ ps) line = gap_found (Tex
     let f : (rest : List ℕ) × (title_at (after_blanks g.rest) ≡ Some (a, rest)) × Lies ps rest = title_start a ps g.rest h d g.lies in
     record { start = g.rest; gap = g.found; rest = f.0; read = f.1; lies = f.2 }
 
+-- A held register is read.
+pub held_fronts : (r : ℕ) (ps : List Piece) (line : List ℕ) → r < REGISTERS → Divides ps → Lies (Space ∷ Register r ∷ ps) line → Fronts held_at r ps line
+held_fronts r ps line h d l = let g : Gap (Register r ∷ ps) line = gap_found (Register r ∷ ps) line l in
+    let f : (rest : List ℕ) × (held_at (after_blanks g.rest) ≡ Some (r, rest)) × Lies ps rest = begins g.rest g.lies in
+    record { start = g.rest; gap = g.found; rest = f.0; read = f.1; lies = f.2 }
+  where
+    begins : (start : List ℕ) → Lies (Register r ∷ ps) start → (rest : List ℕ) × (held_at (after_blanks start) ≡ Some (r, rest)) × Lies ps rest
+    begins start (gap, text, rest, g, (digits, i, s), e, l) = let k : Token (Register r) ps start 36 digits = token (Register r) ps start gap digits rest 36 g refl (rw s at e) l in
+        (k.rest, rw k.front (number_found LAST_REGISTER r digits k.rest i (omega (arith, h)) (stops_digits k.rest (stops ps k.rest d k.lies))), k.lies)
+
+pub held_spaced : (r : ℕ) (ps : List Piece) (line : List ℕ) (f : Fronts held_at r ps line) → spaced_at held_at line ≡ Some (r, f.rest)
+held_spaced r ps line f = rw (f.gap, f.read) refl
+
+blanks_none : (line : List ℕ) → AreAll is_blank line → after_blanks line ≡ []
+blanks_none [] h = refl
+blanks_none (b ∷ bytes) h = rw (h.0) (blanks_none bytes (h.1))
+
+-- None is, where nothing but blanks is left.
+pub no_held : (line : List ℕ) → AreAll is_blank line → spaced_at held_at line ≡ None
+no_held [] h = refl
+no_held (b ∷ bytes) h = rw (h.0, blanks_none bytes (h.1)) refl
+
+pub held_divide : (rs : List ℕ) → Divides (held_pieces rs [])
+held_divide [] = tt
+held_divide (r ∷ rs) = tt
+
+-- Held registers at the end of a line are all read.
+held_stand : (rs : List ℕ) (left : ℕ) (line : List ℕ) (o : Out) → Each (λ r. r < REGISTERS) rs → length rs ≤ left → Lies (held_pieces rs []) line → Lies [] ((held_run left line o).0)
+held_stand [] zero line o a f l = l
+held_stand [] (suc left) line o a f l = rw (no_held line l) l
+held_stand (r ∷ rs) zero line o a f l = absurd (omega (arith, f))
+held_stand (r ∷ rs) (suc left) line o a f l = let g : Fronts held_at r (held_pieces rs []) line = held_fronts r (held_pieces rs []) line (a.0) (held_divide rs) l in
+    rw (held_spaced r (held_pieces rs []) line g) (held_stand rs left g.rest (push o (item.Held r)) (a.1) (omega (arith, f)) g.lies)
+
+-- What may stand after an operand: nothing after an environment, for its registers might go on.
+abbrev pub MayFollow : Kind → List Piece → Type 0
+MayFollow Environment ps = ps ≡ []
+MayFollow _ ps = Unit {0}
+
+-- In a row an environment is the last operand.
+abbrev pub IsRow : List Kind → Type 0
+IsRow [] = Unit {0}
+IsRow (Environment ∷ []) = Unit {0}
+IsRow (Environment ∷ k ∷ ks) = ⊥
+IsRow (_ ∷ ks) = IsRow ks
+
+pub row_follows : (k : Kind) (ks : List Kind) (ops : Operands ks) → IsRow (k ∷ ks) → MayFollow k (operands_pieces ks ops)
+row_follows Environment [] ops h = refl
+row_follows Environment (k ∷ ks) ops h = absurd h
+row_follows _ ks ops h = tt
+
+pub row_rest : (k : Kind) (ks : List Kind) → IsRow (k ∷ ks) → IsRow ks
+row_rest Environment [] h = tt
+row_rest Environment (k ∷ ks) h = absurd h
+row_rest _ ks h = h
+
+-- So it is in each verb's.
+pub word_row : (w : Word) → IsRow (kinds_of w)
+word_row word.Set = tt
+word_row _ = tt
+
+pub sys_word_row : (w : SysWord) → IsRow (sys_kinds_of w)
+sys_word_row sys.Spawn = tt
+sys_word_row _ = tt
+
 -- An operand is read.
 pub record Stands (k : Kind) (ps : List Piece) (line : List ℕ) (o : Out) : Type 0 where
   pub argument : ArgumentOf k
@@ -131,21 +179,31 @@ body_at : (levels : ℕ) (line start rest : List ℕ) (o p : Out) → gap_at lin
     → then_read {B = Unit {0} × (List ℕ × Out)} (then_read (gap_at line) (λ r. term_run levels r o)) (λ r. Some (tt, r)) ≡ Some (tt, (rest, p))
 body_at levels line start rest o p g h = rw (g, h) refl
 
-operand_stands : (k : Kind) (x : OperandOf k) (ps : List Piece) (line : List ℕ) (o : Out) → Divides ps → IsOperand k x → IsBuiltOperand k x → Lies (operand_pieces k x ps) line → Stands k ps line o
-operand_stands Slot x ps line o d a b l = let f : Fronts (number_at LAST_REGISTER) x ps line = number_fronts LAST_REGISTER x ps line (omega arith) d l in
+operand_stands : (k : Kind) (x : OperandOf k) (ps : List Piece) (line : List ℕ) (o : Out) → Divides ps → MayFollow k ps → IsOperand k x → IsBuiltOperand k x → Lies (operand_pieces k x ps) line
+    → Stands k ps line o
+operand_stands Slot x ps line o d w a b l = let f : Fronts (number_at LAST_REGISTER) x ps line = number_fronts LAST_REGISTER x ps line (omega arith) d l in
     record { argument = x; rest = f.rest; after = o; read = rw (f.gap, f.read) refl; lies = f.lies }
-operand_stands Count x ps line o d a b l = let f : Fronts (number_at GREATEST) x ps line = number_fronts GREATEST x ps line (omega arith) d l in
+operand_stands Count x ps line o d w a b l = let f : Fronts (number_at GREATEST) x ps line = number_fronts GREATEST x ps line (omega arith) d l in
     record { argument = x; rest = f.rest; after = o; read = rw (f.gap, f.read) refl; lies = f.lies }
-operand_stands Receiver x ps line o d a b l = let f : Fronts receiver_at x ps line = receiver_fronts x ps line a d l in
+operand_stands Receiver x ps line o d w a b l = let f : Fronts receiver_at x ps line = receiver_fronts x ps line a d l in
     record { argument = x; rest = f.rest; after = o; read = rw (f.gap, f.read) refl; lies = f.lies }
-operand_stands Extent x ps line o d a b l = let f : Fronts extent_at x ps line = extent_fronts x ps line l in
+operand_stands Extent x ps line o d w a b l = let f : Fronts extent_at x ps line = extent_fronts x ps line l in
     record { argument = x; rest = f.rest; after = o; read = rw (f.gap, f.read) refl; lies = f.lies }
-operand_stands Title x ps line o d a b l = let f : Fronts title_at x ps line = title_fronts x ps line a d l in
-    record { argument = number_of (with_name o.names x) x; rest = f.rest; after = put_name o x; read = rw (f.gap, f.read) refl; lies = f.lies }
-operand_stands Body t ps line o d a b l = let g : Gap (term_pieces t ps) line = gap_found (term_pieces t ps) line l in
+operand_stands Title x ps line o d w a b l = let f : Fronts title_at x ps line = title_fronts x ps line a d l in
+    record { argument = named o x; rest = f.rest; after = put_name o x; read = rw (f.gap, f.read) refl; lies = f.lies }
+operand_stands Environment rs ps line o d w a b l = let P : List Piece → Type 0 = λ z. Lies (held_pieces rs z) line in
+    let Q : List Piece → Type 0 = λ z. Lies z ((held_run MOST_HELD line o).0) in
+    record {
+      argument = tt;
+      rest = (held_run MOST_HELD line o).0;
+      after = (held_run MOST_HELD line o).1;
+      read = refl;
+      lies = subst Q (sym w) (held_stand rs MOST_HELD line o (each_of_all (λ r. r < REGISTERS) rs (a.0)) (a.1) (subst P w l));
+    }
+operand_stands Body t ps line o d w a b l = let g : Gap (term_pieces t ps) line = gap_found (term_pieces t ps) line l in
     let f : Done LEVELS t ps g.rest o = term_done LEVELS t ps g.rest o d a b g.lies in
     record { argument = tt; rest = f.rest; after = put t o; read = body_at LEVELS line g.rest f.rest o (put t o) g.found f.read; lies = f.lies }
-operand_stands _ x ps line o d a b l = absurd b
+operand_stands _ x ps line o d w a b l = absurd b
 
 -- Pieces before which a word ends.
 abbrev pub Parts : List Piece → Type 0
@@ -176,17 +234,18 @@ abbrev pub Any : {A : Type 0} → Option A → Type 0
 Any {A} r = (x : A) × (r ≡ Some x)
 
 -- Operands that the grammar has are read.
-pub operands_any : (ks : List Kind) (ops : Operands ks) (line : List ℕ) (o : Out) → AreOperands ks ops → AreBuiltOperands ks ops → Lies (operands_pieces ks ops) line → Any (operands_at ks line o)
-operands_any [] ops line o a b l = ((tt, o), rw (blank_end line l) refl)
-operands_any (k ∷ ks) ops line o a b l =
-    let s : Stands k (operands_pieces ks (ops.1)) line o = operand_stands k (ops.0) (operands_pieces ks (ops.1)) line o (operands_divide ks (ops.1)) (a.0) (b.0) l in
-    let r : (x : Arguments ks × Out) × (operands_at ks s.rest s.after ≡ Some x) = operands_any ks (ops.1) s.rest s.after (a.1) (b.1) s.lies in
+pub operands_any : (ks : List Kind) (ops : Operands ks) (line : List ℕ) (o : Out) → IsRow ks → AreOperands ks ops → AreBuiltOperands ks ops → Lies (operands_pieces ks ops) line
+    → Any (operands_at ks line o)
+operands_any [] ops line o w a b l = ((tt, o), rw (blank_end line l) refl)
+operands_any (k ∷ ks) ops line o w a b l =
+    let s : Stands k (operands_pieces ks (ops.1)) line o = operand_stands k (ops.0) (operands_pieces ks (ops.1)) line o (operands_divide ks (ops.1)) (row_follows k ks (ops.1) w) (a.0) (b.0) l in
+    let r : (x : Arguments ks × Out) × (operands_at ks s.rest s.after ≡ Some x) = operands_any ks (ops.1) s.rest s.after (row_rest k ks w) (a.1) (b.1) s.lies in
     (((s.argument, r.0.0), r.0.1), rw (s.read, r.1) refl)
 
-row_any : {V : Type 0} (ks : List Kind) (made : Arguments ks → V) (ops : Operands ks) (line : List ℕ) (o : Out) → AreOperands ks ops → AreBuiltOperands ks ops → Lies (operands_pieces ks ops) line
-    → Any (row_run (row ks made) line o)
+row_any : {V : Type 0} (ks : List Kind) (made : Arguments ks → V) (ops : Operands ks) (line : List ℕ) (o : Out) → IsRow ks → AreOperands ks ops → AreBuiltOperands ks ops
+    → Lies (operands_pieces ks ops) line → Any (row_run (row ks made) line o)
 unfolding row_run
-row_any ks made ops line o a b l = let r : (x : Arguments ks × Out) × (operands_at ks line o ≡ Some x) = operands_any ks ops line o a b l in
+row_any ks made ops line o w a b l = let r : (x : Arguments ks × Out) × (operands_at ks line o ≡ Some x) = operands_any ks ops line o w a b l in
     ((made (r.0.0), r.0.1), rw (r.1) refl)
 
 solid_blank : (b : ℕ) → is_blank b ≡ true → is_solid b ≡ false
@@ -228,23 +287,23 @@ word_stands (b ∷ text) ps line w d (gap, t, rest, g, s, e, l) =
 
 -- A verb and its operands are read after a blank, by a table of texts, of rows and of what is built.
 spoken_any : {W V : Type 0} (text : W → List ℕ) (ks : List Kind) (made : Arguments ks → V) (built : W → Bool) (all : List W) (rows : W → Row V) (w : W) (ops : Operands ks) (line : List ℕ) (o : Out)
-    → find (λ x. bytes_eq (text w) (text x)) all ≡ Some w → is_word (text w) ≡ true → rows w ≡ row ks made → built w ≡ true → AreOperands ks ops → AreBuiltOperands ks ops
+    → find (λ x. bytes_eq (text w) (text x)) all ≡ Some w → is_word (text w) ≡ true → rows w ≡ row ks made → IsRow ks → built w ≡ true → AreOperands ks ops → AreBuiltOperands ks ops
     → Lies (Space ∷ Text (text w) ∷ operands_pieces ks ops) line
     → Any (then_read (gap_at line) (λ rest. then_read (find (λ x. bytes_eq (word_at (after_blanks rest)) (text x)) all)
     (λ x. cond (built x) (row_run (rows x) (after_word (after_blanks rest)) o) None)))
-spoken_any {W} {V} text ks made built all rows w ops line o named solid same b a c l =
+spoken_any {W} {V} text ks made built all rows w ops line o found solid same last b a c l =
     let g : Gap (Text (text w) ∷ operands_pieces ks ops) line = gap_found (Text (text w) ∷ operands_pieces ks ops) line l in
     let f : Words (text w) (operands_pieces ks ops) g.rest = word_stands (text w) (operands_pieces ks ops) g.rest solid (operands_part ks ops) g.lies in
-    let v : (x : V × Out) × (row_run (row ks made) (after_word (after_blanks g.rest)) o ≡ Some x) = row_any ks made ops (after_word (after_blanks g.rest)) o a c f.lies in
-    (v.0, rw (g.found, f.word, named, b, same) (v.1))
+    let v : (x : V × Out) × (row_run (row ks made) (after_word (after_blanks g.rest)) o ≡ Some x) = row_any ks made ops (after_word (after_blanks g.rest)) o last a c f.lies in
+    (v.0, rw (g.found, f.word, found, b, same) (v.1))
 
 process_any : (w : Word) (ops : Operands (kinds_of w)) (line : List ℕ) (o : Out) → is_built w ≡ true → AreOperands (kinds_of w) ops → AreBuiltOperands (kinds_of w) ops
     → Lies (Space ∷ Text (text_of w) ∷ operands_pieces (kinds_of w) ops) line → Any (process_run line o)
-process_any w ops line o b a c l = spoken_any text_of (kinds_of w) (verb_with w) is_built all_words row_of w ops line o (named_so w) (text_word w) (row_is w) b a c l
+process_any w ops line o b a c l = spoken_any text_of (kinds_of w) (verb_with w) is_built all_words row_of w ops line o (named_so w) (text_word w) (row_is w) (word_row w) b a c l
 
 system_any : (w : SysWord) (ops : Operands (sys_kinds_of w)) (line : List ℕ) (o : Out) → is_sys_built w ≡ true → AreOperands (sys_kinds_of w) ops → AreBuiltOperands (sys_kinds_of w) ops
     → Lies (Space ∷ Text (sys_text_of w) ∷ operands_pieces (sys_kinds_of w) ops) line → Any (system_run line o)
-system_any w ops line o b a c l = spoken_any sys_text_of (sys_kinds_of w) (sys_verb_with w) is_sys_built all_sys_words sys_row_of w ops line o (sys_named_so w) (sys_text_word w) (sys_row_is w) b a c l
+system_any w ops line o b a c l = spoken_any sys_text_of (sys_kinds_of w) (sys_verb_with w) is_sys_built all_sys_words sys_row_of w ops line o (sys_named_so w) (sys_text_word w) (sys_row_is w) (sys_word_row w) b a c l
 
 pub silent_found : (line : List ℕ) → IsSilent line → is_silent (after_blanks line) ≡ true
 silent_found [] h = refl
@@ -257,7 +316,7 @@ process_line n w ops line o h b a c l =
     let f : Numbers GREATEST n (Space ∷ Text (text_of w) ∷ operands_pieces (kinds_of w) ops) line
     = number_stands GREATEST n (Space ∷ Text (text_of w) ∷ operands_pieces (kinds_of w) ops) line (omega arith) tt l in
     let v : (x : Verb × Out) × (process_run f.rest o ≡ Some x) = process_any w ops f.rest o b a c f.lies in
-    ((command.Process n (v.0.0), v.0.1), rw (f.loud, f.read, v.1) refl)
+    ((command.Process n (v.0.0), v.0.1), rw (number_loud GREATEST n (Space ∷ Text (text_of w) ∷ operands_pieces (kinds_of w) ops) line f, f.read, v.1) refl)
 
 system_line : (w : SysWord) (ops : Operands (sys_kinds_of w)) (line : List ℕ) (o : Out) → is_sys_built w ≡ true → AreOperands (sys_kinds_of w) ops → AreBuiltOperands (sys_kinds_of w) ops
     → Lies (Text (codes "sys") ∷ Space ∷ Text (sys_text_of w) ∷ operands_pieces (sys_kinds_of w) ops) line → Any (line_run line o)

@@ -1,19 +1,20 @@
 -- A line that is read says what was read.
-use Rattle.std.proofs.Common.{◌≡◌, ℕ, ◌≤◌, Bool, true, false, nat_eq, cond, List, [], ◌∷◌, ◌++◌, Option, Some, None, codes, refl, sym, ◌∙◌, ap, subst, inl, inr, arith, eqb-true, append_assoc}
+use Rattle.std.proofs.Common.{◌≡◌, ℕ, zero, suc, ◌<◌, ◌≤◌, Bool, true, false, nat_eq, nat_le, cond, List, [], ◌∷◌, ◌++◌, length, Option, Some, None, codes, refl, sym, ◌∙◌, ap, subst, inl, inr, arith, eqb-true, append_assoc}
 use Rattle.script_parse.specs.declared.numbers.TheConstants.{GREATEST, LAST_REGISTER}
-use Rattle.script_grammar.specs.declared.limits.TheConstants.{LEVELS}
+use Rattle.script_grammar.specs.declared.limits.TheConstants.{LEVELS, REGISTERS, MOST_HELD}
 use Rattle.std.specs.List.{prefix_len, find}
 use Rattle.std.specs.Str.{bytes_eq}
 use Rattle.std.proofs.lemmas.List.{take-append-drop, append-nil}
-use Rattle.atom_names.specs.Names.{with_name}
+use Rattle.atom_names.specs.Names.{most_names, with_name}
 use Rattle.plain_term.specs.declared.item.Item.{Item}
+use Rattle.plain_term.specs.declared.item.Item.TheVariants as item
 use Rattle.script_grammar.specs.Written.{Terms, joined, Kind, OperandOf, Operands, text_of, kinds_of, all_words, sys_text_of, sys_kinds_of, all_sys_words, Written}
 use Rattle.script_grammar.specs.Written.Terms.{end, ◌▹◌}
-use Rattle.script_grammar.specs.Written.Kind.{Slot, Count, Receiver, Title, Extent, Body}
+use Rattle.script_grammar.specs.Written.Kind.{Slot, Count, Receiver, Title, Environment, Extent, Body}
 use Rattle.script_grammar.specs.Written.Written.{Nothing, OfProcess, OfSystem}
-use Rattle.script_grammar.specs.Grammar.{is_blank, is_small_letter, IsSilent, Says, IsBuilt, is_built, is_sys_built, Piece, Spells, Lies, term_pieces, operand_pieces, operands_pieces, IsOperand, IsBuiltOperand, AreOperands, AreBuiltOperands}
+use Rattle.script_grammar.specs.Grammar.{is_blank, is_small_letter, IsSilent, Says, IsBuilt, is_built, is_sys_built, Piece, Spells, Lies, term_pieces, held_pieces, operand_pieces, operands_pieces, IsOperand, IsBuiltOperand, AreOperands, AreBuiltOperands}
 use Rattle.script_grammar.specs.Grammar.Piece.{Space, Text, Number, Register}
-use Rattle.script_grammar.specs.Names.{number_of, reg, ArgumentOf, Arguments, argument, arguments, with_names, atoms_of, items_of, all_items, operand_atoms, operands_atoms, operand_terms, operands_terms, all_atoms, terms_of, verb_with, sys_verb_with, command_of}
+use Rattle.script_grammar.specs.Names.{number_of, reg, ArgumentOf, Arguments, argument, arguments, with_names, atoms_of, items_of, all_items, operand_atoms, operands_atoms, held_terms, operand_terms, operands_terms, all_atoms, terms_of, verb_with, sys_verb_with, command_of}
 use Rattle.script_grammar.specs.declared.command.To.{To}
 use Rattle.script_grammar.specs.declared.command.To.TheVariants as to
 use Rattle.script_grammar.specs.declared.command.Depth.{Depth}
@@ -22,14 +23,15 @@ use Rattle.script_grammar.specs.declared.command.Command.{Command}
 use Rattle.script_grammar.specs.declared.command.Command.TheVariants as command
 use Rattle.script_grammar.specs.declared.command.Verb.{Verb}
 use Rattle.script_grammar.specs.declared.command.SysVerb.{SysVerb}
-use Rattle.script_parse.specs.Output.{Out, put, put_name}
-use Rattle.script_parse.specs.Reading.{then_read, after_blanks, gap_at, text_at, number_at, is_solid, word_at, after_word, is_end, is_silent, spaced_at, receiver_at, title_at, extent_at, plain_run, title_run, body_run, term_run, operand_at, operands_at, Row, row, row_run, row_of, sys_row_of, process_run, system_run, command_run, line_run}
+use Rattle.script_parse.specs.Output.{Out, push, put, put_name, named}
+use Rattle.script_parse.specs.Reading.{then_read, after_blanks, gap_at, byte_at, text_at, number_at, is_solid, word_at, after_word, is_end, is_silent, spaced_at, receiver_at, title_at, extent_at, plain_run, title_run, held_at, held_run, body_run, term_run, operand_at, operands_at, Row, row, row_run, row_of, sys_row_of, process_run, system_run, command_run, line_run}
 use Rattle.script_parse.proofs.Tools.{chosen, read_some, found_cases, inside, both}
 use Rattle.script_parse.proofs.GapSteps.{lies, gap_lies, end_blank}
-use Rattle.script_parse.proofs.NumberSteps.{Counted, number_read, text_read}
+use Rattle.script_parse.proofs.NumberSteps.{Counted, number_read, byte_read, text_read}
 use Rattle.script_parse.proofs.AtomSteps.{Named, atom_read}
+use Rattle.script_parse.proofs.Divided.{Each, all_of_each}
 use Rattle.script_parse.proofs.Sound.{Found, term_read}
-use Rattle.script_parse.proofs.Meaning.{Put, put_none, put_then, term_put, number_stays, name_put, names_grown, as_items}
+use Rattle.script_parse.proofs.Meaning.{Put, put_item, put_none, put_then, term_put, number_stays, name_put, names_grown, as_items}
 use Rattle.script_parse.proofs.Tables.{found_text, row_is, sys_row_is}
 
 -- A token that was read after a blank.
@@ -136,25 +138,73 @@ title_named a (b ∷ bytes) rest h = elim (chosen (is_small_letter b) h) [
   | inr e ↦ let none : None ≡ Some (a, rest) = e.1 in cc
 ]
 
-title_argument : (o : Out) (a : List ℕ) → (put_name o a).full ≡ false → (more : List (List ℕ)) → number_of (with_name o.names a) a ≡ number_of ((put_name o a).names ++ more) a
+named_step : (o : Out) (a : List ℕ) (t : Bool) → nat_le (length (with_name o.names a)) most_names ≡ t → (put_name o a).full ≡ false → named o a ≡ number_of (with_name o.names a) a
+named_step o a true e c = rw e refl
+named_step o a false e c = let full : true ≡ false = rw e at c in cc
+
+title_argument : (o : Out) (a : List ℕ) → (put_name o a).full ≡ false → (more : List (List ℕ)) → named o a ≡ number_of ((put_name o a).names ++ more) a
 title_argument o a c more = let same : (put_name o a).names ≡ with_name o.names a = (name_put o a).names c in
-    sym (ap (λ (z : List (List ℕ)). number_of (z ++ more) a) same ∙ number_stays o.names more a)
+    named_step o a (nat_le (length (with_name o.names a)) most_names) refl c ∙ sym (ap (λ (z : List (List ℕ)). number_of (z ++ more) a) same ∙ number_stays o.names more a)
 
 title_read : (line : List ℕ) (o : Out) (n : ℕ) (rest : List ℕ) (p : Out) → title_run line o ≡ Some (n, (rest, p)) → Operand Title line o n rest p
 title_read line o n rest p h =
-    let f : (x : List ℕ × List ℕ) × (spaced_at title_at line ≡ Some x) × (Some (number_of (with_name o.names (x.0)) (x.0), (x.1, put_name o (x.0))) ≡ Some (n, (rest, p)))
-    = read_some (spaced_at title_at line) (λ r. Some (number_of (with_name o.names (r.0)) (r.0), (r.1, put_name o (r.0)))) h in
-    let j : (number_of (with_name o.names (f.0.0)) (f.0.0) ≡ n) × ((f.0.1, put_name o (f.0.0)) ≡ (rest, p)) = both (f.2) in
+    let f : (x : List ℕ × List ℕ) × (spaced_at title_at line ≡ Some x) × (Some (named o (x.0), (x.1, put_name o (x.0))) ≡ Some (n, (rest, p)))
+    = read_some (spaced_at title_at line) (λ r. Some (named o (r.0), (r.1, put_name o (r.0)))) h in
+    let j : (named o (f.0.0) ≡ n) × ((f.0.1, put_name o (f.0.0)) ≡ (rest, p)) = both (f.2) in
     let g : (x : List ℕ) × (gap_at line ≡ Some x) × (title_at (after_blanks x) ≡ Some (f.0)) = read_some (gap_at line) (λ z. title_at (after_blanks z)) (f.1) in
     let m : Named (f.0.0) (after_blanks (g.0)) (f.0.1) = title_named (f.0.0) (after_blanks (g.0)) (f.0.1) (g.2) in
     let s : Spaced (Text (f.0.0)) line (f.0.1) = spaced_read (Text (f.0.0)) line (g.0) (f.0.1) (g.1) (record { text = f.0.0; whole = m.whole; spells = refl }) in
     let P : ℕ → Type 0 = λ z. Operand Title line o z rest p in
-    let Q : List ℕ × Out → Type 0 = λ z. Operand Title line o (number_of (with_name o.names (f.0.0)) (f.0.0)) (z.0) (z.1) in
+    let Q : List ℕ × Out → Type 0 = λ z. Operand Title line o (named o (f.0.0)) (z.0) (z.1) in
     subst P (j.0) (subst Q (j.1) (record { operand = f.0.0; allowed = m.is_name; built = tt; is = title_argument o (f.0.0); put = name_put o (f.0.0); lies = s.lies }))
 
 number_step : (limit n : ℕ) (line : List ℕ) (o : Out) (rest : List ℕ) (p : Out) → 9 ≤ limit → Plain (number_at limit) line o n rest p → (n ≤ limit) × Spaced (Number n) line rest
 number_step limit n line o rest p l f = let c : Counted limit n (after_blanks f.start) rest = number_read limit n (after_blanks f.start) rest l f.read in
     (c.within, spaced_read (Number n) line f.start rest f.gap (number_spelled limit n (after_blanks f.start) rest c))
+
+-- Held registers that were read.
+record Held (left : ℕ) (line : List ℕ) (o : Out) (rest : List ℕ) (p : Out) : Type 0 where
+  pub registers : List ℕ
+  pub are : Each (λ r. r < REGISTERS) registers
+  pub few : length registers ≤ left
+  pub put : Put o [] (λ names. all_items names (held_terms registers)) p
+  pub lies : (ps : List Piece) → Lies ps rest → Lies (held_pieces registers ps) line
+
+-- No more come.
+held_none : (left : ℕ) (line : List ℕ) (o : Out) (rest : List ℕ) (p : Out) → ◌≡◌ {A = List ℕ × Out} (line, o) (rest, p) → Held left line o rest p
+held_none left line o rest p h = let same : line ≡ rest = ap (λ (z : List ℕ × Out). z.0) h in
+    record {
+      registers = [];
+      are = tt;
+      few = omega arith;
+      put = none_put o p (ap (λ (z : List ℕ × Out). z.1) h);
+      lies = λ ps l. let P : List ℕ → Type 0 = λ z. Lies ps z in subst P (sym same) l;
+    }
+
+-- One more before them.
+held_step : (left : ℕ) (line : List ℕ) (o : Out) (r : ℕ) (mid rest : List ℕ) (p : Out) → spaced_at held_at line ≡ Some (r, mid) → Held left mid (push o (item.Held r)) rest p
+    → Held (suc left) line o rest p
+held_step left line o r mid rest p h k =
+    let g : (x : List ℕ) × (gap_at line ≡ Some x) × (held_at (after_blanks x) ≡ Some (r, mid)) = read_some (gap_at line) (λ z. held_at (after_blanks z)) h in
+    let b : (x : List ℕ) × (byte_at 36 (after_blanks (g.0)) ≡ Some x) × (number_at LAST_REGISTER x ≡ Some (r, mid))
+    = read_some (byte_at 36 (after_blanks (g.0))) (number_at LAST_REGISTER) (g.2) in
+    let c : Counted LAST_REGISTER r (b.0) mid = number_read LAST_REGISTER r (b.0) mid (omega arith) (b.2) in
+    let whole : after_blanks (g.0) ≡ (36 ∷ c.text) ++ mid = byte_read 36 (after_blanks (g.0)) (b.0) (b.1) ∙ ap (λ (z : List ℕ). 36 ∷ z) c.whole in
+    let s : Spaced (Register r) line mid = spaced_read (Register r) line (g.0) mid (g.1) (record { text = 36 ∷ c.text; whole = whole; spells = (c.text, c.number, refl) }) in
+    record {
+      registers = r ∷ k.registers;
+      are = (omega (arith, c.within), k.are);
+      few = omega (arith, k.few);
+      put = put_then o (push o (item.Held r)) p [] [] (λ names. item.Held r ∷ []) (λ names. all_items names (held_terms k.registers)) (put_item o (item.Held r)) k.put;
+      lies = λ ps l. s.lies (held_pieces k.registers ps) (k.lies ps l);
+    }
+
+held_read : (left : ℕ) (line : List ℕ) (o : Out) (rest : List ℕ) (p : Out) → held_run left line o ≡ (rest, p) → Held left line o rest p
+held_read zero line o rest p h = held_none zero line o rest p h
+held_read (suc left) line o rest p h = elim (found_cases (spaced_at held_at line) (λ r. held_run left (r.1) (push o (item.Held (r.0)))) (line, o) h) [
+  | inl f ↦ held_step left line o (f.0.0) (f.0.1) rest p (f.1) (held_read left (f.0.1) (push o (item.Held (f.0.0))) rest p (f.2))
+  | inr f ↦ held_none (suc left) line o rest p (f.1)
+]
 
 -- An operand that is read is in the grammar.
 operand_read : (k : Kind) (line : List ℕ) (o : Out) (a : ArgumentOf k) (rest : List ℕ) (p : Out) → operand_at k line o ≡ Some (a, (rest, p)) → Operand k line o a rest p
@@ -169,6 +219,15 @@ operand_read Receiver line o a rest p h = let f : Plain receiver_at line o a res
 operand_read Extent line o a rest p h = let f : Plain extent_at line o a rest p = plain_read extent_at line o a rest p h in
     extent_step line o a f.start rest p f.gap f.same f.read
 operand_read Title line o a rest p h = title_read line o a rest p h
+operand_read Environment line o a rest p h = let f : Held MOST_HELD line o rest p = held_read MOST_HELD line o rest p ((both h).1) in
+    record {
+      operand = f.registers;
+      allowed = (all_of_each (λ r. r < REGISTERS) f.registers f.are, f.few);
+      built = tt;
+      is = λ c more. refl;
+      put = f.put;
+      lies = f.lies;
+    }
 operand_read Body line o a rest p h = let f : (x : List ℕ × Out) × (body_run line o ≡ Some x) × (Some (tt, x) ≡ Some (a, (rest, p))) = read_some (body_run line o) (λ r. Some (tt, r)) h in
     let j : f.0 ≡ (rest, p) = (both (f.2)).1 in
     body_read line o rest p (f.1 ∙ ap (λ (z : List ℕ × Out). Some z) j)

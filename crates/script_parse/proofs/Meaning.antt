@@ -1,5 +1,5 @@
 -- What goes last while a line is read comes to the names and items of its terms.
-use Rattle.std.proofs.Common.{◌≡◌, ℕ, ◌<◌, ◌≤◌, ◌⊎◌, Bool, true, false, nat_le, List, [], ◌∷◌, ◌++◌, length, set, Option, Some, None, refl, sym, ◌∙◌, ap, subst, inl, inr, arith, append_assoc, length-append}
+use Rattle.std.proofs.Common.{◌≡◌, ℕ, ◌<◌, ◌≤◌, ◌⊎◌, Bool, true, false, nat_le, List, [], ◌∷◌, ◌++◌, length, map, set, Option, Some, None, refl, sym, ◌∙◌, ap, subst, inl, inr, arith, append_assoc, length-append}
 use Rattle.std.proofs.lemmas.Bool.{leb-true, leb-false}
 use Rattle.std.proofs.lemmas.List.{append-nil}
 use Rattle.std.proofs.Math.Seq.{set-append_seam}
@@ -15,7 +15,7 @@ use Rattle.script_grammar.specs.Names.{number_of, with_names, atoms_of, atoms_of
 use Rattle.atom_names.proofs.Places.{index_of_append, index_of_push}
 use Rattle.script_parse.specs.declared.forms.Form.{Form}
 use Rattle.script_parse.specs.declared.forms.Form.TheVariants as form
-use Rattle.script_parse.specs.Output.{Out, out, push, led_items, led, put_at, put_atom, put_name, put, put_all, put_pairs}
+use Rattle.script_parse.specs.Output.{Out, out, push, led_items, led, put_at, put_atom, put_name, put, put_all, put_pairs, put_bytes}
 
 -- The names and items that came, so long as each name found a place.
 pub record Put (o : Out) (atoms : List (List ℕ)) (its : List (List ℕ) → List Item) (p : Out) : Type 0 where
@@ -143,6 +143,7 @@ led_put : (f : Form) (o : Out) → Put o [] (λ names. led_items f []) (led f o)
 led_put form.List o = put_item o item.Cons
 led_put form.Tuple o = put_none o
 led_put form.Map o = put_none o
+led_put form.Binary o = put_none o
 
 -- The items of the terms of a form, each after what stands before it.
 abbrev pub part_items : Form → Terms → List (List ℕ) → List Item
@@ -157,6 +158,12 @@ list_items : (ts : Terms) (names : List (List ℕ)) (last : List Item) → part_
 list_items end names last = refl
 list_items (t ▹ ts) names last = ap (λ (z : List Item). item.Cons ∷ z)
     (append_assoc (items_of names t) (part_items form.List ts names) last ∙ ap (λ (z : List Item). items_of names t ++ z) (list_items ts names last))
+
+-- Bytes, one after the other.
+bytes_put : (bytes : List ℕ) (o : Out) → Put o [] (λ names. map item.Byte bytes) (put_bytes bytes o)
+bytes_put [] o = put_none o
+bytes_put (b ∷ bytes) o = put_then o (push o (item.Byte b)) (put_bytes bytes (push o (item.Byte b))) [] [] (λ names. item.Byte b ∷ []) (λ names. map item.Byte bytes) (put_item o (item.Byte b))
+    (bytes_put bytes (push o (item.Byte b)))
 
 -- The same with the items said in another way.
 pub as_items : (o p : Out) (xs : List (List ℕ)) (its jts : List (List ℕ) → List Item) → ((names : List (List ℕ)) → its names ≡ jts names) → Put o xs its p → Put o xs jts p
@@ -190,7 +197,9 @@ mutual
   term_put (Map qs) o b = counted o (put_pairs qs (push o (item.Map 0))) (item.Map 0) (item.Map (pairs_len qs)) (atoms_of_pairs qs) (λ names. pairs_items names qs)
       (put_then o (push o (item.Map 0)) (put_pairs qs (push o (item.Map 0))) [] (atoms_of_pairs qs) (λ names. item.Map 0 ∷ []) (λ names. pairs_items names qs) (put_item o (item.Map 0))
       (pairs_put qs (push o (item.Map 0)) b))
-  term_put (Bin bytes) o b = absurd b
+  term_put (Bin bytes) o b = counted o (put_bytes bytes (push o (item.Bin 0))) (item.Bin 0) (item.Bin (length bytes)) [] (λ names. map item.Byte bytes)
+      (put_then o (push o (item.Bin 0)) (put_bytes bytes (push o (item.Bin 0))) [] [] (λ names. item.Bin 0 ∷ []) (λ names. map item.Byte bytes) (put_item o (item.Bin 0))
+      (bytes_put bytes (push o (item.Bin 0))))
 
   pub all_put : (ts : Terms) (f : Form) (o : Out) → AreBuiltTerms ts → Put o (atoms_of_all ts) (part_items f ts) (put_all f ts o)
   all_put end f o b = put_none o

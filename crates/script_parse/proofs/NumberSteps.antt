@@ -1,14 +1,15 @@
 -- Numbers as they are read, and as the grammar has them.
-use Rattle.std.proofs.Common.{◌≡◌, ℕ, ◌+◌, ◌-◌, ◌*◌, ◌<◌, ◌≤◌, ◌≢◌, Bool, true, false, nat_eq, nat_le, ◌&&◌, ◌||◌, ℤ, pos, negsuc, List, [], ◌∷◌, ◌++◌, Some, None, codes, refl, sym, ◌∙◌, ap, subst, inl, inr, arith, eq-eqb, eqb-true, append_assoc}
+use Rattle.std.proofs.Common.{◌≡◌, ℕ, ◌+◌, ◌-◌, ◌*◌, ◌<◌, ◌≤◌, ◌≢◌, Bool, true, false, nat_eq, nat_le, ◌&&◌, ◌||◌, ℤ, pos, negsuc, List, [], ◌∷◌, ◌++◌, length, Some, None, codes, refl, sym, ◌∙◌, ap, subst, inl, inr, arith, eq-eqb, eqb-true, append_assoc}
 use Rattle.script_grammar.specs.declared.limits.TheConstants.{NUMBERS}
 use Rattle.script_parse.specs.declared.numbers.TheConstants.{GREATEST, WIDEST}
 use Rattle.std.proofs.lemmas.Bool.{leb-true, le-leb}
 use Rattle.plain_term.specs.Measures.{magnitude}
-use Rattle.script_grammar.specs.Grammar.{is_name_byte, is_digit, is_small_letter, AreAll, value_after, HasNoLeadingZero, IsNumber, IsInteger}
-use Rattle.script_parse.specs.Reading.{then_read, byte_at, text_at, digits_at, number_at, signed, integer_at, pid_end, pid_at}
-use Rattle.script_parse.proofs.Tools.{chosen, read_some, inside, both, both_true, either_false, apart}
+use Rattle.script_grammar.specs.Grammar.{is_name_byte, is_digit, is_small_letter, AreAll, value_after, HasNoLeadingZero, IsNumber, IsInteger, Piece, Lies}
+use Rattle.script_grammar.specs.Grammar.Piece.{Number}
+use Rattle.script_parse.specs.Reading.{then_read, after_blanks, is_silent, byte_at, text_at, digits_at, number_at, signed, integer_at, pid_end, pid_at}
+use Rattle.script_parse.proofs.Tools.{chosen, read_some, inside, both, both_true, either_false, apart, not_blank}
 use Rattle.script_parse.proofs.Tools.{unequal}
-use Rattle.script_parse.proofs.GapSteps.{Stops}
+use Rattle.script_parse.proofs.GapSteps.{Stops, Divides, stops, Token, token}
 
 -- A first digit counts by itself.
 first_digit : (b : ℕ) (text : List ℕ) → value_after 0 (b ∷ text) ≡ value_after (b - 48) text
@@ -237,3 +238,35 @@ pub pid_found : (n : ℕ) (digits rest : List ℕ) → IsNumber n digits → 1 �
     → pid_at (codes "0." ++ (digits ++ (codes ".0>" ++ rest))) ≡ Some (n, rest)
 pid_found n digits rest i some within = let nonzero : nat_eq n 0 ≡ false = unequal n 0 (λ q. omega arith) in
     rw (number_found GREATEST n digits (codes ".0>" ++ rest) i (omega arith) refl, nonzero) refl
+
+-- A number before pieces that divide is read, and the line begins with a digit.
+pub record Numbers (limit n : ℕ) (ps : List Piece) (line : List ℕ) : Type 0 where
+  pub rest : List ℕ
+  pub read : number_at limit (after_blanks line) ≡ Some (n, rest)
+  pub lies : Lies ps rest
+  pub shorter : length rest < length line
+  pub first : ℕ
+  pub more : List ℕ
+  pub front : after_blanks line ≡ first ∷ more
+  pub digit : is_digit first ≡ true
+
+pub number_stands : (limit n : ℕ) (ps : List Piece) (line : List ℕ) → n ≤ limit → Divides ps → Lies (Number n ∷ ps) line → Numbers limit n ps line
+number_stands limit n ps line h d (gap, text, rest, g, i, e, l) =
+    let b : Begun text = begun n text i in
+    let whole : line ≡ gap ++ ((b.first ∷ b.more) ++ rest) = rw b.whole at e in
+    let number : IsNumber n (b.first ∷ b.more) = rw b.whole at i in
+    let k : Token (Number n) ps line b.first b.more = token (Number n) ps line gap b.more rest b.first g (not_blank is_digit b.first refl refl b.digit) whole l in
+    record {
+      rest = k.rest;
+      read = rw k.front (number_found limit n (b.first ∷ b.more) k.rest number h (stops_digits k.rest (stops ps k.rest d k.lies)));
+      lies = k.lies;
+      shorter = k.shorter;
+      first = b.first;
+      more = b.more ++ k.rest;
+      front = k.front;
+      digit = b.digit;
+    }
+
+-- So it is no line without a command.
+pub number_loud : (limit n : ℕ) (ps : List Piece) (line : List ℕ) → Numbers limit n ps line → is_silent (after_blanks line) ≡ false
+number_loud limit n ps line k = rw k.front (unequal k.first 37 (apart is_digit k.first 37 refl k.digit))

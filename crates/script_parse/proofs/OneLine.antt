@@ -1,22 +1,23 @@
 -- A whole line says one built command at most.
 use Rattle.std.proofs.Common.{◌≡◌, ℕ, ◌<◌, ◌≤◌, true, false, List, [], ◌∷◌, ◌++◌, Option, Some, None, codes, refl, sym, ◌∙◌, ap, subst, arith}
 use Rattle.script_parse.specs.declared.numbers.TheConstants.{GREATEST, LAST_REGISTER}
-use Rattle.script_grammar.specs.declared.limits.TheConstants.{LEVELS, NUMBERS}
+use Rattle.script_grammar.specs.declared.limits.TheConstants.{LEVELS, NUMBERS, REGISTERS}
 use Rattle.script_grammar.specs.Written.{Kind, OperandOf, Operands, text_of, kinds_of, sys_text_of, sys_kinds_of}
-use Rattle.script_grammar.specs.Written.Kind.{Slot, Count, Receiver, Title, Extent, Body}
+use Rattle.script_grammar.specs.Written.Kind.{Slot, Count, Receiver, Title, Environment, Extent, Body}
 use Rattle.script_grammar.specs.Written.Written.{Nothing, OfProcess, OfSystem}
 use Rattle.script_grammar.specs.declared.word.Word.{Word}
 use Rattle.script_grammar.specs.declared.word.SysWord.{SysWord}
-use Rattle.script_grammar.specs.Grammar.{IsSilent, SaysOne, Piece, Lies, term_pieces, operand_pieces, operands_pieces, IsOperand, IsBuiltOperand, AreOperands, AreBuiltOperands}
+use Rattle.script_grammar.specs.Grammar.{IsSilent, SaysOne, Piece, Lies, term_pieces, held_pieces, operand_pieces, operands_pieces, IsOperand, IsBuiltOperand, AreOperands, AreBuiltOperands}
 use Rattle.script_grammar.specs.Grammar.Piece.{Space, Text, Number}
-use Rattle.script_parse.specs.Reading.{after_blanks, number_at, receiver_at, title_at, extent_at, after_word, word_named, sys_word_named, is_silent}
+use Rattle.script_parse.specs.Reading.{after_blanks, number_at, receiver_at, title_at, extent_at, held_at, after_word, word_named, sys_word_named, is_silent}
 use Rattle.script_parse.proofs.Tools.{inside, both, false_not, none_some}
 use Rattle.script_parse.proofs.GapSteps.{Gap, gap_found, Divides, Token, token}
+use Rattle.script_parse.proofs.NumberSteps.{Numbers, number_stands, number_loud}
 use Rattle.script_parse.proofs.Tables.{named_so, sys_named_so, is_word, text_word, sys_text_word}
 use Rattle.script_parse.proofs.LineSound.{pair_same}
-use Rattle.script_parse.proofs.LineComplete.{Numbers, number_stands, Fronts, number_fronts, receiver_fronts, title_fronts, extent_fronts, Words, word_stands, Parts, operands_part, operands_divide, silent_found}
+use Rattle.script_parse.proofs.LineComplete.{Fronts, number_fronts, receiver_fronts, title_fronts, extent_fronts, held_fronts, held_spaced, no_held, held_divide, MayFollow, row_follows, row_rest, IsRow, word_row, sys_word_row, Words, word_stands, Parts, operands_part, operands_divide, silent_found}
 use Rattle.script_parse.proofs.OneReading.{term_same}
-use Rattle.script_parse.proofs.Divided.{Same}
+use Rattle.script_parse.proofs.Divided.{Each, each_of_all, Same}
 
 -- A space read twice leaves the same rest.
 pub record TwiceGap (ps qs : List Piece) (line : List ℕ) : Type 0 where
@@ -51,28 +52,49 @@ plain_twice front x y ps qs line f g = let same : f.start ≡ g.start = inside (
     let P : List ℕ → Type 0 = λ z. Lies qs z in
     (j.0, f.rest, f.lies, subst P (sym (j.1)) g.lies)
 
-operand_same : (k : Kind) (x y : OperandOf k) (ps qs : List Piece) (line : List ℕ) → Divides ps → Divides qs → IsOperand k x → IsOperand k y → IsBuiltOperand k x → IsBuiltOperand k y
+-- Held registers at the end of a line, read twice, are the same.
+held_same : (rs ss : List ℕ) (line : List ℕ) → Each (λ r. r < REGISTERS) rs → Each (λ r. r < REGISTERS) ss → Lies (held_pieces rs []) line → Lies (held_pieces ss []) line
+    → (rs ≡ ss) × (rest : List ℕ) × Lies [] rest
+held_same [] [] line a b k l = (refl, line, k)
+held_same [] (s ∷ ss) line a b k l = let g : Fronts held_at s (held_pieces ss []) line = held_fronts s (held_pieces ss []) line (b.0) (held_divide ss) l in
+    absurd (none_some (sym (no_held line k) ∙ held_spaced s (held_pieces ss []) line g))
+held_same (r ∷ rs) [] line a b k l = let f : Fronts held_at r (held_pieces rs []) line = held_fronts r (held_pieces rs []) line (a.0) (held_divide rs) k in
+    absurd (none_some (sym (no_held line l) ∙ held_spaced r (held_pieces rs []) line f))
+held_same (r ∷ rs) (s ∷ ss) line a b k l =
+    let t : (r ≡ s) × (rest : List ℕ) × Lies (held_pieces rs []) rest × Lies (held_pieces ss []) rest
+    = plain_twice held_at r s (held_pieces rs []) (held_pieces ss []) line (held_fronts r (held_pieces rs []) line (a.0) (held_divide rs) k)
+    (held_fronts s (held_pieces ss []) line (b.0) (held_divide ss) l) in
+    let m : (rs ≡ ss) × (rest : List ℕ) × Lies [] rest = held_same rs ss (t.1) (a.1) (b.1) (t.2) (t.3) in
+    (ap (λ (z : ℕ). z ∷ rs) (t.0) ∙ ap (λ (z : List ℕ). s ∷ z) (m.0), m.1, m.2)
+
+operand_same : (k : Kind) (x y : OperandOf k) (ps qs : List Piece) (line : List ℕ) → Divides ps → Divides qs → MayFollow k ps → MayFollow k qs → IsOperand k x → IsOperand k y → IsBuiltOperand k x → IsBuiltOperand k y
     → Lies (operand_pieces k x ps) line → Lies (operand_pieces k y qs) line → (x ≡ y) × (rest : List ℕ) × Lies ps rest × Lies qs rest
-operand_same Slot x y ps qs line d e a b f g k l
+operand_same Slot x y ps qs line d e v w a b f g k l
     = plain_twice (number_at LAST_REGISTER) x y ps qs line (number_fronts LAST_REGISTER x ps line (omega arith) d k) (number_fronts LAST_REGISTER y qs line (omega arith) e l)
-operand_same Count x y ps qs line d e a b f g k l
+operand_same Count x y ps qs line d e v w a b f g k l
     = plain_twice (number_at GREATEST) x y ps qs line (number_fronts GREATEST x ps line (omega arith) d k) (number_fronts GREATEST y qs line (omega arith) e l)
-operand_same Receiver x y ps qs line d e a b f g k l = plain_twice receiver_at x y ps qs line (receiver_fronts x ps line a d k) (receiver_fronts y qs line b e l)
-operand_same Title x y ps qs line d e a b f g k l = plain_twice title_at x y ps qs line (title_fronts x ps line a d k) (title_fronts y qs line b e l)
-operand_same Extent x y ps qs line d e a b f g k l = plain_twice extent_at x y ps qs line (extent_fronts x ps line k) (extent_fronts y qs line l)
-operand_same Body x y ps qs line d e a b f g k l = let s : TwiceGap (term_pieces x ps) (term_pieces y qs) line = gap_twice (term_pieces x ps) (term_pieces y qs) line k l in
+operand_same Receiver x y ps qs line d e v w a b f g k l = plain_twice receiver_at x y ps qs line (receiver_fronts x ps line a d k) (receiver_fronts y qs line b e l)
+operand_same Title x y ps qs line d e v w a b f g k l = plain_twice title_at x y ps qs line (title_fronts x ps line a d k) (title_fronts y qs line b e l)
+operand_same Extent x y ps qs line d e v w a b f g k l = plain_twice extent_at x y ps qs line (extent_fronts x ps line k) (extent_fronts y qs line l)
+operand_same Environment x y ps qs line d e v w a b f g k l = let P : List ℕ → List Piece → Type 0 = λ rs z. Lies (held_pieces rs z) line in
+    let m : (x ≡ y) × (rest : List ℕ) × Lies [] rest = held_same x y line (each_of_all (λ r. r < REGISTERS) x (a.0)) (each_of_all (λ r. r < REGISTERS) y (b.0))
+    (subst (P x) v k) (subst (P y) w l) in
+    let Q : List Piece → Type 0 = λ z. Lies z (m.1) in
+    (m.0, m.1, subst Q (sym v) (m.2), subst Q (sym w) (m.2))
+operand_same Body x y ps qs line d e v w a b f g k l = let s : TwiceGap (term_pieces x ps) (term_pieces y qs) line = gap_twice (term_pieces x ps) (term_pieces y qs) line k l in
     let t : Same x y ps qs = term_same LEVELS x y ps qs s.rest d e a b f g s.left s.right in
     (t.same, t.rest, t.left, t.right)
-operand_same _ x y ps qs line d e a b f g k l = absurd f
+operand_same _ x y ps qs line d e v w a b f g k l = absurd f
 
 -- The operands of a row, read twice, are the same.
-pub operands_same : (ks : List Kind) (ops pos : Operands ks) (line : List ℕ) → AreOperands ks ops → AreOperands ks pos → AreBuiltOperands ks ops → AreBuiltOperands ks pos
+pub operands_same : (ks : List Kind) (ops pos : Operands ks) (line : List ℕ) → IsRow ks → AreOperands ks ops → AreOperands ks pos → AreBuiltOperands ks ops → AreBuiltOperands ks pos
     → Lies (operands_pieces ks ops) line → Lies (operands_pieces ks pos) line → ops ≡ pos
-operands_same [] ops pos line a b c d k l = refl
-operands_same (kind ∷ ks) ops pos line a b c d k l =
+operands_same [] ops pos line w a b c d k l = refl
+operands_same (kind ∷ ks) ops pos line w a b c d k l =
     let t : (ops.0 ≡ pos.0) × (rest : List ℕ) × Lies (operands_pieces ks (ops.1)) rest × Lies (operands_pieces ks (pos.1)) rest
-    = operand_same kind (ops.0) (pos.0) (operands_pieces ks (ops.1)) (operands_pieces ks (pos.1)) line (operands_divide ks (ops.1)) (operands_divide ks (pos.1)) (a.0) (b.0) (c.0) (d.0) k l in
-    pair_same (ops.0) (pos.0) (ops.1) (pos.1) (t.0) (operands_same ks (ops.1) (pos.1) (t.1) (a.1) (b.1) (c.1) (d.1) (t.2) (t.3))
+    = operand_same kind (ops.0) (pos.0) (operands_pieces ks (ops.1)) (operands_pieces ks (pos.1)) line (operands_divide ks (ops.1)) (operands_divide ks (pos.1))
+    (row_follows kind ks (ops.1) w) (row_follows kind ks (pos.1) w) (a.0) (b.0) (c.0) (d.0) k l in
+    pair_same (ops.0) (pos.0) (ops.1) (pos.1) (t.0) (operands_same ks (ops.1) (pos.1) (t.1) (row_rest kind ks w) (a.1) (b.1) (c.1) (d.1) (t.2) (t.3))
 
 -- A word read twice is one.
 pub record TwiceWord {W : Type 0} (w x : W) (ps qs : List Piece) : Type 0 where
@@ -104,7 +126,7 @@ process_same n m w x ops pos line h i a d e f k l =
     (operands_part (kinds_of x) pos) t.left t.right in
     let Q : Word → Type 0 = λ z. (others : Operands (kinds_of z)) → AreOperands (kinds_of z) others → AreBuiltOperands (kinds_of z) others → Lies (operands_pieces (kinds_of z) others) v.rest
     → OfProcess n w ops ≡ OfProcess m z others in
-    let start : Q w = λ others p q r. let y : ops ≡ others = operands_same (kinds_of w) ops others v.rest a p e q v.left r in
+    let start : Q w = λ others p q r. let y : ops ≡ others = operands_same (kinds_of w) ops others v.rest (word_row w) a p e q v.left r in
     ap (λ (z : ℕ). OfProcess z w ops) t.same ∙ ap (λ (z : Operands (kinds_of w)). OfProcess m w z) y in
     subst Q v.same start pos d f v.right
 
@@ -129,13 +151,13 @@ system_same w x ops pos line a b c d k l =
     let Q : SysWord → Type 0
     = λ z. (others : Operands (sys_kinds_of z)) → AreOperands (sys_kinds_of z) others → AreBuiltOperands (sys_kinds_of z) others → Lies (operands_pieces (sys_kinds_of z) others) v.rest
     → OfSystem w ops ≡ OfSystem z others in
-    let start : Q w = λ others p q r. ap (λ (z : Operands (sys_kinds_of w)). OfSystem w z) (operands_same (sys_kinds_of w) ops others v.rest a p c q v.left r) in
+    let start : Q w = λ others p q r. ap (λ (z : Operands (sys_kinds_of w)). OfSystem w z) (operands_same (sys_kinds_of w) ops others v.rest (sys_word_row w) a p c q v.left r) in
     subst Q v.same start pos b d v.right
 
 -- Lines of two kinds are apart.
 silent_process : {A : Type 0} (n : ℕ) (ps : List Piece) (line : List ℕ) → n < NUMBERS → Divides ps → Lies (Number n ∷ ps) line → IsSilent line → A
 silent_process n ps line h d l s = let x : Numbers GREATEST n ps line = number_stands GREATEST n ps line (omega arith) d l in
-    absurd (false_not (sym x.loud ∙ silent_found line s))
+    absurd (false_not (sym (number_loud GREATEST n ps line x) ∙ silent_found line s))
 
 silent_system : {A : Type 0} (w : SysWord) (ops : Operands (sys_kinds_of w)) (line : List ℕ) → Lies (Text (codes "sys") ∷ Space ∷ Text (sys_text_of w) ∷ operands_pieces (sys_kinds_of w) ops) line
     → IsSilent line → A

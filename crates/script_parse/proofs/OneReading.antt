@@ -1,8 +1,9 @@
 -- Two readings of a term on one line are one.
-use Rattle.std.proofs.Common.{◌≡◌, ℕ, zero, suc, false, List, [], ◌∷◌, length, Option, Some, None, codes, refl, sym, ◌∙◌, ap, subst, inl, inr, arith}
+use Rattle.std.proofs.Common.{◌≡◌, ℕ, zero, suc, ◌<◌, false, List, [], ◌∷◌, length, Option, Some, None, codes, refl, sym, ◌∙◌, ap, subst, inl, inr, arith}
 use Rattle.script_grammar.specs.Written.{Term}
 use Rattle.script_grammar.specs.Grammar.{Piece, Lies, term_pieces, MayStand, IsBuiltTerm}
-use Rattle.script_grammar.specs.Grammar.Piece.{Text}
+use Rattle.script_grammar.specs.Grammar.Piece.{Text, Number}
+use Rattle.script_parse.specs.declared.numbers.TheConstants.{GREATEST_BYTE}
 use Rattle.script_parse.specs.declared.forms.Form.{Form}
 use Rattle.script_parse.specs.declared.forms.Form.TheVariants as form
 use Rattle.script_parse.specs.Forms.{all_forms, opening, closing}
@@ -10,6 +11,7 @@ use Rattle.script_parse.specs.Output.{out}
 use Rattle.script_parse.specs.Reading.{after_blanks, text_at, form_in}
 use Rattle.script_parse.proofs.Tools.{both, none_some}
 use Rattle.script_parse.proofs.GapSteps.{Divides}
+use Rattle.script_parse.proofs.NumberSteps.{Numbers, number_stands}
 use Rattle.script_parse.proofs.Divided.{Each, more_of, parts_of, more_divides, Mark, Opened, opened, mark_divides, Twice, text_twice, Same, parts_same}
 use Rattle.script_parse.proofs.FormRows.{PartOf, pair_pieces, part_pieces, IsPair, IsPart, end_pieces, CanEnd, IsEnd, end_divides, end_no_comma, closing_no_bar, IsLeaf, IsMade, leaf_or_made, made, made_are, made_level, closing_mark, form_found}
 use Rattle.script_parse.proofs.Complete.{DoneLeaf, leaf_of_grammar, closing_opened, part_done, term_done, form_opened}
@@ -49,11 +51,20 @@ pair_same levels ih (a, v) (b, w) ps qs line d e m n k l =
     let u : Same v w ps qs = ih v w ps qs t.rest d e (m.1.0) (n.1.0) (m.1.1) (n.1.1) t.left t.right in
     record { same = ap (λ (z : Term). (z, v)) s.same ∙ ap (λ (z : Term). (b, z)) u.same; rest = u.rest; left = u.left; right = u.right }
 
+-- Two readings of a byte are one.
+byte_same : (x y : ℕ) (ps qs : List Piece) (line : List ℕ) → Divides ps → Divides qs → x < 256 → y < 256 → Lies (Number x ∷ ps) line → Lies (Number y ∷ qs) line → Same x y ps qs
+byte_same x y ps qs line d e m n k l = let f : Numbers GREATEST_BYTE x ps line = number_stands GREATEST_BYTE x ps line (omega arith) d k in
+    let g : Numbers GREATEST_BYTE y qs line = number_stands GREATEST_BYTE y qs line (omega arith) e l in
+    let j : (x ≡ y) × (f.rest ≡ g.rest) = both (sym f.read ∙ g.read) in
+    let P : List ℕ → Type 0 = λ z. Lies qs z in
+    record { same = j.0; rest = f.rest; left = f.lies; right = subst P (sym (j.1)) g.lies }
+
 part_same : (levels : ℕ) → AreOne levels → (f : Form) (x y : PartOf f) (ps qs : List Piece) (line : List ℕ) → Divides ps → Divides qs → IsPart levels f x → IsPart levels f y
     → Lies (part_pieces f x ps) line → Lies (part_pieces f y qs) line → Same x y ps qs
 part_same levels ih form.List x y ps qs line d e m n k l = ih x y ps qs line d e (m.0) (n.0) (m.1) (n.1) k l
 part_same levels ih form.Tuple x y ps qs line d e m n k l = ih x y ps qs line d e (m.0) (n.0) (m.1) (n.1) k l
 part_same levels ih form.Map x y ps qs line d e m n k l = pair_same levels ih x y ps qs line d e m n k l
+part_same levels ih form.Binary x y ps qs line d e m n k l = byte_same x y ps qs line d e m n k l
 
 -- What closes a form is read twice.
 closing_twice : (f : Form) (ps qs : List Piece) (line : List ℕ) → Lies (Text (closing f) ∷ ps) line → Lies (Text (closing f) ∷ qs) line → Twice ps qs line

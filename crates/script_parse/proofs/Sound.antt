@@ -1,15 +1,16 @@
 -- What is read is in the grammar.
 use Rattle.std.proofs.Common.{◌≡◌, ℕ, zero, suc, ◌+◌, ◌<◌, true, nat_eq, ℤ, List, [], ◌∷◌, ◌++◌, length, Option, Some, None, codes, refl, sym, ◌∙◌, ap, subst, inl, inr, arith, eqb-true}
+use Rattle.plain_term.specs.declared.item.Item.TheVariants as item
 use Rattle.script_grammar.specs.Written.{Term}
 use Rattle.script_grammar.specs.Written.Term.{Int, Atom, Pid, Held}
 use Rattle.script_grammar.specs.Grammar.{is_small_letter, Piece, Lies, term_pieces, MayStand, IsBuiltTerm}
-use Rattle.script_grammar.specs.Grammar.Piece.{Text, Whole, Process, Register}
-use Rattle.script_parse.specs.declared.numbers.TheConstants.{LAST_REGISTER}
+use Rattle.script_grammar.specs.Grammar.Piece.{Text, Number, Whole, Process, Register}
+use Rattle.script_parse.specs.declared.numbers.TheConstants.{LAST_REGISTER, GREATEST_BYTE}
 use Rattle.script_parse.specs.declared.forms.Form.{Form}
 use Rattle.script_parse.specs.declared.forms.Form.TheVariants as form
 use Rattle.script_parse.specs.Forms.{all_forms, opening, closing, has_tail}
-use Rattle.script_parse.specs.Output.{Out, begun, led, ended, put}
-use Rattle.script_parse.specs.Reading.{then_read, after_blanks, byte_at, text_at, number_at, integer_at, pid_at, atom_at, leaf_at, leaf_run, parts_run, pair_run, part_run, tail_run, end_run, form_in, form_run, any_run, term_run}
+use Rattle.script_parse.specs.Output.{Out, push, begun, led, ended, put}
+use Rattle.script_parse.specs.Reading.{then_read, after_blanks, byte_at, text_at, number_at, integer_at, pid_at, atom_at, leaf_at, leaf_run, parts_run, pair_run, byte_run, part_run, tail_run, end_run, form_in, form_run, any_run, term_run}
 use Rattle.script_parse.proofs.Tools.{chosen, read_some, found_cases, both, none_some}
 use Rattle.script_parse.proofs.GapSteps.{lies}
 use Rattle.script_parse.proofs.NumberSteps.{Counted, number_read, Integral, integer_read, Numbered, pid_read, byte_read, text_read}
@@ -106,6 +107,20 @@ leaf_read levels line o rest p h =
     let f : FoundLeaf line (r.0.1) (r.0.0) = leaf_step line (after_blanks line) (r.0.1) (r.0.0) refl (r.1) in
     moved levels line o (r.0.1) rest (put (r.0.0) o) p (record { term = r.0.0; may = f.may levels; built = f.built; put = refl; lies = f.lies }) (j.0) (j.1)
 
+-- A byte of a binary that was read.
+byte_step : (levels : ℕ) (line : List ℕ) (o : Out) (rest : List ℕ) (p : Out) → byte_run line o ≡ Some (rest, p) → FoundPart (part_pieces form.Binary) (part_put form.Binary) (IsPart levels form.Binary) line o rest p
+byte_step levels line o rest p h =
+    let r : (x : ℕ × List ℕ) × (number_at GREATEST_BYTE (after_blanks line) ≡ Some x) × (Some (x.1, push o (item.Byte (x.0))) ≡ Some (rest, p))
+    = read_some (number_at GREATEST_BYTE (after_blanks line)) (λ r. Some (r.1, push o (item.Byte (r.0)))) h in
+    let j : (r.0.1 ≡ rest) × (push o (item.Byte (r.0.0)) ≡ p) = both (r.2) in
+    let c : Counted GREATEST_BYTE (r.0.0) (after_blanks line) (r.0.1) = number_read GREATEST_BYTE (r.0.0) (after_blanks line) (r.0.1) (omega arith) (r.1) in
+    record {
+      part = r.0.0;
+      is = omega (arith, c.within);
+      put = sym (j.1);
+      lies = λ ps l. lies (Number (r.0.0)) ps line c.text rest (c.whole ∙ ap (λ (z : List ℕ). c.text ++ z) (j.0)) c.number l;
+    }
+
 -- Terms with so many levels that are read are in the grammar.
 abbrev pub AreRead : (levels : ℕ) → Type 0
 AreRead levels = (line : List ℕ) (o : Out) (rest : List ℕ) (p : Out) → term_run levels line o ≡ Some (rest, p) → Found levels line o rest p
@@ -135,6 +150,7 @@ part_read levels ih form.List line o rest p h = let t : Found levels line (led f
 part_read levels ih form.Tuple line o rest p h = let t : Found levels line (led form.Tuple o) rest p = ih line (led form.Tuple o) rest p h in
     record { part = t.term; is = (t.may, t.built); put = t.put; lies = t.lies }
 part_read levels ih form.Map line o rest p h = pair_read levels ih line o rest p h
+part_read levels ih form.Binary line o rest p h = byte_step levels line o rest p h
 
 closed : (f : Form) (line mid : List ℕ) (ps : List Piece) → text_at (closing f) (after_blanks mid) ≡ Some line → Lies ps line → Lies (Text (closing f) ∷ ps) mid
 closed f line mid ps e l = lies (Text (closing f)) ps mid (closing f) line (text_read (closing f) (after_blanks mid) line e) refl l

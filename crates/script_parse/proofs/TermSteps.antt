@@ -22,9 +22,11 @@ pub led_len : (f : Form) (items : List Item) → length (led_items f items) ≡ 
 led_len form.List items = simp length-append refl
 led_len form.Tuple items = omega arith
 led_len form.Map items = omega arith
+led_len form.Binary items = omega arith
 
 -- At most one.
 pub led_few : (f : Form) → length (led_items f []) ≤ 1
 led_few form.List = omega arith
 led_few form.Tuple = omega arith
 led_few form.Map = omega arith
+led_few form.Binary = omega arith

@@ -51,11 +51,12 @@ push o i = record { names = o.names; full = o.full; items = o.items ++ i ∷ [] 
 abbrev pub put_at : ℕ → Item → Out → Out
 put_at at i o = record { names = o.names; full = o.full; items = slice_set o.items at i }
 
--- The items with what a form puts before its parts: the count of a tuple or a map comes later.
+-- The items with what a form puts before its parts: the count of a tuple, a map or a binary comes later.
 abbrev pub begun_items : Form → List Item → List Item
 begun_items form.List items = items
 begun_items form.Tuple items = items ++ item.Tuple 0 ∷ []
 begun_items form.Map items = items ++ item.Map 0 ∷ []
+begun_items form.Binary items = items ++ item.Bin 0 ∷ []
 
 -- What a form puts before its parts goes last.
 abbrev pub begun : Form → Out → Out
@@ -66,6 +67,7 @@ abbrev pub led_items : Form → List Item → List Item
 led_items form.List items = items ++ item.Cons ∷ []
 led_items form.Tuple items = items
 led_items form.Map items = items
+led_items form.Binary items = items
 
 -- What a form puts before each part goes last.
 abbrev pub led : Form → Out → Out
@@ -76,12 +78,22 @@ abbrev pub ended : Form → (at n : ℕ) → Out → Out
 ended form.List at n o = push o item.Nil
 ended form.Tuple at n o = put_at at (item.Tuple n) o
 ended form.Map at n o = put_at at (item.Map n) o
+ended form.Binary at n o = put_at at (item.Bin n) o
 
 -- An atom goes last by its number. Where it is new and finds no place, that is kept in mind.
 abbrev pub put_atom : Out → List ℕ → Out
 put_atom o a = if nat_le (length (with_name o.names a)) most_names
     then record { names = with_name o.names a; full = o.full; items = o.items ++ item.Atom (number_of (with_name o.names a) a) ∷ [] }
     else record { names = o.names; full = true; items = o.items ++ item.Atom 0 ∷ [] }
+
+-- The number of a name that is put in: none but 0 where it is new and finds no place.
+abbrev pub named : Out → List ℕ → ℕ
+named o a = if nat_le (length (with_name o.names a)) most_names then number_of (with_name o.names a) a else 0
+
+-- Bytes go last one by one.
+abbrev pub put_bytes : List ℕ → Out → Out
+put_bytes [] o = o
+put_bytes (b ∷ bytes) o = put_bytes bytes (push o (item.Byte b))
 
 -- An atom that is no term has a number alone.
 abbrev pub put_name : Out → List ℕ → Out
@@ -90,7 +102,7 @@ put_name o a = if nat_le (length (with_name o.names a)) most_names
     else record { names = o.names; full = true; items = o.items }
 
 abbrev mutual
-  -- A term goes last in prefix form. Forms that are not built put nothing.
+  -- A term goes last in prefix form.
   pub put : Term → Out → Out
   put (Int i) o = push o (item.Int i)
   put (Atom a) o = put_atom o a
@@ -100,7 +112,7 @@ abbrev mutual
   put (Barred ts t) o = put t (put_all form.List ts (begun form.List o))
   put (Tuple ts) o = ended form.Tuple (length o.items) (terms_len ts) (put_all form.Tuple ts (begun form.Tuple o))
   put (Map qs) o = ended form.Map (length o.items) (pairs_len qs) (put_pairs qs (begun form.Map o))
-  put (Bin bytes) o = o
+  put (Bin bytes) o = ended form.Binary (length o.items) (length bytes) (put_bytes bytes (begun form.Binary o))
 
   -- The terms of a form go last.
   pub put_all : Form → Terms → Out → Out

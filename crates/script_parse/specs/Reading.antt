@@ -1,21 +1,20 @@
 -- Reading from left to right: each function takes the rest of a line, and gives what it read with
 -- the rest after it, or nothing.
 use Rattle.std.specs.Prelude.{ℕ, zero, suc, ◌+◌, ◌-◌, ◌*◌, nat_eq, nat_le, Bool, true, false, not, ◌&&◌, ℤ, pos, negsuc, List, [], ◌∷◌, length, take, drop, Option, Some, None, cond, codes, if◌then◌else◌}
-use Rattle.script_parse.specs.declared.numbers.TheConstants.{GREATEST, WIDEST, LAST_REGISTER}
-use Rattle.script_grammar.specs.declared.limits.TheConstants.{LEVELS}
+use Rattle.script_parse.specs.declared.numbers.TheConstants.{GREATEST, WIDEST, LAST_REGISTER, GREATEST_BYTE}
+use Rattle.script_grammar.specs.declared.limits.TheConstants.{LEVELS, MOST_HELD}
 use Rattle.atom_names.specs.declared.row.TheConstants.{LONGEST_NAME}
 use Rattle.std.specs.Borrow.{Bor}
 use Rattle.std.specs.List.{prefix_len, find}
 use Rattle.std.specs.Str.{bytes_eq}
-use Rattle.atom_names.specs.Names.{with_name}
 use Rattle.script_grammar.specs.Grammar.{is_blank, is_digit, is_small_letter, is_name_byte, is_built, is_sys_built}
-use Rattle.script_grammar.specs.Names.{number_of, reg, ArgumentOf, Arguments, verb_with, sys_verb_with}
+use Rattle.script_grammar.specs.Names.{reg, ArgumentOf, Arguments, verb_with, sys_verb_with}
 use Rattle.script_grammar.specs.Written.{Kind, all_words, text_of, kinds_of, all_sys_words, sys_text_of, sys_kinds_of}
 use Rattle.script_grammar.specs.declared.word.Word.{Word}
 use Rattle.script_grammar.specs.declared.word.Word.TheVariants as word
 use Rattle.script_grammar.specs.declared.word.SysWord.TheVariants as sys
 use Rattle.script_grammar.specs.declared.word.SysWord.{SysWord}
-use Rattle.script_grammar.specs.Written.Kind.{Slot, Count, Receiver, Title, Extent, Body}
+use Rattle.script_grammar.specs.Written.Kind.{Slot, Count, Receiver, Title, Environment, Extent, Body}
 use Rattle.script_grammar.specs.declared.command.To.{To}
 use Rattle.script_grammar.specs.declared.command.To.TheVariants as to
 use Rattle.script_grammar.specs.declared.command.Depth.{Depth}
@@ -24,12 +23,13 @@ use Rattle.script_grammar.specs.declared.command.Command.{Command}
 use Rattle.script_grammar.specs.declared.command.Command.TheVariants as command
 use Rattle.script_grammar.specs.declared.command.Verb.{Verb}
 use Rattle.script_grammar.specs.declared.command.SysVerb.{SysVerb}
+use Rattle.plain_term.specs.declared.item.Item.TheVariants as item
 use Rattle.script_grammar.specs.Written.{Term}
 use Rattle.script_grammar.specs.Written.Term.{Int, Atom, Pid, Held}
 use Rattle.script_parse.specs.declared.forms.Form.{Form}
 use Rattle.script_parse.specs.declared.forms.Form.TheVariants as form
 use Rattle.script_parse.specs.Forms.{all_forms, opening, closing, has_tail}
-use Rattle.script_parse.specs.Output.{Out, begun, led, ended, put, put_name}
+use Rattle.script_parse.specs.Output.{Out, push, begun, led, ended, put, put_name, named}
 
 -- What was found, and the rest after it, go on.
 abbrev pub then_read : {A B : Type 0} → Option A → (A → Option B) → Option B
@@ -121,11 +121,16 @@ parts_run part (suc left) line n o = then_read (part line o)
 abbrev pub pair_run : (inner : List ℕ → Out → Option (List ℕ × Out)) → List ℕ → Out → Option (List ℕ × Out)
 pair_run inner line o = then_read (inner line o) (λ r. then_read (text_at (codes "=>") (after_blanks (r.0))) (λ rest. inner rest (r.1)))
 
--- A part of a form: a term, but in a map a pair.
+-- A byte of a binary.
+abbrev pub byte_run : List ℕ → Out → Option (List ℕ × Out)
+byte_run line o = then_read (number_at GREATEST_BYTE (after_blanks line)) (λ r. Some (r.1, push o (item.Byte (r.0))))
+
+-- A part of a form: a term, but in a map a pair and in a binary a byte.
 abbrev pub part_run : (inner : List ℕ → Out → Option (List ℕ × Out)) → Form → List ℕ → Out → Option (List ℕ × Out)
 part_run inner form.List line o = inner line (led form.List o)
 part_run inner form.Tuple line o = inner line (led form.Tuple o)
 part_run inner form.Map line o = pair_run inner line o
+part_run inner form.Binary line o = byte_run line o
 
 -- A bar, a last tail and what closes the form, where it may have a last tail.
 abbrev pub tail_run : (inner : List ℕ → Out → Option (List ℕ × Out)) → Form → List ℕ → Out → Option (List ℕ × Out)
@@ -198,7 +203,16 @@ plain_run front line o = then_read (spaced_at front line) (λ r. Some (r.0, (r.1
 
 -- A name, by its number.
 abbrev pub title_run : List ℕ → Out → Option (ℕ × (List ℕ × Out))
-title_run line o = then_read (spaced_at title_at line) (λ r. Some (number_of (with_name o.names (r.0)) (r.0), (r.1, put_name o (r.0))))
+title_run line o = then_read (spaced_at title_at line) (λ r. Some (named o (r.0), (r.1, put_name o (r.0))))
+
+-- A register after `$`.
+abbrev pub held_at : List ℕ → Option (ℕ × List ℕ)
+held_at line = then_read (byte_at 36 line) (number_at LAST_REGISTER)
+
+-- Registers, each after a blank, as long as one comes, but at most so many. They go last.
+abbrev pub held_run : (left : ℕ) → List ℕ → Out → List ℕ × Out
+held_run zero line o = (line, o)
+held_run (suc left) line o = found_or (spaced_at held_at line) (λ r. held_run left (r.1) (push o (item.Held (r.0)))) (line, o)
 
 -- A blank and a term.
 abbrev pub body_run : List ℕ → Out → Option (List ℕ × Out)
@@ -210,6 +224,7 @@ operand_at Slot line o = plain_run (number_at LAST_REGISTER) line o
 operand_at Count line o = plain_run (number_at GREATEST) line o
 operand_at Receiver line o = plain_run receiver_at line o
 operand_at Title line o = title_run line o
+operand_at Environment line o = Some (tt, held_run MOST_HELD line o)
 operand_at Extent line o = plain_run extent_at line o
 operand_at Body line o = then_read (body_run line o) (λ r. Some (tt, r))
 operand_at _ line o = None
@@ -247,18 +262,29 @@ sys_row_of w = row (sys_kinds_of w) (sys_verb_with w)
 abbrev pub verb_run : Word → List ℕ → Out → Option (Verb × Out)
 verb_run w line o = cond (is_built w) (row_run (row_of w) line o) None
 
--- The built verbs of a process that take several operands, none of them a term.
+-- The verbs of a process that take a part of a term.
+abbrev pub takes_part : Word → Bool
+takes_part word.Hd = true
+takes_part word.Tl = true
+takes_part word.Elem = true
+takes_part word.MapGet = true
+takes_part word.Part = true
+takes_part word.Env = true
+takes_part _ = false
+
+-- One of these with the operands after it.
+abbrev pub choice_run : Word → List ℕ → Out → Option (Verb × Out)
+choice_run w line o = cond (takes_part w) (row_run (row_of w) line o) None
+
+-- The built verbs of a process that take several operands, none of them a term or a name.
 abbrev pub takes_several : Word → Bool
-takes_several word.Hd = true
-takes_several word.Tl = true
-takes_several word.Elem = true
-takes_several word.MapGet = true
 takes_several word.MapPut = true
+takes_several word.Fill = true
 takes_several word.MkTuple = true
 takes_several word.MkList = true
 takes_several word.Eq = true
 takes_several word.Cmp = true
-takes_several _ = false
+takes_several w = takes_part w
 
 -- One of these with the operands after it.
 abbrev pub several_run : Word → List ℕ → Out → Option (Verb × Out)

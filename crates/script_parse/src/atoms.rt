@@ -1,6 +1,11 @@
-ghost use Rattle.std.specs.Prelude.{◌≡◌, ℕ, ◌≤◌, ◌<◌, List, length, take, drop, MatchOption};
+ghost use Rattle.std.specs.Prelude.{◌≡◌, ℕ, ◌≤◌, ◌<◌, List, length, take, drop, MatchOption, Some, None};
 ghost use Rattle.std.specs.List.{prefix_len};
+ghost use Rattle.atom_names.specs.declared.row.TheConstants.{LONGEST_NAME};
 ghost use Rattle.script_grammar.specs.Grammar.{is_small_letter, is_name_byte};
+ghost use Rattle.script_parse.specs.Reading.{title_at};
+
+use crate::blanks::first;
+use atom_names::LONGEST_NAME;
 
 /// A letter from a to z.
 pub(crate) fn small_letter(b: u8) -> bool
@@ -31,4 +36,21 @@ pub(crate) fn name_len(line: &[u8]) -> usize
         }
     }
     line.len()
+}
+
+/// An atom, and the line after it.
+pub(crate) fn atom(line: &[u8]) -> Option<(&[u8], &[u8])>
+    ensures value { MatchOption result (title_at line.now ≡ None) (λ r. title_at line.now ≡ Some (r.0.now, r.1.now)) }
+    ensures sized { MatchOption result (Unit {0}) (λ r. (1 ≤ length r.0.now) × (length r.0.now ≤ LONGEST_NAME)) }
+    ensures shorter { MatchOption result (Unit {0}) (λ r. length r.1.now < length line.now) }
+{
+    let (b, _) = first(line)?;
+    if !small_letter(b) {
+        return None;
+    }
+    let n = name_len(line);
+    if n == 0 || n > LONGEST_NAME {
+        return None;
+    }
+    Some((&line[..n], &line[n..]))
 }

@@ -11,10 +11,11 @@ pub(crate) enum Form {
     List,
     Tuple,
     Map,
+    Binary,
 }
 
 /// The forms in brackets that are built.
-const FORMS: [Form; 3] = [Form::List, Form::Tuple, Form::Map];
+const FORMS: [Form; 4] = [Form::List, Form::Tuple, Form::Map, Form::Binary];
 
 impl Form {
     /// What opens the form.
@@ -25,6 +26,7 @@ impl Form {
             Form::List => b"[",
             Form::Tuple => b"{",
             Form::Map => b"#{",
+            Form::Binary => b"<<",
         }
     }
 
@@ -36,6 +38,7 @@ impl Form {
         match self {
             Form::List => b"]",
             Form::Tuple | Form::Map => b"}",
+            Form::Binary => b">>",
         }
     }
 

@@ -12,6 +12,9 @@ pub(crate) const GREATEST: u64 = NUMBERS - 1;
 /// The last register of a process.
 pub(crate) const LAST_REGISTER: u64 = REGISTERS - 1;
 
+/// The greatest byte of a binary.
+pub(crate) const GREATEST_BYTE: u64 = 255;
+
 /// The greatest magnitude of an integer.
 pub(crate) const WIDEST: u128 = (1 << 127) - 1;
 

@@ -2,7 +2,7 @@
 ghost use Rattle.std.specs.Prelude.{◌≡◌, ℕ, ◌+◌, ◌≤◌, ◌<◌, List, [], ◌++◌, length};
 ghost use Rattle.atom_names.specs.declared.row.TheConstants.{LONGEST_NAME};
 ghost use Rattle.script_parse.specs.declared.buffer.TheConstants.{MOST_ITEMS};
-ghost use Rattle.script_parse.specs.Output.{given, push, put_at, put_atom, begun, begun_items, led, ended, led_items, Grows};
+ghost use Rattle.script_parse.specs.Output.{given, push, put_at, put_atom, put_name, named, begun, begun_items, led, ended, led_items, Grows};
 
 use crate::buffer::Code;
 use crate::forms::Form;
@@ -44,6 +44,23 @@ impl<'a> Output<'a> {
         }
     }
 
+    /// A name that is no term gets its number. Where it is new and there is none for it, that is kept in mind.
+    pub(crate) fn put_name(&mut self, name: &[u8]) -> u64
+        requires { (1 ≤ length name.now) × (length name.now ≤ LONGEST_NAME) }
+        ensures name { given self.new ≡ put_name (given self.old) name.now }
+        ensures number { result ≡ named (given self.old) name.now }
+        ensures grown { Grows self.old self.new }
+        ensures same { length self.new.code.now ≡ length self.old.code.now }
+    {
+        match self.names.intern(name) {
+            Some(k) => k,
+            None => {
+                self.full = true;
+                0
+            }
+        }
+    }
+
     /// What stands before the parts of a form.
     pub(crate) fn begin(&mut self, form: Form)
         requires { length self.old.code.now < MOST_ITEMS }
@@ -54,6 +71,7 @@ impl<'a> Output<'a> {
             Form::List => {},
             Form::Tuple => self.code.push(Item::Tuple(0)),
             Form::Map => self.code.push(Item::Map(0)),
+            Form::Binary => self.code.push(Item::Bin(0)),
         }
     }
 
@@ -65,7 +83,7 @@ impl<'a> Output<'a> {
     {
         match form {
             Form::List => self.code.push(Item::Cons),
-            Form::Tuple | Form::Map => {},
+            Form::Tuple | Form::Map | Form::Binary => {},
         }
     }
 
@@ -81,6 +99,7 @@ impl<'a> Output<'a> {
             Form::List => self.code.push(Item::Nil),
             Form::Tuple => self.code.put(at, Item::Tuple(n)),
             Form::Map => self.code.put(at, Item::Map(n)),
+            Form::Binary => self.code.put(at, Item::Bin(n)),
         }
     }
 }

@@ -1,12 +1,12 @@
 ghost use Rattle.std.specs.Prelude.{◌≡◌, ℕ, ◌+◌, ◌≤◌, ◌<◌, Bool, List, [], length, MatchOption, Some, None};
 ghost use Rattle.script_parse.specs.declared.buffer.TheConstants.{MOST_ITEMS};
 ghost use Rattle.script_parse.specs.Output.{given, begun, begun_items, led_items, Grows, Spends};
-ghost use Rattle.script_parse.specs.Reading.{leaf_run, pair_run, part_run, parts_run, tail_run, end_run, form_run, term_run};
+ghost use Rattle.script_parse.specs.Reading.{leaf_run, byte_run, pair_run, part_run, parts_run, tail_run, end_run, form_run, term_run};
 
 use crate::atoms::{name_len, small_letter};
 use crate::blanks::{after_byte, after_text, first, skip};
 use crate::forms::{Form, opened};
-use crate::numbers::{LAST_REGISTER, integer, number, pid};
+use crate::numbers::{GREATEST_BYTE, LAST_REGISTER, integer, number, pid};
 use crate::output::Output;
 use atom_names::LONGEST_NAME;
 use plain_term::Item;
@@ -42,6 +42,18 @@ fn leaf<'a>(line: &'a [u8], out: &mut Output) -> Option<&'a [u8]>
     Some(rest)
 }
 
+/// A byte of a binary goes last.
+fn byte<'a>(line: &'a [u8], out: &mut Output) -> Option<&'a [u8]>
+    requires { length out.old.code.now + length line.now ≤ MOST_ITEMS }
+    ensures read { MatchOption result (byte_run line.now (given out.old) ≡ None) (λ r. byte_run line.now (given out.old) ≡ Some (r.now, given out.new)) }
+    ensures grown { Grows out.old out.new }
+    ensures room { MatchOption result (Unit {0}) (λ r. Spends 0 line.now r.now out.old out.new) }
+{
+    let (n, rest) = number(skip(line), GREATEST_BYTE)?;
+    out.push(Item::Byte(n as u8));
+    Some(rest)
+}
+
 /// A key and its value go last.
 #[cycle(terms)]
 fn pair<'a>(line: &'a [u8], levels: u64, out: &mut Output) -> Option<&'a [u8]>
@@ -68,6 +80,7 @@ fn part<'a>(form: Form, line: &'a [u8], levels: u64, out: &mut Output) -> Option
 {
     match form {
         Form::Map => pair(line, levels, out),
+        Form::Binary => byte(line, out),
         Form::List | Form::Tuple => {
             out.lead(form);
             term(line, levels, out)

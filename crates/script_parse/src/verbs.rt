@@ -1,18 +1,21 @@
 ghost use Rattle.std.specs.Prelude.{◌≡◌, ℕ, ◌+◌, ◌≤◌, ◌<◌, Bool, true, false, List, [], ◌∷◌, length, MatchOption, Some, None};
 ghost use Rattle.script_grammar.specs.Names.{Arguments};
 ghost use Rattle.script_grammar.specs.Written.{Kind};
-ghost use Rattle.script_grammar.specs.Written.Kind.{Slot, Count, Extent, Body};
+ghost use Rattle.script_grammar.specs.Written.Kind.{Slot, Count, Title, Environment, Extent, Body};
+ghost use Rattle.script_grammar.specs.declared.limits.TheConstants.{MOST_HELD};
 ghost use Rattle.script_parse.specs.declared.buffer.TheConstants.{MOST_ITEMS};
 ghost use Rattle.script_parse.specs.declared.numbers.TheConstants.{GREATEST, LAST_REGISTER};
 ghost use Rattle.script_parse.specs.Output.{Out, given, Grows};
-ghost use Rattle.script_parse.specs.Reading.{extent_at, number_at, spaced_at, row, row_run, several_run, verb_run, named_run, process_run, sys_verb_run, sys_named_run, system_run};
+ghost use Rattle.script_parse.specs.Reading.{extent_at, held_at, held_run, number_at, spaced_at, title_run, row, row_run, choice_run, several_run, verb_run, named_run, process_run, sys_verb_run, sys_named_run, system_run};
 
-use crate::blanks::{after_text, ends, gap, skip, word_len};
+use crate::atoms::atom;
+use crate::blanks::{after_byte, after_text, ends, gap, skip, word_len};
 use crate::numbers::{GREATEST, LAST_REGISTER, number};
 use crate::output::Output;
 use crate::terms::term;
 use crate::words::{sys_word, verb_word};
-use script_grammar::{Depth, LEVELS, Pick, Reg, Shape, SysVerb, SysWord, Verb, Word};
+use plain_term::Item;
+use script_grammar::{Depth, LEVELS, MOST_HELD, Pick, Reg, Shape, SysVerb, SysWord, Verb, Word};
 
 /// A blank and a register.
 fn register(line: &[u8]) -> Option<(Reg, &[u8])>
@@ -29,9 +32,51 @@ fn register(line: &[u8]) -> Option<(Reg, &[u8])>
 fn count(line: &[u8]) -> Option<(u64, &[u8])>
     ensures value { MatchOption result (spaced_at (number_at GREATEST) line.now ≡ None)
         (λ r. spaced_at (number_at GREATEST) line.now ≡ Some (r.0, r.1.now)) }
+    ensures shorter { MatchOption result (Unit {0}) (λ r. length r.1.now ≤ length line.now) }
 {
     let rest = gap(line)?;
     number(skip(rest), GREATEST)
+}
+
+/// A blank and a name, by its number.
+fn title<'a>(line: &'a [u8], out: &mut Output) -> Option<(u64, &'a [u8])>
+    ensures read { MatchOption result (title_run line.now (given out.old) ≡ None)
+        (λ r. title_run line.now (given out.old) ≡ Some (r.0, (r.1.now, given out.new))) }
+    ensures grown { Grows out.old out.new }
+    ensures same { length out.new.code.now ≡ length out.old.code.now }
+    ensures shorter { MatchOption result (Unit {0}) (λ r. length r.1.now ≤ length line.now) }
+{
+    let rest = gap(line)?;
+    let (name, rest) = atom(skip(rest))?;
+    Some((out.put_name(name), rest))
+}
+
+/// A blank, `$` and a register.
+fn held(line: &[u8]) -> Option<(u8, &[u8])>
+    ensures value { MatchOption result (spaced_at held_at line.now ≡ None) (λ r. spaced_at held_at line.now ≡ Some (r.0, r.1.now)) }
+    ensures shorter { MatchOption result (Unit {0}) (λ r. length r.1.now < length line.now) }
+{
+    let rest = gap(line)?;
+    let rest = after_byte(skip(rest), b'$')?;
+    let (r, rest) = number(rest, LAST_REGISTER)?;
+    Some((r as u8, rest))
+}
+
+/// The registers of an environment go last, as long as one comes, but as many as there may be at most.
+fn environment<'a>(line: &'a [u8], out: &mut Output) -> &'a [u8]
+    requires { length out.old.code.now + length line.now ≤ MOST_ITEMS }
+    ensures read { held_run MOST_HELD line.now (given out.old) ≡ (result.now, given out.new) }
+    ensures grown { Grows out.old out.new }
+{
+    let mut rest = line;
+    for _ in 0..MOST_HELD {
+        let Some((r, after)) = held(rest) else {
+            return rest;
+        };
+        out.push(Item::Held(r));
+        rest = after;
+    }
+    rest
 }
 
 /// A depth of collection.
@@ -117,6 +162,53 @@ fn slot_count_slot(line: &[u8]) -> Option<(Reg, u64, Reg)>
     if ends(rest) { Some((r, n, s)) } else { None }
 }
 
+/// A register and two numbers, and nothing more.
+#[tactic(auto, unfolding(crate::specs::Reading::row_run))]
+fn slot_two_counts(line: &[u8]) -> Option<(Reg, u64, u64)>
+    ensures value { (o : Out) (f : Arguments (Slot ∷ Count ∷ Count ∷ []) → Verb)
+        → MatchOption result (row_run (row (Slot ∷ Count ∷ Count ∷ []) f) line.now o ≡ None)
+        (λ r. row_run (row (Slot ∷ Count ∷ Count ∷ []) f) line.now o ≡ Some (f (r.0.0, (r.1, (r.2, tt))), o)) }
+{
+    let (r, rest) = register(line)?;
+    let (n, rest) = count(rest)?;
+    let (m, rest) = count(rest)?;
+    if ends(rest) { Some((r, n, m)) } else { None }
+}
+
+/// Two registers and two numbers, and nothing more.
+#[tactic(auto, unfolding(crate::specs::Reading::row_run))]
+fn two_slots_two_counts(line: &[u8]) -> Option<(Reg, Reg, u64, u64)>
+    ensures value { (o : Out) (f : Arguments (Slot ∷ Slot ∷ Count ∷ Count ∷ []) → Verb)
+        → MatchOption result (row_run (row (Slot ∷ Slot ∷ Count ∷ Count ∷ []) f) line.now o ≡ None)
+        (λ r. row_run (row (Slot ∷ Slot ∷ Count ∷ Count ∷ []) f) line.now o ≡ Some (f (r.0.0, (r.1.0, (r.2, (r.3, tt)))), o)) }
+{
+    let (r, rest) = register(line)?;
+    let (s, rest) = register(rest)?;
+    let (n, rest) = count(rest)?;
+    let (m, rest) = count(rest)?;
+    if ends(rest) { Some((r, s, n, m)) } else { None }
+}
+
+/// A register, a name, a number and an environment, and nothing more. The environment's registers go last.
+#[tactic(auto, unfolding(crate::specs::Reading::row_run))]
+fn slot_title_count_held(line: &[u8], out: &mut Output) -> Option<(Reg, u64, u64)>
+    requires { length out.old.code.now + length line.now ≤ MOST_ITEMS }
+    ensures read { (f : Arguments (Slot ∷ Title ∷ Count ∷ Environment ∷ []) → Verb)
+        → MatchOption result (row_run (row (Slot ∷ Title ∷ Count ∷ Environment ∷ []) f) line.now (given out.old) ≡ None)
+        (λ r. row_run (row (Slot ∷ Title ∷ Count ∷ Environment ∷ []) f) line.now (given out.old) ≡ Some (f (r.0.0, (r.1, (r.2, (tt, tt)))), given out.new)) }
+    ensures grown { Grows out.old out.new }
+{
+    let (r, rest) = register(line)?;
+    let (name, rest) = title(rest, out)?;
+    let (arity, rest) = count(rest)?;
+    let rest = environment(rest, out);
+    if ends(rest) {
+        Some((r, name, arity))
+    } else {
+        None
+    }
+}
+
 /// A depth of collection, and nothing more.
 #[tactic(auto, unfolding(crate::specs::Reading::row_run))]
 fn extent(line: &[u8]) -> Option<Depth>
@@ -142,9 +234,9 @@ fn slot_body(line: &[u8], out: &mut Output) -> Option<Reg>
     if ends(rest) { Some(r) } else { None }
 }
 
-/// The operands of a verb of a process that takes several, none of them a term.
-fn several(word: Word, line: &[u8]) -> Option<Verb>
-    ensures { (o : Out) → MatchOption result (several_run word line.now o ≡ None) (λ v. several_run word line.now o ≡ Some (v, o)) }
+/// The operands of a verb of a process that takes a part of a term.
+fn choice(word: Word, line: &[u8]) -> Option<Verb>
+    ensures { (o : Out) → MatchOption result (choice_run word line.now o ≡ None) (λ v. choice_run word line.now o ≡ Some (v, o)) }
 {
     match word {
         Word::Hd => {
@@ -163,9 +255,30 @@ fn several(word: Word, line: &[u8]) -> Option<Verb>
             let (r, s, k) = three_slots(line)?;
             Some(Verb::Choose(r, s, Pick::MapGet(k)))
         },
+        Word::Part => {
+            let (r, s, offset, len) = two_slots_two_counts(line)?;
+            Some(Verb::Choose(r, s, Pick::Part(offset, len)))
+        },
+        Word::Env => {
+            let (r, i, s) = slot_count_slot(line)?;
+            Some(Verb::Choose(r, s, Pick::Env(i)))
+        },
+        _ => None,
+    }
+}
+
+/// The operands of a verb of a process that takes several, none of them a term or a name.
+fn several(word: Word, line: &[u8]) -> Option<Verb>
+    ensures { (o : Out) → MatchOption result (several_run word line.now o ≡ None) (λ v. several_run word line.now o ≡ Some (v, o)) }
+{
+    match word {
         Word::MapPut => {
             let (r, s, k, v) = four_slots(line)?;
             Some(Verb::MapPut(r, s, k, v))
+        },
+        Word::Fill => {
+            let (r, len, byte) = slot_two_counts(line)?;
+            Some(Verb::Fill(r, len, byte))
         },
         Word::MkTuple => {
             let (r, n, s) = slot_count_slot(line)?;
@@ -183,7 +296,7 @@ fn several(word: Word, line: &[u8]) -> Option<Verb>
             let (r, s) = two_slots(line)?;
             Some(Verb::Cmp(r, s))
         },
-        _ => None,
+        _ => choice(word, line),
     }
 }
 
@@ -196,6 +309,10 @@ fn verb(word: Word, line: &[u8], out: &mut Output) -> Option<Verb>
 {
     match word {
         Word::Set => Some(Verb::Set(slot_body(line, out)?)),
+        Word::Fun => {
+            let (r, name, arity) = slot_title_count_held(line, out)?;
+            Some(Verb::Fun(r, name, arity))
+        },
         Word::Ref => Some(Verb::Ref(slot(line)?)),
         Word::Own => Some(Verb::Own(slot(line)?)),
         Word::Push => Some(Verb::Push(slot(line)?)),
@@ -247,6 +364,10 @@ fn sys_verb(word: SysWord, line: &[u8], out: &mut Output) -> Option<SysVerb>
         SysWord::Sweep => {
             none(line)?;
             Some(SysVerb::Sweep)
+        },
+        SysWord::Counts => {
+            none(line)?;
+            Some(SysVerb::Counts)
         },
         SysWord::Procs => {
             none(line)?;

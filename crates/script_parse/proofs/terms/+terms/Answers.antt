@@ -1,16 +1,20 @@
-use Rattle.std.proofs.Common.{◌≡◌, ◌+◌, ◌-◌, ◌≤◌, Some, length, arith, sym, ◌∙◌, ap}
+use Rattle.std.proofs.Common.{◌≡◌, ◌+◌, ◌-◌, ◌≤◌, Some, None, length, arith, sym, ◌∙◌, ap}
 use Rattle.script_parse.specs.Forms.{all_forms}
 use Rattle.script_parse.specs.Output.{given, led_items}
 use Rattle.script_parse.specs.Reading.{after_blanks, byte_at, form_in, part_run, term_run}
 use Rattle.script_parse.proofs.KeepsSteps.{grows_then}
 use Rattle.script_parse.proofs.PartSteps.{parts_more}
-use Rattle.script_parse.proofs.TermSteps.{term_form, led_len, led_few}
+use Rattle.script_parse.proofs.TermSteps.{term_form, term_leaf, led_len, led_few}
 use Rattle.script_parse.proofs.terms.+terms.Goals as goal
 
 pub term-returns-in-Some-clause-read : goal.term-returns-in-Some-clause-read
 term-returns-in-Some-clause-read t c = let e : form_in all_forms (after_blanks c.args.line.now) ≡ Some (c.in-Some.form, c.in-Some.rest.now)
     = sym (ap (form_in all_forms) c.skip-line.ensures.value) ∙ c.in-Some.ensures.value in
     rw (term_form c.args.levels c.args.line.now c.in-Some.rest.now c.in-Some.form (given c.args.out.now) e (omega (arith, c.if-levels-eq0.false))) c.bracketed.ensures.read
+
+pub term-returns-in-None-clause-read : goal.term-returns-in-None-clause-read
+term-returns-in-None-clause-read t c = let e : form_in all_forms (after_blanks c.args.line.now) ≡ None = sym (ap (form_in all_forms) c.skip-line.ensures.value) ∙ c.in-None.ensures.value in
+    rw (term_leaf c.args.levels c.args.line.now (given c.args.out.now) e, ← c.skip-line.ensures.value) c.leaf-in-None.ensures.read
 
 pub parts-loop-n-preserved : goal.parts-loop-n-preserved
 parts-loop-n-preserved t c =
