@@ -3,7 +3,7 @@ ghost use Rattle.std.specs.Prelude.{◌≡◌, ◌≤◌, length};
 
 use atom_names::{AtomNames, LONGEST_NAME, MOST_NAMES};
 use plain_term::Item;
-use script_grammar::{Command, LEVELS, Refusal, Reg, Verb};
+use script_grammar::{Command, LEVELS, MOST_HELD, Refusal, Reg, Verb};
 use script_parse::{Code, MOST_ITEMS, parse};
 use std::alloc::{AllocError, Global};
 use std::test::Fail;
@@ -30,7 +30,7 @@ fn answer_to(line: &[u8], names: &mut AtomNames, code: &mut Code) -> Answer {
 }
 
 // Lines that are read: nothing, or one command.
-const READ: [&[u8]; 52] = [
+const READ: [&[u8]; 67] = [
     b"",
     b" \t ",
     b"% any \x00\xff bytes",
@@ -83,10 +83,25 @@ const READ: [&[u8]; 52] = [
     b"1 eq 0 1",
     b"1 cmp 0 0",
     b"1 flat 0",
+    b"1 set 0 <<>>",
+    b"1 set 0 << >>",
+    b"1 set 0 <<0>>",
+    b"1 set 0 << 1 ,\t255 >>",
+    b"1 set 0 [<<1>>|<<2>>]",
+    b"1 set 0 #{<<>>=><<10,100>>}",
+    b"1 part 0 1 2 1099511627775",
+    b"1 fill 0 1048577 256",
+    b" 1\tfill 15  0 0 ",
+    b"1 fun 0 f 0",
+    b"1 fun 0 f 256 $0",
+    b"1 fun 15  a@B  1  $15\t$0 ",
+    b"1 env 0 1 2",
+    b"sys counts",
+    b" sys  counts ",
 ];
 
 // Lines that are in no grammar, or only in that of what is not built.
-const UNREAD: [&[u8]; 112] = [
+const UNREAD: [&[u8]; 157] = [
     b"1099511627776 exit",
     b"01 exit",
     b"+1 exit",
@@ -154,8 +169,29 @@ const UNREAD: [&[u8]; 112] = [
     b"1 set 0 {a=>b}",
     b"1 set 0 #[]",
     b"1 set 0 <<256>>",
+    b"1 set 0 <<1000>>",
     b"1 set 0 <<1,>>",
-    b"1 set 0 <<>>",
+    b"1 set 0 <<,1>>",
+    b"1 set 0 <<,>>",
+    b"1 set 0 <<1 2>>",
+    b"1 set 0 <<01>>",
+    b"1 set 0 <<00>>",
+    b"1 set 0 <<-0>>",
+    b"1 set 0 <<-1>>",
+    b"1 set 0 <<a>>",
+    b"1 set 0 <<$0>>",
+    b"1 set 0 <<[]>>",
+    b"1 set 0 <<1|2>>",
+    b"1 set 0 < <1>>",
+    b"1 set 0 <<1> >",
+    b"1 set 0 <<1>",
+    b"1 set 0 <<1",
+    b"1 set 0 <<",
+    b"1 set 0 <<1>>>",
+    b"1 set 0<<1>>",
+    b"1 set 0 <<1]",
+    b"1 set 0 [1>>",
+    b"1 set 0 <>",
     b"1 set 0 <0.0.0>",
     b"1 set 0 <0.1.1>",
     b"1 set 0 <1.1.0>",
@@ -190,6 +226,30 @@ const UNREAD: [&[u8]; 112] = [
     b"1 cmp 0 1 2",
     b"1 flat 0 0",
     b"1 ref",
+    b"1 part 0 1 2",
+    b"1 part 0 1 2 3 4",
+    b"1 part 0 1 01 1",
+    b"1 part 0 1 -1 1",
+    b"1 part 0 16 0 1",
+    b"1 fill 0 1",
+    b"1 fill 0 1 2 3",
+    b"1 fill 0 1 a",
+    b"1 fill 0 1099511627776 1",
+    b"1 fun 0 f",
+    b"1 fun 0 F 0",
+    b"1 fun 0 f $0",
+    b"1 fun 0 f 0 0",
+    b"1 fun 0 f 0 $16",
+    b"1 fun 0 f 0 $00",
+    b"1 fun 0 f 0 $0$1",
+    b"1 fun 0 f 0$0",
+    b"1 fun 0 f 0 $0,$1",
+    b"1 fun 0 f 0 $0 a",
+    b"1 fun 0 f 0 $",
+    b"1 env 0 1",
+    b"1 env 0 1 $2",
+    b"sys counts 0",
+    b"1 counts",
     b"1 recv 0",
     b"1 gc",
     b"1 gc 0",
@@ -225,33 +285,55 @@ fn all_else_is_a_fault_of_syntax(rt: HostRuntime) -> Result<(), Fail> {
     Ok(())
 }
 
-// A line that is made: a term within so many levels of one form, what opens and what closes each, or an atom of so many
-// bytes.
+// A line that is made: something that is repeated between a beginning and an end, and the number of times.
 #[derive(Clone, Copy)]
 enum Made {
-    Nested(&'static [u8], &'static [u8], u64),
+    // A term within levels of one form: what opens a level, the innermost term, and what closes a level.
+    Nested(&'static [u8], &'static [u8], &'static [u8], u64),
+    // An atom of so many bytes.
     Atom(usize),
+    // A binary of so many bytes.
+    Binary(usize),
+    // A fun with so many registers.
+    Fun(u64),
 }
 
 // Lines at the limits, and beyond them.
-const LIMITS: [(Made, Answer); 12] = [
-    (Made::Nested(b"[", b"]", LEVELS), Answer::Read),
-    (Made::Nested(b"[", b"]", LEVELS + 1), Answer::Syntax),
-    (Made::Nested(b"{", b"}", LEVELS), Answer::Read),
-    (Made::Nested(b"{", b"}", LEVELS + 1), Answer::Syntax),
-    (Made::Nested(b"[a|", b"]", LEVELS), Answer::Read),
-    (Made::Nested(b"[a|", b"]", LEVELS + 1), Answer::Syntax),
-    (Made::Nested(b"#{a=>", b"}", LEVELS), Answer::Read),
-    (Made::Nested(b"#{a=>", b"}", LEVELS + 1), Answer::Syntax),
-    (Made::Nested(b"#{", b"=>a}", LEVELS), Answer::Read),
-    (Made::Nested(b"#{", b"=>a}", LEVELS + 1), Answer::Syntax),
+const LIMITS: [(Made, Answer); 22] = [
+    (Made::Nested(b"[", b"b", b"]", LEVELS), Answer::Read),
+    (Made::Nested(b"[", b"b", b"]", LEVELS + 1), Answer::Syntax),
+    (Made::Nested(b"{", b"b", b"}", LEVELS), Answer::Read),
+    (Made::Nested(b"{", b"b", b"}", LEVELS + 1), Answer::Syntax),
+    (Made::Nested(b"[a|", b"b", b"]", LEVELS), Answer::Read),
+    (Made::Nested(b"[a|", b"b", b"]", LEVELS + 1), Answer::Syntax),
+    (Made::Nested(b"#{a=>", b"b", b"}", LEVELS), Answer::Read),
+    (
+        Made::Nested(b"#{a=>", b"b", b"}", LEVELS + 1),
+        Answer::Syntax,
+    ),
+    (Made::Nested(b"#{", b"b", b"=>a}", LEVELS), Answer::Read),
+    (
+        Made::Nested(b"#{", b"b", b"=>a}", LEVELS + 1),
+        Answer::Syntax,
+    ),
+    (Made::Nested(b"[", b"<<1>>", b"]", LEVELS - 1), Answer::Read),
+    (Made::Nested(b"[", b"<<>>", b"]", LEVELS), Answer::Syntax),
     (Made::Atom(LONGEST_NAME), Answer::Read),
     (Made::Atom(LONGEST_NAME + 1), Answer::Syntax),
+    (Made::Binary(0), Answer::Read),
+    (Made::Binary(1), Answer::Read),
+    (Made::Binary(64), Answer::Read),
+    (Made::Binary(65), Answer::Read),
+    (Made::Binary(1000), Answer::Read),
+    (Made::Fun(0), Answer::Read),
+    (Made::Fun(MOST_HELD), Answer::Read),
+    (Made::Fun(MOST_HELD + 1), Answer::Syntax),
 ];
 
 fn nested(
     alloc: Global,
     opening: &[u8],
+    inner: &[u8],
     closing: &[u8],
     levels: u64,
 ) -> Result<Vec<u8>, AllocError> {
@@ -259,7 +341,7 @@ fn nested(
     for _ in 0..levels {
         line.extend_from_slice(opening)?;
     }
-    line.push(b'b')?;
+    line.extend_from_slice(inner)?;
     for _ in 0..levels {
         line.extend_from_slice(closing)?;
     }
@@ -274,10 +356,34 @@ fn long_atom(alloc: Global, len: usize) -> Result<Vec<u8>, AllocError> {
     Ok(line)
 }
 
+fn long_binary(alloc: Global, len: usize) -> Result<Vec<u8>, AllocError> {
+    let mut line = b"1 set 0 <<".to_vec(alloc)?;
+    for k in 0..len {
+        if k > 0 {
+            line.push(b',')?;
+        }
+        line.push(b'7')?;
+    }
+    line.extend_from_slice(b">>")?;
+    Ok(line)
+}
+
+fn wide_fun(alloc: Global, held: u64) -> Result<Vec<u8>, AllocError> {
+    let mut line = b"1 fun 0 f 2".to_vec(alloc)?;
+    for _ in 0..held {
+        line.extend_from_slice(b" $15")?;
+    }
+    Ok(line)
+}
+
 fn line_of(alloc: Global, made: Made) -> Result<Vec<u8>, AllocError> {
     match made {
-        Made::Nested(opening, closing, levels) => nested(alloc, opening, closing, levels),
+        Made::Nested(opening, inner, closing, levels) => {
+            nested(alloc, opening, inner, closing, levels)
+        },
         Made::Atom(len) => long_atom(alloc, len),
+        Made::Binary(len) => long_binary(alloc, len),
+        Made::Fun(held) => wide_fun(alloc, held),
     }
 }
 
@@ -295,13 +401,16 @@ fn limits_are_met(rt: HostRuntime) -> Result<(), Fail> {
 }
 
 // Lines over a full table, which has the names aaa to ygd.
-const FULL: [(&[u8], Answer); 6] = [
+const FULL: [(&[u8], Answer); 9] = [
     (b"1 set 0 fresh", Answer::Atoms),
     (b"99 set 0 [aaa,fresh]", Answer::Atoms),
     (b"1 set 0 [fresh", Answer::Syntax),
     (b"1 set 0 [aaa,ygz]", Answer::Atoms),
     (b"1 set 0 [aaa,ygd]", Answer::Read),
     (b"1 set 0 {}", Answer::Read),
+    (b"1 fun 0 fresh 0", Answer::Atoms),
+    (b"1 fun 0 fresh 0 $16", Answer::Syntax),
+    (b"1 fun 0 ygd 300 $1", Answer::Read),
 ];
 
 // Whether names of three letters take all numbers.
@@ -346,7 +455,7 @@ struct Row {
     names: u64,
 }
 
-const ROWS: [Row; 5] = [
+const ROWS: [Row; 7] = [
     Row {
         line: b"1 set 3 {a,[-7,b],<0.2.0>,a}",
         items: &[
@@ -400,6 +509,28 @@ const ROWS: [Row; 5] = [
         ],
         names: 4,
     },
+    Row {
+        line: b"1 set 3 [<<>>, << 0 , 255 >>, {<<7>>}]",
+        items: &[
+            Item::Cons,
+            Item::Bin(0),
+            Item::Cons,
+            Item::Bin(2),
+            Item::Byte(0),
+            Item::Byte(255),
+            Item::Cons,
+            Item::Tuple(1),
+            Item::Bin(1),
+            Item::Byte(7),
+            Item::Nil,
+        ],
+        names: 4,
+    },
+    Row {
+        line: b"1 fun 3 e 2 $15 $0 $15",
+        items: &[Item::Held(15), Item::Held(0), Item::Held(15)],
+        names: 5,
+    },
 ];
 
 fn same_item(a: Item, b: Item) -> bool {
@@ -410,9 +541,10 @@ fn same_item(a: Item, b: Item) -> bool {
         Item::Held(r) => matches!(b, Item::Held(s) if r == s),
         Item::Tuple(n) => matches!(b, Item::Tuple(m) if n == m),
         Item::Map(n) => matches!(b, Item::Map(m) if n == m),
+        Item::Bin(n) => matches!(b, Item::Bin(m) if n == m),
+        Item::Byte(n) => matches!(b, Item::Byte(m) if n == m),
         Item::Nil => matches!(b, Item::Nil),
         Item::Cons => matches!(b, Item::Cons),
-        _ => false,
     }
 }
 
@@ -426,11 +558,12 @@ fn same_items(a: &[Item], b: &[Item]) -> bool {
     a.len() == b.len()
 }
 
-fn sets_third(line: &[u8], names: &mut AtomNames, code: &mut Code) -> bool {
+// Whether the line is a `set` of the third register, or a `fun` into it with the fifth name and two arguments.
+fn makes_third(line: &[u8], names: &mut AtomNames, code: &mut Code) -> bool {
     line.len() <= MOST_ITEMS
         && matches!(
             parse(line, names, code),
-            Ok(Command::Process(1, Verb::Set(Reg(3))))
+            Ok(Command::Process(1, Verb::Set(Reg(3)) | Verb::Fun(Reg(3), 4, 2)))
         )
 }
 
@@ -438,7 +571,7 @@ fn rows_hold(alloc: Global) -> Result<bool, Fail> {
     let mut names = AtomNames::new(alloc)?;
     let mut code = Code::new(alloc)?;
     for row in &ROWS {
-        if !sets_third(row.line, &mut names, &mut code) || !same_items(code.items(), row.items) {
+        if !makes_third(row.line, &mut names, &mut code) || !same_items(code.items(), row.items) {
             return Ok(false);
         }
         if answer_to(b"1 set 0 [x,y", &mut names, &mut code) != Answer::Syntax
