@@ -303,7 +303,8 @@ process_any w ops line o b a c l = spoken_any text_of (kinds_of w) (verb_with w)
 
 system_any : (w : SysWord) (ops : Operands (sys_kinds_of w)) (line : List ℕ) (o : Out) → is_sys_built w ≡ true → AreOperands (sys_kinds_of w) ops → AreBuiltOperands (sys_kinds_of w) ops
     → Lies (Space ∷ Text (sys_text_of w) ∷ operands_pieces (sys_kinds_of w) ops) line → Any (system_run line o)
-system_any w ops line o b a c l = spoken_any sys_text_of (sys_kinds_of w) (sys_verb_with w) is_sys_built all_sys_words sys_row_of w ops line o (sys_named_so w) (sys_text_word w) (sys_row_is w) (sys_word_row w) b a c l
+system_any w ops line o b a c l = spoken_any sys_text_of (sys_kinds_of w) (sys_verb_with w) is_sys_built all_sys_words sys_row_of w ops line o
+    (sys_named_so w) (sys_text_word w) (sys_row_is w) (sys_word_row w) b a c l
 
 pub silent_found : (line : List ℕ) → IsSilent line → is_silent (after_blanks line) ≡ true
 silent_found [] h = refl

@@ -67,7 +67,8 @@ held_same (r ∷ rs) (s ∷ ss) line a b k l =
     let m : (rs ≡ ss) × (rest : List ℕ) × Lies [] rest = held_same rs ss (t.1) (a.1) (b.1) (t.2) (t.3) in
     (ap (λ (z : ℕ). z ∷ rs) (t.0) ∙ ap (λ (z : List ℕ). s ∷ z) (m.0), m.1, m.2)
 
-operand_same : (k : Kind) (x y : OperandOf k) (ps qs : List Piece) (line : List ℕ) → Divides ps → Divides qs → MayFollow k ps → MayFollow k qs → IsOperand k x → IsOperand k y → IsBuiltOperand k x → IsBuiltOperand k y
+operand_same : (k : Kind) (x y : OperandOf k) (ps qs : List Piece) (line : List ℕ) → Divides ps → Divides qs → MayFollow k ps → MayFollow k qs
+    → IsOperand k x → IsOperand k y → IsBuiltOperand k x → IsBuiltOperand k y
     → Lies (operand_pieces k x ps) line → Lies (operand_pieces k y qs) line → (x ≡ y) × (rest : List ℕ) × Lies ps rest × Lies qs rest
 operand_same Slot x y ps qs line d e v w a b f g k l
     = plain_twice (number_at LAST_REGISTER) x y ps qs line (number_fronts LAST_REGISTER x ps line (omega arith) d k) (number_fronts LAST_REGISTER y qs line (omega arith) e l)

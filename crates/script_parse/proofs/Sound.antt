@@ -108,7 +108,8 @@ leaf_read levels line o rest p h =
     moved levels line o (r.0.1) rest (put (r.0.0) o) p (record { term = r.0.0; may = f.may levels; built = f.built; put = refl; lies = f.lies }) (j.0) (j.1)
 
 -- A byte of a binary that was read.
-byte_step : (levels : ℕ) (line : List ℕ) (o : Out) (rest : List ℕ) (p : Out) → byte_run line o ≡ Some (rest, p) → FoundPart (part_pieces form.Binary) (part_put form.Binary) (IsPart levels form.Binary) line o rest p
+byte_step : (levels : ℕ) (line : List ℕ) (o : Out) (rest : List ℕ) (p : Out) → byte_run line o ≡ Some (rest, p)
+    → FoundPart (part_pieces form.Binary) (part_put form.Binary) (IsPart levels form.Binary) line o rest p
 byte_step levels line o rest p h =
     let r : (x : ℕ × List ℕ) × (number_at GREATEST_BYTE (after_blanks line) ≡ Some x) × (Some (x.1, push o (item.Byte (x.0))) ≡ Some (rest, p))
     = read_some (number_at GREATEST_BYTE (after_blanks line)) (λ r. Some (r.1, push o (item.Byte (r.0)))) h in
