@@ -4,6 +4,7 @@ pub mod Flaws
 pub mod Parts
 pub mod Tightness
 pub mod Step
+pub mod Texts
 pub mod Maps
 pub mod May
 pub mod Run

@@ -1,9 +1,9 @@
 -- What one command makes of a state, and what is answered.
-use Rattle.std.specs.Prelude.{ℕ, ◌+◌, Bool, true, false, ◌||◌, nat_le, nat_lt, List, [], ◌∷◌, ◌++◌, length, codes, decimal, Option, Some, None, Result, Ok, Err}
+use Rattle.std.specs.Prelude.{ℕ, ◌+◌, Bool, true, false, ◌||◌, nat_le, nat_lt, List, [], ◌∷◌, ◌++◌, length, replicate, codes, decimal, Option, Some, None, Result, Ok, Err}
 use Rattle.std.specs.declared.cmp.Ordering.{Ordering}
 use Rattle.std.specs.declared.cmp.Ordering.TheVariants.{Less, Equal, Greater}
-use Rattle.plain_term.specs.Tree.{Tree, Pairs}
-use Rattle.plain_term.specs.Tree.Tree.{Pid, Ref as Reference, Nil, Map}
+use Rattle.plain_term.specs.Tree.{Tree, Trees, Pairs}
+use Rattle.plain_term.specs.Tree.Tree.{Pid, Ref as Reference, Nil, Map, Fun}
 use Rattle.plain_term.specs.Beyond.{is_beyond}
 use Rattle.plain_term.specs.Measures.{flat}
 use Rattle.plain_term.specs.Order.{order}
@@ -11,7 +11,7 @@ use Rattle.plain_term.specs.Text.{text, numbers_text}
 use Rattle.script_grammar.specs.declared.command.Command.{Command}
 use Rattle.script_grammar.specs.declared.command.Command.TheVariants.{Nothing, Process, System}
 use Rattle.script_grammar.specs.declared.command.Verb.{Verb}
-use Rattle.script_grammar.specs.declared.command.Verb.TheVariants.{Set, Choose, MapPut, Ref, Own, Repeat, Push, Pop, Queue, Print, Eq, Cmp, Flat, Gc, Info, Heap, Exit}
+use Rattle.script_grammar.specs.declared.command.Verb.TheVariants.{Set, Choose, MapPut, Fill, Fun as MakeFun, Ref, Own, Repeat, Push, Pop, Queue, Print, Eq, Cmp, Flat, Gc, Info, Heap, Exit}
 use Rattle.script_grammar.specs.declared.command.Pick.{Pick}
 use Rattle.script_grammar.specs.declared.command.Shape.{Shape}
 use Rattle.script_grammar.specs.declared.command.SysVerb.{SysVerb}
@@ -21,10 +21,10 @@ use Rattle.script_grammar.specs.declared.refusal.Refusal.TheVariants.{NoProc, Ba
 use Rattle.script_grammar.specs.Written.{Terms}
 use Rattle.script_grammar.specs.Written.Terms.{end, ◌▹◌}
 use Rattle.script_grammar.specs.Names.{Parsed}
-use Rattle.plain_machine.specs.Made.{tree_of, with_pair, too_many}
+use Rattle.plain_machine.specs.Made.{tree_of, trees_of, bin_tree, with_pair, too_many}
 use Rattle.plain_machine.specs.Flaws.{is_wide, is_big, flaw_of}
 use Rattle.plain_machine.specs.Parts.{picked, pairs_in, repeated}
-use Rattle.plain_machine.specs.declared.limits.TheConstants.{MOST_PROCESSES, MOST_PLACES}
+use Rattle.plain_machine.specs.declared.limits.TheConstants.{MOST_PROCESSES, MOST_PLACES, MOST_FILL, MOST_ARITY, MOST_BYTE}
 use Rattle.plain_machine.specs.State.{Process as Live, State, process_of, with_process, without_process, with_spawned, live_numbers, register, with_register}
 
 -- What a command comes to: a new state and the reply; a refusal that leaves the state; or a map of the store
@@ -100,7 +100,7 @@ written_flaw s p q (t ▹ ts) = flaw_of (is_big p.names q.registers t s.shared) 
 abbrev pub set_step : State → Parsed → Live → ℕ → Outcome
 set_step s p q r = unless_flawed (written_flaw s p q p.terms) (does p (with_made s q r (written_tree s p q p.terms)))
 
--- `hd`, `tl`, `elem`, `mapget`: the register holds the part that is picked.
+-- `hd`, `tl`, `elem`, `mapget`, `part`, `env`: the register holds the part that is picked.
 abbrev pub choose : Option Tree → State → Parsed → Live → ℕ → Outcome
 choose None s p q r = Refused BadArg
 choose (Some t) s p q r = does p (with_process (with_register r t q) s)
@@ -125,6 +125,26 @@ put_pair (Some ps) key value s p q r = put_unless_big (is_beyond s.shared key) (
 
 abbrev pub mapput_step : State → Parsed → Live → (r m k v : ℕ) → Outcome
 mapput_step s p q r m k v = put_pair (pairs_in (register m q)) (register k q) (register v q) s p q r
+
+-- `fill`: the register holds a binary of these bytes, which are not too many and all of them a byte.
+abbrev pub fill_if : Bool → List ℕ → State → Parsed → Live → ℕ → Outcome
+fill_if true bytes s p q r = Refused BadArg
+fill_if false bytes s p q r = does p (with_made s q r (bin_tree bytes s.shared))
+
+abbrev pub fill_step : State → Parsed → Live → (r len byte : ℕ) → Outcome
+fill_step s p q r len byte = fill_if (nat_lt MOST_FILL len || nat_lt MOST_BYTE byte) (replicate len byte) s p q r
+
+-- The trees of the registers that are written as an environment; they bring no shared binary.
+abbrev pub env_of : State → Parsed → Live → Trees
+env_of s p q = (trees_of p.names q.registers p.terms s.shared).0
+
+-- `fun`: the register holds a fun with this environment, which the process has made, where its arity is not too great.
+abbrev pub fun_if : Bool → Tree → State → Parsed → Live → ℕ → Outcome
+fun_if true t s p q r = Refused BadArg
+fun_if false t s p q r = does p (with_process (with_register r t q) s)
+
+abbrev pub fun_step : State → Parsed → Live → (r name arity : ℕ) → Outcome
+fun_step s p q r name arity = fun_if (nat_lt MOST_ARITY arity) (Fun name arity q.number (env_of s p q)) s p q r
 
 -- `ref`: the register holds a reference that the process has not made before.
 abbrev pub ref_step : State → Parsed → Live → ℕ → Outcome
@@ -208,6 +228,8 @@ abbrev pub by_verb : State → Parsed → Live → Verb → Outcome
 by_verb s p q (Set r) = set_step s p q r.0
 by_verb s p q (Choose r m how) = choose_step s p q r.0 m.0 how
 by_verb s p q (MapPut r m k v) = mapput_step s p q r.0 m.0 k.0 v.0
+by_verb s p q (Fill r len byte) = fill_step s p q r.0 len byte
+by_verb s p q (MakeFun r name arity) = fun_step s p q r.0 name arity
 by_verb s p q (Ref r) = ref_step s p q r.0
 by_verb s p q (Own r) = self_step s p q r.0
 by_verb s p q (Repeat r shape n m) = repeat_step s p q r.0 shape n m.0
@@ -243,6 +265,7 @@ told_of_system s _ = Err Syntax
 abbrev pub by_system : State → Parsed → SysVerb → Outcome
 by_system s p Spawn = spawn_step s p
 by_system s p Sweep = collect_step s p
+by_system s p Counts = Mapped
 by_system s p verb = tells s (told_of_system s verb)
 
 abbrev pub by_command : State → Parsed → Command → Outcome

@@ -10,7 +10,7 @@ pub use laws::{
     numbers_are_fresh, printing_leaves, refusals_leave, replies_determine, runs_join,
     trees_stay_proper,
 };
-pub use limits::{MOST_PLACES, MOST_PROCESSES};
+pub use limits::{MOST_ARITY, MOST_BYTE, MOST_FILL, MOST_PLACES, MOST_PROCESSES};
 pub use script_grammar::{
     Command, Depth, Measure, Pick, Refusal, Reg, Shape, SysVerb, SysWord, To, Verb, Word,
 };

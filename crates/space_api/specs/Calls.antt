@@ -1,8 +1,8 @@
 -- What the calls of a space give, in the words of the plain machine.
-use Rattle.std.specs.Prelude.{ℕ, ◌≡◌, ◌+◌, ◌^◌, ◌<◌, ◌≤◌, ◌⊎◌, Bool, true, List, [], ◌∷◌, length, Result, Ok, Err, All}
+use Rattle.std.specs.Prelude.{ℕ, ◌≡◌, ◌+◌, ◌^◌, ◌<◌, ◌≤◌, ◌⊎◌, Bool, true, List, [], ◌∷◌, length, map, Result, Ok, Err, All}
 use Rattle.line_io.specs.declared.reader.TheConstants.{LONGEST_LINE}
 use Rattle.line_io.specs.Sink.{Grew, GrewInPart}
-use Rattle.script_grammar.specs.declared.limits.TheConstants.{LEVELS}
+use Rattle.script_grammar.specs.declared.limits.TheConstants.{REGISTERS, LEVELS, MOST_HELD}
 use Rattle.plain_term.specs.declared.item.Item.{Item}
 use Rattle.plain_term.specs.declared.item.Item.TheVariants as item
 use Rattle.script_grammar.specs.declared.command.Command.{Command}
@@ -11,7 +11,7 @@ use Rattle.script_grammar.specs.declared.refusal.Refusal.TheVariants.{Big as Too
 use Rattle.script_grammar.specs.Written.{Term, Terms}
 use Rattle.script_grammar.specs.Written.Terms.{end, ◌▹◌}
 use Rattle.script_grammar.specs.Grammar.{MayStand, IsBuiltTerm}
-use Rattle.script_grammar.specs.Names.{Parsed, items_of}
+use Rattle.script_grammar.specs.Names.{Parsed, held_terms, items_of}
 use Rattle.plain_machine.specs.State.{State}
 use Rattle.plain_machine.specs.Tightness.{grow}
 use Rattle.plain_machine.specs.Step.{Outcome, step}
@@ -66,6 +66,20 @@ pub record HasTerm (names : List (List ℕ)) (code : List Item) : Type 0 where
   pub is : IsTerm names code term
   pub named : All (IsNamedBelow (length names)) code
   pub few : length code ≤ LONGEST_LINE
+
+-- The items are registers that a process has, no more than an environment may have.
+pub record IsEnv (env : List Item) : Type 0 where
+  pub registers : List ℕ
+  pub items : env ≡ map item.Held registers
+  pub held : All (λ r. r < REGISTERS) registers
+  pub few : length registers ≤ MOST_HELD
+
+-- The items are the registers of the written terms, and the number of the fun's name is that of one of the names.
+pub record HasEnv (names : List (List ℕ)) (name : ℕ) (env : List Item) (terms : Terms) : Type 0 where
+  pub registers : List ℕ
+  pub items : env ≡ map item.Held registers
+  pub written : terms ≡ held_terms registers
+  pub known : name < length names
 
 -- The call does what the machine's step does, or is refused as it is, and then the state is as before.
 abbrev pub Follows : {A : Type 0} → Outcome → State → Result A Refusal → (State → Type 0) → Type 0

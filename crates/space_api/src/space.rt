@@ -1,6 +1,7 @@
 ghost use Rattle.std.specs.Prelude.{
   ◌≡◌,
   ℕ,
+  ◌+◌,
   ◌<◌,
   ◌≤◌,
   Bool,
@@ -18,21 +19,23 @@ ghost use Rattle.std.specs.Prelude.{
   find,
   nat_lt,
 };
+ghost use Rattle.atom_names.specs.Names.{most_names};
 ghost use Rattle.line_io.specs.Faults.{Rose};
+ghost use Rattle.line_io.specs.Sink.{Writes};
 ghost use Rattle.script_grammar.specs.declared.command.Command.{Command};
 ghost use Rattle.script_grammar.specs.declared.command.Command.TheVariants.{Process, System};
 ghost use Rattle.script_grammar.specs.declared.command.Verb.TheVariants as verb;
 ghost use Rattle.script_grammar.specs.declared.command.SysVerb.TheVariants as sysverb;
-ghost use Rattle.script_grammar.specs.Grammar.{is_built, pick_word};
 ghost use Rattle.script_grammar.specs.Names.{Parsed, IsRegister, PicksRegister};
 ghost use Rattle.script_grammar.specs.Written.{Term, Terms};
 ghost use Rattle.plain_term.specs.Measures.{nodes};
 ghost use Rattle.plain_machine.specs.State.{Process as Live, State, HasNames, is_live, live_numbers, process_of, register};
 ghost use Rattle.plain_machine.specs.Step.{step, eq_text, cmp_text};
-ghost use Rattle.space_api.specs.Calls.{AreRising, Becomes, Follows, HasTerm, IsTerm, KeepsBooks, Passes, Prints, Tells, most_calls, one_term, said};
+ghost use Rattle.plain_machine.specs.Maps.{IsMapOf};
+ghost use Rattle.space_api.specs.Calls.{AreRising, Becomes, Follows, HasEnv, HasTerm, IsEnv, IsTerm, KeepsBooks, Passes, Prints, Tells, most_calls, one_term, said};
 
 use atom_names::AtomNames;
-use line_io::Sink;
+use line_io::{Sink, SinkFault};
 use plain_machine::{Depth, Measure, Pick, Refusal, Reg, Shape};
 use plain_term::Item;
 use std::cmp::Ordering;
@@ -119,7 +122,7 @@ pub trait Space {
         ensures books { KeepsBooks words calls named self.old self.new (max (named self.old) (length names.now)) }
         ensures refused { OnErr result (named self.new ≤ named self.old) };
 
-    /// Puts a part of the second register's term in the first. Refused by `BadArg` where there is none.
+    /// Puts a part of the second register's term in the first. Refused by `BadArg` where there is none, and for want of space.
     fn pick(
         &mut self,
         names: &AtomNames,
@@ -132,7 +135,6 @@ pub trait Space {
         requires register { IsRegister r }
         requires other { IsRegister s }
         requires key { PicksRegister how }
-        requires built { is_built (pick_word how) ≡ true }
         requires calls { calls self.old < most_calls }
         requires named { named self.old ≤ length names.now }
         ensures becomes { (state : State) (terms : Terms) → stands self.old state → HasNames state names.now
@@ -160,6 +162,36 @@ pub trait Space {
         ensures becomes { (state : State) (terms : Terms) → stands self.old state → HasNames state names.now
             → Becomes may (words self.old) state (said (Process seat.pid (verb.MapPut r s k v)) terms names.now) result (stands self.new) }
         ensures books { KeepsBooks words calls named self.old self.new (named self.old) };
+
+    /// Puts a binary of `len` bytes, each of them `byte`, in the register. Refused by `BadArg` where that is more than 1,048,576
+    /// bytes, or `byte` is none, and for want of space.
+    fn fill(&mut self, seat: Seat, r: Reg, len: u64, byte: u64) -> Result<(), Refusal>
+        requires sits { sits self.old seat }
+        requires register { IsRegister r }
+        requires calls { calls self.old < most_calls }
+        ensures becomes { (s : State) (terms : Terms) (names : List (List ℕ)) → stands self.old s → HasNames s names
+            → Becomes may (words self.old) s (said (Process seat.pid (verb.Fill r len byte)) terms names) result (stands self.new) }
+        ensures books { KeepsBooks words calls named self.old self.new (named self.old) };
+
+    /// Puts a fun in the register: the number of its name, its arity, and the registers whose terms are its environment. Its
+    /// creator is the process. Refused by `BadArg` where the arity is above 255, and for want of space.
+    fn make_fun(
+        &mut self,
+        seat: Seat,
+        r: Reg,
+        name: u64,
+        arity: u64,
+        env: &[Item],
+    ) -> Result<(), Refusal>
+        requires sits { sits self.old seat }
+        requires register { IsRegister r }
+        requires calls { calls self.old < most_calls }
+        requires name { name < most_names }
+        requires env { IsEnv env.now }
+        ensures becomes { (s : State) (terms : Terms) (names : List (List ℕ)) → stands self.old s → HasNames s names → HasEnv names name env.now terms
+            → Becomes may (words self.old) s (said (Process seat.pid (verb.Fun r name arity)) terms names) result (stands self.new) }
+        ensures books { KeepsBooks words calls named self.old self.new (max (named self.old) (name + 1)) }
+        ensures refused { OnErr result (named self.new ≤ named self.old) };
 
     /// Puts a new reference in the register. Refused for want of space.
     fn make_ref(&mut self, seat: Seat, r: Reg) -> Result<(), Refusal>
@@ -260,5 +292,15 @@ pub trait Space {
         ensures big { result ≡ Err Stop.Big → sink.new ≡ sink.old }
         ensures later { K.faults sink.old ≤ K.faults sink.new }
         ensures rose { result ≡ Err Stop.Fault → Rose (K.faults sink.old) (K.faults sink.new) }
+        ensures told { OnOk result (K.faults sink.new ≡ K.faults sink.old) };
+
+    /// Writes the text for `counts`: every record of the store with its count.
+    fn counts<K: Sink>(&self, names: &AtomNames, sink: &mut K) -> Result<(), SinkFault>
+        requires named { named self.now ≤ length names.now }
+        ensures writes { Writes K.wrote sink.old sink.new result (text self.now names.now (System sysverb.Counts)) }
+        ensures allowed { (s : State) → stands self.now s → names.now ≡ s.names
+            → IsMapOf (System sysverb.Counts) s (text self.now names.now (System sysverb.Counts)) }
+        ensures later { K.faults sink.old ≤ K.faults sink.new }
+        ensures rose { OnErr result (Rose (K.faults sink.old) (K.faults sink.new)) }
         ensures told { OnOk result (K.faults sink.new ≡ K.faults sink.old) };
 }
