@@ -1,23 +1,25 @@
 -- What each command does: to the numbers of processes, to proper trees, and what its reply tells. Each law of runs goes by this.
-use Rattle.std.proofs.Common.{◌≡◌, ℕ, ◌+◌, ◌⊎◌, inl, inr, Bool, true, false, not, ◌==◌, nat_le, nat_lt, List, [], ◌∷◌, ◌++◌, filter, length, Option, Some, None, Result, Ok, Err, codes, decimal, refl}
+use Rattle.std.proofs.Common.{◌≡◌, ℕ, zero, suc, ◌+◌, ◌||◌, replicate, arith, ◌⊎◌, inl, inr, Bool, true, false, not, ◌==◌, nat_le, nat_lt, List, [], ◌∷◌, ◌++◌, filter, length, Option, Some, None, Result, Ok, Err, codes, decimal, refl}
 use Rattle.plain_term.specs.Tree.{Tree, Pairs}
 use Rattle.plain_term.specs.Tree.{Tree as tree}
 use Rattle.plain_term.specs.Beyond.{is_beyond}
-use Rattle.plain_term.specs.Proper.{is_proper}
+use Rattle.plain_term.specs.Proper.{is_proper, are_bytes}
+use Rattle.std.proofs.lemmas.Bool.{and_from}
+use Rattle.std.proofs.lemmas.Bool.Decides.{nat_tests}
 use Rattle.script_grammar.specs.Written.{Terms}
 use Rattle.script_grammar.specs.declared.command.Command.{Command}
 use Rattle.script_grammar.specs.declared.command.Command.TheVariants.{Nothing, Process, System}
 use Rattle.script_grammar.specs.declared.command.Verb.{Verb}
-use Rattle.script_grammar.specs.declared.command.Verb.TheVariants.{Set, Choose, MapPut, Ref, Own, Repeat, Push, Pop, Gc, Exit}
+use Rattle.script_grammar.specs.declared.command.Verb.TheVariants.{Set, Choose, MapPut, Fill, Fun as MakeFun, Ref, Own, Repeat, Push, Pop, Gc, Exit}
 use Rattle.script_grammar.specs.declared.command.SysVerb.{SysVerb}
-use Rattle.script_grammar.specs.declared.command.SysVerb.TheVariants.{Spawn, Sweep, Quit}
+use Rattle.script_grammar.specs.declared.command.SysVerb.TheVariants.{Spawn, Sweep, Counts, Quit}
 use Rattle.script_grammar.specs.declared.refusal.Refusal.{Refusal}
 use Rattle.script_grammar.specs.Names.{Parsed}
-use Rattle.plain_machine.specs.declared.limits.TheConstants.{MOST_PROCESSES, MOST_PLACES}
+use Rattle.plain_machine.specs.declared.limits.TheConstants.{MOST_PROCESSES, MOST_PLACES, MOST_FILL, MOST_ARITY, MOST_BYTE}
 use Rattle.plain_machine.specs.State.{Process as Live, State, HasNames, process_of, fresh_process, register, with_register, with_process}
-use Rattle.plain_machine.specs.Made.{with_pair, too_many}
+use Rattle.plain_machine.specs.Made.{with_pair, too_many, bin_tree}
 use Rattle.plain_machine.specs.Parts.{picked, pairs_in, repeated}
-use Rattle.plain_machine.specs.Step.{Outcome, by_command, in_process, by_verb, by_system, does, with_made, unless_flawed, written_flaw, choose, put_unless_wide, put_unless_big, put_pair, repeat_if, collect_step, pop_from, spawn_if, tells, told_of, told_of_system, written_tree, is_printing}
+use Rattle.plain_machine.specs.Step.{Outcome, by_command, in_process, by_verb, by_system, does, with_made, unless_flawed, written_flaw, fill_if, fun_if, env_of, choose, put_unless_wide, put_unless_big, put_pair, repeat_if, collect_step, pop_from, spawn_if, tells, told_of, told_of_system, written_tree, is_printing}
 use Rattle.plain_machine.specs.Step.Outcome.{Accepted, Refused, Mapped}
 use Rattle.plain_machine.specs.Run.{is_quit}
 use Rattle.plain_machine.specs.Laws.{AreProper, HoldsProper}
@@ -25,7 +27,8 @@ use Rattle.plain_machine.proofs.Numbers.{Keeps, keeps-same, keeps-numbers, keeps
 use Rattle.plain_machine.proofs.Putting.{put-rises, put-proper}
 use Rattle.plain_machine.proofs.Parts.{IfProper, at-proper, picked-proper, map-proper, repeated-proper}
 use Rattle.plain_machine.proofs.Growing.{map-parts}
-use Rattle.plain_machine.proofs.Holding.{Holds, Before, Builds, before, found-proper, all-live, in-place, in-register, built-leaves, set-proper, gone-proper, spawned-proper}
+use Rattle.plain_machine.proofs.Making.{or-none, bin-more, bin-proper}
+use Rattle.plain_machine.proofs.Holding.{Holds, Before, Builds, Environs, before, found-proper, all-live, in-place, in-register, made-leaves, built-leaves, fun-proper, set-proper, gone-proper, spawned-proper}
 
 -- the numbers after an outcome
 abbrev pub OutcomeKeeps : State → Outcome → Type 0
@@ -54,6 +57,7 @@ LeavesState s Mapped = Unit {0}
 -- what is asked of the terms of a command
 abbrev pub TermsOf : Command → Terms → (names : List (List ℕ)) → Type 0
 TermsOf (Process n (Set r)) terms names = Builds terms names
+TermsOf (Process n (MakeFun r name arity)) terms names = Environs name terms names
 TermsOf _ terms names = Unit {0}
 
 -- what a command does
@@ -91,7 +95,7 @@ register-does s p q n r x t e f = record {
   printing = λ g. absurd (cc);
 }
 
--- `hd`, `tl`, `elem`, `mapget`
+-- `hd`, `tl`, `elem`, `mapget`, `part`, `env`
 choose-does : (s : State) (p : Parsed) (q : Live) (n r : ℕ) (x : Verb) (o : Option Tree) → is_printing (Process n x) ≡ false
     → (HoldsProper s → HasNames s p.names → Before s p.names × Holds p.names s.shared q × IfProper p.names s.shared o) → Does s p (Process n x) (choose o s p q r)
 choose-does s p q n r x None e f = refused-does s p (Process n x) _
@@ -128,6 +132,37 @@ repeat-does : (s : State) (p : Parsed) (q : Live) (n r : ℕ) (x : Verb) (many :
     → (HoldsProper s → HasNames s p.names → Before s p.names × Holds p.names s.shared q × (is_proper p.names s.shared t ≡ true)) → Does s p (Process n x) (repeat_if many t s p q r)
 repeat-does s p q n r x true t e f = refused-does s p (Process n x) _
 repeat-does s p q n r x false t e f = register-does s p q n r x t e f
+
+-- bytes that are all the same one
+filled-bytes : (n b : ℕ) → nat_lt MOST_BYTE b ≡ false → are_bytes (replicate n b) ≡ true
+filled-bytes zero b h = refl
+filled-bytes (suc n) b h = and_from (nat_lt b 256) (are_bytes (replicate n b)) (grind (arith, nat_tests, h)) (filled-bytes n b h)
+
+-- `fill`
+fill-does : (s : State) (p : Parsed) (q : Live) (n r : ℕ) (x : Verb) (bad : Bool) (bytes : List ℕ) → is_printing (Process n x) ≡ false
+    → (bad ≡ false → are_bytes bytes ≡ true) → (HoldsProper s → HasNames s p.names → Before s p.names × Holds p.names s.shared q)
+    → Does s p (Process n x) (fill_if bad bytes s p q r)
+fill-does s p q n r x true bytes e bs f = refused-does s p (Process n x) _
+fill-does s p q n r x false bytes e bs f = record {
+  numbers = keeps-process s _ (with_register r ((bin_tree bytes s.shared).0) q) refl refl;
+  told = inl (codes "k", refl);
+  proper = λ h m t. let k = f h m in record {
+    proper = made-leaves s p.names q r (bin_tree bytes s.shared) k.0 k.1 (bin-more bytes s.shared) (bin-proper p.names bytes s.shared (bs refl));
+  };
+  printing = λ g. absurd (cc);
+}
+
+-- `fun`
+fun-does : (s : State) (p : Parsed) (q : Live) (n r name arity : ℕ) (x : Verb) (bad : Bool) (t : Tree) → is_printing (Process n x) ≡ false
+    → (HoldsProper s → HasNames s p.names → TermsOf (Process n x) p.terms p.names → Before s p.names × Holds p.names s.shared q × (is_proper p.names s.shared t ≡ true))
+    → Does s p (Process n x) (fun_if bad t s p q r)
+fun-does s p q n r name arity x true t e f = refused-does s p (Process n x) _
+fun-does s p q n r name arity x false t e f = record {
+  numbers = keeps-process s _ (with_register r t q) refl refl;
+  told = inl (codes "k", refl);
+  proper = λ h m b. let k = f h m b in record { proper = in-register s p.names q r t (k.0) (k.1) (k.2) };
+  printing = λ g. absurd (cc);
+}
 
 -- `pop`
 pop-does : (s : State) (p : Parsed) (q : Live) (n r : ℕ) (x : Verb) (stack : List Tree) → is_printing (Process n x) ≡ false
@@ -168,6 +203,11 @@ module _ (s : State) (p : Parsed) (n : ℕ) (q : Live) (found : process_of n s �
       (λ h k. (names-before h k, holds h k, picked-proper p.names s.shared q how (register (m.0) q) (in-holds (m.0) h k)))
   verb-does (MapPut r m k v) = put-does s p q n (r.0) (MapPut r m k v) (register (m.0) q) (register (k.0) q) (register (v.0) q) refl
       (λ h x. (names-before h x, holds h x, in-holds (m.0) h x, in-holds (k.0) h x, in-holds (v.0) h x))
+  verb-does (Fill r len byte) = fill-does s p q n (r.0) (Fill r len byte) (nat_lt MOST_FILL len || nat_lt MOST_BYTE byte) (replicate len byte) refl
+      (λ e. filled-bytes len byte (or-none (nat_lt MOST_FILL len) (nat_lt MOST_BYTE byte) e).1) (λ h m. (names-before h m, holds h m))
+  verb-does (MakeFun r name arity) =
+      fun-does s p q n (r.0) name arity (MakeFun r name arity) (nat_lt MOST_ARITY arity) (tree.Fun name arity q.number (env_of s p q)) refl
+      (λ h m t. (names-before h m, holds h m, fun-proper s p q name arity (holds h m) t))
   verb-does (Ref r) = record {
     numbers = keeps-process s _ (record (with_register (r.0) (tree.Ref q.number (q.refs + 1)) q) { refs = q.refs + 1 }) refl refl;
     told = inl (codes "k", refl);
@@ -221,6 +261,7 @@ spawn-does s p false = record {
 system-does : (s : State) (p : Parsed) (v : SysVerb) → Does s p (System v) (by_system s p v)
 system-does s p Spawn = spawn-does s p (nat_le MOST_PROCESSES (length s.processes))
 system-does s p Sweep = collect-does s p (System Sweep) refl
+system-does s p Counts = record { numbers = tt; told = tt; proper = λ h m t. tt; printing = λ e. tt }
 system-does s p Quit = record { numbers = keeps-same s s refl; told = inl (codes "k", refl); proper = λ h m t. h; printing = λ e. refl }
 system-does s p v = tells-does s p (System v) (told_of_system s v) refl
 

@@ -27,10 +27,10 @@ module _ (names more s extra : List (List ℕ)) where
   pub all-parts : (t : Tree) (ts : Trees) → are_proper names s (t ▹ ts) ≡ true → (is_proper names s t ≡ true) × (are_proper names s ts ≡ true)
   all-parts t ts e = and_parts (is_proper names s t) (are_proper names s ts) e
 
-  fun-parts : (f a c : ℕ) (ts : Trees) → is_proper names s (Fun f a c ts) ≡ true → (nat_lt f (length names) ≡ true) × (are_proper names s ts ≡ true)
+  pub fun-parts : (f a c : ℕ) (ts : Trees) → is_proper names s (Fun f a c ts) ≡ true → (nat_lt f (length names) ≡ true) × (are_proper names s ts ≡ true)
   fun-parts f a c ts e = and_parts (nat_lt f (length names)) (are_proper names s ts) e
 
-  part-parts : (base : Tree) (offset len : ℕ) → is_proper names s (Part base offset len) ≡ true
+  pub part-parts : (base : Tree) (offset len : ℕ) → is_proper names s (Part base offset len) ≡ true
       → (is_base base ≡ true) × (is_proper names s base ≡ true) × (nat_le (offset + len) (length (bytes_of s base)) ≡ true)
   part-parts base offset len e =
       let a = and_parts (is_base base && is_proper names s base) (nat_le (offset + len) (length (bytes_of s base))) e in
@@ -71,7 +71,7 @@ module _ (names more s extra : List (List ℕ)) where
     nodes-grown-pairs stop h = refl
     nodes-grown-pairs (pair k v ps) h = let p = pairs-parts k v ps h in omega (arith, nodes-grown k p.0, nodes-grown v p.2, nodes-grown-pairs ps p.3)
 
-  beyond-grown : (t : Tree) → is_proper names s t ≡ true → is_beyond (s ++ extra) t ≡ is_beyond s t
+  pub beyond-grown : (t : Tree) → is_proper names s t ≡ true → is_beyond (s ++ extra) t ≡ is_beyond s t
   beyond-grown t h = ap (λ n. nat_lt node_limit n || nat_lt depth_limit (depth t)) (nodes-grown t h)
 
   mutual

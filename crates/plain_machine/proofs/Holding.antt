@@ -1,23 +1,24 @@
 -- Proper trees that live: what keeps them when a process changes, comes or goes, and names are added.
-use Rattle.std.proofs.Common.{◌≡◌, ℕ, zero, suc, Bool, true, false, not, cond, ◌==◌, List, [], ◌∷◌, ◌++◌, map, filter, replicate, set, None, Some, refl, sym, subst, append-nil}
+use Rattle.std.proofs.Common.{◌≡◌, ℕ, zero, suc, ◌<◌, nat_lt, length, lt-ltb, Bool, true, false, not, cond, ◌==◌, List, [], ◌∷◌, ◌++◌, map, filter, replicate, set, None, Some, refl, sym, subst, append-nil}
 use Rattle.std.specs.Prelude.{flat_map}
+use Rattle.std.proofs.lemmas.Bool.{and_from}
 use Rattle.std.specs.List.{find}
 use Rattle.plain_term.specs.Tree.{Tree}
 use Rattle.plain_term.specs.Tree.{Tree as tree}
-use Rattle.plain_term.specs.Proper.{is_proper}
+use Rattle.plain_term.specs.Proper.{is_proper, are_proper}
 use Rattle.script_grammar.specs.declared.limits.TheConstants.{REGISTERS, LEVELS}
 use Rattle.script_grammar.specs.Written.{Term, Terms}
 use Rattle.script_grammar.specs.Written.Terms.{end, ◌▹◌}
 use Rattle.script_grammar.specs.Grammar.{MayStand, IsBuiltTerm}
-use Rattle.script_grammar.specs.Names.{Parsed, atoms_of}
-use Rattle.plain_machine.specs.Made.{tree_of}
+use Rattle.script_grammar.specs.Names.{Parsed, atoms_of, held_terms}
+use Rattle.plain_machine.specs.Made.{tree_of, trees_of}
 use Rattle.plain_machine.specs.State.{Process as Live, Area, State, HasNames, fresh_process, with_register}
 use Rattle.plain_machine.specs.Tightness.{held_trees, living_trees}
 use Rattle.plain_machine.specs.Flaws.{is_wide, is_big, flaw_of}
-use Rattle.plain_machine.specs.Step.{written_tree, written_flaw}
+use Rattle.plain_machine.specs.Step.{written_tree, written_flaw, env_of}
 use Rattle.plain_machine.specs.Laws.{AreProper, HoldsProper}
 use Rattle.plain_machine.proofs.Growing.{proper-grown}
-use Rattle.plain_machine.proofs.Making.{HaveNumbers, made-proper, shared-kept}
+use Rattle.plain_machine.proofs.Making.{HaveNumbers, Extends, all-more-proper, made-more, made-proper, held-proper}
 
 -- more names stand after those that there are
 all-grown : (names more shared extra : List (List ℕ)) (ts : List Tree) → AreProper names shared ts → AreProper (names ++ more) (shared ++ extra) ts
@@ -127,6 +128,31 @@ pub in-register : (s : State) (names : List (List ℕ)) (q : Live) (r : ℕ) (t 
     → AreProper names s.shared (flat_map held_trees (map (λ u. cond (u.number == q.number) (with_register r t q) u) s.processes) ++ flat_map (λ (a : Area). a.literals) s.areas)
 in-register s names q r t b h p = in-place s names (with_register r t q) b (record { registers = set-proper names s.shared q.registers r t h.registers p; stack = h.stack; queue = h.queue })
 
+-- a tree that was made in a register, and the rest as before, where the shared binaries are those before it with more
+pub made-leaves : (s : State) (names : List (List ℕ)) (q : Live) (r : ℕ) (made : Tree × List (List ℕ)) → Before s names → Holds names s.shared q → Extends s.shared (made.1)
+    → is_proper names (made.1) (made.0) ≡ true
+    → AreProper names (made.1)
+    (flat_map held_trees (map (λ u. cond (u.number == q.number) (with_register r (made.0) q) u) s.processes) ++ flat_map (λ (a : Area). a.literals) s.areas)
+made-leaves s names q r made b h x p =
+    let grown = λ (ts : List Tree). all-more-proper names s.shared (made.1) ts x in
+    in-register (record s { shared = made.1 }) names q r (made.0)
+    (record { held = grown (flat_map held_trees s.processes) b.held; literals = grown (flat_map (λ (a : Area). a.literals) s.areas) b.literals })
+    (record { registers = grown q.registers h.registers; stack = grown q.stack h.stack; queue = grown q.queue h.queue }) p
+
+-- the written terms of a command that makes a fun: registers, and its name is known
+pub record Environs (name : ℕ) (terms : Terms) (names : List (List ℕ)) : Type 0 where
+  pub registers : List ℕ
+  pub written : terms ≡ held_terms registers
+  pub known : name < length names
+
+-- the fun of such an environment
+pub fun-proper : (s : State) (p : Parsed) (q : Live) (name arity : ℕ) → Holds p.names s.shared q → Environs name p.terms p.names
+    → is_proper p.names s.shared (tree.Fun name arity q.number (env_of s p q)) ≡ true
+fun-proper s p q name arity h e =
+    let P : Terms → Type 0 = λ z. are_proper p.names s.shared ((trees_of p.names q.registers z s.shared).0) ≡ true in
+    and_from (nat_lt name (length p.names)) (are_proper p.names s.shared (env_of s p q))
+    (lt-ltb name (length p.names) e.known) (subst P (sym e.written) (held-proper p.names q.registers e.registers s.shared h.registers))
+
 -- the written term of a command that builds: of a built form, and each atom has a number
 pub record Builds (terms : Terms) (names : List (List ℕ)) : Type 0 where
   pub term : Term
@@ -151,7 +177,5 @@ built-leaves s p q r b h t f =
     let F : Terms → Type 0 = λ z. written_flaw s p q z ≡ None in
     let none = flawless (is_big p.names q.registers t.term s.shared) (is_wide p.names q.registers t.term s.shared) (subst F t.one f) in
     let made : Tree × List (List ℕ) = tree_of p.names q.registers t.term s.shared in
-    let Q : List (List ℕ) → Type 0 = λ z. AreProper p.names z
-    (flat_map held_trees (map (λ u. cond (u.number == q.number) (with_register r (made.0) q) u) s.processes) ++ flat_map (λ (a : Area). a.literals) s.areas) in
-    subst P (sym t.one) (subst Q (sym (shared-kept p.names q.registers t.term s.shared t.built))
-    (in-register s p.names q r (made.0) b h (made-proper p.names s.shared q.registers h.registers LEVELS t.term s.shared refl t.built t.allowed t.numbers none.0 none.1)))
+    subst P (sym t.one) (made-leaves s p.names q r made b h (made-more p.names q.registers t.term s.shared)
+    (made-proper p.names q.registers LEVELS t.term s.shared h.registers t.built t.allowed t.numbers none.0 none.1))

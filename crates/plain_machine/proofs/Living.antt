@@ -1,15 +1,16 @@
 -- All trees that live stay proper along a run.
-use Rattle.std.proofs.Common.{◌≡◌, ℕ, ◌⊎◌, inl, inr, Bool, true, false, List, [], ◌∷◌, ◌++◌, refl, sym, subst}
+use Rattle.std.proofs.Common.{◌≡◌, ℕ, ◌⊎◌, inl, inr, Bool, true, false, List, [], ◌∷◌, ◌++◌, refl, sym, ap, subst}
 use Rattle.std.specs.Prelude.{MatchBool, flat_map}
 use Rattle.line_io.specs.Lines.{Line, text, long}
-use Rattle.script_grammar.specs.Written.{Written}
+use Rattle.script_grammar.specs.Written.{Terms, Written, joined}
+use Rattle.script_grammar.specs.Written.Terms.{end, ◌▹◌}
 use Rattle.script_grammar.specs.declared.word.Word.TheVariants as word
 use Rattle.script_grammar.specs.Written.Written.{Nothing, OfProcess, OfSystem}
 use Rattle.script_grammar.specs.Grammar.{IsAllowed, IsBuilt}
-use Rattle.script_grammar.specs.Names.{Parsed, parsed_of, names_after, atoms_of, all_atoms, command_of, terms_of}
+use Rattle.script_grammar.specs.Names.{Parsed, parsed_of, names_after, atoms_of, all_atoms, command_of, terms_of, held_terms}
 use Rattle.script_grammar.specs.ReadAs.{IsReadAs, Reading}
 use Rattle.script_grammar.specs.ReadAs.Reading.{Means, NoSyntax, NoAtoms}
-use Rattle.script_grammar.proofs.Naming.{ArePlaced, placed-front, with-names-more, with-names-placed}
+use Rattle.script_grammar.proofs.Naming.{ArePlaced, placed-front, number-below, with-names-more, with-names-placed}
 use Rattle.plain_machine.specs.State.{State, HasNames, first_state}
 use Rattle.plain_machine.specs.Tightness.{held_trees}
 use Rattle.plain_machine.specs.Step.{Outcome, step}
@@ -24,6 +25,10 @@ use Rattle.plain_machine.proofs.Commands.{LeavesProper, TermsOf, command-does}
 has-names : (s : State) (w : Written) → HasNames s (names_after s.names w)
 has-names s w = let m : (more : List (List ℕ)) × (names_after s.names w ≡ s.names ++ more) = with-names-more s.names (all_atoms w) in record { more = m.0; are = m.1 }
 
+joined-end : (ts : Terms) → joined ts end ≡ ts
+joined-end end = refl
+joined-end (t ▹ ts) = ap (λ z. t ▹ z) (joined-end ts)
+
 -- the terms of a built line
 terms-are : (names : List (List ℕ)) (w : Written) → IsAllowed w → IsBuilt w → ArePlaced names (all_atoms w) → TermsOf (command_of names w) (terms_of w) names
 terms-are names (OfProcess n word.Set ops) a b p = record {
@@ -33,6 +38,7 @@ terms-are names (OfProcess n word.Set ops) a b p = record {
   allowed = a.1.1.0;
   numbers = placed-numbers names (atoms_of (ops.1.0)) (placed-front names (atoms_of (ops.1.0)) [] p);
 }
+terms-are names (OfProcess n word.Fun ops) a b p = record { registers = ops.1.1.1.0; written = joined-end (held_terms (ops.1.1.1.0)); known = number-below names (ops.1.0) (p.0) }
 terms-are names (OfProcess n _ ops) a b p = tt
 terms-are names (OfSystem w ops) a b p = tt
 terms-are names Nothing a b p = tt
