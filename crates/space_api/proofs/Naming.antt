@@ -9,8 +9,8 @@ use Rattle.script_grammar.specs.Written.Terms.{end, ◌▹◌}
 use Rattle.script_grammar.specs.Written.TermPairs.{stop, pair}
 use Rattle.script_grammar.specs.Names.{atoms_of, atoms_of_all, atoms_of_pairs, items_of, listed_items, all_items, pairs_items}
 use Rattle.plain_machine.proofs.Making.{HaveNumbers}
-use Rattle.plain_machine.proofs.Holding.{Builds}
-use Rattle.space_api.specs.Calls.{IsNamedBelow, IsTerm, one_term}
+use Rattle.plain_machine.proofs.Holding.{Builds, Environs}
+use Rattle.space_api.specs.Calls.{HasEnv, IsNamedBelow, IsTerm, one_term}
 
 -- items whose atoms have numbers below a count
 abbrev pub AreBelow : ℕ → List Item → Type 0
@@ -74,3 +74,7 @@ builds names code t is named = record {
   allowed = is.allowed;
   numbers = numbers-term names t (subst (AreBelow (length names)) (sym is.items) (below-all (length names) code named));
 }
+
+-- so is the environment of `make_fun`
+pub environs : (names : List (List ℕ)) (name : ℕ) (env : List Item) (terms : Terms) → HasEnv names name env terms → Environs name terms names
+environs names name env terms h = record { registers = h.registers; written = h.written; known = h.known }
