@@ -1,9 +1,10 @@
 -- From the answer of a space's call to the machine's step.
-use Rattle.std.proofs.Common.{◌≡◌, ℕ, inl, inr, Bool, true, false, not, cond, ◌||◌, ◌⊎◌, List, [], ◌∷◌, ◌++◌, codes, decimal, nat_le, nat_lt, length}
+use Rattle.std.proofs.Common.{◌≡◌, ℕ, inl, inr, Bool, true, false, not, cond, ◌||◌, ◌⊎◌, List, [], ◌∷◌, ◌++◌, codes, decimal, nat_le, nat_lt, length, replicate}
 use Rattle.std.proofs.Common.{Option, Some, None, Result, Ok, Err, IfOk, refl, sym, ap, subst, ◌∙◌}
 use Rattle.std.specs.Prelude.{MatchBool}
 use Rattle.std.specs.List.{find, list_any}
 use Rattle.plain_term.specs.Tree.{Tree, Pairs}
+use Rattle.plain_term.specs.Tree.{Tree as tree}
 use Rattle.plain_term.specs.Beyond.{is_beyond}
 use Rattle.plain_term.specs.declared.item.Item.{Item}
 use Rattle.script_grammar.specs.declared.command.Reg.{Reg}
@@ -13,29 +14,29 @@ use Rattle.script_grammar.specs.declared.command.Shape.{Shape}
 use Rattle.script_grammar.specs.declared.command.Command.{Command}
 use Rattle.script_grammar.specs.declared.command.Command.TheVariants.{Process, System}
 use Rattle.script_grammar.specs.declared.command.Verb.{Verb}
-use Rattle.script_grammar.specs.declared.command.Verb.TheVariants.{Set, Choose, MapPut, Ref, Own, Repeat, Push, Pop, Print, Eq, Cmp, Flat, Gc, Exit}
-use Rattle.script_grammar.specs.declared.command.SysVerb.TheVariants.{Spawn, Sweep}
+use Rattle.script_grammar.specs.declared.command.Verb.TheVariants.{Set, Choose, MapPut, Fill, Fun as MakeFun, Ref, Own, Repeat, Push, Pop, Print, Eq, Cmp, Flat, Gc, Exit}
+use Rattle.script_grammar.specs.declared.command.SysVerb.TheVariants.{Spawn, Sweep, Counts as CountsVerb}
 use Rattle.script_grammar.specs.declared.refusal.Refusal.{Refusal}
 use Rattle.script_grammar.specs.declared.refusal.Refusal.TheVariants.{NoProc}
 use Rattle.script_grammar.specs.Written.{Term, Terms}
 use Rattle.script_grammar.specs.Written.Terms.{end}
 use Rattle.script_grammar.specs.Grammar.{is_built, word_of}
 use Rattle.script_grammar.specs.Names.{Parsed, HasRegisters}
-use Rattle.plain_machine.specs.declared.limits.TheConstants.{MOST_PROCESSES, MOST_PLACES}
+use Rattle.plain_machine.specs.declared.limits.TheConstants.{MOST_PROCESSES, MOST_PLACES, MOST_FILL, MOST_ARITY, MOST_BYTE}
 use Rattle.plain_machine.specs.State.{Process as Live, State, HasNames, process_of, is_live, register}
 use Rattle.plain_machine.specs.Made.{with_pair, too_many}
 use Rattle.plain_machine.specs.Parts.{picked, pairs_in, repeated}
-use Rattle.plain_machine.specs.Step.{Outcome, step, settled, with_made, written_tree, written_flaw, unless_flawed, choose, put_unless_wide, put_unless_big, put_pair, repeat_if, in_process, by_verb, pop_from, spawn_if, tells, told_of, is_printing_verb}
+use Rattle.plain_machine.specs.Step.{Outcome, step, settled, with_made, written_tree, written_flaw, unless_flawed, choose, fill_if, fun_if, env_of, put_unless_wide, put_unless_big, put_pair, repeat_if, in_process, by_verb, pop_from, spawn_if, tells, told_of, is_printing_verb}
 use Rattle.plain_machine.specs.Step.Outcome.{Accepted, Refused as IsRefused, Mapped}
 use Rattle.plain_machine.specs.Run.{CommandStep, Skips, Gives, LacksSpace, refusal_text, is_nothing, is_quit}
 use Rattle.plain_machine.specs.Maps.{is_map}
 use Rattle.space_api.specs.declared.space.Seat.{Seat}
-use Rattle.space_api.specs.Calls.{said, Follows, Stays, Becomes, Passes, one_term, IsTerm}
+use Rattle.space_api.specs.Calls.{said, Follows, Stays, Becomes, Passes, one_term, HasEnv, IsTerm}
 use Rattle.engine.specs.declared.reply.Reply.{Reply}
-use Rattle.engine.specs.declared.reply.Reply.TheVariants.{Done, Spawned, Told, Refused}
+use Rattle.engine.specs.declared.reply.Reply.TheVariants.{Done, Spawned, Counts, Told, Refused}
 use Rattle.engine.specs.Replies.{CanTell, reply_lines, reply_of, ends_script, outcome_text}
 use Rattle.engine.specs.Rules.{Supply, After}
-use Rattle.engine.specs.Acts.{Acts, Fits, names_left, shown}
+use Rattle.engine.specs.Acts.{Acts, Fits, TermsFit, makes_term, names_left, shown}
 
 -- A reply fits to an outcome: an accepted one's text, names and end are the reply's.
 abbrev pub Fitting : After → State → Parsed → Reply → Outcome → Type 0
@@ -74,7 +75,7 @@ module _ (supply : Supply) (s : State) (p : Parsed) (after : After) (some : is_n
     new = k.new;
     stands = k.stands;
     names = k.kept;
-    steps = steps-as supply s p (ends_script reply) (reply_lines reply (shown after k.new p.names)) k.new some (inl k.gives);
+    steps = λ m. steps-as supply s p (ends_script reply) (reply_lines reply (shown after k.new p.names)) k.new some (inl k.gives);
     maps = λ e m. absurd (cc);
   }
 
@@ -84,7 +85,7 @@ module _ (supply : Supply) (s : State) (p : Parsed) (after : After) (some : is_n
     new = s;
     stands = st.2;
     names = refl;
-    steps = steps-as supply s p false (refusal_text e ∷ []) s some
+    steps = λ m. steps-as supply s p false (refusal_text e ∷ []) s some
         (inr (record { allowed = st.0; no_map = no_map; refuses = record { goes_on = refl; said = ap (λ y. refusal_text y ∷ []) st.1; same = refl } }));
     maps = λ e m. absurd (cc);
   }
@@ -126,6 +127,16 @@ choose-fits : (after : After) (s : State) (p : Parsed) (q : Live) (r : ℕ) (o :
 choose-fits after s p q r None e g = tt
 choose-fits after s p q r (Some t) e g = (refl, sym e, sym g)
 
+fill-fits : (after : After) (s : State) (p : Parsed) (q : Live) (r : ℕ) (bad : Bool) (bytes : List ℕ) → names_left Done s p ≡ p.names → is_quit p.command ≡ false
+    → Fitting after s p Done (fill_if bad bytes s p q r)
+fill-fits after s p q r true bytes e g = tt
+fill-fits after s p q r false bytes e g = (refl, sym e, sym g)
+
+fun-fits : (after : After) (s : State) (p : Parsed) (q : Live) (r : ℕ) (bad : Bool) (t : Tree) → names_left Done s p ≡ p.names → is_quit p.command ≡ false
+    → Fitting after s p Done (fun_if bad t s p q r)
+fun-fits after s p q r true t e g = tt
+fun-fits after s p q r false t e g = (refl, sym e, sym g)
+
 repeat-fits : (after : After) (s : State) (p : Parsed) (q : Live) (r : ℕ) (many : Bool) (t : Tree) → names_left Done s p ≡ p.names → is_quit p.command ≡ false
     → Fitting after s p Done (repeat_if many t s p q r)
 repeat-fits after s p q r true t e g = tt
@@ -159,15 +170,23 @@ module _ (supply : Supply) (number : ℕ) (names : List (List ℕ)) (code : List
   pub does-same : (v w : Verb) → v ≡ w → DoesVerb w → DoesVerb v
   does-same v w e d = subst DoesVerb (sym e) d
 
-  -- the call of a verb that may find no space
+  -- the call of a verb that may find no space, where its terms are of a kind
+  pub fitting-does : {A : Type 0} (say : A → Reply) (verb : Verb) (r : Result A Refusal) → reply ≡ reply_of say r → is_map (Process number verb) ≡ false
+      → ((s : State) (terms : Terms) (q : Live) (a : A) → Fitting after s (said (Process number verb) terms names) (say a) (by_verb s (said (Process number verb) terms names) q verb))
+      → ((s : State) (terms : Terms) → Old s → HasNames s names → TermsFit (Process number verb) names code terms
+      → Becomes supply.may supply.words s (said (Process number verb) terms names) r after.stands)
+      → DoesVerb verb
+  fitting-does say verb r e no_map fit b = λ s terms h f.
+      let p : Parsed = said (Process number verb) terms names in
+      let P : Reply → Type 0 = λ x. Acts supply s p x after in
+      subst P (sym e) (acts-becomes supply s p after refl no_map say r (λ a k. fits-in after s p (say a) verb (process_of number s) (λ q. fit s terms q a)) (b s terms h f.longer f.term))
+
+  -- the same, whatever its terms are
   pub becomes-does : {A : Type 0} (say : A → Reply) (verb : Verb) (r : Result A Refusal) → reply ≡ reply_of say r → is_map (Process number verb) ≡ false
       → ((s : State) (terms : Terms) (q : Live) (a : A) → Fitting after s (said (Process number verb) terms names) (say a) (by_verb s (said (Process number verb) terms names) q verb))
       → ((s : State) (terms : Terms) → Old s → HasNames s names → Becomes supply.may supply.words s (said (Process number verb) terms names) r after.stands)
       → DoesVerb verb
-  becomes-does say verb r e no_map fit b = λ s terms h f.
-      let p : Parsed = said (Process number verb) terms names in
-      let P : Reply → Type 0 = λ x. Acts supply s p x after in
-      subst P (sym e) (acts-becomes supply s p after refl no_map say r (λ a k. fits-in after s p (say a) verb (process_of number s) (λ q. fit s terms q a)) (b s terms h f.longer))
+  becomes-does say verb r e no_map fit b = fitting-does say verb r e no_map fit (λ s terms h m t. b s terms h m)
 
   -- `set`, whose terms are those of the code
   pub set-does : {A : Type 0} (x : Reg) (r : Result A Refusal) → reply ≡ reply_of (λ (a : A). Done) r
@@ -206,6 +225,20 @@ module _ (supply : Supply) (number : ℕ) (names : List (List ℕ)) (code : List
   pick-does {A} x m how r e b = becomes-does (λ (a : A). Done) (Choose x m how) r e refl
       (λ s terms q a. choose-fits after s (said (Process number (Choose x m how)) terms names) q x.0 (picked names s.shared q how (register m.0 q)) refl refl) b
 
+  pub fill-does : {A : Type 0} (x : Reg) (len byte : ℕ) (r : Result A Refusal) → reply ≡ reply_of (λ (a : A). Done) r
+      → ((s : State) (terms : Terms) → Old s → HasNames s names → Becomes supply.may supply.words s (said (Process number (Fill x len byte)) terms names) r after.stands)
+      → DoesVerb (Fill x len byte)
+  fill-does {A} x len byte r e b = becomes-does (λ (a : A). Done) (Fill x len byte) r e refl
+      (λ s terms q a. fill-fits after s (said (Process number (Fill x len byte)) terms names) q x.0 (nat_lt MOST_FILL len || nat_lt MOST_BYTE byte) (replicate len byte) refl refl) b
+
+  pub fun-does : {A : Type 0} (x : Reg) (name arity : ℕ) (r : Result A Refusal) → reply ≡ reply_of (λ (a : A). Done) r
+      → ((s : State) (terms : Terms) → Old s → HasNames s names → HasEnv names name code terms
+      → Becomes supply.may supply.words s (said (Process number (MakeFun x name arity)) terms names) r after.stands)
+      → DoesVerb (MakeFun x name arity)
+  fun-does {A} x name arity r e b = fitting-does (λ (a : A). Done) (MakeFun x name arity) r e refl
+      (λ s terms q a. let p : Parsed = said (Process number (MakeFun x name arity)) terms names in
+      fun-fits after s p q x.0 (nat_lt MOST_ARITY arity) (tree.Fun name arity q.number (env_of s p q)) refl refl) b
+
   pub put-does : {A : Type 0} (x m k v : Reg) (r : Result A Refusal) → reply ≡ reply_of (λ (a : A). Done) r
       → ((s : State) (terms : Terms) → Old s → HasNames s names → Becomes supply.may supply.words s (said (Process number (MapPut x m k v)) terms names) r after.stands)
       → DoesVerb (MapPut x m k v)
@@ -229,7 +262,7 @@ module _ (supply : Supply) (number : ℕ) (names : List (List ℕ)) (code : List
         new = s;
         stands = same s h;
         names = refl;
-        steps = inl (subst Q (sym none) (record { goes_on = refl; said = refl; same = refl }));
+        steps = λ m. inl (subst Q (sym none) (record { goes_on = refl; said = refl; same = refl }));
         maps = λ k m. absurd (cc);
       })
 
@@ -238,6 +271,8 @@ verb-tells : (s : State) (p : Parsed) (q : Live) (v : Verb) → is_printing_verb
 verb-tells s p q (Set r) e m = absurd (cc)
 verb-tells s p q (Choose r k how) e m = absurd (cc)
 verb-tells s p q (MapPut r k i v) e m = absurd (cc)
+verb-tells s p q (Fill r len byte) e m = absurd (cc)
+verb-tells s p q (MakeFun r name arity) e m = absurd (cc)
 verb-tells s p q (Ref r) e m = absurd (cc)
 verb-tells s p q (Repeat r shape n k) e m = absurd (cc)
 verb-tells s p q (Own r) e m = absurd (cc)
@@ -265,7 +300,7 @@ told-does supply seat names code after v can = λ s terms h f. record {
   new = s;
   stands = h;
   names = ap (λ b. cond b s.names names) (sym can.prints);
-  steps = inl (at s terms (process_of seat.pid s));
+  steps = λ m. inl (at s terms (process_of seat.pid s));
   maps = λ k m. absurd (map-or-not (is_map (Process 0 v)) k can.no_map);
 }
   where
@@ -289,26 +324,26 @@ if-then : (b c : Bool) → (not b || c) ≡ true → b ≡ true → c ≡ true
 if-then true c h e = h
 if-then false c h e = absurd (cc)
 
+not-true : true ≡ false → ⊥
+not-true e = absurd (cc)
+
 -- the verb is none of those that change something
 pub record IsOther (v : Verb) : Type 0 where
-  pub set : (r : Reg) → v ≡ Set r → ⊥
-  pub choose : (r m : Reg) (how : Pick) → v ≡ Choose r m how → ⊥
-  pub put : (r m k i : Reg) → v ≡ MapPut r m k i → ⊥
-  pub ref : (r : Reg) → v ≡ Ref r → ⊥
-  pub own : (r : Reg) → v ≡ Own r → ⊥
-  pub repeat : (r : Reg) (shape : Shape) (n : ℕ) (m : Reg) → v ≡ Repeat r shape n m → ⊥
+  pub makes : makes_term v ≡ false
   pub push : (r : Reg) → v ≡ Push r → ⊥
   pub pop : (r : Reg) → v ≡ Pop r → ⊥
   pub gc : (d : Depth) → v ≡ Gc d → ⊥
   pub exit : v ≡ Exit → ⊥
 
 pub can-tell : (v : Verb) → is_built (word_of v) ≡ true → HasRegisters v → IsOther v → CanTell v
-can-tell (Set r) b h o = absurd (o.set r refl)
-can-tell (Choose r m how) b h o = absurd (o.choose r m how refl)
-can-tell (MapPut r m k i) b h o = absurd (o.put r m k i refl)
-can-tell (Ref r) b h o = absurd (o.ref r refl)
-can-tell (Own r) b h o = absurd (o.own r refl)
-can-tell (Repeat r shape n m) b h o = absurd (o.repeat r shape n m refl)
+can-tell (Set r) b h o = absurd (not-true o.makes)
+can-tell (Choose r m how) b h o = absurd (not-true o.makes)
+can-tell (MapPut r m k i) b h o = absurd (not-true o.makes)
+can-tell (Fill r len byte) b h o = absurd (not-true o.makes)
+can-tell (MakeFun r name arity) b h o = absurd (not-true o.makes)
+can-tell (Ref r) b h o = absurd (not-true o.makes)
+can-tell (Own r) b h o = absurd (not-true o.makes)
+can-tell (Repeat r shape n m) b h o = absurd (not-true o.makes)
 can-tell (Push r) b h o = absurd (o.push r refl)
 can-tell (Pop r) b h o = absurd (o.pop r refl)
 can-tell (Gc d) b h o = absurd (o.gc d refl)
@@ -361,3 +396,14 @@ sweep-does supply names code Old after b = λ s terms h f.
     let u : Unit {0} = tt in
     acts-gave supply s p after refl refl Done
     (gave s p after (λ (a : Unit {0}). Done) (step s p) (Ok u) (λ a k. (refl, refl, refl)) (passes-follows (step s p) s u after.stands (b s terms h f.longer)))
+
+-- `sys counts`, whose reply is the text of the store
+pub counts-does : (supply : Supply) (names : List (List ℕ)) (code : List Item) (Old : State → Type 0) (after : After) → ((s : State) → Old s → after.stands s)
+    → DoesCommand supply names code Counts Old after (System CountsVerb)
+counts-does supply names code Old after same = λ s terms h f. record {
+  new = s;
+  stands = same s h;
+  names = refl;
+  steps = λ m. inl (record { goes_on = refl; map = after.text (System CountsVerb); allowed = m; said = refl; same = refl });
+  maps = λ e o. refl;
+}

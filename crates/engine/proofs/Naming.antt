@@ -1,5 +1,5 @@
 -- The items of a line's terms name only atoms that have numbers.
-use Rattle.std.proofs.Common.{ℕ, zero, suc, ◌<◌, List, [], ◌∷◌, ◌++◌, length, get_or, arith}
+use Rattle.std.proofs.Common.{ℕ, zero, suc, ◌<◌, List, [], ◌∷◌, ◌++◌, length, map, get_or, arith}
 use Rattle.std.specs.Prelude.{All}
 use Rattle.plain_term.specs.declared.item.Item.{Item}
 use Rattle.plain_term.specs.declared.item.Item.TheVariants as item
@@ -29,6 +29,11 @@ below-all count (x ∷ xs) h = λ k. at k (below-all count xs h.1) h.0
     at zero rest first d less = first
     at (suc k) rest first d less = rest k d (omega arith)
 
+-- bytes name nothing
+bytes-below : (count : ℕ) (bytes : List ℕ) → AreBelow count (map item.Byte bytes)
+bytes-below count [] = tt
+bytes-below count (b ∷ bytes) = (tt, bytes-below count bytes)
+
 mutual
   -- the items of a term of the built forms whose atoms have numbers
   pub items-below : (names : List (List ℕ)) (t : Term) → IsBuiltTerm t → ArePlaced names (atoms_of t) → AreBelow (length names) (items_of names t)
@@ -41,7 +46,7 @@ mutual
       (items-below names t b.1 (placed-back names (atoms_of_all ts) (atoms_of t) p))
   items-below names (Tuple ts) b p = (tt, all-below names ts b p)
   items-below names (Map ps) b p = (tt, pairs-below names ps b p)
-  items-below names (Bin bytes) b p = absurd b
+  items-below names (Bin bytes) b p = (tt, bytes-below (length names) bytes)
 
   pub listed-below : (names : List (List ℕ)) (ts : Terms) (tail : List Item) → AreBuiltTerms ts → ArePlaced names (atoms_of_all ts) → AreBelow (length names) tail
       → AreBelow (length names) (listed_items names ts tail)

@@ -1,21 +1,24 @@
 -- From what a line says to the step that it comes to.
-use Rattle.std.proofs.Common.{◌≡◌, ℕ, ◌<◌, ◌≤◌, ◌⊎◌, inl, inr, Bool, true, false, cond, List, [], ◌∷◌, ◌++◌, length, take, refl, sym, ap, subst, ◌∙◌, append-nil, arith}
+use Rattle.std.proofs.Common.{◌≡◌, ℕ, ◌<◌, ◌≤◌, ◌⊎◌, inl, inr, Bool, true, false, cond, List, [], ◌∷◌, ◌++◌, length, map, take, refl, sym, ap, subst, ◌∙◌, append-nil, arith}
 use Rattle.atom_names.specs.Names.{most_names}
 use Rattle.plain_term.specs.declared.item.Item.{Item}
+use Rattle.plain_term.specs.declared.item.Item.TheVariants as item
 use Rattle.script_grammar.specs.declared.command.Command.{Command}
 use Rattle.script_grammar.specs.declared.command.Command.TheVariants.{Nothing as NoCommand, Process, System}
 use Rattle.script_grammar.specs.declared.command.Verb.TheVariants.{Info, Heap}
 use Rattle.script_grammar.specs.declared.command.SysVerb.TheVariants.{Counts, Dump}
 use Rattle.script_grammar.specs.declared.refusal.Refusal.{Refusal}
 use Rattle.script_grammar.specs.declared.refusal.Refusal.TheVariants.{Atoms, Syntax}
-use Rattle.script_grammar.specs.Written.{Written, Term}
+use Rattle.script_grammar.specs.Written.{Written, Term, joined}
+use Rattle.script_grammar.specs.Written.Terms.{end}
 use Rattle.script_grammar.specs.declared.word.Word.TheVariants as word
 use Rattle.script_grammar.specs.Written.Written.{Nothing, OfProcess, OfSystem}
 use Rattle.script_grammar.specs.Grammar.{Says, IsAllowed, IsBuilt}
-use Rattle.script_grammar.specs.Names.{Parsed, parsed_of, names_after, command_of, terms_of, all_atoms, all_items, items_of, atoms_of, with_names}
+use Rattle.script_grammar.specs.Names.{Parsed, parsed_of, names_after, command_of, terms_of, all_atoms, all_items, items_of, atoms_of, held_terms, with_names}
 use Rattle.plain_machine.specs.State.{State}
 use Rattle.plain_machine.specs.Step.{is_printing}
 use Rattle.plain_machine.specs.Maps.{is_map}
+use Rattle.plain_machine.proofs.Living.{joined-end}
 use Rattle.plain_machine.proofs.Printing.{prints-none}
 use Rattle.script_grammar.specs.ReadAs.{IsRead, IsOutside, BringsTooMany}
 use Rattle.plain_machine.specs.Run.{CommandStep}
@@ -26,11 +29,19 @@ use Rattle.script_parse.specs.Parses.{Reads as Parsing}
 use Rattle.script_parse.proofs.OneLine.{one_line}
 use Rattle.engine.specs.declared.reply.Reply.{Reply}
 use Rattle.engine.specs.declared.reply.Reply.TheVariants.{Refused}
-use Rattle.engine.specs.Replies.{Shown, reply_lines, ends_script}
+use Rattle.engine.specs.Replies.{AllowsMap, Shown, reply_lines, ends_script}
 use Rattle.engine.specs.Rules.{Supply, After}
 use Rattle.engine.specs.Acts.{Acts, Fits, HasCode, TermsFit, Takes, TellsMap, StandsWith, names_left}
-use Rattle.script_grammar.proofs.Naming.{ArePlaced, with-names-placed, with-names-more, names-back, names-longer, placed-front}
+use Rattle.script_grammar.proofs.Naming.{ArePlaced, with-names-placed, with-names-more, names-back, names-longer, placed-front, number-below}
 use Rattle.engine.proofs.Naming.{AreBelow, items-below, below-all}
+
+-- the items of an environment are its registers
+held-items : (names : List (List ℕ)) (rs : List ℕ) → all_items names (held_terms rs) ≡ map item.Held rs
+held-items names [] = refl
+held-items names (r ∷ rs) = ap (λ z. item.Held r ∷ z) (held-items names rs)
+
+env-items : (names : List (List ℕ)) (rs : List ℕ) (code : List Item) → code ≡ all_items names (joined (held_terms rs) end) → code ≡ map item.Held rs
+env-items names rs code e = e ∙ (ap (all_items names) (joined-end (held_terms rs)) ∙ held-items names rs)
 
 -- the code of a line that builds is its term
 pub has-code : (names : List (List ℕ)) (w : Written) (code : List Item) → IsAllowed w → IsBuilt w → code ≡ all_items names (terms_of w) → length code ≤ MOST_ITEMS
@@ -44,18 +55,29 @@ has-code names (OfProcess n word.Set ops) code a b e few p =
       named = below-all (length names) code (subst (AreBelow (length names)) items (items-below names t b.1.1.0 (placed-front names (atoms_of t) [] p)));
       few = few;
     }
+has-code names (OfProcess n word.Fun ops) code a b e few p = (
+  record { registers = ops.1.1.1.0; items = env-items names (ops.1.1.1.0) code e; held = (a.1.1.1.1.0).0; few = (a.1.1.1.1.0).1 },
+  number-below names (ops.1.0) (p.0),
+)
 has-code names (OfProcess n _ ops) code a b e few p = tt
 has-code names (OfSystem w ops) code a b e few p = tt
 has-code names Nothing code a b e few p = tt
 
 -- its terms are the one of its code
-pub terms-fit : (names : List (List ℕ)) (w : Written) (code : List Item) → IsAllowed w → IsBuilt w → code ≡ all_items names (terms_of w) → TermsFit (command_of names w) names code (terms_of w)
-terms-fit names (OfProcess n word.Set ops) code a b e =
+pub terms-fit : (names : List (List ℕ)) (w : Written) (code : List Item) → IsAllowed w → IsBuilt w → code ≡ all_items names (terms_of w) → ArePlaced names (all_atoms w)
+    → TermsFit (command_of names w) names code (terms_of w)
+terms-fit names (OfProcess n word.Set ops) code a b e p =
     let t : Term = ops.1.0 in
     (t, refl, record { items = sym (e ∙ append-nil (items_of names t)); allowed = a.1.1.0; built = b.1.1.0 })
-terms-fit names (OfProcess n _ ops) code a b e = tt
-terms-fit names (OfSystem w ops) code a b e = tt
-terms-fit names Nothing code a b e = tt
+terms-fit names (OfProcess n word.Fun ops) code a b e p = record {
+  registers = ops.1.1.1.0;
+  items = env-items names (ops.1.1.1.0) code e;
+  written = joined-end (held_terms (ops.1.1.1.0));
+  known = number-below names (ops.1.0) (p.0);
+}
+terms-fit names (OfProcess n _ ops) code a b e p = tt
+terms-fit names (OfSystem w ops) code a b e p = tt
+terms-fit names Nothing code a b e p = tt
 
 -- what a parse tells, without its record
 pub record Told (line : List ℕ) (names : List (List ℕ)) (c : Command) (after : List (List ℕ)) (code : List Item) (w : Written) : Type 0 where
@@ -106,7 +128,8 @@ module _ (line : List ℕ) (before : List (List ℕ)) (c : Command) (after : Lis
   -- so are its terms, and its names are those before it with more
   pub told-fits : (items : List Item) (s : State) → items ≡ code → before ≡ s.names → Fits c after items (terms_of w) s
   told-fits items s e same = subst (λ z. Fits c after z (terms_of w) s) (sym e) (record {
-    term = let P : Command → Type 0 = λ z. TermsFit z after code (terms_of w) in subst P (sym t.command) (terms-fit after w code t.says.allowed t.built t.code_is);
+    term = let P : Command → Type 0 = λ z. TermsFit z after code (terms_of w) in subst P (sym t.command) (terms-fit after w code t.says.allowed t.built t.code_is
+        (subst (λ z. ArePlaced z (all_atoms w)) (sym t.names_are) (with-names-placed before (all_atoms w))));
     longer = let m = with-names-more before (all_atoms w) in record { more = m.0; are = t.names_are ∙ m.1 ∙ ap (λ z. z ++ m.0) same };
   })
 
@@ -149,7 +172,7 @@ module _ (line : List ℕ) (before : List (List ℕ)) (c : Command) (after : Lis
     takes-done h = record {
       new = a.new;
       stands = (a.stands, left-all reply h ∙ sym a.names);
-      steps = record { reading = Means (said c (terms_of w) after); reads = reads; follows = a.steps };
+      steps = λ m. record { reading = Means (said c (terms_of w) after); reads = reads; follows = a.steps m };
       maps = λ p r. let P : Parsed → Type 0 = λ z. TellsMap s z (text after) (reply_lines reply (seen after)) in subst P (read-one p r) a.maps;
     }
 
@@ -158,15 +181,18 @@ module _ (line : List ℕ) (before : List (List ℕ)) (c : Command) (after : Lis
     takes-refused e names k back = record {
       new = a.new;
       stands = (a.stands, back ∙ same ∙ sym (a.names ∙ ap (λ x. names_left x s (said c (terms_of w) after)) k));
-      steps = record {
+      steps = λ m. record {
         reading = Means (said c (terms_of w) after);
         reads = reads;
-        follows = subst (λ z. CommandStep supply.may supply.words s (said c (terms_of w) after) (ends_script reply) z a.new) (lines names) a.steps;
+        follows = subst (λ z. CommandStep supply.may supply.words s (said c (terms_of w) after) (ends_script reply) z a.new) (lines names) (a.steps (no-map));
       };
       maps = λ p r. let P : Parsed → Type 0 = λ z. TellsMap s z (text names) (reply_lines reply (seen names)) in
           subst P (read-one p r) (λ m o. sym (lines names) ∙ a.maps m o ∙ ap (λ z. text z c ∷ []) (told-same (map-prints c m) ∙ sym back));
     }
       where
+        no-map : AllowsMap reply (seen after)
+        no-map = subst (λ x. AllowsMap x (seen after)) (sym k) tt
+
         lines : (names : List (List ℕ)) → reply_lines reply (seen after) ≡ reply_lines reply (seen names)
         lines names = ap (λ x. reply_lines x (seen after)) k
             ∙ sym (ap (λ x. reply_lines x (seen names)) k)
@@ -180,7 +206,7 @@ takes-nothing supply s line e before names after st same (inl h) out over =
     subst P (sym h) (record {
       new = s;
       stands = (st.0, same ∙ st.1);
-      steps = record { reading = NoSyntax; reads = out h; follows = record { goes_on = refl; said = refl; same = refl } };
+      steps = λ m. record { reading = NoSyntax; reads = out h; follows = record { goes_on = refl; said = refl; same = refl } };
       maps = λ p r. absurd (out h r.written r.says r.built);
     })
 takes-nothing supply s line e before names after st same (inr h) out over =
@@ -189,7 +215,7 @@ takes-nothing supply s line e before names after st same (inr h) out over =
     subst P (sym h) (record {
       new = s;
       stands = (st.0, same ∙ st.1);
-      steps = record { reading = NoAtoms; reads = many; follows = record { goes_on = refl; said = refl; same = refl } };
+      steps = λ m. record { reading = NoAtoms; reads = many; follows = record { goes_on = refl; said = refl; same = refl } };
       maps = λ p r. absurd (not-both s.names line p r many);
     })
   where

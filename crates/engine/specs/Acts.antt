@@ -1,9 +1,10 @@
 -- What doing a line leaves, before its reply is written.
-use Rattle.std.specs.Prelude.{ℕ, ◌≡◌, true, if◌then◌else◌, List, [], ◌∷◌}
+use Rattle.std.specs.Prelude.{ℕ, ◌≡◌, ◌<◌, Bool, true, false, if◌then◌else◌, List, [], ◌∷◌, length}
 use Rattle.plain_term.specs.declared.item.Item.{Item}
 use Rattle.script_grammar.specs.declared.command.Command.{Command}
 use Rattle.script_grammar.specs.declared.command.Command.TheVariants.{Process}
-use Rattle.script_grammar.specs.declared.command.Verb.TheVariants.{Set}
+use Rattle.script_grammar.specs.declared.command.Verb.{Verb}
+use Rattle.script_grammar.specs.declared.command.Verb.TheVariants.{Set, Choose, MapPut, Fill, Fun, Ref, Own, Repeat}
 use Rattle.script_grammar.specs.Written.{Term, Terms}
 use Rattle.script_grammar.specs.Names.{Parsed}
 use Rattle.script_grammar.specs.ReadAs.{IsRead}
@@ -12,24 +13,38 @@ use Rattle.plain_machine.specs.Step.{step, is_printing}
 use Rattle.plain_machine.specs.Step.Outcome.{Mapped}
 use Rattle.plain_machine.specs.Run.{CommandStep, TextStep}
 use Rattle.plain_machine.specs.Maps.{is_map}
-use Rattle.space_api.specs.Calls.{HasTerm, IsTerm, one_term}
+use Rattle.space_api.specs.Calls.{HasEnv, HasTerm, IsEnv, IsTerm, one_term}
 use Rattle.engine.specs.declared.reply.Reply.{Reply}
 use Rattle.engine.specs.declared.reply.Reply.TheVariants.{Refused}
-use Rattle.engine.specs.Replies.{Shown, reply_lines, ends_script}
+use Rattle.engine.specs.Replies.{AllowsMap, Shown, reply_lines, ends_script}
 use Rattle.engine.specs.Rules.{Supply, After}
 
 -- The space stands for the state, and these are its names.
 abbrev pub StandsWith : (stands : State → Type 0) (names : List (List ℕ)) → State → Type 0
 StandsWith stands names s = stands s × (names ≡ s.names)
 
--- The code of a command that builds is one written term.
+-- The verbs that put a new term, or a part of one, in a register.
+abbrev pub makes_term : Verb → Bool
+makes_term (Set r) = true
+makes_term (Choose r m how) = true
+makes_term (MapPut r m k v) = true
+makes_term (Fill r len byte) = true
+makes_term (Fun r name arity) = true
+makes_term (Ref r) = true
+makes_term (Own r) = true
+makes_term (Repeat r shape n m) = true
+makes_term _ = false
+
+-- The code of a command that builds is one written term; that of one that makes a fun is its environment, and its name is known.
 abbrev pub HasCode : Command → List (List ℕ) → List Item → Type 0
 HasCode (Process number (Set r)) names code = HasTerm names code
+HasCode (Process number (Fun r name arity)) names code = IsEnv code × (name < length names)
 HasCode _ names code = Unit {0}
 
--- The terms of a command that builds are the one that its code is the prefix form of.
+-- The terms of a command that builds are the one that its code is the prefix form of, or the registers of its environment.
 abbrev pub TermsFit : Command → List (List ℕ) → List Item → Terms → Type 0
 TermsFit (Process number (Set r)) names code terms = (t : Term) × (terms ≡ one_term t) × IsTerm names code t
+TermsFit (Process number (Fun r name arity)) names code terms = HasEnv names name code terms
 TermsFit _ names code terms = Unit {0}
 
 -- The command's terms fit to its code, and its names are those of the state with more.
@@ -50,19 +65,22 @@ TellsMap s p text replies = is_map p.command ≡ true → step s p ≡ Mapped �
 abbrev pub shown : After → State → List (List ℕ) → Shown
 shown after s names = record { state = s; names = names; text = after.text }
 
--- The command was done: a state is stood for to which, and to the lines of the reply, the machine steps.
+-- The command was done: a state is stood for to which, and to the lines of the reply, the machine steps, where a map of the
+-- store is an allowed one.
 pub record Acts (supply : Supply) (s : State) (p : Parsed) (reply : Reply) (after : After) : Type 0 where
   pub new : State
   pub stands : after.stands new
   pub names : new.names ≡ names_left reply s p
-  pub steps : CommandStep supply.may supply.words s p (ends_script reply) (reply_lines reply (shown after new p.names)) new
+  pub steps : AllowsMap reply (shown after new p.names)
+      → CommandStep supply.may supply.words s p (ends_script reply) (reply_lines reply (shown after new p.names)) new
   pub maps : TellsMap s p after.text (reply_lines reply (shown after new p.names))
 
--- The line was done.
+-- The line was done. A map of the store is allowed once it is written.
 pub record Takes (supply : Supply) (s : State) (line : List ℕ) (reply : Reply) (after : After) (names : List (List ℕ)) : Type 0 where
   pub new : State
   pub stands : StandsWith after.stands names new
-  pub steps : TextStep supply.may supply.words s line (ends_script reply) (reply_lines reply (shown after new names)) new
+  pub steps : AllowsMap reply (shown after new names)
+      → TextStep supply.may supply.words s line (ends_script reply) (reply_lines reply (shown after new names)) new
   pub maps : (p : Parsed) → IsRead s.names line p → TellsMap s p after.text (reply_lines reply (shown after new names))
 
 -- What holds where the reply is a refusal.

@@ -1,8 +1,9 @@
 -- What each kind of reply writes.
 use Rattle.std.specs.Prelude.{ℕ, ◌≡◌, ◌≤◌, Bool, true, false, List, [], ◌∷◌, ◌++◌, codes, decimal, length, Result, Ok, Err}
 use Rattle.script_grammar.specs.declared.command.Command.{Command}
-use Rattle.script_grammar.specs.declared.command.Command.TheVariants.{Process}
+use Rattle.script_grammar.specs.declared.command.Command.TheVariants.{Process, System}
 use Rattle.script_grammar.specs.declared.command.Verb.{Verb}
+use Rattle.script_grammar.specs.declared.command.SysVerb.TheVariants.{Counts as CountsVerb}
 use Rattle.script_grammar.specs.declared.refusal.Refusal.{Refusal}
 use Rattle.script_grammar.specs.Written.Terms.{end}
 use Rattle.script_grammar.specs.Grammar.{is_built, word_of}
@@ -10,12 +11,12 @@ use Rattle.script_grammar.specs.Names.{HasRegisters}
 use Rattle.plain_machine.specs.State.{State}
 use Rattle.plain_machine.specs.Step.{Outcome, step, is_printing_verb, procs_text}
 use Rattle.plain_machine.specs.Step.Outcome.{Accepted, Refused as IsRefused, Mapped}
-use Rattle.plain_machine.specs.Maps.{is_map}
+use Rattle.plain_machine.specs.Maps.{is_map, IsMapOf}
 use Rattle.plain_machine.specs.Run.{refusal_text}
 use Rattle.space_api.specs.declared.space.Seat.{Seat}
 use Rattle.space_api.specs.Calls.{said}
 use Rattle.engine.specs.declared.reply.Reply.{Reply}
-use Rattle.engine.specs.declared.reply.Reply.TheVariants.{Nothing, Done, Spawned, Numbers, Told, Quit, Refused}
+use Rattle.engine.specs.declared.reply.Reply.TheVariants.{Nothing, Done, Spawned, Numbers, Counts, Told, Quit, Refused}
 
 -- What replies are read from: a state, the names, and the text of the store for each map line.
 pub record Shown : Type 0 where
@@ -35,9 +36,15 @@ reply_lines Nothing x = []
 reply_lines Done x = codes "ok" ∷ []
 reply_lines (Spawned n) x = (codes "ok " ++ decimal n) ∷ []
 reply_lines Numbers x = procs_text x.state ∷ []
+reply_lines Counts x = x.text (System CountsVerb) ∷ []
 reply_lines (Told seat verb) x = outcome_text (step x.state (said (Process seat.pid verb) end x.names)) ∷ []
 reply_lines Quit x = codes "ok" ∷ []
 reply_lines (Refused e) x = refusal_text e ∷ []
+
+-- A map of the store is one that its line may be answered by.
+abbrev pub AllowsMap : Reply → Shown → Type 0
+AllowsMap Counts x = IsMapOf (System CountsVerb) x.state (x.text (System CountsVerb))
+AllowsMap _ x = Unit {0}
 
 -- The verb is built, and tells something of a process that is no map of its store.
 pub record CanTell (verb : Verb) : Type 0 where
@@ -46,9 +53,10 @@ pub record CanTell (verb : Verb) : Type 0 where
   pub no_map : is_map (Process 0 verb) ≡ false
   pub registers : HasRegisters verb
 
--- A process of which something is told is seated, with names for all its atoms.
+-- A process of which something is told is seated, and there are names for all atoms that are written.
 abbrev pub CanReply : {S : Type 0} → (sits : S → Seat → Type 0) (named : S → ℕ) (space : S) (names : List (List ℕ)) → Reply → Type 0
 CanReply sits named space names (Told seat verb) = sits space seat × CanTell verb × (named space ≤ length names)
+CanReply sits named space names Counts = named space ≤ length names
 CanReply sits named space names _ = Unit {0}
 
 -- The reply to a call's answer: a value is said in its way, a refusal is one.

@@ -2,14 +2,14 @@ ghost use Rattle.std.specs.Prelude.{◌≡◌, ℕ, ◌<◌, ◌≤◌, List, le
 ghost use Rattle.script_grammar.specs.declared.command.Command.{Command};
 ghost use Rattle.script_grammar.specs.declared.command.Command.TheVariants.{Process, System};
 ghost use Rattle.script_grammar.specs.Grammar.{IsBuiltCommand};
-ghost use Rattle.script_grammar.specs.Names.{HasRegisters, IsInBounds};
+ghost use Rattle.script_grammar.specs.Names.{HasName, HasRegisters, IsInBounds};
 ghost use Rattle.script_grammar.specs.Written.{Terms};
 ghost use Rattle.plain_term.specs.declared.item.Item.{Item};
 ghost use Rattle.plain_machine.specs.State.{State};
 ghost use Rattle.plain_machine.specs.Step.{is_printing};
 ghost use Rattle.space_api.specs.Calls.{KeepsBooks, most_calls, said};
 ghost use Rattle.engine.specs.Replies.{CanReply, reply_of};
-ghost use Rattle.engine.specs.Acts.{Acts, Fits, HasCode, OnRefused};
+ghost use Rattle.engine.specs.Acts.{Acts, Fits, HasCode, OnRefused, makes_term};
 
 use crate::reply::Reply;
 use atom_names::AtomNames;
@@ -37,17 +37,36 @@ fn spawned(answer: Result<u64, Refusal>) -> Reply
     }
 }
 
-/// Does a verb at a live process. One that changes nothing is told when the reply is written.
-fn act_in<S: Space>(
+/// Whether a verb puts a new term, or a part of one, in a register.
+fn makes_term(verb: Verb) -> bool
+    ensures { result ≡ makes_term verb }
+{
+    matches!(
+        verb,
+        Verb::Set(_)
+            | Verb::Choose(_, _, _)
+            | Verb::MapPut(_, _, _, _)
+            | Verb::Fill(_, _, _)
+            | Verb::Fun(_, _, _)
+            | Verb::Ref(_)
+            | Verb::Own(_)
+            | Verb::Repeat(_, _, _, _)
+    )
+}
+
+/// Puts the term that a verb makes in its register.
+fn make_term<S: Space>(
     space: &mut S,
     names: &AtomNames,
     seat: Seat,
     verb: Verb,
     code: &[Item],
 ) -> Reply
+    requires makes { makes_term verb ≡ true }
     requires sits { S.sits space.old seat }
     requires built { IsBuiltCommand (Process seat.pid verb) }
     requires registers { HasRegisters verb }
+    requires name { HasName verb }
     requires calls { S.calls space.old < most_calls }
     requires named { S.named space.old ≤ length names.now }
     requires code { HasCode (Process seat.pid verb) names.now code.now }
@@ -63,12 +82,45 @@ fn act_in<S: Space>(
         Verb::Set(r) => done(space.build(names, seat, r, code)),
         Verb::Choose(r, s, how) => done(space.pick(names, seat, r, s, how)),
         Verb::MapPut(r, s, k, v) => done(space.map_put(names, seat, r, s, k, v)),
+        Verb::Fill(r, len, byte) => done(space.fill(seat, r, len, byte)),
+        Verb::Fun(r, name, arity) => done(space.make_fun(seat, r, name, arity, code)),
         Verb::Ref(r) => done(space.make_ref(seat, r)),
         Verb::Repeat(r, shape, n, s) => done(space.repeat(seat, r, shape, n, s)),
         Verb::Own(r) => {
             space.own_pid(seat, r);
             Reply::Done
         }
+        _ => unreachable!(),
+    }
+}
+
+/// Does a verb at a live process. One that changes nothing is told when the reply is written.
+fn act_in<S: Space>(
+    space: &mut S,
+    names: &AtomNames,
+    seat: Seat,
+    verb: Verb,
+    code: &[Item],
+) -> Reply
+    requires sits { S.sits space.old seat }
+    requires built { IsBuiltCommand (Process seat.pid verb) }
+    requires registers { HasRegisters verb }
+    requires name { HasName verb }
+    requires calls { S.calls space.old < most_calls }
+    requires named { S.named space.old ≤ length names.now }
+    requires code { HasCode (Process seat.pid verb) names.now code.now }
+    ensures acts { (s : State) (terms : Terms) → S.stands space.old s → Fits (Process seat.pid verb) names.now code.now terms s
+        → Acts (record { may = S.may; words = S.words space.old }) s (said (Process seat.pid verb) terms names.now) result
+        (record { stands = S.stands space.new; text = S.text space.new names.now }) }
+    ensures can { CanReply S.sits S.named space.new names.now result }
+    ensures books { KeepsBooks S.words S.calls S.named space.old space.new (length names.now) }
+    ensures refused { OnRefused result (S.named space.new ≤ S.named space.old) }
+    ensures leaves { is_printing (Process seat.pid verb) ≡ true → space.new ≡ space.old }
+{
+    if makes_term(verb) {
+        return make_term(space, names, seat, verb, code);
+    }
+    match verb {
         Verb::Push(r) => done(space.push(seat, r)),
         Verb::Pop(r) => done(space.pop(seat, r)),
         Verb::Gc(depth) => {
@@ -103,6 +155,7 @@ fn act_system<S: Space>(space: &mut S, names: &AtomNames, verb: SysVerb) -> Repl
             Reply::Done
         }
         SysVerb::Procs => Reply::Numbers,
+        SysVerb::Counts => Reply::Counts,
         SysVerb::Quit => Reply::Quit,
         _ => unreachable!(),
     }

@@ -9,7 +9,7 @@ ghost use Rattle.line_io.specs.Lines.{text, long};
 ghost use Rattle.line_io.specs.Sink.{Written};
 ghost use Rattle.line_io.specs.declared.reader.TheConstants.{LONGEST_LINE};
 ghost use Rattle.space_api.specs.Calls.{KeepsBooks, most_calls};
-ghost use Rattle.engine.specs.Replies.{CanReply, ends_script, reply_lines};
+ghost use Rattle.engine.specs.Replies.{AllowsMap, CanReply, ends_script, reply_lines};
 ghost use Rattle.engine.specs.Acts.{StandsWith, Takes};
 ghost use Rattle.engine.specs.Steps.{StepWrites, Steps, TellsQuit};
 
@@ -74,6 +74,8 @@ fn send<S: Space, K: Sink>(
     ensures sent { (s : State) → S.stands space.now s
         → Written K.wrote K.faults sink.old sink.new
         (replies_text (reply_lines reply (record { state = s; names = names.now; text = S.text space.now names.now }))) result }
+    ensures allowed { (s : State) → S.stands space.now s → names.now ≡ s.names
+        → AllowsMap reply (record { state = s; names = names.now; text = S.text space.now names.now }) }
 {
     let mut gathered = Gathered::new(sink);
     put_reply(space, names, reply, &mut gathered)?;
@@ -87,6 +89,8 @@ fn answer<S: Space, K: Sink>(m: &Machine<S>, reply: Reply, sink: &mut K) -> Step
     ensures writes { (s : State) → S.stands m.now.space s
         → StepWrites (record { wrote = K.wrote; faults = K.faults; before = sink.old; after = sink.new })
         (replies_text (reply_lines reply (record { state = s; names = m.now.names; text = S.text m.now.space m.now.names }))) result }
+    ensures allowed { (s : State) → S.stands m.now.space s → m.now.names ≡ s.names
+        → AllowsMap reply (record { state = s; names = m.now.names; text = S.text m.now.space m.now.names }) }
     ensures later { (s : State) → S.stands m.now.space s → K.faults sink.old ≤ K.faults sink.new }
 {
     if let Err(SinkFault) = send(&m.space, &m.names, reply, sink) {

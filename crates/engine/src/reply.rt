@@ -4,9 +4,12 @@ ghost use Rattle.plain_machine.specs.Run.{replies_text};
 ghost use Rattle.plain_machine.specs.State.{State};
 ghost use Rattle.plain_machine.specs.Step.{eq_text, cmp_text};
 ghost use Rattle.script_grammar.specs.declared.command.Command.{Command};
+ghost use Rattle.script_grammar.specs.declared.command.Command.TheVariants.{System};
+ghost use Rattle.script_grammar.specs.declared.command.SysVerb.TheVariants as sysverb;
 ghost use Rattle.script_grammar.specs.declared.command.Verb.TheVariants.{Print, Eq, Cmp, Flat};
 ghost use Rattle.line_io.specs.Sink.{Writes};
-ghost use Rattle.engine.specs.Replies.{reply_lines, CanReply};
+ghost use Rattle.engine.specs.Replies.{AllowsMap, CanReply, reply_lines};
+ghost use Rattle.engine.specs.Writing.{end_of_line};
 
 use crate::numbers::put_numbers;
 use crate::texts::{put_counted, put_line, put_refusal};
@@ -23,6 +26,8 @@ pub(crate) enum Reply {
     Done,
     Spawned(u64),
     Numbers,
+    /// The map of the store with all counts.
+    Counts,
     /// What a verb that prints tells of a process.
     Told(Seat, Verb),
     Quit,
@@ -141,6 +146,24 @@ fn put_flat<S: Space, K: Sink>(
     }
 }
 
+/// Writes the line of all counts.
+fn put_counts<S: Space, K: Sink>(
+    space: &S,
+    names: &AtomNames,
+    sink: &mut K,
+) -> Result<(), SinkFault>
+    requires can { CanReply S.sits S.named space.now names.now Reply.Counts }
+    ensures writes { Writes K.wrote sink.old sink.new result (end_of_line (S.text space.now names.now (System sysverb.Counts))) }
+    ensures allowed { (s : State) → S.stands space.now s → names.now ≡ s.names
+        → AllowsMap Reply.Counts (record { state = s; names = names.now; text = S.text space.now names.now }) }
+    ensures later { K.faults sink.old ≤ K.faults sink.new }
+    ensures rose { OnErr result (Rose (K.faults sink.old) (K.faults sink.new)) }
+    ensures told { OnOk result (K.faults sink.new ≡ K.faults sink.old) }
+{
+    space.counts(names, sink)?;
+    put_all(sink, b"\n")
+}
+
 /// Writes the line of what a verb that prints tells.
 fn put_told<S: Space, K: Sink>(
     space: &S,
@@ -177,6 +200,8 @@ pub(crate) fn put_reply<S: Space, K: Sink>(
     ensures writes { (s : State) → S.stands space.now s
         → Writes K.wrote sink.old sink.new result
         (replies_text (reply_lines reply (record { state = s; names = names.now; text = S.text space.now names.now }))) }
+    ensures allowed { (s : State) → S.stands space.now s → names.now ≡ s.names
+        → AllowsMap reply (record { state = s; names = names.now; text = S.text space.now names.now }) }
     ensures later { K.faults sink.old ≤ K.faults sink.new }
     ensures rose { OnErr result (Rose (K.faults sink.old) (K.faults sink.new)) }
     ensures told { OnOk result (K.faults sink.new ≡ K.faults sink.old) }
@@ -186,6 +211,7 @@ pub(crate) fn put_reply<S: Space, K: Sink>(
         Reply::Done => put_line(b"ok", sink),
         Reply::Spawned(n) => put_counted(b"ok ", n, sink),
         Reply::Numbers => put_numbers(space, sink),
+        Reply::Counts => put_counts(space, names, sink),
         Reply::Told(seat, verb) => put_told(space, names, seat, verb, sink),
         Reply::Quit => put_line(b"ok", sink),
         Reply::Refused(refusal) => put_refusal(refusal, sink),

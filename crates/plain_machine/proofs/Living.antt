@@ -25,7 +25,7 @@ use Rattle.plain_machine.proofs.Commands.{LeavesProper, TermsOf, command-does}
 has-names : (s : State) (w : Written) → HasNames s (names_after s.names w)
 has-names s w = let m : (more : List (List ℕ)) × (names_after s.names w ≡ s.names ++ more) = with-names-more s.names (all_atoms w) in record { more = m.0; are = m.1 }
 
-joined-end : (ts : Terms) → joined ts end ≡ ts
+pub joined-end : (ts : Terms) → joined ts end ≡ ts
 joined-end end = refl
 joined-end (t ▹ ts) = ap (λ z. t ▹ z) (joined-end ts)
 
