@@ -11,4 +11,5 @@ pub mod Run
 pub mod Laws
 pub mod Image
 pub mod Examples
+pub mod Scripts
 pub mod Figures
