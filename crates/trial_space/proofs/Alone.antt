@@ -1,5 +1,6 @@
 -- Trees of items that stand alone: they have no parts, and are within the walk limit.
-use Rattle.std.proofs.Common.{◌≡◌, ℕ, ℤ, false, List, [], None, refl, sym, ap, ◌∙◌}
+use Rattle.std.proofs.Common.{◌≡◌, ℕ, ℤ, false, List, [], ◌∷◌, ◌++◌, map, None, refl, sym, ap, ◌∙◌}
+use Rattle.std.specs.Prelude.{flat_map}
 use Rattle.std.specs.Ordering.{int_cmp, nat_cmp, ordering_then}
 use Rattle.std.specs.declared.cmp.Ordering.{Ordering}
 use Rattle.std.specs.declared.cmp.Ordering.TheVariants.{Less, Equal, Greater}
@@ -14,6 +15,7 @@ use Rattle.script_grammar.specs.declared.command.Pick.{Pick}
 use Rattle.script_grammar.specs.declared.command.Pick.TheVariants.{Hd, Tl, Elem, MapGet, Env, Part}
 use Rattle.plain_machine.specs.State.{Process}
 use Rattle.plain_machine.specs.Parts.{picked, pairs_in}
+use Rattle.plain_machine.specs.Tightness.{ids_in, funs_in}
 use Rattle.trial_space.specs.Items.{alone, item_rank, item_value, item_number, item_name}
 
 -- what holds of the four kinds of trees holds of an item's
@@ -31,8 +33,17 @@ no-part names shared q Hd x = by-kind (λ t. picked names shared q Hd t ≡ None
 no-part names shared q Tl x = by-kind (λ t. picked names shared q Tl t ≡ None) (λ i. refl) (λ k. refl) (λ n. refl) refl x
 no-part names shared q (Elem i) x = by-kind (λ t. picked names shared q (Elem i) t ≡ None) (λ i. refl) (λ k. refl) (λ n. refl) refl x
 no-part names shared q (MapGet r) x = by-kind (λ t. picked names shared q (MapGet r) t ≡ None) (λ i. refl) (λ k. refl) (λ n. refl) refl x
-no-part names shared q (Env i) x = refl
-no-part names shared q (Part offset len) x = refl
+no-part names shared q (Env i) x = by-kind (λ t. picked names shared q (Env i) t ≡ None) (λ i. refl) (λ k. refl) (λ n. refl) refl x
+no-part names shared q (Part offset len) x = by-kind (λ t. picked names shared q (Part offset len) t ≡ None) (λ i. refl) (λ k. refl) (λ n. refl) refl x
+
+-- no shared binary and no fun occurs in them
+pub no-ids : (xs : List Item) → flat_map ids_in (map alone xs) ≡ []
+no-ids [] = refl
+no-ids (x ∷ xs) = by-kind (λ t. ids_in t ++ flat_map ids_in (map alone xs) ≡ []) (λ i. no-ids xs) (λ k. no-ids xs) (λ n. no-ids xs) (no-ids xs) x
+
+pub no-funs : (xs : List Item) → flat_map funs_in (map alone xs) ≡ []
+no-funs [] = refl
+no-funs (x ∷ xs) = by-kind (λ t. funs_in t ++ flat_map funs_in (map alone xs) ≡ []) (λ i. no-funs xs) (λ k. no-funs xs) (λ n. no-funs xs) (no-funs xs) x
 
 pub no-pairs : (x : Item) → pairs_in (alone x) ≡ None
 no-pairs x = by-kind (λ t. pairs_in t ≡ None) (λ i. refl) (λ k. refl) (λ n. refl) refl x

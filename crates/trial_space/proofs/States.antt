@@ -1,6 +1,7 @@
 -- The state after each call.
-use Rattle.std.proofs.Common.{◌≡◌, ℕ, ◌+◌, ◌<◌, ◌≤◌, ◌==◌, ◌||◌, Bool, true, false, nat_lt, List, [], ◌∷◌, decimal}
+use Rattle.std.proofs.Common.{◌≡◌, ℕ, ◌+◌, ◌<◌, ◌≤◌, ◌==◌, ◌||◌, Bool, true, false, nat_lt, List, [], ◌∷◌, ◌++◌, length, replicate, codes, append-nil, decimal}
 use Rattle.std.proofs.Common.{map, get_or, set, Option, None, Some, Ok, Err, if◌then◌else◌, refl, sym, ◌∙◌, ap, subst, arith, inl, inr}
+use Rattle.std.specs.Prelude.{flat_map}
 use Rattle.std.specs.List.{find}
 use Rattle.std.specs.declared.cmp.Ordering.{Ordering}
 use Rattle.std.proofs.lemmas.Bool.Decides.{nat_tests}
@@ -8,7 +9,7 @@ use Rattle.std.proofs.lemmas.List.{map-set}
 use Rattle.plain_term.specs.declared.item.Item.{Item}
 use Rattle.plain_term.specs.declared.item.Item.TheVariants as item
 use Rattle.plain_term.specs.Tree.{Tree, Pairs}
-use Rattle.plain_term.specs.Tree.Tree.{Pid}
+use Rattle.plain_term.specs.Tree.Tree.{Pid, Fun}
 use Rattle.plain_term.specs.Beyond.{is_beyond}
 use Rattle.plain_term.specs.Measures.{flat, nodes}
 use Rattle.plain_term.specs.Order.{order}
@@ -17,7 +18,10 @@ use Rattle.script_grammar.specs.declared.command.Measure.{Measure}
 use Rattle.script_grammar.specs.declared.command.Pick.{Pick}
 use Rattle.script_grammar.specs.declared.command.Shape.{Shape}
 use Rattle.script_grammar.specs.declared.refusal.Refusal.{Refusal}
-use Rattle.plain_machine.specs.declared.limits.TheConstants.{MOST_PLACES}
+use Rattle.plain_machine.specs.declared.limits.TheConstants.{MOST_PLACES, MOST_FILL, MOST_ARITY, MOST_BYTE}
+use Rattle.plain_machine.specs.declared.costs.TheConstants.{COUNTED_COST}
+use Rattle.plain_machine.specs.Maps.{CountsOf, AllIn}
+use Rattle.line_io.specs.declared.reader.TheConstants.{LONGEST_LINE}
 use Rattle.plain_machine.specs.Made.{tree_of}
 use Rattle.plain_machine.specs.Flaws.{is_wide, is_big, flaw_of}
 use Rattle.plain_machine.specs.Parts.{picked, pairs_in, repeated}
@@ -27,17 +31,17 @@ use Rattle.script_grammar.specs.declared.command.Verb.TheVariants as verb
 use Rattle.script_grammar.specs.declared.command.Depth.{Depth}
 use Rattle.script_grammar.specs.declared.command.Reg.{Reg}
 use Rattle.script_grammar.specs.declared.refusal.Refusal.TheVariants as refusal
-use Rattle.script_grammar.specs.Written.{Term, Terms}
-use Rattle.script_grammar.specs.Names.{Parsed, items_of}
-use Rattle.plain_machine.specs.State.{Process, State, process_of, with_process, register, with_register}
-use Rattle.plain_machine.specs.Step.{Outcome, step, in_process, by_verb, settled, does, with_made, unless_flawed, choose, put_pair, repeat_if, tells, unless_beyond, order_text, flat_text}
-use Rattle.plain_machine.specs.Tightness.{grow, process_words, build_words, repeat_words}
+use Rattle.script_grammar.specs.Written.{Term, Terms, terms_len}
+use Rattle.script_grammar.specs.Names.{Parsed, items_of, held_terms}
+use Rattle.plain_machine.specs.State.{Process, Area, State, process_of, with_process, register, with_register}
+use Rattle.plain_machine.specs.Step.{Outcome, step, in_process, by_verb, settled, does, with_made, unless_flawed, choose, fill_if, fun_if, env_of, put_pair, repeat_if, tells, unless_beyond, order_text, flat_text}
+use Rattle.plain_machine.specs.Tightness.{grow, process_words, build_words, repeat_words, fill_words, ids_in, funs_in, held_trees, living_trees}
 use Rattle.plain_machine.specs.May.{gets_to_space}
 use Rattle.space_api.specs.declared.space.Seat.{Seat}
-use Rattle.space_api.specs.Calls.{Becomes, Follows, Passes, Tells, IsTerm, said, one_term}
+use Rattle.space_api.specs.Calls.{Becomes, Follows, Passes, Tells, HasEnv, IsTerm, said, one_term}
 use Rattle.trial_space.specs.Items.{TrialStands, TrialSits, alone, put_item, weight, one_process, processes_of}
 use Rattle.trial_space.proofs.Weights.{weight-term, held-alone, alone-is, no-flaw}
-use Rattle.trial_space.proofs.Alone.{near, no-part, no-pairs, one-node}
+use Rattle.trial_space.proofs.Alone.{near, no-part, no-pairs, no-ids, no-funs, one-node}
 
 lt-false : (m n : ℕ) → n ≤ m → nat_lt m n ≡ false
 lt-false m n h = grind (arith, nat_tests)
@@ -47,6 +51,34 @@ inside p q e = cc
 
 lt-true : (m n : ℕ) → m < n → nat_lt m n ≡ true
 lt-true m n h = grind (arith, nat_tests)
+
+pub code-few : (names : List (List ℕ)) (t : Term) (code : List Item) → IsTerm names code t → length code ≤ LONGEST_LINE → length (items_of names t) ≤ LONGEST_LINE
+code-few names t code is few = omega (arith, few, ap (λ (xs : List Item). length xs) is.items)
+
+-- No record is counted, for no shared binary and no fun lives.
+pub none-counted : (alive : Bool) (items : List Item) (s : State) → TrialStands alive items s → CountsOf s (codes "bins [] funs []")
+none-counted alive items s h = record {
+  bins = [];
+  funs = [];
+  said = refl;
+  rising = tt;
+  by_names = tt;
+  bins_occur = let P : List ℕ → Type 0 = λ z. AllIn z [] in subst P (sym (no-living ids_in (no-ids items))) (λ n i. i);
+  funs_occur = let P : List ℕ → Type 0 = λ z. AllIn z [] in subst P (sym (no-living funs_in (no-funs items))) (λ n i. i);
+  bins_exact = λ e. tt;
+  funs_exact = λ e. tt;
+}
+  where
+    of-processes : (f : Tree → List ℕ) (alive : Bool) → flat_map f (map alone items) ≡ [] → flat_map f (flat_map held_trees (processes_of alive items) ++ []) ≡ []
+    of-processes f false e = refl
+    of-processes f true e =
+        ap (flat_map f) (append-nil (flat_map held_trees (one_process items ∷ [])) ∙ append-nil (held_trees (one_process items)) ∙ append-nil (map alone items)) ∙ e
+
+    no-living : (f : Tree → List ℕ) → flat_map f (map alone items) ≡ [] → flat_map f (living_trees s) ≡ []
+    no-living f e =
+        ap (λ (qs : List Process). flat_map f (flat_map held_trees qs ++ flat_map (λ (a : Area). a.literals) s.areas)) h.processes
+        ∙ ap (λ (xs : List Area). flat_map f (flat_map held_trees (processes_of alive items) ++ flat_map (λ (a : Area). a.literals) xs)) h.areas
+        ∙ of-processes f alive e
 
 module _ (alive : Bool) (items : List Item) (s : State) (seat : Seat) (h : TrialStands alive items s) (l : TrialSits alive seat) where
   -- The process, where it lives, is the only one, and it is found by its number.
@@ -95,9 +127,9 @@ module _ (alive : Bool) (items : List Item) (s : State) (seat : Seat) (h : Trial
       inr (at-process (λ o. gets_to_space (OfProcess seat.pid v) o ≡ true) p v gets, ap refusal.NoSpace (sym (asks v terms names ∙ e)), h)
 
   -- `set`.
-  pub build-lacks : (r : Reg) (t : Term) (names : List (List ℕ)) (code : List Item) (n : ℕ) → IsTerm names code t → n + 1 ≡ weight code
+  pub build-lacks : (r : Reg) (t : Term) (names : List (List ℕ)) (code : List Item) (n : ℕ) → IsTerm names code t → length code ≤ LONGEST_LINE → n + 1 ≡ weight code
       → Becomes {A = Unit {0}} (λ words s p. gets_to_space p.command (step s p)) 0 s (said (OfProcess seat.pid (verb.Set r)) (one_term t) names) (Err (refusal.NoSpace n)) (TrialStands alive items)
-  build-lacks r t names code n is heavy = lacks (verb.Set r) (one_term t) names n (omega (arith, heavy, weight-term names t is.built, ap weight is.items))
+  build-lacks r t names code n is few heavy = lacks (verb.Set r) (one_term t) names n (omega (arith, heavy, weight-term names t (code-few names t code is few), ap weight is.items))
       (set-gets (is_big names (map alone items) t s.shared) (is_wide names (map alone items) t s.shared))
     where
       set-gets : (big wide : Bool) → gets_to_space (OfProcess seat.pid (verb.Set r)) (unless_flawed (flaw_of big wide)
@@ -106,10 +138,10 @@ module _ (alive : Bool) (items : List Item) (s : State) (seat : Seat) (h : Trial
       set-gets false true = refl
       set-gets false false = refl
 
-  pub build-holds : (r : Reg) (t : Term) (names : List (List ℕ)) (code : List Item) (d x : Item) → IsTerm names code t → x ≡ put_item items (get_or code 0 d) → weight code ≤ 1
+  pub build-holds : (r : Reg) (t : Term) (names : List (List ℕ)) (code : List Item) (d x : Item) → IsTerm names code t → length code ≤ LONGEST_LINE → x ≡ put_item items (get_or code 0 d) → weight code ≤ 1
       → Becomes {A = Unit {0}} (λ words s p. gets_to_space p.command (step s p)) 0 s (said (OfProcess seat.pid (verb.Set r)) (one_term t) names) (Ok tt) (TrialStands alive (set items r.0 x))
-  build-holds r t names code d x is put light =
-      let none : build_words t ≡ 0 = omega (arith, weight-term names t is.built, ap weight is.items) in
+  build-holds r t names code d x is few put light =
+      let none : build_words t ≡ 0 = omega (arith, weight-term names t (code-few names t code is few), ap weight is.items) in
       let single = alone-is names items LEVELS t s.shared d is.built is.allowed none in
       let first : alone (put_item items (get_or (items_of names t) 0 d)) ≡ alone x = ap (λ z. alone (put_item items (get_or z 0 d))) is.items ∙ ap alone (sym put) in
       let New : State → Type 0 = TrialStands alive (set items r.0 x) in
@@ -127,7 +159,55 @@ module _ (alive : Bool) (items : List Item) (s : State) (seat : Seat) (h : Trial
   in-register : (r : ℕ) → register r (one_process items) ≡ alone (get_or items r item.Nil)
   in-register r = held-alone items r
 
-  -- `hd`, `tl`, `elem`, `mapget`.
+  -- `fill`.
+  pub fill-refused : (r : Reg) (len byte : ℕ) (terms : Terms) (names : List (List ℕ)) → (nat_lt MOST_FILL len || nat_lt MOST_BYTE byte) ≡ true
+      → Follows {A = Unit {0}} (step s (said (OfProcess seat.pid (verb.Fill r len byte)) terms names)) s (Err refusal.BadArg) (TrialStands alive items)
+  fill-refused r len byte terms names bad =
+      let p : Parsed = said (OfProcess seat.pid (verb.Fill r len byte)) terms names in
+      let q : Process = one_process items in
+      let P : Bool → Type 0 = λ b. Follows {A = Unit {0}} (fill_if b (replicate len byte) s p q r.0) s (Err refusal.BadArg) (TrialStands alive items) in
+      at-process (λ o. Follows {A = Unit {0}} o s (Err refusal.BadArg) (TrialStands alive items)) p (verb.Fill r len byte) (subst P (sym bad) (refl, h))
+
+  pub fill-lacks : (r : Reg) (len byte : ℕ) (terms : Terms) (names : List (List ℕ)) → (nat_lt MOST_FILL len || nat_lt MOST_BYTE byte) ≡ false
+      → Becomes {A = Unit {0}} (λ words s p. gets_to_space p.command (step s p)) 0 s (said (OfProcess seat.pid (verb.Fill r len byte)) terms names)
+      (Err (refusal.NoSpace (fill_words len))) (TrialStands alive items)
+  fill-lacks r len byte terms names good = lacks (verb.Fill r len byte) terms names (fill_words len) refl (gets (nat_lt MOST_FILL len || nat_lt MOST_BYTE byte) good)
+    where
+      gets : (b : Bool) → b ≡ false → gets_to_space (OfProcess seat.pid (verb.Fill r len byte))
+          (fill_if b (replicate len byte) s (said (OfProcess seat.pid (verb.Fill r len byte)) terms names) (one_process items) r.0) ≡ true
+      gets true e = absurd (cc)
+      gets false e = refl
+
+  -- `fun`.
+  pub fun-refused : (r : Reg) (name arity : ℕ) (terms : Terms) (names : List (List ℕ)) → MOST_ARITY < arity
+      → Follows {A = Unit {0}} (step s (said (OfProcess seat.pid (verb.Fun r name arity)) terms names)) s (Err refusal.BadArg) (TrialStands alive items)
+  fun-refused r name arity terms names many =
+      let p : Parsed = said (OfProcess seat.pid (verb.Fun r name arity)) terms names in
+      let q : Process = one_process items in
+      let P : Bool → Type 0 = λ b. Follows {A = Unit {0}} (fun_if b (Fun name arity q.number (env_of s p q)) s p q r.0) s (Err refusal.BadArg) (TrialStands alive items) in
+      at-process (λ o. Follows {A = Unit {0}} o s (Err refusal.BadArg) (TrialStands alive items)) p (verb.Fun r name arity) (subst P (sym (lt-true MOST_ARITY arity many)) (refl, h))
+
+  held-count : (rs : List ℕ) → terms_len (held_terms rs) ≡ length rs
+  held-count [] = refl
+  held-count (x ∷ rs) = omega (arith, held-count rs)
+
+  held-items : (rs : List ℕ) → length (map item.Held rs) ≡ length rs
+  held-items [] = refl
+  held-items (x ∷ rs) = omega (arith, held-items rs)
+
+  pub fun-lacks : (r : Reg) (name arity n : ℕ) (env : List Item) (terms : Terms) (names : List (List ℕ)) → HasEnv names name env terms → n ≡ COUNTED_COST + length env → arity ≤ MOST_ARITY
+      → Becomes {A = Unit {0}} (λ words s p. gets_to_space p.command (step s p)) 0 s (said (OfProcess seat.pid (verb.Fun r name arity)) terms names) (Err (refusal.NoSpace n)) (TrialStands alive items)
+  fun-lacks r name arity n env terms names e count few =
+      lacks (verb.Fun r name arity) terms names n
+      (omega (arith, count, ap terms_len e.written, held-count e.registers, ap (λ (xs : List Item). length xs) e.items, held-items e.registers)) (gets (nat_lt MOST_ARITY arity) (lt-false MOST_ARITY arity few))
+    where
+      gets : (b : Bool) → b ≡ false → gets_to_space (OfProcess seat.pid (verb.Fun r name arity))
+          (fun_if b (Fun name arity (one_process items).number (env_of s (said (OfProcess seat.pid (verb.Fun r name arity)) terms names) (one_process items)))
+          s (said (OfProcess seat.pid (verb.Fun r name arity)) terms names) (one_process items) r.0) ≡ true
+      gets true e = absurd (cc)
+      gets false e = refl
+
+  -- `hd`, `tl`, `elem`, `mapget`, `part`, `env`.
   pub pick-refused : (r m : Reg) (how : Pick) (terms : Terms) (names : List (List ℕ))
       → Follows {A = Unit {0}} (step s (said (OfProcess seat.pid (verb.Choose r m how)) terms names)) s (Err refusal.BadArg) (TrialStands alive items)
   pick-refused r m how terms names =

@@ -1,5 +1,6 @@
 -- Items that stand alone, and the states that registers of them stand for.
-use Rattle.std.specs.Prelude.{ℕ, ◌≡◌, ◌+◌, ◌<◌, Bool, true, false, ℤ, pos, List, [], ◌∷◌, map, get_or}
+use Rattle.std.specs.Prelude.{ℕ, ◌≡◌, ◌+◌, ◌<◌, nat_le, if◌then◌else◌, Bool, true, false, ℤ, pos, List, [], ◌∷◌, map, get_or}
+use Rattle.line_io.specs.declared.reader.TheConstants.{LONGEST_LINE}
 use Rattle.plain_term.specs.declared.item.Item.{Item}
 use Rattle.plain_term.specs.declared.item.Item.TheVariants as item
 use Rattle.plain_term.specs.Tree.{Tree}
@@ -8,6 +9,7 @@ use Rattle.plain_term.specs.Measures.{int_flat}
 use Rattle.plain_term.specs.Order.{name_of}
 use Rattle.script_grammar.specs.declared.limits.TheConstants.{REGISTERS}
 use Rattle.plain_machine.specs.State.{Process, State}
+use Rattle.plain_machine.specs.Tightness.{fill_words}
 use Rattle.space_api.specs.declared.space.Seat.{Seat}
 
 -- The tree of an item that stands alone; an item that needs parts has none and is taken for nil.
@@ -17,11 +19,17 @@ alone (item.Atom k) = Atom k
 alone (item.Pid n) = Pid n
 alone _ = Nil
 
--- One for an item, and the words that it asks for beside its parts: two are counted for each part of a map.
+-- A number of bytes, no more than a line has.
+abbrev pub written_bytes : ℕ → ℕ
+written_bytes n = if nat_le n LONGEST_LINE then n else LONGEST_LINE
+
+-- One for an item that is no byte, and the words that it asks for beside its parts: two are counted for each part of a map.
 abbrev pub item_weight : Item → ℕ
 item_weight (item.Int i) = 1 + int_flat i
 item_weight (item.Tuple n) = 2
 item_weight (item.Map n) = 5
+item_weight (item.Bin n) = 1 + fill_words (written_bytes n)
+item_weight (item.Byte b) = 0
 item_weight _ = 1
 
 -- The weight of all items: for a written term one more than the words that it asks for.

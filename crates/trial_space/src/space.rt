@@ -7,11 +7,12 @@ ghost use Rattle.trial_space.specs.Items.{NamesRegister, put_item};
 
 use crate::comparing::item_order;
 use crate::printing::print_item;
-use crate::weight::{flat_alone, many_words, weigh};
+use crate::weight::{filled_words, flat_alone, many_words, weigh};
 use atom_names::AtomNames;
-use line_io::Sink;
+use line_io::{Sink, SinkFault, put_all};
 use plain_machine::{
-    Depth, MOST_PLACES, Measure, PLACE_COST, PROCESS_COST, Pick, Refusal, Reg, Shape,
+    COUNTED_COST, Depth, MOST_ARITY, MOST_BYTE, MOST_FILL, MOST_PLACES, Measure, PLACE_COST,
+    PROCESS_COST, Pick, Refusal, Reg, Shape,
 };
 use plain_term::Item;
 use script_grammar::REGISTERS;
@@ -67,7 +68,7 @@ impl TrialSpace {
 }
 
 impl Space for TrialSpace {
-    ghost use Rattle.std.specs.Prelude.{[]};
+    ghost use Rattle.std.specs.Prelude.{codes};
     ghost use Rattle.plain_machine.specs.May.{gets_to_space};
     ghost use Rattle.plain_machine.specs.Step.{step};
     ghost use Rattle.space_api.specs.Calls.{Properly};
@@ -85,7 +86,7 @@ impl Space for TrialSpace {
 
     ghost may = { λ words s p. gets_to_space p.command (step s p) };
 
-    ghost text = { λ b names c. [] };
+    ghost text = { λ b names c. codes "bins [] funs []" };
 
     fn find(&self, pid: u64) -> Option<Seat> {
         if self.alive && pid == 1 {
@@ -151,6 +152,30 @@ impl Space for TrialSpace {
         Err(Refusal::BadArg)
     }
 
+    fn fill(&mut self, seat: Seat, r: Reg, len: u64, byte: u64) -> Result<(), Refusal> {
+        if len > MOST_FILL {
+            return Err(Refusal::BadArg);
+        }
+        if byte > MOST_BYTE {
+            return Err(Refusal::BadArg);
+        }
+        Err(Refusal::NoSpace(filled_words(len)))
+    }
+
+    fn make_fun(
+        &mut self,
+        seat: Seat,
+        r: Reg,
+        name: u64,
+        arity: u64,
+        env: &[Item],
+    ) -> Result<(), Refusal> {
+        if arity > MOST_ARITY {
+            return Err(Refusal::BadArg);
+        }
+        Err(Refusal::NoSpace(COUNTED_COST + env.len() as u64))
+    }
+
     fn make_ref(&mut self, seat: Seat, r: Reg) -> Result<(), Refusal> {
         Err(Refusal::NoSpace(3))
     }
@@ -198,5 +223,9 @@ impl Space for TrialSpace {
             Ok(()) => Ok(()),
             Err(_) => Err(Stop::Fault),
         }
+    }
+
+    fn counts<K: Sink>(&self, names: &AtomNames, sink: &mut K) -> Result<(), SinkFault> {
+        put_all(sink, b"bins [] funs []")
     }
 }

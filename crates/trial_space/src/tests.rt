@@ -19,6 +19,13 @@ const REPLIES: &[u8] =
 const VERBS: &[u8] =
     b"1 set 0 a\n1 set 1 $0\n1 print 1\n1 eq 0 1\n1 set 1 b\n1 eq 0 1\n1 cmp 0 1\n1 cmp 1 0\n1 cmp 1 1\n1 self 2\n1 cmp 0 2\n1 cmp 3 2\n1 set 4 -9\n1 set 5 7\n1 cmp 4 5\n1 flat 4\n1 hd 0 0\n1 elem 0 1 0\n1 mapget 0 0 0\n1 mapput 0 0 0 0\n1 ref 0\n1 mktuple 0 2 0\n1 mklist 0 2 0\n1 mklist 0 65537 0\n1 set 0 576460752303423488\n1 set 0 [a|b]\n1 set 0 #{a=>$0,b=>{}}\n1 print 0\n";
 
+// Binaries, parts, funs and counts: the bounds of a line stand before the want of words.
+const BINARIES: &[u8] =
+    b"1 set 0 <<1,2>>\n1 set 0 [<<>>]\n1 fill 0 64 1\n1 fill 0 65 1\n1 fill 0 1048577 1\n1 fill 0 0 256\n1 part 0 0 0 0\n1 fun 0 f 255 $0 $1\n1 fun 0 f 256\n1 env 0 1 0\nsys counts\nsys sweep\nsys counts\n";
+
+const LISTED: &[u8] =
+    b"error nospace 3\nerror nospace 4\nerror nospace 10\nerror nospace 19\nerror badarg\nerror badarg\nerror badarg\nerror nospace 12\nerror badarg\nerror badarg\nbins [] funs []\nok\nbins [] funs []\n";
+
 const TOLD: &[u8] =
     b"ok\nok\na\ntrue\nok\nfalse\nlt\ngt\neq\nok\nlt\ngt\nok\nok\nlt\n0\nerror badarg\nerror badarg\nerror badarg\nerror badarg\nerror nospace 3\nerror nospace 3\nerror nospace 4\nerror badarg\nerror nospace 2\nerror nospace 2\nerror nospace 9\na\n";
 
@@ -48,6 +55,12 @@ fn a_script_is_served_at_a_space_that_is_no_arena(rt: HostRuntime) -> Result<(),
 #[test]
 fn what_needs_no_word_of_the_verbs_on_terms_is_done(rt: HostRuntime) -> Result<(), Fail> {
     assert!(rt; serves(rt.alloc(), VERBS, TOLD)?);
+    Ok(())
+}
+
+#[test]
+fn binaries_and_funs_find_no_words_and_none_is_counted(rt: HostRuntime) -> Result<(), Fail> {
+    assert!(rt; serves(rt.alloc(), BINARIES, LISTED)?);
     Ok(())
 }
 

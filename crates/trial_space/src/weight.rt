@@ -1,12 +1,12 @@
 // How many words the parts of a written term ask for, by its items.
 ghost use Rattle.std.specs.Prelude.{◌≡◌, ◌≤◌, length};
 ghost use Rattle.plain_term.specs.Measures.{flat, int_flat};
-ghost use Rattle.plain_machine.specs.declared.limits.TheConstants.{MOST_PLACES};
-ghost use Rattle.plain_machine.specs.Tightness.{repeat_words};
-ghost use Rattle.trial_space.specs.Items.{alone, item_weight, weight};
+ghost use Rattle.plain_machine.specs.declared.limits.TheConstants.{MOST_FILL, MOST_PLACES};
+ghost use Rattle.plain_machine.specs.Tightness.{fill_words, repeat_words};
+ghost use Rattle.trial_space.specs.Items.{alone, item_weight, weight, written_bytes};
 
 use line_io::LONGEST_LINE;
-use plain_machine::{MOST_PLACES, Shape};
+use plain_machine::{COUNTED_COST, MOST_FILL, MOST_PLACES, Shape};
 use plain_term::Item;
 
 // The words of an integer.
@@ -32,6 +32,29 @@ pub fn flat_alone(item: Item) -> u64
     }
 }
 
+/// The words of a binary of so many bytes.
+pub fn filled_words(len: u64) -> u64
+    requires { len ≤ MOST_FILL }
+    ensures { result ≡ fill_words len }
+{
+    let words = (len + 7) / 8;
+    if len <= 64 {
+        return 2 + words;
+    }
+    COUNTED_COST + words
+}
+
+// A number of bytes, no more than a line has.
+fn in_line(n: u64) -> u64
+    ensures is { result ≡ written_bytes n }
+    ensures few { result ≤ LONGEST_LINE }
+{
+    if n <= LONGEST_LINE as u64 {
+        return n;
+    }
+    LONGEST_LINE as u64
+}
+
 // The weight of an item without its parts.
 fn weigh_item(item: Item) -> u64
     ensures { result ≡ item_weight item }
@@ -40,6 +63,8 @@ fn weigh_item(item: Item) -> u64
         Item::Int(i) => 1 + int_words(i),
         Item::Tuple(_) => 2,
         Item::Map(_) => 5,
+        Item::Bin(n) => 1 + filled_words(in_line(n)),
+        Item::Byte(_) => 0,
         _ => 1,
     }
 }

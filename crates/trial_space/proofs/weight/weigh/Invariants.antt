@@ -4,7 +4,7 @@ use Rattle.trial_space.specs.Items.{weight}
 use Rattle.trial_space.proofs.weight.weigh.Given as goal
 
 abbrev pub invariant-loop-i : goal.invariant-loop-i
-invariant-loop-i l = (l.i ≤ length l.code) × (l.sum ≡ weight (drop l.i l.code)) × (l.sum + 5 * l.i ≤ 5 * LONGEST_LINE)
+invariant-loop-i l = (l.i ≤ length l.code) × (l.sum ≡ weight (drop l.i l.code)) × (l.sum + 523 * l.i ≤ 523 * LONGEST_LINE)
 
 abbrev pub decreases-loop-i : goal.decreases-loop-i
 decreases-loop-i l = l.i
