@@ -11,7 +11,7 @@ use Rattle.script_grammar.specs.Written.{Terms}
 use Rattle.term_words.specs.Role.{OfObject}
 use Rattle.term_order.specs.Named.{is_named}
 use Rattle.term_build.specs.Taken.{IsFree}
-use Rattle.term_build.specs.Grows.{Built}
+use Rattle.term_build.specs.Grows.{Built, IsPlain}
 use Rattle.term_build.specs.Clear.{IsRoom, Uses}
 use Rattle.plain_machine.specs.State.{Process, State, process_of, with_process, with_register}
 use Rattle.plain_machine.specs.Step.{settled}
@@ -33,6 +33,11 @@ use Rattle.one_space.proofs.Seated.{found-there, number-there, set-there, settle
 use Rattle.one_space.proofs.Seats.{replaced}
 use Rattle.one_space.proofs.Stacks.{AreKept}
 use Rattle.one_space.proofs.Turning.{row-stands}
+
+-- A plain role is one of objects.
+plain-object : (k : ℕ) → IsPlain k → OfObject k
+plain-object k (inl is) = inr (omega arith, omega arith)
+plain-object k (inr is) = inr (omega arith, omega arith)
 
 -- The space after a term was built.
 abbrev pub built_in : One → Halves → Vec ℕ Global → (named : ℕ) → One
@@ -135,7 +140,7 @@ module _ (b : One) (holds : Holds b) (seat : Seat) (x : Sits b seat) (n : ℕ) (
           elim (built.grows.within a k e) [ inl old ↦ (o1.processes.objects a k old).0 | inr new ↦ omega (arith, new, room.laid.front) ],
           (
             elim (built.grows.within a k e) [ inl old ↦ omega (arith, (o1.processes.objects a k old).1.0, uses.moved) | inr new ↦ omega (arith, new, uses.moved) ],
-            elim (built.grows.objects a k e) [ inl old ↦ (o1.processes.objects a k old).1.1 | inr role ↦ role ],
+            elim (built.grows.objects a k e) [ inl old ↦ (o1.processes.objects a k old).1.1 | inr plain ↦ plain-object k plain ],
           ),
         )
 

@@ -1,20 +1,32 @@
 -- Roles grow with the objects that are built, one after the other.
-use Rattle.std.proofs.Common.{ℕ, ◌+◌, Bool, List, arith, inl, inr}
+use Rattle.std.proofs.Common.{◌≡◌, ℕ, ◌+◌, Bool, List, arith, inl, inr}
 use Rattle.word_mem.specs.declared.ranges.Room.{Room}
 use Rattle.plain_term.specs.Tree.{Tree}
-use Rattle.term_words.specs.Role.{OfObject}
+use Rattle.term_words.specs.Role.{NEXT, OfObject}
 use Rattle.term_build.specs.Taken.{IsFree, with_object}
 use Rattle.term_build.specs.Clear.{Uses}
-use Rattle.term_build.specs.Grows.{Grows, Built}
-use Rattle.term_build.proofs.Taking.{taken-kept, with-object-of, with-object-taken, with-object-single, with-object-within}
+use Rattle.term_build.specs.Grows.{Grows, GrowsLink, Built, IsPlain}
+use Rattle.term_build.proofs.Taking.{taken-kept, with-object-of, with-object-taken, with-object-next, with-object-single, with-object-within}
 
 -- The roles of one object beside the old ones.
-pub grown : (roles : ℕ → ℕ) (c : ℕ → ℕ → Bool) (n : ℕ) (old new : Room) (mem mem2 : List ℕ) → ((j : ℕ) → OfObject (roles j)) → IsFree c old.top (old.top + n)
+pub grown : (roles : ℕ → ℕ) (c : ℕ → ℕ → Bool) (n : ℕ) (old new : Room) (mem mem2 : List ℕ) → ((j : ℕ) → IsPlain (roles j)) → IsFree c old.top (old.top + n)
     → Uses n old new mem mem2 → Grows c (with_object roles c old.top n) old.top n mem mem2
 grown roles c n old new mem mem2 of_object free u = record {
   more = (with-object-taken roles c old.top n free).more;
   within = λ a k h. with-object-within roles c old.top n a k h;
-  objects = λ a k h. with-object-of roles c old.top n a k of_object h;
+  objects = λ a k h. with-object-of IsPlain roles c old.top n a k of_object h;
+  single = with-object-single roles c old.top n;
+  kept = taken-kept roles c (with_object roles c old.top n) n old new mem mem2 u (with-object-taken roles c old.top n free);
+}
+
+-- The roles of one holder or fun beside the old ones.
+pub grown-link : (roles : ℕ → ℕ) (c : ℕ → ℕ → Bool) (n : ℕ) (old new : Room) (mem mem2 : List ℕ) → ((j : ℕ) → OfObject (roles j)) → ((j : ℕ) → roles j ≡ NEXT → j ≡ 2)
+    → IsFree c old.top (old.top + n) → Uses n old new mem mem2 → GrowsLink c (with_object roles c old.top n) old.top n mem mem2
+grown-link roles c n old new mem mem2 of_object two free u = record {
+  more = (with-object-taken roles c old.top n free).more;
+  within = λ a k h. with-object-within roles c old.top n a k h;
+  objects = λ a k h. with-object-of OfObject roles c old.top n a k of_object h;
+  next = λ a h. with-object-next roles c old.top n a two h;
   single = with-object-single roles c old.top n;
   kept = taken-kept roles c (with_object roles c old.top n) n old new mem mem2 u (with-object-taken roles c old.top n free);
 }

@@ -3,21 +3,30 @@ use Rattle.std.proofs.Common.{◌≡◌, ℕ, zero, suc, ◌+◌, ◌*◌, ◌<�
 use Rattle.std.proofs.lemmas.List.{length-append, length-replicate, get_or_append_left, get_or-replicate}
 use Rattle.word_mem.specs.declared.ranges.Room.{Room}
 use Rattle.plain_term.specs.Tree.{Tree}
-use Rattle.term_words.specs.Role.{outside, OfObject}
+use Rattle.term_words.specs.Role.{NEXT, outside, OfObject}
 use Rattle.term_words.specs.Stands.{Stands}
 use Rattle.term_build.specs.Taken.{Taken, IsFree, Lie, with_object}
 use Rattle.term_build.specs.Clear.{Clear, Uses}
-use Rattle.term_build.specs.Grows.{Built}
+use Rattle.term_build.specs.Grows.{Built, BuiltLink, IsPlain}
 use Rattle.term_build.proofs.Taking.{with-object-taken}
-use Rattle.term_build.proofs.Growing.{grown}
+use Rattle.term_build.proofs.Growing.{grown, grown-link}
 use Rattle.term_build.proofs.Rooms.{room-taken, room-moved, uses-then}
 
 -- Where the object stands by every test that takes its words, it is built ..
-pub built-by : (roles : ℕ → ℕ) (c : ℕ → ℕ → Bool) (n : ℕ) (old new : Room) (mem mem2 : List ℕ) (shared : List (List ℕ)) (w : ℕ) (t : Tree) → ((j : ℕ) → OfObject (roles j))
+pub built-by : (roles : ℕ → ℕ) (c : ℕ → ℕ → Bool) (n : ℕ) (old new : Room) (mem mem2 : List ℕ) (shared : List (List ℕ)) (w : ℕ) (t : Tree) → ((j : ℕ) → IsPlain (roles j))
     → IsFree c old.top (old.top + n) → Uses n old new mem mem2 → ((d : ℕ → ℕ → Bool) → Taken roles c d old.top n → Stands d shared mem2 w t) → Built c old.top n mem mem2 shared w t
 built-by roles c n old new mem mem2 shared w t of_object free u stands = record {
   test = with_object roles c old.top n;
   grows = grown roles c n old new mem mem2 of_object free u;
+  made = stands (with_object roles c old.top n) (with-object-taken roles c old.top n free);
+}
+
+pub built-link : (roles : ℕ → ℕ) (c : ℕ → ℕ → Bool) (n : ℕ) (old new : Room) (mem mem2 : List ℕ) (shared : List (List ℕ)) (w : ℕ) (t : Tree) → ((j : ℕ) → OfObject (roles j))
+    → ((j : ℕ) → roles j ≡ NEXT → j ≡ 2)
+    → IsFree c old.top (old.top + n) → Uses n old new mem mem2 → ((d : ℕ → ℕ → Bool) → Taken roles c d old.top n → Stands d shared mem2 w t) → BuiltLink c old.top n mem mem2 shared w t
+built-link roles c n old new mem mem2 shared w t of_object two free u stands = record {
+  test = with_object roles c old.top n;
+  grows = grown-link roles c n old new mem mem2 of_object two free u;
   made = stands (with_object roles c old.top n) (with-object-taken roles c old.top n free);
 }
 

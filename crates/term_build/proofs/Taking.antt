@@ -6,11 +6,12 @@ use Rattle.plain_term.specs.Tree.{Tree, Trees, trees_len}
 use Rattle.plain_term.specs.Tree.Tree.{Cons, Tuple}
 use Rattle.term_tags.specs.Words.{list_word, boxed_word, head_word}
 use Rattle.term_tags.specs.declared.layouts.TheConstants.{TUPLE, MOST_PARTS}
-use Rattle.term_words.specs.Role.{FIRST, FURTHER, IsSingle, OfObject}
+use Rattle.term_words.specs.Role.{NEXT, FIRST, FURTHER, IsSingle, OfObject}
 use Rattle.term_words.specs.Stands.{Stands, AllStand}
 use Rattle.term_words.specs.Kept.{Kept, Keeps}
 use Rattle.term_words.proofs.Makes.{stands-cons, stands-tuple, row-of-all, all-length}
 use Rattle.term_words.proofs.Frames.{frame, keep-all}
+use Rattle.term_build.specs.Grows.{IsPlain}
 use Rattle.term_build.specs.Taken.{Taken, Lie, plain, of_holder, of_fun, of_map, with_object}
 use Rattle.term_build.specs.Clear.{Uses}
 
@@ -112,15 +113,15 @@ pub with-object-within : (roles : ℕ → ℕ) (c : ℕ → ℕ → Bool) (top n
 with-object-within roles c top n a k h = elim (cut top n a) [ inl apart ↦ inl (sym (beside-old roles c top n a k apart) ∙ h) | inr inner ↦ inr inner ]
 
 -- New roles are those of the object.
-pub with-object-of : (roles : ℕ → ℕ) (c : ℕ → ℕ → Bool) (top n a k : ℕ) → ((j : ℕ) → OfObject (roles j)) → with_object roles c top n a k ≡ true → (c a k ≡ true) ⊎ OfObject k
-with-object-of roles c top n a k of_object h = elim (cut top n a) [
+pub with-object-of : (Of : ℕ → Type 0) (roles : ℕ → ℕ) (c : ℕ → ℕ → Bool) (top n a k : ℕ) → ((j : ℕ) → Of (roles j)) → with_object roles c top n a k ≡ true → (c a k ≡ true) ⊎ Of k
+with-object-of Of roles c top n a k of_object h = elim (cut top n a) [
   | inl apart ↦ inl (sym (beside-old roles c top n a k apart) ∙ h)
-  | inr inside ↦ inr (subst OfObject (beside-new roles c top n a k inside.0 inside.1 h) (of_object (a - top)))
+  | inr inside ↦ inr (subst Of (beside-new roles c top n a k inside.0 inside.1 h) (of_object (a - top)))
 ]
 
-pub plain-object : (j : ℕ) → OfObject (plain j)
-plain-object zero = inr (omega arith, omega arith)
-plain-object (suc j) = inr (omega (arith, plain-after (suc j) (omega arith)), omega (arith, plain-after (suc j) (omega arith)))
+pub plain-object : (j : ℕ) → IsPlain (plain j)
+plain-object zero = inl refl
+plain-object (suc j) = inr (plain-after (suc j) (omega arith))
 
 -- The roles of a holder and of a fun past the words that have one of their own.
 
@@ -143,6 +144,27 @@ fun-object (suc zero) = inr (omega arith, omega arith)
 fun-object (suc (suc zero)) = inl refl
 fun-object (suc (suc (suc j))) = subst OfObject (sym (fun-after (suc (suc (suc j))) (omega arith))) (inr (omega arith, omega arith))
 
+-- The word `next` is word 2 of either.
+
+pub holder-next : (j : ℕ) → of_holder j ≡ NEXT → j ≡ 2
+holder-next zero e = absurd (omega (arith, e))
+holder-next (suc zero) e = absurd (omega (arith, e))
+holder-next (suc (suc zero)) e = refl
+holder-next (suc (suc (suc zero))) e = absurd (omega (arith, e))
+holder-next (suc (suc (suc (suc j)))) e = absurd (omega (arith, e, holder-after (suc (suc (suc (suc j)))) (omega arith)))
+
+pub fun-next : (j : ℕ) → of_fun j ≡ NEXT → j ≡ 2
+fun-next zero e = absurd (omega (arith, e))
+fun-next (suc zero) e = absurd (omega (arith, e))
+fun-next (suc (suc zero)) e = refl
+fun-next (suc (suc (suc j))) e = absurd (omega (arith, e, fun-after (suc (suc (suc j))) (omega arith)))
+
+pub with-object-next : (roles : ℕ → ℕ) (c : ℕ → ℕ → Bool) (top n a : ℕ) → ((j : ℕ) → roles j ≡ NEXT → j ≡ 2) → with_object roles c top n a NEXT ≡ true → (c a NEXT ≡ true) ⊎ (a ≡ top + 2)
+with-object-next roles c top n a two h = elim (cut top n a) [
+  | inl apart ↦ inl (sym (beside-old roles c top n a NEXT apart) ∙ h)
+  | inr inside ↦ inr (omega (arith, inside, two (a - top) (beside-new roles c top n a NEXT inside.0 inside.1 h)))
+]
+
 -- The words of a map are those of two objects.
 
 map-low : (n j : ℕ) → j ≤ n → of_map n j ≡ plain j
@@ -157,8 +179,8 @@ map-high n j =
     let back : 1 + n + j - (1 + n) ≡ j = omega arith in
     rw (past, back) refl
 
-pub map-object : (n j : ℕ) → OfObject (of_map n j)
-map-object n j = elim (le_or n j) [ inl low ↦ subst OfObject (sym (map-low n j low)) (plain-object j) | inr high ↦ subst OfObject (high-role high) (plain-object (j - (1 + n))) ]
+pub map-object : (n j : ℕ) → IsPlain (of_map n j)
+map-object n j = elim (le_or n j) [ inl low ↦ subst IsPlain (sym (map-low n j low)) (plain-object j) | inr high ↦ subst IsPlain (high-role high) (plain-object (j - (1 + n))) ]
   where
     le_or : (n j : ℕ) → (j ≤ n) ⊎ (n < j)
     le_or n j = grind arith

@@ -9,7 +9,7 @@ ghost use Rattle.term_words.specs.Object.{IsFunRecord};
 ghost use Rattle.term_words.specs.Stands.{Stands, AllStand};
 ghost use Rattle.term_words.specs.Kept.{Keeps};
 ghost use Rattle.term_build.specs.Taken.{Taken, IsFree, Lie, of_fun};
-ghost use Rattle.term_build.specs.Grows.{Built};
+ghost use Rattle.term_build.specs.Grows.{BuiltLink};
 ghost use Rattle.term_build.specs.Clear.{IsRoom, Clear, AllClear, KeepsClear, Uses};
 
 use crate::rows::put;
@@ -39,7 +39,7 @@ pub fn fun_thing(
     ensures kept { (roles : ℕ → ℕ) (c d : ℕ → ℕ → Bool) → Taken roles c d room.old.top (6 + length env.now) → Keeps c d mem.old mem.new }
     ensures built { (c : ℕ → ℕ → Bool) (shared : List (List ℕ)) (name : ℕ) (ts : Trees) → IsFree c room.old.top (room.old.top + (6 + length env.now))
         → IsFunRecord c mem.old rec name arity → AllStand c shared mem.old env.now ts
-        → Built c room.old.top (6 + length env.now) mem.old mem.new shared result (Fun name arity creator ts) }
+        → BuiltLink c room.old.top (6 + length env.now) mem.old mem.new shared result (Fun name arity creator ts) }
     ensures made_clear { (shared : List (List ℕ)) (name : ℕ) (ts : Trees) → IsFunRecord (outside room.old.top room.old.end) mem.old rec name arity
         → AllClear room.old shared mem.old env.now ts → Clear room.new shared mem.new result (Fun name arity creator ts) }
     ensures kept_clear { KeepsClear room.old room.new mem.old mem.new }

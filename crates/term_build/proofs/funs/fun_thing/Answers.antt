@@ -4,9 +4,9 @@ use Rattle.term_tags.specs.declared.layouts.TheConstants.{FUN}
 use Rattle.term_words.specs.Role.{outside}
 use Rattle.plain_term.specs.Tree.Tree.{Fun}
 use Rattle.term_build.specs.Taken.{Lie, of_fun}
-use Rattle.term_build.proofs.Taking.{fun-object, taken-kept, taken-content}
+use Rattle.term_build.proofs.Taking.{fun-next, fun-object, taken-kept, taken-content}
 use Rattle.term_build.proofs.Rooms.{taken-keeps}
-use Rattle.term_build.proofs.Putting.{built-by, clear-by, lie-still, lie-join, uses-both}
+use Rattle.term_build.proofs.Putting.{built-link, clear-by, lie-still, lie-join, uses-both}
 use Rattle.term_build.proofs.Objects.{fun-made}
 use Rattle.term_build.proofs.funs.fun_thing.Goals as goal
 
@@ -37,7 +37,7 @@ returns-clause-made c = λ k d shared name ts taken named all.
 
 pub returns-clause-built : goal.returns-clause-built
 returns-clause-built c = λ k shared name ts free named all.
-    built-by of_fun k (6 + length c.args.env.now) _ _ _ _ shared _ (Fun name c.args.arity c.args.creator ts) fun-object free (returns-clause-uses c)
+    built-link of_fun k (6 + length c.args.env.now) _ _ _ _ shared _ (Fun name c.args.arity c.args.creator ts) fun-object fun-next free (returns-clause-uses c)
     (λ d taken. returns-clause-made c k d shared name ts taken named all)
 
 pub returns-clause-made_clear : goal.returns-clause-made_clear

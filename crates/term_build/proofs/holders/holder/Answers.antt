@@ -2,9 +2,9 @@ use Rattle.std.proofs.Common.{ℕ, [], ◌∷◌, arith, subst}
 use Rattle.term_words.specs.Role.{outside}
 use Rattle.plain_term.specs.Tree.Tree.{Shared}
 use Rattle.term_build.specs.Taken.{Lie, of_holder}
-use Rattle.term_build.proofs.Taking.{holder-object, taken-kept, taken-content}
+use Rattle.term_build.proofs.Taking.{holder-next, holder-object, taken-kept, taken-content}
 use Rattle.term_build.proofs.Rooms.{taken-keeps}
-use Rattle.term_build.proofs.Putting.{built-by, clear-by}
+use Rattle.term_build.proofs.Putting.{built-link, clear-by}
 use Rattle.term_build.proofs.Objects.{shared-made}
 use Rattle.term_build.proofs.holders.holder.Goals as goal
 
@@ -27,7 +27,7 @@ returns-clause-made c = λ k d shared id taken named.
 
 pub returns-clause-built : goal.returns-clause-built
 returns-clause-built c = λ k shared id free named.
-    built-by of_holder k 6 _ _ _ _ shared _ (Shared id) holder-object free c.put-place.ensures.uses (λ d taken. returns-clause-made c k d shared id taken named)
+    built-link of_holder k 6 _ _ _ _ shared _ (Shared id) holder-object holder-next free c.put-place.ensures.uses (λ d taken. returns-clause-made c k d shared id taken named)
 
 pub returns-clause-made_clear : goal.returns-clause-made_clear
 returns-clause-made_clear c = λ shared id named.
