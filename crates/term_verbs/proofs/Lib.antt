@@ -4,3 +4,4 @@ pub mod Listing
 pub mod Mapping
 pub mod Picking
 pub mod Sorted
+mod Cutting

@@ -1,22 +1,22 @@
 -- The part that is picked: what its word stands for.
-use Rattle.std.proofs.Common.{◌≡◌, ℕ, zero, suc, ◌+◌, ◌/◌, ◌<◌, ◌≤◌, ◌&&◌, Bool, true, false, List, get_or, Option, Some, None, if◌then◌else◌, refl, sym, ◌∙◌, subst, arith}
+use Rattle.std.proofs.Common.{◌≡◌, ℕ, zero, suc, ◌+◌, ◌/◌, ◌<◌, ◌≤◌, ◌&&◌, Bool, true, false, List, get_or, Option, Some, None, if◌then◌else◌, nat_lt, refl, sym, ◌∙◌, subst, arith}
 use Rattle.std.specs.Option.{IfSome}
 use Rattle.std.specs.Ordering.{is_eq}
 use Rattle.std.specs.declared.cmp.Ordering.{Ordering}
 use Rattle.std.specs.declared.cmp.Ordering.TheVariants.{Less, Equal, Greater}
 use Rattle.plain_term.specs.Tree.{Tree, Trees, Pairs, pairs_len, keys_of, values_of}
-use Rattle.plain_term.specs.Tree.Tree.{Cons, Tuple, Map}
+use Rattle.plain_term.specs.Tree.Tree.{Cons, Tuple, Map, Fun}
 use Rattle.plain_term.specs.Tree.Trees.{end, ◌▹◌}
 use Rattle.plain_term.specs.Tree.Pairs.{stop, pair}
 use Rattle.plain_term.specs.Beyond.{is_beyond}
 use Rattle.plain_term.specs.Order.{order}
 use Rattle.plain_term.specs.Proper.{keys_rise}
 use Rattle.plain_term.proofs.TokenLemmas.{order_total}
-use Rattle.plain_machine.specs.Parts.{element_in, head_in, place_in, tail_in, tree_after, value_in, value_of}
+use Rattle.plain_machine.specs.Parts.{element_in, env_in, head_in, place_in, tail_in, tree_after, value_in, value_of}
 use Rattle.term_words.specs.Stands.{Stands, tree_at}
 use Rattle.term_words.proofs.Pairs.{keys-len, values-len, values-row}
 use Rattle.term_words.proofs.Shapes.{row-at}
-use Rattle.term_read.specs.Parts.{Answers, element_of, head_of, part_at, place_of, tail_of}
+use Rattle.term_read.specs.Parts.{Answers, element_of, env_of, head_of, part_at, place_of, tail_of}
 use Rattle.term_read.specs.Look.{IsSeen}
 use Rattle.term_read.specs.declared.looks.PairRows.{PairRows}
 use Rattle.term_read.specs.declared.looks.Look.{Look}
@@ -52,6 +52,10 @@ pub same-element : (i : ℕ) (t : Tree) → element_of i t ≡ place_in i t
 same-element i (Tuple ts) = same-place ts i
 same-element i _ = refl
 
+pub same-env : (i : ℕ) (t : Tree) → env_of i t ≡ env_in i t
+same-env i (Fun name arity creator env) = same-place env i
+same-env i _ = refl
+
 -- The names of a part are names of the whole.
 inside : (t u : Tree) → Some t ≡ Some u → t ≡ u
 inside t u e = cc
@@ -83,6 +87,10 @@ place-named ts (suc i) u n e named = part-named ts i u n e named
 pub element-named : (i : ℕ) → KeepsNames (element_of i)
 element-named i (Tuple ts) u n e named = place-named ts i u n e named
 element-named i _ u n e named = absurd cc
+
+pub env-named : (i : ℕ) → KeepsNames (env_of i)
+env-named i (Fun name arity creator env) u n e named = place-named env i u n e (and-second (nat_lt name n) (are_named n env) named)
+env-named i _ u n e named = absurd cc
 
 value-named : (n : ℕ) (ps : Pairs) (i : ℕ) → pairs_named n ps ≡ true → i < pairs_len ps → is_named n (tree_at (values_of ps) i) ≡ true
 value-named n stop i h below = absurd (omega arith)

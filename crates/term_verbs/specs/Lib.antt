@@ -1,3 +1,4 @@
 pub mod Found
 pub mod Picked
 pub mod Placed
+pub mod Cut

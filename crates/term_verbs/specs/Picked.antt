@@ -3,7 +3,7 @@ use Rattle.std.specs.Prelude.{◌≡◌, ℕ, ◌<◌, Bool, true, List, length,
 use Rattle.plain_term.specs.Tree.{Tree}
 use Rattle.plain_term.specs.Tree.Tree.{Map}
 use Rattle.script_grammar.specs.declared.command.Pick.{Pick}
-use Rattle.script_grammar.specs.declared.command.Pick.TheVariants.{MapGet}
+use Rattle.script_grammar.specs.declared.command.Pick.TheVariants.{MapGet, Part}
 use Rattle.plain_machine.specs.State.{Process, register}
 use Rattle.term_words.specs.Role.{always}
 use Rattle.term_words.specs.Stands.{IsTerm, Stands}
@@ -20,9 +20,10 @@ pub record CanSeek (mem : List ℕ) (names : List (List ℕ)) (w key : ℕ) : Ty
   pub named : is_named (length names) tree ≡ true
   pub key_named : is_named (length names) sought ≡ true
 
--- The word stands for a tree; where a key is sought, it is that of a register.
+-- The word stands for a tree; where a key is sought, it is that of a register. A part of a binary is made and not picked.
 abbrev pub CanPick : List ℕ → (names : List (List ℕ)) → (held : List ℕ) → (w : ℕ) → Pick → Type 0
 CanPick mem names held w (MapGet k) = (k.0 < length held) × CanSeek mem names w (slice_index held k.0)
+CanPick mem names held w (Part offset len) = ⊥
 CanPick mem names held w _ = IsTerm mem w
 
 -- Where a key is sought, the register's word stands for the process's tree.

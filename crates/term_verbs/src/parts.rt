@@ -11,10 +11,11 @@ use crate::keys::spot_of;
 use atom_names::AtomNames;
 use plain_machine::Pick;
 use term_maps::Spot;
-use term_read::{Look, element, hd, look_at, tl};
+use term_read::{Look, element, fun_env, hd, look_at, tl};
 use word_mem::WordMem;
 
-/// The word of the part that is picked of a term, if it has one. `held` has the words of the registers.
+/// The word of the part that is picked of a term, if it has one: no part of a binary, which is a new term. `held` has the words
+/// of the registers.
 pub fn part(mem: &WordMem, names: &AtomNames, held: &[u64], w: u64, how: Pick) -> Option<u64>
     requires { CanPick mem.now names.now held.now w how }
     ensures picks { (c : ℕ → ℕ → Bool) (shared : List (List ℕ)) (q : Process) (t : Tree) → Stands c shared mem.now w t → HasKey c shared mem.now held.now q how
@@ -26,7 +27,8 @@ pub fn part(mem: &WordMem, names: &AtomNames, held: &[u64], w: u64, how: Pick) -
         Pick::Tl => tl(mem, w),
         Pick::Elem(i) => element(mem, w, i),
         Pick::MapGet(k) => value_at(mem, names, w, held[k.0 as usize]),
-        Pick::Env(_) | Pick::Part(_, _) => None,
+        Pick::Env(i) => fun_env(mem, w, i),
+        Pick::Part(_, _) => unreachable!(),
     }
 }
 
