@@ -1,3 +1,4 @@
 pub mod Moving
 pub mod Walking
 pub mod Narrow
+pub mod Renewing

@@ -6,7 +6,7 @@ use Rattle.std.proofs.lemmas.Bool.Decides.{nat_tests}
 use Rattle.plain_term.specs.Measures.{bin_words}
 use Rattle.term_tags.specs.Words.{head_word}
 use Rattle.term_tags.specs.declared.layouts.TheConstants.{HOLDER}
-use Rattle.term_words.specs.Role.{NEXT, COUNT, FIRST, NAMES, RECORD_FIRST, IsSingle}
+use Rattle.term_words.specs.Role.{NEXT, COUNT, FIRST, NAMES, RECORD_FIRST, IsSingle, OfRecord}
 use Rattle.term_words.specs.Object.{IsRecord}
 use Rattle.term_words.specs.Kept.{Kept, Keeps}
 use Rattle.term_words.specs.Relocated.{IsCopiedTo}
@@ -81,6 +81,16 @@ role-cases j =
       | inr (inr (inr far)) ↦ inr (role-other j 6 (grind (arith, nat_tests, far)) (λ x. omega (arith, x)) (λ x. omega (arith, x)))
     ]
 
+-- And it is a role of records.
+of-record : (j : ℕ) → OfRecord (record_roles j)
+of-record j =
+    let which : (j ≡ 0) ⊎ ((j ≡ 2) ⊎ ((j ≡ 1) ⊎ (3 ≤ j))) = grind arith in
+    elim which [
+      | inl z ↦ inr (inr (grind (arith, nat_tests, z)))
+      | inr (inl z) ↦ inl (grind (arith, nat_tests, z))
+      | inr (inr far) ↦ inr (inl (grind (arith, nat_tests, far)))
+    ]
+
 -- The first word of a record alone has its role.
 role-begins : (j : ℕ) → record_roles j ≡ RECORD_FIRST → j ≡ 0
 role-begins j e =
@@ -127,6 +137,7 @@ moves-begin c start head os low top b f = record {
   single = b.single;
   more = λ a k h. h;
   comes = λ a k h. inl h;
+  roles = λ a k h. inl h;
   trees = record { each = λ shared w t s. s };
   from = b.order;
   below = omega arith;
@@ -284,6 +295,14 @@ module _ (c : ℕ → ℕ → Bool) (start mem mem2 : List ℕ) (head o : ℕ) (
       | inl old ↦ elim (s.comes a k old) [ inl first ↦ inl first | inr (from, below) ↦ inr (omega (arith, from, at), below) ]
       | inr (from, below) ↦ inr (from, omega (arith, below, at, s.below))
     ];
+    roles = λ a k h. elim (with-object-within record_roles s.test u n a k h) [
+      | inl old ↦ s.roles a k old
+      | inr (from, below) ↦
+          let Q : ℕ → Type 0 = λ x. with_object record_roles s.test u n x k ≡ true in
+          let split : a ≡ u + (a - u) = omega (arith, from) in
+          let role : record_roles (a - u) ≡ k = single2.one (u + (a - u)) (record_roles (a - u)) k (taken.new (a - u) (u + (a - u)) (omega (arith, from, below)) refl) (subst Q split h) in
+          inr (subst OfRecord role (of-record (a - u)))
+    ];
     trees = record { each = λ shared w t st. (frame s.test (with_object record_roles s.test u n) mem mem2 content-kept).each shared w t (s.trees.each shared w t st) };
     from = room-left;
     below = omega (arith, at, s.below);
@@ -438,6 +457,7 @@ module _ (c : ℕ → ℕ → Bool) (start mem mem2 : List ℕ) (head o : ℕ) (
     single = s.single;
     more = s.more;
     comes = s.comes;
+    roles = s.roles;
     trees = record { each = λ shared w t st. trees.each shared w t (s.trees.each shared w t st) };
     from = s.from;
     below = s.below;

@@ -2,7 +2,7 @@
 use Rattle.std.proofs.Common.{◌≡◌, ℕ, ◌+◌, ◌<◌, ◌≤◌, ◌⊎◌, Bool, true, List, [], ◌∷◌, length, get_or}
 use Rattle.std.proofs.Common.{refl, sym, ◌∙◌, ap, subst, arith, inl, inr}
 use Rattle.plain_term.specs.Measures.{bin_words}
-use Rattle.term_words.specs.Role.{NEXT, FIRST, FURTHER, NAMES}
+use Rattle.term_words.specs.Role.{NEXT, FIRST, FURTHER, NAMES, RECORD_FIRST}
 use Rattle.term_words.specs.Object.{IsRecord}
 use Rattle.term_words.specs.Relocated.{IsCopiedTo}
 use Rattle.term_words.specs.Counted.{In}
@@ -157,6 +157,23 @@ module _ (c : ℕ → ℕ → Bool) (start mem : List ℕ) (head : ℕ) (os : Li
         record_is = record-at o inside;
       }
 
+  -- A record that no object names has its count still.
+  unshown-here : (v n : ℕ) → IsRecord c start v n → (count_in mem v ≡ count_in start v) ⊎ ((o : ℕ) × (In o os × (named start o ≡ v)))
+  unshown-here v n there = elim (s.records v n there) [
+    | inl still ↦ inl still
+    | inr (u, k) ↦
+        let size : 4 ≤ n = (record-within c start v n there).1 in
+        let P : ℕ → Type 0 = λ x. s.test x RECORD_FIRST ≡ true in
+        let first : s.test u RECORD_FIRST ≡ true = subst P (omega arith) (k.roles 0 (omega (arith, size))) in
+        let (o, (inside, e)) = s.only u k.from (omega (arith, k.below, size)) first in
+        inr (o, (inside, sym (s.one v n (named start o) (link-of o inside).words u there (link-of o inside).record_is k.mark e)))
+  ]
+
+  copied-word : (o n j : ℕ) → In o os → IsRecord c start (named start o) n → j < n → get_or mem (named mem o + j) 0 ≡ get_or start (named start o + j) 0
+  copied-word o n j inside there below =
+      let size : (link-of o inside).words ≡ n = sym (record-size c start (named start o) (link-of o inside).words (link-of o inside).record_is) ∙ record-size c start (named start o) n there in
+      (copy-at o inside).words j (omega (arith, size, below))
+
   pub records-moved : RecordsMoved c start mem head os now top
   records-moved = record {
     test = s.test;
@@ -188,6 +205,11 @@ module _ (c : ℕ → ℕ → Bool) (start mem : List ℕ) (head : ℕ) (os : Li
         let P : ℕ → Type 0 = λ x. (count_in mem x ≡ naming mem x os) × (1 ≤ count_in mem x) in
         let e : count_in mem (named mem h.o) ≡ naming mem (named mem h.o) os = count-at h.o h.inside in
         subst P h.names (e, omega (arith, e, named-some h.o os h.inside));
+    shown = shown;
+    copied = copied-word;
+    unshown = unshown-here;
+    few = f.few;
+    roles = s.roles;
     writes = s.writes;
     same_len = s.same_len;
   }

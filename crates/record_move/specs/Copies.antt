@@ -1,6 +1,6 @@
 -- Records that move: each that an object of a chain names is copied once, and the objects name the copy.
 use Rattle.std.specs.Prelude.{◌≡◌, ℕ, ◌+◌, ◌/◌, ◌<◌, ◌≤◌, ◌⊎◌, ◌↔◌, Bool, true, List, [], ◌∷◌, length, slice_index}
-use Rattle.term_words.specs.Role.{COUNT, NAMES, RECORD_FIRST, IsSingle}
+use Rattle.term_words.specs.Role.{COUNT, NAMES, RECORD_FIRST, IsSingle, OfRecord}
 use Rattle.term_words.specs.Object.{IsBinRecord, IsFunRecord, IsRecord}
 use Rattle.term_words.specs.Kept.{Keeps}
 use Rattle.term_words.specs.Counted.{In, Distinct, total}
@@ -40,7 +40,8 @@ pub record HasNamer (mem : List ℕ) (os : List ℕ) (u : ℕ) : Type 0 where
   pub names : named mem o ≡ u
 
 -- All records that the chain's objects name were moved to the places from `low` up to `top`, each once, and the objects name
--- the copies. By a test that allows these words beside, every tree stands; counts are namings, and no copy has count 0.
+-- the copies. By a test that allows these words beside, every tree stands; counts are namings, and no copy has count 0. A copy
+-- has its record's words, and the old record shows where it is by its count word; the count of one that no object names stays.
 pub record RecordsMoved (c : ℕ → ℕ → Bool) (start mem : List ℕ) (head : ℕ) (os : List ℕ) (low top : ℕ) : Type 0 where
   pub test : ℕ → ℕ → Bool
   pub single : IsSingle test
@@ -57,6 +58,11 @@ pub record RecordsMoved (c : ℕ → ℕ → Bool) (start mem : List ℕ) (head 
   pub funs : (o name arity : ℕ) → In o os → IsFunRecord c start (named start o) name arity → IsFunRecord test mem (named mem o) name arity
   pub namers : (v n : ℕ) → IsRecord test mem v n → low ≤ v → v < top → HasNamer mem os v
   pub counts : (v n : ℕ) → IsRecord test mem v n → low ≤ v → v < top → (count_in mem v ≡ naming mem v os) × (1 ≤ count_in mem v)
+  pub shown : (o : ℕ) → In o os → count_in mem (named start o) ≡ MOVED + named mem o
+  pub copied : (o n j : ℕ) → In o os → IsRecord c start (named start o) n → j < n → slice_index mem (named mem o + j) ≡ slice_index start (named start o + j)
+  pub unshown : (v n : ℕ) → IsRecord c start v n → (count_in mem v ≡ count_in start v) ⊎ ((o : ℕ) × (In o os × (named start o ≡ v)))
+  pub few : (v n : ℕ) → IsRecord c start v n → count_in start v < MOVED
+  pub roles : (a k : ℕ) → test a k ≡ true → (c a k ≡ true) ⊎ OfRecord k
   pub writes : (q : ℕ) → (q < low) ⊎ (top ≤ q) → (c q COUNT ≡ true → ⊥) → (c q NAMES ≡ true → ⊥) → slice_index mem q ≡ slice_index start q
   pub same_len : length mem ≡ length start
 
@@ -66,6 +72,7 @@ pub record Moves (c : ℕ → ℕ → Bool) (start mem : List ℕ) (os rest : Li
   pub single : IsSingle test
   pub more : (a k : ℕ) → c a k ≡ true → test a k ≡ true
   pub comes : (a k : ℕ) → test a k ≡ true → (c a k ≡ true) ⊎ ((now ≤ a) × (a < top))
+  pub roles : (a k : ℕ) → test a k ≡ true → (c a k ≡ true) ⊎ OfRecord k
   pub trees : Keeps c test start mem
   pub from : low ≤ now
   pub below : now ≤ top

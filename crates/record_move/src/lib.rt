@@ -3,6 +3,8 @@
 
 mod laws;
 mod moves;
+mod tables;
 
-pub use laws::moved_records_are_all;
+pub use laws::{moved_records_are_all, renewed_tables_name_the_copies};
 pub use moves::{MOVED, move_records};
+pub use tables::renew;
