@@ -1,0 +1,3 @@
+pub mod Weighing
+pub mod Occurring
+pub mod Demand
