@@ -20,7 +20,7 @@ use Rattle.term_print.specs.declared.levels.Step.TheVariants as step
 use Rattle.term_print.specs.Left.{mark_text, closing, taken, after_level, IsCountable, IsLeft, level_text, reach}
 use Rattle.term_print.specs.Printed.{CanPrint, CanBegin, Opens, Begins}
 use Rattle.term_print.specs.Runs.{CanGather, Gathers}
-use Rattle.term_print.proofs.Writing.{written-as, written-stops}
+use Rattle.text_parts.proofs.Writing.{written-as, written-stops}
 use Rattle.term_print.proofs.Taking.{IsMore, more_text, IsNoDeeper, Took, ends, took, countable}
 
 -- The words that are left stand for these trees, level by level.

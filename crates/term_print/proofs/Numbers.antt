@@ -9,7 +9,7 @@ use Rattle.term_read.specs.declared.looks.Bytes.{Bytes}
 use Rattle.term_order.specs.Own.{IsBytes, byte_in}
 use Rattle.term_order.proofs.Strings.{byte-is}
 use Rattle.term_print.specs.Own.{comma_before}
-use Rattle.term_print.proofs.Writing.{written-as, written-after, written-short, written-stops}
+use Rattle.text_parts.proofs.Writing.{written-as, written-after, written-short, written-stops}
 
 -- The numbers from number i on, each after what stands before it.
 abbrev pub numbers_from : (i : ℕ) → List ℕ → List ℕ

@@ -22,7 +22,7 @@ use Rattle.term_print.specs.declared.levels.Level.{Level}
 use Rattle.term_print.specs.Left.{after_level, in_turn, level_in}
 use Rattle.term_print.specs.Own.{own_text}
 use Rattle.term_print.specs.Printed.{Begins, CanBegin, Opens}
-use Rattle.term_print.proofs.Writing.{written-after, written-short}
+use Rattle.text_parts.proofs.Writing.{written-after, written-short}
 use Rattle.term_print.proofs.Texts.{tuple-text, map-text, nodes-turn, deep-turn, named-turn}
 
 -- The look's own text and its level, for a tree.

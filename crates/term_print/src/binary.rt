@@ -6,11 +6,11 @@ ghost use Rattle.term_read.specs.Look.{HasBytes};
 ghost use Rattle.term_order.specs.Own.{IsBytes};
 ghost use Rattle.term_print.specs.Own.{comma_before};
 
-use crate::put::{put, put_two};
 use itoa::Buffer;
 use line_io::{Sink, SinkFault};
 use term_order::byte;
 use term_read::Bytes;
+use text_parts::{put, put_two};
 use word_mem::WordMem;
 
 /// Writes the bytes of a binary in decimal, divided by commas.

@@ -5,7 +5,6 @@ mod binary;
 mod levels;
 mod own;
 mod printing;
-mod put;
 mod runs;
 
 pub use printing::print;

@@ -8,12 +8,12 @@ ghost use Rattle.term_order.specs.Own.{IsBytes, IsReadable, look_data};
 ghost use Rattle.term_print.specs.Own.{leaf_text, list_begun, list_ended, map_begun, own_text, tuple_begun};
 
 use crate::binary::put_binary;
-use crate::put::{put, put_five, put_three};
 use atom_names::AtomNames;
 use itoa::Buffer;
 use line_io::{Sink, SinkFault};
 use term_order::{data, integer};
 use term_read::Look;
+use text_parts::{put, put_five, put_three};
 use word_mem::WordMem;
 
 /// Writes what stands before the parts of a look's tree, and all of its text where it has none.

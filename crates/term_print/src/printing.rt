@@ -10,13 +10,13 @@ ghost use Rattle.term_print.specs.Printed.{Begins, CanBegin, CanPrint};
 
 use crate::levels::{Level, Mark, Step, end_bytes, keep, level_of, mark_bytes, next};
 use crate::own::put_own;
-use crate::put::put;
 use crate::runs::gather;
 use arrayvec::ArrayVec;
 use atom_names::AtomNames;
 use line_io::{Sink, SinkFault};
 use term_read::look_at;
 use term_walk::DEPTH_LIMIT;
+use text_parts::put;
 use word_mem::WordMem;
 
 /// Writes the text of a term that is within the walk limit.

@@ -1,7 +1,7 @@
 use Rattle.std.proofs.Common.{◌++◌, ap, ◌∙◌, subst, decimal, Err}
 use Rattle.line_io.specs.Sink.{Grew}
 use Rattle.term_print.specs.Own.{comma_before}
-use Rattle.term_print.proofs.Writing.{written-as}
+use Rattle.text_parts.proofs.Writing.{written-as}
 use Rattle.term_print.proofs.Numbers.{bytes-begin-badly, bytes-first, bytes-more, bytes-stop, bytes-end}
 use Rattle.term_print.proofs.binary.put_binary.Goals as goal
 

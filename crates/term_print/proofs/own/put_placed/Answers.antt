@@ -1,7 +1,7 @@
 use Rattle.std.proofs.Common.{true, ap, sym, codes, ◌++◌}
 use Rattle.plain_term.specs.Text.{placed}
 use Rattle.term_print.specs.Own.{leaf_text}
-use Rattle.term_print.proofs.Writing.{written-as, written-after, written-short}
+use Rattle.text_parts.proofs.Writing.{written-as, written-after, written-short}
 use Rattle.term_print.proofs.own.put_placed.Goals as goal
 
 pub returns-in_err-put : goal.returns-in_err-put

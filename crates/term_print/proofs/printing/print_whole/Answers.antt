@@ -4,7 +4,7 @@ use Rattle.line_io.specs.Sink.{Grew}
 use Rattle.term_words.specs.Role.{always}
 use Rattle.term_words.specs.Stands.{Stands}
 use Rattle.term_print.specs.Left.{closing}
-use Rattle.term_print.proofs.Writing.{written-as}
+use Rattle.text_parts.proofs.Writing.{written-as}
 use Rattle.term_print.proofs.Going.{prints-gathered, prints-gathered-stops, prints-popped, prints-first, first-stops, prints-end, prints-end-stops, prints-part, prints-part-stops, part-asks, keeps-more, begins-kept, level-counts, level-gathers, levels-grow}
 use Rattle.term_print.proofs.printing.print_whole.Goals as goal
 

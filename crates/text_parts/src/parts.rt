@@ -42,8 +42,14 @@ pub fn put_five<K: Sink>(
     put_four(sink, b, c, d, e)
 }
 
-// Writes four texts.
-fn put_four<K: Sink>(sink: &mut K, a: &[u8], b: &[u8], c: &[u8], d: &[u8]) -> Result<(), SinkFault>
+/// Writes four texts.
+pub fn put_four<K: Sink>(
+    sink: &mut K,
+    a: &[u8],
+    b: &[u8],
+    c: &[u8],
+    d: &[u8],
+) -> Result<(), SinkFault>
     ensures { Written K.wrote K.faults sink.old sink.new (a.now ++ (b.now ++ (c.now ++ d.now))) result }
 {
     put(sink, a)?;

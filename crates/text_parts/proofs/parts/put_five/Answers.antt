@@ -1,6 +1,6 @@
 use Rattle.std.proofs.Common.{◌++◌}
-use Rattle.term_print.proofs.Writing.{written-after}
-use Rattle.term_print.proofs.put.put_five.Goals as goal
+use Rattle.text_parts.proofs.Writing.{written-after}
+use Rattle.text_parts.proofs.parts.put_five.Goals as goal
 
 pub returns : goal.returns
 returns g c =

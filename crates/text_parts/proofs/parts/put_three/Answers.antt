@@ -1,6 +1,6 @@
 use Rattle.std.proofs.Common.{◌++◌}
-use Rattle.term_print.proofs.Writing.{written-after}
-use Rattle.term_print.proofs.put.put_three.Goals as goal
+use Rattle.text_parts.proofs.Writing.{written-after}
+use Rattle.text_parts.proofs.parts.put_three.Goals as goal
 
 pub returns : goal.returns
 returns g c =

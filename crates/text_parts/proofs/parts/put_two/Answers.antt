@@ -1,5 +1,5 @@
-use Rattle.term_print.proofs.Writing.{written-after}
-use Rattle.term_print.proofs.put.put_two.Goals as goal
+use Rattle.text_parts.proofs.Writing.{written-after}
+use Rattle.text_parts.proofs.parts.put_two.Goals as goal
 
 pub returns : goal.returns
 returns g c =
