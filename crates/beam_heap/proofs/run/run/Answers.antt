@@ -1,6 +1,0 @@
--- The options are those that the words ask for.
-use Rattle.command_line.proofs.Arenas.{asked-arena}
-use Rattle.beam_heap.proofs.run.run.Goals as goal
-
-pub run_by-requires-clause-arena : goal.run_by-requires-clause-arena
-run_by-requires-clause-arena g c = asked-arena _ c.in-Ok.options c.in-Ok.ensures.options

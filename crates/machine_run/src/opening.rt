@@ -1,0 +1,32 @@
+// What a run begins with.
+ghost use Rattle.std.specs.Prelude.{◌≡◌, ◌≤◌, length, IfSome, true};
+ghost use Rattle.plain_machine.specs.State.{first_state};
+ghost use Rattle.command_line.specs.Values.{is_arena};
+ghost use Rattle.engine.specs.Acts.{StandsWith};
+
+use atom_names::AtomNames;
+use engine::Machine;
+use one_space::OneSpace;
+use script_parse::Code;
+use space_api::Space;
+use std::alloc::Global;
+
+/// A machine in its first state, over an arena of so many words, both halves: process 1 lives, and there are no names.
+pub fn first_machine(alloc: Global, words: u64) -> Option<Machine<OneSpace>>
+    requires { is_arena words ≡ true }
+    ensures stands { IfSome result (λ m. StandsWith (⟦<OneSpace as Space>⟧.stands m.space) m.names first_state) }
+    ensures words { IfSome result (λ m. ⟦<OneSpace as Space>⟧.words m.space ≡ words) }
+    ensures calls { IfSome result (λ m. ⟦<OneSpace as Space>⟧.calls m.space ≡ 0) }
+    ensures named { IfSome result (λ m. ⟦<OneSpace as Space>⟧.named m.space ≤ length m.names) }
+{
+    let Ok(space) = OneSpace::start(alloc, words) else {
+        return None;
+    };
+    let Ok(names) = AtomNames::new(alloc) else {
+        return None;
+    };
+    let Ok(code) = Code::new(alloc) else {
+        return None;
+    };
+    Some(Machine { space, names, code })
+}

@@ -1,0 +1,25 @@
+//! Tests of whole runs: scripts, faults, command lines and made scripts, each with what it must write.
+#![tactic(auto)]
+
+#[cfg(test)]
+mod edge;
+#[cfg(test)]
+mod faults;
+#[cfg(test)]
+mod grown;
+#[cfg(test)]
+mod made;
+#[cfg(test)]
+mod parts;
+#[cfg(test)]
+mod rows;
+#[cfg(test)]
+mod runs;
+#[cfg(test)]
+mod small;
+#[cfg(test)]
+mod statuses;
+#[cfg(test)]
+mod verbs;
+#[cfg(test)]
+mod words;
