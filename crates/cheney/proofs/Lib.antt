@@ -12,7 +12,6 @@ pub mod Ends
 pub mod Counts
 pub mod Begins
 pub mod Rows
-pub mod Sample
 pub mod Fitting
 pub mod Next
 pub mod Places

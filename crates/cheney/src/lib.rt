@@ -11,8 +11,6 @@ mod parts;
 mod roots;
 mod spine;
 mod stay;
-#[cfg(test)]
-mod tests;
 
 pub use collection::collect;
 pub use laws::{

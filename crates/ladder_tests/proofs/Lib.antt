@@ -1,3 +1,4 @@
 pub mod Good
 pub mod Rolls
 pub mod Maps
+pub mod Sample

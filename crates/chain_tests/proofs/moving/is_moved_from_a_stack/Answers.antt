@@ -1,5 +1,5 @@
-use Rattle.cheney.proofs.Sample.{stack-there, stack-scans}
-use Rattle.cheney.proofs.tests.is_moved_from_a_stack.Goals as goal
+use Rattle.chain_tests.proofs.Sample.{stack-there, stack-scans}
+use Rattle.chain_tests.proofs.moving.is_moved_from_a_stack.Goals as goal
 
 pub evacuate_places-requires-clause-can : goal.evacuate_places-requires-clause-can
 evacuate_places-requires-clause-can c = stack-there c.laid.result c.in_ok-mem.mem c.none.result c.with.result c.empty.result c.empty-2.result c.in_ok-mem.was c.laid.ensures c.none.ensures

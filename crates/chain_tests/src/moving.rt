@@ -1,55 +1,9 @@
-ghost use Rattle.std.specs.Prelude.{◌≡◌, ◌≤◌, ◌^◌, length, IfOk};
-
-use crate::collection::collect;
-use crate::moving::Moving;
-use crate::parts::scan;
-use crate::roots::evacuate_places;
-use crate::stay::Stay;
+// An object of each kind is moved.
+use crate::memory::{empty, holds, laid};
+use cheney::{Moving, Stay, collect, evacuate_places, scan};
 use std::alloc::Global;
 use std::rt::HostRuntime;
-use word_mem::{OpenFault, Room, Span, WordMem};
-
-// A memory of these words.
-fn laid(alloc: Global, words: &[u64]) -> Result<WordMem, OpenFault>
-    requires least { 1 ≤ length words.now }
-    requires most { length words.now ≤ 2 ^ 24 }
-    ensures { IfOk result (λ m. m ≡ words.now) }
-{
-    let mut mem = WordMem::new(alloc, words.len() as u64)?;
-    for i in 0..words.len() {
-        mem.set(i as u64, words[i]);
-    }
-    Ok(mem)
-}
-
-// Whether the memory holds these words from a place on.
-fn holds(mem: &WordMem, from: u64, words: &[u64]) -> bool
-    requires { from ≤ 2 ^ 24 }
-{
-    let len = mem.len();
-    for i in 0..words.len() {
-        let place = from + i as u64;
-        if place >= len {
-            return false;
-        }
-        if mem.get(place) != words[i] {
-            return false;
-        }
-    }
-    true
-}
-
-// An empty room.
-fn empty(start: u64, end: u64) -> Room
-    requires { start ≤ end }
-    ensures { result ≡ record { start = start; top = start; end = end } }
-{
-    Room {
-        start,
-        top: start,
-        end,
-    }
-}
+use word_mem::{OpenFault, Span};
 
 // 2^63, a big integer's digit.
 const BIG: u64 = 1 << 63;

@@ -1,6 +1,6 @@
 use Rattle.std.proofs.Common.{◌∙◌}
-use Rattle.cheney.proofs.Sample.{begins-there, can-collect, can-go-on, plan}
-use Rattle.cheney.proofs.tests.is_moved_twice.Goals as goal
+use Rattle.chain_tests.proofs.Sample.{begins-there, can-collect, can-go-on, plan}
+use Rattle.chain_tests.proofs.moving.is_moved_twice.Goals as goal
 
 pub collect-requires : goal.collect-requires
 collect-requires c = can-collect c.laid.result c.in_ok-mem.mem c.none.result c.with-stay.result c.empty-3.result c.empty-4.result c.in_ok-mem.was c.laid.ensures c.none.ensures
