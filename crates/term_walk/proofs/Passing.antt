@@ -13,10 +13,11 @@ use Rattle.term_read.specs.declared.looks.Look.TheVariants as look
 use Rattle.term_read.proofs.Seen.{sees-cons}
 use Rattle.term_walk.specs.declared.levels.Rest.{Rest}
 use Rattle.term_walk.specs.Left.{deepest}
-use Rattle.term_walk.specs.Measured.{Counting, Counts}
+use Rattle.term_walk.specs.declared.measured.Measured.TheVariants.{Within}
+use Rattle.term_walk.specs.Measured.{Counting, Counts, Measures}
 use Rattle.term_walk.specs.Runs.{Passed, Passes}
 use Rattle.term_walk.proofs.Steps.{parted}
-use Rattle.term_walk.proofs.Sums.{when-true}
+use Rattle.term_walk.proofs.Sums.{when-true, is-within}
 
 -- A word that is no pointer stands for a tree of one node, no word and no depth.
 abbrev pub IsSlight : List (List ℕ) → Tree → Type 0
@@ -92,11 +93,19 @@ count-passed c shared mem t word next levels seen words cells shallow k p = reco
     no-deeper (inl none) = omega (arith, p.depth_is, none)
     no-deeper (inr room) = omega (arith, p.depth_is, room)
 
-pub counts-passed : (mem : List ℕ) (first word next : ℕ) (items : List Rest) (seen words most cells : ℕ) → (most ≡ 0) ⊎ (length items + 1 ≤ depth_limit) → cells ≤ most
-    → Counts mem first word (reverse items) seen words → Passes mem word next cells → Counts mem first next (reverse items) (seen + 2 * cells) (words + 2 * cells)
-counts-passed mem first word next items seen words most cells shallow few k p = λ c shared t s.
+pub counts-passed : (levels : ℕ) (mem : List ℕ) (first word next : ℕ) (items : List Rest) (seen words most cells : ℕ) → levels ≤ depth_limit
+    → (most ≡ 0) ⊎ (length items + 1 ≤ levels) → cells ≤ most → Counts mem first word (reverse items) seen words → Passes mem word next cells → Counts mem first next (reverse items) (seen + 2 * cells) (words + 2 * cells)
+counts-passed levels mem first word next items seen words most cells low shallow few k p = λ c shared t s.
     count-passed c shared mem t word next (reverse items) seen words cells (behind shallow) (k c shared t s) (p.each c shared (k c shared t s).now (k c shared t s).standing)
   where
-    behind : (most ≡ 0) ⊎ (length items + 1 ≤ depth_limit) → (cells ≡ 0) ⊎ (length (reverse items) + 1 ≤ depth_limit)
+    behind : (most ≡ 0) ⊎ (length items + 1 ≤ levels) → (cells ≡ 0) ⊎ (length (reverse items) + 1 ≤ depth_limit)
     behind (inl none) = inl (omega (arith, none, few))
-    behind (inr room) = inr (omega (arith, room, length-reverse items))
+    behind (inr room) = inr (omega (arith, low, room, length-reverse items))
+
+-- The measures of an immediate.
+pub measures-slight : (mem : List ℕ) (w : ℕ) → w % 4 ≡ 3 → Measures mem w (Within (record { nodes = 1; flat = 0 }))
+measures-slight mem w tag = record {
+  each = λ c shared t s.
+      let (one, none, low) = slight c shared mem w t s tag in
+      is-within shared t 1 0 one none (omega arith) (omega (arith, low));
+}

@@ -353,10 +353,10 @@ parted-none c shared mem now l other e p = subst (PartedBy c shared mem now) e p
 
 -- A cons leads to its head.
 
-from-cons : (c : ℕ → ℕ → Bool) (shared : List (List ℕ)) (mem : List ℕ) (old : List Rest) (rests : List Trees) (place : ℕ) (h t : Tree) → length old + 1 ≤ depth_limit → AreLeft c shared mem old rests
+from-cons : (most : ℕ) (c : ℕ → ℕ → Bool) (shared : List (List ℕ)) (mem : List ℕ) (old : List Rest) (rests : List Trees) (place : ℕ) (h t : Tree) → length old + 1 ≤ depth_limit → AreLeft c shared mem old rests
     → place + 2 ≤ length mem → Stands c shared mem (get_or mem place 0) h → Stands c shared mem (get_or mem (place + 1) 0) t
-    → Goes c shared mem old (Cons h t) rests (further.Word (get_or mem place 0)) (rest.Tail (place + 1) ∷ old)
-from-cons c shared mem old rests place h t few left within sh st = record {
+    → Goes most c shared mem old (Cons h t) rests (further.Word (get_or mem place 0)) (rest.Tail (place + 1) ∷ old)
+from-cons most c shared mem old rests place h t few left within sh st = record {
   now = h;
   rests = (t ▹ end) ∷ rests;
   standing = sh;
@@ -366,60 +366,60 @@ from-cons c shared mem old rests place h t few left within sh st = record {
   depths = omega arith;
 }
 
-pub goes-cons : (c : ℕ → ℕ → Bool) (shared : List (List ℕ)) (mem : List ℕ) (old : List Rest) (w : ℕ) (now : Tree) (rests : List Trees) (l : Look) (place : ℕ) → length old + 1 ≤ depth_limit
-    → l ≡ look.Cons place → IsSeen c shared mem w now l → AreLeft c shared mem old rests → Goes c shared mem old now rests (further.Word (get_or mem place 0)) (rest.Tail (place + 1) ∷ old)
-goes-cons c shared mem old w now rests l place few e seen left =
+pub goes-cons : (most : ℕ) (c : ℕ → ℕ → Bool) (shared : List (List ℕ)) (mem : List ℕ) (old : List Rest) (w : ℕ) (now : Tree) (rests : List Trees) (l : Look) (place : ℕ) → length old + 1 ≤ depth_limit
+    → l ≡ look.Cons place → IsSeen c shared mem w now l → AreLeft c shared mem old rests → Goes most c shared mem old now rests (further.Word (get_or mem place 0)) (rest.Tail (place + 1) ∷ old)
+goes-cons most c shared mem old w now rests l place few e seen left =
     let (h, t, is, within, sh, st) = subst (Parted c shared mem now) e (parted c shared mem w now l seen) in
-    let P : Tree → Type 0 = λ z. Goes c shared mem old z rests (further.Word (get_or mem place 0)) (rest.Tail (place + 1) ∷ old) in
-    subst P (sym is) (from-cons c shared mem old rests place h t few left within sh st)
+    let P : Tree → Type 0 = λ z. Goes most c shared mem old z rests (further.Word (get_or mem place 0)) (rest.Tail (place + 1) ∷ old) in
+    subst P (sym is) (from-cons most c shared mem old rests place h t few left within sh st)
 
-pub deep-cons : (c : ℕ → ℕ → Bool) (shared : List (List ℕ)) (mem : List ℕ) (old : List Rest) (w : ℕ) (now : Tree) (l : Look) (place : ℕ) → length old ≡ depth_limit
-    → l ≡ look.Cons place → IsSeen c shared mem w now l → depth_limit < length old + depth now
-deep-cons c shared mem old w now l place full e seen =
+pub deep-cons : (most : ℕ) (c : ℕ → ℕ → Bool) (shared : List (List ℕ)) (mem : List ℕ) (old : List Rest) (w : ℕ) (now : Tree) (l : Look) (place : ℕ) → length old ≡ most
+    → l ≡ look.Cons place → IsSeen c shared mem w now l → most < length old + depth now
+deep-cons most c shared mem old w now l place full e seen =
     let (h, t, is, within, sh, st) = subst (Parted c shared mem now) e (parted c shared mem w now l seen) in
     let deep : depth now ≡ max (1 + depth h) (depth t) = ap depth is in
     omega (arith, deep, full)
 
 -- Any other object leads to its rows.
 
-pub goes-rows : (c : ℕ → ℕ → Bool) (shared : List (List ℕ)) (mem : List ℕ) (old : List Rest) (w : ℕ) (now : Tree) (rests : List Trees) (l : Look) (r : Rest) (word : ℕ) (new : List Rest)
-    → length old + 1 ≤ depth_limit → rest_in l ≡ Some r → IsSeen c shared mem w now l → AreLeft c shared mem old rests → Yields mem (r ∷ old) (Some word) new → Goes c shared mem old now rests (further.Word word) new
-goes-rows c shared mem old w now rests l r word new few e seen left y =
+pub goes-rows : (most : ℕ) (c : ℕ → ℕ → Bool) (shared : List (List ℕ)) (mem : List ℕ) (old : List Rest) (w : ℕ) (now : Tree) (rests : List Trees) (l : Look) (r : Rest) (word : ℕ) (new : List Rest)
+    → length old + 1 ≤ depth_limit → rest_in l ≡ Some r → IsSeen c shared mem w now l → AreLeft c shared mem old rests → Yields mem (r ∷ old) (Some word) new → Goes most c shared mem old now rests (further.Word word) new
+goes-rows most c shared mem old w now rests l r word new few e seen left y =
     let (is, deep, one) = parted-some c shared mem now l r e (parted c shared mem w now l seen) in
     let same : length old + depth now ≡ length old + (inside r + greatest_depth (parts_of now)) = omega (arith, deep, one) in
     goes-same c shared mem (trees_append (parts_of now) (left_of rests)) (trees_append (parts_of now) (left_of rests))
     (max (length old + (inside r + greatest_depth (parts_of now))) (deepest old rests)) (max (length old + depth now) (deepest old rests)) word new refl
     (ap (λ z. max depth_limit (max z (deepest old rests))) same) (y.each c shared (parts_of now ∷ rests) (omega arith) (is, left))
 
-pub ends-rows : (c : ℕ → ℕ → Bool) (shared : List (List ℕ)) (mem : List ℕ) (old : List Rest) (w : ℕ) (now : Tree) (rests : List Trees) (l : Look) (r : Rest) (new : List Rest)
-    → length old + 1 ≤ depth_limit → rest_in l ≡ Some r → IsSeen c shared mem w now l → AreLeft c shared mem old rests → Yields mem (r ∷ old) None new → Goes c shared mem old now rests further.End new
-ends-rows c shared mem old w now rests l r new few e seen left y =
+pub ends-rows : (most : ℕ) (c : ℕ → ℕ → Bool) (shared : List (List ℕ)) (mem : List ℕ) (old : List Rest) (w : ℕ) (now : Tree) (rests : List Trees) (l : Look) (r : Rest) (new : List Rest)
+    → length old + 1 ≤ depth_limit → rest_in l ≡ Some r → IsSeen c shared mem w now l → AreLeft c shared mem old rests → Yields mem (r ∷ old) None new → Goes most c shared mem old now rests further.End new
+ends-rows most c shared mem old w now rests l r new few e seen left y =
     let (is, deep, one) = parted-some c shared mem now l r e (parted c shared mem w now l seen) in
     let same : length old + depth now ≡ length old + (inside r + greatest_depth (parts_of now)) = omega (arith, deep, one) in
     ends-same (trees_append (parts_of now) (left_of rests)) (trees_append (parts_of now) (left_of rests))
     (max (length old + (inside r + greatest_depth (parts_of now))) (deepest old rests)) (max (length old + depth now) (deepest old rests)) refl
     (ap (λ z. max depth_limit (max z (deepest old rests))) same) (y.each c shared (parts_of now ∷ rests) (omega arith) (is, left))
 
-pub deep-rows : (c : ℕ → ℕ → Bool) (shared : List (List ℕ)) (mem : List ℕ) (old : List Rest) (w : ℕ) (now : Tree) (l : Look) (r : Rest) → length old ≡ depth_limit
-    → rest_in l ≡ Some r → IsSeen c shared mem w now l → depth_limit < length old + depth now
-deep-rows c shared mem old w now l r full e seen =
+pub deep-rows : (most : ℕ) (c : ℕ → ℕ → Bool) (shared : List (List ℕ)) (mem : List ℕ) (old : List Rest) (w : ℕ) (now : Tree) (l : Look) (r : Rest) → length old ≡ most
+    → rest_in l ≡ Some r → IsSeen c shared mem w now l → most < length old + depth now
+deep-rows most c shared mem old w now l r full e seen =
     let (is, deep, one) = parted-some c shared mem now l r e (parted c shared mem w now l seen) in
     omega (arith, deep, full)
 
 -- A word without parts leads to what was left.
 
-pub goes-on : (c : ℕ → ℕ → Bool) (shared : List (List ℕ)) (mem : List ℕ) (old : List Rest) (w : ℕ) (now : Tree) (rests : List Trees) (l : Look) (word : ℕ) (new : List Rest)
+pub goes-on : (most : ℕ) (c : ℕ → ℕ → Bool) (shared : List (List ℕ)) (mem : List ℕ) (old : List Rest) (w : ℕ) (now : Tree) (rests : List Trees) (l : Look) (word : ℕ) (new : List Rest)
     → length old ≤ depth_limit → ((place : ℕ) → l ≡ look.Cons place → ⊥) → rest_in l ≡ None → IsSeen c shared mem w now l → AreLeft c shared mem old rests → Yields mem old (Some word) new
-    → Goes c shared mem old now rests (further.Word word) new
-goes-on c shared mem old w now rests l word new few other e seen left y =
+    → Goes most c shared mem old now rests (further.Word word) new
+goes-on most c shared mem old w now rests l word new few other e seen left y =
     let (none, flat) = parted-none c shared mem now l other e (parted c shared mem w now l seen) in
     goes-same c shared mem (left_of rests) (trees_append (parts_of now) (left_of rests)) (deepest old rests) (max (length old + depth now) (deepest old rests)) word new
     (ap (λ z. trees_append z (left_of rests)) none) (omega (arith, flat)) (y.each c shared rests few left)
 
-pub ends-on : (c : ℕ → ℕ → Bool) (shared : List (List ℕ)) (mem : List ℕ) (old : List Rest) (w : ℕ) (now : Tree) (rests : List Trees) (l : Look) (new : List Rest)
+pub ends-on : (most : ℕ) (c : ℕ → ℕ → Bool) (shared : List (List ℕ)) (mem : List ℕ) (old : List Rest) (w : ℕ) (now : Tree) (rests : List Trees) (l : Look) (new : List Rest)
     → length old ≤ depth_limit → ((place : ℕ) → l ≡ look.Cons place → ⊥) → rest_in l ≡ None → IsSeen c shared mem w now l → AreLeft c shared mem old rests → Yields mem old None new
-    → Goes c shared mem old now rests further.End new
-ends-on c shared mem old w now rests l new few other e seen left y =
+    → Goes most c shared mem old now rests further.End new
+ends-on most c shared mem old w now rests l new few other e seen left y =
     let (none, flat) = parted-none c shared mem now l other e (parted c shared mem w now l seen) in
     ends-same (left_of rests) (trees_append (parts_of now) (left_of rests)) (deepest old rests) (max (length old + depth now) (deepest old rests))
     (ap (λ z. trees_append z (left_of rests)) none) (omega (arith, flat)) (y.each c shared rests few left)
@@ -441,11 +441,18 @@ same-left mem old l g = record { shared = g.shared; rests = g.rests; few = g.few
 
 -- A stack that is not full has room for one level more.
 
-pub differs : (n : ℕ) → false ≡ nat_eq n 1024 → n ≤ 1024 → n + 1 ≤ 1024
-differs n e few = grind (arith, nat_tests)
+pub differs : (n most : ℕ) → false ≡ nat_eq n most → n ≤ most → n + 1 ≤ most
+differs n most e few = grind (arith, nat_tests)
 
-pub room-left : (items : List Rest) → false ≡ nat_eq (length items) 1024 → length items ≤ 1024 → length (reverse items) + 1 ≤ depth_limit
-room-left items e few = omega (arith, differs (length items) e few, length-reverse items)
+pub room-left : (most : ℕ) (items : List Rest) → most ≤ depth_limit → false ≡ nat_eq (length items) most → length items ≤ most → length (reverse items) + 1 ≤ depth_limit
+room-left most items low e few = omega (arith, differs (length items) most e few, length-reverse items)
+
+-- One that is full has all its levels.
+pub all-taken : (most : ℕ) (items : List Rest) → true ≡ nat_eq (length items) most → length (reverse items) ≡ most
+all-taken most items e = length-reverse items ∙ same (length items) most e
+  where
+    same : (a b : ℕ) → true ≡ nat_eq a b → a ≡ b
+    same a b e = grind (arith, nat_tests)
 
 -- The levels once the rows of an object are among them: on a level of their own, or none where it has none.
 abbrev pub Entered : Look → List Rest → List Rest → Type 0
@@ -456,28 +463,28 @@ pub entered-left : (mem : List ℕ) (old new : List Rest) (l : Look) → CanGo m
 entered-left mem old new l g (inl (r, e, is, few)) = let P : List Rest → Type 0 = λ z. HasLeft mem z in subst P (sym is) (rows-left mem old l r few g e)
 entered-left mem old new l g (inr (e, is, other)) = let P : List Rest → Type 0 = λ z. HasLeft mem z in subst P (sym is) (same-left mem old l g)
 
-pub entered-goes : (c : ℕ → ℕ → Bool) (shared : List (List ℕ)) (mem : List ℕ) (old levels new : List Rest) (w : ℕ) (now : Tree) (rests : List Trees) (l : Look) (word : ℕ) → length old ≤ depth_limit
-    → Entered l old levels → Yields mem levels (Some word) new → IsSeen c shared mem w now l → AreLeft c shared mem old rests → Goes c shared mem old now rests (further.Word word) new
-entered-goes c shared mem old levels new w now rests l word most (inl (r, e, is, few)) y seen left =
+pub entered-goes : (most : ℕ) (c : ℕ → ℕ → Bool) (shared : List (List ℕ)) (mem : List ℕ) (old levels new : List Rest) (w : ℕ) (now : Tree) (rests : List Trees) (l : Look) (word : ℕ) → length old ≤ depth_limit
+    → Entered l old levels → Yields mem levels (Some word) new → IsSeen c shared mem w now l → AreLeft c shared mem old rests → Goes most c shared mem old now rests (further.Word word) new
+entered-goes most c shared mem old levels new w now rests l word low (inl (r, e, is, few)) y seen left =
     let P : List Rest → Type 0 = λ z. Yields mem z (Some word) new in
-    goes-rows c shared mem old w now rests l r word new few e seen left (subst P is y)
-entered-goes c shared mem old levels new w now rests l word most (inr (e, is, other)) y seen left =
+    goes-rows most c shared mem old w now rests l r word new few e seen left (subst P is y)
+entered-goes most c shared mem old levels new w now rests l word low (inr (e, is, other)) y seen left =
     let P : List Rest → Type 0 = λ z. Yields mem z (Some word) new in
-    goes-on c shared mem old w now rests l word new most other e seen left (subst P is y)
+    goes-on most c shared mem old w now rests l word new low other e seen left (subst P is y)
 
-pub entered-ends : (c : ℕ → ℕ → Bool) (shared : List (List ℕ)) (mem : List ℕ) (old levels new : List Rest) (w : ℕ) (now : Tree) (rests : List Trees) (l : Look) → length old ≤ depth_limit
-    → Entered l old levels → Yields mem levels None new → IsSeen c shared mem w now l → AreLeft c shared mem old rests → Goes c shared mem old now rests further.End new
-entered-ends c shared mem old levels new w now rests l most (inl (r, e, is, few)) y seen left =
+pub entered-ends : (most : ℕ) (c : ℕ → ℕ → Bool) (shared : List (List ℕ)) (mem : List ℕ) (old levels new : List Rest) (w : ℕ) (now : Tree) (rests : List Trees) (l : Look) → length old ≤ depth_limit
+    → Entered l old levels → Yields mem levels None new → IsSeen c shared mem w now l → AreLeft c shared mem old rests → Goes most c shared mem old now rests further.End new
+entered-ends most c shared mem old levels new w now rests l low (inl (r, e, is, few)) y seen left =
     let P : List Rest → Type 0 = λ z. Yields mem z None new in
-    ends-rows c shared mem old w now rests l r new few e seen left (subst P is y)
-entered-ends c shared mem old levels new w now rests l most (inr (e, is, other)) y seen left =
+    ends-rows most c shared mem old w now rests l r new few e seen left (subst P is y)
+entered-ends most c shared mem old levels new w now rests l low (inr (e, is, other)) y seen left =
     let P : List Rest → Type 0 = λ z. Yields mem z None new in
-    ends-on c shared mem old w now rests l new most other e seen left (subst P is y)
+    ends-on most c shared mem old w now rests l new low other e seen left (subst P is y)
 
-pub cons-goes : (c : ℕ → ℕ → Bool) (shared : List (List ℕ)) (mem : List ℕ) (old new : List Rest) (w : ℕ) (now : Tree) (rests : List Trees) (l : Look) (place word : ℕ) → length old + 1 ≤ depth_limit
+pub cons-goes : (most : ℕ) (c : ℕ → ℕ → Bool) (shared : List (List ℕ)) (mem : List ℕ) (old new : List Rest) (w : ℕ) (now : Tree) (rests : List Trees) (l : Look) (place word : ℕ) → length old + 1 ≤ depth_limit
     → l ≡ look.Cons place → new ≡ rest.Tail (place + 1) ∷ old → word ≡ get_or mem place 0 → IsSeen c shared mem w now l → AreLeft c shared mem old rests
-    → Goes c shared mem old now rests (further.Word word) new
-cons-goes c shared mem old new w now rests l place word few e is at seen left =
-    let P : List Rest → Type 0 = λ z. Goes c shared mem old now rests (further.Word (get_or mem place 0)) z in
-    let Q : ℕ → Type 0 = λ z. Goes c shared mem old now rests (further.Word z) new in
-    subst Q (sym at) (subst P (sym is) (goes-cons c shared mem old w now rests l place few e seen left))
+    → Goes most c shared mem old now rests (further.Word word) new
+cons-goes most c shared mem old new w now rests l place word few e is at seen left =
+    let P : List Rest → Type 0 = λ z. Goes most c shared mem old now rests (further.Word (get_or mem place 0)) z in
+    let Q : ℕ → Type 0 = λ z. Goes most c shared mem old now rests (further.Word z) new in
+    subst Q (sym at) (subst P (sym is) (goes-cons most c shared mem old w now rests l place few e seen left))

@@ -109,10 +109,10 @@ counts-first mem w levels e =
 
 -- A step counts the word.
 
-count-on : (c : ℕ → ℕ → Bool) (shared : List (List ℕ)) (mem : List ℕ) (t : Tree) (word next : ℕ) (levels new : List Rest) (l : Look) (seen words n : ℕ)
-    → (k : Counting c shared mem t word levels seen words) → IsSeen c shared mem word k.now l → HasFlat mem l n → Goes c shared mem levels k.now k.rests (further.Word next) new
+count-on : (most : ℕ) (c : ℕ → ℕ → Bool) (shared : List (List ℕ)) (mem : List ℕ) (t : Tree) (word next : ℕ) (levels new : List Rest) (l : Look) (seen words n : ℕ)
+    → (k : Counting c shared mem t word levels seen words) → IsSeen c shared mem word k.now l → HasFlat mem l n → Goes most c shared mem levels k.now k.rests (further.Word next) new
     → Counting c shared mem t next new (seen + nodes_in l) (words + n)
-count-on c shared mem t word next levels new l seen words n k sees has g = record {
+count-on most c shared mem t word next levels new l seen words n k sees has g = record {
   now = g.now;
   rests = g.rests;
   standing = g.standing;
@@ -123,17 +123,17 @@ count-on c shared mem t word next levels new l seen words n k sees has g = recor
   depth_is = k.depth_is ∙ g.depths;
 }
 
-abbrev pub Leads : List ℕ → List Rest → Look → Further → List Rest → Type 0
-Leads mem levels l result new = (c : ℕ → ℕ → Bool) (shared : List (List ℕ)) (w : ℕ) (now : Tree) (rests : List Trees)
-    → Stands c shared mem w now → IsSeen c shared mem w now l → AreLeft c shared mem levels rests → Goes c shared mem levels now rests result new
+abbrev pub Leads : (most : ℕ) → List ℕ → List Rest → Look → Further → List Rest → Type 0
+Leads most mem levels l result new = (c : ℕ → ℕ → Bool) (shared : List (List ℕ)) (w : ℕ) (now : Tree) (rests : List Trees)
+    → Stands c shared mem w now → IsSeen c shared mem w now l → AreLeft c shared mem levels rests → Goes most c shared mem levels now rests result new
 
-pub counts-on : (mem : List ℕ) (first word next : ℕ) (levels new : List Rest) (l : Look) (seen words n total flats : ℕ) → Counts mem first word levels seen words → Sees mem word l → HasFlat mem l n
-    → Leads mem levels l (further.Word next) new → total ≡ seen + nodes_in l → flats ≡ words + n → Counts mem first next new total flats
-counts-on mem first word next levels new l seen words n total flats k sees has g e f =
+pub counts-on : (most : ℕ) (mem : List ℕ) (first word next : ℕ) (levels new : List Rest) (l : Look) (seen words n total flats : ℕ) → Counts mem first word levels seen words → Sees mem word l → HasFlat mem l n
+    → Leads most mem levels l (further.Word next) new → total ≡ seen + nodes_in l → flats ≡ words + n → Counts mem first next new total flats
+counts-on most mem first word next levels new l seen words n total flats k sees has g e f =
     let P : ℕ → Type 0 = λ z. Counts mem first next new z flats in
     let Q : ℕ → Type 0 = λ z. Counts mem first next new (seen + nodes_in l) z in
     let here : Counts mem first next new (seen + nodes_in l) (words + n) = λ c shared t s.
-    count-on c shared mem t word next levels new l seen words n (k c shared t s) (sees.each c shared (k c shared t s).now (k c shared t s).standing) has
+    count-on most c shared mem t word next levels new l seen words n (k c shared t s) (sees.each c shared (k c shared t s).now (k c shared t s).standing) has
     (g c shared word (k c shared t s).now (k c shared t s).rests (k c shared t s).standing (sees.each c shared (k c shared t s).now (k c shared t s).standing) (k c shared t s).left) in
     subst P (sym e) (subst Q (sym f) here)
 
@@ -157,7 +157,7 @@ test-true a b h = grind (arith, nat_tests)
 pub test-false : (a b : ℕ) → b ≤ a → nat_lt a b ≡ false
 test-false a b h = grind (arith, nat_tests)
 
-is-within : (shared : List (List ℕ)) (t : Tree) (n f : ℕ) → nodes shared t ≡ n → flat t ≡ f → n ≤ node_limit → depth t ≤ depth_limit → Within (record { nodes = n; flat = f }) ≡ measured shared t
+pub is-within : (shared : List (List ℕ)) (t : Tree) (n f : ℕ) → nodes shared t ≡ n → flat t ≡ f → n ≤ node_limit → depth t ≤ depth_limit → Within (record { nodes = n; flat = f }) ≡ measured shared t
 is-within shared t n f en ef few shallow =
     let b : is_beyond shared t ≡ false = or-false (nat_lt node_limit (nodes shared t)) (nat_lt depth_limit (depth t)) (test-false node_limit (nodes shared t) (omega (arith, en, few))) (test-false depth_limit (depth t) shallow) in
     ap₂ (λ a b. Within (record { nodes = a; flat = b })) (sym en) (sym ef) ∙ sym (when-false (is_beyond shared t) Beyond (Within (record { nodes = nodes shared t; flat = flat t })) b)
@@ -168,20 +168,20 @@ is-many shared t h = sym (when-true (is_beyond shared t) Beyond (Within (record 
 is-deep : (shared : List (List ℕ)) (t : Tree) → depth_limit < depth t → Beyond ≡ measured shared t
 is-deep shared t h = sym (when-true (is_beyond shared t) Beyond (Within (record { nodes = nodes shared t; flat = flat t })) (or-right (nat_lt node_limit (nodes shared t)) (nat_lt depth_limit (depth t)) (test-true depth_limit (depth t) h)))
 
-end-within : (c : ℕ → ℕ → Bool) (shared : List (List ℕ)) (mem : List ℕ) (t : Tree) (word : ℕ) (levels new : List Rest) (l : Look) (seen words n : ℕ)
-    → (k : Counting c shared mem t word levels seen words) → IsSeen c shared mem word k.now l → HasFlat mem l n → Goes c shared mem levels k.now k.rests further.End new → seen + nodes_in l ≤ node_limit
+end-within : (most : ℕ) (c : ℕ → ℕ → Bool) (shared : List (List ℕ)) (mem : List ℕ) (t : Tree) (word : ℕ) (levels new : List Rest) (l : Look) (seen words n : ℕ)
+    → (k : Counting c shared mem t word levels seen words) → IsSeen c shared mem word k.now l → HasFlat mem l n → Goes most c shared mem levels k.now k.rests further.End new → seen + nodes_in l ≤ node_limit
     → Within (record { nodes = seen + nodes_in l; flat = words + n }) ≡ measured shared t
-end-within c shared mem t word levels new l seen words n k sees has g few = is-within shared t (seen + nodes_in l) (words + n)
+end-within most c shared mem t word levels new l seen words n k sees has g few = is-within shared t (seen + nodes_in l) (words + n)
     (omega (arith, k.nodes_are, nodes-own c shared mem word k.now l sees, nodes-append shared (parts_of k.now) (left_of k.rests), ap (nodes_of_all shared) g.none))
     (omega (arith, k.flat_is, flat-own c shared mem word k.now l n k.standing sees has, flat-append (parts_of k.now) (left_of k.rests), ap flat_of_all g.none))
     few (omega (arith, k.depth_is, g.shallow))
 
-pub measures-within : (mem : List ℕ) (first word : ℕ) (levels new : List Rest) (l : Look) (seen words n total flats : ℕ) → Counts mem first word levels seen words → Sees mem word l → HasFlat mem l n
-    → Leads mem levels l further.End new → total ≡ seen + nodes_in l → flats ≡ words + n → total ≤ node_limit → Measures mem first (Within (record { nodes = total; flat = flats }))
-measures-within mem first word levels new l seen words n total flats k sees has g e f few = record {
+pub measures-within : (most : ℕ) (mem : List ℕ) (first word : ℕ) (levels new : List Rest) (l : Look) (seen words n total flats : ℕ) → Counts mem first word levels seen words → Sees mem word l → HasFlat mem l n
+    → Leads most mem levels l further.End new → total ≡ seen + nodes_in l → flats ≡ words + n → total ≤ node_limit → Measures mem first (Within (record { nodes = total; flat = flats }))
+measures-within most mem first word levels new l seen words n total flats k sees has g e f few = record {
   each = λ c shared t s.
       ap₂ (λ a b. Within (record { nodes = a; flat = b })) e f ∙
-      end-within c shared mem t word levels new l seen words n (k c shared t s) (sees.each c shared (k c shared t s).now (k c shared t s).standing) has
+      end-within most c shared mem t word levels new l seen words n (k c shared t s) (sees.each c shared (k c shared t s).now (k c shared t s).standing) has
       (g c shared word (k c shared t s).now (k c shared t s).rests (k c shared t s).standing (sees.each c shared (k c shared t s).now (k c shared t s).standing) (k c shared t s).left)
       (omega (arith, e, few));
 }
@@ -197,15 +197,16 @@ measures-many mem first word levels l seen words total k sees e many = record {
       is-many shared t (many-nodes c shared mem t word levels l seen words (k c shared t s) (sees.each c shared (k c shared t s).now (k c shared t s).standing) (omega (arith, e, many)));
 }
 
-deep-tree : (c : ℕ → ℕ → Bool) (shared : List (List ℕ)) (mem : List ℕ) (t : Tree) (word : ℕ) (levels : List Rest) (seen words : ℕ)
-    → (k : Counting c shared mem t word levels seen words) → depth_limit < length levels + depth k.now → depth_limit < depth t
-deep-tree c shared mem t word levels seen words k deep = omega (arith, k.depth_is, deep)
+deep-tree : (most : ℕ) (c : ℕ → ℕ → Bool) (shared : List (List ℕ)) (mem : List ℕ) (t : Tree) (word : ℕ) (levels : List Rest) (seen words : ℕ)
+    → (k : Counting c shared mem t word levels seen words) → most ≡ depth_limit
+    → most < length levels + depth k.now → depth_limit < depth t
+deep-tree most c shared mem t word levels seen words k all deep = omega (arith, k.depth_is, all, deep)
 
-pub measures-deep : (mem : List ℕ) (first word : ℕ) (levels new : List Rest) (l : Look) (seen words : ℕ) → Counts mem first word levels seen words → Sees mem word l → Leads mem levels l further.TooDeep new
-    → Measures mem first Beyond
-measures-deep mem first word levels new l seen words k sees g = record {
+pub measures-deep : (most : ℕ) (mem : List ℕ) (first word : ℕ) (levels new : List Rest) (l : Look) (seen words : ℕ) → Counts mem first word levels seen words → Sees mem word l → Leads most mem levels l further.TooDeep new
+    → most ≡ depth_limit → Measures mem first Beyond
+measures-deep most mem first word levels new l seen words k sees g all = record {
   each = λ c shared t s.
-      is-deep shared t (deep-tree c shared mem t word levels seen words (k c shared t s)
+      is-deep shared t (deep-tree most c shared mem t word levels seen words (k c shared t s) all
       (g c shared word (k c shared t s).now (k c shared t s).rests (k c shared t s).standing (sees.each c shared (k c shared t s).now (k c shared t s).standing) (k c shared t s).left));
 }
 

@@ -140,12 +140,12 @@ pub record Ends (ts : Trees) (deep : ℕ) : Type 0 where
   pub none : ts ≡ end
   pub shallow : deep ≤ depth_limit
 
--- Where a walk goes from a tree: to its parts, and then to what was left.
-abbrev pub Goes : (ℕ → ℕ → Bool) → List (List ℕ) → List ℕ → List Rest → Tree → List Trees → Further → List Rest → Type 0
-Goes c shared mem old now rests (further.Word word) new =
+-- Where a walk of so many levels goes from a tree: to its parts, and then to what was left.
+abbrev pub Goes : (most : ℕ) → (ℕ → ℕ → Bool) → List (List ℕ) → List ℕ → List Rest → Tree → List Trees → Further → List Rest → Type 0
+Goes most c shared mem old now rests (further.Word word) new =
     GoesTo c shared mem (trees_append (parts_of now) (left_of rests)) (max (length old + depth now) (deepest old rests)) word new
-Goes c shared mem old now rests further.End new = Ends (trees_append (parts_of now) (left_of rests)) (max (length old + depth now) (deepest old rests))
-Goes c shared mem old now rests further.TooDeep new = depth_limit < length old + depth now
+Goes most c shared mem old now rests further.End new = Ends (trees_append (parts_of now) (left_of rests)) (max (length old + depth now) (deepest old rests))
+Goes most c shared mem old now rests further.TooDeep new = most < length old + depth now
 
 -- The first word that is left, if there is one, and what is left after it.
 abbrev pub IsNext : (ℕ → ℕ → Bool) → List (List ℕ) → List ℕ → List Rest → List Trees → Option ℕ → List Rest → Type 0

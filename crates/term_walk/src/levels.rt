@@ -1,5 +1,5 @@
 // The levels of a walk: on each, the words that are left to see of one object.
-ghost use Rattle.std.specs.Prelude.{◌≡◌, ℕ, ◌<◌, Bool, List, reverse};
+ghost use Rattle.std.specs.Prelude.{◌≡◌, ℕ, ◌<◌, ◌≤◌, Bool, List, reverse};
 ghost use Rattle.plain_term.specs.Tree.{Tree, Trees};
 ghost use Rattle.term_words.specs.Stands.{Stands};
 ghost use Rattle.term_read.specs.Look.{IsSeen};
@@ -14,6 +14,9 @@ pub const NODE_LIMIT: u64 = 1_048_576;
 
 /// The most levels of a walk, and so the greatest depth of a tree that is walked.
 pub const DEPTH_LIMIT: usize = 1024;
+
+/// The levels that a walk begins with: most terms need no more, and levels are made anew for each walk.
+pub const FEW_LEVELS: usize = 16;
 
 /// What is left to see of the parts of an object.
 #[derive(Clone, Copy)]
@@ -39,15 +42,17 @@ pub enum Further {
     Word(u64),
     /// Nowhere: all words were seen.
     End,
-    /// The word's parts lie deeper than a walk goes.
+    /// The word's parts lie deeper than there are levels.
     TooDeep,
 }
 
-/// Goes on from a word, by the look at it: to its first part, or to the next word that is left.
-pub fn go_on(mem: &WordMem, levels: &mut ArrayVec<Rest, DEPTH_LIMIT>, look: Look) -> Further
-    requires { CanGo mem.now (reverse levels.old.items) look }
+/// Goes on from a word, by the look at it: to its first part, or to the next word that is left. There are `N` levels.
+pub fn go_on<const N: usize>(mem: &WordMem, levels: &mut ArrayVec<Rest, N>, look: Look) -> Further
+    requires most { N ≤ DEPTH_LIMIT }
+    requires go { CanGo mem.now (reverse levels.old.items) look }
     ensures each { (c : ℕ → ℕ → Bool) (shared : List (List ℕ)) (w : ℕ) (now : Tree) (rests : List Trees)
-        → Stands c shared mem.now w now → IsSeen c shared mem.now w now look → AreLeft c shared mem.now (reverse levels.old.items) rests → Goes c shared mem.now (reverse levels.old.items) now rests result (reverse levels.new.items) }
+        → Stands c shared mem.now w now → IsSeen c shared mem.now w now look → AreLeft c shared mem.now (reverse levels.old.items) rests
+        → Goes N c shared mem.now (reverse levels.old.items) now rests result (reverse levels.new.items) }
 {
     let _len = mem.len();
     if let Look::Cons(place) = look {
@@ -92,11 +97,12 @@ fn rest_of(look: Look) -> Option<Rest>
 }
 
 /// Takes the first word that is left, whatever the parts of the word before; levels without one are let go.
-pub fn next_word(mem: &WordMem, levels: &mut ArrayVec<Rest, DEPTH_LIMIT>) -> Option<u64>
+pub fn next_word<const N: usize>(mem: &WordMem, levels: &mut ArrayVec<Rest, N>) -> Option<u64>
     requires { HasLeft mem.now (reverse levels.old.items) }
     ensures { Yields mem.now (reverse levels.old.items) result (reverse levels.new.items) }
 {
     let _len = mem.len();
+    let _most = levels.len();
     while let Some(rest) = levels.pop() {
         if let Some((place, more)) = take(rest) {
             if let Some(more) = more {

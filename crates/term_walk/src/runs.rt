@@ -3,7 +3,7 @@ ghost use Rattle.std.specs.Prelude.{◌≡◌, ◌+◌, ◌*◌, ◌≤◌, ◌�
 ghost use Rattle.term_words.specs.Stands.{IsTerm};
 ghost use Rattle.term_walk.specs.Runs.{Passes};
 
-use crate::levels::{DEPTH_LIMIT, NODE_LIMIT, Rest};
+use crate::levels::{NODE_LIMIT, Rest};
 use arrayvec::ArrayVec;
 use word_mem::WordMem;
 
@@ -36,11 +36,11 @@ pub fn pass_cells(mem: &WordMem, w: u64, most: u64) -> Run
     Run { word, cells }
 }
 
-/// How many cells may be passed over after so many nodes: none at the greatest depth.
-pub fn cells_left(levels: &ArrayVec<Rest, DEPTH_LIMIT>, nodes: u64) -> u64
+/// How many cells may be passed over after so many nodes: none where all levels are taken.
+pub fn cells_left<const N: usize>(levels: &ArrayVec<Rest, N>, nodes: u64) -> u64
     requires { nodes ≤ NODE_LIMIT }
     ensures few { nodes + 2 * result ≤ NODE_LIMIT }
-    ensures shallow { (result ≡ 0) ⊎ (length levels.now.items + 1 ≤ DEPTH_LIMIT) }
+    ensures shallow { (result ≡ 0) ⊎ (length levels.now.items + 1 ≤ N) }
 {
     if levels.is_full() {
         return 0;
