@@ -25,7 +25,7 @@ use Rattle.term_walk.specs.Weights.{nodes_in}
 use Rattle.term_walk.proofs.Sums.{nodes-append, nodes-own}
 use Rattle.term_order.specs.Named.{is_named, are_named}
 use Rattle.term_order.specs.Own.{look_data, IsReadable, IsBytes, looks_order}
-use Rattle.term_order.specs.Compared.{AreNamed, AreWithin, Orders, at_end, IsStep, Steps}
+use Rattle.term_order.specs.Compared.{AreNamed, AreWithin, Orders, at_end, IsDeeper, IsStep, Steps}
 use Rattle.term_order.proofs.Owning.{own_order, order-own, order-append, own-len, own-bytes, looks-own, readable, both-true, step-named}
 
 -- A walk over a tree is at a word, after so many steps: no more nodes are left, it is nowhere deeper, and it meets no other names.
@@ -355,6 +355,21 @@ module _ (mem : List ℕ) (names : List (List ℕ)) (a b x y : ℕ) (left right 
   pub second-go : (l : Look) → Sees mem y l → CanGo mem right l
   second-go l sees = record { shared = i.shared; word = y; now = start.second.now; rests = start.second.rests; standing = start.second.standing; seen = sees.each always i.shared start.second.now start.second.standing; few = start.second.few; left = start.second.left }
 
+  -- What goes deeper than all levels of a walk is beyond the walk limit.
+  pub first-deeper : (most : ℕ) (l : Look) → Sees mem x l → AreWithin mem a b → IsDeeper most mem left l → most < depth_limit
+  first-deeper most l sees w d = omega (
+    arith,
+    d.each always i.shared x start.first.now start.first.rests start.first.standing (sees.each always i.shared start.first.now start.first.standing) start.first.left,
+    shallow always i.shared mem (length names) i.first x left steps start.first (within-depth i.shared i.first (w.first always i.shared i.first i.first_stands)).1,
+  )
+
+  pub second-deeper : (most : ℕ) (l : Look) → Sees mem y l → AreWithin mem a b → IsDeeper most mem right l → most < depth_limit
+  second-deeper most l sees w d = omega (
+    arith,
+    d.each always i.shared y start.second.now start.second.rests start.second.standing (sees.each always i.shared start.second.now start.second.standing) start.second.left,
+    shallow always i.shared mem (length names) i.second y right steps start.second (within-depth i.shared i.second (w.second always i.shared i.second i.second_stands)).1,
+  )
+
   pub steps-few : AreWithin mem a b → steps < node_limit
   steps-few w = omega (arith, start.first.nodes_are, one-tree i.shared start.first.now, (within-depth i.shared i.first (w.first always i.shared i.first i.first_stands)).0)
 
@@ -363,6 +378,14 @@ module _ (mem : List ℕ) (names : List (List ℕ)) (a b x y : ℕ) (left right 
 
   pub second-left : HasLeft mem right
   second-left = record { shared = i.shared; rests = start.second.rests; few = start.second.few; left = start.second.left }
+
+-- One word stands for one tree, which is the same as itself.
+pub orders-same : (mem : List ℕ) (names : List (List ℕ)) (a b : ℕ) → a ≡ b → Orders mem names a b ordering.Equal
+orders-same mem names a b same = record {
+  each = λ c shared t u st su.
+      let P : ℕ → Type 0 = λ z. Stands c shared mem z u in
+      sym (ap (λ z. order names shared z u) (single c c shared shared mem a t u st (subst P (sym same) su)) ∙ tied_itself (order_total names shared) u);
+}
 
 -- A test of equality with the order of equal terms.
 

@@ -1,5 +1,5 @@
 -- What a comparison asks for and answers.
-use Rattle.std.specs.Prelude.{◌≡◌, ℕ, ◌+◌, ◌≤◌, ◌||◌, if◌then◌else◌, Bool, true, false, List, length, max, Option, Some, None}
+use Rattle.std.specs.Prelude.{◌≡◌, ℕ, ◌+◌, ◌<◌, ◌≤◌, ◌||◌, if◌then◌else◌, Bool, true, false, List, length, max, Option, Some, None}
 use Rattle.std.specs.declared.cmp.Ordering.{Ordering}
 use Rattle.std.specs.declared.cmp.Ordering.TheVariants as ordering
 use Rattle.plain_term.specs.Tree.{Tree, Trees, trees_append}
@@ -64,3 +64,8 @@ IsStep c shared mem old now rests None new = Ends (trees_append (parts_of now) (
 pub record Steps (mem : List ℕ) (old : List Rest) (l : Look) (result : Option ℕ) (new : List Rest) : Type 0 where
   pub each : (c : ℕ → ℕ → Bool) (shared : List (List ℕ)) (w : ℕ) (now : Tree) (rests : List Trees) → Stands c shared mem w now → IsSeen c shared mem w now l → AreLeft c shared mem old rests
       → length old + depth now ≤ depth_limit → IsStep c shared mem old now rests result new
+
+-- The parts of the word that is looked at lie deeper than so many levels.
+pub record IsDeeper (most : ℕ) (mem : List ℕ) (old : List Rest) (l : Look) : Type 0 where
+  pub each : (c : ℕ → ℕ → Bool) (shared : List (List ℕ)) (w : ℕ) (now : Tree) (rests : List Trees) → Stands c shared mem w now → IsSeen c shared mem w now l → AreLeft c shared mem old rests
+      → most < length old + depth now
