@@ -21,8 +21,7 @@ use space_api::{Seat, Stop};
 use std::cmp::Ordering;
 use term_order::{Compared, compare};
 use term_print::print;
-use term_verbs::is_big;
-use term_walk::{Measured, measure};
+use term_walk::{Measured, is_beyond, measure};
 
 impl One {
     // The word of a register.
@@ -91,7 +90,7 @@ impl One {
         ensures told { OnOk result (K.faults sink.new ≡ K.faults sink.old) }
     {
         let w = self.word(seat, s);
-        if is_big(&self.halves.mem, w) {
+        if is_beyond(&self.halves.mem, w) {
             return Err(Stop::Big);
         }
         match print(&self.halves.mem, names, w, sink) {

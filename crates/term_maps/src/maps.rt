@@ -9,15 +9,13 @@ ghost use Rattle.term_words.specs.Kept.{Keeps};
 ghost use Rattle.term_build.specs.Taken.{Taken, IsFree, of_map};
 ghost use Rattle.term_build.specs.Grows.{Built};
 ghost use Rattle.term_build.specs.Clear.{IsRoom, Clear, KeepsClear, Uses};
-ghost use Rattle.plain_term.specs.Beyond.{is_beyond as beyond};
-ghost use Rattle.term_words.specs.Stands.{IsTerm};
 ghost use Rattle.term_maps.specs.InOrder.{has_beyond, in_order, why_not};
 ghost use Rattle.term_maps.specs.Given.{PairsStand, keys_in, KeysNamed, KeysStand, KeysWithin, CanMap, IsSorted, IsMade, pairs_in};
 
 use crate::sorted::Sorted;
 use atom_names::AtomNames;
 use term_build::map_in_order;
-use term_walk::{Measured, measure};
+use term_walk::is_beyond;
 use word_mem::{Room, WordMem};
 
 /// Why no map is made: a key is beyond the walk limit, or there are more than 32 distinct keys.
@@ -82,17 +80,6 @@ fn has_big_key(mem: &WordMem, pairs: &[(u64, u64)]) -> bool
         }
     }
     false
-}
-
-// Whether a key is beyond the walk limit.
-fn is_beyond(mem: &WordMem, w: u64) -> bool
-    requires { IsTerm mem.now w }
-    ensures { (c : ℕ → ℕ → Bool) (shared : List (List ℕ)) (t : Tree) → Stands c shared mem.now w t → result ≡ beyond shared t }
-{
-    match measure(mem, w) {
-        Measured::Within(_) => false,
-        Measured::Beyond => true,
-    }
 }
 
 /// The map of keys and values that stand in turn in a row, each key before its value, and no key beyond the walk limit; as

@@ -8,7 +8,6 @@ mod pairs;
 mod parts;
 
 pub use cut::{has_part, sub_part};
-pub use keys::is_big;
 pub use many::{repeat_words, repeated};
 pub use pairs::{Place, PutStop, map_with, place_in};
 pub use parts::part;

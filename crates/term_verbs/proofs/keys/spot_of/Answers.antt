@@ -12,7 +12,7 @@ pub returns-in-Same-clause-finds : goal.returns-in-Same-clause-finds
 returns-in-Same-clause-finds c = λ k shared ps t a sorted s.
     let P : ℕ → Type 0 = λ z. Compares c.args.mem.now c.args.names.now c.args.key z c.compare.result in
     finds-same k c.args.names.now shared c.args.mem.now c.args.rows c.args.key (c.loop-low.low + (c.loop-low.high - c.loop-low.low) / 2) ps t c.compare.result (subst P c.get.ensures c.compare.ensures)
-    (omega (arith, c.loop-low.invariant.within, c.loop-low-test.true)) a sorted s (sym (c.is_big.ensures k shared t s) ∙ c.if-is_big.false) c.in-Same.is
+    (omega (arith, c.loop-low.invariant.within, c.loop-low-test.true)) a sorted s (sym (c.is_beyond.ensures k shared t s) ∙ c.if-is_beyond.false) c.in-Same.is
 
 pub loop-low-preserved-in-Less : goal.loop-low-preserved-in-Less
 loop-low-preserved-in-Less c =
@@ -41,4 +41,4 @@ loop-low-preserved c =
 pub returns-clause-finds : goal.returns-clause-finds
 returns-clause-finds c = λ k shared ps t a sorted s.
     finds-new k c.args.names.now shared c.args.mem.now c.args.rows ps t c.loop-low.low c.loop-low.high c.loop-low.invariant.order c.loop-low.invariant.within c.loop-low-test.false a
-    (c.loop-low.invariant.between k shared ps t a sorted s (sym (c.is_big.ensures k shared t s) ∙ c.if-is_big.false))
+    (c.loop-low.invariant.between k shared ps t a sorted s (sym (c.is_beyond.ensures k shared t s) ∙ c.if-is_beyond.false))
