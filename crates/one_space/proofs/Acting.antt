@@ -25,18 +25,18 @@ use Rattle.space_api.specs.declared.space.Seat.{Seat}
 use Rattle.numbered_rows.specs.Numbers.{AreBelow, numbers}
 use Rattle.numbered_rows.proofs.Changing.{below-remove, numbers-set, rising-remove}
 use Rattle.numbered_rows.proofs.Rising.{number-read}
-use Rattle.one_space.specs.Halves.{HalvesStand, HoldsTree, IsLaid, ProcsStand, depths, end_of}
+use Rattle.two_halves.specs.Halves.{HalvesStand, HoldsTree, IsLaid, ProcsStand, depths, end_of}
 use Rattle.one_space.specs.One.{HaveMade, Holds, IsCounted, OneStands, Sits, number_in, numbers_of}
 use Rattle.one_space.specs.Doing.{DoesAlways, DoesAtOnce}
-use Rattle.one_space.specs.declared.halves.Halves.{Halves}
+use Rattle.two_halves.specs.declared.halves.Halves.{Halves}
 use Rattle.one_space.specs.declared.one.One.{One}
-use Rattle.one_space.specs.declared.table.Proc.{Proc}
+use Rattle.two_halves.specs.declared.table.Proc.{Proc}
 use Rattle.one_space.proofs.Changing.{no_process, procs-remove}
 use Rattle.one_space.proofs.Counting.{made-remove, made-row}
 use Rattle.one_space.proofs.Rooms.{follows-some, passes-some}
 use Rattle.one_space.proofs.Seated.{found-there, number-there, removed-there, set-there, settled-stands}
 use Rattle.one_space.proofs.Seats.{is_other}
-use Rattle.one_space.proofs.Stacks.{no_row}
+use Rattle.two_halves.proofs.Stacks.{no_row}
 use Rattle.one_space.proofs.Turning.{TopOf, none-held, popped, register-set, row-stands, top-here, with_stack, with_word}
 
 -- The halves with another memory, other bounds and another table.

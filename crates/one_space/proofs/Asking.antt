@@ -5,10 +5,10 @@ use Rattle.std.proofs.lemmas.Bool.Decides.{nat_tests}
 use Rattle.std.proofs.lemmas.Bool.{leb-false}
 use Rattle.script_grammar.specs.declared.refusal.Refusal.{Refusal}
 use Rattle.script_grammar.specs.declared.refusal.Refusal.TheVariants as refusal
-use Rattle.one_space.specs.Halves.{free_in}
-use Rattle.one_space.specs.Collecting.{MakesRoom}
+use Rattle.two_halves.specs.Halves.{free_in}
+use Rattle.two_halves.specs.Collecting.{MakesRoom}
 use Rattle.one_space.specs.Doing.{Asks, AsksUnless, is_nospace, refusal_for, refusal_of_put}
-use Rattle.one_space.specs.declared.halves.Halves.{Halves}
+use Rattle.two_halves.specs.declared.halves.Halves.{Halves}
 use Rattle.one_space.specs.declared.one.One.{One}
 use Rattle.one_space.proofs.Rooms.{roomed}
 use Rattle.item_build.specs.declared.building.BuildStop.{BuildStop}

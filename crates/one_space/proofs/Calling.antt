@@ -16,11 +16,11 @@ use Rattle.space_api.specs.Calls.{AreRising, Becomes, Follows, Passes, Properly,
 use Rattle.space_api.specs.declared.space.Seat.{Seat}
 use Rattle.space_api.proofs.Proper.{becomes-proper, follows-proper, passes-proper}
 use Rattle.numbered_rows.specs.Numbers.{AreBelow, numbers}
-use Rattle.one_space.specs.Halves.{IsLaid, ProcsStand, depths, end_of}
+use Rattle.two_halves.specs.Halves.{IsLaid, ProcsStand, depths, end_of}
 use Rattle.one_space.specs.One.{HaveMade, Holds, IsCounted, OneStands, Sits, number_in, numbers_of, words_of}
 use Rattle.one_space.specs.Doing.{Sweeps}
 use Rattle.one_space.specs.declared.one.One.{One}
-use Rattle.one_space.specs.declared.table.Proc.{Proc}
+use Rattle.two_halves.specs.declared.table.Proc.{Proc}
 use Rattle.one_space.proofs.Changing.{fresh-stands}
 use Rattle.one_space.proofs.Seated.{found-there}
 

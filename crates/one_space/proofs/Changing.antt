@@ -6,12 +6,12 @@ use Rattle.plain_term.specs.Tree.Tree.{Nil}
 use Rattle.plain_machine.specs.State.{Process, fresh_process}
 use Rattle.term_words.proofs.Makes.{stands-nil}
 use Rattle.numbered_rows.specs.Numbers.{is_among, numbers}
-use Rattle.one_space.specs.Stack.{IsStack, values}
-use Rattle.one_space.specs.Halves.{HoldTrees, HoldsTree, ProcStands, ProcsStand}
+use Rattle.two_halves.specs.Stack.{IsStack, values}
+use Rattle.two_halves.specs.Halves.{HoldTrees, HoldsTree, ProcStands, ProcsStand}
 use Rattle.one_space.specs.One.{number_in}
-use Rattle.one_space.specs.declared.table.Proc.{Proc}
+use Rattle.two_halves.specs.declared.table.Proc.{Proc}
 use Rattle.one_space.proofs.Seats.{process_numbers}
-use Rattle.one_space.proofs.Stacks.{AreKept, stack-kept, stack-wider, values-kept}
+use Rattle.two_halves.proofs.Stacks.{AreKept, stack-kept, stack-wider, values-kept}
 
 -- A process for places that are not there.
 abbrev pub no_process : Process

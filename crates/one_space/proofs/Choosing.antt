@@ -21,11 +21,11 @@ use Rattle.plain_machine.specs.Parts.{picked}
 use Rattle.plain_machine.specs.Step.{choose, in_process}
 use Rattle.space_api.specs.Calls.{Follows, Properly, said}
 use Rattle.space_api.specs.declared.space.Seat.{Seat}
-use Rattle.one_space.specs.Halves.{HoldsTree}
+use Rattle.two_halves.specs.Halves.{HoldsTree}
 use Rattle.one_space.specs.One.{Holds, OneStands, Sits}
 use Rattle.one_space.specs.Doing.{DoesBy}
 use Rattle.one_space.specs.declared.one.One.{One}
-use Rattle.one_space.specs.declared.table.Proc.{Proc}
+use Rattle.two_halves.specs.declared.table.Proc.{Proc}
 use Rattle.one_space.proofs.Acting.{word-counts, word-stands, worded}
 use Rattle.one_space.proofs.Changing.{no_process}
 use Rattle.one_space.proofs.Registers.{held-there, named-there, proper-there, row-there, word-there}

@@ -2,8 +2,8 @@
 use Rattle.std.proofs.Common.{◌≡◌, ℕ, zero, suc, ◌<◌, ◌≤◌, List, [], ◌∷◌, ◌++◌, length, get_or, set, ap, arith}
 use Rattle.std.specs.List.{remove}
 use Rattle.one_space.specs.One.{HaveMade}
-use Rattle.one_space.specs.Collecting.{AreSameRows}
-use Rattle.one_space.specs.declared.table.Proc.{Proc}
+use Rattle.two_halves.specs.Collecting.{AreSameRows}
+use Rattle.two_halves.specs.declared.table.Proc.{Proc}
 
 module _ (m n : ℕ) (up : m ≤ n) where
   pub made-more : (rows : List Proc) → HaveMade m rows → HaveMade n rows

@@ -25,17 +25,17 @@ use Rattle.space_api.specs.Calls.{AreRising, Becomes, Follows, said}
 use Rattle.space_api.specs.declared.space.Seat.{Seat}
 use Rattle.numbered_rows.specs.Numbers.{AreBelow, numbers}
 use Rattle.numbered_rows.proofs.Changing.{below-push, rising-push}
-use Rattle.one_space.specs.Halves.{HalvesStand, ProcsStand, depths, end_of, free_in}
-use Rattle.one_space.specs.Collecting.{LooksFor, MakesRoom}
+use Rattle.two_halves.specs.Halves.{HalvesStand, ProcsStand, depths, end_of, free_in}
+use Rattle.two_halves.specs.Collecting.{LooksFor, MakesRoom}
 use Rattle.one_space.specs.One.{HaveMade, Holds, IsCounted, OneStands, Sits, number_in, words_of}
 use Rattle.one_space.specs.Doing.{Books, Does}
-use Rattle.one_space.specs.declared.halves.Halves.{Halves}
+use Rattle.two_halves.specs.declared.halves.Halves.{Halves}
 use Rattle.one_space.specs.declared.one.One.{One}
-use Rattle.one_space.specs.declared.table.Proc.{Proc}
+use Rattle.two_halves.specs.declared.table.Proc.{Proc}
 use Rattle.one_space.proofs.Acting.{after, counts-same, depths-row, half-within, laid_out, numbers-row}
 use Rattle.one_space.proofs.Changing.{fresh-stands, no_process, procs-push}
 use Rattle.one_space.proofs.Counting.{made-push, made-row}
-use Rattle.one_space.proofs.Ended.{row-count}
+use Rattle.two_halves.proofs.Ended.{row-count}
 use Rattle.one_space.proofs.Rooms.{becomes-some, counts-roomed, no-space, roomed, sits-roomed, stands-roomed, stays-roomed}
 use Rattle.one_space.proofs.Seated.{count-there, found-there, number-there, set-there, settled-stands}
 use Rattle.one_space.proofs.Turning.{pushed, pushed-len, with_stack}

@@ -4,12 +4,12 @@ use Rattle.std.proofs.lemmas.List.{length-drop, length-take-le, reverse-reverse}
 use Rattle.plain_term.specs.Tree.{Tree}
 use Rattle.plain_machine.specs.State.{Process, State}
 use Rattle.plain_machine.specs.Image.{AllRooted, HasRegions, ImageStands, LiesIn, RootedStands, WordsStand}
-use Rattle.one_space.specs.Stack.{values}
-use Rattle.one_space.specs.Halves.{HoldTrees, IsLaid, ProcStands, ProcsStand, end_of, front_of}
+use Rattle.two_halves.specs.Stack.{values}
+use Rattle.two_halves.specs.Halves.{HoldTrees, IsLaid, ProcStands, ProcsStand, end_of, front_of}
 use Rattle.one_space.specs.Image.{image, object_region, rooted}
 use Rattle.one_space.specs.One.{Holds, OneStands}
-use Rattle.one_space.specs.declared.table.Proc.{Proc}
-use Rattle.one_space.specs.declared.halves.Halves.{Halves}
+use Rattle.two_halves.specs.declared.table.Proc.{Proc}
+use Rattle.two_halves.specs.declared.halves.Halves.{Halves}
 use Rattle.one_space.specs.declared.one.One.{One}
 use Rattle.one_space.proofs.Acting.{half-within}
 

@@ -1,14 +1,3 @@
-mod Going
-mod Placing
-mod Stacks
-mod Stacking
-mod Rowing
-mod AllRows
-mod Held
-mod Planned
-mod Packed
-mod Ended
-mod Tight
 mod Seats
 mod Counting
 mod Changing

@@ -48,13 +48,13 @@ use Rattle.plain_machine.specs.Tightness.{keys_in}
 use Rattle.plain_machine.specs.May.{gets_to_space}
 use Rattle.space_api.specs.Calls.{Follows, Properly, said}
 use Rattle.space_api.specs.declared.space.Seat.{Seat}
-use Rattle.one_space.specs.Halves.{HoldsTree}
-use Rattle.one_space.specs.Collecting.{MakesRoom}
+use Rattle.two_halves.specs.Halves.{HoldsTree}
+use Rattle.two_halves.specs.Collecting.{MakesRoom}
 use Rattle.one_space.specs.One.{Holds, OneStands, Sits}
 use Rattle.one_space.specs.Doing.{DoesBy, refusal_of_put}
-use Rattle.one_space.specs.declared.halves.Halves.{Halves}
+use Rattle.two_halves.specs.declared.halves.Halves.{Halves}
 use Rattle.one_space.specs.declared.one.One.{One}
-use Rattle.one_space.specs.declared.table.Proc.{Proc}
+use Rattle.two_halves.specs.declared.table.Proc.{Proc}
 use Rattle.one_space.proofs.Acting.{after, laid_out}
 use Rattle.one_space.proofs.Changing.{no_process}
 use Rattle.one_space.proofs.Growing.{books-there, counts-there, grow-at, holds-there, lacks-space, roomed-there, sits-there, some-process}

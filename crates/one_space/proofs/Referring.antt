@@ -17,12 +17,12 @@ use Rattle.plain_machine.specs.Step.{in_process}
 use Rattle.plain_machine.specs.May.{gets_to_space, may_of_tight}
 use Rattle.space_api.specs.Calls.{Becomes, Follows, said}
 use Rattle.space_api.specs.declared.space.Seat.{Seat}
-use Rattle.one_space.specs.Collecting.{MakesRoom}
+use Rattle.two_halves.specs.Collecting.{MakesRoom}
 use Rattle.one_space.specs.One.{HaveMade, Holds, IsCounted, OneStands, Sits, words_of}
 use Rattle.one_space.specs.Doing.{Does}
-use Rattle.one_space.specs.declared.halves.Halves.{Halves}
+use Rattle.two_halves.specs.declared.halves.Halves.{Halves}
 use Rattle.one_space.specs.declared.one.One.{One}
-use Rattle.one_space.specs.declared.table.Proc.{Proc}
+use Rattle.two_halves.specs.declared.table.Proc.{Proc}
 use Rattle.one_space.proofs.Acting.{after, laid_out}
 use Rattle.one_space.proofs.Changing.{no_process}
 use Rattle.one_space.proofs.Counting.{made-at, made-same}

@@ -11,10 +11,10 @@ use Rattle.term_words.proofs.Rooms.{weaken}
 use Rattle.term_order.specs.Named.{is_named}
 use Rattle.term_order.specs.Compared.{AreNamed}
 use Rattle.space_api.specs.declared.space.Seat.{Seat}
-use Rattle.one_space.specs.Halves.{HoldsTree, ProcStands, end_of}
+use Rattle.two_halves.specs.Halves.{HoldsTree, ProcStands, end_of}
 use Rattle.one_space.specs.One.{IsCounted, OneStands, Sits}
 use Rattle.one_space.specs.declared.one.One.{One}
-use Rattle.one_space.specs.declared.table.Proc.{Proc}
+use Rattle.two_halves.specs.declared.table.Proc.{Proc}
 use Rattle.one_space.proofs.Changing.{held-at, no_process}
 use Rattle.one_space.proofs.Naming.{named-more}
 use Rattle.one_space.proofs.Seated.{found-there}

@@ -13,15 +13,15 @@ use Rattle.plain_machine.specs.Tightness.{demand, grow}
 use Rattle.plain_machine.specs.May.{gets_to_space, is_purge, may_of_tight}
 use Rattle.space_api.specs.Calls.{AreRising, Becomes, Follows, Passes}
 use Rattle.numbered_rows.specs.Numbers.{AreBelow, numbers}
-use Rattle.one_space.specs.Halves.{HalvesStand, IsLaid, free_in}
-use Rattle.one_space.specs.Collecting.{AreSameRows, Collects, MakesRoom}
+use Rattle.two_halves.specs.Halves.{HalvesStand, IsLaid, free_in}
+use Rattle.two_halves.specs.Collecting.{AreSameRows, Collects, MakesRoom}
 use Rattle.one_space.specs.One.{IsCounted, OneStands, Sits, number_in}
-use Rattle.one_space.specs.declared.halves.Halves.{Halves}
+use Rattle.two_halves.specs.declared.halves.Halves.{Halves}
 use Rattle.one_space.specs.declared.one.One.{One}
-use Rattle.one_space.specs.declared.table.Proc.{Proc}
+use Rattle.two_halves.specs.declared.table.Proc.{Proc}
 use Rattle.space_api.specs.declared.space.Seat.{Seat}
 use Rattle.one_space.proofs.Counting.{made-same}
-use Rattle.one_space.proofs.Ended.{row-count}
+use Rattle.two_halves.proofs.Ended.{row-count}
 
 -- The space with other halves, one call later.
 abbrev pub roomed : One → Halves → One

@@ -6,12 +6,12 @@ use Rattle.plain_machine.specs.Step.{is_sweep, settled}
 use Rattle.script_grammar.specs.Names.{Parsed}
 use Rattle.space_api.specs.Calls.{AreRising}
 use Rattle.space_api.specs.declared.space.Seat.{Seat}
-use Rattle.one_space.specs.Halves.{HalvesStand, end_of}
+use Rattle.two_halves.specs.Halves.{HalvesStand, end_of}
 use Rattle.one_space.specs.One.{IsCounted, OneStands, Sits}
 use Rattle.one_space.specs.declared.one.One.{One}
 use Rattle.one_space.proofs.Changing.{no_process, procs-at, procs-count, procs-numbers}
 use Rattle.one_space.proofs.Seats.{is_other, process_numbers, replaced, seat-found, seat-removed, seat-set}
-use Rattle.one_space.proofs.Stacks.{no_row}
+use Rattle.two_halves.proofs.Stacks.{no_row}
 
 module _ (b : One) (s : State) (o : OneStands b s) (c : IsCounted b) where
   pub rising-there : AreRising 0 (process_numbers s.processes)

@@ -30,21 +30,21 @@ use Rattle.item_build.specs.Reading.{outcome, words_of}
 use Rattle.item_build.specs.Building.{Builds as BuildsTerm, HasHeld, HeldStand, Spares, UsesSome}
 use Rattle.item_build.proofs.Steps.{spares-keep}
 use Rattle.item_build.proofs.Written.{is-written, outcome_of, term-named, term-outcome, term-words, words-few}
-use Rattle.one_space.specs.Halves.{HoldsTree, ProcsStand, end_of}
-use Rattle.one_space.specs.Collecting.{MakesRoom}
+use Rattle.two_halves.specs.Halves.{HoldsTree, ProcsStand, end_of}
+use Rattle.two_halves.specs.Collecting.{MakesRoom}
 use Rattle.one_space.specs.One.{Holds, IsCounted, OneStands, Sits}
 use Rattle.one_space.specs.One.{words_of as memory_words}
 use Rattle.one_space.specs.Doing.{Builds, refusal_for}
-use Rattle.one_space.specs.declared.halves.Halves.{Halves}
+use Rattle.two_halves.specs.declared.halves.Halves.{Halves}
 use Rattle.one_space.specs.declared.one.One.{One}
-use Rattle.one_space.specs.declared.table.Proc.{Proc}
+use Rattle.two_halves.specs.declared.table.Proc.{Proc}
 use Rattle.one_space.proofs.Acting.{counts-same, laid_out}
 use Rattle.one_space.proofs.Changing.{no_process, procs-on}
 use Rattle.one_space.proofs.Growing.{counts-there, grow-at, holds-become, lacks-space, roomed-there, sits-there, some-process, some-words}
 use Rattle.one_space.proofs.Registers.{held-there, named-there, row-there}
 use Rattle.one_space.proofs.Rooms.{roomed, stays-roomed}
 use Rattle.one_space.proofs.Seated.{found-there}
-use Rattle.one_space.proofs.Stacks.{AreKept}
+use Rattle.two_halves.proofs.Stacks.{AreKept}
 use Rattle.one_space.proofs.Terming.{built_in, row-made, term-counts, term-fits, term-stands, with_term}
 
 -- The words that were reckoned are those of the items.

@@ -1,10 +1,10 @@
 -- A collection that a line asks for.
 use Rattle.std.proofs.Common.{◌+◌, Bool, refl, arith}
 use Rattle.plain_machine.specs.State.{State}
-use Rattle.one_space.specs.Collecting.{Collects}
+use Rattle.two_halves.specs.Collecting.{Collects}
 use Rattle.one_space.specs.One.{Holds, OneStands}
 use Rattle.one_space.specs.Doing.{Sweeps}
-use Rattle.one_space.specs.declared.halves.Halves.{Halves}
+use Rattle.two_halves.specs.declared.halves.Halves.{Halves}
 use Rattle.one_space.specs.declared.one.One.{One}
 use Rattle.one_space.proofs.Rooms.{counts-roomed, stays-collected}
 

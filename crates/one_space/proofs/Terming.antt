@@ -17,12 +17,12 @@ use Rattle.plain_machine.specs.State.{Process, State, process_of, with_process, 
 use Rattle.plain_machine.specs.Step.{settled}
 use Rattle.space_api.specs.Calls.{said}
 use Rattle.space_api.specs.declared.space.Seat.{Seat}
-use Rattle.one_space.specs.Halves.{HalvesStand, HoldsTree, ProcsStand, depths, end_of, front_of}
-use Rattle.one_space.specs.Collecting.{MakesRoom}
+use Rattle.two_halves.specs.Halves.{HalvesStand, HoldsTree, ProcsStand, depths, end_of, front_of}
+use Rattle.two_halves.specs.Collecting.{MakesRoom}
 use Rattle.one_space.specs.One.{Holds, IsCounted, OneStands, Sits}
-use Rattle.one_space.specs.declared.halves.Halves.{Halves}
+use Rattle.two_halves.specs.declared.halves.Halves.{Halves}
 use Rattle.one_space.specs.declared.one.One.{One}
-use Rattle.one_space.specs.declared.table.Proc.{Proc}
+use Rattle.two_halves.specs.declared.table.Proc.{Proc}
 use Rattle.one_space.proofs.Acting.{counts-same, depths-row, half-within, laid_out, numbers-row}
 use Rattle.one_space.proofs.Changing.{held-set, no_process, procs-on, procs-set}
 use Rattle.one_space.proofs.Counting.{made-at, made-set}
@@ -31,7 +31,7 @@ use Rattle.one_space.proofs.Naming.{named-more}
 use Rattle.one_space.proofs.Rooms.{roomed}
 use Rattle.one_space.proofs.Seated.{found-there, number-there, set-there, settled-stands}
 use Rattle.one_space.proofs.Seats.{replaced}
-use Rattle.one_space.proofs.Stacks.{AreKept}
+use Rattle.two_halves.proofs.Stacks.{AreKept}
 use Rattle.one_space.proofs.Turning.{row-stands}
 
 -- A plain role is one of objects.

@@ -5,11 +5,11 @@ use Rattle.plain_term.specs.Tree.{Tree}
 use Rattle.plain_machine.specs.State.{Process, register, with_register}
 use Rattle.term_words.specs.Kept.{Keeps}
 use Rattle.term_words.proofs.Frames.{frame}
-use Rattle.one_space.specs.Stack.{IsStack, values}
-use Rattle.one_space.specs.Halves.{HoldTrees, HoldsTree, ProcStands, ProcsStand}
-use Rattle.one_space.specs.declared.table.Proc.{Proc}
+use Rattle.two_halves.specs.Stack.{IsStack, values}
+use Rattle.two_halves.specs.Halves.{HoldTrees, HoldsTree, ProcStands, ProcsStand}
+use Rattle.two_halves.specs.declared.table.Proc.{Proc}
 use Rattle.one_space.proofs.Changing.{held-at, held-set, no_process, proc-on, procs-at, procs-on, procs-set}
-use Rattle.one_space.proofs.Stacks.{AreKept}
+use Rattle.two_halves.proofs.Stacks.{AreKept}
 
 -- A row with another word in a register.
 abbrev pub with_word : Proc → ℕ → ℕ → Proc

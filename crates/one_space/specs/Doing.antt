@@ -16,10 +16,10 @@ use Rattle.item_build.specs.declared.building.BuildStop.{BuildStop}
 use Rattle.item_build.specs.declared.building.BuildStop.TheVariants as stop
 use Rattle.term_verbs.specs.declared.pairs.PutStop.{PutStop}
 use Rattle.term_verbs.specs.declared.pairs.PutStop.TheVariants as put
-use Rattle.one_space.specs.Halves.{free_in}
-use Rattle.one_space.specs.Reached.{AllReached}
-use Rattle.one_space.specs.Collecting.{MakesRoom}
-use Rattle.one_space.specs.declared.halves.Halves.{Halves}
+use Rattle.two_halves.specs.Halves.{free_in}
+use Rattle.two_halves.specs.Reached.{AllReached}
+use Rattle.two_halves.specs.Collecting.{MakesRoom}
+use Rattle.two_halves.specs.declared.halves.Halves.{Halves}
 use Rattle.one_space.specs.One.{Holds, OneStands, words_of}
 use Rattle.one_space.specs.declared.one.One.{One}
 

@@ -1,13 +1,8 @@
--- The words of a half, of a stack place and of a space in figures: a constant that is cited by its name is pinned here.
+-- The words of a space in figures: a constant that is cited by its name is pinned here.
 use Rattle.std.specs.Prelude.{◌≡◌, [], ◌∷◌, refl}
-use Rattle.one_space.specs.declared.halves.TheConstants.{UNUSED, PLACE_WORDS}
 use Rattle.one_space.specs.declared.one.TheConstants.{ROW, SPAWN_WORDS}
 use Rattle.one_space.specs.declared.space.TheConstants.{LEAST_WORDS}
 use Rattle.one_space.specs.declared.terms.TheConstants.{REF_WORDS}
-
--- Two words of a half are never used, and a stack place has two.
-pub words-of-halves : (UNUSED ∷ PLACE_WORDS ∷ []) ≡ (2 ∷ 2 ∷ [])
-words-of-halves = refl
 
 -- A process that is made looks for 14 words, a line has at most 4,096 items, and a space at least 4,096 words.
 pub words-of-spaces : (SPAWN_WORDS ∷ ROW ∷ LEAST_WORDS ∷ []) ≡ (14 ∷ 4096 ∷ 4096 ∷ [])

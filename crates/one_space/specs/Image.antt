@@ -1,11 +1,11 @@
 -- The image of a space, over its memory, its table and its single numbers.
 use Rattle.std.specs.Prelude.{ℕ, ◌-◌, List, [], ◌∷◌, map, take, drop, reverse}
 use Rattle.plain_machine.specs.Image.{Image, Region, Rooted}
-use Rattle.one_space.specs.Stack.{values}
-use Rattle.one_space.specs.Halves.{front_of}
+use Rattle.two_halves.specs.Stack.{values}
+use Rattle.two_halves.specs.Halves.{front_of}
 use Rattle.one_space.specs.One.{words_of}
-use Rattle.one_space.specs.declared.table.Proc.{Proc}
-use Rattle.one_space.specs.declared.halves.Halves.{Halves}
+use Rattle.two_halves.specs.declared.table.Proc.{Proc}
+use Rattle.two_halves.specs.declared.halves.Halves.{Halves}
 use Rattle.one_space.specs.declared.one.One.{One}
 
 -- The words of objects in the half in use.

@@ -1,8 +1,3 @@
-pub mod Stack
-pub mod Halves
-pub mod Reached
-pub mod Rows
-pub mod Collecting
 pub mod One
 pub mod Image
 pub mod Doing

@@ -7,8 +7,8 @@ use Rattle.space_api.specs.Calls.{AreRising}
 use Rattle.space_api.specs.declared.space.Seat.{Seat}
 use Rattle.numbered_rows.specs.Numbers.{AreBelow}
 use Rattle.numbered_rows.specs.Numbers.{numbers as numbers_by}
-use Rattle.one_space.specs.Halves.{HalvesStand, IsLaid}
-use Rattle.one_space.specs.declared.table.Proc.{Proc}
+use Rattle.two_halves.specs.Halves.{HalvesStand, IsLaid}
+use Rattle.two_halves.specs.declared.table.Proc.{Proc}
 use Rattle.one_space.specs.declared.one.One.{One}
 use Rattle.one_space.specs.declared.one.TheConstants.{ROW}
 

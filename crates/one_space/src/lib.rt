@@ -1,11 +1,8 @@
 //! A space of two halves: objects and stacks of all processes stand in one of them, and a collection moves all that lives to the other.
 #![tactic(auto)]
 
-mod halves;
 mod one;
-mod roots;
 mod space;
-mod table;
 mod terms;
 mod told;
 

@@ -9,8 +9,7 @@ ghost use Rattle.space_api.specs.Calls.{most_calls};
 ghost use Rattle.one_space.specs.One.{Holds, Sits};
 ghost use Rattle.one_space.specs.Doing.{Asks, Does, DoesAlways, DoesAtOnce, Sweeps};
 
-use crate::halves::{Halves, PLACE_WORDS, UNUSED};
-use crate::table::{Proc, fresh};
+use two_halves::{Halves, PLACE_WORDS, Proc, UNUSED, fresh};
 use plain_machine::{MOST_PROCESSES, PLACE_COST, PROCESS_COST, Refusal, Reg};
 use space_api::Seat;
 use term_tags::pid as pid_word;

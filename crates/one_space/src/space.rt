@@ -10,9 +10,8 @@ ghost use Rattle.plain_machine.specs.Step.{step};
 ghost use Rattle.space_api.specs.Calls.{Becomes, Follows, HasTerm, IsTerm, Passes, most_calls, one_term, said};
 ghost use Rattle.script_grammar.specs.Names.{IsRegister, PicksRegister};
 
-use crate::halves::{Halves, UNUSED};
+use two_halves::{Halves, UNUSED, fresh};
 use crate::one::{One, ROW, SPAWN_WORDS};
-use crate::table::fresh;
 use crate::terms::REF_WORDS;
 use atom_names::AtomNames;
 use line_io::Sink;

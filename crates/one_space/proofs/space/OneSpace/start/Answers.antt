@@ -1,9 +1,9 @@
 use Rattle.std.proofs.Common.{◌≡◌, ◌/◌, false, List, [], ◌∷◌, ◌++◌, length, refl, ◌∙◌, ap, subst, arith}
 use Rattle.std.proofs.lemmas.List.{length-replicate}
 use Rattle.plain_machine.proofs.Living.{first-proper}
-use Rattle.one_space.specs.declared.halves.Halves.{Halves}
+use Rattle.two_halves.specs.declared.halves.Halves.{Halves}
 use Rattle.one_space.specs.declared.one.One.{One}
-use Rattle.one_space.specs.declared.table.Proc.{Proc}
+use Rattle.two_halves.specs.declared.table.Proc.{Proc}
 use Rattle.one_space.proofs.Calling.{first-holds, first-stands}
 use Rattle.one_space.proofs.space.OneSpace.start.Goals as goal
 

@@ -1,9 +1,9 @@
 use Rattle.std.proofs.Common.{◌≡◌, List, true, false, ◌∙◌, subst}
 use Rattle.numbered_rows.specs.Numbers.{is_among}
-use Rattle.one_space.specs.Halves.{end_of}
+use Rattle.two_halves.specs.Halves.{end_of}
 use Rattle.one_space.specs.One.{number_in}
 use Rattle.one_space.specs.declared.one.One.{One}
-use Rattle.one_space.specs.declared.table.Proc.{Proc}
+use Rattle.two_halves.specs.declared.table.Proc.{Proc}
 use Rattle.one_space.proofs.Changing.{procs-among}
 use Rattle.one_space.proofs.space.OneSpaceSpace.find.Goals as goal
 

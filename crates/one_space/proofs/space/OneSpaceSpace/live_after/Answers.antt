@@ -3,10 +3,10 @@ use Rattle.std.specs.List.{find}
 use Rattle.plain_machine.specs.State.{live_numbers}
 use Rattle.numbered_rows.specs.Numbers.{number_at}
 use Rattle.numbered_rows.proofs.Rising.{find-above, find-no-above, number-read, numbers-len}
-use Rattle.one_space.specs.Halves.{end_of}
+use Rattle.two_halves.specs.Halves.{end_of}
 use Rattle.one_space.specs.One.{OneStands, number_in, numbers_of}
 use Rattle.one_space.specs.declared.one.One.{One}
-use Rattle.one_space.specs.declared.table.Proc.{Proc}
+use Rattle.two_halves.specs.declared.table.Proc.{Proc}
 use Rattle.one_space.proofs.Changing.{procs-numbers}
 use Rattle.one_space.proofs.Seated.{rising-there}
 use Rattle.one_space.proofs.space.OneSpaceSpace.live_after.Goals as goal

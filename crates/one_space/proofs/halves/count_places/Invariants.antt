@@ -1,6 +1,0 @@
-use Rattle.std.proofs.Common.{◌≡◌, take}
-use Rattle.one_space.specs.Halves.{depths}
-use Rattle.one_space.proofs.halves.count_places.Given as goal
-
-abbrev pub invariant-loop-p : goal.invariant-loop-p
-invariant-loop-p l = l.sum ≡ depths (take l.p-index l.procs)

@@ -1,5 +1,0 @@
-use Rattle.one_space.proofs.AllRows.{RowLoop}
-use Rattle.one_space.proofs.roots.move_roots.Given as goal
-
-abbrev pub invariant-loop-process : goal.invariant-loop-process
-invariant-loop-process l = RowLoop l.initial.mem l.initial.mv l.initial.procs l.end l.mem l.mv l.procs l.low l.process-index

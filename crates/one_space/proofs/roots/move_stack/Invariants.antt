@@ -1,5 +1,0 @@
-use Rattle.one_space.proofs.Stacking.{StackLoop}
-use Rattle.one_space.proofs.roots.move_stack.Given as goal
-
-abbrev pub invariant-loop-i : goal.invariant-loop-i
-invariant-loop-i l = StackLoop l.initial.mem l.initial.mv l.from l.depth l.to l.mem l.mv l.i l.place

@@ -1,0 +1,11 @@
+mod Going
+mod Placing
+pub mod Stacks
+mod Stacking
+mod Rowing
+mod AllRows
+pub mod Held
+mod Planned
+mod Packed
+pub mod Ended
+pub mod Tight

@@ -1,0 +1,209 @@
+-- A stack moves place by place.
+use Rattle.std.proofs.Common.{◌≡◌, ℕ, zero, suc, ◌+◌, ◌*◌, ◌<◌, ◌≤◌, List, length, get_or, refl, sym, ◌∙◌, ap, subst, arith, inl, inr}
+use Rattle.cheney.specs.declared.moving.Moving.{Moving}
+use Rattle.term_words.specs.Counted.{In}
+use Rattle.cheney.specs.Plan.{Plan, Reached}
+use Rattle.cheney.specs.Moved.{IsImage}
+use Rattle.cheney.specs.Zones.{Marks}
+use Rattle.cheney.specs.Calls.{CanMove}
+use Rattle.cheney.specs.Collected.{AllImages}
+use Rattle.term_words.proofs.Members.{one-or-not}
+use Rattle.two_halves.specs.Stack.{IsStack, values}
+use Rattle.two_halves.specs.Rows.{CanMoveStack, Goes, IsAside, PlaceMoved, PlaceMoves, StackMoved, StackMoves}
+use Rattle.two_halves.proofs.Going.{goes-same, goes-then}
+
+-- The place that is so many below this one.
+abbrev pub place_at : List ℕ → ℕ → ℕ → ℕ
+place_at mem from zero = from
+place_at mem from (suc i) = get_or mem (place_at mem from i + 1) 0
+
+place-under : (mem : List ℕ) (from i : ℕ) → place_at mem from (suc i) ≡ place_at mem (get_or mem (from + 1) 0) i
+place-under mem from zero = refl
+place-under mem from (suc i) = ap (λ z. get_or mem (z + 1) 0) (place-under mem from i)
+
+record IsThere (low limit place : ℕ) : Type 0 where
+  pub above : low ≤ place
+  pub below : place + 2 ≤ limit
+
+place-there : (mem : List ℕ) (low limit from n i : ℕ) → IsStack mem low limit from n → i < n → IsThere low limit (place_at mem from i)
+place-there mem low limit from zero i s less = absurd (omega arith)
+place-there mem low limit from (suc n) zero (above, below, rest) less = record { above = above; below = below }
+place-there mem low limit from (suc n) (suc i) (above, below, rest) less =
+    subst (IsThere low limit) (sym (place-under mem from i)) (place-there mem low limit (get_or mem (from + 1) 0) n i rest (omega arith))
+
+value-in : (mem : List ℕ) (from n i : ℕ) → i < n → In (get_or mem (place_at mem from i) 0) (values mem from n)
+value-in mem from zero i less = absurd (omega arith)
+value-in mem from (suc n) zero less = inl refl
+value-in mem from (suc n) (suc i) less =
+    inr (let P : ℕ → Type 0 = λ z. In (get_or mem z 0) (values mem (get_or mem (from + 1) 0) n) in subst P (sym (place-under mem from i)) (value-in mem (get_or mem (from + 1) 0) n i (omega arith)))
+
+-- Places side by side: each names the next one.
+abbrev pub AreLined : List ℕ → (to n : ℕ) → Type 0
+AreLined mem to n = (j q : ℕ) → j < n → q ≡ to + 2 * j → get_or mem (q + 1) 0 ≡ q + 2
+
+-- They hold what the values of a stack have become.
+abbrev pub HoldImages : Plan → (old mem : List ℕ) → (from to n : ℕ) → Type 0
+HoldImages p old mem from to n = (j q : ℕ) → j < n → q ≡ to + 2 * j → IsImage p mem (get_or old (place_at old from j) 0) (get_or mem q 0)
+
+lined-stack : (mem : List ℕ) (low limit to n : ℕ) → AreLined mem to n → low ≤ to → to + 2 * n ≤ limit → IsStack mem low limit to n
+lined-stack mem low limit to zero links above below = tt
+lined-stack mem low limit to (suc n) links above below =
+    let P : ℕ → Type 0 = λ z. IsStack mem low limit z n in
+    let rest = lined-stack mem low limit (to + 2) n (λ j q less e. links (suc j) q (omega arith) (omega (arith, e))) (omega (arith, above)) (omega (arith, below)) in
+    (above, omega (arith, below), subst P (sym (links 0 to (omega arith) (omega arith))) rest)
+
+lined-images : (p : Plan) (old mem : List ℕ) (from to n : ℕ) → HoldImages p old mem from to n → AreLined mem to n → AllImages p mem (values old from n) (values mem to n)
+unfolding AllImages
+lined-images p old mem from to zero images links = tt
+lined-images p old mem from to (suc n) images links =
+    let P : ℕ → Type 0 = λ z. AllImages p mem (values old (get_or old (from + 1) 0) n) (values mem z n) in (
+      images 0 to (omega arith) (omega arith),
+      subst P (sym (links 0 to (omega arith) (omega arith)))
+          (lined-images p old mem (get_or old (from + 1) 0) (to + 2) n
+          (λ j q less e. let Q : ℕ → Type 0 = λ z. IsImage p mem (get_or old z 0) (get_or mem q 0) in subst Q (place-under old from j) (images (suc j) q (omega arith) (omega (arith, e))))
+          (λ j q less e. links (suc j) q (omega arith) (omega (arith, e)))),
+    )
+
+-- The first places are moved.
+pub record Stacking (p : Plan) (old mem : List ℕ) (mv : Moving) (k : Marks) (from depth to i : ℕ) : Type 0 where
+  pub goes : Goes p old mem mv k to (to + 2 * depth)
+  pub images : HoldImages p old mem from to i
+  pub links : AreLined mem to i
+
+-- So far, whatever the plan; the next place to move is known.
+pub record StackLoop (old : List ℕ) (mv0 : Moving) (from depth to : ℕ) (mem : List ℕ) (mv : Moving) (i place : ℕ) : Type 0 where
+  pub at : place ≡ place_at old from i
+  pub moves : (p : Plan) (k : Marks) (low limit : ℕ) → StackMoves p old mv0 k low limit from depth to → Stacking p old mem mv k from depth to i
+
+pub stack-start : (old : List ℕ) (mv0 : Moving) (from depth to : ℕ) → StackLoop old mv0 from depth to old mv0 0 from
+stack-start old mv0 from depth to = record {
+  at = refl;
+  moves = λ p k low limit s. record {
+    goes = goes-same p old mv0 k to (to + 2 * depth) s.room.runs;
+    images = λ j q less e. absurd (omega (arith, less));
+    links = λ j q less e. absurd (omega (arith, less));
+  };
+}
+
+pub stack-end : (old : List ℕ) (mv0 : Moving) (from depth to : ℕ) (mem : List ℕ) (mv : Moving) (i place : ℕ) → StackLoop old mv0 from depth to mem mv i place → depth ≤ i
+    → (p : Plan) (k : Marks) (low limit : ℕ) → StackMoves p old mv0 k low limit from depth to → StackMoved p old mem mv k from depth to
+stack-end old mv0 from depth to mem mv i place l all p k low limit s =
+    let g : Stacking p old mem mv k from depth to i = l.moves p k low limit s in
+    let links : AreLined mem to depth = λ j q less e. g.links j q (omega (arith, less, all)) e in
+    record {
+      goes = g.goes;
+      places = lined-stack mem to (to + 2 * depth) to depth links (omega arith) (omega arith);
+      images = lined-images p old mem from to depth (λ j q less e. g.images j q (omega (arith, less, all)) e) links;
+    }
+
+-- One place more.
+module _ (p : Plan) (old : List ℕ) (mv0 : Moving) (k : Marks) (low limit from depth to : ℕ) (s : StackMoves p old mv0 k low limit from depth to) (mem : List ℕ) (mv : Moving)
+    (i place : ℕ) (g : Stacking p old mem mv k from depth to i) (less : i < depth) (at : place ≡ place_at old from i) where
+  there : IsThere low limit place
+  there = subst (IsThere low limit) (sym at) (place-there old low limit from depth i s.places less)
+
+  len : length mem ≡ length old
+  len = g.goes.runs.holds.same_len ∙ sym s.room.runs.holds.same_len
+
+  old-inside : place + 2 ≤ length mem
+  old-inside = omega (arith, there.below, s.room.old_inside, len)
+
+  new-inside : to + 2 * i + 2 ≤ length mem
+  new-inside = omega (arith, less, s.room.new_inside, len)
+
+  -- The old places are as they were.
+  same : (q : ℕ) → place ≤ q → q < place + 2 → get_or mem q 0 ≡ get_or old q 0
+  same q above below =
+      g.goes.aside q (s.room.old q (omega (arith, above, there.above)) (omega (arith, below, there.below)))
+      (elim s.room.apart [ inl a ↦ inl (omega (arith, a, below, there.below)) | inr a ↦ inr (omega (arith, a, above, there.above)) ])
+
+  value : get_or mem place 0 ≡ get_or old (place_at old from i) 0
+  value = same place (omega arith) (omega arith) ∙ ap (λ z. get_or old z 0) at
+
+  under : get_or mem (place + 1) 0 ≡ place_at old from (i + 1)
+  under =
+      let one_more : suc i ≡ i + 1 = omega arith in
+      (same (place + 1) (omega arith) (omega arith) ∙ ap (λ z. get_or old (z + 1) 0) at) ∙ ap (place_at old from) one_more
+
+  -- The words that a step writes lie aside.
+  aside : (q : ℕ) → to + 2 * i ≤ q → q < to + 2 * i + 2 → IsAside p q
+  aside q above below = s.room.new q (omega (arith, above)) (omega (arith, below, less))
+
+  moves : (next : ℕ) → next ≡ to + 2 * i → PlaceMoves p mem mv k place next
+  moves next e = record {
+    runs = g.goes.runs;
+    reached = subst (Reached p) (sym value) (s.reached (get_or old (place_at old from i) 0) (value-in old from depth i less));
+    first = aside next (omega (arith, e)) (omega (arith, e));
+    second = aside (next + 1) (omega (arith, e)) (omega (arith, e));
+  }
+
+  module _ (mem2 : List ℕ) (mv2 : Moving) (next below : ℕ) (e : next ≡ to + 2 * i) (m : PlaceMoved p mem mem2 mv2 k place next below) where
+    -- What was written before is there still.
+    before : (q : ℕ) → to ≤ q → q < next → get_or mem2 q 0 ≡ get_or mem q 0
+    before q above under = m.goes.aside q (s.room.new q above (omega (arith, under, e, less))) (inl under)
+
+    images-more : HoldImages p old mem2 from to (i + 1)
+    images-more j q small is = elim (one-or-not j i) [
+      | inl last ↦ (
+          let P : ℕ → Type 0 = λ z. IsImage p mem2 (get_or old (place_at old from z) 0) (get_or mem2 q 0) in
+          let Q : ℕ → Type 0 = λ z. IsImage p mem2 (get_or old (place_at old from i) 0) (get_or mem2 z 0) in
+          let R : ℕ → Type 0 = λ z. IsImage p mem2 z (get_or mem2 next 0) in
+          let here : next ≡ q = omega (arith, last, is, e) in
+          subst P (sym last) (subst Q here (subst R value m.image))
+          )
+      | inr other ↦ (
+          let earlier : j < i = omega (arith, small, other) in
+          let r : Reached p (get_or old (place_at old from j) 0) = s.reached (get_or old (place_at old from j) 0) (value-in old from depth j (omega (arith, earlier, less))) in
+          let P : ℕ → Type 0 = λ z. IsImage p mem2 (get_or old (place_at old from j) 0) z in
+          subst P (sym (before q (omega (arith, is)) (omega (arith, is, e, earlier)))) (m.goes.images (get_or old (place_at old from j) 0) (get_or mem q 0) r (g.images j q earlier is))
+          )
+    ]
+
+    links-more : AreLined mem2 to (i + 1)
+    links-more j q small is = elim (one-or-not j i) [
+      | inl last ↦ (
+          let P : ℕ → Type 0 = λ z. get_or mem2 (z + 1) 0 ≡ z + 2 in
+          let here : next ≡ q = omega (arith, last, is, e) in
+          subst P here m.next
+          )
+      | inr other ↦ (let earlier : j < i = omega (arith, small, other) in before (q + 1) (omega (arith, is)) (omega (arith, is, e, earlier)) ∙ g.links j q earlier is)
+    ]
+
+    more : Stacking p old mem2 mv2 k from depth to (i + 1)
+    more = record {
+      goes = goes-then p old mem mem2 mv mv2 k k to (to + 2 * depth) next (next + 2) to (to + 2 * depth) g.goes m.goes (omega arith) (omega arith) (omega (arith, e)) (omega (arith, e, less));
+      images = images-more;
+      links = links-more;
+    }
+
+-- The same where some stack may move.
+module _ (old : List ℕ) (mv0 : Moving) (from depth to : ℕ) (r : CanMoveStack old mv0 from depth to) (mem : List ℕ) (mv : Moving) (i place : ℕ)
+    (l : StackLoop old mv0 from depth to mem mv i place) (less : i < depth) where
+  here : Stacking r.plan old mem mv r.marks from depth to i
+  here = l.moves r.plan r.marks r.low r.limit r.moves
+
+  pub step-old : place + 2 ≤ length mem
+  step-old = old-inside r.plan old mv0 r.marks r.low r.limit from depth to r.moves mem mv i place here less l.at
+
+  pub step-new : (to + 2 * i + 2 ≤ length mem) × (length mem ≡ length old)
+  step-new = (
+    new-inside r.plan old mv0 r.marks r.low r.limit from depth to r.moves mem mv i place here less l.at,
+    len r.plan old mv0 r.marks r.low r.limit from depth to r.moves mem mv i place here less l.at,
+  )
+
+  pub step-moves : CanMove mem mv (get_or mem place 0)
+  step-moves =
+      let m : PlaceMoves r.plan mem mv r.marks place (to + 2 * i) = moves r.plan old mv0 r.marks r.low r.limit from depth to r.moves mem mv i place here less l.at (to + 2 * i) refl in
+      record { plan = r.plan; marks = r.marks; runs = m.runs; reached = m.reached }
+
+  pub step-more : (mem2 : List ℕ) (mv2 : Moving) (below : ℕ) → ((p : Plan) (k : Marks) → PlaceMoves p mem mv k place (to + 2 * i) → PlaceMoved p mem mem2 mv2 k place (to + 2 * i) below)
+      → StackLoop old mv0 from depth to mem2 mv2 (i + 1) below
+  step-more mem2 mv2 below moved = record {
+    at =
+        (moved r.plan r.marks (moves r.plan old mv0 r.marks r.low r.limit from depth to r.moves mem mv i place here less l.at (to + 2 * i) refl)).below_is
+        ∙ under r.plan old mv0 r.marks r.low r.limit from depth to r.moves mem mv i place here less l.at;
+    moves = λ p k low limit s.
+        let g : Stacking p old mem mv k from depth to i = l.moves p k low limit s in
+        more p old mv0 k low limit from depth to s mem mv i place g less l.at mem2 mv2 (to + 2 * i) below refl
+        (moved p k (moves p old mv0 k low limit from depth to s mem mv i place g less l.at (to + 2 * i) refl));
+  }

@@ -1,0 +1,6 @@
+pub mod Stack
+pub mod Halves
+pub mod Reached
+pub mod Rows
+pub mod Collecting
+pub mod Figures

@@ -1,0 +1,120 @@
+// The memory in two halves, and a collection from one to the other.
+ghost use Rattle.std.specs.Prelude.{◌≡◌, ◌-◌, ◌+◌, ◌<◌, ◌≤◌, ◌^◌};
+ghost use Rattle.two_halves.specs.Halves.{depths, free_in};
+ghost use Rattle.two_halves.specs.Collecting.{CanCollect, Collects, IsBetween, MakesRoom};
+
+use crate::roots::move_roots;
+use crate::table::Proc;
+use cheney::{Moving, Stay, scan};
+use word_mem::{Room, Span, WordMem};
+
+/// The first words of a half are never used, so that no object has place 0, and count as used.
+pub const UNUSED: u64 = 2;
+
+/// The words of a stack place: the value, and the place of the one below.
+pub const PLACE_WORDS: u64 = 2;
+
+/// A memory in two halves, of which one is in use, and the processes whose terms stand there.
+///
+/// From `base` on, after the words that are never used, objects lie up to `top`; stack places lie from `low` up to the end
+/// of the half; the words between are free. `sweeps` counts the collections.
+#[derive(Drop)]
+pub struct Halves {
+    pub mem: WordMem,
+    pub base: u64,
+    pub top: u64,
+    pub low: u64,
+    pub procs: Vec<Proc>,
+    pub sweeps: u64,
+}
+
+impl Halves {
+    /// The free words.
+    #[inline]
+    pub fn free(&self) -> u64
+        requires { self.now.top ≤ self.now.low }
+        ensures { result ≡ free_in self.now }
+    {
+        self.low - self.top
+    }
+
+    /// The free words, for new objects.
+    #[inline]
+    pub fn room(&self) -> Room
+        ensures { result ≡ record { start = self.now.base; top = self.now.top; end = self.now.low } }
+    {
+        Room {
+            start: self.base,
+            top: self.top,
+            end: self.low,
+        }
+    }
+
+    /// Whether there are `n` free words, where need be after a collection.
+    pub fn make_room(&mut self, n: u64) -> bool
+        requires can { CanCollect self.old }
+        requires counted { self.old.sweeps < 2 ^ 64 - 1 }
+        ensures { MakesRoom n self.old self.new result }
+    {
+        if n <= self.free() {
+            return true;
+        }
+        self.collect();
+        n <= self.free()
+    }
+
+    /// Moves all that lives to the other half, each object once; what is not reached is left behind.
+    pub fn collect(&mut self)
+        requires can { CanCollect self.old }
+        requires counted { self.old.sweeps < 2 ^ 64 - 1 }
+        ensures { Collects self.old self.new }
+    {
+        let half = self.mem.len() / 2;
+        let base = half - self.base;
+        let end = base + half;
+        let low = end - PLACE_WORDS * count_places(&self.procs);
+        let mut mv = moving_between(self.base, self.top, base + UNUSED, low);
+        move_roots(&mut self.mem, &mut mv, &mut self.procs, end);
+        scan(&mut self.mem, &mut mv);
+        self.base = base;
+        self.top = mv.young.top;
+        self.low = low;
+        self.sweeps += 1;
+    }
+}
+
+// How many stack places there are.
+fn count_places(procs: &[Proc]) -> u64
+    requires { depths procs.now < 2 ^ 63 }
+    ensures { result ≡ depths procs.now }
+{
+    let mut sum = 0;
+    for p in procs {
+        sum += p.depth;
+    }
+    sum
+}
+
+// A collection of what lies between two places to the words between two others, in which all moves.
+fn moving_between(old: u64, old_end: u64, start: u64, end: u64) -> Moving
+    ensures { IsBetween start end result }
+{
+    Moving {
+        stay: Stay::none(),
+        from_space: Span {
+            start: old,
+            end: old_end,
+        },
+        mature: Span { start: 0, end: 0 },
+        aged: Room {
+            start,
+            top: start,
+            end: start,
+        },
+        young: Room {
+            start,
+            top: start,
+            end,
+        },
+    }
+}
