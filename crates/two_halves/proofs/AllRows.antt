@@ -9,12 +9,12 @@ use Rattle.cheney.specs.Zones.{Marks}
 use Rattle.cheney.specs.Collected.{AllImages}
 use Rattle.term_words.proofs.Members.{one-or-not}
 use Rattle.two_halves.specs.Stack.{IsStack, values}
-use Rattle.two_halves.specs.Halves.{depths}
+use Rattle.two_halves.specs.Halves.{places_in}
 use Rattle.two_halves.specs.Rows.{AreMovedRows, CanMoveRow, CanMoveRows, Goes, HasPlaces, IsMovedRow, RowMoved, RowMoves, RowsMove, RowsMoved}
 use Rattle.two_halves.specs.declared.table.Proc.{Proc}
 use Rattle.two_halves.proofs.Going.{goes-same, goes-then}
 use Rattle.two_halves.proofs.Rowing.{old-kept, room-on, row-on}
-use Rattle.two_halves.proofs.Stacks.{AreKept, no_row, register-root, stack-at, stack-kept, stack-wider, value-root, values-kept}
+use Rattle.two_halves.proofs.Stacks.{AreKept, message-root, no_row, register-root, stack-at, stack-kept, stack-wider, value-root, values-kept}
 
 -- Rows one by one are rows in order.
 rows-are : (p : Plan) (start mem : List ℕ) (low limit : ℕ) (olds news : List Proc) → length news ≡ length olds
@@ -30,10 +30,14 @@ row-wider : (p : Plan) (start mem : List ℕ) (low limit low2 limit2 : ℕ) (old
 row-wider p start mem low limit low2 limit2 old new down up r = record {
   number = r.number;
   depth = r.depth;
+  waiting = r.waiting;
   refs = r.refs;
   registers = r.registers;
-  places = stack-wider mem low limit low2 limit2 new.stack new.depth down up r.places;
+  places = stack-wider p.test mem low limit low2 limit2 new.stack new.depth down up r.places;
   values_are = r.values_are;
+  waits = stack-wider p.test mem low limit low2 limit2 new.queue new.waiting down up r.waits;
+  messages_are = r.messages_are;
+  last = r.last;
 }
 
 -- The first rows have moved.
@@ -44,7 +48,7 @@ pub record Rowing (p : Plan) (old mem : List ℕ) (mv : Moving) (k : Marks) (old
 -- So far, whatever the plan; the other rows are as they were.
 pub record RowLoop (old : List ℕ) (mv0 : Moving) (olds : List Proc) (end : ℕ) (mem : List ℕ) (mv : Moving) (news : List Proc) (now i : ℕ) : Type 0 where
   pub count : length news ≡ length olds
-  pub at : now + 2 * depths (take i olds) ≡ end
+  pub at : now + 2 * places_in (take i olds) ≡ end
   pub todo : (j : ℕ) → i ≤ j → get_or news j no_row ≡ get_or olds j no_row
   pub moves : (p : Plan) (k : Marks) (low limit : ℕ) → RowsMove p old mv0 k low limit olds end → Rowing p old mem mv k olds news end now i
 
@@ -60,7 +64,7 @@ pub rows-end : (old : List ℕ) (mv0 : Moving) (olds : List Proc) (end : ℕ) (m
     → length olds ≤ i → (p : Plan) (k : Marks) (low limit : ℕ) → RowsMove p old mv0 k low limit olds end → RowsMoved p old mem mv k olds news end
 rows-end old mv0 olds end mem mv news now i l all p k low limit s =
     let g : Rowing p old mem mv k olds news end now i = l.moves p k low limit s in
-    let last : now ≡ end - 2 * depths olds = omega (arith, l.at, ap depths (take_all i olds all)) in
+    let last : now ≡ end - 2 * places_in olds = omega (arith, l.at, ap places_in (take_all i olds all)) in
     let P : ℕ → Type 0 = λ z. Goes p old mem mv k z end in
     let Q : ℕ → Type 0 = λ z. AreMovedRows p old mem z end olds news in
     record { goes = subst P last g.goes; are = subst Q last (rows-are p old mem now end olds news l.count (λ j less. g.done j (omega (arith, less, all)) less)) }
@@ -71,14 +75,17 @@ module _ (p : Plan) (old : List ℕ) (mv0 : Moving) (k : Marks) (low limit : ℕ
   so-far : Rowing p old mem mv k olds news end now i
   so-far = l.moves p k low limit s
 
-  total : depths (take i olds) + row.depth ≤ depths olds
-  total = omega (arith, sum_by_more_le (λ r. r.depth) olds i no_row less, ap (λ r. r.depth) is)
+  total : places_in (take i olds) + (row.depth + row.waiting) ≤ places_in olds
+  total = omega (arith, sum_by_more_le (λ r. r.depth + r.waiting) olds i no_row less, ap (λ r. r.depth + r.waiting) is)
 
-  row-fits : 2 * row.depth ≤ now
+  row-fits : 2 * (row.depth + row.waiting) ≤ now
   row-fits = omega (arith, total, l.at, s.fits)
 
-  places : IsStack old low limit row.stack row.depth
-  places = let P : Proc → Type 0 = λ r. IsStack old low limit r.stack r.depth in subst P (sym is) (stack-at old low limit olds i less s.stacks)
+  places : IsStack p.test old low limit row.stack row.depth
+  places = let P : Proc → Type 0 = λ r. IsStack p.test old low limit r.stack r.depth in subst P (sym is) (stack-at p.test old low limit olds i less s.stacks).0
+
+  waits : IsStack p.test old low limit row.queue row.waiting
+  waits = let P : Proc → Type 0 = λ r. IsStack p.test old low limit r.queue r.waiting in subst P (sym is) (stack-at p.test old low limit olds i less s.stacks).1
 
   reached-registers : (w : ℕ) → In w row.regs → Reached p w
   reached-registers w h = s.reached w (register-root old olds i w less (let P : Proc → Type 0 = λ r. In w r.regs in subst P is h))
@@ -86,56 +93,74 @@ module _ (p : Plan) (old : List ℕ) (mv0 : Moving) (k : Marks) (low limit : ℕ
   reached-values : (w : ℕ) → In w (values old row.stack row.depth) → Reached p w
   reached-values w h = s.reached w (value-root old olds i w less (let P : Proc → Type 0 = λ r. In w (values old r.stack r.depth) in subst P is h))
 
-  room : HasPlaces p mem mv k low limit (end - 2 * depths olds) (2 * depths olds)
-  room = room-on p old mem mv0 mv k low limit (end - 2 * depths olds) (2 * depths olds) now end s.room so-far.goes
+  reached-messages : (w : ℕ) → In w (values old row.queue row.waiting) → Reached p w
+  reached-messages w h = s.reached w (message-root old olds i w less (let P : Proc → Type 0 = λ r. In w (values old r.queue r.waiting) in subst P is h))
 
-  kept : AreKept old mem low limit
+  room : HasPlaces p mem mv k low limit (end - 2 * places_in olds) (2 * places_in olds)
+  room = room-on p old mem mv0 mv k low limit (end - 2 * places_in olds) (2 * places_in olds) now end s.room so-far.goes
+
+  kept : AreKept p.test old mem low limit
   kept =
-      let below : depths (take i olds) ≤ depths olds = sum_by-take-le (λ r. r.depth) olds i in
-      old-kept p old mem mv0 mv k low limit (end - 2 * depths olds) (2 * depths olds) now end s.room so-far.goes
+      let below : places_in (take i olds) ≤ places_in olds = sum_by-take-le (λ r. r.depth + r.waiting) olds i in
+      old-kept p old mem mv0 mv k low limit (end - 2 * places_in olds) (2 * places_in olds) now end s.room so-far.goes
       (elim s.room.apart [ inl a ↦ inl (omega (arith, a, l.at, below, s.fits)) | inr a ↦ inr (omega (arith, a, s.fits)) ])
 
-  row-moves : (to : ℕ) → to ≡ now - 2 * row.depth → RowMoves p mem mv k low limit row to
+  -- So many words of those that the row has are free still.
+  row-room : (to : ℕ) → to ≡ now - 2 * (row.depth + row.waiting) → (from n : ℕ) → to ≤ from → from + n ≤ now → HasPlaces p mem mv k low limit from n
+  row-room to down from n above below = record {
+    runs = so-far.goes.runs;
+    old = s.room.old;
+    new = λ q high under. s.room.new q (omega (arith, high, above, down, l.at, total)) (omega (arith, under, below, l.at, s.fits));
+    apart = elim s.room.apart [ inl a ↦ inl (omega (arith, a, above, down, l.at, total)) | inr a ↦ inr (omega (arith, a, below, l.at, s.fits)) ];
+    old_inside = room.old_inside;
+    new_inside = omega (arith, below, l.at, s.fits, room.new_inside);
+  }
+
+  row-moves : (to : ℕ) → to ≡ now - 2 * (row.depth + row.waiting) → RowMoves p mem mv k low limit row to
   row-moves to down = record {
     stack = record {
-      room = record {
-        runs = so-far.goes.runs;
-        old = s.room.old;
-        new = λ q above below. s.room.new q (omega (arith, above, down, l.at, total)) (omega (arith, below, down, l.at, s.fits, row-fits));
-        apart = elim s.room.apart [ inl a ↦ inl (omega (arith, a, down, l.at, total)) | inr a ↦ inr (omega (arith, a, down, l.at, s.fits, row-fits)) ];
-        old_inside = room.old_inside;
-        new_inside = omega (arith, down, l.at, s.fits, row-fits, room.new_inside);
-      };
-      places = stack-kept old mem low limit row.stack row.depth kept places;
-      reached = λ w h. reached-values w (subst (In w) (values-kept old mem low limit row.stack row.depth kept places) h);
+      room = row-room to down to (2 * row.depth) (omega arith) (omega (arith, down, row-fits));
+      places = stack-kept p.test old mem low limit row.stack row.depth kept places;
+      reached = λ w h. reached-values w (subst (In w) (values-kept p.test old mem low limit row.stack row.depth kept places) h);
+    };
+    queue = record {
+      room = row-room to down (to + 2 * row.depth) (2 * row.waiting) (omega arith) (omega (arith, down, row-fits));
+      places = stack-kept p.test old mem low limit row.queue row.waiting kept waits;
+      reached = λ w h. reached-messages w (subst (In w) (values-kept p.test old mem low limit row.queue row.waiting kept waits) h);
     };
     reached = reached-registers;
   }
 
-  module _ (mem2 : List ℕ) (mv2 : Moving) (new : Proc) (to : ℕ) (down : to ≡ now - 2 * row.depth) (r : RowMoved p mem mem2 mv2 k row new to) where
+  module _ (mem2 : List ℕ) (mv2 : Moving) (new : Proc) (to : ℕ) (down : to ≡ now - 2 * (row.depth + row.waiting)) (r : RowMoved p mem mem2 mv2 k row new to) where
     this-row : IsMovedRow p old mem2 to end row new
     this-row =
         let P : List ℕ → Type 0 = λ z. AllImages p mem2 z (values mem2 new.stack new.depth) in
-        row-wider p old mem2 to (to + 2 * row.depth) to end row new (omega arith) (omega (arith, down, row-fits, l.at)) (record {
+        let Q : List ℕ → Type 0 = λ z. AllImages p mem2 z (values mem2 new.queue new.waiting) in
+        row-wider p old mem2 to (to + 2 * (row.depth + row.waiting)) to end row new (omega arith) (omega (arith, down, row-fits, l.at)) (record {
           number = r.is.number;
           depth = r.is.depth;
+          waiting = r.is.waiting;
           refs = r.is.refs;
           registers = r.is.registers;
           places = r.is.places;
-          values_are = subst P (values-kept old mem low limit row.stack row.depth kept places) r.is.values_are;
+          values_are = subst P (values-kept p.test old mem low limit row.stack row.depth kept places) r.is.values_are;
+          waits = r.is.waits;
+          messages_are = subst Q (values-kept p.test old mem low limit row.queue row.waiting kept waits) r.is.messages_are;
+          last = r.is.last;
         })
 
     earlier-row : (j : ℕ) → j < i → j < length olds → IsMovedRow p old mem2 to end (get_or olds j no_row) (get_or news j no_row)
     earlier-row j before in_range =
-        let below : depths (take i olds) ≤ depths olds = sum_by-take-le (λ x. x.depth) olds i in
+        let below : places_in (take i olds) ≤ places_in olds = sum_by-take-le (λ x. x.depth + x.waiting) olds i in
         row-wider p old mem2 now end to end (get_or olds j no_row) (get_or news j no_row) (omega (arith, down)) (omega arith)
-        (row-on p old mem mem2 mv2 k now end to (to + 2 * row.depth) (get_or olds j no_row) (get_or news j no_row) (so-far.done j before in_range) r.goes
+        (row-on p old mem mem2 mv2 k now end to (to + 2 * (row.depth + row.waiting)) (get_or olds j no_row) (get_or news j no_row) (so-far.done j before in_range) r.goes
         (λ q above under. s.room.new q (omega (arith, above, l.at, below, s.fits)) (omega (arith, under, s.fits))) (inr (omega (arith, down, row-fits)))
-        (λ w h. s.reached w (register-root old olds j w in_range h)) (λ w h. s.reached w (value-root old olds j w in_range h)))
+        (λ w h. s.reached w (register-root old olds j w in_range h)) (λ w h. s.reached w (value-root old olds j w in_range h))
+        (λ w h. s.reached w (message-root old olds j w in_range h)))
 
     row-more : Rowing p old mem2 mv2 k olds (set news i new) end to (i + 1)
     row-more = record {
-      goes = goes-then p old mem mem2 mv mv2 k k now end to (to + 2 * row.depth) to end so-far.goes r.goes (omega (arith, down)) (omega arith) (omega arith) (omega (arith, down, row-fits, l.at));
+      goes = goes-then p old mem mem2 mv mv2 k k now end to (to + 2 * (row.depth + row.waiting)) to end so-far.goes r.goes (omega (arith, down)) (omega arith) (omega arith) (omega (arith, down, row-fits, l.at));
       done = λ j below in_range. elim (one-or-not j i) [
         | inl last ↦ (
             let P : ℕ → Type 0 = λ z. IsMovedRow p old mem2 to end (get_or olds z no_row) (get_or (set news i new) z no_row) in
@@ -156,12 +181,12 @@ module _ (old : List ℕ) (mv0 : Moving) (olds : List Proc) (end : ℕ) (r : Can
   same-row : get_or news i no_row ≡ get_or olds i no_row
   same-row = l.todo i (omega arith)
 
-  pub next-fits : 2 * (get_or news i no_row).depth ≤ now
+  pub next-fits : 2 * ((get_or news i no_row).depth + (get_or news i no_row).waiting) ≤ now
   next-fits = row-fits r.plan old mv0 r.marks r.low r.limit olds end r.moves mem mv news now i l less (get_or news i no_row) same-row
 
-  pub next-moves : CanMoveRow mem mv (get_or news i no_row) (now - 2 * (get_or news i no_row).depth)
+  pub next-moves : CanMoveRow mem mv (get_or news i no_row) (now - 2 * ((get_or news i no_row).depth + (get_or news i no_row).waiting))
   next-moves =
-      let to : ℕ = now - 2 * (get_or news i no_row).depth in
+      let to : ℕ = now - 2 * ((get_or news i no_row).depth + (get_or news i no_row).waiting) in
       record {
         plan = r.plan;
         marks = r.marks;
@@ -171,15 +196,15 @@ module _ (old : List ℕ) (mv0 : Moving) (olds : List Proc) (end : ℕ) (r : Can
       }
 
   pub next-more : (mem2 : List ℕ) (mv2 : Moving) (new : Proc)
-      → ((p : Plan) (k : Marks) (low limit : ℕ) → RowMoves p mem mv k low limit (get_or news i no_row) (now - 2 * (get_or news i no_row).depth)
-      → RowMoved p mem mem2 mv2 k (get_or news i no_row) new (now - 2 * (get_or news i no_row).depth))
-      → RowLoop old mv0 olds end mem2 mv2 (set news i new) (now - 2 * (get_or news i no_row).depth) (i + 1)
+      → ((p : Plan) (k : Marks) (low limit : ℕ) → RowMoves p mem mv k low limit (get_or news i no_row) (now - 2 * ((get_or news i no_row).depth + (get_or news i no_row).waiting))
+      → RowMoved p mem mem2 mv2 k (get_or news i no_row) new (now - 2 * ((get_or news i no_row).depth + (get_or news i no_row).waiting)))
+      → RowLoop old mv0 olds end mem2 mv2 (set news i new) (now - 2 * ((get_or news i no_row).depth + (get_or news i no_row).waiting)) (i + 1)
   next-more mem2 mv2 new moved =
       let row : Proc = get_or news i no_row in
-      let to : ℕ = now - 2 * (get_or news i no_row).depth in
+      let to : ℕ = now - 2 * ((get_or news i no_row).depth + (get_or news i no_row).waiting) in
       record {
         count = length-set news i new ∙ l.count;
-        at = omega (arith, l.at, next-fits, sum_by_more (λ x. x.depth) olds i no_row less, ap (λ x. x.depth) same-row);
+        at = omega (arith, l.at, next-fits, sum_by_more (λ x. x.depth + x.waiting) olds i no_row less, ap (λ x. x.depth + x.waiting) same-row);
         todo = λ j above. get_or-set_other news i j new no_row (λ e. omega (arith, e, above)) ∙ l.todo j (omega (arith, above));
         moves = λ p k low limit s.
             row-more p old mv0 k low limit olds end s mem mv news now i l less row same-row mem2 mv2 new to refl

@@ -1,5 +1,5 @@
 -- A stack moves place by place.
-use Rattle.std.proofs.Common.{◌≡◌, ℕ, zero, suc, ◌+◌, ◌*◌, ◌<◌, ◌≤◌, List, length, get_or, refl, sym, ◌∙◌, ap, subst, arith, inl, inr}
+use Rattle.std.proofs.Common.{◌≡◌, ℕ, zero, suc, ◌+◌, ◌-◌, ◌*◌, ◌<◌, ◌≤◌, Bool, true, List, length, get_or, refl, sym, ◌∙◌, ap, subst, arith, inl, inr}
 use Rattle.cheney.specs.declared.moving.Moving.{Moving}
 use Rattle.term_words.specs.Counted.{In}
 use Rattle.cheney.specs.Plan.{Plan, Reached}
@@ -8,7 +8,7 @@ use Rattle.cheney.specs.Zones.{Marks}
 use Rattle.cheney.specs.Calls.{CanMove}
 use Rattle.cheney.specs.Collected.{AllImages}
 use Rattle.term_words.proofs.Members.{one-or-not}
-use Rattle.two_halves.specs.Stack.{IsStack, values}
+use Rattle.two_halves.specs.Stack.{Ends, IsPlace, IsStack, values}
 use Rattle.two_halves.specs.Rows.{CanMoveStack, Goes, IsAside, PlaceMoved, PlaceMoves, StackMoved, StackMoves}
 use Rattle.two_halves.proofs.Going.{goes-same, goes-then}
 
@@ -21,15 +21,11 @@ place-under : (mem : List ℕ) (from i : ℕ) → place_at mem from (suc i) ≡ 
 place-under mem from zero = refl
 place-under mem from (suc i) = ap (λ z. get_or mem (z + 1) 0) (place-under mem from i)
 
-record IsThere (low limit place : ℕ) : Type 0 where
-  pub above : low ≤ place
-  pub below : place + 2 ≤ limit
-
-place-there : (mem : List ℕ) (low limit from n i : ℕ) → IsStack mem low limit from n → i < n → IsThere low limit (place_at mem from i)
-place-there mem low limit from zero i s less = absurd (omega arith)
-place-there mem low limit from (suc n) zero (above, below, rest) less = record { above = above; below = below }
-place-there mem low limit from (suc n) (suc i) (above, below, rest) less =
-    subst (IsThere low limit) (sym (place-under mem from i)) (place-there mem low limit (get_or mem (from + 1) 0) n i rest (omega arith))
+place-there : (c : ℕ → ℕ → Bool) (mem : List ℕ) (low limit from n i : ℕ) → IsStack c mem low limit from n → i < n → IsPlace c low limit (place_at mem from i)
+place-there c mem low limit from zero i s less = absurd (omega arith)
+place-there c mem low limit from (suc n) zero (here, rest) less = here
+place-there c mem low limit from (suc n) (suc i) (here, rest) less =
+    subst (IsPlace c low limit) (sym (place-under mem from i)) (place-there c mem low limit (get_or mem (from + 1) 0) n i rest (omega arith))
 
 value-in : (mem : List ℕ) (from n i : ℕ) → i < n → In (get_or mem (place_at mem from i) 0) (values mem from n)
 value-in mem from zero i less = absurd (omega arith)
@@ -45,12 +41,23 @@ AreLined mem to n = (j q : ℕ) → j < n → q ≡ to + 2 * j → get_or mem (q
 abbrev pub HoldImages : Plan → (old mem : List ℕ) → (from to n : ℕ) → Type 0
 HoldImages p old mem from to n = (j q : ℕ) → j < n → q ≡ to + 2 * j → IsImage p mem (get_or old (place_at old from j) 0) (get_or mem q 0)
 
-lined-stack : (mem : List ℕ) (low limit to n : ℕ) → AreLined mem to n → low ≤ to → to + 2 * n ≤ limit → IsStack mem low limit to n
-lined-stack mem low limit to zero links above below = tt
-lined-stack mem low limit to (suc n) links above below =
-    let P : ℕ → Type 0 = λ z. IsStack mem low limit z n in
-    let rest = lined-stack mem low limit (to + 2) n (λ j q less e. links (suc j) q (omega arith) (omega (arith, e))) (omega (arith, above)) (omega (arith, below)) in
-    (above, omega (arith, below), subst P (sym (links 0 to (omega arith) (omega arith))) rest)
+lined-stack : (c : ℕ → ℕ → Bool) (mem : List ℕ) (low limit to n : ℕ) → AreLined mem to n → low ≤ to → to + 2 * n ≤ limit
+    → ((q k : ℕ) → to ≤ q → q < to + 2 * n → c q k ≡ true → ⊥) → IsStack c mem low limit to n
+lined-stack c mem low limit to zero links above below bare = tt
+lined-stack c mem low limit to (suc n) links above below bare =
+    let P : ℕ → Type 0 = λ z. IsStack c mem low limit z n in
+    let rest = lined-stack c mem low limit (to + 2) n (λ j q less e. links (suc j) q (omega arith) (omega (arith, e))) (omega (arith, above)) (omega (arith, below))
+    (λ q k from under e. bare q k (omega (arith, from)) (omega (arith, under)) e) in (
+      record { above = above; below = omega (arith, below); bare = λ q k from under e. bare q k from (omega (arith, under)) e },
+      subst P (sym (links 0 to (omega arith) (omega arith))) rest,
+    )
+
+lined-end : (mem : List ℕ) (to n q : ℕ) → AreLined mem to n → q ≡ to + 2 * (n - 1) → Ends mem to n q
+lined-end mem to zero q links e = tt
+lined-end mem to (suc zero) q links e = omega (arith, e)
+lined-end mem to (suc (suc n)) q links e =
+    let P : ℕ → Type 0 = λ z. Ends mem z (suc n) q in
+    subst P (sym (links 0 to (omega arith) (omega arith))) (lined-end mem (to + 2) (suc n) q (λ j p less is. links (suc j) p (omega arith) (omega (arith, is))) (omega (arith, e)))
 
 lined-images : (p : Plan) (old mem : List ℕ) (from to n : ℕ) → HoldImages p old mem from to n → AreLined mem to n → AllImages p mem (values old from n) (values mem to n)
 unfolding AllImages
@@ -92,15 +99,19 @@ stack-end old mv0 from depth to mem mv i place l all p k low limit s =
     let links : AreLined mem to depth = λ j q less e. g.links j q (omega (arith, less, all)) e in
     record {
       goes = g.goes;
-      places = lined-stack mem to (to + 2 * depth) to depth links (omega arith) (omega arith);
+      places = lined-stack p.test mem to (to + 2 * depth) to depth links (omega arith) (omega arith) (λ q k from under e. (s.room.new q from under).free k e);
+      last = λ q e. lined-end mem to depth q links e;
       images = lined-images p old mem from to depth (λ j q less e. g.images j q (omega (arith, less, all)) e) links;
     }
 
 -- One place more.
 module _ (p : Plan) (old : List ℕ) (mv0 : Moving) (k : Marks) (low limit from depth to : ℕ) (s : StackMoves p old mv0 k low limit from depth to) (mem : List ℕ) (mv : Moving)
     (i place : ℕ) (g : Stacking p old mem mv k from depth to i) (less : i < depth) (at : place ≡ place_at old from i) where
-  there : IsThere low limit place
-  there = subst (IsThere low limit) (sym at) (place-there old low limit from depth i s.places less)
+  there : IsPlace p.test low limit place
+  there = subst (IsPlace p.test low limit) (sym at) (place-there p.test old low limit from depth i s.places less)
+
+  aside-old : (q : ℕ) → place ≤ q → q < place + 2 → IsAside p q
+  aside-old q above below = record { outside = s.room.old q (omega (arith, above, there.above)) (omega (arith, below, there.below)); free = λ k e. there.bare q k above below e }
 
   len : length mem ≡ length old
   len = g.goes.runs.holds.same_len ∙ sym s.room.runs.holds.same_len
@@ -114,7 +125,7 @@ module _ (p : Plan) (old : List ℕ) (mv0 : Moving) (k : Marks) (low limit from 
   -- The old places are as they were.
   same : (q : ℕ) → place ≤ q → q < place + 2 → get_or mem q 0 ≡ get_or old q 0
   same q above below =
-      g.goes.aside q (s.room.old q (omega (arith, above, there.above)) (omega (arith, below, there.below)))
+      g.goes.aside q (aside-old q above below)
       (elim s.room.apart [ inl a ↦ inl (omega (arith, a, below, there.below)) | inr a ↦ inr (omega (arith, a, above, there.above)) ])
 
   value : get_or mem place 0 ≡ get_or old (place_at old from i) 0

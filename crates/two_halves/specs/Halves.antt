@@ -1,11 +1,19 @@
--- The half in use: how it is laid out, and the processes that stand in it.
-use Rattle.std.specs.Prelude.{◌≡◌, ℕ, ◌+◌, ◌-◌, ◌*◌, ◌/◌, ◌%◌, ◌<◌, ◌≤◌, ◌⊎◌, Bool, true, List, [], ◌∷◌, length, sum_by}
+-- The half in use: how it is laid out, and the processes and records that stand in it.
+use Rattle.std.specs.Prelude.{◌≡◌, ℕ, ◌+◌, ◌-◌, ◌*◌, ◌/◌, ◌%◌, ◌<◌, ◌≤◌, ◌⊎◌, Bool, true, List, [], ◌∷◌, ◌++◌, length, sum_by}
 use Rattle.plain_term.specs.Tree.{Tree}
+use Rattle.plain_term.specs.Bytes.{shared_bytes}
 use Rattle.plain_machine.specs.State.{Process}
-use Rattle.term_words.specs.Role.{IsSingle, OfObject}
+use Rattle.term_words.specs.Role.{NEXT, IsSingle, OfObject, OfRecord}
+use Rattle.term_words.specs.Object.{IsBinRecord, IsFunRecord, IsRecord}
 use Rattle.term_words.specs.Stands.{Stands}
+use Rattle.term_words.specs.Counted.{In, Distinct, total}
 use Rattle.term_order.specs.Named.{is_named}
-use Rattle.two_halves.specs.Stack.{IsStack, values}
+use Rattle.shared_rec.specs.Record.{owner_in}
+use Rattle.off_heap_list.specs.Links.{Links}
+use Rattle.off_heap_list.specs.Exact.{AllCounted}
+use Rattle.record_move.specs.Copies.{record_words}
+use Rattle.record_move.specs.Tables.{OwnersRise}
+use Rattle.two_halves.specs.Stack.{Ends, IsStack, values}
 use Rattle.two_halves.specs.declared.table.Proc.{Proc}
 use Rattle.two_halves.specs.declared.halves.Halves.{Halves}
 use Rattle.two_halves.specs.declared.halves.TheConstants.{UNUSED, PLACE_WORDS}
@@ -30,18 +38,22 @@ free_in h = h.low - h.top
 abbrev pub used_in : Halves → ℕ
 used_in h = half_of h - free_in h
 
--- The stack places of all processes.
-abbrev pub depths : List Proc → ℕ
-depths ps = sum_by (λ p. p.depth) ps
+-- The stack and queue places of all processes.
+abbrev pub places_in : List Proc → ℕ
+places_in ps = sum_by (λ p. p.depth + p.waiting) ps
 
--- The halves are of one size and one of them is in use: from its front on objects, at its end stack places, and between
--- them free words. All stacks together have no more places than stand there.
+-- All records: those of binaries, and those of funs.
+abbrev pub records_of : Halves → List ℕ
+records_of h = h.bins.items ++ h.funs.items
+
+-- The halves are of one size and one of them is in use: from its front on objects, at its end stack and queue places and
+-- records, and between them free words. All places and records together fit there.
 pub record IsLaid (h : Halves) : Type 0 where
   pub even : length h.mem % 2 ≡ 0
   pub side : (h.base ≡ 0) ⊎ (h.base ≡ half_of h)
   pub front : front_of h ≤ h.top
   pub order : h.top ≤ h.low
-  pub places : h.low + PLACE_WORDS * depths h.procs.items ≤ end_of h
+  pub fits : h.low + (PLACE_WORDS * places_in h.procs.items + total (record_words h.mem) (records_of h)) ≤ end_of h
 
 -- The word stands for the tree where the test allows it, and all names of the tree are below a number.
 pub record HoldsTree (c : ℕ → ℕ → Bool) (shared : List (List ℕ)) (mem : List ℕ) (named w : ℕ) (t : Tree) : Type 0 where
@@ -55,14 +67,16 @@ HoldTrees c shared mem named (w ∷ ws) (t ∷ ts) = HoldsTree c shared mem name
 HoldTrees c shared mem named [] (t ∷ ts) = ⊥
 HoldTrees c shared mem named (w ∷ ws) [] = ⊥
 
--- The row stands for the process; its stack places lie between these bounds.
+-- The row stands for the process; the places of its stack and its queue lie between these bounds.
 pub record ProcStands (c : ℕ → ℕ → Bool) (shared : List (List ℕ)) (mem : List ℕ) (low limit named : ℕ) (p : Proc) (q : Process) : Type 0 where
   pub number : q.number ≡ p.number
   pub count : length p.regs ≡ 16
   pub registers : HoldTrees c shared mem named p.regs q.registers
-  pub places : IsStack mem low limit p.stack p.depth
+  pub places : IsStack c mem low limit p.stack p.depth
   pub stack : HoldTrees c shared mem named (values mem p.stack p.depth) q.stack
-  pub queue : q.queue ≡ []
+  pub waits : IsStack c mem low limit p.queue p.waiting
+  pub queue : HoldTrees c shared mem named (values mem p.queue p.waiting) q.queue
+  pub last : Ends mem p.queue p.waiting p.last
   pub refs : q.refs ≡ p.refs
 
 -- The rows stand for the processes, in order.
@@ -73,12 +87,42 @@ ProcsStand c shared mem low limit named (p ∷ ps) (q ∷ qs) = ProcStands c sha
 ProcsStand c shared mem low limit named [] (q ∷ qs) = ⊥
 ProcsStand c shared mem low limit named (p ∷ ps) [] = ⊥
 
--- The half in use stands for these processes: all words of their trees lie where objects lie, by one test of one role a
--- place. `named` is above all their atoms.
+-- A record of the binary with the serial that it says, and of its bytes.
+pub record IsBinOf (c : ℕ → ℕ → Bool) (mem : List ℕ) (shared : List (List ℕ)) (v : ℕ) : Type 0 where
+  pub from_one : 1 ≤ owner_in mem v
+  pub known : owner_in mem v ≤ length shared
+  pub is : IsBinRecord c mem v (owner_in mem v) (shared_bytes shared (owner_in mem v))
+
+-- A fun's record.
+pub record IsFunOf (c : ℕ → ℕ → Bool) (mem : List ℕ) (v : ℕ) : Type 0 where
+  pub name : ℕ
+  pub arity : ℕ
+  pub is : IsFunRecord c mem v name arity
+
+-- The tables list all records that stand, each once, the serials of binaries rising, and the names and arities of funs; and
+-- each record is named.
+pub record RecordsStand (c : ℕ → ℕ → Bool) (mem : List ℕ) (shared : List (List ℕ)) (bins funs : List ℕ) : Type 0 where
+  pub all : (v n : ℕ) → IsRecord c mem v n → In v (bins ++ funs)
+  pub once : Distinct (bins ++ funs)
+  pub each_bin : (v : ℕ) → In v bins → IsBinOf c mem shared v
+  pub each_fun : (v : ℕ) → In v funs → IsFunOf c mem v
+  pub serials : OwnersRise mem bins
+  pub codes : OwnersRise mem funs
+  pub counted : AllCounted c mem
+
+-- The half in use stands for these processes, by one test of one role a place: words of objects below the free words, words
+-- of records above them. The chain has every holder and fun that stands, whether it is reached or not, and each record's
+-- count is the number of those that name it. `named` is above all atoms of the trees.
 pub record HalvesStand (named : ℕ) (h : Halves) (shared : List (List ℕ)) (qs : List Process) : Type 0 where
   pub test : ℕ → ℕ → Bool
   pub single : IsSingle test
-  pub objects : (a k : ℕ) → test a k ≡ true → (front_of h ≤ a) × ((a < h.top) × OfObject k)
+  pub lie : (a k : ℕ) → test a k ≡ true → ((front_of h ≤ a) × ((a < h.top) × OfObject k)) ⊎ ((h.low ≤ a) × ((a < end_of h) × OfRecord k))
+  pub chained : List ℕ
+  pub linked : length chained ≡ h.linked
+  pub links : Links test h.mem h.head chained []
+  pub inside : (p : ℕ) → In p chained → p + 6 ≤ h.top
+  pub every : (p : ℕ) → test (p + 2) NEXT ≡ true → In p chained
+  pub records : RecordsStand test h.mem shared h.bins.items h.funs.items
   pub processes : ProcsStand test shared h.mem h.low (end_of h) named h.procs.items qs
 
 -- Some processes that the half in use stands for.

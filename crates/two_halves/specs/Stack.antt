@@ -1,13 +1,26 @@
--- Stacks of places that stand in the memory: each place is the word of a value and the place of the one below.
-use Rattle.std.specs.Prelude.{ℕ, zero, suc, ◌+◌, ◌≤◌, List, [], ◌∷◌, slice_index}
+-- Rows of places that stand in the memory, stacks and queues: each place is the word of a value and the place that follows.
+use Rattle.std.specs.Prelude.{◌≡◌, ℕ, zero, suc, ◌+◌, ◌<◌, ◌≤◌, Bool, true, List, [], ◌∷◌, slice_index}
 use Rattle.two_halves.specs.declared.halves.TheConstants.{PLACE_WORDS}
 
--- So many places follow one another from this one, the last pushed, and lie between these bounds.
-abbrev pub IsStack : List ℕ → (low limit place depth : ℕ) → Type 0
-IsStack mem low limit place zero = Unit {0}
-IsStack mem low limit place (suc n) = (low ≤ place) × (place + PLACE_WORDS ≤ limit) × IsStack mem low limit (slice_index mem (place + 1)) n
+-- A place lies between these bounds, and none of its words has a role.
+pub record IsPlace (c : ℕ → ℕ → Bool) (low limit place : ℕ) : Type 0 where
+  pub above : low ≤ place
+  pub below : place + PLACE_WORDS ≤ limit
+  pub bare : (q k : ℕ) → place ≤ q → q < place + PLACE_WORDS → c q k ≡ true → ⊥
 
--- The words of the values, from the last pushed.
+-- So many places follow one another from this one, and lie between these bounds: a stack from the last pushed, a queue from
+-- the first to be received.
+abbrev pub IsStack : (ℕ → ℕ → Bool) → List ℕ → (low limit place depth : ℕ) → Type 0
+IsStack c mem low limit place zero = Unit {0}
+IsStack c mem low limit place (suc n) = IsPlace c low limit place × IsStack c mem low limit (slice_index mem (place + 1)) n
+
+-- The words of the values, from that of the first place.
 abbrev pub values : List ℕ → (place depth : ℕ) → List ℕ
 values mem place zero = []
 values mem place (suc n) = slice_index mem place ∷ values mem (slice_index mem (place + 1)) n
+
+-- The last of so many places, any number where there is none.
+abbrev pub Ends : List ℕ → (place depth last : ℕ) → Type 0
+Ends mem place zero last = Unit {0}
+Ends mem place (suc zero) last = last ≡ place
+Ends mem place (suc (suc n)) last = Ends mem (slice_index mem (place + 1)) (suc n) last

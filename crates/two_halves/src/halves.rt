@@ -1,23 +1,27 @@
 // The memory in two halves, and a collection from one to the other.
 ghost use Rattle.std.specs.Prelude.{◌≡◌, ◌-◌, ◌+◌, ◌<◌, ◌≤◌, ◌^◌};
-ghost use Rattle.two_halves.specs.Halves.{depths, free_in};
+ghost use Rattle.two_halves.specs.Halves.{free_in, places_in};
 ghost use Rattle.two_halves.specs.Collecting.{CanCollect, Collects, IsBetween, MakesRoom};
 
 use crate::roots::move_roots;
 use crate::table::Proc;
 use cheney::{Moving, Stay, scan};
+use off_heap_list::{Order, sweep_chain};
+use record_move::{move_records, renew};
 use word_mem::{Room, Span, WordMem};
 
 /// The first words of a half are never used, so that no object has place 0, and count as used.
 pub const UNUSED: u64 = 2;
 
-/// The words of a stack place: the value, and the place of the one below.
+/// The words of a place of a stack or a queue: the value, and the place that follows.
 pub const PLACE_WORDS: u64 = 2;
 
 /// A memory in two halves, of which one is in use, and the processes whose terms stand there.
 ///
-/// From `base` on, after the words that are never used, objects lie up to `top`; stack places lie from `low` up to the end
-/// of the half; the words between are free. `sweeps` counts the collections.
+/// From `base` on, after the words that are never used, objects lie up to `top`; places of stacks and queues, and records, lie
+/// from `low` up to the end of the half; the words between are free. Holders and funs are in a chain of `linked` objects that
+/// begins with `head`, 0 for none. `bins` has the places of the binaries' records, their serials rising, and `funs` those of
+/// the funs' records, by name and then arity. `sweeps` counts the collections.
 #[derive(Drop)]
 pub struct Halves {
     pub mem: WordMem,
@@ -25,6 +29,10 @@ pub struct Halves {
     pub top: u64,
     pub low: u64,
     pub procs: Vec<Proc>,
+    pub head: u64,
+    pub linked: u64,
+    pub bins: Vec<u64>,
+    pub funs: Vec<u64>,
     pub sweeps: u64,
 }
 
@@ -63,7 +71,8 @@ impl Halves {
         n <= self.free()
     }
 
-    /// Moves all that lives to the other half, each object once; what is not reached is left behind.
+    /// Moves all that lives to the other half, each object and each record once; what is not reached is left behind, and no
+    /// record counts it.
     pub fn collect(&mut self)
         requires can { CanCollect self.old }
         requires counted { self.old.sweeps < 2 ^ 64 - 1 }
@@ -72,25 +81,31 @@ impl Halves {
         let half = self.mem.len() / 2;
         let base = half - self.base;
         let end = base + half;
-        let low = end - PLACE_WORDS * count_places(&self.procs);
-        let mut mv = moving_between(self.base, self.top, base + UNUSED, low);
+        let places = end - PLACE_WORDS * count_places(&self.procs);
+        let mut mv = moving_between(self.base, self.top, base + UNUSED, places);
         move_roots(&mut self.mem, &mut mv, &mut self.procs, end);
         scan(&mut self.mem, &mut mv);
+        let left = sweep_chain(&mut self.mem, self.head, self.linked, Order::Turned);
+        let low = move_records(&mut self.mem, left.first, left.len, places);
+        renew(&self.mem, &mut self.bins);
+        renew(&self.mem, &mut self.funs);
         self.base = base;
         self.top = mv.young.top;
         self.low = low;
+        self.head = left.first;
+        self.linked = left.len;
         self.sweeps += 1;
     }
 }
 
-// How many stack places there are.
+// How many places stacks and queues have together.
 fn count_places(procs: &[Proc]) -> u64
-    requires { depths procs.now < 2 ^ 63 }
-    ensures { result ≡ depths procs.now }
+    requires { places_in procs.now < 2 ^ 63 }
+    ensures { result ≡ places_in procs.now }
 {
     let mut sum = 0;
     for p in procs {
-        sum += p.depth;
+        sum += p.depth + p.waiting;
     }
     sum
 }
