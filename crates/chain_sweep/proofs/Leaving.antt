@@ -124,10 +124,10 @@ module _ (p : Plan) (y : Ready p) (m : List ℕ) (top : Bool → ℕ) (w : Colle
   length-stays : (v n : ℕ) → IsRecord p.test p.start v n → get_or m (v + 3) 0 ≡ get_or p.start (v + 3) 0
   length-stays = record-length p.test p.start m w.records
 
-  count-stays : (v n : ℕ) → IsRecord p.test p.start v n → get_or m (v + 2) 0 ≡ get_or p.start (v + 2) 0
+  pub count-stays : (v n : ℕ) → IsRecord p.test p.start v n → get_or m (v + 2) 0 ≡ get_or p.start (v + 2) 0
   count-stays v n there = w.untouched (v + 2) COUNT (record-counted p.test p.start v n there) (λ e. omega (arith, e)) (λ e. omega (arith, e))
 
-  carried-role : (a k : ℕ) → IsCarried p m a k → OfObject k
+  pub carried-role : (a k : ℕ) → IsCarried p m a k → OfObject k
   unfolding size
   carried-role a k c =
       let (t, st) = reached p.test p.shared p.start p.roots p.trees y.standing c.v c.reached in
@@ -143,7 +143,7 @@ module _ (p : Plan) (y : Ready p) (m : List ℕ) (top : Bool → ℕ) (w : Colle
   of-record k (inr (inl e)) = inr (omega (arith, e))
   of-record k (inr (inr e)) = inr (omega (arith, e))
 
-  record-back : (v n : ℕ) → IsRecord r.test m v n → IsRecord p.test p.start v n
+  pub record-back : (v n : ℕ) → IsRecord r.test m v n → IsRecord p.test p.start v n
   record-back = record-same r.test p.test m p.start (omega (arith, w.same_len)) (λ a k of h. role-back a k (of-record k of) h)
       (λ a k past h. sym (w.records a k past (role-back a k (inr past) h)))
 
@@ -200,7 +200,7 @@ module _ (p : Plan) (y : Ready p) (m : List ℕ) (top : Bool → ℕ) (w : Colle
   word-is : forward m (o * 4 + 2) ≡ get_or m o 0
   word-is = forward-boxed m (o * 4 + 2) tag ∙ ap (λ q. get_or m q 0) at
 
-  size6 : 6 ≤ size p (o * 4 + 2)
+  pub size6 : 6 ≤ size p (o * 4 + 2)
   size6 = omega (arith, size-boxed p (o * 4 + 2) tag, ap (λ q. 1 + get_or p.start q 0 / 64) at, header-words (get_or p.start o 0) l.kind)
 
   first6 : first p (o * 4 + 2) ≡ 6
@@ -208,13 +208,13 @@ module _ (p : Plan) (y : Ready p) (m : List ℕ) (top : Bool → ℕ) (w : Colle
       first-boxed p (o * 4 + 2) tag
       ∙ (ap (λ q. first_of (layout_for (get_or p.start q 0)) (1 + get_or p.start q 0 / 64)) at ∙ header-first (get_or p.start o 0) (1 + get_or p.start o 0 / 64) l.kind)
 
-  place-is : forward m (o * 4 + 2) / 4 ≡ new_place m o
+  pub place-is : forward m (o * 4 + 2) / 4 ≡ new_place m o
   place-is = ap (λ x. x / 4) word-is
 
   copied : Reached p (o * 4 + 2) → Leaves p (o * 4 + 2) → IsMoved p m top (o * 4 + 2) (forward m (o * 4 + 2))
   copied re le = w.copies (o * 4 + 2) re le
 
-  moved-is : Reached p (o * 4 + 2) → Leaves p (o * 4 + 2) → is_moved m o ≡ true
+  pub moved-is : Reached p (o * 4 + 2) → Leaves p (o * 4 + 2) → is_moved m o ≡ true
   moved-is re le = let two : get_or m o 0 % 4 ≡ 2 = ap (λ x. x % 4) (sym word-is) ∙ ((copied re le).tag ∙ tag) in rw two refl
 
   new-word : Reached p (o * 4 + 2) → Leaves p (o * 4 + 2) → (j : ℕ) → j < 6 → get_or m (new_place m o + j) 0 ≡ get_or p.start (o + j) 0

@@ -18,7 +18,7 @@ use Rattle.chain_sweep.specs.Follows.{Sweepable, HasRoom}
 use Rattle.chain_sweep.proofs.Leaving.{which, left-not, new-link, new-named, record-goes}
 
 -- An object of the new chain was moved from one of the old one.
-record Origin (m os : List ℕ) (q : ℕ) : Type 0 where
+pub record Origin (m os : List ℕ) (q : ℕ) : Type 0 where
   pub o : ℕ
   pub inside : In o os
   pub moved : is_moved m o ≡ true
@@ -29,11 +29,11 @@ origin-by m os o q true is more (inl e) = record { o = o; inside = inl refl; mov
 origin-by m os o q true is more (inr deep) = let x : Origin m os q = more deep in record { o = x.o; inside = inr x.inside; moved = x.moved; place = x.place }
 origin-by m os o q false is more deep = let x : Origin m os q = more deep in record { o = x.o; inside = inr x.inside; moved = x.moved; place = x.place }
 
-origin : (m os : List ℕ) (q : ℕ) → In q (moved_of m os) → Origin m os q
+pub origin : (m os : List ℕ) (q : ℕ) → In q (moved_of m os) → Origin m os q
 origin m [] q inside = absurd inside
 origin m (o ∷ os) q inside = origin-by m os o q (is_moved m o) refl (λ deep. origin m os q deep) inside
 
-total-same : (f g : ℕ → ℕ) (vs : List ℕ) → ((v : ℕ) → In v vs → f v ≡ g v) → total f vs ≡ total g vs
+pub total-same : (f g : ℕ → ℕ) (vs : List ℕ) → ((v : ℕ) → In v vs → f v ≡ g v) → total f vs ≡ total g vs
 total-same f g [] same = refl
 total-same f g (v ∷ vs) same = omega (arith, same v (inl refl), total-same f g vs (λ w i. same w (inr i)))
 

@@ -7,5 +7,6 @@ mod AllRows
 pub mod Held
 mod Planned
 mod Packed
+mod Counting
 pub mod Ended
 pub mod Tight

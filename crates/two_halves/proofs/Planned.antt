@@ -3,8 +3,11 @@ use Rattle.std.proofs.Common.{◌≡◌, ℕ, ◌+◌, ◌-◌, ◌*◌, ◌/◌
 use Rattle.std.proofs.lemmas.Bool.Decides.{nat_tests}
 use Rattle.term_words.specs.Object.{IsPointer, object_words}
 use Rattle.term_words.specs.Stands.{AllStand}
+use Rattle.term_words.specs.Role.{OfObject}
+use Rattle.term_words.specs.Counted.{total}
 use Rattle.term_words.proofs.Reached.{reached}
 use Rattle.term_words.proofs.Roles.{object-role, object-some}
+use Rattle.record_move.specs.Copies.{record_words}
 use Rattle.cheney.specs.declared.moving.Moving.{Moving}
 use Rattle.cheney.specs.Spans.{in_span, in_spans}
 use Rattle.cheney.specs.Plan.{Fits, IsOutside, Plan, Ready, Reached, size}
@@ -14,7 +17,7 @@ use Rattle.cheney.proofs.Basics.{not-both}
 use Rattle.cheney.proofs.Begins.{begins}
 use Rattle.cheney.proofs.Fitting.{fits-by-range}
 use Rattle.cheney.proofs.Rows.{root-in}
-use Rattle.two_halves.specs.Halves.{IsLaid, Standing, depths, end_of, front_of, half_of}
+use Rattle.two_halves.specs.Halves.{IsLaid, Standing, end_of, front_of, half_of, places_in, records_of}
 use Rattle.two_halves.specs.Reached.{roots_of}
 use Rattle.two_halves.specs.Rows.{IsAside, RowsMove}
 use Rattle.two_halves.specs.Collecting.{IsBetween}
@@ -35,18 +38,18 @@ pub record IsTarget (h : Halves) (t : Target) : Type 0 where
   pub side : ((h.base ≡ 0) × (t.base ≡ half_of h)) ⊎ ((h.base ≡ half_of h) × (t.base ≡ 0))
   pub first : t.from ≡ t.base + 2
   pub ends : t.end ≡ t.base + half_of h
-  pub last : t.to ≡ t.end - 2 * depths h.procs.items
+  pub last : t.to ≡ t.end - 2 * places_in h.procs.items
 
 -- As the code reckons it, from the words of the memory and the number of stack places.
 abbrev pub target_of : Halves → (words n : ℕ) → Target
 target_of h words n = record { base = words / 2 - h.base; from = words / 2 - h.base + 2; to = words / 2 - h.base + words / 2 - 2 * n; end = words / 2 - h.base + words / 2 }
 
-pub is-target : (h : Halves) (words n : ℕ) (rows : List Proc) → IsLaid h → words ≡ length h.mem → n ≡ depths rows → rows ≡ h.procs.items → IsTarget h (target_of h words n)
+pub is-target : (h : Halves) (words n : ℕ) (rows : List Proc) → IsLaid h → words ≡ length h.mem → n ≡ places_in rows → rows ≡ h.procs.items → IsTarget h (target_of h words n)
 is-target h words n rows laid len count same = record {
   side = elim laid.side [ inl e ↦ inl (e, omega (arith, len, e)) | inr e ↦ inr (e, omega (arith, len, e)) ];
   first = refl;
   ends = omega (arith, len);
-  last = omega (arith, count, ap depths same);
+  last = omega (arith, count, ap places_in same);
 }
 
 -- The plan: all that the roots reach goes to the words between two places.
@@ -84,7 +87,8 @@ pub record AreSides (h : Halves) (t : Target) : Type 0 where
   pub apart : (end_of h ≤ t.base) ⊎ (t.end ≤ h.base)
   pub order : t.from ≤ t.to
   pub room : h.top - front_of h ≤ t.to - t.from
-  pub ends : t.to + 2 * depths h.procs.items ≡ t.end
+  pub records : (h.top - front_of h) + total (record_words h.mem) (records_of h) ≤ t.to - t.from
+  pub ends : t.to + 2 * places_in h.procs.items ≡ t.end
 
 module _ (h : Halves) (laid : IsLaid h) (t : Target) (is : IsTarget h t) where
   apart : (end_of h ≤ t.base) ⊎ (t.end ≤ h.base)
@@ -98,9 +102,10 @@ module _ (h : Halves) (laid : IsLaid h) (t : Target) (is : IsTarget h t) where
     inside = within.0;
     other_inside = within.1;
     apart = apart;
-    order = omega (arith, is.first, is.last, is.ends, laid.front, laid.order, laid.places);
-    room = omega (arith, is.first, is.last, is.ends, laid.front, laid.order, laid.places);
-    ends = omega (arith, is.last, is.ends, laid.front, laid.order, laid.places);
+    order = omega (arith, is.first, is.last, is.ends, laid.front, laid.order, laid.fits);
+    room = omega (arith, is.first, is.last, is.ends, laid.front, laid.order, laid.fits);
+    records = omega (arith, is.first, is.last, is.ends, laid.front, laid.order, laid.fits);
+    ends = omega (arith, is.last, is.ends, laid.front, laid.order, laid.fits);
   }
 
   module _ (x : Standing h) where
@@ -116,20 +121,25 @@ module _ (h : Halves) (laid : IsLaid h) (t : Target) (is : IsTarget h t) where
     outside-there q above true = inr (omega (arith, above, sides.order))
     outside-there q above false = inr above
 
-    aside-here : (q : ℕ) → h.low ≤ q → q < end_of h → IsAside (plan_of h x t) q
-    aside-here q above below = record {
-      outside = outside-here q (omega (arith, above, laid.front, laid.order)) below;
-      free = λ k e. omega (arith, above, laid.order, (x.stands.objects q k e).1.0);
-    }
+    -- All words with a role lie in the half in use.
+    pub role-here : (q k : ℕ) → x.stands.test q k ≡ true → (front_of h ≤ q) × (q < end_of h)
+    role-here q k e = elim (x.stands.lie q k e) [
+      | inl object ↦ (object.0, omega (arith, object.1.0, laid.order, laid.fits))
+      | inr in_record ↦ (omega (arith, in_record.0, laid.front, laid.order), in_record.1.0)
+    ]
 
     pub aside-there : (q : ℕ) → t.to ≤ q → q < t.end → IsAside (plan_of h x t) q
     aside-there q above below = record {
       outside = outside-there q above;
       free = λ k e. elim apart [
-        | inl a ↦ omega (arith, a, above, (x.stands.objects q k e).1.0, laid.order, laid.places, is.first, sides.order)
-        | inr a ↦ omega (arith, a, below, (x.stands.objects q k e).0)
+        | inl a ↦ omega (arith, a, above, (role-here q k e).1, is.first, sides.order)
+        | inr a ↦ omega (arith, a, below, (role-here q k e).0)
       ];
     }
+
+    -- Those of objects lie below the free words.
+    pub object-below : (q k : ℕ) → OfObject k → x.stands.test q k ≡ true → (front_of h ≤ q) × (q < h.top)
+    object-below q k of e = elim (x.stands.lie q k e) [ inl object ↦ (object.0, object.1.0) | inr in_record ↦ absurd (omega (arith, of, in_record.1.1)) ]
 
     -- All objects that are reached lie in the half in use.
     pub object-here : (v : ℕ) → Reached (plan_of h x t) v → IsPointer v → (front_of h ≤ v / 4) × (v / 4 + size (plan_of h x t) v ≤ h.top)
@@ -139,7 +149,7 @@ module _ (h : Halves) (laid : IsLaid h) (t : Target) (is : IsTarget h t) where
         let some : 0 < object_words h.mem v = object-some h.mem v in
         let (j, (one, e)) = object-role x.stands.test x.shared h.mem v u (v / 4) st i (omega arith) (omega (arith, some)) in
         let (k, (two, f)) = object-role x.stands.test x.shared h.mem v u (v / 4 + object_words h.mem v - 1) st i (omega (arith, some)) (omega (arith, some)) in
-        ((x.stands.objects (v / 4) j e).0, omega (arith, some, (x.stands.objects (v / 4 + object_words h.mem v - 1) k f).1.0))
+        ((object-below (v / 4) j one e).0, omega (arith, some, (object-below (v / 4 + object_words h.mem v - 1) k two f).1))
 
     fits : (b : Bool) → Fits (plan_of h x t) b
     fits true = record { each = []; all = λ w r l e. absurd (not-both false e refl); words = omega arith }
@@ -159,7 +169,7 @@ module _ (h : Halves) (laid : IsLaid h) (t : Target) (is : IsTarget h t) where
     ready = record {
       standing = standing;
       single = x.stands.single;
-      clear = λ a k e. outside-here a (omega (arith, (x.stands.objects a k e).0)) (omega (arith, (x.stands.objects a k e).1.0, laid.order, laid.places));
+      clear = λ a k e. outside-here a (omega (arith, (role-here a k e).0)) (role-here a k e).1;
       closed = λ v k r i e. absurd (not-both false e refl);
       rooms = inl (omega arith);
       order = in-order;
@@ -182,7 +192,7 @@ module _ (h : Halves) (laid : IsLaid h) (t : Target) (is : IsTarget h t) where
         fits = omega (arith, sides.ends);
         room = record {
           runs = runs-first;
-          old = aside-here;
+          old = λ q above below. outside-here q (omega (arith, above, laid.front, laid.order)) below;
           new = λ q above below. aside-there q (omega (arith, above, sides.ends)) (omega (arith, below, sides.ends));
           apart = elim apart [ inl a ↦ inl (omega (arith, a, sides.ends, sides.order, is.first)) | inr a ↦ inr (omega (arith, a, sides.ends, laid.front, laid.order)) ];
           old_inside = sides.inside;

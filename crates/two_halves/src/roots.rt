@@ -30,6 +30,7 @@ fn move_process(mem: &mut WordMem, mv: &mut Moving, process: &mut Proc, to: u64)
     requires { CanMoveRow mem.old mv.old process.old to }
     ensures { (p : Plan) (k : Marks) (low limit : ℕ) → RowMoves p mem.old mv.old k low limit process.old to → RowMoved p mem.old mem.new mv.new k process.old process.new to }
 {
+    let _len = mem.len();
     evacuate_all(mem, mv, &mut process.regs);
     let queue = to + PLACE_WORDS * process.depth;
     move_stack(mem, mv, process.stack, process.depth, to);

@@ -14,6 +14,15 @@ overflow_mul-low c =
           c.loop-process.low c.loop-process.process-index c.loop-process.invariant c.loop-process-test.true,
     )
 
+pub overflow_add-low : goal.overflow_add-low
+overflow_add-low c =
+    omega (
+      arith,
+      c.loop-process.auto.low-fits,
+      next-fits c.args.mem.now c.args.mv.now c.args.procs.now c.args.end c.requires c.loop-process.mem c.loop-process.mv c.loop-process.procs
+          c.loop-process.low c.loop-process.process-index c.loop-process.invariant c.loop-process-test.true,
+    )
+
 pub overflow_sub-low : goal.overflow_sub-low
 overflow_sub-low c =
     next-fits c.args.mem.now c.args.mv.now c.args.procs.now c.args.end c.requires c.loop-process.mem c.loop-process.mv c.loop-process.procs
