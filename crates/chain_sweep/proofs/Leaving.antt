@@ -110,7 +110,7 @@ module _ (c d : ℕ → ℕ → Bool) (old new : List ℕ) (o y : ℕ) (l : IsLi
 module _ (p : Plan) (y : Ready p) (m : List ℕ) (top : Bool → ℕ) (w : Collected p m top) (s : ℕ → ℕ → Bool) (r : HasRoles p m s) where
   -- Records stay, with their counts, and there are no others.
 
-  role-goes : (a k : ℕ) → OfRecord k → p.test a k ≡ true → r.test a k ≡ true
+  pub role-goes : (a k : ℕ) → OfRecord k → p.test a k ≡ true → r.test a k ≡ true
   role-goes a k (inl e) h =
       let P : ℕ → Type 0 = λ x. r.test a x ≡ true in
       let Q : ℕ → Type 0 = λ x. p.test a x ≡ true in

@@ -25,7 +25,7 @@ second-true false y e = absurd (false-true e)
 
 module _ (c : ℕ → ℕ → Bool) (start mem : List ℕ) (head : ℕ) (os : List ℕ) (low top : ℕ) (r : RecordsMoved c start mem head os low top) (d : ℕ → ℕ → Bool) (x : Leaves c os low top d) where
   -- A record that an object names stands by the narrower test.
-  named-record : (o n : ℕ) → In o os → IsRecord r.test mem (named mem o) n → IsRecord (both r.test d) mem (named mem o) n
+  pub named-record : (o n : ℕ) → In o os → IsRecord r.test mem (named mem o) n → IsRecord (both r.test d) mem (named mem o) n
   named-record o n inside there =
       let lies = r.lies o n inside there in
       record-copied r.test (both r.test d) mem mem (named mem o) (named mem o) n
@@ -40,7 +40,7 @@ module _ (c : ℕ → ℕ → Bool) (start mem : List ℕ) (head : ℕ) (os : Li
 
   -- And each that stands by it stands by the wider one, among the copies.
 
-  wide-record : (v n : ℕ) → IsRecord (both r.test d) mem v n → IsRecord r.test mem v n
+  pub wide-record : (v n : ℕ) → IsRecord (both r.test d) mem v n → IsRecord r.test mem v n
   wide-record v n there =
       record-copied (both r.test d) r.test mem mem v v n
       (record {
@@ -50,7 +50,7 @@ module _ (c : ℕ → ℕ → Bool) (start mem : List ℕ) (head : ℕ) (os : Li
       })
       there
 
-  in-room : (v n : ℕ) → IsRecord (both r.test d) mem v n → (low ≤ v) × (v < top)
+  pub in-room : (v n : ℕ) → IsRecord (both r.test d) mem v n → (low ≤ v) × (v < top)
   in-room v n there =
       let f : r.test v RECORD_FIRST && d v RECORD_FIRST ≡ true = record-first (both r.test d) mem v n there in
       elim (r.comes v RECORD_FIRST (first-true (r.test v RECORD_FIRST) (d v RECORD_FIRST) f)) [

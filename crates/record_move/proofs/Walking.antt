@@ -180,6 +180,7 @@ module _ (c : ℕ → ℕ → Bool) (start mem : List ℕ) (head : ℕ) (os : Li
     single = s.single;
     more = s.more;
     comes = s.comes;
+    order = s.below;
     trees = s.trees;
     chain = leads-stays start mem head os 0 (λ o inside. next-kept c start mem head os [] low now top b f s o (link-of o inside)) b.links.chain;
     once = b.links.once;

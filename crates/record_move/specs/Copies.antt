@@ -47,6 +47,7 @@ pub record RecordsMoved (c : ℕ → ℕ → Bool) (start mem : List ℕ) (head 
   pub single : IsSingle test
   pub more : (a k : ℕ) → c a k ≡ true → test a k ≡ true
   pub comes : (a k : ℕ) → test a k ≡ true → (c a k ≡ true) ⊎ ((low ≤ a) × (a < top))
+  pub order : low ≤ top
   pub trees : Keeps c test start mem
   pub chain : Chain mem head os
   pub once : Distinct os

@@ -9,4 +9,7 @@ mod Planned
 mod Packed
 mod Counting
 pub mod Ended
+mod Swept
+mod Keeping
+mod Settled
 pub mod Tight
