@@ -12,4 +12,6 @@ pub mod Ended
 mod Swept
 mod Keeping
 mod Settled
+mod Bounded
+mod Done
 pub mod Tight

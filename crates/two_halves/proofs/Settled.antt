@@ -88,6 +88,9 @@ module _ (h : Halves) (t : Target) (x : Standing h) (m : List ℕ) (mv : Moving)
       split true q f = (refl, f)
       split false q f = absurd (true≢false (sym f))
 
+  pub single-settled : IsSingle settled
+  single-settled = record { one = λ a j k e f. r.single.one a j k (parts-of a j e).0 (parts-of a k f).0 }
+
   pub lie-there : (a k : ℕ) → settled a k ≡ true → ((t.from ≤ a) × ((a < mv.young.top) × OfObject k)) ⊎ ((low ≤ a) × ((a < t.to) × OfRecord k))
   lie-there a k e =
       let (f, g) = parts-of a k e in
@@ -247,7 +250,7 @@ module _ (h : Halves) (t : Target) (x : Standing h) (m : List ℕ) (mv : Moving)
       let P : ℕ → Type 0 = λ z. IsBinRecord r.test mem5 z (owner_in h.mem (named mem4 g.o)) (shared_bytes x.shared (owner_in h.mem (named mem4 g.o))) in
       let here : IsBinRecord r.test mem5 v (owner_in h.mem (named mem4 g.o)) (shared_bytes x.shared (owner_in h.mem (named mem4 g.o))) = subst P g.is wide in
       let lies = name-there g.o g.inside (4 + bin_words (length (shared_bytes x.shared (owner_in h.mem (named mem4 g.o)))))
-      (inl (owner_in h.mem (named mem4 g.o), (shared_bytes x.shared (owner_in h.mem (named mem4 g.o)), (wide, refl)))) in
+      (inl (owner_in h.mem (named mem4 g.o), shared_bytes x.shared (owner_in h.mem (named mem4 g.o)), wide, refl)) in
       let narrow : IsBinRecord settled mem5 v (owner_in h.mem (named mem4 g.o)) (shared_bytes x.shared (owner_in h.mem (named mem4 g.o))) =
       bin-copied r.test settled mem5 mem5 v v (owner_in h.mem (named mem4 g.o)) (shared_bytes x.shared (owner_in h.mem (named mem4 g.o))) (record {
         within = here.within;
@@ -271,7 +274,7 @@ module _ (h : Halves) (t : Target) (x : Standing h) (m : List ℕ) (mv : Moving)
       let wide : IsFunRecord r.test mem5 (named mem5 g.o) old.name old.arity = r.funs g.o old.name old.arity g.inside (old-fun (named mem4 g.o) old.name old.arity old.is) in
       let P : ℕ → Type 0 = λ z. IsFunRecord r.test mem5 z old.name old.arity in
       let here : IsFunRecord r.test mem5 v old.name old.arity = subst P g.is wide in
-      let lies = name-there g.o g.inside 4 (inr (old.name, (old.arity, (wide, refl)))) in
+      let lies = name-there g.o g.inside 4 (inr (old.name, old.arity, wide, refl)) in
       record {
         name = old.name;
         arity = old.arity;
@@ -309,6 +312,28 @@ module _ (h : Halves) (t : Target) (x : Standing h) (m : List ℕ) (mv : Moving)
         (owners-same h.funs.items (λ v i. owner-of v (right-in v h.bins.items h.funs.items i)) x.stands.records.codes);
     counted = counted-there;
   }
+
+  -- What is read of objects is as it was.
+  pub plain-same : (a k : ℕ) → (k ≡ 3) ⊎ (k ≡ 4) → was a k ≡ true → get_or mem5 a 0 ≡ get_or m a 0
+  plain-same a k of e =
+      let alone : (j : ℕ) → (j ≡ COUNT) ⊎ (j ≡ NAMES) → was a j ≡ true → ⊥ = λ j is f.
+      let same : j ≡ k = (roles h t x m mv news y).single.one a j k f e in omega (arith, same, is, of) in
+      elim (role-there h t x m mv news y a k e) [
+        | inr there ↦ absurd (omega (arith, there.1.1, of))
+        | inl object ↦ r.writes a (inl (omega (arith, object.1.0, above))) (alone COUNT (inl refl)) (alone NAMES (inr refl)) ∙ w.content.same a k (omega (arith, of)) e
+      ]
+
+  pub within-there : (v : ℕ) → In v (records_of h) → v + 4 ≤ length mem5
+  within-there v i =
+      let (n, there) = listed h t x m mv news y mem4 left w v i in
+      let size = record-within x.stands.test h.mem v n there in
+      omega (arith, size.0, size.1, longer, r.same_len)
+
+  pub bins-within : (v : ℕ) → In v h.bins.items → v + 4 ≤ length mem5
+  bins-within v i = within-there v (left-in v h.bins.items h.funs.items i)
+
+  pub funs-within : (v : ℕ) → In v h.funs.items → v + 4 ≤ length mem5
+  funs-within v i = within-there v (right-in v h.bins.items h.funs.items i)
 
   pub fits-there : low + total (record_words mem5) (renewed mem5 h.bins.items ++ renewed mem5 h.funs.items) ≤ t.to
   fits-there =

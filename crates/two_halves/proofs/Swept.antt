@@ -136,7 +136,7 @@ module _ (h : Halves) (t : Target) (x : Standing h) (m : List ℕ) (mv : Moving)
     rooms = λ b. base-above;
   }
 
-  sweeping : Sweeping roles.test m h.head x.stands.chained 0 [] 0 [] []
+  pub sweeping : Sweeping roles.test m h.head x.stands.chained 0 [] 0 [] []
   sweeping = leaves-sweep (plan_of h x t) m (top_of mv) (remaining h.low x.stands.test) roles h.head x.stands.chained [] ready done remains sweepable x.stands.links
 
   pub can-sweep : CanSweep m h.head h.linked
@@ -236,7 +236,7 @@ module _ (h : Halves) (t : Target) (x : Standing h) (m : List ℕ) (mv : Moving)
     room-end true = omega (arith, aged-between h t x m mv news y, (top-between h t x m mv news y).0)
     room-end false = omega arith
 
-    names-listed : (o : ℕ) → In o x.stands.chained → In (named h.mem o) (records_of h)
+    pub names-listed : (o : ℕ) → In o x.stands.chained → In (named h.mem o) (records_of h)
     names-listed o inside = let l : IsLink x.stands.test h.mem o = x.stands.links.each o inside in x.stands.records.all (named h.mem o) l.words l.record_is
 
     -- All records fit, and so do some of them.
@@ -267,15 +267,18 @@ module _ (h : Halves) (t : Target) (x : Standing h) (m : List ℕ) (mv : Moving)
 
     pub listed : (v : ℕ) → In v (records_of h) → (n : ℕ) × IsRecord x.stands.test h.mem v n
     listed v i = elim (in-both v h.bins.items h.funs.items i) [
-      | inl bin ↦ (4 + bin_words (length (shared_bytes x.shared (owner_in h.mem v))), inl (owner_in h.mem v, (shared_bytes x.shared (owner_in h.mem v), ((x.stands.records.each_bin v bin).is, refl))))
-      | inr fun ↦ (let f : IsFunOf x.stands.test h.mem v = x.stands.records.each_fun v fun in (4, inr (f.name, (f.arity, (f.is, refl)))))
+      | inl bin ↦ (4 + bin_words (length (shared_bytes x.shared (owner_in h.mem v))), inl (owner_in h.mem v, shared_bytes x.shared (owner_in h.mem v), (x.stands.records.each_bin v bin).is, refl))
+      | inr fun ↦ (let f : IsFunOf x.stands.test h.mem v = x.stands.records.each_fun v fun in (4, inr (f.name, f.arity, f.is, refl)))
     ]
 
-    all-room : HasRoom (plan_of h x t) (remaining h.low x.stands.test) (top_of mv) x.stands.chained mv.young.top t.to
-    all-room = room (records_of h) mv.young.top (omega arith) (λ o inside r. names-listed o inside) listed (omega (arith, objects-few h t x m mv news y, (sides-there h t x m mv news y).records))
+    pub low-above : mv.young.top + total (record_words h.mem) (records_of h) ≤ t.to
+    low-above = omega (arith, objects-few h t x m mv news y, (sides-there h t x m mv news y).records)
 
-    pub can-move-there : CanMove roles.test mem4 left.first (turned (moved_of m x.stands.chained) []) mv.young.top t.to
-    can-move-there = can-move-to mv.young.top all-room
+    all-room : HasRoom (plan_of h x t) (remaining h.low x.stands.test) (top_of mv) x.stands.chained (t.to - total (record_words h.mem) (records_of h)) t.to
+    all-room = room (records_of h) (t.to - total (record_words h.mem) (records_of h)) (omega (arith, low-above)) (λ o inside r. names-listed o inside) listed (omega (arith, low-above))
+
+    pub can-move-there : CanMove roles.test mem4 left.first (turned (moved_of m x.stands.chained) []) (t.to - total (record_words h.mem) (records_of h)) t.to
+    can-move-there = can-move-to (t.to - total (record_words h.mem) (records_of h)) all-room
 
     pub can-move-all : CanMoveAll mem4 left.first left.len t.to
-    can-move-all = record { test = roles.test; os = turned (moved_of m x.stands.chained) []; low = mv.young.top; number = sym w.len; can = can-move-there }
+    can-move-all = record { test = roles.test; os = turned (moved_of m x.stands.chained) []; low = t.to - total (record_words h.mem) (records_of h); number = sym w.len; can = can-move-there }
