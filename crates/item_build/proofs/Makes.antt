@@ -1,19 +1,22 @@
 -- What an item is made of, and what is built of it.
-use Rattle.std.proofs.Common.{◌≡◌, ℕ, ◌+◌, ◌-◌, ◌*◌, ◌^◌, ◌<◌, ◌≤◌, nat_lt, if◌then◌else◌, inl, inr, Bool, true, false, List, [], ◌∷◌, ◌++◌, length, take, drop, slice_range, Option, Some, None, ℤ, pos, negsuc, to_z, of_z, refl, sym, ◌∙◌, ap, subst, arith}
+use Rattle.std.proofs.Common.{◌≡◌, ℕ, ◌+◌, ◌-◌, ◌*◌, ◌^◌, ◌<◌, ◌≤◌, nat_lt, if◌then◌else◌, inl, inr, Bool, true, false, List, [], ◌∷◌, ◌++◌, length, take, drop, slice_range, Option, Some, None, ℤ, pos, negsuc, to_z, of_z, refl, sym, ◌∙◌, ap, subst, arith, lt-ltb}
 use Rattle.std.proofs.lemmas.List.{length-take}
 use Rattle.std.proofs.lemmas.List.Folds.{drop_split}
 use Rattle.std.proofs.lemmas.Int.{ints, to_z-of_z}
 use Rattle.std.specs.Int.{w128}
-use Rattle.plain_term.specs.Measures.{int_flat, magnitude}
+use Rattle.plain_term.specs.Measures.{bin_words, int_flat, magnitude}
 use Rattle.word_mem.specs.declared.ranges.Room.{Room}
 use Rattle.plain_term.specs.declared.item.Item.{Item}
-use Rattle.plain_term.specs.declared.item.Item.TheVariants.{Map}
+use Rattle.plain_term.specs.declared.item.Item.TheVariants.{Bin, Map}
 use Rattle.plain_term.specs.Tree.{Tree, Pairs, pairs_len}
 use Rattle.plain_term.specs.Tree.{Tree as tree}
 use Rattle.plain_term.specs.Tree.Pairs.{stop, pair}
 use Rattle.term_tags.specs.declared.layouts.TheConstants.{MOST_KEYS}
 use Rattle.term_words.specs.Role.{always}
 use Rattle.term_words.specs.Stands.{Stands}
+use Rattle.term_tags.specs.Words.{boxed_word}
+use Rattle.std.proofs.lemmas.Bool.Decides.{nat_tests}
+use Rattle.item_build.proofs.Bytes.{bytes-len}
 use Rattle.term_words.proofs.Makes.{all-length}
 use Rattle.term_build.specs.Taken.{IsFree}
 use Rattle.term_build.specs.Grows.{Grows, Built}
@@ -24,8 +27,8 @@ use Rattle.term_maps.specs.InOrder.{has_beyond, in_order, why_not}
 use Rattle.term_maps.specs.declared.maps.MapStop.TheVariants as why
 use Rattle.term_maps.specs.Given.{CanMap, IsMade, KeysWithin, PairsStand, pairs_in}
 use Rattle.term_maps.proofs.Putting.{in-order-few}
-use Rattle.item_build.specs.Reading.{all_of, map_of, paired, tree_where}
-use Rattle.item_build.specs.Building.{AreMarks, CanPut, HasNoBigKey, MarkBuilt, MarksBuilt, UsesSome, holds_wide}
+use Rattle.item_build.specs.Reading.{all_of, bin_of, bytes_in, long_bins, map_of, near_words, paired, tree_where}
+use Rattle.item_build.specs.Building.{AreMarks, CanPut, HasNoBigKey, HolderStands, MarkBuilt, MarksBuilt, UsesSome, holds_wide}
 use Rattle.item_build.proofs.Marks.{in_turn, keep-marks, marks-more, marks-split, named-all, named-paired, narrow-all, paired-few, turns-big, turns-marks, twos-stand, wide-none}
 
 -- Words that were taken are some of more words.
@@ -137,9 +140,9 @@ int-mark c j i x y mem mem2 shared w same u built free =
     subst P same (built-mark c (int_flat j) x y mem mem2 shared w (tree.Int j) u (built (subst Q (sym same) free)))
 
 -- Where a part is wide, so is the whole.
-pub whole-wide : (c : ℕ → ℕ → Bool) (names shared : List (List ℕ)) (trees : List Tree) (mem ws : List ℕ) (ms : List (Option Tree)) (x : Item) → AreMarks c shared mem ws ms → holds_wide ws ≡ true
-    → tree_where names shared trees x (all_of ms) ≡ None
-whole-wide c names shared trees mem ws ms x all wide = ap (tree_where names shared trees x) (wide-none c shared mem ws ms all wide)
+pub whole-wide : (c : ℕ → ℕ → Bool) (names shared : List (List ℕ)) (trees : List Tree) (mem ws : List ℕ) (ms : List (Option Tree)) (x : Item) (xs : List Item) → AreMarks c shared mem ws ms
+    → holds_wide ws ≡ true → tree_where names shared trees x xs (all_of ms) ≡ None
+whole-wide c names shared trees mem ws ms x xs all wide = ap (tree_where names shared trees x xs) (wide-none c shared mem ws ms all wide)
 
 -- The word of an item stands before the others.
 pub marks-put : (c : ℕ → ℕ → Bool) (top n : ℕ) (old new : List ℕ) (shared : List (List ℕ)) (w : ℕ) (rest row : List ℕ) (m : Option Tree) (ms : List (Option Tree)) → row ≡ w ∷ rest
@@ -160,3 +163,36 @@ parts-split c shared mem row sp n p ms same fits all =
     let cut : drop sp row ≡ slice_range row sp (sp + p) ++ drop (sp + p) row = drop_split row sp (sp + p) (omega arith) in
     let len : length (slice_range row sp (sp + p)) ≡ n = length-take (sp + p - sp) (drop sp row) ∙ omega (arith, same, fits) in
     marks-split c shared mem (slice_range row sp (sp + p)) (drop (sp + p) row) ms n len (subst P cut all)
+
+-- The holder of a long binary is its word.
+pub long-word : (c : ℕ → ℕ → Bool) (x : Room) (mem : List ℕ) (shared : List (List ℕ)) (w bin n : ℕ) (xs : List Item) → 64 < n → w ≡ boxed_word bin
+    → HolderStands c shared mem bin (Bin n) (long_bins xs) → MarkBuilt c x.top (x.top - x.top) mem mem shared w (Some (bin_of shared n xs))
+long-word c x mem shared w bin n xs long is holder =
+    let e : nat_lt 64 n ≡ true = lt-ltb 64 n long in
+    let P : ℕ → Type 0 = λ z. Stands c shared mem z (tree.Shared (length shared - long_bins xs)) in
+    let tree_is : bin_of shared n xs ≡ tree.Shared (length shared - long_bins xs) = rw e refl in
+    let Q : Tree → Type 0 = λ z. MarkBuilt c x.top (x.top - x.top) mem mem shared w (Some z) in
+    subst Q (sym tree_is) (there-mark c x mem shared w (tree.Shared (length shared - long_bins xs)) (subst P (sym is) (holder.stands e)))
+
+-- A short binary is built of its bytes.
+pub short-word : (c : ℕ → ℕ → Bool) (x y : Room) (mem mem2 : List ℕ) (shared : List (List ℕ)) (w n : ℕ) (xs : List Item) (bytes : List ℕ) → n ≤ 64 → n ≤ length xs → bytes ≡ bytes_in n xs
+    → Uses (2 + bin_words (length bytes)) x y mem mem2
+    → (IsFree c x.top (x.top + (2 + bin_words (length bytes))) → Built c x.top (2 + bin_words (length bytes)) mem mem2 shared w (tree.Bin bytes))
+    → IsFree c x.top (x.top + near_words n) → MarkBuilt c x.top (y.top - x.top) mem mem2 shared w (Some (bin_of shared n xs))
+short-word c x y mem mem2 shared w n xs bytes short inside is u built free =
+    let e : nat_lt 64 n ≡ false = ge-ltb 64 n short in
+    let len : length bytes ≡ n = ap length is ∙ bytes-len n xs inside in
+    let words : near_words n ≡ 2 + bin_words (length bytes) = near-is n e ∙ ap (λ z. 2 + bin_words z) (sym len) in
+    let F : ℕ → Type 0 = λ z. IsFree c x.top (x.top + z) in
+    let tree_is : bin_of shared n xs ≡ tree.Bin bytes = bin-is e ∙ ap tree.Bin (sym is) in
+    let Q : Tree → Type 0 = λ z. MarkBuilt c x.top (y.top - x.top) mem mem2 shared w (Some z) in
+    subst Q (sym tree_is) (built-mark c (2 + bin_words (length bytes)) x y mem mem2 shared w (tree.Bin bytes) u (built (subst F words free)))
+  where
+    near-is : (n : ℕ) → nat_lt 64 n ≡ false → near_words n ≡ 2 + bin_words n
+    near-is n e = rw e refl
+
+    bin-is : nat_lt 64 n ≡ false → bin_of shared n xs ≡ tree.Bin (bytes_in n xs)
+    bin-is e = rw e refl
+
+    ge-ltb : (a n : ℕ) → n ≤ a → nat_lt a n ≡ false
+    ge-ltb a n few = grind (arith, nat_tests)

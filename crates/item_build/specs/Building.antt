@@ -1,32 +1,102 @@
 -- Words of the terms that items are read as, and what building leaves of a memory.
-use Rattle.std.specs.Prelude.{◌≡◌, ℕ, ◌+◌, ◌-◌, ◌<◌, ◌≤◌, ◌⊎◌, ◌==◌, Bool, true, false, List, [], ◌∷◌, length, drop, slice_index, slice_index_or, Option, Some, None, Result, Ok, Err}
+use Rattle.std.specs.Prelude.{◌≡◌, ℕ, zero, suc, ◌+◌, ◌-◌, ◌*◌, ◌<◌, ◌≤◌, ◌⊎◌, ◌==◌, Bool, true, false, List, [], ◌∷◌, ◌++◌, length, drop, slice_index, slice_index_or, Option, Some, None, Result, Ok, Err}
 use Rattle.std.specs.List.{list_any}
 use Rattle.word_mem.specs.declared.ranges.Room.{Room}
 use Rattle.plain_term.specs.declared.item.Item.{Item}
 use Rattle.plain_term.specs.Tree.{Tree}
-use Rattle.plain_term.specs.Tree.Tree.{Nil}
+use Rattle.plain_term.specs.Tree.Tree.{Nil, Shared}
+use Rattle.term_tags.specs.Words.{boxed_word}
 use Rattle.term_tags.specs.declared.layouts.TheConstants.{MOST_PARTS}
 use Rattle.term_order.specs.Named.{is_named}
-use Rattle.term_words.specs.Role.{always}
+use Rattle.term_words.specs.Role.{NEXT, RECORD_FIRST, IsSingle, OfObject, OfRecord, always}
+use Rattle.term_words.specs.Kept.{Kept}
 use Rattle.term_words.specs.Stands.{Stands}
 use Rattle.term_build.specs.Taken.{IsFree}
 use Rattle.term_build.specs.Grows.{Grows, Built}
 use Rattle.term_build.specs.Clear.{IsRoom, Uses}
+use Rattle.shared_rec.specs.Record.{count_in}
+use Rattle.off_heap_list.specs.Links.{Links}
+use Rattle.item_build.specs.declared.bins.Making.{Making}
 use Rattle.item_build.specs.declared.building.BuildStop.{BuildStop}
 use Rattle.item_build.specs.declared.putting.TheConstants.{WIDE}
-use Rattle.item_build.specs.Reading.{IsItem, is_big_item, item_words, parts_of}
+use Rattle.item_build.specs.Reading.{IsItem, is_big_item, is_long, long_bins, own_words, parts_of}
 
 -- The held words stand for these trees, in order.
 pub record HeldStand (c : ℕ → ℕ → Bool) (shared : List (List ℕ)) (mem held : List ℕ) (trees : List Tree) : Type 0 where
   pub each : (r : ℕ) → r < length held → Stands c shared mem (slice_index held r) (slice_index_or trees r Nil)
 
--- So it is by some test without a role for the first n free words of the room, and all names of the trees are among the names.
-pub record HasHeld (names : List (List ℕ)) (n : ℕ) (room : Room) (mem held : List ℕ) : Type 0 where
+-- So it is by some test without a role for the free words of the room, over as many shared binaries as there are, and all names of
+-- the trees are among the names.
+pub record HasHeld (names : List (List ℕ)) (serial : ℕ) (room : Room) (mem held : List ℕ) : Type 0 where
+  pub test : ℕ → ℕ → Bool
+  pub shared : List (List ℕ)
+  pub trees : List Tree
+  pub serials : length shared ≡ serial
+  pub free : IsFree test room.top room.end
+  pub standing : HeldStand test shared mem held trees
+  pub named : (r : ℕ) → r < length held → is_named (length names) (slice_index_or trees r Nil) ≡ true
+
+-- The places of n holders of six words from a place on, the last one first.
+abbrev pub holders_from : (top n : ℕ) → List ℕ
+holders_from top zero = []
+holders_from top (suc n) = (top + 6 * n) ∷ holders_from top n
+
+-- At place p lies the holder of the shared binary with this id, and its record counts it alone.
+pub record IsNewBin (c : ℕ → ℕ → Bool) (shared : List (List ℕ)) (mem : List ℕ) (p id : ℕ) : Type 0 where
+  pub holder : Stands c shared mem (boxed_word p) (Shared id)
+  pub counted : count_in mem (slice_index mem (p + 3)) ≡ 1
+
+-- Roles grew: those of objects at the front of the room, those of records at its end. Of n new shared binaries the holders lie side by
+-- side from the room's first free word on, ids rising from above `serial`; each holder leads to the one before it, and the first one
+-- to what was the chain's first object. No other word `next`, and no other record, came to stand.
+pub record Laid (c d : ℕ → ℕ → Bool) (shared : List (List ℕ)) (old new : Room) (mem mem' : List ℕ) (head head' serial n : ℕ) : Type 0 where
+  pub more : (a k : ℕ) → c a k ≡ true → d a k ≡ true
+  pub within : (a k : ℕ) → d a k ≡ true → (c a k ≡ true)
+      ⊎ (((old.top ≤ a) × ((a < new.top) × OfObject k)) ⊎ ((new.end ≤ a) × ((a < old.end) × OfRecord k)))
+  pub single : IsSingle c → IsSingle d
+  pub kept : Kept c d mem mem'
+  pub bins : (i : ℕ) → i < n → IsNewBin d shared mem' (old.top + 6 * i) (serial + suc i)
+  pub nexts : (a : ℕ) → d a NEXT ≡ true → (c a NEXT ≡ true) ⊎ ((i : ℕ) × ((i < n) × (a ≡ old.top + 6 * i + 2)))
+  pub records : (v : ℕ) → d v RECORD_FIRST ≡ true → (c v RECORD_FIRST ≡ true) ⊎ ((i : ℕ) × ((i < n) × (v ≡ slice_index mem' (old.top + 6 * i + 3))))
+  pub links : (os further : List ℕ) → IsSingle c → Links c mem head os further → Links d mem' head' (holders_from old.top n ++ os) further
+
+-- By some test the long binaries are laid so.
+pub record LaidBins (c : ℕ → ℕ → Bool) (shared : List (List ℕ)) (old new : Room) (mem mem' : List ℕ) (was is : Making) (n : ℕ) : Type 0 where
+  pub test : ℕ → ℕ → Bool
+  pub laid : Laid c test shared old new mem mem' was.head is.head was.serial n
+
+-- The room has its free words between these places, and all words but the free ones of the room before are as before.
+pub record Leaves (old new : Room) (mem mem' : List ℕ) : Type 0 where
+  pub same_start : new.start ≡ old.start
+  pub front : old.top ≤ new.top
+  pub order : new.top ≤ new.end
+  pub back : new.end ≤ old.end
+  pub same_len : length mem' ≡ length mem
+  pub others : (q : ℕ) → (q < old.top) ⊎ (old.end ≤ q) → slice_index mem' q ≡ slice_index mem q
+
+-- The word stands for the tree by a test that grew so.
+pub record Made (c : ℕ → ℕ → Bool) (shared : List (List ℕ)) (old new : Room) (mem mem' : List ℕ) (was is : Making) (n w : ℕ) (t : Tree) : Type 0 where
+  pub test : ℕ → ℕ → Bool
+  pub laid : Laid c test shared old new mem mem' was.head is.head was.serial n
+  pub made : Stands test shared mem' w t
+
+-- Holders of all long binaries among the items stand side by side below this place, the last one last, and have the last ids.
+pub record BinsStand (c : ℕ → ℕ → Bool) (shared : List (List ℕ)) (mem : List ℕ) (bins many : ℕ) : Type 0 where
+  pub low : 6 * many ≤ bins
+  pub each : (j : ℕ) → j < many → Stands c shared mem (boxed_word (bins - 6 * suc j)) (Shared (length shared - j))
+
+-- The holder of an item that is a long binary, with so many behind it, stands at this place.
+pub record HolderStands (c : ℕ → ℕ → Bool) (shared : List (List ℕ)) (mem : List ℕ) (bin : ℕ) (x : Item) (later : ℕ) : Type 0 where
+  pub stands : is_long x ≡ true → Stands c shared mem (boxed_word bin) (Shared (length shared - later))
+
+-- Held words and holders stand by some test without a role for the first n free words of the room.
+pub record CanRead (names : List (List ℕ)) (n : ℕ) (room : Room) (mem held : List ℕ) (bins many : ℕ) : Type 0 where
   pub test : ℕ → ℕ → Bool
   pub shared : List (List ℕ)
   pub trees : List Tree
   pub free : IsFree test room.top (room.top + n)
   pub standing : HeldStand test shared mem held trees
+  pub holders : BinsStand test shared mem bins many
   pub named : (r : ℕ) → r < length held → is_named (length names) (slice_index_or trees r Nil) ≡ true
 
 -- Some of the first n free words of the room are taken, and all words but these are as before.
@@ -40,13 +110,12 @@ pub record Spares (n : ℕ) (room : Room) (mem mem' : List ℕ) : Type 0 where
   pub same_len : length mem' ≡ length mem
   pub others : (q : ℕ) → (q < room.top) ⊎ (room.top + n ≤ q) → slice_index mem' q ≡ slice_index mem q
 
--- What was built is what the items come to: a word that stands for their tree, where roles grew in the words that were
--- taken, or the same reason for none.
-abbrev pub Builds : (ℕ → ℕ → Bool) → List (List ℕ) → (old new : Room) (mem mem' : List ℕ) → Result ℕ BuildStop → Result Tree BuildStop → Type 0
-Builds c shared old new mem mem' (Ok w) (Ok t) = Built c old.top (new.top - old.top) mem mem' shared w t
-Builds c shared old new mem mem' (Err e) (Err f) = e ≡ f
-Builds c shared old new mem mem' (Ok w) (Err f) = ⊥
-Builds c shared old new mem mem' (Err e) (Ok t) = ⊥
+-- What was built is what the items come to: a word that stands for their tree, or the same reason for none.
+abbrev pub Builds : (ℕ → ℕ → Bool) → List (List ℕ) → (old new : Room) (mem mem' : List ℕ) (was is : Making) (n : ℕ) → Result ℕ BuildStop → Result Tree BuildStop → Type 0
+Builds c shared old new mem mem' was is n (Ok w) (Ok t) = Made c shared old new mem mem' was is n w t
+Builds c shared old new mem mem' was is n (Err e) (Err f) = e ≡ f
+Builds c shared old new mem mem' was is n (Ok w) (Err f) = ⊥
+Builds c shared old new mem mem' was is n (Err e) (Ok t) = ⊥
 
 -- The word stands for the tree; that of a wide term is no word of a term.
 abbrev pub IsMark : (ℕ → ℕ → Bool) → List (List ℕ) → List ℕ → ℕ → Option Tree → Type 0
@@ -89,7 +158,7 @@ pub record CanPut (names held : ℕ) (room : Room) (mem ws : List ℕ) (x : Item
   pub parts : parts_of x ≤ length ws
   pub few : parts_of x ≤ MOST_PARTS
   pub places : IsRoom room mem
-  pub words : room.top + item_words x ≤ room.end
+  pub words : room.top + own_words x ≤ room.end
   pub shared : List (List ℕ)
   pub marks : List (Option Tree)
   pub standing : AreMarks always shared mem ws marks

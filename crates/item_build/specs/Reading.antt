@@ -1,31 +1,92 @@
 -- What the items of written terms are read as. Each item stands before what follows it and takes its parts from there.
-use Rattle.std.specs.Prelude.{◌≡◌, ℕ, ◌+◌, ◌-◌, ◌*◌, ◌^◌, ◌<◌, ◌≤◌, ◌||◌, nat_lt, if◌then◌else◌, Bool, false, List, [], ◌∷◌, drop, take, slice_index_or, Option, Some, None, Result, Ok, Err}
+use Rattle.std.specs.Prelude.{◌≡◌, ℕ, ◌+◌, ◌-◌, ◌*◌, ◌^◌, ◌<◌, ◌≤◌, ◌||◌, nat_le, nat_lt, if◌then◌else◌, Bool, true, false, List, [], ◌∷◌, ◌++◌, length, map, drop, take, slice_index_or, Option, Some, None, Result, Ok, Err}
 use Rattle.plain_term.specs.declared.item.Item.{Item}
 use Rattle.plain_term.specs.declared.item.Item.TheVariants.{Int, Atom, Pid, Nil, Cons, Tuple, Map, Bin, Byte, Held}
 use Rattle.plain_term.specs.Tree.{Tree, Trees, Pairs, pairs_len}
 use Rattle.plain_term.specs.Tree.{Tree as tree}
 use Rattle.plain_term.specs.Tree.Trees.{end, ◌▹◌}
 use Rattle.plain_term.specs.Tree.Pairs.{stop, pair}
-use Rattle.plain_term.specs.Measures.{magnitude, int_flat}
+use Rattle.plain_term.specs.Measures.{bin_words, magnitude, int_flat}
 use Rattle.plain_term.specs.Beyond.{is_beyond}
 use Rattle.term_tags.specs.declared.kinds.TheConstants.{ATOMS, PIDS}
-use Rattle.term_tags.specs.declared.layouts.TheConstants.{MOST_KEYS}
+use Rattle.term_tags.specs.declared.layouts.TheConstants.{MOST_HEAP_BYTES, MOST_KEYS}
 use Rattle.term_maps.specs.InOrder.{in_order}
 use Rattle.item_build.specs.declared.building.BuildStop.{BuildStop}
 use Rattle.item_build.specs.declared.building.BuildStop.TheVariants.{Big, Size}
 
--- The words that an item's own object takes; a map may take fewer.
-abbrev pub item_words : Item → ℕ
-item_words (Int i) = int_flat i
-item_words Cons = 2
-item_words (Tuple n) = n + 1
-item_words (Map n) = 4 + 2 * n
-item_words _ = 0
+-- A binary that has a record of its own, for it is too long for the heap.
+abbrev pub is_long : Item → Bool
+is_long (Bin n) = nat_lt MOST_HEAP_BYTES n
+is_long _ = false
 
--- The words that all items take.
+-- The words of a binary on the heap; a long one has none there but its holder.
+abbrev pub near_words : ℕ → ℕ
+near_words n = if nat_lt MOST_HEAP_BYTES n then 0 else 2 + bin_words n
+
+-- The words that an item's own object takes, holders and records aside; a map may take fewer.
+abbrev pub own_words : Item → ℕ
+own_words (Int i) = int_flat i
+own_words Cons = 2
+own_words (Tuple n) = n + 1
+own_words (Map n) = 4 + 2 * n
+own_words (Bin n) = near_words n
+own_words _ = 0
+
+-- The words of the record of a long binary.
+abbrev pub record_words : ℕ → ℕ
+record_words n = if nat_lt MOST_HEAP_BYTES n then 4 + bin_words n else 0
+
+-- The words of an item's holder, and of its record.
+
+abbrev pub holder_words : Item → ℕ
+holder_words x = if is_long x then 6 else 0
+
+abbrev pub far_words : Item → ℕ
+far_words (Bin n) = record_words n
+far_words _ = 0
+
+-- The words that an item asks for.
+abbrev pub item_words : Item → ℕ
+item_words x = own_words x + (holder_words x + far_words x)
+
+-- The words that all items ask for, and those of their own objects alone.
+
 abbrev pub words_of : List Item → ℕ
 words_of [] = 0
 words_of (x ∷ xs) = item_words x + words_of xs
+
+abbrev pub own_words_of : List Item → ℕ
+own_words_of [] = 0
+own_words_of (x ∷ xs) = own_words x + own_words_of xs
+
+-- The words of all records.
+abbrev pub far_words_of : List Item → ℕ
+far_words_of [] = 0
+far_words_of (x ∷ xs) = far_words x + far_words_of xs
+
+-- How many long binaries there are.
+abbrev pub long_bins : List Item → ℕ
+long_bins [] = 0
+long_bins (x ∷ xs) = (if is_long x then 1 else 0) + long_bins xs
+
+-- The byte that an item is.
+abbrev pub byte_in : Item → ℕ
+byte_in (Byte b) = b
+byte_in _ = 0
+
+-- The bytes that the first n items are.
+abbrev pub bytes_in : ℕ → List Item → List ℕ
+bytes_in n xs = map byte_in (take n xs)
+
+-- The bytes of an item that is a long binary, where these are the items behind it.
+abbrev pub long_bytes : Item → List Item → List (List ℕ)
+long_bytes (Bin n) xs = if nat_lt MOST_HEAP_BYTES n then bytes_in n xs ∷ [] else []
+long_bytes _ xs = []
+
+-- The bytes of all long binaries, from left to right.
+abbrev pub bins_of : List Item → List (List ℕ)
+bins_of [] = []
+bins_of (x ∷ xs) = long_bytes x xs ++ bins_of xs
 
 -- How many of the terms that follow are the parts of an item.
 abbrev pub parts_of : Item → ℕ
@@ -34,25 +95,47 @@ parts_of (Tuple n) = n
 parts_of (Map n) = 2 * n
 parts_of _ = 0
 
+-- How many of the items that follow are the bytes of an item.
+abbrev pub bytes_after : Item → ℕ
+bytes_after (Bin n) = n
+bytes_after _ = 0
+
+-- The item is a byte of a binary before it, and no term of its own.
+abbrev pub is_byte : Item → Bool
+is_byte (Byte b) = true
+is_byte _ = false
+
+-- How many bytes the items begin with.
+abbrev pub bytes_led : List Item → ℕ
+bytes_led [] = 0
+bytes_led (x ∷ xs) = if is_byte x then 1 + bytes_led xs else 0
+
 -- How many terms items are.
 abbrev pub terms_in : List Item → ℕ
 terms_in [] = 0
-terms_in (x ∷ xs) = terms_in xs - parts_of x + 1
+terms_in (x ∷ xs) = if is_byte x then terms_in xs else terms_in xs - parts_of x + 1
 
--- An item that can be built, with so many names and so many held terms. Bytes of binaries cannot.
+-- An item that can be built, with so many names and so many held terms.
 abbrev pub IsItem : (names held : ℕ) → Item → Type 0
 IsItem names held (Int i) = magnitude i < 2 ^ 127
 IsItem names held (Atom k) = (k < names) × (k < ATOMS)
 IsItem names held (Pid n) = n < PIDS
 IsItem names held (Held r) = r < held
-IsItem names held (Bin n) = ⊥
-IsItem names held (Byte b) = ⊥
 IsItem names held _ = Unit {0}
+
+-- The parts of an item, or its bytes, stand behind it.
+abbrev pub HasParts : Item → List Item → Type 0
+HasParts x xs = (parts_of x ≤ terms_in xs) × (bytes_after x ≤ bytes_led xs)
 
 -- Each item can be built, and has its parts behind it.
 abbrev pub AreWhole : (names held : ℕ) → List Item → Type 0
 AreWhole names held [] = Unit {0}
-AreWhole names held (x ∷ xs) = IsItem names held x × (parts_of x ≤ terms_in xs) × AreWhole names held xs
+AreWhole names held (x ∷ xs) = IsItem names held x × HasParts x xs × AreWhole names held xs
+
+-- The bytes of each long binary stand behind it.
+abbrev pub AreLed : List Item → Type 0
+AreLed [] = Unit {0}
+AreLed (x ∷ xs) = (bytes_after x ≤ length xs) × AreLed xs
 
 -- The items are those of one term.
 pub record IsWritten (names held : ℕ) (code : List Item) : Type 0 where
@@ -84,33 +167,37 @@ abbrev pub cons_of : Trees → Option Tree
 cons_of (h ▹ t ▹ ts) = Some (tree.Cons h t)
 cons_of _ = None
 
--- The tree of an item with these parts. `held` has the trees of the registers.
-abbrev pub tree_with : (names shared : List (List ℕ)) (held : List Tree) → Item → Trees → Option Tree
-tree_with names shared held (Int i) ts = Some (tree.Int i)
-tree_with names shared held (Atom k) ts = Some (tree.Atom k)
-tree_with names shared held (Pid n) ts = Some (tree.Pid n)
-tree_with names shared held Nil ts = Some tree.Nil
-tree_with names shared held Cons ts = cons_of ts
-tree_with names shared held (Tuple n) ts = Some (tree.Tuple ts)
-tree_with names shared held (Map n) ts = map_of names shared (paired ts)
-tree_with names shared held (Bin n) ts = None
-tree_with names shared held (Byte b) ts = None
-tree_with names shared held (Held r) ts = Some (slice_index_or held r tree.Nil)
+-- The binary of the first n items; of a long one the id: so many later ones have the last ids.
+abbrev pub bin_of : (shared : List (List ℕ)) → ℕ → List Item → Tree
+bin_of shared n xs = if nat_lt MOST_HEAP_BYTES n then tree.Shared (length shared - long_bins xs) else tree.Bin (bytes_in n xs)
+
+-- The tree of an item with these parts, behind which these items stand. `held` has the trees of the registers.
+abbrev pub tree_with : (names shared : List (List ℕ)) (held : List Tree) → Item → List Item → Trees → Option Tree
+tree_with names shared held (Int i) xs ts = Some (tree.Int i)
+tree_with names shared held (Atom k) xs ts = Some (tree.Atom k)
+tree_with names shared held (Pid n) xs ts = Some (tree.Pid n)
+tree_with names shared held Nil xs ts = Some tree.Nil
+tree_with names shared held Cons xs ts = cons_of ts
+tree_with names shared held (Tuple n) xs ts = Some (tree.Tuple ts)
+tree_with names shared held (Map n) xs ts = map_of names shared (paired ts)
+tree_with names shared held (Bin n) xs ts = Some (bin_of shared n xs)
+tree_with names shared held (Byte b) xs ts = None
+tree_with names shared held (Held r) xs ts = Some (slice_index_or held r tree.Nil)
 
 -- The same, where all parts are there.
-abbrev pub tree_where : (names shared : List (List ℕ)) (held : List Tree) → Item → Option Trees → Option Tree
-tree_where names shared held x None = None
-tree_where names shared held x (Some ts) = tree_with names shared held x ts
+abbrev pub tree_where : (names shared : List (List ℕ)) (held : List Tree) → Item → List Item → Option Trees → Option Tree
+tree_where names shared held x xs None = None
+tree_where names shared held x xs (Some ts) = tree_with names shared held x xs ts
 
--- An item before terms: it takes its parts from their front.
-abbrev pub read_item : (names shared : List (List ℕ)) (held : List Tree) → Item → List (Option Tree) → List (Option Tree)
-read_item names shared held x ms = tree_where names shared held x (all_of (take (parts_of x) ms)) ∷ drop (parts_of x) ms
+-- An item before terms: it takes its parts from their front. A byte is no term.
+abbrev pub read_item : (names shared : List (List ℕ)) (held : List Tree) → Item → List Item → List (Option Tree) → List (Option Tree)
+read_item names shared held x xs ms = if is_byte x then ms else tree_where names shared held x xs (all_of (take (parts_of x) ms)) ∷ drop (parts_of x) ms
 
 -- The trees of the terms that items are, in order; none for a term that is wide: a map in it, as it is written, has too
 -- many different keys.
 abbrev pub read : (names shared : List (List ℕ)) (held : List Tree) → List Item → List (Option Tree)
 read names shared held [] = []
-read names shared held (x ∷ xs) = read_item names shared held x (read names shared held xs)
+read names shared held (x ∷ xs) = read_item names shared held x xs (read names shared held xs)
 
 -- A key that is not wide is beyond the walk limit.
 abbrev pub is_big_key : (shared : List (List ℕ)) → Option Tree → Bool
@@ -137,6 +224,11 @@ abbrev pub unless_wide : List (Option Tree) → Result Tree BuildStop
 unless_wide (Some t ∷ ms) = Ok t
 unless_wide _ = Err Size
 
--- What building the items comes to: the tree of their term, or why there is none. A big key comes before too many keys.
+-- What the items come to, over all shared binaries, their own among them: the tree of their term, or why there is none.
+-- A big key comes before too many keys.
+abbrev pub outcome_over : (names shared : List (List ℕ)) (held : List Tree) → List Item → Result Tree BuildStop
+outcome_over names shared held code = if is_big names shared held code then Err Big else unless_wide (read names shared held code)
+
+-- What building the items comes to, where these shared binaries were there before.
 abbrev pub outcome : (names shared : List (List ℕ)) (held : List Tree) → List Item → Result Tree BuildStop
-outcome names shared held code = if is_big names shared held code then Err Big else unless_wide (read names shared held code)
+outcome names shared held code = outcome_over names (shared ++ bins_of code) held code

@@ -1,12 +1,13 @@
 // The words of a written term, from its items.
-ghost use Rattle.std.specs.Prelude.{◌≡◌, ℕ, ◌+◌, ◌-◌, ◌<◌, ◌≤◌, Bool, true, false, List, length, drop, OnOk, OnErr, IfSome};
+ghost use Rattle.std.specs.Prelude.{◌≡◌, ℕ, ◌+◌, ◌-◌, ◌^◌, ◌<◌, ◌≤◌, Bool, true, false, List, ◌++◌, length, drop, OnOk, OnErr, IfSome};
 ghost use Rattle.plain_term.specs.Tree.{Tree};
 ghost use Rattle.term_tags.specs.declared.layouts.TheConstants.{MOST_PARTS};
 ghost use Rattle.term_build.specs.Taken.{IsFree};
 ghost use Rattle.term_build.specs.Clear.{IsRoom};
-ghost use Rattle.item_build.specs.Reading.{IsWritten, is_big, outcome, read, words_of};
-ghost use Rattle.item_build.specs.Building.{Builds, HasHeld, HeldStand, Reads, Spares, UsesSome};
+ghost use Rattle.item_build.specs.Reading.{IsWritten, bins_of, is_big, long_bins, outcome, own_words_of, read, words_of};
+ghost use Rattle.item_build.specs.Building.{BinsStand, Builds, CanRead, HasHeld, HeldStand, Leaves, Reads, Spares, UsesSome};
 
+use crate::bins::{Making, holder_words, lay_bins};
 use crate::putting::{WIDE, put_item};
 use atom_names::AtomNames;
 use plain_term::Item;
@@ -21,11 +22,13 @@ pub enum BuildStop {
 }
 
 /// The word of a written term. Its items are read from the last to the first; the words of the terms read so far stand
-/// at the end of `scratch`, the next one first. `held` has the words of the registers, which become parts as they are. `Big`
-/// comes before `Size`; at a stop the room is as it was.
+/// at the end of `scratch`, the next one first. `held` has the words of the registers, which become parts as they are.
+/// Binaries of more than 64 bytes are made before, from left to right: their records lie at the end of the room, their holders at
+/// its front, and these join the chain. `Big` comes before `Size`; at a stop the room and the chain are as before.
 pub fn build(
     mem: &mut WordMem,
     room: &mut Room,
+    making: &mut Making,
     names: &AtomNames,
     scratch: &mut [u64],
     held: &[u64],
@@ -34,17 +37,25 @@ pub fn build(
     requires term { IsWritten (length names.now) (length held.now) code.now }
     requires few { length code.now ≤ MOST_PARTS }
     requires enough { length code.now ≤ length scratch.old }
+    requires serials { making.old.serial + length code.now < 2 ^ 64 }
     requires places { IsRoom room.old mem.old }
+    requires somewhere { 0 < room.old.top }
     requires words { room.old.top + words_of code.now ≤ room.old.end }
-    requires held { HasHeld names.now (words_of code.now) room.old mem.old held.now }
-    ensures builds { (c : ℕ → ℕ → Bool) (shared : List (List ℕ)) (trees : List Tree) → IsFree c room.old.top (room.old.top + words_of code.now)
-        → HeldStand c shared mem.old held.now trees → Builds c shared room.old room.new mem.old mem.new result (outcome names.now shared trees code.now) }
-    ensures uses { OnOk result (UsesSome (words_of code.now) room.old room.new mem.old mem.new) }
-    ensures stopped { OnErr result ((room.new ≡ room.old) × Spares (words_of code.now) room.old mem.old mem.new) }
+    requires held { HasHeld names.now making.old.serial room.old mem.old held.now }
+    ensures builds { (c : ℕ → ℕ → Bool) (shared : List (List ℕ)) (trees : List Tree) → IsFree c room.old.top room.old.end → length shared ≡ making.old.serial
+        → HeldStand c shared mem.old held.now trees
+        → Builds c (shared ++ bins_of code.now) room.old room.new mem.old mem.new making.old making.new (long_bins code.now) result (outcome names.now shared trees code.now) }
+    ensures leaves { Leaves room.old room.new mem.old mem.new }
+    ensures few { room.new.top + room.old.end ≤ room.old.top + room.new.end + words_of code.now }
+    ensures serial { OnOk result (making.new.serial ≡ making.old.serial + long_bins code.now) }
+    ensures stopped { OnErr result ((room.new ≡ room.old) × (making.new ≡ making.old)) }
     ensures row { length scratch.new ≡ length scratch.old }
 {
     let entry = *room;
-    let stop = match put_items(mem, room, names, scratch, held, code) {
+    let before = *making;
+    lay_bins(mem, room, making, code);
+    let bins = room.top;
+    let stop = match put_items(mem, room, names, scratch, held, bins, code) {
         None => BuildStop::Big,
         Some(w) => {
             if w != WIDE {
@@ -54,36 +65,52 @@ pub fn build(
         }
     };
     *room = entry;
+    *making = before;
     Err(stop)
 }
 
-// The word of the one term of these items, or nothing where a key is too big.
+// The word of the one term of these items, or nothing where a key is too big. The holders of its long binaries lie below `bins`.
 fn put_items(
     mem: &mut WordMem,
     room: &mut Room,
     names: &AtomNames,
     scratch: &mut [u64],
     held: &[u64],
+    bins: u64,
     code: &[Item],
 ) -> Option<u64>
     requires term { IsWritten (length names.now) (length held.now) code.now }
     requires few { length code.now ≤ MOST_PARTS }
     requires enough { length code.now ≤ length scratch.old }
     requires places { IsRoom room.old mem.old }
-    requires words { room.old.top + words_of code.now ≤ room.old.end }
-    requires held { HasHeld names.now (words_of code.now) room.old mem.old held.now }
-    ensures reads { (c : ℕ → ℕ → Bool) (shared : List (List ℕ)) (trees : List Tree) → IsFree c room.old.top (room.old.top + words_of code.now)
-        → HeldStand c shared mem.old held.now trees
+    requires below { bins ≤ room.old.top }
+    requires words { room.old.top + own_words_of code.now ≤ room.old.end }
+    requires held { CanRead names.now (own_words_of code.now) room.old mem.old held.now bins (long_bins code.now) }
+    ensures reads { (c : ℕ → ℕ → Bool) (shared : List (List ℕ)) (trees : List Tree) → IsFree c room.old.top (room.old.top + own_words_of code.now)
+        → HeldStand c shared mem.old held.now trees → BinsStand c shared mem.old bins (long_bins code.now)
         → Reads c shared room.old room.new mem.old mem.new result (is_big names.now shared trees code.now) (read names.now shared trees code.now) }
-    ensures uses { IfSome result (λ w. UsesSome (words_of code.now) room.old room.new mem.old mem.new) }
-    ensures spares { Spares (words_of code.now) room.old mem.old mem.new }
+    ensures uses { IfSome result (λ w. UsesSome (own_words_of code.now) room.old room.new mem.old mem.new) }
+    ensures spares { Spares (own_words_of code.now) room.old mem.old mem.new }
     ensures row { length scratch.new ≡ length scratch.old }
 {
+    let _len = mem.len();
     let mut sp = scratch.len();
+    let mut bin = bins;
     let mut i = code.len();
     while i > 0 {
         i -= 1;
-        sp = put_item(mem, room, names, scratch, sp, held, code[i])?;
+        bin -= holder_words(code[i]);
+        sp = put_item(
+            mem,
+            room,
+            names,
+            scratch,
+            sp,
+            held,
+            bin,
+            code[i],
+            &code[i + 1..],
+        )?;
     }
     Some(scratch[sp])
 }

@@ -1,9 +1,11 @@
 //! The words of a written term, built from its items.
 #![tactic(auto)]
 
+mod bins;
 mod building;
 mod needs;
 mod putting;
 
+pub use bins::{Making, long_bins};
 pub use building::{BuildStop, build};
 pub use needs::words_needed;

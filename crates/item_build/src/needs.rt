@@ -1,9 +1,11 @@
 // How many words a written term asks for.
 ghost use Rattle.std.specs.Prelude.{◌≡◌, ℕ, ◌+◌, ◌-◌, ◌≤◌, ◌^◌, length, drop, min};
+ghost use Rattle.plain_term.specs.declared.item.Item.TheVariants.{Bin};
 ghost use Rattle.plain_term.specs.Measures.{int_flat};
 ghost use Rattle.item_build.specs.Reading.{item_words, words_of};
 
 use plain_term::Item;
+use term_tags::MOST_HEAP_BYTES;
 
 /// The words that the parts of a written term take at most: each written pair of a map counts.
 pub fn words_needed(code: &[Item]) -> u64
@@ -27,7 +29,20 @@ fn words_for(item: Item) -> u64
         Item::Cons => 2,
         Item::Tuple(n) => n.saturating_add(1),
         Item::Map(n) => n.saturating_mul(2).saturating_add(4),
+        Item::Bin(n) => bin_words(n),
         _ => 0,
+    }
+}
+
+// The words of a binary: those of a heap binary, or of a holder and a record.
+fn bin_words(n: u64) -> u64
+    ensures { result ≡ item_words (Bin n) }
+{
+    let words = n / 8 + (n % 8 + 7) / 8;
+    if n > MOST_HEAP_BYTES {
+        10 + words
+    } else {
+        2 + words
     }
 }
 

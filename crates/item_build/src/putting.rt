@@ -1,27 +1,31 @@
 // One item of a written term.
-ghost use Rattle.std.specs.Prelude.{◌≡◌, ℕ, ◌+◌, ◌-◌, ◌*◌, ◌<◌, ◌≤◌, Bool, true, false, List, ◌∷◌, length, take, drop, Option, IfSome, IfNone};
+ghost use Rattle.std.specs.Prelude.{◌≡◌, ℕ, ◌+◌, ◌-◌, ◌*◌, ◌<◌, ◌≤◌, Bool, true, false, List, ◌∷◌, length, take, drop, Option, Some, IfSome, IfNone};
+ghost use Rattle.plain_term.specs.declared.item.Item.TheVariants.{Bin as ItemBin};
 ghost use Rattle.plain_term.specs.Tree.{Tree, Trees, Pairs, pairs_len};
+ghost use Rattle.term_tags.specs.declared.kinds.TheConstants.{PLACES};
 ghost use Rattle.term_tags.specs.declared.layouts.TheConstants.{MOST_PARTS};
 ghost use Rattle.term_words.specs.Stands.{AllStand};
 ghost use Rattle.term_build.specs.Taken.{IsFree};
 ghost use Rattle.term_build.specs.Clear.{IsRoom};
 ghost use Rattle.term_maps.specs.Given.{CanMap, KeysWithin, PairsStand, pairs_in};
-ghost use Rattle.item_build.specs.Reading.{all_of, has_big_key as has_big, is_big_item as is_big, is_big_key as is_big_mark, item_words, map_of, parts_of as parts_in, read_item, tree_where, tree_with};
-ghost use Rattle.item_build.specs.Building.{AreMarks, CanPut, HasMark, HasMarks, HasNoBigKey, HeldStand, IsMark, MarkBuilt, Puts, UsesSome, holds_wide};
+ghost use Rattle.item_build.specs.Reading.{all_of, bin_of, bytes_in, bytes_led, has_big_key as has_big, is_big_item as is_big, is_big_key as is_big_mark, is_byte as is_byte_item, is_long, long_bins};
+ghost use Rattle.item_build.specs.Reading.{map_of, near_words, own_words, parts_of as parts_in, bytes_after, read_item, tree_where, tree_with};
+ghost use Rattle.item_build.specs.Building.{AreMarks, CanPut, HasMark, HasMarks, HasNoBigKey, HeldStand, HolderStands, IsMark, MarkBuilt, Puts, UsesSome, holds_wide};
 
+use crate::bins::{first_bytes, is_byte};
 use atom_names::AtomNames;
 use plain_term::Item;
-use term_build::{cons, integer, tuple};
+use term_build::{cons, heap_bin, integer, tuple};
 use term_maps::map_of_row;
-use term_tags::{atom, nil, pid};
+use term_tags::{MOST_HEAP_BYTES, atom, boxed_at, nil, pid};
 use term_walk::{Measured, measure};
 use word_mem::{Room, WordMem};
 
 /// What stands for a term in which a map has too many different keys. It is no word of a term.
 pub const WIDE: u64 = 0;
 
-// One item before the terms whose words stand from `sp` on: it takes the words of its parts off and puts its own on. Nothing
-// where it is a map with a key that is too big.
+// One item before the terms whose words stand from `sp` on, with these items behind it: it takes the words of its parts off and puts
+// its own on; a byte does neither. The holder of a long binary stands at `bin`. Nothing where it is a map with a key that is too big.
 pub fn put_item(
     mem: &mut WordMem,
     room: &mut Room,
@@ -29,26 +33,34 @@ pub fn put_item(
     scratch: &mut [u64],
     sp: usize,
     held: &[u64],
+    bin: u64,
     item: Item,
+    rest: &[Item],
 ) -> Option<usize>
     requires within { sp ≤ length scratch.old }
-    requires some { 0 < sp + parts_in item }
+    requires some { is_byte_item item ≡ false → 0 < sp + parts_in item }
     requires can { CanPut (length names.now) (length held.now) room.old mem.old (drop sp scratch.old) item }
-    ensures puts { (c : ℕ → ℕ → Bool) (shared : List (List ℕ)) (trees : List Tree) (ms : List (Option Tree)) → IsFree c room.old.top (room.old.top + item_words item)
-        → HeldStand c shared mem.old held.now trees → AreMarks c shared mem.old (drop sp scratch.old) ms
-        → Puts c shared room.old room.new mem.old mem.new result scratch.new (is_big shared item (take (parts_in item) ms)) (read_item names.now shared trees item ms) }
-    ensures uses { IfSome result (λ r. UsesSome (item_words item) room.old room.new mem.old mem.new) }
-    ensures place { IfSome result (λ r. r < length scratch.new) }
+    requires bytes { bytes_after item ≤ bytes_led rest.now }
+    requires holder { is_long item ≡ true → bin < PLACES }
+    ensures puts { (c : ℕ → ℕ → Bool) (shared : List (List ℕ)) (trees : List Tree) (ms : List (Option Tree)) → IsFree c room.old.top (room.old.top + own_words item)
+        → HeldStand c shared mem.old held.now trees → HolderStands c shared mem.old bin item (long_bins rest.now) → AreMarks c shared mem.old (drop sp scratch.old) ms
+        → Puts c shared room.old room.new mem.old mem.new result scratch.new (is_big shared item (take (parts_in item) ms))
+        (read_item names.now shared trees item rest.now ms) }
+    ensures uses { IfSome result (λ r. UsesSome (own_words item) room.old room.new mem.old mem.new) }
+    ensures place { IfSome result (λ r. r ≤ length scratch.new) }
     ensures stopped { IfNone result ((room.new ≡ room.old) × (mem.new ≡ mem.old)) }
     ensures row { length scratch.new ≡ length scratch.old }
 {
-    let rest = sp + parts_of(item);
-    let parts = &scratch[sp..rest];
+    if is_byte(item) {
+        return Some(sp);
+    }
+    let left = sp + parts_of(item);
+    let parts = &scratch[sp..left];
     if is_big_item(mem, item, parts) {
         return None;
     }
-    let w = mark_of(mem, room, names, held, item, parts);
-    Some(put_word(scratch, rest, w))
+    let w = mark_of(mem, room, names, held, bin, item, rest, parts);
+    Some(put_word(scratch, left, w))
 }
 
 // How many terms an item takes off.
@@ -120,21 +132,26 @@ fn mark_of(
     room: &mut Room,
     names: &AtomNames,
     held: &[u64],
+    bin: u64,
     item: Item,
+    rest: &[Item],
     parts: &[u64],
 ) -> u64
     requires can { CanPut (length names.now) (length held.now) room.old mem.old parts.now item }
     requires exact { length parts.now ≡ parts_in item }
+    requires term { is_byte_item item ≡ false }
+    requires bytes { bytes_after item ≤ bytes_led rest.now }
+    requires holder { is_long item ≡ true → bin < PLACES }
     requires keys { HasNoBigKey mem.old parts.now item }
-    ensures built { (c : ℕ → ℕ → Bool) (shared : List (List ℕ)) (trees : List Tree) (ms : List (Option Tree)) → IsFree c room.old.top (room.old.top + item_words item)
-        → HeldStand c shared mem.old held.now trees → AreMarks c shared mem.old parts.now ms
-        → MarkBuilt c room.old.top (room.new.top - room.old.top) mem.old mem.new shared result (tree_where names.now shared trees item (all_of ms)) }
-    ensures uses { UsesSome (item_words item) room.old room.new mem.old mem.new }
+    ensures built { (c : ℕ → ℕ → Bool) (shared : List (List ℕ)) (trees : List Tree) (ms : List (Option Tree)) → IsFree c room.old.top (room.old.top + own_words item)
+        → HeldStand c shared mem.old held.now trees → HolderStands c shared mem.old bin item (long_bins rest.now) → AreMarks c shared mem.old parts.now ms
+        → MarkBuilt c room.old.top (room.new.top - room.old.top) mem.old mem.new shared result (tree_where names.now shared trees item rest.now (all_of ms)) }
+    ensures uses { UsesSome (own_words item) room.old room.new mem.old mem.new }
 {
     if parts.contains(&WIDE) {
         return WIDE;
     }
-    word_of(mem, room, names, held, item, parts)
+    word_of(mem, room, names, held, bin, item, rest, parts)
 }
 
 // The word of an item, none of whose parts is wide.
@@ -143,17 +160,22 @@ fn word_of(
     room: &mut Room,
     names: &AtomNames,
     held: &[u64],
+    bin: u64,
     item: Item,
+    rest: &[Item],
     parts: &[u64],
 ) -> u64
     requires can { CanPut (length names.now) (length held.now) room.old mem.old parts.now item }
     requires exact { length parts.now ≡ parts_in item }
+    requires term { is_byte_item item ≡ false }
+    requires bytes { bytes_after item ≤ bytes_led rest.now }
+    requires holder { is_long item ≡ true → bin < PLACES }
     requires keys { HasNoBigKey mem.old parts.now item }
     requires narrow { holds_wide parts.now ≡ false }
-    ensures built { (c : ℕ → ℕ → Bool) (shared : List (List ℕ)) (trees : List Tree) (ts : Trees) → IsFree c room.old.top (room.old.top + item_words item)
-        → HeldStand c shared mem.old held.now trees → AllStand c shared mem.old parts.now ts
-        → MarkBuilt c room.old.top (room.new.top - room.old.top) mem.old mem.new shared result (tree_with names.now shared trees item ts) }
-    ensures uses { UsesSome (item_words item) room.old room.new mem.old mem.new }
+    ensures built { (c : ℕ → ℕ → Bool) (shared : List (List ℕ)) (trees : List Tree) (ts : Trees) → IsFree c room.old.top (room.old.top + own_words item)
+        → HeldStand c shared mem.old held.now trees → HolderStands c shared mem.old bin item (long_bins rest.now) → AllStand c shared mem.old parts.now ts
+        → MarkBuilt c room.old.top (room.new.top - room.old.top) mem.old mem.new shared result (tree_with names.now shared trees item rest.now ts) }
+    ensures uses { UsesSome (own_words item) room.old room.new mem.old mem.new }
 {
     match item {
         Item::Int(i) => integer(mem, room, i),
@@ -163,9 +185,28 @@ fn word_of(
         Item::Cons => cons(mem, room, parts[0], parts[1]),
         Item::Tuple(_) => tuple(mem, room, parts),
         Item::Map(_) => map_word(mem, room, names, parts),
+        Item::Bin(n) => bin_word(mem, room, bin, n, rest),
         Item::Held(r) => held[r as usize],
-        _ => unreachable!(),
+        Item::Byte(_) => unreachable!(),
     }
+}
+
+// The binary of the first n items. The holder of a long one stands at `bin`.
+fn bin_word(mem: &mut WordMem, room: &mut Room, bin: u64, n: u64, rest: &[Item]) -> u64
+    requires places { IsRoom room.old mem.old }
+    requires words { room.old.top + near_words n ≤ room.old.end }
+    requires bytes { n ≤ length rest.now }
+    requires holder { is_long (ItemBin n) ≡ true → bin < PLACES }
+    ensures built { (c : ℕ → ℕ → Bool) (shared : List (List ℕ)) → IsFree c room.old.top (room.old.top + near_words n)
+        → HolderStands c shared mem.old bin (ItemBin n) (long_bins rest.now)
+        → MarkBuilt c room.old.top (room.new.top - room.old.top) mem.old mem.new shared result (Some (bin_of shared n rest.now)) }
+    ensures uses { UsesSome (near_words n) room.old room.new mem.old mem.new }
+{
+    if n > MOST_HEAP_BYTES {
+        return boxed_at(bin);
+    }
+    let bytes = first_bytes(rest, n as usize);
+    heap_bin(mem, room, &bytes[..n as usize])
 }
 
 // The map of the keys and values that stand in turn, none of which is wide or too big.

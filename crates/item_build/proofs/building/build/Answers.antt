@@ -1,15 +1,90 @@
-use Rattle.item_build.specs.Reading.{is_big, read}
-use Rattle.item_build.proofs.Steps.{ok-builds, wide-builds}
+use Rattle.std.proofs.Common.{◌≡◌, ℕ, ◌+◌, ◌≤◌, List, ◌++◌, length, arith}
+use Rattle.item_build.specs.Reading.{bins_of, is_big, long_bins, own_words_of, read}
+use Rattle.item_build.proofs.Whole.{words-apart}
+use Rattle.item_build.proofs.Chaining.{leaves-then}
+use Rattle.item_build.proofs.Ending.{big-makes, leaves-back, leaves-uses, ok-makes, ready, whole-led, wide-makes}
 use Rattle.item_build.proofs.building.build.Goals as goal
 
+pub lay_bins-requires-clause-whole : goal.lay_bins-requires-clause-whole
+lay_bins-requires-clause-whole c = whole-led (length c.args.names.now) (length c.args.held.now) c.args.code.now c.requires.term.whole
+
+pub lay_bins-requires-clause-words : goal.lay_bins-requires-clause-words
+lay_bins-requires-clause-words c = omega (arith, c.requires.words, words-apart c.args.code.now)
+
+pub put_items-requires-clause-words : goal.put_items-requires-clause-words
+put_items-requires-clause-words c = omega (arith, c.requires.words, words-apart c.args.code.now, c.lay_bins.ensures.front, c.lay_bins.ensures.back)
+
+pub put_items-requires-clause-held : goal.put_items-requires-clause-held
+put_items-requires-clause-held c =
+    let fits : c.lay_bins.new.room.top + own_words_of c.args.code.now ≤ c.lay_bins.new.room.end =
+    omega (arith, c.requires.words, words-apart c.args.code.now, c.lay_bins.ensures.front, c.lay_bins.ensures.back) in
+    let h = c.requires.held in
+    let r = ready h.test h.shared c.args.code.now c.args.room.now c.lay_bins.new.room c.args.mem.now c.lay_bins.new.mem c.args.held.now h.trees c.args.making.now c.lay_bins.new.making
+    (own_words_of c.args.code.now) (c.lay_bins.ensures.laid h.test h.shared h.free h.serials) c.lay_bins.ensures.leaves h.free c.lay_bins.ensures.front h.serials fits h.standing in
+    record { test = r.test; shared = h.shared ++ bins_of c.args.code.now; trees = h.trees; free = r.free; standing = r.standing; holders = r.holders; named = h.named }
+
 pub returns-then-w-ne-WIDE-clause-builds : goal.returns-then-w-ne-WIDE-clause-builds
-returns-then-w-ne-WIDE-clause-builds c = λ k shared trees free held.
-    let r = c.in-Some.ensures.reads k shared trees free held in
-    ok-builds k shared c.args.room.now c.put_items.new.room c.args.mem.now c.put_items.new.mem c.in-Some.w (is_big c.args.names.now shared trees c.args.code.now)
-    (read c.args.names.now shared trees c.args.code.now) r.0 (λ none. c.if-w-ne-WIDE.true none) r.1
+returns-then-w-ne-WIDE-clause-builds c = λ k shared trees free len held.
+    let fits : c.lay_bins.new.room.top + own_words_of c.args.code.now ≤ c.lay_bins.new.room.end =
+    omega (arith, c.requires.words, words-apart c.args.code.now, c.lay_bins.ensures.front, c.lay_bins.ensures.back) in
+    let r = ready k shared c.args.code.now c.args.room.now c.lay_bins.new.room c.args.mem.now c.lay_bins.new.mem c.args.held.now trees c.args.making.now c.lay_bins.new.making
+    (own_words_of c.args.code.now) (c.lay_bins.ensures.laid k shared free len) c.lay_bins.ensures.leaves free c.lay_bins.ensures.front len fits held in
+    let S : List (List ℕ) = shared ++ bins_of c.args.code.now in
+    let b = c.in-Some.ensures.reads r.test S trees r.free r.standing r.holders in
+    ok-makes k r.test S c.args.room.now c.lay_bins.new.room c.put_items.new.room c.args.mem.now c.lay_bins.new.mem c.put_items.new.mem c.args.making.now c.lay_bins.new.making
+    (long_bins c.args.code.now) (own_words_of c.args.code.now) c.in-Some.w r.laid c.lay_bins.ensures.leaves free fits (is_big c.args.names.now S trees c.args.code.now)
+    (read c.args.names.now S trees c.args.code.now) b.0 (λ none. c.if-w-ne-WIDE.true none) c.in-Some.ensures.uses b.1
 
 pub returns-else-w-ne-WIDE-clause-builds : goal.returns-else-w-ne-WIDE-clause-builds
-returns-else-w-ne-WIDE-clause-builds c = λ k shared trees free held.
-    let r = c.in-Some.ensures.reads k shared trees free held in
-    wide-builds k shared c.args.room.now c.put_items.new.room c.args.room.now c.args.mem.now c.put_items.new.mem c.in-Some.w (is_big c.args.names.now shared trees c.args.code.now)
-    (read c.args.names.now shared trees c.args.code.now) r.0 c.if-w-ne-WIDE.false r.1
+returns-else-w-ne-WIDE-clause-builds c = λ k shared trees free len held.
+    let fits : c.lay_bins.new.room.top + own_words_of c.args.code.now ≤ c.lay_bins.new.room.end =
+    omega (arith, c.requires.words, words-apart c.args.code.now, c.lay_bins.ensures.front, c.lay_bins.ensures.back) in
+    let r = ready k shared c.args.code.now c.args.room.now c.lay_bins.new.room c.args.mem.now c.lay_bins.new.mem c.args.held.now trees c.args.making.now c.lay_bins.new.making
+    (own_words_of c.args.code.now) (c.lay_bins.ensures.laid k shared free len) c.lay_bins.ensures.leaves free c.lay_bins.ensures.front len fits held in
+    let S : List (List ℕ) = shared ++ bins_of c.args.code.now in
+    let b = c.in-Some.ensures.reads r.test S trees r.free r.standing r.holders in
+    wide-makes k r.test S c.args.room.now c.lay_bins.new.room c.put_items.new.room c.args.room.now c.args.mem.now c.lay_bins.new.mem c.put_items.new.mem c.args.making.now c.args.making.now
+    (long_bins c.args.code.now) c.in-Some.w (is_big c.args.names.now S trees c.args.code.now) (read c.args.names.now S trees c.args.code.now) b.0 c.if-w-ne-WIDE.false b.1
+
+pub returns-in-None-clause-builds : goal.returns-in-None-clause-builds
+returns-in-None-clause-builds c = λ k shared trees free len held.
+    let fits : c.lay_bins.new.room.top + own_words_of c.args.code.now ≤ c.lay_bins.new.room.end =
+    omega (arith, c.requires.words, words-apart c.args.code.now, c.lay_bins.ensures.front, c.lay_bins.ensures.back) in
+    let r = ready k shared c.args.code.now c.args.room.now c.lay_bins.new.room c.args.mem.now c.lay_bins.new.mem c.args.held.now trees c.args.making.now c.lay_bins.new.making
+    (own_words_of c.args.code.now) (c.lay_bins.ensures.laid k shared free len) c.lay_bins.ensures.leaves free c.lay_bins.ensures.front len fits held in
+    let S : List (List ℕ) = shared ++ bins_of c.args.code.now in
+    big-makes k S c.args.room.now c.args.room.now c.args.mem.now c.put_items.new.mem c.args.making.now c.args.making.now (long_bins c.args.code.now)
+    (is_big c.args.names.now S trees c.args.code.now) (read c.args.names.now S trees c.args.code.now) (c.in-None.ensures.reads r.test S trees r.free r.standing r.holders)
+
+pub returns-then-w-ne-WIDE-clause-leaves : goal.returns-then-w-ne-WIDE-clause-leaves
+returns-then-w-ne-WIDE-clause-leaves c =
+    let fits : c.lay_bins.new.room.top + own_words_of c.args.code.now ≤ c.lay_bins.new.room.end =
+    omega (arith, c.requires.words, words-apart c.args.code.now, c.lay_bins.ensures.front, c.lay_bins.ensures.back) in
+    leaves-then c.args.room.now c.lay_bins.new.room c.put_items.new.room c.args.mem.now c.lay_bins.new.mem c.put_items.new.mem c.lay_bins.ensures.leaves
+    (leaves-uses (own_words_of c.args.code.now) c.lay_bins.new.room c.put_items.new.room c.lay_bins.new.mem c.put_items.new.mem c.in-Some.ensures.uses fits)
+
+pub returns-else-w-ne-WIDE-clause-leaves : goal.returns-else-w-ne-WIDE-clause-leaves
+returns-else-w-ne-WIDE-clause-leaves c =
+    let fits : c.lay_bins.new.room.top + own_words_of c.args.code.now ≤ c.lay_bins.new.room.end =
+    omega (arith, c.requires.words, words-apart c.args.code.now, c.lay_bins.ensures.front, c.lay_bins.ensures.back) in
+    leaves-back c.args.room.now c.lay_bins.new.room c.args.mem.now c.lay_bins.new.mem c.put_items.new.mem (own_words_of c.args.code.now) c.requires.places c.lay_bins.ensures.leaves
+    c.in-Some.ensures.spares fits
+
+pub returns-in-None-clause-leaves : goal.returns-in-None-clause-leaves
+returns-in-None-clause-leaves c =
+    let fits : c.lay_bins.new.room.top + own_words_of c.args.code.now ≤ c.lay_bins.new.room.end =
+    omega (arith, c.requires.words, words-apart c.args.code.now, c.lay_bins.ensures.front, c.lay_bins.ensures.back) in
+    leaves-back c.args.room.now c.lay_bins.new.room c.args.mem.now c.lay_bins.new.mem c.put_items.new.mem (own_words_of c.args.code.now) c.requires.places c.lay_bins.ensures.leaves
+    c.in-None.ensures.spares fits
+
+pub returns-then-w-ne-WIDE-clause-few : goal.returns-then-w-ne-WIDE-clause-few
+returns-then-w-ne-WIDE-clause-few c =
+    omega (
+      arith,
+      words-apart c.args.code.now,
+      c.lay_bins.ensures.front,
+      c.lay_bins.ensures.back,
+      c.in-Some.ensures.uses.few,
+      c.in-Some.ensures.uses.uses.moved,
+      c.in-Some.ensures.uses.uses.same_end,
+    )

@@ -1,8 +1,8 @@
-use Rattle.std.proofs.Common.{◌≡◌, ◌+◌, ◌-◌, ◌≤◌, ℕ, Bool, false, List, length, drop}
+use Rattle.std.proofs.Common.{◌≡◌, ◌+◌, ◌-◌, ◌*◌, ◌≤◌, ℕ, Bool, false, List, length, drop}
 use Rattle.plain_term.specs.Tree.{Tree}
 use Rattle.term_build.specs.Taken.{IsFree}
-use Rattle.item_build.specs.Reading.{is_big, read, terms_in, words_of}
-use Rattle.item_build.specs.Building.{HeldStand, MarksBuilt, UsesSome}
+use Rattle.item_build.specs.Reading.{is_big, long_bins, own_words_of, read, terms_in}
+use Rattle.item_build.specs.Building.{BinsStand, HeldStand, MarksBuilt, UsesSome}
 use Rattle.item_build.proofs.building.put_items.Given as goal
 
 abbrev pub invariant-loop-i : goal.invariant-loop-i
@@ -11,9 +11,10 @@ invariant-loop-i l = record {
   within : l.sp ≤ length l.scratch;
   same_row : length l.scratch ≡ length l.initial.scratch;
   count : l.sp + terms_in (drop l.i l.code) ≡ length l.scratch;
-  uses : UsesSome (words_of (drop l.i l.code)) l.initial.room l.room l.initial.mem l.mem;
-  built : (c : ℕ → ℕ → Bool) (shared : List (List ℕ)) (trees : List Tree) → IsFree c l.initial.room.top (l.initial.room.top + words_of l.code)
-      → HeldStand c shared l.initial.mem l.held trees
+  uses : UsesSome (own_words_of (drop l.i l.code)) l.initial.room l.room l.initial.mem l.mem;
+  bin : l.bin + 6 * long_bins (drop l.i l.code) ≡ l.bins;
+  built : (c : ℕ → ℕ → Bool) (shared : List (List ℕ)) (trees : List Tree) → IsFree c l.initial.room.top (l.initial.room.top + own_words_of l.code)
+      → HeldStand c shared l.initial.mem l.held trees → BinsStand c shared l.initial.mem l.bins (long_bins l.code)
       → (is_big l.names shared trees (drop l.i l.code) ≡ false)
       × MarksBuilt c l.initial.room.top (l.room.top - l.initial.room.top) l.initial.mem l.mem shared (drop l.sp l.scratch) (read l.names shared trees (drop l.i l.code));
 }

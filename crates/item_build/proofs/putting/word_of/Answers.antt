@@ -1,13 +1,15 @@
-use Rattle.std.proofs.Common.{◌+◌, ◌-◌, ◌*◌, length, sym, ◌∙◌, ap, subst, arith, slice_index_or}
+use Rattle.std.proofs.Common.{◌≡◌, true, ◌<◌, ◌+◌, ◌-◌, ◌*◌, ◌≤◌, length, sym, ◌∙◌, ap, subst, arith, slice_index_or}
 use Rattle.plain_term.specs.declared.item.Item.{Item}
 use Rattle.plain_term.specs.Tree.{Trees}
 use Rattle.plain_term.specs.Tree.{Tree as tree}
 use Rattle.term_words.proofs.Makes.{all-length, stands-atom, stands-nil, stands-pid}
+use Rattle.term_tags.specs.declared.kinds.TheConstants.{PLACES}
 use Rattle.term_build.specs.Taken.{IsFree}
-use Rattle.item_build.specs.Reading.{IsItem, cons_of, item_words, paired, parts_of, tree_with}
-use Rattle.item_build.specs.Building.{CanPut, HasNoBigKey, MarkBuilt}
+use Rattle.item_build.specs.Reading.{IsItem, bytes_after, bytes_led, cons_of, is_long, long_bins, own_words, paired, parts_of, tree_with}
+use Rattle.item_build.specs.Building.{CanPut, HasNoBigKey, HolderStands, MarkBuilt, UsesSome}
 use Rattle.item_build.proofs.Marks.{first-two, paired-few, twos-stand}
 use Rattle.item_build.proofs.Makes.{built-mark, can-map, fewer-free, int-kept, int-mark, keys-within, there-mark}
+use Rattle.item_build.proofs.Whole.{led-within}
 use Rattle.item_build.proofs.putting.word_of.Goals as goal
 
 pub map_word-requires-clause-pairs : goal.map_word-requires-clause-pairs
@@ -24,44 +26,44 @@ map_word-requires-clause-within c =
     (c.requires.exact ∙ ap parts_of c.in-Map.is) (subst Q c.in-Map.is c.requires.keys)
 
 pub returns-in-Int-clause-built : goal.returns-in-Int-clause-built
-returns-in-Int-clause-built c = λ k shared trees ts free held all.
+returns-in-Int-clause-built c = λ k shared trees ts free held holder all.
     let P : Item → Type 0 = λ x. MarkBuilt k c.args.room.now.top (c.integer.new.room.top - c.args.room.now.top) c.args.mem.now c.integer.new.mem shared c.integer.result
-    (tree_with c.args.names.now shared trees x ts) in
-    let F : Item → Type 0 = λ x. IsFree k c.args.room.now.top (c.args.room.now.top + item_words x) in
+    (tree_with c.args.names.now shared trees x c.args.rest.now ts) in
+    let F : Item → Type 0 = λ x. IsFree k c.args.room.now.top (c.args.room.now.top + own_words x) in
     let I : Item → Type 0 = λ x. IsItem (length c.args.names.now) (length c.args.held.now) x in
     subst P (sym c.in-Int.is)
     (int-mark k _ c.in-Int.i c.args.room.now c.integer.new.room c.args.mem.now c.integer.new.mem shared c.integer.result (int-kept c.in-Int.i (subst I c.in-Int.is c.requires.can.item))
     c.integer.ensures.uses (λ f. c.integer.ensures.built k shared f) (subst F c.in-Int.is free))
 
 pub returns-in-Atom-clause-built : goal.returns-in-Atom-clause-built
-returns-in-Atom-clause-built c = λ k shared trees ts free held all.
+returns-in-Atom-clause-built c = λ k shared trees ts free held holder all.
     let P : Item → Type 0 = λ x. MarkBuilt k c.args.room.now.top (c.args.room.now.top - c.args.room.now.top) c.args.mem.now c.args.mem.now shared c.atom.result
-    (tree_with c.args.names.now shared trees x ts) in
+    (tree_with c.args.names.now shared trees x c.args.rest.now ts) in
     let I : Item → Type 0 = λ x. IsItem (length c.args.names.now) (length c.args.held.now) x in
     subst P (sym c.in-Atom.is)
     (there-mark k c.args.room.now c.args.mem.now shared c.atom.result (tree.Atom c.in-Atom.k)
     (stands-atom k shared c.args.mem.now c.atom.result c.in-Atom.k (subst I c.in-Atom.is c.requires.can.item).1 c.atom.ensures))
 
 pub returns-in-Pid-clause-built : goal.returns-in-Pid-clause-built
-returns-in-Pid-clause-built c = λ k shared trees ts free held all.
+returns-in-Pid-clause-built c = λ k shared trees ts free held holder all.
     let P : Item → Type 0 = λ x. MarkBuilt k c.args.room.now.top (c.args.room.now.top - c.args.room.now.top) c.args.mem.now c.args.mem.now shared c.pid.result
-    (tree_with c.args.names.now shared trees x ts) in
+    (tree_with c.args.names.now shared trees x c.args.rest.now ts) in
     let I : Item → Type 0 = λ x. IsItem (length c.args.names.now) (length c.args.held.now) x in
     subst P (sym c.in-Pid.is)
     (there-mark k c.args.room.now c.args.mem.now shared c.pid.result (tree.Pid c.in-Pid.n)
     (stands-pid k shared c.args.mem.now c.pid.result c.in-Pid.n (subst I c.in-Pid.is c.requires.can.item) c.pid.ensures))
 
 pub returns-in-Nil-clause-built : goal.returns-in-Nil-clause-built
-returns-in-Nil-clause-built c = λ k shared trees ts free held all.
+returns-in-Nil-clause-built c = λ k shared trees ts free held holder all.
     let P : Item → Type 0 = λ x. MarkBuilt k c.args.room.now.top (c.args.room.now.top - c.args.room.now.top) c.args.mem.now c.args.mem.now shared c.nil.result
-    (tree_with c.args.names.now shared trees x ts) in
+    (tree_with c.args.names.now shared trees x c.args.rest.now ts) in
     subst P (sym c.in-Nil.is) (there-mark k c.args.room.now c.args.mem.now shared c.nil.result tree.Nil (stands-nil k shared c.args.mem.now c.nil.result c.nil.ensures))
 
 pub returns-in-Cons-clause-built : goal.returns-in-Cons-clause-built
-returns-in-Cons-clause-built c = λ k shared trees ts free held all.
+returns-in-Cons-clause-built c = λ k shared trees ts free held holder all.
     let P : Item → Type 0 = λ x. MarkBuilt k c.args.room.now.top (c.cons.new.room.top - c.args.room.now.top) c.args.mem.now c.cons.new.mem shared c.cons.result
-    (tree_with c.args.names.now shared trees x ts) in
-    let F : Item → Type 0 = λ x. IsFree k c.args.room.now.top (c.args.room.now.top + item_words x) in
+    (tree_with c.args.names.now shared trees x c.args.rest.now ts) in
+    let F : Item → Type 0 = λ x. IsFree k c.args.room.now.top (c.args.room.now.top + own_words x) in
     let two = first-two k shared c.args.mem.now c.args.parts.now ts (c.requires.exact ∙ ap parts_of c.in-Cons.is) all in
     let Q : Trees → Type 0 = λ z. MarkBuilt k c.args.room.now.top (c.cons.new.room.top - c.args.room.now.top) c.args.mem.now c.cons.new.mem shared c.cons.result (cons_of z) in
     subst P (sym c.in-Cons.is) (subst Q (sym two.2.0)
@@ -69,20 +71,48 @@ returns-in-Cons-clause-built c = λ k shared trees ts free held all.
     (c.cons.ensures.built k shared two.0 two.1 (subst F c.in-Cons.is free) two.2.1.0 two.2.1.1)))
 
 pub returns-in-Map-clause-built : goal.returns-in-Map-clause-built
-returns-in-Map-clause-built c = λ k shared trees ts free held all.
+returns-in-Map-clause-built c = λ k shared trees ts free held holder all.
     let P : Item → Type 0 = λ x. MarkBuilt k c.args.room.now.top (c.map_word.new.room.top - c.args.room.now.top) c.args.mem.now c.map_word.new.mem shared c.map_word.result
-    (tree_with c.args.names.now shared trees x ts) in
-    let F : Item → Type 0 = λ x. IsFree k c.args.room.now.top (c.args.room.now.top + item_words x) in
+    (tree_with c.args.names.now shared trees x c.args.rest.now ts) in
+    let F : Item → Type 0 = λ x. IsFree k c.args.room.now.top (c.args.room.now.top + own_words x) in
     let few = paired-few ts c.in-Map.field-0 (sym (all-length k shared c.args.mem.now c.args.parts.now ts all) ∙ c.requires.exact ∙ ap parts_of c.in-Map.is) in
     subst P (sym c.in-Map.is)
     (c.map_word.ensures.built k shared (paired ts) (fewer-free k c.args.room.now.top (4 + 2 * c.in-Map.field-0) _ (omega (arith, few)) (subst F c.in-Map.is free))
     (twos-stand k shared c.args.mem.now c.args.parts.now ts all))
 
 pub returns-in-Held-clause-built : goal.returns-in-Held-clause-built
-returns-in-Held-clause-built c = λ k shared trees ts free held all.
+returns-in-Held-clause-built c = λ k shared trees ts free held holder all.
     let P : Item → Type 0 = λ x. MarkBuilt k c.args.room.now.top (c.args.room.now.top - c.args.room.now.top) c.args.mem.now c.args.mem.now shared (slice_index_or c.args.held.now c.in-Held.r 0)
-    (tree_with c.args.names.now shared trees x ts) in
+    (tree_with c.args.names.now shared trees x c.args.rest.now ts) in
     let I : Item → Type 0 = λ x. IsItem (length c.args.names.now) (length c.args.held.now) x in
     subst P (sym c.in-Held.is)
     (there-mark k c.args.room.now c.args.mem.now shared (slice_index_or c.args.held.now c.in-Held.r 0) (slice_index_or trees c.in-Held.r tree.Nil)
     (held.each c.in-Held.r (subst I c.in-Held.is c.requires.can.item)))
+
+pub bin_word-requires-clause-words : goal.bin_word-requires-clause-words
+bin_word-requires-clause-words c =
+    let P : Item → Type 0 = λ x. c.args.room.now.top + own_words x ≤ c.args.room.now.end in
+    subst P c.in-Bin.is c.requires.can.words
+
+pub bin_word-requires-clause-bytes : goal.bin_word-requires-clause-bytes
+bin_word-requires-clause-bytes c =
+    let P : Item → Type 0 = λ x. bytes_after x ≤ bytes_led c.args.rest.now in
+    omega (arith, subst P c.in-Bin.is c.requires.bytes, led-within c.args.rest.now)
+
+pub returns-in-Bin-clause-built : goal.returns-in-Bin-clause-built
+returns-in-Bin-clause-built c = λ k shared trees ts free held holder all.
+    let P : Item → Type 0 = λ x. MarkBuilt k c.args.room.now.top (c.bin_word.new.room.top - c.args.room.now.top) c.args.mem.now c.bin_word.new.mem shared c.bin_word.result
+    (tree_with c.args.names.now shared trees x c.args.rest.now ts) in
+    let F : Item → Type 0 = λ x. IsFree k c.args.room.now.top (c.args.room.now.top + own_words x) in
+    let H : Item → Type 0 = λ x. HolderStands k shared c.args.mem.now c.args.bin x (long_bins c.args.rest.now) in
+    subst P (sym c.in-Bin.is) (c.bin_word.ensures.built k shared (subst F c.in-Bin.is free) (subst H c.in-Bin.is holder))
+
+pub returns-in-Bin-clause-uses : goal.returns-in-Bin-clause-uses
+returns-in-Bin-clause-uses c =
+    let P : Item → Type 0 = λ x. UsesSome (own_words x) c.args.room.now c.bin_word.new.room c.args.mem.now c.bin_word.new.mem in
+    subst P (sym c.in-Bin.is) c.bin_word.ensures.uses
+
+pub bin_word-requires-clause-holder : goal.bin_word-requires-clause-holder
+bin_word-requires-clause-holder c =
+    let P : Item → Type 0 = λ x. is_long x ≡ true → c.args.bin < PLACES in
+    subst P c.in-Bin.is c.requires.holder
