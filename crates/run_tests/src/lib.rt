@@ -2,6 +2,8 @@
 #![tactic(auto)]
 
 #[cfg(test)]
+mod binaries;
+#[cfg(test)]
 mod edge;
 #[cfg(test)]
 mod faults;

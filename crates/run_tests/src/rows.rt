@@ -112,8 +112,8 @@ const ROWS: [Row; 25] = [
     },
     Row {
         name: "verbs and forms that are not built",
-        script: b"1 fill 0 1 1\n1 set 0 <<1>>\n1 send 0 1\nsys counts\n1 frob 0\n",
-        replies: b"error syntax\nerror syntax\nerror syntax\nerror syntax\nerror syntax\n",
+        script: b"1 send 0 1\n1 recv 0\n1 queue\nsys load a 1\n1 info\n1 frob 0\n",
+        replies: b"error syntax\nerror syntax\nerror syntax\nerror syntax\nerror syntax\nerror syntax\n",
     },
     Row {
         name: "collections keep the terms of registers and stacks",

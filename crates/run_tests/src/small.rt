@@ -15,7 +15,7 @@ struct Row {
     names: u64,
 }
 
-const ROWS: [Row; 5] = [
+const ROWS: [Row; 6] = [
     Row {
         name: "lists of 700 ones ask for 1,400 words: a second one is too many as long as the first lives",
         script: &[
@@ -90,6 +90,16 @@ const ROWS: [Row; 5] = [
             Part::Once(b"error big\nok\nz1\n"),
         ],
         names: 1,
+    },
+    Row {
+        name: "eleven words are free, then six, then one: what is refused for binaries and funs leaves all as it was, and stands behind what is no part",
+        script: &[Part::Once(
+            b"1 fill 0 16384 1\n1 fill 0 1048577 1\n1 fill 1 16200 1\n1 part 2 1 0 1\n1 fun 3 f 0\n1 fun 3 f 256\n1 part 3 1 0 16201\n1 part 3 1 0 2\n1 part 4 1 0 3\n1 set 4 <<1>>\n1 fill 4 2 3\nsys counts\n1 print 3\n1 set 1 []\n1 set 2 []\n1 set 3 []\n1 fill 0 16200 2\nsys sweep\nsys counts\n",
+        )],
+        replies: &[Part::Once(
+            b"error nospace 2058\nerror badarg\nok\nok\nerror nospace 10\nerror badarg\nerror badarg\nok\nerror nospace 5\nerror nospace 3\nerror nospace 3\nbins [1:1] funs []\n<<1,1>>\nok\nok\nok\nok\nok\nbins [2:1] funs []\n",
+        )],
+        names: 0,
     },
 ];
 
