@@ -1,9 +1,9 @@
 pub mod Marks
-mod Known
+pub mod Known
 mod Growing
 mod Bytes
-mod Laying
-mod Chaining
+pub mod Laying
+pub mod Chaining
 mod Whole
 mod Makes
 pub mod Steps

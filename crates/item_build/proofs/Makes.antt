@@ -1,5 +1,5 @@
 -- What an item is made of, and what is built of it.
-use Rattle.std.proofs.Common.{◌≡◌, ℕ, ◌+◌, ◌-◌, ◌*◌, ◌^◌, ◌<◌, ◌≤◌, nat_lt, if◌then◌else◌, inl, inr, Bool, true, false, List, [], ◌∷◌, ◌++◌, length, take, drop, slice_range, Option, Some, None, ℤ, pos, negsuc, to_z, of_z, refl, sym, ◌∙◌, ap, subst, arith, lt-ltb}
+use Rattle.std.proofs.Common.{◌≡◌, ℕ, ◌+◌, ◌-◌, ◌*◌, ◌^◌, ◌<◌, ◌≤◌, nat_lt, if◌then◌else◌, inl, inr, Bool, true, false, List, [], ◌∷◌, ◌++◌, length, take, drop, slice_range, Option, Some, None, IfSome, ℤ, pos, negsuc, to_z, of_z, refl, sym, ◌∙◌, ap, subst, arith, lt-ltb}
 use Rattle.std.proofs.lemmas.List.{length-take}
 use Rattle.std.proofs.lemmas.List.Folds.{drop_split}
 use Rattle.std.proofs.lemmas.Int.{ints, to_z-of_z}
@@ -7,17 +7,19 @@ use Rattle.std.specs.Int.{w128}
 use Rattle.plain_term.specs.Measures.{bin_words, int_flat, magnitude}
 use Rattle.word_mem.specs.declared.ranges.Room.{Room}
 use Rattle.plain_term.specs.declared.item.Item.{Item}
-use Rattle.plain_term.specs.declared.item.Item.TheVariants.{Bin, Map}
+use Rattle.plain_term.specs.declared.item.Item.TheVariants.{Int, Atom, Pid, Nil, Cons, Tuple, Map, Bin, Byte, Held}
 use Rattle.plain_term.specs.Tree.{Tree, Pairs, pairs_len}
 use Rattle.plain_term.specs.Tree.{Tree as tree}
 use Rattle.plain_term.specs.Tree.Pairs.{stop, pair}
 use Rattle.term_tags.specs.declared.layouts.TheConstants.{MOST_KEYS}
 use Rattle.term_words.specs.Role.{always}
 use Rattle.term_words.specs.Stands.{Stands}
+use Rattle.term_words.specs.Object.{IsSmallAs}
+use Rattle.plain_term.specs.Tree.Trees.{end}
 use Rattle.term_tags.specs.Words.{boxed_word}
 use Rattle.std.proofs.lemmas.Bool.Decides.{nat_tests}
 use Rattle.item_build.proofs.Bytes.{bytes-len}
-use Rattle.term_words.proofs.Makes.{all-length}
+use Rattle.term_words.proofs.Makes.{all-length, stands-small}
 use Rattle.term_build.specs.Taken.{IsFree}
 use Rattle.term_build.specs.Grows.{Grows, Built}
 use Rattle.term_build.specs.Clear.{Uses}
@@ -27,8 +29,8 @@ use Rattle.term_maps.specs.InOrder.{has_beyond, in_order, why_not}
 use Rattle.term_maps.specs.declared.maps.MapStop.TheVariants as why
 use Rattle.term_maps.specs.Given.{CanMap, IsMade, KeysWithin, PairsStand, pairs_in}
 use Rattle.term_maps.proofs.Putting.{in-order-few}
-use Rattle.item_build.specs.Reading.{all_of, bin_of, bytes_in, long_bins, map_of, near_words, paired, tree_where}
-use Rattle.item_build.specs.Building.{AreMarks, CanPut, HasNoBigKey, HolderStands, MarkBuilt, MarksBuilt, UsesSome, holds_wide}
+use Rattle.item_build.specs.Reading.{IsItem, all_of, is_byte, is_object, is_word, bin_of, bytes_in, long_bins, map_of, near_words, paired, is_big_item, parts_of, read_item, tree_where, tree_with}
+use Rattle.item_build.specs.Building.{AreMarks, CanPut, FitsWord, HasNoBigKey, HeldStand, HolderStands, IsLeaf, MarkBuilt, MarksBuilt, UsesSome, holds_wide}
 use Rattle.item_build.proofs.Marks.{in_turn, keep-marks, marks-more, marks-split, named-all, named-paired, narrow-all, paired-few, turns-big, turns-marks, twos-stand, wide-none}
 
 -- Words that were taken are some of more words.
@@ -196,3 +198,48 @@ short-word c x y mem mem2 shared w n xs bytes short inside is u built free =
 
     ge-ltb : (a n : ℕ) → n ≤ a → nat_lt a n ≡ false
     ge-ltb a n few = grind (arith, nat_tests)
+
+-- A small integer is a word.
+pub leaf-small : (held : List ℕ) (i j : ℤ) (r : Option ℕ) → j ≡ i → IfSome r (λ w. IsSmallAs w j) → IfSome r (λ w. IsLeaf held (Int i) w)
+leaf-small held i j None same s = tt
+leaf-small held i j (Some w) same s =
+    let P : ℤ → Type 0 = λ z. IsSmallAs w z in
+    let is : IsSmallAs w i = subst P same s in
+    record {
+      parts = refl;
+      term = refl;
+      small = λ shared ms. refl;
+      stands = λ k names shared mem trees xs h. stands-small k shared mem w i is.small is.word;
+    }
+
+-- A word is put before terms.
+pub leaf-marks : (c : ℕ → ℕ → Bool) (names shared : List (List ℕ)) (trees : List Tree) (x : Item) (xs : List Item) (room : Room) (mem held : List ℕ) (w : ℕ) (rest row : List ℕ) (ms : List (Option Tree))
+    → IsLeaf held x w → HeldStand c shared mem held trees → row ≡ w ∷ rest → AreMarks c shared mem rest ms
+    → (is_big_item shared x (take (parts_of x) ms) ≡ false) × MarksBuilt c room.top (room.top - room.top) mem mem shared row (read_item names shared trees x xs ms)
+leaf-marks c names shared trees x xs room mem held w rest row ms leaf h is all =
+    let P : Bool → Type 0 = λ b. MarksBuilt c room.top (room.top - room.top) mem mem shared row
+    (if b then ms else tree_where names shared trees x xs (all_of (take (parts_of x) ms)) ∷ drop (parts_of x) ms) in
+    let Q : ℕ → Type 0 = λ n. MarksBuilt c room.top (room.top - room.top) mem mem shared row (tree_where names shared trees x xs (all_of (take n ms)) ∷ drop n ms) in
+    let R : List ℕ → Type 0 = λ ws. AreMarks c shared mem ws (tree_with names shared trees x xs end ∷ ms) in (
+      leaf.small shared (take (parts_of x) ms),
+      subst P (sym leaf.term) (subst Q (sym leaf.parts) (record {
+        test = c;
+        grows = grows-nothing c room.top mem;
+        made = subst R (sym is) (marks-more c shared mem w rest (tree_with names shared trees x xs end) ms (leaf.stands c names shared mem trees xs h) all);
+      })),
+    )
+
+pub item-fits : (names held : ℕ) (x : Item) → IsItem names held x → FitsWord held x
+item-fits names held (Int i) is = is
+item-fits names held (Atom k) is = is.1
+item-fits names held (Pid n) is = is
+item-fits names held (Held r) is = is
+item-fits names held Nil is = tt
+item-fits names held Cons is = tt
+item-fits names held (Tuple n) is = tt
+item-fits names held (Map n) is = tt
+item-fits names held (Bin n) is = tt
+item-fits names held (Byte b) is = tt
+
+pub object-is : (x : Item) → is_byte x ≡ false → is_word x ≡ false → is_object x ≡ true
+object-is x a b = rw (a, b) refl

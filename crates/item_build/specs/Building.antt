@@ -1,10 +1,14 @@
 -- Words of the terms that items are read as, and what building leaves of a memory.
-use Rattle.std.specs.Prelude.{◌≡◌, ℕ, zero, suc, ◌+◌, ◌-◌, ◌*◌, ◌<◌, ◌≤◌, ◌⊎◌, ◌==◌, Bool, true, false, List, [], ◌∷◌, ◌++◌, length, drop, slice_index, slice_index_or, Option, Some, None, Result, Ok, Err}
+use Rattle.std.specs.Prelude.{◌≡◌, ℕ, zero, suc, ◌+◌, ◌-◌, ◌*◌, ◌^◌, ◌<◌, ◌≤◌, ◌⊎◌, ◌==◌, Bool, true, false, List, [], ◌∷◌, ◌++◌, length, drop, slice_index, slice_index_or, Option, Some, None, Result, Ok, Err}
 use Rattle.std.specs.List.{list_any}
 use Rattle.word_mem.specs.declared.ranges.Room.{Room}
 use Rattle.plain_term.specs.declared.item.Item.{Item}
+use Rattle.plain_term.specs.declared.item.Item.TheVariants.{Int, Atom, Pid, Held}
 use Rattle.plain_term.specs.Tree.{Tree}
 use Rattle.plain_term.specs.Tree.Tree.{Nil, Shared}
+use Rattle.plain_term.specs.Tree.Trees.{end}
+use Rattle.plain_term.specs.Measures.{magnitude}
+use Rattle.term_tags.specs.declared.kinds.TheConstants.{ATOMS, PIDS}
 use Rattle.term_tags.specs.Words.{boxed_word}
 use Rattle.term_tags.specs.declared.layouts.TheConstants.{MOST_PARTS}
 use Rattle.term_order.specs.Named.{is_named}
@@ -19,7 +23,7 @@ use Rattle.off_heap_list.specs.Links.{Links}
 use Rattle.item_build.specs.declared.bins.Making.{Making}
 use Rattle.item_build.specs.declared.building.BuildStop.{BuildStop}
 use Rattle.item_build.specs.declared.putting.TheConstants.{WIDE}
-use Rattle.item_build.specs.Reading.{IsItem, is_big_item, is_long, long_bins, own_words, parts_of}
+use Rattle.item_build.specs.Reading.{IsItem, is_big_item, is_byte, is_long, long_bins, own_words, parts_of, tree_with}
 
 -- The held words stand for these trees, in order.
 pub record HeldStand (c : ℕ → ℕ → Bool) (shared : List (List ℕ)) (mem held : List ℕ) (trees : List Tree) : Type 0 where
@@ -189,3 +193,19 @@ Puts c shared old new mem mem' (Some sp) row big ms = (big ≡ false) × MarksBu
 abbrev pub Reads : (ℕ → ℕ → Bool) → List (List ℕ) → (old new : Room) (mem mem' : List ℕ) → Option ℕ → (big : Bool) → List (Option Tree) → Type 0
 Reads c shared old new mem mem' None big ms = big ≡ true
 Reads c shared old new mem mem' (Some w) big ms = (big ≡ false) × MarksBuilt c old.top (new.top - old.top) mem mem' shared (w ∷ []) ms
+
+-- The number in an item fits a word.
+abbrev pub FitsWord : (held : ℕ) → Item → Type 0
+FitsWord held (Int i) = magnitude i < 2 ^ 127
+FitsWord held (Atom k) = k < ATOMS
+FitsWord held (Pid n) = n < PIDS
+FitsWord held (Held r) = r < held
+FitsWord held _ = Unit {0}
+
+-- The word stands for an item without parts, whatever the memory.
+pub record IsLeaf (held : List ℕ) (x : Item) (w : ℕ) : Type 0 where
+  pub parts : parts_of x ≡ 0
+  pub term : is_byte x ≡ false
+  pub small : (shared : List (List ℕ)) (ms : List (Option Tree)) → is_big_item shared x ms ≡ false
+  pub stands : (c : ℕ → ℕ → Bool) (names shared : List (List ℕ)) (mem : List ℕ) (trees : List Tree) (xs : List Item) → HeldStand c shared mem held trees
+      → IsMark c shared mem w (tree_with names shared trees x xs end)

@@ -1,12 +1,12 @@
 -- What the items of written terms are read as. Each item stands before what follows it and takes its parts from there.
-use Rattle.std.specs.Prelude.{◌≡◌, ℕ, ◌+◌, ◌-◌, ◌*◌, ◌^◌, ◌<◌, ◌≤◌, ◌||◌, nat_le, nat_lt, if◌then◌else◌, Bool, true, false, List, [], ◌∷◌, ◌++◌, length, map, drop, take, slice_index_or, Option, Some, None, Result, Ok, Err}
+use Rattle.std.specs.Prelude.{◌≡◌, ℕ, ◌+◌, ◌-◌, ◌*◌, ◌^◌, ◌<◌, ◌≤◌, ◌||◌, not, nat_lt, if◌then◌else◌, Bool, true, false, List, [], ◌∷◌, ◌++◌, length, map, drop, take, slice_index_or, Option, Some, None, Result, Ok, Err}
 use Rattle.plain_term.specs.declared.item.Item.{Item}
 use Rattle.plain_term.specs.declared.item.Item.TheVariants.{Int, Atom, Pid, Nil, Cons, Tuple, Map, Bin, Byte, Held}
 use Rattle.plain_term.specs.Tree.{Tree, Trees, Pairs, pairs_len}
 use Rattle.plain_term.specs.Tree.{Tree as tree}
 use Rattle.plain_term.specs.Tree.Trees.{end, ◌▹◌}
 use Rattle.plain_term.specs.Tree.Pairs.{stop, pair}
-use Rattle.plain_term.specs.Measures.{bin_words, magnitude, int_flat}
+use Rattle.plain_term.specs.Measures.{bin_words, is_small, magnitude, int_flat}
 use Rattle.plain_term.specs.Beyond.{is_beyond}
 use Rattle.term_tags.specs.declared.kinds.TheConstants.{ATOMS, PIDS}
 use Rattle.term_tags.specs.declared.layouts.TheConstants.{MOST_HEAP_BYTES, MOST_KEYS}
@@ -104,6 +104,19 @@ bytes_after _ = 0
 abbrev pub is_byte : Item → Bool
 is_byte (Byte b) = true
 is_byte _ = false
+
+-- The item is a term of one word, without an object of its own.
+abbrev pub is_word : Item → Bool
+is_word (Int i) = is_small i
+is_word (Atom k) = true
+is_word (Pid n) = true
+is_word Nil = true
+is_word (Held r) = true
+is_word _ = false
+
+-- The item is neither a byte nor a term of one word.
+abbrev pub is_object : Item → Bool
+is_object x = not (is_byte x || is_word x)
 
 -- How many bytes the items begin with.
 abbrev pub bytes_led : List Item → ℕ

@@ -4,20 +4,22 @@ ghost use Rattle.plain_term.specs.declared.item.Item.TheVariants.{Bin as ItemBin
 ghost use Rattle.plain_term.specs.Tree.{Tree, Trees, Pairs, pairs_len};
 ghost use Rattle.term_tags.specs.declared.kinds.TheConstants.{PLACES};
 ghost use Rattle.term_tags.specs.declared.layouts.TheConstants.{MOST_PARTS};
+ghost use Rattle.plain_term.specs.Measures.{is_small};
+ghost use Rattle.term_words.specs.Object.{IsSmallAs};
 ghost use Rattle.term_words.specs.Stands.{AllStand};
 ghost use Rattle.term_build.specs.Taken.{IsFree};
 ghost use Rattle.term_build.specs.Clear.{IsRoom};
 ghost use Rattle.term_maps.specs.Given.{CanMap, KeysWithin, PairsStand, pairs_in};
-ghost use Rattle.item_build.specs.Reading.{all_of, bin_of, bytes_in, bytes_led, has_big_key as has_big, is_big_item as is_big, is_big_key as is_big_mark, is_byte as is_byte_item, is_long, long_bins};
+ghost use Rattle.item_build.specs.Reading.{all_of, bin_of, bytes_in, bytes_led, has_big_key as has_big, is_big_item as is_big, is_big_key as is_big_mark, is_byte as is_byte_item, is_object, is_word, is_long, long_bins};
 ghost use Rattle.item_build.specs.Reading.{map_of, near_words, own_words, parts_of as parts_in, bytes_after, read_item, tree_where, tree_with};
-ghost use Rattle.item_build.specs.Building.{AreMarks, CanPut, HasMark, HasMarks, HasNoBigKey, HeldStand, HolderStands, IsMark, MarkBuilt, Puts, UsesSome, holds_wide};
+ghost use Rattle.item_build.specs.Building.{AreMarks, CanPut, HasMark, HasMarks, FitsWord, HasNoBigKey, HeldStand, HolderStands, IsLeaf, IsMark, MarkBuilt, Puts, UsesSome, holds_wide};
 
 use crate::bins::{first_bytes, is_byte};
 use atom_names::AtomNames;
 use plain_term::Item;
 use term_build::{cons, heap_bin, integer, tuple};
 use term_maps::map_of_row;
-use term_tags::{MOST_HEAP_BYTES, atom, boxed_at, nil, pid};
+use term_tags::{MOST_HEAP_BYTES, atom, boxed_at, nil, pid, small};
 use term_walk::{Measured, measure};
 use word_mem::{Room, WordMem};
 
@@ -54,6 +56,9 @@ pub fn put_item(
     if is_byte(item) {
         return Some(sp);
     }
+    if let Some(w) = leaf(held, item) {
+        return Some(put_word(scratch, sp, w));
+    }
     let left = sp + parts_of(item);
     let parts = &scratch[sp..left];
     if is_big_item(mem, item, parts) {
@@ -61,6 +66,33 @@ pub fn put_item(
     }
     let w = mark_of(mem, room, names, held, bin, item, rest, parts);
     Some(put_word(scratch, left, w))
+}
+
+// The word of an item that needs no object: nothing for any other.
+fn leaf(held: &[u64], item: Item) -> Option<u64>
+    requires { FitsWord (length held.now) item }
+    ensures word { IfSome result (λ w. IsLeaf held.now item w) }
+    ensures none { IfNone result (is_word item ≡ false) }
+{
+    match item {
+        Item::Int(i) => small_integer(i),
+        Item::Atom(k) => Some(atom(k)),
+        Item::Pid(n) => Some(pid(n)),
+        Item::Nil => Some(nil()),
+        Item::Held(r) => Some(held[r as usize]),
+        _ => None,
+    }
+}
+
+// The word of a small integer.
+fn small_integer(i: i128) -> Option<u64>
+    ensures word { IfSome result (λ w. IsSmallAs w i) }
+    ensures none { IfNone result (is_small i ≡ false) }
+{
+    if -(1 << 59) <= i && i < 1 << 59 {
+        return Some(small(i as i64));
+    }
+    None
 }
 
 // How many terms an item takes off.
@@ -139,7 +171,7 @@ fn mark_of(
 ) -> u64
     requires can { CanPut (length names.now) (length held.now) room.old mem.old parts.now item }
     requires exact { length parts.now ≡ parts_in item }
-    requires term { is_byte_item item ≡ false }
+    requires object { is_object item ≡ true }
     requires bytes { bytes_after item ≤ bytes_led rest.now }
     requires holder { is_long item ≡ true → bin < PLACES }
     requires keys { HasNoBigKey mem.old parts.now item }
@@ -167,7 +199,7 @@ fn word_of(
 ) -> u64
     requires can { CanPut (length names.now) (length held.now) room.old mem.old parts.now item }
     requires exact { length parts.now ≡ parts_in item }
-    requires term { is_byte_item item ≡ false }
+    requires object { is_object item ≡ true }
     requires bytes { bytes_after item ≤ bytes_led rest.now }
     requires holder { is_long item ≡ true → bin < PLACES }
     requires keys { HasNoBigKey mem.old parts.now item }
@@ -179,15 +211,11 @@ fn word_of(
 {
     match item {
         Item::Int(i) => integer(mem, room, i),
-        Item::Atom(k) => atom(k),
-        Item::Pid(n) => pid(n),
-        Item::Nil => nil(),
         Item::Cons => cons(mem, room, parts[0], parts[1]),
         Item::Tuple(_) => tuple(mem, room, parts),
         Item::Map(_) => map_word(mem, room, names, parts),
         Item::Bin(n) => bin_word(mem, room, bin, n, rest),
-        Item::Held(r) => held[r as usize],
-        Item::Byte(_) => unreachable!(),
+        _ => unreachable!(),
     }
 }
 

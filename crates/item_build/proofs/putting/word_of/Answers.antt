@@ -35,30 +35,6 @@ returns-in-Int-clause-built c = λ k shared trees ts free held holder all.
     (int-mark k _ c.in-Int.i c.args.room.now c.integer.new.room c.args.mem.now c.integer.new.mem shared c.integer.result (int-kept c.in-Int.i (subst I c.in-Int.is c.requires.can.item))
     c.integer.ensures.uses (λ f. c.integer.ensures.built k shared f) (subst F c.in-Int.is free))
 
-pub returns-in-Atom-clause-built : goal.returns-in-Atom-clause-built
-returns-in-Atom-clause-built c = λ k shared trees ts free held holder all.
-    let P : Item → Type 0 = λ x. MarkBuilt k c.args.room.now.top (c.args.room.now.top - c.args.room.now.top) c.args.mem.now c.args.mem.now shared c.atom.result
-    (tree_with c.args.names.now shared trees x c.args.rest.now ts) in
-    let I : Item → Type 0 = λ x. IsItem (length c.args.names.now) (length c.args.held.now) x in
-    subst P (sym c.in-Atom.is)
-    (there-mark k c.args.room.now c.args.mem.now shared c.atom.result (tree.Atom c.in-Atom.k)
-    (stands-atom k shared c.args.mem.now c.atom.result c.in-Atom.k (subst I c.in-Atom.is c.requires.can.item).1 c.atom.ensures))
-
-pub returns-in-Pid-clause-built : goal.returns-in-Pid-clause-built
-returns-in-Pid-clause-built c = λ k shared trees ts free held holder all.
-    let P : Item → Type 0 = λ x. MarkBuilt k c.args.room.now.top (c.args.room.now.top - c.args.room.now.top) c.args.mem.now c.args.mem.now shared c.pid.result
-    (tree_with c.args.names.now shared trees x c.args.rest.now ts) in
-    let I : Item → Type 0 = λ x. IsItem (length c.args.names.now) (length c.args.held.now) x in
-    subst P (sym c.in-Pid.is)
-    (there-mark k c.args.room.now c.args.mem.now shared c.pid.result (tree.Pid c.in-Pid.n)
-    (stands-pid k shared c.args.mem.now c.pid.result c.in-Pid.n (subst I c.in-Pid.is c.requires.can.item) c.pid.ensures))
-
-pub returns-in-Nil-clause-built : goal.returns-in-Nil-clause-built
-returns-in-Nil-clause-built c = λ k shared trees ts free held holder all.
-    let P : Item → Type 0 = λ x. MarkBuilt k c.args.room.now.top (c.args.room.now.top - c.args.room.now.top) c.args.mem.now c.args.mem.now shared c.nil.result
-    (tree_with c.args.names.now shared trees x c.args.rest.now ts) in
-    subst P (sym c.in-Nil.is) (there-mark k c.args.room.now c.args.mem.now shared c.nil.result tree.Nil (stands-nil k shared c.args.mem.now c.nil.result c.nil.ensures))
-
 pub returns-in-Cons-clause-built : goal.returns-in-Cons-clause-built
 returns-in-Cons-clause-built c = λ k shared trees ts free held holder all.
     let P : Item → Type 0 = λ x. MarkBuilt k c.args.room.now.top (c.cons.new.room.top - c.args.room.now.top) c.args.mem.now c.cons.new.mem shared c.cons.result
@@ -79,15 +55,6 @@ returns-in-Map-clause-built c = λ k shared trees ts free held holder all.
     subst P (sym c.in-Map.is)
     (c.map_word.ensures.built k shared (paired ts) (fewer-free k c.args.room.now.top (4 + 2 * c.in-Map.field-0) _ (omega (arith, few)) (subst F c.in-Map.is free))
     (twos-stand k shared c.args.mem.now c.args.parts.now ts all))
-
-pub returns-in-Held-clause-built : goal.returns-in-Held-clause-built
-returns-in-Held-clause-built c = λ k shared trees ts free held holder all.
-    let P : Item → Type 0 = λ x. MarkBuilt k c.args.room.now.top (c.args.room.now.top - c.args.room.now.top) c.args.mem.now c.args.mem.now shared (slice_index_or c.args.held.now c.in-Held.r 0)
-    (tree_with c.args.names.now shared trees x c.args.rest.now ts) in
-    let I : Item → Type 0 = λ x. IsItem (length c.args.names.now) (length c.args.held.now) x in
-    subst P (sym c.in-Held.is)
-    (there-mark k c.args.room.now c.args.mem.now shared (slice_index_or c.args.held.now c.in-Held.r 0) (slice_index_or trees c.in-Held.r tree.Nil)
-    (held.each c.in-Held.r (subst I c.in-Held.is c.requires.can.item)))
 
 pub bin_word-requires-clause-words : goal.bin_word-requires-clause-words
 bin_word-requires-clause-words c =
