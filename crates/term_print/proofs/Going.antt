@@ -1,7 +1,7 @@
 -- How printing goes on: what was written, with what is left, is the text of the whole term.
-use Rattle.std.proofs.Common.{◌≡◌, ℕ, ◌+◌, ◌^◌, ◌<◌, ◌≤◌, ◌||◌, IfSome, nat_lt, Bool, true, false, List, [], ◌∷◌, ◌++◌, length, reverse, get_or, refl, sym, ap, ◌∙◌, subst, arith, append_assoc, append-nil, Option, Some, None, Result, Ok, Err}
+use Rattle.std.proofs.Common.{◌≡◌, ℕ, ◌+◌, ◌^◌, ◌<◌, ◌≤◌, ◌||◌, nat_lt, nat_eq, Bool, true, false, List, [], ◌∷◌, ◌++◌, length, reverse, get_or, refl, sym, ap, ◌∙◌, subst, arith, append_assoc, append-nil, Option, Some, None, Result, Ok, Err, ◌⊎◌, inl, inr}
 use Rattle.std.proofs.lemmas.Bool.Decides.{nat_tests}
-use Rattle.std.proofs.lemmas.List.{reverse-append}
+use Rattle.std.proofs.lemmas.List.{reverse-append, length-reverse}
 use Rattle.std.specs.Prelude.{IsErr}
 use Rattle.line_io.specs.Sink.{Grew, Written}
 use Rattle.line_io.proofs.Growth.{Grew-nil, Grew-append}
@@ -19,65 +19,10 @@ use Rattle.term_print.specs.declared.levels.Part.{Part}
 use Rattle.term_print.specs.declared.levels.Step.TheVariants as step
 use Rattle.term_print.specs.Left.{mark_text, closing, taken, after_level, IsCountable, IsLeft, level_text, reach}
 use Rattle.term_print.specs.Printed.{CanPrint, CanBegin, Opens, Begins}
+use Rattle.term_print.specs.Going.{AreLeft, text_left, nodes_left, AreShallow, AreNamed, IsPrintable, StaysPrintable, Printing, Prints, Begun, GoesOn}
 use Rattle.term_print.specs.Runs.{CanGather, Gathers}
 use Rattle.text_parts.proofs.Writing.{written-as, written-stops}
 use Rattle.term_print.proofs.Taking.{IsMore, more_text, IsNoDeeper, Took, ends, took, countable}
-
--- The words that are left stand for these trees, level by level.
-abbrev pub AreLeft : (ℕ → ℕ → Bool) → List (List ℕ) → List ℕ → List Level → List Trees → Type 0
-AreLeft c shared mem [] [] = Unit {0}
-AreLeft c shared mem (l ∷ ls) (ts ∷ rests) = IsLeft c shared mem l ts × AreLeft c shared mem ls rests
-AreLeft c shared mem [] (ts ∷ rests) = ⊥
-AreLeft c shared mem (l ∷ ls) [] = ⊥
-
--- The text that is left.
-abbrev pub text_left : (names shared : List (List ℕ)) → List Level → List Trees → List ℕ
-text_left names shared [] rests = []
-text_left names shared (l ∷ ls) [] = []
-text_left names shared (l ∷ ls) (ts ∷ rests) = level_text names shared l ts ++ text_left names shared ls rests
-
--- The nodes that are left.
-abbrev pub nodes_left : (shared : List (List ℕ)) → List Trees → ℕ
-nodes_left shared [] = 0
-nodes_left shared (ts ∷ rests) = nodes_of_all shared ts + nodes_left shared rests
-
--- No level goes deeper than a walk.
-abbrev pub AreShallow : List Level → List Trees → Type 0
-AreShallow [] rests = Unit {0}
-AreShallow (l ∷ ls) [] = Unit {0}
-AreShallow (l ∷ ls) (ts ∷ rests) = (length ls + reach l ts ≤ depth_limit) × AreShallow ls rests
-
--- All names that are left are among n names.
-abbrev pub AreNamed : (n : ℕ) → List Trees → Type 0
-AreNamed n [] = Unit {0}
-AreNamed n (ts ∷ rests) = (are_named n ts ≡ true) × AreNamed n rests
-
--- The tree is within the walk limit, and its names are among n names.
-pub record IsPrintable (n : ℕ) (shared : List (List ℕ)) (t : Tree) : Type 0 where
-  pub few : nodes shared t ≤ node_limit
-  pub shallow : depth t ≤ depth_limit
-  pub named : is_named n t ≡ true
-
--- So is what is left.
-pub record StaysPrintable (n : ℕ) (shared : List (List ℕ)) (levels : List Level) (rests : List Trees) (seen : ℕ) : Type 0 where
-  pub few : seen + nodes_left shared rests ≤ node_limit
-  pub shallow : AreShallow levels rests
-  pub named : AreNamed n rests
-
--- What came so far, and what is left.
-pub record Printing {K : Type 0} (c : ℕ → ℕ → Bool) (shared : List (List ℕ)) (mem : List ℕ) (names : List (List ℕ)) (t : Tree) (levels : List Level) (seen : ℕ)
-    (wrote : K → List ℕ → Type 0) (start now : K) : Type 0 where
-  pub rests : List Trees
-  pub came : List ℕ
-  pub left : AreLeft c shared mem levels rests
-  pub whole : text names shared t ≡ came ++ text_left names shared levels rests
-  pub grew : Grew wrote start now came
-  pub fits : IsPrintable (length names) shared t → StaysPrintable (length names) shared levels rests seen
-
--- So it is for each tree that the first word stands for.
-abbrev pub Prints : {K : Type 0} → List ℕ → (names : List (List ℕ)) → (first : ℕ) → List Level → (seen : ℕ) → (K → List ℕ → Type 0) → (start now : K) → Type 0
-Prints mem names first levels seen wrote start now =
-    (c : ℕ → ℕ → Bool) (shared : List (List ℕ)) (t : Tree) → Stands c shared mem first t → Printing c shared mem names t levels seen wrote start now
 
 -- A level on top of others that stand.
 record TopLeft (c : ℕ → ℕ → Bool) (shared : List (List ℕ)) (mem : List ℕ) (l : Level) (ls : List Level) (rests : List Trees) : Type 0 where
@@ -443,19 +388,17 @@ printable mem names w h =
     let (few, shallow) = none-true (nat_lt node_limit (nodes h.shared h.tree)) (nat_lt depth_limit (depth h.tree)) h.within in
     record { few = at-most node_limit (nodes h.shared h.tree) few; shallow = at-most depth_limit (depth h.tree) shallow; named = h.named }
 
-pub first-begins : (mem : List ℕ) (names : List (List ℕ)) (w : ℕ) (levels : List Level) → CanPrint mem names w → levels ≡ [] → CanBegin mem names levels w
-first-begins mem names w levels h none =
-    let f = printable mem names w h in
-    record { shared = h.shared; now = h.tree; standing = h.standing; named = h.named; room = omega (arith, f.shallow, ap length none) }
+pub first-begins : (mem : List ℕ) (names : List (List ℕ)) (w : ℕ) → CanPrint mem names w → CanBegin mem names w
+first-begins mem names w h = record { shared = h.shared; now = h.tree; standing = h.standing; named = h.named }
 
 -- What a step may ask of the next part, and how many nodes were seen.
-pub record PartAsks (mem : List ℕ) (names : List (List ℕ)) (ls : List Level) (p : Part) (seen : ℕ) : Type 0 where
+pub record PartAsks (mem : List ℕ) (names : List (List ℕ)) (p : Part) (seen : ℕ) : Type 0 where
   pub within : p.place < length mem
-  pub begins : CanBegin mem names (after_level p.more ls) (get_or mem p.place 0)
+  pub begins : CanBegin mem names (get_or mem p.place 0)
   pub few : seen + 1 ≤ node_limit
 
 pub part-asks : {K : Type 0} (mem : List ℕ) (names : List (List ℕ)) (w : ℕ) (l : Level) (ls : List Level) (p : Part) (seen : ℕ) (wrote : K → List ℕ → Type 0) (start now : K)
-    → CanPrint mem names w → taken l ≡ step.Part p → Prints mem names w (l ∷ ls) seen wrote start now → PartAsks mem names ls p seen
+    → CanPrint mem names w → taken l ≡ step.Part p → Prints mem names w (l ∷ ls) seen wrote start now → PartAsks mem names p seen
 part-asks mem names w l ls p seen wrote start now h e g =
     let here = g always h.shared h.tree h.standing in
     let n = comes-part always h.shared mem names h.tree l ls p seen wrote start now e here in
@@ -464,23 +407,12 @@ part-asks mem names w l ls p seen wrote start now h e g =
     let k = took always h.shared mem names l p top.top top.is_left e in
     record {
       within = k.within;
-      begins = record { shared = h.shared; now = n.next; standing = n.standing; named = f.named; room = f.room };
+      begins = record { shared = h.shared; now = n.next; standing = n.standing; named = f.named };
       few = omega (arith, f.few, one-tree h.shared n.next);
     }
 
-more-room : (m : Option Level) (ls : List Level) (n d : ℕ) → length ls ≡ n → length (after_level m ls) + d ≤ depth_limit → IfSome m (λ l. n < 1024)
-more-room None ls n d e room = tt
-more-room (Some l) ls n d e room = omega (arith, room, e)
-
-pub keeps-more : (mem : List ℕ) (names : List (List ℕ)) (ls : List Level) (n : ℕ) (p : Part) (seen : ℕ) → length ls ≡ n → PartAsks mem names ls p seen → IfSome p.more (λ l. n < 1024)
-keeps-more mem names ls n p seen e a = more-room p.more ls n (depth a.begins.now) e a.begins.room
-
-pub begins-kept : (mem : List ℕ) (names : List (List ℕ)) (ls new : List Level) (p : Part) (seen word : ℕ) → word ≡ get_or mem p.place 0 → new ≡ after_level p.more ls → PartAsks mem names ls p seen
-    → CanBegin mem names new word
-begins-kept mem names ls new p seen word at is a =
-    let P : ℕ → Type 0 = λ z. CanBegin mem names new z in
-    let Q : List Level → Type 0 = λ z. CanBegin mem names z (get_or mem p.place 0) in
-    subst P (sym at) (subst Q (sym is) a.begins)
+pub begins-kept : (mem : List ℕ) (names : List (List ℕ)) (p : Part) (seen word : ℕ) → word ≡ get_or mem p.place 0 → PartAsks mem names p seen → CanBegin mem names word
+begins-kept mem names p seen word at a = let P : ℕ → Type 0 = λ z. CanBegin mem names z in subst P (sym at) a.begins
 
 pub level-gathers : {K : Type 0} (mem : List ℕ) (names : List (List ℕ)) (w : ℕ) (l : Level) (ls : List Level) (seen : ℕ) (wrote : K → List ℕ → Type 0) (start now : K) → CanPrint mem names w
     → Prints mem names w (l ∷ ls) seen wrote start now → CanGather mem l
@@ -511,3 +443,57 @@ one-more (Some l) ls = omega arith
 
 pub levels-grow : (parts more : Option Level) (ls mid new : List Level) → mid ≡ after_level more ls → new ≡ after_level parts mid → length new ≤ length ls + 2
 levels-grow parts more ls mid new e f = omega (arith, ap length e, ap length f, one-more more ls, one-more parts mid)
+
+-- No more levels are left than a walk has, and one.
+
+shallow-few : (c : ℕ → ℕ → Bool) (shared : List (List ℕ)) (mem : List ℕ) (levels : List Level) (rests : List Trees) → AreLeft c shared mem levels rests → AreShallow levels rests
+    → length levels ≤ depth_limit + 1
+shallow-few c shared mem [] rests left s = omega arith
+shallow-few c shared mem (l ∷ ls) [] bad s = absurd bad
+shallow-few c shared mem (l ∷ ls) (ts ∷ rests) left s = omega (arith, s.0)
+
+pub levels-few : {K : Type 0} (mem : List ℕ) (names : List (List ℕ)) (w : ℕ) (levels : List Level) (seen : ℕ) (wrote : K → List ℕ → Type 0) (start now : K) → CanPrint mem names w
+    → Prints mem names w levels seen wrote start now → length levels ≤ depth_limit + 1
+levels-few mem names w levels seen wrote start now h g =
+    let here = g always h.shared h.tree h.standing in
+    shallow-few always h.shared mem levels here.rests here.left (here.fits (printable mem names w h)).shallow
+
+-- Where not all levels are taken, one stays free after a level was taken off and another kept.
+pub keeps-room : (n : ℕ) (m : Option Level) (xs ys new : List Level) → length xs ≡ length ys + 1 → reverse new ≡ after_level m (reverse ys) → length xs + 1 ≤ n → length new < n
+keeps-room n m xs ys new len is few = omega (arith, len, few, ap length is, one-more m (reverse ys), length-reverse new, length-reverse ys)
+
+-- Nothing is left where levels beyond those of a walk stay free.
+pub none-left : {K : Type 0} (mem : List ℕ) (names : List (List ℕ)) (w : ℕ) (items : List Level) (seen : ℕ) (wrote : K → List ℕ → Type 0) (start now : K) → CanPrint mem names w
+    → Prints mem names w (reverse items) seen wrote start now → (items ≡ []) ⊎ (length items ≡ depth_limit + 2) → reverse items ≡ []
+none-left mem names w items seen wrote start now h g (inl e) = ap reverse e
+none-left mem names w items seen wrote start now h g (inr e) = absurd (omega (arith, e, levels-few mem names w (reverse items) seen wrote start now h g, length-reverse items))
+
+-- A fault ends it.
+pub stops : {K E : Type 0} (mem : List ℕ) (names : List (List ℕ)) (first : ℕ) (levels : List Level) (wrote : K → List ℕ → Type 0) (faults : K → ℕ) (start now : K) (r : Result ℕ E) → IsErr r
+    → ((q : Result (Unit {0}) E) → IsErr q → (c : ℕ → ℕ → Bool) (shared : List (List ℕ)) (t : Tree) → Stands c shared mem first t → Written wrote faults start now (text names shared t) q)
+    → GoesOn mem names first levels wrote faults start now r
+stops mem names first levels wrote faults start now (Ok n) bad w = absurd cc
+stops mem names first levels wrote faults start now (Err e) failed w = w (Err e) failed
+
+-- The text was not written, whatever the fault.
+pub unwritten : {K E F : Type 0} (wrote : K → List ℕ → Type 0) (faults : K → ℕ) (start now : K) (x : List ℕ) (e : E) (r : Result (Unit {0}) F) → IsErr r
+    → Written wrote faults start now x (Err e) → Written wrote faults start now x r
+unwritten wrote faults start now x e (Ok u) bad w = absurd cc
+unwritten wrote faults start now x e (Err f) failed w = record { all = tt; part = w.part; later = w.later; rose = w.rose; told = tt }
+
+-- The first word's term was begun.
+pub begun-first : {K E : Type 0} (mem : List ℕ) (names : List (List ℕ)) (w : ℕ) (old new : List Level) (wrote : K → List ℕ → Type 0) (faults : K → ℕ) (start after : K) (u : Unit {0}) → old ≡ []
+    → CanPrint mem names w
+    → ((c : ℕ → ℕ → Bool) (shared : List (List ℕ)) (now : Tree) → Stands c shared mem w now → Begins {K = K} {E = E} c shared mem names [] false now old new wrote faults start after (Ok u))
+    → Begun mem names w new 1 wrote faults start after
+begun-first {K} {E} mem names w old new wrote faults start after u none h b = record {
+  prints = prints-first mem names w old new wrote faults start after u none b;
+  told = (b always h.shared h.tree h.standing).written.told;
+}
+
+pub length-none : (items : List Level) → true ≡ nat_eq (length items) 0 → items ≡ []
+length-none [] e = refl
+length-none (l ∷ ls) e = absurd (omega (arith, zero-length (length (l ∷ ls)) e))
+  where
+    zero-length : (n : ℕ) → true ≡ nat_eq n 0 → n ≡ 0
+    zero-length n e = grind (arith, nat_tests)

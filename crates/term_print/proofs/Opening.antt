@@ -1,5 +1,5 @@
 -- What a look at a word tells of the text of its tree: its own text, and the level of its parts.
-use Rattle.std.proofs.Common.{◌≡◌, ℕ, ◌+◌, ◌/◌, ◌<◌, ◌≤◌, IfSome, Bool, true, false, List, ◌++◌, length, get_or, refl, sym, ap, ◌∙◌, subst, arith, inl, inr, Option, Some, None, Result, Err}
+use Rattle.std.proofs.Common.{◌≡◌, ℕ, ◌+◌, ◌/◌, ◌≤◌, Bool, true, false, List, ◌++◌, length, get_or, refl, sym, ap, ◌∙◌, subst, arith, inl, inr, Option, Result, Err}
 use Rattle.std.specs.Fmt.{signed_decimal}
 use Rattle.std.specs.Prelude.{IsErr}
 use Rattle.line_io.specs.Sink.{Grew, Written}
@@ -7,8 +7,6 @@ use Rattle.plain_term.specs.Tree.{Tree}
 use Rattle.plain_term.specs.Tree.Tree.{Int, Atom, Pid, Ref, Nil, Cons, Tuple, Map, Bin, Shared, Part, Fun}
 use Rattle.plain_term.specs.Tree.Trees.{end, ◌▹◌}
 use Rattle.plain_term.specs.Bytes.{bytes_of}
-use Rattle.plain_term.specs.Measures.{depth}
-use Rattle.plain_term.specs.Beyond.{depth_limit}
 use Rattle.plain_term.specs.Text.{placed}
 use Rattle.term_words.specs.Role.{always}
 use Rattle.term_words.specs.Stands.{Stands, IsTerm}
@@ -92,23 +90,12 @@ opens c shared mem names w tail (Part base offset len) l (v, e, sb, size, from) 
 
 -- What beginning a word's term asks for.
 
-opens-room : (c : ℕ → ℕ → Bool) (shared : List (List ℕ)) (mem : List ℕ) (names : List (List ℕ)) (tail : Bool) (now : Tree) (own : List ℕ) (m : Option Level) (n : ℕ)
-    → Opens c shared mem names tail now own m → n + depth now ≤ depth_limit → IfSome m (λ l. n < 1024)
-opens-room c shared mem names tail now own None n o room = tt
-opens-room c shared mem names tail now own (Some l) n o room = omega (arith, o.some, room)
-
-pub begins-room : (mem : List ℕ) (names : List (List ℕ)) (levels : List Level) (word : ℕ) (tail : Bool) (l : Look) → CanBegin mem names levels word → Sees mem word l → IfSome (level_in l tail)
-    (λ m. length levels < 1024)
-begins-room mem names levels word tail l h sees =
-    opens-room always h.shared mem names tail h.now (own_text names tail (bytes_of h.shared h.now) l) (level_in l tail) (length levels)
-    (opens always h.shared mem names word tail h.now l (sees.each always h.shared h.now h.standing)) h.room
-
-pub begins-readable : (mem : List ℕ) (names : List (List ℕ)) (levels : List Level) (word : ℕ) (l : Look) → CanBegin mem names levels word → Sees mem word l → LiesIn mem l → IsReadable mem names l
-begins-readable mem names levels word l h sees lies =
+pub begins-readable : (mem : List ℕ) (names : List (List ℕ)) (word : ℕ) (l : Look) → CanBegin mem names word → Sees mem word l → LiesIn mem l → IsReadable mem names l
+begins-readable mem names word l h sees lies =
     readable always names h.shared mem word h.now l h.standing (sees.each always h.shared h.now h.standing) lies h.named
 
-pub begins-term : (mem : List ℕ) (names : List (List ℕ)) (levels : List Level) (word : ℕ) → CanBegin mem names levels word → IsTerm mem word
-begins-term mem names levels word h = record { shared = h.shared; tree = h.now; standing = h.standing }
+pub begins-term : (mem : List ℕ) (names : List (List ℕ)) (word : ℕ) → CanBegin mem names word → IsTerm mem word
+begins-term mem names word h = record { shared = h.shared; tree = h.now; standing = h.standing }
 
 -- A word's term was begun, or a fault came before its own text.
 

@@ -2,3 +2,4 @@ pub mod Left
 pub mod Own
 pub mod Printed
 pub mod Runs
+pub mod Going

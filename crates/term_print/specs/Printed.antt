@@ -2,7 +2,7 @@
 use Rattle.std.specs.Prelude.{◌≡◌, ℕ, ◌+◌, ◌≤◌, Bool, true, false, List, ◌++◌, length, Option, Some, None, Result}
 use Rattle.plain_term.specs.Tree.{Tree, Trees}
 use Rattle.plain_term.specs.Measures.{depth, nodes, nodes_of_all}
-use Rattle.plain_term.specs.Beyond.{depth_limit, is_beyond}
+use Rattle.plain_term.specs.Beyond.{is_beyond}
 use Rattle.plain_term.specs.Text.{text_as}
 use Rattle.line_io.specs.Sink.{Written}
 use Rattle.term_words.specs.Role.{always}
@@ -19,13 +19,12 @@ pub record CanPrint (mem : List ℕ) (names : List (List ℕ)) (w : ℕ) : Type 
   pub within : is_beyond shared tree ≡ false
   pub named : is_named (length names) tree ≡ true
 
--- The word stands for a tree whose names are among the names, and which goes no deeper from these levels on than a walk.
-pub record CanBegin (mem : List ℕ) (names : List (List ℕ)) (levels : List Level) (word : ℕ) : Type 0 where
+-- The word stands for a tree whose names are among the names.
+pub record CanBegin (mem : List ℕ) (names : List (List ℕ)) (word : ℕ) : Type 0 where
   pub shared : List (List ℕ)
   pub now : Tree
   pub standing : Stands always shared mem word now
   pub named : is_named (length names) now ≡ true
-  pub room : length levels + depth now ≤ depth_limit
 
 -- The level has the parts of the tree, whose text is its own and then that of the level.
 pub record HasParts (c : ℕ → ℕ → Bool) (shared : List (List ℕ)) (mem : List ℕ) (names : List (List ℕ)) (tail : Bool)

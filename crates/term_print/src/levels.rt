@@ -1,10 +1,9 @@
 // The levels of a term that is written: on each, what is left to write of one object.
-ghost use Rattle.std.specs.Prelude.{◌≡◌, ◌<◌, length, reverse, IfSome};
+ghost use Rattle.std.specs.Prelude.{◌≡◌, ◌<◌, length, reverse};
 ghost use Rattle.term_print.specs.Left.{IsCountable, after_level, closing, level_in, mark_text, part_taken, pair_taken, taken};
 
 use arrayvec::ArrayVec;
 use term_read::{Look, PairRows, Row};
-use term_walk::DEPTH_LIMIT;
 
 /// What is written before a part.
 #[derive(Clone, Copy)]
@@ -142,8 +141,8 @@ pub fn level_of(look: Look, tail: bool) -> Option<Level>
 }
 
 /// Keeps a level on top of the others, if there is one.
-pub fn keep(levels: &mut ArrayVec<Level, DEPTH_LIMIT>, level: Option<Level>)
-    requires { IfSome level (λ l. length levels.old.items < 1024) }
+pub fn keep<const N: usize>(levels: &mut ArrayVec<Level, N>, level: Option<Level>)
+    requires { length levels.old.items < N }
     ensures { reverse levels.new.items ≡ after_level level (reverse levels.old.items) }
 {
     if let Some(level) = level {

@@ -15,7 +15,7 @@ returns-in_err-put g c = λ r shared now s.
 
 pub put_own-requires : goal.put_own-requires
 put_own-requires g c =
-    begins-readable c.args.mem.now c.args.names.now (reverse c.args.levels.now.items) c.args.word c.look_at-look.result c.requires c.look_at-look.ensures.tree c.look_at-look.ensures.places
+    begins-readable c.args.mem.now c.args.names.now c.args.word c.look_at-look.result c.requires.can c.look_at-look.ensures.tree c.look_at-look.ensures.places
 
 pub returns : goal.returns
 returns g c = λ r shared now s.
