@@ -15,3 +15,6 @@ mod Settled
 mod Bounded
 mod Done
 pub mod Tight
+pub mod Joining
+mod Adding
+mod Linking

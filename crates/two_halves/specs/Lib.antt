@@ -3,4 +3,5 @@ pub mod Halves
 pub mod Reached
 pub mod Rows
 pub mod Collecting
+pub mod Adding
 pub mod Figures

@@ -2,6 +2,7 @@
 #![tactic(auto)]
 
 mod halves;
+mod records;
 mod roots;
 mod table;
 

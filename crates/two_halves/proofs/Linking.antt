@@ -1,0 +1,209 @@
+-- An object that names a record comes into a half and its chain.
+use Rattle.std.proofs.Common.{Vec, ◌≡◌, ℕ, ◌+◌, ◌-◌, ◌*◌, ◌/◌, ◌%◌, ◌<◌, ◌≤◌, ◌⊎◌, Bool, true, List, [], ◌∷◌, ◌++◌, length, get_or, set, refl, sym, ◌∙◌, ap, subst, arith, inl, inr, length-set, get_or-set_other}
+use Rattle.std.proofs.lemmas.Grind.{get_or-set_at}
+use Rattle.word_mem.specs.declared.ranges.Room.{Room}
+use Rattle.plain_term.specs.Bytes.{shared_bytes}
+use Rattle.plain_term.specs.Tree.{Tree}
+use Rattle.plain_machine.specs.State.{Process}
+use Rattle.term_words.specs.Role.{COUNT, NEXT, NAMES, RECORD, RECORD_FIRST, IsSingle, OfObject, OfRecord}
+use Rattle.term_words.specs.Object.{IsBinRecord, IsRecord}
+use Rattle.term_words.specs.Stands.{Stands}
+use Rattle.term_words.specs.Kept.{Kept, Keeps}
+use Rattle.term_words.specs.Counted.{In, Distinct}
+use Rattle.term_words.proofs.Frames.{frame}
+use Rattle.term_words.proofs.Members.{in-both, in-left, in-right, one-or-not}
+use Rattle.term_build.specs.Clear.{Uses}
+use Rattle.term_build.specs.Grows.{GrowsLink}
+use Rattle.shared_rec.specs.Record.{count_in, owner_in}
+use Rattle.shared_rec.proofs.Records.{bin-stays, fun-stays, record-counted, record-stays, role-idle}
+use Rattle.off_heap_list.specs.Links.{IsLink, Links, named, naming}
+use Rattle.off_heap_list.proofs.Chained.{idle-kept, idle-kept-back, kept-then, leads-stays, link-stays, naming-stays, record-inside}
+use Rattle.record_move.specs.Tables.{OwnersRise}
+use Rattle.two_halves.specs.Halves.{HalvesStand, IsBinOf, IsFunOf, ProcsStand, end_of, front_of}
+use Rattle.two_halves.specs.Adding.{Gets, Nearly}
+use Rattle.two_halves.specs.declared.halves.Halves.{Halves}
+use Rattle.two_halves.proofs.Adding.{filled}
+use Rattle.two_halves.proofs.Joining.{procs-on, record-above, record-first, rise-same}
+
+-- The record at the place is that of the binary with this serial.
+abbrev IsBinRecordOf : (ℕ → ℕ → Bool) → List ℕ → List (List ℕ) → (v serial : ℕ) → Type 0
+IsBinRecordOf c mem shared v serial = IsBinRecord c mem v serial (shared_bytes shared serial)
+
+module _ (named_below : ℕ) (h : Halves) (shared : List (List ℕ)) (qs : List Process) (v : ℕ) (y : Nearly named_below h shared qs v) (front : front_of h ≤ h.top) (k : ℕ) (six : 6 ≤ k) (fits : h.top + k ≤ h.low)
+    (room room2 : Room) (top_is : room.top ≡ h.top) (mem3 : List ℕ) (uses : Uses k room room2 h.mem mem3) (e : ℕ → ℕ → Bool) (grows : GrowsLink y.test e h.top k h.mem mem3)
+    (link : IsLink e mem3 h.top) (names : named mem3 h.top ≡ v) where
+  single3 : IsSingle e
+  single3 = grows.single y.single
+
+  other : (a : ℕ) → (a < h.top) ⊎ (h.top + k ≤ a) → get_or mem3 a 0 ≡ get_or h.mem a 0
+  other a (inl low) = uses.others a (inl (omega (arith, low, top_is)))
+  other a (inr high) = uses.others a (inr (omega (arith, high, top_is)))
+
+  aside : (a j : ℕ) → y.test a j ≡ true → (a < h.top) ⊎ (h.top + k ≤ a)
+  aside a j t = elim (y.lie a j t) [ inl o ↦ inl o.1.0 | inr r ↦ inr (omega (arith, r.0, fits)) ]
+
+  kept3 : Kept y.test e h.mem mem3
+  kept3 = record { longer = omega (arith, uses.same_len); weaker = grows.more; same = λ a j content t. other a (aside a j t) }
+
+  above3 : (a j : ℕ) → h.low ≤ a → e a j ≡ true → y.test a j ≡ true
+  above3 a j above t = elim (grows.within a j t) [ inl old ↦ old | inr inside ↦ absurd (omega (arith, above, inside, fits)) ]
+
+  lie3 : (a j : ℕ) → e a j ≡ true → ((front_of h ≤ a) × ((a < h.top + k) × OfObject j)) ⊎ ((h.low ≤ a) × ((a < end_of h) × OfRecord j))
+  lie3 a j t = elim (grows.within a j t) [
+    | inl old ↦ (elim (y.lie a j old) [ inl o ↦ inl (o.0, (omega (arith, o.1.0), o.1.1)) | inr r ↦ inr r ])
+    | inr inside ↦ (elim (grows.objects a j t) [
+      | inl old ↦ (elim (y.lie a j old) [ inl o ↦ inl (o.0, (omega (arith, o.1.0), o.1.1)) | inr r ↦ inr r ])
+      | inr of ↦ inl (omega (arith, inside, front), (inside.1, of))
+    ])
+  ]
+  -- A record that stands now stood before, above the free words.
+  record-low : (u m : ℕ) → IsRecord e mem3 u m → h.low ≤ u
+  record-low u m r = elim (grows.objects u RECORD_FIRST (record-first e mem3 u m r)) [
+    | inl old ↦ elim (y.lie u RECORD_FIRST old) [
+      | inl o ↦ absurd (elim o.1.1 [ inl c ↦ omega (arith, c) | inr c ↦ omega (arith, c) ])
+      | inr above ↦ above.0
+    ]
+    | inr of ↦ absurd (elim of [ inl c ↦ omega (arith, c) | inr c ↦ omega (arith, c) ])
+  ]
+
+  record-old : (u m : ℕ) → IsRecord e mem3 u m → IsRecord y.test h.mem u m
+  record-old u m r =
+      record-above y.test e h.mem mem3 h.low uses.same_len above3 (λ a j past big t. sym (other a (inr (omega (arith, past, fits))))) u m (record-low u m r) r
+
+  links3 : Links e mem3 h.head y.chained []
+  links3 = record {
+    chain = leads-stays h.mem mem3 h.head y.chained 0 (λ p i. other (p + 2) (inl (omega (arith, y.inside p i)))) y.links.chain;
+    once = y.links.once;
+    each = λ p i. link-stays y.test e h.mem mem3 p kept3 (y.links.each p i);
+    beside = λ p i. absurd i;
+    counts = λ u m r. omega (
+      arith,
+      other (u + 2) (inr (omega (arith, record-low u m r, fits))),
+      y.links.counts u m (record-old u m r),
+      naming-stays y.test e h.mem mem3 u y.chained kept3 y.links.each,
+    );
+  }
+
+  fresh : In h.top y.chained → ⊥
+  fresh i = omega (arith, y.inside h.top i)
+
+  there : IsRecord e mem3 v link.words
+  there = let P : ℕ → Type 0 = λ z. IsRecord e mem3 z link.words in subst P names link.record_is
+
+  module _ (mem4 : List ℕ) (written : mem4 ≡ set (set mem3 (v + 2) (get_or mem3 (v + 2) 0 + 1)) (h.top + 2) h.head) (links4 : Links e mem4 h.top (h.top ∷ y.chained) []) where
+    count-idle : (k2 : ℕ) → 3 ≤ k2 → e (v + 2) k2 ≡ true → ⊥
+    count-idle k2 big t = role-idle e (v + 2) COUNT single3 (record-counted e mem3 v link.words there) (omega arith) k2 big t
+
+    next-idle : (k2 : ℕ) → 3 ≤ k2 → e (h.top + 2) k2 ≡ true → ⊥
+    next-idle k2 big t = role-idle e (h.top + 2) NEXT single3 link.next (omega arith) k2 big t
+
+    abbrev mid : List ℕ
+    mid = set mem3 (v + 2) (get_or mem3 (v + 2) 0 + 1)
+
+    kept4 : Kept e e mem3 mem4
+    kept4 =
+        let P : List ℕ → Type 0 = λ z. Kept e e mem3 z in
+        subst P (sym written) (kept-then e mem3 mid (set mid (h.top + 2) h.head) (idle-kept e mem3 (v + 2) (get_or mem3 (v + 2) 0 + 1) count-idle) (idle-kept e mid (h.top + 2) h.head next-idle))
+
+    back4 : Kept e e mem4 mem3
+    back4 =
+        let P : List ℕ → Type 0 = λ z. Kept e e z mem3 in
+        subst P (sym written) (kept-then e (set mid (h.top + 2) h.head) mid mem3 (idle-kept-back e mid (h.top + 2) h.head next-idle) (idle-kept-back e mem3 (v + 2) (get_or mem3 (v + 2) 0 + 1) count-idle))
+
+    len4 : length mem4 ≡ length h.mem
+    len4 = ap length written ∙ length-set mid (h.top + 2) h.head ∙ length-set mem3 (v + 2) (get_or mem3 (v + 2) 0 + 1) ∙ uses.same_len
+
+    far : (q : ℕ) → (q ≡ v + 2 → ⊥) → (q ≡ h.top + 2 → ⊥) → get_or mem4 q 0 ≡ get_or mem3 q 0
+    far q one two =
+        let P : List ℕ → Type 0 = λ z. get_or z q 0 ≡ get_or mem3 q 0 in
+        subst P (sym written) (get_or-set_other mid (h.top + 2) q h.head 0 two ∙ get_or-set_other mem3 (v + 2) q (get_or mem3 (v + 2) 0 + 1) 0 one)
+
+    here : get_or mem4 (v + 2) 0 ≡ get_or mem3 (v + 2) 0 + 1
+    here =
+        let P : List ℕ → Type 0 = λ z. get_or z (v + 2) 0 ≡ get_or mem3 (v + 2) 0 + 1 in
+        subst P (sym written) (get_or-set_other mid (h.top + 2) (v + 2) h.head 0 (λ c. omega (arith, c, record-low v link.words there, fits, six))
+        ∙ get_or-set_at mem3 (v + 2) (v + 2) (get_or mem3 (v + 2) 0 + 1) 0 refl (omega (arith, record-inside e mem3 v link.words there)))
+
+    counted4 : (u m : ℕ) → IsRecord e mem4 u m → 1 ≤ count_in mem4 u
+    counted4 u m r =
+        let before : IsRecord e mem3 u m = record-stays e e mem4 mem3 u m back4 r in
+        let above : h.low ≤ u = record-low u m before in
+        elim (one-or-not u v) [
+          | inl c ↦ (let P : ℕ → Type 0 = λ z. 1 ≤ count_in mem4 z in subst P (sym c) (omega (arith, here)))
+          | inr n ↦ omega (
+            arith,
+            far (u + 2) (λ c. n (omega (arith, c))) (λ c. omega (arith, c, above, fits, six)),
+            other (u + 2) (inr (omega (arith, above, fits))),
+            y.counted u m (record-old u m before) n,
+          )
+        ]
+
+    -- Words of tables' records are the same.
+    owner4 : (u : ℕ) → y.test (u + 1) RECORD ≡ true → owner_in mem4 u ≡ owner_in h.mem u
+    owner4 u t = kept4.same (u + 1) RECORD (omega arith) (grows.more (u + 1) RECORD t) ∙ kept3.same (u + 1) RECORD (omega arith) t
+
+    bin4 : (u : ℕ) → In u h.bins.items → IsBinOf e mem4 shared u
+    bin4 u i =
+        let old = y.each_bin u i in
+        let same : owner_in mem4 u ≡ owner_in h.mem u = owner4 u old.is.second in
+        let Q : ℕ → Type 0 = λ z. (1 ≤ z) × ((z ≤ length shared) × IsBinRecordOf e mem4 shared u z) in
+        let all = subst Q (sym same) (old.from_one, (old.known, bin-stays e e mem3 mem4 u _ _ kept4 (bin-stays y.test e h.mem mem3 u _ _ kept3 old.is))) in
+        record { from_one = all.0; known = all.1.0; is = all.1.1 }
+
+    fun4 : (u : ℕ) → In u h.funs.items → IsFunOf e mem4 u
+    fun4 u i =
+        let old = y.each_fun u i in
+        record { name = old.name; arity = old.arity; is = fun-stays e e mem3 mem4 u old.name old.arity kept4 (fun-stays y.test e h.mem mem3 u old.name old.arity kept3 old.is) }
+
+    trees4 : (w : ℕ) (t : Tree) → Stands y.test shared h.mem w t → Stands e shared mem4 w t
+    trees4 w t s = (frame e e mem3 mem4 kept4).each shared w t (grows.kept.each shared w t s)
+
+    same4 : (q : ℕ) → h.low ≤ q → q < end_of h → ((j : ℕ) → y.test q j ≡ true → ⊥) → get_or mem4 q 0 ≡ get_or h.mem q 0
+    same4 q above below none =
+        far q (λ c. none COUNT (above3 q COUNT above (let P : ℕ → Type 0 = λ z. e z COUNT ≡ true in subst P (sym c) (record-counted e mem3 v link.words there))))
+        (λ c. omega (arith, c, above, fits, six))
+        ∙ other q (inr (omega (arith, above, fits)))
+
+    processes4 : ProcsStand e shared mem4 h.low (end_of h) named_below h.procs.items qs
+    processes4 = procs-on y.test e shared shared h.mem mem4 named_below h.low h.low (end_of h) trees4 same4 (λ q j above below none t. none j (above3 q j above t)) (omega arith) h.procs.items qs y.processes
+
+    every4 : (p : ℕ) → e (p + 2) NEXT ≡ true → In p (h.top ∷ y.chained)
+    every4 p t = elim (grows.next (p + 2) t) [ inl old ↦ inr (y.every p old) | inr c ↦ inl (omega (arith, c)) ]
+
+    inside4 : (p : ℕ) → In p (h.top ∷ y.chained) → p + 6 ≤ h.top + k
+    inside4 p (inl c) = omega (arith, c, six)
+    inside4 p (inr i) = omega (arith, y.inside p i)
+
+    limit4 : end_of h ≡ h.base + length mem4 / 2
+    limit4 = omega (arith, len4)
+
+    abbrev pub linked : Halves
+    linked = filled h mem4 (h.top + k) h.low h.top (h.linked + 1) h.bins h.funs
+
+    pub stands4 : HalvesStand named_below linked shared qs
+    stands4 =
+        let L : ℕ → Type 0 = λ z. (a j : ℕ) → e a j ≡ true → ((front_of h ≤ a) × ((a < h.top + k) × OfObject j)) ⊎ ((h.low ≤ a) × ((a < z) × OfRecord j)) in
+        let P : ℕ → Type 0 = λ z. ProcsStand e shared mem4 h.low z named_below h.procs.items qs in
+        record {
+          test = e;
+          single = single3;
+          lie = subst L limit4 lie3;
+          chained = h.top ∷ y.chained;
+          linked = omega (arith, y.linked);
+          links = links4;
+          inside = inside4;
+          every = every4;
+          records = record {
+            all = λ u m r. y.all u m (record-old u m (record-stays e e mem4 mem3 u m back4 r));
+            once = y.once;
+            each_bin = bin4;
+            each_fun = fun4;
+            serials = rise-same h.mem mem4 h.bins.items (λ u i. owner4 u (y.each_bin u i).is.second) y.serials;
+            codes = rise-same h.mem mem4 h.funs.items (λ u i. owner4 u (y.each_fun u i).is.second) y.codes;
+            counted = counted4;
+          };
+          processes = subst P limit4 processes4;
+        }
+
+    pub gets : (w : ℕ) (t : Tree) → Stands e shared mem3 w t → Gets named_below linked shared qs w t
+    gets w t s = record { stands = stands4; made = (frame e e mem3 mem4 kept4).each shared w t s }
