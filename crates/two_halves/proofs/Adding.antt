@@ -308,7 +308,7 @@ last-at : (xs : List (List ℕ)) (b : List ℕ) → get_or (xs ++ b ∷ []) (len
 last-at [] b = refl
 last-at (x ∷ xs) b = last-at xs b
 
-last-bytes : (shared : List (List ℕ)) (b : List ℕ) (n : ℕ) → n ≡ length shared + 1 → shared_bytes (shared ++ b ∷ []) n ≡ b
+pub last-bytes : (shared : List (List ℕ)) (b : List ℕ) (n : ℕ) → n ≡ length shared + 1 → shared_bytes (shared ++ b ∷ []) n ≡ b
 last-bytes shared b n e =
     let same : suc (length shared) ≡ n = omega (arith, e) in
     let P : ℕ → Type 0 = λ z. shared_bytes (shared ++ b ∷ []) z ≡ b in

@@ -1,43 +1,49 @@
 -- An object that names a record comes into a half and its chain.
-use Rattle.std.proofs.Common.{Vec, ◌≡◌, ℕ, ◌+◌, ◌-◌, ◌*◌, ◌/◌, ◌%◌, ◌<◌, ◌≤◌, ◌⊎◌, Bool, true, List, [], ◌∷◌, ◌++◌, length, get_or, set, refl, sym, ◌∙◌, ap, subst, arith, inl, inr, length-set, get_or-set_other}
+use Rattle.std.proofs.Common.{Vec, ◌==◌, if◌then◌else◌, ◌≡◌, ℕ, ◌+◌, ◌-◌, ◌*◌, ◌/◌, ◌%◌, ◌<◌, ◌≤◌, ◌⊎◌, Bool, true, List, [], ◌∷◌, ◌++◌, length, get_or, set, refl, sym, ◌∙◌, ap, subst, arith, inl, inr, length-set, get_or-set_other}
 use Rattle.std.proofs.lemmas.Grind.{get_or-set_at}
 use Rattle.word_mem.specs.declared.ranges.Room.{Room}
 use Rattle.plain_term.specs.Bytes.{shared_bytes}
 use Rattle.plain_term.specs.Tree.{Tree}
+use Rattle.plain_term.specs.Tree.Tree.{Shared}
+use Rattle.term_tags.specs.Words.{boxed_word, head_word}
+use Rattle.term_tags.specs.declared.layouts.TheConstants.{HOLDER}
 use Rattle.plain_machine.specs.State.{Process}
 use Rattle.term_words.specs.Role.{COUNT, NEXT, NAMES, RECORD, RECORD_FIRST, IsSingle, OfObject, OfRecord}
 use Rattle.term_words.specs.Object.{IsBinRecord, IsRecord}
 use Rattle.term_words.specs.Stands.{Stands}
 use Rattle.term_words.specs.Kept.{Kept, Keeps}
-use Rattle.term_words.specs.Counted.{In, Distinct}
+use Rattle.term_words.specs.Counted.{In, Distinct, total}
 use Rattle.term_words.proofs.Frames.{frame}
 use Rattle.term_words.proofs.Members.{in-both, in-left, in-right, one-or-not}
 use Rattle.term_build.specs.Clear.{Uses}
-use Rattle.term_build.specs.Grows.{GrowsLink}
+use Rattle.term_build.specs.Grows.{BuiltLink, GrowsLink}
+use Rattle.term_build.specs.Parts.{IsNamed}
+use Rattle.term_build.specs.Taken.{IsFree, Lie}
 use Rattle.shared_rec.specs.Record.{count_in, owner_in}
 use Rattle.shared_rec.proofs.Records.{bin-stays, fun-stays, record-counted, record-stays, role-idle}
 use Rattle.off_heap_list.specs.Links.{IsLink, Links, named, naming}
-use Rattle.off_heap_list.proofs.Chained.{idle-kept, idle-kept-back, kept-then, leads-stays, link-stays, naming-stays, record-inside}
+use Rattle.off_heap_list.proofs.Chained.{holder-link, idle-kept, idle-kept-back, kept-then, leads-stays, link-stays, naming-stays, record-inside}
+use Rattle.record_move.specs.Copies.{record_words}
 use Rattle.record_move.specs.Tables.{OwnersRise}
-use Rattle.two_halves.specs.Halves.{HalvesStand, IsBinOf, IsFunOf, ProcsStand, end_of, front_of}
+use Rattle.two_halves.specs.Halves.{HalvesStand, IsBinOf, IsFunOf, IsLaid, ProcsStand, end_of, front_of}
 use Rattle.two_halves.specs.Adding.{Gets, Nearly}
 use Rattle.two_halves.specs.declared.halves.Halves.{Halves}
 use Rattle.two_halves.proofs.Adding.{filled}
-use Rattle.two_halves.proofs.Joining.{procs-on, record-above, record-first, rise-same}
+use Rattle.two_halves.proofs.Joining.{procs-on, record-above, record-first, rise-same, total-same}
 
 -- The record at the place is that of the binary with this serial.
 abbrev IsBinRecordOf : (ℕ → ℕ → Bool) → List ℕ → List (List ℕ) → (v serial : ℕ) → Type 0
 IsBinRecordOf c mem shared v serial = IsBinRecord c mem v serial (shared_bytes shared serial)
 
-module _ (named_below : ℕ) (h : Halves) (shared : List (List ℕ)) (qs : List Process) (v : ℕ) (y : Nearly named_below h shared qs v) (front : front_of h ≤ h.top) (k : ℕ) (six : 6 ≤ k) (fits : h.top + k ≤ h.low)
-    (room room2 : Room) (top_is : room.top ≡ h.top) (mem3 : List ℕ) (uses : Uses k room room2 h.mem mem3) (e : ℕ → ℕ → Bool) (grows : GrowsLink y.test e h.top k h.mem mem3)
+module _ (named_below : ℕ) (h : Halves) (shared : List (List ℕ)) (qs : List Process) (v : ℕ) (y : Nearly named_below h shared qs v) (laid : IsLaid h) (k : ℕ) (six : 6 ≤ k) (fits : h.top + k ≤ h.low)
+    (room2 : Room) (mem3 : List ℕ) (uses : Uses k (record { start = h.base; top = h.top; end = h.low }) room2 h.mem mem3) (e : ℕ → ℕ → Bool) (grows : GrowsLink y.test e h.top k h.mem mem3)
     (link : IsLink e mem3 h.top) (names : named mem3 h.top ≡ v) where
   single3 : IsSingle e
   single3 = grows.single y.single
 
   other : (a : ℕ) → (a < h.top) ⊎ (h.top + k ≤ a) → get_or mem3 a 0 ≡ get_or h.mem a 0
-  other a (inl low) = uses.others a (inl (omega (arith, low, top_is)))
-  other a (inr high) = uses.others a (inr (omega (arith, high, top_is)))
+  other a (inl low) = uses.others a (inl low)
+  other a (inr high) = uses.others a (inr high)
 
   aside : (a j : ℕ) → y.test a j ≡ true → (a < h.top) ⊎ (h.top + k ≤ a)
   aside a j t = elim (y.lie a j t) [ inl o ↦ inl o.1.0 | inr r ↦ inr (omega (arith, r.0, fits)) ]
@@ -48,12 +54,12 @@ module _ (named_below : ℕ) (h : Halves) (shared : List (List ℕ)) (qs : List 
   above3 : (a j : ℕ) → h.low ≤ a → e a j ≡ true → y.test a j ≡ true
   above3 a j above t = elim (grows.within a j t) [ inl old ↦ old | inr inside ↦ absurd (omega (arith, above, inside, fits)) ]
 
-  lie3 : (a j : ℕ) → e a j ≡ true → ((front_of h ≤ a) × ((a < h.top + k) × OfObject j)) ⊎ ((h.low ≤ a) × ((a < end_of h) × OfRecord j))
+  lie3 : (a j : ℕ) → e a j ≡ true → ((front_of h ≤ a) × ((a < room2.top) × OfObject j)) ⊎ ((h.low ≤ a) × ((a < end_of h) × OfRecord j))
   lie3 a j t = elim (grows.within a j t) [
-    | inl old ↦ (elim (y.lie a j old) [ inl o ↦ inl (o.0, (omega (arith, o.1.0), o.1.1)) | inr r ↦ inr r ])
+    | inl old ↦ (elim (y.lie a j old) [ inl o ↦ inl (o.0, (omega (arith, o.1.0, uses.moved), o.1.1)) | inr r ↦ inr r ])
     | inr inside ↦ (elim (grows.objects a j t) [
-      | inl old ↦ (elim (y.lie a j old) [ inl o ↦ inl (o.0, (omega (arith, o.1.0), o.1.1)) | inr r ↦ inr r ])
-      | inr of ↦ inl (omega (arith, inside, front), (inside.1, of))
+      | inl old ↦ (elim (y.lie a j old) [ inl o ↦ inl (o.0, (omega (arith, o.1.0, uses.moved), o.1.1)) | inr r ↦ inr r ])
+      | inr of ↦ inl (omega (arith, inside, laid.front), (omega (arith, inside, uses.moved), of))
     ])
   ]
   -- A record that stands now stood before, above the free words.
@@ -90,7 +96,7 @@ module _ (named_below : ℕ) (h : Halves) (shared : List (List ℕ)) (qs : List 
   there : IsRecord e mem3 v link.words
   there = let P : ℕ → Type 0 = λ z. IsRecord e mem3 z link.words in subst P names link.record_is
 
-  module _ (mem4 : List ℕ) (written : mem4 ≡ set (set mem3 (v + 2) (get_or mem3 (v + 2) 0 + 1)) (h.top + 2) h.head) (links4 : Links e mem4 h.top (h.top ∷ y.chained) []) where
+  module _ (mem4 : List ℕ) (written : mem4 ≡ set (set mem3 (v + 2) (get_or mem3 (v + 2) 0 + 1)) (h.top + 2) h.head) (hd : ℕ) (links4 : Links e mem4 hd (h.top ∷ y.chained) []) where
     count-idle : (k2 : ℕ) → 3 ≤ k2 → e (v + 2) k2 ≡ true → ⊥
     count-idle k2 big t = role-idle e (v + 2) COUNT single3 (record-counted e mem3 v link.words there) (omega arith) k2 big t
 
@@ -170,19 +176,19 @@ module _ (named_below : ℕ) (h : Halves) (shared : List (List ℕ)) (qs : List 
     every4 : (p : ℕ) → e (p + 2) NEXT ≡ true → In p (h.top ∷ y.chained)
     every4 p t = elim (grows.next (p + 2) t) [ inl old ↦ inr (y.every p old) | inr c ↦ inl (omega (arith, c)) ]
 
-    inside4 : (p : ℕ) → In p (h.top ∷ y.chained) → p + 6 ≤ h.top + k
-    inside4 p (inl c) = omega (arith, c, six)
-    inside4 p (inr i) = omega (arith, y.inside p i)
+    inside4 : (p : ℕ) → In p (h.top ∷ y.chained) → p + 6 ≤ room2.top
+    inside4 p (inl c) = omega (arith, c, six, uses.moved)
+    inside4 p (inr i) = omega (arith, y.inside p i, uses.moved)
 
     limit4 : end_of h ≡ h.base + length mem4 / 2
     limit4 = omega (arith, len4)
 
     abbrev pub linked : Halves
-    linked = filled h mem4 (h.top + k) h.low h.top (h.linked + 1) h.bins h.funs
+    linked = filled h mem4 room2.top h.low hd (h.linked + 1) h.bins h.funs
 
     pub stands4 : HalvesStand named_below linked shared qs
     stands4 =
-        let L : ℕ → Type 0 = λ z. (a j : ℕ) → e a j ≡ true → ((front_of h ≤ a) × ((a < h.top + k) × OfObject j)) ⊎ ((h.low ≤ a) × ((a < z) × OfRecord j)) in
+        let L : ℕ → Type 0 = λ z. (a j : ℕ) → e a j ≡ true → ((front_of h ≤ a) × ((a < room2.top) × OfObject j)) ⊎ ((h.low ≤ a) × ((a < z) × OfRecord j)) in
         let P : ℕ → Type 0 = λ z. ProcsStand e shared mem4 h.low z named_below h.procs.items qs in
         record {
           test = e;
@@ -205,5 +211,76 @@ module _ (named_below : ℕ) (h : Halves) (shared : List (List ℕ)) (qs : List 
           processes = subst P limit4 processes4;
         }
 
+    word4 : (u : ℕ) → y.test u RECORD_FIRST ≡ true → record_words mem4 u ≡ record_words h.mem u
+    word4 u t = ap (λ z. z / 16) (kept4.same u RECORD_FIRST (omega arith) (grows.more u RECORD_FIRST t) ∙ kept3.same u RECORD_FIRST (omega arith) t)
+
+    first4 : (u : ℕ) → In u (h.bins.items ++ h.funs.items) → y.test u RECORD_FIRST ≡ true
+    first4 u i = elim (in-both u h.bins.items h.funs.items i) [ inl a ↦ (y.each_bin u a).is.first | inr b ↦ (y.each_fun u b).is.first ]
+
+    pub linked-laid : IsLaid linked
+    linked-laid = record {
+      even = omega (arith, len4, laid.even);
+      side = elim laid.side [ inl c ↦ inl c | inr c ↦ inr (omega (arith, c, len4)) ];
+      front = omega (arith, laid.front, uses.moved);
+      order = omega (arith, fits, uses.moved);
+      fits = omega (
+          arith,
+          laid.fits,
+          len4,
+          total-same (record_words mem4) (record_words h.mem) (h.bins.items ++ h.funs.items) (λ u i. word4 u (first4 u i)),
+      );
+    }
+
     pub gets : (w : ℕ) (t : Tree) → Stands e shared mem3 w t → Gets named_below linked shared qs w t
+    unfolding stands4
     gets w t s = record { stands = stands4; made = (frame e e mem3 mem4 kept4).each shared w t s }
+
+-- The word of a holder names its record.
+pub holder-named : (mem : List ℕ) (p len rec : ℕ) → Lie mem p (head_word HOLDER 5 ∷ len ∷ 0 ∷ rec ∷ 0 ∷ 0 ∷ []) → named mem p ≡ rec
+holder-named mem p len rec lie =
+    let P : ℕ → Type 0 = λ z. get_or mem (if z == head_word HOLDER 5 then p + 3 else p + 1) 0 ≡ rec in
+    subst P (sym (lie.each 0 p (omega arith) (omega arith))) (lie.each 3 (p + 3) (omega arith) refl)
+
+-- The holder of the binary in the record comes into the half.
+module _ (named_below : ℕ) (h : Halves) (shared : List (List ℕ)) (qs : List Process) (v serial : ℕ) (bytes : List ℕ) (y : Nearly named_below h shared qs v) (is : IsBinRecord y.test h.mem v serial bytes)
+    (some : 1 ≤ serial) (known : serial ≤ length shared) (bytes_are : shared_bytes shared serial ≡ bytes) (len : ℕ) (len_is : length bytes ≡ len) (laid : IsLaid h) (fits : h.top + 6 ≤ h.low)
+    (room2 : Room) (mem3 : List ℕ) (uses : Uses 6 (record { start = h.base; top = h.top; end = h.low }) room2 h.mem mem3) (w : ℕ) (place : w ≡ boxed_word h.top)
+    (lie : Lie mem3 h.top (head_word HOLDER 5 ∷ len ∷ 0 ∷ v ∷ 0 ∷ 0 ∷ []))
+    (built : (c : ℕ → ℕ → Bool) (other : List (List ℕ)) (id : ℕ) → IsFree c h.top (h.top + 6) → IsNamed c other h.mem v len id → BuiltLink c h.top 6 h.mem mem3 other w (Shared id)) where
+  free-there : IsFree y.test h.top (h.top + 6)
+  free-there a j t = elim (y.lie a j t) [ inl o ↦ inl o.1.0 | inr r ↦ inr (omega (arith, r.0, fits)) ]
+
+  is-named : IsNamed y.test shared h.mem v len serial
+  is-named =
+      let P : List ℕ → Type 0 = λ z. IsBinRecord y.test h.mem v serial z in
+      record { from_one = omega (arith, some); known = known; size = ap length bytes_are ∙ len_is; record_is = subst P (sym bytes_are) is }
+
+  pub new-holder : BuiltLink y.test h.top 6 h.mem mem3 shared w (Shared serial)
+  new-holder = built y.test shared serial free-there is-named
+
+  pub holder-there : IsLink new-holder.test mem3 h.top
+  holder-there =
+      let at : w / 4 ≡ h.top = omega (arith, place) in
+      let P : ℕ → Type 0 = λ z. IsLink new-holder.test mem3 z in
+      subst P at (holder-link new-holder.test shared mem3 w serial new-holder.made (omega (arith, at, laid.front)))
+
+  module _ (mem4 : List ℕ) (hd : ℕ) (written : mem4 ≡ set (set mem3 (named mem3 h.top + 2) (get_or mem3 (named mem3 h.top + 2) 0 + 1)) (h.top + 2) h.head)
+      (chained : (c : ℕ → ℕ → Bool) (os further : List ℕ) → IsSingle c → Links c mem3 h.head os further → IsLink c mem3 h.top → (In h.top os → ⊥) → Links c mem4 hd (h.top ∷ os) further) where
+    names : named mem3 h.top ≡ v
+    names = holder-named mem3 h.top len v lie
+
+    written-there : mem4 ≡ set (set mem3 (v + 2) (get_or mem3 (v + 2) 0 + 1)) (h.top + 2) h.head
+    written-there = let P : ℕ → Type 0 = λ z. mem4 ≡ set (set mem3 (z + 2) (get_or mem3 (z + 2) 0 + 1)) (h.top + 2) h.head in subst P names written
+
+    links-there : Links new-holder.test mem4 hd (h.top ∷ y.chained) []
+    links-there =
+        chained new-holder.test y.chained [] (single3 named_below h shared qs v y laid 6 (omega arith) fits room2 mem3 uses new-holder.test new-holder.grows holder-there names)
+        (links3 named_below h shared qs v y laid 6 (omega arith) fits room2 mem3 uses new-holder.test new-holder.grows holder-there names) holder-there
+        (fresh named_below h shared qs v y laid 6 (omega arith) fits room2 mem3 uses new-holder.test new-holder.grows holder-there names)
+
+    pub holder-gets : Gets named_below (filled h mem4 room2.top h.low hd (h.linked + 1) h.bins h.funs) shared qs w (Shared serial)
+    holder-gets =
+        gets named_below h shared qs v y laid 6 (omega arith) fits room2 mem3 uses new-holder.test new-holder.grows holder-there names mem4 written-there hd links-there w (Shared serial) new-holder.made
+
+    pub holder-laid : IsLaid (filled h mem4 room2.top h.low hd (h.linked + 1) h.bins h.funs)
+    holder-laid = linked-laid named_below h shared qs v y laid 6 (omega arith) fits room2 mem3 uses new-holder.test new-holder.grows holder-there names mem4 written-there hd links-there

@@ -18,6 +18,14 @@ pub record Gets (named : ℕ) (h : Halves) (shared : List (List ℕ)) (qs : List
   pub stands : HalvesStand named h shared qs
   pub made : Stands stands.test shared h.mem w t
 
+-- The half stands for some processes, and this is the number of the next shared binary.
+pub record IsNext (h : Halves) (serial : ℕ) : Type 0 where
+  pub named : ℕ
+  pub shared : List (List ℕ)
+  pub processes : List Process
+  pub stands : HalvesStand named h shared processes
+  pub last : serial ≡ length shared + 1
+
 -- What else stays where something comes into a half: the processes with their roots, the size of the memory, which half is in
 -- use, the capacity of the tables, and how many collections were made.
 pub record Adds (old new : Halves) : Type 0 where

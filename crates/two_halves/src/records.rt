@@ -9,8 +9,8 @@ ghost use Rattle.term_tags.specs.declared.kinds.TheConstants.{ATOMS, PIDS};
 ghost use Rattle.term_tags.specs.declared.layouts.TheConstants.{MOST_ENV};
 ghost use Rattle.term_words.specs.Stands.{AllStand};
 ghost use Rattle.shared_rec.specs.Record.{count_in};
-ghost use Rattle.two_halves.specs.Halves.{HalvesStand, IsLaid, Standing, free_in};
-ghost use Rattle.two_halves.specs.Adding.{Adds, Gets, HasBin};
+ghost use Rattle.two_halves.specs.Halves.{HalvesStand, IsLaid, free_in};
+ghost use Rattle.two_halves.specs.Adding.{Adds, Gets, HasBin, IsNext};
 
 use crate::halves::Halves;
 use off_heap_list::chain;
@@ -22,13 +22,14 @@ impl Halves {
     /// Makes a binary of `len` bytes that are all `byte`: a record with this serial, which is the next one, and a holder.
     pub fn add_bin(&mut self, serial: u64, len: u64, byte: u8) -> u64
         requires laid { IsLaid self.old }
-        requires standing { Standing self.old }
+        requires next { IsNext self.old serial }
         requires words { 10 + bin_words len ≤ free_in self.old }
         requires table { vec_len self.old.bins < vec_capacity self.old.bins }
         ensures adds { Adds self.old self.new }
         ensures gets { (named : ℕ) (shared : List (List ℕ)) (qs : List Process) → HalvesStand named self.old shared qs → serial ≡ length shared + 1
             → Gets named self.new (shared ++ replicate len byte ∷ []) qs result (Shared serial) }
     {
+        let _len = self.mem.len();
         let at = self.put_bin(serial, len, byte);
         let mut room = self.room();
         let object = room.top;
@@ -42,7 +43,7 @@ impl Halves {
     // Puts the record of a binary of equal bytes below all places and records.
     fn put_bin(&mut self, serial: u64, len: u64, byte: u8) -> u64
         requires laid { IsLaid self.old }
-        requires standing { Standing self.old }
+        requires next { IsNext self.old serial }
         requires words { 10 + bin_words len ≤ free_in self.old }
         requires table { vec_len self.old.bins < vec_capacity self.old.bins }
         ensures adds { Adds self.old self.new }
@@ -50,6 +51,7 @@ impl Halves {
             → HasBin named self.new (shared ++ replicate len byte ∷ []) qs result serial (replicate len byte) }
         ensures top { self.new.top ≡ self.old.top }
         ensures low { self.new.low ≡ self.old.low - (4 + bin_words len) }
+        ensures linked { self.new.linked ≡ self.old.linked }
         ensures zero { count_in self.new.mem result ≡ 0 }
         ensures place { result ≡ self.new.low }
     {

@@ -6,7 +6,7 @@ use Rattle.term_words.specs.Stands.{Stands}
 use Rattle.term_print.specs.Left.{closing}
 use Rattle.term_print.specs.Going.{Begun}
 use Rattle.term_walk.proofs.Steps.{differs}
-use Rattle.term_print.proofs.Writing.{written-as}
+use Rattle.text_parts.proofs.Writing.{written-as}
 use Rattle.term_print.proofs.Going.{prints-gathered, prints-gathered-stops, keeps-room, prints-popped, prints-end, prints-end-stops, prints-part, prints-part-stops, part-asks, stops, begins-kept, level-counts, level-gathers, levels-grow}
 use Rattle.term_print.proofs.printing.print_left.Goals as goal
 

@@ -22,7 +22,7 @@ returns-clause-adds c =
     let at : ℕ = c.args.self.now.low - (4 + (c.args.len + 7) / 8) in
     let w = bin-written c.args.self.now.mem c.write_bin.new.mem c.fill.new.mem at c.args.serial c.args.len c.args.byte _ c.write_bin.ensures.writes c.write_bin.ensures.words c.write_bin.ensures.made
     c.fill.ensures.writes c.fill.ensures.made in
-    bin-adds c.requires.standing.named c.args.self.now c.requires.standing.shared c.requires.standing.processes c.requires.standing.stands c.requires.laid c.args.len c.args.byte at c.args.serial
+    bin-adds c.requires.next.named c.args.self.now c.requires.next.shared c.requires.next.processes c.requires.next.stands c.requires.laid c.args.len c.args.byte at c.args.serial
     (omega (arith, c.requires.words)) (omega (arith, c.requires.words)) c.fill.new.mem w c.push_reserved.new.self c.push_reserved.ensures.items c.push_reserved.ensures.capacity
 
 pub returns-clause-has : goal.returns-clause-has

@@ -1,0 +1,105 @@
+use Rattle.std.proofs.Common.{◌≡◌, ℕ, ◌+◌, ◌-◌, ◌/◌, ◌<◌, Bool, List, [], ◌∷◌, ◌++◌, get_or, set, replicate, length, refl, sym, ◌∙◌, ap, subst, arith, inr}
+use Rattle.std.proofs.lemmas.List.{length-append, length-replicate, length-set}
+use Rattle.word_mem.specs.declared.ranges.Room.{Room}
+use Rattle.plain_term.specs.Tree.Tree.{Shared}
+use Rattle.term_tags.specs.Words.{head_word}
+use Rattle.term_tags.specs.declared.layouts.TheConstants.{HOLDER}
+use Rattle.term_words.specs.Role.{IsSingle}
+use Rattle.term_words.specs.Counted.{In}
+use Rattle.term_build.specs.Clear.{Uses}
+use Rattle.term_build.specs.Grows.{BuiltLink}
+use Rattle.term_build.specs.Parts.{IsNamed}
+use Rattle.term_build.specs.Taken.{IsFree, Lie}
+use Rattle.shared_rec.specs.Record.{count_in}
+use Rattle.off_heap_list.specs.Links.{IsLink, Links}
+use Rattle.off_heap_list.specs.Links.{named as named_at}
+use Rattle.off_heap_list.proofs.Tallied.{few-links}
+use Rattle.two_halves.specs.Adding.{HasBin}
+use Rattle.two_halves.specs.declared.halves.Halves.{Halves}
+use Rattle.two_halves.proofs.Adding.{last-bytes}
+use Rattle.two_halves.proofs.Linking.{holder-gets, holder-laid, holder-named}
+use Rattle.two_halves.proofs.halves.Halves.add_bin.Goals as goal
+
+pub chain-self-requires-clause-of_record : goal.chain-self-requires-clause-of_record
+chain-self-requires-clause-of_record c =
+    omega (
+      arith,
+      holder-named c.holder-w.new.mem c.room-room.result.top c.args.len c.put_bin-at.result c.holder-w.ensures.words,
+      c.put_bin-at.ensures.place,
+      c.put_bin-at.ensures.low,
+      c.put_bin-at.ensures.adds.same_len,
+      c.holder-w.ensures.uses.same_len,
+      c.requires.words,
+      c.requires.laid.fits,
+      c.requires.laid.side,
+      c.requires.laid.even,
+    )
+
+pub chain-self-requires-clause-count : goal.chain-self-requires-clause-count
+chain-self-requires-clause-count c =
+    let top : c.room-room.result.top ≡ c.put_bin-at.new.self.top = ap (λ z. z.top) c.room-room.ensures in
+    let P : ℕ → Type 0 = λ z. count_in c.holder-w.new.mem z < 16777216 in
+    let same : count_in c.holder-w.new.mem c.put_bin-at.result ≡ count_in c.put_bin-at.new.self.mem c.put_bin-at.result =
+    c.holder-w.ensures.uses.others (c.put_bin-at.result + 2) (inr (omega (arith, top, c.put_bin-at.ensures.place, c.put_bin-at.ensures.low, c.put_bin-at.ensures.top, c.requires.words))) in
+    subst P (sym (holder-named c.holder-w.new.mem c.room-room.result.top c.args.len c.put_bin-at.result c.holder-w.ensures.words)) (omega (arith, same, c.put_bin-at.ensures.zero))
+
+pub overflow_add-self : goal.overflow_add-self
+overflow_add-self c =
+    let x = c.requires.next.stands in
+    omega (arith, few-links x.test c.args.self.now.mem x.chained x.links.once x.links.each, c.len-len.ensures.most, x.linked, c.put_bin-at.ensures.linked)
+
+pub returns-clause-gets : goal.returns-clause-gets
+returns-clause-gets c = λ named shared qs x last.
+    let h : Halves = c.put_bin-at.new.self in
+    let at : ℕ = c.put_bin-at.result in
+    let mem3 : List ℕ = c.holder-w.new.mem in
+    let bytes : List ℕ = replicate c.args.len c.args.byte in
+    let more : List (List ℕ) = shared ++ bytes ∷ [] in
+    let hb : HasBin named h more qs at c.args.serial bytes = c.put_bin-at.ensures.has named shared qs x last in
+    let top : c.room-room.result.top ≡ h.top = ap (λ z. z.top) c.room-room.ensures in
+    let U : Room → Type 0 = λ z. Uses 6 z c.holder-w.new.room h.mem mem3 in
+    let V : Room → Type 0 = λ z. (k : ℕ → ℕ → Bool) (other : List (List ℕ)) (id : ℕ) → IsFree k z.top (z.top + 6) → IsNamed k other h.mem at c.args.len id
+    → BuiltLink k z.top 6 h.mem mem3 other c.holder-w.result (Shared id) in
+    let L : ℕ → Type 0 = λ z. Lie mem3 z (head_word HOLDER 5 ∷ c.args.len ∷ 0 ∷ at ∷ 0 ∷ 0 ∷ []) in
+    let W : ℕ → Type 0 = λ z. c.chain-self.new.mem ≡ set (set mem3 (named_at mem3 z + 2) (get_or mem3 (named_at mem3 z + 2) 0 + 1)) (z + 2) h.head in
+    let C : ℕ → Type 0 = λ z. (k : ℕ → ℕ → Bool) (os further : List ℕ) → IsSingle k → Links k mem3 h.head os further → IsLink k mem3 z → (In z os → ⊥)
+    → Links k c.chain-self.new.mem c.chain-self.result (z ∷ os) further in
+    holder-gets named h more qs at c.args.serial bytes hb.near hb.is (omega (arith, last)) (omega (arith, last, length-append shared (bytes ∷ [])))
+    (last-bytes shared bytes c.args.serial last) c.args.len (length-replicate {A = ℕ} c.args.len c.args.byte) c.put_bin-at.ensures.adds.laid (omega (arith, c.requires.words, c.put_bin-at.ensures.top, c.put_bin-at.ensures.low))
+    c.holder-w.new.room mem3 (subst U c.room-room.ensures c.holder-w.ensures.uses) c.holder-w.result (omega (arith, c.holder-w.ensures.place, top)) (subst L top c.holder-w.ensures.words)
+    (subst V c.room-room.ensures c.holder-w.ensures.built) c.chain-self.new.mem c.chain-self.result (subst W top c.chain-self.ensures.writes) (subst C top c.chain-self.ensures.links)
+
+pub returns-clause-adds : goal.returns-clause-adds
+returns-clause-adds c =
+    let named = c.requires.next.named in
+    let shared = c.requires.next.shared in
+    let qs = c.requires.next.processes in
+    let x = c.requires.next.stands in
+    let last = c.requires.next.last in
+    let h : Halves = c.put_bin-at.new.self in
+    let at : ℕ = c.put_bin-at.result in
+    let mem3 : List ℕ = c.holder-w.new.mem in
+    let bytes : List ℕ = replicate c.args.len c.args.byte in
+    let more : List (List ℕ) = shared ++ bytes ∷ [] in
+    let hb : HasBin named h more qs at c.args.serial bytes = c.put_bin-at.ensures.has named shared qs x last in
+    let top : c.room-room.result.top ≡ h.top = ap (λ z. z.top) c.room-room.ensures in
+    let U : Room → Type 0 = λ z. Uses 6 z c.holder-w.new.room h.mem mem3 in
+    let V : Room → Type 0 = λ z. (k : ℕ → ℕ → Bool) (other : List (List ℕ)) (id : ℕ) → IsFree k z.top (z.top + 6) → IsNamed k other h.mem at c.args.len id
+    → BuiltLink k z.top 6 h.mem mem3 other c.holder-w.result (Shared id) in
+    let L : ℕ → Type 0 = λ z. Lie mem3 z (head_word HOLDER 5 ∷ c.args.len ∷ 0 ∷ at ∷ 0 ∷ 0 ∷ []) in
+    let W : ℕ → Type 0 = λ z. c.chain-self.new.mem ≡ set (set mem3 (named_at mem3 z + 2) (get_or mem3 (named_at mem3 z + 2) 0 + 1)) (z + 2) h.head in
+    let C : ℕ → Type 0 = λ z. (k : ℕ → ℕ → Bool) (os further : List ℕ) → IsSingle k → Links k mem3 h.head os further → IsLink k mem3 z → (In z os → ⊥)
+    → Links k c.chain-self.new.mem c.chain-self.result (z ∷ os) further in
+    let a = c.put_bin-at.ensures.adds in
+    record {
+      laid = holder-laid named h more qs at c.args.serial bytes hb.near hb.is (omega (arith, last)) (omega (arith, last, length-append shared (bytes ∷ [])))
+      (last-bytes shared bytes c.args.serial last) c.args.len (length-replicate {A = ℕ} c.args.len c.args.byte) c.put_bin-at.ensures.adds.laid (omega (arith, c.requires.words, c.put_bin-at.ensures.top, c.put_bin-at.ensures.low))
+      c.holder-w.new.room mem3 (subst U c.room-room.ensures c.holder-w.ensures.uses) c.holder-w.result (omega (arith, c.holder-w.ensures.place, top)) (subst L top c.holder-w.ensures.words)
+      (subst V c.room-room.ensures c.holder-w.ensures.built) c.chain-self.new.mem c.chain-self.result (subst W top c.chain-self.ensures.writes) (subst C top c.chain-self.ensures.links);
+      same_len = ap length c.chain-self.ensures.writes ∙ length-set _ _ _ ∙ length-set _ _ _ ∙ c.holder-w.ensures.uses.same_len ∙ a.same_len;
+      base = a.base;
+      procs = a.procs;
+      bins = a.bins;
+      funs = a.funs;
+      sweeps = a.sweeps;
+    }
