@@ -1,0 +1,68 @@
+-- More names and shared binaries behind those that there are leave known trees as they are by name.
+use Rattle.std.proofs.Common.{◌≡◌, ℕ, zero, suc, ◌<◌, ◌≤◌, true, nat_lt, nat_le, List, [], ◌++◌, length, refl, ap, arith, ltb-true}
+use Rattle.std.proofs.lemmas.Bool.{and_parts, leb-true}
+use Rattle.std.proofs.lemmas.List.{get_or_append_left}
+use Rattle.plain_term.specs.Tree.{Tree, Trees, Pairs}
+use Rattle.plain_term.specs.Tree.Tree.{Int, Atom, Pid, Ref, Nil, Cons, Tuple, Map, Bin, Shared, Part, Fun}
+use Rattle.plain_term.specs.Tree.Trees.{end, ◌▹◌}
+use Rattle.plain_term.specs.Tree.Pairs.{stop, pair}
+use Rattle.plain_term.specs.Bytes.{shared_bytes}
+use Rattle.plain_term.specs.Order.{name_of}
+use Rattle.plain_term.specs.Proper.{is_proper, are_proper, are_proper_pairs}
+use Rattle.plain_machine.proofs.Growing.{cons-parts, all-parts, fun-parts, part-parts, map-parts, pairs-parts}
+use Rattle.named_trees.specs.NamedTree.{named, all_named, pairs_named, IsKnown, AreKnown, PairsKnown}
+use Rattle.named_trees.specs.NamedTree.{NamedTree as by_name}
+use Rattle.named_trees.specs.NamedTree.{NamedTrees as all_by_name}
+use Rattle.named_trees.specs.NamedTree.{NamedPairs as pairs_by_name}
+
+module _ (names more s extra : List (List ℕ)) where
+  id-grown : (id : ℕ) → id ≤ length s → shared_bytes (s ++ extra) id ≡ shared_bytes s id
+  id-grown zero h = refl
+  id-grown (suc k) h = get_or_append_left s extra [] k (omega (arith, h))
+
+  mutual
+    pub named-grown : (t : Tree) → IsKnown names s t → named (names ++ more) (s ++ extra) t ≡ named names s t
+    named-grown (Atom k) h = ap by_name.Atom (get_or_append_left names more [] k h)
+    named-grown (Cons a b) h = λ i. by_name.Cons (named-grown a h.0 i) (named-grown b h.1 i)
+    named-grown (Tuple ts) h = ap by_name.Tuple (all-grown ts h)
+    named-grown (Map ps) h = ap by_name.Map (pairs-grown ps h)
+    named-grown (Shared id) h = ap by_name.Shared (id-grown id h)
+    named-grown (Part base offset len) h = ap (λ z. by_name.Part z offset len) (named-grown base h)
+    named-grown (Fun f a c env) h = λ i. by_name.Fun (get_or_append_left names more [] f h.0 i) a c (all-grown env h.1 i)
+    named-grown (Int i) h = refl
+    named-grown (Pid n) h = refl
+    named-grown (Ref n k) h = refl
+    named-grown Nil h = refl
+    named-grown (Bin bytes) h = refl
+
+    pub all-grown : (ts : Trees) → AreKnown names s ts → all_named (names ++ more) (s ++ extra) ts ≡ all_named names s ts
+    all-grown end h = refl
+    all-grown (t ▹ ts) h = λ i. all_by_name.before (named-grown t h.0 i) (all-grown ts h.1 i)
+
+    pub pairs-grown : (ps : Pairs) → PairsKnown names s ps → pairs_named (names ++ more) (s ++ extra) ps ≡ pairs_named names s ps
+    pairs-grown stop h = refl
+    pairs-grown (pair k v ps) h = λ i. pairs_by_name.paired (named-grown k h.0 i) (named-grown v h.1 i) (pairs-grown ps h.2 i)
+
+module _ (names s : List (List ℕ)) where
+  mutual
+    pub proper-known : (t : Tree) → is_proper names s t ≡ true → IsKnown names s t
+    proper-known (Atom k) h = ltb-true k (length names) h
+    proper-known (Cons a b) h = let p = cons-parts names [] s [] a b h in (proper-known a p.0, proper-known b p.1)
+    proper-known (Tuple ts) h = all-known ts h
+    proper-known (Map ps) h = pairs-known ps (map-parts names [] s [] ps h).2
+    proper-known (Shared id) h = leb-true id (length s) (and_parts (nat_lt 0 id) (nat_le id (length s)) h).1
+    proper-known (Part base offset len) h = proper-known base (part-parts names [] s [] base offset len h).1
+    proper-known (Fun f a c env) h = let p = fun-parts names [] s [] f a c env h in (ltb-true f (length names) p.0, all-known env p.1)
+    proper-known (Int i) h = tt
+    proper-known (Pid n) h = tt
+    proper-known (Ref n k) h = tt
+    proper-known Nil h = tt
+    proper-known (Bin bytes) h = tt
+
+    pub all-known : (ts : Trees) → are_proper names s ts ≡ true → AreKnown names s ts
+    all-known end h = tt
+    all-known (t ▹ ts) h = let p = all-parts names [] s [] t ts h in (proper-known t p.0, all-known ts p.1)
+
+    pub pairs-known : (ps : Pairs) → are_proper_pairs names s ps ≡ true → PairsKnown names s ps
+    pairs-known stop h = tt
+    pairs-known (pair k v ps) h = let p = pairs-parts names [] s [] k v ps h in (proper-known k p.0, proper-known v p.2, pairs-known ps p.3)

@@ -1,0 +1,4 @@
+mod Seeing
+mod Growing
+mod Doing
+mod Making

@@ -1,0 +1,4 @@
+pub mod NamedTree
+pub mod Seen
+pub mod Doing
+pub mod Laws
