@@ -7,6 +7,6 @@ pub mod Chaining
 mod Whole
 mod Makes
 pub mod Steps
-mod Ending
+pub mod Ending
 pub mod Terms
 pub mod Written

@@ -4,7 +4,7 @@ ghost use Rattle.plain_term.specs.Tree.{Tree};
 ghost use Rattle.term_tags.specs.declared.layouts.TheConstants.{MOST_PARTS};
 ghost use Rattle.term_build.specs.Taken.{IsFree};
 ghost use Rattle.term_build.specs.Clear.{IsRoom};
-ghost use Rattle.item_build.specs.Reading.{IsWritten, bins_of, is_big, long_bins, outcome, own_words_of, read, words_of};
+ghost use Rattle.item_build.specs.Reading.{IsWritten, bins_of, far_words_of, is_big, long_bins, outcome, own_words_of, read, words_of};
 ghost use Rattle.item_build.specs.Building.{BinsStand, Builds, CanRead, HasHeld, HeldStand, Leaves, Reads, Spares, UsesSome};
 
 use crate::bins::{Making, holder_words, lay_bins};
@@ -47,6 +47,7 @@ pub fn build(
         → Builds c (shared ++ bins_of code.now) room.old room.new mem.old mem.new making.old making.new (long_bins code.now) result (outcome names.now shared trees code.now) }
     ensures leaves { Leaves room.old room.new mem.old mem.new }
     ensures few { room.new.top + room.old.end ≤ room.old.top + room.new.end + words_of code.now }
+    ensures back { OnOk result (room.new.end + far_words_of code.now ≡ room.old.end) }
     ensures serial { OnOk result (making.new.serial ≡ making.old.serial + long_bins code.now) }
     ensures stopped { OnErr result ((room.new ≡ room.old) × (making.new ≡ making.old)) }
     ensures row { length scratch.new ≡ length scratch.old }

@@ -88,3 +88,6 @@ returns-then-w-ne-WIDE-clause-few c =
       c.in-Some.ensures.uses.uses.moved,
       c.in-Some.ensures.uses.uses.same_end,
     )
+
+pub returns-then-w-ne-WIDE-clause-back : goal.returns-then-w-ne-WIDE-clause-back
+returns-then-w-ne-WIDE-clause-back c = omega (arith, c.lay_bins.ensures.back, c.in-Some.ensures.uses.uses.same_end)
