@@ -41,6 +41,13 @@ reply_lines (Told seat verb) x = outcome_text (step x.state (said (Process seat.
 reply_lines Quit x = codes "ok" ∷ []
 reply_lines (Refused e) x = refusal_text e ∷ []
 
+-- The reply is made without a look at the space.
+abbrev pub is_plain : Reply → Bool
+is_plain Numbers = false
+is_plain Counts = false
+is_plain (Told seat verb) = false
+is_plain _ = true
+
 -- A map of the store is one that its line may be answered by.
 abbrev pub AllowsMap : Reply → Shown → Type 0
 AllowsMap Counts x = IsMapOf (System CountsVerb) x.state (x.text (System CountsVerb))

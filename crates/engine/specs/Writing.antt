@@ -8,10 +8,10 @@ use Rattle.plain_machine.specs.Run.{refusal_text}
 abbrev pub end_of_line : List ℕ → List ℕ
 end_of_line text = text ++ 10 ∷ []
 
--- The words that a refusal is answered by, its number aside.
-abbrev pub refusal_words : Refusal → List ℕ
-refusal_words (NoSpace n) = codes "error nospace "
-refusal_words r = refusal_text r
+-- The line that a refusal is answered by, up to its number where it has one.
+abbrev pub refusal_front : Refusal → List ℕ
+refusal_front (NoSpace n) = codes "error nospace "
+refusal_front r = end_of_line (refusal_text r)
 
 -- The numbers from the first above `last` on.
 abbrev pub above : ℕ → List ℕ → List ℕ

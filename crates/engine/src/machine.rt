@@ -14,7 +14,7 @@ ghost use Rattle.engine.specs.Acts.{StandsWith, Takes};
 ghost use Rattle.engine.specs.Steps.{StepWrites, Steps, TellsQuit};
 
 use crate::act::act;
-use crate::reply::{Reply, put_reply};
+use crate::reply::{Reply, is_constant, put_plain, put_reply};
 use atom_names::AtomNames;
 use line_io::{Gathered, Sink, SinkFault};
 use plain_machine::Refusal;
@@ -63,7 +63,7 @@ fn take_line<S: Space>(space: &mut S, names: &mut AtomNames, code: &mut Code, li
     }
 }
 
-/// Writes the lines of a reply in one piece.
+/// Writes the lines of a reply in one piece. A constant text needs no gathering.
 fn send<S: Space, K: Sink>(
     space: &S,
     names: &AtomNames,
@@ -77,6 +77,9 @@ fn send<S: Space, K: Sink>(
     ensures allowed { (s : State) → S.stands space.now s → names.now ≡ s.names
         → AllowsMap reply (record { state = s; names = names.now; text = S.text space.now names.now }) }
 {
+    if is_constant(reply) {
+        return put_plain(reply, sink);
+    }
     let mut gathered = Gathered::new(sink);
     put_reply(space, names, reply, &mut gathered)?;
     gathered.finish()

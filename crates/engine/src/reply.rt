@@ -1,4 +1,4 @@
-ghost use Rattle.std.specs.Prelude.{◌≡◌, ℕ, ◌≤◌, ◌++◌, ◌∷◌, [], List, OnErr, OnOk, codes, length};
+ghost use Rattle.std.specs.Prelude.{◌≡◌, ℕ, ◌≤◌, ◌++◌, ◌∷◌, [], List, OnErr, OnOk, codes, length, true};
 ghost use Rattle.line_io.specs.Faults.{Rose};
 ghost use Rattle.plain_machine.specs.Run.{replies_text};
 ghost use Rattle.plain_machine.specs.State.{State};
@@ -8,7 +8,7 @@ ghost use Rattle.script_grammar.specs.declared.command.Command.TheVariants.{Syst
 ghost use Rattle.script_grammar.specs.declared.command.SysVerb.TheVariants as sysverb;
 ghost use Rattle.script_grammar.specs.declared.command.Verb.TheVariants.{Print, Eq, Cmp, Flat};
 ghost use Rattle.line_io.specs.Sink.{Writes};
-ghost use Rattle.engine.specs.Replies.{AllowsMap, CanReply, reply_lines};
+ghost use Rattle.engine.specs.Replies.{AllowsMap, CanReply, Shown, is_plain, reply_lines};
 ghost use Rattle.engine.specs.Writing.{end_of_line};
 
 use crate::numbers::put_numbers;
@@ -189,6 +189,38 @@ fn put_told<S: Space, K: Sink>(
     }
 }
 
+/// Whether a reply is one constant text, which leaves by one write.
+pub(crate) fn is_constant(reply: Reply) -> bool
+    ensures { result ≡ true → is_plain reply ≡ true }
+{
+    match reply {
+        Reply::Nothing => true,
+        Reply::Done => true,
+        Reply::Quit => true,
+        Reply::Refused(Refusal::NoSpace(_)) => false,
+        Reply::Refused(_) => true,
+        _ => false,
+    }
+}
+
+/// Writes the lines of a reply that is made without a look at the space.
+pub(crate) fn put_plain<K: Sink>(reply: Reply, sink: &mut K) -> Result<(), SinkFault>
+    requires plain { is_plain reply ≡ true }
+    ensures writes { (x : Shown) → Writes K.wrote sink.old sink.new result (replies_text (reply_lines reply x)) }
+    ensures later { K.faults sink.old ≤ K.faults sink.new }
+    ensures rose { OnErr result (Rose (K.faults sink.old) (K.faults sink.new)) }
+    ensures told { OnOk result (K.faults sink.new ≡ K.faults sink.old) }
+{
+    match reply {
+        Reply::Nothing => Ok(()),
+        Reply::Done => put_all(sink, b"ok\n"),
+        Reply::Quit => put_all(sink, b"ok\n"),
+        Reply::Spawned(n) => put_counted(b"ok ", n, sink),
+        Reply::Refused(refusal) => put_refusal(refusal, sink),
+        _ => unreachable!(),
+    }
+}
+
 /// Writes the lines of a reply.
 pub(crate) fn put_reply<S: Space, K: Sink>(
     space: &S,
@@ -207,13 +239,9 @@ pub(crate) fn put_reply<S: Space, K: Sink>(
     ensures told { OnOk result (K.faults sink.new ≡ K.faults sink.old) }
 {
     match reply {
-        Reply::Nothing => Ok(()),
-        Reply::Done => put_line(b"ok", sink),
-        Reply::Spawned(n) => put_counted(b"ok ", n, sink),
         Reply::Numbers => put_numbers(space, sink),
         Reply::Counts => put_counts(space, names, sink),
         Reply::Told(seat, verb) => put_told(space, names, seat, verb, sink),
-        Reply::Quit => put_line(b"ok", sink),
-        Reply::Refused(refusal) => put_refusal(refusal, sink),
+        _ => put_plain(reply, sink),
     }
 }
