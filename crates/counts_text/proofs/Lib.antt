@@ -1,0 +1,4 @@
+pub mod Ordered
+pub mod Listed
+pub mod Whole
+pub mod Meaning
