@@ -265,7 +265,8 @@ module _ (c : ℕ → ℕ → Bool) (shared : List (List ℕ)) (mem roots : List
 
 -- One object alone.
 
-module _ (c : ℕ → ℕ → Bool) (shared : List (List ℕ)) (mem roots : List ℕ) (ts : Trees) (os : List ℕ) (all : AllStand c shared mem roots ts) (h : AreHeld c mem roots os) (p : ℕ) (inside : In p os) where
+module _ (c : ℕ → ℕ → Bool) (shared : List (List ℕ)) (mem roots : List ℕ) (ts : Trees) (os : List ℕ) (all : AllStand c shared mem roots ts) (h : AreHeld c mem roots os) (p : ℕ)
+    (inside : In p os) where
   alone : AreHeld c mem roots (p ∷ [])
   alone = record {
     reached = λ q i. elim i [ inl e ↦ (let P : ℕ → Type 0 = λ x. Reach mem roots (x * 4 + 2) in subst P (sym e) (h.reached p inside)) | inr z ↦ absurd z ];

@@ -245,7 +245,8 @@ module _ (mem : List ℕ) (names : List (List ℕ)) (last : Option ℕ) where
   this-in vs i below = let P : List ℕ → Type 0 = λ z. In (get_or vs i 0) z in subst P (sym (take_more vs i 0 below)) (in-right (get_or vs i 0) (take i vs) (get_or vs i 0 ∷ []) (inl refl))
 
   -- A record that does not come after the last one changes nothing.
-  pub best-same : (vs : List ℕ) (i : ℕ) (best : Option ℕ) → i < length vs → is_after mem names last (get_or vs i 0) ≡ false → IsBest mem names last (take i vs) best → IsBest mem names last (take (i + 1) vs) best
+  pub best-same : (vs : List ℕ) (i : ℕ) (best : Option ℕ) → i < length vs → is_after mem names last (get_or vs i 0) ≡ false → IsBest mem names last (take i vs) best
+      → IsBest mem names last (take (i + 1) vs) best
   best-same vs i None below out b = λ w inside. elim (later-in w vs i below inside) [
     | inl a ↦ b w a
     | inr e ↦ (let P : ℕ → Type 0 = λ z. is_after mem names last z ≡ false in subst P (sym e) out)

@@ -5,4 +5,5 @@ pub returns-clause-listed : goal.returns-clause-listed
 returns-clause-listed k = named-once
 
 pub returns-clause-words : goal.returns-clause-words
-returns-clause-words k = λ c shared mem roots ts os each ids funs all held differ named ids_inside funs_inside. demanded c shared mem roots ts os all held differ each ids funs named ids_inside funs_inside
+returns-clause-words k = λ c shared mem roots ts os each ids funs all held differ named ids_inside funs_inside.
+    demanded c shared mem roots ts os all held differ each ids funs named ids_inside funs_inside

@@ -17,7 +17,8 @@ pub returns-in_err-put_bins : goal.returns-in_err-put_bins
 returns-in_err-put_bins g c =
     let bins : List ℕ = divided (map bin_text (map (bin_of c.args.mem.now) c.args.bins.now)) in
     let funs : List ℕ = divided (map (fun_text c.args.names.now) (map (fun_of c.args.mem.now) (by_name c.args.mem.now c.args.names.now c.args.funs.now))) in
-    let one = come-first g.K.Sink.wrote g.K.Sink.faults c.args.sink.now c.put.new.sink (codes "bins [") (bins ++ (codes "] funs [" ++ (funs ++ codes "]"))) c.in_ok-put.ensures.all c.in_ok-put.ensures.told in
+    let one = come-first g.K.Sink.wrote g.K.Sink.faults c.args.sink.now c.put.new.sink (codes "bins [") (bins ++ (codes "] funs [" ++ (funs ++ codes "]"))) c.in_ok-put.ensures.all
+    c.in_ok-put.ensures.told in
     come-short g.K.Sink.wrote g.K.Sink.faults c.args.sink.now c.put.new.sink c.put_bins.new.sink (counts_told c.args.mem.now c.args.names.now c.args.bins.now c.args.funs.now) (codes "bins [") bins
     (codes "] funs [" ++ (funs ++ codes "]")) c.in_err-put_bins.field-0.0 c.from_residual-in_err-put_bins.result c.from_residual-in_err-put_bins.ensures.0 one c.in_err-put_bins.ensures
 
@@ -26,7 +27,8 @@ returns-in_err-put-2 g c =
     let whole : List ℕ = counts_told c.args.mem.now c.args.names.now c.args.bins.now c.args.funs.now in
     let bins : List ℕ = divided (map bin_text (map (bin_of c.args.mem.now) c.args.bins.now)) in
     let funs : List ℕ = divided (map (fun_text c.args.names.now) (map (fun_of c.args.mem.now) (by_name c.args.mem.now c.args.names.now c.args.funs.now))) in
-    let one = come-first g.K.Sink.wrote g.K.Sink.faults c.args.sink.now c.put.new.sink (codes "bins [") (bins ++ (codes "] funs [" ++ (funs ++ codes "]"))) c.in_ok-put.ensures.all c.in_ok-put.ensures.told in
+    let one = come-first g.K.Sink.wrote g.K.Sink.faults c.args.sink.now c.put.new.sink (codes "bins [") (bins ++ (codes "] funs [" ++ (funs ++ codes "]"))) c.in_ok-put.ensures.all
+    c.in_ok-put.ensures.told in
     let two = come-more g.K.Sink.wrote g.K.Sink.faults c.args.sink.now c.put.new.sink c.put_bins.new.sink whole (codes "bins [") bins (codes "] funs [" ++ (funs ++ codes "]")) one
     c.in_ok-put_bins.ensures.all c.in_ok-put_bins.ensures.told in
     come-short g.K.Sink.wrote g.K.Sink.faults c.args.sink.now c.put_bins.new.sink c.put-2.new.sink whole (codes "bins [" ++ bins) (codes "] funs [") (funs ++ codes "]") c.in_err-put-2.field-0.0
@@ -37,7 +39,8 @@ returns-in_err-put_funs g c =
     let whole : List ℕ = counts_told c.args.mem.now c.args.names.now c.args.bins.now c.args.funs.now in
     let bins : List ℕ = divided (map bin_text (map (bin_of c.args.mem.now) c.args.bins.now)) in
     let funs : List ℕ = divided (map (fun_text c.args.names.now) (map (fun_of c.args.mem.now) (by_name c.args.mem.now c.args.names.now c.args.funs.now))) in
-    let one = come-first g.K.Sink.wrote g.K.Sink.faults c.args.sink.now c.put.new.sink (codes "bins [") (bins ++ (codes "] funs [" ++ (funs ++ codes "]"))) c.in_ok-put.ensures.all c.in_ok-put.ensures.told in
+    let one = come-first g.K.Sink.wrote g.K.Sink.faults c.args.sink.now c.put.new.sink (codes "bins [") (bins ++ (codes "] funs [" ++ (funs ++ codes "]"))) c.in_ok-put.ensures.all
+    c.in_ok-put.ensures.told in
     let two = come-more g.K.Sink.wrote g.K.Sink.faults c.args.sink.now c.put.new.sink c.put_bins.new.sink whole (codes "bins [") bins (codes "] funs [" ++ (funs ++ codes "]")) one
     c.in_ok-put_bins.ensures.all c.in_ok-put_bins.ensures.told in
     let three = come-more g.K.Sink.wrote g.K.Sink.faults c.args.sink.now c.put_bins.new.sink c.put-2.new.sink whole (codes "bins [" ++ bins) (codes "] funs [") (funs ++ codes "]") two
@@ -50,7 +53,8 @@ returns g c =
     let whole : List ℕ = counts_told c.args.mem.now c.args.names.now c.args.bins.now c.args.funs.now in
     let bins : List ℕ = divided (map bin_text (map (bin_of c.args.mem.now) c.args.bins.now)) in
     let funs : List ℕ = divided (map (fun_text c.args.names.now) (map (fun_of c.args.mem.now) (by_name c.args.mem.now c.args.names.now c.args.funs.now))) in
-    let one = come-first g.K.Sink.wrote g.K.Sink.faults c.args.sink.now c.put.new.sink (codes "bins [") (bins ++ (codes "] funs [" ++ (funs ++ codes "]"))) c.in_ok-put.ensures.all c.in_ok-put.ensures.told in
+    let one = come-first g.K.Sink.wrote g.K.Sink.faults c.args.sink.now c.put.new.sink (codes "bins [") (bins ++ (codes "] funs [" ++ (funs ++ codes "]"))) c.in_ok-put.ensures.all
+    c.in_ok-put.ensures.told in
     let two = come-more g.K.Sink.wrote g.K.Sink.faults c.args.sink.now c.put.new.sink c.put_bins.new.sink whole (codes "bins [") bins (codes "] funs [" ++ (funs ++ codes "]")) one
     c.in_ok-put_bins.ensures.all c.in_ok-put_bins.ensures.told in
     let three = come-more g.K.Sink.wrote g.K.Sink.faults c.args.sink.now c.put_bins.new.sink c.put-2.new.sink whole (codes "bins [" ++ bins) (codes "] funs [") (funs ++ codes "]") two

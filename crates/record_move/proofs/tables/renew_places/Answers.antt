@@ -23,7 +23,8 @@ loop-i-preserved c =
         within = omega (arith, w.kept-is, c.loop-i.invariant.within);
         same_len = ap length w.places-is ∙ (length-set c.loop-i.places c.loop-i.kept (c.count_of-count.result - MOVED) ∙ c.loop-i.invariant.same_len);
         front = rw (w.kept-is, w.places-is)
-            (front-moved c.args.mem.now c.args.places.now c.loop-i.places c.loop-i.i c.loop-i.kept c.count_of-count.result below room c.loop-i.invariant.front is (omega (arith, w.if-count-ge-MOVED.true)));
+            (front-moved c.args.mem.now c.args.places.now c.loop-i.places c.loop-i.i c.loop-i.kept c.count_of-count.result below room c.loop-i.invariant.front is
+            (omega (arith, w.if-count-ge-MOVED.true)));
         rest = λ j from under.
             ap (λ z. get_or z j 0) w.places-is
             ∙ (get_or-set_other c.loop-i.places c.loop-i.kept j (c.count_of-count.result - MOVED) 0 (λ e. omega (arith, e, from, c.loop-i.invariant.within))
@@ -33,7 +34,8 @@ loop-i-preserved c =
         within = omega (arith, w.kept-is, c.loop-i.invariant.within);
         same_len = ap length w.places-is ∙ c.loop-i.invariant.same_len;
         front = rw (w.kept-is, w.places-is)
-            (front-stayed c.args.mem.now c.args.places.now c.loop-i.places c.loop-i.i c.loop-i.kept c.count_of-count.result below c.loop-i.invariant.front is (omega (arith, w.if-count-ge-MOVED.false)));
+            (front-stayed c.args.mem.now c.args.places.now c.loop-i.places c.loop-i.i c.loop-i.kept c.count_of-count.result below c.loop-i.invariant.front is
+            (omega (arith, w.if-count-ge-MOVED.false)));
         rest = λ j from under. ap (λ z. get_or z j 0) w.places-is ∙ c.loop-i.invariant.rest j (omega (arith, from)) under;
       }
     ]
