@@ -85,15 +85,17 @@ static int waits(const struct run *run) {
     return state != NULL && state[2] == 'S';
 }
 
-/* The time that the program has used when it is done with all that it was given. */
+/* The time that the program has used when it is done with all that it was given: it is looked at twice, for the system sets a
+   process's time a little later than it says that the process sleeps. */
 static double settled(const struct run *run) {
-    const struct timespec moment = {0, 100000};
+    const struct timespec moment = {0, 50000};
     for (;;) {
+        int waited = waits(run);
         double before = used(run);
-        if (waits(run) && used(run) == before) {
+        nanosleep(&moment, NULL);
+        if (waited && waits(run) && used(run) == before) {
             return before;
         }
-        nanosleep(&moment, NULL);
     }
 }
 
