@@ -189,7 +189,7 @@ fn put_told<S: Space, K: Sink>(
     }
 }
 
-/// Whether a reply is one constant text, which leaves by one write.
+/// Whether a reply is one constant text or none, so that it takes one write at most.
 pub(crate) fn is_constant(reply: Reply) -> bool
     ensures { result ≡ true → is_plain reply ≡ true }
 {
