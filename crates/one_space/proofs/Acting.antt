@@ -1,5 +1,6 @@
 -- What the calls that ask for no words make of a space.
-use Rattle.std.proofs.Common.{Vec, ◌≡◌, ℕ, zero, suc, ◌+◌, ◌-◌, ◌<◌, ◌≤◌, ◌^◌, false, List, [], ◌∷◌, length, get_or, set, Option, Ok, Err, inl, inr, refl, sym, ◌∙◌, ap, subst, arith}
+use Rattle.std.proofs.Common.{Vec, ◌≡◌, ℕ, zero, suc, ◌+◌, ◌-◌, ◌<◌, ◌≤◌, ◌^◌, Bool, true, false, true≢false, List}
+use Rattle.std.proofs.Common.{[], ◌∷◌, length, get_or, set, Option, Ok, Err, inl, inr, refl, sym, ◌∙◌, ap, subst, arith}
 use Rattle.std.specs.List.{filter, remove}
 use Rattle.std.specs.Vec.{vec_len, vec_capacity, with_item}
 use Rattle.std.specs.declared.alloc.Global.{Global}
@@ -25,7 +26,7 @@ use Rattle.space_api.specs.declared.space.Seat.{Seat}
 use Rattle.numbered_rows.specs.Numbers.{AreBelow, numbers}
 use Rattle.numbered_rows.proofs.Changing.{below-remove, numbers-set, rising-remove}
 use Rattle.numbered_rows.proofs.Rising.{number-read}
-use Rattle.two_halves.specs.Halves.{HalvesStand, HoldsTree, IsLaid, ProcsStand, depths, end_of}
+use Rattle.two_halves.specs.Halves.{HalvesStand, HoldsTree, IsLaid, ProcsStand, end_of, places_in}
 use Rattle.one_space.specs.One.{HaveMade, Holds, IsCounted, OneStands, Sits, number_in, numbers_of}
 use Rattle.one_space.specs.Doing.{DoesAlways, DoesAtOnce}
 use Rattle.two_halves.specs.declared.halves.Halves.{Halves}
@@ -36,22 +37,26 @@ use Rattle.one_space.proofs.Counting.{made-remove, made-row}
 use Rattle.one_space.proofs.Rooms.{follows-some, passes-some}
 use Rattle.one_space.proofs.Seated.{found-there, number-there, removed-there, set-there, settled-stands}
 use Rattle.one_space.proofs.Seats.{is_other}
+use Rattle.two_halves.proofs.Filled.{halves-filled, laid_out}
 use Rattle.two_halves.proofs.Stacks.{no_row}
 use Rattle.one_space.proofs.Turning.{TopOf, none-held, popped, register-set, row-stands, top-here, with_stack, with_word}
 
--- The halves with another memory, other bounds and another table.
-abbrev pub laid_out : Halves → (mem : List ℕ) → (top low : ℕ) → Vec Proc Global → Halves
-laid_out h mem top low v = record { mem = mem; base = h.base; top = top; low = low; procs = v; sweeps = h.sweeps }
+false-true : false ≡ true → ⊥
+false-true e = true≢false (sym e)
+
+no-sweep : (b : Bool) → b ≡ false → b ≡ true → ⊥
+no-sweep b no_sweep e = true≢false (sym e ∙ no_sweep)
 
 -- The space after a call that changed something.
 abbrev pub after : One → Halves → One
-after b h = record { halves = h; row = b.row; next = b.next; named = b.named; calls = b.calls + 1; swept = false }
+after b h = record { halves = h; row = b.row; next = b.next; serials = b.serials; named = b.named; calls = b.calls + 1; swept = false }
 
 -- The numbers of a space, where the rows have the same.
 pub counts-same : (b b2 : One) → IsCounted b → IsLaid b2.halves → numbers_of b2 ≡ numbers_of b → length b2.halves.procs.items ≡ length b.halves.procs.items
     → vec_capacity b2.halves.procs ≡ vec_capacity b.halves.procs
-    → vec_len b2.row ≡ vec_len b.row → b2.next ≡ b.next → b.calls ≤ b2.calls → b2.halves.sweeps ≡ b.halves.sweeps → HaveMade b2.calls b2.halves.procs.items → IsCounted b2
-counts-same b b2 c laid same count capacity row next calls sweeps made =
+    → vec_len b2.row ≡ vec_len b.row → b2.next ≡ b.next → b.calls ≤ b2.calls → b2.halves.sweeps ≡ b.halves.sweeps → HaveMade b2.calls b2.halves.procs.items
+    → b2.serials ≡ b.serials → length b2.halves.mem ≡ length b.halves.mem → b2.halves.bins ≡ b.halves.bins → b2.halves.funs ≡ b.halves.funs → IsCounted b2
+counts-same b b2 c laid same count capacity row next calls sweeps made serials words bins funs =
     let P : List ℕ → Type 0 = λ z. AreBelow b.next z in
     let Q : ℕ → Type 0 = λ z. AreBelow z (numbers_of b2) in
     record {
@@ -65,6 +70,9 @@ counts-same b b2 c laid same count capacity row next calls sweeps made =
       numbered = omega (arith, c.numbered, next, calls);
       counted = omega (arith, c.counted, calls, sweeps);
       made = made;
+      serials = omega (arith, c.serials, serials, calls);
+      bins = omega (arith, c.bins, words, ap vec_capacity bins);
+      funs = omega (arith, c.funs, words, ap vec_capacity funs);
     }
 
 -- The half in use lies in the memory.
@@ -75,8 +83,26 @@ half-within h laid = elim laid.side [ inl e ↦ omega (arith, e) | inr e ↦ ome
 pub numbers-row : (rows : List Proc) (i : ℕ) (p old : Proc) → i < length rows → old ≡ get_or rows i old → p.number ≡ old.number → numbers number_in (set rows i p) ≡ numbers number_in rows
 numbers-row rows i p old less is same = numbers-set number_in rows i p less (same ∙ sym (number-read number_in rows i old less is))
 
-pub depths-row : (rows : List Proc) (i : ℕ) (p old : Proc) → i < length rows → old ≡ get_or rows i old → depths (set rows i p) + old.depth ≡ depths rows + p.depth
-depths-row rows i p old less is = omega (arith, sum_by-set (λ r. r.depth) rows i p old less, ap (λ r. r.depth) is)
+pub places-row : (rows : List Proc) (i : ℕ) (p old : Proc) → i < length rows → old ≡ get_or rows i old
+    → places_in (set rows i p) + (old.depth + old.waiting) ≡ places_in rows + (p.depth + p.waiting)
+places-row rows i p old less is = omega (arith, sum_by-set (λ r. r.depth + r.waiting) rows i p old less, ap (λ r. r.depth + r.waiting) is)
+
+-- The half with other processes alone.
+module _ (b : One) (holds : Holds b) (v : Vec Proc Global) where
+  pub rows-stand : (s : State) (o : OneStands b s) (qs : List Process) → ProcsStand o.processes.test s.shared b.halves.mem b.halves.low (end_of b.halves) b.named v.items qs
+      → HalvesStand b.named (laid_out b.halves b.halves.mem b.halves.top b.halves.low v) s.shared qs
+  rows-stand s o qs procs = halves-filled b.named b.named b.halves s.shared s.processes qs holds.counts.laid o.processes o.processes.test o.processes.single b.halves.mem b.halves.top
+      b.halves.low v refl
+      (λ a k e. e) (λ a k e. inl e) (λ a k e. inl e) (λ a k e. refl) (omega arith) (omega arith) (omega arith) procs
+
+  pub rows-laid : places_in v.items ≤ places_in b.halves.procs.items → IsLaid (laid_out b.halves b.halves.mem b.halves.top b.halves.low v)
+  rows-laid fewer = record {
+    even = holds.counts.laid.even;
+    side = holds.counts.laid.side;
+    front = holds.counts.laid.front;
+    order = holds.counts.laid.order;
+    fits = omega (arith, holds.counts.laid.fits, fewer);
+  }
 
 -- The space is whole still.
 pub holds-passed : (b : One) (c : Command) (s : State) → IsCounted b → Passes (step s (said c end [])) (OneStands b) → Holds b
@@ -99,29 +125,20 @@ module _ (b : One) (holds : Holds b) (seat : Seat) (x : Sits b seat) (r : Reg) (
   word-stands s o t held line other =
       let q : Process = get_or s.processes seat.row no_process in
       let number : q.number ≡ seat.pid = number-there b s o holds.counts seat x in
-      let stands : HalvesStand b.named worded.halves s.shared (set s.processes seat.row (with_register r.0 t q)) = record {
-        test = o.processes.test;
-        single = o.processes.single;
-        objects = o.processes.objects;
-        processes = register-set o.processes.test s.shared b.halves.mem b.halves.low (end_of b.halves) b.named b.halves.procs.items s.processes seat.row p x.within is o.processes.processes r.0 w t held;
-      } in
+      let stands : HalvesStand b.named worded.halves s.shared (set s.processes seat.row (with_register r.0 t q)) =
+      rows-stand b holds (with_item b.halves.procs seat.row (with_word p r.0 w)) s o (set s.processes seat.row (with_register r.0 t q))
+      (register-set o.processes.test s.shared b.halves.mem b.halves.low (end_of b.halves) b.named b.halves.procs.items s.processes seat.row p x.within is o.processes.processes r.0 w t held) in
       let Q : List Process → Type 0 = λ z. HalvesStand b.named worded.halves s.shared z in
-      settled-stands b worded s line (with_register r.0 t q) o (subst Q (sym (set-there b s o holds.counts seat x (with_register r.0 t q) number)) stands) refl (sym other)
+      settled-stands b worded s line (with_register r.0 t q) o (subst Q (sym (set-there b s o holds.counts seat x (with_register r.0 t q) number)) stands) refl (sym other) refl
+      (λ e. absurd (no-sweep (is_sweep line.command) other e))
 
   pub word-counts : IsCounted worded
   word-counts =
-      let same : depths (set b.halves.procs.items seat.row (with_word p r.0 w)) ≡ depths b.halves.procs.items =
-      omega (arith, depths-row b.halves.procs.items seat.row (with_word p r.0 w) p x.within is) in
-      counts-same b worded holds.counts
-      (record {
-        even = holds.counts.laid.even;
-        side = holds.counts.laid.side;
-        front = holds.counts.laid.front;
-        order = holds.counts.laid.order;
-        places = omega (arith, holds.counts.laid.places, same);
-      })
+      let same : places_in (set b.halves.procs.items seat.row (with_word p r.0 w)) ≡ places_in b.halves.procs.items =
+      omega (arith, places-row b.halves.procs.items seat.row (with_word p r.0 w) p x.within is) in
+      counts-same b worded holds.counts (rows-laid b holds (with_item b.halves.procs seat.row (with_word p r.0 w)) (omega (arith, same)))
       (numbers-row b.halves.procs.items seat.row (with_word p r.0 w) p x.within is refl) (length-set b.halves.procs.items seat.row (with_word p r.0 w)) refl refl refl (omega arith) refl
-      (made-row b.calls (b.calls + 1) b.halves.procs.items seat.row (with_word p r.0 w) p (omega arith) x.within is refl holds.counts.made)
+      (made-row b.calls (b.calls + 1) b.halves.procs.items seat.row (with_word p r.0 w) p (omega arith) x.within is refl holds.counts.made) refl refl refl refl
 
   -- `self`.
   module _ (word : w ≡ pid_word seat.pid) (small : seat.pid < 2 ^ 41) where
@@ -158,18 +175,16 @@ module _ (b : One) (holds : Holds b) (seat : Seat) (x : Sits b seat) (v : Vec Pr
       let Q : ℕ → Type 0 = λ n. HalvesStand b.named b2.halves s.shared (filter (is_other n) s.processes) in
       let R : List Process → Type 0 = λ z. HalvesStand b.named b2.halves s.shared z in
       let S : List Proc → Type 0 = λ z. ProcsStand o.processes.test s.shared b.halves.mem b.halves.low (end_of b.halves) b.named z (remove s.processes seat.row) in
-      let stands : HalvesStand b.named b2.halves s.shared (remove s.processes seat.row) = record {
-        test = o.processes.test;
-        single = o.processes.single;
-        objects = o.processes.objects;
-        processes = subst S (sym items) (procs-remove o.processes.test s.shared b.halves.mem b.named b.halves.low (end_of b.halves) b.halves.procs.items s.processes seat.row o.processes.processes);
-      } in
+      let stands : HalvesStand b.named b2.halves s.shared (remove s.processes seat.row) =
+      rows-stand b holds v s o (remove s.processes seat.row) (subst S (sym items) (procs-remove o.processes.test s.shared b.halves.mem b.named b.halves.low (end_of b.halves)
+      b.halves.procs.items s.processes seat.row o.processes.processes)) in
       subst P (sym (found-there b s o holds.counts seat x)) (record {
         processes = subst Q (sym number) (subst R (sym (removed-there b s o holds.counts seat x)) stands);
         next = o.next;
         swept = refl;
         shared = o.shared;
         areas = o.areas;
+        reached = λ e. absurd (false-true e);
       })
 
   exit-counts : IsCounted (after b (laid_out b.halves b.halves.mem b.halves.top b.halves.low v))
@@ -177,15 +192,10 @@ module _ (b : One) (holds : Holds b) (seat : Seat) (x : Sits b seat) (v : Vec Pr
       let P : List Proc → Type 0 = λ z. AreRising 0 (numbers number_in z) in
       let Q : List Proc → Type 0 = λ z. AreBelow b.next (numbers number_in z) in
       let fewer : length v.items + 1 ≡ length b.halves.procs.items = ap (λ z. length z + 1) items ∙ length-remove b.halves.procs.items seat.row x.within in
-      let less : depths v.items ≤ depths b.halves.procs.items = omega (arith, ap depths items, sum_by-remove (λ r. r.depth) b.halves.procs.items seat.row no_row x.within) in
+      let less : places_in v.items ≤ places_in b.halves.procs.items =
+      omega (arith, ap places_in items, sum_by-remove (λ r. r.depth + r.waiting) b.halves.procs.items seat.row no_row x.within) in
       record {
-        laid = record {
-          even = holds.counts.laid.even;
-          side = holds.counts.laid.side;
-          front = holds.counts.laid.front;
-          order = holds.counts.laid.order;
-          places = omega (arith, holds.counts.laid.places, less);
-        };
+        laid = rows-laid b holds v less;
         enough = holds.counts.enough;
         places = omega (arith, holds.counts.places, capacity);
         few = omega (arith, holds.counts.few, fewer);
@@ -196,6 +206,9 @@ module _ (b : One) (holds : Holds b) (seat : Seat) (x : Sits b seat) (v : Vec Pr
         counted = omega (arith, holds.counts.counted);
         made = let S : List Proc → Type 0 = λ z. HaveMade (b.calls + 1) z in
             subst S (sym items) (made-remove b.calls (b.calls + 1) (omega arith) b.halves.procs.items seat.row holds.counts.made);
+        serials = omega (arith, holds.counts.serials);
+        bins = holds.counts.bins;
+        funs = holds.counts.funs;
       }
 
   pub exit-does : DoesAlways (OfProcess seat.pid verb.Exit) b (after b (laid_out b.halves b.halves.mem b.halves.top b.halves.low v))
@@ -238,35 +251,25 @@ module _ (b : One) (holds : Holds b) (seat : Seat) (x : Sits b seat) (r : Reg) (
         let q : Process = get_or s.processes seat.row no_process in
         let line : Parsed = said (OfProcess seat.pid (verb.Pop r)) terms names in
         let q2 : Process = record (with_register r.0 (top-there s o).value q) { stack = (top-there s o).rest } in
-        let stands : HalvesStand b.named b2.halves s.shared (set s.processes seat.row q2) = record {
-          test = o.processes.test;
-          single = o.processes.single;
-          objects = o.processes.objects;
-          processes =
-              popped o.processes.test s.shared b.halves.mem b.halves.low (end_of b.halves) b.named b.halves.procs.items s.processes seat.row p x.within is o.processes.processes some r.0 w u d value
-              below depth;
-        } in
+        let stands : HalvesStand b.named b2.halves s.shared (set s.processes seat.row q2) =
+        rows-stand b holds (with_item b.halves.procs seat.row (with_stack (with_word p r.0 w) u d)) s o (set s.processes seat.row q2)
+        (popped o.processes.test s.shared b.halves.mem b.halves.low (end_of b.halves) b.named b.halves.procs.items s.processes seat.row p x.within is o.processes.processes some r.0 w u d value
+        below depth) in
         let P : Option Process → Type 0 = λ z. Follows {A = Unit {0}} (in_process z s line (verb.Pop r)) s (Ok tt) (OneStands b2) in
         let Q : List Tree → Type 0 = λ z. Follows {A = Unit {0}} (pop_from z s line q r.0) s (Ok tt) (OneStands b2) in
         let R : List Process → Type 0 = λ z. HalvesStand b.named b2.halves s.shared z in
         subst P (sym (found-there b s o holds.counts seat x)) (subst Q (sym (top-there s o).shape)
-        (settled-stands b b2 s line q2 o (subst R (sym (set-there b s o holds.counts seat x q2 (number-there b s o holds.counts seat x))) stands) refl refl))
+        (settled-stands b b2 s line q2 o (subst R (sym (set-there b s o holds.counts seat x q2 (number-there b s o holds.counts seat x))) stands) refl refl refl (λ e. absurd (false-true e))))
 
     pop-counts : IsCounted (after b (laid_out b.halves b.halves.mem b.halves.top b.halves.low (with_item b.halves.procs seat.row (with_stack (with_word p r.0 w) u d))))
     pop-counts =
-        let fewer : depths (set b.halves.procs.items seat.row (with_stack (with_word p r.0 w) u d)) ≤ depths b.halves.procs.items =
-        omega (arith, depth, depths-row b.halves.procs.items seat.row (with_stack (with_word p r.0 w) u d) p x.within is) in
+        let fewer : places_in (set b.halves.procs.items seat.row (with_stack (with_word p r.0 w) u d)) ≤ places_in b.halves.procs.items =
+        omega (arith, depth, places-row b.halves.procs.items seat.row (with_stack (with_word p r.0 w) u d) p x.within is) in
         counts-same b (after b (laid_out b.halves b.halves.mem b.halves.top b.halves.low (with_item b.halves.procs seat.row (with_stack (with_word p r.0 w) u d)))) holds.counts
-        (record {
-          even = holds.counts.laid.even;
-          side = holds.counts.laid.side;
-          front = holds.counts.laid.front;
-          order = holds.counts.laid.order;
-          places = omega (arith, holds.counts.laid.places, fewer);
-        })
+        (rows-laid b holds (with_item b.halves.procs seat.row (with_stack (with_word p r.0 w) u d)) fewer)
         (numbers-row b.halves.procs.items seat.row (with_stack (with_word p r.0 w) u d) p x.within is refl) (length-set b.halves.procs.items seat.row (with_stack (with_word p r.0 w) u d)) refl refl
         refl (omega arith) refl
-        (made-row b.calls (b.calls + 1) b.halves.procs.items seat.row (with_stack (with_word p r.0 w) u d) p (omega arith) x.within is refl holds.counts.made)
+        (made-row b.calls (b.calls + 1) b.halves.procs.items seat.row (with_stack (with_word p r.0 w) u d) p (omega arith) x.within is refl holds.counts.made) refl refl refl refl
 
     pub pop-does : DoesAtOnce {A = Unit {0}} (OfProcess seat.pid (verb.Pop r)) b
         (after b (laid_out b.halves b.halves.mem b.halves.top b.halves.low (with_item b.halves.procs seat.row (with_stack (with_word p r.0 w) u d)))) (Ok tt)

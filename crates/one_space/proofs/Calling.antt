@@ -1,5 +1,5 @@
 -- The calls of the space, from those of what it holds.
-use Rattle.std.proofs.Common.{◌≡◌, ℕ, ◌≤◌, ◌%◌, ◌/◌, Bool, true, false, List, [], ◌∷◌, length, Option, Result, replicate, refl, sym, ◌∙◌, ap, subst, arith, inl}
+use Rattle.std.proofs.Common.{◌≡◌, ℕ, ◌≤◌, ◌%◌, ◌/◌, Bool, true, false, true≢false, List, [], ◌∷◌, ◌++◌, length, Option, Result, replicate, refl, sym, ◌∙◌, ap, subst, arith, inl}
 use Rattle.std.specs.Vec.{vec_len, vec_capacity}
 use Rattle.script_grammar.specs.declared.command.Command.{Command}
 use Rattle.script_grammar.specs.declared.command.Command.TheVariants.{Process as OfProcess, System}
@@ -16,7 +16,11 @@ use Rattle.space_api.specs.Calls.{AreRising, Becomes, Follows, Passes, Properly,
 use Rattle.space_api.specs.declared.space.Seat.{Seat}
 use Rattle.space_api.proofs.Proper.{becomes-proper, follows-proper, passes-proper}
 use Rattle.numbered_rows.specs.Numbers.{AreBelow, numbers}
-use Rattle.two_halves.specs.Halves.{IsLaid, ProcsStand, depths, end_of}
+use Rattle.term_words.specs.Object.{IsRecord}
+use Rattle.term_words.specs.Counted.{In, total}
+use Rattle.shared_rec.proofs.Records.{record-first}
+use Rattle.record_move.specs.Copies.{record_words}
+use Rattle.two_halves.specs.Halves.{IsLaid, ProcsStand, RecordsStand, end_of, places_in, records_of}
 use Rattle.one_space.specs.One.{HaveMade, Holds, IsCounted, OneStands, Sits, number_in, numbers_of, words_of}
 use Rattle.one_space.specs.Doing.{Sweeps}
 use Rattle.one_space.specs.declared.one.One.{One}
@@ -49,42 +53,75 @@ pub gc-passes : (b c : One) (seat : Seat) (depth : Depth) (terms : Terms) (names
 gc-passes b c seat depth terms names s counts sits w o =
     let n = w.stands s o in
     let P : Option Process → Type 0 = λ x. Passes (in_process x s (said (OfProcess seat.pid (verb.Gc depth)) terms names) (verb.Gc depth)) (OneStands c) in
-    subst P (sym (found-there b s o counts seat sits)) (record { processes = n.processes; next = n.next; swept = n.swept; shared = n.shared; areas = n.areas })
+    subst P (sym (found-there b s o counts seat sits)) (record { processes = n.processes; next = n.next; swept = n.swept; shared = n.shared; areas = n.areas; reached = n.reached })
 
 pub sweep-passes : (b c : One) (terms : Terms) (names : List (List ℕ)) (s : State) → Sweeps true b c → OneStands b s → Passes (step s (said (System sysverb.Sweep) terms names)) (OneStands c)
 sweep-passes b c terms names s w o =
     let n = w.stands s o in
-    record { processes = n.processes; next = n.next; swept = n.swept; shared = n.shared; areas = n.areas }
+    record { processes = n.processes; next = n.next; swept = n.swept; shared = n.shared; areas = n.areas; reached = n.reached }
 
 -- The first space.
 abbrev never : ℕ → ℕ → Bool
 never a k = false
 
-module _ (b : One) (p : Proc) (one : b.halves.procs.items ≡ p ∷ []) (number : p.number ≡ 1) (regs : p.regs ≡ replicate 16 59) (flat : p.depth ≡ 0) (none : p.refs ≡ 0) (next : b.next ≡ 2) (swept : b.swept ≡ false) where
+false-true : false ≡ true → ⊥
+false-true e = true≢false (sym e)
+
+no-record : (mem : List ℕ) (v n : ℕ) → IsRecord never mem v n → ⊥
+no-record mem v n there = false-true (record-first never mem v n there)
+
+none-listed : (mem : List ℕ) → RecordsStand never mem [] [] []
+none-listed mem = record {
+  all = λ v n there. absurd (no-record mem v n there);
+  once = tt;
+  each_bin = λ v i. absurd i;
+  each_fun = λ v i. absurd i;
+  serials = tt;
+  codes = tt;
+  counted = λ v n there. absurd (no-record mem v n there);
+}
+
+module _ (b : One) (p : Proc) (one : b.halves.procs.items ≡ p ∷ []) (number : p.number ≡ 1) (regs : p.regs ≡ replicate 16 59) (flat : p.depth ≡ 0) (waiting : p.waiting ≡ 0) (none : p.refs ≡ 0)
+    (next : b.next ≡ 2) (swept : b.swept ≡ false) (head : b.halves.head ≡ 0) (linked : b.halves.linked ≡ 0) (bins : b.halves.bins.items ≡ []) (funs : b.halves.funs.items ≡ [])
+    (serials : b.serials ≡ 0) where
   pub first-stands : OneStands b first_state
   first-stands =
       let P : List Proc → Type 0 = λ x. ProcsStand never [] b.halves.mem b.halves.low (end_of b.halves) b.named x (fresh_process 1 ∷ []) in
+      let B : List ℕ → Type 0 = λ x. RecordsStand never b.halves.mem [] x b.halves.funs.items in
+      let F : List ℕ → Type 0 = λ x. RecordsStand never b.halves.mem [] [] x in
       record {
         processes = record {
           test = never;
-          single = record { one = λ a j k x y. absurd (cc) };
-          objects = λ a k e. absurd (cc);
-          processes = subst P (sym one) (fresh-stands never [] b.halves.mem b.named b.halves.low (end_of b.halves) p 1 number regs flat none, tt);
+          single = record { one = λ a j k x y. absurd (false-true x) };
+          lie = λ a k e. absurd (false-true e);
+          chained = [];
+          linked = sym linked;
+          links = record { chain = head; once = tt; each = λ q i. absurd i; beside = λ q i. absurd i; counts = λ v n there. absurd (no-record b.halves.mem v n there) };
+          inside = λ q i. absurd i;
+          every = λ q e. absurd (false-true e);
+          records = subst B (sym bins) (subst F (sym funs) (none-listed b.halves.mem));
+          fun_names = λ v i. absurd (let N : List ℕ → Type 0 = λ z. In v z in subst N funs i);
+          processes = subst P (sym one) (fresh-stands never [] b.halves.mem b.named b.halves.low (end_of b.halves) p 1 number regs flat waiting none, tt);
         };
         next = sym next;
         swept = sym swept;
-        shared = refl;
+        shared = sym serials;
         areas = refl;
+        reached = λ e. absurd (false-true e);
       }
 
   module _ (words : ℕ) (len : length b.halves.mem ≡ words) (least : 4096 ≤ words) (even : words % 2 ≡ 0) (base : b.halves.base ≡ 0) (top : b.halves.top ≡ 2) (low : b.halves.low ≡ words / 2)
       (row : vec_len b.row ≡ 4096)
-      (capacity : 1024 ≤ vec_capacity b.halves.procs) (calls : b.calls ≡ 0) (sweeps : b.halves.sweeps ≡ 0) where
-    depths-none : depths b.halves.procs.items ≡ 0
-    depths-none = ap depths one ∙ omega (arith, flat)
+      (capacity : 1024 ≤ vec_capacity b.halves.procs) (calls : b.calls ≡ 0) (sweeps : b.halves.sweeps ≡ 0) (bins_room : words / 2 / 4 ≤ vec_capacity b.halves.bins)
+      (funs_room : words / 2 / 4 ≤ vec_capacity b.halves.funs) where
+    places-none : places_in b.halves.procs.items ≡ 0
+    places-none = ap places_in one ∙ omega (arith, flat, waiting)
 
     half-is : length b.halves.mem / 2 ≡ words / 2
     half-is = ap (λ x. x / 2) len
+
+    records-none : total (record_words b.halves.mem) (records_of b.halves) ≡ 0
+    records-none = ap (λ z. total (record_words b.halves.mem) (z ++ b.halves.funs.items)) bins ∙ ap (total (record_words b.halves.mem)) funs
 
     laid-first : IsLaid b.halves
     laid-first = record {
@@ -92,7 +129,7 @@ module _ (b : One) (p : Proc) (one : b.halves.procs.items ≡ p ∷ []) (number 
       side = inl base;
       front = omega (arith, base, top);
       order = omega (arith, top, low, least);
-      places = omega (arith, base, low, half-is, depths-none);
+      fits = omega (arith, base, low, half-is, places-none, records-none);
     }
 
     pub first-holds : Holds b
@@ -113,6 +150,9 @@ module _ (b : One) (p : Proc) (one : b.halves.procs.items ≡ p ∷ []) (number 
             numbered = omega (arith, next);
             counted = omega (arith, sweeps);
             made = subst S (sym one) (omega (arith, none), tt);
+            serials = omega (arith, serials);
+            bins = omega (arith, half-is, bins_room);
+            funs = omega (arith, half-is, funs_room);
           };
           state = first_state;
           stands = first-stands;

@@ -1,4 +1,4 @@
--- Rows that stand for processes: read, written, taken out, added, and kept while the memory fills.
+-- Rows that stand for processes: read, written, taken out and added.
 use Rattle.std.proofs.Common.{◌≡◌, ℕ, zero, suc, ◌<◌, ◌≤◌, ◌==◌, ◌||◌, Bool, List, [], ◌∷◌, ◌++◌, length, get_or, set, replicate, refl, sym, ◌∙◌, ap, subst, arith}
 use Rattle.std.specs.List.{list_any, remove}
 use Rattle.plain_term.specs.Tree.{Tree}
@@ -6,12 +6,11 @@ use Rattle.plain_term.specs.Tree.Tree.{Nil}
 use Rattle.plain_machine.specs.State.{Process, fresh_process}
 use Rattle.term_words.proofs.Makes.{stands-nil}
 use Rattle.numbered_rows.specs.Numbers.{is_among, numbers}
-use Rattle.two_halves.specs.Stack.{IsStack, values}
+use Rattle.two_halves.specs.Stack.{Ends, IsStack, values}
 use Rattle.two_halves.specs.Halves.{HoldTrees, HoldsTree, ProcStands, ProcsStand}
 use Rattle.one_space.specs.One.{number_in}
 use Rattle.two_halves.specs.declared.table.Proc.{Proc}
 use Rattle.one_space.proofs.Seats.{process_numbers}
-use Rattle.two_halves.proofs.Stacks.{AreKept, stack-kept, stack-wider, values-kept}
 
 -- A process for places that are not there.
 abbrev pub no_process : Process
@@ -39,9 +38,12 @@ module _ (c : ℕ → ℕ → Bool) (shared : List (List ℕ)) (mem : List ℕ) 
   nils-hold (suc n) = (nil-holds, nils-hold n)
 
   module _ (low limit : ℕ) where
-    pub fresh-stands : (p : Proc) (n : ℕ) → p.number ≡ n → p.regs ≡ replicate 16 59 → p.depth ≡ 0 → p.refs ≡ 0 → ProcStands c shared mem low limit named p (fresh_process n)
-    fresh-stands p n is regs depth none =
-        let P : ℕ → Type 0 = λ z. IsStack mem low limit p.stack z in
+    pub fresh-stands : (p : Proc) (n : ℕ) → p.number ≡ n → p.regs ≡ replicate 16 59 → p.depth ≡ 0 → p.waiting ≡ 0 → p.refs ≡ 0 → ProcStands c shared mem low limit named p (fresh_process n)
+    fresh-stands p n is regs depth waiting none =
+        let P : ℕ → Type 0 = λ z. IsStack c mem low limit p.stack z in
+        let W : ℕ → Type 0 = λ z. IsStack c mem low limit p.queue z in
+        let V : ℕ → Type 0 = λ z. HoldTrees c shared mem named (values mem p.queue z) [] in
+        let E : ℕ → Type 0 = λ z. Ends mem p.queue z p.last in
         let Q : ℕ → Type 0 = λ z. HoldTrees c shared mem named (values mem p.stack z) [] in
         let R : List ℕ → Type 0 = λ z. HoldTrees c shared mem named z (replicate 16 Nil) in
         record {
@@ -50,7 +52,9 @@ module _ (c : ℕ → ℕ → Bool) (shared : List (List ℕ)) (mem : List ℕ) 
           registers = subst R (sym regs) (nils-hold 16);
           places = subst P (sym depth) tt;
           stack = subst Q (sym depth) tt;
-          queue = refl;
+          waits = subst W (sym waiting) tt;
+          queue = subst V (sym waiting) tt;
+          last = subst E (sym waiting) tt;
           refs = sym none;
         }
 
@@ -102,32 +106,3 @@ module _ (c : ℕ → ℕ → Bool) (shared : List (List ℕ)) (mem : List ℕ) 
     procs-among (u ∷ ps) [] pid s = absurd s
     procs-among (u ∷ ps) (v ∷ qs) pid s =
         ap (λ x. (x == pid) || list_any (λ p. p.number == pid) ps) (sym s.0.number) ∙ ap (λ x. (v.number == pid) || x) (procs-among ps qs pid s.1)
-
--- What stands still stands, where trees do and stack places are the same.
-module _ (c d : ℕ → ℕ → Bool) (shared : List (List ℕ)) (mem mem2 : List ℕ) (named named2 low low2 limit : ℕ)
-    (trees : (w : ℕ) (t : Tree) → HoldsTree c shared mem named w t → HoldsTree d shared mem2 named2 w t)
-    (same : AreKept mem mem2 low limit) (down : low2 ≤ low) where
-  pub held-on : (ws : List ℕ) (ts : List Tree) → HoldTrees c shared mem named ws ts → HoldTrees d shared mem2 named2 ws ts
-  held-on [] [] h = tt
-  held-on [] (t ∷ ts) h = absurd h
-  held-on (w ∷ ws) [] h = absurd h
-  held-on (w ∷ ws) (t ∷ ts) h = (trees w t h.0, held-on ws ts h.1)
-
-  pub proc-on : (p : Proc) (q : Process) → ProcStands c shared mem low limit named p q → ProcStands d shared mem2 low2 limit named2 p q
-  proc-on p q s =
-      let P : List ℕ → Type 0 = λ z. HoldTrees d shared mem2 named2 z q.stack in
-      record {
-        number = s.number;
-        count = s.count;
-        registers = held-on p.regs q.registers s.registers;
-        places = stack-wider mem2 low limit low2 limit p.stack p.depth down (omega arith) (stack-kept mem mem2 low limit p.stack p.depth same s.places);
-        stack = subst P (sym (values-kept mem mem2 low limit p.stack p.depth same s.places)) (held-on (values mem p.stack p.depth) q.stack s.stack);
-        queue = s.queue;
-        refs = s.refs;
-      }
-
-  pub procs-on : (ps : List Proc) (qs : List Process) → ProcsStand c shared mem low limit named ps qs → ProcsStand d shared mem2 low2 limit named2 ps qs
-  procs-on [] [] s = tt
-  procs-on [] (q ∷ qs) s = absurd s
-  procs-on (p ∷ ps) [] s = absurd s
-  procs-on (p ∷ ps) (q ∷ qs) s = (proc-on p q s.0, procs-on ps qs s.1)

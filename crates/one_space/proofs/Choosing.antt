@@ -1,5 +1,5 @@
 -- `hd`, `tl`, `elem` and `mapget`: the part that is picked in a register, or there is none.
-use Rattle.std.proofs.Common.{◌≡◌, ℕ, ◌<◌, ◌≤◌, Bool, List, length, get_or, Option, Some, None, Ok, Err, refl, sym, subst, arith, inl}
+use Rattle.std.proofs.Common.{◌≡◌, ℕ, ◌<◌, ◌≤◌, Bool, false, true≢false, List, length, get_or, Option, Some, None, Ok, Err, refl, sym, subst, arith, inl}
 use Rattle.plain_term.specs.Tree.{Tree}
 use Rattle.script_grammar.specs.declared.command.Command.TheVariants.{Process as OfProcess}
 use Rattle.script_grammar.specs.declared.command.Reg.{Reg}
@@ -23,7 +23,7 @@ use Rattle.space_api.specs.Calls.{Follows, Properly, said}
 use Rattle.space_api.specs.declared.space.Seat.{Seat}
 use Rattle.two_halves.specs.Halves.{HoldsTree}
 use Rattle.one_space.specs.One.{Holds, OneStands, Sits}
-use Rattle.one_space.specs.Doing.{DoesBy}
+use Rattle.one_space.specs.Doing.{DoesBy, takes_part}
 use Rattle.one_space.specs.declared.one.One.{One}
 use Rattle.two_halves.specs.declared.table.Proc.{Proc}
 use Rattle.one_space.proofs.Acting.{word-counts, word-stands, worded}
@@ -66,18 +66,20 @@ some-part c shared mem (Some t) w a =
     inner : (u v : ℕ) → Some u ≡ Some v → u ≡ v
     inner u v e = cc
 
-module _ (b : One) (holds : Holds b) (seat : Seat) (x : Sits b seat) (r m : Reg) (how : Pick) (small : m.0 < 16) (key : PicksRegister how) (p : Proc) (is : p ≡ get_or b.halves.procs.items seat.row p)
+module _ (b : One) (holds : Holds b) (seat : Seat) (x : Sits b seat) (r m : Reg) (how : Pick) (small : m.0 < 16) (key : PicksRegister how) (whole : takes_part how ≡ false) (p : Proc)
+    (is : p ≡ get_or b.halves.procs.items seat.row p)
     (names : List (List ℕ)) (more : b.named ≤ length names) where
   -- The verb.
   abbrev v : Verb
   v = verb.Choose r m how
 
   pub can-pick : CanPick b.halves.mem names p.regs (get_or p.regs m.0 0) how
-  can-pick = by how key
+  can-pick = by how key whole
     where
-      by : (h : Pick) → PicksRegister h → CanPick b.halves.mem names p.regs (get_or p.regs m.0 0) h
-      by (pick.MapGet k) few = (omega (arith, few, (row-there b holds.counts seat x p is holds.state holds.stands).count), can-seek b holds seat x p is names more m.0 k.0 small few)
-      by _ few =
+      by : (h : Pick) → PicksRegister h → takes_part h ≡ false → CanPick b.halves.mem names p.regs (get_or p.regs m.0 0) h
+      by (pick.Part offset len) few all = absurd (true≢false all)
+      by (pick.MapGet k) few all = (omega (arith, few, (row-there b holds.counts seat x p is holds.state holds.stands).count), can-seek b holds seat x p is names more m.0 k.0 small few)
+      by _ few all =
           let held = held-there b holds.counts seat x p is holds.state holds.stands m.0 small in
           is-term holds.stands.processes.test holds.state.shared b.halves.mem (get_or p.regs m.0 0) (register m.0 (get_or holds.state.processes seat.row no_process)) held.standing
 
@@ -132,7 +134,8 @@ module _ (b : One) (holds : Holds b) (seat : Seat) (x : Sits b seat) (r m : Reg)
         holds = record {
           counts = word-counts b holds seat x r p2 is2 w;
           state = _;
-          stands = word-stands b holds seat x r p2 is2 w holds.state holds.stands (part-held holds.state holds.stands).0 (part-held holds.state holds.stands).1 (said (OfProcess seat.pid v) end names) refl;
+          stands = word-stands b holds seat x r p2 is2 w holds.state holds.stands (part-held holds.state holds.stands).0 (part-held holds.state holds.stands).1 (said (OfProcess
+              seat.pid v) end names) refl;
         };
         becomes = λ s terms h has.
             let q : Process = get_or s.processes seat.row no_process in

@@ -30,7 +30,7 @@ module _ (m n : ℕ) (up : m ≤ n) where
   made-same [] [] s h = tt
   made-same [] (r ∷ news) s h = absurd s
   made-same (o ∷ olds) [] s h = absurd s
-  made-same (o ∷ olds) (r ∷ news) s h = (omega (arith, s.1.1.0, h.0, up), made-same olds news s.1.1.1 h.1)
+  made-same (o ∷ olds) (r ∷ news) s h = (omega (arith, s.1.1.1.0, h.0, up), made-same olds news s.1.1.1.1 h.1)
 
 pub made-at : (m : ℕ) (rows : List Proc) (i : ℕ) (d : Proc) → i < length rows → HaveMade m rows → (get_or rows i d).refs ≤ m
 made-at m [] i d less h = absurd (omega arith)

@@ -1,5 +1,6 @@
 -- What the calls that ask for words make of a space: there is room, or the line is tight.
-use Rattle.std.proofs.Common.{Vec, ◌≡◌, ℕ, ◌+◌, ◌-◌, ◌/◌, ◌<◌, ◌≤◌, Bool, true, false, nat_le, List, [], ◌∷◌, ◌++◌, length, get_or, set, replicate, Option, Some, Result, Ok, Err, refl, sym, ◌∙◌, ap, subst, arith, inl, inr}
+use Rattle.std.proofs.Common.{Vec, ◌≡◌, ℕ, ◌+◌, ◌-◌, ◌/◌, ◌<◌, ◌≤◌, ◌⊎◌, Bool, true, false, true≢false, nat_le, List, [], ◌∷◌}
+use Rattle.std.proofs.Common.{◌++◌, length, get_or, set, replicate, Option, Some, Result, Ok, Err, refl, sym, ◌∙◌, ap, subst, arith, inl, inr}
 use Rattle.std.specs.Vec.{vec_len, vec_capacity, with_item}
 use Rattle.std.specs.declared.alloc.Global.{Global}
 use Rattle.std.proofs.lemmas.Bool.{leb-false, leb-true}
@@ -25,20 +26,21 @@ use Rattle.space_api.specs.Calls.{AreRising, Becomes, Follows, said}
 use Rattle.space_api.specs.declared.space.Seat.{Seat}
 use Rattle.numbered_rows.specs.Numbers.{AreBelow, numbers}
 use Rattle.numbered_rows.proofs.Changing.{below-push, rising-push}
-use Rattle.two_halves.specs.Halves.{HalvesStand, ProcsStand, depths, end_of, free_in}
+use Rattle.two_halves.specs.Halves.{HalvesStand, ProcsStand, end_of, free_in, places_in}
 use Rattle.two_halves.specs.Collecting.{LooksFor, MakesRoom}
 use Rattle.one_space.specs.One.{HaveMade, Holds, IsCounted, OneStands, Sits, number_in, words_of}
 use Rattle.one_space.specs.Doing.{Books, Does}
 use Rattle.two_halves.specs.declared.halves.Halves.{Halves}
 use Rattle.one_space.specs.declared.one.One.{One}
 use Rattle.two_halves.specs.declared.table.Proc.{Proc}
-use Rattle.one_space.proofs.Acting.{after, counts-same, depths-row, half-within, laid_out, numbers-row}
+use Rattle.one_space.proofs.Acting.{after, counts-same, half-within, numbers-row, places-row}
+use Rattle.two_halves.proofs.Filled.{halves-filled, laid-filled, laid_out}
 use Rattle.one_space.proofs.Changing.{fresh-stands, no_process, procs-push}
 use Rattle.one_space.proofs.Counting.{made-push, made-row}
 use Rattle.two_halves.proofs.Ended.{row-count}
-use Rattle.one_space.proofs.Rooms.{becomes-some, counts-roomed, no-space, roomed, sits-roomed, stands-roomed, stays-roomed}
+use Rattle.one_space.proofs.Rooms.{becomes-some, counts-roomed, no-space, reached-roomed, roomed, sits-roomed, stands-roomed, stays-roomed}
 use Rattle.one_space.proofs.Seated.{count-there, found-there, number-there, set-there, settled-stands}
-use Rattle.one_space.proofs.Turning.{pushed, pushed-len, with_stack}
+use Rattle.one_space.proofs.Turning.{pushed, pushed-len, with_stack, words}
 
 -- A space that stands for something after a call.
 pub holds-become : {A : Type 0} (words : ℕ) (b : One) (s : State) (line : Parsed) (r : Result A Refusal) → IsCounted b → Becomes may_of_tight words s line r (OneStands b) → Holds b
@@ -58,7 +60,7 @@ module _ (b : One) (holds : Holds b) (n : ℕ) (h : Halves) (ok : Bool) (room : 
   counts-there = counts-roomed b h holds.counts (stays-roomed n b.halves h ok room) room.laid
 
   pub roomed-there : (s : State) → OneStands b s → OneStands (roomed b h) s
-  roomed-there s o = stands-roomed b h s o (room.stands b.named s.shared s.processes o.processes)
+  roomed-there s o = stands-roomed b h s o (room.stands b.named s.shared s.processes o.processes) (reached-roomed n b.halves h ok room)
 
   pub sits-there : (seat : Seat) → Sits b seat → Sits (roomed b h) seat
   sits-there seat x = sits-roomed b h seat (stays-roomed n b.halves h ok room) x
@@ -76,7 +78,7 @@ module _ (b : One) (holds : Holds b) (n : ℕ) (h : Halves) (ok : Bool) (room : 
 
     pub lacks-space : (A : Type 0) (s : State) (line : Parsed) (g : ℕ) → OneStands b s → grow s line ≡ g → LooksFor s g n → 0 < g → gets_to_space line.command (step s line) ≡ true
         → Becomes {A = A} may_of_tight (words_of b) s line (Err (refusal.NoSpace g)) (OneStands (roomed b h))
-    lacks-space A s line g o asked looks some gets = no-space A (words_of b) (roomed b h) s line g (roomed-there s o) asked (room.tight b.named s g o.processes looks lacking) some gets
+    lacks-space A s line g o asked looks some gets = no-space A (words_of b) (roomed b h) s line g (roomed-there s o) asked (room.tight b.named s g o.processes o.areas looks lacking) some gets
 
     pub refused-does : (A : Type 0) (c : Command) (g : ℕ) → 0 < g
         → ((s : State) (terms : Terms) (names : List (List ℕ)) → OneStands b s
@@ -90,7 +92,7 @@ module _ (b : One) (holds : Holds b) (n : ℕ) (h : Halves) (ok : Bool) (room : 
 
 -- The space after a process was made.
 abbrev pub spawned : One → Halves → One
-spawned b h = record { halves = h; row = b.row; next = b.next + 1; named = b.named; calls = b.calls + 1; swept = false }
+spawned b h = record { halves = h; row = b.row; next = b.next + 1; serials = b.serials; named = b.named; calls = b.calls + 1; swept = false }
 
 at-least : (m n : ℕ) → m ≤ n → nat_le m n ≡ true
 at-least m n h = grind (arith, nat_tests)
@@ -117,8 +119,8 @@ module _ (b : One) (holds : Holds b) (seat : Seat) (x : Sits b seat) (r : Reg) (
   -- A stack has no more places than words.
   pub push-fits : (p : Proc) → p ≡ get_or h.procs.items seat.row p → p.depth ≤ length h.mem
   push-fits p is =
-      let one : p.depth ≤ depths h.procs.items = omega (arith, depths-row h.procs.items seat.row (with_stack p p.stack 0) p (sits-there b holds 2 h ok room seat x).within is) in
-      omega (arith, one, room.laid.places, half-within h room.laid)
+      let one : p.depth ≤ places_in h.procs.items = omega (arith, places-row h.procs.items seat.row (with_stack p p.stack 0) p (sits-there b holds 2 h ok room seat x).within is) in
+      omega (arith, one, room.laid.fits, half-within h room.laid)
 
   module _ (given : ok ≡ true) (p : Proc) (is : p ≡ get_or h.procs.items seat.row p) (small : r.0 < 16) (mem2 : List ℕ)
       (written : mem2 ≡ set (set h.mem (h.low - 2) (get_or p.regs r.0 0)) (h.low - 2 + 1) p.stack) where
@@ -132,7 +134,7 @@ module _ (b : One) (holds : Holds b) (seat : Seat) (x : Sits b seat) (r : Reg) (
     fits = omega (arith, room-there 2 b.halves h ok room given, room.laid.order)
 
     order : h.low ≤ end_of h
-    order = omega (arith, room.laid.places)
+    order = omega (arith, room.laid.fits)
 
     push-becomes : (s : State) (terms : Terms) (names : List (List ℕ)) → OneStands b s
         → Becomes {A = Unit {0}} may_of_tight (words_of b) s (said (OfProcess seat.pid (verb.Push r)) terms names) (Ok tt)
@@ -143,7 +145,8 @@ module _ (b : One) (holds : Holds b) (seat : Seat) (x : Sits b seat) (r : Reg) (
         let q : Process = get_or s.processes seat.row no_process in
         let q2 : Process = record q { stack = register r.0 q ∷ q.stack } in
         let line : Parsed = said (OfProcess seat.pid (verb.Push r)) terms names in
-        let roles : (a k : ℕ) → o1.processes.test a k ≡ true → a < h.top = λ a k e. (o1.processes.objects a k e).1.0 in
+        let roles : (a k : ℕ) → o1.processes.test a k ≡ true → (a < h.top) ⊎ (h.low ≤ a) = λ a k e.
+        elim (o1.processes.lie a k e) [ inl object ↦ inl object.1.0 | inr there ↦ inr there.0 ] in
         let rows = pushed o1.processes.test s.shared h.mem h.top h.low (end_of h) b.named h.procs.items s.processes seat.row r.0 p sits1.within is small o1.processes.processes roles fits
         (half-within h room.laid) order mem2 written in
         let len : length mem2 ≡ length h.mem = pushed-len o1.processes.test s.shared h.mem h.top h.low (end_of h) b.named h.procs.items s.processes seat.row r.0 p sits1.within is small
@@ -151,31 +154,46 @@ module _ (b : One) (holds : Holds b) (seat : Seat) (x : Sits b seat) (r : Reg) (
         let limit : end_of h ≡ h.base + length mem2 / 2 = omega (arith, len) in
         let P : ℕ → Type 0 = λ z. ProcsStand o1.processes.test s.shared mem2 (h.low - 2) z b.named (set h.procs.items seat.row (with_stack p (h.low - 2) (p.depth + 1)))
         (set s.processes seat.row q2) in
+        let kept = words o1.processes.test s.shared h.mem h.top h.low (end_of h) b.named h.procs.items s.processes seat.row r.0 p sits1.within is small o1.processes.processes roles fits
+        (half-within h room.laid) order mem2 written in
         let stands : HalvesStand b.named b2.halves s.shared (set s.processes seat.row q2) =
-        record { test = o1.processes.test; single = o1.processes.single; objects = o1.processes.objects; processes = subst P limit rows } in
+        halves-filled b.named b.named h s.shared s.processes (set s.processes seat.row q2) room.laid o1.processes o1.processes.test o1.processes.single mem2 h.top (h.low - 2)
+        (with_item h.procs seat.row (with_stack p (h.low - 2) (p.depth + 1))) len (λ a k e. e) (λ a k e. inl e) (λ a k e. inl e) kept (omega arith) (omega arith) (omega arith) (subst P limit rows) in
         let Q : Option Process → Type 0 = λ z. Follows {A = Unit {0}} (in_process z s line (verb.Push r)) s (Ok tt) (OneStands b2) in
         let R : List Process → Type 0 = λ z. HalvesStand b.named b2.halves s.shared z in
         inl (subst Q (sym (found-there (roomed b h) s o1 counts1 seat sits1))
-        (settled-stands (roomed b h) b2 s line q2 o1 (subst R (sym (set-there (roomed b h) s o1 counts1 seat sits1 q2 (number-there (roomed b h) s o1 counts1 seat sits1))) stands) refl refl))
+        (settled-stands (roomed b h) b2 s line q2 o1 (subst R (sym (set-there (roomed b h) s o1 counts1 seat sits1 q2 (number-there (roomed b h) s o1 counts1 seat sits1))) stands) refl refl
+        refl (λ e. absurd (true≢false (sym e)))))
 
     push-counts : IsCounted (after b (laid_out h mem2 h.top (h.low - 2) (with_item h.procs seat.row (with_stack p (h.low - 2) (p.depth + 1)))))
     push-counts =
         let b2 : One = after b (laid_out h mem2 h.top (h.low - 2) (with_item h.procs seat.row (with_stack p (h.low - 2) (p.depth + 1)))) in
-        let more : depths (set h.procs.items seat.row (with_stack p (h.low - 2) (p.depth + 1))) ≡ depths h.procs.items + 1 =
-        omega (arith, depths-row h.procs.items seat.row (with_stack p (h.low - 2) (p.depth + 1)) p sits1.within is) in
+        let more : places_in (set h.procs.items seat.row (with_stack p (h.low - 2) (p.depth + 1))) ≡ places_in h.procs.items + 1 =
+        omega (arith, places-row h.procs.items seat.row (with_stack p (h.low - 2) (p.depth + 1)) p sits1.within is) in
         let len : length mem2 ≡ length h.mem =
         ap length written ∙ length-set (set h.mem (h.low - 2) (get_or p.regs r.0 0)) (h.low - 2 + 1) p.stack ∙ length-set h.mem (h.low - 2) (get_or p.regs r.0 0) in
+        let o1 : OneStands (roomed b h) holds.state = roomed-there b holds 2 h ok room holds.state holds.stands in
+        let roles : (a k : ℕ) → o1.processes.test a k ≡ true → (a < h.top) ⊎ (h.low ≤ a) = λ a k e.
+        elim (o1.processes.lie a k e) [ inl object ↦ inl object.1.0 | inr there ↦ inr there.0 ] in
+        let kept = words o1.processes.test holds.state.shared h.mem h.top h.low (end_of h) b.named h.procs.items holds.state.processes seat.row r.0 p sits1.within is small o1.processes.processes roles
+        fits (half-within h room.laid) order mem2 written in
+        let rows = pushed o1.processes.test holds.state.shared h.mem h.top h.low (end_of h) b.named h.procs.items holds.state.processes seat.row r.0 p sits1.within is small
+        o1.processes.processes roles
+        fits (half-within h room.laid) order mem2 written in
+        let limit : end_of h ≡ h.base + length mem2 / 2 = omega (arith, len) in
+        let P : ℕ → Type 0 = λ z. ProcsStand o1.processes.test holds.state.shared mem2 (h.low - 2) z b.named (set h.procs.items seat.row (with_stack p (h.low - 2) (p.depth + 1)))
+        (set holds.state.processes seat.row (record (get_or holds.state.processes seat.row no_process)
+        { stack = register r.0 (get_or holds.state.processes seat.row no_process) ∷ (get_or holds.state.processes seat.row no_process).stack })) in
         counts-same (roomed b h) b2 counts1
-        (record {
-          even = omega (arith, len, room.laid.even);
-          side = elim room.laid.side [ inl e ↦ inl e | inr e ↦ inr (omega (arith, e, len)) ];
-          front = room.laid.front;
-          order = omega (arith, fits);
-          places = omega (arith, room.laid.places, more, len, fits);
-        })
+        (laid-filled b.named b.named h holds.state.shared holds.state.processes
+        (set holds.state.processes seat.row (record (get_or holds.state.processes seat.row no_process)
+        { stack = register r.0 (get_or holds.state.processes seat.row no_process) ∷ (get_or holds.state.processes seat.row no_process).stack }))
+        room.laid o1.processes o1.processes.test o1.processes.single mem2 h.top (h.low - 2)
+        (with_item h.procs seat.row (with_stack p (h.low - 2) (p.depth + 1))) len (λ a k e. e) (λ a k e. inl e) (λ a k e. inl e) kept (omega arith) (omega arith) (omega arith) (subst P limit rows)
+        (omega (arith, fits)) (omega (arith, more, fits)))
         (numbers-row h.procs.items seat.row (with_stack p (h.low - 2) (p.depth + 1)) p sits1.within is refl) (length-set h.procs.items seat.row (with_stack p (h.low - 2) (p.depth + 1))) refl refl
         refl (omega arith) refl
-        (made-row (b.calls + 1) (b.calls + 1) h.procs.items seat.row (with_stack p (h.low - 2) (p.depth + 1)) p (omega arith) sits1.within is refl counts1.made)
+        (made-row (b.calls + 1) (b.calls + 1) h.procs.items seat.row (with_stack p (h.low - 2) (p.depth + 1)) p (omega arith) sits1.within is refl counts1.made) refl len refl refl
 
     pub push-does : Does {A = Unit {0}} (OfProcess seat.pid (verb.Push r)) b (after b (laid_out h mem2 h.top (h.low - 2) (with_item h.procs seat.row (with_stack p (h.low - 2) (p.depth + 1))))) (Ok tt)
     push-does =
@@ -220,7 +238,7 @@ module _ (b : One) (holds : Holds b) where
         (refl, (inr (omega arith), subst P (sym (not-full s o)) refl)))
 
     module _ (v : Vec Proc Global) (p : Proc) (items : v.items ≡ h.procs.items ++ p ∷ []) (capacity : vec_capacity v ≡ vec_capacity h.procs) (number : p.number ≡ b.next)
-        (regs : p.regs ≡ replicate 16 59) (depth : p.depth ≡ 0) (none : p.refs ≡ 0) where
+        (regs : p.regs ≡ replicate 16 59) (depth : p.depth ≡ 0) (waiting : p.waiting ≡ 0) (none : p.refs ≡ 0) where
       counts2 : IsCounted (roomed b h)
       counts2 = counts-there b holds 14 h ok room
 
@@ -229,16 +247,22 @@ module _ (b : One) (holds : Holds b) where
       spawn-becomes s terms names o =
           let b2 : One = spawned b (laid_out h h.mem h.top h.low v) in
           let o1 : OneStands (roomed b h) s = roomed-there b holds 14 h ok room s o in
-          let new = fresh-stands o1.processes.test s.shared h.mem b.named h.low (end_of h) p s.next (number ∙ sym o.next) regs depth none in
+          let new = fresh-stands o1.processes.test s.shared h.mem b.named h.low (end_of h) p s.next (number ∙ sym o.next) regs depth waiting none in
           let P : List Proc → Type 0 = λ z. ProcsStand o1.processes.test s.shared h.mem h.low (end_of h) b.named z (s.processes ++ fresh_process s.next ∷ []) in
-          let stands : HalvesStand b.named b2.halves s.shared (s.processes ++ fresh_process s.next ∷ []) = record {
-            test = o1.processes.test;
-            single = o1.processes.single;
-            objects = o1.processes.objects;
-            processes = subst P (sym items) (procs-push o1.processes.test s.shared h.mem b.named h.low (end_of h) h.procs.items s.processes p (fresh_process s.next) o1.processes.processes new);
-          } in
+          let stands : HalvesStand b.named b2.halves s.shared (s.processes ++ fresh_process s.next ∷ []) =
+          halves-filled b.named b.named h s.shared s.processes (s.processes ++ fresh_process s.next ∷ []) room.laid o1.processes o1.processes.test o1.processes.single h.mem h.top h.low v refl
+          (λ a k e. e) (λ a k e. inl e) (λ a k e. inl e) (λ a k e. refl) (omega arith) (omega arith) (omega arith)
+          (subst P (sym items) (procs-push o1.processes.test s.shared h.mem b.named h.low (end_of h) h.procs.items s.processes p (fresh_process s.next) o1.processes.processes new)) in
           let Q : Bool → Type 0 = λ z. Follows {A = ℕ} (spawn_if z s (said (System sysverb.Spawn) terms names)) s (Ok b.next) (OneStands b2) in
-          inl (subst Q (sym (not-full s o)) (record { processes = stands; next = ap (λ z. z + 1) o.next; swept = refl; shared = o.shared; areas = o.areas }))
+          inl (subst Q (sym (not-full s o)) (record {
+            processes = stands;
+            next = ap (λ z. z + 1) o.next;
+            swept = refl;
+            shared = o.shared;
+            areas = o.areas;
+            reached = λ e. absurd
+                (true≢false (sym e));
+          }))
 
       spawn-counts : IsCounted (spawned b (laid_out h h.mem h.top h.low v))
       spawn-counts =
@@ -246,9 +270,9 @@ module _ (b : One) (holds : Holds b) where
           let Q : List Proc → Type 0 = λ z. AreBelow (b.next + 1) (numbers number_in z) in
           let R : ℕ → Type 0 = λ z. AreBelow z (numbers number_in h.procs.items) in
           let one : length v.items ≡ length h.procs.items + 1 = ap length items ∙ length-append h.procs.items (p ∷ []) in
-          let same : depths v.items ≡ depths h.procs.items = omega (arith, ap depths items, sum_by_push (λ r. r.depth) h.procs.items p, depth) in
+          let same : places_in v.items ≡ places_in h.procs.items = omega (arith, ap places_in items, sum_by_push (λ r. r.depth + r.waiting) h.procs.items p, depth, waiting) in
           record {
-            laid = record { even = room.laid.even; side = room.laid.side; front = room.laid.front; order = room.laid.order; places = omega (arith, room.laid.places, same) };
+            laid = record { even = room.laid.even; side = room.laid.side; front = room.laid.front; order = room.laid.order; fits = omega (arith, room.laid.fits, same) };
             enough = counts2.enough;
             places = omega (arith, counts2.places, capacity);
             few = omega (arith, one, few, row-count b.halves.procs.items h.procs.items (stays-roomed 14 b.halves h ok room).rows);
@@ -259,6 +283,9 @@ module _ (b : One) (holds : Holds b) where
             counted = counts2.counted;
             made = let S : List Proc → Type 0 = λ z. HaveMade (b.calls + 1) z in
                 subst S (sym items) (made-push (b.calls + 1) (b.calls + 1) (omega arith) h.procs.items p counts2.made (omega (arith, none)));
+            serials = counts2.serials;
+            bins = counts2.bins;
+            funs = counts2.funs;
           }
 
       pub spawn-does : Does {A = ℕ} (System sysverb.Spawn) b (spawned b (laid_out h h.mem h.top h.low v)) (Ok b.next)

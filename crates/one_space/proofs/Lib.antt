@@ -6,10 +6,14 @@ mod Rooms
 mod Seated
 mod Acting
 mod Growing
+mod Resting
+mod Tabled
+mod Landing
 mod Naming
 mod Registers
 mod Terming
 mod Choosing
+mod Parting
 mod Asking
 mod Pairing
 mod Referring
@@ -19,3 +23,7 @@ mod Sweeping
 mod Telling
 mod Calling
 mod Imaged
+mod Allowing
+mod Gaining
+mod Filling
+mod Funning

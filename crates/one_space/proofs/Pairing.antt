@@ -55,7 +55,8 @@ use Rattle.one_space.specs.Doing.{DoesBy, refusal_of_put}
 use Rattle.two_halves.specs.declared.halves.Halves.{Halves}
 use Rattle.one_space.specs.declared.one.One.{One}
 use Rattle.two_halves.specs.declared.table.Proc.{Proc}
-use Rattle.one_space.proofs.Acting.{after, laid_out}
+use Rattle.one_space.proofs.Acting.{after}
+use Rattle.two_halves.proofs.Filled.{laid_out}
 use Rattle.one_space.proofs.Changing.{no_process}
 use Rattle.one_space.proofs.Growing.{books-there, counts-there, grow-at, holds-there, lacks-space, roomed-there, sits-there, some-process}
 use Rattle.one_space.proofs.Naming.{placed-named}
@@ -311,7 +312,8 @@ module _ (b : One) (holds : Holds b) (seat : Seat) (x : Sits b seat) (r m k v : 
                   let P : ℕ → Type 0 = λ n. Built (roomed-there b holds g h ok room s o).processes.test h.top (4 + 2 * count_placed place.spot n) h.mem mem2 s.shared w (made_in s o) in
                   subst P (sym here.fits.count)
                   (built (roomed-there b holds g h ok room s o).processes.test s.shared here.pairs (register k.0 (seated_in s)) (register v.0 (seated_in s))
-                  (room-free b holds seat x g h ok room given s o (4 + 2 * count_placed place.spot (pairs_len here.pairs))) (map-after s o) (held-after s o k.0 two).standing
+                  (room-free b holds seat x g h ok room given s o (4 + 2 * count_placed place.spot (pairs_len here.pairs))
+                  (omega (arith, words, here.fits.count, count-below place.spot (pairs_len here.pairs)))) (map-after s o) (held-after s o k.0 two).standing
                   (held-after s o v.0 three).standing)
 
               made-named : (s : State) (o : OneStands b s) → is_named b.named (made_in s o) ≡ true
@@ -324,7 +326,8 @@ module _ (b : One) (holds : Holds b) (seat : Seat) (x : Sits b seat) (r m k v : 
               put-stands : (s : State) (o : OneStands b s) (terms : Terms)
                   → OneStands (after b h3) (settled (line_of terms) (with_process (with_register r.0 (made_in s o) (seated_in s)) s))
               put-stands s o terms =
-                  term-stands b holds seat x g h ok room given mem2 z used few-used uses-there p2 is2 r.0 w p2.refs b.row refl s o (made_in s o) b.named (seated_in s).refs (omega arith) (made-named s o)
+                  term-stands b holds seat x g h ok room given mem2 z used few-used uses-there p2 is2 r.0 w p2.refs b.row refl s o (made_in s o) b.named (seated_in s).refs (omega
+                  arith) (made-named s o)
                   (row-there (roomed b h) (counts-there b holds g h ok room) seat (sits-there b holds g h ok room seat x) p2 is2 s (roomed-there b holds g h ok room s o)).refs (built-there s o)
                   put_verb terms names
 

@@ -23,7 +23,8 @@ use Rattle.one_space.specs.Doing.{Does}
 use Rattle.two_halves.specs.declared.halves.Halves.{Halves}
 use Rattle.one_space.specs.declared.one.One.{One}
 use Rattle.two_halves.specs.declared.table.Proc.{Proc}
-use Rattle.one_space.proofs.Acting.{after, laid_out}
+use Rattle.one_space.proofs.Acting.{after}
+use Rattle.two_halves.proofs.Filled.{laid_out}
 use Rattle.one_space.proofs.Changing.{no_process}
 use Rattle.one_space.proofs.Counting.{made-at, made-same}
 use Rattle.one_space.proofs.Growing.{counts-there, grow-at, holds-become, refused-does, roomed-there, sits-there, some-process}
@@ -63,7 +64,8 @@ module _ (b : One) (holds : Holds b) (seat : Seat) (x : Sits b seat) (r : Reg) (
         let made : q.refs + 1 ≡ k = omega (arith, counted, (row-there (roomed b h) counts1 seat sits1 p is s o1).refs) in
         let B : ℕ → ℕ → Type 0 = λ n m. Built o1.processes.test h.top 3 h.mem mem2 s.shared w (Ref n m) in
         let here : B q.number (q.refs + 1) =
-        let C : ℕ → Type 0 = λ n. B n (q.refs + 1) in subst C (sym number) (subst (B seat.pid) (sym made) (built o1.processes.test s.shared (room-free b holds seat x 3 h ok room given s o 3))) in
+        let C : ℕ → Type 0 = λ n. B n (q.refs + 1) in subst C (sym number) (subst (B seat.pid) (sym made) (built o1.processes.test s.shared (room-free b holds seat x 3 h ok room given
+        s o 3 (omega arith)))) in
         let P : Option Process → Type 0 = λ v. Follows {A = Unit {0}} (in_process v s (said (OfProcess seat.pid (verb.Ref r)) terms names) (verb.Ref r)) s (Ok tt) (OneStands (after b h3)) in
         inl (subst P (sym (found-there (roomed b h) s o1 counts1 seat sits1))
         (term-stands b holds seat x 3 h ok room given mem2 z 3 (omega arith) uses p2 is2 r.0 w k b.row refl s o (Ref q.number (q.refs + 1)) b.named (q.refs + 1) (omega arith) refl made here

@@ -30,7 +30,8 @@ use Rattle.one_space.specs.Doing.{Does}
 use Rattle.two_halves.specs.declared.halves.Halves.{Halves}
 use Rattle.one_space.specs.declared.one.One.{One}
 use Rattle.two_halves.specs.declared.table.Proc.{Proc}
-use Rattle.one_space.proofs.Acting.{after, laid_out}
+use Rattle.one_space.proofs.Acting.{after}
+use Rattle.two_halves.proofs.Filled.{laid_out}
 use Rattle.one_space.proofs.Changing.{no_process}
 use Rattle.one_space.proofs.Growing.{counts-there, grow-at, holds-become, refused-does, roomed-there, sits-there, some-process, some-words}
 use Rattle.one_space.proofs.Naming.{repeated-named}
@@ -88,7 +89,7 @@ module _ (b : One) (holds : Holds b) (seat : Seat) (x : Sits b seat) (r : Reg) (
           let q : Process = get_or s.processes seat.row no_process in
           let line = said (OfProcess seat.pid v) terms names in
           let held = held-there (roomed b h) counts1 seat sits1 p is s o1 m.0 small in
-          let made = built o1.processes.test s.shared (register m.0 q) (room-free b holds seat x g h ok room given s o (repeat_words shape n)) held.standing in
+          let made = built o1.processes.test s.shared (register m.0 q) (room-free b holds seat x g h ok room given s o (repeat_words shape n) (omega (arith, words))) held.standing in
           let P : Option Process → Type 0 = λ u. Follows {A = Unit {0}} (in_process u s line v) s (Ok tt) (OneStands (after b h3)) in
           let Q : Bool → Type 0 = λ u. Follows {A = Unit {0}} (repeat_if u (repeated shape n (register m.0 q)) s line q r.0) s (Ok tt) (OneStands (after b h3)) in
           inl (subst P (sym (found-there (roomed b h) s o1 counts1 seat sits1)) (subst Q (sym (few-enough n few))
@@ -96,7 +97,8 @@ module _ (b : One) (holds : Holds b) (seat : Seat) (x : Sits b seat) (r : Reg) (
           (omega arith) (repeated-named b.named (register m.0 q) held.names shape n) (row-there (roomed b h) counts1 seat sits1 p2 is2 s o1).refs made v terms names)))
 
       repeat-counts : IsCounted (after b h3)
-      repeat-counts = term-counts b holds seat x g h ok room given mem2 z (repeat_words shape n) (omega (arith, words)) uses p2 is2 r.0 w p2.refs b.row refl b.named (row-made b holds seat x g h ok room p2 is2)
+      repeat-counts = term-counts b holds seat x g h ok room given mem2 z (repeat_words shape n) (omega (arith, words)) uses p2 is2 r.0 w p2.refs b.row refl b.named (row-made b holds
+          seat x g h ok room p2 is2)
 
       pub repeat-does : Does {A = Unit {0}} (OfProcess seat.pid v) b (after b h3) (Ok tt)
       repeat-does = record {

@@ -14,6 +14,7 @@ use Rattle.plain_machine.specs.May.{gets_to_space, is_purge, may_of_tight}
 use Rattle.space_api.specs.Calls.{AreRising, Becomes, Follows, Passes}
 use Rattle.numbered_rows.specs.Numbers.{AreBelow, numbers}
 use Rattle.two_halves.specs.Halves.{HalvesStand, IsLaid, free_in}
+use Rattle.two_halves.specs.Reached.{ChainReached}
 use Rattle.two_halves.specs.Collecting.{AreSameRows, Collects, MakesRoom}
 use Rattle.one_space.specs.One.{IsCounted, OneStands, Sits, number_in}
 use Rattle.two_halves.specs.declared.halves.Halves.{Halves}
@@ -25,37 +26,39 @@ use Rattle.two_halves.proofs.Ended.{row-count}
 
 -- The space with other halves, one call later.
 abbrev pub roomed : One → Halves → One
-roomed b h = record { halves = h; row = b.row; next = b.next; named = b.named; calls = b.calls + 1; swept = b.swept }
+roomed b h = record { halves = h; row = b.row; next = b.next; serials = b.serials; named = b.named; calls = b.calls + 1; swept = b.swept }
 
 same-self : (ps : List Proc) → AreSameRows ps ps
 same-self [] = tt
-same-self (p ∷ ps) = (refl, (refl, (refl, same-self ps)))
+same-self (p ∷ ps) = (refl, (refl, (refl, (refl, same-self ps))))
 
 same-numbers : (os ns : List Proc) → AreSameRows os ns → numbers number_in ns ≡ numbers number_in os
 same-numbers [] [] s = refl
 same-numbers [] (n ∷ ns) s = absurd s
 same-numbers (o ∷ os) [] s = absurd s
-same-numbers (o ∷ os) (n ∷ ns) s = ap (λ x. x ∷ numbers number_in ns) s.0 ∙ ap (λ x. o.number ∷ x) (same-numbers os ns s.1.1.1)
+same-numbers (o ∷ os) (n ∷ ns) s = ap (λ x. x ∷ numbers number_in ns) s.0 ∙ ap (λ x. o.number ∷ x) (same-numbers os ns s.1.1.1.1)
 
 same-number : (os ns : List Proc) (i : ℕ) (d : Proc) → AreSameRows os ns → (get_or ns i d).number ≡ (get_or os i d).number
 same-number [] [] i d s = refl
 same-number [] (n ∷ ns) i d s = absurd s
 same-number (o ∷ os) [] i d s = absurd s
 same-number (o ∷ os) (n ∷ ns) zero d s = s.0
-same-number (o ∷ os) (n ∷ ns) (suc i) d s = same-number os ns i d s.1.1.1
+same-number (o ∷ os) (n ∷ ns) (suc i) d s = same-number os ns i d s.1.1.1.1
 
 -- What stays.
 pub record Stays (old new : Halves) : Type 0 where
   pub rows : AreSameRows old.procs.items new.procs.items
   pub capacity : vec_capacity new.procs ≡ vec_capacity old.procs
+  pub bins : vec_capacity new.bins ≡ vec_capacity old.bins
+  pub funs : vec_capacity new.funs ≡ vec_capacity old.funs
   pub sweeps : new.sweeps ≤ old.sweeps + 1
   pub same_len : length new.mem ≡ length old.mem
 
 stays-self : (h : Halves) → Stays h h
-stays-self h = record { rows = same-self h.procs.items; capacity = refl; sweeps = omega arith; same_len = refl }
+stays-self h = record { rows = same-self h.procs.items; capacity = refl; bins = refl; funs = refl; sweeps = omega arith; same_len = refl }
 
 pub stays-collected : (old new : Halves) → Collects old new → Stays old new
-stays-collected old new c = record { rows = c.rows; capacity = c.capacity; sweeps = omega (arith, c.counted); same_len = c.same_len }
+stays-collected old new c = record { rows = c.rows; capacity = c.capacity; bins = c.bins; funs = c.funs; sweeps = omega (arith, c.counted); same_len = c.same_len }
 
 pub stays-roomed : (n : ℕ) (old new : Halves) (r : Bool) → MakesRoom n old new r → Stays old new
 stays-roomed n old new r m = elim (dec_le n (free_in old)) [
@@ -78,6 +81,9 @@ counts-roomed b h c s laid =
       numbered = omega (arith, c.numbered);
       counted = omega (arith, c.counted, s.sweeps);
       made = made-same b.calls (b.calls + 1) (omega arith) b.halves.procs.items h.procs.items s.rows c.made;
+      serials = omega (arith, c.serials);
+      bins = omega (arith, c.bins, s.bins, s.same_len);
+      funs = omega (arith, c.funs, s.funs, s.same_len);
     }
 
 -- A seat stays good.
@@ -88,8 +94,15 @@ sits-roomed b h seat s x = record {
 }
 
 -- The space stands for what it stood for.
-pub stands-roomed : (b : One) (h : Halves) (s : State) → OneStands b s → HalvesStand b.named h s.shared s.processes → OneStands (roomed b h) s
-stands-roomed b h s o p = record { processes = p; next = o.next; swept = o.swept; shared = o.shared; areas = o.areas }
+pub stands-roomed : (b : One) (h : Halves) (s : State) → OneStands b s → HalvesStand b.named h s.shared s.processes → (ChainReached b.halves → ChainReached h) → OneStands (roomed b h) s
+stands-roomed b h s o p reached = record { processes = p; next = o.next; swept = o.swept; shared = o.shared; areas = o.areas; reached = λ e. reached (o.reached e) }
+
+-- Where the chain's objects were reached they are still.
+pub reached-roomed : (n : ℕ) (old new : Halves) (r : Bool) → MakesRoom n old new r → ChainReached old → ChainReached new
+reached-roomed n old new r m c = elim (dec_le n (free_in old)) [
+  | yes there ↦ subst ChainReached (sym (m.idle there)) c
+  | no few ↦ (m.collects (omega arith)).chained
+]
 
 -- There is no space where the line is tight.
 all-true : (a b c d : Bool) → a ≡ true → b ≡ true → d ≡ true → (a && ((b || c) && d)) ≡ true

@@ -1,5 +1,5 @@
 -- The process of a seat in a state that the space stands for.
-use Rattle.std.proofs.Common.{◌≡◌, ◌<◌, length, map, get_or, set, Some, sym, ◌∙◌, subst, arith}
+use Rattle.std.proofs.Common.{◌≡◌, ◌<◌, true, length, map, get_or, set, Some, sym, ◌∙◌, subst, arith}
 use Rattle.std.specs.List.{filter, remove}
 use Rattle.plain_machine.specs.State.{Process, State, process_of, with_process}
 use Rattle.plain_machine.specs.Step.{is_sweep, settled}
@@ -7,6 +7,7 @@ use Rattle.script_grammar.specs.Names.{Parsed}
 use Rattle.space_api.specs.Calls.{AreRising}
 use Rattle.space_api.specs.declared.space.Seat.{Seat}
 use Rattle.two_halves.specs.Halves.{HalvesStand, end_of}
+use Rattle.two_halves.specs.Reached.{ChainReached}
 use Rattle.one_space.specs.One.{IsCounted, OneStands, Sits}
 use Rattle.one_space.specs.declared.one.One.{One}
 use Rattle.one_space.proofs.Changing.{no_process, procs-at, procs-count, procs-numbers}
@@ -41,6 +42,6 @@ module _ (b : One) (s : State) (o : OneStands b s) (c : IsCounted b) where
 
 -- The space stands for the state with one process changed.
 pub settled-stands : (b c : One) (s : State) (p : Parsed) (q : Process) → OneStands b s → HalvesStand c.named c.halves s.shared (map (replaced q) s.processes) → c.next ≡ b.next
-    → c.swept ≡ is_sweep p.command
+    → c.swept ≡ is_sweep p.command → c.serials ≡ b.serials → (is_sweep p.command ≡ true → ChainReached c.halves)
     → OneStands c (settled p (with_process q s))
-settled-stands b c s p q o h next swept = record { processes = h; next = o.next ∙ sym next; swept = sym swept; shared = o.shared; areas = o.areas }
+settled-stands b c s p q o h next swept serials reached = record { processes = h; next = o.next ∙ sym next; swept = sym swept; shared = o.shared ∙ sym serials; areas = o.areas; reached = reached }

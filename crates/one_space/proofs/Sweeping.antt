@@ -8,10 +8,12 @@ use Rattle.two_halves.specs.declared.halves.Halves.{Halves}
 use Rattle.one_space.specs.declared.one.One.{One}
 use Rattle.one_space.proofs.Rooms.{counts-roomed, stays-collected}
 
-pub sweeps : (all : Bool) (b : One) (h : Halves) → Holds b → Collects b.halves h → Sweeps all b (record { halves = h; row = b.row; next = b.next; named = b.named; calls = b.calls + 1; swept = all })
+pub sweeps : (all : Bool) (b : One) (h : Halves) → Holds b → Collects b.halves h
+    → Sweeps all b (record { halves = h; row = b.row; next = b.next; serials = b.serials; named = b.named; calls = b.calls + 1; swept = all })
 sweeps all b h holds c =
-    let stands : (s : State) → OneStands b s → OneStands (record { halves = h; row = b.row; next = b.next; named = b.named; calls = b.calls + 1; swept = all }) (record s { swept = all }) = λ s o.
-    record { processes = c.stands b.named s.shared s.processes o.processes; next = o.next; swept = refl; shared = o.shared; areas = o.areas } in
+    let stands : (s : State) → OneStands b s → OneStands (record { halves = h; row = b.row; next = b.next; serials = b.serials; named = b.named; calls = b.calls + 1; swept = all })
+    (record s { swept = all }) = λ s o.
+    record { processes = c.stands b.named s.shared s.processes o.processes; next = o.next; swept = refl; shared = o.shared; areas = o.areas; reached = λ e. c.chained } in
     let counts = counts-roomed b h holds.counts (stays-collected b.halves h c) c.laid in
     record {
       holds = record {
@@ -26,6 +28,9 @@ sweeps all b h holds c =
           numbered = counts.numbered;
           counted = counts.counted;
           made = counts.made;
+          serials = counts.serials;
+          bins = counts.bins;
+          funs = counts.funs;
         };
         state = record holds.state { swept = all };
         stands = stands holds.state holds.stands;

@@ -4,6 +4,8 @@ use Rattle.plain_term.specs.declared.item.Item.{Item}
 use Rattle.script_grammar.specs.declared.command.Command.{Command}
 use Rattle.script_grammar.specs.declared.command.Command.TheVariants.{Process}
 use Rattle.script_grammar.specs.declared.command.Verb.TheVariants as verb
+use Rattle.script_grammar.specs.declared.command.Pick.{Pick}
+use Rattle.script_grammar.specs.declared.command.Pick.TheVariants as pick
 use Rattle.script_grammar.specs.declared.command.Reg.{Reg}
 use Rattle.script_grammar.specs.declared.refusal.Refusal.{Refusal}
 use Rattle.script_grammar.specs.declared.refusal.Refusal.TheVariants.{BadArg, Big, MapSize, NoSpace}
@@ -90,6 +92,11 @@ is_early _ = false
 pub record AsksUnless {A : Type 0} (n : ℕ) (old new : One) (result : Result A Refusal) : Type 0 where
   pub early : is_early result ≡ true → new ≡ old
   pub asks : is_early result ≡ false → Asks n old new result
+
+-- What is picked are bytes of a binary: they ask for words.
+abbrev pub takes_part : Pick → Bool
+takes_part (pick.Part offset len) = true
+takes_part _ = false
 
 -- The refusal of a written term that is not built.
 abbrev pub refusal_for : BuildStop → Refusal

@@ -1,6 +1,7 @@
--- The image of a space, over its memory, its table and its single numbers.
+-- The image of a space, over its memory, its tables and its single numbers.
 use Rattle.std.specs.Prelude.{ℕ, ◌-◌, List, [], ◌∷◌, map, take, drop, reverse}
 use Rattle.plain_machine.specs.Image.{Image, Region, Rooted}
+use Rattle.record_move.specs.Copies.{record_words}
 use Rattle.two_halves.specs.Stack.{values}
 use Rattle.two_halves.specs.Halves.{front_of}
 use Rattle.one_space.specs.One.{words_of}
@@ -12,17 +13,30 @@ use Rattle.one_space.specs.declared.one.One.{One}
 abbrev pub object_region : Halves → Region
 object_region h = record { place = front_of h; words = take (h.top - front_of h) (drop (front_of h) h.mem) }
 
--- A row with its stack from the first pushed.
-abbrev pub rooted : List ℕ → Proc → Rooted
-rooted mem p = record { number = p.number; refs = p.refs; registers = p.regs; stack = reverse (values mem p.stack p.depth) }
+-- The record at a place.
+abbrev pub record_region : List ℕ → ℕ → Region
+record_region mem v = record { place = v; words = take (record_words mem v) (drop v mem) }
 
--- The whole image. No shared binaries are made yet.
+-- A row with the first object of the one chain, its stack from the first pushed, and its queue from the first to be received.
+abbrev pub rooted : Halves → Proc → Rooted
+rooted h p = record {
+  number = p.number;
+  refs = p.refs;
+  chain = h.head;
+  registers = p.regs;
+  stack = reverse (values h.mem p.stack p.depth);
+  queue = values h.mem p.queue p.waiting;
+}
+
+-- The whole image.
 abbrev pub image : One → Image
 image b = record {
   words = words_of b;
-  serials = 0;
+  serials = b.serials;
   next = b.next;
   swept = b.swept;
   regions = object_region b.halves ∷ [];
-  processes = map (rooted b.halves.mem) b.halves.procs.items;
+  bins = map (record_region b.halves.mem) b.halves.bins.items;
+  funs = map (record_region b.halves.mem) b.halves.funs.items;
+  processes = map (rooted b.halves) b.halves.procs.items;
 }

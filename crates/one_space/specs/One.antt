@@ -1,13 +1,15 @@
 -- What a space holds, and the states that it stands for.
-use Rattle.std.specs.Prelude.{◌≡◌, ℕ, ◌+◌, ◌<◌, ◌≤◌, List, [], ◌∷◌, length, get_or}
+use Rattle.std.specs.Prelude.{◌≡◌, ℕ, ◌+◌, ◌*◌, ◌/◌, ◌<◌, ◌≤◌, true, List, [], ◌∷◌, length, get_or}
 use Rattle.std.specs.Vec.{vec_len, vec_capacity}
 use Rattle.plain_machine.specs.State.{State}
+use Rattle.plain_machine.specs.declared.costs.TheConstants.{RECORD_COST}
 use Rattle.plain_machine.specs.declared.limits.TheConstants.{MOST_PROCESSES}
 use Rattle.space_api.specs.Calls.{AreRising}
 use Rattle.space_api.specs.declared.space.Seat.{Seat}
 use Rattle.numbered_rows.specs.Numbers.{AreBelow}
 use Rattle.numbered_rows.specs.Numbers.{numbers as numbers_by}
-use Rattle.two_halves.specs.Halves.{HalvesStand, IsLaid}
+use Rattle.two_halves.specs.Halves.{HalvesStand, IsLaid, half_of}
+use Rattle.two_halves.specs.Reached.{ChainReached}
 use Rattle.two_halves.specs.declared.table.Proc.{Proc}
 use Rattle.one_space.specs.declared.one.One.{One}
 use Rattle.one_space.specs.declared.one.TheConstants.{ROW}
@@ -24,13 +26,15 @@ numbers_of b = numbers_by number_in b.halves.procs.items
 abbrev pub words_of : One → ℕ
 words_of b = length b.halves.mem
 
--- The space stands for the state: what the state has beside processes is nothing yet.
+-- The space stands for the state, whose areas are none. Where nothing has changed since the last sweep, the processes reach every
+-- object of the chain.
 pub record OneStands (b : One) (s : State) : Type 0 where
   pub processes : HalvesStand b.named b.halves s.shared s.processes
   pub next : s.next ≡ b.next
   pub swept : s.swept ≡ b.swept
-  pub shared : s.shared ≡ []
+  pub shared : length s.shared ≡ b.serials
   pub areas : s.areas ≡ []
+  pub reached : s.swept ≡ true → ChainReached b.halves
 
 -- Each of the rows has made at most so many references.
 abbrev pub HaveMade : ℕ → List Proc → Type 0
@@ -38,7 +42,8 @@ HaveMade most [] = Unit {0}
 HaveMade most (p ∷ ps) = (p.refs ≤ most) × HaveMade most ps
 
 -- The numbers of a space: they rise and stay below the next one, which no more than calls have raised, as they have the
--- collections and the references of each process; and the tables have room for what a line and the most processes ask.
+-- collections and the references of each process, and no call makes more shared binaries than a line has items; and the tables
+-- have room for what a line, the most processes and the records of a half ask.
 pub record IsCounted (b : One) : Type 0 where
   pub laid : IsLaid b.halves
   pub enough : vec_len b.row ≡ ROW
@@ -50,6 +55,9 @@ pub record IsCounted (b : One) : Type 0 where
   pub numbered : b.next ≤ b.calls + 2
   pub counted : b.halves.sweeps ≤ b.calls
   pub made : HaveMade b.calls b.halves.procs.items
+  pub serials : b.serials ≤ ROW * b.calls
+  pub bins : half_of b.halves / RECORD_COST ≤ vec_capacity b.halves.bins
+  pub funs : half_of b.halves / RECORD_COST ≤ vec_capacity b.halves.funs
 
 -- What is true of a space at any time: it stands for some state.
 pub record Holds (b : One) : Type 0 where

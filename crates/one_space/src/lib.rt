@@ -1,6 +1,11 @@
 //! A space of two halves: objects and stacks of all processes stand in one of them, and a collection moves all that lives to the other.
 #![tactic(auto)]
 
+mod cutting;
+mod entering;
+mod gathering;
+mod listing;
+mod new_calls;
 mod one;
 mod space;
 mod terms;

@@ -9,10 +9,10 @@ ghost use Rattle.space_api.specs.Calls.{most_calls};
 ghost use Rattle.one_space.specs.One.{Holds, Sits};
 ghost use Rattle.one_space.specs.Doing.{Asks, Does, DoesAlways, DoesAtOnce, Sweeps};
 
-use two_halves::{Halves, PLACE_WORDS, Proc, UNUSED, fresh};
 use plain_machine::{MOST_PROCESSES, PLACE_COST, PROCESS_COST, Refusal, Reg};
 use space_api::Seat;
 use term_tags::pid as pid_word;
+use two_halves::{Halves, PLACE_WORDS, Proc, UNUSED, fresh};
 
 /// The most items of a line, and so the most words of terms that are not yet put together.
 pub const ROW: usize = 4096;
@@ -20,13 +20,15 @@ pub const ROW: usize = 4096;
 /// The free words that a new process asks for: it takes none, and what a half never uses is among what it counts for.
 pub const SPAWN_WORDS: u64 = PROCESS_COST - UNUSED;
 
-/// Two halves with their processes; a row of words for terms that are being put together; the number of the next process; a
-/// number above all atoms; how many calls changed something; and whether nothing has since all was swept.
+/// Two halves with their processes; a row of words for terms that are being put together; the number of the next process; how
+/// many shared binaries were made; a number above all atoms; how many calls changed something; and whether nothing has since all
+/// was swept.
 #[derive(Drop)]
 pub struct One {
     pub halves: Halves,
     pub row: Vec<u64>,
     pub next: u64,
+    pub serials: u64,
     pub named: u64,
     pub calls: u64,
     pub swept: bool,

@@ -1,5 +1,5 @@
 // The space.
-ghost use Rattle.std.specs.Prelude.{◌≡◌, ℕ, ◌+◌, ◌*◌, ◌%◌, ◌<◌, ◌≤◌, ◌^◌, true, Err, Some, IfOk, OnErr, List, length, max};
+ghost use Rattle.std.specs.Prelude.{◌≡◌, ℕ, ◌+◌, ◌*◌, ◌%◌, ◌<◌, ◌≤◌, ◌^◌, true, false, Err, Some, IfOk, OnErr, List, length, max};
 ghost use Rattle.script_grammar.specs.declared.command.Command.TheVariants.{Process, System};
 ghost use Rattle.script_grammar.specs.declared.command.Verb.TheVariants as verb;
 ghost use Rattle.script_grammar.specs.declared.command.SysVerb.TheVariants as sysverb;
@@ -7,21 +7,25 @@ ghost use Rattle.script_grammar.specs.declared.refusal.Refusal.TheVariants.{Proc
 ghost use Rattle.script_grammar.specs.Written.{Term, Terms};
 ghost use Rattle.plain_machine.specs.State.{HasNames, State, first_state};
 ghost use Rattle.plain_machine.specs.Step.{step};
-ghost use Rattle.space_api.specs.Calls.{Becomes, Follows, HasTerm, IsTerm, Passes, most_calls, one_term, said};
+ghost use Rattle.atom_names.specs.Names.{most_names};
+ghost use Rattle.space_api.specs.Calls.{Becomes, Follows, HasEnv, HasTerm, IsEnv, IsTerm, Passes, most_calls, one_term, said};
 ghost use Rattle.script_grammar.specs.Names.{IsRegister, PicksRegister};
 
-use two_halves::{Halves, UNUSED, fresh};
+use crate::cutting::PART_WORDS;
 use crate::one::{One, ROW, SPAWN_WORDS};
 use crate::terms::REF_WORDS;
 use atom_names::AtomNames;
-use line_io::Sink;
+use line_io::{Sink, SinkFault};
 use numbered_rows::{find, first_above};
-use plain_machine::{Depth, MOST_PROCESSES, Measure, PLACE_COST, Pick, Refusal, Reg, Shape};
+use plain_machine::{
+    Depth, MOST_PROCESSES, Measure, PLACE_COST, Pick, RECORD_COST, Refusal, Reg, Shape,
+};
 use plain_term::Item;
 use space_api::{Seat, Space, Stop};
 use std::alloc::Global;
 use std::cmp::Ordering;
 use std::marker::Model;
+use two_halves::{Halves, UNUSED, fresh};
 use word_mem::{OpenFault, WordMem};
 
 /// The fewest words of a space.
@@ -66,6 +70,13 @@ impl OneSpace {
         let Ok(row) = Vec::from_elem(alloc, 0u64, ROW) else {
             return Err(OpenFault::Memory);
         };
+        let records = (words / 2 / RECORD_COST) as usize;
+        let Ok(bins) = Vec::with_capacity(alloc, records) else {
+            return Err(OpenFault::Memory);
+        };
+        let Ok(funs) = Vec::with_capacity(alloc, records) else {
+            return Err(OpenFault::Memory);
+        };
         procs.push_reserved(fresh(1));
         Ok(OneSpace {
             one: One {
@@ -75,10 +86,15 @@ impl OneSpace {
                     top: UNUSED,
                     low: words / 2,
                     procs,
+                    head: 0,
+                    linked: 0,
+                    bins,
+                    funs,
                     sweeps: 0,
                 },
                 row,
                 next: 2,
+                serials: 0,
                 named: 0,
                 calls: 0,
                 swept: false,
@@ -99,11 +115,11 @@ impl Space for OneSpace {
     ghost use Rattle.plain_machine.specs.May.{may_of_tight};
     ghost use Rattle.space_api.specs.Calls.{Properly};
     ghost use Rattle.one_space.specs.One.{OneStands, Sits, words_of};
-    ghost use Rattle.one_space.specs.Doing.{Asks, AsksUnless, Books, IsSwept};
+    ghost use Rattle.one_space.specs.Doing.{Asks, AsksUnless, Books, IsSwept, takes_part};
+    ghost use Rattle.one_space.specs.Listing.{text_of};
     ghost use Rattle.item_build.specs.Reading.{words_of as item_words_of};
-    ghost use Rattle.script_grammar.specs.Grammar.{is_built, pick_word};
     ghost use Rattle.plain_machine.specs.State.{Process as Live, process_of, register};
-    ghost use Rattle.plain_machine.specs.Tightness.{keys_in, repeat_words};
+    ghost use Rattle.plain_machine.specs.Tightness.{fill_words, keys_in, repeat_words};
 
     ghost stands = { λ b s. Properly (OneStands b) s };
 
@@ -117,7 +133,7 @@ impl Space for OneSpace {
 
     ghost may = { may_of_tight };
 
-    ghost text = { λ b names c. [] };
+    ghost text = { λ b names c. text_of b names c };
 
     fn find(&self, pid: u64) -> Option<Seat> {
         match find(&self.one.halves.procs, pid) {
@@ -185,16 +201,19 @@ impl Space for OneSpace {
         requires register { IsRegister r }
         requires other { IsRegister s }
         requires key { PicksRegister how }
-        requires built { is_built (pick_word how) ≡ true }
         requires calls { self.old.calls < most_calls }
         requires named { self.old.named ≤ length names.now }
         ensures becomes { (state : State) (terms : Terms) → Properly (OneStands self.old) state → HasNames state names.now
             → Becomes may_of_tight (words_of self.old) state (said (Process seat.pid (verb.Choose r s how)) terms names.now) result (Properly (OneStands self.new)) }
         ensures books { Books self.old self.new self.old.named }
-        ensures idle { self.new.halves.sweeps ≡ self.old.halves.sweeps }
-        ensures refused { OnErr result (self.new ≡ self.old) }
+        ensures idle { takes_part how ≡ false → self.new.halves.sweeps ≡ self.old.halves.sweeps }
+        ensures refused { takes_part how ≡ false → OnErr result (self.new ≡ self.old) }
+        ensures asks { takes_part how ≡ true → AsksUnless PART_WORDS self.old self.new result }
     {
-        self.one.pick(names, seat, r, s, how)
+        match how {
+            Pick::Part(offset, len) => self.one.cut(seat, r, s, offset, len),
+            _ => self.one.pick(names, seat, r, s, how),
+        }
     }
 
     fn map_put(
@@ -245,6 +264,40 @@ impl Space for OneSpace {
         ensures asks { AsksUnless (repeat_words shape n) self.old self.new result }
     {
         self.one.repeat(seat, r, shape, n, s)
+    }
+
+    fn fill(&mut self, seat: Seat, r: Reg, len: u64, byte: u64) -> Result<(), Refusal>
+        requires sits { Sits self.old seat }
+        requires register { IsRegister r }
+        requires calls { self.old.calls < most_calls }
+        ensures becomes { (s : State) (terms : Terms) (names : List (List ℕ)) → Properly (OneStands self.old) s → HasNames s names
+            → Becomes may_of_tight (words_of self.old) s (said (Process seat.pid (verb.Fill r len byte)) terms names) result (Properly (OneStands self.new)) }
+        ensures books { Books self.old self.new self.old.named }
+        ensures asks { AsksUnless (fill_words len) self.old self.new result }
+    {
+        self.one.fill(seat, r, len, byte)
+    }
+
+    fn make_fun(
+        &mut self,
+        seat: Seat,
+        r: Reg,
+        name: u64,
+        arity: u64,
+        env: &[Item],
+    ) -> Result<(), Refusal>
+        requires sits { Sits self.old seat }
+        requires register { IsRegister r }
+        requires calls { self.old.calls < most_calls }
+        requires name { name < most_names }
+        requires env { IsEnv env.now }
+        ensures becomes { (s : State) (terms : Terms) (names : List (List ℕ)) → Properly (OneStands self.old) s → HasNames s names → HasEnv names name env.now terms
+            → Becomes may_of_tight (words_of self.old) s (said (Process seat.pid (verb.Fun r name arity)) terms names) result (Properly (OneStands self.new)) }
+        ensures books { Books self.old self.new (max self.old.named (name + 1)) }
+        ensures refused { OnErr result (self.new.named ≤ self.old.named) }
+        ensures asks { AsksUnless (10 + length env.now) self.old self.new result }
+    {
+        self.one.make_fun(seat, r, name, arity, env)
     }
 
     fn own_pid(&mut self, seat: Seat, r: Reg)
@@ -320,5 +373,9 @@ impl Space for OneSpace {
         sink: &mut K,
     ) -> Result<(), Stop> {
         self.one.print(names, seat, s, sink)
+    }
+
+    fn counts<K: Sink>(&self, names: &AtomNames, sink: &mut K) -> Result<(), SinkFault> {
+        self.one.counts(names, sink)
     }
 }

@@ -9,11 +9,12 @@ ghost use Rattle.plain_machine.specs.Tightness.{keys_in, repeat_words as words_b
 ghost use Rattle.space_api.specs.Calls.{HasTerm, most_calls};
 ghost use Rattle.item_build.specs.Reading.{words_of as item_words_of};
 ghost use Rattle.one_space.specs.One.{Holds, OneStands, Sits};
-ghost use Rattle.one_space.specs.Doing.{Asks, AsksUnless, Builds, Does, DoesBy, refusal_for, refusal_of_put};
+ghost use Rattle.one_space.specs.Doing.{Asks, AsksUnless, Builds, Does, DoesBy, refusal_for, refusal_of_put, takes_part};
 
+use crate::entering::enter_bins;
 use crate::one::One;
 use atom_names::AtomNames;
-use item_build::{BuildStop, build, words_needed};
+use item_build::{BuildStop, Making, build, words_needed};
 use plain_machine::{MOST_PLACES, Pick, Refusal, Reg, Shape};
 use plain_term::Item;
 use space_api::Seat;
@@ -48,10 +49,15 @@ impl One {
             return Err(Refusal::NoSpace(grow));
         }
         let mut room = self.halves.room();
+        let mut making = Making {
+            serial: self.serials,
+            head: self.halves.head,
+        };
         let process = self.halves.procs[seat.row];
         let w = match build(
             &mut self.halves.mem,
             &mut room,
+            &mut making,
             names,
             &mut self.row,
             &process.regs,
@@ -60,15 +66,27 @@ impl One {
             Ok(w) => w,
             Err(stop) => return Err(refusal_of(stop)),
         };
+        let _len = self.halves.mem.len();
+        let bins = making.serial - self.serials;
+        enter_bins(
+            &self.halves.mem,
+            &mut self.halves.bins,
+            self.halves.top,
+            bins,
+        );
         self.halves.top = room.top;
+        self.halves.low = room.end;
+        self.halves.head = making.head;
+        self.halves.linked += bins;
         let process = &mut self.halves.procs[seat.row];
         process.regs[r.0 as usize] = w;
+        self.serials = making.serial;
         self.named = named;
         self.swept = false;
         Ok(())
     }
 
-    /// Puts a part of a register's term in a register.
+    /// Puts a part of a register's term, other than bytes of a binary, in a register.
     pub fn pick(
         &mut self,
         names: &AtomNames,
@@ -83,6 +101,7 @@ impl One {
         requires register { IsRegister r }
         requires other { IsRegister s }
         requires key { PicksRegister how }
+        requires whole { takes_part how ≡ false }
         requires named { self.old.named ≤ length names.now }
         ensures does { DoesBy names.now (Process seat.pid (verb.Choose r s how)) self.old self.new result }
         ensures idle { self.new.halves.sweeps ≡ self.old.halves.sweeps }

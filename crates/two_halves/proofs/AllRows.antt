@@ -160,7 +160,8 @@ module _ (p : Plan) (old : List ℕ) (mv0 : Moving) (k : Marks) (low limit : ℕ
 
     row-more : Rowing p old mem2 mv2 k olds (set news i new) end to (i + 1)
     row-more = record {
-      goes = goes-then p old mem mem2 mv mv2 k k now end to (to + 2 * (row.depth + row.waiting)) to end so-far.goes r.goes (omega (arith, down)) (omega arith) (omega arith) (omega (arith, down, row-fits, l.at));
+      goes = goes-then p old mem mem2 mv mv2 k k now end to (to + 2 * (row.depth + row.waiting)) to end so-far.goes r.goes (omega (arith, down)) (omega arith) (omega arith)
+          (omega (arith, down, row-fits, l.at));
       done = λ j below in_range. elim (one-or-not j i) [
         | inl last ↦ (
             let P : ℕ → Type 0 = λ z. IsMovedRow p old mem2 to end (get_or olds z no_row) (get_or (set news i new) z no_row) in

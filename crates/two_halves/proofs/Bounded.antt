@@ -1,5 +1,6 @@
 -- The records that move are those that the trees name: their words are bounded.
-use Rattle.std.proofs.Common.{◌≡◌, ℕ, ◌+◌, ◌-◌, ◌*◌, ◌/◌, ◌%◌, ◌<◌, ◌≤◌, ◌⊎◌, if◌then◌else◌, Bool, true, false, List, [], ◌∷◌, ◌++◌, length, flat_map, get_or, refl, sym, ◌∙◌, ap, subst, arith, inl, inr}
+use Rattle.std.proofs.Common.{◌≡◌, ℕ, ◌+◌, ◌-◌, ◌*◌, ◌≤◌, ◌⊎◌, if◌then◌else◌, Bool, true, false}
+use Rattle.std.proofs.Common.{List, [], ◌∷◌, ◌++◌, flat_map, refl, sym, ◌∙◌, ap, subst, arith, inl, inr}
 use Rattle.std.proofs.lemmas.Grind.{flat_map-append}
 use Rattle.std.proofs.lemmas.List.Concat.{flat_map-cons}
 use Rattle.plain_term.specs.Tree.{Tree, Trees}
@@ -8,7 +9,7 @@ use Rattle.plain_machine.specs.State.{Process}
 use Rattle.plain_machine.specs.Maps.{AllIn}
 use Rattle.plain_machine.specs.Tightness.{funs_in, funs_in_all, held_trees, ids_in, ids_in_all}
 use Rattle.term_words.specs.Object.{IsBinRecord, IsFunRecord}
-use Rattle.term_words.specs.Counted.{In, Distinct, total}
+use Rattle.term_words.specs.Counted.{In, total}
 use Rattle.term_words.proofs.Members.{in-both, in-left, in-right}
 use Rattle.shared_rec.specs.Record.{owner_in}
 use Rattle.off_heap_list.specs.Links.{named, IsLink}

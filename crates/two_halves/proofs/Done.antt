@@ -1,13 +1,13 @@
 -- The collection is done.
-use Rattle.std.proofs.Common.{Vec, ◌≡◌, ℕ, ◌+◌, ◌-◌, ◌*◌, ◌/◌, ◌%◌, ◌<◌, ◌≤◌, ◌⊎◌, ◌==◌, if◌then◌else◌, Bool, true, false, List, [], ◌∷◌, ◌++◌, Some, length, get_or, refl, sym, ◌∙◌, ap, subst, arith, inl, inr}
+use Rattle.std.proofs.Common.{Vec, ◌≡◌, ℕ, ◌+◌, ◌-◌, ◌*◌, ◌/◌, ◌%◌, ◌<◌, ◌≤◌, ◌⊎◌, ◌==◌, if◌then◌else◌, Bool, true}
+use Rattle.std.proofs.Common.{false, List, [], ◌∷◌, ◌++◌, Some, length, get_or, refl, sym, ◌∙◌, ap, subst, arith, inl, inr}
 use Rattle.std.specs.Vec.{vec_capacity, with_items}
 use Rattle.std.specs.declared.alloc.Global.{Global}
 use Rattle.std.proofs.lemmas.List.{with_items_is}
 use Rattle.plain_term.specs.Tree.{Tree, Trees}
-use Rattle.plain_machine.specs.State.{Process}
 use Rattle.term_tags.specs.Table.{layout_for}
 use Rattle.term_tags.specs.declared.layouts.Layout.{Layout}
-use Rattle.term_words.specs.Role.{IsSingle, both}
+use Rattle.term_words.specs.Role.{IsSingle}
 use Rattle.term_words.specs.Object.{IsPointer, object_words}
 use Rattle.term_words.specs.Reach.{Reach, first_of, first_traced, root, part}
 use Rattle.term_words.specs.Stands.{AllStand}
@@ -16,7 +16,7 @@ use Rattle.term_words.specs.Tiled.{IsRecordHeader, IsTile, Tiled, tile_words}
 use Rattle.term_words.proofs.Carrying.{traced-role}
 use Rattle.term_words.proofs.Reached.{reached}
 use Rattle.term_words.proofs.Roles.{first-role}
-use Rattle.off_heap_list.specs.Links.{Chain, Leads, next_in}
+use Rattle.off_heap_list.specs.Links.{Leads, next_in}
 use Rattle.off_heap_list.specs.Swept.{Sweeping}
 use Rattle.off_heap_list.specs.Whole.{moved_of, ordered, turned, CanSweep, SweptWhole}
 use Rattle.off_heap_list.specs.declared.whole.Order.TheVariants.{Turned}
@@ -29,7 +29,7 @@ use Rattle.cheney.specs.Moved.{forward}
 use Rattle.cheney.specs.Rooms.{top_of}
 use Rattle.cheney.specs.Collected.{Collected, IsMoved}
 use Rattle.cheney.specs.Next.{IsTiled}
-use Rattle.two_halves.specs.Halves.{HalvesStand, IsLaid, ProcsStand, RecordsStand, Standing, end_of, places_in, records_of, used_in}
+use Rattle.two_halves.specs.Halves.{HalvesStand, IsLaid, ProcsStand, RecordsStand, Standing, places_in, records_of, used_in}
 use Rattle.two_halves.specs.Reached.{AllReached, ChainReached, held_words, named_words, roots_in}
 use Rattle.two_halves.specs.Collecting.{AreSameRows, Collects}
 use Rattle.two_halves.specs.declared.halves.Halves.{Halves}
@@ -39,7 +39,8 @@ use Rattle.two_halves.proofs.Bounded.{Bounded, bounded}
 use Rattle.two_halves.proofs.Held.{have-stacks, roots-stand, trees_of}
 use Rattle.two_halves.proofs.Keeping.{roots-kept}
 use Rattle.two_halves.proofs.Planned.{Target, plan_of}
-use Rattle.two_halves.proofs.Settled.{bins-within, every-settled, fits-there, funs-within, kept-there, lie-there, links-there, plain-same, procs-settled, procs-was, records-there, settled, single-settled}
+use Rattle.two_halves.proofs.Settled.{bins-within, every-settled, fits-there, funs-within, kept-there, lie-there, links-there}
+use Rattle.two_halves.proofs.Settled.{names-there, plain-same, procs-settled, procs-was, records-there, settled, single-settled}
 use Rattle.two_halves.proofs.Swept.{IsNew, can-move-all, can-move-there, can-sweep, is-new, low-above, new-within, roles, sweeping}
 
 -- What roots reach they reach where objects have the same words.
@@ -127,7 +128,8 @@ module _ (h : Halves) (t : Target) (m : List ℕ) (mv : Moving) (news : List Pro
   module _ (mem5 : List ℕ) (low : ℕ)
       (moves : (c : ℕ → ℕ → Bool) (os : List ℕ) (from : ℕ) → length os ≡ left.len → CanMove c mem4 left.first os from t.to
       → (from ≤ low) × RecordsMoved c mem4 mem5 left.first os low t.to) where
-    moved : (x : Standing h) → (t.to - total (record_words h.mem) (records_of h) ≤ low) × RecordsMoved (roles h t x m mv news (scan x)).test mem4 mem5 left.first (turned (moved_of m x.stands.chained) []) low t.to
+    moved : (x : Standing h)
+        → (t.to - total (record_words h.mem) (records_of h) ≤ low) × RecordsMoved (roles h t x m mv news (scan x)).test mem4 mem5 left.first (turned (moved_of m x.stands.chained) []) low t.to
     moved x =
         moves (roles h t x m mv news (scan x)).test (turned (moved_of m x.stands.chained) []) (t.to - total (record_words h.mem) (records_of h)) (sym (swept x).len) (may-move x)
 
@@ -206,6 +208,7 @@ module _ (h : Halves) (t : Target) (m : List ℕ) (mv : Moving) (news : List Pro
               inside = λ o i. (new-within h t x m mv news (scan x) o i).1;
               every = every-settled h t x m mv news (scan x) mem4 left (swept x) mem5 low (over x) (moved x).1;
               records = subst B (sym bins_are) (subst F (sym funs_are) (records-there h t x m mv news (scan x) mem4 left (swept x) mem5 low (over x) (moved x).1));
+              fun_names = λ v i. names-there h t x m mv news (scan x) mem4 left (swept x) mem5 low (over x) (moved x).1 v (subst (In v) funs_are i);
               processes = subst Q (sym rows-there) (subst P ends-there (procs-settled h t x m mv news (scan x) mem4 left (swept x) mem5 low (over x) (moved x).1));
             }
 
@@ -269,16 +272,38 @@ module _ (h : Halves) (t : Target) (m : List ℕ) (mv : Moving) (news : List Pro
 
         once-there : used_in new ≤ used_in h
         once-there =
-            omega (arith, (moved x).0, objects-few h t x m mv news (scan x), (sides-there h t x m mv news (scan x)).records, (sides-there h t x m mv news (scan x)).ends, (scan x).target.first,
-            ends-there, length-there, (scan x).laid.front, (scan x).laid.order, (scan x).laid.fits, over x)
+            omega (
+              arith,
+              (moved x).0,
+              objects-few h t x m mv news (scan x),
+              (sides-there h t x m mv news (scan x)).records,
+              (sides-there h t x m mv news (scan x)).ends,
+              (scan x).target.first,
+              ends-there,
+              length-there,
+              (scan x).laid.front,
+              (scan x).laid.order,
+              (scan x).laid.fits,
+              over x,
+            )
 
         -- The words in use are at most those of the trees and of the records that they name.
         used-there : used_in new ≤ 2 + (held_words x.processes + named_words x.shared x.processes)
         used-there =
             let b : Bounded h t x m mv news (scan x) mem4 left (swept x) = bounded h t x m mv news (scan x) mem4 left (swept x) in
             let at = moves (roles h t x m mv news (scan x)).test (turned (moved_of m x.stands.chained) []) (t.to - total (record_words h.mem) b.each) (sym (swept x).len) b.may in
-            omega (arith, at.0, b.few, objects-held h t x m mv news (scan x), (sides-there h t x m mv news (scan x)).ends, (scan x).target.first, ends-there, length-there, over x,
-            (top-between h t x m mv news (scan x)).0)
+            omega (
+              arith,
+              at.0,
+              b.few,
+              objects-held h t x m mv news (scan x),
+              (sides-there h t x m mv news (scan x)).ends,
+              (scan x).target.first,
+              ends-there,
+              length-there,
+              over x,
+              (top-between h t x m mv news (scan x)).0,
+            )
 
       pub collects : Standing h → Collects h (moved_to h t mem5 mv.young.top low news left.first left.len bins funs)
       collects x = record {

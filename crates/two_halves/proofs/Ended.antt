@@ -1,5 +1,5 @@
 -- A collection has ended: what stood in the one half stands in the other.
-use Rattle.std.proofs.Common.{◌≡◌, ℕ, suc, ◌+◌, ◌-◌, ◌*◌, ◌/◌, ◌<◌, ◌≤◌, ◌⊎◌, Bool, true, false, List, [], ◌∷◌, ◌++◌, length, refl, sym, ◌∙◌, ap, subst, arith, inl, inr}
+use Rattle.std.proofs.Common.{◌≡◌, ℕ, suc, ◌+◌, ◌-◌, ◌*◌, ◌<◌, ◌≤◌, ◌⊎◌, Bool, true, false, List, [], ◌∷◌, ◌++◌, length, refl, sym, ◌∙◌, ap, subst, arith, inl, inr}
 use Rattle.std.proofs.lemmas.List.Sums.{sum_by-cons}
 use Rattle.plain_term.specs.Tree.{Tree}
 use Rattle.plain_machine.specs.State.{Process}
@@ -12,16 +12,16 @@ use Rattle.cheney.specs.Moved.{IsImage, forward}
 use Rattle.cheney.specs.Zones.{Marks, at_objects}
 use Rattle.cheney.specs.Rooms.{Runs, top_of}
 use Rattle.cheney.specs.Calls.{CanScan, RunsOn}
-use Rattle.cheney.specs.Collected.{AllImages, AreImages, Collected, Composes, Follows, RootsMoved}
+use Rattle.cheney.specs.Collected.{AllImages, AreImages, Collected, Follows, RootsMoved}
 use Rattle.cheney.specs.Next.{IsTiled}
 use Rattle.cheney.proofs.Begins.{has-collected, has-composed}
 use Rattle.cheney.proofs.Next.{is-tiled}
 use Rattle.cheney.proofs.Rows.{images-all, images-join, root-in}
 use Rattle.two_halves.specs.Stack.{values}
-use Rattle.two_halves.specs.Halves.{HalvesStand, HoldTrees, IsLaid, ProcsStand, Standing, places_in, end_of, front_of, used_in}
-use Rattle.two_halves.specs.Reached.{AllReached, held_words, roots_in}
+use Rattle.two_halves.specs.Halves.{HoldTrees, IsLaid, ProcsStand, Standing, places_in, end_of, front_of}
+use Rattle.two_halves.specs.Reached.{held_words, roots_in}
 use Rattle.two_halves.specs.Rows.{AreMovedRows, CanMoveRows, Goes, IsAside, RowsMove, RowsMoved}
-use Rattle.two_halves.specs.Collecting.{AreSameRows, CanCollect, Collects, IsBetween}
+use Rattle.two_halves.specs.Collecting.{AreSameRows, CanCollect, IsBetween}
 use Rattle.two_halves.specs.declared.halves.Halves.{Halves}
 use Rattle.two_halves.specs.declared.table.Proc.{Proc}
 use Rattle.two_halves.proofs.Going.{goes-call}
@@ -98,7 +98,8 @@ module _ (p : Plan) (c d : ℕ → ℕ → Bool) (shared : List (List ℕ)) (sta
       (record { standing = stand w x t (r w (inl refl)) i first.standing; names = first.names }, trees-held ws xs ts (λ v j. r v (inr j)) a rest)
 
   procs-stand : (low limit low2 limit2 : ℕ) → ((q k : ℕ) → low2 ≤ q → q < limit2 → d q k ≡ true → ⊥) → (olds news : List Proc) (qs : List Process)
-      → ((w : ℕ) → In w (roots_in start olds) → Reached p w) → AreMovedRows p start mem low2 limit2 olds news → ProcsStand c shared start low limit named olds qs → ProcsStand d shared mem low2 limit2 named news qs
+      → ((w : ℕ) → In w (roots_in start olds) → Reached p w) → AreMovedRows p start mem low2 limit2 olds news → ProcsStand c shared start low limit named olds qs → ProcsStand d shared mem
+      low2 limit2 named news qs
   procs-stand low limit low2 limit2 bare [] [] [] r a s = tt
   procs-stand low limit low2 limit2 bare [] [] (q ∷ qs) r a s = absurd s
   procs-stand low limit low2 limit2 bare [] (n ∷ ns) qs r a s = absurd a

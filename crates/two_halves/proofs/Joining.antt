@@ -1,12 +1,11 @@
 -- Lists that one place joins, records above some words, and what stands still while a half fills.
-use Rattle.std.proofs.Common.{◌≡◌, ℕ, zero, suc, ◌+◌, ◌-◌, ◌/◌, ◌%◌, ◌<◌, ◌≤◌, ◌⊎◌, Bool, true, List, [], ◌∷◌, ◌++◌, length, get_or, refl, sym, ◌∙◌, ap, subst, arith, inl, inr}
+use Rattle.std.proofs.Common.{◌≡◌, ℕ, zero, suc, ◌+◌, ◌%◌, ◌<◌, ◌≤◌, ◌⊎◌, Bool, true, List, [], ◌∷◌, ◌++◌, length, get_or, take, drop, refl, sym, ◌∙◌, ap, subst, arith, inl, inr}
 use Rattle.std.proofs.lemmas.Bool.Decides.{nat_tests}
 use Rattle.std.proofs.lemmas.List.{get_or_append_left}
 use Rattle.plain_term.specs.Bytes.{shared_bytes}
-use Rattle.plain_term.specs.Measures.{bin_words}
 use Rattle.plain_term.specs.Tree.{Tree}
 use Rattle.plain_machine.specs.State.{Process}
-use Rattle.term_words.specs.Role.{COUNT, NEXT, RECORD, RECORD_FIRST, OfRecord}
+use Rattle.term_words.specs.Role.{COUNT, RECORD, RECORD_FIRST, OfRecord}
 use Rattle.term_words.specs.Object.{IsBinRecord, IsFunRecord, IsRecord, byte_of}
 use Rattle.term_words.specs.Stands.{Stands}
 use Rattle.term_words.specs.Counted.{In, Distinct, total}
@@ -15,8 +14,8 @@ use Rattle.shared_rec.specs.Record.{owner_in, record_roles}
 use Rattle.off_heap_list.specs.Links.{named, naming}
 use Rattle.off_heap_list.proofs.Chained.{no-naming}
 use Rattle.record_move.specs.Tables.{OwnersRise}
-use Rattle.two_halves.specs.Stack.{Ends, IsStack, values}
-use Rattle.two_halves.specs.Halves.{HoldTrees, HoldsTree, ProcStands, ProcsStand}
+use Rattle.two_halves.specs.Stack.{IsStack, values}
+use Rattle.two_halves.specs.Halves.{HoldTrees, ProcStands, ProcsStand}
 use Rattle.two_halves.specs.declared.table.Proc.{Proc}
 use Rattle.two_halves.proofs.Stacks.{AreKept, ends-kept, stack-kept, stack-under, values-kept}
 
@@ -75,6 +74,14 @@ joins-right v xs ys ys2 o = record {
       (λ u i j. elim (o.comes u j) [ inl e ↦ fresh (in-left v xs ys (in-same u v xs e i)) | inr k ↦ distinct-apart xs ys d u i k ]);
 }
 
+pub joins-middle : (v : ℕ) (xs ys : List ℕ) → Joins v (xs ++ ys) (xs ++ v ∷ ys)
+joins-middle v xs ys = joins-right v xs ys (v ∷ ys) (record {
+  comes = λ u i. elim i [ inl e ↦ inl e | inr k ↦ inr k ];
+  there = inl refl;
+  stays = λ u i. inr i;
+  once = λ d fresh. (fresh, d);
+})
+
 -- Where the owners are the same they rise still, and the table may get one that is above all others.
 
 pub rise-same : (mem mem2 : List ℕ) (vs : List ℕ) → ((u : ℕ) → In u vs → owner_in mem2 u ≡ owner_in mem u) → OwnersRise mem vs → OwnersRise mem2 vs
@@ -92,6 +99,78 @@ rise-end mem mem2 v (u ∷ vs) same below (first, rest) = (
   ]),
   rise-end mem mem2 v vs (λ w i. same w (inr i)) (λ w i. below w (inr i)) rest,
 )
+
+pub rise-middle : (mem mem2 : List ℕ) (v : ℕ) (xs ys : List ℕ) → ((u : ℕ) → In u (xs ++ ys) → owner_in mem2 u ≡ owner_in mem u) → ((u : ℕ) → In u xs → owner_in mem u < owner_in mem2 v)
+    → ((u : ℕ) → In u ys → owner_in mem2 v < owner_in mem u) → OwnersRise mem (xs ++ ys) → OwnersRise mem2 (xs ++ v ∷ ys)
+rise-middle mem mem2 v [] ys same below above r = ((λ w i. omega (arith, above w i, same w i)), rise-same mem mem2 ys same r)
+rise-middle mem mem2 v (u ∷ xs) ys same below above (first, rest) = (
+  (λ w i. elim (in-both w xs (v ∷ ys) i) [
+    | inl a ↦ omega (arith, first w (in-left w xs ys a), same u (inl refl), same w (inr (in-left w xs ys a)))
+    | inr (inl e) ↦ omega (arith, below u (inl refl), same u (inl refl), ap (λ z. owner_in mem2 z) e)
+    | inr (inr b) ↦ omega (arith, first w (in-right w xs ys b), same u (inl refl), same w (inr (in-right w xs ys b)))
+  ]),
+  rise-middle mem mem2 v xs ys (λ w i. same w (inr i)) (λ w i. below w (inr i)) above rest,
+)
+
+-- Places of a table by their numbers.
+
+pub in-at : (vs : List ℕ) (i : ℕ) → i < length vs → In (get_or vs i 0) vs
+in-at [] i less = absurd (omega (arith, less))
+in-at (v ∷ vs) zero less = inl refl
+in-at (v ∷ vs) (suc i) less = inr (in-at vs i (omega (arith, less)))
+
+pub at-any : (vs : List ℕ) (i d e : ℕ) → i < length vs → get_or vs i d ≡ get_or vs i e
+at-any [] i d e less = absurd (omega (arith, less))
+at-any (v ∷ vs) zero d e less = refl
+at-any (v ∷ vs) (suc i) d e less = at-any vs i d e (omega (arith, less))
+
+pub rise-pair : (mem : List ℕ) (vs : List ℕ) (i j : ℕ) → i < j → j < length vs → OwnersRise mem vs → owner_in mem (get_or vs i 0) < owner_in mem (get_or vs j 0)
+rise-pair mem [] i j less inside r = absurd (omega (arith, inside))
+rise-pair mem (v ∷ vs) i zero less inside r = absurd (omega (arith, less))
+rise-pair mem (v ∷ vs) zero (suc j) less inside (first, rest) = first (get_or vs j 0) (in-at vs j (omega (arith, inside)))
+rise-pair mem (v ∷ vs) (suc i) (suc j) less inside (first, rest) = rise-pair mem vs i j (omega (arith, less)) (omega (arith, inside)) rest
+
+-- A place is one of a table's before a number, or from it on.
+pub record Numbered (vs : List ℕ) (u from to : ℕ) : Type 0 where
+  pub number : ℕ
+  pub above : from ≤ number
+  pub below : number < to
+  pub inside : number < length vs
+  pub is : get_or vs number 0 ≡ u
+
+pub in-take : (vs : List ℕ) (i u : ℕ) → In u (take i vs) → Numbered vs u 0 i
+in-take [] zero u h = absurd h
+in-take [] (suc i) u h = absurd h
+in-take (v ∷ vs) zero u h = absurd h
+in-take (v ∷ vs) (suc i) u (inl e) = record { number = 0; above = omega arith; below = omega arith; inside = omega arith; is = sym e }
+in-take (v ∷ vs) (suc i) u (inr h) =
+    let n = in-take vs i u h in
+    record { number = suc n.number; above = omega arith; below = omega (arith, n.below); inside = omega (arith, n.inside); is = n.is }
+
+in-number : (vs : List ℕ) (u : ℕ) → In u vs → Numbered vs u 0 (length vs)
+in-number [] u h = absurd h
+in-number (v ∷ vs) u (inl e) = record { number = 0; above = omega arith; below = omega arith; inside = omega arith; is = sym e }
+in-number (v ∷ vs) u (inr h) =
+    let n = in-number vs u h in
+    record { number = suc n.number; above = omega arith; below = omega (arith, n.below); inside = omega (arith, n.inside); is = n.is }
+
+pub in-drop : (vs : List ℕ) (i u : ℕ) → In u (drop i vs) → Numbered vs u i (length vs)
+in-drop [] zero u h = absurd h
+in-drop [] (suc i) u h = absurd h
+in-drop (v ∷ vs) zero u h = in-number (v ∷ vs) u h
+in-drop (v ∷ vs) (suc i) u h =
+    let n = in-drop vs i u h in
+    record { number = suc n.number; above = omega (arith, n.above); below = omega (arith, n.below); inside = omega (arith, n.inside); is = n.is }
+
+pub take-drop : (vs : List ℕ) (i : ℕ) → take i vs ++ drop i vs ≡ vs
+take-drop [] zero = refl
+take-drop [] (suc i) = refl
+take-drop (v ∷ vs) zero = refl
+take-drop (v ∷ vs) (suc i) = ap (λ z. v ∷ z) (take-drop vs i)
+
+pub nil-right : (xs : List (List ℕ)) → xs ≡ xs ++ []
+nil-right [] = refl
+nil-right (x ∷ xs) = ap (λ z. x ∷ z) (nil-right xs)
 
 pub total-same : (f g : ℕ → ℕ) (vs : List ℕ) → ((u : ℕ) → In u vs → f u ≡ g u) → total f vs ≡ total g vs
 total-same f g [] same = refl
@@ -208,3 +287,24 @@ module _ (c d : ℕ → ℕ → Bool) (shared shared2 : List (List ℕ)) (mem me
   procs-on [] (q ∷ qs) s = absurd s
   procs-on (p ∷ ps) [] s = absurd s
   procs-on (p ∷ ps) (q ∷ qs) (first, rest) = (proc-on p q first, procs-on ps qs rest)
+
+-- One step of halving.
+module _ (mem funs : List ℕ) (code m v low high : ℕ) (rise : OwnersRise mem funs) (inside : m < length funs) (at : v ≡ get_or funs m v) where
+  owner-is : owner_in mem (get_or funs m 0) ≡ owner_in mem v
+  owner-is = ap (λ z. owner_in mem z) (sym (at ∙ at-any funs m v 0 inside))
+
+  pub below-there : owner_in mem v < code → (j : ℕ) → j < m + 1 → owner_in mem (get_or funs j 0) < code
+  below-there less j under =
+      let which : (j < m) ⊎ (j ≡ m) = grind (arith, under) in
+      elim which [
+        | inl low_j ↦ omega (arith, rise-pair mem funs j m low_j inside rise, owner-is, less)
+        | inr e ↦ (let P : ℕ → Type 0 = λ z. owner_in mem (get_or funs z 0) < code in subst P (sym e) (omega (arith, owner-is, less)))
+      ]
+
+  pub above-there : code ≤ owner_in mem v → (j : ℕ) → m ≤ j → j < length funs → code ≤ owner_in mem (get_or funs j 0)
+  above-there most j over within =
+      let which : (m < j) ⊎ (m ≡ j) = grind (arith, over) in
+      elim which [
+        | inl high_j ↦ omega (arith, rise-pair mem funs m j high_j within rise, owner-is, most)
+        | inr e ↦ (let P : ℕ → Type 0 = λ z. code ≤ owner_in mem (get_or funs z 0) in subst P e (omega (arith, owner-is, most)))
+      ]

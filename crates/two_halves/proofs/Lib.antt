@@ -10,7 +10,9 @@ mod Packed
 mod Counting
 pub mod Ended
 mod Swept
-mod Keeping
+pub mod Keeping
+pub mod Filled
+pub mod Covered
 mod Settled
 mod Bounded
 mod Done

@@ -1,19 +1,21 @@
 -- An object that names a record comes into a half and its chain.
-use Rattle.std.proofs.Common.{Vec, ◌==◌, if◌then◌else◌, ◌≡◌, ℕ, ◌+◌, ◌-◌, ◌*◌, ◌/◌, ◌%◌, ◌<◌, ◌≤◌, ◌⊎◌, Bool, true, List, [], ◌∷◌, ◌++◌, length, get_or, set, refl, sym, ◌∙◌, ap, subst, arith, inl, inr, length-set, get_or-set_other}
+use Rattle.std.proofs.Common.{Vec, ◌==◌, if◌then◌else◌, ◌≡◌, ℕ, ◌+◌, ◌-◌, ◌*◌, ◌/◌, ◌%◌, ◌<◌, ◌≤◌, ◌⊎◌, Bool, true, false}
+use Rattle.std.proofs.Common.{List, [], ◌∷◌, ◌++◌, length, get_or, set, refl, sym, ◌∙◌, ap, subst, arith, inl, inr, length-set, get_or-set_other}
+use Rattle.std.proofs.lemmas.Bool.Decides.{nat_tests}
 use Rattle.std.proofs.lemmas.Grind.{get_or-set_at}
 use Rattle.word_mem.specs.declared.ranges.Room.{Room}
 use Rattle.plain_term.specs.Bytes.{shared_bytes}
-use Rattle.plain_term.specs.Tree.{Tree}
-use Rattle.plain_term.specs.Tree.Tree.{Shared}
+use Rattle.plain_term.specs.Tree.{Tree, Trees}
+use Rattle.plain_term.specs.Tree.Tree.{Fun, Shared}
 use Rattle.term_tags.specs.Words.{boxed_word, head_word}
-use Rattle.term_tags.specs.declared.layouts.TheConstants.{HOLDER}
+use Rattle.term_tags.specs.declared.layouts.TheConstants.{FUN, HOLDER}
 use Rattle.plain_machine.specs.State.{Process}
 use Rattle.term_words.specs.Role.{COUNT, NEXT, NAMES, RECORD, RECORD_FIRST, IsSingle, OfObject, OfRecord}
-use Rattle.term_words.specs.Object.{IsBinRecord, IsRecord}
-use Rattle.term_words.specs.Stands.{Stands}
+use Rattle.term_words.specs.Object.{IsBinRecord, IsFunRecord, IsRecord}
+use Rattle.term_words.specs.Stands.{AllStand, Stands}
 use Rattle.term_words.specs.Kept.{Kept, Keeps}
 use Rattle.term_words.specs.Counted.{In, Distinct, total}
-use Rattle.term_words.proofs.Frames.{frame}
+use Rattle.term_words.proofs.Frames.{frame, keep-all}
 use Rattle.term_words.proofs.Members.{in-both, in-left, in-right, one-or-not}
 use Rattle.term_build.specs.Clear.{Uses}
 use Rattle.term_build.specs.Grows.{BuiltLink, GrowsLink}
@@ -21,12 +23,13 @@ use Rattle.term_build.specs.Parts.{IsNamed}
 use Rattle.term_build.specs.Taken.{IsFree, Lie}
 use Rattle.shared_rec.specs.Record.{count_in, owner_in}
 use Rattle.shared_rec.proofs.Records.{bin-stays, fun-stays, record-counted, record-stays, role-idle}
-use Rattle.off_heap_list.specs.Links.{IsLink, Links, named, naming}
-use Rattle.off_heap_list.proofs.Chained.{holder-link, idle-kept, idle-kept-back, kept-then, leads-stays, link-stays, naming-stays, record-inside}
+use Rattle.off_heap_list.specs.Links.{IsLink, Links, named, names_it, naming}
+use Rattle.off_heap_list.proofs.Chained.{fun-link, holder-link, idle-kept, idle-kept-back, kept-then, leads-stays, link-stays, naming-stays, record-inside}
+use Rattle.off_heap_list.proofs.Tallied.{few, one}
 use Rattle.record_move.specs.Copies.{record_words}
 use Rattle.record_move.specs.Tables.{OwnersRise}
 use Rattle.two_halves.specs.Halves.{HalvesStand, IsBinOf, IsFunOf, IsLaid, ProcsStand, end_of, front_of}
-use Rattle.two_halves.specs.Adding.{Gets, Nearly}
+use Rattle.two_halves.specs.Adding.{Gets, HasFun, Nearly}
 use Rattle.two_halves.specs.declared.halves.Halves.{Halves}
 use Rattle.two_halves.proofs.Adding.{filled}
 use Rattle.two_halves.proofs.Joining.{procs-on, record-above, record-first, rise-same, total-same}
@@ -62,6 +65,7 @@ module _ (named_below : ℕ) (h : Halves) (shared : List (List ℕ)) (qs : List 
       | inr of ↦ inl (omega (arith, inside, laid.front), (omega (arith, inside, uses.moved), of))
     ])
   ]
+
   -- A record that stands now stood before, above the free words.
   record-low : (u m : ℕ) → IsRecord e mem3 u m → h.low ≤ u
   record-low u m r = elim (grows.objects u RECORD_FIRST (record-first e mem3 u m r)) [
@@ -114,7 +118,8 @@ module _ (named_below : ℕ) (h : Halves) (shared : List (List ℕ)) (qs : List 
     back4 : Kept e e mem4 mem3
     back4 =
         let P : List ℕ → Type 0 = λ z. Kept e e z mem3 in
-        subst P (sym written) (kept-then e (set mid (h.top + 2) h.head) mid mem3 (idle-kept-back e mid (h.top + 2) h.head next-idle) (idle-kept-back e mem3 (v + 2) (get_or mem3 (v + 2) 0 + 1) count-idle))
+        subst P (sym written) (kept-then e (set mid (h.top + 2) h.head) mid mem3 (idle-kept-back e mid (h.top + 2) h.head next-idle)
+        (idle-kept-back e mem3 (v + 2) (get_or mem3 (v + 2) 0 + 1) count-idle))
 
     len4 : length mem4 ≡ length h.mem
     len4 = ap length written ∙ length-set mid (h.top + 2) h.head ∙ length-set mem3 (v + 2) (get_or mem3 (v + 2) 0 + 1) ∙ uses.same_len
@@ -171,7 +176,8 @@ module _ (named_below : ℕ) (h : Halves) (shared : List (List ℕ)) (qs : List 
         ∙ other q (inr (omega (arith, above, fits)))
 
     processes4 : ProcsStand e shared mem4 h.low (end_of h) named_below h.procs.items qs
-    processes4 = procs-on y.test e shared shared h.mem mem4 named_below h.low h.low (end_of h) trees4 same4 (λ q j above below none t. none j (above3 q j above t)) (omega arith) h.procs.items qs y.processes
+    processes4 = procs-on y.test e shared shared h.mem mem4 named_below h.low h.low (end_of h) trees4 same4 (λ q j above below none t. none j (above3 q j above t)) (omega arith)
+        h.procs.items qs y.processes
 
     every4 : (p : ℕ) → e (p + 2) NEXT ≡ true → In p (h.top ∷ y.chained)
     every4 p t = elim (grows.next (p + 2) t) [ inl old ↦ inr (y.every p old) | inr c ↦ inl (omega (arith, c)) ]
@@ -208,6 +214,7 @@ module _ (named_below : ℕ) (h : Halves) (shared : List (List ℕ)) (qs : List 
             codes = rise-same h.mem mem4 h.funs.items (λ u i. owner4 u (y.each_fun u i).is.second) y.codes;
             counted = counted4;
           };
+          fun_names = λ u i. omega (arith, owner4 u (y.each_fun u i).is.second, y.fun_names u i);
           processes = subst P limit4 processes4;
         }
 
@@ -224,10 +231,10 @@ module _ (named_below : ℕ) (h : Halves) (shared : List (List ℕ)) (qs : List 
       front = omega (arith, laid.front, uses.moved);
       order = omega (arith, fits, uses.moved);
       fits = omega (
-          arith,
-          laid.fits,
-          len4,
-          total-same (record_words mem4) (record_words h.mem) (h.bins.items ++ h.funs.items) (λ u i. word4 u (first4 u i)),
+        arith,
+        laid.fits,
+        len4,
+        total-same (record_words mem4) (record_words h.mem) (h.bins.items ++ h.funs.items) (λ u i. word4 u (first4 u i)),
       );
     }
 
@@ -242,7 +249,8 @@ holder-named mem p len rec lie =
     subst P (sym (lie.each 0 p (omega arith) (omega arith))) (lie.each 3 (p + 3) (omega arith) refl)
 
 -- The holder of the binary in the record comes into the half.
-module _ (named_below : ℕ) (h : Halves) (shared : List (List ℕ)) (qs : List Process) (v serial : ℕ) (bytes : List ℕ) (y : Nearly named_below h shared qs v) (is : IsBinRecord y.test h.mem v serial bytes)
+module _ (named_below : ℕ) (h : Halves) (shared : List (List ℕ)) (qs : List Process) (v serial : ℕ) (bytes : List ℕ) (y : Nearly named_below h shared qs v)
+    (is : IsBinRecord y.test h.mem v serial bytes)
     (some : 1 ≤ serial) (known : serial ≤ length shared) (bytes_are : shared_bytes shared serial ≡ bytes) (len : ℕ) (len_is : length bytes ≡ len) (laid : IsLaid h) (fits : h.top + 6 ≤ h.low)
     (room2 : Room) (mem3 : List ℕ) (uses : Uses 6 (record { start = h.base; top = h.top; end = h.low }) room2 h.mem mem3) (w : ℕ) (place : w ≡ boxed_word h.top)
     (lie : Lie mem3 h.top (head_word HOLDER 5 ∷ len ∷ 0 ∷ v ∷ 0 ∷ 0 ∷ []))
@@ -280,7 +288,127 @@ module _ (named_below : ℕ) (h : Halves) (shared : List (List ℕ)) (qs : List 
 
     pub holder-gets : Gets named_below (filled h mem4 room2.top h.low hd (h.linked + 1) h.bins h.funs) shared qs w (Shared serial)
     holder-gets =
-        gets named_below h shared qs v y laid 6 (omega arith) fits room2 mem3 uses new-holder.test new-holder.grows holder-there names mem4 written-there hd links-there w (Shared serial) new-holder.made
+        gets named_below h shared qs v y laid 6 (omega arith) fits room2 mem3 uses new-holder.test new-holder.grows holder-there names mem4 written-there hd links-there w (Shared serial)
+        new-holder.made
 
     pub holder-laid : IsLaid (filled h mem4 room2.top h.low hd (h.linked + 1) h.bins h.funs)
     holder-laid = linked-laid named_below h shared qs v y laid 6 (omega arith) fits room2 mem3 uses new-holder.test new-holder.grows holder-there names mem4 written-there hd links-there
+
+-- The word of a fun names its record.
+pub fun-named : (mem : List ℕ) (p k rec : ℕ) (rest : List ℕ) → Lie mem p (head_word FUN (5 + k) ∷ rec ∷ rest) → named mem p ≡ rec
+fun-named mem p k rec rest lie =
+    let P : ℕ → Type 0 = λ z. get_or mem (if z == head_word HOLDER 5 then p + 3 else p + 1) 0 ≡ rec in
+    let Q : Bool → Type 0 = λ z. get_or mem (if z then p + 3 else p + 1) 0 ≡ rec in
+    let other : (head_word FUN (5 + k) == head_word HOLDER 5) ≡ false = grind (arith, nat_tests) in
+    subst P (sym (lie.each 0 p (omega arith) (omega arith))) (subst Q (sym other) (lie.each 1 (p + 1) (omega arith) refl))
+
+-- A fun over the record comes into the half.
+module _ (named_below : ℕ) (old h : Halves) (shared : List (List ℕ)) (qs : List Process) (v name arity creator : ℕ) (c : ℕ → ℕ → Bool) (has : HasFun named_below old h shared qs v name arity c)
+    (env : List ℕ) (ts : Trees) (all : AllStand c shared old.mem env ts) (laid : IsLaid h) (fits : h.top + (6 + length env) ≤ h.low)
+    (room2 : Room) (mem3 : List ℕ) (uses : Uses (6 + length env) (record { start = h.base; top = h.top; end = h.low }) room2 h.mem mem3) (w : ℕ) (place : w ≡ boxed_word h.top)
+    (pid : ℕ) (lie : Lie mem3 h.top (head_word FUN (5 + length env) ∷ v ∷ 0 ∷ arity ∷ length env ∷ pid ∷ env))
+    (built : (k : ℕ → ℕ → Bool) (other : List (List ℕ)) (n : ℕ) (us : Trees) → IsFree k h.top (h.top + (6 + length env)) → IsFunRecord k h.mem v n arity → AllStand k other h.mem env us
+    → BuiltLink k h.top (6 + length env) h.mem mem3 other w (Fun n arity creator us)) where
+  abbrev y : Nearly named_below h shared qs v
+  y = has.near
+
+  fun-free : IsFree y.test h.top (h.top + (6 + length env))
+  fun-free a j t = elim (y.lie a j t) [ inl o ↦ inl o.1.0 | inr r ↦ inr (omega (arith, r.0, fits)) ]
+
+  pub new-fun : BuiltLink y.test h.top (6 + length env) h.mem mem3 shared w (Fun name arity creator ts)
+  new-fun = built y.test shared name ts fun-free has.is (keep-all c y.test old.mem h.mem has.kept shared env ts all)
+
+  fun-there : IsLink new-fun.test mem3 h.top
+  fun-there =
+      let at : w / 4 ≡ h.top = omega (arith, place) in
+      let P : ℕ → Type 0 = λ z. IsLink new-fun.test mem3 z in
+      subst P at (fun-link new-fun.test shared mem3 w name arity creator ts new-fun.made (omega (arith, at, laid.front)))
+
+  pub fun-names : named mem3 h.top ≡ v
+  fun-names = fun-named mem3 h.top (length env) v _ lie
+
+  module _ (mem4 : List ℕ) (hd : ℕ) (written : mem4 ≡ set (set mem3 (named mem3 h.top + 2) (get_or mem3 (named mem3 h.top + 2) 0 + 1)) (h.top + 2) h.head)
+      (chained : (k : ℕ → ℕ → Bool) (os further : List ℕ) → IsSingle k → Links k mem3 h.head os further → IsLink k mem3 h.top → (In h.top os → ⊥) → Links k mem4 hd (h.top ∷ os) further) where
+    fun-written : mem4 ≡ set (set mem3 (v + 2) (get_or mem3 (v + 2) 0 + 1)) (h.top + 2) h.head
+    fun-written = let P : ℕ → Type 0 = λ z. mem4 ≡ set (set mem3 (z + 2) (get_or mem3 (z + 2) 0 + 1)) (h.top + 2) h.head in subst P fun-names written
+
+    fun-links : Links new-fun.test mem4 hd (h.top ∷ y.chained) []
+    fun-links =
+        chained new-fun.test y.chained [] (single3 named_below h shared qs v y laid (6 + length env) (omega arith) fits room2 mem3 uses new-fun.test new-fun.grows fun-there fun-names)
+        (links3 named_below h shared qs v y laid (6 + length env) (omega arith) fits room2 mem3 uses new-fun.test new-fun.grows fun-there fun-names) fun-there
+        (fresh named_below h shared qs v y laid (6 + length env) (omega arith) fits room2 mem3 uses new-fun.test new-fun.grows fun-there fun-names)
+
+    pub fun-gets : Gets named_below (filled h mem4 room2.top h.low hd (h.linked + 1) h.bins h.funs) shared qs w (Fun name arity creator ts)
+    fun-gets =
+        gets named_below h shared qs v y laid (6 + length env) (omega arith) fits room2 mem3 uses new-fun.test new-fun.grows fun-there fun-names mem4 fun-written hd fun-links w
+        (Fun name arity creator ts) new-fun.made
+
+-- No record counts more objects than there are places for.
+
+naming-few : (mem : List ℕ) (v : ℕ) (os : List ℕ) → naming mem v os ≤ length os
+naming-few mem v [] = omega arith
+naming-few mem v (p ∷ os) = omega (arith, at-most-one (named mem p) v, naming-few mem v os)
+  where
+    at-most-one : (r v : ℕ) → names_it r v ≤ 1
+    at-most-one r v = grind (arith, nat_tests)
+
+ones : (ps : List ℕ) → total one ps ≡ length ps
+ones [] = refl
+ones (p ∷ ps) = omega (arith, ones ps)
+
+pub few-named : (named_below : ℕ) (h : Halves) (shared : List (List ℕ)) (qs : List Process) (v : ℕ) (y : Nearly named_below h shared qs v) (u n : ℕ) → IsRecord y.test h.mem u n
+    → length h.mem ≤ 16777216
+    → count_in h.mem u < 16777216
+few-named named_below h shared qs v y u n r most =
+    omega (
+      arith,
+      most,
+      y.links.counts u n r,
+      naming-few h.mem u y.chained,
+      ones y.chained,
+      few (length h.mem - 5) y.chained y.links.once (λ p i. omega (arith, (y.links.each p i).within)),
+    )
+
+-- A record that stands lies above the free words.
+pub near-low : (named_below : ℕ) (h : Halves) (shared : List (List ℕ)) (qs : List Process) (v : ℕ) (y : Nearly named_below h shared qs v) (u n : ℕ) → IsRecord y.test h.mem u n → h.low ≤ u
+near-low named_below h shared qs v y u n r = elim (y.lie u RECORD_FIRST (record-first y.test h.mem u n r)) [
+  | inl o ↦ absurd (elim o.1.1 [ inl c ↦ omega (arith, c) | inr c ↦ omega (arith, c) ])
+  | inr above ↦ above.0
+]
+
+-- The layout after an object came into the half and its chain, whatever it holds.
+module _ (named_below : ℕ) (h : Halves) (shared : List (List ℕ)) (qs : List Process) (v m : ℕ) (y : Nearly named_below h shared qs v) (r : IsRecord y.test h.mem v m) (laid : IsLaid h)
+    (k : ℕ) (six : 6 ≤ k)
+    (fits : h.top + k ≤ h.low) (room2 : Room) (mem3 : List ℕ) (uses : Uses k (record { start = h.base; top = h.top; end = h.low }) room2 h.mem mem3) (mem4 : List ℕ) (hd : ℕ)
+    (written : mem4 ≡ set (set mem3 (v + 2) (get_or mem3 (v + 2) 0 + 1)) (h.top + 2) h.head) where
+  first-there : (u : ℕ) → In u (h.bins.items ++ h.funs.items) → y.test u RECORD_FIRST ≡ true
+  first-there u i = elim (in-both u h.bins.items h.funs.items i) [ inl a ↦ (y.each_bin u a).is.first | inr b ↦ (y.each_fun u b).is.first ]
+
+  listed-low : (u : ℕ) → y.test u RECORD_FIRST ≡ true → h.low ≤ u
+  listed-low u t = elim (y.lie u RECORD_FIRST t) [ inl o ↦ absurd (elim o.1.1 [ inl c ↦ omega (arith, c) | inr c ↦ omega (arith, c) ]) | inr above ↦ above.0 ]
+
+  not-count : (u : ℕ) → y.test u RECORD_FIRST ≡ true → u ≡ v + 2 → ⊥
+  not-count u t e =
+      let P : ℕ → Type 0 = λ z. y.test z RECORD_FIRST ≡ true in
+      let same : RECORD_FIRST ≡ COUNT = y.single.one (v + 2) RECORD_FIRST COUNT (subst P e t) (record-counted y.test h.mem v m r) in
+      omega (arith, same)
+
+  word-same : (u : ℕ) → In u (h.bins.items ++ h.funs.items) → record_words mem4 u ≡ record_words h.mem u
+  word-same u i =
+      let t = first-there u i in
+      let above = listed-low u t in
+      let P : List ℕ → Type 0 = λ z. get_or z u 0 ≡ get_or mem3 u 0 in
+      ap (λ z. z / 16) (subst P (sym written) (get_or-set_other (set mem3 (v + 2) (get_or mem3 (v + 2) 0 + 1)) (h.top + 2) u h.head 0 (λ c. omega (arith, c, above, fits, six))
+      ∙ get_or-set_other mem3 (v + 2) u (get_or mem3 (v + 2) 0 + 1) 0 (not-count u t)) ∙ uses.others u (inr (omega (arith, above, fits))))
+
+  pub laid-after : IsLaid (filled h mem4 room2.top h.low hd (h.linked + 1) h.bins h.funs)
+  laid-after =
+      let len : length mem4 ≡ length h.mem =
+      ap length written ∙ length-set (set mem3 (v + 2) (get_or mem3 (v + 2) 0 + 1)) (h.top + 2) h.head ∙ length-set mem3 (v + 2) (get_or mem3 (v + 2) 0 + 1) ∙ uses.same_len in
+      record {
+        even = omega (arith, len, laid.even);
+        side = elim laid.side [ inl c ↦ inl c | inr c ↦ inr (omega (arith, c, len)) ];
+        front = omega (arith, laid.front, uses.moved);
+        order = omega (arith, fits, uses.moved);
+        fits = omega (arith, laid.fits, len, total-same (record_words mem4) (record_words h.mem) (h.bins.items ++ h.funs.items) word-same);
+      }

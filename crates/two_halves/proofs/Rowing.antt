@@ -109,7 +109,8 @@ module _ (p : Plan) (mem mem1 : List ℕ) (mv mv1 : Moving) (k : Marks) (low lim
         let queue_same : values mem2 row.queue row.waiting ≡ values mem row.queue row.waiting =
         values-kept p.test mem1 mem2 low limit row.queue row.waiting same2 queue-called.places ∙ values-kept p.test mem mem1 low limit row.queue row.waiting same1 r.queue.places in
         record {
-          goes = goes-then p mem mem2 mem3 mv2 mv3 k k to (to + 2 * (row.depth + row.waiting)) (to + 2 * row.depth) (to + 2 * row.depth + 2 * row.waiting) to (to + 2 * (row.depth + row.waiting)) b q.goes
+          goes = goes-then p mem mem2 mem3 mv2 mv3 k k to (to + 2 * (row.depth + row.waiting)) (to + 2 * row.depth) (to + 2 * row.depth + 2 * row.waiting) to
+              (to + 2 * (row.depth + row.waiting)) b q.goes
               (omega arith) (omega arith) (omega arith) (omega arith);
           is = record {
             number = refl;

@@ -1,5 +1,5 @@
 -- The records were moved: what stood in the old half stands in the new one, and nothing of the old half is in use.
-use Rattle.std.proofs.Common.{◌≡◌, ℕ, ◌+◌, ◌-◌, ◌*◌, ◌/◌, ◌%◌, ◌<◌, ◌≤◌, ◌⊎◌, Bool, true, false, ◌&&◌, true≢false, List, [], ◌∷◌, ◌++◌, length, get_or, refl, sym, ◌∙◌, ap, subst, arith, inl, inr}
+use Rattle.std.proofs.Common.{◌≡◌, ℕ, ◌+◌, ◌/◌, ◌<◌, ◌≤◌, ◌⊎◌, Bool, true, false, ◌&&◌, true≢false, List, [], ◌∷◌, ◌++◌, length, get_or, refl, sym, ◌∙◌, ap, subst, arith, inl, inr}
 use Rattle.plain_term.specs.Bytes.{shared_bytes}
 use Rattle.plain_term.specs.Measures.{bin_words}
 use Rattle.plain_term.specs.Tree.{Tree}
@@ -13,8 +13,8 @@ use Rattle.term_words.proofs.Narrowing.{narrowed-word}
 use Rattle.term_words.proofs.Reached.{reached}
 use Rattle.term_words.proofs.Roles.{object-role}
 use Rattle.shared_rec.specs.Record.{owner_in}
-use Rattle.shared_rec.proofs.Records.{bin-copied, bin-same, bin-stays, fun-copied, fun-same, fun-stays, record-first, record-stays, record-within}
-use Rattle.off_heap_list.specs.Links.{name_place, named, IsLink, Links}
+use Rattle.shared_rec.proofs.Records.{bin-copied, bin-same, fun-copied, fun-same, record-stays, record-within}
+use Rattle.off_heap_list.specs.Links.{named, IsLink, Links}
 use Rattle.off_heap_list.specs.Exact.{AllCounted}
 use Rattle.off_heap_list.specs.Whole.{moved_of, turned, SweptWhole}
 use Rattle.off_heap_list.specs.declared.whole.Survivors.{Survivors}
@@ -25,8 +25,8 @@ use Rattle.record_move.proofs.Renewing.{renewed-all, renewed-both, renewed-fits,
 use Rattle.cheney.specs.declared.moving.Moving.{Moving}
 use Rattle.cheney.specs.Collected.{Collected}
 use Rattle.cheney.specs.Rooms.{top_of}
-use Rattle.chain_sweep.proofs.Leaving.{record-back, record-goes, role-goes}
-use Rattle.two_halves.specs.Halves.{HoldsTree, IsBinOf, IsFunOf, ProcsStand, RecordsStand, Standing, end_of, front_of, records_of}
+use Rattle.chain_sweep.proofs.Leaving.{record-back, role-goes}
+use Rattle.two_halves.specs.Halves.{HoldsTree, IsBinOf, IsFunOf, ProcsStand, RecordsStand, Standing, front_of, records_of}
 use Rattle.two_halves.specs.declared.halves.Halves.{Halves}
 use Rattle.two_halves.specs.declared.table.Proc.{Proc}
 use Rattle.two_halves.proofs.Counting.{IsCounting, counting}
@@ -286,6 +286,14 @@ module _ (h : Halves) (t : Target) (x : Standing h) (m : List ℕ) (mv : Moving)
           same = λ j q below some e. ap (λ z. get_or mem5 z 0) e;
         }) here;
       }
+
+  pub names-there : (v : ℕ) → In v (renewed mem5 h.funs.items) → owner_in mem5 v / 256 < x.named
+  names-there v i =
+      let g : IsRenewed mem4 mem5 objects h.funs.items v = renewed-made was mem4 mem5 left.first objects low t.to r h.funs.items are-funs v i in
+      let old : IsFunOf x.stands.test h.mem (named mem4 g.o) = x.stands.records.each_fun (named mem4 g.o) g.was in
+      let wide : IsFunRecord r.test mem5 (named mem5 g.o) old.name old.arity = r.funs g.o old.name old.arity g.inside (old-fun (named mem4 g.o) old.name old.arity old.is) in
+      let owner : owner_in mem5 v ≡ owner_in h.mem (named mem4 g.o) = ap (owner_in mem5) (sym g.is) ∙ (wide.owner ∙ sym old.is.owner) in
+      omega (arith, owner, x.stands.fun_names (named mem4 g.o) g.was)
 
   all-there : (v n : ℕ) → IsRecord settled mem5 v n → In v (renewed mem5 h.bins.items ++ renewed mem5 h.funs.items)
   all-there v n there =

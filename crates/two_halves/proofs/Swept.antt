@@ -1,27 +1,20 @@
 -- A collection from the one half to the other: its chain is swept, and the records that are named still are moved.
-use Rattle.std.proofs.Common.{◌≡◌, ℕ, ◌+◌, ◌-◌, ◌*◌, ◌/◌, ◌%◌, ◌<◌, ◌≤◌, ◌⊎◌, ◌&&◌, Bool, true, false, nat_le, nat_lt, List, [], ◌∷◌, ◌++◌, length, get_or, refl, sym, ◌∙◌, ap, subst, arith, inl, inr, if◌then◌else◌}
+use Rattle.std.proofs.Common.{◌≡◌, ℕ, ◌+◌, ◌-◌, ◌*◌, ◌/◌, ◌<◌, ◌≤◌, ◌⊎◌, ◌&&◌, Bool, true, false, nat_le}
+use Rattle.std.proofs.Common.{nat_lt, List, [], ◌∷◌, length, refl, sym, ◌∙◌, ap, subst, arith, inl, inr, if◌then◌else◌}
 use Rattle.std.proofs.lemmas.Bool.Decides.{nat_tests}
-use Rattle.plain_term.specs.Tree.{Tree}
-use Rattle.plain_term.specs.Tree.Trees.{end, ◌▹◌}
-use Rattle.term_words.specs.Role.{NEXT, COUNT, NAMES, RECORD_FIRST, OfObject, OfRecord, IsSingle, both}
-use Rattle.term_words.specs.Object.{IsPointer, IsRecord, object_words}
-use Rattle.term_words.specs.Stands.{Stands, AllStand}
-use Rattle.term_words.specs.Reach.{Reach, IsNamed, Passes, root}
-use Rattle.term_words.specs.Counted.{In, Distinct, total}
+use Rattle.term_words.specs.Role.{NEXT, OfObject, OfRecord}
+use Rattle.term_words.specs.Object.{IsRecord}
+use Rattle.term_words.specs.Counted.{In, total}
 use Rattle.plain_term.specs.Bytes.{shared_bytes}
 use Rattle.plain_term.specs.Measures.{bin_words}
 use Rattle.term_words.proofs.Members.{in-both}
-use Rattle.term_words.proofs.Narrowing.{narrowed-word}
 use Rattle.term_words.proofs.Reached.{reached}
-use Rattle.term_words.proofs.Roles.{object-role}
 use Rattle.shared_rec.specs.Record.{owner_in}
-use Rattle.shared_rec.proofs.Records.{record-first}
-use Rattle.off_heap_list.specs.Links.{name_place, named, IsLink, Links}
+use Rattle.off_heap_list.specs.Links.{named, IsLink}
 use Rattle.off_heap_list.specs.Swept.{is_moved, new_place, Sweeping}
 use Rattle.off_heap_list.specs.Whole.{moved_of, turned, SweptWhole, CanSweep}
 use Rattle.off_heap_list.specs.declared.whole.Survivors.{Survivors}
-use Rattle.record_move.specs.Copies.{record_words, CanMove, CanMoveAll, Leaves, RecordsMoved}
-use Rattle.record_move.proofs.Narrow.{narrow-links, narrow-some}
+use Rattle.record_move.specs.Copies.{record_words, CanMove, CanMoveAll}
 use Rattle.cheney.specs.declared.moving.Moving.{Moving}
 use Rattle.cheney.specs.Plan.{Plan, Ready, Reached, Leaves as PlanLeaves, size}
 use Rattle.cheney.specs.Moved.{forward}
@@ -38,7 +31,7 @@ use Rattle.two_halves.specs.declared.halves.Halves.{Halves}
 use Rattle.two_halves.specs.declared.table.Proc.{Proc}
 use Rattle.two_halves.proofs.Counting.{IsCounting, counting}
 use Rattle.two_halves.proofs.Ended.{Scanned, aged-between, objects-few, sides-there, top-between, whole}
-use Rattle.two_halves.proofs.Planned.{Target, object-below, plan_of, role-here}
+use Rattle.two_halves.proofs.Planned.{Target, plan_of, role-here}
 
 -- Lists that are turned round.
 turned-in : (q : ℕ) (xs ys : List ℕ) → In q (turned xs ys) → In q xs ⊎ In q ys

@@ -1,13 +1,14 @@
 -- Records and objects that come into a half: what stands on the way, and after it.
-use Rattle.std.specs.Prelude.{◌≡◌, ℕ, ◌+◌, ◌<◌, ◌≤◌, ◌⊎◌, Bool, true, List, [], ◌++◌, length}
+use Rattle.std.specs.Prelude.{◌≡◌, ℕ, ◌+◌, ◌/◌, ◌<◌, ◌≤◌, ◌⊎◌, Bool, true, List, [], ◌++◌, length, slice_index, Option, Some, None}
 use Rattle.std.specs.Vec.{vec_capacity}
 use Rattle.plain_term.specs.Tree.{Tree}
 use Rattle.plain_machine.specs.State.{Process}
 use Rattle.term_words.specs.Role.{NEXT, IsSingle, OfObject, OfRecord}
 use Rattle.term_words.specs.Object.{IsBinRecord, IsFunRecord, IsRecord}
 use Rattle.term_words.specs.Stands.{Stands}
+use Rattle.term_words.specs.Kept.{Keeps}
 use Rattle.term_words.specs.Counted.{In, Distinct}
-use Rattle.shared_rec.specs.Record.{count_in}
+use Rattle.shared_rec.specs.Record.{count_in, owner_in}
 use Rattle.off_heap_list.specs.Links.{Links}
 use Rattle.record_move.specs.Tables.{OwnersRise}
 use Rattle.two_halves.specs.Halves.{HalvesStand, IsBinOf, IsFunOf, IsLaid, ProcsStand, end_of, front_of}
@@ -25,6 +26,14 @@ pub record IsNext (h : Halves) (serial : ℕ) : Type 0 where
   pub processes : List Process
   pub stands : HalvesStand named h shared processes
   pub last : serial ≡ length shared + 1
+
+-- The half stands for some processes, and a name is below the number above all names.
+pub record IsNamedIn (h : Halves) (name : ℕ) : Type 0 where
+  pub named : ℕ
+  pub shared : List (List ℕ)
+  pub processes : List Process
+  pub stands : HalvesStand named h shared processes
+  pub above : name < named
 
 -- What else stays where something comes into a half: the processes with their roots, the size of the memory, which half is in
 -- use, the capacity of the tables, and how many collections were made.
@@ -54,6 +63,7 @@ pub record Nearly (named : ℕ) (h : Halves) (shared : List (List ℕ)) (qs : Li
   pub serials : OwnersRise h.mem h.bins.items
   pub codes : OwnersRise h.mem h.funs.items
   pub counted : (u n : ℕ) → IsRecord test h.mem u n → (u ≡ v → ⊥) → 1 ≤ count_in h.mem u
+  pub fun_names : (u : ℕ) → In u h.funs.items → owner_in h.mem u / 256 < named
   pub processes : ProcsStand test shared h.mem h.low (end_of h) named h.procs.items qs
 
 -- So it does, with this binary in the record.
@@ -65,4 +75,15 @@ pub record HasBin (named : ℕ) (h : Halves) (shared : List (List ℕ)) (qs : Li
 pub record HasFun (named : ℕ) (old h : Halves) (shared : List (List ℕ)) (qs : List Process) (v name arity : ℕ) (c : ℕ → ℕ → Bool) : Type 0 where
   pub near : Nearly named h shared qs v
   pub is : IsFunRecord near.test h.mem v name arity
-  pub kept : (w : ℕ) (t : Tree) → Stands c shared old.mem w t → Stands near.test shared h.mem w t
+  pub kept : Keeps c near.test old.mem h.mem
+
+-- So many funs' records have a lesser owner word than this number, and the others no lesser one.
+pub record IsSpot (mem : List ℕ) (funs : List ℕ) (code i : ℕ) : Type 0 where
+  pub within : i ≤ length funs
+  pub below : (j : ℕ) → j < i → owner_in mem (slice_index funs j) < code
+  pub above : (j : ℕ) → i ≤ j → j < length funs → code ≤ owner_in mem (slice_index funs j)
+
+-- The answer is the record with that number, which has this owner word; or there is none with both.
+abbrev pub IsFunAt : (mem funs : List ℕ) → (i code : ℕ) → Option ℕ → Type 0
+IsFunAt mem funs i code (Some v) = (i < length funs) × ((v ≡ slice_index funs i) × (owner_in mem v ≡ code))
+IsFunAt mem funs i code None = i < length funs → owner_in mem (slice_index funs i) ≡ code → ⊥

@@ -112,7 +112,7 @@ pub record RecordsStand (c : ℕ → ℕ → Bool) (mem : List ℕ) (shared : Li
 
 -- The half in use stands for these processes, by one test of one role a place: words of objects below the free words, words
 -- of records above them. The chain has every holder and fun that stands, whether it is reached or not, and each record's
--- count is the number of those that name it. `named` is above all atoms of the trees.
+-- count is the number of those that name it. `named` is above all atoms of the trees and all names of funs.
 pub record HalvesStand (named : ℕ) (h : Halves) (shared : List (List ℕ)) (qs : List Process) : Type 0 where
   pub test : ℕ → ℕ → Bool
   pub single : IsSingle test
@@ -123,6 +123,7 @@ pub record HalvesStand (named : ℕ) (h : Halves) (shared : List (List ℕ)) (qs
   pub inside : (p : ℕ) → In p chained → p + 6 ≤ h.top
   pub every : (p : ℕ) → test (p + 2) NEXT ≡ true → In p chained
   pub records : RecordsStand test h.mem shared h.bins.items h.funs.items
+  pub fun_names : (v : ℕ) → In v h.funs.items → owner_in h.mem v / 256 < named
   pub processes : ProcsStand test shared h.mem h.low (end_of h) named h.procs.items qs
 
 -- Some processes that the half in use stands for.

@@ -9,14 +9,14 @@ ghost use Rattle.term_tags.specs.declared.kinds.TheConstants.{ATOMS, PIDS};
 ghost use Rattle.term_tags.specs.declared.layouts.TheConstants.{MOST_ENV};
 ghost use Rattle.term_words.specs.Stands.{AllStand};
 ghost use Rattle.shared_rec.specs.Record.{count_in};
-ghost use Rattle.two_halves.specs.Halves.{HalvesStand, IsLaid, free_in};
-ghost use Rattle.two_halves.specs.Adding.{Adds, Gets, HasBin, IsNext};
+ghost use Rattle.two_halves.specs.Halves.{HalvesStand, IsLaid, Standing, free_in};
+ghost use Rattle.two_halves.specs.Adding.{Adds, Gets, HasBin, HasFun, IsFunAt, IsNamedIn, IsNext, IsSpot};
 
 use crate::halves::Halves;
 use off_heap_list::chain;
 use plain_machine::RECORD_COST;
-use shared_rec::{fill, write_bin};
-use term_build::holder;
+use shared_rec::{fill, serial_of, write_bin, write_fun};
+use term_build::{fun_thing, holder};
 
 impl Halves {
     /// Makes a binary of `len` bytes that are all `byte`: a record with this serial, which is the next one, and a holder.
@@ -62,5 +62,93 @@ impl Halves {
         self.bins.push_reserved(at);
         self.low = at;
         at
+    }
+
+    /// Makes a fun of this name and arity, which the process with number `creator` made, with these words as its environment. Its
+    /// record is that of the name and arity, which is made where there is none.
+    pub fn add_fun(&mut self, name: u64, arity: u64, creator: u64, env: &[u64]) -> u64
+        requires laid { IsLaid self.old }
+        requires named { IsNamedIn self.old name }
+        requires words { 10 + length env.now ≤ free_in self.old }
+        requires table { vec_len self.old.funs < vec_capacity self.old.funs }
+        requires name { name < ATOMS }
+        requires arity { arity ≤ 255 }
+        requires creator { creator < PIDS }
+        requires few { length env.now ≤ MOST_ENV }
+        ensures adds { Adds self.old self.new }
+        ensures gets { (named : ℕ) (shared : List (List ℕ)) (qs : List Process) (x : HalvesStand named self.old shared qs) (ts : Trees)
+            → name < named → AllStand x.test shared self.old.mem env.now ts → Gets named self.new shared qs result (Fun name arity creator ts) }
+    {
+        let _len = self.mem.len();
+        let rec = self.fun_record(name, arity);
+        let mut room = self.room();
+        let object = room.top;
+        let w = fun_thing(&mut self.mem, &mut room, rec, 0, arity, creator, env);
+        self.top = room.top;
+        self.head = chain(&mut self.mem, self.head, object);
+        self.linked += 1;
+        w
+    }
+
+    // The place of the record of the funs with this name and arity; a new one lies below all places and records.
+    fn fun_record(&mut self, name: u64, arity: u64) -> u64
+        requires laid { IsLaid self.old }
+        requires named { IsNamedIn self.old name }
+        requires words { 10 ≤ free_in self.old }
+        requires table { vec_len self.old.funs < vec_capacity self.old.funs }
+        requires name { name < ATOMS }
+        requires arity { arity ≤ 255 }
+        ensures adds { Adds self.old self.new }
+        ensures has { (named : ℕ) (shared : List (List ℕ)) (qs : List Process) (x : HalvesStand named self.old shared qs)
+            → name < named → HasFun named self.old self.new shared qs result name arity x.test }
+        ensures top { self.new.top ≡ self.old.top }
+        ensures low { self.old.low ≤ self.new.low + 4 }
+        ensures linked { self.new.linked ≡ self.old.linked }
+    {
+        let _len = self.mem.len();
+        let code = name * 256 + arity;
+        let i = self.spot_of(code);
+        if let Some(at) = self.fun_at(i, code) {
+            return at;
+        }
+        let at = self.low - RECORD_COST;
+        write_fun(&mut self.mem, at, name, arity);
+        let _ = self.funs.insert(i, at);
+        self.low = at;
+        at
+    }
+
+    // The place of a fun's record by its number in the table, where its owner word is this one.
+    fn fun_at(&self, i: usize, code: u64) -> Option<u64>
+        requires { Standing self.now }
+        ensures { IsFunAt self.now.mem self.now.funs.items i code result }
+    {
+        if i >= self.funs.len() {
+            return None;
+        }
+        let at = self.funs[i];
+        if serial_of(&self.mem, at) == code {
+            Some(at)
+        } else {
+            None
+        }
+    }
+
+    // How many funs' records have a lesser owner word, found by halving.
+    fn spot_of(&self, code: u64) -> usize
+        requires { Standing self.now }
+        ensures { IsSpot self.now.mem self.now.funs.items code result }
+    {
+        let mut low = 0;
+        let mut high = self.funs.len();
+        while low < high {
+            let middle = low + (high - low) / 2;
+            if serial_of(&self.mem, self.funs[middle]) < code {
+                low = middle + 1;
+            } else {
+                high = middle;
+            }
+        }
+        low
     }
 }

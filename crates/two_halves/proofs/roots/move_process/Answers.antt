@@ -1,4 +1,4 @@
-use Rattle.std.proofs.Common.{◌+◌, ◌*◌, arith}
+use Rattle.std.proofs.Common.{arith}
 use Rattle.two_halves.proofs.Rowing.{queue-next, row-moved, stack-next}
 use Rattle.two_halves.proofs.roots.move_process.Goals as goal
 

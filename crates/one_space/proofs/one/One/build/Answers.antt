@@ -1,12 +1,12 @@
-use Rattle.std.proofs.Common.{length, refl, sym, subst, Err, arith}
+use Rattle.std.proofs.Common.{◌≡◌, ℕ, ◌+◌, ◌-◌, ◌*◌, ◌≤◌, length, refl, sym, subst, Err, arith}
 use Rattle.std.specs.Vec.{with_items}
 use Rattle.script_grammar.specs.declared.refusal.Refusal.{Refusal}
-use Rattle.item_build.specs.Reading.{words_of}
+use Rattle.item_build.specs.Reading.{long_bins, words_of}
 use Rattle.item_build.proofs.Written.{is-written}
 use Rattle.one_space.specs.Doing.{Asks, Builds}
 use Rattle.one_space.specs.declared.one.One.{One}
 use Rattle.one_space.proofs.Asking.{asks-grown, asks-lacks, asks-stopped}
-use Rattle.one_space.proofs.Setting.{needed-words, set-does, set-held, set-refused, set-regs, set-stops, stopped_in}
+use Rattle.one_space.proofs.Setting.{long-few, needed-words, set-builds, set-held, set-inside, set-linked, set-refused, set-regs, set-room, set-stops, stopped_in}
 use Rattle.one_space.proofs.Terming.{term-within}
 use Rattle.one_space.proofs.one.One.build.Goals as goal
 
@@ -44,22 +44,58 @@ returns-in-Err-clause-builds c =
     (set-stops c.args.self.now c.requires.holds c.args.seat c.requires.sits c.args.r c.args.names.now c.args.code.now c.requires.term c.count-named.ensures.names.few c.words_needed-grow.result
     (needed-words c.args.names.now c.args.code.now c.requires.term c.words_needed-grow.result c.count-named.ensures.names.few c.words_needed-grow.ensures)
     c.make_room.new.self c.make_room.result c.make_room.ensures c.requires.named c.if-not-make_room.false c.room-room.result c.room-room.ensures c.index.result.now c.index.ensures
-    c.build.new.mem c.build.new.room (with_items c.args.self.now.row c.build.new.scratch) refl c.in-Err.stop c.in-Err.ensures.stopped.0 c.in-Err.ensures.stopped.1 c.in-Err.ensures.builds)
+    c.build.new.mem c.build.new.room (with_items c.args.self.now.row c.build.new.scratch) refl (record { serial = c.args.self.now.serials; head = c.make_room.new.self.head }) c.build.new.making
+    c.build.ensures.leaves refl c.in-Err.stop c.in-Err.ensures.builds)
 
 pub index_mut-process-requires : goal.index_mut-process-requires
 index_mut-process-requires c = term-within c.args.self.now c.requires.holds c.args.seat c.requires.sits c.words_needed-grow.result c.make_room.new.self c.make_room.result c.make_room.ensures
 
 pub returns-clause-builds : goal.returns-clause-builds
 returns-clause-builds c =
-    set-does c.args.self.now c.requires.holds c.args.seat c.requires.sits c.args.r c.args.names.now c.args.code.now c.requires.term c.count-named.ensures.names.few c.words_needed-grow.result
+    set-builds c.args.self.now c.requires.holds c.args.seat c.requires.sits c.args.r c.args.names.now c.args.code.now c.requires.term c.count-named.ensures.names.few c.words_needed-grow.result
     (needed-words c.args.names.now c.args.code.now c.requires.term c.words_needed-grow.result c.count-named.ensures.names.few c.words_needed-grow.ensures)
     c.make_room.new.self c.make_room.result c.make_room.ensures c.requires.named c.if-not-make_room.false c.room-room.result c.room-room.ensures c.index.result.now c.index.ensures
-    c.build.new.mem c.build.new.room (with_items c.args.self.now.row c.build.new.scratch) refl c.index_mut-process.result.now c.index_mut-process.ensures.value c.in-Ok.w
-    c.in-Ok.ensures.uses c.in-Ok.ensures.builds c.count-named.result c.count-named.ensures.value
+    c.build.new.mem c.build.new.room (with_items c.args.self.now.row c.build.new.scratch) refl (record { serial = c.args.self.now.serials; head = c.make_room.new.self.head }) c.build.new.making
+    c.build.ensures.leaves refl c.in-Ok.w c.in-Ok.ensures.builds c.in-Ok.ensures.back
+    (c.build.new.making.serial - c.args.self.now.serials) (omega (arith, c.in-Ok.ensures.serial)) c.index_mut-process.result.now c.index_mut-process.ensures.value c.enter_bins.new.bins
+    c.enter_bins.ensures.items
+    c.enter_bins.ensures.capacity c.in-Ok.ensures.serial c.count-named.result c.count-named.ensures.value
+
+pub enter_bins-requires-clause-inside : goal.enter_bins-requires-clause-inside
+enter_bins-requires-clause-inside c =
+    let P : ℕ → Type 0 = λ g. c.make_room.new.self.top + 6 * g ≤ length c.build.new.mem in
+    let count : long_bins c.args.code.now ≡ c.build.new.making.serial - c.args.self.now.serials = omega (arith, c.in-Ok.ensures.serial) in
+    subst P count
+    (set-inside c.args.self.now c.requires.holds c.args.seat c.requires.sits c.args.r c.args.names.now c.args.code.now c.requires.term c.count-named.ensures.names.few c.words_needed-grow.result
+    (needed-words c.args.names.now c.args.code.now c.requires.term c.words_needed-grow.result c.count-named.ensures.names.few c.words_needed-grow.ensures)
+    c.make_room.new.self c.make_room.result c.make_room.ensures c.requires.named c.if-not-make_room.false c.room-room.result c.room-room.ensures c.index.result.now c.index.ensures
+    c.build.new.mem c.build.new.room (with_items c.args.self.now.row c.build.new.scratch) refl (record { serial = c.args.self.now.serials; head = c.make_room.new.self.head }) c.build.new.making
+    c.build.ensures.leaves refl c.in-Ok.w c.in-Ok.ensures.builds c.in-Ok.ensures.back)
+
+pub enter_bins-requires-clause-room : goal.enter_bins-requires-clause-room
+enter_bins-requires-clause-room c =
+    let most = set-room c.args.self.now c.requires.holds c.args.seat c.requires.sits c.args.r c.args.names.now c.args.code.now c.requires.term c.count-named.ensures.names.few
+    c.words_needed-grow.result
+    (needed-words c.args.names.now c.args.code.now c.requires.term c.words_needed-grow.result c.count-named.ensures.names.few c.words_needed-grow.ensures)
+    c.make_room.new.self c.make_room.result c.make_room.ensures c.requires.named c.if-not-make_room.false c.room-room.result c.room-room.ensures c.index.result.now c.index.ensures
+    c.build.new.mem c.build.new.room (with_items c.args.self.now.row c.build.new.scratch) refl (record { serial = c.args.self.now.serials; head = c.make_room.new.self.head }) c.build.new.making
+    c.build.ensures.leaves refl c.in-Ok.w c.in-Ok.ensures.builds c.in-Ok.ensures.back in
+    omega (arith, most, c.in-Ok.ensures.serial)
+
+pub overflow_add-self-2 : goal.overflow_add-self-2
+overflow_add-self-2 c =
+    let most = set-linked c.args.self.now c.requires.holds c.args.seat c.requires.sits c.args.r c.args.names.now c.args.code.now c.requires.term c.count-named.ensures.names.few
+    c.words_needed-grow.result
+    (needed-words c.args.names.now c.args.code.now c.requires.term c.words_needed-grow.result c.count-named.ensures.names.few c.words_needed-grow.ensures)
+    c.make_room.new.self c.make_room.result c.make_room.ensures c.requires.named c.if-not-make_room.false c.room-room.result c.room-room.ensures c.index.result.now c.index.ensures
+    c.build.new.mem c.build.new.room (with_items c.args.self.now.row c.build.new.scratch) refl (record { serial = c.args.self.now.serials; head = c.make_room.new.self.head }) c.build.new.making
+    c.build.ensures.leaves refl c.in-Ok.w c.in-Ok.ensures.builds c.in-Ok.ensures.back in
+    omega (arith, most, c.in-Ok.ensures.serial, c.len-len.ensures.most, c.len-len.ensures.len, c.build.ensures.leaves.same_len, long-few c.args.code.now, c.requires.term.few)
 
 pub returns-then-not-make_room-clause-asks : goal.returns-then-not-make_room-clause-asks
 returns-then-not-make_room-clause-asks c =
-    asks-lacks c.words_needed-grow.result (words_of c.args.code.now) c.args.self.now c.make_room.new.self c.make_room.result c.make_room.ensures (needed-words c.args.names.now c.args.code.now c.requires.term c.words_needed-grow.result c.count-named.ensures.names.few c.words_needed-grow.ensures) c.if-not-make_room.true c.words_needed-grow.result
+    asks-lacks c.words_needed-grow.result (words_of c.args.code.now) c.args.self.now c.make_room.new.self c.make_room.result c.make_room.ensures (needed-words c.args.names.now
+    c.args.code.now c.requires.term c.words_needed-grow.result c.count-named.ensures.names.few c.words_needed-grow.ensures) c.if-not-make_room.true c.words_needed-grow.result
 
 pub returns-in-Err-clause-asks : goal.returns-in-Err-clause-asks
 returns-in-Err-clause-asks c =
@@ -67,8 +103,10 @@ returns-in-Err-clause-asks c =
     let b : One = c.args.self.now in
     let new : One = stopped_in b c.make_room.new.self c.build.new.mem (with_items b.row c.build.new.scratch) in
     let P : Refusal → Type 0 = λ e. Asks {A = Unit {0}} (words_of c.args.code.now) b new (Err e) in
-    subst P (sym c.refusal_of.ensures) (asks-stopped n (words_of c.args.code.now) b c.make_room.new.self c.make_room.result c.make_room.ensures (needed-words c.args.names.now c.args.code.now c.requires.term c.words_needed-grow.result c.count-named.ensures.names.few c.words_needed-grow.ensures) c.if-not-make_room.false new refl refl refl c.in-Err.stop)
+    subst P (sym c.refusal_of.ensures) (asks-stopped n (words_of c.args.code.now) b c.make_room.new.self c.make_room.result c.make_room.ensures (needed-words c.args.names.now
+    c.args.code.now c.requires.term c.words_needed-grow.result c.count-named.ensures.names.few c.words_needed-grow.ensures) c.if-not-make_room.false new refl refl refl c.in-Err.stop)
 
 pub returns-clause-asks : goal.returns-clause-asks
 returns-clause-asks c =
-    asks-grown c.words_needed-grow.result (words_of c.args.code.now) c.args.self.now c.make_room.new.self c.make_room.result c.make_room.ensures (needed-words c.args.names.now c.args.code.now c.requires.term c.words_needed-grow.result c.count-named.ensures.names.few c.words_needed-grow.ensures) c.if-not-make_room.false _ refl tt
+    asks-grown c.words_needed-grow.result (words_of c.args.code.now) c.args.self.now c.make_room.new.self c.make_room.result c.make_room.ensures (needed-words c.args.names.now
+    c.args.code.now c.requires.term c.words_needed-grow.result c.count-named.ensures.names.few c.words_needed-grow.ensures) c.if-not-make_room.false _ refl tt

@@ -26,7 +26,8 @@ place_in-requires c =
 pub returns-in-Err-clause-does : goal.returns-in-Err-clause-does
 returns-in-Err-clause-does c =
     let P : Refusal → Type 0 = λ z. DoesBy {A = Unit {0}} c.args.names.now (OfProcess c.args.seat.pid (verb.MapPut c.args.r c.args.s c.args.k c.args.v)) c.args.self.now c.args.self.now (Err z) in
-    subst P (sym c.refusal_of_put.ensures) (put-refused c.args.self.now c.requires.holds c.args.seat c.requires.sits c.args.r c.args.s c.args.k c.args.v c.requires.map c.requires.key c.requires.value c.index.result.now c.index.ensures
+    subst P (sym c.refusal_of_put.ensures) (put-refused c.args.self.now c.requires.holds c.args.seat c.requires.sits c.args.r c.args.s c.args.k c.args.v c.requires.map c.requires.key
+    c.requires.value c.index.result.now c.index.ensures
     c.args.names.now c.place_in.result c.place_in.ensures c.in-Err.stop c.in-Err.is)
 
 pub overflow_mul-grow : goal.overflow_mul-grow
@@ -67,7 +68,8 @@ map_with-w-requires-clause-map c =
     let P : Room → Type 0 = λ y. HasPlace y c.make_room.new.self.mem (get_or c.index-2.result.now.regs c.args.s.0 0) c.in-Ok.place.spot in
     subst P (sym c.room-room.ensures)
     (put-place c.args.self.now c.requires.holds c.args.seat c.requires.sits c.args.r c.args.s c.args.k c.args.v c.requires.map c.requires.key c.requires.value c.index.result.now c.index.ensures
-    c.args.names.now c.place_in.result c.place_in.ensures c.in-Ok.place c.in-Ok.is _ refl c.make_room.new.self c.make_room.result c.make_room.ensures c.index-2.result.now c.index-2.ensures c.if-not-make_room.false)
+    c.args.names.now c.place_in.result c.place_in.ensures c.in-Ok.place c.in-Ok.is _ refl c.make_room.new.self c.make_room.result c.make_room.ensures c.index-2.result.now
+    c.index-2.ensures c.if-not-make_room.false)
 
 pub index_mut-process-requires : goal.index_mut-process-requires
 index_mut-process-requires c = term-within c.args.self.now c.requires.holds c.args.seat c.requires.sits (6 + 2 * c.in-Ok.place.keys) c.make_room.new.self c.make_room.result c.make_room.ensures
@@ -81,7 +83,8 @@ returns-clause-does c =
     → Stands d shared c.make_room.new.self.mem (get_or c.index-2.result.now.regs c.args.v.0 0) u
     → Built d y.top (4 + 2 * count_placed c.in-Ok.place.spot (pairs_len ps)) c.make_room.new.self.mem c.map_with-w.new.mem shared c.map_with-w.result (Map (placed c.in-Ok.place.spot t u ps)) in
     put-does c.args.self.now c.requires.holds c.args.seat c.requires.sits c.args.r c.args.s c.args.k c.args.v c.requires.map c.requires.key c.requires.value c.index.result.now c.index.ensures
-    c.args.names.now c.place_in.result c.place_in.ensures c.in-Ok.place c.in-Ok.is _ refl c.make_room.new.self c.make_room.result c.make_room.ensures c.index-2.result.now c.index-2.ensures c.if-not-make_room.false
+    c.args.names.now c.place_in.result c.place_in.ensures c.in-Ok.place c.in-Ok.is _ refl c.make_room.new.self c.make_room.result c.make_room.ensures c.index-2.result.now
+    c.index-2.ensures c.if-not-make_room.false
     c.map_with-w.new.mem c.map_with-w.new.room c.map_with-w.result c.index_mut-process.result.now c.index_mut-process.ensures.value (subst U c.room-room.ensures c.map_with-w.ensures.uses)
     (subst V c.room-room.ensures c.map_with-w.ensures.built)
 

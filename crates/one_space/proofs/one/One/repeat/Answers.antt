@@ -40,8 +40,10 @@ returns-clause-does c =
 
 pub returns-then-not-make_room-clause-asks : goal.returns-then-not-make_room-clause-asks
 returns-then-not-make_room-clause-asks c =
-    unless-lacks c.repeat_words-grow.result (repeat_words c.args.shape c.args.n) c.args.self.now c.make_room.new.self c.make_room.result c.make_room.ensures c.repeat_words-grow.ensures c.if-not-make_room.true c.repeat_words-grow.result
+    unless-lacks c.repeat_words-grow.result (repeat_words c.args.shape c.args.n) c.args.self.now c.make_room.new.self c.make_room.result c.make_room.ensures c.repeat_words-grow.ensures
+    c.if-not-make_room.true c.repeat_words-grow.result
 
 pub returns-clause-asks : goal.returns-clause-asks
 returns-clause-asks c =
-    unless-grown c.repeat_words-grow.result (repeat_words c.args.shape c.args.n) c.args.self.now c.make_room.new.self c.make_room.result c.make_room.ensures c.repeat_words-grow.ensures c.if-not-make_room.false _ refl tt
+    unless-grown c.repeat_words-grow.result (repeat_words c.args.shape c.args.n) c.args.self.now c.make_room.new.self c.make_room.result c.make_room.ensures c.repeat_words-grow.ensures
+    c.if-not-make_room.false _ refl tt

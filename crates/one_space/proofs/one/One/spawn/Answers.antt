@@ -21,7 +21,7 @@ pub returns-clause-does : goal.returns-clause-does
 returns-clause-does c =
     spawn-does c.args.self.now c.requires.holds (omega (arith, c.len.ensures, c.args.self.now.halves.procs.ok.0, c.if-len-ge-MOST_PROCESSES.false))
     c.make_room.new.self c.make_room.result c.make_room.ensures c.push_reserved.new.self c.fresh.result c.push_reserved.ensures.items c.push_reserved.ensures.capacity c.fresh.ensures.number
-    c.fresh.ensures.regs c.fresh.ensures.depth c.fresh.ensures.refs
+    c.fresh.ensures.regs c.fresh.ensures.depth c.fresh.ensures.waiting c.fresh.ensures.refs
 
 pub returns-then-not-make_room-clause-asks : goal.returns-then-not-make_room-clause-asks
 returns-then-not-make_room-clause-asks c = λ other. asks-lacks 14 14 c.args.self.now c.make_room.new.self c.make_room.result c.make_room.ensures refl c.if-not-make_room.true 16

@@ -1,4 +1,4 @@
-use Rattle.std.proofs.Common.{◌≡◌, ℕ, ◌+◌, ◌-◌, ◌/◌, ◌<◌, Bool, List, [], ◌∷◌, ◌++◌, get_or, set, replicate, length, refl, sym, ◌∙◌, ap, subst, arith, inr}
+use Rattle.std.proofs.Common.{◌≡◌, ℕ, ◌+◌, ◌<◌, Bool, List, [], ◌∷◌, ◌++◌, get_or, set, replicate, length, sym, ◌∙◌, ap, subst, arith, inr}
 use Rattle.std.proofs.lemmas.List.{length-append, length-replicate, length-set}
 use Rattle.word_mem.specs.declared.ranges.Room.{Room}
 use Rattle.plain_term.specs.Tree.Tree.{Shared}
@@ -65,7 +65,8 @@ returns-clause-gets c = λ named shared qs x last.
     let C : ℕ → Type 0 = λ z. (k : ℕ → ℕ → Bool) (os further : List ℕ) → IsSingle k → Links k mem3 h.head os further → IsLink k mem3 z → (In z os → ⊥)
     → Links k c.chain-self.new.mem c.chain-self.result (z ∷ os) further in
     holder-gets named h more qs at c.args.serial bytes hb.near hb.is (omega (arith, last)) (omega (arith, last, length-append shared (bytes ∷ [])))
-    (last-bytes shared bytes c.args.serial last) c.args.len (length-replicate {A = ℕ} c.args.len c.args.byte) c.put_bin-at.ensures.adds.laid (omega (arith, c.requires.words, c.put_bin-at.ensures.top, c.put_bin-at.ensures.low))
+    (last-bytes shared bytes c.args.serial last) c.args.len (length-replicate {A = ℕ} c.args.len c.args.byte) c.put_bin-at.ensures.adds.laid
+    (omega (arith, c.requires.words, c.put_bin-at.ensures.top, c.put_bin-at.ensures.low))
     c.holder-w.new.room mem3 (subst U c.room-room.ensures c.holder-w.ensures.uses) c.holder-w.result (omega (arith, c.holder-w.ensures.place, top)) (subst L top c.holder-w.ensures.words)
     (subst V c.room-room.ensures c.holder-w.ensures.built) c.chain-self.new.mem c.chain-self.result (subst W top c.chain-self.ensures.writes) (subst C top c.chain-self.ensures.links)
 
@@ -93,9 +94,10 @@ returns-clause-adds c =
     let a = c.put_bin-at.ensures.adds in
     record {
       laid = holder-laid named h more qs at c.args.serial bytes hb.near hb.is (omega (arith, last)) (omega (arith, last, length-append shared (bytes ∷ [])))
-      (last-bytes shared bytes c.args.serial last) c.args.len (length-replicate {A = ℕ} c.args.len c.args.byte) c.put_bin-at.ensures.adds.laid (omega (arith, c.requires.words, c.put_bin-at.ensures.top, c.put_bin-at.ensures.low))
-      c.holder-w.new.room mem3 (subst U c.room-room.ensures c.holder-w.ensures.uses) c.holder-w.result (omega (arith, c.holder-w.ensures.place, top)) (subst L top c.holder-w.ensures.words)
-      (subst V c.room-room.ensures c.holder-w.ensures.built) c.chain-self.new.mem c.chain-self.result (subst W top c.chain-self.ensures.writes) (subst C top c.chain-self.ensures.links);
+          (last-bytes shared bytes c.args.serial last) c.args.len (length-replicate {A = ℕ} c.args.len c.args.byte) c.put_bin-at.ensures.adds.laid
+          (omega (arith, c.requires.words, c.put_bin-at.ensures.top, c.put_bin-at.ensures.low))
+          c.holder-w.new.room mem3 (subst U c.room-room.ensures c.holder-w.ensures.uses) c.holder-w.result (omega (arith, c.holder-w.ensures.place, top)) (subst L top c.holder-w.ensures.words)
+          (subst V c.room-room.ensures c.holder-w.ensures.built) c.chain-self.new.mem c.chain-self.result (subst W top c.chain-self.ensures.writes) (subst C top c.chain-self.ensures.links);
       same_len = ap length c.chain-self.ensures.writes ∙ length-set _ _ _ ∙ length-set _ _ _ ∙ c.holder-w.ensures.uses.same_len ∙ a.same_len;
       base = a.base;
       procs = a.procs;
