@@ -41,7 +41,7 @@ fn put_exchange<K: Sink>(
 ) -> Result<Stepped, Trouble> {
     let mut reply = MemSink::new(alloc, ROOM, ROOM, &[])?;
     if line.len() > LONGEST_LINE || talk.left() == 0 {
-        return Ok(Stepped::Quit);
+        return Err(Trouble::Unsaid);
     }
     let came = talk.say(line, &mut reply);
     put_said(line, out)?;
