@@ -5,6 +5,7 @@ mod Stacking
 mod Rowing
 mod AllRows
 pub mod Held
+pub mod Apart
 mod Planned
 mod Packed
 mod Counting
