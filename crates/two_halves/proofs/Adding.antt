@@ -28,9 +28,11 @@ use Rattle.off_heap_list.specs.Links.{IsLink, Links, named, naming}
 use Rattle.off_heap_list.proofs.Chained.{leads-stays, link-named, link-stays, naming-stays}
 use Rattle.record_move.specs.Copies.{record_words}
 use Rattle.record_move.specs.Tables.{OwnersRise}
-use Rattle.two_halves.specs.Halves.{HalvesStand, IsBinOf, IsFunOf, IsLaid, ProcsStand, end_of, front_of, places_in}
+use Rattle.two_halves.specs.Stack.{AreApart}
+use Rattle.two_halves.specs.Halves.{HalvesStand, IsBinOf, IsFunOf, IsLaid, ProcsStand, all_places, end_of, front_of}
 use Rattle.two_halves.specs.Adding.{Adds, Gets, HasBin, HasFun, IsSpot, Nearly}
 use Rattle.two_halves.specs.declared.halves.Halves.{Halves}
+use Rattle.two_halves.proofs.Apart.{apart-kept}
 use Rattle.two_halves.proofs.Joining.{Joins, at-any, bytes-more, in-at, in-drop, in-take, joins-end, joins-left, joins-middle, joins-right, naming-none}
 use Rattle.two_halves.proofs.Joining.{nil-right, procs-on, record-above, record-first, record-role, rise-end, rise-middle, rise-pair, rise-same, role-first, take-drop, total-same}
 
@@ -211,6 +213,9 @@ module _ (named_below : ℕ) (h : Halves) (shared : List (List ℕ)) (qs : List 
       processes2 = procs-on x.test d shared shared2 h.mem mem2 named_below h.low at (end_of h) trees2 (λ q above below none. word-above q above) bare2 (omega (arith, next)) h.procs.items qs
           x.processes
 
+      apart2 : AreApart (all_places mem2 h.procs.items)
+      apart2 = apart-kept x.test shared h.mem mem2 h.low (end_of h) named_below h.procs.items qs (λ q above below none. word-above q above) x.processes x.apart
+
       bin2 : (u : ℕ) → In u h.bins.items → IsBinOf d mem2 shared2 u
       bin2 u i =
           let old = x.records.each_bin u i in
@@ -281,6 +286,7 @@ module _ (named_below : ℕ) (h : Halves) (shared : List (List ℕ)) (qs : List 
               counted = counted2;
               fun_names = λ u i. omega (arith, owner-same u (in-right u h.bins.items h.funs.items i), x.fun_names u i);
               processes = subst P limit processes2;
+              apart = apart2;
             }
 
       module _ (zero : count_in mem2 at ≡ 0) (is : IsFunOf d mem2 at) (name_small : owner_in mem2 at / 256 < named_below) (i : ℕ)
@@ -350,6 +356,7 @@ module _ (named_below : ℕ) (h : Halves) (shared : List (List ℕ)) (qs : List 
               counted = counted2;
               fun_names = subst N (sym funs_is) names-fun;
               processes = subst P limit-fun processes2;
+              apart = apart2;
             }
 
 -- The layout after that.
@@ -542,6 +549,7 @@ near-of named_below h shared qs v x = record {
   counted = λ u n r other. x.records.counted u n r;
   fun_names = x.fun_names;
   processes = x.processes;
+  apart = x.apart;
 }
 
 -- The record of a fun that is there already.

@@ -3,7 +3,7 @@ use Rattle.std.proofs.Common.{◌≡◌, ℕ, zero, suc, ◌+◌, ◌-◌, ◌<�
 use Rattle.plain_machine.specs.State.{Process}
 use Rattle.term_words.specs.Counted.{In}
 use Rattle.term_words.proofs.Members.{in-both, in-left, in-right}
-use Rattle.two_halves.specs.Stack.{AreApart, IsPlace, IsStack, places}
+use Rattle.two_halves.specs.Stack.{AreApart, IsPlace, IsStack, place_list}
 use Rattle.two_halves.specs.Halves.{ProcsStand, all_places, places_of}
 use Rattle.two_halves.specs.Rows.{HaveStacks}
 use Rattle.two_halves.specs.declared.table.Proc.{Proc}
@@ -14,17 +14,17 @@ use Rattle.two_halves.proofs.Stacks.{AreKept, next-kept}
 abbrev pub AreTwo : (p q : ℕ) → Type 0
 AreTwo p q = (p + 2 ≤ q) ⊎ (q + 2 ≤ p)
 
-pub places-kept : (c : ℕ → ℕ → Bool) (mem mem2 : List ℕ) (low limit from n : ℕ) → AreKept c mem mem2 low limit → IsStack c mem low limit from n → places mem2 from n ≡ places mem from n
+pub places-kept : (c : ℕ → ℕ → Bool) (mem mem2 : List ℕ) (low limit from n : ℕ) → AreKept c mem mem2 low limit → IsStack c mem low limit from n → place_list mem2 from n ≡ place_list mem from n
 places-kept c mem mem2 low limit from zero same s = refl
 places-kept c mem mem2 low limit from (suc n) same (here, rest) =
-    ap (λ z. from ∷ places mem2 z n) (next-kept c mem mem2 low limit from same here)
+    ap (λ z. from ∷ place_list mem2 z n) (next-kept c mem mem2 low limit from same here)
     ∙ ap (λ z. from ∷ z) (places-kept c mem mem2 low limit (get_or mem (from + 1) 0) n same rest)
 
 pub all-kept : (c : ℕ → ℕ → Bool) (mem mem2 : List ℕ) (low limit : ℕ) (ps : List Proc) → AreKept c mem mem2 low limit → HaveStacks c mem low limit ps → all_places mem2 ps ≡ all_places mem ps
 all-kept c mem mem2 low limit [] same s = refl
 all-kept c mem mem2 low limit (p ∷ ps) same (first, (second, rest)) =
-    ap (λ z. (z ++ places mem2 p.queue p.waiting) ++ all_places mem2 ps) (places-kept c mem mem2 low limit p.stack p.depth same first)
-    ∙ ap (λ z. (places mem p.stack p.depth ++ z) ++ all_places mem2 ps) (places-kept c mem mem2 low limit p.queue p.waiting same second)
+    ap (λ z. (z ++ place_list mem2 p.queue p.waiting) ++ all_places mem2 ps) (places-kept c mem mem2 low limit p.stack p.depth same first)
+    ∙ ap (λ z. (place_list mem p.stack p.depth ++ z) ++ all_places mem2 ps) (places-kept c mem mem2 low limit p.queue p.waiting same second)
     ∙ ap (λ z. places_of mem p ++ z) (all-kept c mem mem2 low limit ps same rest)
 
 -- Where the words of places are the same, places are apart still.
@@ -35,7 +35,7 @@ apart-kept c shared mem mem2 low limit named ps qs same s a =
 
 -- Places lie between the bounds.
 
-pub place-within : (c : ℕ → ℕ → Bool) (mem : List ℕ) (low limit from n q : ℕ) → IsStack c mem low limit from n → In q (places mem from n) → IsPlace c low limit q
+pub place-within : (c : ℕ → ℕ → Bool) (mem : List ℕ) (low limit from n q : ℕ) → IsStack c mem low limit from n → In q (place_list mem from n) → IsPlace c low limit q
 place-within c mem low limit from zero q s i = absurd i
 place-within c mem low limit from (suc n) q (here, rest) (inl e) = subst (IsPlace c low limit) (sym e) here
 place-within c mem low limit from (suc n) q (here, rest) (inr i) = place-within c mem low limit (get_or mem (from + 1) 0) n q rest i
@@ -43,7 +43,7 @@ place-within c mem low limit from (suc n) q (here, rest) (inr i) = place-within 
 pub all-within : (c : ℕ → ℕ → Bool) (mem : List ℕ) (low limit : ℕ) (ps : List Proc) (q : ℕ) → HaveStacks c mem low limit ps → In q (all_places mem ps) → IsPlace c low limit q
 all-within c mem low limit [] q s i = absurd i
 all-within c mem low limit (p ∷ ps) q (first, (second, rest)) i = elim (in-both q (places_of mem p) (all_places mem ps) i) [
-  | inl a ↦ elim (in-both q (places mem p.stack p.depth) (places mem p.queue p.waiting) a) [
+  | inl a ↦ elim (in-both q (place_list mem p.stack p.depth) (place_list mem p.queue p.waiting) a) [
     | inl b ↦ place-within c mem low limit p.stack p.depth q first b
     | inr b ↦ place-within c mem low limit p.queue p.waiting q second b
   ]
@@ -117,30 +117,30 @@ apart-same mem ps i p old less is same a =
 
 -- A row without the last thing pushed.
 pub apart-popped : (mem : List ℕ) (ps : List Proc) (i : ℕ) (p old : Proc) → i < length ps → old ≡ get_or ps i old → (old.depth ≡ 0 → ⊥) → p.stack ≡ get_or mem (old.stack + 1) 0
-    → p.depth ≡ old.depth - 1 → places mem p.queue p.waiting ≡ places mem old.queue old.waiting → AreApart (all_places mem ps) → AreApart (all_places mem (set ps i p))
+    → p.depth ≡ old.depth - 1 → place_list mem p.queue p.waiting ≡ place_list mem old.queue old.waiting → AreApart (all_places mem ps) → AreApart (all_places mem (set ps i p))
 apart-popped mem ps i p old less is some next fewer queue a = by old.depth refl
   where
     by : (n : ℕ) → old.depth ≡ n → AreApart (all_places mem (set ps i p))
     by zero e = absurd (some e)
     by (suc n) e =
         let depth : p.depth ≡ n = omega (arith, fewer, e) in
-        let stack : places mem p.stack p.depth ≡ places mem (get_or mem (old.stack + 1) 0) n = ap (λ z. places mem z p.depth) next ∙ ap (places mem (get_or mem (old.stack + 1) 0)) depth in
-        let here : places_of mem p ≡ places mem (get_or mem (old.stack + 1) 0) n ++ places mem old.queue old.waiting =
-        ap (λ z. z ++ places mem p.queue p.waiting) stack ∙ ap (λ z. places mem (get_or mem (old.stack + 1) 0) n ++ z) queue in
-        let whole : places_of mem (get_or ps i old) ≡ old.stack ∷ (places mem (get_or mem (old.stack + 1) 0) n ++ places mem old.queue old.waiting) =
-        ap (places_of mem) (sym is) ∙ ap (λ z. places mem old.stack z ++ places mem old.queue old.waiting) e in
-        let all : AreApart (old.stack ∷ (places mem (get_or mem (old.stack + 1) 0) n ++ places mem old.queue old.waiting)) = subst AreApart whole (apart-at mem ps i old less a) in
+        let stack : place_list mem p.stack p.depth ≡ place_list mem (get_or mem (old.stack + 1) 0) n = ap (λ z. place_list mem z p.depth) next ∙ ap (place_list mem (get_or mem (old.stack + 1) 0)) depth in
+        let here : places_of mem p ≡ place_list mem (get_or mem (old.stack + 1) 0) n ++ place_list mem old.queue old.waiting =
+        ap (λ z. z ++ place_list mem p.queue p.waiting) stack ∙ ap (λ z. place_list mem (get_or mem (old.stack + 1) 0) n ++ z) queue in
+        let whole : places_of mem (get_or ps i old) ≡ old.stack ∷ (place_list mem (get_or mem (old.stack + 1) 0) n ++ place_list mem old.queue old.waiting) =
+        ap (places_of mem) (sym is) ∙ ap (λ z. place_list mem old.stack z ++ place_list mem old.queue old.waiting) e in
+        let all : AreApart (old.stack ∷ (place_list mem (get_or mem (old.stack + 1) 0) n ++ place_list mem old.queue old.waiting)) = subst AreApart whole (apart-at mem ps i old less a) in
         apart-set mem p old 0 ps i (λ x j. inl (subst (In x) (sym whole) (inr (subst (In x) here j)))) (subst AreApart (sym here) all.1) (λ q j. omega arith) a
 
 -- A row with a place more on its stack, below all others.
 pub apart-pushed : (c : ℕ → ℕ → Bool) (mem : List ℕ) (low limit : ℕ) (ps : List Proc) (i : ℕ) (p old : Proc) → i < length ps → old ≡ get_or ps i old → HaveStacks c mem low limit ps
-    → p.stack + 2 ≤ low → get_or mem (p.stack + 1) 0 ≡ old.stack → p.depth ≡ old.depth + 1 → places mem p.queue p.waiting ≡ places mem old.queue old.waiting
+    → p.stack + 2 ≤ low → get_or mem (p.stack + 1) 0 ≡ old.stack → p.depth ≡ old.depth + 1 → place_list mem p.queue p.waiting ≡ place_list mem old.queue old.waiting
     → AreApart (all_places mem ps) → AreApart (all_places mem (set ps i p))
 apart-pushed c mem low limit ps i p old less is s below next more queue a =
     let depth : p.depth ≡ suc old.depth = omega (arith, more) in
     let here : places_of mem p ≡ p.stack ∷ places_of mem old =
-    ap (λ z. places mem p.stack z ++ places mem p.queue p.waiting) depth ∙ ap (λ z. p.stack ∷ (places mem z old.depth ++ places mem p.queue p.waiting)) next
-    ∙ ap (λ z. p.stack ∷ (places mem old.stack old.depth ++ z)) queue in
+    ap (λ z. place_list mem p.stack z ++ place_list mem p.queue p.waiting) depth ∙ ap (λ z. p.stack ∷ (place_list mem z old.depth ++ place_list mem p.queue p.waiting)) next
+    ∙ ap (λ z. p.stack ∷ (place_list mem old.stack old.depth ++ z)) queue in
     let above : (q : ℕ) → In q (all_places mem ps) → low ≤ q = λ q j. let w = all-within c mem low limit ps q s j in w.above in
     let own : AreApart (places_of mem old) = (let P : Proc → Type 0 = λ z. AreApart (places_of mem z) in subst P (sym is) (apart-at mem ps i old less a)) in
     let inner : (q : ℕ) → In q (places_of mem old) → low ≤ q = λ q j. (let P : Proc → Type 0 = λ z. In q (places_of mem z) in above q (row-in ps i q less (subst P is j))) in
@@ -175,7 +175,7 @@ apart-removed mem (r ∷ ps) (suc i) a =
 -- A row more that has no places.
 
 pub places-more : (mem : List ℕ) (ps : List Proc) (p : Proc) → p.depth ≡ 0 → p.waiting ≡ 0 → all_places mem (ps ++ p ∷ []) ≡ all_places mem ps
-places-more mem [] p flat none = ap (λ z. (places mem p.stack z ++ places mem p.queue p.waiting) ++ []) flat ∙ ap (λ z. places mem p.queue z ++ []) none
+places-more mem [] p flat none = ap (λ z. (place_list mem p.stack z ++ place_list mem p.queue p.waiting) ++ []) flat ∙ ap (λ z. place_list mem p.queue z ++ []) none
 places-more mem (r ∷ ps) p flat none = ap (λ z. places_of mem r ++ z) (places-more mem ps p flat none)
 
 pub apart-more : (mem : List ℕ) (ps : List Proc) (p : Proc) → p.depth ≡ 0 → p.waiting ≡ 0 → AreApart (all_places mem ps) → AreApart (all_places mem (ps ++ p ∷ []))

@@ -28,10 +28,12 @@ use Rattle.off_heap_list.proofs.Chained.{fun-link, holder-link, idle-kept, idle-
 use Rattle.off_heap_list.proofs.Tallied.{few, one}
 use Rattle.record_move.specs.Copies.{record_words}
 use Rattle.record_move.specs.Tables.{OwnersRise}
-use Rattle.two_halves.specs.Halves.{HalvesStand, IsBinOf, IsFunOf, IsLaid, ProcsStand, end_of, front_of}
+use Rattle.two_halves.specs.Stack.{AreApart}
+use Rattle.two_halves.specs.Halves.{HalvesStand, IsBinOf, IsFunOf, IsLaid, ProcsStand, all_places, end_of, front_of}
 use Rattle.two_halves.specs.Adding.{Gets, HasFun, Nearly}
 use Rattle.two_halves.specs.declared.halves.Halves.{Halves}
 use Rattle.two_halves.proofs.Adding.{filled}
+use Rattle.two_halves.proofs.Apart.{apart-kept}
 use Rattle.two_halves.proofs.Joining.{procs-on, record-above, record-first, rise-same, total-same}
 
 -- The record at the place is that of the binary with this serial.
@@ -179,6 +181,9 @@ module _ (named_below : ℕ) (h : Halves) (shared : List (List ℕ)) (qs : List 
     processes4 = procs-on y.test e shared shared h.mem mem4 named_below h.low h.low (end_of h) trees4 same4 (λ q j above below none t. none j (above3 q j above t)) (omega arith)
         h.procs.items qs y.processes
 
+    apart4 : AreApart (all_places mem4 h.procs.items)
+    apart4 = apart-kept y.test shared h.mem mem4 h.low (end_of h) named_below h.procs.items qs same4 y.processes y.apart
+
     every4 : (p : ℕ) → e (p + 2) NEXT ≡ true → In p (h.top ∷ y.chained)
     every4 p t = elim (grows.next (p + 2) t) [ inl old ↦ inr (y.every p old) | inr c ↦ inl (omega (arith, c)) ]
 
@@ -216,6 +221,7 @@ module _ (named_below : ℕ) (h : Halves) (shared : List (List ℕ)) (qs : List 
           };
           fun_names = λ u i. omega (arith, owner4 u (y.each_fun u i).is.second, y.fun_names u i);
           processes = subst P limit4 processes4;
+          apart = apart4;
         }
 
     word4 : (u : ℕ) → y.test u RECORD_FIRST ≡ true → record_words mem4 u ≡ record_words h.mem u

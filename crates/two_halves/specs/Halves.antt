@@ -13,7 +13,7 @@ use Rattle.off_heap_list.specs.Links.{Links}
 use Rattle.off_heap_list.specs.Exact.{AllCounted}
 use Rattle.record_move.specs.Copies.{record_words}
 use Rattle.record_move.specs.Tables.{OwnersRise}
-use Rattle.two_halves.specs.Stack.{AreApart, Ends, IsStack, places, values}
+use Rattle.two_halves.specs.Stack.{AreApart, Ends, IsStack, place_list, values}
 use Rattle.two_halves.specs.declared.table.Proc.{Proc}
 use Rattle.two_halves.specs.declared.halves.Halves.{Halves}
 use Rattle.two_halves.specs.declared.halves.TheConstants.{UNUSED, PLACE_WORDS}
@@ -44,7 +44,7 @@ places_in ps = sum_by (λ p. p.depth + p.waiting) ps
 
 -- The places of a row's stack and of its queue.
 abbrev pub places_of : List ℕ → Proc → List ℕ
-places_of mem p = places mem p.stack p.depth ++ places mem p.queue p.waiting
+places_of mem p = place_list mem p.stack p.depth ++ place_list mem p.queue p.waiting
 
 -- The places of all rows.
 abbrev pub all_places : List ℕ → List Proc → List ℕ

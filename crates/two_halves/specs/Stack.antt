@@ -21,9 +21,9 @@ values mem place zero = []
 values mem place (suc n) = slice_index mem place ∷ values mem (slice_index mem (place + 1)) n
 
 -- The places themselves, from the first.
-abbrev pub places : List ℕ → (place depth : ℕ) → List ℕ
-places mem place zero = []
-places mem place (suc n) = place ∷ places mem (slice_index mem (place + 1)) n
+abbrev pub place_list : List ℕ → (place depth : ℕ) → List ℕ
+place_list mem place zero = []
+place_list mem place (suc n) = place ∷ place_list mem (slice_index mem (place + 1)) n
 
 -- No two of the places have a word in common.
 abbrev pub AreApart : List ℕ → Type 0

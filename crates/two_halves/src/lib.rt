@@ -2,7 +2,6 @@
 #![tactic(auto)]
 
 mod halves;
-mod queues;
 mod records;
 mod roots;
 mod table;
