@@ -1,6 +1,6 @@
 -- A record comes into a half, and an object that names it.
-use Rattle.std.proofs.Common.{Vec, take, drop, if◌then◌else◌, Result, Ok, Err, ◌≡◌, ℕ, suc, replicate, ◌+◌, ◌-◌, ◌*◌, ◌/◌, ◌%◌, ◌<◌, ◌≤◌}
-use Rattle.std.proofs.Common.{◌⊎◌, Bool, true, List, [], ◌∷◌, ◌++◌, length, get_or, set, refl, sym, ◌∙◌, ap, subst, arith, inl, inr}
+use Rattle.std.proofs.Common.{Vec, take, drop, if◌then◌else◌, Result, Ok, Err, ◌≡◌, ℕ, suc, replicate, ◌+◌, ◌-◌, ◌*◌, ◌/◌, ◌<◌, ◌≤◌}
+use Rattle.std.proofs.Common.{◌⊎◌, Bool, true, List, [], ◌∷◌, ◌++◌, length, get_or, refl, sym, ◌∙◌, ap, subst, arith, inl, inr}
 use Rattle.std.proofs.lemmas.List.{length-append, length-replicate}
 use Rattle.std.specs.List.{insert}
 use Rattle.std.specs.Result.{IsOk, is_ok}
@@ -12,10 +12,10 @@ use Rattle.plain_term.specs.Tree.{Tree}
 use Rattle.plain_machine.specs.State.{Process}
 use Rattle.term_tags.specs.Words.{record_word}
 use Rattle.term_tags.specs.declared.records.TheConstants.{BIN_RECORD, FUN_RECORD}
-use Rattle.term_words.specs.Role.{COUNT, NEXT, RECORD, RECORD_FIRST, IsSingle, OfObject, OfRecord}
+use Rattle.term_words.specs.Role.{NEXT, RECORD_FIRST, IsSingle, OfObject, OfRecord}
 use Rattle.term_words.specs.Object.{IsBinRecord, IsFunRecord, IsRecord}
 use Rattle.term_words.specs.Stands.{Stands}
-use Rattle.term_words.specs.Kept.{Kept, Keeps}
+use Rattle.term_words.specs.Kept.{Kept}
 use Rattle.term_words.specs.Counted.{In, Distinct, total}
 use Rattle.term_words.proofs.Frames.{frame}
 use Rattle.term_words.proofs.Members.{both-total, in-both, in-left, in-right, one-or-not}
@@ -24,13 +24,13 @@ use Rattle.term_build.specs.Taken.{IsFree, Lie, Taken, with_object}
 use Rattle.term_build.proofs.Taking.{with-object-of, with-object-single, with-object-taken, with-object-within}
 use Rattle.shared_rec.specs.Record.{Writes, count_in, length_in, owner_in, record_roles}
 use Rattle.shared_rec.proofs.Records.{bin-stays, fun-stays}
-use Rattle.off_heap_list.specs.Links.{IsLink, Links, named, naming}
+use Rattle.off_heap_list.specs.Links.{Links, named, naming}
 use Rattle.off_heap_list.proofs.Chained.{leads-stays, link-named, link-stays, naming-stays}
 use Rattle.record_move.specs.Copies.{record_words}
 use Rattle.record_move.specs.Tables.{OwnersRise}
 use Rattle.two_halves.specs.Stack.{AreApart}
 use Rattle.two_halves.specs.Halves.{HalvesStand, IsBinOf, IsFunOf, IsLaid, ProcsStand, all_places, end_of, front_of}
-use Rattle.two_halves.specs.Adding.{Adds, Gets, HasBin, HasFun, IsSpot, Nearly}
+use Rattle.two_halves.specs.Adding.{Adds, HasBin, HasFun, IsSpot, Nearly}
 use Rattle.two_halves.specs.declared.halves.Halves.{Halves}
 use Rattle.two_halves.proofs.Apart.{apart-kept}
 use Rattle.two_halves.proofs.Joining.{Joins, at-any, bytes-more, in-at, in-drop, in-take, joins-end, joins-left, joins-middle, joins-right, naming-none}

@@ -1,5 +1,5 @@
 -- No two places of stacks and queues have a word in common: what keeps that.
-use Rattle.std.proofs.Common.{◌≡◌, ℕ, zero, suc, ◌+◌, ◌-◌, ◌<◌, ◌≤◌, ◌⊎◌, Bool, true, List, [], ◌∷◌, ◌++◌, length, get_or, set, remove, refl, sym, ◌∙◌, ap, subst, arith, inl, inr}
+use Rattle.std.proofs.Common.{◌≡◌, ℕ, zero, suc, ◌+◌, ◌-◌, ◌<◌, ◌≤◌, ◌⊎◌, Bool, List, [], ◌∷◌, ◌++◌, length, get_or, set, remove, refl, sym, ◌∙◌, ap, subst, arith, inl, inr}
 use Rattle.plain_machine.specs.State.{Process}
 use Rattle.term_words.specs.Counted.{In}
 use Rattle.term_words.proofs.Members.{in-both, in-left, in-right}

@@ -21,3 +21,4 @@ pub mod Tight
 pub mod Joining
 mod Adding
 mod Linking
+mod Queuing

@@ -1,5 +1,5 @@
 -- An object that names a record comes into a half and its chain.
-use Rattle.std.proofs.Common.{Vec, ◌==◌, if◌then◌else◌, ◌≡◌, ℕ, ◌+◌, ◌-◌, ◌*◌, ◌/◌, ◌%◌, ◌<◌, ◌≤◌, ◌⊎◌, Bool, true, false}
+use Rattle.std.proofs.Common.{◌==◌, if◌then◌else◌, ◌≡◌, ℕ, ◌+◌, ◌-◌, ◌/◌, ◌<◌, ◌≤◌, ◌⊎◌, Bool, true, false}
 use Rattle.std.proofs.Common.{List, [], ◌∷◌, ◌++◌, length, get_or, set, refl, sym, ◌∙◌, ap, subst, arith, inl, inr, length-set, get_or-set_other}
 use Rattle.std.proofs.lemmas.Bool.Decides.{nat_tests}
 use Rattle.std.proofs.lemmas.Grind.{get_or-set_at}
@@ -10,13 +10,13 @@ use Rattle.plain_term.specs.Tree.Tree.{Fun, Shared}
 use Rattle.term_tags.specs.Words.{boxed_word, head_word}
 use Rattle.term_tags.specs.declared.layouts.TheConstants.{FUN, HOLDER}
 use Rattle.plain_machine.specs.State.{Process}
-use Rattle.term_words.specs.Role.{COUNT, NEXT, NAMES, RECORD, RECORD_FIRST, IsSingle, OfObject, OfRecord}
+use Rattle.term_words.specs.Role.{COUNT, NEXT, RECORD, RECORD_FIRST, IsSingle, OfObject, OfRecord}
 use Rattle.term_words.specs.Object.{IsBinRecord, IsFunRecord, IsRecord}
 use Rattle.term_words.specs.Stands.{AllStand, Stands}
-use Rattle.term_words.specs.Kept.{Kept, Keeps}
-use Rattle.term_words.specs.Counted.{In, Distinct, total}
+use Rattle.term_words.specs.Kept.{Kept}
+use Rattle.term_words.specs.Counted.{In, total}
 use Rattle.term_words.proofs.Frames.{frame, keep-all}
-use Rattle.term_words.proofs.Members.{in-both, in-left, in-right, one-or-not}
+use Rattle.term_words.proofs.Members.{in-both, one-or-not}
 use Rattle.term_build.specs.Clear.{Uses}
 use Rattle.term_build.specs.Grows.{BuiltLink, GrowsLink}
 use Rattle.term_build.specs.Parts.{IsNamed}
@@ -27,7 +27,6 @@ use Rattle.off_heap_list.specs.Links.{IsLink, Links, named, names_it, naming}
 use Rattle.off_heap_list.proofs.Chained.{fun-link, holder-link, idle-kept, idle-kept-back, kept-then, leads-stays, link-stays, naming-stays, record-inside}
 use Rattle.off_heap_list.proofs.Tallied.{few, one}
 use Rattle.record_move.specs.Copies.{record_words}
-use Rattle.record_move.specs.Tables.{OwnersRise}
 use Rattle.two_halves.specs.Stack.{AreApart}
 use Rattle.two_halves.specs.Halves.{HalvesStand, IsBinOf, IsFunOf, IsLaid, ProcsStand, all_places, end_of, front_of}
 use Rattle.two_halves.specs.Adding.{Gets, HasFun, Nearly}

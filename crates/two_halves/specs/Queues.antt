@@ -1,5 +1,5 @@
 -- Messages that enter and leave queues.
-use Rattle.std.specs.Prelude.{◌≡◌, ℕ, ◌+◌, ◌-◌, ◌/◌, ◌<◌, ◌≤◌, ◌⊎◌, Bool, List, [], ◌∷◌, ◌++◌, Option, Some, None, length, get_or, set, slice_index}
+use Rattle.std.specs.Prelude.{◌≡◌, ℕ, ◌+◌, ◌-◌, ◌/◌, ◌<◌, ◌≤◌, ◌⊎◌, List, [], ◌∷◌, ◌++◌, Option, Some, None, length, get_or, set, slice_index}
 use Rattle.std.specs.Vec.{with_item}
 use Rattle.plain_term.specs.Tree.{Tree}
 use Rattle.plain_term.specs.Measures.{flat}
