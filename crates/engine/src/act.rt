@@ -123,6 +123,8 @@ fn act_in<S: Space>(
     match verb {
         Verb::Push(r) => done(space.push(seat, r)),
         Verb::Pop(r) => done(space.pop(seat, r)),
+        Verb::Send(s, to) => done(space.send(seat, s, to)),
+        Verb::Recv(r) => done(space.receive(seat, r)),
         Verb::Gc(depth) => {
             space.collect(seat, depth);
             Reply::Done
