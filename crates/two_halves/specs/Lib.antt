@@ -2,6 +2,7 @@ pub mod Stack
 pub mod Halves
 pub mod Reached
 pub mod Rows
+pub mod Lending
 pub mod Collecting
 pub mod Adding
 pub mod Queues

@@ -4,7 +4,7 @@ ghost use Rattle.two_halves.specs.Halves.{free_in, places_in};
 ghost use Rattle.two_halves.specs.Collecting.{CanCollect, Collects, IsBetween, MakesRoom};
 
 use crate::roots::move_roots;
-use crate::table::Proc;
+use crate::table::Row;
 use cheney::{Moving, Stay, scan};
 use off_heap_list::{Order, sweep_chain};
 use record_move::{move_records, renew};
@@ -28,7 +28,7 @@ pub struct Halves {
     pub base: u64,
     pub top: u64,
     pub low: u64,
-    pub procs: Vec<Proc>,
+    pub procs: Vec<Row>,
     pub head: u64,
     pub linked: u64,
     pub bins: Vec<u64>,
@@ -99,13 +99,14 @@ impl Halves {
 }
 
 // How many places stacks and queues have together.
-fn count_places(procs: &[Proc]) -> u64
+fn count_places(procs: &[Row]) -> u64
     requires { places_in procs.now < 2 ^ 63 }
     ensures { result ≡ places_in procs.now }
 {
     let mut sum = 0;
     for p in procs {
-        sum += p.depth + p.waiting;
+        let row = p.row();
+        sum += row.depth + row.waiting;
     }
     sum
 }

@@ -8,4 +8,4 @@ mod roots;
 mod table;
 
 pub use halves::{Halves, PLACE_WORDS, UNUSED};
-pub use table::{Proc, fresh};
+pub use table::{Proc, Row, fresh};

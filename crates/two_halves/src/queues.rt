@@ -9,7 +9,7 @@ impl Halves {
         requires has { HasRow self.old row }
         ensures { Receives self.old self.new row result }
     {
-        let mut process = self.procs[row];
+        let mut process = *self.procs[row].row();
         if process.waiting == 0 {
             return None;
         }
@@ -17,7 +17,7 @@ impl Halves {
         let place = process.queue;
         process.queue = self.mem.get(place + 1);
         process.waiting -= 1;
-        self.procs[row] = process;
+        *self.procs[row].row_mut() = process;
         Some(self.mem.get(place))
     }
 }

@@ -7,20 +7,21 @@ ghost use Rattle.two_halves.specs.declared.halves.TheConstants.{PLACE_WORDS};
 ghost use Rattle.two_halves.specs.Rows.{CanMoveRow, CanMoveRows, CanMoveStack, PlaceMoved, PlaceMoves, RowMoved, RowMoves, RowsMoved, RowsMove, StackMoved, StackMoves};
 
 use crate::halves::PLACE_WORDS;
-use crate::table::Proc;
+use crate::table::{Proc, Row};
 use cheney::{Moving, evacuate, evacuate_all};
 use word_mem::WordMem;
 
 /// Moves what the registers, stacks and queues of all processes name. The places are copied to the words up to `end`, those
 /// of one process below those of the one before.
-pub fn move_roots(mem: &mut WordMem, mv: &mut Moving, procs: &mut [Proc], end: u64)
+pub fn move_roots(mem: &mut WordMem, mv: &mut Moving, procs: &mut [Row], end: u64)
     requires { CanMoveRows mem.old mv.old procs.old end }
     ensures { (p : Plan) (k : Marks) (low limit : ℕ) → RowsMove p mem.old mv.old k low limit procs.old end → RowsMoved p mem.old mem.new mv.new k procs.old procs.new end }
 {
     let mut low = end;
     for process in procs.iter_mut() {
-        low -= PLACE_WORDS * (process.depth + process.waiting);
-        move_process(mem, mv, process, low);
+        let row = process.row_mut();
+        low -= PLACE_WORDS * (row.depth + row.waiting);
+        move_process(mem, mv, row, low);
     }
 }
 
