@@ -5,5 +5,6 @@ pub mod Rows
 pub mod Lending
 pub mod Collecting
 pub mod Adding
+pub mod Copying
 pub mod Queues
 pub mod Figures
