@@ -79,6 +79,7 @@ pub record Copying (p : Task) (known : List Item) (mem : List ℕ) (mark at top 
   pub items : List Item
   pub after : List Item
   pub has : (x : Item) → Among x known → Among x items
+  pub marked : mark ≤ at
   pub row : Spread p.start p.top items top
   pub further : Spread p.start at after top
   pub among : (x : Item) → Among x after → Among x items

@@ -19,6 +19,7 @@ pub fn copy_part(mem: &mut WordMem, room: &mut Room, w: u64) -> u64
     ensures each { (p : Task) (known : List Item) (mark at owed : ℕ) (u : Tree) → Copying p known mem.old mark at room.old.top (flat u + owed)
         → Stands p.test p.shared p.start w u → Goes p w → HasImage p known mem.new mark at room.new.top owed w result }
 {
+    let _len = mem.len();
     copy_object(mem, room, w)
 }
 

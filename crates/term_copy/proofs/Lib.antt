@@ -1,0 +1,4 @@
+pub mod Items
+pub mod Linked
+pub mod Taking
+pub mod Stepping

@@ -1,0 +1,2 @@
+-- Going through the words of a copy.
+use Rattle.std.proofs.Common.{◌≡◌, ℕ}
