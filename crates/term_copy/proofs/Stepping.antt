@@ -19,8 +19,9 @@ use Rattle.term_words.proofs.Shapes.{told}
 use Rattle.term_words.proofs.Tiles.{has-layout}
 use Rattle.shared_rec.proofs.Records.{record-counted}
 use Rattle.term_copy.specs.Row.{is_link}
-use Rattle.term_copy.specs.Copied.{Task}
-use Rattle.term_copy.specs.Going.{Among, Begun, Copying, Goes, HasImage, IsCopy, IsImage, IsOf, IsStay, Item, Pends, Ready, Scanning, Spread, left_of}
+use Rattle.term_copy.specs.Copied.{CanCopy, Task}
+use Rattle.word_mem.specs.declared.ranges.Room.{Room}
+use Rattle.term_copy.specs.Going.{Advances, HasRoom, Among, Begun, Copying, Goes, HasImage, IsCopy, IsImage, IsOf, IsStay, Item, Pends, Ready, Scanning, Spread, left_of}
 use Rattle.term_copy.proofs.Items.{spread-in, spread-one, spread-order}
 use Rattle.term_copy.proofs.Linked.{LinkFacts, linked}
 use Rattle.term_copy.proofs.Taking.{image-same, row-order, role-beside, top-limit}
@@ -343,7 +344,7 @@ module _ (p : Task) (known : List Item) (mem : List ℕ) (at top : ℕ) (g : Cop
       ];
     }
 
-    pub opened : Scanning p known mem (at + first_traced p.start o.x.word) (at + object_words p.start o.x.word) top (parts_of o.x.tree)
+    opened : Scanning p known mem (at + first_traced p.start o.x.word) (at + object_words p.start o.x.word) top (parts_of o.x.tree)
     opened =
         let more : left_of g.after ≡ flat_of_all (parts_of o.x.tree) + left_of o.later = ap left_of o.is in
         record {
@@ -381,22 +382,12 @@ module _ (p : Task) (known : List Item) (mem : List ℕ) (at top : ℕ) (g : Cop
   at-memory some inside = omega (arith, some, inside, top-limit p known mem at at top 0 g, g.same_len)
 
 -- All words of an object were gone through.
-pub closed : (p : Task) (known : List Item) (mem : List ℕ) (mark at top : ℕ) (rest : Trees) → Scanning p known mem mark at top rest → (mark < at → ⊥) → Copying p known mem at at top 0
+pub closed : (p : Task) (known : List Item) (mem : List ℕ) (mark at top : ℕ) (rest : Trees) → Scanning p known mem mark at top rest → at ≤ mark → Copying p known mem at at top 0
 closed p known mem mark at top end s over =
     let e : mark ≡ at = omega (arith, s.ends) in
     let P : ℕ → Type 0 = λ a. Copying p known mem a at top 0 in
     subst P e s.on
-closed p known mem mark at top (u ▹ rest) s over = absurd (over (omega (arith, s.ends)))
-
--- A word is left.
-pub record Goes-on (p : Task) (known : List Item) (mem : List ℕ) (mark at top : ℕ) (rest : Trees) : Type 0 where
-  pub tree : Tree
-  pub later : Trees
-  pub is : rest ≡ tree ▹ later
-
-pub goes-on : (p : Task) (known : List Item) (mem : List ℕ) (mark at top : ℕ) (rest : Trees) → Scanning p known mem mark at top rest → mark < at → Goes-on p known mem mark at top rest
-goes-on p known mem mark at top end s more = absurd (omega (arith, s.ends, more))
-goes-on p known mem mark at top (u ▹ rest) s more = record { tree = u; later = rest; is = refl }
+closed p known mem mark at top (u ▹ rest) s over = absurd (omega (arith, s.ends, over))
 
 -- How it begins.
 
@@ -440,3 +431,46 @@ begins-copied p mem at top w x same goes h = elim h.image [
     on = know p [] z mem at at top 0 h.on i;
   }
 ]
+
+-- Some words of the object are left, and the first of them.
+
+pub record Still (p : Task) (known : List Item) (mem : List ℕ) (mark at top : ℕ) : Type 0 where
+  pub rest : Trees
+  pub on : Scanning p known mem mark at top rest
+
+pub record Further (p : Task) (known : List Item) (mem : List ℕ) (mark at top : ℕ) : Type 0 where
+  pub tree : Tree
+  pub later : Trees
+  pub on : Scanning p known mem mark at top (tree ▹ later)
+
+further-by : (p : Task) (known : List Item) (mem : List ℕ) (mark at top : ℕ) (rest : Trees) → Scanning p known mem mark at top rest → mark < at → Further p known mem mark at top
+further-by p known mem mark at top end s more = absurd (omega (arith, s.ends, more))
+further-by p known mem mark at top (u ▹ rest) s more = record { tree = u; later = rest; on = s }
+
+pub further : (p : Task) (known : List Item) (mem : List ℕ) (mark at top : ℕ) → Still p known mem mark at top → mark < at → Further p known mem mark at top
+further p known mem mark at top s more = further-by p known mem mark at top s.rest s.on more
+
+-- Rooms while a copy goes on.
+
+pub room-same : (p : Task) (known : List Item) (mem : List ℕ) (mark at : ℕ) (room : Room) (owed : ℕ) → Copying p known mem mark at room.top owed → HasRoom p room.end → Advances room room
+room-same p known mem mark at room owed g has = record { start = refl; end = refl; top = omega arith; inside = omega (arith, has.same, top-limit p known mem mark at room.top owed g) }
+
+pub room-then : (a b e : Room) → Advances a b → Advances b e → Advances a e
+room-then a b e x y = record { start = y.start ∙ x.start; end = y.end ∙ x.end; top = omega (arith, x.top, y.top); inside = y.inside }
+
+pub room-has : (p : Task) (a b : Room) → HasRoom p a.end → Advances a b → HasRoom p b.end
+room-has p a b has x = record { same = x.end ∙ has.same; inside = has.inside; counts = has.counts }
+
+-- The task of a call, and that it can begin.
+
+abbrev pub task_of : (mem : List ℕ) (room : Room) (stay : ℕ → Bool) (test : ℕ → ℕ → Bool) (shared : List (List ℕ)) (w : ℕ) (t : Tree) → Task
+task_of mem room stay test shared w t = record { start = mem; top = room.top; limit = room.end; stay = stay; test = test; shared = shared; word = w; tree = t }
+
+pub can-begin : (mem : List ℕ) (room : Room) (stay : ℕ → Bool) (w : ℕ) (can : CanCopy mem room w) → Ready (task_of mem room stay can.test can.shared w can.tree)
+can-begin mem room stay w can = record { single = can.single; standing = can.standing; clear = can.clear; fits = can.fits }
+
+pub can-room : (mem : List ℕ) (room : Room) (stay : ℕ → Bool) (w : ℕ) (can : CanCopy mem room w) → room.end ≤ length mem → HasRoom (task_of mem room stay can.test can.shared w can.tree) room.end
+can-room mem room stay w can inside = record { same = refl; inside = inside; counts = can.counts }
+
+pub stands-root : (p : Task) (w : ℕ) → Ready p → p.word ≡ w → Stands p.test p.shared p.start w p.tree
+stands-root p w r e = let P : ℕ → Type 0 = λ x. Stands p.test p.shared p.start x p.tree in subst P e r.standing
