@@ -2,3 +2,4 @@ pub mod Items
 pub mod Linked
 pub mod Taking
 pub mod Stepping
+pub mod Alike

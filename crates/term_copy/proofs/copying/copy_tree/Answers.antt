@@ -1,0 +1,2 @@
+use Rattle.term_copy.proofs.Alike.{alike}
+use Rattle.term_copy.proofs.copying.copy_tree.Goals as goal
