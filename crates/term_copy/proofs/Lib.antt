@@ -3,3 +3,4 @@ pub mod Linked
 pub mod Taking
 pub mod Stepping
 pub mod Alike
+pub mod Whole

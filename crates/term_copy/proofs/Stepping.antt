@@ -231,7 +231,7 @@ module _ (p : Task) (known : List Item) (mem : List ℕ) (mark at top : ℕ) (u 
 pub goes-by : (p : Task) (stay : ℕ → Bool) (w : ℕ) → IsStay p stay → IsPointer w × (stay (w / 4) ≡ false) → Goes p w
 goes-by p stay w same (y, out) = record { pointer = y; goes = sym (same (w / 4)) ∙ out }
 
-true-false : (b : Bool) → b ≡ true → b ≡ false → ⊥
+pub true-false : (b : Bool) → b ≡ true → b ≡ false → ⊥
 true-false true e f = grind (arith, f)
 true-false false e f = grind (arith, e)
 
@@ -239,7 +239,7 @@ pub goes-not : (p : Task) (stay : ℕ → Bool) (w : ℕ) → IsStay p stay → 
 goes-not p stay w same stays g = true-false (p.stay (w / 4)) (sym (same (w / 4)) ∙ stays g.pointer) g.goes
 
 -- The header of an object is not traced.
-header-first : (c : ℕ → ℕ → Bool) (shared : List (List ℕ)) (mem : List ℕ) (w : ℕ) (t : Tree) → Stands c shared mem w t → w % 4 ≡ 2 → 0 < first_traced mem w
+pub header-first : (c : ℕ → ℕ → Bool) (shared : List (List ℕ)) (mem : List ℕ) (w : ℕ) (t : Tree) → Stands c shared mem w t → w % 4 ≡ 2 → 0 < first_traced mem w
 unfolding AllStand
 header-first c shared mem w t s tag =
     let which : (0 < first_traced mem w) ⊎ (first_traced mem w ≡ 0) = some-or-none (first_traced mem w) in

@@ -6,8 +6,9 @@ use Rattle.term_copy.proofs.copying.copy_tree.Given as goal
 
 abbrev pub invariant-loop-at : goal.invariant-loop-at
 invariant-loop-at l = record {
-  room : Advances l.initial.room l.room;
-  each : (p : Task) → IsStay p (stays l.stay) → Ready p → p.start ≡ l.initial.mem → p.top ≡ l.initial.room.top → p.word ≡ l.w → Begun p l.mem l.at l.room.top l.result;
+  room : Advances l.fn.room l.room;
+  each : (p : Task) → IsStay p (stays l.fn.stay) → Ready p → p.start ≡ l.fn.mem → p.top ≡ l.fn.room.top → p.word ≡ l.fn.w
+      → Begun p l.mem l.at l.room.top l.result;
 }
 
 abbrev pub decreases-loop-at : goal.decreases-loop-at
