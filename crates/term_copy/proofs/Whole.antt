@@ -29,7 +29,7 @@ use Rattle.off_heap_list.specs.Links.{name_place, named, names_it, naming, next_
 use Rattle.off_heap_list.proofs.Chained.{leads-stays, link-stays, naming-stays, roles-apart}
 use Rattle.term_copy.specs.Row.{AreObjects, is_link, is_link_header, links_in}
 use Rattle.term_copy.specs.Copied.{CopiesTree, IsClosed, Task}
-use Rattle.term_copy.specs.Going.{Among, Copying, Goes, IsCopy, IsImage, IsOf, Item, Spread, left_of, tally}
+use Rattle.term_copy.specs.Going.{Among, Begun, Copying, Goes, IsCopy, IsImage, IsOf, Item, Spread, left_of, tally}
 use Rattle.term_copy.proofs.Items.{spread-in, spread-none, spread-one, spread-order}
 use Rattle.term_copy.proofs.Linked.{LinkFacts, link-told, linked, next-linked}
 use Rattle.term_copy.proofs.Alike.{IsAlike, alike}
@@ -619,3 +619,10 @@ module _ (p : Task) (known : List Item) (mem : List ℕ) (top : ℕ) (g : Copyin
         records = records-now;
         links = links-stay;
       }
+
+-- All objects were gone through.
+pub ended : (p : Task) (mem : List ℕ) (at top result : ℕ) → Begun p mem at top result → top ≤ at → p.limit ≤ length p.start → CopiesTree p mem top result
+ended p mem at top result b over inside =
+    let e : at ≡ top = omega (arith, over, spread-order p.start at b.on.after top b.on.further) in
+    let P : ℕ → Type 0 = λ a. Copying p b.known mem a a top 0 in
+    whole p b.known mem top (subst P e b.on) inside result b.image
