@@ -4,3 +4,4 @@ pub mod Taking
 pub mod Stepping
 pub mod Alike
 pub mod Whole
+pub mod Rows
