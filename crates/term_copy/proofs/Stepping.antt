@@ -474,3 +474,15 @@ can-room mem room stay w can inside = record { same = refl; inside = inside; cou
 
 pub stands-root : (p : Task) (w : ℕ) → Ready p → p.word ≡ w → Stands p.test p.shared p.start w p.tree
 stands-root p w r e = let P : ℕ → Type 0 = λ x. Stands p.test p.shared p.start x p.tree in subst P e r.standing
+
+-- The traced words of an object by its first word, which was read.
+
+pub traced-cons : (m word at : ℕ) → word ≡ m → (word % 4 ≡ 0 → ⊥) → Traced m at at (at + 2)
+traced-cons m word at e other =
+    let P : ℕ → Type 0 = λ a. Traced a at at (at + 2) in
+    subst P e (record { cons = λ o. (refl, refl); boxed = λ z l is. absurd (other z) })
+
+pub traced-boxed : (m word at first : ℕ) → word ≡ m → word % 4 ≡ 0 → ((l : Layout) → layout_for word ≡ Some l → first ≡ l.first) → Traced m at (at + first) (at + (1 + word / 64))
+traced-boxed m word at first e zero-tag is =
+    let P : ℕ → Type 0 = λ a. Traced a at (at + first) (at + (1 + word / 64)) in
+    subst P e (record { cons = λ o. absurd (o zero-tag); boxed = λ z l s. (ap (λ n. at + n) (is l s), refl) })
