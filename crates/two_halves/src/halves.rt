@@ -1,10 +1,13 @@
 // The memory in two halves, and a collection from one to the other.
-ghost use Rattle.std.specs.Prelude.{◌≡◌, ◌-◌, ◌+◌, ◌<◌, ◌≤◌, ◌^◌};
+ghost use Rattle.std.specs.Prelude.{◌≡◌, ◌-◌, ◌+◌, ◌<◌, ◌≤◌, ◌^◌, slice_index_or};
+ghost use Rattle.std.specs.Vec.{vec_len};
+ghost use Rattle.std.specs.Borrow.{sem};
 ghost use Rattle.two_halves.specs.Halves.{free_in, places_in};
+ghost use Rattle.two_halves.specs.Lending.{LendsProcess};
 ghost use Rattle.two_halves.specs.Collecting.{CanCollect, Collects, IsBetween, MakesRoom};
 
 use crate::roots::move_roots;
-use crate::table::Row;
+use crate::table::{Proc, Row};
 use cheney::{Moving, Stay, scan};
 use off_heap_list::{Order, sweep_chain};
 use record_move::{move_records, renew};
@@ -56,6 +59,26 @@ impl Halves {
             top: self.top,
             end: self.low,
         }
+    }
+
+    /// The process with this row.
+    #[inline]
+    pub fn process(&self, row: usize) -> &Proc
+        requires { row < vec_len self.now.procs }
+        ensures { result.now ≡ slice_index_or self.now.procs.items row result.now }
+    {
+        self.procs[row].row()
+    }
+
+    /// The process with this row, to be changed.
+    #[inline]
+    pub fn process_mut(&mut self, row: usize) -> &mut Proc
+        requires { row < vec_len self.old.procs }
+        ensures* writes_back { sem 𝓛 (LendsProcess self.entry row result) }
+        ensures value { result.now ≡ slice_index_or self.old.procs.items row result.now }
+    {
+        let process = &mut self.procs[row];
+        process.row_mut()
     }
 
     /// Whether there are `n` free words, where need be after a collection.

@@ -51,7 +51,7 @@ impl Halves {
     {
         let _len = self.mem.len();
         let place = self.low - PLACE_WORDS;
-        let process = self.procs[row];
+        let process = *self.process(row);
         let first = follow(
             &mut self.mem,
             process.queue,
@@ -61,7 +61,7 @@ impl Halves {
         );
         self.mem.set(place, w);
         self.low = place;
-        self.procs[row] = Proc {
+        *self.process_mut(row) = Proc {
             queue: first,
             last: place,
             waiting: process.waiting + 1,
@@ -74,7 +74,7 @@ impl Halves {
         requires has { HasRow self.old row }
         ensures { Receives self.old self.new row result }
     {
-        let mut process = *self.procs[row].row();
+        let mut process = *self.process(row);
         if process.waiting == 0 {
             return None;
         }
@@ -82,7 +82,7 @@ impl Halves {
         let place = process.queue;
         process.queue = self.mem.get(place + 1);
         process.waiting -= 1;
-        *self.procs[row].row_mut() = process;
+        *self.process_mut(row) = process;
         Some(self.mem.get(place))
     }
 }

@@ -62,14 +62,6 @@ impl Row {
     {
         self.inner.as_mut()
     }
-
-    /// Puts a row in place of the other.
-    #[inline]
-    pub fn put(&mut self, row: Proc)
-        ensures { self.new ≡ row }
-    {
-        *self.inner = row;
-    }
 }
 
 impl Numbered for Row {
