@@ -53,14 +53,19 @@ no-sweep b no_sweep e = true≢false (sym e ∙ no_sweep)
 
 -- The space after a call that changed something.
 abbrev pub after : One → Halves → One
-after b h = record { halves = h; row = b.row; next = b.next; serials = b.serials; named = b.named; calls = b.calls + 1; swept = false }
+after b h = record { halves = h; row = b.row; spare = b.spare; next = b.next; serials = b.serials; named = b.named; calls = b.calls + 1; swept = false }
+
+-- The space after a process ended, whose box is spare now.
+abbrev pub ended : One → Halves → Vec Proc Global → One
+ended b h spare = record { halves = h; row = b.row; spare = spare; next = b.next; serials = b.serials; named = b.named; calls = b.calls + 1; swept = false }
 
 -- The numbers of a space, where the rows have the same.
 pub counts-same : (b b2 : One) → IsCounted b → IsLaid b2.halves → numbers_of b2 ≡ numbers_of b → length b2.halves.procs.items ≡ length b.halves.procs.items
     → vec_capacity b2.halves.procs ≡ vec_capacity b.halves.procs
     → vec_len b2.row ≡ vec_len b.row → b2.next ≡ b.next → b.calls ≤ b2.calls → b2.halves.sweeps ≡ b.halves.sweeps → HaveMade b2.calls b2.halves.procs.items
-    → b2.serials ≡ b.serials → length b2.halves.mem ≡ length b.halves.mem → b2.halves.bins ≡ b.halves.bins → b2.halves.funs ≡ b.halves.funs → IsCounted b2
-counts-same b b2 c laid same count capacity row next calls sweeps made serials words bins funs =
+    → b2.serials ≡ b.serials → length b2.halves.mem ≡ length b.halves.mem → b2.halves.bins ≡ b.halves.bins → b2.halves.funs ≡ b.halves.funs → b2.spare ≡ b.spare
+    → IsCounted b2
+counts-same b b2 c laid same count capacity row next calls sweeps made serials words bins funs spare =
     let P : List ℕ → Type 0 = λ z. AreBelow b.next z in
     let Q : ℕ → Type 0 = λ z. AreBelow z (numbers_of b2) in
     record {
@@ -68,6 +73,8 @@ counts-same b b2 c laid same count capacity row next calls sweeps made serials w
       enough = row ∙ c.enough;
       places = omega (arith, c.places, capacity);
       few = omega (arith, c.few, count);
+      spares = omega (arith, c.spares, count, ap vec_len spare);
+      boxes = omega (arith, c.boxes, ap vec_capacity spare);
       rising = subst (AreRising 0) (sym same) c.rising;
       below = subst Q (sym next) (subst P (sym same) c.below);
       second = omega (arith, c.second, next);
@@ -143,7 +150,7 @@ module _ (b : One) (holds : Holds b) (seat : Seat) (x : Sits b seat) (r : Reg) (
       omega (arith, places-row b.halves.procs.items seat.row (with_word p r.0 w) p x.within is) in
       counts-same b worded holds.counts (rows-laid b holds (with_item b.halves.procs seat.row (with_word p r.0 w)) (omega (arith, same)))
       (numbers-row b.halves.procs.items seat.row (with_word p r.0 w) p x.within is refl) (length-set b.halves.procs.items seat.row (with_word p r.0 w)) refl refl refl (omega arith) refl
-      (made-row b.calls (b.calls + 1) b.halves.procs.items seat.row (with_word p r.0 w) p (omega arith) x.within is refl holds.counts.made) refl refl refl refl
+      (made-row b.calls (b.calls + 1) b.halves.procs.items seat.row (with_word p r.0 w) p (omega arith) x.within is refl holds.counts.made) refl refl refl refl refl
 
   -- `self`.
   module _ (word : w ≡ pid_word seat.pid) (small : seat.pid < 2 ^ 41) where
@@ -166,13 +173,17 @@ module _ (b : One) (holds : Holds b) (seat : Seat) (x : Sits b seat) (r : Reg) (
       books = record { same_words = refl; one_call = omega arith; few_names = omega arith };
     }
 
+-- A box that is given back finds a place.
+pub box-room : (b : One) → Holds b → (seat : Seat) → Sits b seat → vec_len b.spare < vec_capacity b.spare
+box-room b holds seat x = omega (arith, holds.counts.spares, holds.counts.boxes, x.within)
+
 -- `exit`.
 module _ (b : One) (holds : Holds b) (seat : Seat) (x : Sits b seat) (v : Vec Proc Global) (items : v.items ≡ remove b.halves.procs.items seat.row)
-    (capacity : vec_capacity v ≡ vec_capacity b.halves.procs) where
+    (capacity : vec_capacity v ≡ vec_capacity b.halves.procs) (spare : Vec Proc Global) (one_more : vec_len spare ≡ vec_len b.spare + 1) (boxes : vec_capacity spare ≡ vec_capacity b.spare) where
   exit-passes : (s : State) (terms : Terms) (names : List (List ℕ)) → OneStands b s
-      → Passes (step s (said (OfProcess seat.pid verb.Exit) terms names)) (OneStands (after b (laid_out b.halves b.halves.mem b.halves.top b.halves.low v)))
+      → Passes (step s (said (OfProcess seat.pid verb.Exit) terms names)) (OneStands (ended b (laid_out b.halves b.halves.mem b.halves.top b.halves.low v) spare))
   exit-passes s terms names o =
-      let b2 : One = after b (laid_out b.halves b.halves.mem b.halves.top b.halves.low v) in
+      let b2 : One = ended b (laid_out b.halves b.halves.mem b.halves.top b.halves.low v) spare in
       let q : Process = get_or s.processes seat.row no_process in
       let line : Parsed = said (OfProcess seat.pid verb.Exit) terms names in
       let number : q.number ≡ seat.pid = number-there b s o holds.counts seat x in
@@ -195,7 +206,7 @@ module _ (b : One) (holds : Holds b) (seat : Seat) (x : Sits b seat) (v : Vec Pr
         reached = λ e. absurd (false-true e);
       })
 
-  exit-counts : IsCounted (after b (laid_out b.halves b.halves.mem b.halves.top b.halves.low v))
+  exit-counts : IsCounted (ended b (laid_out b.halves b.halves.mem b.halves.top b.halves.low v) spare)
   exit-counts =
       let P : List Proc → Type 0 = λ z. AreRising 0 (numbers number_in z) in
       let Q : List Proc → Type 0 = λ z. AreBelow b.next (numbers number_in z) in
@@ -207,6 +218,8 @@ module _ (b : One) (holds : Holds b) (seat : Seat) (x : Sits b seat) (v : Vec Pr
         enough = holds.counts.enough;
         places = omega (arith, holds.counts.places, capacity);
         few = omega (arith, holds.counts.few, fewer);
+        spares = omega (arith, holds.counts.spares, fewer, one_more);
+        boxes = omega (arith, holds.counts.boxes, boxes);
         rising = subst P (sym items) (rising-remove number_in b.halves.procs.items seat.row 0 holds.counts.rising);
         below = subst Q (sym items) (below-remove number_in b.halves.procs.items seat.row b.next holds.counts.below);
         second = holds.counts.second;
@@ -219,9 +232,9 @@ module _ (b : One) (holds : Holds b) (seat : Seat) (x : Sits b seat) (v : Vec Pr
         funs = holds.counts.funs;
       }
 
-  pub exit-does : DoesAlways (OfProcess seat.pid verb.Exit) b (after b (laid_out b.halves b.halves.mem b.halves.top b.halves.low v))
+  pub exit-does : DoesAlways (OfProcess seat.pid verb.Exit) b (ended b (laid_out b.halves b.halves.mem b.halves.top b.halves.low v) spare)
   exit-does = record {
-    holds = holds-passed (after b (laid_out b.halves b.halves.mem b.halves.top b.halves.low v)) (OfProcess seat.pid verb.Exit) holds.state exit-counts (exit-passes holds.state end [] holds.stands);
+    holds = holds-passed (ended b (laid_out b.halves b.halves.mem b.halves.top b.halves.low v) spare) (OfProcess seat.pid verb.Exit) holds.state exit-counts (exit-passes holds.state end [] holds.stands);
     passes = exit-passes;
     books = record { same_words = refl; one_call = omega arith; few_names = omega arith };
   }
@@ -279,7 +292,7 @@ module _ (b : One) (holds : Holds b) (seat : Seat) (x : Sits b seat) (r : Reg) (
         (rows-laid b holds (with_item b.halves.procs seat.row (with_stack (with_word p r.0 w) u d)) fewer)
         (numbers-row b.halves.procs.items seat.row (with_stack (with_word p r.0 w) u d) p x.within is refl) (length-set b.halves.procs.items seat.row (with_stack (with_word p r.0 w) u d)) refl refl
         refl (omega arith) refl
-        (made-row b.calls (b.calls + 1) b.halves.procs.items seat.row (with_stack (with_word p r.0 w) u d) p (omega arith) x.within is refl holds.counts.made) refl refl refl refl
+        (made-row b.calls (b.calls + 1) b.halves.procs.items seat.row (with_stack (with_word p r.0 w) u d) p (omega arith) x.within is refl holds.counts.made) refl refl refl refl refl
 
     pub pop-does : DoesAtOnce {A = Unit {0}} (OfProcess seat.pid (verb.Pop r)) b
         (after b (laid_out b.halves b.halves.mem b.halves.top b.halves.low (with_item b.halves.procs seat.row (with_stack (with_word p r.0 w) u d)))) (Ok tt)

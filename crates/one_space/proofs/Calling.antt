@@ -117,7 +117,7 @@ module _ (b : One) (p : Proc) (one : b.halves.procs.items ≡ p ∷ []) (number 
   module _ (words : ℕ) (len : length b.halves.mem ≡ words) (least : 4096 ≤ words) (even : words % 2 ≡ 0) (base : b.halves.base ≡ 0) (top : b.halves.top ≡ 2) (low : b.halves.low ≡ words / 2)
       (row : vec_len b.row ≡ 4096)
       (capacity : 1024 ≤ vec_capacity b.halves.procs) (calls : b.calls ≡ 0) (sweeps : b.halves.sweeps ≡ 0) (bins_room : words / 2 / 4 ≤ vec_capacity b.halves.bins)
-      (funs_room : words / 2 / 4 ≤ vec_capacity b.halves.funs) where
+      (funs_room : words / 2 / 4 ≤ vec_capacity b.halves.funs) (spare : vec_len b.spare ≡ 1023) (boxes : 1024 ≤ vec_capacity b.spare) where
     places-none : places_in b.halves.procs.items ≡ 0
     places-none = ap places_in one ∙ omega (arith, flat, waiting)
 
@@ -148,6 +148,8 @@ module _ (b : One) (p : Proc) (one : b.halves.procs.items ≡ p ∷ []) (number 
             enough = row;
             places = capacity;
             few = omega (arith, ap length one);
+            spares = omega (arith, spare, ap length one);
+            boxes = boxes;
             rising = subst P (sym one) (omega (arith, number), tt);
             below = subst R (sym next) (subst Q (sym one) (omega (arith, number), tt));
             second = omega (arith, next);

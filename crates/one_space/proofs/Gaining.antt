@@ -42,7 +42,7 @@ with_reg h row p r w = laid_out h h.mem h.top h.low (with_item h.procs row (with
 
 -- The space with that half.
 abbrev pub gained : One → Halves → Vec ℕ Global → (serials named : ℕ) → One
-gained b h row serials named = record { halves = h; row = row; next = b.next; serials = serials; named = named; calls = b.calls + 1; swept = false }
+gained b h row serials named = record { halves = h; row = row; spare = b.spare; next = b.next; serials = serials; named = named; calls = b.calls + 1; swept = false }
 
 -- The tables of records have room for one more where ten words are free: a record has four words at least.
 
@@ -148,6 +148,8 @@ module _ (b : One) (holds : Holds b) (seat : Seat) (x : Sits b seat) (n : ℕ) (
         enough = same_row ∙ counts1.enough;
         places = omega (arith, counts1.places, ap vec_capacity adds.procs);
         few = omega (arith, counts1.few, length-set h4.procs.items seat.row row2, ap length items-are);
+        spares = omega (arith, counts1.spares, length-set h4.procs.items seat.row row2, ap length items-are);
+        boxes = counts1.boxes;
         rising = subst U (sym numbers) (subst R (sym items-are) counts1.rising);
         below = subst V (sym numbers) (subst B (sym items-are) counts1.below);
         second = counts1.second;

@@ -95,8 +95,8 @@ module _ (b : One) (holds : Holds b) (n : ℕ) (h : Halves) (ok : Bool) (room : 
     }
 
 -- The space after a process was made.
-abbrev pub spawned : One → Halves → One
-spawned b h = record { halves = h; row = b.row; next = b.next + 1; serials = b.serials; named = b.named; calls = b.calls + 1; swept = false }
+abbrev pub spawned : One → Halves → Vec Proc Global → One
+spawned b h spare = record { halves = h; row = b.row; spare = spare; next = b.next + 1; serials = b.serials; named = b.named; calls = b.calls + 1; swept = false }
 
 at-least : (m n : ℕ) → m ≤ n → nat_le m n ≡ true
 at-least m n h = grind (arith, nat_tests)
@@ -199,7 +199,7 @@ module _ (b : One) (holds : Holds b) (seat : Seat) (x : Sits b seat) (r : Reg) (
         (omega (arith, fits)) (omega (arith, more, fits)))
         (numbers-row h.procs.items seat.row (with_stack p (h.low - 2) (p.depth + 1)) p sits1.within is refl) (length-set h.procs.items seat.row (with_stack p (h.low - 2) (p.depth + 1))) refl refl
         refl (omega arith) refl
-        (made-row (b.calls + 1) (b.calls + 1) h.procs.items seat.row (with_stack p (h.low - 2) (p.depth + 1)) p (omega arith) sits1.within is refl counts1.made) refl len refl refl
+        (made-row (b.calls + 1) (b.calls + 1) h.procs.items seat.row (with_stack p (h.low - 2) (p.depth + 1)) p (omega arith) sits1.within is refl counts1.made) refl len refl refl refl
 
     pub push-does : Does {A = Unit {0}} (OfProcess seat.pid (verb.Push r)) b (after b (laid_out h mem2 h.top (h.low - 2) (with_item h.procs seat.row (with_stack p (h.low - 2) (p.depth + 1))))) (Ok tt)
     push-does =
@@ -238,20 +238,25 @@ module _ (b : One) (holds : Holds b) where
       row-count b.halves.procs.items h.procs.items (stays-roomed 14 b.halves h ok room).rows,
     )
 
+    -- and a box is spare
+    pub box-for-one : 0 < vec_len b.spare
+    box-for-one = omega (arith, few, holds.counts.spares)
+
     pub spawn-tight : ok ≡ false → Does {A = ℕ} (System sysverb.Spawn) b (roomed b h) (Err (refusal.NoSpace 16))
     spawn-tight lacking = refused-does b holds 14 h ok room lacking ℕ (System sysverb.Spawn) 16 (omega arith) (λ s terms names o.
         let P : Bool → Type 0 = λ z. gets_to_space (System sysverb.Spawn) (spawn_if z s (said (System sysverb.Spawn) terms names)) ≡ true in
         (refl, (inr (omega arith), subst P (sym (not-full s o)) refl)))
 
     module _ (v : Vec Proc Global) (p : Proc) (items : v.items ≡ h.procs.items ++ p ∷ []) (capacity : vec_capacity v ≡ vec_capacity h.procs) (number : p.number ≡ b.next)
-        (regs : p.regs ≡ replicate 16 59) (depth : p.depth ≡ 0) (waiting : p.waiting ≡ 0) (none : p.refs ≡ 0) where
+        (regs : p.regs ≡ replicate 16 59) (depth : p.depth ≡ 0) (waiting : p.waiting ≡ 0) (none : p.refs ≡ 0)
+        (spare : Vec Proc Global) (one_less : vec_len b.spare ≡ vec_len spare + 1) (boxes : vec_capacity spare ≡ vec_capacity b.spare) where
       counts2 : IsCounted (roomed b h)
       counts2 = counts-there b holds 14 h ok room
 
       spawn-becomes : (s : State) (terms : Terms) (names : List (List ℕ)) → OneStands b s → Becomes {A = ℕ} may_of_tight (words_of b) s (said (System sysverb.Spawn) terms names) (Ok b.next)
-          (OneStands (spawned b (laid_out h h.mem h.top h.low v)))
+          (OneStands (spawned b (laid_out h h.mem h.top h.low v) spare))
       spawn-becomes s terms names o =
-          let b2 : One = spawned b (laid_out h h.mem h.top h.low v) in
+          let b2 : One = spawned b (laid_out h h.mem h.top h.low v) spare in
           let o1 : OneStands (roomed b h) s = roomed-there b holds 14 h ok room s o in
           let new = fresh-stands o1.processes.test s.shared h.mem b.named h.low (end_of h) p s.next (number ∙ sym o.next) regs depth waiting none in
           let P : List Proc → Type 0 = λ z. ProcsStand o1.processes.test s.shared h.mem h.low (end_of h) b.named z (s.processes ++ fresh_process s.next ∷ []) in
@@ -273,7 +278,7 @@ module _ (b : One) (holds : Holds b) where
                 (true≢false (sym e));
           }))
 
-      spawn-counts : IsCounted (spawned b (laid_out h h.mem h.top h.low v))
+      spawn-counts : IsCounted (spawned b (laid_out h h.mem h.top h.low v) spare)
       spawn-counts =
           let P : List Proc → Type 0 = λ z. AreRising 0 (numbers number_in z) in
           let Q : List Proc → Type 0 = λ z. AreBelow (b.next + 1) (numbers number_in z) in
@@ -284,6 +289,8 @@ module _ (b : One) (holds : Holds b) where
             laid = record { even = room.laid.even; side = room.laid.side; front = room.laid.front; order = room.laid.order; fits = omega (arith, room.laid.fits, same) };
             enough = counts2.enough;
             places = omega (arith, counts2.places, capacity);
+            spares = omega (arith, one, counts2.spares, one_less);
+            boxes = omega (arith, counts2.boxes, boxes);
             few = omega (arith, one, few, row-count b.halves.procs.items h.procs.items (stays-roomed 14 b.halves h ok room).rows);
             rising = subst P (sym items) (rising-push number_in h.procs.items p 0 counts2.rising (subst R (sym number) counts2.below) (omega (arith, number, counts2.second)));
             below = subst Q (sym items) (below-push number_in h.procs.items p b.next (b.next + 1) counts2.below (omega arith) (omega (arith, number)));
@@ -297,9 +304,9 @@ module _ (b : One) (holds : Holds b) where
             funs = counts2.funs;
           }
 
-      pub spawn-does : Does {A = ℕ} (System sysverb.Spawn) b (spawned b (laid_out h h.mem h.top h.low v)) (Ok b.next)
+      pub spawn-does : Does {A = ℕ} (System sysverb.Spawn) b (spawned b (laid_out h h.mem h.top h.low v) spare) (Ok b.next)
       spawn-does = record {
-        holds = holds-become {A = ℕ} (words_of b) (spawned b (laid_out h h.mem h.top h.low v)) holds.state (said (System sysverb.Spawn) end []) (Ok b.next) spawn-counts
+        holds = holds-become {A = ℕ} (words_of b) (spawned b (laid_out h h.mem h.top h.low v) spare) holds.state (said (System sysverb.Spawn) end []) (Ok b.next) spawn-counts
             (spawn-becomes holds.state end [] holds.stands);
         becomes = spawn-becomes;
         books = record { same_words = (stays-roomed 14 b.halves h ok room).same_len; one_call = omega arith; few_names = omega arith };

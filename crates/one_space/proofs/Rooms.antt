@@ -26,7 +26,7 @@ use Rattle.two_halves.proofs.Ended.{row-count}
 
 -- The space with other halves, one call later.
 abbrev pub roomed : One → Halves → One
-roomed b h = record { halves = h; row = b.row; next = b.next; serials = b.serials; named = b.named; calls = b.calls + 1; swept = b.swept }
+roomed b h = record { halves = h; row = b.row; spare = b.spare; next = b.next; serials = b.serials; named = b.named; calls = b.calls + 1; swept = b.swept }
 
 same-self : (ps : List Proc) → AreSameRows ps ps
 same-self [] = tt
@@ -75,6 +75,8 @@ counts-roomed b h c s laid =
       enough = c.enough;
       places = omega (arith, c.places, s.capacity);
       few = omega (arith, c.few, row-count b.halves.procs.items h.procs.items s.rows);
+      spares = omega (arith, c.spares, row-count b.halves.procs.items h.procs.items s.rows);
+      boxes = c.boxes;
       rising = subst (AreRising 0) (sym same) c.rising;
       below = subst (AreBelow b.next) (sym same) c.below;
       second = c.second;

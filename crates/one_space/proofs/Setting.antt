@@ -162,7 +162,7 @@ four-each size (v ∷ vs) each = omega (arith, each v (inl refl), four-each size
 
 -- The space after a stop: its memory and its row of words changed, and nothing that it stands for.
 abbrev pub stopped_in : One → Halves → (mem : List ℕ) → Vec ℕ Global → One
-stopped_in b h mem row = record { halves = laid_out h mem h.top h.low h.procs; row = row; next = b.next; serials = b.serials; named = b.named; calls = b.calls + 1; swept = b.swept }
+stopped_in b h mem row = record { halves = laid_out h mem h.top h.low h.procs; row = row; spare = b.spare; next = b.next; serials = b.serials; named = b.named; calls = b.calls + 1; swept = b.swept }
 
 module _ (b : One) (holds : Holds b) (seat : Seat) (x : Sits b seat) (r : Reg) (names : List (List ℕ)) (code : List Item) (has : HasTerm names code) (few : length names ≤ 16384) (n : ℕ)
     (is_n : n ≡ words_of code) (h : Halves) (ok : Bool) (room : MakesRoom n b.halves h ok) (more : b.named ≤ length names) where
@@ -284,7 +284,7 @@ module _ (b : One) (holds : Holds b) (seat : Seat) (x : Sits b seat) (r : Reg) (
         stop-counts : IsCounted (stopped_in b h mem2 row)
         stop-counts = counts-same (roomed b h) (stopped_in b h mem2 row) counts1
             (rest-laid b.named h holds.state.shared holds.state.processes room.laid (o1 holds.state holds.stands).processes mem2 h.top leaves.same_len others (omega arith) room.laid.order)
-            refl refl refl same_row refl (omega arith) refl counts1.made refl leaves.same_len refl refl
+            refl refl refl same_row refl (omega arith) refl counts1.made refl leaves.same_len refl refl refl
 
         pub set-stops : Builds {A = Unit {0}} names seat.pid r code b (stopped_in b h mem2 row) (Err (refusal_for e))
         set-stops = record {
@@ -406,7 +406,7 @@ module _ (b : One) (holds : Holds b) (seat : Seat) (x : Sits b seat) (r : Reg) (
           h3 = joined h mem2 z.top z.end now.head (long_bins code) (with_item h.procs seat.row (with_term u r.0 w u.refs)) bins
 
           abbrev after_build : (named : ℕ) → One
-          after_build named = record { halves = h3; row = row; next = b.next; serials = now.serial; named = named; calls = b.calls + 1; swept = false }
+          after_build named = record { halves = h3; row = row; spare = b.spare; next = b.next; serials = now.serial; named = named; calls = b.calls + 1; swept = false }
 
           same-places : places_in (set h.procs.items seat.row (with_term u r.0 w u.refs)) ≡ places_in h.procs.items
           same-places = omega (arith, places-row h.procs.items seat.row (with_term u r.0 w u.refs) u sits1.within row_is)
@@ -516,6 +516,8 @@ module _ (b : One) (holds : Holds b) (seat : Seat) (x : Sits b seat) (r : Reg) (
                 enough = same_row ∙ counts1.enough;
                 places = counts1.places;
                 few = omega (arith, counts1.few, length-set h.procs.items seat.row (with_term u r.0 w u.refs));
+                spares = omega (arith, counts1.spares, length-set h.procs.items seat.row (with_term u r.0 w u.refs));
+                boxes = counts1.boxes;
                 rising = subst P (sym same) counts1.rising;
                 below = subst R (sym same) counts1.below;
                 second = counts1.second;
@@ -542,6 +544,7 @@ module _ (b : One) (holds : Holds b) (seat : Seat) (x : Sits b seat) (r : Reg) (
             (record {
               halves = joined h mem2 z.top z.end now.head k (with_item h.procs seat.row (with_term u r.0 w u.refs)) bins;
               row = row;
+              spare = b.spare;
               next = b.next;
               serials = now.serial;
               named = named;
@@ -553,6 +556,7 @@ module _ (b : One) (holds : Holds b) (seat : Seat) (x : Sits b seat) (r : Reg) (
             (record {
               halves = joined h mem2 z.top z.end now.head g (with_item h.procs seat.row (with_term u r.0 w u.refs)) bins;
               row = row;
+              spare = b.spare;
               next = b.next;
               serials = now.serial;
               named = named;

@@ -9,9 +9,9 @@ use Rattle.one_space.specs.declared.one.One.{One}
 use Rattle.one_space.proofs.Rooms.{counts-roomed, stays-collected}
 
 pub sweeps : (all : Bool) (b : One) (h : Halves) → Holds b → Collects b.halves h
-    → Sweeps all b (record { halves = h; row = b.row; next = b.next; serials = b.serials; named = b.named; calls = b.calls + 1; swept = all })
+    → Sweeps all b (record { halves = h; row = b.row; spare = b.spare; next = b.next; serials = b.serials; named = b.named; calls = b.calls + 1; swept = all })
 sweeps all b h holds c =
-    let stands : (s : State) → OneStands b s → OneStands (record { halves = h; row = b.row; next = b.next; serials = b.serials; named = b.named; calls = b.calls + 1; swept = all })
+    let stands : (s : State) → OneStands b s → OneStands (record { halves = h; row = b.row; spare = b.spare; next = b.next; serials = b.serials; named = b.named; calls = b.calls + 1; swept = all })
     (record s { swept = all }) = λ s o.
     record { processes = c.stands b.named s.shared s.processes o.processes; next = o.next; swept = refl; shared = o.shared; areas = o.areas; within = o.within; reached = λ e. c.chained } in
     let counts = counts-roomed b h holds.counts (stays-collected b.halves h c) c.laid in
@@ -22,6 +22,8 @@ sweeps all b h holds c =
           enough = counts.enough;
           places = counts.places;
           few = counts.few;
+          spares = counts.spares;
+          boxes = counts.boxes;
           rising = counts.rising;
           below = counts.below;
           second = counts.second;

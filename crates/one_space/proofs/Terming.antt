@@ -40,7 +40,7 @@ use Rattle.one_space.proofs.Turning.{row-stands}
 
 -- The space after a term was built.
 abbrev pub built_in : One → Halves → Vec ℕ Global → (named : ℕ) → One
-built_in b h row named = record { halves = h; row = row; next = b.next; serials = b.serials; named = named; calls = b.calls + 1; swept = false }
+built_in b h row named = record { halves = h; row = row; spare = b.spare; next = b.next; serials = b.serials; named = named; calls = b.calls + 1; swept = false }
 
 -- A row with another word in a register, and so many references made.
 abbrev pub with_term : Proc → (r w refs : ℕ) → Proc
@@ -101,7 +101,7 @@ module _ (b : One) (holds : Holds b) (seat : Seat) (x : Sits b seat) (n : ℕ) (
           counts-same (roomed b h) (built_in b h2 row named) counts1
           (record { even = laid.even; side = laid.side; front = laid.front; order = laid.order; fits = omega (arith, laid.fits, same) })
           (numbers-row h.procs.items seat.row (with_term p r w made) p sits1.within is refl) (length-set h.procs.items seat.row (with_term p r w made)) refl same_row refl (omega arith) refl
-          (made-set (b.calls + 1) (b.calls + 1) (omega arith) h.procs.items seat.row (with_term p r w made) counts1.made most) refl uses.same_len refl refl
+          (made-set (b.calls + 1) (b.calls + 1) (omega arith) h.procs.items seat.row (with_term p r w made) counts1.made most) refl uses.same_len refl refl refl
 
       module _ (s : State) (o : OneStands b s) (t : Tree) (named refs : ℕ) (more : b.named ≤ named) (names : is_named named t ≡ true) (same_refs : refs ≡ made)
           (built : Built (roomed-there b holds n h ok room s o).processes.test h.top used h.mem mem2 s.shared w t) where

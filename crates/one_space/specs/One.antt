@@ -51,6 +51,8 @@ pub record IsCounted (b : One) : Type 0 where
   pub enough : vec_len b.row ≡ ROW
   pub places : MOST_PROCESSES ≤ vec_capacity b.halves.procs
   pub few : length b.halves.procs.items ≤ MOST_PROCESSES
+  pub spares : vec_len b.spare + length b.halves.procs.items ≡ MOST_PROCESSES
+  pub boxes : MOST_PROCESSES ≤ vec_capacity b.spare
   pub rising : AreRising 0 (numbers_of b)
   pub below : AreBelow b.next (numbers_of b)
   pub second : 2 ≤ b.next

@@ -27,7 +27,7 @@ impl One {
         ensures does { Does (Process seat.pid (verb.Choose r s (pick.Part offset len))) self.old self.new result }
         ensures asks { AsksUnless PART_WORDS self.old self.new result }
     {
-        let binary = self.halves.procs[seat.row].regs[s.0 as usize];
+        let binary = self.halves.process(seat.row).regs[s.0 as usize];
         if !has_part(&self.halves.mem, binary, offset, len) {
             return Err(Refusal::BadArg);
         }
@@ -35,11 +35,11 @@ impl One {
         if !self.halves.make_room(PART_WORDS) {
             return Err(Refusal::NoSpace(PART_WORDS));
         }
-        let binary = self.halves.procs[seat.row].regs[s.0 as usize];
+        let binary = self.halves.process(seat.row).regs[s.0 as usize];
         let mut room = self.halves.room();
         let part = sub_part(&mut self.halves.mem, &mut room, binary, offset, len);
         self.halves.top = room.top;
-        let process = &mut self.halves.procs[seat.row];
+        let process = self.halves.process_mut(seat.row);
         process.regs[r.0 as usize] = part;
         self.swept = false;
         Ok(())

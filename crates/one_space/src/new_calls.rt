@@ -62,7 +62,7 @@ impl One {
         let mut room = self.halves.room();
         let w = heap_bin(&mut self.halves.mem, &mut room, &bytes[..len as usize]);
         self.halves.top = room.top;
-        let process = &mut self.halves.procs[seat.row];
+        let process = self.halves.process_mut(seat.row);
         process.regs[r.0 as usize] = w;
         self.swept = false;
         Ok(())
@@ -86,7 +86,7 @@ impl One {
         }
         self.serials += 1;
         let w = self.halves.add_bin(self.serials, len, byte);
-        let process = &mut self.halves.procs[seat.row];
+        let process = self.halves.process_mut(seat.row);
         process.regs[r.0 as usize] = w;
         self.swept = false;
         Ok(())
@@ -122,12 +122,12 @@ impl One {
         if !self.halves.make_room(grow) {
             return Err(Refusal::NoSpace(grow));
         }
-        let process = self.halves.procs[seat.row];
+        let process = *self.halves.process(seat.row);
         gather(&mut self.row, &process.regs, env);
         let w = self
             .halves
             .add_fun(name, arity, seat.pid, &self.row[..env.len()]);
-        let process = &mut self.halves.procs[seat.row];
+        let process = self.halves.process_mut(seat.row);
         process.regs[r.0 as usize] = w;
         self.named = above(self.named, name);
         self.swept = false;

@@ -12,7 +12,7 @@ ghost use Rattle.one_space.specs.Doing.{Asks, Does, DoesAlways, DoesAtOnce, Swee
 use plain_machine::{MOST_PROCESSES, PLACE_COST, PROCESS_COST, Refusal, Reg};
 use space_api::Seat;
 use term_tags::pid as pid_word;
-use two_halves::{Halves, PLACE_WORDS, Proc, UNUSED, fresh};
+use two_halves::{Halves, PLACE_WORDS, Proc, Row, UNUSED, fresh};
 
 /// The most items of a line, and so the most words of terms that are not yet put together.
 pub const ROW: usize = 4096;
@@ -20,13 +20,15 @@ pub const ROW: usize = 4096;
 /// The free words that a new process asks for: it takes none, and what a half never uses is among what it counts for.
 pub const SPAWN_WORDS: u64 = PROCESS_COST - UNUSED;
 
-/// Two halves with their processes; a row of words for terms that are being put together; the number of the next process; how
+/// Two halves with their processes; a row of words for terms that are being put together; the boxes of rows that are not in use;
+/// the number of the next process; how
 /// many shared binaries were made; a number above all atoms; how many calls changed something; and whether nothing has since all
 /// was swept.
 #[derive(Drop)]
 pub struct One {
     pub halves: Halves,
     pub row: Vec<u64>,
+    pub spare: Vec<Row>,
     pub next: u64,
     pub serials: u64,
     pub named: u64,
@@ -52,7 +54,11 @@ impl One {
             return Err(Refusal::NoSpace(PROCESS_COST));
         }
         let number = self.next;
-        self.halves.procs.push_reserved(fresh(number));
+        let Some(mut row) = self.spare.pop() else {
+            unreachable!()
+        };
+        *row.row_mut() = fresh(number);
+        self.halves.procs.push_reserved(row);
         self.next += 1;
         self.swept = false;
         Ok(number)
@@ -66,7 +72,8 @@ impl One {
         ensures does { DoesAlways (Process seat.pid verb.Exit) self.old self.new }
         ensures idle { self.new.halves.sweeps ≡ self.old.halves.sweeps }
     {
-        let _ = self.halves.procs.remove(seat.row);
+        let row = self.halves.procs.remove(seat.row);
+        self.spare.push_reserved(row);
         self.calls += 1;
         self.swept = false;
     }
@@ -80,7 +87,7 @@ impl One {
         ensures does { DoesAlways (Process seat.pid (verb.Own r)) self.old self.new }
         ensures idle { self.new.halves.sweeps ≡ self.old.halves.sweeps }
     {
-        let process = &mut self.halves.procs[seat.row];
+        let process = self.halves.process_mut(seat.row);
         process.regs[r.0 as usize] = pid_word(seat.pid);
         self.calls += 1;
         self.swept = false;
@@ -101,11 +108,11 @@ impl One {
         }
         let _len = self.halves.mem.len();
         let place = self.halves.low - PLACE_WORDS;
-        let process = self.halves.procs[seat.row];
+        let process = *self.halves.process(seat.row);
         self.halves.mem.set(place, process.regs[s.0 as usize]);
         self.halves.mem.set(place + 1, process.stack);
         self.halves.low = place;
-        self.halves.procs[seat.row] = Proc {
+        *self.halves.process_mut(seat.row) = Proc {
             stack: place,
             depth: process.depth + 1,
             ..process
@@ -123,7 +130,7 @@ impl One {
         ensures does { DoesAtOnce (Process seat.pid (verb.Pop r)) self.old self.new result }
         ensures idle { self.new.halves.sweeps ≡ self.old.halves.sweeps }
     {
-        let mut process = self.halves.procs[seat.row];
+        let mut process = *self.halves.process(seat.row);
         if process.depth == 0 {
             return Err(Refusal::Empty);
         }
@@ -132,7 +139,7 @@ impl One {
         process.regs[r.0 as usize] = self.halves.mem.get(place);
         process.stack = self.halves.mem.get(place + 1);
         process.depth -= 1;
-        self.halves.procs[seat.row] = process;
+        *self.halves.process_mut(seat.row) = process;
         self.calls += 1;
         self.swept = false;
         Ok(())

@@ -1,5 +1,7 @@
 // The space.
-ghost use Rattle.std.specs.Prelude.{◌≡◌, ℕ, ◌+◌, ◌*◌, ◌%◌, ◌<◌, ◌≤◌, ◌^◌, true, false, Err, Some, IfOk, OnErr, List, length, max};
+ghost use Rattle.std.specs.Prelude.{◌≡◌, ℕ, ◌+◌, ◌*◌, ◌%◌, ◌<◌, ◌≤◌, ◌^◌, true, false, Err, Some, IfOk, IfSome, OnErr, List, length, max};
+ghost use Rattle.std.specs.Vec.{vec_capacity, vec_len};
+ghost use Rattle.plain_machine.specs.declared.limits.TheConstants.{MOST_PROCESSES};
 ghost use Rattle.script_grammar.specs.declared.command.Command.TheVariants.{Process, System};
 ghost use Rattle.script_grammar.specs.declared.command.Verb.TheVariants as verb;
 ghost use Rattle.script_grammar.specs.declared.command.SysVerb.TheVariants as sysverb;
@@ -25,11 +27,26 @@ use space_api::{Seat, Space, Stop};
 use std::alloc::Global;
 use std::cmp::Ordering;
 use std::marker::Model;
-use two_halves::{Halves, UNUSED, fresh};
+use two_halves::{Halves, Row, UNUSED, fresh};
 use word_mem::{OpenFault, WordMem};
 
 /// The fewest words of a space.
 pub const LEAST_WORDS: u64 = 4096;
+
+// The boxes of all rows but one, which are all spare.
+fn boxes(alloc: Global) -> Option<Vec<Row>>
+    ensures len { IfSome result (λ v. vec_len v + 1 ≡ MOST_PROCESSES) }
+    ensures capacity { IfSome result (λ v. MOST_PROCESSES ≤ vec_capacity v) }
+{
+    let Ok(mut rows) = Vec::with_capacity(alloc, MOST_PROCESSES) else {
+        return None;
+    };
+    for _i in 1..MOST_PROCESSES {
+        let row = Row::new(alloc, fresh(0))?;
+        rows.push_reserved(row);
+    }
+    Some(rows)
+}
 
 /// A memory in two halves: all that lives stands in one of them, and a collection moves it to the other.
 #[derive(Drop)]
@@ -77,7 +94,13 @@ impl OneSpace {
         let Ok(funs) = Vec::with_capacity(alloc, records) else {
             return Err(OpenFault::Memory);
         };
-        procs.push_reserved(fresh(1));
+        let Some(first) = Row::new(alloc, fresh(1)) else {
+            return Err(OpenFault::Memory);
+        };
+        procs.push_reserved(first);
+        let Some(spare) = boxes(alloc) else {
+            return Err(OpenFault::Memory);
+        };
         Ok(OneSpace {
             one: One {
                 halves: Halves {
@@ -93,6 +116,7 @@ impl OneSpace {
                     sweeps: 0,
                 },
                 row,
+                spare,
                 next: 2,
                 serials: 0,
                 named: 0,
@@ -145,7 +169,7 @@ impl Space for OneSpace {
     fn live_after(&self, pid: u64) -> Option<u64> {
         let above = first_above(&self.one.halves.procs, pid);
         if above < self.one.halves.procs.len() {
-            Some(self.one.halves.procs[above].number)
+            Some(self.one.halves.process(above).number)
         } else {
             None
         }

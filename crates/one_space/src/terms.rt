@@ -53,7 +53,7 @@ impl One {
             serial: self.serials,
             head: self.halves.head,
         };
-        let process = self.halves.procs[seat.row];
+        let process = *self.halves.process(seat.row);
         let w = match build(
             &mut self.halves.mem,
             &mut room,
@@ -78,7 +78,7 @@ impl One {
         self.halves.low = room.end;
         self.halves.head = making.head;
         self.halves.linked += bins;
-        let process = &mut self.halves.procs[seat.row];
+        let process = self.halves.process_mut(seat.row);
         process.regs[r.0 as usize] = w;
         self.serials = making.serial;
         self.named = named;
@@ -107,7 +107,7 @@ impl One {
         ensures idle { self.new.halves.sweeps ≡ self.old.halves.sweeps }
         ensures refused { OnErr result (self.new ≡ self.old) }
     {
-        let process = self.halves.procs[seat.row];
+        let process = *self.halves.process(seat.row);
         let Some(w) = part(
             &self.halves.mem,
             names,
@@ -117,7 +117,7 @@ impl One {
         ) else {
             return Err(Refusal::BadArg);
         };
-        let process = &mut self.halves.procs[seat.row];
+        let process = self.halves.process_mut(seat.row);
         process.regs[r.0 as usize] = w;
         self.calls += 1;
         self.swept = false;
@@ -146,7 +146,7 @@ impl One {
         ensures asks { (state : State) (q : Live) → OneStands self.old state → process_of seat.pid state ≡ Some q
             → AsksUnless (6 + 2 * keys_in (register s.0 q)) self.old self.new result }
     {
-        let process = self.halves.procs[seat.row];
+        let process = *self.halves.process(seat.row);
         let place = match place_in(
             &self.halves.mem,
             names,
@@ -161,7 +161,7 @@ impl One {
         if !self.halves.make_room(grow) {
             return Err(Refusal::NoSpace(grow));
         }
-        let process = self.halves.procs[seat.row];
+        let process = *self.halves.process(seat.row);
         let mut room = self.halves.room();
         let w = map_with(
             &mut self.halves.mem,
@@ -172,7 +172,7 @@ impl One {
             process.regs[v.0 as usize],
         );
         self.halves.top = room.top;
-        let process = &mut self.halves.procs[seat.row];
+        let process = self.halves.process_mut(seat.row);
         process.regs[r.0 as usize] = w;
         self.swept = false;
         Ok(())
@@ -191,11 +191,11 @@ impl One {
         if !self.halves.make_room(REF_WORDS) {
             return Err(Refusal::NoSpace(REF_WORDS));
         }
-        let count = self.halves.procs[seat.row].refs + 1;
+        let count = self.halves.process(seat.row).refs + 1;
         let mut room = self.halves.room();
         let w = reference(&mut self.halves.mem, &mut room, seat.pid, count);
         self.halves.top = room.top;
-        let process = &mut self.halves.procs[seat.row];
+        let process = self.halves.process_mut(seat.row);
         process.regs[r.0 as usize] = w;
         process.refs = count;
         self.swept = false;
@@ -227,7 +227,7 @@ impl One {
         if !self.halves.make_room(grow) {
             return Err(Refusal::NoSpace(grow));
         }
-        let process = self.halves.procs[seat.row];
+        let process = *self.halves.process(seat.row);
         let mut room = self.halves.room();
         let w = repeated(
             &mut self.halves.mem,
@@ -237,7 +237,7 @@ impl One {
             process.regs[s.0 as usize],
         );
         self.halves.top = room.top;
-        let process = &mut self.halves.procs[seat.row];
+        let process = self.halves.process_mut(seat.row);
         process.regs[r.0 as usize] = w;
         self.swept = false;
         Ok(())

@@ -31,7 +31,7 @@ impl One {
         requires register { IsRegister r }
         ensures { (s : State) → OneStands self.now s → IsHeld self.now s seat.pid r result }
     {
-        self.halves.procs[seat.row].regs[r.0 as usize]
+        self.halves.process(seat.row).regs[r.0 as usize]
     }
 
     /// The nodes and the flat size of a register's term.

@@ -16,25 +16,25 @@ returns-then-not-make_room-clause-builds c =
     (needed-words c.args.names.now c.args.code.now c.requires.term c.words_needed-grow.result c.count-named.ensures.names.few c.words_needed-grow.ensures)
     c.make_room.new.self c.make_room.result c.make_room.ensures c.requires.named c.if-not-make_room.true
 
-pub index-requires : goal.index-requires
-index-requires c = term-within c.args.self.now c.requires.holds c.args.seat c.requires.sits c.words_needed-grow.result c.make_room.new.self c.make_room.result c.make_room.ensures
+pub process-requires : goal.process-requires
+process-requires c = term-within c.args.self.now c.requires.holds c.args.seat c.requires.sits c.words_needed-grow.result c.make_room.new.self c.make_room.result c.make_room.ensures
 
 pub build-requires-clause-term : goal.build-requires-clause-term
 build-requires-clause-term c =
-    is-written c.args.names.now c.args.code.now c.requires.term.term (length c.index.result.now.regs) c.requires.term.is c.requires.term.named c.count-named.ensures.names.few
+    is-written c.args.names.now c.args.code.now c.requires.term.term (length c.process.result.now.regs) c.requires.term.is c.requires.term.named c.count-named.ensures.names.few
     (omega (
       arith,
       set-regs c.args.self.now c.requires.holds c.args.seat c.requires.sits c.args.r c.args.names.now c.args.code.now c.requires.term c.count-named.ensures.names.few
           c.words_needed-grow.result
           (needed-words c.args.names.now c.args.code.now c.requires.term c.words_needed-grow.result c.count-named.ensures.names.few c.words_needed-grow.ensures)
-          c.make_room.new.self c.make_room.result c.make_room.ensures c.requires.named c.if-not-make_room.false c.room-room.result c.room-room.ensures c.index.result.now c.index.ensures,
+          c.make_room.new.self c.make_room.result c.make_room.ensures c.requires.named c.if-not-make_room.false c.room-room.result c.room-room.ensures c.process.result.now c.process.ensures,
     ))
 
 pub build-requires-clause-held : goal.build-requires-clause-held
 build-requires-clause-held c =
     set-held c.args.self.now c.requires.holds c.args.seat c.requires.sits c.args.r c.args.names.now c.args.code.now c.requires.term c.count-named.ensures.names.few c.words_needed-grow.result
     (needed-words c.args.names.now c.args.code.now c.requires.term c.words_needed-grow.result c.count-named.ensures.names.few c.words_needed-grow.ensures)
-    c.make_room.new.self c.make_room.result c.make_room.ensures c.requires.named c.if-not-make_room.false c.room-room.result c.room-room.ensures c.index.result.now c.index.ensures
+    c.make_room.new.self c.make_room.result c.make_room.ensures c.requires.named c.if-not-make_room.false c.room-room.result c.room-room.ensures c.process.result.now c.process.ensures
 
 pub returns-in-Err-clause-builds : goal.returns-in-Err-clause-builds
 returns-in-Err-clause-builds c =
@@ -43,21 +43,21 @@ returns-in-Err-clause-builds c =
     subst P (sym c.refusal_of.ensures)
     (set-stops c.args.self.now c.requires.holds c.args.seat c.requires.sits c.args.r c.args.names.now c.args.code.now c.requires.term c.count-named.ensures.names.few c.words_needed-grow.result
     (needed-words c.args.names.now c.args.code.now c.requires.term c.words_needed-grow.result c.count-named.ensures.names.few c.words_needed-grow.ensures)
-    c.make_room.new.self c.make_room.result c.make_room.ensures c.requires.named c.if-not-make_room.false c.room-room.result c.room-room.ensures c.index.result.now c.index.ensures
+    c.make_room.new.self c.make_room.result c.make_room.ensures c.requires.named c.if-not-make_room.false c.room-room.result c.room-room.ensures c.process.result.now c.process.ensures
     c.build.new.mem c.build.new.room (with_items c.args.self.now.row c.build.new.scratch) refl (record { serial = c.args.self.now.serials; head = c.make_room.new.self.head }) c.build.new.making
     c.build.ensures.leaves refl c.in-Err.stop c.in-Err.ensures.builds)
 
-pub index_mut-process-requires : goal.index_mut-process-requires
-index_mut-process-requires c = term-within c.args.self.now c.requires.holds c.args.seat c.requires.sits c.words_needed-grow.result c.make_room.new.self c.make_room.result c.make_room.ensures
+pub process_mut-process-requires : goal.process_mut-process-requires
+process_mut-process-requires c = term-within c.args.self.now c.requires.holds c.args.seat c.requires.sits c.words_needed-grow.result c.make_room.new.self c.make_room.result c.make_room.ensures
 
 pub returns-clause-builds : goal.returns-clause-builds
 returns-clause-builds c =
     set-builds c.args.self.now c.requires.holds c.args.seat c.requires.sits c.args.r c.args.names.now c.args.code.now c.requires.term c.count-named.ensures.names.few c.words_needed-grow.result
     (needed-words c.args.names.now c.args.code.now c.requires.term c.words_needed-grow.result c.count-named.ensures.names.few c.words_needed-grow.ensures)
-    c.make_room.new.self c.make_room.result c.make_room.ensures c.requires.named c.if-not-make_room.false c.room-room.result c.room-room.ensures c.index.result.now c.index.ensures
+    c.make_room.new.self c.make_room.result c.make_room.ensures c.requires.named c.if-not-make_room.false c.room-room.result c.room-room.ensures c.process.result.now c.process.ensures
     c.build.new.mem c.build.new.room (with_items c.args.self.now.row c.build.new.scratch) refl (record { serial = c.args.self.now.serials; head = c.make_room.new.self.head }) c.build.new.making
     c.build.ensures.leaves refl c.in-Ok.w c.in-Ok.ensures.builds c.in-Ok.ensures.back
-    (c.build.new.making.serial - c.args.self.now.serials) (omega (arith, c.in-Ok.ensures.serial)) c.index_mut-process.result.now c.index_mut-process.ensures.value c.enter_bins.new.bins
+    (c.build.new.making.serial - c.args.self.now.serials) (omega (arith, c.in-Ok.ensures.serial)) c.process_mut-process.result.now c.process_mut-process.ensures.value c.enter_bins.new.bins
     c.enter_bins.ensures.items
     c.enter_bins.ensures.capacity c.in-Ok.ensures.serial c.count-named.result c.count-named.ensures.value
 
@@ -68,7 +68,7 @@ enter_bins-requires-clause-inside c =
     subst P count
     (set-inside c.args.self.now c.requires.holds c.args.seat c.requires.sits c.args.r c.args.names.now c.args.code.now c.requires.term c.count-named.ensures.names.few c.words_needed-grow.result
     (needed-words c.args.names.now c.args.code.now c.requires.term c.words_needed-grow.result c.count-named.ensures.names.few c.words_needed-grow.ensures)
-    c.make_room.new.self c.make_room.result c.make_room.ensures c.requires.named c.if-not-make_room.false c.room-room.result c.room-room.ensures c.index.result.now c.index.ensures
+    c.make_room.new.self c.make_room.result c.make_room.ensures c.requires.named c.if-not-make_room.false c.room-room.result c.room-room.ensures c.process.result.now c.process.ensures
     c.build.new.mem c.build.new.room (with_items c.args.self.now.row c.build.new.scratch) refl (record { serial = c.args.self.now.serials; head = c.make_room.new.self.head }) c.build.new.making
     c.build.ensures.leaves refl c.in-Ok.w c.in-Ok.ensures.builds c.in-Ok.ensures.back)
 
@@ -77,7 +77,7 @@ enter_bins-requires-clause-room c =
     let most = set-room c.args.self.now c.requires.holds c.args.seat c.requires.sits c.args.r c.args.names.now c.args.code.now c.requires.term c.count-named.ensures.names.few
     c.words_needed-grow.result
     (needed-words c.args.names.now c.args.code.now c.requires.term c.words_needed-grow.result c.count-named.ensures.names.few c.words_needed-grow.ensures)
-    c.make_room.new.self c.make_room.result c.make_room.ensures c.requires.named c.if-not-make_room.false c.room-room.result c.room-room.ensures c.index.result.now c.index.ensures
+    c.make_room.new.self c.make_room.result c.make_room.ensures c.requires.named c.if-not-make_room.false c.room-room.result c.room-room.ensures c.process.result.now c.process.ensures
     c.build.new.mem c.build.new.room (with_items c.args.self.now.row c.build.new.scratch) refl (record { serial = c.args.self.now.serials; head = c.make_room.new.self.head }) c.build.new.making
     c.build.ensures.leaves refl c.in-Ok.w c.in-Ok.ensures.builds c.in-Ok.ensures.back in
     omega (arith, most, c.in-Ok.ensures.serial)
@@ -87,7 +87,7 @@ overflow_add-self-2 c =
     let most = set-linked c.args.self.now c.requires.holds c.args.seat c.requires.sits c.args.r c.args.names.now c.args.code.now c.requires.term c.count-named.ensures.names.few
     c.words_needed-grow.result
     (needed-words c.args.names.now c.args.code.now c.requires.term c.words_needed-grow.result c.count-named.ensures.names.few c.words_needed-grow.ensures)
-    c.make_room.new.self c.make_room.result c.make_room.ensures c.requires.named c.if-not-make_room.false c.room-room.result c.room-room.ensures c.index.result.now c.index.ensures
+    c.make_room.new.self c.make_room.result c.make_room.ensures c.requires.named c.if-not-make_room.false c.room-room.result c.room-room.ensures c.process.result.now c.process.ensures
     c.build.new.mem c.build.new.room (with_items c.args.self.now.row c.build.new.scratch) refl (record { serial = c.args.self.now.serials; head = c.make_room.new.self.head }) c.build.new.making
     c.build.ensures.leaves refl c.in-Ok.w c.in-Ok.ensures.builds c.in-Ok.ensures.back in
     omega (arith, most, c.in-Ok.ensures.serial, c.len-len.ensures.most, c.len-len.ensures.len, c.build.ensures.leaves.same_len, long-few c.args.code.now, c.requires.term.few)

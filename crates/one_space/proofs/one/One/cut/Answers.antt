@@ -13,38 +13,38 @@ use Rattle.one_space.proofs.one.One.cut.Goals as goal
 
 pub has_part-requires : goal.has_part-requires
 has_part-requires c =
-    cut-term c.args.self.now c.requires.holds c.args.seat c.requires.sits c.args.r c.args.s c.args.offset c.args.len c.requires.other c.index.result.now c.index.ensures
+    cut-term c.args.self.now c.requires.holds c.args.seat c.requires.sits c.args.r c.args.s c.args.offset c.args.len c.requires.other c.process.result.now c.process.ensures
 
 pub returns-then-not-has_part-clause-does : goal.returns-then-not-has_part-clause-does
 returns-then-not-has_part-clause-does c =
-    cut-refused c.args.self.now c.requires.holds c.args.seat c.requires.sits c.args.r c.args.s c.args.offset c.args.len c.requires.other c.index.result.now c.index.ensures
+    cut-refused c.args.self.now c.requires.holds c.args.seat c.requires.sits c.args.r c.args.s c.args.offset c.args.len c.requires.other c.process.result.now c.process.ensures
     c.has_part.result c.has_part.ensures c.if-not-has_part.true
 
 pub returns-then-not-make_room-clause-does : goal.returns-then-not-make_room-clause-does
 returns-then-not-make_room-clause-does c =
-    cut-lacks c.args.self.now c.requires.holds c.args.seat c.requires.sits c.args.r c.args.s c.args.offset c.args.len c.requires.other c.index.result.now c.index.ensures
+    cut-lacks c.args.self.now c.requires.holds c.args.seat c.requires.sits c.args.r c.args.s c.args.offset c.args.len c.requires.other c.process.result.now c.process.ensures
     c.has_part.result c.has_part.ensures c.if-not-has_part.false c.make_room.new.self c.make_room.result c.make_room.ensures c.if-not-make_room.true
 
-pub index-requires-2 : goal.index-requires-2
-index-requires-2 c = term-within c.args.self.now c.requires.holds c.args.seat c.requires.sits 5 c.make_room.new.self c.make_room.result c.make_room.ensures
+pub process-requires-2 : goal.process-requires-2
+process-requires-2 c = term-within c.args.self.now c.requires.holds c.args.seat c.requires.sits 5 c.make_room.new.self c.make_room.result c.make_room.ensures
 
 pub sub_part-part-requires-clause-part : goal.sub_part-part-requires-clause-part
 sub_part-part-requires-clause-part c =
-    cut-part c.args.self.now c.requires.holds c.args.seat c.requires.sits c.args.r c.args.s c.args.offset c.args.len c.requires.other c.index.result.now c.index.ensures
-    c.has_part.result c.has_part.ensures c.if-not-has_part.false c.make_room.new.self c.make_room.result c.make_room.ensures c.index-2.result.now c.index-2.ensures
+    cut-part c.args.self.now c.requires.holds c.args.seat c.requires.sits c.args.r c.args.s c.args.offset c.args.len c.requires.other c.process.result.now c.process.ensures
+    c.has_part.result c.has_part.ensures c.if-not-has_part.false c.make_room.new.self c.make_room.result c.make_room.ensures c.process-2.result.now c.process-2.ensures
 
-pub index_mut-process-requires : goal.index_mut-process-requires
-index_mut-process-requires c = term-within c.args.self.now c.requires.holds c.args.seat c.requires.sits 5 c.make_room.new.self c.make_room.result c.make_room.ensures
+pub process_mut-process-requires : goal.process_mut-process-requires
+process_mut-process-requires c = term-within c.args.self.now c.requires.holds c.args.seat c.requires.sits 5 c.make_room.new.self c.make_room.result c.make_room.ensures
 
 pub returns-clause-does : goal.returns-clause-does
 returns-clause-does c =
     let U : Room → Type 0 = λ y. Uses 5 y c.sub_part-part.new.room c.make_room.new.self.mem c.sub_part-part.new.mem in
     let V : Room → Type 0 = λ y. (k : ℕ → ℕ → Bool) (shared : List (List ℕ)) (t u : Tree) → IsFree k y.top (y.top + 5)
-    → Stands k shared c.make_room.new.self.mem (get_or c.index-2.result.now.regs c.args.s.0 0) t → part_in shared c.args.offset c.args.len t ≡ Some u
+    → Stands k shared c.make_room.new.self.mem (get_or c.process-2.result.now.regs c.args.s.0 0) t → part_in shared c.args.offset c.args.len t ≡ Some u
     → Built k y.top 5 c.make_room.new.self.mem c.sub_part-part.new.mem shared c.sub_part-part.result u in
-    cut-does c.args.self.now c.requires.holds c.args.seat c.requires.sits c.args.r c.args.s c.args.offset c.args.len c.requires.other c.index.result.now c.index.ensures
+    cut-does c.args.self.now c.requires.holds c.args.seat c.requires.sits c.args.r c.args.s c.args.offset c.args.len c.requires.other c.process.result.now c.process.ensures
     c.has_part.result c.has_part.ensures c.if-not-has_part.false c.make_room.new.self c.make_room.result c.make_room.ensures c.if-not-make_room.false c.sub_part-part.new.mem
-    c.sub_part-part.new.room (subst U c.room-room.ensures c.sub_part-part.ensures.uses) c.index-2.result.now c.index-2.ensures c.index_mut-process.result.now c.index_mut-process.ensures.value
+    c.sub_part-part.new.room (subst U c.room-room.ensures c.sub_part-part.ensures.uses) c.process-2.result.now c.process-2.ensures c.process_mut-process.result.now c.process_mut-process.ensures.value
     c.sub_part-part.result (subst V c.room-room.ensures c.sub_part-part.ensures.built)
 
 pub returns-then-not-make_room-clause-asks : goal.returns-then-not-make_room-clause-asks

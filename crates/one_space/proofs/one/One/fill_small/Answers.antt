@@ -22,8 +22,8 @@ returns-then-not-make_room-clause-asks c =
     let g : ℕ = 2 + (c.args.len + 7) / 8 in
     unless-lacks g (fill_words c.args.len) c.args.self.now c.make_room.new.self c.make_room.result c.make_room.ensures (sym (heap-words c.args.len c.requires.small)) c.if-not-make_room.true g
 
-pub index_mut-process-requires : goal.index_mut-process-requires
-index_mut-process-requires c = term-within c.args.self.now c.requires.holds c.args.seat c.requires.sits (2 + (c.args.len + 7) / 8) c.make_room.new.self c.make_room.result c.make_room.ensures
+pub process_mut-process-requires : goal.process_mut-process-requires
+process_mut-process-requires c = term-within c.args.self.now c.requires.holds c.args.seat c.requires.sits (2 + (c.args.len + 7) / 8) c.make_room.new.self c.make_room.result c.make_room.ensures
 
 pub returns-clause-does : goal.returns-clause-does
 returns-clause-does c =
@@ -34,7 +34,7 @@ returns-clause-does c =
     → Built k y.top (2 + bin_words (length xs)) c.make_room.new.self.mem c.heap_bin-w.new.mem shared c.heap_bin-w.result (Bin xs) in
     small-by c.args.self.now c.requires.holds c.args.seat c.requires.sits c.args.r c.args.len c.args.byte (omega (arith, c.requires.small)) (omega (arith, c.ranges.byte)) g (sym (heap-words c.args.len c.requires.small))
     c.make_room.new.self c.make_room.result c.make_room.ensures c.requires.small c.if-not-make_room.false xs (take-equal c.args.len 64 c.args.byte c.requires.small) c.heap_bin-w.new.mem c.heap_bin-w.new.room
-    (subst U c.room-room.ensures c.heap_bin-w.ensures.uses) c.index_mut-process.result.now c.index_mut-process.ensures.value c.heap_bin-w.result (subst V c.room-room.ensures c.heap_bin-w.ensures.built)
+    (subst U c.room-room.ensures c.heap_bin-w.ensures.uses) c.process_mut-process.result.now c.process_mut-process.ensures.value c.heap_bin-w.result (subst V c.room-room.ensures c.heap_bin-w.ensures.built)
 
 pub returns-clause-asks : goal.returns-clause-asks
 returns-clause-asks c =

@@ -25,8 +25,8 @@ returns-then-not-make_room-clause-becomes c = fun-lacks c.args.self.now c.requir
 pub returns-then-not-make_room-clause-holds : goal.returns-then-not-make_room-clause-holds
 returns-then-not-make_room-clause-holds c = lacks-holds c.args.self.now c.requires.holds c.args.seat c.requires.sits c.args.r c.args.name c.args.arity c.args.env.now c.if-arity-gt-MOST_ARITY.false c.requires.env (10 + length c.args.env.now) refl c.make_room.new.self c.make_room.result c.make_room.ensures c.if-not-make_room.true
 
-pub index-requires : goal.index-requires
-index-requires c = term-within c.args.self.now c.requires.holds c.args.seat c.requires.sits (10 + length c.args.env.now) c.make_room.new.self c.make_room.result c.make_room.ensures
+pub process-requires : goal.process-requires
+process-requires c = term-within c.args.self.now c.requires.holds c.args.seat c.requires.sits (10 + length c.args.env.now) c.make_room.new.self c.make_room.result c.make_room.ensures
 
 pub add_fun-w-requires-clause-named : goal.add_fun-w-requires-clause-named
 add_fun-w-requires-clause-named c = named-there c.args.self.now c.requires.holds c.args.seat c.requires.sits c.args.r c.args.name c.args.arity c.args.env.now c.if-arity-gt-MOST_ARITY.false c.requires.env (10 + length c.args.env.now) refl c.make_room.new.self c.make_room.result c.make_room.ensures
@@ -45,30 +45,30 @@ add_fun-w-requires-clause-creator c =
       c.requires.calls,
     )
 
-pub index_mut-process-requires : goal.index_mut-process-requires
-index_mut-process-requires c =
+pub process_mut-process-requires : goal.process_mut-process-requires
+process_mut-process-requires c =
     gained-within c.args.self.now c.requires.holds c.args.seat c.requires.sits (10 + length c.args.env.now) c.make_room.new.self c.make_room.result c.make_room.ensures c.add_fun-w.new.self c.add_fun-w.ensures.adds
 
 pub returns-clause-becomes : goal.returns-clause-becomes
 returns-clause-becomes c =
-    let words : take (length c.args.env.now) c.deref.result.now ≡ map (λ z. held_word c.index.result.now.regs z) c.args.env.now =
+    let words : take (length c.args.env.now) c.deref.result.now ≡ map (λ z. held_word c.process.result.now.regs z) c.args.env.now =
     ap (λ z. take (length c.args.env.now) z) c.deref.ensures.value ∙ c.gather.ensures.words in
-    let g : ℕ → One = λ z. gained c.args.self.now (with_reg c.add_fun-w.new.self c.args.seat.row c.index_mut-process.result.now c.args.r.0 c.add_fun-w.result) c.gather.new.row c.args.self.now.serials z in
+    let g : ℕ → One = λ z. gained c.args.self.now (with_reg c.add_fun-w.new.self c.args.seat.row c.process_mut-process.result.now c.args.r.0 c.add_fun-w.result) c.gather.new.row c.args.self.now.serials z in
     let P : ℕ → Type 0 = λ z. (s : State) (terms : Terms) (names : List (List ℕ)) → OneStands c.args.self.now s → HasEnv names c.args.name c.args.env.now terms
     → Becomes {A = Unit {0}} may_of_tight (words_of c.args.self.now) s (said (Process c.args.seat.pid (verb.Fun c.args.r c.args.name c.args.arity)) terms names) (Ok tt) (OneStands (g z)) in
     subst P (sym c.above-self.ensures) (fun-stands c.args.self.now c.requires.holds c.args.seat c.requires.sits c.args.r c.args.name c.args.arity c.args.env.now c.if-arity-gt-MOST_ARITY.false c.requires.env (10 + length c.args.env.now) refl c.make_room.new.self c.make_room.result c.make_room.ensures
-    c.gather.new.row c.gather.ensures.len c.index.result.now c.index.ensures (take (length c.args.env.now) c.deref.result.now) words
-    c.add_fun-w.new.self c.add_fun-w.ensures.adds c.index_mut-process.result.now c.index_mut-process.ensures.value c.add_fun-w.result c.add_fun-w.ensures.gets)
+    c.gather.new.row c.gather.ensures.len c.process.result.now c.process.ensures (take (length c.args.env.now) c.deref.result.now) words
+    c.add_fun-w.new.self c.add_fun-w.ensures.adds c.process_mut-process.result.now c.process_mut-process.ensures.value c.add_fun-w.result c.add_fun-w.ensures.gets)
 
 pub returns-clause-holds : goal.returns-clause-holds
 returns-clause-holds c =
-    let words : take (length c.args.env.now) c.deref.result.now ≡ map (λ z. held_word c.index.result.now.regs z) c.args.env.now =
+    let words : take (length c.args.env.now) c.deref.result.now ≡ map (λ z. held_word c.process.result.now.regs z) c.args.env.now =
     ap (λ z. take (length c.args.env.now) z) c.deref.ensures.value ∙ c.gather.ensures.words in
-    let g : ℕ → One = λ z. gained c.args.self.now (with_reg c.add_fun-w.new.self c.args.seat.row c.index_mut-process.result.now c.args.r.0 c.add_fun-w.result) c.gather.new.row c.args.self.now.serials z in
+    let g : ℕ → One = λ z. gained c.args.self.now (with_reg c.add_fun-w.new.self c.args.seat.row c.process_mut-process.result.now c.args.r.0 c.add_fun-w.result) c.gather.new.row c.args.self.now.serials z in
     let P : ℕ → Type 0 = λ z. Holds (g z) in
     subst P (sym c.above-self.ensures) (fun-holds c.args.self.now c.requires.holds c.args.seat c.requires.sits c.args.r c.args.name c.args.arity c.args.env.now c.if-arity-gt-MOST_ARITY.false c.requires.env (10 + length c.args.env.now) refl c.make_room.new.self c.make_room.result c.make_room.ensures
-    c.gather.new.row c.gather.ensures.len c.index.result.now c.index.ensures (take (length c.args.env.now) c.deref.result.now) words
-    c.add_fun-w.new.self c.add_fun-w.ensures.adds c.index_mut-process.result.now c.index_mut-process.ensures.value c.add_fun-w.result c.add_fun-w.ensures.gets)
+    c.gather.new.row c.gather.ensures.len c.process.result.now c.process.ensures (take (length c.args.env.now) c.deref.result.now) words
+    c.add_fun-w.new.self c.add_fun-w.ensures.adds c.process_mut-process.result.now c.process_mut-process.ensures.value c.add_fun-w.result c.add_fun-w.ensures.gets)
 
 pub returns-then-not-make_room-clause-asks : goal.returns-then-not-make_room-clause-asks
 returns-then-not-make_room-clause-asks c =

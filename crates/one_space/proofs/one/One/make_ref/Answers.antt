@@ -13,28 +13,28 @@ pub returns-then-not-make_room-clause-does : goal.returns-then-not-make_room-cla
 returns-then-not-make_room-clause-does c =
     ref-refused c.args.self.now c.requires.holds c.args.seat c.requires.sits c.args.r c.make_room.new.self c.make_room.result c.make_room.ensures c.if-not-make_room.true
 
-pub index-requires : goal.index-requires
-index-requires c = term-within c.args.self.now c.requires.holds c.args.seat c.requires.sits 3 c.make_room.new.self c.make_room.result c.make_room.ensures
+pub process-requires : goal.process-requires
+process-requires c = term-within c.args.self.now c.requires.holds c.args.seat c.requires.sits 3 c.make_room.new.self c.make_room.result c.make_room.ensures
 
 pub overflow_add-count : goal.overflow_add-count
 overflow_add-count c =
     omega (
       arith,
       c.requires.calls,
-      refs-few c.args.self.now c.requires.holds c.args.seat c.requires.sits c.args.r c.make_room.new.self c.make_room.result c.make_room.ensures c.index.result.now c.index.ensures,
+      refs-few c.args.self.now c.requires.holds c.args.seat c.requires.sits c.args.r c.make_room.new.self c.make_room.result c.make_room.ensures c.process.result.now c.process.ensures,
     )
 
-pub index_mut-process-requires : goal.index_mut-process-requires
-index_mut-process-requires c = term-within c.args.self.now c.requires.holds c.args.seat c.requires.sits 3 c.make_room.new.self c.make_room.result c.make_room.ensures
+pub process_mut-process-requires : goal.process_mut-process-requires
+process_mut-process-requires c = term-within c.args.self.now c.requires.holds c.args.seat c.requires.sits 3 c.make_room.new.self c.make_room.result c.make_room.ensures
 
 pub returns-clause-does : goal.returns-clause-does
 returns-clause-does c =
     let U : Room → Type 0 = λ y. Uses 3 y c.reference-w.new.room c.make_room.new.self.mem c.reference-w.new.mem in
     let V : Room → Type 0 = λ y. (k : ℕ → ℕ → Bool) (shared : List (List ℕ)) → IsFree k y.top (y.top + 3)
-    → Built k y.top 3 c.make_room.new.self.mem c.reference-w.new.mem shared c.reference-w.result (Ref c.args.seat.pid (c.index.result.now.refs + 1)) in
+    → Built k y.top 3 c.make_room.new.self.mem c.reference-w.new.mem shared c.reference-w.result (Ref c.args.seat.pid (c.process.result.now.refs + 1)) in
     ref-does c.args.self.now c.requires.holds c.args.seat c.requires.sits c.args.r c.make_room.new.self c.make_room.result c.make_room.ensures c.if-not-make_room.false c.reference-w.new.mem
-    c.reference-w.new.room (subst U c.room-room.ensures c.reference-w.ensures.uses) c.index.result.now c.index.ensures c.index_mut-process.result.now c.index_mut-process.ensures.value
-    c.reference-w.result (c.index.result.now.refs + 1) refl (subst V c.room-room.ensures c.reference-w.ensures.built)
+    c.reference-w.new.room (subst U c.room-room.ensures c.reference-w.ensures.uses) c.process.result.now c.process.ensures c.process_mut-process.result.now c.process_mut-process.ensures.value
+    c.reference-w.result (c.process.result.now.refs + 1) refl (subst V c.room-room.ensures c.reference-w.ensures.built)
 
 pub returns-then-not-make_room-clause-asks : goal.returns-then-not-make_room-clause-asks
 returns-then-not-make_room-clause-asks c = asks-lacks 3 3 c.args.self.now c.make_room.new.self c.make_room.result c.make_room.ensures refl c.if-not-make_room.true 3

@@ -21,20 +21,20 @@ use Rattle.one_space.proofs.one.One.map_put.Goals as goal
 
 pub place_in-requires : goal.place_in-requires
 place_in-requires c =
-    can-seek c.args.self.now c.requires.holds c.args.seat c.requires.sits c.index.result.now c.index.ensures c.args.names.now c.requires.named c.args.s.0 c.args.k.0 c.requires.map c.requires.key
+    can-seek c.args.self.now c.requires.holds c.args.seat c.requires.sits c.process.result.now c.process.ensures c.args.names.now c.requires.named c.args.s.0 c.args.k.0 c.requires.map c.requires.key
 
 pub returns-in-Err-clause-does : goal.returns-in-Err-clause-does
 returns-in-Err-clause-does c =
     let P : Refusal → Type 0 = λ z. DoesBy {A = Unit {0}} c.args.names.now (OfProcess c.args.seat.pid (verb.MapPut c.args.r c.args.s c.args.k c.args.v)) c.args.self.now c.args.self.now (Err z) in
     subst P (sym c.refusal_of_put.ensures) (put-refused c.args.self.now c.requires.holds c.args.seat c.requires.sits c.args.r c.args.s c.args.k c.args.v c.requires.map c.requires.key
-    c.requires.value c.index.result.now c.index.ensures
+    c.requires.value c.process.result.now c.process.ensures
     c.args.names.now c.place_in.result c.place_in.ensures c.in-Err.stop c.in-Err.is)
 
 pub overflow_mul-grow : goal.overflow_mul-grow
 overflow_mul-grow c =
     omega (
       arith,
-      keys-few c.args.self.now c.requires.holds c.args.seat c.requires.sits c.args.r c.args.s c.args.k c.args.v c.requires.map c.requires.key c.requires.value c.index.result.now c.index.ensures
+      keys-few c.args.self.now c.requires.holds c.args.seat c.requires.sits c.args.r c.args.s c.args.k c.args.v c.requires.map c.requires.key c.requires.value c.process.result.now c.process.ensures
           c.args.names.now c.place_in.result c.place_in.ensures c.in-Ok.place c.in-Ok.is,
     )
 
@@ -42,13 +42,13 @@ pub overflow_add-grow : goal.overflow_add-grow
 overflow_add-grow c =
     omega (
       arith,
-      keys-few c.args.self.now c.requires.holds c.args.seat c.requires.sits c.args.r c.args.s c.args.k c.args.v c.requires.map c.requires.key c.requires.value c.index.result.now c.index.ensures
+      keys-few c.args.self.now c.requires.holds c.args.seat c.requires.sits c.args.r c.args.s c.args.k c.args.v c.requires.map c.requires.key c.requires.value c.process.result.now c.process.ensures
           c.args.names.now c.place_in.result c.place_in.ensures c.in-Ok.place c.in-Ok.is,
     )
 
 pub returns-then-not-make_room-clause-does : goal.returns-then-not-make_room-clause-does
 returns-then-not-make_room-clause-does c =
-    put-lacks c.args.self.now c.requires.holds c.args.seat c.requires.sits c.args.r c.args.s c.args.k c.args.v c.requires.map c.requires.key c.requires.value c.index.result.now c.index.ensures
+    put-lacks c.args.self.now c.requires.holds c.args.seat c.requires.sits c.args.r c.args.s c.args.k c.args.v c.requires.map c.requires.key c.requires.value c.process.result.now c.process.ensures
     c.args.names.now c.place_in.result c.place_in.ensures c.in-Ok.place c.in-Ok.is _ refl c.make_room.new.self c.make_room.result c.make_room.ensures c.if-not-make_room.true
 
 pub returns-then-not-make_room-clause-asks : goal.returns-then-not-make_room-clause-asks
@@ -56,36 +56,36 @@ returns-then-not-make_room-clause-asks c = λ s q o found. record {
   early = λ e. absurd cc;
   asks = λ e.
       asks-lacks (6 + 2 * c.in-Ok.place.keys) (6 + 2 * keys_in (register c.args.s.0 q)) c.args.self.now c.make_room.new.self c.make_room.result c.make_room.ensures
-      (put-asked c.args.self.now c.requires.holds c.args.seat c.requires.sits c.args.r c.args.s c.args.k c.args.v c.requires.map c.requires.key c.requires.value c.index.result.now c.index.ensures
+      (put-asked c.args.self.now c.requires.holds c.args.seat c.requires.sits c.args.r c.args.s c.args.k c.args.v c.requires.map c.requires.key c.requires.value c.process.result.now c.process.ensures
       c.args.names.now c.place_in.result c.place_in.ensures c.in-Ok.place c.in-Ok.is s o q found) c.if-not-make_room.true (6 + 2 * c.in-Ok.place.keys);
 }
 
-pub index-requires-2 : goal.index-requires-2
-index-requires-2 c = term-within c.args.self.now c.requires.holds c.args.seat c.requires.sits (6 + 2 * c.in-Ok.place.keys) c.make_room.new.self c.make_room.result c.make_room.ensures
+pub process-requires-2 : goal.process-requires-2
+process-requires-2 c = term-within c.args.self.now c.requires.holds c.args.seat c.requires.sits (6 + 2 * c.in-Ok.place.keys) c.make_room.new.self c.make_room.result c.make_room.ensures
 
 pub map_with-w-requires-clause-map : goal.map_with-w-requires-clause-map
 map_with-w-requires-clause-map c =
-    let P : Room → Type 0 = λ y. HasPlace y c.make_room.new.self.mem (get_or c.index-2.result.now.regs c.args.s.0 0) c.in-Ok.place.spot in
+    let P : Room → Type 0 = λ y. HasPlace y c.make_room.new.self.mem (get_or c.process-2.result.now.regs c.args.s.0 0) c.in-Ok.place.spot in
     subst P (sym c.room-room.ensures)
-    (put-place c.args.self.now c.requires.holds c.args.seat c.requires.sits c.args.r c.args.s c.args.k c.args.v c.requires.map c.requires.key c.requires.value c.index.result.now c.index.ensures
-    c.args.names.now c.place_in.result c.place_in.ensures c.in-Ok.place c.in-Ok.is _ refl c.make_room.new.self c.make_room.result c.make_room.ensures c.index-2.result.now
-    c.index-2.ensures c.if-not-make_room.false)
+    (put-place c.args.self.now c.requires.holds c.args.seat c.requires.sits c.args.r c.args.s c.args.k c.args.v c.requires.map c.requires.key c.requires.value c.process.result.now c.process.ensures
+    c.args.names.now c.place_in.result c.place_in.ensures c.in-Ok.place c.in-Ok.is _ refl c.make_room.new.self c.make_room.result c.make_room.ensures c.process-2.result.now
+    c.process-2.ensures c.if-not-make_room.false)
 
-pub index_mut-process-requires : goal.index_mut-process-requires
-index_mut-process-requires c = term-within c.args.self.now c.requires.holds c.args.seat c.requires.sits (6 + 2 * c.in-Ok.place.keys) c.make_room.new.self c.make_room.result c.make_room.ensures
+pub process_mut-process-requires : goal.process_mut-process-requires
+process_mut-process-requires c = term-within c.args.self.now c.requires.holds c.args.seat c.requires.sits (6 + 2 * c.in-Ok.place.keys) c.make_room.new.self c.make_room.result c.make_room.ensures
 
 pub returns-clause-does : goal.returns-clause-does
 returns-clause-does c =
-    let U : Room → Type 0 = λ y. (d : ℕ → ℕ → Bool) (shared : List (List ℕ)) (ps : Pairs) → Stands d shared c.make_room.new.self.mem (get_or c.index-2.result.now.regs c.args.s.0 0) (Map ps)
+    let U : Room → Type 0 = λ y. (d : ℕ → ℕ → Bool) (shared : List (List ℕ)) (ps : Pairs) → Stands d shared c.make_room.new.self.mem (get_or c.process-2.result.now.regs c.args.s.0 0) (Map ps)
     → Uses (4 + 2 * count_placed c.in-Ok.place.spot (pairs_len ps)) y c.map_with-w.new.room c.make_room.new.self.mem c.map_with-w.new.mem in
     let V : Room → Type 0 = λ y. (d : ℕ → ℕ → Bool) (shared : List (List ℕ)) (ps : Pairs) (t u : Tree) → IsFree d y.top (y.top + (4 + 2 * count_placed c.in-Ok.place.spot (pairs_len ps)))
-    → Stands d shared c.make_room.new.self.mem (get_or c.index-2.result.now.regs c.args.s.0 0) (Map ps) → Stands d shared c.make_room.new.self.mem (get_or c.index-2.result.now.regs c.args.k.0 0) t
-    → Stands d shared c.make_room.new.self.mem (get_or c.index-2.result.now.regs c.args.v.0 0) u
+    → Stands d shared c.make_room.new.self.mem (get_or c.process-2.result.now.regs c.args.s.0 0) (Map ps) → Stands d shared c.make_room.new.self.mem (get_or c.process-2.result.now.regs c.args.k.0 0) t
+    → Stands d shared c.make_room.new.self.mem (get_or c.process-2.result.now.regs c.args.v.0 0) u
     → Built d y.top (4 + 2 * count_placed c.in-Ok.place.spot (pairs_len ps)) c.make_room.new.self.mem c.map_with-w.new.mem shared c.map_with-w.result (Map (placed c.in-Ok.place.spot t u ps)) in
-    put-does c.args.self.now c.requires.holds c.args.seat c.requires.sits c.args.r c.args.s c.args.k c.args.v c.requires.map c.requires.key c.requires.value c.index.result.now c.index.ensures
-    c.args.names.now c.place_in.result c.place_in.ensures c.in-Ok.place c.in-Ok.is _ refl c.make_room.new.self c.make_room.result c.make_room.ensures c.index-2.result.now
-    c.index-2.ensures c.if-not-make_room.false
-    c.map_with-w.new.mem c.map_with-w.new.room c.map_with-w.result c.index_mut-process.result.now c.index_mut-process.ensures.value (subst U c.room-room.ensures c.map_with-w.ensures.uses)
+    put-does c.args.self.now c.requires.holds c.args.seat c.requires.sits c.args.r c.args.s c.args.k c.args.v c.requires.map c.requires.key c.requires.value c.process.result.now c.process.ensures
+    c.args.names.now c.place_in.result c.place_in.ensures c.in-Ok.place c.in-Ok.is _ refl c.make_room.new.self c.make_room.result c.make_room.ensures c.process-2.result.now
+    c.process-2.ensures c.if-not-make_room.false
+    c.map_with-w.new.mem c.map_with-w.new.room c.map_with-w.result c.process_mut-process.result.now c.process_mut-process.ensures.value (subst U c.room-room.ensures c.map_with-w.ensures.uses)
     (subst V c.room-room.ensures c.map_with-w.ensures.built)
 
 pub returns-clause-asks : goal.returns-clause-asks
@@ -93,6 +93,6 @@ returns-clause-asks c = λ s q o found. record {
   early = λ e. absurd cc;
   asks = λ e.
       asks-grown (6 + 2 * c.in-Ok.place.keys) (6 + 2 * keys_in (register c.args.s.0 q)) c.args.self.now c.make_room.new.self c.make_room.result c.make_room.ensures
-      (put-asked c.args.self.now c.requires.holds c.args.seat c.requires.sits c.args.r c.args.s c.args.k c.args.v c.requires.map c.requires.key c.requires.value c.index.result.now c.index.ensures
+      (put-asked c.args.self.now c.requires.holds c.args.seat c.requires.sits c.args.r c.args.s c.args.k c.args.v c.requires.map c.requires.key c.requires.value c.process.result.now c.process.ensures
       c.args.names.now c.place_in.result c.place_in.ensures c.in-Ok.place c.in-Ok.is s o q found) c.if-not-make_room.false _ refl tt;
 }

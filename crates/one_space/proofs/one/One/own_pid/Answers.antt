@@ -15,7 +15,7 @@ pid-requires c =
 
 pub returns-clause-does : goal.returns-clause-does
 returns-clause-does c =
-    own-does c.args.self.now c.requires.holds c.args.seat c.requires.sits c.args.r c.index_mut-process.result.now c.index_mut-process.ensures.value c.pid.result c.pid.ensures
+    own-does c.args.self.now c.requires.holds c.args.seat c.requires.sits c.args.r c.process_mut-process.result.now c.process_mut-process.ensures.value c.pid.result c.pid.ensures
     (omega (
       arith,
       seat-below c.args.self.now.halves.procs.items c.args.seat.row c.args.self.now.next no_row c.requires.sits.within c.requires.holds.counts.below,

@@ -7,8 +7,8 @@ pub returns-then-not-make_room-clause-does : goal.returns-then-not-make_room-cla
 returns-then-not-make_room-clause-does c =
     push-refused c.args.self.now c.requires.holds c.args.seat c.requires.sits c.args.s c.make_room.new.self c.make_room.result c.make_room.ensures c.if-not-make_room.true
 
-pub index-requires : goal.index-requires
-index-requires c =
+pub process-requires : goal.process-requires
+process-requires c =
     push-within c.args.self.now c.requires.holds c.args.seat c.requires.sits c.args.s c.make_room.new.self c.make_room.result c.make_room.ensures
 
 pub overflow_add-process : goal.overflow_add-process
@@ -17,18 +17,18 @@ overflow_add-process c =
       arith,
       c.len-len.ensures.most,
       push-fits c.args.self.now c.requires.holds c.args.seat c.requires.sits c.args.s c.make_room.new.self c.make_room.result c.make_room.ensures
-          c.index.result.now c.index.ensures,
+          c.process.result.now c.process.ensures,
     )
 
-pub index_mut-requires : goal.index_mut-requires
-index_mut-requires c =
+pub process_mut-requires : goal.process_mut-requires
+process_mut-requires c =
     push-within c.args.self.now c.requires.holds c.args.seat c.requires.sits c.args.s c.make_room.new.self c.make_room.result c.make_room.ensures
 
 pub returns-clause-does : goal.returns-clause-does
 returns-clause-does c =
     push-does c.args.self.now c.requires.holds c.args.seat c.requires.sits c.args.s c.make_room.new.self c.make_room.result c.make_room.ensures
-    c.if-not-make_room.false c.index.result.now c.index.ensures c.requires.register c.set-2.new.self
-    (c.set-2.ensures ∙ ap (λ z. set z (c.make_room.new.self.low - 2 + 1) c.index.result.now.stack) c.set.ensures)
+    c.if-not-make_room.false c.process.result.now c.process.ensures c.requires.register c.set-2.new.self
+    (c.set-2.ensures ∙ ap (λ z. set z (c.make_room.new.self.low - 2 + 1) c.process.result.now.stack) c.set.ensures)
 
 pub returns-then-not-make_room-clause-asks : goal.returns-then-not-make_room-clause-asks
 returns-then-not-make_room-clause-asks c = asks-lacks 2 2 c.args.self.now c.make_room.new.self c.make_room.result c.make_room.ensures refl c.if-not-make_room.true 2

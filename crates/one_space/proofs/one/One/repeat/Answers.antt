@@ -21,22 +21,22 @@ returns-then-not-make_room-clause-does c =
     repeat-lacks c.args.self.now c.requires.holds c.args.seat c.requires.sits c.args.r c.args.shape c.args.n c.args.s c.if-n-gt-MOST_PLACES.false c.repeat_words-grow.result c.repeat_words-grow.ensures
     c.make_room.new.self c.make_room.result c.make_room.ensures c.if-not-make_room.true
 
-pub index-requires : goal.index-requires
-index-requires c = term-within c.args.self.now c.requires.holds c.args.seat c.requires.sits c.repeat_words-grow.result c.make_room.new.self c.make_room.result c.make_room.ensures
+pub process-requires : goal.process-requires
+process-requires c = term-within c.args.self.now c.requires.holds c.args.seat c.requires.sits c.repeat_words-grow.result c.make_room.new.self c.make_room.result c.make_room.ensures
 
-pub index_mut-process-requires : goal.index_mut-process-requires
-index_mut-process-requires c = term-within c.args.self.now c.requires.holds c.args.seat c.requires.sits c.repeat_words-grow.result c.make_room.new.self c.make_room.result c.make_room.ensures
+pub process_mut-process-requires : goal.process_mut-process-requires
+process_mut-process-requires c = term-within c.args.self.now c.requires.holds c.args.seat c.requires.sits c.repeat_words-grow.result c.make_room.new.self c.make_room.result c.make_room.ensures
 
 pub returns-clause-does : goal.returns-clause-does
 returns-clause-does c =
     let n : ℕ = repeat_words c.args.shape c.args.n in
     let U : Room → Type 0 = λ y. Uses n y c.repeated-w.new.room c.make_room.new.self.mem c.repeated-w.new.mem in
     let V : Room → Type 0 = λ y. (k : ℕ → ℕ → Bool) (shared : List (List ℕ)) (t : Tree) → IsFree k y.top (y.top + n)
-    → Stands k shared c.make_room.new.self.mem (get_or c.index.result.now.regs c.args.s.0 0) t
+    → Stands k shared c.make_room.new.self.mem (get_or c.process.result.now.regs c.args.s.0 0) t
     → Built k y.top n c.make_room.new.self.mem c.repeated-w.new.mem shared c.repeated-w.result (repeated c.args.shape c.args.n t) in
     repeat-does c.args.self.now c.requires.holds c.args.seat c.requires.sits c.args.r c.args.shape c.args.n c.args.s c.if-n-gt-MOST_PLACES.false c.repeat_words-grow.result c.repeat_words-grow.ensures
     c.make_room.new.self c.make_room.result c.make_room.ensures c.if-not-make_room.false c.repeated-w.new.mem c.repeated-w.new.room (subst U c.room-room.ensures c.repeated-w.ensures.uses)
-    c.index.result.now c.index.ensures c.index_mut-process.result.now c.index_mut-process.ensures.value c.requires.other c.repeated-w.result (subst V c.room-room.ensures c.repeated-w.ensures.built)
+    c.process.result.now c.process.ensures c.process_mut-process.result.now c.process_mut-process.ensures.value c.requires.other c.repeated-w.result (subst V c.room-room.ensures c.repeated-w.ensures.built)
 
 pub returns-then-not-make_room-clause-asks : goal.returns-then-not-make_room-clause-asks
 returns-then-not-make_room-clause-asks c =

@@ -1,6 +1,8 @@
-use Rattle.std.proofs.Common.{refl, arith}
+use Rattle.std.proofs.Common.{Option, length, refl, ap, arith}
+use Rattle.std.specs.Option.{option_to_list}
+use Rattle.two_halves.specs.declared.table.Proc.{Proc}
 use Rattle.one_space.proofs.Asking.{asks-grown, asks-lacks}
-use Rattle.one_space.proofs.Growing.{room-for-one, spawn-does, spawn-refused, spawn-tight}
+use Rattle.one_space.proofs.Growing.{box-for-one, room-for-one, spawn-does, spawn-refused, spawn-tight}
 use Rattle.one_space.proofs.one.One.spawn.Goals as goal
 
 pub returns-then-len-ge-MOST_PROCESSES-clause-does : goal.returns-then-len-ge-MOST_PROCESSES-clause-does
@@ -21,7 +23,11 @@ pub returns-clause-does : goal.returns-clause-does
 returns-clause-does c =
     spawn-does c.args.self.now c.requires.holds (omega (arith, c.len.ensures, c.args.self.now.halves.procs.ok.0, c.if-len-ge-MOST_PROCESSES.false))
     c.make_room.new.self c.make_room.result c.make_room.ensures c.push_reserved.new.self c.fresh.result c.push_reserved.ensures.items c.push_reserved.ensures.capacity c.fresh.ensures.number
-    c.fresh.ensures.regs c.fresh.ensures.depth c.fresh.ensures.waiting c.fresh.ensures.refs
+    c.fresh.ensures.regs c.fresh.ensures.depth c.fresh.ensures.waiting c.fresh.ensures.refs c.pop.new.self
+    (omega (arith, c.pop.ensures.len, ap (λ (o : Option Proc). length (option_to_list o)) c.in-Some.is,
+    box-for-one c.args.self.now c.requires.holds (omega (arith, c.len.ensures, c.args.self.now.halves.procs.ok.0, c.if-len-ge-MOST_PROCESSES.false))
+    c.make_room.new.self c.make_room.result c.make_room.ensures))
+    c.pop.ensures.capacity
 
 pub returns-then-not-make_room-clause-asks : goal.returns-then-not-make_room-clause-asks
 returns-then-not-make_room-clause-asks c = λ other. asks-lacks 14 14 c.args.self.now c.make_room.new.self c.make_room.result c.make_room.ensures refl c.if-not-make_room.true 16

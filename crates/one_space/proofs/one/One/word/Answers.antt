@@ -8,8 +8,8 @@ returns c = λ s o.
     let b : One = c.args.self.now in
     let counts = c.requires.holds.counts in
     record {
-      process = seated b counts c.args.seat c.requires.sits c.index.result.now c.index.ensures s o;
+      process = seated b counts c.args.seat c.requires.sits c.process.result.now c.process.ensures s o;
       found = found-there b s o counts c.args.seat c.requires.sits;
-      standing = word-there b counts c.args.seat c.requires.sits c.index.result.now c.index.ensures s o c.args.r.0 c.requires.register;
-      named = (held-there b counts c.args.seat c.requires.sits c.index.result.now c.index.ensures s o c.args.r.0 c.requires.register).names;
+      standing = word-there b counts c.args.seat c.requires.sits c.process.result.now c.process.ensures s o c.args.r.0 c.requires.register;
+      named = (held-there b counts c.args.seat c.requires.sits c.process.result.now c.process.ensures s o c.args.r.0 c.requires.register).names;
     }

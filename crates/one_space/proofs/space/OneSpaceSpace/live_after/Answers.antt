@@ -21,10 +21,10 @@ returns-then-above-len-clause-means c = λ s h.
     let within : c.first_above-above.result < length c.self.inside.one.halves.procs.items = omega (arith, c.self.inside.one.halves.procs.ok, c.len.ensures, c.if-above-len.true) in
     let P : List Proc → Type 0 = λ x. c.first_above-above.result < length x → c.args.pid < number_at number_in x c.first_above-above.result in
     let Q : List Proc → Type 0 = λ x. (k : ℕ) → k < c.first_above-above.result → number_at number_in x k ≤ c.args.pid in
-    let R : List ℕ → Type 0 = λ x. Some c.index.result.now.number ≡ find (λ n. nat_lt c.args.pid n) x in
+    let R : List ℕ → Type 0 = λ x. Some c.process.result.now.number ≡ find (λ n. nat_lt c.args.pid n) x in
     let up = subst P c.deref.ensures.value (λ less. c.first_above-above.ensures.high c.first_above-above.result (omega arith) less) within in
     let low = subst Q c.deref.ensures.value (λ k less. c.first_above-above.ensures.low k less) in
-    let here = number-read number_in c.self.inside.one.halves.procs.items c.first_above-above.result c.index.result.now within c.index.ensures in
+    let here = number-read number_in c.self.inside.one.halves.procs.items c.first_above-above.result c.process.result.now within c.process.ensures in
     subst R (sym same) (sym (find-above (numbers_of c.self.inside.one) c.first_above-above.result c.args.pid (omega (arith, within, numbers-len number_in c.self.inside.one.halves.procs.items)) low
     up ∙ ap Some here))
 
