@@ -7,6 +7,7 @@ mod gathering;
 mod listing;
 mod new_calls;
 mod one;
+mod sending;
 mod space;
 mod terms;
 mod told;
