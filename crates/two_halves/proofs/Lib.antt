@@ -22,3 +22,7 @@ pub mod Joining
 mod Adding
 mod Linking
 mod Queuing
+mod Following
+mod Entering
+mod Copying
+mod Sending
