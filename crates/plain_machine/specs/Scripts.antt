@@ -84,7 +84,11 @@ part-of_part = refl
 
 -- Process 1 holds a part of the one shared binary, and all was swept.
 abbrev pub part_held : State
-part_held = record first_state { processes = with_register 1 (tree.Part (tree.Shared 1) 98 2) (fresh_process 1) ∷ []; shared = replicate 100 9 ∷ []; swept = true }
+part_held = record first_state {
+  processes = with_register 1 (tree.Part (tree.Shared 1) 98 2) (fresh_process 1) ∷ [];
+  shared = replicate 100 9 ∷ [];
+  swept = true;
+}
 
 one-is-one : 1 ≤ 1
 one-is-one = suc-le-suc zero-le
@@ -114,7 +118,8 @@ set-binaries = refl
 
 -- A fun with two registers as its environment.
 pub fun-and_env : answers_to first_state (
-    OfProcess 1 word.Fun (0, (codes "f", (2, (0 ∷ 1 ∷ [], tt)))) ∷ print 0 ∷ flat 0 ∷ OfProcess 1 word.Env (1, (2, (0, tt))) ∷ OfProcess 1 word.Env (1, (3, (0, tt)))
+    OfProcess 1 word.Fun (0, (codes "f", (2, (0 ∷ 1 ∷ [], tt)))) ∷ print 0 ∷ flat 0
+    ∷ OfProcess 1 word.Env (1, (2, (0, tt))) ∷ OfProcess 1 word.Env (1, (3, (0, tt)))
     ∷ OfProcess 1 word.Fun (2, (codes "g", (256, ([], tt)))) ∷ sweep ∷ counts ∷ [])
     ≡ codes "ok" ∷ codes "#Fun<f/2>" ∷ codes "8" ∷ codes "ok" ∷ codes "error badarg" ∷ codes "error badarg" ∷ codes "ok" ∷ codes "a map" ∷ []
 unfolding digits
@@ -142,5 +147,6 @@ sent-to_itself = refl
 -- Messages wait in the order of sending and leave in it; each stays what it was when it was sent.
 pub messages-in_order : answers_to first_state (set 0 (Atom (codes "a")) ∷ send 0 (to.Number 1) ∷ set 0 (Tuple (Held 0 ▹ end)) ∷ OfProcess 1 word.Own (1, tt)
     ∷ send 0 (to.Held (record { 0 = 1 })) ∷ queue ∷ recv 0 ∷ print 0 ∷ queue ∷ recv 0 ∷ print 0 ∷ queue ∷ [])
-    ≡ codes "ok" ∷ codes "ok" ∷ codes "ok" ∷ codes "ok" ∷ codes "ok" ∷ codes "[a,{a}]" ∷ codes "ok" ∷ codes "a" ∷ codes "[{a}]" ∷ codes "ok" ∷ codes "{a}" ∷ codes "[]" ∷ []
+    ≡ codes "ok" ∷ codes "ok" ∷ codes "ok" ∷ codes "ok" ∷ codes "ok" ∷ codes "[a,{a}]"
+    ∷ codes "ok" ∷ codes "a" ∷ codes "[{a}]" ∷ codes "ok" ∷ codes "{a}" ∷ codes "[]" ∷ []
 messages-in_order = refl

@@ -139,7 +139,8 @@ module _ (alive : Bool) (items : List Item) (s : State) (seat : Seat) (h : Trial
       set-gets false true = refl
       set-gets false false = refl
 
-  pub build-holds : (r : Reg) (t : Term) (names : List (List ℕ)) (code : List Item) (d x : Item) → IsTerm names code t → length code ≤ LONGEST_LINE → x ≡ put_item items (get_or code 0 d) → weight code ≤ 1
+  pub build-holds : (r : Reg) (t : Term) (names : List (List ℕ)) (code : List Item) (d x : Item) → IsTerm names code t → length code ≤ LONGEST_LINE → x ≡ put_item items (get_or code 0 d)
+      → weight code ≤ 1
       → Becomes {A = Unit {0}} (λ words s p. gets_to_space p.command (step s p)) 0 s (said (OfProcess seat.pid (verb.Set r)) (one_term t) names) (Ok tt) (TrialStands alive (set items r.0 x))
   build-holds r t names code d x is few put light =
       let none : build_words t ≡ 0 = omega (arith, weight-term names t (code-few names t code is few), ap weight is.items) in
@@ -200,7 +201,8 @@ module _ (alive : Bool) (items : List Item) (s : State) (seat : Seat) (h : Trial
       → Becomes {A = Unit {0}} (λ words s p. gets_to_space p.command (step s p)) 0 s (said (OfProcess seat.pid (verb.Fun r name arity)) terms names) (Err (refusal.NoSpace n)) (TrialStands alive items)
   fun-lacks r name arity n env terms names e count few =
       lacks (verb.Fun r name arity) terms names n
-      (omega (arith, count, ap terms_len e.written, held-count e.registers, ap (λ (xs : List Item). length xs) e.items, held-items e.registers)) (gets (nat_lt MOST_ARITY arity) (lt-false MOST_ARITY arity few))
+      (omega (arith, count, ap terms_len e.written, held-count e.registers, ap (λ (xs : List Item). length xs) e.items, held-items e.registers))
+      (gets (nat_lt MOST_ARITY arity) (lt-false MOST_ARITY arity few))
     where
       gets : (b : Bool) → b ≡ false → gets_to_space (OfProcess seat.pid (verb.Fun r name arity))
           (fun_if b (Fun name arity (one_process items).number (env_of s (said (OfProcess seat.pid (verb.Fun r name arity)) terms names) (one_process items)))

@@ -1,3 +1,4 @@
+// Scripts served at the trial space.
 use crate::TrialSpace;
 use atom_names::AtomNames;
 use engine::{Machine, Status, Stepped, serve, step};
