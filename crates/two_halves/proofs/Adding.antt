@@ -1,6 +1,6 @@
 -- A record comes into a half, and an object that names it.
-use Rattle.std.proofs.Common.{Vec, take, drop, if◌then◌else◌, Result, Ok, Err, ◌≡◌, ℕ, suc, replicate, ◌+◌, ◌-◌, ◌*◌, ◌/◌, ◌%◌, ◌<◌, ◌≤◌}
-use Rattle.std.proofs.Common.{◌⊎◌, Bool, true, List, [], ◌∷◌, ◌++◌, length, get_or, set, refl, sym, ◌∙◌, ap, subst, arith, inl, inr}
+use Rattle.std.proofs.Common.{Vec, take, drop, if◌then◌else◌, Result, Ok, Err, ◌≡◌, ℕ, suc, replicate, ◌+◌, ◌-◌, ◌*◌, ◌/◌, ◌<◌, ◌≤◌}
+use Rattle.std.proofs.Common.{◌⊎◌, Bool, true, List, [], ◌∷◌, ◌++◌, length, get_or, refl, sym, ◌∙◌, ap, subst, arith, inl, inr}
 use Rattle.std.proofs.lemmas.List.{length-append, length-replicate}
 use Rattle.std.specs.List.{insert}
 use Rattle.std.specs.Result.{IsOk, is_ok}
@@ -12,10 +12,10 @@ use Rattle.plain_term.specs.Tree.{Tree}
 use Rattle.plain_machine.specs.State.{Process}
 use Rattle.term_tags.specs.Words.{record_word}
 use Rattle.term_tags.specs.declared.records.TheConstants.{BIN_RECORD, FUN_RECORD}
-use Rattle.term_words.specs.Role.{COUNT, NEXT, RECORD, RECORD_FIRST, IsSingle, OfObject, OfRecord}
+use Rattle.term_words.specs.Role.{NEXT, RECORD_FIRST, IsSingle, OfObject, OfRecord}
 use Rattle.term_words.specs.Object.{IsBinRecord, IsFunRecord, IsRecord}
 use Rattle.term_words.specs.Stands.{Stands}
-use Rattle.term_words.specs.Kept.{Kept, Keeps}
+use Rattle.term_words.specs.Kept.{Kept}
 use Rattle.term_words.specs.Counted.{In, Distinct, total}
 use Rattle.term_words.proofs.Frames.{frame}
 use Rattle.term_words.proofs.Members.{both-total, in-both, in-left, in-right, one-or-not}
@@ -24,13 +24,15 @@ use Rattle.term_build.specs.Taken.{IsFree, Lie, Taken, with_object}
 use Rattle.term_build.proofs.Taking.{with-object-of, with-object-single, with-object-taken, with-object-within}
 use Rattle.shared_rec.specs.Record.{Writes, count_in, length_in, owner_in, record_roles}
 use Rattle.shared_rec.proofs.Records.{bin-stays, fun-stays}
-use Rattle.off_heap_list.specs.Links.{IsLink, Links, named, naming}
+use Rattle.off_heap_list.specs.Links.{Links, named, naming}
 use Rattle.off_heap_list.proofs.Chained.{leads-stays, link-named, link-stays, naming-stays}
 use Rattle.record_move.specs.Copies.{record_words}
 use Rattle.record_move.specs.Tables.{OwnersRise}
-use Rattle.two_halves.specs.Halves.{HalvesStand, IsBinOf, IsFunOf, IsLaid, ProcsStand, end_of, front_of, places_in}
-use Rattle.two_halves.specs.Adding.{Adds, Gets, HasBin, HasFun, IsSpot, Nearly}
+use Rattle.two_halves.specs.Stack.{AreApart}
+use Rattle.two_halves.specs.Halves.{HalvesStand, IsBinOf, IsFunOf, IsLaid, ProcsStand, all_places, end_of, front_of}
+use Rattle.two_halves.specs.Adding.{Adds, HasBin, HasFun, IsSpot, Nearly}
 use Rattle.two_halves.specs.declared.halves.Halves.{Halves}
+use Rattle.two_halves.proofs.Apart.{apart-kept}
 use Rattle.two_halves.proofs.Joining.{Joins, at-any, bytes-more, in-at, in-drop, in-take, joins-end, joins-left, joins-middle, joins-right, naming-none}
 use Rattle.two_halves.proofs.Joining.{nil-right, procs-on, record-above, record-first, record-role, rise-end, rise-middle, rise-pair, rise-same, role-first, take-drop, total-same}
 
@@ -211,6 +213,9 @@ module _ (named_below : ℕ) (h : Halves) (shared : List (List ℕ)) (qs : List 
       processes2 = procs-on x.test d shared shared2 h.mem mem2 named_below h.low at (end_of h) trees2 (λ q above below none. word-above q above) bare2 (omega (arith, next)) h.procs.items qs
           x.processes
 
+      apart2 : AreApart (all_places mem2 h.procs.items)
+      apart2 = apart-kept x.test shared h.mem mem2 h.low (end_of h) named_below h.procs.items qs (λ q above below none. word-above q above) x.processes x.apart
+
       bin2 : (u : ℕ) → In u h.bins.items → IsBinOf d mem2 shared2 u
       bin2 u i =
           let old = x.records.each_bin u i in
@@ -281,6 +286,7 @@ module _ (named_below : ℕ) (h : Halves) (shared : List (List ℕ)) (qs : List 
               counted = counted2;
               fun_names = λ u i. omega (arith, owner-same u (in-right u h.bins.items h.funs.items i), x.fun_names u i);
               processes = subst P limit processes2;
+              apart = apart2;
             }
 
       module _ (zero : count_in mem2 at ≡ 0) (is : IsFunOf d mem2 at) (name_small : owner_in mem2 at / 256 < named_below) (i : ℕ)
@@ -350,6 +356,7 @@ module _ (named_below : ℕ) (h : Halves) (shared : List (List ℕ)) (qs : List 
               counted = counted2;
               fun_names = subst N (sym funs_is) names-fun;
               processes = subst P limit-fun processes2;
+              apart = apart2;
             }
 
 -- The layout after that.
@@ -542,6 +549,7 @@ near-of named_below h shared qs v x = record {
   counted = λ u n r other. x.records.counted u n r;
   fun_names = x.fun_names;
   processes = x.processes;
+  apart = x.apart;
 }
 
 -- The record of a fun that is there already.

@@ -7,13 +7,14 @@ use Rattle.term_words.specs.Counted.{In}
 use Rattle.cheney.specs.Plan.{Plan, Reached}
 use Rattle.cheney.specs.Zones.{Marks}
 use Rattle.cheney.specs.Collected.{AllImages}
-use Rattle.term_words.proofs.Members.{one-or-not}
-use Rattle.two_halves.specs.Stack.{IsStack, values}
-use Rattle.two_halves.specs.Halves.{places_in}
+use Rattle.term_words.proofs.Members.{in-both, one-or-not}
+use Rattle.two_halves.specs.Stack.{AreApart, IsPlace, IsStack, place_list, values}
+use Rattle.two_halves.specs.Halves.{all_places, places_in, places_of}
 use Rattle.two_halves.specs.Rows.{AreMovedRows, CanMoveRow, CanMoveRows, Goes, HasPlaces, IsMovedRow, RowMoved, RowMoves, RowsMove, RowsMoved}
 use Rattle.two_halves.specs.declared.table.Proc.{Proc}
 use Rattle.two_halves.proofs.Going.{goes-same, goes-then}
-use Rattle.two_halves.proofs.Rowing.{old-kept, room-on, row-on}
+use Rattle.two_halves.proofs.Apart.{apart-both, place-within}
+use Rattle.two_halves.proofs.Rowing.{kept-aside, moved-places, old-kept, room-on, row-on}
 use Rattle.two_halves.proofs.Stacks.{AreKept, message-root, no_row, register-root, stack-at, stack-kept, stack-wider, value-root, values-kept}
 
 -- Rows one by one are rows in order.
@@ -38,12 +39,38 @@ row-wider p start mem low limit low2 limit2 old new down up r = record {
   waits = stack-wider p.test mem low limit low2 limit2 new.queue new.waiting down up r.waits;
   messages_are = r.messages_are;
   last = r.last;
+  apart = r.apart;
 }
+
+-- Rows whose places are apart, and lie below those of the rows before, are apart.
+
+in-row-of : (mem : List ℕ) (rows : List Proc) (q : ℕ) → In q (all_places mem rows) → (j : ℕ) × ((j < length rows) × In q (places_of mem (get_or rows j no_row)))
+in-row-of mem [] q i = absurd i
+in-row-of mem (r ∷ rows) q i = elim (in-both q (places_of mem r) (all_places mem rows) i) [
+  | inl a ↦ (0, (omega arith, a))
+  | inr a ↦ let (j, (less, b)) = in-row-of mem rows q a in (suc j, (omega (arith, less), b))
+]
+
+rows-apart : (mem : List ℕ) (rows : List Proc) → ((j : ℕ) → j < length rows → AreApart (places_of mem (get_or rows j no_row)))
+    → ((i j x y : ℕ) → i < j → j < length rows → In x (places_of mem (get_or rows i no_row)) → In y (places_of mem (get_or rows j no_row)) → y + 2 ≤ x) → AreApart (all_places mem rows)
+rows-apart mem [] own below = tt
+rows-apart mem (r ∷ rows) own below =
+    apart-both (places_of mem r) (all_places mem rows) (own 0 (omega arith))
+    (rows-apart mem rows (λ j less. own (suc j) (omega (arith, less))) (λ i j x y before less a b. below (suc i) (suc j) x y (omega (arith, before)) (omega (arith, less)) a b))
+    (λ x y a b. let (j, (less, c)) = in-row-of mem rows y b in inr (below 0 (suc j) x y (omega arith) (omega (arith, less)) a c))
+
+-- The places of a moved row lie between its bounds.
+row-within : (p : Plan) (start mem : List ℕ) (low limit : ℕ) (old new : Proc) (q : ℕ) → IsMovedRow p start mem low limit old new → In q (places_of mem new) → IsPlace p.test low limit q
+row-within p start mem low limit old new q r i = elim (in-both q (place_list mem new.stack new.depth) (place_list mem new.queue new.waiting) i) [
+  | inl a ↦ place-within p.test mem low limit new.stack new.depth q r.places a
+  | inr a ↦ place-within p.test mem low limit new.queue new.waiting q r.waits a
+]
 
 -- The first rows have moved.
 pub record Rowing (p : Plan) (old mem : List ℕ) (mv : Moving) (k : Marks) (olds news : List Proc) (end now i : ℕ) : Type 0 where
   pub goes : Goes p old mem mv k now end
   pub done : (j : ℕ) → j < i → j < length olds → IsMovedRow p old mem now end (get_or olds j no_row) (get_or news j no_row)
+  pub below : (j g x y : ℕ) → j < g → g < i → g < length olds → In x (places_of mem (get_or news j no_row)) → In y (places_of mem (get_or news g no_row)) → y + 2 ≤ x
 
 -- So far, whatever the plan; the other rows are as they were.
 pub record RowLoop (old : List ℕ) (mv0 : Moving) (olds : List Proc) (end : ℕ) (mem : List ℕ) (mv : Moving) (news : List Proc) (now i : ℕ) : Type 0 where
@@ -57,7 +84,11 @@ rows-start old mv0 olds end = record {
   count = refl;
   at = omega arith;
   todo = λ j above. refl;
-  moves = λ p k low limit s. record { goes = goes-same p old mv0 k end end s.room.runs; done = λ j less in_range. absurd (omega arith) };
+  moves = λ p k low limit s. record {
+    goes = goes-same p old mv0 k end end s.room.runs;
+    done = λ j less in_range. absurd (omega arith);
+    below = λ j g x y before less in_range a b. absurd (omega arith);
+  };
 }
 
 pub rows-end : (old : List ℕ) (mv0 : Moving) (olds : List Proc) (end : ℕ) (mem : List ℕ) (mv : Moving) (news : List Proc) (now i : ℕ) → RowLoop old mv0 olds end mem mv news now i
@@ -67,7 +98,12 @@ rows-end old mv0 olds end mem mv news now i l all p k low limit s =
     let last : now ≡ end - 2 * places_in olds = omega (arith, l.at, ap places_in (take_all i olds all)) in
     let P : ℕ → Type 0 = λ z. Goes p old mem mv k z end in
     let Q : ℕ → Type 0 = λ z. AreMovedRows p old mem z end olds news in
-    record { goes = subst P last g.goes; are = subst Q last (rows-are p old mem now end olds news l.count (λ j less. g.done j (omega (arith, less, all)) less)) }
+    record {
+      goes = subst P last g.goes;
+      are = subst Q last (rows-are p old mem now end olds news l.count (λ j less. g.done j (omega (arith, less, all)) less));
+      apart = rows-apart mem news (λ j less. (g.done j (omega (arith, less, all, l.count)) (omega (arith, less, l.count))).apart)
+          (λ j h x y before less a b. g.below j h x y before (omega (arith, less, all, l.count)) (omega (arith, less, l.count)) a b);
+    }
 
 -- One row more.
 module _ (p : Plan) (old : List ℕ) (mv0 : Moving) (k : Marks) (low limit : ℕ) (olds : List Proc) (end : ℕ) (s : RowsMove p old mv0 k low limit olds end) (mem : List ℕ) (mv : Moving)
@@ -147,6 +183,7 @@ module _ (p : Plan) (old : List ℕ) (mv0 : Moving) (k : Marks) (low limit : ℕ
           waits = r.is.waits;
           messages_are = subst Q (values-kept p.test old mem low limit row.queue row.waiting kept waits) r.is.messages_are;
           last = r.is.last;
+          apart = r.is.apart;
         })
 
     earlier-row : (j : ℕ) → j < i → j < length olds → IsMovedRow p old mem2 to end (get_or olds j no_row) (get_or news j no_row)
@@ -157,6 +194,40 @@ module _ (p : Plan) (old : List ℕ) (mv0 : Moving) (k : Marks) (low limit : ℕ
         (λ q above under. s.room.new q (omega (arith, above, l.at, below, s.fits)) (omega (arith, under, s.fits))) (inr (omega (arith, down, row-fits)))
         (λ w h. s.reached w (register-root old olds j w in_range h)) (λ w h. s.reached w (value-root old olds j w in_range h))
         (λ w h. s.reached w (message-root old olds j w in_range h)))
+
+    -- The places of earlier rows are the same, and those of this row lie below them.
+    earlier-same : (j : ℕ) → j < i → j < length olds → places_of mem2 (get_or news j no_row) ≡ places_of mem (get_or news j no_row)
+    earlier-same j before in_range =
+        let below : places_in (take i olds) ≤ places_in olds = sum_by-take-le (λ x. x.depth + x.waiting) olds i in
+        moved-places p old mem mem2 now end (get_or olds j no_row) (get_or news j no_row) (so-far.done j before in_range)
+        (kept-aside p mem mem2 mv2 k now end to (to + 2 * (row.depth + row.waiting)) r.goes
+        (λ q above under. s.room.new q (omega (arith, above, l.at, below, s.fits)) (omega (arith, under, s.fits))) (inr (omega (arith, down, row-fits))))
+
+    this-below : (j x y : ℕ) → j < i → j < length olds → In x (places_of mem2 (get_or news j no_row)) → In y (places_of mem2 new) → y + 2 ≤ x
+    this-below j x y before in_range a b =
+        let was : In x (places_of mem (get_or news j no_row)) = subst (In x) (earlier-same j before in_range) a in
+        let high : IsPlace p.test now end x = row-within p old mem now end (get_or olds j no_row) (get_or news j no_row) x (so-far.done j before in_range) was in
+        let low_place : IsPlace p.test to (to + 2 * (row.depth + row.waiting)) y = row-within p mem mem2 to (to + 2 * (row.depth + row.waiting)) row new y r.is b in
+        omega (arith, high.above, low_place.below, down, row-fits)
+
+    below-more : (j g x y : ℕ) → j < g → g < i + 1 → g < length olds → In x (places_of mem2 (get_or (set news i new) j no_row)) → In y (places_of mem2 (get_or (set news i new) g no_row)) → y + 2 ≤ x
+    below-more j g x y before under in_range a b =
+        let N : Proc → Type 0 = λ z. In x (places_of mem2 z) in
+        let M : Proc → Type 0 = λ z. In y (places_of mem2 z) in
+        let first : In x (places_of mem2 (get_or news j no_row)) = subst N (get_or-set_other news i j new no_row (λ e. omega (arith, e, before, under))) a in
+        elim (one-or-not g i) [
+          | inl last ↦ (
+              let L : ℕ → Type 0 = λ z. In y (places_of mem2 (get_or (set news i new) z no_row)) in
+              this-below j x y (omega (arith, last, before)) (omega (arith, before, in_range)) first
+              (subst M (get_or-set_same news i new no_row (omega (arith, less, l.count))) (subst L last b))
+              )
+          | inr other ↦ (
+              let second : In y (places_of mem2 (get_or news g no_row)) = subst M (get_or-set_other news i g new no_row other) b in
+              let in_order : g < i = omega (arith, under, other) in
+              so-far.below j g x y before in_order in_range (subst (In x) (earlier-same j (omega (arith, before, in_order)) (omega (arith, before, in_range))) first)
+              (subst (In y) (earlier-same g in_order in_range) second)
+              )
+        ]
 
     row-more : Rowing p old mem2 mv2 k olds (set news i new) end to (i + 1)
     row-more = record {
@@ -174,6 +245,7 @@ module _ (p : Plan) (old : List ℕ) (mv0 : Moving) (k : Marks) (low limit : ℕ
             subst R (sym (get_or-set_other news i j new no_row other)) (earlier-row j (omega (arith, below, other)) in_range)
             )
       ];
+      below = below-more;
     }
 
 -- The same where some rows may move.

@@ -29,12 +29,14 @@ use Rattle.cheney.specs.Moved.{forward}
 use Rattle.cheney.specs.Rooms.{top_of}
 use Rattle.cheney.specs.Collected.{Collected, IsMoved}
 use Rattle.cheney.specs.Next.{IsTiled}
-use Rattle.two_halves.specs.Halves.{HalvesStand, IsLaid, ProcsStand, RecordsStand, Standing, places_in, records_of, used_in}
+use Rattle.two_halves.specs.Stack.{AreApart}
+use Rattle.two_halves.specs.Halves.{HalvesStand, IsLaid, ProcsStand, RecordsStand, Standing, all_places, places_in, records_of, used_in}
 use Rattle.two_halves.specs.Reached.{AllReached, ChainReached, held_words, named_words, roots_in}
 use Rattle.two_halves.specs.Collecting.{AreSameRows, Collects}
 use Rattle.two_halves.specs.declared.halves.Halves.{Halves}
 use Rattle.two_halves.specs.declared.table.Proc.{Proc}
 use Rattle.two_halves.proofs.Ended.{Scanned, copy-there, objects-few, objects-held, row-count, same, same-places, sides-there, tiles-there, top-between, whole}
+use Rattle.two_halves.proofs.Apart.{apart-kept}
 use Rattle.two_halves.proofs.Bounded.{Bounded, bounded}
 use Rattle.two_halves.proofs.Held.{have-stacks, roots-stand, trees_of}
 use Rattle.two_halves.proofs.Keeping.{roots-kept}
@@ -188,6 +190,12 @@ module _ (h : Halves) (t : Target) (m : List ℕ) (mv : Moving) (news : List Pro
               fits = subst P (sym rows-there) fits-here;
             }
 
+        apart-there : AreApart (all_places mem5 (with_items h.procs news).items)
+        apart-there =
+            subst AreApart (sym (ap (all_places mem5) rows-there))
+            (apart-kept (roles h t x m mv news (scan x)).test x.shared m mem5 t.to t.end x.named news x.processes (kept-there h t x m mv news (scan x) mem4 left (swept x) mem5 low (over x) (moved x).1)
+            (procs-was h t x m mv news (scan x) mem4 left (swept x) mem5 low (over x) (moved x).1) (scan x).apart)
+
         stand-there : HalvesStand x.named new x.shared x.processes
         stand-there =
             let P : ℕ → Type 0 = λ z. ProcsStand (settled h t x m mv news (scan x) mem4 left (swept x) mem5 low (over x) (moved x).1) x.shared mem5 low z x.named news x.processes in
@@ -210,6 +218,7 @@ module _ (h : Halves) (t : Target) (m : List ℕ) (mv : Moving) (news : List Pro
               records = subst B (sym bins_are) (subst F (sym funs_are) (records-there h t x m mv news (scan x) mem4 left (swept x) mem5 low (over x) (moved x).1));
               fun_names = λ v i. names-there h t x m mv news (scan x) mem4 left (swept x) mem5 low (over x) (moved x).1 v (subst (In v) funs_are i);
               processes = subst Q (sym rows-there) (subst P ends-there (procs-settled h t x m mv news (scan x) mem4 left (swept x) mem5 low (over x) (moved x).1));
+              apart = apart-there;
             }
 
         -- The new roots.

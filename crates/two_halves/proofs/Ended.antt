@@ -17,18 +17,19 @@ use Rattle.cheney.specs.Next.{IsTiled}
 use Rattle.cheney.proofs.Begins.{has-collected, has-composed}
 use Rattle.cheney.proofs.Next.{is-tiled}
 use Rattle.cheney.proofs.Rows.{images-all, images-join, root-in}
-use Rattle.two_halves.specs.Stack.{values}
-use Rattle.two_halves.specs.Halves.{HoldTrees, IsLaid, ProcsStand, Standing, places_in, end_of, front_of}
+use Rattle.two_halves.specs.Stack.{AreApart, values}
+use Rattle.two_halves.specs.Halves.{HoldTrees, IsLaid, ProcsStand, Standing, all_places, places_in, end_of, front_of}
 use Rattle.two_halves.specs.Reached.{held_words, roots_in}
-use Rattle.two_halves.specs.Rows.{AreMovedRows, CanMoveRows, Goes, IsAside, RowsMove, RowsMoved}
+use Rattle.two_halves.specs.Rows.{AreMovedRows, CanMoveRows, Goes, HaveStacks, IsAside, RowsMove, RowsMoved}
 use Rattle.two_halves.specs.Collecting.{AreSameRows, CanCollect, IsBetween}
 use Rattle.two_halves.specs.declared.halves.Halves.{Halves}
 use Rattle.two_halves.specs.declared.table.Proc.{Proc}
+use Rattle.two_halves.proofs.Apart.{all-kept}
 use Rattle.two_halves.proofs.Going.{goes-call}
 use Rattle.two_halves.proofs.Held.{held-words}
 use Rattle.two_halves.proofs.Packed.{row-fits}
 use Rattle.two_halves.proofs.Planned.{AreSides, IsTarget, Target, aside-there, object-here, plan_of, rows-move, sides}
-use Rattle.two_halves.proofs.Rowing.{row-on}
+use Rattle.two_halves.proofs.Rowing.{kept-aside, row-on}
 use Rattle.two_halves.proofs.Stacks.{messages-in, others-in, registers-in, stack-under, values-in}
 
 -- Rows that moved stay moved while the collection goes on elsewhere.
@@ -44,6 +45,19 @@ rows-on p start mem mem2 mv2 k low limit f t (o ∷ os) (n ∷ ns) (first, rest)
   rows-on p start mem mem2 mv2 k low limit f t os ns rest g free apart
       (λ w i. r w (others-in start o os w i)),
 )
+
+-- Their places are apart still.
+
+have-moved : (p : Plan) (start mem : List ℕ) (low limit : ℕ) (olds news : List Proc) → AreMovedRows p start mem low limit olds news → HaveStacks p.test mem low limit news
+have-moved p start mem low limit [] [] a = tt
+have-moved p start mem low limit [] (n ∷ ns) a = absurd a
+have-moved p start mem low limit (o ∷ os) [] a = absurd a
+have-moved p start mem low limit (o ∷ os) (n ∷ ns) (first, rest) = (first.places, (first.waits, have-moved p start mem low limit os ns rest))
+
+apart-on : (p : Plan) (start mem mem2 : List ℕ) (mv2 : Moving) (k : Marks) (low limit f t : ℕ) (olds news : List Proc) → AreMovedRows p start mem low limit olds news
+    → Goes p mem mem2 mv2 k f t → ((q : ℕ) → low ≤ q → q < limit → IsAside p q) → (limit ≤ f) ⊎ (t ≤ low) → AreApart (all_places mem news) → AreApart (all_places mem2 news)
+apart-on p start mem mem2 mv2 k low limit f t olds news a g free away apart =
+    subst AreApart (sym (all-kept p.test mem mem2 low limit news (kept-aside p mem mem2 mv2 k low limit f t g free away) (have-moved p start mem low limit olds news a))) apart
 
 -- The new roots are what the old ones have become.
 root-images : (p : Plan) (start mem : List ℕ) (low limit : ℕ) (olds news : List Proc) → AreMovedRows p start mem low limit olds news → AllImages p mem (roots_in start olds) (roots_in mem news)
@@ -127,6 +141,7 @@ pub record Scanned (h : Halves) (t : Target) (x : Standing h) (m : List ℕ) (mv
   pub target : IsTarget h t
   pub runs : Runs (plan_of h x t) m mv (at_objects mv.aged.top mv.young.top)
   pub rows : AreMovedRows (plan_of h x t) h.mem m t.to t.end h.procs.items news
+  pub apart : AreApart (all_places m news)
 
 module _ (h : Halves) (laid : IsLaid h) (t : Target) (is : IsTarget h t) (x : Standing h) (mem2 : List ℕ) (mv2 : Moving) (news : List Proc)
     (moved : RowsMoved (plan_of h x t) h.mem mem2 mv2 (at_objects t.from t.from) h.procs.items news t.end) where
@@ -148,6 +163,9 @@ module _ (h : Halves) (laid : IsLaid h) (t : Target) (is : IsTarget h t) (x : St
         rows =
             rows-on (plan_of h x t) h.mem mem2 mem3 mv3 (at_objects mv3.aged.top mv3.young.top) t.to t.end t.to t.to h.procs.items news (subst P (sym is.last) moved.are)
             (goes-call (plan_of h x t) mem2 mem3 mv3 (at_objects mv3.aged.top mv3.young.top) t.to t.to on.runs on.later) (aside-there h laid t is x) (inr (omega arith)) (root-in (plan_of h x t));
+        apart =
+            apart-on (plan_of h x t) h.mem mem2 mem3 mv3 (at_objects mv3.aged.top mv3.young.top) t.to t.end t.to t.to h.procs.items news (subst P (sym is.last) moved.are)
+            (goes-call (plan_of h x t) mem2 mem3 mv3 (at_objects mv3.aged.top mv3.young.top) t.to t.to on.runs on.later) (aside-there h laid t is x) (inr (omega arith)) moved.apart;
       }
 
 -- The collection up to there.

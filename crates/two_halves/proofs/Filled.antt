@@ -14,7 +14,8 @@ use Rattle.off_heap_list.specs.Links.{Links}
 use Rattle.off_heap_list.proofs.Chained.{leads-stays, link-stays, naming-stays}
 use Rattle.record_move.specs.Copies.{record_words}
 use Rattle.record_move.specs.Tables.{OwnersRise}
-use Rattle.two_halves.specs.Halves.{HalvesStand, IsBinOf, IsFunOf, IsLaid, ProcsStand, RecordsStand, places_in, records_of}
+use Rattle.two_halves.specs.Stack.{AreApart}
+use Rattle.two_halves.specs.Halves.{HalvesStand, IsBinOf, IsFunOf, IsLaid, ProcsStand, RecordsStand, all_places, places_in, records_of}
 use Rattle.two_halves.specs.declared.halves.Halves.{Halves}
 use Rattle.two_halves.specs.declared.table.Proc.{Proc}
 
@@ -128,8 +129,8 @@ module _ (named named2 : ℕ) (h : Halves) (shared : List (List ℕ)) (qs qs2 : 
     (plain : (a k : ℕ) → d a k ≡ true → (s.test a k ≡ true) ⊎ IsPlain k) (within : (a k : ℕ) → d a k ≡ true → (s.test a k ≡ true) ⊎ ((h.top ≤ a) × (a < top)))
     (same : (a k : ℕ) → s.test a k ≡ true → get_or mem2 a 0 ≡ get_or h.mem a 0) (up : h.top ≤ top) (down : low ≤ h.low) (names : named ≤ named2)
     (procs : ProcsStand d shared mem2 low (h.base + length mem2 / 2) named2 v.items qs2) where
-  pub halves-filled : HalvesStand named2 (laid_out h mem2 top low v) shared qs2
-  halves-filled = record {
+  pub halves-filled : AreApart (all_places mem2 v.items) → HalvesStand named2 (laid_out h mem2 top low v) shared qs2
+  halves-filled apart = record {
     test = d;
     single = single;
     lie = λ a k e. elim (within a k e) [
@@ -155,6 +156,7 @@ module _ (named named2 : ℕ) (h : Halves) (shared : List (List ℕ)) (qs qs2 : 
         let (n, there) = fun-record s.test d h.mem mem2 len more plain same shared h.bins.items h.funs.items s.records v i in
         omega (arith, owner-stays s.test d h.mem mem2 len more plain same v n there, s.fun_names v i, names);
     processes = procs;
+    apart = apart;
   }
 
   -- It is laid out, where all fits.

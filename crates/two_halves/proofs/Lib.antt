@@ -5,6 +5,7 @@ mod Stacking
 mod Rowing
 mod AllRows
 pub mod Held
+pub mod Apart
 mod Planned
 mod Packed
 mod Counting
@@ -20,3 +21,6 @@ pub mod Tight
 pub mod Joining
 mod Adding
 mod Linking
+mod Queuing
+mod Following
+mod Entering

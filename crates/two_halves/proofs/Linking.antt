@@ -1,5 +1,5 @@
 -- An object that names a record comes into a half and its chain.
-use Rattle.std.proofs.Common.{Vec, ◌==◌, if◌then◌else◌, ◌≡◌, ℕ, ◌+◌, ◌-◌, ◌*◌, ◌/◌, ◌%◌, ◌<◌, ◌≤◌, ◌⊎◌, Bool, true, false}
+use Rattle.std.proofs.Common.{◌==◌, if◌then◌else◌, ◌≡◌, ℕ, ◌+◌, ◌-◌, ◌/◌, ◌<◌, ◌≤◌, ◌⊎◌, Bool, true, false}
 use Rattle.std.proofs.Common.{List, [], ◌∷◌, ◌++◌, length, get_or, set, refl, sym, ◌∙◌, ap, subst, arith, inl, inr, length-set, get_or-set_other}
 use Rattle.std.proofs.lemmas.Bool.Decides.{nat_tests}
 use Rattle.std.proofs.lemmas.Grind.{get_or-set_at}
@@ -10,13 +10,13 @@ use Rattle.plain_term.specs.Tree.Tree.{Fun, Shared}
 use Rattle.term_tags.specs.Words.{boxed_word, head_word}
 use Rattle.term_tags.specs.declared.layouts.TheConstants.{FUN, HOLDER}
 use Rattle.plain_machine.specs.State.{Process}
-use Rattle.term_words.specs.Role.{COUNT, NEXT, NAMES, RECORD, RECORD_FIRST, IsSingle, OfObject, OfRecord}
+use Rattle.term_words.specs.Role.{COUNT, NEXT, RECORD, RECORD_FIRST, IsSingle, OfObject, OfRecord}
 use Rattle.term_words.specs.Object.{IsBinRecord, IsFunRecord, IsRecord}
 use Rattle.term_words.specs.Stands.{AllStand, Stands}
-use Rattle.term_words.specs.Kept.{Kept, Keeps}
-use Rattle.term_words.specs.Counted.{In, Distinct, total}
+use Rattle.term_words.specs.Kept.{Kept}
+use Rattle.term_words.specs.Counted.{In, total}
 use Rattle.term_words.proofs.Frames.{frame, keep-all}
-use Rattle.term_words.proofs.Members.{in-both, in-left, in-right, one-or-not}
+use Rattle.term_words.proofs.Members.{in-both, one-or-not}
 use Rattle.term_build.specs.Clear.{Uses}
 use Rattle.term_build.specs.Grows.{BuiltLink, GrowsLink}
 use Rattle.term_build.specs.Parts.{IsNamed}
@@ -27,11 +27,12 @@ use Rattle.off_heap_list.specs.Links.{IsLink, Links, named, names_it, naming}
 use Rattle.off_heap_list.proofs.Chained.{fun-link, holder-link, idle-kept, idle-kept-back, kept-then, leads-stays, link-stays, naming-stays, record-inside}
 use Rattle.off_heap_list.proofs.Tallied.{few, one}
 use Rattle.record_move.specs.Copies.{record_words}
-use Rattle.record_move.specs.Tables.{OwnersRise}
-use Rattle.two_halves.specs.Halves.{HalvesStand, IsBinOf, IsFunOf, IsLaid, ProcsStand, end_of, front_of}
+use Rattle.two_halves.specs.Stack.{AreApart}
+use Rattle.two_halves.specs.Halves.{HalvesStand, IsBinOf, IsFunOf, IsLaid, ProcsStand, all_places, end_of, front_of}
 use Rattle.two_halves.specs.Adding.{Gets, HasFun, Nearly}
 use Rattle.two_halves.specs.declared.halves.Halves.{Halves}
 use Rattle.two_halves.proofs.Adding.{filled}
+use Rattle.two_halves.proofs.Apart.{apart-kept}
 use Rattle.two_halves.proofs.Joining.{procs-on, record-above, record-first, rise-same, total-same}
 
 -- The record at the place is that of the binary with this serial.
@@ -179,6 +180,9 @@ module _ (named_below : ℕ) (h : Halves) (shared : List (List ℕ)) (qs : List 
     processes4 = procs-on y.test e shared shared h.mem mem4 named_below h.low h.low (end_of h) trees4 same4 (λ q j above below none t. none j (above3 q j above t)) (omega arith)
         h.procs.items qs y.processes
 
+    apart4 : AreApart (all_places mem4 h.procs.items)
+    apart4 = apart-kept y.test shared h.mem mem4 h.low (end_of h) named_below h.procs.items qs same4 y.processes y.apart
+
     every4 : (p : ℕ) → e (p + 2) NEXT ≡ true → In p (h.top ∷ y.chained)
     every4 p t = elim (grows.next (p + 2) t) [ inl old ↦ inr (y.every p old) | inr c ↦ inl (omega (arith, c)) ]
 
@@ -216,6 +220,7 @@ module _ (named_below : ℕ) (h : Halves) (shared : List (List ℕ)) (qs : List 
           };
           fun_names = λ u i. omega (arith, owner4 u (y.each_fun u i).is.second, y.fun_names u i);
           processes = subst P limit4 processes4;
+          apart = apart4;
         }
 
     word4 : (u : ℕ) → y.test u RECORD_FIRST ≡ true → record_words mem4 u ≡ record_words h.mem u

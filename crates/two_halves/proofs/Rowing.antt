@@ -1,14 +1,16 @@
 -- What a row names moves, and then what the next row names.
-use Rattle.std.proofs.Common.{◌≡◌, ℕ, ◌+◌, ◌-◌, ◌*◌, ◌<◌, ◌≤◌, ◌⊎◌, List, refl, sym, ◌∙◌, subst, arith, inl, inr}
+use Rattle.std.proofs.Common.{◌≡◌, ℕ, ◌+◌, ◌-◌, ◌*◌, ◌<◌, ◌≤◌, ◌⊎◌, List, ◌++◌, refl, sym, ◌∙◌, ap, subst, arith, inl, inr}
 use Rattle.cheney.specs.declared.moving.Moving.{Moving}
 use Rattle.term_words.specs.Counted.{In}
 use Rattle.cheney.specs.Plan.{Plan, Reached}
 use Rattle.cheney.specs.Zones.{Marks}
 use Rattle.cheney.specs.Collected.{AllImages}
 use Rattle.cheney.specs.Roots.{AllEvacuated}
-use Rattle.two_halves.specs.Stack.{IsStack, values}
+use Rattle.two_halves.specs.Stack.{AreApart, IsPlace, IsStack, place_list, values}
+use Rattle.two_halves.specs.Halves.{places_of}
 use Rattle.two_halves.specs.Rows.{Goes, HasPlaces, IsAside, IsMovedRow, RowMoved, RowMoves, StackMoved, StackMoves}
 use Rattle.two_halves.specs.declared.table.Proc.{Proc}
+use Rattle.two_halves.proofs.Apart.{apart-both, place-within, places-kept}
 use Rattle.two_halves.proofs.Going.{goes-call, goes-then, images-on}
 use Rattle.two_halves.proofs.Stacks.{AreKept, ends-kept, stack-kept, stack-wider, values-kept}
 
@@ -41,14 +43,26 @@ stack-on p mem mem2 mv mv2 k low limit from depth to f t s g apart =
       reached = λ w i. s.reached w (subst (In w) (values-kept p.test mem mem2 low limit from depth same s.places) i);
     }
 
+-- Its places are the same.
+pub moved-places : (p : Plan) (start mem mem2 : List ℕ) (low limit : ℕ) (old new : Proc) → IsMovedRow p start mem low limit old new → AreKept p.test mem mem2 low limit
+    → places_of mem2 new ≡ places_of mem new
+moved-places p start mem mem2 low limit old new r same =
+    ap (λ z. z ++ place_list mem2 new.queue new.waiting) (places-kept p.test mem mem2 low limit new.stack new.depth same r.places)
+    ∙ ap (λ z. place_list mem new.stack new.depth ++ z) (places-kept p.test mem mem2 low limit new.queue new.waiting same r.waits)
+
+-- What lies aside between the bounds is kept.
+pub kept-aside : (p : Plan) (mem mem2 : List ℕ) (mv2 : Moving) (k : Marks) (low limit f t : ℕ) → Goes p mem mem2 mv2 k f t → ((q : ℕ) → low ≤ q → q < limit → IsAside p q)
+    → (limit ≤ f) ⊎ (t ≤ low) → AreKept p.test mem mem2 low limit
+kept-aside p mem mem2 mv2 k low limit f t g free apart q above below bare =
+    g.aside q (free q above below) (elim apart [ inl a ↦ inl (omega (arith, a, below)) | inr a ↦ inr (omega (arith, a, above)) ])
+
 -- A moved row stays moved while a collection goes on below its places.
 pub row-on : (p : Plan) (start mem mem2 : List ℕ) (mv2 : Moving) (k : Marks) (low limit f t : ℕ) (old new : Proc) → IsMovedRow p start mem low limit old new → Goes p mem mem2 mv2 k f t
     → ((q : ℕ) → low ≤ q → q < limit → IsAside p q) → (limit ≤ f) ⊎ (t ≤ low) → ((w : ℕ) → In w old.regs → Reached p w)
     → ((w : ℕ) → In w (values start old.stack old.depth) → Reached p w) → ((w : ℕ) → In w (values start old.queue old.waiting) → Reached p w)
     → IsMovedRow p start mem2 low limit old new
 row-on p start mem mem2 mv2 k low limit f t old new r g free apart registers stack queue =
-    let same : AreKept p.test mem mem2 low limit = λ q above below bare.
-    g.aside q (free q above below) (elim apart [ inl a ↦ inl (omega (arith, a, below)) | inr a ↦ inr (omega (arith, a, above)) ]) in
+    let same : AreKept p.test mem mem2 low limit = kept-aside p mem mem2 mv2 k low limit f t g free apart in
     let P : List ℕ → Type 0 = λ z. AllImages p mem2 (values start old.stack old.depth) z in
     let Q : List ℕ → Type 0 = λ z. AllImages p mem2 (values start old.queue old.waiting) z in
     record {
@@ -66,6 +80,7 @@ row-on p start mem mem2 mv2 k low limit f t old new r g free apart registers sta
           subst Q (sym (values-kept p.test mem mem2 low limit new.queue new.waiting same r.waits))
           (images-on p mem mem2 (values start old.queue old.waiting) (values mem new.queue new.waiting) g.images queue r.messages_are);
       last = ends-kept p.test mem mem2 low limit new.queue new.waiting new.last same r.waits r.last;
+      apart = subst AreApart (sym (moved-places p start mem mem2 low limit old new r same)) r.apart;
     }
 
 module _ (p : Plan) (mem mem1 : List ℕ) (mv mv1 : Moving) (k : Marks) (low limit to : ℕ) (row : Proc) (regs : List ℕ)
@@ -106,6 +121,10 @@ module _ (p : Plan) (mem mem1 : List ℕ) (mv mv1 : Moving) (k : Marks) (low lim
         let Q : List ℕ → Type 0 = λ z. AllImages p mem3 (values mem row.stack row.depth) z in
         let R : List ℕ → Type 0 = λ z. AllImages p mem3 z (values mem3 (to + 2 * row.depth) row.waiting) in
         let stack : AllImages p mem2 (values mem row.stack row.depth) (values mem2 to row.depth) = subst P (values-kept p.test mem mem1 low limit row.stack row.depth same1 r.stack.places) s.images in
+        let stack-place : (x : ℕ) → In x (place_list mem3 to row.depth) → IsPlace p.test to (to + 2 * row.depth) x = λ x i.
+        place-within p.test mem3 to (to + 2 * row.depth) to row.depth x (stack-kept p.test mem2 mem3 to (to + 2 * row.depth) to row.depth same3 wide) i in
+        let queue-place : (x : ℕ) → In x (place_list mem3 (to + 2 * row.depth) row.waiting) → IsPlace p.test (to + 2 * row.depth) (to + 2 * row.depth + 2 * row.waiting) x = λ x i.
+        place-within p.test mem3 (to + 2 * row.depth) (to + 2 * row.depth + 2 * row.waiting) (to + 2 * row.depth) row.waiting x q.places i in
         let queue_same : values mem2 row.queue row.waiting ≡ values mem row.queue row.waiting =
         values-kept p.test mem1 mem2 low limit row.queue row.waiting same2 queue-called.places ∙ values-kept p.test mem mem1 low limit row.queue row.waiting same1 r.queue.places in
         record {
@@ -126,5 +145,8 @@ module _ (p : Plan) (mem mem1 : List ℕ) (mv mv1 : Moving) (k : Marks) (low lim
                 (omega arith) q.places;
             messages_are = subst R queue_same q.images;
             last = q.last last at;
+            apart = apart-both (place_list mem3 to row.depth) (place_list mem3 (to + 2 * row.depth) row.waiting)
+                (subst AreApart (sym (places-kept p.test mem2 mem3 to (to + 2 * row.depth) to row.depth same3 wide)) s.apart) q.apart
+                (λ x y i j. inl (omega (arith, (stack-place x i).below, (queue-place y j).above)));
           };
         }

@@ -1,5 +1,5 @@
 -- A stack moves place by place.
-use Rattle.std.proofs.Common.{◌≡◌, ℕ, zero, suc, ◌+◌, ◌-◌, ◌*◌, ◌<◌, ◌≤◌, Bool, true, List, length, get_or, refl, sym, ◌∙◌, ap, subst, arith, inl, inr}
+use Rattle.std.proofs.Common.{◌≡◌, ℕ, zero, suc, ◌+◌, ◌-◌, ◌*◌, ◌<◌, ◌≤◌, ◌⊎◌, Bool, true, List, length, get_or, refl, sym, ◌∙◌, ap, subst, arith, inl, inr}
 use Rattle.cheney.specs.declared.moving.Moving.{Moving}
 use Rattle.term_words.specs.Counted.{In}
 use Rattle.cheney.specs.Plan.{Plan, Reached}
@@ -8,7 +8,7 @@ use Rattle.cheney.specs.Zones.{Marks}
 use Rattle.cheney.specs.Calls.{CanMove}
 use Rattle.cheney.specs.Collected.{AllImages}
 use Rattle.term_words.proofs.Members.{one-or-not}
-use Rattle.two_halves.specs.Stack.{Ends, IsPlace, IsStack, values}
+use Rattle.two_halves.specs.Stack.{AreApart, Ends, IsPlace, IsStack, place_list, values}
 use Rattle.two_halves.specs.Rows.{CanMoveStack, Goes, IsAside, PlaceMoved, PlaceMoves, StackMoved, StackMoves}
 use Rattle.two_halves.proofs.Going.{goes-same, goes-then}
 
@@ -59,6 +59,27 @@ lined-end mem to (suc (suc n)) q links e =
     let P : ℕ → Type 0 = λ z. Ends mem z (suc n) q in
     subst P (sym (links 0 to (omega arith) (omega arith))) (lined-end mem (to + 2) (suc n) q (λ j p less is. links (suc j) p (omega arith) (omega (arith, is))) (omega (arith, e)))
 
+-- They are apart.
+
+lined-above : (mem : List ℕ) (to n q : ℕ) → AreLined mem to n → In q (place_list mem to n) → to ≤ q
+lined-above mem to zero q links i = absurd i
+lined-above mem to (suc n) q links (inl e) = omega (arith, e)
+lined-above mem to (suc n) q links (inr i) =
+    let P : ℕ → Type 0 = λ z. In q (place_list mem z n) in
+    omega (
+      arith,
+      lined-above mem (to + 2) n q (λ j p less e. links (suc j) p (omega arith) (omega (arith, e))) (subst P (links 0 to (omega arith) (omega arith)) i),
+    )
+
+lined-apart : (mem : List ℕ) (to n : ℕ) → AreLined mem to n → AreApart (place_list mem to n)
+lined-apart mem to zero links = tt
+lined-apart mem to (suc n) links =
+    let P : ℕ → Type 0 = λ z. AreApart (place_list mem z n) in
+    let Q : ℕ → Type 0 = λ z. (q : ℕ) → In q (place_list mem z n) → (to + 2 ≤ q) ⊎ (q + 2 ≤ to) in
+    let next : AreLined mem (to + 2) n = λ j q less e. links (suc j) q (omega arith) (omega (arith, e)) in
+    let here : get_or mem (to + 1) 0 ≡ to + 2 = links 0 to (omega arith) (omega arith) in
+    (subst Q (sym here) (λ q i. inl (lined-above mem (to + 2) n q next i)), subst P (sym here) (lined-apart mem (to + 2) n next))
+
 lined-images : (p : Plan) (old mem : List ℕ) (from to n : ℕ) → HoldImages p old mem from to n → AreLined mem to n → AllImages p mem (values old from n) (values mem to n)
 unfolding AllImages
 lined-images p old mem from to zero images links = tt
@@ -101,6 +122,7 @@ stack-end old mv0 from depth to mem mv i place l all p k low limit s =
       goes = g.goes;
       places = lined-stack p.test mem to (to + 2 * depth) to depth links (omega arith) (omega arith) (λ q k from under e. (s.room.new q from under).free k e);
       last = λ q e. lined-end mem to depth q links e;
+      apart = lined-apart mem to depth links;
       images = lined-images p old mem from to depth (λ j q less e. g.images j q (omega (arith, less, all)) e) links;
     }
 

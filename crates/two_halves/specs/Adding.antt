@@ -11,7 +11,8 @@ use Rattle.term_words.specs.Counted.{In, Distinct}
 use Rattle.shared_rec.specs.Record.{count_in, owner_in}
 use Rattle.off_heap_list.specs.Links.{Links}
 use Rattle.record_move.specs.Tables.{OwnersRise}
-use Rattle.two_halves.specs.Halves.{HalvesStand, IsBinOf, IsFunOf, IsLaid, ProcsStand, end_of, front_of}
+use Rattle.two_halves.specs.Stack.{AreApart}
+use Rattle.two_halves.specs.Halves.{HalvesStand, IsBinOf, IsFunOf, IsLaid, ProcsStand, all_places, end_of, front_of}
 use Rattle.two_halves.specs.declared.halves.Halves.{Halves}
 
 -- The half stands for the processes, and the word for a tree beside them.
@@ -65,6 +66,7 @@ pub record Nearly (named : ℕ) (h : Halves) (shared : List (List ℕ)) (qs : Li
   pub counted : (u n : ℕ) → IsRecord test h.mem u n → (u ≡ v → ⊥) → 1 ≤ count_in h.mem u
   pub fun_names : (u : ℕ) → In u h.funs.items → owner_in h.mem u / 256 < named
   pub processes : ProcsStand test shared h.mem h.low (end_of h) named h.procs.items qs
+  pub apart : AreApart (all_places h.mem h.procs.items)
 
 -- So it does, with this binary in the record.
 pub record HasBin (named : ℕ) (h : Halves) (shared : List (List ℕ)) (qs : List Process) (v serial : ℕ) (bytes : List ℕ) : Type 0 where

@@ -13,7 +13,7 @@ use Rattle.off_heap_list.specs.Links.{Links}
 use Rattle.off_heap_list.specs.Exact.{AllCounted}
 use Rattle.record_move.specs.Copies.{record_words}
 use Rattle.record_move.specs.Tables.{OwnersRise}
-use Rattle.two_halves.specs.Stack.{Ends, IsStack, values}
+use Rattle.two_halves.specs.Stack.{AreApart, Ends, IsStack, place_list, values}
 use Rattle.two_halves.specs.declared.table.Proc.{Proc}
 use Rattle.two_halves.specs.declared.halves.Halves.{Halves}
 use Rattle.two_halves.specs.declared.halves.TheConstants.{UNUSED, PLACE_WORDS}
@@ -41,6 +41,15 @@ used_in h = half_of h - free_in h
 -- The stack and queue places of all processes.
 abbrev pub places_in : List Proc → ℕ
 places_in ps = sum_by (λ p. p.depth + p.waiting) ps
+
+-- The places of a row's stack and of its queue.
+abbrev pub places_of : List ℕ → Proc → List ℕ
+places_of mem p = place_list mem p.stack p.depth ++ place_list mem p.queue p.waiting
+
+-- The places of all rows.
+abbrev pub all_places : List ℕ → List Proc → List ℕ
+all_places mem [] = []
+all_places mem (p ∷ ps) = places_of mem p ++ all_places mem ps
 
 -- All records: those of binaries, and those of funs.
 abbrev pub records_of : Halves → List ℕ
@@ -112,7 +121,8 @@ pub record RecordsStand (c : ℕ → ℕ → Bool) (mem : List ℕ) (shared : Li
 
 -- The half in use stands for these processes, by one test of one role a place: words of objects below the free words, words
 -- of records above them. The chain has every holder and fun that stands, whether it is reached or not, and each record's
--- count is the number of those that name it. `named` is above all atoms of the trees and all names of funs.
+-- count is the number of those that name it. No two places of stacks and queues have a word in common. `named` is above all
+-- atoms of the trees and all names of funs.
 pub record HalvesStand (named : ℕ) (h : Halves) (shared : List (List ℕ)) (qs : List Process) : Type 0 where
   pub test : ℕ → ℕ → Bool
   pub single : IsSingle test
@@ -125,6 +135,7 @@ pub record HalvesStand (named : ℕ) (h : Halves) (shared : List (List ℕ)) (qs
   pub records : RecordsStand test h.mem shared h.bins.items h.funs.items
   pub fun_names : (v : ℕ) → In v h.funs.items → owner_in h.mem v / 256 < named
   pub processes : ProcsStand test shared h.mem h.low (end_of h) named h.procs.items qs
+  pub apart : AreApart (all_places h.mem h.procs.items)
 
 -- Some processes that the half in use stands for.
 pub record Standing (h : Halves) : Type 0 where

@@ -4,4 +4,5 @@ pub mod Reached
 pub mod Rows
 pub mod Collecting
 pub mod Adding
+pub mod Queues
 pub mod Figures

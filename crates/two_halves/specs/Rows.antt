@@ -7,8 +7,8 @@ use Rattle.cheney.specs.Moved.{IsImage}
 use Rattle.cheney.specs.Zones.{Marks}
 use Rattle.cheney.specs.Rooms.{Runs}
 use Rattle.cheney.specs.Collected.{AllImages}
-use Rattle.two_halves.specs.Stack.{Ends, IsStack, values}
-use Rattle.two_halves.specs.Halves.{places_in}
+use Rattle.two_halves.specs.Stack.{AreApart, Ends, IsStack, place_list, values}
+use Rattle.two_halves.specs.Halves.{all_places, places_in, places_of}
 use Rattle.two_halves.specs.Reached.{roots_in}
 use Rattle.two_halves.specs.declared.table.Proc.{Proc}
 use Rattle.two_halves.specs.declared.halves.TheConstants.{PLACE_WORDS}
@@ -60,6 +60,7 @@ pub record StackMoved (p : Plan) (mem mem2 : List ℕ) (mv2 : Moving) (k : Marks
   pub goes : Goes p mem mem2 mv2 k to (to + PLACE_WORDS * depth)
   pub places : IsStack p.test mem2 to (to + PLACE_WORDS * depth) to depth
   pub last : (q : ℕ) → q ≡ to + PLACE_WORDS * (depth - 1) → Ends mem2 to depth q
+  pub apart : AreApart (place_list mem2 to depth)
   pub images : AllImages p mem2 (values mem from depth) (values mem2 to depth)
 
 -- The places of some stack may move.
@@ -82,6 +83,7 @@ pub record IsMovedRow (p : Plan) (start mem : List ℕ) (low limit : ℕ) (old n
   pub waits : IsStack p.test mem low limit new.queue new.waiting
   pub messages_are : AllImages p mem (values start old.queue old.waiting) (values mem new.queue new.waiting)
   pub last : Ends mem new.queue new.waiting new.last
+  pub apart : AreApart (places_of mem new)
 
 -- Row by row.
 abbrev pub AreMovedRows : Plan → (start mem : List ℕ) → (low limit : ℕ) → List Proc → List Proc → Type 0
@@ -125,6 +127,7 @@ pub record RowsMove (p : Plan) (mem : List ℕ) (mv : Moving) (k : Marks) (low l
 pub record RowsMoved (p : Plan) (mem mem2 : List ℕ) (mv2 : Moving) (k : Marks) (olds news : List Proc) (end : ℕ) : Type 0 where
   pub goes : Goes p mem mem2 mv2 k (end - PLACE_WORDS * places_in olds) end
   pub are : AreMovedRows p mem mem2 (end - PLACE_WORDS * places_in olds) end olds news
+  pub apart : AreApart (all_places mem2 news)
 
 -- What some rows name may move.
 pub record CanMoveRows (mem : List ℕ) (mv : Moving) (rows : List Proc) (end : ℕ) : Type 0 where

@@ -1,5 +1,6 @@
 -- Rows of places that stand in the memory, stacks and queues: each place is the word of a value and the place that follows.
-use Rattle.std.specs.Prelude.{◌≡◌, ℕ, zero, suc, ◌+◌, ◌<◌, ◌≤◌, Bool, true, List, [], ◌∷◌, slice_index}
+use Rattle.std.specs.Prelude.{◌≡◌, ℕ, zero, suc, ◌+◌, ◌<◌, ◌≤◌, ◌⊎◌, Bool, true, List, [], ◌∷◌, slice_index}
+use Rattle.term_words.specs.Counted.{In}
 use Rattle.two_halves.specs.declared.halves.TheConstants.{PLACE_WORDS}
 
 -- A place lies between these bounds, and none of its words has a role.
@@ -18,6 +19,16 @@ IsStack c mem low limit place (suc n) = IsPlace c low limit place × IsStack c m
 abbrev pub values : List ℕ → (place depth : ℕ) → List ℕ
 values mem place zero = []
 values mem place (suc n) = slice_index mem place ∷ values mem (slice_index mem (place + 1)) n
+
+-- The places themselves, from the first.
+abbrev pub place_list : List ℕ → (place depth : ℕ) → List ℕ
+place_list mem place zero = []
+place_list mem place (suc n) = place ∷ place_list mem (slice_index mem (place + 1)) n
+
+-- No two of the places have a word in common.
+abbrev pub AreApart : List ℕ → Type 0
+AreApart [] = Unit {0}
+AreApart (p ∷ ps) = ((q : ℕ) → In q ps → (p + PLACE_WORDS ≤ q) ⊎ (q + PLACE_WORDS ≤ p)) × AreApart ps
 
 -- The last of so many places, any number where there is none.
 abbrev pub Ends : List ℕ → (place depth last : ℕ) → Type 0

@@ -2,6 +2,7 @@
 #![tactic(auto)]
 
 mod halves;
+mod queues;
 mod records;
 mod roots;
 mod table;
