@@ -1,4 +1,3 @@
 pub mod Good
 pub mod Rolls
 pub mod Maps
-pub mod Sample

@@ -1,15 +1,7 @@
 // Short scripts of binaries, funs and their counts.
-use crate::runs::is_answered;
-use std::test::Fail;
+use crate::tables::Row;
 
-// A script, what it shows, and its replies.
-struct Row {
-    name: &'static str,
-    script: &'static [u8],
-    replies: &'static [u8],
-}
-
-const ROWS: [Row; 14] = [
+pub(crate) const ROWS: [Row; 14] = [
     Row {
         name: "up to 64 bytes stand with the term, more in a record",
         script: b"1 fill 0 64 1\n1 fill 1 65 1\n1 flat 0\n1 flat 1\nsys sweep\nsys counts\n",
@@ -81,15 +73,3 @@ const ROWS: [Row; 14] = [
         replies: b"error syntax\nerror syntax\nerror syntax\nerror syntax\nerror syntax\nerror syntax\nerror syntax\nerror syntax\nerror syntax\nerror syntax\n",
     },
 ];
-
-#[test]
-fn binaries_and_funs_are_answered(rt: HostRuntime) -> Result<(), Fail> {
-    for row in &ROWS {
-        assert!(rt;
-            is_answered(rt.alloc(), row.script, row.replies)?,
-            "{}",
-            row.name
-        );
-    }
-    Ok(())
-}

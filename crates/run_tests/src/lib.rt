@@ -12,6 +12,8 @@ mod grown;
 #[cfg(test)]
 mod made;
 #[cfg(test)]
+mod messages;
+#[cfg(test)]
 mod parts;
 #[cfg(test)]
 mod rows;
@@ -21,6 +23,8 @@ mod runs;
 mod small;
 #[cfg(test)]
 mod statuses;
+#[cfg(test)]
+mod tables;
 #[cfg(test)]
 mod verbs;
 #[cfg(test)]

@@ -1,15 +1,7 @@
 // Short scripts.
-use crate::runs::is_answered;
-use std::test::Fail;
+use crate::tables::Row;
 
-// A script, what it shows, and its replies.
-struct Row {
-    name: &'static str,
-    script: &'static [u8],
-    replies: &'static [u8],
-}
-
-const ROWS: [Row; 25] = [
+pub(crate) const ROWS: [Row; 25] = [
     Row {
         name: "a term is written and printed",
         script: b"1 set 0 {1,[2]}\n1 print 0\n",
@@ -112,8 +104,8 @@ const ROWS: [Row; 25] = [
     },
     Row {
         name: "verbs and forms that are not built",
-        script: b"1 send 0 1\n1 recv 0\n1 queue\nsys load a 1\n1 info\n1 frob 0\n",
-        replies: b"error syntax\nerror syntax\nerror syntax\nerror syntax\nerror syntax\nerror syntax\n",
+        script: b"1 lit 0 a 1\nsys load a 1\nsys purge a\n1 hibernate\n1 info\n1 heap\nsys dump\n1 frob 0\n",
+        replies: b"error syntax\nerror syntax\nerror syntax\nerror syntax\nerror syntax\nerror syntax\nerror syntax\nerror syntax\n",
     },
     Row {
         name: "collections keep the terms of registers and stacks",
@@ -136,15 +128,3 @@ const ROWS: [Row; 25] = [
         replies: b"ok\n{{},[],[[]],{[]}}\n",
     },
 ];
-
-#[test]
-fn scripts_are_answered(rt: HostRuntime) -> Result<(), Fail> {
-    for row in &ROWS {
-        assert!(rt;
-            is_answered(rt.alloc(), row.script, row.replies)?,
-            "{}",
-            row.name
-        );
-    }
-    Ok(())
-}

@@ -15,7 +15,7 @@ struct Row {
     names: u64,
 }
 
-const ROWS: [Row; 6] = [
+const ROWS: [Row; 7] = [
     Row {
         name: "lists of 700 ones ask for 1,400 words: a second one is too many as long as the first lives",
         script: &[
@@ -98,6 +98,16 @@ const ROWS: [Row; 6] = [
         )],
         replies: &[Part::Once(
             b"error nospace 2058\nerror badarg\nok\nok\nerror nospace 10\nerror badarg\nerror badarg\nok\nerror nospace 5\nerror nospace 3\nerror nospace 3\nbins [1:1] funs []\n<<1,1>>\nok\nok\nok\nok\nok\nbins [2:1] funs []\n",
+        )],
+        names: 0,
+    },
+    Row {
+        name: "a message asks for eight words and its flat size, whatever is shared in it, and one to a process that does not live for none",
+        script: &[Part::Once(
+            b"1 mktuple 0 600 1\n1 set 0 {$0,$0}\n1 send 0 1\n1 send 0 1\n1 send 0 9\n1 recv 1\n1 set 1 []\n1 send 0 1\n1 flat 0\n",
+        )],
+        replies: &[Part::Once(
+            b"ok\nok\nok\nerror nospace 1213\nok\nok\nok\nok\n1205\n",
         )],
         names: 0,
     },

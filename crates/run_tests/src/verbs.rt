@@ -1,15 +1,7 @@
 // Short scripts of the verbs on terms.
-use crate::runs::is_answered;
-use std::test::Fail;
+use crate::tables::Row;
 
-// A script, what it shows, and its replies.
-struct Row {
-    name: &'static str,
-    script: &'static [u8],
-    replies: &'static [u8],
-}
-
-const ROWS: [Row; 14] = [
+pub(crate) const ROWS: [Row; 14] = [
     Row {
         name: "registers in written terms",
         script: b"1 set 0 {}\n1 set 1 [$0]\n1 set 2 [$0]\n1 gc major\n1 eq 1 2\n1 print 1\n",
@@ -81,15 +73,3 @@ const ROWS: [Row; 14] = [
         replies: b"error syntax\nerror syntax\nerror syntax\nerror syntax\nerror syntax\nerror syntax\nerror syntax\nerror syntax\nerror syntax\nok\n#{}\n",
     },
 ];
-
-#[test]
-fn verbs_on_terms_are_answered(rt: HostRuntime) -> Result<(), Fail> {
-    for row in &ROWS {
-        assert!(rt;
-            is_answered(rt.alloc(), row.script, row.replies)?,
-            "{}",
-            row.name
-        );
-    }
-    Ok(())
-}

@@ -1,5 +1,5 @@
-use Rattle.ladder_tests.proofs.Sample.{in-sample, fun-term, part-term, wide-term}
-use Rattle.ladder_tests.proofs.term_parts.looks.Goals as goal
+use Rattle.word_tests.proofs.Sample.{in-sample, fun-term, part-term, wide-term}
+use Rattle.word_tests.proofs.term_parts.looks.Goals as goal
 
 pub look_at-requires : goal.look_at-requires
 look_at-requires c = in-sample c.args.mem.now 118 c.requires fun-term

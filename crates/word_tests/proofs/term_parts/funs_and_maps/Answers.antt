@@ -1,5 +1,5 @@
-use Rattle.ladder_tests.proofs.Sample.{in-sample, big-term, fun-term, map-term, wide-term}
-use Rattle.ladder_tests.proofs.term_parts.funs_and_maps.Goals as goal
+use Rattle.word_tests.proofs.Sample.{in-sample, big-term, fun-term, map-term, wide-term}
+use Rattle.word_tests.proofs.term_parts.funs_and_maps.Goals as goal
 
 pub fun_env-requires : goal.fun_env-requires
 fun_env-requires c = in-sample c.args.mem.now 118 c.requires fun-term

@@ -1,6 +1,6 @@
 // The parts of terms of each kind, in a memory laid out by hand.
 ghost use Rattle.std.specs.Prelude.{◌≡◌, ◌≤◌, ◌^◌, length, IfOk};
-ghost use Rattle.ladder_tests.specs.Sample.{sample};
+ghost use Rattle.word_tests.specs.Sample.{sample};
 
 use std::alloc::Global;
 use std::test::Fail;

@@ -1,5 +1,5 @@
-use Rattle.ladder_tests.proofs.Sample.{in-sample, bytes-term, part-term, reference-term, shared-term}
-use Rattle.ladder_tests.proofs.term_parts.bytes_of_binaries.Goals as goal
+use Rattle.word_tests.proofs.Sample.{in-sample, bytes-term, part-term, reference-term, shared-term}
+use Rattle.word_tests.proofs.term_parts.bytes_of_binaries.Goals as goal
 
 pub byte_len-requires : goal.byte_len-requires
 byte_len-requires c = in-sample c.args.mem.now 26 c.requires bytes-term

@@ -1,5 +1,5 @@
-use Rattle.ladder_tests.proofs.Sample.{in-sample, empty-term, list-term, tuple-term}
-use Rattle.ladder_tests.proofs.term_parts.lists_and_tuples.Goals as goal
+use Rattle.word_tests.proofs.Sample.{in-sample, empty-term, list-term, tuple-term}
+use Rattle.word_tests.proofs.term_parts.lists_and_tuples.Goals as goal
 
 pub hd-requires : goal.hd-requires
 hd-requires c = in-sample c.args.mem.now 5 c.requires list-term
