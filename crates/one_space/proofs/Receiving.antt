@@ -22,7 +22,6 @@ use Rattle.two_halves.specs.declared.halves.Halves.{Halves}
 use Rattle.two_halves.specs.declared.table.Proc.{Proc}
 use Rattle.two_halves.proofs.Apart.{apart-same}
 use Rattle.two_halves.proofs.Filled.{halves-filled, laid_out}
-use Rattle.two_halves.proofs.Queuing.{proc-any}
 use Rattle.two_halves.proofs.Stacks.{no_row}
 use Rattle.one_space.specs.One.{HaveMade, Holds, IsCounted, OneStands, Sits, number_in}
 use Rattle.one_space.specs.Doing.{DoesAtOnce}
@@ -44,6 +43,12 @@ set-again [] i a b = refl
 set-again (x ∷ xs) zero a b = refl
 set-again (x ∷ xs) (suc i) a b = ap (λ z. x ∷ z) (set-again xs i a b)
 
+-- A row is the same whatever stands for a row that is not there.
+row-any : (rows : List Proc) (i : ℕ) (d e : Proc) → i < length rows → get_or rows i d ≡ get_or rows i e
+row-any [] i d e less = absurd (omega (arith, less))
+row-any (p ∷ rows) zero d e less = refl
+row-any (p ∷ rows) (suc i) d e less = row-any rows i d e (omega (arith, less))
+
 -- The space with other halves.
 abbrev pub with_halves : One → Halves → One
 with_halves b h = record { halves = h; row = b.row; next = b.next; serials = b.serials; named = b.named; calls = b.calls; swept = b.swept }
@@ -55,7 +60,7 @@ module _ (b : One) (holds : Holds b) (seat : Seat) (x : Sits b seat) (r : Reg) w
     holds = holds;
     follows = λ s terms names o.
         let p : Proc = get_or b.halves.procs.items seat.row no_row in
-        let is : p ≡ get_or b.halves.procs.items seat.row p = proc-any b.halves.procs.items seat.row no_row p x.within in
+        let is : p ≡ get_or b.halves.procs.items seat.row p = row-any b.halves.procs.items seat.row no_row p x.within in
         let q : Process = get_or s.processes seat.row no_process in
         let line : Parsed = said (OfProcess seat.pid (verb.Recv r)) terms names in
         let h = row-stands o.processes.test s.shared b.halves.mem b.halves.low (end_of b.halves) b.named b.halves.procs.items s.processes seat.row p x.within is o.processes.processes in
@@ -78,7 +83,7 @@ module _ (b : One) (holds : Holds b) (seat : Seat) (x : Sits b seat) (r : Reg) w
     p = get_or b.halves.procs.items seat.row no_row
 
     row-is : p ≡ get_or b.halves.procs.items seat.row p
-    row-is = proc-any b.halves.procs.items seat.row no_row p x.within
+    row-is = row-any b.halves.procs.items seat.row no_row p x.within
 
     moved : h2 ≡ with_row b.halves seat.row (shifted b.halves.mem p)
     moved = takes.same p row-is
