@@ -1,6 +1,6 @@
 -- What `recv` makes of a space.
 use Rattle.std.proofs.Common.{◌≡◌, ℕ, zero, suc, ◌+◌, ◌<◌, ◌≤◌, true, false, true≢false, List, [], ◌∷◌, length, get_or, set, Option, Some, Ok, Err, refl, sym, ◌∙◌, ap, subst, arith, inl}
-use Rattle.std.specs.Vec.{vec_capacity, with_item}
+use Rattle.std.specs.Vec.{vec_capacity, vec_len, with_item}
 use Rattle.std.proofs.lemmas.List.{length-set, get_or-set_same}
 use Rattle.plain_term.specs.Tree.{Tree}
 use Rattle.script_grammar.specs.declared.command.Command.TheVariants.{Process as OfProcess}
@@ -89,8 +89,11 @@ module _ (b : One) (holds : Holds b) (seat : Seat) (x : Sits b seat) (r : Reg) w
     moved = takes.same p row-is
 
     -- The rows of the half that was left.
-    pub left-within : seat.row < length h2.procs.items
+    left-within : seat.row < length h2.procs.items
     left-within = omega (arith, x.within, ap (λ z. length z.procs.items) moved, length-set b.halves.procs.items seat.row (shifted b.halves.mem p))
+
+    pub left-seated : seat.row < vec_len h2.procs
+    left-seated = omega (arith, left-within, h2.procs.ok.0)
 
     pub left-sweeps : h2.sweeps ≡ b.halves.sweeps
     left-sweeps = ap (λ z. z.sweeps) moved

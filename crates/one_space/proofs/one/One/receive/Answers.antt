@@ -1,4 +1,4 @@
-use Rattle.one_space.proofs.Receiving.{left-sweeps, left-within, receive-none, received-does}
+use Rattle.one_space.proofs.Receiving.{left-seated, left-sweeps, receive-none, received-does}
 use Rattle.one_space.proofs.one.One.receive.Goals as goal
 
 pub returns-in_default-clause-does : goal.returns-in_default-clause-does
@@ -6,7 +6,7 @@ returns-in_default-clause-does c =
     receive-none c.args.self.now c.requires.holds c.args.seat c.requires.sits c.args.r c.receive.new.self c.in_default.ensures.0 c.in_default.ensures.1
 
 pub index_mut-process-requires : goal.index_mut-process-requires
-index_mut-process-requires c = left-within c.args.self.now c.requires.holds c.args.seat c.requires.sits c.args.r c.receive.new.self c.in-Some.w c.in-Some.ensures
+index_mut-process-requires c = left-seated c.args.self.now c.requires.holds c.args.seat c.requires.sits c.args.r c.receive.new.self c.in-Some.w c.in-Some.ensures
 
 pub returns-clause-does : goal.returns-clause-does
 returns-clause-does c =
