@@ -30,3 +30,5 @@ mod Allowing
 mod Gaining
 mod Filling
 mod Funning
+mod Receiving
+mod Queuing

@@ -7,6 +7,7 @@ mod gathering;
 mod listing;
 mod new_calls;
 mod one;
+mod queues;
 mod sending;
 mod space;
 mod terms;
