@@ -79,10 +79,12 @@ send-requires c =
     let R : List Proc → Type 0 = λ z. c.in-Some-find.row < length z in
     let N : List Proc → Type 0 = λ z. number_at number_in z c.in-Some-find.row ≡ c.in-Some.number in
     let L : List Proc → Type 0 = λ z. true ≡ is_among number_in z c.in-Some.number in
-    can-send c.args.self.now c.requires.holds c.args.seat c.requires.sits c.args.s c.requires.register c.args.to c.in-Some.number c.in-Some.ensures c.word.result c.word.ensures
-    c.in-Within.size c.in-Within.ensures c.in-Some-find.row (subst R c.deref.ensures.value c.in-Some-find.ensures.place.0) (subst N c.deref.ensures.value c.in-Some-find.ensures.place.1)
-    (subst L c.deref.ensures.value c.in-Some-find.ensures.among) _ refl c.make_room.new.self c.make_room.result c.make_room.ensures c.if-not-make_room.false
-    c.index.result.now c.index.ensures
+    record {
+      can = can-send c.args.self.now c.requires.holds c.args.seat c.requires.sits c.args.s c.requires.register c.args.to c.in-Some.number c.in-Some.ensures c.word.result c.word.ensures
+          c.in-Within.size c.in-Within.ensures c.in-Some-find.row (subst R c.deref.ensures.value c.in-Some-find.ensures.place.0) (subst N c.deref.ensures.value c.in-Some-find.ensures.place.1)
+          (subst L c.deref.ensures.value c.in-Some-find.ensures.among) _ refl c.make_room.new.self c.make_room.result c.make_room.ensures c.if-not-make_room.false
+          c.index.result.now c.index.ensures;
+    }
 
 pub returns-clause-does : goal.returns-clause-does
 returns-clause-does c =
