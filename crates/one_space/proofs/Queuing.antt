@@ -1,10 +1,11 @@
 -- Messages in the places of a queue, and their texts one after the other.
-use Rattle.std.proofs.Common.{◌≡◌, ℕ, Bool, zero, suc, ◌+◌, ◌-◌, ◌<◌, ◌≤◌, ◌==◌, List, [], ◌∷◌, ◌++◌, codes, length, map, take, drop, get_or, Option, Some, Result, Ok, Err, OnOk, OnErr, refl, sym, ◌∙◌, ap, subst, arith}
+use Rattle.std.proofs.Common.{◌≡◌, ℕ, Bool, zero, suc, ◌+◌, ◌-◌, ◌<◌, ◌≤◌, ◌==◌, List, [], ◌∷◌, ◌++◌, length, map, take, drop, get_or, Option}
+use Rattle.std.proofs.Common.{Result, Ok, Err, OnOk, OnErr, refl, sym, ◌∙◌, ap, subst, arith}
 use Rattle.std.specs.Prelude.{IsErr}
 use Rattle.std.proofs.lemmas.List.{get_or-map, length-map}
 use Rattle.line_io.specs.Faults.{Rose}
 use Rattle.line_io.specs.Sink.{Grew, Writes, Written}
-use Rattle.text_parts.proofs.Writing.{written-after, written-as}
+use Rattle.text_parts.proofs.Writing.{written-as}
 use Rattle.reply_text.specs.Texts.{divider}
 use Rattle.counts_text.proofs.Listed.{entry_at, entries-begin, entries-done, entries-more, entries-stop}
 use Rattle.plain_term.specs.Tree.{Tree}
@@ -126,8 +127,7 @@ module _ {K : Type 0} (wrote : K → List ℕ → Type 0) (faults : K → ℕ) (
           × ((i < length (map (text names shared) ts)) × Stands always shared mem w (get_or ts i Nil))
       entry shared ts k =
           let under : i < length ts = omega (arith, below, k.left.count) in
-          let P : ℕ → Type 0 = λ z. Stands always shared mem z (get_or ts i Nil) in
-          (
+          let P : ℕ → Type 0 = λ z. Stands always shared mem z (get_or ts i Nil) in (
             ap (λ z. divider (i == 0) ++ z) (sym (get_or-map (text names shared) ts i Nil [] under)),
             (omega (arith, under, length-map ts (text names shared)), subst P (sym is) (left-here shared mem (length names) waiting ts i place k.left below).standing),
           )
