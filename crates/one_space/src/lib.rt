@@ -7,6 +7,8 @@ mod gathering;
 mod listing;
 mod new_calls;
 mod one;
+mod queues;
+mod sending;
 mod space;
 mod terms;
 mod told;

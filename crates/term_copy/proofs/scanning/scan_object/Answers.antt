@@ -1,4 +1,4 @@
-use Rattle.std.proofs.Common.{◌≡◌, ℕ, ◌+◌, ◌/◌, get_or, arith}
+use Rattle.std.proofs.Common.{◌+◌, ◌/◌, get_or, arith}
 use Rattle.term_copy.proofs.Stepping.{at-memory, opens-at, traced-boxed, traced-cons}
 use Rattle.term_copy.proofs.scanning.scan_object.Goals as goal
 
