@@ -119,7 +119,8 @@ pop-fits after s p q r [] e g = tt
 pop-fits after s p q r (t ∷ stack) e g = (refl, sym e, sym g)
 
 -- so do `recv`
-recv-fits : (after : After) (s : State) (p : Parsed) (q : Live) (r : ℕ) (queue : List Tree) → names_left Done s p ≡ p.names → is_quit p.command ≡ false → Fitting after s p Done (recv_from queue s p q r)
+recv-fits : (after : After) (s : State) (p : Parsed) (q : Live) (r : ℕ) (queue : List Tree) → names_left Done s p ≡ p.names → is_quit p.command ≡ false
+    → Fitting after s p Done (recv_from queue s p q r)
 recv-fits after s p q r [] e g = tt
 recv-fits after s p q r (t ∷ queue) e g = (refl, sym e, sym g)
 
