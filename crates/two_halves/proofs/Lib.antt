@@ -22,3 +22,5 @@ pub mod Joining
 mod Adding
 mod Linking
 mod Queuing
+mod Following
+mod Entering

@@ -1,5 +1,5 @@
 -- Messages that enter and leave queues.
-use Rattle.std.specs.Prelude.{◌≡◌, ℕ, ◌+◌, ◌-◌, ◌/◌, ◌<◌, ◌≤◌, ◌⊎◌, List, [], ◌∷◌, ◌++◌, Option, Some, None, length, get_or, set, slice_index}
+use Rattle.std.specs.Prelude.{◌≡◌, ℕ, zero, suc, ◌+◌, ◌-◌, ◌/◌, ◌<◌, ◌≤◌, ◌⊎◌, true, List, [], ◌∷◌, ◌++◌, Option, Some, None, length, get_or, set, slice_index, slice_set}
 use Rattle.std.specs.Vec.{with_item}
 use Rattle.plain_term.specs.Tree.{Tree}
 use Rattle.plain_term.specs.Measures.{flat}
@@ -71,19 +71,51 @@ abbrev pub Receives : (old new : Halves) → (row : ℕ) → Option ℕ → Type
 Receives old new row None = (new ≡ old) × ((d : Proc) → (get_or old.procs.items row d).waiting ≡ 0)
 Receives old new row (Some w) = Takes old new row w
 
+-- A place follows the last one of a queue; the answer is the first place then.
+abbrev pub Follows : (old new : List ℕ) → (queue last waiting place : ℕ) → (result : ℕ) → Type 0
+Follows old new queue last zero place result = (new ≡ old) × (result ≡ place)
+Follows old new queue last (suc n) place result = (new ≡ slice_set old (last + 1) place) × (result ≡ queue)
+
 -- The half in use stands for some processes, of which one has the row, and the word stands for a tree that fits: a message of it
 -- asks for no more words than are free.
 pub record CanSend (h : Halves) (row w : ℕ) : Type 0 where
   pub has : HasRow h row
   pub tree : Tree
-  pub made : Stands has.stands.test has.shared h.mem w tree
+  pub held : HoldsTree has.stands.test has.shared h.mem has.named w tree
   pub fits : MESSAGE_COST + flat tree ≤ free_in h
+
+-- The half in use stands for some processes, of which one has the row, and the word stands for a tree; a place is free.
+pub record CanQueue (h : Halves) (row w : ℕ) : Type 0 where
+  pub has : HasRow h row
+  pub tree : Tree
+  pub held : HoldsTree has.stands.test has.shared h.mem has.named w tree
+  pub fits : PLACE_WORDS ≤ free_in h
 
 -- The message is the last of the process with this row.
 pub record HasEntered (named : ℕ) (new : Halves) (shared : List (List ℕ)) (qs : List Process) (row : ℕ) (t : Tree) : Type 0 where
   pub process : Process
   pub is : (d : Process) → get_or qs row d ≡ process
   pub stands : HalvesStand named new shared (set qs row (record process { queue = process.queue ++ t ∷ [] }))
+
+-- A place with this word is the last of the queue of the row: no word with a role was written, the messages are those of before and
+-- the word, and the roots are those of before and the word.
+pub record Queues (old new : Halves) (row w : ℕ) : Type 0 where
+  pub laid : IsLaid new
+  pub same_len : length new.mem ≡ length old.mem
+  pub base : new.base ≡ old.base
+  pub top : new.top ≡ old.top
+  pub low : new.low + PLACE_WORDS ≡ old.low
+  pub first : ℕ
+  pub procs : (p : Proc) → p ≡ get_or old.procs.items row p → new.procs ≡ with_item old.procs row (with_queue p first new.low (p.waiting + 1))
+  pub bins : new.bins ≡ old.bins
+  pub funs : new.funs ≡ old.funs
+  pub sweeps : new.sweeps ≡ old.sweeps
+  pub enters : (named : ℕ) (shared : List (List ℕ)) (qs : List Process) (x : HalvesStand named old shared qs) (t : Tree) → HoldsTree x.test shared old.mem named w t
+      → HasEntered named new shared qs row t
+  pub words : (named : ℕ) (shared : List (List ℕ)) (qs : List Process) (x : HalvesStand named old shared qs) (a k : ℕ) → x.test a k ≡ true
+      → slice_index new.mem a ≡ slice_index old.mem a
+  pub messages : (p o : Proc) → p ≡ get_or new.procs.items row p → o ≡ get_or old.procs.items row o → values new.mem p.queue p.waiting ≡ values old.mem o.queue o.waiting ++ w ∷ []
+  pub roots : (v : ℕ) → In v (roots_of new) → (v ≡ w) ⊎ In v (roots_of old)
 
 -- What the message reaches and what all that stood before reach have no object in common.
 pub record IsAlone (old new : Halves) (row word : ℕ) : Type 0 where

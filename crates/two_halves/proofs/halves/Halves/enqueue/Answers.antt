@@ -1,0 +1,15 @@
+use Rattle.std.proofs.Common.{◌-◌, refl, arith}
+use Rattle.two_halves.proofs.Entering.{last-inside, queues, waiting-few}
+use Rattle.two_halves.proofs.halves.Halves.enqueue.Goals as goal
+
+pub follow-first-requires : goal.follow-first-requires
+follow-first-requires c = last-inside c.args.self.now c.args.row c.args.w c.requires.can c.index-process.result.now c.index-process.ensures
+
+pub overflow_add-process : goal.overflow_add-process
+overflow_add-process c =
+    omega (arith, c.len-len.ensures.most, waiting-few c.args.self.now c.args.row c.args.w c.requires.can c.index-process.result.now c.index-process.ensures)
+
+pub returns : goal.returns
+returns c =
+    queues c.args.self.now c.args.row c.args.w c.requires.can c.index-process.result.now c.index-process.ensures c.follow-first.new.mem c.set.new.self
+    (c.args.self.now.low - 2) c.follow-first.result refl c.follow-first.ensures c.set.ensures
