@@ -13,7 +13,7 @@ use Rattle.script_grammar.specs.Written.Terms.{end, ◌▹◌}
 use Rattle.script_grammar.specs.Grammar.{MayStand, IsBuiltTerm}
 use Rattle.script_grammar.specs.Names.{Parsed, atoms_of, held_terms}
 use Rattle.plain_machine.specs.Made.{tree_of, trees_of}
-use Rattle.plain_machine.specs.State.{Process as Live, Area, State, HasNames, fresh_process, with_register}
+use Rattle.plain_machine.specs.State.{Process as Live, Area, State, HasNames, fresh_process, with_register, with_queued}
 use Rattle.plain_machine.specs.Tightness.{held_trees, living_trees}
 use Rattle.plain_machine.specs.Flaws.{is_wide, is_big, flaw_of}
 use Rattle.plain_machine.specs.Step.{written_tree, written_flaw, env_of}
@@ -55,10 +55,10 @@ module _ (shared : List (List ℕ)) where
 
   -- a tree more in the queue of the process with a number
   sent-within : (n : ℕ) (t : Tree) (qs : List Live) → AreWithin shared (t ∷ []) → AreWithin shared (queues qs)
-      → AreWithin shared (queues (map (λ q. cond (q.number == n) (record q { queue = q.queue ++ t ∷ [] }) q) qs))
+      → AreWithin shared (queues (map (with_queued n t) qs))
   sent-within n t [] h k = tt
   sent-within n t (q ∷ qs) h k = let l = split-within q.queue (queues qs) k in
-      joined-within (cond (q.number == n) (record q { queue = q.queue ++ t ∷ [] }) q).queue (queues (map (λ q. cond (q.number == n) (record q { queue = q.queue ++ t ∷ [] }) q) qs))
+      joined-within (with_queued n t q).queue (queues (map (with_queued n t) qs))
       (at (q.number == n) l.0) (sent-within n t qs h l.1)
     where
       at : (b : Bool) → AreWithin shared q.queue → AreWithin shared (cond b (record q { queue = q.queue ++ t ∷ [] }) q).queue
@@ -140,11 +140,11 @@ module _ (names shared : List (List ℕ)) where
 
   -- a tree more in the queue of the process with a number
   pub sent-proper : (n : ℕ) (t : Tree) (qs : List Live) → is_proper names shared t ≡ true → AreProper names shared (flat_map held_trees qs)
-      → AreProper names shared (flat_map held_trees (map (λ q. cond (q.number == n) (record q { queue = q.queue ++ t ∷ [] }) q) qs))
+      → AreProper names shared (flat_map held_trees (map (with_queued n t) qs))
   sent-proper n t [] h k = tt
   sent-proper n t (q ∷ qs) h k = let l = split-proper (held_trees q) (flat_map held_trees qs) k in
-      joined-proper (held_trees (cond (q.number == n) (record q { queue = q.queue ++ t ∷ [] }) q))
-      (flat_map held_trees (map (λ q. cond (q.number == n) (record q { queue = q.queue ++ t ∷ [] }) q) qs))
+      joined-proper (held_trees (with_queued n t q))
+      (flat_map held_trees (map (with_queued n t) qs))
       (at (q.number == n) l.0) (sent-proper n t qs h l.1)
     where
       at : (b : Bool) → AreProper names shared (held_trees q) → AreProper names shared (held_trees (cond b (record q { queue = q.queue ++ t ∷ [] }) q))
@@ -222,8 +222,8 @@ module _ (s : State) (names : List (List ℕ)) (b : Before s names) where
 
   -- a tree more in the queue of the process with a number
   pub sent-lives : (n : ℕ) (t : Tree) → is_proper names s.shared t ≡ true → is_beyond s.shared t ≡ false
-      → Living names s.shared (map (λ q. cond (q.number == n) (record q { queue = q.queue ++ t ∷ [] }) q) s.processes) s.areas
-  sent-lives n t p w = all-live names s.shared (map (λ q. cond (q.number == n) (record q { queue = q.queue ++ t ∷ [] }) q) s.processes) s.areas
+      → Living names s.shared (map (with_queued n t) s.processes) s.areas
+  sent-lives n t p w = all-live names s.shared (map (with_queued n t) s.processes) s.areas
       (sent-proper names s.shared n t s.processes p b.held) b.literals (sent-within s.shared n t s.processes (w, tt) b.within)
 
   -- one process less

@@ -2,7 +2,7 @@
 use Rattle.std.proofs.Common.{◌≡◌, ℕ, ◌+◌, ◌<◌, ◌≤◌, Bool, true, false, not, cond, ◌==◌, ◌||◌, List, [], ◌∷◌, ◌++◌, map, filter, refl, sym, ap, subst, ◌∙◌, arith, eqb-true}
 use Rattle.std.specs.List.{list_any}
 use Rattle.plain_term.specs.Tree.{Tree}
-use Rattle.plain_machine.specs.State.{Process as Live, State, is_live, live_numbers}
+use Rattle.plain_machine.specs.State.{Process as Live, State, is_live, live_numbers, with_queued}
 use Rattle.plain_machine.specs.Laws.{AreNumbered, IsNumbered}
 
 -- a lower bound does as well
@@ -22,12 +22,12 @@ with-process-numbers p (q ∷ qs) = at (q.number == p.number) refl (with-process
 
 -- a tree more in the queue of the process with a number
 with-message-numbers : (n : ℕ) (t : Tree) (qs : List Live)
-    → map (λ q. q.number) (map (λ q. cond (q.number == n) (record q { queue = q.queue ++ t ∷ [] }) q) qs) ≡ map (λ q. q.number) qs
+    → map (λ q. q.number) (map (with_queued n t) qs) ≡ map (λ q. q.number) qs
 with-message-numbers n t [] = refl
 with-message-numbers n t (q ∷ qs) = at (q.number == n) (with-message-numbers n t qs)
   where
     more : List Live
-    more = map (λ q. cond (q.number == n) (record q { queue = q.queue ++ t ∷ [] }) q) qs
+    more = map (with_queued n t) qs
 
     at : (b : Bool) → map (λ q. q.number) more ≡ map (λ q. q.number) qs
         → (cond b (record q { queue = q.queue ++ t ∷ [] }) q).number ∷ map (λ q. q.number) more ≡ q.number ∷ map (λ q. q.number) qs
@@ -129,7 +129,7 @@ pub keeps-process : (s new : State) (p : Live) → new.processes ≡ map (λ q. 
 keeps-process s new p e f = keeps-numbers s new (ap (map (λ q. q.number)) e ∙ with-process-numbers p s.processes) f
 
 -- a tree more in the queue of the process with a number
-pub keeps-message : (s new : State) (n : ℕ) (t : Tree) → new.processes ≡ map (λ q. cond (q.number == n) (record q { queue = q.queue ++ t ∷ [] }) q) s.processes
+pub keeps-message : (s new : State) (n : ℕ) (t : Tree) → new.processes ≡ map (with_queued n t) s.processes
     → new.next ≡ s.next → Keeps s new
 keeps-message s new n t e f = keeps-numbers s new (ap (map (λ q. q.number)) e ∙ with-message-numbers n t s.processes) f
 
