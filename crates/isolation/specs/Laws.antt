@@ -1,5 +1,5 @@
 -- What is true of each process of each run from the first state.
-use Rattle.std.specs.Prelude.{ℕ, ◌≡◌, ◌+◌, Bool, List, [], ◌∷◌, ◌++◌, codes, decimal, Some}
+use Rattle.std.specs.Prelude.{ℕ, ◌≡◌, ◌⊎◌, Bool, List, [], ◌∷◌, ◌++◌, codes, decimal, Some}
 use Rattle.line_io.specs.Lines.{Line}
 use Rattle.script_grammar.specs.Written.Written.{OfSystem}
 use Rattle.script_grammar.specs.declared.word.SysWord.TheVariants.{Spawn}

@@ -1,5 +1,5 @@
 -- What the machine does to trees, by name.
-use Rattle.std.proofs.Common.{◌≡◌, ℕ, zero, suc, ◌+◌, Bool, true, false, cond, nat_le, List, [], ◌∷◌, length, map, get_or, Option, Some, None, refl, sym, ap, ◌∙◌}
+use Rattle.std.proofs.Common.{◌≡◌, ℕ, zero, suc, ◌+◌, Bool, true, false, cond, nat_le, List, [], ◌∷◌, length, map, get_or, Option, Some, None, refl, ap, ◌∙◌}
 use Rattle.std.specs.Prelude.{option_map}
 use Rattle.std.specs.Ordering.{is_eq, match_ordering}
 use Rattle.std.specs.declared.cmp.Ordering.{Ordering}
@@ -18,7 +18,7 @@ use Rattle.script_grammar.specs.declared.command.Shape.TheVariants.{Tuple as InT
 use Rattle.plain_machine.specs.State.{Process, register}
 use Rattle.plain_machine.specs.Made.{with_pair, with_pairs, list_tree}
 use Rattle.plain_machine.specs.Parts.{head_in, tail_in, tree_after, element_in, place_in, env_in, part_in, value_of, value_in, picked, times, repeated}
-use Rattle.named_trees.specs.NamedTree.{NamedTree, NamedTrees, NamedPairs, named, all_named, pairs_named}
+use Rattle.named_trees.specs.NamedTree.{NamedTree, NamedPairs, named, all_named, pairs_named}
 use Rattle.named_trees.specs.NamedTree.{NamedTree as by_name}
 use Rattle.named_trees.specs.NamedTree.{NamedTrees as all_by_name}
 use Rattle.named_trees.specs.NamedTree.{NamedPairs as pairs_by_name}

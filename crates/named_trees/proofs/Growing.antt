@@ -1,5 +1,5 @@
 -- More names and shared binaries behind those that there are leave known trees as they are by name.
-use Rattle.std.proofs.Common.{◌≡◌, ℕ, zero, suc, ◌<◌, ◌≤◌, true, nat_lt, nat_le, List, [], ◌++◌, length, refl, ap, arith, ltb-true}
+use Rattle.std.proofs.Common.{◌≡◌, ℕ, zero, suc, ◌≤◌, true, nat_lt, nat_le, List, [], ◌++◌, length, refl, ap, arith, ltb-true}
 use Rattle.std.proofs.lemmas.Bool.{and_parts, leb-true}
 use Rattle.std.proofs.lemmas.List.{get_or_append_left}
 use Rattle.plain_term.specs.Tree.{Tree, Trees, Pairs}
@@ -7,7 +7,6 @@ use Rattle.plain_term.specs.Tree.Tree.{Int, Atom, Pid, Ref, Nil, Cons, Tuple, Ma
 use Rattle.plain_term.specs.Tree.Trees.{end, ◌▹◌}
 use Rattle.plain_term.specs.Tree.Pairs.{stop, pair}
 use Rattle.plain_term.specs.Bytes.{shared_bytes}
-use Rattle.plain_term.specs.Order.{name_of}
 use Rattle.plain_term.specs.Proper.{is_proper, are_proper, are_proper_pairs}
 use Rattle.plain_machine.proofs.Growing.{cons-parts, all-parts, fun-parts, part-parts, map-parts, pairs-parts}
 use Rattle.named_trees.specs.NamedTree.{named, all_named, pairs_named, IsKnown, AreKnown, PairsKnown}

@@ -1,11 +1,11 @@
 -- A tree by name enters a state: its names and byte lists are added where they are new, and it is a tree over them.
-use Rattle.std.specs.Prelude.{ℕ, ◌≡◌, ◌+◌, List, [], ◌∷◌, ◌++◌}
+use Rattle.std.specs.Prelude.{ℕ, ◌+◌, List, [], ◌∷◌, ◌++◌}
 use Rattle.plain_term.specs.Tree.{Tree, Trees, Pairs}
 use Rattle.plain_term.specs.Tree.{Tree as tree}
 use Rattle.plain_term.specs.Tree.{Trees as trees}
 use Rattle.plain_term.specs.Tree.{Pairs as pairs}
 use Rattle.script_grammar.specs.Names.{number_of, with_names}
-use Rattle.named_trees.specs.NamedTree.{NamedTree, NamedTrees, NamedPairs, named, IsKnown}
+use Rattle.named_trees.specs.NamedTree.{NamedTree, NamedTrees, NamedPairs}
 use Rattle.named_trees.specs.NamedTree.NamedTree.{Int, Atom, Pid, Ref, Nil, Cons, Tuple, Map, Bin, Shared, Part, Fun}
 use Rattle.named_trees.specs.NamedTree.NamedTrees.{nothing, before}
 use Rattle.named_trees.specs.NamedTree.NamedPairs.{unpaired, paired}
@@ -48,10 +48,6 @@ abbrev mutual
   pairs_bytes_in unpaired = []
   pairs_bytes_in (paired k v ps) = bytes_in k ++ (bytes_in v ++ pairs_bytes_in ps)
 
--- Lists with each of these that is new at their end, in order of first place; so names are added.
-abbrev pub with_lists : (lists new : List (List ℕ)) → List (List ℕ)
-with_lists lists new = with_names lists new
-
 -- The id of the first shared binary with these bytes; ids count from 1.
 abbrev pub id_of : (shared : List (List ℕ)) → List ℕ → ℕ
 id_of shared bytes = number_of shared bytes + 1
@@ -80,12 +76,14 @@ abbrev mutual
   pairs_over names shared unpaired = pairs.stop
   pairs_over names shared (paired k v ps) = pairs.pair (tree_over names shared k) (tree_over names shared v) (pairs_over names shared ps)
 
--- The names and the byte lists with those of the tree, and the tree over them.
+-- The names with those of the tree that are new, and the byte lists with those that are new, at their ends in order of first place.
 abbrev pub names_with : (names : List (List ℕ)) → NamedTree → List (List ℕ)
-names_with names t = with_lists names (names_in t)
+names_with names t = with_names names (names_in t)
 
 abbrev pub shared_with : (shared : List (List ℕ)) → NamedTree → List (List ℕ)
-shared_with shared t = with_lists shared (bytes_in t)
+shared_with shared t = with_names shared (bytes_in t)
+
+-- The tree over them.
 
 abbrev pub entered : (names shared : List (List ℕ)) → NamedTree → Tree
 entered names shared t = tree_over (names_with names t) (shared_with shared t) t
