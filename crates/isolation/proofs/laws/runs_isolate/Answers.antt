@@ -1,0 +1,4 @@
+use Rattle.isolation.proofs.laws.runs_isolate.Goals as goal
+
+pub returns : goal.returns
+returns c = ?

@@ -1,0 +1,4 @@
+use Rattle.isolation.proofs.laws.same_views_are_answered_alike.Goals as goal
+
+pub returns : goal.returns
+returns c = ?
