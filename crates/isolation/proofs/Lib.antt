@@ -1,3 +1,4 @@
 mod Finding
 mod ByName
 mod Own
+mod Others
