@@ -2,3 +2,4 @@ mod Finding
 mod ByName
 mod Own
 mod Others
+mod Alike
