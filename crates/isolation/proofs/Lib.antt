@@ -3,3 +3,4 @@ mod ByName
 mod Own
 mod Others
 mod Alike
+mod Told
