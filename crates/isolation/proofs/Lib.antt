@@ -4,3 +4,4 @@ mod Own
 mod Others
 mod Alike
 mod Told
+mod Alone

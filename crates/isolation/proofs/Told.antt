@@ -97,7 +97,7 @@ run-events may words quits s new (line ∷ lines) replies h =
     }
 
 -- trees stay proper over an event
-event-proper : (may : ℕ → State → Parsed → Bool) (words : ℕ) (quits : Bool) (e : Event) → IsEvent may words quits e → HoldsProper e.before → HoldsProper e.after
+pub event-proper : (may : ℕ → State → Parsed → Bool) (words : ℕ) (quits : Bool) (e : Event) → IsEvent may words quits e → HoldsProper e.before → HoldsProper e.after
 event-proper may words quits e h p = run-proper may words quits e.before e.after (e.line ∷ []) e.replies p
     (run-one may words quits e.before e.after e.line e.replies (event-line may words quits e e.line e.said h))
 
@@ -133,7 +133,7 @@ command-brings may words quits m e w is apart h = at (is_nothing (parsed_of e.be
     at false (inl k) = gives-brings m e w quits (parsed_of e.before.names w).command (step_at e.before w) is (other-line m e.before w apart) k
     at false (inr k) = stays m e k.refuses.same
 
-event-brings : (may : ℕ → State → Parsed → Bool) (words : ℕ) (quits : Bool) (m : ℕ) (e : Event) (line : Line) (said : Option Written) → e.said ≡ said → is_own m said ≡ false
+pub event-brings : (may : ℕ → State → Parsed → Bool) (words : ℕ) (quits : Bool) (m : ℕ) (e : Event) (line : Line) (said : Option Written) → e.said ≡ said → is_own m said ≡ false
     → IsAnswered may words quits e line said → Brings m e
 event-brings may words quits m e (text line) (Some w) is apart h = command-brings may words quits m e w is apart h.step
 event-brings may words quits m e (text line) None is apart (inl h) = stays m e ((h.1).same)
@@ -149,7 +149,7 @@ area-none (OfSystem w ops) replies b = refl
 area-none (OfProcess n w ops) replies b = refl
 area-none Nothing replies b = refl
 
-areas-none : (may : ℕ → State → Parsed → Bool) (words : ℕ) (quits : Bool) (e : Event) (line : Line) (said : Option Written) → IsAnswered may words quits e line said → areas said e.replies ≡ []
+pub areas-none : (may : ℕ → State → Parsed → Bool) (words : ℕ) (quits : Bool) (e : Event) (line : Line) (said : Option Written) → IsAnswered may words quits e line said → areas said e.replies ≡ []
 areas-none may words quits e (text line) (Some w) h = area-none w e.replies h.built
 areas-none may words quits e line None h = refl
 areas-none may words quits e long (Some w) h = absurd h
