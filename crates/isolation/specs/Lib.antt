@@ -2,3 +2,4 @@ pub mod Events
 pub mod Views
 pub mod Solo
 pub mod Laws
+pub mod Examples
