@@ -30,7 +30,7 @@ fn answer_to(line: &[u8], names: &mut AtomNames, code: &mut Code) -> Answer {
 }
 
 // Lines that are read: nothing, or one command.
-const READ: [&[u8]; 67] = [
+const READ: [&[u8]; 76] = [
     b"",
     b" \t ",
     b"% any \x00\xff bytes",
@@ -98,10 +98,19 @@ const READ: [&[u8]; 67] = [
     b"1 env 0 1 2",
     b"sys counts",
     b" sys  counts ",
+    b"1 send 0 0",
+    b"1 send 0 1",
+    b"1 send 15 1099511627775",
+    b"1 send 0 $0",
+    b"  7\tsend  3 \t $15 ",
+    b"1 recv 0",
+    b" 1  recv\t15 ",
+    b"1 queue",
+    b" 0\tqueue ",
 ];
 
 // Lines that are in no grammar, or only in that of what is not built.
-const UNREAD: [&[u8]; 157] = [
+const UNREAD: [&[u8]; 181] = [
     b"1099511627776 exit",
     b"01 exit",
     b"+1 exit",
@@ -250,7 +259,31 @@ const UNREAD: [&[u8]; 157] = [
     b"1 env 0 1 $2",
     b"sys counts 0",
     b"1 counts",
-    b"1 recv 0",
+    b"1 lit 0 a 1",
+    b"1 send",
+    b"1 send 0",
+    b"1 send 0 ",
+    b"1 send 0 1 2",
+    b"1 send 0 01",
+    b"1 send 0 -1",
+    b"1 send 0 1099511627776",
+    b"1 send 16 1",
+    b"1 send $0 1",
+    b"1 send 0 $16",
+    b"1 send 0 $00",
+    b"1 send 0 $",
+    b"1 send 0 $ 1",
+    b"1 send 0 $1 $2",
+    b"1 send 0 a",
+    b"1 send 0 <0.1.0>",
+    b"1 send 0$1",
+    b"1 recv",
+    b"1 recv 16",
+    b"1 recv 0 0",
+    b"1 recv $0",
+    b"1 queue 0",
+    b"queue 1",
+    b"sys queue",
     b"1 gc",
     b"1 gc 0",
     b"1 gc full",

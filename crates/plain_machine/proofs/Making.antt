@@ -190,7 +190,8 @@ module _ (names : List (List ℕ)) where
           (numbers-back names (atoms_of t) (atoms_of_all ts) p) x.1 y.1)
 
       pub pairs-made-proper : (levels : ℕ) (qs : TermPairs) (before : List (List ℕ)) → AreProper names before given → AreBuiltPairs qs → PairsMayStand levels qs → HaveNumbers names (atoms_of_pairs qs)
-          → are_wide_pairs names given qs before ≡ false → are_big_pairs names given qs before ≡ false → are_proper_pairs names ((pairs_of names given qs before).1) ((pairs_of names given qs before).0) ≡ true
+          → are_wide_pairs names given qs before ≡ false → are_big_pairs names given qs before ≡ false
+          → are_proper_pairs names ((pairs_of names given qs before).1) ((pairs_of names given qs before).0) ≡ true
       pairs-made-proper levels stop before a b m p w g = refl
       pairs-made-proper levels (pair k v qs) before a b m p w g =
           let key : Tree × List (List ℕ) = tree_of names given k before in

@@ -282,6 +282,7 @@ takes_several word.MapPut = true
 takes_several word.Fill = true
 takes_several word.MkTuple = true
 takes_several word.MkList = true
+takes_several word.Send = true
 takes_several word.Eq = true
 takes_several word.Cmp = true
 takes_several w = takes_part w
@@ -289,6 +290,21 @@ takes_several w = takes_part w
 -- One of these with the operands after it.
 abbrev pub several_run : Word → List ℕ → Out → Option (Verb × Out)
 several_run w line o = cond (takes_several w) (row_run (row_of w) line o) None
+
+-- The built verbs of a process that take one register, and those that take several operands, none of them a term or a name.
+abbrev pub takes_single : Word → Bool
+takes_single word.Ref = true
+takes_single word.Own = true
+takes_single word.Push = true
+takes_single word.Pop = true
+takes_single word.Recv = true
+takes_single word.Print = true
+takes_single word.Flat = true
+takes_single w = takes_several w
+
+-- One of these with the operands after it.
+abbrev pub single_run : Word → List ℕ → Out → Option (Verb × Out)
+single_run w line o = cond (takes_single w) (row_run (row_of w) line o) None
 
 -- A verb of the system with the operands after it, where it is built.
 abbrev pub sys_verb_run : SysWord → List ℕ → Out → Option (SysVerb × Out)

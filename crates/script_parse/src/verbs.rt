@@ -1,21 +1,23 @@
 ghost use Rattle.std.specs.Prelude.{◌≡◌, ℕ, ◌+◌, ◌≤◌, ◌<◌, Bool, true, false, List, [], ◌∷◌, length, MatchOption, Some, None};
 ghost use Rattle.script_grammar.specs.Names.{Arguments};
 ghost use Rattle.script_grammar.specs.Written.{Kind};
-ghost use Rattle.script_grammar.specs.Written.Kind.{Slot, Count, Title, Environment, Extent, Body};
+ghost use Rattle.script_grammar.specs.Written.Kind.{Slot, Count, Receiver, Title, Environment, Extent, Body};
 ghost use Rattle.script_grammar.specs.declared.limits.TheConstants.{MOST_HELD};
 ghost use Rattle.script_parse.specs.declared.buffer.TheConstants.{MOST_ITEMS};
 ghost use Rattle.script_parse.specs.declared.numbers.TheConstants.{GREATEST, LAST_REGISTER};
 ghost use Rattle.script_parse.specs.Output.{Out, given, Grows};
-ghost use Rattle.script_parse.specs.Reading.{extent_at, held_at, held_run, number_at, spaced_at, title_run, row, row_run, choice_run, several_run, verb_run, named_run, process_run, sys_verb_run, sys_named_run, system_run};
+ghost use Rattle.script_parse.specs.Reading.{extent_at, held_at, held_run, number_at, receiver_at, spaced_at, title_run, row, row_run, choice_run, several_run, single_run, verb_run, named_run, process_run, sys_verb_run, sys_named_run, system_run};
 
 use crate::atoms::atom;
-use crate::blanks::{after_byte, after_text, ends, gap, skip, word_len};
+use crate::blanks::{after_byte, after_text, ends, first, gap, skip, word_len};
 use crate::numbers::{GREATEST, LAST_REGISTER, number};
 use crate::output::Output;
 use crate::terms::term;
 use crate::words::{sys_word, verb_word};
 use plain_term::Item;
-use script_grammar::{Depth, LEVELS, MOST_HELD, Pick, Reg, Shape, SysVerb, SysWord, Verb, Word};
+use script_grammar::{
+    Depth, LEVELS, MOST_HELD, Pick, Reg, Shape, SysVerb, SysWord, To, Verb, Word,
+};
 
 /// A blank and a register.
 fn register(line: &[u8]) -> Option<(Reg, &[u8])>
@@ -77,6 +79,19 @@ fn environment<'a>(line: &'a [u8], out: &mut Output) -> &'a [u8]
         rest = after;
     }
     rest
+}
+
+/// A process by its number, or by `$` and a register.
+fn receiver(line: &[u8]) -> Option<(To, &[u8])>
+    ensures value { MatchOption result (receiver_at line.now ≡ None) (λ r. receiver_at line.now ≡ Some (r.0, r.1.now)) }
+{
+    let (b, after) = first(line)?;
+    if b != b'$' {
+        let (n, rest) = number(line, GREATEST)?;
+        return Some((To::Number(n), rest));
+    }
+    let (r, rest) = number(after, LAST_REGISTER)?;
+    Some((To::Held(Reg(r as u8)), rest))
 }
 
 /// A depth of collection.
@@ -209,6 +224,18 @@ fn slot_title_count_held(line: &[u8], out: &mut Output) -> Option<(Reg, u64, u64
     }
 }
 
+/// A register and a process, and nothing more.
+#[tactic(auto, unfolding(crate::specs::Reading::row_run))]
+fn slot_receiver(line: &[u8]) -> Option<(Reg, To)>
+    ensures value { (o : Out) (f : Arguments (Slot ∷ Receiver ∷ []) → Verb) → MatchOption result (row_run (row (Slot ∷ Receiver ∷ []) f) line.now o ≡ None)
+        (λ r. row_run (row (Slot ∷ Receiver ∷ []) f) line.now o ≡ Some (f (r.0.0, (r.1, tt)), o)) }
+{
+    let (r, rest) = register(line)?;
+    let rest = gap(rest)?;
+    let (to, rest) = receiver(skip(rest))?;
+    if ends(rest) { Some((r, to)) } else { None }
+}
+
 /// A depth of collection, and nothing more.
 #[tactic(auto, unfolding(crate::specs::Reading::row_run))]
 fn extent(line: &[u8]) -> Option<Depth>
@@ -288,6 +315,10 @@ fn several(word: Word, line: &[u8]) -> Option<Verb>
             let (r, n, s) = slot_count_slot(line)?;
             Some(Verb::Repeat(r, Shape::List, n, s))
         },
+        Word::Send => {
+            let (r, to) = slot_receiver(line)?;
+            Some(Verb::Send(r, to))
+        },
         Word::Eq => {
             let (r, s) = two_slots(line)?;
             Some(Verb::Eq(r, s))
@@ -297,6 +328,22 @@ fn several(word: Word, line: &[u8]) -> Option<Verb>
             Some(Verb::Cmp(r, s))
         },
         _ => choice(word, line),
+    }
+}
+
+/// The operand of a verb of a process that takes one register, or the operands of one that takes several.
+fn single(word: Word, line: &[u8]) -> Option<Verb>
+    ensures { (o : Out) → MatchOption result (single_run word line.now o ≡ None) (λ v. single_run word line.now o ≡ Some (v, o)) }
+{
+    match word {
+        Word::Ref => Some(Verb::Ref(slot(line)?)),
+        Word::Own => Some(Verb::Own(slot(line)?)),
+        Word::Push => Some(Verb::Push(slot(line)?)),
+        Word::Pop => Some(Verb::Pop(slot(line)?)),
+        Word::Recv => Some(Verb::Recv(slot(line)?)),
+        Word::Print => Some(Verb::Print(slot(line)?)),
+        Word::Flat => Some(Verb::Flat(slot(line)?)),
+        _ => several(word, line),
     }
 }
 
@@ -313,18 +360,16 @@ fn verb(word: Word, line: &[u8], out: &mut Output) -> Option<Verb>
             let (r, name, arity) = slot_title_count_held(line, out)?;
             Some(Verb::Fun(r, name, arity))
         },
-        Word::Ref => Some(Verb::Ref(slot(line)?)),
-        Word::Own => Some(Verb::Own(slot(line)?)),
-        Word::Push => Some(Verb::Push(slot(line)?)),
-        Word::Pop => Some(Verb::Pop(slot(line)?)),
-        Word::Print => Some(Verb::Print(slot(line)?)),
-        Word::Flat => Some(Verb::Flat(slot(line)?)),
         Word::Gc => Some(Verb::Gc(extent(line)?)),
+        Word::Queue => {
+            none(line)?;
+            Some(Verb::Queue)
+        },
         Word::Exit => {
             none(line)?;
             Some(Verb::Exit)
         },
-        _ => several(word, line),
+        _ => single(word, line),
     }
 }
 

@@ -1,3 +1,4 @@
+// The trait of spaces: a call for each verb.
 ghost use Rattle.std.specs.Prelude.{
   ◌≡◌,
   ℕ,
@@ -317,12 +318,7 @@ pub trait Space {
         ensures told { OnOk result (K.faults sink.new ≡ K.faults sink.old) };
 
     /// Writes the texts of the messages that wait for the process, in order.
-    fn queue<K: Sink>(
-        &self,
-        names: &AtomNames,
-        seat: Seat,
-        sink: &mut K,
-    ) -> Result<(), SinkFault>
+    fn queue<K: Sink>(&self, names: &AtomNames, seat: Seat, sink: &mut K) -> Result<(), SinkFault>
         requires sits { sits self.now seat }
         requires named { named self.now ≤ length names.now }
         ensures writes { (state : State) (terms : Terms) → stands self.now state
