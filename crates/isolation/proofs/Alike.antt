@@ -1,36 +1,35 @@
 -- A process in a run and on the machine where it lives alone: the same by name, and what keeps it so.
-use Rattle.std.proofs.Common.{◌≡◌, ℕ, zero, suc, ◌+◌, ◌==◌, Bool, true, false, cond, not, ◌&&◌, ◌⊎◌, inl, inr, List, [], ◌∷◌, ◌++◌, length, drop, map, replicate, Option, Some, None, refl, sym, ap, subst, ◌∙◌, append-nil, append_assoc, eqb-true}
+use Rattle.std.proofs.Common.{◌≡◌, ℕ, zero, suc, ◌==◌, Bool, true, false, cond, List, [], ◌∷◌, ◌++◌, length, drop, map, replicate, Option, Some, None, refl, sym, ap, subst, ◌∙◌, append-nil, append_assoc, eqb-true}
 use Rattle.std.specs.Prelude.{option_map, flat_map}
 use Rattle.std.proofs.lemmas.List.{map-append}
 use Rattle.plain_term.specs.Tree.{Tree}
 use Rattle.plain_term.specs.Tree.{Tree as tree}
 use Rattle.script_grammar.specs.declared.limits.TheConstants.{REGISTERS}
 use Rattle.script_grammar.specs.declared.word.Word.{Word}
-use Rattle.script_grammar.specs.Written.{Written, Operands, kinds_of}
+use Rattle.script_grammar.specs.Written.{Operands, kinds_of}
 use Rattle.script_grammar.specs.Written.Written.{OfProcess}
-use Rattle.script_grammar.specs.Names.{parsed_of}
 use Rattle.script_grammar.proofs.Naming.{with-names-more}
-use Rattle.plain_machine.specs.State.{Process as Live, State, process_of, first_state, fresh_process, with_queued, with_message}
-use Rattle.plain_machine.specs.Step.{Outcome, step}
+use Rattle.plain_machine.specs.State.{Process as Live, State, process_of, first_state, fresh_process, with_queued}
+use Rattle.plain_machine.specs.Step.{Outcome}
 use Rattle.plain_machine.specs.Step.Outcome.{Accepted, Refused, Mapped}
 use Rattle.plain_machine.specs.Tightness.{held_trees}
 use Rattle.plain_machine.specs.Laws.{AreProper, HoldsProper}
 use Rattle.plain_machine.proofs.Making.{Extends}
 use Rattle.plain_machine.proofs.Holding.{split-proper}
-use Rattle.named_trees.specs.NamedTree.{NamedTree, named, IsKnown}
+use Rattle.named_trees.specs.NamedTree.{NamedTree, named}
 use Rattle.named_trees.specs.NamedTree.{NamedTree as by_name}
 use Rattle.named_trees.specs.Entering.{names_in, bytes_in, names_with, shared_with, entered}
 use Rattle.named_trees.specs.Laws.{AllKnown}
 use Rattle.named_trees.proofs.Growing.{proper-known}
 use Rattle.named_trees.proofs.Entering.{enters}
 use Rattle.named_trees.proofs.Parts.{join-known, split-known, nils-known}
-use Rattle.isolation.specs.Views.{Sight, queue_in, queue_of, is_map_line}
-use Rattle.isolation.specs.Views.Sight.{own, born, message, area}
+use Rattle.isolation.specs.Views.{Sight, queue_in, queue_of}
+use Rattle.isolation.specs.Views.Sight.{born, message}
 use Rattle.isolation.specs.Solo.{solo_first, with_received, answers_of, left_by, step_at, solo_answers, solo_after, solo_from}
 use Rattle.isolation.proofs.Finding.{found, found-number, found-queued, same-number}
-use Rattle.isolation.proofs.ByName.{NamedProcess, process_named, KnownProcess, IfKnown, lives_named, IsKnownIn, NamedOutcome, outcome_named, KnownAfter, named_answers, named_left, line_named}
+use Rattle.isolation.proofs.ByName.{NamedProcess, process_named, KnownProcess, IfKnown, lives_named, IsKnownIn, outcome_named, KnownAfter, named_answers, named_left, line_named}
 use Rattle.isolation.proofs.Own.{OwnStep, own-line, grown-process}
-use Rattle.isolation.proofs.Others.{Passes, Comes, with_more}
+use Rattle.isolation.proofs.Others.{Passes, with_more}
 
 -- the process is the same by name in both, and known on the second
 pub record Alike (m : ℕ) (s t : State) : Type 0 where

@@ -1,8 +1,7 @@
 -- In each run each process is alone: its own lines are answered as its view alone says.
-use Rattle.std.proofs.Common.{◌≡◌, ℕ, ◌==◌, Bool, true, false, cond, not, ◌&&◌, ◌⊎◌, inl, inr, List, [], ◌∷◌, ◌++◌, length, drop, map, codes, decimal, Option, Some, None, refl, sym, ap, subst, ◌∙◌, append-nil, eqb-true}
+use Rattle.std.proofs.Common.{◌≡◌, ℕ, Bool, true, false, cond, not, ◌&&◌, ◌⊎◌, inl, inr, List, [], ◌∷◌, ◌++◌, length, drop, map, codes, decimal, Option, Some, None, refl, sym, ap, subst, ◌∙◌, append-nil, eqb-true}
 use Rattle.std.specs.Prelude.{MatchBool, option_map, is_some}
 use Rattle.line_io.specs.Lines.{Line, text, long}
-use Rattle.script_grammar.specs.declared.command.Command.{Command}
 use Rattle.script_grammar.specs.declared.command.Command.TheVariants.{Process}
 use Rattle.script_grammar.specs.declared.command.Verb.{Verb}
 use Rattle.script_grammar.specs.declared.word.Word.{Word}
@@ -11,24 +10,24 @@ use Rattle.script_grammar.specs.Written.{Written, Operands, kinds_of}
 use Rattle.script_grammar.specs.Written.Written.{Nothing, OfProcess, OfSystem}
 use Rattle.script_grammar.specs.Names.{Parsed, parsed_of, verb_of}
 use Rattle.plain_term.specs.Tree.{Tree}
-use Rattle.plain_machine.specs.State.{Process as Live, State, process_of, is_live, first_state, fresh_process}
+use Rattle.plain_machine.specs.State.{Process as Live, State, process_of, is_live, first_state}
 use Rattle.plain_machine.specs.Tightness.{grow}
 use Rattle.plain_machine.specs.Step.{Outcome, in_process}
 use Rattle.plain_machine.specs.Step.Outcome.{Accepted, Refused, Mapped}
-use Rattle.plain_machine.specs.Run.{Run, CommandStep, Gives, LacksSpace}
+use Rattle.plain_machine.specs.Run.{CommandStep, Gives}
 use Rattle.plain_machine.specs.Laws.{HoldsProper}
 use Rattle.plain_machine.proofs.Living.{first-proper}
 use Rattle.named_trees.specs.NamedTree.{named}
-use Rattle.isolation.specs.Events.{Event, IsEvent, IsAnswered, Tells, NoneShort, IsShort, lines_of, replies_of}
-use Rattle.isolation.specs.Views.{Sight, is_own, own_line, births, queue_in, queue_of, messages, areas, sights, view_of, is_map_line, shows_map, own_answers, own_replies}
-use Rattle.isolation.specs.Views.Sight.{own, born, message, area}
-use Rattle.isolation.specs.Solo.{solo_first, solo, answers_of, left_by, step_at, solo_after, solo_from}
-use Rattle.isolation.specs.Laws.{AreAlone, IsBornBySpawn, AreBornBySpawns, Isolates, RunsIsolate, IsAmple, SameViewsSameReplies}
+use Rattle.isolation.specs.Events.{Event, IsEvent, IsAnswered, Tells, NoneShort, IsShort}
+use Rattle.isolation.specs.Views.{Sight, is_own, own_line, births, queue_in, messages, areas, sights, view_of, is_map_line, shows_map, own_answers, own_replies}
+use Rattle.isolation.specs.Views.Sight.{own, born, message}
+use Rattle.isolation.specs.Solo.{solo_first, solo, answers_of, left_by, step_at, solo_from}
+use Rattle.isolation.specs.Laws.{AreAlone, IsBornBySpawn, AreBornBySpawns, RunsIsolate, SameViewsSameReplies}
 use Rattle.isolation.proofs.Finding.{live-found, same-number}
-use Rattle.isolation.proofs.ByName.{IsKnownIn, lives_named}
+use Rattle.isolation.proofs.ByName.{IsKnownIn}
 use Rattle.isolation.proofs.Others.{Passes, Comes, with_more}
 use Rattle.isolation.proofs.Alike.{Alike, known-in, answers-alike, own-alike, after_all, solo-append, messages-silent, behind, passes-alike, born-alike, first-alike}
-use Rattle.isolation.proofs.Told.{BySpawn, Brings, event-brings, areas-none, event-proper, run-events}
+use Rattle.isolation.proofs.Told.{Brings, event-brings, areas-none, event-proper, run-events}
 
 -- whether it lives is told by whether it is found
 lives-same : (m : ℕ) (s next : State) (more : List Tree) → process_of m next ≡ option_map (with_more more) (process_of m s) → is_live m next ≡ is_live m s

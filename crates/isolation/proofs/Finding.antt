@@ -1,5 +1,5 @@
 -- Which process has a number, after one has changed, come or gone.
-use Rattle.std.proofs.Common.{◌≡◌, ℕ, Bool, true, false, cond, not, ◌==◌, ◌||◌, List, [], ◌∷◌, ◌++◌, map, filter, Option, Some, None, refl, sym, ap, subst, ◌∙◌, eqb-true}
+use Rattle.std.proofs.Common.{◌≡◌, ℕ, Bool, true, false, cond, not, ◌==◌, ◌||◌, List, [], ◌∷◌, ◌++◌, map, filter, Option, Some, None, refl, sym, ap, ◌∙◌, eqb-true}
 use Rattle.std.specs.Prelude.{option_map, is_some}
 use Rattle.std.specs.List.{find, list_any}
 use Rattle.std.specs.Cmp.{unsigned_Decides}

@@ -4,4 +4,4 @@ mod Own
 mod Others
 mod Alike
 mod Told
-mod Alone
+pub mod Alone

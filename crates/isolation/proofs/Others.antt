@@ -1,5 +1,5 @@
 -- What a line that is not a process's own leaves of it: it stays as it is, but that trees may stand behind those of its queue; or it comes to live.
-use Rattle.std.proofs.Common.{◌≡◌, ℕ, ◌+◌, ◌==◌, Bool, true, false, not, cond, ◌⊎◌, inl, inr, List, [], ◌∷◌, ◌++◌, length, map, filter, codes, decimal, Option, Some, None, Result, Ok, Err, refl, sym, ap, subst, ◌∙◌, append-nil, eqb-true}
+use Rattle.std.proofs.Common.{◌≡◌, ℕ, ◌+◌, ◌==◌, Bool, true, false, cond, ◌⊎◌, inl, inr, List, [], ◌∷◌, ◌++◌, codes, decimal, Option, Some, None, Result, Ok, Err, refl, sym, ap, ◌∙◌, append-nil, eqb-true}
 use Rattle.std.specs.Prelude.{option_map}
 use Rattle.plain_term.specs.Tree.{Tree, Pairs}
 use Rattle.plain_term.specs.Tree.{Tree as tree}
@@ -7,22 +7,20 @@ use Rattle.plain_term.specs.Beyond.{is_beyond}
 use Rattle.script_grammar.specs.declared.command.Verb.{Verb}
 use Rattle.script_grammar.specs.declared.command.Verb.TheVariants.{Set, Choose, MapPut, Fill, Fun as MakeFun, Ref, Own, Repeat, Push, Pop, Send, Recv, Gc, Exit}
 use Rattle.script_grammar.specs.declared.refusal.Refusal.{Refusal}
-use Rattle.script_grammar.specs.declared.word.SysWord.{SysWord}
 use Rattle.script_grammar.specs.declared.word.SysWord.TheVariants as sys
-use Rattle.script_grammar.specs.Written.{Written, Terms, Operands, sys_kinds_of}
+use Rattle.script_grammar.specs.Written.{Written, Terms}
 use Rattle.script_grammar.specs.Written.Written.{Nothing, OfProcess, OfSystem}
 use Rattle.script_grammar.specs.Written.Terms.{end, ◌▹◌}
-use Rattle.script_grammar.specs.Names.{Parsed, parsed_of, verb_of, sys_verb_of}
-use Rattle.plain_machine.specs.declared.limits.TheConstants.{MOST_PROCESSES}
-use Rattle.plain_machine.specs.State.{Process as Live, State, process_of, fresh_process, register, with_register, with_process, with_message, with_queued, without_process, with_spawned}
+use Rattle.script_grammar.specs.Names.{Parsed, parsed_of, verb_of}
+use Rattle.plain_machine.specs.State.{Process as Live, State, process_of, fresh_process, register, with_register, with_process, with_queued}
 use Rattle.plain_machine.specs.Made.{bin_tree, with_pair, too_many}
-use Rattle.plain_machine.specs.Parts.{picked, pairs_in, repeated}
+use Rattle.plain_machine.specs.Parts.{picked, pairs_in}
 use Rattle.plain_machine.specs.Tightness.{receiver}
-use Rattle.plain_machine.specs.Step.{Outcome, step, does, unless_flawed, choose, put_unless_wide, put_unless_big, put_pair, fill_if, fun_if, repeat_if, pop_from, send_within, send_to, recv_from, tells, told_of, told_of_system, by_verb, in_process, by_system, spawn_if, with_made, written_tree, written_flaw}
+use Rattle.plain_machine.specs.Step.{Outcome, step, does, unless_flawed, choose, put_unless_wide, put_unless_big, put_pair, fill_if, fun_if, repeat_if, pop_from, send_within, send_to, recv_from, tells, told_of, by_verb, in_process, spawn_if, with_made, written_tree, written_flaw}
 use Rattle.plain_machine.specs.Step.Outcome.{Accepted, Refused, Mapped}
 use Rattle.plain_machine.proofs.Making.{Extends, extends-none, bin-more, made-more}
 use Rattle.isolation.specs.Views.{is_own}
-use Rattle.isolation.proofs.Finding.{found, other-put, found-queued, other-gone, found-come, none-come, found-number}
+use Rattle.isolation.proofs.Finding.{other-put, found-queued, other-gone, found-come, none-come, found-number}
 use Rattle.isolation.proofs.Own.{more-names}
 
 -- with these trees behind those of its queue

@@ -1,10 +1,10 @@
 -- What a process's own line does and answers is, by name, a function of the process by name.
-use Rattle.std.proofs.Common.{◌≡◌, ℕ, ◌+◌, ◌<◌, length, ◌==◌, Bool, true, false, cond, ◌||◌, nat_lt, List, [], ◌∷◌, ◌++◌, map, get_or, set, replicate, codes, decimal, Option, Some, None, Result, Ok, Err, refl, sym, ap, subst, ◌∙◌, append-nil}
+use Rattle.std.proofs.Common.{◌≡◌, ℕ, ◌+◌, ◌<◌, length, ◌==◌, Bool, true, false, cond, ◌||◌, nat_lt, List, [], ◌∷◌, ◌++◌, map, replicate, codes, decimal, Option, Some, None, Result, Ok, Err, refl, sym, ap, subst, ◌∙◌}
 use Rattle.std.specs.Prelude.{option_map}
 use Rattle.std.proofs.lemmas.List.{map-set, map-append}
 use Rattle.std.specs.declared.cmp.Ordering.{Ordering}
 use Rattle.term_tags.specs.declared.layouts.TheConstants.{MOST_KEYS}
-use Rattle.plain_term.specs.Tree.{Tree, Trees, Pairs, pairs_len}
+use Rattle.plain_term.specs.Tree.{Tree, Trees, Pairs}
 use Rattle.plain_term.specs.Tree.{Tree as tree}
 use Rattle.plain_term.specs.Beyond.{is_beyond}
 use Rattle.plain_term.specs.Measures.{flat}
@@ -25,21 +25,21 @@ use Rattle.script_grammar.specs.Written.Written.{OfProcess}
 use Rattle.script_grammar.specs.Written.Terms.{end, ◌▹◌}
 use Rattle.script_grammar.specs.Names.{Parsed, held_terms, reg, number_of, atoms_of, operands_atoms, all_atoms, operands_terms, verb_of, names_after, parsed_of}
 use Rattle.plain_machine.specs.declared.limits.TheConstants.{MOST_PLACES, MOST_FILL, MOST_ARITY, MOST_BYTE}
-use Rattle.plain_machine.specs.State.{Process as Live, State, process_of, register, with_register, with_process, with_message, with_queued, without_process}
+use Rattle.plain_machine.specs.State.{Process as Live, State, process_of, register, with_register, with_process, with_queued, without_process}
 use Rattle.plain_machine.specs.Made.{tree_of, trees_of, bin_tree, with_pair, too_many}
 use Rattle.plain_machine.specs.Flaws.{is_wide, is_big, flaw_of}
 use Rattle.plain_machine.specs.Parts.{picked, pairs_in, repeated}
 use Rattle.plain_machine.specs.Tightness.{number_in, receiver}
-use Rattle.plain_machine.specs.Texts.{divided, more_divided}
+use Rattle.plain_machine.specs.Texts.{divided}
 use Rattle.plain_machine.specs.Step.{Outcome, does, unless_flawed, choose, put_unless_wide, put_unless_big, put_pair, fill_if, fun_if, repeat_if, pop_from, send_within, send_to, recv_from, tells, unless_beyond, eq_text, cmp_text, by_verb, in_process, step, with_made, written_tree, written_flaw, env_of}
-use Rattle.plain_machine.specs.Step.Outcome.{Accepted, Refused, Mapped}
+use Rattle.plain_machine.specs.Step.Outcome.{Refused}
 use Rattle.script_grammar.proofs.Naming.{ArePlaced, placed-front, number-below, with-names-more, with-names-placed}
 use Rattle.plain_machine.proofs.Making.{Extends, extends-none, bin-more, made-more}
 use Rattle.plain_machine.proofs.Living.{joined-end}
-use Rattle.named_trees.specs.NamedTree.{NamedTree, NamedTrees, NamedPairs, named, all_named, pairs_named, IsKnown, AreKnown, PairsKnown}
+use Rattle.named_trees.specs.NamedTree.{NamedTree, named, all_named, pairs_named, IsKnown, AreKnown, PairsKnown}
 use Rattle.named_trees.specs.NamedTree.{NamedTree as by_name}
-use Rattle.named_trees.specs.Seen.{named_beyond, named_order, named_flat, named_text, pairs_count}
-use Rattle.named_trees.specs.Doing.{named_picked, named_put, named_repeated, named_bin, named_made, all_named_made, named_wide, named_big}
+use Rattle.named_trees.specs.Seen.{named_beyond, named_flat, named_text, pairs_count}
+use Rattle.named_trees.specs.Doing.{named_picked, named_put, named_repeated, named_bin, named_made, all_named_made}
 use Rattle.named_trees.specs.Laws.{AllKnown, HaveNames, MadeOf}
 use Rattle.named_trees.proofs.Seeing.{beyond-seen, seen, pairs-seen, order-seen}
 use Rattle.named_trees.proofs.Doing.{done, at-by}
@@ -49,7 +49,7 @@ use Rattle.named_trees.proofs.Entering.{name-placed, have-names}
 use Rattle.named_trees.proofs.Parts.{IfKnown as IfTree, picked-known, repeated-known, env-known, env-by, set-known, join-known}
 use Rattle.isolation.proofs.Finding.{found, found-put, found-queued, found-gone, found-number}
 use Rattle.isolation.proofs.ByName.{NamedProcess, process_named, KnownProcess, IfKnown, lives_named, IsKnownIn, NamedOutcome, outcome_named, KnownAfter, in_register, to_register, goes, unless_named, set_named, chosen_named, pairs_of_named, unless_wide_named, unless_big_named, pair_named, made_if_named, pop_named, recv_named, number_of_named, receiver_named, queued_named, within_named, send_named, tell_named, order_named, verb_named, line_named}
-use Rattle.isolation.proofs.ByName.NamedOutcome.{Goes, Stays, Shows}
+use Rattle.isolation.proofs.ByName.NamedOutcome.{Goes, Stays}
 
 -- an outcome is so by name for a process, and leaves it known
 pub record OwnStep (n : ℕ) (o : Outcome) (x : NamedOutcome) : Type 0 where
@@ -81,7 +81,7 @@ module _ (s : State) (p : Parsed) (q : Live) (lives : process_of q.number s ≡ 
       → OwnStep q.number (does p (record (with_process u s) { shared = shared })) (goes y)
   put-over shared u y is k e =
       let there : found q.number (map (λ r. cond (r.number == u.number) u r) s.processes) ≡ Some u =
-          subst (λ (m : ℕ). found m s.processes ≡ Some q → found m (map (λ r. cond (r.number == u.number) u r) s.processes) ≡ Some u) is (found-put u q s.processes) lives in
+      subst (λ (m : ℕ). found m s.processes ≡ Some q → found m (map (λ r. cond (r.number == u.number) u r) s.processes) ≡ Some u) is (found-put u q s.processes) lives in
       record {
         same = ap (λ z. Goes (option_map (process_named p.names shared) z) (codes "ok")) there ∙ ap goes e;
         known = subst (IfKnown p.names shared) (sym there) k;
@@ -164,7 +164,7 @@ module _ (s : State) (p : Parsed) (q : Live) (lives : process_of q.number s ≡ 
       let env : Terms → Trees = λ z. (trees_of p.names q.registers z s.shared).0 in
       let known : AreKnown p.names s.shared (env_of s p q) = subst (λ (z : Terms). AreKnown p.names s.shared (env z)) (sym e) (env-known p.names s.shared q.registers rs h.registers) in
       let same : all_named p.names s.shared (env_of s p q) ≡ all_named_made x.registers (held_terms rs) =
-          ap (λ (z : Terms). all_named p.names s.shared (env z)) e ∙ env-by p.names s.shared q.registers rs in
+      ap (λ (z : Terms). all_named p.names s.shared (env z)) e ∙ env-by p.names s.shared q.registers rs in
       register-step r (tree.Fun f a q.number (env_of s p q)) (by_name.Fun name a q.number (all_named_made x.registers (held_terms rs))) (less, known)
       (λ i. by_name.Fun (is i) a q.number (same i))
 
@@ -343,9 +343,9 @@ pub grown-process : (names new shared next : List (List ℕ)) (q : Live) → Ext
     → (process_named new next q ≡ process_named names shared q) × KnownProcess new next q
 grown-process names new shared next q n m h =
     let same : (ts : List Tree) → AllKnown names shared ts → map (named new next) ts ≡ map (named names shared) ts =
-        λ ts k. ap (λ (z : List (List ℕ)). map (named z next) ts) n.are ∙ (ap (λ (z : List (List ℕ)). map (named (names ++ n.more) z) ts) m.are ∙ held-grown names n.more shared m.more ts k) in
+    λ ts k. ap (λ (z : List (List ℕ)). map (named z next) ts) n.are ∙ (ap (λ (z : List (List ℕ)). map (named (names ++ n.more) z) ts) m.are ∙ held-grown names n.more shared m.more ts k) in
     let known : (ts : List Tree) → AllKnown names shared ts → AllKnown new next ts =
-        λ ts k. subst (λ (z : List (List ℕ)). AllKnown z next ts) (sym n.are) (subst (λ (z : List (List ℕ)). AllKnown (names ++ n.more) z ts) (sym m.are) (held-known-grown names n.more shared m.more ts k)) in (
+    λ ts k. subst (λ (z : List (List ℕ)). AllKnown z next ts) (sym n.are) (subst (λ (z : List (List ℕ)). AllKnown (names ++ n.more) z ts) (sym m.are) (held-known-grown names n.more shared m.more ts k)) in (
       (λ i. record { number = q.number; registers = same q.registers h.registers i; stack = same q.stack h.stack i; queue = same q.queue h.queue i; refs = q.refs }),
       record { registers = known q.registers h.registers; stack = known q.stack h.stack; queue = known q.queue h.queue },
     )

@@ -1,37 +1,28 @@
 -- Each run has events; what an event that is not a process's own brings it; and each process is alone in them.
-use Rattle.std.proofs.Common.{◌≡◌, ℕ, ◌==◌, ◌≤◌, Bool, true, false, cond, not, ◌&&◌, ◌||◌, ◌⊎◌, inl, inr, List, [], ◌∷◌, ◌++◌, length, drop, map, codes, decimal, Option, Some, None, refl, sym, ap, subst, ◌∙◌, append-nil, append_assoc, eqb-true}
-use Rattle.std.specs.Prelude.{MatchBool, option_map, is_some, flat_map}
+use Rattle.std.proofs.Common.{◌≡◌, ℕ, ◌≤◌, Bool, true, false, ◌⊎◌, inl, inr, List, [], ◌∷◌, ◌++◌, length, codes, decimal, Option, Some, None, refl, sym, ap, subst, ◌∙◌}
+use Rattle.std.specs.Prelude.{MatchBool}
 use Rattle.line_io.specs.Lines.{Line, text, long}
 use Rattle.atom_names.specs.Names.{most_names}
 use Rattle.script_grammar.specs.declared.command.Command.{Command}
 use Rattle.script_grammar.specs.declared.word.SysWord.TheVariants as sys
-use Rattle.script_grammar.specs.declared.word.Word.{Word}
-use Rattle.script_grammar.specs.declared.refusal.Refusal.{Refusal}
-use Rattle.script_grammar.specs.Written.{Written, Operands, kinds_of}
+use Rattle.script_grammar.specs.Written.{Written}
 use Rattle.script_grammar.specs.Written.Written.{Nothing, OfProcess, OfSystem}
-use Rattle.script_grammar.specs.Grammar.{Says, IsBuilt}
-use Rattle.script_grammar.specs.Names.{Parsed, parsed_of, names_after}
+use Rattle.script_grammar.specs.Grammar.{IsBuilt}
+use Rattle.script_grammar.specs.Names.{Parsed, parsed_of}
 use Rattle.script_grammar.specs.ReadAs.{IsReadAs, Reading}
 use Rattle.script_grammar.specs.ReadAs.Reading.{Means, NoSyntax, NoAtoms}
-use Rattle.plain_term.specs.Tree.{Tree}
-use Rattle.plain_machine.specs.State.{Process as Live, State, process_of, is_live, first_state, fresh_process}
-use Rattle.plain_machine.specs.Step.{Outcome, step}
+use Rattle.plain_machine.specs.State.{State}
+use Rattle.plain_machine.specs.Step.{Outcome}
 use Rattle.plain_machine.specs.Step.Outcome.{Accepted, Refused, Mapped}
-use Rattle.plain_machine.specs.Run.{Run, LineStep, ReadingStep, TextStep, CommandStep, Gives, Skips, LacksSpace, Refuses, is_nothing, refusal_text}
+use Rattle.plain_machine.specs.Run.{Run, LineStep, ReadingStep, CommandStep, Gives, Skips, LacksSpace, is_nothing}
 use Rattle.plain_machine.specs.Laws.{HoldsProper}
 use Rattle.plain_machine.proofs.Runs.{run-one}
-use Rattle.plain_machine.proofs.Living.{run-proper, first-proper}
-use Rattle.plain_machine.proofs.Making.{Extends, extends-none}
-use Rattle.named_trees.specs.NamedTree.{NamedTree, named}
-use Rattle.isolation.specs.Events.{Event, Does, IsRefused, IsEvent, IsAnswered, Tells, NoneShort, IsShort, lines_of, replies_of}
-use Rattle.isolation.specs.Views.{Sight, is_own, births, queue_in, queue_of, messages, is_area_line, is_accepted, areas, sights, view_of, is_map_line, shows_map, own_answers, own_replies}
-use Rattle.isolation.specs.Views.Sight.{own, born, message, area}
-use Rattle.isolation.specs.Solo.{solo_first, solo, answers_of, left_by, step_at, solo_answers, solo_after, solo_from}
-use Rattle.isolation.specs.Laws.{AreAlone, IsBornBySpawn, AreBornBySpawns, Isolates, IsAmple}
-use Rattle.isolation.proofs.Finding.{found, live-found}
-use Rattle.isolation.proofs.ByName.{IsKnownIn, lives_named}
-use Rattle.isolation.proofs.Others.{Passes, Comes, ComesBySpawn, OtherOutcome, with_more, passes-same, other-line}
-use Rattle.isolation.proofs.Alike.{Alike, known-in, answers-alike, own-alike, after_all, solo-append, messages-silent, behind, passes-alike, born-alike, first-alike}
+use Rattle.plain_machine.proofs.Living.{run-proper}
+use Rattle.plain_machine.proofs.Making.{extends-none}
+use Rattle.isolation.specs.Events.{Event, IsEvent, IsAnswered, Tells, lines_of, replies_of}
+use Rattle.isolation.specs.Views.{is_own, areas}
+use Rattle.isolation.specs.Solo.{step_at}
+use Rattle.isolation.proofs.Others.{Passes, Comes, OtherOutcome, passes-same, other-line}
 
 -- an event is a line of the machine
 pub event-line : (may : ℕ → State → Parsed → Bool) (words : ℕ) (quits : Bool) (e : Event) (line : Line) (said : Option Written) → IsAnswered may words quits e line said

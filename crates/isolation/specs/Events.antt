@@ -1,5 +1,5 @@
 -- The events of a run: what each line says and is answered, and the states before and after it.
-use Rattle.std.specs.Prelude.{ℕ, ◌≡◌, ◌<◌, ◌≤◌, ◌⊎◌, Bool, true, false, MatchBool, List, [], ◌∷◌, length, map, flat_map, Option, Some, None}
+use Rattle.std.specs.Prelude.{ℕ, ◌≡◌, ◌≤◌, ◌⊎◌, Bool, true, false, MatchBool, List, [], ◌∷◌, length, map, flat_map, Option, Some, None}
 use Rattle.atom_names.specs.Names.{most_names}
 use Rattle.line_io.specs.Lines.{Line, text, long}
 use Rattle.script_grammar.specs.declared.refusal.Refusal.TheVariants.{NoSpace, Atoms, Syntax, Long}

@@ -1,5 +1,5 @@
 -- What one process sees of a run.
-use Rattle.std.specs.Prelude.{ℕ, ◌+◌, ◌==◌, Bool, true, false, ◌&&◌, not, if◌then◌else◌, List, [], ◌∷◌, ◌++◌, length, map, flat_map, drop, codes, Option, Some, None}
+use Rattle.std.specs.Prelude.{ℕ, ◌==◌, Bool, true, false, ◌&&◌, not, if◌then◌else◌, List, [], ◌∷◌, ◌++◌, length, map, flat_map, drop, codes, Option, Some, None}
 use Rattle.std.specs.Str.{bytes_eq}
 use Rattle.plain_term.specs.Tree.{Tree}
 use Rattle.script_grammar.specs.declared.word.Word.TheVariants.{Info, Heap}
