@@ -122,7 +122,8 @@ module _ (m : ℕ) (a : NamedTree) (t : State) where
       let g = grown-process t.names ns t.shared bs q names-more shared-more h in
       let P : Live → Type 0 = λ z. (process_named ns bs z ≡ more_named (a ∷ []) (process_named t.names t.shared q)) × KnownProcess ns bs z in
       let put : with_queued m u q ≡ with_more (u ∷ []) q = ap (λ b. cond b (with_more (u ∷ []) q) q) (same-number q.number m is) in
-      let queue : map (named ns bs) (q.queue ++ u ∷ []) ≡ map (named ns bs) q.queue ++ a ∷ [] = map-append (named ns bs) q.queue (u ∷ []) ∙ ap (λ (z : NamedTree). map (named ns bs) q.queue ++ z ∷ []) e.is in
+      let queue : map (named ns bs) (q.queue ++ u ∷ []) ≡ map (named ns bs) q.queue ++ a ∷ [] = map-append (named ns bs) q.queue (u ∷ [])
+      ∙ ap (λ (z : NamedTree). map (named ns bs) q.queue ++ z ∷ []) e.is in
       subst P (sym put) (
         ap (λ (z : List NamedTree). record (process_named ns bs q) { queue = z }) queue ∙ ap (more_named (a ∷ [])) (g.0),
         record { registers = (g.1).registers; stack = (g.1).stack; queue = join-known ns bs q.queue (u ∷ []) ((g.1).queue) (e.known, tt) },
@@ -151,7 +152,8 @@ after_all m t (x ∷ view) = after_all m (solo_after m t x) view
 
 pub solo-append : (m : ℕ) (t : State) (xs ys : List Sight) → solo_from m t (xs ++ ys) ≡ solo_from m t xs ++ solo_from m (after_all m t xs) ys
 solo-append m t [] ys = refl
-solo-append m t (x ∷ xs) ys = ap (λ z. solo_answers t x ++ z) (solo-append m (solo_after m t x) xs ys) ∙ sym (append_assoc (solo_answers t x) (solo_from m (solo_after m t x) xs) (solo_from m (after_all m (solo_after m t x) xs) ys))
+solo-append m t (x ∷ xs) ys = ap (λ z. solo_answers t x ++ z) (solo-append m (solo_after m t x) xs ys)
+    ∙ sym (append_assoc (solo_answers t x) (solo_from m (solo_after m t x) xs) (solo_from m (after_all m (solo_after m t x) xs) ys))
 
 -- messages one after the other
 pub messages-silent : (m : ℕ) (t : State) (f : Tree → NamedTree) (us : List Tree) → solo_from m t (map (λ u. message (f u)) us) ≡ []
@@ -201,7 +203,13 @@ nils-named : (names shared : List (List ℕ)) (n : ℕ) → map (named names sha
 nils-named names shared zero = refl
 nils-named names shared (suc n) = ap (λ (z : List NamedTree). by_name.Nil ∷ z) (nils-named names shared n)
 
-fresh-named : (names shared : List (List ℕ)) (m : ℕ) → process_named names shared (fresh_process m) ≡ record { number = m; registers = replicate REGISTERS by_name.Nil; stack = []; queue = []; refs = 0 }
+fresh-named : (names shared : List (List ℕ)) (m : ℕ) → process_named names shared (fresh_process m) ≡ record {
+  number = m;
+  registers = replicate REGISTERS by_name.Nil;
+  stack = [];
+  queue = [];
+  refs = 0;
+}
 fresh-named names shared m = ap (λ (z : List NamedTree). record { number = m; registers = z; stack = []; queue = []; refs = 0 }) (nils-named names shared REGISTERS)
 
 fresh-known : (names shared : List (List ℕ)) (m : ℕ) → KnownProcess names shared (fresh_process m)
@@ -210,7 +218,8 @@ fresh-known names shared m = record { registers = nils-known names shared REGIST
 pub born-alike : (m : ℕ) (next t : State) → process_of m next ≡ Some (fresh_process m) → Alike m next (solo_after m t born)
 born-alike m next t e =
     let here : found m (fresh_process m ∷ []) ≡ Some (fresh_process m) = ap (λ b. cond b (Some (fresh_process m)) None) (same-number m m refl) in record {
-      same = ap (option_map (process_named next.names next.shared)) e ∙ (ap Some (fresh-named next.names next.shared m ∙ sym (fresh-named t.names t.shared m)) ∙ ap (option_map (process_named t.names t.shared)) (sym here));
+      same = ap (option_map (process_named next.names next.shared)) e ∙ (ap Some (fresh-named next.names next.shared m ∙ sym (fresh-named t.names t.shared m))
+          ∙ ap (option_map (process_named t.names t.shared)) (sym here));
       known = subst (IfKnown t.names t.shared) (sym here) (fresh-known t.names t.shared m);
     }
 
@@ -226,5 +235,9 @@ first-alike m = at (m == 1) refl
     not-one false e f = ap (λ b. cond b (Some (fresh_process 1)) None) e
 
     at : (b : Bool) → (m == 1) ≡ b → Alike m first_state (cond b first_state (record first_state { processes = [] }))
-    at true e = record { same = refl; known = known-found [] [] m (fresh_process 1 ∷ []) (join-known [] [] (held_trees (fresh_process 1)) [] (join-known [] [] (fresh_process 1).registers [] (nils-known [] [] REGISTERS) tt) tt) }
+    at true e = record {
+      same = refl;
+      known = known-found [] [] m (fresh_process 1 ∷ []) (join-known [] [] (held_trees (fresh_process 1)) []
+          (join-known [] [] (fresh_process 1).registers [] (nils-known [] [] REGISTERS) tt) tt);
+    }
     at false e = record { same = ap (option_map (process_named [] [])) (not-one (1 == m) refl e); known = tt }

@@ -155,7 +155,8 @@ events-alone may words quits m s t new (e ∷ events) told h ample a =
     at false k rest = rest k
 
 -- a line of its own brings no process to live
-dead-stays : (s : State) (p : Parsed) (n : ℕ) (v : Verb) (o : Option Live) (quits : Bool) (replies : List (List ℕ)) (new : State) → o ≡ None → Gives (in_process o s p v) s (Process n v) quits replies new → new ≡ s
+dead-stays : (s : State) (p : Parsed) (n : ℕ) (v : Verb) (o : Option Live) (quits : Bool) (replies : List (List ℕ)) (new : State) → o ≡ None
+    → Gives (in_process o s p v) s (Process n v) quits replies new → new ≡ s
 dead-stays s p n v None quits replies new e g = g.same
 dead-stays s p n v (Some q) quits replies new e g = absurd (cc)
 
@@ -198,7 +199,8 @@ unfolding Tells
 events-born may words quits s new [] told = tt
 events-born may words quits s new (e ∷ events) told = (event-born may words (told.0) e (told.2), at (told.0) (told.3) (λ k. events-born may words quits e.after new events k))
   where
-    at : (ends : Bool) → MatchBool ends ((quits ≡ true) × (events ≡ []) × (new ≡ e.after)) (Tells may words quits e.after events new) → (Tells may words quits e.after events new → AreBornBySpawns events)
+    at : (ends : Bool) → MatchBool ends ((quits ≡ true) × (events ≡ []) × (new ≡ e.after)) (Tells may words quits e.after events new)
+        → (Tells may words quits e.after events new → AreBornBySpawns events)
         → AreBornBySpawns events
     at true k rest = subst AreBornBySpawns (sym (k.1)) tt
     at false k rest = rest k

@@ -111,7 +111,13 @@ module _ (s : State) (p : Parsed) (q : Live) (lives : process_of q.number s ≡ 
       let more : (ts : List Tree) → AllKnown p.names s.shared ts → AllKnown p.names (new.1) ts = held-known-more p.names s.shared (new.1) m in
       put-over (new.1) (with_register r (new.0) q) (to_register r y x) refl
       (record { registers = set-known p.names (new.1) q.registers r (new.0) (more q.registers h.registers) k; stack = more q.stack h.stack; queue = more q.queue h.queue })
-      (registers-named p.names (new.1) q r (new.0) ∙ (λ i. to_register r (e i) (record { number = q.number; registers = same q.registers h.registers i; stack = same q.stack h.stack i; queue = same q.queue h.queue i; refs = q.refs })))
+      (registers-named p.names (new.1) q r (new.0) ∙ (λ i. to_register r (e i) (record {
+        number = q.number;
+        registers = same q.registers h.registers i;
+        stack = same q.stack h.stack i;
+        queue = same q.queue h.queue i;
+        refs = q.refs;
+      })))
 
   -- `set`
   flawed-step : (f : Option Refusal) (o : Outcome) (y : NamedOutcome) → OwnStep q.number o y → OwnStep q.number (unless_flawed f o) (unless_named f y)
@@ -261,7 +267,8 @@ module _ (s : State) (p : Parsed) (q : Live) (lives : process_of q.number s ≡ 
     tell-as res named_res e = own-as q.number (tells s res) (tell_named x res) (tell_named x named_res) (tell-step res) (ap (tell_named x) e)
 
   print-by : (r : ℕ) → unless_beyond (is_beyond s.shared (register r q)) (text p.names s.shared (register r q)) ≡ unless_beyond (named_beyond (in_register r x)) (named_text (in_register r x))
-  print-by r = (λ i. unless_beyond (beyond-seen p.names s.shared (register r q) i) ((seen p.names s.shared (register r q)).reads i)) ∙ ap (λ z. unless_beyond (named_beyond z) (named_text z)) (held-by r)
+  print-by r = (λ i. unless_beyond (beyond-seen p.names s.shared (register r q) i) ((seen p.names s.shared (register r q)).reads i))
+      ∙ ap (λ z. unless_beyond (named_beyond z) (named_text z)) (held-by r)
 
   order-by : (tell : Ordering → List ℕ) (a b : ℕ)
       → unless_beyond (is_beyond s.shared (register a q) || is_beyond s.shared (register b q)) (tell (order p.names s.shared (register a q) (register b q)))
@@ -327,11 +334,11 @@ module _ (s : State) (p : Parsed) (q : Live) (lives : process_of q.number s ≡ 
   verb-step before k word.Print ops e a = tell-as before k (unless_beyond (is_beyond s.shared (register (ops.0) q)) (text p.names s.shared (register (ops.0) q)))
       (unless_beyond (named_beyond (in_register (ops.0) x)) (named_text (in_register (ops.0) x))) (print-by (ops.0))
   verb-step before k word.Eq ops e a =
-      tell-as before k (unless_beyond (is_beyond s.shared (register (ops.0) q) || is_beyond s.shared (register (ops.1.0) q)) (eq_text (order p.names s.shared (register (ops.0) q) (register (ops.1.0) q))))
-      (order_named eq_text (in_register (ops.0) x) (in_register (ops.1.0) x)) (order-by eq_text (ops.0) (ops.1.0))
+      tell-as before k (unless_beyond (is_beyond s.shared (register (ops.0) q) || is_beyond s.shared (register (ops.1.0) q))
+      (eq_text (order p.names s.shared (register (ops.0) q) (register (ops.1.0) q)))) (order_named eq_text (in_register (ops.0) x) (in_register (ops.1.0) x)) (order-by eq_text (ops.0) (ops.1.0))
   verb-step before k word.Cmp ops e a =
-      tell-as before k (unless_beyond (is_beyond s.shared (register (ops.0) q) || is_beyond s.shared (register (ops.1.0) q)) (cmp_text (order p.names s.shared (register (ops.0) q) (register (ops.1.0) q))))
-      (order_named cmp_text (in_register (ops.0) x) (in_register (ops.1.0) x)) (order-by cmp_text (ops.0) (ops.1.0))
+      tell-as before k (unless_beyond (is_beyond s.shared (register (ops.0) q) || is_beyond s.shared (register (ops.1.0) q))
+      (cmp_text (order p.names s.shared (register (ops.0) q) (register (ops.1.0) q)))) (order_named cmp_text (in_register (ops.0) x) (in_register (ops.1.0) x)) (order-by cmp_text (ops.0) (ops.1.0))
   verb-step before k word.Flat ops e a = tell-as before k (unless_beyond (is_beyond s.shared (register (ops.0) q)) (decimal (flat (register (ops.0) q))))
       (unless_beyond (named_beyond (in_register (ops.0) x)) (decimal (named_flat (in_register (ops.0) x)))) (flat-by (ops.0))
   verb-step before k word.Gc ops e a = collect-step
@@ -345,7 +352,8 @@ grown-process names new shared next q n m h =
     let same : (ts : List Tree) → AllKnown names shared ts → map (named new next) ts ≡ map (named names shared) ts =
     λ ts k. ap (λ (z : List (List ℕ)). map (named z next) ts) n.are ∙ (ap (λ (z : List (List ℕ)). map (named (names ++ n.more) z) ts) m.are ∙ held-grown names n.more shared m.more ts k) in
     let known : (ts : List Tree) → AllKnown names shared ts → AllKnown new next ts =
-    λ ts k. subst (λ (z : List (List ℕ)). AllKnown z next ts) (sym n.are) (subst (λ (z : List (List ℕ)). AllKnown (names ++ n.more) z ts) (sym m.are) (held-known-grown names n.more shared m.more ts k)) in (
+    λ ts k. subst (λ (z : List (List ℕ)). AllKnown z next ts) (sym n.are) (subst (λ (z : List (List ℕ)). AllKnown (names ++ n.more) z ts) (sym m.are)
+    (held-known-grown names n.more shared m.more ts k)) in (
       (λ i. record { number = q.number; registers = same q.registers h.registers i; stack = same q.stack h.stack i; queue = same q.queue h.queue i; refs = q.refs }),
       record { registers = known q.registers h.registers; stack = known q.stack h.stack; queue = known q.queue h.queue },
     )

@@ -119,7 +119,8 @@ command-brings : (may : ℕ → State → Parsed → Bool) (words : ℕ) (quits 
 command-brings may words quits m e w is apart h = at (is_nothing (parsed_of e.before.names w).command) h
   where
     at : (b : Bool) → MatchBool b (Skips e.before quits e.replies e.after)
-        (Gives (step_at e.before w) e.before (parsed_of e.before.names w).command quits e.replies e.after ⊎ LacksSpace may words e.before (parsed_of e.before.names w) quits e.replies e.after) → Brings m e
+        (Gives (step_at e.before w) e.before (parsed_of e.before.names w).command quits e.replies e.after ⊎ LacksSpace may words e.before (parsed_of e.before.names w) quits e.replies e.after)
+        → Brings m e
     at true k = stays m e k.same
     at false (inl k) = gives-brings m e w quits (parsed_of e.before.names w).command (step_at e.before w) is (other-line m e.before w apart) k
     at false (inr k) = stays m e k.refuses.same

@@ -77,8 +77,8 @@ module _ (names shared : List (List ℕ)) where
 
   value-by : (key : Tree) (ps : Pairs) → option_map by (value_of names shared key ps) ≡ named_value (by key) (pairs_named names shared ps)
   value-by key stop = refl
-  value-by key (pair k v ps) = if-else (is_eq (order names shared key k)) (is_eq (named_order (by key) (by k))) (Some v) (value_of names shared key ps) (Some (by v)) (named_value (by key) (pairs_named names shared ps))
-      (ap is_eq (order-seen names shared key k)) refl (value-by key ps)
+  value-by key (pair k v ps) = if-else (is_eq (order names shared key k)) (is_eq (named_order (by key) (by k))) (Some v) (value_of names shared key ps) (Some (by v))
+      (named_value (by key) (pairs_named names shared ps)) (ap is_eq (order-seen names shared key k)) refl (value-by key ps)
 
   in-by : (key t : Tree) → option_map by (value_in names shared key t) ≡ named_in (by key) (by t)
   in-by key (Map ps) = if-else (is_beyond shared key) (named_beyond (by key)) None (value_of names shared key ps) None (named_value (by key) (pairs_named names shared ps))

@@ -59,7 +59,8 @@ module _ (names shared : List (List ℕ)) where
         let one : named names shared (tree_over names shared k) ≡ k =
         over-named k (placed-front names (names_in k) (names_in v ++ pairs_names_in ps) n) (placed-front shared (bytes_in k) (bytes_in v ++ pairs_bytes_in ps) b) in
         let two : named names shared (tree_over names shared v) ≡ v = over-named v (placed-front names (names_in v) (pairs_names_in ps) m) (placed-front shared (bytes_in v) (pairs_bytes_in ps) c) in
-        let rest : pairs_named names shared (pairs_over names shared ps) ≡ ps = pairs-over ps (placed-back names (names_in v) (pairs_names_in ps) m) (placed-back shared (bytes_in v) (pairs_bytes_in ps) c) in
+        let rest : pairs_named names shared (pairs_over names shared ps) ≡ ps = pairs-over ps (placed-back names (names_in v) (pairs_names_in ps) m)
+        (placed-back shared (bytes_in v) (pairs_bytes_in ps) c) in
         λ i. paired (one i) (two i) (rest i)
 
   mutual

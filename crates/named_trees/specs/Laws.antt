@@ -72,7 +72,8 @@ AllKnown names shared [] = Unit {0}
 AllKnown names shared (t ∷ ts) = IsKnown names shared t × AllKnown names shared ts
 
 abbrev pub IsMadeByName : Type 0
-IsMadeByName = (names : List (List ℕ)) (held : List Tree) (shared : List (List ℕ)) (t : Term) → AllKnown names shared held → HaveNames names (atoms_of t) → MadeOf names held shared t
+IsMadeByName = (names : List (List ℕ)) (held : List Tree) (shared : List (List ℕ)) (t : Term) → AllKnown names shared held → HaveNames names (atoms_of t)
+    → MadeOf names held shared t
 
 -- A tree that enters with its names and byte lists is known, and by name it is what entered.
 pub record EntersOf (names shared : List (List ℕ)) (t : NamedTree) : Type 0 where
