@@ -1,8 +1,9 @@
 -- In each run each process is alone: its own lines are answered as its view alone says.
-use Rattle.std.proofs.Common.{◌≡◌, ℕ, Bool, true, false, cond, not, ◌&&◌, ◌⊎◌, inl, inr, List, [], ◌∷◌, ◌++◌, length, drop, map, codes, decimal, Option, Some, None, refl, sym, ap, subst, ◌∙◌, append-nil, eqb-true}
+use Rattle.std.proofs.Common.{◌<◌, ◌≡◌, ℕ, Bool, true, false, cond, not, ◌&&◌, ◌⊎◌, inl, inr, List, [], ◌∷◌, ◌++◌, length, drop, map, codes, decimal, Option, Some, None, refl, sym, ap, subst, ◌∙◌, append-nil, eqb-true, arith}
 use Rattle.std.specs.Prelude.{MatchBool, option_map, is_some}
 use Rattle.line_io.specs.Lines.{Line, text, long}
-use Rattle.script_grammar.specs.declared.command.Command.TheVariants.{Process}
+use Rattle.script_grammar.specs.declared.command.Command.TheVariants.{Process, System}
+use Rattle.script_grammar.specs.declared.command.SysVerb.TheVariants.{Spawn as SpawnVerb}
 use Rattle.script_grammar.specs.declared.command.Verb.{Verb}
 use Rattle.script_grammar.specs.declared.word.Word.{Word}
 use Rattle.script_grammar.specs.declared.word.SysWord.TheVariants as sys
@@ -10,24 +11,27 @@ use Rattle.script_grammar.specs.Written.{Written, Operands, kinds_of}
 use Rattle.script_grammar.specs.Written.Written.{Nothing, OfProcess, OfSystem}
 use Rattle.script_grammar.specs.Names.{Parsed, parsed_of, verb_of}
 use Rattle.plain_term.specs.Tree.{Tree}
-use Rattle.plain_machine.specs.State.{Process as Live, State, process_of, is_live, first_state}
+use Rattle.plain_machine.specs.State.{Process as Live, State, process_of, is_live, first_state, fresh_process}
 use Rattle.plain_machine.specs.Tightness.{grow}
-use Rattle.plain_machine.specs.Step.{Outcome, in_process}
+use Rattle.plain_machine.specs.Step.{Outcome, in_process, spawn_if}
 use Rattle.plain_machine.specs.Step.Outcome.{Accepted, Refused, Mapped}
 use Rattle.plain_machine.specs.Run.{CommandStep, Gives}
-use Rattle.plain_machine.specs.Laws.{HoldsProper}
+use Rattle.plain_machine.specs.Laws.{HoldsProper, IsNumbered}
+use Rattle.plain_machine.proofs.Runs.{run-one}
+use Rattle.plain_machine.proofs.Numbers.{live-below}
+use Rattle.plain_machine.proofs.Numbered.{run-fresh}
 use Rattle.plain_machine.proofs.Living.{first-proper}
 use Rattle.named_trees.specs.NamedTree.{named}
 use Rattle.isolation.specs.Events.{Event, IsEvent, IsAnswered, Tells, NoneShort, IsShort}
 use Rattle.isolation.specs.Views.{Sight, is_own, own_line, births, queue_in, messages, areas, sights, view_of, is_map_line, shows_map, own_answers, own_replies}
 use Rattle.isolation.specs.Views.Sight.{own, born, message}
 use Rattle.isolation.specs.Solo.{solo_first, solo, answers_of, left_by, step_at, solo_from}
-use Rattle.isolation.specs.Laws.{AreAlone, IsBornBySpawn, AreBornBySpawns, RunsIsolate, SameViewsSameReplies}
-use Rattle.isolation.proofs.Finding.{live-found, same-number}
+use Rattle.isolation.specs.Laws.{AreAlone, IsSpawnOf, AllBirthsAreSpawns, RunsIsolate, SameViewsSameReplies}
+use Rattle.isolation.proofs.Finding.{live-found, none-come, same-number}
 use Rattle.isolation.proofs.ByName.{IsKnownIn}
 use Rattle.isolation.proofs.Others.{Passes, Comes, with_more}
 use Rattle.isolation.proofs.Alike.{Alike, known-in, answers-alike, own-alike, after_all, solo-append, messages-silent, behind, passes-alike, born-alike, first-alike}
-use Rattle.isolation.proofs.Told.{Brings, event-brings, areas-none, event-proper, run-events}
+use Rattle.isolation.proofs.Told.{Brings, event-brings, areas-none, event-line, event-proper, run-events}
 
 -- whether it lives is told by whether it is found
 lives-same : (m : ℕ) (s next : State) (more : List Tree) → process_of m next ≡ option_map (with_more more) (process_of m s) → is_live m next ≡ is_live m s
@@ -183,26 +187,80 @@ module _ (may : ℕ → State → Parsed → Bool) (words : ℕ) (quits : Bool) 
   own-born long None mine h = absurd (cc)
 
 -- who comes to live
-event-born : (may : ℕ → State → Parsed → Bool) (words : ℕ) (quits : Bool) (e : Event) → IsEvent may words quits e → IsBornBySpawn e
-event-born may words quits e h p = at (is_own p e.said) refl
+only-spawns : (may : ℕ → State → Parsed → Bool) (words : ℕ) (quits : Bool) (e : Event) → IsEvent may words quits e → (p : ℕ) → (births p e ≡ []) ⊎ IsSpawnOf p e
+only-spawns may words quits e h p = at (is_own p e.said) refl
   where
-    at-brought : Brings p e → (births p e ≡ []) ⊎ ((e.said ≡ Some (OfSystem sys.Spawn tt)) × (e.replies ≡ (codes "ok " ++ decimal p) ∷ []))
+    at-brought : Brings p e → (births p e ≡ []) ⊎ IsSpawnOf p e
     at-brought (inl k) = inl (passes-births p e k)
-    at-brought (inr k) = inr (k.said, k.replies)
+    at-brought (inr k) = inr (record { said = k.said; replies = k.replies })
 
-    at : (b : Bool) → is_own p e.said ≡ b → (births p e ≡ []) ⊎ ((e.said ≡ Some (OfSystem sys.Spawn tt)) × (e.replies ≡ (codes "ok " ++ decimal p) ∷ []))
+    at : (b : Bool) → is_own p e.said ≡ b → (births p e ≡ []) ⊎ IsSpawnOf p e
     at true mine = inl (own-born may words quits p e e.line e.said mine h)
     at false apart = at-brought (event-brings may words quits p e e.line e.said refl apart h)
 
-events-born : (may : ℕ → State → Parsed → Bool) (words : ℕ) (quits : Bool) (s new : State) (events : List Event) → Tells may words quits s events new → AreBornBySpawns events
+-- the first byte of the first reply
+abbrev first_byte : List (List ℕ) → ℕ
+first_byte ((b ∷ bytes) ∷ replies) = b
+first_byte _ = 0
+
+refused-not-ok : (replies : List (List ℕ)) (ok error : List ℕ) → replies ≡ (111 ∷ ok) ∷ [] → replies ≡ (101 ∷ error) ∷ [] → ⊥
+refused-not-ok replies ok error e f = apart 111 101 (sym (ap first_byte e) ∙ ap first_byte f) (omega arith)
+  where
+    apart : (a b : ℕ) → a ≡ b → b < a → ⊥
+    apart a b e less = absurd (omega (arith, e, less))
+
+module _ (may : ℕ → State → Parsed → Bool) (words : ℕ) (quits : Bool) (e : Event) (numbered : IsNumbered e.before) where
+  -- none has the next number
+  none-next : process_of e.before.next e.before ≡ None
+  none-next = at (process_of e.before.next e.before) refl
+    where
+      at : (o : Option Live) → process_of e.before.next e.before ≡ o → o ≡ None
+      at None is = refl
+      at (Some q) is = absurd (omega (arith, live-below e.before e.before.next numbered (live-found e.before.next e.before.processes ∙ ap is_some is)))
+
+  spawn-bears : (many : Bool) (p : Parsed) → e.replies ≡ (codes "ok " ++ decimal e.before.next) ∷ [] → Gives (spawn_if many e.before p) e.before (System SpawnVerb) quits e.replies e.after
+      → births e.before.next e ≡ born ∷ []
+  spawn-bears true p is g = absurd (refused-not-ok e.replies (codes "k " ++ decimal e.before.next) (codes "rror procs") is g.said)
+  spawn-bears false p is g =
+      let n : ℕ = e.before.next in
+      let there : process_of n e.after ≡ Some (fresh_process n) = ap (process_of n) g.is
+          ∙ (none-come n (fresh_process n) e.before.processes none-next ∙ ap (λ b. cond b (Some (fresh_process n)) None) (same-number n n refl)) in
+      let was : is_live n e.before ≡ false = live-found n e.before.processes ∙ ap is_some none-next in
+      let now : is_live n e.after ≡ true = live-found n e.after.processes ∙ ap is_some there in
+      λ i. birth-by (was i) (now i)
+
+  each-spawn : (line : Line) (said : Option Written) → said ≡ Some (OfSystem sys.Spawn tt) → IsAnswered may words quits e line said → e.replies ≡ (codes "ok " ++ decimal e.before.next) ∷ []
+      → births e.before.next e ≡ born ∷ []
+  each-spawn (text line) (Some (OfSystem sys.Spawn ops)) is h told = at h.step
+    where
+      at : CommandStep may words e.before (parsed_of e.before.names (OfSystem sys.Spawn ops)) quits e.replies e.after → births e.before.next e ≡ born ∷ []
+      at (inl g) = spawn-bears _ (parsed_of e.before.names (OfSystem sys.Spawn ops)) told g
+      at (inr k) = absurd (refused-not-ok e.replies (codes "k " ++ decimal e.before.next) (codes "rror nospace " ++ decimal (grow e.before (parsed_of e.before.names (OfSystem sys.Spawn ops)))) told k.refuses.said)
+  each-spawn (text line) (Some (OfSystem w ops)) is h told = absurd (cc)
+  each-spawn (text line) (Some (OfProcess n w ops)) is h told = absurd (cc)
+  each-spawn (text line) (Some Nothing) is h told = absurd (cc)
+  each-spawn (text line) None is h told = absurd (cc)
+  each-spawn long (Some w) is h told = absurd h
+  each-spawn long None is h told = absurd (cc)
+
+-- numbers stay so over an event
+event-numbered : (may : ℕ → State → Parsed → Bool) (words : ℕ) (quits : Bool) (e : Event) → IsEvent may words quits e → IsNumbered e.before → IsNumbered e.after
+event-numbered may words quits e h k = (run-fresh may words quits e.before e.after (e.line ∷ []) e.replies k
+    (run-one may words quits e.before e.after e.line e.replies (event-line may words quits e e.line e.said h))).numbered
+
+births-are : (may : ℕ → State → Parsed → Bool) (words : ℕ) (quits : Bool) (s new : State) (events : List Event) → IsNumbered s → Tells may words quits s events new → AllBirthsAreSpawns events
 unfolding Tells
-events-born may words quits s new [] told = tt
-events-born may words quits s new (e ∷ events) told = (event-born may words (told.0) e (told.2), at (told.0) (told.3) (λ k. events-born may words quits e.after new events k))
+births-are may words quits s new [] numbered told = tt
+births-are may words quits s new (e ∷ events) numbered told =
+    let before : IsNumbered e.before = subst IsNumbered (sym (told.1)) numbered in
+    let after : IsNumbered e.after = event-numbered may words (told.0) e (told.2) before in (
+      record { only = only-spawns may words (told.0) e (told.2); each = λ k. each-spawn may words (told.0) e before e.line e.said k.said (told.2) k.replies },
+      at (told.0) (told.3) (λ k. births-are may words quits e.after new events after k),
+    )
   where
     at : (ends : Bool) → MatchBool ends ((quits ≡ true) × (events ≡ []) × (new ≡ e.after)) (Tells may words quits e.after events new)
-        → (Tells may words quits e.after events new → AreBornBySpawns events)
-        → AreBornBySpawns events
-    at true k rest = subst AreBornBySpawns (sym (k.1)) tt
+        → (Tells may words quits e.after events new → AllBirthsAreSpawns events) → AllBirthsAreSpawns events
+    at true k rest = subst AllBirthsAreSpawns (sym (k.1)) tt
     at false k rest = rest k
 
 -- from the first state
@@ -216,7 +274,7 @@ isolates may words quits lines replies new run =
       told = h.told;
       lines_are = h.lines_are;
       replies_are = h.replies_are;
-      spawned = events-born may words quits first_state new h.events h.told;
+      spawned = births-are may words quits first_state new h.events (record { numbered = (omega arith, omega arith) }) h.told;
       alone = first-alone may words quits new h.events h.told;
     }
 

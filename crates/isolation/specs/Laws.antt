@@ -8,19 +8,27 @@ use Rattle.plain_machine.specs.State.{State, first_state}
 use Rattle.plain_machine.specs.Run.{Run}
 use Rattle.isolation.specs.Events.{Event, Tells, NoneShort, lines_of, replies_of}
 use Rattle.isolation.specs.Views.{births, own_replies, view_of}
+use Rattle.isolation.specs.Views.Sight.{born}
 use Rattle.isolation.specs.Solo.{solo}
 
 -- Where no line was answered for want of space or of names, each process's own lines are answered as its view alone says.
 abbrev pub AreAlone : List Event → Type 0
 AreAlone events = NoneShort events → (p : ℕ) → own_replies p events ≡ solo p (view_of p events)
 
--- A process that comes to live with an event is the one of a `spawn` that is answered by its number.
-abbrev pub IsBornBySpawn : Event → Type 0
-IsBornBySpawn e = (p : ℕ) → (births p e ≡ []) ⊎ ((e.said ≡ Some (OfSystem Spawn tt)) × (e.replies ≡ (codes "ok " ++ decimal p) ∷ []))
+-- The event is the `spawn` that is answered by this number.
+pub record IsSpawnOf (p : ℕ) (e : Event) : Type 0 where
+  pub said : e.said ≡ Some (OfSystem Spawn tt)
+  pub replies : e.replies ≡ (codes "ok " ++ decimal p) ∷ []
 
-abbrev pub AreBornBySpawns : List Event → Type 0
-AreBornBySpawns [] = Unit {0}
-AreBornBySpawns (e ∷ events) = IsBornBySpawn e × AreBornBySpawns events
+-- A process comes to live only with the `spawn` that is answered by its number, and each `spawn` that is answered by the next number
+-- brings a process to live.
+pub record BirthsAreSpawns (e : Event) : Type 0 where
+  pub only : (p : ℕ) → (births p e ≡ []) ⊎ IsSpawnOf p e
+  pub each : IsSpawnOf e.before.next e → births e.before.next e ≡ born ∷ []
+
+abbrev pub AllBirthsAreSpawns : List Event → Type 0
+AllBirthsAreSpawns [] = Unit {0}
+AllBirthsAreSpawns (e ∷ events) = BirthsAreSpawns e × AllBirthsAreSpawns events
 
 -- The run from the first state has events, with these lines and replies. In them each process is alone.
 pub record Isolates (may : ℕ → State → Parsed → Bool) (words : ℕ) (quits : Bool) (lines : List Line) (replies : List (List ℕ)) (new : State) : Type 0 where
@@ -28,7 +36,7 @@ pub record Isolates (may : ℕ → State → Parsed → Bool) (words : ℕ) (qui
   pub told : Tells may words quits first_state events new
   pub lines_are : lines_of events ≡ lines
   pub replies_are : replies_of events ≡ replies
-  pub spawned : AreBornBySpawns events
+  pub spawned : AllBirthsAreSpawns events
   pub alone : AreAlone events
 
 abbrev pub RunsIsolate : Type 0

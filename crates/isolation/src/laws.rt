@@ -1,3 +1,4 @@
+// The laws of isolation, each the contract of a function that does nothing.
 ghost use Rattle.isolation.specs.Laws.{RunsIsolate, SameViewsSameReplies};
 
 /// In each run from the first state in which no line was answered for want of space or of names, the replies to a process's own

@@ -1,3 +1,4 @@
+// The laws of trees by name.
 ghost use Rattle.named_trees.specs.Laws.{EntersAsItself, GrowthKeeps, IsDoneByName, IsMadeByName, IsSeenByName, ProperIsKnown};
 
 /// The bytes, sizes and text of a tree, and how it stands to another, are functions of the trees by name alone.
