@@ -4,4 +4,5 @@ mod Own
 mod Others
 mod Alike
 mod Told
+mod Births
 pub mod Alone
