@@ -21,12 +21,14 @@ use Rattle.term_tags.specs.Words.{pid_word}
 use Rattle.term_words.proofs.Makes.{stands-pid}
 use Rattle.plain_machine.specs.State.{Process, State, with_process, with_register}
 use Rattle.plain_machine.specs.Step.{in_process, is_sweep, pop_from, settled, step}
+use Rattle.plain_machine.specs.Laws.{AreWithin}
 use Rattle.space_api.specs.Calls.{AreRising, Follows, Passes, said}
 use Rattle.space_api.specs.declared.space.Seat.{Seat}
 use Rattle.numbered_rows.specs.Numbers.{AreBelow, numbers}
 use Rattle.numbered_rows.proofs.Changing.{below-remove, numbers-set, rising-remove}
 use Rattle.numbered_rows.proofs.Rising.{number-read}
-use Rattle.two_halves.specs.Halves.{HalvesStand, HoldsTree, IsLaid, ProcsStand, end_of, places_in}
+use Rattle.two_halves.specs.Stack.{AreApart}
+use Rattle.two_halves.specs.Halves.{HalvesStand, HoldsTree, IsLaid, ProcsStand, all_places, end_of, places_in}
 use Rattle.one_space.specs.One.{HaveMade, Holds, IsCounted, OneStands, Sits, number_in, numbers_of}
 use Rattle.one_space.specs.Doing.{DoesAlways, DoesAtOnce}
 use Rattle.two_halves.specs.declared.halves.Halves.{Halves}
@@ -37,6 +39,8 @@ use Rattle.one_space.proofs.Counting.{made-remove, made-row}
 use Rattle.one_space.proofs.Rooms.{follows-some, passes-some}
 use Rattle.one_space.proofs.Seated.{found-there, number-there, removed-there, set-there, settled-stands}
 use Rattle.one_space.proofs.Seats.{is_other}
+use Rattle.one_space.proofs.Within.{queues, within-at, within-gone}
+use Rattle.two_halves.proofs.Apart.{apart-popped, apart-removed, apart-same}
 use Rattle.two_halves.proofs.Filled.{halves-filled, laid_out}
 use Rattle.two_halves.proofs.Stacks.{no_row}
 use Rattle.one_space.proofs.Turning.{TopOf, none-held, popped, register-set, row-stands, top-here, with_stack, with_word}
@@ -89,11 +93,11 @@ places-row rows i p old less is = omega (arith, sum_by-set (λ r. r.depth + r.wa
 
 -- The half with other processes alone.
 module _ (b : One) (holds : Holds b) (v : Vec Proc Global) where
-  pub rows-stand : (s : State) (o : OneStands b s) (qs : List Process) → ProcsStand o.processes.test s.shared b.halves.mem b.halves.low (end_of b.halves) b.named v.items qs
+  pub rows-stand : (s : State) (o : OneStands b s) (qs : List Process) → ProcsStand o.processes.test s.shared b.halves.mem b.halves.low (end_of b.halves) b.named v.items qs → AreApart (all_places b.halves.mem v.items)
       → HalvesStand b.named (laid_out b.halves b.halves.mem b.halves.top b.halves.low v) s.shared qs
-  rows-stand s o qs procs = halves-filled b.named b.named b.halves s.shared s.processes qs holds.counts.laid o.processes o.processes.test o.processes.single b.halves.mem b.halves.top
+  rows-stand s o qs procs apart = halves-filled b.named b.named b.halves s.shared s.processes qs holds.counts.laid o.processes o.processes.test o.processes.single b.halves.mem b.halves.top
       b.halves.low v refl
-      (λ a k e. e) (λ a k e. inl e) (λ a k e. inl e) (λ a k e. refl) (omega arith) (omega arith) (omega arith) procs
+      (λ a k e. e) (λ a k e. inl e) (λ a k e. inl e) (λ a k e. refl) (omega arith) (omega arith) (omega arith) procs apart
 
   pub rows-laid : places_in v.items ≤ places_in b.halves.procs.items → IsLaid (laid_out b.halves b.halves.mem b.halves.top b.halves.low v)
   rows-laid fewer = record {
@@ -127,10 +131,11 @@ module _ (b : One) (holds : Holds b) (seat : Seat) (x : Sits b seat) (r : Reg) (
       let number : q.number ≡ seat.pid = number-there b s o holds.counts seat x in
       let stands : HalvesStand b.named worded.halves s.shared (set s.processes seat.row (with_register r.0 t q)) =
       rows-stand b holds (with_item b.halves.procs seat.row (with_word p r.0 w)) s o (set s.processes seat.row (with_register r.0 t q))
-      (register-set o.processes.test s.shared b.halves.mem b.halves.low (end_of b.halves) b.named b.halves.procs.items s.processes seat.row p x.within is o.processes.processes r.0 w t held) in
+      (register-set o.processes.test s.shared b.halves.mem b.halves.low (end_of b.halves) b.named b.halves.procs.items s.processes seat.row p x.within is o.processes.processes r.0 w t held)
+      (apart-same b.halves.mem b.halves.procs.items seat.row (with_word p r.0 w) p x.within is refl o.processes.apart) in
       let Q : List Process → Type 0 = λ z. HalvesStand b.named worded.halves s.shared z in
       settled-stands b worded s line (with_register r.0 t q) o (subst Q (sym (set-there b s o holds.counts seat x (with_register r.0 t q) number)) stands) refl (sym other) refl
-      (λ e. absurd (no-sweep (is_sweep line.command) other e))
+      (λ e. absurd (no-sweep (is_sweep line.command) other e)) (within-at s.shared s.processes seat.row o.within)
 
   pub word-counts : IsCounted worded
   word-counts =
@@ -175,15 +180,18 @@ module _ (b : One) (holds : Holds b) (seat : Seat) (x : Sits b seat) (v : Vec Pr
       let Q : ℕ → Type 0 = λ n. HalvesStand b.named b2.halves s.shared (filter (is_other n) s.processes) in
       let R : List Process → Type 0 = λ z. HalvesStand b.named b2.halves s.shared z in
       let S : List Proc → Type 0 = λ z. ProcsStand o.processes.test s.shared b.halves.mem b.halves.low (end_of b.halves) b.named z (remove s.processes seat.row) in
+      let A : List Proc → Type 0 = λ z. AreApart (all_places b.halves.mem z) in
       let stands : HalvesStand b.named b2.halves s.shared (remove s.processes seat.row) =
       rows-stand b holds v s o (remove s.processes seat.row) (subst S (sym items) (procs-remove o.processes.test s.shared b.halves.mem b.named b.halves.low (end_of b.halves)
-      b.halves.procs.items s.processes seat.row o.processes.processes)) in
+      b.halves.procs.items s.processes seat.row o.processes.processes))
+      (subst A (sym items) (apart-removed b.halves.mem b.halves.procs.items seat.row o.processes.apart)) in
       subst P (sym (found-there b s o holds.counts seat x)) (record {
         processes = subst Q (sym number) (subst R (sym (removed-there b s o holds.counts seat x)) stands);
         next = o.next;
         swept = refl;
         shared = o.shared;
         areas = o.areas;
+        within = (let W : ℕ → Type 0 = λ n. AreWithin s.shared (queues (filter (is_other n) s.processes)) in subst W (sym number) (within-gone s.shared seat.pid s.processes o.within));
         reached = λ e. absurd (false-true e);
       })
 
@@ -254,12 +262,14 @@ module _ (b : One) (holds : Holds b) (seat : Seat) (x : Sits b seat) (r : Reg) (
         let stands : HalvesStand b.named b2.halves s.shared (set s.processes seat.row q2) =
         rows-stand b holds (with_item b.halves.procs seat.row (with_stack (with_word p r.0 w) u d)) s o (set s.processes seat.row q2)
         (popped o.processes.test s.shared b.halves.mem b.halves.low (end_of b.halves) b.named b.halves.procs.items s.processes seat.row p x.within is o.processes.processes some r.0 w u d value
-        below depth) in
+        below depth)
+        (apart-popped b.halves.mem b.halves.procs.items seat.row (with_stack (with_word p r.0 w) u d) p x.within is some below depth refl o.processes.apart) in
         let P : Option Process → Type 0 = λ z. Follows {A = Unit {0}} (in_process z s line (verb.Pop r)) s (Ok tt) (OneStands b2) in
         let Q : List Tree → Type 0 = λ z. Follows {A = Unit {0}} (pop_from z s line q r.0) s (Ok tt) (OneStands b2) in
         let R : List Process → Type 0 = λ z. HalvesStand b.named b2.halves s.shared z in
         subst P (sym (found-there b s o holds.counts seat x)) (subst Q (sym (top-there s o).shape)
-        (settled-stands b b2 s line q2 o (subst R (sym (set-there b s o holds.counts seat x q2 (number-there b s o holds.counts seat x))) stands) refl refl refl (λ e. absurd (false-true e))))
+        (settled-stands b b2 s line q2 o (subst R (sym (set-there b s o holds.counts seat x q2 (number-there b s o holds.counts seat x))) stands) refl refl refl (λ e. absurd (false-true e))
+        (within-at s.shared s.processes seat.row o.within)))
 
     pop-counts : IsCounted (after b (laid_out b.halves b.halves.mem b.halves.top b.halves.low (with_item b.halves.procs seat.row (with_stack (with_word p r.0 w) u d))))
     pop-counts =

@@ -20,7 +20,9 @@ use Rattle.term_words.specs.Object.{IsRecord}
 use Rattle.term_words.specs.Counted.{In, total}
 use Rattle.shared_rec.proofs.Records.{record-first}
 use Rattle.record_move.specs.Copies.{record_words}
-use Rattle.two_halves.specs.Halves.{IsLaid, ProcsStand, RecordsStand, end_of, places_in, records_of}
+use Rattle.two_halves.specs.Stack.{AreApart}
+use Rattle.two_halves.specs.Halves.{IsLaid, ProcsStand, RecordsStand, all_places, end_of, places_in, records_of}
+use Rattle.two_halves.proofs.Apart.{apart-more}
 use Rattle.one_space.specs.One.{HaveMade, Holds, IsCounted, OneStands, Sits, number_in, numbers_of, words_of}
 use Rattle.one_space.specs.Doing.{Sweeps}
 use Rattle.one_space.specs.declared.one.One.{One}
@@ -53,12 +55,12 @@ pub gc-passes : (b c : One) (seat : Seat) (depth : Depth) (terms : Terms) (names
 gc-passes b c seat depth terms names s counts sits w o =
     let n = w.stands s o in
     let P : Option Process → Type 0 = λ x. Passes (in_process x s (said (OfProcess seat.pid (verb.Gc depth)) terms names) (verb.Gc depth)) (OneStands c) in
-    subst P (sym (found-there b s o counts seat sits)) (record { processes = n.processes; next = n.next; swept = n.swept; shared = n.shared; areas = n.areas; reached = n.reached })
+    subst P (sym (found-there b s o counts seat sits)) (record { processes = n.processes; next = n.next; swept = n.swept; shared = n.shared; areas = n.areas; within = n.within; reached = n.reached })
 
 pub sweep-passes : (b c : One) (terms : Terms) (names : List (List ℕ)) (s : State) → Sweeps true b c → OneStands b s → Passes (step s (said (System sysverb.Sweep) terms names)) (OneStands c)
 sweep-passes b c terms names s w o =
     let n = w.stands s o in
-    record { processes = n.processes; next = n.next; swept = n.swept; shared = n.shared; areas = n.areas; reached = n.reached }
+    record { processes = n.processes; next = n.next; swept = n.swept; shared = n.shared; areas = n.areas; within = n.within; reached = n.reached }
 
 -- The first space.
 abbrev never : ℕ → ℕ → Bool
@@ -102,11 +104,13 @@ module _ (b : One) (p : Proc) (one : b.halves.procs.items ≡ p ∷ []) (number 
           records = subst B (sym bins) (subst F (sym funs) (none-listed b.halves.mem));
           fun_names = λ v i. absurd (let N : List ℕ → Type 0 = λ z. In v z in subst N funs i);
           processes = subst P (sym one) (fresh-stands never [] b.halves.mem b.named b.halves.low (end_of b.halves) p 1 number regs flat waiting none, tt);
+          apart = let A : List Proc → Type 0 = λ x. AreApart (all_places b.halves.mem x) in subst A (sym one) (apart-more b.halves.mem [] p flat waiting tt);
         };
         next = sym next;
         swept = sym swept;
         shared = sym serials;
         areas = refl;
+        within = tt;
         reached = λ e. absurd (false-true e);
       }
 

@@ -25,7 +25,7 @@ use Rattle.plain_machine.specs.Step.{does, fill_if, in_process, with_made}
 use Rattle.plain_machine.specs.May.{gets_to_space, may_of_tight}
 use Rattle.space_api.specs.Calls.{Becomes, Follows, said}
 use Rattle.space_api.specs.declared.space.Seat.{Seat}
-use Rattle.two_halves.specs.Halves.{HalvesStand}
+use Rattle.two_halves.specs.Halves.{HalvesStand, end_of}
 use Rattle.two_halves.specs.Adding.{Adds, Gets}
 use Rattle.two_halves.specs.Collecting.{MakesRoom}
 use Rattle.two_halves.specs.declared.halves.Halves.{Halves}
@@ -40,6 +40,7 @@ use Rattle.one_space.proofs.Gaining.{gained, gained-counts, gained-stands, with_
 use Rattle.one_space.proofs.Growing.{counts-there, grow-at, holds-become, refused-does, roomed-there, sits-there, some-process, some-words}
 use Rattle.one_space.proofs.Registers.{row-there}
 use Rattle.one_space.proofs.Rooms.{roomed, stays-roomed}
+use Rattle.one_space.proofs.Within.{within-grown}
 use Rattle.one_space.proofs.Seated.{found-there}
 use Rattle.one_space.proofs.Terming.{room-free, row-made, term-counts, term-stands, with_term}
 
@@ -197,7 +198,8 @@ module _ (b : One) (holds : Holds b) (seat : Seat) (x : Sits b seat) (r : Reg) (
           let R : Tree × List (List ℕ) → Type 0 = λ m. Follows {A = Unit {0}} (does line (with_made s q r.0 m)) s (Ok tt) (OneStands b4) in
           inl (subst P (sym (found-there (roomed b h) s o1 counts1 seat sits1)) (subst Q (sym fits) (subst R (sym (record-tree bytes s.shared (omega (arith, long, length-replicate {A = ℕ} len byte))))
           (gained-stands b holds seat x g h ok room h4 adds p2 is2 r.0 w s o shared2 b.named (b.serials + 1) (Shared (length s.shared + 1)) made refl
-          (omega (arith, serial, length-append s.shared (bytes ∷ []))) b.row line refl))))
+          (omega (arith, serial, length-append s.shared (bytes ∷ [])))
+          (within-grown o.processes.test s.shared (bytes ∷ []) b.halves.mem b.halves.low (end_of b.halves) b.named b.halves.procs.items s.processes o.processes.processes o.within) b.row line refl))))
 
       pub long-does : Does {A = Unit {0}} (OfProcess seat.pid v) b b4 (Ok tt)
       long-does = record {

@@ -57,6 +57,7 @@ raised named named2 up h shared qs x = record {
   every = x.every;
   records = x.records;
   fun_names = λ v i. omega (arith, x.fun_names v i, up);
+  apart = x.apart;
   processes = procs-on x.test x.test shared h.mem h.mem named named2 h.low h.low (end_of h) (λ w t held. record { standing = held.standing; names = named-more named named2 up t held.names })
       (λ q above below bare. refl) (λ q k above below bare e. bare k e) (omega arith) h.procs.items qs x.processes;
 }
@@ -198,7 +199,7 @@ module _ (b : One) (holds : Holds b) (seat : Seat) (x : Sits b seat) (r : Reg) (
           gets named2 s.shared s.processes (raised b.named named2 up h s.shared s.processes o1.processes) ts (omega arith) all in
           let told : is_named named2 (Fun name arity seat.pid ts) ≡ true =
           and-both (nat_lt name named2) (are_named named2 ts) (above name named2 (omega arith)) (env-named o1.processes.test s.shared h.mem named2 p1.regs q names held rs below) in
-          let stands = gained-stands b holds seat x g h ok room h4 adds p2 is2 r.0 w s o s.shared named2 b.serials (Fun name arity seat.pid ts) made told o.shared row line refl in
+          let stands = gained-stands b holds seat x g h ok room h4 adds p2 is2 r.0 w s o s.shared named2 b.serials (Fun name arity seat.pid ts) made told o.shared o.within row line refl in
           let P : Option Process → Type 0 = λ u. Follows {A = Unit {0}} (in_process u s line v) s (Ok tt) (OneStands b4) in
           let Q : Bool → Type 0 = λ u. Follows {A = Unit {0}} (fun_if u (Fun name arity q.number (env_of s line q)) s line q r.0) s (Ok tt) (OneStands b4) in
           let N : ℕ → Type 0 = λ z. Follows {A = Unit {0}} (fun_if false (Fun name arity z (env_of s line q)) s line q r.0) s (Ok tt) (OneStands b4) in

@@ -9,6 +9,9 @@ use Rattle.term_order.specs.Named.{is_named}
 use Rattle.plain_machine.specs.State.{Process, State, with_process, with_register}
 use Rattle.plain_machine.specs.Step.{is_sweep, settled}
 use Rattle.space_api.specs.declared.space.Seat.{Seat}
+use Rattle.plain_machine.specs.Laws.{AreWithin}
+use Rattle.one_space.proofs.Within.{queues, within-at, within-put}
+use Rattle.two_halves.proofs.Apart.{apart-same}
 use Rattle.two_halves.specs.Halves.{HalvesStand, IsLaid, ProcsStand, end_of, places_in}
 use Rattle.term_words.specs.Counted.{In, total}
 use Rattle.term_words.specs.Object.{IsRecord}
@@ -158,7 +161,7 @@ module _ (b : One) (holds : Holds b) (seat : Seat) (x : Sits b seat) (n : ℕ) (
 
   -- The space stands for the state with the tree in the register.
   module _ (s : State) (o : OneStands b s) (shared2 : List (List ℕ)) (named serials : ℕ) (t : Tree) (g : Gets named h4 shared2 s.processes w t) (names : is_named named t ≡ true)
-      (serial_is : length shared2 ≡ serials) where
+      (serial_is : length shared2 ≡ serials) (within2 : AreWithin shared2 (queues s.processes)) where
     o1 : OneStands (roomed b h) s
     o1 = roomed-there b holds n h ok room s o
 
@@ -195,6 +198,7 @@ module _ (b : One) (holds : Holds b) (seat : Seat) (x : Sits b seat) (n : ℕ) (
           records = g.stands.records;
           fun_names = g.stands.fun_names;
           processes = subst P (sym (set-there (roomed b h) s o1 counts1 seat sits1 (with_register r t q) (number-there (roomed b h) s o1 counts1 seat sits1))) set-rows;
+          apart = apart-same h4.mem h4.procs.items seat.row row2 p within4 is refl g.stands.apart;
         }
 
     pub gained-stands : (row : Vec ℕ Global) (line : Parsed) → is_sweep line.command ≡ false → OneStands (gained b (with_reg h4 seat.row p r w) row serials named) (settled line (record (with_process (with_register r t q) s) { shared = shared2 }))
@@ -204,5 +208,6 @@ module _ (b : One) (holds : Holds b) (seat : Seat) (x : Sits b seat) (n : ℕ) (
       swept = other;
       shared = serial_is;
       areas = o.areas;
+      within = within-put shared2 (with_register r t q) s.processes (within-at shared2 s.processes seat.row within2) within2;
       reached = λ e. absurd (true≢false (sym e ∙ other));
     }

@@ -38,9 +38,13 @@ use Rattle.two_halves.proofs.Filled.{halves-filled, laid-filled, laid_out}
 use Rattle.one_space.proofs.Changing.{fresh-stands, no_process, procs-push}
 use Rattle.one_space.proofs.Counting.{made-push, made-row}
 use Rattle.two_halves.proofs.Ended.{row-count}
+use Rattle.two_halves.specs.Stack.{AreApart}
+use Rattle.two_halves.specs.Halves.{all_places}
+use Rattle.two_halves.proofs.Apart.{apart-more}
+use Rattle.one_space.proofs.Within.{within-at, within-more}
 use Rattle.one_space.proofs.Rooms.{becomes-some, counts-roomed, no-space, reached-roomed, roomed, sits-roomed, stands-roomed, stays-roomed}
 use Rattle.one_space.proofs.Seated.{count-there, found-there, number-there, set-there, settled-stands}
-use Rattle.one_space.proofs.Turning.{pushed, pushed-len, with_stack, words}
+use Rattle.one_space.proofs.Turning.{pushed, pushed-apart, pushed-len, with_stack, words}
 
 -- A space that stands for something after a call.
 pub holds-become : {A : Type 0} (words : ℕ) (b : One) (s : State) (line : Parsed) (r : Result A Refusal) → IsCounted b → Becomes may_of_tight words s line r (OneStands b) → Holds b
@@ -158,12 +162,14 @@ module _ (b : One) (holds : Holds b) (seat : Seat) (x : Sits b seat) (r : Reg) (
         (half-within h room.laid) order mem2 written in
         let stands : HalvesStand b.named b2.halves s.shared (set s.processes seat.row q2) =
         halves-filled b.named b.named h s.shared s.processes (set s.processes seat.row q2) room.laid o1.processes o1.processes.test o1.processes.single mem2 h.top (h.low - 2)
-        (with_item h.procs seat.row (with_stack p (h.low - 2) (p.depth + 1))) len (λ a k e. e) (λ a k e. inl e) (λ a k e. inl e) kept (omega arith) (omega arith) (omega arith) (subst P limit rows) in
+        (with_item h.procs seat.row (with_stack p (h.low - 2) (p.depth + 1))) len (λ a k e. e) (λ a k e. inl e) (λ a k e. inl e) kept (omega arith) (omega arith) (omega arith) (subst P limit rows)
+        (pushed-apart o1.processes.test s.shared h.mem h.top h.low (end_of h) b.named h.procs.items s.processes seat.row r.0 p sits1.within is small o1.processes.processes roles fits
+        (half-within h room.laid) order mem2 written o1.processes.apart) in
         let Q : Option Process → Type 0 = λ z. Follows {A = Unit {0}} (in_process z s line (verb.Push r)) s (Ok tt) (OneStands b2) in
         let R : List Process → Type 0 = λ z. HalvesStand b.named b2.halves s.shared z in
         inl (subst Q (sym (found-there (roomed b h) s o1 counts1 seat sits1))
         (settled-stands (roomed b h) b2 s line q2 o1 (subst R (sym (set-there (roomed b h) s o1 counts1 seat sits1 q2 (number-there (roomed b h) s o1 counts1 seat sits1))) stands) refl refl
-        refl (λ e. absurd (true≢false (sym e)))))
+        refl (λ e. absurd (true≢false (sym e))) (within-at s.shared s.processes seat.row o.within)))
 
     push-counts : IsCounted (after b (laid_out h mem2 h.top (h.low - 2) (with_item h.procs seat.row (with_stack p (h.low - 2) (p.depth + 1)))))
     push-counts =
@@ -249,10 +255,12 @@ module _ (b : One) (holds : Holds b) where
           let o1 : OneStands (roomed b h) s = roomed-there b holds 14 h ok room s o in
           let new = fresh-stands o1.processes.test s.shared h.mem b.named h.low (end_of h) p s.next (number ∙ sym o.next) regs depth waiting none in
           let P : List Proc → Type 0 = λ z. ProcsStand o1.processes.test s.shared h.mem h.low (end_of h) b.named z (s.processes ++ fresh_process s.next ∷ []) in
+          let A : List Proc → Type 0 = λ z. AreApart (all_places h.mem z) in
           let stands : HalvesStand b.named b2.halves s.shared (s.processes ++ fresh_process s.next ∷ []) =
           halves-filled b.named b.named h s.shared s.processes (s.processes ++ fresh_process s.next ∷ []) room.laid o1.processes o1.processes.test o1.processes.single h.mem h.top h.low v refl
           (λ a k e. e) (λ a k e. inl e) (λ a k e. inl e) (λ a k e. refl) (omega arith) (omega arith) (omega arith)
-          (subst P (sym items) (procs-push o1.processes.test s.shared h.mem b.named h.low (end_of h) h.procs.items s.processes p (fresh_process s.next) o1.processes.processes new)) in
+          (subst P (sym items) (procs-push o1.processes.test s.shared h.mem b.named h.low (end_of h) h.procs.items s.processes p (fresh_process s.next) o1.processes.processes new))
+          (subst A (sym items) (apart-more h.mem h.procs.items p depth waiting o1.processes.apart)) in
           let Q : Bool → Type 0 = λ z. Follows {A = ℕ} (spawn_if z s (said (System sysverb.Spawn) terms names)) s (Ok b.next) (OneStands b2) in
           inl (subst Q (sym (not-full s o)) (record {
             processes = stands;
@@ -260,6 +268,7 @@ module _ (b : One) (holds : Holds b) where
             swept = refl;
             shared = o.shared;
             areas = o.areas;
+            within = within-more s.shared (fresh_process s.next) s.processes tt o.within;
             reached = λ e. absurd
                 (true≢false (sym e));
           }))

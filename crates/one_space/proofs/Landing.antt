@@ -21,7 +21,8 @@ use Rattle.record_move.specs.Copies.{record_words}
 use Rattle.record_move.specs.Tables.{OwnersRise}
 use Rattle.item_build.specs.Building.{Laid, Leaves, holders_from}
 use Rattle.item_build.proofs.Laying.{record-back}
-use Rattle.two_halves.specs.Halves.{HalvesStand, IsBinOf, IsFunOf, IsLaid, ProcsStand, RecordsStand, end_of, front_of, places_in}
+use Rattle.two_halves.specs.Stack.{AreApart}
+use Rattle.two_halves.specs.Halves.{all_places, HalvesStand, IsBinOf, IsFunOf, IsLaid, ProcsStand, RecordsStand, end_of, front_of, places_in}
 use Rattle.two_halves.specs.declared.halves.Halves.{Halves}
 use Rattle.two_halves.specs.declared.table.Proc.{Proc}
 use Rattle.one_space.specs.Entered.{records_from}
@@ -316,8 +317,8 @@ module _ (h : Halves) (shared extra : List (List ℕ)) (named : ℕ) (qs : List 
     chain : Links d mem2 head2 (holders_from h.top n ++ s.chained) []
     chain = made.links s.chained [] s.single s.links
 
-    pub landed-stands : HalvesStand named2 (joined h mem2 z.top z.end head2 n v bins) all_shared qs2
-    landed-stands =
+    pub landed-stands : AreApart (all_places mem2 v.items) → HalvesStand named2 (joined h mem2 z.top z.end head2 n v bins) all_shared qs2
+    landed-stands apart =
         let R : List ℕ → Type 0 = λ q. RecordsStand d mem2 all_shared q h.funs.items in
         record {
           test = d;
@@ -337,6 +338,7 @@ module _ (h : Halves) (shared extra : List (List ℕ)) (named : ℕ) (qs : List 
           records = subst R (sym table) landed-records;
           fun_names = λ u i. omega (arith, fun-owner u i, s.fun_names u i, names);
           processes = procs;
+          apart = apart;
         }
 
   module _ (v : Vec Proc Global) (bins : Vec ℕ Global) (table : bins.items ≡ h.bins.items ++ new_records) where

@@ -3,6 +3,7 @@ mod Counting
 mod Changing
 mod Turning
 mod Rooms
+mod Within
 mod Seated
 mod Acting
 mod Growing

@@ -55,4 +55,4 @@ module _ (b : One) (counts : IsCounted b) (seat : Seat) (x : Sits b seat) (p : P
   proper-there names proper has r =
       let live = before s names has proper in
       let found = found-there b s o counts seat x in
-      at-proper names s.shared seated.registers r ((found-proper names s.shared seat.pid s.processes seated live.held found).registers)
+      at-proper names s.shared seated.registers r ((found-proper names s.shared seat.pid s.processes seated live.held live.within found).registers)

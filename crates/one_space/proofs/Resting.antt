@@ -13,6 +13,7 @@ use Rattle.off_heap_list.proofs.Chained.{leads-stays}
 use Rattle.two_halves.specs.Halves.{HalvesStand, HoldsTree, IsLaid, ProcsStand, end_of}
 use Rattle.two_halves.specs.Reached.{ChainReached, roots_in, roots_of}
 use Rattle.two_halves.specs.declared.halves.Halves.{Halves}
+use Rattle.two_halves.proofs.Apart.{apart-kept}
 use Rattle.two_halves.proofs.Filled.{halves-filled, laid-filled, laid_out}
 use Rattle.two_halves.proofs.Held.{have-stacks, roots-stand, trees_of}
 use Rattle.two_halves.proofs.Keeping.{procs-on, roots-kept}
@@ -52,6 +53,7 @@ module _ (named : ℕ) (h : Halves) (shared : List (List ℕ)) (qs : List Proces
   pub rest-stands : HalvesStand named (laid_out h mem2 top h.low h.procs) shared qs
   rest-stands =
       halves-filled named named h shared qs qs laid s s.test s.single mem2 top h.low h.procs len (λ a k e. e) (λ a k e. inl e) (λ a k e. inl e) words-same up (omega arith) (omega arith) rows
+      (apart-kept s.test shared h.mem mem2 h.low (end_of h) named h.procs.items qs places s.processes s.apart)
 
   pub rest-laid : IsLaid (laid_out h mem2 top h.low h.procs)
   rest-laid =

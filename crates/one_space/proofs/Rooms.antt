@@ -95,7 +95,7 @@ sits-roomed b h seat s x = record {
 
 -- The space stands for what it stood for.
 pub stands-roomed : (b : One) (h : Halves) (s : State) → OneStands b s → HalvesStand b.named h s.shared s.processes → (ChainReached b.halves → ChainReached h) → OneStands (roomed b h) s
-stands-roomed b h s o p reached = record { processes = p; next = o.next; swept = o.swept; shared = o.shared; areas = o.areas; reached = λ e. reached (o.reached e) }
+stands-roomed b h s o p reached = record { processes = p; next = o.next; swept = o.swept; shared = o.shared; areas = o.areas; within = o.within; reached = λ e. reached (o.reached e) }
 
 -- Where the chain's objects were reached they are still.
 pub reached-roomed : (n : ℕ) (old new : Halves) (r : Bool) → MakesRoom n old new r → ChainReached old → ChainReached new

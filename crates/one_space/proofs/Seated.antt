@@ -3,6 +3,7 @@ use Rattle.std.proofs.Common.{◌≡◌, ◌<◌, true, length, map, get_or, set
 use Rattle.std.specs.List.{filter, remove}
 use Rattle.plain_machine.specs.State.{Process, State, process_of, with_process}
 use Rattle.plain_machine.specs.Step.{is_sweep, settled}
+use Rattle.plain_machine.specs.Laws.{AreWithin}
 use Rattle.script_grammar.specs.Names.{Parsed}
 use Rattle.space_api.specs.Calls.{AreRising}
 use Rattle.space_api.specs.declared.space.Seat.{Seat}
@@ -12,6 +13,7 @@ use Rattle.one_space.specs.One.{IsCounted, OneStands, Sits}
 use Rattle.one_space.specs.declared.one.One.{One}
 use Rattle.one_space.proofs.Changing.{no_process, procs-at, procs-count, procs-numbers}
 use Rattle.one_space.proofs.Seats.{is_other, process_numbers, replaced, seat-found, seat-removed, seat-set}
+use Rattle.one_space.proofs.Within.{within-put}
 use Rattle.two_halves.proofs.Stacks.{no_row}
 
 module _ (b : One) (s : State) (o : OneStands b s) (c : IsCounted b) where
@@ -43,5 +45,13 @@ module _ (b : One) (s : State) (o : OneStands b s) (c : IsCounted b) where
 -- The space stands for the state with one process changed.
 pub settled-stands : (b c : One) (s : State) (p : Parsed) (q : Process) → OneStands b s → HalvesStand c.named c.halves s.shared (map (replaced q) s.processes) → c.next ≡ b.next
     → c.swept ≡ is_sweep p.command → c.serials ≡ b.serials → (is_sweep p.command ≡ true → ChainReached c.halves)
-    → OneStands c (settled p (with_process q s))
-settled-stands b c s p q o h next swept serials reached = record { processes = h; next = o.next ∙ sym next; swept = sym swept; shared = o.shared ∙ sym serials; areas = o.areas; reached = reached }
+    → AreWithin s.shared q.queue → OneStands c (settled p (with_process q s))
+settled-stands b c s p q o h next swept serials reached within = record {
+  processes = h;
+  next = o.next ∙ sym next;
+  swept = sym swept;
+  shared = o.shared ∙ sym serials;
+  areas = o.areas;
+  within = within-put s.shared q s.processes within o.within;
+  reached = reached;
+}

@@ -41,7 +41,11 @@ use Rattle.item_build.proofs.Ending.{whole-led}
 use Rattle.item_build.proofs.Known.{Knows, stands-known, stands-more}
 use Rattle.item_build.proofs.Written.{is-written, outcome_of, term-makes, term-named, term-outcome, term-words, words-few}
 use Rattle.two_halves.specs.Halves.{HalvesStand, HoldTrees, HoldsTree, IsLaid, ProcStands, ProcsStand, end_of, half_of, places_in}
-use Rattle.two_halves.specs.Stack.{values}
+use Rattle.two_halves.specs.Stack.{AreApart, values}
+use Rattle.two_halves.specs.Halves.{all_places}
+use Rattle.two_halves.proofs.Apart.{apart-kept, apart-same}
+use Rattle.plain_machine.specs.Laws.{AreWithin}
+use Rattle.one_space.proofs.Within.{queues, within-at, within-grown, within-put}
 use Rattle.two_halves.specs.Collecting.{MakesRoom}
 use Rattle.one_space.specs.One.{Holds, IsCounted, OneStands, Sits, number_in}
 use Rattle.one_space.specs.One.{words_of as memory_words}
@@ -261,6 +265,7 @@ module _ (b : One) (holds : Holds b) (seat : Seat) (x : Sits b seat) (r : Reg) (
               swept = o.swept;
               shared = o.shared;
               areas = o.areas;
+              within = o.within;
               reached = λ swept. rest-reached b.named h s.shared s.processes room.laid old.processes mem2 h.top leaves.same_len others (omega arith) room.laid.order (old.reached swept);
             }
 
@@ -466,6 +471,14 @@ module _ (b : One) (holds : Holds b) (seat : Seat) (x : Sits b seat) (r : Reg) (
                   refs = old.refs;
                 }))
 
+            set-apart : AreApart (all_places mem2 (set h.procs.items seat.row (with_term u r.0 w u.refs)))
+            set-apart = apart-same mem2 h.procs.items seat.row (with_term u r.0 w u.refs) u sits1.within row_is refl
+                (apart-kept (o1 s o).processes.test s.shared h.mem mem2 h.low (end_of h) b.named h.procs.items s.processes (λ a above below none. others a (inr above)) (o1 s o).processes.processes
+                (o1 s o).processes.apart)
+
+            more-within : AreWithin (s.shared ++ bins_of code) (queues s.processes)
+            more-within = within-grown o.processes.test s.shared (bins_of code) b.halves.mem b.halves.low (end_of b.halves) b.named b.halves.procs.items s.processes o.processes.processes o.within
+
             built-stands : OneStands (after_build named) (settled (line t) (record (with_process (with_register r.0 tree (q s o)) s) { shared = s.shared ++ bins_of code }))
             built-stands =
                 let P : List Process → Type 0 = λ g. HalvesStand named h3 (s.shared ++ bins_of code) g in
@@ -473,11 +486,12 @@ module _ (b : One) (holds : Holds b) (seat : Seat) (x : Sits b seat) (r : Reg) (
                   processes = subst P (sym (set-there (roomed b h) s (o1 s o) counts1 seat sits1 (with_register r.0 tree (q s o)) (number-there (roomed b h) s (o1 s o) counts1 seat sits1)))
                       (landed-stands h s.shared (bins_of code) b.named s.processes room.laid (o1 s o).processes test z mem2 now.head (long_bins code) laid-here leaves-there named
                       (omega (arith, more, named_is))
-                      (with_item h.procs seat.row (with_term u r.0 w u.refs)) bins (set s.processes seat.row (with_register r.0 tree (q s o))) table set-rows);
+                      (with_item h.procs seat.row (with_term u r.0 w u.refs)) bins (set s.processes seat.row (with_register r.0 tree (q s o))) table set-rows set-apart);
                   next = o.next;
                   swept = refl;
                   shared = omega (arith, length-append s.shared (bins_of code), bins-count code, o.shared, made_now);
                   areas = o.areas;
+                  within = within-put (s.shared ++ bins_of code) (with_register r.0 tree (q s o)) s.processes (within-at (s.shared ++ bins_of code) s.processes seat.row more-within) more-within;
                   reached = λ e. absurd (true≢false (sym e));
                 }
 

@@ -13,7 +13,7 @@ pub sweeps : (all : Bool) (b : One) (h : Halves) → Holds b → Collects b.halv
 sweeps all b h holds c =
     let stands : (s : State) → OneStands b s → OneStands (record { halves = h; row = b.row; next = b.next; serials = b.serials; named = b.named; calls = b.calls + 1; swept = all })
     (record s { swept = all }) = λ s o.
-    record { processes = c.stands b.named s.shared s.processes o.processes; next = o.next; swept = refl; shared = o.shared; areas = o.areas; reached = λ e. c.chained } in
+    record { processes = c.stands b.named s.shared s.processes o.processes; next = o.next; swept = refl; shared = o.shared; areas = o.areas; within = o.within; reached = λ e. c.chained } in
     let counts = counts-roomed b h holds.counts (stays-collected b.halves h c) c.laid in
     record {
       holds = record {

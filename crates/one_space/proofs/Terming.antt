@@ -31,6 +31,8 @@ use Rattle.one_space.proofs.Resting.{rest-laid}
 use Rattle.one_space.proofs.Rooms.{roomed}
 use Rattle.one_space.proofs.Seated.{found-there, number-there, set-there, settled-stands}
 use Rattle.one_space.proofs.Seats.{replaced}
+use Rattle.one_space.proofs.Within.{within-at}
+use Rattle.two_halves.proofs.Apart.{apart-kept, apart-same}
 use Rattle.two_halves.proofs.Filled.{halves-filled, laid_out}
 use Rattle.two_halves.proofs.Keeping.{procs-on}
 use Rattle.two_halves.proofs.Stacks.{AreKept}
@@ -154,6 +156,8 @@ module _ (b : One) (holds : Holds b) (seat : Seat) (x : Sits b seat) (n : ℕ) (
             o1.processes.single) mem2 z.top h.low
             (with_item h.procs seat.row (with_term p r w made)) uses.same_len built.grows.more built.grows.objects new-within words-same (omega (arith, uses.moved)) (omega arith) more
             (subst P limit set-rows)
+            (apart-same mem2 h.procs.items seat.row (with_term p r w made) p sits1.within is refl
+            (apart-kept o1.processes.test s.shared h.mem mem2 h.low (end_of h) b.named h.procs.items s.processes kept o1.processes.processes o1.processes.apart))
 
         pub replaced-stand : HalvesStand named h2 s.shared (map (replaced (with_tree q r t refs)) s.processes)
         replaced-stand =
@@ -165,7 +169,7 @@ module _ (b : One) (holds : Holds b) (seat : Seat) (x : Sits b seat) (n : ℕ) (
             → OneStands (built_in b h2 row named) (settled (said (OfProcess seat.pid v) terms lines) (with_process (with_tree q r t refs) s))
         term-stands v terms lines =
             settled-stands (roomed b h) (built_in b h2 row named) s (said (OfProcess seat.pid v) terms lines) (with_tree q r t refs) o1 replaced-stand refl refl refl
-            (λ e. absurd (true≢false (sym e)))
+            (λ e. absurd (true≢false (sym e))) (within-at s.shared s.processes seat.row o.within)
 
         pub term-found : process_of seat.pid s ≡ Some q
         term-found = found-there (roomed b h) s o1 counts1 seat sits1

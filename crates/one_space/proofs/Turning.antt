@@ -11,6 +11,10 @@ use Rattle.two_halves.specs.declared.table.Proc.{Proc}
 use Rattle.one_space.proofs.Changing.{held-at, held-set, no_process, procs-at, procs-set}
 use Rattle.two_halves.proofs.Keeping.{proc-on, procs-on}
 use Rattle.two_halves.proofs.Stacks.{AreKept}
+use Rattle.two_halves.specs.Stack.{AreApart}
+use Rattle.two_halves.specs.Halves.{all_places}
+use Rattle.two_halves.proofs.Apart.{apart-kept, apart-pushed}
+use Rattle.two_halves.proofs.Held.{have-stacks}
 
 -- A row with another word in a register.
 abbrev pub with_word : Proc → ℕ → ℕ → Proc
@@ -170,3 +174,10 @@ module _ (c : ℕ → ℕ → Bool) (shared : List (List ℕ)) (mem : List ℕ) 
         last = h.last;
         refs = h.refs;
       })
+
+  -- The new place is apart from all others.
+  pub pushed-apart : AreApart (all_places mem ps) → AreApart (all_places mem2 (set ps i (with_stack p (low - 2) (p.depth + 1))))
+  pushed-apart a =
+      let rows : ProcsStand c shared mem2 low limit named ps qs = procs-on c c shared mem mem2 named named low low limit trees places (λ q k above below none. none k) (omega arith) ps qs s in
+      apart-pushed c mem2 low limit ps i (with_stack p (low - 2) (p.depth + 1)) p less is (have-stacks c shared mem2 low limit named ps qs rows) (omega (arith, fits)) under-there refl refl
+      (apart-kept c shared mem mem2 low limit named ps qs places s a)

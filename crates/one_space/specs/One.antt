@@ -2,6 +2,7 @@
 use Rattle.std.specs.Prelude.{◌≡◌, ℕ, ◌+◌, ◌*◌, ◌/◌, ◌<◌, ◌≤◌, true, List, [], ◌∷◌, length, get_or}
 use Rattle.std.specs.Vec.{vec_len, vec_capacity}
 use Rattle.plain_machine.specs.State.{State}
+use Rattle.plain_machine.specs.Laws.{AreWithin, queued_trees}
 use Rattle.plain_machine.specs.declared.costs.TheConstants.{RECORD_COST}
 use Rattle.plain_machine.specs.declared.limits.TheConstants.{MOST_PROCESSES}
 use Rattle.space_api.specs.Calls.{AreRising}
@@ -26,14 +27,15 @@ numbers_of b = numbers_by number_in b.halves.procs.items
 abbrev pub words_of : One → ℕ
 words_of b = length b.halves.mem
 
--- The space stands for the state, whose areas are none. Where nothing has changed since the last sweep, the processes reach every
--- object of the chain.
+-- The space stands for the state, whose areas are none and whose queued messages are within the walk limit. Where nothing has
+-- changed since the last sweep, the processes reach every object of the chain.
 pub record OneStands (b : One) (s : State) : Type 0 where
   pub processes : HalvesStand b.named b.halves s.shared s.processes
   pub next : s.next ≡ b.next
   pub swept : s.swept ≡ b.swept
   pub shared : length s.shared ≡ b.serials
   pub areas : s.areas ≡ []
+  pub within : AreWithin s.shared (queued_trees s)
   pub reached : s.swept ≡ true → ChainReached b.halves
 
 -- Each of the rows has made at most so many references.
