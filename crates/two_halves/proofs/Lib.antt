@@ -24,3 +24,5 @@ mod Linking
 mod Queuing
 mod Following
 mod Entering
+mod Copying
+mod Sending

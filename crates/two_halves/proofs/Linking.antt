@@ -350,14 +350,14 @@ module _ (named_below : ℕ) (old h : Halves) (shared : List (List ℕ)) (qs : L
 
 -- No record counts more objects than there are places for.
 
-naming-few : (mem : List ℕ) (v : ℕ) (os : List ℕ) → naming mem v os ≤ length os
+pub naming-few : (mem : List ℕ) (v : ℕ) (os : List ℕ) → naming mem v os ≤ length os
 naming-few mem v [] = omega arith
 naming-few mem v (p ∷ os) = omega (arith, at-most-one (named mem p) v, naming-few mem v os)
   where
     at-most-one : (r v : ℕ) → names_it r v ≤ 1
     at-most-one r v = grind (arith, nat_tests)
 
-ones : (ps : List ℕ) → total one ps ≡ length ps
+pub ones : (ps : List ℕ) → total one ps ≡ length ps
 ones [] = refl
 ones (p ∷ ps) = omega (arith, ones ps)
 

@@ -4,5 +4,6 @@ pub mod Reached
 pub mod Rows
 pub mod Collecting
 pub mod Adding
+pub mod Copying
 pub mod Queues
 pub mod Figures

@@ -1,13 +1,49 @@
 // Messages: one enters a queue at its end, and leaves it at its front.
 ghost use Rattle.std.specs.Prelude.{◌≡◌, ◌+◌, ◌≤◌, length};
 ghost use Rattle.two_halves.specs.declared.halves.TheConstants.{PLACE_WORDS};
-ghost use Rattle.two_halves.specs.Queues.{CanQueue, Follows, HasRow, Queues, Receives};
+ghost use Rattle.two_halves.specs.Copying.{CanCopyIn, CopiesIn};
+ghost use Rattle.two_halves.specs.Queues.{CanQueue, CanSend, Follows, HasRow, Queues, Receives, Sends};
 
 use crate::halves::{Halves, PLACE_WORDS};
 use crate::table::Proc;
-use word_mem::WordMem;
+use cheney::Stay;
+use term_copy::{chain_row, copy_tree};
+use word_mem::{Room, WordMem};
 
 impl Halves {
+    /// Sends the term of this word to the process with this row: a copy of it is the last message of its queue.
+    pub fn send(&mut self, row: usize, w: u64)
+        requires can { CanSend self.old row w }
+        ensures { Sends self.old self.new row w }
+    {
+        let copy = self.copy_in(w);
+        self.enqueue(row, copy);
+    }
+
+    // Copies the term of this word, whole, to the free words, and answers its new word.
+    fn copy_in(&mut self, w: u64) -> u64
+        requires can { CanCopyIn self.old w }
+        ensures { CopiesIn self.old self.new w result }
+    {
+        let _len = self.mem.len();
+        let from = self.top;
+        let mut room = Room {
+            start: self.base,
+            top: from,
+            end: self.low,
+        };
+        let stay = Stay::none();
+        let copy = copy_tree(&mut self.mem, &mut room, &stay, w);
+        self.top = room.top;
+        if self.linked == 0 {
+            return copy;
+        }
+        let chained = chain_row(&mut self.mem, from, room.top, self.head);
+        self.head = chained.head;
+        self.linked += chained.count;
+        copy
+    }
+
     // Puts this word at the end of the queue of the process with this row, in a new place below all places and records.
     fn enqueue(&mut self, row: usize, w: u64)
         requires can { CanQueue self.old row w }
