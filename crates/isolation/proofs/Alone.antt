@@ -26,6 +26,7 @@ use Rattle.isolation.proofs.ByName.{IsKnownIn}
 use Rattle.isolation.proofs.Others.{Comes}
 use Rattle.isolation.proofs.Alike.{Alike, known-in, answers-alike, own-alike, after_all, solo-append, messages-silent, behind, passes-alike, born-alike, first-alike}
 use Rattle.isolation.proofs.Births.{passes-births, comes-births, births-are}
+use Rattle.isolation.proofs.Solitary.{solitary-first}
 use Rattle.isolation.proofs.Told.{Brings, event-brings, areas-none, event-proper, run-events}
 
 comes-messages : (m : ℕ) (e : Event) → Comes m e.before e.after → messages m e ≡ []
@@ -140,6 +141,7 @@ isolates may words quits lines replies new run =
       lines_are = h.lines_are;
       replies_are = h.replies_are;
       spawned = births-are may words quits first_state new h.events (record { numbered = (omega arith, omega arith) }) h.told;
+      solitary = λ p. solitary-first p h.events;
       alone = first-alone may words quits new h.events h.told;
     }
 

@@ -28,7 +28,7 @@ use Rattle.isolation.proofs.Others.{Passes, Comes, with_more}
 use Rattle.isolation.proofs.Told.{Brings, event-brings, event-line}
 
 -- whether it lives is told by whether it is found
-lives-same : (m : ℕ) (s next : State) (more : List Tree) → process_of m next ≡ option_map (with_more more) (process_of m s) → is_live m next ≡ is_live m s
+pub lives-same : (m : ℕ) (s next : State) (more : List Tree) → process_of m next ≡ option_map (with_more more) (process_of m s) → is_live m next ≡ is_live m s
 lives-same m s next more e = live-found m next.processes ∙ (ap is_some e ∙ (as-before (process_of m s) ∙ sym (live-found m s.processes)))
   where
     as-before : (o : Option Live) → is_some (option_map (with_more more) o) ≡ is_some o

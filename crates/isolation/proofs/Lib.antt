@@ -5,4 +5,5 @@ mod Others
 mod Alike
 mod Told
 mod Births
+mod Solitary
 pub mod Alone

@@ -11,7 +11,7 @@ use Rattle.plain_machine.specs.State.{State}
 use Rattle.plain_machine.specs.Run.{CommandStep, Refuses, refusal_text}
 
 -- One line of a run: what it says where it is a command that may be done, its replies, and the states before and after it.
--- A line that is too long, in no grammar, or brings too many names says nothing that may be done.
+-- A line that is too long, not in the grammar, or brings too many names says nothing that may be done.
 pub record Event : Type 0 where
   pub line : Line
   pub said : Option Written
