@@ -1,0 +1,7 @@
+pub mod Items
+pub mod Linked
+pub mod Taking
+pub mod Stepping
+pub mod Alike
+pub mod Whole
+pub mod Rows

@@ -1,0 +1,3 @@
+pub mod Row
+pub mod Copied
+pub mod Going

@@ -1,0 +1,112 @@
+// Copying one object.
+ghost use Rattle.std.specs.Prelude.{◌≡◌, ℕ, ◌+◌, ◌*◌, ◌/◌, ◌%◌, ◌<◌, ◌≤◌, ◌⊎◌, List, true, length, slice_index};
+ghost use Rattle.plain_term.specs.Tree.{Tree};
+ghost use Rattle.plain_term.specs.Measures.{flat};
+ghost use Rattle.term_words.specs.Object.{object_words};
+ghost use Rattle.term_words.specs.Stands.{Stands};
+ghost use Rattle.term_copy.specs.Copied.{Task};
+ghost use Rattle.term_copy.specs.Going.{Advances, CanPart, CanTake, Copying, Goes, HasImage, Item, Took};
+
+use crate::chaining::is_link_word;
+use off_heap_list::chain;
+use word_mem::{Room, WordMem};
+
+/// Copies an object of the tree to the first free words of the room, and answers the pointer to its copy.
+#[inline]
+pub fn copy_part(mem: &mut WordMem, room: &mut Room, w: u64) -> u64
+    requires { CanPart mem.old room.old w }
+    ensures room { Advances room.old room.new }
+    ensures each { (p : Task) (known : List Item) (mark at owed : ℕ) (u : Tree) → Copying p known mem.old mark at room.old.top (flat u + owed)
+        → Stands p.test p.shared p.start w u → Goes p w → HasImage p known mem.new mark at room.new.top owed w result }
+{
+    let _len = mem.len();
+    copy_object(mem, room, w)
+}
+
+// Copies the object that a pointer leads to. A holder or fun gets `next` 0, and its record counts it.
+#[inline]
+fn copy_object(mem: &mut WordMem, room: &mut Room, w: u64) -> u64
+    requires { CanTake mem.old room.old.top room.old.end w }
+    ensures took { Took mem.old mem.new w room.old.top result }
+    ensures room { room.new ≡ record room.old { top = room.old.top + object_words mem.old w } }
+{
+    if w % 4 == 1 {
+        copy_cons(mem, room, w)
+    } else {
+        copy_boxed(mem, room, w)
+    }
+}
+
+#[inline]
+fn copy_cons(mem: &mut WordMem, room: &mut Room, w: u64) -> u64
+    requires can { CanTake mem.old room.old.top room.old.end w }
+    requires tag { w % 4 ≡ 1 }
+    ensures took { Took mem.old mem.new w room.old.top result }
+    ensures room { room.new ≡ record room.old { top = room.old.top + object_words mem.old w } }
+{
+    let _len = mem.len();
+    let at = w / 4;
+    let to = room.top;
+    let head = mem.get(at);
+    let tail = mem.get(at + 1);
+    mem.set(to, head);
+    mem.set(to + 1, tail);
+    room.top = to + 2;
+    to * 4 + 1
+}
+
+fn copy_boxed(mem: &mut WordMem, room: &mut Room, w: u64) -> u64
+    requires can { CanTake mem.old room.old.top room.old.end w }
+    requires tag { w % 4 ≡ 2 }
+    ensures took { Took mem.old mem.new w room.old.top result }
+    ensures room { room.new ≡ record room.old { top = room.old.top + object_words mem.old w } }
+{
+    let _len = mem.len();
+    let at = w / 4;
+    let to = room.top;
+    let header = mem.get(at);
+    let words = 1 + header / 64;
+    copy_apart(mem, at, to, words);
+    if is_link_word(header) {
+        chain(mem, 0, to);
+    }
+    room.top = to + words;
+    to * 4 + 2
+}
+
+// The most words that are copied one by one: a call costs more.
+const FEW: u64 = 8;
+
+// Copies words to places that are apart from theirs.
+#[inline]
+fn copy_apart(mem: &mut WordMem, src: u64, dst: u64, n: u64)
+    requires source { src + n ≤ length mem.old }
+    requires target { dst + n ≤ length mem.old }
+    requires apart { (src + n ≤ dst) ⊎ (dst + n ≤ src) }
+    ensures same_len { length mem.new ≡ length mem.old }
+    ensures moved { (p q : ℕ) → dst ≤ q → q < dst + n → p + dst ≡ q + src → slice_index mem.new q ≡ slice_index mem.old p }
+    ensures kept { (q : ℕ) → (q < dst) ⊎ (dst + n ≤ q) → slice_index mem.new q ≡ slice_index mem.old q }
+{
+    if n <= FEW {
+        copy_few(mem, src, dst, n);
+    } else {
+        mem.copy_words(src, dst, n);
+    }
+}
+
+// The same, one word after the other.
+#[inline]
+fn copy_few(mem: &mut WordMem, src: u64, dst: u64, n: u64)
+    requires source { src + n ≤ length mem.old }
+    requires target { dst + n ≤ length mem.old }
+    requires apart { (src + n ≤ dst) ⊎ (dst + n ≤ src) }
+    ensures same_len { length mem.new ≡ length mem.old }
+    ensures moved { (p q : ℕ) → dst ≤ q → q < dst + n → p + dst ≡ q + src → slice_index mem.new q ≡ slice_index mem.old p }
+    ensures kept { (q : ℕ) → (q < dst) ⊎ (dst + n ≤ q) → slice_index mem.new q ≡ slice_index mem.old q }
+{
+    let _len = mem.len();
+    for i in 0..n {
+        let w = mem.get(src + i);
+        mem.set(dst + i, w);
+    }
+}

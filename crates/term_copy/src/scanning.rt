@@ -1,0 +1,113 @@
+// Going through the words of what was copied.
+ghost use Rattle.std.specs.Prelude.{◌≡◌, ℕ, Bool, true, false, List, ◌+◌, ◌/◌, ◌%◌, ◌^◌, ◌<◌, ◌≤◌, ◌⊎◌, length, slice_index, Some};
+ghost use Rattle.plain_term.specs.Tree.{Tree, Trees};
+ghost use Rattle.plain_term.specs.Tree.Trees.{◌▹◌};
+ghost use Rattle.term_tags.specs.Table.{layout_for};
+ghost use Rattle.term_tags.specs.declared.layouts.Layout.{Layout};
+ghost use Rattle.term_words.specs.Object.{IsPointer};
+ghost use Rattle.cheney.specs.Ranges.{stays};
+ghost use Rattle.term_copy.specs.Copied.{Task};
+ghost use Rattle.term_copy.specs.Going.{Advances, CanOpen, CanWord, CanWords, Copying, IsStay, Item, Scanning};
+
+use crate::objects::copy_part;
+use cheney::Stay;
+use term_tags::{FUN, MAP, SUB_BIN, TUPLE};
+use word_mem::{Room, WordMem};
+
+/// Goes through the traced words of the object at a place, and answers the place after it.
+#[inline]
+pub fn scan_object(mem: &mut WordMem, room: &mut Room, stay: &Stay, at: u64) -> u64
+    requires { CanOpen mem.old room.old (stays stay.now) at }
+    ensures room { Advances room.old room.new }
+    ensures further { at < result }
+    ensures each { (p : Task) (known : List Item) → IsStay p (stays stay.now) → Copying p known mem.old at at room.old.top 0
+        → Copying p known mem.new result result room.new.top 0 }
+{
+    let _len = mem.len();
+    let word = mem.get(at);
+    let (from, to) = traced_words(at, word);
+    scan_words(mem, room, stay, from, to);
+    to
+}
+
+// From which place up to which one the words of the object at a place are traced, which has this first word.
+#[inline]
+fn traced_words(at: u64, word: u64) -> (u64, u64)
+    requires { at < 2 ^ 24 }
+    ensures cons { (word % 4 ≡ 0 → ⊥) → (result.0 ≡ at) × (result.1 ≡ at + 2) }
+    ensures boxed { word % 4 ≡ 0 → (l : Layout) → layout_for word ≡ Some l → (result.0 ≡ at + l.first) × (result.1 ≡ at + (1 + word / 64)) }
+{
+    if word % 4 != 0 {
+        return (at, at + 2);
+    }
+    (at + first_word(word), at + (1 + word / 64))
+}
+
+// The first traced word of the object with this header, counted from its place; its size, if it has none.
+#[inline]
+fn first_word(header: u64) -> u64
+    ensures first { (l : Layout) → layout_for header ≡ Some l → result ≡ l.first }
+    ensures most { result ≤ 6 ⊎ (result ≡ 1 + header / 64) }
+{
+    let subtag = (header / 4 % 16) as u8;
+    if subtag == TUPLE {
+        return 1;
+    }
+    if subtag == MAP {
+        return 2;
+    }
+    if subtag == SUB_BIN {
+        return 4;
+    }
+    if subtag == FUN {
+        return 6;
+    }
+    1 + header / 64
+}
+
+// Goes through the words from one place up to another, the last of an object.
+#[inline]
+fn scan_words(mem: &mut WordMem, room: &mut Room, stay: &Stay, from: u64, to: u64)
+    requires { CanWords mem.old room.old (stays stay.now) from to }
+    ensures room { Advances room.old room.new }
+    ensures each { (p : Task) (known : List Item) (rest : Trees) → IsStay p (stays stay.now) → Scanning p known mem.old from to room.old.top rest
+        → Copying p known mem.new to to room.new.top 0 }
+{
+    let mut at = from;
+    while at < to {
+        scan_word(mem, room, stay, at);
+        at += 1;
+    }
+}
+
+// Copies what the word at a place points to, unless it stays, and puts the pointer to the copy in its place.
+#[inline]
+fn scan_word(mem: &mut WordMem, room: &mut Room, stay: &Stay, at: u64)
+    requires { CanWord mem.old room.old (stays stay.now) at }
+    ensures room { Advances room.old room.new }
+    ensures each { (p : Task) (known : List Item) (to : ℕ) (u : Tree) (rest : Trees) → IsStay p (stays stay.now)
+        → Scanning p known mem.old at to room.old.top (u ▹ rest) → Scanning p known mem.new (at + 1) to room.new.top rest }
+{
+    let _len = mem.len();
+    let w = mem.get(at);
+    if goes(stay, w) {
+        let new = copy_part(mem, room, w);
+        mem.set(at, new);
+    }
+}
+
+/// Whether a word points to an object that does not stay.
+#[inline]
+pub fn goes(stay: &Stay, w: u64) -> bool
+    ensures yes { result ≡ true → IsPointer w × (stays stay.now (w / 4) ≡ false) }
+    ensures no { result ≡ false → IsPointer w → stays stay.now (w / 4) ≡ true }
+{
+    let tag = w % 4;
+    if tag == 0 {
+        return false;
+    }
+    if tag == 3 {
+        return false;
+    }
+    !stay.has(w / 4)
+}
