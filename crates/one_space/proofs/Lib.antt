@@ -28,3 +28,5 @@ mod Allowing
 mod Gaining
 mod Filling
 mod Funning
+mod Receiving
+mod Queuing

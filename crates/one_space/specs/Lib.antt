@@ -6,3 +6,4 @@ pub mod Telling
 pub mod Listing
 pub mod Figures
 pub mod Gathered
+pub mod Queued

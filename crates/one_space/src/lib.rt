@@ -7,6 +7,7 @@ mod gathering;
 mod listing;
 mod new_calls;
 mod one;
+mod queues;
 mod space;
 mod terms;
 mod told;

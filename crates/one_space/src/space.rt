@@ -336,6 +336,18 @@ impl Space for OneSpace {
         self.one.pop(seat, r)
     }
 
+    fn receive(&mut self, seat: Seat, r: Reg) -> Result<(), Refusal>
+        requires sits { Sits self.old seat }
+        requires register { IsRegister r }
+        requires calls { self.old.calls < most_calls }
+        ensures follows { (s : State) (terms : Terms) (names : List (List ℕ)) → Properly (OneStands self.old) s → HasNames s names
+            → Follows (step s (said (Process seat.pid (verb.Recv r)) terms names)) s result (Properly (OneStands self.new)) }
+        ensures books { Books self.old self.new self.old.named }
+        ensures idle { self.new.halves.sweeps ≡ self.old.halves.sweeps }
+    {
+        self.one.receive(seat, r)
+    }
+
     fn collect(&mut self, seat: Seat, depth: Depth)
         requires sits { Sits self.old seat }
         requires calls { self.old.calls < most_calls }
@@ -373,6 +385,10 @@ impl Space for OneSpace {
         sink: &mut K,
     ) -> Result<(), Stop> {
         self.one.print(names, seat, s, sink)
+    }
+
+    fn queue<K: Sink>(&self, names: &AtomNames, seat: Seat, sink: &mut K) -> Result<(), SinkFault> {
+        self.one.queue(names, seat, sink)
     }
 
     fn counts<K: Sink>(&self, names: &AtomNames, sink: &mut K) -> Result<(), SinkFault> {

@@ -1,0 +1,17 @@
+use Rattle.one_space.proofs.Receiving.{left-seated, left-sweeps, receive-none, received-does}
+use Rattle.one_space.proofs.one.One.receive.Goals as goal
+
+pub returns-in_default-clause-does : goal.returns-in_default-clause-does
+returns-in_default-clause-does c =
+    receive-none c.args.self.now c.requires.holds c.args.seat c.requires.sits c.args.r c.receive.new.self c.in_default.ensures.0 c.in_default.ensures.1
+
+pub index_mut-process-requires : goal.index_mut-process-requires
+index_mut-process-requires c = left-seated c.args.self.now c.requires.holds c.args.seat c.requires.sits c.args.r c.receive.new.self c.in-Some.w c.in-Some.ensures
+
+pub returns-clause-does : goal.returns-clause-does
+returns-clause-does c =
+    received-does c.args.self.now c.requires.holds c.args.seat c.requires.sits c.args.r c.receive.new.self c.in-Some.w c.in-Some.ensures c.index_mut-process.result.now
+    c.index_mut-process.ensures.value
+
+pub returns-clause-idle : goal.returns-clause-idle
+returns-clause-idle c = left-sweeps c.args.self.now c.requires.holds c.args.seat c.requires.sits c.args.r c.receive.new.self c.in-Some.w c.in-Some.ensures
