@@ -1,5 +1,5 @@
 -- An object whose words are those of another, and whose traced words stand for the parts of a tree, stands for the tree.
-use Rattle.std.proofs.Common.{◌≡◌, ℕ, ◌+◌, ◌-◌, ◌*◌, ◌/◌, ◌%◌, ◌<◌, ◌≤◌, ◌⊎◌, ◌==◌, Bool, true, false, List, [], ◌∷◌, length, get_or, refl, sym, ◌∙◌, ap, subst, arith, inl, inr, ℤ, pos, negsuc}
+use Rattle.std.proofs.Common.{◌≡◌, ℕ, ◌+◌, ◌-◌, ◌*◌, ◌/◌, ◌%◌, ◌<◌, ◌≤◌, Bool, true, List, length, get_or, refl, sym, ◌∙◌, ap, subst, arith, inl, inr, ℤ, pos, negsuc}
 use Rattle.plain_term.specs.Measures.{bin_words}
 use Rattle.plain_term.specs.Bytes.{shared_bytes}
 use Rattle.plain_term.specs.Tree.{Tree, Trees, Pairs, trees_len, pairs_len, keys_of, values_of}
@@ -12,7 +12,6 @@ use Rattle.term_words.specs.Object.{byte_of, IsObject, IsBoxed, IsInt, IsTuple, 
 use Rattle.term_words.specs.Reach.{first_traced, parts_of}
 use Rattle.term_words.specs.Stands.{Stands, RowStands, KeysStand, ValuesStand}
 use Rattle.term_words.proofs.Apart.{words-cons, words-boxed}
-use Rattle.term_words.proofs.Carrying.{in-object}
 use Rattle.term_words.proofs.Pairs.{values-len, keys-len}
 use Rattle.term_words.proofs.Reached.{scanned, cons-traced}
 

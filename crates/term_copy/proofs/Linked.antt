@@ -1,9 +1,9 @@
 -- What is known of the holders and funs among objects that stand.
-use Rattle.std.proofs.Common.{◌≡◌, ℕ, ◌+◌, ◌*◌, ◌/◌, ◌%◌, ◌<◌, ◌≤◌, ◌⊎◌, ◌==◌, ◌||◌, ◌&&◌, Bool, true, false, if◌then◌else◌, List, [], ◌∷◌, length, get_or, refl, sym, ◌∙◌, ap, subst, arith, inl, inr, ℤ, pos, negsuc}
+use Rattle.std.proofs.Common.{◌≡◌, ℕ, ◌+◌, ◌*◌, ◌/◌, ◌%◌, ◌<◌, ◌≤◌, ◌⊎◌, Bool, true, List, length, get_or, refl, sym, ◌∙◌, subst, arith, inl, inr, ℤ, pos, negsuc}
 use Rattle.std.proofs.lemmas.Bool.Decides.{nat_tests}
 use Rattle.plain_term.specs.Measures.{bin_words}
 use Rattle.plain_term.specs.Bytes.{shared_bytes}
-use Rattle.plain_term.specs.Tree.{Tree, Trees, trees_len, pairs_len}
+use Rattle.plain_term.specs.Tree.{Tree, trees_len, pairs_len}
 use Rattle.plain_term.specs.Tree.Tree.{Int, Atom, Pid, Ref, Nil, Cons, Tuple, Map, Bin, Shared, Part, Fun}
 use Rattle.term_tags.specs.Words.{head_word}
 use Rattle.term_tags.specs.declared.layouts.TheConstants.{FUN, HOLDER}
@@ -118,24 +118,28 @@ pub next-linked : (c : ℕ → ℕ → Bool) (shared : List (List ℕ)) (mem : L
 unfolding Stands
 next-linked c shared mem w (Shared id) q single o p from below h =
     let n : object_words mem w ≡ 6 = words-boxed mem w 5 32 o.holder.tag o.holder.header (omega arith) in
-    let which : (q ≡ w / 4) ⊎ ((q ≡ w / 4 + 1) ⊎ ((q ≡ w / 4 + 2) ⊎ ((q ≡ w / 4 + 3) ⊎ ((q ≡ w / 4 + 4) ⊎ (q ≡ w / 4 + 5))))) = grind arith in
-    (link-by mem w o.holder.tag (inl (omega (arith, o.holder.header))), elim which [
-      | inl e ↦ absurd (other-role c (w / 4) FIRST q single o.holder.first (λ z. omega (arith, z)) e h)
-      | inr (inl e) ↦ absurd (other-role c (w / 4 + 1) FURTHER q single o.holder.second (λ z. omega (arith, z)) e h)
-      | inr (inr (inl e)) ↦ e
-      | inr (inr (inr (inl e))) ↦ absurd (other-role c (w / 4 + 3) NAMES q single o.holder.names (λ z. omega (arith, z)) e h)
-      | inr (inr (inr (inr (inl e)))) ↦ absurd (other-role c (w / 4 + 4) FURTHER q single o.holder.fifth (λ z. omega (arith, z)) e h)
-      | inr (inr (inr (inr (inr e)))) ↦ absurd (other-role c (w / 4 + 5) FURTHER q single o.holder.sixth (λ z. omega (arith, z)) e h)
-    ])
+    let which : (q ≡ w / 4) ⊎ ((q ≡ w / 4 + 1) ⊎ ((q ≡ w / 4 + 2) ⊎ ((q ≡ w / 4 + 3) ⊎ ((q ≡ w / 4 + 4) ⊎ (q ≡ w / 4 + 5))))) = grind arith in (
+      link-by mem w o.holder.tag (inl (omega (arith, o.holder.header))),
+      elim which [
+        | inl e ↦ absurd (other-role c (w / 4) FIRST q single o.holder.first (λ z. omega (arith, z)) e h)
+        | inr (inl e) ↦ absurd (other-role c (w / 4 + 1) FURTHER q single o.holder.second (λ z. omega (arith, z)) e h)
+        | inr (inr (inl e)) ↦ e
+        | inr (inr (inr (inl e))) ↦ absurd (other-role c (w / 4 + 3) NAMES q single o.holder.names (λ z. omega (arith, z)) e h)
+        | inr (inr (inr (inr (inl e)))) ↦ absurd (other-role c (w / 4 + 4) FURTHER q single o.holder.fifth (λ z. omega (arith, z)) e h)
+        | inr (inr (inr (inr (inr e)))) ↦ absurd (other-role c (w / 4 + 5) FURTHER q single o.holder.sixth (λ z. omega (arith, z)) e h)
+      ],
+    )
 next-linked c shared mem w (Fun name arity creator env) q single (o, row) p from below h =
     let n : object_words mem w ≡ 1 + (trees_len env + 5) = words-boxed mem w (trees_len env + 5) 20 o.tag o.header (omega arith) in
-    let which : (q ≡ w / 4) ⊎ ((q ≡ w / 4 + 1) ⊎ ((q ≡ w / 4 + 2) ⊎ (w / 4 + 2 < q))) = grind arith in
-    (link-by mem w o.tag (inr (omega (arith, o.header))), elim which [
-      | inl e ↦ absurd (other-role c (w / 4) FIRST q single o.first (λ z. omega (arith, z)) e h)
-      | inr (inl e) ↦ absurd (other-role c (w / 4 + 1) NAMES q single o.names (λ z. omega (arith, z)) e h)
-      | inr (inr (inl e)) ↦ e
-      | inr (inr (inr far)) ↦ absurd (other-role c q FURTHER q single (o.others q far (omega arith)) (λ z. omega (arith, z)) refl h)
-    ])
+    let which : (q ≡ w / 4) ⊎ ((q ≡ w / 4 + 1) ⊎ ((q ≡ w / 4 + 2) ⊎ (w / 4 + 2 < q))) = grind arith in (
+      link-by mem w o.tag (inr (omega (arith, o.header))),
+      elim which [
+        | inl e ↦ absurd (other-role c (w / 4) FIRST q single o.first (λ z. omega (arith, z)) e h)
+        | inr (inl e) ↦ absurd (other-role c (w / 4 + 1) NAMES q single o.names (λ z. omega (arith, z)) e h)
+        | inr (inr (inl e)) ↦ e
+        | inr (inr (inr far)) ↦ absurd (other-role c q FURTHER q single (o.others q far (omega arith)) (λ z. omega (arith, z)) refl h)
+      ],
+    )
 next-linked c shared mem w (Int i) q single s p from below h = absurd (int-no-next c mem w i q single s p from below h)
 next-linked c shared mem w (Ref n k) q single s p from below h = absurd (boxed-no-next c mem w 4 2 q single (omega arith) s.boxed from below h)
 next-linked c shared mem w (Cons x y) q single (o, sh, st) p from below h = absurd (no-next c mem (w / 4) 2 q single o.object from (omega (arith, below, words-cons mem w o.tag)) h)

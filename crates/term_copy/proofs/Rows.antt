@@ -1,11 +1,11 @@
 -- The holders and funs of a row come into a chain, one after the other.
-use Rattle.std.proofs.Common.{◌≡◌, ℕ, suc, ◌+◌, ◌-◌, ◌*◌, ◌/◌, ◌%◌, ◌<◌, ◌≤◌, ◌⊎◌, ◌==◌, ◌||◌, ◌&&◌, if◌then◌else◌, nat_le, Bool, true, false, List, [], ◌∷◌, ◌++◌, length, get_or, set, refl, sym, ◌∙◌, ap, subst, arith, inl, inr, Option, Some, None, length-set, get_or-set_other}
+use Rattle.std.proofs.Common.{◌≡◌, ℕ, ◌+◌, ◌-◌, ◌/◌, ◌%◌, ◌<◌, ◌≤◌, ◌⊎◌, ◌==◌, ◌&&◌, if◌then◌else◌, nat_le, Bool, true, false, List, [], ◌∷◌, ◌++◌, length, get_or, set, refl, sym, ◌∙◌, ap, subst, arith, inl, inr, Some, None, length-set, get_or-set_other}
 use Rattle.std.proofs.lemmas.Bool.Decides.{nat_tests}
 use Rattle.std.proofs.lemmas.Grind.{get_or-set_at}
 use Rattle.term_tags.specs.Table.{layout_for, layout_at, row_layout}
 use Rattle.term_tags.specs.declared.layouts.Layout.{Layout}
-use Rattle.term_words.specs.Role.{NEXT, COUNT, IsSingle}
-use Rattle.term_words.specs.Object.{IsPointer, IsRecord, object_words}
+use Rattle.term_words.specs.Role.{NEXT, IsSingle}
+use Rattle.term_words.specs.Object.{IsPointer, object_words}
 use Rattle.term_words.specs.Kept.{Kept}
 use Rattle.term_words.specs.Counted.{In, Distinct}
 use Rattle.term_words.specs.Tiled.{IsTile, Tiled, tile_words}
@@ -13,7 +13,6 @@ use Rattle.term_words.proofs.Apart.{words-cons, words-header}
 use Rattle.term_words.proofs.Members.{true-or-false}
 use Rattle.term_words.proofs.Roles.{object-some}
 use Rattle.term_words.proofs.Tiles.{tiled-order}
-use Rattle.shared_rec.specs.Record.{count_in}
 use Rattle.shared_rec.proofs.Records.{record-counted, record-stays, role-idle}
 use Rattle.off_heap_list.specs.Links.{names_it, named, naming, Leads, IsLink, Links}
 use Rattle.off_heap_list.specs.Whole.{turned}
@@ -34,8 +33,11 @@ chained-one c mem head o os more one inside l fresh =
     let S : ℕ → Type 0 = λ x. In x os in
     let P : ℕ → Type 0 = λ x. IsLink c (set mem (o + 2) head) x in
     record {
-      chain = (refl, subst Q (sym lead) (leads-stays mem (set mem (o + 2) head) head os 0 (λ p i. get_or-set_other mem (o + 2) (p + 2) head 0 (λ e.
-          let this : p ≡ o = omega (arith, e) in fresh (subst S this i))) l.chain));
+      chain = (
+        refl,
+        subst Q (sym lead) (leads-stays mem (set mem (o + 2) head) head os 0 (λ p i. get_or-set_other mem (o + 2) (p + 2) head 0 (λ e.
+            let this : p ≡ o = omega (arith, e) in fresh (subst S this i))) l.chain),
+      );
       once = (fresh, l.once);
       each = λ p i. elim i [ inl e ↦ subst P (sym e) (link-stays c c mem (set mem (o + 2) head) o kept k) | inr h ↦ link-stays c c mem (set mem (o + 2) head) p kept (l.each p h) ];
       beside = λ p i. link-stays c c mem (set mem (o + 2) head) p kept (l.beside p (inr i));
@@ -136,7 +138,12 @@ next-by old at (w ∷ ws) to r some =
     let (place, is, rest) = r.row in
     let P : ℕ → Type 0 = λ n. Tiled old (at + n) ws to in
     record {
-      w = w; later = ws; is = refl; place = place; pointer = y; tile = is;
+      w = w;
+      later = ws;
+      is = refl;
+      place = place;
+      pointer = y;
+      tile = is;
       are = record { row = subst P (tile-object old w y) rest; objects = λ v i. r.objects v (inr i) };
     }
 
@@ -207,7 +214,10 @@ pub record Chaining (old mem : List ℕ) (at to head : ℕ) (ws : List ℕ) (h :
 
 pub chaining-begins : (mem : List ℕ) (from to head : ℕ) (ws : List ℕ) → AreObjects mem from ws to → Chaining mem mem from to head ws (record { head = head; count = 0 })
 chaining-begins mem from to head ws are = record {
-  rest = ws; seen = []; are = are; whole = refl;
+  rest = ws;
+  seen = [];
+  are = are;
+  whole = refl;
   low = λ p i. absurd i;
   same_len = refl;
   others = λ q out. refl;
@@ -245,11 +255,14 @@ module _ (old mem : List ℕ) (at to head : ℕ) (ws : List ℕ) (h : Chained) (
         let same : links_in old g.rest ≡ links_in old x.later = links-skip old at g.rest to x none in
         let P : ℕ → Type 0 = λ a. AreObjects old a x.later to in
         record {
-          rest = x.later; seen = g.seen;
+          rest = x.later;
+          seen = g.seen;
           are = subst P (sym e) x.are;
           whole = ap (λ ys. g.seen ++ ys) (sym same) ∙ g.whole;
           low = λ p i. omega (arith, g.low p i, e);
-          same_len = g.same_len; others = g.others; count = g.count;
+          same_len = g.same_len;
+          others = g.others;
+          count = g.count;
           few = omega (arith, g.few, e);
           links = λ c os further one l apart. (let Q : List ℕ → Type 0 = λ ys. Links c mem h.head (turned g.seen os) (ys ++ further) in subst Q same (g.links c os further one l apart));
         }
@@ -273,7 +286,8 @@ module _ (old mem : List ℕ) (at to head : ℕ) (ws : List ℕ) (h : Chained) (
         let wide : at + 6 ≤ at + (1 + get_or mem at 0 / 64) = link-ends t link in
         let P : ℕ → Type 0 = λ a. AreObjects old a x.later to in
         record {
-          rest = x.later; seen = g.seen ++ at ∷ [];
+          rest = x.later;
+          seen = g.seen ++ at ∷ [];
           are = subst P (sym e) x.are;
           whole = sym (one-more g.seen at (links_in old x.later)) ∙ ap (λ ys. g.seen ++ ys) (sym step) ∙ g.whole;
           low = λ p i. elim (in-split p at g.seen i) [ inl j ↦ omega (arith, g.low p j, wide) | inr same ↦ omega (arith, same, wide) ];
@@ -375,7 +389,7 @@ chaining-ends old mem from at to head ws h are g over =
           subst R all (subst Q none (g.links c os further one l apart));
     }
   where
-  ended-row : (mem : List ℕ) (a : ℕ) (ys : List ℕ) (b : ℕ) → AreObjects mem a ys b → b ≤ a → ys ≡ []
-  ended-row mem a [] b r le = refl
-  ended-row mem a (w ∷ ys) b r le = (let (place, is, rest) = r.row in
-      absurd (omega (arith, le, tiled-order mem (a + tile_words mem w) b ys rest, tile-object mem w (r.objects w (inl refl)), object-some mem w)))
+    ended-row : (mem : List ℕ) (a : ℕ) (ys : List ℕ) (b : ℕ) → AreObjects mem a ys b → b ≤ a → ys ≡ []
+    ended-row mem a [] b r le = refl
+    ended-row mem a (w ∷ ys) b r le = (let (place, is, rest) = r.row in
+        absurd (omega (arith, le, tiled-order mem (a + tile_words mem w) b ys rest, tile-object mem w (r.objects w (inl refl)), object-some mem w)))

@@ -1,5 +1,5 @@
 -- Going through the words of a copy: one word, the words of an object, and how it begins.
-use Rattle.std.proofs.Common.{◌≡◌, ℕ, zero, suc, ◌+◌, ◌-◌, ◌*◌, ◌/◌, ◌%◌, ◌<◌, ◌≤◌, ◌⊎◌, ◌==◌, if◌then◌else◌, Bool, true, false, List, [], ◌∷◌, length, get_or, set, refl, sym, ◌∙◌, ap, subst, arith, inl, inr, Some, length-set, get_or-set_other, ℤ, pos, negsuc}
+use Rattle.std.proofs.Common.{◌≡◌, ℕ, suc, ◌+◌, ◌-◌, ◌/◌, ◌%◌, ◌<◌, ◌≤◌, ◌⊎◌, ◌==◌, Bool, true, false, List, [], ◌∷◌, length, get_or, set, refl, sym, ◌∙◌, ap, subst, arith, inl, inr, Some, length-set, get_or-set_other, ℤ, pos, negsuc}
 use Rattle.std.proofs.lemmas.Bool.Decides.{nat_tests}
 use Rattle.std.proofs.lemmas.Grind.{get_or-set_at}
 use Rattle.plain_term.specs.Measures.{flat, flat_of_all}
@@ -9,8 +9,8 @@ use Rattle.plain_term.specs.Tree.Trees.{end, ◌▹◌}
 use Rattle.term_tags.specs.Table.{layout_for}
 use Rattle.term_tags.specs.declared.layouts.Layout.{Layout}
 use Rattle.term_words.specs.Role.{COUNT}
-use Rattle.term_words.specs.Object.{IsInt, IsPointer, IsRecord, object_words}
-use Rattle.term_words.specs.Reach.{Reach, root, part, first_of, first_traced, parts_of}
+use Rattle.term_words.specs.Object.{IsInt, IsPointer, object_words}
+use Rattle.term_words.specs.Reach.{root, part, first_traced, parts_of}
 use Rattle.term_words.specs.Stands.{Stands, RowStands, AllStand}
 use Rattle.term_words.proofs.Apart.{head-no-header, header-there, no-header, words-cons, words-header}
 use Rattle.term_words.proofs.Reached.{cons-traced, reached, scanned}
@@ -18,13 +18,12 @@ use Rattle.term_words.proofs.Roles.{object-some}
 use Rattle.term_words.proofs.Shapes.{told}
 use Rattle.term_words.proofs.Tiles.{has-layout}
 use Rattle.shared_rec.proofs.Records.{record-counted}
-use Rattle.term_copy.specs.Row.{is_link}
 use Rattle.term_copy.specs.Copied.{CanCopy, Task}
 use Rattle.word_mem.specs.declared.ranges.Room.{Room}
 use Rattle.term_copy.specs.Going.{Advances, HasRoom, Among, Begun, Copying, Goes, HasImage, IsCopy, IsImage, IsOf, IsStay, Item, Pends, Ready, Scanning, Spread, left_of}
-use Rattle.term_copy.proofs.Items.{spread-in, spread-one, spread-order}
+use Rattle.term_copy.proofs.Items.{spread-in, spread-one}
 use Rattle.term_copy.proofs.Linked.{LinkFacts, linked}
-use Rattle.term_copy.proofs.Taking.{image-same, row-order, role-beside, top-limit}
+use Rattle.term_copy.proofs.Taking.{image-same, role-beside, top-limit}
 
 at-or-below : (q m : ℕ) → (q < m) ⊎ (m ≤ q)
 at-or-below q m = grind arith
@@ -39,17 +38,40 @@ below-or-at q m h = grind (arith, h)
 
 abbrev pub forget : (p : Task) (known : List Item) (x : Item) (mem : List ℕ) (mark at top owed : ℕ) → Copying p (x ∷ known) mem mark at top owed → Copying p known mem mark at top owed
 forget p known x mem mark at top owed g = record {
-  ready = g.ready; items = g.items; after = g.after; has = λ y i. g.has y (inr i);
-  marked = g.marked; row = g.row; further = g.further; among = g.among; stands = g.stands; copies = g.copies; same_len = g.same_len; others = g.others;
-  counts = g.counts; used = g.used; exact = g.exact;
+  ready = g.ready;
+  items = g.items;
+  after = g.after;
+  has = λ y i. g.has y (inr i);
+  marked = g.marked;
+  row = g.row;
+  further = g.further;
+  among = g.among;
+  stands = g.stands;
+  copies = g.copies;
+  same_len = g.same_len;
+  others = g.others;
+  counts = g.counts;
+  used = g.used;
+  exact = g.exact;
 }
 
 pub know : (p : Task) (known : List Item) (x : Item) (mem : List ℕ) (mark at top owed : ℕ) (g : Copying p known mem mark at top owed) → Among x g.items → Copying p (x ∷ known) mem mark at top owed
 know p known x mem mark at top owed g i = record {
-  ready = g.ready; items = g.items; after = g.after;
+  ready = g.ready;
+  items = g.items;
+  after = g.after;
   has = λ y h. elim h [ inl e ↦ (let P : Item → Type 0 = λ z. Among z g.items in subst P (sym e) i) | inr j ↦ g.has y j ];
-  marked = g.marked; row = g.row; further = g.further; among = g.among; stands = g.stands; copies = g.copies; same_len = g.same_len; others = g.others;
-  counts = g.counts; used = g.used; exact = g.exact;
+  marked = g.marked;
+  row = g.row;
+  further = g.further;
+  among = g.among;
+  stands = g.stands;
+  copies = g.copies;
+  same_len = g.same_len;
+  others = g.others;
+  counts = g.counts;
+  used = g.used;
+  exact = g.exact;
 }
 
 -- A word of no object has no flat words, and an object that stays is not owed.
@@ -81,8 +103,18 @@ goes-none p w stays none y = stays (record { pointer = y; goes = none (w / 4) })
 abbrev pub owe-less : (p : Task) (known : List Item) (mem : List ℕ) (mark at top w : ℕ) (u : Tree) (more : ℕ) → (Goes p w → ⊥) → Stands p.test p.shared p.start w u
     → Copying p known mem mark at top (flat u + more) → Copying p known mem mark at top more
 owe-less p known mem mark at top w u more stays s g = record {
-  ready = g.ready; items = g.items; after = g.after; has = g.has;
-  marked = g.marked; row = g.row; further = g.further; among = g.among; stands = g.stands; copies = g.copies; same_len = g.same_len; others = g.others;
+  ready = g.ready;
+  items = g.items;
+  after = g.after;
+  has = g.has;
+  marked = g.marked;
+  row = g.row;
+  further = g.further;
+  among = g.among;
+  stands = g.stands;
+  copies = g.copies;
+  same_len = g.same_len;
+  others = g.others;
   counts = g.counts;
   used = omega (arith, g.used);
   exact = λ none. omega (arith, g.exact none, flat-none p.test p.shared p.start w u s (goes-none p w stays none));
@@ -111,9 +143,15 @@ module _ (p : Task) (known : List Item) (mem : List ℕ) (mark at top owed : ℕ
   pub replaced : (new : List ℕ) → length new ≡ length mem → ((q : ℕ) → (q ≡ mark → ⊥) → get_or new q 0 ≡ get_or mem q 0)
       → IsImage p g.items (get_or mem mark 0) (get_or new mark 0) → mark + 1 ≤ at → Copying p known new (mark + 1) at top owed
   replaced new len same image more = record {
-    ready = g.ready; items = g.items; after = g.after; has = g.has;
+    ready = g.ready;
+    items = g.items;
+    after = g.after;
+    has = g.has;
     marked = more;
-    row = g.row; further = g.further; among = g.among; stands = g.stands;
+    row = g.row;
+    further = g.further;
+    among = g.among;
+    stands = g.stands;
     copies = λ x h.
         let c : IsCopy p mem mark g.items x = g.copies x h in
         record {
@@ -152,9 +190,11 @@ unfolding RowStands
 pends-row p mem a q end same row = tt
 pends-row p mem a q (t ▹ ts) same (first, rest) =
     let P : ℕ → Type 0 = λ x. Stands p.test p.shared p.start x t in
-    let here : get_or mem q 0 ≡ get_or p.start a 0 = ap (λ x. get_or mem x 0) (omega arith) ∙ same 0 (omega arith) ∙ ap (λ x. get_or p.start x 0) (omega arith) in
-    (subst P (sym here) first, pends-row p mem (a + 1) (q + 1) ts (λ j below.
-        ap (λ x. get_or mem x 0) (omega arith) ∙ same (suc j) (omega (arith, below)) ∙ ap (λ x. get_or p.start x 0) (omega arith)) rest)
+    let here : get_or mem q 0 ≡ get_or p.start a 0 = ap (λ x. get_or mem x 0) (omega arith) ∙ same 0 (omega arith) ∙ ap (λ x. get_or p.start x 0) (omega arith) in (
+      subst P (sym here) first,
+      pends-row p mem (a + 1) (q + 1) ts (λ j below.
+          ap (λ x. get_or mem x 0) (omega arith) ∙ same (suc j) (omega (arith, below)) ∙ ap (λ x. get_or p.start x 0) (omega arith)) rest,
+    )
 
 -- One word is gone through.
 
@@ -180,7 +220,7 @@ module _ (p : Task) (known : List Item) (mem : List ℕ) (mark at top : ℕ) (u 
     pends = pends-same p mem new (mark + 1) rest (λ a low high.
         (g.copies s.item i).waits (a - s.item.place) a (omega (arith, s.traced, low)) (omega (arith, s.traced, low, high, s.ends, s.whole)) (omega (arith, s.traced, low)) low
         ∙ sym ((s.on.copies s.item s.among).waits (a - s.item.place) a (omega (arith, s.traced, low)) (omega (arith, s.traced, low, high, s.ends, s.whole)) (omega (arith, s.traced, low)) (omega (arith, low))))
-    s.pends.1;
+        s.pends.1;
     ends = omega (arith, s.ends);
     item = s.item;
     among = i;
@@ -349,13 +389,19 @@ module _ (p : Task) (known : List Item) (mem : List ℕ) (at top : ℕ) (g : Cop
         let more : left_of g.after ≡ flat_of_all (parts_of o.x.tree) + left_of o.later = ap left_of o.is in
         record {
           on = record {
-            ready = g.ready; items = g.items; after = o.later; has = g.has;
+            ready = g.ready;
+            items = g.items;
+            after = o.later;
+            has = g.has;
             marked = omega (arith, traced-len);
-            row = g.row; further = spreads.1;
+            row = g.row;
+            further = spreads.1;
             among = λ y i. g.among y (let P : List Item → Type 0 = λ xs. Among y xs in subst P (sym o.is) (inr i));
             stands = g.stands;
             copies = λ y i. opened-copy y i (g.copies y i);
-            same_len = g.same_len; others = g.others; counts = g.counts;
+            same_len = g.same_len;
+            others = g.others;
+            counts = g.counts;
             used = omega (arith, g.used, more);
             exact = λ none. omega (arith, g.exact none, more);
           };
@@ -393,10 +439,13 @@ closed p known mem mark at top (u ▹ rest) s over = absurd (omega (arith, s.end
 
 begins-at : (p : Task) (mem : List ℕ) (owed : ℕ) → Ready p → p.start ≡ mem → owed ≤ flat p.tree → (((q : ℕ) → p.stay q ≡ false) → owed ≡ flat p.tree) → Copying p [] mem p.top p.top p.top owed
 begins-at p mem owed r e few all = record {
-  ready = r; items = []; after = [];
+  ready = r;
+  items = [];
+  after = [];
   has = λ x i. i;
   marked = omega arith;
-  row = refl; further = refl;
+  row = refl;
+  further = refl;
   among = λ x i. i;
   stands = λ x i. absurd i;
   copies = λ x i. absurd i;
@@ -474,3 +523,15 @@ can-room mem room stay w can inside = record { same = refl; inside = inside; cou
 
 pub stands-root : (p : Task) (w : ℕ) → Ready p → p.word ≡ w → Stands p.test p.shared p.start w p.tree
 stands-root p w r e = let P : ℕ → Type 0 = λ x. Stands p.test p.shared p.start x p.tree in subst P e r.standing
+
+-- The traced words of an object by its first word, which was read.
+
+pub traced-cons : (m word at : ℕ) → word ≡ m → (word % 4 ≡ 0 → ⊥) → Traced m at at (at + 2)
+traced-cons m word at e other =
+    let P : ℕ → Type 0 = λ a. Traced a at at (at + 2) in
+    subst P e (record { cons = λ o. (refl, refl); boxed = λ z l is. absurd (other z) })
+
+pub traced-boxed : (m word at first : ℕ) → word ≡ m → word % 4 ≡ 0 → ((l : Layout) → layout_for word ≡ Some l → first ≡ l.first) → Traced m at (at + first) (at + (1 + word / 64))
+traced-boxed m word at first e zero-tag is =
+    let P : ℕ → Type 0 = λ a. Traced a at (at + first) (at + (1 + word / 64)) in
+    subst P e (record { cons = λ o. absurd (o zero-tag); boxed = λ z l s. (ap (λ n. at + n) (is l s), refl) })

@@ -1,14 +1,13 @@
 -- An object is copied: what stands before, what the copy asks, and what stands after it.
-use Rattle.std.proofs.Common.{◌≡◌, ℕ, ◌+◌, ◌-◌, ◌*◌, ◌/◌, ◌%◌, ◌^◌, ◌<◌, ◌≤◌, ◌⊎◌, ◌==◌, ◌||◌, ◌&&◌, Bool, true, false, if◌then◌else◌, List, [], ◌∷◌, ◌++◌, length, get_or, refl, sym, ◌∙◌, ap, subst, arith, inl, inr}
-use Rattle.std.proofs.lemmas.Bool.Decides.{nat_tests}
+use Rattle.std.proofs.Common.{◌≡◌, ℕ, ◌+◌, ◌/◌, ◌%◌, ◌^◌, ◌<◌, ◌≤◌, ◌⊎◌, ◌==◌, ◌&&◌, Bool, true, false, if◌then◌else◌, List, [], ◌∷◌, ◌++◌, length, get_or, refl, sym, ◌∙◌, ap, subst, arith, inl, inr}
 use Rattle.plain_term.specs.Measures.{flat, flat_of_all}
 use Rattle.plain_term.specs.Tree.{Tree}
 use Rattle.word_mem.specs.declared.ranges.Room.{Room}
-use Rattle.term_words.specs.Role.{always, NEXT, COUNT, FIRST, NAMES, IsContent, OfObject}
+use Rattle.term_words.specs.Role.{always, COUNT, FIRST, NAMES, IsContent, OfObject}
 use Rattle.term_words.specs.Object.{IsPointer, IsRecord, object_words}
-use Rattle.term_words.specs.Reach.{first_traced, parts_of}
+use Rattle.term_words.specs.Reach.{parts_of}
 use Rattle.term_words.specs.Stands.{Stands}
-use Rattle.term_words.specs.Kept.{Kept, Carried}
+use Rattle.term_words.specs.Kept.{Kept}
 use Rattle.term_words.proofs.Apart.{words-cons, words-header}
 use Rattle.term_words.proofs.Carrying.{words-same}
 use Rattle.term_words.proofs.Frames.{frame, kept-carried}
@@ -22,7 +21,7 @@ use Rattle.off_heap_list.specs.Links.{name_place, named, names_it}
 use Rattle.off_heap_list.proofs.Chained.{place-same, one-naming, no-naming}
 use Rattle.term_copy.specs.Row.{is_link, is_link_header}
 use Rattle.term_copy.specs.Copied.{Task}
-use Rattle.term_copy.specs.Going.{Advances, Among, CanCount, CanPart, CanTake, Copying, Goes, HasImage, HasRoom, IsBeside, IsCopy, IsImage, IsOf, Item, Spread, Took, left_of, tally}
+use Rattle.term_copy.specs.Going.{Advances, Among, CanTake, Copying, Goes, HasImage, HasRoom, IsBeside, IsCopy, IsImage, IsOf, Item, Took}
 use Rattle.term_copy.proofs.Items.{among-last, among-left, among-split, left-last, spread-in, spread-last, spread-order, tally-few, tally-last}
 use Rattle.term_copy.proofs.Linked.{LinkFacts, linked, next-linked}
 

@@ -1,5 +1,5 @@
 -- When all words were gone through, the copy is whole.
-use Rattle.std.proofs.Common.{◌≡◌, ℕ, zero, suc, ◌+◌, ◌-◌, ◌*◌, ◌/◌, ◌%◌, ◌<◌, ◌≤◌, ◌⊎◌, ◌==◌, ◌||◌, ◌&&◌, if◌then◌else◌, nat_le, nat_lt, Bool, true, false, List, [], ◌∷◌, ◌++◌, length, get_or, refl, sym, ◌∙◌, ap, subst, arith, inl, inr, Some}
+use Rattle.std.proofs.Common.{◌≡◌, ℕ, zero, suc, ◌+◌, ◌-◌, ◌*◌, ◌/◌, ◌%◌, ◌<◌, ◌≤◌, ◌⊎◌, ◌==◌, ◌||◌, ◌&&◌, if◌then◌else◌, nat_le, nat_lt, Bool, true, false, List, [], ◌∷◌, ◌++◌, length, get_or, refl, sym, ◌∙◌, ap, subst, arith, inl, inr}
 use Rattle.std.proofs.lemmas.Bool.Decides.{nat_tests}
 use Rattle.plain_term.specs.Measures.{flat, flat_of_all}
 use Rattle.plain_term.specs.Tree.{Tree, Trees, trees_len}
@@ -7,34 +7,34 @@ use Rattle.plain_term.specs.Tree.Trees.{end, ◌▹◌}
 use Rattle.term_tags.specs.Words.{head_word}
 use Rattle.term_tags.specs.declared.layouts.TheConstants.{HOLDER}
 use Rattle.term_tags.specs.Table.{layout_for}
-use Rattle.term_words.specs.Role.{NEXT, COUNT, FIRST, NAMES, RECORD, IsSingle, OfObject, OfRecord}
-use Rattle.term_words.specs.Object.{IsBinRecord, IsPointer, IsRecord, object_words}
+use Rattle.term_words.specs.Role.{NEXT, COUNT, FIRST, NAMES, RECORD, OfObject, OfRecord}
+use Rattle.term_words.specs.Object.{IsPointer, IsRecord, object_words}
 use Rattle.term_words.specs.Reach.{Reach, root, part, first_of, first_traced, parts_of}
 use Rattle.term_words.specs.Stands.{Stands, RowStands, tree_at}
 use Rattle.term_words.specs.Kept.{Kept}
 use Rattle.term_words.specs.Counted.{In, Distinct}
-use Rattle.term_words.specs.Tiled.{IsTile, Tiled, tile_words}
+use Rattle.term_words.specs.Tiled.{Tiled, tile_words}
 use Rattle.term_words.proofs.Apart.{words-cons, words-header}
 use Rattle.term_words.proofs.Carrying.{words-same, first-same, traced-same}
 use Rattle.term_words.proofs.Frames.{frame, kept-carried}
-use Rattle.term_words.proofs.Members.{pointer-or-not, true-or-false}
+use Rattle.term_words.proofs.Members.{true-or-false}
 use Rattle.term_words.proofs.Reached.{cons-traced, scanned}
-use Rattle.term_words.proofs.Roles.{first-role, object-some}
+use Rattle.term_words.proofs.Roles.{object-some}
 use Rattle.term_words.proofs.Shapes.{row-at}
 use Rattle.term_words.proofs.Single.{single}
 use Rattle.term_words.proofs.Tiles.{tiled-object}
 use Rattle.shared_rec.specs.Record.{count_in}
 use Rattle.shared_rec.proofs.Records.{bin-stays, fun-stays, record-same}
-use Rattle.off_heap_list.specs.Links.{name_place, named, names_it, naming, next_in, IsLink, Links}
-use Rattle.off_heap_list.proofs.Chained.{leads-stays, link-stays, naming-stays, roles-apart}
-use Rattle.term_copy.specs.Row.{AreObjects, is_link, is_link_header, links_in}
+use Rattle.off_heap_list.specs.Links.{named, names_it, naming, next_in, IsLink, Links}
+use Rattle.off_heap_list.proofs.Chained.{leads-stays, link-stays, naming-stays}
+use Rattle.term_copy.specs.Row.{is_link, is_link_header, links_in}
 use Rattle.term_copy.specs.Copied.{CopiesTree, IsClosed, Task}
-use Rattle.term_copy.specs.Going.{Among, Begun, Copying, Goes, IsCopy, IsImage, IsOf, Item, Spread, left_of, tally}
+use Rattle.term_copy.specs.Going.{Among, Begun, Copying, IsCopy, IsImage, IsOf, Item, Spread, left_of, tally}
 use Rattle.term_copy.proofs.Items.{spread-in, spread-none, spread-one, spread-order}
 use Rattle.term_copy.proofs.Linked.{LinkFacts, link-told, linked, next-linked}
 use Rattle.term_copy.proofs.Alike.{IsAlike, alike}
-use Rattle.term_copy.proofs.Taking.{content, image-more, kept-start, role-beside, row-order, top-limit}
-use Rattle.term_copy.proofs.Stepping.{header-first, true-false}
+use Rattle.term_copy.proofs.Taking.{content, image-more, kept-start, role-beside, top-limit}
+use Rattle.term_copy.proofs.Stepping.{header-first}
 
 -- Tests that are joined.
 
@@ -181,8 +181,11 @@ places-once old from [] to row = tt
 places-once old from (x ∷ xs) to (place, rest) =
     let h : Distinct (link_places old xs) = places-once old (from + object_words old x.word) xs to rest in
     elim (true-or-false (is_link old x.word)) [
-      | inl m ↦ rw m ((λ i. (let o : IsPlace old xs x.place = place-told old xs x.place i in
-          omega (arith, o.place, place, spread-in old (from + object_words old x.word) xs to o.x rest o.among, object-some old x.word))), h)
+      | inl m ↦ rw m (
+        (λ i. (let o : IsPlace old xs x.place = place-told old xs x.place i in
+            omega (arith, o.place, place, spread-in old (from + object_words old x.word) xs to o.x rest o.among, object-some old x.word))),
+        h,
+      )
       | inr m ↦ rw m h
     ]
 
@@ -302,10 +305,10 @@ module _ (p : Task) (known : List Item) (mem : List ℕ) (top : ℕ) (g : Copyin
       let row : RowStands test p.shared mem (x.place + first_traced p.start x.word) (parts_of x.tree) =
       row-made n (x.word / 4 + first_traced p.start x.word) (x.place + first_traced p.start x.word) (parts_of x.tree) each sc.row (omega (arith, sc.left, few, object-some p.start x.word))
       (λ j below.
-          let P : ℕ → Type 0 = λ b. IsImage p g.items (get_or p.start b 0) (get_or mem (x.place + first_traced p.start x.word + j) 0) in
-          let e : x.word / 4 + (first_traced p.start x.word + j) ≡ x.word / 4 + first_traced p.start x.word + j = omega arith in
-          subst P e ((copy-of x i).done (first_traced p.start x.word + j) (x.place + first_traced p.start x.word + j) (omega arith) (omega (arith, below, sc.ends)) (omega arith)
-          (omega (arith, below, sc.ends, spread-in p.start p.top g.items top x g.row i)))) in
+      let P : ℕ → Type 0 = λ b. IsImage p g.items (get_or p.start b 0) (get_or mem (x.place + first_traced p.start x.word + j) 0) in
+      let e : x.word / 4 + (first_traced p.start x.word + j) ≡ x.word / 4 + first_traced p.start x.word + j = omega arith in
+      subst P e ((copy-of x i).done (first_traced p.start x.word + j) (x.place + first_traced p.start x.word + j) (omega arith) (omega (arith, below, sc.ends)) (omega arith)
+      (omega (arith, below, sc.ends, spread-in p.start p.top g.items top x g.row i)))) in
       let Q : ℕ → Type 0 = λ b. RowStands test p.shared mem (b + first_traced p.start x.word) (parts_of x.tree) in
       alike p.test test p.shared p.start mem x.word (pointer_to x) (alike-copy x i) x.tree o.goes.pointer o.standing (subst Q (sym (place-to x)) row)
 
@@ -514,8 +517,14 @@ module _ (p : Task) (known : List Item) (mem : List ℕ) (top : ℕ) (g : Copyin
     beside = λ q i. elim (in-either q links-now further i) [ inl h ↦ each-now some q h | inr h ↦ link-stays p.test test p.start mem q kept-new (l.beside q h) ];
     counts = λ v n r.
         let was : IsRecord p.test p.start v n = records-now v n r in
-        omega (arith, counts-now v n was, l.counts v n was, naming-stays p.test test p.start mem v os kept-new l.each, naming-stays p.test test p.start mem v further kept-new l.beside,
-        naming-both mem v links-now further);
+        omega (
+          arith,
+          counts-now v n was,
+          l.counts v n was,
+          naming-stays p.test test p.start mem v os kept-new l.each,
+          naming-stays p.test test p.start mem v further kept-new l.beside,
+          naming-both mem v links-now further,
+        );
   }
 
   -- What the new word reaches.

@@ -1,5 +1,5 @@
 -- Whole objects side by side, the holders and funs among them, and what becomes of these when they are chained.
-use Rattle.std.specs.Prelude.{◌≡◌, ℕ, ◌+◌, ◌/◌, ◌%◌, ◌<◌, ◌≤◌, ◌⊎◌, ◌==◌, ◌&&◌, ◌||◌, if◌then◌else◌, Bool, true, List, [], ◌∷◌, ◌++◌, length, slice_index}
+use Rattle.std.specs.Prelude.{◌≡◌, ℕ, ◌+◌, ◌/◌, ◌%◌, ◌≤◌, ◌==◌, ◌&&◌, ◌||◌, if◌then◌else◌, Bool, true, List, [], ◌∷◌, ◌++◌, length, slice_index}
 use Rattle.term_tags.specs.declared.layouts.TheConstants.{FUN, HOLDER}
 use Rattle.term_words.specs.Role.{NEXT, IsSingle}
 use Rattle.term_words.specs.Object.{IsPointer}

@@ -15,7 +15,7 @@ use term_tags::{FUN, MAP, SUB_BIN, TUPLE};
 use word_mem::{Room, WordMem};
 
 /// Goes through the traced words of the object at a place, and answers the place after it.
-#[inline]
+#[inline(always)]
 pub fn scan_object(mem: &mut WordMem, room: &mut Room, stay: &Stay, at: u64) -> u64
     requires { CanOpen mem.old room.old (stays stay.now) at }
     ensures room { Advances room.old room.new }
@@ -25,22 +25,14 @@ pub fn scan_object(mem: &mut WordMem, room: &mut Room, stay: &Stay, at: u64) -> 
 {
     let _len = mem.len();
     let word = mem.get(at);
-    let (from, to) = traced_words(at, word);
-    scan_words(mem, room, stay, from, to);
-    to
-}
-
-// From which place up to which one the words of the object at a place are traced, which has this first word.
-#[inline]
-fn traced_words(at: u64, word: u64) -> (u64, u64)
-    requires { at < 2 ^ 24 }
-    ensures cons { (word % 4 ≡ 0 → ⊥) → (result.0 ≡ at) × (result.1 ≡ at + 2) }
-    ensures boxed { word % 4 ≡ 0 → (l : Layout) → layout_for word ≡ Some l → (result.0 ≡ at + l.first) × (result.1 ≡ at + (1 + word / 64)) }
-{
     if word % 4 != 0 {
-        return (at, at + 2);
+        let end = at + 2;
+        scan_words(mem, room, stay, at, end);
+        return end;
     }
-    (at + first_word(word), at + (1 + word / 64))
+    let end = at + (1 + word / 64);
+    scan_words(mem, room, stay, at + first_word(word), end);
+    end
 }
 
 // The first traced word of the object with this header, counted from its place; its size, if it has none.
@@ -66,7 +58,7 @@ fn first_word(header: u64) -> u64
 }
 
 // Goes through the words from one place up to another, the last of an object.
-#[inline]
+#[inline(always)]
 fn scan_words(mem: &mut WordMem, room: &mut Room, stay: &Stay, from: u64, to: u64)
     requires { CanWords mem.old room.old (stays stay.now) from to }
     ensures room { Advances room.old room.new }
@@ -81,7 +73,7 @@ fn scan_words(mem: &mut WordMem, room: &mut Room, stay: &Stay, from: u64, to: u6
 }
 
 // Copies what the word at a place points to, unless it stays, and puts the pointer to the copy in its place.
-#[inline]
+#[inline(always)]
 fn scan_word(mem: &mut WordMem, room: &mut Room, stay: &Stay, at: u64)
     requires { CanWord mem.old room.old (stays stay.now) at }
     ensures room { Advances room.old room.new }

@@ -1,7 +1,5 @@
-use Rattle.std.proofs.Common.{◌≡◌, ℕ, List, ◌+◌, ◌/◌, ◌%◌, ◌≤◌, ◌<◌, true, false, length, slice_index, subst, sym, ap, arith, refl, ◌∙◌}
-use Rattle.term_copy.specs.Row.{AreObjects, is_link_header}
-use Rattle.term_copy.specs.declared.chaining.Chained.{Chained}
-use Rattle.term_copy.proofs.Rows.{Chaining, chaining-begins, chaining-ends, joins-at, passes-at, link-inside, small-skips}
+use Rattle.std.proofs.Common.{◌%◌, sym, ap, ◌∙◌}
+use Rattle.term_copy.proofs.Rows.{chaining-ends, joins-at, passes-at, link-inside, small-skips}
 use Rattle.term_copy.proofs.chaining.chain_row.Goals.{then-is_link_word, else-is_link_word}
 use Rattle.term_copy.proofs.chaining.chain_row.Goals as goal
 

@@ -1,4 +1,4 @@
-use Rattle.std.proofs.Common.{◌≡◌, ◌-◌, ◌<◌, ◌^◌, ℕ, List}
+use Rattle.std.proofs.Common.{◌-◌, ℕ, List}
 use Rattle.term_copy.specs.Row.{AreObjects}
 use Rattle.term_copy.proofs.Rows.{Chaining}
 use Rattle.term_copy.proofs.chaining.chain_row.Given as goal

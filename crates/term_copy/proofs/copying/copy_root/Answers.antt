@@ -1,7 +1,6 @@
-use Rattle.std.proofs.Common.{◌≡◌, ℕ, [], refl}
+use Rattle.std.proofs.Common.{[], refl}
 use Rattle.cheney.specs.Ranges.{stays}
-use Rattle.term_copy.specs.Copied.{Task}
-use Rattle.term_copy.proofs.Stepping.{begins, begins-copied, begins-same, can-begin, can-room, goes-by, goes-not, room-same, stands-root, task_of}
+use Rattle.term_copy.proofs.Stepping.{begins, begins-copied, begins-same, can-begin, can-room, goes-by, goes-not, stands-root, task_of}
 use Rattle.term_copy.proofs.copying.copy_root.Goals as goal
 
 pub copy_part-requires : goal.copy_part-requires

@@ -1,4 +1,4 @@
-use Rattle.std.proofs.Common.{◌≡◌, ℕ, List, Bool, ◌+◌, ◌≤◌, ap, arith, subst, sym, refl}
+use Rattle.std.proofs.Common.{◌≡◌, ◌+◌, ◌≤◌, arith, subst, refl}
 use Rattle.plain_term.specs.Tree.{Tree}
 use Rattle.plain_term.specs.Measures.{flat}
 use Rattle.cheney.specs.Ranges.{stays}
@@ -16,7 +16,7 @@ pub scan_object-at-requires : goal.scan_object-at-requires
 scan_object-at-requires c =
     let p : Task = task_of c.args.mem.now c.args.room.now (stays c.args.stay.now) c.requires.can.test c.requires.can.shared c.args.w c.requires.can.tree in
     let b : Begun (task_of c.args.mem.now c.args.room.now (stays c.args.stay.now) c.requires.can.test c.requires.can.shared c.args.w c.requires.can.tree)
-        c.loop-at.mem c.loop-at.at c.loop-at.room.top c.copy_root-result.result =
+    c.loop-at.mem c.loop-at.at c.loop-at.room.top c.copy_root-result.result =
     c.loop-at.invariant.each (task_of c.args.mem.now c.args.room.now (stays c.args.stay.now) c.requires.can.test c.requires.can.shared c.args.w c.requires.can.tree) (λ q. refl)
     (can-begin c.args.mem.now c.args.room.now (stays c.args.stay.now) c.args.w c.requires.can) refl refl refl in
     record {
@@ -40,7 +40,7 @@ loop-at-preserved c = record {
 pub returns-clause-places : goal.returns-clause-places
 returns-clause-places c =
     let b : Begun (task_of c.args.mem.now c.args.room.now (stays c.args.stay.now) c.requires.can.test c.requires.can.shared c.args.w c.requires.can.tree)
-        c.loop-at.mem c.loop-at.at c.loop-at.room.top c.copy_root-result.result =
+    c.loop-at.mem c.loop-at.at c.loop-at.room.top c.copy_root-result.result =
     c.loop-at.invariant.each (task_of c.args.mem.now c.args.room.now (stays c.args.stay.now) c.requires.can.test c.requires.can.shared c.args.w c.requires.can.tree) (λ q. refl)
     (can-begin c.args.mem.now c.args.room.now (stays c.args.stay.now) c.args.w c.requires.can) refl refl refl in
     record {

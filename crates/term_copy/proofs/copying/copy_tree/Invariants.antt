@@ -1,4 +1,4 @@
-use Rattle.std.proofs.Common.{◌≡◌, ◌-◌, ℕ}
+use Rattle.std.proofs.Common.{◌≡◌, ◌-◌}
 use Rattle.cheney.specs.Ranges.{stays}
 use Rattle.term_copy.specs.Copied.{Task}
 use Rattle.term_copy.specs.Going.{Advances, Begun, IsStay, Ready}

@@ -1,6 +1,5 @@
-use Rattle.std.proofs.Common.{◌≡◌, ℕ, ◌+◌, refl, ap, arith}
+use Rattle.std.proofs.Common.{◌+◌, refl, ap, arith}
 use Rattle.plain_term.specs.Measures.{flat}
-use Rattle.word_mem.specs.declared.ranges.Room.{Room}
 use Rattle.term_words.specs.Object.{object_words}
 use Rattle.term_copy.specs.Going.{CanTake}
 use Rattle.term_copy.proofs.Taking.{can-take, room-advances, took-image}

@@ -1,6 +1,5 @@
-use Rattle.std.proofs.Common.{◌≡◌, ℕ, ◌+◌, ◌<◌, ap, subst, sym}
-use Rattle.plain_term.specs.Tree.{Trees}
-use Rattle.term_copy.proofs.Stepping.{Traced, at-memory, opens-at}
+use Rattle.std.proofs.Common.{◌+◌, ◌/◌, get_or, arith}
+use Rattle.term_copy.proofs.Stepping.{at-memory, opens-at, traced-boxed, traced-cons}
 use Rattle.term_copy.proofs.scanning.scan_object.Goals as goal
 
 pub get-word-requires : goal.get-word-requires
@@ -8,25 +7,33 @@ get-word-requires c = at-memory c.requires.task c.requires.known c.args.mem.now 
 
 pub scan_words-requires : goal.scan_words-requires
 scan_words-requires c =
-    let P : ℕ → Type 0 = λ w. Traced w c.args.at c.traced_words-from.result.0 c.traced_words-from.result.1 in
-    let t : Traced c.get-word.result c.args.at c.traced_words-from.result.0 c.traced_words-from.result.1 = record { cons = c.traced_words-from.ensures.cons; boxed = c.traced_words-from.ensures.boxed } in
-    let o = opens-at c.requires.task c.requires.known c.args.mem.now c.args.at c.args.room.now.top c.requires.on c.traced_words-from.result.0 c.traced_words-from.result.1 c.requires.some
-    (subst P c.get-word.ensures t) in
+    let o = opens-at c.requires.task c.requires.known c.args.mem.now c.args.at c.args.room.now.top c.requires.on c.args.at (c.args.at + 2) c.requires.some
+    (traced-cons (get_or c.args.mem.now c.args.at 0) c.get-word.result c.args.at c.get-word.ensures c.if-word-ne0.true) in
+    record {
+      rest = o.0;
+      can = record { task = c.requires.task; known = c.requires.known; on = o.1.0; has = c.requires.has; same_stay = c.requires.same_stay };
+    }
+
+pub returns-then-word-ne0-clause-each : goal.returns-then-word-ne0-clause-each
+returns-then-word-ne0-clause-each c = λ p known stay g.
+    let o = opens-at p known c.args.mem.now c.args.at c.args.room.now.top g c.args.at (c.args.at + 2) c.requires.some
+    (traced-cons (get_or c.args.mem.now c.args.at 0) c.get-word.result c.args.at c.get-word.ensures c.if-word-ne0.true) in
+    c.scan_words.ensures.each p known o.0 stay o.1.0
+
+pub scan_words-requires-2 : goal.scan_words-requires-2
+scan_words-requires-2 c =
+    let o = opens-at c.requires.task c.requires.known c.args.mem.now c.args.at c.args.room.now.top c.requires.on (c.args.at + c.first_word.result) (c.args.at + (1 + c.get-word.result / 64)) c.requires.some
+    (traced-boxed (get_or c.args.mem.now c.args.at 0) c.get-word.result c.args.at c.first_word.result c.get-word.ensures c.if-word-ne0.false c.first_word.ensures.first) in
     record {
       rest = o.0;
       can = record { task = c.requires.task; known = c.requires.known; on = o.1.0; has = c.requires.has; same_stay = c.requires.same_stay };
     }
 
 pub returns-clause-further : goal.returns-clause-further
-returns-clause-further c =
-    let P : ℕ → Type 0 = λ w. Traced w c.args.at c.traced_words-from.result.0 c.traced_words-from.result.1 in
-    let t : Traced c.get-word.result c.args.at c.traced_words-from.result.0 c.traced_words-from.result.1 = record { cons = c.traced_words-from.ensures.cons; boxed = c.traced_words-from.ensures.boxed } in
-    (opens-at c.requires.task c.requires.known c.args.mem.now c.args.at c.args.room.now.top c.requires.on c.traced_words-from.result.0 c.traced_words-from.result.1 c.requires.some
-    (subst P c.get-word.ensures t)).1.1
+returns-clause-further c = omega arith
 
 pub returns-clause-each : goal.returns-clause-each
 returns-clause-each c = λ p known stay g.
-    let P : ℕ → Type 0 = λ w. Traced w c.args.at c.traced_words-from.result.0 c.traced_words-from.result.1 in
-    let t : Traced c.get-word.result c.args.at c.traced_words-from.result.0 c.traced_words-from.result.1 = record { cons = c.traced_words-from.ensures.cons; boxed = c.traced_words-from.ensures.boxed } in
-    let o = opens-at p known c.args.mem.now c.args.at c.args.room.now.top g c.traced_words-from.result.0 c.traced_words-from.result.1 c.requires.some (subst P c.get-word.ensures t) in
-    c.scan_words.ensures.each p known o.0 stay o.1.0
+    let o = opens-at p known c.args.mem.now c.args.at c.args.room.now.top g (c.args.at + c.first_word.result) (c.args.at + (1 + c.get-word.result / 64)) c.requires.some
+    (traced-boxed (get_or c.args.mem.now c.args.at 0) c.get-word.result c.args.at c.first_word.result c.get-word.ensures c.if-word-ne0.false c.first_word.ensures.first) in
+    c.scan_words-2.ensures.each p known o.0 stay o.1.0

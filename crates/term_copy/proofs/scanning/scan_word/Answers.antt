@@ -1,10 +1,8 @@
-use Rattle.std.proofs.Common.{◌≡◌, ℕ, ◌+◌, ◌/◌, ◌∷◌, refl, sym, ◌∙◌, ap, arith, subst, true, false, Bool}
-use Rattle.plain_term.specs.Measures.{flat, flat_of_all}
-use Rattle.term_words.specs.Stands.{Stands}
+use Rattle.std.proofs.Common.{ℕ, ◌∷◌, subst}
+use Rattle.plain_term.specs.Measures.{flat_of_all}
 use Rattle.cheney.specs.Ranges.{stays}
-use Rattle.term_copy.specs.Copied.{Task}
-use Rattle.term_copy.specs.Going.{Goes, HasImage, IsStay}
-use Rattle.term_copy.proofs.Stepping.{gone-same, gone-copied, mark-memory, owed-known, stands-at, goes-by, goes-not, image-memory, image-at}
+use Rattle.term_copy.specs.Going.{Goes}
+use Rattle.term_copy.proofs.Stepping.{gone-same, mark-memory, owed-known, stands-at, goes-by, goes-not, image-memory, image-at}
 use Rattle.term_copy.proofs.scanning.scan_word.Goals as goal
 
 pub get-w-requires : goal.get-w-requires

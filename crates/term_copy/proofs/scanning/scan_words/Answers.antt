@@ -1,4 +1,3 @@
-use Rattle.std.proofs.Common.{◌≡◌, ℕ, ◌+◌}
 use Rattle.plain_term.specs.Measures.{flat_of_all}
 use Rattle.term_copy.proofs.Stepping.{Further, Still, closed, further, room-has, room-same, room-then}
 use Rattle.term_copy.proofs.scanning.scan_words.Goals as goal

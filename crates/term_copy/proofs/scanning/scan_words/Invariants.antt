@@ -1,4 +1,4 @@
-use Rattle.std.proofs.Common.{◌≡◌, ◌-◌, ◌≤◌, ℕ, List}
+use Rattle.std.proofs.Common.{◌-◌, List}
 use Rattle.plain_term.specs.Tree.{Trees}
 use Rattle.cheney.specs.Ranges.{stays}
 use Rattle.term_copy.specs.Copied.{Task}
