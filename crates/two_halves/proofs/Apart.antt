@@ -124,12 +124,13 @@ apart-popped mem ps i p old less is some next fewer queue a = by old.depth refl
     by zero e = absurd (some e)
     by (suc n) e =
         let depth : p.depth ≡ n = omega (arith, fewer, e) in
-        let stack : place_list mem p.stack p.depth ≡ place_list mem (get_or mem (old.stack + 1) 0) n = ap (λ z. place_list mem z p.depth) next ∙ ap (place_list mem (get_or mem (old.stack + 1) 0)) depth in
-        let here : places_of mem p ≡ place_list mem (get_or mem (old.stack + 1) 0) n ++ place_list mem old.queue old.waiting =
-        ap (λ z. z ++ place_list mem p.queue p.waiting) stack ∙ ap (λ z. place_list mem (get_or mem (old.stack + 1) 0) n ++ z) queue in
-        let whole : places_of mem (get_or ps i old) ≡ old.stack ∷ (place_list mem (get_or mem (old.stack + 1) 0) n ++ place_list mem old.queue old.waiting) =
+        let under : ℕ = get_or mem (old.stack + 1) 0 in
+        let stack : place_list mem p.stack p.depth ≡ place_list mem under n = ap (λ z. place_list mem z p.depth) next ∙ ap (place_list mem under) depth in
+        let here : places_of mem p ≡ place_list mem under n ++ place_list mem old.queue old.waiting =
+        ap (λ z. z ++ place_list mem p.queue p.waiting) stack ∙ ap (λ z. place_list mem under n ++ z) queue in
+        let whole : places_of mem (get_or ps i old) ≡ old.stack ∷ (place_list mem under n ++ place_list mem old.queue old.waiting) =
         ap (places_of mem) (sym is) ∙ ap (λ z. place_list mem old.stack z ++ place_list mem old.queue old.waiting) e in
-        let all : AreApart (old.stack ∷ (place_list mem (get_or mem (old.stack + 1) 0) n ++ place_list mem old.queue old.waiting)) = subst AreApart whole (apart-at mem ps i old less a) in
+        let all : AreApart (old.stack ∷ (place_list mem under n ++ place_list mem old.queue old.waiting)) = subst AreApart whole (apart-at mem ps i old less a) in
         apart-set mem p old 0 ps i (λ x j. inl (subst (In x) (sym whole) (inr (subst (In x) here j)))) (subst AreApart (sym here) all.1) (λ q j. omega arith) a
 
 -- A row with a place more on its stack, below all others.

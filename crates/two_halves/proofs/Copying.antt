@@ -1,41 +1,39 @@
 -- A copy of a term comes into a half, and its holders and funs into the chain.
-use Rattle.std.proofs.Common.{Vec, ◌≡◌, ℕ, ◌+◌, ◌-◌, ◌*◌, ◌^◌, ◌/◌, ◌%◌, ◌<◌, ◌≤◌, ◌⊎◌, Bool, true, false, true≢false, List, [], ◌∷◌, ◌++◌, length, get_or, refl, sym, ◌∙◌, ap, subst, arith, inl, inr}
-use Rattle.word_mem.specs.declared.ranges.Room.{Room}
+use Rattle.std.proofs.Common.{◌≡◌, ℕ, ◌+◌, ◌-◌, ◌^◌, ◌/◌, ◌<◌, ◌≤◌, ◌⊎◌, Bool, true, false, true≢false, List, [], ◌∷◌, ◌++◌, length, get_or, refl, sym, ◌∙◌, ap, subst, arith, inl, inr}
 use Rattle.plain_term.specs.Bytes.{shared_bytes}
 use Rattle.plain_term.specs.Measures.{flat}
 use Rattle.plain_term.specs.Tree.{Tree}
 use Rattle.plain_term.specs.Tree.Trees.{end, ◌▹◌}
 use Rattle.plain_machine.specs.State.{Process}
 use Rattle.term_words.specs.Role.{COUNT, NEXT, RECORD, RECORD_FIRST, IsSingle, OfObject, OfRecord}
-use Rattle.term_words.specs.Object.{IsBinRecord, IsPointer, IsRecord}
+use Rattle.term_words.specs.Object.{IsBinRecord, IsRecord}
 use Rattle.term_words.specs.Stands.{AllStand, Stands}
 use Rattle.term_words.specs.Kept.{Kept}
 use Rattle.term_words.specs.Reach.{Reach}
-use Rattle.term_words.specs.Counted.{ArePacked, Distinct, In, total}
+use Rattle.term_words.specs.Counted.{ArePacked, Distinct, In}
 use Rattle.term_words.proofs.Carrying.{carried-reach}
 use Rattle.term_words.proofs.Counts.{count-most}
 use Rattle.term_words.proofs.Frames.{frame, kept-carried}
-use Rattle.term_words.proofs.Members.{in-both, in-left, in-right, one-or-not}
+use Rattle.term_words.proofs.Members.{in-both}
 use Rattle.term_words.proofs.Packing.{packed}
 use Rattle.term_build.specs.Clear.{IsRoom}
 use Rattle.term_build.specs.Taken.{IsFree}
 use Rattle.shared_rec.specs.Record.{count_in, owner_in}
 use Rattle.shared_rec.proofs.Records.{bin-stays, fun-stays, record-counted, record-stays}
-use Rattle.off_heap_list.specs.Links.{IsLink, Links, naming}
+use Rattle.off_heap_list.specs.Links.{IsLink, Links}
 use Rattle.off_heap_list.specs.Whole.{turned}
 use Rattle.off_heap_list.proofs.Tallied.{few-links}
 use Rattle.record_move.specs.Copies.{record_words}
 use Rattle.term_copy.specs.Copied.{CanCopy, CopiesTree, Task}
 use Rattle.term_copy.specs.Row.{AreObjects, ChainsRow, IsRow, links_in}
 use Rattle.term_copy.specs.declared.chaining.Chained.{Chained}
-use Rattle.two_halves.specs.Stack.{AreApart}
-use Rattle.two_halves.specs.Halves.{HalvesStand, IsBinOf, IsFunOf, IsLaid, ProcsStand, RecordsStand, all_places, end_of, front_of, half_of, records_of}
+use Rattle.two_halves.specs.Halves.{HalvesStand, IsBinOf, IsFunOf, IsLaid, ProcsStand, RecordsStand, end_of, front_of, half_of, records_of}
 use Rattle.two_halves.specs.Copying.{CanCopyIn, CopiesIn, HasCopy}
 use Rattle.two_halves.specs.declared.halves.Halves.{Halves}
 use Rattle.two_halves.proofs.Adding.{filled}
 use Rattle.two_halves.proofs.Apart.{apart-kept}
 use Rattle.two_halves.proofs.Linking.{naming-few, ones}
-use Rattle.two_halves.proofs.Joining.{procs-on, record-first, rise-same, total-same}
+use Rattle.two_halves.proofs.Joining.{procs-on, rise-same, total-same}
 
 -- What a copy in a half is given: its free words, in which nothing stays.
 abbrev pub task_of : (h : Halves) → (stay : ℕ → Bool) → (c : ℕ → ℕ → Bool) → (shared : List (List ℕ)) → (w : ℕ) → Tree → Task
@@ -88,8 +86,8 @@ module _ (named : ℕ) (h : Halves) (shared : List (List ℕ)) (qs : List Proces
           omega (arith, few, laid.front, laid.order, laid.fits)
 
 -- A copy was made, and its holders and funs are in the chain, or there are none.
-module _ (named : ℕ) (h : Halves) (shared : List (List ℕ)) (qs : List Process) (laid : IsLaid h) (x : HalvesStand named h shared qs) (stay : ℕ → Bool) (none : (q : ℕ) → stay q ≡ false) (w : ℕ) (t : Tree)
-    (mem1 : List ℕ) (top2 result : ℕ) (z : CopiesTree (task_of h stay x.test shared w t) mem1 top2 result) (order : top2 ≤ h.low) where
+module _ (named : ℕ) (h : Halves) (shared : List (List ℕ)) (qs : List Process) (laid : IsLaid h) (x : HalvesStand named h shared qs) (stay : ℕ → Bool) (none : (q : ℕ) → stay q ≡ false)
+    (w : ℕ) (t : Tree) (mem1 : List ℕ) (top2 result : ℕ) (z : CopiesTree (task_of h stay x.test shared w t) mem1 top2 result) (order : top2 ≤ h.low) where
   abbrev d : ℕ → ℕ → Bool
   d = z.test
 
@@ -261,7 +259,7 @@ module _ (named : ℕ) (h : Halves) (shared : List (List ℕ)) (qs : List Proces
       words = words;
       alone = λ v r p.
           let before : Reach mem1 (result ∷ []) v = carried-reach d d mem1 mem2 (kept-carried d d mem1 mem2 kept12) shared (result ∷ []) (t ▹ end) whole v r in
-          elim (z.alone (λ u k re q is. absurd (true≢false (sym is ∙ none (u / 4)))) v before p) [
+          elim (z.alone (λ u k tree st q is. absurd (true≢false (sym is ∙ none (u / 4)))) v before p) [
             | inl lies ↦ lies.0
             | inr is ↦ absurd (true≢false (sym is ∙ none (v / 4)))
           ];

@@ -193,7 +193,8 @@ module _ (h : Halves) (t : Target) (m : List ℕ) (mv : Moving) (news : List Pro
         apart-there : AreApart (all_places mem5 (with_items h.procs news).items)
         apart-there =
             subst AreApart (sym (ap (all_places mem5) rows-there))
-            (apart-kept (roles h t x m mv news (scan x)).test x.shared m mem5 t.to t.end x.named news x.processes (kept-there h t x m mv news (scan x) mem4 left (swept x) mem5 low (over x) (moved x).1)
+            (apart-kept (roles h t x m mv news (scan x)).test x.shared m mem5 t.to t.end x.named news x.processes
+            (kept-there h t x m mv news (scan x) mem4 left (swept x) mem5 low (over x) (moved x).1)
             (procs-was h t x m mv news (scan x) mem4 left (swept x) mem5 low (over x) (moved x).1) (scan x).apart)
 
         stand-there : HalvesStand x.named new x.shared x.processes

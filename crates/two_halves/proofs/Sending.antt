@@ -1,12 +1,9 @@
 -- A message is sent: a copy comes into the half, and its word into a queue.
-use Rattle.std.proofs.Common.{◌≡◌, ℕ, ◌+◌, ◌-◌, ◌/◌, ◌<◌, ◌≤◌, ◌⊎◌, Bool, true, List, [], ◌∷◌, ◌++◌, length, get_or, refl, sym, ◌∙◌, ap, subst, arith, inl, inr}
+use Rattle.std.proofs.Common.{◌≡◌, ℕ, ◌+◌, ◌/◌, ◌<◌, ◌≤◌, Bool, List, [], ◌∷◌, ◌++◌, length, get_or, sym, ◌∙◌, ap, subst, arith, inl, inr}
 use Rattle.std.specs.Vec.{with_item}
-use Rattle.plain_term.specs.Measures.{flat}
-use Rattle.plain_term.specs.Tree.{Tree}
 use Rattle.plain_term.specs.Tree.Trees.{end, ◌▹◌}
-use Rattle.plain_machine.specs.State.{Process}
 use Rattle.term_words.specs.Object.{IsPointer, object_words}
-use Rattle.term_words.specs.Stands.{AllStand, Stands}
+use Rattle.term_words.specs.Stands.{AllStand}
 use Rattle.term_words.specs.Kept.{Kept}
 use Rattle.term_words.specs.Reach.{Reach}
 use Rattle.term_words.specs.Counted.{In}
@@ -15,10 +12,10 @@ use Rattle.term_words.proofs.Frames.{kept-carried}
 use Rattle.term_words.proofs.Reached.{reached}
 use Rattle.term_words.proofs.Roles.{object-role, object-some}
 use Rattle.two_halves.specs.Stack.{values}
-use Rattle.two_halves.specs.Halves.{HalvesStand, HoldsTree, IsLaid, end_of, free_in}
+use Rattle.two_halves.specs.Halves.{HalvesStand, end_of}
 use Rattle.two_halves.specs.Reached.{roots_in, roots_of}
 use Rattle.two_halves.specs.Copying.{CanCopyIn, CopiesIn, HasCopy}
-use Rattle.two_halves.specs.Queues.{CanQueue, CanSend, HasEntered, IsAlone, Queues, Sends, with_queue}
+use Rattle.two_halves.specs.Queues.{CanQueue, CanSend, Queues, Sends, with_queue}
 use Rattle.two_halves.specs.declared.halves.Halves.{Halves}
 use Rattle.two_halves.specs.declared.table.Proc.{Proc}
 use Rattle.two_halves.proofs.Held.{have-stacks, roots-stand, trees_of}

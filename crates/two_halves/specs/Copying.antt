@@ -23,7 +23,8 @@ pub record CanCopyIn (h : Halves) (w : ℕ) : Type 0 where
 
 -- The half stands for the processes still, and the word for the tree beside them; all that stood before stands, and places have
 -- their words; and what the word reaches lies in the words that were free.
-pub record HasCopy (named : ℕ) (old new : Halves) (shared : List (List ℕ)) (qs : List Process) (x : HalvesStand named old shared qs) (result : ℕ) (t : Tree) : Type 0 where
+pub record HasCopy (named : ℕ) (old new : Halves) (shared : List (List ℕ)) (qs : List Process) (x : HalvesStand named old shared qs)
+    (result : ℕ) (t : Tree) : Type 0 where
   pub stands : HalvesStand named new shared qs
   pub made : Stands stands.test shared new.mem result t
   pub kept : Kept x.test stands.test old.mem new.mem

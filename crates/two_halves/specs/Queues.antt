@@ -18,7 +18,16 @@ use Rattle.two_halves.specs.declared.halves.TheConstants.{PLACE_WORDS}
 
 -- A row with another queue.
 abbrev pub with_queue : Proc → (queue last waiting : ℕ) → Proc
-with_queue p queue last waiting = record { number = p.number; regs = p.regs; stack = p.stack; depth = p.depth; queue = queue; last = last; waiting = waiting; refs = p.refs }
+with_queue p queue last waiting = record {
+  number = p.number;
+  regs = p.regs;
+  stack = p.stack;
+  depth = p.depth;
+  queue = queue;
+  last = last;
+  waiting = waiting;
+  refs = p.refs;
+}
 
 -- A row without its first message.
 abbrev pub shifted : List ℕ → Proc → Proc
@@ -110,16 +119,18 @@ pub record Queues (old new : Halves) (row w : ℕ) : Type 0 where
   pub bins : new.bins ≡ old.bins
   pub funs : new.funs ≡ old.funs
   pub sweeps : new.sweeps ≡ old.sweeps
-  pub enters : (named : ℕ) (shared : List (List ℕ)) (qs : List Process) (x : HalvesStand named old shared qs) (t : Tree) → HoldsTree x.test shared old.mem named w t
-      → HasEntered named new shared qs row t
+  pub enters : (named : ℕ) (shared : List (List ℕ)) (qs : List Process) (x : HalvesStand named old shared qs) (t : Tree)
+      → HoldsTree x.test shared old.mem named w t → HasEntered named new shared qs row t
   pub words : (named : ℕ) (shared : List (List ℕ)) (qs : List Process) (x : HalvesStand named old shared qs) (a k : ℕ) → x.test a k ≡ true
       → slice_index new.mem a ≡ slice_index old.mem a
-  pub messages : (p o : Proc) → p ≡ get_or new.procs.items row p → o ≡ get_or old.procs.items row o → values new.mem p.queue p.waiting ≡ values old.mem o.queue o.waiting ++ w ∷ []
+  pub messages : (p o : Proc) → p ≡ get_or new.procs.items row p → o ≡ get_or old.procs.items row o
+      → values new.mem p.queue p.waiting ≡ values old.mem o.queue o.waiting ++ w ∷ []
   pub roots : (v : ℕ) → In v (roots_of new) → (v ≡ w) ⊎ In v (roots_of old)
 
 -- What the message reaches and what all that stood before reach have no object in common.
 pub record IsAlone (old new : Halves) (row word : ℕ) : Type 0 where
-  pub messages : (p o : Proc) → p ≡ get_or new.procs.items row p → o ≡ get_or old.procs.items row o → values new.mem p.queue p.waiting ≡ values old.mem o.queue o.waiting ++ word ∷ []
+  pub messages : (p o : Proc) → p ≡ get_or new.procs.items row p → o ≡ get_or old.procs.items row o
+      → values new.mem p.queue p.waiting ≡ values old.mem o.queue o.waiting ++ word ∷ []
   pub roots : (v : ℕ) → In v (roots_of new) → (v ≡ word) ⊎ In v (roots_of old)
   pub apart : (v u : ℕ) → IsPointer v → IsPointer u → Reach new.mem (word ∷ []) v → Reach new.mem (roots_of old) u → v / 4 ≡ u / 4 → ⊥
 
@@ -135,8 +146,8 @@ pub record Sends (old new : Halves) (row w : ℕ) : Type 0 where
   pub bins : new.bins ≡ old.bins
   pub funs : new.funs ≡ old.funs
   pub sweeps : new.sweeps ≡ old.sweeps
-  pub enters : (named : ℕ) (shared : List (List ℕ)) (qs : List Process) (x : HalvesStand named old shared qs) (t : Tree) → HoldsTree x.test shared old.mem named w t
-      → HasEntered named new shared qs row t
+  pub enters : (named : ℕ) (shared : List (List ℕ)) (qs : List Process) (x : HalvesStand named old shared qs) (t : Tree)
+      → HoldsTree x.test shared old.mem named w t → HasEntered named new shared qs row t
   pub words : (named : ℕ) (shared : List (List ℕ)) (qs : List Process) (x : HalvesStand named old shared qs) (t : Tree) → Stands x.test shared old.mem w t
       → free_in new + (PLACE_WORDS + flat t) ≡ free_in old
   pub word : ℕ
