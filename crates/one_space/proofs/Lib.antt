@@ -4,6 +4,8 @@ mod Changing
 mod Turning
 mod Rooms
 mod Within
+mod Sizing
+mod Messaging
 mod Seated
 mod Acting
 mod Growing

@@ -126,8 +126,7 @@ module _ {K : Type 0} (wrote : K → List ℕ → Type 0) (faults : K → ℕ) (
           × ((i < length (map (text names shared) ts)) × Stands always shared mem w (get_or ts i Nil))
       entry shared ts k =
           let under : i < length ts = omega (arith, below, k.left.count) in
-          let P : ℕ → Type 0 = λ z. Stands always shared mem z (get_or ts i Nil) in
-          (
+          let P : ℕ → Type 0 = λ z. Stands always shared mem z (get_or ts i Nil) in (
             ap (λ z. divider (i == 0) ++ z) (sym (get_or-map (text names shared) ts i Nil [] under)),
             (omega (arith, under, length-map ts (text names shared)), subst P (sym is) (left-here shared mem (length names) waiting ts i place k.left below).standing),
           )

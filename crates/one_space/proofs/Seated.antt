@@ -25,7 +25,7 @@ module _ (b : One) (s : State) (o : OneStands b s) (c : IsCounted b) where
   count-there = procs-count o.processes.test s.shared b.halves.mem b.named b.halves.low (end_of b.halves) b.halves.procs.items s.processes o.processes.processes
 
   module _ (seat : Seat) (x : Sits b seat) where
-    within-there : seat.row < length s.processes
+    pub within-there : seat.row < length s.processes
     within-there = omega (arith, x.within, count-there)
 
     pub number-there : (get_or s.processes seat.row no_process).number ≡ seat.pid

@@ -20,7 +20,7 @@ number-there (q ∷ qs) zero d less = refl
 number-there (q ∷ qs) (suc i) d less = number-there qs i d (omega arith)
 
 -- A process further on has a number above.
-later-above : (qs : List Process) (i n : ℕ) (d : Process) → AreRising n (process_numbers qs) → i < length qs → n < (get_or qs i d).number
+pub later-above : (qs : List Process) (i n : ℕ) (d : Process) → AreRising n (process_numbers qs) → i < length qs → n < (get_or qs i d).number
 later-above qs i n d r less = omega (arith, number-there qs i d less, rising-above n (process_numbers qs) i r (omega (arith, less, numbers-count qs)))
 
 found-first : (q : Process) (qs : List Process) (pid : ℕ) → q.number ≡ pid → find (λ x. x.number == pid) (q ∷ qs) ≡ Some q

@@ -1,5 +1,7 @@
 -- What the calls of a space leave, in the words of the plain machine.
-use Rattle.std.specs.Prelude.{◌≡◌, ℕ, ◌+◌, ◌<◌, ◌≤◌, Bool, true, false, not, List, length, max, Result, Err, OnErr}
+use Rattle.std.specs.Prelude.{◌≡◌, ℕ, ◌+◌, ◌<◌, ◌≤◌, Bool, true, false, not, List, length, get_or, max, Option, Some, None, Result, Err, OnErr}
+use Rattle.plain_term.specs.Tree.{Tree}
+use Rattle.plain_term.specs.Measures.{flat}
 use Rattle.plain_term.specs.declared.item.Item.{Item}
 use Rattle.script_grammar.specs.declared.command.Command.{Command}
 use Rattle.script_grammar.specs.declared.command.Command.TheVariants.{Process}
@@ -10,7 +12,8 @@ use Rattle.script_grammar.specs.declared.command.Reg.{Reg}
 use Rattle.script_grammar.specs.declared.refusal.Refusal.{Refusal}
 use Rattle.script_grammar.specs.declared.refusal.Refusal.TheVariants.{BadArg, Big, MapSize, NoSpace}
 use Rattle.script_grammar.specs.Written.{Term, Terms}
-use Rattle.plain_machine.specs.State.{HasNames, State}
+use Rattle.plain_machine.specs.State.{HasNames, State, is_live}
+use Rattle.plain_machine.specs.declared.costs.TheConstants.{MESSAGE_COST}
 use Rattle.plain_machine.specs.Step.{step}
 use Rattle.plain_machine.specs.May.{may_of_tight}
 use Rattle.space_api.specs.Calls.{Becomes, Follows, IsTerm, KeepsBooks, Passes, Properly, one_term, said}
@@ -21,7 +24,9 @@ use Rattle.term_verbs.specs.declared.pairs.PutStop.TheVariants as put
 use Rattle.two_halves.specs.Halves.{free_in}
 use Rattle.two_halves.specs.Reached.{AllReached}
 use Rattle.two_halves.specs.Collecting.{MakesRoom}
+use Rattle.two_halves.specs.Queues.{IsAlone}
 use Rattle.two_halves.specs.declared.halves.Halves.{Halves}
+use Rattle.two_halves.specs.declared.table.Proc.{Proc}
 use Rattle.one_space.specs.One.{Holds, OneStands, words_of}
 use Rattle.one_space.specs.declared.one.One.{One}
 
@@ -92,6 +97,27 @@ is_early _ = false
 pub record AsksUnless {A : Type 0} (n : ℕ) (old new : One) (result : Result A Refusal) : Type 0 where
   pub early : is_early result ≡ true → new ≡ old
   pub asks : is_early result ≡ false → Asks n old new result
+
+-- The same where words are asked for at all; where none are, no word is taken and nothing collected.
+abbrev pub AsksWhere : {A : Type 0} → (asks : Bool) (n : ℕ) (old new : One) (result : Result A Refusal) → Type 0
+AsksWhere true n old new result = AsksUnless n old new result
+AsksWhere false n old new result = new.halves ≡ old.halves
+
+-- A message to the process with this number asks for words where it lives; where the operand names none, nothing at all changes.
+abbrev pub AsksToSend : {A : Type 0} → Option ℕ → State → Tree → (old new : One) (result : Result A Refusal) → Type 0
+AsksToSend None s t old new result = new ≡ old
+AsksToSend (Some pid) s t old new result = AsksWhere (is_live pid s) (MESSAGE_COST + flat t) old new result
+
+-- A message of n words was sent to the process with this number. Where it stands in the new half, it reaches no object that anything
+-- else reaches: what it reaches and what all that stood there when its words were found reach have no object in common.
+pub record IsSentAlone (n pid : ℕ) (old new : One) : Type 0 where
+  pub halves : Halves
+  pub room : MakesRoom n old.halves halves true
+  pub row : ℕ
+  pub within : row < length halves.procs.items
+  pub number : (d : Proc) → (get_or halves.procs.items row d).number ≡ pid
+  pub word : ℕ
+  pub alone : IsAlone halves new.halves row word
 
 -- What is picked are bytes of a binary: they ask for words.
 abbrev pub takes_part : Pick → Bool

@@ -1,5 +1,5 @@
 -- What is told of the terms of registers.
-use Rattle.std.specs.Prelude.{◌≡◌, ℕ, true, Some, Result, Ok, Err}
+use Rattle.std.specs.Prelude.{◌≡◌, ℕ, true, Option, Some, None, Result, Ok, Err}
 use Rattle.std.specs.declared.cmp.Ordering.{Ordering}
 use Rattle.std.specs.declared.cmp.Ordering.TheVariants as ordering
 use Rattle.script_grammar.specs.declared.command.Measure.{Measure}
@@ -9,6 +9,8 @@ use Rattle.script_grammar.specs.declared.refusal.Refusal.TheVariants.{Big}
 use Rattle.plain_machine.specs.State.{Process, State, process_of, register}
 use Rattle.term_words.specs.Role.{always}
 use Rattle.term_words.specs.Stands.{Stands}
+use Rattle.term_read.specs.declared.looks.Look.{Look}
+use Rattle.term_read.specs.declared.looks.Look.TheVariants as look
 use Rattle.term_walk.specs.declared.measured.Measured.{Measured}
 use Rattle.term_walk.specs.declared.measured.Measured.TheVariants as measured
 use Rattle.term_order.specs.Named.{is_named}
@@ -34,3 +36,8 @@ order_told compared.Less = Ok ordering.Less
 order_told compared.Same = Ok ordering.Equal
 order_told compared.More = Ok ordering.Greater
 order_told compared.Beyond = Err Big
+
+-- The number of a pid that was seen.
+abbrev pub number_seen : Look → Option ℕ
+number_seen (look.Pid n) = Some n
+number_seen _ = None

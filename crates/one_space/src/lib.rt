@@ -8,6 +8,7 @@ mod listing;
 mod new_calls;
 mod one;
 mod queues;
+mod sending;
 mod space;
 mod terms;
 mod told;

@@ -49,7 +49,12 @@ impl One {
     }
 
     /// Writes the texts of the messages that wait, in order.
-    pub fn queue<K: Sink>(&self, names: &AtomNames, seat: Seat, sink: &mut K) -> Result<(), SinkFault>
+    pub fn queue<K: Sink>(
+        &self,
+        names: &AtomNames,
+        seat: Seat,
+        sink: &mut K,
+    ) -> Result<(), SinkFault>
         requires holds { Holds self.now }
         requires sits { Sits self.now seat }
         requires named { self.now.named ≤ length names.now }

@@ -1,5 +1,5 @@
 // The space.
-ghost use Rattle.std.specs.Prelude.{◌≡◌, ℕ, ◌+◌, ◌*◌, ◌%◌, ◌<◌, ◌≤◌, ◌^◌, true, false, Err, Some, IfOk, OnErr, List, length, max};
+ghost use Rattle.std.specs.Prelude.{◌≡◌, ℕ, ◌+◌, ◌*◌, ◌%◌, ◌<◌, ◌≤◌, ◌^◌, true, false, Err, Some, IfOk, OnErr, OnOk, List, length, max};
 ghost use Rattle.script_grammar.specs.declared.command.Command.TheVariants.{Process, System};
 ghost use Rattle.script_grammar.specs.declared.command.Verb.TheVariants as verb;
 ghost use Rattle.script_grammar.specs.declared.command.SysVerb.TheVariants as sysverb;
@@ -9,6 +9,7 @@ ghost use Rattle.plain_machine.specs.State.{HasNames, State, first_state};
 ghost use Rattle.plain_machine.specs.Step.{step};
 ghost use Rattle.atom_names.specs.Names.{most_names};
 ghost use Rattle.space_api.specs.Calls.{Becomes, Follows, HasEnv, HasTerm, IsEnv, IsTerm, Passes, most_calls, one_term, said};
+ghost use Rattle.script_grammar.specs.Grammar.{MayReceive};
 ghost use Rattle.script_grammar.specs.Names.{IsRegister, PicksRegister};
 
 use crate::cutting::PART_WORDS;
@@ -18,7 +19,7 @@ use atom_names::AtomNames;
 use line_io::{Sink, SinkFault};
 use numbered_rows::{find, first_above};
 use plain_machine::{
-    Depth, MOST_PROCESSES, Measure, PLACE_COST, Pick, RECORD_COST, Refusal, Reg, Shape,
+    Depth, MOST_PROCESSES, Measure, PLACE_COST, Pick, RECORD_COST, Refusal, Reg, Shape, To,
 };
 use plain_term::Item;
 use space_api::{Seat, Space, Stop};
@@ -115,11 +116,13 @@ impl Space for OneSpace {
     ghost use Rattle.plain_machine.specs.May.{may_of_tight};
     ghost use Rattle.space_api.specs.Calls.{Properly};
     ghost use Rattle.one_space.specs.One.{OneStands, Sits, words_of};
-    ghost use Rattle.one_space.specs.Doing.{Asks, AsksUnless, Books, IsSwept, takes_part};
+    ghost use Rattle.one_space.specs.Doing.{Asks, AsksToSend, AsksUnless, Books, IsSentAlone, IsSwept, takes_part};
+    ghost use Rattle.plain_term.specs.Measures.{flat};
+    ghost use Rattle.plain_machine.specs.declared.costs.TheConstants.{MESSAGE_COST};
     ghost use Rattle.one_space.specs.Listing.{text_of};
     ghost use Rattle.item_build.specs.Reading.{words_of as item_words_of};
-    ghost use Rattle.plain_machine.specs.State.{Process as Live, process_of, register};
-    ghost use Rattle.plain_machine.specs.Tightness.{fill_words, keys_in, repeat_words};
+    ghost use Rattle.plain_machine.specs.State.{Process as Live, is_live, process_of, register};
+    ghost use Rattle.plain_machine.specs.Tightness.{fill_words, keys_in, receiver, repeat_words};
 
     ghost stands = { λ b s. Properly (OneStands b) s };
 
@@ -334,6 +337,22 @@ impl Space for OneSpace {
         ensures idle { self.new.halves.sweeps ≡ self.old.halves.sweeps }
     {
         self.one.pop(seat, r)
+    }
+
+    fn send(&mut self, seat: Seat, s: Reg, to: To) -> Result<(), Refusal>
+        requires sits { Sits self.old seat }
+        requires register { IsRegister s }
+        requires receiver { MayReceive to }
+        requires calls { self.old.calls < most_calls }
+        ensures becomes { (state : State) (terms : Terms) (names : List (List ℕ)) → Properly (OneStands self.old) state → HasNames state names
+            → Becomes may_of_tight (words_of self.old) state (said (Process seat.pid (verb.Send s to)) terms names) result (Properly (OneStands self.new)) }
+        ensures books { Books self.old self.new self.old.named }
+        ensures asks { (state : State) (q : Live) → Properly (OneStands self.old) state → process_of seat.pid state ≡ Some q
+            → AsksToSend (receiver to q) state (register s.0 q) self.old self.new result }
+        ensures alone { (state : State) (q : Live) (n : ℕ) → Properly (OneStands self.old) state → process_of seat.pid state ≡ Some q
+            → receiver to q ≡ Some n → is_live n state ≡ true → OnOk result (IsSentAlone (MESSAGE_COST + flat (register s.0 q)) n self.old self.new) }
+    {
+        self.one.send(seat, s, to)
     }
 
     fn receive(&mut self, seat: Seat, r: Reg) -> Result<(), Refusal>

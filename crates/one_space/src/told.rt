@@ -24,8 +24,8 @@ use term_print::print;
 use term_walk::{Measured, is_beyond, measure};
 
 impl One {
-    // The word of a register.
-    fn word(&self, seat: Seat, r: Reg) -> u64
+    /// The word of a register.
+    pub fn word(&self, seat: Seat, r: Reg) -> u64
         requires holds { Holds self.now }
         requires sits { Sits self.now seat }
         requires register { IsRegister r }

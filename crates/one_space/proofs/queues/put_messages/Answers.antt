@@ -10,7 +10,7 @@ get-requires g c =
     omega (
       arith,
       here-inside g.K.Sink.wrote g.K.Sink.faults c.args.names.now c.args.mem.now c.args.queue c.args.waiting c.args.sink.now c.loop-i.sink c.loop-i.i c.loop-i.place c.loop-i.invariant c.requires
-      c.loop-i-test.true,
+          c.loop-i-test.true,
     )
 
 pub put_message-requires : goal.put_message-requires
@@ -29,7 +29,7 @@ overflow_add-place g c =
       arith,
       c.len-len.ensures.most,
       here-inside g.K.Sink.wrote g.K.Sink.faults c.args.names.now c.args.mem.now c.args.queue c.args.waiting c.args.sink.now c.loop-i.sink c.loop-i.i c.loop-i.place c.loop-i.invariant c.requires
-      c.loop-i-test.true,
+          c.loop-i-test.true,
     )
 
 pub get-place-requires : goal.get-place-requires
@@ -37,7 +37,7 @@ get-place-requires g c =
     omega (
       arith,
       here-inside g.K.Sink.wrote g.K.Sink.faults c.args.names.now c.args.mem.now c.args.queue c.args.waiting c.args.sink.now c.loop-i.sink c.loop-i.i c.loop-i.place c.loop-i.invariant c.requires
-      c.loop-i-test.true,
+          c.loop-i-test.true,
     )
 
 pub loop-i-preserved : goal.loop-i-preserved
