@@ -1,5 +1,5 @@
 -- What a call asks for: how its collection and its refusal follow from the room that was made.
-use Rattle.std.proofs.Common.{◌≡◌, ℕ, ◌<◌, ◌≤◌, Bool, true, false, not, nat_le, Result, Ok, Err, OnErr, refl, sym, ◌∙◌, ap, subst, arith}
+use Rattle.std.proofs.Common.{◌≡◌, ℕ, ◌<◌, ◌≤◌, Bool, true, false, not, nat_le, Result, Ok, Err, OnErr, refl, sym, ◌∙◌, ap, subst, arith, ◌+◌, OnOk}
 use Rattle.std.proofs.Math.Decide.{dec_le}
 use Rattle.std.proofs.lemmas.Bool.Decides.{nat_tests}
 use Rattle.std.proofs.lemmas.Bool.{leb-false}
@@ -47,12 +47,13 @@ module _ {A : Type 0} (n m : ℕ) (b : One) (h : Halves) (ok : Bool) (room : Mak
     idle = λ there. absurd (omega (arith, there, same, no-room n b.halves h ok room lacking));
     once = λ few. (room.collects (omega (arith, few, same))).counted;
     refused = λ f e. ((room.collects (no-room n b.halves h ok room lacking)).reached, omega (arith, same, leb-false n (free_in h) (sym room.answer ∙ lacking)));
+    few = tt;
   }
 
   -- a call that is not refused for want of space
   asks-else : ok ≡ true → (b2 : One) → b2.halves.sweeps ≡ h.sweeps → (r : Result A Refusal) → is_nospace r ≡ false
-      → OnErr r ((b2.halves.top ≡ h.top) × (b2.halves.low ≡ h.low)) → Asks m b b2 r
-  asks-else given b2 sweeps r other back = record {
+      → OnErr r ((b2.halves.top ≡ h.top) × (b2.halves.low ≡ h.low)) → OnOk r (free_in h ≤ free_in b2.halves + m) → Asks m b b2 r
+  asks-else given b2 sweeps r other back few = record {
     halves = h;
     there = ok;
     room = looked n m b.halves h ok room same;
@@ -61,25 +62,26 @@ module _ {A : Type 0} (n m : ℕ) (b : One) (h : Halves) (ok : Bool) (room : Mak
     idle = λ there. sweeps ∙ ap (λ z. z.sweeps) (room.idle (omega (arith, there, same)));
     once = λ few. sweeps ∙ (room.collects (omega (arith, few, same))).counted;
     refused = λ g e. let P : Result A Refusal → Type 0 = λ z. is_nospace z ≡ false in absurd (contrary (subst P e other));
+    few = few;
   }
     where
       contrary : true ≡ false → ⊥
       contrary x = cc
 
-  pub asks-grown : ok ≡ true → (b2 : One) → b2.halves.sweeps ≡ h.sweeps → (a : A) → Asks m b b2 (Ok a)
-  asks-grown given b2 sweeps a = asks-else given b2 sweeps (Ok a) refl tt
+  pub asks-grown : ok ≡ true → (b2 : One) → b2.halves.sweeps ≡ h.sweeps → free_in h ≤ free_in b2.halves + n → (a : A) → Asks m b b2 (Ok a)
+  asks-grown given b2 sweeps few a = asks-else given b2 sweeps (Ok a) refl tt (omega (arith, few, same))
 
   -- a written term that was not built
   pub asks-stopped : ok ≡ true → (b2 : One) → b2.halves.sweeps ≡ h.sweeps → b2.halves.top ≡ h.top → b2.halves.low ≡ h.low → (e : BuildStop) → Asks {A = A} m b b2 (Err (refusal_for e))
-  asks-stopped given b2 sweeps top low stop.Big = asks-else given b2 sweeps (Err refusal.Big) refl (top, low)
-  asks-stopped given b2 sweeps top low stop.Size = asks-else given b2 sweeps (Err refusal.MapSize) refl (top, low)
+  asks-stopped given b2 sweeps top low stop.Big = asks-else given b2 sweeps (Err refusal.Big) refl (top, low) tt
+  asks-stopped given b2 sweeps top low stop.Size = asks-else given b2 sweeps (Err refusal.MapSize) refl (top, low) tt
 
   -- a call that may be refused before it looks
   pub unless-lacks : ok ≡ false → (g : ℕ) → AsksUnless {A = A} m b (roomed b h) (Err (refusal.NoSpace g))
   unless-lacks lacking g = record { early = λ e. absurd cc; asks = λ e. asks-lacks lacking g }
 
-  pub unless-grown : ok ≡ true → (b2 : One) → b2.halves.sweeps ≡ h.sweeps → (a : A) → AsksUnless m b b2 (Ok a)
-  unless-grown given b2 sweeps a = record { early = λ e. absurd cc; asks = λ e. asks-grown given b2 sweeps a }
+  pub unless-grown : ok ≡ true → (b2 : One) → b2.halves.sweeps ≡ h.sweeps → free_in h ≤ free_in b2.halves + n → (a : A) → AsksUnless m b b2 (Ok a)
+  unless-grown given b2 sweeps few a = record { early = λ e. absurd cc; asks = λ e. asks-grown given b2 sweeps few a }
 
 -- A call that was refused before it asked.
 pub asks-nothing : {A : Type 0} (n : ℕ) (b : One) (e : PutStop) → AsksUnless {A = A} n b b (Err (refusal_of_put e))

@@ -1,5 +1,5 @@
 -- `fun`: a fun in a register, whose environment are terms of registers, or there is no space.
-use Rattle.std.proofs.Common.{Vec, ◌≡◌, ℕ, zero, suc, ◌+◌, ◌<◌, ◌≤◌, ◌&&◌, Bool, true, false, nat_lt, max, All, List, [], ◌∷◌, ◌++◌, length, map, get_or, take, replicate, Option, Ok, Err, refl, sym, ◌∙◌, ap, subst, arith, inl}
+use Rattle.std.proofs.Common.{Vec, ◌≡◌, ℕ, suc, ◌+◌, ◌<◌, ◌≤◌, ◌&&◌, Bool, true, false, nat_lt, max, All, List, [], ◌∷◌, length, map, get_or, replicate, Option, Ok, Err, refl, sym, ◌∙◌, ap, subst, arith, inl}
 use Rattle.std.proofs.lemmas.Bool.Decides.{nat_tests}
 use Rattle.std.proofs.lemmas.List.{length-replicate}
 use Rattle.std.specs.Vec.{vec_len}
@@ -7,18 +7,16 @@ use Rattle.std.specs.declared.alloc.Global.{Global}
 use Rattle.plain_term.specs.declared.item.Item.{Item}
 use Rattle.plain_term.specs.declared.item.Item.TheVariants as item
 use Rattle.plain_term.specs.Tree.{Tree, Trees}
-use Rattle.plain_term.specs.Tree.Tree.{Fun, Nil}
-use Rattle.plain_term.specs.Tree.Trees.{end as none, ◌▹◌}
-use Rattle.script_grammar.specs.declared.limits.TheConstants.{MOST_HELD, REGISTERS}
+use Rattle.plain_term.specs.Tree.Tree.{Fun}
 use Rattle.script_grammar.specs.declared.command.Command.TheVariants.{Process as OfProcess}
 use Rattle.script_grammar.specs.declared.command.Reg.{Reg}
 use Rattle.script_grammar.specs.declared.command.Verb.{Verb}
 use Rattle.script_grammar.specs.declared.command.Verb.TheVariants as verb
 use Rattle.script_grammar.specs.declared.refusal.Refusal.TheVariants as refusal
 use Rattle.script_grammar.specs.Written.{Terms, terms_len}
-use Rattle.script_grammar.specs.Names.{Parsed, held_terms}
+use Rattle.script_grammar.specs.Names.{held_terms}
 use Rattle.term_order.specs.Named.{are_named, is_named}
-use Rattle.term_words.specs.Stands.{AllStand, Stands}
+use Rattle.term_words.specs.Stands.{AllStand}
 use Rattle.plain_machine.specs.declared.limits.TheConstants.{MOST_ARITY}
 use Rattle.plain_machine.specs.Made.{trees_of}
 use Rattle.plain_machine.specs.State.{Process, State, register}
@@ -26,7 +24,7 @@ use Rattle.plain_machine.specs.Step.{env_of, fun_if, in_process}
 use Rattle.plain_machine.specs.May.{gets_to_space, may_of_tight}
 use Rattle.space_api.specs.Calls.{Becomes, Follows, HasEnv, IsEnv, said}
 use Rattle.space_api.specs.declared.space.Seat.{Seat}
-use Rattle.two_halves.specs.Halves.{HalvesStand, HoldTrees, HoldsTree, ProcsStand, end_of}
+use Rattle.two_halves.specs.Halves.{HalvesStand, HoldsTree, end_of}
 use Rattle.two_halves.specs.Adding.{Adds, Gets, IsNamedIn}
 use Rattle.two_halves.specs.Collecting.{MakesRoom}
 use Rattle.two_halves.specs.declared.halves.Halves.{Halves}
@@ -34,14 +32,13 @@ use Rattle.two_halves.specs.declared.table.Proc.{Proc}
 use Rattle.two_halves.proofs.Keeping.{procs-on}
 use Rattle.one_space.specs.Gathered.{held_word}
 use Rattle.one_space.specs.One.{Holds, IsCounted, OneStands, Sits, words_of}
-use Rattle.one_space.specs.Doing.{Books}
 use Rattle.one_space.specs.declared.one.One.{One}
 use Rattle.one_space.proofs.Changing.{no_process}
 use Rattle.one_space.proofs.Gaining.{gained, gained-counts, gained-stands, with_reg}
 use Rattle.one_space.proofs.Growing.{counts-there, grow-at, holds-become, lacks-space, roomed-there, sits-there, some-process, some-words}
 use Rattle.one_space.proofs.Naming.{named-more}
 use Rattle.one_space.proofs.Registers.{held-there}
-use Rattle.one_space.proofs.Rooms.{roomed, stays-roomed}
+use Rattle.one_space.proofs.Rooms.{roomed}
 use Rattle.one_space.proofs.Seated.{found-there, number-there}
 
 -- A half that stands does so with a greater number above all names.

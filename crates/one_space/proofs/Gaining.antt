@@ -1,5 +1,5 @@
 -- A term that came into the half with a record: it goes to a register.
-use Rattle.std.proofs.Common.{Vec, ◌≡◌, ℕ, ◌+◌, ◌*◌, ◌/◌, ◌<◌, ◌≤◌, Bool, true, false, true≢false, List, [], ◌∷◌, ◌++◌, length, map, get_or, set, refl, sym, ◌∙◌, ap, subst, arith, inl, inr}
+use Rattle.std.proofs.Common.{Vec, ◌≡◌, ℕ, ◌+◌, ◌*◌, ◌<◌, ◌≤◌, Bool, true, false, true≢false, List, [], ◌∷◌, length, map, get_or, set, refl, sym, ◌∙◌, ap, subst, arith, inl, inr}
 use Rattle.std.specs.declared.alloc.Global.{Global}
 use Rattle.std.specs.Vec.{vec_len, vec_capacity, with_item}
 use Rattle.std.proofs.lemmas.List.{length-set}
@@ -22,7 +22,7 @@ use Rattle.two_halves.specs.Collecting.{MakesRoom}
 use Rattle.two_halves.specs.declared.halves.Halves.{Halves}
 use Rattle.two_halves.specs.declared.table.Proc.{Proc}
 use Rattle.two_halves.proofs.Filled.{laid_out}
-use Rattle.one_space.specs.One.{HaveMade, Holds, IsCounted, OneStands, Sits, numbers_of, number_in}
+use Rattle.one_space.specs.One.{HaveMade, Holds, IsCounted, OneStands, Sits, number_in}
 use Rattle.one_space.specs.declared.one.One.{One}
 use Rattle.one_space.proofs.Acting.{numbers-row, places-row}
 use Rattle.one_space.proofs.Changing.{held-set, no_process, procs-set}

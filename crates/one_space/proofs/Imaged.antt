@@ -1,6 +1,6 @@
 -- The image of a space stands for each state that the space stands for.
-use Rattle.std.proofs.Common.{◌≡◌, ℕ, ◌+◌, ◌-◌, ◌/◌, ◌<◌, ◌≤◌, ◌⊎◌, ◌&&◌, ◌||◌, Bool, true, false, nat_le, nat_lt, List, []}
-use Rattle.std.proofs.Common.{◌∷◌, ◌++◌, length, map, flat_map, take, drop, get_or, reverse, inl, inr, refl, sym, ◌∙◌, ap, subst, arith}
+use Rattle.std.proofs.Common.{◌≡◌, ℕ, ◌+◌, ◌-◌, ◌<◌, ◌≤◌, ◌⊎◌, ◌&&◌, ◌||◌, Bool, true, false, nat_le, nat_lt, List, []}
+use Rattle.std.proofs.Common.{◌∷◌, ◌++◌, length, map, flat_map, take, drop, get_or, reverse, inl, inr, refl, sym, ap, subst, arith}
 use Rattle.std.proofs.lemmas.Bool.Decides.{nat_tests}
 use Rattle.std.proofs.lemmas.List.{length-drop, length-take-le, reverse-append, reverse-reverse}
 use Rattle.std.proofs.lemmas.List.Concat.{flat_map-cons}
@@ -8,21 +8,19 @@ use Rattle.plain_term.specs.Bytes.{shared_bytes}
 use Rattle.plain_term.specs.Tree.{Tree}
 use Rattle.plain_term.specs.Tree.Trees.{end}
 use Rattle.plain_machine.specs.State.{Process, State}
-use Rattle.plain_machine.specs.Image.{AllBins, AllFuns, AllRooted, BinTold, FunTold, HasRegions, ImageStands, LiesIn, Region, RecordsTold, Rooted, RootedStands, WordsStand, image_roots, places_of}
+use Rattle.plain_machine.specs.Image.{AllBins, AllFuns, AllRooted, HasRegions, ImageStands, LiesIn, Region, RecordsTold, RootedStands, WordsStand, image_roots, places_of}
 use Rattle.plain_machine.specs.Image.{roots_in as told_roots}
-use Rattle.term_words.specs.Object.{IsRecord}
 use Rattle.term_words.specs.Reach.{Reach, root, part}
 use Rattle.term_words.specs.Stands.{Stands}
 use Rattle.term_words.specs.Counted.{In, Distinct}
 use Rattle.term_words.proofs.Members.{in-both, in-left, in-right}
 use Rattle.shared_rec.specs.Record.{owner_in}
-use Rattle.shared_rec.proofs.Records.{record-size, record-within}
 use Rattle.record_move.specs.Copies.{record_words}
 use Rattle.record_move.specs.Tables.{OwnersRise}
 use Rattle.cheney.specs.Plan.{Plan}
 use Rattle.cheney.proofs.Rows.{in-at, root-in}
 use Rattle.two_halves.specs.Stack.{values}
-use Rattle.two_halves.specs.Halves.{HoldTrees, HalvesStand, IsBinOf, IsFunOf, IsLaid, ProcStands, ProcsStand, end_of, front_of, records_of}
+use Rattle.two_halves.specs.Halves.{HoldTrees, IsBinOf, IsFunOf, IsLaid, ProcStands, ProcsStand, end_of, front_of, records_of}
 use Rattle.two_halves.specs.Reached.{roots_in, roots_of}
 use Rattle.two_halves.proofs.Covered.{bin-covered, covered, exact-covered, fun-covered, in_records, lies-covered, record-wide, single-covered, tree-covered}
 use Rattle.one_space.specs.Image.{image, object_region, record_region, rooted}

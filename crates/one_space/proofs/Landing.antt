@@ -5,12 +5,10 @@ use Rattle.std.specs.declared.alloc.Global.{Global}
 use Rattle.std.proofs.lemmas.List.{get_or_append_left, length-append}
 use Rattle.word_mem.specs.declared.ranges.Room.{Room}
 use Rattle.plain_term.specs.Bytes.{shared_bytes}
-use Rattle.plain_term.specs.Measures.{bin_words}
-use Rattle.plain_term.specs.Tree.Tree.{Shared}
 use Rattle.plain_machine.specs.State.{Process}
 use Rattle.term_tags.specs.Words.{boxed_word}
-use Rattle.term_words.specs.Role.{FURTHER, NEXT, RECORD, RECORD_FIRST, OfObject, OfRecord}
-use Rattle.term_words.specs.Object.{IsBinRecord, IsFunRecord, IsRecord, IsShared}
+use Rattle.term_words.specs.Role.{FURTHER, RECORD, RECORD_FIRST, OfObject, OfRecord}
+use Rattle.term_words.specs.Object.{IsBinRecord, IsRecord, IsShared}
 use Rattle.term_words.specs.Stands.{Stands}
 use Rattle.term_words.specs.Counted.{In, Distinct, total}
 use Rattle.term_words.proofs.Members.{both-distinct, both-total, in-both, in-left, in-right}

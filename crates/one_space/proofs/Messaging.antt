@@ -1,5 +1,5 @@
 -- `send`: a copy of a register's tree enters a queue.
-use Rattle.std.proofs.Common.{Vec, ◌≡◌, ℕ, zero, suc, ◌+◌, ◌<◌, ◌≤◌, ◌==◌, ◌||◌, Bool, true, false, true≢false, if◌then◌else◌, cond, List, [], ◌∷◌, ◌++◌, length, map, get_or, set, Option, Some, None, Result, Ok, Err, refl, sym, ◌∙◌, ap, subst, arith, inl, inr}
+use Rattle.std.proofs.Common.{◌≡◌, ℕ, zero, suc, ◌+◌, ◌<◌, ◌≤◌, ◌==◌, ◌||◌, Bool, true, false, true≢false, if◌then◌else◌, cond, List, [], ◌∷◌, ◌++◌, length, map, get_or, set, Option, Some, None, Result, Ok, Err, refl, sym, ◌∙◌, ap, subst, arith, inl}
 use Rattle.std.specs.List.{list_any}
 use Rattle.std.specs.Vec.{vec_len, vec_capacity, with_item}
 use Rattle.std.proofs.lemmas.Bool.Decides.{nat_tests}
@@ -17,12 +17,12 @@ use Rattle.script_grammar.specs.declared.refusal.Refusal.TheVariants as refusal
 use Rattle.script_grammar.specs.Written.{Terms}
 use Rattle.script_grammar.specs.Written.Terms.{end}
 use Rattle.script_grammar.specs.Names.{Parsed}
-use Rattle.plain_machine.specs.State.{Process, State, is_live, process_of, register, with_message, with_queued}
-use Rattle.plain_machine.specs.Step.{does, in_process, send_to, send_within, settled, step}
+use Rattle.plain_machine.specs.State.{Process, State, is_live, process_of, register, with_queued}
+use Rattle.plain_machine.specs.Step.{in_process, send_to, send_within, step}
 use Rattle.plain_machine.specs.Tightness.{grow, receiver, send_words}
 use Rattle.plain_machine.specs.Laws.{AreWithin}
-use Rattle.plain_machine.specs.May.{gets_to_space, may_of_tight}
-use Rattle.space_api.specs.Calls.{AreRising, Becomes, Follows, said}
+use Rattle.plain_machine.specs.May.{gets_to_space}
+use Rattle.space_api.specs.Calls.{AreRising, Follows, said}
 use Rattle.space_api.specs.declared.space.Seat.{Seat}
 use Rattle.numbered_rows.specs.Numbers.{is_among, number_at, numbers}
 use Rattle.numbered_rows.proofs.Rising.{number-is}
@@ -32,13 +32,13 @@ use Rattle.term_walk.specs.Measured.{Measures, measured}
 use Rattle.term_walk.specs.declared.measured.Measured.{Measured}
 use Rattle.term_walk.specs.declared.measured.Measured.TheVariants.{Within, Beyond}
 use Rattle.term_walk.specs.declared.measured.Measure.{Measure}
-use Rattle.two_halves.specs.Halves.{HalvesStand, HoldsTree, IsLaid, end_of, free_in}
+use Rattle.two_halves.specs.Halves.{HalvesStand, HoldsTree, end_of}
 use Rattle.two_halves.specs.Collecting.{MakesRoom}
 use Rattle.two_halves.specs.Queues.{CanSend, Sends, with_queue}
 use Rattle.two_halves.specs.declared.halves.Halves.{Halves}
 use Rattle.two_halves.specs.declared.table.Proc.{Proc}
 use Rattle.two_halves.proofs.Stacks.{no_row}
-use Rattle.one_space.specs.One.{HaveMade, Holds, IsCounted, OneStands, Sits, number_in, numbers_of, words_of}
+use Rattle.one_space.specs.One.{HaveMade, Holds, IsCounted, OneStands, Sits, number_in, words_of}
 use Rattle.one_space.specs.Doing.{AsksToSend, AsksUnless, AsksWhere, Does, IsSentAlone}
 use Rattle.one_space.specs.Telling.{IsHeld}
 use Rattle.one_space.specs.declared.one.One.{One}
@@ -411,7 +411,9 @@ module _ (b : One) (holds : Holds b) (seat : Seat) (x : Sits b seat) (r : Reg) (
               }
 
               pub sent-asks : (s : State) (p : Process) → OneStands b s → process_of seat.pid s ≡ Some p → AsksToSend {A = Unit {0}} (receiver to p) s (register r.0 p) b b2 (Ok tt)
-              sent-asks s p o found = asks-live s p o found b2 (Ok tt) (unless-grown g g b h ok room refl given b2 sends.sweeps tt)
+              sent-asks s p o found =
+                  let used = sends.words b.named s.shared s.processes (o1 s o).processes (tree s) (held1 s o).standing in
+                  asks-live s p o found b2 (Ok tt) (unless-grown g g b h ok room refl given b2 sends.sweeps (omega (arith, used, g-there s o)) tt)
 
               pub sent-alone : (s : State) (p : Process) (m : ℕ) → OneStands b s → process_of seat.pid s ≡ Some p → receiver to p ≡ Some m → is_live m s ≡ true
                   → IsSentAlone (8 + flat (register r.0 p)) m b b2

@@ -1,5 +1,5 @@
 -- `mapput`: a map with a pair more in a register, or none.
-use Rattle.std.proofs.Common.{◌≡◌, ℕ, ◌+◌, ◌*◌, ◌<◌, ◌≤◌, Bool, true, false, nat_lt, List, get_or, Option, Some, Result, Ok, Err, refl, sym, ◌∙◌, ap, subst, arith, inl}
+use Rattle.std.proofs.Common.{◌-◌, ◌≡◌, ℕ, ◌+◌, ◌*◌, ◌<◌, ◌≤◌, Bool, true, false, nat_lt, List, get_or, Option, Some, Result, Ok, Err, refl, sym, ◌∙◌, ap, subst, arith, inl}
 use Rattle.std.proofs.lemmas.Bool.Decides.{nat_tests}
 use Rattle.std.specs.Vec.{with_item}
 use Rattle.std.specs.Ordering.{match_ordering}
@@ -48,7 +48,7 @@ use Rattle.plain_machine.specs.Tightness.{keys_in}
 use Rattle.plain_machine.specs.May.{gets_to_space}
 use Rattle.space_api.specs.Calls.{Follows, Properly, said}
 use Rattle.space_api.specs.declared.space.Seat.{Seat}
-use Rattle.two_halves.specs.Halves.{HoldsTree}
+use Rattle.two_halves.specs.Halves.{HoldsTree, free_in}
 use Rattle.two_halves.specs.Collecting.{MakesRoom}
 use Rattle.one_space.specs.One.{Holds, OneStands, Sits}
 use Rattle.one_space.specs.Doing.{DoesBy, refusal_of_put}
@@ -279,6 +279,14 @@ module _ (b : One) (holds : Holds b) (seat : Seat) (x : Sits b seat) (r m k v : 
                   few = here.fits.few;
                   fits = omega (arith, term-fits b holds seat x g h ok room given, words, here.fits.count, count-below place.spot (pairs_len here.pairs));
                 }
+
+            -- It takes no more words than were asked for.
+            pub put-few : (mem2 : List ℕ) (z : Room) → ((c : ℕ → ℕ → Bool) (shared : List (List ℕ)) (ps : Pairs) → Stands c shared h.mem (get_or p1.regs m.0 0) (Map ps)
+                → Uses (4 + 2 * count_placed place.spot (pairs_len ps)) (record { start = h.base; top = h.top; end = h.low }) z h.mem mem2) → free_in h ≤ (h.low - z.top) + g
+            put-few mem2 z uses =
+                let here = pairs-there holds.state holds.stands in
+                let used = uses (roomed-there b holds g h ok room holds.state holds.stands).processes.test holds.state.shared here.pairs (map-after holds.state holds.stands) in
+                omega (arith, used.moved, words, here.fits.count, count-below place.spot (pairs_len here.pairs))
 
             module _ (mem2 : List ℕ) (z : Room) (w : ℕ) (p2 : Proc) (is2 : p2 ≡ get_or h.procs.items seat.row p2)
                 (uses : (c : ℕ → ℕ → Bool) (shared : List (List ℕ)) (ps : Pairs) → Stands c shared h.mem (get_or p1.regs m.0 0) (Map ps)

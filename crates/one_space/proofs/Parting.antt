@@ -1,5 +1,5 @@
 -- `part`: bytes of a binary, which has none there, or there is no space.
-use Rattle.std.proofs.Common.{◌≡◌, ℕ, ◌+◌, ◌<◌, ◌≤◌, Bool, true, false, true≢false, nat_le, List, [], length, get_or, if◌then◌else◌, Option, Some, None, Ok, Err, refl, sym, ◌∙◌, ap, subst, arith, inl}
+use Rattle.std.proofs.Common.{◌≡◌, ℕ, ◌+◌, ◌<◌, Bool, true, false, true≢false, nat_le, List, [], length, get_or, if◌then◌else◌, Option, Some, None, Ok, Err, refl, sym, ◌∙◌, subst, arith, inl}
 use Rattle.std.specs.Prelude.{is_some}
 use Rattle.std.specs.Vec.{vec_len, with_item}
 use Rattle.word_mem.specs.declared.ranges.Room.{Room}

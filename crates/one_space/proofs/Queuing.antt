@@ -1,10 +1,11 @@
 -- Messages in the places of a queue, and their texts one after the other.
-use Rattle.std.proofs.Common.{◌≡◌, ℕ, Bool, zero, suc, ◌+◌, ◌-◌, ◌<◌, ◌≤◌, ◌==◌, List, [], ◌∷◌, ◌++◌, codes, length, map, take, drop, get_or, Option, Some, Result, Ok, Err, OnOk, OnErr, refl, sym, ◌∙◌, ap, subst, arith}
+use Rattle.std.proofs.Common.{◌≡◌, ℕ, Bool, zero, suc, ◌+◌, ◌-◌, ◌<◌, ◌≤◌, ◌==◌, List, [], ◌∷◌, ◌++◌, length, map, take, drop, get_or, Option}
+use Rattle.std.proofs.Common.{Result, Ok, Err, OnOk, OnErr, refl, sym, ◌∙◌, ap, subst, arith}
 use Rattle.std.specs.Prelude.{IsErr}
 use Rattle.std.proofs.lemmas.List.{get_or-map, length-map}
 use Rattle.line_io.specs.Faults.{Rose}
 use Rattle.line_io.specs.Sink.{Grew, Writes, Written}
-use Rattle.text_parts.proofs.Writing.{written-after, written-as}
+use Rattle.text_parts.proofs.Writing.{written-as}
 use Rattle.reply_text.specs.Texts.{divider}
 use Rattle.counts_text.proofs.Listed.{entry_at, entries-begin, entries-done, entries-more, entries-stop}
 use Rattle.plain_term.specs.Tree.{Tree}

@@ -1,5 +1,5 @@
 -- What `recv` makes of a space.
-use Rattle.std.proofs.Common.{◌≡◌, ℕ, zero, suc, ◌+◌, ◌<◌, ◌≤◌, true, false, true≢false, List, [], ◌∷◌, length, get_or, set, Option, Some, Ok, Err, refl, sym, ◌∙◌, ap, subst, arith, inl}
+use Rattle.std.proofs.Common.{◌≡◌, ℕ, zero, suc, ◌+◌, ◌<◌, true, false, true≢false, List, [], ◌∷◌, length, get_or, set, Option, Some, Ok, Err, refl, sym, ◌∙◌, ap, subst, arith, inl}
 use Rattle.std.specs.Vec.{vec_capacity, vec_len, with_item}
 use Rattle.std.proofs.lemmas.List.{length-set, get_or-set_same}
 use Rattle.plain_term.specs.Tree.{Tree}

@@ -1,5 +1,5 @@
 -- `set`: a written term is built in a register, or it is refused for its maps, or there is no space.
-use Rattle.std.proofs.Common.{Vec, ◌≡◌, ℕ, zero, suc, ◌+◌, ◌-◌, ◌*◌, ◌^◌, ◌/◌, min, ◌<◌, ◌≤◌, ◌⊎◌, Bool, true, false, true≢false, if◌then◌else◌, List, [], ◌∷◌, ◌++◌, length, get_or, map, set, Option, Result, Ok, Err, refl, sym, ◌∙◌, ap, subst, arith, inl, inr}
+use Rattle.std.proofs.Common.{Vec, ◌≡◌, ℕ, zero, suc, ◌+◌, ◌-◌, ◌*◌, ◌^◌, ◌/◌, min, ◌<◌, ◌≤◌, ◌⊎◌, Bool, true, false, true≢false, if◌then◌else◌, List, [], ◌∷◌, ◌++◌, length, get_or, set, Option, Result, Ok, Err, refl, sym, ◌∙◌, ap, subst, arith, inl, inr}
 use Rattle.std.specs.Vec.{vec_len, vec_capacity, with_item}
 use Rattle.std.specs.declared.alloc.Global.{Global}
 use Rattle.word_mem.specs.declared.ranges.Room.{Room}
@@ -40,7 +40,7 @@ use Rattle.item_build.specs.Building.{Builds as BuildsTerm, HasHeld, HeldStand, 
 use Rattle.item_build.proofs.Ending.{whole-led}
 use Rattle.item_build.proofs.Known.{Knows, stands-known, stands-more}
 use Rattle.item_build.proofs.Written.{is-written, outcome_of, term-makes, term-named, term-outcome, term-words, words-few}
-use Rattle.two_halves.specs.Halves.{HalvesStand, HoldTrees, HoldsTree, IsLaid, ProcStands, ProcsStand, end_of, half_of, places_in}
+use Rattle.two_halves.specs.Halves.{HalvesStand, HoldTrees, HoldsTree, ProcStands, ProcsStand, end_of, places_in}
 use Rattle.two_halves.specs.Stack.{AreApart, values}
 use Rattle.two_halves.specs.Halves.{all_places}
 use Rattle.two_halves.proofs.Apart.{apart-kept, apart-same}
@@ -62,15 +62,13 @@ use Rattle.one_space.proofs.Registers.{held-there, named-there, row-there}
 use Rattle.one_space.proofs.Rooms.{roomed, stays-roomed}
 use Rattle.one_space.proofs.Seated.{found-there, number-there, set-there}
 use Rattle.two_halves.proofs.Keeping.{procs-on}
-use Rattle.two_halves.proofs.Stacks.{AreKept}
 use Rattle.one_space.specs.Entered.{records_from}
-use Rattle.one_space.proofs.Landing.{inside-there, joined, landed-laid, landed-stands, landed-words, record-there}
+use Rattle.one_space.proofs.Landing.{inside-there, joined, landed-laid, landed-stands, record-there}
 use Rattle.one_space.proofs.Naming.{named-more}
 use Rattle.one_space.proofs.Resting.{rest-laid, rest-reached, rest-stands}
-use Rattle.one_space.proofs.Seats.{replaced}
 use Rattle.one_space.proofs.Tabled.{bins-count, bins-size, entered-at, entered-len, record_at, records-size}
 use Rattle.one_space.proofs.Turning.{row-stands}
-use Rattle.one_space.proofs.Terming.{row-made, term-fits, with_term, with_tree}
+use Rattle.one_space.proofs.Terming.{row-made, term-fits, with_term}
 
 -- The words that were reckoned are those of the items.
 pub needed-words : (names : List (List ℕ)) (code : List Item) (t : HasTerm names code) (n : ℕ) → length names ≤ 16384 → n ≡ min (words_of code) (2 ^ 64 - 1) → n ≡ words_of code

@@ -1,12 +1,11 @@
 -- The flat size of a tree that stands, by its nodes.
-use Rattle.std.proofs.Common.{◌≡◌, ℕ, ◌+◌, ◌*◌, ◌/◌, ◌^◌, ◌≤◌, ◌<◌, ◌||◌, nat_lt, if◌then◌else◌, Bool, true, false, List, length, refl, subst, arith}
+use Rattle.std.proofs.Common.{◌≡◌, ℕ, ◌+◌, ◌*◌, ◌^◌, ◌≤◌, ◌||◌, nat_lt, if◌then◌else◌, Bool, true, false, List, arith}
 use Rattle.std.proofs.lemmas.Bool.Decides.{nat_tests}
 use Rattle.plain_term.specs.Tree.{Tree, Trees, Pairs, trees_len, pairs_len}
 use Rattle.plain_term.specs.Tree.Tree.{Int, Atom, Pid, Ref, Nil, Cons, Tuple, Map, Bin, Shared, Part, Fun}
 use Rattle.plain_term.specs.Tree.Trees.{end, ◌▹◌}
 use Rattle.plain_term.specs.Tree.Pairs.{stop, pair}
-use Rattle.plain_term.specs.Bytes.{bytes_of}
-use Rattle.plain_term.specs.Measures.{bin_words, depth, flat, flat_of_all, flat_of_pairs, int_flat, is_small, magnitude, nodes, nodes_of_all, nodes_of_pairs}
+use Rattle.plain_term.specs.Measures.{depth, flat, flat_of_all, flat_of_pairs, is_small, magnitude, nodes, nodes_of_all, nodes_of_pairs}
 use Rattle.plain_term.specs.Beyond.{depth_limit, is_beyond, node_limit}
 use Rattle.term_words.specs.Stands.{IsBase, KeysStand, RowStands, Stands, ValuesStand}
 

@@ -1,5 +1,5 @@
 -- What the calls of a space leave, in the words of the plain machine.
-use Rattle.std.specs.Prelude.{◌≡◌, ℕ, ◌+◌, ◌<◌, ◌≤◌, Bool, true, false, not, List, length, get_or, max, Option, Some, None, Result, Err, OnErr}
+use Rattle.std.specs.Prelude.{◌≡◌, ℕ, ◌+◌, ◌<◌, ◌≤◌, Bool, true, false, not, List, length, get_or, max, Option, Some, None, Result, Err, OnErr, OnOk}
 use Rattle.plain_term.specs.Tree.{Tree}
 use Rattle.plain_term.specs.Measures.{flat}
 use Rattle.plain_term.specs.declared.item.Item.{Item}
@@ -75,7 +75,7 @@ is_nospace _ = false
 
 -- A call looks for n free words, and answers that there is no space exactly where there are fewer after that (MakesRoom): one
 -- collection is made exactly where there are fewer before. Where it answers so, every object is reachable; where it is refused for
--- any cause, it leaves no words that it began.
+-- any cause, it leaves no words that it began; and where it is accepted, it uses no more than n of the words that are free then.
 pub record Asks {A : Type 0} (n : ℕ) (old new : One) (result : Result A Refusal) : Type 0 where
   pub halves : Halves
   pub there : Bool
@@ -85,6 +85,7 @@ pub record Asks {A : Type 0} (n : ℕ) (old new : One) (result : Result A Refusa
   pub idle : n ≤ free_in old.halves → new.halves.sweeps ≡ old.halves.sweeps
   pub once : free_in old.halves < n → new.halves.sweeps ≡ old.halves.sweeps + 1
   pub refused : (g : ℕ) → result ≡ Err (NoSpace g) → AllReached new.halves × (free_in new.halves < n)
+  pub few : OnOk result (free_in halves ≤ free_in new.halves + n)
 
 -- The call is refused by what stands before the want of space.
 abbrev pub is_early : {A : Type 0} → Result A Refusal → Bool

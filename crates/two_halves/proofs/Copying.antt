@@ -67,13 +67,6 @@ module _ (named : ℕ) (h : Halves) (shared : List (List ℕ)) (qs : List Proces
     inside = elim laid.side [ inl e ↦ omega (arith, e, laid.fits) | inr e ↦ omega (arith, e, laid.fits) ];
   }
 
-  pub chain-few : length x.chained ≤ half_of h
-  chain-few =
-      few-between h.base (half_of h) x.chained x.links.once (λ p i.
-      let first : x.test p 3 ≡ true = (x.links.each p i).first in
-      let low : front_of h ≤ p = elim (x.lie p 3 first) [ inl o ↦ o.0 | inr r ↦ absurd (omega (arith, r.1.1)) ] in
-      (omega (arith, low), omega (arith, x.inside p i, laid.order, laid.fits)))
-
   pub counts-few : length h.mem ≤ 16777216 → (v n : ℕ) → IsRecord x.test h.mem v n → count_in h.mem v < 2 ^ 23
   counts-few most v n r = omega (arith, most, x.links.counts v n r, naming-few h.mem v x.chained, chain-strict)
     where

@@ -28,6 +28,7 @@ impl Halves {
         ensures adds { Adds self.old self.new }
         ensures gets { (named : ℕ) (shared : List (List ℕ)) (qs : List Process) → HalvesStand named self.old shared qs → serial ≡ length shared + 1
             → Gets named self.new (shared ++ replicate len byte ∷ []) qs result (Shared serial) }
+        ensures uses { free_in self.old ≤ free_in self.new + (10 + bin_words len) }
     {
         let _len = self.mem.len();
         let at = self.put_bin(serial, len, byte);
@@ -78,6 +79,7 @@ impl Halves {
         ensures adds { Adds self.old self.new }
         ensures gets { (named : ℕ) (shared : List (List ℕ)) (qs : List Process) (x : HalvesStand named self.old shared qs) (ts : Trees)
             → name < named → AllStand x.test shared self.old.mem env.now ts → Gets named self.new shared qs result (Fun name arity creator ts) }
+        ensures uses { free_in self.old ≤ free_in self.new + (10 + length env.now) }
     {
         let _len = self.mem.len();
         let rec = self.fun_record(name, arity);

@@ -15,7 +15,8 @@ use word_mem::WordMem;
 /// of one process below those of the one before.
 pub fn move_roots(mem: &mut WordMem, mv: &mut Moving, procs: &mut [Proc], end: u64)
     requires { CanMoveRows mem.old mv.old procs.old end }
-    ensures { (p : Plan) (k : Marks) (low limit : ℕ) → RowsMove p mem.old mv.old k low limit procs.old end → RowsMoved p mem.old mem.new mv.new k procs.old procs.new end }
+    ensures { (p : Plan) (k : Marks) (low limit : ℕ) → RowsMove p mem.old mv.old k low limit procs.old end
+        → RowsMoved p mem.old mem.new mv.new k procs.old procs.new end }
 {
     let mut low = end;
     for process in procs.iter_mut() {
@@ -28,7 +29,8 @@ pub fn move_roots(mem: &mut WordMem, mv: &mut Moving, procs: &mut [Proc], end: u
 // words behind.
 fn move_process(mem: &mut WordMem, mv: &mut Moving, process: &mut Proc, to: u64)
     requires { CanMoveRow mem.old mv.old process.old to }
-    ensures { (p : Plan) (k : Marks) (low limit : ℕ) → RowMoves p mem.old mv.old k low limit process.old to → RowMoved p mem.old mem.new mv.new k process.old process.new to }
+    ensures { (p : Plan) (k : Marks) (low limit : ℕ) → RowMoves p mem.old mv.old k low limit process.old to
+        → RowMoved p mem.old mem.new mv.new k process.old process.new to }
 {
     let _len = mem.len();
     evacuate_all(mem, mv, &mut process.regs);
@@ -55,7 +57,8 @@ fn last_place(from: u64, n: u64) -> u64
 // the one that follows it.
 fn move_stack(mem: &mut WordMem, mv: &mut Moving, from: u64, depth: u64, to: u64)
     requires { CanMoveStack mem.old mv.old from depth to }
-    ensures { (p : Plan) (k : Marks) (low limit : ℕ) → StackMoves p mem.old mv.old k low limit from depth to → StackMoved p mem.old mem.new mv.new k from depth to }
+    ensures { (p : Plan) (k : Marks) (low limit : ℕ) → StackMoves p mem.old mv.old k low limit from depth to
+        → StackMoved p mem.old mem.new mv.new k from depth to }
 {
     let _len = mem.len();
     let mut place = from;

@@ -1,4 +1,4 @@
-use Rattle.std.proofs.Common.{◌≡◌, ◌+◌, ◌≤◌, ◌++◌}
+use Rattle.std.proofs.Common.{◌≡◌, ◌++◌}
 use Rattle.std.specs.Vec.{vec_capacity}
 use Rattle.one_space.specs.Entered.{records_from}
 use Rattle.one_space.proofs.entering.enter_bins.Given as goal

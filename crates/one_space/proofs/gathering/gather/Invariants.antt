@@ -1,4 +1,4 @@
-use Rattle.std.proofs.Common.{◌≡◌, ℕ, ◌<◌, length, get_or, map}
+use Rattle.std.proofs.Common.{◌≡◌, ℕ, ◌<◌, get_or, map}
 use Rattle.std.specs.Vec.{vec_len}
 use Rattle.one_space.specs.Gathered.{held_word}
 use Rattle.one_space.proofs.gathering.gather.Given as goal

@@ -1,4 +1,4 @@
-use Rattle.std.proofs.Common.{List, ℕ, subst}
+use Rattle.std.proofs.Common.{subst}
 use Rattle.line_io.specs.Sink.{Grew}
 use Rattle.plain_term.specs.Text.{text}
 use Rattle.reply_text.specs.Texts.{divider}

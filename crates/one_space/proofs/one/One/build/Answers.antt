@@ -1,4 +1,5 @@
-use Rattle.std.proofs.Common.{◌≡◌, ℕ, ◌+◌, ◌-◌, ◌*◌, ◌≤◌, length, refl, sym, subst, Err, arith}
+use Rattle.std.proofs.Common.{◌≡◌, ℕ, ◌+◌, ◌-◌, ◌*◌, ◌≤◌, length, refl, sym, subst, Err, arith, ap}
+use Rattle.word_mem.specs.declared.ranges.Room.{Room}
 use Rattle.std.specs.Vec.{with_items}
 use Rattle.script_grammar.specs.declared.refusal.Refusal.{Refusal}
 use Rattle.item_build.specs.Reading.{long_bins, words_of}
@@ -109,4 +110,13 @@ returns-in-Err-clause-asks c =
 pub returns-clause-asks : goal.returns-clause-asks
 returns-clause-asks c =
     asks-grown c.words_needed-grow.result (words_of c.args.code.now) c.args.self.now c.make_room.new.self c.make_room.result c.make_room.ensures (needed-words c.args.names.now
-    c.args.code.now c.requires.term c.words_needed-grow.result c.count-named.ensures.names.few c.words_needed-grow.ensures) c.if-not-make_room.false _ refl tt
+    c.args.code.now c.requires.term c.words_needed-grow.result c.count-named.ensures.names.few c.words_needed-grow.ensures) c.if-not-make_room.false _ refl
+    (omega (
+      arith,
+      c.build.ensures.few,
+      c.build.ensures.leaves.order,
+      ap (λ (z : Room). z.top) c.room-room.ensures,
+      ap (λ (z : Room). z.end) c.room-room.ensures,
+      needed-words c.args.names.now
+          c.args.code.now c.requires.term c.words_needed-grow.result c.count-named.ensures.names.few c.words_needed-grow.ensures,
+    )) tt

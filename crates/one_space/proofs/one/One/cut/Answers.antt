@@ -1,4 +1,4 @@
-use Rattle.std.proofs.Common.{◌≡◌, ℕ, ◌+◌, Bool, List, Some, get_or, refl, subst}
+use Rattle.std.proofs.Common.{◌≡◌, ℕ, ◌+◌, Bool, List, Some, get_or, refl, subst, ap, arith}
 use Rattle.word_mem.specs.declared.ranges.Room.{Room}
 use Rattle.plain_term.specs.Tree.{Tree}
 use Rattle.plain_machine.specs.Parts.{part_in}
@@ -53,4 +53,5 @@ returns-then-not-make_room-clause-asks c =
 
 pub returns-clause-asks : goal.returns-clause-asks
 returns-clause-asks c =
-    unless-grown 5 5 c.args.self.now c.make_room.new.self c.make_room.result c.make_room.ensures refl c.if-not-make_room.false _ refl tt
+    unless-grown 5 5 c.args.self.now c.make_room.new.self c.make_room.result c.make_room.ensures refl c.if-not-make_room.false _ refl
+    (omega (arith, c.sub_part-part.ensures.uses.moved, ap (λ (z : Room). z.top) c.room-room.ensures)) tt

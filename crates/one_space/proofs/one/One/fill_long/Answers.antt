@@ -1,4 +1,4 @@
-use Rattle.std.proofs.Common.{ℕ, ◌+◌, ◌/◌, ◌≡◌, refl, sym, arith}
+use Rattle.std.proofs.Common.{ℕ, ◌+◌, ◌/◌, sym, arith}
 use Rattle.plain_machine.specs.Tightness.{fill_words}
 use Rattle.one_space.proofs.Asking.{unless-grown, unless-lacks}
 use Rattle.one_space.proofs.Filling.{fill-lacks, long-does, record-words}
@@ -39,4 +39,4 @@ pub returns-clause-asks : goal.returns-clause-asks
 returns-clause-asks c =
     let g : ℕ = 10 + (c.args.len + 7) / 8 in
     unless-grown g (fill_words c.args.len) c.args.self.now c.make_room.new.self c.make_room.result c.make_room.ensures (sym (record-words c.args.len c.requires.long)) c.if-not-make_room.false _
-    c.add_bin-w.ensures.adds.sweeps tt
+    c.add_bin-w.ensures.adds.sweeps c.add_bin-w.ensures.uses tt

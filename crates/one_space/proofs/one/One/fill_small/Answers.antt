@@ -1,4 +1,5 @@
-use Rattle.std.proofs.Common.{ℕ, ◌+◌, ◌/◌, ◌≡◌, Bool, List, length, replicate, take, refl, sym, subst, arith}
+use Rattle.std.proofs.Common.{ℕ, ◌+◌, ◌/◌, Bool, List, length, replicate, take, refl, sym, subst, arith, ap, ◌∙◌}
+use Rattle.std.proofs.lemmas.List.{length-replicate}
 use Rattle.word_mem.specs.declared.ranges.Room.{Room}
 use Rattle.plain_term.specs.Measures.{bin_words}
 use Rattle.plain_term.specs.Tree.Tree.{Bin}
@@ -8,7 +9,7 @@ use Rattle.term_build.specs.Taken.{IsFree}
 use Rattle.plain_machine.specs.Tightness.{fill_words}
 use Rattle.one_space.proofs.Asking.{unless-grown, unless-lacks}
 use Rattle.one_space.proofs.Filling.{fill-lacks, heap-words, small-by, take-equal}
-use Rattle.one_space.proofs.Terming.{is-room, term-fits, term-within}
+use Rattle.one_space.proofs.Terming.{term-within}
 use Rattle.one_space.proofs.one.One.fill_small.Goals as goal
 
 pub returns-then-not-make_room-clause-does : goal.returns-then-not-make_room-clause-does
@@ -39,4 +40,5 @@ returns-clause-does c =
 pub returns-clause-asks : goal.returns-clause-asks
 returns-clause-asks c =
     let g : ℕ = 2 + (c.args.len + 7) / 8 in
-    unless-grown g (fill_words c.args.len) c.args.self.now c.make_room.new.self c.make_room.result c.make_room.ensures (sym (heap-words c.args.len c.requires.small)) c.if-not-make_room.false _ refl tt
+    unless-grown g (fill_words c.args.len) c.args.self.now c.make_room.new.self c.make_room.result c.make_room.ensures (sym (heap-words c.args.len c.requires.small)) c.if-not-make_room.false _ refl
+    (omega (arith, c.heap_bin-w.ensures.uses.moved, ap (λ (z : Room). z.top) c.room-room.ensures, ap (λ n. 2 + bin_words n) (ap length (take-equal c.args.len 64 c.args.byte c.requires.small) ∙ length-replicate {A = ℕ} c.args.len c.args.byte))) tt

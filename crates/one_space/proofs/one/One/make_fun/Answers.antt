@@ -1,4 +1,5 @@
 use Rattle.std.proofs.Common.{ℕ, ◌+◌, ◌≡◌, List, Ok, length, map, take, refl, sym, ◌∙◌, ap, subst, arith}
+use Rattle.std.proofs.lemmas.List.{length-take}
 use Rattle.script_grammar.specs.declared.command.Command.TheVariants.{Process}
 use Rattle.script_grammar.specs.declared.command.Verb.TheVariants as verb
 use Rattle.script_grammar.specs.Written.{Terms}
@@ -78,4 +79,5 @@ returns-then-not-make_room-clause-asks c =
 pub returns-clause-asks : goal.returns-clause-asks
 returns-clause-asks c =
     let g : ℕ = 10 + length c.args.env.now in
-    unless-grown g g c.args.self.now c.make_room.new.self c.make_room.result c.make_room.ensures refl c.if-not-make_room.false _ c.add_fun-w.ensures.adds.sweeps tt
+    unless-grown g g c.args.self.now c.make_room.new.self c.make_room.result c.make_room.ensures refl c.if-not-make_room.false _ c.add_fun-w.ensures.adds.sweeps
+    (omega (arith, c.add_fun-w.ensures.uses, length-take (length c.args.env.now) c.deref.result.now)) tt

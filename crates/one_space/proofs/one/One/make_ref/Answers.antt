@@ -1,4 +1,4 @@
-use Rattle.std.proofs.Common.{ℕ, ◌+◌, Bool, List, refl, subst, arith}
+use Rattle.std.proofs.Common.{ℕ, ◌+◌, Bool, List, refl, ap, subst, arith}
 use Rattle.word_mem.specs.declared.ranges.Room.{Room}
 use Rattle.plain_term.specs.Tree.Tree.{Ref}
 use Rattle.term_build.specs.Clear.{Uses}
@@ -40,4 +40,5 @@ pub returns-then-not-make_room-clause-asks : goal.returns-then-not-make_room-cla
 returns-then-not-make_room-clause-asks c = asks-lacks 3 3 c.args.self.now c.make_room.new.self c.make_room.result c.make_room.ensures refl c.if-not-make_room.true 3
 
 pub returns-clause-asks : goal.returns-clause-asks
-returns-clause-asks c = asks-grown 3 3 c.args.self.now c.make_room.new.self c.make_room.result c.make_room.ensures refl c.if-not-make_room.false _ refl tt
+returns-clause-asks c = asks-grown 3 3 c.args.self.now c.make_room.new.self c.make_room.result c.make_room.ensures refl c.if-not-make_room.false _ refl
+    (omega (arith, c.reference-w.ensures.uses.moved, ap (λ (z : Room). z.top) c.room-room.ensures)) tt

@@ -15,7 +15,7 @@ use Rattle.plain_machine.specs.Tightness.{keys_in}
 use Rattle.one_space.specs.Doing.{DoesBy}
 use Rattle.one_space.proofs.Asking.{asks-grown, asks-lacks}
 use Rattle.one_space.proofs.Choosing.{can-seek}
-use Rattle.one_space.proofs.Pairing.{keys-few, put-asked, put-does, put-lacks, put-place, put-refused}
+use Rattle.one_space.proofs.Pairing.{keys-few, put-asked, put-does, put-few, put-lacks, put-place, put-refused}
 use Rattle.one_space.proofs.Terming.{term-within}
 use Rattle.one_space.proofs.one.One.map_put.Goals as goal
 
@@ -94,5 +94,10 @@ returns-clause-asks c = λ s q o found. record {
   asks = λ e.
       asks-grown (6 + 2 * c.in-Ok.place.keys) (6 + 2 * keys_in (register c.args.s.0 q)) c.args.self.now c.make_room.new.self c.make_room.result c.make_room.ensures
       (put-asked c.args.self.now c.requires.holds c.args.seat c.requires.sits c.args.r c.args.s c.args.k c.args.v c.requires.map c.requires.key c.requires.value c.index.result.now c.index.ensures
-      c.args.names.now c.place_in.result c.place_in.ensures c.in-Ok.place c.in-Ok.is s o q found) c.if-not-make_room.false _ refl tt;
+      c.args.names.now c.place_in.result c.place_in.ensures c.in-Ok.place c.in-Ok.is s o q found) c.if-not-make_room.false _ refl
+      (let U : Room → Type 0 = λ y. (d : ℕ → ℕ → Bool) (shared : List (List ℕ)) (ps : Pairs) → Stands d shared c.make_room.new.self.mem (get_or c.index-2.result.now.regs c.args.s.0 0) (Map ps)
+      → Uses (4 + 2 * count_placed c.in-Ok.place.spot (pairs_len ps)) y c.map_with-w.new.room c.make_room.new.self.mem c.map_with-w.new.mem in
+      put-few c.args.self.now c.requires.holds c.args.seat c.requires.sits c.args.r c.args.s c.args.k c.args.v c.requires.map c.requires.key c.requires.value c.index.result.now c.index.ensures
+      c.args.names.now c.place_in.result c.place_in.ensures c.in-Ok.place c.in-Ok.is _ refl c.make_room.new.self c.make_room.result c.make_room.ensures c.index-2.result.now
+      c.index-2.ensures c.if-not-make_room.false c.map_with-w.new.mem c.map_with-w.new.room (subst U c.room-room.ensures c.map_with-w.ensures.uses)) tt;
 }

@@ -34,4 +34,4 @@ pub returns-then-not-make_room-clause-asks : goal.returns-then-not-make_room-cla
 returns-then-not-make_room-clause-asks c = asks-lacks 2 2 c.args.self.now c.make_room.new.self c.make_room.result c.make_room.ensures refl c.if-not-make_room.true 2
 
 pub returns-clause-asks : goal.returns-clause-asks
-returns-clause-asks c = asks-grown 2 2 c.args.self.now c.make_room.new.self c.make_room.result c.make_room.ensures refl c.if-not-make_room.false _ refl tt
+returns-clause-asks c = asks-grown 2 2 c.args.self.now c.make_room.new.self c.make_room.result c.make_room.ensures refl c.if-not-make_room.false _ refl (omega arith) tt

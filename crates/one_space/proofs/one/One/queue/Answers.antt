@@ -3,27 +3,32 @@ use Rattle.one_space.proofs.one.One.queue.Goals as goal
 
 pub put_queue-requires : goal.put_queue-requires
 put_queue-requires g c =
-    have-messages c.args.self.now c.requires.holds.counts c.args.seat c.requires.sits c.index-process.result.now c.index-process.ensures c.args.names.now c.requires.named c.requires.holds.state c.requires.holds.stands
+    let b = c.args.self.now in
+    let h = c.requires.holds in
+    have-messages b h.counts c.args.seat c.requires.sits c.index-process.result.now c.index-process.ensures c.args.names.now c.requires.named h.state h.stands
 
 pub returns-clause-writes : goal.returns-clause-writes
 returns-clause-writes g c =
-    queue-writes c.args.self.now c.requires.holds.counts c.args.seat c.requires.sits c.index-process.result.now c.index-process.ensures c.args.names.now c.requires.named g.K.Sink.wrote g.K.Sink.faults
-    c.args.sink.now c.put_queue.new.sink c.put_queue.result c.put_queue.ensures
+    queue-writes c.args.self.now c.requires.holds.counts c.args.seat c.requires.sits c.index-process.result.now c.index-process.ensures c.args.names.now c.requires.named g.K.Sink.wrote
+    g.K.Sink.faults c.args.sink.now c.put_queue.new.sink c.put_queue.result c.put_queue.ensures
 
 pub returns-clause-later : goal.returns-clause-later
 returns-clause-later g c =
-    let m = have-messages c.args.self.now c.requires.holds.counts c.args.seat c.requires.sits c.index-process.result.now c.index-process.ensures c.args.names.now c.requires.named c.requires.holds.state
-    c.requires.holds.stands in
+    let b = c.args.self.now in
+    let h = c.requires.holds in
+    let m = have-messages b h.counts c.args.seat c.requires.sits c.index-process.result.now c.index-process.ensures c.args.names.now c.requires.named h.state h.stands in
     (c.put_queue.ensures m.shared m.trees m.are).later
 
 pub returns-clause-rose : goal.returns-clause-rose
 returns-clause-rose g c =
-    let m = have-messages c.args.self.now c.requires.holds.counts c.args.seat c.requires.sits c.index-process.result.now c.index-process.ensures c.args.names.now c.requires.named c.requires.holds.state
-    c.requires.holds.stands in
+    let b = c.args.self.now in
+    let h = c.requires.holds in
+    let m = have-messages b h.counts c.args.seat c.requires.sits c.index-process.result.now c.index-process.ensures c.args.names.now c.requires.named h.state h.stands in
     (c.put_queue.ensures m.shared m.trees m.are).rose
 
 pub returns-clause-told : goal.returns-clause-told
 returns-clause-told g c =
-    let m = have-messages c.args.self.now c.requires.holds.counts c.args.seat c.requires.sits c.index-process.result.now c.index-process.ensures c.args.names.now c.requires.named c.requires.holds.state
-    c.requires.holds.stands in
+    let b = c.args.self.now in
+    let h = c.requires.holds in
+    let m = have-messages b h.counts c.args.seat c.requires.sits c.index-process.result.now c.index-process.ensures c.args.names.now c.requires.named h.state h.stands in
     (c.put_queue.ensures m.shared m.trees m.are).told

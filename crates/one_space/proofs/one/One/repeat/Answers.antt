@@ -1,4 +1,4 @@
-use Rattle.std.proofs.Common.{refl, ℕ, ◌+◌, Bool, List, get_or, subst}
+use Rattle.std.proofs.Common.{refl, ℕ, ◌+◌, Bool, List, get_or, subst, ap, arith}
 use Rattle.word_mem.specs.declared.ranges.Room.{Room}
 use Rattle.plain_term.specs.Tree.{Tree}
 use Rattle.plain_machine.specs.Parts.{repeated}
@@ -46,4 +46,4 @@ returns-then-not-make_room-clause-asks c =
 pub returns-clause-asks : goal.returns-clause-asks
 returns-clause-asks c =
     unless-grown c.repeat_words-grow.result (repeat_words c.args.shape c.args.n) c.args.self.now c.make_room.new.self c.make_room.result c.make_room.ensures c.repeat_words-grow.ensures
-    c.if-not-make_room.false _ refl tt
+    c.if-not-make_room.false _ refl (omega (arith, c.repeated-w.ensures.uses.moved, ap (λ (z : Room). z.top) c.room-room.ensures, c.repeat_words-grow.ensures)) tt

@@ -27,4 +27,4 @@ pub returns-then-not-make_room-clause-asks : goal.returns-then-not-make_room-cla
 returns-then-not-make_room-clause-asks c = λ other. asks-lacks 14 14 c.args.self.now c.make_room.new.self c.make_room.result c.make_room.ensures refl c.if-not-make_room.true 16
 
 pub returns-clause-asks : goal.returns-clause-asks
-returns-clause-asks c = λ other. asks-grown 14 14 c.args.self.now c.make_room.new.self c.make_room.result c.make_room.ensures refl c.if-not-make_room.false _ refl _
+returns-clause-asks c = λ other. asks-grown 14 14 c.args.self.now c.make_room.new.self c.make_room.result c.make_room.ensures refl c.if-not-make_room.false _ refl (omega arith) _

@@ -105,3 +105,7 @@ returns-clause-adds c =
       funs = a.funs;
       sweeps = a.sweeps;
     }
+
+pub returns-clause-uses : goal.returns-clause-uses
+returns-clause-uses c =
+    omega (arith, c.put_bin-at.ensures.top, c.put_bin-at.ensures.low, c.holder-w.ensures.uses.moved, ap (λ z. z.top) c.room-room.ensures, c.requires.words)

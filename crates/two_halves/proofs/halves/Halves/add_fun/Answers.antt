@@ -103,3 +103,7 @@ returns-clause-adds c =
       funs = a.funs;
       sweeps = a.sweeps;
     }
+
+pub returns-clause-uses : goal.returns-clause-uses
+returns-clause-uses c =
+    omega (arith, c.fun_record-rec.ensures.top, c.fun_record-rec.ensures.low, c.fun_thing-w.ensures.uses.moved, ap (λ z. z.top) c.room-room.ensures, c.requires.words)
