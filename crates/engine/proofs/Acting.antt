@@ -10,11 +10,12 @@ use Rattle.plain_term.specs.declared.item.Item.{Item}
 use Rattle.script_grammar.specs.declared.command.Reg.{Reg}
 use Rattle.script_grammar.specs.declared.command.Pick.{Pick}
 use Rattle.script_grammar.specs.declared.command.Depth.{Depth}
+use Rattle.script_grammar.specs.declared.command.To.{To}
 use Rattle.script_grammar.specs.declared.command.Shape.{Shape}
 use Rattle.script_grammar.specs.declared.command.Command.{Command}
 use Rattle.script_grammar.specs.declared.command.Command.TheVariants.{Process, System}
 use Rattle.script_grammar.specs.declared.command.Verb.{Verb}
-use Rattle.script_grammar.specs.declared.command.Verb.TheVariants.{Set, Choose, MapPut, Fill, Fun as MakeFun, Ref, Own, Repeat, Push, Pop, Print, Eq, Cmp, Flat, Gc, Exit}
+use Rattle.script_grammar.specs.declared.command.Verb.TheVariants.{Set, Choose, MapPut, Fill, Fun as MakeFun, Ref, Own, Repeat, Push, Pop, Send, Recv, Queue, Print, Eq, Cmp, Flat, Gc, Exit}
 use Rattle.script_grammar.specs.declared.command.SysVerb.TheVariants.{Spawn, Sweep, Counts as CountsVerb}
 use Rattle.script_grammar.specs.declared.refusal.Refusal.{Refusal}
 use Rattle.script_grammar.specs.declared.refusal.Refusal.TheVariants.{NoProc}
@@ -25,8 +26,9 @@ use Rattle.script_grammar.specs.Names.{Parsed, HasRegisters}
 use Rattle.plain_machine.specs.declared.limits.TheConstants.{MOST_PROCESSES, MOST_PLACES, MOST_FILL, MOST_ARITY, MOST_BYTE}
 use Rattle.plain_machine.specs.State.{Process as Live, State, HasNames, process_of, is_live, register}
 use Rattle.plain_machine.specs.Made.{with_pair, too_many}
+use Rattle.plain_machine.specs.Tightness.{receiver}
 use Rattle.plain_machine.specs.Parts.{picked, pairs_in, repeated}
-use Rattle.plain_machine.specs.Step.{Outcome, step, settled, with_made, written_tree, written_flaw, unless_flawed, choose, fill_if, fun_if, env_of, put_unless_wide, put_unless_big, put_pair, repeat_if, in_process, by_verb, pop_from, spawn_if, tells, told_of, is_printing_verb}
+use Rattle.plain_machine.specs.Step.{Outcome, step, settled, with_made, written_tree, written_flaw, unless_flawed, choose, fill_if, fun_if, env_of, put_unless_wide, put_unless_big, put_pair, repeat_if, in_process, by_verb, pop_from, send_within, send_to, recv_from, spawn_if, tells, told_of, is_printing_verb}
 use Rattle.plain_machine.specs.Step.Outcome.{Accepted, Refused as IsRefused, Mapped}
 use Rattle.plain_machine.specs.Run.{CommandStep, Skips, Gives, LacksSpace, refusal_text, is_nothing, is_quit}
 use Rattle.plain_machine.specs.Maps.{is_map}
@@ -115,6 +117,22 @@ not-found {X} test (x ∷ xs) e = at (test x) e (λ k. not-found test xs k)
 pop-fits : (after : After) (s : State) (p : Parsed) (q : Live) (r : ℕ) (stack : List Tree) → names_left Done s p ≡ p.names → is_quit p.command ≡ false → Fitting after s p Done (pop_from stack s p q r)
 pop-fits after s p q r [] e g = tt
 pop-fits after s p q r (t ∷ stack) e g = (refl, sym e, sym g)
+
+-- so do `recv`
+recv-fits : (after : After) (s : State) (p : Parsed) (q : Live) (r : ℕ) (queue : List Tree) → names_left Done s p ≡ p.names → is_quit p.command ≡ false
+    → Fitting after s p Done (recv_from queue s p q r)
+recv-fits after s p q r [] e g = tt
+recv-fits after s p q r (t ∷ queue) e g = (refl, sym e, sym g)
+
+-- and `send`
+within-fits : (after : After) (s : State) (p : Parsed) (beyond : Bool) (n : ℕ) (t : Tree) → names_left Done s p ≡ p.names → is_quit p.command ≡ false
+    → Fitting after s p Done (send_within beyond n t s p)
+within-fits after s p true n t e g = tt
+within-fits after s p false n t e g = (refl, sym e, sym g)
+
+send-fits : (after : After) (s : State) (p : Parsed) (to : Option ℕ) (t : Tree) → names_left Done s p ≡ p.names → is_quit p.command ≡ false → Fitting after s p Done (send_to to t s p)
+send-fits after s p None t e g = tt
+send-fits after s p (Some n) t e g = within-fits after s p (is_beyond s.shared t) n t e g
 
 -- `set` says it where its maps can be made
 set-fits : (after : After) (s : State) (p : Parsed) (next : State) (o : Option Refusal) → next.names ≡ names_left Done s p → is_quit p.command ≡ false
@@ -218,6 +236,20 @@ module _ (supply : Supply) (number : ℕ) (names : List (List ℕ)) (code : List
   pop-does {A} x r e b = becomes-does (λ (a : A). Done) (Pop x) r e refl
       (λ s terms q a. pop-fits after s (said (Process number (Pop x)) terms names) q x.0 q.stack refl refl) (λ s terms h m. inl (b s terms h m))
 
+  -- `recv`, which asks for none either
+  pub recv-does : {A : Type 0} (x : Reg) (r : Result A Refusal) → reply ≡ reply_of (λ (a : A). Done) r
+      → ((s : State) (terms : Terms) → Old s → HasNames s names → Follows (step s (said (Process number (Recv x)) terms names)) s r after.stands)
+      → DoesVerb (Recv x)
+  recv-does {A} x r e b = becomes-does (λ (a : A). Done) (Recv x) r e refl
+      (λ s terms q a. recv-fits after s (said (Process number (Recv x)) terms names) q x.0 q.queue refl refl) (λ s terms h m. inl (b s terms h m))
+
+  -- `send`
+  pub send-does : {A : Type 0} (x : Reg) (to : To) (r : Result A Refusal) → reply ≡ reply_of (λ (a : A). Done) r
+      → ((s : State) (terms : Terms) → Old s → HasNames s names → Becomes supply.may supply.words s (said (Process number (Send x to)) terms names) r after.stands)
+      → DoesVerb (Send x to)
+  send-does {A} x to r e b = becomes-does (λ (a : A). Done) (Send x to) r e refl
+      (λ s terms q a. send-fits after s (said (Process number (Send x to)) terms names) (receiver to q) (register x.0 q) refl refl) b
+
   -- the verbs that put a tree in a register
   pub pick-does : {A : Type 0} (x m : Reg) (how : Pick) (r : Result A Refusal) → reply ≡ reply_of (λ (a : A). Done) r
       → ((s : State) (terms : Terms) → Old s → HasNames s names → Becomes supply.may supply.words s (said (Process number (Choose x m how)) terms names) r after.stands)
@@ -278,6 +310,8 @@ verb-tells s p q (Repeat r shape n k) e m = absurd (cc)
 verb-tells s p q (Own r) e m = absurd (cc)
 verb-tells s p q (Push r) e m = absurd (cc)
 verb-tells s p q (Pop r) e m = absurd (cc)
+verb-tells s p q (Send r to) e m = absurd (cc)
+verb-tells s p q (Recv r) e m = absurd (cc)
 verb-tells s p q (Gc d) e m = absurd (cc)
 verb-tells s p q Exit e m = absurd (cc)
 verb-tells s p q _ e m = refl
@@ -287,6 +321,7 @@ terms-untold s c terms names q (Print r) = refl
 terms-untold s c terms names q (Eq a b) = refl
 terms-untold s c terms names q (Cmp a b) = refl
 terms-untold s c terms names q (Flat r) = refl
+terms-untold s c terms names q Queue = refl
 terms-untold s c terms names q _ = refl
 
 told-gives : (s : State) (c : Command) (r : Result (List ℕ) Refusal) → is_quit c ≡ false → Gives (tells s r) s c false (outcome_text (tells s r) ∷ []) s
@@ -332,6 +367,8 @@ pub record IsOther (v : Verb) : Type 0 where
   pub makes : makes_term v ≡ false
   pub push : (r : Reg) → v ≡ Push r → ⊥
   pub pop : (r : Reg) → v ≡ Pop r → ⊥
+  pub send : (r : Reg) (to : To) → v ≡ Send r to → ⊥
+  pub recv : (r : Reg) → v ≡ Recv r → ⊥
   pub gc : (d : Depth) → v ≡ Gc d → ⊥
   pub exit : v ≡ Exit → ⊥
 
@@ -346,6 +383,8 @@ can-tell (Own r) b h o = absurd (not-true o.makes)
 can-tell (Repeat r shape n m) b h o = absurd (not-true o.makes)
 can-tell (Push r) b h o = absurd (o.push r refl)
 can-tell (Pop r) b h o = absurd (o.pop r refl)
+can-tell (Send r to) b h o = absurd (o.send r to refl)
+can-tell (Recv r) b h o = absurd (o.recv r refl)
 can-tell (Gc d) b h o = absurd (o.gc d refl)
 can-tell Exit b h o = absurd (o.exit refl)
 can-tell v b h o = record {

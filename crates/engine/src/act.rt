@@ -1,3 +1,4 @@
+// What a command asks of the space, and the reply to the space's answer.
 ghost use Rattle.std.specs.Prelude.{◌≡◌, ℕ, ◌<◌, ◌≤◌, List, length, true};
 ghost use Rattle.script_grammar.specs.declared.command.Command.{Command};
 ghost use Rattle.script_grammar.specs.declared.command.Command.TheVariants.{Process, System};
@@ -123,6 +124,8 @@ fn act_in<S: Space>(
     match verb {
         Verb::Push(r) => done(space.push(seat, r)),
         Verb::Pop(r) => done(space.pop(seat, r)),
+        Verb::Send(s, to) => done(space.send(seat, s, to)),
+        Verb::Recv(r) => done(space.receive(seat, r)),
         Verb::Gc(depth) => {
             space.collect(seat, depth);
             Reply::Done

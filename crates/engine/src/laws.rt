@@ -1,3 +1,4 @@
+// The law of replies, for whatever space.
 ghost use Rattle.plain_machine.specs.Laws.{RepliesDetermine};
 
 /// Lines and their replies determine the state after them, whatever the spaces may refuse.

@@ -1,3 +1,4 @@
+// A machine, and one line done and answered by it.
 ghost use Rattle.std.specs.Prelude.{◌≡◌, ℕ, ◌+◌, ◌<◌, ◌≤◌, List, length, true};
 ghost use Rattle.script_grammar.specs.Names.{Parsed};
 ghost use Rattle.script_grammar.specs.ReadAs.{IsRead};

@@ -1,3 +1,4 @@
+// The numbers of the processes that live, as a text.
 ghost use Rattle.std.specs.Prelude.{◌≡◌, ℕ, ◌≤◌, ◌++◌, ◌∷◌, [], List, OnErr, OnOk, codes};
 ghost use Rattle.line_io.specs.Faults.{Rose};
 ghost use Rattle.plain_term.specs.Text.{numbers_text, more_numbers};

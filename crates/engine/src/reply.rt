@@ -1,3 +1,4 @@
+// The text of each reply.
 ghost use Rattle.std.specs.Prelude.{◌≡◌, ℕ, ◌≤◌, ◌++◌, ◌∷◌, [], List, OnErr, OnOk, codes, length, true};
 ghost use Rattle.line_io.specs.Faults.{Rose};
 ghost use Rattle.plain_machine.specs.Run.{replies_text};
@@ -6,7 +7,7 @@ ghost use Rattle.plain_machine.specs.Step.{eq_text, cmp_text};
 ghost use Rattle.script_grammar.specs.declared.command.Command.{Command};
 ghost use Rattle.script_grammar.specs.declared.command.Command.TheVariants.{System};
 ghost use Rattle.script_grammar.specs.declared.command.SysVerb.TheVariants as sysverb;
-ghost use Rattle.script_grammar.specs.declared.command.Verb.TheVariants.{Print, Eq, Cmp, Flat};
+ghost use Rattle.script_grammar.specs.declared.command.Verb.TheVariants.{Print, Eq, Cmp, Flat, Queue};
 ghost use Rattle.line_io.specs.Sink.{Writes};
 ghost use Rattle.engine.specs.Replies.{AllowsMap, CanReply, Shown, is_plain, reply_lines};
 ghost use Rattle.engine.specs.Writing.{end_of_line};
@@ -146,6 +147,25 @@ fn put_flat<S: Space, K: Sink>(
     }
 }
 
+/// Writes the line of the messages that wait for a process.
+fn put_queue<S: Space, K: Sink>(
+    space: &S,
+    names: &AtomNames,
+    seat: Seat,
+    sink: &mut K,
+) -> Result<(), SinkFault>
+    requires can { CanReply S.sits S.named space.now names.now (Reply.Told seat Queue) }
+    ensures writes { (s : State) → S.stands space.now s
+        → Writes K.wrote sink.old sink.new result
+        (replies_text (reply_lines (Reply.Told seat Queue) (record { state = s; names = names.now; text = S.text space.now names.now }))) }
+    ensures later { K.faults sink.old ≤ K.faults sink.new }
+    ensures rose { OnErr result (Rose (K.faults sink.old) (K.faults sink.new)) }
+    ensures told { OnOk result (K.faults sink.new ≡ K.faults sink.old) }
+{
+    space.queue(names, seat, sink)?;
+    put_all(sink, b"\n")
+}
+
 /// Writes the line of all counts.
 fn put_counts<S: Space, K: Sink>(
     space: &S,
@@ -185,6 +205,7 @@ fn put_told<S: Space, K: Sink>(
         Verb::Eq(a, b) => put_equal(space, names, seat, a, b, sink),
         Verb::Cmp(a, b) => put_order(space, names, seat, a, b, sink),
         Verb::Flat(r) => put_flat(space, names, seat, r, sink),
+        Verb::Queue => put_queue(space, names, seat, sink),
         _ => unreachable!(),
     }
 }

@@ -1,3 +1,4 @@
+// A whole script served, from a source to a sink.
 ghost use Rattle.std.specs.Prelude.{◌≡◌, ℕ, ◌+◌, ◌<◌, ◌≤◌, List, Option, length};
 ghost use Rattle.line_io.specs.Reader.{IsFaulted, lines_left, limits_of};
 ghost use Rattle.plain_machine.specs.State.{State};

@@ -1,3 +1,4 @@
+// Numbers, ends of lines and the texts of refusals.
 ghost use Rattle.std.specs.Prelude.{◌≡◌, ℕ, ◌≤◌, ◌++◌, ◌∷◌, [], List, OnErr, OnOk, codes, decimal};
 ghost use Rattle.line_io.specs.Faults.{Rose};
 ghost use Rattle.plain_machine.specs.Run.{refusal_text};

@@ -1,5 +1,5 @@
 -- What each command does: to the numbers of processes, to proper trees, and what its reply tells. Each law of runs goes by this.
-use Rattle.std.proofs.Common.{◌≡◌, ℕ, zero, suc, ◌+◌, ◌||◌, replicate, arith, ◌⊎◌, inl, inr, Bool, true, false, not, ◌==◌, nat_le, nat_lt, List, [], ◌∷◌, ◌++◌, filter, length, Option, Some, None, Result, Ok, Err, codes, decimal, refl}
+use Rattle.std.proofs.Common.{◌≡◌, ℕ, zero, suc, ◌+◌, ◌||◌, replicate, arith, ◌⊎◌, inl, inr, Bool, true, false, nat_le, nat_lt, List, [], ◌∷◌, ◌++◌, length, Option, Some, None, Result, Ok, Err, codes, decimal, refl}
 use Rattle.plain_term.specs.Tree.{Tree, Pairs}
 use Rattle.plain_term.specs.Tree.{Tree as tree}
 use Rattle.plain_term.specs.Beyond.{is_beyond}
@@ -10,7 +10,7 @@ use Rattle.script_grammar.specs.Written.{Terms}
 use Rattle.script_grammar.specs.declared.command.Command.{Command}
 use Rattle.script_grammar.specs.declared.command.Command.TheVariants.{Nothing, Process, System}
 use Rattle.script_grammar.specs.declared.command.Verb.{Verb}
-use Rattle.script_grammar.specs.declared.command.Verb.TheVariants.{Set, Choose, MapPut, Fill, Fun as MakeFun, Ref, Own, Repeat, Push, Pop, Gc, Exit}
+use Rattle.script_grammar.specs.declared.command.Verb.TheVariants.{Set, Choose, MapPut, Fill, Fun as MakeFun, Ref, Own, Repeat, Push, Pop, Send, Recv, Gc, Exit}
 use Rattle.script_grammar.specs.declared.command.SysVerb.{SysVerb}
 use Rattle.script_grammar.specs.declared.command.SysVerb.TheVariants.{Spawn, Sweep, Counts, Quit}
 use Rattle.script_grammar.specs.declared.refusal.Refusal.{Refusal}
@@ -18,17 +18,18 @@ use Rattle.script_grammar.specs.Names.{Parsed}
 use Rattle.plain_machine.specs.declared.limits.TheConstants.{MOST_PROCESSES, MOST_PLACES, MOST_FILL, MOST_ARITY, MOST_BYTE}
 use Rattle.plain_machine.specs.State.{Process as Live, State, HasNames, process_of, fresh_process, register, with_register, with_process}
 use Rattle.plain_machine.specs.Made.{with_pair, too_many, bin_tree}
+use Rattle.plain_machine.specs.Tightness.{receiver}
 use Rattle.plain_machine.specs.Parts.{picked, pairs_in, repeated}
-use Rattle.plain_machine.specs.Step.{Outcome, by_command, in_process, by_verb, by_system, does, with_made, unless_flawed, written_flaw, fill_if, fun_if, env_of, choose, put_unless_wide, put_unless_big, put_pair, repeat_if, collect_step, pop_from, spawn_if, tells, told_of, told_of_system, written_tree, is_printing}
+use Rattle.plain_machine.specs.Step.{Outcome, by_command, in_process, by_verb, by_system, does, with_made, unless_flawed, written_flaw, fill_if, fun_if, env_of, choose, put_unless_wide, put_unless_big, put_pair, repeat_if, collect_step, pop_from, send_within, send_to, recv_from, spawn_if, tells, told_of, told_of_system, written_tree, is_printing}
 use Rattle.plain_machine.specs.Step.Outcome.{Accepted, Refused, Mapped}
 use Rattle.plain_machine.specs.Run.{is_quit}
-use Rattle.plain_machine.specs.Laws.{AreProper, HoldsProper}
-use Rattle.plain_machine.proofs.Numbers.{Keeps, keeps-same, keeps-numbers, keeps-process, keeps-gone, keeps-come}
+use Rattle.plain_machine.specs.Laws.{AreProper, AreWithin, HoldsProper}
+use Rattle.plain_machine.proofs.Numbers.{Keeps, keeps-same, keeps-numbers, keeps-process, keeps-message, keeps-gone, keeps-come}
 use Rattle.plain_machine.proofs.Putting.{put-rises, put-proper}
 use Rattle.plain_machine.proofs.Parts.{IfProper, at-proper, picked-proper, map-proper, repeated-proper}
 use Rattle.plain_machine.proofs.Growing.{map-parts}
 use Rattle.plain_machine.proofs.Making.{or-none, bin-more, bin-proper}
-use Rattle.plain_machine.proofs.Holding.{Holds, Before, Builds, Environs, before, found-proper, all-live, in-place, in-register, made-leaves, built-leaves, fun-proper, set-proper, gone-proper, spawned-proper}
+use Rattle.plain_machine.proofs.Holding.{Holds, Before, Builds, Environs, before, found-proper, lives, same-live, in-place, in-register, sent-lives, gone-lives, spawned-lives, made-leaves, built-leaves, fun-proper, set-proper}
 
 -- the numbers after an outcome
 abbrev pub OutcomeKeeps : State → Outcome → Type 0
@@ -80,7 +81,7 @@ collect-does : (s : State) (p : Parsed) (c : Command) → is_printing c ≡ fals
 collect-does s p c e = record {
   numbers = keeps-numbers s _ refl refl;
   told = inl (codes "k", refl);
-  proper = λ h m t. let b = before s p.names m h in record { proper = all-live p.names s.shared s.processes s.areas b.held b.literals };
+  proper = λ h m t. lives _ (same-live s p.names (before s p.names m h));
   printing = λ f. absurd (cc);
 }
 
@@ -91,7 +92,7 @@ register-does : (s : State) (p : Parsed) (q : Live) (n r : ℕ) (x : Verb) (t : 
 register-does s p q n r x t e f = record {
   numbers = keeps-process s _ (with_register r t q) refl refl;
   told = inl (codes "k", refl);
-  proper = λ h m b. let k = f h m in record { proper = in-register s p.names q r t (k.0) (k.1) (k.2) };
+  proper = λ h m b. let k = f h m in lives _ (in-register s p.names (k.0) q r t (k.1) (k.2));
   printing = λ g. absurd (cc);
 }
 
@@ -146,9 +147,8 @@ fill-does s p q n r x true bytes e bs f = refused-does s p (Process n x) _
 fill-does s p q n r x false bytes e bs f = record {
   numbers = keeps-process s _ (with_register r ((bin_tree bytes s.shared).0) q) refl refl;
   told = inl (codes "k", refl);
-  proper = λ h m t. let k = f h m in record {
-    proper = made-leaves s p.names q r (bin_tree bytes s.shared) k.0 k.1 (bin-more bytes s.shared) (bin-proper p.names bytes s.shared (bs refl));
-  };
+  proper = λ h m t. let k = f h m in
+      lives _ (made-leaves s p.names q r (bin_tree bytes s.shared) k.0 k.1 (bin-more bytes s.shared) (bin-proper p.names bytes s.shared (bs refl)));
   printing = λ g. absurd (cc);
 }
 
@@ -160,7 +160,7 @@ fun-does s p q n r name arity x true t e f = refused-does s p (Process n x) _
 fun-does s p q n r name arity x false t e f = record {
   numbers = keeps-process s _ (with_register r t q) refl refl;
   told = inl (codes "k", refl);
-  proper = λ h m b. let k = f h m b in record { proper = in-register s p.names q r t (k.0) (k.1) (k.2) };
+  proper = λ h m b. let k = f h m b in lives _ (in-register s p.names (k.0) q r t (k.1) (k.2));
   printing = λ g. absurd (cc);
 }
 
@@ -171,10 +171,45 @@ pop-does s p q n r x [] e f = refused-does s p (Process n x) _
 pop-does s p q n r x (t ∷ stack) e f = record {
   numbers = keeps-process s _ (record (with_register r t q) { stack = stack }) refl refl;
   told = inl (codes "k", refl);
-  proper = λ h m b. let k = f h m in record {
-    proper = in-place s p.names (record (with_register r t q) { stack = stack }) (k.0)
-        (record { registers = set-proper p.names s.shared q.registers r t (k.1).registers (k.2.0); stack = k.2.1; queue = (k.1).queue });
-  };
+  proper = λ h m b. let k = f h m in lives _ (in-place s p.names (k.0) (record (with_register r t q) { stack = stack }) (record {
+    registers = set-proper p.names s.shared q.registers r t (k.1).registers (k.2.0);
+    stack = k.2.1;
+    queue = (k.1).queue;
+    within = (k.1).within;
+  }));
+  printing = λ g. absurd (cc);
+}
+
+-- `send`
+send-does : (s : State) (p : Parsed) (n : ℕ) (x : Verb) (to : Option ℕ) (t : Tree) → is_printing (Process n x) ≡ false
+    → (HoldsProper s → HasNames s p.names → Before s p.names × (is_proper p.names s.shared t ≡ true)) → Does s p (Process n x) (send_to to t s p)
+send-does s p n x None t e f = refused-does s p (Process n x) _
+send-does s p n x (Some k) t e f = at (is_beyond s.shared t) refl
+  where
+    at : (b : Bool) → is_beyond s.shared t ≡ b → Does s p (Process n x) (send_within b k t s p)
+    at true w = refused-does s p (Process n x) _
+    at false w = record {
+      numbers = keeps-message s _ k t refl refl;
+      told = inl (codes "k", refl);
+      proper = λ h m b. let l = f h m in lives _ (sent-lives s p.names (l.0) k t (l.1) w);
+      printing = λ g. absurd (cc);
+    }
+
+-- `recv`
+recv-does : (s : State) (p : Parsed) (q : Live) (n r : ℕ) (x : Verb) (queue : List Tree) → is_printing (Process n x) ≡ false
+    → (HoldsProper s → HasNames s p.names → Before s p.names × Holds p.names s.shared q)
+    → (HoldsProper s → HasNames s p.names → AreProper p.names s.shared queue) → (HoldsProper s → HasNames s p.names → AreWithin s.shared queue)
+    → Does s p (Process n x) (recv_from queue s p q r)
+recv-does s p q n r x [] e f g w = refused-does s p (Process n x) _
+recv-does s p q n r x (t ∷ queue) e f g w = record {
+  numbers = keeps-process s _ (record (with_register r t q) { queue = queue }) refl refl;
+  told = inl (codes "k", refl);
+  proper = λ h m b. let k = f h m in lives _ (in-place s p.names (k.0) (record (with_register r t q) { queue = queue }) (record {
+    registers = set-proper p.names s.shared q.registers r t (k.1).registers ((g h m).0);
+    stack = (k.1).stack;
+    queue = (g h m).1;
+    within = (w h m).1;
+  }));
   printing = λ g. absurd (cc);
 }
 
@@ -183,7 +218,7 @@ module _ (s : State) (p : Parsed) (n : ℕ) (q : Live) (found : process_of n s �
   names-before h m = before s p.names m h
 
   holds : HoldsProper s → HasNames s p.names → Holds p.names s.shared q
-  holds h m = found-proper p.names s.shared n s.processes q (before s p.names m h).held found
+  holds h m = let b = before s p.names m h in found-proper p.names s.shared n s.processes q b.held b.within found
 
   in-holds : (r : ℕ) → HoldsProper s → HasNames s p.names → is_proper p.names s.shared (register r q) ≡ true
   in-holds r h m = at-proper p.names s.shared q.registers r (holds h m).registers
@@ -196,7 +231,7 @@ module _ (s : State) (p : Parsed) (n : ℕ) (q : Live) (found : process_of n s �
       at None e = record {
         numbers = keeps-process s _ (with_register (r.0) ((written_tree s p q p.terms).0) q) refl refl;
         told = inl (codes "k", refl);
-        proper = λ h m t. record { proper = built-leaves s p q (r.0) (names-before h m) (holds h m) t e };
+        proper = λ h m t. lives _ (built-leaves s p q (r.0) (names-before h m) (holds h m) t e);
         printing = λ e. absurd (cc);
       }
   verb-does (Choose r m how) = choose-does s p q n (r.0) (Choose r m how) (picked p.names s.shared q how (register (m.0) q)) refl
@@ -211,10 +246,13 @@ module _ (s : State) (p : Parsed) (n : ℕ) (q : Live) (found : process_of n s �
   verb-does (Ref r) = record {
     numbers = keeps-process s _ (record (with_register (r.0) (tree.Ref q.number (q.refs + 1)) q) { refs = q.refs + 1 }) refl refl;
     told = inl (codes "k", refl);
-    proper = λ h m t. let k = holds h m in record {
-      proper = in-place s p.names (record (with_register (r.0) (tree.Ref q.number (q.refs + 1)) q) { refs = q.refs + 1 }) (names-before h m)
-          (record { registers = set-proper p.names s.shared q.registers (r.0) (tree.Ref q.number (q.refs + 1)) k.registers refl; stack = k.stack; queue = k.queue });
-    };
+    proper = λ h m t. let k = holds h m in
+        lives _ (in-place s p.names (names-before h m) (record (with_register (r.0) (tree.Ref q.number (q.refs + 1)) q) { refs = q.refs + 1 }) (record {
+          registers = set-proper p.names s.shared q.registers (r.0) (tree.Ref q.number (q.refs + 1)) k.registers refl;
+          stack = k.stack;
+          queue = k.queue;
+          within = k.within;
+        }));
     printing = λ e. absurd (cc);
   }
   verb-does (Own r) = register-does s p q n (r.0) (Own r) (tree.Pid q.number) refl (λ h m. (names-before h m, holds h m, refl))
@@ -223,21 +261,22 @@ module _ (s : State) (p : Parsed) (n : ℕ) (q : Live) (found : process_of n s �
   verb-does (Push r) = record {
     numbers = keeps-process s _ (record q { stack = register (r.0) q ∷ q.stack }) refl refl;
     told = inl (codes "k", refl);
-    proper = λ h m t. let k = holds h m in record {
-      proper = in-place s p.names (record q { stack = register (r.0) q ∷ q.stack }) (names-before h m)
-          (record { registers = k.registers; stack = (at-proper p.names s.shared q.registers (r.0) k.registers, k.stack); queue = k.queue });
-    };
+    proper = λ h m t. let k = holds h m in lives _ (in-place s p.names (names-before h m) (record q { stack = register (r.0) q ∷ q.stack }) (record {
+      registers = k.registers;
+      stack = (at-proper p.names s.shared q.registers (r.0) k.registers, k.stack);
+      queue = k.queue;
+      within = k.within;
+    }));
     printing = λ e. absurd (cc);
   }
   verb-does (Pop r) = pop-does s p q n (r.0) (Pop r) q.stack refl (λ h m. (names-before h m, holds h m, (holds h m).stack))
+  verb-does (Send r to) = send-does s p n (Send r to) (receiver to q) (register (r.0) q) refl (λ h m. (names-before h m, in-holds (r.0) h m))
+  verb-does (Recv r) = recv-does s p q n (r.0) (Recv r) q.queue refl (λ h m. (names-before h m, holds h m)) (λ h m. (holds h m).queue) (λ h m. (holds h m).within)
   verb-does (Gc depth) = collect-does s p (Process n (Gc depth)) refl
   verb-does Exit = record {
     numbers = keeps-gone s _ q.number refl refl;
     told = inl (codes "k", refl);
-    proper = λ h m t. record {
-      proper =
-          all-live p.names s.shared (filter (λ p. not (p.number == q.number)) s.processes) s.areas (gone-proper p.names s.shared q.number s.processes (names-before h m).held) (names-before h m).literals;
-    };
+    proper = λ h m t. lives _ (gone-lives s p.names (names-before h m) q.number);
     printing = λ e. absurd (cc);
   }
   verb-does v = tells-does s p (Process n v) (told_of s p q v) refl
@@ -252,9 +291,7 @@ spawn-does s p true = refused-does s p (System Spawn) _
 spawn-does s p false = record {
   numbers = keeps-come s _ (fresh_process s.next) refl refl refl;
   told = inl (codes "k " ++ decimal s.next, refl);
-  proper = λ h m t. let b = before s p.names m h in record {
-    proper = all-live p.names s.shared (s.processes ++ fresh_process s.next ∷ []) s.areas (spawned-proper p.names s.shared s.next s.processes b.held) b.literals;
-  };
+  proper = λ h m t. lives _ (spawned-lives s p.names (before s p.names m h) s.next);
   printing = λ e. absurd (cc);
 }
 

@@ -87,4 +87,4 @@ run-proper may words quits s new (line ∷ lines) replies h g = at (g.0) (g.6) (
     at false k one then_ = then_ one k
 
 pub first-proper : HoldsProper first_state
-first-proper = record { proper = joined-proper [] [] (flat_map held_trees first_state.processes) [] (spawned-proper [] [] 1 [] tt) tt }
+first-proper = record { proper = joined-proper [] [] (flat_map held_trees first_state.processes) [] (spawned-proper [] [] 1 [] tt) tt; within = tt }

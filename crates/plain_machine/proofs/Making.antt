@@ -16,7 +16,7 @@ use Rattle.script_grammar.specs.Grammar.{MayStand, AllMayStand, PairsMayStand, I
 use Rattle.script_grammar.specs.Names.{number_of, atoms_of, atoms_of_all, atoms_of_pairs, held_terms}
 use Rattle.plain_machine.specs.Made.{tree_of, trees_of, pairs_of, with_pairs, bin_tree}
 use Rattle.plain_machine.specs.Flaws.{is_wide, are_wide, are_wide_pairs, has_many_keys, is_big, are_big, are_big_pairs, is_big_key}
-use Rattle.plain_machine.specs.Laws.{AreProper}
+use Rattle.plain_machine.specs.Laws.{AreProper, AreWithin}
 use Rattle.script_grammar.proofs.Naming.{ArePlaced, number-below}
 use Rattle.plain_machine.proofs.Growing.{proper-grown, beyond-grown}
 use Rattle.plain_machine.proofs.Putting.{pairs-join, all-rise, all-proper}
@@ -130,6 +130,10 @@ module _ (names : List (List ℕ)) where
       let P : List (List ℕ) → Type 0 = λ z. is_beyond z t ≡ false in
       subst P (sym x.are) (beyond-grown names [] old x.more t h ∙ within)
 
+  pub all-more-within : (old new : List (List ℕ)) (ts : List Tree) → Extends old new → AreProper names old ts → AreWithin old ts → AreWithin new ts
+  all-more-within old new [] x h w = tt
+  all-more-within old new (t ∷ ts) x h w = (more-within old new t x h.0 w.0, all-more-within old new ts x h.1 w.1)
+
   -- a binary of bytes
   pub bin-proper : (bytes : List ℕ) (shared : List (List ℕ)) → are_bytes bytes ≡ true → is_proper names ((bin_tree bytes shared).1) ((bin_tree bytes shared).0) ≡ true
   bin-proper bytes shared h =
@@ -186,7 +190,8 @@ module _ (names : List (List ℕ)) where
           (numbers-back names (atoms_of t) (atoms_of_all ts) p) x.1 y.1)
 
       pub pairs-made-proper : (levels : ℕ) (qs : TermPairs) (before : List (List ℕ)) → AreProper names before given → AreBuiltPairs qs → PairsMayStand levels qs → HaveNumbers names (atoms_of_pairs qs)
-          → are_wide_pairs names given qs before ≡ false → are_big_pairs names given qs before ≡ false → are_proper_pairs names ((pairs_of names given qs before).1) ((pairs_of names given qs before).0) ≡ true
+          → are_wide_pairs names given qs before ≡ false → are_big_pairs names given qs before ≡ false
+          → are_proper_pairs names ((pairs_of names given qs before).1) ((pairs_of names given qs before).0) ≡ true
       pairs-made-proper levels stop before a b m p w g = refl
       pairs-made-proper levels (pair k v qs) before a b m p w g =
           let key : Tree × List (List ℕ) = tree_of names given k before in

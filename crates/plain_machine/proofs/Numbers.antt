@@ -1,7 +1,8 @@
 -- The numbers of processes: what changes them, and what keeps them.
 use Rattle.std.proofs.Common.{◌≡◌, ℕ, ◌+◌, ◌<◌, ◌≤◌, Bool, true, false, not, cond, ◌==◌, ◌||◌, List, [], ◌∷◌, ◌++◌, map, filter, refl, sym, ap, subst, ◌∙◌, arith, eqb-true}
 use Rattle.std.specs.List.{list_any}
-use Rattle.plain_machine.specs.State.{Process as Live, State, is_live, live_numbers}
+use Rattle.plain_term.specs.Tree.{Tree}
+use Rattle.plain_machine.specs.State.{Process as Live, State, is_live, live_numbers, with_queued}
 use Rattle.plain_machine.specs.Laws.{AreNumbered, IsNumbered}
 
 -- a lower bound does as well
@@ -18,6 +19,20 @@ with-process-numbers p (q ∷ qs) = at (q.number == p.number) refl (with-process
         → (cond b p q).number ∷ map (λ q. q.number) (map (λ q. cond (q.number == p.number) p q) qs) ≡ q.number ∷ map (λ q. q.number) qs
     at true e k = ap (λ n. n ∷ map (λ q. q.number) (map (λ q. cond (q.number == p.number) p q) qs)) (sym (eqb-true q.number p.number e)) ∙ ap (λ l. q.number ∷ l) k
     at false e k = ap (λ l. q.number ∷ l) k
+
+-- a tree more in the queue of the process with a number
+with-message-numbers : (n : ℕ) (t : Tree) (qs : List Live)
+    → map (λ q. q.number) (map (with_queued n t) qs) ≡ map (λ q. q.number) qs
+with-message-numbers n t [] = refl
+with-message-numbers n t (q ∷ qs) = at (q.number == n) (with-message-numbers n t qs)
+  where
+    more : List Live
+    more = map (with_queued n t) qs
+
+    at : (b : Bool) → map (λ q. q.number) more ≡ map (λ q. q.number) qs
+        → (cond b (record q { queue = q.queue ++ t ∷ [] }) q).number ∷ map (λ q. q.number) more ≡ q.number ∷ map (λ q. q.number) qs
+    at true k = ap (λ l. q.number ∷ l) k
+    at false k = ap (λ l. q.number ∷ l) k
 
 -- one process less
 without-numbered : (n low next : ℕ) (qs : List Live) → AreNumbered low (map (λ q. q.number) qs) next → AreNumbered low (map (λ q. q.number) (filter (λ q. not (q.number == n)) qs)) next
@@ -112,6 +127,11 @@ keeps-numbers s new e f = record {
 -- a process in the place of the one with its number
 pub keeps-process : (s new : State) (p : Live) → new.processes ≡ map (λ q. cond (q.number == p.number) p q) s.processes → new.next ≡ s.next → Keeps s new
 keeps-process s new p e f = keeps-numbers s new (ap (map (λ q. q.number)) e ∙ with-process-numbers p s.processes) f
+
+-- a tree more in the queue of the process with a number
+pub keeps-message : (s new : State) (n : ℕ) (t : Tree) → new.processes ≡ map (with_queued n t) s.processes
+    → new.next ≡ s.next → Keeps s new
+keeps-message s new n t e f = keeps-numbers s new (ap (map (λ q. q.number)) e ∙ with-message-numbers n t s.processes) f
 
 -- one process less
 pub keeps-gone : (s new : State) (n : ℕ) → new.processes ≡ filter (λ q. not (q.number == n)) s.processes → new.next ≡ s.next → Keeps s new

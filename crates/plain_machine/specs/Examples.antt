@@ -416,7 +416,8 @@ set-full_map = refl
 
 -- A map with a key too many is refused, also where it is the key or the value of another.
 pub set-wide : map (set_beside tree.Nil) (
-    Map (written_pairs 33 stop) ∷ Map (pair (Map (written_pairs 33 stop)) (Listed end) stop) ∷ Tuple (Map (pair (Pid 1) (Map (written_pairs 33 stop)) stop) ▹ end) ∷ [])
+    Map (written_pairs 33 stop) ∷ Map (pair (Map (written_pairs 33 stop)) (Listed end) stop)
+    ∷ Tuple (Map (pair (Pid 1) (Map (written_pairs 33 stop)) stop) ▹ end) ∷ [])
     ≡ Refused MapSize ∷ Refused MapSize ∷ Refused MapSize ∷ []
 set-wide = refl
 

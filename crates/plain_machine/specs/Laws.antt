@@ -1,12 +1,13 @@
 -- What is true of runs, whatever the spaces may refuse.
-use Rattle.std.specs.Prelude.{ℕ, ◌≡◌, ◌<◌, ◌≤◌, Bool, true, false, List, [], ◌∷◌, ◌++◌}
+use Rattle.std.specs.Prelude.{ℕ, ◌≡◌, ◌<◌, ◌≤◌, Bool, true, false, List, [], ◌∷◌, ◌++◌, flat_map}
 use Rattle.line_io.specs.Lines.{Line}
 use Rattle.plain_term.specs.Tree.{Tree}
+use Rattle.plain_term.specs.Beyond.{is_beyond}
 use Rattle.plain_term.specs.Proper.{is_proper}
 use Rattle.script_grammar.specs.Written.{Written}
 use Rattle.script_grammar.specs.Names.{Parsed, parsed_of}
 use Rattle.script_grammar.specs.declared.refusal.Refusal.{Refusal}
-use Rattle.plain_machine.specs.State.{State, is_live, live_numbers}
+use Rattle.plain_machine.specs.State.{Process as Live, State, is_live, live_numbers}
 use Rattle.plain_machine.specs.Tightness.{grow, living_trees}
 use Rattle.plain_machine.specs.Step.{is_printing}
 use Rattle.plain_machine.specs.Run.{CommandStep, LineStep, Run, refusal_text}
@@ -47,9 +48,19 @@ abbrev pub AreProper : (names shared : List (List ℕ)) → List Tree → Type 0
 AreProper names shared [] = Unit {0}
 AreProper names shared (t ∷ ts) = (is_proper names shared t ≡ true) × AreProper names shared ts
 
--- All trees that live are proper: those of registers, stacks, queues and literal areas.
+-- Each tree of a list is within the walk limit.
+abbrev pub AreWithin : (shared : List (List ℕ)) → List Tree → Type 0
+AreWithin shared [] = Unit {0}
+AreWithin shared (t ∷ ts) = (is_beyond shared t ≡ false) × AreWithin shared ts
+
+-- All trees that wait in queues, process by process.
+abbrev pub queued_trees : State → List Tree
+queued_trees s = flat_map (λ (q : Live). q.queue) s.processes
+
+-- All trees that live are proper: those of registers, stacks, queues and literal areas. Those of queues are within the walk limit.
 pub record HoldsProper (s : State) : Type 0 where
   pub proper : AreProper s.names s.shared (living_trees s)
+  pub within : AreWithin s.shared (queued_trees s)
 
 -- In each run from such a state all trees that live stay proper.
 abbrev pub TreesStayProper : Type 0

@@ -94,7 +94,8 @@ ReadingStep may words s NoSyntax quits replies new = Refuses Syntax s quits repl
 ReadingStep may words s NoAtoms quits replies new = Refuses Atoms s quits replies new
 
 -- A text is read and answered by its reading.
-pub record TextStep (may : ℕ → State → Parsed → Bool) (words : ℕ) (s : State) (line : List ℕ) (quits : Bool) (replies : List (List ℕ)) (new : State) : Type 0 where
+pub record TextStep (may : ℕ → State → Parsed → Bool) (words : ℕ) (s : State) (line : List ℕ) (quits : Bool) (replies : List (List ℕ))
+    (new : State) : Type 0 where
   pub reading : Reading
   pub reads : IsReadAs s.names line reading
   pub follows : ReadingStep may words s reading quits replies new

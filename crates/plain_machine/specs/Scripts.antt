@@ -6,8 +6,10 @@ use Rattle.plain_term.specs.Tree.{Tree as tree}
 use Rattle.plain_term.specs.Tree.{Trees as trees}
 use Rattle.script_grammar.specs.Written.{Written, Term}
 use Rattle.script_grammar.specs.Written.Written.{OfProcess, OfSystem}
-use Rattle.script_grammar.specs.Written.Term.{Bin, Tuple, Listed}
+use Rattle.script_grammar.specs.Written.Term.{Atom, Bin, Held, Tuple, Listed}
 use Rattle.script_grammar.specs.Written.Terms.{end, ◌▹◌}
+use Rattle.script_grammar.specs.declared.command.To.{To}
+use Rattle.script_grammar.specs.declared.command.To.TheVariants as to
 use Rattle.script_grammar.specs.declared.word.Word.TheVariants as word
 use Rattle.script_grammar.specs.declared.word.SysWord.TheVariants as sys
 use Rattle.script_grammar.specs.Names.{parsed_of}
@@ -48,6 +50,15 @@ print r = OfProcess 1 word.Print (r, tt)
 abbrev pub flat : ℕ → Written
 flat r = OfProcess 1 word.Flat (r, tt)
 
+abbrev pub send : ℕ → To → Written
+send r receiver = OfProcess 1 word.Send (r, (receiver, tt))
+
+abbrev pub recv : ℕ → Written
+recv r = OfProcess 1 word.Recv (r, tt)
+
+abbrev pub queue : Written
+queue = OfProcess 1 word.Queue tt
+
 abbrev pub sweep : Written
 sweep = OfSystem sys.Sweep tt
 
@@ -73,7 +84,11 @@ part-of_part = refl
 
 -- Process 1 holds a part of the one shared binary, and all was swept.
 abbrev pub part_held : State
-part_held = record first_state { processes = with_register 1 (tree.Part (tree.Shared 1) 98 2) (fresh_process 1) ∷ []; shared = replicate 100 9 ∷ []; swept = true }
+part_held = record first_state {
+  processes = with_register 1 (tree.Part (tree.Shared 1) 98 2) (fresh_process 1) ∷ [];
+  shared = replicate 100 9 ∷ [];
+  swept = true;
+}
 
 one-is-one : 1 ≤ 1
 one-is-one = suc-le-suc zero-le
@@ -103,7 +118,8 @@ set-binaries = refl
 
 -- A fun with two registers as its environment.
 pub fun-and_env : answers_to first_state (
-    OfProcess 1 word.Fun (0, (codes "f", (2, (0 ∷ 1 ∷ [], tt)))) ∷ print 0 ∷ flat 0 ∷ OfProcess 1 word.Env (1, (2, (0, tt))) ∷ OfProcess 1 word.Env (1, (3, (0, tt)))
+    OfProcess 1 word.Fun (0, (codes "f", (2, (0 ∷ 1 ∷ [], tt)))) ∷ print 0 ∷ flat 0
+    ∷ OfProcess 1 word.Env (1, (2, (0, tt))) ∷ OfProcess 1 word.Env (1, (3, (0, tt)))
     ∷ OfProcess 1 word.Fun (2, (codes "g", (256, ([], tt)))) ∷ sweep ∷ counts ∷ [])
     ≡ codes "ok" ∷ codes "#Fun<f/2>" ∷ codes "8" ∷ codes "ok" ∷ codes "error badarg" ∷ codes "error badarg" ∷ codes "ok" ∷ codes "a map" ∷ []
 unfolding digits
@@ -115,3 +131,22 @@ pub counts-text : counts_text (codes "f" ∷ codes "a" ∷ []) (record { id = 1;
     ≡ codes "bins [1:2,12:1] funs [a/3:1,f/2:4]"
 unfolding digits
 counts-text = refl
+
+-- A process that does not live takes no message, and an empty queue gives none.
+pub sent-to_none : answers_to first_state (send 0 (to.Number 99) ∷ OfProcess 99 word.Print (0, tt) ∷ recv 0 ∷ OfProcess 1 word.Pop (0, tt) ∷ queue ∷ [])
+    ≡ codes "ok" ∷ codes "error noproc" ∷ codes "error empty" ∷ codes "error empty" ∷ codes "[]" ∷ []
+sent-to_none = refl
+
+-- A message is the tree that was sent, and a register that holds no pid names no process.
+pub sent-to_itself : answers_to first_state (set 0 (Tuple (Atom (codes "x") ▹ end)) ∷ set 1 (Tuple (Held 0 ▹ Held 0 ▹ end)) ∷ send 1 (to.Number 1) ∷ recv 2
+    ∷ OfProcess 1 word.Eq (1, (2, tt)) ∷ flat 2 ∷ send 1 (to.Held (record { 0 = 0 })) ∷ [])
+    ≡ codes "ok" ∷ codes "ok" ∷ codes "ok" ∷ codes "ok" ∷ codes "true" ∷ codes "7" ∷ codes "error badarg" ∷ []
+unfolding digits
+sent-to_itself = refl
+
+-- Messages wait in the order of sending and leave in it; each stays what it was when it was sent.
+pub messages-in_order : answers_to first_state (set 0 (Atom (codes "a")) ∷ send 0 (to.Number 1) ∷ set 0 (Tuple (Held 0 ▹ end)) ∷ OfProcess 1 word.Own (1, tt)
+    ∷ send 0 (to.Held (record { 0 = 1 })) ∷ queue ∷ recv 0 ∷ print 0 ∷ queue ∷ recv 0 ∷ print 0 ∷ queue ∷ [])
+    ≡ codes "ok" ∷ codes "ok" ∷ codes "ok" ∷ codes "ok" ∷ codes "ok" ∷ codes "[a,{a}]"
+    ∷ codes "ok" ∷ codes "a" ∷ codes "[{a}]" ∷ codes "ok" ∷ codes "{a}" ∷ codes "[]" ∷ []
+messages-in_order = refl

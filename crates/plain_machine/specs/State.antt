@@ -59,6 +59,14 @@ live_numbers s = map (λ p. p.number) s.processes
 abbrev pub with_process : Process → State → State
 with_process p s = record s { processes = map (λ q. if q.number == p.number then p else q) s.processes }
 
+-- The tree stands last in the queue of the process, if it has this number.
+abbrev pub with_queued : ℕ → Tree → Process → Process
+with_queued n t q = if q.number == n then record q { queue = q.queue ++ t ∷ [] } else q
+
+-- The tree stands last in the queue of the live process with this number; where none lives nothing changes.
+abbrev pub with_message : ℕ → Tree → State → State
+with_message n t s = record s { processes = map (with_queued n t) s.processes }
+
 -- The process with this number is gone.
 abbrev pub without_process : ℕ → State → State
 without_process number s = record s { processes = filter (λ p. not (p.number == number)) s.processes }

@@ -1,5 +1,5 @@
 -- What one command makes of a state, and what is answered.
-use Rattle.std.specs.Prelude.{ℕ, ◌+◌, Bool, true, false, ◌||◌, nat_le, nat_lt, List, [], ◌∷◌, ◌++◌, length, replicate, codes, decimal, Option, Some, None, Result, Ok, Err}
+use Rattle.std.specs.Prelude.{ℕ, ◌+◌, Bool, true, false, ◌||◌, nat_le, nat_lt, List, [], ◌∷◌, ◌++◌, length, map, replicate, codes, decimal, Option, Some, None, Result, Ok, Err}
 use Rattle.std.specs.declared.cmp.Ordering.{Ordering}
 use Rattle.std.specs.declared.cmp.Ordering.TheVariants.{Less, Equal, Greater}
 use Rattle.plain_term.specs.Tree.{Tree, Trees, Pairs}
@@ -11,9 +11,10 @@ use Rattle.plain_term.specs.Text.{text, numbers_text}
 use Rattle.script_grammar.specs.declared.command.Command.{Command}
 use Rattle.script_grammar.specs.declared.command.Command.TheVariants.{Nothing, Process, System}
 use Rattle.script_grammar.specs.declared.command.Verb.{Verb}
-use Rattle.script_grammar.specs.declared.command.Verb.TheVariants.{Set, Choose, MapPut, Fill, Fun as MakeFun, Ref, Own, Repeat, Push, Pop, Queue, Print, Eq, Cmp, Flat, Gc, Info, Heap, Exit}
+use Rattle.script_grammar.specs.declared.command.Verb.TheVariants.{Set, Choose, MapPut, Fill, Fun as MakeFun, Ref, Own, Repeat, Push, Pop, Send, Recv, Queue, Print, Eq, Cmp, Flat, Gc, Info, Heap, Exit}
 use Rattle.script_grammar.specs.declared.command.Pick.{Pick}
 use Rattle.script_grammar.specs.declared.command.Shape.{Shape}
+use Rattle.script_grammar.specs.declared.command.To.{To}
 use Rattle.script_grammar.specs.declared.command.SysVerb.{SysVerb}
 use Rattle.script_grammar.specs.declared.command.SysVerb.TheVariants.{Spawn, Sweep, Counts, Dump, Procs, Quit}
 use Rattle.script_grammar.specs.declared.refusal.Refusal.{Refusal}
@@ -25,7 +26,9 @@ use Rattle.plain_machine.specs.Made.{tree_of, trees_of, bin_tree, with_pair, too
 use Rattle.plain_machine.specs.Flaws.{is_wide, is_big, flaw_of}
 use Rattle.plain_machine.specs.Parts.{picked, pairs_in, repeated}
 use Rattle.plain_machine.specs.declared.limits.TheConstants.{MOST_PROCESSES, MOST_PLACES, MOST_FILL, MOST_ARITY, MOST_BYTE}
-use Rattle.plain_machine.specs.State.{Process as Live, State, process_of, with_process, without_process, with_spawned, live_numbers, register, with_register}
+use Rattle.plain_machine.specs.Texts.{divided}
+use Rattle.plain_machine.specs.Tightness.{receiver}
+use Rattle.plain_machine.specs.State.{Process as Live, State, process_of, with_process, with_message, without_process, with_spawned, live_numbers, register, with_register}
 
 -- What a command comes to: a new state and the reply; a refusal that leaves the state; or a map of the store
 -- as the reply, which leaves the state too.
@@ -174,6 +177,26 @@ pop_from (t ∷ stack) s p q r = does p (with_process (record (with_register r t
 abbrev pub pop_step : State → Parsed → Live → ℕ → Outcome
 pop_step s p q r = pop_from q.stack s p q r
 
+-- `send`: the register's tree goes into a queue, last, where it is within the walk limit; the operand is a number or a pid.
+abbrev pub send_within : Bool → ℕ → Tree → State → Parsed → Outcome
+send_within true n t s p = Refused Big
+send_within false n t s p = does p (with_message n t s)
+
+abbrev pub send_to : Option ℕ → Tree → State → Parsed → Outcome
+send_to None t s p = Refused BadArg
+send_to (Some n) t s p = send_within (is_beyond s.shared t) n t s p
+
+abbrev pub send_step : State → Parsed → Live → ℕ → To → Outcome
+send_step s p q r to = send_to (receiver to q) (register r q) s p
+
+-- `recv`: the register holds the first message, which leaves the queue.
+abbrev pub recv_from : List Tree → State → Parsed → Live → ℕ → Outcome
+recv_from [] s p q r = Refused Empty
+recv_from (t ∷ queue) s p q r = does p (with_process (record (with_register r t q) { queue = queue }) s)
+
+abbrev pub recv_step : State → Parsed → Live → ℕ → Outcome
+recv_step s p q r = recv_from q.queue s p q r
+
 -- `gc` and `sys sweep`: every tree stays.
 abbrev pub collect_step : State → Parsed → Outcome
 collect_step s p = does p s
@@ -215,12 +238,17 @@ order_text s p tell t u = unless_beyond (is_beyond s.shared t || is_beyond s.sha
 abbrev pub flat_text : State → Tree → Result (List ℕ) Refusal
 flat_text s t = unless_beyond (is_beyond s.shared t) (decimal (flat t))
 
+-- `queue`: the texts of the messages in order.
+abbrev pub queue_text : State → Parsed → Live → List ℕ
+queue_text s p q = codes "[" ++ (divided (map (text p.names s.shared) q.queue) ++ codes "]")
+
 -- What the verbs that print tell of a live process. A verb that is not built is none of the grammar.
 abbrev pub told_of : State → Parsed → Live → Verb → Result (List ℕ) Refusal
 told_of s p q (Print r) = print_text s p (register r.0 q)
 told_of s p q (Eq a b) = order_text s p eq_text (register a.0 q) (register b.0 q)
 told_of s p q (Cmp a b) = order_text s p cmp_text (register a.0 q) (register b.0 q)
 told_of s p q (Flat r) = flat_text s (register r.0 q)
+told_of s p q Queue = Ok (queue_text s p q)
 told_of s p q _ = Err Syntax
 
 -- A verb at a live process: what changes something has its row here, all else tells.
@@ -235,6 +263,8 @@ by_verb s p q (Own r) = self_step s p q r.0
 by_verb s p q (Repeat r shape n m) = repeat_step s p q r.0 shape n m.0
 by_verb s p q (Push r) = push_step s p q r.0
 by_verb s p q (Pop r) = pop_step s p q r.0
+by_verb s p q (Send r to) = send_step s p q r.0 to
+by_verb s p q (Recv r) = recv_step s p q r.0
 by_verb s p q (Gc depth) = collect_step s p
 by_verb s p q Exit = exit_step s p q
 by_verb s p q verb = tells s (told_of s p q verb)

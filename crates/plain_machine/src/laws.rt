@@ -1,3 +1,4 @@
+// The laws of steps and of runs.
 ghost use Rattle.script_grammar.specs.Grammar.{SaysOne};
 ghost use Rattle.plain_machine.specs.State.{first_state};
 ghost use Rattle.plain_machine.specs.Laws.{HoldsProper, IsNumbered, NumbersAreFresh, PrintingLeaves, RefusalsLeave, RepliesDetermine, RunsJoin, TreesStayProper};

@@ -1,3 +1,4 @@
+// What a machine may have at most.
 /// The most processes that live at a time.
 pub const MOST_PROCESSES: usize = 1024;
 

@@ -1,7 +1,7 @@
 -- What the calls of a space give, in the words of the plain machine.
 use Rattle.std.specs.Prelude.{ℕ, ◌≡◌, ◌+◌, ◌^◌, ◌<◌, ◌≤◌, ◌⊎◌, Bool, true, List, [], ◌∷◌, length, map, Result, Ok, Err, All}
 use Rattle.line_io.specs.declared.reader.TheConstants.{LONGEST_LINE}
-use Rattle.line_io.specs.Sink.{Grew, GrewInPart}
+use Rattle.line_io.specs.Sink.{Grew, GrewInPart, Writes}
 use Rattle.script_grammar.specs.declared.limits.TheConstants.{REGISTERS, LEVELS, MOST_HELD}
 use Rattle.plain_term.specs.declared.item.Item.{Item}
 use Rattle.plain_term.specs.declared.item.Item.TheVariants as item
@@ -113,6 +113,12 @@ Prints (Refused r) wrote old new (Ok a) = ⊥
 Prints (Refused r) wrote old new (Err Big) = r ≡ TooBig
 Prints (Refused r) wrote old new (Err Fault) = ⊥
 Prints Mapped wrote old new r = ⊥
+
+-- The reply of the machine's step, which is never refused, was written, or a proper front of it at a fault.
+abbrev pub WritesReply : {A E K : Type 0} → Outcome → (wrote : K → List ℕ → Type 0) (old new : K) → Result A E → Type 0
+WritesReply (Accepted next reply) wrote old new r = Writes wrote old new r reply
+WritesReply (Refused e) wrote old new r = ⊥
+WritesReply Mapped wrote old new r = ⊥
 
 -- A value that is told: the reply is its text, or the call is refused as the machine's step is.
 abbrev pub Tells : {A : Type 0} → Outcome → (text : A → List ℕ) → Result A Refusal → Type 0

@@ -1,3 +1,4 @@
+// The trait of spaces: a call for each verb.
 ghost use Rattle.std.specs.Prelude.{
   ◌≡◌,
   ℕ,
@@ -26,17 +27,18 @@ ghost use Rattle.script_grammar.specs.declared.command.Command.{Command};
 ghost use Rattle.script_grammar.specs.declared.command.Command.TheVariants.{Process, System};
 ghost use Rattle.script_grammar.specs.declared.command.Verb.TheVariants as verb;
 ghost use Rattle.script_grammar.specs.declared.command.SysVerb.TheVariants as sysverb;
+ghost use Rattle.script_grammar.specs.Grammar.{MayReceive};
 ghost use Rattle.script_grammar.specs.Names.{Parsed, IsRegister, PicksRegister};
 ghost use Rattle.script_grammar.specs.Written.{Term, Terms};
 ghost use Rattle.plain_term.specs.Measures.{nodes};
 ghost use Rattle.plain_machine.specs.State.{Process as Live, State, HasNames, is_live, live_numbers, process_of, register};
 ghost use Rattle.plain_machine.specs.Step.{step, eq_text, cmp_text};
 ghost use Rattle.plain_machine.specs.Maps.{IsMapOf};
-ghost use Rattle.space_api.specs.Calls.{AreRising, Becomes, Follows, HasEnv, HasTerm, IsEnv, IsTerm, KeepsBooks, Passes, Prints, Tells, most_calls, one_term, said};
+ghost use Rattle.space_api.specs.Calls.{AreRising, Becomes, Follows, HasEnv, HasTerm, IsEnv, IsTerm, KeepsBooks, Passes, Prints, Tells, WritesReply, most_calls, one_term, said};
 
 use atom_names::AtomNames;
 use line_io::{Sink, SinkFault};
-use plain_machine::{Depth, Measure, Pick, Refusal, Reg, Shape};
+use plain_machine::{Depth, Measure, Pick, Refusal, Reg, Shape, To};
 use plain_term::Item;
 use std::cmp::Ordering;
 
@@ -240,6 +242,27 @@ pub trait Space {
             → Follows (step s (said (Process seat.pid (verb.Pop r)) terms names)) s result (stands self.new) }
         ensures books { KeepsBooks words calls named self.old self.new (named self.old) };
 
+    /// Puts a copy of the register's term last into the queue of the receiver; nothing changes where the receiver does not live.
+    /// Refused by `BadArg` where the receiver is a register that holds no pid, `Big` where the term is beyond the walk limit, and
+    /// for want of space.
+    fn send(&mut self, seat: Seat, s: Reg, to: To) -> Result<(), Refusal>
+        requires sits { sits self.old seat }
+        requires register { IsRegister s }
+        requires receiver { MayReceive to }
+        requires calls { calls self.old < most_calls }
+        ensures becomes { (state : State) (terms : Terms) (names : List (List ℕ)) → stands self.old state → HasNames state names
+            → Becomes may (words self.old) state (said (Process seat.pid (verb.Send s to)) terms names) result (stands self.new) }
+        ensures books { KeepsBooks words calls named self.old self.new (named self.old) };
+
+    /// Takes the first message off the queue of the process into the register. Refused by `Empty`.
+    fn receive(&mut self, seat: Seat, r: Reg) -> Result<(), Refusal>
+        requires sits { sits self.old seat }
+        requires register { IsRegister r }
+        requires calls { calls self.old < most_calls }
+        ensures follows { (s : State) (terms : Terms) (names : List (List ℕ)) → stands self.old s → HasNames s names
+            → Follows (step s (said (Process seat.pid (verb.Recv r)) terms names)) s result (stands self.new) }
+        ensures books { KeepsBooks words calls named self.old self.new (named self.old) };
+
     /// Collects the process, to this depth.
     fn collect(&mut self, seat: Seat, depth: Depth)
         requires sits { sits self.old seat }
@@ -292,6 +315,16 @@ pub trait Space {
         ensures big { result ≡ Err Stop.Big → sink.new ≡ sink.old }
         ensures later { K.faults sink.old ≤ K.faults sink.new }
         ensures rose { result ≡ Err Stop.Fault → Rose (K.faults sink.old) (K.faults sink.new) }
+        ensures told { OnOk result (K.faults sink.new ≡ K.faults sink.old) };
+
+    /// Writes the texts of the messages that wait for the process, in order.
+    fn queue<K: Sink>(&self, names: &AtomNames, seat: Seat, sink: &mut K) -> Result<(), SinkFault>
+        requires sits { sits self.now seat }
+        requires named { named self.now ≤ length names.now }
+        ensures writes { (state : State) (terms : Terms) → stands self.now state
+            → WritesReply (step state (said (Process seat.pid verb.Queue) terms names.now)) K.wrote sink.old sink.new result }
+        ensures later { K.faults sink.old ≤ K.faults sink.new }
+        ensures rose { OnErr result (Rose (K.faults sink.old) (K.faults sink.new)) }
         ensures told { OnOk result (K.faults sink.new ≡ K.faults sink.old) };
 
     /// Writes the text for `counts`: every record of the store with its count.

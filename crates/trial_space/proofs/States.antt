@@ -2,7 +2,7 @@
 use Rattle.std.proofs.Common.{◌≡◌, ℕ, ◌+◌, ◌<◌, ◌≤◌, ◌==◌, ◌||◌, Bool, true, false, nat_lt, List, [], ◌∷◌, ◌++◌, length, replicate, codes, append-nil, decimal}
 use Rattle.std.proofs.Common.{map, get_or, set, Option, None, Some, Ok, Err, if◌then◌else◌, refl, sym, ◌∙◌, ap, subst, arith, inl, inr}
 use Rattle.std.specs.Prelude.{flat_map}
-use Rattle.std.specs.List.{find}
+use Rattle.std.specs.List.{find, list_any}
 use Rattle.std.specs.declared.cmp.Ordering.{Ordering}
 use Rattle.std.proofs.lemmas.Bool.Decides.{nat_tests}
 use Rattle.std.proofs.lemmas.List.{map-set}
@@ -19,7 +19,7 @@ use Rattle.script_grammar.specs.declared.command.Pick.{Pick}
 use Rattle.script_grammar.specs.declared.command.Shape.{Shape}
 use Rattle.script_grammar.specs.declared.refusal.Refusal.{Refusal}
 use Rattle.plain_machine.specs.declared.limits.TheConstants.{MOST_PLACES, MOST_FILL, MOST_ARITY, MOST_BYTE}
-use Rattle.plain_machine.specs.declared.costs.TheConstants.{COUNTED_COST}
+use Rattle.plain_machine.specs.declared.costs.TheConstants.{COUNTED_COST, MESSAGE_COST}
 use Rattle.plain_machine.specs.Maps.{CountsOf, AllIn}
 use Rattle.line_io.specs.declared.reader.TheConstants.{LONGEST_LINE}
 use Rattle.plain_machine.specs.Made.{tree_of}
@@ -30,12 +30,13 @@ use Rattle.script_grammar.specs.declared.command.Verb.{Verb}
 use Rattle.script_grammar.specs.declared.command.Verb.TheVariants as verb
 use Rattle.script_grammar.specs.declared.command.Depth.{Depth}
 use Rattle.script_grammar.specs.declared.command.Reg.{Reg}
+use Rattle.script_grammar.specs.declared.command.To.{To}
 use Rattle.script_grammar.specs.declared.refusal.Refusal.TheVariants as refusal
 use Rattle.script_grammar.specs.Written.{Term, Terms, terms_len}
 use Rattle.script_grammar.specs.Names.{Parsed, items_of, held_terms}
-use Rattle.plain_machine.specs.State.{Process, Area, State, process_of, with_process, register, with_register}
-use Rattle.plain_machine.specs.Step.{Outcome, step, in_process, by_verb, settled, does, with_made, unless_flawed, choose, fill_if, fun_if, env_of, put_pair, repeat_if, tells, unless_beyond, order_text, flat_text}
-use Rattle.plain_machine.specs.Tightness.{grow, process_words, build_words, repeat_words, fill_words, ids_in, funs_in, held_trees, living_trees}
+use Rattle.plain_machine.specs.State.{Process, Area, State, is_live, process_of, with_process, with_queued, register, with_register}
+use Rattle.plain_machine.specs.Step.{Outcome, step, in_process, by_verb, settled, does, with_made, unless_flawed, choose, fill_if, fun_if, env_of, put_pair, repeat_if, send_within, send_to, tells, unless_beyond, order_text, flat_text}
+use Rattle.plain_machine.specs.Tightness.{grow, receiver, send_words, process_words, build_words, repeat_words, fill_words, ids_in, funs_in, held_trees, living_trees}
 use Rattle.plain_machine.specs.May.{gets_to_space}
 use Rattle.space_api.specs.declared.space.Seat.{Seat}
 use Rattle.space_api.specs.Calls.{Becomes, Follows, Passes, Tells, HasEnv, IsTerm, said, one_term}
@@ -138,7 +139,8 @@ module _ (alive : Bool) (items : List Item) (s : State) (seat : Seat) (h : Trial
       set-gets false true = refl
       set-gets false false = refl
 
-  pub build-holds : (r : Reg) (t : Term) (names : List (List ℕ)) (code : List Item) (d x : Item) → IsTerm names code t → length code ≤ LONGEST_LINE → x ≡ put_item items (get_or code 0 d) → weight code ≤ 1
+  pub build-holds : (r : Reg) (t : Term) (names : List (List ℕ)) (code : List Item) (d x : Item) → IsTerm names code t → length code ≤ LONGEST_LINE → x ≡ put_item items (get_or code 0 d)
+      → weight code ≤ 1
       → Becomes {A = Unit {0}} (λ words s p. gets_to_space p.command (step s p)) 0 s (said (OfProcess seat.pid (verb.Set r)) (one_term t) names) (Ok tt) (TrialStands alive (set items r.0 x))
   build-holds r t names code d x is few put light =
       let none : build_words t ≡ 0 = omega (arith, weight-term names t (code-few names t code is few), ap weight is.items) in
@@ -199,7 +201,8 @@ module _ (alive : Bool) (items : List Item) (s : State) (seat : Seat) (h : Trial
       → Becomes {A = Unit {0}} (λ words s p. gets_to_space p.command (step s p)) 0 s (said (OfProcess seat.pid (verb.Fun r name arity)) terms names) (Err (refusal.NoSpace n)) (TrialStands alive items)
   fun-lacks r name arity n env terms names e count few =
       lacks (verb.Fun r name arity) terms names n
-      (omega (arith, count, ap terms_len e.written, held-count e.registers, ap (λ (xs : List Item). length xs) e.items, held-items e.registers)) (gets (nat_lt MOST_ARITY arity) (lt-false MOST_ARITY arity few))
+      (omega (arith, count, ap terms_len e.written, held-count e.registers, ap (λ (xs : List Item). length xs) e.items, held-items e.registers))
+      (gets (nat_lt MOST_ARITY arity) (lt-false MOST_ARITY arity few))
     where
       gets : (b : Bool) → b ≡ false → gets_to_space (OfProcess seat.pid (verb.Fun r name arity))
           (fun_if b (Fun name arity (one_process items).number (env_of s (said (OfProcess seat.pid (verb.Fun r name arity)) terms names) (one_process items)))
@@ -245,6 +248,58 @@ module _ (alive : Bool) (items : List Item) (s : State) (seat : Seat) (h : Trial
           (repeat_if b (repeated shape n (register m.0 (one_process items))) s (said (OfProcess seat.pid (verb.Repeat r shape n m)) terms names) (one_process items) r.0) ≡ true
       gets true e = absurd (cc)
       gets false e = refl
+
+  -- `send`.
+  pub send-refused : (m : Reg) (to : To) (terms : Terms) (names : List (List ℕ)) → receiver to (one_process items) ≡ None
+      → Follows {A = Unit {0}} (step s (said (OfProcess seat.pid (verb.Send m to)) terms names)) s (Err refusal.BadArg) (TrialStands alive items)
+  send-refused m to terms names none =
+      let p : Parsed = said (OfProcess seat.pid (verb.Send m to)) terms names in
+      let P : Option ℕ → Type 0 = λ o. Follows {A = Unit {0}} (send_to o (register m.0 (one_process items)) s p) s (Err refusal.BadArg) (TrialStands alive items) in
+      at-process (λ o. Follows {A = Unit {0}} o s (Err refusal.BadArg) (TrialStands alive items)) p (verb.Send m to) (subst P (sym none) (refl, h))
+
+  -- No other process lives that could get it.
+  pub send-lost : (m : Reg) (to : To) (n : ℕ) (terms : Terms) (names : List (List ℕ)) → receiver to (one_process items) ≡ Some n → (n ≡ seat.pid → ⊥)
+      → Follows {A = Unit {0}} (step s (said (OfProcess seat.pid (verb.Send m to)) terms names)) s (Ok tt) (TrialStands alive items)
+  send-lost m to n terms names goes other =
+      let p : Parsed = said (OfProcess seat.pid (verb.Send m to)) terms names in
+      let x : Item = get_or items m.0 item.Nil in
+      let F : Outcome → Type 0 = λ o. Follows {A = Unit {0}} o s (Ok tt) (TrialStands alive items) in
+      let P : Option ℕ → Type 0 = λ o. F (send_to o (register m.0 (one_process items)) s p) in
+      let Q : Tree → Type 0 = λ t. F (send_to (Some n) t s p) in
+      let R : Bool → Type 0 = λ b. F (send_within b n (alone x) s p) in
+      at-process F p (verb.Send m to) (subst P (sym goes) (subst Q (sym (in-register m.0)) (subst R (sym (near s.shared x)) (record {
+        processes = same n (alone x) (not-first n seat.pid other l.first);
+        next = h.next;
+        shared = h.shared;
+        areas = h.areas;
+      }))))
+    where
+      not-first : (n k : ℕ) → (n ≡ k → ⊥) → k ≡ 1 → (1 == n) ≡ false
+      not-first n k e f = grind (arith, nat_tests, e, f)
+
+      stays : (b : Bool) (t : Tree) → b ≡ false
+          → (if b then record (one_process items) { queue = [] ++ t ∷ [] } else one_process items) ∷ [] ≡ one_process items ∷ []
+      stays true t e = absurd (cc)
+      stays false t e = refl
+
+      same : (n : ℕ) (t : Tree) → (1 == n) ≡ false → map (with_queued n t) s.processes ≡ processes_of alive items
+      same n t e = ap (map (with_queued n t)) only ∙ (stays (1 == n) t e ∙ ap (λ z. processes_of z items) (sym l.lives))
+
+  pub send-lacks : (m : Reg) (to : To) (n : ℕ) (terms : Terms) (names : List (List ℕ)) → receiver to (one_process items) ≡ Some 1 → n ≡ MESSAGE_COST + flat (alone (get_or items m.0 item.Nil))
+      → Becomes {A = Unit {0}} (λ words s p. gets_to_space p.command (step s p)) 0 s (said (OfProcess seat.pid (verb.Send m to)) terms names)
+      (Err (refusal.NoSpace n)) (TrialStands alive items)
+  send-lacks m to n terms names goes count =
+      let p : Parsed = said (OfProcess seat.pid (verb.Send m to)) terms names in
+      let x : Item = get_or items m.0 item.Nil in
+      let G : Outcome → Type 0 = λ o. gets_to_space (OfProcess seat.pid (verb.Send m to)) o ≡ true in
+      let P : Option ℕ → Type 0 = λ o. G (send_to o (register m.0 (one_process items)) s p) in
+      let Q : Tree → Type 0 = λ t. G (send_to (Some 1) t s p) in
+      let R : Bool → Type 0 = λ b. G (send_within b 1 (alone x) s p) in
+      let alive : is_live 1 s ≡ true = ap (list_any (λ p. p.number == 1)) only in
+      let asked : send_words (receiver to (one_process items)) s (register m.0 (one_process items)) ≡ n =
+      ap (λ o. send_words o s (register m.0 (one_process items))) goes
+      ∙ (ap (λ b. if b then MESSAGE_COST + flat (register m.0 (one_process items)) else 0) alive ∙ (ap (λ t. MESSAGE_COST + flat t) (in-register m.0) ∙ sym count)) in
+      lacks (verb.Send m to) terms names n asked (subst P (sym goes) (subst Q (sym (in-register m.0)) (subst R (sym (near s.shared x)) refl)))
 
   -- `flat`.
   pub flat-told : (m : Reg) (terms : Terms) (names : List (List ℕ)) (n : ℕ) → n ≡ flat (alone (get_or items m.0 item.Nil))

@@ -2,8 +2,10 @@
 ghost use Rattle.std.specs.Prelude.{◌≡◌, get_or, length};
 ghost use Rattle.plain_term.specs.declared.item.Item.TheVariants.{Nil};
 ghost use Rattle.script_grammar.specs.Names.{IsRegister};
+ghost use Rattle.script_grammar.specs.Grammar.{MayReceive};
 ghost use Rattle.plain_machine.specs.State.{first_state};
-ghost use Rattle.trial_space.specs.Items.{NamesRegister, put_item};
+ghost use Rattle.plain_machine.specs.Tightness.{number_in, receiver};
+ghost use Rattle.trial_space.specs.Items.{NamesRegister, alone, one_process, put_item};
 
 use crate::comparing::item_order;
 use crate::printing::print_item;
@@ -11,8 +13,8 @@ use crate::weight::{filled_words, flat_alone, many_words, weigh};
 use atom_names::AtomNames;
 use line_io::{Sink, SinkFault, put_all};
 use plain_machine::{
-    COUNTED_COST, Depth, MOST_ARITY, MOST_BYTE, MOST_FILL, MOST_PLACES, Measure, PLACE_COST,
-    PROCESS_COST, Pick, Refusal, Reg, Shape,
+    COUNTED_COST, Depth, MESSAGE_COST, MOST_ARITY, MOST_BYTE, MOST_FILL, MOST_PLACES, Measure,
+    PLACE_COST, PROCESS_COST, Pick, Refusal, Reg, Shape, To,
 };
 use plain_term::Item;
 use script_grammar::REGISTERS;
@@ -46,6 +48,16 @@ impl TrialSpace {
     }
 }
 
+// The process that a pid names; no other item names one.
+fn number_of(item: Item) -> Option<u64>
+    ensures { result ≡ number_in (alone item) }
+{
+    match item {
+        Item::Pid(n) => Some(n),
+        _ => None,
+    }
+}
+
 // What the registers hold.
 impl TrialSpace {
     fn item(&self, r: Reg) -> Item
@@ -63,6 +75,17 @@ impl TrialSpace {
         match item {
             Item::Held(r) => self.item(Reg(r)),
             _ => item,
+        }
+    }
+
+    // The number that a message to this receiver is sent to.
+    fn receiver(&self, to: To) -> Option<u64>
+        requires { MayReceive to }
+        ensures { result ≡ receiver to (one_process self.now.registers) }
+    {
+        match to {
+            To::Number(n) => Some(n),
+            To::Held(r) => number_of(self.item(r)),
         }
     }
 }
@@ -199,6 +222,20 @@ impl Space for TrialSpace {
         Err(Refusal::Empty)
     }
 
+    fn send(&mut self, seat: Seat, s: Reg, to: To) -> Result<(), Refusal> {
+        let Some(n) = self.receiver(to) else {
+            return Err(Refusal::BadArg);
+        };
+        if n == seat.pid {
+            return Err(Refusal::NoSpace(MESSAGE_COST + flat_alone(self.item(s))));
+        }
+        Ok(())
+    }
+
+    fn receive(&mut self, seat: Seat, r: Reg) -> Result<(), Refusal> {
+        Err(Refusal::Empty)
+    }
+
     fn collect(&mut self, seat: Seat, depth: Depth) {}
 
     fn sweep_all(&mut self) {}
@@ -223,6 +260,10 @@ impl Space for TrialSpace {
             Ok(()) => Ok(()),
             Err(_) => Err(Stop::Fault),
         }
+    }
+
+    fn queue<K: Sink>(&self, names: &AtomNames, seat: Seat, sink: &mut K) -> Result<(), SinkFault> {
+        put_all(sink, b"[]")
     }
 
     fn counts<K: Sink>(&self, names: &AtomNames, sink: &mut K) -> Result<(), SinkFault> {

@@ -1,3 +1,4 @@
+// Scripts served at the trial space.
 use crate::TrialSpace;
 use atom_names::AtomNames;
 use engine::{Machine, Status, Stepped, serve, step};
@@ -25,6 +26,13 @@ const BINARIES: &[u8] =
 
 const LISTED: &[u8] =
     b"error nospace 3\nerror nospace 4\nerror nospace 10\nerror nospace 19\nerror badarg\nerror badarg\nerror badarg\nerror nospace 12\nerror badarg\nerror badarg\nbins [] funs []\nok\nbins [] funs []\n";
+
+// Messages: the process has no words for its own, and no other takes one.
+const MESSAGES: &[u8] =
+    b"1 send 0 1\n1 send 0 2\n1 send 0 $0\n1 self 1\n1 send 0 $1\n1 set 1 <0.3.0>\n1 send 0 $1\n1 recv 0\n1 queue\n";
+
+const SENT: &[u8] =
+    b"error nospace 8\nok\nerror badarg\nok\nerror nospace 8\nok\nok\nerror empty\n[]\n";
 
 const TOLD: &[u8] =
     b"ok\nok\na\ntrue\nok\nfalse\nlt\ngt\neq\nok\nlt\ngt\nok\nok\nlt\n0\nerror badarg\nerror badarg\nerror badarg\nerror badarg\nerror nospace 3\nerror nospace 3\nerror nospace 4\nerror badarg\nerror nospace 2\nerror nospace 2\nerror nospace 9\na\n";
@@ -61,6 +69,12 @@ fn what_needs_no_word_of_the_verbs_on_terms_is_done(rt: HostRuntime) -> Result<(
 #[test]
 fn binaries_and_funs_find_no_words_and_none_is_counted(rt: HostRuntime) -> Result<(), Fail> {
     assert!(rt; serves(rt.alloc(), BINARIES, LISTED)?);
+    Ok(())
+}
+
+#[test]
+fn a_message_finds_no_words_and_none_waits(rt: HostRuntime) -> Result<(), Fail> {
+    assert!(rt; serves(rt.alloc(), MESSAGES, SENT)?);
     Ok(())
 }
 

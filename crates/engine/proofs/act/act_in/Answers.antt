@@ -1,6 +1,6 @@
 use Rattle.std.proofs.Common.{refl, sym, ◌∙◌}
 use Rattle.script_grammar.specs.declared.command.Verb.TheVariants.{Push, Gc, Exit}
-use Rattle.engine.proofs.Acting.{does-same, becomes-does, passes-does, pop-does, told-does, can-tell}
+use Rattle.engine.proofs.Acting.{does-same, becomes-does, passes-does, pop-does, recv-does, send-does, told-does, can-tell}
 use Rattle.engine.proofs.act.act_in.Goals as goal
 
 pub returns-in-Push-clause-acts : goal.returns-in-Push-clause-acts
@@ -10,6 +10,14 @@ returns-in-Push-clause-acts g c = does-same _ _ _ _ _ _ _ _ _ c.in-Push.is
 pub returns-in-Pop-clause-acts : goal.returns-in-Pop-clause-acts
 returns-in-Pop-clause-acts g c = does-same _ _ _ _ _ _ _ _ _ c.in-Pop.is
     (pop-does _ _ _ _ _ _ _ c.in-Pop.r c.pop.result c.done-in-Pop.ensures (λ s terms h m. c.pop.ensures.follows s terms c.args.names.now h m))
+
+pub returns-in-Send-clause-acts : goal.returns-in-Send-clause-acts
+returns-in-Send-clause-acts g c = does-same _ _ _ _ _ _ _ _ _ c.in-Send.is
+    (send-does _ _ _ _ _ _ _ c.in-Send.s c.in-Send.to c.send.result c.done-in-Send.ensures (λ s terms h m. c.send.ensures.becomes s terms c.args.names.now h m))
+
+pub returns-in-Recv-clause-acts : goal.returns-in-Recv-clause-acts
+returns-in-Recv-clause-acts g c = does-same _ _ _ _ _ _ _ _ _ c.in-Recv.is
+    (recv-does _ _ _ _ _ _ _ c.in-Recv.r c.receive.result c.done-in-Recv.ensures (λ s terms h m. c.receive.ensures.follows s terms c.args.names.now h m))
 
 pub returns-in-Gc-clause-acts : goal.returns-in-Gc-clause-acts
 returns-in-Gc-clause-acts g c = does-same _ _ _ _ _ _ _ _ _ c.in-Gc.is
@@ -24,6 +32,8 @@ returns-in_default-clause-acts g c = told-does _ c.args.seat _ _ _ c.args.verb (
   makes = sym c.makes_term.ensures ∙ c.if-makes_term.false;
   push = c.in_default.not-Push;
   pop = c.in_default.not-Pop;
+  send = c.in_default.not-Send;
+  recv = c.in_default.not-Recv;
   gc = c.in_default.not-Gc;
   exit = c.in_default.not-Exit;
 }))
@@ -35,6 +45,8 @@ returns-in_default-clause-can g c = (
     makes = sym c.makes_term.ensures ∙ c.if-makes_term.false;
     push = c.in_default.not-Push;
     pop = c.in_default.not-Pop;
+    send = c.in_default.not-Send;
+    recv = c.in_default.not-Recv;
     gc = c.in_default.not-Gc;
     exit = c.in_default.not-Exit;
   }),

@@ -25,7 +25,8 @@ returns-in-Fun-clause-acts g c = does-same _ _ _ _ _ _ _ _ _ c.in-Fun.is
 
 pub returns-in-Ref-clause-acts : goal.returns-in-Ref-clause-acts
 returns-in-Ref-clause-acts g c = does-same _ _ _ _ _ _ _ _ _ c.in-Ref.is
-    (becomes-does _ _ _ _ _ _ _ _ (Ref c.in-Ref.r) c.make_ref.result c.done-in-Ref.ensures refl (λ s terms q a. (refl, refl, refl)) (λ s terms h m. c.make_ref.ensures.becomes s terms c.args.names.now h m))
+    (becomes-does _ _ _ _ _ _ _ _ (Ref c.in-Ref.r) c.make_ref.result c.done-in-Ref.ensures refl (λ s terms q a. (refl, refl, refl))
+    (λ s terms h m. c.make_ref.ensures.becomes s terms c.args.names.now h m))
 
 pub returns-in-Repeat-clause-acts : goal.returns-in-Repeat-clause-acts
 returns-in-Repeat-clause-acts g c = does-same _ _ _ _ _ _ _ _ _ c.in-Repeat.is
