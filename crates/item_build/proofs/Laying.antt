@@ -366,8 +366,12 @@ module _ (c : ℕ → ℕ → Bool) (shared : List (List ℕ)) (top n size rec l
         nexts = λ q h. elim (tells q NEXT h) [
           | inl old ↦ inl old.0
           | inr (inl inner) ↦ inr (0, (omega arith, omega (arith, a, inner.0, holder-next (q - top) inner.1.1)))
-          | inr (inr inner) ↦ absurd (elim (roles-of-record (q - rec)) [ inl count ↦ omega (arith, count, inner.1.1) | inr (inl other) ↦ omega (arith, other, inner.1.1) | inr (inr first) ↦
-              omega (arith, first, inner.1.1) ])
+          | inr (inr inner) ↦ absurd (elim (roles-of-record (q - rec)) [
+            | inl count ↦ omega (arith, count, inner.1.1)
+            | inr (inl other) ↦ omega (arith, other, inner.1.1)
+            | inr (inr first) ↦
+                omega (arith, first, inner.1.1)
+          ])
         ];
         records = λ v h. elim (tells v RECORD_FIRST h) [
           | inl old ↦ inl old.0

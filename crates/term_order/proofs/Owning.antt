@@ -217,7 +217,7 @@ own-len names shared a b e =
     (ordering_then (bytes_order (name_in names a) (name_in names b)) (ordering_then (ordering_then (nat_cmp (first_in a) (first_in b))
     (ordering_then (nat_cmp (second_in a) (second_in b)) (nat_cmp (third_in a) (third_in b)))) (bytes_order (bytes_of shared a) (bytes_of shared b))))) e in
     let (int, names_then) = then-equals (int_cmp (int_in a) (int_in b)) (ordering_then (bytes_order (name_in names a) (name_in names b))
-        (ordering_then (ordering_then (nat_cmp (first_in a) (first_in b))
+    (ordering_then (ordering_then (nat_cmp (first_in a) (first_in b))
     (ordering_then (nat_cmp (second_in a) (second_in b)) (nat_cmp (third_in a) (third_in b)))) (bytes_order (bytes_of shared a) (bytes_of shared b)))) more in
     let (name, numbers_then) = then-equals (bytes_order (name_in names a) (name_in names b)) (ordering_then (ordering_then (nat_cmp (first_in a) (first_in b))
     (ordering_then (nat_cmp (second_in a) (second_in b)) (nat_cmp (third_in a) (third_in b)))) (bytes_order (bytes_of shared a) (bytes_of shared b))) names_then in
@@ -276,8 +276,15 @@ seen-as c names shared mem w (Bin xs) l (e, from) =
 seen-as c names shared mem w (Shared id) l (e, from) =
     subst (SeenAs names shared mem (Shared id)) (sym e) (record { rank = refl; int = refl; name = refl; first = refl; second = refl; third = refl; bytes = record { from = from; count = refl } })
 seen-as c names shared mem w (Part base offset len) l (v, e, sb, size, from) =
-    subst (SeenAs names shared mem (Part base offset len)) (sym e) (record { rank = refl; int = refl; name = refl; first = refl; second = refl; third = refl;
-    bytes = record { from = from; count = sym size } })
+    subst (SeenAs names shared mem (Part base offset len)) (sym e) (record {
+      rank = refl;
+      int = refl;
+      name = refl;
+      first = refl;
+      second = refl;
+      third = refl;
+      bytes = record { from = from; count = sym size };
+    })
 
 pub own-bytes : (c : ℕ → ℕ → Bool) (shared : List (List ℕ)) (mem : List ℕ) (w : ℕ) (t : Tree) (l : Look) → IsSeen c shared mem w t l → IsBytes mem (look_data l) (bytes_of shared t)
 own-bytes c shared mem w t l e = (seen-as c [] shared mem w t l e).bytes

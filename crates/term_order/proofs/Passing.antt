@@ -71,7 +71,7 @@ passes-both-cell mem a b left right v w cells passed is ev ew = record {
       let p : PassedBoth c shared mem names t u left right cells = passed.each c shared names t u s r in
       let (h, x, ef, fits, sh, sx) = parted c shared mem left p.first.rest (look.Cons (left / 4)) ((sees-cons mem left (left / 4) is.first refl).each c shared p.first.rest p.first.standing) in
       let (k, y, es, fits2, sk, sy) = parted c shared mem right p.second.rest (look.Cons (right / 4))
-          ((sees-cons mem right (right / 4) is.second refl).each c shared p.second.rest p.second.standing) in
+      ((sees-cons mem right (right / 4) is.second refl).each c shared p.second.rest p.second.standing) in
       let P : Tree → ℕ → Type 0 = λ z n. Stands c shared mem n z in
       let same : h ≡ k = single c c shared shared mem (get_or mem (left / 4) 0) h k sh (subst (P k) is.same sk) in
       cells-passed c shared mem names t u h k x y left right v w cells p ef es (slight c shared mem (get_or mem (left / 4) 0) h sh is.immediate) same (subst (P x) (sym ev) sx)

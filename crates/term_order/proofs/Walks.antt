@@ -356,12 +356,28 @@ module _ (mem : List ℕ) (names : List (List ℕ)) (a b x y : ℕ) (left right 
       (start.second.named i.second_named).0
 
   pub first-go : (l : Look) → Sees mem x l → CanGo mem left l
-  first-go l sees = record { shared = i.shared; word = x; now = start.first.now; rests = start.first.rests; standing = start.first.standing;
-      seen = sees.each always i.shared start.first.now start.first.standing; few = start.first.few; left = start.first.left }
+  first-go l sees = record {
+    shared = i.shared;
+    word = x;
+    now = start.first.now;
+    rests = start.first.rests;
+    standing = start.first.standing;
+    seen = sees.each always i.shared start.first.now start.first.standing;
+    few = start.first.few;
+    left = start.first.left;
+  }
 
   pub second-go : (l : Look) → Sees mem y l → CanGo mem right l
-  second-go l sees = record { shared = i.shared; word = y; now = start.second.now; rests = start.second.rests; standing = start.second.standing;
-      seen = sees.each always i.shared start.second.now start.second.standing; few = start.second.few; left = start.second.left }
+  second-go l sees = record {
+    shared = i.shared;
+    word = y;
+    now = start.second.now;
+    rests = start.second.rests;
+    standing = start.second.standing;
+    seen = sees.each always i.shared start.second.now start.second.standing;
+    few = start.second.few;
+    left = start.second.left;
+  }
 
   -- What goes deeper than all levels of a walk is beyond the walk limit.
   pub first-deeper : (most : ℕ) (l : Look) → Sees mem x l → AreWithin mem a b → IsDeeper most mem left l → most < depth_limit

@@ -164,7 +164,7 @@ test-false a b h = grind (arith, nat_tests)
 pub is-within : (shared : List (List ℕ)) (t : Tree) (n f : ℕ) → nodes shared t ≡ n → flat t ≡ f → n ≤ node_limit → depth t ≤ depth_limit → Within (record { nodes = n; flat = f }) ≡ measured shared t
 is-within shared t n f en ef few shallow =
     let b : is_beyond shared t ≡ false = or-false (nat_lt node_limit (nodes shared t)) (nat_lt depth_limit (depth t)) (test-false node_limit (nodes shared t) (omega (arith, en, few)))
-        (test-false depth_limit (depth t) shallow) in
+    (test-false depth_limit (depth t) shallow) in
     ap₂ (λ a b. Within (record { nodes = a; flat = b })) (sym en) (sym ef) ∙ sym (when-false (is_beyond shared t) Beyond (Within (record { nodes = nodes shared t; flat = flat t })) b)
 
 is-many : (shared : List (List ℕ)) (t : Tree) → node_limit < nodes shared t → Beyond ≡ measured shared t

@@ -26,7 +26,8 @@ lay_bin-requires-clause-words c =
     omega (
       arith,
       next-fits c.loop-i.i (Int (pos 0)) c.args.code.now c.args.room.now c.loop-i.room c.args.mem.now c.loop-i.mem c.args.making.now c.loop-i.making c.loop-i-test.true long c.loop-i.invariant
-      c.requires.words, c.len_of.ensures,
+          c.requires.words,
+      c.len_of.ensures,
     )
 
 pub loop-i-preserved : goal.loop-i-preserved

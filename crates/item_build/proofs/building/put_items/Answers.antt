@@ -59,7 +59,7 @@ returns-clause-reads c = λ k shared trees free held holders.
     all-read c.loop-i.i c.args.code.now (λ z. c.loop-i.sp + terms_in z ≡ length c.loop-i.scratch) c.loop-i-test.false c.loop-i.invariant.count in
     let last : c.loop-i.sp + 1 ≡ length c.loop-i.scratch = omega (arith, rest, c.requires.term.one) in
     let P : List ℕ → Type 0 = λ z. MarksBuilt k c.args.room.now.top (c.loop-i.room.top - c.args.room.now.top) c.args.mem.now c.loop-i.mem shared z
-        (read c.args.names.now shared trees c.args.code.now) in
+    (read c.args.names.now shared trees c.args.code.now) in
     let all = all-read c.loop-i.i c.args.code.now
     (λ z. (is_big c.args.names.now shared trees z ≡ false)
     × MarksBuilt k c.args.room.now.top (c.loop-i.room.top - c.args.room.now.top) c.args.mem.now c.loop-i.mem shared (drop c.loop-i.sp c.loop-i.scratch) (read c.args.names.now shared trees z))

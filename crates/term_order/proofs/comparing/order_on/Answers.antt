@@ -87,14 +87,18 @@ loop-x-preserved g c =
     c.in-Some-next.ensures.steps c.in-Some-next-2.ensures.steps c.in-Some-first.p c.in-Some-second.q c.in-Some-first.is c.in-Some-second.is
 
 pub next_word-p-requires : goal.next_word-p-requires
-next_word-p-requires g c =
-    (grind (arith, common_steps, c.requires.most), first-left c.args.mem.now c.args.names.now c.args.a c.args.b c.loop-x.x c.loop-x.y (reverse c.loop-x.left.items) (reverse c.loop-x.right.items)
-    c.loop-x.steps c.requires.named c.loop-x.invariant)
+next_word-p-requires g c = (
+  grind (arith, common_steps, c.requires.most),
+  first-left c.args.mem.now c.args.names.now c.args.a c.args.b c.loop-x.x c.loop-x.y (reverse c.loop-x.left.items) (reverse c.loop-x.right.items)
+      c.loop-x.steps c.requires.named c.loop-x.invariant,
+)
 
 pub next_word-q-requires : goal.next_word-q-requires
-next_word-q-requires g c =
-    (grind (arith, common_steps, c.requires.most), second-left c.args.mem.now c.args.names.now c.args.a c.args.b c.loop-x.x c.loop-x.y (reverse c.loop-x.left.items) (reverse c.loop-x.right.items)
-    c.loop-x.steps c.requires.named c.loop-x.invariant)
+next_word-q-requires g c = (
+  grind (arith, common_steps, c.requires.most),
+  second-left c.args.mem.now c.args.names.now c.args.a c.args.b c.loop-x.x c.loop-x.y (reverse c.loop-x.left.items) (reverse c.loop-x.right.items)
+      c.loop-x.steps c.requires.named c.loop-x.invariant,
+)
 
 pub returns-in_default-clause-orders : goal.returns-in_default-clause-orders
 returns-in_default-clause-orders g c =
@@ -109,12 +113,18 @@ returns-in_default-q-clause-orders g c =
     c.in-Some.p c.in-Some.is c.in_default-q.is
 
 pub overflow_add-steps : goal.overflow_add-steps
-overflow_add-steps g c = omega (arith, steps-few c.args.mem.now c.args.names.now c.args.a c.args.b c.loop-x.x c.loop-x.y (reverse c.loop-x.left.items) (reverse c.loop-x.right.items) c.loop-x.steps
-    c.requires.named c.loop-x.invariant c.requires.within)
+overflow_add-steps g c = omega (
+  arith,
+  steps-few c.args.mem.now c.args.names.now c.args.a c.args.b c.loop-x.x c.loop-x.y (reverse c.loop-x.left.items) (reverse c.loop-x.right.items) c.loop-x.steps
+      c.requires.named c.loop-x.invariant c.requires.within,
+)
 
 pub loop-x-smaller-then-x-y : goal.loop-x-smaller-then-x-y
-loop-x-smaller-then-x-y g c = omega (arith, steps-few c.args.mem.now c.args.names.now c.args.a c.args.b c.loop-x.x c.loop-x.y (reverse c.loop-x.left.items) (reverse c.loop-x.right.items)
-    c.loop-x.steps c.requires.named c.loop-x.invariant c.requires.within)
+loop-x-smaller-then-x-y g c = omega (
+  arith,
+  steps-few c.args.mem.now c.args.names.now c.args.a c.args.b c.loop-x.x c.loop-x.y (reverse c.loop-x.left.items) (reverse c.loop-x.right.items)
+      c.loop-x.steps c.requires.named c.loop-x.invariant c.requires.within,
+)
 
 pub loop-x-preserved-then-x-y : goal.loop-x-preserved-then-x-y
 loop-x-preserved-then-x-y g c =

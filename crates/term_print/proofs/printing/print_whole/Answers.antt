@@ -34,7 +34,7 @@ returns-in_err-seen g c = λ k shared t s.
 pub returns-then-is_empty : goal.returns-then-is_empty
 returns-then-is_empty g c =
     let this = c.in_ok-seen.ensures.on c.args.w c.args.sink.now (begun-first c.args.mem.now c.args.names.now c.args.w (reverse c.new-levels.result.items) (reverse c.begin.new.levels.items)
-        g.K.Sink.wrote g.K.Sink.faults c.args.sink.now c.begin.new.sink
+    g.K.Sink.wrote g.K.Sink.faults c.args.sink.now c.begin.new.sink
     c.in_ok-begin.field-0 (ap reverse c.new-levels.ensures) c.requires c.in_ok-begin.ensures) in
     prints-all c.args.mem.now c.args.names.now c.args.w (reverse c.print_left.new.levels.items) c.in_ok-seen.seen g.K.Sink.wrote g.K.Sink.faults c.args.sink.now c.print_left.new.sink tt
     (ap reverse (length-none c.print_left.new.levels.items c.if-is_empty.ensures)) this.told this.prints

@@ -46,13 +46,22 @@ free_spec 𝓤 𝓛 𝓜 𝓡 wired A L g d dd met md =
     let args : Args = bounded (a_type ∷ []) (A, tt) (dcons d (dcons dd dnil)) in
     let fn : Fn = inst_fn args compiled.function in
     let Z : RattleType = param 0 A in
-    let stays : Stays E.signature.params E.kept = (stay_dropped (plain (λ _. W)) yes, (stay_dropped (plain (λ _. lease.the_row Z g)) no,
-        (stay_dropped (RefOf (0 ∷ []) tt (plain (λ _. Z)) (λ _. tt)) yes, tt))) in
+    let stays : Stays E.signature.params E.kept = (
+      stay_dropped (plain (λ _. W)) yes,
+      (
+        stay_dropped (plain (λ _. lease.the_row Z g)) no,
+        (stay_dropped (RefOf (0 ∷ []) tt (plain (λ _. Z)) (λ _. tt)) yes, tt),
+      ),
+    ) in
     let C = (tables 𝓤 H 𝓜 𝓡 𝓡.env).C in
     let Λ = (tables 𝓤 H 𝓜 𝓡 𝓡.env).Λ in
-    proved_at 𝓛 E stays c 𝓜 𝓡
-    (Goes-blank 𝓛 2 (plain (λ _. W)) yes (λ κs x f. tt), (Goes-blank 𝓛 2 (plain (λ _. lease.the_row Z g)) no (λ κs x f. tt),
-    (Goes-dropped 𝓛 2 (RefOf (0 ∷ []) tt (plain (λ _. Z)) (λ _. tt)) yes (λ κs x f. refl), tt))) (#self args) fn (compiled.unfolded 𝓤 H 𝓜 𝓡 wired (A, tt) d dd) (λ z are.
+    proved_at 𝓛 E stays c 𝓜 𝓡 (
+      Goes-blank 𝓛 2 (plain (λ _. W)) yes (λ κs x f. tt),
+      (
+        Goes-blank 𝓛 2 (plain (λ _. lease.the_row Z g)) no (λ κs x f. tt),
+        (Goes-dropped 𝓛 2 (RefOf (0 ∷ []) tt (plain (λ _. Z)) (λ _. tt)) yes (λ κs x f. refl), tt),
+      ),
+    ) (#self args) fn (compiled.unfolded 𝓤 H 𝓜 𝓡 wired (A, tt) d dd) (λ z are.
     let Post : Val → SProp 𝓤 = (walk_of 𝓛 E stays c).post z in
     let a = z.0.3 in let vss = z.0.4 in
     let Y : Al = record { row = A; laws = L; g = g; d = d; drops = dd } in
