@@ -40,21 +40,20 @@ impl<'a, K: Sink> Gathered<'a, K> {
         }
     }
 
-    /// Hands on all that is gathered, and lets the inner sink go.
-    pub fn finish(self) -> Result<(), SinkFault>
-        ensures all { OnOk result (Grew K.wrote self.entry.sink.now self.exit.0.now (pending self.entry)) }
-        ensures part { OnErr result (GrewInPart K.wrote self.entry.sink.now self.exit.0.now (pending self.entry)) }
-        ensures later { K.faults self.entry.sink.now ≤ K.faults self.exit.0.now }
-        ensures rose { OnErr result (Rose (K.faults self.entry.sink.now) (K.faults self.exit.0.now)) }
-        ensures told { OnOk result (K.faults self.exit.0.now ≡ K.faults self.entry.sink.now) }
+    /// Hands on all that is gathered. After a fault what was not handed on is still gathered.
+    pub fn finish(&mut self) -> Result<(), SinkFault>
+        ensures same_reference { self.new.sink.ghost_name ≡ self.old.sink.ghost_name }
+        ensures all { OnOk result (Grew K.wrote self.old.sink.now self.new.sink.now (pending self.old)) }
+        ensures part { OnErr result (GrewInPart K.wrote self.old.sink.now self.new.sink.now (pending self.old)) }
+        ensures later { K.faults self.old.sink.now ≤ K.faults self.new.sink.now }
+        ensures rose { OnErr result (Rose (K.faults self.old.sink.now) (K.faults self.new.sink.now)) }
+        ensures told { OnOk result (K.faults self.new.sink.now ≡ K.faults self.old.sink.now) }
+        ensures emptied { OnOk result (pending self.new ≡ []) }
     {
-        let Gathered {
-            sink,
-            buf,
-            from,
-            to,
-        } = self;
-        put_all(sink, &buf[from..to])
+        if self.hand_on() {
+            return Ok(());
+        }
+        Err(SinkFault)
     }
 
     // Hands on what is gathered, and says whether all of it went.
@@ -62,6 +61,7 @@ impl<'a, K: Sink> Gathered<'a, K> {
         ensures same_reference { self.new.sink.ghost_name ≡ self.old.sink.ghost_name }
         ensures handed { HandsOn K.wrote self.old self.new }
         ensures emptied { result ≡ true → self.new.to ≡ 0 }
+        ensures left { result ≡ false → 0 < length (pending self.new) }
         ensures later { K.faults self.old.sink.now ≤ K.faults self.new.sink.now }
         ensures rose { result ≡ false → Rose (K.faults self.old.sink.now) (K.faults self.new.sink.now) }
         ensures told { result ≡ true → K.faults self.new.sink.now ≡ K.faults self.old.sink.now }
