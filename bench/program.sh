@@ -19,6 +19,9 @@ middle() { rising "$1" "$2" | awk '{ row[NR] = $1 } END { print row[int((NR + 1)
 # Whether the program knows binaries, funs and their counts.
 has_binaries() { [ "$(echo '1 fill 0 1 0' | "$program")" = ok ]; }
 
+# Whether the program knows messages.
+has_messages() { [ "$(echo '1 send 0 1' | "$program")" = ok ]; }
+
 # The processor time of the program over a script, in seconds: the least of nine runs.
 seconds() {
   : >"$out/seconds.times"
