@@ -24,7 +24,7 @@ returns g c = record {
       let e = c.in_ok-put_reply.ensures in
       let w = e.writes s h in
       let f = c.finish.ensures in
-      let names = sym made.same_reference ∙ same_sink g.K.Sink.wrote old new _ made.empty w in
+      let names = sym made.same_reference ∙ same_sink g.K.Sink.wrote old new _ made.empty w ∙ sym f.same_reference in
       finished g.K.Sink.wrote old new g.K.Sink.faults _ _ _ _ c.finish.result made.sink made.empty w e.later e.told
       (record { all = f.all; part = f.part; later = f.later; rose = f.rose; told = f.told }) (c.sink-2-1.given.1 names);
   allowed = c.in_ok-put_reply.ensures.allowed;
