@@ -1,3 +1,4 @@
+// Names of atoms, given numbers in the order in which they come.
 ghost use Rattle.std.specs.Prelude.{
   ◌≡◌,
   ℕ,

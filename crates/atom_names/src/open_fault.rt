@@ -1,3 +1,4 @@
+// Why names could not be opened.
 use thiserror::Error;
 
 /// Why names could not be opened.

@@ -1,3 +1,4 @@
+// The bytes of one name.
 ghost use Rattle.std.specs.Prelude.{◌≡◌, ℕ, ◌≤◌, length};
 ghost use Rattle.atom_names.specs.Rows.{name_of};
 

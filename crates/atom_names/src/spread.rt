@@ -1,3 +1,4 @@
+// Where the search for a name begins.
 ghost use Rattle.std.specs.Prelude.{◌≡◌, ℕ, ◌<◌};
 ghost use Rattle.atom_names.specs.Spread.{first_slot};
 

@@ -1,3 +1,4 @@
+// The open table of slots by which a name is found.
 ghost use Rattle.std.specs.Prelude.{
   ◌≡◌,
   ℕ,

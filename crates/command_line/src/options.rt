@@ -1,3 +1,4 @@
+// The words of a command line, read into options or refused.
 ghost use Rattle.std.specs.Prelude.{◌≡◌, ◌↔◌, IfOk, map, List, Some, None};
 ghost use Rattle.clap.specs.Words.{found_of, kind_of, rows_of};
 ghost use Rattle.command_line.specs.Words.{asks, options_of, options_asked};

@@ -12,12 +12,13 @@ use Rattle.line_io.specs.declared.reader.LineGot.TheVariants.{End, Fault, TooMuc
 use Rattle.line_io.proofs.Growth.{Grew-nil, Grew-append}
 use Rattle.line_io.proofs.Loop.{Gave-nil, Gave-append}
 use Rattle.script_grammar.specs.Names.{Parsed}
-use Rattle.plain_machine.specs.State.{State}
+use Rattle.plain_machine.specs.State.{State, first_state}
 use Rattle.plain_machine.specs.Run.{Run, LineStep, replies_text}
 use Rattle.plain_machine.proofs.Runs.{run-append, run-one, run-none, text-append}
+use Rattle.isolation.proofs.Alone.{isolates}
 use Rattle.engine.specs.Rules.{After, Rules, Input, Output}
 use Rattle.engine.specs.Steps.{Steps, StepWrites, TellsQuit, WritesAll}
-use Rattle.engine.specs.Serving.{Course, EndsBy, Going, Served, Turns, turn_of}
+use Rattle.engine.specs.Serving.{AreIsolated, Course, EndsBy, Going, Runs, Served, Turns, turn_of}
 use Rattle.engine.specs.declared.serving.Status.{Status}
 use Rattle.engine.specs.declared.serving.Status.TheVariants.{Done, ReadFault, TooMuch}
 use Rattle.engine.specs.declared.serving.Turn.{Turn}
@@ -27,6 +28,11 @@ use Rattle.engine.specs.declared.machine.Stepped.TheVariants.{Next, Quit, SinkFa
 -- a source before and after
 abbrev pub source_from : (before after : Option (List ℕ)) → Input
 source_from before after = record { before = before; after = after }
+
+-- each process of a run from the first state was alone
+are-isolated : (rules : Rules) (c : Course) → Runs rules c → AreIsolated rules c
+are-isolated rules c run first = isolates rules.supply.may rules.supply.words c.quits c.given c.replies c.last
+    (subst (λ (z : State). Run rules.supply.may rules.supply.words c.quits z c.given c.replies c.last) first run)
 
 module _ {K : Type 0} (wrote : K → List ℕ → Type 0) (faults : K → ℕ) where
   -- a sink before and after
@@ -112,6 +118,7 @@ module _ {K : Type 0} (wrote : K → List ℕ → Type 0) (faults : K → ℕ) w
           told = r.told;
           front = front_it;
           run = run_it p.quits refl;
+          isolated = are-isolated rules (course r.x r.ended line r.rest p.replies p.new p.quits) (run_it p.quits refl);
           stands = p.stands;
           ends = (texts-written start mid new g.replies p.replies g.writes w, record { why = inl q });
           later = let h : faults new ≡ faults start = w.1 ∙ g.writes.1 in omega arith;
@@ -122,6 +129,7 @@ module _ {K : Type 0} (wrote : K → List ℕ → Type 0) (faults : K → ℕ) w
           told = r.told;
           front = front_it;
           run = run_it p.quits refl;
+          isolated = are-isolated rules (course r.x r.ended line r.rest p.replies p.new p.quits) (run_it p.quits refl);
           stands = p.stands;
           ends = (
             record {
@@ -155,6 +163,7 @@ module _ {K : Type 0} (wrote : K → List ℕ → Type 0) (faults : K → ℕ) w
       told = told;
       front = front ∙ ap (λ z. z ++ rest) (append-nil g.given);
       run = g.run;
+      isolated = are-isolated rules (record { bytes = g.bytes ++ x; ended = ended; given = g.given; rest = rest; replies = g.replies; last = g.state; quits = false }) g.run;
       stands = g.stands;
       ends = ends;
       later = let h : faults mid ≡ faults start = g.writes.1 in omega arith;

@@ -8,8 +8,9 @@ use Rattle.line_io.specs.Lines.{Line, lines, is_too_much}
 use Rattle.line_io.specs.Reader.{HasRead, IsEndOf, IsFaulted, lines_left, limits_of}
 use Rattle.line_io.specs.declared.reader.Limits.{Limits}
 use Rattle.line_io.specs.declared.reader.LineReader.{LineReader}
-use Rattle.plain_machine.specs.State.{State}
+use Rattle.plain_machine.specs.State.{State, first_state}
 use Rattle.plain_machine.specs.Run.{Run, LineStep, replies_text}
+use Rattle.isolation.specs.Laws.{Isolates}
 use Rattle.engine.specs.Rules.{Rules, Input, Output}
 use Rattle.engine.specs.Steps.{WritesAll}
 use Rattle.engine.specs.declared.serving.Status.{Status}
@@ -39,6 +40,10 @@ pub record Course : Type 0 where
 -- The lines that were done lead from the first state to the last with these replies.
 abbrev pub Runs : Rules → Course → Type 0
 Runs rules c = Run rules.supply.may rules.supply.words c.quits rules.first c.given c.replies c.last
+
+-- Where they began at the first state, each process was alone: its own lines were answered as its view of them says.
+abbrev pub AreIsolated : Rules → Course → Type 0
+AreIsolated rules c = rules.first ≡ first_state → Isolates rules.supply.may rules.supply.words c.quits c.given c.replies c.last
 
 -- The reply to the last line was not written whole; those before it were.
 pub record Unwritten (rules : Rules) (c : Course) {K : Type 0} (out : Output K) : Type 0 where
@@ -89,6 +94,7 @@ pub record Served (rules : Rules) (source : Input) {K : Type 0} (out : Output K)
   pub told : IsEndOf course.ended source.after
   pub front : lines course.bytes course.ended rules.limits ≡ course.given ++ course.rest
   pub run : Runs rules course
+  pub isolated : AreIsolated rules course
   pub stands : Stands course.last
   pub ends : EndsBy status rules source.after course out
   pub later : out.faults out.before ≤ out.faults out.after

@@ -1,3 +1,4 @@
+// The table of sizes, and the next one that is large enough.
 ghost use Rattle.std.specs.Prelude.{◌≡◌, ℕ, ◌+◌, ◌*◌, ◌<◌, ◌≤◌, ◌↔◌, IfSome, IsSome};
 ghost use Rattle.heap_sizes.specs.Sizes.{IsNext};
 

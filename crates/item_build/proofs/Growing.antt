@@ -91,7 +91,8 @@ module _ (names : List (List ℕ)) (held : List Tree) where
         by true = refl
         by false = sym (append_assoc shared (bytes ∷ []) (bins_of rest))
 
-    pub made-listed : (ts : Terms) (shared : List (List ℕ)) (tail rest : List Item) → shared ++ bins_of (listed_items names ts tail ++ rest) ≡ (trees_of names held ts shared).1 ++ bins_of (tail ++ rest)
+    pub made-listed : (ts : Terms) (shared : List (List ℕ)) (tail rest : List Item) → shared ++ bins_of (listed_items names ts tail ++ rest) ≡ (trees_of names held ts shared).1
+        ++ bins_of (tail ++ rest)
     made-listed end shared tail rest = refl
     made-listed (t ▹ ts) shared tail rest =
         ap (λ z. shared ++ bins_of z) (append_assoc (items_of names t) (listed_items names ts tail) rest)

@@ -37,7 +37,8 @@ record-four c mem v n (inr (name, arity, o, words)) = omega (arith, words)
 
 -- A record that stands by one test stood by another where its words have no other roles and are the same.
 
-module _ (c d : ℕ → ℕ → Bool) (old new : List ℕ) (v n : ℕ) (roles : (q k : ℕ) → v ≤ q → q < v + n → OfRecord k → d q k ≡ true → c q k ≡ true) (same : (q : ℕ) → v ≤ q → q < v + n → get_or old q 0 ≡ get_or new q 0)
+module _ (c d : ℕ → ℕ → Bool) (old new : List ℕ) (v n : ℕ) (roles : (q k : ℕ) → v ≤ q → q < v + n → OfRecord k → d q k ≡ true → c q k ≡ true) (same : (q : ℕ) → v ≤ q → q < v + n
+    → get_or old q 0 ≡ get_or new q 0)
     (inside : v + n ≤ length old) where
   bin-back : (serial : ℕ) (bytes : List ℕ) → n ≡ 4 + bin_words (length bytes) → IsBinRecord d new v serial bytes → IsBinRecord c old v serial bytes
   bin-back serial bytes words o = record {
@@ -365,7 +366,12 @@ module _ (c : ℕ → ℕ → Bool) (shared : List (List ℕ)) (top n size rec l
         nexts = λ q h. elim (tells q NEXT h) [
           | inl old ↦ inl old.0
           | inr (inl inner) ↦ inr (0, (omega arith, omega (arith, a, inner.0, holder-next (q - top) inner.1.1)))
-          | inr (inr inner) ↦ absurd (elim (roles-of-record (q - rec)) [ inl count ↦ omega (arith, count, inner.1.1) | inr (inl other) ↦ omega (arith, other, inner.1.1) | inr (inr first) ↦ omega (arith, first, inner.1.1) ])
+          | inr (inr inner) ↦ absurd (elim (roles-of-record (q - rec)) [
+            | inl count ↦ omega (arith, count, inner.1.1)
+            | inr (inl other) ↦ omega (arith, other, inner.1.1)
+            | inr (inr first) ↦
+                omega (arith, first, inner.1.1)
+          ])
         ];
         records = λ v h. elim (tells v RECORD_FIRST h) [
           | inl old ↦ inl old.0

@@ -213,7 +213,8 @@ leaf-small held i j (Some w) same s =
     }
 
 -- A word is put before terms.
-pub leaf-marks : (c : ℕ → ℕ → Bool) (names shared : List (List ℕ)) (trees : List Tree) (x : Item) (xs : List Item) (room : Room) (mem held : List ℕ) (w : ℕ) (rest row : List ℕ) (ms : List (Option Tree))
+pub leaf-marks : (c : ℕ → ℕ → Bool) (names shared : List (List ℕ)) (trees : List Tree) (x : Item) (xs : List Item) (room : Room) (mem held : List ℕ) (w : ℕ) (rest row : List ℕ)
+    (ms : List (Option Tree))
     → IsLeaf held x w → HeldStand c shared mem held trees → row ≡ w ∷ rest → AreMarks c shared mem rest ms
     → (is_big_item shared x (take (parts_of x) ms) ≡ false) × MarksBuilt c room.top (room.top - room.top) mem mem shared row (read_item names shared trees x xs ms)
 leaf-marks c names shared trees x xs room mem held w rest row ms leaf h is all =

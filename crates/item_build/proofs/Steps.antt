@@ -125,7 +125,8 @@ module _ (names : List (List ℕ)) (held : List ℕ) (code : List Item) (i : ℕ
     held-at = record { each = λ r below. b.grows.kept.each shared (get_or held r 0) (get_or trees r _) (stand.each r below) }
 
     -- The holder of the next item, where that is a long binary.
-    pub holder-at : (rest : List Item) → rest ≡ drop i code → (bins bin words : ℕ) → BinsStand c shared mem0 bins (long_bins code) → words ≡ (if is_long (get_or code (i - 1) d) then 6 else 0) → bin + 6 * long_bins (drop i code) ≡ bins
+    pub holder-at : (rest : List Item) → rest ≡ drop i code → (bins bin words : ℕ) → BinsStand c shared mem0 bins (long_bins code) → words ≡ (if is_long (get_or code (i - 1) d) then 6 else 0)
+        → bin + 6 * long_bins (drop i code) ≡ bins
         → HolderStands b.test shared mem (bin - words) (get_or code (i - 1) d) (long_bins rest)
     holder-at rest left bins bin words all is at =
         let H : List Item → Type 0 = λ xs. HolderStands b.test shared mem (bin - words) (get_or code (i - 1) d) (long_bins xs) in
@@ -139,10 +140,12 @@ module _ (names : List (List ℕ)) (held : List ℕ) (code : List Item) (i : ℕ
             let below : long_bins (drop i code) < long_bins code = omega (arith, one, longs-rest (i - 1) code) in
             let place : bins - 6 * suc (long_bins (drop i code)) ≡ bin - words = omega (arith, at, six) in
             let P : ℕ → Type 0 = λ z. Stands b.test shared mem (boxed_word z) (Shared (length shared - long_bins (drop i code))) in
-            subst P place (b.grows.kept.each shared (boxed_word (bins - 6 * suc (long_bins (drop i code)))) (Shared (length shared - long_bins (drop i code))) (all.each (long_bins (drop i code)) below))
+            subst P place (b.grows.kept.each shared (boxed_word (bins - 6 * suc (long_bins (drop i code)))) (Shared (length shared - long_bins (drop i code)))
+            (all.each (long_bins (drop i code)) below))
 
     -- It was put.
-    pub put-more : (rest : List Item) → rest ≡ drop i code → (z : Room) (mem2 ws2 : List ℕ) → is_big names shared trees (drop i code) ≡ false → UsesSome (own_words (get_or code (i - 1) d)) y z mem mem2
+    pub put-more : (rest : List Item) → rest ≡ drop i code → (z : Room) (mem2 ws2 : List ℕ) → is_big names shared trees (drop i code) ≡ false
+        → UsesSome (own_words (get_or code (i - 1) d)) y z mem mem2
         → is_big_item shared (get_or code (i - 1) d) (take (parts_of (get_or code (i - 1) d)) (read names shared trees (drop i code))) ≡ false
         → MarksBuilt b.test y.top (z.top - y.top) mem mem2 shared ws2 (read_item names shared trees (get_or code (i - 1) d) rest (read names shared trees (drop i code)))
         → (is_big names shared trees (drop (i - 1) code) ≡ false) × MarksBuilt c x.top (z.top - x.top) mem0 mem2 shared ws2 (read names shared trees (drop (i - 1) code))

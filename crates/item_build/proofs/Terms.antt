@@ -249,8 +249,8 @@ module _ (names : List (List ℕ)) (held : List Tree) (S : List (List ℕ)) wher
           (ap (tree_where names S held (item.Tuple (terms_len ts)) (all_items names ts ++ rest)) (marks-all ts shared)
           ∙ tuple-mark (terms_len ts) (all_items names ts ++ rest) (are_wide names held ts shared) ((trees_of names held ts shared).0))
       read-term (Map qs) shared rest a =
-          put-row (item.Map (pairs_len qs)) (2 * pairs_len qs) refl refl (pairs_items names qs ++ rest) (each_turn qs shared) (read names S held rest) (turns-len qs shared) (read-pairs qs shared rest a)
-          ∙ ap (λ z. z ∷ read names S held rest)
+          put-row (item.Map (pairs_len qs)) (2 * pairs_len qs) refl refl (pairs_items names qs ++ rest) (each_turn qs shared) (read names S held rest) (turns-len qs shared)
+          (read-pairs qs shared rest a) ∙ ap (λ z. z ∷ read names S held rest)
           (map-at (pairs_len qs) (pairs_items names qs ++ rest) qs shared (bins_of rest) (behind-pairs qs shared rest a).0 (pairs-known names held m known qs shared a.1))
       read-term (Bin bytes) shared rest a =
           ap (λ z. Some z ∷ read names S held (map item.Byte bytes ++ rest)) (bin-at bytes shared rest (behind (Bin bytes) shared rest a).0)

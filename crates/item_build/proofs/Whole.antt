@@ -223,9 +223,10 @@ module _ (names shared : List (List ℕ)) (held : List Tree) where
     read-named (x ∷ xs) w = by (is_byte x) (read-named xs w.2)
       where
         by : (b : Bool) → MarksNamed n (read names shared held xs)
-            → MarksNamed n (if b then read names shared held xs else tree_where names shared held x xs (all_of (take (parts_of x) (read names shared held xs))) ∷ drop (parts_of x) (read names shared held xs))
+            → MarksNamed n (if b then read names shared held xs else tree_where names shared held x xs (all_of (take (parts_of x) (read names shared held xs))) ∷ drop (parts_of x)
+            (read names shared held xs))
         by true rest = rest
         by false rest =
             more-named (tree_where names shared held x xs (all_of (take (parts_of x) (read names shared held xs)))) (drop (parts_of x) (read names shared held xs))
-            (where-named x xs (take (parts_of x) (read names shared held xs)) (all_of (take (parts_of x) (read names shared held xs))) refl w.0 (named-take n (parts_of x) (read names shared held xs) rest))
-            (named-drop n (parts_of x) (read names shared held xs) rest)
+            (where-named x xs (take (parts_of x) (read names shared held xs)) (all_of (take (parts_of x) (read names shared held xs))) refl w.0
+            (named-take n (parts_of x) (read names shared held xs) rest)) (named-drop n (parts_of x) (read names shared held xs) rest)

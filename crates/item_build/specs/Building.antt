@@ -115,7 +115,8 @@ pub record Spares (n : ℕ) (room : Room) (mem mem' : List ℕ) : Type 0 where
   pub others : (q : ℕ) → (q < room.top) ⊎ (room.top + n ≤ q) → slice_index mem' q ≡ slice_index mem q
 
 -- What was built is what the items come to: a word that stands for their tree, or the same reason for none.
-abbrev pub Builds : (ℕ → ℕ → Bool) → List (List ℕ) → (old new : Room) (mem mem' : List ℕ) (was is : Making) (n : ℕ) → Result ℕ BuildStop → Result Tree BuildStop → Type 0
+abbrev pub Builds : (ℕ → ℕ → Bool) → List (List ℕ) → (old new : Room) (mem mem' : List ℕ) (was is : Making) (n : ℕ) → Result ℕ BuildStop → Result Tree BuildStop
+    → Type 0
 Builds c shared old new mem mem' was is n (Ok w) (Ok t) = Made c shared old new mem mem' was is n w t
 Builds c shared old new mem mem' was is n (Err e) (Err f) = e ≡ f
 Builds c shared old new mem mem' was is n (Ok w) (Err f) = ⊥

@@ -136,7 +136,8 @@ fn lay_record(mem: &mut WordMem, room: &mut Room, serial: u64, n: u64, bytes: &[
     requires words { room.old.top + (4 + bin_words n) ≤ room.old.end }
     ensures room { room.new ≡ record { start = room.old.start; top = room.old.top; end = room.old.end - (4 + bin_words n) } }
     ensures writes { Writes room.new.end room.old.end mem.old mem.new }
-    ensures made { (c d : ℕ → ℕ → Bool) → Taken record_roles c d room.new.end (4 + bin_words n) → IsBinRecord d mem.new room.new.end serial (bytes_in n bytes.now) }
+    ensures made { (c d : ℕ → ℕ → Bool) → Taken record_roles c d room.new.end (4 + bin_words n)
+        → IsBinRecord d mem.new room.new.end serial (bytes_in n bytes.now) }
     ensures count { count_in mem.new room.new.end ≡ 0 }
 {
     let _len = mem.len();

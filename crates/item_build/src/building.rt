@@ -44,7 +44,8 @@ pub fn build(
     requires held { HasHeld names.now making.old.serial room.old mem.old held.now }
     ensures builds { (c : ℕ → ℕ → Bool) (shared : List (List ℕ)) (trees : List Tree) → IsFree c room.old.top room.old.end → length shared ≡ making.old.serial
         → HeldStand c shared mem.old held.now trees
-        → Builds c (shared ++ bins_of code.now) room.old room.new mem.old mem.new making.old making.new (long_bins code.now) result (outcome names.now shared trees code.now) }
+        → Builds c (shared ++ bins_of code.now) room.old room.new mem.old mem.new making.old making.new (long_bins code.now) result
+        (outcome names.now shared trees code.now) }
     ensures leaves { Leaves room.old room.new mem.old mem.new }
     ensures few { room.new.top + room.old.end ≤ room.old.top + room.new.end + words_of code.now }
     ensures back { OnOk result (room.new.end + far_words_of code.now ≡ room.old.end) }

@@ -44,8 +44,10 @@ pub fn put_item(
     requires can { CanPut (length names.now) (length held.now) room.old mem.old (drop sp scratch.old) item }
     requires bytes { bytes_after item ≤ bytes_led rest.now }
     requires holder { is_long item ≡ true → bin < PLACES }
-    ensures puts { (c : ℕ → ℕ → Bool) (shared : List (List ℕ)) (trees : List Tree) (ms : List (Option Tree)) → IsFree c room.old.top (room.old.top + own_words item)
-        → HeldStand c shared mem.old held.now trees → HolderStands c shared mem.old bin item (long_bins rest.now) → AreMarks c shared mem.old (drop sp scratch.old) ms
+    ensures puts { (c : ℕ → ℕ → Bool) (shared : List (List ℕ)) (trees : List Tree) (ms : List (Option Tree))
+        → IsFree c room.old.top (room.old.top + own_words item)
+        → HeldStand c shared mem.old held.now trees → HolderStands c shared mem.old bin item (long_bins rest.now)
+        → AreMarks c shared mem.old (drop sp scratch.old) ms
         → Puts c shared room.old room.new mem.old mem.new result scratch.new (is_big shared item (take (parts_in item) ms))
         (read_item names.now shared trees item rest.now ms) }
     ensures uses { IfSome result (λ r. UsesSome (own_words item) room.old room.new mem.old mem.new) }
@@ -175,7 +177,8 @@ fn mark_of(
     requires bytes { bytes_after item ≤ bytes_led rest.now }
     requires holder { is_long item ≡ true → bin < PLACES }
     requires keys { HasNoBigKey mem.old parts.now item }
-    ensures built { (c : ℕ → ℕ → Bool) (shared : List (List ℕ)) (trees : List Tree) (ms : List (Option Tree)) → IsFree c room.old.top (room.old.top + own_words item)
+    ensures built { (c : ℕ → ℕ → Bool) (shared : List (List ℕ)) (trees : List Tree) (ms : List (Option Tree))
+        → IsFree c room.old.top (room.old.top + own_words item)
         → HeldStand c shared mem.old held.now trees → HolderStands c shared mem.old bin item (long_bins rest.now) → AreMarks c shared mem.old parts.now ms
         → MarkBuilt c room.old.top (room.new.top - room.old.top) mem.old mem.new shared result (tree_where names.now shared trees item rest.now (all_of ms)) }
     ensures uses { UsesSome (own_words item) room.old room.new mem.old mem.new }

@@ -42,6 +42,7 @@ module _ (rules : Rules) (source : Input) {K : Type 0} (out : Output K) (Stands 
     told = s.told;
     front = s.front;
     run = s.run;
+    isolated = s.isolated;
     stands = f s.course.last s.stands;
     ends = s.ends;
     later = s.later;

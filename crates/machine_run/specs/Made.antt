@@ -27,4 +27,5 @@ pub record IsMade (supply : Supply) (first : State) (number : ℕ) (Stands : Sta
 -- The script of a number was made and done over an arena of so many words, and the one line that was written sums up its
 -- replies.
 abbrev pub Made : (words number : ℕ) → {K : Type 0} → Output K → (Stands : State → Type 0) → Status → Type 0
-Made words number out Stands status = (numbers : Summary) × IsMade (supply_of words) first_state number Stands numbers × EndsMade status out (summary_text numbers)
+Made words number out Stands status = (numbers : Summary) × IsMade (supply_of words) first_state number Stands numbers × EndsMade status out
+    (summary_text numbers)

@@ -1,3 +1,4 @@
+// What the words of a command line ask for, done over any source and sink.
 ghost use Rattle.std.specs.Prelude.{◌≡◌, ◌≢◌, ◌⊎◌, map, true, None};
 ghost use Rattle.line_io.specs.Faults.{Rose};
 ghost use Rattle.command_line.specs.Words.{asks};

@@ -1,3 +1,4 @@
+// What a run leaves: nothing, or the machine in its last state.
 ghost use Rattle.std.specs.Prelude.{◌≡◌};
 
 use engine::Machine;

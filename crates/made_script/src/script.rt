@@ -1,3 +1,4 @@
+// The lines of a script that a number makes, one after the other.
 ghost use Rattle.std.specs.Prelude.{◌≡◌, ◌∷◌, [], MatchBool};
 ghost use Rattle.made_script.specs.Script.{made_script, lines_left};
 

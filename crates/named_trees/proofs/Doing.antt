@@ -1,5 +1,5 @@
 -- What the machine does to trees, by name.
-use Rattle.std.proofs.Common.{◌≡◌, ℕ, zero, suc, ◌+◌, Bool, true, false, cond, nat_le, List, [], ◌∷◌, length, map, get_or, Option, Some, None, refl, sym, ap, ◌∙◌}
+use Rattle.std.proofs.Common.{◌≡◌, ℕ, zero, suc, ◌+◌, Bool, true, false, cond, nat_le, List, [], ◌∷◌, length, map, get_or, Option, Some, None, refl, ap, ◌∙◌}
 use Rattle.std.specs.Prelude.{option_map}
 use Rattle.std.specs.Ordering.{is_eq, match_ordering}
 use Rattle.std.specs.declared.cmp.Ordering.{Ordering}
@@ -18,7 +18,7 @@ use Rattle.script_grammar.specs.declared.command.Shape.TheVariants.{Tuple as InT
 use Rattle.plain_machine.specs.State.{Process, register}
 use Rattle.plain_machine.specs.Made.{with_pair, with_pairs, list_tree}
 use Rattle.plain_machine.specs.Parts.{head_in, tail_in, tree_after, element_in, place_in, env_in, part_in, value_of, value_in, picked, times, repeated}
-use Rattle.named_trees.specs.NamedTree.{NamedTree, NamedTrees, NamedPairs, named, all_named, pairs_named}
+use Rattle.named_trees.specs.NamedTree.{NamedTree, NamedPairs, named, all_named, pairs_named}
 use Rattle.named_trees.specs.NamedTree.{NamedTree as by_name}
 use Rattle.named_trees.specs.NamedTree.{NamedTrees as all_by_name}
 use Rattle.named_trees.specs.NamedTree.{NamedPairs as pairs_by_name}
@@ -77,8 +77,8 @@ module _ (names shared : List (List ℕ)) where
 
   value-by : (key : Tree) (ps : Pairs) → option_map by (value_of names shared key ps) ≡ named_value (by key) (pairs_named names shared ps)
   value-by key stop = refl
-  value-by key (pair k v ps) = if-else (is_eq (order names shared key k)) (is_eq (named_order (by key) (by k))) (Some v) (value_of names shared key ps) (Some (by v)) (named_value (by key) (pairs_named names shared ps))
-      (ap is_eq (order-seen names shared key k)) refl (value-by key ps)
+  value-by key (pair k v ps) = if-else (is_eq (order names shared key k)) (is_eq (named_order (by key) (by k))) (Some v) (value_of names shared key ps) (Some (by v))
+      (named_value (by key) (pairs_named names shared ps)) (ap is_eq (order-seen names shared key k)) refl (value-by key ps)
 
   in-by : (key t : Tree) → option_map by (value_in names shared key t) ≡ named_in (by key) (by t)
   in-by key (Map ps) = if-else (is_beyond shared key) (named_beyond (by key)) None (value_of names shared key ps) None (named_value (by key) (pairs_named names shared ps))

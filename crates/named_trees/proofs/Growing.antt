@@ -1,5 +1,5 @@
 -- More names and shared binaries behind those that there are leave known trees as they are by name.
-use Rattle.std.proofs.Common.{◌≡◌, ℕ, zero, suc, ◌<◌, ◌≤◌, true, nat_lt, nat_le, List, [], ◌++◌, length, refl, ap, arith, ltb-true}
+use Rattle.std.proofs.Common.{◌≡◌, ℕ, zero, suc, ◌<◌, ◌≤◌, true, nat_lt, nat_le, List, [], ◌∷◌, ◌++◌, length, length-append, map, refl, ap, arith, ltb-true}
 use Rattle.std.proofs.lemmas.Bool.{and_parts, leb-true}
 use Rattle.std.proofs.lemmas.List.{get_or_append_left}
 use Rattle.plain_term.specs.Tree.{Tree, Trees, Pairs}
@@ -7,13 +7,13 @@ use Rattle.plain_term.specs.Tree.Tree.{Int, Atom, Pid, Ref, Nil, Cons, Tuple, Ma
 use Rattle.plain_term.specs.Tree.Trees.{end, ◌▹◌}
 use Rattle.plain_term.specs.Tree.Pairs.{stop, pair}
 use Rattle.plain_term.specs.Bytes.{shared_bytes}
-use Rattle.plain_term.specs.Order.{name_of}
 use Rattle.plain_term.specs.Proper.{is_proper, are_proper, are_proper_pairs}
 use Rattle.plain_machine.proofs.Growing.{cons-parts, all-parts, fun-parts, part-parts, map-parts, pairs-parts}
 use Rattle.named_trees.specs.NamedTree.{named, all_named, pairs_named, IsKnown, AreKnown, PairsKnown}
 use Rattle.named_trees.specs.NamedTree.{NamedTree as by_name}
 use Rattle.named_trees.specs.NamedTree.{NamedTrees as all_by_name}
 use Rattle.named_trees.specs.NamedTree.{NamedPairs as pairs_by_name}
+use Rattle.named_trees.specs.Laws.{AllKnown}
 
 module _ (names more s extra : List (List ℕ)) where
   id-grown : (id : ℕ) → id ≤ length s → shared_bytes (s ++ extra) id ≡ shared_bytes s id
@@ -66,3 +66,40 @@ module _ (names s : List (List ℕ)) where
     pub pairs-known : (ps : Pairs) → are_proper_pairs names s ps ≡ true → PairsKnown names s ps
     pairs-known stop h = tt
     pairs-known (pair k v ps) h = let p = pairs-parts names [] s [] k v ps h in (proper-known k p.0, proper-known v p.2, pairs-known ps p.3)
+
+-- a known tree stays known
+module _ (names more s extra : List (List ℕ)) where
+  below-grown : (n : ℕ) (xs ys : List (List ℕ)) → n < length xs → n < length (xs ++ ys)
+  below-grown n xs ys h = omega (arith, h, length-append xs ys)
+
+  mutual
+    pub known-grown : (t : Tree) → IsKnown names s t → IsKnown (names ++ more) (s ++ extra) t
+    known-grown (Atom k) h = below-grown k names more h
+    known-grown (Cons a b) h = (known-grown a h.0, known-grown b h.1)
+    known-grown (Tuple ts) h = all-known-grown ts h
+    known-grown (Map ps) h = pairs-known-grown ps h
+    known-grown (Shared id) h = omega (arith, h, length-append s extra)
+    known-grown (Part base offset len) h = known-grown base h
+    known-grown (Fun f a c env) h = (below-grown f names more h.0, all-known-grown env h.1)
+    known-grown (Int i) h = tt
+    known-grown (Pid n) h = tt
+    known-grown (Ref n k) h = tt
+    known-grown Nil h = tt
+    known-grown (Bin bytes) h = tt
+
+    pub all-known-grown : (ts : Trees) → AreKnown names s ts → AreKnown (names ++ more) (s ++ extra) ts
+    all-known-grown end h = tt
+    all-known-grown (t ▹ ts) h = (known-grown t h.0, all-known-grown ts h.1)
+
+    pub pairs-known-grown : (ps : Pairs) → PairsKnown names s ps → PairsKnown (names ++ more) (s ++ extra) ps
+    pairs-known-grown stop h = tt
+    pairs-known-grown (pair k v ps) h = (known-grown k h.0, known-grown v h.1, pairs-known-grown ps h.2)
+
+  -- so it is with lists of trees
+  pub held-grown : (ts : List Tree) → AllKnown names s ts → map (named (names ++ more) (s ++ extra)) ts ≡ map (named names s) ts
+  held-grown [] h = refl
+  held-grown (t ∷ ts) h = λ i. named-grown names more s extra t h.0 i ∷ held-grown ts h.1 i
+
+  pub held-known-grown : (ts : List Tree) → AllKnown names s ts → AllKnown (names ++ more) (s ++ extra) ts
+  held-known-grown [] h = tt
+  held-known-grown (t ∷ ts) h = (known-grown t h.0, held-known-grown ts h.1)

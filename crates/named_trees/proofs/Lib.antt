@@ -1,4 +1,6 @@
-mod Seeing
-mod Growing
-mod Doing
-mod Making
+pub mod Seeing
+pub mod Growing
+pub mod Doing
+pub mod Making
+pub mod Entering
+pub mod Parts

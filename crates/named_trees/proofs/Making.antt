@@ -1,5 +1,5 @@
 -- What written terms make, by name.
-use Rattle.std.proofs.Common.{◌≡◌, ℕ, zero, suc, ◌+◌, ◌<◌, ◌≤◌, Bool, true, false, cond, ◌||◌, ◌&&◌, not, nat_lt, nat_le, List, [], ◌∷◌, ◌++◌, length, map, get_or, refl, sym, ap, subst, ◌∙◌, arith, append-nil, length-append}
+use Rattle.std.proofs.Common.{◌≡◌, ℕ, zero, suc, ◌+◌, ◌≤◌, Bool, true, false, cond, ◌||◌, ◌&&◌, not, nat_lt, nat_le, List, [], ◌∷◌, ◌++◌, length, map, get_or, refl, sym, ap, subst, ◌∙◌, arith, append-nil, length-append}
 use Rattle.std.specs.Ordering.{match_ordering}
 use Rattle.std.specs.declared.cmp.Ordering.{Ordering}
 use Rattle.std.specs.declared.cmp.Ordering.TheVariants.{Less, Equal, Greater}
@@ -9,16 +9,16 @@ use Rattle.plain_term.specs.Tree.{Tree as tree}
 use Rattle.plain_term.specs.Tree.{Trees as trees}
 use Rattle.plain_term.specs.Tree.{Pairs as pairs}
 use Rattle.plain_term.specs.Bytes.{shared_bytes}
-use Rattle.plain_term.specs.Order.{order, name_of}
+use Rattle.plain_term.specs.Order.{order}
 use Rattle.script_grammar.specs.Written.{Term, Terms, TermPairs}
 use Rattle.script_grammar.specs.Written.Term.{Int, Atom, Pid, Held, Listed, Barred, Tuple, Map, Bin}
 use Rattle.script_grammar.specs.Written.Terms.{end, ◌▹◌}
 use Rattle.script_grammar.specs.Written.TermPairs.{stop, pair}
-use Rattle.script_grammar.specs.Names.{number_of, atoms_of, atoms_of_all, atoms_of_pairs}
+use Rattle.script_grammar.specs.Names.{atoms_of, atoms_of_all, atoms_of_pairs}
 use Rattle.plain_machine.specs.Made.{tree_of, trees_of, pairs_of, with_pair, with_pairs, list_tree, bin_tree}
-use Rattle.plain_machine.specs.Flaws.{is_wide, are_wide, are_wide_pairs, has_many_keys, is_big, are_big, are_big_pairs, is_big_key}
+use Rattle.plain_machine.specs.Flaws.{is_wide, are_wide, are_wide_pairs, is_big, are_big, are_big_pairs}
 use Rattle.plain_machine.proofs.Making.{Extends, made-more, all-made-more, pairs-made-more, extends-then}
-use Rattle.named_trees.specs.NamedTree.{NamedTree, NamedTrees, NamedPairs, named, all_named, pairs_named, IsKnown, AreKnown, PairsKnown}
+use Rattle.named_trees.specs.NamedTree.{NamedTree, named, all_named, pairs_named, IsKnown, AreKnown, PairsKnown}
 use Rattle.named_trees.specs.NamedTree.{NamedTree as by_name}
 use Rattle.named_trees.specs.NamedTree.{NamedTrees as all_by_name}
 use Rattle.named_trees.specs.NamedTree.{NamedPairs as pairs_by_name}
@@ -26,7 +26,7 @@ use Rattle.named_trees.specs.Seen.{named_beyond, pairs_count}
 use Rattle.named_trees.specs.Doing.{named_list, named_put_all, named_bin, named_made, all_named_made, pairs_named_made, named_wide, all_named_wide, pairs_named_wide, named_big, all_named_big, pairs_named_big}
 use Rattle.named_trees.specs.Laws.{MadeOf, HaveNames, AllKnown}
 use Rattle.named_trees.proofs.Seeing.{pairs-seen, beyond-seen}
-use Rattle.named_trees.proofs.Growing.{named-grown, all-grown, pairs-grown}
+use Rattle.named_trees.proofs.Growing.{named-grown}
 use Rattle.named_trees.proofs.Doing.{at-by, list-by, put-all-by}
 
 names-front : (names xs ys : List (List ℕ)) → HaveNames names (xs ++ ys) → HaveNames names xs
@@ -48,7 +48,7 @@ module _ (names : List (List ℕ)) where
     longer = omega (arith, ap (λ (z : List (List ℕ)). length z) x.are, length-append old x.more)
 
     mutual
-      known-more : (t : Tree) → IsKnown names old t → IsKnown names new t
+      pub known-more : (t : Tree) → IsKnown names old t → IsKnown names new t
       known-more (tree.Atom k) h = h
       known-more (tree.Cons a b) h = (known-more a h.0, known-more b h.1)
       known-more (tree.Tuple ts) h = all-known-more ts h
@@ -62,20 +62,20 @@ module _ (names : List (List ℕ)) where
       known-more tree.Nil h = tt
       known-more (tree.Bin bytes) h = tt
 
-      all-known-more : (ts : Trees) → AreKnown names old ts → AreKnown names new ts
+      pub all-known-more : (ts : Trees) → AreKnown names old ts → AreKnown names new ts
       all-known-more trees.end h = tt
       all-known-more (trees.◌▹◌ t ts) h = (known-more t h.0, all-known-more ts h.1)
 
-      pairs-known-more : (ps : Pairs) → PairsKnown names old ps → PairsKnown names new ps
+      pub pairs-known-more : (ps : Pairs) → PairsKnown names old ps → PairsKnown names new ps
       pairs-known-more pairs.stop h = tt
       pairs-known-more (pairs.pair k v ps) h = (known-more k h.0, known-more v h.1, pairs-known-more ps h.2)
 
-    held-known-more : (ts : List Tree) → AllKnown names old ts → AllKnown names new ts
+    pub held-known-more : (ts : List Tree) → AllKnown names old ts → AllKnown names new ts
     held-known-more [] h = tt
     held-known-more (t ∷ ts) h = (known-more t h.0, held-known-more ts h.1)
 
     -- and are the same by name
-    same-more : (t : Tree) → IsKnown names old t → named names new t ≡ named names old t
+    pub same-more : (t : Tree) → IsKnown names old t → named names new t ≡ named names old t
     same-more t h =
         let P : List (List ℕ) → Type 0 = λ z. named z new t ≡ named names old t in
         let Q : List (List ℕ) → Type 0 = λ z. named (names ++ []) z t ≡ named names old t in
@@ -85,21 +85,21 @@ module _ (names : List (List ℕ)) where
     all-same-more trees.end h = refl
     all-same-more (trees.◌▹◌ t ts) h = λ i. all_by_name.before (same-more t h.0 i) (all-same-more ts h.1 i)
 
-    held-same-more : (ts : List Tree) → AllKnown names old ts → map (named names new) ts ≡ map (named names old) ts
+    pub held-same-more : (ts : List Tree) → AllKnown names old ts → map (named names new) ts ≡ map (named names old) ts
     held-same-more [] h = refl
     held-same-more (t ∷ ts) h = λ i. same-more t h.0 i ∷ held-same-more ts h.1 i
 
   -- what is made of known trees is known
-  at-known : (shared : List (List ℕ)) (ts : List Tree) (r : ℕ) → AllKnown names shared ts → IsKnown names shared (get_or ts r tree.Nil)
+  pub at-known : (shared : List (List ℕ)) (ts : List Tree) (r : ℕ) → AllKnown names shared ts → IsKnown names shared (get_or ts r tree.Nil)
   at-known shared [] r h = tt
   at-known shared (t ∷ ts) zero h = h.0
   at-known shared (t ∷ ts) (suc r) h = at-known shared ts r h.1
 
-  list-known : (shared : List (List ℕ)) (ts : Trees) (t : Tree) → AreKnown names shared ts → IsKnown names shared t → IsKnown names shared (list_tree ts t)
+  pub list-known : (shared : List (List ℕ)) (ts : Trees) (t : Tree) → AreKnown names shared ts → IsKnown names shared t → IsKnown names shared (list_tree ts t)
   list-known shared trees.end t h k = k
   list-known shared (trees.◌▹◌ u ts) t h k = (h.0, list-known shared ts t h.1 k)
 
-  put-known : (shared : List (List ℕ)) (k v : Tree) (ps : Pairs) → IsKnown names shared k → IsKnown names shared v → PairsKnown names shared ps
+  pub put-known : (shared : List (List ℕ)) (k v : Tree) (ps : Pairs) → IsKnown names shared k → IsKnown names shared v → PairsKnown names shared ps
       → PairsKnown names shared (with_pair names shared k v ps)
   put-known shared k v pairs.stop h g l = (h, g, tt)
   put-known shared k v (pairs.pair j w ps) h g l = by (put-known shared k v ps h g l.2) (order names shared k j)
@@ -119,7 +119,7 @@ module _ (names : List (List ℕ)) where
     pub makes : named names (made.1) (made.0) ≡ named_bin bytes
     pub known : IsKnown names (made.1) (made.0)
 
-  bin-made : (bytes : List ℕ) (shared : List (List ℕ)) → BinMade bytes (bin_tree bytes shared)
+  pub bin-made : (bytes : List ℕ) (shared : List (List ℕ)) → BinMade bytes (bin_tree bytes shared)
   bin-made bytes shared = at (nat_le (length bytes) 64) refl
     where
       plus-one : (n : ℕ) → n + 1 ≡ suc n

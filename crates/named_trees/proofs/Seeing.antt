@@ -1,12 +1,12 @@
 -- What is seen of a tree is seen of it by name.
-use Rattle.std.proofs.Common.{◌≡◌, ℕ, ◌+◌, ◌*◌, Bool, true, false, ◌||◌, nat_lt, max, List, [], ◌∷◌, ◌++◌, length, take, drop, codes, decimal, refl, ap, ◌∙◌, arith}
-use Rattle.std.specs.Ordering.{int_cmp, nat_cmp, ordering_then}
+use Rattle.std.proofs.Common.{◌≡◌, ℕ, ◌+◌, Bool, true, false, ◌||◌, nat_lt, max, List, ◌++◌, length, take, drop, codes, refl, ap, arith}
+use Rattle.std.specs.Ordering.{nat_cmp, ordering_then}
 use Rattle.plain_term.specs.Tree.{Tree, Trees, Pairs, trees_len, pairs_len}
 use Rattle.plain_term.specs.Tree.Tree.{Int, Atom, Pid, Ref, Nil, Cons, Tuple, Map, Bin, Shared, Part, Fun}
 use Rattle.plain_term.specs.Tree.Trees.{end, ◌▹◌}
 use Rattle.plain_term.specs.Tree.Pairs.{stop, pair}
-use Rattle.plain_term.specs.Bytes.{bytes_of, shared_bytes}
-use Rattle.plain_term.specs.Measures.{bin_nodes, bin_words, nodes, nodes_of_all, nodes_of_pairs, depth, greatest_depth, greatest_depth_of_pairs, flat, flat_of_all, flat_of_pairs}
+use Rattle.plain_term.specs.Bytes.{bytes_of}
+use Rattle.plain_term.specs.Measures.{bin_nodes, nodes, nodes_of_all, nodes_of_pairs, depth, greatest_depth, greatest_depth_of_pairs, flat, flat_of_all, flat_of_pairs}
 use Rattle.plain_term.specs.Beyond.{is_beyond, node_limit, depth_limit}
 use Rattle.plain_term.specs.Order.{order, order_of_all, order_of_keys, order_of_values, kind_rank, bytes_order, name_of}
 use Rattle.plain_term.specs.Text.{binary_text, placed, text_as, text_of_all, more_terms, text_of_pairs, more_pairs}

@@ -1,5 +1,5 @@
 -- What the machine does to trees, done to them by name: parts, maps with a pair more, trees of many places, written terms.
-use Rattle.std.specs.Prelude.{ℕ, zero, suc, ◌+◌, Bool, true, false, ◌||◌, ◌&&◌, not, nat_lt, nat_le, if◌then◌else◌, List, [], ◌∷◌, length, get_or, Option, Some, None}
+use Rattle.std.specs.Prelude.{ℕ, zero, suc, ◌+◌, Bool, false, ◌||◌, ◌&&◌, not, nat_lt, nat_le, if◌then◌else◌, List, length, get_or, Option, Some, None}
 use Rattle.std.specs.Ordering.{is_eq, match_ordering}
 use Rattle.term_tags.specs.declared.layouts.TheConstants.{MOST_KEYS}
 use Rattle.script_grammar.specs.declared.command.Pick.{Pick}

@@ -15,9 +15,10 @@ use Rattle.plain_machine.specs.State.{Process}
 use Rattle.plain_machine.specs.Made.{tree_of, with_pair}
 use Rattle.plain_machine.specs.Flaws.{is_wide, is_big}
 use Rattle.plain_machine.specs.Parts.{picked, repeated}
-use Rattle.named_trees.specs.NamedTree.{named, pairs_named, IsKnown}
+use Rattle.named_trees.specs.NamedTree.{NamedTree, named, pairs_named, IsKnown}
 use Rattle.named_trees.specs.Seen.{named_bytes, named_nodes, named_depth, named_flat, named_beyond, named_order, named_text}
 use Rattle.named_trees.specs.Doing.{named_picked, named_put, named_repeated, named_made, named_wide, named_big}
+use Rattle.named_trees.specs.Entering.{names_with, shared_with, entered}
 
 -- What is seen of one tree is seen of the tree by name.
 pub record SeenOf (names shared : List (List ℕ)) (t : Tree) : Type 0 where
@@ -71,4 +72,13 @@ AllKnown names shared [] = Unit {0}
 AllKnown names shared (t ∷ ts) = IsKnown names shared t × AllKnown names shared ts
 
 abbrev pub IsMadeByName : Type 0
-IsMadeByName = (names : List (List ℕ)) (held : List Tree) (shared : List (List ℕ)) (t : Term) → AllKnown names shared held → HaveNames names (atoms_of t) → MadeOf names held shared t
+IsMadeByName = (names : List (List ℕ)) (held : List Tree) (shared : List (List ℕ)) (t : Term) → AllKnown names shared held → HaveNames names (atoms_of t)
+    → MadeOf names held shared t
+
+-- A tree that enters with its names and byte lists is known, and by name it is what entered.
+pub record EntersOf (names shared : List (List ℕ)) (t : NamedTree) : Type 0 where
+  pub is : named (names_with names t) (shared_with shared t) (entered names shared t) ≡ t
+  pub known : IsKnown (names_with names t) (shared_with shared t) (entered names shared t)
+
+abbrev pub EntersAsItself : Type 0
+EntersAsItself = (names shared : List (List ℕ)) (t : NamedTree) → EntersOf names shared t

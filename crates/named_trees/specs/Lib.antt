@@ -1,4 +1,5 @@
 pub mod NamedTree
 pub mod Seen
 pub mod Doing
+pub mod Entering
 pub mod Laws

@@ -1,4 +1,5 @@
-ghost use Rattle.named_trees.specs.Laws.{GrowthKeeps, IsDoneByName, IsMadeByName, IsSeenByName, ProperIsKnown};
+// The laws of trees by name.
+ghost use Rattle.named_trees.specs.Laws.{EntersAsItself, GrowthKeeps, IsDoneByName, IsMadeByName, IsSeenByName, ProperIsKnown};
 
 /// The bytes, sizes and text of a tree, and how it stands to another, are functions of the trees by name alone.
 pub fn what_is_seen_is_named()
@@ -23,4 +24,9 @@ pub fn what_is_done_is_named()
 /// What a written term makes is, by name, made of the registers by name, and so is what is wrong with its maps.
 pub fn what_is_made_is_named()
     ensures { IsMadeByName }
+{}
+
+/// A tree by name that enters a state, its names and byte lists added where they are new, is by name what entered.
+pub fn named_trees_enter()
+    ensures { EntersAsItself }
 {}

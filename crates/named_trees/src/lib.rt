@@ -4,6 +4,6 @@
 mod laws;
 
 pub use laws::{
-    growth_keeps_named_trees, proper_trees_are_known, what_is_done_is_named, what_is_made_is_named,
-    what_is_seen_is_named,
+    growth_keeps_named_trees, named_trees_enter, proper_trees_are_known, what_is_done_is_named,
+    what_is_made_is_named, what_is_seen_is_named,
 };

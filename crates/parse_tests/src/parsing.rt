@@ -29,339 +29,345 @@ fn answer_to(line: &[u8], names: &mut AtomNames, code: &mut Code) -> Answer {
     }
 }
 
-// Lines that are read: nothing, or one command.
-const READ: [&[u8]; 76] = [
-    b"",
-    b" \t ",
-    b"% any \x00\xff bytes",
-    b" \t% too",
-    b"1 set 0 1",
-    b"  1\tset \t 0  [1 , 2]  ",
-    b"1 set 0 {1,[2]}",
-    b"1 set 0 { }",
-    b"1 set 0 [ ]",
-    b"1 set 0 0",
-    b"1 set 0 -1",
-    b"1 set 0 <0.1.0>",
-    b"1 set 0 a@_Z9",
-    b"1 set 15 a",
-    b"0 exit",
-    b"1 print 0",
-    b"1 push 0",
-    b"1 pop 1",
-    b"2 self 0",
-    b"1 exit",
-    b"sys spawn",
-    b" sys  procs ",
-    b"sys quit",
-    b"1 gc minor",
-    b"1  gc\tmajor ",
-    b"sys sweep",
-    b"1099511627775 exit",
-    b"1 set 0 576460752303423488",
-    b"1 set 0 -576460752303423489",
-    b"1 set 0 170141183460469231731687303715884105727",
-    b"1 set 0 -170141183460469231731687303715884105727",
-    b"1 set 0 <0.1099511627775.0>",
-    b"1 set 0 $0",
-    b"1 set 0 { $15 , $9 }",
-    b"1 set 0 [a|b]",
-    b"1 set 0 [ a , b | [ c ] ]",
-    b"1 set 0 [1|[]]",
-    b"1 set 0 #{}",
-    b"1 set 0 #{ }",
-    b"1 set 0 #{a=>1}",
-    b"1 set 0 #{ a => 1 , #{ } => [b|c] , $0=>$0 }",
-    b"1 hd 0 1",
-    b"1 tl 15 0",
-    b"1 elem 0 1099511627775 1",
-    b"1 mapget 0 1 2",
-    b"1 mapput 0 1 2 15",
-    b"1 ref 0",
-    b"1 mktuple 0 0 1",
-    b" 1  mklist\t0 65537  1 ",
-    b"1 eq 0 1",
-    b"1 cmp 0 0",
-    b"1 flat 0",
-    b"1 set 0 <<>>",
-    b"1 set 0 << >>",
-    b"1 set 0 <<0>>",
-    b"1 set 0 << 1 ,\t255 >>",
-    b"1 set 0 [<<1>>|<<2>>]",
-    b"1 set 0 #{<<>>=><<10,100>>}",
-    b"1 part 0 1 2 1099511627775",
-    b"1 fill 0 1048577 256",
-    b" 1\tfill 15  0 0 ",
-    b"1 fun 0 f 0",
-    b"1 fun 0 f 256 $0",
-    b"1 fun 15  a@B  1  $15\t$0 ",
-    b"1 env 0 1 2",
-    b"sys counts",
-    b" sys  counts ",
-    b"1 send 0 0",
-    b"1 send 0 1",
-    b"1 send 15 1099511627775",
-    b"1 send 0 $0",
-    b"  7\tsend  3 \t $15 ",
-    b"1 recv 0",
-    b" 1  recv\t15 ",
-    b"1 queue",
-    b" 0\tqueue ",
-];
+// Lines that are read, one a row: nothing, or one command. A blank at the end of a row is written `\x20`.
+const READ: &[u8] = b"
+ \t\x20
+% any \x00\xff bytes
+ \t% too
+1 set 0 1
+  1\tset \t 0  [1 , 2] \x20
+1 set 0 {1,[2]}
+1 set 0 { }
+1 set 0 [ ]
+1 set 0 0
+1 set 0 -1
+1 set 0 <0.1.0>
+1 set 0 a@_Z9
+1 set 15 a
+0 exit
+1 print 0
+1 push 0
+1 pop 1
+2 self 0
+1 exit
+sys spawn
+ sys  procs\x20
+sys quit
+1 gc minor
+1  gc\tmajor\x20
+sys sweep
+1099511627775 exit
+1 set 0 576460752303423488
+1 set 0 -576460752303423489
+1 set 0 170141183460469231731687303715884105727
+1 set 0 -170141183460469231731687303715884105727
+1 set 0 <0.1099511627775.0>
+1 set 0 $0
+1 set 0 { $15 , $9 }
+1 set 0 [a|b]
+1 set 0 [ a , b | [ c ] ]
+1 set 0 [1|[]]
+1 set 0 #{}
+1 set 0 #{ }
+1 set 0 #{a=>1}
+1 set 0 #{ a => 1 , #{ } => [b|c] , $0=>$0 }
+1 hd 0 1
+1 tl 15 0
+1 elem 0 1099511627775 1
+1 mapget 0 1 2
+1 mapput 0 1 2 15
+1 ref 0
+1 mktuple 0 0 1
+ 1  mklist\t0 65537  1\x20
+1 eq 0 1
+1 cmp 0 0
+1 flat 0
+1 set 0 <<>>
+1 set 0 << >>
+1 set 0 <<0>>
+1 set 0 << 1 ,\t255 >>
+1 set 0 [<<1>>|<<2>>]
+1 set 0 #{<<>>=><<10,100>>}
+1 part 0 1 2 1099511627775
+1 fill 0 1048577 256
+ 1\tfill 15  0 0\x20
+1 fun 0 f 0
+1 fun 0 f 256 $0
+1 fun 15  a@B  1  $15\t$0\x20
+1 env 0 1 2
+sys counts
+ sys  counts\x20
+1 send 0 0
+1 send 0 1
+1 send 15 1099511627775
+1 send 0 $0
+  7\tsend  3 \t $15\x20
+1 recv 0
+ 1  recv\t15\x20
+1 queue
+ 0\tqueue\x20
+";
 
-// Lines that are in no grammar, or only in that of what is not built.
-const UNREAD: [&[u8]; 181] = [
-    b"1099511627776 exit",
-    b"01 exit",
-    b"+1 exit",
-    b"-1 exit",
-    b"1exit",
-    b"1 exit 0",
-    b"1 exit % word",
-    b"1 exitx",
-    b"1 Exit",
-    b"1",
-    b"1 ",
-    b"sys",
-    b"sys ",
-    b"sysspawn",
-    b"sys spawn 1",
-    b"Sys spawn",
-    b"spawn",
-    b"1 print",
-    b"1 print 16",
-    b"1 print 00",
-    b"1 print 0 0",
-    b"1 print $0",
-    b"1 print 0%",
-    b"1 set 0",
-    b"1 set 0 ",
-    b"1 set 0{1}",
-    b"1 set 0 1 1",
-    b"1 set 0 01",
-    b"1 set 0 -0",
-    b"1 set 0 -01",
-    b"1 set 0 - 1",
-    b"1 set 0 +1",
-    b"1 set 0 170141183460469231731687303715884105728",
-    b"1 set 0 -170141183460469231731687303715884105728",
-    b"1 set 0 340282366920938463463374607431768211457",
-    b"1 set 0 1701411834604692317316873037158841057270",
-    b"1 set 0 [|a]",
-    b"1 set 0 [ | a]",
-    b"1 set 0 [a|]",
-    b"1 set 0 [a,|b]",
-    b"1 set 0 [a|b|c]",
-    b"1 set 0 [a|b,c]",
-    b"1 set 0 [a|b",
-    b"1 set 0 {a|b}",
-    b"1 set 0 {,}",
-    b"1 set 0 [,]",
-    b"1 set 0 [1,]",
-    b"1 set 0 [1",
-    b"1 set 0 {1,",
-    b"1 set 0 [1}",
-    b"1 set 0 {1]",
-    b"1 set 0 [1 2]",
-    b"1 set 0 1]",
-    b"1 set 0 #{a}",
-    b"1 set 0 #{a=>}",
-    b"1 set 0 #{=>a}",
-    b"1 set 0 #{a= >b}",
-    b"1 set 0 #{a,b}",
-    b"1 set 0 #{a=>b,}",
-    b"1 set 0 #{a=>b=>c}",
-    b"1 set 0 #{a=>b|c}",
-    b"1 set 0 #{a=>b",
-    b"1 set 0 #{a=>b]",
-    b"1 set 0 # {}",
-    b"1 set 0 {a=>b}",
-    b"1 set 0 #[]",
-    b"1 set 0 <<256>>",
-    b"1 set 0 <<1000>>",
-    b"1 set 0 <<1,>>",
-    b"1 set 0 <<,1>>",
-    b"1 set 0 <<,>>",
-    b"1 set 0 <<1 2>>",
-    b"1 set 0 <<01>>",
-    b"1 set 0 <<00>>",
-    b"1 set 0 <<-0>>",
-    b"1 set 0 <<-1>>",
-    b"1 set 0 <<a>>",
-    b"1 set 0 <<$0>>",
-    b"1 set 0 <<[]>>",
-    b"1 set 0 <<1|2>>",
-    b"1 set 0 < <1>>",
-    b"1 set 0 <<1> >",
-    b"1 set 0 <<1>",
-    b"1 set 0 <<1",
-    b"1 set 0 <<",
-    b"1 set 0 <<1>>>",
-    b"1 set 0<<1>>",
-    b"1 set 0 <<1]",
-    b"1 set 0 [1>>",
-    b"1 set 0 <>",
-    b"1 set 0 <0.0.0>",
-    b"1 set 0 <0.1.1>",
-    b"1 set 0 <1.1.0>",
-    b"1 set 0 <0.01.0>",
-    b"1 set 0 <0. 1.0>",
-    b"1 set 0 <0.1099511627776.0>",
-    b"1 set 0 $16",
-    b"1 set 0 $00",
-    b"1 set 0 $01",
-    b"1 set 0 $ 1",
-    b"1 set 0 $",
-    b"1 set 0 $-1",
-    b"1 set 0 $1 $2",
-    b"1 set 0 Abc",
-    b"1 set 0 _a",
-    b"1 set 0 a-b",
-    b"1 set 0 \xc3",
-    b"1 set 0 a\x00",
-    b"1 hd 0",
-    b"1 hd 0 1 2",
-    b"1 tl 0 16",
-    b"1 elem 0 1",
-    b"1 elem 0 01 1",
-    b"1 elem 0 1099511627776 1",
-    b"1 mapget 0 1",
-    b"1 mapput 0 1 2",
-    b"1 mapput 0 1 2 3 4",
-    b"1 mktuple 0 1",
-    b"1 mklist 0 a 1",
-    b"1 eq 0",
-    b"1 eq $0 $1",
-    b"1 cmp 0 1 2",
-    b"1 flat 0 0",
-    b"1 ref",
-    b"1 part 0 1 2",
-    b"1 part 0 1 2 3 4",
-    b"1 part 0 1 01 1",
-    b"1 part 0 1 -1 1",
-    b"1 part 0 16 0 1",
-    b"1 fill 0 1",
-    b"1 fill 0 1 2 3",
-    b"1 fill 0 1 a",
-    b"1 fill 0 1099511627776 1",
-    b"1 fun 0 f",
-    b"1 fun 0 F 0",
-    b"1 fun 0 f $0",
-    b"1 fun 0 f 0 0",
-    b"1 fun 0 f 0 $16",
-    b"1 fun 0 f 0 $00",
-    b"1 fun 0 f 0 $0$1",
-    b"1 fun 0 f 0$0",
-    b"1 fun 0 f 0 $0,$1",
-    b"1 fun 0 f 0 $0 a",
-    b"1 fun 0 f 0 $",
-    b"1 env 0 1",
-    b"1 env 0 1 $2",
-    b"sys counts 0",
-    b"1 counts",
-    b"1 lit 0 a 1",
-    b"1 send",
-    b"1 send 0",
-    b"1 send 0 ",
-    b"1 send 0 1 2",
-    b"1 send 0 01",
-    b"1 send 0 -1",
-    b"1 send 0 1099511627776",
-    b"1 send 16 1",
-    b"1 send $0 1",
-    b"1 send 0 $16",
-    b"1 send 0 $00",
-    b"1 send 0 $",
-    b"1 send 0 $ 1",
-    b"1 send 0 $1 $2",
-    b"1 send 0 a",
-    b"1 send 0 <0.1.0>",
-    b"1 send 0$1",
-    b"1 recv",
-    b"1 recv 16",
-    b"1 recv 0 0",
-    b"1 recv $0",
-    b"1 queue 0",
-    b"queue 1",
-    b"sys queue",
-    b"1 gc",
-    b"1 gc 0",
-    b"1 gc full",
-    b"1 gcminor",
-    b"1 gc minormajor",
-    b"1 gc minor major",
-    b"sys gc minor",
-    b"sys sweep 1",
-];
+// Lines that are in no grammar, or only in that of what is not built, one a row.
+const UNREAD: &[u8] = b"1099511627776 exit
+01 exit
++1 exit
+-1 exit
+1exit
+1 exit 0
+1 exit % word
+1 exitx
+1 Exit
+1
+1\x20
+sys
+sys\x20
+sysspawn
+sys spawn 1
+Sys spawn
+spawn
+1 print
+1 print 16
+1 print 00
+1 print 0 0
+1 print $0
+1 print 0%
+1 set 0
+1 set 0\x20
+1 set 0{1}
+1 set 0 1 1
+1 set 0 01
+1 set 0 -0
+1 set 0 -01
+1 set 0 - 1
+1 set 0 +1
+1 set 0 170141183460469231731687303715884105728
+1 set 0 -170141183460469231731687303715884105728
+1 set 0 340282366920938463463374607431768211457
+1 set 0 1701411834604692317316873037158841057270
+1 set 0 [|a]
+1 set 0 [ | a]
+1 set 0 [a|]
+1 set 0 [a,|b]
+1 set 0 [a|b|c]
+1 set 0 [a|b,c]
+1 set 0 [a|b
+1 set 0 {a|b}
+1 set 0 {,}
+1 set 0 [,]
+1 set 0 [1,]
+1 set 0 [1
+1 set 0 {1,
+1 set 0 [1}
+1 set 0 {1]
+1 set 0 [1 2]
+1 set 0 1]
+1 set 0 #{a}
+1 set 0 #{a=>}
+1 set 0 #{=>a}
+1 set 0 #{a= >b}
+1 set 0 #{a,b}
+1 set 0 #{a=>b,}
+1 set 0 #{a=>b=>c}
+1 set 0 #{a=>b|c}
+1 set 0 #{a=>b
+1 set 0 #{a=>b]
+1 set 0 # {}
+1 set 0 {a=>b}
+1 set 0 #[]
+1 set 0 <<256>>
+1 set 0 <<1000>>
+1 set 0 <<1,>>
+1 set 0 <<,1>>
+1 set 0 <<,>>
+1 set 0 <<1 2>>
+1 set 0 <<01>>
+1 set 0 <<00>>
+1 set 0 <<-0>>
+1 set 0 <<-1>>
+1 set 0 <<a>>
+1 set 0 <<$0>>
+1 set 0 <<[]>>
+1 set 0 <<1|2>>
+1 set 0 < <1>>
+1 set 0 <<1> >
+1 set 0 <<1>
+1 set 0 <<1
+1 set 0 <<
+1 set 0 <<1>>>
+1 set 0<<1>>
+1 set 0 <<1]
+1 set 0 [1>>
+1 set 0 <>
+1 set 0 <0.0.0>
+1 set 0 <0.1.1>
+1 set 0 <1.1.0>
+1 set 0 <0.01.0>
+1 set 0 <0. 1.0>
+1 set 0 <0.1099511627776.0>
+1 set 0 $16
+1 set 0 $00
+1 set 0 $01
+1 set 0 $ 1
+1 set 0 $
+1 set 0 $-1
+1 set 0 $1 $2
+1 set 0 Abc
+1 set 0 _a
+1 set 0 a-b
+1 set 0 \xc3
+1 set 0 a\x00
+1 hd 0
+1 hd 0 1 2
+1 tl 0 16
+1 elem 0 1
+1 elem 0 01 1
+1 elem 0 1099511627776 1
+1 mapget 0 1
+1 mapput 0 1 2
+1 mapput 0 1 2 3 4
+1 mktuple 0 1
+1 mklist 0 a 1
+1 eq 0
+1 eq $0 $1
+1 cmp 0 1 2
+1 flat 0 0
+1 ref
+1 part 0 1 2
+1 part 0 1 2 3 4
+1 part 0 1 01 1
+1 part 0 1 -1 1
+1 part 0 16 0 1
+1 fill 0 1
+1 fill 0 1 2 3
+1 fill 0 1 a
+1 fill 0 1099511627776 1
+1 fun 0 f
+1 fun 0 F 0
+1 fun 0 f $0
+1 fun 0 f 0 0
+1 fun 0 f 0 $16
+1 fun 0 f 0 $00
+1 fun 0 f 0 $0$1
+1 fun 0 f 0$0
+1 fun 0 f 0 $0,$1
+1 fun 0 f 0 $0 a
+1 fun 0 f 0 $
+1 env 0 1
+1 env 0 1 $2
+sys counts 0
+1 counts
+1 lit 0 a 1
+1 send
+1 send 0
+1 send 0\x20
+1 send 0 1 2
+1 send 0 01
+1 send 0 -1
+1 send 0 1099511627776
+1 send 16 1
+1 send $0 1
+1 send 0 $16
+1 send 0 $00
+1 send 0 $
+1 send 0 $ 1
+1 send 0 $1 $2
+1 send 0 a
+1 send 0 <0.1.0>
+1 send 0$1
+1 recv
+1 recv 16
+1 recv 0 0
+1 recv $0
+1 queue 0
+queue 1
+sys queue
+1 gc
+1 gc 0
+1 gc full
+1 gcminor
+1 gc minormajor
+1 gc minor major
+sys gc minor
+sys sweep 1
+";
 
-// Whether each of the lines is answered so.
-fn all_answer(alloc: Global, lines: &[&[u8]], want: Answer) -> Result<bool, Fail> {
-    let mut names = AtomNames::new(alloc)?;
-    let mut code = Code::new(alloc)?;
-    for line in lines {
-        if answer_to(line, &mut names, &mut code) != want {
-            return Ok(false);
+// How many bytes the first row of a text has.
+fn row_len(text: &[u8]) -> usize
+    ensures { result ≤ length text.now }
+{
+    for (n, b) in text.iter().enumerate() {
+        if *b == b'\n' {
+            return n;
         }
     }
-    Ok(true)
+    text.len()
+}
+
+// Whether each row of the text is a line that is answered so.
+fn all_answer(text: &[u8], want: Answer, names: &mut AtomNames, code: &mut Code) -> bool {
+    let mut rest = text;
+    for _ in 0..text.len() {
+        if rest.is_empty() {
+            return true;
+        }
+        let n = row_len(rest);
+        if answer_to(&rest[..n], names, code) != want {
+            return false;
+        }
+        if n == rest.len() {
+            return true;
+        }
+        rest = &rest[n..][1..];
+    }
+    rest.is_empty()
+}
+
+// The same, where no name stands before.
+fn rows_answer(alloc: Global, text: &[u8], want: Answer) -> Result<bool, Fail> {
+    let mut names = AtomNames::new(alloc)?;
+    let mut code = Code::new(alloc)?;
+    Ok(all_answer(text, want, &mut names, &mut code))
 }
 
 #[test]
 fn commands_are_read(rt: HostRuntime) -> Result<(), Fail> {
-    assert!(rt; all_answer(rt.alloc(), &READ, Answer::Read)?);
+    assert!(rt; rows_answer(rt.alloc(), READ, Answer::Read)?);
     Ok(())
 }
 
 #[test]
 fn all_else_is_a_fault_of_syntax(rt: HostRuntime) -> Result<(), Fail> {
-    assert!(rt; all_answer(rt.alloc(), &UNREAD, Answer::Syntax)?);
+    assert!(rt; rows_answer(rt.alloc(), UNREAD, Answer::Syntax)?);
     Ok(())
 }
 
-// A line that is made: something that is repeated between a beginning and an end, and the number of times.
+// A line that is made: something that is repeated between a beginning and an end, so many times at most.
 #[derive(Clone, Copy)]
 enum Made {
     // A term within levels of one form: what opens a level, the innermost term, and what closes a level.
     Nested(&'static [u8], &'static [u8], &'static [u8], u64),
     // An atom of so many bytes.
-    Atom(usize),
-    // A binary of so many bytes.
-    Binary(usize),
+    Atom(u64),
     // A fun with so many registers.
     Fun(u64),
 }
 
-// Lines at the limits, and beyond them.
-const LIMITS: [(Made, Answer); 22] = [
-    (Made::Nested(b"[", b"b", b"]", LEVELS), Answer::Read),
-    (Made::Nested(b"[", b"b", b"]", LEVELS + 1), Answer::Syntax),
-    (Made::Nested(b"{", b"b", b"}", LEVELS), Answer::Read),
-    (Made::Nested(b"{", b"b", b"}", LEVELS + 1), Answer::Syntax),
-    (Made::Nested(b"[a|", b"b", b"]", LEVELS), Answer::Read),
-    (Made::Nested(b"[a|", b"b", b"]", LEVELS + 1), Answer::Syntax),
-    (Made::Nested(b"#{a=>", b"b", b"}", LEVELS), Answer::Read),
-    (
-        Made::Nested(b"#{a=>", b"b", b"}", LEVELS + 1),
-        Answer::Syntax,
-    ),
-    (Made::Nested(b"#{", b"b", b"=>a}", LEVELS), Answer::Read),
-    (
-        Made::Nested(b"#{", b"b", b"=>a}", LEVELS + 1),
-        Answer::Syntax,
-    ),
-    (Made::Nested(b"[", b"<<1>>", b"]", LEVELS - 1), Answer::Read),
-    (Made::Nested(b"[", b"<<>>", b"]", LEVELS), Answer::Syntax),
-    (Made::Atom(LONGEST_NAME), Answer::Read),
-    (Made::Atom(LONGEST_NAME + 1), Answer::Syntax),
-    (Made::Binary(0), Answer::Read),
-    (Made::Binary(1), Answer::Read),
-    (Made::Binary(64), Answer::Read),
-    (Made::Binary(65), Answer::Read),
-    (Made::Binary(1000), Answer::Read),
-    (Made::Fun(0), Answer::Read),
-    (Made::Fun(MOST_HELD), Answer::Read),
-    (Made::Fun(MOST_HELD + 1), Answer::Syntax),
+// Lines that are read up to their limits, and not beyond them.
+const LIMITS: [Made; 9] = [
+    Made::Nested(b"[", b"b", b"]", LEVELS),
+    Made::Nested(b"{", b"b", b"}", LEVELS),
+    Made::Nested(b"[a|", b"b", b"]", LEVELS),
+    Made::Nested(b"#{a=>", b"b", b"}", LEVELS),
+    Made::Nested(b"#{", b"b", b"=>a}", LEVELS),
+    Made::Nested(b"[", b"<<1>>", b"]", LEVELS - 1),
+    Made::Nested(b"[", b"<<>>", b"]", LEVELS - 1),
+    Made::Atom(LONGEST_NAME as u64),
+    Made::Fun(MOST_HELD),
 ];
+
+// How many bytes a binary has that is read: there is no limit but that of the line.
+const SIZES: [u64; 5] = [0, 1, 64, 65, 1000];
 
 fn nested(
     alloc: Global,
@@ -381,7 +387,7 @@ fn nested(
     Ok(line)
 }
 
-fn long_atom(alloc: Global, len: usize) -> Result<Vec<u8>, AllocError> {
+fn long_atom(alloc: Global, len: u64) -> Result<Vec<u8>, AllocError> {
     let mut line = b"1 set 0 ".to_vec(alloc)?;
     for _ in 0..len {
         line.push(b'a')?;
@@ -389,7 +395,7 @@ fn long_atom(alloc: Global, len: usize) -> Result<Vec<u8>, AllocError> {
     Ok(line)
 }
 
-fn long_binary(alloc: Global, len: usize) -> Result<Vec<u8>, AllocError> {
+fn long_binary(alloc: Global, len: u64) -> Result<Vec<u8>, AllocError> {
     let mut line = b"1 set 0 <<".to_vec(alloc)?;
     for k in 0..len {
         if k > 0 {
@@ -409,42 +415,61 @@ fn wide_fun(alloc: Global, held: u64) -> Result<Vec<u8>, AllocError> {
     Ok(line)
 }
 
-fn line_of(alloc: Global, made: Made) -> Result<Vec<u8>, AllocError> {
+// The line with so many times more than its limit.
+fn line_of(alloc: Global, made: Made, more: u64) -> Result<Vec<u8>, AllocError> {
     match made {
         Made::Nested(opening, inner, closing, levels) => {
-            nested(alloc, opening, inner, closing, levels)
+            nested(alloc, opening, inner, closing, levels.saturating_add(more))
         },
-        Made::Atom(len) => long_atom(alloc, len),
-        Made::Binary(len) => long_binary(alloc, len),
-        Made::Fun(held) => wide_fun(alloc, held),
+        Made::Atom(len) => long_atom(alloc, len.saturating_add(more)),
+        Made::Fun(held) => wide_fun(alloc, held.saturating_add(more)),
     }
 }
 
-fn limit_holds(alloc: Global, made: Made, want: Answer) -> Result<bool, Fail> {
-    let line = line_of(alloc, made)?;
-    all_answer(alloc, &[line.as_slice()], want)
+fn made_answers(alloc: Global, made: Made, more: u64, want: Answer) -> Result<bool, Fail> {
+    let line = line_of(alloc, made, more)?;
+    rows_answer(alloc, line.as_slice(), want)
 }
 
 #[test]
 fn limits_are_met(rt: HostRuntime) -> Result<(), Fail> {
-    for (made, want) in &LIMITS {
-        assert!(rt; limit_holds(rt.alloc(), *made, *want)?);
+    for made in &LIMITS {
+        assert!(rt; made_answers(rt.alloc(), *made, 0, Answer::Read)?);
+        assert!(rt; made_answers(rt.alloc(), *made, 1, Answer::Syntax)?);
     }
     Ok(())
 }
 
-// Lines over a full table, which has the names aaa to ygd.
-const FULL: [(&[u8], Answer); 9] = [
-    (b"1 set 0 fresh", Answer::Atoms),
-    (b"99 set 0 [aaa,fresh]", Answer::Atoms),
-    (b"1 set 0 [fresh", Answer::Syntax),
-    (b"1 set 0 [aaa,ygz]", Answer::Atoms),
-    (b"1 set 0 [aaa,ygd]", Answer::Read),
-    (b"1 set 0 {}", Answer::Read),
-    (b"1 fun 0 fresh 0", Answer::Atoms),
-    (b"1 fun 0 fresh 0 $16", Answer::Syntax),
-    (b"1 fun 0 ygd 300 $1", Answer::Read),
-];
+fn binary_is_read(alloc: Global, len: u64) -> Result<bool, Fail> {
+    let line = long_binary(alloc, len)?;
+    rows_answer(alloc, line.as_slice(), Answer::Read)
+}
+
+#[test]
+fn binaries_of_any_size_are_read(rt: HostRuntime) -> Result<(), Fail> {
+    for len in &SIZES {
+        assert!(rt; binary_is_read(rt.alloc(), *len)?);
+    }
+    Ok(())
+}
+
+// Lines over a full table, which has the names aaa to ygd, one a row: those whose new names are too many,
+const FULL_ATOMS: &[u8] = b"1 set 0 fresh
+99 set 0 [aaa,fresh]
+1 set 0 [aaa,ygz]
+1 fun 0 fresh 0
+";
+
+// those that are in no grammar,
+const FULL_UNREAD: &[u8] = b"1 set 0 [fresh
+1 fun 0 fresh 0 $16
+";
+
+// and those that are read.
+const FULL_READ: &[u8] = b"1 set 0 [aaa,ygd]
+1 set 0 {}
+1 fun 0 ygd 300 $1
+";
 
 // Whether names of three letters take all numbers.
 fn fill(names: &mut AtomNames) -> bool {
@@ -467,12 +492,12 @@ fn full_holds(alloc: Global) -> Result<bool, Fail> {
     if !fill(&mut names) {
         return Ok(false);
     }
-    for (line, want) in &FULL {
-        if answer_to(line, &mut names, &mut code) != *want {
-            return Ok(false);
-        }
-    }
-    Ok(names.count() == MOST_NAMES as u64)
+    Ok(
+        all_answer(FULL_ATOMS, Answer::Atoms, &mut names, &mut code)
+            && all_answer(FULL_UNREAD, Answer::Syntax, &mut names, &mut code)
+            && all_answer(FULL_READ, Answer::Read, &mut names, &mut code)
+            && names.count() == MOST_NAMES as u64,
+    )
 }
 
 #[test]

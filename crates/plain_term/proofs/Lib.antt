@@ -5,4 +5,5 @@ pub mod ApartLemmas
 pub mod OrderLemmas
 pub mod WrittenLemmas
 pub mod TokenLemmas
+pub mod Rising
 pub mod LawLemmas

@@ -1,3 +1,4 @@
+// The order of two trees.
 #![tactic(auto, using(crate::proofs::ViewLemmas::view_steps))]
 
 ghost use Rattle.std.specs.Prelude.{◌≡◌, ℕ, List, [], map, IsTrue};

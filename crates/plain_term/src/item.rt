@@ -1,3 +1,4 @@
+// The pieces of a written term.
 /// One piece of a written term in prefix form: a constructor stands before its parts.
 ///
 /// `Tuple(n)` is followed by `n` terms, `Map(n)` by `n` pairs of key and value, `Bin(n)` by `n`

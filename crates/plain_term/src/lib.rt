@@ -1,4 +1,4 @@
-// Terms as plain trees: the written form, and the definitions that every other crate is measured by.
+//! Terms as plain trees: the written form, and the definitions that every other crate is measured by.
 #![tactic(auto)]
 
 mod comparison;

@@ -1,3 +1,4 @@
+// Nodes, depth and flat size of a tree.
 #![tactic(auto, using(crate::proofs::ViewLemmas::view_steps))]
 
 ghost use Rattle.std.specs.Prelude.{◌≡◌, ◌+◌, ◌*◌, ◌-◌, ◌^◌, ℕ, min, List, [], map, length, IsTrue};

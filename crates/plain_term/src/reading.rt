@@ -1,3 +1,4 @@
+// A tree read from its items.
 ghost use Rattle.std.specs.Prelude.{◌≡◌, ◌≢◌, ◌<◌, ◌≤◌, ℕ, List, [], ◌∷◌, ◌++◌, length, IfSome, MatchOption, MatchResult};
 ghost use Rattle.plain_term.specs.View.{view};
 ghost use Rattle.plain_term.specs.Tree as plain;

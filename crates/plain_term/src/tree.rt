@@ -1,3 +1,4 @@
+// Trees, and the bytes of binaries.
 ghost use Rattle.std.specs.Prelude.{◌≡◌, [], take, drop};
 ghost use Rattle.plain_term.specs.View.{view};
 ghost use Rattle.plain_term.specs.Bytes.{bytes_of};

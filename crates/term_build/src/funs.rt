@@ -1,3 +1,4 @@
+// Funs over a record that is there.
 ghost use Rattle.std.specs.Prelude.{◌≡◌, ℕ, ◌+◌, ◌<◌, ◌≤◌, Bool, List, ◌∷◌, length};
 ghost use Rattle.term_tags.specs.Words.{boxed_word, head_word, pid_word};
 ghost use Rattle.term_tags.specs.declared.kinds.TheConstants.{PIDS};

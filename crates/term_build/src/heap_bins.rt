@@ -1,3 +1,4 @@
+// Binaries with their bytes on the heap.
 ghost use Rattle.std.specs.Prelude.{◌≡◌, ℕ, ◌+◌, ◌<◌, ◌≤◌, Bool, List, [], ◌∷◌, length, slice_index};
 ghost use Rattle.term_tags.specs.Words.{boxed_word, head_word};
 ghost use Rattle.term_tags.specs.declared.layouts.TheConstants.{HEAP_BIN, MOST_HEAP_BYTES};

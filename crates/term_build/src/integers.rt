@@ -1,3 +1,4 @@
+// Integers, small and big.
 ghost use Rattle.std.specs.Prelude.{◌≡◌, ℕ, ◌+◌, ◌^◌, ◌<◌, ◌≤◌, Bool, true, false, List};
 ghost use Rattle.term_tags.specs.Words.{boxed_word, small_word};
 ghost use Rattle.plain_term.specs.Measures.{is_small, magnitude, int_flat};

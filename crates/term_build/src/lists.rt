@@ -1,3 +1,4 @@
+// One cons.
 ghost use Rattle.std.specs.Prelude.{◌≡◌, ℕ, ◌+◌, ◌*◌, ◌≤◌, Bool, List, [], ◌∷◌};
 ghost use Rattle.term_tags.specs.Words.{list_word};
 ghost use Rattle.plain_term.specs.Tree.{Tree};

@@ -1,3 +1,4 @@
+// Maps whose keys are in order.
 ghost use Rattle.std.specs.Prelude.{◌≡◌, ℕ, ◌+◌, ◌*◌, ◌≤◌, Bool, List, ◌∷◌, ◌++◌, length};
 ghost use Rattle.term_tags.specs.Words.{boxed_word, head_word};
 ghost use Rattle.term_tags.specs.declared.layouts.TheConstants.{MAP, MOST_KEYS, TUPLE};

@@ -1,3 +1,4 @@
+// References.
 ghost use Rattle.std.specs.Prelude.{◌≡◌, ℕ, ◌+◌, ◌≤◌, Bool, List, [], ◌∷◌};
 ghost use Rattle.term_tags.specs.Words.{boxed_word, head_word};
 ghost use Rattle.term_tags.specs.declared.layouts.TheConstants.{REF};

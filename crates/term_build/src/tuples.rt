@@ -1,3 +1,4 @@
+// Tuples of given parts, or of one part n times.
 ghost use Rattle.std.specs.Prelude.{◌≡◌, ℕ, ◌+◌, ◌≤◌, Bool, List, ◌∷◌, length, replicate};
 ghost use Rattle.term_tags.specs.Words.{boxed_word, head_word};
 ghost use Rattle.term_tags.specs.declared.layouts.TheConstants.{MOST_PARTS};

@@ -148,8 +148,8 @@ module _ (c d : ℕ → ℕ → Bool) (shared : List (List ℕ)) (old new : List
         size = boxed-word HEAP_BIN (1 + bin_words (length bytes)) 1 (x / 4 + 1) (w / 4 + 1) k s.boxed (omega (arith, e, k)) (omega arith) (omega arith) refl refl ∙ s.size;
         content = record {
           each = λ i a below place.
-              ap (λ b. byte_of b (i % 8)) (boxed-word HEAP_BIN (1 + bin_words (length bytes)) (2 + i / 8) a (w / 4 + 2 + i / 8) k s.boxed (omega (arith, e, k)) (omega arith) (omega arith) (omega arith)
-              (omega arith)) ∙ s.content.each i (w / 4 + 2 + i / 8) below refl;
+              ap (λ b. byte_of b (i % 8)) (boxed-word HEAP_BIN (1 + bin_words (length bytes)) (2 + i / 8) a (w / 4 + 2 + i / 8) k s.boxed (omega (arith, e, k)) (omega arith) (omega arith)
+              (omega arith) (omega arith)) ∙ s.content.each i (w / 4 + 2 + i / 8) below refl;
         };
       }
   alike (Shared id) y s parts =

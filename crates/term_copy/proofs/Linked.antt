@@ -45,8 +45,8 @@ holder-place mem p e = rw e refl
 fun-place : (mem : List ℕ) (p k : ℕ) → get_or mem p 0 ≡ head_word FUN (k + 5) → name_place mem p ≡ p + 1
 fun-place mem p k e = grind (arith, nat_tests, e)
 
-pub link-facts : (c : ℕ → ℕ → Bool) (shared : List (List ℕ)) (mem : List ℕ) (w : ℕ) (t : Tree) → Stands c shared mem w t → (w % 4 ≡ 2) × ((get_or mem (w / 4) 0 / 4 % 16 ≡ 8) ⊎ (get_or mem (w / 4) 0 / 4 % 16 ≡ 5))
-    → LinkFacts c mem w
+pub link-facts : (c : ℕ → ℕ → Bool) (shared : List (List ℕ)) (mem : List ℕ) (w : ℕ) (t : Tree) → Stands c shared mem w t
+    → (w % 4 ≡ 2) × ((get_or mem (w / 4) 0 / 4 % 16 ≡ 8) ⊎ (get_or mem (w / 4) 0 / 4 % 16 ≡ 5)) → LinkFacts c mem w
 unfolding Stands
 link-facts c shared mem w (Shared id) s is =
     let at : w / 4 + 3 ≡ name_place mem (w / 4) = sym (holder-place mem (w / 4) s.holder.header) in
@@ -113,8 +113,8 @@ int-no-next c mem w (negsuc n) q single (inr (inr o)) p from below h = boxed-no-
 other-role : (c : ℕ → ℕ → Bool) (a k q : ℕ) → IsSingle c → c a k ≡ true → (k ≡ NEXT → ⊥) → q ≡ a → c q NEXT ≡ true → ⊥
 other-role c a k q single h other e n = let P : ℕ → Type 0 = λ x. c x NEXT ≡ true in other (single.one a k NEXT h (subst P e n))
 
-pub next-linked : (c : ℕ → ℕ → Bool) (shared : List (List ℕ)) (mem : List ℕ) (w : ℕ) (t : Tree) (q : ℕ) → IsSingle c → Stands c shared mem w t → IsPointer w → w / 4 ≤ q → q < w / 4 + object_words mem w
-    → c q NEXT ≡ true → (is_link mem w ≡ true) × (q ≡ w / 4 + 2)
+pub next-linked : (c : ℕ → ℕ → Bool) (shared : List (List ℕ)) (mem : List ℕ) (w : ℕ) (t : Tree) (q : ℕ) → IsSingle c → Stands c shared mem w t → IsPointer w → w / 4 ≤ q
+    → q < w / 4 + object_words mem w → c q NEXT ≡ true → (is_link mem w ≡ true) × (q ≡ w / 4 + 2)
 unfolding Stands
 next-linked c shared mem w (Shared id) q single o p from below h =
     let n : object_words mem w ≡ 6 = words-boxed mem w 5 32 o.holder.tag o.holder.header (omega arith) in

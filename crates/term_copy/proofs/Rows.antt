@@ -364,7 +364,8 @@ row-once mem from (w ∷ ws) to r =
     ]
 
 -- A row that was gone through is chained.
-pub chaining-ends : (old mem : List ℕ) (from at to head : ℕ) (ws : List ℕ) (h : Chained) → AreObjects old from ws to → Chaining old mem at to head ws h → to ≤ at → ChainsRow old mem (links_in old ws) head h
+pub chaining-ends : (old mem : List ℕ) (from at to head : ℕ) (ws : List ℕ) (h : Chained) → AreObjects old from ws to → Chaining old mem at to head ws h → to ≤ at
+    → ChainsRow old mem (links_in old ws) head h
 chaining-ends old mem from at to head ws h are g over =
     let none : g.rest ≡ [] = ended-row old at g.rest to g.are over in
     let all : g.seen ≡ links_in old ws = sym (no-more g.seen) ∙ ap (λ ys. g.seen ++ links_in old ys) (sym none) ∙ g.whole in

@@ -185,7 +185,8 @@ pends-same p old new q (t ▹ ts) same (first, rest) =
     (subst P (sym (same q (omega arith) (omega arith))) first, pends-same p old new (q + 1) ts (λ a low high. same a (omega arith) (omega (arith, high))) rest)
 
 -- The words of a row that were copied are left.
-pends-row : (p : Task) (mem : List ℕ) (a q : ℕ) (ts : Trees) → ((j : ℕ) → j < trees_len ts → get_or mem (q + j) 0 ≡ get_or p.start (a + j) 0) → RowStands p.test p.shared p.start a ts → Pends p mem q ts
+pends-row : (p : Task) (mem : List ℕ) (a q : ℕ) (ts : Trees) → ((j : ℕ) → j < trees_len ts → get_or mem (q + j) 0 ≡ get_or p.start (a + j) 0)
+    → RowStands p.test p.shared p.start a ts → Pends p mem q ts
 unfolding RowStands
 pends-row p mem a q end same row = tt
 pends-row p mem a q (t ▹ ts) same (first, rest) =
@@ -219,7 +220,8 @@ module _ (p : Task) (known : List Item) (mem : List ℕ) (mark at top : ℕ) (u 
     on = g;
     pends = pends-same p mem new (mark + 1) rest (λ a low high.
         (g.copies s.item i).waits (a - s.item.place) a (omega (arith, s.traced, low)) (omega (arith, s.traced, low, high, s.ends, s.whole)) (omega (arith, s.traced, low)) low
-        ∙ sym ((s.on.copies s.item s.among).waits (a - s.item.place) a (omega (arith, s.traced, low)) (omega (arith, s.traced, low, high, s.ends, s.whole)) (omega (arith, s.traced, low)) (omega (arith, low))))
+        ∙ sym ((s.on.copies s.item s.among).waits (a - s.item.place) a (omega (arith, s.traced, low)) (omega (arith, s.traced, low, high, s.ends, s.whole))
+        (omega (arith, s.traced, low)) (omega (arith, low))))
         s.pends.1;
     ends = omega (arith, s.ends);
     item = s.item;
@@ -356,7 +358,8 @@ module _ (p : Task) (known : List Item) (mem : List ℕ) (at top : ℕ) (g : Cop
       | inl tag ↦ (let r = t.cons (first-cons tag) in (omega (arith, r, cons-traced p.start o.x.word tag), omega (arith, r, words-cons p.start o.x.word tag)))
       | inr tag ↦
           let (l, e) = has-layout p.test p.shared p.start o.x.word o.x.tree of-it.standing tag in
-          let zero-tag : get_or p.start (o.x.word / 4) 0 % 4 ≡ 0 = header-there o.x.tree o.x.word (get_or p.start (o.x.word / 4) 0) (told p.test p.shared p.start o.x.word o.x.tree of-it.standing) tag in
+          let zero-tag : get_or p.start (o.x.word / 4) 0 % 4 ≡ 0 =
+          header-there o.x.tree o.x.word (get_or p.start (o.x.word / 4) 0) (told p.test p.shared p.start o.x.word o.x.tree of-it.standing) tag in
           let same : get_or mem at 0 ≡ get_or p.start (o.x.word / 4) 0 = first-boxed tag in
           let r = t.boxed (omega (arith, same, zero-tag)) l (ap layout_for same ∙ e) in
           (omega (arith, r, boxed-first l tag e), omega (arith, r, same, words-header p.start o.x.word tag))
@@ -368,7 +371,8 @@ module _ (p : Task) (known : List Item) (mem : List ℕ) (at top : ℕ) (g : Cop
     -- Another copy has no traced word below its first one.
     mine : (y : Item) (j q : ℕ) → Among y g.items → first_traced p.start y.word ≤ j → j < object_words p.start y.word → q ≡ y.place + j → at ≤ q → q < at + first_traced p.start o.x.word → ⊥
     mine y j q i from below e low high =
-        let same : y ≡ o.x = spread-one p.start p.top g.items top y o.x q g.row i in-items (omega (arith, e)) (omega (arith, e, below)) (omega (arith, spreads.0, low)) (omega (arith, spreads.0, high, traced-len)) in
+        let same : y ≡ o.x =
+        spread-one p.start p.top g.items top y o.x q g.row i in-items (omega (arith, e)) (omega (arith, e, below)) (omega (arith, spreads.0, low)) (omega (arith, spreads.0, high, traced-len)) in
         let P : Item → Type 0 = λ z. first_traced p.start z.word ≤ j in
         let Q : Item → Type 0 = λ z. q ≡ z.place + j in
         omega (arith, subst P same from, subst Q same e, spreads.0, high)
@@ -406,7 +410,8 @@ module _ (p : Task) (known : List Item) (mem : List ℕ) (at top : ℕ) (g : Cop
             exact = λ none. omega (arith, g.exact none, more);
           };
           pends = pends-row p mem (o.x.word / 4 + first_traced p.start o.x.word) (at + first_traced p.start o.x.word) (parts_of o.x.tree)
-              (λ j below. copy-it.waits (first_traced p.start o.x.word + j) (at + first_traced p.start o.x.word + j) (omega arith) (omega (arith, below, traced-len)) (omega (arith, spreads.0)) (omega arith)
+              (λ j below. copy-it.waits (first_traced p.start o.x.word + j) (at + first_traced p.start o.x.word + j) (omega arith) (omega (arith, below, traced-len))
+              (omega (arith, spreads.0)) (omega arith)
               ∙ ap (λ a. get_or p.start a 0) (omega arith))
               (scanned p.test p.shared p.start o.x.word o.x.tree of-it.standing pointer).row;
           ends = omega (arith, traced-len);

@@ -280,7 +280,8 @@ module _ (p : Task) (known : List Item) (mem : List ℕ) (top : ℕ) (g : Copyin
       let R : ℕ → Type 0 = λ a. Stands test p.shared mem a x.tree in
       subst Q tree (subst R word (each x i (omega (arith, ap flat tree, few))))
 
-  row-made : (n a q : ℕ) (ts : Trees) → Made n → RowStands p.test p.shared p.start a ts → flat_of_all ts ≤ n → ((j : ℕ) → j < trees_len ts → IsImage p g.items (get_or p.start (a + j) 0) (get_or mem (q + j) 0))
+  row-made : (n a q : ℕ) (ts : Trees) → Made n → RowStands p.test p.shared p.start a ts → flat_of_all ts ≤ n
+      → ((j : ℕ) → j < trees_len ts → IsImage p g.items (get_or p.start (a + j) 0) (get_or mem (q + j) 0))
       → RowStands test p.shared mem q ts
   unfolding RowStands
   row-made n a q end each row few image = tt
@@ -548,8 +549,11 @@ module _ (p : Task) (known : List Item) (mem : List ℕ) (top : ℕ) (g : Copyin
   part-of w k t s y from below =
       let sc = scanned p.test p.shared p.start w t s y in
       let P : ℕ → Type 0 = λ a. Stands p.test p.shared p.start (get_or p.start a 0) (tree_at (parts_of t) (k - first_traced p.start w)) in
-      let there : w / 4 + first_traced p.start w + (k - first_traced p.start w) ≡ w / 4 + k = omega (arith, from) in
-      (tree_at (parts_of t) (k - first_traced p.start w), subst P there (row-at p.test p.shared p.start (w / 4 + first_traced p.start w) (parts_of t) (k - first_traced p.start w) sc.row (omega (arith, from, below, sc.ends))))
+      let there : w / 4 + first_traced p.start w + (k - first_traced p.start w) ≡ w / 4 + k = omega (arith, from) in (
+        tree_at (parts_of t) (k - first_traced p.start w),
+        subst P there
+            (row-at p.test p.shared p.start (w / 4 + first_traced p.start w) (parts_of t) (k - first_traced p.start w) sc.row (omega (arith, from, below, sc.ends))),
+      )
 
   part-copy : (z : Item) (k x : ℕ) → Among z g.items → first_traced mem (pointer_to z) ≤ k → k < object_words mem (pointer_to z) → x ≡ get_or mem (pointer_to z / 4 + k) 0 → IsPointer x → Alone x
   part-copy z k x i from below e q =
@@ -562,8 +566,8 @@ module _ (p : Task) (known : List Item) (mem : List ℕ) (top : ℕ) (g : Copyin
       let same : get_or mem (z.place + k) 0 ≡ x = ap (λ a. get_or mem (a + k) 0) (sym (place-to z)) ∙ sym e in
       image-alone (get_or p.start (z.word / 4 + k) 0) x u s (subst P same image) q
 
-  part-stays : IsClosed p → (v k x : ℕ) (t : Tree) → Stands p.test p.shared p.start v t → p.stay (v / 4) ≡ true → IsPointer v → first_traced mem v ≤ k → k < object_words mem v → x ≡ get_or mem (v / 4 + k) 0
-      → IsPointer x → Alone x
+  part-stays : IsClosed p → (v k x : ℕ) (t : Tree) → Stands p.test p.shared p.start v t → p.stay (v / 4) ≡ true → IsPointer v → first_traced mem v ≤ k → k < object_words mem v
+      → x ≡ get_or mem (v / 4 + k) 0 → IsPointer x → Alone x
   unfolding Alone
   part-stays closed v k x t s h y from below e q =
       let c = kept-carried p.test p.test p.start mem (kept-start p known mem top top top 0 g) in

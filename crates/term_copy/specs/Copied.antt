@@ -40,8 +40,8 @@ pub record CanCopy (mem : List ℕ) (room : Room) (w : ℕ) : Type 0 where
 
 -- What stays and stands points to nothing that does not stay.
 abbrev pub IsClosed : Task → Type 0
-IsClosed p = (v k : ℕ) (u : Tree) → Stands p.test p.shared p.start v u → IsPointer v → p.stay (v / 4) ≡ true → first_traced p.start v ≤ k → k < object_words p.start v
-    → IsPointer (slice_index p.start (v / 4 + k)) → p.stay (slice_index p.start (v / 4 + k) / 4) ≡ true
+IsClosed p = (v k : ℕ) (u : Tree) → Stands p.test p.shared p.start v u → IsPointer v → p.stay (v / 4) ≡ true → first_traced p.start v ≤ k
+    → k < object_words p.start v → IsPointer (slice_index p.start (v / 4 + k)) → p.stay (slice_index p.start (v / 4 + k) / 4) ≡ true
 
 -- The new word stands for the tree, by a test that gives the new words the roles of objects and is as before elsewhere. From
 -- the first place that was free up to `top` lie new objects side by side, as many words as the tree is flat where nothing

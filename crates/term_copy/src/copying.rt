@@ -24,7 +24,8 @@ pub fn copy_tree(mem: &mut WordMem, room: &mut Room, stay: &Stay, w: u64) -> u64
     ensures start { room.new.start ≡ room.old.start }
     ensures end { room.new.end ≡ room.old.end }
     ensures copies { (c : ℕ → ℕ → Bool) (shared : List (List ℕ)) (t : Tree) → IsSingle c → Stands c shared mem.old w t → IsFree c room.old.top room.old.end
-        → CopiesTree (record { start = mem.old; top = room.old.top; limit = room.old.end; stay = stays stay.now; test = c; shared = shared; word = w; tree = t })
+        → CopiesTree
+        (record { start = mem.old; top = room.old.top; limit = room.old.end; stay = stays stay.now; test = c; shared = shared; word = w; tree = t })
         mem.new room.new.top result }
 {
     let mut at = room.top;

@@ -1,4 +1,5 @@
-//! Copies of trees without sharing: each object that does not stay is copied as often as the tree has it, holders and funs are counted, and a row of objects is chained.
+//! Copies of trees without sharing: each object that does not stay is copied as often as the tree has it, holders and funs
+//! are counted, and those of a row are chained.
 #![tactic(auto)]
 
 mod chaining;

@@ -102,7 +102,8 @@ all-few : (names shared : List (List ℕ)) (ps given : Pairs) → pairs_len (put
 all-few names shared ps stop = omega arith
 all-few names shared ps (pair k v given) =
     let one : pairs_len (put_pair names shared k v ps) ≤ pairs_len ps + 1 = put-few names shared k v ps in
-    let rest : pairs_len (put_all names shared (put_pair names shared k v ps) given) ≤ pairs_len (put_pair names shared k v ps) + pairs_len given = all-few names shared (put_pair names shared k v ps) given in
+    let rest : pairs_len (put_all names shared (put_pair names shared k v ps) given) ≤ pairs_len (put_pair names shared k v ps) + pairs_len given =
+    all-few names shared (put_pair names shared k v ps) given in
     omega arith
 
 pub in-order-few : (names shared : List (List ℕ)) (given : Pairs) → pairs_len (in_order names shared given) ≤ pairs_len given

@@ -1,6 +1,6 @@
 -- The keys of pairs that are put in order rise.
 use Rattle.std.proofs.Common.{◌≡◌, ℕ, true, false, List, refl, ◌∙◌, ap}
-use Rattle.std.specs.Ordering.{is_lt, ordering_reverse}
+use Rattle.std.specs.Ordering.{ordering_reverse}
 use Rattle.std.specs.declared.cmp.Ordering.{Ordering}
 use Rattle.std.specs.declared.cmp.Ordering.TheVariants.{Less, Equal, Greater}
 use Rattle.plain_term.specs.Tree.{Tree, Pairs}
@@ -9,56 +9,30 @@ use Rattle.plain_term.specs.Beyond.{is_beyond}
 use Rattle.plain_term.specs.Order.{order}
 use Rattle.plain_term.specs.Proper.{keys_rise}
 use Rattle.plain_term.proofs.TokenLemmas.{order_total}
+use Rattle.plain_term.proofs.Rising.{Below, rise-parts, rise-join, below-alike}
 use Rattle.term_maps.specs.InOrder.{by_order, put_pair, put_all, has_beyond}
 use Rattle.term_maps.proofs.Putting.{or-first, or-second, put-within}
-use Rattle.term_maps.proofs.Named.{and-first, and-second}
-
-is-less : (o : Ordering) → is_lt o ≡ true → o ≡ Less
-is-less Less h = refl
-is-less Equal h = absurd cc
-is-less Greater h = absurd cc
 
 module _ (names shared : List (List ℕ)) where
-  -- The key is less than the first of the others.
-  abbrev Below : Tree → Pairs → Type 0
-  Below j stop = Unit {0}
-  Below j (pair k v ps) = order names shared j k ≡ Less
-
-  rise-parts : (k v : Tree) (ps : Pairs) → keys_rise names shared (pair k v ps) ≡ true → Below k ps × (keys_rise names shared ps ≡ true)
-  rise-parts k v stop h = (tt, refl)
-  rise-parts k v (pair j w ps) h = (
-    is-less (order names shared k j) (and-first (is_lt (order names shared k j)) (keys_rise names shared (pair j w ps)) h),
-    and-second (is_lt (order names shared k j)) (keys_rise names shared (pair j w ps)) h,
-  )
-
-  rise-join : (k v : Tree) (ps : Pairs) → Below k ps → keys_rise names shared ps ≡ true → keys_rise names shared (pair k v ps) ≡ true
-  rise-join k v stop b h = refl
-  rise-join k v (pair j w ps) b h = rw (b, h) refl
-
-  -- Equal keys are below the same.
-  below-alike : (k j : Tree) (ps : Pairs) → order names shared k j ≡ Equal → Below j ps → Below k ps
-  below-alike k j stop e b = tt
-  below-alike k j (pair i w ps) e b = (order_total names shared).congr k j i e ∙ b
-
-  put-below : (j k v : Tree) (ps : Pairs) → Below j ps → order names shared j k ≡ Less → Below j (put_pair names shared k v ps)
+  put-below : (j k v : Tree) (ps : Pairs) → Below names shared j ps → order names shared j k ≡ Less → Below names shared j (put_pair names shared k v ps)
   put-below j k v stop b l = l
   put-below j k v (pair i w ps) b l = by (order names shared k i)
     where
-      by : (o : Ordering) → Below j (by_order o (pair k v (pair i w ps)) (pair k v ps) (pair i w (put_pair names shared k v ps)))
+      by : (o : Ordering) → Below names shared j (by_order o (pair k v (pair i w ps)) (pair k v ps) (pair i w (put_pair names shared k v ps)))
       by Less = l
       by Equal = l
       by Greater = b
 
   pub put-rises : (k v : Tree) (ps : Pairs) → keys_rise names shared ps ≡ true → keys_rise names shared (put_pair names shared k v ps) ≡ true
   put-rises k v stop h = refl
-  put-rises k v (pair j w ps) h = by (rise-parts j w ps h) (put-rises k v ps (rise-parts j w ps h).1) (order names shared k j) refl
+  put-rises k v (pair j w ps) h = by (rise-parts names shared j w ps h) (put-rises k v ps (rise-parts names shared j w ps h).1) (order names shared k j) refl
     where
-      by : Below j ps × (keys_rise names shared ps ≡ true) → keys_rise names shared (put_pair names shared k v ps) ≡ true → (o : Ordering) → order names shared k j ≡ o
+      by : Below names shared j ps × (keys_rise names shared ps ≡ true) → keys_rise names shared (put_pair names shared k v ps) ≡ true → (o : Ordering) → order names shared k j ≡ o
           → keys_rise names shared (by_order o (pair k v (pair j w ps)) (pair k v ps) (pair j w (put_pair names shared k v ps))) ≡ true
-      by parts rest Less e = rise-join k v (pair j w ps) e h
-      by parts rest Equal e = rise-join k v ps (below-alike k j ps e parts.0) parts.1
+      by parts rest Less e = rise-join names shared k v (pair j w ps) e h
+      by parts rest Equal e = rise-join names shared k v ps (below-alike names shared k j ps e parts.0) parts.1
       by parts rest Greater e =
-          rise-join j w (put_pair names shared k v ps) (put-below j k v ps parts.0 ((order_total names shared).antisymm j k ∙ ap ordering_reverse e)) rest
+          rise-join names shared j w (put_pair names shared k v ps) (put-below j k v ps parts.0 ((order_total names shared).antisymm j k ∙ ap ordering_reverse e)) rest
 
   pub all-rise : (ps given : Pairs) → keys_rise names shared ps ≡ true → keys_rise names shared (put_all names shared ps given) ≡ true
   all-rise ps stop h = h

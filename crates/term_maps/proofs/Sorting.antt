@@ -53,11 +53,13 @@ next-within c shared mem given i p n h =
     or-first (is_beyond shared n.key) (has_beyond shared (pairs_drop (i + 1) given)) (sym (ap (has_beyond shared) n.left) ∙ left-within shared given i h)
 
 -- What is left after the next pair is put.
-rest-after : (c : ℕ → ℕ → Bool) (names shared : List (List ℕ)) (mem : List ℕ) (given : Pairs) (i : ℕ) (p : ℕ × ℕ) (s : Sorted) (g : Sorting c names shared mem given i s) (n : Next c shared mem p i given)
+rest-after : (c : ℕ → ℕ → Bool) (names shared : List (List ℕ)) (mem : List ℕ) (given : Pairs) (i : ℕ) (p : ℕ × ℕ) (s : Sorted) (g : Sorting c names shared mem given i s)
+    (n : Next c shared mem p i given)
     → put_all names shared (put_pair names shared n.key n.value g.now) (pairs_drop (i + 1) given) ≡ in_order names shared given
 rest-after c names shared mem given i p s g n = sym (ap (put_all names shared g.now) n.left) ∙ g.rest
 
-pub sorting-goes : (c : ℕ → ℕ → Bool) (names shared : List (List ℕ)) (mem : List ℕ) (given : Pairs) (i : ℕ) (p : ℕ × ℕ) (s t : Sorted) (g : Sorting c names shared mem given i s) (n : Next c shared mem p i given)
+pub sorting-goes : (c : ℕ → ℕ → Bool) (names shared : List (List ℕ)) (mem : List ℕ) (given : Pairs) (i : ℕ) (p : ℕ × ℕ) (s t : Sorted) (g : Sorting c names shared mem given i s)
+    (n : Next c shared mem p i given)
     → has_beyond shared given ≡ false → SortedStand c shared mem t (put_pair names shared n.key n.value g.now) → Sorting c names shared mem given (i + 1) t
 sorting-goes c names shared mem given i p s t g n h put = record {
   now = put_pair names shared n.key n.value g.now;
@@ -73,7 +75,8 @@ le-test : (a b : ℕ) → b ≤ a → nat_lt a b ≡ false
 le-test a b h = grind (arith, nat_tests)
 
 -- A key too many is one of the whole.
-pub sorting-stops : (c : ℕ → ℕ → Bool) (names shared : List (List ℕ)) (mem : List ℕ) (given : Pairs) (i : ℕ) (p : ℕ × ℕ) (s : Sorted) (g : Sorting c names shared mem given i s) (n : Next c shared mem p i given)
+pub sorting-stops : (c : ℕ → ℕ → Bool) (names shared : List (List ℕ)) (mem : List ℕ) (given : Pairs) (i : ℕ) (p : ℕ × ℕ) (s : Sorted) (g : Sorting c names shared mem given i s)
+    (n : Next c shared mem p i given)
     → has_beyond shared given ≡ false → MOST_KEYS < pairs_len (put_pair names shared n.key n.value g.now) → why_not names shared given ≡ Some why.Size
 sorting-stops c names shared mem given i p s g n h many =
     let more : pairs_len (put_pair names shared n.key n.value g.now) ≤ pairs_len (put_all names shared (put_pair names shared n.key n.value g.now) (pairs_drop (i + 1) given)) =

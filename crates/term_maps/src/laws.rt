@@ -7,5 +7,6 @@ ghost use Rattle.term_maps.specs.InOrder.{in_order, has_beyond};
 /// Keys that are put in order rise, and none is beyond the walk limit where none was.
 pub fn keys_in_order_rise()
     ensures rise { (names shared : List (List ℕ)) (given : Pairs) → keys_rise names shared (in_order names shared given) ≡ true }
-    ensures within { (names shared : List (List ℕ)) (given : Pairs) → has_beyond shared given ≡ false → has_beyond shared (in_order names shared given) ≡ false }
+    ensures within { (names shared : List (List ℕ)) (given : Pairs) → has_beyond shared given ≡ false
+        → has_beyond shared (in_order names shared given) ≡ false }
 {}

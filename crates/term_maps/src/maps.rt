@@ -41,7 +41,8 @@ pub fn map(
     ensures stopped { OnErr result ((room.new ≡ room.old) × (mem.new ≡ mem.old)) }
     ensures made { IfOk result (λ w. (c : ℕ → ℕ → Bool) (shared : List (List ℕ)) (given : Pairs) → PairsStand c shared mem.old pairs.now given
         → IsMade c names.now shared given room.old room.new mem.old mem.new w) }
-    ensures made_clear { IfOk result (λ w. (shared : List (List ℕ)) (given : Pairs) → PairsStand (outside room.old.top room.old.end) shared mem.old pairs.now given
+    ensures made_clear { IfOk result (λ w. (shared : List (List ℕ)) (given : Pairs)
+        → PairsStand (outside room.old.top room.old.end) shared mem.old pairs.now given
         → Clear room.new shared mem.new w (Map (in_order names.now shared given))) }
     ensures kept_clear { KeepsClear room.old room.new mem.old mem.new }
 {

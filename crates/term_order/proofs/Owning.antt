@@ -138,7 +138,8 @@ values-order names shared (pair k v ps) stop = refl
 values-order names shared (pair k v ps) (pair j w qs) = ap (ordering_then (order names shared v w)) (values-order names shared ps qs)
 
 rows-order : (names shared : List (List ℕ)) (ps qs : Pairs) → pairs_len ps ≡ pairs_len qs
-    → ordering_then (order_of_keys names shared ps qs) (order_of_values names shared ps qs) ≡ order_of_all names shared (trees_append (keys_of ps) (values_of ps)) (trees_append (keys_of qs) (values_of qs))
+    → ordering_then (order_of_keys names shared ps qs) (order_of_values names shared ps qs) ≡ order_of_all names shared (trees_append (keys_of ps) (values_of ps))
+    (trees_append (keys_of qs) (values_of qs))
 rows-order names shared ps qs e =
     ap (λ z. ordering_then z (order_of_values names shared ps qs)) (keys-order names shared ps qs)
     ∙ ap (ordering_then (order_of_all names shared (keys_of ps) (keys_of qs))) (values-order names shared ps qs)
@@ -161,7 +162,8 @@ order-own names shared (Atom k) (Atom j) = one-one (bytes_order (name_of names k
 order-own names shared (Atom k) b = refl
 order-own names shared (Ref n k) (Ref m j) = two (nat_cmp n m) (nat_cmp k j)
 order-own names shared (Ref n k) b = refl
-order-own names shared (Fun f a c env) (Fun g d e others) = fun-then (bytes_order (name_of names f) (name_of names g)) (nat_cmp a d) (nat_cmp c e) (nat_cmp (trees_len env) (trees_len others)) (order_of_all names shared env others)
+order-own names shared (Fun f a c env) (Fun g d e others) = fun-then (bytes_order (name_of names f) (name_of names g)) (nat_cmp a d) (nat_cmp c e) (nat_cmp (trees_len env) (trees_len others))
+    (order_of_all names shared env others)
 order-own names shared (Fun f a c env) b = refl
 order-own names shared (Pid n) (Pid m) = one-three (nat_cmp n m)
 order-own names shared (Pid n) b = refl
@@ -214,7 +216,8 @@ own-len names shared a b e =
     let (rank, more) = then-equals (nat_cmp (kind_rank a) (kind_rank b)) (ordering_then (int_cmp (int_in a) (int_in b))
     (ordering_then (bytes_order (name_in names a) (name_in names b)) (ordering_then (ordering_then (nat_cmp (first_in a) (first_in b))
     (ordering_then (nat_cmp (second_in a) (second_in b)) (nat_cmp (third_in a) (third_in b)))) (bytes_order (bytes_of shared a) (bytes_of shared b))))) e in
-    let (int, names_then) = then-equals (int_cmp (int_in a) (int_in b)) (ordering_then (bytes_order (name_in names a) (name_in names b)) (ordering_then (ordering_then (nat_cmp (first_in a) (first_in b))
+    let (int, names_then) = then-equals (int_cmp (int_in a) (int_in b)) (ordering_then (bytes_order (name_in names a) (name_in names b))
+    (ordering_then (ordering_then (nat_cmp (first_in a) (first_in b))
     (ordering_then (nat_cmp (second_in a) (second_in b)) (nat_cmp (third_in a) (third_in b)))) (bytes_order (bytes_of shared a) (bytes_of shared b)))) more in
     let (name, numbers_then) = then-equals (bytes_order (name_in names a) (name_in names b)) (ordering_then (ordering_then (nat_cmp (first_in a) (first_in b))
     (ordering_then (nat_cmp (second_in a) (second_in b)) (nat_cmp (third_in a) (third_in b)))) (bytes_order (bytes_of shared a) (bytes_of shared b))) names_then in
@@ -253,9 +256,12 @@ seen-as c names shared mem w (Int i) l (inl (small, e)) =
     subst (SeenAs names shared mem (Int i)) (sym e) (record { rank = refl; int = refl; name = refl; first = refl; second = refl; third = refl; bytes = no-bytes mem })
 seen-as c names shared mem w (Int i) l (inr (d, has, e)) =
     subst (SeenAs names shared mem (Int i)) (sym e) (record { rank = refl; int = signed-is i d has; name = refl; first = refl; second = refl; third = refl; bytes = no-bytes mem })
-seen-as c names shared mem w (Atom k) l e = subst (SeenAs names shared mem (Atom k)) (sym e) (record { rank = refl; int = refl; name = refl; first = refl; second = refl; third = refl; bytes = no-bytes mem })
-seen-as c names shared mem w (Pid n) l e = subst (SeenAs names shared mem (Pid n)) (sym e) (record { rank = refl; int = refl; name = refl; first = refl; second = refl; third = refl; bytes = no-bytes mem })
-seen-as c names shared mem w (Ref n k) l e = subst (SeenAs names shared mem (Ref n k)) (sym e) (record { rank = refl; int = refl; name = refl; first = refl; second = refl; third = refl; bytes = no-bytes mem })
+seen-as c names shared mem w (Atom k) l e = subst (SeenAs names shared mem (Atom k)) (sym e)
+    (record { rank = refl; int = refl; name = refl; first = refl; second = refl; third = refl; bytes = no-bytes mem })
+seen-as c names shared mem w (Pid n) l e = subst (SeenAs names shared mem (Pid n)) (sym e)
+    (record { rank = refl; int = refl; name = refl; first = refl; second = refl; third = refl; bytes = no-bytes mem })
+seen-as c names shared mem w (Ref n k) l e = subst (SeenAs names shared mem (Ref n k)) (sym e)
+    (record { rank = refl; int = refl; name = refl; first = refl; second = refl; third = refl; bytes = no-bytes mem })
 seen-as c names shared mem w Nil l e = subst (SeenAs names shared mem Nil) (sym e) (record { rank = refl; int = refl; name = refl; first = refl; second = refl; third = refl; bytes = no-bytes mem })
 seen-as c names shared mem w (Cons h t) l (e, within, sh, st) =
     subst (SeenAs names shared mem (Cons h t)) (sym e) (record { rank = refl; int = refl; name = refl; first = refl; second = refl; third = refl; bytes = no-bytes mem })
@@ -270,7 +276,15 @@ seen-as c names shared mem w (Bin xs) l (e, from) =
 seen-as c names shared mem w (Shared id) l (e, from) =
     subst (SeenAs names shared mem (Shared id)) (sym e) (record { rank = refl; int = refl; name = refl; first = refl; second = refl; third = refl; bytes = record { from = from; count = refl } })
 seen-as c names shared mem w (Part base offset len) l (v, e, sb, size, from) =
-    subst (SeenAs names shared mem (Part base offset len)) (sym e) (record { rank = refl; int = refl; name = refl; first = refl; second = refl; third = refl; bytes = record { from = from; count = sym size } })
+    subst (SeenAs names shared mem (Part base offset len)) (sym e) (record {
+      rank = refl;
+      int = refl;
+      name = refl;
+      first = refl;
+      second = refl;
+      third = refl;
+      bytes = record { from = from; count = sym size };
+    })
 
 pub own-bytes : (c : ℕ → ℕ → Bool) (shared : List (List ℕ)) (mem : List ℕ) (w : ℕ) (t : Tree) (l : Look) → IsSeen c shared mem w t l → IsBytes mem (look_data l) (bytes_of shared t)
 own-bytes c shared mem w t l e = (seen-as c [] shared mem w t l e).bytes

@@ -49,7 +49,8 @@ order-cells names shared h k t u same =
 named-tail : (n : ℕ) (t h u : Tree) → t ≡ Cons h u → is_named n t ≡ true → is_named n u ≡ true
 named-tail n t h u e q = (both-true (is_named n h) (is_named n u) (sym (ap (is_named n) e) ∙ q)).1
 
-cells-passed : (c : ℕ → ℕ → Bool) (shared : List (List ℕ)) (mem : List ℕ) (names : List (List ℕ)) (t u h k x y : Tree) (left right v w cells : ℕ) → (p : PassedBoth c shared mem names t u left right cells)
+cells-passed : (c : ℕ → ℕ → Bool) (shared : List (List ℕ)) (mem : List ℕ) (names : List (List ℕ)) (t u h k x y : Tree) (left right v w cells : ℕ)
+    → (p : PassedBoth c shared mem names t u left right cells)
     → p.first.rest ≡ Cons h x → p.second.rest ≡ Cons k y → IsSlight shared h → h ≡ k → Stands c shared mem v x → Stands c shared mem w y → PassedBoth c shared mem names t u v w (cells + 1)
 unfolding cell-passed
 cells-passed c shared mem names t u h k x y left right v w cells p ef es low same sx sy =
@@ -62,16 +63,19 @@ cells-passed c shared mem names t u h k x y left right v w cells p ef es low sam
       second_named = λ e. named-tail (length names) p.second.rest k y es (p.second_named e);
     }
 
-pub passes-both-cell : (mem : List ℕ) (a b left right v w cells : ℕ) → PassesBoth mem a b left right cells → IsSameCell mem left right → v ≡ get_or mem (left / 4 + 1) 0 → w ≡ get_or mem (right / 4 + 1) 0
+pub passes-both-cell : (mem : List ℕ) (a b left right v w cells : ℕ) → PassesBoth mem a b left right cells → IsSameCell mem left right → v ≡ get_or mem (left / 4 + 1) 0
+    → w ≡ get_or mem (right / 4 + 1) 0
     → PassesBoth mem a b v w (cells + 1)
 passes-both-cell mem a b left right v w cells passed is ev ew = record {
   each = λ c shared names t u s r.
       let p : PassedBoth c shared mem names t u left right cells = passed.each c shared names t u s r in
       let (h, x, ef, fits, sh, sx) = parted c shared mem left p.first.rest (look.Cons (left / 4)) ((sees-cons mem left (left / 4) is.first refl).each c shared p.first.rest p.first.standing) in
-      let (k, y, es, fits2, sk, sy) = parted c shared mem right p.second.rest (look.Cons (right / 4)) ((sees-cons mem right (right / 4) is.second refl).each c shared p.second.rest p.second.standing) in
+      let (k, y, es, fits2, sk, sy) = parted c shared mem right p.second.rest (look.Cons (right / 4))
+      ((sees-cons mem right (right / 4) is.second refl).each c shared p.second.rest p.second.standing) in
       let P : Tree → ℕ → Type 0 = λ z n. Stands c shared mem n z in
       let same : h ≡ k = single c c shared shared mem (get_or mem (left / 4) 0) h k sh (subst (P k) is.same sk) in
-      cells-passed c shared mem names t u h k x y left right v w cells p ef es (slight c shared mem (get_or mem (left / 4) 0) h sh is.immediate) same (subst (P x) (sym ev) sx) (subst (P y) (sym ew) sy);
+      cells-passed c shared mem names t u h k x y left right v w cells p ef es (slight c shared mem (get_or mem (left / 4) 0) h sh is.immediate) same (subst (P x) (sym ev) sx)
+      (subst (P y) (sym ew) sy);
 }
 
 -- The words behind what is passed stand for trees, whose names are among the names.
@@ -145,12 +149,14 @@ only-first false b e = sym e
 moved-over : (most k n m : ℕ) → k ≤ most → n ≡ m → nat_lt (most - k) n ≡ nat_lt most (k + m)
 moved-over most k n m few same = grind (arith, nat_tests, few, same)
 
-few-after : (shared : List (List ℕ)) (cells n : ℕ) (t : Tree) → 2 * cells ≤ node_limit → is_beyond shared t ≡ false → n ≡ nodes shared t → nat_lt (node_limit - 2 * cells) n ≡ is_beyond_after shared cells t
+few-after : (shared : List (List ℕ)) (cells n : ℕ) (t : Tree) → 2 * cells ≤ node_limit → is_beyond shared t ≡ false → n ≡ nodes shared t
+    → nat_lt (node_limit - 2 * cells) n ≡ is_beyond_after shared cells t
 few-after shared cells n t few e same =
     moved-over node_limit (2 * cells) n (nodes shared t) few same
     ∙ only-first (nat_lt node_limit (2 * cells + nodes shared t)) (nat_lt depth_limit (depth t)) (second-false (nat_lt node_limit (nodes shared t)) (nat_lt depth_limit (depth t)) e)
 
-pub after-within : (shared : List (List ℕ)) (cells : ℕ) (m : Measure) (t : Tree) → 2 * cells ≤ node_limit → Within m ≡ measured shared t → nat_lt (node_limit - 2 * cells) m.nodes ≡ is_beyond_after shared cells t
+pub after-within : (shared : List (List ℕ)) (cells : ℕ) (m : Measure) (t : Tree) → 2 * cells ≤ node_limit → Within m ≡ measured shared t
+    → nat_lt (node_limit - 2 * cells) m.nodes ≡ is_beyond_after shared cells t
 after-within shared cells m t few e = elim (chosen (is_beyond shared t) Beyond (Within (record { nodes = nodes shared t; flat = flat t })) (Within m) (sym e)) [
   | inl b ↦ absurd (never m (sym b.1))
   | inr b ↦ few-after shared cells m.nodes t few b.0 (within-nodes m (record { nodes = nodes shared t; flat = flat t }) (sym b.1))
@@ -202,7 +208,8 @@ module _ (mem : List ℕ) (names : List (List ℕ)) (a b left right cells : ℕ)
   pub second-term-behind : AreNamed mem names a b → IsTerm mem right
   second-term-behind n = second-of mem left right (both-behind mem a b left right cells (both-named mem names a b n) passed)
 
-  pub within-ordered : FindsBeyond mem left cells false → FindsBeyond mem right cells false → (o : Ordering) (x : Ordering) → Orders mem names left right o → o ≡ x → Compares mem names a b (answer_of x)
+  pub within-ordered : FindsBeyond mem left cells false → FindsBeyond mem right cells false → (o : Ordering) (x : Ordering) → Orders mem names left right o → o ≡ x
+      → Compares mem names a b (answer_of x)
   within-ordered f g o x found is = record {
     each = λ c shared t u s r.
         let p : PassedBoth c shared mem names t u left right cells = passed.each c shared names t u s r in

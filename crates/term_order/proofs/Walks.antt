@@ -165,9 +165,11 @@ shallow c shared mem n t word levels steps k low = omega (arith, k.depth_is, low
 abbrev pub Finds : (mem : List ℕ) (names : List (List ℕ)) (l m : Look) → Ordering → Type 0
 Finds mem names l m r = (xs ys : List ℕ) → IsBytes mem (look_data l) xs → IsBytes mem (look_data m) ys → r ≡ looks_order names l m xs ys
 
-found : (c : ℕ → ℕ → Bool) (names shared : List (List ℕ)) (mem : List ℕ) (v w : ℕ) (t u : Tree) (l m : Look) (r : Ordering) → Finds mem names l m r → IsSeen c shared mem v t l → IsSeen c shared mem w u m
+found : (c : ℕ → ℕ → Bool) (names shared : List (List ℕ)) (mem : List ℕ) (v w : ℕ) (t u : Tree) (l m : Look) (r : Ordering) → Finds mem names l m r → IsSeen c shared mem v t l
+    → IsSeen c shared mem w u m
     → r ≡ own_order names shared t u
-found c names shared mem v w t u l m r f e g = f (bytes_of shared t) (bytes_of shared u) (own-bytes c shared mem v t l e) (own-bytes c shared mem w u m g) ∙ looks-own c names shared mem v w t u l m e g
+found c names shared mem v w t u l m r f e g = f (bytes_of shared t) (bytes_of shared u) (own-bytes c shared mem v t l e) (own-bytes c shared mem w u m g)
+    ∙ looks-own c names shared mem v w t u l m e g
 
 module _ (mem : List ℕ) (names : List (List ℕ)) (a b x y : ℕ) (left right : List Rest) (steps : ℕ) (l m : Look) (r : Ordering)
     (k : Comparisons mem names a b x y left right steps) (sl : Sees mem x l) (sm : Sees mem y m) (f : Finds mem names l m r) where
@@ -220,7 +222,8 @@ module _ (mem : List ℕ) (names : List (List ℕ)) (a b x y : ℕ) (left right 
       let gp : IsStep c shared mem left here.first.now here.first.rests (Some v) left2 =
       as-step c shared mem left here.first.now here.first.rests p (Some v) left2 ep (first-step mem names a b x y left right steps l m r k sl sm f same w p q left2 right2 sp sq c shared t u st su) in
       let gq : IsStep c shared mem right here.second.now here.second.rests (Some z) right2 =
-      as-step c shared mem right here.second.now here.second.rests q (Some z) right2 eq (second-step mem names a b x y left right steps l m r k sl sm f same w p q left2 right2 sp sq c shared t u st su) in
+      as-step c shared mem right here.second.now here.second.rests q (Some z) right2 eq (second-step mem names a b x y left right steps l m r k sl sm f same w p q left2 right2 sp sq c shared t u
+      st su) in
       record {
         first = walk-on c shared mem (length names) t x v left left2 l steps here.first (sl.each c shared here.first.now here.first.standing) gp;
         second = walk-on c shared mem (length names) u y z right right2 m steps here.second (sm.each c shared here.second.now here.second.standing) gq;
@@ -244,7 +247,8 @@ module _ (mem : List ℕ) (names : List (List ℕ)) (a b x y : ℕ) (left right 
       let gp : IsStep c shared mem left here.first.now here.first.rests None left2 =
       as-step c shared mem left here.first.now here.first.rests p None left2 ep (first-step mem names a b x y left right steps l m r k sl sm f same w p q left2 right2 sp sq c shared t u st su) in
       let gq : IsStep c shared mem right here.second.now here.second.rests (Some z) right2 =
-      as-step c shared mem right here.second.now here.second.rests q (Some z) right2 eq (second-step mem names a b x y left right steps l m r k sl sm f same w p q left2 right2 sp sq c shared t u st su) in
+      as-step c shared mem right here.second.now here.second.rests q (Some z) right2 eq (second-step mem names a b x y left right steps l m r k sl sm f same w p q left2 right2 sp sq c shared t u
+      st su) in
       sym (parts-order mem names a b x y left right steps l m r k sl sm f same w p q left2 right2 sp sq c shared t u st su ∙ (λ i. order_of_all names shared (gp.none i) (gq.order i)))
 
   pub orders-end : (o : Ordering) → p ≡ None → o ≡ at_end q → Orders mem names a b o
@@ -344,16 +348,36 @@ module _ (mem : List ℕ) (names : List (List ℕ)) (a b x y : ℕ) (left right 
   second-term = record { shared = i.shared; tree = start.second.now; standing = start.second.standing }
 
   pub first-readable : (l : Look) → Sees mem x l → LiesIn mem l → IsReadable mem names l
-  first-readable l sees lies = readable always names i.shared mem x start.first.now l start.first.standing (sees.each always i.shared start.first.now start.first.standing) lies (start.first.named i.first_named).0
+  first-readable l sees lies = readable always names i.shared mem x start.first.now l start.first.standing (sees.each always i.shared start.first.now start.first.standing) lies
+      (start.first.named i.first_named).0
 
   pub second-readable : (l : Look) → Sees mem y l → LiesIn mem l → IsReadable mem names l
-  second-readable l sees lies = readable always names i.shared mem y start.second.now l start.second.standing (sees.each always i.shared start.second.now start.second.standing) lies (start.second.named i.second_named).0
+  second-readable l sees lies = readable always names i.shared mem y start.second.now l start.second.standing (sees.each always i.shared start.second.now start.second.standing) lies
+      (start.second.named i.second_named).0
 
   pub first-go : (l : Look) → Sees mem x l → CanGo mem left l
-  first-go l sees = record { shared = i.shared; word = x; now = start.first.now; rests = start.first.rests; standing = start.first.standing; seen = sees.each always i.shared start.first.now start.first.standing; few = start.first.few; left = start.first.left }
+  first-go l sees = record {
+    shared = i.shared;
+    word = x;
+    now = start.first.now;
+    rests = start.first.rests;
+    standing = start.first.standing;
+    seen = sees.each always i.shared start.first.now start.first.standing;
+    few = start.first.few;
+    left = start.first.left;
+  }
 
   pub second-go : (l : Look) → Sees mem y l → CanGo mem right l
-  second-go l sees = record { shared = i.shared; word = y; now = start.second.now; rests = start.second.rests; standing = start.second.standing; seen = sees.each always i.shared start.second.now start.second.standing; few = start.second.few; left = start.second.left }
+  second-go l sees = record {
+    shared = i.shared;
+    word = y;
+    now = start.second.now;
+    rests = start.second.rests;
+    standing = start.second.standing;
+    seen = sees.each always i.shared start.second.now start.second.standing;
+    few = start.second.few;
+    left = start.second.left;
+  }
 
   -- What goes deeper than all levels of a walk is beyond the walk limit.
   pub first-deeper : (most : ℕ) (l : Look) → Sees mem x l → AreWithin mem a b → IsDeeper most mem left l → most < depth_limit

@@ -62,10 +62,12 @@ IsStep c shared mem old now rests None new = Ends (trees_append (parts_of now) (
 
 -- So it is for all trees that the words stand for, and that are nowhere too deep.
 pub record Steps (mem : List ℕ) (old : List Rest) (l : Look) (result : Option ℕ) (new : List Rest) : Type 0 where
-  pub each : (c : ℕ → ℕ → Bool) (shared : List (List ℕ)) (w : ℕ) (now : Tree) (rests : List Trees) → Stands c shared mem w now → IsSeen c shared mem w now l → AreLeft c shared mem old rests
+  pub each : (c : ℕ → ℕ → Bool) (shared : List (List ℕ)) (w : ℕ) (now : Tree) (rests : List Trees) → Stands c shared mem w now → IsSeen c shared mem w now l
+      → AreLeft c shared mem old rests
       → length old + depth now ≤ depth_limit → IsStep c shared mem old now rests result new
 
 -- The parts of the word that is looked at lie deeper than so many levels.
 pub record IsDeeper (most : ℕ) (mem : List ℕ) (old : List Rest) (l : Look) : Type 0 where
-  pub each : (c : ℕ → ℕ → Bool) (shared : List (List ℕ)) (w : ℕ) (now : Tree) (rests : List Trees) → Stands c shared mem w now → IsSeen c shared mem w now l → AreLeft c shared mem old rests
+  pub each : (c : ℕ → ℕ → Bool) (shared : List (List ℕ)) (w : ℕ) (now : Tree) (rests : List Trees) → Stands c shared mem w now → IsSeen c shared mem w now l
+      → AreLeft c shared mem old rests
       → most < length old + depth now

@@ -53,7 +53,8 @@ fn is_beyond_behind(mem: &WordMem, w: u64, cells: u64) -> bool
 fn is_other_beyond(mem: &WordMem, behind: Pair) -> bool
     requires term { IsTerm mem.now behind.right }
     requires few { 2 * behind.cells ≤ NODE_LIMIT }
-    requires left { (c : ℕ → ℕ → Bool) (shared : List (List ℕ)) (t : Tree) → Stands c shared mem.now behind.left t → false ≡ is_beyond_after shared behind.cells t }
+    requires left { (c : ℕ → ℕ → Bool) (shared : List (List ℕ)) (t : Tree) → Stands c shared mem.now behind.left t
+        → false ≡ is_beyond_after shared behind.cells t }
     ensures { (c : ℕ → ℕ → Bool) (shared : List (List ℕ)) (t : Tree) → Stands c shared mem.now behind.right t → result ≡ is_beyond_after shared behind.cells t }
 {
     if behind.left == behind.right {

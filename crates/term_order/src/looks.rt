@@ -82,7 +82,8 @@ fn name<'a>(mem: &WordMem, names: &'a AtomNames, look: Look) -> &'a [u8]
 
 // The order of the numbers of process and count, of arity, creator and places, or of sizes.
 fn order_numbers(l: Look, m: Look) -> Ordering
-    ensures { result ≡ ordering_then (nat_cmp (look_first l) (look_first m)) (ordering_then (nat_cmp (look_second l) (look_second m)) (nat_cmp (look_third l) (look_third m))) }
+    ensures { result ≡ ordering_then (nat_cmp (look_first l) (look_first m))
+        (ordering_then (nat_cmp (look_second l) (look_second m)) (nat_cmp (look_third l) (look_third m))) }
 {
     let firsts = first(l).cmp(&first(m));
     let seconds = second(l).cmp(&second(m));

@@ -95,8 +95,8 @@ Continues {K} mem names old before new seen wrote faults entry now =
     (first : ℕ) (start : K) → Begun mem names first old before wrote faults start entry → Begun mem names first new seen wrote faults start now
 
 -- So it is of each such term, or a fault came.
-abbrev pub Goes : {K E : Type 0} → (mem : List ℕ) (names : List (List ℕ)) (old : List Level) (before : ℕ) (new : List Level) (wrote : K → List ℕ → Type 0) (faults : K → ℕ)
-    (entry now : K) → Result ℕ E → Type 0
+abbrev pub Goes : {K E : Type 0} → (mem : List ℕ) (names : List (List ℕ)) (old : List Level) (before : ℕ) (new : List Level) (wrote : K → List ℕ → Type 0)
+    (faults : K → ℕ) (entry now : K) → Result ℕ E → Type 0
 Goes {K} mem names old before new wrote faults entry now result =
     (first : ℕ) (start : K) → Begun mem names first old before wrote faults start entry → GoesOn mem names first new wrote faults start now result
 

@@ -17,7 +17,8 @@ pub list-begins : (c : ℕ → ℕ → Bool) (shared : List (List ℕ)) (mem : L
 list-begins c shared mem top zero nil t none is = record { test = c; grows = grows-none c top mem; made = stands-nil c shared mem nil is }
 list-begins c shared mem top (suc n) nil t none is = absurd (omega (arith, none))
 
-pub list-goes : (c : ℕ → ℕ → Bool) (shared : List (List ℕ)) (old mem mem2 : List ℕ) (top n i w list next : ℕ) (x y : Room) (t : Tree) → IsFree c top (top + 2 * n) → i < n → Uses (2 * i) x y old mem → x.top ≡ top
+pub list-goes : (c : ℕ → ℕ → Bool) (shared : List (List ℕ)) (old mem mem2 : List ℕ) (top n i w list next : ℕ) (x y : Room) (t : Tree) → IsFree c top (top + 2 * n) → i < n → Uses (2 * i) x y old mem
+    → x.top ≡ top
     → Stands c shared old w t → Built c top (2 * i) old mem shared list (list_tree (times i t) Nil)
     → ((d : ℕ → ℕ → Bool) (a b : Tree) → IsFree d y.top (y.top + 2) → Stands d shared mem w a → Stands d shared mem list b → Built d y.top 2 mem mem2 shared next (Cons a b))
     → Built c top (2 * (i + 1)) old mem2 shared next (list_tree (times (i + 1) t) Nil)

@@ -61,7 +61,8 @@ full-place c names shared mem w t k rows x seen small finds many =
     subst P (sym m.is) (record {
       small = small;
       many = λ v sorted. subst Q
-          (ap (count_placed x) m.count ∙ sym (placed-count x m.pairs k v) ∙ ap pairs_len (placed-put names shared k v x m.pairs (finds m.pairs (record { count = m.count; keys = m.keys }) sorted))) many;
+          (ap (count_placed x) m.count ∙ sym (placed-count x m.pairs k v) ∙ ap pairs_len (placed-put names shared k v x m.pairs (finds m.pairs (record { count = m.count; keys = m.keys }) sorted)))
+          many;
     })
 
 -- The words of the rows with others at the spot stand for the pairs with one there.

@@ -33,7 +33,8 @@ pub fn repeated(mem: &mut WordMem, room: &mut Room, shape: Shape, n: u64, w: u64
     requires places { IsRoom room.old mem.old }
     requires words { room.old.top + words_by shape n ≤ room.old.end }
     ensures uses { Uses (words_by shape n) room.old room.new mem.old mem.new }
-    ensures built { (c : ℕ → ℕ → Bool) (shared : List (List ℕ)) (t : Tree) → IsFree c room.old.top (room.old.top + words_by shape n) → Stands c shared mem.old w t
+    ensures built { (c : ℕ → ℕ → Bool) (shared : List (List ℕ)) (t : Tree) → IsFree c room.old.top (room.old.top + words_by shape n)
+        → Stands c shared mem.old w t
         → Built c room.old.top (words_by shape n) mem.old mem.new shared result (tree_by shape n t) }
 {
     match shape {

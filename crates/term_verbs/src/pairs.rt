@@ -40,7 +40,8 @@ pub enum PutStop {
 /// Finds where a pair with this key may be put in a map.
 pub fn place_in(mem: &WordMem, names: &AtomNames, w: u64, key: u64) -> Result<Place, PutStop>
     requires { CanSeek mem.now names.now w key }
-    ensures { (c : ℕ → ℕ → Bool) (shared : List (List ℕ)) (t k : Tree) → Stands c shared mem.now w t → Stands c shared mem.now key k → IsPlace names.now shared t k result }
+    ensures { (c : ℕ → ℕ → Bool) (shared : List (List ℕ)) (t k : Tree) → Stands c shared mem.now w t → Stands c shared mem.now key k
+        → IsPlace names.now shared t k result }
 {
     let _len = mem.len();
     let Look::Map(rows) = look_at(mem, w) else {
@@ -75,7 +76,8 @@ pub fn map_with(mem: &mut WordMem, room: &mut Room, w: u64, spot: Spot, key: u64
     requires map { HasPlace room.old mem.old w spot }
     ensures uses { (c : ℕ → ℕ → Bool) (shared : List (List ℕ)) (ps : Pairs) → Stands c shared mem.old w (Map ps)
         → Uses (4 + 2 * count_placed spot (pairs_len ps)) room.old room.new mem.old mem.new }
-    ensures built { (c : ℕ → ℕ → Bool) (shared : List (List ℕ)) (ps : Pairs) (k v : Tree) → IsFree c room.old.top (room.old.top + (4 + 2 * count_placed spot (pairs_len ps)))
+    ensures built { (c : ℕ → ℕ → Bool) (shared : List (List ℕ)) (ps : Pairs) (k v : Tree)
+        → IsFree c room.old.top (room.old.top + (4 + 2 * count_placed spot (pairs_len ps)))
         → Stands c shared mem.old w (Map ps) → Stands c shared mem.old key k → Stands c shared mem.old value v
         → Built c room.old.top (4 + 2 * count_placed spot (pairs_len ps)) mem.old mem.new shared result (Map (placed spot k v ps)) }
 {

@@ -42,7 +42,8 @@ passes-none mem w = record { each = λ c shared t s. record { rest = t; standing
 
 -- One cell more is passed.
 
-unfoldable pub cell-passed : (c : ℕ → ℕ → Bool) (shared : List (List ℕ)) (mem : List ℕ) (t h u : Tree) (word next cells : ℕ) → (p : Passed c shared mem t word cells) → p.rest ≡ Cons h u → IsSlight shared h
+unfoldable pub cell-passed : (c : ℕ → ℕ → Bool) (shared : List (List ℕ)) (mem : List ℕ) (t h u : Tree) (word next cells : ℕ) → (p : Passed c shared mem t word cells) → p.rest ≡ Cons h u
+    → IsSlight shared h
     → Stands c shared mem next u → Passed c shared mem t next (cells + 1)
 cell-passed c shared mem t h u word next cells p e (one, none, low) s =
     let many : nodes shared p.rest ≡ 1 + nodes shared h + nodes shared u = ap (nodes shared) e in
@@ -94,7 +95,8 @@ count-passed c shared mem t word next levels seen words cells shallow k p = reco
     no-deeper (inr room) = omega (arith, p.depth_is, room)
 
 pub counts-passed : (levels : ℕ) (mem : List ℕ) (first word next : ℕ) (items : List Rest) (seen words most cells : ℕ) → levels ≤ depth_limit
-    → (most ≡ 0) ⊎ (length items + 1 ≤ levels) → cells ≤ most → Counts mem first word (reverse items) seen words → Passes mem word next cells → Counts mem first next (reverse items) (seen + 2 * cells) (words + 2 * cells)
+    → (most ≡ 0) ⊎ (length items + 1 ≤ levels) → cells ≤ most → Counts mem first word (reverse items) seen words → Passes mem word next cells
+    → Counts mem first next (reverse items) (seen + 2 * cells) (words + 2 * cells)
 counts-passed levels mem first word next items seen words most cells low shallow few k p = λ c shared t s.
     count-passed c shared mem t word next (reverse items) seen words cells (behind shallow) (k c shared t s) (p.each c shared (k c shared t s).now (k c shared t s).standing)
   where

@@ -90,13 +90,15 @@ record Took (c : ℕ → ℕ → Bool) (shared : List (List ℕ)) (mem : List �
   standing : Stands c shared mem (get_or mem place 0) now
   left : MoreLeft c shared mem l more after
 
-took-as : (c : ℕ → ℕ → Bool) (shared : List (List ℕ)) (mem : List ℕ) (l : Rest) (got want : ℕ × Option Rest) (ts : Trees) → Some got ≡ Some want → Took c shared mem l got.0 got.1 ts → Took c shared mem l want.0 want.1 ts
+took-as : (c : ℕ → ℕ → Bool) (shared : List (List ℕ)) (mem : List ℕ) (l : Rest) (got want : ℕ × Option Rest) (ts : Trees) → Some got ≡ Some want → Took c shared mem l got.0 got.1 ts
+    → Took c shared mem l want.0 want.1 ts
 took-as c shared mem l got want ts e t =
     let same : got ≡ want = cc in
     let P : ℕ × Option Rest → Type 0 = λ z. Took c shared mem l z.0 z.1 ts in
     subst P same t
 
-row-took-as : (c : ℕ → ℕ → Bool) (shared : List (List ℕ)) (mem : List ℕ) (row : Row) (ts : Trees) → IsRow c shared mem row ts → 0 < row.len → Took c shared mem (rest.Row row) row.first (Some (rest.Row (row_after row))) ts
+row-took-as : (c : ℕ → ℕ → Bool) (shared : List (List ℕ)) (mem : List ℕ) (row : Row) (ts : Trees) → IsRow c shared mem row ts → 0 < row.len
+    → Took c shared mem (rest.Row row) row.first (Some (rest.Row (row_after row))) ts
 row-took-as c shared mem row ts r some =
     let t : RowTook c shared mem row ts = row-took c shared mem row ts r some in
     record { now = t.now; after = t.after; order = t.order; within = t.within; standing = t.standing; left = (t.left, refl, refl) }
@@ -131,7 +133,8 @@ first-took c shared mem row next ts r some =
 tail-took : (c : ℕ → ℕ → Bool) (shared : List (List ℕ)) (mem : List ℕ) (place : ℕ) (ts : Trees) → IsTail c shared mem place ts → Took c shared mem (rest.Tail place) place None ts
 tail-took c shared mem place ts r = record { now = r.tree; after = end; order = r.one; within = r.within; standing = r.standing; left = (refl, refl) }
 
-take-some : (c : ℕ → ℕ → Bool) (shared : List (List ℕ)) (mem : List ℕ) (l : Rest) (got : ℕ × Option Rest) (ts : Trees) → IsLeft c shared mem l ts → taken l ≡ Some got → Took c shared mem l got.0 got.1 ts
+take-some : (c : ℕ → ℕ → Bool) (shared : List (List ℕ)) (mem : List ℕ) (l : Rest) (got : ℕ × Option Rest) (ts : Trees) → IsLeft c shared mem l ts → taken l ≡ Some got
+    → Took c shared mem l got.0 got.1 ts
 take-some c shared mem (rest.Row row) got ts r e = elim (chosen (nat_eq row.len 0) None (Some (row.first, Some (rest.Row (row_after row)))) (Some got) e) [
   | inl t ↦ absurd (none-some got (sym t.1))
   | inr f ↦ took-as c shared mem (rest.Row row) (row.first, Some (rest.Row (row_after row))) got ts f.1 (row-took-as c shared mem row ts r (not-zero row.len f.0))
@@ -238,7 +241,8 @@ next-some c shared mem old l ls got before most e s =
     (get_or mem got.0 0) (after_word got.1 ls) (s.same ∙ ap left_of t.cons) (s.depths ∙ ap (max depth_limit) deep)
     (more-left c shared mem l ls got.1 t.top t.others (get_or mem got.0 0) k.now k.after (omega (arith, s.few)) k.standing t.are_left k.order k.left)
 
-pub yields-some : (mem : List ℕ) (old : List Rest) (l : Rest) (ls : List Rest) (got : ℕ × Option Rest) → taken l ≡ Some got → Skips mem old (l ∷ ls) → Yields mem old (Some (get_or mem got.0 0)) (after_word got.1 ls)
+pub yields-some : (mem : List ℕ) (old : List Rest) (l : Rest) (ls : List Rest) (got : ℕ × Option Rest) → taken l ≡ Some got → Skips mem old (l ∷ ls)
+    → Yields mem old (Some (get_or mem got.0 0)) (after_word got.1 ls)
 yields-some mem old l ls got e s = record { each = λ c shared rests few left. next-some c shared mem old l ls got rests few e (s.each c shared rests few left) }
 
 next-none : (c : ℕ → ℕ → Bool) (shared : List (List ℕ)) (mem : List ℕ) (rests : List Trees) → AreLeft c shared mem [] rests → (left_of rests ≡ end) × (deepest [] rests ≡ 0)
@@ -347,13 +351,15 @@ parted-some : (c : ℕ → ℕ → Bool) (shared : List (List ℕ)) (mem : List 
 parted-some c shared mem now (look.Cons place) r e p = absurd (none-some r (sym e))
 parted-some c shared mem now l r e p = subst (PartedBy c shared mem now) e p
 
-parted-none : (c : ℕ → ℕ → Bool) (shared : List (List ℕ)) (mem : List ℕ) (now : Tree) (l : Look) → ((place : ℕ) → l ≡ look.Cons place → ⊥) → rest_in l ≡ None → Parted c shared mem now l → PartedBy c shared mem now None
+parted-none : (c : ℕ → ℕ → Bool) (shared : List (List ℕ)) (mem : List ℕ) (now : Tree) (l : Look) → ((place : ℕ) → l ≡ look.Cons place → ⊥) → rest_in l ≡ None → Parted c shared mem now l
+    → PartedBy c shared mem now None
 parted-none c shared mem now (look.Cons place) other e p = absurd (other place refl)
 parted-none c shared mem now l other e p = subst (PartedBy c shared mem now) e p
 
 -- A cons leads to its head.
 
-from-cons : (most : ℕ) (c : ℕ → ℕ → Bool) (shared : List (List ℕ)) (mem : List ℕ) (old : List Rest) (rests : List Trees) (place : ℕ) (h t : Tree) → length old + 1 ≤ depth_limit → AreLeft c shared mem old rests
+from-cons : (most : ℕ) (c : ℕ → ℕ → Bool) (shared : List (List ℕ)) (mem : List ℕ) (old : List Rest) (rests : List Trees) (place : ℕ) (h t : Tree) → length old + 1 ≤ depth_limit
+    → AreLeft c shared mem old rests
     → place + 2 ≤ length mem → Stands c shared mem (get_or mem place 0) h → Stands c shared mem (get_or mem (place + 1) 0) t
     → Goes most c shared mem old (Cons h t) rests (further.Word (get_or mem place 0)) (rest.Tail (place + 1) ∷ old)
 from-cons most c shared mem old rests place h t few left within sh st = record {
@@ -383,7 +389,8 @@ deep-cons most c shared mem old w now l place full e seen =
 -- Any other object leads to its rows.
 
 pub goes-rows : (most : ℕ) (c : ℕ → ℕ → Bool) (shared : List (List ℕ)) (mem : List ℕ) (old : List Rest) (w : ℕ) (now : Tree) (rests : List Trees) (l : Look) (r : Rest) (word : ℕ) (new : List Rest)
-    → length old + 1 ≤ depth_limit → rest_in l ≡ Some r → IsSeen c shared mem w now l → AreLeft c shared mem old rests → Yields mem (r ∷ old) (Some word) new → Goes most c shared mem old now rests (further.Word word) new
+    → length old + 1 ≤ depth_limit → rest_in l ≡ Some r → IsSeen c shared mem w now l → AreLeft c shared mem old rests → Yields mem (r ∷ old) (Some word) new
+    → Goes most c shared mem old now rests (further.Word word) new
 goes-rows most c shared mem old w now rests l r word new few e seen left y =
     let (is, deep, one) = parted-some c shared mem now l r e (parted c shared mem w now l seen) in
     let same : length old + depth now ≡ length old + (inside r + greatest_depth (parts_of now)) = omega (arith, deep, one) in
@@ -392,7 +399,8 @@ goes-rows most c shared mem old w now rests l r word new few e seen left y =
     (ap (λ z. max depth_limit (max z (deepest old rests))) same) (y.each c shared (parts_of now ∷ rests) (omega arith) (is, left))
 
 pub ends-rows : (most : ℕ) (c : ℕ → ℕ → Bool) (shared : List (List ℕ)) (mem : List ℕ) (old : List Rest) (w : ℕ) (now : Tree) (rests : List Trees) (l : Look) (r : Rest) (new : List Rest)
-    → length old + 1 ≤ depth_limit → rest_in l ≡ Some r → IsSeen c shared mem w now l → AreLeft c shared mem old rests → Yields mem (r ∷ old) None new → Goes most c shared mem old now rests further.End new
+    → length old + 1 ≤ depth_limit → rest_in l ≡ Some r → IsSeen c shared mem w now l → AreLeft c shared mem old rests → Yields mem (r ∷ old) None new
+    → Goes most c shared mem old now rests further.End new
 ends-rows most c shared mem old w now rests l r new few e seen left y =
     let (is, deep, one) = parted-some c shared mem now l r e (parted c shared mem w now l seen) in
     let same : length old + depth now ≡ length old + (inside r + greatest_depth (parts_of now)) = omega (arith, deep, one) in
@@ -463,7 +471,8 @@ pub entered-left : (mem : List ℕ) (old new : List Rest) (l : Look) → CanGo m
 entered-left mem old new l g (inl (r, e, is, few)) = let P : List Rest → Type 0 = λ z. HasLeft mem z in subst P (sym is) (rows-left mem old l r few g e)
 entered-left mem old new l g (inr (e, is, other)) = let P : List Rest → Type 0 = λ z. HasLeft mem z in subst P (sym is) (same-left mem old l g)
 
-pub entered-goes : (most : ℕ) (c : ℕ → ℕ → Bool) (shared : List (List ℕ)) (mem : List ℕ) (old levels new : List Rest) (w : ℕ) (now : Tree) (rests : List Trees) (l : Look) (word : ℕ) → length old ≤ depth_limit
+pub entered-goes : (most : ℕ) (c : ℕ → ℕ → Bool) (shared : List (List ℕ)) (mem : List ℕ) (old levels new : List Rest) (w : ℕ) (now : Tree) (rests : List Trees) (l : Look) (word : ℕ)
+    → length old ≤ depth_limit
     → Entered l old levels → Yields mem levels (Some word) new → IsSeen c shared mem w now l → AreLeft c shared mem old rests → Goes most c shared mem old now rests (further.Word word) new
 entered-goes most c shared mem old levels new w now rests l word low (inl (r, e, is, few)) y seen left =
     let P : List Rest → Type 0 = λ z. Yields mem z (Some word) new in
@@ -481,7 +490,8 @@ entered-ends most c shared mem old levels new w now rests l low (inr (e, is, oth
     let P : List Rest → Type 0 = λ z. Yields mem z None new in
     ends-on most c shared mem old w now rests l new low other e seen left (subst P is y)
 
-pub cons-goes : (most : ℕ) (c : ℕ → ℕ → Bool) (shared : List (List ℕ)) (mem : List ℕ) (old new : List Rest) (w : ℕ) (now : Tree) (rests : List Trees) (l : Look) (place word : ℕ) → length old + 1 ≤ depth_limit
+pub cons-goes : (most : ℕ) (c : ℕ → ℕ → Bool) (shared : List (List ℕ)) (mem : List ℕ) (old new : List Rest) (w : ℕ) (now : Tree) (rests : List Trees) (l : Look) (place word : ℕ)
+    → length old + 1 ≤ depth_limit
     → l ≡ look.Cons place → new ≡ rest.Tail (place + 1) ∷ old → word ≡ get_or mem place 0 → IsSeen c shared mem w now l → AreLeft c shared mem old rests
     → Goes most c shared mem old now rests (further.Word word) new
 cons-goes most c shared mem old new w now rests l place word few e is at seen left =

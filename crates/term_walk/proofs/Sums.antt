@@ -42,7 +42,8 @@ flat-rows (pair k v ps) = omega (arith, flat-rows ps)
 
 -- A tree counts what its word counts, and its parts.
 
-pub nodes-own : (c : ℕ → ℕ → Bool) (shared : List (List ℕ)) (mem : List ℕ) (w : ℕ) (now : Tree) (l : Look) → IsSeen c shared mem w now l → nodes shared now ≡ nodes_in l + nodes_of_all shared (parts_of now)
+pub nodes-own : (c : ℕ → ℕ → Bool) (shared : List (List ℕ)) (mem : List ℕ) (w : ℕ) (now : Tree) (l : Look) → IsSeen c shared mem w now l
+    → nodes shared now ≡ nodes_in l + nodes_of_all shared (parts_of now)
 nodes-own c shared mem w (Int i) l (inl (small, e)) = rw e refl
 nodes-own c shared mem w (Int i) l (inr (d, has, e)) = rw e refl
 nodes-own c shared mem w (Atom k) l e = rw e refl
@@ -78,7 +79,8 @@ has-flat mem l m n e h = let P : Look → Type 0 = λ z. HasFlat mem z n in subs
 pub flat-own : (c : ℕ → ℕ → Bool) (shared : List (List ℕ)) (mem : List ℕ) (w : ℕ) (now : Tree) (l : Look) (n : ℕ) → Stands c shared mem w now → IsSeen c shared mem w now l → HasFlat mem l n
     → flat now ≡ n + flat_of_all (parts_of now)
 unfolding Stands
-flat-own c shared mem w (Int i) l n s (inl (small, e)) h = right-zero (int_flat i) n (when-true (is_small i) 0 (if nat_lt (magnitude i) (2 ^ 64) then 2 else 3) small ∙ sym (has-flat mem l (look.Small i) n e h))
+flat-own c shared mem w (Int i) l n s (inl (small, e)) h = right-zero (int_flat i) n (when-true (is_small i) 0 (if nat_lt (magnitude i) (2 ^ 64) then 2 else 3) small
+    ∙ sym (has-flat mem l (look.Small i) n e h))
 flat-own c shared mem w (Int i) l n s (inr (d, has, e)) h = right-zero (int_flat i) n (big-flat i d has ∙ sym (has-flat mem l (look.Big d) n e h))
 flat-own c shared mem w (Atom k) l n s e h = right-zero 0 n (sym (has-flat mem l (look.Atom k) n e h))
 flat-own c shared mem w (Pid k) l n s e h = right-zero 0 n (sym (has-flat mem l (look.Pid k) n e h))
@@ -98,7 +100,8 @@ flat-own c shared mem w (Bin bytes) l n s (e, from) h = right-zero (flat (Bin by
 flat-own c shared mem w (Shared id) l n s (e, from) h =
     right-zero 6 n (sym (has-flat mem l (look.Holder (record { first = get_or mem (w / 4 + 3) 0 + 4; start = 0; len = length (bytes_of shared (Shared id)) })) n e h))
 flat-own c shared mem w (Part base offset len) l n (o, is, s) (v, e, sb, size, from) h =
-    right-zero (flat (Part base offset len)) n (sym (has-flat mem l (look.Part (record { base = get_or mem (w / 4 + 4) 0; bytes = record { first = v; start = offset; len = len } })) n e h c shared base s is))
+    right-zero (flat (Part base offset len)) n (sym (has-flat mem l (look.Part (record { base = get_or mem (w / 4 + 4) 0; bytes = record { first = v; start = offset; len = len } })) n e h c shared
+    base s is))
 
 -- A walk begins with nothing counted.
 
@@ -127,7 +130,8 @@ abbrev pub Leads : (most : ℕ) → List ℕ → List Rest → Look → Further 
 Leads most mem levels l result new = (c : ℕ → ℕ → Bool) (shared : List (List ℕ)) (w : ℕ) (now : Tree) (rests : List Trees)
     → Stands c shared mem w now → IsSeen c shared mem w now l → AreLeft c shared mem levels rests → Goes most c shared mem levels now rests result new
 
-pub counts-on : (most : ℕ) (mem : List ℕ) (first word next : ℕ) (levels new : List Rest) (l : Look) (seen words n total flats : ℕ) → Counts mem first word levels seen words → Sees mem word l → HasFlat mem l n
+pub counts-on : (most : ℕ) (mem : List ℕ) (first word next : ℕ) (levels new : List Rest) (l : Look) (seen words n total flats : ℕ) → Counts mem first word levels seen words → Sees mem word l
+    → HasFlat mem l n
     → Leads most mem levels l (further.Word next) new → total ≡ seen + nodes_in l → flats ≡ words + n → Counts mem first next new total flats
 counts-on most mem first word next levels new l seen words n total flats k sees has g e f =
     let P : ℕ → Type 0 = λ z. Counts mem first next new z flats in
@@ -159,24 +163,29 @@ test-false a b h = grind (arith, nat_tests)
 
 pub is-within : (shared : List (List ℕ)) (t : Tree) (n f : ℕ) → nodes shared t ≡ n → flat t ≡ f → n ≤ node_limit → depth t ≤ depth_limit → Within (record { nodes = n; flat = f }) ≡ measured shared t
 is-within shared t n f en ef few shallow =
-    let b : is_beyond shared t ≡ false = or-false (nat_lt node_limit (nodes shared t)) (nat_lt depth_limit (depth t)) (test-false node_limit (nodes shared t) (omega (arith, en, few))) (test-false depth_limit (depth t) shallow) in
+    let b : is_beyond shared t ≡ false = or-false (nat_lt node_limit (nodes shared t)) (nat_lt depth_limit (depth t)) (test-false node_limit (nodes shared t) (omega (arith, en, few)))
+    (test-false depth_limit (depth t) shallow) in
     ap₂ (λ a b. Within (record { nodes = a; flat = b })) (sym en) (sym ef) ∙ sym (when-false (is_beyond shared t) Beyond (Within (record { nodes = nodes shared t; flat = flat t })) b)
 
 is-many : (shared : List (List ℕ)) (t : Tree) → node_limit < nodes shared t → Beyond ≡ measured shared t
-is-many shared t h = sym (when-true (is_beyond shared t) Beyond (Within (record { nodes = nodes shared t; flat = flat t })) (or-left (nat_lt node_limit (nodes shared t)) (nat_lt depth_limit (depth t)) (test-true node_limit (nodes shared t) h)))
+is-many shared t h = sym (when-true (is_beyond shared t) Beyond (Within (record { nodes = nodes shared t; flat = flat t }))
+    (or-left (nat_lt node_limit (nodes shared t)) (nat_lt depth_limit (depth t)) (test-true node_limit (nodes shared t) h)))
 
 is-deep : (shared : List (List ℕ)) (t : Tree) → depth_limit < depth t → Beyond ≡ measured shared t
-is-deep shared t h = sym (when-true (is_beyond shared t) Beyond (Within (record { nodes = nodes shared t; flat = flat t })) (or-right (nat_lt node_limit (nodes shared t)) (nat_lt depth_limit (depth t)) (test-true depth_limit (depth t) h)))
+is-deep shared t h = sym (when-true (is_beyond shared t) Beyond (Within (record { nodes = nodes shared t; flat = flat t }))
+    (or-right (nat_lt node_limit (nodes shared t)) (nat_lt depth_limit (depth t)) (test-true depth_limit (depth t) h)))
 
 end-within : (most : ℕ) (c : ℕ → ℕ → Bool) (shared : List (List ℕ)) (mem : List ℕ) (t : Tree) (word : ℕ) (levels new : List Rest) (l : Look) (seen words n : ℕ)
-    → (k : Counting c shared mem t word levels seen words) → IsSeen c shared mem word k.now l → HasFlat mem l n → Goes most c shared mem levels k.now k.rests further.End new → seen + nodes_in l ≤ node_limit
+    → (k : Counting c shared mem t word levels seen words) → IsSeen c shared mem word k.now l → HasFlat mem l n → Goes most c shared mem levels k.now k.rests further.End new
+    → seen + nodes_in l ≤ node_limit
     → Within (record { nodes = seen + nodes_in l; flat = words + n }) ≡ measured shared t
 end-within most c shared mem t word levels new l seen words n k sees has g few = is-within shared t (seen + nodes_in l) (words + n)
     (omega (arith, k.nodes_are, nodes-own c shared mem word k.now l sees, nodes-append shared (parts_of k.now) (left_of k.rests), ap (nodes_of_all shared) g.none))
     (omega (arith, k.flat_is, flat-own c shared mem word k.now l n k.standing sees has, flat-append (parts_of k.now) (left_of k.rests), ap flat_of_all g.none))
     few (omega (arith, k.depth_is, g.shallow))
 
-pub measures-within : (most : ℕ) (mem : List ℕ) (first word : ℕ) (levels new : List Rest) (l : Look) (seen words n total flats : ℕ) → Counts mem first word levels seen words → Sees mem word l → HasFlat mem l n
+pub measures-within : (most : ℕ) (mem : List ℕ) (first word : ℕ) (levels new : List Rest) (l : Look) (seen words n total flats : ℕ) → Counts mem first word levels seen words → Sees mem word l
+    → HasFlat mem l n
     → Leads most mem levels l further.End new → total ≡ seen + nodes_in l → flats ≡ words + n → total ≤ node_limit → Measures mem first (Within (record { nodes = total; flat = flats }))
 measures-within most mem first word levels new l seen words n total flats k sees has g e f few = record {
   each = λ c shared t s.
@@ -202,7 +211,8 @@ deep-tree : (most : ℕ) (c : ℕ → ℕ → Bool) (shared : List (List ℕ)) (
     → most < length levels + depth k.now → depth_limit < depth t
 deep-tree most c shared mem t word levels seen words k all deep = omega (arith, k.depth_is, all, deep)
 
-pub measures-deep : (most : ℕ) (mem : List ℕ) (first word : ℕ) (levels new : List Rest) (l : Look) (seen words : ℕ) → Counts mem first word levels seen words → Sees mem word l → Leads most mem levels l further.TooDeep new
+pub measures-deep : (most : ℕ) (mem : List ℕ) (first word : ℕ) (levels new : List Rest) (l : Look) (seen words : ℕ) → Counts mem first word levels seen words → Sees mem word l
+    → Leads most mem levels l further.TooDeep new
     → most ≡ depth_limit → Measures mem first Beyond
 measures-deep most mem first word levels new l seen words k sees g all = record {
   each = λ c shared t s.

@@ -154,4 +154,5 @@ IsNext c shared mem old rests None new = Ends (left_of rests) (deepest old rests
 
 -- So it is for all trees that the words stand for.
 pub record Yields (mem : List ℕ) (old : List Rest) (result : Option ℕ) (new : List Rest) : Type 0 where
-  pub each : (c : ℕ → ℕ → Bool) (shared : List (List ℕ)) (rests : List Trees) → length old ≤ depth_limit → AreLeft c shared mem old rests → IsNext c shared mem old rests result new
+  pub each : (c : ℕ → ℕ → Bool) (shared : List (List ℕ)) (rests : List Trees) → length old ≤ depth_limit → AreLeft c shared mem old rests
+      → IsNext c shared mem old rests result new

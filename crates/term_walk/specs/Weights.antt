@@ -23,5 +23,6 @@ HasFlat mem (look.Map rows) n = n ≡ 4 + 2 * rows.len
 HasFlat mem (look.Fun parts) n = n ≡ 6 + parts.env.len
 HasFlat mem (look.Heap bytes) n = n ≡ 2 + bin_words bytes.len
 HasFlat mem (look.Holder bytes) n = n ≡ 6
-HasFlat mem (look.Part part) n = (c : ℕ → ℕ → Bool) (shared : List (List ℕ)) (base : Tree) → Stands c shared mem part.base base → IsBase base → n ≡ 5 + flat base
+HasFlat mem (look.Part part) n = (c : ℕ → ℕ → Bool) (shared : List (List ℕ)) (base : Tree) → Stands c shared mem part.base base → IsBase base
+    → n ≡ 5 + flat base
 HasFlat mem _ n = n ≡ 0

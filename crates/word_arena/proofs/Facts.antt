@@ -16,7 +16,8 @@ pub free-none : (mem : List ℕ) (p : ℕ) → 1 ≤ kind_at mem p → free_at m
 free-none mem p used = let test : (kind_at mem p == 0) ≡ false = grind (arith, nat_tests) in rw test refl
 
 pub free-most : (mem : List ℕ) (p : ℕ) → free_at mem p ≤ size_at mem p
-free-most mem p = elim (cases_lt 0 (kind_at mem p)) as (λ _. free_at mem p ≤ size_at mem p) [ inl used ↦ omega (arith, free-none mem p used) | inr z ↦ (let zero : kind_at mem p ≡ 0 = omega arith in omega (arith, free-all mem p zero)) ]
+free-most mem p = elim (cases_lt 0 (kind_at mem p)) as (λ _. free_at mem p ≤ size_at mem p)
+    [ inl used ↦ omega (arith, free-none mem p used) | inr z ↦ (let zero : kind_at mem p ≡ 0 = omega arith in omega (arith, free-all mem p zero)) ]
 
 -- A block with free words is free.
 pub some-free : (mem : List ℕ) (p : ℕ) → 1 ≤ free_at mem p → kind_at mem p ≡ 0

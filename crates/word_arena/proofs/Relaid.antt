@@ -167,7 +167,8 @@ relaid old new a e cs ds blocked ch =
     }
 
 -- A word of a block outside of the change.
-outside-word : (old new : List ℕ) (a e p q : ℕ) (cs ds : List ℕ) → Blocked old → Change old new a e cs ds → Begins old p → (p < a) ⊎ (e ≤ p) → p ≤ q → q < p + size_at old p → get_or new q 0 ≡ get_or old q 0
+outside-word : (old new : List ℕ) (a e p q : ℕ) (cs ds : List ℕ) → Blocked old → Change old new a e cs ds → Begins old p → (p < a) ⊎ (e ≤ p) → p ≤ q → q < p + size_at old p
+    → get_or new q 0 ≡ get_or old q 0
 outside-word old new a e p q cs ds blocked ch begins (inl low) from to =
     let far : p + size_at old p ≤ a = apart old p a blocked begins ch.begins low in
     ch.same q (inl (omega arith))

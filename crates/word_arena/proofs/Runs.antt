@@ -24,7 +24,16 @@ only-in p a (inl same) = same
 only-in p a (inr none) = elim none [ ]
 
 pub no-run : (mem : List ℕ) (a : ℕ) → Run mem a a
-no-run mem a = record { ps = []; row = refl; only = λ p is. elim is [ ]; free = λ p is. elim is [ ]; sum = omega arith; some = λ below. absurd (omega arith); whole = λ below. absurd (omega arith); last = λ p is. elim is [ ] }
+no-run mem a = record {
+  ps = [];
+  row = refl;
+  only = λ p is. elim is [ ];
+  free = λ p is. elim is [ ];
+  sum = omega arith;
+  some = λ below. absurd (omega arith);
+  whole = λ below. absurd (omega arith);
+  last = λ p is. elim is [ ];
+}
 
 pub one-run : (mem : List ℕ) (a : ℕ) → IsHeader (get_or mem a 0) → kind_at mem a ≡ 0 → Run mem a (a + size_at mem a)
 one-run mem a is free =

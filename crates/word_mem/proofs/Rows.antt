@@ -58,7 +58,8 @@ module _ {M : Type 1} {𝓤 : Ura M} {𝓛 : Logic 𝓤} {K : Type 0} {Γ : List
   -- [the places; the two fields; the open borrow; obs; auth]
   pub row_opens : K → Soaks G → {κ : Lft} {q : Share} {γ : GName} (d : Words) (rb ro : ℕ)
       → ((b o : ℕ) → d.ptr ≡ block_ptr b o → d.len < 2 ^ 64 → d.len * 8 < 2 ^ 63
-      → Seq K 𝓛 (‵ (places d b o) ∷ ‵ (cell_at full_share W.mir (row_val b o d.len ∷ []) rb ro) ∷ ‵ (fobor κ q (Body (mem W) rb ro γ)) ∷ ‵ (fobs γ (W.coded.code d)) ∷ ‵ (fauth γ (W.coded.code d)) ∷ Γ) G)
+      → Seq K 𝓛 (‵ (places d b o) ∷ ‵ (cell_at full_share W.mir (row_val b o d.len ∷ []) rb ro) ∷ ‵ (fobor κ q (Body (mem W) rb ro γ)) ∷ ‵ (fobs γ (W.coded.code d)) ∷ ‵
+      (fauth γ (W.coded.code d)) ∷ Γ) G)
       → Seq K 𝓛 (‵ (fobs γ (W.coded.code d)) ∷ ‵ (fbor κ (Body (mem W) rb ro γ)) ∷ ‵ (flft κ q) ∷ Γ) G
   row_opens t z d rb ro k =
       opens t z W {h = d} rb ro (λ vs. move t (1 ∷ []) $ row_had t d vs (λ b o e is fn fit.

@@ -1,4 +1,4 @@
-// The memory of the product: one row of 64-bit words, read and written by place.
+//! The memory of the product: one row of 64-bit words, read and written by place.
 #![tactic(auto)]
 
 mod fault;

@@ -70,7 +70,8 @@ impl Words {
     #[inline]
     pub fn put(&mut self, at: usize, w: u64)
         requires { at < self.old.len }
-        ensures { (self.new.ptr ≡ self.old.ptr) × (self.new.len ≡ self.old.len) × (self.new.items ≡ slice_set self.old.items at w) × (self.new.filled ≡ slice_set self.old.filled at true) }
+        ensures { (self.new.ptr ≡ self.old.ptr) × (self.new.len ≡ self.old.len) × (self.new.items ≡ slice_set self.old.items at w)
+            × (self.new.filled ≡ slice_set self.old.filled at true) }
     {
         unsafe { self.ptr.add(at).write(w) }
     }

@@ -25,7 +25,8 @@ lay_bin-requires-clause-words c =
     let long : is_long (get_or c.args.code.now c.loop-i.i (Int (pos 0))) ≡ true = sym c.is_long.ensures ∙ c.if-is_long.true in
     omega (
       arith,
-      next-fits c.loop-i.i (Int (pos 0)) c.args.code.now c.args.room.now c.loop-i.room c.args.mem.now c.loop-i.mem c.args.making.now c.loop-i.making c.loop-i-test.true long c.loop-i.invariant c.requires.words,
+      next-fits c.loop-i.i (Int (pos 0)) c.args.code.now c.args.room.now c.loop-i.room c.args.mem.now c.loop-i.mem c.args.making.now c.loop-i.making c.loop-i-test.true long c.loop-i.invariant
+          c.requires.words,
       c.len_of.ensures,
     )
 

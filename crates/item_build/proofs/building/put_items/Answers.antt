@@ -58,7 +58,8 @@ returns-clause-reads c = λ k shared trees free held holders.
     let rest : c.loop-i.sp + terms_in c.args.code.now ≡ length c.loop-i.scratch =
     all-read c.loop-i.i c.args.code.now (λ z. c.loop-i.sp + terms_in z ≡ length c.loop-i.scratch) c.loop-i-test.false c.loop-i.invariant.count in
     let last : c.loop-i.sp + 1 ≡ length c.loop-i.scratch = omega (arith, rest, c.requires.term.one) in
-    let P : List ℕ → Type 0 = λ z. MarksBuilt k c.args.room.now.top (c.loop-i.room.top - c.args.room.now.top) c.args.mem.now c.loop-i.mem shared z (read c.args.names.now shared trees c.args.code.now) in
+    let P : List ℕ → Type 0 = λ z. MarksBuilt k c.args.room.now.top (c.loop-i.room.top - c.args.room.now.top) c.args.mem.now c.loop-i.mem shared z
+    (read c.args.names.now shared trees c.args.code.now) in
     let all = all-read c.loop-i.i c.args.code.now
     (λ z. (is_big c.args.names.now shared trees z ≡ false)
     × MarksBuilt k c.args.room.now.top (c.loop-i.room.top - c.args.room.now.top) c.args.mem.now c.loop-i.mem shared (drop c.loop-i.sp c.loop-i.scratch) (read c.args.names.now shared trees z))
@@ -76,7 +77,8 @@ returns-in_err-sp-clause-reads c = λ k shared trees free held holders.
     (held-at c.args.names.now c.args.held.now c.args.code.now c.loop-i.i (Int (pos 0)) c.loop-i-test.true c.loop-i.invariant.from c.args.room.now c.loop-i.room c.args.mem.now c.loop-i.mem
     c.loop-i.invariant.uses k shared trees free held (drop c.loop-i.sp c.loop-i.scratch) b.1)
     (holder-at c.args.names.now c.args.held.now c.args.code.now c.loop-i.i (Int (pos 0)) c.loop-i-test.true c.loop-i.invariant.from c.args.room.now c.loop-i.room c.args.mem.now c.loop-i.mem
-    c.loop-i.invariant.uses k shared trees free held (drop c.loop-i.sp c.loop-i.scratch) b.1 (take (length c.args.code.now - (c.loop-i.i - 1 + 1)) (drop (c.loop-i.i - 1 + 1) c.args.code.now)) (rest-at c.args.code.now c.loop-i.i c.loop-i-test.true) c.args.bins c.loop-i.bin c.holder_words-bin.result holders c.holder_words-bin.ensures c.loop-i.invariant.bin) b.1.made in
+    c.loop-i.invariant.uses k shared trees free held (drop c.loop-i.sp c.loop-i.scratch) b.1 (take (length c.args.code.now - (c.loop-i.i - 1 + 1)) (drop (c.loop-i.i - 1 + 1) c.args.code.now))
+    (rest-at c.args.code.now c.loop-i.i c.loop-i-test.true) c.args.bins c.loop-i.bin c.holder_words-bin.result holders c.holder_words-bin.ensures c.loop-i.invariant.bin) b.1.made in
     subst P (sym c.from_residual.ensures)
     (put-big c.args.names.now c.args.held.now c.args.code.now c.loop-i.i (Int (pos 0)) c.loop-i-test.true c.loop-i.invariant.from c.args.room.now c.loop-i.room c.args.mem.now c.loop-i.mem
     c.loop-i.invariant.uses k shared trees free held (drop c.loop-i.sp c.loop-i.scratch) b.1 big)
@@ -96,10 +98,11 @@ loop-i-preserved c =
     (held-at c.args.names.now c.args.held.now c.args.code.now c.loop-i.i (Int (pos 0)) c.loop-i-test.true c.loop-i.invariant.from c.args.room.now c.loop-i.room c.args.mem.now c.loop-i.mem
     c.loop-i.invariant.uses k shared trees free held (drop c.loop-i.sp c.loop-i.scratch) b.1)
     (holder-at c.args.names.now c.args.held.now c.args.code.now c.loop-i.i (Int (pos 0)) c.loop-i-test.true c.loop-i.invariant.from c.args.room.now c.loop-i.room c.args.mem.now c.loop-i.mem
-    c.loop-i.invariant.uses k shared trees free held (drop c.loop-i.sp c.loop-i.scratch) b.1 (take (length c.args.code.now - (c.loop-i.i - 1 + 1)) (drop (c.loop-i.i - 1 + 1) c.args.code.now)) (rest-at c.args.code.now c.loop-i.i c.loop-i-test.true) c.args.bins c.loop-i.bin c.holder_words-bin.result holders c.holder_words-bin.ensures c.loop-i.invariant.bin) b.1.made in
+    c.loop-i.invariant.uses k shared trees free held (drop c.loop-i.sp c.loop-i.scratch) b.1 (take (length c.args.code.now - (c.loop-i.i - 1 + 1)) (drop (c.loop-i.i - 1 + 1) c.args.code.now))
+    (rest-at c.args.code.now c.loop-i.i c.loop-i-test.true) c.args.bins c.loop-i.bin c.holder_words-bin.result holders c.holder_words-bin.ensures c.loop-i.invariant.bin) b.1.made in
     put-more c.args.names.now c.args.held.now c.args.code.now c.loop-i.i (Int (pos 0)) c.loop-i-test.true c.loop-i.invariant.from c.args.room.now c.loop-i.room c.args.mem.now c.loop-i.mem
-    c.loop-i.invariant.uses k shared trees free held (drop c.loop-i.sp c.loop-i.scratch) b.1 (take (length c.args.code.now - (c.loop-i.i - 1 + 1)) (drop (c.loop-i.i - 1 + 1) c.args.code.now)) (rest-at c.args.code.now c.loop-i.i c.loop-i-test.true) c.put_item.new.room c.put_item.new.mem (drop c.in_ok-sp.sp c.put_item.new.scratch) b.0
-    c.in_ok-sp.ensures.uses p.0 p.1) in
+    c.loop-i.invariant.uses k shared trees free held (drop c.loop-i.sp c.loop-i.scratch) b.1 (take (length c.args.code.now - (c.loop-i.i - 1 + 1)) (drop (c.loop-i.i - 1 + 1) c.args.code.now))
+    (rest-at c.args.code.now c.loop-i.i c.loop-i-test.true) c.put_item.new.room c.put_item.new.mem (drop c.in_ok-sp.sp c.put_item.new.scratch) b.0 c.in_ok-sp.ensures.uses p.0 p.1) in
     let P : ℕ → Type 0 = λ z. UsesSome z c.args.room.now c.put_item.new.room c.args.mem.now c.put_item.new.mem in
     record {
       from = omega (arith, c.loop-i.invariant.from);
@@ -108,7 +111,8 @@ loop-i-preserved c =
       count = row-count c.requires.held.test c.args.names.now c.requires.held.shared c.requires.held.trees c.args.room.now c.put_item.new.room c.args.mem.now c.put_item.new.mem
           c.put_item.new.scratch c.in_ok-sp.sp (drop (c.loop-i.i - 1) c.args.code.now) (omega (arith, c.in_ok-sp.ensures.place))
           (built c.requires.held.test c.requires.held.shared c.requires.held.trees c.requires.held.free c.requires.held.standing c.requires.held.holders).1;
-      bin = bin-after c.args.code.now c.loop-i.i (Int (pos 0)) c.args.bins c.loop-i.bin c.holder_words-bin.result c.loop-i-test.true c.loop-i.invariant.from c.holder_words-bin.ensures c.loop-i.invariant.bin c.requires.held.holders.low;
+      bin = bin-after c.args.code.now c.loop-i.i (Int (pos 0)) c.args.bins c.loop-i.bin c.holder_words-bin.result c.loop-i-test.true c.loop-i.invariant.from c.holder_words-bin.ensures
+          c.loop-i.invariant.bin c.requires.held.holders.low;
       uses = subst P (sym (own-at c.args.code.now c.loop-i.i (Int (pos 0)) c.loop-i-test.true c.loop-i.invariant.from))
           (some-then (own_words_of (drop c.loop-i.i c.args.code.now)) (own_words (get_or c.args.code.now (c.loop-i.i - 1) (Int (pos 0)))) c.args.room.now c.loop-i.room c.put_item.new.room
           c.args.mem.now c.loop-i.mem c.put_item.new.mem c.loop-i.invariant.uses c.in_ok-sp.ensures.uses);

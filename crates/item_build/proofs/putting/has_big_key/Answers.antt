@@ -25,7 +25,8 @@ is_big_key-requires c =
 pub returns-then-is_big_key : goal.returns-then-is_big_key
 returns-then-is_big_key c = λ k shared ms all.
     let two = two-at k shared c.args.mem.now c.args.row.now ms c.loop-i.i (2 * c.loop-i.i) refl (omega (arith, c.loop-i-test.true)) all in
-    sym (c.loop-i.invariant.left k shared ms all ∙ now-big shared two.key two.value (drop (2 * c.loop-i.i) ms) (drop (suc (suc (2 * c.loop-i.i))) ms) two.left (sym (c.is_big_key.ensures k shared two.key two.standing) ∙ c.if-is_big_key.true))
+    sym (c.loop-i.invariant.left k shared ms all ∙ now-big shared two.key two.value (drop (2 * c.loop-i.i) ms) (drop (suc (suc (2 * c.loop-i.i))) ms) two.left
+    (sym (c.is_big_key.ensures k shared two.key two.standing) ∙ c.if-is_big_key.true))
 
 pub loop-i-preserved : goal.loop-i-preserved
 loop-i-preserved c = record {

@@ -40,7 +40,8 @@ compare-returns-in_default t c =
       | compare-in_default-via-in-Map+in_default w ↦ apart-Map names c.args.a.now c.args.b.now _ w.in_default.is-0 w.in_default.not-Map-1
       | compare-in_default-via-in-Nil+in_default w ↦ apart-Nil names c.args.a.now c.args.b.now w.in_default.is-0 w.in_default.not-Nil-1
       | compare-in_default-via-in-Cons+in_default w ↦ apart-Cons names c.args.a.now c.args.b.now _ _ w.in_default.is-0 w.in_default.not-Cons-1
-      | compare-in_default-via-in_default w ↦ apart-others names c.args.a.now c.args.b.now w.in_default.not-Int-0 w.in_default.not-Atom-0 w.in_default.not-Ref-0 w.in_default.not-Fun-0 w.in_default.not-Pid-0 w.in_default.not-Tuple-0 w.in_default.not-Map-0 w.in_default.not-Nil-0 w.in_default.not-Cons-0
+      | compare-in_default-via-in_default w ↦ apart-others names c.args.a.now c.args.b.now w.in_default.not-Int-0 w.in_default.not-Atom-0 w.in_default.not-Ref-0 w.in_default.not-Fun-0
+          w.in_default.not-Pid-0 w.in_default.not-Tuple-0 w.in_default.not-Map-0 w.in_default.not-Nil-0 w.in_default.not-Cons-0
     ] in known ∙ sym apart
 
 pub compare_all-returns : goal.compare_all-returns

@@ -10,7 +10,8 @@ read_parts-returns-in_err-part-clause-read t c =
 
 pub read_parts-loop-i-preserved : goal.read_parts-loop-i-preserved
 read_parts-loop-i-preserved t c = record {
-  read = reads_more c.args.items.now c.loop-i._i c.loop-i.parts c.with_part-parts.result c.loop-i.rest.now c.in_ok-part.part c.in_ok-part.after.now c.loop-i.invariant.read c.in_ok-part.ensures.read c.with_part-parts.ensures;
+  read = reads_more c.args.items.now c.loop-i._i c.loop-i.parts c.with_part-parts.result c.loop-i.rest.now c.in_ok-part.part c.in_ok-part.after.now c.loop-i.invariant.read c.in_ok-part.ensures.read
+      c.with_part-parts.ensures;
   shorter = omega (arith, c.in_ok-part.ensures.shorter, c.loop-i.invariant.shorter);
 }
 

@@ -11,6 +11,7 @@ pub loop-i-preserved : goal.loop-i-preserved
 loop-i-preserved c =
     let next = c.in_ok-byte.ensures in
     record {
-      read = reads_byte c.args.items.now c.loop-i._i c.loop-i.bytes c.with_byte-bytes.result c.loop-i.rest.now c.in_ok-byte.byte c.in_ok-byte.after.now c.loop-i.invariant.read next c.with_byte-bytes.ensures;
+      read = reads_byte c.args.items.now c.loop-i._i c.loop-i.bytes c.with_byte-bytes.result c.loop-i.rest.now c.in_ok-byte.byte c.in_ok-byte.after.now c.loop-i.invariant.read next
+          c.with_byte-bytes.ensures;
       shorter = omega (arith, c.loop-i.invariant.shorter, ap length next);
     }

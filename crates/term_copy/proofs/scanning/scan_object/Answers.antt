@@ -22,7 +22,8 @@ returns-then-word-ne0-clause-each c = λ p known stay g.
 
 pub scan_words-requires-2 : goal.scan_words-requires-2
 scan_words-requires-2 c =
-    let o = opens-at c.requires.task c.requires.known c.args.mem.now c.args.at c.args.room.now.top c.requires.on (c.args.at + c.first_word.result) (c.args.at + (1 + c.get-word.result / 64)) c.requires.some
+    let o = opens-at c.requires.task c.requires.known c.args.mem.now c.args.at c.args.room.now.top c.requires.on
+    (c.args.at + c.first_word.result) (c.args.at + (1 + c.get-word.result / 64)) c.requires.some
     (traced-boxed (get_or c.args.mem.now c.args.at 0) c.get-word.result c.args.at c.first_word.result c.get-word.ensures c.if-word-ne0.false c.first_word.ensures.first) in
     record {
       rest = o.0;

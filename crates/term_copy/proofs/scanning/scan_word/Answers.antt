@@ -18,7 +18,8 @@ copy_part-new-requires c = record {
   owed = flat_of_all c.requires.rest;
   tree = c.requires.tree;
   on = c.requires.can.on.on;
-  standing = stands-at c.requires.can.task c.requires.can.known c.args.mem.now c.args.at c.requires.at c.args.room.now.top c.requires.tree c.requires.rest c.requires.can.on c.get-w.result c.get-w.ensures;
+  standing = stands-at c.requires.can.task c.requires.can.known c.args.mem.now c.args.at c.requires.at c.args.room.now.top c.requires.tree c.requires.rest c.requires.can.on
+      c.get-w.result c.get-w.ensures;
   goes = goes-by c.requires.can.task (stays c.args.stay.now) c.get-w.result c.requires.can.same_stay (c.goes.ensures.yes c.if-goes.true);
   has = c.requires.can.has;
 }

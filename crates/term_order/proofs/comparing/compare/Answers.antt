@@ -3,19 +3,24 @@ use Rattle.term_order.proofs.Passing.{first-term-behind, second-term-behind, nam
 use Rattle.term_order.proofs.comparing.compare.Goals as goal
 
 pub is_beyond_behind-requires-clause-term : goal.is_beyond_behind-requires-clause-term
-is_beyond_behind-requires-clause-term c = first-term-behind c.args.mem.now c.args.names.now c.args.a c.args.b c.pass_same-behind.result.left c.pass_same-behind.result.right c.pass_same-behind.result.cells c.pass_same-behind.ensures.passes c.requires
+is_beyond_behind-requires-clause-term c = first-term-behind c.args.mem.now c.args.names.now c.args.a c.args.b c.pass_same-behind.result.left c.pass_same-behind.result.right
+    c.pass_same-behind.result.cells c.pass_same-behind.ensures.passes c.requires
 
 pub returns-then-is_beyond_behind : goal.returns-then-is_beyond_behind
-returns-then-is_beyond_behind c = first-beyond c.args.mem.now c.args.names.now c.args.a c.args.b c.pass_same-behind.result.left c.pass_same-behind.result.right c.pass_same-behind.result.cells c.pass_same-behind.ensures.passes c.if-is_beyond_behind.ensures
+returns-then-is_beyond_behind c = first-beyond c.args.mem.now c.args.names.now c.args.a c.args.b c.pass_same-behind.result.left c.pass_same-behind.result.right c.pass_same-behind.result.cells
+    c.pass_same-behind.ensures.passes c.if-is_beyond_behind.ensures
 
 pub is_other_beyond-requires-clause-term : goal.is_other_beyond-requires-clause-term
-is_other_beyond-requires-clause-term c = second-term-behind c.args.mem.now c.args.names.now c.args.a c.args.b c.pass_same-behind.result.left c.pass_same-behind.result.right c.pass_same-behind.result.cells c.pass_same-behind.ensures.passes c.requires
+is_other_beyond-requires-clause-term c = second-term-behind c.args.mem.now c.args.names.now c.args.a c.args.b c.pass_same-behind.result.left c.pass_same-behind.result.right
+    c.pass_same-behind.result.cells c.pass_same-behind.ensures.passes c.requires
 
 pub returns-then-is_other_beyond : goal.returns-then-is_other_beyond
-returns-then-is_other_beyond c = second-beyond c.args.mem.now c.args.names.now c.args.a c.args.b c.pass_same-behind.result.left c.pass_same-behind.result.right c.pass_same-behind.result.cells c.pass_same-behind.ensures.passes c.if-is_other_beyond.ensures
+returns-then-is_other_beyond c = second-beyond c.args.mem.now c.args.names.now c.args.a c.args.b c.pass_same-behind.result.left c.pass_same-behind.result.right c.pass_same-behind.result.cells
+    c.pass_same-behind.ensures.passes c.if-is_other_beyond.ensures
 
 pub order_within-requires-clause-named : goal.order_within-requires-clause-named
-order_within-requires-clause-named c = named-behind c.args.mem.now c.args.names.now c.args.a c.args.b c.pass_same-behind.result.left c.pass_same-behind.result.right c.pass_same-behind.result.cells c.requires c.pass_same-behind.ensures.passes
+order_within-requires-clause-named c = named-behind c.args.mem.now c.args.names.now c.args.a c.args.b c.pass_same-behind.result.left c.pass_same-behind.result.right c.pass_same-behind.result.cells
+    c.requires c.pass_same-behind.ensures.passes
 
 pub order_within-requires-clause-within : goal.order_within-requires-clause-within
 order_within-requires-clause-within c =

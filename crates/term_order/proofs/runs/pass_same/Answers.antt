@@ -22,6 +22,6 @@ get-right-requires c =
 pub loop-cells-preserved : goal.loop-cells-preserved
 loop-cells-preserved c = record {
   few = omega (arith, c.loop-cells-test.true);
-  passes = passes-both-cell c.args.mem.now c.args.a c.args.b c.loop-cells.left c.loop-cells.right c.get-left.result c.get-right.result c.loop-cells.cells c.loop-cells.invariant.passes (c.if-not-is_same_cell.ensures refl)
-      c.get-left.ensures c.get-right.ensures;
+  passes = passes-both-cell c.args.mem.now c.args.a c.args.b c.loop-cells.left c.loop-cells.right c.get-left.result c.get-right.result c.loop-cells.cells c.loop-cells.invariant.passes
+      (c.if-not-is_same_cell.ensures refl) c.get-left.ensures c.get-right.ensures;
 }

@@ -24,5 +24,5 @@ returns g c = λ first start b.
     let this = c.in_ok-print_left.ensures.on first start
     (subst (λ z. Begun c.args.mem.now c.args.names.now first (reverse z) c.args.seen g.K.Sink.wrote g.K.Sink.faults start c.args.sink.now) (sym same) b) in
     prints-all c.args.mem.now c.args.names.now first (reverse c.print_left.new.levels.items) c.in_ok-print_left.field-0 g.K.Sink.wrote g.K.Sink.faults start c.print_left.new.sink tt
-    (none-left c.args.mem.now c.args.names.now h.first c.print_left.new.levels.items c.in_ok-print_left.field-0 g.K.Sink.wrote h.start c.print_left.new.sink h.can mine.prints c.in_ok-print_left.ensures.all)
-    this.told this.prints
+    (none-left c.args.mem.now c.args.names.now h.first c.print_left.new.levels.items c.in_ok-print_left.field-0 g.K.Sink.wrote h.start c.print_left.new.sink h.can mine.prints
+    c.in_ok-print_left.ensures.all) this.told this.prints

@@ -15,7 +15,8 @@ loop-text-init g c = record { on = λ first start b. b; few = c.requires.few }
 
 pub returns-in_err-put-in-End-clause-on : goal.returns-in_err-put-in-End-clause-on
 returns-in_err-put-in-End-clause-on g c = λ first start b.
-    stops c.args.mem.now c.args.names.now first (reverse c.pop.new.self.items) g.K.Sink.wrote g.K.Sink.faults start c.put-in-End.new.sink c.from_residual-in_err-put-in-End.result c.from_residual-in_err-put-in-End.ensures.0 (λ q failed.
+    stops c.args.mem.now c.args.names.now first (reverse c.pop.new.self.items) g.K.Sink.wrote g.K.Sink.faults start c.put-in-End.new.sink c.from_residual-in_err-put-in-End.result
+    c.from_residual-in_err-put-in-End.ensures.0 (λ q failed.
     prints-end-stops c.args.mem.now c.args.names.now first c.gather-level.result (reverse c.pop.new.self.items) c.in-End.last c.loop-text.seen g.K.Sink.wrote g.K.Sink.faults start
     c.put.new.sink c.put-in-End.new.sink
     c.in_err-put-in-End.field-0.0 q failed (c.in_ok-put.ensures.told ∙ (c.loop-text.invariant.on first start b).told)
@@ -50,8 +51,8 @@ begin-requires g c =
             (part-asks c.args.mem.now c.args.names.now first c.gather-level.result (reverse c.pop.new.self.items) c.in-Part.part c.loop-text.seen g.K.Sink.wrote start c.put.new.sink h.can
             (sym c.next.ensures ∙ c.in-Part.is)
             (prints-gathered c.args.mem.now c.args.names.now first c.loop-text.levels.items c.pop.new.self.items c.in-Some.top c.gather-level.result c.gather-level.new.text.items c.as_slice.result.now
-            c.loop-text.seen g.K.Sink.wrote start c.loop-text.sink c.put.new.sink c.in-Some.ensures.items c.as_slice.ensures.value (c.loop-text.invariant.on first start b).prints c.gather-level.ensures
-            c.in_ok-put.ensures.all)),
+            c.loop-text.seen g.K.Sink.wrote start c.loop-text.sink c.put.new.sink c.in-Some.ensures.items c.as_slice.ensures.value (c.loop-text.invariant.on first start b).prints
+            c.gather-level.ensures c.in_ok-put.ensures.all)),
         keeps-room g.row.N c.in-Part.part.more c.loop-text.levels.items c.pop.new.self.items c.keep.new.levels.items (sym c.in-Some.ensures.len) c.keep.ensures
             (differs (length c.loop-text.levels.items) g.row.N c.loop-text-test.ensures.value c.loop-text-test.ensures.fits),
       ),
@@ -59,7 +60,8 @@ begin-requires g c =
 
 pub returns-in_err-begin-in-Part-clause-on : goal.returns-in_err-begin-in-Part-clause-on
 returns-in_err-begin-in-Part-clause-on g c = λ first start b.
-    stops c.args.mem.now c.args.names.now first (reverse c.begin.new.levels.items) g.K.Sink.wrote g.K.Sink.faults start c.begin.new.sink c.from_residual-in_err-begin-in-Part.result c.from_residual-in_err-begin-in-Part.ensures.0 (λ q failed.
+    stops c.args.mem.now c.args.names.now first (reverse c.begin.new.levels.items) g.K.Sink.wrote g.K.Sink.faults start c.begin.new.sink c.from_residual-in_err-begin-in-Part.result
+    c.from_residual-in_err-begin-in-Part.ensures.0 (λ q failed.
     prints-part-stops c.args.mem.now c.args.names.now first c.gather-level.result (reverse c.pop.new.self.items) c.in-Part.part c.get-word.result (reverse c.keep.new.levels.items)
     (reverse c.begin.new.levels.items)
     c.loop-text.seen g.K.Sink.wrote g.K.Sink.faults start c.put.new.sink c.begin.new.sink
@@ -108,8 +110,8 @@ loop-text-preserved g c =
             (reverse c.begin.new.levels.items) c.loop-text.seen g.K.Sink.wrote g.K.Sink.faults start c.put.new.sink c.begin.new.sink c.in_ok-begin-in-Part.field-0
             (sym c.next.ensures ∙ c.in-Part.is) c.get-word.ensures c.keep.ensures
             (prints-gathered c.args.mem.now c.args.names.now first c.loop-text.levels.items c.pop.new.self.items c.in-Some.top c.gather-level.result c.gather-level.new.text.items c.as_slice.result.now
-            c.loop-text.seen g.K.Sink.wrote start c.loop-text.sink c.put.new.sink c.in-Some.ensures.items c.as_slice.ensures.value (c.loop-text.invariant.on first start b).prints c.gather-level.ensures
-            c.in_ok-put.ensures.all)
+            c.loop-text.seen g.K.Sink.wrote start c.loop-text.sink c.put.new.sink c.in-Some.ensures.items c.as_slice.ensures.value (c.loop-text.invariant.on first start b).prints
+            c.gather-level.ensures c.in_ok-put.ensures.all)
             c.in_ok-begin-in-Part.ensures;
         told = began.written.told ∙ (c.in_ok-put.ensures.told ∙ (c.loop-text.invariant.on first start b).told);
       };

@@ -6,7 +6,8 @@ use Rattle.term_verbs.proofs.keys.spot_of.Goals as goal
 pub compare-requires : goal.compare-requires
 compare-requires c =
     let P : ℕ → Type 0 = λ z. AreNamed c.args.mem.now c.args.names.now c.args.key z in
-    subst P (sym c.get.ensures) (can-compare c.args.mem.now c.args.names.now c.args.rows c.args.key (c.loop-low.low + (c.loop-low.high - c.loop-low.low) / 2) c.requires (omega (arith, c.loop-low.invariant.within, c.loop-low-test.true)))
+    subst P (sym c.get.ensures) (can-compare c.args.mem.now c.args.names.now c.args.rows c.args.key (c.loop-low.low + (c.loop-low.high - c.loop-low.low) / 2) c.requires
+    (omega (arith, c.loop-low.invariant.within, c.loop-low-test.true)))
 
 pub returns-in-Same-clause-finds : goal.returns-in-Same-clause-finds
 returns-in-Same-clause-finds c = λ k shared ps t a sorted s.
@@ -21,8 +22,8 @@ loop-low-preserved-in-Less c =
       order = omega (arith, c.loop-low-test.true);
       within = omega (arith, c.loop-low-test.true, c.loop-low.invariant.within);
       between = λ k shared ps t a sorted s small.
-          below-found k c.args.names.now shared c.args.mem.now c.args.rows c.args.key (c.loop-low.low + (c.loop-low.high - c.loop-low.low) / 2) ps t c.compare.result (subst P c.get.ensures c.compare.ensures)
-          (omega (arith, c.loop-low.invariant.within, c.loop-low-test.true)) a sorted s small c.in-Less.is c.loop-low.low c.loop-low.high
+          below-found k c.args.names.now shared c.args.mem.now c.args.rows c.args.key (c.loop-low.low + (c.loop-low.high - c.loop-low.low) / 2) ps t c.compare.result
+          (subst P c.get.ensures c.compare.ensures) (omega (arith, c.loop-low.invariant.within, c.loop-low-test.true)) a sorted s small c.in-Less.is c.loop-low.low c.loop-low.high
           (c.loop-low.invariant.between k shared ps t a sorted s small);
     }
 
@@ -33,8 +34,8 @@ loop-low-preserved c =
       order = omega (arith, c.loop-low-test.true);
       within = c.loop-low.invariant.within;
       between = λ k shared ps t a sorted s small.
-          above-found k c.args.names.now shared c.args.mem.now c.args.rows c.args.key (c.loop-low.low + (c.loop-low.high - c.loop-low.low) / 2) ps t c.compare.result (subst P c.get.ensures c.compare.ensures)
-          (omega (arith, c.loop-low.invariant.within, c.loop-low-test.true)) a sorted s small c.in-More.is c.loop-low.low c.loop-low.high
+          above-found k c.args.names.now shared c.args.mem.now c.args.rows c.args.key (c.loop-low.low + (c.loop-low.high - c.loop-low.low) / 2) ps t c.compare.result
+          (subst P c.get.ensures c.compare.ensures) (omega (arith, c.loop-low.invariant.within, c.loop-low-test.true)) a sorted s small c.in-More.is c.loop-low.low c.loop-low.high
           (c.loop-low.invariant.between k shared ps t a sorted s small);
     }
 

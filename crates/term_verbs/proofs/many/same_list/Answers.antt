@@ -25,8 +25,8 @@ pub loop-i-preserved : goal.loop-i-preserved
 loop-i-preserved c = record {
   uses = uses-more c.loop-i.i c.args.room.now c.loop-i.room c.cons-list.new.room c.args.mem.now c.loop-i.mem c.cons-list.new.mem c.loop-i.invariant.uses c.cons-list.ensures.uses;
   built = λ k shared t free s.
-      list-goes k shared c.args.mem.now c.loop-i.mem c.cons-list.new.mem c.args.room.now.top c.args.n c.loop-i.i c.args.w c.loop-i.list c.cons-list.result c.args.room.now c.loop-i.room t free c.loop-i-test.true
-      c.loop-i.invariant.uses refl s (c.loop-i.invariant.built k shared t free s) (λ d a b f x y. c.cons-list.ensures.built d shared a b f x y);
+      list-goes k shared c.args.mem.now c.loop-i.mem c.cons-list.new.mem c.args.room.now.top c.args.n c.loop-i.i c.args.w c.loop-i.list c.cons-list.result c.args.room.now c.loop-i.room t free
+      c.loop-i-test.true c.loop-i.invariant.uses refl s (c.loop-i.invariant.built k shared t free s) (λ d a b f x y. c.cons-list.ensures.built d shared a b f x y);
 }
 
 pub returns-clause-uses : goal.returns-clause-uses

@@ -6,8 +6,8 @@ use Rattle.term_walk.proofs.levels.go_on.Goals.{in-Some+else-is_full-2, in_defau
 
 pub returns-in-Cons : goal.returns-in-Cons
 returns-in-Cons g c = record {
-  each = λ r shared w now rests standing seen left. cons-goes g.row.N r shared c.args.mem.now (reverse c.args.levels.now.items) (reverse c.push.new.self.items) w now rests c.args.look c.in-Cons.place c.get.result
-      (room-left g.row.N c.args.levels.now.items c.requires.most c.if-is_full.ensures.value c.if-is_full.ensures.fits) c.in-Cons.is
+  each = λ r shared w now rests standing seen left. cons-goes g.row.N r shared c.args.mem.now (reverse c.args.levels.now.items) (reverse c.push.new.self.items) w now rests c.args.look c.in-Cons.place
+      c.get.result (room-left g.row.N c.args.levels.now.items c.requires.most c.if-is_full.ensures.value c.if-is_full.ensures.fits) c.in-Cons.is
       (popped c.push.new.self.items c.args.levels.now.items (rest.Tail (c.in-Cons.place + 1)) c.push.ensures.items) c.get.ensures seen left;
 }
 

@@ -71,8 +71,8 @@ last-right old new f t at words last c is second third other =
     ]
 
 pub settle_behind-requires-2-clause-block : goal.settle_behind-requires-2-clause-block
-settle_behind-requires-2-clause-block c = (last-is c.args.self.now.mem c.shorten.new.mem c.args.at c.args.words c.size-size.result c.if-words-size.last c.shorten.ensures c.size-size.ensures c.requires.most
-    (elim c.if-words-size.branch [ then-words-size w ↦ inl (w.last-is, w.if-words-size.true) | else-words-size w ↦ inr (w.last-is, w.if-words-size.false) ])).begins
+settle_behind-requires-2-clause-block c = (last-is c.args.self.now.mem c.shorten.new.mem c.args.at c.args.words c.size-size.result c.if-words-size.last c.shorten.ensures c.size-size.ensures
+    c.requires.most (elim c.if-words-size.branch [ then-words-size w ↦ inl (w.last-is, w.if-words-size.true) | else-words-size w ↦ inr (w.last-is, w.if-words-size.false) ])).begins
 
 pub settle_behind-requires-2-clause-place : goal.settle_behind-requires-2-clause-place
 settle_behind-requires-2-clause-place c =

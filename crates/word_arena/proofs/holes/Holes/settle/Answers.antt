@@ -47,7 +47,11 @@ returns-clause-settled c =
     let lens : length c.set.new.self ≡ length tops = rw c.set.ensures (length-set tops i t) in
     let firsts_len : length (set firsts i f) ≡ length firsts = length-set firsts i f in
     record {
-      room = record { stretches = omega (arith, c.requires.room.stretches, firsts_len); tops = omega (arith, c.requires.room.tops, lens, firsts_len); few = omega (arith, c.requires.room.few, firsts_len) };
+      room = record {
+        stretches = omega (arith, c.requires.room.stretches, firsts_len);
+        tops = omega (arith, c.requires.room.tops, lens, firsts_len);
+        few = omega (arith, c.requires.room.few, firsts_len);
+      };
       same_len = firsts_len;
       keeps = subst P (sym c.set.ensures) (written-keeps mem firsts tops i f t (subst Q c.set.ensures (here c)));
       free = refl;

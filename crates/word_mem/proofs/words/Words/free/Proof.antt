@@ -46,12 +46,22 @@ free_spec 𝓤 𝓛 𝓜 𝓡 wired A L g d dd met md =
     let args : Args = bounded (a_type ∷ []) (A, tt) (dcons d (dcons dd dnil)) in
     let fn : Fn = inst_fn args compiled.function in
     let Z : RattleType = param 0 A in
-    let stays : Stays E.signature.params E.kept = (stay_dropped (plain (λ _. W)) yes, (stay_dropped (plain (λ _. lease.the_row Z g)) no, (stay_dropped (RefOf (0 ∷ []) tt (plain (λ _. Z)) (λ _. tt)) yes, tt))) in
+    let stays : Stays E.signature.params E.kept = (
+      stay_dropped (plain (λ _. W)) yes,
+      (
+        stay_dropped (plain (λ _. lease.the_row Z g)) no,
+        (stay_dropped (RefOf (0 ∷ []) tt (plain (λ _. Z)) (λ _. tt)) yes, tt),
+      ),
+    ) in
     let C = (tables 𝓤 H 𝓜 𝓡 𝓡.env).C in
     let Λ = (tables 𝓤 H 𝓜 𝓡 𝓡.env).Λ in
-    proved_at 𝓛 E stays c 𝓜 𝓡
-    (Goes-blank 𝓛 2 (plain (λ _. W)) yes (λ κs x f. tt), (Goes-blank 𝓛 2 (plain (λ _. lease.the_row Z g)) no (λ κs x f. tt), (Goes-dropped 𝓛 2 (RefOf (0 ∷ []) tt (plain (λ _. Z)) (λ _. tt)) yes (λ κs x f. refl), tt)))
-    (#self args) fn (compiled.unfolded 𝓤 H 𝓜 𝓡 wired (A, tt) d dd) (λ z are.
+    proved_at 𝓛 E stays c 𝓜 𝓡 (
+      Goes-blank 𝓛 2 (plain (λ _. W)) yes (λ κs x f. tt),
+      (
+        Goes-blank 𝓛 2 (plain (λ _. lease.the_row Z g)) no (λ κs x f. tt),
+        (Goes-dropped 𝓛 2 (RefOf (0 ∷ []) tt (plain (λ _. Z)) (λ _. tt)) yes (λ κs x f. refl), tt),
+      ),
+    ) (#self args) fn (compiled.unfolded 𝓤 H 𝓜 𝓡 wired (A, tt) d dd) (λ z are.
     let Post : Val → SProp 𝓤 = (walk_of 𝓛 E stays c).post z in
     let a = z.0.3 in let vss = z.0.4 in
     let Y : Al = record { row = A; laws = L; g = g; d = d; drops = dd } in
@@ -81,7 +91,8 @@ free_spec 𝓤 𝓛 𝓜 𝓡 wired A L g d dd met md =
     sets ! (of_opd ! (get ! refl)) refl (tt, tt) $
     sets ! (bin ! (get ! refl) (lit ! tt) (record { fits = fm })) refl (tt, record { fits = fm }) $
     use3 𝓛 (raw ((Gives Y 𝓛 𝓜.mem 𝓡.returns).pre y)) (Gives-goes Y 𝓛 𝓜.mem 𝓡.returns κ q handle h (⊑_trans κ z.0.0.1.0 A.lives z.0.2.0 le) b o (n * 8) 8 τ (capped_is (n * 8) fm) refl fm (lit< tt)) $
-    calls_at_last ! (framed 𝓛 𝓜 𝓡) (Gives Y 𝓛 𝓜.mem 𝓡.returns) (met.deallocate dd) y (and_then ! (get ! refl) (and_then ! (get ! refl) (and_then ! (get ! refl) (and_then ! (lit ! tt) (no_more !))))) (λ v.
+    calls_at_last ! (framed 𝓛 𝓜 𝓡) (Gives Y 𝓛 𝓜.mem 𝓡.returns) (met.deallocate dd) y (and_then ! (get ! refl)
+    (and_then ! (get ! refl) (and_then ! (get ! refl) (and_then ! (lit ! tt) (no_more !))))) (λ v.
     use1 𝓛 (later (given (v ≡ vunit) (‵ (flft κ q)))) (Gives-Gives Y 𝓛 𝓜.mem 𝓡.returns κ q handle h b o (n * 8) 8 τ v) $ await ! tt $ learn ! (λ e. join ! $
     regoal ! (λ (u : Val). settles En (place 6 []) u (out_of_block 𝓛 (then_runs 𝓛 C Λ En (after 3 fn.body) (at_ret En Post)))) e refl $ lands_last ! refl (tt, tt) $
     exec ! C Λ En (after 3 fn.body) (at_ret En Post) $

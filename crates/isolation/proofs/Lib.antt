@@ -1,0 +1,9 @@
+mod Finding
+mod ByName
+mod Own
+mod Others
+mod Alike
+mod Told
+mod Births
+mod Solitary
+pub mod Alone

@@ -1,0 +1,5 @@
+pub mod Events
+pub mod Views
+pub mod Solo
+pub mod Laws
+pub mod Examples

@@ -1,0 +1,13 @@
+// The laws of isolation, each the contract of a function that does nothing.
+ghost use Rattle.isolation.specs.Laws.{RunsIsolate, SameViewsSameReplies};
+
+/// In each run from the first state in which no line was answered for want of space or of names, the replies to a process's own
+/// lines, map lines aside, are those of its view.
+pub fn runs_isolate()
+    ensures { RunsIsolate }
+{}
+
+/// Two such runs that give a process the same view give it the same replies.
+pub fn same_views_are_answered_alike()
+    ensures { SameViewsSameReplies }
+{}
