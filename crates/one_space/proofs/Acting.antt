@@ -100,7 +100,8 @@ places-row rows i p old less is = omega (arith, sum_by-set (λ r. r.depth + r.wa
 
 -- The half with other processes alone.
 module _ (b : One) (holds : Holds b) (v : Vec Proc Global) where
-  pub rows-stand : (s : State) (o : OneStands b s) (qs : List Process) → ProcsStand o.processes.test s.shared b.halves.mem b.halves.low (end_of b.halves) b.named v.items qs → AreApart (all_places b.halves.mem v.items)
+  pub rows-stand : (s : State) (o : OneStands b s) (qs : List Process) → ProcsStand o.processes.test s.shared b.halves.mem b.halves.low (end_of b.halves) b.named v.items qs
+      → AreApart (all_places b.halves.mem v.items)
       → HalvesStand b.named (laid_out b.halves b.halves.mem b.halves.top b.halves.low v) s.shared qs
   rows-stand s o qs procs apart = halves-filled b.named b.named b.halves s.shared s.processes qs holds.counts.laid o.processes o.processes.test o.processes.single b.halves.mem b.halves.top
       b.halves.low v refl

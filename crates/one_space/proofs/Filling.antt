@@ -162,7 +162,8 @@ module _ (b : One) (holds : Holds b) (seat : Seat) (x : Sits b seat) (r : Reg) (
       }
 
     -- The same of bytes that are told otherwise.
-    pub small-by : (few : len ≤ 64) (given : ok ≡ true) (xs : List ℕ) → xs ≡ bytes → (mem2 : List ℕ) (z : Room) → Uses (2 + bin_words (length xs)) (record { start = h.base; top = h.top; end = h.low }) z h.mem mem2
+    pub small-by : (few : len ≤ 64) (given : ok ≡ true) (xs : List ℕ) → xs ≡ bytes → (mem2 : List ℕ) (z : Room)
+        → Uses (2 + bin_words (length xs)) (record { start = h.base; top = h.top; end = h.low }) z h.mem mem2
         → (p2 : Proc) (is2 : p2 ≡ get_or h.procs.items seat.row p2) (w : ℕ)
         → ((c : ℕ → ℕ → Bool) (shared : List (List ℕ)) → IsFree c h.top (h.top + (2 + bin_words (length xs))) → Built c h.top (2 + bin_words (length xs)) h.mem mem2 shared w (Bin xs))
         → Does {A = Unit {0}} (OfProcess seat.pid v) b (after b (laid_out h mem2 z.top h.low (with_item h.procs seat.row (with_term p2 r.0 w p2.refs)))) (Ok tt)

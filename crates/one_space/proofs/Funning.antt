@@ -65,7 +65,8 @@ same-held : (rs ss : List ℕ) → map item.Held rs ≡ map item.Held ss → rs 
 same-held [] [] e = refl
 same-held [] (s ∷ ss) e = absurd cc
 same-held (r ∷ rs) [] e = absurd cc
-same-held (r ∷ rs) (s ∷ ss) e = ap (λ z. z ∷ rs) (head-of r s (map item.Held rs) (map item.Held ss) e) ∙ ap (λ z. s ∷ z) (same-held rs ss (tail-of (item.Held r) (item.Held s) (map item.Held rs) (map item.Held ss) e))
+same-held (r ∷ rs) (s ∷ ss) e = ap (λ z. z ∷ rs) (head-of r s (map item.Held rs) (map item.Held ss) e)
+    ∙ ap (λ z. s ∷ z) (same-held rs ss (tail-of (item.Held r) (item.Held s) (map item.Held rs) (map item.Held ss) e))
   where
     tail-of : (a b : Item) (xs ys : List Item) → (a ∷ xs) ≡ (b ∷ ys) → xs ≡ ys
     tail-of a b xs ys e = cc
@@ -207,4 +208,5 @@ module _ (b : One) (holds : Holds b) (seat : Seat) (x : Sits b seat) (r : Reg) (
       pub fun-holds : Holds b4
       fun-holds =
           holds-become {A = Unit {0}} (words_of b) b4 holds.state (said (OfProcess seat.pid v) (held_terms is_env.registers) (replicate (name + 1) [])) (Ok tt)
-          (gained-counts b holds seat x g h ok room h4 adds p2 is2 r.0 w row same_row b.serials named2 (omega arith)) (fun-stands holds.state (held_terms is_env.registers) (replicate (name + 1) []) holds.stands some-env)
+          (gained-counts b holds seat x g h ok room h4 adds p2 is2 r.0 w row same_row b.serials named2 (omega arith))
+          (fun-stands holds.state (held_terms is_env.registers) (replicate (name + 1) []) holds.stands some-env)

@@ -203,7 +203,8 @@ module _ (b : One) (holds : Holds b) (seat : Seat) (x : Sits b seat) (n : ℕ) (
           apart = apart-same h4.mem h4.procs.items seat.row row2 p within4 is refl g.stands.apart;
         }
 
-    pub gained-stands : (row : Vec ℕ Global) (line : Parsed) → is_sweep line.command ≡ false → OneStands (gained b (with_reg h4 seat.row p r w) row serials named) (settled line (record (with_process (with_register r t q) s) { shared = shared2 }))
+    pub gained-stands : (row : Vec ℕ Global) (line : Parsed) → is_sweep line.command ≡ false
+        → OneStands (gained b (with_reg h4 seat.row p r w) row serials named) (settled line (record (with_process (with_register r t q) s) { shared = shared2 }))
     gained-stands row line other = record {
       processes = half-stands;
       next = o.next;

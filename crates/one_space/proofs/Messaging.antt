@@ -366,10 +366,10 @@ module _ (b : One) (holds : Holds b) (seat : Seat) (x : Sits b seat) (r : Reg) (
               old-is = row-any h.procs.items row no_row old row-there.within
 
               abbrev new : Proc
-              new = with_queue old sends.first sends.last (old.waiting + 1)
+              new = with_queue old sends.alone.first sends.alone.last (old.waiting + 1)
 
               procs-are : h2.procs ≡ with_item h.procs row new
-              procs-are = sends.procs old old-is
+              procs-are = sends.alone.procs old old-is
 
               items-are : h2.procs.items ≡ set h.procs.items row new
               items-are = ap (λ z. z.items) procs-are

@@ -231,7 +231,8 @@ impl Space for OneSpace {
         requires calls { self.old.calls < most_calls }
         requires named { self.old.named ≤ length names.now }
         ensures becomes { (state : State) (terms : Terms) → Properly (OneStands self.old) state → HasNames state names.now
-            → Becomes may_of_tight (words_of self.old) state (said (Process seat.pid (verb.Choose r s how)) terms names.now) result (Properly (OneStands self.new)) }
+            → Becomes may_of_tight (words_of self.old) state (said (Process seat.pid (verb.Choose r s how)) terms names.now) result
+            (Properly (OneStands self.new)) }
         ensures books { Books self.old self.new self.old.named }
         ensures idle { takes_part how ≡ false → self.new.halves.sweeps ≡ self.old.halves.sweeps }
         ensures refused { takes_part how ≡ false → OnErr result (self.new ≡ self.old) }
@@ -260,7 +261,8 @@ impl Space for OneSpace {
         requires calls { self.old.calls < most_calls }
         requires named { self.old.named ≤ length names.now }
         ensures becomes { (state : State) (terms : Terms) → Properly (OneStands self.old) state → HasNames state names.now
-            → Becomes may_of_tight (words_of self.old) state (said (Process seat.pid (verb.MapPut r s k v)) terms names.now) result (Properly (OneStands self.new)) }
+            → Becomes may_of_tight (words_of self.old) state (said (Process seat.pid (verb.MapPut r s k v)) terms names.now) result
+            (Properly (OneStands self.new)) }
         ensures books { Books self.old self.new self.old.named }
         ensures asks { (state : State) (q : Live) → Properly (OneStands self.old) state → process_of seat.pid state ≡ Some q
             → AsksUnless (6 + 2 * keys_in (register s.0 q)) self.old self.new result }
@@ -286,7 +288,8 @@ impl Space for OneSpace {
         requires other { IsRegister s }
         requires calls { self.old.calls < most_calls }
         ensures becomes { (state : State) (terms : Terms) (names : List (List ℕ)) → Properly (OneStands self.old) state → HasNames state names
-            → Becomes may_of_tight (words_of self.old) state (said (Process seat.pid (verb.Repeat r shape n s)) terms names) result (Properly (OneStands self.new)) }
+            → Becomes may_of_tight (words_of self.old) state (said (Process seat.pid (verb.Repeat r shape n s)) terms names) result
+            (Properly (OneStands self.new)) }
         ensures books { Books self.old self.new self.old.named }
         ensures asks { AsksUnless (repeat_words shape n) self.old self.new result }
     {
@@ -318,7 +321,8 @@ impl Space for OneSpace {
         requires calls { self.old.calls < most_calls }
         requires name { name < most_names }
         requires env { IsEnv env.now }
-        ensures becomes { (s : State) (terms : Terms) (names : List (List ℕ)) → Properly (OneStands self.old) s → HasNames s names → HasEnv names name env.now terms
+        ensures becomes { (s : State) (terms : Terms) (names : List (List ℕ)) → Properly (OneStands self.old) s → HasNames s names
+            → HasEnv names name env.now terms
             → Becomes may_of_tight (words_of self.old) s (said (Process seat.pid (verb.Fun r name arity)) terms names) result (Properly (OneStands self.new)) }
         ensures books { Books self.old self.new (max self.old.named (name + 1)) }
         ensures refused { OnErr result (self.new.named ≤ self.old.named) }

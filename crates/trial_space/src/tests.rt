@@ -1,5 +1,5 @@
 // Scripts served at the trial space.
-use crate::TrialSpace;
+use crate::space::TrialSpace;
 use atom_names::AtomNames;
 use engine::{Machine, Status, Stepped, serve, step};
 use line_io::{Limits, LineReader, MemSink, MemSource};

@@ -121,9 +121,6 @@ module _ (h : Halves) (row w : ℕ) (r : CanSend h row w) where
         laid = q.laid;
         same_len = q.same_len ∙ k.same_len;
         base = q.base ∙ k.base;
-        first = q.first;
-        last = h2.low;
-        procs = λ p is. q.procs p (row-before p is) ∙ ap (λ z. with_item z row (with_queue p q.first h2.low (p.waiting + 1))) k.procs;
         bins = q.bins ∙ k.bins;
         funs = q.funs ∙ k.funs;
         sweeps = q.sweeps ∙ k.sweeps;
@@ -135,6 +132,9 @@ module _ (h : Halves) (row w : ℕ) (r : CanSend h row w) where
             omega (arith, q.low, q.top, k.low, c.words, q.laid.order);
         word = copy;
         alone = record {
+          first = q.first;
+          last = h2.low;
+          procs = λ p is. q.procs p (row-before p is) ∙ ap (λ z. with_item z row (with_queue p q.first h2.low (p.waiting + 1))) k.procs;
           messages = λ p o new old. q.messages p o new (row-before o old) ∙ ap (λ z. z ++ copy ∷ []) (same-values o old);
           roots = λ v i. elim (q.roots v i) [ inl e ↦ inl e | inr j ↦ inr (let P : List ℕ → Type 0 = λ z. In v z in subst P same-roots j) ];
           apart = λ v u pv pu rv ru e. omega (arith, message-above v pv rv, old-below u pu ru, e);

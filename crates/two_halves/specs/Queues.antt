@@ -127,8 +127,12 @@ pub record Queues (old new : Halves) (row w : ℕ) : Type 0 where
       → values new.mem p.queue p.waiting ≡ values old.mem o.queue o.waiting ++ w ∷ []
   pub roots : (v : ℕ) → In v (roots_of new) → (v ≡ w) ⊎ In v (roots_of old)
 
--- What the message reaches and what all that stood before reach have no object in common.
+-- The word is the last message of the row, whose queue alone has changed; and what it reaches and what all that stood before reach have
+-- no object in common.
 pub record IsAlone (old new : Halves) (row word : ℕ) : Type 0 where
+  pub first : ℕ
+  pub last : ℕ
+  pub procs : (p : Proc) → p ≡ get_or old.procs.items row p → new.procs ≡ with_item old.procs row (with_queue p first last (p.waiting + 1))
   pub messages : (p o : Proc) → p ≡ get_or new.procs.items row p → o ≡ get_or old.procs.items row o
       → values new.mem p.queue p.waiting ≡ values old.mem o.queue o.waiting ++ word ∷ []
   pub roots : (v : ℕ) → In v (roots_of new) → (v ≡ word) ⊎ In v (roots_of old)
@@ -140,9 +144,6 @@ pub record Sends (old new : Halves) (row w : ℕ) : Type 0 where
   pub laid : IsLaid new
   pub same_len : length new.mem ≡ length old.mem
   pub base : new.base ≡ old.base
-  pub first : ℕ
-  pub last : ℕ
-  pub procs : (p : Proc) → p ≡ get_or old.procs.items row p → new.procs ≡ with_item old.procs row (with_queue p first last (p.waiting + 1))
   pub bins : new.bins ≡ old.bins
   pub funs : new.funs ≡ old.funs
   pub sweeps : new.sweeps ≡ old.sweeps

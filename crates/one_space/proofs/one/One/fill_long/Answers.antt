@@ -8,8 +8,8 @@ use Rattle.one_space.proofs.one.One.fill_long.Goals as goal
 pub returns-then-not-make_room-clause-does : goal.returns-then-not-make_room-clause-does
 returns-then-not-make_room-clause-does c =
     let g : ℕ = 10 + (c.args.len + 7) / 8 in
-    fill-lacks c.args.self.now c.requires.holds c.args.seat c.requires.sits c.args.r c.args.len c.args.byte c.requires.most (omega (arith, c.ranges.byte)) g (sym (record-words c.args.len c.requires.long))
-    c.make_room.new.self c.make_room.result c.make_room.ensures c.if-not-make_room.true
+    fill-lacks c.args.self.now c.requires.holds c.args.seat c.requires.sits c.args.r c.args.len c.args.byte c.requires.most (omega (arith, c.ranges.byte)) g
+    (sym (record-words c.args.len c.requires.long)) c.make_room.new.self c.make_room.result c.make_room.ensures c.if-not-make_room.true
 
 pub returns-then-not-make_room-clause-asks : goal.returns-then-not-make_room-clause-asks
 returns-then-not-make_room-clause-asks c =
@@ -26,14 +26,16 @@ add_bin-w-requires-clause-table c =
 
 pub process_mut-process-requires : goal.process_mut-process-requires
 process_mut-process-requires c =
-    gained-within c.args.self.now c.requires.holds c.args.seat c.requires.sits (10 + (c.args.len + 7) / 8) c.make_room.new.self c.make_room.result c.make_room.ensures c.add_bin-w.new.self c.add_bin-w.ensures.adds
+    gained-within c.args.self.now c.requires.holds c.args.seat c.requires.sits (10 + (c.args.len + 7) / 8) c.make_room.new.self c.make_room.result c.make_room.ensures c.add_bin-w.new.self
+    c.add_bin-w.ensures.adds
 
 pub returns-clause-does : goal.returns-clause-does
 returns-clause-does c =
     let g : ℕ = 10 + (c.args.len + 7) / 8 in
-    long-does c.args.self.now c.requires.holds c.args.seat c.requires.sits c.args.r c.args.len c.args.byte c.requires.most (omega (arith, c.ranges.byte)) g (sym (record-words c.args.len c.requires.long))
-    c.make_room.new.self c.make_room.result c.make_room.ensures c.requires.long c.add_bin-w.new.self c.add_bin-w.ensures.adds c.process_mut-process.result.now c.process_mut-process.ensures.value c.add_bin-w.result
-    c.add_bin-w.ensures.gets
+    long-does c.args.self.now c.requires.holds c.args.seat c.requires.sits c.args.r c.args.len c.args.byte c.requires.most (omega (arith, c.ranges.byte)) g
+    (sym (record-words c.args.len c.requires.long))
+    c.make_room.new.self c.make_room.result c.make_room.ensures c.requires.long c.add_bin-w.new.self c.add_bin-w.ensures.adds c.process_mut-process.result.now c.process_mut-process.ensures.value
+    c.add_bin-w.result c.add_bin-w.ensures.gets
 
 pub returns-clause-asks : goal.returns-clause-asks
 returns-clause-asks c =

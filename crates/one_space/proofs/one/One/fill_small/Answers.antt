@@ -15,8 +15,8 @@ use Rattle.one_space.proofs.one.One.fill_small.Goals as goal
 pub returns-then-not-make_room-clause-does : goal.returns-then-not-make_room-clause-does
 returns-then-not-make_room-clause-does c =
     let g : ℕ = 2 + (c.args.len + 7) / 8 in
-    fill-lacks c.args.self.now c.requires.holds c.args.seat c.requires.sits c.args.r c.args.len c.args.byte (omega (arith, c.requires.small)) (omega (arith, c.ranges.byte)) g (sym (heap-words c.args.len c.requires.small))
-    c.make_room.new.self c.make_room.result c.make_room.ensures c.if-not-make_room.true
+    fill-lacks c.args.self.now c.requires.holds c.args.seat c.requires.sits c.args.r c.args.len c.args.byte (omega (arith, c.requires.small)) (omega (arith, c.ranges.byte)) g
+    (sym (heap-words c.args.len c.requires.small)) c.make_room.new.self c.make_room.result c.make_room.ensures c.if-not-make_room.true
 
 pub returns-then-not-make_room-clause-asks : goal.returns-then-not-make_room-clause-asks
 returns-then-not-make_room-clause-asks c =
@@ -33,12 +33,20 @@ returns-clause-does c =
     let U : Room → Type 0 = λ y. Uses (2 + bin_words (length xs)) y c.heap_bin-w.new.room c.make_room.new.self.mem c.heap_bin-w.new.mem in
     let V : Room → Type 0 = λ y. (k : ℕ → ℕ → Bool) (shared : List (List ℕ)) → IsFree k y.top (y.top + (2 + bin_words (length xs)))
     → Built k y.top (2 + bin_words (length xs)) c.make_room.new.self.mem c.heap_bin-w.new.mem shared c.heap_bin-w.result (Bin xs) in
-    small-by c.args.self.now c.requires.holds c.args.seat c.requires.sits c.args.r c.args.len c.args.byte (omega (arith, c.requires.small)) (omega (arith, c.ranges.byte)) g (sym (heap-words c.args.len c.requires.small))
-    c.make_room.new.self c.make_room.result c.make_room.ensures c.requires.small c.if-not-make_room.false xs (take-equal c.args.len 64 c.args.byte c.requires.small) c.heap_bin-w.new.mem c.heap_bin-w.new.room
-    (subst U c.room-room.ensures c.heap_bin-w.ensures.uses) c.process_mut-process.result.now c.process_mut-process.ensures.value c.heap_bin-w.result (subst V c.room-room.ensures c.heap_bin-w.ensures.built)
+    small-by c.args.self.now c.requires.holds c.args.seat c.requires.sits c.args.r c.args.len c.args.byte (omega (arith, c.requires.small)) (omega (arith, c.ranges.byte)) g
+    (sym (heap-words c.args.len c.requires.small))
+    c.make_room.new.self c.make_room.result c.make_room.ensures c.requires.small c.if-not-make_room.false xs (take-equal c.args.len 64 c.args.byte c.requires.small) c.heap_bin-w.new.mem
+    c.heap_bin-w.new.room
+    (subst U c.room-room.ensures c.heap_bin-w.ensures.uses) c.process_mut-process.result.now c.process_mut-process.ensures.value c.heap_bin-w.result
+    (subst V c.room-room.ensures c.heap_bin-w.ensures.built)
 
 pub returns-clause-asks : goal.returns-clause-asks
 returns-clause-asks c =
     let g : ℕ = 2 + (c.args.len + 7) / 8 in
     unless-grown g (fill_words c.args.len) c.args.self.now c.make_room.new.self c.make_room.result c.make_room.ensures (sym (heap-words c.args.len c.requires.small)) c.if-not-make_room.false _ refl
-    (omega (arith, c.heap_bin-w.ensures.uses.moved, ap (λ (z : Room). z.top) c.room-room.ensures, ap (λ n. 2 + bin_words n) (ap length (take-equal c.args.len 64 c.args.byte c.requires.small) ∙ length-replicate {A = ℕ} c.args.len c.args.byte))) tt
+    (omega (
+      arith,
+      c.heap_bin-w.ensures.uses.moved,
+      ap (λ (z : Room). z.top) c.room-room.ensures,
+      ap (λ n. 2 + bin_words n) (ap length (take-equal c.args.len 64 c.args.byte c.requires.small) ∙ length-replicate {A = ℕ} c.args.len c.args.byte),
+    )) tt
