@@ -24,9 +24,13 @@ returns-clause-does c =
     spawn-does c.args.self.now c.requires.holds (omega (arith, c.len.ensures, c.args.self.now.halves.procs.ok.0, c.if-len-ge-MOST_PROCESSES.false))
     c.make_room.new.self c.make_room.result c.make_room.ensures c.push_reserved.new.self c.fresh.result c.push_reserved.ensures.items c.push_reserved.ensures.capacity c.fresh.ensures.number
     c.fresh.ensures.regs c.fresh.ensures.depth c.fresh.ensures.waiting c.fresh.ensures.refs c.pop.new.self
-    (omega (arith, c.pop.ensures.len, ap (λ (o : Option Proc). length (option_to_list o)) c.in-Some.is,
-    box-for-one c.args.self.now c.requires.holds (omega (arith, c.len.ensures, c.args.self.now.halves.procs.ok.0, c.if-len-ge-MOST_PROCESSES.false))
-    c.make_room.new.self c.make_room.result c.make_room.ensures))
+    (omega (
+      arith,
+      c.pop.ensures.len,
+      ap (λ (o : Option Proc). length (option_to_list o)) c.in-Some.is,
+      box-for-one c.args.self.now c.requires.holds (omega (arith, c.len.ensures, c.args.self.now.halves.procs.ok.0, c.if-len-ge-MOST_PROCESSES.false))
+          c.make_room.new.self c.make_room.result c.make_room.ensures,
+    ))
     c.pop.ensures.capacity
 
 pub returns-then-not-make_room-clause-asks : goal.returns-then-not-make_room-clause-asks
