@@ -235,7 +235,8 @@ module _ (b : One) (holds : Holds b) (seat : Seat) (x : Sits b seat) (v : Vec Pr
 
   pub exit-does : DoesAlways (OfProcess seat.pid verb.Exit) b (ended b (laid_out b.halves b.halves.mem b.halves.top b.halves.low v) spare)
   exit-does = record {
-    holds = holds-passed (ended b (laid_out b.halves b.halves.mem b.halves.top b.halves.low v) spare) (OfProcess seat.pid verb.Exit) holds.state exit-counts (exit-passes holds.state end [] holds.stands);
+    holds = holds-passed (ended b (laid_out b.halves b.halves.mem b.halves.top b.halves.low v) spare)
+        (OfProcess seat.pid verb.Exit) holds.state exit-counts (exit-passes holds.state end [] holds.stands);
     passes = exit-passes;
     books = record { same_words = refl; one_call = omega arith; few_names = omega arith };
   }

@@ -36,7 +36,8 @@ returns-clause-does c =
     → Built k y.top n c.make_room.new.self.mem c.repeated-w.new.mem shared c.repeated-w.result (repeated c.args.shape c.args.n t) in
     repeat-does c.args.self.now c.requires.holds c.args.seat c.requires.sits c.args.r c.args.shape c.args.n c.args.s c.if-n-gt-MOST_PLACES.false c.repeat_words-grow.result c.repeat_words-grow.ensures
     c.make_room.new.self c.make_room.result c.make_room.ensures c.if-not-make_room.false c.repeated-w.new.mem c.repeated-w.new.room (subst U c.room-room.ensures c.repeated-w.ensures.uses)
-    c.process.result.now c.process.ensures c.process_mut-process.result.now c.process_mut-process.ensures.value c.requires.other c.repeated-w.result (subst V c.room-room.ensures c.repeated-w.ensures.built)
+    c.process.result.now c.process.ensures c.process_mut-process.result.now c.process_mut-process.ensures.value
+    c.requires.other c.repeated-w.result (subst V c.room-room.ensures c.repeated-w.ensures.built)
 
 pub returns-then-not-make_room-clause-asks : goal.returns-then-not-make_room-clause-asks
 returns-then-not-make_room-clause-asks c =
