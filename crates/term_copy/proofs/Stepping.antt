@@ -20,7 +20,7 @@ use Rattle.term_words.proofs.Tiles.{has-layout}
 use Rattle.shared_rec.proofs.Records.{record-counted}
 use Rattle.term_copy.specs.Copied.{CanCopy, Task}
 use Rattle.word_mem.specs.declared.ranges.Room.{Room}
-use Rattle.term_copy.specs.Going.{Advances, HasRoom, Among, Begun, Copying, Goes, HasImage, IsCopy, IsImage, IsOf, IsStay, Item, Pends, Ready, Scanning, Spread, left_of}
+use Rattle.term_copy.specs.Going.{Advances, HasRoom, Among, Begun, Copying, Goes, HasImage, IsCopy, IsImage, IsLed, IsOf, IsStay, Item, Pends, Ready, Scanning, Spread, left_of}
 use Rattle.term_copy.proofs.Items.{spread-in, spread-one}
 use Rattle.term_copy.proofs.Linked.{LinkFacts, linked}
 use Rattle.term_copy.proofs.Taking.{image-same, role-beside, top-limit}
@@ -33,6 +33,10 @@ some-or-none n = grind arith
 
 below-or-at : (q m : ℕ) → q < m + 1 → (q < m) ⊎ (q ≡ m)
 below-or-at q m h = grind (arith, h)
+
+-- A word below a mark that was replaced is so by a lower mark above it.
+led-below : (p : Task) (mark low : ℕ) (xs : List Item) (q : ℕ) → IsLed p mark xs q → q < low → IsLed p low xs q
+led-below p mark low xs q a past = record { item = a.item; among = a.among; index = a.index; traced = a.traced; below = a.below; place = a.place; past = past; goes = a.goes }
 
 -- Another copy may be known, and one may be forgotten.
 
@@ -48,6 +52,8 @@ forget p known x mem mark at top owed g = record {
   among = g.among;
   stands = g.stands;
   copies = g.copies;
+  rises = g.rises;
+  beyond = g.beyond;
   same_len = g.same_len;
   others = g.others;
   counts = g.counts;
@@ -67,6 +73,8 @@ know p known x mem mark at top owed g i = record {
   among = g.among;
   stands = g.stands;
   copies = g.copies;
+  rises = g.rises;
+  beyond = g.beyond;
   same_len = g.same_len;
   others = g.others;
   counts = g.counts;
@@ -113,6 +121,8 @@ owe-less p known mem mark at top w u more stays s g = record {
   among = g.among;
   stands = g.stands;
   copies = g.copies;
+  rises = g.rises;
+  beyond = g.beyond;
   same_len = g.same_len;
   others = g.others;
   counts = g.counts;
@@ -140,9 +150,19 @@ module _ (p : Task) (known : List Item) (mem : List ℕ) (mark at top owed : ℕ
   in-row : (p.top ≤ mark) × (mark < top)
   in-row = let r = spread-in p.start p.top g.items top o g.row i in (omega (arith, r, traced), omega (arith, r, inside))
 
+  -- The word at the mark is one that is replaced, where its original is.
+  goes-at : (r : ℕ) → IsLed p (mark + 1) g.items r → r ≡ mark → Goes p (get_or mem mark 0)
+  goes-at r b here =
+      let was : get_or p.start (b.item.word / 4 + b.index) 0 ≡ get_or mem mark 0 =
+      sym ((g.copies b.item b.among).waits b.index mark b.traced b.below (omega (arith, b.place, here)) (omega arith)) in
+      let P : ℕ → Type 0 = λ a. Goes p a in
+      subst P was b.goes
+
   pub replaced : (new : List ℕ) → length new ≡ length mem → ((q : ℕ) → (q ≡ mark → ⊥) → get_or new q 0 ≡ get_or mem q 0)
-      → IsImage p g.items (get_or mem mark 0) (get_or new mark 0) → mark + 1 ≤ at → Copying p known new (mark + 1) at top owed
-  replaced new len same image more = record {
+      → IsImage p g.items (get_or mem mark 0) (get_or new mark 0) → mark + 1 ≤ at
+      → (Goes p (get_or mem mark 0) → (p.top < get_or new mark 0 / 4) × ((q : ℕ) → IsLed p mark g.items q → get_or mem q 0 / 4 < get_or new mark 0 / 4))
+      → Copying p known new (mark + 1) at top owed
+  replaced new len same image more later = record {
     ready = g.ready;
     items = g.items;
     after = g.after;
@@ -170,6 +190,29 @@ module _ (p : Task) (known : List Item) (mem : List ℕ) (mark at top owed : ℕ
                     subst P (sym was) (subst Q (sym here) image)
               ];
         };
+    rises = λ q r a b less. elim (below-or-at r mark b.past) [
+      | inl low ↦
+          omega (
+            arith,
+            g.rises q r (led-below p (mark + 1) mark g.items q a (omega (arith, less, low))) (led-below p (mark + 1) mark g.items r b low) less,
+            same q (λ z. omega (arith, z, less, low)),
+            same r (λ z. omega (arith, z, low)),
+          )
+      | inr here ↦
+          let there : get_or new r 0 ≡ get_or new mark 0 = ap (λ a. get_or new a 0) here in
+          omega (
+            arith,
+            (later (goes-at r b here)).1 q (led-below p (mark + 1) mark g.items q a (omega (arith, less, here))),
+            same q (λ z. omega (arith, z, less, here)),
+            there,
+          )
+    ];
+    beyond = λ q a. elim (below-or-at q mark a.past) [
+      | inl low ↦ omega (arith, g.beyond q (led-below p (mark + 1) mark g.items q a low), same q (λ z. omega (arith, z, low)))
+      | inr here ↦
+          let there : get_or new q 0 ≡ get_or new mark 0 = ap (λ a. get_or new a 0) here in
+          omega (arith, (later (goes-at q a here)).0, there)
+    ];
     same_len = len ∙ g.same_len;
     others = λ q out other. same q (λ z. omega (arith, z, in-row, out)) ∙ g.others q out other;
     counts = λ v n r. same (v + 2) (λ z. omega (arith, z, in-row, role-beside p known mem mark at top owed g (v + 2) COUNT (record-counted p.test p.start v n r))) ∙ g.counts v n r;
@@ -235,24 +278,27 @@ module _ (p : Task) (known : List Item) (mem : List ℕ) (mark at top : ℕ) (u 
   gone-same stays =
       gone mem top
       (owe-less p known mem (mark + 1) at top (get_or mem mark 0) u (flat_of_all rest) stays s.pends.0
-      (replaced p known mem mark at top (flat u + flat_of_all rest) s.on s.item s.among s.traced mark-inside mem refl (λ q z. refl) (inl (stays, refl)) (omega (arith, s.ends))))
+      (replaced p known mem mark at top (flat u + flat_of_all rest) s.on s.item s.among s.traced mark-inside mem refl (λ q z. refl) (inl (stays, refl)) (omega (arith, s.ends))
+      (λ goes. absurd (stays goes))))
       s.among
 
   pub gone-copied : (mem2 : List ℕ) (top2 x : ℕ) → HasImage p (s.item ∷ known) mem2 mark at top2 (flat_of_all rest) (get_or mem mark 0) x → mark < length mem2
-      → Scanning p known (set mem2 mark x) (mark + 1) at top2 rest
+      → x / 4 ≡ top → Scanning p known (set mem2 mark x) (mark + 1) at top2 rest
   unfolding replaced
-  gone-copied mem2 top2 x h inside =
+  gone-copied mem2 top2 x h inside place =
       let i : Among s.item h.on.items = h.on.has s.item (inl refl) in
       let was : get_or mem2 mark 0 ≡ get_or mem mark 0 =
       word-is p (s.item ∷ known) mem2 mark at top2 (flat_of_all rest) h.on s.item i s.traced mark-inside
       ∙ sym (word-is p known mem mark at top (flat u + flat_of_all rest) s.on s.item s.among s.traced mark-inside) in
       let now : get_or (set mem2 mark x) mark 0 ≡ x = grind (arith, get_or-set_at, inside) in
+      let r : (p.top ≤ s.item.place) × (s.item.place + object_words p.start s.item.word ≤ top) = spread-in p.start p.top s.on.items top s.item s.on.row s.among in
       let P : ℕ → Type 0 = λ a. IsImage p h.on.items a x in
       gone (set mem2 mark x) top2
       (forget p known s.item (set mem2 mark x) (mark + 1) at top2 (flat_of_all rest)
       (replaced p (s.item ∷ known) mem2 mark at top2 (flat_of_all rest) h.on s.item i s.traced mark-inside (set mem2 mark x) (length-set mem2 mark x)
       (λ q other. get_or-set_other mem2 mark q x 0 other)
-      (image-same p h.on.items (get_or mem2 mark 0) x (get_or (set mem2 mark x) mark 0) now (subst P (sym was) h.image)) (omega (arith, s.ends))))
+      (image-same p h.on.items (get_or mem2 mark 0) x (get_or (set mem2 mark x) mark 0) now (subst P (sym was) h.image)) (omega (arith, s.ends))
+      (λ goes. (omega (arith, now, place, r, s.traced, mark-inside), (λ q a. omega (arith, now, h.later q a))))))
       i
 
   same-length : (mem2 : List ℕ) (top2 w x : ℕ) → HasImage p (s.item ∷ known) mem2 mark at top2 (flat_of_all rest) w x → length mem2 ≡ length mem
@@ -262,11 +308,11 @@ module _ (p : Task) (known : List Item) (mem : List ℕ) (mark at top : ℕ) (u 
   image-memory mem2 top2 w x h inside = omega (arith, same-length mem2 top2 w x h, mark-memory inside)
 
   pub image-at : (mem2 mem3 : List ℕ) (top2 w x : ℕ) → w ≡ get_or mem mark 0 → HasImage p (s.item ∷ known) mem2 mark at top2 (flat_of_all rest) w x → mark < length mem → mem3 ≡ set mem2 mark x
-      → Scanning p known mem3 (mark + 1) at top2 rest
-  image-at mem2 mem3 top2 w x e h inside is =
+      → x / 4 ≡ top → Scanning p known mem3 (mark + 1) at top2 rest
+  image-at mem2 mem3 top2 w x e h inside is place =
       let P : ℕ → Type 0 = λ z. HasImage p (s.item ∷ known) mem2 mark at top2 (flat_of_all rest) z x in
       let Q : List ℕ → Type 0 = λ m. Scanning p known m (mark + 1) at top2 rest in
-      subst Q (sym is) (gone-copied mem2 top2 x (subst P e h) (omega (arith, same-length mem2 top2 w x h, inside)))
+      subst Q (sym is) (gone-copied mem2 top2 x (subst P e h) (omega (arith, same-length mem2 top2 w x h, inside)) place)
 
 -- What the test of a word tells.
 
@@ -388,6 +434,12 @@ module _ (p : Task) (known : List Item) (mem : List ℕ) (at top : ℕ) (g : Cop
       ];
     }
 
+    led-open : (q : ℕ) → IsLed p (at + first_traced p.start o.x.word) g.items q → IsLed p at g.items q
+    led-open q a = elim (at-or-below q at) [
+      | inl low ↦ led-below p (at + first_traced p.start o.x.word) at g.items q a low
+      | inr high ↦ absurd (mine a.item a.index q a.among a.traced a.below a.place high a.past)
+    ]
+
     opened : Scanning p known mem (at + first_traced p.start o.x.word) (at + object_words p.start o.x.word) top (parts_of o.x.tree)
     opened =
         let more : left_of g.after ≡ flat_of_all (parts_of o.x.tree) + left_of o.later = ap left_of o.is in
@@ -403,6 +455,8 @@ module _ (p : Task) (known : List Item) (mem : List ℕ) (at top : ℕ) (g : Cop
             among = λ y i. g.among y (let P : List Item → Type 0 = λ xs. Among y xs in subst P (sym o.is) (inr i));
             stands = g.stands;
             copies = λ y i. opened-copy y i (g.copies y i);
+            rises = λ q r a b less. g.rises q r (led-open q a) (led-open r b) less;
+            beyond = λ q a. g.beyond q (led-open q a);
             same_len = g.same_len;
             others = g.others;
             counts = g.counts;
@@ -454,6 +508,8 @@ begins-at p mem owed r e few all = record {
   among = λ x i. i;
   stands = λ x i. absurd i;
   copies = λ x i. absurd i;
+  rises = λ q r a b less. absurd a.among;
+  beyond = λ q a. absurd a.among;
   same_len = ap length (sym e);
   others = λ q out other. ap (λ m. get_or m q 0) (sym e);
   counts = λ v n is. ap (λ m. get_or m (v + 2) 0) (sym e) ∙ omega arith;
@@ -472,16 +528,19 @@ begins-same p mem top w r e t same stays =
     record {
       known = [];
       image = inl (none, sym same);
+      first = λ goes. absurd (none goes);
       on = subst P t (begins-at p mem 0 r e (omega arith) (λ no. sym (flat-none p.test p.shared p.start p.word p.tree r.standing (goes-none p p.word none no))));
     }
 
 -- The root's object was copied.
-pub begins-copied : (p : Task) (mem : List ℕ) (at top w x : ℕ) → p.word ≡ w → Goes p w → HasImage p [] mem at at top 0 w x → Begun p mem at top x
-begins-copied p mem at top w x same goes h = elim h.image [
+pub begins-copied : (p : Task) (mem : List ℕ) (at top w x : ℕ) → p.word ≡ w → p.top ≡ at → Goes p w → x / 4 ≡ at → HasImage p [] mem at at top 0 w x
+    → Begun p mem at top x
+begins-copied p mem at top w x same start goes place h = elim h.image [
   | inl n ↦ absurd (n.0 goes)
   | inr (g, (z, (i, e))) ↦ record {
     known = z ∷ [];
     image = (let P : ℕ → Type 0 = λ a. IsImage p (z ∷ []) a x in subst P (sym same) (inr (g, (z, (inl refl, e)))));
+    first = λ go. place ∙ sym start;
     on = know p [] z mem at at top 0 h.on i;
   }
 ]

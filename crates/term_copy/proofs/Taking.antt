@@ -21,7 +21,7 @@ use Rattle.off_heap_list.specs.Links.{name_place, named, names_it}
 use Rattle.off_heap_list.proofs.Chained.{place-same, one-naming, no-naming}
 use Rattle.term_copy.specs.Row.{is_link, is_link_header}
 use Rattle.term_copy.specs.Copied.{Task}
-use Rattle.term_copy.specs.Going.{Advances, Among, CanTake, Copying, Goes, HasImage, HasRoom, IsBeside, IsCopy, IsImage, IsOf, Item, Took}
+use Rattle.term_copy.specs.Going.{Advances, Among, CanTake, Copying, Goes, HasImage, HasRoom, IsBeside, IsCopy, IsImage, IsLed, IsOf, Item, Took}
 use Rattle.term_copy.proofs.Items.{among-last, among-left, among-split, left-last, spread-in, spread-last, spread-order, tally-few, tally-last}
 use Rattle.term_copy.proofs.Linked.{LinkFacts, linked, next-linked}
 
@@ -233,6 +233,30 @@ module _ (p : Task) (known : List Item) (mem : List ℕ) (mark at top owed : ℕ
       done = λ j q from below e past. absurd (omega (arith, e, past, g.marked, spread-order p.start at g.after top g.further));
     }
 
+    -- Words that were replaced are those of the copies that were there.
+    led-old : (q : ℕ) → IsLed p mark (g.items ++ z ∷ []) q → IsLed p mark g.items q
+    led-old q a = elim (among-split a.item z g.items a.among) [
+      | inl i ↦ record { item = a.item; among = i; index = a.index; traced = a.traced; below = a.below; place = a.place; past = a.past; goes = a.goes }
+      | inr e ↦
+          let P : Item → Type 0 = λ y. y.place ≡ top in
+          let there : a.item.place ≡ top = subst P (sym e) refl in
+          absurd (omega (arith, there, a.place, a.past, g.marked, spread-order p.start at g.after top g.further))
+    ]
+
+    led-same : (q : ℕ) → IsLed p mark g.items q → get_or new q 0 ≡ get_or mem q 0
+    led-same q a =
+        let r = spread-in p.start p.top g.items top a.item g.row a.among in
+        row-same q (omega (arith, a.place, r)) (omega (arith, a.place, a.below, r))
+
+    led-before : (q : ℕ) → IsLed p mark g.items q → get_or mem q 0 / 4 < top
+    led-before q a = elim ((g.copies a.item a.among).done a.index q a.traced a.below a.place a.past) [
+      | inl n ↦ absurd (n.0 a.goes)
+      | inr (go, (y, (i, (same, e)))) ↦ omega (arith, e, spread-in p.start p.top g.items top y g.row i, object-some p.start y.word)
+    ]
+
+    led-later : (q : ℕ) → IsLed p mark (g.items ++ z ∷ []) q → get_or new q 0 / 4 < x / 4
+    led-later q a = let h : IsLed p mark g.items q = led-old q a in omega (arith, led-before q h, led-same q h, t.word)
+
     taken : Copying p known new mark at (top + object_words p.start w) more
     taken = record {
       ready = g.ready;
@@ -254,6 +278,11 @@ module _ (p : Task) (known : List Item) (mem : List ℕ) (mark at top owed : ℕ
         | inl j ↦ old-copy y j (g.copies y j)
         | inr e ↦ (let P : Item → Type 0 = λ a. IsCopy p new mark (g.items ++ z ∷ []) a in subst P (sym e) new-copy)
       ];
+      rises = λ q r a b less.
+          let ha : IsLed p mark g.items q = led-old q a in
+          let hb : IsLed p mark g.items r = led-old r b in
+          omega (arith, g.rises q r ha hb less, led-same q ha, led-same r hb);
+      beyond = λ q a. let h : IsLed p mark g.items q = led-old q a in omega (arith, g.beyond q h, led-same q h);
       same_len = t.same_len ∙ g.same_len;
       others = others-new;
       counts = λ v m r. count-new v m r ∙ omega (arith, g.counts v m r, tally-last p.start v z g.items);
@@ -266,7 +295,7 @@ module _ (p : Task) (known : List Item) (mem : List ℕ) (mark at top owed : ℕ
     took-image top2 e =
         let there : top2 ≡ top + object_words p.start w = omega (arith, e, words-is) in
         let P : ℕ → Type 0 = λ a. HasImage p known new mark at a more w x in
-        subst P (sym there) (record { on = taken; image = inr (goes, (z, (among-last z g.items, (refl, t.word)))) })
+        subst P (sym there) (record { on = taken; image = inr (goes, (z, (among-last z g.items, (refl, t.word)))); later = led-later })
 
 -- The room after a copy.
 pub room-advances : (old new : Room) (n : ℕ) → new ≡ record old { top = old.top + n } → old.top + n ≤ old.end → Advances old new

@@ -19,7 +19,7 @@ use Rattle.term_words.proofs.Carrying.{words-same, first-same, traced-same}
 use Rattle.term_words.proofs.Frames.{frame, kept-carried}
 use Rattle.term_words.proofs.Members.{true-or-false}
 use Rattle.term_words.proofs.Reached.{cons-traced, scanned}
-use Rattle.term_words.proofs.Roles.{object-some}
+use Rattle.term_words.proofs.Roles.{first-role, object-some}
 use Rattle.term_words.proofs.Shapes.{row-at}
 use Rattle.term_words.proofs.Single.{single}
 use Rattle.term_words.proofs.Tiles.{tiled-object}
@@ -28,8 +28,8 @@ use Rattle.shared_rec.proofs.Records.{bin-stays, fun-stays, record-same}
 use Rattle.off_heap_list.specs.Links.{named, names_it, naming, next_in, IsLink, Links}
 use Rattle.off_heap_list.proofs.Chained.{leads-stays, link-stays, naming-stays}
 use Rattle.term_copy.specs.Row.{is_link, is_link_header, links_in}
-use Rattle.term_copy.specs.Copied.{CopiesTree, IsClosed, Task}
-use Rattle.term_copy.specs.Going.{Among, Begun, Copying, IsCopy, IsImage, IsOf, Item, Spread, left_of, tally}
+use Rattle.term_copy.specs.Copied.{CopiesTree, IsClosed, PointsInto, Task}
+use Rattle.term_copy.specs.Going.{Among, Begun, Copying, Goes, IsCopy, IsImage, IsLed, IsOf, Item, Spread, left_of, tally}
 use Rattle.term_copy.proofs.Items.{spread-in, spread-none, spread-one, spread-order}
 use Rattle.term_copy.proofs.Linked.{LinkFacts, link-told, linked, next-linked}
 use Rattle.term_copy.proofs.Alike.{IsAlike, alike}
@@ -601,12 +601,64 @@ module _ (p : Task) (known : List Item) (mem : List ℕ) (top : ℕ) (g : Copyin
       inl (subst P (sym same) (omega (arith, place-to z, r), omega (arith, place-to z, r, words-copy z i)))
   alone-told x (inr (h, t)) = inr h
 
+  -- The new objects are pointed to once.
+
+  tile-told : (xs : List Item) (w : ℕ) → In w (tiles_of xs) → (x : Item) × (Among x xs × (w ≡ pointer_to x))
+  unfolding tiles_of
+  tile-told [] w i = absurd i
+  tile-told (x ∷ xs) w (inl e) = (x, (inl refl, e))
+  tile-told (x ∷ xs) w (inr i) = let (y, (j, e)) = tile-told xs w i in (y, (inr j, e))
+
+  -- A pointer that stood points beside them.
+  outside : (y : ℕ) (u : Tree) → Stands p.test p.shared p.start y u → IsPointer y → (y / 4 < p.top) ⊎ (top ≤ y / 4)
+  outside y u s q = role-beside p known mem top top top 0 g (y / 4) FIRST (first-role p.test p.shared p.start y u s q)
+
+  led-by : (x : Item) (k q : ℕ) → Among x g.items → first_traced mem (pointer_to x) ≤ k → k < object_words mem (pointer_to x) → q ≡ pointer_to x / 4 + k
+      → IsPointer (get_or mem q 0) → p.top ≤ get_or mem q 0 / 4 → get_or mem q 0 / 4 < top → IsLed p top g.items q
+  led-by x k q i from below e y low high =
+      let traced : first_traced p.start x.word ≤ k = omega (arith, first-copy x i, from) in
+      let within : k < object_words p.start x.word = omega (arith, words-copy x i, below) in
+      let place : q ≡ x.place + k = omega (arith, e) in
+      let past : q < top = omega (arith, place, within, spread-in p.start p.top g.items top x g.row i) in
+      let (u, s) = part-of x.word k x.tree (g.stands x i).standing (g.stands x i).goes.pointer traced within in
+      let go : Goes p (get_or p.start (x.word / 4 + k) 0) = elim ((copy-of x i).done k q traced within place past) [
+        | inr h ↦ h.0
+        | inl (stays, same) ↦
+            let P : ℕ → Type 0 = λ a. IsPointer a in
+            absurd (omega (arith, low, high, same, outside (get_or p.start (x.word / 4 + k) 0) u s (subst P same y)))
+      ] in
+      record { item = x; among = i; index = k; traced = traced; below = within; place = place; past = past; goes = go }
+
+  led-of : (q : ℕ) → PointsInto mem (tiles_of g.items) p.top top q → IsLed p top g.items q
+  led-of q a =
+      let (x, (i, e)) = tile-told g.items a.object a.among in
+      let P : ℕ → Type 0 = λ w. (first_traced mem w ≤ a.index) × ((a.index < object_words mem w) × (q ≡ w / 4 + a.index)) in
+      let (from, (below, place)) = subst P e (a.traced, (a.below, a.place)) in
+      led-by x a.index q i from below place a.pointer a.low a.high
+
+  order : (q r : ℕ) → (q ≡ r) ⊎ ((q < r) ⊎ (r < q))
+  order q r = grind arith
+
+  apart-now : (q r : ℕ) → PointsInto mem (tiles_of g.items) p.top top q → PointsInto mem (tiles_of g.items) p.top top r → get_or mem q 0 / 4 ≡ get_or mem r 0 / 4 → q ≡ r
+  apart-now q r a b e = elim (order q r) [
+    | inl same ↦ same
+    | inr (inl less) ↦ absurd (omega (arith, e, g.rises q r (led-of q a) (led-of r b) less))
+    | inr (inr more) ↦ absurd (omega (arith, e, g.rises r q (led-of r b) (led-of q a) more))
+  ]
+
+  rooted-now : (result : ℕ) → IsImage p g.items p.word result → (Goes p p.word → result / 4 ≡ p.top)
+      → (q : ℕ) → PointsInto mem (tiles_of g.items) p.top top q → IsPointer result → get_or mem q 0 / 4 ≡ result / 4 → ⊥
+  rooted-now result (inr h) first q a y e = omega (arith, first h.0, e, g.beyond q (led-of q a))
+  rooted-now result (inl (stays, same)) first q a y e =
+      let P : ℕ → Type 0 = λ w. IsPointer w in
+      omega (arith, same, e, a.low, a.high, outside p.word p.tree g.ready.standing (subst P same y))
+
   left-none : left_of g.after ≡ 0
   left-none = ap left_of (spread-none p.start top g.after g.further)
 
-  pub whole : (result : ℕ) → IsImage p known p.word result → CopiesTree p mem top result
+  pub whole : (result : ℕ) → IsImage p known p.word result → (Goes p p.word → result / 4 ≡ p.top) → CopiesTree p mem top result
   unfolding links-now
-  whole result im =
+  whole result im first =
       let image : IsImage p g.items p.word result = image-more p known g.items p.word result g.has im in
       record {
         test = test;
@@ -621,6 +673,8 @@ module _ (p : Task) (known : List Item) (mem : List ℕ) (top : ℕ) (g : Copyin
         exact = λ none. omega (arith, g.exact none, left-none);
         tiles = tiles_of g.items;
         row = record { row = tiled p.top g.items g.row (λ x i. i); objects = tiles-pointers g.items (λ x i. i) };
+        apart = apart-now;
+        rooted = rooted-now result image first;
         alone = λ closed x r q. alone-told x (reach-alone closed result image x r q);
         nexts = nexts-now;
         once = (let P : List ℕ → Type 0 = λ xs. Distinct xs in subst P (sym links-places) (places-once p.start p.top g.items top g.row));
@@ -638,4 +692,4 @@ pub ended : (p : Task) (mem : List ℕ) (at top result : ℕ) → Begun p mem at
 ended p mem at top result b over inside =
     let e : at ≡ top = omega (arith, over, spread-order p.start at b.on.after top b.on.further) in
     let P : ℕ → Type 0 = λ a. Copying p b.known mem a a top 0 in
-    whole p b.known mem top (subst P e b.on) inside result b.image
+    whole p b.known mem top (subst P e b.on) inside result b.image b.first

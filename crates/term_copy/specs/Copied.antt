@@ -43,9 +43,22 @@ abbrev pub IsClosed : Task → Type 0
 IsClosed p = (v k : ℕ) (u : Tree) → Stands p.test p.shared p.start v u → IsPointer v → p.stay (v / 4) ≡ true → first_traced p.start v ≤ k
     → k < object_words p.start v → IsPointer (slice_index p.start (v / 4 + k)) → p.stay (slice_index p.start (v / 4 + k) / 4) ≡ true
 
+-- At the place is a traced word of one of these objects that points to a place from one on, before another.
+pub record PointsInto (mem : List ℕ) (ws : List ℕ) (from to q : ℕ) : Type 0 where
+  pub object : ℕ
+  pub among : In object ws
+  pub index : ℕ
+  pub traced : first_traced mem object ≤ index
+  pub below : index < object_words mem object
+  pub place : q ≡ object / 4 + index
+  pub pointer : IsPointer (slice_index mem q)
+  pub low : from ≤ slice_index mem q / 4
+  pub high : slice_index mem q / 4 < to
+
 -- The new word stands for the tree, by a test that gives the new words the roles of objects and is as before elsewhere. From
 -- the first place that was free up to `top` lie new objects side by side, as many words as the tree is flat where nothing
--- stays. Each new holder and fun has `next` 0 and is counted by its record; all words but these counts are as before.
+-- stays; no two traced words of these point to one of them, and none to the object of the new word. Each new holder and fun
+-- has `next` 0 and is counted by its record; all words but these counts are as before.
 pub record CopiesTree (p : Task) (new : List ℕ) (top result : ℕ) : Type 0 where
   pub test : ℕ → ℕ → Bool
   pub more : (a k : ℕ) → p.test a k ≡ true → test a k ≡ true
@@ -59,6 +72,8 @@ pub record CopiesTree (p : Task) (new : List ℕ) (top result : ℕ) : Type 0 wh
   pub exact : ((q : ℕ) → p.stay q ≡ false) → top ≡ p.top + flat p.tree
   pub tiles : List ℕ
   pub row : AreObjects new p.top tiles top
+  pub apart : (q r : ℕ) → PointsInto new tiles p.top top q → PointsInto new tiles p.top top r → slice_index new q / 4 ≡ slice_index new r / 4 → q ≡ r
+  pub rooted : (q : ℕ) → PointsInto new tiles p.top top q → IsPointer result → slice_index new q / 4 ≡ result / 4 → ⊥
   pub alone : IsClosed p → (x : ℕ) → Reach new (result ∷ []) x → IsPointer x → ((p.top ≤ x / 4) × (x / 4 + object_words new x ≤ top)) ⊎ (p.stay (x / 4) ≡ true)
   pub nexts : (a : ℕ) → test a NEXT ≡ true → (p.test a NEXT ≡ true) ⊎ ((q : ℕ) × (In q (links_in new tiles) × (a ≡ q + 2)))
   pub once : Distinct (links_in new tiles)

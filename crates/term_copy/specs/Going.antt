@@ -67,13 +67,25 @@ pub record IsCopy (p : Task) (mem : List ℕ) (mark : ℕ) (xs : List Item) (x :
   pub done : (j q : ℕ) → first_traced p.start x.word ≤ j → j < object_words p.start x.word → q ≡ x.place + j → q < mark
       → IsImage p xs (slice_index p.start (x.word / 4 + j)) (slice_index mem q)
 
+-- At the place is a traced word of a copy, below a mark, in place of one that points to an object that is copied.
+pub record IsLed (p : Task) (mark : ℕ) (xs : List Item) (q : ℕ) : Type 0 where
+  pub item : Item
+  pub among : Among item xs
+  pub index : ℕ
+  pub traced : first_traced p.start item.word ≤ index
+  pub below : index < object_words p.start item.word
+  pub place : q ≡ item.place + index
+  pub past : q < mark
+  pub goes : Goes p (slice_index p.start (item.word / 4 + index))
+
 -- An object of the tree that is copied.
 pub record IsOf (p : Task) (x : Item) : Type 0 where
   pub goes : Goes p x.word
   pub standing : Stands p.test p.shared p.start x.word x.tree
 
 -- Copies lie up to `top`; the traced words below a mark have been gone through, and the parts of the objects from place `at`
--- on are all left; beside these, words of a tree or trees of so many flat words are. Some copies are known by name.
+-- on are all left; beside these, words of a tree or trees of so many flat words are. Some copies are known by name. The
+-- pointers to copies rise with their places, behind the first copy.
 pub record Copying (p : Task) (known : List Item) (mem : List ℕ) (mark at top owed : ℕ) : Type 0 where
   pub ready : Ready p
   pub items : List Item
@@ -85,6 +97,8 @@ pub record Copying (p : Task) (known : List Item) (mem : List ℕ) (mark at top 
   pub among : (x : Item) → Among x after → Among x items
   pub stands : (x : Item) → Among x items → IsOf p x
   pub copies : (x : Item) → Among x items → IsCopy p mem mark items x
+  pub rises : (q r : ℕ) → IsLed p mark items q → IsLed p mark items r → q < r → slice_index mem q / 4 < slice_index mem r / 4
+  pub beyond : (q : ℕ) → IsLed p mark items q → p.top < slice_index mem q / 4
   pub same_len : length mem ≡ length p.start
   pub others : (q : ℕ) → (q < p.top) ⊎ (top ≤ q) → (p.test q COUNT ≡ true → ⊥) → slice_index mem q ≡ slice_index p.start q
   pub counts : (v n : ℕ) → IsRecord p.test p.start v n → count_in mem v ≡ count_in p.start v + tally p.start v items
@@ -167,10 +181,11 @@ pub record CanPart (mem : List ℕ) (room : Room) (w : ℕ) : Type 0 where
   pub goes : Goes task w
   pub has : HasRoom task room.end
 
--- A step of the copy has come to an image of the word.
+-- A step of the copy has come to an image of the word, behind those that were written.
 pub record HasImage (p : Task) (known : List Item) (mem : List ℕ) (mark at top owed w x : ℕ) : Type 0 where
   pub on : Copying p known mem mark at top owed
   pub image : IsImage p on.items w x
+  pub later : (q : ℕ) → IsLed p mark on.items q → slice_index mem q / 4 < x / 4
 
 -- The words from a place up to another are gone through next.
 pub record CanScan (mem : List ℕ) (room : Room) (stay : ℕ → Bool) (mark at : ℕ) (rest : Trees) : Type 0 where
@@ -201,8 +216,9 @@ pub record CanOpen (mem : List ℕ) (room : Room) (stay : ℕ → Bool) (at : �
   pub has : HasRoom task room.end
   pub same_stay : IsStay task stay
 
--- The root has an image by the copies that are known, and the parts of all copies are left.
+-- The root has an image by the copies that are known, the first copy where it is copied, and the parts of all copies are left.
 pub record Begun (p : Task) (mem : List ℕ) (at top result : ℕ) : Type 0 where
   pub known : List Item
   pub image : IsImage p known p.word result
+  pub first : Goes p p.word → result / 4 ≡ p.top
   pub on : Copying p known mem at at top 0

@@ -16,6 +16,7 @@ use word_mem::{Room, WordMem};
 pub fn copy_part(mem: &mut WordMem, room: &mut Room, w: u64) -> u64
     requires { CanPart mem.old room.old w }
     ensures room { Advances room.old room.new }
+    ensures place { result / 4 ≡ room.old.top }
     ensures each { (p : Task) (known : List Item) (mark at owed : ℕ) (u : Tree) → Copying p known mem.old mark at room.old.top (flat u + owed)
         → Stands p.test p.shared p.start w u → Goes p w → HasImage p known mem.new mark at room.new.top owed w result }
 {

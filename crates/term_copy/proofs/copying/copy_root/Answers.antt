@@ -21,8 +21,8 @@ copy_part-requires c = record {
 
 pub returns-then-goes-clause-begins : goal.returns-then-goes-clause-begins
 returns-then-goes-clause-begins c = λ p stay r start top word.
-    begins-copied p c.copy_part.new.mem c.args.room.now.top c.copy_part.new.room.top c.args.w c.copy_part.result word
-    (goes-by p (stays c.args.stay.now) c.args.w stay (c.goes.ensures.yes c.if-goes.true))
+    begins-copied p c.copy_part.new.mem c.args.room.now.top c.copy_part.new.room.top c.args.w c.copy_part.result word top
+    (goes-by p (stays c.args.stay.now) c.args.w stay (c.goes.ensures.yes c.if-goes.true)) c.copy_part.ensures.place
     (c.copy_part.ensures.each p [] c.args.room.now.top c.args.room.now.top 0 p.tree (begins p c.args.mem.now c.args.room.now.top r start top) (stands-root p c.args.w r word)
     (goes-by p (stays c.args.stay.now) c.args.w stay (c.goes.ensures.yes c.if-goes.true)))
 

@@ -34,7 +34,7 @@ loop-at-preserved c = record {
   room = room-then c.args.room.now c.loop-at.room c.scan_object-at.new.room c.loop-at.invariant.room c.scan_object-at.ensures.room;
   each = λ p stay r start top word.
       let b : Begun p c.loop-at.mem c.loop-at.at c.loop-at.room.top c.copy_root-result.result = c.loop-at.invariant.each p stay r start top word in
-      record { known = b.known; image = b.image; on = c.scan_object-at.ensures.each p b.known stay b.on };
+      record { known = b.known; image = b.image; first = b.first; on = c.scan_object-at.ensures.each p b.known stay b.on };
 }
 
 pub returns-clause-places : goal.returns-clause-places

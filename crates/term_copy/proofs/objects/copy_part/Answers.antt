@@ -17,6 +17,9 @@ returns-clause-room c =
     c.args.w c.requires.tree c.requires.standing c.requires.goes.pointer c.args.room.now.end c.requires.has (omega (arith, c.len-len.ensures.most)) (omega arith) in
     room-advances c.args.room.now c.copy_object.new.room (object_words c.args.mem.now c.args.w) c.copy_object.ensures.room can.fits
 
+pub returns-clause-place : goal.returns-clause-place
+returns-clause-place c = omega (arith, c.copy_object.ensures.took.word)
+
 pub returns-clause-each : goal.returns-clause-each
 returns-clause-each c = λ p known mark at owed u g s goes.
     took-image p known c.args.mem.now mark at c.args.room.now.top (flat u + owed) g c.args.w u owed refl s goes c.copy_object.new.mem c.copy_object.result c.copy_object.ensures.took
