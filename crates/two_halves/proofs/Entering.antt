@@ -1,6 +1,6 @@
 -- A message enters a queue at its end.
-use Rattle.std.proofs.Common.{◌≡◌, ℕ, zero, suc, ◌+◌, ◌-◌, ◌/◌, ◌<◌, ◌≤◌, ◌⊎◌, Bool, true, List, [], ◌∷◌, ◌++◌, length, get_or, set, refl, sym, ◌∙◌, ap, subst, arith, inl, inr}
-use Rattle.std.proofs.lemmas.List.{get_or-set_other, get_or-set_same, length-set}
+use Rattle.std.proofs.Common.{◌≡◌, ℕ, zero, suc, ◌+◌, ◌-◌, ◌/◌, ◌<◌, ◌≤◌, Bool, true, List, [], ◌∷◌, ◌++◌, length, get_or, set, refl, sym, ◌∙◌, ap, subst, arith, inl, inr}
+use Rattle.std.proofs.lemmas.List.{append_assoc, get_or-set_other, get_or-set_same, length-set}
 use Rattle.std.proofs.lemmas.List.Sums.{get_or-le-sum_by, sum_by-set}
 use Rattle.std.specs.Vec.{with_item}
 use Rattle.plain_term.specs.Tree.{Tree}
@@ -68,49 +68,45 @@ queue-kept c mem mem2 low limit [] i d less k = absurd (omega (arith, less))
 queue-kept c mem mem2 low limit (p ∷ ps) zero d less k = k.1.0.values_are
 queue-kept c mem mem2 low limit (p ∷ ps) (suc i) d less k = queue-kept c mem mem2 low limit ps i d (omega (arith, less)) k.1.1
 
--- The roots of rows of which one has another row of messages.
+-- Lists one after another.
+three : (a b c r : List ℕ) → a ++ (b ++ (c ++ r)) ≡ (a ++ (b ++ c)) ++ r
+three a b c r = ap (λ z. a ++ z) (sym (append_assoc b c r)) ∙ sym (append_assoc a (b ++ c) r)
+
+four : (a b c d r : List ℕ) → a ++ (b ++ (c ++ (d ++ r))) ≡ (a ++ (b ++ (c ++ d))) ++ r
+four a b c d r = ap (λ z. a ++ z) (three b c d r) ∙ sym (append_assoc a (b ++ (c ++ d)) r)
+
+-- A list is another one with the word once more.
+record OneMore (old new : List ℕ) (w : ℕ) : Type 0 where
+  before : List ℕ
+  after : List ℕ
+  were : old ≡ before ++ after
+  are : new ≡ before ++ w ∷ after
+
+-- The roots of rows of which one has a message more.
 module _ (mem : List ℕ) (p2 d : Proc) (w : ℕ) where
-  roots-more : (ps : List Proc) (i v : ℕ) → i < length ps → p2.regs ≡ (get_or ps i d).regs → values mem p2.stack p2.depth ≡ values mem (get_or ps i d).stack (get_or ps i d).depth
-      → values mem p2.queue p2.waiting ≡ values mem (get_or ps i d).queue (get_or ps i d).waiting ++ w ∷ [] → In v (roots_in mem (set ps i p2)) → (v ≡ w) ⊎ In v (roots_in mem ps)
-  roots-more [] i v less regs stack queue h = absurd (omega (arith, less))
-  roots-more (p ∷ ps) zero v less regs stack queue h =
+  roots-more : (ps : List Proc) (i : ℕ) → i < length ps → p2.regs ≡ (get_or ps i d).regs → values mem p2.stack p2.depth ≡ values mem (get_or ps i d).stack (get_or ps i d).depth
+      → values mem p2.queue p2.waiting ≡ values mem (get_or ps i d).queue (get_or ps i d).waiting ++ w ∷ [] → OneMore (roots_in mem ps) (roots_in mem (set ps i p2)) w
+  roots-more [] i less regs stack queue = absurd (omega (arith, less))
+  roots-more (p ∷ ps) zero less regs stack queue =
       let S : List ℕ = values mem p.stack p.depth in
       let Q : List ℕ = values mem p.queue p.waiting in
-      let R : List ℕ = roots_in mem ps in
-      let same : roots_in mem (p2 ∷ ps) ≡ p.regs ++ (S ++ ((Q ++ w ∷ []) ++ R)) =
-      ap (λ z. z ++ (values mem p2.stack p2.depth ++ (values mem p2.queue p2.waiting ++ R))) regs ∙ ap (λ z. p.regs ++ (z ++ (values mem p2.queue p2.waiting ++ R))) stack
-      ∙ ap (λ z. p.regs ++ (S ++ (z ++ R))) queue in
-      elim (in-both v p.regs (S ++ ((Q ++ w ∷ []) ++ R)) (subst (In v) same h)) [
-        | inl a ↦ inr (in-left v p.regs (S ++ (Q ++ R)) a)
-        | inr a ↦ elim (in-both v S ((Q ++ w ∷ []) ++ R) a) [
-          | inl b ↦ inr (in-right v p.regs (S ++ (Q ++ R)) (in-left v S (Q ++ R) b))
-          | inr b ↦ elim (in-both v (Q ++ w ∷ []) R b) [
-            | inl e ↦ elim (in-both v Q (w ∷ []) e) [
-              | inl f ↦ inr (in-right v p.regs (S ++ (Q ++ R)) (in-right v S (Q ++ R) (in-left v Q R f)))
-              | inr f ↦ elim f [ inl g ↦ inl g | inr g ↦ absurd g ]
-            ]
-            | inr e ↦ inr (in-right v p.regs (S ++ (Q ++ R)) (in-right v S (Q ++ R) (in-right v Q R e)))
-          ]
-        ]
-      ]
-  roots-more (p ∷ ps) (suc i) v less regs stack queue h =
+      let R : List ℕ = roots_in mem ps in record {
+        before = p.regs ++ (S ++ Q);
+        after = R;
+        were = three p.regs S Q R;
+        are =
+            ap (λ z. z ++ (values mem p2.stack p2.depth ++ (values mem p2.queue p2.waiting ++ R))) regs ∙ ap (λ z. p.regs ++ (z ++ (values mem p2.queue p2.waiting ++ R))) stack
+            ∙ ap (λ z. p.regs ++ (S ++ (z ++ R))) queue ∙ ap (λ z. p.regs ++ (S ++ z)) (append_assoc Q (w ∷ []) R) ∙ three p.regs S Q (w ∷ R);
+      }
+  roots-more (p ∷ ps) (suc i) less regs stack queue =
       let S : List ℕ = values mem p.stack p.depth in
       let Q : List ℕ = values mem p.queue p.waiting in
-      let R : List ℕ = roots_in mem (set ps i p2) in
-      let T : List ℕ = roots_in mem ps in
-      elim (in-both v p.regs (S ++ (Q ++ R)) h) [
-        | inl a ↦ inr (in-left v p.regs (S ++ (Q ++ T)) a)
-        | inr a ↦ elim (in-both v S (Q ++ R) a) [
-          | inl b ↦ inr (in-right v p.regs (S ++ (Q ++ T)) (in-left v S (Q ++ T) b))
-          | inr b ↦ elim (in-both v Q R b) [
-            | inl e ↦ inr (in-right v p.regs (S ++ (Q ++ T)) (in-right v S (Q ++ T) (in-left v Q T e)))
-            | inr e ↦ elim (roots-more ps i v (omega (arith, less)) regs stack queue e) [
-              | inl f ↦ inl f
-              | inr f ↦ inr (in-right v p.regs (S ++ (Q ++ T)) (in-right v S (Q ++ T) (in-right v Q T f)))
-            ]
-          ]
-        ]
-      ]
+      let m : OneMore (roots_in mem ps) (roots_in mem (set ps i p2)) w = roots-more ps i (omega (arith, less)) regs stack queue in record {
+        before = p.regs ++ (S ++ (Q ++ m.before));
+        after = m.after;
+        were = ap (λ z. p.regs ++ (S ++ (Q ++ z))) m.were ∙ four p.regs S Q m.before m.after;
+        are = ap (λ z. p.regs ++ (S ++ (Q ++ z))) m.are ∙ four p.regs S Q m.before (w ∷ m.after);
+      }
 
 -- The last place of a queue lies in the half.
 module _ (named : ℕ) (h : Halves) (shared : List (List ℕ)) (qs : List Process) (x : HalvesStand named h shared qs) (row : ℕ) (less : row < length h.procs.items) (p : Proc)
@@ -392,6 +388,12 @@ module _ (h : Halves) (row w : ℕ) (r : CanQueue h row w) (p : Proc) (is : p �
     row-there : (u : Proc) → u ≡ get_or (set h.procs.items row final_row) row u → final_row ≡ u
     row-there u other = sym (get_or-set_same h.procs.items row final_row u r.has.within) ∙ sym other
 
+    more : OneMore (roots_in mem2 h.procs.items) (roots_in mem2 (set h.procs.items row final_row)) w
+    more =
+        let W : Proc → Type 0 = λ z. values mem2 first (p.waiting + 1) ≡ values mem2 z.queue z.waiting ++ w ∷ [] in
+        roots-more mem2 final_row p w h.procs.items row r.has.within (ap (λ z. z.regs) is) (ap (λ z. values mem2 z.stack z.depth) is)
+        (subst W is (queue-values r.has.named h r.has.shared r.has.processes r.has.laid r.has.stands row r.has.within p is mem2 len place w first next fits value others facts.none some))
+
     pub queues : Queues h (laid_out h mem2 h.top place (with_item h.procs row (with_queue p first place (p.waiting + 1)))) row w
     queues = record {
       laid = entered-laid r.has.named h r.has.shared r.has.processes r.has.laid r.has.stands row r.has.within p is mem2 len place w first next fits value others facts.none some r.tree r.held;
@@ -413,10 +415,8 @@ module _ (h : Halves) (row w : ℕ) (r : CanQueue h row w) (p : Proc) (is : p �
           let Q : Proc → Type 0 = λ z. values mem2 first (p.waiting + 1) ≡ values h.mem z.queue z.waiting ++ w ∷ [] in
           subst P (row-there u new) (subst Q (same-row o old)
           (messages-there r.has.named h r.has.shared r.has.processes r.has.laid r.has.stands row r.has.within p is mem2 len place w first next fits value others facts.none some));
-      roots = λ v i.
-          let V : List ℕ → Type 0 = λ z. (v ≡ w) ⊎ In v z in
-          let W : Proc → Type 0 = λ z. values mem2 first (p.waiting + 1) ≡ values mem2 z.queue z.waiting ++ w ∷ [] in
-          subst V (roots-there r.has.named h r.has.shared r.has.processes r.has.laid r.has.stands row r.has.within p is mem2 len place w first next fits value others facts.none some)
-          (roots-more mem2 final_row p w h.procs.items row v r.has.within (ap (λ z. z.regs) is) (ap (λ z. values mem2 z.stack z.depth) is)
-          (subst W is (queue-values r.has.named h r.has.shared r.has.processes r.has.laid r.has.stands row r.has.within p is mem2 len place w first next fits value others facts.none some)) i);
+      before = more.before;
+      after = more.after;
+      were = sym (roots-there r.has.named h r.has.shared r.has.processes r.has.laid r.has.stands row r.has.within p is mem2 len place w first next fits value others facts.none some) ∙ more.were;
+      roots = more.are;
     }

@@ -1,12 +1,11 @@
 -- A message is sent: a copy comes into the half, and its word into a queue.
-use Rattle.std.proofs.Common.{◌≡◌, ℕ, ◌+◌, ◌/◌, ◌<◌, ◌≤◌, Bool, List, [], ◌∷◌, ◌++◌, length, get_or, sym, ◌∙◌, ap, subst, arith, inl, inr}
+use Rattle.std.proofs.Common.{◌≡◌, ℕ, ◌+◌, ◌/◌, ◌<◌, ◌≤◌, Bool, [], ◌∷◌, ◌++◌, length, get_or, sym, ◌∙◌, ap, subst, arith, inl, inr}
 use Rattle.std.specs.Vec.{with_item}
 use Rattle.plain_term.specs.Tree.Trees.{end, ◌▹◌}
 use Rattle.term_words.specs.Object.{IsPointer, object_words}
 use Rattle.term_words.specs.Stands.{AllStand}
 use Rattle.term_words.specs.Kept.{Kept}
 use Rattle.term_words.specs.Reach.{Reach}
-use Rattle.term_words.specs.Counted.{In}
 use Rattle.term_words.proofs.Carrying.{carried-reach}
 use Rattle.term_words.proofs.Frames.{kept-carried}
 use Rattle.term_words.proofs.Reached.{reached}
@@ -136,7 +135,10 @@ module _ (h : Halves) (row w : ℕ) (r : CanSend h row w) where
           last = h2.low;
           procs = λ p is. q.procs p (row-before p is) ∙ ap (λ z. with_item z row (with_queue p q.first h2.low (p.waiting + 1))) k.procs;
           messages = λ p o new old. q.messages p o new (row-before o old) ∙ ap (λ z. z ++ copy ∷ []) (same-values o old);
-          roots = λ v i. elim (q.roots v i) [ inl e ↦ inl e | inr j ↦ inr (let P : List ℕ → Type 0 = λ z. In v z in subst P same-roots j) ];
+          before = q.before;
+          after = q.after;
+          were = sym same-roots ∙ q.were;
+          roots = q.roots;
           apart = λ v u pv pu rv ru e. omega (arith, message-above v pv rv, old-below u pu ru, e);
         };
       }

@@ -1,5 +1,5 @@
 -- Messages that enter and leave queues.
-use Rattle.std.specs.Prelude.{◌≡◌, ℕ, zero, suc, ◌+◌, ◌-◌, ◌/◌, ◌<◌, ◌≤◌, ◌⊎◌, true, List, [], ◌∷◌, ◌++◌, Option, Some, None, length, get_or, set, slice_index, slice_set}
+use Rattle.std.specs.Prelude.{◌≡◌, ℕ, zero, suc, ◌+◌, ◌-◌, ◌/◌, ◌<◌, ◌≤◌, true, List, [], ◌∷◌, ◌++◌, Option, Some, None, length, get_or, set, slice_index, slice_set}
 use Rattle.std.specs.Vec.{with_item}
 use Rattle.plain_term.specs.Tree.{Tree}
 use Rattle.plain_term.specs.Measures.{flat}
@@ -7,7 +7,6 @@ use Rattle.plain_machine.specs.State.{Process}
 use Rattle.plain_machine.specs.declared.costs.TheConstants.{MESSAGE_COST}
 use Rattle.term_words.specs.Object.{IsPointer}
 use Rattle.term_words.specs.Reach.{Reach}
-use Rattle.term_words.specs.Counted.{In}
 use Rattle.term_words.specs.Stands.{Stands}
 use Rattle.two_halves.specs.Stack.{values}
 use Rattle.two_halves.specs.Halves.{HalvesStand, HoldsTree, IsLaid, free_in}
@@ -107,7 +106,7 @@ pub record HasEntered (named : ℕ) (new : Halves) (shared : List (List ℕ)) (q
   pub stands : HalvesStand named new shared (set qs row (record process { queue = process.queue ++ t ∷ [] }))
 
 -- A place with this word is the last of the queue of the row: no word with a role was written, the messages are those of before and
--- the word, and the roots are those of before and the word.
+-- the word, and the roots are those of before, each in its order, with the word once among them.
 pub record Queues (old new : Halves) (row w : ℕ) : Type 0 where
   pub laid : IsLaid new
   pub same_len : length new.mem ≡ length old.mem
@@ -125,17 +124,23 @@ pub record Queues (old new : Halves) (row w : ℕ) : Type 0 where
       → slice_index new.mem a ≡ slice_index old.mem a
   pub messages : (p o : Proc) → p ≡ get_or new.procs.items row p → o ≡ get_or old.procs.items row o
       → values new.mem p.queue p.waiting ≡ values old.mem o.queue o.waiting ++ w ∷ []
-  pub roots : (v : ℕ) → In v (roots_of new) → (v ≡ w) ⊎ In v (roots_of old)
+  pub before : List ℕ
+  pub after : List ℕ
+  pub were : roots_of old ≡ before ++ after
+  pub roots : roots_of new ≡ before ++ w ∷ after
 
--- The word is the last message of the row, whose queue alone has changed; and what it reaches and what all that stood before reach have
--- no object in common.
+-- The word is the last message of the row, whose queue alone has changed: the roots are those of before, each in its order, with the
+-- word once among them; and what it reaches and what all that stood before reach have no object in common.
 pub record IsAlone (old new : Halves) (row word : ℕ) : Type 0 where
   pub first : ℕ
   pub last : ℕ
   pub procs : (p : Proc) → p ≡ get_or old.procs.items row p → new.procs ≡ with_item old.procs row (with_queue p first last (p.waiting + 1))
   pub messages : (p o : Proc) → p ≡ get_or new.procs.items row p → o ≡ get_or old.procs.items row o
       → values new.mem p.queue p.waiting ≡ values old.mem o.queue o.waiting ++ word ∷ []
-  pub roots : (v : ℕ) → In v (roots_of new) → (v ≡ word) ⊎ In v (roots_of old)
+  pub before : List ℕ
+  pub after : List ℕ
+  pub were : roots_of old ≡ before ++ after
+  pub roots : roots_of new ≡ before ++ word ∷ after
   pub apart : (v u : ℕ) → IsPointer v → IsPointer u → Reach new.mem (word ∷ []) v → Reach new.mem (roots_of old) u → v / 4 ≡ u / 4 → ⊥
 
 -- A message was sent to the process with this row: a copy of the tree is the last message of its queue. Beside it nothing has
