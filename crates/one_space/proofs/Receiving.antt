@@ -24,7 +24,7 @@ use Rattle.two_halves.proofs.Apart.{apart-same}
 use Rattle.two_halves.proofs.Filled.{halves-filled, laid_out}
 use Rattle.two_halves.proofs.Stacks.{no_row}
 use Rattle.one_space.specs.One.{HaveMade, Holds, IsCounted, OneStands, Sits, number_in}
-use Rattle.one_space.specs.Doing.{DoesAtOnce}
+use Rattle.one_space.specs.Doing.{DoesAtOnce, IsIdle}
 use Rattle.one_space.specs.declared.one.One.{One}
 use Rattle.one_space.proofs.Acting.{after, counts-same, numbers-row, places-row}
 use Rattle.one_space.proofs.Changing.{no_process}
@@ -77,6 +77,9 @@ module _ (b : One) (holds : Holds b) (seat : Seat) (x : Sits b seat) (r : Reg) w
       let P : Halves → Type 0 = λ z. DoesAtOnce {A = Unit {0}} (OfProcess seat.pid (verb.Recv r)) b (with_halves b z) (Err refusal.Empty) in
       subst P (sym same) (none-waits none)
 
+  pub none-idle : (h2 : Halves) → h2 ≡ b.halves → IsIdle b (with_halves b h2)
+  none-idle h2 same = record { sweeps = ap (λ z. z.sweeps) same; mem = ap (λ z. z.mem) same; top = ap (λ z. z.top) same; low = ap (λ z. z.low) same }
+
   -- The first message was taken off, and its word is put in the register.
   module _ (h2 : Halves) (w : ℕ) (takes : Takes b.halves h2 seat.row w) where
     abbrev p : Proc
@@ -95,11 +98,11 @@ module _ (b : One) (holds : Holds b) (seat : Seat) (x : Sits b seat) (r : Reg) w
     pub left-seated : seat.row < vec_len h2.procs
     left-seated = omega (arith, left-within, h2.procs.ok.0)
 
-    pub left-sweeps : h2.sweeps ≡ b.halves.sweeps
-    left-sweeps = ap (λ z. z.sweeps) moved
-
     abbrev received : Proc → One
     received p2 = after b (laid_out h2 h2.mem h2.top h2.low (with_item h2.procs seat.row (with_word p2 r.0 w)))
+
+    pub received-idle : (p2 : Proc) → IsIdle b (received p2)
+    received-idle p2 = record { sweeps = ap (λ z. z.sweeps) moved; mem = ap (λ z. z.mem) moved; top = ap (λ z. z.top) moved; low = ap (λ z. z.low) moved }
 
     module _ (p2 : Proc) (is2 : p2 ≡ get_or h2.procs.items seat.row p2) where
       module _ (s : State) (o : OneStands b s) where

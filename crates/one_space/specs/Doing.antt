@@ -120,6 +120,14 @@ pub record IsSentAlone (n pid : ℕ) (old new : One) : Type 0 where
   pub word : ℕ
   pub alone : IsAlone halves new.halves row word
 
+-- A call that asks for no words: none is taken, copied or collected. No collection was made, no word of the memory changed, and the
+-- free words begin and end where they did.
+pub record IsIdle (old new : One) : Type 0 where
+  pub sweeps : new.halves.sweeps ≡ old.halves.sweeps
+  pub mem : new.halves.mem ≡ old.halves.mem
+  pub top : new.halves.top ≡ old.halves.top
+  pub low : new.halves.low ≡ old.halves.low
+
 -- What is picked are bytes of a binary: they ask for words.
 abbrev pub takes_part : Pick → Bool
 takes_part (pick.Part offset len) = true

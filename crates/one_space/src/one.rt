@@ -7,7 +7,7 @@ ghost use Rattle.script_grammar.specs.declared.refusal.Refusal.TheVariants.{Proc
 ghost use Rattle.script_grammar.specs.Names.{IsRegister};
 ghost use Rattle.space_api.specs.Calls.{most_calls};
 ghost use Rattle.one_space.specs.One.{Holds, Sits};
-ghost use Rattle.one_space.specs.Doing.{Asks, Does, DoesAlways, DoesAtOnce, Sweeps};
+ghost use Rattle.one_space.specs.Doing.{Asks, Does, DoesAlways, DoesAtOnce, IsIdle, Sweeps};
 
 use plain_machine::{MOST_PROCESSES, PLACE_COST, PROCESS_COST, Refusal, Reg};
 use space_api::Seat;
@@ -70,7 +70,7 @@ impl One {
         requires calls { self.old.calls < most_calls }
         requires sits { Sits self.old seat }
         ensures does { DoesAlways (Process seat.pid verb.Exit) self.old self.new }
-        ensures idle { self.new.halves.sweeps ≡ self.old.halves.sweeps }
+        ensures idle { IsIdle self.old self.new }
     {
         let row = self.halves.procs.remove(seat.row);
         self.spare.push_reserved(row);
@@ -85,7 +85,7 @@ impl One {
         requires sits { Sits self.old seat }
         requires register { IsRegister r }
         ensures does { DoesAlways (Process seat.pid (verb.Own r)) self.old self.new }
-        ensures idle { self.new.halves.sweeps ≡ self.old.halves.sweeps }
+        ensures idle { IsIdle self.old self.new }
     {
         let process = self.halves.process_mut(seat.row);
         process.regs[r.0 as usize] = pid_word(seat.pid);
@@ -128,7 +128,7 @@ impl One {
         requires sits { Sits self.old seat }
         requires register { IsRegister r }
         ensures does { DoesAtOnce (Process seat.pid (verb.Pop r)) self.old self.new result }
-        ensures idle { self.new.halves.sweeps ≡ self.old.halves.sweeps }
+        ensures idle { IsIdle self.old self.new }
     {
         let mut process = *self.halves.process(seat.row);
         if process.depth == 0 {

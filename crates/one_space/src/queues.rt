@@ -16,7 +16,7 @@ ghost use Rattle.term_print.specs.Printed.{CanPrint};
 ghost use Rattle.term_words.specs.Role.{always};
 ghost use Rattle.term_words.specs.Stands.{Stands};
 ghost use Rattle.one_space.specs.One.{Holds, OneStands, Sits};
-ghost use Rattle.one_space.specs.Doing.{DoesAtOnce};
+ghost use Rattle.one_space.specs.Doing.{DoesAtOnce, IsIdle};
 ghost use Rattle.one_space.specs.Queued.{AreMessages, HaveMessages, messages_text, whole_text};
 
 use crate::one::One;
@@ -36,7 +36,7 @@ impl One {
         requires sits { Sits self.old seat }
         requires register { IsRegister r }
         ensures does { DoesAtOnce (Process seat.pid (verb.Recv r)) self.old self.new result }
-        ensures idle { self.new.halves.sweeps ≡ self.old.halves.sweeps }
+        ensures idle { IsIdle self.old self.new }
     {
         let Some(w) = self.halves.receive(seat.row) else {
             return Err(Refusal::Empty);

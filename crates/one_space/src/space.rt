@@ -140,7 +140,7 @@ impl Space for OneSpace {
     ghost use Rattle.plain_machine.specs.May.{may_of_tight};
     ghost use Rattle.space_api.specs.Calls.{Properly};
     ghost use Rattle.one_space.specs.One.{OneStands, Sits, words_of};
-    ghost use Rattle.one_space.specs.Doing.{Asks, AsksToSend, AsksUnless, Books, IsSentAlone, IsSwept, takes_part};
+    ghost use Rattle.one_space.specs.Doing.{Asks, AsksToSend, AsksUnless, Books, IsIdle, IsSentAlone, IsSwept, takes_part};
     ghost use Rattle.plain_term.specs.Measures.{flat};
     ghost use Rattle.plain_machine.specs.declared.costs.TheConstants.{MESSAGE_COST};
     ghost use Rattle.one_space.specs.Listing.{text_of};
@@ -196,7 +196,7 @@ impl Space for OneSpace {
         ensures passes { (s : State) (terms : Terms) (names : List (List ℕ)) → Properly (OneStands self.old) s → HasNames s names
             → Passes (step s (said (Process seat.pid verb.Exit) terms names)) (Properly (OneStands self.new)) }
         ensures books { Books self.old self.new self.old.named }
-        ensures idle { self.new.halves.sweeps ≡ self.old.halves.sweeps }
+        ensures idle { IsIdle self.old self.new }
     {
         self.one.exit(seat)
     }
@@ -234,7 +234,7 @@ impl Space for OneSpace {
             → Becomes may_of_tight (words_of self.old) state (said (Process seat.pid (verb.Choose r s how)) terms names.now) result
             (Properly (OneStands self.new)) }
         ensures books { Books self.old self.new self.old.named }
-        ensures idle { takes_part how ≡ false → self.new.halves.sweeps ≡ self.old.halves.sweeps }
+        ensures idle { takes_part how ≡ false → IsIdle self.old self.new }
         ensures refused { takes_part how ≡ false → OnErr result (self.new ≡ self.old) }
         ensures asks { takes_part how ≡ true → AsksUnless PART_WORDS self.old self.new result }
     {
@@ -338,7 +338,7 @@ impl Space for OneSpace {
         ensures passes { (s : State) (terms : Terms) (names : List (List ℕ)) → Properly (OneStands self.old) s → HasNames s names
             → Passes (step s (said (Process seat.pid (verb.Own r)) terms names)) (Properly (OneStands self.new)) }
         ensures books { Books self.old self.new self.old.named }
-        ensures idle { self.new.halves.sweeps ≡ self.old.halves.sweeps }
+        ensures idle { IsIdle self.old self.new }
     {
         self.one.own_pid(seat, r)
     }
@@ -362,7 +362,7 @@ impl Space for OneSpace {
         ensures follows { (s : State) (terms : Terms) (names : List (List ℕ)) → Properly (OneStands self.old) s → HasNames s names
             → Follows (step s (said (Process seat.pid (verb.Pop r)) terms names)) s result (Properly (OneStands self.new)) }
         ensures books { Books self.old self.new self.old.named }
-        ensures idle { self.new.halves.sweeps ≡ self.old.halves.sweeps }
+        ensures idle { IsIdle self.old self.new }
     {
         self.one.pop(seat, r)
     }
@@ -390,7 +390,7 @@ impl Space for OneSpace {
         ensures follows { (s : State) (terms : Terms) (names : List (List ℕ)) → Properly (OneStands self.old) s → HasNames s names
             → Follows (step s (said (Process seat.pid (verb.Recv r)) terms names)) s result (Properly (OneStands self.new)) }
         ensures books { Books self.old self.new self.old.named }
-        ensures idle { self.new.halves.sweeps ≡ self.old.halves.sweeps }
+        ensures idle { IsIdle self.old self.new }
     {
         self.one.receive(seat, r)
     }

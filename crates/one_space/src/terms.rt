@@ -9,7 +9,7 @@ ghost use Rattle.plain_machine.specs.Tightness.{keys_in, repeat_words as words_b
 ghost use Rattle.space_api.specs.Calls.{HasTerm, most_calls};
 ghost use Rattle.item_build.specs.Reading.{words_of as item_words_of};
 ghost use Rattle.one_space.specs.One.{Holds, OneStands, Sits};
-ghost use Rattle.one_space.specs.Doing.{Asks, AsksUnless, Builds, Does, DoesBy, refusal_for, refusal_of_put, takes_part};
+ghost use Rattle.one_space.specs.Doing.{Asks, AsksUnless, Builds, Does, DoesBy, IsIdle, refusal_for, refusal_of_put, takes_part};
 
 use crate::entering::enter_bins;
 use crate::one::One;
@@ -104,7 +104,7 @@ impl One {
         requires whole { takes_part how ≡ false }
         requires named { self.old.named ≤ length names.now }
         ensures does { DoesBy names.now (Process seat.pid (verb.Choose r s how)) self.old self.new result }
-        ensures idle { self.new.halves.sweeps ≡ self.old.halves.sweeps }
+        ensures idle { IsIdle self.old self.new }
         ensures refused { OnErr result (self.new ≡ self.old) }
     {
         let process = *self.halves.process(seat.row);

@@ -1,4 +1,4 @@
-use Rattle.std.proofs.Common.{arith}
+use Rattle.std.proofs.Common.{arith, refl}
 use Rattle.one_space.proofs.Acting.{box-room, exit-does}
 use Rattle.one_space.proofs.one.One.exit.Goals as goal
 
@@ -9,3 +9,6 @@ pub returns-clause-does : goal.returns-clause-does
 returns-clause-does c =
     exit-does c.args.self.now c.requires.holds c.args.seat c.requires.sits c.remove-row.new.self c.remove-row.ensures.items c.remove-row.ensures.capacity
     c.push_reserved.new.self (omega (arith, c.push_reserved.ensures.len)) c.push_reserved.ensures.capacity
+
+pub returns-clause-idle : goal.returns-clause-idle
+returns-clause-idle c = record { sweeps = refl; mem = refl; top = refl; low = refl }

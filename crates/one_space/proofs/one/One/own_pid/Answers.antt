@@ -1,4 +1,4 @@
-use Rattle.std.proofs.Common.{arith}
+use Rattle.std.proofs.Common.{arith, refl}
 use Rattle.one_space.proofs.Acting.{own-does, seat-below}
 use Rattle.two_halves.proofs.Stacks.{no_row}
 use Rattle.one_space.proofs.one.One.own_pid.Goals as goal
@@ -23,3 +23,6 @@ returns-clause-does c =
       c.requires.holds.counts.numbered,
       c.requires.calls,
     ))
+
+pub returns-clause-idle : goal.returns-clause-idle
+returns-clause-idle c = record { sweeps = refl; mem = refl; top = refl; low = refl }

@@ -34,3 +34,9 @@ pub returns-clause-does : goal.returns-clause-does
 returns-clause-does c =
     pop-does c.args.self.now c.requires.holds c.args.seat c.requires.sits c.args.r c.process.result.now c.process.ensures c.if-process-eq0.false c.get.result c.get-2.result
     (c.process.result.now.depth - 1) c.get.ensures c.get-2.ensures refl
+
+pub returns-then-process-eq0-clause-idle : goal.returns-then-process-eq0-clause-idle
+returns-then-process-eq0-clause-idle c = record { sweeps = refl; mem = refl; top = refl; low = refl }
+
+pub returns-clause-idle : goal.returns-clause-idle
+returns-clause-idle c = record { sweeps = refl; mem = refl; top = refl; low = refl }

@@ -1,4 +1,4 @@
-use Rattle.one_space.proofs.Receiving.{left-seated, left-sweeps, receive-none, received-does}
+use Rattle.one_space.proofs.Receiving.{left-seated, none-idle, receive-none, received-does, received-idle}
 use Rattle.one_space.proofs.one.One.receive.Goals as goal
 
 pub returns-in_default-clause-does : goal.returns-in_default-clause-does
@@ -14,4 +14,8 @@ returns-clause-does c =
     c.process_mut-process.ensures.value
 
 pub returns-clause-idle : goal.returns-clause-idle
-returns-clause-idle c = left-sweeps c.args.self.now c.requires.holds c.args.seat c.requires.sits c.args.r c.receive.new.self c.in-Some.w c.in-Some.ensures
+returns-clause-idle c =
+    received-idle c.args.self.now c.requires.holds c.args.seat c.requires.sits c.args.r c.receive.new.self c.in-Some.w c.in-Some.ensures c.index_mut-process.result.now
+
+pub returns-in_default-clause-idle : goal.returns-in_default-clause-idle
+returns-in_default-clause-idle c = none-idle c.args.self.now c.requires.holds c.args.seat c.requires.sits c.args.r c.receive.new.self c.in_default.ensures.0

@@ -7,7 +7,7 @@ use Rattle.script_grammar.specs.declared.command.Verb.TheVariants as verb
 use Rattle.plain_machine.specs.May.{may_of_tight}
 use Rattle.space_api.specs.Calls.{Becomes, Properly, said}
 use Rattle.one_space.specs.One.{OneStands, words_of}
-use Rattle.one_space.specs.Doing.{AsksUnless, Books, takes_part}
+use Rattle.one_space.specs.Doing.{AsksUnless, Books, IsIdle, takes_part}
 use Rattle.one_space.specs.declared.one.One.{One}
 use Rattle.one_space.proofs.Calling.{becomes-so}
 use Rattle.one_space.proofs.space.OneSpaceSpace.pick.Goals as goal
@@ -35,7 +35,7 @@ returns-in-Part-clause-asks c = λ e. let A : One → Type 0 = λ x. AsksUnless 
 pub returns-in_default : goal.returns-in_default
 returns-in_default c =
     let B : One → Type 0 = λ x. Books x c.pick.new.self x.named in
-    let I : One → Type 0 = λ x. c.pick.new.self.halves.sweeps ≡ x.halves.sweeps in
+    let I : One → Type 0 = λ x. IsIdle x c.pick.new.self in
     let R : One → Type 0 = λ x. OnErr c.pick.result (c.pick.new.self ≡ x) in
     record {
       becomes = λ s terms h has.
