@@ -3,28 +3,28 @@ use Rattle.std.proofs.Common.{◌≡◌, ◌≢◌, ℕ, zero, suc, ◌+◌, ◌
 use Rattle.std.proofs.lemmas.List.{get_or_read, length-set, get_or-set_same, get_or-set_other, get_or_push, get_or_append_left}
 use Rattle.std.proofs.lemmas.Bool.{cases_eq, cases_lt}
 use Rattle.atom_names.specs.Spread.{mixed, mixed_all, first_slot}
-use Rattle.atom_names.specs.Slots.{after, steps, empties, Leads, Finds, IsFree}
+use Rattle.atom_names.specs.Slots.{after, steps, empties, LeadsTo, FindsSlot, IsFreeSlot}
 use Rattle.atom_names.specs.declared.names.TheConstants.{MOST_NAMES}
 
-pub mixed_all_low : (bs : List ℕ) (h : ℕ) → h < 2 ^ 32 → mixed_all h bs < 2 ^ 32
-mixed_all_low [] h low = low
-mixed_all_low (b ∷ bs) h low = mixed_all_low bs (mixed h b) (omega arith)
+pub mixed_all-low : (bs : List ℕ) (h : ℕ) → h < 2 ^ 32 → mixed_all h bs < 2 ^ 32
+mixed_all-low [] h low = low
+mixed_all-low (b ∷ bs) h low = mixed_all-low bs (mixed h b) (omega arith)
 
-pub first_slot_low : (name : List ℕ) → first_slot name < 65536
+pub first_slot-low : (name : List ℕ) → first_slot name < 65536
 unfolding first_slot
-first_slot_low name = omega (arith, mixed_all_low name 2166136261 (omega arith))
+first_slot-low name = omega (arith, mixed_all-low name 2166136261 (omega arith))
 
-pub after_low : (s j : ℕ) → after s j < 65536
-after_low s j = omega arith
+pub after-low : (s j : ℕ) → after s j < 65536
+after-low s j = omega arith
 
-pub after_steps : (s slot : ℕ) → s < 65536 → slot < 65536 → after s (steps s slot) ≡ slot
-after_steps s slot h g = omega arith
+pub after-steps : (s slot : ℕ) → s < 65536 → slot < 65536 → after s (steps s slot) ≡ slot
+after-steps s slot h g = omega arith
 
-pub steps_after : (s j : ℕ) → s < 65536 → j < 65536 → steps s (after s j) ≡ j
-steps_after s j h g = omega arith
+pub steps-after : (s j : ℕ) → s < 65536 → j < 65536 → steps s (after s j) ≡ j
+steps-after s j h g = omega arith
 
-pub steps_low : (s slot : ℕ) → steps s slot < 65536
-steps_low s slot = omega arith
+pub steps-low : (s slot : ℕ) → steps s slot < 65536
+steps-low s slot = omega arith
 
 -- A free slot that is filled is one less.
 pub empties-fill : (xs : List ℕ) (i y : ℕ) → i < length xs → get_or xs i 0 ≡ 0 → empties (set xs i (y + 1)) + 1 ≡ empties xs
@@ -45,53 +45,53 @@ empties-free (zero ∷ xs) (suc i) h e = ap (λ n. n + 1) (empties-free xs i (om
 empties-free (suc x ∷ xs) (suc i) h e = empties-free xs i (omega arith) e
 
 -- Where all slots are free, all are counted.
-pub empties_all : (xs : List ℕ) → ((i : ℕ) → i < length xs → get_or xs i 0 ≡ 0) → empties xs ≡ length xs
+pub empties-all : (xs : List ℕ) → ((i : ℕ) → i < length xs → get_or xs i 0 ≡ 0) → empties xs ≡ length xs
 unfolding empties
-empties_all [] h = refl
-empties_all (zero ∷ xs) h = omega (arith, empties_all xs (λ i low. h (suc i) (omega arith)))
-empties_all (suc x ∷ xs) h = absurd (omega (arith, h 0 (omega arith)))
+empties-all [] h = refl
+empties-all (zero ∷ xs) h = omega (arith, empties-all xs (λ i low. h (suc i) (omega arith)))
+empties-all (suc x ∷ xs) h = absurd (omega (arith, h 0 (omega arith)))
 
 -- Where all slots are full, none is counted.
-pub empties_none : (xs : List ℕ) → ((i : ℕ) → i < length xs → 0 < get_or xs i 0) → empties xs ≡ 0
+pub empties-none : (xs : List ℕ) → ((i : ℕ) → i < length xs → 0 < get_or xs i 0) → empties xs ≡ 0
 unfolding empties
-empties_none [] h = refl
-empties_none (zero ∷ xs) h = absurd (omega (arith, h 0 (omega arith)))
-empties_none (suc x ∷ xs) h = empties_none xs (λ i low. h (suc i) (omega arith))
+empties-none [] h = refl
+empties-none (zero ∷ xs) h = absurd (omega (arith, h 0 (omega arith)))
+empties-none (suc x ∷ xs) h = empties-none xs (λ i low. h (suc i) (omega arith))
 
 -- A full slot stays as it is where a free one is written.
-pub full_stays : (slots : List ℕ) (slot v i : ℕ) → get_or slots slot 0 ≡ 0 → 0 < get_or slots i 0 → get_or (set slots slot v) i 0 ≡ get_or slots i 0
-full_stays slots slot v i z h = get_or-set_other slots slot i v 0
+pub full-stays : (slots : List ℕ) (slot v i : ℕ) → get_or slots slot 0 ≡ 0 → 0 < get_or slots i 0 → get_or (set slots slot v) i 0 ≡ get_or slots i 0
+full-stays slots slot v i z h = get_or-set_other slots slot i v 0
     (λ e. let P : ℕ → Type 0 = λ m. 0 < get_or slots m 0 in let g : 0 < get_or slots slot 0 = subst P e h in omega arith)
 
 -- A slot stays as it is where one with a greater number is written.
-pub lower_stays : (slots : List ℕ) (slot v i : ℕ) → get_or slots i 0 < get_or slots slot 0 → get_or (set slots slot v) i 0 ≡ get_or slots i 0
-lower_stays slots slot v i h = get_or-set_other slots slot i v 0
+pub lower-stays : (slots : List ℕ) (slot v i : ℕ) → get_or slots i 0 < get_or slots slot 0 → get_or (set slots slot v) i 0 ≡ get_or slots i 0
+lower-stays slots slot v i h = get_or-set_other slots slot i v 0
     (λ e. let P : ℕ → Type 0 = λ m. get_or slots m 0 < get_or slots slot 0 in let g : get_or slots slot 0 < get_or slots slot 0 = subst P e h in omega arith)
 
-pub Leads_fill : (slots : List ℕ) (name : List ℕ) (place k slot v : ℕ) → get_or slots slot 0 ≡ 0 → Leads slots name place k →
-    Leads (set slots slot v) name place k
+pub Leads_fill : (slots : List ℕ) (name : List ℕ) (place k slot v : ℕ) → get_or slots slot 0 ≡ 0 → LeadsTo slots name place k →
+    LeadsTo (set slots slot v) name place k
 Leads_fill slots name place k slot v z l = record {
-  full = λ j h. rw (full_stays slots slot v (after (first_slot name) j) z (l.full j h)) (l.full j h);
-  older = λ j h. rw (full_stays slots slot v (after (first_slot name) j) z (l.full j h)) (l.older j h);
+  full = λ j h. rw (full-stays slots slot v (after (first_slot name) j) z (l.full j h)) (l.full j h);
+  older = λ j h. rw (full-stays slots slot v (after (first_slot name) j) z (l.full j h)) (l.older j h);
 }
 
-pub Leads_free : (slots : List ℕ) (name : List ℕ) (place k slot v : ℕ) → k < get_or slots slot 0 → Leads slots name place k →
-    Leads (set slots slot v) name place k
+pub Leads_free : (slots : List ℕ) (name : List ℕ) (place k slot v : ℕ) → k < get_or slots slot 0 → LeadsTo slots name place k →
+    LeadsTo (set slots slot v) name place k
 Leads_free slots name place k slot v z l = record {
-  full = λ j h. rw (lower_stays slots slot v (after (first_slot name) j) (omega (arith, z, l.older j h))) (l.full j h);
-  older = λ j h. rw (lower_stays slots slot v (after (first_slot name) j) (omega (arith, z, l.older j h))) (l.older j h);
+  full = λ j h. rw (lower-stays slots slot v (after (first_slot name) j) (omega (arith, z, l.older j h))) (l.full j h);
+  older = λ j h. rw (lower-stays slots slot v (after (first_slot name) j) (omega (arith, z, l.older j h))) (l.older j h);
 }
 
 -- No slot holds more than the number of names.
-pub slot_low : (names : List (List ℕ)) (n : ℕ) (slots places : List ℕ) (i : ℕ) → Finds names n slots places → i < 65536 → get_or slots i 0 ≤ n
-slot_low names n slots places i f low = ⊎_elim
+pub slot-low : (names : List (List ℕ)) (n : ℕ) (slots places : List ℕ) (i : ℕ) → FindsSlot names n slots places → i < 65536 → get_or slots i 0 ≤ n
+slot-low names n slots places i f low = ⊎_elim
     (λ some. omega (arith, f.known i (get_or slots i 0 - 1) low (omega arith)))
     (λ none. omega arith)
     (cases_lt 0 (get_or slots i 0))
 
 -- With no name every slot is free.
 pub Finds_none : (names : List (List ℕ)) (slots places : List ℕ) → length slots ≡ 65536 → length places ≡ MOST_NAMES →
-    ((i : ℕ) → i < 65536 → get_or slots i 0 ≡ 0) → Finds names 0 slots places
+    ((i : ℕ) → i < 65536 → get_or slots i 0 ≡ 0) → FindsSlot names 0 slots places
 Finds_none names slots places slots_room places_room free = record {
   slots_room = slots_room;
   places_room = places_room;
@@ -100,12 +100,12 @@ Finds_none names slots places slots_room places_room free = record {
   led = λ k h. absurd (omega arith);
   known = λ i k low e. absurd (omega (arith, free i low));
   back = λ i k low e. absurd (omega (arith, free i low));
-  rest = omega (arith, empties_all slots (λ i h. free i (omega arith)));
+  rest = omega (arith, empties-all slots (λ i h. free i (omega arith)));
 }
 
 -- Only the names themselves matter.
 pub Finds_same : (names others : List (List ℕ)) (n : ℕ) (slots places : List ℕ) → ((k : ℕ) → k < n → get_or names k [] ≡ get_or others k []) →
-    Finds names n slots places → Finds others n slots places
+    FindsSlot names n slots places → FindsSlot others n slots places
 Finds_same names others n slots places same f = record {
   slots_room = f.slots_room;
   places_room = f.places_room;
@@ -118,8 +118,8 @@ Finds_same names others n slots places same f = record {
 }
 
 -- The slot of the last name is freed.
-pub Finds_pop : (names : List (List ℕ)) (n : ℕ) (slots places : List ℕ) → Finds names (n + 1) slots places →
-    Finds names n (set slots (get_or places n 0) 0) places
+pub Finds_pop : (names : List (List ℕ)) (n : ℕ) (slots places : List ℕ) → FindsSlot names (n + 1) slots places →
+    FindsSlot names n (set slots (get_or places n 0) 0) places
 Finds_pop names n slots places f =
     let last : ℕ = get_or places n 0 in
     let own : get_or slots (get_or places n 0) 0 ≡ n + 1 = f.own n (omega arith) in
@@ -135,7 +135,7 @@ Finds_pop names n slots places f =
       placed = λ k h. f.placed k (omega arith);
       own = λ k h.
           let mine = f.own k (omega arith) in
-          lower_stays slots (get_or places n 0) 0 (get_or places k 0) (omega (arith, mine, own)) ∙ mine;
+          lower-stays slots (get_or places n 0) 0 (get_or places k 0) (omega (arith, mine, own)) ∙ mine;
       led = λ k h. Leads_free slots (get_or names k []) (get_or places k 0) k (get_or places n 0) 0 (omega (arith, own)) (f.led k (omega arith));
       known = λ i k low e.
           let was = old i k e in
@@ -150,8 +150,8 @@ Finds_pop names n slots places f =
     }
 
 -- A new name is put into its free slot.
-pub Finds_push : (names : List (List ℕ)) (name : List ℕ) (n : ℕ) (slots places : List ℕ) (slot : ℕ) → Finds names n slots places →
-    length names ≡ n → n < MOST_NAMES → IsFree name slots slot → Finds (names ++ name ∷ []) (n + 1) (set slots slot (n + 1)) (set places n slot)
+pub Finds_push : (names : List (List ℕ)) (name : List ℕ) (n : ℕ) (slots places : List ℕ) (slot : ℕ) → FindsSlot names n slots places →
+    length names ≡ n → n < MOST_NAMES → IsFreeSlot name slots slot → FindsSlot (names ++ name ∷ []) (n + 1) (set slots slot (n + 1)) (set places n slot)
 Finds_push names name n slots places slot f len room free =
     let inside : slot < length slots = omega (arith, free.inside, f.slots_room) in
     let mine : get_or (set places n slot) n 0 ≡ slot = get_or-set_same places n slot 0 (omega (arith, f.places_room)) in
@@ -169,14 +169,14 @@ Finds_push names name n slots places slot f len room free =
           (λ past. let e : k ≡ n = omega arith in rw (e, mine) free.inside)
           (cases_lt k n);
       own = λ k h. ⊎_elim
-          (λ less. rw (others k less) (full_stays slots slot (n + 1) (get_or places k 0) free.empty (omega (arith, f.own k less)) ∙ f.own k less))
+          (λ less. rw (others k less) (full-stays slots slot (n + 1) (get_or places k 0) free.empty (omega (arith, f.own k less)) ∙ f.own k less))
           (λ past. let e : k ≡ n = omega arith in rw (e, mine) written)
           (cases_lt k n);
       led = λ k h. ⊎_elim
           (λ less. rw (others k less, named_others k less)
           (Leads_fill slots (get_or names k []) (get_or places k 0) k slot (n + 1) free.empty (f.led k less)))
           (λ past. let e : k ≡ n = omega arith in rw (e, mine, named) (Leads_fill slots name slot n slot (n + 1) free.empty
-          (record { full = free.led; older = λ j g. slot_low names n slots places (after (first_slot name) j) f (after_low (first_slot name) j) })))
+          (record { full = free.led; older = λ j g. slot-low names n slots places (after (first_slot name) j) f (after-low (first_slot name) j) })))
           (cases_lt k n);
       known = λ i k low e. ⊎_elim
           (λ same. let P : ℕ → Type 0 = λ m. get_or (set slots slot (n + 1)) m 0 ≡ k + 1 in omega (arith, subst P same e, written))
@@ -192,19 +192,19 @@ Finds_push names name n slots places slot f len room free =
     }
 
 -- A name that is none of those on the way to a free slot is new.
-pub new_at : (names : List (List ℕ)) (name : List ℕ) (n : ℕ) (slots places : List ℕ) (j : ℕ) → Finds names n slots places → j < 65536 →
+pub new-at : (names : List (List ℕ)) (name : List ℕ) (n : ℕ) (slots places : List ℕ) (j : ℕ) → FindsSlot names n slots places → j < 65536 →
     get_or slots (after (first_slot name) j) 0 ≡ 0 →
     ((i k : ℕ) → i < j → get_or slots (after (first_slot name) i) 0 ≡ k + 1 → get_or names k [] ≢ name) →
     (k : ℕ) → k < n → get_or names k [] ≢ name
-new_at names name n slots places j f low empty passed k h e =
+new-at names name n slots places j f low empty passed k h e =
     let start : first_slot (get_or names k []) ≡ first_slot name = ap first_slot e in
     let place = f.placed k h in
     let way : after (first_slot name) (steps (first_slot name) (get_or places k 0)) ≡ get_or places k 0 =
-    after_steps (first_slot name) (get_or places k 0) (first_slot_low name) place in
+    after-steps (first_slot name) (get_or places k 0) (first_slot-low name) place in
     ⊎_elim
     (λ less. passed (steps (first_slot name) (get_or places k 0)) k less (ap (λ m. get_or slots m 0) way ∙ f.own k h) e)
     (λ past. ⊎_elim
-    (λ more. let P : List ℕ → Type 0 = λ x. Leads slots x (get_or places k 0) k in
+    (λ more. let P : List ℕ → Type 0 = λ x. LeadsTo slots x (get_or places k 0) k in
     let l = subst P e (f.led k h) in omega (arith, empty, l.full j more))
     (λ same. let at : steps (first_slot name) (get_or places k 0) ≡ j = omega arith in
     let Q : ℕ → Type 0 = λ m. after (first_slot name) m ≡ get_or places k 0 in
@@ -215,23 +215,23 @@ new_at names name n slots places j f low empty passed k h e =
     (cases_lt (steps (first_slot name) (get_or places k 0)) j)
 
 -- The way does not lead over full slots for ever.
-pub some_free : (names : List (List ℕ)) (name : List ℕ) (n : ℕ) (slots places : List ℕ) → Finds names n slots places → n ≤ MOST_NAMES →
+pub some-free : (names : List (List ℕ)) (name : List ℕ) (n : ℕ) (slots places : List ℕ) → FindsSlot names n slots places → n ≤ MOST_NAMES →
     ((j : ℕ) → j < 65536 → 0 < get_or slots (after (first_slot name) j) 0) → ⊥
-some_free names name n slots places f few full =
-    let none = empties_none slots (λ i h.
+some-free names name n slots places f few full =
+    let none = empties-none slots (λ i h.
     let low : i < 65536 = omega (arith, f.slots_room) in
-    let way = after_steps (first_slot name) i (first_slot_low name) low in
+    let way = after-steps (first_slot name) i (first_slot-low name) low in
     let P : ℕ → Type 0 = λ m. 0 < get_or slots m 0 in
-    subst P way (full (steps (first_slot name) i) (steps_low (first_slot name) i))) in
+    subst P way (full (steps (first_slot name) i) (steps-low (first_slot name) i))) in
     omega (arith, none, f.rest)
 
 -- What a read of a list of numbers gives.
-pub read_is : (xs : List ℕ) (i x : ℕ) → i < length xs → x ≡ get_or xs i x → get_or xs i 0 ≡ x
-read_is xs i x h e = sym (get_or_read xs i x h e 0)
+pub read-is : (xs : List ℕ) (i x : ℕ) → i < length xs → x ≡ get_or xs i x → get_or xs i 0 ≡ x
+read-is xs i x h e = sym (get_or_read xs i x h e 0)
 
 -- A full slot holds the number of a name.
-pub read_known : (names : List (List ℕ)) (n : ℕ) (slots places : List ℕ) (slot x : ℕ) → Finds names n slots places → slot < 65536 →
+pub read-known : (names : List (List ℕ)) (n : ℕ) (slots places : List ℕ) (slot x : ℕ) → FindsSlot names n slots places → slot < 65536 →
     x ≡ get_or slots slot x → x ≢ 0 → x - 1 < n
-read_known names n slots places slot x f low e full =
-    let at = read_is slots slot x (omega (arith, f.slots_room)) e in
+read-known names n slots places slot x f low e full =
+    let at = read-is slots slot x (omega (arith, f.slots_room)) e in
     f.known slot (x - 1) low (omega (arith, at, full))

@@ -3,7 +3,7 @@ use Rattle.std.specs.Prelude.{ℕ, ◌≡◌, ◌<◌, ◌≤◌, List, map, tak
 use Rattle.atom_names.specs.declared.row.Row.{Row}
 use Rattle.atom_names.specs.declared.table.Table.{Table}
 use Rattle.atom_names.specs.Names.{AreNames}
-use Rattle.atom_names.specs.Slots.{Finds}
+use Rattle.atom_names.specs.Slots.{FindsSlot}
 use Rattle.atom_names.specs.declared.names.TheConstants.{MOST_NAMES}
 use Rattle.atom_names.specs.declared.row.TheConstants.{LONGEST_NAME}
 
@@ -20,9 +20,9 @@ abbrev pub AreShort : List Row → Type 0
 AreShort rows = (k : ℕ) (d : Row) → k < length rows → (slice_index_or rows k d).len ≤ LONGEST_NAME
 
 -- What is true of the rows and their table at any time.
-pub record Holds (rows : List Row) (table : Table) (count : ℕ) : Type 0 where
+pub record NamesHold (rows : List Row) (table : Table) (count : ℕ) : Type 0 where
   pub room : length rows ≡ MOST_NAMES
   pub within : count ≤ MOST_NAMES
   pub short : AreShort rows
   pub names : AreNames (names_of rows count)
-  pub finds : Finds (names_of rows count) count table.slots.items table.places.items
+  pub finds : FindsSlot (names_of rows count) count table.slots.items table.places.items

@@ -18,23 +18,23 @@ empties (zero ∷ xs) = empties xs + 1
 empties (suc _ ∷ xs) = empties xs
 
 -- The way to a name's place leads over slots that hold names older than number k.
-pub record Leads (slots : List ℕ) (name : List ℕ) (place k : ℕ) : Type 0 where
+pub record LeadsTo (slots : List ℕ) (name : List ℕ) (place k : ℕ) : Type 0 where
   pub full : (j : ℕ) → j < steps (first_slot name) place → 0 < slice_index slots (after (first_slot name) j)
   pub older : (j : ℕ) → j < steps (first_slot name) place → slice_index slots (after (first_slot name) j) ≤ k
 
 -- The first n names are found: each stands at its place, the way there leads over older names, and no slot holds another number.
-pub record Finds (names : List (List ℕ)) (n : ℕ) (slots places : List ℕ) : Type 0 where
+pub record FindsSlot (names : List (List ℕ)) (n : ℕ) (slots places : List ℕ) : Type 0 where
   pub slots_room : length slots ≡ 65536
   pub places_room : length places ≡ MOST_NAMES
   pub placed : (k : ℕ) → k < n → slice_index places k < 65536
   pub own : (k : ℕ) → k < n → slice_index slots (slice_index places k) ≡ k + 1
-  pub led : (k : ℕ) → k < n → Leads slots (slice_index_or names k []) (slice_index places k) k
+  pub led : (k : ℕ) → k < n → LeadsTo slots (slice_index_or names k []) (slice_index places k) k
   pub known : (i k : ℕ) → i < 65536 → slice_index slots i ≡ k + 1 → k < n
   pub back : (i k : ℕ) → i < 65536 → slice_index slots i ≡ k + 1 → slice_index places k ≡ i
   pub rest : empties slots + n ≡ 65536
 
 -- A slot that is free for a name that is new: no slot before it is.
-pub record IsFree (name : List ℕ) (slots : List ℕ) (slot : ℕ) : Type 0 where
+pub record IsFreeSlot (name : List ℕ) (slots : List ℕ) (slot : ℕ) : Type 0 where
   pub inside : slot < 65536
   pub empty : slice_index slots slot ≡ 0
   pub led : (j : ℕ) → j < steps (first_slot name) slot → 0 < slice_index slots (after (first_slot name) j)

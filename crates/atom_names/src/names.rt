@@ -44,11 +44,11 @@ impl Model for AtomNames {
 
     ghost Value = { List (List ℕ) };
 
-    ghost use Rattle.atom_names.specs.Rows.{names_of, Holds};
+    ghost use Rattle.atom_names.specs.Rows.{names_of, NamesHold};
 
     ghost view = { λ a. names_of a.rows.items a.count };
 
-    ghost invariant = { λ a. Holds a.rows.items a.table a.count };
+    ghost invariant = { λ a. NamesHold a.rows.items a.table a.count };
 }
 
 impl AtomNames {

@@ -20,7 +20,7 @@ ghost use Rattle.std.specs.Prelude.{
   slice_index_or,
 };
 ghost use Rattle.atom_names.specs.Rows.{AreShort, name_of};
-ghost use Rattle.atom_names.specs.Slots.{Finds, IsFree};
+ghost use Rattle.atom_names.specs.Slots.{FindsSlot, IsFreeSlot};
 
 use crate::names::MOST_NAMES;
 use crate::row::{Row, name_in};
@@ -40,7 +40,7 @@ pub(crate) struct Table {
 impl Table {
     /// A table of free slots.
     pub(crate) fn new(alloc: Global) -> Result<Table, AllocError>
-        ensures { IfOk result (λ table. (names : List (List ℕ)) → Finds names 0 table.slots.items table.places.items) }
+        ensures { IfOk result (λ table. (names : List (List ℕ)) → FindsSlot names 0 table.slots.items table.places.items) }
     {
         let slots = vec![in alloc; 0; SLOTS]?;
         let places = vec![in alloc; 0; MOST_NAMES]?;
@@ -51,10 +51,10 @@ impl Table {
     pub(crate) fn find(&self, rows: &[Row], name: &[u8]) -> Result<usize, usize>
         requires few { length rows.now ≤ MOST_NAMES }
         requires short { AreShort rows.now }
-        requires finds { Finds (map name_of rows.now) (length rows.now) self.now.slots.items self.now.places.items }
+        requires finds { FindsSlot (map name_of rows.now) (length rows.now) self.now.slots.items self.now.places.items }
         ensures inside { IfOk result (λ k. k < length rows.now) }
         ensures there { IfOk result (λ k. slice_index_or (map name_of rows.now) k [] ≡ name.now) }
-        ensures free { IfErr result (λ slot. IsFree name.now self.now.slots.items slot) }
+        ensures free { IfErr result (λ slot. IsFreeSlot name.now self.now.slots.items slot) }
         ensures new { IfErr result
             (λ _. (k : ℕ) → k < length rows.now → slice_index_or (map name_of rows.now) k [] ≢ name.now) }
     {
@@ -91,8 +91,8 @@ impl Table {
         requires slots_room { length self.old.slots.items ≡ 65536 }
         requires places_room { length self.old.places.items ≡ MOST_NAMES }
         requires placed { (k : ℕ) → k < count → slice_index self.old.places.items k < 65536 }
-        ensures { (names : List (List ℕ)) → Finds names count self.old.slots.items self.old.places.items →
-            Finds names first self.new.slots.items self.new.places.items }
+        ensures { (names : List (List ℕ)) → FindsSlot names count self.old.slots.items self.old.places.items →
+            FindsSlot names first self.new.slots.items self.new.places.items }
     {
         let mut number = count;
         while number > first {

@@ -5,25 +5,25 @@ use Rattle.std.proofs.lemmas.Bool.Decides.{nat_tests}
 use Rattle.term_tags.specs.Words.{head_word}
 use Rattle.term_tags.specs.Table.{layout_for}
 use Rattle.term_tags.specs.declared.layouts.TheConstants.{HOLDER}
-use Rattle.term_tags.proofs.Rows.{layout_fun, layout_holder}
+use Rattle.term_tags.proofs.Rows.{layout-fun, layout-holder}
 use Rattle.term_words.specs.Role.{NEXT, COUNT, FIRST, FURTHER, NAMES, RECORD, OfObject, OfRecord}
 use Rattle.term_words.specs.Object.{IsRecord}
 use Rattle.term_words.specs.Counted.{In, Distinct}
 use Rattle.term_words.specs.Reach.{first_of}
-use Rattle.term_words.proofs.Apart.{head-no-header}
-use Rattle.term_words.proofs.Members.{true-or-false}
-use Rattle.term_words.proofs.Reached.{reached}
-use Rattle.term_words.proofs.Roles.{object-role, first-role}
+use Rattle.term_words.proofs.Placing.Apart.{head-no-header}
+use Rattle.term_words.proofs.Totals.Members.{true-or-false}
+use Rattle.term_words.proofs.Reaching.Reached.{reached}
+use Rattle.term_words.proofs.Placing.Roles.{object-role, first-role}
 use Rattle.shared_rec.proofs.Records.{record-same, record-length, record-counted}
 use Rattle.off_heap_list.specs.Links.{names_it, name_place, named, naming, IsLinkHeader, IsLink, Links}
 use Rattle.off_heap_list.specs.Swept.{is_moved, new_place, lies_at, lying, IsReadAt, IsOld, Sweeping}
-use Rattle.off_heap_list.proofs.Chained.{leads-stays}
-use Rattle.off_heap_list.proofs.Sweeping.{lies-moved, lies-left}
+use Rattle.off_heap_list.proofs.Chaining.Chained.{leads-stays}
+use Rattle.off_heap_list.proofs.Walked.Sweeping.{lies-moved, lies-left}
 use Rattle.cheney.specs.Plan.{Plan, Ready, Reached, Leaves, IsOutside, size, first}
 use Rattle.cheney.specs.Moved.{forward}
 use Rattle.cheney.specs.Collected.{Collected, IsMoved, IsLeftOrMoved}
 use Rattle.cheney.specs.Next.{HasRoles, IsCarried, Remains}
-use Rattle.cheney.proofs.Basics.{not-both, forward-boxed, size-boxed, first-boxed}
+use Rattle.cheney.proofs.Before.Basics.{not-both, forward-boxed, size-boxed, first-boxed}
 use Rattle.chain_sweep.specs.Follows.{Sweepable}
 
 -- The word that names a record, counted from the object.
@@ -67,8 +67,8 @@ header-words h (inl e) = omega (arith, e)
 header-words h (inr (k, (few, e))) = omega (arith, e)
 
 header-first : (h n : ℕ) → IsLinkHeader h → first_of (layout_for h) n ≡ 6
-header-first h n (inl e) = ap (λ x. first_of (layout_for x) n) e ∙ ap (λ x. first_of x n) layout_holder
-header-first h n (inr (k, (few, e))) = ap (λ x. first_of (layout_for x) n) e ∙ ap (λ x. first_of x n) (layout_fun k few)
+header-first h n (inl e) = ap (λ x. first_of (layout_for x) n) e ∙ ap (λ x. first_of x n) layout-holder
+header-first h n (inr (k, (few, e))) = ap (λ x. first_of (layout_for x) n) e ∙ ap (λ x. first_of x n) (layout-fun k few)
 
 -- An object that lies at a place as it lay at another one.
 module _ (c d : ℕ → ℕ → Bool) (old new : List ℕ) (o y : ℕ) (l : IsLink c old o) (some : 0 < y) (within : y + 6 ≤ length new) (head : get_or new y 0 ≡ get_or old o 0)

@@ -8,13 +8,13 @@ use Rattle.off_heap_list.specs.Links.{named, IsLink, Links}
 use Rattle.off_heap_list.specs.Swept.{is_moved, new_place}
 use Rattle.off_heap_list.specs.Whole.{moved_of, SweptWhole}
 use Rattle.off_heap_list.specs.declared.whole.Survivors.{Survivors}
-use Rattle.off_heap_list.proofs.Chained.{link-named}
-use Rattle.record_move.specs.Copies.{record_words, CanMove}
+use Rattle.off_heap_list.proofs.Chaining.Chained.{link-named}
+use Rattle.record_move.specs.Copies.{record_words, RecordsCanMove}
 use Rattle.cheney.specs.Plan.{Plan, Ready, Reached, Leaves}
 use Rattle.cheney.specs.Collected.{Collected, IsMoved}
 use Rattle.cheney.specs.Next.{HasRoles, IsCarried}
-use Rattle.cheney.proofs.Basics.{not-both}
-use Rattle.chain_sweep.specs.Follows.{Sweepable, HasRoom}
+use Rattle.cheney.proofs.Before.Basics.{not-both}
+use Rattle.chain_sweep.specs.Follows.{Sweepable, RecordsHaveRoom}
 use Rattle.chain_sweep.proofs.Leaving.{which, left-not, new-link, new-named, record-goes}
 
 -- An object of the new chain was moved from one of the old one.
@@ -39,7 +39,7 @@ total-same f g (v ∷ vs) same = omega (arith, same v (inl refl), total-same f g
 
 pub can-move : (p : Plan) (m : List ℕ) (top : Bool → ℕ) (s : ℕ → ℕ → Bool) (r : HasRoles p m s) (head : ℕ) (os : List ℕ) → Ready p → Collected p m top → Sweepable p s os []
     → Links p.test p.start head os [] → (mem kept : List ℕ) (left : Survivors) → SweptWhole r.test m mem os kept [] left → ((q : ℕ) → In q kept → In q (moved_of m os)) → (low high : ℕ)
-    → HasRoom p s top os low high → CanMove r.test mem left.first kept low high
+    → RecordsHaveRoom p s top os low high → RecordsCanMove r.test mem left.first kept low high
 can-move p m top s r head os y w x l mem kept left z among low high h = record {
   single = r.single;
   links = z.links;

@@ -17,7 +17,7 @@ pub record Sweepable (p : Plan) (s : ℕ → ℕ → Bool) (os further : List �
 
 -- The words from `low` up to `high` are free after the collection, and hold the records that the reached objects of the chain
 -- name, each once.
-pub record HasRoom (p : Plan) (s : ℕ → ℕ → Bool) (top : Bool → ℕ) (os : List ℕ) (low high : ℕ) : Type 0 where
+pub record RecordsHaveRoom (p : Plan) (s : ℕ → ℕ → Bool) (top : Bool → ℕ) (os : List ℕ) (low high : ℕ) : Type 0 where
   pub rooms : (b : Bool) → (top b ≤ low) ⊎ (high ≤ p.low b)
   pub clear : (a k : ℕ) → s a k ≡ true → (a < low) ⊎ (high ≤ a)
   pub order : low ≤ high

@@ -8,8 +8,8 @@ ghost use Rattle.cheney.specs.Next.{HasRoles, Remains};
 ghost use Rattle.term_words.specs.Counted.{In};
 ghost use Rattle.off_heap_list.specs.Whole.{moved_of, SweptWhole};
 ghost use Rattle.off_heap_list.specs.declared.whole.Survivors.{Survivors};
-ghost use Rattle.record_move.specs.Copies.{CanMove};
-ghost use Rattle.chain_sweep.specs.Follows.{Sweepable, HasRoom};
+ghost use Rattle.record_move.specs.Copies.{RecordsCanMove};
+ghost use Rattle.chain_sweep.specs.Follows.{Sweepable, RecordsHaveRoom};
 
 /// After a collection its chain can be swept, by the test of roles under which the new roots stand: each object of the chain
 /// was moved, with its words but the first, or left behind, and all records stayed.
@@ -24,5 +24,5 @@ pub fn swept_records_can_move()
     ensures { (p : Plan) (m : List ℕ) (top : Bool → ℕ) (s : ℕ → ℕ → Bool) (r : HasRoles p m s) (head : ℕ) (os : List ℕ) → Ready p → Collected p m top
         → Sweepable p s os [] → Links p.test p.start head os []
         → (mem kept : List ℕ) (left : Survivors) → SweptWhole r.test m mem os kept [] left → ((q : ℕ) → In q kept → In q (moved_of m os))
-        → (low high : ℕ) → HasRoom p s top os low high → CanMove r.test mem left.first kept low high }
+        → (low high : ℕ) → RecordsHaveRoom p s top os low high → RecordsCanMove r.test mem left.first kept low high }
 {}

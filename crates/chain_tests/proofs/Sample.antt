@@ -13,23 +13,23 @@ use Rattle.term_words.specs.Role.{roles_of}
 use Rattle.term_words.specs.Object.{byte_of, BytesLie, IsObject, IsPointer, object_words}
 use Rattle.term_words.specs.Reach.{Reach, root, part, first_traced}
 use Rattle.term_words.specs.Stands.{Stands, RowStands, KeysStand, ValuesStand, AllStand}
-use Rattle.term_words.proofs.Rooms.{role-at}
+use Rattle.term_words.proofs.Framing.Rooms.{role-at}
 use Rattle.word_mem.specs.declared.ranges.Room.{Room}
 use Rattle.word_mem.specs.declared.ranges.Span.{Span}
 use Rattle.cheney.specs.declared.stay.Stay.{Stay}
 use Rattle.cheney.specs.Spans.{in_span, in_spans}
 use Rattle.cheney.specs.Ranges.{stays}
 use Rattle.term_words.specs.Counted.{In}
-use Rattle.cheney.specs.Plan.{Plan, Ready, Reached, Leaves, Fits, size, first}
+use Rattle.cheney.specs.Plan.{Plan, Ready, Reached, Leaves, RoomFits, size, first}
 use Rattle.cheney.specs.declared.moving.Moving.{Moving}
 use Rattle.cheney.specs.Rooms.{Runs, top_of}
-use Rattle.cheney.specs.Collected.{Begins, CanCollect, Collected, used}
-use Rattle.cheney.specs.Next.{Ended, GoesOn, HasRoles, Remains, Succeeds}
+use Rattle.cheney.specs.Collected.{CanStart, CanCollectRow, Collected, used}
+use Rattle.cheney.specs.Next.{Ended, CollectionGoesOn, HasRoles, Remains, Succeeds}
 use Rattle.cheney.specs.Roots.{AreRoots, CanMovePlaces, PlacesEvacuated}
 use Rattle.cheney.specs.Calls.{CanScan}
 use Rattle.cheney.specs.Zones.{Marks, at_objects}
-use Rattle.cheney.proofs.Rows.{start-runs, starts}
-use Rattle.cheney.proofs.Next.{fits-again, has-roles, ready-again}
+use Rattle.cheney.proofs.Rooted.Rows.{start-runs, starts}
+use Rattle.cheney.proofs.After.Next.{fits-again, has-roles, ready-again}
 
 abbrev pub sample : List ℕ
 sample = 0 ∷ 31 ∷ 59 ∷ 128 ∷ 331 ∷ 5 ∷ 164 ∷ 3 ∷ 591879 ∷ 86 ∷ 1 ∷ 1 ∷ 2 ∷ 513 ∷ 352 ∷ 2 ∷ 0 ∷ 9 ∷ 0 ∷ 0 ∷ 296 ∷ 1 ∷ 1 ∷ 0 ∷ 58 ∷ 71 ∷ 770 ∷ 1 ∷ 0 ∷ 404 ∷ 25 ∷ 0 ∷ 2 ∷ 1 ∷ 19 ∷ 79 ∷ 64 ∷
@@ -375,7 +375,7 @@ to-aged = 5 ∷ 14 ∷ 26 ∷ []
 abbrev to-young : List ℕ
 to-young = 58 ∷ 82 ∷ 118 ∷ 154 ∷ 182 ∷ 190 ∷ 194 ∷ 146 ∷ []
 
-fits-there : (b : Bool) → Fits plan b
+fits-there : (b : Bool) → RoomFits plan b
 unfolding every has room-test size same_bool
 fits-there true = record {
   each = to-aged;
@@ -412,7 +412,7 @@ first-rooms stay aged young = record { stay = stay; from_space = record { start 
 
 pub begins-there : {E : Type 0} (r : Result (List ℕ) E) (m : List ℕ) (none stay : Stay) (aged young : Room) → r ≡ Ok m → IfOk r (λ x. x ≡ sample) → none.spans.items ≡ [] →
     ((q : ℕ) → stays stay q ≡ (stays none q || in_span kept q))
-    → aged ≡ record { start = 51; top = 51; end = 60 } → young ≡ record { start = 60; top = 60; end = 91 } → Begins plan m (first-rooms stay aged young) roots
+    → aged ≡ record { start = 51; top = 51; end = 60 } → young ≡ record { start = 60; top = 60; end = 91 } → CanStart plan m (first-rooms stay aged young) roots
 begins-there {E} r m none stay aged young e h n s a y =
     let P : Result (List ℕ) E → Type 0 = λ x. IfOk x (λ z. z ≡ sample) in
     let same : m ≡ sample = subst P e h in
@@ -435,7 +435,7 @@ begins-there {E} r m none stay aged young e h n s a y =
 
 pub can-collect : {E : Type 0} (r : Result (List ℕ) E) (m : List ℕ) (none stay : Stay) (aged young : Room) → r ≡ Ok m → IfOk r (λ x. x ≡ sample) → none.spans.items ≡ [] →
     ((q : ℕ) → stays stay q ≡ (stays none q || in_span kept q))
-    → aged ≡ record { start = 51; top = 51; end = 60 } → young ≡ record { start = 60; top = 60; end = 91 } → CanCollect m (first-rooms stay aged young) roots
+    → aged ≡ record { start = 51; top = 51; end = 60 } → young ≡ record { start = 60; top = 60; end = 91 } → CanCollectRow m (first-rooms stay aged young) roots
 can-collect r m none stay aged young e h n s a y = record { plan = plan; begins = begins-there r m none stay aged young e h n s a y }
 
 high-to : (b : Bool) → high b ≤ 91
@@ -452,7 +452,7 @@ stacked : {E : Type 0} (r : Result (List ℕ) E) (m : List ℕ) (none stay : Sta
 stacked {E} r m none stay aged young e h n s a y =
     let P : Result (List ℕ) E → Type 0 = λ x. IfOk x (λ z. z ≡ sample) in
     let same : m ≡ sample = subst P e h in
-    let b : Begins plan m (first-rooms stay aged young) roots = begins-there r m none stay aged young e h n s a y in
+    let b : CanStart plan m (first-rooms stay aged young) roots = begins-there r m none stay aged young e h n s a y in
     let there : (j : ℕ) → j < 13 → get_or m (91 + j * 1) 0 ≡ get_or roots j 0 = λ j less.
     let at : 91 + j * 1 ≡ 91 + j = omega arith in
     ap (λ z. get_or z (91 + j * 1) 0) same ∙ ap (λ z. get_or sample z 0) at ∙ stacked-root j less in
@@ -482,7 +482,7 @@ pub stack-scans : {E : Type 0} (r : Result (List ℕ) E) (m m2 : List ℕ) (none
     → ((p : Plan) (k : Marks) → Runs p m (first-rooms stay aged young) k → AreRoots p m 91 1 13 → PlacesEvacuated p m m2 mv2 k 91 1 13) → CanScan m2 mv2
 stack-scans r m m2 none stay aged young mv2 e h n s a y moves =
     let c : CanMovePlaces m (first-rooms stay aged young) 91 1 13 = stack-there r m none stay aged young e h n s a y in
-    let b : Begins plan m (first-rooms stay aged young) roots = begins-there r m none stay aged young e h n s a y in
+    let b : CanStart plan m (first-rooms stay aged young) roots = begins-there r m none stay aged young e h n s a y in
     let run : Runs plan m (first-rooms stay aged young) (at_objects aged.start young.start) = start-runs plan m (first-rooms stay aged young) roots b in
     record {
       plan = plan;
@@ -558,7 +558,7 @@ unfolding low-again high-again
 room-again m mv o true = (lit≤ tt, inr never-old)
 room-again m mv o false = (lit≤ tt, inl (omega (arith, o.ends true, o.ends false)))
 
-goes-on : (m ws : List ℕ) (mv : Moving) → Ended plan m mv ws → (r : HasRoles plan m below) → GoesOn plan (plan-again m ws r) m (top_of mv) below r
+goes-on : (m ws : List ℕ) (mv : Moving) → Ended plan m mv ws → (r : HasRoles plan m below) → CollectionGoesOn plan (plan-again m ws r) m (top_of mv) below r
 unfolding low-again high-again
 goes-on m ws mv e r = record {
   succeeds = succeeds m ws mv e r;
@@ -579,11 +579,11 @@ second-rooms stay aged young = record { stay = stay; from_space = record { start
 
 pub can-go-on : (m ws : List ℕ) (mv : Moving) (no_span stay : Stay) (aged young : Room) → Ended plan m mv ws → no_span.spans.items ≡ [] →
     ((q : ℕ) → stays stay q ≡ (stays no_span q || in_span kept q))
-    → aged ≡ record { start = 0; top = 0; end = 0 } → young ≡ record { start = 104; top = 104; end = 144 } → CanCollect m (second-rooms stay aged young) ws
+    → aged ≡ record { start = 0; top = 0; end = 0 } → young ≡ record { start = 104; top = 104; end = 144 } → CanCollectRow m (second-rooms stay aged young) ws
 unfolding low-again high-again
 can-go-on m ws mv no_span stay aged young e n s a y =
     let r : HasRoles plan m below = has-roles plan ready m (top_of mv) e.collected below remains in
-    let on : GoesOn plan (plan-again m ws r) m (top_of mv) below r = goes-on m ws mv e r in
+    let on : CollectionGoesOn plan (plan-again m ws r) m (top_of mv) below r = goes-on m ws mv e r in
     record {
       plan = plan-again m ws r;
       begins = record {

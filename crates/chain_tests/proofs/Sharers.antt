@@ -13,7 +13,7 @@ use Rattle.term_words.specs.Object.{byte_of, BytesLie, IsPointer, IsRecord, IsBi
 use Rattle.term_words.specs.Reach.{Reach, root, part, first_traced}
 use Rattle.term_words.specs.Stands.{Stands, RowStands, AllStand}
 use Rattle.term_words.specs.Counted.{In}
-use Rattle.term_words.proofs.Rooms.{role-at}
+use Rattle.term_words.proofs.Framing.Rooms.{role-at}
 use Rattle.word_mem.specs.declared.ranges.Room.{Room}
 use Rattle.shared_rec.specs.Record.{count_in}
 use Rattle.shared_rec.proofs.Records.{record-first}
@@ -21,17 +21,17 @@ use Rattle.off_heap_list.specs.Links.{named, naming, IsLink, Links}
 use Rattle.off_heap_list.specs.Swept.{Sweeping}
 use Rattle.off_heap_list.specs.Whole.{moved_of, SweptWhole, CanSweep}
 use Rattle.off_heap_list.specs.declared.whole.Survivors.{Survivors}
-use Rattle.off_heap_list.proofs.Chained.{holder-link, fun-link}
-use Rattle.record_move.specs.Copies.{CanMoveAll}
+use Rattle.off_heap_list.proofs.Chaining.Chained.{holder-link, fun-link}
+use Rattle.record_move.specs.Copies.{AllRecordsCanMove}
 use Rattle.cheney.specs.declared.stay.Stay.{Stay}
 use Rattle.cheney.specs.declared.moving.Moving.{Moving}
 use Rattle.cheney.specs.Spans.{in_span, in_spans}
-use Rattle.cheney.specs.Plan.{Plan, Ready, Fits, size}
+use Rattle.cheney.specs.Plan.{Plan, Ready, RoomFits, size}
 use Rattle.cheney.specs.Rooms.{top_of}
-use Rattle.cheney.specs.Collected.{Begins}
+use Rattle.cheney.specs.Collected.{CanStart}
 use Rattle.cheney.specs.Next.{Ended, HasRoles, Remains}
-use Rattle.cheney.proofs.Next.{has-roles}
-use Rattle.chain_sweep.specs.Follows.{Sweepable, HasRoom}
+use Rattle.cheney.proofs.After.Next.{has-roles}
+use Rattle.chain_sweep.specs.Follows.{Sweepable, RecordsHaveRoom}
 use Rattle.chain_sweep.proofs.Leaving.{leaves-sweep}
 use Rattle.chain_sweep.proofs.Room.{can-move}
 
@@ -330,7 +330,7 @@ pointers-known v (inr (inr (inl e))) t = inr (inr (inl e))
 pointers-known v (inr (inr (inr (inl e)))) t = absurd (omega (arith, e, t))
 pointers-known v (inr (inr (inr (inr i)))) t = absurd i
 
-fits-there : (b : Bool) → Fits plan b
+fits-there : (b : Bool) → RoomFits plan b
 unfolding size
 fits-there true = record { each = []; all = λ w r l goes. absurd (true≢false (sym goes)); words = lit≤ tt }
 fits-there false = record { each = 10 ∷ 82 ∷ 110 ∷ []; all = λ w r l goes. pointers-known w (found w r) l.pointer; words = lit≤ tt }
@@ -454,7 +454,7 @@ none-mature : (q : ℕ) → in_span (record { start = 0; end = 0 }) q ≡ false
 none-mature q = grind (arith, nat_tests)
 
 pub begins-there : {E : Type 0} (r : Result (List ℕ) E) (m : List ℕ) (none : Stay) (aged young : Room) → r ≡ Ok m → IfOk r (λ x. x ≡ sample) → none.spans.items ≡ []
-    → aged ≡ record { start = 64; top = 64; end = 64 } → young ≡ record { start = 66; top = 66; end = 100 } → Begins plan m (rooms-of none aged young) roots
+    → aged ≡ record { start = 64; top = 64; end = 64 } → young ≡ record { start = 66; top = 66; end = 100 } → CanStart plan m (rooms-of none aged young) roots
 begins-there {E} r m none aged young e h n a y =
     let P : Result (List ℕ) E → Type 0 = λ x. IfOk x (λ z. z ≡ sample) in
     record {
@@ -508,7 +508,7 @@ module _ (m : List ℕ) (mv : Moving) (ws : List ℕ) (done : Ended plan m mv ws
   pub can-sweep : CanSweep m 27 5
   can-sweep = record { test = roles-after.test; single = roles-after.single; os = chain; further = []; number = refl; begins = sweeps }
 
-  room : HasRoom plan remaining (top_of mv) chain 100 128
+  room : RecordsHaveRoom plan remaining (top_of mv) chain 100 128
   room = record {
     rooms = λ b. inl (omega (arith, done.collected.ends b, high-to b));
     clear = λ a k h. inl (omega (arith, has-role a k (remaining-is a k h).1));
@@ -521,7 +521,7 @@ module _ (m : List ℕ) (mv : Moving) (ws : List ℕ) (done : Ended plan m mv ws
   }
 
   pub can-move-all : (mem : List ℕ) (left : Survivors) → ((c : ℕ → ℕ → Bool) (os further : List ℕ) → IsSingle c → length os ≡ 5 → Sweeping c m 27 os 0 [] 0 [] further
-      → SweptWhole c m mem os (moved_of m os) further left) → CanMoveAll mem left.first left.len 128
+      → SweptWhole c m mem os (moved_of m os) further left) → AllRecordsCanMove mem left.first left.len 128
   can-move-all mem left swept =
       let w : SweptWhole roles-after.test m mem chain (moved_of m chain) [] left = swept roles-after.test chain [] roles-after.single refl sweeps in
       record {

@@ -119,7 +119,7 @@ ScansObjects mem mem2 mv mv2 room place next = (p : Plan) (k : Marks) → Runs p
     → place < top_of mv room → RunsOn p mem mem2 mv2 (mark k room next next)
 
 -- A cons that was copied a moment ago lies at the place of the room, with this head and this tail, and is not scanned.
-pub record IsNext (mem : List ℕ) (mv : Moving) (room : Bool) (place head tail : ℕ) : Type 0 where
+pub record IsFreshCons (mem : List ℕ) (mv : Moving) (room : Bool) (place head tail : ℕ) : Type 0 where
   pub head_is : head ≡ slice_index mem place
   pub tail_is : tail ≡ slice_index mem (place + 1)
   pub no_header : head % 4 ≡ 0 → ⊥

@@ -7,7 +7,7 @@ use Rattle.term_words.specs.Object.{IsPointer}
 use Rattle.term_words.specs.Reach.{Reach}
 use Rattle.term_words.specs.Stands.{Stands, stands, AllStand}
 use Rattle.cheney.specs.declared.moving.Moving.{Moving}
-use Rattle.cheney.specs.Rooms.{Agrees}
+use Rattle.cheney.specs.Rooms.{RoomsAgree}
 use Rattle.term_words.specs.Counted.{In}
 use Rattle.cheney.specs.Plan.{Plan, Ready, Reached, Leaves, IsIn, IsNoTail, size, first}
 use Rattle.cheney.specs.Moved.{moved, forward, IsImage}
@@ -33,7 +33,7 @@ pub record IsFilled (p : Plan) (m : List ℕ) (b : Bool) (top : ℕ) : Type 0 wh
 
 -- The test allows each word of a moved object at its new place what the plan's test allows it at the old one, and allows
 -- what stays, and the records, no less.
-pub record Follows (p : Plan) (m : List ℕ) (d : ℕ → ℕ → Bool) : Type 0 where
+pub record FollowsMoves (p : Plan) (m : List ℕ) (d : ℕ → ℕ → Bool) : Type 0 where
   pub moves : (v j q k : ℕ) → Reached p v → Leaves p v → j < size p v → q ≡ forward m v / 4 + j → p.test (v / 4 + j) k ≡ true → d q k ≡ true
   pub stays : (v q k : ℕ) → Reached p v → IsPointer v → p.stay (v / 4) ≡ true → IsIn p v q → p.test q k ≡ true → d q k ≡ true
   pub counts : (a : ℕ) → p.test a COUNT ≡ true → d a COUNT ≡ true
@@ -74,9 +74,9 @@ pub record Collected (p : Plan) (m : List ℕ) (top : Bool → ℕ) : Type 0 whe
   pub filled : (b : Bool) → IsFilled p m b (top b)
   pub ends : (b : Bool) → top b ≤ p.high b
   pub words : used p top ≤ flat_of_all p.trees
-  pub trees : (d : ℕ → ℕ → Bool) → Follows p m d → (w x : ℕ) (t : Tree) → Reached p w → IsImage p m w x → Stands p.test p.shared p.start w t
+  pub trees : (d : ℕ → ℕ → Bool) → FollowsMoves p m d → (w x : ℕ) (t : Tree) → Reached p w → IsImage p m w x → Stands p.test p.shared p.start w t
       → Stands d p.shared m x t
-  pub roots : (d : ℕ → ℕ → Bool) → Follows p m d → (ws : List ℕ) → AreImages p m ws → AllStand d p.shared m ws p.trees
+  pub roots : (d : ℕ → ℕ → Bool) → FollowsMoves p m d → (ws : List ℕ) → AreImages p m ws → AllStand d p.shared m ws p.trees
   pub standing : (w x : ℕ) (t : Tree) → Reached p w → IsImage p m w x → Stands p.test p.shared p.start w t → stands p.shared m x t
   pub still : (v q : ℕ) → Reached p v → IsPointer v → p.stay (v / 4) ≡ true → IsIn p v q → slice_index m q ≡ slice_index p.start q
   pub tails : (v q : ℕ) → Reached p v → Leaves p v → v % 4 ≡ 2 → IsIn p v q → v / 4 < q → slice_index m q ≡ slice_index p.start q
@@ -98,15 +98,15 @@ pub record IsBeside (p : Plan) (old new : List ℕ) (top : Bool → ℕ) : Type 
   pub words : (a k : ℕ) → p.test a k ≡ true → slice_index new a ≡ slice_index old a
 
 -- A collection by this plan can begin from these roots, with two empty rooms.
-pub record Begins (p : Plan) (mem : List ℕ) (mv : Moving) (ws : List ℕ) : Type 0 where
+pub record CanStart (p : Plan) (mem : List ℕ) (mv : Moving) (ws : List ℕ) : Type 0 where
   pub memory : p.start ≡ mem
   pub words : p.roots ≡ ws
   pub ready : Ready p
-  pub agrees : Agrees p mv
+  pub agrees : RoomsAgree p mv
   pub aged_empty : mv.aged.top ≡ mv.aged.start
   pub young_empty : mv.young.top ≡ mv.young.start
 
 -- A collection can begin from these roots.
-pub record CanCollect (mem : List ℕ) (mv : Moving) (ws : List ℕ) : Type 0 where
+pub record CanCollectRow (mem : List ℕ) (mv : Moving) (ws : List ℕ) : Type 0 where
   pub plan : Plan
-  pub begins : Begins plan mem mv ws
+  pub begins : CanStart plan mem mv ws

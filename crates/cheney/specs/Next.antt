@@ -5,11 +5,11 @@ use Rattle.term_words.specs.Role.{COUNT, RECORD, IsSingle}
 use Rattle.term_words.specs.Tiled.{Tiled}
 use Rattle.cheney.specs.declared.moving.Moving.{Moving}
 use Rattle.term_words.specs.Counted.{In}
-use Rattle.cheney.specs.Plan.{Plan, Reached, Leaves, Fits, IsIn, IsOutside, size}
+use Rattle.cheney.specs.Plan.{Plan, Reached, Leaves, RoomFits, IsIn, IsOutside, size}
 use Rattle.cheney.specs.Moved.{forward}
 use Rattle.cheney.specs.Zones.{at_objects}
 use Rattle.cheney.specs.Rooms.{Runs, top_of}
-use Rattle.cheney.specs.Collected.{AreImages, Collected, Follows, RootsMoved}
+use Rattle.cheney.specs.Collected.{AreImages, Collected, FollowsMoves, RootsMoved}
 
 -- A whole collection has ended, and the words are the new roots: what it has done is known, and another may follow.
 pub record Ended (p : Plan) (m : List ℕ) (mv : Moving) (ws : List ℕ) : Type 0 where
@@ -39,7 +39,7 @@ pub record Remains (p : Plan) (s : ℕ → ℕ → Bool) : Type 0 where
 pub record HasRoles (p : Plan) (m : List ℕ) (s : ℕ → ℕ → Bool) : Type 0 where
   pub test : ℕ → ℕ → Bool
   pub single : IsSingle test
-  pub follows : Follows p m test
+  pub follows : FollowsMoves p m test
   pub kept : (a k : ℕ) → p.test a k ≡ true → s a k ≡ true → test a k ≡ true
   pub comes : (a k : ℕ) → test a k ≡ true → IsCarried p m a k ⊎ ((p.test a k ≡ true) × (s a k ≡ true))
 
@@ -59,7 +59,7 @@ pub record Succeeds (p q : Plan) (m : List ℕ) : Type 0 where
 
 -- It goes on with these roles and the same trees: the rooms in use hold nothing that stays, they and what s keeps are
 -- clear of the new rooms, and these are apart and hold what goes there.
-pub record GoesOn (p q : Plan) (m : List ℕ) (top : Bool → ℕ) (s : ℕ → ℕ → Bool) (r : HasRoles p m s) : Type 0 where
+pub record CollectionGoesOn (p q : Plan) (m : List ℕ) (top : Bool → ℕ) (s : ℕ → ℕ → Bool) (r : HasRoles p m s) : Type 0 where
   pub succeeds : Succeeds p q m
   pub shared : q.shared ≡ p.shared
   pub trees : q.trees ≡ p.trees
@@ -70,4 +70,4 @@ pub record GoesOn (p q : Plan) (m : List ℕ) (top : Bool → ℕ) (s : ℕ → 
   pub rooms : (q.high true ≤ q.low false) ⊎ (q.high false ≤ q.low true)
   pub order : (b : Bool) → q.low b ≤ q.high b
   pub inside : (b : Bool) → q.high b ≤ length m
-  pub fits : (b : Bool) → Fits q b
+  pub fits : (b : Bool) → RoomFits q b

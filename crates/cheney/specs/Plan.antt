@@ -51,13 +51,13 @@ abbrev pub IsNoTail : Plan → ℕ → Type 0
 IsNoTail p q = (v : ℕ) → Reached p v → v % 4 ≡ 1 → q ≡ v / 4 + 1 → p.stay (v / 4) ≡ true
 
 -- The object lies between two places, and all its places pass the test.
-pub record LiesIn (p : Plan) (s : ℕ → Bool) (from to w : ℕ) : Type 0 where
+pub record LiesBetween (p : Plan) (s : ℕ → Bool) (from to w : ℕ) : Type 0 where
   pub above : from ≤ w / 4
   pub below : w / 4 + size p w ≤ to
   pub passes : (q : ℕ) → IsIn p w q → s q ≡ true
 
 -- The room holds the objects that go there, each once.
-pub record Fits (p : Plan) (room : Bool) : Type 0 where
+pub record RoomFits (p : Plan) (room : Bool) : Type 0 where
   pub each : List ℕ
   pub all : (w : ℕ) → Reached p w → Leaves p w → p.mature (w / 4) ≡ room → In w each
   pub words : p.low room + total (size p) each ≤ p.high room
@@ -72,4 +72,4 @@ pub record Ready (p : Plan) : Type 0 where
   pub rooms : (p.high true ≤ p.low false) ⊎ (p.high false ≤ p.low true)
   pub order : (b : Bool) → p.low b ≤ p.high b
   pub inside : (b : Bool) → p.high b ≤ length p.start
-  pub fits : (b : Bool) → Fits p b
+  pub fits : (b : Bool) → RoomFits p b

@@ -12,7 +12,7 @@ top_of mv true = mv.aged.top
 top_of mv false = mv.young.top
 
 -- The rooms, the places that stay and those that go to the aged room are those of the plan, and nothing stays in the from-space.
-pub record Agrees (p : Plan) (mv : Moving) : Type 0 where
+pub record RoomsAgree (p : Plan) (mv : Moving) : Type 0 where
   pub stay : (q : ℕ) → stays mv.stay q ≡ p.stay q
   pub moves : (q : ℕ) → in_span mv.from_space q ≡ true → p.stay q ≡ false
   pub mature : (q : ℕ) → in_span mv.mature q ≡ p.mature q
@@ -28,7 +28,7 @@ FromMoves mv = (q : ℕ) → in_span mv.from_space q ≡ true → stays mv.stay 
 -- A collection by this plan has come to these marks.
 pub record Runs (p : Plan) (mem : List ℕ) (mv : Moving) (k : Marks) : Type 0 where
   pub ready : Ready p
-  pub agrees : Agrees p mv
+  pub agrees : RoomsAgree p mv
   pub holds : Invariant p mem (top_of mv) k
 
 -- One room has n words more in use; all else is as before.

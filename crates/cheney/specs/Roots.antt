@@ -23,7 +23,7 @@ pub record AllEvacuated (p : Plan) (mem mem2 : List ℕ) (mv2 : Moving) (k : Mar
   pub images : AllImages p mem2 ws xs
 
 -- The place lies in the memory and in neither room, and no word of an object or a record lies there.
-pub record IsFree (p : Plan) (place : ℕ) : Type 0 where
+pub record IsFreePlace (p : Plan) (place : ℕ) : Type 0 where
   pub inside : place < length p.start
   pub outside : IsOutside p place
   pub none : (k : ℕ) → p.test place k ≡ true → ⊥
@@ -33,7 +33,7 @@ pub record CanMoveAt (mem : List ℕ) (mv : Moving) (place : ℕ) : Type 0 where
   pub plan : Plan
   pub marks : Marks
   pub runs : Runs plan mem mv marks
-  pub free : IsFree plan place
+  pub free : IsFreePlace plan place
   pub reached : Reached plan (slice_index mem place)
 
 -- It is this place.
@@ -58,7 +58,7 @@ words_at mem from step (suc n) = slice_index mem from ∷ words_at mem (from + s
 
 -- The places are free, and the roots reach the words there.
 pub record AreRoots (p : Plan) (mem : List ℕ) (from step n : ℕ) : Type 0 where
-  pub free : (j : ℕ) → j < n → IsFree p (from + j * step)
+  pub free : (j : ℕ) → j < n → IsFreePlace p (from + j * step)
   pub reached : (j : ℕ) → j < n → Reached p (slice_index mem (from + j * step))
 
 -- A collection runs, and words at such places are roots.

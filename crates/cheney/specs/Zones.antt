@@ -55,12 +55,12 @@ pub record Gone (p : Plan) (m : List ℕ) (top scanned : Bool → ℕ) (v x : �
       → IsImage p m (slice_index p.start (v / 4 + j)) (slice_index m q)
 
 -- A row of whole copies, of some list of objects.
-pub record IsRow (p : Plan) (m : List ℕ) (room : Bool) (place top : ℕ) : Type 0 where
+pub record IsRowOfCopies (p : Plan) (m : List ℕ) (room : Bool) (place top : ℕ) : Type 0 where
   pub each : List ℕ
   pub row : Row p m room place each top
 
 -- The objects of this room that were not moved yet fit, each once.
-pub record Holds (p : Plan) (m : List ℕ) (room : Bool) (place : ℕ) : Type 0 where
+pub record StillFits (p : Plan) (m : List ℕ) (room : Bool) (place : ℕ) : Type 0 where
   pub each : List ℕ
   pub all : (w : ℕ) → Reached p w → Leaves p w → p.mature (w / 4) ≡ room → moved m w ≡ false → In w each
   pub words : place + total (size p) each ≤ p.high room
@@ -88,9 +88,9 @@ pub record Invariant (p : Plan) (m : List ℕ) (top : Bool → ℕ) (k : Marks) 
   pub gone : (v : ℕ) → Reached p v → Leaves p v → moved m v ≡ true → Gone p m top (scanned_at k) v (forward m v)
   pub apart : (v w : ℕ) → Reached p v → Leaves p v → moved m v ≡ true → Reached p w → Leaves p w → moved m w ≡ true → p.mature (v / 4) ≡ p.mature (w / 4)
       → (v ≡ w) ⊎ ((forward m v / 4 + size p v ≤ forward m w / 4) ⊎ (forward m w / 4 + size p w ≤ forward m v / 4))
-  pub whole : (b : Bool) → IsRow p m b (p.low b) (top b)
-  pub left : (b : Bool) → IsRow p m b (object_at k b) (top b)
-  pub fits : (b : Bool) → Holds p m b (top b)
+  pub whole : (b : Bool) → IsRowOfCopies p m b (p.low b) (top b)
+  pub left : (b : Bool) → IsRowOfCopies p m b (object_at k b) (top b)
+  pub fits : (b : Bool) → StillFits p m b (top b)
 
 -- The place is that of a traced word in the copy of a moved object that ends at the mark `object`.
 pub record IsPart (p : Plan) (m : List ℕ) (k : Marks) (room : Bool) (place : ℕ) : Type 0 where

@@ -1,7 +1,7 @@
 // A whole collection.
 ghost use Rattle.std.specs.Prelude.{◌≡◌, length};
 ghost use Rattle.cheney.specs.Plan.{Plan};
-ghost use Rattle.cheney.specs.Collected.{Begins, CanCollect};
+ghost use Rattle.cheney.specs.Collected.{CanStart, CanCollectRow};
 ghost use Rattle.cheney.specs.Next.{Ended};
 
 use crate::moving::Moving;
@@ -11,9 +11,9 @@ use word_mem::WordMem;
 
 /// A whole collection from a row of roots, which become the new ones.
 pub fn collect(mem: &mut WordMem, mv: &mut Moving, roots: &mut [u64])
-    requires { CanCollect mem.old mv.old roots.old }
+    requires { CanCollectRow mem.old mv.old roots.old }
     ensures len { length mem.new ≡ length mem.old }
-    ensures done { (p : Plan) → Begins p mem.old mv.old roots.old → Ended p mem.new mv.new roots.new }
+    ensures done { (p : Plan) → CanStart p mem.old mv.old roots.old → Ended p mem.new mv.new roots.new }
 {
     evacuate_all(mem, mv, roots);
     scan(mem, mv);

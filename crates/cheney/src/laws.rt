@@ -6,14 +6,14 @@ ghost use Rattle.cheney.specs.declared.moving.Moving.{Moving};
 ghost use Rattle.term_words.specs.Object.{IsPointer, object_words};
 ghost use Rattle.term_words.specs.Reach.{first_traced};
 ghost use Rattle.term_words.specs.Counted.{In, count, total};
-ghost use Rattle.cheney.specs.Plan.{Fits, IsIn, IsNoTail, IsOutside, Leaves, LiesIn, Plan, Ready, Reached, first, size};
+ghost use Rattle.cheney.specs.Plan.{RoomFits, IsIn, IsNoTail, IsOutside, Leaves, LiesBetween, Plan, Ready, Reached, first, size};
 ghost use Rattle.cheney.specs.Moved.{IsImage, moved};
 ghost use Rattle.cheney.specs.Zones.{Marks, at_objects};
-ghost use Rattle.cheney.specs.Rooms.{Agrees, Runs, top_of};
+ghost use Rattle.cheney.specs.Rooms.{RoomsAgree, Runs, top_of};
 ghost use Rattle.cheney.specs.Calls.{Later, either, nowhere};
 ghost use Rattle.cheney.specs.Collected.{AllImages, AreImages, Collected, Composes, IsBeside, RootsMoved, used};
 ghost use Rattle.cheney.specs.Roots.{in_places, words_at};
-ghost use Rattle.cheney.specs.Next.{GoesOn, HasRoles, IsTiled, Remains, Succeeds};
+ghost use Rattle.cheney.specs.Next.{CollectionGoesOn, HasRoles, IsTiled, Remains, Succeeds};
 
 /// A room holds the objects that go there where it has as many free words as the range that they lie in, whatever they
 /// share, or as the places of that range that pass a test which all words of these objects pass; or as such places and the
@@ -21,19 +21,20 @@ ghost use Rattle.cheney.specs.Next.{GoesOn, HasRoles, IsTiled, Remains, Succeeds
 pub fn counted_places_bound_rooms()
     ensures range { (p : Plan) (b : Bool) (from to : ℕ) → AllStand p.test p.shared p.start p.roots p.trees → IsSingle p.test → from ≤ to
         → ((v : ℕ) → Reached p v → Leaves p v → p.mature (v / 4) ≡ b → (from ≤ v / 4) × (v / 4 + size p v ≤ to)) → p.low b + (to - from) ≤ p.high b
-        → Fits p b }
+        → RoomFits p b }
     ensures places { (p : Plan) (b : Bool) (from to : ℕ) (s : ℕ → Bool) → AllStand p.test p.shared p.start p.roots p.trees → IsSingle p.test → from ≤ to
         → ((v : ℕ) → Reached p v → Leaves p v → p.mature (v / 4) ≡ b → (from ≤ v / 4) × (v / 4 + size p v ≤ to))
-        → ((v q : ℕ) → Reached p v → Leaves p v → p.mature (v / 4) ≡ b → IsIn p v q → s q ≡ true) → p.low b + count s from (to - from) ≤ p.high b → Fits p b }
+        → ((v q : ℕ) → Reached p v → Leaves p v → p.mature (v / 4) ≡ b → IsIn p v q → s q ≡ true) → p.low b + count s from (to - from) ≤ p.high b
+        → RoomFits p b }
     ensures further { (p : Plan) (b : Bool) (from to : ℕ) (s : ℕ → Bool) (others : List ℕ) → AllStand p.test p.shared p.start p.roots p.trees
         → IsSingle p.test → from ≤ to
-        → ((v : ℕ) → Reached p v → Leaves p v → p.mature (v / 4) ≡ b → In v others ⊎ LiesIn p s from to v)
-        → p.low b + (count s from (to - from) + total (size p) others) ≤ p.high b → Fits p b }
+        → ((v : ℕ) → Reached p v → Leaves p v → p.mature (v / 4) ≡ b → In v others ⊎ LiesBetween p s from to v)
+        → p.low b + (count s from (to - from) + total (size p) others) ≤ p.high b → RoomFits p b }
 {}
 
 /// A collection that is ready, with two empty rooms, runs.
 pub fn ready_collections_run()
-    ensures { (p : Plan) (mv : Moving) → Ready p → Agrees p mv → mv.aged.top ≡ mv.aged.start → mv.young.top ≡ mv.young.start
+    ensures { (p : Plan) (mv : Moving) → Ready p → RoomsAgree p mv → mv.aged.top ≡ mv.aged.start → mv.young.top ≡ mv.young.start
         → Runs p p.start mv (at_objects mv.aged.start mv.young.start) }
 {}
 
@@ -124,7 +125,7 @@ pub fn collections_can_follow()
     ensures lies { (p q : Plan) (m : List ℕ) (mv : Moving) → Runs p m mv (at_objects mv.aged.top mv.young.top) → RootsMoved p m → Succeeds p q m
         → (v : ℕ) → Reached q v → Leaves q v → (b : Bool) × ((p.low b ≤ v / 4) × (v / 4 + size q v ≤ top_of mv b)) }
     ensures fits { (p q : Plan) (m : List ℕ) (mv : Moving) → Runs p m mv (at_objects mv.aged.top mv.young.top) → RootsMoved p m → Succeeds p q m
-        → (b : Bool) → q.low b ≤ q.high b → (q.low b + used p (top_of mv) ≤ q.high b) ⊎ ((a : ℕ) → q.mature a ≡ b → ⊥) → Fits q b }
+        → (b : Bool) → q.low b ≤ q.high b → (q.low b + used p (top_of mv) ≤ q.high b) ⊎ ((a : ℕ) → q.mature a ≡ b → ⊥) → RoomFits q b }
     ensures ready { (p q : Plan) (m : List ℕ) (mv : Moving) (s : ℕ → ℕ → Bool) → Runs p m mv (at_objects mv.aged.top mv.young.top) → RootsMoved p m
-        → (r : HasRoles p m s) → GoesOn p q m (top_of mv) s r → Ready q }
+        → (r : HasRoles p m s) → CollectionGoesOn p q m (top_of mv) s r → Ready q }
 {}

@@ -4,7 +4,7 @@ ghost use Rattle.term_words.specs.Counted.{In};
 ghost use Rattle.cheney.specs.Plan.{Plan, Reached};
 ghost use Rattle.cheney.specs.Zones.{Marks};
 ghost use Rattle.cheney.specs.Rooms.{Runs};
-ghost use Rattle.cheney.specs.Roots.{AllEvacuated, AreRoots, CanMoveAll, CanMoveAt, CanMovePlaces, EvacuatedAt, IsFree, PlacesEvacuated};
+ghost use Rattle.cheney.specs.Roots.{AllEvacuated, AreRoots, CanMoveAll, CanMoveAt, CanMovePlaces, EvacuatedAt, IsFreePlace, PlacesEvacuated};
 
 use crate::moving::Moving;
 use crate::objects::evacuate;
@@ -28,7 +28,7 @@ pub fn evacuate_all(mem: &mut WordMem, mv: &mut Moving, words: &mut [u64])
 #[inline]
 pub fn evacuate_at(mem: &mut WordMem, mv: &mut Moving, place: u64)
     requires { CanMoveAt mem.old mv.old place }
-    ensures { (p : Plan) (k : Marks) → Runs p mem.old mv.old k → IsFree p place → Reached p (slice_index mem.old place)
+    ensures { (p : Plan) (k : Marks) → Runs p mem.old mv.old k → IsFreePlace p place → Reached p (slice_index mem.old place)
         → EvacuatedAt p mem.old mem.new mv.new k place }
 {
     let _len = mem.len();

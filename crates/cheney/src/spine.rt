@@ -1,6 +1,6 @@
 // Moving a list along its spine.
 ghost use Rattle.std.specs.Prelude.{◌≡◌, ℕ, Bool, ◌+◌, ◌%◌, ◌<◌, slice_index, IfSome, IfNone};
-ghost use Rattle.cheney.specs.Calls.{CanMove, CanOpen, CanStep, IsFresh, IsNext, ScansObjects, ScansWord};
+ghost use Rattle.cheney.specs.Calls.{CanMove, CanOpen, CanStep, IsFresh, IsFreshCons, ScansObjects, ScansWord};
 
 use crate::moving::Moving;
 use crate::objects::{copy_cons, is_in, stays_at};
@@ -50,7 +50,7 @@ fn scan_tail(mem: &mut WordMem, mv: &mut Moving, aged: bool, at: u64, w: u64) ->
     requires can { CanStep mem.old mv.old aged at }
     requires word { w ≡ slice_index mem.old at }
     ensures each { ScansWord mem.old mem.new mv.old mv.new at }
-    ensures next { IfSome result (λ c. IsNext mem.new mv.new aged c.place c.head c.tail) }
+    ensures next { IfSome result (λ c. IsFreshCons mem.new mv.new aged c.place c.head c.tail) }
 {
     let Some((head, tail)) = fresh_cons(mem, mv, w) else {
         scan_word(mem, mv, at, w);

@@ -7,9 +7,9 @@ use Rattle.std.proofs.lemmas.Str.Parse.{tells_all_ascii_digits, numerals_by_valu
 use Rattle.command_line.specs.Values.{number_of}
 
 -- digits have no plus before them
-no_plus : (t : List ℕ) → all_ascii_digits t ≡ true → without_leading_plus t ≡ t
-no_plus [] e = refl
-no_plus (c ∷ cs) e =
+no-plus : (t : List ℕ) → all_ascii_digits t ≡ true → without_leading_plus t ≡ t
+no-plus [] e = refl
+no-plus (c ∷ cs) e =
     let k = tells_all_ascii_digits.parts c cs e in
     without_leading_plus_none (c ∷ cs) (λ plus. absurd (omega (arith, k.0.0, plus)))
 
@@ -18,9 +18,9 @@ numeral : (t : List ℕ) → all_ascii_digits t ≡ true → 0 < length t → Is
 numeral t e some = (some, (numerals_by_value (λ ds. all_ascii_digits ds ≡ true) tells_all_ascii_digits).to t e)
 
 -- a text with another byte than digits is no number
-pub no_number : (t : List ℕ) → all_ascii_digits t ≡ false → None ≡ number_of t
+pub no-number : (t : List ℕ) → all_ascii_digits t ≡ false → None ≡ number_of t
 unfolding number_of
-no_number t e = rw e refl
+no-number t e = rw e refl
 
 -- what std reads of a numeral is its value, where that is below 2^64
 reads : {E : Type 0} (t : List ℕ) (r : Result ℕ E) (some low : Bool) → nat_lt 0 (length t) ≡ some
@@ -40,9 +40,9 @@ reads t (Err x) true true is-some is-low e h =
     absurd (h (numeral t e (ltb-true 0 (length t) is-some), ltb-true (digits_value 10 t) (2 ^ 64) is-low))
 
 -- of digits alone, what std reads is the number
-pub read_number : {E : Type 0} (t : List ℕ) (r : Result ℕ E) → all_ascii_digits t ≡ true → ParsesUnsigned 64 10 t r
+pub read-number : {E : Type 0} (t : List ℕ) (r : Result ℕ E) → all_ascii_digits t ≡ true → ParsesUnsigned 64 10 t r
     → result_ok r ≡ number_of t
 unfolding number_of
-read_number {E} t r e h =
-    let parsed : OkIff r (IsNumeral 10 t × (digits_value 10 t < 2 ^ 64)) (digits_value 10 t) = rw (no_plus t e) at h in
+read-number {E} t r e h =
+    let parsed : OkIff r (IsNumeral 10 t × (digits_value 10 t < 2 ^ 64)) (digits_value 10 t) = rw (no-plus t e) at h in
     rw e (reads t r (nat_lt 0 (length t)) (nat_lt (digits_value 10 t) (2 ^ 64)) refl refl e parsed)

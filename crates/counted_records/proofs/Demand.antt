@@ -12,7 +12,7 @@ use Rattle.plain_machine.specs.Maps.{AllIn}
 use Rattle.term_words.specs.Object.{IsBinRecord, IsFunRecord}
 use Rattle.term_words.specs.Stands.{AllStand}
 use Rattle.term_words.specs.Counted.{In, Distinct, total}
-use Rattle.term_words.proofs.Members.{true-or-false, one-or-not, in-or-not}
+use Rattle.term_words.proofs.Totals.Members.{true-or-false, one-or-not, in-or-not}
 use Rattle.record_move.specs.Copies.{record_words}
 use Rattle.off_heap_list.specs.Links.{named}
 use Rattle.counted_records.specs.Occurs.{AreHeld, NamedOnce, OwnersDiffer, records_for}

@@ -13,11 +13,11 @@ use Rattle.term_words.specs.Object.{IsBinRecord, IsFunRecord}
 use Rattle.term_words.specs.Stands.{Stands, RowStands, KeysStand, ValuesStand, AllStand, IsBase}
 use Rattle.term_words.specs.Reach.{Reach, parts_of}
 use Rattle.term_words.specs.Counted.{In, Distinct, total}
-use Rattle.term_words.proofs.Members.{true-or-false, one-or-not, in-both}
-use Rattle.term_words.proofs.Shapes.{told, shape-shared, shape-fun}
-use Rattle.term_words.proofs.Reached.{reached}
+use Rattle.term_words.proofs.Totals.Members.{true-or-false, one-or-not, in-both}
+use Rattle.term_words.proofs.ByKind.Shapes.{told, shape-shared, shape-fun}
+use Rattle.term_words.proofs.Reaching.Reached.{reached}
 use Rattle.off_heap_list.specs.Links.{names_it, name_place, named, naming, IsLink, IsLinkHeader}
-use Rattle.off_heap_list.proofs.Chained.{one-naming}
+use Rattle.off_heap_list.proofs.Chaining.Chained.{one-naming}
 use Rattle.counted_records.specs.Occurs.{AreHeld, BinOccurs, FunOccurs}
 use Rattle.counted_records.proofs.Weighing.{weighed, own, weights-cover, HasWeights}
 

@@ -9,11 +9,11 @@ use Rattle.term_words.specs.Object.{IsPointer, object_words}
 use Rattle.term_words.specs.Stands.{Stands, RowStands, AllStand, tree_at}
 use Rattle.term_words.specs.Reach.{Reach, root, part, first_traced, parts_of}
 use Rattle.term_words.specs.Counted.{In, Distinct, total}
-use Rattle.term_words.proofs.Makes.{all-length}
-use Rattle.term_words.proofs.Members.{pointer-or-not, in-left, in-right, both-total, Less, less}
-use Rattle.term_words.proofs.Shapes.{Told, told, row-at, all-at}
-use Rattle.term_words.proofs.Reached.{IsScanned, scanned}
-use Rattle.term_words.proofs.Flat.{words-some}
+use Rattle.term_words.proofs.ByKind.Makes.{all-length}
+use Rattle.term_words.proofs.Totals.Members.{pointer-or-not, in-left, in-right, both-total, Less, less}
+use Rattle.term_words.proofs.ByKind.Shapes.{Told, told, row-at, all-at}
+use Rattle.term_words.proofs.Reaching.Reached.{IsScanned, scanned}
+use Rattle.term_words.proofs.Totals.Flat.{words-some}
 
 -- A list without repetition whose words are all in another list has no greater sizes together.
 pub total-within : (size : ℕ → ℕ) (vs us : List ℕ) → Distinct vs → ((v : ℕ) → In v vs → In v us) → total size vs ≤ total size us

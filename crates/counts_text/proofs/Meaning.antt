@@ -9,14 +9,14 @@ use Rattle.plain_machine.specs.Maps.{CountedBin, CountedFun, AreIds, AreFuns, Is
 use Rattle.term_words.specs.Object.{IsBinRecord, IsFunRecord, IsRecord}
 use Rattle.term_words.specs.Stands.{AllStand}
 use Rattle.term_words.specs.Counted.{In, Distinct}
-use Rattle.term_words.proofs.Members.{in-both}
+use Rattle.term_words.proofs.Totals.Members.{in-both}
 use Rattle.shared_rec.specs.Record.{owner_in, count_in}
 use Rattle.off_heap_list.specs.Links.{naming}
 use Rattle.record_move.specs.Tables.{OwnersRise}
 use Rattle.counted_records.specs.Occurs.{AreHeld, BinOccurs, FunOccurs}
 use Rattle.counted_records.proofs.Occurring.{bin-namings, fun-namings, ids-all-stand, funs-all-stand}
 use Rattle.atom_names.specs.Names.{AreNames}
-use Rattle.counts_text.specs.Told.{bin_of, fun_of, is_before, by_name, CanRead, CanTell, counts_told}
+use Rattle.counts_text.specs.Told.{bin_of, fun_of, is_before, by_name, CanReadTables, CanTellCounts, counts_told}
 use Rattle.counts_text.proofs.Ordered.{Rising, lt-less, in-named, named-in, named-rises}
 
 -- Each record that stands is counted by the chain's objects, which the roots reach.
@@ -55,7 +55,7 @@ ids-rise mem above last (v ∷ vs) each (first, rise) =
     let here = each v (inl refl) in
     (here.0, here.1, ids-rise mem (owner_in mem v) last vs (λ w i. (first w i, (each w (inr i)).1)) rise)
 
-funs-rise : (mem : List ℕ) (names : List (List ℕ)) (vs : List ℕ) → ((v : ℕ) → In v vs → CanRead mem names v) → Rising mem names vs → AreFuns names (map (fun_of mem) vs)
+funs-rise : (mem : List ℕ) (names : List (List ℕ)) (vs : List ℕ) → ((v : ℕ) → In v vs → CanReadTables mem names v) → Rising mem names vs → AreFuns names (map (fun_of mem) vs)
 unfolding Rising
 funs-rise mem names [] each r = tt
 funs-rise mem names (v ∷ vs) each (first, rest) =
@@ -76,7 +76,7 @@ funs-counted mem occurring [] each = tt
 funs-counted mem occurring (v ∷ vs) each = ((each v (inl refl)).0, (each v (inl refl)).1, funs-counted mem occurring vs (λ w i. each w (inr i)))
 
 module _ (s : State) (c : ℕ → ℕ → Bool) (mem roots : List ℕ) (ts : Trees) (bins funs os : List ℕ) (all : AllStand c s.shared mem roots ts) (ids : ids_in_all ts ≡ living_ids s)
-    (codes : funs_in_all ts ≡ living_funs s) (read : CanTell mem s.names bins funs) (names : AreNames s.names) (l : AllListed c s.shared mem bins funs)
+    (codes : funs_in_all ts ≡ living_funs s) (read : CanTellCounts mem s.names bins funs) (names : AreNames s.names) (l : AllListed c s.shared mem bins funs)
     (exact : s.swept ≡ true → CountsExactly c mem roots os) where
   bin-record : (v : ℕ) → In v bins → IsRecord c mem v (4 + bin_words (length (shared_bytes s.shared (owner_in mem v))))
   bin-record v i = inl (owner_in mem v, shared_bytes s.shared (owner_in mem v), (l.each_bin v i).1.1, refl)

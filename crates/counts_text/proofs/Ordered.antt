@@ -13,10 +13,10 @@ use Rattle.plain_term.specs.Order.{name_of}
 use Rattle.plain_term.proofs.LawLemmas.{neither}
 use Rattle.atom_names.specs.Names.{AreNames, index_of}
 use Rattle.term_words.specs.Counted.{In}
-use Rattle.term_words.proofs.Members.{true-or-false, one-or-not, in-both, in-left, in-right}
+use Rattle.term_words.proofs.Totals.Members.{true-or-false, one-or-not, in-both, in-left, in-right}
 use Rattle.shared_rec.specs.Record.{owner_in}
 use Rattle.record_move.proofs.Renewing.{member-at}
-use Rattle.counts_text.specs.Told.{record_order, is_before, inserted, by_name, is_after, is_better, AreApart, CanRead, CanReadSome, IsNext, IsBest}
+use Rattle.counts_text.specs.Told.{record_order, is_before, inserted, by_name, is_after, is_better, AreApart, CanReadTables, CanReadSome, IsLeast, IsBest}
 
 false-true : false ≡ true → ⊥
 false-true e = true≢false (sym e)
@@ -57,7 +57,7 @@ module _ (mem : List ℕ) (names : List (List ℕ)) where
   before-back x y a b = before-none x (before-trans x y x a b)
 
   -- Two records of which neither is less are of one name and arity.
-  same-owner : (x y : ℕ) → AreNames names → CanRead mem names x → CanRead mem names y → is_before mem names x y ≡ false → is_before mem names y x ≡ false → owner_in mem x ≡ owner_in mem y
+  same-owner : (x y : ℕ) → AreNames names → CanReadTables mem names x → CanReadTables mem names y → is_before mem names x y ≡ false → is_before mem names y x ≡ false → owner_in mem x ≡ owner_in mem y
   same-owner x y n rx ry a b =
       let tie : record_order mem names x y ≡ Equal =
       (neither (record_order mem names x y) (record_order mem names y x) (order-total.antisymm x y)).1 (not-less (record_order mem names x y) a, not-less (record_order mem names y x) b) in
@@ -136,7 +136,7 @@ module _ (mem : List ℕ) (names : List (List ℕ)) where
   fewer-apart v vs a = record { once = a.once.1; differ = λ x y i j e. a.differ x y (inr i) (inr j) e }
 
   -- So are they in order.
-  pub named-rises : (vs : List ℕ) → AreNames names → ((v : ℕ) → In v vs → CanRead mem names v) → AreApart mem vs → Rising (by_name mem names vs)
+  pub named-rises : (vs : List ℕ) → AreNames names → ((v : ℕ) → In v vs → CanReadTables mem names v) → AreApart mem vs → Rising (by_name mem names vs)
   unfolding Rising
   named-rises [] n read a = tt
   named-rises (v ∷ vs) n read a =
@@ -196,7 +196,7 @@ module _ (mem : List ℕ) (names : List (List ℕ)) where
 
 -- The next record of a table is the one in order.
 pub next-is : (mem : List ℕ) (names : List (List ℕ)) (funs : List ℕ) (i v : ℕ) (last : Option ℕ) → Rising mem names (by_name mem names funs) → i < length funs
-    → LastIs mem names (by_name mem names funs) i last → IsNext mem names last funs v → v ≡ get_or (by_name mem names funs) i 0
+    → LastIs mem names (by_name mem names funs) i last → IsLeast mem names last funs v → v ≡ get_or (by_name mem names funs) i 0
 next-is mem names funs i v last r below l n =
     let vs : List ℕ = by_name mem names funs in
     let under : i < length (by_name mem names funs) = omega (arith, below, named-length mem names funs) in
@@ -299,6 +299,6 @@ module _ (mem : List ℕ) (names : List (List ℕ)) (last : Option ℕ) where
     })
   ]
 
-  pub better-read : (v : ℕ) (best : Option ℕ) → CanRead mem names v → CanReadSome mem names best → CanReadSome mem names (if is_better mem names v best then Some v else best)
+  pub better-read : (v : ℕ) (best : Option ℕ) → CanReadTables mem names v → CanReadSome mem names best → CanReadSome mem names (if is_better mem names v best then Some v else best)
   better-read v None r b = r
   better-read v (Some x) r b = elim (true-or-false (is_before mem names v x)) [ inl c ↦ rw c r | inr c ↦ rw c b ]

@@ -5,7 +5,7 @@ use Rattle.std.specs.declared.cmp.Ordering.{Ordering}
 use Rattle.plain_machine.specs.Maps.{CountedBin, CountedFun, fun_order, counts_text}
 use Rattle.term_words.specs.Counted.{In, Distinct}
 use Rattle.shared_rec.specs.Record.{owner_in, count_in}
-use Rattle.record_move.specs.Tables.{AreWithin}
+use Rattle.record_move.specs.Tables.{AllLieWithin}
 
 -- The entry of a shared binary's record.
 abbrev pub bin_of : List ℕ → ℕ → CountedBin
@@ -38,7 +38,7 @@ abbrev pub counts_told : (mem : List ℕ) → (names : List (List ℕ)) → (bin
 counts_told mem names bins funs = counts_text names (map (bin_of mem) bins) (map (fun_of mem) (by_name mem names funs))
 
 -- The record's first words lie in the memory, and the name is known of the fun that it is of.
-pub record CanRead (mem : List ℕ) (names : List (List ℕ)) (v : ℕ) : Type 0 where
+pub record CanReadTables (mem : List ℕ) (names : List (List ℕ)) (v : ℕ) : Type 0 where
   pub within : v + 4 ≤ length mem
   pub known : owner_in mem v / 256 < length names
 
@@ -48,15 +48,15 @@ pub record AreApart (mem : List ℕ) (funs : List ℕ) : Type 0 where
   pub differ : (v w : ℕ) → In v funs → In w funs → owner_in mem v ≡ owner_in mem w → v ≡ w
 
 -- The records of the tables can be read, and those of funs are apart.
-pub record CanTell (mem : List ℕ) (names : List (List ℕ)) (bins funs : List ℕ) : Type 0 where
-  pub each_bin : AreWithin mem bins
-  pub each_fun : (v : ℕ) → In v funs → CanRead mem names v
+pub record CanTellCounts (mem : List ℕ) (names : List (List ℕ)) (bins funs : List ℕ) : Type 0 where
+  pub each_bin : AllLieWithin mem bins
+  pub each_fun : (v : ℕ) → In v funs → CanReadTables mem names v
   pub apart : AreApart mem funs
 
 -- So is it of a record, if there is one.
 abbrev pub CanReadSome : List ℕ → List (List ℕ) → Option ℕ → Type 0
 CanReadSome mem names None = Unit {0}
-CanReadSome mem names (Some v) = CanRead mem names v
+CanReadSome mem names (Some v) = CanReadTables mem names v
 
 -- The record comes after the last one, if there is one.
 abbrev pub is_after : (mem : List ℕ) → (names : List (List ℕ)) → (last : Option ℕ) → ℕ → Bool
@@ -69,7 +69,7 @@ is_better mem names v None = true
 is_better mem names v (Some w) = is_before mem names v w
 
 -- Of the records that come after the last one, this is the least.
-pub record IsNext (mem : List ℕ) (names : List (List ℕ)) (last : Option ℕ) (funs : List ℕ) (v : ℕ) : Type 0 where
+pub record IsLeast (mem : List ℕ) (names : List (List ℕ)) (last : Option ℕ) (funs : List ℕ) (v : ℕ) : Type 0 where
   pub inside : In v funs
   pub after : is_after mem names last v ≡ true
   pub least : (w : ℕ) → In w funs → is_after mem names last w ≡ true → is_before mem names w v ≡ false
@@ -77,4 +77,4 @@ pub record IsNext (mem : List ℕ) (names : List (List ℕ)) (last : Option ℕ)
 -- It is the next one; where there is none, none comes after the last one.
 abbrev pub IsBest : (mem : List ℕ) → (names : List (List ℕ)) → (last : Option ℕ) → List ℕ → Option ℕ → Type 0
 IsBest mem names last funs None = (w : ℕ) → In w funs → is_after mem names last w ≡ false
-IsBest mem names last funs (Some v) = IsNext mem names last funs v
+IsBest mem names last funs (Some v) = IsLeast mem names last funs v

@@ -4,9 +4,9 @@ ghost use Rattle.line_io.specs.Sink.{Written};
 ghost use Rattle.plain_machine.specs.Maps.{bin_text, fun_text};
 ghost use Rattle.plain_machine.specs.Texts.{divided};
 ghost use Rattle.term_words.specs.Counted.{In};
-ghost use Rattle.record_move.specs.Tables.{AreWithin};
+ghost use Rattle.record_move.specs.Tables.{AllLieWithin};
 ghost use Rattle.reply_text.specs.Texts.{divider};
-ghost use Rattle.counts_text.specs.Told.{AreApart, CanRead, CanTell, bin_of, by_name, counts_told, fun_of};
+ghost use Rattle.counts_text.specs.Told.{AreApart, CanReadTables, CanTellCounts, bin_of, by_name, counts_told, fun_of};
 
 use crate::next::next_fun;
 use atom_names::AtomNames;
@@ -24,7 +24,7 @@ pub fn put_counts<K: Sink>(
     names: &AtomNames,
     sink: &mut K,
 ) -> Result<(), SinkFault>
-    requires { CanTell mem.now names.now bins.now funs.now }
+    requires { CanTellCounts mem.now names.now bins.now funs.now }
     ensures { Written K.wrote K.faults sink.old sink.new (counts_told mem.now names.now bins.now funs.now) result }
 {
     put(sink, b"bins [")?;
@@ -36,7 +36,7 @@ pub fn put_counts<K: Sink>(
 
 // Writes the entries of the records of binaries, divided by commas.
 fn put_bins<K: Sink>(mem: &WordMem, bins: &[u64], sink: &mut K) -> Result<(), SinkFault>
-    requires { AreWithin mem.now bins.now }
+    requires { AllLieWithin mem.now bins.now }
     ensures { Written K.wrote K.faults sink.old sink.new (divided (map bin_text (map (bin_of mem.now) bins.now))) result }
 {
     for i in 0..bins.len() {
@@ -53,7 +53,7 @@ fn put_funs<K: Sink>(
     names: &AtomNames,
     sink: &mut K,
 ) -> Result<(), SinkFault>
-    requires each { (v : ℕ) → In v funs.now → CanRead mem.now names.now v }
+    requires each { (v : ℕ) → In v funs.now → CanReadTables mem.now names.now v }
     requires apart { AreApart mem.now funs.now }
     ensures { Written K.wrote K.faults sink.old sink.new
         (divided (map (fun_text names.now) (map (fun_of mem.now) (by_name mem.now names.now funs.now)))) result }
@@ -78,7 +78,7 @@ fn put_entry<K: Sink>(
     v: u64,
     sink: &mut K,
 ) -> Result<(), SinkFault>
-    requires { CanRead mem.now names.now v }
+    requires { CanReadTables mem.now names.now v }
     ensures { Written K.wrote K.faults sink.old sink.new (divider first ++ fun_text names.now (fun_of mem.now v)) result }
 {
     let owner = serial_of(mem, v);

@@ -1,7 +1,7 @@
 // The records of funs, one after the other by their names.
 ghost use Rattle.std.specs.Prelude.{◌≡◌, ℕ, if◌then◌else◌, Option, Some};
 ghost use Rattle.term_words.specs.Counted.{In};
-ghost use Rattle.counts_text.specs.Told.{CanRead, CanReadSome, IsBest, is_after, is_before, is_better};
+ghost use Rattle.counts_text.specs.Told.{CanReadTables, CanReadSome, IsBest, is_after, is_before, is_better};
 
 use atom_names::AtomNames;
 use shared_rec::serial_of;
@@ -10,7 +10,7 @@ use word_mem::WordMem;
 /// The record of a fun that comes next after the last one, or is the first: the bytes of names decide, and then arities.
 pub fn next_fun(mem: &WordMem, names: &AtomNames, last: Option<u64>, funs: &[u64]) -> Option<u64>
     requires last { CanReadSome mem.now names.now last }
-    requires each { (v : ℕ) → In v funs.now → CanRead mem.now names.now v }
+    requires each { (v : ℕ) → In v funs.now → CanReadTables mem.now names.now v }
     ensures { IsBest mem.now names.now last funs.now result }
 {
     let mut best = None;
@@ -25,7 +25,7 @@ pub fn next_fun(mem: &WordMem, names: &AtomNames, last: Option<u64>, funs: &[u64
 // Whether the record comes after the last one.
 fn comes_after(mem: &WordMem, names: &AtomNames, last: Option<u64>, v: u64) -> bool
     requires last { CanReadSome mem.now names.now last }
-    requires record { CanRead mem.now names.now v }
+    requires record { CanReadTables mem.now names.now v }
     ensures { result ≡ is_after mem.now names.now last v }
 {
     match last {
@@ -36,7 +36,7 @@ fn comes_after(mem: &WordMem, names: &AtomNames, last: Option<u64>, v: u64) -> b
 
 // The record, if it is less than the best one, else that.
 fn nearer(mem: &WordMem, names: &AtomNames, v: u64, best: Option<u64>) -> Option<u64>
-    requires record { CanRead mem.now names.now v }
+    requires record { CanReadTables mem.now names.now v }
     requires best { CanReadSome mem.now names.now best }
     ensures { result ≡ (if is_better mem.now names.now v best then Some v else best) }
 {
@@ -53,8 +53,8 @@ fn nearer(mem: &WordMem, names: &AtomNames, v: u64, best: Option<u64>) -> Option
 
 // Whether the first record is less than the second.
 fn before(mem: &WordMem, names: &AtomNames, v: u64, w: u64) -> bool
-    requires first { CanRead mem.now names.now v }
-    requires second { CanRead mem.now names.now w }
+    requires first { CanReadTables mem.now names.now v }
+    requires second { CanReadTables mem.now names.now w }
     ensures { result ≡ is_before mem.now names.now v w }
 {
     let one = serial_of(mem, v);

@@ -18,15 +18,15 @@ use Rattle.script_grammar.specs.Names.{Parsed, parsed_of, names_after, command_o
 use Rattle.plain_machine.specs.State.{State}
 use Rattle.plain_machine.specs.Step.{is_printing}
 use Rattle.plain_machine.specs.Maps.{is_map}
-use Rattle.plain_machine.proofs.Living.{joined-end}
-use Rattle.plain_machine.proofs.Printing.{prints-none}
+use Rattle.plain_machine.proofs.Properly.Living.{joined-end}
+use Rattle.plain_machine.proofs.ByLine.Printing.{prints-none}
 use Rattle.script_grammar.specs.ReadAs.{IsRead, IsOutside, BringsTooMany}
 use Rattle.plain_machine.specs.Run.{CommandStep}
 use Rattle.script_grammar.specs.ReadAs.Reading.{Means, NoSyntax, NoAtoms}
 use Rattle.space_api.specs.Calls.{said}
 use Rattle.script_parse.specs.declared.buffer.TheConstants.{MOST_ITEMS}
-use Rattle.script_parse.specs.Parses.{Reads as Parsing}
-use Rattle.script_parse.proofs.OneLine.{one_line}
+use Rattle.script_parse.specs.Parses.{ReadsLine as Parsing}
+use Rattle.script_parse.proofs.OfLines.OneLine.{one_line}
 use Rattle.engine.specs.declared.reply.Reply.{Reply}
 use Rattle.engine.specs.declared.reply.Reply.TheVariants.{Refused}
 use Rattle.engine.specs.Replies.{AllowsMap, Shown, reply_lines, ends_script}

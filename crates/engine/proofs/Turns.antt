@@ -14,7 +14,7 @@ use Rattle.line_io.proofs.Loop.{Gave-nil, Gave-append}
 use Rattle.script_grammar.specs.Names.{Parsed}
 use Rattle.plain_machine.specs.State.{State, first_state}
 use Rattle.plain_machine.specs.Run.{Run, LineStep, replies_text}
-use Rattle.plain_machine.proofs.Runs.{run-append, run-one, run-none, text-append}
+use Rattle.plain_machine.proofs.ByLine.Runs.{run-append, run-one, run-none, text-append}
 use Rattle.isolation.proofs.Alone.{isolates}
 use Rattle.engine.specs.Rules.{After, Rules, Input, Output}
 use Rattle.engine.specs.Steps.{Steps, StepWrites, TellsQuit, WritesAll}
@@ -85,17 +85,17 @@ module _ {K : Type 0} (wrote : K → List ℕ → Type 0) (faults : K → ℕ) w
         let P : Turn → Type 0 = λ t. Turns t rules (source_from before after) (sink_from start new) next left.stands in
         subst P (sym e) (at stepped p.writes p.tells)
       where
-        took_it : Gave before after (g.bytes ++ r.x)
-        took_it = Gave-append before now after g.bytes r.x g.took r.gave
+        took-it : Gave before after (g.bytes ++ r.x)
+        took-it = Gave-append before now after g.bytes r.x g.took r.gave
 
-        has_it : HasRead next after (g.bytes ++ r.x) (g.given ++ line ∷ [])
-        has_it = subst (λ z. HasRead next after (g.bytes ++ r.x) (g.given ++ z)) came r.has
+        has-it : HasRead next after (g.bytes ++ r.x) (g.given ++ line ∷ [])
+        has-it = subst (λ z. HasRead next after (g.bytes ++ r.x) (g.given ++ z)) came r.has
 
-        front_it : lines (g.bytes ++ r.x) r.ended rules.limits ≡ (g.given ++ line ∷ []) ++ r.rest
-        front_it = subst (λ z. lines (g.bytes ++ r.x) r.ended rules.limits ≡ (g.given ++ z) ++ r.rest) came r.front
+        front-it : lines (g.bytes ++ r.x) r.ended rules.limits ≡ (g.given ++ line ∷ []) ++ r.rest
+        front-it = subst (λ z. lines (g.bytes ++ r.x) r.ended rules.limits ≡ (g.given ++ z) ++ r.rest) came r.front
 
-        run_it : (quits : Bool) → p.quits ≡ quits → Run rules.supply.may rules.supply.words quits rules.first (g.given ++ line ∷ []) (g.replies ++ p.replies) p.new
-        run_it quits q = run-append rules.supply.may rules.supply.words quits rules.first g.state p.new g.given (line ∷ []) g.replies p.replies g.run
+        run-it : (quits : Bool) → p.quits ≡ quits → Run rules.supply.may rules.supply.words quits rules.first (g.given ++ line ∷ []) (g.replies ++ p.replies) p.new
+        run-it quits q = run-append rules.supply.may rules.supply.words quits rules.first g.state p.new g.given (line ∷ []) g.replies p.replies g.run
             (run-one rules.supply.may rules.supply.words quits g.state p.new line p.replies
             (subst (λ b. LineStep rules.supply.may rules.supply.words g.state line b p.replies p.new) q p.follows))
 
@@ -106,30 +106,30 @@ module _ {K : Type 0} (wrote : K → List ℕ → Type 0) (faults : K → ℕ) w
           given = g.given ++ line ∷ [];
           replies = g.replies ++ p.replies;
           state = p.new;
-          took = took_it;
-          has = has_it;
-          run = run_it false q;
+          took = took-it;
+          has = has-it;
+          run = run-it false q;
           stands = p.stands;
           writes = texts-written start mid new g.replies p.replies g.writes w;
         }
         at Quit w q = record {
           course = course r.x r.ended line r.rest p.replies p.new p.quits;
-          took = took_it;
+          took = took-it;
           told = r.told;
-          front = front_it;
-          run = run_it p.quits refl;
-          isolated = are-isolated rules (course r.x r.ended line r.rest p.replies p.new p.quits) (run_it p.quits refl);
+          front = front-it;
+          run = run-it p.quits refl;
+          isolated = are-isolated rules (course r.x r.ended line r.rest p.replies p.new p.quits) (run-it p.quits refl);
           stands = p.stands;
           ends = (texts-written start mid new g.replies p.replies g.writes w, record { why = inl q });
           later = let h : faults new ≡ faults start = w.1 ∙ g.writes.1 in omega arith;
         }
         at SinkFault w q = record {
           course = course r.x r.ended line r.rest p.replies p.new p.quits;
-          took = took_it;
+          took = took-it;
           told = r.told;
-          front = front_it;
-          run = run_it p.quits refl;
-          isolated = are-isolated rules (course r.x r.ended line r.rest p.replies p.new p.quits) (run_it p.quits refl);
+          front = front-it;
+          run = run-it p.quits refl;
+          isolated = are-isolated rules (course r.x r.ended line r.rest p.replies p.new p.quits) (run-it p.quits refl);
           stands = p.stands;
           ends = (
             record {

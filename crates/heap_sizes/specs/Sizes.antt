@@ -19,7 +19,7 @@ abbrev pub size_at : ℕ → ℕ
 size_at k = (two_at k).0
 
 -- The least of the 39 entries that is at least n.
-pub record IsNext (n size : ℕ) : Type 0 where
+pub record IsNextSize (n size : ℕ) : Type 0 where
   pub place : ℕ
   pub inside : place < 39
   pub entry : size ≡ size_at place

@@ -1,6 +1,6 @@
 // The table of sizes, and the next one that is large enough.
 ghost use Rattle.std.specs.Prelude.{◌≡◌, ℕ, ◌+◌, ◌*◌, ◌<◌, ◌≤◌, ◌↔◌, IfSome, IsSome};
-ghost use Rattle.heap_sizes.specs.Sizes.{IsNext};
+ghost use Rattle.heap_sizes.specs.Sizes.{IsNextSize};
 
 /// The words of each size, rising. The shape of the sequence is that of GarbageCollection.md and
 /// The BEAM Book; each entry is this project's own.
@@ -13,7 +13,7 @@ const SIZES: [u64; 39] = [
 
 /// The least size of at least `n` words. `None` where every size is smaller.
 pub fn next_size(n: u64) -> Option<u64>
-    ensures next { IfSome result (λ size. IsNext n size) }
+    ensures next { IfSome result (λ size. IsNextSize n size) }
     ensures none { IsSome result ↔ (n ≤ 15401305) }
     ensures bounds { IfSome result (λ size. (12 ≤ size) × (size ≤ 15401305)) }
     ensures double { IfSome result (λ size. size ≤ 2 * n + 12) }

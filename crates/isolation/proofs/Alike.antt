@@ -14,8 +14,8 @@ use Rattle.plain_machine.specs.Step.{Outcome}
 use Rattle.plain_machine.specs.Step.Outcome.{Accepted, Refused, Mapped}
 use Rattle.plain_machine.specs.Tightness.{held_trees}
 use Rattle.plain_machine.specs.Laws.{AreProper, HoldsProper}
-use Rattle.plain_machine.proofs.Making.{Extends}
-use Rattle.plain_machine.proofs.Holding.{split-proper}
+use Rattle.plain_machine.proofs.Properly.Making.{Extends}
+use Rattle.plain_machine.proofs.Properly.Holding.{split-proper}
 use Rattle.named_trees.specs.NamedTree.{NamedTree, named}
 use Rattle.named_trees.specs.NamedTree.{NamedTree as by_name}
 use Rattle.named_trees.specs.Entering.{names_in, bytes_in, names_with, shared_with, entered}

@@ -14,7 +14,7 @@ use Rattle.plain_machine.specs.Step.{Outcome}
 use Rattle.plain_machine.specs.Step.Outcome.{Accepted, Refused, Mapped}
 use Rattle.plain_machine.specs.Run.{CommandStep, Gives}
 use Rattle.plain_machine.specs.Laws.{HoldsProper}
-use Rattle.plain_machine.proofs.Living.{first-proper}
+use Rattle.plain_machine.proofs.Properly.Living.{first-proper}
 use Rattle.named_trees.specs.NamedTree.{named}
 use Rattle.isolation.specs.Events.{Event, IsEvent, IsAnswered, Tells, NoneShort, IsShort}
 use Rattle.isolation.specs.Views.{Sight, is_own, own_line, births, queue_in, messages, areas, sights, view_of, is_map_line, shows_map, own_answers, own_replies}

@@ -16,9 +16,9 @@ use Rattle.plain_machine.specs.Tightness.{grow}
 use Rattle.plain_machine.specs.Step.{in_process, spawn_if}
 use Rattle.plain_machine.specs.Run.{CommandStep, Gives}
 use Rattle.plain_machine.specs.Laws.{IsNumbered}
-use Rattle.plain_machine.proofs.Runs.{run-one}
-use Rattle.plain_machine.proofs.Numbers.{live-below}
-use Rattle.plain_machine.proofs.Numbered.{run-fresh}
+use Rattle.plain_machine.proofs.ByLine.Runs.{run-one}
+use Rattle.plain_machine.proofs.Numbering.Numbers.{live-below}
+use Rattle.plain_machine.proofs.Numbering.Numbered.{run-fresh}
 use Rattle.isolation.specs.Events.{Event, IsEvent, IsAnswered, Tells}
 use Rattle.isolation.specs.Views.{Sight, is_own, births}
 use Rattle.isolation.specs.Views.Sight.{born}

@@ -18,7 +18,7 @@ use Rattle.plain_machine.specs.Parts.{picked, pairs_in}
 use Rattle.plain_machine.specs.Tightness.{receiver}
 use Rattle.plain_machine.specs.Step.{Outcome, step, does, unless_flawed, choose, put_unless_wide, put_unless_big, put_pair, fill_if, fun_if, repeat_if, pop_from, send_within, send_to, recv_from, tells, told_of, by_verb, in_process, spawn_if, with_made, written_tree, written_flaw}
 use Rattle.plain_machine.specs.Step.Outcome.{Accepted, Refused, Mapped}
-use Rattle.plain_machine.proofs.Making.{Extends, extends-none, bin-more, made-more}
+use Rattle.plain_machine.proofs.Properly.Making.{Extends, extends-none, bin-more, made-more}
 use Rattle.isolation.specs.Views.{is_own}
 use Rattle.isolation.proofs.Finding.{other-put, found-queued, other-gone, found-come, none-come, found-number}
 use Rattle.isolation.proofs.Own.{more-names}

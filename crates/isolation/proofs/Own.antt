@@ -34,8 +34,8 @@ use Rattle.plain_machine.specs.Texts.{divided}
 use Rattle.plain_machine.specs.Step.{Outcome, does, unless_flawed, choose, put_unless_wide, put_unless_big, put_pair, fill_if, fun_if, repeat_if, pop_from, send_within, send_to, recv_from, tells, unless_beyond, eq_text, cmp_text, by_verb, in_process, step, with_made, written_tree, written_flaw, env_of}
 use Rattle.plain_machine.specs.Step.Outcome.{Refused}
 use Rattle.script_grammar.proofs.Naming.{ArePlaced, placed-front, number-below, with-names-more, with-names-placed}
-use Rattle.plain_machine.proofs.Making.{Extends, extends-none, bin-more, made-more}
-use Rattle.plain_machine.proofs.Living.{joined-end}
+use Rattle.plain_machine.proofs.Properly.Making.{Extends, extends-none, bin-more, made-more}
+use Rattle.plain_machine.proofs.Properly.Living.{joined-end}
 use Rattle.named_trees.specs.NamedTree.{NamedTree, named, all_named, pairs_named, IsKnown, AreKnown, PairsKnown}
 use Rattle.named_trees.specs.NamedTree.{NamedTree as by_name}
 use Rattle.named_trees.specs.Seen.{named_beyond, named_flat, named_text, pairs_count}

@@ -16,9 +16,9 @@ use Rattle.plain_machine.specs.Step.{Outcome}
 use Rattle.plain_machine.specs.Step.Outcome.{Accepted, Refused, Mapped}
 use Rattle.plain_machine.specs.Run.{Run, LineStep, ReadingStep, CommandStep, Gives, Skips, LacksSpace, is_nothing}
 use Rattle.plain_machine.specs.Laws.{HoldsProper}
-use Rattle.plain_machine.proofs.Runs.{run-one}
-use Rattle.plain_machine.proofs.Living.{run-proper}
-use Rattle.plain_machine.proofs.Making.{extends-none}
+use Rattle.plain_machine.proofs.ByLine.Runs.{run-one}
+use Rattle.plain_machine.proofs.Properly.Living.{run-proper}
+use Rattle.plain_machine.proofs.Properly.Making.{extends-none}
 use Rattle.isolation.specs.Events.{Event, IsEvent, IsAnswered, Tells, lines_of, replies_of}
 use Rattle.isolation.specs.Views.{is_own, areas}
 use Rattle.isolation.specs.Solo.{step_at}

@@ -1,12 +1,3 @@
-pub mod Marks
-pub mod Known
-mod Growing
-mod Bytes
-pub mod Laying
-pub mod Chaining
-mod Whole
-mod Makes
-pub mod Steps
-pub mod Ending
-pub mod Terms
-pub mod Written
+pub mod Meaning
+pub mod Laid
+pub mod Turned

@@ -70,7 +70,7 @@ pub record LaidBins (c : ℕ → ℕ → Bool) (shared : List (List ℕ)) (old n
   pub laid : Laid c test shared old new mem mem' was.head is.head was.serial n
 
 -- The room has its free words between these places, and all words but the free ones of the room before are as before.
-pub record Leaves (old new : Room) (mem mem' : List ℕ) : Type 0 where
+pub record LeavesRoom (old new : Room) (mem mem' : List ℕ) : Type 0 where
   pub same_start : new.start ≡ old.start
   pub front : old.top ≤ new.top
   pub order : new.top ≤ new.end
@@ -115,12 +115,13 @@ pub record Spares (n : ℕ) (room : Room) (mem mem' : List ℕ) : Type 0 where
   pub others : (q : ℕ) → (q < room.top) ⊎ (room.top + n ≤ q) → slice_index mem' q ≡ slice_index mem q
 
 -- What was built is what the items come to: a word that stands for their tree, or the same reason for none.
-abbrev pub Builds : (ℕ → ℕ → Bool) → List (List ℕ) → (old new : Room) (mem mem' : List ℕ) (was is : Making) (n : ℕ) → Result ℕ BuildStop → Result Tree BuildStop
+abbrev pub BuildsTerm : (ℕ → ℕ → Bool) → List (List ℕ) → (old new : Room) (mem mem' : List ℕ) (was is : Making) (n : ℕ) → Result ℕ BuildStop
+    → Result Tree BuildStop
     → Type 0
-Builds c shared old new mem mem' was is n (Ok w) (Ok t) = Made c shared old new mem mem' was is n w t
-Builds c shared old new mem mem' was is n (Err e) (Err f) = e ≡ f
-Builds c shared old new mem mem' was is n (Ok w) (Err f) = ⊥
-Builds c shared old new mem mem' was is n (Err e) (Ok t) = ⊥
+BuildsTerm c shared old new mem mem' was is n (Ok w) (Ok t) = Made c shared old new mem mem' was is n w t
+BuildsTerm c shared old new mem mem' was is n (Err e) (Err f) = e ≡ f
+BuildsTerm c shared old new mem mem' was is n (Ok w) (Err f) = ⊥
+BuildsTerm c shared old new mem mem' was is n (Err e) (Ok t) = ⊥
 
 -- The word stands for the tree; that of a wide term is no word of a term.
 abbrev pub IsMark : (ℕ → ℕ → Bool) → List (List ℕ) → List ℕ → ℕ → Option Tree → Type 0
@@ -191,9 +192,9 @@ Puts c shared old new mem mem' None row big ms = big ≡ true
 Puts c shared old new mem mem' (Some sp) row big ms = (big ≡ false) × MarksBuilt c old.top (new.top - old.top) mem mem' shared (drop sp row) ms
 
 -- All items were put, and the word stands for the one term; or one has a big key.
-abbrev pub Reads : (ℕ → ℕ → Bool) → List (List ℕ) → (old new : Room) (mem mem' : List ℕ) → Option ℕ → (big : Bool) → List (Option Tree) → Type 0
-Reads c shared old new mem mem' None big ms = big ≡ true
-Reads c shared old new mem mem' (Some w) big ms = (big ≡ false) × MarksBuilt c old.top (new.top - old.top) mem mem' shared (w ∷ []) ms
+abbrev pub PutsAll : (ℕ → ℕ → Bool) → List (List ℕ) → (old new : Room) (mem mem' : List ℕ) → Option ℕ → (big : Bool) → List (Option Tree) → Type 0
+PutsAll c shared old new mem mem' None big ms = big ≡ true
+PutsAll c shared old new mem mem' (Some w) big ms = (big ≡ false) × MarksBuilt c old.top (new.top - old.top) mem mem' shared (w ∷ []) ms
 
 -- The number in an item fits a word.
 abbrev pub FitsWord : (held : ℕ) → Item → Type 0

@@ -9,9 +9,9 @@ ghost use Rattle.term_words.specs.Object.{BytesLie, IsBinRecord, byte_of};
 ghost use Rattle.term_words.specs.Kept.{Keeps};
 ghost use Rattle.term_build.specs.Taken.{IsFree, Taken};
 ghost use Rattle.term_build.specs.Clear.{IsRoom, Uses};
-ghost use Rattle.shared_rec.specs.Record.{Writes, count_in, record_roles};
+ghost use Rattle.shared_rec.specs.Record.{WritesRecord, count_in, record_roles};
 ghost use Rattle.item_build.specs.Reading.{byte_in, bytes_in, bins_of, far_words_of, AreLed, bytes_after, is_byte as is_byte_item, holder_words as words_of_holder, is_long as is_long_bin, long_bins as long_in};
-ghost use Rattle.item_build.specs.Building.{LaidBins, Leaves};
+ghost use Rattle.item_build.specs.Building.{LaidBins, LeavesRoom};
 
 use off_heap_list::chain;
 use plain_term::Item;
@@ -95,7 +95,7 @@ pub fn lay_bins(mem: &mut WordMem, room: &mut Room, making: &mut Making, code: &
     requires words { room.old.top + (6 * long_in code.now + far_words_of code.now) ≤ room.old.end }
     ensures laid { (c : ℕ → ℕ → Bool) (shared : List (List ℕ)) → IsFree c room.old.top room.old.end → length shared ≡ making.old.serial
         → LaidBins c (shared ++ bins_of code.now) room.old room.new mem.old mem.new making.old making.new (long_in code.now) }
-    ensures leaves { Leaves room.old room.new mem.old mem.new }
+    ensures leaves { LeavesRoom room.old room.new mem.old mem.new }
     ensures front { room.new.top ≡ room.old.top + 6 * long_in code.now }
     ensures back { room.new.end + far_words_of code.now ≡ room.old.end }
     ensures serial { making.new.serial ≡ making.old.serial + long_in code.now }
@@ -117,7 +117,7 @@ fn lay_bin(mem: &mut WordMem, room: &mut Room, making: &mut Making, n: u64, byte
     ensures laid { (c : ℕ → ℕ → Bool) (shared : List (List ℕ)) → IsFree c room.old.top room.old.end → making.old.serial + 1 ≤ length shared
         → shared_bytes shared (making.old.serial + 1) ≡ bytes_in n bytes.now
         → LaidBins c shared room.old room.new mem.old mem.new making.old making.new 1 }
-    ensures leaves { Leaves room.old room.new mem.old mem.new }
+    ensures leaves { LeavesRoom room.old room.new mem.old mem.new }
     ensures front { room.new.top ≡ room.old.top + 6 }
     ensures back { room.new.end + (4 + bin_words n) ≡ room.old.end }
     ensures serial { making.new.serial ≡ making.old.serial + 1 }
@@ -135,7 +135,7 @@ fn lay_record(mem: &mut WordMem, room: &mut Room, serial: u64, n: u64, bytes: &[
     requires inside { n ≤ length bytes.now }
     requires words { room.old.top + (4 + bin_words n) ≤ room.old.end }
     ensures room { room.new ≡ record { start = room.old.start; top = room.old.top; end = room.old.end - (4 + bin_words n) } }
-    ensures writes { Writes room.new.end room.old.end mem.old mem.new }
+    ensures writes { WritesRecord room.new.end room.old.end mem.old mem.new }
     ensures made { (c d : ℕ → ℕ → Bool) → Taken record_roles c d room.new.end (4 + bin_words n)
         → IsBinRecord d mem.new room.new.end serial (bytes_in n bytes.now) }
     ensures count { count_in mem.new room.new.end ≡ 0 }
@@ -151,7 +151,7 @@ fn lay_record(mem: &mut WordMem, room: &mut Room, serial: u64, n: u64, bytes: &[
 fn put_bytes(mem: &mut WordMem, at: u64, n: u64, bytes: &[Item])
     requires inside { n ≤ length bytes.now }
     requires places { at + bin_words n ≤ length mem.old }
-    ensures writes { Writes at (at + bin_words n) mem.old mem.new }
+    ensures writes { WritesRecord at (at + bin_words n) mem.old mem.new }
     ensures bytes { BytesLie mem.new at (bytes_in n bytes.now) }
 {
     let _len = mem.len();

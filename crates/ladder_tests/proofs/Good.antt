@@ -4,18 +4,17 @@ use Rattle.std.proofs.Common.{◌∙◌, ap, subst, arith, inl, inr, Option, Som
 use Rattle.std.proofs.lemmas.List.{length-replicate, length-drop, length-take-le, get_or_append_left, get_or_push}
 use Rattle.std.proofs.lemmas.Bool.Decides.{nat_tests}
 use Rattle.word_mem.specs.declared.ranges.Room.{Room}
-use Rattle.plain_term.specs.Tree.{Tree, Trees, Pairs, keys_of, values_of}
+use Rattle.plain_term.specs.Tree.{Tree, Trees, Pairs, keys_of, values_of, same_trees}
 use Rattle.plain_term.specs.Measures.{int_flat, is_small, magnitude}
 use Rattle.plain_term.specs.Tree.Trees.{end, ◌▹◌}
 use Rattle.plain_term.specs.Tree.Pairs.{stop, pair}
 use Rattle.term_words.specs.Role.{always, outside}
 use Rattle.term_words.specs.Kept.{Keeps}
-use Rattle.term_words.proofs.Rooms.{is-term, weaken}
+use Rattle.term_words.proofs.Framing.Rooms.{is-term, weaken}
 use Rattle.term_order.specs.Compared.{AreNamed}
 use Rattle.term_words.specs.Stands.{AllStand, IsTerm}
 use Rattle.term_build.specs.Clear.{Clear, AllClear, KeepsClear, IsRoom, Uses}
 use Rattle.term_build.proofs.Rooms.{keeps-none, keeps-clear-then, room-after}
-use Rattle.term_build.specs.Parts.{same_trees}
 use Rattle.term_maps.specs.Given.{PairsStand}
 use Rattle.term_print.specs.Printed.{CanPrint}
 use Rattle.term_walk.specs.Measured.{Measures}

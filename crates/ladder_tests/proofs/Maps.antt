@@ -11,12 +11,12 @@ use Rattle.plain_term.specs.Tree.Pairs.{stop, pair}
 use Rattle.plain_term.specs.Order.{order}
 use Rattle.term_words.specs.Role.{always, outside}
 use Rattle.term_words.specs.Kept.{Keeps}
-use Rattle.term_words.proofs.Rooms.{weaken}
+use Rattle.term_words.proofs.Framing.Rooms.{weaken}
 use Rattle.term_build.specs.Clear.{Clear, KeepsClear, IsRoom}
 use Rattle.term_build.proofs.Rooms.{room-after}
 use Rattle.term_order.specs.Named.{is_named, pairs_named}
 use Rattle.term_maps.specs.InOrder.{by_order, put_pair, put_all, in_order, has_beyond, why_not}
-use Rattle.term_maps.specs.Given.{PairsStand, CanMap, IsMade}
+use Rattle.term_maps.specs.Given.{PairsStand, CanMap, MapIsMade}
 use Rattle.term_maps.specs.declared.maps.MapStop.{MapStop}
 use Rattle.term_maps.specs.declared.maps.MapStop.TheVariants as why
 use Rattle.ladder_tests.specs.Bench.{ArePairs, Makes}
@@ -94,7 +94,7 @@ few-keys names shared given h =
 
 -- What is made by a call for a map, or nothing.
 pub map-made : (shared names : List (List ℕ)) (given : Pairs) (old new : Room) (mem mem2 : List ℕ) (r : Result ℕ MapStop) → IsRoom old mem → old.top + 68 ≤ old.end
-    → pairs_named (length names) given ≡ true → OnErr r ((new ≡ old) × (mem2 ≡ mem)) → IfOk r (λ w. IsMade (outside old.top old.end) names shared given old new mem mem2 w)
+    → pairs_named (length names) given ≡ true → OnErr r ((new ≡ old) × (mem2 ≡ mem)) → IfOk r (λ w. MapIsMade (outside old.top old.end) names shared given old new mem mem2 w)
     → IfOk r (λ w. Clear new shared mem2 w (Map (in_order names shared given))) → KeepsClear old new mem mem2 → Makes shared names old new mem mem2 (result_ok r)
 map-made shared names given old new mem mem2 (Ok w) place spare named stopped made clear kept = record {
   place = room-after (4 + 2 * pairs_len (in_order names shared given)) old new mem mem2 made.uses place (omega (arith, spare, few-keys names shared given made.none));

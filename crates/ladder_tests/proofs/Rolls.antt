@@ -6,9 +6,9 @@ use Rattle.term_words.specs.Role.{outside}
 use Rattle.term_words.specs.Object.{IsBinRecord}
 use Rattle.term_words.specs.Kept.{Keeps}
 use Rattle.term_build.specs.Taken.{Lie}
-use Rattle.term_build.specs.Parts.{IsNamed}
+use Rattle.term_build.specs.Parts.{IsRecordOf}
 use Rattle.term_build.proofs.Rooms.{room-taken}
-use Rattle.shared_rec.specs.Record.{Writes, record_roles, length_in}
+use Rattle.shared_rec.specs.Record.{WritesRecord, record_roles, length_in}
 use Rattle.shared_rec.proofs.Rows.{writes-keep}
 use Rattle.ladder_tests.specs.Bench.{IsRoll, shared_of}
 
@@ -17,7 +17,7 @@ roll-size shared id len byte r = ap length r.bytes ∙ length-replicate {A = ℕ
 
 -- The record of a shared binary in the list.
 pub named-roll : (c : ℕ → ℕ → Bool) (shared : List (List ℕ)) (mem : List ℕ) (v id len byte : ℕ) → IsRoll shared id len byte → IsBinRecord c mem v id (replicate len byte)
-    → IsNamed c shared mem v len id
+    → IsRecordOf c shared mem v len id
 named-roll c shared mem v id len byte r m =
     let P : List ℕ → Type 0 = λ bytes. IsBinRecord c mem v id bytes in
     record { from_one = r.from_one; known = r.known; size = roll-size shared id len byte r; record_is = subst P (sym r.bytes) m }
@@ -53,10 +53,10 @@ filled c mid new at id len byte made zeros =
     subst P (length-replicate {A = ℕ} len 0) (made c id (replicate len 0) zeros)
 
 -- Two writes in the first free words of a room keep what is clear of it.
-pub twice-kept : (at m k end : ℕ) (old mid new : List ℕ) → Writes at (at + (4 + m)) old mid → Writes (at + 4) (at + 4 + k) mid new → k ≡ m → at + (4 + m) ≤ end
+pub twice-kept : (at m k end : ℕ) (old mid new : List ℕ) → WritesRecord at (at + (4 + m)) old mid → WritesRecord (at + 4) (at + 4 + k) mid new → k ≡ m → at + (4 + m) ≤ end
     → Keeps (outside at end) (outside (at + (4 + m)) end) old new
 twice-kept at m k end old mid new u w same fits =
-    let both : Writes at (at + (4 + m)) old new = record {
+    let both : WritesRecord at (at + (4 + m)) old new = record {
       same_len = w.same_len ∙ u.same_len;
       others = λ q apart. elim apart [
         | inl low ↦ w.others q (inl (omega (arith, low))) ∙ u.others q (inl low)

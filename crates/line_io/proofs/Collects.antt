@@ -44,16 +44,16 @@ module _ {K : Type 0} (wrote : K → List ℕ → Type 0) (old new : Gathered K)
       }
 
   -- the adapter stands in front of the same sink still
-  pub same_sink : (x : List ℕ) → pending old ≡ [] → Grew (gathered_wrote wrote) old new x → old.sink.ghost_name ≡ new.sink.ghost_name
-  same_sink x empty grew = (sent x empty grew).same_reference
+  pub same-sink : (x : List ℕ) → pending old ≡ [] → Grew (gathered_wrote wrote) old new x → old.sink.ghost_name ≡ new.sink.ghost_name
+  same-sink x empty grew = (sent x empty grew).same_reference
 
   -- all that was written was handed on
-  pub sent_all : (last : K) (x : List ℕ) → Sent wrote old new x → Grew wrote new.sink.now last (pending new) → Grew wrote old.sink.now last x
-  sent_all last x first rest = subst (Grew wrote old.sink.now last) (sym first.parts) (Grew-append wrote _ _ _ _ _ first.grew rest)
+  pub sent-all : (last : K) (x : List ℕ) → Sent wrote old new x → Grew wrote new.sink.now last (pending new) → Grew wrote old.sink.now last x
+  sent-all last x first rest = subst (Grew wrote old.sink.now last) (sym first.parts) (Grew-append wrote _ _ _ _ _ first.grew rest)
 
   -- not all that is gathered was handed on
-  pub sent_short : (last : K) (x : List ℕ) → Sent wrote old new x → GrewInPart wrote new.sink.now last (pending new) → GrewInPart wrote old.sink.now last x
-  sent_short last x first rest = record {
+  pub sent-short : (last : K) (x : List ℕ) → Sent wrote old new x → GrewInPart wrote new.sink.now last (pending new) → GrewInPart wrote old.sink.now last x
+  sent-short last x first rest = record {
     part = first.out ++ rest.part;
     missing = rest.missing;
     whole = first.parts ∙ ap (λ l. first.out ++ l) rest.whole ∙ sym (append_assoc first.out rest.part rest.missing);
@@ -62,8 +62,8 @@ module _ {K : Type 0} (wrote : K → List ℕ → Type 0) (old new : Gathered K)
   }
 
   -- not all was written to the adapter that was to be written
-  pub sent_part : (x : List ℕ) → pending old ≡ [] → GrewInPart (gathered_wrote wrote) old new x → GrewInPart wrote old.sink.now new.sink.now x
-  sent_part x empty grew =
+  pub sent-part : (x : List ℕ) → pending old ≡ [] → GrewInPart (gathered_wrote wrote) old new x → GrewInPart wrote old.sink.now new.sink.now x
+  sent-part x empty grew =
       let first = sent grew.part empty grew.grew in
       record {
         part = first.out;
@@ -78,22 +78,22 @@ module _ {K : Type 0} (wrote : K → List ℕ → Type 0) (old new : Gathered K)
       → faults old.sink.now ≤ faults new.sink.now → faults new.sink.now ≡ faults old.sink.now → Written wrote faults new.sink.now last (pending new) r → final ≡ last
       → Written wrote faults start final x r
   finished {E} faults start last final x (Ok u) starts empty grew later told rest ends =
-      let whole : Grew wrote old.sink.now last x = sent_all last x (sent x empty grew) rest.all in
+      let whole : Grew wrote old.sink.now last x = sent-all last x (sent x empty grew) rest.all in
       let P : K → Type 0 = λ k. Written {E = E} wrote faults k last x (Ok u) in
       let Q : K → Type 0 = λ k. Written {E = E} wrote faults start k x (Ok u) in
       subst Q (sym ends) (subst P starts (record { all = whole; part = tt; later = omega (arith, later, rest.later); rose = tt; told = rest.told ∙ told }))
   finished {E} faults start last final x (Err e) starts empty grew later told rest ends =
-      let short : GrewInPart wrote old.sink.now last x = sent_short last x (sent x empty grew) rest.part in
+      let short : GrewInPart wrote old.sink.now last x = sent-short last x (sent x empty grew) rest.part in
       let P : K → Type 0 = λ k. Written {E = E} wrote faults k last x (Err e) in
       let Q : K → Type 0 = λ k. Written {E = E} wrote faults start k x (Err e) in
       subst Q (sym ends) (subst P starts (record { all = tt; part = short; later = omega (arith, later, rest.later); rose = omega (arith, later, rest.later, rest.rose); told = tt }))
 
   -- writing x to the adapter failed, and it was given up
-  pub given_up : {E : Type 0} (faults : K → ℕ) (start final : K) (x : List ℕ) (r : Result (Unit {0}) E) → IsErr r → old.sink.now ≡ start → pending old ≡ []
+  pub given-up : {E : Type 0} (faults : K → ℕ) (start final : K) (x : List ℕ) (r : Result (Unit {0}) E) → IsErr r → old.sink.now ≡ start → pending old ≡ []
       → GrewInPart (gathered_wrote wrote) old new x
       → faults old.sink.now ≤ faults new.sink.now → Rose (faults old.sink.now) (faults new.sink.now) → final ≡ new.sink.now → Written wrote faults start final x r
-  given_up faults start final x (Ok u) failed starts empty grew later rose ends = cc
-  given_up {E} faults start final x (Err e) failed starts empty grew later rose ends =
+  given-up faults start final x (Ok u) failed starts empty grew later rose ends = cc
+  given-up {E} faults start final x (Err e) failed starts empty grew later rose ends =
       let P : K → Type 0 = λ k. Written {E = E} wrote faults k new.sink.now x (Err e) in
       let Q : K → Type 0 = λ k. Written {E = E} wrote faults start k x (Err e) in
-      subst Q (sym ends) (subst P starts (record { all = tt; part = sent_part x empty grew; later = later; rose = rose; told = tt }))
+      subst Q (sym ends) (subst P starts (record { all = tt; part = sent-part x empty grew; later = later; rose = rose; told = tt }))

@@ -8,12 +8,12 @@ use Rattle.std.specs.List.{position, position_or_len}
 use Rattle.line_io.specs.Lines.{is_end}
 use Rattle.line_io.specs.Reader.{IsOpen}
 use Rattle.line_io.proofs.Pieces.{IsOpen-append}
-use Rattle.line_io.proofs.Ranges.{range_later}
+use Rattle.line_io.proofs.Ranges.{range-later}
 
 -- before the first line end there is none
-pub open_before : (xs : List ℕ) → IsOpen (take (position_or_len is_end xs) xs)
-open_before [] = refl
-open_before (b ∷ xs) = pick (is_end b) refl (open_before xs)
+pub open-before : (xs : List ℕ) → IsOpen (take (position_or_len is_end xs) xs)
+open-before [] = refl
+open-before (b ∷ xs) = pick (is_end b) refl (open-before xs)
   where
     pick : (t : Bool) → is_end b ≡ t → IsOpen (take (position_or_len is_end xs) xs) → IsOpen (take (cond (not t) (1 + position_or_len is_end xs) 0) (b ∷ xs))
     pick true e others = refl
@@ -25,9 +25,9 @@ picked : {n i : ℕ} (b : Bool) → cond b (Some n) None ≡ Some i → (b ≡ t
 picked true e = (refl, cc)
 picked false e = absurd (cc)
 
-not_picked : (n : ℕ) (b : Bool) → ◌≡◌ {A = Option ℕ} (cond b (Some n) None) None → b ≡ false
-not_picked n true e = absurd (cc)
-not_picked n false e = refl
+not-picked : (n : ℕ) (b : Bool) → ◌≡◌ {A = Option ℕ} (cond b (Some n) None) None → b ≡ false
+not-picked n true e = absurd (cc)
+not-picked n false e = refl
 
 -- the first line end splits the bytes
 pub found : (xs : List ℕ) (i : ℕ) → position is_end xs ≡ Some i → (i < length xs) × (xs ≡ take i xs ++ (10 ∷ drop (i + 1) xs)) × IsOpen (take i xs)
@@ -38,49 +38,49 @@ found xs i at =
     let ten : get_or xs n 0 ≡ 10 = grind (arith, nat_tests, passes_at_first is_end xs 0 lt) in
     let split : xs ≡ take n xs ++ (10 ∷ drop (n + 1) xs) = split_at_first is_end xs 0 lt ∙ ap (λ b. take n xs ++ (b ∷ drop (n + 1) xs)) ten in
     let P : ℕ → Type 0 = λ m. (m < length xs) × (xs ≡ take m xs ++ (10 ∷ drop (m + 1) xs)) × IsOpen (take m xs) in
-    subst P p.1 (lt, split, open_before xs)
+    subst P p.1 (lt, split, open-before xs)
 
 -- where none is found, there is none
-pub none_found : (xs : List ℕ) → position is_end xs ≡ None → IsOpen xs
-none_found xs none =
+pub none-found : (xs : List ℕ) → position is_end xs ≡ None → IsOpen xs
+none-found xs none =
     let n = position_or_len is_end xs in
-    let all : length xs ≤ n = grind (arith, nat_tests, not_picked n (nat_lt n (length xs)) none) in
-    subst IsOpen (take_all n xs all) (open_before xs)
+    let all : length xs ≤ n = grind (arith, nat_tests, not-picked n (nat_lt n (length xs)) none) in
+    subst IsOpen (take_all n xs all) (open-before xs)
 
 -- two ranges side by side
-pub range_joins : (xs : List ℕ) (a b c : ℕ) → a ≤ b → b ≤ c → slice_range xs a c ≡ slice_range xs a b ++ slice_range xs b c
-range_joins xs a b c first second =
+pub range-joins : (xs : List ℕ) (a b c : ℕ) → a ≤ b → b ≤ c → slice_range xs a c ≡ slice_range xs a b ++ slice_range xs b c
+range-joins xs a b c first second =
     let whole : c - a ≡ (b - a) + (c - b) = omega arith in
     let place : a + (b - a) ≡ b = omega arith in
     ap (λ n. take n (drop a xs)) whole ∙ take-add (b - a) (c - b) (drop a xs)
     ∙ ap (λ l. take (b - a) (drop a xs) ++ take (c - b) l) (drop-drop (b - a) a xs ∙ ap (λ n. drop n xs) place)
 
 -- the first elements of a range
-pub range_take : (xs : List ℕ) (b c i : ℕ) → b + i ≤ c → take i (slice_range xs b c) ≡ slice_range xs b (b + i)
-range_take xs b c i within =
+pub range-take : (xs : List ℕ) (b c i : ℕ) → b + i ≤ c → take i (slice_range xs b c) ≡ slice_range xs b (b + i)
+range-take xs b c i within =
     let count : i ≡ b + i - b = omega arith in
     take-take i (c - b) (drop b xs) (omega arith) ∙ ap (λ n. take n (drop b xs)) count
 
 -- a line end among the bytes that are held, of which those before `looked` were looked at
-pub found_line : (buf : List ℕ) (start looked end i : ℕ) → start ≤ looked → looked ≤ end → IsOpen (slice_range buf start looked) → position is_end (slice_range buf looked end) ≡ Some i
+pub found-line : (buf : List ℕ) (start looked end i : ℕ) → start ≤ looked → looked ≤ end → IsOpen (slice_range buf start looked) → position is_end (slice_range buf looked end) ≡ Some i
     → (looked + i < end) × (slice_range buf start end ≡ slice_range buf start (looked + i) ++ (10 ∷ slice_range buf (looked + i + 1) end)) × IsOpen (slice_range buf start (looked + i))
-found_line buf start looked end i behind within before at =
+found-line buf start looked end i behind within before at =
     let window = slice_range buf looked end in
     let f = found window i at in
     let fits : looked + i + 1 ≤ end = omega (arith, f.0, length-take (end - looked) (drop looked buf)) in
     let front : slice_range buf start (looked + i) ≡ slice_range buf start looked ++ take i window =
-    range_joins buf start looked (looked + i) behind (omega arith) ∙ ap (λ l. slice_range buf start looked ++ l) (sym (range_take buf looked end i (omega (arith, fits)))) in
+    range-joins buf start looked (looked + i) behind (omega arith) ∙ ap (λ l. slice_range buf start looked ++ l) (sym (range-take buf looked end i (omega (arith, fits)))) in
     let place : looked + (i + 1) ≡ looked + i + 1 = omega arith in
     let back : drop (i + 1) window ≡ slice_range buf (looked + i + 1) end =
-    sym (range_later buf looked (i + 1) end (omega (arith, fits))) ∙ ap (λ n. slice_range buf n end) place in (
+    sym (range-later buf looked (i + 1) end (omega (arith, fits))) ∙ ap (λ n. slice_range buf n end) place in (
       omega (arith, fits),
-      range_joins buf start looked end behind within ∙ ap (λ l. slice_range buf start looked ++ l) f.1 ∙ sym (append_assoc (slice_range buf start looked) (take i window) (10 ∷ drop (i + 1) window))
+      range-joins buf start looked end behind within ∙ ap (λ l. slice_range buf start looked ++ l) f.1 ∙ sym (append_assoc (slice_range buf start looked) (take i window) (10 ∷ drop (i + 1) window))
           ∙ ap (λ l. l ++ (10 ∷ drop (i + 1) window)) (sym front) ∙ ap (λ l. slice_range buf start (looked + i) ++ (10 ∷ l)) back,
       subst IsOpen (sym front) (IsOpen-append (slice_range buf start looked) (take i window) before f.2),
     )
 
 -- no line end among them
-pub none_held : (buf : List ℕ) (start looked end : ℕ) → start ≤ looked → looked ≤ end → IsOpen (slice_range buf start looked) → position is_end (slice_range buf looked end) ≡ None
+pub none-held : (buf : List ℕ) (start looked end : ℕ) → start ≤ looked → looked ≤ end → IsOpen (slice_range buf start looked) → position is_end (slice_range buf looked end) ≡ None
     → IsOpen (slice_range buf start end)
-none_held buf start looked end behind within before at =
-    subst IsOpen (sym (range_joins buf start looked end behind within)) (IsOpen-append (slice_range buf start looked) (slice_range buf looked end) before (none_found (slice_range buf looked end) at))
+none-held buf start looked end behind within before at =
+    subst IsOpen (sym (range-joins buf start looked end behind within)) (IsOpen-append (slice_range buf start looked) (slice_range buf looked end) before (none-found (slice_range buf looked end) at))

@@ -18,8 +18,8 @@ Grew-more wrote old mid new xs done n fits first second =
     subst (Grew wrote old new) joined (Grew-append wrote old mid new _ _ first second)
 
 -- a part that stopped short of the end
-pub part_of_front : {K : Type 0} (wrote : K → List ℕ → Type 0) (old new : K) (xs : List ℕ) (n : ℕ) → n < length xs → Grew wrote old new (take n xs) → GrewInPart wrote old new xs
-part_of_front wrote old new xs n short grew = record {
+pub part-of-front : {K : Type 0} (wrote : K → List ℕ → Type 0) (old new : K) (xs : List ℕ) (n : ℕ) → n < length xs → Grew wrote old new (take n xs) → GrewInPart wrote old new xs
+part-of-front wrote old new xs n short grew = record {
   part = take n xs;
   missing = drop n xs;
   whole = sym (take-append-drop n xs);

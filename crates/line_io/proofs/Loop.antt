@@ -11,7 +11,7 @@ use Rattle.line_io.specs.declared.reader.Stop.TheVariants.{Open, Cut, Ended, Fau
 use Rattle.line_io.specs.declared.reader.LineGot.{LineGot}
 use Rattle.line_io.specs.declared.reader.LineGot.TheVariants.{Line, Long, End, Fault, TooMuch}
 use Rattle.line_io.specs.declared.reader.LineReader.{LineReader}
-use Rattle.line_io.proofs.Cutting.{open_lines, cut_lines}
+use Rattle.line_io.proofs.Cutting.{open-lines, cut-lines}
 
 -- what is known at the start of each turn
 pub record Looping (before now : Option (List ℕ)) (faults_before faults_now : ℕ) (old new : LineReader) (looked : ℕ) : Type 0 where
@@ -34,12 +34,12 @@ pub Gave-end : (a b c : Option (List ℕ)) (x : List ℕ) → Gave a b x → Gav
 Gave-end a b c x first second = subst (Gave a c) (append-nil x) (Gave-append a b c x [] first second)
 
 -- a reader that is not at its end, of what it has read
-pub cut_of_read : (stop : Stop) (r : LineReader) (left : Option (List ℕ)) (bytes : List ℕ) (given : List Text) → answer_at stop ≡ None → ReadAt stop r left bytes given → CutsAt stop r bytes given
-cut_of_read Open r left bytes given going h = h
-cut_of_read Cut r left bytes given going h = h
-cut_of_read Ended r left bytes given going h = absurd (cc)
-cut_of_read Faulted r left bytes given going h = absurd (cc)
-cut_of_read Passed r left bytes given going h = absurd (cc)
+pub cut-of-read : (stop : Stop) (r : LineReader) (left : Option (List ℕ)) (bytes : List ℕ) (given : List Text) → answer_at stop ≡ None → ReadAt stop r left bytes given → CutsAt stop r bytes given
+cut-of-read Open r left bytes given going h = h
+cut-of-read Cut r left bytes given going h = h
+cut-of-read Ended r left bytes given going h = absurd (cc)
+cut-of-read Faulted r left bytes given going h = absurd (cc)
+cut-of-read Passed r left bytes given going h = absurd (cc)
 
 -- whether the input has ended, by what its source tells, else by what the reader found
 ended_by : Stop → Option (List ℕ) → Bool
@@ -51,98 +51,98 @@ ended_by Cut None = false
 ended_by Faulted None = false
 ended_by Passed None = false
 
-told_by : (stop : Stop) (left : Option (List ℕ)) → IsEndOf (ended_by stop left) left
+told-by : (stop : Stop) (left : Option (List ℕ)) → IsEndOf (ended_by stop left) left
 unfolding ended_by
-told_by stop (Some []) = (λ t. refl, λ e. refl)
-told_by stop (Some (b ∷ left)) = (λ t. absurd (cc), λ e. absurd (cc))
-told_by stop None = tt
+told-by stop (Some []) = (λ t. refl, λ e. refl)
+told-by stop (Some (b ∷ left)) = (λ t. absurd (cc), λ e. absurd (cc))
+told-by stop None = tt
 
-at_end_by : (left : Option (List ℕ)) → IsAtEnd left → ended_by Ended left ≡ true
+at-end-by : (left : Option (List ℕ)) → IsAtEnd left → ended_by Ended left ≡ true
 unfolding ended_by
-at_end_by (Some []) e = refl
-at_end_by (Some (b ∷ left)) e = absurd (cc)
-at_end_by None e = refl
+at-end-by (Some []) e = refl
+at-end-by (Some (b ∷ left)) e = absurd (cc)
+at-end-by None e = refl
 
 -- the lines that were not given
-rest_of : (stop : Stop) (r : LineReader) (left : Option (List ℕ)) (bytes : List ℕ) (given : List Text) → ReadAt stop r left bytes given
+rest-of : (stop : Stop) (r : LineReader) (left : Option (List ℕ)) (bytes : List ℕ) (given : List Text) → ReadAt stop r left bytes given
     → (rest : List Text) × (lines bytes (ended_by stop left) r.limits ≡ given ++ rest)
-rest_of Open r left bytes given h = (_, open_lines r.limits r.long r.lines_left r.bytes_left (held r) bytes given (ended_by Open left) h)
-rest_of Cut r left bytes given h = (_, cut_lines r.limits r.long r.lines_left r.bytes_left (held r) bytes given (ended_by Cut left) h.1 h.0)
-rest_of Ended r left bytes given h = ([], ap (λ e. lines bytes e r.limits) (at_end_by left h.2) ∙ h.0 ∙ sym (append-nil given))
-rest_of Faulted r left bytes given h = pick (ended_by Faulted left)
+rest-of Open r left bytes given h = (_, open-lines r.limits r.long r.lines_left r.bytes_left (held r) bytes given (ended_by Open left) h)
+rest-of Cut r left bytes given h = (_, cut-lines r.limits r.long r.lines_left r.bytes_left (held r) bytes given (ended_by Cut left) h.1 h.0)
+rest-of Ended r left bytes given h = ([], ap (λ e. lines bytes e r.limits) (at-end-by left h.2) ∙ h.0 ∙ sym (append-nil given))
+rest-of Faulted r left bytes given h = pick (ended_by Faulted left)
   where
     pick : (ended : Bool) → (rest : List Text) × (lines bytes ended r.limits ≡ given ++ rest)
     pick true = h.1
     pick false = ([], h.0 ∙ sym (append-nil given))
-rest_of Passed r left bytes given h = ([], h.0 (ended_by Passed left) ∙ sym (append-nil given))
+rest-of Passed r left bytes given h = ([], h.0 (ended_by Passed left) ∙ sym (append-nil given))
 
 -- what the answer says of the lines
-ends_of : (answer : LineGot) (stop : Stop) (r : LineReader) (left : Option (List ℕ)) (bytes : List ℕ) (given : List Text) (h : ReadAt stop r left bytes (given ++ came_line answer (line_in r)))
+ends-of : (answer : LineGot) (stop : Stop) (r : LineReader) (left : Option (List ℕ)) (bytes : List ℕ) (given : List Text) (h : ReadAt stop r left bytes (given ++ came_line answer (line_in r)))
     → Settles answer (answer_at stop)
-    → EndsLines answer r.limits bytes given (ended_by stop left) (rest_of stop r left bytes (given ++ came_line answer (line_in r)) h).0 left
-unfolding rest_of
-ends_of Line stop r left bytes given h settles = tt
-ends_of Long stop r left bytes given h settles = tt
-ends_of End Ended r left bytes given h settles = (refl, at_end_by left h.2, h.2, h.1)
-ends_of End Open r left bytes given h settles = absurd (cc)
-ends_of End Cut r left bytes given h settles = absurd (cc)
-ends_of End Faulted r left bytes given h settles = absurd (cc)
-ends_of End Passed r left bytes given h settles = absurd (cc)
-ends_of Fault Faulted r left bytes given h settles = (h.0 ∙ append-nil given, h.2)
-ends_of Fault Open r left bytes given h settles = absurd (cc)
-ends_of Fault Cut r left bytes given h settles = absurd (cc)
-ends_of Fault Ended r left bytes given h settles = absurd (cc)
-ends_of Fault Passed r left bytes given h settles = absurd (cc)
-ends_of TooMuch Passed r left bytes given h settles = (refl, h.1)
-ends_of TooMuch Open r left bytes given h settles = absurd (cc)
-ends_of TooMuch Cut r left bytes given h settles = absurd (cc)
-ends_of TooMuch Ended r left bytes given h settles = absurd (cc)
-ends_of TooMuch Faulted r left bytes given h settles = absurd (cc)
+    → EndsLines answer r.limits bytes given (ended_by stop left) (rest-of stop r left bytes (given ++ came_line answer (line_in r)) h).0 left
+unfolding rest-of
+ends-of Line stop r left bytes given h settles = tt
+ends-of Long stop r left bytes given h settles = tt
+ends-of End Ended r left bytes given h settles = (refl, at-end-by left h.2, h.2, h.1)
+ends-of End Open r left bytes given h settles = absurd (cc)
+ends-of End Cut r left bytes given h settles = absurd (cc)
+ends-of End Faulted r left bytes given h settles = absurd (cc)
+ends-of End Passed r left bytes given h settles = absurd (cc)
+ends-of Fault Faulted r left bytes given h settles = (h.0 ∙ append-nil given, h.2)
+ends-of Fault Open r left bytes given h settles = absurd (cc)
+ends-of Fault Cut r left bytes given h settles = absurd (cc)
+ends-of Fault Ended r left bytes given h settles = absurd (cc)
+ends-of Fault Passed r left bytes given h settles = absurd (cc)
+ends-of TooMuch Passed r left bytes given h settles = (refl, h.1)
+ends-of TooMuch Open r left bytes given h settles = absurd (cc)
+ends-of TooMuch Cut r left bytes given h settles = absurd (cc)
+ends-of TooMuch Ended r left bytes given h settles = absurd (cc)
+ends-of TooMuch Faulted r left bytes given h settles = absurd (cc)
 
 -- all that a call's answer says
-pub reads_of : (answer : LineGot) (r : LineReader) (before after : Option (List ℕ)) (limits : Limits) (bytes x : List ℕ) (given : List Text) → limits_of r ≡ limits → Gave before after x
+pub reads-of : (answer : LineGot) (r : LineReader) (before after : Option (List ℕ)) (limits : Limits) (bytes x : List ℕ) (given : List Text) → limits_of r ≡ limits → Gave before after x
     → HasRead r after (bytes ++ x) (given ++ came_line answer (line_in r)) → Settles answer (answered r) → Reads before after limits r bytes given answer
-reads_of answer r before after limits bytes x given el gave has settles =
-    let more = rest_of r.stop r after (bytes ++ x) (given ++ came_line answer (line_in r)) has.here in
+reads-of answer r before after limits bytes x given el gave has settles =
+    let more = rest-of r.stop r after (bytes ++ x) (given ++ came_line answer (line_in r)) has.here in
     subst (λ l. Reads before after l r bytes given answer) el (record {
       x = x;
       gave = gave;
       has = has;
       ended = ended_by r.stop after;
-      told = told_by r.stop after;
+      told = told-by r.stop after;
       rest = more.0;
       front = more.1;
-      ends = ends_of answer r.stop r after (bytes ++ x) given has.here settles;
+      ends = ends-of answer r.stop r after (bytes ++ x) given has.here settles;
     })
 
 -- a last answer brings no line
-came_none : (answer : LineGot) (stop : Stop) (line : List ℕ) → answer_at stop ≡ Some answer → came_line answer line ≡ []
-came_none End stop line e = refl
-came_none Fault stop line e = refl
-came_none TooMuch stop line e = refl
-came_none Line Open line e = absurd (cc)
-came_none Line Cut line e = absurd (cc)
-came_none Line Ended line e = absurd (cc)
-came_none Line Faulted line e = absurd (cc)
-came_none Line Passed line e = absurd (cc)
-came_none Long Open line e = absurd (cc)
-came_none Long Cut line e = absurd (cc)
-came_none Long Ended line e = absurd (cc)
-came_none Long Faulted line e = absurd (cc)
-came_none Long Passed line e = absurd (cc)
+came-none : (answer : LineGot) (stop : Stop) (line : List ℕ) → answer_at stop ≡ Some answer → came_line answer line ≡ []
+came-none End stop line e = refl
+came-none Fault stop line e = refl
+came-none TooMuch stop line e = refl
+came-none Line Open line e = absurd (cc)
+came-none Line Cut line e = absurd (cc)
+came-none Line Ended line e = absurd (cc)
+came-none Line Faulted line e = absurd (cc)
+came-none Line Passed line e = absurd (cc)
+came-none Long Open line e = absurd (cc)
+came-none Long Cut line e = absurd (cc)
+came-none Long Ended line e = absurd (cc)
+came-none Long Faulted line e = absurd (cc)
+came-none Long Passed line e = absurd (cc)
 
-pub settles_again : (answer : LineGot) (stays : Option LineGot) → stays ≡ Some answer → Settles answer stays
-settles_again Line stays e = tt
-settles_again Long stays e = tt
-settles_again End stays e = e
-settles_again Fault stays e = e
-settles_again TooMuch stays e = e
+pub settles-again : (answer : LineGot) (stays : Option LineGot) → stays ≡ Some answer → Settles answer stays
+settles-again Line stays e = tt
+settles-again Long stays e = tt
+settles-again End stays e = e
+settles-again Fault stays e = e
+settles-again TooMuch stays e = e
 
 -- a last answer that is given again
-pub reads_again : (answer : LineGot) (r : LineReader) (left : Option (List ℕ)) (bytes : List ℕ) (given : List Text) → answered r ≡ Some answer → HasRead r left bytes given
+pub reads-again : (answer : LineGot) (r : LineReader) (left : Option (List ℕ)) (bytes : List ℕ) (given : List Text) → answered r ≡ Some answer → HasRead r left bytes given
     → Reads left left (limits_of r) r bytes given answer
-reads_again answer r left bytes given e has =
-    let same : given ++ came_line answer (line_in r) ≡ given = ap (λ l. given ++ l) (came_none answer r.stop (line_in r) e) ∙ append-nil given in
+reads-again answer r left bytes given e has =
+    let same : given ++ came_line answer (line_in r) ≡ given = ap (λ l. given ++ l) (came-none answer r.stop (line_in r) e) ∙ append-nil given in
     let again : HasRead r left (bytes ++ []) (given ++ came_line answer (line_in r)) =
     subst (λ b. HasRead r left b (given ++ came_line answer (line_in r))) (sym (append-nil bytes)) (subst (HasRead r left bytes) (sym same) has) in
-    reads_of answer r left left (limits_of r) bytes [] given refl (Gave-nil left) again (settles_again answer (answered r) e)
+    reads-of answer r left left (limits_of r) bytes [] given refl (Gave-nil left) again (settles-again answer (answered r) e)

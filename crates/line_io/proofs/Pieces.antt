@@ -11,14 +11,14 @@ use Rattle.line_io.specs.Reader.{line_given, IsOpen}
 use Rattle.line_io.specs.declared.reader.TheConstants.{LONGEST_LINE}
 
 -- neither holds
-pub or_false : (a b : Bool) → (a || b) ≡ false → (a ≡ false) × (b ≡ false)
-or_false true b e = absurd (cc)
-or_false false b e = (refl, e)
+pub or-false : (a b : Bool) → (a || b) ≡ false → (a ≡ false) × (b ≡ false)
+or-false true b e = absurd (cc)
+or-false false b e = (refl, e)
 
 -- both hold
-pub and_true : (a b : Bool) → (a && b) ≡ true → (a ≡ true) × (b ≡ true)
-and_true true b e = (refl, e)
-and_true false b e = absurd (cc)
+pub and-true : (a b : Bool) → (a && b) ≡ true → (a ≡ true) × (b ≡ true)
+and-true true b e = (refl, e)
+and-true false b e = absurd (cc)
 
 pub or-true : (a : Bool) → (a || true) ≡ true
 or-true true = refl
@@ -35,20 +35,20 @@ IsOpen-append xs ys first second = list_any-append is_end xs ys ∙ ap (λ b. b 
 pub pieces-first : (front back : List ℕ) → IsOpen front → pieces (front ++ (10 ∷ back)) ≡ (front ++ (10 ∷ [])) ∷ pieces back
 pieces-first [] back none = refl
 pieces-first (b ∷ front) back none =
-    let parts = or_false (is_end b) (list_any is_end front) none in
+    let parts = or-false (is_end b) (list_any is_end front) none in
     rw (parts.0, pieces-first front back parts.1) refl
 
 -- bytes without a line end are one piece
 pub pieces-open : (b : ℕ) (xs : List ℕ) → IsOpen (b ∷ xs) → pieces (b ∷ xs) ≡ (b ∷ xs) ∷ []
-pieces-open b [] none = let parts = or_false (is_end b) false none in rw parts.0 refl
+pieces-open b [] none = let parts = or-false (is_end b) false none in rw parts.0 refl
 pieces-open b (c ∷ xs) none =
-    let parts = or_false (is_end b) (list_any is_end (c ∷ xs)) none in
+    let parts = or-false (is_end b) (list_any is_end (c ∷ xs)) none in
     rw (parts.0, pieces-open c xs parts.1) refl
 
 -- of bytes without a line end no piece is whole
-pub whole_of_open : (xs : List ℕ) → IsOpen xs → filter is_whole (pieces xs) ≡ []
-whole_of_open [] none = refl
-whole_of_open (b ∷ xs) none = rw (pieces-open b xs none) (rw none refl)
+pub whole-of-open : (xs : List ℕ) → IsOpen xs → filter is_whole (pieces xs) ≡ []
+whole-of-open [] none = refl
+whole-of-open (b ∷ xs) none = rw (pieces-open b xs none) (rw none refl)
 
 -- some bytes make a piece at least
 pub pieces-some : (xs : List ℕ) → 0 < length xs → 0 < length (pieces xs)
@@ -64,27 +64,27 @@ pieces-some (b ∷ xs) some = pick (is_end b) (pieces xs)
     pick false ps = onto ps
 
 -- the text before the first line end
-pub before_end : (xs : List ℕ) → IsOpen xs → before_first is_end (xs ++ (10 ∷ [])) ≡ xs
-before_end xs none = ap (λ n. take n (xs ++ (10 ∷ []))) (place xs none) ∙ take-append_seam xs (10 ∷ [])
+pub before-end : (xs : List ℕ) → IsOpen xs → before_first is_end (xs ++ (10 ∷ [])) ≡ xs
+before-end xs none = ap (λ n. take n (xs ++ (10 ∷ []))) (place xs none) ∙ take-append_seam xs (10 ∷ [])
   where
     place : (xs : List ℕ) → IsOpen xs → position_or_len is_end (xs ++ (10 ∷ [])) ≡ length xs
     place [] none = refl
-    place (b ∷ xs) none = let parts = or_false (is_end b) (list_any is_end xs) none in rw (parts.0, place xs parts.1) (omega arith)
+    place (b ∷ xs) none = let parts = or-false (is_end b) (list_any is_end xs) none in rw (parts.0, place xs parts.1) (omega arith)
 
-pub is_whole_ended : (xs : List ℕ) → is_whole (xs ++ (10 ∷ [])) ≡ true
-is_whole_ended xs = list_any-append is_end xs (10 ∷ []) ∙ or-true (list_any is_end xs)
+pub is_whole-ended : (xs : List ℕ) → is_whole (xs ++ (10 ∷ [])) ≡ true
+is_whole-ended xs = list_any-append is_end xs (10 ∷ []) ∙ or-true (list_any is_end xs)
 
 -- a whole piece as a line
-pub line_of_whole : (xs : List ℕ) → IsOpen xs → line_of (xs ++ (10 ∷ [])) ≡ line_given false (strip_carriage_return xs)
-line_of_whole xs none = rw (is_whole_ended xs, before_end xs none) refl
+pub line_of-whole : (xs : List ℕ) → IsOpen xs → line_of (xs ++ (10 ∷ [])) ≡ line_given false (strip_carriage_return xs)
+line_of-whole xs none = rw (is_whole-ended xs, before-end xs none) refl
 
 -- a piece without a line end as a line
-pub line_of_open : (xs : List ℕ) → IsOpen xs → line_of xs ≡ line_given false xs
-line_of_open xs none = rw none refl
+pub line_of-open : (xs : List ℕ) → IsOpen xs → line_of xs ≡ line_given false xs
+line_of-open xs none = rw none refl
 
 -- a line that is too long in any case
-pub line_given_long : (xs : List ℕ) → LONGEST_LINE < length xs → line_given false xs ≡ long
-line_given_long xs more = let over : nat_lt LONGEST_LINE (length xs) ≡ true = grind (arith, nat_tests) in rw over refl
+pub line_given-long : (xs : List ℕ) → LONGEST_LINE < length xs → line_given false xs ≡ long
+line_given-long xs more = let over : nat_lt LONGEST_LINE (length xs) ≡ true = grind (arith, nat_tests) in rw over refl
 
 pub length-strip : (xs : List ℕ) → length xs ≤ length (strip_carriage_return xs) + 1
 length-strip xs = pick (slice_index xs (length xs - 1) == 13)
@@ -93,10 +93,10 @@ length-strip xs = pick (slice_index xs (length xs - 1) == 13)
     pick true = omega (arith, length-take (length xs - 1) xs)
     pick false = omega arith
 
-pub filter_all : {X : Type 0} (p : X → Bool) (xs : List X) → list_all p xs ≡ true → filter p xs ≡ xs
-filter_all p [] all = refl
-filter_all p (x ∷ xs) all = let parts = and_true (p x) (list_all p xs) all in rw (parts.0, filter_all p xs parts.1) refl
+pub filter-all : {X : Type 0} (p : X → Bool) (xs : List X) → list_all p xs ≡ true → filter p xs ≡ xs
+filter-all p [] all = refl
+filter-all p (x ∷ xs) all = let parts = and-true (p x) (list_all p xs) all in rw (parts.0, filter-all p xs parts.1) refl
 
 pub finished-append : (ended : Bool) (whole ps : List (List ℕ)) → list_all is_whole whole ≡ true → finished ended (whole ++ ps) ≡ whole ++ finished ended ps
 finished-append true whole ps all = refl
-finished-append false whole ps all = filter-append is_whole whole ps ∙ ap (λ l. l ++ filter is_whole ps) (filter_all is_whole whole all)
+finished-append false whole ps all = filter-append is_whole whole ps ∙ ap (λ l. l ++ filter is_whole ps) (filter-all is_whole whole all)

@@ -4,43 +4,43 @@ use Rattle.std.proofs.lemmas.List.{drop-take, drop-append-le, drop-drop}
 use lib.Seq.{take-append_seam}
 
 -- a range is what stands from its start on in all that stands before its end
-pub range_is_drop : (xs : List ℕ) (from to : ℕ) → from ≤ to → slice_range xs from to ≡ drop from (take to xs)
-range_is_drop xs from to in_order =
+pub range-is-drop : (xs : List ℕ) (from to : ℕ) → from ≤ to → slice_range xs from to ≡ drop from (take to xs)
+range-is-drop xs from to in_order =
     let whole : from + (to - from) ≡ to = omega arith in
     sym (drop-take from (to - from) xs) ∙ ap (λ n. drop from (take n xs)) whole
 
 -- a write behind a range makes it longer
-pub range_grows : (xs ys x : List ℕ) (from to n : ℕ) → from ≤ to → to ≤ length xs → take (to + n) ys ≡ take to xs ++ x → slice_range ys from (to + n) ≡ slice_range xs from to ++ x
-range_grows xs ys x from to n in_order within written =
+pub range-grows : (xs ys x : List ℕ) (from to n : ℕ) → from ≤ to → to ≤ length xs → take (to + n) ys ≡ take to xs ++ x → slice_range ys from (to + n) ≡ slice_range xs from to ++ x
+range-grows xs ys x from to n in_order within written =
     let room : from ≤ length (take to xs) = omega (arith, length-take to xs) in
-    range_is_drop ys from (to + n) (omega arith) ∙ ap (drop from) written ∙ drop-append-le from (take to xs) x room
-    ∙ ap (λ l. l ++ x) (sym (range_is_drop xs from to in_order))
+    range-is-drop ys from (to + n) (omega arith) ∙ ap (drop from) written ∙ drop-append-le from (take to xs) x room
+    ∙ ap (λ l. l ++ x) (sym (range-is-drop xs from to in_order))
 
 -- a range from a later start on is the same range without its first elements
-pub range_later : (xs : List ℕ) (from n to : ℕ) → from + n ≤ to → slice_range xs (from + n) to ≡ drop n (slice_range xs from to)
-range_later xs from n to within =
+pub range-later : (xs : List ℕ) (from n to : ℕ) → from + n ≤ to → slice_range xs (from + n) to ≡ drop n (slice_range xs from to)
+range-later xs from n to within =
     let whole : n + (to - (from + n)) ≡ to - from = omega arith in
     ap (take (to - (from + n))) (sym (drop-drop n from xs))
     ∙ sym (drop-take n (to - (from + n)) (drop from xs))
     ∙ ap (λ m. drop n (take m (drop from xs))) whole
 
 -- a range is its first elements and the range from behind them on
-pub range_splits : (xs : List ℕ) (from n to : ℕ) → from + n ≤ to → slice_range xs from to ≡ take n (slice_range xs from to) ++ slice_range xs (from + n) to
-range_splits xs from n to within =
-    sym (take-append-drop n (slice_range xs from to)) ∙ ap (λ l. take n (slice_range xs from to) ++ l) (sym (range_later xs from n to within))
+pub range-splits : (xs : List ℕ) (from n to : ℕ) → from + n ≤ to → slice_range xs from to ≡ take n (slice_range xs from to) ++ slice_range xs (from + n) to
+range-splits xs from n to within =
+    sym (take-append-drop n (slice_range xs from to)) ∙ ap (λ l. take n (slice_range xs from to) ++ l) (sym (range-later xs from n to within))
 
 -- what a buffer begins with after the first n of some bytes were copied to a place
-pub copied_front : (xs ys bytes : List ℕ) (to n : ℕ) → n ≤ length bytes → take (to + length (take n bytes)) ys ≡ take to xs ++ take n bytes → take (to + n) ys ≡ take to xs ++ take n bytes
-copied_front xs ys bytes to n fits written = ap (λ k. take (to + k) ys) (sym (length-take-le n bytes fits)) ∙ written
+pub copied-front : (xs ys bytes : List ℕ) (to n : ℕ) → n ≤ length bytes → take (to + length (take n bytes)) ys ≡ take to xs ++ take n bytes → take (to + n) ys ≡ take to xs ++ take n bytes
+copied-front xs ys bytes to n fits written = ap (λ k. take (to + k) ys) (sym (length-take-le n bytes fits)) ∙ written
 
 -- how long a range within a buffer is
-pub length_range : (xs : List ℕ) (from n : ℕ) → from + n ≤ length xs → length (slice_range xs from (from + n)) ≡ n
-length_range xs from n within = omega (arith, length-take (from + n - from) (drop from xs), length-drop from xs)
+pub length-range : (xs : List ℕ) (from n : ℕ) → from + n ≤ length xs → length (slice_range xs from (from + n)) ≡ n
+length-range xs from n within = omega (arith, length-take (from + n - from) (drop from xs), length-drop from xs)
 
 -- a range stays where all that stands before its end stays
-pub range_kept : (xs ys : List ℕ) (from to : ℕ) → from ≤ to → take to ys ≡ take to xs → slice_range ys from to ≡ slice_range xs from to
-range_kept xs ys from to in_order same = range_is_drop ys from to in_order ∙ ap (drop from) same ∙ sym (range_is_drop xs from to in_order)
+pub range-kept : (xs ys : List ℕ) (from to : ℕ) → from ≤ to → take to ys ≡ take to xs → slice_range ys from to ≡ slice_range xs from to
+range-kept xs ys from to in_order same = range-is-drop ys from to in_order ∙ ap (drop from) same ∙ sym (range-is-drop xs from to in_order)
 
 -- a vector that is written over as a whole
-pub written_over : (len : ℕ) (xs old : List ℕ) → length xs ≡ len → take len (xs ++ drop (length xs) old) ≡ xs
-written_over len xs old same = ap (λ n. take n (xs ++ drop (length xs) old)) (sym same) ∙ take-append_seam xs (drop (length xs) old)
+pub written-over : (len : ℕ) (xs old : List ℕ) → length xs ≡ len → take len (xs ++ drop (length xs) old) ≡ xs
+written-over len xs old same = ap (λ n. take n (xs ++ drop (length xs) old)) (sym same) ∙ take-append_seam xs (drop (length xs) old)

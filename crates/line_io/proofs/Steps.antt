@@ -12,68 +12,68 @@ use Rattle.line_io.specs.declared.reader.Stop.{Stop}
 use Rattle.line_io.specs.declared.reader.Stop.TheVariants.{Open, Cut, Ended, Faulted, Passed}
 use Rattle.line_io.specs.declared.reader.LineReader.{LineReader}
 use Rattle.line_io.specs.declared.reader.TheConstants.{SIZE}
-use Rattle.line_io.proofs.Cutting.{gives, takes, lets_go, none_left, none_whole, all_given, last_given, cut_none_left, cut_none_whole, open_lines, keeps_limits}
+use Rattle.line_io.proofs.Cutting.{gives, takes, lets-go, none-left, none-whole, all-given, last-given, cut-none-left, cut-none-whole, open-lines, keeps-limits}
 
 -- a reader that is not at its end has read
-pub read_of_cut : (stop : Stop) (r : LineReader) (left : Option (List ℕ)) (bytes : List ℕ) (given : List Text) → CutsAt stop r bytes given → ReadAt stop r left bytes given
-read_of_cut Open r left bytes given h = h
-read_of_cut Cut r left bytes given h = h
-read_of_cut Ended r left bytes given h = absurd h
-read_of_cut Faulted r left bytes given h = absurd h
-read_of_cut Passed r left bytes given h = absurd h
+pub read-of-cut : (stop : Stop) (r : LineReader) (left : Option (List ℕ)) (bytes : List ℕ) (given : List Text) → CutsAt stop r bytes given → ReadAt stop r left bytes given
+read-of-cut Open r left bytes given h = h
+read-of-cut Cut r left bytes given h = h
+read-of-cut Ended r left bytes given h = absurd h
+read-of-cut Faulted r left bytes given h = absurd h
+read-of-cut Passed r left bytes given h = absurd h
 
 -- what too much input means
 abbrev pub Passes : Limits → List ℕ → List Text → Type 0
 Passes limits bytes given = ((ended : Bool) → lines bytes ended limits ≡ given) × (is_too_much bytes limits ≡ true)
 
-nothing_more : (limits : Limits) (bytes : List ℕ) (given : List Text) → Passes limits bytes given → Passes limits bytes (given ++ [])
-nothing_more limits bytes given h = (λ ended. h.0 ended ∙ sym (append-nil given), h.1)
+nothing-more : (limits : Limits) (bytes : List ℕ) (given : List Text) → Passes limits bytes given → Passes limits bytes (given ++ [])
+nothing-more limits bytes given h = (λ ended. h.0 ended ∙ sym (append-nil given), h.1)
 
 -- a further byte is held where no more lines are allowed
-pub passes_many : (stop : Stop) (limits : Limits) (is_long : Bool) (more room : ℕ) (held bytes : List ℕ) (given : List Text) → more ≡ 0 → 0 < length held
+pub passes-many : (stop : Stop) (limits : Limits) (is_long : Bool) (more room : ℕ) (held bytes : List ℕ) (given : List Text) → more ≡ 0 → 0 < length held
     → CutBy stop limits is_long more room held bytes given
     → Passes limits bytes (given ++ [])
-passes_many Open limits is_long more room held bytes given none some h = nothing_more limits bytes given (none_left limits is_long more room held bytes given some none h)
-passes_many Cut limits is_long more room held bytes given none some h = nothing_more limits bytes given (cut_none_left limits is_long more room held bytes given none h.1 h.0)
-passes_many Ended limits is_long more room held bytes given none some h = absurd h
-passes_many Faulted limits is_long more room held bytes given none some h = absurd h
-passes_many Passed limits is_long more room held bytes given none some h = absurd h
+passes-many Open limits is_long more room held bytes given none some h = nothing-more limits bytes given (none-left limits is_long more room held bytes given some none h)
+passes-many Cut limits is_long more room held bytes given none some h = nothing-more limits bytes given (cut-none-left limits is_long more room held bytes given none h.1 h.0)
+passes-many Ended limits is_long more room held bytes given none some h = absurd h
+passes-many Faulted limits is_long more room held bytes given none some h = absurd h
+passes-many Passed limits is_long more room held bytes given none some h = absurd h
 
 -- no whole line is held, and bytes were cut off
-pub passes_cut : (stop : Stop) (limits : Limits) (is_long : Bool) (more room : ℕ) (held bytes : List ℕ) (given : List Text) → stop ≡ Cut → IsOpen held
+pub passes-cut : (stop : Stop) (limits : Limits) (is_long : Bool) (more room : ℕ) (held bytes : List ℕ) (given : List Text) → stop ≡ Cut → IsOpen held
     → CutBy stop limits is_long more room held bytes given
     → Passes limits bytes (given ++ [])
-passes_cut stop limits is_long more room held bytes given cut no_end h =
+passes-cut stop limits is_long more room held bytes given cut no_end h =
     let k = subst (λ s. CutBy s limits is_long more room held bytes given) cut h in
-    nothing_more limits bytes given (cut_none_whole limits is_long more room held bytes given no_end k.1 k.0)
+    nothing-more limits bytes given (cut-none-whole limits is_long more room held bytes given no_end k.1 k.0)
 
 -- a whole line is given
-gives_at : (stop : Stop) (limits : Limits) (is_long : Bool) (more fewer room : ℕ) (held rest bytes t : List ℕ) (given : List Text) → fewer + 1 ≡ more → held ≡ t ++ (10 ∷ rest) → IsOpen t
+gives-at : (stop : Stop) (limits : Limits) (is_long : Bool) (more fewer room : ℕ) (held rest bytes t : List ℕ) (given : List Text) → fewer + 1 ≡ more → held ≡ t ++ (10 ∷ rest) → IsOpen t
     → CutBy stop limits is_long more room held bytes given → CutBy stop limits false fewer room rest bytes (given ++ (line_given is_long (strip_carriage_return t) ∷ []))
-gives_at Open limits is_long more fewer room held rest bytes t given one parts no_end h = gives limits is_long more room held bytes given t rest fewer parts no_end one h
-gives_at Cut limits is_long more fewer room held rest bytes t given one parts no_end h = (gives limits is_long more room held (take limits.bytes bytes) given t rest fewer parts no_end one h.0, h.1)
-gives_at Ended limits is_long more fewer room held rest bytes t given one parts no_end h = absurd h
-gives_at Faulted limits is_long more fewer room held rest bytes t given one parts no_end h = absurd h
-gives_at Passed limits is_long more fewer room held rest bytes t given one parts no_end h = absurd h
+gives-at Open limits is_long more fewer room held rest bytes t given one parts no_end h = gives limits is_long more room held bytes given t rest fewer parts no_end one h
+gives-at Cut limits is_long more fewer room held rest bytes t given one parts no_end h = (gives limits is_long more room held (take limits.bytes bytes) given t rest fewer parts no_end one h.0, h.1)
+gives-at Ended limits is_long more fewer room held rest bytes t given one parts no_end h = absurd h
+gives-at Faulted limits is_long more fewer room held rest bytes t given one parts no_end h = absurd h
+gives-at Passed limits is_long more fewer room held rest bytes t given one parts no_end h = absurd h
 
-pub gives_by : (stop stop' : Stop) (limits limits' : Limits) (is_long is_long' : Bool) (more more' room room' : ℕ) (held held' bytes t : List ℕ) (given came : List Text) → stop' ≡ stop
+pub gives-by : (stop stop' : Stop) (limits limits' : Limits) (is_long is_long' : Bool) (more more' room room' : ℕ) (held held' bytes t : List ℕ) (given came : List Text) → stop' ≡ stop
     → limits' ≡ limits → is_long' ≡ false
     → room' ≡ room → more' + 1 ≡ more → held ≡ t ++ (10 ∷ held') → IsOpen t → came ≡ line_given is_long (strip_carriage_return t) ∷ []
     → CutBy stop limits is_long more room held bytes given → CutBy stop' limits' is_long' more' room' held' bytes (given ++ came)
-gives_by stop stop' limits limits' is_long is_long' more more' room room' held held' bytes t given came es el ei er one parts no_end ec h =
-    rw (es, el, ei, er, ec) (gives_at stop limits is_long more more' room held held' bytes t given one parts no_end h)
+gives-by stop stop' limits limits' is_long is_long' more more' room room' held held' bytes t given came es el ei er one parts no_end ec h =
+    rw (es, el, ei, er, ec) (gives-at stop limits is_long more more' room held held' bytes t given one parts no_end h)
 
 -- bytes within the limit are taken
-pub takes_by : (stop : Stop) (limits : Limits) (is_long : Bool) (more room less : ℕ) (held held' bytes x : List ℕ) (given : List Text) → stop ≡ Open → held' ≡ held ++ x → less + length x ≡ room
+pub takes-by : (stop : Stop) (limits : Limits) (is_long : Bool) (more room less : ℕ) (held held' bytes x : List ℕ) (given : List Text) → stop ≡ Open → held' ≡ held ++ x → less + length x ≡ room
     → CutBy stop limits is_long more room held bytes given → CutBy stop limits is_long more less held' (bytes ++ x) given
-takes_by stop limits is_long more room less held held' bytes x given eo eh sum h =
+takes-by stop limits is_long more room less held held' bytes x given eo eh sum h =
     let k = subst (λ s. CutBy s limits is_long more room held bytes given) eo h in
     rw (eo, eh) (takes limits is_long more room held bytes given x less sum k)
 
 -- bytes past the limit are taken, and those past it are not kept
-pub takes_past : (stop : Stop) (limits : Limits) (is_long : Bool) (more room : ℕ) (held held' bytes x : List ℕ) (given : List Text) → stop ≡ Open → room < length x → held' ≡ held ++ take room x
+pub takes-past : (stop : Stop) (limits : Limits) (is_long : Bool) (more room : ℕ) (held held' bytes x : List ℕ) (given : List Text) → stop ≡ Open → room < length x → held' ≡ held ++ take room x
     → CutBy stop limits is_long more room held bytes given → CutBy Cut limits is_long more 0 held' (bytes ++ x) given
-takes_past stop limits is_long more room held held' bytes x given eo past eh h =
+takes-past stop limits is_long more room held held' bytes x given eo past eh h =
     let k = subst (λ s. CutBy s limits is_long more room held bytes given) eo h in
     let count : limits.bytes ≡ length bytes + room = omega (arith, k.bytes_sum) in
     let kept : take limits.bytes (bytes ++ x) ≡ bytes ++ take room x = ap (λ n. take n (bytes ++ x)) count ∙ take-append-add bytes x room in
@@ -81,69 +81,69 @@ takes_past stop limits is_long more room held held' bytes x given eo past eh h =
     (rw (kept, eh) (takes limits is_long more room held bytes given (take room x) 0 all k), omega (arith, count, past, length-append bytes x))
 
 -- a full buffer is let go
-pub lets_go_by : (stop : Stop) (limits : Limits) (is_long : Bool) (more room : ℕ) (held bytes : List ℕ) (given : List Text) → SIZE ≤ length held → IsOpen held → 0 < more
+pub lets-go-by : (stop : Stop) (limits : Limits) (is_long : Bool) (more room : ℕ) (held bytes : List ℕ) (given : List Text) → SIZE ≤ length held → IsOpen held → 0 < more
     → CutBy stop limits is_long more room held bytes given → CutBy stop limits true more room [] bytes given
-lets_go_by Open limits is_long more room held bytes given full no_end line h = lets_go limits is_long more room held bytes given full no_end line h
-lets_go_by Cut limits is_long more room held bytes given full no_end line h = (lets_go limits is_long more room held (take limits.bytes bytes) given full no_end line h.0, h.1)
-lets_go_by Ended limits is_long more room held bytes given full no_end line h = absurd h
-lets_go_by Faulted limits is_long more room held bytes given full no_end line h = absurd h
-lets_go_by Passed limits is_long more room held bytes given full no_end line h = absurd h
+lets-go-by Open limits is_long more room held bytes given full no_end line h = lets-go limits is_long more room held bytes given full no_end line h
+lets-go-by Cut limits is_long more room held bytes given full no_end line h = (lets-go limits is_long more room held (take limits.bytes bytes) given full no_end line h.0, h.1)
+lets-go-by Ended limits is_long more room held bytes given full no_end line h = absurd h
+lets-go-by Faulted limits is_long more room held bytes given full no_end line h = absurd h
+lets-go-by Passed limits is_long more room held bytes given full no_end line h = absurd h
 
 -- what the end of the input means
 abbrev pub Ends : Limits → List ℕ → List Text → Type 0
 Ends limits bytes given = (lines bytes true limits ≡ given) × (is_too_much bytes limits ≡ false)
 
 -- the input ended where nothing was held
-pub ends_empty : (stop : Stop) (limits : Limits) (is_long : Bool) (more room : ℕ) (held bytes : List ℕ) (given : List Text) → stop ≡ Open → is_long ≡ false → held ≡ []
+pub ends-empty : (stop : Stop) (limits : Limits) (is_long : Bool) (more room : ℕ) (held bytes : List ℕ) (given : List Text) → stop ≡ Open → is_long ≡ false → held ≡ []
     → CutBy stop limits is_long more room held bytes given
     → Ends limits bytes (given ++ [])
-ends_empty stop limits is_long more room held bytes given eo short empty h =
+ends-empty stop limits is_long more room held bytes given eo short empty h =
     let k = subst (λ s. CutBy s limits is_long more room held bytes given) eo h in
-    let e = all_given limits is_long more room held bytes given short empty k in
+    let e = all-given limits is_long more room held bytes given short empty k in
     (e.0 ∙ sym (append-nil given), e.1)
 
 -- the input ended in a line
-pub ends_last : (stop : Stop) (limits : Limits) (is_long : Bool) (more room : ℕ) (held bytes : List ℕ) (given : List Text) → stop ≡ Open → 0 < more → IsOpen held → (0 < length held) ⊎ (is_long ≡ true)
+pub ends-last : (stop : Stop) (limits : Limits) (is_long : Bool) (more room : ℕ) (held bytes : List ℕ) (given : List Text) → stop ≡ Open → 0 < more → IsOpen held → (0 < length held) ⊎ (is_long ≡ true)
     → CutBy stop limits is_long more room held bytes given → Ends limits bytes (given ++ (line_given is_long held ∷ []))
-ends_last stop limits is_long more room held bytes given eo line no_end some h =
+ends-last stop limits is_long more room held bytes given eo line no_end some h =
     let k = subst (λ s. CutBy s limits is_long more room held bytes given) eo h in
     let begun : 0 < length (k.gone ++ held) =
-    elim some [ inl held_some ↦ omega (arith, held_some, length-append k.gone held) | inr is ↦ omega (arith, gone_some is_long k.gone more is k.long_is, length-append k.gone held) ] in
-    last_given limits is_long more room held bytes given line no_end k begun
+    elim some [ inl held_some ↦ omega (arith, held_some, length-append k.gone held) | inr is ↦ omega (arith, gone-some is_long k.gone more is k.long_is, length-append k.gone held) ] in
+    last-given limits is_long more room held bytes given line no_end k begun
   where
-    gone_some : (is_long : Bool) (gone : List ℕ) (more : ℕ) → is_long ≡ true → MatchBool is_long ((SIZE ≤ length gone) × (0 < more)) (gone ≡ []) → 0 < length gone
-    gone_some true gone more is long_is = omega (arith, long_is.0)
-    gone_some false gone more is long_is = absurd (cc)
+    gone-some : (is_long : Bool) (gone : List ℕ) (more : ℕ) → is_long ≡ true → MatchBool is_long ((SIZE ≤ length gone) × (0 < more)) (gone ≡ []) → 0 < length gone
+    gone-some true gone more is long_is = omega (arith, long_is.0)
+    gone-some false gone more is long_is = absurd (cc)
 
 -- a reader whose input has ended
-pub read_of_end : (stop : Stop) (r : LineReader) (limits : Limits) (left : Option (List ℕ)) (bytes : List ℕ) (given : List Text) → stop ≡ Ended → r.limits ≡ limits → Ends limits bytes given
+pub read-of-end : (stop : Stop) (r : LineReader) (limits : Limits) (left : Option (List ℕ)) (bytes : List ℕ) (given : List Text) → stop ≡ Ended → r.limits ≡ limits → Ends limits bytes given
     → IsAtEnd left
     → ReadAt stop r left bytes given
-read_of_end stop r limits left bytes given es el e at_end =
+read-of-end stop r limits left bytes given es el e at_end =
     let P : Limits → Type 0 = λ l. Ends l bytes given in
     let here = subst P (sym el) e in
     subst (λ s. ReadAt s r left bytes given) (sym es) (here.0, here.1, at_end)
 
 -- a fault comes where no whole line is held, and a line is begun only where one is allowed
-pub faults_by : (stop : Stop) (limits : Limits) (is_long : Bool) (more room : ℕ) (held bytes : List ℕ) (given : List Text) → stop ≡ Open → IsOpen held → (0 < length held → 0 < more)
+pub faults-by : (stop : Stop) (limits : Limits) (is_long : Bool) (more room : ℕ) (held bytes : List ℕ) (given : List Text) → stop ≡ Open → IsOpen held → (0 < length held → 0 < more)
     → CutBy stop limits is_long more room held bytes given
     → (lines bytes false limits ≡ given ++ []) × ((rest : List Text) × (lines bytes true limits ≡ (given ++ []) ++ rest)) × (is_too_much bytes limits ≡ false)
-faults_by stop limits is_long more room held bytes given eo no_end line h =
+faults-by stop limits is_long more room held bytes given eo no_end line h =
     let k = subst (λ s. CutBy s limits is_long more room held bytes given) eo h in
-    let all = open_lines limits is_long more room held bytes given true k in
+    let all = open-lines limits is_long more room held bytes given true k in
     let rest = map line_of (take more (finished true (pieces (k.gone ++ held)))) in (
-      none_whole limits is_long more room held bytes given no_end k ∙ sym (append-nil given),
+      none-whole limits is_long more room held bytes given no_end k ∙ sym (append-nil given),
       (rest, all ∙ ap (λ l. l ++ rest) (sym (append-nil given))),
-      keeps_limits limits is_long more room held bytes given no_end line k,
+      keeps-limits limits is_long more room held bytes given no_end line k,
     )
 
 -- an answer that is a line stays nowhere
-pub settles_line : (answer : LineGot) (stays : Option LineGot) → lines_in answer ≡ 1 → Settles answer stays
-settles_line Line stays one = tt
-settles_line Long stays one = tt
-settles_line End stays one = absurd (omega arith)
-settles_line Fault stays one = absurd (omega arith)
-settles_line TooMuch stays one = absurd (omega arith)
+pub settles-line : (answer : LineGot) (stays : Option LineGot) → lines_in answer ≡ 1 → Settles answer stays
+settles-line Line stays one = tt
+settles-line Long stays one = tt
+settles-line End stays one = absurd (omega arith)
+settles-line Fault stays one = absurd (omega arith)
+settles-line TooMuch stays one = absurd (omega arith)
 
 pub line-not-fault : (answer : LineGot) → lines_in answer ≡ 1 → answer ≢ Fault
 line-not-fault Line one = λ e. cc
@@ -159,6 +159,6 @@ none-not-fault stays none = λ e. cc
 pub length-held : (r : LineReader) → length (held r) ≡ r.end - r.start
 length-held r = omega (arith, r.size, r.in_order, r.in_buffer, length-take (r.end - r.start) (drop r.start r.buf.items), length-drop r.start r.buf.items)
 
-pub nothing_held : (xs : List ℕ) → length xs ≡ 0 → xs ≡ []
-nothing_held [] none = refl
-nothing_held (x ∷ xs) none = absurd (omega arith)
+pub nothing-held : (xs : List ℕ) → length xs ≡ 0 → xs ≡ []
+nothing-held [] none = refl
+nothing-held (x ∷ xs) none = absurd (omega arith)

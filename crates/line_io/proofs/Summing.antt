@@ -49,8 +49,8 @@ begun-more (c ∷ bytes) b e =
     pick true same = same
     pick false same = refl
 
-tests_later : (n m : ℕ) → nat_lt (n + 1) (m + 1) ≡ nat_lt n m
-tests_later n m = pick (nat_lt n m) refl
+tests-later : (n m : ℕ) → nat_lt (n + 1) (m + 1) ≡ nat_lt n m
+tests-later n m = pick (nat_lt n m) refl
   where
     pick : (t : Bool) → nat_lt n m ≡ t → nat_lt (n + 1) (m + 1) ≡ t
     pick true e = grind (arith, nat_tests)
@@ -61,7 +61,7 @@ further-more w word None b = refl
 further-more w word (Some n) b =
     let next : n + 1 ≡ suc n = omega arith in
     let len : length (w ∷ word) ≡ length word + 1 = omega arith in
-    let fits : nat_lt (n + 1 + 1) (length (w ∷ word)) ≡ nat_lt (n + 1) (length word) = ap (nat_lt (n + 1 + 1)) len ∙ tests_later (n + 1) (length word) in
+    let fits : nat_lt (n + 1 + 1) (length (w ∷ word)) ≡ nat_lt (n + 1) (length word) = ap (nat_lt (n + 1 + 1)) len ∙ tests-later (n + 1) (length word) in
     let place : slice_index (w ∷ word) (n + 1) ≡ slice_index word n = ap (slice_index (w ∷ word)) next in
     pick (nat_lt (n + 1) (length word) && (b == slice_index word n))
     ∙ ap (λ t. cond (t && (b == slice_index word n)) (Some (n + 1 + 1)) None) (sym fits)
@@ -96,12 +96,12 @@ completes-more w word None b = refl
 completes-more w word (Some n) b =
     let next : n + 1 ≡ suc n = omega arith in
     let len : length (w ∷ word) ≡ length word + 1 = omega arith in
-    let whole : (n + 1 + 1 == length (w ∷ word)) ≡ (n + 1 == length word) = ap (λ k. n + 1 + 1 == k) len ∙ same_later (n + 1) (length word) in
+    let whole : (n + 1 + 1 == length (w ∷ word)) ≡ (n + 1 == length word) = ap (λ k. n + 1 + 1 == k) len ∙ same-later (n + 1) (length word) in
     let place : slice_index (w ∷ word) (n + 1) ≡ slice_index word n = ap (slice_index (w ∷ word)) next in
     ap (λ t. t && (b == slice_index (w ∷ word) (n + 1))) whole ∙ ap (λ k. (n + 1 == length word) && (b == k)) place
   where
-    same_later : (n m : ℕ) → (n + 1 == m + 1) ≡ (n == m)
-    same_later n m = pick (n == m) refl
+    same-later : (n m : ℕ) → (n + 1 == m + 1) ≡ (n == m)
+    same-later n m = pick (n == m) refl
       where
         pick : (t : Bool) → (n == m) ≡ t → (n + 1 == m + 1) ≡ t
         pick true e = grind (arith, nat_tests)
@@ -172,8 +172,8 @@ cut (c ∷ bytes) = pick (is_end c) refl (list_any is_end bytes) refl (cut bytes
         record { whole = []; cuts = λ more. ap (λ l. pieces (l ++ more)) (sym same); is_open = subst IsOpen (sym same) none; some = λ g. absurd (cc) }
 
 -- an open line and one byte more are one piece
-piece_more : (line : List ℕ) (b : ℕ) → IsOpen line → pieces (line ++ b ∷ []) ≡ (line ++ b ∷ []) ∷ []
-piece_more line b none = pick (is_end b) refl
+piece-more : (line : List ℕ) (b : ℕ) → IsOpen line → pieces (line ++ b ∷ []) ≡ (line ++ b ∷ []) ∷ []
+piece-more line b none = pick (is_end b) refl
   where
     one : (line : List ℕ) → IsOpen (line ++ b ∷ []) → pieces (line ++ b ∷ []) ≡ (line ++ b ∷ []) ∷ []
     one [] open_line = pieces-open b [] open_line
@@ -200,7 +200,7 @@ errors-more bytes b =
     ap (λ l. count_by p (pieces l)) (sym (append-nil bytes)) ∙ ap (count_by p) (r.cuts [] ∙ ap (λ l. r.whole ++ pieces l) (append-nil line))
     ∙ count-append p r.whole (pieces line) ∙ ap (λ n. count_by p r.whole + n) (count-open ERROR_WORD line (omega arith) r.is_open) in
     let after : error_lines (bytes ++ b ∷ []) ≡ count_by p r.whole + one_if (p (line ++ b ∷ [])) =
-    ap (count_by p) (r.cuts (b ∷ []) ∙ ap (λ ps. r.whole ++ ps) (piece_more line b r.is_open))
+    ap (count_by p) (r.cuts (b ∷ []) ∙ ap (λ ps. r.whole ++ ps) (piece-more line b r.is_open))
     ∙ count-append p r.whole ((line ++ b ∷ []) ∷ []) ∙ ap (λ n. count_by p r.whole + n) (count-one p (line ++ b ∷ [])) in
     let more = begins-more ERROR_WORD line b (omega arith) in
     omega (arith, before, after, more)

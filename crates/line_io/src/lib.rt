@@ -1,4 +1,4 @@
-// Input as bytes cut into lines and output as bytes taken, through two traits whose contracts tell the bytes and count the faults.
+//! Input as bytes cut into lines and output as bytes taken, through two traits whose contracts tell the bytes and count the faults.
 #![tactic(auto)]
 
 mod copies;

@@ -12,7 +12,7 @@ use Rattle.made_script.specs.Script.{made_script}
 use Rattle.made_script.proofs.Laws.{is_q, lacks_q, lines-lack_q}
 use Rattle.plain_machine.specs.State.{State}
 use Rattle.plain_machine.specs.Run.{LineStep, Run, replies_text}
-use Rattle.plain_machine.proofs.Runs.{run-append, run-none, run-one, text-append}
+use Rattle.plain_machine.proofs.ByLine.Runs.{run-append, run-none, run-one, text-append}
 use Rattle.engine.specs.Rules.{After, Output, Supply}
 use Rattle.engine.specs.Steps.{Steps, StepWrites}
 use Rattle.engine.specs.declared.machine.Stepped.{Stepped}

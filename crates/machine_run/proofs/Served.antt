@@ -13,30 +13,30 @@ use Rattle.machine_run.specs.Made.{IsMade, Made, supply_of}
 
 module _ (rules : Rules) (source : Input) {K : Type 0} (out : Output K) (Stands : State → Type 0) where
   -- a script that was served has no status of a run that did not begin
-  pub if_served : (status : Status) (Q : Type 0) → Served rules source out Stands status → IfBegun status (Served rules source out Stands status) Q
-  if_served Done Q s = s
-  if_served Usage Q s = absurd s.ends
-  if_served ReadFault Q s = s
-  if_served WriteFault Q s = s
-  if_served Memory Q s = absurd s.ends
-  if_served TooMuch Q s = s
+  pub if-served : (status : Status) (Q : Type 0) → Served rules source out Stands status → IfBegun status (Served rules source out Stands status) Q
+  if-served Done Q s = s
+  if-served Usage Q s = absurd s.ends
+  if-served ReadFault Q s = s
+  if-served WriteFault Q s = s
+  if-served Memory Q s = absurd s.ends
+  if-served TooMuch Q s = s
 
   -- it is not refused for its words
-  pub not_usage : (status : Status) → Served rules source out Stands status → status ≡ Usage → ⊥
-  not_usage status s e = let P : Status → Type 0 = λ k. Served rules source out Stands k in let t : Served rules source out Stands Usage = subst P e s in t.ends
+  pub not-usage : (status : Status) → Served rules source out Stands status → status ≡ Usage → ⊥
+  not-usage status s e = let P : Status → Type 0 = λ k. Served rules source out Stands k in let t : Served rules source out Stands Usage = subst P e s in t.ends
 
   -- a fault of writing is told
-  pub write_told : (status : Status) → Served rules source out Stands status → TellsWrite status (out.faults out.before) (out.faults out.after)
-  write_told Done s = s.ends.0.1
-  write_told Usage s = absurd s.ends
-  write_told ReadFault s = s.ends.0.1
-  write_told WriteFault s = s.ends.1
-  write_told Memory s = absurd s.ends
-  write_told TooMuch s = s.ends.0.1
+  pub write-told : (status : Status) → Served rules source out Stands status → TellsWrite status (out.faults out.before) (out.faults out.after)
+  write-told Done s = s.ends.0.1
+  write-told Usage s = absurd s.ends
+  write-told ReadFault s = s.ends.0.1
+  write-told WriteFault s = s.ends.1
+  write-told Memory s = absurd s.ends
+  write-told TooMuch s = s.ends.0.1
 
   -- what stands for the last state may be said in other words
-  pub stands_so : (Other : State → Type 0) (status : Status) → ((s : State) → Stands s → Other s) → Served rules source out Stands status → Served rules source out Other status
-  stands_so Other status f s = record {
+  pub stands-so : (Other : State → Type 0) (status : Status) → ((s : State) → Stands s → Other s) → Served rules source out Stands status → Served rules source out Other status
+  stands-so Other status f s = record {
     course = s.course;
     took = s.took;
     told = s.told;
@@ -50,38 +50,38 @@ module _ (rules : Rules) (source : Input) {K : Type 0} (out : Output K) (Stands 
 
 module _ {K : Type 0} (out : Output K) (x : List ℕ) where
   -- a made script ends in one of two ways
-  pub ends_so : (status : Status) → EndsMade status out x → (status ≡ Done) ⊎ (status ≡ WriteFault) ⊎ (status ≡ Memory)
-  ends_so Done e = inl refl
-  ends_so Usage e = absurd e
-  ends_so ReadFault e = absurd e
-  ends_so WriteFault e = inr (inl refl)
-  ends_so Memory e = absurd e
-  ends_so TooMuch e = absurd e
+  pub ends-so : (status : Status) → EndsMade status out x → (status ≡ Done) ⊎ (status ≡ WriteFault) ⊎ (status ≡ Memory)
+  ends-so Done e = inl refl
+  ends-so Usage e = absurd e
+  ends-so ReadFault e = absurd e
+  ends-so WriteFault e = inr (inl refl)
+  ends-so Memory e = absurd e
+  ends-so TooMuch e = absurd e
 
   -- a fault of writing its summary is told
-  pub summary_told : (status : Status) → EndsMade status out x → TellsWrite status (out.faults out.before) (out.faults out.after)
-  summary_told Done e = e.1
-  summary_told Usage e = absurd e
-  summary_told ReadFault e = absurd e
-  summary_told WriteFault e = e.1
-  summary_told Memory e = absurd e
-  summary_told TooMuch e = absurd e
+  pub summary-told : (status : Status) → EndsMade status out x → TellsWrite status (out.faults out.before) (out.faults out.after)
+  summary-told Done e = e.1
+  summary-told Usage e = absurd e
+  summary-told ReadFault e = absurd e
+  summary-told WriteFault e = e.1
+  summary-told Memory e = absurd e
+  summary-told TooMuch e = absurd e
 
 -- what stands for the last state of a made script may be said in other words
-pub made_so : (supply : Supply) (first : State) (number : ℕ) (Stands Other : State → Type 0) (numbers : Summary) → ((s : State) → Stands s → Other s)
+pub made-so : (supply : Supply) (first : State) (number : ℕ) (Stands Other : State → Type 0) (numbers : Summary) → ((s : State) → Stands s → Other s)
     → IsMade supply first number Stands numbers → IsMade supply first number Other numbers
-made_so supply first number Stands Other numbers f m = record { replies = m.replies; last = m.last; run = m.run; stands = f m.last m.stands; sums = m.sums }
+made-so supply first number Stands Other numbers f m = record { replies = m.replies; last = m.last; run = m.run; stands = f m.last m.stands; sums = m.sums }
 
 -- a made script that ended was begun
-pub if_made : (words number : ℕ) {K : Type 0} (out : Output K) (Stands : State → Type 0) (numbers : Summary) (status : Status) (Q : Type 0)
+pub if-made : (words number : ℕ) {K : Type 0} (out : Output K) (Stands : State → Type 0) (numbers : Summary) (status : Status) (Q : Type 0)
     → IsMade (supply_of words) first_state number Stands numbers → EndsMade status out (summary_text numbers)
     → IfBegun status (Made words number out Stands status) Q
-if_made words number out Stands numbers Done Q m e = (numbers, m, e)
-if_made words number out Stands numbers Usage Q m e = absurd e
-if_made words number out Stands numbers ReadFault Q m e = absurd e
-if_made words number out Stands numbers WriteFault Q m e = (numbers, m, e)
-if_made words number out Stands numbers Memory Q m e = absurd e
-if_made words number out Stands numbers TooMuch Q m e = absurd e
+if-made words number out Stands numbers Done Q m e = (numbers, m, e)
+if-made words number out Stands numbers Usage Q m e = absurd e
+if-made words number out Stands numbers ReadFault Q m e = absurd e
+if-made words number out Stands numbers WriteFault Q m e = (numbers, m, e)
+if-made words number out Stands numbers Memory Q m e = absurd e
+if-made words number out Stands numbers TooMuch Q m e = absurd e
 
 -- each status but two has a fault or an end before the first line as its cause
 pub complete : (status : Status) (r q w v : ℕ) → TellsRead status r q → TellsWrite status w v → IsComplete status (Rose r q) (Rose w v)

@@ -4,7 +4,7 @@ use Rattle.std.specs.Prelude.{option_map}
 use Rattle.std.specs.Ordering.{is_eq, match_ordering}
 use Rattle.std.specs.declared.cmp.Ordering.{Ordering}
 use Rattle.std.specs.declared.cmp.Ordering.TheVariants.{Less, Equal, Greater}
-use Rattle.plain_term.specs.Tree.{Tree, Trees, Pairs}
+use Rattle.plain_term.specs.Tree.{Tree, Trees, Pairs, same_trees}
 use Rattle.plain_term.specs.Tree.Tree.{Nil, Cons, Tuple, Map, Bin, Shared, Part, Fun}
 use Rattle.plain_term.specs.Tree.Trees.{end, ◌▹◌}
 use Rattle.plain_term.specs.Tree.Pairs.{stop, pair}
@@ -17,7 +17,7 @@ use Rattle.script_grammar.specs.declared.command.Shape.{Shape}
 use Rattle.script_grammar.specs.declared.command.Shape.TheVariants.{Tuple as InTuple, List as InList}
 use Rattle.plain_machine.specs.State.{Process, register}
 use Rattle.plain_machine.specs.Made.{with_pair, with_pairs, list_tree}
-use Rattle.plain_machine.specs.Parts.{head_in, tail_in, tree_after, element_in, place_in, env_in, part_in, value_of, value_in, picked, times, repeated}
+use Rattle.plain_machine.specs.Parts.{head_in, tail_in, tree_after, element_in, place_in, env_in, part_in, value_of, value_in, picked, repeated}
 use Rattle.named_trees.specs.NamedTree.{NamedTree, NamedPairs, named, all_named, pairs_named}
 use Rattle.named_trees.specs.NamedTree.{NamedTree as by_name}
 use Rattle.named_trees.specs.NamedTree.{NamedTrees as all_by_name}
@@ -124,13 +124,13 @@ module _ (names shared : List (List ℕ)) where
   list-by end t = refl
   list-by (u ▹ ts) t = ap (λ z. by_name.Cons (by u) z) (list-by ts t)
 
-  times-by : (n : ℕ) (t : Tree) → all_named names shared (times n t) ≡ named_times n (by t)
+  times-by : (n : ℕ) (t : Tree) → all_named names shared (same_trees n t) ≡ named_times n (by t)
   times-by zero t = refl
   times-by (suc n) t = ap (λ z. all_by_name.before (by t) z) (times-by n t)
 
   repeated-by : (shape : Shape) (n : ℕ) (t : Tree) → by (repeated shape n t) ≡ named_repeated shape n (by t)
   repeated-by InTuple n t = ap by_name.Tuple (times-by n t)
-  repeated-by InList n t = list-by (times n t) Nil ∙ ap (λ z. named_list z by_name.Nil) (times-by n t)
+  repeated-by InList n t = list-by (same_trees n t) Nil ∙ ap (λ z. named_list z by_name.Nil) (times-by n t)
 
   pub done : DoneOf names shared
   done = record { part = picked-by; put = put-by; many = repeated-by }

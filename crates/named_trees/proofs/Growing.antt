@@ -8,7 +8,7 @@ use Rattle.plain_term.specs.Tree.Trees.{end, ◌▹◌}
 use Rattle.plain_term.specs.Tree.Pairs.{stop, pair}
 use Rattle.plain_term.specs.Bytes.{shared_bytes}
 use Rattle.plain_term.specs.Proper.{is_proper, are_proper, are_proper_pairs}
-use Rattle.plain_machine.proofs.Growing.{cons-parts, all-parts, fun-parts, part-parts, map-parts, pairs-parts}
+use Rattle.plain_machine.proofs.Properly.Growing.{cons-parts, all-parts, fun-parts, part-parts, map-parts, pairs-parts}
 use Rattle.named_trees.specs.NamedTree.{named, all_named, pairs_named, IsKnown, AreKnown, PairsKnown}
 use Rattle.named_trees.specs.NamedTree.{NamedTree as by_name}
 use Rattle.named_trees.specs.NamedTree.{NamedTrees as all_by_name}

@@ -17,7 +17,7 @@ use Rattle.script_grammar.specs.Written.TermPairs.{stop, pair}
 use Rattle.script_grammar.specs.Names.{atoms_of, atoms_of_all, atoms_of_pairs}
 use Rattle.plain_machine.specs.Made.{tree_of, trees_of, pairs_of, with_pair, with_pairs, list_tree, bin_tree}
 use Rattle.plain_machine.specs.Flaws.{is_wide, are_wide, are_wide_pairs, is_big, are_big, are_big_pairs}
-use Rattle.plain_machine.proofs.Making.{Extends, made-more, all-made-more, pairs-made-more, extends-then}
+use Rattle.plain_machine.proofs.Properly.Making.{Extends, made-more, all-made-more, pairs-made-more, extends-then}
 use Rattle.named_trees.specs.NamedTree.{NamedTree, named, all_named, pairs_named, IsKnown, AreKnown, PairsKnown}
 use Rattle.named_trees.specs.NamedTree.{NamedTree as by_name}
 use Rattle.named_trees.specs.NamedTree.{NamedTrees as all_by_name}

@@ -1,7 +1,7 @@
 -- Parts of known trees, and what is made of them, are known.
 use Rattle.std.proofs.Common.{◌≡◌, ℕ, zero, suc, ◌+◌, Bool, true, false, cond, nat_le, List, [], ◌∷◌, ◌++◌, length, map, get_or, set, replicate, Option, Some, None, refl}
 use Rattle.std.specs.Ordering.{is_eq}
-use Rattle.plain_term.specs.Tree.{Tree, Trees, Pairs}
+use Rattle.plain_term.specs.Tree.{Tree, Trees, Pairs, same_trees}
 use Rattle.plain_term.specs.Tree.Tree.{Nil, Cons, Tuple, Map, Bin, Shared, Part, Fun}
 use Rattle.plain_term.specs.Tree.Trees.{end, ◌▹◌}
 use Rattle.plain_term.specs.Tree.Pairs.{stop, pair}
@@ -15,7 +15,7 @@ use Rattle.script_grammar.specs.declared.command.Shape.TheVariants.{Tuple as InT
 use Rattle.script_grammar.specs.Names.{held_terms}
 use Rattle.plain_machine.specs.State.{Process}
 use Rattle.plain_machine.specs.Made.{trees_of}
-use Rattle.plain_machine.specs.Parts.{head_in, tail_in, tree_after, element_in, place_in, env_in, part_in, value_of, value_in, picked, times, repeated}
+use Rattle.plain_machine.specs.Parts.{head_in, tail_in, tree_after, element_in, place_in, env_in, part_in, value_of, value_in, picked, repeated}
 use Rattle.named_trees.specs.NamedTree.{named, all_named, IsKnown, AreKnown, PairsKnown}
 use Rattle.named_trees.specs.NamedTree.{NamedTrees as all_by_name}
 use Rattle.named_trees.specs.Doing.{all_named_made}
@@ -89,14 +89,14 @@ module _ (names shared : List (List ℕ)) where
   picked-known q (Env i) t h = env-in-known i t h
   picked-known q (Bytes offset len) t h = part-known offset len t h
 
-  times-known : (n : ℕ) (t : Tree) → IsKnown names shared t → AreKnown names shared (times n t)
+  times-known : (n : ℕ) (t : Tree) → IsKnown names shared t → AreKnown names shared (same_trees n t)
   times-known zero t h = tt
   times-known (suc n) t h = (h, times-known n t h)
 
   -- so many times a tree
   pub repeated-known : (shape : Shape) (n : ℕ) (t : Tree) → IsKnown names shared t → IsKnown names shared (repeated shape n t)
   repeated-known InTuple n t h = times-known n t h
-  repeated-known InList n t h = list-known names shared (times n t) Nil (times-known n t h) tt
+  repeated-known InList n t h = list-known names shared (same_trees n t) Nil (times-known n t h) tt
 
   -- an environment: trees of registers
   pub env-known : (held : List Tree) (rs : List ℕ) → AllKnown names shared held → AreKnown names shared ((trees_of names held (held_terms rs) shared).0)

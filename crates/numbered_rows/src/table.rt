@@ -1,3 +1,4 @@
+// The search for a number, by halving.
 ghost use Rattle.std.specs.Prelude.{◌≡◌, ℕ, ◌<◌, ◌≤◌, length, is_some, IfSome};
 ghost use Rattle.space_api.specs.Calls.{AreRising};
 ghost use Rattle.numbered_rows.specs.Numbers.{is_among, number_at, numbers};

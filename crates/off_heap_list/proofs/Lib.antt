@@ -1,5 +1,2 @@
-pub mod Chained
-pub mod Sweeping
-pub mod Tallied
-pub mod Turning
-pub mod Exact
+pub mod Chaining
+pub mod Walked

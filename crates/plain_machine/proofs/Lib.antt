@@ -1,13 +1,3 @@
-pub mod Runs
-pub mod Growing
-pub mod Putting
-pub mod Parts
-pub mod Making
-pub mod Numbers
-pub mod Holding
-pub mod Commands
-pub mod Printing
-pub mod Numbered
-pub mod Told
-pub mod Living
-pub mod Determined
+pub mod Properly
+pub mod Numbering
+pub mod ByLine

@@ -1,7 +1,7 @@
 -- The parts of trees, maps with a key more, and trees of many places.
 use Rattle.std.specs.Prelude.{ℕ, ◌+◌, zero, suc, nat_le, if◌then◌else◌, List, length, Option, Some, None}
 use Rattle.std.specs.Ordering.{is_eq}
-use Rattle.plain_term.specs.Tree.{Tree, Trees, Pairs}
+use Rattle.plain_term.specs.Tree.{Tree, Trees, Pairs, same_trees}
 use Rattle.plain_term.specs.Tree.Tree.{Nil, Cons, Tuple, Map, Bin, Shared, Part, Fun}
 use Rattle.plain_term.specs.Tree.Trees.{end, ◌▹◌}
 use Rattle.plain_term.specs.Tree.Pairs.{stop, pair}
@@ -77,12 +77,7 @@ abbrev pub pairs_in : Tree → Option Pairs
 pairs_in (Map ps) = Some ps
 pairs_in _ = None
 
--- So many times a tree.
-abbrev pub times : ℕ → Tree → Trees
-times zero t = end
-times (suc n) t = t ▹ times n t
-
 -- A tuple or a list of so many times a tree.
 abbrev pub repeated : Shape → ℕ → Tree → Tree
-repeated InTuple n t = Tuple (times n t)
-repeated InList n t = list_tree (times n t) Nil
+repeated InTuple n t = Tuple (same_trees n t)
+repeated InList n t = list_tree (same_trees n t) Nil

@@ -39,32 +39,32 @@ second Less b e = absurd cc
 second Equal b e = e
 second Greater b e = absurd cc
 
-bytes_same : (a b : List ℕ) → bytes_order a b ≡ Equal → a ≡ b
-bytes_same a b e = exact_bytes a b e
+bytes-same : (a b : List ℕ) → bytes_order a b ≡ Equal → a ≡ b
+bytes-same a b e = exact_bytes a b e
 
-bytes_itself : (a b : List ℕ) → a ≡ b → bytes_order a b ≡ Equal
-bytes_itself a b e = let Same : List ℕ → Type 0 = λ c. bytes_order a c ≡ Equal in subst Same e (tied_itself nat_list_cmp_total a)
+bytes-itself : (a b : List ℕ) → a ≡ b → bytes_order a b ≡ Equal
+bytes-itself a b e = let Same : List ℕ → Type 0 = λ c. bytes_order a c ≡ Equal in subst Same e (tied_itself nat_list_cmp_total a)
 
-pub order_of_binaries : (names s : List (List ℕ)) (a b : Tree) → is_binary a ≡ true → is_binary b ≡ true → order names s a b ≡ bytes_order (bytes_of s a) (bytes_of s b)
-order_of_binaries names s (Bin x) (Bin y) p q = refl
-order_of_binaries names s (Bin x) (Shared y) p q = refl
-order_of_binaries names s (Bin x) (Part y o l) p q = refl
-order_of_binaries names s (Shared x) (Bin y) p q = refl
-order_of_binaries names s (Shared x) (Shared y) p q = refl
-order_of_binaries names s (Shared x) (Part y o l) p q = refl
-order_of_binaries names s (Part x n m) (Bin y) p q = refl
-order_of_binaries names s (Part x n m) (Shared y) p q = refl
-order_of_binaries names s (Part x n m) (Part y o l) p q = refl
-order_of_binaries names s a b p q = absurd cc
+pub order-of-binaries : (names s : List (List ℕ)) (a b : Tree) → is_binary a ≡ true → is_binary b ≡ true → order names s a b ≡ bytes_order (bytes_of s a) (bytes_of s b)
+order-of-binaries names s (Bin x) (Bin y) p q = refl
+order-of-binaries names s (Bin x) (Shared y) p q = refl
+order-of-binaries names s (Bin x) (Part y o l) p q = refl
+order-of-binaries names s (Shared x) (Bin y) p q = refl
+order-of-binaries names s (Shared x) (Shared y) p q = refl
+order-of-binaries names s (Shared x) (Part y o l) p q = refl
+order-of-binaries names s (Part x n m) (Bin y) p q = refl
+order-of-binaries names s (Part x n m) (Shared y) p q = refl
+order-of-binaries names s (Part x n m) (Part y o l) p q = refl
+order-of-binaries names s a b p q = absurd cc
 
-pub equal_binaries : (names s : List (List ℕ)) (a b : Tree) → is_binary a ≡ true → is_binary b ≡ true
+pub equal-binaries : (names s : List (List ℕ)) (a b : Tree) → is_binary a ≡ true → is_binary b ≡ true
     → (order names s a b ≡ Equal → bytes_of s a ≡ bytes_of s b) × (bytes_of s a ≡ bytes_of s b → order names s a b ≡ Equal)
-equal_binaries names s a b p q =
-    let same = order_of_binaries names s a b p q in
-    (λ e. bytes_same (bytes_of s a) (bytes_of s b) (sym same ∙ e), λ e. same ∙ bytes_itself (bytes_of s a) (bytes_of s b) e)
+equal-binaries names s a b p q =
+    let same = order-of-binaries names s a b p q in
+    (λ e. bytes-same (bytes_of s a) (bytes_of s b) (sym same ∙ e), λ e. same ∙ bytes-itself (bytes_of s a) (bytes_of s b) e)
 
-bin_alike : (a b : List ℕ) → bytes_order a b ≡ Equal → (bin_nodes (length a) ≡ bin_nodes (length b)) × (depth (Bin a) ≡ depth (Bin b))
-bin_alike a b e = (ap (λ bs. bin_nodes (length bs)) (bytes_same a b e), refl)
+bin-alike : (a b : List ℕ) → bytes_order a b ≡ Equal → (bin_nodes (length a) ≡ bin_nodes (length b)) × (depth (Bin a) ≡ depth (Bin b))
+bin-alike a b e = (ap (λ bs. bin_nodes (length bs)) (bytes-same a b e), refl)
 
 mutual
   pub alike : (names s : List (List ℕ)) (a b : Tree) → order names s a b ≡ Equal → (nodes s a ≡ nodes s b) × (depth a ≡ depth b)
@@ -75,76 +75,76 @@ mutual
   alike names s Nil Nil e = (refl, refl)
   alike names s (Fun f n c ts) (Fun g m d us) e =
       let rest = second (bytes_order (name_of names f) (name_of names g)) _ e in
-      let parts = alike_all names s ts us (second (nat_cmp (trees_len ts) (trees_len us)) _ (second (nat_cmp c d) _ (second (nat_cmp n m) _ rest))) in
+      let parts = alike-all names s ts us (second (nat_cmp (trees_len ts) (trees_len us)) _ (second (nat_cmp c d) _ (second (nat_cmp n m) _ rest))) in
       (omega (arith, parts.0), omega (arith, parts.1))
   alike names s (Tuple ts) (Tuple us) e =
-      let parts = alike_all names s ts us (second (nat_cmp (trees_len ts) (trees_len us)) _ e) in
+      let parts = alike-all names s ts us (second (nat_cmp (trees_len ts) (trees_len us)) _ e) in
       (omega (arith, parts.0), omega (arith, parts.1))
   alike names s (Map ps) (Map qs) e =
       let rest = second (nat_cmp (pairs_len ps) (pairs_len qs)) _ e in
-      let parts = alike_pairs names s ps qs (first (order_of_keys names s ps qs) _ rest) (second (order_of_keys names s ps qs) _ rest) in
+      let parts = alike-pairs names s ps qs (first (order_of_keys names s ps qs) _ rest) (second (order_of_keys names s ps qs) _ rest) in
       (omega (arith, parts.0), omega (arith, parts.1))
   alike names s (Cons a b) (Cons c d) e =
       let heads = alike names s a c (first (order names s a c) _ e) in
       let tails = alike names s b d (second (order names s a c) _ e) in
       (omega (arith, heads.0, tails.0), (λ i. max (1 + heads.1 i) (tails.1 i)))
-  alike names s (Bin x) (Bin y) e = bin_alike x y e
-  alike names s (Bin x) (Shared y) e = bin_alike x (bytes_of s (Shared y)) e
-  alike names s (Bin x) (Part y o l) e = bin_alike x (bytes_of s (Part y o l)) e
-  alike names s (Shared x) (Bin y) e = bin_alike (bytes_of s (Shared x)) y e
-  alike names s (Shared x) (Shared y) e = bin_alike (bytes_of s (Shared x)) (bytes_of s (Shared y)) e
-  alike names s (Shared x) (Part y o l) e = bin_alike (bytes_of s (Shared x)) (bytes_of s (Part y o l)) e
-  alike names s (Part x n m) (Bin y) e = bin_alike (bytes_of s (Part x n m)) y e
-  alike names s (Part x n m) (Shared y) e = bin_alike (bytes_of s (Part x n m)) (bytes_of s (Shared y)) e
-  alike names s (Part x n m) (Part y o l) e = bin_alike (bytes_of s (Part x n m)) (bytes_of s (Part y o l)) e
+  alike names s (Bin x) (Bin y) e = bin-alike x y e
+  alike names s (Bin x) (Shared y) e = bin-alike x (bytes_of s (Shared y)) e
+  alike names s (Bin x) (Part y o l) e = bin-alike x (bytes_of s (Part y o l)) e
+  alike names s (Shared x) (Bin y) e = bin-alike (bytes_of s (Shared x)) y e
+  alike names s (Shared x) (Shared y) e = bin-alike (bytes_of s (Shared x)) (bytes_of s (Shared y)) e
+  alike names s (Shared x) (Part y o l) e = bin-alike (bytes_of s (Shared x)) (bytes_of s (Part y o l)) e
+  alike names s (Part x n m) (Bin y) e = bin-alike (bytes_of s (Part x n m)) y e
+  alike names s (Part x n m) (Shared y) e = bin-alike (bytes_of s (Part x n m)) (bytes_of s (Shared y)) e
+  alike names s (Part x n m) (Part y o l) e = bin-alike (bytes_of s (Part x n m)) (bytes_of s (Part y o l)) e
   alike names s a b e = absurd cc
 
-  alike_all : (names s : List (List ℕ)) (ts us : Trees) → order_of_all names s ts us ≡ Equal → (nodes_of_all s ts ≡ nodes_of_all s us) × (greatest_depth ts ≡ greatest_depth us)
-  alike_all names s end end e = (refl, refl)
-  alike_all names s end (u ▹ us) e = absurd cc
-  alike_all names s (t ▹ ts) end e = absurd cc
-  alike_all names s (t ▹ ts) (u ▹ us) e =
+  alike-all : (names s : List (List ℕ)) (ts us : Trees) → order_of_all names s ts us ≡ Equal → (nodes_of_all s ts ≡ nodes_of_all s us) × (greatest_depth ts ≡ greatest_depth us)
+  alike-all names s end end e = (refl, refl)
+  alike-all names s end (u ▹ us) e = absurd cc
+  alike-all names s (t ▹ ts) end e = absurd cc
+  alike-all names s (t ▹ ts) (u ▹ us) e =
       let heads = alike names s t u (first (order names s t u) _ e) in
-      let rest = alike_all names s ts us (second (order names s t u) _ e) in
+      let rest = alike-all names s ts us (second (order names s t u) _ e) in
       (omega (arith, heads.0, rest.0), (λ i. max (heads.1 i) (rest.1 i)))
 
-  alike_pairs : (names s : List (List ℕ)) (ps qs : Pairs) → order_of_keys names s ps qs ≡ Equal → order_of_values names s ps qs ≡ Equal
+  alike-pairs : (names s : List (List ℕ)) (ps qs : Pairs) → order_of_keys names s ps qs ≡ Equal → order_of_values names s ps qs ≡ Equal
       → (nodes_of_pairs s ps ≡ nodes_of_pairs s qs) × (greatest_depth_of_pairs ps ≡ greatest_depth_of_pairs qs)
-  alike_pairs names s stop stop e h = (refl, refl)
-  alike_pairs names s stop (pair k v qs) e h = absurd cc
-  alike_pairs names s (pair k v ps) stop e h = absurd cc
-  alike_pairs names s (pair k v ps) (pair j w qs) e h =
+  alike-pairs names s stop stop e h = (refl, refl)
+  alike-pairs names s stop (pair k v qs) e h = absurd cc
+  alike-pairs names s (pair k v ps) stop e h = absurd cc
+  alike-pairs names s (pair k v ps) (pair j w qs) e h =
       let keys = alike names s k j (first (order names s k j) _ e) in
       let values = alike names s v w (first (order names s v w) _ h) in
-      let rest = alike_pairs names s ps qs (second (order names s k j) _ e) (second (order names s v w) _ h) in
+      let rest = alike-pairs names s ps qs (second (order names s k j) _ e) (second (order names s v w) _ h) in
       (omega (arith, keys.0, values.0, rest.0), (λ i. max (max (keys.1 i) (values.1 i)) (rest.1 i)))
 
 mutual
-  pub depth_within : (s : List (List ℕ)) (t : Tree) → depth t ≤ nodes s t
-  depth_within s (Cons h t) = omega (arith, depth_within s h, depth_within s t)
-  depth_within s (Tuple ts) = omega (arith, depth_within_all s ts)
-  depth_within s (Map ps) = omega (arith, depth_within_pairs s ps)
-  depth_within s (Fun f a c ts) = omega (arith, depth_within_all s ts)
-  depth_within s _ = omega arith
+  pub depth-within : (s : List (List ℕ)) (t : Tree) → depth t ≤ nodes s t
+  depth-within s (Cons h t) = omega (arith, depth-within s h, depth-within s t)
+  depth-within s (Tuple ts) = omega (arith, depth-within-all s ts)
+  depth-within s (Map ps) = omega (arith, depth-within-pairs s ps)
+  depth-within s (Fun f a c ts) = omega (arith, depth-within-all s ts)
+  depth-within s _ = omega arith
 
-  depth_within_all : (s : List (List ℕ)) (ts : Trees) → greatest_depth ts ≤ nodes_of_all s ts
-  depth_within_all s end = omega arith
-  depth_within_all s (t ▹ ts) = omega (arith, depth_within s t, depth_within_all s ts)
+  depth-within-all : (s : List (List ℕ)) (ts : Trees) → greatest_depth ts ≤ nodes_of_all s ts
+  depth-within-all s end = omega arith
+  depth-within-all s (t ▹ ts) = omega (arith, depth-within s t, depth-within-all s ts)
 
-  depth_within_pairs : (s : List (List ℕ)) (ps : Pairs) → greatest_depth_of_pairs ps ≤ nodes_of_pairs s ps
-  depth_within_pairs s stop = omega arith
-  depth_within_pairs s (pair k v ps) = omega (arith, depth_within s k, depth_within s v, depth_within_pairs s ps)
+  depth-within-pairs : (s : List (List ℕ)) (ps : Pairs) → greatest_depth_of_pairs ps ≤ nodes_of_pairs s ps
+  depth-within-pairs s stop = omega arith
+  depth-within-pairs s (pair k v ps) = omega (arith, depth-within s k, depth-within s v, depth-within-pairs s ps)
 
 -- a decimal begins with a digit
 abbrev BeginsWithDigit : ℕ → List ℕ → Type 0
 BeginsWithDigit n ds = (0 < length ds) × (48 ≤ get_or ds 0 0)
 
-digit_stays : (n : ℕ) (ds : List ℕ) (d : ℕ) → BeginsWithDigit n ds → BeginsWithDigit n (ds ++ (d ∷ []))
-digit_stays n [] d h = absurd (omega (arith, h.0))
-digit_stays n (c ∷ cs) d h = (omega arith, h.1)
+digit-stays : (n : ℕ) (ds : List ℕ) (d : ℕ) → BeginsWithDigit n ds → BeginsWithDigit n (ds ++ (d ∷ []))
+digit-stays n [] d h = absurd (omega (arith, h.0))
+digit-stays n (c ∷ cs) d h = (omega arith, h.1)
 
-begins_with_digit : (n : ℕ) → n < 10 ^ 64 → BeginsWithDigit n (decimal n)
-begins_with_digit = decimal_by_steps_wide BeginsWithDigit (λ n h. (omega arith, omega arith)) (λ n ds h k. digit_stays n ds (48 + n % 10) k)
+begins-with-digit : (n : ℕ) → n < 10 ^ 64 → BeginsWithDigit n (decimal n)
+begins-with-digit = decimal_by_steps_wide BeginsWithDigit (λ n h. (omega arith, omega arith)) (λ n ds h k. digit-stays n ds (48 + n % 10) k)
 
 unsigned : (ds : List ℕ) → 48 ≤ get_or ds 0 0 → signed_digits_value 10 ds ≡ pos (digits_value 10 ds)
 unsigned ds h =
@@ -152,16 +152,16 @@ unsigned ds h =
     let not_plus : get_or ds 0 0 ≢ 43 = omega (arith, h) in
     rw (not_minus, without_leading_plus_none ds not_plus) refl
 
-pub reads_back : (i : ℤ) → magnitude i < 2 ^ 127 → signed_digits_value 10 (signed_decimal i) ≡ i
-reads_back (pos n) h =
+pub reads-back : (i : ℤ) → magnitude i < 2 ^ 127 → signed_digits_value 10 (signed_decimal i) ≡ i
+reads-back (pos n) h =
     let small : n < 10 ^ 64 = omega (arith, h) in
-    unsigned (decimal n) (begins_with_digit n small).1 ∙ ap pos (decimal_is_IsNumeral_wide n small).1
-reads_back (negsuc n) h =
+    unsigned (decimal n) (begins-with-digit n small).1 ∙ ap pos (decimal_is_IsNumeral_wide n small).1
+reads-back (negsuc n) h =
     let small : suc n < 10 ^ 64 = omega (arith, h) in
     ap (λ m. neg_ℤ (pos m)) (decimal_is_IsNumeral_wide (suc n) small).1
 
-pub part_length : (names s : List (List ℕ)) (base : Tree) (offset len : ℕ) → is_proper names s (Part base offset len) ≡ true → length (bytes_of s (Part base offset len)) ≡ len
-part_length names s base offset len h =
+pub part-length : (names s : List (List ℕ)) (base : Tree) (offset len : ℕ) → is_proper names s (Part base offset len) ≡ true → length (bytes_of s (Part base offset len)) ≡ len
+part-length names s base offset len h =
     let within : offset + len ≤ length (bytes_of s base) =
     leb-true (offset + len) (length (bytes_of s base)) (right (is_base base && is_proper names s base) (nat_le (offset + len) (length (bytes_of s base))) h) in
     let dropped : length (drop offset (bytes_of s base)) ≡ length (bytes_of s base) - offset = length-drop offset (bytes_of s base) in

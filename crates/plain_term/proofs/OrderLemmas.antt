@@ -22,26 +22,26 @@ module _ {X L : Type 0} (cmp : L → L → Ordering) (all : List X → L)
   rest m n [] h = both ∙ nat_cmp_is m n Equal (omega (arith, h))
   rest m n (z ∷ zs) h = less z zs ∙ nat_cmp_is m n Less (omega (arith, h))
 
-  pub at_end : (i : ℕ) (xs ys : List X) → length xs ≤ i → i ≤ length xs → i ≤ length ys
+  pub at-end : (i : ℕ) (xs ys : List X) → length xs ≤ i → i ≤ length xs → i ≤ length ys
       → cmp (all xs) (all ys) ≡ cmp (all (drop i xs)) (all (drop i ys)) → cmp (all xs) (all ys) ≡ nat_cmp (length xs) (length ys)
-  at_end i xs ys over within left h =
+  at-end i xs ys over within left h =
       h ∙ ap (λ zs. cmp (all zs) (all (drop i ys))) (drop_of_length-le xs over)
       ∙ rest (length xs) (length ys) (drop i ys) (omega (arith, length-drop i ys))
 
-pub at_end_of_all : (names : List (List ℕ)) (i : ℕ) (xs ys : List Tree) → length xs ≤ i → i ≤ length xs → i ≤ length ys
+pub at-end-of-all : (names : List (List ℕ)) (i : ℕ) (xs ys : List Tree) → length xs ≤ i → i ≤ length xs → i ≤ length ys
     → order_of_all names [] (trees_of (map view xs)) (trees_of (map view ys)) ≡ order_of_all names [] (trees_of (map view (drop i xs))) (trees_of (map view (drop i ys)))
     → order_of_all names [] (trees_of (map view xs)) (trees_of (map view ys)) ≡ nat_cmp (length xs) (length ys)
-at_end_of_all names = at_end (order_of_all names []) (λ (xs : List Tree). trees_of (map view xs)) refl (λ x xs. refl)
+at-end-of-all names = at-end (order_of_all names []) (λ (xs : List Tree). trees_of (map view xs)) refl (λ x xs. refl)
 
-pub at_end_of_keys : (names : List (List ℕ)) (i : ℕ) (xs ys : List (Tree × Tree)) → length xs ≤ i → i ≤ length xs → i ≤ length ys
+pub at-end-of-keys : (names : List (List ℕ)) (i : ℕ) (xs ys : List (Tree × Tree)) → length xs ≤ i → i ≤ length xs → i ≤ length ys
     → order_of_keys names [] (pairs_of (map pair_of xs)) (pairs_of (map pair_of ys)) ≡ order_of_keys names [] (pairs_of (map pair_of (drop i xs))) (pairs_of (map pair_of (drop i ys)))
     → order_of_keys names [] (pairs_of (map pair_of xs)) (pairs_of (map pair_of ys)) ≡ nat_cmp (length xs) (length ys)
-at_end_of_keys names = at_end (order_of_keys names []) (λ (xs : List (Tree × Tree)). pairs_of (map pair_of xs)) refl (λ x xs. refl)
+at-end-of-keys names = at-end (order_of_keys names []) (λ (xs : List (Tree × Tree)). pairs_of (map pair_of xs)) refl (λ x xs. refl)
 
-pub at_end_of_values : (names : List (List ℕ)) (i : ℕ) (xs ys : List (Tree × Tree)) → length xs ≤ i → i ≤ length xs → i ≤ length ys
+pub at-end-of-values : (names : List (List ℕ)) (i : ℕ) (xs ys : List (Tree × Tree)) → length xs ≤ i → i ≤ length xs → i ≤ length ys
     → order_of_values names [] (pairs_of (map pair_of xs)) (pairs_of (map pair_of ys)) ≡ order_of_values names [] (pairs_of (map pair_of (drop i xs))) (pairs_of (map pair_of (drop i ys)))
     → order_of_values names [] (pairs_of (map pair_of xs)) (pairs_of (map pair_of ys)) ≡ nat_cmp (length xs) (length ys)
-at_end_of_values names = at_end (order_of_values names []) (λ (xs : List (Tree × Tree)). pairs_of (map pair_of xs)) refl (λ x xs. refl)
+at-end-of-values names = at-end (order_of_values names []) (λ (xs : List (Tree × Tree)). pairs_of (map pair_of xs)) refl (λ x xs. refl)
 
 -- Maps are in the order of their sizes, then keys, then values.
 pub order-Map : (names : List (List ℕ)) (a b : Tree) (ps qs : List (Tree × Tree)) → a ≡ Map ps → b ≡ Map qs

@@ -8,7 +8,7 @@ use Rattle.plain_term.specs.Tree.{Tree, Pairs}
 use Rattle.plain_term.specs.Tree.Pairs.{stop, pair}
 use Rattle.plain_term.specs.Order.{order}
 use Rattle.plain_term.specs.Proper.{keys_rise}
-use Rattle.plain_term.proofs.TokenLemmas.{order_total}
+use Rattle.plain_term.proofs.TokenLemmas.{order-total}
 
 pub is-less : (o : Ordering) → is_lt o ≡ true → o ≡ Less
 is-less Less h = refl
@@ -32,4 +32,4 @@ module _ (names shared : List (List ℕ)) where
   -- Equal keys are below the same.
   pub below-alike : (k j : Tree) (ps : Pairs) → order names shared k j ≡ Equal → Below j ps → Below k ps
   below-alike k j stop e b = tt
-  below-alike k j (pair i w ps) e b = (order_total names shared).congr k j i e ∙ b
+  below-alike k j (pair i w ps) e b = (order-total names shared).congr k j i e ∙ b

@@ -26,81 +26,81 @@ pub both : (a b : Bool) → a ≡ true → b ≡ true → (a && b) ≡ true
 both true b p q = q
 both false b p q = p
 
-pub bytes_any : (s : List (List ℕ)) (t : Tree) → has_no_shared t ≡ true → bytes_of s t ≡ bytes_of [] t
-bytes_any s (Shared id) h = no_way h
-bytes_any s (Part base offset len) h = ap (λ bs. take len (drop offset bs)) (bytes_any s base h)
-bytes_any s _ h = refl
+pub bytes-any : (s : List (List ℕ)) (t : Tree) → has_no_shared t ≡ true → bytes_of s t ≡ bytes_of [] t
+bytes-any s (Shared id) h = no_way h
+bytes-any s (Part base offset len) h = ap (λ bs. take len (drop offset bs)) (bytes-any s base h)
+bytes-any s _ h = refl
 
 mutual
-  pub nodes_any : (s : List (List ℕ)) (t : Tree) → has_no_shared t ≡ true → nodes s t ≡ nodes [] t
-  nodes_any s (Cons a b) h = omega (arith, nodes_any s a (left (has_no_shared a) (has_no_shared b) h), nodes_any s b (right (has_no_shared a) (has_no_shared b) h))
-  nodes_any s (Tuple ts) h = omega (arith, nodes_any_all s ts h)
-  nodes_any s (Fun f a c ts) h = omega (arith, nodes_any_all s ts h)
-  nodes_any s (Map ps) h = omega (arith, nodes_any_pairs s ps h)
-  nodes_any s (Shared id) h = no_way h
-  nodes_any s (Part base offset len) h = ap (λ bs. bin_nodes (length bs)) (bytes_any s (Part base offset len) h)
-  nodes_any s _ h = refl
+  pub nodes-any : (s : List (List ℕ)) (t : Tree) → has_no_shared t ≡ true → nodes s t ≡ nodes [] t
+  nodes-any s (Cons a b) h = omega (arith, nodes-any s a (left (has_no_shared a) (has_no_shared b) h), nodes-any s b (right (has_no_shared a) (has_no_shared b) h))
+  nodes-any s (Tuple ts) h = omega (arith, nodes-any-all s ts h)
+  nodes-any s (Fun f a c ts) h = omega (arith, nodes-any-all s ts h)
+  nodes-any s (Map ps) h = omega (arith, nodes-any-pairs s ps h)
+  nodes-any s (Shared id) h = no_way h
+  nodes-any s (Part base offset len) h = ap (λ bs. bin_nodes (length bs)) (bytes-any s (Part base offset len) h)
+  nodes-any s _ h = refl
 
-  pub nodes_any_all : (s : List (List ℕ)) (ts : Trees) → all_have_no_shared ts ≡ true → nodes_of_all s ts ≡ nodes_of_all [] ts
-  nodes_any_all s end h = refl
-  nodes_any_all s (t ▹ ts) h = omega (arith, nodes_any s t (left (has_no_shared t) (all_have_no_shared ts) h), nodes_any_all s ts (right (has_no_shared t) (all_have_no_shared ts) h))
+  pub nodes-any-all : (s : List (List ℕ)) (ts : Trees) → all_have_no_shared ts ≡ true → nodes_of_all s ts ≡ nodes_of_all [] ts
+  nodes-any-all s end h = refl
+  nodes-any-all s (t ▹ ts) h = omega (arith, nodes-any s t (left (has_no_shared t) (all_have_no_shared ts) h), nodes-any-all s ts (right (has_no_shared t) (all_have_no_shared ts) h))
 
-  pub nodes_any_pairs : (s : List (List ℕ)) (ps : Pairs) → pairs_have_no_shared ps ≡ true → nodes_of_pairs s ps ≡ nodes_of_pairs [] ps
-  nodes_any_pairs s stop h = refl
-  nodes_any_pairs s (pair k v ps) h =
+  pub nodes-any-pairs : (s : List (List ℕ)) (ps : Pairs) → pairs_have_no_shared ps ≡ true → nodes_of_pairs s ps ≡ nodes_of_pairs [] ps
+  nodes-any-pairs s stop h = refl
+  nodes-any-pairs s (pair k v ps) h =
       let both = left (has_no_shared k && has_no_shared v) (pairs_have_no_shared ps) h in
       omega (
         arith,
-        nodes_any s k (left (has_no_shared k) (has_no_shared v) both),
-        nodes_any s v (right (has_no_shared k) (has_no_shared v) both),
-        nodes_any_pairs s ps (right (has_no_shared k && has_no_shared v) (pairs_have_no_shared ps) h),
+        nodes-any s k (left (has_no_shared k) (has_no_shared v) both),
+        nodes-any s v (right (has_no_shared k) (has_no_shared v) both),
+        nodes-any-pairs s ps (right (has_no_shared k && has_no_shared v) (pairs_have_no_shared ps) h),
       )
 
 mutual
-  pub order_any : (names s : List (List ℕ)) (a b : Tree) → has_no_shared a ≡ true → has_no_shared b ≡ true → order names s a b ≡ order names [] a b
-  order_any names s (Int i) (Int j) p q = refl
-  order_any names s (Atom k) (Atom j) p q = refl
-  order_any names s (Ref n k) (Ref m j) p q = refl
-  order_any names s (Pid n) (Pid m) p q = refl
-  order_any names s Nil Nil p q = refl
-  order_any names s (Fun f n c ts) (Fun g m d us) p q = (λ i. ordering_then (bytes_order (name_of names f) (name_of names g))
+  pub order-any : (names s : List (List ℕ)) (a b : Tree) → has_no_shared a ≡ true → has_no_shared b ≡ true → order names s a b ≡ order names [] a b
+  order-any names s (Int i) (Int j) p q = refl
+  order-any names s (Atom k) (Atom j) p q = refl
+  order-any names s (Ref n k) (Ref m j) p q = refl
+  order-any names s (Pid n) (Pid m) p q = refl
+  order-any names s Nil Nil p q = refl
+  order-any names s (Fun f n c ts) (Fun g m d us) p q = (λ i. ordering_then (bytes_order (name_of names f) (name_of names g))
       (ordering_then (nat_cmp n m) (ordering_then (nat_cmp c d)
-      (ordering_then (nat_cmp (trees_len ts) (trees_len us)) (order_any_all names s ts us p q i)))))
-  order_any names s (Tuple ts) (Tuple us) p q = ap (λ o. ordering_then (nat_cmp (trees_len ts) (trees_len us)) o) (order_any_all names s ts us p q)
-  order_any names s (Map ps) (Map qs) p q = (λ i. ordering_then (nat_cmp (pairs_len ps) (pairs_len qs)) (ordering_then (order_any_keys names s ps qs p q i) (order_any_values names s ps qs p q i)))
-  order_any names s (Cons a b) (Cons c d) p q =
-      let first = order_any names s a c (left (has_no_shared a) (has_no_shared b) p) (left (has_no_shared c) (has_no_shared d) q) in
-      let rest = order_any names s b d (right (has_no_shared a) (has_no_shared b) p) (right (has_no_shared c) (has_no_shared d) q) in
+      (ordering_then (nat_cmp (trees_len ts) (trees_len us)) (order-any-all names s ts us p q i)))))
+  order-any names s (Tuple ts) (Tuple us) p q = ap (λ o. ordering_then (nat_cmp (trees_len ts) (trees_len us)) o) (order-any-all names s ts us p q)
+  order-any names s (Map ps) (Map qs) p q = (λ i. ordering_then (nat_cmp (pairs_len ps) (pairs_len qs)) (ordering_then (order-any-keys names s ps qs p q i) (order-any-values names s ps qs p q i)))
+  order-any names s (Cons a b) (Cons c d) p q =
+      let first = order-any names s a c (left (has_no_shared a) (has_no_shared b) p) (left (has_no_shared c) (has_no_shared d) q) in
+      let rest = order-any names s b d (right (has_no_shared a) (has_no_shared b) p) (right (has_no_shared c) (has_no_shared d) q) in
       λ i. ordering_then (first i) (rest i)
-  order_any names s a b p q = λ i. ordering_then (nat_cmp (kind_rank a) (kind_rank b)) (bytes_order (bytes_any s a p i) (bytes_any s b q i))
+  order-any names s a b p q = λ i. ordering_then (nat_cmp (kind_rank a) (kind_rank b)) (bytes_order (bytes-any s a p i) (bytes-any s b q i))
 
-  pub order_any_all : (names s : List (List ℕ)) (ts us : Trees) → all_have_no_shared ts ≡ true → all_have_no_shared us ≡ true → order_of_all names s ts us ≡ order_of_all names [] ts us
-  order_any_all names s end end p q = refl
-  order_any_all names s end (u ▹ us) p q = refl
-  order_any_all names s (t ▹ ts) end p q = refl
-  order_any_all names s (t ▹ ts) (u ▹ us) p q =
-      let first = order_any names s t u (left (has_no_shared t) (all_have_no_shared ts) p) (left (has_no_shared u) (all_have_no_shared us) q) in
-      let rest = order_any_all names s ts us (right (has_no_shared t) (all_have_no_shared ts) p) (right (has_no_shared u) (all_have_no_shared us) q) in
+  pub order-any-all : (names s : List (List ℕ)) (ts us : Trees) → all_have_no_shared ts ≡ true → all_have_no_shared us ≡ true → order_of_all names s ts us ≡ order_of_all names [] ts us
+  order-any-all names s end end p q = refl
+  order-any-all names s end (u ▹ us) p q = refl
+  order-any-all names s (t ▹ ts) end p q = refl
+  order-any-all names s (t ▹ ts) (u ▹ us) p q =
+      let first = order-any names s t u (left (has_no_shared t) (all_have_no_shared ts) p) (left (has_no_shared u) (all_have_no_shared us) q) in
+      let rest = order-any-all names s ts us (right (has_no_shared t) (all_have_no_shared ts) p) (right (has_no_shared u) (all_have_no_shared us) q) in
       λ i. ordering_then (first i) (rest i)
 
-  pub order_any_keys : (names s : List (List ℕ)) (ps qs : Pairs) → pairs_have_no_shared ps ≡ true → pairs_have_no_shared qs ≡ true → order_of_keys names s ps qs ≡ order_of_keys names [] ps qs
-  order_any_keys names s stop stop p q = refl
-  order_any_keys names s stop (pair k v qs) p q = refl
-  order_any_keys names s (pair k v ps) stop p q = refl
-  order_any_keys names s (pair k v ps) (pair j w qs) p q =
+  pub order-any-keys : (names s : List (List ℕ)) (ps qs : Pairs) → pairs_have_no_shared ps ≡ true → pairs_have_no_shared qs ≡ true → order_of_keys names s ps qs ≡ order_of_keys names [] ps qs
+  order-any-keys names s stop stop p q = refl
+  order-any-keys names s stop (pair k v qs) p q = refl
+  order-any-keys names s (pair k v ps) stop p q = refl
+  order-any-keys names s (pair k v ps) (pair j w qs) p q =
       let pk = left (has_no_shared k && has_no_shared v) (pairs_have_no_shared ps) p in
       let qj = left (has_no_shared j && has_no_shared w) (pairs_have_no_shared qs) q in
-      let first = order_any names s k j (left (has_no_shared k) (has_no_shared v) pk) (left (has_no_shared j) (has_no_shared w) qj) in
-      let rest = order_any_keys names s ps qs (right (has_no_shared k && has_no_shared v) (pairs_have_no_shared ps) p) (right (has_no_shared j && has_no_shared w) (pairs_have_no_shared qs) q) in
+      let first = order-any names s k j (left (has_no_shared k) (has_no_shared v) pk) (left (has_no_shared j) (has_no_shared w) qj) in
+      let rest = order-any-keys names s ps qs (right (has_no_shared k && has_no_shared v) (pairs_have_no_shared ps) p) (right (has_no_shared j && has_no_shared w) (pairs_have_no_shared qs) q) in
       λ i. ordering_then (first i) (rest i)
 
-  pub order_any_values : (names s : List (List ℕ)) (ps qs : Pairs) → pairs_have_no_shared ps ≡ true → pairs_have_no_shared qs ≡ true → order_of_values names s ps qs ≡ order_of_values names [] ps qs
-  order_any_values names s stop stop p q = refl
-  order_any_values names s stop (pair k v qs) p q = refl
-  order_any_values names s (pair k v ps) stop p q = refl
-  order_any_values names s (pair k v ps) (pair j w qs) p q =
+  pub order-any-values : (names s : List (List ℕ)) (ps qs : Pairs) → pairs_have_no_shared ps ≡ true → pairs_have_no_shared qs ≡ true → order_of_values names s ps qs ≡ order_of_values names [] ps qs
+  order-any-values names s stop stop p q = refl
+  order-any-values names s stop (pair k v qs) p q = refl
+  order-any-values names s (pair k v ps) stop p q = refl
+  order-any-values names s (pair k v ps) (pair j w qs) p q =
       let pk = left (has_no_shared k && has_no_shared v) (pairs_have_no_shared ps) p in
       let qj = left (has_no_shared j && has_no_shared w) (pairs_have_no_shared qs) q in
-      let first = order_any names s v w (right (has_no_shared k) (has_no_shared v) pk) (right (has_no_shared j) (has_no_shared w) qj) in
-      let rest = order_any_values names s ps qs (right (has_no_shared k && has_no_shared v) (pairs_have_no_shared ps) p) (right (has_no_shared j && has_no_shared w) (pairs_have_no_shared qs) q) in
+      let first = order-any names s v w (right (has_no_shared k) (has_no_shared v) pk) (right (has_no_shared j) (has_no_shared w) qj) in
+      let rest = order-any-values names s ps qs (right (has_no_shared k && has_no_shared v) (pairs_have_no_shared ps) p) (right (has_no_shared j && has_no_shared w) (pairs_have_no_shared qs) q) in
       λ i. ordering_then (first i) (rest i)

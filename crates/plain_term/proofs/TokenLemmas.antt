@@ -159,7 +159,7 @@ then-Equal Less = refl
 then-Equal Equal = refl
 then-Equal Greater = refl
 
-pub order_total : (names s : List (List ℕ)) → IsTotalOrder (order names s)
-order_total names s =
+pub order-total : (names s : List (List ℕ)) → IsTotalOrder (order names s)
+order-total names s =
     subst IsTotalOrder (λ i a b. (tokens-cmp names s a b [] [] ∙ then-Equal (order names s a b)) i)
     (on_total (λ (t : Tree). tokens names s t []) (lists_total int_cmp_total))

@@ -6,7 +6,7 @@ use Rattle.std.proofs.lemmas.Bool.Decides.{nat_tests}
 use Rattle.plain_term.specs.Tree.{Tree, Trees, trees_len, trees_append}
 use Rattle.plain_term.specs.Tree.Tree.{Int, Atom, Pid, Ref, Nil, Cons, Tuple, Map, Bin, Shared, Part, Fun}
 use Rattle.plain_term.specs.Tree.Trees.{end, ◌▹◌}
-use Rattle.plain_term.specs.Written.{is_spelled, are_spelled, items_of, items_of_all, Spells, Explains, Begins, HasNoTerm, BeginAll, HasNoParts, BeginBytes, HasNoBytes, IsOf, AreOf, Reads, ReadsAll, ReadsBytes}
+use Rattle.plain_term.specs.Written.{is_spelled, are_spelled, items_of, items_of_all, SpellsTree, Explains, BeginsWith, HasNoTerm, BeginAll, HasNoParts, BeginBytes, HasNoBytes, IsOf, AreOf, ReadsTerm, ReadsAll, ReadsBytes}
 use Rattle.plain_term.specs.View.{view, trees_of}
 use Rattle.plain_term.specs.declared.reading.TheConstants.{HEAP_BINARY}
 use Rattle.plain_term.specs.declared.tree.Tree as code
@@ -19,14 +19,14 @@ abbrev spelled_bytes : List ℕ → List Item
 spelled_bytes bytes = map (λ b. item.Byte b) bytes
 
 -- the first n bytes are one list alone
-unique_bytes : (a b : List ℕ) (x y : List Item) → length a ≡ length b → spelled_bytes a ++ x ≡ spelled_bytes b ++ y → (a ≡ b) × (x ≡ y)
-unique_bytes [] [] x y n e = (refl, e)
-unique_bytes [] (b ∷ bs) x y n e = absurd (omega (arith, n))
-unique_bytes (a ∷ cs) [] x y n e = absurd (omega (arith, n))
-unique_bytes (a ∷ cs) (b ∷ bs) x y n e =
+unique-bytes : (a b : List ℕ) (x y : List Item) → length a ≡ length b → spelled_bytes a ++ x ≡ spelled_bytes b ++ y → (a ≡ b) × (x ≡ y)
+unique-bytes [] [] x y n e = (refl, e)
+unique-bytes [] (b ∷ bs) x y n e = absurd (omega (arith, n))
+unique-bytes (a ∷ cs) [] x y n e = absurd (omega (arith, n))
+unique-bytes (a ∷ cs) (b ∷ bs) x y n e =
     let tails : spelled_bytes cs ++ x ≡ spelled_bytes bs ++ y = cc in
     let lens : length cs ≡ length bs = omega (arith, n) in
-    let more = unique_bytes cs bs x y lens tails in
+    let more = unique-bytes cs bs x y lens tails in
     let heads : a ≡ b = cc in
     ((λ i. heads i ∷ more.0 i), more.1)
 
@@ -95,12 +95,12 @@ mutual
   unique (Tuple ts) (Tuple us) x y p q e =
       let tails : items_of_all ts ++ x ≡ items_of_all us ++ y = cc in
       let lens : trees_len ts ≡ trees_len us = cc in
-      let parts = unique_all ts us x y lens p q tails in
+      let parts = unique-all ts us x y lens p q tails in
       (ap Tuple parts.0, parts.1)
   unique (Bin a) (Bin b) x y p q e =
       let tails : spelled_bytes a ++ x ≡ spelled_bytes b ++ y = cc in
       let lens : length a ≡ length b = cc in
-      let bytes = unique_bytes a b x y lens tails in
+      let bytes = unique-bytes a b x y lens tails in
       (ap Bin bytes.0, bytes.1)
   unique (Ref n k) (Ref m j) x y p q e = no_way p
   unique (Map ps) (Map qs) x y p q e = no_way p
@@ -109,73 +109,74 @@ mutual
   unique (Fun f n c ts) (Fun g m d us) x y p q e = no_way p
   unique a b x y p q e = apart (kind a) (kind b) refl (same-kind a b x y p q e)
 
-  unique_all : (ts us : Trees) (x y : List Item) → trees_len ts ≡ trees_len us → are_spelled ts ≡ true → are_spelled us ≡ true → items_of_all ts ++ x ≡ items_of_all us ++ y → (ts ≡ us) × (x ≡ y)
-  unique_all end end x y n p q e = (refl, e)
-  unique_all end (u ▹ us) x y n p q e = absurd (omega (arith, n))
-  unique_all (t ▹ ts) end x y n p q e = absurd (omega (arith, n))
-  unique_all (t ▹ ts) (u ▹ us) x y n p q e =
+  unique-all : (ts us : Trees) (x y : List Item) → trees_len ts ≡ trees_len us → are_spelled ts ≡ true → are_spelled us ≡ true → items_of_all ts ++ x ≡ items_of_all us ++ y → (ts ≡ us) × (x ≡ y)
+  unique-all end end x y n p q e = (refl, e)
+  unique-all end (u ▹ us) x y n p q e = absurd (omega (arith, n))
+  unique-all (t ▹ ts) end x y n p q e = absurd (omega (arith, n))
+  unique-all (t ▹ ts) (u ▹ us) x y n p q e =
       let apart : items_of t ++ (items_of_all ts ++ x) ≡ items_of u ++ (items_of_all us ++ y) = sym (append_assoc (items_of t) (items_of_all ts) x) ∙ e
       ∙ append_assoc (items_of u) (items_of_all us) y in
       let first = unique t u (items_of_all ts ++ x) (items_of_all us ++ y) (left (is_spelled t) (are_spelled ts) p) (left (is_spelled u) (are_spelled us) q) apart in
       let lens : trees_len ts ≡ trees_len us = omega (arith, n) in
-      let rest = unique_all ts us x y lens (right (is_spelled t) (are_spelled ts) p) (right (is_spelled u) (are_spelled us) q) first.1 in
+      let rest = unique-all ts us x y lens (right (is_spelled t) (are_spelled ts) p) (right (is_spelled u) (are_spelled us) q) first.1 in
       ((λ i. first.0 i ▹ rest.0 i), rest.1)
 
 -- where fewer bytes are read than stand at the front, a byte is next
-next_byte : (done bytes : List ℕ) (x y : List Item) → length done < length bytes → spelled_bytes done ++ x ≡ spelled_bytes bytes ++ y
+next-byte : (done bytes : List ℕ) (x y : List Item) → length done < length bytes → spelled_bytes done ++ x ≡ spelled_bytes bytes ++ y
     → (b : ℕ) × (rest : List Item) × (x ≡ item.Byte b ∷ rest)
-next_byte [] [] x y lt e = absurd (omega (arith, lt))
-next_byte [] (b ∷ bs) x y lt e = (b, spelled_bytes bs ++ y, e)
-next_byte (d ∷ ds) [] x y lt e = absurd (omega (arith, lt))
-next_byte (d ∷ ds) (b ∷ bs) x y lt e =
+next-byte [] [] x y lt e = absurd (omega (arith, lt))
+next-byte [] (b ∷ bs) x y lt e = (b, spelled_bytes bs ++ y, e)
+next-byte (d ∷ ds) [] x y lt e = absurd (omega (arith, lt))
+next-byte (d ∷ ds) (b ∷ bs) x y lt e =
     let tails : spelled_bytes ds ++ x ≡ spelled_bytes bs ++ y = cc in
-    next_byte ds bs x y (omega (arith, lt)) tails
+    next-byte ds bs x y (omega (arith, lt)) tails
 
-pub no_byte : (items : List Item) (i n : ℕ) (done : List ℕ) (rest : List Item) → BeginBytes items i done rest → i < n
+pub no-byte : (items : List Item) (i n : ℕ) (done : List ℕ) (rest : List Item) → BeginBytes items i done rest → i < n
     → ((b : ℕ) (more : List Item) → rest ≡ item.Byte b ∷ more → ⊥) → HasNoBytes items n
-no_byte items i n done rest begins lt none bytes y (len, is) =
-    let found = next_byte done bytes rest y (omega (arith, len, begins.0, lt)) (sym begins.1 ∙ is) in
+no-byte items i n done rest begins lt none bytes y (len, is) =
+    let found = next-byte done bytes rest y (omega (arith, len, begins.0, lt)) (sym begins.1 ∙ is) in
     none found.0 found.1 found.2
 
 -- where fewer terms are read than stand at the front, a term is next
-next_term : (ts us : Trees) (x y : List Item) → are_spelled ts ≡ true → are_spelled us ≡ true → trees_len ts < trees_len us
-    → items_of_all ts ++ x ≡ items_of_all us ++ y → (u : Tree) × (rest : List Item) × Begins x u rest
-next_term end end x y p q lt e = absurd (omega (arith, lt))
-next_term end (u ▹ us) x y p q lt e = (u, items_of_all us ++ y, (left (is_spelled u) (are_spelled us) q, e ∙ append_assoc (items_of u) (items_of_all us) y))
-next_term (t ▹ ts) end x y p q lt e = absurd (omega (arith, lt))
-next_term (t ▹ ts) (u ▹ us) x y p q lt e =
+next-term : (ts us : Trees) (x y : List Item) → are_spelled ts ≡ true → are_spelled us ≡ true → trees_len ts < trees_len us
+    → items_of_all ts ++ x ≡ items_of_all us ++ y → (u : Tree) × (rest : List Item) × BeginsWith x u rest
+next-term end end x y p q lt e = absurd (omega (arith, lt))
+next-term end (u ▹ us) x y p q lt e = (u, items_of_all us ++ y, (left (is_spelled u) (are_spelled us) q, e ∙ append_assoc (items_of u) (items_of_all us) y))
+next-term (t ▹ ts) end x y p q lt e = absurd (omega (arith, lt))
+next-term (t ▹ ts) (u ▹ us) x y p q lt e =
     let apart : items_of t ++ (items_of_all ts ++ x) ≡ items_of u ++ (items_of_all us ++ y) = sym (append_assoc (items_of t) (items_of_all ts) x) ∙ e ∙ append_assoc (items_of u) (items_of_all us) y in
     let first = unique t u (items_of_all ts ++ x) (items_of_all us ++ y) (left (is_spelled t) (are_spelled ts) p) (left (is_spelled u) (are_spelled us) q) apart in
-    next_term ts us x y (right (is_spelled t) (are_spelled ts) p) (right (is_spelled u) (are_spelled us) q) (omega (arith, lt)) first.1
+    next-term ts us x y (right (is_spelled t) (are_spelled ts) p) (right (is_spelled u) (are_spelled us) q) (omega (arith, lt)) first.1
 
-pub no_part : (items : List Item) (i n : ℕ) (done : Trees) (rest : List Item) → BeginAll items i done rest → i < n → HasNoTerm rest → HasNoParts items n
-no_part items i n done rest begin lt none ts y all =
-    let found = next_term done ts rest y begin.0 all.0 (omega (arith, all.1, begin.1, lt)) (sym begin.2 ∙ all.2) in
+pub no-part : (items : List Item) (i n : ℕ) (done : Trees) (rest : List Item) → BeginAll items i done rest → i < n → HasNoTerm rest → HasNoParts items n
+no-part items i n done rest begin lt none ts y all =
+    let found = next-term done ts rest y begin.0 all.0 (omega (arith, all.1, begin.1, lt)) (sym begin.2 ∙ all.2) in
     none found.0 found.1 found.2
 
 -- a list needs a tail after its head
-after_head : (rest : List Item) (head : Tree) (after : List Item) → Begins rest head after → (t : Tree) (y : List Item) → Begins (item.Cons ∷ rest) t y → (tail : Tree) × Begins after tail y
+after-head : (rest : List Item) (head : Tree) (after : List Item) → BeginsWith rest head after → (t : Tree) (y : List Item) → BeginsWith (item.Cons ∷ rest) t y
+    → (tail : Tree) × BeginsWith after tail y
 unfolding kind kind_of_item kind_of_first
-after_head rest head after begins (Cons h t) y (spelled, is) =
+after-head rest head after begins (Cons h t) y (spelled, is) =
     let tails : rest ≡ (items_of h ++ items_of t) ++ y = cc in
     let apart : items_of head ++ after ≡ items_of h ++ (items_of t ++ y) = sym begins.1 ∙ tails ∙ append_assoc (items_of h) (items_of t) y in
     let first = unique head h after (items_of t ++ y) begins.0 (left (is_spelled h) (is_spelled t) spelled) apart in
     (t, (right (is_spelled h) (is_spelled t) spelled, first.1))
-after_head rest head after begins t y (spelled, is) = apart 5 (kind t) refl (ap kind_of_first is ∙ first-kind t y spelled)
+after-head rest head after begins t y (spelled, is) = apart 5 (kind t) refl (ap kind_of_first is ∙ first-kind t y spelled)
 
-pub no_tail : (rest : List Item) (head : Tree) (after : List Item) → Begins rest head after → HasNoTerm after → HasNoTerm (item.Cons ∷ rest)
-no_tail rest head after begins none t y it = let found = after_head rest head after begins t y it in none found.0 y found.1
+pub no-tail : (rest : List Item) (head : Tree) (after : List Item) → BeginsWith rest head after → HasNoTerm after → HasNoTerm (item.Cons ∷ rest)
+no-tail rest head after begins none t y it = let found = after-head rest head after begins t y it in none found.0 y found.1
 
 -- a whole term has no items after it
-pub no_more : (items : List Item) (t u : Tree) (rest : List Item) → Begins items t rest → Spells items u → false ≡ (length rest == 0) → ⊥
-no_more items t u rest begins spells some =
+pub no-more : (items : List Item) (t u : Tree) (rest : List Item) → BeginsWith items t rest → SpellsTree items u → false ≡ (length rest == 0) → ⊥
+no-more items t u rest begins spells some =
     let gone = (unique t u rest [] begins.0 spells.0 (sym begins.1 ∙ spells.1 ∙ sym (append-nil (items_of u)))).1 in
     let Some : List Item → Type 0 = λ xs. false ≡ (length xs == 0) in
     no_way (subst Some gone some)
 
 -- items at whose front no term stands are no whole term
-pub no_front : (items : List Item) → HasNoTerm items → Explains items Items
-no_front items none t spells = none t [] (spells.0, spells.1 ∙ sym (append-nil (items_of t)))
+pub no-front : (items : List Item) → HasNoTerm items → Explains items Items
+no-front items none t spells = none t [] (spells.0, spells.1 ∙ sym (append-nil (items_of t)))
 
 are_spelled-append : (ts : Trees) (t : Tree) → are_spelled ts ≡ true → is_spelled t ≡ true → are_spelled (trees_append ts (t ▹ end)) ≡ true
 are_spelled-append end t p q = both (is_spelled t) true q refl
@@ -194,28 +195,28 @@ items_of_all-append (u ▹ us) t y =
     ∙ sym (append_assoc (items_of u) (items_of_all us) (items_of t ++ y))
 
 -- one more term is read
-pub begin_more : (items : List Item) (i : ℕ) (ts : Trees) (rest : List Item) (t : Tree) (after : List Item)
-    → BeginAll items i ts rest → Begins rest t after → BeginAll items (i + 1) (trees_append ts (t ▹ end)) after
-begin_more items i ts rest t after begin begins = (
+pub begin-more : (items : List Item) (i : ℕ) (ts : Trees) (rest : List Item) (t : Tree) (after : List Item)
+    → BeginAll items i ts rest → BeginsWith rest t after → BeginAll items (i + 1) (trees_append ts (t ▹ end)) after
+begin-more items i ts rest t after begin begins = (
   are_spelled-append ts t begin.0 begins.0,
   omega (arith, trees_len-append ts t, begin.1),
   begin.2 ∙ ap (λ xs. items_of_all ts ++ xs) begins.1 ∙ sym (items_of_all-append ts t after),
 )
 
 -- one more term is read, and kept if all were
-pub reads_more : (items : List Item) (i : ℕ) (values new : Option (List code.Tree)) (rest : List Item) (value : Option code.Tree) (after : List Item) → ReadsAll items i values rest
-    → Reads rest value after
+pub reads-more : (items : List Item) (i : ℕ) (values new : Option (List code.Tree)) (rest : List Item) (value : Option code.Tree) (after : List Item) → ReadsAll items i values rest
+    → ReadsTerm rest value after
     → ((ts : Trees) (t : Tree) → AreOf values ts → IsOf value t → AreOf new (trees_append ts (t ▹ end))) → ReadsAll items (i + 1) new after
-reads_more items i values new rest value after all one kept = record {
+reads-more items i values new rest value after all one kept = record {
   terms = trees_append all.terms (one.term ▹ end);
-  begin = begin_more items i all.terms rest one.term after all.begin one.begins;
+  begin = begin-more items i all.terms rest one.term after all.begin one.begins;
   built = kept all.terms one.term all.built one.built;
 }
 
 -- one more byte is read, and kept if all were
-pub reads_byte : (items : List Item) (i : ℕ) (kept new : Option (List ℕ)) (rest : List Item) (b : ℕ) (after : List Item) → ReadsBytes items i kept rest → rest ≡ item.Byte b ∷ after
+pub reads-byte : (items : List Item) (i : ℕ) (kept new : Option (List ℕ)) (rest : List Item) (b : ℕ) (after : List Item) → ReadsBytes items i kept rest → rest ≡ item.Byte b ∷ after
     → ((bs : List ℕ) → IfSome kept (λ xs. xs ≡ bs) → IfSome new (λ xs. xs ≡ bs ++ b ∷ [])) → ReadsBytes items (i + 1) new after
-reads_byte items i kept new rest b after all is more =
+reads-byte items i kept new rest b after all is more =
     let begin : length all.bytes ≡ i = all.begin.0 in
     record {
       bytes = all.bytes ++ b ∷ [];
@@ -228,10 +229,10 @@ reads_byte items i kept new rest b after all is more =
     }
 
 -- a list place is read, and built if its parts were
-pub reads_cons : (items rest : List Item) (head : Option code.Tree) (mid : List Item) (tail new : Option code.Tree) (after : List Item) → items ≡ item.Cons ∷ rest → Reads rest head mid
-    → Reads mid tail after
-    → ((h t : Tree) → IsOf head h → IsOf tail t → IsOf new (Cons h t)) → Reads items new after
-reads_cons items rest head mid tail new after is first second made =
+pub reads-cons : (items rest : List Item) (head : Option code.Tree) (mid : List Item) (tail new : Option code.Tree) (after : List Item) → items ≡ item.Cons ∷ rest → ReadsTerm rest head mid
+    → ReadsTerm mid tail after
+    → ((h t : Tree) → IsOf head h → IsOf tail t → IsOf new (Cons h t)) → ReadsTerm items new after
+reads-cons items rest head mid tail new after is first second made =
     let a = first.term in
     let b = second.term in
     record {
@@ -244,9 +245,9 @@ reads_cons items rest head mid tail new after is first second made =
     }
 
 -- a binary is read, and built if its bytes were kept
-pub reads_bin : (items rest : List Item) (n : ℕ) (kept : Option (List ℕ)) (new : Option code.Tree) (after : List Item) → items ≡ item.Bin n ∷ rest → n ≤ HEAP_BINARY → ReadsBytes rest n kept after
-    → ((bs : List ℕ) → IfSome kept (λ xs. xs ≡ bs) → IsOf new (Bin bs)) → Reads items new after
-reads_bin items rest n kept new after is few all made =
+pub reads-bin : (items rest : List Item) (n : ℕ) (kept : Option (List ℕ)) (new : Option code.Tree) (after : List Item) → items ≡ item.Bin n ∷ rest → n ≤ HEAP_BINARY → ReadsBytes rest n kept after
+    → ((bs : List ℕ) → IfSome kept (λ xs. xs ≡ bs) → IsOf new (Bin bs)) → ReadsTerm items new after
+reads-bin items rest n kept new after is few all made =
     let len : length all.bytes ≡ n = all.begin.0 in
     let short : nat_le (length all.bytes) HEAP_BINARY ≡ true = grind (arith, nat_tests, len, few) in
     record {
@@ -260,10 +261,10 @@ trees_of-push : (xs : List code.Tree) (x : code.Tree) → trees_of (map view (xs
 trees_of-push [] x = refl
 trees_of-push (y ∷ ys) x = ap (λ us. view y ▹ us) (trees_of-push ys x)
 
-pub are_more : (values : Option (List code.Tree)) (value : Option code.Tree) (xs : List code.Tree) (x : code.Tree) (new : List code.Tree) (ts : Trees) (t : Tree) → values ≡ Some xs → value ≡ Some x
+pub are-more : (values : Option (List code.Tree)) (value : Option code.Tree) (xs : List code.Tree) (x : code.Tree) (new : List code.Tree) (ts : Trees) (t : Tree) → values ≡ Some xs → value ≡ Some x
     → new ≡ xs ++ x ∷ []
     → AreOf values ts → IsOf value t → trees_of (map view new) ≡ trees_append ts (t ▹ end)
-are_more values value xs x new ts t is one pushed all it =
+are-more values value xs x new ts t is one pushed all it =
     let many : trees_of (map view xs) ≡ ts = subst (λ v. AreOf v ts) is all in
     let last : view x ≡ t = subst (λ v. IsOf v t) one it in
     ap (λ l. trees_of (map view l)) pushed ∙ trees_of-push xs x ∙ ap (λ us. trees_append us (view x ▹ end)) many ∙ ap (λ u. trees_append ts (u ▹ end)) last

@@ -1,6 +1,6 @@
 -- The trees that terms stand for. `Trees` and `Pairs` are the plain lists of trees and of pairs of
 -- trees: the logic has no `List Tree` inside `Tree`.
-use Rattle.std.specs.Prelude.{ℕ, ◌+◌, ℤ, List}
+use Rattle.std.specs.Prelude.{ℕ, zero, suc, ◌+◌, ℤ, List}
 
 infixr 60 ◌▹◌
 mutual
@@ -38,6 +38,11 @@ trees_len (t ▹ ts) = trees_len ts + 1
 abbrev pub trees_append : Trees → Trees → Trees
 trees_append end us = us
 trees_append (t ▹ ts) us = t ▹ trees_append ts us
+
+-- The same tree n times.
+abbrev pub same_trees : ℕ → Tree → Trees
+same_trees zero t = end
+same_trees (suc n) t = t ▹ same_trees n t
 
 -- How many pairs a list has.
 abbrev pub pairs_len : Pairs → ℕ

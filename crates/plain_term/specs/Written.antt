@@ -48,21 +48,21 @@ abbrev mutual
   items_of_all (t ▹ ts) = items_of t ++ items_of_all ts
 
 -- The items are those of the tree, which is of a kind that they spell.
-abbrev pub Spells : List Item → Tree → Type 0
-Spells items t = IsTrue (is_spelled t) × (items ≡ items_of t)
+abbrev pub SpellsTree : List Item → Tree → Type 0
+SpellsTree items t = IsTrue (is_spelled t) × (items ≡ items_of t)
 
 -- Only items that are not one whole term are a fault of items, and memory is wanting only for one.
 abbrev pub Explains : List Item → TreeFault → Type 0
-Explains items Memory = (t : Tree) × Spells items t
-Explains items Items = (t : Tree) → Spells items t → ⊥
+Explains items Memory = (t : Tree) × SpellsTree items t
+Explains items Items = (t : Tree) → SpellsTree items t → ⊥
 
 -- What is left after a term at the front.
-abbrev pub Begins : List Item → Tree → List Item → Type 0
-Begins items t rest = IsTrue (is_spelled t) × (items ≡ items_of t ++ rest)
+abbrev pub BeginsWith : List Item → Tree → List Item → Type 0
+BeginsWith items t rest = IsTrue (is_spelled t) × (items ≡ items_of t ++ rest)
 
 -- No term stands at the front.
 abbrev pub HasNoTerm : List Item → Type 0
-HasNoTerm items = (t : Tree) (rest : List Item) → Begins items t rest → ⊥
+HasNoTerm items = (t : Tree) (rest : List Item) → BeginsWith items t rest → ⊥
 
 -- What is left after n terms at the front.
 abbrev pub BeginAll : List Item → ℕ → Trees → List Item → Type 0
@@ -91,9 +91,9 @@ AreOf None ts = ⊤
 AreOf (Some values) ts = trees_of (map view values) ≡ ts
 
 -- A term was read from the front, and built unless memory was wanting.
-pub record Reads (items : List Item) (value : Option code.Tree) (rest : List Item) : Type 0 where
+pub record ReadsTerm (items : List Item) (value : Option code.Tree) (rest : List Item) : Type 0 where
   pub term : Tree
-  pub begins : Begins items term rest
+  pub begins : BeginsWith items term rest
   pub built : IsOf value term
 
 -- The same of n terms.

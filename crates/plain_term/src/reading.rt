@@ -7,7 +7,7 @@ ghost use Rattle.plain_term.specs.Tree.Trees.{end, ◌▹◌};
 ghost use Rattle.plain_term.specs.Tree.Tree.{Cons as plain_cons, Tuple as plain_tuple, Bin as plain_bin};
 ghost use Rattle.plain_term.specs.declared.item.Item.{Item};
 ghost use Rattle.plain_term.specs.declared.item.Item.TheVariants.{Byte};
-ghost use Rattle.plain_term.specs.Written.{AreOf, Explains, HasNoBytes, HasNoParts, HasNoTerm, IsOf, Reads, ReadsAll, ReadsBytes, Spells};
+ghost use Rattle.plain_term.specs.Written.{AreOf, Explains, HasNoBytes, HasNoParts, HasNoTerm, IsOf, ReadsTerm, ReadsAll, ReadsBytes, SpellsTree};
 
 use crate::item::Item;
 use crate::tree::{Tree, TreeFault};
@@ -24,7 +24,7 @@ impl Tree {
     /// 2^127, atoms, pids, nil, lists, tuples and binaries of at most 64 bytes. `Memory` comes only
     /// where they are one.
     pub fn of_items(alloc: Global, items: &[Item]) -> Result<Tree, TreeFault>
-        ensures { MatchResult result (λ t. Spells items.now (view t)) (λ e. Explains items.now e) }
+        ensures { MatchResult result (λ t. SpellsTree items.now (view t)) (λ e. Explains items.now e) }
     {
         match read_term(alloc, items) {
             Some((tree, rest)) => {
@@ -43,7 +43,7 @@ impl Tree {
 // wanting the term is not built, and reading goes on.
 #[cycle(reading)]
 fn read_term(alloc: Global, items: &[Item]) -> Option<(Option<Tree>, &[Item])>
-    ensures read { MatchOption result (HasNoTerm items.now) (λ p. Reads items.now p.0 p.1.now) }
+    ensures read { MatchOption result (HasNoTerm items.now) (λ p. ReadsTerm items.now p.0 p.1.now) }
     ensures shorter { IfSome result (λ p. length p.1.now < length items.now) }
 {
     let (first, rest) = first(items)?;

@@ -11,16 +11,16 @@ use Rattle.term_words.specs.Object.{IsRecord}
 use Rattle.term_words.specs.Kept.{Kept, Keeps}
 use Rattle.term_words.specs.Relocated.{IsCopiedTo}
 use Rattle.term_words.specs.Counted.{In, total}
-use Rattle.term_words.proofs.Frames.{frame}
-use Rattle.term_words.proofs.Members.{one-or-not}
+use Rattle.term_words.proofs.Framing.Frames.{frame}
+use Rattle.term_words.proofs.Totals.Members.{one-or-not}
 use Rattle.term_build.specs.Taken.{Taken, with_object}
 use Rattle.term_build.proofs.Taking.{with-object-taken, with-object-single, with-object-within}
 use Rattle.shared_rec.specs.Record.{record_roles, count_in}
 use Rattle.shared_rec.proofs.Records.{bin-copied, fun-copied, record-counted, record-size, record-within, record-first, record-role}
 use Rattle.off_heap_list.specs.Links.{name_place, named, naming, IsLink, SameContent}
-use Rattle.off_heap_list.proofs.Chained.{place-same}
-use Rattle.off_heap_list.proofs.Tallied.{few-links}
-use Rattle.record_move.specs.Copies.{record_words, CanMove, IsCopy, Moves, AreFew}
+use Rattle.off_heap_list.proofs.Chaining.Chained.{place-same}
+use Rattle.off_heap_list.proofs.Walked.Tallied.{few-links}
+use Rattle.record_move.specs.Copies.{record_words, RecordsCanMove, IsRecordCopy, Moves, AreFew}
 use Rattle.record_move.specs.declared.moves.TheConstants.{MOVED}
 
 -- A list without one of its members.
@@ -112,12 +112,12 @@ naming-few : (mem : List ℕ) (v : ℕ) (os : List ℕ) → naming mem v os ≤ 
 naming-few mem v [] = omega arith
 naming-few mem v (p ∷ os) = omega (arith, names-few (named mem p == v), naming-few mem v os)
 
-pub are-few : (c : ℕ → ℕ → Bool) (start : List ℕ) (head : ℕ) (os : List ℕ) (low top : ℕ) → CanMove c start head os low top → length start ≤ 16777216 → AreFew c start
+pub are-few : (c : ℕ → ℕ → Bool) (start : List ℕ) (head : ℕ) (os : List ℕ) (low top : ℕ) → RecordsCanMove c start head os low top → length start ≤ 16777216 → AreFew c start
 are-few c start head os low top b most = record {
   few = λ v n there. omega (arith, b.links.counts v n there, naming-few start v os, few-links c start os b.links.once b.links.each, most);
 }
 
-module _ (c : ℕ → ℕ → Bool) (start : List ℕ) (head : ℕ) (os : List ℕ) (low top : ℕ) (b : CanMove c start head os low top) (f : AreFew c start) where
+module _ (c : ℕ → ℕ → Bool) (start : List ℕ) (head : ℕ) (os : List ℕ) (low top : ℕ) (b : RecordsCanMove c start head os low top) (f : AreFew c start) where
   -- A word with a role lies outside the room.
   outside-room : (a k : ℕ) → c a k ≡ true → (a < low) ⊎ (top ≤ a)
   outside-room a k h = b.free a k h
@@ -131,7 +131,7 @@ module _ (c : ℕ → ℕ → Bool) (start : List ℕ) (head : ℕ) (os : List �
   pub record-of : (o : ℕ) (inside : In o os) → IsRecord c start (named start o) (b.links.each o inside).words
   record-of o inside = (b.links.each o inside).record_is
 
-pub moves-begin : (c : ℕ → ℕ → Bool) (start : List ℕ) (head : ℕ) (os : List ℕ) (low top : ℕ) → CanMove c start head os low top → AreFew c start → Moves c start start os os low top top
+pub moves-begin : (c : ℕ → ℕ → Bool) (start : List ℕ) (head : ℕ) (os : List ℕ) (low top : ℕ) → RecordsCanMove c start head os low top → AreFew c start → Moves c start start os os low top top
 moves-begin c start head os low top b f = record {
   test = c;
   single = b.single;
@@ -156,7 +156,7 @@ moves-begin c start head os low top b f = record {
 }
 
 -- The words with a role that is neither that of a count nor of a name are as they were.
-module _ (c : ℕ → ℕ → Bool) (start mem : List ℕ) (head : ℕ) (os rest : List ℕ) (low now top : ℕ) (b : CanMove c start head os low top) (f : AreFew c start)
+module _ (c : ℕ → ℕ → Bool) (start mem : List ℕ) (head : ℕ) (os rest : List ℕ) (low now top : ℕ) (b : RecordsCanMove c start head os low top) (f : AreFew c start)
     (s : Moves c start mem os rest low now top) where
   pub word-same : (a k : ℕ) → c a k ≡ true → (k ≡ COUNT → ⊥) → (k ≡ NAMES → ⊥) → get_or mem a 0 ≡ get_or start a 0
   word-same a k h n m =
@@ -176,7 +176,7 @@ module _ (c : ℕ → ℕ → Bool) (start mem : List ℕ) (head : ℕ) (os rest
   next-kept o l = word-same (o + 2) NEXT l.next (λ e. omega (arith, e)) (λ e. omega (arith, e))
 
   -- A record whose count word has the mark was copied.
-  pub copy-of : (v n : ℕ) → IsRecord c start v n → MOVED ≤ count_in mem v → (u : ℕ) × IsCopy s.test start mem now top v n u
+  pub copy-of : (v n : ℕ) → IsRecord c start v n → MOVED ≤ count_in mem v → (u : ℕ) × IsRecordCopy s.test start mem now top v n u
   copy-of v n there marked = elim (s.records v n there) [ inl same ↦ absurd (omega (arith, marked, same, f.few v n there)) | inr copy ↦ copy ]
 
   -- And one whose count word has not was not.
@@ -194,7 +194,7 @@ module _ (c : ℕ → ℕ → Bool) (start mem : List ℕ) (head : ℕ) (os rest
       ap (λ x. x / 16) (word-same v RECORD_FIRST (record-first c start v n there) (λ e. omega (arith, e)) (λ e. omega (arith, e))) ∙ record-size c start v n there
 
 -- A record is copied.
-module _ (c : ℕ → ℕ → Bool) (start mem mem2 : List ℕ) (head o : ℕ) (os rest : List ℕ) (low now top n u : ℕ) (b : CanMove c start head os low top) (f : AreFew c start)
+module _ (c : ℕ → ℕ → Bool) (start mem mem2 : List ℕ) (head o : ℕ) (os rest : List ℕ) (low now top n u : ℕ) (b : RecordsCanMove c start head os low top) (f : AreFew c start)
     (s : Moves c start mem os (o ∷ rest) low now top) (there : IsRecord c start (named start o) n) (small : count_in mem (named start o) < MOVED) (at : u + n ≡ now)
     (same_len : length mem2 ≡ length mem) (copied : (j : ℕ) → j < n → get_or mem2 (u + j) 0 ≡ get_or mem (named start o + j) 0)
     (mark : get_or mem2 (named start o + 2) 0 ≡ MOVED + u)
@@ -254,7 +254,7 @@ module _ (c : ℕ → ℕ → Bool) (start mem mem2 : List ℕ) (head o : ℕ) (
     | inr far ↦ record-word c start mem head os (o ∷ rest) low now top b f s (named start o) n j there below far
   ]
 
-  copy-here : IsCopy (with_object record_roles s.test u n) start mem2 u top (named start o) n u
+  copy-here : IsRecordCopy (with_object record_roles s.test u n) start mem2 u top (named start o) n u
   copy-here = record {
     mark = mark;
     from = omega arith;
@@ -264,7 +264,7 @@ module _ (c : ℕ → ℕ → Bool) (start mem mem2 : List ℕ) (head o : ℕ) (
   }
 
   -- A copy that was made before is as it was.
-  copy-still : (v m w : ℕ) → IsRecord c start v m → (v ≡ named start o → ⊥) → IsCopy s.test start mem now top v m w → IsCopy (with_object record_roles s.test u n) start mem2 u top v m w
+  copy-still : (v m w : ℕ) → IsRecord c start v m → (v ≡ named start o → ⊥) → IsRecordCopy s.test start mem now top v m w → IsRecordCopy (with_object record_roles s.test u n) start mem2 u top v m w
   copy-still v m w r far k = record {
     mark = count-word v m r far ∙ k.mark;
     from = omega (arith, k.from, at);
@@ -319,8 +319,8 @@ module _ (c : ℕ → ℕ → Bool) (start mem mem2 : List ℕ) (head o : ℕ) (
         ∙ (was ∙ ap (λ x. MOVED + x) (sym (name-word q inside)));
     records = λ v m r. elim (one-or-not v (named start o)) [
       | inl same ↦
-          let P : ℕ → Type 0 = λ x. IsCopy (with_object record_roles s.test u n) start mem2 u top x n u in
-          let Q : ℕ → Type 0 = λ x. IsCopy (with_object record_roles s.test u n) start mem2 u top v x u in
+          let P : ℕ → Type 0 = λ x. IsRecordCopy (with_object record_roles s.test u n) start mem2 u top x n u in
+          let Q : ℕ → Type 0 = λ x. IsRecordCopy (with_object record_roles s.test u n) start mem2 u top v x u in
           let size : n ≡ m = sym size-is ∙ (ap (λ x. get_or start x 0 / 16) (sym same) ∙ record-size c start v m r) in
           inr (u, subst Q size (subst P (sym same) copy-here))
       | inr far ↦ elim (s.records v m r) [ inl still ↦ inl (count-word v m r far ∙ still) | inr (w, k) ↦ inr (w, copy-still v m w r far k) ]
@@ -377,13 +377,13 @@ module _ (c : ℕ → ℕ → Bool) (start mem mem2 : List ℕ) (head o : ℕ) (
   }
 
   -- The record is copied, and shows where.
-  copy-told : (m : Moves c start mem2 os (o ∷ rest) low u top) × IsCopy m.test start mem2 u top (named start o) n u
+  copy-told : (m : Moves c start mem2 os (o ∷ rest) low u top) × IsRecordCopy m.test start mem2 u top (named start o) n u
   unfolding copy-step
   copy-told = (copy-step, copy-here)
 
 -- What a copy is to its record.
-module _ (c : ℕ → ℕ → Bool) (start mem : List ℕ) (head : ℕ) (os rest : List ℕ) (low now top : ℕ) (b : CanMove c start head os low top) (f : AreFew c start)
-    (s : Moves c start mem os rest low now top) (v n u : ℕ) (there : IsRecord c start v n) (k : IsCopy s.test start mem now top v n u) where
+module _ (c : ℕ → ℕ → Bool) (start mem : List ℕ) (head : ℕ) (os rest : List ℕ) (low now top : ℕ) (b : RecordsCanMove c start head os low top) (f : AreFew c start)
+    (s : Moves c start mem os rest low now top) (v n u : ℕ) (there : IsRecord c start v n) (k : IsRecordCopy s.test start mem now top v n u) where
   pub from-start : IsCopiedTo c s.test start mem v u n
   from-start = record {
     within = omega (arith, k.below, b.inside, s.same_len);
@@ -423,8 +423,8 @@ module _ (c : ℕ → ℕ → Bool) (start mem : List ℕ) (head : ℕ) (os rest
   }
 
 -- An object names the copy.
-module _ (c : ℕ → ℕ → Bool) (start mem mem2 : List ℕ) (head o : ℕ) (os rest : List ℕ) (low now top n u : ℕ) (b : CanMove c start head os low top) (f : AreFew c start)
-    (s : Moves c start mem os (o ∷ rest) low now top) (there : IsRecord c start (named start o) n) (k : IsCopy s.test start mem now top (named start o) n u)
+module _ (c : ℕ → ℕ → Bool) (start mem mem2 : List ℕ) (head o : ℕ) (os rest : List ℕ) (low now top n u : ℕ) (b : RecordsCanMove c start head os low top) (f : AreFew c start)
+    (s : Moves c start mem os (o ∷ rest) low now top) (there : IsRecord c start (named start o) n) (k : IsRecordCopy s.test start mem now top (named start o) n u)
     (same_len : length mem2 ≡ length mem) (name : get_or mem2 (name_place start o) 0 ≡ u)
     (others : (q : ℕ) → (q ≡ name_place start o → ⊥) → get_or mem2 q 0 ≡ get_or mem q 0) (trees : Keeps s.test s.test mem mem2) where
   inside-here : In o os
@@ -495,7 +495,7 @@ module _ (c : ℕ → ℕ → Bool) (start mem mem2 : List ℕ) (head o : ℕ) (
   }
 
 -- What the code has in its hands.
-module _ (c : ℕ → ℕ → Bool) (start mem : List ℕ) (head o : ℕ) (os rest : List ℕ) (low now top : ℕ) (b : CanMove c start head os low top) (f : AreFew c start)
+module _ (c : ℕ → ℕ → Bool) (start mem : List ℕ) (head o : ℕ) (os rest : List ℕ) (low now top : ℕ) (b : RecordsCanMove c start head os low top) (f : AreFew c start)
     (s : Moves c start mem os (o ∷ rest) low now top) where
   link-of : IsLink c start o
   link-of = b.links.each o (s.among o (inl refl))
@@ -566,7 +566,7 @@ module _ (c : ℕ → ℕ → Bool) (start mem : List ℕ) (head o : ℕ) (os re
       elim (apart-of some) [ inl less2 ↦ inl (omega (arith, less2, e, names-old, is, room)) | inr more ↦ inr (omega (arith, more, e, names-old, is, room, s.below)) ]
 
 -- The record was moved before: the object finds the mark.
-pub moved-found : (c : ℕ → ℕ → Bool) (start mem mem2 : List ℕ) (head o : ℕ) (os rest : List ℕ) (low now top from count : ℕ) → CanMove c start head os low top → AreFew c start
+pub moved-found : (c : ℕ → ℕ → Bool) (start mem mem2 : List ℕ) (head o : ℕ) (os rest : List ℕ) (low now top from count : ℕ) → RecordsCanMove c start head os low top → AreFew c start
     → Moves c start mem os (o ∷ rest) low now top → from ≡ named mem o → count ≡ get_or mem (from + 2) 0 → MOVED ≤ count → mem2 ≡ set mem (name_place mem o) (count - MOVED)
     → ((d : ℕ → ℕ → Bool) → IsSingle d → d (name_place mem o) NAMES ≡ true → SameContent d mem (named mem o) (count - MOVED) → Keeps d d mem mem2) → Moves c start mem2 os rest low now top
 moved-found c start mem mem2 head o os rest low now top from count b f s e w marked is keeps =
@@ -587,7 +587,7 @@ moved-found c start mem mem2 head o os rest low now top from count b f s e w mar
     (subst C (sym old) (subst D (sym less) (same-content c start mem head os (o ∷ rest) low now top b f s (named start o) l.words u l.record_is k))))
 
 -- The record is moved now.
-pub moved-now : (c : ℕ → ℕ → Bool) (start mem mem2 mem3 : List ℕ) (head o : ℕ) (os rest : List ℕ) (low now top from count words : ℕ) → CanMove c start head os low top → AreFew c start
+pub moved-now : (c : ℕ → ℕ → Bool) (start mem mem2 mem3 : List ℕ) (head o : ℕ) (os rest : List ℕ) (low now top from count words : ℕ) → RecordsCanMove c start head os low top → AreFew c start
     → Moves c start mem os (o ∷ rest) low now top → from ≡ named mem o → count ≡ get_or mem (from + 2) 0 → count < MOVED → words ≡ get_or mem from 0 / 16
     → length mem2 ≡ length mem → ((j : ℕ) → j < words → get_or mem2 (now - words + j) 0 ≡ get_or mem (from + j) 0) → get_or mem2 (from + 2) 0 ≡ MOVED + (now - words)
     → ((q : ℕ) → (q < now - words) ⊎ (now - words + words ≤ q) → (q ≡ from + 2 → ⊥) → get_or mem2 q 0 ≡ get_or mem q 0) → mem3 ≡ set mem2 (name_place mem2 o) (now - words)

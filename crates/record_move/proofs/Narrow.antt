@@ -6,7 +6,7 @@ use Rattle.term_words.specs.Counted.{In}
 use Rattle.shared_rec.specs.Record.{count_in}
 use Rattle.shared_rec.proofs.Records.{record-copied, record-first, record-within}
 use Rattle.off_heap_list.specs.Links.{name_place, named, naming, IsLink, Links}
-use Rattle.record_move.specs.Copies.{RecordsMoved, Leaves}
+use Rattle.record_move.specs.Copies.{RecordsMoved, LeavesOld}
 use Rattle.record_move.proofs.Moving.{place-cases}
 
 both-true : (x y : Bool) → x ≡ true → y ≡ true → x && y ≡ true
@@ -23,7 +23,7 @@ second-true : (x y : Bool) → x && y ≡ true → y ≡ true
 second-true true y e = e
 second-true false y e = absurd (false-true e)
 
-module _ (c : ℕ → ℕ → Bool) (start mem : List ℕ) (head : ℕ) (os : List ℕ) (low top : ℕ) (r : RecordsMoved c start mem head os low top) (d : ℕ → ℕ → Bool) (x : Leaves c os low top d) where
+module _ (c : ℕ → ℕ → Bool) (start mem : List ℕ) (head : ℕ) (os : List ℕ) (low top : ℕ) (r : RecordsMoved c start mem head os low top) (d : ℕ → ℕ → Bool) (x : LeavesOld c os low top d) where
   -- A record that an object names stands by the narrower test.
   pub named-record : (o n : ℕ) → In o os → IsRecord r.test mem (named mem o) n → IsRecord (both r.test d) mem (named mem o) n
   named-record o n inside there =
@@ -84,7 +84,7 @@ module _ (c : ℕ → ℕ → Bool) (start mem : List ℕ) (head : ℕ) (os : Li
   pub narrow-some : (v n : ℕ) → IsRecord (both r.test d) mem v n → 1 ≤ count_in mem v
   narrow-some v n there = (counts-here v n there).1
 
-pub narrow-links : (c : ℕ → ℕ → Bool) (start mem : List ℕ) (head : ℕ) (os : List ℕ) (low top : ℕ) (r : RecordsMoved c start mem head os low top) (d : ℕ → ℕ → Bool) → Leaves c os low top d
+pub narrow-links : (c : ℕ → ℕ → Bool) (start mem : List ℕ) (head : ℕ) (os : List ℕ) (low top : ℕ) (r : RecordsMoved c start mem head os low top) (d : ℕ → ℕ → Bool) → LeavesOld c os low top d
     → Links (both r.test d) mem head os []
 narrow-links c start mem head os low top r d x = record {
   chain = r.chain;

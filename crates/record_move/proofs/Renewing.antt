@@ -5,9 +5,9 @@ use Rattle.std.proofs.lemmas.Bool.Decides.{nat_tests}
 use Rattle.std.proofs.lemmas.List.{append-nil, take_more, take_more_set}
 use Rattle.term_words.specs.Object.{IsRecord}
 use Rattle.term_words.specs.Counted.{In, Distinct, total, count, ArePacked}
-use Rattle.term_words.proofs.Packing.{packed}
-use Rattle.term_words.proofs.Counts.{count-most}
-use Rattle.term_words.proofs.Roles.{records-apart}
+use Rattle.term_words.proofs.Totals.Packing.{packed}
+use Rattle.term_words.proofs.Totals.Counts.{count-most}
+use Rattle.term_words.proofs.Placing.Roles.{records-apart}
 use Rattle.shared_rec.specs.Record.{owner_in, count_in}
 use Rattle.shared_rec.proofs.Records.{record-size, record-within}
 use Rattle.off_heap_list.specs.Links.{named}

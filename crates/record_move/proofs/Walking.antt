@@ -6,13 +6,13 @@ use Rattle.term_words.specs.Role.{NEXT, FIRST, FURTHER, NAMES, RECORD_FIRST}
 use Rattle.term_words.specs.Object.{IsRecord}
 use Rattle.term_words.specs.Relocated.{IsCopiedTo}
 use Rattle.term_words.specs.Counted.{In}
-use Rattle.term_words.proofs.Members.{one-or-not}
+use Rattle.term_words.proofs.Totals.Members.{one-or-not}
 use Rattle.shared_rec.specs.Record.{count_in}
 use Rattle.shared_rec.proofs.Records.{bin-copied, fun-copied, record-copied, record-first, record-size, record-within}
 use Rattle.off_heap_list.specs.Links.{names_it, name_place, named, Chain, naming, IsLinkHeader, IsLink}
-use Rattle.off_heap_list.proofs.Chained.{leads-stays, one-naming, no-naming}
-use Rattle.off_heap_list.proofs.Tallied.{none-left}
-use Rattle.record_move.specs.Copies.{CanMove, IsCopy, HasNamer, RecordsMoved, Moves, AreFew}
+use Rattle.off_heap_list.proofs.Chaining.Chained.{leads-stays, one-naming, no-naming}
+use Rattle.off_heap_list.proofs.Walked.Tallied.{none-left}
+use Rattle.record_move.specs.Copies.{RecordsCanMove, IsRecordCopy, HasNamer, RecordsMoved, Moves, AreFew}
 use Rattle.record_move.specs.declared.moves.TheConstants.{MOVED}
 use Rattle.record_move.proofs.Moving.{word-same, next-kept, place-kept, head-same, copy-of, from-start, moves-begin}
 
@@ -23,7 +23,7 @@ pub record Walks (c : ℕ → ℕ → Bool) (start mem : List ℕ) (head : ℕ) 
   pub chain : Chain start object rest
   pub number : i + length rest ≡ length os
 
-pub walks-begin : (c : ℕ → ℕ → Bool) (start : List ℕ) (head : ℕ) (os : List ℕ) (low top : ℕ) → CanMove c start head os low top → AreFew c start
+pub walks-begin : (c : ℕ → ℕ → Bool) (start : List ℕ) (head : ℕ) (os : List ℕ) (low top : ℕ) → RecordsCanMove c start head os low top → AreFew c start
     → Walks c start start head os low top top head 0
 walks-begin c start head os low top b f = record { rest = os; moves = moves-begin c start head os low top b f; chain = b.links.chain; number = omega arith }
 
@@ -38,7 +38,7 @@ goes c start mem os low now top object (p ∷ left) l some =
     let P : ℕ → Type 0 = λ x. Chain start (get_or start (x + 2) 0) left in
     record { left = left; is = ap (λ x. x ∷ left) (sym l.0); chain = subst P (sym l.0) l.1 }
 
-module _ (c : ℕ → ℕ → Bool) (start mem : List ℕ) (head : ℕ) (os : List ℕ) (low now top object i : ℕ) (b : CanMove c start head os low top) (f : AreFew c start)
+module _ (c : ℕ → ℕ → Bool) (start mem : List ℕ) (head : ℕ) (os : List ℕ) (low now top object i : ℕ) (b : RecordsCanMove c start head os low top) (f : AreFew c start)
     (w : Walks c start mem head os low now top object i) (more : i < length os) where
   next : Goes c start mem os low now top object w.rest
   next = goes c start mem os low now top object w.rest w.chain (omega (arith, w.number, more))
@@ -71,7 +71,7 @@ no-name x v far =
     elim which [ inl e ↦ absurd (far e) | inr apart ↦ no-naming x v apart ]
 
 -- When every object was seen.
-module _ (c : ℕ → ℕ → Bool) (start mem : List ℕ) (head : ℕ) (os : List ℕ) (low now top : ℕ) (b : CanMove c start head os low top) (f : AreFew c start)
+module _ (c : ℕ → ℕ → Bool) (start mem : List ℕ) (head : ℕ) (os : List ℕ) (low now top : ℕ) (b : RecordsCanMove c start head os low top) (f : AreFew c start)
     (s : Moves c start mem os [] low now top) where
   link-of : (o : ℕ) → In o os → IsLink c start o
   link-of o inside = b.links.each o inside
@@ -82,11 +82,11 @@ module _ (c : ℕ → ℕ → Bool) (start mem : List ℕ) (head : ℕ) (os : Li
   shown : (o : ℕ) → In o os → count_in mem (named start o) ≡ MOVED + named mem o
   shown o inside = s.done o inside (λ i. i) ∙ ap (λ q. MOVED + get_or mem q 0) (sym (place-is o inside))
 
-  copy-at : (o : ℕ) (inside : In o os) → IsCopy s.test start mem now top (named start o) (link-of o inside).words (named mem o)
+  copy-at : (o : ℕ) (inside : In o os) → IsRecordCopy s.test start mem now top (named start o) (link-of o inside).words (named mem o)
   copy-at o inside =
       let (u, k) = copy-of c start mem head os [] low now top b f s (named start o) (link-of o inside).words (link-of o inside).record_is (omega (arith, shown o inside)) in
       let same : u ≡ named mem o = omega (arith, k.mark, shown o inside) in
-      let P : ℕ → Type 0 = λ x. IsCopy s.test start mem now top (named start o) (link-of o inside).words x in
+      let P : ℕ → Type 0 = λ x. IsRecordCopy s.test start mem now top (named start o) (link-of o inside).words x in
       subst P same k
 
   copied-at : (o : ℕ) (inside : In o os) → IsCopiedTo c s.test start mem (named start o) (named mem o) (link-of o inside).words
@@ -215,7 +215,7 @@ module _ (c : ℕ → ℕ → Bool) (start mem : List ℕ) (head : ℕ) (os : Li
     same_len = s.same_len;
   }
 
-pub walks-done : (c : ℕ → ℕ → Bool) (start mem : List ℕ) (head : ℕ) (os : List ℕ) (low now top object i : ℕ) → CanMove c start head os low top → AreFew c start
+pub walks-done : (c : ℕ → ℕ → Bool) (start mem : List ℕ) (head : ℕ) (os : List ℕ) (low now top object i : ℕ) → RecordsCanMove c start head os low top → AreFew c start
     → Walks c start mem head os low now top object i → length os ≤ i → (low ≤ now) × RecordsMoved c start mem head os now top
 walks-done c start mem head os low now top object i b f w over =
     let P : List ℕ → Type 0 = λ xs. Moves c start mem os xs low now top in

@@ -15,7 +15,7 @@ record_words mem v = slice_index mem v / 16
 
 -- Records can move: all objects that name one stand in the chain, the words from `low` up to `top` have no role, and they hold
 -- the records that are named, each once.
-pub record CanMove (c : ℕ → ℕ → Bool) (mem : List ℕ) (head : ℕ) (os : List ℕ) (low top : ℕ) : Type 0 where
+pub record RecordsCanMove (c : ℕ → ℕ → Bool) (mem : List ℕ) (head : ℕ) (os : List ℕ) (low top : ℕ) : Type 0 where
   pub single : IsSingle c
   pub links : Links c mem head os []
   pub free : IsFree c low top
@@ -26,7 +26,7 @@ pub record CanMove (c : ℕ → ℕ → Bool) (mem : List ℕ) (head : ℕ) (os 
   pub words : low + total (record_words mem) each ≤ top
 
 -- The record of n words at place v was copied to place u, with its count, and shows that: its count word has the mark and u.
-pub record IsCopy (d : ℕ → ℕ → Bool) (start mem : List ℕ) (low top v n u : ℕ) : Type 0 where
+pub record IsRecordCopy (d : ℕ → ℕ → Bool) (start mem : List ℕ) (low top v n u : ℕ) : Type 0 where
   pub mark : count_in mem v ≡ MOVED + u
   pub from : low ≤ u
   pub below : u + n ≤ top
@@ -83,7 +83,7 @@ pub record Moves (c : ℕ → ℕ → Bool) (start mem : List ℕ) (os rest : Li
   pub among : (o : ℕ) → In o rest → In o os
   pub left : (o : ℕ) → In o rest → slice_index mem (name_place start o) ≡ named start o
   pub done : (o : ℕ) → In o os → (In o rest → ⊥) → count_in mem (named start o) ≡ MOVED + slice_index mem (name_place start o)
-  pub records : (v n : ℕ) → IsRecord c start v n → (count_in mem v ≡ count_in start v) ⊎ ((u : ℕ) × IsCopy test start mem now top v n u)
+  pub records : (v n : ℕ) → IsRecord c start v n → (count_in mem v ≡ count_in start v) ⊎ ((u : ℕ) × IsRecordCopy test start mem now top v n u)
   pub one : (v n w m u : ℕ) → IsRecord c start v n → IsRecord c start w m → count_in mem v ≡ MOVED + u → count_in mem w ≡ MOVED + u → v ≡ w
   pub only : (a : ℕ) → now ≤ a → a < top → test a RECORD_FIRST ≡ true → (o : ℕ) × (In o os × (count_in mem (named start o) ≡ MOVED + a))
   pub each : List ℕ
@@ -102,21 +102,21 @@ pub record CanMoveOne (mem : List ℕ) (object now : ℕ) : Type 0 where
   pub os : List ℕ
   pub low : ℕ
   pub top : ℕ
-  pub can : CanMove test start head os low top
+  pub can : RecordsCanMove test start head os low top
   pub few : AreFew test start
   pub rest : List ℕ
   pub moves : Moves test start mem os (object ∷ rest) low now top
 
 -- A chain of so many objects stands, and their records can move to the free words before a place.
-pub record CanMoveAll (mem : List ℕ) (head len top : ℕ) : Type 0 where
+pub record AllRecordsCanMove (mem : List ℕ) (head len top : ℕ) : Type 0 where
   pub test : ℕ → ℕ → Bool
   pub os : List ℕ
   pub low : ℕ
   pub number : length os ≡ len
-  pub can : CanMove test mem head os low top
+  pub can : RecordsCanMove test mem head os low top
 
 -- A test that the objects and the copies pass, and no old record does: that of a half, or of some blocks.
-pub record Leaves (c : ℕ → ℕ → Bool) (os : List ℕ) (low top : ℕ) (d : ℕ → ℕ → Bool) : Type 0 where
+pub record LeavesOld (c : ℕ → ℕ → Bool) (os : List ℕ) (low top : ℕ) (d : ℕ → ℕ → Bool) : Type 0 where
   pub objects : (o a k : ℕ) → In o os → o ≤ a → a < o + 6 → d a k ≡ true
   pub copies : (a k : ℕ) → low ≤ a → a < top → d a k ≡ true
   pub none : (a : ℕ) → c a RECORD_FIRST ≡ true → d a RECORD_FIRST ≡ true → ⊥

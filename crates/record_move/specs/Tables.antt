@@ -12,8 +12,8 @@ renewed mem [] = []
 renewed mem (v ∷ vs) = if nat_le MOVED (count_in mem v) then (count_in mem v - MOVED) ∷ renewed mem vs else renewed mem vs
 
 -- The first four words of each record of the table lie in the memory.
-abbrev pub AreWithin : List ℕ → List ℕ → Type 0
-AreWithin mem vs = (v : ℕ) → In v vs → v + 4 ≤ length mem
+abbrev pub AllLieWithin : List ℕ → List ℕ → Type 0
+AllLieWithin mem vs = (v : ℕ) → In v vs → v + 4 ≤ length mem
 
 -- A record stands at each place of the table.
 abbrev pub AreRecords : (ℕ → ℕ → Bool) → List ℕ → List ℕ → Type 0

@@ -1,7 +1,7 @@
 // Records on their way to new places.
 ghost use Rattle.std.specs.Prelude.{◌≡◌, ℕ, ◌+◌, ◌<◌, ◌≤◌, ◌⊎◌, Bool, List, ◌∷◌, length, slice_index};
 ghost use Rattle.record_move.specs.declared.moves.TheConstants.{MOVED};
-ghost use Rattle.record_move.specs.Copies.{AreFew, CanMove, CanMoveAll, CanMoveOne, Moves, RecordsMoved};
+ghost use Rattle.record_move.specs.Copies.{AreFew, RecordsCanMove, AllRecordsCanMove, CanMoveOne, Moves, RecordsMoved};
 
 use off_heap_list::{next_of, record_of, set_record};
 use shared_rec::count_of;
@@ -13,8 +13,8 @@ pub const MOVED: u64 = 4294967296;
 /// Moves the records that the objects of a chain name to the free words before `top`, the first one last, each once: the
 /// objects name the copies, which have the counts. Every tree stands at every moment. The answer is the lowest word in use.
 pub fn move_records(mem: &mut WordMem, head: u64, len: u64, top: u64) -> u64
-    requires { CanMoveAll mem.old head len top }
-    ensures { (c : ℕ → ℕ → Bool) (os : List ℕ) (low : ℕ) → length os ≡ len → CanMove c mem.old head os low top
+    requires { AllRecordsCanMove mem.old head len top }
+    ensures { (c : ℕ → ℕ → Bool) (os : List ℕ) (low : ℕ) → length os ≡ len → RecordsCanMove c mem.old head os low top
         → (low ≤ result) × RecordsMoved c mem.old mem.new head os result top }
 {
     let _len = mem.len();
@@ -31,7 +31,7 @@ pub fn move_records(mem: &mut WordMem, head: u64, len: u64, top: u64) -> u64
 // Moves the record that the object names to the words before `now`, unless it was moved: the object names the copy.
 fn move_record(mem: &mut WordMem, object: u64, now: u64) -> u64
     requires { CanMoveOne mem.old object now }
-    ensures { (c : ℕ → ℕ → Bool) (start : List ℕ) (head : ℕ) (os rest : List ℕ) (low top : ℕ) → CanMove c start head os low top → AreFew c start
+    ensures { (c : ℕ → ℕ → Bool) (start : List ℕ) (head : ℕ) (os rest : List ℕ) (low top : ℕ) → RecordsCanMove c start head os low top → AreFew c start
         → Moves c start mem.old os (object ∷ rest) low now top → Moves c start mem.new os rest low result top }
 {
     let _len = mem.len();

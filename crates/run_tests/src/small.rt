@@ -106,9 +106,7 @@ const ROWS: [Row; 7] = [
         script: &[Part::Once(
             b"1 mktuple 0 600 1\n1 set 0 {$0,$0}\n1 send 0 1\n1 send 0 1\n1 send 0 9\n1 recv 1\n1 set 1 []\n1 send 0 1\n1 flat 0\n",
         )],
-        replies: &[Part::Once(
-            b"ok\nok\nok\nerror nospace 1213\nok\nok\nok\nok\n1205\n",
-        )],
+        replies: &[Part::Once(b"ok\nok\nok\nerror nospace 1213\nok\nok\nok\nok\n1205\n")],
         names: 0,
     },
 ];

@@ -2,7 +2,7 @@
 use Rattle.std.proofs.Common.{◌≡◌, ℕ, ◌<◌, ◌≤◌, Bool, true, false, cond, List, [], ◌∷◌, ◌++◌, length, take, Option, Some, None, refl, sym, ap, ◌∙◌, arith, append_assoc, append-nil, length-append}
 use Rattle.std.specs.Prelude.{is_some}
 use Rattle.atom_names.specs.Names.{index_of, with_name}
-use Rattle.atom_names.proofs.Places.{index_of-Some, index_of_push, index_of_append}
+use Rattle.atom_names.proofs.Places.{index_of-Some, index_of-push, index_of-append}
 use Rattle.script_grammar.specs.Names.{number_of, with_names}
 
 -- names go last
@@ -56,7 +56,7 @@ pub with-name-placed : (names : List (List ℕ)) (a : List ℕ) → IsPlaced (wi
 with-name-placed names a = at (index_of names a) names a refl
   where
     at : (o : Option ℕ) (names : List (List ℕ)) (a : List ℕ) → index_of names a ≡ o → IsPlaced (cond (is_some o) names (names ++ a ∷ [])) a
-    at None names a e = (length names, index_of_push names a (length names) refl e)
+    at None names a e = (length names, index_of-push names a (length names) refl e)
     at (Some k) names a e = (k, e)
 
 pub with-names-placed : (names atoms : List (List ℕ)) → ArePlaced (with_names names atoms) atoms
@@ -64,7 +64,7 @@ with-names-placed names [] = tt
 with-names-placed names (a ∷ atoms) =
     let m : (more : List (List ℕ)) × (with_names (with_name names a) atoms ≡ with_name names a ++ more) = with-names-more (with_name names a) atoms in
     let p : IsPlaced (with_name names a) a = with-name-placed names a in
-    ((p.0, ap (λ l. index_of l a) m.1 ∙ index_of_append (with_name names a) m.0 a p.0 p.1), with-names-placed (with_name names a) atoms)
+    ((p.0, ap (λ l. index_of l a) m.1 ∙ index_of-append (with_name names a) m.0 a p.0 p.1), with-names-placed (with_name names a) atoms)
 
 -- the number of a name that has one
 pub number-below : (names : List (List ℕ)) (a : List ℕ) → IsPlaced names a → number_of names a < length names

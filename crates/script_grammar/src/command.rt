@@ -1,3 +1,4 @@
+// Commands, and the types of their operands.
 /// A register of a process, below 16.
 #[derive(Clone, Copy)]
 pub struct Reg(pub u8);

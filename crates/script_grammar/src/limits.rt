@@ -1,3 +1,4 @@
+// The limits of what a line may say.
 /// How many registers a process has.
 pub const REGISTERS: u64 = 16;
 

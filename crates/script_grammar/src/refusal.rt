@@ -1,3 +1,4 @@
+// Why a line is refused.
 /// Why a line is refused. The state is then as it was before the line. This project's own list.
 #[derive(Clone, Copy)]
 pub enum Refusal {

@@ -1,3 +1,4 @@
+// The words of the verbs.
 /// The words of the verbs of a process, built or not. `Own` is written `self`.
 #[derive(Clone, Copy)]
 pub enum Word {

@@ -9,7 +9,7 @@ use Rattle.script_grammar.specs.Names.{parsed_of, terms_of, all_items}
 
 -- A line was read as a command: it says it, the verb and the forms are built, the command and the
 -- names are its own, the items are those of its terms, and the names are not too many.
-pub record Reads (line : List ℕ) (names : List (List ℕ)) (c : Command) (after : List (List ℕ)) (code : List Item) (w : Written) : Type 0 where
+pub record ReadsLine (line : List ℕ) (names : List (List ℕ)) (c : Command) (after : List (List ℕ)) (code : List Item) (w : Written) : Type 0 where
   pub says : Says line w
   pub built : IsBuilt w
   pub parsed : parsed_of names w ≡ record { command = c; terms = terms_of w; names = after }

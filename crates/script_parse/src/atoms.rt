@@ -1,3 +1,4 @@
+// The length of an atom at the front of a line.
 ghost use Rattle.std.specs.Prelude.{◌≡◌, ℕ, ◌≤◌, ◌<◌, List, length, take, drop, MatchOption, Some, None};
 ghost use Rattle.std.specs.List.{prefix_len};
 ghost use Rattle.atom_names.specs.declared.row.TheConstants.{LONGEST_NAME};

@@ -1,3 +1,4 @@
+// Blanks, texts and words at the front of a line.
 ghost use Rattle.std.specs.Prelude.{◌≡◌, ℕ, ◌≢◌, ◌+◌, List, [], ◌∷◌, ◌++◌, length, MatchOption, ◌≤◌, ◌<◌};
 ghost use Rattle.std.specs.List.{prefix_len};
 ghost use Rattle.script_grammar.specs.Grammar.{is_blank};

@@ -1,3 +1,4 @@
+// The items of a line's terms.
 ghost use Rattle.std.specs.Prelude.{◌≡◌, ℕ, ◌+◌, ◌<◌, ◌≤◌, List, [], ◌∷◌, ◌++◌, length, take, slice_set, IfOk};
 ghost use Rattle.script_parse.specs.declared.buffer.TheConstants.{MOST_ITEMS};
 

@@ -1,3 +1,4 @@
+// A whole line read into a command, or refused.
 ghost use Rattle.std.specs.Prelude.{
   ◌≡◌,
   ℕ,
@@ -24,7 +25,7 @@ ghost use Rattle.script_grammar.specs.Names.{IsInBounds};
 ghost use Rattle.script_grammar.specs.ReadAs.{IsOutside, BringsTooMany};
 ghost use Rattle.script_parse.specs.declared.buffer.TheConstants.{MOST_ITEMS};
 ghost use Rattle.script_parse.specs.Output.{out, given, Grows, Keeps};
-ghost use Rattle.script_parse.specs.Parses.{Reads};
+ghost use Rattle.script_parse.specs.Parses.{ReadsLine};
 ghost use Rattle.script_parse.specs.Reading.{is_silent, command_run, line_run};
 
 use crate::blanks::{after_text, skip};
@@ -96,7 +97,7 @@ fn read(line: &[u8], names: &mut AtomNames, code: &mut Code) -> Option<(Command,
 /// not built; `Atoms` where it is, and its new names are too many.
 pub fn parse(line: &[u8], names: &mut AtomNames, code: &mut Code) -> Result<Command, Refusal>
     requires { length line.now ≤ MOST_ITEMS }
-    ensures said { IfOk result (λ c. (w : Written) × Reads line.now names.old c names.new code.new w) }
+    ensures said { IfOk result (λ c. (w : Written) × ReadsLine line.now names.old c names.new code.new w) }
     ensures built { IfOk result IsBuiltCommand }
     ensures bounds { IfOk result IsInBounds }
     ensures kept { IfErr result (λ e. (names.new ≡ names.old) × ((e ≡ Refusal.Syntax) ⊎ (e ≡ Refusal.Atoms))) }

@@ -1,3 +1,4 @@
+// Numbers at the front of a line.
 ghost use Rattle.std.specs.Prelude.{◌≡◌, ℕ, ◌+◌, ◌≤◌, ◌<◌, ◌^◌, pos, List, length, MatchOption};
 ghost use Rattle.script_grammar.specs.Grammar.{is_digit};
 ghost use Rattle.script_parse.specs.declared.numbers.TheConstants.{GREATEST, WIDEST};

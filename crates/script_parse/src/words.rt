@@ -1,3 +1,4 @@
+// The texts of the words, and the word of a text.
 ghost use Rattle.std.specs.Prelude.{◌≡◌};
 ghost use Rattle.script_parse.specs.Reading.{word_named, sys_word_named, named_in};
 

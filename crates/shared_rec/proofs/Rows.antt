@@ -12,19 +12,19 @@ use Rattle.term_tags.specs.declared.records.TheConstants.{BIN_RECORD, FUN_RECORD
 use Rattle.term_words.specs.Role.{RECORD}
 use Rattle.term_words.specs.Object.{byte_of, BytesLie, IsBinRecord, IsFunRecord}
 use Rattle.term_words.specs.Kept.{Kept, Keeps}
-use Rattle.term_words.proofs.Frames.{frame}
+use Rattle.term_words.proofs.Framing.Frames.{frame}
 use Rattle.term_build.specs.Taken.{Taken, IsFree, Lie}
-use Rattle.shared_rec.specs.Record.{Writes, record_roles}
+use Rattle.shared_rec.specs.Record.{WritesRecord, record_roles}
 use Rattle.shared_rec.specs.Bytes.{with_byte, equal_bytes}
 use Rattle.shared_rec.proofs.InWord.{put-there, put-elsewhere, equal-byte, rest-byte, rest-past}
 
 -- Words written at places that had no role keep every tree.
-pub writes-keep : (roles : ℕ → ℕ) (c d : ℕ → ℕ → Bool) (top n : ℕ) (old new : List ℕ) → Writes top (top + n) old new → Taken roles c d top n → Keeps c d old new
+pub writes-keep : (roles : ℕ → ℕ) (c d : ℕ → ℕ → Bool) (top n : ℕ) (old new : List ℕ) → WritesRecord top (top + n) old new → Taken roles c d top n → Keeps c d old new
 writes-keep roles c d top n old new u t =
     let kept : Kept c d old new = record { longer = omega (arith, u.same_len); weaker = t.more; same = λ a k content h. u.others a (t.free a k h) } in
     frame c d old new kept
 
-pub free-keep : (c : ℕ → ℕ → Bool) (from to : ℕ) (old new : List ℕ) → Writes from to old new → IsFree c from to → Keeps c c old new
+pub free-keep : (c : ℕ → ℕ → Bool) (from to : ℕ) (old new : List ℕ) → WritesRecord from to old new → IsFree c from to → Keeps c c old new
 free-keep c from to old new u free =
     let kept : Kept c c old new = record { longer = omega (arith, u.same_len); weaker = λ a k h. h; same = λ a k content h. u.others a (free a k h) } in
     frame c c old new kept
@@ -52,7 +52,7 @@ zeros (suc n) zero = refl
 zeros (suc n) (suc i) = zeros n i
 
 -- Zeros behind the first four words.
-pub words-behind : (mid new : List ℕ) (v a s n m : ℕ) → Lie mid v (a ∷ s ∷ 0 ∷ n ∷ []) → Writes (v + 4) (v + (4 + m)) mid new → ((q : ℕ) → v + 4 ≤ q → q < v + (4 + m) → get_or new q 0 ≡ 0)
+pub words-behind : (mid new : List ℕ) (v a s n m : ℕ) → Lie mid v (a ∷ s ∷ 0 ∷ n ∷ []) → WritesRecord (v + 4) (v + (4 + m)) mid new → ((q : ℕ) → v + 4 ≤ q → q < v + (4 + m) → get_or new q 0 ≡ 0)
     → Lie new v (a ∷ s ∷ 0 ∷ n ∷ replicate m 0)
 words-behind mid new v a s n m lie u zero-there = record { each = at }
   where
@@ -65,7 +65,7 @@ words-behind mid new v a s n m lie u zero-there = record { each = at }
         zero-there q (omega (arith, e)) (omega (arith, e, below, length-replicate {A = ℕ} m 0)) ∙ sym (zeros m j)
 
 -- Words that are written one after the other.
-pub writes-then : (a b e : ℕ) (old mid new : List ℕ) → a ≤ b → b ≤ e → Writes a b old mid → Writes b e mid new → Writes a e old new
+pub writes-then : (a b e : ℕ) (old mid new : List ℕ) → a ≤ b → b ≤ e → WritesRecord a b old mid → WritesRecord b e mid new → WritesRecord a e old new
 writes-then a b e old mid new first last u w = record {
   same_len = w.same_len ∙ u.same_len;
   others = λ q apart. elim apart [
@@ -174,7 +174,7 @@ replicate-past (suc n) (suc i) b past = replicate-past n i b (omega (arith, past
 
 -- All bytes are written.
 pub bytes-filled : (c : ℕ → ℕ → Bool) (old new : List ℕ) (v serial b m : ℕ) (bytes : List ℕ) → b < 256 → m ≡ length bytes
-    → IsBinRecord c old v serial bytes → Writes (v + 4) (v + 4 + bin_words m) old new
+    → IsBinRecord c old v serial bytes → WritesRecord (v + 4) (v + 4 + bin_words m) old new
     → ((q : ℕ) → v + 4 ≤ q → q < v + 4 + m / 8 → get_or new q 0 ≡ equal_bytes b)
     → (0 < m % 8 → get_or new (v + 4 + m / 8) 0 ≡ equal_bytes b / 2 ^ (64 - m % 8 * 8))
     → IsBinRecord c new v serial (replicate (length bytes) b)

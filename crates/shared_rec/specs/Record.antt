@@ -21,7 +21,7 @@ abbrev pub record_roles : ℕ → ℕ
 record_roles j = if j == 0 then RECORD_FIRST else if j == 2 then COUNT else RECORD
 
 -- No words but those from one place up to another were written.
-pub record Writes (from to : ℕ) (old new : List ℕ) : Type 0 where
+pub record WritesRecord (from to : ℕ) (old new : List ℕ) : Type 0 where
   pub same_len : length new ≡ length old
   pub others : (q : ℕ) → (q < from) ⊎ (to ≤ q) → slice_index new q ≡ slice_index old q
 

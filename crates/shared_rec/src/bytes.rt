@@ -5,7 +5,7 @@ ghost use Rattle.term_words.specs.Object.{IsBinRecord};
 ghost use Rattle.term_words.specs.Role.{Idle};
 ghost use Rattle.term_words.specs.Kept.{Keeps};
 ghost use Rattle.term_build.specs.Taken.{IsFree};
-ghost use Rattle.shared_rec.specs.Record.{length_in, Writes};
+ghost use Rattle.shared_rec.specs.Record.{length_in, WritesRecord};
 ghost use Rattle.shared_rec.specs.Bytes.{with_byte, equal_bytes};
 
 use crate::heads::{HEAD_WORDS, put_same};
@@ -43,7 +43,7 @@ fn put_in_word(word: u64, k: u64, b: u8) -> u64
 pub fn fill(mem: &mut WordMem, at: u64, b: u8)
     requires head { at + 4 ≤ length mem.old }
     requires bytes { at + 4 + bin_words (length_in mem.old at) ≤ length mem.old }
-    ensures writes { Writes (at + 4) (at + 4 + bin_words (length_in mem.old at)) mem.old mem.new }
+    ensures writes { WritesRecord (at + 4) (at + 4 + bin_words (length_in mem.old at)) mem.old mem.new }
     ensures whole { (q : ℕ) → at + 4 ≤ q → q < at + 4 + length_in mem.old at / 8 → slice_index mem.new q ≡ equal_bytes b }
     ensures rest { 0 < length_in mem.old at % 8
         → slice_index mem.new (at + 4 + length_in mem.old at / 8) ≡ equal_bytes b / 2 ^ (64 - length_in mem.old at % 8 * 8) }
@@ -59,7 +59,7 @@ pub fn fill(mem: &mut WordMem, at: u64, b: u8)
 // Writes the words of `len` equal bytes from a place on; the bytes of the last word behind them are 0.
 fn put_equal(mem: &mut WordMem, from: u64, len: u64, b: u8)
     requires { from + bin_words len ≤ length mem.old }
-    ensures writes { Writes from (from + bin_words len) mem.old mem.new }
+    ensures writes { WritesRecord from (from + bin_words len) mem.old mem.new }
     ensures whole { (q : ℕ) → from ≤ q → q < from + len / 8 → slice_index mem.new q ≡ equal_bytes b }
     ensures rest { 0 < len % 8 → slice_index mem.new (from + len / 8) ≡ equal_bytes b / 2 ^ (64 - len % 8 * 8) }
 {

@@ -8,8 +8,8 @@ use Rattle.script_grammar.specs.Written.Term.{Int, Atom, Pid, Held, Listed, Barr
 use Rattle.script_grammar.specs.Written.Terms.{end, ◌▹◌}
 use Rattle.script_grammar.specs.Written.TermPairs.{stop, pair}
 use Rattle.script_grammar.specs.Names.{atoms_of, atoms_of_all, atoms_of_pairs, items_of, listed_items, all_items, pairs_items}
-use Rattle.plain_machine.proofs.Making.{HaveNumbers}
-use Rattle.plain_machine.proofs.Holding.{Builds, Environs}
+use Rattle.plain_machine.proofs.Properly.Making.{HaveNumbers}
+use Rattle.plain_machine.proofs.Properly.Holding.{Builds, Environs}
 use Rattle.space_api.specs.Calls.{HasEnv, IsNamedBelow, IsTerm, one_term}
 
 -- items whose atoms have numbers below a count

@@ -8,7 +8,7 @@ use Rattle.plain_machine.specs.State.{State, HasNames}
 use Rattle.plain_machine.specs.Step.{Outcome, step}
 use Rattle.plain_machine.specs.Step.Outcome.{Accepted, Refused, Mapped}
 use Rattle.plain_machine.specs.Laws.{HoldsProper}
-use Rattle.plain_machine.proofs.Commands.{LeavesProper, TermsOf, command-does}
+use Rattle.plain_machine.proofs.ByLine.Commands.{LeavesProper, TermsOf, command-does}
 use Rattle.space_api.specs.Calls.{said, Becomes, Follows, Passes, Properly}
 
 follows : {A : Type 0} (o : Outcome) (s : State) (r : Result A Refusal) (Stands : State → Type 0) → HoldsProper s → LeavesProper o → Follows o s r Stands → Follows o s r (Properly Stands)

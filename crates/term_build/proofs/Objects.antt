@@ -2,7 +2,7 @@
 use Rattle.std.proofs.Common.{◌≡◌, ℕ, zero, suc, ◌+◌, ◌-◌, ◌*◌, ◌/◌, ◌%◌, ◌^◌, ◌<◌, ◌≤◌, ◌⊎◌, Bool, true, false, List, [], ◌∷◌, ◌++◌, length, replicate, get_or, ℤ}
 use Rattle.std.proofs.Common.{refl, sym, ◌∙◌, subst, arith, inl, inr, nat_lt}
 use Rattle.std.proofs.lemmas.Bool.Decides.{nat_tests}
-use Rattle.plain_term.specs.Tree.{Tree, Trees, Pairs, trees_len, pairs_len, keys_of, values_of}
+use Rattle.plain_term.specs.Tree.{Tree, Trees, Pairs, trees_len, pairs_len, keys_of, values_of, same_trees}
 use Rattle.plain_term.specs.Tree.Tree.{Int, Ref, Map, Bin, Shared, Part, Fun}
 use Rattle.plain_term.specs.Tree.Pairs.{stop, pair}
 use Rattle.plain_term.specs.Bytes.{bytes_of, shared_bytes}
@@ -14,11 +14,11 @@ use Rattle.term_words.specs.Role.{FURTHER}
 use Rattle.term_words.specs.Object.{IsObject, IsBoxed, IsTuple, IsMap, IsFunRecord, IsBinRecord, BytesLie, sign_tag}
 use Rattle.term_words.specs.Stands.{Stands, RowStands, KeysStand, ValuesStand, AllStand, IsBase}
 use Rattle.term_words.specs.Kept.{Kept, Keeps}
-use Rattle.term_words.proofs.Makes.{stands-small, boxed-at, row-of-all, all-length}
-use Rattle.term_words.proofs.Frames.{keep-all}
-use Rattle.term_words.proofs.Pairs.{keys-len}
+use Rattle.term_words.proofs.ByKind.Makes.{stands-small, boxed-at, row-of-all, all-length}
+use Rattle.term_words.proofs.Framing.Frames.{keep-all}
+use Rattle.term_words.proofs.ByKind.Pairs.{keys-len}
 use Rattle.term_build.specs.Taken.{Taken, Lie, plain, of_holder, of_fun, of_map}
-use Rattle.term_build.specs.Parts.{IsNamed, integer_words, same_trees}
+use Rattle.term_build.specs.Parts.{IsRecordOf, integer_words}
 use Rattle.term_build.proofs.Taking.{taken-first, taken-other, taken-keys, taken-map, fun-after}
 use Rattle.term_build.proofs.Putting.{lie-front, lie-back}
 use Rattle.term_build.proofs.Records.{bin-record-kept, fun-record-kept}
@@ -77,7 +77,7 @@ role-at roles c d top n j k q taken below e is = let P : ℕ → Type 0 = λ x. 
 
 pub shared-made : (c d : ℕ → ℕ → Bool) (top : ℕ) (old new : List ℕ) (r rec len next : ℕ) → r ≡ boxed_word top → top + 6 ≤ length new
     → Lie new top (head_word HOLDER 5 ∷ len ∷ next ∷ rec ∷ 0 ∷ 0 ∷ []) → Taken of_holder c d top 6 → Kept c d old new
-    → (shared : List (List ℕ)) (id : ℕ) → IsNamed c shared old rec len id → Stands d shared new r (Shared id)
+    → (shared : List (List ℕ)) (id : ℕ) → IsRecordOf c shared old rec len id → Stands d shared new r (Shared id)
 unfolding Stands
 shared-made c d top old new r rec len next is inside lie taken k shared id named =
     let P : ℕ → Type 0 = λ v. IsBinRecord d new v id (shared_bytes shared id) in record {

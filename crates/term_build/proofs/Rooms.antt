@@ -3,7 +3,7 @@ use Rattle.std.proofs.Common.{ℕ, ◌+◌, ◌≤◌, Bool, List, refl, sym, �
 use Rattle.word_mem.specs.declared.ranges.Room.{Room}
 use Rattle.term_words.specs.Role.{outside}
 use Rattle.term_words.specs.Kept.{Keeps}
-use Rattle.term_words.proofs.Rooms.{outside-low, outside-tells, outside-more}
+use Rattle.term_words.proofs.Framing.Rooms.{outside-low, outside-tells, outside-more}
 use Rattle.term_build.specs.Taken.{Taken, plain}
 use Rattle.term_build.specs.Clear.{IsRoom, KeepsClear, Uses}
 use Rattle.term_build.proofs.Taking.{taken-kept}

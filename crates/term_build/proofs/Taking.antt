@@ -9,8 +9,8 @@ use Rattle.term_tags.specs.declared.layouts.TheConstants.{TUPLE, MOST_PARTS}
 use Rattle.term_words.specs.Role.{NEXT, FIRST, FURTHER, IsSingle, OfObject}
 use Rattle.term_words.specs.Stands.{Stands, AllStand}
 use Rattle.term_words.specs.Kept.{Kept, Keeps}
-use Rattle.term_words.proofs.Makes.{stands-cons, stands-tuple, row-of-all, all-length}
-use Rattle.term_words.proofs.Frames.{frame, keep-all}
+use Rattle.term_words.proofs.ByKind.Makes.{stands-cons, stands-tuple, row-of-all, all-length}
+use Rattle.term_words.proofs.Framing.Frames.{frame, keep-all}
 use Rattle.term_build.specs.Grows.{IsPlain}
 use Rattle.term_build.specs.Taken.{Taken, Lie, plain, of_holder, of_fun, of_map, with_object}
 use Rattle.term_build.specs.Clear.{Uses}
@@ -180,10 +180,10 @@ map-high n j =
     rw (past, back) refl
 
 pub map-object : (n j : ℕ) → IsPlain (of_map n j)
-map-object n j = elim (le_or n j) [ inl low ↦ subst IsPlain (sym (map-low n j low)) (plain-object j) | inr high ↦ subst IsPlain (high-role high) (plain-object (j - (1 + n))) ]
+map-object n j = elim (le-or n j) [ inl low ↦ subst IsPlain (sym (map-low n j low)) (plain-object j) | inr high ↦ subst IsPlain (high-role high) (plain-object (j - (1 + n))) ]
   where
-    le_or : (n j : ℕ) → (j ≤ n) ⊎ (n < j)
-    le_or n j = grind arith
+    le-or : (n j : ℕ) → (j ≤ n) ⊎ (n < j)
+    le-or n j = grind arith
 
     high-role : n < j → plain (j - (1 + n)) ≡ of_map n j
     high-role high =

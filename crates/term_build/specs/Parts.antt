@@ -1,7 +1,5 @@
 -- What is put into an object: the words and trees that its builder finds, and the record that it names.
-use Rattle.std.specs.Prelude.{◌≡◌, ℕ, zero, suc, ◌/◌, ◌%◌, ◌^◌, ◌<◌, ◌≤◌, nat_lt, if◌then◌else◌, ℤ, Bool, List, [], ◌∷◌, length}
-use Rattle.plain_term.specs.Tree.{Tree, Trees}
-use Rattle.plain_term.specs.Tree.Trees.{end, ◌▹◌}
+use Rattle.std.specs.Prelude.{◌≡◌, ℕ, ◌/◌, ◌%◌, ◌^◌, ◌<◌, ◌≤◌, nat_lt, if◌then◌else◌, ℤ, Bool, List, [], ◌∷◌, length}
 use Rattle.plain_term.specs.Bytes.{shared_bytes}
 use Rattle.plain_term.specs.Measures.{is_small, magnitude}
 use Rattle.term_tags.specs.Words.{head_word}
@@ -15,13 +13,8 @@ digits_of m = if nat_lt m (2 ^ 64) then m ∷ [] else m % 2 ^ 64 ∷ m / 2 ^ 64 
 abbrev pub integer_words : ℤ → List ℕ
 integer_words i = if is_small i then [] else head_word (sign_tag i) (length (digits_of (magnitude i))) ∷ digits_of (magnitude i)
 
--- The same tree n times.
-abbrev pub same_trees : ℕ → Tree → Trees
-same_trees zero t = end
-same_trees (suc n) t = t ▹ same_trees n t
-
 -- The record at place v is that of shared binary id, which has len bytes.
-pub record IsNamed (c : ℕ → ℕ → Bool) (shared : List (List ℕ)) (mem : List ℕ) (v len id : ℕ) : Type 0 where
+pub record IsRecordOf (c : ℕ → ℕ → Bool) (shared : List (List ℕ)) (mem : List ℕ) (v len id : ℕ) : Type 0 where
   pub from_one : 0 < id
   pub known : id ≤ length shared
   pub size : length (shared_bytes shared id) ≡ len

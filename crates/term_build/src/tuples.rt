@@ -2,13 +2,12 @@
 ghost use Rattle.std.specs.Prelude.{◌≡◌, ℕ, ◌+◌, ◌≤◌, Bool, List, ◌∷◌, length, replicate};
 ghost use Rattle.term_tags.specs.Words.{boxed_word, head_word};
 ghost use Rattle.term_tags.specs.declared.layouts.TheConstants.{MOST_PARTS};
-ghost use Rattle.plain_term.specs.Tree.{Tree, Trees};
+ghost use Rattle.plain_term.specs.Tree.{Tree, Trees, same_trees};
 ghost use Rattle.plain_term.specs.Tree.Tree.{Tuple};
 ghost use Rattle.term_words.specs.Stands.{Stands, AllStand};
 ghost use Rattle.term_words.specs.Kept.{Keeps};
 ghost use Rattle.term_build.specs.Taken.{Taken, IsFree, Lie, plain};
 ghost use Rattle.term_build.specs.Grows.{Built};
-ghost use Rattle.term_build.specs.Parts.{same_trees};
 ghost use Rattle.term_build.specs.Clear.{IsRoom, Clear, AllClear, KeepsClear, Uses};
 
 use crate::rows::{put, put_row};

@@ -11,9 +11,9 @@ use Rattle.term_words.specs.Role.{NEXT, FIRST, FURTHER, NAMES, OfObject}
 use Rattle.term_words.specs.Object.{byte_of, IsObject, IsBoxed, IsInt, IsTuple, IsBinRecord, IsFunRecord, IsPointer, object_words, sign_tag}
 use Rattle.term_words.specs.Reach.{first_traced, parts_of}
 use Rattle.term_words.specs.Stands.{Stands, RowStands, KeysStand, ValuesStand}
-use Rattle.term_words.proofs.Apart.{words-cons, words-boxed}
-use Rattle.term_words.proofs.Pairs.{values-len, keys-len}
-use Rattle.term_words.proofs.Reached.{scanned, cons-traced}
+use Rattle.term_words.proofs.Placing.Apart.{words-cons, words-boxed}
+use Rattle.term_words.proofs.ByKind.Pairs.{values-len, keys-len}
+use Rattle.term_words.proofs.Reaching.Reached.{scanned, cons-traced}
 
 -- The words of the object that x leads to are those of the object that w led to, but for its traced words and `next`; and
 -- records stay.

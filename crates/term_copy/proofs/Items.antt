@@ -4,8 +4,8 @@ use Rattle.std.proofs.lemmas.Bool.Decides.{nat_tests}
 use Rattle.plain_term.specs.Measures.{flat_of_all}
 use Rattle.term_words.specs.Object.{object_words}
 use Rattle.term_words.specs.Reach.{parts_of}
-use Rattle.term_words.proofs.Roles.{object-some}
-use Rattle.term_words.proofs.Members.{true-or-false}
+use Rattle.term_words.proofs.Placing.Roles.{object-some}
+use Rattle.term_words.proofs.Totals.Members.{true-or-false}
 use Rattle.off_heap_list.specs.Links.{names_it, named}
 use Rattle.term_copy.specs.Row.{is_link}
 use Rattle.term_copy.specs.Going.{Item, Among, Spread, left_of, tally}

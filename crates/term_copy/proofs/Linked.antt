@@ -11,10 +11,10 @@ use Rattle.term_words.specs.Role.{NEXT, FIRST, FURTHER, NAMES, IsSingle}
 use Rattle.term_words.specs.Object.{IsBoxed, IsInt, IsObject, IsPointer, IsRecord, object_words}
 use Rattle.term_words.specs.Reach.{first_traced}
 use Rattle.term_words.specs.Stands.{Stands}
-use Rattle.term_words.proofs.Apart.{words-cons, words-boxed}
-use Rattle.term_words.proofs.Reached.{scanned}
-use Rattle.term_words.proofs.Carrying.{in-object}
-use Rattle.term_words.proofs.Shapes.{told}
+use Rattle.term_words.proofs.Placing.Apart.{words-cons, words-boxed}
+use Rattle.term_words.proofs.Reaching.Reached.{scanned}
+use Rattle.term_words.proofs.Reaching.Carrying.{in-object}
+use Rattle.term_words.proofs.ByKind.Shapes.{told}
 use Rattle.shared_rec.specs.Record.{length_in}
 use Rattle.off_heap_list.specs.Links.{name_place, named, IsLinkHeader}
 use Rattle.term_copy.specs.Row.{is_link}

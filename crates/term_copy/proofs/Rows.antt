@@ -9,14 +9,14 @@ use Rattle.term_words.specs.Object.{IsPointer, object_words}
 use Rattle.term_words.specs.Kept.{Kept}
 use Rattle.term_words.specs.Counted.{In, Distinct}
 use Rattle.term_words.specs.Tiled.{IsTile, Tiled, tile_words}
-use Rattle.term_words.proofs.Apart.{words-cons, words-header}
-use Rattle.term_words.proofs.Members.{true-or-false}
-use Rattle.term_words.proofs.Roles.{object-some}
-use Rattle.term_words.proofs.Tiles.{tiled-order}
+use Rattle.term_words.proofs.Placing.Apart.{words-cons, words-header}
+use Rattle.term_words.proofs.Totals.Members.{true-or-false}
+use Rattle.term_words.proofs.Placing.Roles.{object-some}
+use Rattle.term_words.proofs.Placing.Tiles.{tiled-order}
 use Rattle.shared_rec.proofs.Records.{record-counted, record-stays, role-idle}
 use Rattle.off_heap_list.specs.Links.{names_it, named, naming, Leads, IsLink, Links}
 use Rattle.off_heap_list.specs.Whole.{turned}
-use Rattle.off_heap_list.proofs.Chained.{idle-kept, idle-kept-back, leads-stays, link-named, link-stays, naming-stays, roles-apart}
+use Rattle.off_heap_list.proofs.Chaining.Chained.{idle-kept, idle-kept-back, leads-stays, link-named, link-stays, naming-stays, roles-apart}
 use Rattle.term_copy.specs.declared.chaining.Chained.{Chained}
 use Rattle.term_copy.specs.Row.{AreObjects, ChainsRow, is_link, is_link_header, links_in}
 

@@ -12,11 +12,11 @@ use Rattle.term_words.specs.Role.{COUNT}
 use Rattle.term_words.specs.Object.{IsInt, IsPointer, object_words}
 use Rattle.term_words.specs.Reach.{root, part, first_traced, parts_of}
 use Rattle.term_words.specs.Stands.{Stands, RowStands, AllStand}
-use Rattle.term_words.proofs.Apart.{head-no-header, header-there, no-header, words-cons, words-header}
-use Rattle.term_words.proofs.Reached.{cons-traced, reached, scanned}
-use Rattle.term_words.proofs.Roles.{object-some}
-use Rattle.term_words.proofs.Shapes.{told}
-use Rattle.term_words.proofs.Tiles.{has-layout}
+use Rattle.term_words.proofs.Placing.Apart.{head-no-header, header-there, no-header, words-cons, words-header}
+use Rattle.term_words.proofs.Reaching.Reached.{cons-traced, reached, scanned}
+use Rattle.term_words.proofs.Placing.Roles.{object-some}
+use Rattle.term_words.proofs.ByKind.Shapes.{told}
+use Rattle.term_words.proofs.Placing.Tiles.{has-layout}
 use Rattle.shared_rec.proofs.Records.{record-counted}
 use Rattle.term_copy.specs.Copied.{CanCopy, Task}
 use Rattle.word_mem.specs.declared.ranges.Room.{Room}

@@ -8,17 +8,17 @@ use Rattle.term_words.specs.Object.{IsPointer, IsRecord, object_words}
 use Rattle.term_words.specs.Reach.{parts_of}
 use Rattle.term_words.specs.Stands.{Stands}
 use Rattle.term_words.specs.Kept.{Kept}
-use Rattle.term_words.proofs.Apart.{words-cons, words-header}
-use Rattle.term_words.proofs.Carrying.{words-same}
-use Rattle.term_words.proofs.Frames.{frame, kept-carried}
-use Rattle.term_words.proofs.Inside.{cons-inside, boxed-inside}
-use Rattle.term_words.proofs.Members.{true-or-false}
-use Rattle.term_words.proofs.Reached.{scanned}
-use Rattle.term_words.proofs.Roles.{first-role, object-role, object-record-apart, object-some}
+use Rattle.term_words.proofs.Placing.Apart.{words-cons, words-header}
+use Rattle.term_words.proofs.Reaching.Carrying.{words-same}
+use Rattle.term_words.proofs.Framing.Frames.{frame, kept-carried}
+use Rattle.term_words.proofs.ByKind.Inside.{cons-inside, boxed-inside}
+use Rattle.term_words.proofs.Totals.Members.{true-or-false}
+use Rattle.term_words.proofs.Reaching.Reached.{scanned}
+use Rattle.term_words.proofs.Placing.Roles.{first-role, object-role, object-record-apart, object-some}
 use Rattle.shared_rec.specs.Record.{count_in}
 use Rattle.shared_rec.proofs.Records.{record-counted, record-within}
 use Rattle.off_heap_list.specs.Links.{name_place, named, names_it}
-use Rattle.off_heap_list.proofs.Chained.{place-same, one-naming, no-naming}
+use Rattle.off_heap_list.proofs.Chaining.Chained.{place-same, one-naming, no-naming}
 use Rattle.term_copy.specs.Row.{is_link, is_link_header}
 use Rattle.term_copy.specs.Copied.{Task}
 use Rattle.term_copy.specs.Going.{Advances, Among, CanTake, Copying, Goes, HasImage, HasRoom, IsBeside, IsCopy, IsImage, IsLed, IsOf, Item, Took}

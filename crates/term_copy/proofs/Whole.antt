@@ -14,19 +14,19 @@ use Rattle.term_words.specs.Stands.{Stands, RowStands, tree_at}
 use Rattle.term_words.specs.Kept.{Kept}
 use Rattle.term_words.specs.Counted.{In, Distinct}
 use Rattle.term_words.specs.Tiled.{Tiled, tile_words}
-use Rattle.term_words.proofs.Apart.{words-cons, words-header}
-use Rattle.term_words.proofs.Carrying.{words-same, first-same, traced-same}
-use Rattle.term_words.proofs.Frames.{frame, kept-carried}
-use Rattle.term_words.proofs.Members.{true-or-false}
-use Rattle.term_words.proofs.Reached.{cons-traced, scanned}
-use Rattle.term_words.proofs.Roles.{first-role, object-some}
-use Rattle.term_words.proofs.Shapes.{row-at}
-use Rattle.term_words.proofs.Single.{single}
-use Rattle.term_words.proofs.Tiles.{tiled-object}
+use Rattle.term_words.proofs.Placing.Apart.{words-cons, words-header}
+use Rattle.term_words.proofs.Reaching.Carrying.{words-same, first-same, traced-same}
+use Rattle.term_words.proofs.Framing.Frames.{frame, kept-carried}
+use Rattle.term_words.proofs.Totals.Members.{true-or-false}
+use Rattle.term_words.proofs.Reaching.Reached.{cons-traced, scanned}
+use Rattle.term_words.proofs.Placing.Roles.{first-role, object-some}
+use Rattle.term_words.proofs.ByKind.Shapes.{row-at}
+use Rattle.term_words.proofs.Placing.Single.{single}
+use Rattle.term_words.proofs.Placing.Tiles.{tiled-object}
 use Rattle.shared_rec.specs.Record.{count_in}
 use Rattle.shared_rec.proofs.Records.{bin-stays, fun-stays, record-same}
 use Rattle.off_heap_list.specs.Links.{named, names_it, naming, next_in, IsLink, Links}
-use Rattle.off_heap_list.proofs.Chained.{leads-stays, link-stays, naming-stays}
+use Rattle.off_heap_list.proofs.Chaining.Chained.{leads-stays, link-stays, naming-stays}
 use Rattle.term_copy.specs.Row.{is_link, is_link_header, links_in}
 use Rattle.term_copy.specs.Copied.{CopiesTree, IsClosed, PointsInto, Task}
 use Rattle.term_copy.specs.Going.{Among, Begun, Copying, Goes, IsCopy, IsImage, IsLed, IsOf, Item, Spread, left_of, tally}

@@ -6,9 +6,9 @@ use Rattle.plain_term.specs.Tree.{Tree, Trees, Pairs, pairs_len, keys_of, values
 use Rattle.plain_term.specs.Beyond.{is_beyond}
 use Rattle.plain_term.specs.Order.{order}
 use Rattle.term_words.specs.Stands.{Stands, AllStand, tree_at}
-use Rattle.term_words.proofs.Shapes.{all-at}
-use Rattle.term_words.proofs.Makes.{all-length}
-use Rattle.term_words.proofs.Pairs.{keys-len, values-len}
+use Rattle.term_words.proofs.ByKind.Shapes.{all-at}
+use Rattle.term_words.proofs.ByKind.Makes.{all-length}
+use Rattle.term_words.proofs.ByKind.Pairs.{keys-len, values-len}
 use Rattle.term_order.specs.Compared.{answer_of, compared, Compares}
 use Rattle.term_maps.specs.InOrder.{has_beyond}
 use Rattle.term_maps.specs.Spots.{IsAbove}

@@ -8,7 +8,7 @@ use Rattle.plain_term.specs.Tree.Pairs.{stop, pair}
 use Rattle.plain_term.specs.Beyond.{is_beyond}
 use Rattle.plain_term.specs.Order.{order}
 use Rattle.plain_term.specs.Proper.{keys_rise}
-use Rattle.plain_term.proofs.TokenLemmas.{order_total}
+use Rattle.plain_term.proofs.TokenLemmas.{order-total}
 use Rattle.plain_term.proofs.Rising.{Below, rise-parts, rise-join, below-alike}
 use Rattle.term_maps.specs.InOrder.{by_order, put_pair, put_all, has_beyond}
 use Rattle.term_maps.proofs.Putting.{or-first, or-second, put-within}
@@ -32,7 +32,7 @@ module _ (names shared : List (List ℕ)) where
       by parts rest Less e = rise-join names shared k v (pair j w ps) e h
       by parts rest Equal e = rise-join names shared k v ps (below-alike names shared k j ps e parts.0) parts.1
       by parts rest Greater e =
-          rise-join names shared j w (put_pair names shared k v ps) (put-below j k v ps parts.0 ((order_total names shared).antisymm j k ∙ ap ordering_reverse e)) rest
+          rise-join names shared j w (put_pair names shared k v ps) (put-below j k v ps parts.0 ((order-total names shared).antisymm j k ∙ ap ordering_reverse e)) rest
 
   pub all-rise : (ps given : Pairs) → keys_rise names shared ps ≡ true → keys_rise names shared (put_all names shared ps given) ≡ true
   all-rise ps stop h = h

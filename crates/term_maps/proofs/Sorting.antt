@@ -16,7 +16,7 @@ use Rattle.term_build.specs.Clear.{Uses}
 use Rattle.term_build.specs.Grows.{Built}
 use Rattle.term_maps.specs.InOrder.{put_pair, put_all, in_order, has_beyond, why_not}
 use Rattle.term_maps.specs.Spots.{SortedStand}
-use Rattle.term_maps.specs.Given.{IsSorted, IsMade}
+use Rattle.term_maps.specs.Given.{IsSorted, MapIsMade}
 use Rattle.term_maps.specs.declared.sorted.Sorted.{Sorted}
 use Rattle.term_maps.specs.declared.maps.MapStop.TheVariants as why
 use Rattle.term_maps.proofs.Left.{pairs_drop, Next}
@@ -103,7 +103,7 @@ pub is-made : (c : ℕ → ℕ → Bool) (names shared : List (List ℕ)) (given
     → Uses (4 + 2 * n) old new mem mem2 → w ≡ boxed_word (old.top + (1 + n))
     → ((d : ℕ → ℕ → Bool) → Taken (of_map n) c d old.top (4 + 2 * n) → Stands d shared mem2 w (Map (in_order names shared given)))
     → ((roles : ℕ → ℕ) (d : ℕ → ℕ → Bool) → Taken roles c d old.top (4 + 2 * n) → Keeps c d mem mem2)
-    → (IsFree c old.top (old.top + (4 + 2 * n)) → Built c old.top (4 + 2 * n) mem mem2 shared w (Map (in_order names shared given))) → IsMade c names shared given old new mem mem2 w
+    → (IsFree c old.top (old.top + (4 + 2 * n)) → Built c old.top (4 + 2 * n) mem mem2 shared w (Map (in_order names shared given))) → MapIsMade c names shared given old new mem mem2 w
 is-made c names shared given old new mem mem2 w n many none uses place made kept built =
     let P : ℕ → Type 0 = λ x. Uses (4 + 2 * x) old new mem mem2 in
     let Q : ℕ → Type 0 = λ x. w ≡ boxed_word (old.top + (1 + x)) in

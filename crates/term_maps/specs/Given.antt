@@ -41,7 +41,7 @@ pub record KeysNamed (mem : List ℕ) (names : List (List ℕ)) (keys : List ℕ
   pub each : (a b : ℕ) → In a keys → In b keys → AreNamed mem names a b
 
 -- Each of the keys stands for a tree.
-pub record KeysStand (mem : List ℕ) (keys : List ℕ) : Type 0 where
+pub record KeysAreTerms (mem : List ℕ) (keys : List ℕ) : Type 0 where
   pub each : (w : ℕ) → In w keys → IsTerm mem w
 
 -- No key of the pairs is beyond the walk limit.
@@ -62,7 +62,7 @@ pub record IsSorted (c : ℕ → ℕ → Bool) (names shared : List (List ℕ)) 
   pub none : why_not names shared given ≡ None
 
 -- The map of the pairs is made: its word and its words, and that it stands where they are taken, and keeps what stood.
-pub record IsMade (c : ℕ → ℕ → Bool) (names shared : List (List ℕ)) (given : Pairs) (old new : Room) (mem mem' : List ℕ) (w : ℕ) : Type 0 where
+pub record MapIsMade (c : ℕ → ℕ → Bool) (names shared : List (List ℕ)) (given : Pairs) (old new : Room) (mem mem' : List ℕ) (w : ℕ) : Type 0 where
   pub none : why_not names shared given ≡ None
   pub uses : Uses (4 + 2 * pairs_len (in_order names shared given)) old new mem mem'
   pub place : w ≡ boxed_word (old.top + (1 + pairs_len (in_order names shared given)))

@@ -30,6 +30,6 @@ pub record SortedStand (c : ℕ → ℕ → Bool) (shared : List (List ℕ)) (me
   pub values : AllStand c shared mem s.values.items (values_of ps)
 
 -- The pair is put among the others, or false where there are too many.
-abbrev pub Puts : (ℕ → ℕ → Bool) → (names shared : List (List ℕ)) → List ℕ → Sorted → Pairs → Tree → Tree → Bool → Type 0
-Puts c names shared mem s ps k v true = SortedStand c shared mem s (put_pair names shared k v ps)
-Puts c names shared mem s ps k v false = MOST_KEYS < pairs_len (put_pair names shared k v ps)
+abbrev pub PutsSpot : (ℕ → ℕ → Bool) → (names shared : List (List ℕ)) → List ℕ → Sorted → Pairs → Tree → Tree → Bool → Type 0
+PutsSpot c names shared mem s ps k v true = SortedStand c shared mem s (put_pair names shared k v ps)
+PutsSpot c names shared mem s ps k v false = MOST_KEYS < pairs_len (put_pair names shared k v ps)

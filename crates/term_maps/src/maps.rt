@@ -10,7 +10,7 @@ ghost use Rattle.term_build.specs.Taken.{Taken, IsFree, of_map};
 ghost use Rattle.term_build.specs.Grows.{Built};
 ghost use Rattle.term_build.specs.Clear.{IsRoom, Clear, KeepsClear, Uses};
 ghost use Rattle.term_maps.specs.InOrder.{has_beyond, in_order, why_not};
-ghost use Rattle.term_maps.specs.Given.{PairsStand, keys_in, KeysNamed, KeysStand, KeysWithin, CanMap, IsSorted, IsMade, pairs_in};
+ghost use Rattle.term_maps.specs.Given.{PairsStand, keys_in, KeysNamed, KeysAreTerms, KeysWithin, CanMap, IsSorted, MapIsMade, pairs_in};
 
 use crate::sorted::Sorted;
 use atom_names::AtomNames;
@@ -40,7 +40,7 @@ pub fn map(
         → why_not names.now shared given ≡ Some e) }
     ensures stopped { OnErr result ((room.new ≡ room.old) × (mem.new ≡ mem.old)) }
     ensures made { IfOk result (λ w. (c : ℕ → ℕ → Bool) (shared : List (List ℕ)) (given : Pairs) → PairsStand c shared mem.old pairs.now given
-        → IsMade c names.now shared given room.old room.new mem.old mem.new w) }
+        → MapIsMade c names.now shared given room.old room.new mem.old mem.new w) }
     ensures made_clear { IfOk result (λ w. (shared : List (List ℕ)) (given : Pairs)
         → PairsStand (outside room.old.top room.old.end) shared mem.old pairs.now given
         → Clear room.new shared mem.new w (Map (in_order names.now shared given))) }
@@ -72,7 +72,7 @@ fn sort(mem: &WordMem, names: &AtomNames, pairs: &[(u64, u64)]) -> Result<Sorted
 
 // Whether a key is beyond the walk limit.
 fn has_big_key(mem: &WordMem, pairs: &[(u64, u64)]) -> bool
-    requires { KeysStand mem.now (keys_in pairs.now) }
+    requires { KeysAreTerms mem.now (keys_in pairs.now) }
     ensures { (c : ℕ → ℕ → Bool) (shared : List (List ℕ)) (given : Pairs) → PairsStand c shared mem.now pairs.now given → result ≡ has_beyond shared given }
 {
     for (i, pair) in pairs.iter().enumerate() {
@@ -93,7 +93,7 @@ pub fn map_of_row(mem: &mut WordMem, room: &mut Room, names: &AtomNames, row: &[
         → why_not names.now shared given ≡ Some MapStop.Size) }
     ensures stopped { IfNone result ((room.new ≡ room.old) × (mem.new ≡ mem.old)) }
     ensures made { IfSome result (λ w. (c : ℕ → ℕ → Bool) (shared : List (List ℕ)) (given : Pairs) → PairsStand c shared mem.old (pairs_in row.now) given
-        → IsMade c names.now shared given room.old room.new mem.old mem.new w) }
+        → MapIsMade c names.now shared given room.old room.new mem.old mem.new w) }
 {
     let sorted = sort_row(mem, names, row)?;
     Some(map_in_order(mem, room, sorted.keys.as_slice(), sorted.values.as_slice()))

@@ -7,7 +7,7 @@ ghost use Rattle.term_words.specs.Stands.{Stands, AllStand};
 ghost use Rattle.term_words.specs.Counted.{In};
 ghost use Rattle.term_order.specs.Compared.{AreNamed};
 ghost use Rattle.term_maps.specs.InOrder.{has_beyond};
-ghost use Rattle.term_maps.specs.Spots.{IsWithin, Finds, SortedStand, Puts};
+ghost use Rattle.term_maps.specs.Spots.{IsWithin, Finds, SortedStand, PutsSpot};
 
 use arrayvec::ArrayVec;
 use atom_names::AtomNames;
@@ -52,7 +52,7 @@ impl Sorted {
         ensures same_len { length self.new.values.items ≡ length self.new.keys.items }
         ensures puts { (c : ℕ → ℕ → Bool) (shared : List (List ℕ)) (ps : Pairs) (k v : Tree) → SortedStand c shared mem.now self.old ps
             → Stands c shared mem.now key k → Stands c shared mem.now value v → has_beyond shared ps ≡ false → is_beyond shared k ≡ false
-            → Puts c names.now shared mem.now self.new ps k v result }
+            → PutsSpot c names.now shared mem.now self.new ps k v result }
     {
         match spot_of(mem, names, self.keys.as_slice(), key) {
             Spot::Same(at) => {

@@ -14,8 +14,8 @@ use Rattle.plain_term.specs.Measures.{is_small, magnitude}
 use Rattle.plain_term.specs.Order.{order, order_of_all, order_of_keys, order_of_values, bytes_order, name_of, kind_rank}
 use Rattle.term_words.specs.Object.{IsInt}
 use Rattle.term_words.specs.Stands.{Stands}
-use Rattle.term_words.proofs.Pairs.{keys-len, values-len}
-use Rattle.term_read.specs.Look.{HasDigits, IsSeen, LiesIn}
+use Rattle.term_words.proofs.ByKind.Pairs.{keys-len, values-len}
+use Rattle.term_read.specs.Look.{HasDigits, IsSeen, LiesInMemory}
 use Rattle.term_read.specs.declared.looks.Digits.{Digits}
 use Rattle.term_read.specs.declared.looks.Look.{Look}
 use Rattle.term_read.specs.declared.looks.Look.TheVariants as look
@@ -320,7 +320,7 @@ big-below c mem w i (inl s) big = absurd (small-big i s.small big)
 big-below c mem w i (inr (inl o)) big = omega (arith, o.range)
 big-below c mem w i (inr (inr o)) big = o.range
 
-pub readable : (c : ℕ → ℕ → Bool) (names shared : List (List ℕ)) (mem : List ℕ) (w : ℕ) (t : Tree) (l : Look) → Stands c shared mem w t → IsSeen c shared mem w t l → LiesIn mem l
+pub readable : (c : ℕ → ℕ → Bool) (names shared : List (List ℕ)) (mem : List ℕ) (w : ℕ) (t : Tree) (l : Look) → Stands c shared mem w t → IsSeen c shared mem w t l → LiesInMemory mem l
     → is_named (length names) t ≡ true → IsReadable mem names l
 unfolding Stands
 readable c names shared mem w (Int i) l s (inl (small, e)) lies named = subst (IsReadable mem names) (sym e) tt
@@ -335,10 +335,10 @@ readable c names shared mem w (Tuple ts) l s (e, within, row) lies named = subst
 readable c names shared mem w (Map ps) l s (e, keys, values, ks, vs) lies named = subst (IsReadable mem names) (sym e) tt
 readable c names shared mem w (Fun f a p env) l s (e, within, row) lies named =
     subst (IsReadable mem names) (sym e) (below-true f (length names) (both-true (nat_lt f (length names)) (are_named (length names) env) named).0)
-readable c names shared mem w (Bin xs) l s (e, from) lies named = subst (IsReadable mem names) (sym e) (subst (LiesIn mem) e lies)
-readable c names shared mem w (Shared id) l s (e, from) lies named = subst (IsReadable mem names) (sym e) (subst (LiesIn mem) e lies)
+readable c names shared mem w (Bin xs) l s (e, from) lies named = subst (IsReadable mem names) (sym e) (subst (LiesInMemory mem) e lies)
+readable c names shared mem w (Shared id) l s (e, from) lies named = subst (IsReadable mem names) (sym e) (subst (LiesInMemory mem) e lies)
 readable c names shared mem w (Part base offset len) l s (v, e, sb, size, from) lies named =
-    let there = subst (LiesIn mem) e lies in
+    let there = subst (LiesInMemory mem) e lies in
     subst (IsReadable mem names) (sym e) there.1
 
 -- The names of a tree's parts are among the names.

@@ -9,10 +9,10 @@ use Rattle.plain_term.specs.Tree.Tree.{Cons}
 use Rattle.plain_term.specs.Measures.{nodes, depth, flat}
 use Rattle.plain_term.specs.Beyond.{node_limit, depth_limit, is_beyond}
 use Rattle.plain_term.specs.Order.{order}
-use Rattle.plain_term.proofs.TokenLemmas.{order_total}
+use Rattle.plain_term.proofs.TokenLemmas.{order-total}
 use Rattle.term_words.specs.Role.{always}
 use Rattle.term_words.specs.Stands.{Stands, IsTerm}
-use Rattle.term_words.proofs.Single.{single}
+use Rattle.term_words.proofs.Placing.Single.{single}
 use Rattle.term_read.specs.declared.looks.Look.TheVariants as look
 use Rattle.term_read.proofs.Seen.{sees-cons}
 use Rattle.term_walk.specs.Runs.{Passed}
@@ -24,7 +24,7 @@ use Rattle.term_walk.proofs.Steps.{parted, chosen}
 use Rattle.term_walk.proofs.Sums.{when-true, when-false, or-false, or-left, or-right}
 use Rattle.term_order.specs.declared.compared.Compared.TheVariants as answer
 use Rattle.term_order.specs.Named.{is_named}
-use Rattle.term_order.specs.Compared.{AreNamed, AreWithin, Orders, Compares, answer_of}
+use Rattle.term_order.specs.Compared.{AreNamed, BothWithin, Orders, Compares, answer_of}
 use Rattle.term_order.specs.Runs.{AreBoth, IsSameCell, PassedBoth, PassesBoth, is_beyond_after}
 use Rattle.term_order.proofs.Owning.{both-true}
 
@@ -44,7 +44,7 @@ passes-both-none mem a b = record {
 
 order-cells : (names shared : List (List ℕ)) (h k t u : Tree) → h ≡ k → order names shared (Cons h t) (Cons k u) ≡ order names shared t u
 order-cells names shared h k t u same =
-    ap (λ z. ordering_then (order names shared z k) (order names shared t u)) same ∙ ap (λ z. ordering_then z (order names shared t u)) (tied_itself (order_total names shared) k)
+    ap (λ z. ordering_then (order names shared z k) (order names shared t u)) same ∙ ap (λ z. ordering_then z (order names shared t u)) (tied_itself (order-total names shared) k)
 
 named-tail : (n : ℕ) (t h u : Tree) → t ≡ Cons h u → is_named n t ≡ true → is_named n u ≡ true
 named-tail n t h u e q = (both-true (is_named n h) (is_named n u) (sym (ap (is_named n) e) ∙ q)).1
@@ -180,7 +180,7 @@ within-alone shared cells t e =
 abbrev pub FindsBeyond : (mem : List ℕ) (w cells : ℕ) → Bool → Type 0
 FindsBeyond mem w cells b = (c : ℕ → ℕ → Bool) (shared : List (List ℕ)) (t : Tree) → Stands c shared mem w t → b ≡ is_beyond_after shared cells t
 
-pub both-within : (mem : List ℕ) (left right cells : ℕ) → FindsBeyond mem left cells false → FindsBeyond mem right cells false → AreWithin mem left right
+pub both-within : (mem : List ℕ) (left right cells : ℕ) → FindsBeyond mem left cells false → FindsBeyond mem right cells false → BothWithin mem left right
 both-within mem left right cells f g = record { first = λ c shared t s. within-alone shared cells t (f c shared t s); second = λ c shared t s. within-alone shared cells t (g c shared t s) }
 
 -- The answers.

@@ -13,19 +13,19 @@ use Rattle.plain_term.specs.Beyond.{node_limit, depth_limit, is_beyond}
 use Rattle.plain_term.specs.Order.{order, order_of_all}
 use Rattle.term_words.specs.Role.{always}
 use Rattle.term_words.specs.Stands.{Stands, IsTerm}
-use Rattle.term_words.proofs.Single.{single}
+use Rattle.term_words.proofs.Placing.Single.{single}
 use Rattle.std.proofs.lemmas.Cmp.{tied_itself}
-use Rattle.plain_term.proofs.TokenLemmas.{order_total}
-use Rattle.term_read.specs.Look.{IsSeen, Sees, LiesIn}
+use Rattle.plain_term.proofs.TokenLemmas.{order-total}
+use Rattle.term_read.specs.Look.{IsSeen, Sees, LiesInMemory}
 use Rattle.term_read.specs.declared.looks.Look.{Look}
 use Rattle.term_read.specs.declared.looks.Look.TheVariants as look
 use Rattle.term_walk.specs.declared.levels.Rest.{Rest}
-use Rattle.term_walk.specs.Left.{AreLeft, left_of, deepest, parts_of, CanGo, HasLeft, IsNext, Yields}
+use Rattle.term_walk.specs.Left.{AreLeft, left_of, deepest, parts_of, CanGo, HasLeft, GoesNext, Yields}
 use Rattle.term_walk.specs.Weights.{nodes_in}
 use Rattle.term_walk.proofs.Sums.{nodes-append, nodes-own}
 use Rattle.term_order.specs.Named.{is_named, are_named}
 use Rattle.term_order.specs.Own.{look_data, IsReadable, IsBytes, looks_order}
-use Rattle.term_order.specs.Compared.{AreNamed, AreWithin, Orders, at_end, IsDeeper, IsStep, Steps}
+use Rattle.term_order.specs.Compared.{AreNamed, BothWithin, Orders, at_end, IsDeeper, IsStep, StepsOn}
 use Rattle.term_order.proofs.Owning.{own_order, order-own, order-append, own-len, own-bytes, looks-own, readable, both-true, step-named}
 
 -- A walk over a tree is at a word, after so many steps: no more nodes are left, it is nowhere deeper, and it meets no other names.
@@ -110,7 +110,7 @@ past-named : (n : ℕ) (next : Tree) (rest after : Trees) → are_named n rest �
 past-named n next rest after q e = both-true (is_named n next) (are_named n after) (sym (ap (are_named n) e) ∙ q)
 
 walk-past : (c : ℕ → ℕ → Bool) (shared : List (List ℕ)) (mem : List ℕ) (n : ℕ) (t : Tree) (word next : ℕ) (levels new : List Rest) (steps : ℕ)
-    → (k : Walking c shared mem n t word levels steps) → IsNext c shared mem levels k.rests (Some next) new → Walking c shared mem n t next new (steps + 1)
+    → (k : Walking c shared mem n t word levels steps) → GoesNext c shared mem levels k.rests (Some next) new → Walking c shared mem n t next new (steps + 1)
 walk-past c shared mem n t word next levels new steps k g = record {
   now = g.now;
   rests = g.rests;
@@ -186,7 +186,7 @@ module _ (mem : List ℕ) (names : List (List ℕ)) (a b x y : ℕ) (left right 
         ∙ order-differs c shared mem names t u x y left right steps (k c shared t u st su) (λ e. other (own-found c shared t u st su ∙ e));
   }
 
-  module _ (same : r ≡ ordering.Equal) (w : AreWithin mem a b) (p q : Option ℕ) (left2 right2 : List Rest) (sp : Steps mem left l p left2) (sq : Steps mem right m q right2) where
+  module _ (same : r ≡ ordering.Equal) (w : BothWithin mem a b) (p q : Option ℕ) (left2 right2 : List Rest) (sp : StepsOn mem left l p left2) (sq : StepsOn mem right m q right2) where
     parts-order : (c : ℕ → ℕ → Bool) (shared : List (List ℕ)) (t u : Tree) (st : Stands c shared mem a t) (su : Stands c shared mem b u)
         → let here : Comparing c shared mem names t u x y left right steps = k c shared t u st su in
         order names shared t u ≡ order_of_all names shared (trees_append (parts_of here.first.now) (left_of here.first.rests)) (trees_append (parts_of here.second.now) (left_of here.second.rests))
@@ -212,7 +212,7 @@ as-step c shared mem old now rests p q new e s = let P : Option ℕ → Type 0 =
 
 module _ (mem : List ℕ) (names : List (List ℕ)) (a b x y : ℕ) (left right : List Rest) (steps : ℕ) (l m : Look) (r : Ordering)
     (k : Comparisons mem names a b x y left right steps) (sl : Sees mem x l) (sm : Sees mem y m) (f : Finds mem names l m r)
-    (same : r ≡ ordering.Equal) (w : AreWithin mem a b) (p q : Option ℕ) (left2 right2 : List Rest) (sp : Steps mem left l p left2) (sq : Steps mem right m q right2) where
+    (same : r ≡ ordering.Equal) (w : BothWithin mem a b) (p q : Option ℕ) (left2 right2 : List Rest) (sp : StepsOn mem left l p left2) (sq : StepsOn mem right m q right2) where
   -- Both walks go on.
   go-both : (v z : ℕ) → p ≡ Some v → q ≡ Some z → (c : ℕ → ℕ → Bool) (shared : List (List ℕ)) (t u : Tree) → Stands c shared mem a t → Stands c shared mem b u
       → Comparing c shared mem names t u v z left2 right2 (steps + 1)
@@ -268,8 +268,8 @@ module _ (mem : List ℕ) (names : List (List ℕ)) (a b x y : ℕ) (left right 
   orders-more v ep eq = record { each = λ c shared t u st su. some-order c shared t u v st su ep eq }
 
 as-next : (c : ℕ → ℕ → Bool) (shared : List (List ℕ)) (mem : List ℕ) (old : List Rest) (rests : List Trees) (p q : Option ℕ) (new : List Rest) → p ≡ q
-    → IsNext c shared mem old rests p new → IsNext c shared mem old rests q new
-as-next c shared mem old rests p q new e s = let P : Option ℕ → Type 0 = λ z. IsNext c shared mem old rests z new in subst P e s
+    → GoesNext c shared mem old rests p new → GoesNext c shared mem old rests q new
+as-next c shared mem old rests p q new e s = let P : Option ℕ → Type 0 = λ z. GoesNext c shared mem old rests z new in subst P e s
 
 -- Two walks at one word go on past it.
 module _ (mem : List ℕ) (names : List (List ℕ)) (a b x y : ℕ) (left right : List Rest) (steps : ℕ) (k : Comparisons mem names a b x y left right steps) (same : x ≡ y)
@@ -283,16 +283,16 @@ module _ (mem : List ℕ) (names : List (List ℕ)) (a b x y : ℕ) (left right 
       let behind : Ordering = order_of_all names shared (left_of here.first.rests) (left_of here.second.rests) in
       here.order_is
       ∙ ap (λ z. ordering_then (order names shared z here.second.now) behind) tree
-      ∙ ap (λ z. ordering_then z behind) (tied_itself (order_total names shared) here.second.now)
+      ∙ ap (λ z. ordering_then z behind) (tied_itself (order-total names shared) here.second.now)
 
   first-past : (c : ℕ → ℕ → Bool) (shared : List (List ℕ)) (t u : Tree) (st : Stands c shared mem a t) (su : Stands c shared mem b u) (o : Option ℕ) → p ≡ o
-      → IsNext c shared mem left (k c shared t u st su).first.rests o left2
+      → GoesNext c shared mem left (k c shared t u st su).first.rests o left2
   first-past c shared t u st su o e =
       let here : Walking c shared mem (length names) t x left steps = (k c shared t u st su).first in
       as-next c shared mem left here.rests p o left2 e (np.each c shared here.rests here.few here.left)
 
   second-past : (c : ℕ → ℕ → Bool) (shared : List (List ℕ)) (t u : Tree) (st : Stands c shared mem a t) (su : Stands c shared mem b u) (o : Option ℕ) → q ≡ o
-      → IsNext c shared mem right (k c shared t u st su).second.rests o right2
+      → GoesNext c shared mem right (k c shared t u st su).second.rests o right2
   second-past c shared t u st su o e =
       let here : Walking c shared mem (length names) u y right steps = (k c shared t u st su).second in
       as-next c shared mem right here.rests q o right2 e (nq.each c shared here.rests here.few here.left)
@@ -302,8 +302,8 @@ module _ (mem : List ℕ) (names : List (List ℕ)) (a b x y : ℕ) (left right 
   unfolding walk-past
   past-both v z ep eq c shared t u st su =
       let here : Comparing c shared mem names t u x y left right steps = k c shared t u st su in
-      let gp : IsNext c shared mem left here.first.rests (Some v) left2 = first-past c shared t u st su (Some v) ep in
-      let gq : IsNext c shared mem right here.second.rests (Some z) right2 = second-past c shared t u st su (Some z) eq in
+      let gp : GoesNext c shared mem left here.first.rests (Some v) left2 = first-past c shared t u st su (Some v) ep in
+      let gq : GoesNext c shared mem right here.second.rests (Some z) right2 = second-past c shared t u st su (Some z) eq in
       record {
         first = walk-past c shared mem (length names) t x v left left2 steps here.first gp;
         second = walk-past c shared mem (length names) u y z right right2 steps here.second gq;
@@ -315,12 +315,12 @@ module _ (mem : List ℕ) (names : List (List ℕ)) (a b x y : ℕ) (left right 
 
   past-none : (c : ℕ → ℕ → Bool) (shared : List (List ℕ)) (t u : Tree) → Stands c shared mem a t → Stands c shared mem b u → p ≡ None → (o : Option ℕ) → q ≡ o → at_end o ≡ order names shared t u
   past-none c shared t u st su ep None eq =
-      let gp : IsNext c shared mem left (k c shared t u st su).first.rests None left2 = first-past c shared t u st su None ep in
-      let gq : IsNext c shared mem right (k c shared t u st su).second.rests None right2 = second-past c shared t u st su None eq in
+      let gp : GoesNext c shared mem left (k c shared t u st su).first.rests None left2 = first-past c shared t u st su None ep in
+      let gq : GoesNext c shared mem right (k c shared t u st su).second.rests None right2 = second-past c shared t u st su None eq in
       sym (past-order c shared t u st su ∙ (λ i. order_of_all names shared (gp.none i) (gq.none i)))
   past-none c shared t u st su ep (Some z) eq =
-      let gp : IsNext c shared mem left (k c shared t u st su).first.rests None left2 = first-past c shared t u st su None ep in
-      let gq : IsNext c shared mem right (k c shared t u st su).second.rests (Some z) right2 = second-past c shared t u st su (Some z) eq in
+      let gp : GoesNext c shared mem left (k c shared t u st su).first.rests None left2 = first-past c shared t u st su None ep in
+      let gq : GoesNext c shared mem right (k c shared t u st su).second.rests (Some z) right2 = second-past c shared t u st su (Some z) eq in
       sym (past-order c shared t u st su ∙ (λ i. order_of_all names shared (gp.none i) (gq.order i)))
 
   pub orders-end-past : (o : Ordering) → p ≡ None → o ≡ at_end q → Orders mem names a b o
@@ -328,8 +328,8 @@ module _ (mem : List ℕ) (names : List (List ℕ)) (a b x y : ℕ) (left right 
 
   past-some : (c : ℕ → ℕ → Bool) (shared : List (List ℕ)) (t u : Tree) (v : ℕ) → Stands c shared mem a t → Stands c shared mem b u → p ≡ Some v → q ≡ None → ordering.Greater ≡ order names shared t u
   past-some c shared t u v st su ep eq =
-      let gp : IsNext c shared mem left (k c shared t u st su).first.rests (Some v) left2 = first-past c shared t u st su (Some v) ep in
-      let gq : IsNext c shared mem right (k c shared t u st su).second.rests None right2 = second-past c shared t u st su None eq in
+      let gp : GoesNext c shared mem left (k c shared t u st su).first.rests (Some v) left2 = first-past c shared t u st su (Some v) ep in
+      let gq : GoesNext c shared mem right (k c shared t u st su).second.rests None right2 = second-past c shared t u st su None eq in
       sym (past-order c shared t u st su ∙ (λ i. order_of_all names shared (gp.order i) (gq.none i)))
 
   pub orders-more-past : (v : ℕ) → p ≡ Some v → q ≡ None → Orders mem names a b ordering.Greater
@@ -347,11 +347,11 @@ module _ (mem : List ℕ) (names : List (List ℕ)) (a b x y : ℕ) (left right 
   pub second-term : IsTerm mem y
   second-term = record { shared = i.shared; tree = start.second.now; standing = start.second.standing }
 
-  pub first-readable : (l : Look) → Sees mem x l → LiesIn mem l → IsReadable mem names l
+  pub first-readable : (l : Look) → Sees mem x l → LiesInMemory mem l → IsReadable mem names l
   first-readable l sees lies = readable always names i.shared mem x start.first.now l start.first.standing (sees.each always i.shared start.first.now start.first.standing) lies
       (start.first.named i.first_named).0
 
-  pub second-readable : (l : Look) → Sees mem y l → LiesIn mem l → IsReadable mem names l
+  pub second-readable : (l : Look) → Sees mem y l → LiesInMemory mem l → IsReadable mem names l
   second-readable l sees lies = readable always names i.shared mem y start.second.now l start.second.standing (sees.each always i.shared start.second.now start.second.standing) lies
       (start.second.named i.second_named).0
 
@@ -380,21 +380,21 @@ module _ (mem : List ℕ) (names : List (List ℕ)) (a b x y : ℕ) (left right 
   }
 
   -- What goes deeper than all levels of a walk is beyond the walk limit.
-  pub first-deeper : (most : ℕ) (l : Look) → Sees mem x l → AreWithin mem a b → IsDeeper most mem left l → most < depth_limit
+  pub first-deeper : (most : ℕ) (l : Look) → Sees mem x l → BothWithin mem a b → IsDeeper most mem left l → most < depth_limit
   first-deeper most l sees w d = omega (
     arith,
     d.each always i.shared x start.first.now start.first.rests start.first.standing (sees.each always i.shared start.first.now start.first.standing) start.first.left,
     shallow always i.shared mem (length names) i.first x left steps start.first (within-depth i.shared i.first (w.first always i.shared i.first i.first_stands)).1,
   )
 
-  pub second-deeper : (most : ℕ) (l : Look) → Sees mem y l → AreWithin mem a b → IsDeeper most mem right l → most < depth_limit
+  pub second-deeper : (most : ℕ) (l : Look) → Sees mem y l → BothWithin mem a b → IsDeeper most mem right l → most < depth_limit
   second-deeper most l sees w d = omega (
     arith,
     d.each always i.shared y start.second.now start.second.rests start.second.standing (sees.each always i.shared start.second.now start.second.standing) start.second.left,
     shallow always i.shared mem (length names) i.second y right steps start.second (within-depth i.shared i.second (w.second always i.shared i.second i.second_stands)).1,
   )
 
-  pub steps-few : AreWithin mem a b → steps < node_limit
+  pub steps-few : BothWithin mem a b → steps < node_limit
   steps-few w = omega (arith, start.first.nodes_are, one-tree i.shared start.first.now, (within-depth i.shared i.first (w.first always i.shared i.first i.first_stands)).0)
 
   pub first-left : HasLeft mem left
@@ -408,7 +408,7 @@ pub orders-same : (mem : List ℕ) (names : List (List ℕ)) (a b : ℕ) → a �
 orders-same mem names a b same = record {
   each = λ c shared t u st su.
       let P : ℕ → Type 0 = λ z. Stands c shared mem z u in
-      sym (ap (λ z. order names shared z u) (single c c shared shared mem a t u st (subst P (sym same) su)) ∙ tied_itself (order_total names shared) u);
+      sym (ap (λ z. order names shared z u) (single c c shared shared mem a t u st (subst P (sym same) su)) ∙ tied_itself (order-total names shared) u);
 }
 
 -- A test of equality with the order of equal terms.

@@ -11,7 +11,7 @@ use Rattle.term_words.specs.Stands.{Stands}
 use Rattle.term_read.specs.Look.{IsSeen}
 use Rattle.term_read.specs.declared.looks.Look.{Look}
 use Rattle.term_walk.specs.declared.levels.Rest.{Rest}
-use Rattle.term_walk.specs.Left.{AreLeft, left_of, deepest, parts_of, GoesTo, Ends}
+use Rattle.term_walk.specs.Left.{AreLeft, left_of, deepest, parts_of, GoesTo, WalkEnds}
 use Rattle.term_order.specs.declared.compared.Compared.{Compared}
 use Rattle.term_order.specs.declared.compared.Compared.TheVariants.{Less, Same, More, Beyond}
 use Rattle.term_order.specs.Named.{is_named}
@@ -41,7 +41,7 @@ pub record Compares (mem : List ℕ) (names : List (List ℕ)) (a b : ℕ) (resu
   pub each : (c : ℕ → ℕ → Bool) (shared : List (List ℕ)) (t u : Tree) → Stands c shared mem a t → Stands c shared mem b u → result ≡ compared names shared t u
 
 -- Both trees are within the walk limit.
-pub record AreWithin (mem : List ℕ) (a b : ℕ) : Type 0 where
+pub record BothWithin (mem : List ℕ) (a b : ℕ) : Type 0 where
   pub first : (c : ℕ → ℕ → Bool) (shared : List (List ℕ)) (t : Tree) → Stands c shared mem a t → is_beyond shared t ≡ false
   pub second : (c : ℕ → ℕ → Bool) (shared : List (List ℕ)) (t : Tree) → Stands c shared mem b t → is_beyond shared t ≡ false
 
@@ -58,10 +58,10 @@ at_end None = ordering.Equal
 abbrev pub IsStep : (ℕ → ℕ → Bool) → List (List ℕ) → List ℕ → List Rest → Tree → List Trees → Option ℕ → List Rest → Type 0
 IsStep c shared mem old now rests (Some word) new =
     GoesTo c shared mem (trees_append (parts_of now) (left_of rests)) (max (length old + depth now) (deepest old rests)) word new
-IsStep c shared mem old now rests None new = Ends (trees_append (parts_of now) (left_of rests)) (max (length old + depth now) (deepest old rests))
+IsStep c shared mem old now rests None new = WalkEnds (trees_append (parts_of now) (left_of rests)) (max (length old + depth now) (deepest old rests))
 
 -- So it is for all trees that the words stand for, and that are nowhere too deep.
-pub record Steps (mem : List ℕ) (old : List Rest) (l : Look) (result : Option ℕ) (new : List Rest) : Type 0 where
+pub record StepsOn (mem : List ℕ) (old : List Rest) (l : Look) (result : Option ℕ) (new : List Rest) : Type 0 where
   pub each : (c : ℕ → ℕ → Bool) (shared : List (List ℕ)) (w : ℕ) (now : Tree) (rests : List Trees) → Stands c shared mem w now → IsSeen c shared mem w now l
       → AreLeft c shared mem old rests
       → length old + depth now ≤ depth_limit → IsStep c shared mem old now rests result new

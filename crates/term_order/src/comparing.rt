@@ -3,7 +3,7 @@ ghost use Rattle.std.specs.Prelude.{◌≡◌, ℕ, ◌*◌, ◌<◌, ◌≤◌,
 ghost use Rattle.plain_term.specs.Tree.{Tree};
 ghost use Rattle.term_words.specs.Stands.{Stands, IsTerm};
 ghost use Rattle.term_walk.specs.Left.{CanGo};
-ghost use Rattle.term_order.specs.Compared.{AreNamed, Compares, AreWithin, IsDeeper, Orders, Steps, at_end};
+ghost use Rattle.term_order.specs.Compared.{AreNamed, Compares, BothWithin, IsDeeper, Orders, StepsOn, at_end};
 ghost use Rattle.term_order.specs.Runs.{is_beyond_after};
 
 use crate::compared::Compared;
@@ -66,7 +66,7 @@ fn is_other_beyond(mem: &WordMem, behind: Pair) -> bool
 // The order of two terms within the walk limit: of two equal words, of two whose own order tells it, or by walks.
 fn order_within(mem: &WordMem, names: &AtomNames, a: u64, b: u64) -> Ordering
     requires named { AreNamed mem.now names.now a b }
-    requires within { AreWithin mem.now a b }
+    requires within { BothWithin mem.now a b }
     ensures { Orders mem.now names.now a b result }
 {
     if a == b {
@@ -89,7 +89,7 @@ fn order_within(mem: &WordMem, names: &AtomNames, a: u64, b: u64) -> Ordering
 #[inline(never)]
 fn order_deep(mem: &WordMem, names: &AtomNames, a: u64, b: u64) -> Ordering
     requires named { AreNamed mem.now names.now a b }
-    requires within { AreWithin mem.now a b }
+    requires within { BothWithin mem.now a b }
     ensures { Orders mem.now names.now a b result }
 {
     match order_on::<DEPTH_LIMIT>(mem, names, a, b) {
@@ -103,7 +103,7 @@ fn order_deep(mem: &WordMem, names: &AtomNames, a: u64, b: u64) -> Ordering
 fn order_on<const N: usize>(mem: &WordMem, names: &AtomNames, a: u64, b: u64) -> Option<Ordering>
     requires most { N ≤ DEPTH_LIMIT }
     requires named { AreNamed mem.now names.now a b }
-    requires within { AreWithin mem.now a b }
+    requires within { BothWithin mem.now a b }
     ensures orders { IfSome result (Orders mem.now names.now a b) }
     ensures deep { IfNone result (N < DEPTH_LIMIT) }
 {
@@ -169,7 +169,7 @@ fn next<const N: usize>(
 ) -> Option<Option<u64>>
     requires most { N ≤ DEPTH_LIMIT }
     requires go { CanGo mem.now (reverse levels.old.items) look }
-    ensures steps { IfSome result (λ next. Steps mem.now (reverse levels.old.items) look next (reverse levels.new.items)) }
+    ensures steps { IfSome result (λ next. StepsOn mem.now (reverse levels.old.items) look next (reverse levels.new.items)) }
     ensures deep { IfNone result (IsDeeper N mem.now (reverse levels.old.items) look) }
 {
     match go_on(mem, levels, look) {

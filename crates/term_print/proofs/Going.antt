@@ -18,8 +18,8 @@ use Rattle.term_print.specs.declared.levels.Level.{Level}
 use Rattle.term_print.specs.declared.levels.Part.{Part}
 use Rattle.term_print.specs.declared.levels.Step.TheVariants as step
 use Rattle.term_print.specs.Left.{mark_text, closing, taken, after_level, IsCountable, IsLeft, level_text, reach}
-use Rattle.term_print.specs.Printed.{CanPrint, CanBegin, Opens, Begins}
-use Rattle.term_print.specs.Going.{AreLeft, text_left, nodes_left, AreShallow, AreNamed, IsPrintable, StaysPrintable, Printing, Prints, Begun, GoesOn}
+use Rattle.term_print.specs.Printed.{CanPrint, CanBegin, Opens, BeginsText}
+use Rattle.term_print.specs.Going.{AreLeft, text_left, nodes_left, AreShallow, AreNamed, IsPrintable, StaysPrintable, Printing, PrintsEach, Begun, GoesOn}
 use Rattle.term_print.specs.Runs.{CanGather, Gathers}
 use Rattle.text_parts.proofs.Writing.{written-as, written-stops}
 use Rattle.term_print.proofs.Taking.{IsMore, more_text, IsNoDeeper, Took, ends, took, countable}
@@ -94,7 +94,7 @@ behind came mark a b own rest e = ap (λ z. came ++ z) (append_assoc mark a b �
 
 pub goes-on : {K E : Type 0} (c : ℕ → ℕ → Bool) (shared : List (List ℕ)) (mem : List ℕ) (names : List (List ℕ)) (t : Tree) (mark : List ℕ) (tail : Bool) (word : ℕ) (levels new : List Level) (seen : ℕ)
     (wrote : K → List ℕ → Type 0) (faults : K → ℕ) (start before after : K) (u : Unit {0}) → (n : Coming c shared mem names t mark tail word levels seen wrote start before)
-    → Begins {K = K} {E = E} c shared mem names mark tail n.next levels new wrote faults before after (Ok u) → Printing c shared mem names t new (seen + 1) wrote start after
+    → BeginsText {K = K} {E = E} c shared mem names mark tail n.next levels new wrote faults before after (Ok u) → Printing c shared mem names t new (seen + 1) wrote start after
 goes-on {K} {E} c shared mem names t mark tail word levels new seen wrote faults start before after u n b =
     let p : Pushed c shared mem names tail n.next b.own levels (after_level b.parts levels) n.rests seen = pushed c shared mem names tail n.next b.own b.parts levels n.rests seen n.left b.opens in
     let P : List Level → Type 0 = λ z. Printing c shared mem names t z (seen + 1) wrote start after in
@@ -113,7 +113,7 @@ goes-on {K} {E} c shared mem names t mark tail word levels new seen wrote faults
 pub goes-off : {K E F : Type 0} (c : ℕ → ℕ → Bool) (shared : List (List ℕ)) (mem : List ℕ) (names : List (List ℕ)) (t : Tree) (mark : List ℕ) (tail : Bool) (word : ℕ) (levels new : List Level)
     (seen : ℕ) (wrote : K → List ℕ → Type 0) (faults : K → ℕ) (start before after : K) (e : E) (r : Result (Unit {0}) F) → IsErr r → faults before ≡ faults start
     → (n : Coming c shared mem names t mark tail word levels seen wrote start before)
-    → Begins c shared mem names mark tail n.next levels new wrote faults before after (Err e) → Written wrote faults start after (text names shared t) r
+    → BeginsText c shared mem names mark tail n.next levels new wrote faults before after (Err e) → Written wrote faults start after (text names shared t) r
 goes-off {K} {E} {F} c shared mem names t mark tail word levels new seen wrote faults start before after e r failed same n b =
     let p : Pushed c shared mem names tail n.next b.own levels (after_level b.parts levels) n.rests seen = pushed c shared mem names tail n.next b.own b.parts levels n.rests seen n.left b.opens in
     written-stops wrote faults start before after (text names shared t) n.came (mark ++ b.own) (text_left names shared (after_level b.parts levels) p.more) e r failed n.grew same
@@ -291,22 +291,22 @@ pub popped : (xs ys : List Level) (l : Level) → xs ≡ ys ++ l ∷ [] → reve
 popped xs ys l e = ap reverse e ∙ reverse-append ys (l ∷ [])
 
 pub prints-popped : {K : Type 0} (mem : List ℕ) (names : List (List ℕ)) (first : ℕ) (xs ys : List Level) (l : Level) (seen : ℕ) (wrote : K → List ℕ → Type 0) (start now : K) → xs ≡ ys ++ l ∷ []
-    → Prints mem names first (reverse xs) seen wrote start now → Prints mem names first (l ∷ reverse ys) seen wrote start now
-prints-popped {K} mem names first xs ys l seen wrote start now e p = let P : List Level → Type 0 = λ z. Prints mem names first z seen wrote start now in subst P (popped xs ys l e) p
+    → PrintsEach mem names first (reverse xs) seen wrote start now → PrintsEach mem names first (l ∷ reverse ys) seen wrote start now
+prints-popped {K} mem names first xs ys l seen wrote start now e p = let P : List Level → Type 0 = λ z. PrintsEach mem names first z seen wrote start now in subst P (popped xs ys l e) p
 
 pub prints-first : {K E : Type 0} (mem : List ℕ) (names : List (List ℕ)) (w : ℕ) (old new : List Level) (wrote : K → List ℕ → Type 0) (faults : K → ℕ) (start after : K) (u : Unit {0}) → old ≡ []
-    → ((c : ℕ → ℕ → Bool) (shared : List (List ℕ)) (now : Tree) → Stands c shared mem w now → Begins {K = K} {E = E} c shared mem names [] false now old new wrote faults start after (Ok u))
-    → Prints mem names w new 1 wrote start after
+    → ((c : ℕ → ℕ → Bool) (shared : List (List ℕ)) (now : Tree) → Stands c shared mem w now → BeginsText {K = K} {E = E} c shared mem names [] false now old new wrote faults start after (Ok u))
+    → PrintsEach mem names w new 1 wrote start after
 prints-first {K} {E} mem names w old new wrote faults start after u none b = λ c shared t s.
-    let P : List Level → Type 0 = λ z. Begins {K = K} {E = E} c shared mem names [] false t z new wrote faults start after (Ok u) in
+    let P : List Level → Type 0 = λ z. BeginsText {K = K} {E = E} c shared mem names [] false t z new wrote faults start after (Ok u) in
     goes-on c shared mem names t [] false w [] new 0 wrote faults start start after u (comes-first c shared mem names t w wrote start s) (subst P none (b c shared t s))
 
 pub first-stops : {K E F : Type 0} (mem : List ℕ) (names : List (List ℕ)) (w : ℕ) (old new : List Level) (wrote : K → List ℕ → Type 0) (faults : K → ℕ) (start after : K) (e : E)
     (r : Result (Unit {0}) F) → IsErr r → old ≡ []
-    → ((c : ℕ → ℕ → Bool) (shared : List (List ℕ)) (now : Tree) → Stands c shared mem w now → Begins {K = K} {E = E} c shared mem names [] false now old new wrote faults start after (Err e))
+    → ((c : ℕ → ℕ → Bool) (shared : List (List ℕ)) (now : Tree) → Stands c shared mem w now → BeginsText {K = K} {E = E} c shared mem names [] false now old new wrote faults start after (Err e))
     → (c : ℕ → ℕ → Bool) (shared : List (List ℕ)) (t : Tree) → Stands c shared mem w t → Written wrote faults start after (text names shared t) r
 first-stops {K} {E} {F} mem names w old new wrote faults start after e r failed none b = λ c shared t s.
-    let P : List Level → Type 0 = λ z. Begins {K = K} {E = E} c shared mem names [] false t z new wrote faults start after (Err e) in
+    let P : List Level → Type 0 = λ z. BeginsText {K = K} {E = E} c shared mem names [] false t z new wrote faults start after (Err e) in
     goes-off c shared mem names t [] false w [] new 0 wrote faults start start after e r failed refl (comes-first c shared mem names t w wrote start s) (subst P none (b c shared t s))
 
 -- What is gathered of a level, of all trees.
@@ -314,8 +314,8 @@ abbrev pub AllGather : List ℕ → (l m : Level) → List ℕ → Type 0
 AllGather mem l m x = (c : ℕ → ℕ → Bool) (shared names : List (List ℕ)) (ts : Trees) → IsLeft c shared mem l ts → Gathers c shared mem names l m x ts
 
 pub prints-gathered : {K : Type 0} (mem : List ℕ) (names : List (List ℕ)) (w : ℕ) (xs ys : List Level) (l m : Level) (x put : List ℕ) (seen : ℕ) (wrote : K → List ℕ → Type 0)
-    (start before after : K) → xs ≡ ys ++ l ∷ [] → put ≡ x → Prints mem names w (reverse xs) seen wrote start before → AllGather mem l m x → Grew wrote before after put
-    → Prints mem names w (m ∷ reverse ys) seen wrote start after
+    (start before after : K) → xs ≡ ys ++ l ∷ [] → put ≡ x → PrintsEach mem names w (reverse xs) seen wrote start before → AllGather mem l m x → Grew wrote before after put
+    → PrintsEach mem names w (m ∷ reverse ys) seen wrote start after
 prints-gathered {K} mem names w xs ys l m x put seen wrote start before after items e p more g = λ c shared t s.
     let P : List ℕ → Type 0 = λ z. Grew wrote before after z in
     gathered-goes c shared mem names t l m (reverse ys) x seen wrote start before after (prints-popped mem names w xs ys l seen wrote start before items p c shared t s) (more c shared names)
@@ -323,33 +323,34 @@ prints-gathered {K} mem names w xs ys l m x put seen wrote start before after it
 
 pub prints-gathered-stops : {K E F : Type 0} (mem : List ℕ) (names : List (List ℕ)) (w : ℕ) (xs ys : List Level) (l m : Level) (x put : List ℕ) (seen : ℕ) (wrote : K → List ℕ → Type 0)
     (faults : K → ℕ) (start before after : K) (e : E) (r : Result (Unit {0}) F) → IsErr r → faults before ≡ faults start → xs ≡ ys ++ l ∷ [] → put ≡ x
-    → Prints mem names w (reverse xs) seen wrote start before → AllGather mem l m x → Written wrote faults before after put (Err e)
+    → PrintsEach mem names w (reverse xs) seen wrote start before → AllGather mem l m x → Written wrote faults before after put (Err e)
     → (c : ℕ → ℕ → Bool) (shared : List (List ℕ)) (t : Tree) → Stands c shared mem w t → Written wrote faults start after (text names shared t) r
 prints-gathered-stops mem names w xs ys l m x put seen wrote faults start before after e r failed same items is p more g = λ c shared t s.
     gathered-stops c shared mem names t l m (reverse ys) x seen wrote faults start before after e r failed same (prints-popped mem names w xs ys l seen wrote start before items p c shared t s)
     (more c shared names) (written-as wrote faults before after put x (Err e) is g)
 
 pub prints-end : {K : Type 0} (mem : List ℕ) (names : List (List ℕ)) (w : ℕ) (l : Level) (ls : List Level) (last : Bool) (seen : ℕ) (wrote : K → List ℕ → Type 0) (start before after : K)
-    → taken l ≡ step.End last → Prints mem names w (l ∷ ls) seen wrote start before → Grew wrote before after (closing last) → Prints mem names w ls seen wrote start after
+    → taken l ≡ step.End last → PrintsEach mem names w (l ∷ ls) seen wrote start before → Grew wrote before after (closing last) → PrintsEach mem names w ls seen wrote start after
 prints-end mem names w l ls last seen wrote start before after e p g = λ c shared t s. end-goes c shared mem names t l ls last seen wrote start before after e (p c shared t s) g
 
 pub prints-end-stops : {K E F : Type 0} (mem : List ℕ) (names : List (List ℕ)) (w : ℕ) (l : Level) (ls : List Level) (last : Bool) (seen : ℕ) (wrote : K → List ℕ → Type 0) (faults : K → ℕ)
     (start before after : K) (e : E)
-    (r : Result (Unit {0}) F) → IsErr r → faults before ≡ faults start → taken l ≡ step.End last → Prints mem names w (l ∷ ls) seen wrote start before
+    (r : Result (Unit {0}) F) → IsErr r → faults before ≡ faults start → taken l ≡ step.End last → PrintsEach mem names w (l ∷ ls) seen wrote start before
     → Written wrote faults before after (closing last) (Err e)
     → (c : ℕ → ℕ → Bool) (shared : List (List ℕ)) (t : Tree) → Stands c shared mem w t → Written wrote faults start after (text names shared t) r
 prints-end-stops mem names w l ls last seen wrote faults start before after e r failed same is p g = λ c shared t s.
     end-stops c shared mem names t l ls last seen wrote faults start before after e r failed same is (p c shared t s) g
 
 pub prints-part : {K E : Type 0} (mem : List ℕ) (names : List (List ℕ)) (w : ℕ) (l : Level) (ls : List Level) (p : Part) (word : ℕ) (old new : List Level) (seen : ℕ) (wrote : K → List ℕ → Type 0)
-    (faults : K → ℕ) (start before after : K) (u : Unit {0}) → taken l ≡ step.Part p → word ≡ get_or mem p.place 0 → old ≡ after_level p.more ls → Prints mem names w (l ∷ ls) seen wrote start before
+    (faults : K → ℕ) (start before after : K) (u : Unit {0}) → taken l ≡ step.Part p → word ≡ get_or mem p.place 0 → old ≡ after_level p.more ls
+    → PrintsEach mem names w (l ∷ ls) seen wrote start before
     → ((c : ℕ → ℕ → Bool) (shared : List (List ℕ)) (now : Tree) → Stands c shared mem word now
-    → Begins {K = K} {E = E} c shared mem names (mark_text p.mark) p.tail now old new wrote faults before after (Ok u))
-    → Prints mem names w new (seen + 1) wrote start after
+    → BeginsText {K = K} {E = E} c shared mem names (mark_text p.mark) p.tail now old new wrote faults before after (Ok u))
+    → PrintsEach mem names w new (seen + 1) wrote start after
 prints-part {K} {E} mem names w l ls p word old new seen wrote faults start before after u e at is g b = λ c shared t s.
     let n : Coming c shared mem names t (mark_text p.mark) p.tail (get_or mem p.place 0) (after_level p.more ls) seen wrote start before = comes-part c shared mem names t l ls p seen wrote start
     before e (g c shared t s) in
-    let P : List Level → Type 0 = λ z. Begins {K = K} {E = E} c shared mem names (mark_text p.mark) p.tail n.next z new wrote faults before after (Ok u) in
+    let P : List Level → Type 0 = λ z. BeginsText {K = K} {E = E} c shared mem names (mark_text p.mark) p.tail n.next z new wrote faults before after (Ok u) in
     let Q : ℕ → Type 0 = λ z. Stands c shared mem z n.next in
     goes-on c shared mem names t (mark_text p.mark) p.tail (get_or mem p.place 0) (after_level p.more ls) new seen wrote faults start before after u n
     (subst P is (b c shared n.next (subst Q (sym at) n.standing)))
@@ -357,20 +358,20 @@ prints-part {K} {E} mem names w l ls p word old new seen wrote faults start befo
 pub prints-part-stops : {K E F : Type 0} (mem : List ℕ) (names : List (List ℕ)) (w : ℕ) (l : Level) (ls : List Level) (p : Part) (word : ℕ) (old new : List Level) (seen : ℕ)
     (wrote : K → List ℕ → Type 0) (faults : K → ℕ)
     (start before after : K) (x : E) (r : Result (Unit {0}) F) → IsErr r → faults before ≡ faults start → taken l ≡ step.Part p → word ≡ get_or mem p.place 0 → old ≡ after_level p.more ls
-    → Prints mem names w (l ∷ ls) seen wrote start before
+    → PrintsEach mem names w (l ∷ ls) seen wrote start before
     → ((c : ℕ → ℕ → Bool) (shared : List (List ℕ)) (now : Tree) → Stands c shared mem word now
-    → Begins {K = K} {E = E} c shared mem names (mark_text p.mark) p.tail now old new wrote faults before after (Err x))
+    → BeginsText {K = K} {E = E} c shared mem names (mark_text p.mark) p.tail now old new wrote faults before after (Err x))
     → (c : ℕ → ℕ → Bool) (shared : List (List ℕ)) (t : Tree) → Stands c shared mem w t → Written wrote faults start after (text names shared t) r
 prints-part-stops {K} {E} {F} mem names w l ls p word old new seen wrote faults start before after x r failed same e at is g b = λ c shared t s.
     let n : Coming c shared mem names t (mark_text p.mark) p.tail (get_or mem p.place 0) (after_level p.more ls) seen wrote start before = comes-part c shared mem names t l ls p seen wrote start
     before e (g c shared t s) in
-    let P : List Level → Type 0 = λ z. Begins {K = K} {E = E} c shared mem names (mark_text p.mark) p.tail n.next z new wrote faults before after (Err x) in
+    let P : List Level → Type 0 = λ z. BeginsText {K = K} {E = E} c shared mem names (mark_text p.mark) p.tail n.next z new wrote faults before after (Err x) in
     let Q : ℕ → Type 0 = λ z. Stands c shared mem z n.next in
     goes-off c shared mem names t (mark_text p.mark) p.tail (get_or mem p.place 0) (after_level p.more ls) new seen wrote faults start before after x r failed same n
     (subst P is (b c shared n.next (subst Q (sym at) n.standing)))
 
 pub prints-all : {K E : Type 0} (mem : List ℕ) (names : List (List ℕ)) (w : ℕ) (levels : List Level) (seen : ℕ) (wrote : K → List ℕ → Type 0) (faults : K → ℕ) (start now : K) (u : Unit {0})
-    → levels ≡ [] → faults now ≡ faults start → Prints mem names w levels seen wrote start now
+    → levels ≡ [] → faults now ≡ faults start → PrintsEach mem names w levels seen wrote start now
     → (c : ℕ → ℕ → Bool) (shared : List (List ℕ)) (t : Tree) → Stands c shared mem w t → Written {K = K} {E = E} wrote faults start now (text names shared t) (Ok u)
 prints-all mem names w levels seen wrote faults start now u none same p = λ c shared t s. all-came c shared mem names t levels seen wrote faults start now u none same (p c shared t s)
 
@@ -398,7 +399,7 @@ pub record PartAsks (mem : List ℕ) (names : List (List ℕ)) (p : Part) (seen 
   pub few : seen + 1 ≤ node_limit
 
 pub part-asks : {K : Type 0} (mem : List ℕ) (names : List (List ℕ)) (w : ℕ) (l : Level) (ls : List Level) (p : Part) (seen : ℕ) (wrote : K → List ℕ → Type 0) (start now : K)
-    → CanPrint mem names w → taken l ≡ step.Part p → Prints mem names w (l ∷ ls) seen wrote start now → PartAsks mem names p seen
+    → CanPrint mem names w → taken l ≡ step.Part p → PrintsEach mem names w (l ∷ ls) seen wrote start now → PartAsks mem names p seen
 part-asks mem names w l ls p seen wrote start now h e g =
     let here = g always h.shared h.tree h.standing in
     let n = comes-part always h.shared mem names h.tree l ls p seen wrote start now e here in
@@ -415,21 +416,21 @@ pub begins-kept : (mem : List ℕ) (names : List (List ℕ)) (p : Part) (seen wo
 begins-kept mem names p seen word at a = let P : ℕ → Type 0 = λ z. CanBegin mem names z in subst P (sym at) a.begins
 
 pub level-gathers : {K : Type 0} (mem : List ℕ) (names : List (List ℕ)) (w : ℕ) (l : Level) (ls : List Level) (seen : ℕ) (wrote : K → List ℕ → Type 0) (start now : K) → CanPrint mem names w
-    → Prints mem names w (l ∷ ls) seen wrote start now → CanGather mem l
+    → PrintsEach mem names w (l ∷ ls) seen wrote start now → CanGather mem l
 level-gathers mem names w l ls seen wrote start now h g =
     let here = g always h.shared h.tree h.standing in
     let top = top-left always h.shared mem l ls here.rests here.left in
     record { shared = h.shared; ts = top.top; left = top.is_left }
 
 pub level-counts : {K : Type 0} (mem : List ℕ) (names : List (List ℕ)) (w : ℕ) (l : Level) (ls : List Level) (seen : ℕ) (wrote : K → List ℕ → Type 0) (start now : K) → CanPrint mem names w
-    → length mem ≤ 2 ^ 24 → Prints mem names w (l ∷ ls) seen wrote start now → IsCountable l
+    → length mem ≤ 2 ^ 24 → PrintsEach mem names w (l ∷ ls) seen wrote start now → IsCountable l
 level-counts mem names w l ls seen wrote start now h most g =
     let here = g always h.shared h.tree h.standing in
     let top = top-left always h.shared mem l ls here.rests here.left in
     countable always h.shared mem l top.top most top.is_left
 
 pub seen-few : {K : Type 0} (mem : List ℕ) (names : List (List ℕ)) (w : ℕ) (levels : List Level) (seen : ℕ) (wrote : K → List ℕ → Type 0) (start now : K) → CanPrint mem names w
-    → Prints mem names w levels seen wrote start now → seen ≤ node_limit
+    → PrintsEach mem names w levels seen wrote start now → seen ≤ node_limit
 seen-few mem names w levels seen wrote start now h g =
     let here = g always h.shared h.tree h.standing in
     let f = here.fits (printable mem names w h) in
@@ -453,7 +454,7 @@ shallow-few c shared mem (l ∷ ls) [] bad s = absurd bad
 shallow-few c shared mem (l ∷ ls) (ts ∷ rests) left s = omega (arith, s.0)
 
 pub levels-few : {K : Type 0} (mem : List ℕ) (names : List (List ℕ)) (w : ℕ) (levels : List Level) (seen : ℕ) (wrote : K → List ℕ → Type 0) (start now : K) → CanPrint mem names w
-    → Prints mem names w levels seen wrote start now → length levels ≤ depth_limit + 1
+    → PrintsEach mem names w levels seen wrote start now → length levels ≤ depth_limit + 1
 levels-few mem names w levels seen wrote start now h g =
     let here = g always h.shared h.tree h.standing in
     shallow-few always h.shared mem levels here.rests here.left (here.fits (printable mem names w h)).shallow
@@ -464,7 +465,7 @@ keeps-room n m xs ys new len is few = omega (arith, len, few, ap length is, one-
 
 -- Nothing is left where levels beyond those of a walk stay free.
 pub none-left : {K : Type 0} (mem : List ℕ) (names : List (List ℕ)) (w : ℕ) (items : List Level) (seen : ℕ) (wrote : K → List ℕ → Type 0) (start now : K) → CanPrint mem names w
-    → Prints mem names w (reverse items) seen wrote start now → (items ≡ []) ⊎ (length items ≡ depth_limit + 2) → reverse items ≡ []
+    → PrintsEach mem names w (reverse items) seen wrote start now → (items ≡ []) ⊎ (length items ≡ depth_limit + 2) → reverse items ≡ []
 none-left mem names w items seen wrote start now h g (inl e) = ap reverse e
 none-left mem names w items seen wrote start now h g (inr e) = absurd (omega (arith, e, levels-few mem names w (reverse items) seen wrote start now h g, length-reverse items))
 
@@ -484,7 +485,7 @@ unwritten wrote faults start now x e (Err f) failed w = record { all = tt; part 
 -- The first word's term was begun.
 pub begun-first : {K E : Type 0} (mem : List ℕ) (names : List (List ℕ)) (w : ℕ) (old new : List Level) (wrote : K → List ℕ → Type 0) (faults : K → ℕ) (start after : K) (u : Unit {0}) → old ≡ []
     → CanPrint mem names w
-    → ((c : ℕ → ℕ → Bool) (shared : List (List ℕ)) (now : Tree) → Stands c shared mem w now → Begins {K = K} {E = E} c shared mem names [] false now old new wrote faults start after (Ok u))
+    → ((c : ℕ → ℕ → Bool) (shared : List (List ℕ)) (now : Tree) → Stands c shared mem w now → BeginsText {K = K} {E = E} c shared mem names [] false now old new wrote faults start after (Ok u))
     → Begun mem names w new 1 wrote faults start after
 begun-first {K} {E} mem names w old new wrote faults start after u none h b = record {
   prints = prints-first mem names w old new wrote faults start after u none b;

@@ -10,7 +10,7 @@ use Rattle.plain_term.specs.Bytes.{bytes_of}
 use Rattle.plain_term.specs.Text.{placed}
 use Rattle.term_words.specs.Role.{always}
 use Rattle.term_words.specs.Stands.{Stands, IsTerm}
-use Rattle.term_read.specs.Look.{IsSeen, LiesIn, Sees}
+use Rattle.term_read.specs.Look.{IsSeen, LiesInMemory, Sees}
 use Rattle.term_read.specs.declared.looks.Look.{Look}
 use Rattle.term_read.specs.declared.looks.Look.TheVariants as look
 use Rattle.term_order.specs.Named.{is_named, are_named}
@@ -19,7 +19,7 @@ use Rattle.term_order.proofs.Owning.{both-true, both-are, readable, signed-is}
 use Rattle.term_print.specs.declared.levels.Level.{Level}
 use Rattle.term_print.specs.Left.{after_level, in_turn, level_in}
 use Rattle.term_print.specs.Own.{own_text}
-use Rattle.term_print.specs.Printed.{Begins, CanBegin, Opens}
+use Rattle.term_print.specs.Printed.{BeginsText, CanBegin, Opens}
 use Rattle.text_parts.proofs.Writing.{written-after, written-short}
 use Rattle.term_print.proofs.Texts.{tuple-text, map-text, nodes-turn, deep-turn, named-turn}
 
@@ -90,7 +90,7 @@ opens c shared mem names w tail (Part base offset len) l (v, e, sb, size, from) 
 
 -- What beginning a word's term asks for.
 
-pub begins-readable : (mem : List ℕ) (names : List (List ℕ)) (word : ℕ) (l : Look) → CanBegin mem names word → Sees mem word l → LiesIn mem l → IsReadable mem names l
+pub begins-readable : (mem : List ℕ) (names : List (List ℕ)) (word : ℕ) (l : Look) → CanBegin mem names word → Sees mem word l → LiesInMemory mem l → IsReadable mem names l
 begins-readable mem names word l h sees lies =
     readable always names h.shared mem word h.now l h.standing (sees.each always h.shared h.now h.standing) lies h.named
 
@@ -103,7 +103,7 @@ pub begins : {K E : Type 0} (c : ℕ → ℕ → Bool) (shared : List (List ℕ)
     (old new : List Level) (kept : Option Level)
     (wrote : K → List ℕ → Type 0) (faults : K → ℕ) (before mid after : K) (r : Result (Unit {0}) E) → IsSeen c shared mem w now l → kept ≡ level_in l tail → new ≡ after_level kept old → put ≡ mark
     → Grew wrote before mid put → faults mid ≡ faults before → Written wrote faults mid after (own_text names tail (bytes_of shared now) l) r
-    → Begins c shared mem names mark tail now old new wrote faults before after r
+    → BeginsText c shared mem names mark tail now old new wrote faults before after r
 begins {K} {E} c shared mem names mark put tail now w l old new kept wrote faults before mid after r seen is levels marked grew told written =
     let P : List ℕ → Type 0 = λ z. Written {K = K} {E = E} wrote faults before after (z ++ own_text names tail (bytes_of shared now) l) r in
     record {
@@ -118,7 +118,7 @@ pub begins-badly : {K E F : Type 0} (c : ℕ → ℕ → Bool) (shared : List (L
     (old new : List Level) (kept : Option Level)
     (wrote : K → List ℕ → Type 0) (faults : K → ℕ) (before after : K) (e : E) (r : Result (Unit {0}) F) → IsErr r → IsSeen c shared mem w now l → kept ≡ level_in l tail
     → new ≡ after_level kept old → put ≡ mark
-    → Written wrote faults before after put (Err e) → Begins c shared mem names mark tail now old new wrote faults before after r
+    → Written wrote faults before after put (Err e) → BeginsText c shared mem names mark tail now old new wrote faults before after r
 begins-badly {K} {E} {F} c shared mem names mark put tail now w l old new kept wrote faults before after e r failed seen is levels marked written =
     let P : List ℕ → Type 0 = λ z. Written {K = K} {E = F} wrote faults before after (z ++ own_text names tail (bytes_of shared now) l) r in
     record {

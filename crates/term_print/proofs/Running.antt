@@ -13,7 +13,7 @@ use Rattle.term_order.proofs.Owning.{both-true}
 use Rattle.term_print.specs.declared.levels.Level.{Level}
 use Rattle.term_print.specs.declared.levels.Level.TheVariants as level
 use Rattle.term_print.specs.Left.{AreTwo, IsLeft, level_text, list_text}
-use Rattle.term_print.specs.Printed.{HasParts}
+use Rattle.term_print.specs.Printed.{LevelHasParts}
 use Rattle.term_print.specs.Runs.{CanGather, Gathers}
 use Rattle.term_print.proofs.Opening.{opens}
 
@@ -42,7 +42,7 @@ gathers-more c shared mem names l m n came x all ts e g h =
 -- A place with a small integer, and a place behind it.
 
 two-gathered : (c : ℕ → ℕ → Bool) (shared : List (List ℕ)) (mem : List ℕ) (names : List (List ℕ)) (place next : ℕ) (i : ℤ) (h t : Tree) → text_as names shared false h ≡ signed_decimal i
-    → HasParts c shared mem names true t (codes ",") (level.List next) → Gathers c shared mem names (level.List place) (level.List next) (signed_decimal i ++ codes ",") (h ▹ (t ▹ end))
+    → LevelHasParts c shared mem names true t (codes ",") (level.List next) → Gathers c shared mem names (level.List place) (level.List next) (signed_decimal i ++ codes ",") (h ▹ (t ▹ end))
 two-gathered c shared mem names place next i h t e o = record {
   rest = o.parts;
   left = o.left;

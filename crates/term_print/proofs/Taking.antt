@@ -9,7 +9,7 @@ use Rattle.plain_term.specs.Text.{text_as}
 use Rattle.term_words.specs.Stands.{Stands, RowStands, KeysStand, ValuesStand}
 use Rattle.term_read.specs.declared.looks.Row.{Row}
 use Rattle.term_read.specs.declared.looks.PairRows.{PairRows}
-use Rattle.term_walk.specs.Left.{IsRow, IsTail}
+use Rattle.term_walk.specs.Left.{RowStandsFor, IsTail}
 use Rattle.term_walk.proofs.Steps.{chosen}
 use Rattle.term_print.specs.declared.levels.Mark.{Mark}
 use Rattle.term_print.specs.declared.levels.Mark.TheVariants.{Nothing, Comma, Arrow}
@@ -98,7 +98,7 @@ tail-took c shared mem names place ts r =
 regroup : (a b x y : List ℕ) → (a ++ (b ++ x)) ++ y ≡ a ++ (b ++ (x ++ y))
 regroup a b x y = append_assoc a (b ++ x) y ∙ ap (λ z. a ++ z) (append_assoc b x y)
 
-row-took : (c : ℕ → ℕ → Bool) (shared : List (List ℕ)) (mem : List ℕ) (names : List (List ℕ)) (row : Row) (mark : Mark) (last : Bool) (ts : Trees) → IsRow c shared mem row ts → 0 < row.len
+row-took : (c : ℕ → ℕ → Bool) (shared : List (List ℕ)) (mem : List ℕ) (names : List (List ℕ)) (row : Row) (mark : Mark) (last : Bool) (ts : Trees) → RowStandsFor c shared mem row ts → 0 < row.len
     → Took c shared mem names (level.Parts row mark last) (part_taken row mark last) ts
 unfolding RowStands
 row-took c shared mem names row mark last end r some = absurd (omega (arith, r.count))
@@ -113,7 +113,7 @@ row-took c shared mem names row mark last (t ▹ ts) r some = record {
   deep = (omega arith, omega arith);
 }
 
-row-end : (c : ℕ → ℕ → Bool) (shared : List (List ℕ)) (mem : List ℕ) (row : Row) (ts : Trees) → IsRow c shared mem row ts → row.len ≡ 0 → ts ≡ end
+row-end : (c : ℕ → ℕ → Bool) (shared : List (List ℕ)) (mem : List ℕ) (row : Row) (ts : Trees) → RowStandsFor c shared mem row ts → row.len ≡ 0 → ts ≡ end
 row-end c shared mem row end r none = refl
 row-end c shared mem row (t ▹ ts) r none = absurd (omega (arith, r.count))
 

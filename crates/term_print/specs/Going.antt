@@ -63,14 +63,15 @@ pub record Printing {K : Type 0} (c : ℕ → ℕ → Bool) (shared : List (List
   pub fits : IsPrintable (length names) shared t → StaysPrintable (length names) shared levels rests seen
 
 -- So it is for each tree that the first word stands for.
-abbrev pub Prints : {K : Type 0} → List ℕ → (names : List (List ℕ)) → (first : ℕ) → List Level → (seen : ℕ) → (K → List ℕ → Type 0) → (start now : K) → Type 0
-Prints mem names first levels seen wrote start now =
+abbrev pub PrintsEach : {K : Type 0} → List ℕ → (names : List (List ℕ)) → (first : ℕ) → List Level → (seen : ℕ) → (K → List ℕ → Type 0) → (start now : K)
+    → Type 0
+PrintsEach mem names first levels seen wrote start now =
     (c : ℕ → ℕ → Bool) (shared : List (List ℕ)) (t : Tree) → Stands c shared mem first t → Printing c shared mem names t levels seen wrote start now
 
 -- The term was begun with the sink as it was at the start, no fault came, and this is left.
 pub record Begun {K : Type 0} (mem : List ℕ) (names : List (List ℕ)) (first : ℕ) (levels : List Level) (seen : ℕ) (wrote : K → List ℕ → Type 0) (faults : K → ℕ)
     (start now : K) : Type 0 where
-  pub prints : Prints mem names first levels seen wrote start now
+  pub prints : PrintsEach mem names first levels seen wrote start now
   pub told : faults now ≡ faults start
 
 -- Some term that can be printed was begun.
@@ -95,14 +96,14 @@ Continues {K} mem names old before new seen wrote faults entry now =
     (first : ℕ) (start : K) → Begun mem names first old before wrote faults start entry → Begun mem names first new seen wrote faults start now
 
 -- So it is of each such term, or a fault came.
-abbrev pub Goes : {K E : Type 0} → (mem : List ℕ) (names : List (List ℕ)) (old : List Level) (before : ℕ) (new : List Level) (wrote : K → List ℕ → Type 0)
+abbrev pub PrintsOn : {K E : Type 0} → (mem : List ℕ) (names : List (List ℕ)) (old : List Level) (before : ℕ) (new : List Level) (wrote : K → List ℕ → Type 0)
     (faults : K → ℕ) (entry now : K) → Result ℕ E → Type 0
-Goes {K} mem names old before new wrote faults entry now result =
+PrintsOn {K} mem names old before new wrote faults entry now result =
     (first : ℕ) (start : K) → Begun mem names first old before wrote faults start entry → GoesOn mem names first new wrote faults start now result
 
 -- The text of each such term is whole then.
-abbrev pub Ends : {K E : Type 0} → (mem : List ℕ) (names : List (List ℕ)) (old : List Level) (before : ℕ) (wrote : K → List ℕ → Type 0) (faults : K → ℕ)
+abbrev pub PrintsAll : {K E : Type 0} → (mem : List ℕ) (names : List (List ℕ)) (old : List Level) (before : ℕ) (wrote : K → List ℕ → Type 0) (faults : K → ℕ)
     (entry now : K) → Result (Unit {0}) E → Type 0
-Ends {K} mem names old before wrote faults entry now result =
+PrintsAll {K} mem names old before wrote faults entry now result =
     (first : ℕ) (start : K) → Begun mem names first old before wrote faults start entry
     → (c : ℕ → ℕ → Bool) (shared : List (List ℕ)) (t : Tree) → Stands c shared mem first t → Written wrote faults start now (text names shared t) result

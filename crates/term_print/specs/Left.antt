@@ -10,7 +10,7 @@ use Rattle.term_read.specs.declared.looks.Row.{Row}
 use Rattle.term_read.specs.declared.looks.PairRows.{PairRows}
 use Rattle.term_read.specs.declared.looks.Look.{Look}
 use Rattle.term_read.specs.declared.looks.Look.TheVariants as look
-use Rattle.term_walk.specs.Left.{IsRow, IsShort, IsTail, row_after}
+use Rattle.term_walk.specs.Left.{RowStandsFor, IsShort, IsTail, row_after}
 use Rattle.term_print.specs.declared.levels.Mark.{Mark}
 use Rattle.term_print.specs.declared.levels.Mark.TheVariants.{Nothing, Comma, Arrow}
 use Rattle.term_print.specs.declared.levels.Level.{Level}
@@ -105,7 +105,7 @@ pub record ArePairs (c : ℕ → ℕ → Bool) (shared : List (List ℕ)) (mem :
 abbrev pub IsLeft : (ℕ → ℕ → Bool) → List (List ℕ) → List ℕ → Level → Trees → Type 0
 IsLeft c shared mem (level.List place) ts = AreTwo c shared mem place ts
 IsLeft c shared mem (level.Tail place) ts = IsTail c shared mem place ts
-IsLeft c shared mem (level.Parts row mark last) ts = IsRow c shared mem row ts
+IsLeft c shared mem (level.Parts row mark last) ts = RowStandsFor c shared mem row ts
 IsLeft c shared mem (level.Pairs rows mark last) ts = ArePairs c shared mem rows mark ts
 
 -- What is written before the part behind this one: of pairs an arrow and a comma in turn, else a comma.

@@ -27,7 +27,7 @@ pub record CanBegin (mem : List ℕ) (names : List (List ℕ)) (word : ℕ) : Ty
   pub named : is_named (length names) now ≡ true
 
 -- The level has the parts of the tree, whose text is its own and then that of the level.
-pub record HasParts (c : ℕ → ℕ → Bool) (shared : List (List ℕ)) (mem : List ℕ) (names : List (List ℕ)) (tail : Bool)
+pub record LevelHasParts (c : ℕ → ℕ → Bool) (shared : List (List ℕ)) (mem : List ℕ) (names : List (List ℕ)) (tail : Bool)
     (now : Tree) (own : List ℕ) (l : Level) : Type 0 where
   pub parts : Trees
   pub left : IsLeft c shared mem l parts
@@ -41,10 +41,10 @@ pub record HasParts (c : ℕ → ℕ → Bool) (shared : List (List ℕ)) (mem :
 abbrev pub Opens : (ℕ → ℕ → Bool) → (shared : List (List ℕ)) (mem : List ℕ) (names : List (List ℕ)) → Bool → Tree → (own : List ℕ) → Option Level
     → Type 0
 Opens c shared mem names tail now own None = text_as names shared tail now ≡ own
-Opens c shared mem names tail now own (Some l) = HasParts c shared mem names tail now own l
+Opens c shared mem names tail now own (Some l) = LevelHasParts c shared mem names tail now own l
 
 -- The mark and the tree's own text are written, and the level of its parts is on top of the others.
-pub record Begins {K E : Type 0} (c : ℕ → ℕ → Bool) (shared : List (List ℕ)) (mem : List ℕ) (names : List (List ℕ)) (mark : List ℕ)
+pub record BeginsText {K E : Type 0} (c : ℕ → ℕ → Bool) (shared : List (List ℕ)) (mem : List ℕ) (names : List (List ℕ)) (mark : List ℕ)
     (tail : Bool) (now : Tree) (old new : List Level) (wrote : K → List ℕ → Type 0) (faults : K → ℕ) (before after : K)
     (result : Result (Unit {0}) E) : Type 0 where
   pub own : List ℕ

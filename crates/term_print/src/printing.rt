@@ -6,8 +6,8 @@ ghost use Rattle.plain_term.specs.Tree.{Tree};
 ghost use Rattle.plain_term.specs.Text.{text};
 ghost use Rattle.term_words.specs.Stands.{Stands};
 ghost use Rattle.term_print.specs.Left.{mark_text};
-ghost use Rattle.term_print.specs.Printed.{Begins, CanBegin, CanPrint};
-ghost use Rattle.term_print.specs.Going.{CanGoOn, Ends, Goes};
+ghost use Rattle.term_print.specs.Printed.{BeginsText, CanBegin, CanPrint};
+ghost use Rattle.term_print.specs.Going.{CanGoOn, PrintsAll, PrintsOn};
 
 use crate::levels::{Level, Mark, Step, end_bytes, keep, level_of, mark_bytes, next};
 use crate::own::put_own;
@@ -72,7 +72,7 @@ fn print_deep<K: Sink>(
 ) -> Result<(), SinkFault>
     requires begun { CanGoOn mem.now names.now (reverse few.now.items) seen K.wrote K.faults sink.old }
     requires few { seen ≤ NODE_LIMIT }
-    ensures { Ends mem.now names.now (reverse few.now.items) seen K.wrote K.faults sink.old sink.new result }
+    ensures { PrintsAll mem.now names.now (reverse few.now.items) seen K.wrote K.faults sink.old sink.new result }
 {
     let mut levels: ArrayVec<Level, ALL_LEVELS> = ArrayVec::new();
     let Ok(()) = levels.try_extend_from_slice(few.as_slice()) else {
@@ -92,7 +92,7 @@ fn print_left<K: Sink, const N: usize>(
 ) -> Result<u64, SinkFault>
     requires begun { CanGoOn mem.now names.now (reverse levels.old.items) before K.wrote K.faults sink.old }
     requires few { before ≤ NODE_LIMIT }
-    ensures on { Goes mem.now names.now (reverse levels.old.items) before (reverse levels.new.items) K.wrote K.faults sink.old sink.new result }
+    ensures on { PrintsOn mem.now names.now (reverse levels.old.items) before (reverse levels.new.items) K.wrote K.faults sink.old sink.new result }
     ensures few { IfOk result (λ seen. seen ≤ NODE_LIMIT) }
     ensures all { OnOk result ((levels.new.items ≡ []) ⊎ (length levels.new.items ≡ N)) }
 {
@@ -131,7 +131,7 @@ fn begin<K: Sink, const N: usize>(
     requires can { CanBegin mem.now names.now word }
     requires room { length levels.old.items < N }
     ensures { (c : ℕ → ℕ → Bool) (shared : List (List ℕ)) (now : Tree) → Stands c shared mem.now word now
-        → Begins c shared mem.now names.now (mark_text mark) tail now (reverse levels.old.items) (reverse levels.new.items)
+        → BeginsText c shared mem.now names.now (mark_text mark) tail now (reverse levels.old.items) (reverse levels.new.items)
         K.wrote K.faults sink.old sink.new result }
 {
     let look = look_at(mem, word);

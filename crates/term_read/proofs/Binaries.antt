@@ -7,10 +7,10 @@ use Rattle.plain_term.specs.Tree.Tree.{Int, Bin, Shared, Part}
 use Rattle.term_words.specs.Role.{always}
 use Rattle.term_words.specs.Object.{byte_of, BytesLie}
 use Rattle.term_words.specs.Stands.{Stands, IsTerm, IsBase}
-use Rattle.term_read.specs.Parts.{binary_of, whole_of, Tells, byte_len_in, byte_in}
+use Rattle.term_read.specs.Parts.{binary_of, whole_of, TellsOf, byte_len_in, byte_in}
 use Rattle.term_read.specs.Data.{BytesFrom, IsData, HasData, IsFirst, HasFirst}
 use Rattle.term_read.specs.declared.looks.Bytes.{Bytes}
-use Rattle.term_words.proofs.Shapes.{told}
+use Rattle.term_words.proofs.ByKind.Shapes.{told}
 
 some-is : {A : Type 0} (x y : A) → Some x ≡ Some y → x ≡ y
 some-is x y e = cc
@@ -121,10 +121,10 @@ len-none : (mem : List ℕ) (o : Option (List ℕ)) → IsData mem o None → No
 len-none mem None e = refl
 len-none mem (Some bytes) (x, e, b, l) = absurd (none-some x e)
 
-pub tells-len : (mem : List ℕ) (w : ℕ) (d : Bytes) → HasData mem w (Some d) → Tells byte_len_in mem w (Some d.len)
+pub tells-len : (mem : List ℕ) (w : ℕ) (d : Bytes) → HasData mem w (Some d) → TellsOf byte_len_in mem w (Some d.len)
 tells-len mem w d h = record { each = λ c shared t s. len-told mem (binary_of shared t) d (h.each c shared t s) }
 
-pub no-len : (mem : List ℕ) (w : ℕ) → HasData mem w None → Tells byte_len_in mem w None
+pub no-len : (mem : List ℕ) (w : ℕ) → HasData mem w None → TellsOf byte_len_in mem w None
 no-len mem w h = record { each = λ c shared t s. len-none mem (binary_of shared t) (h.each c shared t s) }
 
 get-some : (xs : List ℕ) (i : ℕ) → i < length xs → slice_get xs i ≡ Some (get_or xs i 0)
@@ -154,13 +154,13 @@ byte-none : (mem : List ℕ) (o : Option (List ℕ)) (i : ℕ) → IsData mem o 
 byte-none mem None i e = refl
 byte-none mem (Some bytes) i (x, e, b, l) = absurd (none-some x e)
 
-pub tells-byte : (mem : List ℕ) (w i : ℕ) (d : Bytes) → HasData mem w (Some d) → i < d.len → Tells (byte_in i) mem w (Some (byte_of (get_or mem (d.first + (d.start + i) / 8) 0) ((d.start + i) % 8)))
+pub tells-byte : (mem : List ℕ) (w i : ℕ) (d : Bytes) → HasData mem w (Some d) → i < d.len → TellsOf (byte_in i) mem w (Some (byte_of (get_or mem (d.first + (d.start + i) / 8) 0) ((d.start + i) % 8)))
 tells-byte mem w i d h below = record { each = λ c shared t s. byte-told mem (binary_of shared t) d i (h.each c shared t s) below }
 
-pub past-byte : (mem : List ℕ) (w i : ℕ) (d : Bytes) → HasData mem w (Some d) → d.len ≤ i → Tells (byte_in i) mem w None
+pub past-byte : (mem : List ℕ) (w i : ℕ) (d : Bytes) → HasData mem w (Some d) → d.len ≤ i → TellsOf (byte_in i) mem w None
 past-byte mem w i d h far = record { each = λ c shared t s. byte-past mem (binary_of shared t) d i (h.each c shared t s) far }
 
-pub no-byte : (mem : List ℕ) (w i : ℕ) → HasData mem w None → Tells (byte_in i) mem w None
+pub no-byte : (mem : List ℕ) (w i : ℕ) → HasData mem w None → TellsOf (byte_in i) mem w None
 no-byte mem w i h = record { each = λ c shared t s. byte-none mem (binary_of shared t) i (h.each c shared t s) }
 
 byte-within : (mem : List ℕ) (o : Option (List ℕ)) (d : Bytes) (i : ℕ) → IsData mem o (Some d) → i < d.len → d.first + (d.start + i) / 8 < length mem

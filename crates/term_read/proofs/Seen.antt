@@ -10,7 +10,7 @@ use Rattle.plain_term.specs.Tree.Trees.{end, ◌▹◌}
 use Rattle.plain_term.specs.Tree.Tree.{Int, Atom, Pid, Ref, Nil, Cons, Tuple, Map, Bin, Shared, Part, Fun}
 use Rattle.term_tags.specs.declared.kinds.Kind.{Kind}
 use Rattle.term_tags.specs.declared.kinds.Kind.TheVariants as kind
-use Rattle.term_tags.specs.Kinds.{Reads}
+use Rattle.term_tags.specs.Kinds.{ReadsAs}
 use Rattle.term_tags.specs.Words.{IsSmall, small_value}
 use Rattle.term_tags.specs.Table.{subtag_of, object_for}
 use Rattle.term_tags.specs.declared.layouts.Object.{Object}
@@ -18,15 +18,15 @@ use Rattle.term_tags.specs.declared.layouts.Object.TheVariants as object
 use Rattle.term_words.specs.Role.{always}
 use Rattle.term_words.specs.Object.{IsInt, sign_tag}
 use Rattle.term_words.specs.Stands.{tree_at, Stands, RowStands, IsTerm}
-use Rattle.term_words.proofs.Inside.{boxed-inside}
-use Rattle.term_words.proofs.Makes.{stands-small, stands-atom, stands-pid, stands-nil}
-use Rattle.term_words.proofs.Pairs.{keys-row, values-row, keys-len, values-len}
-use Rattle.term_words.proofs.Rooms.{is-term}
-use Rattle.term_words.proofs.Shapes.{Told, told, row-at}
-use Rattle.term_words.proofs.Single.{single}
+use Rattle.term_words.proofs.ByKind.Inside.{boxed-inside}
+use Rattle.term_words.proofs.ByKind.Makes.{stands-small, stands-atom, stands-pid, stands-nil}
+use Rattle.term_words.proofs.ByKind.Pairs.{keys-row, values-row, keys-len, values-len}
+use Rattle.term_words.proofs.Framing.Rooms.{is-term}
+use Rattle.term_words.proofs.ByKind.Shapes.{Told, told, row-at}
+use Rattle.term_words.proofs.Placing.Single.{single}
 use Rattle.term_read.specs.Data.{BytesFrom, IsData, HasData, HasFirst}
 use Rattle.term_read.specs.Parts.{binary_of}
-use Rattle.term_read.specs.Look.{is_negative, HasDigits, IsSeen, Sees, data_in, AreTerms, LiesIn}
+use Rattle.term_read.specs.Look.{is_negative, HasDigits, IsSeen, Sees, data_in, AreTerms, LiesInMemory}
 use Rattle.term_read.specs.declared.looks.Digits.{Digits}
 use Rattle.term_read.specs.declared.looks.Bytes.{Bytes}
 use Rattle.term_read.specs.declared.looks.PartBytes.{PartBytes}
@@ -45,7 +45,7 @@ small-is : (i : ℤ) → IsSmall i → is_small i ≡ true
 small-is (pos n) h = grind (arith, ints, nat_tests)
 small-is (negsuc n) h = grind (arith, ints, nat_tests)
 
-sees-small : (mem : List ℕ) (w : ℕ) (i : ℤ) → Reads w (kind.Small i) → Sees mem w (look.Small i)
+sees-small : (mem : List ℕ) (w : ℕ) (i : ℤ) → ReadsAs w (kind.Small i) → Sees mem w (look.Small i)
 sees-small mem w i (range, word) = alone mem w (Int i) (look.Small i) (stands-small always [] mem w i (small-is i range) (sym word)) (λ c shared. inl (small-is i range, refl))
 
 -- In the 64 bits of a word an integer that is small is itself.
@@ -53,16 +53,16 @@ small-fits : (i : ℤ) → IsSmall i → to_z w64 (of_z w64 i) ≡ i
 small-fits (pos n) h = to_z-of_z w64 (pos n) (omega (arith, ints))
 small-fits (negsuc n) h = to_z-of_z w64 (negsuc n) (omega (arith, ints))
 
-pub sees-small-word : (mem : List ℕ) (w : ℕ) (i : ℤ) → Reads w (kind.Small i) → Sees mem w (look.Small (to_z w64 (of_z w64 i)))
+pub sees-small-word : (mem : List ℕ) (w : ℕ) (i : ℤ) → ReadsAs w (kind.Small i) → Sees mem w (look.Small (to_z w64 (of_z w64 i)))
 sees-small-word mem w i r = let P : ℤ → Type 0 = λ x. Sees mem w (look.Small x) in subst P (sym (small-fits i r.0)) (sees-small mem w i r)
 
-pub sees-atom : (mem : List ℕ) (w k : ℕ) → Reads w (kind.Atom k) → Sees mem w (look.Atom k)
+pub sees-atom : (mem : List ℕ) (w k : ℕ) → ReadsAs w (kind.Atom k) → Sees mem w (look.Atom k)
 sees-atom mem w k (range, word) = alone mem w (Atom k) (look.Atom k) (stands-atom always [] mem w k range (sym word)) (λ c shared. refl)
 
-pub sees-pid : (mem : List ℕ) (w n : ℕ) → Reads w (kind.Pid n) → Sees mem w (look.Pid n)
+pub sees-pid : (mem : List ℕ) (w n : ℕ) → ReadsAs w (kind.Pid n) → Sees mem w (look.Pid n)
 sees-pid mem w n (range, word) = alone mem w (Pid n) (look.Pid n) (stands-pid always [] mem w n range (sym word)) (λ c shared. refl)
 
-pub sees-nil : (mem : List ℕ) (w : ℕ) → Reads w kind.Nil → Sees mem w look.Nil
+pub sees-nil : (mem : List ℕ) (w : ℕ) → ReadsAs w kind.Nil → Sees mem w look.Nil
 sees-nil mem w word = alone mem w Nil look.Nil (stands-nil always [] mem w (sym word)) (λ c shared. refl)
 
 -- A cons.
@@ -375,25 +375,25 @@ pub two-terms : (c : ℕ → ℕ → Bool) (shared : List (List ℕ)) (mem : Lis
 unfolding RowStands
 two-terms c shared mem p h t inside sh st = row-terms c shared mem p 2 (h ▹ t ▹ end) inside refl (sh, (st, tt))
 
-lies : (c : ℕ → ℕ → Bool) (shared : List (List ℕ)) (mem : List ℕ) (w : ℕ) (t : Tree) (l : Look) → IsSeen c shared mem w t l → LiesIn mem l
-lies c shared mem w (Int i) l (inl (small, e)) = subst (LiesIn mem) (sym e) tt
-lies c shared mem w (Int i) l (inr (d, has, e)) = subst (LiesIn mem) (sym e) tt
-lies c shared mem w (Atom k) l e = subst (LiesIn mem) (sym e) tt
-lies c shared mem w (Pid n) l e = subst (LiesIn mem) (sym e) tt
-lies c shared mem w (Ref n k) l e = subst (LiesIn mem) (sym e) tt
-lies c shared mem w Nil l e = subst (LiesIn mem) (sym e) tt
-lies c shared mem w (Cons h t) l (e, inside, sh, st) = subst (LiesIn mem) (sym e) (two-terms c shared mem (w / 4) h t inside sh st)
-lies c shared mem w (Tuple ts) l (e, inside, row) = subst (LiesIn mem) (sym e) (row-terms c shared mem (w / 4 + 1) (trees_len ts) ts inside refl row)
-lies c shared mem w (Map ps) l (e, keys, values, ks, vs) = subst (LiesIn mem) (sym e) (
+lies : (c : ℕ → ℕ → Bool) (shared : List (List ℕ)) (mem : List ℕ) (w : ℕ) (t : Tree) (l : Look) → IsSeen c shared mem w t l → LiesInMemory mem l
+lies c shared mem w (Int i) l (inl (small, e)) = subst (LiesInMemory mem) (sym e) tt
+lies c shared mem w (Int i) l (inr (d, has, e)) = subst (LiesInMemory mem) (sym e) tt
+lies c shared mem w (Atom k) l e = subst (LiesInMemory mem) (sym e) tt
+lies c shared mem w (Pid n) l e = subst (LiesInMemory mem) (sym e) tt
+lies c shared mem w (Ref n k) l e = subst (LiesInMemory mem) (sym e) tt
+lies c shared mem w Nil l e = subst (LiesInMemory mem) (sym e) tt
+lies c shared mem w (Cons h t) l (e, inside, sh, st) = subst (LiesInMemory mem) (sym e) (two-terms c shared mem (w / 4) h t inside sh st)
+lies c shared mem w (Tuple ts) l (e, inside, row) = subst (LiesInMemory mem) (sym e) (row-terms c shared mem (w / 4 + 1) (trees_len ts) ts inside refl row)
+lies c shared mem w (Map ps) l (e, keys, values, ks, vs) = subst (LiesInMemory mem) (sym e) (
   row-terms c shared mem (get_or mem (w / 4 + 2) 0 / 4 + 1) (pairs_len ps) (keys_of ps) keys (sym (keys-len ps)) (keys-row c shared mem (get_or mem (w / 4 + 2) 0 / 4 + 1) ps ks),
   row-terms c shared mem (w / 4 + 3) (pairs_len ps) (values_of ps) values (sym (values-len ps)) (values-row c shared mem (w / 4 + 3) ps vs),
 )
-lies c shared mem w (Fun name arity creator env) l (e, inside, row) = subst (LiesIn mem) (sym e) (row-terms c shared mem (w / 4 + 6) (trees_len env) env inside refl row)
-lies c shared mem w (Bin bytes) l (e, from) = subst (LiesIn mem) (sym e) from.within
-lies c shared mem w (Shared id) l (e, from) = subst (LiesIn mem) (sym e) from.within
-lies c shared mem w (Part base offset len) l (v, e, sb, size, from) = subst (LiesIn mem) (sym e) (is-term c shared mem (get_or mem (w / 4 + 4) 0) base sb, λ i below. from.within i (omega arith))
+lies c shared mem w (Fun name arity creator env) l (e, inside, row) = subst (LiesInMemory mem) (sym e) (row-terms c shared mem (w / 4 + 6) (trees_len env) env inside refl row)
+lies c shared mem w (Bin bytes) l (e, from) = subst (LiesInMemory mem) (sym e) from.within
+lies c shared mem w (Shared id) l (e, from) = subst (LiesInMemory mem) (sym e) from.within
+lies c shared mem w (Part base offset len) l (v, e, sb, size, from) = subst (LiesInMemory mem) (sym e) (is-term c shared mem (get_or mem (w / 4 + 4) 0) base sb, λ i below. from.within i (omega arith))
 
-pub lies-in : (mem : List ℕ) (w : ℕ) (l : Look) → IsTerm mem w → Sees mem w l → LiesIn mem l
+pub lies-in : (mem : List ℕ) (w : ℕ) (l : Look) → IsTerm mem w → Sees mem w l → LiesInMemory mem l
 lies-in mem w l i s = lies always i.shared mem w i.tree l (s.each always i.shared i.tree i.standing)
 
 -- A word that stands is read as no header, and as no word of no kind.

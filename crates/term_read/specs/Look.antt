@@ -68,12 +68,12 @@ abbrev pub HasBytes : List ℕ → Bytes → Type 0
 HasBytes mem b = (i : ℕ) → i < b.len → b.first + (b.start + i) / 8 < length mem
 
 -- The places that the look tells lie in the memory, and the words of its parts stand for trees.
-abbrev pub LiesIn : List ℕ → Look → Type 0
-LiesIn mem (look.Cons place) = AreTerms mem place 2
-LiesIn mem (look.Tuple row) = AreTerms mem row.first row.len
-LiesIn mem (look.Map rows) = AreTerms mem rows.keys rows.len × AreTerms mem rows.values rows.len
-LiesIn mem (look.Fun parts) = AreTerms mem parts.env.first parts.env.len
-LiesIn mem (look.Heap bytes) = HasBytes mem bytes
-LiesIn mem (look.Holder bytes) = HasBytes mem bytes
-LiesIn mem (look.Part part) = IsTerm mem part.base × HasBytes mem part.bytes
-LiesIn mem _ = Unit {0}
+abbrev pub LiesInMemory : List ℕ → Look → Type 0
+LiesInMemory mem (look.Cons place) = AreTerms mem place 2
+LiesInMemory mem (look.Tuple row) = AreTerms mem row.first row.len
+LiesInMemory mem (look.Map rows) = AreTerms mem rows.keys rows.len × AreTerms mem rows.values rows.len
+LiesInMemory mem (look.Fun parts) = AreTerms mem parts.env.first parts.env.len
+LiesInMemory mem (look.Heap bytes) = HasBytes mem bytes
+LiesInMemory mem (look.Holder bytes) = HasBytes mem bytes
+LiesInMemory mem (look.Part part) = IsTerm mem part.base × HasBytes mem part.bytes
+LiesInMemory mem _ = Unit {0}

@@ -66,16 +66,16 @@ whole_of shared (Shared id) = Some (bytes_of shared (Shared id))
 whole_of shared _ = None
 
 -- The answer is the word of this part, or none where there is no such part.
-abbrev pub Answers : (ℕ → ℕ → Bool) → List (List ℕ) → List ℕ → Option Tree → Option ℕ → Type 0
-Answers c shared mem None result = result ≡ None
-Answers c shared mem (Some t) result = (v : ℕ) × (result ≡ Some v) × Stands c shared mem v t
+abbrev pub AnswersPart : (ℕ → ℕ → Bool) → List (List ℕ) → List ℕ → Option Tree → Option ℕ → Type 0
+AnswersPart c shared mem None result = result ≡ None
+AnswersPart c shared mem (Some t) result = (v : ℕ) × (result ≡ Some v) × Stands c shared mem v t
 
 -- The answer is the word of the part that f names, of each tree that the word stands for.
-pub record Reads (f : Tree → Option Tree) (mem : List ℕ) (w : ℕ) (result : Option ℕ) : Type 0 where
-  pub each : (c : ℕ → ℕ → Bool) (shared : List (List ℕ)) (t : Tree) → Stands c shared mem w t → Answers c shared mem (f t) result
+pub record FindsPart (f : Tree → Option Tree) (mem : List ℕ) (w : ℕ) (result : Option ℕ) : Type 0 where
+  pub each : (c : ℕ → ℕ → Bool) (shared : List (List ℕ)) (t : Tree) → Stands c shared mem w t → AnswersPart c shared mem (f t) result
 
 -- The answer is what f says, of each tree that the word stands for.
-pub record Tells (f : List (List ℕ) → Tree → Option ℕ) (mem : List ℕ) (w : ℕ) (result : Option ℕ) : Type 0 where
+pub record TellsOf (f : List (List ℕ) → Tree → Option ℕ) (mem : List ℕ) (w : ℕ) (result : Option ℕ) : Type 0 where
   pub each : (c : ℕ → ℕ → Bool) (shared : List (List ℕ)) (t : Tree) → Stands c shared mem w t → result ≡ f shared t
 
 -- The number of pairs of a map, whatever the shared lists.

@@ -1,6 +1,6 @@
 // The bytes of binaries: on the heap, in a record that a holder names, or a part of either.
 ghost use Rattle.term_words.specs.Stands.{IsTerm};
-ghost use Rattle.term_read.specs.Parts.{Tells, byte_len_in, byte_in};
+ghost use Rattle.term_read.specs.Parts.{TellsOf, byte_len_in, byte_in};
 ghost use Rattle.term_read.specs.Data.{HasData};
 
 use crate::looks::{Bytes, Look, look_at};
@@ -9,7 +9,7 @@ use word_mem::WordMem;
 /// The number of bytes, or `None` where the tree is no binary.
 pub fn byte_len(mem: &WordMem, w: u64) -> Option<u64>
     requires { IsTerm mem.now w }
-    ensures { Tells byte_len_in mem.now w result }
+    ensures { TellsOf byte_len_in mem.now w result }
 {
     let bytes = data_of(mem, w)?;
     Some(bytes.len)
@@ -18,7 +18,7 @@ pub fn byte_len(mem: &WordMem, w: u64) -> Option<u64>
 /// Byte `i`, from 0, or `None` where the tree is no binary or has no such byte.
 pub fn byte_at(mem: &WordMem, w: u64, i: u64) -> Option<u8>
     requires { IsTerm mem.now w }
-    ensures { Tells (byte_in i) mem.now w result }
+    ensures { TellsOf (byte_in i) mem.now w result }
 {
     let _len = mem.len();
     let bytes = data_of(mem, w)?;

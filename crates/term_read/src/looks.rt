@@ -3,7 +3,7 @@ ghost use Rattle.std.specs.Prelude.{◌≡◌, ◌/◌, ◌%◌, slice_index, if
 ghost use Rattle.term_words.specs.Stands.{IsTerm};
 ghost use Rattle.term_tags.specs.declared.layouts.TheConstants.{POS_BIG, NEG_BIG, FUN, SUB_BIN};
 ghost use Rattle.term_read.specs.Data.{HasFirst};
-ghost use Rattle.term_read.specs.Look.{Sees, LiesIn};
+ghost use Rattle.term_read.specs.Look.{Sees, LiesInMemory};
 
 use crate::object::object_at;
 use term_tags::{HEAP_BIN, HOLDER, Kind, Object, kind_of, object_of};
@@ -81,7 +81,7 @@ pub enum Look {
 pub fn look_at(mem: &WordMem, w: u64) -> Look
     requires { IsTerm mem.now w }
     ensures tree { Sees mem.now w result }
-    ensures places { LiesIn mem.now result }
+    ensures places { LiesInMemory mem.now result }
 {
     let _len = mem.len();
     match kind_of(w) {

@@ -1,7 +1,7 @@
 // The parts of tuples.
 ghost use Rattle.std.specs.Prelude.{◌≡◌, ◌+◌, ◌/◌, slice_index, IfSome};
 ghost use Rattle.term_words.specs.Stands.{IsTerm};
-ghost use Rattle.term_read.specs.Parts.{Reads, element_of};
+ghost use Rattle.term_read.specs.Parts.{FindsPart, element_of};
 
 use crate::object::object_at;
 use term_tags::TUPLE;
@@ -10,7 +10,7 @@ use word_mem::WordMem;
 /// The word of part `i`, from 1, or `None` where the tree is no tuple or has no such part.
 pub fn element(mem: &WordMem, w: u64, i: u64) -> Option<u64>
     requires { IsTerm mem.now w }
-    ensures reads { Reads (element_of i) mem.now w result }
+    ensures reads { FindsPart (element_of i) mem.now w result }
     ensures word { IfSome result (λ v. v ≡ slice_index mem.now (w / 4 + i)) }
 {
     let _len = mem.len();

@@ -3,59 +3,59 @@ use Rattle.std.proofs.Common.{◌≡◌, ℕ, ◌+◌, ◌-◌, ◌%◌, ◌/◌
 use Rattle.std.proofs.lemmas.Bool.Decides.{nat_tests}
 use Rattle.term_tags.specs.declared.layouts.Layout.{Layout}
 use Rattle.term_tags.specs.declared.layouts.TheConstants.{TUPLE, POS_BIG, NEG_BIG, REF, FUN, HOLDER, HEAP_BIN, SUB_BIN, MAP}
-use Rattle.term_tags.specs.Table.{row_layout, layout_at, layout_for, shape, IsRow}
+use Rattle.term_tags.specs.Table.{row_layout, layout_at, layout_for, shape, IsOfObject}
 use Rattle.term_tags.specs.Words.{head_word}
 
-by_parts : (h s n : ℕ) → h % 4 ≡ 0 → h / 4 % 16 ≡ s → h / 64 ≡ n → layout_for h ≡ layout_at s n
-by_parts h s n tag sub arity = rw (tag, sub, arity) refl
+by-parts : (h s n : ℕ) → h % 4 ≡ 0 → h / 4 % 16 ≡ s → h / 64 ≡ n → layout_for h ≡ layout_at s n
+by-parts h s n tag sub arity = rw (tag, sub, arity) refl
 
 -- the layout of a header is the row of its subtag
 pub layout_for-head_word : (s n : ℕ) → s < 16 → layout_for (head_word s n) ≡ layout_at s n
-layout_for-head_word s n h = by_parts (head_word s n) s n (omega arith) (omega arith) (omega arith)
+layout_for-head_word s n h = by-parts (head_word s n) s n (omega arith) (omega arith) (omega arith)
 
 within : (n least most first count : ℕ) → least ≤ n → n ≤ most → 1 + n - first ≡ count → row_layout n least most first ≡ shape (1 + n) first count
 within n least most first count low high size = grind (arith, nat_tests)
 
 -- a tuple traces all its parts
-pub layout_tuple : (n : ℕ) → n ≤ 65536 → layout_for (head_word TUPLE n) ≡ shape (1 + n) 1 n
-layout_tuple n h = layout_for-head_word TUPLE n (lit< tt) ∙ within n 0 65536 1 n (omega arith) h (omega arith)
+pub layout-tuple : (n : ℕ) → n ≤ 65536 → layout_for (head_word TUPLE n) ≡ shape (1 + n) 1 n
+layout-tuple n h = layout_for-head_word TUPLE n (lit< tt) ∙ within n 0 65536 1 n (omega arith) h (omega arith)
 
 -- a big integer has one or two digits, and traces nothing
-pub layout_pos_big : (n : ℕ) → 1 ≤ n → n ≤ 2 → layout_for (head_word POS_BIG n) ≡ shape (1 + n) (1 + n) 0
-layout_pos_big n low high = layout_for-head_word POS_BIG n (lit< tt) ∙ within n 1 2 (1 + n) 0 low high (omega arith)
+pub layout-pos-big : (n : ℕ) → 1 ≤ n → n ≤ 2 → layout_for (head_word POS_BIG n) ≡ shape (1 + n) (1 + n) 0
+layout-pos-big n low high = layout_for-head_word POS_BIG n (lit< tt) ∙ within n 1 2 (1 + n) 0 low high (omega arith)
 
-pub layout_neg_big : (n : ℕ) → 1 ≤ n → n ≤ 2 → layout_for (head_word NEG_BIG n) ≡ shape (1 + n) (1 + n) 0
-layout_neg_big n low high = layout_for-head_word NEG_BIG n (lit< tt) ∙ within n 1 2 (1 + n) 0 low high (omega arith)
+pub layout-neg-big : (n : ℕ) → 1 ≤ n → n ≤ 2 → layout_for (head_word NEG_BIG n) ≡ shape (1 + n) (1 + n) 0
+layout-neg-big n low high = layout_for-head_word NEG_BIG n (lit< tt) ∙ within n 1 2 (1 + n) 0 low high (omega arith)
 
 -- a reference traces nothing
-pub layout_ref : layout_for (head_word REF 2) ≡ shape 3 3 0
-layout_ref = refl
+pub layout-ref : layout_for (head_word REF 2) ≡ shape 3 3 0
+layout-ref = refl
 
 -- a fun of k environment words traces these
-pub layout_fun : (k : ℕ) → k ≤ 64 → layout_for (head_word FUN (k + 5)) ≡ shape (6 + k) 6 k
-layout_fun k h =
+pub layout-fun : (k : ℕ) → k ≤ 64 → layout_for (head_word FUN (k + 5)) ≡ shape (6 + k) 6 k
+layout-fun k h =
     let e : row_layout (k + 5) 5 69 6 ≡ shape (1 + (k + 5)) 6 k = within (k + 5) 5 69 6 k (omega arith) (omega arith) (omega arith) in
     let size : 1 + (k + 5) ≡ 6 + k = omega arith in
     layout_for-head_word FUN (k + 5) (lit< tt) ∙ e ∙ rw size refl
 
 -- a holder traces nothing
-pub layout_holder : layout_for (head_word HOLDER 5) ≡ shape 6 6 0
-layout_holder = refl
+pub layout-holder : layout_for (head_word HOLDER 5) ≡ shape 6 6 0
+layout-holder = refl
 
 -- a binary on the heap, with n words for its bytes, traces nothing
-pub layout_heap_bin : (n : ℕ) → n ≤ 8 → layout_for (head_word HEAP_BIN (1 + n)) ≡ shape (2 + n) (2 + n) 0
-layout_heap_bin n h =
+pub layout-heap-bin : (n : ℕ) → n ≤ 8 → layout_for (head_word HEAP_BIN (1 + n)) ≡ shape (2 + n) (2 + n) 0
+layout-heap-bin n h =
     let e : row_layout (1 + n) 1 9 (1 + (1 + n)) ≡ shape (1 + (1 + n)) (1 + (1 + n)) 0 = within (1 + n) 1 9 (1 + (1 + n)) 0 (omega arith) (omega arith) (omega arith) in
     let size : 1 + (1 + n) ≡ 2 + n = omega arith in
     layout_for-head_word HEAP_BIN (1 + n) (lit< tt) ∙ e ∙ rw size refl
 
 -- a sub binary traces its original
-pub layout_sub_bin : layout_for (head_word SUB_BIN 4) ≡ shape 5 4 1
-layout_sub_bin = refl
+pub layout-sub-bin : layout_for (head_word SUB_BIN 4) ≡ shape 5 4 1
+layout-sub-bin = refl
 
 -- a map of n keys traces the tuple of its keys, and its values
-pub layout_map : (n : ℕ) → n ≤ 32 → layout_for (head_word MAP (n + 2)) ≡ shape (3 + n) 2 (n + 1)
-layout_map n h =
+pub layout-map : (n : ℕ) → n ≤ 32 → layout_for (head_word MAP (n + 2)) ≡ shape (3 + n) 2 (n + 1)
+layout-map n h =
     let e : row_layout (n + 2) 2 34 2 ≡ shape (1 + (n + 2)) 2 (n + 1) = within (n + 2) 2 34 2 (n + 1) (omega arith) (omega arith) (omega arith) in
     let size : 1 + (n + 2) ≡ 3 + n = omega arith in
     layout_for-head_word MAP (n + 2) (lit< tt) ∙ e ∙ rw size refl
@@ -66,8 +66,8 @@ chosen : (b : Bool) (x y : Option Layout) → (b ≡ true → x ≡ None) → (b
 chosen true x y first rest = first refl
 chosen false x y first rest = rest refl
 
-is_same : (s k : ℕ) → (s == k) ≡ true → s ≡ k
-is_same s k e = grind (arith, nat_tests)
+is-same : (s k : ℕ) → (s == k) ≡ true → s ≡ k
+is-same s k e = grind (arith, nat_tests)
 
 past : (n least most first : ℕ) → (n < least) ⊎ (most < n) → row_layout n least most first ≡ None
 past n least most first apart = grind (arith, nat_tests, apart)
@@ -77,19 +77,19 @@ out n least most first never =
     let which : ((n < least) ⊎ (most < n)) ⊎ ((least ≤ n) × (n ≤ most)) = grind arith in
     elim which [ inl apart ↦ past n least most first apart | inr (low, high) ↦ absurd (never low high) ]
 
-no_row : (s n : ℕ) → (IsRow s n → ⊥) → layout_at s n ≡ None
-no_row s n never =
-    chosen (s == TUPLE) _ _ (λ e. out n 0 65536 1 (λ low high. never (inl (is_same s TUPLE e, low, high)))) (λ other.
-    chosen (s == POS_BIG) _ _ (λ e. out n 1 2 (1 + n) (λ low high. never (inr (inl (is_same s POS_BIG e, low, high))))) (λ other.
-    chosen (s == NEG_BIG) _ _ (λ e. out n 1 2 (1 + n) (λ low high. never (inr (inr (inl (is_same s NEG_BIG e, low, high)))))) (λ other.
-    chosen (s == REF) _ _ (λ e. out n 2 2 3 (λ low high. never (inr (inr (inr (inl (is_same s REF e, low, high))))))) (λ other.
-    chosen (s == FUN) _ _ (λ e. out n 5 69 6 (λ low high. never (inr (inr (inr (inr (inl (is_same s FUN e, low, high)))))))) (λ other.
-    chosen (s == HOLDER) _ _ (λ e. out n 5 5 6 (λ low high. never (inr (inr (inr (inr (inr (inl (is_same s HOLDER e, low, high))))))))) (λ other.
-    chosen (s == HEAP_BIN) _ _ (λ e. out n 1 9 (1 + n) (λ low high. never (inr (inr (inr (inr (inr (inr (inl (is_same s HEAP_BIN e, low, high)))))))))) (λ other.
-    chosen (s == SUB_BIN) _ _ (λ e. out n 4 4 4 (λ low high. never (inr (inr (inr (inr (inr (inr (inr (inl (is_same s SUB_BIN e, low, high))))))))))) (λ other.
-    chosen (s == MAP) _ _ (λ e. out n 2 34 2 (λ low high. never (inr (inr (inr (inr (inr (inr (inr (inr (is_same s MAP e, low, high))))))))))) (λ other. refl)))))))))
+no-row : (s n : ℕ) → (IsOfObject s n → ⊥) → layout_at s n ≡ None
+no-row s n never =
+    chosen (s == TUPLE) _ _ (λ e. out n 0 65536 1 (λ low high. never (inl (is-same s TUPLE e, low, high)))) (λ other.
+    chosen (s == POS_BIG) _ _ (λ e. out n 1 2 (1 + n) (λ low high. never (inr (inl (is-same s POS_BIG e, low, high))))) (λ other.
+    chosen (s == NEG_BIG) _ _ (λ e. out n 1 2 (1 + n) (λ low high. never (inr (inr (inl (is-same s NEG_BIG e, low, high)))))) (λ other.
+    chosen (s == REF) _ _ (λ e. out n 2 2 3 (λ low high. never (inr (inr (inr (inl (is-same s REF e, low, high))))))) (λ other.
+    chosen (s == FUN) _ _ (λ e. out n 5 69 6 (λ low high. never (inr (inr (inr (inr (inl (is-same s FUN e, low, high)))))))) (λ other.
+    chosen (s == HOLDER) _ _ (λ e. out n 5 5 6 (λ low high. never (inr (inr (inr (inr (inr (inl (is-same s HOLDER e, low, high))))))))) (λ other.
+    chosen (s == HEAP_BIN) _ _ (λ e. out n 1 9 (1 + n) (λ low high. never (inr (inr (inr (inr (inr (inr (inl (is-same s HEAP_BIN e, low, high)))))))))) (λ other.
+    chosen (s == SUB_BIN) _ _ (λ e. out n 4 4 4 (λ low high. never (inr (inr (inr (inr (inr (inr (inr (inl (is-same s SUB_BIN e, low, high))))))))))) (λ other.
+    chosen (s == MAP) _ _ (λ e. out n 2 34 2 (λ low high. never (inr (inr (inr (inr (inr (inr (inr (inr (is-same s MAP e, low, high))))))))))) (λ other. refl)))))))))
 
-pub layout_none : (h : ℕ) → ((s n : ℕ) → IsRow s n → h ≡ head_word s n → ⊥) → layout_for h ≡ None
-layout_none h never = chosen (h % 4 == 0) _ _
-    (λ e. let low : h % 4 ≡ 0 = is_same (h % 4) 0 e in no_row (h / 4 % 16) (h / 64) (λ row. never (h / 4 % 16) (h / 64) row (omega arith)))
+pub layout-none : (h : ℕ) → ((s n : ℕ) → IsOfObject s n → h ≡ head_word s n → ⊥) → layout_for h ≡ None
+layout-none h never = chosen (h % 4 == 0) _ _
+    (λ e. let low : h % 4 ≡ 0 = is-same (h % 4) 0 e in no-row (h / 4 % 16) (h / 64) (λ row. never (h / 4 % 16) (h / 64) row (omega arith)))
     (λ other. refl)

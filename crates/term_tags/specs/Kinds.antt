@@ -28,12 +28,12 @@ word_of (Header subtag arity) = head_word subtag arity
 word_of Other = 0
 
 -- a word reads as the kind whose word it is, and as Other where it is the word of none
-abbrev pub Reads : ℕ → Kind → Type 0
-Reads w (Small i) = IsSmall i × (small_word i ≡ w)
-Reads w (Pid n) = (n < PIDS) × (pid_word n ≡ w)
-Reads w (Atom k) = (k < ATOMS) × (atom_word k ≡ w)
-Reads w Nil = NIL ≡ w
-Reads w (ListAt place) = (place < PLACES) × (list_word place ≡ w)
-Reads w (BoxedAt place) = (place < PLACES) × (boxed_word place ≡ w)
-Reads w (Header subtag arity) = (subtag < SUBTAGS) × (arity < ARITIES) × (head_word subtag arity ≡ w)
-Reads w Other = (k : Kind) → InRange k → word_of k ≢ w
+abbrev pub ReadsAs : ℕ → Kind → Type 0
+ReadsAs w (Small i) = IsSmall i × (small_word i ≡ w)
+ReadsAs w (Pid n) = (n < PIDS) × (pid_word n ≡ w)
+ReadsAs w (Atom k) = (k < ATOMS) × (atom_word k ≡ w)
+ReadsAs w Nil = NIL ≡ w
+ReadsAs w (ListAt place) = (place < PLACES) × (list_word place ≡ w)
+ReadsAs w (BoxedAt place) = (place < PLACES) × (boxed_word place ≡ w)
+ReadsAs w (Header subtag arity) = (subtag < SUBTAGS) × (arity < ARITIES) × (head_word subtag arity ≡ w)
+ReadsAs w Other = (k : Kind) → InRange k → word_of k ≢ w

@@ -60,11 +60,11 @@ abbrev pub shape : (words first count : ℕ) → Option Layout
 shape words first count = Some (record { words = words; first = first; count = count })
 
 -- the subtag is this one, and the arity lies between these bounds
-abbrev pub IsIn : (row least most : ℕ) → (subtag arity : ℕ) → Type 0
-IsIn row least most subtag arity = (subtag ≡ row) × (least ≤ arity) × (arity ≤ most)
+abbrev pub IsInRow : (row least most : ℕ) → (subtag arity : ℕ) → Type 0
+IsInRow row least most subtag arity = (subtag ≡ row) × (least ≤ arity) × (arity ≤ most)
 
 -- the subtag and the arity are those of an object
-abbrev pub IsRow : (subtag arity : ℕ) → Type 0
-IsRow s n = IsIn TUPLE 0 MOST_PARTS s n ⊎ (IsIn POS_BIG 1 2 s n ⊎ (IsIn NEG_BIG 1 2 s n ⊎ (IsIn REF 2 2 s n
-    ⊎ (IsIn FUN 5 (5 + MOST_ENV) s n ⊎ (IsIn HOLDER 5 5 s n ⊎ (IsIn HEAP_BIN 1 (1 + MOST_HEAP_BYTES / 8) s n
-    ⊎ (IsIn SUB_BIN 4 4 s n ⊎ IsIn MAP 2 (2 + MOST_KEYS) s n)))))))
+abbrev pub IsOfObject : (subtag arity : ℕ) → Type 0
+IsOfObject s n = IsInRow TUPLE 0 MOST_PARTS s n ⊎ (IsInRow POS_BIG 1 2 s n ⊎ (IsInRow NEG_BIG 1 2 s n ⊎ (IsInRow REF 2 2 s n
+    ⊎ (IsInRow FUN 5 (5 + MOST_ENV) s n ⊎ (IsInRow HOLDER 5 5 s n ⊎ (IsInRow HEAP_BIN 1 (1 + MOST_HEAP_BYTES / 8) s n
+    ⊎ (IsInRow SUB_BIN 4 4 s n ⊎ IsInRow MAP 2 (2 + MOST_KEYS) s n)))))))

@@ -1,7 +1,7 @@
 // What a word is.
 ghost use Rattle.std.specs.Prelude.{◌≡◌, ◌≢◌, ◌/◌, ◌%◌, ◌^◌, ◌<◌, nat_lt, if◌then◌else◌};
 ghost use Rattle.term_tags.specs.Words.{small_of_bits, small_value};
-ghost use Rattle.term_tags.specs.Kinds.{InRange, word_of, Reads};
+ghost use Rattle.term_tags.specs.Kinds.{InRange, word_of, ReadsAs};
 ghost use Rattle.term_tags.specs.declared.kinds.Kind.{Kind as AnyKind};
 
 /// How many places a pointer can name.
@@ -41,7 +41,7 @@ pub enum Kind {
 /// The kind of a word, by its low bits (The BEAM Book) and the range of what stands above them (this project).
 #[inline]
 pub fn kind_of(w: u64) -> Kind
-    ensures exact { Reads w result }
+    ensures exact { ReadsAs w result }
     ensures back { (k : AnyKind) → InRange k → w ≡ word_of k → result ≡ k }
     ensures small { w % 16 ≡ 15 → result ≡ Kind.Small (small_value w) }
     ensures pid { w % 16 ≡ 3 → w < 2 ^ 45 → result ≡ Kind.Pid (w / 16) }

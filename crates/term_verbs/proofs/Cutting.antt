@@ -8,7 +8,7 @@ use Rattle.plain_term.specs.Bytes.{bytes_of, shared_bytes}
 use Rattle.plain_machine.specs.Parts.{part_in}
 use Rattle.term_words.specs.Stands.{IsBase, Stands}
 use Rattle.term_build.specs.Grows.{Built}
-use Rattle.term_read.specs.Look.{HasBytes, IsSeen, LiesIn}
+use Rattle.term_read.specs.Look.{HasBytes, IsSeen, LiesInMemory}
 use Rattle.term_read.specs.declared.looks.Bytes.{Bytes}
 use Rattle.term_read.specs.declared.looks.Look.{Look}
 use Rattle.term_read.specs.declared.looks.Look.TheVariants as look

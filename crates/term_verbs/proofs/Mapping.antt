@@ -6,7 +6,7 @@ use Rattle.plain_term.specs.Tree.Tree.{Int, Atom, Pid, Ref, Nil, Cons, Tuple, Ma
 use Rattle.plain_term.specs.Beyond.{is_beyond}
 use Rattle.term_tags.specs.declared.layouts.TheConstants.{MOST_KEYS}
 use Rattle.term_words.specs.Stands.{Stands, KeysStand, ValuesStand, AllStand}
-use Rattle.term_words.proofs.Pairs.{keys-len, keys-row, values-len, values-row}
+use Rattle.term_words.proofs.ByKind.Pairs.{keys-len, keys-row, values-len, values-row}
 use Rattle.term_read.specs.Look.{IsSeen}
 use Rattle.term_read.specs.declared.looks.PairRows.{PairRows}
 use Rattle.term_read.specs.declared.looks.Look.{Look}

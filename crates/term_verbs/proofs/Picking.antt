@@ -11,12 +11,12 @@ use Rattle.plain_term.specs.Tree.Pairs.{stop, pair}
 use Rattle.plain_term.specs.Beyond.{is_beyond}
 use Rattle.plain_term.specs.Order.{order}
 use Rattle.plain_term.specs.Proper.{keys_rise}
-use Rattle.plain_term.proofs.TokenLemmas.{order_total}
+use Rattle.plain_term.proofs.TokenLemmas.{order-total}
 use Rattle.plain_machine.specs.Parts.{element_in, env_in, head_in, place_in, tail_in, tree_after, value_in, value_of}
 use Rattle.term_words.specs.Stands.{Stands, tree_at}
-use Rattle.term_words.proofs.Pairs.{keys-len, values-len, values-row}
-use Rattle.term_words.proofs.Shapes.{row-at}
-use Rattle.term_read.specs.Parts.{Answers, element_of, env_of, head_of, part_at, place_of, tail_of}
+use Rattle.term_words.proofs.ByKind.Pairs.{keys-len, values-len, values-row}
+use Rattle.term_words.proofs.ByKind.Shapes.{row-at}
+use Rattle.term_read.specs.Parts.{AnswersPart, element_of, env_of, head_of, part_at, place_of, tail_of}
 use Rattle.term_read.specs.Look.{IsSeen}
 use Rattle.term_read.specs.declared.looks.PairRows.{PairRows}
 use Rattle.term_read.specs.declared.looks.Look.{Look}
@@ -98,7 +98,8 @@ value-named n (pair k v ps) zero h below = and-second (is_named n k) (is_named n
 value-named n (pair k v ps) (suc i) h below = value-named n ps i (and-second (is_named n k && is_named n v) (pairs_named n ps) h) (omega arith)
 
 -- A word that a reader answers stands for a part.
-answered : (c : ℕ → ℕ → Bool) (shared : List (List ℕ)) (mem : List ℕ) (f : Tree → Option Tree) (keeps : KeepsNames f) (t : Tree) (v : ℕ) (o : Option Tree) → f t ≡ o → Answers c shared mem o (Some v)
+answered : (c : ℕ → ℕ → Bool) (shared : List (List ℕ)) (mem : List ℕ) (f : Tree → Option Tree) (keeps : KeepsNames f) (t : Tree) (v : ℕ) (o : Option Tree) → f t ≡ o
+    → AnswersPart c shared mem o (Some v)
     → IsPart c shared mem t v
 answered c shared mem f keeps t v None e a = absurd cc
 answered c shared mem f keeps t v (Some u) e a =
@@ -107,7 +108,7 @@ answered c shared mem f keeps t v (Some u) e a =
     record { tree = u; standing = subst P same a.2; named = λ n named. keeps t u n e named }
 
 pub parts-are : (mem : List ℕ) (w : ℕ) (f : Tree → Option Tree) → KeepsNames f → (r : Option ℕ)
-    → ((c : ℕ → ℕ → Bool) (shared : List (List ℕ)) (t : Tree) → Stands c shared mem w t → Answers c shared mem (f t) r)
+    → ((c : ℕ → ℕ → Bool) (shared : List (List ℕ)) (t : Tree) → Stands c shared mem w t → AnswersPart c shared mem (f t) r)
     → IfSome r (λ v. (c : ℕ → ℕ → Bool) (shared : List (List ℕ)) (t : Tree) → Stands c shared mem w t → IsPart c shared mem t v)
 parts-are mem w f keeps None a = tt
 parts-are mem w f keeps (Some v) a = λ c shared t s. answered c shared mem f keeps t v (f t) refl (a c shared t s)
@@ -124,15 +125,15 @@ module _ (names shared : List (List ℕ)) (k : Tree) where
   pass Equal v rest e = absurd cc
   pass Greater v rest e = refl
 
-  take_it : (o : Ordering) (v : Tree) (rest : Option Tree) → o ≡ Equal → (if is_eq o then Some v else rest) ≡ Some v
-  take_it Less v rest e = absurd cc
-  take_it Equal v rest e = refl
-  take_it Greater v rest e = absurd cc
+  take-it : (o : Ordering) (v : Tree) (rest : Option Tree) → o ≡ Equal → (if is_eq o then Some v else rest) ≡ Some v
+  take-it Less v rest e = absurd cc
+  take-it Equal v rest e = refl
+  take-it Greater v rest e = absurd cc
 
   value-same : (ps : Pairs) (i : ℕ) → i < pairs_len ps → IsAbove names shared (keys_of ps) k i → order names shared k (tree_at (keys_of ps) i) ≡ Equal
       → value_of names shared k ps ≡ Some (tree_at (values_of ps) i)
   value-same stop i below above same = absurd (omega arith)
-  value-same (pair j v ps) zero below above same = take_it (order names shared k j) v (value_of names shared k ps) same
+  value-same (pair j v ps) zero below above same = take-it (order names shared k j) v (value_of names shared k ps) same
   value-same (pair j v ps) (suc i) below above same =
       skip (order names shared k j) v (value_of names shared k ps) (above 0 (omega arith)) ∙ value-same ps i (omega arith) (λ n less. above (suc n) (omega arith)) same
 
@@ -141,7 +142,7 @@ module _ (names shared : List (List ℕ)) (k : Tree) where
   value-less j v stop rise less = pass (order names shared k j) v None less
   value-less j v (pair i u ps) rise less =
       pass (order names shared k j) v (value_of names shared k (pair i u ps)) less
-      ∙ value-less i u ps (rise-rest names shared j v (pair i u ps) rise) ((order_total names shared).trans k j i less (first-below names shared j v (pair i u ps) 0 rise (omega arith)))
+      ∙ value-less i u ps (rise-rest names shared j v (pair i u ps) rise) ((order-total names shared).trans k j i less (first-below names shared j v (pair i u ps) 0 rise (omega arith)))
 
   value-none : (ps : Pairs) (i : ℕ) → i ≤ pairs_len ps → IsAbove names shared (keys_of ps) k i → (i < pairs_len ps → order names shared k (tree_at (keys_of ps) i) ≡ Less)
       → keys_rise names shared ps ≡ true → value_of names shared k ps ≡ None
@@ -162,7 +163,7 @@ module _ (c : ℕ → ℕ → Bool) (names shared : List (List ℕ)) (mem : List
   -- Where the key is found, the word beside it is that of its value.
   pub value-found : (i p : ℕ) → p ≡ rows.values + i → is_beyond shared k ≡ false → HasSorted names shared t
       → ((ps : Pairs) → AreKeys c shared mem rows ps → AreSorted names shared ps → Finds names shared (keys_of ps) k (spot.Same i))
-      → Answers c shared mem (value_in names shared k t) (Some (get_or mem p 0))
+      → AnswersPart c shared mem (value_in names shared k t) (Some (get_or mem p 0))
   value-found i p at small sorted finds =
       let S : Tree → Type 0 = λ z. HasSorted names shared z in
       let f = finds m.pairs (record { count = m.count; keys = m.keys }) (subst S m.is sorted) in
@@ -170,28 +171,28 @@ module _ (c : ℕ → ℕ → Bool) (names shared : List (List ℕ)) (mem : List
       let stands : Stands c shared mem (get_or mem (rows.values + i) 0) (tree_at (values_of m.pairs) i) =
       row-at c shared mem rows.values (values_of m.pairs) i (values-row c shared mem rows.values m.pairs m.values) (omega (arith, below, values-len m.pairs)) in
       let Q : ℕ → Type 0 = λ z. Stands c shared mem (get_or mem z 0) (tree_at (values_of m.pairs) i) in
-      let P : Option Tree → Type 0 = λ z. Answers c shared mem z (Some (get_or mem p 0)) in
+      let P : Option Tree → Type 0 = λ z. AnswersPart c shared mem z (Some (get_or mem p 0)) in
       let R : Tree → Type 0 = λ z. P (value_in names shared k z) in
       subst R (sym m.is) (subst P (sym (value-same names shared k m.pairs i below f.1.0 f.1.1) ∙ unless (is_beyond shared k) (value_of names shared k m.pairs) small)
       (get_or mem p 0, refl, subst Q (sym at) stands))
 
   pub value-lacks : (i : ℕ) → is_beyond shared k ≡ false → HasSorted names shared t
       → ((ps : Pairs) → AreKeys c shared mem rows ps → AreSorted names shared ps → Finds names shared (keys_of ps) k (spot.New i))
-      → Answers c shared mem (value_in names shared k t) None
+      → AnswersPart c shared mem (value_in names shared k t) None
   value-lacks i small sorted finds =
       let S : Tree → Type 0 = λ z. HasSorted names shared z in
       let s = subst S m.is sorted in
       let f = finds m.pairs (record { count = m.count; keys = m.keys }) s in
-      let P : Option Tree → Type 0 = λ z. Answers c shared mem z None in
+      let P : Option Tree → Type 0 = λ z. AnswersPart c shared mem z None in
       let R : Tree → Type 0 = λ z. P (value_in names shared k z) in
       subst R (sym m.is) (subst P
       (sym (value-none names shared k m.pairs i (omega (arith, f.0, keys-len m.pairs)) f.1.0 (λ below. f.1.1 (omega (arith, below, keys-len m.pairs))) s.rise)
       ∙ unless (is_beyond shared k) (value_of names shared k m.pairs) small) refl)
 
-  pub value-beyond : is_beyond shared k ≡ true → Answers c shared mem (value_in names shared k t) None
+  pub value-beyond : is_beyond shared k ≡ true → AnswersPart c shared mem (value_in names shared k t) None
   value-beyond big =
-      let P : Bool → Type 0 = λ z. Answers c shared mem (if z then None else value_of names shared k m.pairs) None in
-      let R : Tree → Type 0 = λ z. Answers c shared mem (value_in names shared k z) None in
+      let P : Bool → Type 0 = λ z. AnswersPart c shared mem (if z then None else value_of names shared k m.pairs) None in
+      let R : Tree → Type 0 = λ z. AnswersPart c shared mem (value_in names shared k z) None in
       subst R (sym m.is) (subst P (sym big) refl)
 
   -- It stands for a part in any case.
@@ -206,6 +207,6 @@ module _ (c : ℕ → ℕ → Bool) (names shared : List (List ℕ)) (mem : List
 
 -- No map has no value.
 pub no-map : (c : ℕ → ℕ → Bool) (names shared : List (List ℕ)) (mem : List ℕ) (w : ℕ) (t k : Tree) (l : Look) → IsSeen c shared mem w t l → ((rows : PairRows) → l ≡ look.Map rows → ⊥)
-    → Answers c shared mem (value_in names shared k t) None
+    → AnswersPart c shared mem (value_in names shared k t) None
 no-map c names shared mem w (Map ps) k l seen none = absurd (none (record { keys = get_or mem (w / 4 + 2) 0 / 4 + 1; values = w / 4 + 3; len = pairs_len ps }) seen.0)
 no-map c names shared mem w _ k l seen none = refl

@@ -7,8 +7,8 @@ use Rattle.plain_term.specs.Tree.Trees.{end, ◌▹◌}
 use Rattle.plain_term.specs.Tree.Pairs.{stop, pair}
 use Rattle.plain_term.specs.Order.{order}
 use Rattle.term_words.specs.Stands.{Stands, RowStands, AllStand, tree_at}
-use Rattle.term_words.proofs.Pairs.{keys-len}
-use Rattle.term_words.proofs.Shapes.{row-first}
+use Rattle.term_words.proofs.ByKind.Pairs.{keys-len}
+use Rattle.term_words.proofs.ByKind.Shapes.{row-first}
 use Rattle.term_maps.specs.InOrder.{by_order, put_pair}
 use Rattle.term_maps.specs.Spots.{Finds, IsAbove}
 use Rattle.term_maps.specs.declared.sorted.Spot.{Spot}

@@ -9,11 +9,11 @@ use Rattle.plain_term.specs.Tree.Pairs.{stop, pair}
 use Rattle.plain_term.specs.Beyond.{is_beyond}
 use Rattle.plain_term.specs.Order.{order}
 use Rattle.plain_term.specs.Proper.{keys_rise}
-use Rattle.plain_term.proofs.TokenLemmas.{order_total}
+use Rattle.plain_term.proofs.TokenLemmas.{order-total}
 use Rattle.term_words.specs.Role.{always}
 use Rattle.term_words.specs.Stands.{Stands, tree_at}
-use Rattle.term_words.proofs.Pairs.{keys-len, keys-row}
-use Rattle.term_words.proofs.Shapes.{row-at}
+use Rattle.term_words.proofs.ByKind.Pairs.{keys-len, keys-row}
+use Rattle.term_words.proofs.ByKind.Shapes.{row-at}
 use Rattle.term_read.specs.declared.looks.PairRows.{PairRows}
 use Rattle.term_order.specs.Named.{is_named, pairs_named}
 use Rattle.term_order.specs.Compared.{AreNamed, Compares, answer_of, compared}
@@ -58,7 +58,7 @@ module _ (names shared : List (List ℕ)) where
   first-below k v stop j h below = absurd (omega arith)
   first-below k v (pair i w ps) zero h below = is-less-than (order names shared k i) (and-first (is_lt (order names shared k i)) (keys_rise names shared (pair i w ps)) h)
   first-below k v (pair i w ps) (suc j) h below =
-      (order_total names shared).trans k i (tree_at (keys_of ps) j) (is-less-than (order names shared k i) (and-first (is_lt (order names shared k i)) (keys_rise names shared (pair i w ps)) h))
+      (order-total names shared).trans k i (tree_at (keys_of ps) j) (is-less-than (order names shared k i) (and-first (is_lt (order names shared k i)) (keys_rise names shared (pair i w ps)) h))
       (first-below i w ps j (and-second (is_lt (order names shared k i)) (keys_rise names shared (pair i w ps)) h) (omega arith))
 
   pub rise-rest : (k v : Tree) (ps : Pairs) → keys_rise names shared (pair k v ps) ≡ true → keys_rise names shared ps ≡ true
@@ -73,10 +73,10 @@ module _ (names shared : List (List ℕ)) where
 
   -- Greater the other way round.
   turned : (a b : Tree) → order names shared a b ≡ Greater → order names shared b a ≡ Less
-  turned a b e = (order_total names shared).antisymm b a ∙ ap ordering_reverse e
+  turned a b e = (order-total names shared).antisymm b a ∙ ap ordering_reverse e
 
   turned-back : (a b : Tree) → order names shared a b ≡ Less → order names shared b a ≡ Greater
-  turned-back a b e = (order_total names shared).antisymm b a ∙ ap ordering_reverse e
+  turned-back a b e = (order-total names shared).antisymm b a ∙ ap ordering_reverse e
 
   -- A key that is greater than one is greater than those before it.
   pub above-upto : (ps : Pairs) (k : Tree) (m : ℕ) → keys_rise names shared ps ≡ true → m < pairs_len ps → order names shared k (tree_at (keys_of ps) m) ≡ Greater
@@ -88,14 +88,14 @@ module _ (names shared : List (List ℕ)) where
         subst P same e
     | no down ↦
         turned-back (tree_at (keys_of ps) j) k
-        ((order_total names shared).trans (tree_at (keys_of ps) j) (tree_at (keys_of ps) m) k (rise-pair ps j m h (omega arith) below) (turned k (tree_at (keys_of ps) m) e))
+        ((order-total names shared).trans (tree_at (keys_of ps) j) (tree_at (keys_of ps) m) k (rise-pair ps j m h (omega arith) below) (turned k (tree_at (keys_of ps) m) e))
   ]
 
   -- One that is the same as a key is greater than those before it.
   pub above-same : (ps : Pairs) (k : Tree) (m : ℕ) → keys_rise names shared ps ≡ true → m < pairs_len ps → order names shared k (tree_at (keys_of ps) m) ≡ Equal
       → IsAbove names shared (keys_of ps) k m
   above-same ps k m h below e j less =
-      (order_total names shared).congr k (tree_at (keys_of ps) m) (tree_at (keys_of ps) j) e ∙ turned-back (tree_at (keys_of ps) j) (tree_at (keys_of ps) m) (rise-pair ps j m h less below)
+      (order-total names shared).congr k (tree_at (keys_of ps) m) (tree_at (keys_of ps) j) e ∙ turned-back (tree_at (keys_of ps) j) (tree_at (keys_of ps) m) (rise-pair ps j m h less below)
 
 -- The order that a comparison tells.
 compared-within : (names shared : List (List ℕ)) (s t : Tree) → is_beyond shared s ≡ false → is_beyond shared t ≡ false → compared names shared s t ≡ answer_of (order names shared s t)

@@ -46,7 +46,7 @@ count_placed (spot.New i) n = n + 1
 
 -- The key is within the walk limit; the place is one of these pairs, or behind the last; there are few enough keys with it;
 -- and where the keys rise, it is that of the key.
-pub record Fits (names shared : List (List ℕ)) (ps : Pairs) (k : Tree) (place : Place) : Type 0 where
+pub record PlaceFits (names shared : List (List ℕ)) (ps : Pairs) (k : Tree) (place : Place) : Type 0 where
   pub small : is_beyond shared k ≡ false
   pub count : place.keys ≡ pairs_len ps
   pub inside : IsWithin (pairs_len ps) place.spot
@@ -60,7 +60,7 @@ pub record IsFull (names shared : List (List ℕ)) (ps : Pairs) (k : Tree) : Typ
 
 -- The answer is the place for the key among these pairs, or why there is none.
 abbrev pub IsPlaceAmong : (names shared : List (List ℕ)) → Pairs → Tree → Result Place PutStop → Type 0
-IsPlaceAmong names shared ps k (Ok place) = Fits names shared ps k place
+IsPlaceAmong names shared ps k (Ok place) = PlaceFits names shared ps k place
 IsPlaceAmong names shared ps k (Err NoMap) = ⊥
 IsPlaceAmong names shared ps k (Err Big) = is_beyond shared k ≡ true
 IsPlaceAmong names shared ps k (Err Full) = IsFull names shared ps k

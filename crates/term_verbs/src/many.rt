@@ -1,13 +1,12 @@
 // A term in many places.
 ghost use Rattle.std.specs.Prelude.{◌≡◌, ℕ, ◌+◌, ◌*◌, ◌≤◌, Bool, List};
-ghost use Rattle.plain_term.specs.Tree.{Tree};
+ghost use Rattle.plain_term.specs.Tree.{Tree, same_trees};
 ghost use Rattle.term_words.specs.Stands.{Stands};
 ghost use Rattle.term_build.specs.Taken.{IsFree};
 ghost use Rattle.term_build.specs.Grows.{Built};
 ghost use Rattle.term_build.specs.Clear.{IsRoom, Uses};
 ghost use Rattle.plain_term.specs.Tree.Tree.{Nil};
 ghost use Rattle.plain_machine.specs.Made.{list_tree};
-ghost use Rattle.plain_machine.specs.Parts.{times};
 ghost use Rattle.plain_machine.specs.Parts.{repeated as tree_by};
 ghost use Rattle.plain_machine.specs.Tightness.{repeat_words as words_by};
 
@@ -49,7 +48,7 @@ fn same_list(mem: &mut WordMem, room: &mut Room, n: u64, w: u64) -> u64
     requires words { room.old.top + 2 * n ≤ room.old.end }
     ensures uses { Uses (2 * n) room.old room.new mem.old mem.new }
     ensures built { (c : ℕ → ℕ → Bool) (shared : List (List ℕ)) (t : Tree) → IsFree c room.old.top (room.old.top + 2 * n) → Stands c shared mem.old w t
-        → Built c room.old.top (2 * n) mem.old mem.new shared result (list_tree (times n t) Nil) }
+        → Built c room.old.top (2 * n) mem.old mem.new shared result (list_tree (same_trees n t) Nil) }
 {
     let mut list = nil();
     for i in 0..n {

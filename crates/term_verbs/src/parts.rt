@@ -4,7 +4,7 @@ ghost use Rattle.plain_term.specs.Tree.{Tree};
 ghost use Rattle.plain_machine.specs.State.{Process};
 ghost use Rattle.plain_machine.specs.Parts.{picked, value_in};
 ghost use Rattle.term_words.specs.Stands.{Stands};
-ghost use Rattle.term_read.specs.Parts.{Answers};
+ghost use Rattle.term_read.specs.Parts.{AnswersPart};
 ghost use Rattle.term_verbs.specs.Picked.{CanPick, CanSeek, HasKey, HasSorted, IsPart};
 
 use crate::keys::spot_of;
@@ -19,7 +19,7 @@ use word_mem::WordMem;
 pub fn part(mem: &WordMem, names: &AtomNames, held: &[u64], w: u64, how: Pick) -> Option<u64>
     requires { CanPick mem.now names.now held.now w how }
     ensures picks { (c : ℕ → ℕ → Bool) (shared : List (List ℕ)) (q : Process) (t : Tree) → Stands c shared mem.now w t → HasKey c shared mem.now held.now q how
-        → HasSorted names.now shared t → Answers c shared mem.now (picked names.now shared q how t) result }
+        → HasSorted names.now shared t → AnswersPart c shared mem.now (picked names.now shared q how t) result }
     ensures is_part { IfSome result (λ v. (c : ℕ → ℕ → Bool) (shared : List (List ℕ)) (t : Tree) → Stands c shared mem.now w t → IsPart c shared mem.now t v) }
 {
     match how {
@@ -36,7 +36,7 @@ pub fn part(mem: &WordMem, names: &AtomNames, held: &[u64], w: u64, how: Pick) -
 fn value_at(mem: &WordMem, names: &AtomNames, w: u64, key: u64) -> Option<u64>
     requires { CanSeek mem.now names.now w key }
     ensures value { (c : ℕ → ℕ → Bool) (shared : List (List ℕ)) (t k : Tree) → Stands c shared mem.now w t → Stands c shared mem.now key k
-        → HasSorted names.now shared t → Answers c shared mem.now (value_in names.now shared k t) result }
+        → HasSorted names.now shared t → AnswersPart c shared mem.now (value_in names.now shared k t) result }
     ensures is_part { IfSome result (λ v. (c : ℕ → ℕ → Bool) (shared : List (List ℕ)) (t : Tree) → Stands c shared mem.now w t → IsPart c shared mem.now t v) }
 {
     let _len = mem.len();

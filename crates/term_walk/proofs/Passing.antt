@@ -8,14 +8,14 @@ use Rattle.plain_term.specs.Beyond.{depth_limit}
 use Rattle.term_words.specs.Object.{IsInt}
 use Rattle.term_words.specs.Role.{always}
 use Rattle.term_words.specs.Stands.{Stands, IsTerm}
-use Rattle.term_words.proofs.Shapes.{told}
+use Rattle.term_words.proofs.ByKind.Shapes.{told}
 use Rattle.term_read.specs.declared.looks.Look.TheVariants as look
 use Rattle.term_read.proofs.Seen.{sees-cons}
 use Rattle.term_walk.specs.declared.levels.Rest.{Rest}
 use Rattle.term_walk.specs.Left.{deepest}
 use Rattle.term_walk.specs.declared.measured.Measured.TheVariants.{Within}
 use Rattle.term_walk.specs.Measured.{Counting, Counts, Measures}
-use Rattle.term_walk.specs.Runs.{Passed, Passes}
+use Rattle.term_walk.specs.Runs.{Passed, PassesCells}
 use Rattle.term_walk.proofs.Steps.{parted}
 use Rattle.term_walk.proofs.Sums.{when-true, is-within}
 
@@ -37,7 +37,7 @@ slight c shared mem w Nil s tag = (refl, refl, refl)
 slight c shared mem w t s tag = absurd (omega (arith, told c shared mem w t s))
 
 -- Nothing is passed.
-pub passes-none : (mem : List ℕ) (w : ℕ) → Passes mem w w 0
+pub passes-none : (mem : List ℕ) (w : ℕ) → PassesCells mem w w 0
 passes-none mem w = record { each = λ c shared t s. record { rest = t; standing = s; nodes_are = omega arith; flat_is = omega arith; depth_is = omega arith } }
 
 -- One cell more is passed.
@@ -57,8 +57,8 @@ cell-passed c shared mem t h u word next cells p e (one, none, low) s =
       depth_is = omega (arith, p.depth_is, deep, low);
     }
 
-pub passes-cell : (mem : List ℕ) (first word cells head next : ℕ) → Passes mem first word cells → word % 4 ≡ 1 → head ≡ get_or mem (word / 4) 0 → head % 4 ≡ 3
-    → next ≡ get_or mem (word / 4 + 1) 0 → Passes mem first next (cells + 1)
+pub passes-cell : (mem : List ℕ) (first word cells head next : ℕ) → PassesCells mem first word cells → word % 4 ≡ 1 → head ≡ get_or mem (word / 4) 0 → head % 4 ≡ 3
+    → next ≡ get_or mem (word / 4 + 1) 0 → PassesCells mem first next (cells + 1)
 passes-cell mem first word cells head next k tag at immediate behind = record {
   each = λ c shared t s.
       let p : Passed c shared mem t word cells = k.each c shared t s in
@@ -69,7 +69,7 @@ passes-cell mem first word cells head next k tag at immediate behind = record {
 }
 
 -- The word behind a run stands for a tree, if the first does.
-pub passes-term : (mem : List ℕ) (first word cells : ℕ) → IsTerm mem first → Passes mem first word cells → IsTerm mem word
+pub passes-term : (mem : List ℕ) (first word cells : ℕ) → IsTerm mem first → PassesCells mem first word cells → IsTerm mem word
 passes-term mem first word cells i k =
     let p : Passed always i.shared mem i.tree word cells = k.each always i.shared i.tree i.standing in
     record { shared = i.shared; tree = p.rest; standing = p.standing }
@@ -95,7 +95,7 @@ count-passed c shared mem t word next levels seen words cells shallow k p = reco
     no-deeper (inr room) = omega (arith, p.depth_is, room)
 
 pub counts-passed : (levels : ℕ) (mem : List ℕ) (first word next : ℕ) (items : List Rest) (seen words most cells : ℕ) → levels ≤ depth_limit
-    → (most ≡ 0) ⊎ (length items + 1 ≤ levels) → cells ≤ most → Counts mem first word (reverse items) seen words → Passes mem word next cells
+    → (most ≡ 0) ⊎ (length items + 1 ≤ levels) → cells ≤ most → Counts mem first word (reverse items) seen words → PassesCells mem word next cells
     → Counts mem first next (reverse items) (seen + 2 * cells) (words + 2 * cells)
 counts-passed levels mem first word next items seen words most cells low shallow few k p = λ c shared t s.
     count-passed c shared mem t word next (reverse items) seen words cells (behind shallow) (k c shared t s) (p.each c shared (k c shared t s).now (k c shared t s).standing)

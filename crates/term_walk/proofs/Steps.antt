@@ -10,7 +10,7 @@ use Rattle.plain_term.specs.Measures.{depth, greatest_depth, greatest_depth_of_p
 use Rattle.plain_term.specs.Beyond.{depth_limit}
 use Rattle.term_words.specs.Role.{always}
 use Rattle.term_words.specs.Stands.{Stands, RowStands}
-use Rattle.term_words.proofs.Pairs.{keys-row, values-row, keys-len, values-len}
+use Rattle.term_words.proofs.ByKind.Pairs.{keys-row, values-row, keys-len, values-len}
 use Rattle.term_read.specs.Look.{IsSeen}
 use Rattle.term_read.specs.declared.looks.Row.{Row}
 use Rattle.term_read.specs.declared.looks.Look.{Look}
@@ -18,7 +18,7 @@ use Rattle.term_read.specs.declared.looks.Look.TheVariants as look
 use Rattle.term_walk.specs.declared.levels.Rest.{Rest}
 use Rattle.term_walk.specs.declared.levels.Rest.TheVariants as rest
 use Rattle.term_walk.specs.declared.levels.Further.TheVariants as further
-use Rattle.term_walk.specs.Left.{AreShort, row_after, row_taken, taken, rest_in, IsRow, IsTail, AreRows, IsLeft, AreLeft, left_of, inside, deepest, parts_of, HasLeft, CanGo, GoesTo, Ends, Goes, Yields}
+use Rattle.term_walk.specs.Left.{AreShort, row_after, row_taken, taken, rest_in, RowStandsFor, IsTail, AreRows, IsLeft, AreLeft, left_of, inside, deepest, parts_of, HasLeft, CanGo, GoesTo, WalkEnds, Goes, Yields}
 
 -- A choice is one of its two arms.
 
@@ -38,7 +38,7 @@ is-zero n e = grind (arith, nat_tests)
 not-zero : (n : ℕ) → nat_eq n 0 ≡ false → 0 < n
 not-zero n e = grind (arith, nat_tests)
 
-row-end : (c : ℕ → ℕ → Bool) (shared : List (List ℕ)) (mem : List ℕ) (row : Row) (ts : Trees) → IsRow c shared mem row ts → row.len ≡ 0 → ts ≡ end
+row-end : (c : ℕ → ℕ → Bool) (shared : List (List ℕ)) (mem : List ℕ) (row : Row) (ts : Trees) → RowStandsFor c shared mem row ts → row.len ≡ 0 → ts ≡ end
 row-end c shared mem row ts r zero = len-end ts (sym r.count ∙ zero)
 
 record RowTook (c : ℕ → ℕ → Bool) (shared : List (List ℕ)) (mem : List ℕ) (row : Row) (ts : Trees) : Type 0 where
@@ -47,9 +47,9 @@ record RowTook (c : ℕ → ℕ → Bool) (shared : List (List ℕ)) (mem : List
   order : ts ≡ now ▹ after
   within : row.first < length mem
   standing : Stands c shared mem (get_or mem row.first 0) now
-  left : IsRow c shared mem (row_after row) after
+  left : RowStandsFor c shared mem (row_after row) after
 
-row-took : (c : ℕ → ℕ → Bool) (shared : List (List ℕ)) (mem : List ℕ) (row : Row) (ts : Trees) → IsRow c shared mem row ts → 0 < row.len → RowTook c shared mem row ts
+row-took : (c : ℕ → ℕ → Bool) (shared : List (List ℕ)) (mem : List ℕ) (row : Row) (ts : Trees) → RowStandsFor c shared mem row ts → 0 < row.len → RowTook c shared mem row ts
 unfolding RowStands
 row-took c shared mem row end r some = absurd (omega (arith, r.count))
 row-took c shared mem row (t ▹ ts) r some = record {
@@ -97,7 +97,7 @@ took-as c shared mem l got want ts e t =
     let P : ℕ × Option Rest → Type 0 = λ z. Took c shared mem l z.0 z.1 ts in
     subst P same t
 
-row-took-as : (c : ℕ → ℕ → Bool) (shared : List (List ℕ)) (mem : List ℕ) (row : Row) (ts : Trees) → IsRow c shared mem row ts → 0 < row.len
+row-took-as : (c : ℕ → ℕ → Bool) (shared : List (List ℕ)) (mem : List ℕ) (row : Row) (ts : Trees) → RowStandsFor c shared mem row ts → 0 < row.len
     → Took c shared mem (rest.Row row) row.first (Some (rest.Row (row_after row))) ts
 row-took-as c shared mem row ts r some =
     let t : RowTook c shared mem row ts = row-took c shared mem row ts r some in
@@ -204,7 +204,7 @@ goes-same : (c : ℕ → ℕ → Bool) (shared : List (List ℕ)) (mem : List �
     → GoesTo c shared mem ts deep word levels → GoesTo c shared mem us deep2 word levels
 goes-same c shared mem ts us deep deep2 word levels e d g = record { now = g.now; rests = g.rests; standing = g.standing; left = g.left; order = e ∙ g.order; few = g.few; depths = d ∙ g.depths }
 
-ends-same : (ts us : Trees) (deep deep2 : ℕ) → us ≡ ts → max depth_limit deep2 ≡ max depth_limit deep → Ends ts deep → Ends us deep2
+ends-same : (ts us : Trees) (deep deep2 : ℕ) → us ≡ ts → max depth_limit deep2 ≡ max depth_limit deep → WalkEnds ts deep → WalkEnds us deep2
 ends-same ts us deep deep2 e d g = record { none = e ∙ g.none; shallow = omega (arith, d, g.shallow) }
 
 -- The list of levels after a word was taken.
@@ -249,7 +249,7 @@ next-none : (c : ℕ → ℕ → Bool) (shared : List (List ℕ)) (mem : List �
 next-none c shared mem [] left = (refl, refl)
 next-none c shared mem (ts ∷ rests) bad = absurd bad
 
-skip-end : (c : ℕ → ℕ → Bool) (shared : List (List ℕ)) (mem : List ℕ) (old : List Rest) (before : List Trees) → Skipped c shared mem old [] before → Ends (left_of before) (deepest old before)
+skip-end : (c : ℕ → ℕ → Bool) (shared : List (List ℕ)) (mem : List ℕ) (old : List Rest) (before : List Trees) → Skipped c shared mem old [] before → WalkEnds (left_of before) (deepest old before)
 skip-end c shared mem old before s =
     let (none, flat) = next-none c shared mem s.rests s.left in
     record { none = s.same ∙ none; shallow = omega (arith, s.depths, flat) }

@@ -49,7 +49,7 @@ rest_in (look.Fun parts) = Some (rest.Row parts.env)
 rest_in _ = None
 
 -- The words of the row stand for these trees in order.
-pub record IsRow (c : ℕ → ℕ → Bool) (shared : List (List ℕ)) (mem : List ℕ) (row : Row) (ts : Trees) : Type 0 where
+pub record RowStandsFor (c : ℕ → ℕ → Bool) (shared : List (List ℕ)) (mem : List ℕ) (row : Row) (ts : Trees) : Type 0 where
   pub count : row.len ≡ trees_len ts
   pub within : row.first + row.len ≤ length mem
   pub standing : RowStands c shared mem row.first ts
@@ -66,12 +66,12 @@ pub record AreRows (c : ℕ → ℕ → Bool) (shared : List (List ℕ)) (mem : 
   pub firsts : Trees
   pub others : Trees
   pub both : ts ≡ trees_append firsts others
-  pub row_is : IsRow c shared mem row firsts
-  pub next_is : IsRow c shared mem next others
+  pub row_is : RowStandsFor c shared mem row firsts
+  pub next_is : RowStandsFor c shared mem next others
 
 -- The words that are left on one level stand for these trees in order.
 abbrev pub IsLeft : (ℕ → ℕ → Bool) → List (List ℕ) → List ℕ → Rest → Trees → Type 0
-IsLeft c shared mem (rest.Row row) ts = IsRow c shared mem row ts
+IsLeft c shared mem (rest.Row row) ts = RowStandsFor c shared mem row ts
 IsLeft c shared mem (rest.Rows row next) ts = AreRows c shared mem row next ts
 IsLeft c shared mem (rest.Tail place) ts = IsTail c shared mem place ts
 
@@ -136,7 +136,7 @@ pub record GoesTo (c : ℕ → ℕ → Bool) (shared : List (List ℕ)) (mem : L
   pub depths : max depth_limit deep ≡ max depth_limit (max (length levels + depth now) (deepest levels rests))
 
 -- Nothing is left of these trees, and none was too deep.
-pub record Ends (ts : Trees) (deep : ℕ) : Type 0 where
+pub record WalkEnds (ts : Trees) (deep : ℕ) : Type 0 where
   pub none : ts ≡ end
   pub shallow : deep ≤ depth_limit
 
@@ -144,15 +144,15 @@ pub record Ends (ts : Trees) (deep : ℕ) : Type 0 where
 abbrev pub Goes : (most : ℕ) → (ℕ → ℕ → Bool) → List (List ℕ) → List ℕ → List Rest → Tree → List Trees → Further → List Rest → Type 0
 Goes most c shared mem old now rests (further.Word word) new =
     GoesTo c shared mem (trees_append (parts_of now) (left_of rests)) (max (length old + depth now) (deepest old rests)) word new
-Goes most c shared mem old now rests further.End new = Ends (trees_append (parts_of now) (left_of rests)) (max (length old + depth now) (deepest old rests))
+Goes most c shared mem old now rests further.End new = WalkEnds (trees_append (parts_of now) (left_of rests)) (max (length old + depth now) (deepest old rests))
 Goes most c shared mem old now rests further.TooDeep new = most < length old + depth now
 
 -- The first word that is left, if there is one, and what is left after it.
-abbrev pub IsNext : (ℕ → ℕ → Bool) → List (List ℕ) → List ℕ → List Rest → List Trees → Option ℕ → List Rest → Type 0
-IsNext c shared mem old rests (Some word) new = GoesTo c shared mem (left_of rests) (deepest old rests) word new
-IsNext c shared mem old rests None new = Ends (left_of rests) (deepest old rests)
+abbrev pub GoesNext : (ℕ → ℕ → Bool) → List (List ℕ) → List ℕ → List Rest → List Trees → Option ℕ → List Rest → Type 0
+GoesNext c shared mem old rests (Some word) new = GoesTo c shared mem (left_of rests) (deepest old rests) word new
+GoesNext c shared mem old rests None new = WalkEnds (left_of rests) (deepest old rests)
 
 -- So it is for all trees that the words stand for.
 pub record Yields (mem : List ℕ) (old : List Rest) (result : Option ℕ) (new : List Rest) : Type 0 where
   pub each : (c : ℕ → ℕ → Bool) (shared : List (List ℕ)) (rests : List Trees) → length old ≤ depth_limit → AreLeft c shared mem old rests
-      → IsNext c shared mem old rests result new
+      → GoesNext c shared mem old rests result new

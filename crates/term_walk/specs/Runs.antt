@@ -13,5 +13,5 @@ pub record Passed (c : ℕ → ℕ → Bool) (shared : List (List ℕ)) (mem : L
   pub depth_is : depth t ≡ max (min 1 cells) (depth rest)
 
 -- So it is of each tree that the first word stands for.
-pub record Passes (mem : List ℕ) (first word cells : ℕ) : Type 0 where
+pub record PassesCells (mem : List ℕ) (first word cells : ℕ) : Type 0 where
   pub each : (c : ℕ → ℕ → Bool) (shared : List (List ℕ)) (t : Tree) → Stands c shared mem first t → Passed c shared mem t word cells

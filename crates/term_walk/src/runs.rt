@@ -1,7 +1,7 @@
 // Cells at the front of a list whose heads have no parts and no words, which are passed over at once.
 ghost use Rattle.std.specs.Prelude.{◌≡◌, ◌+◌, ◌*◌, ◌≤◌, ◌⊎◌, length};
 ghost use Rattle.term_words.specs.Stands.{IsTerm};
-ghost use Rattle.term_walk.specs.Runs.{Passes};
+ghost use Rattle.term_walk.specs.Runs.{PassesCells};
 
 use crate::levels::{NODE_LIMIT, Rest};
 use arrayvec::ArrayVec;
@@ -18,7 +18,7 @@ pub struct Run {
 pub fn pass_cells(mem: &WordMem, w: u64, most: u64) -> Run
     requires { IsTerm mem.now w }
     ensures few { result.cells ≤ most }
-    ensures passes { Passes mem.now w result.word result.cells }
+    ensures passes { PassesCells mem.now w result.word result.cells }
 {
     let _len = mem.len();
     let mut word = w;

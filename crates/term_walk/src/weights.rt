@@ -3,7 +3,7 @@ ghost use Rattle.std.specs.Prelude.{◌≡◌, ℕ, ◌+◌, ◌*◌, ◌^◌, �
 ghost use Rattle.plain_term.specs.Tree.{Tree};
 ghost use Rattle.plain_term.specs.Measures.{bin_nodes, flat};
 ghost use Rattle.term_words.specs.Stands.{Stands, IsBase, IsTerm};
-ghost use Rattle.term_read.specs.Look.{LiesIn};
+ghost use Rattle.term_read.specs.Look.{LiesInMemory};
 ghost use Rattle.term_walk.specs.Weights.{nodes_in, HasFlat};
 
 use term_read::{Digits, Look, look_at};
@@ -33,7 +33,7 @@ fn binary_nodes(len: u64) -> u64
 
 /// The heap words of what a word is, without its parts; those of a part of a binary with its original.
 pub fn own_flat(mem: &WordMem, look: Look) -> u64
-    requires { LiesIn mem.now look }
+    requires { LiesInMemory mem.now look }
     ensures words { HasFlat mem.now look result }
     ensures few { result ≤ 2 ^ 26 }
 {

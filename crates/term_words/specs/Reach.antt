@@ -44,6 +44,6 @@ pub record IsNamed (c : ℕ → ℕ → Bool) (mem roots : List ℕ) (v : ℕ) :
 
 -- Each word of the objects that the roots reach, and of the records that these name, that has a role by the first test has
 -- it by the second one.
-pub record Passes (c d : ℕ → ℕ → Bool) (mem roots : List ℕ) : Type 0 where
+pub record PassTest (c d : ℕ → ℕ → Bool) (mem roots : List ℕ) : Type 0 where
   pub objects : (w q k : ℕ) → Reach mem roots w → IsPointer w → w / 4 ≤ q → q < w / 4 + object_words mem w → c q k ≡ true → d q k ≡ true
   pub records : (v n q k : ℕ) → IsNamed c mem roots v → IsRecord c mem v n → v ≤ q → q < v + n → c q k ≡ true → d q k ≡ true

@@ -3,7 +3,7 @@ ghost use Rattle.std.specs.Prelude.{◌≡◌, ℕ, Bool, List, map};
 ghost use Rattle.plain_term.specs.Tree.{Tree, Trees};
 ghost use Rattle.term_words.specs.Role.{both};
 ghost use Rattle.term_words.specs.Stands.{Stands, AllStand};
-ghost use Rattle.term_words.specs.Reach.{Reach, Passes};
+ghost use Rattle.term_words.specs.Reach.{Reach, PassTest};
 ghost use Rattle.term_words.specs.Relocated.{Relocated};
 
 /// Where what the roots reach lies at new places, each word's image stands for the tree that the word stood for, and what
@@ -24,8 +24,8 @@ pub fn relocated_words_stand()
 /// Where all words of the objects that standing roots reach, and of the records that these name, pass a further test, what
 /// the roots reach stands by both tests: it lies in one half, or in some process's blocks.
 pub fn roots_stand_by_narrower_tests()
-    ensures roots { (c d : ℕ → ℕ → Bool) (shared : List (List ℕ)) (mem roots : List ℕ) (ts : Trees) → AllStand c shared mem roots ts → Passes c d mem roots
+    ensures roots { (c d : ℕ → ℕ → Bool) (shared : List (List ℕ)) (mem roots : List ℕ) (ts : Trees) → AllStand c shared mem roots ts → PassTest c d mem roots
         → AllStand (both c d) shared mem roots ts }
-    ensures word { (c d : ℕ → ℕ → Bool) (shared : List (List ℕ)) (mem roots : List ℕ) (ts : Trees) → AllStand c shared mem roots ts → Passes c d mem roots
+    ensures word { (c d : ℕ → ℕ → Bool) (shared : List (List ℕ)) (mem roots : List ℕ) (ts : Trees) → AllStand c shared mem roots ts → PassTest c d mem roots
         → (w : ℕ) (t : Tree) → Reach mem roots w → Stands c shared mem w t → Stands (both c d) shared mem w t }
 {}

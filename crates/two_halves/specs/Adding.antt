@@ -21,7 +21,7 @@ pub record Gets (named : ℕ) (h : Halves) (shared : List (List ℕ)) (qs : List
   pub made : Stands stands.test shared h.mem w t
 
 -- The half stands for some processes, and this is the number of the next shared binary.
-pub record IsNext (h : Halves) (serial : ℕ) : Type 0 where
+pub record IsSerial (h : Halves) (serial : ℕ) : Type 0 where
   pub named : ℕ
   pub shared : List (List ℕ)
   pub processes : List Process

@@ -13,7 +13,7 @@ use Rattle.off_heap_list.specs.Links.{Links}
 use Rattle.off_heap_list.specs.Exact.{AllCounted}
 use Rattle.record_move.specs.Copies.{record_words}
 use Rattle.record_move.specs.Tables.{OwnersRise}
-use Rattle.two_halves.specs.Stack.{AreApart, Ends, IsStack, place_list, values}
+use Rattle.two_halves.specs.Stack.{AreApart, IsLastPlace, IsStack, place_list, values}
 use Rattle.two_halves.specs.declared.table.Proc.{Proc}
 use Rattle.two_halves.specs.declared.halves.Halves.{Halves}
 use Rattle.two_halves.specs.declared.halves.TheConstants.{UNUSED, PLACE_WORDS}
@@ -85,7 +85,7 @@ pub record ProcStands (c : ℕ → ℕ → Bool) (shared : List (List ℕ)) (mem
   pub stack : HoldTrees c shared mem named (values mem p.stack p.depth) q.stack
   pub waits : IsStack c mem low limit p.queue p.waiting
   pub queue : HoldTrees c shared mem named (values mem p.queue p.waiting) q.queue
-  pub last : Ends mem p.queue p.waiting p.last
+  pub last : IsLastPlace mem p.queue p.waiting p.last
   pub refs : q.refs ≡ p.refs
 
 -- The rows stand for the processes, in order.

@@ -7,7 +7,7 @@ use Rattle.cheney.specs.Moved.{IsImage}
 use Rattle.cheney.specs.Zones.{Marks}
 use Rattle.cheney.specs.Rooms.{Runs}
 use Rattle.cheney.specs.Collected.{AllImages}
-use Rattle.two_halves.specs.Stack.{AreApart, Ends, IsStack, place_list, values}
+use Rattle.two_halves.specs.Stack.{AreApart, IsLastPlace, IsStack, place_list, values}
 use Rattle.two_halves.specs.Halves.{all_places, places_in, places_of}
 use Rattle.two_halves.specs.Reached.{roots_in}
 use Rattle.two_halves.specs.declared.table.Proc.{Proc}
@@ -20,7 +20,7 @@ pub record IsAside (p : Plan) (q : ℕ) : Type 0 where
 
 -- The collection runs on; what words have become stays; and what lies aside is as before, but for the words from one place
 -- up to another.
-pub record Goes (p : Plan) (mem mem2 : List ℕ) (mv2 : Moving) (k : Marks) (from to : ℕ) : Type 0 where
+pub record GoesAlong (p : Plan) (mem mem2 : List ℕ) (mv2 : Moving) (k : Marks) (from to : ℕ) : Type 0 where
   pub runs : Runs p mem2 mv2 k
   pub images : (w x : ℕ) → Reached p w → IsImage p mem w x → IsImage p mem2 w x
   pub aside : (q : ℕ) → IsAside p q → (q < from) ⊎ (to ≤ q) → slice_index mem2 q ≡ slice_index mem q
@@ -34,7 +34,7 @@ pub record PlaceMoves (p : Plan) (mem : List ℕ) (mv : Moving) (k : Marks) (pla
 
 -- The new place holds what the value has become, and names the place that follows; the answer is the place below the old one.
 pub record PlaceMoved (p : Plan) (mem mem2 : List ℕ) (mv2 : Moving) (k : Marks) (place to below : ℕ) : Type 0 where
-  pub goes : Goes p mem mem2 mv2 k to (to + PLACE_WORDS)
+  pub goes : GoesAlong p mem mem2 mv2 k to (to + PLACE_WORDS)
   pub image : IsImage p mem2 (slice_index mem place) (slice_index mem2 to)
   pub next : slice_index mem2 (to + 1) ≡ to + PLACE_WORDS
   pub below_is : below ≡ slice_index mem (place + 1)
@@ -57,9 +57,9 @@ pub record StackMoves (p : Plan) (mem : List ℕ) (mv : Moving) (k : Marks) (low
 
 -- The stack has moved: its places lie side by side from `to` on, with what the values have become.
 pub record StackMoved (p : Plan) (mem mem2 : List ℕ) (mv2 : Moving) (k : Marks) (from depth to : ℕ) : Type 0 where
-  pub goes : Goes p mem mem2 mv2 k to (to + PLACE_WORDS * depth)
+  pub goes : GoesAlong p mem mem2 mv2 k to (to + PLACE_WORDS * depth)
   pub places : IsStack p.test mem2 to (to + PLACE_WORDS * depth) to depth
-  pub last : (q : ℕ) → q ≡ to + PLACE_WORDS * (depth - 1) → Ends mem2 to depth q
+  pub last : (q : ℕ) → q ≡ to + PLACE_WORDS * (depth - 1) → IsLastPlace mem2 to depth q
   pub apart : AreApart (place_list mem2 to depth)
   pub images : AllImages p mem2 (values mem from depth) (values mem2 to depth)
 
@@ -82,7 +82,7 @@ pub record IsMovedRow (p : Plan) (start mem : List ℕ) (low limit : ℕ) (old n
   pub values_are : AllImages p mem (values start old.stack old.depth) (values mem new.stack new.depth)
   pub waits : IsStack p.test mem low limit new.queue new.waiting
   pub messages_are : AllImages p mem (values start old.queue old.waiting) (values mem new.queue new.waiting)
-  pub last : Ends mem new.queue new.waiting new.last
+  pub last : IsLastPlace mem new.queue new.waiting new.last
   pub apart : AreApart (places_of mem new)
 
 -- Row by row.
@@ -100,7 +100,7 @@ pub record RowMoves (p : Plan) (mem : List ℕ) (mv : Moving) (k : Marks) (low l
 
 -- It has moved.
 pub record RowMoved (p : Plan) (mem mem2 : List ℕ) (mv2 : Moving) (k : Marks) (old new : Proc) (to : ℕ) : Type 0 where
-  pub goes : Goes p mem mem2 mv2 k to (to + PLACE_WORDS * (old.depth + old.waiting))
+  pub goes : GoesAlong p mem mem2 mv2 k to (to + PLACE_WORDS * (old.depth + old.waiting))
   pub is : IsMovedRow p mem mem2 to (to + PLACE_WORDS * (old.depth + old.waiting)) old new
 
 -- What some row names may move.
@@ -125,7 +125,7 @@ pub record RowsMove (p : Plan) (mem : List ℕ) (mv : Moving) (k : Marks) (low l
 
 -- It has moved.
 pub record RowsMoved (p : Plan) (mem mem2 : List ℕ) (mv2 : Moving) (k : Marks) (olds news : List Proc) (end : ℕ) : Type 0 where
-  pub goes : Goes p mem mem2 mv2 k (end - PLACE_WORDS * places_in olds) end
+  pub goes : GoesAlong p mem mem2 mv2 k (end - PLACE_WORDS * places_in olds) end
   pub are : AreMovedRows p mem mem2 (end - PLACE_WORDS * places_in olds) end olds news
   pub apart : AreApart (all_places mem2 news)
 

@@ -31,7 +31,7 @@ AreApart [] = Unit {0}
 AreApart (p ∷ ps) = ((q : ℕ) → In q ps → (p + PLACE_WORDS ≤ q) ⊎ (q + PLACE_WORDS ≤ p)) × AreApart ps
 
 -- The last of so many places, any number where there is none.
-abbrev pub Ends : List ℕ → (place depth last : ℕ) → Type 0
-Ends mem place zero last = Unit {0}
-Ends mem place (suc zero) last = last ≡ place
-Ends mem place (suc (suc n)) last = Ends mem (slice_index mem (place + 1)) (suc n) last
+abbrev pub IsLastPlace : List ℕ → (place depth last : ℕ) → Type 0
+IsLastPlace mem place zero last = Unit {0}
+IsLastPlace mem place (suc zero) last = last ≡ place
+IsLastPlace mem place (suc (suc n)) last = IsLastPlace mem (slice_index mem (place + 1)) (suc n) last

@@ -10,7 +10,7 @@ ghost use Rattle.term_tags.specs.declared.layouts.TheConstants.{MOST_ENV};
 ghost use Rattle.term_words.specs.Stands.{AllStand};
 ghost use Rattle.shared_rec.specs.Record.{count_in};
 ghost use Rattle.two_halves.specs.Halves.{HalvesStand, IsLaid, Standing, free_in};
-ghost use Rattle.two_halves.specs.Adding.{Adds, Gets, HasBin, HasFun, IsFunAt, IsNamedIn, IsNext, IsSpot};
+ghost use Rattle.two_halves.specs.Adding.{Adds, Gets, HasBin, HasFun, IsFunAt, IsNamedIn, IsSerial, IsSpot};
 
 use crate::halves::Halves;
 use off_heap_list::chain;
@@ -22,7 +22,7 @@ impl Halves {
     /// Makes a binary of `len` bytes that are all `byte`: a record with this serial, which is the next one, and a holder.
     pub fn add_bin(&mut self, serial: u64, len: u64, byte: u8) -> u64
         requires laid { IsLaid self.old }
-        requires next { IsNext self.old serial }
+        requires next { IsSerial self.old serial }
         requires words { 10 + bin_words len ≤ free_in self.old }
         requires table { vec_len self.old.bins < vec_capacity self.old.bins }
         ensures adds { Adds self.old self.new }
@@ -44,7 +44,7 @@ impl Halves {
     // Puts the record of a binary of equal bytes below all places and records.
     fn put_bin(&mut self, serial: u64, len: u64, byte: u8) -> u64
         requires laid { IsLaid self.old }
-        requires next { IsNext self.old serial }
+        requires next { IsSerial self.old serial }
         requires words { 10 + bin_words len ≤ free_in self.old }
         requires table { vec_len self.old.bins < vec_capacity self.old.bins }
         ensures adds { Adds self.old self.new }

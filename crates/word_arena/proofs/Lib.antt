@@ -1,12 +1,3 @@
-pub mod Places
-pub mod Tiling
-pub mod Facts
-pub mod Relaid
-pub mod Summing
-pub mod Runs
-pub mod Writes
-pub mod Taking
-pub mod Levels
-pub mod Table
-pub mod Searching
-pub mod Lent
+pub mod Side
+pub mod Laid
+pub mod Found

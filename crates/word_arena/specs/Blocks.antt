@@ -52,23 +52,23 @@ pub record Reaches (mem : List ℕ) (at : ℕ) : Type 0 where
   pub row : Blocks mem 0 places at
 
 -- The place stands in the list.
-abbrev pub In : ℕ → List ℕ → Type 0
-In p [] = ⊥
-In p (q ∷ qs) = (p ≡ q) ⊎ In p qs
+abbrev pub IsListed : ℕ → List ℕ → Type 0
+IsListed p [] = ⊥
+IsListed p (q ∷ qs) = (p ≡ q) ⊎ IsListed p qs
 
 -- A block begins at the place.
-pub record Begins (mem : List ℕ) (at : ℕ) : Type 0 where
-  pub listed : In at (places_of mem)
+pub record BlockBegins (mem : List ℕ) (at : ℕ) : Type 0 where
+  pub listed : IsListed at (places_of mem)
 
 -- A block begins at the place that is not free.
 pub record IsUsed (mem : List ℕ) (at : ℕ) : Type 0 where
-  pub begins : Begins mem at
+  pub begins : BlockBegins mem at
   pub kind : 1 ≤ kind_at mem at
 
 -- A block begins at the place, or the memory ends there.
-pub record Stop (mem : List ℕ) (at : ℕ) : Type 0 where
+pub record IsBoundary (mem : List ℕ) (at : ℕ) : Type 0 where
   pub inside : at ≤ length mem
-  pub begins : at < length mem → Begins mem at
+  pub begins : at < length mem → BlockBegins mem at
 
 -- The free words of the blocks at these places.
 abbrev pub free_in : List ℕ → List ℕ → ℕ
@@ -81,4 +81,4 @@ free_of mem = free_in mem (places_of mem)
 
 -- No two free blocks stand side by side.
 pub record FreeApart (mem : List ℕ) : Type 0 where
-  pub apart : (p : ℕ) → Begins mem p → kind_at mem p ≡ 0 → p + size_at mem p < length mem → 1 ≤ kind_at mem (p + size_at mem p)
+  pub apart : (p : ℕ) → BlockBegins mem p → kind_at mem p ≡ 0 → p + size_at mem p < length mem → 1 ≤ kind_at mem (p + size_at mem p)

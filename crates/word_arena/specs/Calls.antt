@@ -1,26 +1,26 @@
 -- What each call finds, writes and leaves.
 use Rattle.std.specs.Prelude.{◌≡◌, ◌≢◌, ℕ, ◌+◌, ◌-◌, ◌<◌, ◌≤◌, ◌⊎◌, nat_lt, if◌then◌else◌, List, length, slice_index, slice_set}
-use Rattle.word_arena.specs.Blocks.{size_at, kind_at, owner_at, free_at, header, Begins, IsUsed}
+use Rattle.word_arena.specs.Blocks.{size_at, kind_at, owner_at, free_at, header, BlockBegins, IsUsed}
 
 -- No free block has so many words.
 abbrev pub NoneFits : List ℕ → (words : ℕ) → Type 0
-NoneFits mem words = (p : ℕ) → Begins mem p → free_at mem p < words
+NoneFits mem words = (p : ℕ) → BlockBegins mem p → free_at mem p < words
 
 -- At the place begins the first free block that has so many words.
 pub record FirstFit (mem : List ℕ) (words at : ℕ) : Type 0 where
-  pub begins : Begins mem at
+  pub begins : BlockBegins mem at
   pub free : kind_at mem at ≡ 0
   pub fits : words ≤ size_at mem at
-  pub first : (p : ℕ) → Begins mem p → p < at → free_at mem p < words
+  pub first : (p : ℕ) → BlockBegins mem p → p < at → free_at mem p < words
 
 -- No free block has more words than so many, and one has so many where that is not 0.
 pub record IsGreatest (mem : List ℕ) (words : ℕ) : Type 0 where
-  pub above : (p : ℕ) → Begins mem p → free_at mem p ≤ words
-  pub met : 0 < words → (p : ℕ) × Begins mem p × (free_at mem p ≡ words)
+  pub above : (p : ℕ) → BlockBegins mem p → free_at mem p ≤ words
+  pub met : 0 < words → (p : ℕ) × BlockBegins mem p × (free_at mem p ≡ words)
 
 -- At the place begins a block with these words, kind and owner.
 pub record IsBlock (mem : List ℕ) (at words kind owner : ℕ) : Type 0 where
-  pub begins : Begins mem at
+  pub begins : BlockBegins mem at
   pub has_words : size_at mem at ≡ words
   pub has_kind : kind_at mem at ≡ kind
   pub has_owner : owner_at mem at ≡ owner
@@ -45,8 +45,8 @@ shortened mem at words =
 
 -- The free words before a place begin here: at the free block that ends at the place, else at the place itself.
 pub record FreeFrom (mem : List ℕ) (at from : ℕ) : Type 0 where
-  pub place : (from ≡ at) ⊎ (Begins mem from × (kind_at mem from ≡ 0) × (from + size_at mem from ≡ at))
-  pub only : (p : ℕ) → Begins mem p → kind_at mem p ≡ 0 → p + size_at mem p ≡ at → p ≡ from
+  pub place : (from ≡ at) ⊎ (BlockBegins mem from × (kind_at mem from ≡ 0) × (from + size_at mem from ≡ at))
+  pub only : (p : ℕ) → BlockBegins mem p → kind_at mem p ≡ 0 → p + size_at mem p ≡ at → p ≡ from
 
 -- The block at the place was given back: it and the free blocks beside it are one, which begins at `from`.
 pub record Merged (old new : List ℕ) (at : ℕ) : Type 0 where
@@ -64,4 +64,4 @@ pub record OthersStay (old new : List ℕ) (at : ℕ) : Type 0 where
 -- The headers are as they were, whatever else was written.
 pub record HeadersStay (old new : List ℕ) : Type 0 where
   pub same_len : length new ≡ length old
-  pub same : (p : ℕ) → Begins old p → slice_index new p ≡ slice_index old p
+  pub same : (p : ℕ) → BlockBegins old p → slice_index new p ≡ slice_index old p

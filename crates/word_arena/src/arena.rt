@@ -1,6 +1,6 @@
 // The arena and its calls.
 ghost use Rattle.std.specs.Prelude.{◌≡◌, ◌≢◌, ℕ, ◌+◌, ◌-◌, ◌<◌, ◌≤◌, List, length, IfOk, IfSome, IfNone};
-ghost use Rattle.word_arena.specs.Blocks.{size_at, kind_at, owner_at, Blocks, Reaches, Begins, IsUsed, free_in, free_of, FreeApart};
+ghost use Rattle.word_arena.specs.Blocks.{size_at, kind_at, owner_at, Blocks, Reaches, BlockBegins, IsUsed, free_in, free_of, FreeApart};
 ghost use Rattle.word_arena.specs.Calls.{NoneFits, FirstFit, IsGreatest, freed, taken, shortened, FreeFrom, Merged, OthersStay, IsBlock};
 
 use crate::blocks::{LAST_KIND, first_fit, free_before, next, size};
@@ -47,7 +47,7 @@ impl Arena {
         ensures sound { Sound self.new }
         ensures mem { self.new.mem ≡ freed self.old.mem end (length self.old.mem) }
         ensures free { (places : List ℕ) → Blocks self.old.mem 0 places end → free_of self.new.mem + end ≡ free_in self.old.mem places + length self.old.mem }
-        ensures apart { ((p : ℕ) → Begins self.new.mem p → p < end → 1 ≤ kind_at self.new.mem p) → FreeApart self.new.mem }
+        ensures apart { ((p : ℕ) → BlockBegins self.new.mem p → p < end → 1 ≤ kind_at self.new.mem p) → FreeApart self.new.mem }
     {
         close(&mut self.mem, end);
         self.holes.renew(&self.mem);
@@ -136,8 +136,8 @@ impl Arena {
     /// The place of the block behind the one at a place; `None` at the end.
     pub fn next_block(&self, at: u64) -> Option<u64>
         requires sound { Sound self.now }
-        requires block { Begins self.now.mem at }
-        ensures next { IfSome result (λ p. Begins self.now.mem p × (p ≡ at + size_at self.now.mem at)) }
+        requires block { BlockBegins self.now.mem at }
+        ensures next { IfSome result (λ p. BlockBegins self.now.mem p × (p ≡ at + size_at self.now.mem at)) }
         ensures end { IfNone result (at + size_at self.now.mem at ≡ length self.now.mem) }
     {
         let behind = next(&self.mem, at);
@@ -164,7 +164,7 @@ impl Arena {
     // that has a block before the place, else in the last stretch before with a free block.
     fn free_start(&self, at: u64) -> u64
         requires sound { Sound self.now }
-        requires block { Begins self.now.mem at }
+        requires block { BlockBegins self.now.mem at }
         ensures { FreeFrom self.now.mem at result }
     {
         let stretch = stretch_of(at);

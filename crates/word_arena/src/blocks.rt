@@ -1,6 +1,6 @@
 // Blocks read in a memory.
 ghost use Rattle.std.specs.Prelude.{◌≡◌, ℕ, ◌+◌, ◌-◌, ◌<◌, ◌≤◌, ◌≢◌, ◌⊎◌, length, slice_index, IfSome, IfNone};
-ghost use Rattle.word_arena.specs.Blocks.{size_at, kind_at, free_at, Blocked, Begins, Stop, free_of};
+ghost use Rattle.word_arena.specs.Blocks.{size_at, kind_at, free_at, Blocked, BlockBegins, IsBoundary, free_of};
 ghost use Rattle.word_arena.specs.Calls.{free_end};
 
 use word_mem::WordMem;
@@ -38,9 +38,9 @@ pub(crate) fn free(mem: &WordMem, at: u64) -> u64
 /// Where the next block begins behind the one at a place, or the memory's end.
 pub(crate) fn next(mem: &WordMem, at: u64) -> u64
     requires blocked { Blocked mem.now }
-    requires block { Begins mem.now at }
+    requires block { BlockBegins mem.now at }
     ensures value { result ≡ at + size_at mem.now at }
-    ensures stop { Stop mem.now result }
+    ensures stop { IsBoundary mem.now result }
     ensures after { at < result }
 {
     let _len = mem.len();
@@ -50,7 +50,7 @@ pub(crate) fn next(mem: &WordMem, at: u64) -> u64
 /// Where the words end that are free from a place on.
 pub(crate) fn free_end(mem: &WordMem, at: u64) -> u64
     requires blocked { Blocked mem.now }
-    requires stop { Stop mem.now at }
+    requires stop { IsBoundary mem.now at }
     ensures value { result ≡ free_end mem.now at }
     ensures inside { result ≤ length mem.now }
     ensures after { at ≤ result }
@@ -65,13 +65,13 @@ pub(crate) fn free_end(mem: &WordMem, at: u64) -> u64
 /// The first block with so many free words among those that begin from one place on and before another.
 pub(crate) fn first_fit(mem: &WordMem, from: u64, end: u64, words: u64) -> Option<u64>
     requires blocked { Blocked mem.now }
-    requires from { Stop mem.now from }
+    requires from { IsBoundary mem.now from }
     requires end { end ≤ length mem.now }
-    ensures none { IfNone result ((p : ℕ) → Begins mem.now p → from ≤ p → p < end → free_at mem.now p < words) }
-    ensures begins { IfSome result (λ at. Begins mem.now at) }
+    ensures none { IfNone result ((p : ℕ) → BlockBegins mem.now p → from ≤ p → p < end → free_at mem.now p < words) }
+    ensures begins { IfSome result (λ at. BlockBegins mem.now at) }
     ensures inside { IfSome result (λ at. (from ≤ at) × (at < end)) }
     ensures fits { IfSome result (λ at. words ≤ free_at mem.now at) }
-    ensures first { IfSome result (λ at. (p : ℕ) → Begins mem.now p → from ≤ p → p < at → free_at mem.now p < words) }
+    ensures first { IfSome result (λ at. (p : ℕ) → BlockBegins mem.now p → from ≤ p → p < at → free_at mem.now p < words) }
 {
     let _len = mem.len();
     let mut at = from;
@@ -88,11 +88,11 @@ pub(crate) fn first_fit(mem: &WordMem, from: u64, end: u64, words: u64) -> Optio
 /// where none does, the place itself.
 pub(crate) fn free_before(mem: &WordMem, from: u64, end: u64, at: u64) -> u64
     requires blocked { Blocked mem.now }
-    requires from { Stop mem.now from }
+    requires from { IsBoundary mem.now from }
     requires end { end ≤ at }
     requires at { at ≤ length mem.now }
-    ensures place { (result ≡ at) ⊎ (Begins mem.now result × (kind_at mem.now result ≡ 0) × (result + size_at mem.now result ≡ at)) }
-    ensures none { result ≡ at → (p : ℕ) → Begins mem.now p → from ≤ p → p < end → kind_at mem.now p ≡ 0 → p + size_at mem.now p ≢ at }
+    ensures place { (result ≡ at) ⊎ (BlockBegins mem.now result × (kind_at mem.now result ≡ 0) × (result + size_at mem.now result ≡ at)) }
+    ensures none { result ≡ at → (p : ℕ) → BlockBegins mem.now p → from ≤ p → p < end → kind_at mem.now p ≡ 0 → p + size_at mem.now p ≢ at }
 {
     let _len = mem.len();
     let mut p = from;
@@ -115,13 +115,13 @@ pub(crate) struct Walk {
 /// Walks over the blocks that begin from one place on and before another.
 pub(crate) fn greatest(mem: &WordMem, from: u64, end: u64) -> Walk
     requires blocked { Blocked mem.now }
-    requires from { Stop mem.now from }
+    requires from { IsBoundary mem.now from }
     requires end { end ≤ length mem.now }
-    ensures above { (p : ℕ) → Begins mem.now p → from ≤ p → p < end → free_at mem.now p ≤ result.most }
-    ensures met { 0 < result.most → (p : ℕ) × Begins mem.now p × (from ≤ p) × (p < end) × (free_at mem.now p ≡ result.most) }
-    ensures stop { Stop mem.now result.at }
+    ensures above { (p : ℕ) → BlockBegins mem.now p → from ≤ p → p < end → free_at mem.now p ≤ result.most }
+    ensures met { 0 < result.most → (p : ℕ) × BlockBegins mem.now p × (from ≤ p) × (p < end) × (free_at mem.now p ≡ result.most) }
+    ensures stop { IsBoundary mem.now result.at }
     ensures past { end ≤ result.at }
-    ensures next { (p : ℕ) → Begins mem.now p → from ≤ p → end ≤ p → result.at ≤ p }
+    ensures next { (p : ℕ) → BlockBegins mem.now p → from ≤ p → end ≤ p → result.at ≤ p }
 {
     let _len = mem.len();
     let mut most = 0;

@@ -1,6 +1,6 @@
 // The table beside the memory: of each stretch of 64 words where its first block begins, and its greatest free block.
 ghost use Rattle.std.specs.Prelude.{◌≡◌, ◌≢◌, ℕ, ◌+◌, ◌*◌, ◌/◌, ◌<◌, ◌≤◌, ◌^◌, List, length, IfOk, slice_index};
-ghost use Rattle.word_arena.specs.Blocks.{size_at, Blocked, Begins};
+ghost use Rattle.word_arena.specs.Blocks.{size_at, Blocked, BlockBegins};
 
 use crate::blocks::{free_words, greatest, next};
 use crate::stretches::{STRETCH, stretch_end, stretch_of};
@@ -68,7 +68,7 @@ impl Holes {
     pub(crate) fn settle_at(&mut self, mem: &WordMem, at: u64)
         requires blocked { Blocked mem.now }
         requires room { HasRoom mem.now self.old }
-        requires block { Begins mem.now at }
+        requires block { BlockBegins mem.now at }
         requires first { IsFirst mem.now (at / STRETCH) (slice_index self.old.firsts.items (at / STRETCH)) }
         ensures right { Right mem.now self.new.firsts.items self.new.tops (at / STRETCH) }
         ensures settled { Settled mem.now self.old self.new }
@@ -82,7 +82,7 @@ impl Holes {
     pub(crate) fn settle_behind(&mut self, mem: &WordMem, block: u64, at: u64)
         requires blocked { Blocked mem.now }
         requires room { HasRoom mem.now self.old }
-        requires block { Begins mem.now block }
+        requires block { BlockBegins mem.now block }
         requires place { (block ≤ at) × (at ≤ block + size_at mem.now block) }
         ensures right { at / STRETCH ≢ block / STRETCH → Right mem.now self.new.firsts.items self.new.tops (at / STRETCH) }
         ensures settled { Settled mem.now self.old self.new }

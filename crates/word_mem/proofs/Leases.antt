@@ -28,19 +28,19 @@ both_val u v = vstruct (vcons u (vcons v vnil))
 abbrev pub lease_own : List Val → Fml
 lease_own = (plainly (plainly [] ∷ [])).own_val (tt, tt)
 
-pub lease_told : (vs : List Val) → shadow (lease_own vs) → vs ≡ lease_val ∷ []
-lease_told vs s = s.1.0 ∙ (λ i. vstruct (of_list (s.1.1.0.1.0 i ++ [])) ∷ [])
+pub lease-told : (vs : List Val) → shadow (lease_own vs) → vs ≡ lease_val ∷ []
+lease-told vs s = s.1.0 ∙ (λ i. vstruct (of_list (s.1.1.0.1.0 i ++ [])) ∷ [])
 
 module _ {M : Type 1} {𝓤 : Ura M} (𝓛 : Logic 𝓤) where
   open 𝓛 use {H}
 
-  pub lease_made : ent 𝓤 (emp 𝓤) (sem 𝓛 (lease_own (lease_val ∷ [])))
-  lease_made = makes_shadow 𝓛 (lease_own (lease_val ∷ [])) (λ _. (tt, ((λ _. (tt, tt)), tt))) ((vstruct vnil ∷ [], tt), (refl, ((tt, (refl, tt)), tt)))
+  pub lease-made : ent 𝓤 (emp 𝓤) (sem 𝓛 (lease_own (lease_val ∷ [])))
+  lease-made = makes_shadow 𝓛 (lease_own (lease_val ∷ [])) (λ _. (tt, ((λ _. (tt, tt)), tt))) ((vstruct vnil ∷ [], tt), (refl, ((tt, (refl, tt)), tt)))
 
   -- a pair owns what its two values own
-  pub both_made : (R S : RattleType) (x : R.Denot) (y : S.Denot) (u v : Val)
+  pub both-made : (R S : RattleType) (x : R.Denot) (y : S.Denot) (u v : Val)
       → ent 𝓤 (sep 𝓤 (sem 𝓛 (R.own_val x (u ∷ []))) (sem 𝓛 (S.own_val y (v ∷ [])))) (sem 𝓛 ((Tuple (R ∷ S ∷ [])).own_val (x, y) (both_val u v ∷ [])))
-  both_made R S x y u v =
+  both-made R S x y u v =
       qed 𝓛 (‵ (R.own_val x (u ∷ [])) ∷ ‵ (S.own_val y (v ∷ [])) ∷ []) ∵ nothing ! $ move ! (2 ∷ 0 ∷ []) $ fjoin ! $ move ! (1 ∷ 0 ∷ []) $ fjoin ! $
       feq_i ! (List Val) (both_val u v ∷ []) (both_val u v ∷ []) refl $ fjoin ! $
       fpack ! (Valss (R ∷ S ∷ [])) (within (shape (tuple_type (R ∷ S ∷ []))) (x, (y, tt)) (both_val u v ∷ [])) (u ∷ [], (v ∷ [], tt)) $ done !

@@ -24,25 +24,25 @@ module _ {M : Type 1} {𝓤 : Ura M} (𝓛 : Logic 𝓤) (κ : Lft) where
       use1 𝓛 (‵ (hidden_shr Fields κ (d.ptr, (d.len, tt)) b o) ⊛ ‵ (fhide (C.the_lent d d.ptr κ))) (lent_out 𝓛 C.struct C.the_codes C.the_heap C.the_lent κ d b o) $ split ! $
       unhide ! $ fsplit ! $ fsplit ! $ move ! (1 ∷ []) $ fsplit ! $ keep ! (2 ∷ 0 ∷ 4 ∷ []) $ done !
 
-  pub none_at_null : (xs : List ℕ) (fs : List Bool) (i : ℕ) → i < length xs → i < length fs → get_or fs i false ≡ true → ent 𝓤 (sem 𝓛 (all_lent null_ptr xs fs κ)) (never 𝓤)
-  none_at_null [] fs i l m full = absurd (not-suc-le-zero l)
-  none_at_null (x ∷ xs) [] i l m full = absurd (not-suc-le-zero m)
-  none_at_null (x ∷ xs) (f ∷ fs) zero l m full = qed 𝓛 (‵ (word_lent f null_ptr x κ) ∷ ‵ (all_lent null_ptr xs fs κ) ∷ []) ∵
+  pub none-at-null : (xs : List ℕ) (fs : List Bool) (i : ℕ) → i < length xs → i < length fs → get_or fs i false ≡ true → ent 𝓤 (sem 𝓛 (all_lent null_ptr xs fs κ)) (never 𝓤)
+  none-at-null [] fs i l m full = absurd (not-suc-le-zero l)
+  none-at-null (x ∷ xs) [] i l m full = absurd (not-suc-le-zero m)
+  none-at-null (x ∷ xs) (f ∷ fs) zero l m full = qed 𝓛 (‵ (word_lent f null_ptr x κ) ∷ ‵ (all_lent null_ptr xs fs κ) ∷ []) ∵
       rewrite ! 0 (λ (g : Bool). ‵ (word_lent g null_ptr x κ)) full refl $ fsplit ! $ keep ! (0 ∷ []) $ done !
-  none_at_null (x ∷ xs) (f ∷ fs) (suc i) l m full = qed 𝓛 (‵ (word_lent f null_ptr x κ) ∷ ‵ (all_lent null_ptr xs fs κ) ∷ []) ∵
-      drop ! $ by ! (none_at_null xs fs i (le_of_suc-le-suc l) (le_of_suc-le-suc m) full)
+  none-at-null (x ∷ xs) (f ∷ fs) (suc i) l m full = qed 𝓛 (‵ (word_lent f null_ptr x κ) ∷ ‵ (all_lent null_ptr xs fs κ) ∷ []) ∵
+      drop ! $ by ! (none-at-null xs fs i (le_of_suc-le-suc l) (le_of_suc-le-suc m) full)
 
-  one_lent : (b o : ℕ) (xs : List ℕ) (fs : List Bool) (i : ℕ) → i < length xs → i < length fs → get_or fs i false ≡ true
+  one-lent : (b o : ℕ) (xs : List ℕ) (fs : List Bool) (i : ℕ) → i < length xs → i < length fs → get_or fs i false ≡ true
       → ent 𝓤 (sem 𝓛 (all_lent (block_ptr b o) xs fs κ)) (sem 𝓛 (hidden_shr u64 κ (get_or xs i 0) b (place 8 o i)))
-  one_lent b o [] fs i l m full = absurd (not-suc-le-zero l)
-  one_lent b o (x ∷ xs) [] i l m full = absurd (not-suc-le-zero m)
-  one_lent b o (x ∷ xs) (f ∷ fs) zero l m full = qed 𝓛 (‵ (word_lent f (block_ptr b o) x κ) ∷ ‵ (all_lent (block_ptr b (o + 8)) xs fs κ) ∷ []) ∵
+  one-lent b o [] fs i l m full = absurd (not-suc-le-zero l)
+  one-lent b o (x ∷ xs) [] i l m full = absurd (not-suc-le-zero m)
+  one-lent b o (x ∷ xs) (f ∷ fs) zero l m full = qed 𝓛 (‵ (word_lent f (block_ptr b o) x κ) ∷ ‵ (all_lent (block_ptr b (o + 8)) xs fs κ) ∷ []) ∵
       rewrite ! 0 (λ (g : Bool). ‵ (word_lent g (block_ptr b o) x κ)) full refl $ fsplit ! $ keep ! (1 ∷ []) $ done !
-  one_lent b o (x ∷ xs) (f ∷ fs) (suc i) l m full = qed 𝓛 (‵ (word_lent f (block_ptr b o) x κ) ∷ ‵ (all_lent (block_ptr b (o + 8)) xs fs κ) ∷ []) ∵
-      drop ! $ by ! (one_lent b (o + 8) xs fs i (le_of_suc-le-suc l) (le_of_suc-le-suc m) full)
+  one-lent b o (x ∷ xs) (f ∷ fs) (suc i) l m full = qed 𝓛 (‵ (word_lent f (block_ptr b o) x κ) ∷ ‵ (all_lent (block_ptr b (o + 8)) xs fs κ) ∷ []) ∵
+      drop ! $ by ! (one-lent b (o + 8) xs fs i (le_of_suc-le-suc l) (le_of_suc-le-suc m) full)
 
-  pub word_shown : (b o : ℕ) (xs : List ℕ) (fs : List Bool) (i : ℕ) → i < length xs → i < length fs → get_or fs i false ≡ true
+  pub word-shown : (b o : ℕ) (xs : List ℕ) (fs : List Bool) (i : ℕ) → i < length xs → i < length fs → get_or fs i false ≡ true
       → ent 𝓤 (sem 𝓛 (all_lent (block_ptr b o) xs fs κ)) (sem 𝓛 (hidden_shr u64 κ (get_or xs i 0) b (i * 8 + o)))
-  word_shown b o xs fs i l m full = qed 𝓛 (‵ (all_lent (block_ptr b o) xs fs κ) ∷ []) ∵
-      use1 𝓛 (‵ (hidden_shr u64 κ (get_or xs i 0) b (place 8 o i))) (one_lent b o xs fs i l m full) $
+  word-shown b o xs fs i l m full = qed 𝓛 (‵ (all_lent (block_ptr b o) xs fs κ) ∷ []) ∵
+      use1 𝓛 (‵ (hidden_shr u64 κ (get_or xs i 0) b (place 8 o i))) (one-lent b o xs fs i l m full) $
       rewrite ! 0 (λ (k : ℕ). ‵ (hidden_shr u64 κ (get_or xs i 0) b k)) (place_is 8 o i) refl $ done !

@@ -60,30 +60,30 @@ module _ {M : Type 1} {𝓤 : Ura M} (𝓛 : Logic 𝓤) (b : ℕ) where
       use2 𝓛 (‵ (all (o + 8) (set xs i y) (set fs i true))) (puts xs fs i y (o + 8) (le_of_suc-le-suc l) (le_of_suc-le-suc m)) $ move ! (1 ∷ 0 ∷ []) $ done !
 
   module _ (o : ℕ) (xs : List ℕ) (fs : List Bool) (i : ℕ) (l : i < length xs) (m : i < length fs) where
-    pub room_out : ent 𝓤 (has (all o xs fs)) (sep 𝓤 (has (froom (ty_int w64) b (i * 8 + o))) (has (besides b o xs fs i)))
-    room_out =
+    pub room-out : ent 𝓤 (has (all o xs fs)) (sep 𝓤 (has (froom (ty_int w64) b (i * 8 + o))) (has (besides b o xs fs i)))
+    room-out =
         qed 𝓛 (‵ (all o xs fs) ∷ []) ∵
         use1 𝓛 (‵ (froom (ty_int w64) b (place 8 o i)) ⊛ ‵ (besides b o xs fs i)) (takes xs fs i o l m) $ split ! $
         rewrite ! 0 (λ (k : ℕ). ‵ (froom (ty_int w64) b k)) (place_is 8 o i) refl $ done !
 
-    pub word_in : (y : ℕ) → ent 𝓤 (sep 𝓤 (has (fat full_share (ty_int w64) b (i * 8 + o) (vint w64 y))) (has (besides b o xs fs i))) (has (all o (set xs i y) (set fs i true)))
-    word_in y =
+    pub word-in : (y : ℕ) → ent 𝓤 (sep 𝓤 (has (fat full_share (ty_int w64) b (i * 8 + o) (vint w64 y))) (has (besides b o xs fs i))) (has (all o (set xs i y) (set fs i true)))
+    word-in y =
         qed 𝓛 (‵ (fat full_share (ty_int w64) b (i * 8 + o) (vint w64 y)) ∷ ‵ (besides b o xs fs i) ∷ []) ∵
         use1 𝓛 (‵ (part_at u64 full_share y b (i * 8 + o))) (uint_in 𝓛 full_share w64 y b (i * 8 + o)) $
         rewrite ! 0 (λ (k : ℕ). ‵ (part_at u64 full_share y b k)) (sym (place_is 8 o i)) refl $ by ! (puts xs fs i y o l m)
 
   -- room for an array is a row of places that hold nothing, and any row is room
-  pub of_room : (n o : ℕ) → ent 𝓤 (has (froom (block_of_words n) b o)) (has (all o (replicate n 0) (replicate n false)))
-  of_room zero o = qed 𝓛 (‵ (froom (block_of_words 0) b o) ∷ []) ∵ keep ! [] $ done !
-  of_room (suc n) o = qed 𝓛 (‵ (froom (block_of_words (suc n)) b o) ∷ []) ∵
+  pub of-room : (n o : ℕ) → ent 𝓤 (has (froom (block_of_words n) b o)) (has (all o (replicate n 0) (replicate n false)))
+  of-room zero o = qed 𝓛 (‵ (froom (block_of_words 0) b o) ∷ []) ∵ keep ! [] $ done !
+  of-room (suc n) o = qed 𝓛 (‵ (froom (block_of_words (suc n)) b o) ∷ []) ∵
       use1 𝓛 (‵ (froom (ty_int w64) b o) ⊛ ‵ (froom (block_of_words n) b (o + 8))) (𝓛.laws.room_uncons (ty_int w64) n b o) $ split ! $
-      frame ! $ by ! (of_room n (o + 8))
+      frame ! $ by ! (of-room n (o + 8))
 
-  pub to_room : (xs : List ℕ) (fs : List Bool) (o : ℕ) → length fs ≡ length xs → ent 𝓤 (has (all o xs fs)) (has (froom (block_of_words (length xs)) b o))
-  to_room [] fs o e = 𝓛.laws.room_nil (ty_int w64) b o
-  to_room (x ∷ xs) [] o e = let e' : 0 ≡ suc (length xs) = e in absurd (not-suc-le-zero {n = 0} (omega arith))
-  to_room (x ∷ xs) (f ∷ fs) o e =
+  pub to-room : (xs : List ℕ) (fs : List Bool) (o : ℕ) → length fs ≡ length xs → ent 𝓤 (has (all o xs fs)) (has (froom (block_of_words (length xs)) b o))
+  to-room [] fs o e = 𝓛.laws.room_nil (ty_int w64) b o
+  to-room (x ∷ xs) [] o e = let e' : 0 ≡ suc (length xs) = e in absurd (not-suc-le-zero {n = 0} (omega arith))
+  to-room (x ∷ xs) (f ∷ fs) o e =
       let e' : suc (length fs) ≡ suc (length xs) = e in
       qed 𝓛 (‵ (one f o x) ∷ ‵ (all (o + 8) xs fs) ∷ []) ∵
       use1 𝓛 (‵ (froom (ty_int w64) b o)) (emptied f o x) $ move ! (1 ∷ []) $
-      use1 𝓛 (‵ (froom (block_of_words (length xs)) b (o + 8))) (to_room xs fs (o + 8) (omega arith)) $ move ! (1 ∷ []) $ by ! (𝓛.laws.room_cons (ty_int w64) (length xs) b o)
+      use1 𝓛 (‵ (froom (block_of_words (length xs)) b (o + 8))) (to-room xs fs (o + 8) (omega arith)) $ move ! (1 ∷ []) $ by ! (𝓛.laws.room_cons (ty_int w64) (length xs) b o)

@@ -37,17 +37,17 @@ abbrev pub places : Words → ℕ → ℕ → Fml
 places d b o = words_at (block_ptr b o) d.items d.filled
 
 module _ {M : Type 1} {𝓤 : Ura M} {𝓛 : Logic 𝓤} {K : Type 0} {Γ : List (Item 𝓤)} {G : Goal 𝓤 𝓛.H} where
-  pub row_had : K → (d : Words) (vs : List Val)
+  pub row-had : K → (d : Words) (vs : List Val)
       → ((b o : ℕ) → d.ptr ≡ block_ptr b o → vs ≡ row_val b o d.len ∷ [] → d.len < 2 ^ 64 → d.len * 8 < 2 ^ 63 → Seq K 𝓛 (‵ (places d b o) ∷ Γ) G)
       → Seq K 𝓛 (‵ (W.own_val d vs) ∷ Γ) G
-  row_had t d vs k =
+  row-had t d vs k =
       fsplit t $ fpick t (λ vss. fsplit t $ feq_l t (λ all. fsplit t $ feq_l t (λ e₀. fsplit t $ fsplit t $ feq_l t (λ e₁. flt_l t (λ fn. drop t $ fsplit t $ flt_l t (λ fit.
       in_a_block t d.ptr (λ p. in_block p (words_at p d.items d.filled)) (id⊢ 𝓤 (never 𝓤)) (λ b o e.
       k b o e (all ∙ ((λ i. vstruct (of_list (e₀ i ++ (e₁ i ++ []))) ∷ []) ∙ ap (λ (p : Ptr). pair_of p d.len ∷ []) e)) fn fit)))))))
 
-  pub row_made : K → (d : Words) (b o : ℕ) → d.ptr ≡ block_ptr b o → d.len < 2 ^ 64 → d.len * 8 < 2 ^ 63
+  pub row-made : K → (d : Words) (b o : ℕ) → d.ptr ≡ block_ptr b o → d.len < 2 ^ 64 → d.len * 8 < 2 ^ 63
       → Step K 𝓛 (‵ (W.own_val d (row_val b o d.len ∷ [])) ∷ Γ) G (‵ (places d b o) ∷ Γ) G
-  row_made t d b o at fn fit = step (λ s.
+  row-made t d b o at fn fit = step (λ s.
       flt_i t (d.len * 8) (2 ^ 63) fit $ fjoin t $
       nothing t $ flt_i t d.len (2 ^ 64) fn $ feq_i t (List Val) (vint w64 d.len ∷ []) (vint w64 d.len ∷ []) refl $ fjoin t $ fjoin t $
       feq_i t (List Val) (vptr b o ∷ []) (vptr b o ∷ []) refl $ fjoin t $ feq_i t (List Val) (row_val b o d.len ∷ []) (row_val b o d.len ∷ []) refl $ fjoin t $
@@ -56,16 +56,16 @@ module _ {M : Type 1} {𝓤 : Ura M} {𝓛 : Logic 𝓤} {K : Type 0} {Γ : List
 
 module _ {M : Type 1} {𝓤 : Ura M} {𝓛 : Logic 𝓤} {K : Type 0} {Γ : List (Item 𝓤)} {G : Goal 𝓤 𝓛.H} where
   -- [the places; the two fields; the open borrow; obs; auth]
-  pub row_opens : K → Soaks G → {κ : Lft} {q : Share} {γ : GName} (d : Words) (rb ro : ℕ)
+  pub row-opens : K → Soaks G → {κ : Lft} {q : Share} {γ : GName} (d : Words) (rb ro : ℕ)
       → ((b o : ℕ) → d.ptr ≡ block_ptr b o → d.len < 2 ^ 64 → d.len * 8 < 2 ^ 63
       → Seq K 𝓛 (‵ (places d b o) ∷ ‵ (cell_at full_share W.mir (row_val b o d.len ∷ []) rb ro) ∷ ‵ (fobor κ q (Body (mem W) rb ro γ)) ∷ ‵ (fobs γ (W.coded.code d)) ∷ ‵
       (fauth γ (W.coded.code d)) ∷ Γ) G)
       → Seq K 𝓛 (‵ (fobs γ (W.coded.code d)) ∷ ‵ (fbor κ (Body (mem W) rb ro γ)) ∷ ‵ (flft κ q) ∷ Γ) G
-  row_opens t z d rb ro k =
-      opens t z W {h = d} rb ro (λ vs. move t (1 ∷ []) $ row_had t d vs (λ b o e is fn fit.
+  row-opens t z d rb ro k =
+      opens t z W {h = d} rb ro (λ vs. move t (1 ∷ []) $ row-had t d vs (λ b o e is fn fit.
       rewrite t 1 (λ (ws : List Val). ‵ (cell_at full_share W.mir ws rb ro)) is refl $ k b o e fn fit))
 
-  pub row_closes : K → Soaks G → {κ : Lft} {q : Share} {u v : Gv} {γ : GName} (d : Words) (b o rb ro : ℕ) → d.ptr ≡ block_ptr b o → d.len < 2 ^ 64 → d.len * 8 < 2 ^ 63
+  pub row-closes : K → Soaks G → {κ : Lft} {q : Share} {u v : Gv} {γ : GName} (d : Words) (b o rb ro : ℕ) → d.ptr ≡ block_ptr b o → d.len < 2 ^ 64 → d.len * 8 < 2 ^ 63
       → Step K 𝓛 (‵ (fobs γ (W.coded.code d)) ∷ ‵ (fbor κ (Body (mem W) rb ro γ)) ∷ ‵ (flft κ q) ∷ Γ) G
       (‵ (places d b o) ∷ ‵ (cell_at full_share W.mir (row_val b o d.len ∷ []) rb ro) ∷ ‵ (fobor κ q (Body (mem W) rb ro γ)) ∷ ‵ (fobs γ u) ∷ ‵ (fauth γ v) ∷ Γ) G
-  row_closes t z d b o rb ro at fn fit = step (λ s. row_made t d b o at fn fit $ move t (1 ∷ 0 ∷ []) $ closes t z W d (row_val b o d.len ∷ []) rb ro $ s)
+  row-closes t z d b o rb ro at fn fit = step (λ s. row-made t d b o at fn fit $ move t (1 ∷ 0 ∷ []) $ closes t z W d (row_val b o d.len ∷ []) rb ro $ s)

@@ -67,7 +67,20 @@ unfolding Stands lie lists
 the-shared = record {
   from_one = lit< tt;
   known = lit≤ tt;
-  holder = record { tag = refl; within = lit≤ tt; header = refl; size = refl; bytes_word = refl; flags_word = refl; first = refl; second = refl; next = refl; names = refl; fifth = refl; sixth = refl };
+  holder = record {
+    tag = refl;
+    within = lit≤ tt;
+    header = refl;
+    size = refl;
+    bytes_word = refl;
+    flags_word = refl;
+    first = refl;
+    second = refl;
+    next = refl;
+    names = refl;
+    fifth = refl;
+    sixth = refl;
+  };
   record_is = record { within = lit≤ tt; header = refl; owner = refl; size = refl; content = lies 13 (1 ∷ 2 ∷ []) refl; first = refl; second = refl; counted = refl; others = λ q from below. refl };
 }
 

@@ -1,6 +1,6 @@
 // The arena answers as a plain list of blocks does, over long runs of calls that are drawn at random.
 ghost use Rattle.std.specs.Prelude.{◌≤◌, ◌<◌, ◌^◌, ℕ, length};
-ghost use Rattle.word_arena.specs.Blocks.{Begins};
+ghost use Rattle.word_arena.specs.Blocks.{BlockBegins};
 ghost use Rattle.word_arena.specs.Sound.{Sound};
 
 use std::alloc::Global;
@@ -149,7 +149,7 @@ fn is_as(arena: &Arena, row: &[Block]) -> bool
 fn block_behind(arena: &Arena, blocks: u64) -> u64
     requires sound { Sound arena.now }
     requires some { 0 < length arena.now.mem }
-    ensures begins { Begins arena.now.mem result }
+    ensures begins { BlockBegins arena.now.mem result }
     ensures inside { result < length arena.now.mem }
 {
     let mut at = 0;

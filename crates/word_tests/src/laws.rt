@@ -2,7 +2,7 @@
 ghost use Rattle.std.specs.Prelude.{◌≡◌, ℕ, ◌+◌, ◌/◌, ◌≤◌, Bool, true, List};
 ghost use Rattle.plain_term.specs.Tree.{Trees};
 ghost use Rattle.term_words.specs.Counted.{In, Distinct, IsLaid, total};
-ghost use Rattle.term_words.specs.Reach.{Passes};
+ghost use Rattle.term_words.specs.Reach.{PassTest};
 ghost use Rattle.term_words.specs.Role.{outside, IsSingle};
 ghost use Rattle.term_words.specs.Stands.{AllStand};
 ghost use Rattle.term_words.specs.Tiled.{tile_words};
@@ -15,7 +15,7 @@ use term_words::{
 /// Roots that reach no free word of a room are clear of it.
 pub fn roots_that_reach_no_free_word_are_clear()
     ensures { (c : ℕ → ℕ → Bool) (shared : List (List ℕ)) (mem roots : List ℕ) (ts : Trees) (top limit : ℕ) → AllStand c shared mem roots ts
-        → Passes c (outside top limit) mem roots → AllStand (outside top limit) shared mem roots ts }
+        → PassTest c (outside top limit) mem roots → AllStand (outside top limit) shared mem roots ts }
 {
     roots_stand_by_narrower_tests();
     lists_stand_word_by_word();

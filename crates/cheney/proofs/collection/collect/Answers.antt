@@ -1,5 +1,5 @@
 use Rattle.cheney.specs.Zones.{at_objects}
-use Rattle.cheney.proofs.Rows.{ended, same-length, start-moves, start-reached, start-runs, then-scans}
+use Rattle.cheney.proofs.Rooted.Rows.{ended, same-length, start-moves, start-reached, start-runs, then-scans}
 use Rattle.cheney.proofs.collection.collect.Goals as goal
 
 pub evacuate_all-requires : goal.evacuate_all-requires

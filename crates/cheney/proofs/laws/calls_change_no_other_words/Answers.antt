@@ -1,4 +1,4 @@
-use Rattle.cheney.proofs.Begins.{free-aside, other-aside, stay-aside}
+use Rattle.cheney.proofs.Rooted.Begins.{free-aside, other-aside, stay-aside}
 use Rattle.cheney.proofs.laws.calls_change_no_other_words.Goals as goal
 
 pub returns-clause-free : goal.returns-clause-free

@@ -1,5 +1,5 @@
-use Rattle.cheney.proofs.Begins.{has-collected}
-use Rattle.cheney.proofs.Next.{fits-again, lies-again, ready-again}
+use Rattle.cheney.proofs.Rooted.Begins.{has-collected}
+use Rattle.cheney.proofs.After.Next.{fits-again, lies-again, ready-again}
 use Rattle.cheney.proofs.laws.collections_can_follow.Goals as goal
 
 pub returns-clause-lies : goal.returns-clause-lies

@@ -1,4 +1,4 @@
-use Rattle.cheney.proofs.Fitting.{fits-by-places, fits-by-range, fits-further}
+use Rattle.cheney.proofs.After.Fitting.{fits-by-places, fits-by-range, fits-further}
 use Rattle.cheney.proofs.laws.counted_places_bound_rooms.Goals as goal
 
 pub returns-clause-range : goal.returns-clause-range

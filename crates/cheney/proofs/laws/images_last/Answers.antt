@@ -1,5 +1,5 @@
-use Rattle.cheney.proofs.Begins.{image-kept}
-use Rattle.cheney.proofs.Steps.{later-same, later-then, later-wider}
+use Rattle.cheney.proofs.Rooted.Begins.{image-kept}
+use Rattle.cheney.proofs.Stepping.Steps.{later-same, later-then, later-wider}
 use Rattle.cheney.proofs.laws.images_last.Goals as goal
 
 pub returns-clause-images : goal.returns-clause-images

@@ -1,4 +1,4 @@
-use Rattle.cheney.proofs.Next.{has-roles}
+use Rattle.cheney.proofs.After.Next.{has-roles}
 use Rattle.cheney.proofs.laws.memories_get_single_roles.Goals as goal
 
 pub returns : goal.returns

@@ -1,5 +1,5 @@
-use Rattle.cheney.proofs.Begins.{has-collected}
-use Rattle.cheney.proofs.Next.{is-tiled}
+use Rattle.cheney.proofs.Rooted.Begins.{has-collected}
+use Rattle.cheney.proofs.After.Next.{is-tiled}
 use Rattle.cheney.proofs.laws.rooms_are_tiled.Goals as goal
 
 pub returns : goal.returns

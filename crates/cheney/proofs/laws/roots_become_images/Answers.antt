@@ -1,5 +1,5 @@
-use Rattle.cheney.proofs.Rows.{images-all, images-beside, images-join, images-later, images-of, in-at, in-joined, root-in, roots-in}
-use Rattle.cheney.proofs.Places.{places-aside, word-at}
+use Rattle.cheney.proofs.Rooted.Rows.{images-all, images-beside, images-join, images-later, images-of, in-at, in-joined, root-in, roots-in}
+use Rattle.cheney.proofs.Rooted.Places.{places-aside, word-at}
 use Rattle.cheney.proofs.laws.roots_become_images.Goals as goal
 
 pub returns-clause-at : goal.returns-clause-at

@@ -1,4 +1,4 @@
-use Rattle.cheney.proofs.Begins.{has-collected}
+use Rattle.cheney.proofs.Rooted.Begins.{has-collected}
 use Rattle.cheney.proofs.laws.scanned_collections_are_whole.Goals as goal
 
 pub returns : goal.returns

@@ -1,4 +1,4 @@
-use Rattle.cheney.proofs.Begins.{beside-runs, image-beside}
+use Rattle.cheney.proofs.Rooted.Begins.{beside-runs, image-beside}
 use Rattle.cheney.proofs.laws.writes_beside_keep_collections.Goals as goal
 
 pub returns-clause-runs : goal.returns-clause-runs

@@ -1,5 +1,5 @@
 use Rattle.std.proofs.Common.{◌/◌, refl}
-use Rattle.cheney.proofs.Copying.{boxed-copies}
+use Rattle.cheney.proofs.Stepping.Copying.{boxed-copies}
 use Rattle.cheney.proofs.objects.boxed_to.Goals as goal
 
 pub returns-clause-copies : goal.returns-clause-copies

@@ -1,4 +1,4 @@
-use Rattle.cheney.proofs.Copying.{cons-copies}
+use Rattle.cheney.proofs.Stepping.Copying.{cons-copies}
 use Rattle.cheney.proofs.objects.cons_to.Goals as goal
 
 pub returns-clause-copies : goal.returns-clause-copies

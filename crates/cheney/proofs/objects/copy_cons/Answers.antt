@@ -1,5 +1,5 @@
 use Rattle.std.proofs.Common.{true, false}
-use Rattle.cheney.proofs.Steps.{cons-aged, cons-spot, cons-young}
+use Rattle.cheney.proofs.Stepping.Steps.{cons-aged, cons-spot, cons-young}
 use Rattle.cheney.proofs.objects.copy_cons.Goals as goal
 
 pub cons_to-requires-clause-within : goal.cons_to-requires-clause-within

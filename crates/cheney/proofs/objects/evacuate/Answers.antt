@@ -1,4 +1,4 @@
-use Rattle.cheney.proofs.Steps.{evacuated}
+use Rattle.cheney.proofs.Stepping.Steps.{evacuated}
 use Rattle.cheney.proofs.objects.evacuate.Goals as goal
 
 pub returns : goal.returns

@@ -1,5 +1,5 @@
 use Rattle.std.proofs.Common.{true, false}
-use Rattle.cheney.proofs.Steps.{from-moves, boxed-some, boxed-spot, boxed-found, boxed-aged, boxed-young}
+use Rattle.cheney.proofs.Stepping.Steps.{from-moves, boxed-some, boxed-spot, boxed-found, boxed-aged, boxed-young}
 use Rattle.cheney.proofs.objects.move_boxed.Goals as goal
 
 pub get-header-requires : goal.get-header-requires

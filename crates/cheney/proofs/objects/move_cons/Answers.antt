@@ -1,5 +1,5 @@
 use Rattle.std.proofs.Common.{arith, inr}
-use Rattle.cheney.proofs.Steps.{cons-found, cons-within, from-moves, is-fresh}
+use Rattle.cheney.proofs.Stepping.Steps.{cons-found, cons-within, from-moves, is-fresh}
 use Rattle.cheney.proofs.objects.move_cons.Goals as goal
 
 pub stays_at-requires : goal.stays_at-requires

@@ -1,6 +1,6 @@
 use Rattle.std.proofs.Common.{refl}
 use Rattle.cheney.specs.Zones.{at_objects}
-use Rattle.cheney.proofs.Steps.{aged-on, young-on, can-open-aged, can-open-young, all-scanned}
+use Rattle.cheney.proofs.Stepping.Steps.{aged-on, young-on, can-open-aged, can-open-young, all-scanned}
 use Rattle.cheney.proofs.parts.scan.Goals as goal
 
 pub scan_object-aged-requires : goal.scan_object-aged-requires

@@ -1,9 +1,9 @@
 use Rattle.std.proofs.Common.{ℕ, subst, ◌+◌, ◌/◌}
 use Rattle.cheney.specs.Calls.{Shape}
 use Rattle.cheney.specs.Zones.{mark}
-use Rattle.cheney.proofs.Steps.{Going, opened-there, going-on, going-step, gone-through, same-ends, step-within}
-use Rattle.cheney.proofs.Scanning.{boxed-shape}
-use Rattle.cheney.proofs.Writing.{scanned-here}
+use Rattle.cheney.proofs.Stepping.Steps.{Going, opened-there, going-on, going-step, gone-through, same-ends, step-within}
+use Rattle.cheney.proofs.Stepping.Scanning.{boxed-shape}
+use Rattle.cheney.proofs.Stepping.Writing.{scanned-here}
 use Rattle.cheney.proofs.parts.scan_boxed.Goals as goal
 
 pub loop-at-init : goal.loop-at-init

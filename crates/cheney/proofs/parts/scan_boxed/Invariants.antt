@@ -2,7 +2,7 @@ use Rattle.std.proofs.Common.{◌-◌, ◌≡◌, Bool, ◌<◌}
 use Rattle.cheney.specs.Plan.{Plan}
 use Rattle.cheney.specs.Zones.{Marks, object_at, scanned_at}
 use Rattle.cheney.specs.Rooms.{Runs, top_of}
-use Rattle.cheney.proofs.Steps.{Going}
+use Rattle.cheney.proofs.Stepping.Steps.{Going}
 use Rattle.cheney.proofs.parts.scan_boxed.Given as goal
 
 abbrev pub invariant-loop-at : goal.invariant-loop-at

@@ -1,5 +1,5 @@
-use Rattle.cheney.proofs.Steps.{step-after, step-moves, step-part, stepped, went-there}
-use Rattle.cheney.proofs.Scanning.{kept-part, kept-word}
+use Rattle.cheney.proofs.Stepping.Steps.{step-after, step-moves, step-part, stepped, went-there}
+use Rattle.cheney.proofs.Stepping.Scanning.{kept-part, kept-word}
 use Rattle.cheney.proofs.parts.scan_word.Goals as goal
 
 pub evacuate-new-requires : goal.evacuate-new-requires

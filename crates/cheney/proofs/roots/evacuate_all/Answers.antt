@@ -1,6 +1,6 @@
 use Rattle.std.proofs.Common.{◌<◌, length, ◌∙◌, arith}
 use Rattle.std.proofs.lemmas.List.{length-set}
-use Rattle.cheney.proofs.Rows.{row-done, row-further, row-moves, row-reached}
+use Rattle.cheney.proofs.Rooted.Rows.{row-done, row-further, row-moves, row-reached}
 use Rattle.cheney.proofs.roots.evacuate_all.Goals as goal
 
 pub evacuate-requires : goal.evacuate-requires

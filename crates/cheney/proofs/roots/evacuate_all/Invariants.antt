@@ -3,7 +3,7 @@ use Rattle.term_words.specs.Counted.{In}
 use Rattle.cheney.specs.Plan.{Plan, Reached}
 use Rattle.cheney.specs.Zones.{Marks}
 use Rattle.cheney.specs.Rooms.{Runs}
-use Rattle.cheney.proofs.Rows.{RowMoving}
+use Rattle.cheney.proofs.Rooted.Rows.{RowMoving}
 use Rattle.cheney.proofs.roots.evacuate_all.Given as goal
 
 abbrev pub invariant-loop-i : goal.invariant-loop-i

@@ -1,6 +1,6 @@
 use Rattle.std.proofs.Common.{List, ℕ, sym, subst}
 use Rattle.cheney.specs.Roots.{EvacuatedAt}
-use Rattle.cheney.proofs.Places.{place-inside, place-moved}
+use Rattle.cheney.proofs.Rooted.Places.{place-inside, place-moved}
 use Rattle.cheney.proofs.roots.evacuate_at.Goals as goal
 
 pub set-requires : goal.set-requires

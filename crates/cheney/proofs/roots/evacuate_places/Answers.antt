@@ -1,4 +1,4 @@
-use Rattle.cheney.proofs.Places.{places-done, places-further, places-moves, places-reached}
+use Rattle.cheney.proofs.Rooted.Places.{places-done, places-further, places-moves, places-reached}
 use Rattle.cheney.proofs.roots.evacuate_places.Goals as goal
 
 pub evacuate_at-requires : goal.evacuate_at-requires

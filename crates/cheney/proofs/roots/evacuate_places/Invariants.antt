@@ -2,7 +2,7 @@ use Rattle.cheney.specs.Plan.{Plan}
 use Rattle.cheney.specs.Zones.{Marks}
 use Rattle.cheney.specs.Rooms.{Runs}
 use Rattle.cheney.specs.Roots.{AreRoots}
-use Rattle.cheney.proofs.Places.{PlacesMoving}
+use Rattle.cheney.proofs.Rooted.Places.{PlacesMoving}
 use Rattle.cheney.proofs.roots.evacuate_places.Given as goal
 
 abbrev pub invariant-loop-i : goal.invariant-loop-i

@@ -1,5 +1,5 @@
 use Rattle.std.proofs.Common.{arith}
-use Rattle.cheney.proofs.Steps.{cons-within}
+use Rattle.cheney.proofs.Stepping.Steps.{cons-within}
 use Rattle.cheney.proofs.spine.fresh_cons.Goals as goal
 
 pub get-head-requires : goal.get-head-requires

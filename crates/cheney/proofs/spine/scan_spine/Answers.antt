@@ -1,8 +1,8 @@
 use Rattle.std.proofs.Common.{ℕ, ◌+◌, ◌≤◌, length, subst, sym, arith}
 use Rattle.cheney.specs.Zones.{mark}
 use Rattle.cheney.specs.Calls.{RunsOn}
-use Rattle.cheney.proofs.Scanning.{cell-done, cell-inside, cell-step, spine-inside, spine-start, spine-within, tail-kept, tail-step}
-use Rattle.cheney.proofs.Steps.{same-ends}
+use Rattle.cheney.proofs.Stepping.Scanning.{cell-done, cell-inside, cell-step, spine-inside, spine-start, spine-within, tail-kept, tail-step}
+use Rattle.cheney.proofs.Stepping.Steps.{same-ends}
 use Rattle.cheney.proofs.spine.scan_spine.Goals as goal
 
 pub get-tail-requires : goal.get-tail-requires

@@ -1,6 +1,6 @@
 use Rattle.std.proofs.Common.{◌∙◌, sym}
-use Rattle.cheney.proofs.Scanning.{is-next, same-bool, tail-moved}
-use Rattle.cheney.proofs.Steps.{step-moves}
+use Rattle.cheney.proofs.Stepping.Scanning.{is-next, same-bool, tail-moved}
+use Rattle.cheney.proofs.Stepping.Steps.{step-moves}
 use Rattle.cheney.proofs.spine.scan_tail.Goals as goal
 
 pub fresh_cons-requires : goal.fresh_cons-requires

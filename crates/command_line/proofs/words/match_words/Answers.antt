@@ -4,7 +4,7 @@ use Rattle.std.specs.Prelude.{codes}
 use Rattle.clap.specs.Words.{App, FailsBy, app_of, fault_of, is_simple, matches_of, rule_of, with_rule}
 use Rattle.clap.specs.Faults.{is_simple_and_free}
 use Rattle.command_line.specs.Words.{faults, matches, option_named, program}
-use Rattle.command_line.proofs.Program.{program-simple, program-free, none_where_taken, kind_where_refused}
+use Rattle.command_line.proofs.Program.{program-simple, program-free, none-where-taken, kind-where-refused}
 use Rattle.command_line.proofs.words.match_words.Goals as goal
 
 -- the command of the body is the program
@@ -27,7 +27,7 @@ fails c =
 
 pub returns-clause-ok : goal.returns-clause-ok
 unfolding faults
-returns-clause-ok c = none_where_taken c.try_get_matches_from.result _ (fails c)
+returns-clause-ok c = none-where-taken c.try_get_matches_from.result _ (fails c)
 
 pub returns-clause-rows : goal.returns-clause-rows
 unfolding matches
@@ -39,4 +39,4 @@ returns-clause-rows c =
 
 pub returns-clause-err : goal.returns-clause-err
 unfolding faults
-returns-clause-err c = kind_where_refused c.try_get_matches_from.result _ (fails c)
+returns-clause-err c = kind-where-refused c.try_get_matches_from.result _ (fails c)

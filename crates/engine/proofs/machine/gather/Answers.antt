@@ -1,5 +1,5 @@
 use Rattle.std.proofs.Common.{sym, ◌∙◌}
-use Rattle.line_io.proofs.Collects.{same_sink, finished, given_up}
+use Rattle.line_io.proofs.Collects.{same-sink, finished, given-up}
 use Rattle.engine.proofs.machine.gather.Goals as goal
 
 pub returns-in_err-put_reply : goal.returns-in_err-put_reply
@@ -10,8 +10,8 @@ returns-in_err-put_reply g c = record {
       let made = c.new-gathered.ensures in
       let e = c.in_err-put_reply.ensures in
       let w = e.writes s h in
-      let names = sym made.same_reference ∙ same_sink g.K.Sink.wrote old new w.part made.empty w.grew in
-      given_up g.K.Sink.wrote old new g.K.Sink.faults _ _ _ c.from_residual.result c.from_residual.ensures.0 made.sink made.empty w e.later e.rose (c.in_err-put_reply.sink-1-own.given.1 names);
+      let names = sym made.same_reference ∙ same-sink g.K.Sink.wrote old new w.part made.empty w.grew in
+      given-up g.K.Sink.wrote old new g.K.Sink.faults _ _ _ c.from_residual.result c.from_residual.ensures.0 made.sink made.empty w e.later e.rose (c.in_err-put_reply.sink-1-own.given.1 names);
   allowed = c.in_err-put_reply.ensures.allowed;
 }
 
@@ -24,7 +24,7 @@ returns g c = record {
       let e = c.in_ok-put_reply.ensures in
       let w = e.writes s h in
       let f = c.finish.ensures in
-      let names = sym made.same_reference ∙ same_sink g.K.Sink.wrote old new _ made.empty w ∙ sym f.same_reference in
+      let names = sym made.same_reference ∙ same-sink g.K.Sink.wrote old new _ made.empty w ∙ sym f.same_reference in
       finished g.K.Sink.wrote old new g.K.Sink.faults _ _ _ _ c.finish.result made.sink made.empty w e.later e.told
       (record { all = f.all; part = f.part; later = f.later; rose = f.rose; told = f.told }) (c.sink-2-1.given.1 names);
   allowed = c.in_ok-put_reply.ensures.allowed;

@@ -1,7 +1,7 @@
 use Rattle.std.proofs.Common.{◌≡◌, ℕ, suc, ◌+◌, ◌∷◌, ◌++◌, [], set, take, sym, ◌∙◌, ap, subst, arith, pos, length-set}
 use Rattle.plain_term.specs.declared.item.Item.TheVariants.{Int}
 use Rattle.item_build.specs.Reading.{bytes_in}
-use Rattle.item_build.proofs.Bytes.{bytes-step, take-step}
+use Rattle.item_build.proofs.Meaning.Bytes.{bytes-step, take-step}
 use Rattle.item_build.proofs.bins.first_bytes.Goals as goal
 
 pub loop-i-preserved : goal.loop-i-preserved

@@ -7,8 +7,8 @@ use Rattle.term_build.specs.Taken.{IsFree}
 use Rattle.shared_rec.specs.Record.{count_in}
 use Rattle.off_heap_list.specs.Links.{Links, named}
 use Rattle.item_build.specs.Reading.{bytes_in}
-use Rattle.item_build.proofs.Bytes.{bytes-len}
-use Rattle.item_build.proofs.Laying.{chained-len, laid-bin, laid-others, named-rec}
+use Rattle.item_build.proofs.Meaning.Bytes.{bytes-len}
+use Rattle.item_build.proofs.Laid.Laying.{chained-len, laid-bin, laid-others, named-rec}
 use Rattle.item_build.proofs.bins.lay_bin.Goals as goal
 
 top-is : (x y : Room) (n : ℕ) → y ≡ record { start = x.start; top = x.top; end = x.end - n } → (y.start ≡ x.start) × ((y.top ≡ x.top) × (y.end ≡ x.end - n))

@@ -1,8 +1,8 @@
 use Rattle.std.proofs.Common.{◌≡◌, ℕ, suc, ◌+◌, ◌-◌, ◌≤◌, true, List, length, drop, take, get_or, sym, ◌∙◌, ap, subst, arith, refl, pos}
 use Rattle.plain_term.specs.declared.item.Item.TheVariants.{Int}
 use Rattle.item_build.specs.Reading.{bytes_after, is_long}
-use Rattle.item_build.proofs.Chaining.{LaidTo, all-back, all-front, all-laid, all-serial, laid-as, laid-begins, laid-next, laid-past, led-open, longs-left, next-fits, rest-now}
-use Rattle.item_build.proofs.Whole.{rest-is}
+use Rattle.item_build.proofs.Laid.Chaining.{LaidTo, all-back, all-front, all-laid, all-serial, laid-as, laid-begins, laid-next, laid-past, led-open, longs-left, next-fits, rest-now}
+use Rattle.item_build.proofs.Meaning.Whole.{rest-is}
 use Rattle.item_build.proofs.bins.lay_bins.Goals as goal
 use Rattle.item_build.proofs.bins.lay_bins.Goals.{then-is_long, else-is_long}
 

@@ -1,4 +1,4 @@
-use Rattle.item_build.proofs.Chaining.{LaidTo}
+use Rattle.item_build.proofs.Laid.Chaining.{LaidTo}
 use Rattle.item_build.proofs.bins.lay_bins.Given as goal
 
 abbrev pub invariant-loop-i : goal.invariant-loop-i

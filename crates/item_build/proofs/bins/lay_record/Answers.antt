@@ -1,6 +1,6 @@
 use Rattle.std.proofs.Common.{◌+◌, ◌-◌, ◌∙◌, refl, arith, inl}
 use Rattle.plain_term.specs.Measures.{bin_words}
-use Rattle.item_build.proofs.Bytes.{record-made}
+use Rattle.item_build.proofs.Meaning.Bytes.{record-made}
 use Rattle.item_build.proofs.bins.lay_record.Goals as goal
 
 pub returns-clause-made : goal.returns-clause-made

@@ -1,8 +1,8 @@
 use Rattle.std.proofs.Common.{◌≡◌, ℕ, ◌+◌, ◌≤◌, List, ◌++◌, length, arith}
 use Rattle.item_build.specs.Reading.{bins_of, is_big, long_bins, own_words_of, read}
-use Rattle.item_build.proofs.Whole.{words-apart}
-use Rattle.item_build.proofs.Chaining.{leaves-then}
-use Rattle.item_build.proofs.Ending.{big-makes, leaves-back, leaves-uses, ok-makes, ready, whole-led, wide-makes}
+use Rattle.item_build.proofs.Meaning.Whole.{words-apart}
+use Rattle.item_build.proofs.Laid.Chaining.{leaves-then}
+use Rattle.item_build.proofs.Turned.Ending.{big-makes, leaves-back, leaves-uses, ok-makes, ready, whole-led, wide-makes}
 use Rattle.item_build.proofs.building.build.Goals as goal
 
 pub lay_bins-requires-clause-whole : goal.lay_bins-requires-clause-whole

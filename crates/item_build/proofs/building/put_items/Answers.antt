@@ -5,10 +5,10 @@ use Rattle.plain_term.specs.declared.item.Item.TheVariants.{Int}
 use Rattle.plain_term.specs.Tree.{Tree}
 use Rattle.item_build.specs.Reading.{bytes_after, bytes_led, is_big, long_bins, own_words, own_words_of, read, terms_in}
 use Rattle.term_build.specs.Taken.{IsFree}
-use Rattle.item_build.specs.Building.{BinsStand, HeldStand, MarksBuilt, Reads, UsesSome}
-use Rattle.item_build.proofs.Makes.{uses-nothing}
-use Rattle.item_build.proofs.Whole.{own-at, own-rest, rest-at, terms-few, whole-at}
-use Rattle.item_build.proofs.Steps.{all-read, begun, bin-after, bin-fits, can-put, free-at, held-at, holder-at, no-items, one-left, put-big, put-more, row-count, some-then, spares-some}
+use Rattle.item_build.specs.Building.{BinsStand, HeldStand, MarksBuilt, PutsAll, UsesSome}
+use Rattle.item_build.proofs.Turned.Makes.{uses-nothing}
+use Rattle.item_build.proofs.Meaning.Whole.{own-at, own-rest, rest-at, terms-few, whole-at}
+use Rattle.item_build.proofs.Turned.Steps.{all-read, begun, bin-after, bin-fits, can-put, free-at, held-at, holder-at, no-items, one-left, put-big, put-more, row-count, some-then, spares-some}
 use Rattle.item_build.proofs.building.put_items.Goals as goal
 
 pub loop-i-init : goal.loop-i-init
@@ -68,7 +68,7 @@ returns-clause-reads c = λ k shared trees free held holders.
 
 pub returns-in_err-sp-clause-reads : goal.returns-in_err-sp-clause-reads
 returns-in_err-sp-clause-reads c = λ k shared trees free held holders.
-    let P : Option ℕ → Type 0 = λ z. Reads k shared c.args.room.now c.put_item.new.room c.args.mem.now c.put_item.new.mem z (is_big c.args.names.now shared trees c.args.code.now)
+    let P : Option ℕ → Type 0 = λ z. PutsAll k shared c.args.room.now c.put_item.new.room c.args.mem.now c.put_item.new.mem z (is_big c.args.names.now shared trees c.args.code.now)
     (read c.args.names.now shared trees c.args.code.now) in
     let b = c.loop-i.invariant.built k shared trees free held holders in
     let big = c.in_err-sp.ensures.puts b.1.test shared trees (read c.args.names.now shared trees (drop c.loop-i.i c.args.code.now))

@@ -1,5 +1,5 @@
 use Rattle.std.proofs.Common.{◌+◌, ◌-◌, take, arith, lt-ltb}
-use Rattle.item_build.proofs.Makes.{long-word, short-word}
+use Rattle.item_build.proofs.Turned.Makes.{long-word, short-word}
 use Rattle.item_build.proofs.putting.bin_word.Goals as goal
 
 pub boxed_at-requires : goal.boxed_at-requires

@@ -3,7 +3,7 @@ use Rattle.std.proofs.lemmas.List.{length-drop}
 use Rattle.plain_term.specs.Tree.{Tree}
 use Rattle.term_words.specs.Role.{always}
 use Rattle.item_build.specs.Reading.{has_big_key as has_big, is_big_key as is_big_mark}
-use Rattle.item_build.proofs.Marks.{few-small, marks-length, two-at}
+use Rattle.item_build.proofs.Turned.Marks.{few-small, marks-length, two-at}
 use Rattle.item_build.proofs.putting.has_big_key.Goals as goal
 
 next-place : (i : ℕ) → suc (suc (2 * i)) ≡ 2 * (i + 1)

@@ -1,4 +1,4 @@
-use Rattle.item_build.proofs.Marks.{wide-small}
+use Rattle.item_build.proofs.Turned.Marks.{wide-small}
 use Rattle.item_build.proofs.putting.is_big_key.Goals as goal
 
 pub returns-then-w-eq-WIDE : goal.returns-then-w-eq-WIDE

@@ -2,9 +2,9 @@ use Rattle.std.proofs.Common.{◌≡◌, ◌^◌, ◌<◌, Option, Some, None, I
 use Rattle.plain_term.specs.declared.item.Item.{Item}
 use Rattle.plain_term.specs.declared.item.Item.TheVariants as item
 use Rattle.term_words.specs.Object.{IsSmallAs}
-use Rattle.term_words.proofs.Makes.{stands-atom, stands-nil, stands-pid, stands-small}
+use Rattle.term_words.proofs.ByKind.Makes.{stands-atom, stands-nil, stands-pid, stands-small}
 use Rattle.item_build.specs.Building.{FitsWord, IsLeaf}
-use Rattle.item_build.proofs.Makes.{int-kept, leaf-small}
+use Rattle.item_build.proofs.Turned.Makes.{int-kept, leaf-small}
 use Rattle.item_build.proofs.putting.leaf.Goals as goal
 
 pub returns-in-Int-clause-word : goal.returns-in-Int-clause-word

@@ -2,8 +2,8 @@ use Rattle.std.proofs.Common.{◌≡◌, ◌-◌, Option, refl, sym, ◌∙◌, 
 use Rattle.plain_term.specs.Tree.{Tree}
 use Rattle.item_build.specs.Reading.{tree_where}
 use Rattle.item_build.specs.Building.{MarkBuilt, holds_wide}
-use Rattle.item_build.proofs.Marks.{narrow-all}
-use Rattle.item_build.proofs.Makes.{whole-wide, wide-mark}
+use Rattle.item_build.proofs.Turned.Marks.{narrow-all}
+use Rattle.item_build.proofs.Turned.Makes.{whole-wide, wide-mark}
 use Rattle.item_build.proofs.putting.mark_of.Goals as goal
 
 pub returns-then-contains-clause-built : goal.returns-then-contains-clause-built

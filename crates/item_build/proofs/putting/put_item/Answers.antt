@@ -3,8 +3,8 @@ use Rattle.std.proofs.lemmas.List.{length-take}
 use Rattle.term_words.specs.Role.{always}
 use Rattle.item_build.specs.Reading.{all_of, is_byte, parts_of as parts_in, tree_where}
 use Rattle.item_build.specs.Building.{MarksBuilt}
-use Rattle.item_build.proofs.Marks.{named-take}
-use Rattle.item_build.proofs.Makes.{item-fits, leaf-marks, marks-put, object-is, parts-split}
+use Rattle.item_build.proofs.Turned.Marks.{named-take}
+use Rattle.item_build.proofs.Turned.Makes.{item-fits, leaf-marks, marks-put, object-is, parts-split}
 use Rattle.item_build.proofs.putting.put_item.Goals as goal
 
 pub is_big_item-requires : goal.is_big_item-requires

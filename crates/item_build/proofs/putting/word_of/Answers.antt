@@ -2,14 +2,14 @@ use Rattle.std.proofs.Common.{◌≡◌, true, ◌<◌, ◌+◌, ◌-◌, ◌*�
 use Rattle.plain_term.specs.declared.item.Item.{Item}
 use Rattle.plain_term.specs.Tree.{Trees}
 use Rattle.plain_term.specs.Tree.{Tree as tree}
-use Rattle.term_words.proofs.Makes.{all-length, stands-atom, stands-nil, stands-pid}
+use Rattle.term_words.proofs.ByKind.Makes.{all-length, stands-atom, stands-nil, stands-pid}
 use Rattle.term_tags.specs.declared.kinds.TheConstants.{PLACES}
 use Rattle.term_build.specs.Taken.{IsFree}
 use Rattle.item_build.specs.Reading.{IsItem, bytes_after, bytes_led, cons_of, is_long, long_bins, own_words, paired, parts_of, tree_with}
 use Rattle.item_build.specs.Building.{CanPut, HasNoBigKey, HolderStands, MarkBuilt, UsesSome}
-use Rattle.item_build.proofs.Marks.{first-two, paired-few, twos-stand}
-use Rattle.item_build.proofs.Makes.{built-mark, can-map, fewer-free, int-kept, int-mark, keys-within, there-mark}
-use Rattle.item_build.proofs.Whole.{led-within}
+use Rattle.item_build.proofs.Turned.Marks.{first-two, paired-few, twos-stand}
+use Rattle.item_build.proofs.Turned.Makes.{built-mark, can-map, fewer-free, int-kept, int-mark, keys-within, there-mark}
+use Rattle.item_build.proofs.Meaning.Whole.{led-within}
 use Rattle.item_build.proofs.putting.word_of.Goals as goal
 
 pub map_word-requires-clause-pairs : goal.map_word-requires-clause-pairs

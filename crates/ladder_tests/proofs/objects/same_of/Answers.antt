@@ -1,6 +1,6 @@
 use Rattle.std.proofs.Common.{◌+◌, arith}
 use Rattle.plain_term.specs.Tree.Tree.{Tuple}
-use Rattle.term_build.specs.Parts.{same_trees}
+use Rattle.plain_term.specs.Tree.{same_trees}
 use Rattle.ladder_tests.specs.Bench.{shared_of}
 use Rattle.ladder_tests.proofs.Good.{one-made, same-named}
 use Rattle.ladder_tests.proofs.objects.same_of.Goals as goal

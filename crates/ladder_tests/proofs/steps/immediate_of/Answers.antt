@@ -1,6 +1,6 @@
 use Rattle.std.proofs.Common.{refl, arith}
 use Rattle.plain_term.specs.Tree.Tree.{Atom, Pid, Nil}
-use Rattle.term_words.proofs.Makes.{stands-atom, stands-pid, stands-nil}
+use Rattle.term_words.proofs.ByKind.Makes.{stands-atom, stands-pid, stands-nil}
 use Rattle.ladder_tests.proofs.Good.{atom-named}
 use Rattle.ladder_tests.proofs.steps.immediate_of.Goals as goal
 

@@ -9,7 +9,7 @@ use Rattle.engine.specs.Rules.{Output}
 use Rattle.machine_run.specs.declared.store.Store.TheVariants.{One}
 use Rattle.machine_run.specs.Contract.{StoreStands}
 use Rattle.machine_run.specs.Made.{IsMade}
-use Rattle.machine_run.proofs.Served.{if_made, made_so}
+use Rattle.machine_run.proofs.Served.{if-made, made-so}
 use Rattle.machine_run.proofs.made.run_made.Goals as goal
 
 pub returns-clause-made : goal.returns-clause-made
@@ -20,6 +20,6 @@ returns-clause-made g c =
     let machine : State → Type 0 = StandsWith (Properly (OneStands m.space)) m.names in
     let P : ℕ → Type 0 = λ words. IsMade (record { may = may_of_tight; words = words }) first_state c.args.number machine numbers in
     let done = subst P c.in-Some.ensures.words (c.do_made-numbers.ensures.made first_state c.in-Some.ensures.stands) in
-    if_made c.args.arena c.args.number out (StoreStands c.args.arena (One m)) numbers c.put_summary.result _
-    (made_so _ first_state c.args.number machine _ numbers (λ s h. (h, c.images_stand.ensures s h.0.0, c.do_made-numbers.ensures.words ∙ c.in-Some.ensures.words)) done)
+    if-made c.args.arena c.args.number out (StoreStands c.args.arena (One m)) numbers c.put_summary.result _
+    (made-so _ first_state c.args.number machine _ numbers (λ s h. (h, c.images_stand.ensures s h.0.0, c.do_made-numbers.ensures.words ∙ c.in-Some.ensures.words)) done)
     c.put_summary.ensures

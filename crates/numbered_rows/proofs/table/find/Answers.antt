@@ -14,4 +14,5 @@ returns-else-number-n-clause-among g c =
     c.if-number-n.false
     (c.number.ensures ∙ (sym (number-read g.R.Numbered.number_of c.args.rows.now (c.first_above-above.result - 1) c.index-rows-above.result (omega arith) c.index-rows-above.is) ∙ e)) in
     sym (among-none g.R.Numbered.number_of c.args.rows.now c.args.n
-    (find-none g.R.Numbered.number_of c.args.rows.now c.first_above-above.result c.args.n c.requires c.first_above-above.ensures.within (omega arith) none c.first_above-above.ensures.low c.first_above-above.ensures.high))
+    (find-none g.R.Numbered.number_of c.args.rows.now c.first_above-above.result c.args.n c.requires c.first_above-above.ensures.within (omega arith) none c.first_above-above.ensures.low
+    c.first_above-above.ensures.high))

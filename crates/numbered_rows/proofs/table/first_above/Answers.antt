@@ -9,7 +9,12 @@ loop-low-preserved-then-number-n g c = record {
   below = λ k less.
       let here : c.loop-low.low + (c.loop-low.high - c.loop-low.low) / 2 < length c.args.rows.now = omega arith in
       rising-upto g.R.Numbered.number_of c.args.rows.now k (c.loop-low.low + (c.loop-low.high - c.loop-low.low) / 2) c.args.n c.requires less here
-      (omega (arith, number-read g.R.Numbered.number_of c.args.rows.now (c.loop-low.low + (c.loop-low.high - c.loop-low.low) / 2) c.index-rows-middle.result here c.index-rows-middle.is, c.number.ensures, c.if-number-n.true));
+      (omega (
+        arith,
+        number-read g.R.Numbered.number_of c.args.rows.now (c.loop-low.low + (c.loop-low.high - c.loop-low.low) / 2) c.index-rows-middle.result here c.index-rows-middle.is,
+        c.number.ensures,
+        c.if-number-n.true,
+      ));
   above = c.loop-low.invariant.above;
 }
 
@@ -21,5 +26,10 @@ loop-low-preserved g c = record {
   above = λ k from within.
       let here : c.loop-low.low + (c.loop-low.high - c.loop-low.low) / 2 < length c.args.rows.now = omega arith in
       rising-from g.R.Numbered.number_of c.args.rows.now k (c.loop-low.low + (c.loop-low.high - c.loop-low.low) / 2) c.args.n c.requires from within
-      (omega (arith, number-read g.R.Numbered.number_of c.args.rows.now (c.loop-low.low + (c.loop-low.high - c.loop-low.low) / 2) c.index-rows-middle.result here c.index-rows-middle.is, c.number.ensures, c.if-number-n.false));
+      (omega (
+        arith,
+        number-read g.R.Numbered.number_of c.args.rows.now (c.loop-low.low + (c.loop-low.high - c.loop-low.low) / 2) c.index-rows-middle.result here c.index-rows-middle.is,
+        c.number.ensures,
+        c.if-number-n.false,
+      ));
 }

@@ -1,4 +1,4 @@
-use Rattle.off_heap_list.proofs.Chained.{chain-written}
+use Rattle.off_heap_list.proofs.Chaining.Chained.{chain-written}
 use Rattle.off_heap_list.proofs.chains.chain.Goals as goal
 
 pub returns-clause-kept : goal.returns-clause-kept

@@ -1,4 +1,4 @@
-use Rattle.off_heap_list.proofs.Chained.{unchain-written}
+use Rattle.off_heap_list.proofs.Chaining.Chained.{unchain-written}
 use Rattle.off_heap_list.proofs.chains.unchain.Goals as goal
 
 pub returns-clause-links : goal.returns-clause-links

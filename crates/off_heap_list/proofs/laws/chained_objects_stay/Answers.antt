@@ -1,4 +1,4 @@
-use Rattle.off_heap_list.proofs.Chained.{link-stays}
+use Rattle.off_heap_list.proofs.Chaining.Chained.{link-stays}
 use Rattle.off_heap_list.proofs.laws.chained_objects_stay.Goals as goal
 
 pub returns : goal.returns

@@ -1,4 +1,4 @@
-use Rattle.off_heap_list.proofs.Exact.{counts-exact, several-exact}
+use Rattle.off_heap_list.proofs.Chaining.Exact.{counts-exact, several-exact}
 use Rattle.off_heap_list.proofs.laws.chains_of_what_is_reached_count_exactly.Goals as goal
 
 pub returns-clause-one : goal.returns-clause-one

@@ -1,4 +1,4 @@
-use Rattle.off_heap_list.proofs.Chained.{holder-link, fun-link}
+use Rattle.off_heap_list.proofs.Chaining.Chained.{holder-link, fun-link}
 use Rattle.off_heap_list.proofs.laws.holders_and_funs_are_links.Goals as goal
 
 pub returns-clause-holder : goal.returns-clause-holder

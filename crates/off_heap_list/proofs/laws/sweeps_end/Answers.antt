@@ -1,4 +1,4 @@
-use Rattle.off_heap_list.proofs.Sweeping.{sweep-done}
+use Rattle.off_heap_list.proofs.Walked.Sweeping.{sweep-done}
 use Rattle.off_heap_list.proofs.laws.sweeps_end.Goals as goal
 
 pub returns : goal.returns

@@ -1,4 +1,4 @@
-use Rattle.off_heap_list.proofs.Sweeping.{next-object, next-moved, next-record, next-counted}
+use Rattle.off_heap_list.proofs.Walked.Sweeping.{next-object, next-moved, next-record, next-counted}
 use Rattle.off_heap_list.proofs.laws.sweeps_go_on.Goals as goal
 
 pub returns-clause-object : goal.returns-clause-object

@@ -1,4 +1,4 @@
-use Rattle.off_heap_list.proofs.Turning.{turn-begins, turn-ends}
+use Rattle.off_heap_list.proofs.Walked.Turning.{turn-begins, turn-ends}
 use Rattle.off_heap_list.proofs.laws.turns_begin_and_end.Goals as goal
 
 pub returns-clause-begins : goal.returns-clause-begins

@@ -1,6 +1,6 @@
 use Rattle.std.proofs.Common.{ℕ, ◌<◌, length, subst}
 use Rattle.off_heap_list.specs.Links.{name_place}
-use Rattle.off_heap_list.proofs.Chained.{renamed-keeps}
+use Rattle.off_heap_list.proofs.Chaining.Chained.{renamed-keeps}
 use Rattle.off_heap_list.proofs.links.set_record.Goals as goal
 
 pub returns-clause-kept : goal.returns-clause-kept

@@ -1,7 +1,7 @@
 use Rattle.std.proofs.Common.{◌≡◌, ◌∙◌, sym}
 use Rattle.off_heap_list.specs.Links.{named}
 use Rattle.off_heap_list.specs.Swept.{count_less}
-use Rattle.off_heap_list.proofs.Sweeping.{moved-by, left-by, freed-zero, freed-more, last-keeps, last-relinked, next-step-moved, next-step-left, next-step-last, next-since-moved, next-since-left, next-since-last}
+use Rattle.off_heap_list.proofs.Walked.Sweeping.{moved-by, left-by, freed-zero, freed-more, last-keeps, last-relinked, next-step-moved, next-step-left, next-step-last, next-since-moved, next-since-left, next-since-last}
 use Rattle.off_heap_list.proofs.sweep.sweep_next.Goals as goal
 
 pub returns-then-word-eq2-clause-goes_on : goal.returns-then-word-eq2-clause-goes_on

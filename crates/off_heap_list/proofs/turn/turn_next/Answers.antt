@@ -1,4 +1,4 @@
-use Rattle.off_heap_list.proofs.Turning.{turned-one}
+use Rattle.off_heap_list.proofs.Walked.Turning.{turned-one}
 use Rattle.off_heap_list.proofs.turn.turn_next.Goals as goal
 
 pub returns-clause-goes_on : goal.returns-clause-goes_on

@@ -1,6 +1,6 @@
 use Rattle.std.proofs.Common.{[], sym}
 use Rattle.off_heap_list.specs.Whole.{moved_of, turned}
-use Rattle.off_heap_list.proofs.Turning.{in-old-order}
+use Rattle.off_heap_list.proofs.Walked.Turning.{in-old-order}
 use Rattle.off_heap_list.proofs.whole.sweep_chain.Goals as goal
 
 pub turn_chain-requires : goal.turn_chain-requires

@@ -1,5 +1,5 @@
 use Rattle.std.proofs.Common.{arith}
-use Rattle.off_heap_list.proofs.Tallied.{Tells, sweeps-begin, sweeps-old, sweeps-moved, sweeps-record, sweeps-counted, sweeps-len, sweeps-words, more-few, sweeps-more, sweeps-done}
+use Rattle.off_heap_list.proofs.Walked.Tallied.{Tells, sweeps-begin, sweeps-old, sweeps-moved, sweeps-record, sweeps-counted, sweeps-len, sweeps-words, more-few, sweeps-more, sweeps-done}
 use Rattle.off_heap_list.proofs.whole.sweep_turned.Goals as goal
 
 pub loop-i-init : goal.loop-i-init

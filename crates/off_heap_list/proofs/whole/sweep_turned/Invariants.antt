@@ -1,7 +1,7 @@
 use Rattle.std.proofs.Common.{◌≡◌, ℕ, Bool, List, [], length}
 use Rattle.term_words.specs.Role.{IsSingle}
 use Rattle.off_heap_list.specs.Swept.{Sweeping}
-use Rattle.off_heap_list.proofs.Tallied.{Sweeps}
+use Rattle.off_heap_list.proofs.Walked.Tallied.{Sweeps}
 use Rattle.off_heap_list.proofs.whole.sweep_turned.Given as goal
 
 abbrev pub invariant-loop-i : goal.invariant-loop-i

@@ -1,5 +1,5 @@
 use Rattle.std.proofs.Common.{arith}
-use Rattle.off_heap_list.proofs.Turning.{turns-begin, turns-within, turns-more, turns-done}
+use Rattle.off_heap_list.proofs.Walked.Turning.{turns-begin, turns-within, turns-more, turns-done}
 use Rattle.off_heap_list.proofs.whole.turn_chain.Goals as goal
 
 pub loop-i-init : goal.loop-i-init

@@ -1,7 +1,7 @@
 use Rattle.std.proofs.Common.{◌≡◌, ℕ, Bool, List, length}
 use Rattle.term_words.specs.Role.{IsSingle}
 use Rattle.off_heap_list.specs.Links.{Links}
-use Rattle.off_heap_list.proofs.Turning.{Turns}
+use Rattle.off_heap_list.proofs.Walked.Turning.{Turns}
 use Rattle.off_heap_list.proofs.whole.turn_chain.Given as goal
 
 abbrev pub invariant-loop-i : goal.invariant-loop-i

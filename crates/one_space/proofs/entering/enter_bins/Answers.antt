@@ -1,7 +1,7 @@
 use Rattle.std.proofs.Common.{length, ap, arith}
 use Rattle.std.proofs.lemmas.List.{length-append}
 use Rattle.one_space.specs.Entered.{records_from}
-use Rattle.one_space.proofs.Tabled.{entered-len}
+use Rattle.one_space.proofs.Memory.Tabled.{entered-len}
 use Rattle.one_space.proofs.entering.enter_bins.Goals as goal
 
 pub push_reserved-requires : goal.push_reserved-requires

@@ -4,7 +4,7 @@ use Rattle.plain_term.specs.Text.{text}
 use Rattle.reply_text.specs.Texts.{divider}
 use Rattle.term_words.specs.Role.{always}
 use Rattle.text_parts.proofs.Writing.{written-after}
-use Rattle.one_space.proofs.Queuing.{said-at-once}
+use Rattle.one_space.proofs.Verbs.Queuing.{said-at-once}
 use Rattle.one_space.proofs.queues.put_message.Goals as goal
 
 pub returns : goal.returns

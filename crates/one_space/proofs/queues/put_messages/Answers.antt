@@ -1,5 +1,5 @@
 use Rattle.std.proofs.Common.{arith}
-use Rattle.one_space.proofs.Queuing.{come-all, come-more, come-none, come-short, here-inside, here-printable}
+use Rattle.one_space.proofs.Verbs.Queuing.{come-all, come-more, come-none, come-short, here-inside, here-printable}
 use Rattle.one_space.proofs.queues.put_messages.Goals as goal
 
 pub loop-i-init : goal.loop-i-init

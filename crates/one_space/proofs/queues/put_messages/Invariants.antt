@@ -1,4 +1,4 @@
-use Rattle.one_space.proofs.Queuing.{Comes}
+use Rattle.one_space.proofs.Verbs.Queuing.{Comes}
 use Rattle.one_space.proofs.queues.put_messages.Given as goal
 
 abbrev pub invariant-loop-i : goal.invariant-loop-i

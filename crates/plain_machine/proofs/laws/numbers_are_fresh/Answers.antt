@@ -1,5 +1,5 @@
 use Rattle.std.proofs.Common.{arith}
-use Rattle.plain_machine.proofs.Numbered.{run-fresh}
+use Rattle.plain_machine.proofs.Numbering.Numbered.{run-fresh}
 use Rattle.plain_machine.proofs.laws.numbers_are_fresh.Goals as goal
 
 pub returns : goal.returns

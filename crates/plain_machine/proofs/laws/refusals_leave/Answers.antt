@@ -1,4 +1,4 @@
-use Rattle.plain_machine.proofs.Told.{line-leaves}
+use Rattle.plain_machine.proofs.ByLine.Told.{line-leaves}
 use Rattle.plain_machine.proofs.laws.refusals_leave.Goals as goal
 
 pub returns : goal.returns

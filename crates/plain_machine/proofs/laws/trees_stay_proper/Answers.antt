@@ -1,4 +1,4 @@
-use Rattle.plain_machine.proofs.Living.{first-proper, run-proper}
+use Rattle.plain_machine.proofs.Properly.Living.{first-proper, run-proper}
 use Rattle.plain_machine.proofs.laws.trees_stay_proper.Goals as goal
 
 pub returns : goal.returns

@@ -5,7 +5,7 @@ use Rattle.plain_term.specs.View.{view, trees_of, pairs_of, pair_of}
 use Rattle.plain_term.specs.Order.{order as order_of}
 use Rattle.plain_term.specs.Order.{bytes_order, name_of, order_of_all, order_of_keys, order_of_values}
 use Rattle.plain_term.proofs.ApartLemmas.{by_kind, apart-Int, apart-Atom, apart-Ref, apart-Fun, apart-Pid, apart-Tuple, apart-Map, apart-Nil, apart-Cons, apart-others}
-use Rattle.plain_term.proofs.OrderLemmas.{order-Map, order-Fun, at_end_of_all, at_end_of_keys, at_end_of_values}
+use Rattle.plain_term.proofs.OrderLemmas.{order-Map, order-Fun, at-end-of-all, at-end-of-keys, at-end-of-values}
 use Rattle.std.proofs.lemmas.Grind.{common_steps}
 use Rattle.plain_term.proofs.comparison.+order.Goals as goal
 use Rattle.plain_term.proofs.comparison.+order.Goals.{compare-in_default-via-in-Int+in_default, compare-in_default-via-in-Atom+in_default, compare-in_default-via-in-Ref+in_default, compare-in_default-via-in-Fun+in_default, compare-in_default-via-in-Pid+in_default, compare-in_default-via-in-Tuple+in_default, compare-in_default-via-in-Map+in_default, compare-in_default-via-in-Nil+in_default, compare-in_default-via-in-Cons+in_default, compare-in_default-via-in_default}
@@ -47,17 +47,17 @@ compare-returns-in_default t c =
 pub compare_all-returns : goal.compare_all-returns
 compare_all-returns t c =
     let known : c.cmp.result ≡ nat_cmp (length c.args.xs.now) (length c.args.ys.now) = search rules in
-    known ∙ sym (at_end_of_all _ c.loop-i.i c.args.xs.now c.args.ys.now (omega arith) (omega arith) c.loop-i.invariant.0 c.loop-i.invariant.1)
+    known ∙ sym (at-end-of-all _ c.loop-i.i c.args.xs.now c.args.ys.now (omega arith) (omega arith) c.loop-i.invariant.0 c.loop-i.invariant.1)
 
 pub compare_keys-returns : goal.compare_keys-returns
 compare_keys-returns t c =
     let known : c.cmp.result ≡ nat_cmp (length c.args.ps.now) (length c.args.qs.now) = search rules in
-    known ∙ sym (at_end_of_keys _ c.loop-i.i c.args.ps.now c.args.qs.now (omega arith) (omega arith) c.loop-i.invariant.0 c.loop-i.invariant.1)
+    known ∙ sym (at-end-of-keys _ c.loop-i.i c.args.ps.now c.args.qs.now (omega arith) (omega arith) c.loop-i.invariant.0 c.loop-i.invariant.1)
 
 pub compare_values-returns : goal.compare_values-returns
 compare_values-returns t c =
     let known : c.cmp.result ≡ nat_cmp (length c.args.ps.now) (length c.args.qs.now) = search rules in
-    known ∙ sym (at_end_of_values _ c.loop-i.i c.args.ps.now c.args.qs.now (omega arith) (omega arith) c.loop-i.invariant.0 c.loop-i.invariant.1)
+    known ∙ sym (at-end-of-values _ c.loop-i.i c.args.ps.now c.args.qs.now (omega arith) (omega arith) c.loop-i.invariant.0 c.loop-i.invariant.1)
 
 pub compare_all-returns-in_default : goal.compare_all-returns-in_default
 compare_all-returns-in_default t c = grind (arith, common_steps)

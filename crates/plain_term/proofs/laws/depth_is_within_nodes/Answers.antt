@@ -1,5 +1,5 @@
-use Rattle.plain_term.proofs.LawLemmas.{depth_within}
+use Rattle.plain_term.proofs.LawLemmas.{depth-within}
 use Rattle.plain_term.proofs.laws.depth_is_within_nodes.Goals as goal
 
 pub returns : goal.returns
-returns c = λ s t. depth_within s t
+returns c = λ s t. depth-within s t

@@ -1,16 +1,16 @@
 use Rattle.std.proofs.Common.{◌∷◌, ◌≤◌, ap, ◌∙◌, arith}
 use Rattle.plain_term.specs.declared.reading.TheConstants.{HEAP_BINARY}
-use Rattle.plain_term.proofs.WrittenLemmas.{no_part, no_tail, reads_more, reads_cons, reads_bin}
+use Rattle.plain_term.proofs.WrittenLemmas.{no-part, no-tail, reads-more, reads-cons, reads-bin}
 use Rattle.plain_term.proofs.reading.+reading.Goals as goal
 
 pub read_parts-returns-in_err-part-clause-read : goal.read_parts-returns-in_err-part-clause-read
 read_parts-returns-in_err-part-clause-read t c =
     let done = c.loop-i.invariant.read in
-    rw c.from_residual.ensures (no_part c.args.items.now c.loop-i._i c.args.n done.terms c.loop-i.rest.now done.begin c.loop-i-test.true c.in_err-part.ensures.read)
+    rw c.from_residual.ensures (no-part c.args.items.now c.loop-i._i c.args.n done.terms c.loop-i.rest.now done.begin c.loop-i-test.true c.in_err-part.ensures.read)
 
 pub read_parts-loop-i-preserved : goal.read_parts-loop-i-preserved
 read_parts-loop-i-preserved t c = record {
-  read = reads_more c.args.items.now c.loop-i._i c.loop-i.parts c.with_part-parts.result c.loop-i.rest.now c.in_ok-part.part c.in_ok-part.after.now c.loop-i.invariant.read c.in_ok-part.ensures.read
+  read = reads-more c.args.items.now c.loop-i._i c.loop-i.parts c.with_part-parts.result c.loop-i.rest.now c.in_ok-part.part c.in_ok-part.after.now c.loop-i.invariant.read c.in_ok-part.ensures.read
       c.with_part-parts.ensures;
   shorter = omega (arith, c.in_ok-part.ensures.shorter, c.loop-i.invariant.shorter);
 }
@@ -19,14 +19,14 @@ pub read_term-returns-in_err-tail-in-Cons-clause-read : goal.read_term-returns-i
 read_term-returns-in_err-tail-in-Cons-clause-read t c =
     let head = c.in_ok-head-in-Cons.ensures.read in
     let begins = c.in_ok-first.ensures in
-    rw c.from_residual-in_err-tail-in-Cons.ensures (rw begins (rw c.in-Cons.is (no_tail c.in_ok-first.rest.now head.term c.in_ok-head-in-Cons.rest.now head.begins c.in_err-tail-in-Cons.ensures.read)))
+    rw c.from_residual-in_err-tail-in-Cons.ensures (rw begins (rw c.in-Cons.is (no-tail c.in_ok-first.rest.now head.term c.in_ok-head-in-Cons.rest.now head.begins c.in_err-tail-in-Cons.ensures.read)))
 
 pub read_term-returns-in_ok-tail-in-Cons-clause-read : goal.read_term-returns-in_ok-tail-in-Cons-clause-read
 read_term-returns-in_ok-tail-in-Cons-clause-read t c =
     let begins = c.in_ok-first.ensures ∙ ap (λ x. x ∷ c.in_ok-first.rest.now) c.in-Cons.is in
     let head = c.in_ok-head-in-Cons in
     let tail = c.in_ok-tail-in-Cons in
-    reads_cons c.args.items.now c.in_ok-first.rest.now head.head head.rest.now tail.tail c.cons.result tail.rest.now begins head.ensures.read tail.ensures.read
+    reads-cons c.args.items.now c.in_ok-first.rest.now head.head head.rest.now tail.tail c.cons.result tail.rest.now begins head.ensures.read tail.ensures.read
     (λ h u hd tl. c.cons.ensures h u (c.boxed-head.ensures h hd) (c.boxed.ensures u tl))
 
 pub read_term-returns-in_ok-bytes-in-Bin-clause-read : goal.read_term-returns-in_ok-bytes-in-Bin-clause-read
@@ -35,4 +35,4 @@ read_term-returns-in_ok-bytes-in-Bin-clause-read t c =
     let begins = c.in_ok-first.ensures ∙ ap (λ x. x ∷ c.in_ok-first.rest.now) c.in-Bin.is in
     let few : n ≤ HEAP_BINARY = omega (arith, c.if-n-gt-HEAP_BINARY.false) in
     let bytes = c.in_ok-bytes-in-Bin in
-    reads_bin c.args.items.now c.in_ok-first.rest.now n bytes.bytes c.binary.result bytes.rest.now begins few bytes.ensures.read c.binary.ensures
+    reads-bin c.args.items.now c.in_ok-first.rest.now n bytes.bytes c.binary.result bytes.rest.now begins few bytes.ensures.read c.binary.ensures

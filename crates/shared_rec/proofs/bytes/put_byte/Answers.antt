@@ -1,5 +1,5 @@
 use Rattle.std.proofs.Common.{◌+◌, ◌/◌, arith}
-use Rattle.term_words.proofs.Rooms.{write-keeps}
+use Rattle.term_words.proofs.Framing.Rooms.{write-keeps}
 use Rattle.shared_rec.proofs.Rows.{byte-written}
 use Rattle.shared_rec.proofs.bytes.put_byte.Goals as goal
 

@@ -1,5 +1,5 @@
 use Rattle.std.proofs.Common.{◌+◌}
-use Rattle.term_words.proofs.Rooms.{write-keeps}
+use Rattle.term_words.proofs.Framing.Rooms.{write-keeps}
 use Rattle.shared_rec.proofs.counts.add.Goals as goal
 
 pub returns-clause-kept : goal.returns-clause-kept

@@ -1,5 +1,5 @@
 use Rattle.std.proofs.Common.{◌+◌}
-use Rattle.term_words.proofs.Rooms.{write-keeps}
+use Rattle.term_words.proofs.Framing.Rooms.{write-keeps}
 use Rattle.shared_rec.proofs.counts.drop_one.Goals as goal
 
 pub returns-then-count-eq0-clause-kept : goal.returns-then-count-eq0-clause-kept

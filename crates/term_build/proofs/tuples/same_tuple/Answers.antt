@@ -5,7 +5,7 @@ use Rattle.term_tags.specs.declared.layouts.TheConstants.{TUPLE}
 use Rattle.term_words.specs.Role.{outside}
 use Rattle.plain_term.specs.Tree.Tree.{Tuple}
 use Rattle.term_build.specs.Taken.{Lie, plain}
-use Rattle.term_build.specs.Parts.{same_trees}
+use Rattle.plain_term.specs.Tree.{same_trees}
 use Rattle.term_build.proofs.Taking.{plain-object, taken-kept, tuple-made}
 use Rattle.term_build.proofs.Rooms.{taken-keeps}
 use Rattle.term_build.proofs.Putting.{built-by, clear-by, lie-still, lie-join, uses-both}

@@ -2,7 +2,7 @@ use Rattle.std.proofs.Common.{◌≡◌, ◌+◌, ◌≤◌, arith, subst, refl}
 use Rattle.plain_term.specs.Tree.{Tree}
 use Rattle.plain_term.specs.Measures.{flat}
 use Rattle.cheney.specs.Ranges.{stays}
-use Rattle.term_words.proofs.Single.{single}
+use Rattle.term_words.proofs.Placing.Single.{single}
 use Rattle.term_copy.specs.Copied.{Task}
 use Rattle.term_copy.specs.Going.{Begun, Ready}
 use Rattle.term_copy.proofs.Stepping.{can-begin, can-room, room-has, room-then, task_of}

@@ -1,4 +1,4 @@
-use Rattle.cheney.proofs.Scanning.{last-word}
+use Rattle.cheney.proofs.Stepping.Scanning.{last-word}
 use Rattle.term_copy.proofs.scanning.first_word.Goals as goal
 
 pub returns-clause-first : goal.returns-clause-first

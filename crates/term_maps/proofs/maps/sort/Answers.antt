@@ -1,6 +1,6 @@
 use Rattle.std.proofs.Common.{ℕ, List, Bool, length, inl, inr, sym, ◌∙◌, subst, ap, arith}
 use Rattle.term_words.specs.Counted.{In}
-use Rattle.term_maps.specs.Spots.{Puts}
+use Rattle.term_maps.specs.Spots.{PutsSpot}
 use Rattle.term_maps.specs.Given.{keys_in}
 use Rattle.term_maps.proofs.Members.{key-in}
 use Rattle.term_maps.proofs.Left.{next-pair, none-left}
@@ -31,7 +31,7 @@ returns-then-not-put-clause-stop c = λ k shared given stand.
     let now = c.loop-i.invariant.sorting k shared given stand within in
     let next = next-pair k shared c.args.mem.now c.args.pairs.now given c.loop-i.i (0, 0) stand (omega (arith, c.loop-i-test.true)) in
     let small = next-within k shared c.args.mem.now given c.loop-i.i _ next within in
-    let P : Bool → Type 0 = λ b. Puts k c.args.names.now shared c.args.mem.now c.put.new.self now.now next.key next.value b in
+    let P : Bool → Type 0 = λ b. PutsSpot k c.args.names.now shared c.args.mem.now c.put.new.self now.now next.key next.value b in
     sorting-stops k _ shared c.args.mem.now given c.loop-i.i _ c.loop-i.sorted now next within
     (subst P c.if-not-put.true (c.put.ensures.puts k shared now.now next.key next.value now.stand next.key_stands next.value_stands now.within small))
 
@@ -47,7 +47,7 @@ loop-i-preserved c = record {
       let now = c.loop-i.invariant.sorting k shared given stand within in
       let next = next-pair k shared c.args.mem.now c.args.pairs.now given c.loop-i.i (0, 0) stand (omega (arith, c.loop-i-test.true)) in
       let small = next-within k shared c.args.mem.now given c.loop-i.i _ next within in
-      let P : Bool → Type 0 = λ b. Puts k c.args.names.now shared c.args.mem.now c.put.new.self now.now next.key next.value b in
+      let P : Bool → Type 0 = λ b. PutsSpot k c.args.names.now shared c.args.mem.now c.put.new.self now.now next.key next.value b in
       sorting-goes k _ shared c.args.mem.now given c.loop-i.i _ c.loop-i.sorted c.put.new.self now next within
       (subst P c.if-not-put.false (c.put.ensures.puts k shared now.now next.key next.value now.stand next.key_stands next.value_stands now.within small));
 }

@@ -1,6 +1,6 @@
 use Rattle.std.proofs.Common.{ℕ, ◌+◌, ◌*◌, List, Bool, length, inl, inr, sym, ◌∙◌, refl, subst, ap, arith}
 use Rattle.term_words.specs.Counted.{In}
-use Rattle.term_maps.specs.Spots.{Puts}
+use Rattle.term_maps.specs.Spots.{PutsSpot}
 use Rattle.term_maps.specs.Given.{keys_in, pairs_in}
 use Rattle.term_maps.proofs.Turns.{next-in-turn, pairs-many, turn-key}
 use Rattle.term_maps.proofs.Left.{none-left}
@@ -25,7 +25,7 @@ returns-then-not-put-clause-none c = λ k shared given stand.
     let now = c.loop-i.invariant.sorting k shared given stand in
     let next = next-in-turn c.args.row.now c.loop-i.i (2 * c.loop-i.i) (2 * c.loop-i.i + 1) (omega (arith, c.loop-i-test.true)) refl refl k shared c.args.mem.now given stand in
     let small = next-within k shared c.args.mem.now given c.loop-i.i _ next within in
-    let P : Bool → Type 0 = λ b. Puts k c.args.names.now shared c.args.mem.now c.put.new.self now.now next.key next.value b in
+    let P : Bool → Type 0 = λ b. PutsSpot k c.args.names.now shared c.args.mem.now c.put.new.self now.now next.key next.value b in
     sorting-stops k _ shared c.args.mem.now given c.loop-i.i _ c.loop-i.sorted now next within
     (subst P c.if-not-put.true (c.put.ensures.puts k shared now.now next.key next.value now.stand next.key_stands next.value_stands now.within small))
 
@@ -44,7 +44,7 @@ loop-i-preserved c = record {
       let now = c.loop-i.invariant.sorting k shared given stand in
       let next = next-in-turn c.args.row.now c.loop-i.i (2 * c.loop-i.i) (2 * c.loop-i.i + 1) (omega (arith, c.loop-i-test.true)) refl refl k shared c.args.mem.now given stand in
       let small = next-within k shared c.args.mem.now given c.loop-i.i _ next within in
-      let P : Bool → Type 0 = λ b. Puts k c.args.names.now shared c.args.mem.now c.put.new.self now.now next.key next.value b in
+      let P : Bool → Type 0 = λ b. PutsSpot k c.args.names.now shared c.args.mem.now c.put.new.self now.now next.key next.value b in
       sorting-goes k _ shared c.args.mem.now given c.loop-i.i _ c.loop-i.sorted c.put.new.self now next within
       (subst P c.if-not-put.false (c.put.ensures.puts k shared now.now next.key next.value now.stand next.key_stands next.value_stands now.within small));
 }

@@ -1,5 +1,5 @@
 use Rattle.std.proofs.Common.{arith}
-use Rattle.term_words.proofs.Inside.{cons-inside}
+use Rattle.term_words.proofs.ByKind.Inside.{cons-inside}
 use Rattle.term_order.proofs.Passing.{first-of, second-of}
 use Rattle.term_order.proofs.runs.is_same_cell.Goals as goal
 

@@ -1,5 +1,5 @@
 use Rattle.std.proofs.Common.{refl, arith}
-use Rattle.term_words.proofs.Inside.{cons-inside}
+use Rattle.term_words.proofs.ByKind.Inside.{cons-inside}
 use Rattle.term_order.proofs.Passing.{passes-both-none, passes-both-cell, both-behind, first-of, second-of}
 use Rattle.term_order.proofs.runs.pass_same.Goals as goal
 

@@ -1,7 +1,7 @@
 use Rattle.std.proofs.Common.{◌++◌, codes, ap, ◌∙◌, append_assoc, subst, to_z, of_z, arith}
 use Rattle.std.specs.Int.{w64}
 use Rattle.std.specs.Fmt.{signed_decimal}
-use Rattle.term_tags.specs.Kinds.{Reads}
+use Rattle.term_tags.specs.Kinds.{ReadsAs}
 use Rattle.term_tags.specs.declared.kinds.Kind.{Kind}
 use Rattle.term_read.proofs.Pointers.{list-kind}
 use Rattle.term_read.proofs.Seen.{sees-small-word, sees-cons}
@@ -23,7 +23,7 @@ get-requires-in-loop-buffer c =
 
 pub loop-buffer-preserved : goal.loop-buffer-preserved
 loop-buffer-preserved c =
-    let P : Kind → Type 0 = λ k. Reads c.get.result k in
+    let P : Kind → Type 0 = λ k. ReadsAs c.get.result k in
     let i = to_z w64 (of_z w64 c.in-Small.i) in
     let small = sees-small-word c.args.mem.now c.get.result c.in-Small.i (subst P c.in-Small.is c.kind_of.ensures.exact) in
     let (tag, place) = list-kind c.get-in-loop-buffer.result c.in-ListAt.next c.kind_of-in-loop-buffer.result c.kind_of-in-loop-buffer.ensures.exact c.in-ListAt.is in

@@ -1,5 +1,5 @@
 use Rattle.std.proofs.Common.{arith}
-use Rattle.term_words.proofs.Inside.{fun-inside}
+use Rattle.term_words.proofs.ByKind.Inside.{fun-inside}
 use Rattle.term_read.proofs.Reading.{reads-env, past-env, no-env}
 use Rattle.term_read.proofs.fun_thing.fun_env.Goals as goal
 

@@ -1,6 +1,6 @@
 use Rattle.std.proofs.Common.{◌≡◌, ◌/◌, get_or, arith}
 use Rattle.term_read.proofs.Binaries.{has-heap_first, has-holder_first, record-inside, has-no_first}
-use Rattle.term_words.proofs.Inside.{binary-inside}
+use Rattle.term_words.proofs.ByKind.Inside.{binary-inside}
 use Rattle.term_read.proofs.looks.first_word.Goals as goal
 
 pub returns-in-Some : goal.returns-in-Some

@@ -1,5 +1,5 @@
 use Rattle.std.proofs.Common.{arith}
-use Rattle.term_words.proofs.Inside.{fun-inside}
+use Rattle.term_words.proofs.ByKind.Inside.{fun-inside}
 use Rattle.term_read.proofs.Seen.{object-within, fun-record-inside, sees-fun}
 use Rattle.term_read.proofs.looks.fun_look.Goals as goal
 

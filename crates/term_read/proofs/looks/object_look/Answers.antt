@@ -1,6 +1,6 @@
 use Rattle.std.proofs.Common.{◌≡◌, ◌/◌, ◌%◌, get_or, arith, sym, ◌∙◌}
 use Rattle.term_tags.specs.declared.layouts.Object.TheVariants as object
-use Rattle.term_words.proofs.Inside.{map-inside, binary-inside}
+use Rattle.term_words.proofs.ByKind.Inside.{map-inside, binary-inside}
 use Rattle.term_read.proofs.Binaries.{record-inside}
 use Rattle.term_read.proofs.Seen.{subtag-at, object-within, has-object, ref-words, sees-tuple, sees-ref, sees-holder, sees-heap, sees-map}
 use Rattle.term_read.proofs.looks.object_look.Goals as goal

@@ -1,5 +1,5 @@
 use Rattle.std.proofs.Common.{◌≡◌, ◌/◌, get_or, arith}
-use Rattle.term_words.proofs.Inside.{binary-inside}
+use Rattle.term_words.proofs.ByKind.Inside.{binary-inside}
 use Rattle.term_read.proofs.Binaries.{base-term}
 use Rattle.term_read.proofs.Seen.{object-within, sees-part, whole-there}
 use Rattle.term_read.proofs.looks.part_look.Goals as goal

@@ -1,5 +1,5 @@
 use Rattle.std.proofs.Common.{arith}
-use Rattle.term_words.proofs.Inside.{map-inside}
+use Rattle.term_words.proofs.ByKind.Inside.{map-inside}
 use Rattle.term_read.proofs.Reading.{tells-map, no-map}
 use Rattle.term_read.proofs.map.map_len.Goals as goal
 

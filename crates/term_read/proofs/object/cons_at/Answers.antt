@@ -1,5 +1,5 @@
 use Rattle.std.proofs.Common.{arith}
-use Rattle.term_words.proofs.Inside.{cons-inside}
+use Rattle.term_words.proofs.ByKind.Inside.{cons-inside}
 use Rattle.term_read.proofs.Pointers.{list-kind, list-near}
 use Rattle.term_read.proofs.object.cons_at.Goals as goal
 

@@ -1,5 +1,5 @@
 use Rattle.std.proofs.Common.{arith, ◌+◌, ◌/◌, ◌≤◌, ℕ, length, get_or, subst, sym, ◌∙◌, ap, ◌%◌}
-use Rattle.term_words.proofs.Inside.{boxed-inside}
+use Rattle.term_words.proofs.ByKind.Inside.{boxed-inside}
 use Rattle.term_read.proofs.Pointers.{boxed-kind, boxed-near}
 use Rattle.term_read.proofs.object.object_at.Goals as goal
 

@@ -1,7 +1,7 @@
 use Rattle.std.proofs.Common.{◌≡◌, ℕ, ◌*◌, subst, refl, arith}
 use Rattle.plain_term.specs.Tree.Tree.{Nil}
 use Rattle.plain_machine.specs.Made.{list_tree}
-use Rattle.plain_machine.specs.Parts.{times}
+use Rattle.plain_term.specs.Tree.{same_trees}
 use Rattle.term_build.specs.Clear.{Uses}
 use Rattle.term_build.specs.Grows.{Built}
 use Rattle.term_build.proofs.Rooms.{room-after, uses-none}
@@ -38,5 +38,5 @@ returns-clause-uses c =
 pub returns-clause-built : goal.returns-clause-built
 returns-clause-built c = λ k shared t free s.
     let all : c.loop-i.i ≡ c.args.n = omega (arith, c.loop-i.auto.i-end, c.loop-i-test.false) in
-    let P : ℕ → Type 0 = λ n. Built k c.args.room.now.top (2 * n) c.args.mem.now c.loop-i.mem shared c.loop-i.list (list_tree (times n t) Nil) in
+    let P : ℕ → Type 0 = λ n. Built k c.args.room.now.top (2 * n) c.args.mem.now c.loop-i.mem shared c.loop-i.list (list_tree (same_trees n t) Nil) in
     subst P all (c.loop-i.invariant.built k shared t free s)

@@ -1,6 +1,6 @@
 use Rattle.std.proofs.Common.{ℕ, sym, subst, refl}
 use Rattle.plain_term.specs.Tree.{keys_of}
-use Rattle.term_read.specs.Parts.{Answers}
+use Rattle.term_read.specs.Parts.{AnswersPart}
 use Rattle.term_maps.specs.Spots.{Finds, IsWithin}
 use Rattle.term_maps.specs.declared.sorted.Spot.{Spot}
 use Rattle.plain_machine.specs.Parts.{value_in}
@@ -12,7 +12,7 @@ use Rattle.term_verbs.proofs.parts.value_at.Goals as goal
 
 pub returns-in-Same-clause-value : goal.returns-in-Same-clause-value
 returns-in-Same-clause-value c = λ r shared t k s sk sorted.
-    let P : ℕ → Type 0 = λ z. Answers r shared c.args.mem.now (value_in c.args.names.now shared k t) (Some z) in
+    let P : ℕ → Type 0 = λ z. AnswersPart r shared c.args.mem.now (value_in c.args.names.now shared k t) (Some z) in
     subst P (sym c.get.ensures)
     (value-found r c.args.names.now shared c.args.mem.now c.args.w t k c.in-Map.rows (c.in-Map.ensures.tree.each r shared t s) c.in-Same.at _ refl
     (is-within _ (c.in_ok-at.ensures.beyond r shared k sk)) sorted

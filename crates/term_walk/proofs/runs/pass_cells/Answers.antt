@@ -1,5 +1,5 @@
 use Rattle.std.proofs.Common.{arith}
-use Rattle.term_words.proofs.Inside.{cons-inside}
+use Rattle.term_words.proofs.ByKind.Inside.{cons-inside}
 use Rattle.term_walk.proofs.Passing.{passes-none, passes-cell, passes-term}
 use Rattle.term_walk.proofs.runs.pass_cells.Goals as goal
 

@@ -1,11 +1,11 @@
 use Rattle.std.proofs.Common.{◌-◌, ◌≤◌}
-use Rattle.term_walk.specs.Runs.{Passes}
+use Rattle.term_walk.specs.Runs.{PassesCells}
 use Rattle.term_walk.proofs.runs.pass_cells.Given as goal
 
 abbrev pub invariant-loop-cells : goal.invariant-loop-cells
 invariant-loop-cells l = record {
   few : l.cells ≤ l.most;
-  passes : Passes l.mem l.w l.word l.cells;
+  passes : PassesCells l.mem l.w l.word l.cells;
 }
 
 abbrev pub decreases-loop-cells : goal.decreases-loop-cells

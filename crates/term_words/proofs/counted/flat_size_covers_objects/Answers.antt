@@ -1,4 +1,4 @@
-use Rattle.term_words.proofs.Reached.{reached-words}
+use Rattle.term_words.proofs.Reaching.Reached.{reached-words}
 use Rattle.term_words.proofs.counted.flat_size_covers_objects.Goals as goal
 
 pub returns : goal.returns

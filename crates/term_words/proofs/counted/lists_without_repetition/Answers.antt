@@ -1,5 +1,5 @@
 use Rattle.std.proofs.Common.{inl, inr}
-use Rattle.term_words.proofs.Members.{in-both, in-left, in-right, both-distinct, both-total, in-filter, filter-in, filter-distinct}
+use Rattle.term_words.proofs.Totals.Members.{in-both, in-left, in-right, both-distinct, both-total, in-filter, filter-in, filter-distinct}
 use Rattle.term_words.proofs.counted.lists_without_repetition.Goals as goal
 
 pub returns-clause-joined : goal.returns-clause-joined

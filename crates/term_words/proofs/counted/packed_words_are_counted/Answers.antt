@@ -1,4 +1,4 @@
-use Rattle.term_words.proofs.Packing.{packed, laid-packed}
+use Rattle.term_words.proofs.Totals.Packing.{packed, laid-packed}
 use Rattle.term_words.proofs.counted.packed_words_are_counted.Goals as goal
 
 pub returns-clause-words : goal.returns-clause-words

@@ -1,4 +1,4 @@
-use Rattle.term_words.proofs.Counts.{count-empty, count-join, count-most, count-all, count-none, count-wider, count-either, count-apart}
+use Rattle.term_words.proofs.Totals.Counts.{count-empty, count-join, count-most, count-all, count-none, count-wider, count-either, count-apart}
 use Rattle.term_words.proofs.counted.places_are_counted.Goals as goal
 
 pub returns-clause-empty : goal.returns-clause-empty

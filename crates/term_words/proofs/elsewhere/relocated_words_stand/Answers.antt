@@ -1,4 +1,4 @@
-use Rattle.term_words.proofs.Relocating.{settled, settled-roots, reach-moved, moved-reach}
+use Rattle.term_words.proofs.Reaching.Relocating.{settled, settled-roots, reach-moved, moved-reach}
 use Rattle.term_words.proofs.elsewhere.relocated_words_stand.Goals as goal
 
 pub returns-clause-word : goal.returns-clause-word

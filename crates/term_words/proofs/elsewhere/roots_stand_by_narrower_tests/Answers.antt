@@ -1,4 +1,4 @@
-use Rattle.term_words.proofs.Narrowing.{narrowed, narrowed-word}
+use Rattle.term_words.proofs.Framing.Narrowing.{narrowed, narrowed-word}
 use Rattle.term_words.proofs.elsewhere.roots_stand_by_narrower_tests.Goals as goal
 
 pub returns-clause-roots : goal.returns-clause-roots

@@ -1,4 +1,4 @@
-use Rattle.term_words.proofs.Rooms.{at-role, role-at, roles-single}
+use Rattle.term_words.proofs.Framing.Rooms.{at-role, role-at, roles-single}
 use Rattle.term_words.proofs.one_role.maps_of_roles_are_single.Goals as goal
 
 pub returns-clause-allows : goal.returns-clause-allows

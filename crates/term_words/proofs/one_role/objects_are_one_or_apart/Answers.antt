@@ -1,4 +1,4 @@
-use Rattle.term_words.proofs.Apart.{objects-apart}
+use Rattle.term_words.proofs.Placing.Apart.{objects-apart}
 use Rattle.term_words.proofs.one_role.objects_are_one_or_apart.Goals as goal
 
 pub returns : goal.returns

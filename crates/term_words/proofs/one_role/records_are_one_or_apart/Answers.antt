@@ -1,4 +1,4 @@
-use Rattle.term_words.proofs.Roles.{records-apart, object-record-apart}
+use Rattle.term_words.proofs.Placing.Roles.{records-apart, object-record-apart}
 use Rattle.term_words.proofs.one_role.records_are_one_or_apart.Goals as goal
 
 pub returns-clause-records : goal.returns-clause-records

@@ -1,4 +1,4 @@
-use Rattle.term_words.proofs.Roles.{object-role, record-role}
+use Rattle.term_words.proofs.Placing.Roles.{object-role, record-role}
 use Rattle.term_words.proofs.one_role.words_of_objects_have_roles.Goals as goal
 
 pub returns-clause-object : goal.returns-clause-object

@@ -1,4 +1,4 @@
-use Rattle.term_words.proofs.Lists.{all-join, all-cut}
+use Rattle.term_words.proofs.Framing.Lists.{all-join, all-cut}
 use Rattle.term_words.proofs.side_by_side.lists_stand_side_by_side.Goals as goal
 
 pub returns-clause-joined : goal.returns-clause-joined

@@ -1,6 +1,6 @@
-use Rattle.term_words.proofs.Lists.{all-at-each, all-of-members, member-stands, all-row}
-use Rattle.term_words.proofs.Makes.{all-length, row-of-all}
-use Rattle.term_words.proofs.Shapes.{all-at}
+use Rattle.term_words.proofs.Framing.Lists.{all-at-each, all-of-members, member-stands, all-row}
+use Rattle.term_words.proofs.ByKind.Makes.{all-length, row-of-all}
+use Rattle.term_words.proofs.ByKind.Shapes.{all-at}
 use Rattle.term_words.proofs.side_by_side.lists_stand_word_by_word.Goals as goal
 
 pub returns-clause-each : goal.returns-clause-each

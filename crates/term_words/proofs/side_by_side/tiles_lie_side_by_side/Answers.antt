@@ -1,4 +1,4 @@
-use Rattle.term_words.proofs.Tiles.{tiled-object, tiled-record, tiled-append, tiled-same}
+use Rattle.term_words.proofs.Placing.Tiles.{tiled-object, tiled-record, tiled-append, tiled-same}
 use Rattle.term_words.proofs.side_by_side.tiles_lie_side_by_side.Goals as goal
 
 pub returns-clause-object : goal.returns-clause-object

@@ -1,4 +1,4 @@
-use Rattle.term_words.proofs.Carrying.{reach-carried, carried-reach}
+use Rattle.term_words.proofs.Reaching.Carrying.{reach-carried, carried-reach}
 use Rattle.term_words.proofs.standing.carried_objects_keep_reach.Goals as goal
 
 pub returns : goal.returns

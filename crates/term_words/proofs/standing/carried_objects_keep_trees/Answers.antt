@@ -1,4 +1,4 @@
-use Rattle.term_words.proofs.Frames.{carry, kept-carried}
+use Rattle.term_words.proofs.Framing.Frames.{carry, kept-carried}
 use Rattle.term_words.proofs.standing.carried_objects_keep_trees.Goals as goal
 
 pub returns-clause-trees : goal.returns-clause-trees

@@ -1,4 +1,4 @@
-use Rattle.term_words.proofs.Rooms.{write-keeps}
+use Rattle.term_words.proofs.Framing.Rooms.{write-keeps}
 use Rattle.term_words.proofs.standing.idle_writes_keep_trees.Goals as goal
 
 pub returns : goal.returns

@@ -1,4 +1,4 @@
-use Rattle.term_words.proofs.Frames.{frame}
+use Rattle.term_words.proofs.Framing.Frames.{frame}
 use Rattle.term_words.proofs.standing.kept_content_keeps_trees.Goals as goal
 
 pub returns : goal.returns

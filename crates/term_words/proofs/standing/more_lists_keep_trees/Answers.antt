@@ -1,4 +1,4 @@
-use Rattle.term_words.proofs.Growing.{grow}
+use Rattle.term_words.proofs.Framing.Growing.{grow}
 use Rattle.term_words.proofs.standing.more_lists_keep_trees.Goals as goal
 
 pub returns : goal.returns

@@ -1,4 +1,4 @@
-use Rattle.term_words.proofs.Reached.{reached}
+use Rattle.term_words.proofs.Reaching.Reached.{reached}
 use Rattle.term_words.proofs.standing.reached_words_stand.Goals as goal
 
 pub returns : goal.returns

@@ -1,4 +1,4 @@
-use Rattle.term_words.proofs.Rooms.{room-kept}
+use Rattle.term_words.proofs.Framing.Rooms.{room-kept}
 use Rattle.term_words.proofs.standing.rooms_keep_what_is_clear.Goals as goal
 
 pub returns : goal.returns

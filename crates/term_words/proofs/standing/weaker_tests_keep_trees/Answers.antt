@@ -1,4 +1,4 @@
-use Rattle.term_words.proofs.Rooms.{weaken}
+use Rattle.term_words.proofs.Framing.Rooms.{weaken}
 use Rattle.term_words.proofs.standing.weaker_tests_keep_trees.Goals as goal
 
 pub returns : goal.returns

@@ -1,4 +1,4 @@
-use Rattle.term_words.proofs.Single.{single}
+use Rattle.term_words.proofs.Placing.Single.{single}
 use Rattle.term_words.proofs.standing.words_stand_for_one_tree.Goals as goal
 
 pub returns : goal.returns

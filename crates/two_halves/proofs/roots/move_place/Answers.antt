@@ -1,6 +1,6 @@
 use Rattle.std.proofs.Common.{length, ap, arith}
 use Rattle.std.proofs.lemmas.List.{length-set}
-use Rattle.two_halves.proofs.Placing.{place-inside, place-moved}
+use Rattle.two_halves.proofs.Moved.Placing.{place-inside, place-moved}
 use Rattle.two_halves.proofs.roots.move_place.Goals as goal
 
 pub set-requires : goal.set-requires

@@ -1,5 +1,5 @@
 use Rattle.std.proofs.Common.{arith}
-use Rattle.two_halves.proofs.Rowing.{queue-next, row-moved, stack-next}
+use Rattle.two_halves.proofs.Moved.Rowing.{queue-next, row-moved, stack-next}
 use Rattle.two_halves.proofs.roots.move_process.Goals as goal
 
 pub evacuate_all-requires : goal.evacuate_all-requires

@@ -1,11 +1,11 @@
 use Rattle.std.proofs.Common.{ℕ, ◌+◌, ◌-◌, ◌*◌, ap, arith, subst, ◌∙◌}
 use Rattle.std.proofs.lemmas.List.{get_or_default}
-use Rattle.two_halves.proofs.Stacks.{no_row}
+use Rattle.two_halves.proofs.Standing.Stacks.{no_row}
 use Rattle.cheney.specs.Plan.{Plan}
 use Rattle.cheney.specs.Zones.{Marks}
 use Rattle.two_halves.specs.Rows.{RowMoved, RowMoves}
 use Rattle.two_halves.specs.declared.table.Proc.{Proc}
-use Rattle.two_halves.proofs.AllRows.{next-fits, next-more, next-moves, rows-end, rows-start}
+use Rattle.two_halves.proofs.Moved.AllRows.{next-fits, next-more, next-moves, rows-end, rows-start}
 use Rattle.two_halves.proofs.roots.move_roots.Goals as goal
 
 pub loop-process-init : goal.loop-process-init

@@ -1,4 +1,4 @@
-use Rattle.two_halves.proofs.AllRows.{RowLoop}
+use Rattle.two_halves.proofs.Moved.AllRows.{RowLoop}
 use Rattle.two_halves.proofs.roots.move_roots.Given as goal
 
 abbrev pub invariant-loop-process : goal.invariant-loop-process

@@ -1,5 +1,5 @@
 use Rattle.std.proofs.Common.{arith}
-use Rattle.two_halves.proofs.Stacking.{stack-end, step-more, step-moves, step-new, step-old}
+use Rattle.two_halves.proofs.Moved.Stacking.{stack-end, step-more, step-moves, step-new, step-old}
 use Rattle.two_halves.proofs.roots.move_stack.Goals as goal
 
 pub move_place-place-requires-clause-can : goal.move_place-place-requires-clause-can

@@ -1,4 +1,4 @@
-use Rattle.two_halves.proofs.Stacking.{StackLoop}
+use Rattle.two_halves.proofs.Moved.Stacking.{StackLoop}
 use Rattle.two_halves.proofs.roots.move_stack.Given as goal
 
 abbrev pub invariant-loop-i : goal.invariant-loop-i

@@ -1,11 +1,11 @@
 use Rattle.std.proofs.Common.{◌<◌, arith}
-use Rattle.word_arena.specs.Blocks.{free_at, Begins}
-use Rattle.word_arena.proofs.Facts.{walked}
+use Rattle.word_arena.specs.Blocks.{free_at, BlockBegins}
+use Rattle.word_arena.proofs.Side.Facts.{walked}
 use Rattle.word_arena.proofs.blocks.first_fit.Goals as goal
 
 pub loop-at-preserved : goal.loop-at-preserved
 loop-at-preserved c =
-    let here : Begins c.args.mem.now c.loop-at.at = c.loop-at.invariant.stop.begins (omega arith) in
+    let here : BlockBegins c.args.mem.now c.loop-at.at = c.loop-at.invariant.stop.begins (omega arith) in
     record {
       stop = c.next-at.ensures.stop;
       from = omega (arith, c.loop-at.invariant.from, c.next-at.ensures.after);

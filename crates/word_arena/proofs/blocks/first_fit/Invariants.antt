@@ -1,12 +1,12 @@
 use Rattle.std.proofs.Common.{ℕ, ◌-◌, ◌<◌, ◌≤◌}
-use Rattle.word_arena.specs.Blocks.{free_at, Begins, Stop}
+use Rattle.word_arena.specs.Blocks.{free_at, BlockBegins, IsBoundary}
 use Rattle.word_arena.proofs.blocks.first_fit.Given as goal
 
 abbrev pub invariant-loop-at : goal.invariant-loop-at
 invariant-loop-at l = record {
-  stop : Stop l.mem l.at;
+  stop : IsBoundary l.mem l.at;
   from : l.from ≤ l.at;
-  less : (p : ℕ) → Begins l.mem p → l.from ≤ p → p < l.at → free_at l.mem p < l.words;
+  less : (p : ℕ) → BlockBegins l.mem p → l.from ≤ p → p < l.at → free_at l.mem p < l.words;
 }
 
 abbrev pub decreases-loop-at : goal.decreases-loop-at

@@ -1,11 +1,11 @@
 use Rattle.std.proofs.Common.{◌≡◌, ◌≢◌, ◌+◌, arith}
-use Rattle.word_arena.specs.Blocks.{size_at, kind_at, Begins}
-use Rattle.word_arena.proofs.Facts.{walked, free-all, free-most, block-within}
+use Rattle.word_arena.specs.Blocks.{size_at, kind_at, BlockBegins}
+use Rattle.word_arena.proofs.Side.Facts.{walked, free-all, free-most, block-within}
 use Rattle.word_arena.proofs.blocks.free_before.Goals as goal
 
 pub loop-p-preserved : goal.loop-p-preserved
 loop-p-preserved c =
-    let here : Begins c.args.mem.now c.loop-p.p = c.loop-p.invariant.stop.begins (omega arith) in
+    let here : BlockBegins c.args.mem.now c.loop-p.p = c.loop-p.invariant.stop.begins (omega arith) in
     record {
       stop = c.next-p.ensures.stop;
       none = λ q begins low high.

@@ -1,5 +1,5 @@
 use Rattle.std.proofs.Common.{arith}
-use Rattle.word_arena.proofs.Taking.{free_end-inside}
+use Rattle.word_arena.proofs.Laid.Taking.{free_end-inside}
 use Rattle.word_arena.proofs.blocks.free_end.Goals as goal
 
 pub overflow_add-result : goal.overflow_add-result

@@ -1,11 +1,11 @@
 use Rattle.std.proofs.Common.{◌-◌}
-use Rattle.word_arena.specs.Blocks.{Stop}
-use Rattle.word_arena.proofs.Summing.{Sum}
+use Rattle.word_arena.specs.Blocks.{IsBoundary}
+use Rattle.word_arena.proofs.Side.Summing.{Sum}
 use Rattle.word_arena.proofs.blocks.free_words.Given as goal
 
 abbrev pub invariant-loop-at : goal.invariant-loop-at
 invariant-loop-at l = record {
-  stop : Stop l.mem l.at;
+  stop : IsBoundary l.mem l.at;
   sum : Sum l.mem l.at l.all;
 }
 

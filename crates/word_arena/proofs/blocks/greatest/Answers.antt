@@ -1,16 +1,16 @@
 use Rattle.std.proofs.Common.{◌≡◌, ℕ, ◌<◌, ◌≤◌, List, arith, inl, inr}
 use Rattle.std.proofs.lemmas.Bool.{cases_lt}
 use Rattle.std.proofs.lemmas.Bool.Decides.{nat_tests}
-use Rattle.word_arena.specs.Blocks.{free_at, Begins}
-use Rattle.word_arena.proofs.Facts.{walked}
+use Rattle.word_arena.specs.Blocks.{free_at, BlockBegins}
+use Rattle.word_arena.proofs.Side.Facts.{walked}
 use Rattle.word_arena.proofs.blocks.greatest.Goals as goal
 
 abbrev Met : List ℕ → ℕ → ℕ → ℕ → Type 0
-Met mem from end most = (p : ℕ) × Begins mem p × (from ≤ p) × (p < end) × (free_at mem p ≡ most)
+Met mem from end most = (p : ℕ) × BlockBegins mem p × (from ≤ p) × (p < end) × (free_at mem p ≡ most)
 
 pub loop-at-preserved : goal.loop-at-preserved
 loop-at-preserved c =
-    let here : Begins c.args.mem.now c.loop-at.at = c.loop-at.invariant.stop.begins (omega arith) in
+    let here : BlockBegins c.args.mem.now c.loop-at.at = c.loop-at.invariant.stop.begins (omega arith) in
     let upper : c.loop-at.most ≤ c.max-most.result = grind (arith, nat_tests, c.max-most.ensures) in
     let also : c.free.result ≤ c.max-most.result = grind (arith, nat_tests, c.max-most.ensures) in
     record {

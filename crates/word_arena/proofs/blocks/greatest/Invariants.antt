@@ -1,14 +1,14 @@
 use Rattle.std.proofs.Common.{◌≡◌, ℕ, ◌-◌, ◌<◌, ◌≤◌}
-use Rattle.word_arena.specs.Blocks.{free_at, Begins, Stop}
+use Rattle.word_arena.specs.Blocks.{free_at, BlockBegins, IsBoundary}
 use Rattle.word_arena.proofs.blocks.greatest.Given as goal
 
 abbrev pub invariant-loop-at : goal.invariant-loop-at
 invariant-loop-at l = record {
-  stop : Stop l.mem l.at;
+  stop : IsBoundary l.mem l.at;
   from : l.from ≤ l.at;
-  above : (p : ℕ) → Begins l.mem p → l.from ≤ p → p < l.at → free_at l.mem p ≤ l.most;
-  inner : (p : ℕ) → Begins l.mem p → l.from ≤ p → p < l.at → p < l.end;
-  met : 0 < l.most → (p : ℕ) × Begins l.mem p × (l.from ≤ p) × (p < l.end) × (free_at l.mem p ≡ l.most);
+  above : (p : ℕ) → BlockBegins l.mem p → l.from ≤ p → p < l.at → free_at l.mem p ≤ l.most;
+  inner : (p : ℕ) → BlockBegins l.mem p → l.from ≤ p → p < l.at → p < l.end;
+  met : 0 < l.most → (p : ℕ) × BlockBegins l.mem p × (l.from ≤ p) × (p < l.end) × (free_at l.mem p ≡ l.most);
 }
 
 abbrev pub decreases-loop-at : goal.decreases-loop-at

@@ -1,5 +1,5 @@
 use Rattle.std.proofs.Common.{arith}
-use Rattle.word_arena.proofs.Facts.{block-within, stop-next}
+use Rattle.word_arena.proofs.Side.Facts.{block-within, stop-next}
 use Rattle.word_arena.proofs.blocks.next.Goals as goal
 
 pub size-requires : goal.size-requires

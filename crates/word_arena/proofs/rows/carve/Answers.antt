@@ -1,8 +1,8 @@
 use Rattle.std.proofs.Common.{◌≡◌, ℕ, ◌≤◌, List, refl, arith, subst, sym}
 use Rattle.word_arena.specs.Calls.{taken}
 use Rattle.word_arena.specs.Changes.{Took}
-use Rattle.word_arena.proofs.Facts.{block-within}
-use Rattle.word_arena.proofs.Taking.{took}
+use Rattle.word_arena.proofs.Side.Facts.{block-within}
+use Rattle.word_arena.proofs.Laid.Taking.{took}
 use Rattle.word_arena.proofs.rows.carve.Goals as goal
 
 pub overflow_mul-words : goal.overflow_mul-words

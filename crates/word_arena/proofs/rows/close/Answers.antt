@@ -1,7 +1,7 @@
 use Rattle.std.proofs.Common.{◌≡◌, ℕ, List, length, refl, subst, sym}
 use Rattle.word_arena.specs.Calls.{freed}
 use Rattle.word_arena.specs.Changes.{Closed}
-use Rattle.word_arena.proofs.Taking.{closed}
+use Rattle.word_arena.proofs.Laid.Taking.{closed}
 use Rattle.word_arena.proofs.rows.close.Goals as goal
 
 pub returns : goal.returns

@@ -2,7 +2,7 @@ use Rattle.std.proofs.Common.{◌≡◌, ℕ, ◌+◌, ◌-◌, List, set, refl,
 use Rattle.word_arena.specs.Blocks.{size_at, header}
 use Rattle.word_arena.specs.Calls.{free_end}
 use Rattle.word_arena.specs.Changes.{Gave}
-use Rattle.word_arena.proofs.Taking.{gave}
+use Rattle.word_arena.proofs.Laid.Taking.{gave}
 use Rattle.word_arena.proofs.rows.merge.Goals as goal
 
 pub overflow_mul-end : goal.overflow_mul-end

@@ -1,5 +1,5 @@
-use Rattle.word_arena.proofs.Facts.{zero-begins}
-use Rattle.word_arena.proofs.Table.{begins-below}
+use Rattle.word_arena.proofs.Side.Facts.{zero-begins}
+use Rattle.word_arena.proofs.Found.Table.{begins-below}
 use Rattle.word_tests.proofs.arena.block_behind.Goals as goal
 
 pub walk-init : goal.walk-init

@@ -1,7 +1,7 @@
 use Rattle.std.proofs.Common.{◌≡◌, ℕ, ◌+◌, ◌-◌, length, get_or, set, arith, subst, ap, ◌∙◌}
 use Rattle.std.proofs.lemmas.List.{length-set}
-use Rattle.atom_names.specs.Slots.{Finds}
-use Rattle.atom_names.proofs.Probing.{Finds_pop, read_is}
+use Rattle.atom_names.specs.Slots.{FindsSlot}
+use Rattle.atom_names.proofs.Probing.{Finds_pop, read-is}
 use Rattle.atom_names.specs.declared.names.TheConstants.{MOST_NAMES}
 use Rattle.atom_names.proofs.table.Table.free.Goals as goal
 
@@ -9,7 +9,7 @@ pub loop-number-preserved : goal.loop-number-preserved
 loop-number-preserved c =
     let places_room : length c.loop-number.self.places.items ≡ MOST_NAMES = ap length c.loop-number.invariant.places ∙ c.requires.places_room in
     let at : get_or c.loop-number.self.places.items (c.loop-number.number - 1) 0 ≡ c.index.result.now =
-    read_is c.loop-number.self.places.items (c.loop-number.number - 1) c.index.result.now
+    read-is c.loop-number.self.places.items (c.loop-number.number - 1) c.index.result.now
     (omega (arith, places_room, c.loop-number.invariant.high, c.requires.order.1, c.loop-number-test.true)) c.index.ensures in
     record {
       low = omega (arith, c.loop-number-test.true);
@@ -18,8 +18,8 @@ loop-number-preserved c =
       places = c.loop-number.invariant.places;
       finds = λ names f.
           let up : c.loop-number.number ≡ (c.loop-number.number - 1) + 1 = omega (arith, c.loop-number-test.true) in
-          let P : ℕ → Type 0 = λ n. Finds names n c.loop-number.self.slots.items c.loop-number.self.places.items in
-          let Q : ℕ → Type 0 = λ p. Finds names (c.loop-number.number - 1) (set c.loop-number.self.slots.items p 0) c.loop-number.self.places.items in
+          let P : ℕ → Type 0 = λ n. FindsSlot names n c.loop-number.self.slots.items c.loop-number.self.places.items in
+          let Q : ℕ → Type 0 = λ p. FindsSlot names (c.loop-number.number - 1) (set c.loop-number.self.slots.items p 0) c.loop-number.self.places.items in
           subst Q at (Finds_pop names (c.loop-number.number - 1) c.loop-number.self.slots.items c.loop-number.self.places.items
           (subst P up (c.loop-number.invariant.finds names f)));
     }
@@ -27,5 +27,5 @@ loop-number-preserved c =
 pub returns : goal.returns
 returns c = λ names f.
     let same : c.loop-number.number ≡ c.args.first = omega (arith, c.loop-number-test.false, c.loop-number.invariant.low) in
-    let P : ℕ → Type 0 = λ n. Finds names n c.loop-number.self.slots.items c.loop-number.self.places.items in
+    let P : ℕ → Type 0 = λ n. FindsSlot names n c.loop-number.self.slots.items c.loop-number.self.places.items in
     subst P same (c.loop-number.invariant.finds names f)

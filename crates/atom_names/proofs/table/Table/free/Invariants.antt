@@ -1,5 +1,5 @@
 use Rattle.std.proofs.Common.{◌≡◌, ℕ, ◌≤◌, List, length}
-use Rattle.atom_names.specs.Slots.{Finds}
+use Rattle.atom_names.specs.Slots.{FindsSlot}
 use Rattle.atom_names.proofs.table.Table.free.Given as goal
 
 abbrev pub invariant-loop-number : goal.invariant-loop-number
@@ -8,7 +8,7 @@ invariant-loop-number l = record {
   high : l.number ≤ l.fn.count;
   slots_room : length l.self.slots.items ≡ 65536;
   places : l.self.places.items ≡ l.fn.self.places.items;
-  finds : (names : List (List ℕ)) → Finds names l.fn.count l.fn.self.slots.items l.fn.self.places.items → Finds names l.number l.self.slots.items l.self.places.items;
+  finds : (names : List (List ℕ)) → FindsSlot names l.fn.count l.fn.self.slots.items l.fn.self.places.items → FindsSlot names l.number l.self.slots.items l.self.places.items;
 }
 
 abbrev pub decreases-loop-number : goal.decreases-loop-number

@@ -1,4 +1,4 @@
-use Rattle.cheney.proofs.Spans.{slice-before, slice-after, slice-found}
+use Rattle.cheney.proofs.Before.Spans.{slice-before, slice-after, slice-found}
 use Rattle.cheney.proofs.stay.Stay.has.Goals as goal
 
 pub returns-then-place-spans : goal.returns-then-place-spans

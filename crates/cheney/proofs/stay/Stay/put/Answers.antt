@@ -1,4 +1,4 @@
-use Rattle.cheney.proofs.Spans.{put-places}
+use Rattle.cheney.proofs.Before.Spans.{put-places}
 use Rattle.cheney.proofs.stay.Stay.put.Goals as goal
 
 pub returns-clause-places : goal.returns-clause-places

@@ -1,4 +1,4 @@
-use Rattle.cheney.proofs.Spans.{slice-carry}
+use Rattle.cheney.proofs.Before.Spans.{slice-carry}
 use Rattle.cheney.proofs.stay.Stay.with.Goals as goal
 
 pub loop-next-preserved : goal.loop-next-preserved

@@ -1,4 +1,4 @@
-use Rattle.cheney.proofs.Spans.{Carrying}
+use Rattle.cheney.proofs.Before.Spans.{Carrying}
 use Rattle.cheney.proofs.stay.Stay.with.Given as goal
 
 abbrev pub invariant-loop-next : goal.invariant-loop-next

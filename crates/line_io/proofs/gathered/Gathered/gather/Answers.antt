@@ -1,5 +1,5 @@
 use Rattle.std.proofs.Common.{take, arith}
-use Rattle.line_io.proofs.Ranges.{copied_front, range_grows}
+use Rattle.line_io.proofs.Ranges.{copied-front, range-grows}
 use Rattle.line_io.proofs.gathered.Gathered.gather.Goals as goal
 
 pub returns-clause-gathered : goal.returns-clause-gathered
@@ -8,5 +8,5 @@ returns-clause-gathered g c =
     let n = c.min-n.result in
     let new = c.put_at.new.buf in
     let bytes = c.args.bytes.now in
-    let written = copied_front w.buf new bytes w.to n (omega arith) c.put_at.ensures.front in
-    range_grows w.buf new (take n bytes) w.from w.to n w.in_order (omega arith) written
+    let written = copied-front w.buf new bytes w.to n (omega arith) c.put_at.ensures.front in
+    range-grows w.buf new (take n bytes) w.from w.to n w.in_order (omega arith) written

@@ -1,5 +1,5 @@
 use Rattle.std.proofs.Common.{take, slice_range, arith}
-use Rattle.line_io.proofs.Ranges.{range_splits}
+use Rattle.line_io.proofs.Ranges.{range-splits}
 use Rattle.line_io.proofs.gathered.Gathered.hand_on.Goals as goal
 
 pub returns-then-self-clause-handed : goal.returns-then-self-clause-handed
@@ -8,6 +8,6 @@ returns-then-self-clause-handed g c =
     let n = c.put_part-out.result in
     record {
       out = take n (slice_range w.buf w.from w.to);
-      parts = range_splits w.buf w.from n w.to (omega (arith, c.put_part-out.ensures.most, w.in_order));
+      parts = range-splits w.buf w.from n w.to (omega (arith, c.put_part-out.ensures.most, w.in_order));
       grew = c.put_part-out.ensures.grew;
     }

@@ -1,15 +1,15 @@
 use Rattle.std.proofs.Common.{◌≡◌, ◌⊎◌, inl, inr, ◌<◌, [], true, length, arith}
 use Rattle.line_io.specs.Reader.{held}
-use Rattle.line_io.proofs.Steps.{ends_empty, ends_last, read_of_end, length-held, nothing_held}
+use Rattle.line_io.proofs.Steps.{ends-empty, ends-last, read-of-end, length-held, nothing-held}
 use Rattle.line_io.proofs.reader.LineReader.last_line.Goals as goal
 use Rattle.line_io.proofs.reader.LineReader.last_line.Goals.{else-self-via-then-self+else-not-self, else-self-via-else-self}
 
 pub returns-then-not-self-clause-reads : goal.returns-then-not-self-clause-reads
 returns-then-not-self-clause-reads c =
     let w = c.args.self.now in
-    let empty : held w ≡ [] = nothing_held (held w) (omega (arith, length-held w, c.if-self.true)) in
+    let empty : held w ≡ [] = nothing-held (held w) (omega (arith, length-held w, c.if-self.true)) in
     λ left bytes given at_end cuts.
-    let e = ends_empty w.stop w.limits w.long w.lines_left w.bytes_left (held w) bytes given c.requires.going c.if-not-self.true empty cuts in
+    let e = ends-empty w.stop w.limits w.long w.lines_left w.bytes_left (held w) bytes given c.requires.going c.if-not-self.true empty cuts in
     record { here = (e.0, e.1, at_end) }
 
 pub returns-clause-reads : goal.returns-clause-reads
@@ -22,6 +22,6 @@ returns-clause-reads c =
     let line : 0 < w.lines_left = omega (arith, e.counted) in
     λ left bytes given at_end cuts. record {
       here = rw e.line
-          (read_of_end new.stop new w.limits left bytes _ e.stop e.limits
-          (ends_last w.stop w.limits w.long w.lines_left w.bytes_left (held w) bytes given c.requires.going line c.requires.open begun cuts) at_end);
+          (read-of-end new.stop new w.limits left bytes _ e.stop e.limits
+          (ends-last w.stop w.limits w.long w.lines_left w.bytes_left (held w) bytes given c.requires.going line c.requires.open begun cuts) at_end);
     }

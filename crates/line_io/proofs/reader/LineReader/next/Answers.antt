@@ -1,20 +1,20 @@
 use Rattle.std.proofs.Common.{◌≡◌, ◌+◌, ◌-◌, ◌<◌, ◌++◌, length, take, drop, slice_range, refl, sym, ap, subst, ◌∙◌, arith, append_assoc}
 use Rattle.line_io.specs.Reader.{CutBy, HasCut, IsOpen, held}
-use Rattle.line_io.proofs.Ranges.{range_kept, written_over}
-use Rattle.line_io.proofs.Steps.{faults_by, length-held}
-use Rattle.line_io.proofs.Loop.{Gave-append, Gave-end, reads_of, reads_again}
+use Rattle.line_io.proofs.Ranges.{range-kept, written-over}
+use Rattle.line_io.proofs.Steps.{faults-by, length-held}
+use Rattle.line_io.proofs.Loop.{Gave-append, Gave-end, reads-of, reads-again}
 use Rattle.line_io.proofs.reader.LineReader.next.Goals as goal
 
 pub returns-in-Some-clause-reads : goal.returns-in-Some-clause-reads
 returns-in-Some-clause-reads g c = λ bytes given h.
-    reads_again c.in-Some.answer c.args.self.now (g.S.Source.left c.args.source.now) bytes given (sym c.in-Some.ensures) h
+    reads-again c.in-Some.answer c.args.self.now (g.S.Source.left c.args.source.now) bytes given (sym c.in-Some.ensures) h
 
 pub returns-in-Some-ready-clause-reads : goal.returns-in-Some-ready-clause-reads
 returns-in-Some-ready-clause-reads g c = λ bytes given h.
     let inv = c.reading.invariant in
     let a = c.in-Some-ready.ensures.some in
     let t = inv.took bytes given h in
-    reads_of c.in-Some-ready.answer c.ready.new.self (g.S.Source.left c.args.source.now) (g.S.Source.left c.reading.source) _ bytes t.0 given
+    reads-of c.in-Some-ready.answer c.ready.new.self (g.S.Source.left c.args.source.now) (g.S.Source.left c.reading.source) _ bytes t.0 given
     (a.limits ∙ inv.limits) t.1 (a.reads _ (bytes ++ t.0) given t.2) a.settles
 
 pub reading-preserved : goal.reading-preserved
@@ -28,9 +28,9 @@ reading-preserved g c =
     let new = c.count_in.new.self in
     let buf = c.fill.new.buf in
     let items = take m.buf.len (buf ++ drop (length buf) m.buf.items) in
-    let over : items ≡ buf = written_over m.buf.len buf m.buf.items (omega (arith, c.fill.auto.buf, c.deref_mut.ensures.len)) in
+    let over : items ≡ buf = written-over m.buf.len buf m.buf.items (omega (arith, c.fill.auto.buf, c.deref_mut.ensures.len)) in
     let kept : slice_range items m.start m.end ≡ held m =
-    range_kept m.buf.items items m.start m.end m.in_order (ap (take m.end) over ∙ c.fill.ensures.front ∙ ap (take m.end) c.deref_mut.ensures.value) in
+    range-kept m.buf.items items m.start m.end m.in_order (ap (take m.end) over ∙ c.fill.ensures.front ∙ ap (take m.end) c.deref_mut.ensures.value) in
     let count : m.end + n - m.end ≡ n = omega arith in
     let x : slice_range items m.end (m.end + n) ≡ take n (drop m.end buf) = ap (λ l. take (m.end + n - m.end) (drop m.end l)) over ∙ ap (λ z. take z (drop m.end buf)) count in
     let no_end : IsOpen (slice_range new.buf.items new.start m.end) =
@@ -57,9 +57,9 @@ last_line-requires-clause-open g c =
     let m = c.make_room.new.self in
     let buf = c.fill.new.buf in
     let items = take m.buf.len (buf ++ drop (length buf) m.buf.items) in
-    let over : items ≡ buf = written_over m.buf.len buf m.buf.items (omega (arith, c.fill.auto.buf, c.deref_mut.ensures.len)) in
+    let over : items ≡ buf = written-over m.buf.len buf m.buf.items (omega (arith, c.fill.auto.buf, c.deref_mut.ensures.len)) in
     let kept : slice_range items m.start m.end ≡ held m =
-    range_kept m.buf.items items m.start m.end m.in_order (ap (take m.end) over ∙ c.fill.ensures.front ∙ ap (take m.end) c.deref_mut.ensures.value) in
+    range-kept m.buf.items items m.start m.end m.in_order (ap (take m.end) over ∙ c.fill.ensures.front ∙ ap (take m.end) c.deref_mut.ensures.value) in
     subst IsOpen (sym kept) c.make_room.ensures.open
 
 pub returns-in-End-clause-reads : goal.returns-in-End-clause-reads
@@ -71,14 +71,14 @@ returns-in-End-clause-reads g c = λ bytes given h.
     let l = c.last_line.ensures in
     let buf = c.fill.new.buf in
     let items = take m.buf.len (buf ++ drop (length buf) m.buf.items) in
-    let over : items ≡ buf = written_over m.buf.len buf m.buf.items (omega (arith, c.fill.auto.buf, c.deref_mut.ensures.len)) in
+    let over : items ≡ buf = written-over m.buf.len buf m.buf.items (omega (arith, c.fill.auto.buf, c.deref_mut.ensures.len)) in
     let kept : slice_range items m.start m.end ≡ held m =
-    range_kept m.buf.items items m.start m.end m.in_order (ap (take m.end) over ∙ c.fill.ensures.front ∙ ap (take m.end) c.deref_mut.ensures.value) in
+    range-kept m.buf.items items m.start m.end m.in_order (ap (take m.end) over ∙ c.fill.ensures.front ∙ ap (take m.end) c.deref_mut.ensures.value) in
     let t = inv.took bytes given h in
     let at_start = me.cuts (bytes ++ t.0) given (subst (λ w. HasCut w (bytes ++ t.0) given) (sym r.same) t.2) in
     let cuts = subst (λ x. CutBy m.stop m.limits m.long m.lines_left m.bytes_left x (bytes ++ t.0) given) (sym kept) at_start in
     let limits = l.limits ∙ me.limits ∙ ap (λ w. w.limits) r.same ∙ inv.limits in
-    reads_of c.last_line.result c.last_line.new.self _ (g.S.Source.left c.fill.new.source) _ bytes t.0 given limits (Gave-end _ _ _ t.0 t.1 c.in-End.ensures.bytes)
+    reads-of c.last_line.result c.last_line.new.self _ (g.S.Source.left c.fill.new.source) _ bytes t.0 given limits (Gave-end _ _ _ t.0 t.1 c.in-End.ensures.bytes)
     (l.reads (g.S.Source.left c.fill.new.source) (bytes ++ t.0) given c.in-End.ensures.end cuts) l.settles
 
 pub returns-in-Failed-clause-reads : goal.returns-in-Failed-clause-reads
@@ -92,5 +92,5 @@ returns-in-Failed-clause-reads g c = λ bytes given h.
     let going = me.stop ∙ ap (λ w. w.stop) r.same ∙ r.going in
     let limits = me.limits ∙ ap (λ w. w.limits) r.same ∙ inv.limits in
     let line : 0 < length (held m) → 0 < m.lines_left = λ some. me.line (omega (arith, some, length-held m)) in
-    reads_of _ _ _ (g.S.Source.left c.fill.new.source) _ bytes t.0 given limits (Gave-end _ _ _ t.0 t.1 c.in-Failed.ensures.bytes)
-    (record { here = faults_by m.stop m.limits m.long m.lines_left m.bytes_left (held m) (bytes ++ t.0) given going me.open line at_start }) refl
+    reads-of _ _ _ (g.S.Source.left c.fill.new.source) _ bytes t.0 given limits (Gave-end _ _ _ t.0 t.1 c.in-Failed.ensures.bytes)
+    (record { here = faults-by m.stop m.limits m.long m.lines_left m.bytes_left (held m) (bytes ++ t.0) given going me.open line at_start }) refl

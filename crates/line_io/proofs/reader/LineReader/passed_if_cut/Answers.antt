@@ -1,13 +1,13 @@
 use Rattle.std.proofs.Common.{refl, arith}
 use Rattle.line_io.specs.Reader.{held}
-use Rattle.line_io.proofs.Steps.{passes_cut}
+use Rattle.line_io.proofs.Steps.{passes-cut}
 use Rattle.line_io.proofs.reader.LineReader.passed_if_cut.Goals as goal
 
 pub returns-in-Cut-clause-some : goal.returns-in-Cut-clause-some
 returns-in-Cut-clause-some c =
     let w = c.args.self.now in
     record {
-      reads = λ left bytes given cuts. record { here = passes_cut w.stop w.limits w.long w.lines_left w.bytes_left (held w) bytes given c.in-Cut.is c.requires.open cuts };
+      reads = λ left bytes given cuts. record { here = passes-cut w.stop w.limits w.long w.lines_left w.bytes_left (held w) bytes given c.in-Cut.is c.requires.open cuts };
       settles = refl;
       counted = omega arith;
       limits = refl;

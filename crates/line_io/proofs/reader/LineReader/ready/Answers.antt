@@ -5,8 +5,8 @@ use Rattle.std.specs.Str.Lines.{strip_carriage_return}
 use Rattle.line_io.specs.Lines.{is_end}
 use Rattle.line_io.specs.Reader.{answer_at, held, line_given}
 use Rattle.line_io.specs.declared.reader.LineGot.{LineGot}
-use Rattle.line_io.proofs.Found.{found_line, none_held}
-use Rattle.line_io.proofs.Steps.{passes_many, gives_by, read_of_cut, settles_line, line-not-fault, none-not-fault, length-held}
+use Rattle.line_io.proofs.Found.{found-line, none-held}
+use Rattle.line_io.proofs.Steps.{passes-many, gives-by, read-of-cut, settles-line, line-not-fault, none-not-fault, length-held}
 use Rattle.line_io.proofs.reader.LineReader.ready.Goals as goal
 
 pub returns-then-self-clause-some : goal.returns-then-self-clause-some
@@ -14,7 +14,7 @@ returns-then-self-clause-some c =
     let w = c.args.self.now in
     let some : 0 < length (held w) = omega (arith, length-held w, c.if-self.true) in
     record {
-      reads = λ left bytes given cuts. record { here = passes_many w.stop w.limits w.long w.lines_left w.bytes_left (held w) bytes given c.if-self-eq0.true some cuts };
+      reads = λ left bytes given cuts. record { here = passes-many w.stop w.limits w.long w.lines_left w.bytes_left (held w) bytes given c.if-self-eq0.true some cuts };
       settles = refl;
       counted = omega arith;
       limits = refl;
@@ -27,7 +27,7 @@ passed_if_cut-requires c =
     let w = c.args.self.now in
     let none : position is_end (slice_range w.buf.items c.args.looked w.end) ≡ None =
     ap (λ l. position is_end (slice_range l c.args.looked w.end)) (sym c.deref.ensures.value) ∙ sym c.end_at.ensures ∙ c.in-None.is in
-    record { «open» = none_held w.buf.items w.start c.args.looked w.end c.requires.behind c.requires.within c.requires.open none }
+    record { «open» = none-held w.buf.items w.start c.args.looked w.end c.requires.behind c.requires.within c.requires.open none }
 
 pub returns-in-Some-clause-some : goal.returns-in-Some-clause-some
 returns-in-Some-clause-some c =
@@ -39,7 +39,7 @@ returns-in-Some-clause-some c =
     let t = slice_range items w.start at in
     let some : position is_end (slice_range items c.args.looked w.end) ≡ Some i =
     ap (λ l. position is_end (slice_range l c.args.looked w.end)) (sym c.deref.ensures.value) ∙ sym c.end_at.ensures ∙ c.in-Some.is in
-    let f = found_line items w.start c.args.looked w.end i c.requires.behind c.requires.within c.requires.open some in
+    let f = found-line items w.start c.args.looked w.end i c.requires.behind c.requires.within c.requires.open some in
     let d = c.deref-in-Some.ensures.value in
     let e = c.give.ensures in
     let rest : held new ≡ slice_range items (at + 1) w.end =
@@ -50,11 +50,11 @@ returns-in-Some-clause-some c =
     let going : answer_at new.stop ≡ None = ap answer_at e.stop ∙ c.requires.going in
     record {
       reads = λ left bytes given cuts. record {
-        here = read_of_cut new.stop new left bytes _
-            (gives_by w.stop new.stop w.limits new.limits w.long new.long w.lines_left new.lines_left w.bytes_left new.bytes_left (held w) (held new) bytes t given _
+        here = read-of-cut new.stop new left bytes _
+            (gives-by w.stop new.stop w.limits new.limits w.long new.long w.lines_left new.lines_left w.bytes_left new.bytes_left (held w) (held new) bytes t given _
             e.stop e.limits e.long e.bytes e.counted (f.1 ∙ ap (λ l. t ++ (10 ∷ l)) (sym rest)) f.2 line cuts);
       };
-      settles = settles_line c.give.result _ e.one;
+      settles = settles-line c.give.result _ e.one;
       counted = omega (arith, e.counted, e.one);
       limits = e.limits;
       no_fault = none-not-fault _ going;
@@ -70,4 +70,4 @@ returns-in-None-clause-open c =
     let w = c.args.self.now in
     let none : position is_end (slice_range w.buf.items c.args.looked w.end) ≡ None =
     ap (λ l. position is_end (slice_range l c.args.looked w.end)) (sym c.deref.ensures.value) ∙ sym c.end_at.ensures ∙ c.in-None.is in
-    if_none c.passed_if_cut.result (none_held w.buf.items w.start c.args.looked w.end c.requires.behind c.requires.within c.requires.open none)
+    if_none c.passed_if_cut.result (none-held w.buf.items w.start c.args.looked w.end c.requires.behind c.requires.within c.requires.open none)

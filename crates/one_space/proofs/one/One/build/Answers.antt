@@ -3,12 +3,12 @@ use Rattle.word_mem.specs.declared.ranges.Room.{Room}
 use Rattle.std.specs.Vec.{with_items}
 use Rattle.script_grammar.specs.declared.refusal.Refusal.{Refusal}
 use Rattle.item_build.specs.Reading.{long_bins, words_of}
-use Rattle.item_build.proofs.Written.{is-written}
+use Rattle.item_build.proofs.Meaning.Written.{is-written}
 use Rattle.one_space.specs.Doing.{Asks, Builds}
 use Rattle.one_space.specs.declared.one.One.{One}
-use Rattle.one_space.proofs.Asking.{asks-grown, asks-lacks, asks-stopped}
-use Rattle.one_space.proofs.Setting.{long-few, needed-words, set-builds, set-held, set-inside, set-linked, set-refused, set-regs, set-room, set-stops, stopped_in}
-use Rattle.one_space.proofs.Terming.{term-within}
+use Rattle.one_space.proofs.Calls.Asking.{asks-grown, asks-lacks, asks-stopped}
+use Rattle.one_space.proofs.Verbs.Setting.{long-few, needed-words, set-builds, set-held, set-inside, set-linked, set-refused, set-regs, set-room, set-stops, stopped_in}
+use Rattle.one_space.proofs.Calls.Terming.{term-within}
 use Rattle.one_space.proofs.one.One.build.Goals as goal
 
 pub returns-then-not-make_room-clause-builds : goal.returns-then-not-make_room-clause-builds

@@ -1,4 +1,4 @@
-use Rattle.one_space.proofs.Sweeping.{sweeps}
+use Rattle.one_space.proofs.Verbs.Sweeping.{sweeps}
 use Rattle.one_space.proofs.one.One.collect.Goals as goal
 
 pub returns : goal.returns

@@ -1,7 +1,7 @@
 use Rattle.std.proofs.Common.{refl}
 use Rattle.script_grammar.specs.declared.command.Verb.TheVariants as verb
 use Rattle.plain_machine.specs.Step.{eq_text, cmp_text}
-use Rattle.one_space.proofs.Telling.{are-named, order-told}
+use Rattle.one_space.proofs.OfReplies.Telling.{are-named, order-told}
 use Rattle.one_space.proofs.one.One.compare.Goals as goal
 
 pub compare-requires : goal.compare-requires

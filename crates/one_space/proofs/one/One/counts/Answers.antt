@@ -2,7 +2,7 @@ use Rattle.std.proofs.Common.{ℕ, ◌≤◌, List, length, sym, subst}
 use Rattle.plain_machine.specs.Maps.{CountsOf}
 use Rattle.atom_names.specs.Names.{AreNames}
 use Rattle.one_space.specs.Listing.{counts_of}
-use Rattle.one_space.proofs.Allowing.{can-tell, counts-allowed}
+use Rattle.one_space.proofs.OfReplies.Allowing.{can-tell, counts-allowed}
 use Rattle.one_space.proofs.one.One.counts.Goals as goal
 
 pub put_counts-requires : goal.put_counts-requires

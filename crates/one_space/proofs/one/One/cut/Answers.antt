@@ -6,9 +6,9 @@ use Rattle.term_words.specs.Stands.{Stands}
 use Rattle.term_build.specs.Clear.{Uses}
 use Rattle.term_build.specs.Grows.{Built}
 use Rattle.term_build.specs.Taken.{IsFree}
-use Rattle.one_space.proofs.Asking.{unless-grown, unless-lacks}
-use Rattle.one_space.proofs.Parting.{cut-does, cut-lacks, cut-part, cut-refused, cut-term}
-use Rattle.one_space.proofs.Terming.{term-within}
+use Rattle.one_space.proofs.Calls.Asking.{unless-grown, unless-lacks}
+use Rattle.one_space.proofs.Verbs.Parting.{cut-does, cut-lacks, cut-part, cut-refused, cut-term}
+use Rattle.one_space.proofs.Calls.Terming.{term-within}
 use Rattle.one_space.proofs.one.One.cut.Goals as goal
 
 pub has_part-requires : goal.has_part-requires

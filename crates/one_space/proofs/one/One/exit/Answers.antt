@@ -1,5 +1,5 @@
 use Rattle.std.proofs.Common.{arith, refl}
-use Rattle.one_space.proofs.Acting.{box-room, exit-does}
+use Rattle.one_space.proofs.Calls.Acting.{box-room, exit-does}
 use Rattle.one_space.proofs.one.One.exit.Goals as goal
 
 pub push_reserved-requires : goal.push_reserved-requires

@@ -1,4 +1,4 @@
-use Rattle.one_space.proofs.Filling.{fill-byte-refused, fill-long-refused}
+use Rattle.one_space.proofs.Verbs.Filling.{fill-byte-refused, fill-long-refused}
 use Rattle.one_space.proofs.one.One.fill.Goals as goal
 
 pub returns-then-len-gt-MOST_FILL-clause-does : goal.returns-then-len-gt-MOST_FILL-clause-does

@@ -1,8 +1,8 @@
 use Rattle.std.proofs.Common.{ℕ, ◌+◌, ◌/◌, sym, arith}
 use Rattle.plain_machine.specs.Tightness.{fill_words}
-use Rattle.one_space.proofs.Asking.{unless-grown, unless-lacks}
-use Rattle.one_space.proofs.Filling.{fill-lacks, long-does, record-words}
-use Rattle.one_space.proofs.Gaining.{bins-room, gained-within, next-there}
+use Rattle.one_space.proofs.Calls.Asking.{unless-grown, unless-lacks}
+use Rattle.one_space.proofs.Verbs.Filling.{fill-lacks, long-does, record-words}
+use Rattle.one_space.proofs.Memory.Gaining.{bins-room, gained-within, next-there}
 use Rattle.one_space.proofs.one.One.fill_long.Goals as goal
 
 pub returns-then-not-make_room-clause-does : goal.returns-then-not-make_room-clause-does

@@ -7,9 +7,9 @@ use Rattle.term_build.specs.Clear.{Uses}
 use Rattle.term_build.specs.Grows.{Built}
 use Rattle.term_build.specs.Taken.{IsFree}
 use Rattle.plain_machine.specs.Tightness.{fill_words}
-use Rattle.one_space.proofs.Asking.{unless-grown, unless-lacks}
-use Rattle.one_space.proofs.Filling.{fill-lacks, heap-words, small-by, take-equal}
-use Rattle.one_space.proofs.Terming.{term-within}
+use Rattle.one_space.proofs.Calls.Asking.{unless-grown, unless-lacks}
+use Rattle.one_space.proofs.Verbs.Filling.{fill-lacks, heap-words, small-by, take-equal}
+use Rattle.one_space.proofs.Calls.Terming.{term-within}
 use Rattle.one_space.proofs.one.One.fill_small.Goals as goal
 
 pub returns-then-not-make_room-clause-does : goal.returns-then-not-make_room-clause-does

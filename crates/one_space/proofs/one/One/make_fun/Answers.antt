@@ -9,12 +9,12 @@ use Rattle.space_api.specs.Calls.{Becomes, HasEnv, said}
 use Rattle.one_space.specs.Gathered.{held_word}
 use Rattle.one_space.specs.One.{Holds, OneStands, words_of}
 use Rattle.one_space.specs.declared.one.One.{One}
-use Rattle.one_space.proofs.Acting.{seat-below}
-use Rattle.one_space.proofs.Asking.{unless-grown, unless-lacks}
-use Rattle.one_space.proofs.Funning.{fun-holds, fun-lacks, fun-refused, fun-stands, lacks-holds, named-there}
-use Rattle.one_space.proofs.Gaining.{funs-room, gained, gained-within, with_reg}
-use Rattle.one_space.proofs.Terming.{term-within}
-use Rattle.two_halves.proofs.Stacks.{no_row}
+use Rattle.one_space.proofs.Calls.Acting.{seat-below}
+use Rattle.one_space.proofs.Calls.Asking.{unless-grown, unless-lacks}
+use Rattle.one_space.proofs.Verbs.Funning.{fun-holds, fun-lacks, fun-refused, fun-stands, lacks-holds, named-there}
+use Rattle.one_space.proofs.Memory.Gaining.{funs-room, gained, gained-within, with_reg}
+use Rattle.one_space.proofs.Calls.Terming.{term-within}
+use Rattle.two_halves.proofs.Standing.Stacks.{no_row}
 use Rattle.one_space.proofs.one.One.make_fun.Goals as goal
 
 pub returns-then-arity-gt-MOST_ARITY-clause-becomes : goal.returns-then-arity-gt-MOST_ARITY-clause-becomes

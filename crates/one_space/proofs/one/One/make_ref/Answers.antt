@@ -4,9 +4,9 @@ use Rattle.plain_term.specs.Tree.Tree.{Ref}
 use Rattle.term_build.specs.Clear.{Uses}
 use Rattle.term_build.specs.Grows.{Built}
 use Rattle.term_build.specs.Taken.{IsFree}
-use Rattle.one_space.proofs.Asking.{asks-grown, asks-lacks}
-use Rattle.one_space.proofs.Referring.{ref-does, ref-refused, refs-few}
-use Rattle.one_space.proofs.Terming.{term-within}
+use Rattle.one_space.proofs.Calls.Asking.{asks-grown, asks-lacks}
+use Rattle.one_space.proofs.Verbs.Referring.{ref-does, ref-refused, refs-few}
+use Rattle.one_space.proofs.Calls.Terming.{term-within}
 use Rattle.one_space.proofs.one.One.make_ref.Goals as goal
 
 pub returns-then-not-make_room-clause-does : goal.returns-then-not-make_room-clause-does

@@ -13,10 +13,10 @@ use Rattle.script_grammar.specs.declared.command.Command.TheVariants.{Process as
 use Rattle.script_grammar.specs.declared.command.Verb.TheVariants as verb
 use Rattle.plain_machine.specs.Tightness.{keys_in}
 use Rattle.one_space.specs.Doing.{DoesBy}
-use Rattle.one_space.proofs.Asking.{asks-grown, asks-lacks}
-use Rattle.one_space.proofs.Choosing.{can-seek}
-use Rattle.one_space.proofs.Pairing.{keys-few, put-asked, put-does, put-few, put-lacks, put-place, put-refused}
-use Rattle.one_space.proofs.Terming.{term-within}
+use Rattle.one_space.proofs.Calls.Asking.{asks-grown, asks-lacks}
+use Rattle.one_space.proofs.Verbs.Choosing.{can-seek}
+use Rattle.one_space.proofs.Verbs.Pairing.{keys-few, put-asked, put-does, put-few, put-lacks, put-place, put-refused}
+use Rattle.one_space.proofs.Calls.Terming.{term-within}
 use Rattle.one_space.proofs.one.One.map_put.Goals as goal
 
 pub place_in-requires : goal.place_in-requires

@@ -1,4 +1,4 @@
-use Rattle.one_space.proofs.Telling.{is-term, flat-told, nodes-told}
+use Rattle.one_space.proofs.OfReplies.Telling.{is-term, flat-told, nodes-told}
 use Rattle.one_space.proofs.one.One.measure.Goals as goal
 
 pub measure-requires : goal.measure-requires

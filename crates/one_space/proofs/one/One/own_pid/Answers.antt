@@ -1,6 +1,6 @@
 use Rattle.std.proofs.Common.{arith, refl}
-use Rattle.one_space.proofs.Acting.{own-does, seat-below}
-use Rattle.two_halves.proofs.Stacks.{no_row}
+use Rattle.one_space.proofs.Calls.Acting.{own-does, seat-below}
+use Rattle.two_halves.proofs.Standing.Stacks.{no_row}
 use Rattle.one_space.proofs.one.One.own_pid.Goals as goal
 
 pub pid-requires : goal.pid-requires

@@ -1,5 +1,5 @@
 use Rattle.std.proofs.Common.{refl}
-use Rattle.one_space.proofs.Choosing.{can-pick, choose-does, choose-refused}
+use Rattle.one_space.proofs.Verbs.Choosing.{can-pick, choose-does, choose-refused}
 use Rattle.one_space.proofs.one.One.pick.Goals as goal
 
 pub part-requires : goal.part-requires

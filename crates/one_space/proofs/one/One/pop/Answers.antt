@@ -1,5 +1,5 @@
 use Rattle.std.proofs.Common.{◌-◌, arith, refl}
-use Rattle.one_space.proofs.Acting.{half-within, pop-does, pop-empty, pop-inside}
+use Rattle.one_space.proofs.Calls.Acting.{half-within, pop-does, pop-empty, pop-inside}
 use Rattle.one_space.proofs.one.One.pop.Goals as goal
 
 pub returns-then-process-eq0-clause-does : goal.returns-then-process-eq0-clause-does

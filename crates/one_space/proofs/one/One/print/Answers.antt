@@ -1,7 +1,7 @@
 use Rattle.std.proofs.Common.{sym, ◌∙◌}
 use Rattle.plain_machine.specs.State.{register}
 use Rattle.term_words.specs.Role.{always}
-use Rattle.one_space.proofs.Telling.{is-term, can-print, prints-big, prints-all, prints-part}
+use Rattle.one_space.proofs.OfReplies.Telling.{is-term, can-print, prints-big, prints-all, prints-part}
 use Rattle.one_space.proofs.one.One.print.Goals as goal
 
 pub is_beyond-requires : goal.is_beyond-requires

@@ -1,6 +1,6 @@
 use Rattle.std.proofs.Common.{refl, ◌+◌, ◌-◌, set, ◌∙◌, ap, arith}
-use Rattle.one_space.proofs.Asking.{asks-grown, asks-lacks}
-use Rattle.one_space.proofs.Growing.{push-does, push-fits, push-refused, push-within}
+use Rattle.one_space.proofs.Calls.Asking.{asks-grown, asks-lacks}
+use Rattle.one_space.proofs.Calls.Growing.{push-does, push-fits, push-refused, push-within}
 use Rattle.one_space.proofs.one.One.push.Goals as goal
 
 pub returns-then-not-make_room-clause-does : goal.returns-then-not-make_room-clause-does

@@ -1,4 +1,4 @@
-use Rattle.one_space.proofs.Queuing.{have-messages, queue-writes}
+use Rattle.one_space.proofs.Verbs.Queuing.{have-messages, queue-writes}
 use Rattle.one_space.proofs.one.One.queue.Goals as goal
 
 pub put_queue-requires : goal.put_queue-requires

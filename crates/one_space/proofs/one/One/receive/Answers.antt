@@ -1,4 +1,4 @@
-use Rattle.one_space.proofs.Receiving.{left-seated, none-idle, receive-none, received-does, received-idle}
+use Rattle.one_space.proofs.Verbs.Receiving.{left-seated, none-idle, receive-none, received-does, received-idle}
 use Rattle.one_space.proofs.one.One.receive.Goals as goal
 
 pub returns-in_default-clause-does : goal.returns-in_default-clause-does
@@ -15,7 +15,7 @@ returns-clause-does c =
 
 pub returns-clause-idle : goal.returns-clause-idle
 returns-clause-idle c =
-    received-idle c.args.self.now c.requires.holds c.args.seat c.requires.sits c.args.r c.receive.new.self c.in-Some.w c.in-Some.ensures c.index_mut-process.result.now
+    received-idle c.args.self.now c.requires.holds c.args.seat c.requires.sits c.args.r c.receive.new.self c.in-Some.w c.in-Some.ensures c.process_mut-process.result.now
 
 pub returns-in_default-clause-idle : goal.returns-in_default-clause-idle
 returns-in_default-clause-idle c = none-idle c.args.self.now c.requires.holds c.args.seat c.requires.sits c.args.r c.receive.new.self c.in_default.ensures.0

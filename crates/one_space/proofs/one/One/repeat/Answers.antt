@@ -7,9 +7,9 @@ use Rattle.term_words.specs.Stands.{Stands}
 use Rattle.term_build.specs.Clear.{Uses}
 use Rattle.term_build.specs.Grows.{Built}
 use Rattle.term_build.specs.Taken.{IsFree}
-use Rattle.one_space.proofs.Asking.{unless-grown, unless-lacks}
-use Rattle.one_space.proofs.Repeating.{repeat-does, repeat-lacks, repeat-refused}
-use Rattle.one_space.proofs.Terming.{term-within}
+use Rattle.one_space.proofs.Calls.Asking.{unless-grown, unless-lacks}
+use Rattle.one_space.proofs.Verbs.Repeating.{repeat-does, repeat-lacks, repeat-refused}
+use Rattle.one_space.proofs.Calls.Terming.{term-within}
 use Rattle.one_space.proofs.one.One.repeat.Goals as goal
 
 pub returns-then-n-gt-MOST_PLACES-clause-does : goal.returns-then-n-gt-MOST_PLACES-clause-does

@@ -2,7 +2,7 @@ use Rattle.std.proofs.Common.{◌≡◌, ◌<◌, true, false, List, length, ref
 use Rattle.numbered_rows.specs.Numbers.{is_among, number_at}
 use Rattle.one_space.specs.One.{number_in}
 use Rattle.two_halves.specs.declared.table.Proc.{Proc}
-use Rattle.one_space.proofs.Messaging.{big-asks, can-send, dead-asks, dead-does, dead-none, deaf-asks, lacks-asks, seat-there, send-big, send-deaf, send-lacks, sent-alone, sent-asks, sent-does, size-few}
+use Rattle.one_space.proofs.Verbs.Messaging.{big-asks, can-send, dead-asks, dead-does, dead-none, deaf-asks, lacks-asks, seat-there, send-big, send-deaf, send-lacks, sent-alone, sent-asks, sent-does, size-few}
 use Rattle.one_space.proofs.one.One.send.Goals as goal
 
 pub returns-in_default-clause-does : goal.returns-in_default-clause-does

@@ -1,8 +1,8 @@
 use Rattle.std.proofs.Common.{Option, length, refl, ap, arith}
 use Rattle.std.specs.Option.{option_to_list}
 use Rattle.two_halves.specs.declared.table.Proc.{Proc}
-use Rattle.one_space.proofs.Asking.{asks-grown, asks-lacks}
-use Rattle.one_space.proofs.Growing.{box-for-one, room-for-one, spawn-does, spawn-refused, spawn-tight}
+use Rattle.one_space.proofs.Calls.Asking.{asks-grown, asks-lacks}
+use Rattle.one_space.proofs.Calls.Growing.{box-for-one, room-for-one, spawn-does, spawn-refused, spawn-tight}
 use Rattle.one_space.proofs.one.One.spawn.Goals as goal
 
 pub returns-then-len-ge-MOST_PROCESSES-clause-does : goal.returns-then-len-ge-MOST_PROCESSES-clause-does

@@ -1,6 +1,6 @@
 use Rattle.one_space.specs.declared.one.One.{One}
-use Rattle.one_space.proofs.Registers.{seated, word-there, held-there}
-use Rattle.one_space.proofs.Seated.{found-there}
+use Rattle.one_space.proofs.Processes.Registers.{seated, word-there, held-there}
+use Rattle.one_space.proofs.Processes.Seated.{found-there}
 use Rattle.one_space.proofs.one.One.word.Goals as goal
 
 pub returns : goal.returns

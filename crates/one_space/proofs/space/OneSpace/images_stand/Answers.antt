@@ -3,7 +3,7 @@ use Rattle.plain_machine.specs.Image.{ImageStands}
 use Rattle.one_space.specs.Image.{image}
 use Rattle.one_space.specs.One.{OneStands}
 use Rattle.one_space.specs.declared.one.One.{One}
-use Rattle.one_space.proofs.Imaged.{image-stands}
+use Rattle.one_space.proofs.OfReplies.Imaged.{image-stands}
 use Rattle.one_space.proofs.space.OneSpace.images_stand.Goals as goal
 
 pub returns : goal.returns

@@ -1,10 +1,10 @@
 use Rattle.std.proofs.Common.{◌≡◌, ◌/◌, false, List, [], ◌∷◌, ◌++◌, length, refl, ◌∙◌, ap, subst, arith}
 use Rattle.std.proofs.lemmas.List.{length-replicate}
-use Rattle.plain_machine.proofs.Living.{first-proper}
+use Rattle.plain_machine.proofs.Properly.Living.{first-proper}
 use Rattle.two_halves.specs.declared.halves.Halves.{Halves}
 use Rattle.one_space.specs.declared.one.One.{One}
 use Rattle.two_halves.specs.declared.table.Proc.{Proc}
-use Rattle.one_space.proofs.Calling.{first-holds, first-stands}
+use Rattle.one_space.proofs.Calls.Calling.{first-holds, first-stands}
 use Rattle.one_space.proofs.space.OneSpace.start.Goals as goal
 
 pub invariant_of-result : goal.invariant_of-result

@@ -3,7 +3,7 @@ use Rattle.script_grammar.specs.declared.command.Verb.TheVariants as verb
 use Rattle.space_api.specs.Calls.{one_term}
 use Rattle.space_api.proofs.Naming.{builds}
 use Rattle.one_space.specs.One.{OneStands}
-use Rattle.one_space.proofs.Calling.{becomes-so}
+use Rattle.one_space.proofs.Calls.Calling.{becomes-so}
 use Rattle.one_space.proofs.space.OneSpaceSpace.build.Goals as goal
 
 pub returns-clause-becomes : goal.returns-clause-becomes

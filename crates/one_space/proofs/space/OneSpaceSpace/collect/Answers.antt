@@ -3,7 +3,7 @@ use Rattle.script_grammar.specs.declared.command.Command.TheVariants.{Process}
 use Rattle.script_grammar.specs.declared.command.Verb.TheVariants as verb
 use Rattle.one_space.specs.One.{OneStands, Sits}
 use Rattle.one_space.specs.declared.one.One.{One}
-use Rattle.one_space.proofs.Calling.{gc-passes, passes-so}
+use Rattle.one_space.proofs.Calls.Calling.{gc-passes, passes-so}
 use Rattle.one_space.proofs.space.OneSpaceSpace.collect.Goals as goal
 
 pub returns-clause-passes : goal.returns-clause-passes

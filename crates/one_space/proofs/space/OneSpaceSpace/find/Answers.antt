@@ -4,7 +4,7 @@ use Rattle.two_halves.specs.Halves.{end_of}
 use Rattle.one_space.specs.One.{number_in}
 use Rattle.one_space.specs.declared.one.One.{One}
 use Rattle.two_halves.specs.declared.table.Proc.{Proc}
-use Rattle.one_space.proofs.Changing.{procs-among}
+use Rattle.one_space.proofs.Processes.Changing.{procs-among}
 use Rattle.one_space.proofs.space.OneSpaceSpace.find.Goals as goal
 
 pub returns-in-Some-clause-lives : goal.returns-in-Some-clause-lives

@@ -7,8 +7,8 @@ use Rattle.two_halves.specs.Halves.{end_of}
 use Rattle.one_space.specs.One.{OneStands, number_in, numbers_of}
 use Rattle.one_space.specs.declared.one.One.{One}
 use Rattle.two_halves.specs.declared.table.Proc.{Proc}
-use Rattle.one_space.proofs.Changing.{procs-numbers}
-use Rattle.one_space.proofs.Seated.{rising-there}
+use Rattle.one_space.proofs.Processes.Changing.{procs-numbers}
+use Rattle.one_space.proofs.Processes.Seated.{rising-there}
 use Rattle.one_space.proofs.space.OneSpaceSpace.live_after.Goals as goal
 
 pub returns-then-above-len-clause-means : goal.returns-then-above-len-clause-means

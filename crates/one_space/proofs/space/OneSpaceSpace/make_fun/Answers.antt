@@ -2,7 +2,7 @@ use Rattle.script_grammar.specs.declared.command.Command.TheVariants.{Process}
 use Rattle.script_grammar.specs.declared.command.Verb.TheVariants as verb
 use Rattle.space_api.proofs.Naming.{environs}
 use Rattle.one_space.specs.One.{OneStands}
-use Rattle.one_space.proofs.Calling.{becomes-so}
+use Rattle.one_space.proofs.Calls.Calling.{becomes-so}
 use Rattle.one_space.proofs.space.OneSpaceSpace.make_fun.Goals as goal
 
 pub returns-clause-becomes : goal.returns-clause-becomes

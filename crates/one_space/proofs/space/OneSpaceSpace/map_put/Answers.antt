@@ -6,7 +6,7 @@ use Rattle.plain_machine.specs.Tightness.{keys_in}
 use Rattle.one_space.specs.Doing.{AsksUnless}
 use Rattle.one_space.specs.One.{OneStands}
 use Rattle.one_space.specs.declared.one.One.{One}
-use Rattle.one_space.proofs.Calling.{becomes-so}
+use Rattle.one_space.proofs.Calls.Calling.{becomes-so}
 use Rattle.one_space.proofs.space.OneSpaceSpace.map_put.Goals as goal
 
 pub returns-clause-becomes : goal.returns-clause-becomes

@@ -1,7 +1,7 @@
 use Rattle.script_grammar.specs.declared.command.Command.TheVariants.{Process}
 use Rattle.script_grammar.specs.declared.command.Verb.TheVariants as verb
 use Rattle.one_space.specs.One.{OneStands}
-use Rattle.one_space.proofs.Calling.{passes-so}
+use Rattle.one_space.proofs.Calls.Calling.{passes-so}
 use Rattle.one_space.proofs.space.OneSpaceSpace.own_pid.Goals as goal
 
 pub returns-clause-passes : goal.returns-clause-passes

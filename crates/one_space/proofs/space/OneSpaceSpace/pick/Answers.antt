@@ -9,7 +9,7 @@ use Rattle.space_api.specs.Calls.{Becomes, Properly, said}
 use Rattle.one_space.specs.One.{OneStands, words_of}
 use Rattle.one_space.specs.Doing.{AsksUnless, Books, IsIdle, takes_part}
 use Rattle.one_space.specs.declared.one.One.{One}
-use Rattle.one_space.proofs.Calling.{becomes-so}
+use Rattle.one_space.proofs.Calls.Calling.{becomes-so}
 use Rattle.one_space.proofs.space.OneSpaceSpace.pick.Goals as goal
 
 -- A pick that is no part takes none.

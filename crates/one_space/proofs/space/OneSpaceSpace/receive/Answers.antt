@@ -1,7 +1,7 @@
 use Rattle.script_grammar.specs.declared.command.Command.TheVariants.{Process}
 use Rattle.script_grammar.specs.declared.command.Verb.TheVariants as verb
 use Rattle.one_space.specs.One.{OneStands}
-use Rattle.one_space.proofs.Calling.{follows-so}
+use Rattle.one_space.proofs.Calls.Calling.{follows-so}
 use Rattle.one_space.proofs.space.OneSpaceSpace.receive.Goals as goal
 
 pub returns-clause-follows : goal.returns-clause-follows

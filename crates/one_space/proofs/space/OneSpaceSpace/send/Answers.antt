@@ -8,7 +8,7 @@ use Rattle.plain_machine.specs.Tightness.{receiver}
 use Rattle.one_space.specs.One.{OneStands}
 use Rattle.one_space.specs.Doing.{AsksToSend, IsSentAlone}
 use Rattle.one_space.specs.declared.one.One.{One}
-use Rattle.one_space.proofs.Calling.{becomes-so}
+use Rattle.one_space.proofs.Calls.Calling.{becomes-so}
 use Rattle.one_space.proofs.space.OneSpaceSpace.send.Goals as goal
 
 pub returns-clause-becomes : goal.returns-clause-becomes

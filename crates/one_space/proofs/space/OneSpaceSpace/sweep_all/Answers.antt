@@ -1,7 +1,7 @@
 use Rattle.script_grammar.specs.declared.command.Command.TheVariants.{System}
 use Rattle.script_grammar.specs.declared.command.SysVerb.TheVariants as sysverb
 use Rattle.one_space.specs.One.{OneStands}
-use Rattle.one_space.proofs.Calling.{passes-so, sweep-passes}
+use Rattle.one_space.proofs.Calls.Calling.{passes-so, sweep-passes}
 use Rattle.one_space.proofs.space.OneSpaceSpace.sweep_all.Goals as goal
 
 pub returns-clause-passes : goal.returns-clause-passes

@@ -8,16 +8,16 @@ use Rattle.term_words.specs.Role.{IsSingle}
 use Rattle.term_words.specs.Counted.{In}
 use Rattle.term_build.specs.Clear.{Uses}
 use Rattle.term_build.specs.Grows.{BuiltLink}
-use Rattle.term_build.specs.Parts.{IsNamed}
+use Rattle.term_build.specs.Parts.{IsRecordOf}
 use Rattle.term_build.specs.Taken.{IsFree, Lie}
 use Rattle.shared_rec.specs.Record.{count_in}
 use Rattle.off_heap_list.specs.Links.{IsLink, Links}
 use Rattle.off_heap_list.specs.Links.{named as named_at}
-use Rattle.off_heap_list.proofs.Tallied.{few-links}
+use Rattle.off_heap_list.proofs.Walked.Tallied.{few-links}
 use Rattle.two_halves.specs.Adding.{HasBin}
 use Rattle.two_halves.specs.declared.halves.Halves.{Halves}
-use Rattle.two_halves.proofs.Adding.{last-bytes}
-use Rattle.two_halves.proofs.Linking.{holder-gets, holder-laid, holder-named}
+use Rattle.two_halves.proofs.Coming.Adding.{last-bytes}
+use Rattle.two_halves.proofs.Coming.Linking.{holder-gets, holder-laid, holder-named}
 use Rattle.two_halves.proofs.halves.Halves.add_bin.Goals as goal
 
 pub chain-self-requires-clause-of_record : goal.chain-self-requires-clause-of_record
@@ -58,7 +58,7 @@ returns-clause-gets c = λ named shared qs x last.
     let hb : HasBin named h more qs at c.args.serial bytes = c.put_bin-at.ensures.has named shared qs x last in
     let top : c.room-room.result.top ≡ h.top = ap (λ z. z.top) c.room-room.ensures in
     let U : Room → Type 0 = λ z. Uses 6 z c.holder-w.new.room h.mem mem3 in
-    let V : Room → Type 0 = λ z. (k : ℕ → ℕ → Bool) (other : List (List ℕ)) (id : ℕ) → IsFree k z.top (z.top + 6) → IsNamed k other h.mem at c.args.len id
+    let V : Room → Type 0 = λ z. (k : ℕ → ℕ → Bool) (other : List (List ℕ)) (id : ℕ) → IsFree k z.top (z.top + 6) → IsRecordOf k other h.mem at c.args.len id
     → BuiltLink k z.top 6 h.mem mem3 other c.holder-w.result (Shared id) in
     let L : ℕ → Type 0 = λ z. Lie mem3 z (head_word HOLDER 5 ∷ c.args.len ∷ 0 ∷ at ∷ 0 ∷ 0 ∷ []) in
     let W : ℕ → Type 0 = λ z. c.chain-self.new.mem ≡ set (set mem3 (named_at mem3 z + 2) (get_or mem3 (named_at mem3 z + 2) 0 + 1)) (z + 2) h.head in
@@ -85,7 +85,7 @@ returns-clause-adds c =
     let hb : HasBin named h more qs at c.args.serial bytes = c.put_bin-at.ensures.has named shared qs x last in
     let top : c.room-room.result.top ≡ h.top = ap (λ z. z.top) c.room-room.ensures in
     let U : Room → Type 0 = λ z. Uses 6 z c.holder-w.new.room h.mem mem3 in
-    let V : Room → Type 0 = λ z. (k : ℕ → ℕ → Bool) (other : List (List ℕ)) (id : ℕ) → IsFree k z.top (z.top + 6) → IsNamed k other h.mem at c.args.len id
+    let V : Room → Type 0 = λ z. (k : ℕ → ℕ → Bool) (other : List (List ℕ)) (id : ℕ) → IsFree k z.top (z.top + 6) → IsRecordOf k other h.mem at c.args.len id
     → BuiltLink k z.top 6 h.mem mem3 other c.holder-w.result (Shared id) in
     let L : ℕ → Type 0 = λ z. Lie mem3 z (head_word HOLDER 5 ∷ c.args.len ∷ 0 ∷ at ∷ 0 ∷ 0 ∷ []) in
     let W : ℕ → Type 0 = λ z. c.chain-self.new.mem ≡ set (set mem3 (named_at mem3 z + 2) (get_or mem3 (named_at mem3 z + 2) 0 + 1)) (z + 2) h.head in

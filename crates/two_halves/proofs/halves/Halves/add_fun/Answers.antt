@@ -14,10 +14,10 @@ use Rattle.term_build.specs.Grows.{BuiltLink}
 use Rattle.term_build.specs.Taken.{IsFree, Lie}
 use Rattle.shared_rec.specs.Record.{count_in}
 use Rattle.off_heap_list.specs.Links.{IsLink, Links, named as named_at}
-use Rattle.off_heap_list.proofs.Tallied.{few-links}
+use Rattle.off_heap_list.proofs.Walked.Tallied.{few-links}
 use Rattle.two_halves.specs.Adding.{HasFun}
 use Rattle.two_halves.specs.declared.halves.Halves.{Halves}
-use Rattle.two_halves.proofs.Linking.{few-named, fun-gets, fun-named, laid-after, near-low}
+use Rattle.two_halves.proofs.Coming.Linking.{few-named, fun-gets, fun-named, laid-after, near-low}
 use Rattle.two_halves.proofs.halves.Halves.add_fun.Goals as goal
 
 pub chain-self-requires-clause-of_record : goal.chain-self-requires-clause-of_record

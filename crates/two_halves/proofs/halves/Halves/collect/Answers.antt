@@ -1,6 +1,6 @@
-use Rattle.two_halves.proofs.Done.{bins-in, collects, funs-in, may-move-all, may-sweep}
-use Rattle.two_halves.proofs.Ended.{all-scanned, can-move-rows, can-scan}
-use Rattle.two_halves.proofs.Planned.{is-target, target_of}
+use Rattle.two_halves.proofs.Collected.Done.{bins-in, collects, funs-in, may-move-all, may-sweep}
+use Rattle.two_halves.proofs.Collected.Ended.{all-scanned, can-move-rows, can-scan}
+use Rattle.two_halves.proofs.Collected.Planned.{is-target, target_of}
 use Rattle.two_halves.proofs.halves.Halves.collect.Goals as goal
 
 pub move_roots-requires : goal.move_roots-requires

@@ -1,6 +1,6 @@
 use Rattle.std.proofs.Common.{◌≡◌, ℕ, ◌≤◌, Bool, false, arith, ap}
 use Rattle.cheney.specs.Spans.{in_spans}
-use Rattle.two_halves.proofs.Copying.{can-copy, copies-chained, copies-plain, linked-few, row-there}
+use Rattle.two_halves.proofs.Queued.Copying.{can-copy, copies-chained, copies-plain, linked-few, row-there}
 use Rattle.two_halves.proofs.halves.Halves.copy_in.Goals as goal
 
 pub copy_tree-copy-requires-clause-can : goal.copy_tree-copy-requires-clause-can

@@ -1,5 +1,5 @@
 use Rattle.std.proofs.Common.{◌-◌, refl, arith}
-use Rattle.two_halves.proofs.Entering.{last-inside, queues, waiting-few}
+use Rattle.two_halves.proofs.Queued.Entering.{last-inside, queues, waiting-few}
 use Rattle.two_halves.proofs.halves.Halves.enqueue.Goals as goal
 
 pub follow-first-requires : goal.follow-first-requires

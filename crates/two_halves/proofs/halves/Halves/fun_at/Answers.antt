@@ -1,5 +1,5 @@
 use Rattle.std.proofs.Common.{arith}
-use Rattle.two_halves.proofs.Adding.{fun-inside}
+use Rattle.two_halves.proofs.Coming.Adding.{fun-inside}
 use Rattle.two_halves.proofs.halves.Halves.fun_at.Goals as goal
 
 pub serial_of-requires : goal.serial_of-requires

@@ -1,7 +1,7 @@
 use Rattle.std.proofs.Common.{ℕ, ◌+◌, ◌-◌, ◌*◌, Option, subst, arith}
 use Rattle.two_halves.specs.Adding.{IsFunAt}
 use Rattle.two_halves.specs.declared.halves.Halves.{Halves}
-use Rattle.two_halves.proofs.Adding.{fun-adds, fun-found, has-fun, inserted}
+use Rattle.two_halves.proofs.Coming.Adding.{fun-adds, fun-found, has-fun, inserted}
 use Rattle.two_halves.proofs.halves.Halves.fun_record.Goals as goal
 
 pub returns-in-Some-clause-has : goal.returns-in-Some-clause-has

@@ -1,7 +1,7 @@
 use Rattle.std.proofs.Common.{nat_le, sym, subst, arith}
 use Rattle.std.proofs.Common.{ℕ}
 use Rattle.two_halves.specs.Collecting.{MakesRoom}
-use Rattle.two_halves.proofs.Tight.{room-after, room-before}
+use Rattle.two_halves.proofs.Collected.Tight.{room-after, room-before}
 use Rattle.two_halves.proofs.halves.Halves.make_room.Goals as goal
 
 pub returns-then-n-free : goal.returns-then-n-free

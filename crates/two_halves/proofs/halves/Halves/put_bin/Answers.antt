@@ -1,6 +1,6 @@
 use Rattle.std.proofs.Common.{ℕ, ◌+◌, ◌-◌, ◌/◌, ◌≤◌, length, sym, subst, arith}
 use Rattle.plain_term.specs.Measures.{bin_words}
-use Rattle.two_halves.proofs.Adding.{bin-adds, bin-written, has-bin, size-there}
+use Rattle.two_halves.proofs.Coming.Adding.{bin-adds, bin-written, has-bin, size-there}
 use Rattle.two_halves.proofs.halves.Halves.put_bin.Goals as goal
 
 pub fill-requires-clause-bytes : goal.fill-requires-clause-bytes

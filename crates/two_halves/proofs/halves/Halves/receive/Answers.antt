@@ -1,5 +1,5 @@
 use Rattle.std.proofs.Common.{arith}
-use Rattle.two_halves.proofs.Queuing.{message-inside, takes}
+use Rattle.two_halves.proofs.Queued.Queuing.{message-inside, takes}
 use Rattle.two_halves.proofs.halves.Halves.receive.Goals as goal
 
 pub overflow_add-place : goal.overflow_add-place

@@ -1,4 +1,4 @@
-use Rattle.two_halves.proofs.Sending.{can-copy-in, can-queue, sends}
+use Rattle.two_halves.proofs.Queued.Sending.{can-copy-in, can-queue, sends}
 use Rattle.two_halves.proofs.halves.Halves.send.Goals as goal
 
 pub copy_in-copy-requires : goal.copy_in-copy-requires

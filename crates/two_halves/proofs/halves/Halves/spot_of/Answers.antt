@@ -1,6 +1,6 @@
 use Rattle.std.proofs.Common.{◌+◌, ◌-◌, ◌/◌, arith}
-use Rattle.two_halves.proofs.Adding.{fun-inside}
-use Rattle.two_halves.proofs.Joining.{above-there, below-there}
+use Rattle.two_halves.proofs.Coming.Adding.{fun-inside}
+use Rattle.two_halves.proofs.Standing.Joining.{above-there, below-there}
 use Rattle.two_halves.proofs.halves.Halves.spot_of.Goals as goal
 
 pub serial_of-requires : goal.serial_of-requires

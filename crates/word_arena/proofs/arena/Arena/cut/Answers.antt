@@ -1,12 +1,12 @@
 use Rattle.std.proofs.Common.{◌≡◌, ◌≢◌, ℕ, ◌+◌, ◌-◌, ◌/◌, ◌<◌, ◌≤◌, ◌⊎◌, List, ap, refl, sym, ◌∙◌, subst, inl, inr, arith}
 use Rattle.std.proofs.lemmas.Bool.{cases_eq}
-use Rattle.word_arena.specs.Blocks.{size_at, Begins}
+use Rattle.word_arena.specs.Blocks.{size_at, BlockBegins}
 use Rattle.word_arena.specs.Changes.{Shortened}
 use Rattle.word_arena.specs.Stretches.{Settled, Right}
-use Rattle.word_arena.proofs.Facts.{block-within}
-use Rattle.word_arena.proofs.Summing.{free_of-most}
-use Rattle.word_arena.proofs.Table.{frame-first, settled-then, agrees-again}
-use Rattle.word_arena.proofs.Searching.{right-at}
+use Rattle.word_arena.proofs.Side.Facts.{block-within}
+use Rattle.word_arena.proofs.Side.Summing.{free_of-most}
+use Rattle.word_arena.proofs.Found.Table.{frame-first, settled-then, agrees-again}
+use Rattle.word_arena.proofs.Found.Searching.{right-at}
 use Rattle.word_arena.proofs.arena.Arena.cut.Goals as goal
 use Rattle.word_arena.proofs.arena.Arena.cut.Goals.{then-words-size, else-words-size}
 
@@ -35,7 +35,7 @@ overflow_add-at-2 c =
 
 -- The last block that was written: the rest, where there is one, else the block itself.
 record IsLast (old new : List ℕ) (at words last : ℕ) : Type 0 where
-  pub begins : Begins new last
+  pub begins : BlockBegins new last
   pub place : (last ≡ at) ⊎ (last ≡ at + words)
   pub low : last ≤ at + size_at old at
   pub high : at + size_at old at ≤ last + size_at new last

@@ -1,7 +1,7 @@
 use Rattle.std.proofs.Common.{◌≡◌, ◌≢◌, ℕ, ◌+◌, ◌*◌, ◌/◌, ◌<◌, ◌≤◌, get_or, sym, ap, ◌∙◌, subst, arith, inl, refl}
-use Rattle.word_arena.specs.Blocks.{size_at, kind_at, Begins, Stop}
-use Rattle.word_arena.proofs.Table.{begins-below}
-use Rattle.word_arena.proofs.Searching.{own-stop, free-from, own-none, earlier-none, earlier-last}
+use Rattle.word_arena.specs.Blocks.{size_at, kind_at, BlockBegins, IsBoundary}
+use Rattle.word_arena.proofs.Found.Table.{begins-below}
+use Rattle.word_arena.proofs.Found.Searching.{own-stop, free-from, own-none, earlier-none, earlier-last}
 use Rattle.word_arena.proofs.arena.Arena.free_start.Goals as goal
 
 pub start-own-requires-clause-inside : goal.start-own-requires-clause-inside
@@ -10,7 +10,7 @@ start-own-requires-clause-inside c =
 
 pub free_before-requires-clause-from : goal.free_before-requires-clause-from
 free_before-requires-clause-from c =
-    let P : ℕ → Type 0 = λ z. Stop c.args.self.now.mem z in
+    let P : ℕ → Type 0 = λ z. IsBoundary c.args.self.now.mem z in
     let h = c.args.self.now.holes in
     let is : c.start-own.result ≡ c.args.at / 64 * 64 + get_or h.firsts.items (c.args.at / 64) 0 =
     c.start-own.ensures ∙ ap (λ (z : ℕ). z * 64 + get_or h.firsts.items z 0) c.stretch_of-stretch.ensures in
@@ -26,7 +26,7 @@ returns-then-own-at c =
     let at = c.args.at in
     let own = at / 64 * 64 + get_or h.firsts.items (at / 64) 0 in
     let is : c.start-own.result ≡ own = c.start-own.ensures ∙ ap (λ (z : ℕ). z * 64 + get_or h.firsts.items z 0) c.stretch_of-stretch.ensures in
-    let N : ℕ → Type 0 = λ z. (p : ℕ) → Begins mem p → z ≤ p → p < at → kind_at mem p ≡ 0 → p + size_at mem p ≢ at in
+    let N : ℕ → Type 0 = λ z. (p : ℕ) → BlockBegins mem p → z ≤ p → p < at → kind_at mem p ≡ 0 → p + size_at mem p ≢ at in
     free-from mem at c.free_before.result c.requires.sound.blocked c.free_before.ensures.place
     (λ same. own-none mem h at c.requires.sound.blocked c.requires.sound.agrees c.requires.block (omega (arith, is, c.if-own-at.true))
     (subst N is (c.free_before.ensures.none same)))
@@ -58,7 +58,7 @@ returns c =
     let s = c.in-Some.ensures in
     let is : c.start-own.result ≡ at / 64 * 64 + get_or h.firsts.items (at / 64) 0 =
     c.start-own.ensures ∙ ap (λ (z : ℕ). z * 64 + get_or h.firsts.items z 0) c.stretch_of-stretch.ensures in
-    let N : ℕ → Type 0 = λ z. (p : ℕ) → Begins mem p → z ≤ p → p < c.stretch_end-end.result → kind_at mem p ≡ 0 → p + size_at mem p ≢ at in
+    let N : ℕ → Type 0 = λ z. (p : ℕ) → BlockBegins mem p → z ≤ p → p < c.stretch_end-end.result → kind_at mem p ≡ 0 → p + size_at mem p ≢ at in
     free-from mem at c.free_before-2.result c.requires.sound.blocked c.free_before-2.ensures.place
     (λ same. earlier-last mem h at k c.stretch_end-end.result c.requires.sound.blocked c.requires.sound.agrees c.requires.block (omega (arith, is, c.if-own-at.false))
     s.some (λ j above below. s.last j above (omega (arith, c.stretch_of-stretch.ensures))) c.stretch_end-end.ensures (omega (arith, s.before, c.stretch_of-stretch.ensures))

@@ -1,11 +1,11 @@
 use Rattle.std.proofs.Common.{◌≡◌, ◌≢◌, ℕ, ◌+◌, ◌/◌, ap, subst, arith}
 use Rattle.word_arena.specs.Blocks.{size_at}
 use Rattle.word_arena.specs.Stretches.{Settled, Right}
-use Rattle.word_arena.proofs.Facts.{block-within}
-use Rattle.word_arena.proofs.Summing.{free_of-most}
-use Rattle.word_arena.proofs.Table.{frame-first, settled-then, agrees-again}
-use Rattle.word_arena.proofs.Taking.{from-begins}
-use Rattle.word_arena.proofs.Searching.{right-at}
+use Rattle.word_arena.proofs.Side.Facts.{block-within}
+use Rattle.word_arena.proofs.Side.Summing.{free_of-most}
+use Rattle.word_arena.proofs.Found.Table.{frame-first, settled-then, agrees-again}
+use Rattle.word_arena.proofs.Laid.Taking.{from-begins}
+use Rattle.word_arena.proofs.Found.Searching.{right-at}
 use Rattle.word_arena.proofs.arena.Arena.give.Goals as goal
 
 abbrev at_end : ℕ → ℕ → ℕ

@@ -1,4 +1,4 @@
-use Rattle.word_arena.proofs.Searching.{greatest-is}
+use Rattle.word_arena.proofs.Found.Searching.{greatest-is}
 use Rattle.word_arena.proofs.arena.Arena.greatest.Goals as goal
 
 pub returns : goal.returns

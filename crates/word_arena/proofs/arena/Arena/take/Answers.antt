@@ -1,8 +1,8 @@
 use Rattle.std.proofs.Common.{◌+◌, ◌-◌, ◌/◌, arith, refl}
 use Rattle.word_arena.specs.Stretches.{Settled}
-use Rattle.word_arena.proofs.Facts.{block-within}
-use Rattle.word_arena.proofs.Table.{frame-first, settled-then, agrees-again}
-use Rattle.word_arena.proofs.Searching.{right-at}
+use Rattle.word_arena.proofs.Side.Facts.{block-within}
+use Rattle.word_arena.proofs.Found.Table.{frame-first, settled-then, agrees-again}
+use Rattle.word_arena.proofs.Found.Searching.{right-at}
 use Rattle.word_arena.proofs.arena.Arena.take.Goals as goal
 
 pub settle_at-requires-clause-first : goal.settle_at-requires-clause-first

@@ -1,5 +1,5 @@
 use Rattle.std.proofs.Common.{rules, arith}
-use Rattle.word_arena.proofs.Facts.{stop-zero}
+use Rattle.word_arena.proofs.Side.Facts.{stop-zero}
 use Rattle.word_arena.proofs.holes.Holes.renew.Goals as goal
 
 pub loop-stretch-init : goal.loop-stretch-init

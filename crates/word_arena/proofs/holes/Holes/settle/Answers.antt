@@ -2,8 +2,8 @@ use Rattle.std.proofs.Common.{◌≡◌, ℕ, ◌-◌, ◌*◌, ◌<◌, ◌≤�
 use Rattle.std.proofs.lemmas.Bool.{cases_lt}
 use Rattle.std.proofs.lemmas.List.{length-set}
 use Rattle.word_arena.specs.Stretches.{Right}
-use Rattle.word_arena.proofs.Facts.{free-most, block-within}
-use Rattle.word_arena.proofs.Table.{first-right, top-right, start-next, written-right, written-keeps}
+use Rattle.word_arena.proofs.Side.Facts.{free-most, block-within}
+use Rattle.word_arena.proofs.Found.Table.{first-right, top-right, start-next, written-right, written-keeps}
 use Rattle.word_arena.proofs.holes.Holes.settle.Goals as goal
 use Rattle.word_arena.proofs.holes.Holes.settle.Goals.{then-from-end, else-from-end}
 

@@ -1,6 +1,6 @@
 use Rattle.std.proofs.Common.{◌≡◌, ℕ, ◌*◌, ◌+◌, ◌/◌, get_or, refl, sym, subst, arith}
 use Rattle.word_arena.specs.Stretches.{IsStart}
-use Rattle.word_arena.proofs.Table.{start-first, begins-below}
+use Rattle.word_arena.proofs.Found.Table.{start-first, begins-below}
 use Rattle.word_arena.proofs.holes.Holes.settle_at.Goals as goal
 
 pub start-from-requires-clause-inside : goal.start-from-requires-clause-inside

@@ -1,7 +1,7 @@
 use Rattle.std.proofs.Common.{◌≡◌, ℕ, ◌+◌, ◌/◌, sym, ◌∙◌, subst}
 use Rattle.word_arena.specs.Blocks.{size_at}
 use Rattle.word_arena.specs.Stretches.{IsStart}
-use Rattle.word_arena.proofs.Table.{start-behind}
+use Rattle.word_arena.proofs.Found.Table.{start-behind}
 use Rattle.word_arena.proofs.holes.Holes.settle_behind.Goals as goal
 
 pub settle-requires-clause-start : goal.settle-requires-clause-start

@@ -1,5 +1,5 @@
 use Rattle.std.proofs.Common.{ℕ, ◌*◌, ◌<◌, ◌≤◌, List, get_or, Some, IfSome, subst, arith}
-use Rattle.word_arena.proofs.Levels.{first-some}
+use Rattle.word_arena.proofs.Found.Levels.{first-some}
 use Rattle.word_arena.proofs.tops.Tops.first.Goals as goal
 
 pub returns-clause-first : goal.returns-clause-first

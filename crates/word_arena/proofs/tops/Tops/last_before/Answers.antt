@@ -1,6 +1,6 @@
 use Rattle.std.proofs.Common.{◌≡◌, ℕ, ◌+◌, ◌*◌, ◌/◌, ◌<◌, ◌≤◌, List, get_or, Option, Some, None, IfSome, IfNone, subst}
 use Rattle.word_arena.specs.Over.{Over}
-use Rattle.word_arena.proofs.Levels.{last-some, last-there}
+use Rattle.word_arena.proofs.Found.Levels.{last-some, last-there}
 use Rattle.word_arena.proofs.tops.Tops.last_before.Goals as goal
 
 -- The search under a greatest that is not 0 finds a number.

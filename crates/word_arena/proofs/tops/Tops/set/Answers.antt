@@ -1,5 +1,5 @@
 use Rattle.std.proofs.Common.{◌≡◌, ℕ, ◌+◌, ◌*◌, ◌/◌, ◌<◌, ◌≤◌, List, length, get_or, subst, ap, arith}
-use Rattle.word_arena.proofs.Levels.{over-set}
+use Rattle.word_arena.proofs.Found.Levels.{over-set}
 use Rattle.word_arena.proofs.tops.Tops.set.Goals as goal
 
 abbrev Above : ℕ → ℕ → List ℕ → Type 0

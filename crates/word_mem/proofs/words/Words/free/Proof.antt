@@ -28,9 +28,9 @@ use denote.Triple.Walked.{Stays, stay_dropped, walk_of, Goes-dropped}
 use Rattle.core.proofs.alloc.Calls.{Al, seen, Goes-blank, Gives, at_gives, Gives-goes, Gives-Gives}
 use Rattle.core.proofs.alloc.Shapes.{after}
 use Rattle.core.proofs.atomic.Steps.{fm as framed}
-use Rattle.word_mem.proofs.Leases.{lease_val, lease_told, then_runs, out_of_block}
-use Rattle.word_mem.proofs.Places.{to_room}
-use Rattle.word_mem.proofs.Rows.{W, row_val, row_had}
+use Rattle.word_mem.proofs.Leases.{lease_val, lease-told, then_runs, out_of_block}
+use Rattle.word_mem.proofs.Places.{to-room}
+use Rattle.word_mem.proofs.Rows.{W, row_val, row-had}
 use Rattle.word_mem.specs.Ownership.{block_of_words}
 use Rattle.word_mem.specs.contracts.words.Lease as lease
 use Rattle.word_mem.specs.contracts.words.Words.free.{ended, clauses}
@@ -73,16 +73,16 @@ free_spec 𝓤 𝓛 𝓜 𝓡 wired A L g d dd met md =
     let Asked : Type 0 = (k.alloc ≡ h) × (k.ptr ≡ x.ptr) × (k.len ≡ n) in
     qed 𝓛 ((raw (alive 𝓛 E.signature z.0.0 z.0.1) ⊛ ‵ (owns (types_at E.signature.params z.0.0) a vss)) ∷ (raw (fact 𝓤 (z.0.0.1.0 ⊑ A.lives)) ⊛ raw (fact 𝓤 Asked)) ∷ []) ∵
     move ! (1 ∷ []) $ split ! $ heard ! (z.0.0.1.0 ⊑ A.lives) (λ le. heard ! Asked (λ asked. split ! $ move ! (1 ∷ []) $
-    fsplit3 ! $ row_had ! x vss.0 (λ b o at is fits small.
+    fsplit3 ! $ row-had ! x vss.0 (λ b o at is fits small.
     let fm : n * 8 < 2 ^ 64 = omega arith in
-    use1 𝓛 (‵ (froom (block_of_words (length x.items)) b o)) (to_room 𝓛 b x.items x.filled o (sym lf ∙ lx)) $
+    use1 𝓛 (‵ (froom (block_of_words (length x.items)) b o)) (to-room 𝓛 b x.items x.filled o (sym lf ∙ lx)) $
     rewrite ! 0 (λ (m : ℕ). ‵ (froom (block_of_words m) b o)) (sym lx) refl $ move ! (1 ∷ []) $ fsplit ! $ drop ! $
     rewrite ! 0 (λ (u : A.Denot × ℕ × Ptr). ‵ (g.dealloc_token u.0 (block_of_words u.1) u.2)) (λ i. (asked.0 i, asked.2 i, (asked.1 ∙ at) i)) refl $
     move ! (2 ∷ []) $ fsplit ! $ fsplit ! $ drop ! $ move ! (1 ∷ []) $ drop ! $ use1 𝓛 (‵ (seen Y κ handle h)) (id⊢ 𝓤 _) $
     move ! (3 ∷ []) $ use1 𝓛 (‵ (flft κ q) ⊛ ‵ (flft z.0.0.1.0 z.0.1.1.0) ⊛ ‵ ftrue) (id⊢ 𝓤 _) $ split ! $ move ! (2 ∷ 0 ∷ []) $ join ! $ move ! (3 ∷ 2 ∷ []) $
     -- [the room; the right to free it; the handle and its token; the other tokens]
     let y = at_gives Y 𝓛 𝓜.mem 𝓡.returns κ q handle h b o (n * 8) 8 τ in
-    regoal ! (λ (us : List Val). prop (WpFn 𝓤 H C Λ fn us Post)) (λ i. is i ++ ((lease_told vss.1.0 are.1.0.0) i ++ (are.1.1.0.0 i ++ []))) refl $
+    regoal ! (λ (us : List Val). prop (WpFn 𝓤 H C Λ fn us Post)) (λ i. is i ++ ((lease-told vss.1.0 are.1.0.0) i ++ (are.1.1.0.0 i ++ []))) refl $
     enter ! C Λ fn (row_val b o n ∷ lease_val ∷ vptr handle.0 handle.1 ∷ []) Post $
     alloc_all ! (λ l. pass_all ! refl ((tt, (tt, (record { fits = fits }, tt))), ((tt, (tt, tt)), ((tt, tt), tt))) $ let En : Env 𝓤 𝓛.H = env fn.locals l in
     sets ! (of_opd ! (get_in ! (fld ! refl (stop !)) (sub ! 0 refl (whole !)))) refl (tt, tt) $

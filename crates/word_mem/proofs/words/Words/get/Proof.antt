@@ -21,7 +21,7 @@ use denote.Steps.{nothing, heard}
 use denote.Triple.Walked.{Stays, walk_of, says, stay_dropped, Goes-dropped, ends_at}
 use Rattle.core.proofs.slots.Bodies.{after}
 use Rattle.core.proofs.slots.Lent.{pointer_in, pointer_out, word_in, word_out}
-use Rattle.word_mem.proofs.Lent.{shown, none_at_null, word_shown}
+use Rattle.word_mem.proofs.Lent.{shown, none-at-null, word-shown}
 use Rattle.word_mem.proofs.Rows.{W}
 use Rattle.word_mem.specs.Ownership.{all_lent}
 use Rattle.word_mem.specs.declared.words.Words.{Words}
@@ -51,8 +51,8 @@ get_spec 𝓤 𝓛 𝓜 𝓡 wired =
     use1 𝓛 (‵ (hidden_shr RawPtr κ h.ptr rb (ro + 0)) ⊛ ‵ (hidden_shr usize κ h.len rb (ro + 8)) ⊛ ‵ (flt (h.len * 8) (2 ^ 63)) ⊛ ‵ (all_lent h.ptr h.items h.filled κ)) (shown 𝓛 κ h rb ro) $
     split3 ! $ move ! (2 ∷ []) $ split ! $ flt_l ! (λ fit.
     let fm : i * 8 < 2 ^ 64 = omega arith in
-    in_a_block ! h.ptr (λ p. all_lent p h.items h.filled κ) (none_at_null 𝓛 κ h.items h.filled i ix fx ok.1) (λ b o at_b.
-    use1 𝓛 (‵ (hidden_shr u64 κ x b (i * 8 + o))) (word_shown 𝓛 κ b o h.items h.filled i ix fx ok.1) $ keep ! (1 ∷ 4 ∷ 0 ∷ []) $
+    in_a_block ! h.ptr (λ p. all_lent p h.items h.filled κ) (none-at-null 𝓛 κ h.items h.filled i ix fx ok.1) (λ b o at_b.
+    use1 𝓛 (‵ (hidden_shr u64 κ x b (i * 8 + o))) (word-shown 𝓛 κ b o h.items h.filled i ix fx ok.1) $ keep ! (1 ∷ 4 ∷ 0 ∷ []) $
     -- [a `&` to the pointer; the token; a `&` to the word]
     enter ! _ _ _ _ _ $ alloc_all ! (λ l. pass_all ! refl ((tt, tt), ((tt, record { fits = fi }), tt)) $
     first ! $ blocks ! $ pointer_in ! tt h.ptr b o at_b rb (ro + 0) (λ q'.

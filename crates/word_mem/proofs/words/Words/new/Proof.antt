@@ -32,9 +32,9 @@ use Rattle.core.proofs.alloc.Calls.{Al, seen, Takes, at_takes, Answered, Takes-g
 use Rattle.core.proofs.alloc.Shapes.{after, head, arm_body}
 use Rattle.core.proofs.atomic.Steps.{fm as framed}
 use Rattle.core.proofs.option.Made.{Some-of, none_of}
-use Rattle.word_mem.proofs.Leases.{lease_val, lease_own, lease_made, both_val, both_made, then_runs}
-use Rattle.word_mem.proofs.Places.{of_room}
-use Rattle.word_mem.proofs.Rows.{W, places, row_val, row_made}
+use Rattle.word_mem.proofs.Leases.{lease_val, lease_own, lease-made, both_val, both-made, then_runs}
+use Rattle.word_mem.proofs.Places.{of-room}
+use Rattle.word_mem.proofs.Rows.{W, places, row_val, row-made}
 use Rattle.word_mem.specs.Ownership.{block_of_words}
 use Rattle.word_mem.specs.declared.words.Words.{Words}
 use Rattle.word_mem.specs.contracts.words.Lease as lease
@@ -99,9 +99,9 @@ new_spec 𝓤 𝓛 𝓜 𝓡 wired A L g d dd met md =
     sets_last ! (agg ! (and_then ! (lit ! tt) (and_then ! (get ! refl) (no_more !)))) refl (tt, all) $
     exec ! C Λ En (after 3 fn.body) (at_ret En Post) $
     sets ! (of_opd ! (get ! refl)) refl (tt, all) $ returns ! (look_at ! 0 refl) $ free_all ! refl $
-    use1 𝓛 (‵ (places new b o)) (of_room 𝓛 b n o) $ row_made ! new b o refl fits small $
-    move ! (1 ∷ []) $ use0 𝓛 (‵ (lease_own (lease_val ∷ []))) (lease_made 𝓛) $ fjoin ! $ move ! (1 ∷ 0 ∷ []) $
-    use2 𝓛 (‵ (Pair.own_val (new, k) (both ∷ []))) (both_made 𝓛 W (lease.the_row Z g) new k (row_val b o n) lease_val) $
+    use1 𝓛 (‵ (places new b o)) (of-room 𝓛 b n o) $ row-made ! new b o refl fits small $
+    move ! (1 ∷ []) $ use0 𝓛 (‵ (lease_own (lease_val ∷ []))) (lease-made 𝓛) $ fjoin ! $ move ! (1 ∷ 0 ∷ []) $
+    use2 𝓛 (‵ (Pair.own_val (new, k) (both ∷ []))) (both-made 𝓛 W (lease.the_row Z g) new k (row_val b o n) lease_val) $
     use1 𝓛 (‵ (Out.own_val (Some (new, k)) (live 1 (vcons both vnil) ∷ []))) (Some-of 𝓛 Pair (new, k) both) $
     use0 𝓛 (raw (fact 𝓤 ((n ≡ n) × (h ≡ h) × (block_ptr b o ≡ block_ptr b o) × (n ≡ n)))) (fact_i 𝓤 ((n ≡ n) × (h ≡ h) × (block_ptr b o ≡ block_ptr b o) × (n ≡ n)) (emp 𝓤) (refl, refl, refl, refl)) $
     nothing ! $ nothing ! $ fjoin ! $ nothing ! $ fjoin ! $ move ! (3 ∷ 0 ∷ 2 ∷ 1 ∷ []) $

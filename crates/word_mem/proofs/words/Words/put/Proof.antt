@@ -19,8 +19,8 @@ use denote.Signature.{plain, types_at}
 use denote.Steps.{nothing, heard}
 use denote.Triple.Walked.{Stays, walk_of, says, stay_dropped, stay_ref, Goes-dropped, Goes-ref, ends_at}
 use Rattle.core.proofs.slots.Bodies.{after}
-use Rattle.word_mem.proofs.Places.{besides, room_out, word_in}
-use Rattle.word_mem.proofs.Rows.{W, places, row_opens, row_closes}
+use Rattle.word_mem.proofs.Places.{besides, room-out, word-in}
+use Rattle.word_mem.proofs.Rows.{W, places, row-opens, row-closes}
 use Rattle.word_mem.specs.declared.words.Words.{Words}
 use Rattle.word_mem.specs.contracts.words.Words.put as f
 use Rattle.word_mem.proofs.words.Words.put.Statement.{statement}
@@ -48,9 +48,9 @@ put_spec 𝓤 𝓛 𝓜 𝓡 wired =
     split ! $ split ! $ move ! (2 ∷ []) $ fsplit ! $ fsplit3 ! $ keep ! (1 ∷ 2 ∷ 4 ∷ []) $
     -- [what the reference is seen at; its borrow; the token]
     enter ! _ _ _ _ _ $ alloc_all ! (λ l. pass_all ! refl ((tt, tt), ((tt, record { fits = fi }), ((tt, record { fits = fx }), tt))) $
-    row_opens ! tt h rb ro (λ b o at_b fl fit.
+    row-opens ! tt h rb ro (λ b o at_b fl fit.
     let fm : i * 8 < 2 ^ 64 = omega arith in
-    use1 𝓛 (‵ (froom (ty_int w64) b (i * 8 + o)) ⊛ ‵ (besides b o h.items h.filled i)) (room_out 𝓛 b o h.items h.filled i ix fx') $ split ! $
+    use1 𝓛 (‵ (froom (ty_int w64) b (i * 8 + o)) ⊛ ‵ (besides b o h.items h.filled i)) (room-out 𝓛 b o h.items h.filled i ix fx') $ split ! $
     -- [the room; the other places; the two fields; the open borrow, in three entries]
     first ! $ blocks ! $
     sets ! (of_opd ! (load ! (through ! refl (fld ! refl (stop !))) (look_in ! 2 (sub ! 0 refl (whole !))))) refl (tt, tt) $
@@ -59,8 +59,8 @@ put_spec 𝓤 𝓛 𝓜 𝓡 wired =
     assigns_last ! (of_opd ! (get ! refl)) (through ! refl (stop !)) (init ! 0 refl (tt, record { fits = fx })) $
     exec ! 𝓣.C 𝓣.Λ (env code.Mir.locals l) (after 1 (code.function).body) (at_ret _ (K.post y)) $
     sets ! (of_opd ! (unit_lit !)) refl (tt, tt) $
-    use2 𝓛 (‵ (places new b o)) (word_in 𝓛 b o h.items h.filled i ix fx' x) $
-    row_closes ! tt new b o rb ro at_b fl fit $ returns ! (look_at ! 0 refl) $ free_all ! refl $
+    use2 𝓛 (‵ (places new b o)) (word-in 𝓛 b o h.items h.filled i ix fx' x) $
+    row-closes ! tt new b o rb ro at_b fl fit $ returns ! (look_at ! 0 refl) $ free_all ! refl $
     suffices ! _ (ends_at 𝓛 f.ended stayed c y vunit tt (new, (tt, (tt, tt))) (tt, (tt, (tt, tt)))) $ says ! (refl, refl, refl, refl) $
     feq_i ! (List Val) vs vs refl $ fjoin3 ! $ nothing ! $ nothing ! $ fjoin ! $ nothing ! $ fjoin ! $ move ! (1 ∷ 0 ∷ []) $ fjoin ! $
     -- [the parameters; the token]

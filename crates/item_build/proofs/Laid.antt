@@ -1,0 +1,3 @@
+-- Long binaries are laid first: a record at the end of the room and a holder at its front, which joins the chain.
+pub mod Laying
+pub mod Chaining

@@ -1,0 +1,3 @@
+-- A chain beside standing trees: what keeps it as the memory changes, and that it makes counts exact where it lists what is reached.
+pub mod Chained
+pub mod Exact

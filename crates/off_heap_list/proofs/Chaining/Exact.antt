@@ -1,0 +1,150 @@
+-- A chain that lists what is reached makes counts exact.
+use Rattle.std.proofs.Common.{◌≡◌, ℕ, ◌+◌, ◌≤◌, ◌⊎◌, ◌==◌, if◌then◌else◌, cond, Bool, true, false, List, [], ◌∷◌, ◌++◌, length, filter, refl, sym, ◌∙◌, ap, subst, arith, inl, inr}
+use Rattle.std.proofs.lemmas.Bool.Decides.{nat_tests}
+use Rattle.term_words.proofs.Totals.Members.{in-filter, filter-in, filter-distinct, in-both, in-left, in-right}
+use Rattle.term_words.specs.Object.{IsRecord}
+use Rattle.term_words.specs.Counted.{In, Distinct}
+use Rattle.shared_rec.proofs.Records.{record-stays}
+use Rattle.std.proofs.lemmas.List.{append_assoc}
+use Rattle.shared_rec.specs.Record.{count_in}
+use Rattle.off_heap_list.specs.Links.{names_it, named, Chain, naming, IsLink, Links}
+use Rattle.off_heap_list.specs.Exact.{ListsHeld, AllCounted, Exact, OwnChain, IsOwn, AreOwn, objects_of, Chained}
+use Rattle.off_heap_list.specs.Swept.{records_of}
+use Rattle.off_heap_list.specs.Whole.{SweptWhole}
+use Rattle.off_heap_list.specs.declared.whole.Survivors.{Survivors}
+
+one-more : (b : Bool) (p : ℕ) (os : List ℕ) → length (cond b (p ∷ os) os) ≡ (if b then 1 else 0) + length os
+one-more true p os = omega arith
+one-more false p os = omega arith
+
+-- Those of a list that name a record are as many as its namings.
+namers : (mem : List ℕ) (v : ℕ) (os : List ℕ) → length (filter (λ p. named mem p == v) os) ≡ naming mem v os
+namers mem v [] = refl
+namers mem v (p ∷ os) =
+    one-more (named mem p == v) p (filter (λ q. named mem q == v) os) ∙ ap (λ n. names_it (named mem p) v + n) (namers mem v os)
+
+names-true : (x v : ℕ) → x ≡ v → (x == v) ≡ true
+names-true x v e = grind (arith, nat_tests, e)
+
+true-names : (x v : ℕ) → (x == v) ≡ true → x ≡ v
+true-names x v h = grind (arith, nat_tests, h)
+
+-- Where counts are namings by a list that has exactly what is reached, they are exact.
+listed-exact : (c : ℕ → ℕ → Bool) (mem roots os : List ℕ) → ((v n : ℕ) → IsRecord c mem v n → count_in mem v ≡ naming mem v os) → AllCounted c mem → ListsHeld c mem roots os
+    → Exact c mem roots
+listed-exact c mem roots os counts some held = λ v n there. (
+  record {
+    each = filter (λ p. named mem p == v) os;
+    once = filter-distinct (λ p. named mem p == v) os held.once;
+    all = λ p reached name. filter-in (λ p. named mem p == v) p os (held.all p reached) (names-true (named mem p) v name);
+    only = λ p inside. let both = in-filter (λ p. named mem p == v) p os inside in (held.only p both.0, true-names (named mem p) v both.1);
+    number = namers mem v os ∙ sym (counts v n there);
+  },
+  some v n there,
+)
+
+pub counts-exact : (c : ℕ → ℕ → Bool) (mem roots : List ℕ) (head : ℕ) (os : List ℕ) → Links c mem head os [] → ListsHeld c mem roots os → AllCounted c mem → Exact c mem roots
+counts-exact c mem roots head os l held some = listed-exact c mem roots os (λ v n there. l.counts v n there ∙ omega arith) some held
+
+naming-both : (mem : List ℕ) (v : ℕ) (xs ys : List ℕ) → naming mem v (xs ++ ys) ≡ naming mem v xs + naming mem v ys
+naming-both mem v [] ys = omega arith
+naming-both mem v (x ∷ xs) ys = omega (arith, naming-both mem v xs ys)
+
+pub several-exact : (c : ℕ → ℕ → Bool) (mem roots : List ℕ) (xs : List OwnChain) (further : List ℕ) → Chained c mem roots xs further → ListsHeld c mem roots (objects_of xs ++ further)
+    → Exact c mem roots
+several-exact c mem roots xs further k held =
+    listed-exact c mem roots (objects_of xs ++ further) (λ v n there. k.counts v n there ∙ sym (naming-both mem v (objects_of xs) further)) k.some held
+
+-- After a sweep each record is counted still, or is told.
+pub counted-or-told : (c : ℕ → ℕ → Bool) (start mem os kept further : List ℕ) (left : Survivors) (s : SweptWhole c start mem os kept further left) → AllCounted c start
+    → (v n : ℕ) → IsRecord c mem v n → (1 ≤ count_in mem v) ⊎ In v (records_of mem s.ends)
+counted-or-told c start mem os kept further left s some v n there =
+    let which : (1 ≤ count_in mem v) ⊎ (count_in mem v ≡ 0) = grind arith in
+    elim which [
+      | inl more ↦ inl more
+      | inr zero ↦ inr (s.records.all v n there zero (omega (arith, some v n (record-stays c c mem start v n s.back there))))
+    ]
+
+-- One of several chains, with the objects of the others beside it.
+
+objects-both : (xs ys : List OwnChain) → objects_of (xs ++ ys) ≡ objects_of xs ++ objects_of ys
+objects-both [] ys = refl
+objects-both (x ∷ xs) ys = ap (λ zs. x.os ++ zs) (objects-both xs ys) ∙ sym (append_assoc x.os (objects_of xs) (objects_of ys))
+
+own-at : (c : ℕ → ℕ → Bool) (mem roots : List ℕ) (xs ys : List OwnChain) (x : OwnChain) → AreOwn c mem roots (xs ++ x ∷ ys) → IsOwn c mem roots x
+own-at c mem roots [] ys x (o, os) = o
+own-at c mem roots (z ∷ xs) ys x (o, os) = own-at c mem roots xs ys x os
+
+distinct-left : (xs ys : List ℕ) → Distinct (xs ++ ys) → Distinct xs
+distinct-left [] ys d = tt
+distinct-left (x ∷ xs) ys (n, d) = ((λ i. n (in-left x xs ys i)), distinct-left xs ys d)
+
+distinct-right : (xs ys : List ℕ) → Distinct (xs ++ ys) → Distinct ys
+distinct-right [] ys d = d
+distinct-right (x ∷ xs) ys (n, d) = distinct-right xs ys d
+
+module _ (c : ℕ → ℕ → Bool) (mem roots : List ℕ) (xs ys : List OwnChain) (x : OwnChain) (further : List ℕ) (k : Chained c mem roots (xs ++ x ∷ ys) further) where
+  split : objects_of (xs ++ x ∷ ys) ≡ objects_of xs ++ (x.os ++ objects_of ys)
+  split = objects-both xs (x ∷ ys)
+
+  link-at : (p : ℕ) → In p (objects_of xs ++ (x.os ++ objects_of ys)) → IsLink c mem p
+  link-at p inside = let P : List ℕ → Type 0 = λ zs. In p zs in k.each p (subst P (sym split) inside)
+
+  others-in : (p : ℕ) → In p (objects_of xs ++ (objects_of ys ++ further)) → IsLink c mem p
+  others-in p inside = elim (in-both p (objects_of xs) (objects_of ys ++ further) inside) [
+    | inl a ↦ link-at p (in-left p (objects_of xs) (x.os ++ objects_of ys) a)
+    | inr rest ↦ elim (in-both p (objects_of ys) further rest) [
+      | inl b ↦ link-at p (in-right p (objects_of xs) (x.os ++ objects_of ys) (in-right p x.os (objects_of ys) b))
+      | inr f ↦ k.beside p f
+    ]
+  ]
+
+  pub one-of-several : Links c mem x.head x.os (objects_of xs ++ (objects_of ys ++ further))
+  one-of-several = record {
+    chain = (own-at c mem roots xs ys x k.own).chain;
+    once = distinct-left x.os (objects_of ys) (distinct-right (objects_of xs) (x.os ++ objects_of ys) (subst Distinct split (distinct-left (objects_of (xs ++ x ∷ ys)) further k.once)));
+    each = λ p inside. link-at p (in-right p (objects_of xs) (x.os ++ objects_of ys) (in-left p x.os (objects_of ys) inside));
+    beside = others-in;
+    counts = λ v n there.
+        let was : count_in mem v ≡ naming mem v (objects_of (xs ++ x ∷ ys)) + naming mem v further = k.counts v n there in
+        omega (
+          arith,
+          was,
+          ap (λ zs. naming mem v zs) split,
+          naming-both mem v (objects_of xs) (x.os ++ objects_of ys),
+          naming-both mem v x.os (objects_of ys),
+          naming-both mem v (objects_of xs) (objects_of ys ++ further),
+          naming-both mem v (objects_of ys) further,
+        );
+  }
+
+-- And back: where one chain is so and the others are, all are.
+pub several-again : (c : ℕ → ℕ → Bool) (mem roots : List ℕ) (xs ys : List OwnChain) (x : OwnChain) (further : List ℕ) → AreOwn c mem roots (xs ++ x ∷ ys)
+    → Distinct (objects_of (xs ++ x ∷ ys) ++ further) → AllCounted c mem → Links c mem x.head x.os (objects_of xs ++ (objects_of ys ++ further)) → Chained c mem roots (xs ++ x ∷ ys) further
+several-again c mem roots xs ys x further own once some l =
+    let split : objects_of (xs ++ x ∷ ys) ≡ objects_of xs ++ (x.os ++ objects_of ys) = objects-both xs (x ∷ ys) in
+    record {
+      own = own;
+      once = once;
+      each = λ p inside.
+          let P : List ℕ → Type 0 = λ zs. In p zs in
+          elim (in-both p (objects_of xs) (x.os ++ objects_of ys) (subst P split inside)) [
+            | inl a ↦ l.beside p (in-left p (objects_of xs) (objects_of ys ++ further) a)
+            | inr rest ↦ elim (in-both p x.os (objects_of ys) rest) [
+              | inl b ↦ l.each p b
+              | inr d ↦ l.beside p (in-right p (objects_of xs) (objects_of ys ++ further) (in-left p (objects_of ys) further d))
+            ]
+          ];
+      beside = λ p inside. l.beside p (in-right p (objects_of xs) (objects_of ys ++ further) (in-right p (objects_of ys) further inside));
+      counts = λ v n there.
+          omega (
+            arith,
+            l.counts v n there,
+            ap (λ zs. naming mem v zs) split,
+            naming-both mem v (objects_of xs) (x.os ++ objects_of ys),
+            naming-both mem v x.os (objects_of ys),
+            naming-both mem v (objects_of xs) (objects_of ys ++ further),
+            naming-both mem v (objects_of ys) further,
+          );
+      some = some;
+    }

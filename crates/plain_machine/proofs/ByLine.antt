@@ -1,0 +1,6 @@
+-- Lines and runs: what each command does, what its reply tells, and that lines and replies determine a run.
+pub mod Runs
+pub mod Commands
+pub mod Printing
+pub mod Told
+pub mod Determined

@@ -1,0 +1,9 @@
+-- Single steps of reading: a word looked up in a table, blanks, numbers, atoms, and what a step leaves as it was.
+pub mod Tables
+pub mod Tools
+pub mod PartSteps
+pub mod TermSteps
+pub mod KeepsSteps
+pub mod GapSteps
+pub mod NumberSteps
+pub mod AtomSteps

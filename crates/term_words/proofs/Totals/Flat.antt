@@ -1,0 +1,190 @@
+-- The words of the objects that roots reach, each once, are at most the flat words of the roots' trees.
+use Rattle.std.proofs.Common.{◌≡◌, ℕ, zero, suc, ◌+◌, ◌-◌, ◌/◌, ◌%◌, ◌<◌, ◌≤◌, ◌⊎◌, ◌==◌, Bool, false, List, [], ◌∷◌, length, get_or, refl, sym, ◌∙◌, ap, subst, arith, inl, inr}
+use Rattle.std.proofs.lemmas.Bool.Decides.{nat_tests}
+use Rattle.plain_term.specs.Measures.{flat_of_all}
+use Rattle.plain_term.specs.Tree.{Trees, trees_len, trees_append}
+use Rattle.plain_term.specs.Tree.Trees.{end, ◌▹◌}
+use Rattle.term_words.specs.Object.{IsPointer, object_words}
+use Rattle.term_words.specs.Reach.{Reach, root, part, first_traced, parts_of}
+use Rattle.term_words.specs.Stands.{RowStands, AllStand}
+use Rattle.term_words.specs.Counted.{In, Distinct, total, Listed}
+use Rattle.term_words.proofs.Placing.Apart.{words-cons}
+use Rattle.term_words.proofs.Reaching.Reached.{scanned, IsScanned}
+use Rattle.term_words.proofs.Totals.Members.{pointer-or-not, in-or-not, Less, less}
+
+module _ (mem : List ℕ) where
+  -- The words of a row, one for each tree, before other words; and the trees before others.
+
+  pub onto : ℕ → Trees → List ℕ → List ℕ
+  onto p end ws = ws
+  onto p (t ▹ ts) ws = get_or mem p 0 ∷ onto (p + 1) ts ws
+
+  flat-onto : (ts us : Trees) → flat_of_all (trees_append ts us) ≡ flat_of_all ts + flat_of_all us
+  flat-onto end us = omega arith
+  flat-onto (t ▹ ts) us = omega (arith, flat-onto ts us)
+
+  length-onto : (p : ℕ) (ts : Trees) (ws : List ℕ) → length (onto p ts ws) ≡ trees_len ts + length ws
+  unfolding onto
+  length-onto p end ws = omega arith
+  length-onto p (t ▹ ts) ws = omega (arith, length-onto (p + 1) ts ws)
+
+  all-onto : (c : ℕ → ℕ → Bool) (shared : List (List ℕ)) (p : ℕ) (ts : Trees) (ws : List ℕ) (us : Trees) → RowStands c shared mem p ts → AllStand c shared mem ws us
+      → AllStand c shared mem (onto p ts ws) (trees_append ts us)
+  unfolding onto RowStands AllStand
+  all-onto c shared p end ws us row all = all
+  all-onto c shared p (t ▹ ts) ws us (s, row) all = (s, all-onto c shared (p + 1) ts ws us row all)
+
+  wider : (x : ℕ) (ws : List ℕ) (v : ℕ) → Reach mem ws v → Reach mem (x ∷ ws) v
+  wider x ws v (root i y below e) = root (suc i) v (omega arith) e
+  wider x ws v (part u k y r q from below e) = part u k v (wider x ws u r) q from below e
+
+  onto-rest : (p : ℕ) (ts : Trees) (ws : List ℕ) (v : ℕ) → Reach mem ws v → Reach mem (onto p ts ws) v
+  unfolding onto
+  onto-rest p end ws v r = r
+  onto-rest p (t ▹ ts) ws v r = wider (get_or mem p 0) (onto (p + 1) ts ws) v (onto-rest (p + 1) ts ws v r)
+
+  onto-first : (p : ℕ) (ts : Trees) (ws : List ℕ) (j v : ℕ) → j < trees_len ts → v ≡ get_or mem (p + j) 0 → Reach mem (onto p ts ws) v
+  unfolding onto
+  onto-first p end ws j v below e = absurd (omega arith)
+  onto-first p (t ▹ ts) ws zero v below e = root 0 v (omega arith) (e ∙ ap (λ z. get_or mem z 0) (omega arith))
+  onto-first p (t ▹ ts) ws (suc j) v below e = wider (get_or mem p 0) (onto (p + 1) ts ws) v (onto-first (p + 1) ts ws j v (omega arith) (e ∙ ap (λ z. get_or mem z 0) (omega arith)))
+
+  -- What a pointer and other words reach is the pointer, or is reached from its parts and the other words.
+  split : (w : ℕ) (ts : Trees) (ws : List ℕ) → first_traced mem w + trees_len ts ≡ object_words mem w → (v : ℕ) → Reach mem (w ∷ ws) v → (v ≡ w) ⊎ Reach mem (onto (w / 4 + first_traced mem w) ts ws) v
+  split w ts ws ends v (root zero y below e) = inl e
+  split w ts ws ends v (root (suc i) y below e) = inr (onto-rest (w / 4 + first_traced mem w) ts ws v (root i v (omega arith) e))
+  split w ts ws ends v (part u k y r q from below e) =
+      elim (split w ts ws ends u r) [
+        | inl same ↦ (let P : ℕ → Type 0 = λ z. (first_traced mem z ≤ k) × (k < object_words mem z) in
+            let b : (first_traced mem w ≤ k) × (k < object_words mem w) = subst P same (from, below) in
+            let place : w / 4 + first_traced mem w + (k - first_traced mem w) ≡ u / 4 + k = omega (arith, b, same) in
+            inr (onto-first (w / 4 + first_traced mem w) ts ws (k - first_traced mem w) v (omega (arith, b, ends)) (e ∙ ap (λ z. get_or mem z 0) (sym place))))
+        | inr s ↦ inr (part u k v s q from below e)
+      ]
+
+  split-none : (w : ℕ) (ws : List ℕ) → (IsPointer w → ⊥) → (v : ℕ) → Reach mem (w ∷ ws) v → (v ≡ w) ⊎ Reach mem ws v
+  split-none w ws n v (root zero y below e) = inl e
+  split-none w ws n v (root (suc i) y below e) = inr (root i v (omega arith) e)
+  split-none w ws n v (part u k y r q from below e) =
+      elim (split-none w ws n u r) [
+        | inl same ↦ absurd (let P : ℕ → Type 0 = λ z. IsPointer z in n (subst P same q))
+        | inr s ↦ inr (part u k v s q from below e)
+      ]
+
+  pub nothing : (v : ℕ) → Reach mem [] v → ⊥
+  nothing v (root i y below e) = omega arith
+  nothing v (part u k y r q from below e) = nothing u r
+
+  none-left : (vs : List ℕ) → ((v : ℕ) → In v vs → Reach mem [] v) → total (object_words mem) vs ≡ 0
+  none-left [] r = refl
+  none-left (v ∷ vs) r = absurd (nothing v (r v (inl refl)))
+
+  pub words-some : (w : ℕ) → IsPointer w → 0 < object_words mem w
+  words-some w (inl tag) = omega (arith, words-cons mem w tag)
+  words-some w (inr tag) = let one : (w % 4 == 1) ≡ false = grind (arith, nat_tests) in rw one (omega arith)
+
+  not-same : (v w : ℕ) → (IsPointer w → ⊥) → IsPointer v → v ≡ w → ⊥
+  not-same v w n p e = let P : ℕ → Type 0 = λ z. IsPointer z in n (subst P e p)
+
+  -- A bound on the work that is left goes down with each word.
+  bounded : (n : ℕ) (c : ℕ → ℕ → Bool) (shared : List (List ℕ)) (ws : List ℕ) (ts : Trees) → AllStand c shared mem ws ts → flat_of_all ts + length ws ≤ n
+      → (vs : List ℕ) → Distinct vs → ((v : ℕ) → In v vs → IsPointer v × Reach mem ws v) → total (object_words mem) vs ≤ flat_of_all ts
+  unfolding AllStand
+  bounded n c shared [] end all le vs d r = omega (arith, none-left vs (λ v i. (r v i).1))
+  bounded n c shared [] (t ▹ ts) all le vs d r = absurd all
+  bounded n c shared (w ∷ ws) end all le vs d r = absurd all
+  bounded zero c shared (w ∷ ws) (t ▹ ts) all le vs d r = absurd (omega arith)
+  bounded (suc n) c shared (w ∷ ws) (t ▹ ts) (s, all) le vs d r =
+      elim (pointer-or-not w) [
+        | inr nt ↦ (let low : total (object_words mem) vs ≤ flat_of_all ts = bounded n c shared ws ts all (omega arith) vs d (λ v i. (
+          (r v i).0,
+          elim (split-none w ws nt v (r v i).1) [ inl e ↦ absurd (not-same v w nt (r v i).0 e) | inr z ↦ z ],
+        )) in
+            omega (arith, low))
+        | inl y ↦ (let sc : IsScanned c shared mem w t = scanned c shared mem w t s y in
+            let o : Less (object_words mem) w vs = less (object_words mem) w vs d in
+            let some : 0 < object_words mem w = words-some w y in
+            let low : total (object_words mem) o.rest ≤ flat_of_all (trees_append (parts_of t) ts) =
+            bounded n c shared (onto (w / 4 + first_traced mem w) (parts_of t) ws) (trees_append (parts_of t) ts)
+            (all-onto c shared (w / 4 + first_traced mem w) (parts_of t) ws ts sc.row all)
+            (omega (arith, le, sc.left, sc.ends, some, flat-onto (parts_of t) ts, length-onto (w / 4 + first_traced mem w) (parts_of t) ws))
+            o.rest o.once
+            (λ v i. ((r v (o.inner v i).0).0, elim (split w (parts_of t) ws sc.ends v (r v (o.inner v i).0).1) [ inl e ↦ absurd ((o.inner v i).1 e) | inr z ↦ z ])) in
+            omega (arith, low, o.words, sc.left, flat-onto (parts_of t) ts))
+      ]
+
+  -- A word of the row or of the others is one of these.
+  onto-place : (p : ℕ) (ts : Trees) (ws : List ℕ) (i v : ℕ) → i < length (onto p ts ws) → v ≡ get_or (onto p ts ws) i 0
+      → ((j : ℕ) × ((j < trees_len ts) × (v ≡ get_or mem (p + j) 0))) ⊎ ((j : ℕ) × ((j < length ws) × (v ≡ get_or ws j 0)))
+  unfolding onto
+  onto-place p end ws i v below e = inr (i, (below, e))
+  onto-place p (t ▹ ts) ws zero v below e = inl (0, (omega arith, e ∙ ap (λ z. get_or mem z 0) (omega arith)))
+  onto-place p (t ▹ ts) ws (suc i) v below e =
+      elim (onto-place (p + 1) ts ws i v (omega arith) e) [
+        | inl (j, (l, f)) ↦ inl (suc j, (omega arith, f ∙ ap (λ z. get_or mem z 0) (omega arith)))
+        | inr o ↦ inr o
+      ]
+
+  -- What the parts of a pointer and other words reach, the pointer and these reach.
+  back : (w : ℕ) (ts : Trees) (ws : List ℕ) → IsPointer w → first_traced mem w + trees_len ts ≡ object_words mem w → (v : ℕ) → Reach mem (onto (w / 4 + first_traced mem w) ts ws) v
+      → Reach mem (w ∷ ws) v
+  back w ts ws y ends v (root i x below e) =
+      elim (onto-place (w / 4 + first_traced mem w) ts ws i v below e) [
+        | inl (j, (l, f)) ↦ part w (first_traced mem w + j) v (root 0 w (omega arith) refl) y (omega arith) (omega (arith, ends)) (f ∙ ap (λ z. get_or mem z 0) (omega arith))
+        | inr (j, (l, f)) ↦ root (suc j) v (omega arith) f
+      ]
+  back w ts ws y ends v (part u k x r q from below e) = part u k v (back w ts ws y ends u r) q from below e
+
+  -- The list of what is reached grows by the first word where this is an object and is not in it.
+  with-first : (w : ℕ) (ws us : List ℕ) (o : Listed mem us) → IsPointer w → ((v : ℕ) → Reach mem (w ∷ ws) v → (v ≡ w) ⊎ Reach mem us v) → ((v : ℕ) → Reach mem us v → Reach mem (w ∷ ws) v)
+      → Listed mem (w ∷ ws)
+  with-first w ws us o y out into =
+      elim (in-or-not w o.each) [
+        | inl there ↦ record {
+          each = o.each;
+          once = o.once;
+          all = λ v r p. elim (out v r) [ inl e ↦ (let P : ℕ → Type 0 = λ z. In z o.each in subst P (sym e) there) | inr z ↦ o.all v z p ];
+          only = λ v i. ((o.only v i).0, into v (o.only v i).1);
+        }
+        | inr fresh ↦ record {
+          each = w ∷ o.each;
+          once = (fresh, o.once);
+          all = λ v r p. elim (out v r) [ inl e ↦ inl e | inr z ↦ inr (o.all v z p) ];
+          only = λ v i. elim i [
+            | inl e ↦ (let P : ℕ → Type 0 = λ z. IsPointer z × Reach mem (w ∷ ws) z in subst P (sym e) (y, root 0 w (omega arith) refl))
+            | inr j ↦ ((o.only v j).0, into v (o.only v j).1)
+          ];
+        }
+      ]
+
+  listing : (n : ℕ) (c : ℕ → ℕ → Bool) (shared : List (List ℕ)) (ws : List ℕ) (ts : Trees) → AllStand c shared mem ws ts → flat_of_all ts + length ws ≤ n → Listed mem ws
+  unfolding AllStand
+  listing n c shared [] end all le = record { each = []; once = tt; all = λ v r p. absurd (nothing v r); only = λ v i. absurd i }
+  listing n c shared [] (t ▹ ts) all le = absurd all
+  listing n c shared (w ∷ ws) end all le = absurd all
+  listing zero c shared (w ∷ ws) (t ▹ ts) all le = absurd (omega arith)
+  listing (suc n) c shared (w ∷ ws) (t ▹ ts) (s, all) le =
+      elim (pointer-or-not w) [
+        | inr nt ↦ (let o : Listed mem ws = listing n c shared ws ts all (omega arith) in
+            record {
+              each = o.each;
+              once = o.once;
+              all = λ v r p. elim (split-none w ws nt v r) [ inl e ↦ absurd (not-same v w nt p e) | inr z ↦ o.all v z p ];
+              only = λ v i. ((o.only v i).0, wider w ws v (o.only v i).1);
+            })
+        | inl y ↦ (let sc : IsScanned c shared mem w t = scanned c shared mem w t s y in
+            let some : 0 < object_words mem w = words-some w y in
+            let o : Listed mem (onto (w / 4 + first_traced mem w) (parts_of t) ws) =
+            listing n c shared (onto (w / 4 + first_traced mem w) (parts_of t) ws) (trees_append (parts_of t) ts)
+            (all-onto c shared (w / 4 + first_traced mem w) (parts_of t) ws ts sc.row all)
+            (omega (arith, le, sc.left, sc.ends, some, flat-onto (parts_of t) ts, length-onto (w / 4 + first_traced mem w) (parts_of t) ws)) in
+            with-first w ws (onto (w / 4 + first_traced mem w) (parts_of t) ws) o y (split w (parts_of t) ws sc.ends) (back w (parts_of t) ws y sc.ends))
+      ]
+
+pub flat-total : (c : ℕ → ℕ → Bool) (shared : List (List ℕ)) (mem roots : List ℕ) (ts : Trees) (vs : List ℕ) → AllStand c shared mem roots ts → Distinct vs
+    → ((v : ℕ) → In v vs → IsPointer v × Reach mem roots v)
+    → total (object_words mem) vs ≤ flat_of_all ts
+flat-total c shared mem roots ts vs all d r = bounded mem (flat_of_all ts + length roots) c shared roots ts all (omega arith) vs d r
+
+pub listed : (c : ℕ → ℕ → Bool) (shared : List (List ℕ)) (mem roots : List ℕ) (ts : Trees) → AllStand c shared mem roots ts → Listed mem roots
+listed c shared mem roots ts all = listing mem (flat_of_all ts + length roots) c shared roots ts all (omega arith)
