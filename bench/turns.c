@@ -1,7 +1,8 @@
 /* How long lines last in runs that differ in what stands, by the time of the processor: turns ROUNDS PROGRAM ARENA OPENING LINES
    [OPENING LINES].. Each pair of files is a run of its own. The program gets the opening; then, in each round and each run in turn,
-   a line `sys sweep` and after it the next of ROUNDS parts of the lines, and only that part is timed. Replies go to the null
-   device. Written are, for each run, the nanoseconds a line of its least round and of its middle one. */
+   a line `sys sweep`, or the line that BEFORE in the environment gives, and after it the next of ROUNDS parts of the lines, and only
+   that part is timed. Replies go to the null device. Written are, for each run, the nanoseconds a line of its least round and of
+   its middle one. */
 #define _GNU_SOURCE
 #include <fcntl.h>
 #include <stdio.h>
@@ -136,6 +137,7 @@ static int ascending(const void *a, const void *b) {
 int main(int argc, char **argv) {
     int rounds = argc > 1 ? atoi(argv[1]) : 0;
     int runs = (argc - 4) / 2;
+    const char *before_line = getenv("BEFORE") != NULL ? getenv("BEFORE") : "sys sweep";
     static struct run all[RUNS];
     if (rounds < 1 || rounds > ROUNDS || runs < 1 || runs > RUNS || argc != 4 + 2 * runs) {
         fail("turns ROUNDS PROGRAM ARENA OPENING LINES [OPENING LINES]..");
@@ -151,7 +153,8 @@ int main(int argc, char **argv) {
             for (long n = run->lines / rounds; n > 0; n--) {
                 run->at = (char *)memchr(run->at, '\n', (size_t)(run->end - run->at)) + 1;
             }
-            give(run, "sys sweep\n", 10);
+            give(run, before_line, strlen(before_line));
+            give(run, "\n", 1);
             double before = settled(run);
             give(run, from, (size_t)(run->at - from));
             run->rounds[i] = settled(run) - before;
