@@ -6,6 +6,9 @@ use crate::words::{Lease, Words};
 use std::alloc::Global;
 use std::marker::Model;
 
+// The most words that are copied one by one where they are asked for: a call costs more.
+const FEW: u64 = 8;
+
 /// A row of at most 16,777,216 words, seen as the list of them. The memory is freed when the value is dropped.
 pub struct WordMem {
     words: Words,
@@ -101,10 +104,29 @@ impl WordMem {
         }
     }
 
-    // From the first word to the last, where the target lies below the source.
-    fn copy_up(&mut self, src: u64, dst: u64, n: u64)
-        requires below { dst ≤ src }
+    /// The same to places that are apart from theirs, which costs less where the words are few.
+    #[inline]
+    pub fn copy_apart(&mut self, src: u64, dst: u64, n: u64)
         requires source { src + n ≤ length self.old }
+        requires target { dst + n ≤ length self.old }
+        requires apart { (src + n ≤ dst) ⊎ (dst + n ≤ src) }
+        ensures same_len { length self.new ≡ length self.old }
+        ensures moved { (p q : ℕ) → dst ≤ q → q < dst + n → p + dst ≡ q + src → slice_index self.new q ≡ slice_index self.old p }
+        ensures kept { (q : ℕ) → (q < dst) ⊎ (dst + n ≤ q) → slice_index self.new q ≡ slice_index self.old q }
+    {
+        if n <= FEW {
+            self.copy_up(src, dst, n);
+        } else {
+            self.copy_words(src, dst, n);
+        }
+    }
+
+    // From the first word to the last, where the target begins below the source or behind its end.
+    #[inline]
+    fn copy_up(&mut self, src: u64, dst: u64, n: u64)
+        requires order { (dst ≤ src) ⊎ (src + n ≤ dst) }
+        requires source { src + n ≤ length self.old }
+        requires target { dst + n ≤ length self.old }
         ensures same_len { length self.new ≡ length self.old }
         ensures moved { (p q : ℕ) → dst ≤ q → q < dst + n → p + dst ≡ q + src → slice_index self.new q ≡ slice_index self.old p }
         ensures kept { (q : ℕ) → (q < dst) ⊎ (dst + n ≤ q) → slice_index self.new q ≡ slice_index self.old q }
