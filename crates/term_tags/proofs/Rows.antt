@@ -1,6 +1,8 @@
 -- The rows of the table of layouts, by the header's word: one law for each kind of object.
-use Rattle.std.proofs.Common.{◌≡◌, ℕ, ◌+◌, ◌-◌, ◌%◌, ◌/◌, ◌<◌, ◌≤◌, ◌⊎◌, ◌==◌, Bool, true, false, if◌then◌else◌, Option, None, arith, refl, lit<, ◌∙◌, inl, inr}
+use Rattle.std.proofs.Common.{◌≡◌, ℕ, ◌+◌, ◌-◌, ◌%◌, ◌/◌, ◌<◌, ◌≤◌, ◌⊎◌, ◌==◌, ◌&&◌, nat_le, Option, Some, None, arith, refl, ap, lit<, ◌∙◌, inl, inr}
+use Rattle.std.proofs.lemmas.Bool.{and_parts, cond_both, eqb-true, leb-true}
 use Rattle.std.proofs.lemmas.Bool.Decides.{nat_tests}
+use Rattle.std.proofs.lemmas.Option.{cond_some, none-some}
 use Rattle.term_tags.specs.declared.layouts.Layout.{Layout}
 use Rattle.term_tags.specs.declared.layouts.TheConstants.{TUPLE, POS_BIG, NEG_BIG, REF, FUN, HOLDER, HEAP_BIN, SUB_BIN, MAP}
 use Rattle.term_tags.specs.Table.{row_layout, layout_at, layout_for, shape, IsOfObject}
@@ -62,13 +64,6 @@ layout-map n h =
 
 -- every other word is the header of no object
 
-chosen : (b : Bool) (x y : Option Layout) → (b ≡ true → x ≡ None) → (b ≡ false → y ≡ None) → (if b then x else y) ≡ None
-chosen true x y first rest = first refl
-chosen false x y first rest = rest refl
-
-is-same : (s k : ℕ) → (s == k) ≡ true → s ≡ k
-is-same s k e = grind (arith, nat_tests)
-
 past : (n least most first : ℕ) → (n < least) ⊎ (most < n) → row_layout n least most first ≡ None
 past n least most first apart = grind (arith, nat_tests, apart)
 
@@ -79,17 +74,47 @@ out n least most first never =
 
 no-row : (s n : ℕ) → (IsOfObject s n → ⊥) → layout_at s n ≡ None
 no-row s n never =
-    chosen (s == TUPLE) _ _ (λ e. out n 0 65536 1 (λ low high. never (inl (is-same s TUPLE e, low, high)))) (λ other.
-    chosen (s == POS_BIG) _ _ (λ e. out n 1 2 (1 + n) (λ low high. never (inr (inl (is-same s POS_BIG e, low, high))))) (λ other.
-    chosen (s == NEG_BIG) _ _ (λ e. out n 1 2 (1 + n) (λ low high. never (inr (inr (inl (is-same s NEG_BIG e, low, high)))))) (λ other.
-    chosen (s == REF) _ _ (λ e. out n 2 2 3 (λ low high. never (inr (inr (inr (inl (is-same s REF e, low, high))))))) (λ other.
-    chosen (s == FUN) _ _ (λ e. out n 5 69 6 (λ low high. never (inr (inr (inr (inr (inl (is-same s FUN e, low, high)))))))) (λ other.
-    chosen (s == HOLDER) _ _ (λ e. out n 5 5 6 (λ low high. never (inr (inr (inr (inr (inr (inl (is-same s HOLDER e, low, high))))))))) (λ other.
-    chosen (s == HEAP_BIN) _ _ (λ e. out n 1 9 (1 + n) (λ low high. never (inr (inr (inr (inr (inr (inr (inl (is-same s HEAP_BIN e, low, high)))))))))) (λ other.
-    chosen (s == SUB_BIN) _ _ (λ e. out n 4 4 4 (λ low high. never (inr (inr (inr (inr (inr (inr (inr (inl (is-same s SUB_BIN e, low, high))))))))))) (λ other.
-    chosen (s == MAP) _ _ (λ e. out n 2 34 2 (λ low high. never (inr (inr (inr (inr (inr (inr (inr (inr (is-same s MAP e, low, high))))))))))) (λ other. refl)))))))))
+    let P : Option Layout → Type 0 = λ z. z ≡ None in
+    cond_both (s == TUPLE) _ _ P (λ e. out n 0 65536 1 (λ low high. never (inl (eqb-true s TUPLE e, low, high)))) (λ other.
+    cond_both (s == POS_BIG) _ _ P (λ e. out n 1 2 (1 + n) (λ low high. never (inr (inl (eqb-true s POS_BIG e, low, high))))) (λ other.
+    cond_both (s == NEG_BIG) _ _ P (λ e. out n 1 2 (1 + n) (λ low high. never (inr (inr (inl (eqb-true s NEG_BIG e, low, high)))))) (λ other.
+    cond_both (s == REF) _ _ P (λ e. out n 2 2 3 (λ low high. never (inr (inr (inr (inl (eqb-true s REF e, low, high))))))) (λ other.
+    cond_both (s == FUN) _ _ P (λ e. out n 5 69 6 (λ low high. never (inr (inr (inr (inr (inl (eqb-true s FUN e, low, high)))))))) (λ other.
+    cond_both (s == HOLDER) _ _ P (λ e. out n 5 5 6 (λ low high. never (inr (inr (inr (inr (inr (inl (eqb-true s HOLDER e, low, high))))))))) (λ other.
+    cond_both (s == HEAP_BIN) _ _ P (λ e. out n 1 9 (1 + n) (λ low high. never (inr (inr (inr (inr (inr (inr (inl (eqb-true s HEAP_BIN e, low, high)))))))))) (λ other.
+    cond_both (s == SUB_BIN) _ _ P (λ e. out n 4 4 4 (λ low high. never (inr (inr (inr (inr (inr (inr (inr (inl (eqb-true s SUB_BIN e, low, high))))))))))) (λ other.
+    cond_both (s == MAP) _ _ P (λ e. out n 2 34 2 (λ low high. never (inr (inr (inr (inr (inr (inr (inr (inr (eqb-true s MAP e, low, high))))))))))) (λ other. refl)))))))))
 
 pub layout-none : (h : ℕ) → ((s n : ℕ) → IsOfObject s n → h ≡ head_word s n → ⊥) → layout_for h ≡ None
-layout-none h never = chosen (h % 4 == 0) _ _
-    (λ e. let low : h % 4 ≡ 0 = is-same (h % 4) 0 e in no-row (h / 4 % 16) (h / 64) (λ row. never (h / 4 % 16) (h / 64) row (omega arith)))
+layout-none h never = cond_both (h % 4 == 0) _ _ (λ z. z ≡ None)
+    (λ e. let low : h % 4 ≡ 0 = eqb-true (h % 4) 0 e in no-row (h / 4 % 16) (h / 64) (λ row. never (h / 4 % 16) (h / 64) row (omega arith)))
     (λ other. refl)
+
+-- the first traced word
+
+abbrev FirstIs : ℕ → Option Layout → Type 0
+FirstIs word o = (l : Layout) → o ≡ Some l → word ≡ l.first
+
+row-first : (n least most first word : ℕ) → (least ≤ n → n ≤ most → word ≡ first) → FirstIs word (row_layout n least most first)
+row-first n least most first word h = λ l e.
+    let (in_row, same) = cond_some (nat_le least n && nat_le n most) _ l e in
+    let (low, high) = and_parts _ _ in_row in
+    h (leb-true least n low) (leb-true n most high) ∙ ap (λ z. z.first) same
+
+-- what is no tuple, map, sub binary or fun has its end as its first traced word
+pub none-traced : (h : ℕ) → (h / 4 % 16 ≡ TUPLE → ⊥) → (h / 4 % 16 ≡ MAP → ⊥) → (h / 4 % 16 ≡ SUB_BIN → ⊥) → (h / 4 % 16 ≡ FUN → ⊥) → FirstIs (1 + h / 64) (layout_for h)
+none-traced h tuple map part fun =
+    let s : ℕ = h / 4 % 16 in
+    let n : ℕ = h / 64 in
+    let P : Option Layout → Type 0 = FirstIs (1 + n) in
+    let none : P None = λ l e. absurd (none-some l e) in
+    cond_both (h % 4 == 0) _ _ P (λ e.
+    cond_both (s == TUPLE) _ _ P (λ e. absurd (tuple (eqb-true s TUPLE e))) (λ other.
+    cond_both (s == POS_BIG) _ _ P (λ e. row-first n 1 2 (1 + n) (1 + n) (λ low high. refl)) (λ other.
+    cond_both (s == NEG_BIG) _ _ P (λ e. row-first n 1 2 (1 + n) (1 + n) (λ low high. refl)) (λ other.
+    cond_both (s == REF) _ _ P (λ e. row-first n 2 2 3 (1 + n) (λ low high. omega arith)) (λ other.
+    cond_both (s == FUN) _ _ P (λ e. absurd (fun (eqb-true s FUN e))) (λ other.
+    cond_both (s == HOLDER) _ _ P (λ e. row-first n 5 5 6 (1 + n) (λ low high. omega arith)) (λ other.
+    cond_both (s == HEAP_BIN) _ _ P (λ e. row-first n 1 9 (1 + n) (1 + n) (λ low high. refl)) (λ other.
+    cond_both (s == SUB_BIN) _ _ P (λ e. absurd (part (eqb-true s SUB_BIN e))) (λ other.
+    cond_both (s == MAP) _ _ P (λ e. absurd (map (eqb-true s MAP e))) (λ other. none)))))))))) (λ other. none)

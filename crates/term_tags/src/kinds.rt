@@ -1,5 +1,5 @@
 // What a word is.
-ghost use Rattle.std.specs.Prelude.{◌≡◌, ◌≢◌, ◌/◌, ◌%◌, ◌^◌, ◌<◌, nat_lt, if◌then◌else◌};
+ghost use Rattle.std.specs.Prelude.{◌≡◌, ◌≢◌, ◌/◌, ◌%◌, ◌^◌, ◌<◌, ◌⊎◌, true, false, nat_lt, if◌then◌else◌};
 ghost use Rattle.term_tags.specs.Words.{small_of_bits, small_value};
 ghost use Rattle.term_tags.specs.Kinds.{InRange, word_of, ReadsAs};
 ghost use Rattle.term_tags.specs.declared.kinds.Kind.{Kind as AnyKind};
@@ -100,4 +100,14 @@ fn value_of(bits: u64) -> i64
     } else {
         bits as i64 - SMALLS
     }
+}
+
+/// Whether a word is a pointer, to a cons or to an object with a header.
+#[inline]
+pub fn is_pointer(w: u64) -> bool
+    ensures yes { result ≡ true → (w % 4 ≡ 1) ⊎ (w % 4 ≡ 2) }
+    ensures no { result ≡ false → (w % 4 ≡ 1) ⊎ (w % 4 ≡ 2) → ⊥ }
+{
+    let tag = w % 4;
+    tag == 1 || tag == 2
 }

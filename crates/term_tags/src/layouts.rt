@@ -1,6 +1,7 @@
 // The layout of the object behind a header.
-ghost use Rattle.std.specs.Prelude.{◌≡◌, ◌+◌, ◌/◌, ◌%◌, ◌≤◌, IfSome};
+ghost use Rattle.std.specs.Prelude.{◌≡◌, ◌+◌, ◌/◌, ◌%◌, ◌≤◌, ◌⊎◌, Some, IfSome};
 ghost use Rattle.term_tags.specs.Table.{subtag_of, object_for, layout_for, row_layout};
+ghost use Rattle.term_tags.specs.declared.layouts.Layout.{Layout as Shape};
 
 /// The subtag of a tuple of n parts: header, then the parts. Arity n (this project, as all numbers of subtags).
 pub const TUPLE: u8 = 0;
@@ -113,4 +114,26 @@ fn row(arity: u64, least: u64, most: u64, first: u64) -> Option<Layout>
     } else {
         None
     }
+}
+
+/// The first traced word of the object with this header, counted from its place; its size, if it has none.
+#[inline]
+pub fn traced_from(header: u64) -> u64
+    ensures first { (l : Shape) → layout_for header ≡ Some l → result ≡ l.first }
+    ensures most { result ≤ 6 ⊎ (result ≡ 1 + header / 64) }
+{
+    let subtag = (header / 4 % 16) as u8;
+    if subtag == TUPLE {
+        return 1;
+    }
+    if subtag == MAP {
+        return 2;
+    }
+    if subtag == SUB_BIN {
+        return 4;
+    }
+    if subtag == FUN {
+        return 6;
+    }
+    1 + header / 64
 }

@@ -7,11 +7,11 @@ mod layouts;
 mod makers;
 mod records;
 
-pub use kinds::{ATOMS, Kind, PIDS, PLACES, kind_of};
+pub use kinds::{ATOMS, Kind, PIDS, PLACES, is_pointer, kind_of};
 pub use laws::table_of_layouts;
 pub use layouts::{
     FUN, HEAP_BIN, HOLDER, Layout, MAP, MOST_ENV, MOST_HEAP_BYTES, MOST_KEYS, MOST_PARTS, NEG_BIG,
-    Object, POS_BIG, REF, SUB_BIN, TUPLE, layout_of, object_of,
+    Object, POS_BIG, REF, SUB_BIN, TUPLE, layout_of, object_of, traced_from,
 };
 pub use makers::{atom, boxed_at, head_of, list_at, nil, pid, small};
 pub use records::{BIN_RECORD, FUN_RECORD};
