@@ -136,43 +136,6 @@ fn cons_to(mem: &mut WordMem, room: &mut Room, w: u64, head: u64, tail: u64) -> 
     new
 }
 
-// The most words that are copied one by one: a call costs more.
-const FEW: u64 = 8;
-
-// Copies words to places that are apart from theirs.
-#[inline]
-fn copy_rest(mem: &mut WordMem, src: u64, dst: u64, n: u64)
-    requires source { src + n ≤ length mem.old }
-    requires target { dst + n ≤ length mem.old }
-    requires apart { (src + n ≤ dst) ⊎ (dst + n ≤ src) }
-    ensures same_len { length mem.new ≡ length mem.old }
-    ensures moved { (p q : ℕ) → dst ≤ q → q < dst + n → p + dst ≡ q + src → slice_index mem.new q ≡ slice_index mem.old p }
-    ensures kept { (q : ℕ) → (q < dst) ⊎ (dst + n ≤ q) → slice_index mem.new q ≡ slice_index mem.old q }
-{
-    if n <= FEW {
-        copy_few(mem, src, dst, n);
-    } else {
-        mem.copy_words(src, dst, n);
-    }
-}
-
-// The same, one word after the other.
-#[inline]
-fn copy_few(mem: &mut WordMem, src: u64, dst: u64, n: u64)
-    requires source { src + n ≤ length mem.old }
-    requires target { dst + n ≤ length mem.old }
-    requires apart { (src + n ≤ dst) ⊎ (dst + n ≤ src) }
-    ensures same_len { length mem.new ≡ length mem.old }
-    ensures moved { (p q : ℕ) → dst ≤ q → q < dst + n → p + dst ≡ q + src → slice_index mem.new q ≡ slice_index mem.old p }
-    ensures kept { (q : ℕ) → (q < dst) ⊎ (dst + n ≤ q) → slice_index mem.new q ≡ slice_index mem.old q }
-{
-    let _len = mem.len();
-    for i in 0..n {
-        let w = mem.get(src + i);
-        mem.set(dst + i, w);
-    }
-}
-
 // Copies an object with a header to the top of a room and leaves the new place in the old one.
 #[inline]
 fn boxed_to(mem: &mut WordMem, room: &mut Room, w: u64, header: u64) -> u64
@@ -188,7 +151,7 @@ fn boxed_to(mem: &mut WordMem, room: &mut Room, w: u64, header: u64) -> u64
     let at = w / 4;
     let to = room.top;
     let rest = header / 64;
-    copy_rest(mem, at + 1, to + 1, rest);
+    mem.copy_apart(at + 1, to + 1, rest);
     mem.set(to, header);
     let new = to * 4 + 2;
     mem.set(at, new);

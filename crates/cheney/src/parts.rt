@@ -11,7 +11,7 @@ ghost use Rattle.cheney.specs.Calls.{CanScan, CanOpen, CanStep, GoesOnWithin, Ru
 use crate::moving::Moving;
 use crate::objects::evacuate;
 use crate::spine::scan_spine;
-use term_tags::{FUN, MAP, SUB_BIN, TUPLE};
+use term_tags::{is_pointer, traced_from};
 use word_mem::WordMem;
 
 /// Moves all parts of the objects that lie in the two rooms, and then the parts of these, until each moved object has
@@ -64,7 +64,7 @@ fn scan_boxed(mem: &mut WordMem, mv: &mut Moving, place: u64, header: u64) -> u6
 {
     let _len = mem.len();
     let end = place + (1 + header / 64);
-    let mut at = place + first_word(header);
+    let mut at = place + traced_from(header);
     while at < end {
         let w = mem.get(at);
         scan_word(mem, mv, at, w);
@@ -85,36 +85,4 @@ pub fn scan_word(mem: &mut WordMem, mv: &mut Moving, at: u64, w: u64)
         let new = evacuate(mem, mv, w);
         mem.set(at, new);
     }
-}
-
-// Whether a word is a list pointer or a boxed one.
-#[inline]
-fn is_pointer(w: u64) -> bool
-    ensures yes { result ≡ true → IsPointer w }
-    ensures no { result ≡ false → IsPointer w → ⊥ }
-{
-    let tag = w % 4;
-    tag == 1 || tag == 2
-}
-
-// The first traced word of the object with this header, counted from its place; its size, if it has none.
-#[inline]
-fn first_word(header: u64) -> u64
-    ensures first { (l : Layout) → layout_for header ≡ Some l → result ≡ l.first }
-    ensures most { result ≤ 6 ⊎ (result ≡ 1 + header / 64) }
-{
-    let subtag = (header / 4 % 16) as u8;
-    if subtag == TUPLE {
-        return 1;
-    }
-    if subtag == MAP {
-        return 2;
-    }
-    if subtag == SUB_BIN {
-        return 4;
-    }
-    if subtag == FUN {
-        return 6;
-    }
-    1 + header / 64
 }

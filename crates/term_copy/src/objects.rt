@@ -67,47 +67,10 @@ fn copy_boxed(mem: &mut WordMem, room: &mut Room, w: u64) -> u64
     let to = room.top;
     let header = mem.get(at);
     let words = 1 + header / 64;
-    copy_apart(mem, at, to, words);
+    mem.copy_apart(at, to, words);
     if is_link_word(header) {
         chain(mem, 0, to);
     }
     room.top = to + words;
     to * 4 + 2
-}
-
-// The most words that are copied one by one: a call costs more.
-const FEW: u64 = 8;
-
-// Copies words to places that are apart from theirs.
-#[inline]
-fn copy_apart(mem: &mut WordMem, src: u64, dst: u64, n: u64)
-    requires source { src + n ≤ length mem.old }
-    requires target { dst + n ≤ length mem.old }
-    requires apart { (src + n ≤ dst) ⊎ (dst + n ≤ src) }
-    ensures same_len { length mem.new ≡ length mem.old }
-    ensures moved { (p q : ℕ) → dst ≤ q → q < dst + n → p + dst ≡ q + src → slice_index mem.new q ≡ slice_index mem.old p }
-    ensures kept { (q : ℕ) → (q < dst) ⊎ (dst + n ≤ q) → slice_index mem.new q ≡ slice_index mem.old q }
-{
-    if n <= FEW {
-        copy_few(mem, src, dst, n);
-    } else {
-        mem.copy_words(src, dst, n);
-    }
-}
-
-// The same, one word after the other.
-#[inline]
-fn copy_few(mem: &mut WordMem, src: u64, dst: u64, n: u64)
-    requires source { src + n ≤ length mem.old }
-    requires target { dst + n ≤ length mem.old }
-    requires apart { (src + n ≤ dst) ⊎ (dst + n ≤ src) }
-    ensures same_len { length mem.new ≡ length mem.old }
-    ensures moved { (p q : ℕ) → dst ≤ q → q < dst + n → p + dst ≡ q + src → slice_index mem.new q ≡ slice_index mem.old p }
-    ensures kept { (q : ℕ) → (q < dst) ⊎ (dst + n ≤ q) → slice_index mem.new q ≡ slice_index mem.old q }
-{
-    let _len = mem.len();
-    for i in 0..n {
-        let w = mem.get(src + i);
-        mem.set(dst + i, w);
-    }
 }

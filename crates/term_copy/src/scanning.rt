@@ -11,7 +11,7 @@ ghost use Rattle.term_copy.specs.Going.{Advances, CanOpen, CanWord, CanWords, Co
 
 use crate::objects::copy_part;
 use cheney::Stay;
-use term_tags::{FUN, MAP, SUB_BIN, TUPLE};
+use term_tags::{is_pointer, traced_from};
 use word_mem::{Room, WordMem};
 
 /// Goes through the traced words of the object at a place, and answers the place after it.
@@ -31,30 +31,8 @@ pub fn scan_object(mem: &mut WordMem, room: &mut Room, stay: &Stay, at: u64) -> 
         return end;
     }
     let end = at + (1 + word / 64);
-    scan_words(mem, room, stay, at + first_word(word), end);
+    scan_words(mem, room, stay, at + traced_from(word), end);
     end
-}
-
-// The first traced word of the object with this header, counted from its place; its size, if it has none.
-#[inline]
-fn first_word(header: u64) -> u64
-    ensures first { (l : Layout) → layout_for header ≡ Some l → result ≡ l.first }
-    ensures most { result ≤ 6 ⊎ (result ≡ 1 + header / 64) }
-{
-    let subtag = (header / 4 % 16) as u8;
-    if subtag == TUPLE {
-        return 1;
-    }
-    if subtag == MAP {
-        return 2;
-    }
-    if subtag == SUB_BIN {
-        return 4;
-    }
-    if subtag == FUN {
-        return 6;
-    }
-    1 + header / 64
 }
 
 // Goes through the words from one place up to another, the last of an object.
@@ -94,11 +72,7 @@ pub fn goes(stay: &Stay, w: u64) -> bool
     ensures yes { result ≡ true → IsPointer w × (stays stay.now (w / 4) ≡ false) }
     ensures no { result ≡ false → IsPointer w → stays stay.now (w / 4) ≡ true }
 {
-    let tag = w % 4;
-    if tag == 0 {
-        return false;
-    }
-    if tag == 3 {
+    if !is_pointer(w) {
         return false;
     }
     !stay.has(w / 4)

@@ -20,61 +20,6 @@ use Rattle.cheney.proofs.Before.Ground.{Ground, ground}
 use Rattle.cheney.proofs.Stepping.Steps.{Going, Opened, cons-words, evacuated, fresh-here, going-on, going-step, gone-through, later-grows, later-same, later-then, leaves, header-same, opened-there, raw-at, reached-there, step-part, stepped}
 use Rattle.cheney.proofs.Stepping.Writing.{mark-twice, object-here, scanned-here}
 
--- The first traced word, by the table of layouts.
-
-cut : {x z : Option Layout} (b : Bool) (l : Layout) → (if b then x else z) ≡ Some l → ((b ≡ true) × (x ≡ Some l)) ⊎ ((b ≡ false) × (z ≡ Some l))
-cut true l e = inl (refl, e)
-cut false l e = inr (refl, e)
-
-some-same : (k l : Layout) → Some k ≡ Some l → k ≡ l
-some-same k l e = cc
-
-none-not : (l : Layout) → None ≡ Some l → ⊥
-none-not l e = absurd (cc)
-
-in-row : (a least most : ℕ) → (nat_le least a && nat_le a most) ≡ true → (least ≤ a) × (a ≤ most)
-in-row a least most h = (grind (arith, nat_tests), grind (arith, nat_tests))
-
-row-told : (a least most f : ℕ) (l : Layout) → row_layout a least most f ≡ Some l → (l.first ≡ f) × ((least ≤ a) × (a ≤ most))
-row-told a least most f l e = elim (cut (nat_le least a && nat_le a most) l e) [
-  | inr n ↦ absurd (none-not l n.1)
-  | inl y ↦ (sym (ap (λ z. z.first) (some-same _ l y.1)), in-row a least most y.0)
-]
-
-pub last-word : (h : ℕ) (l : Layout) → layout_for h ≡ Some l → (h / 4 % 16 ≡ TUPLE → ⊥) → (h / 4 % 16 ≡ MAP → ⊥) → (h / 4 % 16 ≡ SUB_BIN → ⊥) → (h / 4 % 16 ≡ FUN → ⊥) → 1 + h / 64 ≡ l.first
-last-word h l e tuple map part fun =
-    elim (cut (h % 4 == 0) l e) [
-      | inr n ↦ absurd (none-not l n.1)
-      | inl y ↦ elim (cut (h / 4 % 16 == TUPLE) l y.1) [
-        | inl a ↦ absurd (tuple (eqb-true (h / 4 % 16) TUPLE a.0))
-        | inr a ↦ elim (cut (h / 4 % 16 == POS_BIG) l a.1) [
-          | inl b ↦ sym (row-told (h / 64) 1 2 (1 + h / 64) l b.1).0
-          | inr b ↦ elim (cut (h / 4 % 16 == NEG_BIG) l b.1) [
-            | inl d ↦ sym (row-told (h / 64) 1 2 (1 + h / 64) l d.1).0
-            | inr d ↦ elim (cut (h / 4 % 16 == REF) l d.1) [
-              | inl f ↦ omega (arith, row-told (h / 64) 2 2 3 l f.1)
-              | inr f ↦ elim (cut (h / 4 % 16 == FUN) l f.1) [
-                | inl g ↦ absurd (fun (eqb-true (h / 4 % 16) FUN g.0))
-                | inr g ↦ elim (cut (h / 4 % 16 == HOLDER) l g.1) [
-                  | inl i ↦ omega (arith, row-told (h / 64) 5 5 6 l i.1)
-                  | inr i ↦ elim (cut (h / 4 % 16 == HEAP_BIN) l i.1) [
-                    | inl j ↦ sym (row-told (h / 64) 1 9 (1 + h / 64) l j.1).0
-                    | inr j ↦ elim (cut (h / 4 % 16 == SUB_BIN) l j.1) [
-                      | inl k ↦ absurd (part (eqb-true (h / 4 % 16) SUB_BIN k.0))
-                      | inr k ↦ elim (cut (h / 4 % 16 == MAP) l k.1) [
-                        | inl m ↦ absurd (map (eqb-true (h / 4 % 16) MAP m.0))
-                        | inr m ↦ absurd (none-not l m.1)
-                      ]
-                    ]
-                  ]
-                ]
-              ]
-            ]
-          ]
-        ]
-      ]
-    ]
-
 pub boxed-shape : (h from : ℕ) → h % 4 ≡ 0 → ((l : Layout) → layout_for h ≡ Some l → from ≡ l.first) → Shape h from (1 + h / 64)
 boxed-shape h from zero_end each = record { cons = λ n. absurd (n zero_end); boxed = λ z l is. (each l is, refl) }
 

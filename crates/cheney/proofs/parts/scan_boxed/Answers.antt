@@ -8,9 +8,9 @@ use Rattle.cheney.proofs.parts.scan_boxed.Goals as goal
 
 pub loop-at-init : goal.loop-at-init
 loop-at-init c = λ p k b run s o less.
-    let P : ℕ → Type 0 = λ x. Shape x c.first_word.result (1 + c.args.header / 64) in
-    (opened-there p c.args.mem.now c.args.mv.now k b c.args.place c.first_word.result (1 + c.args.header / 64) run s o less
-    (subst P c.requires.header (boxed-shape c.args.header c.first_word.result c.requires.boxed c.first_word.ensures.first))).going
+    let P : ℕ → Type 0 = λ x. Shape x c.traced_from.result (1 + c.args.header / 64) in
+    (opened-there p c.args.mem.now c.args.mv.now k b c.args.place c.traced_from.result (1 + c.args.header / 64) run s o less
+    (subst P c.requires.header (boxed-shape c.args.header c.traced_from.result c.requires.boxed c.traced_from.ensures.first))).going
 
 pub get-w-requires : goal.get-w-requires
 get-w-requires c =

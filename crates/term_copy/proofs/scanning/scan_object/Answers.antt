@@ -23,8 +23,8 @@ returns-then-word-ne0-clause-each c = λ p known stay g.
 pub scan_words-requires-2 : goal.scan_words-requires-2
 scan_words-requires-2 c =
     let o = opens-at c.requires.task c.requires.known c.args.mem.now c.args.at c.args.room.now.top c.requires.on
-    (c.args.at + c.first_word.result) (c.args.at + (1 + c.get-word.result / 64)) c.requires.some
-    (traced-boxed (get_or c.args.mem.now c.args.at 0) c.get-word.result c.args.at c.first_word.result c.get-word.ensures c.if-word-ne0.false c.first_word.ensures.first) in
+    (c.args.at + c.traced_from.result) (c.args.at + (1 + c.get-word.result / 64)) c.requires.some
+    (traced-boxed (get_or c.args.mem.now c.args.at 0) c.get-word.result c.args.at c.traced_from.result c.get-word.ensures c.if-word-ne0.false c.traced_from.ensures.first) in
     record {
       rest = o.0;
       can = record { task = c.requires.task; known = c.requires.known; on = o.1.0; has = c.requires.has; same_stay = c.requires.same_stay };
@@ -35,6 +35,6 @@ returns-clause-further c = omega arith
 
 pub returns-clause-each : goal.returns-clause-each
 returns-clause-each c = λ p known stay g.
-    let o = opens-at p known c.args.mem.now c.args.at c.args.room.now.top g (c.args.at + c.first_word.result) (c.args.at + (1 + c.get-word.result / 64)) c.requires.some
-    (traced-boxed (get_or c.args.mem.now c.args.at 0) c.get-word.result c.args.at c.first_word.result c.get-word.ensures c.if-word-ne0.false c.first_word.ensures.first) in
+    let o = opens-at p known c.args.mem.now c.args.at c.args.room.now.top g (c.args.at + c.traced_from.result) (c.args.at + (1 + c.get-word.result / 64)) c.requires.some
+    (traced-boxed (get_or c.args.mem.now c.args.at 0) c.get-word.result c.args.at c.traced_from.result c.get-word.ensures c.if-word-ne0.false c.traced_from.ensures.first) in
     c.scan_words-2.ensures.each p known o.0 stay o.1.0
