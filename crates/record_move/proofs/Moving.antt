@@ -19,7 +19,7 @@ use Rattle.shared_rec.specs.Record.{record_roles, count_in}
 use Rattle.shared_rec.proofs.Records.{bin-copied, fun-copied, record-counted, record-size, record-within, record-first, record-role}
 use Rattle.off_heap_list.specs.Links.{name_place, named, naming, IsLink, SameContent}
 use Rattle.off_heap_list.proofs.Chaining.Chained.{place-same}
-use Rattle.off_heap_list.proofs.Walked.Tallied.{few-links}
+use Rattle.off_heap_list.proofs.Walked.Tallied.{few-links, one-at-most}
 use Rattle.record_move.specs.Copies.{record_words, RecordsCanMove, IsRecordCopy, Moves, AreFew}
 use Rattle.record_move.specs.declared.moves.TheConstants.{MOVED}
 
@@ -82,7 +82,7 @@ role-cases j =
     ]
 
 -- And it is a role of records.
-of-record : (j : ℕ) → OfRecord (record_roles j)
+pub of-record : (j : ℕ) → OfRecord (record_roles j)
 of-record j =
     let which : (j ≡ 0) ⊎ ((j ≡ 2) ⊎ ((j ≡ 1) ⊎ (3 ≤ j))) = grind arith in
     elim which [
@@ -92,7 +92,7 @@ of-record j =
     ]
 
 -- The first word of a record alone has its role.
-role-begins : (j : ℕ) → record_roles j ≡ RECORD_FIRST → j ≡ 0
+pub role-begins : (j : ℕ) → record_roles j ≡ RECORD_FIRST → j ≡ 0
 role-begins j e =
     let which : (j ≡ 0) ⊎ ((j ≡ 1) ⊎ ((j ≡ 2) ⊎ (3 ≤ j))) = grind arith in
     elim which [
@@ -104,13 +104,9 @@ role-begins j e =
 
 -- No count is a mark.
 
-names-few : (b : Bool) → (if b then 1 else 0) ≤ 1
-names-few true = omega arith
-names-few false = omega arith
-
-naming-few : (mem : List ℕ) (v : ℕ) (os : List ℕ) → naming mem v os ≤ length os
+pub naming-few : (mem : List ℕ) (v : ℕ) (os : List ℕ) → naming mem v os ≤ length os
 naming-few mem v [] = omega arith
-naming-few mem v (p ∷ os) = omega (arith, names-few (named mem p == v), naming-few mem v os)
+naming-few mem v (p ∷ os) = omega (arith, one-at-most (named mem p == v), naming-few mem v os)
 
 pub are-few : (c : ℕ → ℕ → Bool) (start : List ℕ) (head : ℕ) (os : List ℕ) (low top : ℕ) → RecordsCanMove c start head os low top → length start ≤ 16777216 → AreFew c start
 are-few c start head os low top b most = record {

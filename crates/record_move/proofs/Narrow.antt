@@ -1,5 +1,6 @@
 -- The old records are left behind.
-use Rattle.std.proofs.Common.{◌≡◌, ℕ, ◌+◌, ◌<◌, ◌≤◌, ◌&&◌, Bool, true, false, List, [], get_or, true≢false, refl, sym, ◌∙◌, ap, subst, arith, inl, inr}
+use Rattle.std.proofs.Common.{◌≡◌, ℕ, ◌+◌, ◌<◌, ◌≤◌, ◌&&◌, Bool, true, List, [], get_or, sym, ◌∙◌, ap, subst, arith, inl, inr}
+use Rattle.std.proofs.lemmas.Bool.{and_from, and_parts}
 use Rattle.term_words.specs.Role.{FIRST, FURTHER, NEXT, NAMES, RECORD_FIRST, both}
 use Rattle.term_words.specs.Object.{IsRecord}
 use Rattle.term_words.specs.Counted.{In}
@@ -8,20 +9,6 @@ use Rattle.shared_rec.proofs.Records.{record-copied, record-first, record-within
 use Rattle.off_heap_list.specs.Links.{name_place, named, naming, IsLink, Links}
 use Rattle.record_move.specs.Copies.{RecordsMoved, LeavesOld}
 use Rattle.record_move.proofs.Moving.{place-cases}
-
-both-true : (x y : Bool) → x ≡ true → y ≡ true → x && y ≡ true
-both-true x y e f = rw (e, f) refl
-
-first-true : (x y : Bool) → x && y ≡ true → x ≡ true
-first-true true y e = refl
-first-true false y e = e
-
-false-true : false ≡ true → ⊥
-false-true e = true≢false (sym e)
-
-second-true : (x y : Bool) → x && y ≡ true → y ≡ true
-second-true true y e = e
-second-true false y e = absurd (false-true e)
 
 module _ (c : ℕ → ℕ → Bool) (start mem : List ℕ) (head : ℕ) (os : List ℕ) (low top : ℕ) (r : RecordsMoved c start mem head os low top) (d : ℕ → ℕ → Bool) (x : LeavesOld c os low top d) where
   -- A record that an object names stands by the narrower test.
@@ -33,7 +20,7 @@ module _ (c : ℕ → ℕ → Bool) (start mem : List ℕ) (head : ℕ) (os : Li
         within = (record-within r.test mem (named mem o) n there).0;
         roles = λ j q k below e h.
             let P : ℕ → Type 0 = λ y. r.test y k ≡ true in
-            both-true (r.test q k) (d q k) (subst P (sym e) h) (x.copies q k (omega (arith, e, lies.0)) (omega (arith, e, lies.1, below)));
+            and_from (r.test q k) (d q k) (subst P (sym e) h) (x.copies q k (omega (arith, e, lies.0)) (omega (arith, e, lies.1, below)));
         same = λ j q below far e. ap (λ y. get_or mem y 0) e;
       })
       there
@@ -45,7 +32,7 @@ module _ (c : ℕ → ℕ → Bool) (start mem : List ℕ) (head : ℕ) (os : Li
       record-copied (both r.test d) r.test mem mem v v n
       (record {
         within = (record-within (both r.test d) mem v n there).0;
-        roles = λ j q k below e h. let P : ℕ → Type 0 = λ y. r.test y k ≡ true in subst P (sym e) (first-true (r.test (v + j) k) (d (v + j) k) h);
+        roles = λ j q k below e h. let P : ℕ → Type 0 = λ y. r.test y k ≡ true in subst P (sym e) (and_parts (r.test (v + j) k) (d (v + j) k) h).0;
         same = λ j q below far e. ap (λ y. get_or mem y 0) e;
       })
       there
@@ -53,8 +40,8 @@ module _ (c : ℕ → ℕ → Bool) (start mem : List ℕ) (head : ℕ) (os : Li
   pub in-room : (v n : ℕ) → IsRecord (both r.test d) mem v n → (low ≤ v) × (v < top)
   in-room v n there =
       let f : r.test v RECORD_FIRST && d v RECORD_FIRST ≡ true = record-first (both r.test d) mem v n there in
-      elim (r.comes v RECORD_FIRST (first-true (r.test v RECORD_FIRST) (d v RECORD_FIRST) f)) [
-        | inl old ↦ absurd (x.none v old (second-true (r.test v RECORD_FIRST) (d v RECORD_FIRST) f))
+      elim (r.comes v RECORD_FIRST (and_parts (r.test v RECORD_FIRST) (d v RECORD_FIRST) f).0) [
+        | inl old ↦ absurd (x.none v old (and_parts (r.test v RECORD_FIRST) (d v RECORD_FIRST) f).1)
         | inr room ↦ room
       ]
 
@@ -70,13 +57,13 @@ module _ (c : ℕ → ℕ → Bool) (start mem : List ℕ) (head : ℕ) (os : Li
       record {
         somewhere = l.somewhere;
         within = l.within;
-        first = both-true (r.test o FIRST) (d o FIRST) l.first (x.objects o o FIRST inside (omega arith) (omega arith));
-        next = both-true (r.test (o + 2) NEXT) (d (o + 2) NEXT) l.next (x.objects o (o + 2) NEXT inside (omega arith) (omega arith));
-        names = both-true (r.test (name_place mem o) NAMES) (d (name_place mem o) NAMES) l.names (x.objects o (name_place mem o) NAMES inside (name-inside o).0 (name-inside o).1);
+        first = and_from (r.test o FIRST) (d o FIRST) l.first (x.objects o o FIRST inside (omega arith) (omega arith));
+        next = and_from (r.test (o + 2) NEXT) (d (o + 2) NEXT) l.next (x.objects o (o + 2) NEXT inside (omega arith) (omega arith));
+        names = and_from (r.test (name_place mem o) NAMES) (d (name_place mem o) NAMES) l.names (x.objects o (name_place mem o) NAMES inside (name-inside o).0 (name-inside o).1);
         kind = l.kind;
         size = λ h.
             let z = l.size h in
-            (both-true (r.test (o + 1) FURTHER) (d (o + 1) FURTHER) z.0 (x.objects o (o + 1) FURTHER inside (omega arith) (omega arith)), z.1);
+            (and_from (r.test (o + 1) FURTHER) (d (o + 1) FURTHER) z.0 (x.objects o (o + 1) FURTHER inside (omega arith) (omega arith)), z.1);
         words = l.words;
         record_is = named-record o l.words inside l.record_is;
       }

@@ -1,6 +1,6 @@
 -- Tables of records that moved.
 use Rattle.std.proofs.Common.{◌≡◌, ℕ, ◌+◌, ◌-◌, ◌<◌, ◌≤◌, ◌⊎◌, Bool, true, false, nat_le, List, [], ◌∷◌, ◌++◌, length, get_or}
-use Rattle.std.proofs.Common.{zero, suc, take, set, refl, sym, ◌∙◌, ap, subst, arith, inl, inr}
+use Rattle.std.proofs.Common.{take, set, refl, sym, ◌∙◌, ap, subst, arith, inl, inr}
 use Rattle.std.proofs.lemmas.Bool.Decides.{nat_tests}
 use Rattle.std.proofs.lemmas.List.{append-nil, take_more, take_more_set}
 use Rattle.term_words.specs.Object.{IsRecord}
@@ -159,11 +159,6 @@ module _ (c : ℕ → ℕ → Bool) (start mem : List ℕ) (head : ℕ) (os : Li
       omega (arith, fit, count-most (λ q. true) low (top - low), order)
 
 -- A table that is renewed place by place.
-
-pub member-at : (xs : List ℕ) (i : ℕ) → i < length xs → In (get_or xs i 0) xs
-member-at [] i below = absurd (omega arith)
-member-at (x ∷ xs) zero below = inl refl
-member-at (x ∷ xs) (suc i) below = inr (member-at xs i (omega arith))
 
 renewed-more : (mem xs : List ℕ) (i : ℕ) → i < length xs → renewed mem (take (i + 1) xs) ≡ renewed mem (take i xs) ++ renewed mem (get_or xs i 0 ∷ [])
 renewed-more mem xs i below = ap (λ z. renewed mem z) (take_more xs i 0 below) ∙ renewed-both mem (take i xs) (get_or xs i 0 ∷ [])

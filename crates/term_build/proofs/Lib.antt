@@ -1,6 +1,5 @@
 pub mod Taking
 pub mod Rooms
 pub mod Growing
-pub mod Records
 pub mod Putting
 pub mod Objects

@@ -16,12 +16,12 @@ use Rattle.term_words.specs.Stands.{Stands, RowStands, KeysStand, ValuesStand, A
 use Rattle.term_words.specs.Kept.{Kept, Keeps}
 use Rattle.term_words.proofs.ByKind.Makes.{stands-small, boxed-at, row-of-all, all-length}
 use Rattle.term_words.proofs.Framing.Frames.{keep-all}
+use Rattle.term_words.proofs.Framing.Records.{bin-stays, fun-stays}
 use Rattle.term_words.proofs.ByKind.Pairs.{keys-len}
 use Rattle.term_build.specs.Taken.{Taken, Lie, plain, of_holder, of_fun, of_map}
 use Rattle.term_build.specs.Parts.{IsRecordOf, integer_words}
 use Rattle.term_build.proofs.Taking.{taken-first, taken-other, taken-keys, taken-map, fun-after}
 use Rattle.term_build.proofs.Putting.{lie-front, lie-back}
-use Rattle.term_build.proofs.Records.{bin-record-kept, fun-record-kept}
 
 -- An object with a header at the taken words.
 pub boxed-made : (c d : ℕ → ℕ → Bool) (top n : ℕ) (new : List ℕ) (r subtag arity : ℕ) → r ≡ boxed_word top → n ≡ 1 + arity → top + n ≤ length new → get_or new top 0 ≡ head_word subtag arity
@@ -97,7 +97,7 @@ shared-made c d top old new r rec len next is inside lie taken k shared id named
         fifth = taken.new 4 (r / 4 + 4) (omega arith) (omega arith);
         sixth = taken.new 5 (r / 4 + 5) (omega arith) (omega arith);
       };
-      record_is = subst P (sym (lie.each 3 (r / 4 + 3) (omega arith) (omega arith))) (bin-record-kept c d old new k rec id (shared_bytes shared id) named.record_is);
+      record_is = subst P (sym (lie.each 3 (r / 4 + 3) (omega arith) (omega arith))) (bin-stays c d old new rec id (shared_bytes shared id) k named.record_is);
     }
 
 pub fun-made : (c d : ℕ → ℕ → Bool) (top n : ℕ) (old new env : List ℕ) (r rec next arity creator : ℕ) → n ≡ length env → r ≡ boxed_word top → n ≤ MOST_ENV → creator < PIDS
@@ -118,7 +118,7 @@ fun-made c d top n old new env r rec next arity creator count is few process ins
         arity_word = lie.each 3 (r / 4 + 3) (omega arith) (omega arith);
         size = lie.each 4 (r / 4 + 4) (omega arith) (omega arith) ∙ omega arith;
         creator_word = lie.each 5 (r / 4 + 5) (omega arith) (omega arith);
-        record_is = subst P (sym (lie.each 1 (r / 4 + 1) (omega arith) (omega arith))) (fun-record-kept c d old new k rec name arity named);
+        record_is = subst P (sym (lie.each 1 (r / 4 + 1) (omega arith) (omega arith))) (fun-stays c d old new rec name arity k named);
         first = taken.new 0 (r / 4) (omega arith) (omega arith);
         names = taken.new 1 (r / 4 + 1) (omega arith) (omega arith);
         next = taken.new 2 (r / 4 + 2) (omega arith) (omega arith);
@@ -190,12 +190,12 @@ same-row c shared mem (suc n) w t s = (s, same-row c shared mem n w t s)
 
 -- A row of keys, and one of values, stands for the pairs.
 
-row-keys : (c : ℕ → ℕ → Bool) (shared : List (List ℕ)) (mem : List ℕ) (p : ℕ) (ps : Pairs) → RowStands c shared mem p (keys_of ps) → KeysStand c shared mem p ps
+pub row-keys : (c : ℕ → ℕ → Bool) (shared : List (List ℕ)) (mem : List ℕ) (p : ℕ) (ps : Pairs) → RowStands c shared mem p (keys_of ps) → KeysStand c shared mem p ps
 unfolding RowStands KeysStand
 row-keys c shared mem p stop row = tt
 row-keys c shared mem p (pair k v ps) (first, rest) = (first, row-keys c shared mem (p + 1) ps rest)
 
-row-values : (c : ℕ → ℕ → Bool) (shared : List (List ℕ)) (mem : List ℕ) (p : ℕ) (ps : Pairs) → RowStands c shared mem p (values_of ps) → ValuesStand c shared mem p ps
+pub row-values : (c : ℕ → ℕ → Bool) (shared : List (List ℕ)) (mem : List ℕ) (p : ℕ) (ps : Pairs) → RowStands c shared mem p (values_of ps) → ValuesStand c shared mem p ps
 unfolding RowStands ValuesStand
 row-values c shared mem p stop row = tt
 row-values c shared mem p (pair k v ps) (first, rest) = (first, row-values c shared mem (p + 1) ps rest)

@@ -5,15 +5,15 @@ use Rattle.plain_term.specs.Bytes.{shared_bytes}
 use Rattle.plain_term.specs.Tree.{Tree, Trees, Pairs, trees_len, pairs_len, keys_of, values_of}
 use Rattle.plain_term.specs.Tree.Tree.{Int, Atom, Pid, Ref, Nil, Cons, Tuple, Map, Bin, Shared, Part, Fun}
 use Rattle.plain_term.specs.Tree.Trees.{end, ◌▹◌}
-use Rattle.plain_term.specs.Tree.Pairs.{stop, pair}
 use Rattle.term_tags.specs.declared.layouts.TheConstants.{TUPLE, REF, HEAP_BIN, SUB_BIN, MAP}
 use Rattle.term_words.specs.Role.{NEXT, FIRST, FURTHER, NAMES, OfObject}
 use Rattle.term_words.specs.Object.{byte_of, IsObject, IsBoxed, IsInt, IsTuple, IsBinRecord, IsFunRecord, IsPointer, object_words, sign_tag}
 use Rattle.term_words.specs.Reach.{first_traced, parts_of}
-use Rattle.term_words.specs.Stands.{Stands, RowStands, KeysStand, ValuesStand}
+use Rattle.term_words.specs.Stands.{Stands, RowStands, KeysStand}
 use Rattle.term_words.proofs.Placing.Apart.{words-cons, words-boxed}
 use Rattle.term_words.proofs.ByKind.Pairs.{values-len, keys-len}
 use Rattle.term_words.proofs.Reaching.Reached.{scanned, cons-traced}
+use Rattle.term_build.proofs.Objects.{row-keys, row-values}
 
 -- The words of the object that x leads to are those of the object that w led to, but for its traced words and `next`; and
 -- records stay.
@@ -24,18 +24,6 @@ pub record IsAlike (c d : ℕ → ℕ → Bool) (old new : List ℕ) (w x : ℕ)
   pub same : (j q k : ℕ) → j < first_traced old w → j < object_words old w → q ≡ x / 4 + j → c (w / 4 + j) k ≡ true → FIRST ≤ k → get_or new q 0 ≡ get_or old (w / 4 + j) 0
   pub bins : (v serial : ℕ) (bytes : List ℕ) → IsBinRecord c old v serial bytes → IsBinRecord d new v serial bytes
   pub funs : (v name arity : ℕ) → IsFunRecord c old v name arity → IsFunRecord d new v name arity
-
--- Rows of keys and of values, from rows of trees.
-
-keys-back : (c : ℕ → ℕ → Bool) (shared : List (List ℕ)) (mem : List ℕ) (p : ℕ) (ps : Pairs) → RowStands c shared mem p (keys_of ps) → KeysStand c shared mem p ps
-unfolding RowStands KeysStand
-keys-back c shared mem p stop row = tt
-keys-back c shared mem p (pair x y ps) (first, rest) = (first, keys-back c shared mem (p + 1) ps rest)
-
-values-back : (c : ℕ → ℕ → Bool) (shared : List (List ℕ)) (mem : List ℕ) (p : ℕ) (ps : Pairs) → RowStands c shared mem p (values_of ps) → ValuesStand c shared mem p ps
-unfolding RowStands ValuesStand
-values-back c shared mem p stop row = tt
-values-back c shared mem p (pair x y ps) (first, rest) = (first, values-back c shared mem (p + 1) ps rest)
 
 module _ (c d : ℕ → ℕ → Bool) (shared : List (List ℕ)) (old new : List ℕ) (w x : ℕ) (h : IsAlike c d old new w x) where
   role : (j q a k : ℕ) → j < object_words old w → q ≡ x / 4 + j → a ≡ w / 4 + j → OfObject k → c a k ≡ true → d q k ≡ true
@@ -100,7 +88,7 @@ module _ (c d : ℕ → ℕ → Bool) (shared : List (List ℕ)) (old new : List
   -- The tuple of a map's keys, as it stands.
   tuple-of : (v : ℕ) (ps : Pairs) → Stands d shared new v (Tuple (keys_of ps)) → IsTuple d new v (pairs_len ps) × KeysStand d shared new (v / 4 + 1) ps
   unfolding Stands
-  tuple-of v ps (o, row) = let P : ℕ → Type 0 = λ n. IsTuple d new v n in (subst P (keys-len ps) o, keys-back d shared new (v / 4 + 1) ps row)
+  tuple-of v ps (o, row) = let P : ℕ → Type 0 = λ n. IsTuple d new v n in (subst P (keys-len ps) o, row-keys d shared new (v / 4 + 1) ps row)
 
   pub alike : (t : Tree) → IsPointer w → Stands c shared old w t → RowStands d shared new (x / 4 + first_traced old w) (parts_of t) → Stands d shared new x t
   unfolding Stands RowStands
@@ -137,7 +125,7 @@ module _ (c d : ℕ → ℕ → Bool) (shared : List (List ℕ)) (old new : List
           keys = kt;
         },
         kr,
-        values-back d shared new (x / 4 + 3) ps (row-at (x / 4 + 2 + 1) (x / 4 + 3) (values_of ps) (omega arith) values),
+        row-values d shared new (x / 4 + 3) ps (row-at (x / 4 + 2 + 1) (x / 4 + 3) (values_of ps) (omega arith) values),
       )
   alike (Bin bytes) y s parts =
       let k : object_words old w ≡ 1 + (1 + bin_words (length bytes)) = words-boxed old w (1 + bin_words (length bytes)) 36 s.boxed.tag s.boxed.header (omega arith) in

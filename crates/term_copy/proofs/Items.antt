@@ -1,12 +1,12 @@
 -- Copies side by side.
-use Rattle.std.proofs.Common.{◌≡◌, ℕ, ◌+◌, ◌*◌, ◌/◌, ◌<◌, ◌≤◌, ◌⊎◌, true, if◌then◌else◌, List, [], ◌∷◌, ◌++◌, refl, sym, ◌∙◌, ap, subst, arith, inl, inr}
-use Rattle.std.proofs.lemmas.Bool.Decides.{nat_tests}
+use Rattle.std.proofs.Common.{◌≡◌, ℕ, ◌+◌, ◌*◌, ◌/◌, ◌<◌, ◌≤◌, ◌⊎◌, true, if◌then◌else◌, List, [], ◌∷◌, ◌++◌, refl, sym, ◌∙◌, ap, subst, arith, inl, inr, ◌==◌}
 use Rattle.plain_term.specs.Measures.{flat_of_all}
 use Rattle.term_words.specs.Object.{object_words}
 use Rattle.term_words.specs.Reach.{parts_of}
 use Rattle.term_words.proofs.Placing.Roles.{object-some}
 use Rattle.term_words.proofs.Totals.Members.{true-or-false}
 use Rattle.off_heap_list.specs.Links.{names_it, named}
+use Rattle.off_heap_list.proofs.Walked.Tallied.{one-at-most}
 use Rattle.term_copy.specs.Row.{is_link}
 use Rattle.term_copy.specs.Going.{Item, Among, Spread, left_of, tally}
 
@@ -79,9 +79,6 @@ pub tally-last : (old : List ℕ) (v : ℕ) (y : Item) (xs : List Item) → tall
 tally-last old v y [] = omega arith
 tally-last old v y (x ∷ xs) = omega (arith, tally-last old v y xs)
 
-one-at-most : (r v : ℕ) → names_it r v ≤ 1
-one-at-most r v = grind (arith, nat_tests)
-
 -- Each takes six words.
 pub tally-few : (old : List ℕ) (v from : ℕ) (xs : List Item) (to : ℕ) → Spread old from xs to → ((x : Item) → Among x xs → is_link old x.word ≡ true → 6 ≤ object_words old x.word)
     → from + 6 * tally old v xs ≤ to
@@ -89,6 +86,6 @@ tally-few old v from [] to row many = omega arith
 tally-few old v from (x ∷ xs) to (place, rest) many =
     let more : from + object_words old x.word + 6 * tally old v xs ≤ to = tally-few old v (from + object_words old x.word) xs to rest (λ y i. many y (inr i)) in
     elim (true-or-false (is_link old x.word)) [
-      | inl h ↦ rw h (omega (arith, more, many x (inl refl) h, one-at-most (named old (x.word / 4)) v))
+      | inl h ↦ rw h (omega (arith, more, many x (inl refl) h, one-at-most (named old (x.word / 4) == v)))
       | inr none ↦ rw none (omega (arith, more))
     ]

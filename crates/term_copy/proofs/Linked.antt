@@ -6,7 +6,7 @@ use Rattle.plain_term.specs.Bytes.{shared_bytes}
 use Rattle.plain_term.specs.Tree.{Tree, trees_len, pairs_len}
 use Rattle.plain_term.specs.Tree.Tree.{Int, Atom, Pid, Ref, Nil, Cons, Tuple, Map, Bin, Shared, Part, Fun}
 use Rattle.term_tags.specs.Words.{head_word}
-use Rattle.term_tags.specs.declared.layouts.TheConstants.{FUN, HOLDER}
+use Rattle.term_tags.specs.declared.layouts.TheConstants.{HOLDER}
 use Rattle.term_words.specs.Role.{NEXT, FIRST, FURTHER, NAMES, IsSingle}
 use Rattle.term_words.specs.Object.{IsBoxed, IsInt, IsObject, IsPointer, IsRecord, object_words}
 use Rattle.term_words.specs.Reach.{first_traced}
@@ -17,6 +17,7 @@ use Rattle.term_words.proofs.Reaching.Carrying.{in-object}
 use Rattle.term_words.proofs.ByKind.Shapes.{told}
 use Rattle.shared_rec.specs.Record.{length_in}
 use Rattle.off_heap_list.specs.Links.{name_place, named, IsLinkHeader}
+use Rattle.off_heap_list.proofs.Chaining.Chained.{holder-place, fun-place}
 use Rattle.term_copy.specs.Row.{is_link}
 
 -- What tag and header of a holder or fun tell.
@@ -38,12 +39,6 @@ pub record LinkFacts (c : ℕ → ℕ → Bool) (mem : List ℕ) (w : ℕ) : Typ
   pub size : get_or mem (w / 4) 0 ≡ head_word HOLDER 5 → (c (w / 4 + 1) FURTHER ≡ true) × (get_or mem (w / 4 + 1) 0 ≡ length_in mem (named mem (w / 4)))
   pub words : ℕ
   pub record_is : IsRecord c mem (named mem (w / 4)) words
-
-holder-place : (mem : List ℕ) (p : ℕ) → get_or mem p 0 ≡ head_word HOLDER 5 → name_place mem p ≡ p + 3
-holder-place mem p e = rw e refl
-
-fun-place : (mem : List ℕ) (p k : ℕ) → get_or mem p 0 ≡ head_word FUN (k + 5) → name_place mem p ≡ p + 1
-fun-place mem p k e = grind (arith, nat_tests, e)
 
 pub link-facts : (c : ℕ → ℕ → Bool) (shared : List (List ℕ)) (mem : List ℕ) (w : ℕ) (t : Tree) → Stands c shared mem w t
     → (w % 4 ≡ 2) × ((get_or mem (w / 4) 0 / 4 % 16 ≡ 8) ⊎ (get_or mem (w / 4) 0 / 4 % 16 ≡ 5)) → LinkFacts c mem w

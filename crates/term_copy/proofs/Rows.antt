@@ -2,6 +2,7 @@
 use Rattle.std.proofs.Common.{◌≡◌, ℕ, ◌+◌, ◌-◌, ◌/◌, ◌%◌, ◌<◌, ◌≤◌, ◌⊎◌, ◌==◌, ◌&&◌, if◌then◌else◌, nat_le, Bool, true, false, List, [], ◌∷◌, ◌++◌, length, get_or, set, refl, sym, ◌∙◌, ap, subst, arith, inl, inr, Some, None, length-set, get_or-set_other}
 use Rattle.std.proofs.lemmas.Bool.Decides.{nat_tests}
 use Rattle.std.proofs.lemmas.Grind.{get_or-set_at}
+use Rattle.std.proofs.lemmas.Option.{none-some}
 use Rattle.term_tags.specs.Table.{layout_for, layout_at, row_layout}
 use Rattle.term_tags.specs.declared.layouts.Layout.{Layout}
 use Rattle.term_words.specs.Role.{NEXT, IsSingle}
@@ -55,7 +56,7 @@ turned-last : (xs : List ℕ) (o : ℕ) (ys : List ℕ) → turned (xs ++ o ∷ 
 turned-last [] o ys = refl
 turned-last (x ∷ xs) o ys = turned-last xs o (x ∷ ys)
 
-in-turned : (q : ℕ) (xs ys : List ℕ) → In q (turned xs ys) → In q xs ⊎ In q ys
+pub in-turned : (q : ℕ) (xs ys : List ℕ) → In q (turned xs ys) → In q xs ⊎ In q ys
 in-turned q [] ys i = inr i
 in-turned q (x ∷ xs) ys i = elim (in-turned q xs (x ∷ ys) i) [ inl h ↦ inl (inr h) | inr h ↦ elim h [ inl e ↦ inl (inl e) | inr j ↦ inr j ] ]
 
@@ -91,9 +92,6 @@ no-more [] = refl
 no-more (x ∷ xs) = ap (λ zs. x ∷ zs) (no-more xs)
 
 -- Tiles that are objects, by their first words.
-
-none-some : {T : Type 0} (l : T) → None ≡ Some l → ⊥
-none-some l e = grind (arith, e)
 
 layout-tag : (h : ℕ) (l : Layout) → layout_for h ≡ Some l → h % 4 ≡ 0
 layout-tag h l e = elim (true-or-false (h % 4 == 0)) [

@@ -2,6 +2,7 @@
 use Rattle.std.proofs.Common.{◌≡◌, ℕ, suc, ◌+◌, ◌-◌, ◌/◌, ◌%◌, ◌<◌, ◌≤◌, ◌⊎◌, ◌==◌, Bool, true, false, List, [], ◌∷◌, length, get_or, set, refl, sym, ◌∙◌, ap, subst, arith, inl, inr, Some, length-set, get_or-set_other, ℤ, pos, negsuc}
 use Rattle.std.proofs.lemmas.Bool.Decides.{nat_tests}
 use Rattle.std.proofs.lemmas.Grind.{get_or-set_at}
+use Rattle.std.proofs.lemmas.Bool.{true≢false, cases_lt}
 use Rattle.plain_term.specs.Measures.{flat, flat_of_all}
 use Rattle.plain_term.specs.Tree.{Tree, Trees, trees_len}
 use Rattle.plain_term.specs.Tree.Tree.{Int, Atom, Pid, Ref, Nil, Cons, Tuple, Map, Bin, Shared, Part, Fun}
@@ -10,10 +11,11 @@ use Rattle.term_tags.specs.Table.{layout_for}
 use Rattle.term_tags.specs.declared.layouts.Layout.{Layout}
 use Rattle.term_words.specs.Role.{COUNT}
 use Rattle.term_words.specs.Object.{IsInt, IsPointer, object_words}
-use Rattle.term_words.specs.Reach.{root, part, first_traced, parts_of}
-use Rattle.term_words.specs.Stands.{Stands, RowStands, AllStand}
-use Rattle.term_words.proofs.Placing.Apart.{head-no-header, header-there, no-header, words-cons, words-header}
-use Rattle.term_words.proofs.Reaching.Reached.{cons-traced, reached, scanned}
+use Rattle.term_words.specs.Reach.{first_traced, parts_of}
+use Rattle.term_words.specs.Stands.{Stands, RowStands}
+use Rattle.term_words.proofs.Placing.Apart.{head-no-header, header-there, words-cons, words-header}
+use Rattle.term_words.proofs.Reaching.Reached.{cons-traced, scanned}
+use Rattle.term_words.proofs.Reaching.Relocating.{header-first}
 use Rattle.term_words.proofs.Placing.Roles.{object-some}
 use Rattle.term_words.proofs.ByKind.Shapes.{told}
 use Rattle.term_words.proofs.Placing.Tiles.{has-layout}
@@ -25,12 +27,6 @@ use Rattle.term_copy.proofs.Items.{spread-in, spread-one}
 use Rattle.term_copy.proofs.Linked.{LinkFacts, linked}
 use Rattle.term_copy.proofs.Taking.{image-same, role-beside, top-limit}
 
-at-or-below : (q m : ℕ) → (q < m) ⊎ (m ≤ q)
-at-or-below q m = grind arith
-
-some-or-none : (n : ℕ) → (0 < n) ⊎ (n ≡ 0)
-some-or-none n = grind arith
-
 below-or-at : (q m : ℕ) → q < m + 1 → (q < m) ⊎ (q ≡ m)
 below-or-at q m h = grind (arith, h)
 
@@ -40,12 +36,13 @@ led-below p mark low xs q a past = record { item = a.item; among = a.among; inde
 
 -- Another copy may be known, and one may be forgotten.
 
-abbrev pub forget : (p : Task) (known : List Item) (x : Item) (mem : List ℕ) (mark at top owed : ℕ) → Copying p (x ∷ known) mem mark at top owed → Copying p known mem mark at top owed
-forget p known x mem mark at top owed g = record {
+abbrev known-as : (p : Task) (known now : List Item) (mem : List ℕ) (mark at top owed : ℕ) (g : Copying p known mem mark at top owed) → ((x : Item) → Among x now → Among x g.items)
+    → Copying p now mem mark at top owed
+known-as p known now mem mark at top owed g has = record {
   ready = g.ready;
   items = g.items;
   after = g.after;
-  has = λ y i. g.has y (inr i);
+  has = has;
   marked = g.marked;
   row = g.row;
   further = g.further;
@@ -61,26 +58,11 @@ forget p known x mem mark at top owed g = record {
   exact = g.exact;
 }
 
+abbrev pub forget : (p : Task) (known : List Item) (x : Item) (mem : List ℕ) (mark at top owed : ℕ) → Copying p (x ∷ known) mem mark at top owed → Copying p known mem mark at top owed
+forget p known x mem mark at top owed g = known-as p (x ∷ known) known mem mark at top owed g (λ y i. g.has y (inr i))
+
 pub know : (p : Task) (known : List Item) (x : Item) (mem : List ℕ) (mark at top owed : ℕ) (g : Copying p known mem mark at top owed) → Among x g.items → Copying p (x ∷ known) mem mark at top owed
-know p known x mem mark at top owed g i = record {
-  ready = g.ready;
-  items = g.items;
-  after = g.after;
-  has = λ y h. elim h [ inl e ↦ (let P : Item → Type 0 = λ z. Among z g.items in subst P (sym e) i) | inr j ↦ g.has y j ];
-  marked = g.marked;
-  row = g.row;
-  further = g.further;
-  among = g.among;
-  stands = g.stands;
-  copies = g.copies;
-  rises = g.rises;
-  beyond = g.beyond;
-  same_len = g.same_len;
-  others = g.others;
-  counts = g.counts;
-  used = g.used;
-  exact = g.exact;
-}
+know p known x mem mark at top owed g i = known-as p known (x ∷ known) mem mark at top owed g (λ y h. elim h [ inl e ↦ (let P : Item → Type 0 = λ z. Among z g.items in subst P (sym e) i) | inr j ↦ g.has y j ])
 
 -- A word of no object has no flat words, and an object that stays is not owed.
 
@@ -319,27 +301,8 @@ module _ (p : Task) (known : List Item) (mem : List ℕ) (mark at top : ℕ) (u 
 pub goes-by : (p : Task) (stay : ℕ → Bool) (w : ℕ) → IsStay p stay → IsPointer w × (stay (w / 4) ≡ false) → Goes p w
 goes-by p stay w same (y, out) = record { pointer = y; goes = sym (same (w / 4)) ∙ out }
 
-pub true-false : (b : Bool) → b ≡ true → b ≡ false → ⊥
-true-false true e f = grind (arith, f)
-true-false false e f = grind (arith, e)
-
 pub goes-not : (p : Task) (stay : ℕ → Bool) (w : ℕ) → IsStay p stay → (IsPointer w → stay (w / 4) ≡ true) → Goes p w → ⊥
-goes-not p stay w same stays g = true-false (p.stay (w / 4)) (sym (same (w / 4)) ∙ stays g.pointer) g.goes
-
--- The header of an object is not traced.
-pub header-first : (c : ℕ → ℕ → Bool) (shared : List (List ℕ)) (mem : List ℕ) (w : ℕ) (t : Tree) → Stands c shared mem w t → w % 4 ≡ 2 → 0 < first_traced mem w
-unfolding AllStand
-header-first c shared mem w t s tag =
-    let which : (0 < first_traced mem w) ⊎ (first_traced mem w ≡ 0) = some-or-none (first_traced mem w) in
-    elim which [
-      | inl some ↦ some
-      | inr none ↦ (let (u, there) = reached c shared mem (w ∷ []) (t ▹ end) (s, tt) (get_or mem (w / 4 + 0) 0)
-          (part w 0 (get_or mem (w / 4 + 0) 0) (root 0 w (omega arith) refl) (inr tag) (omega arith) (object-some mem w) refl) in
-          let header : get_or mem (w / 4) 0 % 4 ≡ 0 = header-there t w (get_or mem (w / 4) 0) (told c shared mem w t s) tag in
-          let same : w / 4 ≡ w / 4 + 0 = omega arith in
-          let P : ℕ → Type 0 = λ q. get_or mem q 0 % 4 ≡ 0 in
-          absurd (no-header u (get_or mem (w / 4 + 0) 0) (get_or mem (get_or mem (w / 4 + 0) 0 / 4) 0) (told c shared mem (get_or mem (w / 4 + 0) 0) u there) (subst P same header)))
-    ]
+goes-not p stay w same stays g = true≢false (sym (stays g.pointer) ∙ same (w / 4) ∙ g.goes)
 
 -- From which place up to which one the words of the object at a place are traced, by its first word.
 pub record Traced (word at from to : ℕ) : Type 0 where
@@ -428,14 +391,14 @@ module _ (p : Task) (known : List Item) (mem : List ℕ) (at top : ℕ) (g : Cop
       plain = c.plain;
       next = c.next;
       waits = λ j q from below e past. c.waits j q from below e (omega (arith, past));
-      done = λ j q from below e past. elim (at-or-below q at) [
+      done = λ j q from below e past. elim (cases_lt q at) [
         | inl low ↦ c.done j q from below e low
         | inr high ↦ absurd (mine y j q i from below e high past)
       ];
     }
 
     led-open : (q : ℕ) → IsLed p (at + first_traced p.start o.x.word) g.items q → IsLed p at g.items q
-    led-open q a = elim (at-or-below q at) [
+    led-open q a = elim (cases_lt q at) [
       | inl low ↦ led-below p (at + first_traced p.start o.x.word) at g.items q a low
       | inr high ↦ absurd (mine a.item a.index q a.among a.traced a.below a.place high a.past)
     ]

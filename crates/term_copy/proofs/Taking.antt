@@ -1,17 +1,16 @@
 -- An object is copied: what stands before, what the copy asks, and what stands after it.
-use Rattle.std.proofs.Common.{◌≡◌, ℕ, ◌+◌, ◌/◌, ◌%◌, ◌^◌, ◌<◌, ◌≤◌, ◌⊎◌, ◌==◌, ◌&&◌, Bool, true, false, if◌then◌else◌, List, [], ◌∷◌, ◌++◌, length, get_or, refl, sym, ◌∙◌, ap, subst, arith, inl, inr}
+use Rattle.std.proofs.Common.{◌≡◌, ℕ, ◌+◌, ◌/◌, ◌%◌, ◌^◌, ◌<◌, ◌≤◌, ◌⊎◌, ◌==◌, ◌&&◌, true, false, if◌then◌else◌, List, [], ◌∷◌, ◌++◌, length, get_or, refl, sym, ◌∙◌, ap, subst, arith, inl, inr}
 use Rattle.plain_term.specs.Measures.{flat, flat_of_all}
 use Rattle.plain_term.specs.Tree.{Tree}
 use Rattle.word_mem.specs.declared.ranges.Room.{Room}
-use Rattle.term_words.specs.Role.{always, COUNT, FIRST, NAMES, IsContent, OfObject}
+use Rattle.term_words.specs.Role.{COUNT, FIRST, NAMES, IsContent, OfObject}
 use Rattle.term_words.specs.Object.{IsPointer, IsRecord, object_words}
 use Rattle.term_words.specs.Reach.{parts_of}
 use Rattle.term_words.specs.Stands.{Stands}
 use Rattle.term_words.specs.Kept.{Kept}
-use Rattle.term_words.proofs.Placing.Apart.{words-cons, words-header}
 use Rattle.term_words.proofs.Reaching.Carrying.{words-same}
-use Rattle.term_words.proofs.Framing.Frames.{frame, kept-carried}
-use Rattle.term_words.proofs.ByKind.Inside.{cons-inside, boxed-inside}
+use Rattle.term_words.proofs.Framing.Frames.{kept-carried}
+use Rattle.term_words.proofs.ByKind.Inside.{object-inside}
 use Rattle.term_words.proofs.Totals.Members.{true-or-false}
 use Rattle.term_words.proofs.Reaching.Reached.{scanned}
 use Rattle.term_words.proofs.Placing.Roles.{first-role, object-role, object-record-apart, object-some}
@@ -24,15 +23,6 @@ use Rattle.term_copy.specs.Copied.{Task}
 use Rattle.term_copy.specs.Going.{Advances, Among, CanTake, Copying, Goes, HasImage, HasRoom, IsBeside, IsCopy, IsImage, IsLed, IsOf, Item, Took}
 use Rattle.term_copy.proofs.Items.{among-last, among-left, among-split, left-last, spread-in, spread-last, spread-order, tally-few, tally-last}
 use Rattle.term_copy.proofs.Linked.{LinkFacts, linked, next-linked}
-
--- The object that a standing pointer leads to lies in the memory.
-pub object-within : (c : ℕ → ℕ → Bool) (shared : List (List ℕ)) (mem : List ℕ) (w : ℕ) (t : Tree) → Stands c shared mem w t → IsPointer w → w / 4 + object_words mem w ≤ length mem
-object-within c shared mem w t s y =
-    let there : Stands always shared mem w t = (frame c always mem mem (record { longer = omega arith; weaker = λ a k h. refl; same = λ a k past h. refl })).each shared w t s in
-    elim y [
-      | inl tag ↦ omega (arith, words-cons mem w tag, cons-inside mem w (record { shared = shared; tree = t; standing = there }) tag)
-      | inr tag ↦ omega (arith, words-header mem w tag, boxed-inside mem w (record { shared = shared; tree = t; standing = there }) tag)
-    ]
 
 -- An image by some copies is one by more.
 pub image-more : (p : Task) (xs ys : List Item) (w x : ℕ) → ((z : Item) → Among z xs → Among z ys) → IsImage p xs w x → IsImage p ys w x
@@ -130,7 +120,7 @@ module _ (p : Task) (known : List Item) (mem : List ℕ) (mark at top owed : ℕ
         let fits : top + object_words p.start w ≤ p.limit = omega (arith, size-flat, part, top-limit) in
         record {
           pointer = y;
-          within = omega (arith, words, object-within p.test p.shared p.start w u s y, g.same_len);
+          within = omega (arith, words, object-inside p.test p.shared p.start w u s y, g.same_len);
           fits = omega (arith, words, fits, has.same);
           inside = omega (arith, has.same, has.inside, g.same_len);
           apart = (let P : ℕ → Type 0 = λ n. (w / 4 + n ≤ top) ⊎ (top + n ≤ w / 4) in subst P (sym words) (clear-of fits));

@@ -1,6 +1,7 @@
 -- When all words were gone through, the copy is whole.
 use Rattle.std.proofs.Common.{◌≡◌, ℕ, zero, suc, ◌+◌, ◌-◌, ◌*◌, ◌/◌, ◌%◌, ◌<◌, ◌≤◌, ◌⊎◌, ◌==◌, ◌||◌, ◌&&◌, if◌then◌else◌, nat_le, nat_lt, Bool, true, false, List, [], ◌∷◌, ◌++◌, length, get_or, refl, sym, ◌∙◌, ap, subst, arith, inl, inr}
 use Rattle.std.proofs.lemmas.Bool.Decides.{nat_tests}
+use Rattle.std.proofs.lemmas.Bool.{or_left, or_right, or_cases, and_from, and_parts}
 use Rattle.plain_term.specs.Measures.{flat, flat_of_all}
 use Rattle.plain_term.specs.Tree.{Tree, Trees, trees_len}
 use Rattle.plain_term.specs.Tree.Trees.{end, ◌▹◌}
@@ -17,8 +18,9 @@ use Rattle.term_words.specs.Tiled.{Tiled, tile_words}
 use Rattle.term_words.proofs.Placing.Apart.{words-cons, words-header}
 use Rattle.term_words.proofs.Reaching.Carrying.{words-same, first-same, traced-same}
 use Rattle.term_words.proofs.Framing.Frames.{frame, kept-carried}
-use Rattle.term_words.proofs.Totals.Members.{true-or-false}
+use Rattle.term_words.proofs.Totals.Members.{true-or-false, in-both}
 use Rattle.term_words.proofs.Reaching.Reached.{cons-traced, scanned}
+use Rattle.term_words.proofs.Reaching.Relocating.{header-first}
 use Rattle.term_words.proofs.Placing.Roles.{first-role, object-some}
 use Rattle.term_words.proofs.ByKind.Shapes.{row-at}
 use Rattle.term_words.proofs.Placing.Single.{single}
@@ -27,6 +29,7 @@ use Rattle.shared_rec.specs.Record.{count_in}
 use Rattle.shared_rec.proofs.Records.{bin-stays, fun-stays, record-same}
 use Rattle.off_heap_list.specs.Links.{named, names_it, naming, next_in, IsLink, Links}
 use Rattle.off_heap_list.proofs.Chaining.Chained.{leads-stays, link-stays, naming-stays}
+use Rattle.off_heap_list.proofs.Chaining.Exact.{naming-both}
 use Rattle.term_copy.specs.Row.{is_link, is_link_header, links_in}
 use Rattle.term_copy.specs.Copied.{CopiesTree, IsClosed, PointsInto, Task}
 use Rattle.term_copy.specs.Going.{Among, Begun, Copying, Goes, IsCopy, IsImage, IsLed, IsOf, Item, Spread, left_of, tally}
@@ -34,29 +37,6 @@ use Rattle.term_copy.proofs.Items.{spread-in, spread-none, spread-one, spread-or
 use Rattle.term_copy.proofs.Linked.{LinkFacts, link-told, linked, next-linked}
 use Rattle.term_copy.proofs.Alike.{IsAlike, alike}
 use Rattle.term_copy.proofs.Taking.{content, image-more, kept-start, role-beside, top-limit}
-use Rattle.term_copy.proofs.Stepping.{header-first}
-
--- Tests that are joined.
-
-or-left : (a b : Bool) → a ≡ true → (a || b) ≡ true
-or-left true b e = refl
-or-left false b e = absurd (grind (arith, e))
-
-or-right : (a b : Bool) → b ≡ true → (a || b) ≡ true
-or-right true b e = refl
-or-right false b e = e
-
-pub or-told : (a b : Bool) → (a || b) ≡ true → (a ≡ true) ⊎ (b ≡ true)
-or-told true b e = inl refl
-or-told false b e = inr e
-
-and-both : (a b : Bool) → a ≡ true → b ≡ true → (a && b) ≡ true
-and-both true b e f = f
-and-both false b e f = absurd (grind (arith, e))
-
-and-told : (a b : Bool) → (a && b) ≡ true → (a ≡ true) × (b ≡ true)
-and-told true b e = (refl, e)
-and-told false b e = absurd (grind (arith, e))
 
 -- The roles of the words of copies: those of the words that they were copied from.
 
@@ -98,10 +78,10 @@ record HasRole (c : ℕ → ℕ → Bool) (old : List ℕ) (xs : List Item) (a k
 role-told : (c : ℕ → ℕ → Bool) (old : List ℕ) (xs : List Item) (a k : ℕ) → role_in c old xs a k ≡ true → HasRole c old xs a k
 unfolding role_in
 role-told c old [] a k e = absurd (grind (arith, e))
-role-told c old (x ∷ xs) a k e = elim (or-told (within_item old x a && (is_object_role k && c (x.word / 4 + (a - x.place)) k)) (role_in c old xs a k) e) [
+role-told c old (x ∷ xs) a k e = elim (or_cases (within_item old x a && (is_object_role k && c (x.word / 4 + (a - x.place)) k)) (role_in c old xs a k) e) [
   | inl here ↦
-      let (w, r) = and-told (within_item old x a) (is_object_role k && c (x.word / 4 + (a - x.place)) k) here in
-      let (o, t) = and-told (is_object_role k) (c (x.word / 4 + (a - x.place)) k) r in
+      let (w, r) = and_parts (within_item old x a) (is_object_role k && c (x.word / 4 + (a - x.place)) k) here in
+      let (o, t) = and_parts (is_object_role k) (c (x.word / 4 + (a - x.place)) k) r in
       let (low, high) = within-told old x a w in
       record { x = x; among = inl refl; low = low; high = high; of = object-role-told k o; role = t }
   | inr there ↦
@@ -115,11 +95,11 @@ unfolding role_in
 role-given c old [] a k x i low high of t = absurd i
 role-given c old (y ∷ ys) a k x (inl e) low high of t =
     let P : Item → Type 0 = λ z. (within_item old z a && (is_object_role k && c (z.word / 4 + (a - z.place)) k)) ≡ true in
-    or-left (within_item old y a && (is_object_role k && c (y.word / 4 + (a - y.place)) k)) (role_in c old ys a k)
-    (subst P e (and-both (within_item old x a) (is_object_role k && c (x.word / 4 + (a - x.place)) k) (within-is old x a low high)
-    (and-both (is_object_role k) (c (x.word / 4 + (a - x.place)) k) (object-role-is k of) t)))
+    or_left (within_item old y a && (is_object_role k && c (y.word / 4 + (a - y.place)) k)) (role_in c old ys a k)
+    (subst P e (and_from (within_item old x a) (is_object_role k && c (x.word / 4 + (a - x.place)) k) (within-is old x a low high)
+    (and_from (is_object_role k) (c (x.word / 4 + (a - x.place)) k) (object-role-is k of) t)))
 role-given c old (y ∷ ys) a k x (inr i) low high of t =
-    or-right (within_item old y a && (is_object_role k && c (y.word / 4 + (a - y.place)) k)) (role_in c old ys a k) (role-given c old ys a k x i low high of t)
+    or_right (within_item old y a && (is_object_role k && c (y.word / 4 + (a - y.place)) k)) (role_in c old ys a k) (role-given c old ys a k x i low high of t)
 
 -- The pointer to a copy.
 abbrev pointer_to : Item → ℕ
@@ -189,16 +169,6 @@ places-once old from (x ∷ xs) to (place, rest) =
       | inr m ↦ rw m h
     ]
 
--- Words of two lists of objects.
-naming-both : (mem : List ℕ) (v : ℕ) (xs ys : List ℕ) → naming mem v (xs ++ ys) ≡ naming mem v xs + naming mem v ys
-naming-both mem v [] ys = omega arith
-naming-both mem v (x ∷ xs) ys = omega (arith, naming-both mem v xs ys)
-
-in-either : (q : ℕ) (xs ys : List ℕ) → In q (xs ++ ys) → In q xs ⊎ In q ys
-in-either q [] ys i = inr i
-in-either q (x ∷ xs) ys (inl e) = inl (inl e)
-in-either q (x ∷ xs) ys (inr i) = elim (in-either q xs ys i) [ inl h ↦ inl (inr h) | inr h ↦ inr h ]
-
 module _ (p : Task) (known : List Item) (mem : List ℕ) (top : ℕ) (g : Copying p known mem top top top 0) (inside : p.limit ≤ length p.start) where
   -- The test of the copy.
   test : ℕ → ℕ → Bool
@@ -206,18 +176,18 @@ module _ (p : Task) (known : List Item) (mem : List ℕ) (top : ℕ) (g : Copyin
 
   test-more : (a k : ℕ) → p.test a k ≡ true → test a k ≡ true
   unfolding test
-  test-more a k h = or-left (p.test a k) (role_in p.test p.start g.items a k) h
+  test-more a k h = or_left (p.test a k) (role_in p.test p.start g.items a k) h
 
   test-told : (a k : ℕ) → test a k ≡ true → (p.test a k ≡ true) ⊎ HasRole p.test p.start g.items a k
   unfolding test
-  test-told a k h = elim (or-told (p.test a k) (role_in p.test p.start g.items a k) h) [ inl t ↦ inl t | inr t ↦ inr (role-told p.test p.start g.items a k t) ]
+  test-told a k h = elim (or_cases (p.test a k) (role_in p.test p.start g.items a k) h) [ inl t ↦ inl t | inr t ↦ inr (role-told p.test p.start g.items a k t) ]
 
   test-copy : (x : Item) (j q k : ℕ) → Among x g.items → j < object_words p.start x.word → q ≡ x.place + j → OfObject k → p.test (x.word / 4 + j) k ≡ true → test q k ≡ true
   unfolding test
   test-copy x j q k i below e of t =
       let there : j ≡ q - x.place = omega (arith, e) in
       let P : ℕ → Type 0 = λ y. p.test (x.word / 4 + y) k ≡ true in
-      or-right (p.test q k) (role_in p.test p.start g.items q k) (role-given p.test p.start g.items q k x i (omega (arith, e)) (omega (arith, e, below)) of (subst P there t))
+      or_right (p.test q k) (role_in p.test p.start g.items q k) (role-given p.test p.start g.items q k x i (omega (arith, e)) (omega (arith, e, below)) of (subst P there t))
 
   role-inside : (a k : ℕ) → HasRole p.test p.start g.items a k → (p.top ≤ a) × (a < top)
   role-inside a k h = let r = spread-in p.start p.top g.items top h.x g.row h.among in (omega (arith, r, h.low), omega (arith, r, h.high))
@@ -515,7 +485,7 @@ module _ (p : Task) (known : List Item) (mem : List ℕ) (top : ℕ) (g : Copyin
         (λ h. let e : NEXT ≡ COUNT = g.ready.single.one (q + 2) NEXT COUNT (l.each q i).next h in omega (arith, e))) l.chain;
     once = l.once;
     each = λ q i. link-stays p.test test p.start mem q kept-new (l.each q i);
-    beside = λ q i. elim (in-either q links-now further i) [ inl h ↦ each-now some q h | inr h ↦ link-stays p.test test p.start mem q kept-new (l.beside q h) ];
+    beside = λ q i. elim (in-both q links-now further i) [ inl h ↦ each-now some q h | inr h ↦ link-stays p.test test p.start mem q kept-new (l.beside q h) ];
     counts = λ v n r.
         let was : IsRecord p.test p.start v n = records-now v n r in
         omega (

@@ -1,5 +1,6 @@
--- What keeps trees: the memory changes elsewhere, in a free place or where nothing stands; a list of words grows; shared binaries come; a
+-- What keeps records and trees: the memory changes elsewhere, in a free place or where nothing stands; a list of words grows; shared binaries come; a
 -- test of roles is weaker, or stronger where all words pass it.
+pub mod Records
 pub mod Frames
 pub mod Rooms
 pub mod Lists

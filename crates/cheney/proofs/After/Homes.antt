@@ -10,6 +10,7 @@ use Rattle.term_words.proofs.Reaching.Carrying.{traced-role}
 use Rattle.term_words.proofs.Reaching.Reached.{reached}
 use Rattle.term_words.proofs.Reaching.Relocating.{moved-reach, reach-moved, settled, words-kept}
 use Rattle.term_words.proofs.Placing.Roles.{record-role}
+use Rattle.term_words.proofs.ByKind.Inside.{record-inside}
 use Rattle.cheney.specs.Plan.{Leaves, Plan, Ready, Reached, first, size}
 use Rattle.cheney.specs.Moved.{IsImage, forward, moved}
 use Rattle.cheney.specs.Collected.{AreImages, Composes}
@@ -75,10 +76,6 @@ content-role c mem v n j (inr (name, arity, o, words)) below other =
       | inr (inl e) ↦ (6, (omega arith, (let P : ℕ → Type 0 = λ x. c x 6 ≡ true in let s : v + 1 ≡ v + j = omega arith in subst P s o.second)))
       | inr (inr e) ↦ (6, (omega arith, (let P : ℕ → Type 0 = λ x. c x 6 ≡ true in let s : v + 3 ≡ v + j = omega arith in subst P s o.fourth)))
     ]
-
-record-inside : (c : ℕ → ℕ → Bool) (mem : List ℕ) (v n : ℕ) → IsRecord c mem v n → v + n ≤ length mem
-record-inside c mem v n (inl (serial, bytes, o, words)) = omega (arith, o.within, words)
-record-inside c mem v n (inr (name, arity, o, words)) = omega (arith, o.within, words)
 
 module _ (p : Plan) (y : Ready p) (m : List ℕ) (d : ℕ → ℕ → Bool) (z : Settled p m d) where
   -- A word that names a record is not traced.

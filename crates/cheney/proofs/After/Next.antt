@@ -1,6 +1,7 @@
 -- The roles of the new memory's words, and a collection that begins where one has ended.
 use Rattle.std.proofs.Common.{◌≡◌, ℕ, ◌+◌, ◌-◌, ◌*◌, ◌/◌, ◌%◌, ◌<◌, ◌≤◌, ◌⊎◌, ◌==◌, Bool, true, false, List, [], ◌∷◌, ◌++◌, length, get_or, refl, sym, ◌∙◌, ap, subst, arith, inl, inr, if◌then◌else◌, nat_le, nat_lt, ◌&&◌, ◌||◌}
 use Rattle.std.proofs.lemmas.Bool.Decides.{nat_tests}
+use Rattle.std.proofs.lemmas.Bool.{and_parts}
 use Rattle.plain_term.specs.Tree.{Trees}
 use Rattle.term_words.specs.Object.{IsPointer, object_words}
 use Rattle.term_words.specs.Reach.{Reach, first_traced}
@@ -24,10 +25,6 @@ use Rattle.cheney.proofs.After.Counts.{in-row}
 use Rattle.cheney.proofs.After.Ends.{Covers, covers, old_place, row-total, fresh, shape-image}
 use Rattle.cheney.proofs.Before.Ground.{ground}
 use Rattle.cheney.proofs.Rooted.Rows.{in-joined}
-
-both-true : (a b : Bool) → (a && b) ≡ true → (a ≡ true) × (b ≡ true)
-both-true true b h = (refl, h)
-both-true false b h = absurd (cc)
 
 first-or : (a b c : Bool) → b ≡ true → (a || (b || c)) ≡ true
 first-or true b c h = refl
@@ -133,7 +130,7 @@ module _ (p : Plan) (y : Ready p) (m : List ℕ) (top : Bool → ℕ) (o : Colle
     role-comes : (a k : ℕ) → new_test p top (λ c. (o.filled c).each) s a k ≡ true → IsCarried p m a k ⊎ ((p.test a k ≡ true) × (s a k ≡ true))
     unfolding new_test origin
     role-comes a k h =
-        let (there, allowed) = both-true (p.test (origin p top (λ c. (o.filled c).each) a) k) (in_use p top true a || (in_use p top false a || s a k)) h in
+        let (there, allowed) = and_parts (p.test (origin p top (λ c. (o.filled c).each) a) k) (in_use p top true a || (in_use p top false a || s a k)) h in
         elim (true-or-false (in_use p top true a)) [
           | inl t ↦ inl (from-copy a k true (use-is p top true a t).0 (use-is p top true a t).1 there)
           | inr f ↦ elim (true-or-false (in_use p top false a)) [
@@ -148,8 +145,8 @@ module _ (p : Plan) (y : Ready p) (m : List ℕ) (top : Bool → ℕ) (o : Colle
     test = new_test p top (λ c. (o.filled c).each) s;
     single = record {
       one = λ a j k h i.
-          y.single.one (origin p top (λ c. (o.filled c).each) a) j k (both-true (p.test (origin p top (λ c. (o.filled c).each) a) j) (in_use p top true a || (in_use p top false a || s a j)) h).0
-          (both-true (p.test (origin p top (λ c. (o.filled c).each) a) k) (in_use p top true a || (in_use p top false a || s a k)) i).0;
+          y.single.one (origin p top (λ c. (o.filled c).each) a) j k (and_parts (p.test (origin p top (λ c. (o.filled c).each) a) j) (in_use p top true a || (in_use p top false a || s a j)) h).0
+          (and_parts (p.test (origin p top (λ c. (o.filled c).each) a) k) (in_use p top true a || (in_use p top false a || s a k)) i).0;
     };
     follows = record {
       moves = λ v j q k r l less e h. moved-role s v j q k r l less e h;

@@ -1,20 +1,16 @@
 -- Tags, sizes and forwarding words.
 use Rattle.std.proofs.Common.{◌≡◌, ℕ, ◌+◌, ◌/◌, ◌%◌, ◌<◌, ◌≤◌, ◌⊎◌, Bool, true, false, List, get_or, refl, sym, ◌∙◌, ap, subst, arith, inl, inr, if◌then◌else◌, ◌==◌}
 use Rattle.std.proofs.lemmas.Bool.Decides.{nat_tests}
+use Rattle.std.proofs.lemmas.Bool.{true≢false, cases_Bool}
 use Rattle.term_words.specs.Object.{IsPointer, object_words}
 use Rattle.term_words.specs.Reach.{first_of, part}
 use Rattle.term_tags.specs.Table.{layout_for}
-use Rattle.term_words.proofs.Totals.Members.{one-or-not, pointer-or-not, true-or-false}
+use Rattle.term_words.proofs.Totals.Members.{one-or-not, pointer-or-not}
 use Rattle.cheney.specs.Plan.{Plan, Reached, Leaves, IsIn, size, first}
 use Rattle.cheney.specs.Moved.{moved, forward, Shows}
 
-tested : Bool → Type 0
-tested true = Unit {0}
-tested false = ⊥
-
 pub not-both : (b : Bool) → b ≡ true → b ≡ false → ⊥
-unfolding tested
-not-both b t f = subst tested (sym t ∙ f) tt
+not-both b t f = true≢false (sym t ∙ f)
 
 pub same-room : (b c : Bool) → (b ≡ c) ⊎ (b ≡ c → ⊥)
 same-room true true = inl refl
@@ -26,7 +22,7 @@ pub leaves-or-not : (p : Plan) (w : ℕ) → Leaves p w ⊎ (Leaves p w → ⊥)
 leaves-or-not p w =
     elim (pointer-or-not w) [
       | inr n ↦ inr (λ l. n l.pointer)
-      | inl y ↦ elim (true-or-false (p.stay (w / 4))) [ inr f ↦ inl (record { pointer = y; leaves = f }) | inl t ↦ inr (λ l. not-both (p.stay (w / 4)) t l.leaves) ]
+      | inl y ↦ elim (cases_Bool (p.stay (w / 4))) [ inr f ↦ inl (record { pointer = y; leaves = f }) | inl t ↦ inr (λ l. not-both (p.stay (w / 4)) t l.leaves) ]
     ]
 
 pub moved-cons : (m : List ℕ) (w : ℕ) → w % 4 ≡ 1 → moved m w ≡ (get_or m (w / 4) 0 == 0)

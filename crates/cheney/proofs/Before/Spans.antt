@@ -2,8 +2,11 @@
 use Rattle.std.proofs.Common.{◌≡◌, ℕ, zero, suc, ◌+◌, ◌-◌, ◌<◌, ◌≤◌, ◌⊎◌, Bool, true, false, nat_lt, ◌||◌, List, [], ◌∷◌, ◌++◌, length, get_or, take, refl, sym, ◌∙◌, ap, subst, arith, inl, inr}
 use Rattle.std.proofs.lemmas.Bool.Decides.{nat_tests}
 use Rattle.std.proofs.lemmas.List.{take_more, take_all}
+use Rattle.std.proofs.lemmas.Bool.{or_left, or_right, or_from, cases_Bool}
+use Rattle.std.proofs.Math.Bool.{or-false, or_assoc}
 use Rattle.word_mem.specs.declared.ranges.Span.{Span}
 use Rattle.cheney.specs.Spans.{in_span, in_spans, start_at, end_at, IsOrdered}
+use Rattle.cheney.proofs.Before.Basics.{not-both}
 
 in-both : (s : Span) (q : ℕ) → s.start ≤ q → q < s.end → in_span s q ≡ true
 in-both s q low high = grind (arith, nat_tests)
@@ -12,46 +15,20 @@ out-of : (s : Span) (q : ℕ) → (q < s.start) ⊎ (s.end ≤ q) → in_span s 
 out-of s q (inl h) = grind (arith, nat_tests)
 out-of s q (inr h) = grind (arith, nat_tests)
 
-or-true : (a b : Bool) → b ≡ true → (a || b) ≡ true
-or-true true b e = refl
-or-true false b e = e
-
-true-or : (a b : Bool) → a ≡ true → (a || b) ≡ true
-true-or a b e = rw e refl
-
-false-or : (a b : Bool) → a ≡ false → b ≡ false → (a || b) ≡ false
-false-or a b e f = rw (e, f) refl
-
 -- The place lies in span i.
 pub one-holds : (xs : List Span) (q i : ℕ) → i < length xs → start_at xs i ≤ q → q < end_at xs i → in_spans xs q ≡ true
 one-holds [] q i less low high = absurd (omega arith)
-one-holds (x ∷ xs) q zero less low high = true-or (in_span x q) (in_spans xs q) (in-both x q low high)
-one-holds (x ∷ xs) q (suc i) less low high = or-true (in_span x q) (in_spans xs q) (one-holds xs q i (omega arith) low high)
+one-holds (x ∷ xs) q zero less low high = or_left (in_span x q) (in_spans xs q) (in-both x q low high)
+one-holds (x ∷ xs) q (suc i) less low high = or_right (in_span x q) (in_spans xs q) (one-holds xs q i (omega arith) low high)
 
 -- The place lies in no span.
 pub none-holds : (xs : List Span) (q : ℕ) → ((i : ℕ) → i < length xs → (q < start_at xs i) ⊎ (end_at xs i ≤ q)) → in_spans xs q ≡ false
 none-holds [] q each = refl
-none-holds (x ∷ xs) q each = false-or (in_span x q) (in_spans xs q) (out-of x q (each 0 (omega arith))) (none-holds xs q (λ i less. each (suc i) (omega arith)))
-
-or-none : (a : Bool) → (a || false) ≡ a
-or-none true = refl
-or-none false = refl
-
-or-both : (a b c : Bool) → (a || (b || c)) ≡ ((a || b) || c)
-or-both true b c = refl
-or-both false b c = refl
+none-holds (x ∷ xs) q each = or_from (in_span x q) (in_spans xs q) (out-of x q (each 0 (omega arith))) (none-holds xs q (λ i less. each (suc i) (omega arith)))
 
 pub spans-more : (xs : List Span) (s : Span) (q : ℕ) → in_spans (xs ++ s ∷ []) q ≡ (in_spans xs q || in_span s q)
-spans-more [] s q = or-none (in_span s q)
-spans-more (x ∷ xs) s q = ap (λ b. in_span x q || b) (spans-more xs s q) ∙ or-both (in_span x q) (in_spans xs q) (in_span s q)
-
-not-both2 : (b : Bool) → b ≡ true → b ≡ false → ⊥
-not-both2 true t f = absurd (cc)
-not-both2 false t f = absurd (cc)
-
-true-cases : (b : Bool) → (b ≡ true) ⊎ (b ≡ false)
-true-cases true = inl refl
-true-cases false = inr refl
+spans-more [] s q = or-false (in_span s q)
+spans-more (x ∷ xs) s q = ap (λ b. in_span x q || b) (spans-more xs s q) ∙ sym (or_assoc (in_span x q) (in_spans xs q) (in_span s q))
 
 -- A span whose end was raised to that of the last one holds no new place.
 pub put-places : (xs new : List Span) (s : Span) (e : ℕ) → new ≡ xs ++ record { start = s.start; end = e } ∷ [] → s.end ≤ e → ((e ≡ s.end) ⊎ ((0 < length xs) × (e ≡ end_at xs (length xs - 1))))
@@ -59,8 +36,8 @@ pub put-places : (xs new : List Span) (s : Span) (e : ℕ) → new ≡ xs ++ rec
 put-places xs new s e n least (inl same) after q =
     ap (λ z. in_spans z q) n ∙ spans-more xs (record { start = s.start; end = e }) q ∙ ap (λ z. in_spans xs q || in_span (record { start = s.start; end = z }) q) same
 put-places xs new s e n least (inr (some, last)) after q =
-    ap (λ z. in_spans z q) n ∙ spans-more xs (record { start = s.start; end = e }) q ∙ elim (true-cases (in_spans xs q)) [
-      | inl t ↦ true-or (in_spans xs q) (in_span (record { start = s.start; end = e }) q) t ∙ sym (true-or (in_spans xs q) (in_span s q) t)
+    ap (λ z. in_spans z q) n ∙ spans-more xs (record { start = s.start; end = e }) q ∙ elim (cases_Bool (in_spans xs q)) [
+      | inl t ↦ or_left (in_spans xs q) (in_span (record { start = s.start; end = e }) q) t ∙ sym (or_left (in_spans xs q) (in_span s q) t)
       | inr f ↦ ap (λ z. in_spans xs q || z) (
           let cut : (q < s.start) ⊎ ((e ≤ q) ⊎ ((s.start ≤ q) × (q < e))) = grind arith in
           elim cut [
@@ -68,7 +45,7 @@ put-places xs new s e n least (inr (some, last)) after q =
             | inr (inl a) ↦ out-of (record { start = s.start; end = e }) q (inr a) ∙ sym (out-of s q (inr (omega (arith, a, least))))
             | inr (inr a) ↦ absurd (let within : start_at xs (length xs - 1) ≤ s.start = after (length xs - 1) (omega (arith, some)) in
                 let t : in_spans xs q ≡ true = one-holds xs q (length xs - 1) (omega (arith, some)) (omega (arith, within, a)) (omega (arith, last, a)) in
-                not-both2 (in_spans xs q) t f)
+                not-both (in_spans xs q) t f)
           ])
     ]
 

@@ -2,7 +2,7 @@
 use Rattle.std.proofs.Common.{◌≡◌, ℕ, zero, suc, ◌+◌, ◌<◌, ◌≤◌, ◌⊎◌, Bool, true, List, [], ◌∷◌, ◌++◌, length, get_or, set, refl, sym, ◌∙◌, ap, subst, arith, inl, inr}
 use Rattle.std.proofs.lemmas.List.{length-set, get_or-set_other, get_or-set_same}
 use Rattle.term_words.specs.Reach.{Reach, root}
-use Rattle.term_words.proofs.Totals.Members.{in-left, in-right, one-or-not}
+use Rattle.term_words.proofs.Totals.Members.{in-left, in-right, one-or-not, in-at}
 use Rattle.cheney.specs.declared.moving.Moving.{Moving}
 use Rattle.term_words.specs.Counted.{In}
 use Rattle.cheney.specs.Plan.{Leaves, Plan, Ready, Reached}
@@ -19,11 +19,6 @@ use Rattle.cheney.proofs.Before.Ground.{ground}
 use Rattle.cheney.proofs.Stepping.Steps.{later-same, later-then}
 
 -- Words of lists.
-
-pub in-at : (ws : List ℕ) (j : ℕ) → j < length ws → In (get_or ws j 0) ws
-in-at [] j less = absurd (omega arith)
-in-at (w ∷ ws) zero less = inl refl
-in-at (w ∷ ws) (suc j) less = inr (in-at ws j (omega arith))
 
 pub in-joined : (w : ℕ) (vs ws : List ℕ) → In w vs ⊎ In w ws → In w (vs ++ ws)
 in-joined w vs ws (inl i) = in-left w vs ws i

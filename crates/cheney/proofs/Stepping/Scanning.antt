@@ -5,6 +5,7 @@ use Rattle.std.proofs.lemmas.Bool.{eqb-true}
 use Rattle.std.proofs.lemmas.Bool.Decides.{nat_tests}
 use Rattle.std.proofs.lemmas.List.{get_or-set_other, set-get_or}
 use Rattle.term_words.specs.Object.{IsPointer, object_words}
+use Rattle.term_words.proofs.Placing.Apart.{words-cons}
 use Rattle.term_tags.specs.Table.{layout_for, row_layout}
 use Rattle.term_tags.specs.declared.layouts.Layout.{Layout}
 use Rattle.term_tags.specs.declared.layouts.TheConstants.{TUPLE, POS_BIG, NEG_BIG, REF, FUN, HOLDER, HEAP_BIN, SUB_BIN, MAP}
@@ -17,7 +18,7 @@ use Rattle.cheney.specs.Rooms.{top_of, Runs}
 use Rattle.cheney.specs.Calls.{CanOpen, CanStep, Copied, Evacuated, GoesOnWithin, IsFresh, IsFreshCons, RunsOn, ScansWord, Shape, nowhere}
 use Rattle.cheney.proofs.Stepping.Facts.{copy-later}
 use Rattle.cheney.proofs.Before.Ground.{Ground, ground}
-use Rattle.cheney.proofs.Stepping.Steps.{Going, Opened, cons-words, evacuated, fresh-here, going-on, going-step, gone-through, later-grows, later-same, later-then, leaves, header-same, opened-there, raw-at, reached-there, step-part, stepped}
+use Rattle.cheney.proofs.Stepping.Steps.{Going, Opened, evacuated, fresh-here, going-on, going-step, gone-through, later-grows, later-same, later-then, leaves, header-same, opened-there, raw-at, reached-there, step-part, stepped}
 use Rattle.cheney.proofs.Stepping.Writing.{mark-twice, object-here, scanned-here}
 
 pub boxed-shape : (h from : ℕ) → h % 4 ≡ 0 → ((l : Layout) → layout_for h ≡ Some l → from ≡ l.first) → Shape h from (1 + h / 64)
@@ -56,7 +57,7 @@ module _ (mem mem2 mem3 : List ℕ) (mv mv2 : Moving) (b : Bool) (at w head tail
   copy-there =
       let P : ℕ → Type 0 = λ z. Copies mem mem2 w (top_of mv b) z x in
       let Q : Bool → Type 0 = λ z. Copies mem mem2 w (top_of mv z) (object_words mem w) x in
-      subst P (cons-words mem w f.tag) (subst Q here o.copies)
+      subst P (words-cons mem w f.tag) (subst Q here o.copies)
 
   new-there : x / 4 ≡ top_of mv b
   new-there = omega (arith, copy-there.word, f.tag)
@@ -83,7 +84,7 @@ module _ (mem mem2 mem3 : List ℕ) (mv mv2 : Moving) (b : Bool) (at w head tail
     no_header = no-head;
     below = (let P : Bool → Type 0 = λ z. top_of mv2 z ≡ top_of mv z + object_words mem w in
         let grown : top_of mv2 b ≡ top_of mv b + object_words mem w = subst P here o.grows.here in
-        omega (arith, grown, new-there, cons-words mem w f.tag));
+        omega (arith, grown, new-there, words-cons mem w f.tag));
   }
 
 pub same-bool : (a b : Bool) → beq a b ≡ true → a ≡ b

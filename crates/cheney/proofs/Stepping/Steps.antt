@@ -2,6 +2,7 @@
 use Rattle.std.proofs.Common.{◌≡◌, ℕ, ◌+◌, ◌-◌, ◌/◌, ◌%◌, ◌<◌, ◌≤◌, ◌⊎◌, ◌==◌, ◌||◌, Bool, true, false, List, length, get_or, set, refl, sym, ◌∙◌, ap, subst, arith, inl, inr}
 use Rattle.std.proofs.lemmas.Bool.Decides.{nat_tests}
 use Rattle.std.proofs.lemmas.List.{get_or-set_other}
+use Rattle.std.proofs.lemmas.Bool.{or_parts}
 use Rattle.term_words.specs.Object.{IsPointer, object_words}
 use Rattle.term_words.specs.Reach.{first_of}
 use Rattle.term_tags.specs.Table.{layout_for}
@@ -15,6 +16,7 @@ use Rattle.cheney.specs.Zones.{Marks, Gone, IsPart, IsCopy, StillFits, Invariant
 use Rattle.cheney.specs.Rooms.{FromMoves, top_of, RoomsAgree, Runs, Advances}
 use Rattle.cheney.specs.Calls.{CanMove, Copied, IsFresh, Went, either, nowhere, Later, Evacuated, CanOpen, CanStep, RunsOn, Shape}
 use Rattle.term_words.proofs.Totals.Members.{true-or-false}
+use Rattle.term_words.proofs.Placing.Apart.{words-cons, words-header}
 use Rattle.cheney.proofs.Before.Basics.{moved-cons, moved-boxed, forward-cons, forward-boxed, not-both, reach-part, size-words, size-some, size-cons, size-boxed, first-cons, first-boxed}
 use Rattle.cheney.proofs.Before.Ground.{Ground, ground}
 use Rattle.cheney.proofs.Stepping.Facts.{Grows, copy-later, Without, without}
@@ -99,60 +101,57 @@ cons-within mem mv w c tag = omega (arith, lies c.plan mem mv c.marks w c.runs c
 pub boxed-some : (mem : List ℕ) (mv : Moving) (w : ℕ) → CanMove mem mv w → w % 4 ≡ 2 → w / 4 < length mem
 boxed-some mem mv w c tag = omega (arith, lies c.plan mem mv c.marks w c.runs c.reached (inr tag), size-some c.plan w (inr tag))
 
--- The object went to the aged room.
-copied-aged : (mem mem2 : List ℕ) (mv : Moving) (room : Room) (w x n : ℕ) → in_span mv.mature (w / 4) ≡ true → IsPointer w → stays mv.stay (w / 4) ≡ false → moved mem w ≡ false
-    → n ≡ object_words mem w → Copies mem mem2 w mv.aged.top n x → room ≡ record mv.aged { top = mv.aged.top + n } → Copied mem mem2 mv (record mv { aged = room }) w x
-copied-aged mem mem2 mv room w x n mature i s here size c e =
-    let A : ℕ → Type 0 = λ z. Copies mem mem2 w mv.aged.top z x in
-    let B : Bool → Type 0 = λ d. Copies mem mem2 w (top_of mv d) (object_words mem w) x in
-    let top : room.top ≡ mv.aged.top + object_words mem w = ap (λ z. z.top) e ∙ ap (λ z. mv.aged.top + z) size in
-    let D : Bool → Type 0 = λ d. Advances mv (record mv { aged = room }) d (object_words mem w) in
-    let adv : Advances mv (record mv { aged = room }) true (object_words mem w) = record {
-      stay = refl;
-      from_space = refl;
-      mature = refl;
-      aged_low = ap (λ z. z.start) e;
-      aged_high = ap (λ z. z.end) e;
-      young_low = refl;
-      young_high = refl;
-      here = top;
-      there = λ b. elim b as (λ d. (d ≡ true → ⊥) → top_of (record mv { aged = room }) d ≡ top_of mv d) [ true ↦ λ ne. absurd (ne refl) | false ↦ λ ne. refl ];
-    } in
-    record { pointer = i; leaves = s; here = here; copies = subst B (sym mature) (subst A size c); grows = subst D (sym mature) adv }
+-- One of the two rooms, and what is told to the collection when it is another.
+abbrev pub room_of : Moving → Bool → Room
+room_of mv true = mv.aged
+room_of mv false = mv.young
 
--- The object went to the young room.
-copied-young : (mem mem2 : List ℕ) (mv : Moving) (room : Room) (w x n : ℕ) → in_span mv.mature (w / 4) ≡ false → IsPointer w → stays mv.stay (w / 4) ≡ false → moved mem w ≡ false
-    → n ≡ object_words mem w → Copies mem mem2 w mv.young.top n x → room ≡ record mv.young { top = mv.young.top + n } → Copied mem mem2 mv (record mv { young = room }) w x
-copied-young mem mem2 mv room w x n mature i s here size c e =
-    let A : ℕ → Type 0 = λ z. Copies mem mem2 w mv.young.top z x in
+abbrev pub with_room : Moving → Bool → Room → Moving
+with_room mv true room = record mv { aged = room }
+with_room mv false room = record mv { young = room }
+
+advances : (mv : Moving) (b : Bool) (room : Room) (n : ℕ) → room ≡ record (room_of mv b) { top = top_of mv b + n } → Advances mv (with_room mv b room) b n
+advances mv true room n e = record {
+  stay = refl;
+  from_space = refl;
+  mature = refl;
+  aged_low = ap (λ z. z.start) e;
+  aged_high = ap (λ z. z.end) e;
+  young_low = refl;
+  young_high = refl;
+  here = ap (λ z. z.top) e;
+  there = λ b. elim b as (λ d. (d ≡ true → ⊥) → top_of (record mv { aged = room }) d ≡ top_of mv d) [ true ↦ λ ne. absurd (ne refl) | false ↦ λ ne. refl ];
+}
+advances mv false room n e = record {
+  stay = refl;
+  from_space = refl;
+  mature = refl;
+  aged_low = refl;
+  aged_high = refl;
+  young_low = ap (λ z. z.start) e;
+  young_high = ap (λ z. z.end) e;
+  here = ap (λ z. z.top) e;
+  there = λ b. elim b as (λ d. (d ≡ false → ⊥) → top_of (record mv { young = room }) d ≡ top_of mv d) [ false ↦ λ ne. absurd (ne refl) | true ↦ λ ne. refl ];
+}
+
+-- The object went to that room.
+copied-to : (mem mem2 : List ℕ) (mv : Moving) (b : Bool) (room : Room) (w x n : ℕ) → in_span mv.mature (w / 4) ≡ b → IsPointer w → stays mv.stay (w / 4) ≡ false → moved mem w ≡ false
+    → n ≡ object_words mem w → Copies mem mem2 w (top_of mv b) n x → room ≡ record (room_of mv b) { top = top_of mv b + n } → Copied mem mem2 mv (with_room mv b room) w x
+copied-to mem mem2 mv b room w x n mature i s here size c e =
+    let A : ℕ → Type 0 = λ z. Copies mem mem2 w (top_of mv b) z x in
     let B : Bool → Type 0 = λ d. Copies mem mem2 w (top_of mv d) (object_words mem w) x in
-    let top : room.top ≡ mv.young.top + object_words mem w = ap (λ z. z.top) e ∙ ap (λ z. mv.young.top + z) size in
-    let D : Bool → Type 0 = λ d. Advances mv (record mv { young = room }) d (object_words mem w) in
-    let adv : Advances mv (record mv { young = room }) false (object_words mem w) = record {
-      stay = refl;
-      from_space = refl;
-      mature = refl;
-      young_low = ap (λ z. z.start) e;
-      young_high = ap (λ z. z.end) e;
-      aged_low = refl;
-      aged_high = refl;
-      here = top;
-      there = λ b. elim b as (λ d. (d ≡ false → ⊥) → top_of (record mv { young = room }) d ≡ top_of mv d) [ false ↦ λ ne. absurd (ne refl) | true ↦ λ ne. refl ];
-    } in
-    record { pointer = i; leaves = s; here = here; copies = subst B (sym mature) (subst A size c); grows = subst D (sym mature) adv }
+    let C : ℕ → Type 0 = λ z. Advances mv (with_room mv b room) b z in
+    let D : Bool → Type 0 = λ d. Advances mv (with_room mv b room) d (object_words mem w) in
+    record { pointer = i; leaves = s; here = here; copies = subst B (sym mature) (subst A size c); grows = subst D (sym mature) (subst C size (advances mv b room n e)) }
 
 pub later-same : (p : Plan) (mem : List ℕ) → Later p nowhere mem mem
 later-same p mem = record { gone = λ v r l y. y; same = λ v r l y. refl; elsewhere = λ q past a b. refl }
-
-neither : (x y : Bool) → (x || y) ≡ false → (x ≡ false) × (y ≡ false)
-neither true y e = absurd (not-both true refl e)
-neither false y e = (refl, e)
 
 pub later-then : (p : Plan) (s t : ℕ → Bool) (a b c : List ℕ) → Later p s a b → Later p t b c → Later p (either s t) a c
 later-then p s t a b c g h = record {
   gone = λ v r l y. h.gone v r l (g.gone v r l y);
   same = λ v r l y. h.same v r l (g.gone v r l y) ∙ g.same v r l y;
-  elsewhere = λ q past x y. let (first, second) = neither (s q) (t q) past in h.elsewhere q second x y ∙ g.elsewhere q first x y;
+  elsewhere = λ q past x y. let (first, second) = or_parts (s q) (t q) past in h.elsewhere q second x y ∙ g.elsewhere q first x y;
 }
 
 pub later-wider : (p : Plan) (s t : ℕ → Bool) (a b : List ℕ) → ((q : ℕ) → s q ≡ true → t q ≡ true) → Later p s a b → Later p t a b
@@ -229,12 +228,6 @@ module _ (p : Plan) (mem mem2 : List ℕ) (mv mv2 : Moving) (k : Marks) (w x : �
       let D : Bool → Type 0 = λ d. Advances mv mv2 d (size p w) in
       by-copy l o.here (subst B b (subst A n o.copies)) (subst D b (subst C n o.grows))
 
--- The two words of a cons, by its tag.
-pub cons-words : (mem : List ℕ) (w : ℕ) → w % 4 ≡ 1 → object_words mem w ≡ 2
-cons-words mem w tag = let one : (w % 4 == 1) ≡ true = grind (arith, nat_tests) in rw one refl
-
-boxed-words : (mem : List ℕ) (w : ℕ) → w % 4 ≡ 2 → object_words mem w ≡ 1 + get_or mem (w / 4) 0 / 64
-boxed-words mem w tag = let one : (w % 4 == 1) ≡ false = grind (arith, nat_tests) in rw one refl
 
 cons-here : (mem : List ℕ) (w head : ℕ) → w % 4 ≡ 1 → head ≡ get_or mem (w / 4) 0 → (head ≡ 0 → ⊥) → moved mem w ≡ false
 cons-here mem w head tag e ne = moved-cons mem w tag ∙ (let z : get_or mem (w / 4) 0 ≡ 0 → ⊥ = λ y. ne (e ∙ y) in grind (arith, nat_tests))
@@ -264,12 +257,12 @@ pub fresh-here : (mem : List ℕ) (mv : Moving) (w head tail : ℕ) → IsFresh 
 fresh-here mem mv w head tail f = cons-here mem w head f.tag f.head_is f.here
 
 pub cons-spot : (mem : List ℕ) (mv : Moving) (w head tail : ℕ) (b : Bool) → CanMove mem mv w → IsFresh mem mv w head tail → b ≡ in_span mv.mature (w / 4) → Spot mem mv w 2 b
-cons-spot mem mv w head tail b c f m = spot mem mv w 2 b c (inl f.tag) f.leaves (fresh-here mem mv w head tail f) (cons-words mem w f.tag) (sym m)
+cons-spot mem mv w head tail b c f m = spot mem mv w 2 b c (inl f.tag) f.leaves (fresh-here mem mv w head tail f) (words-cons mem w f.tag) (sym m)
 
 pub boxed-spot : (mem : List ℕ) (mv : Moving) (w header : ℕ) (b : Bool) → CanMove mem mv w → w % 4 ≡ 2 → false ≡ stays mv.stay (w / 4) → header ≡ get_or mem (w / 4) 0 →
     (header % 4 ≡ 2 → ⊥) → b ≡ in_span mv.mature (w / 4) → Spot mem mv w (1 + header / 64) b
 boxed-spot mem mv w header b c tag s e ne m =
-    spot mem mv w (1 + header / 64) b c (inr tag) (sym s) (boxed-here mem w header tag e ne) (boxed-words mem w tag ∙ ap (λ z. 1 + z / 64) (sym e)) (sym m)
+    spot mem mv w (1 + header / 64) b c (inr tag) (sym s) (boxed-here mem w header tag e ne) (words-header mem w tag ∙ ap (λ z. 1 + z / 64) (sym e)) (sym m)
 
 pub cons-found : (mem : List ℕ) (mv : Moving) (w head tail : ℕ) → w % 4 ≡ 1 → false ≡ stays mv.stay (w / 4) → head ≡ get_or mem (w / 4) 0 → head ≡ 0 → tail ≡ get_or mem (w / 4 + 1) 0 →
     Went mem mem mv mv w tail
@@ -282,25 +275,15 @@ boxed-found mem mv w header tag s e z =
     let two : get_or mem (w / 4) 0 % 4 ≡ 2 = ap (λ x. x % 4) (sym e) ∙ z in
     inr (inl (record { word = e ∙ sym (forward-boxed mem w tag); mem_same = refl; mv_same = refl; pointer = inr tag; leaves = sym s; gone = moved-boxed mem w tag ∙ (rw two refl) }))
 
-pub cons-aged : (mem mem2 : List ℕ) (mv : Moving) (room : Room) (w head tail x : ℕ) → IsFresh mem mv w head tail → true ≡ in_span mv.mature (w / 4)
-    → Copies mem mem2 w mv.aged.top 2 x → room ≡ record mv.aged { top = mv.aged.top + 2 } → Copied mem mem2 mv (record mv { aged = room }) w x
-cons-aged mem mem2 mv room w head tail x f m c r = copied-aged mem mem2 mv room w x 2 (sym m) (inl f.tag) f.leaves (fresh-here mem mv w head tail f) (sym (cons-words mem w f.tag)) c r
+pub cons-to : (mem mem2 : List ℕ) (mv : Moving) (b : Bool) (room : Room) (w head tail x : ℕ) → IsFresh mem mv w head tail → b ≡ in_span mv.mature (w / 4)
+    → Copies mem mem2 w (top_of mv b) 2 x → room ≡ record (room_of mv b) { top = top_of mv b + 2 } → Copied mem mem2 mv (with_room mv b room) w x
+cons-to mem mem2 mv b room w head tail x f m c r = copied-to mem mem2 mv b room w x 2 (sym m) (inl f.tag) f.leaves (fresh-here mem mv w head tail f) (sym (words-cons mem w f.tag)) c r
 
-pub cons-young : (mem mem2 : List ℕ) (mv : Moving) (room : Room) (w head tail x : ℕ) → IsFresh mem mv w head tail → false ≡ in_span mv.mature (w / 4)
-    → Copies mem mem2 w mv.young.top 2 x → room ≡ record mv.young { top = mv.young.top + 2 } → Copied mem mem2 mv (record mv { young = room }) w x
-cons-young mem mem2 mv room w head tail x f m c r = copied-young mem mem2 mv room w x 2 (sym m) (inl f.tag) f.leaves (fresh-here mem mv w head tail f) (sym (cons-words mem w f.tag)) c r
-
-pub boxed-aged : (mem mem2 : List ℕ) (mv : Moving) (room : Room) (w header x : ℕ) → w % 4 ≡ 2 → false ≡ stays mv.stay (w / 4) → header ≡ get_or mem (w / 4) 0 → (header % 4 ≡ 2 → ⊥) → true
-    ≡ in_span mv.mature (w / 4)
-    → Copies mem mem2 w mv.aged.top (1 + header / 64) x → room ≡ record mv.aged { top = mv.aged.top + (1 + header / 64) } → Went mem mem2 mv (record mv { aged = room }) w x
-boxed-aged mem mem2 mv room w header x tag s e ne m c r =
-    inr (inr (copied-aged mem mem2 mv room w x (1 + header / 64) (sym m) (inr tag) (sym s) (boxed-here mem w header tag e ne) (sym (boxed-words mem w tag ∙ ap (λ z. 1 + z / 64) (sym e))) c r))
-
-pub boxed-young : (mem mem2 : List ℕ) (mv : Moving) (room : Room) (w header x : ℕ) → w % 4 ≡ 2 → false ≡ stays mv.stay (w / 4) → header ≡ get_or mem (w / 4) 0 → (header % 4 ≡ 2 → ⊥) →
-    false ≡ in_span mv.mature (w / 4)
-    → Copies mem mem2 w mv.young.top (1 + header / 64) x → room ≡ record mv.young { top = mv.young.top + (1 + header / 64) } → Went mem mem2 mv (record mv { young = room }) w x
-boxed-young mem mem2 mv room w header x tag s e ne m c r =
-    inr (inr (copied-young mem mem2 mv room w x (1 + header / 64) (sym m) (inr tag) (sym s) (boxed-here mem w header tag e ne) (sym (boxed-words mem w tag ∙ ap (λ z. 1 + z / 64) (sym e))) c r))
+pub boxed-to : (mem mem2 : List ℕ) (mv : Moving) (b : Bool) (room : Room) (w header x : ℕ) → w % 4 ≡ 2 → false ≡ stays mv.stay (w / 4) → header ≡ get_or mem (w / 4) 0 → (header % 4 ≡ 2 → ⊥)
+    → b ≡ in_span mv.mature (w / 4) → Copies mem mem2 w (top_of mv b) (1 + header / 64) x → room ≡ record (room_of mv b) { top = top_of mv b + (1 + header / 64) }
+    → Went mem mem2 mv (with_room mv b room) w x
+boxed-to mem mem2 mv b room w header x tag s e ne m c r =
+    inr (inr (copied-to mem mem2 mv b room w x (1 + header / 64) (sym m) (inr tag) (sym s) (boxed-here mem w header tag e ne) (sym (words-header mem w tag ∙ ap (λ z. 1 + z / 64) (sym e))) c r))
 
 -- A word from the mark `scanned` on is that of a part of the object there.
 pub raw-at : (p : Plan) (mem : List ℕ) (mv : Moving) (k : Marks) (b : Bool) (at : ℕ) → Runs p mem mv k → scanned_at k b ≤ at → (v from : ℕ) → IsCopy p mem b v from → from ≤ at → at < from + size p v

@@ -252,10 +252,10 @@ module _ (c : ℕ → ℕ → Bool) (old : List ℕ) (a u : ℕ) (single : IsSin
 
 -- What stands as a shared binary or as a fun can be chained.
 
-holder-place : (mem : List ℕ) (p : ℕ) → get_or mem p 0 ≡ head_word HOLDER 5 → name_place mem p ≡ p + 3
+pub holder-place : (mem : List ℕ) (p : ℕ) → get_or mem p 0 ≡ head_word HOLDER 5 → name_place mem p ≡ p + 3
 holder-place mem p e = rw e refl
 
-fun-place : (mem : List ℕ) (p k : ℕ) → get_or mem p 0 ≡ head_word FUN (k + 5) → name_place mem p ≡ p + 1
+pub fun-place : (mem : List ℕ) (p k : ℕ) → get_or mem p 0 ≡ head_word FUN (k + 5) → name_place mem p ≡ p + 1
 fun-place mem p k e = grind (arith, nat_tests, e)
 
 pub holder-link : (c : ℕ → ℕ → Bool) (shared : List (List ℕ)) (mem : List ℕ) (w id : ℕ) → Stands c shared mem w (Shared id) → 0 < w / 4 → IsLink c mem (w / 4)

@@ -6,6 +6,7 @@ use Rattle.term_words.specs.Object.{IsRecord}
 use Rattle.term_words.specs.Counted.{In, Distinct}
 use Rattle.shared_rec.proofs.Records.{record-stays}
 use Rattle.std.proofs.lemmas.List.{append_assoc}
+use Rattle.std.proofs.lemmas.Bool.{eq-eqb, eqb-true}
 use Rattle.shared_rec.specs.Record.{count_in}
 use Rattle.off_heap_list.specs.Links.{names_it, named, Chain, naming, IsLink, Links}
 use Rattle.off_heap_list.specs.Exact.{ListsHeld, AllCounted, Exact, OwnChain, IsOwn, AreOwn, objects_of, Chained}
@@ -23,12 +24,6 @@ namers mem v [] = refl
 namers mem v (p ∷ os) =
     one-more (named mem p == v) p (filter (λ q. named mem q == v) os) ∙ ap (λ n. names_it (named mem p) v + n) (namers mem v os)
 
-names-true : (x v : ℕ) → x ≡ v → (x == v) ≡ true
-names-true x v e = grind (arith, nat_tests, e)
-
-true-names : (x v : ℕ) → (x == v) ≡ true → x ≡ v
-true-names x v h = grind (arith, nat_tests, h)
-
 -- Where counts are namings by a list that has exactly what is reached, they are exact.
 listed-exact : (c : ℕ → ℕ → Bool) (mem roots os : List ℕ) → ((v n : ℕ) → IsRecord c mem v n → count_in mem v ≡ naming mem v os) → AllCounted c mem → ListsHeld c mem roots os
     → Exact c mem roots
@@ -36,8 +31,8 @@ listed-exact c mem roots os counts some held = λ v n there. (
   record {
     each = filter (λ p. named mem p == v) os;
     once = filter-distinct (λ p. named mem p == v) os held.once;
-    all = λ p reached name. filter-in (λ p. named mem p == v) p os (held.all p reached) (names-true (named mem p) v name);
-    only = λ p inside. let both = in-filter (λ p. named mem p == v) p os inside in (held.only p both.0, true-names (named mem p) v both.1);
+    all = λ p reached name. filter-in (λ p. named mem p == v) p os (held.all p reached) (eq-eqb (named mem p) v name);
+    only = λ p inside. let both = in-filter (λ p. named mem p == v) p os inside in (held.only p both.0, eqb-true (named mem p) v both.1);
     number = namers mem v os ∙ sym (counts v n there);
   },
   some v n there,
@@ -46,7 +41,7 @@ listed-exact c mem roots os counts some held = λ v n there. (
 pub counts-exact : (c : ℕ → ℕ → Bool) (mem roots : List ℕ) (head : ℕ) (os : List ℕ) → Links c mem head os [] → ListsHeld c mem roots os → AllCounted c mem → Exact c mem roots
 counts-exact c mem roots head os l held some = listed-exact c mem roots os (λ v n there. l.counts v n there ∙ omega arith) some held
 
-naming-both : (mem : List ℕ) (v : ℕ) (xs ys : List ℕ) → naming mem v (xs ++ ys) ≡ naming mem v xs + naming mem v ys
+pub naming-both : (mem : List ℕ) (v : ℕ) (xs ys : List ℕ) → naming mem v (xs ++ ys) ≡ naming mem v xs + naming mem v ys
 naming-both mem v [] ys = omega arith
 naming-both mem v (x ∷ xs) ys = omega (arith, naming-both mem v xs ys)
 
@@ -75,11 +70,11 @@ own-at : (c : ℕ → ℕ → Bool) (mem roots : List ℕ) (xs ys : List OwnChai
 own-at c mem roots [] ys x (o, os) = o
 own-at c mem roots (z ∷ xs) ys x (o, os) = own-at c mem roots xs ys x os
 
-distinct-left : (xs ys : List ℕ) → Distinct (xs ++ ys) → Distinct xs
+pub distinct-left : (xs ys : List ℕ) → Distinct (xs ++ ys) → Distinct xs
 distinct-left [] ys d = tt
 distinct-left (x ∷ xs) ys (n, d) = ((λ i. n (in-left x xs ys i)), distinct-left xs ys d)
 
-distinct-right : (xs ys : List ℕ) → Distinct (xs ++ ys) → Distinct ys
+pub distinct-right : (xs ys : List ℕ) → Distinct (xs ++ ys) → Distinct ys
 distinct-right [] ys d = d
 distinct-right (x ∷ xs) ys (n, d) = distinct-right xs ys d
 

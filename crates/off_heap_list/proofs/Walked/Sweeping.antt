@@ -143,9 +143,6 @@ record-named mem v [] inside = absurd inside
 record-named mem v (p ∷ os) (inl e) = (p, (inl refl, sym e))
 record-named mem v (p ∷ os) (inr deep) = let (q, (inside, e)) = record-named mem v os deep in (q, (inr inside, e))
 
-true-is-false : (b : Bool) → b ≡ true → b ≡ false → ⊥
-true-is-false b t f = true≢false (sym t ∙ f)
-
 -- The next object's record counts it.
 module _ (c : ℕ → ℕ → Bool) (mem : List ℕ) (head p : ℕ) (os : List ℕ) (first : ℕ) (kept : List ℕ) (last : ℕ) (ends further : List ℕ)
     (s : Sweeping c mem head (p ∷ os) first kept last ends further) where
@@ -688,12 +685,12 @@ freed-as v n b e = ap (λ x. if x then Some v else None) e
 pub freed-zero : (x : Option ℕ) (v n : ℕ) → x ≡ freed_at v n → is_some x ≡ true → n ≡ 0
 freed-zero x v n is h = elim (true-or-false (n == 0)) [
   | inl e ↦ grind (arith, nat_tests, e)
-  | inr e ↦ absurd (true-is-false (is_some x) h (ap is_some (is ∙ freed-as v n false e)))
+  | inr e ↦ absurd (true≢false (sym h ∙ ap is_some (is ∙ freed-as v n false e)))
 ]
 
 pub freed-more : (x : Option ℕ) (v n : ℕ) → x ≡ freed_at v n → is_some x ≡ false → 0 < n
 freed-more x v n is h = elim (true-or-false (n == 0)) [
-  | inl e ↦ absurd (true-is-false (is_some x) (ap is_some (is ∙ freed-as v n true e)) h)
+  | inl e ↦ absurd (true≢false (sym (ap is_some (is ∙ freed-as v n true e)) ∙ h))
   | inr e ↦ grind (arith, nat_tests, e)
 ]
 

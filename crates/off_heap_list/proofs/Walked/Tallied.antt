@@ -33,7 +33,7 @@ few (suc n) ps d below =
     elim which [ inl e ↦ absurd (i.1 e) | inr under_n ↦ under_n ]) in
     omega (arith, l.words, rest)
 
-ones : (ps : List ℕ) → total one ps ≡ length ps
+pub ones : (ps : List ℕ) → total one ps ≡ length ps
 ones [] = refl
 ones (p ∷ ps) = omega (arith, ones ps)
 
@@ -221,7 +221,7 @@ module _ (mem : List ℕ) (head : ℕ) (moved told : Option ℕ) (more : ℕ) (t
     | inr is ↦ omega (arith, (t.if_left is).2)
   ]
 
-one-at-most : (b : Bool) → (if b then 1 else 0) ≤ 1
+pub one-at-most : (b : Bool) → (if b then 1 else 0) ≤ 1
 one-at-most true = omega arith
 one-at-most false = omega arith
 

@@ -9,6 +9,7 @@ use Rattle.plain_term.specs.Tree.Pairs.{stop, pair}
 use Rattle.term_words.specs.Object.{byte_of, IsObject, IsCons, IsBoxed, IsInt, IsRef, IsTuple, IsMap, IsHeapBin, IsBinRecord, IsFunRecord, IsHolder, IsFun, IsShared, IsSub, sign_tag}
 use Rattle.term_words.specs.Stands.{Stands, RowStands, KeysStand, ValuesStand, AllStand}
 use Rattle.term_words.specs.Kept.{Kept, Carried, Keeps}
+use Rattle.term_words.proofs.Framing.Records.{bin-stays, fun-stays}
 
 module _ (c d : ℕ → ℕ → Bool) (old new : List ℕ) (k : Carried c d old new) where
   -- Each kind of object is carried.
@@ -193,37 +194,6 @@ module _ (c d : ℕ → ℕ → Bool) (old new : List ℕ) (k : Carried c d old 
         (subst P here (carry shared (get_or old p 0) y first), carry-values shared (p + 1) ps rest (λ q from below. same q (omega arith) (omega arith)))
 
 -- Kept content carries every tree.
-bin-kept : (c d : ℕ → ℕ → Bool) (old new : List ℕ) → Kept c d old new → (v serial : ℕ) (bytes : List ℕ) → IsBinRecord c old v serial bytes → IsBinRecord d new v serial bytes
-bin-kept c d old new k v serial bytes o = record {
-  within = omega (arith, k.longer, o.within);
-  header = k.same v 8 (omega arith) o.first ∙ o.header;
-  owner = k.same (v + 1) 6 (omega arith) o.second ∙ o.owner;
-  size = k.same (v + 3) 6 (omega arith) (o.others (v + 3) (omega arith) (omega arith)) ∙ o.size;
-  content = record {
-    each = λ i a below place.
-        let same : get_or new a 0 ≡ get_or old a 0 = k.same a 6 (omega arith) (o.others a (omega arith) (omega arith)) in
-        ap (λ x. byte_of x (i % 8)) same ∙ o.content.each i a below place;
-  };
-  first = k.weaker v 8 o.first;
-  second = k.weaker (v + 1) 6 o.second;
-  counted = k.weaker (v + 2) 2 o.counted;
-  others = λ q from below. k.weaker q 6 (o.others q from below);
-}
-
-fun-kept : (c d : ℕ → ℕ → Bool) (old new : List ℕ) → Kept c d old new → (v name arity : ℕ) → IsFunRecord c old v name arity → IsFunRecord d new v name arity
-fun-kept c d old new k v name arity o = record {
-  named = o.named;
-  arity_range = o.arity_range;
-  within = omega (arith, k.longer, o.within);
-  header = k.same v 8 (omega arith) o.first ∙ o.header;
-  owner = k.same (v + 1) 6 (omega arith) o.second ∙ o.owner;
-  zero_word = k.same (v + 3) 6 (omega arith) o.fourth ∙ o.zero_word;
-  first = k.weaker v 8 o.first;
-  second = k.weaker (v + 1) 6 o.second;
-  counted = k.weaker (v + 2) 2 o.counted;
-  fourth = k.weaker (v + 3) 6 o.fourth;
-}
-
 pub kept-carried : (c d : ℕ → ℕ → Bool) (old new : List ℕ) → Kept c d old new → Carried c d old new
 kept-carried c d old new k = record {
   longer = k.longer;
@@ -235,10 +205,10 @@ kept-carried c d old new k = record {
   names = λ a t. k.weaker a 5 t;
   bins = λ a serial bytes t o.
       let P : ℕ → Type 0 = λ v. IsBinRecord d new v serial bytes in
-      subst P (sym (k.same a 5 (omega arith) t)) (bin-kept c d old new k (get_or old a 0) serial bytes o);
+      subst P (sym (k.same a 5 (omega arith) t)) (bin-stays c d old new (get_or old a 0) serial bytes k o);
   funs = λ a name arity t o.
       let P : ℕ → Type 0 = λ v. IsFunRecord d new v name arity in
-      subst P (sym (k.same a 5 (omega arith) t)) (fun-kept c d old new k (get_or old a 0) name arity o);
+      subst P (sym (k.same a 5 (omega arith) t)) (fun-stays c d old new (get_or old a 0) name arity k o);
 }
 
 -- The frame lemma: agreement, a weaker test and a longer memory in one.

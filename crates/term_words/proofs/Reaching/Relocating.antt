@@ -21,12 +21,13 @@ use Rattle.term_words.proofs.Reaching.Reached.{scanned, reached, cons-traced}
 use Rattle.term_words.proofs.Placing.Roles.{first-role, object-some}
 use Rattle.term_words.proofs.ByKind.Shapes.{told}
 use Rattle.term_words.proofs.Totals.Members.{pointer-or-not}
+use Rattle.term_words.proofs.Framing.Records.{bin-copied, fun-copied}
 
 some-or-none : (n : ℕ) → (0 < n) ⊎ (n ≡ 0)
 some-or-none n = grind arith
 
 -- The header of an object is not traced.
-header-first : (c : ℕ → ℕ → Bool) (shared : List (List ℕ)) (mem : List ℕ) (w : ℕ) (t : Tree) → Stands c shared mem w t → w % 4 ≡ 2 → 0 < first_traced mem w
+pub header-first : (c : ℕ → ℕ → Bool) (shared : List (List ℕ)) (mem : List ℕ) (w : ℕ) (t : Tree) → Stands c shared mem w t → w % 4 ≡ 2 → 0 < first_traced mem w
 unfolding AllStand
 header-first c shared mem w t s tag =
     elim (some-or-none (first_traced mem w)) [
@@ -47,47 +48,6 @@ same-header old new w x tag there e =
     (rw (a, b, e) refl, rw (a, b, e) refl)
 
 module _ (c d : ℕ → ℕ → Bool) (shared : List (List ℕ)) (old new roots : List ℕ) (f g : ℕ → ℕ) (z : Relocated c d old new roots f g) where
-  -- Records.
-
-  word-at : (v u n j q a : ℕ) → IsCopiedTo c d old new v u n → j < n → (j ≡ 2 → ⊥) → q ≡ u + j → a ≡ v + j → get_or new q 0 ≡ get_or old a 0
-  word-at v u n j q a h below some e i = h.same j q below some e ∙ ap (λ y. get_or old y 0) (sym i)
-
-  record-role-at : (v u n j q a k : ℕ) → IsCopiedTo c d old new v u n → j < n → q ≡ u + j → a ≡ v + j → c a k ≡ true → d q k ≡ true
-  record-role-at v u n j q a k h below e i t = let P : ℕ → Type 0 = λ y. c y k ≡ true in h.roles j q k below e (subst P i t)
-
-  bin-copied : (v u serial : ℕ) (bytes : List ℕ) → IsCopiedTo c d old new v u (4 + bin_words (length bytes)) → IsBinRecord c old v serial bytes → IsBinRecord d new u serial bytes
-  bin-copied v u serial bytes h o =
-      let n : ℕ = 4 + bin_words (length bytes) in
-      record {
-        within = h.within;
-        header = word-at v u n 0 u v h (omega arith) (λ e. omega arith) (omega arith) (omega arith) ∙ o.header;
-        owner = word-at v u n 1 (u + 1) (v + 1) h (omega arith) (λ e. omega arith) refl refl ∙ o.owner;
-        size = word-at v u n 3 (u + 3) (v + 3) h (omega arith) (λ e. omega arith) refl refl ∙ o.size;
-        content = record {
-          each = λ i a below place.
-              let same : get_or new a 0 ≡ get_or old (v + 4 + i / 8) 0 = word-at v u n (4 + i / 8) a (v + 4 + i / 8) h (omega arith) (λ e. omega arith) (omega arith) (omega arith) in
-              ap (λ x. byte_of x (i % 8)) same ∙ o.content.each i (v + 4 + i / 8) below refl;
-        };
-        first = record-role-at v u n 0 u v RECORD_FIRST h (omega arith) (omega arith) (omega arith) o.first;
-        second = record-role-at v u n 1 (u + 1) (v + 1) RECORD h (omega arith) refl refl o.second;
-        counted = record-role-at v u n 2 (u + 2) (v + 2) COUNT h (omega arith) refl refl o.counted;
-        others = λ q from below. record-role-at v u n (q - u) q (v + (q - u)) RECORD h (omega arith) (omega arith) refl (o.others (v + (q - u)) (omega arith) (omega arith));
-      }
-
-  fun-copied : (v u name arity : ℕ) → IsCopiedTo c d old new v u 4 → IsFunRecord c old v name arity → IsFunRecord d new u name arity
-  fun-copied v u name arity h o = record {
-    named = o.named;
-    arity_range = o.arity_range;
-    within = h.within;
-    header = word-at v u 4 0 u v h (omega arith) (λ e. omega arith) (omega arith) (omega arith) ∙ o.header;
-    owner = word-at v u 4 1 (u + 1) (v + 1) h (omega arith) (λ e. omega arith) refl refl ∙ o.owner;
-    zero_word = word-at v u 4 3 (u + 3) (v + 3) h (omega arith) (λ e. omega arith) refl refl ∙ o.zero_word;
-    first = record-role-at v u 4 0 u v RECORD_FIRST h (omega arith) (omega arith) (omega arith) o.first;
-    second = record-role-at v u 4 1 (u + 1) (v + 1) RECORD h (omega arith) refl refl o.second;
-    counted = record-role-at v u 4 2 (u + 2) (v + 2) COUNT h (omega arith) refl refl o.counted;
-    fourth = record-role-at v u 4 3 (u + 3) (v + 3) RECORD h (omega arith) refl refl o.fourth;
-  }
-
   -- Words and roles of an object by place.
 
   role : (w j q a k : ℕ) → IsMovedTo c d old new f g w → j < object_words old w → q ≡ f w / 4 + j → a ≡ w / 4 + j → c a k ≡ true → d q k ≡ true
@@ -301,7 +261,7 @@ module _ (c d : ℕ → ℕ → Bool) (shared : List (List ℕ)) (old new roots 
             sixth = role w 5 (f w / 4 + 5) (w / 4 + 5) FURTHER h (omega arith) refl refl s.holder.sixth;
           };
           record_is = subst P (sym (h.names 3 (f w / 4 + 3) (omega arith) refl s.holder.names))
-              (bin-copied (get_or old (w / 4 + 3) 0) (g (get_or old (w / 4 + 3) 0)) id (shared_bytes shared id) copied s.record_is);
+              (bin-copied c d old new (get_or old (w / 4 + 3) 0) (g (get_or old (w / 4 + 3) 0)) id (shared_bytes shared id) copied s.record_is);
         }
     settled w (Part base offset len) r (o, is, sb) =
         let y : IsPointer w = inr o.boxed.tag in
@@ -336,7 +296,7 @@ module _ (c d : ℕ → ℕ → Bool) (shared : List (List ℕ)) (old new roots 
             arity_word = plain w 3 (f w / 4 + 3) (w / 4 + 3) h (omega arith) (omega arith) refl refl (inr (o.others (w / 4 + 3) (omega arith) (omega arith))) ∙ o.arity_word;
             size = plain w 4 (f w / 4 + 4) (w / 4 + 4) h (omega arith) (omega arith) refl refl (inr (o.others (w / 4 + 4) (omega arith) (omega arith))) ∙ o.size;
             creator_word = plain w 5 (f w / 4 + 5) (w / 4 + 5) h (omega arith) (omega arith) refl refl (inr (o.others (w / 4 + 5) (omega arith) (omega arith))) ∙ o.creator_word;
-            record_is = subst P (sym (h.names 1 (f w / 4 + 1) (omega arith) refl o.names)) (fun-copied (get_or old (w / 4 + 1) 0) (g (get_or old (w / 4 + 1) 0)) name arity copied o.record_is);
+            record_is = subst P (sym (h.names 1 (f w / 4 + 1) (omega arith) refl o.names)) (fun-copied c d old new (get_or old (w / 4 + 1) 0) (g (get_or old (w / 4 + 1) 0)) name arity copied o.record_is);
             first = role w 0 (f w / 4) (w / 4) FIRST h (omega arith) (omega arith) (omega arith) o.first;
             names = role w 1 (f w / 4 + 1) (w / 4 + 1) NAMES h (omega arith) refl refl o.names;
             next = role w 2 (f w / 4 + 2) (w / 4 + 2) NEXT h (omega arith) refl refl o.next;

@@ -1,5 +1,5 @@
 -- Words in lists without repetition.
-use Rattle.std.proofs.Common.{◌≡◌, ℕ, ◌+◌, ◌%◌, ◌<◌, ◌≤◌, ◌⊎◌, Bool, true, false, List, [], ◌∷◌, ◌++◌, refl, sym, ◌∙◌, ap, subst, arith, inl, inr, filter, cond}
+use Rattle.std.proofs.Common.{◌≡◌, ℕ, zero, suc, ◌+◌, ◌%◌, ◌<◌, ◌≤◌, ◌⊎◌, Bool, true, false, List, [], ◌∷◌, ◌++◌, length, get_or, refl, sym, ◌∙◌, ap, subst, arith, inl, inr, filter, cond}
 use Rattle.term_words.specs.Object.{IsPointer}
 use Rattle.term_words.specs.Counted.{In, Distinct, total}
 
@@ -58,6 +58,11 @@ pub in-both : (v : ℕ) (xs zs : List ℕ) → In v (xs ++ zs) → In v xs ⊎ I
 in-both v [] zs i = inr i
 in-both v (a ∷ xs) zs (inl e) = inl (inl e)
 in-both v (a ∷ xs) zs (inr i) = elim (in-both v xs zs i) [ inl z ↦ inl (inr z) | inr z ↦ inr z ]
+
+pub in-at : (vs : List ℕ) (i : ℕ) → i < length vs → In (get_or vs i 0) vs
+in-at [] i less = absurd (omega (arith, less))
+in-at (v ∷ vs) zero less = inl refl
+in-at (v ∷ vs) (suc i) less = inr (in-at vs i (omega (arith, less)))
 
 pub in-left : (v : ℕ) (xs zs : List ℕ) → In v xs → In v (xs ++ zs)
 in-left v [] zs i = absurd i

@@ -1,6 +1,7 @@
-use Rattle.cheney.proofs.Rooted.Rows.{images-all, images-beside, images-join, images-later, images-of, in-at, in-joined, root-in, roots-in}
+use Rattle.cheney.proofs.Rooted.Rows.{images-all, images-beside, images-join, images-later, images-of, in-joined, root-in, roots-in}
 use Rattle.cheney.proofs.Rooted.Places.{places-aside, word-at}
 use Rattle.cheney.proofs.laws.roots_become_images.Goals as goal
+use Rattle.term_words.proofs.Totals.Members.{in-at}
 
 pub returns-clause-at : goal.returns-clause-at
 returns-clause-at c = in-at

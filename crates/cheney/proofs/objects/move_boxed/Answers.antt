@@ -1,5 +1,5 @@
 use Rattle.std.proofs.Common.{true, false}
-use Rattle.cheney.proofs.Stepping.Steps.{from-moves, boxed-some, boxed-spot, boxed-found, boxed-aged, boxed-young}
+use Rattle.cheney.proofs.Stepping.Steps.{from-moves, boxed-some, boxed-spot, boxed-found, boxed-to}
 use Rattle.cheney.proofs.objects.move_boxed.Goals as goal
 
 pub get-header-requires : goal.get-header-requires
@@ -34,12 +34,12 @@ boxed_to-requires-else-is_in-clause-apart c = (boxed-spot c.args.mem.now c.args.
 
 pub returns-then-is_in : goal.returns-then-is_in
 returns-then-is_in c =
-    boxed-aged c.args.mem.now c.boxed_to.new.mem c.args.mv.now c.boxed_to.new.room c.args.w c.get-header.result c.boxed_to.result c.requires.tag c.if-stays_at.ensures c.get-header.ensures
+    boxed-to c.args.mem.now c.boxed_to.new.mem c.args.mv.now true c.boxed_to.new.room c.args.w c.get-header.result c.boxed_to.result c.requires.tag c.if-stays_at.ensures c.get-header.ensures
     c.if-header-eq2.false c.if-is_in.ensures c.boxed_to.ensures.copies c.boxed_to.ensures.room
 
 pub returns-else-is_in : goal.returns-else-is_in
 returns-else-is_in c =
-    boxed-young c.args.mem.now c.boxed_to-else-is_in.new.mem c.args.mv.now c.boxed_to-else-is_in.new.room c.args.w c.get-header.result c.boxed_to-else-is_in.result c.requires.tag
+    boxed-to c.args.mem.now c.boxed_to-else-is_in.new.mem c.args.mv.now false c.boxed_to-else-is_in.new.room c.args.w c.get-header.result c.boxed_to-else-is_in.result c.requires.tag
     c.if-stays_at.ensures c.get-header.ensures c.if-header-eq2.false c.if-is_in.ensures
     c.boxed_to-else-is_in.ensures.copies c.boxed_to-else-is_in.ensures.room
 

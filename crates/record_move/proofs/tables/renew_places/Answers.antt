@@ -2,15 +2,16 @@ use Rattle.std.proofs.Common.{◌≡◌, ◌-◌, ◌<◌, length, get_or, arith
 use Rattle.std.proofs.Common.{get_or-set_other}
 use Rattle.shared_rec.specs.Record.{count_in}
 use Rattle.record_move.specs.declared.moves.TheConstants.{MOVED}
-use Rattle.record_move.proofs.Renewing.{member-at, front-moved, front-stayed}
+use Rattle.record_move.proofs.Renewing.{front-moved, front-stayed}
 use Rattle.record_move.proofs.tables.renew_places.Goals as goal
 use Rattle.record_move.proofs.tables.renew_places.Goals.{then-count-ge-MOVED, else-count-ge-MOVED}
+use Rattle.term_words.proofs.Totals.Members.{in-at}
 
 pub count_of-count-requires : goal.count_of-count-requires
 count_of-count-requires c =
     let below : c.loop-i.i < length c.args.places.now = omega (arith, c.loop-i-test.true, c.loop-i.auto.i-end) in
     let same : get_or c.loop-i.places c.loop-i.i 0 ≡ get_or c.args.places.now c.loop-i.i 0 = c.loop-i.invariant.rest c.loop-i.i (omega arith) below in
-    omega (arith, same, c.requires (get_or c.args.places.now c.loop-i.i 0) (member-at c.args.places.now c.loop-i.i below))
+    omega (arith, same, c.requires (get_or c.args.places.now c.loop-i.i 0) (in-at c.args.places.now c.loop-i.i below))
 
 pub loop-i-preserved : goal.loop-i-preserved
 loop-i-preserved c =
