@@ -1,7 +1,5 @@
 -- After a sweep records can move.
-use Rattle.std.proofs.Common.{◌≡◌, ℕ, ◌+◌, ◌*◌, ◌/◌, ◌<◌, ◌≤◌, ◌⊎◌, if◌then◌else◌, Bool, true, false, List, [], ◌∷◌, length, get_or, refl, sym, ◌∙◌, ap, subst, arith, inl, inr}
-use Rattle.term_words.specs.Role.{RECORD_FIRST, IsContent}
-use Rattle.term_words.specs.Object.{IsRecord}
+use Rattle.std.proofs.Common.{◌≡◌, ℕ, ◌/◌, ◌≤◌, ◌⊎◌, if◌then◌else◌, Bool, true, false, List, [], ◌∷◌, refl, sym, ◌∙◌, ap, subst, arith, inl, inr}
 use Rattle.term_words.specs.Counted.{In, total}
 use Rattle.shared_rec.proofs.Records.{record-size, record-stays}
 use Rattle.off_heap_list.specs.Links.{named, IsLink, Links}
@@ -10,9 +8,9 @@ use Rattle.off_heap_list.specs.Whole.{moved_of, SweptWhole}
 use Rattle.off_heap_list.specs.declared.whole.Survivors.{Survivors}
 use Rattle.off_heap_list.proofs.Chaining.Chained.{link-named}
 use Rattle.record_move.specs.Copies.{record_words, RecordsCanMove}
-use Rattle.cheney.specs.Plan.{Plan, Ready, Reached, Leaves}
+use Rattle.cheney.specs.Plan.{Plan, Ready}
 use Rattle.cheney.specs.Collected.{Collected, IsMoved}
-use Rattle.cheney.specs.Next.{HasRoles, IsCarried}
+use Rattle.cheney.specs.Next.{HasRoles}
 use Rattle.cheney.proofs.Before.Basics.{not-both}
 use Rattle.chain_sweep.specs.Follows.{Sweepable, RecordsHaveRoom}
 use Rattle.chain_sweep.proofs.Leaving.{which, left-not, new-link, new-named, record-goes}

@@ -1,9 +1,8 @@
 -- Records stay where their content does.
-use Rattle.std.proofs.Common.{◌≡◌, ℕ, ◌+◌, ◌-◌, ◌/◌, ◌%◌, ◌<◌, ◌≤◌, ◌⊎◌, Bool, true, List, length, get_or, refl, sym, ◌∙◌, ap, subst, arith, inl, inr}
+use Rattle.std.proofs.Common.{◌≡◌, ℕ, ◌+◌, ◌/◌, ◌<◌, ◌≤◌, ◌⊎◌, Bool, true, List, length, get_or, refl, sym, subst, arith, inl, inr}
 use Rattle.std.proofs.lemmas.Bool.Decides.{nat_tests}
-use Rattle.plain_term.specs.Measures.{bin_words}
 use Rattle.term_words.specs.Role.{IsSingle, Idle, OfRecord, COUNT, RECORD, RECORD_FIRST}
-use Rattle.term_words.specs.Object.{byte_of, IsBinRecord, IsFunRecord, IsRecord}
+use Rattle.term_words.specs.Object.{IsRecord}
 use Rattle.term_words.specs.Kept.{Kept}
 use Rattle.term_words.specs.Relocated.{IsCopiedTo}
 pub use Rattle.term_words.proofs.Framing.Records.{bin-same, fun-same, bin-stays, fun-stays, bin-copied, fun-copied}

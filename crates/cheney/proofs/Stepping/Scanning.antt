@@ -1,14 +1,11 @@
 -- The words of copies, scanned one by one, and a list along its spine.
-use Rattle.std.proofs.Common.{◌≡◌, ℕ, ◌+◌, ◌-◌, ◌/◌, ◌%◌, ◌<◌, ◌≤◌, ◌⊎◌, ◌==◌, ◌&&◌, if◌then◌else◌, nat_le, Bool, true, false, List, length, get_or, set, refl, sym, ◌∙◌, ap, subst, arith, inl, inr, Option, Some, None}
+use Rattle.std.proofs.Common.{◌≡◌, ℕ, ◌+◌, ◌-◌, ◌/◌, ◌%◌, ◌<◌, ◌≤◌, Bool, true, false, List, length, get_or, set, refl, sym, ◌∙◌, ap, subst, arith, inl, inr, Some}
 use mathlib.Core.Bool.{beq}
-use Rattle.std.proofs.lemmas.Bool.{eqb-true}
-use Rattle.std.proofs.lemmas.Bool.Decides.{nat_tests}
 use Rattle.std.proofs.lemmas.List.{get_or-set_other, set-get_or}
 use Rattle.term_words.specs.Object.{IsPointer, object_words}
 use Rattle.term_words.proofs.Placing.Apart.{words-cons}
-use Rattle.term_tags.specs.Table.{layout_for, row_layout}
+use Rattle.term_tags.specs.Table.{layout_for}
 use Rattle.term_tags.specs.declared.layouts.Layout.{Layout}
-use Rattle.term_tags.specs.declared.layouts.TheConstants.{TUPLE, POS_BIG, NEG_BIG, REF, FUN, HOLDER, HEAP_BIN, SUB_BIN, MAP}
 use Rattle.cheney.specs.declared.moving.Moving.{Moving}
 use Rattle.cheney.specs.Spans.{in_span}
 use Rattle.cheney.specs.Plan.{Plan, Reached, Leaves, size}

@@ -1,6 +1,5 @@
 -- A chain that lists what is reached makes counts exact.
 use Rattle.std.proofs.Common.{◌≡◌, ℕ, ◌+◌, ◌≤◌, ◌⊎◌, ◌==◌, if◌then◌else◌, cond, Bool, true, false, List, [], ◌∷◌, ◌++◌, length, filter, refl, sym, ◌∙◌, ap, subst, arith, inl, inr}
-use Rattle.std.proofs.lemmas.Bool.Decides.{nat_tests}
 use Rattle.term_words.proofs.Totals.Members.{in-filter, filter-in, filter-distinct, in-both, in-left, in-right}
 use Rattle.term_words.specs.Object.{IsRecord}
 use Rattle.term_words.specs.Counted.{In, Distinct}
@@ -8,7 +7,7 @@ use Rattle.shared_rec.proofs.Records.{record-stays}
 use Rattle.std.proofs.lemmas.List.{append_assoc}
 use Rattle.std.proofs.lemmas.Bool.{eq-eqb, eqb-true}
 use Rattle.shared_rec.specs.Record.{count_in}
-use Rattle.off_heap_list.specs.Links.{names_it, named, Chain, naming, IsLink, Links}
+use Rattle.off_heap_list.specs.Links.{names_it, named, naming, IsLink, Links}
 use Rattle.off_heap_list.specs.Exact.{ListsHeld, AllCounted, Exact, OwnChain, IsOwn, AreOwn, objects_of, Chained}
 use Rattle.off_heap_list.specs.Swept.{records_of}
 use Rattle.off_heap_list.specs.Whole.{SweptWhole}

@@ -9,7 +9,7 @@ use Rattle.plain_term.specs.Tree.Tree.{Int, Atom, Pid, Ref, Nil, Cons, Tuple, Ma
 use Rattle.plain_term.specs.Tree.Trees.{end, ◌▹◌}
 use Rattle.plain_term.specs.Tree.Pairs.{stop, pair}
 use Rattle.term_tags.specs.declared.layouts.TheConstants.{TUPLE, REF, HEAP_BIN, SUB_BIN, MAP}
-use Rattle.term_words.specs.Role.{NEXT, COUNT, FIRST, FURTHER, NAMES, RECORD, RECORD_FIRST}
+use Rattle.term_words.specs.Role.{NEXT, FIRST, FURTHER, NAMES}
 use Rattle.term_words.specs.Object.{byte_of, IsObject, IsBoxed, IsInt, IsTuple, IsBinRecord, IsFunRecord, IsPointer, object_words, sign_tag}
 use Rattle.term_words.specs.Reach.{Reach, IsNamed, root, part, first_traced, parts_of}
 use Rattle.term_words.specs.Stands.{Stands, RowStands, KeysStand, ValuesStand, AllStand}
