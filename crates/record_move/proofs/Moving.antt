@@ -82,7 +82,7 @@ role-cases j =
     ]
 
 -- And it is a role of records.
-of-record : (j : ℕ) → OfRecord (record_roles j)
+pub of-record : (j : ℕ) → OfRecord (record_roles j)
 of-record j =
     let which : (j ≡ 0) ⊎ ((j ≡ 2) ⊎ ((j ≡ 1) ⊎ (3 ≤ j))) = grind arith in
     elim which [
@@ -92,7 +92,7 @@ of-record j =
     ]
 
 -- The first word of a record alone has its role.
-role-begins : (j : ℕ) → record_roles j ≡ RECORD_FIRST → j ≡ 0
+pub role-begins : (j : ℕ) → record_roles j ≡ RECORD_FIRST → j ≡ 0
 role-begins j e =
     let which : (j ≡ 0) ⊎ ((j ≡ 1) ⊎ ((j ≡ 2) ⊎ (3 ≤ j))) = grind arith in
     elim which [
@@ -108,7 +108,7 @@ names-few : (b : Bool) → (if b then 1 else 0) ≤ 1
 names-few true = omega arith
 names-few false = omega arith
 
-naming-few : (mem : List ℕ) (v : ℕ) (os : List ℕ) → naming mem v os ≤ length os
+pub naming-few : (mem : List ℕ) (v : ℕ) (os : List ℕ) → naming mem v os ≤ length os
 naming-few mem v [] = omega arith
 naming-few mem v (p ∷ os) = omega (arith, names-few (named mem p == v), naming-few mem v os)
 

@@ -65,7 +65,7 @@ module _ (c : ℕ → ℕ → Bool) (start mem : List ℕ) (head : ℕ) (os : Li
       let P : ℕ → Type 0 = λ x. Chain start x left-there in
       record { rest = left-there; moves = m; chain = subst P (sym next-word) next.chain; number = omega (arith, w.number, ap length next.is) }
 
-no-name : (x v : ℕ) → (x ≡ v → ⊥) → names_it x v ≡ 0
+pub no-name : (x v : ℕ) → (x ≡ v → ⊥) → names_it x v ≡ 0
 no-name x v far =
     let which : (x ≡ v) ⊎ ((x < v) ⊎ (v < x)) = grind arith in
     elim which [ inl e ↦ absurd (far e) | inr apart ↦ no-naming x v apart ]

@@ -29,7 +29,7 @@ free-keep c from to old new u free =
     let kept : Kept c c old new = record { longer = omega (arith, u.same_len); weaker = λ a k h. h; same = λ a k content h. u.others a (free a k h) } in
     frame c c old new kept
 
-role-past : (j : ℕ) → 3 ≤ j → record_roles j ≡ RECORD
+pub role-past : (j : ℕ) → 3 ≤ j → record_roles j ≡ RECORD
 role-past zero past = absurd (omega (arith, past))
 role-past (suc zero) past = absurd (omega (arith, past))
 role-past (suc (suc zero)) past = absurd (omega (arith, past))

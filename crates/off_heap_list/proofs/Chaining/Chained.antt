@@ -252,7 +252,7 @@ module _ (c : ℕ → ℕ → Bool) (old : List ℕ) (a u : ℕ) (single : IsSin
 
 -- What stands as a shared binary or as a fun can be chained.
 
-holder-place : (mem : List ℕ) (p : ℕ) → get_or mem p 0 ≡ head_word HOLDER 5 → name_place mem p ≡ p + 3
+pub holder-place : (mem : List ℕ) (p : ℕ) → get_or mem p 0 ≡ head_word HOLDER 5 → name_place mem p ≡ p + 3
 holder-place mem p e = rw e refl
 
 fun-place : (mem : List ℕ) (p k : ℕ) → get_or mem p 0 ≡ head_word FUN (k + 5) → name_place mem p ≡ p + 1

@@ -75,11 +75,11 @@ own-at : (c : ℕ → ℕ → Bool) (mem roots : List ℕ) (xs ys : List OwnChai
 own-at c mem roots [] ys x (o, os) = o
 own-at c mem roots (z ∷ xs) ys x (o, os) = own-at c mem roots xs ys x os
 
-distinct-left : (xs ys : List ℕ) → Distinct (xs ++ ys) → Distinct xs
+pub distinct-left : (xs ys : List ℕ) → Distinct (xs ++ ys) → Distinct xs
 distinct-left [] ys d = tt
 distinct-left (x ∷ xs) ys (n, d) = ((λ i. n (in-left x xs ys i)), distinct-left xs ys d)
 
-distinct-right : (xs ys : List ℕ) → Distinct (xs ++ ys) → Distinct ys
+pub distinct-right : (xs ys : List ℕ) → Distinct (xs ++ ys) → Distinct ys
 distinct-right [] ys d = d
 distinct-right (x ∷ xs) ys (n, d) = distinct-right xs ys d
 

@@ -33,7 +33,7 @@ few (suc n) ps d below =
     elim which [ inl e ↦ absurd (i.1 e) | inr under_n ↦ under_n ]) in
     omega (arith, l.words, rest)
 
-ones : (ps : List ℕ) → total one ps ≡ length ps
+pub ones : (ps : List ℕ) → total one ps ≡ length ps
 ones [] = refl
 ones (p ∷ ps) = omega (arith, ones ps)
 

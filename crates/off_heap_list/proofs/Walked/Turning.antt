@@ -144,7 +144,7 @@ turned-twice (x ∷ xs) ys zs = turned-twice xs (x ∷ ys) zs
 pub turned-back : (xs : List ℕ) → turned (turned xs []) [] ≡ xs
 turned-back xs = turned-twice xs [] [] ∙ append-nil xs
 
-turned-length : (xs ys : List ℕ) → length (turned xs ys) ≡ length xs + length ys
+pub turned-length : (xs ys : List ℕ) → length (turned xs ys) ≡ length xs + length ys
 turned-length [] ys = omega arith
 turned-length (x ∷ xs) ys = omega (arith, turned-length xs (x ∷ ys))
 
