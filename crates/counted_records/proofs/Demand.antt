@@ -1,6 +1,7 @@
 -- The words of the records that reached objects name.
-use Rattle.std.proofs.Common.{◌≡◌, ℕ, ◌+◌, ◌*◌, ◌≤◌, ◌⊎◌, ◌==◌, Bool, true, false, List, [], ◌∷◌, length, sum_by}
-use Rattle.std.proofs.Common.{true≢false, refl, sym, ap, subst, arith, inl, inr}
+use Rattle.std.proofs.Common.{◌≡◌, ℕ, ◌+◌, ◌*◌, ◌≤◌, ◌⊎◌, ◌==◌, Bool, true, List, [], ◌∷◌, length, sum_by}
+use Rattle.std.proofs.Common.{refl, sym, ap, subst, arith, inl, inr}
+use Rattle.std.proofs.lemmas.Bool.{false≢true, cases_eq, cases_Bool}
 use Rattle.std.proofs.lemmas.Bool.Decides.{nat_tests}
 use Rattle.std.proofs.lemmas.List.Sums.{sum_by-cons}
 use Rattle.std.specs.List.{list_any}
@@ -12,7 +13,7 @@ use Rattle.plain_machine.specs.Maps.{AllIn}
 use Rattle.term_words.specs.Object.{IsBinRecord, IsFunRecord}
 use Rattle.term_words.specs.Stands.{AllStand}
 use Rattle.term_words.specs.Counted.{In, Distinct, total}
-use Rattle.term_words.proofs.Totals.Members.{true-or-false, one-or-not, in-or-not}
+use Rattle.term_words.proofs.Totals.Members.{in-or-not}
 use Rattle.record_move.specs.Copies.{record_words}
 use Rattle.off_heap_list.specs.Links.{named}
 use Rattle.counted_records.specs.Occurs.{AreHeld, NamedOnce, OwnersDiffer, records_for}
@@ -49,19 +50,16 @@ id-words shared id = 4 + bin_words (length (shared_bytes shared id))
 
 -- Each number of a list once.
 
-false-true : false ≡ true → ⊥
-false-true e = true≢false (sym e)
-
 any-in : (n : ℕ) (ns : List ℕ) → list_any (λ m. m == n) ns ≡ true → In n ns
-any-in n [] h = absurd (false-true h)
-any-in n (m ∷ ns) h = elim (one-or-not n m) [
+any-in n [] h = absurd (false≢true h)
+any-in n (m ∷ ns) h = elim (cases_eq n m) [
   | inl e ↦ inl e
   | inr far ↦ inr (any-in n ns (grind (arith, nat_tests, h, far)))
 ]
 
 once-in : (n : ℕ) (ns : List ℕ) → In n ns → In n (each_once ns)
 once-in n [] i = absurd i
-once-in n (m ∷ ns) i = elim (true-or-false (list_any (λ x. x == m) ns)) [
+once-in n (m ∷ ns) i = elim (cases_Bool (list_any (λ x. x == m) ns)) [
   | inl e ↦
       let deep : In n ns = elim i [ inl same ↦ (let P : ℕ → Type 0 = λ x. In x ns in subst P (sym same) (any-in m ns e)) | inr j ↦ j ] in
       rw e (once-in n ns deep)

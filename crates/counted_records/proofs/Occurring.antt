@@ -1,6 +1,7 @@
 -- What occurs in the trees of roots, and what reached objects name.
 use Rattle.std.proofs.Common.{◌≡◌, ℕ, ◌+◌, ◌*◌, ◌/◌, ◌%◌, ◌≤◌, ◌⊎◌, ◌==◌, if◌then◌else◌, Bool, true, false, List, [], ◌∷◌, ◌++◌, map, get_or}
 use Rattle.std.proofs.Common.{refl, sym, ◌∙◌, ap, subst, arith, inl, inr}
+use Rattle.std.proofs.lemmas.Bool.{cases_eq, cases_Bool}
 use Rattle.std.proofs.lemmas.Bool.Decides.{nat_tests}
 use Rattle.plain_term.specs.Tree.{Tree, Trees, Pairs, keys_of, values_of}
 use Rattle.plain_term.specs.Tree.Tree.{Int, Atom, Pid, Ref, Nil, Cons, Tuple, Map, Bin, Shared, Part, Fun}
@@ -13,11 +14,12 @@ use Rattle.term_words.specs.Object.{IsBinRecord, IsFunRecord}
 use Rattle.term_words.specs.Stands.{Stands, RowStands, KeysStand, ValuesStand, AllStand, IsBase}
 use Rattle.term_words.specs.Reach.{Reach, parts_of}
 use Rattle.term_words.specs.Counted.{In, Distinct, total}
-use Rattle.term_words.proofs.Totals.Members.{true-or-false, one-or-not, in-both}
+use Rattle.term_words.proofs.Totals.Members.{in-both}
 use Rattle.term_words.proofs.ByKind.Shapes.{told, shape-shared, shape-fun}
 use Rattle.term_words.proofs.Reaching.Reached.{reached}
 use Rattle.off_heap_list.specs.Links.{names_it, name_place, named, naming, IsLink, IsLinkHeader}
 use Rattle.off_heap_list.proofs.Chaining.Chained.{one-naming}
+use Rattle.record_move.proofs.Walking.{no-name}
 use Rattle.counted_records.specs.Occurs.{AreHeld, BinOccurs, FunOccurs}
 use Rattle.counted_records.proofs.Weighing.{weighed, own, weights-cover, HasWeights}
 
@@ -26,7 +28,7 @@ use Rattle.counted_records.proofs.Weighing.{weighed, own, weights-cover, HasWeig
 pub occurrences-both : (n : ℕ) (xs ys : List ℕ) → occurrences n (xs ++ ys) ≡ occurrences n xs + occurrences n ys
 occurrences-both n [] ys = omega arith
 occurrences-both n (x ∷ xs) ys =
-    elim (true-or-false (x == n)) [
+    elim (cases_Bool (x == n)) [
       | inl e ↦ rw e (omega (arith, occurrences-both n xs ys))
       | inr e ↦ rw e (omega (arith, occurrences-both n xs ys))
     ]
@@ -36,7 +38,7 @@ occurs-first n m ms e = let b : (m == n) ≡ true = grind (arith, nat_tests, e) 
 
 in-occurrences : (n : ℕ) (xs : List ℕ) → 1 ≤ occurrences n xs → In n xs
 in-occurrences n [] h = absurd (omega (arith, h))
-in-occurrences n (x ∷ xs) h = elim (one-or-not n x) [
+in-occurrences n (x ∷ xs) h = elim (cases_eq n x) [
   | inl e ↦ inl e
   | inr far ↦
       let b : (x == n) ≡ false = grind (arith, nat_tests, far) in
@@ -102,7 +104,7 @@ no-fun n (Shared id) b = refl
 no-fun n _ b = absurd b
 
 funs-after : (n m : ℕ) (ms : List ℕ) → occurrences n ms ≤ occurrences n (m ∷ ms)
-funs-after n m ms = elim (true-or-false (m == n)) [ inl e ↦ rw e (omega arith) | inr e ↦ rw e (omega arith) ]
+funs-after n m ms = elim (cases_Bool (m == n)) [ inl e ↦ rw e (omega arith) | inr e ↦ rw e (omega arith) ]
 
 funs-heavy : (c : ℕ → ℕ → Bool) (shared : List (List ℕ)) (mem : List ℕ) (n w : ℕ) (t : Tree) → Stands c shared mem w t → weighed (fun-weight n) (parts_of t) ≤ fun-weight n t
 unfolding Stands fun-weight
@@ -143,26 +145,23 @@ module _ (c : ℕ → ℕ → Bool) (shared : List (List ℕ)) (mem : List ℕ) 
   names-here v w = names_it (named mem (w / 4)) v
 
   names-most : (x v : ℕ) → names_it x v ≤ 1
-  names-most x v = elim (true-or-false (x == v)) [ inl e ↦ rw e (omega arith) | inr e ↦ rw e (omega arith) ]
-
-  names-none : (x v : ℕ) → (x ≡ v → ⊥) → names_it x v ≡ 0
-  names-none x v far = let b : (x == v) ≡ false = grind (arith, nat_tests, far) in rw b refl
+  names-most x v = elim (cases_Bool (x == v)) [ inl e ↦ rw e (omega arith) | inr e ↦ rw e (omega arith) ]
 
   id-step : (v serial : ℕ) (bytes : List ℕ) → IsBinRecord c mem v serial bytes → (w : ℕ) (t : Tree) → Stands c shared mem w t
       → total (names-here v) (own w t) + weighed (id-weight serial) (parts_of t) ≤ id-weight serial t
   unfolding id-weight names-here
-  id-step v serial bytes there w (Shared id) s = elim (one-or-not (named mem (w / 4)) v) [
+  id-step v serial bytes there w (Shared id) s = elim (cases_eq (named mem (w / 4)) v) [
     | inl e ↦
         let P : ℕ → Type 0 = λ x. IsBinRecord c mem x id (shared_bytes shared id) in
         let here : IsBinRecord c mem v id (shared_bytes shared id) = subst P e (bin-named w id s) in
         omega (arith, occurs-first serial id [] (sym here.owner ∙ there.owner), names-most (named mem (w / 4)) v)
-    | inr far ↦ omega (arith, names-none (named mem (w / 4)) v far)
+    | inr far ↦ omega (arith, no-name (named mem (w / 4)) v far)
   ]
   id-step v serial bytes there w (Fun name arity creator env) s =
       let P : ℕ → Type 0 = λ x. IsFunRecord c mem x name arity in
       omega (
         arith,
-        names-none (named mem (w / 4)) v (λ e. kinds-differ v serial bytes name arity there (subst P e (fun-named w name arity creator env s))),
+        no-name (named mem (w / 4)) v (λ e. kinds-differ v serial bytes name arity there (subst P e (fun-named w name arity creator env s))),
         ids-weighed serial env,
       )
   id-step v serial bytes there w t s = omega (arith, ids-heavy serial t)
@@ -172,8 +171,8 @@ module _ (c : ℕ → ℕ → Bool) (shared : List (List ℕ)) (mem : List ℕ) 
   unfolding fun-weight names-here
   fun-step v name arity there w (Shared id) s =
       let P : ℕ → Type 0 = λ x. IsBinRecord c mem x id (shared_bytes shared id) in
-      omega (arith, names-none (named mem (w / 4)) v (λ e. kinds-differ v id (shared_bytes shared id) name arity (subst P e (bin-named w id s)) there))
-  fun-step v name arity there w (Fun name2 arity2 creator env) s = elim (one-or-not (named mem (w / 4)) v) [
+      omega (arith, no-name (named mem (w / 4)) v (λ e. kinds-differ v id (shared_bytes shared id) name arity (subst P e (bin-named w id s)) there))
+  fun-step v name arity there w (Fun name2 arity2 creator env) s = elim (cases_eq (named mem (w / 4)) v) [
     | inl e ↦
         let P : ℕ → Type 0 = λ x. IsFunRecord c mem x name2 arity2 in
         let here : IsFunRecord c mem v name2 arity2 = subst P e (fun-named w name2 arity2 creator env s) in
@@ -187,7 +186,7 @@ module _ (c : ℕ → ℕ → Bool) (shared : List (List ℕ)) (mem : List ℕ) 
     | inr far ↦
         omega (
           arith,
-          names-none (named mem (w / 4)) v far,
+          no-name (named mem (w / 4)) v far,
           funs-weighed (256 * name + arity) env,
           funs-after (256 * name + arity) (256 * name2 + arity2) (funs_in_all env),
         )

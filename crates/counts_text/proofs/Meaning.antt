@@ -3,6 +3,7 @@ use Rattle.std.proofs.Common.{◌≡◌, ℕ, ◌+◌, ◌*◌, ◌<◌, ◌≤�
 use Rattle.plain_term.specs.Bytes.{shared_bytes}
 use Rattle.plain_term.specs.Measures.{bin_words}
 use Rattle.plain_term.specs.Tree.{Trees}
+use Rattle.plain_term.proofs.Rising.{is-less}
 use Rattle.plain_machine.specs.State.{State}
 use Rattle.plain_machine.specs.Tightness.{ids_in_all, funs_in_all}
 use Rattle.plain_machine.specs.Maps.{CountedBin, CountedFun, AreIds, AreFuns, IsBelow, AreCounted, AllIn, CountsOf, id_of, code_of, living_ids, living_funs, occurrences}
@@ -17,7 +18,7 @@ use Rattle.counted_records.specs.Occurs.{AreHeld, BinOccurs, FunOccurs}
 use Rattle.counted_records.proofs.Occurring.{bin-namings, fun-namings, ids-all-stand, funs-all-stand}
 use Rattle.atom_names.specs.Names.{AreNames}
 use Rattle.counts_text.specs.Told.{bin_of, fun_of, is_before, by_name, CanReadTables, CanTellCounts, counts_told}
-use Rattle.counts_text.proofs.Ordered.{Rising, lt-less, in-named, named-in, named-rises}
+use Rattle.counts_text.proofs.Ordered.{Rising, in-named, named-in, named-rises}
 
 -- Each record that stands is counted by the chain's objects, which the roots reach.
 pub record CountsExactly (c : ℕ → ℕ → Bool) (mem roots os : List ℕ) : Type 0 where
@@ -63,7 +64,7 @@ funs-rise mem names (v ∷ vs) each (first, rest) =
   where
     below-first : (mem : List ℕ) (names : List (List ℕ)) (v : ℕ) (vs : List ℕ) → ((w : ℕ) → In w vs → is_before mem names v w ≡ true) → IsBelow names (fun_of mem v) (map (fun_of mem) vs)
     below-first mem names v [] f = tt
-    below-first mem names v (w ∷ vs) f = lt-less _ (f w (inl refl))
+    below-first mem names v (w ∷ vs) f = is-less _ (f w (inl refl))
 
 bins-counted : (mem occurring : List ℕ) (vs : List ℕ) → ((v : ℕ) → In v vs → (1 ≤ count_in mem v) × (count_in mem v ≤ occurrences (owner_in mem v) occurring))
     → AreCounted id_of (λ (b : CountedBin). b.count) occurring (map (bin_of mem) vs)

@@ -1,6 +1,7 @@
 -- The order of funs' records.
 use Rattle.std.proofs.Common.{◌≡◌, ◌≢◌, ℕ, zero, suc, ◌+◌, ◌/◌, ◌%◌, ◌<◌, ◌⊎◌, if◌then◌else◌, true, false, List, [], ◌∷◌, length, take, get_or, Option, Some, None}
-use Rattle.std.proofs.Common.{true≢false, refl, sym, ◌∙◌, ap, subst, arith, inl, inr}
+use Rattle.std.proofs.Common.{refl, sym, ◌∙◌, ap, subst, arith, inl, inr}
+use Rattle.std.proofs.lemmas.Bool.{false≢true, cases_eq, cases_Bool}
 use Rattle.std.specs.Ordering.{is_lt, nat_cmp, ordering_then}
 use Rattle.std.specs.Cmp.{IsTotalOrder, tied_itself}
 use Rattle.std.specs.Cmp.Lexicographic.{slice_cmp}
@@ -11,23 +12,16 @@ use Rattle.std.proofs.lemmas.List.{take_more}
 use Rattle.std.proofs.lemmas.Map.Lookups.{exact_bytes}
 use Rattle.plain_term.specs.Order.{name_of}
 use Rattle.plain_term.proofs.LawLemmas.{neither}
+use Rattle.plain_term.proofs.Rising.{is-less}
 use Rattle.atom_names.specs.Names.{AreNames, index_of}
 use Rattle.term_words.specs.Counted.{In}
-use Rattle.term_words.proofs.Totals.Members.{true-or-false, one-or-not, in-both, in-left, in-right}
+use Rattle.term_words.proofs.Totals.Members.{in-both, in-left, in-right}
 use Rattle.shared_rec.specs.Record.{owner_in}
 use Rattle.record_move.proofs.Renewing.{member-at}
 use Rattle.counts_text.specs.Told.{record_order, is_before, inserted, by_name, is_after, is_better, AreApart, CanReadTables, CanReadSome, IsLeast, IsBest}
 
-false-true : false ≡ true → ⊥
-false-true e = true≢false (sym e)
-
-pub lt-less : (o : Ordering) → is_lt o ≡ true → o ≡ Less
-lt-less Less h = refl
-lt-less Equal h = absurd (false-true h)
-lt-less Greater h = absurd (false-true h)
-
 not-less : (o : Ordering) → is_lt o ≡ false → o ≢ Less
-not-less o h e = false-true (sym h ∙ ap is_lt e)
+not-less o h e = false≢true (sym h ∙ ap is_lt e)
 
 both-equal : (a b : Ordering) → ordering_then a b ≡ Equal → (a ≡ Equal) × (b ≡ Equal)
 both-equal Less b e = absurd cc
@@ -48,10 +42,10 @@ module _ (mem : List ℕ) (names : List (List ℕ)) where
   order-total = then_total (on_total (λ v. name_of names (owner_in mem v / 256)) nat_list_cmp_total) (on_total (λ v. owner_in mem v % 256) nat_cmp_total)
 
   pub before-trans : (x y z : ℕ) → is_before mem names x y ≡ true → is_before mem names y z ≡ true → is_before mem names x z ≡ true
-  before-trans x y z a b = ap is_lt (order-total.trans x y z (lt-less (record_order mem names x y) a) (lt-less (record_order mem names y z) b))
+  before-trans x y z a b = ap is_lt (order-total.trans x y z (is-less (record_order mem names x y) a) (is-less (record_order mem names y z) b))
 
   pub before-none : (x : ℕ) → is_before mem names x x ≡ true → ⊥
-  before-none x a = false-true (sym (ap is_lt (tied_itself order-total x)) ∙ a)
+  before-none x a = false≢true (sym (ap is_lt (tied_itself order-total x)) ∙ a)
 
   pub before-back : (x y : ℕ) → is_before mem names x y ≡ true → is_before mem names y x ≡ true → ⊥
   before-back x y a b = before-none x (before-trans x y x a b)
@@ -74,7 +68,7 @@ module _ (mem : List ℕ) (names : List (List ℕ)) where
 
   pub in-inserted : (v x : ℕ) (ws : List ℕ) → In x (inserted mem names v ws) → (x ≡ v) ⊎ In x ws
   in-inserted v x [] i = i
-  in-inserted v x (w ∷ ws) i = elim (true-or-false (is_before mem names w v)) [
+  in-inserted v x (w ∷ ws) i = elim (cases_Bool (is_before mem names w v)) [
     | inl b ↦
         let here : In x (w ∷ inserted mem names v ws) = rw b at i in
         elim here [ inl e ↦ inr (inl e) | inr j ↦ elim (in-inserted v x ws j) [ inl e ↦ inl e | inr k ↦ inr (inr k) ] ]
@@ -85,7 +79,7 @@ module _ (mem : List ℕ) (names : List (List ℕ)) where
 
   pub inserted-in : (v x : ℕ) (ws : List ℕ) → (x ≡ v) ⊎ In x ws → In x (inserted mem names v ws)
   inserted-in v x [] i = i
-  inserted-in v x (w ∷ ws) i = elim (true-or-false (is_before mem names w v)) [
+  inserted-in v x (w ∷ ws) i = elim (cases_Bool (is_before mem names w v)) [
     | inl b ↦ rw b (elim i [
       | inl e ↦ inr (inserted-in v x ws (inl e))
       | inr j ↦ elim j [ inl e ↦ inl e | inr k ↦ inr (inserted-in v x ws (inr k)) ]
@@ -95,7 +89,7 @@ module _ (mem : List ℕ) (names : List (List ℕ)) where
 
   inserted-length : (v : ℕ) (ws : List ℕ) → length (inserted mem names v ws) ≡ length ws + 1
   inserted-length v [] = refl
-  inserted-length v (w ∷ ws) = elim (true-or-false (is_before mem names w v)) [ inl b ↦ rw b (omega (arith, inserted-length v ws)) | inr b ↦ rw b (omega arith) ]
+  inserted-length v (w ∷ ws) = elim (cases_Bool (is_before mem names w v)) [ inl b ↦ rw b (omega (arith, inserted-length v ws)) | inr b ↦ rw b (omega arith) ]
 
   pub named-length : (vs : List ℕ) → length (by_name mem names vs) ≡ length vs
   named-length [] = refl
@@ -113,7 +107,7 @@ module _ (mem : List ℕ) (names : List (List ℕ)) where
   insert-rises : (v : ℕ) (ws : List ℕ) → ((w : ℕ) → In w ws → is_before mem names w v ≡ false → is_before mem names v w ≡ true) → Rising ws → Rising (inserted mem names v ws)
   unfolding Rising
   insert-rises v [] other r = ((λ w i. absurd i), tt)
-  insert-rises v (w ∷ ws) other (first, rest) = elim (true-or-false (is_before mem names w v)) [
+  insert-rises v (w ∷ ws) other (first, rest) = elim (cases_Bool (is_before mem names w v)) [
     | inl b ↦ rw b (
       (λ x i. elim (in-inserted v x ws i) [
         | inl e ↦ (let P : ℕ → Type 0 = λ z. is_before mem names w z ≡ true in subst P (sym e) b)
@@ -141,7 +135,7 @@ module _ (mem : List ℕ) (names : List (List ℕ)) where
   named-rises [] n read a = tt
   named-rises (v ∷ vs) n read a =
       insert-rises v (by_name mem names vs)
-      (λ w i none. elim (true-or-false (is_before mem names v w)) [
+      (λ w i none. elim (cases_Bool (is_before mem names v w)) [
         | inl b ↦ b
         | inr b ↦
             absurd
@@ -189,7 +183,7 @@ module _ (mem : List ℕ) (names : List (List ℕ)) where
     no-earlier zero j last e below less after = omega (arith, less)
     no-earlier (suc k) j last e below less after =
         let here : is_before mem names (get_or vs k 0) (get_or vs j 0) ≡ true = ap (λ z. is_after mem names z (get_or vs j 0)) (sym e) ∙ after in
-        elim (one-or-not j k) [
+        elim (cases_eq j k) [
           | inl same ↦ (let P : ℕ → Type 0 = λ z. is_before mem names (get_or vs k 0) (get_or vs z 0) ≡ true in before-none (get_or vs k 0) (subst P same here))
           | inr far ↦ before-back (get_or vs k 0) (get_or vs j 0) here (rising-at vs j k r (omega (arith, less, far)) (omega (arith, below)))
         ]
@@ -216,7 +210,7 @@ next-is mem names funs i v last r below l n =
           let none : is_before mem names (get_or (by_name mem names funs) i 0) v ≡ false =
           n.least (get_or (by_name mem names funs) i 0) (in-named mem names (get_or (by_name mem names funs) i 0) funs (member-at (by_name mem names funs) i under))
           (comes-next mem names (by_name mem names funs) r i last l under) in
-          false-true (sym none ∙ less))
+          false≢true (sym none ∙ less))
     ]
 
 -- There is a next one where not all were written.
@@ -224,7 +218,7 @@ pub next-there : (mem : List ℕ) (names : List (List ℕ)) (funs : List ℕ) (i
     → LastIs mem names (by_name mem names funs) i last → IsBest mem names last funs None → ⊥
 next-there mem names funs i last r below l none =
     let under : i < length (by_name mem names funs) = omega (arith, below, named-length mem names funs) in
-    false-true
+    false≢true
     (sym (none (get_or (by_name mem names funs) i 0) (in-named mem names (get_or (by_name mem names funs) i 0) funs (member-at (by_name mem names funs) i under)))
     ∙ comes-next mem names (by_name mem names funs) r i last l under)
 
@@ -256,18 +250,18 @@ module _ (mem : List ℕ) (names : List (List ℕ)) (last : Option ℕ) where
     after = b.after;
     least = λ w inside after. elim (later-in w vs i below inside) [
       | inl a ↦ b.least w a after
-      | inr e ↦ absurd (let P : ℕ → Type 0 = λ z. is_after mem names last z ≡ true in false-true (sym out ∙ subst P e after))
+      | inr e ↦ absurd (let P : ℕ → Type 0 = λ z. is_after mem names last z ≡ true in false≢true (sym out ∙ subst P e after))
     ];
   }
 
   one-less : (x y z : ℕ) → is_before mem names x y ≡ true → is_before mem names z y ≡ false → is_before mem names z x ≡ false
-  one-less x y z a b = elim (true-or-false (is_before mem names z x)) [
-    | inl c ↦ absurd (false-true (sym b ∙ before-trans mem names z x y c a))
+  one-less x y z a b = elim (cases_Bool (is_before mem names z x)) [
+    | inl c ↦ absurd (false≢true (sym b ∙ before-trans mem names z x y c a))
     | inr c ↦ c
   ]
 
   none-self : (x : ℕ) → is_before mem names x x ≡ false
-  none-self x = elim (true-or-false (is_before mem names x x)) [ inl c ↦ absurd (before-none mem names x c) | inr c ↦ c ]
+  none-self x = elim (cases_Bool (is_before mem names x x)) [ inl c ↦ absurd (before-none mem names x c) | inr c ↦ c ]
 
   -- One that does is the best where it is less.
   pub best-more : (vs : List ℕ) (i : ℕ) (best : Option ℕ) → i < length vs → is_after mem names last (get_or vs i 0) ≡ true → IsBest mem names last (take i vs) best
@@ -276,11 +270,11 @@ module _ (mem : List ℕ) (names : List (List ℕ)) (last : Option ℕ) where
     inside = this-in vs i below;
     after = comes;
     least = λ w inside after. elim (later-in w vs i below inside) [
-      | inl a ↦ absurd (false-true (sym (b w a) ∙ after))
+      | inl a ↦ absurd (false≢true (sym (b w a) ∙ after))
       | inr e ↦ (let P : ℕ → Type 0 = λ z. is_before mem names z (get_or vs i 0) ≡ false in subst P (sym e) (none-self (get_or vs i 0)))
     ];
   }
-  best-more vs i (Some x) below comes b = elim (true-or-false (is_before mem names (get_or vs i 0) x)) [
+  best-more vs i (Some x) below comes b = elim (cases_Bool (is_before mem names (get_or vs i 0) x)) [
     | inl c ↦ rw c (record {
       inside = this-in vs i below;
       after = comes;
@@ -301,4 +295,4 @@ module _ (mem : List ℕ) (names : List (List ℕ)) (last : Option ℕ) where
 
   pub better-read : (v : ℕ) (best : Option ℕ) → CanReadTables mem names v → CanReadSome mem names best → CanReadSome mem names (if is_better mem names v best then Some v else best)
   better-read v None r b = r
-  better-read v (Some x) r b = elim (true-or-false (is_before mem names v x)) [ inl c ↦ rw c r | inr c ↦ rw c b ]
+  better-read v (Some x) r b = elim (cases_Bool (is_before mem names v x)) [ inl c ↦ rw c r | inr c ↦ rw c b ]

@@ -1,6 +1,7 @@
 -- When the words of a room are an object that stands: one lemma a kind, by the words that lie there.
-use Rattle.std.proofs.Common.{◌≡◌, ℕ, zero, suc, ◌+◌, ◌-◌, ◌*◌, ◌/◌, ◌%◌, ◌^◌, ◌<◌, ◌≤◌, ◌⊎◌, Bool, true, false, List, [], ◌∷◌, ◌++◌, length, replicate, get_or, ℤ}
+use Rattle.std.proofs.Common.{◌≡◌, ℕ, zero, suc, ◌+◌, ◌-◌, ◌*◌, ◌/◌, ◌%◌, ◌^◌, ◌<◌, ◌≤◌, Bool, true, false, List, [], ◌∷◌, ◌++◌, length, replicate, get_or, ℤ}
 use Rattle.std.proofs.Common.{refl, sym, ◌∙◌, subst, arith, inl, inr, nat_lt}
+use Rattle.std.proofs.lemmas.Bool.{cases_Bool}
 use Rattle.std.proofs.lemmas.Bool.Decides.{nat_tests}
 use Rattle.plain_term.specs.Tree.{Tree, Trees, Pairs, trees_len, pairs_len, keys_of, values_of, same_trees}
 use Rattle.plain_term.specs.Tree.Tree.{Int, Ref, Map, Bin, Shared, Part, Fun}
@@ -136,10 +137,6 @@ two-digits : (i : ℤ) → is_small i ≡ false → nat_lt (magnitude i) (2 ^ 64
     → (integer_words i ≡ head_word (sign_tag i) 2 ∷ magnitude i % 2 ^ 64 ∷ magnitude i / 2 ^ 64 ∷ []) × (int_flat i ≡ 3)
 two-digits i big low = (rw (big, low) refl, rw (big, low) refl)
 
-either : (b : Bool) → (b ≡ true) ⊎ (b ≡ false)
-either true = inl refl
-either false = inr refl
-
 big-one : (c d : ℕ → ℕ → Bool) (top : ℕ) (new : List ℕ) (r : ℕ) (i : ℤ) → is_small i ≡ false → magnitude i < 2 ^ 64 → r ≡ boxed_word top → top + 2 ≤ length new
     → Lie new top (head_word (sign_tag i) 1 ∷ magnitude i ∷ []) → Taken plain c d top 2 → (shared : List (List ℕ)) → Stands d shared new r (Int i)
 unfolding Stands
@@ -166,9 +163,9 @@ big-two c d top new r i large range is inside lie taken shared =
 
 pub int-made : (c d : ℕ → ℕ → Bool) (top : ℕ) (new : List ℕ) (r : ℕ) (i : ℤ) → magnitude i < 2 ^ 127 → top + int_flat i ≤ length new → (is_small i ≡ true → r ≡ small_word i)
     → (is_small i ≡ false → r ≡ boxed_word top) → Lie new top (integer_words i) → Taken plain c d top (int_flat i) → (shared : List (List ℕ)) → Stands d shared new r (Int i)
-int-made c d top new r i range inside small boxed lie taken shared = elim (either (is_small i)) [
+int-made c d top new r i range inside small boxed lie taken shared = elim (cases_Bool (is_small i)) [
   | inl is ↦ stands-small d shared new r i is (small is)
-  | inr big ↦ elim (either (nat_lt (magnitude i) (2 ^ 64))) [
+  | inr big ↦ elim (cases_Bool (nat_lt (magnitude i) (2 ^ 64))) [
     | inl low ↦
         let P : List ℕ → Type 0 = λ ws. Lie new top ws in
         let Q : ℕ → Type 0 = λ n. Taken plain c d top n in

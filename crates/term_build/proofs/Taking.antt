@@ -1,5 +1,6 @@
 -- Words are taken for an object under any test: what stood stands still, and the object stands.
 use Rattle.std.proofs.Common.{◌≡◌, ℕ, zero, suc, ◌+◌, ◌-◌, ◌*◌, ◌<◌, ◌≤◌, ◌⊎◌, Bool, true, false, List, [], ◌∷◌, length, get_or, refl, sym, ◌∙◌, subst, arith, inl, inr, nat_le, nat_lt}
+use Rattle.std.proofs.lemmas.Bool.{le-leb}
 use Rattle.std.proofs.lemmas.Bool.Decides.{nat_tests}
 use Rattle.word_mem.specs.declared.ranges.Room.{Room}
 use Rattle.plain_term.specs.Tree.{Tree, Trees, trees_len}
@@ -73,11 +74,11 @@ tuple-made c d top n old new parts r count few inside lie is taken k shared ts a
 
 -- The test with an object's roles beside.
 
-beside-new : (roles : ℕ → ℕ) (c : ℕ → ℕ → Bool) (top n a k : ℕ) → top ≤ a → a < top + n → with_object roles c top n a k ≡ true → roles (a - top) ≡ k
+pub beside-new : (roles : ℕ → ℕ) (c : ℕ → ℕ → Bool) (top n a k : ℕ) → top ≤ a → a < top + n → with_object roles c top n a k ≡ true → roles (a - top) ≡ k
 unfolding with_object
 beside-new roles c top n a k from below h = grind (arith, nat_tests)
 
-beside-old : (roles : ℕ → ℕ) (c : ℕ → ℕ → Bool) (top n a k : ℕ) → (a < top) ⊎ (top + n ≤ a) → with_object roles c top n a k ≡ c a k
+pub beside-old : (roles : ℕ → ℕ) (c : ℕ → ℕ → Bool) (top n a k : ℕ) → (a < top) ⊎ (top + n ≤ a) → with_object roles c top n a k ≡ c a k
 unfolding with_object
 beside-old roles c top n a k apart = grind (arith, nat_tests, apart)
 
@@ -168,10 +169,7 @@ with-object-next roles c top n a two h = elim (cut top n a) [
 -- The words of a map are those of two objects.
 
 map-low : (n j : ℕ) → j ≤ n → of_map n j ≡ plain j
-map-low n j low = rw (is j n low) refl
-  where
-    is : (j n : ℕ) → j ≤ n → nat_le j n ≡ true
-    is j n low = grind (arith, nat_tests)
+map-low n j low = rw (le-leb j n low) refl
 
 map-high : (n j : ℕ) → of_map n (1 + n + j) ≡ plain j
 map-high n j =

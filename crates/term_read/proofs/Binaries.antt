@@ -1,5 +1,6 @@
 -- Where the bytes of a binary lie, from the numbers that the readers read.
-use Rattle.std.proofs.Common.{◌≡◌, ℕ, zero, suc, ◌+◌, ◌/◌, ◌%◌, ◌<◌, ◌≤◌, Bool, List, [], ◌∷◌, length, get_or, take, drop, refl, sym, ◌∙◌, ap, subst, arith, pos, negsuc, Option, Some, None, zero-add, slice_get, length-take, get_or-take, get_or-drop, option_map, option_and_then}
+use Rattle.std.proofs.Common.{◌≡◌, ℕ, ◌+◌, ◌/◌, ◌%◌, ◌<◌, ◌≤◌, Bool, List, length, get_or, take, drop, refl, sym, ◌∙◌, ap, subst, arith, pos, negsuc, Option, Some, None, zero-add, slice_get, length-take, get_or-take, get_or-drop, option_map, option_and_then}
+use Rattle.std.proofs.lemmas.Option.{none-some, same_Some, slice_get-get_or, slice_get_past}
 use Rattle.plain_term.specs.Measures.{bin_words}
 use Rattle.plain_term.specs.Bytes.{bytes_of, shared_bytes}
 use Rattle.plain_term.specs.Tree.{Tree}
@@ -11,12 +12,6 @@ use Rattle.term_read.specs.Parts.{binary_of, whole_of, TellsOf, byte_len_in, byt
 use Rattle.term_read.specs.Data.{BytesFrom, IsData, HasData, IsFirst, HasFirst}
 use Rattle.term_read.specs.declared.looks.Bytes.{Bytes}
 use Rattle.term_words.proofs.ByKind.Shapes.{told}
-
-some-is : {A : Type 0} (x y : A) → Some x ≡ Some y → x ≡ y
-some-is x y e = cc
-
-none-some : {A : Type 0} (x : A) → None ≡ Some x → ⊥
-none-some x e = cc
 
 pub lies-from : (mem : List ℕ) (q : ℕ) (bytes : List ℕ) → BytesLie mem q bytes → q + bin_words (length bytes) ≤ length mem → BytesFrom mem q 0 bytes
 lies-from mem q bytes lie inside = record {
@@ -102,8 +97,8 @@ slice-from mem first offset len whole b inside = record {
 }
 
 pub base-some : (mem : List ℕ) (shared : List (List ℕ)) (base : Tree) (v : ℕ) → IsBase base → IsFirst mem (whole_of shared base) (Some v) → BytesFrom mem v 0 (bytes_of shared base)
-base-some mem shared (Bin bytes) v is (u, e, b) = let P : ℕ → Type 0 = λ x. BytesFrom mem x 0 bytes in subst P (sym (some-is v u e)) b
-base-some mem shared (Shared id) v is (u, e, b) = let P : ℕ → Type 0 = λ x. BytesFrom mem x 0 (shared_bytes shared id) in subst P (sym (some-is v u e)) b
+base-some mem shared (Bin bytes) v is (u, e, b) = let P : ℕ → Type 0 = λ x. BytesFrom mem x 0 bytes in subst P (sym (same_Some v u e)) b
+base-some mem shared (Shared id) v is (u, e, b) = let P : ℕ → Type 0 = λ x. BytesFrom mem x 0 (shared_bytes shared id) in subst P (sym (same_Some v u e)) b
 base-some mem shared _ v is b = absurd is
 
 pub base-none : (mem : List ℕ) (shared : List (List ℕ)) (base : Tree) → IsBase base → IsFirst mem (whole_of shared base) None → ⊥
@@ -115,7 +110,7 @@ base-none mem shared _ is b = absurd is
 
 len-told : (mem : List ℕ) (o : Option (List ℕ)) (d : Bytes) → IsData mem o (Some d) → Some d.len ≡ option_map length o
 len-told mem None d e = absurd (none-some d (sym e))
-len-told mem (Some bytes) d (x, e, b, l) = ap Some (ap (λ z. z.len) (some-is d x e) ∙ l)
+len-told mem (Some bytes) d (x, e, b, l) = ap Some (ap (λ z. z.len) (same_Some d x e) ∙ l)
 
 len-none : (mem : List ℕ) (o : Option (List ℕ)) → IsData mem o None → None ≡ option_map length o
 len-none mem None e = refl
@@ -127,28 +122,18 @@ tells-len mem w d h = record { each = λ c shared t s. len-told mem (binary_of s
 pub no-len : (mem : List ℕ) (w : ℕ) → HasData mem w None → TellsOf byte_len_in mem w None
 no-len mem w h = record { each = λ c shared t s. len-none mem (binary_of shared t) (h.each c shared t s) }
 
-get-some : (xs : List ℕ) (i : ℕ) → i < length xs → slice_get xs i ≡ Some (get_or xs i 0)
-get-some [] i below = absurd (omega arith)
-get-some (x ∷ xs) zero below = refl
-get-some (x ∷ xs) (suc i) below = get-some xs i (omega arith)
-
-get-none : (xs : List ℕ) (i : ℕ) → length xs ≤ i → slice_get xs i ≡ None
-get-none [] i far = refl
-get-none (x ∷ xs) zero far = absurd (omega arith)
-get-none (x ∷ xs) (suc i) far = get-none xs i (omega arith)
-
 byte-told : (mem : List ℕ) (o : Option (List ℕ)) (d : Bytes) (i : ℕ) → IsData mem o (Some d) → i < d.len
     → Some (byte_of (get_or mem (d.first + (d.start + i) / 8) 0) ((d.start + i) % 8)) ≡ option_and_then (λ bytes. slice_get bytes i) o
 byte-told mem None d i e below = absurd (none-some d (sym e))
 byte-told mem (Some bytes) d i (x, e, b, l) below =
     let P : Bytes → Type 0 = λ z. i < z.len → Some (byte_of (get_or mem (z.first + (z.start + i) / 8) 0) ((z.start + i) % 8)) ≡ slice_get bytes i in
-    subst P (sym (some-is d x e)) (λ h. ap Some (b.each i (omega arith)) ∙ sym (get-some bytes i (omega arith))) below
+    subst P (sym (same_Some d x e)) (λ h. ap Some (b.each i (omega arith)) ∙ sym (slice_get-get_or bytes i 0 (omega arith))) below
 
 byte-past : (mem : List ℕ) (o : Option (List ℕ)) (d : Bytes) (i : ℕ) → IsData mem o (Some d) → d.len ≤ i → None ≡ option_and_then (λ bytes. slice_get bytes i) o
 byte-past mem None d i e far = absurd (none-some d (sym e))
 byte-past mem (Some bytes) d i (x, e, b, l) far =
     let P : Bytes → Type 0 = λ z. z.len ≤ i → None ≡ slice_get bytes i in
-    subst P (sym (some-is d x e)) (λ h. sym (get-none bytes i (omega arith))) far
+    subst P (sym (same_Some d x e)) (λ h. sym (slice_get_past bytes i (omega arith))) far
 
 byte-none : (mem : List ℕ) (o : Option (List ℕ)) (i : ℕ) → IsData mem o None → None ≡ option_and_then (λ bytes. slice_get bytes i) o
 byte-none mem None i e = refl
@@ -167,7 +152,7 @@ byte-within : (mem : List ℕ) (o : Option (List ℕ)) (d : Bytes) (i : ℕ) →
 byte-within mem None d i e below = absurd (none-some d (sym e))
 byte-within mem (Some bytes) d i (x, e, b, l) below =
     let P : Bytes → Type 0 = λ z. i < z.len → z.first + (z.start + i) / 8 < length mem in
-    subst P (sym (some-is d x e)) (λ h. b.within i (omega arith)) below
+    subst P (sym (same_Some d x e)) (λ h. b.within i (omega arith)) below
 
 pub byte-inside : (mem : List ℕ) (w i : ℕ) (d : Bytes) → IsTerm mem w → HasData mem w (Some d) → i < d.len → d.first + (d.start + i) / 8 < length mem
 byte-inside mem w i d term h below = byte-within mem (binary_of term.shared term.tree) d i (h.each always term.shared term.tree term.standing) below

@@ -23,7 +23,7 @@ in-row p m b place (u ∷ vs) top (c, row) v (inl e) =
     subst P (sym e) (c.reached, (c.leaves, (c.goes, omega (arith, c.word, c.leaves.pointer))))
 in-row p m b place (u ∷ vs) top (c, row) v (inr i) = let (r, (l, (g, h))) = in-row p m b (place + size p u) vs top row v i in (r, (l, (g, omega (arith, h))))
 
-row-distinct : (p : Plan) (m : List ℕ) (b : Bool) (place : ℕ) (vs : List ℕ) (top : ℕ) → Row p m b place vs top → Distinct vs
+pub row-distinct : (p : Plan) (m : List ℕ) (b : Bool) (place : ℕ) (vs : List ℕ) (top : ℕ) → Row p m b place vs top → Distinct vs
 row-distinct p m b place [] top row = tt
 row-distinct p m b place (v ∷ vs) top (c, row) = (
   (λ i. let (r, (l, (g, h))) = in-row p m b (place + size p v) vs top row v i in omega (arith, h, c.word, c.leaves.pointer, size-some p v c.leaves.pointer)),

@@ -59,7 +59,7 @@ module _ (p : Plan) where
   pub images-beside : (m n vs xs : List ℕ) (top : Bool → ℕ) → Ready p → IsBeside p m n top → ((w : ℕ) → In w vs → Reached p w) → AllImages p m vs xs → AllImages p n vs xs
   images-beside m n vs xs top y o r a = images-grow m n vs xs (beside-grows p (ground p y) m n top o) r a
 
-  images-count : (m vs xs : List ℕ) → AllImages p m vs xs → length xs ≡ length vs
+  pub images-count : (m vs xs : List ℕ) → AllImages p m vs xs → length xs ≡ length vs
   unfolding AllImages
   images-count m [] [] a = refl
   images-count m [] (x ∷ xs) a = absurd a

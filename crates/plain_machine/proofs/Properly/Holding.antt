@@ -31,20 +31,20 @@ names-grown names more shared ts h = let P : List (List ℕ) → Type 0 = λ z. 
     subst P (append-nil shared) (all-grown names more shared [] ts h)
 
 -- the trees that wait in the queues of processes
-abbrev queues : List Live → List Tree
+abbrev pub queues : List Live → List Tree
 queues qs = flat_map (λ (q : Live). q.queue) qs
 
 module _ (shared : List (List ℕ)) where
-  joined-within : (xs ys : List Tree) → AreWithin shared xs → AreWithin shared ys → AreWithin shared (xs ++ ys)
+  pub joined-within : (xs ys : List Tree) → AreWithin shared xs → AreWithin shared ys → AreWithin shared (xs ++ ys)
   joined-within [] ys h k = k
   joined-within (x ∷ xs) ys h k = (h.0, joined-within xs ys h.1 k)
 
-  split-within : (xs ys : List Tree) → AreWithin shared (xs ++ ys) → AreWithin shared xs × AreWithin shared ys
+  pub split-within : (xs ys : List Tree) → AreWithin shared (xs ++ ys) → AreWithin shared xs × AreWithin shared ys
   split-within [] ys h = (tt, h)
   split-within (x ∷ xs) ys h = let k = split-within xs ys h.1 in ((h.0, k.0), k.1)
 
   -- a process in the place of the one with its number
-  put-within : (p : Live) (qs : List Live) → AreWithin shared p.queue → AreWithin shared (queues qs) → AreWithin shared (queues (map (λ q. cond (q.number == p.number) p q) qs))
+  pub put-within : (p : Live) (qs : List Live) → AreWithin shared p.queue → AreWithin shared (queues qs) → AreWithin shared (queues (map (λ q. cond (q.number == p.number) p q) qs))
   put-within p [] h k = tt
   put-within p (q ∷ qs) h k = let l = split-within q.queue (queues qs) k in
       joined-within (cond (q.number == p.number) p q).queue (queues (map (λ q. cond (q.number == p.number) p q) qs)) (at (q.number == p.number) l.0) (put-within p qs h l.1)
@@ -54,7 +54,7 @@ module _ (shared : List (List ℕ)) where
       at false m = m
 
   -- a tree more in the queue of the process with a number
-  sent-within : (n : ℕ) (t : Tree) (qs : List Live) → AreWithin shared (t ∷ []) → AreWithin shared (queues qs)
+  pub sent-within : (n : ℕ) (t : Tree) (qs : List Live) → AreWithin shared (t ∷ []) → AreWithin shared (queues qs)
       → AreWithin shared (queues (map (with_queued n t) qs))
   sent-within n t [] h k = tt
   sent-within n t (q ∷ qs) h k = let l = split-within q.queue (queues qs) k in
@@ -66,7 +66,7 @@ module _ (shared : List (List ℕ)) where
       at false m = m
 
   -- one process less
-  gone-within : (n : ℕ) (qs : List Live) → AreWithin shared (queues qs) → AreWithin shared (queues (filter (λ p. not (p.number == n)) qs))
+  pub gone-within : (n : ℕ) (qs : List Live) → AreWithin shared (queues qs) → AreWithin shared (queues (filter (λ p. not (p.number == n)) qs))
   gone-within n [] k = tt
   gone-within n (q ∷ qs) k = let l = split-within q.queue (queues qs) k in at (not (q.number == n)) l.0 (gone-within n qs l.1)
     where
@@ -76,7 +76,7 @@ module _ (shared : List (List ℕ)) where
       at false a b = b
 
   -- one process more
-  spawned-within : (n : ℕ) (qs : List Live) → AreWithin shared (queues qs) → AreWithin shared (queues (qs ++ fresh_process n ∷ []))
+  pub spawned-within : (n : ℕ) (qs : List Live) → AreWithin shared (queues qs) → AreWithin shared (queues (qs ++ fresh_process n ∷ []))
   spawned-within n [] k = tt
   spawned-within n (q ∷ qs) k = let l = split-within q.queue (queues qs) k in joined-within q.queue (queues (qs ++ fresh_process n ∷ [])) l.0 (spawned-within n qs l.1)
 

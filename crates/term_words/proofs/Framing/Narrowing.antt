@@ -1,5 +1,6 @@
 -- Roots whose words pass a further test stand by both.
-use Rattle.std.proofs.Common.{◌≡◌, ℕ, suc, ◌+◌, ◌/◌, ◌<◌, ◌&&◌, Bool, true, List, [], ◌∷◌, length, get_or, refl, sym, ap, subst, arith}
+use Rattle.std.proofs.Common.{◌≡◌, ℕ, suc, ◌+◌, ◌/◌, ◌<◌, Bool, true, List, [], ◌∷◌, length, get_or, refl, sym, ap, subst, arith}
+use Rattle.std.proofs.lemmas.Bool.{and_from}
 use Rattle.plain_term.specs.Tree.{Tree, Trees}
 use Rattle.plain_term.specs.Tree.Trees.{end, ◌▹◌}
 use Rattle.term_words.specs.Role.{both}
@@ -11,9 +12,6 @@ use Rattle.term_words.proofs.ByKind.Inside.{object-inside, record-inside}
 use Rattle.term_words.proofs.Reaching.Reached.{reached}
 use Rattle.term_words.proofs.Reaching.Relocating.{settled}
 
-and-true : (a b : Bool) → a ≡ true → b ≡ true → (a && b) ≡ true
-and-true a b p q = rw (p, q) refl
-
 module _ (c d : ℕ → ℕ → Bool) (shared : List (List ℕ)) (mem roots : List ℕ) (ts : Trees) (all : AllStand c shared mem roots ts) (pass : PassTest c d mem roots) where
   -- A place and its role by the second name of the place.
   at : (q a k : ℕ) → q ≡ a → c a k ≡ true → c q k ≡ true
@@ -23,7 +21,7 @@ module _ (c d : ℕ → ℕ → Bool) (shared : List (List ℕ)) (mem roots : Li
   stays w r p = record {
     tag = refl;
     within = (let (t, s) = reached c shared mem roots ts all w r in object-inside c shared mem w t s p);
-    roles = λ j q k below e h. and-true (c q k) (d q k) (at q (w / 4 + j) k e h) (pass.objects w q k r p (omega arith) (omega arith) (at q (w / 4 + j) k e h));
+    roles = λ j q k below e h. and_from (c q k) (d q k) (at q (w / 4 + j) k e h) (pass.objects w q k r p (omega arith) (omega arith) (at q (w / 4 + j) k e h));
     traced = λ j q from below e. ap (λ x. get_or mem x 0) e;
     names = λ j q below e h. ap (λ x. get_or mem x 0) e;
     same = λ j q less below e h. ap (λ x. get_or mem x 0) e;
@@ -32,7 +30,7 @@ module _ (c d : ℕ → ℕ → Bool) (shared : List (List ℕ)) (mem roots : Li
   copied : (v n : ℕ) → IsNamed c mem roots v → IsRecord c mem v n → IsCopiedTo c (both c d) mem mem v v n
   copied v n named is = record {
     within = record-inside c mem v n is;
-    roles = λ j q k below e h. and-true (c q k) (d q k) (at q (v + j) k e h) (pass.records v n q k named is (omega arith) (omega arith) (at q (v + j) k e h));
+    roles = λ j q k below e h. and_from (c q k) (d q k) (at q (v + j) k e h) (pass.records v n q k named is (omega arith) (omega arith) (at q (v + j) k e h));
     same = λ j q below some e. ap (λ x. get_or mem x 0) e;
   }
 

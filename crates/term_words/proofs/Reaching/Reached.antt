@@ -67,7 +67,7 @@ int-traced c mem w (negsuc n) (inr (inr o)) p =
     let words : object_words mem w ≡ 3 = words-boxed mem w 2 12 o.boxed.tag o.boxed.header (omega arith) in
     (first ∙ sym words, words ∙ sym (flat-two (negsuc n) (omega (arith, o.high, o.digits))))
 
-pairs-flat : (ps : Pairs) → flat_of_pairs ps ≡ flat_of_all (keys_of ps) + flat_of_all (values_of ps)
+pub pairs-flat : (ps : Pairs) → flat_of_pairs ps ≡ flat_of_all (keys_of ps) + flat_of_all (values_of ps)
 pairs-flat stop = refl
 pairs-flat (pair x y ps) = omega (arith, pairs-flat ps)
 

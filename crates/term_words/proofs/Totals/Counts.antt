@@ -1,7 +1,7 @@
 -- Places that pass a test, counted.
 use Rattle.std.proofs.Common.{◌≡◌, ℕ, zero, suc, ◌+◌, ◌-◌, ◌<◌, ◌≤◌, ◌||◌, Bool, true, false, refl, ap, arith, inl, inr}
+use Rattle.std.proofs.lemmas.Bool.{cases_Bool}
 use Rattle.term_words.specs.Counted.{count}
-use Rattle.term_words.proofs.Totals.Members.{true-or-false}
 
 module _ (s : ℕ → Bool) where
   pub count-empty : (from : ℕ) → count s from 0 ≡ 0
@@ -22,7 +22,7 @@ module _ (s : ℕ → Bool) where
   pub count-most : (from n : ℕ) → count s from n ≤ n
   unfolding count
   count-most from zero = omega arith
-  count-most from (suc n) = elim (true-or-false (s from)) [ inl t ↦ rw t (omega (arith, count-most (from + 1) n)) | inr f ↦ rw f (omega (arith, count-most (from + 1) n)) ]
+  count-most from (suc n) = elim (cases_Bool (s from)) [ inl t ↦ rw t (omega (arith, count-most (from + 1) n)) | inr f ↦ rw f (omega (arith, count-most (from + 1) n)) ]
 
   pub count-all : (from n : ℕ) → ((q : ℕ) → from ≤ q → q < from + n → s q ≡ true) → count s from n ≡ n
   unfolding count
@@ -50,7 +50,7 @@ unfolding count
 count-wider s t from zero each = omega arith
 count-wider s t from (suc n) each =
     let rest : count s (from + 1) n ≤ count t (from + 1) n = count-wider s t (from + 1) n (λ q low high. each q (omega arith) (omega arith)) in
-    elim (true-or-false (s from)) [
+    elim (cases_Bool (s from)) [
       | inl passes ↦ rw (passes, each from (omega arith) (omega arith) passes) (omega (arith, rest))
       | inr none ↦ rw none (omega (arith, rest))
     ]
@@ -60,9 +60,9 @@ unfolding count
 count-either s t from zero = omega arith
 count-either s t from (suc n) =
     let rest : count (λ q. s q || t q) (from + 1) n ≤ count s (from + 1) n + count t (from + 1) n = count-either s t (from + 1) n in
-    elim (true-or-false (s from)) [
-      | inl a ↦ elim (true-or-false (t from)) [ inl b ↦ rw (a, b) (omega (arith, rest)) | inr b ↦ rw (a, b) (omega (arith, rest)) ]
-      | inr a ↦ elim (true-or-false (t from)) [ inl b ↦ rw (a, b) (omega (arith, rest)) | inr b ↦ rw (a, b) (omega (arith, rest)) ]
+    elim (cases_Bool (s from)) [
+      | inl a ↦ elim (cases_Bool (t from)) [ inl b ↦ rw (a, b) (omega (arith, rest)) | inr b ↦ rw (a, b) (omega (arith, rest)) ]
+      | inr a ↦ elim (cases_Bool (t from)) [ inl b ↦ rw (a, b) (omega (arith, rest)) | inr b ↦ rw (a, b) (omega (arith, rest)) ]
     ]
 
 pub count-apart : (s t : ℕ → Bool) (from n : ℕ) → ((q : ℕ) → s q ≡ true → t q ≡ true → ⊥) → count (λ q. s q || t q) from n ≡ count s from n + count t from n
@@ -70,7 +70,7 @@ unfolding count
 count-apart s t from zero apart = refl
 count-apart s t from (suc n) apart =
     let rest : count (λ q. s q || t q) (from + 1) n ≡ count s (from + 1) n + count t (from + 1) n = count-apart s t (from + 1) n apart in
-    elim (true-or-false (s from)) [
-      | inl a ↦ elim (true-or-false (t from)) [ inl b ↦ absurd (apart from a b) | inr b ↦ rw (a, b) (omega (arith, rest)) ]
-      | inr a ↦ elim (true-or-false (t from)) [ inl b ↦ rw (a, b) (omega (arith, rest)) | inr b ↦ rw (a, b) (omega (arith, rest)) ]
+    elim (cases_Bool (s from)) [
+      | inl a ↦ elim (cases_Bool (t from)) [ inl b ↦ absurd (apart from a b) | inr b ↦ rw (a, b) (omega (arith, rest)) ]
+      | inr a ↦ elim (cases_Bool (t from)) [ inl b ↦ rw (a, b) (omega (arith, rest)) | inr b ↦ rw (a, b) (omega (arith, rest)) ]
     ]

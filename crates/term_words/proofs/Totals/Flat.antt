@@ -4,6 +4,7 @@ use Rattle.std.proofs.lemmas.Bool.Decides.{nat_tests}
 use Rattle.plain_term.specs.Measures.{flat_of_all}
 use Rattle.plain_term.specs.Tree.{Trees, trees_len, trees_append}
 use Rattle.plain_term.specs.Tree.Trees.{end, ◌▹◌}
+use Rattle.plain_term.proofs.ListLemmas.{flat_of_all-append}
 use Rattle.term_words.specs.Object.{IsPointer, object_words}
 use Rattle.term_words.specs.Reach.{Reach, root, part, first_traced, parts_of}
 use Rattle.term_words.specs.Stands.{RowStands, AllStand}
@@ -18,10 +19,6 @@ module _ (mem : List ℕ) where
   pub onto : ℕ → Trees → List ℕ → List ℕ
   onto p end ws = ws
   onto p (t ▹ ts) ws = get_or mem p 0 ∷ onto (p + 1) ts ws
-
-  flat-onto : (ts us : Trees) → flat_of_all (trees_append ts us) ≡ flat_of_all ts + flat_of_all us
-  flat-onto end us = omega arith
-  flat-onto (t ▹ ts) us = omega (arith, flat-onto ts us)
 
   length-onto : (p : ℕ) (ts : Trees) (ws : List ℕ) → length (onto p ts ws) ≡ trees_len ts + length ws
   unfolding onto
@@ -107,10 +104,10 @@ module _ (mem : List ℕ) where
             let low : total (object_words mem) o.rest ≤ flat_of_all (trees_append (parts_of t) ts) =
             bounded n c shared (onto (w / 4 + first_traced mem w) (parts_of t) ws) (trees_append (parts_of t) ts)
             (all-onto c shared (w / 4 + first_traced mem w) (parts_of t) ws ts sc.row all)
-            (omega (arith, le, sc.left, sc.ends, some, flat-onto (parts_of t) ts, length-onto (w / 4 + first_traced mem w) (parts_of t) ws))
+            (omega (arith, le, sc.left, sc.ends, some, flat_of_all-append (parts_of t) ts, length-onto (w / 4 + first_traced mem w) (parts_of t) ws))
             o.rest o.once
             (λ v i. ((r v (o.inner v i).0).0, elim (split w (parts_of t) ws sc.ends v (r v (o.inner v i).0).1) [ inl e ↦ absurd ((o.inner v i).1 e) | inr z ↦ z ])) in
-            omega (arith, low, o.words, sc.left, flat-onto (parts_of t) ts))
+            omega (arith, low, o.words, sc.left, flat_of_all-append (parts_of t) ts))
       ]
 
   -- A word of the row or of the others is one of these.
@@ -177,7 +174,7 @@ module _ (mem : List ℕ) where
             let o : Listed mem (onto (w / 4 + first_traced mem w) (parts_of t) ws) =
             listing n c shared (onto (w / 4 + first_traced mem w) (parts_of t) ws) (trees_append (parts_of t) ts)
             (all-onto c shared (w / 4 + first_traced mem w) (parts_of t) ws ts sc.row all)
-            (omega (arith, le, sc.left, sc.ends, some, flat-onto (parts_of t) ts, length-onto (w / 4 + first_traced mem w) (parts_of t) ws)) in
+            (omega (arith, le, sc.left, sc.ends, some, flat_of_all-append (parts_of t) ts, length-onto (w / 4 + first_traced mem w) (parts_of t) ws)) in
             with-first w ws (onto (w / 4 + first_traced mem w) (parts_of t) ws) o y (split w (parts_of t) ws sc.ends) (back w (parts_of t) ws y sc.ends))
       ]
 

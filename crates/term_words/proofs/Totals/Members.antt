@@ -1,27 +1,20 @@
 -- Words in lists without repetition.
-use Rattle.std.proofs.Common.{◌≡◌, ℕ, zero, suc, ◌+◌, ◌%◌, ◌<◌, ◌≤◌, ◌⊎◌, Bool, true, false, List, [], ◌∷◌, ◌++◌, length, get_or, refl, sym, ◌∙◌, ap, subst, arith, inl, inr, filter, cond}
+use Rattle.std.proofs.Common.{◌≡◌, ℕ, zero, suc, ◌+◌, ◌%◌, ◌<◌, ◌≤◌, ◌⊎◌, Bool, true, List, [], ◌∷◌, ◌++◌, length, get_or, refl, sym, ◌∙◌, ap, subst, arith, inl, inr, filter, cond}
+use Rattle.std.proofs.lemmas.Bool.{cases_eq, cases_Bool}
+pub use Rattle.std.proofs.lemmas.Bool.{cases_Bool as true-or-false, cases_eq as one-or-not}
 use Rattle.term_words.specs.Object.{IsPointer}
 use Rattle.term_words.specs.Counted.{In, Distinct, total}
 
-pub true-or-false : (b : Bool) → (b ≡ true) ⊎ (b ≡ false)
-true-or-false true = inl refl
-true-or-false false = inr refl
-
-pub one-or-not : (a b : ℕ) → (a ≡ b) ⊎ (a ≡ b → ⊥)
-one-or-not a b =
-    let order : (a ≡ b) ⊎ ((a < b) ⊎ (b < a)) = grind arith in
-    elim order [ inl e ↦ inl e | inr (inl l) ↦ inr (λ e. omega arith) | inr (inr l) ↦ inr (λ e. omega arith) ]
-
 pub pointer-or-not : (w : ℕ) → IsPointer w ⊎ (IsPointer w → ⊥)
 pointer-or-not w =
-    elim (one-or-not (w % 4) 1) [
+    elim (cases_eq (w % 4) 1) [
       | inl a ↦ inl (inl a)
-      | inr a ↦ elim (one-or-not (w % 4) 2) [ inl b ↦ inl (inr b) | inr b ↦ inr (λ x. elim x [ inl c ↦ a c | inr c ↦ b c ]) ]
+      | inr a ↦ elim (cases_eq (w % 4) 2) [ inl b ↦ inl (inr b) | inr b ↦ inr (λ x. elim x [ inl c ↦ a c | inr c ↦ b c ]) ]
     ]
 
 pub in-or-not : (v : ℕ) (us : List ℕ) → In v us ⊎ (In v us → ⊥)
 in-or-not v [] = inr (λ i. i)
-in-or-not v (u ∷ us) = elim (one-or-not v u) [
+in-or-not v (u ∷ us) = elim (cases_eq v u) [
   | inl e ↦ inl (inl e)
   | inr n ↦ elim (in-or-not v us) [ inl i ↦ inl (inr i) | inr m ↦ inr (λ x. elim x [ inl e ↦ n e | inr i ↦ m i ]) ]
 ]
@@ -36,7 +29,7 @@ pub record Less (size : ℕ → ℕ) (w : ℕ) (vs : List ℕ) : Type 0 where
 pub less : (size : ℕ → ℕ) (w : ℕ) (vs : List ℕ) → Distinct vs → Less size w vs
 less size w [] d = record { rest = []; once = tt; inner = λ v i. absurd i; words = omega arith }
 less size w (v ∷ vs) (n, d) =
-    elim (one-or-not v w) [
+    elim (cases_eq v w) [
       | inl e ↦ record {
         rest = vs;
         once = d;
@@ -87,7 +80,7 @@ pub in-filter : (f : ℕ → Bool) (v : ℕ) (vs : List ℕ) → In v (filter f 
 in-filter f v [] i = absurd i
 in-filter f v (u ∷ us) i =
     let P : Bool → Type 0 = λ b. In v (cond b (u ∷ filter f us) (filter f us)) in
-    elim (true-or-false (f u)) [
+    elim (cases_Bool (f u)) [
       | inl t ↦ (let j : In v (u ∷ filter f us) = subst P t i in
           elim j [ inl same ↦ (inl same, ap f same ∙ t) | inr k ↦ (inr (in-filter f v us k).0, (in-filter f v us k).1) ])
       | inr n ↦ (let k : In v (filter f us) = subst P n i in (inr (in-filter f v us k).0, (in-filter f v us k).1))
@@ -99,14 +92,14 @@ filter-in f v (u ∷ us) i p =
     let P : Bool → Type 0 = λ b. In v (cond b (u ∷ filter f us) (filter f us)) in
     elim i [
       | inl same ↦ subst P (sym (ap f (sym same) ∙ p)) (inl same)
-      | inr j ↦ elim (true-or-false (f u)) [ inl t ↦ subst P (sym t) (inr (filter-in f v us j p)) | inr n ↦ subst P (sym n) (filter-in f v us j p) ]
+      | inr j ↦ elim (cases_Bool (f u)) [ inl t ↦ subst P (sym t) (inr (filter-in f v us j p)) | inr n ↦ subst P (sym n) (filter-in f v us j p) ]
     ]
 
 pub filter-distinct : (f : ℕ → Bool) (vs : List ℕ) → Distinct vs → Distinct (filter f vs)
 filter-distinct f [] d = tt
 filter-distinct f (u ∷ us) (n, d) =
     let P : Bool → Type 0 = λ b. Distinct (cond b (u ∷ filter f us) (filter f us)) in
-    elim (true-or-false (f u)) [
+    elim (cases_Bool (f u)) [
       | inl t ↦ subst P (sym t) ((λ i. n (in-filter f u us i).0), filter-distinct f us d)
       | inr m ↦ subst P (sym m) (filter-distinct f us d)
     ]
