@@ -5,6 +5,7 @@ use Rattle.std.proofs.lemmas.Bool.Decides.{nat_tests}
 use Rattle.std.proofs.lemmas.List.{append-nil, take_more, take_more_set}
 use Rattle.term_words.specs.Object.{IsRecord}
 use Rattle.term_words.specs.Counted.{In, Distinct, total, count, ArePacked}
+pub use Rattle.term_words.proofs.Totals.Members.{in-at as member-at}
 use Rattle.term_words.proofs.Totals.Packing.{packed}
 use Rattle.term_words.proofs.Totals.Counts.{count-most}
 use Rattle.term_words.proofs.Placing.Roles.{records-apart}

@@ -62,7 +62,8 @@ abbrev pub forget : (p : Task) (known : List Item) (x : Item) (mem : List ℕ) (
 forget p known x mem mark at top owed g = known-as p (x ∷ known) known mem mark at top owed g (λ y i. g.has y (inr i))
 
 pub know : (p : Task) (known : List Item) (x : Item) (mem : List ℕ) (mark at top owed : ℕ) (g : Copying p known mem mark at top owed) → Among x g.items → Copying p (x ∷ known) mem mark at top owed
-know p known x mem mark at top owed g i = known-as p known (x ∷ known) mem mark at top owed g (λ y h. elim h [ inl e ↦ (let P : Item → Type 0 = λ z. Among z g.items in subst P (sym e) i) | inr j ↦ g.has y j ])
+know p known x mem mark at top owed g i =
+    known-as p known (x ∷ known) mem mark at top owed g (λ y h. elim h [ inl e ↦ (let P : Item → Type 0 = λ z. Among z g.items in subst P (sym e) i) | inr j ↦ g.has y j ])
 
 -- A word of no object has no flat words, and an object that stays is not owed.
 

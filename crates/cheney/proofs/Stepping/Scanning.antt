@@ -1,6 +1,5 @@
 -- The words of copies, scanned one by one, and a list along its spine.
 use Rattle.std.proofs.Common.{◌≡◌, ℕ, ◌+◌, ◌-◌, ◌/◌, ◌%◌, ◌<◌, ◌≤◌, Bool, true, false, List, length, get_or, set, refl, sym, ◌∙◌, ap, subst, arith, inl, inr, Some}
-use mathlib.Core.Bool.{beq}
 use Rattle.std.proofs.lemmas.List.{get_or-set_other, set-get_or}
 use Rattle.term_words.specs.Object.{IsPointer, object_words}
 use Rattle.term_words.proofs.Placing.Apart.{words-cons}
@@ -83,12 +82,6 @@ module _ (mem mem2 mem3 : List ℕ) (mv mv2 : Moving) (b : Bool) (at w head tail
         let grown : top_of mv2 b ≡ top_of mv b + object_words mem w = subst P here o.grows.here in
         omega (arith, grown, new-there, words-cons mem w f.tag));
   }
-
-pub same-bool : (a b : Bool) → beq a b ≡ true → a ≡ b
-same-bool true true e = refl
-same-bool true false e = sym e
-same-bool false true e = e
-same-bool false false e = refl
 
 -- One cons of a list after the other.
 

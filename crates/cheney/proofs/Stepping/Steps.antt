@@ -228,7 +228,6 @@ module _ (p : Plan) (mem mem2 : List ℕ) (mv mv2 : Moving) (k : Marks) (w x : �
       let D : Bool → Type 0 = λ d. Advances mv mv2 d (size p w) in
       by-copy l o.here (subst B b (subst A n o.copies)) (subst D b (subst C n o.grows))
 
-
 cons-here : (mem : List ℕ) (w head : ℕ) → w % 4 ≡ 1 → head ≡ get_or mem (w / 4) 0 → (head ≡ 0 → ⊥) → moved mem w ≡ false
 cons-here mem w head tag e ne = moved-cons mem w tag ∙ (let z : get_or mem (w / 4) 0 ≡ 0 → ⊥ = λ y. ne (e ∙ y) in grind (arith, nat_tests))
 

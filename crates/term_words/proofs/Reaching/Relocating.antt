@@ -296,7 +296,8 @@ module _ (c d : ℕ → ℕ → Bool) (shared : List (List ℕ)) (old new roots 
             arity_word = plain w 3 (f w / 4 + 3) (w / 4 + 3) h (omega arith) (omega arith) refl refl (inr (o.others (w / 4 + 3) (omega arith) (omega arith))) ∙ o.arity_word;
             size = plain w 4 (f w / 4 + 4) (w / 4 + 4) h (omega arith) (omega arith) refl refl (inr (o.others (w / 4 + 4) (omega arith) (omega arith))) ∙ o.size;
             creator_word = plain w 5 (f w / 4 + 5) (w / 4 + 5) h (omega arith) (omega arith) refl refl (inr (o.others (w / 4 + 5) (omega arith) (omega arith))) ∙ o.creator_word;
-            record_is = subst P (sym (h.names 1 (f w / 4 + 1) (omega arith) refl o.names)) (fun-copied c d old new (get_or old (w / 4 + 1) 0) (g (get_or old (w / 4 + 1) 0)) name arity copied o.record_is);
+            record_is = subst P (sym (h.names 1 (f w / 4 + 1) (omega arith) refl o.names))
+                (fun-copied c d old new (get_or old (w / 4 + 1) 0) (g (get_or old (w / 4 + 1) 0)) name arity copied o.record_is);
             first = role w 0 (f w / 4) (w / 4) FIRST h (omega arith) (omega arith) (omega arith) o.first;
             names = role w 1 (f w / 4 + 1) (w / 4 + 1) NAMES h (omega arith) refl refl o.names;
             next = role w 2 (f w / 4 + 2) (w / 4 + 2) NEXT h (omega arith) refl refl o.next;

@@ -1,5 +1,6 @@
 use Rattle.std.proofs.Common.{◌∙◌, sym}
-use Rattle.cheney.proofs.Stepping.Scanning.{is-next, same-bool, tail-moved}
+use Rattle.std.specs.Cmp.{booleans_Decides}
+use Rattle.cheney.proofs.Stepping.Scanning.{is-next, tail-moved}
 use Rattle.cheney.proofs.Stepping.Steps.{step-moves}
 use Rattle.cheney.proofs.spine.scan_tail.Goals as goal
 
@@ -17,7 +18,7 @@ pub returns-then-here-clause-next : goal.returns-then-here-clause-next
 returns-then-here-clause-next c =
     is-next c.args.mem.now c.copy_cons-new.new.mem c.set.new.self c.args.mv.now c.copy_cons-new.new.mv c.args.aged c.args.at c.args.w c.in-Some.head c.in-Some.tail c.copy_cons-new.result
     c.requires.can c.requires.word
-    c.in-Some.ensures c.copy_cons-new.ensures (sym c.is_in.ensures ∙ same-bool c.is_in.result c.args.aged c.if-here.true) c.set.ensures
+    c.in-Some.ensures c.copy_cons-new.ensures (sym c.is_in.ensures ∙ (booleans_Decides c.is_in.result c.args.aged).0 c.if-here.true) c.set.ensures
 
 pub returns-else-here-clause-each : goal.returns-else-here-clause-each
 returns-else-here-clause-each c = λ p k b run s o. tail-moved p c.args.mem.now c.copy_cons-new.new.mem c.set.new.self c.args.mv.now c.copy_cons-new.new.mv k b c.args.at c.args.w
