@@ -6,6 +6,7 @@ use Rattle.std.specs.List.{find, list_any}
 use Rattle.plain_term.specs.Tree.{Tree, Pairs}
 use Rattle.plain_term.specs.Tree.{Tree as tree}
 use Rattle.plain_term.specs.Beyond.{is_beyond}
+use Rattle.plain_term.specs.InOrder.{put_pair}
 use Rattle.plain_term.specs.declared.item.Item.{Item}
 use Rattle.script_grammar.specs.declared.command.Reg.{Reg}
 use Rattle.script_grammar.specs.declared.command.Pick.{Pick}
@@ -25,10 +26,10 @@ use Rattle.script_grammar.specs.Grammar.{is_built, word_of}
 use Rattle.script_grammar.specs.Names.{Parsed, HasRegisters}
 use Rattle.plain_machine.specs.declared.limits.TheConstants.{MOST_PROCESSES, MOST_PLACES, MOST_FILL, MOST_ARITY, MOST_BYTE}
 use Rattle.plain_machine.specs.State.{Process as Live, State, HasNames, process_of, is_live, register}
-use Rattle.plain_machine.specs.Made.{with_pair, too_many}
+use Rattle.plain_machine.specs.Made.{too_many}
 use Rattle.plain_machine.specs.Tightness.{receiver}
 use Rattle.plain_machine.specs.Parts.{picked, pairs_in, repeated}
-use Rattle.plain_machine.specs.Step.{Outcome, step, settled, with_made, written_tree, written_flaw, unless_flawed, choose, fill_if, fun_if, env_of, put_unless_wide, put_unless_big, put_pair, repeat_if, in_process, by_verb, pop_from, send_within, send_to, recv_from, spawn_if, tells, told_of, is_printing_verb}
+use Rattle.plain_machine.specs.Step.{Outcome, step, settled, with_made, written_tree, written_flaw, unless_flawed, choose, fill_if, fun_if, env_of, put_unless_wide, put_unless_big, put_into, repeat_if, in_process, by_verb, pop_from, send_within, send_to, recv_from, spawn_if, tells, told_of, is_printing_verb}
 use Rattle.plain_machine.specs.Step.Outcome.{Accepted, Refused as IsRefused, Mapped}
 use Rattle.plain_machine.specs.Run.{CommandStep, Skips, Gives, LacksSpace, refusal_text, is_nothing, is_quit}
 use Rattle.plain_machine.specs.Maps.{is_map}
@@ -171,9 +172,9 @@ big-fits after s p q r true ps e g = tt
 big-fits after s p q r false ps e g = wide-fits after s p q r (too_many ps) ps e g
 
 put-fits : (after : After) (s : State) (p : Parsed) (q : Live) (r : ℕ) (o : Option Pairs) (k v : Tree) → names_left Done s p ≡ p.names → is_quit p.command ≡ false
-    → Fitting after s p Done (put_pair o k v s p q r)
+    → Fitting after s p Done (put_into o k v s p q r)
 put-fits after s p q r None k v e g = tt
-put-fits after s p q r (Some ps) k v e g = big-fits after s p q r (is_beyond s.shared k) (with_pair p.names s.shared k v ps) e g
+put-fits after s p q r (Some ps) k v e g = big-fits after s p q r (is_beyond s.shared k) (put_pair p.names s.shared k v ps) e g
 
 -- where the process is found or not
 fits-in : (after : After) (s : State) (p : Parsed) (x : Reply) (verb : Verb) (o : Option Live) → ((q : Live) → Fitting after s p x (by_verb s p q verb)) → Fitting after s p x (in_process o s p verb)

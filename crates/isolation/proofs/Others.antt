@@ -4,6 +4,7 @@ use Rattle.std.specs.Prelude.{option_map}
 use Rattle.plain_term.specs.Tree.{Tree, Pairs}
 use Rattle.plain_term.specs.Tree.{Tree as tree}
 use Rattle.plain_term.specs.Beyond.{is_beyond}
+use Rattle.plain_term.specs.InOrder.{put_pair}
 use Rattle.script_grammar.specs.declared.command.Verb.{Verb}
 use Rattle.script_grammar.specs.declared.command.Verb.TheVariants.{Set, Choose, MapPut, Fill, Fun as MakeFun, Ref, Own, Repeat, Push, Pop, Send, Recv, Gc, Exit}
 use Rattle.script_grammar.specs.declared.refusal.Refusal.{Refusal}
@@ -13,10 +14,10 @@ use Rattle.script_grammar.specs.Written.Written.{Nothing, OfProcess, OfSystem}
 use Rattle.script_grammar.specs.Written.Terms.{end, ◌▹◌}
 use Rattle.script_grammar.specs.Names.{Parsed, parsed_of, verb_of}
 use Rattle.plain_machine.specs.State.{Process as Live, State, process_of, fresh_process, register, with_register, with_process, with_queued}
-use Rattle.plain_machine.specs.Made.{bin_tree, with_pair, too_many}
+use Rattle.plain_machine.specs.Made.{bin_tree, too_many}
 use Rattle.plain_machine.specs.Parts.{picked, pairs_in}
 use Rattle.plain_machine.specs.Tightness.{receiver}
-use Rattle.plain_machine.specs.Step.{Outcome, step, does, unless_flawed, choose, put_unless_wide, put_unless_big, put_pair, fill_if, fun_if, repeat_if, pop_from, send_within, send_to, recv_from, tells, told_of, by_verb, in_process, spawn_if, with_made, written_tree, written_flaw}
+use Rattle.plain_machine.specs.Step.{Outcome, step, does, unless_flawed, choose, put_unless_wide, put_unless_big, put_into, fill_if, fun_if, repeat_if, pop_from, send_within, send_to, recv_from, tells, told_of, by_verb, in_process, spawn_if, with_made, written_tree, written_flaw}
 use Rattle.plain_machine.specs.Step.Outcome.{Accepted, Refused, Mapped}
 use Rattle.plain_machine.proofs.Properly.Making.{Extends, extends-none, bin-more, made-more}
 use Rattle.isolation.specs.Views.{is_own}
@@ -99,9 +100,9 @@ module _ (m : ℕ) (s : State) (p : Parsed) (q : Live) (n : Extends s.names p.na
   big-passes true ps r = tt
   big-passes false ps r = wide-passes (too_many ps) ps r
 
-  pair-passes : (o : Option Pairs) (k v : Tree) (r : ℕ) → OutcomePasses m s (put_pair o k v s p q r)
+  pair-passes : (o : Option Pairs) (k v : Tree) (r : ℕ) → OutcomePasses m s (put_into o k v s p q r)
   pair-passes None k v r = tt
-  pair-passes (Some ps) k v r = big-passes (is_beyond s.shared k) (with_pair p.names s.shared k v ps) r
+  pair-passes (Some ps) k v r = big-passes (is_beyond s.shared k) (put_pair p.names s.shared k v ps) r
 
   fill-passes : (b : Bool) (bytes : List ℕ) (r : ℕ) → OutcomePasses m s (fill_if b bytes s p q r)
   fill-passes true bytes r = tt

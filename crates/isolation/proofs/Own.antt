@@ -9,6 +9,7 @@ use Rattle.plain_term.specs.Tree.{Tree as tree}
 use Rattle.plain_term.specs.Beyond.{is_beyond}
 use Rattle.plain_term.specs.Measures.{flat}
 use Rattle.plain_term.specs.Order.{order, name_of}
+use Rattle.plain_term.specs.InOrder.{put_pair}
 use Rattle.plain_term.specs.Text.{text}
 use Rattle.script_grammar.specs.declared.command.Pick.{Pick}
 use Rattle.script_grammar.specs.declared.command.Pick.TheVariants as pick
@@ -26,12 +27,12 @@ use Rattle.script_grammar.specs.Written.Terms.{end, ◌▹◌}
 use Rattle.script_grammar.specs.Names.{Parsed, held_terms, reg, number_of, atoms_of, operands_atoms, all_atoms, operands_terms, verb_of, names_after, parsed_of}
 use Rattle.plain_machine.specs.declared.limits.TheConstants.{MOST_PLACES, MOST_FILL, MOST_ARITY, MOST_BYTE}
 use Rattle.plain_machine.specs.State.{Process as Live, State, process_of, register, with_register, with_process, with_queued, without_process}
-use Rattle.plain_machine.specs.Made.{tree_of, trees_of, bin_tree, with_pair, too_many}
+use Rattle.plain_machine.specs.Made.{tree_of, trees_of, bin_tree, too_many}
 use Rattle.plain_machine.specs.Flaws.{is_wide, is_big, flaw_of}
 use Rattle.plain_machine.specs.Parts.{picked, pairs_in, repeated}
 use Rattle.plain_machine.specs.Tightness.{number_in, receiver}
 use Rattle.plain_machine.specs.Texts.{divided}
-use Rattle.plain_machine.specs.Step.{Outcome, does, unless_flawed, choose, put_unless_wide, put_unless_big, put_pair, fill_if, fun_if, repeat_if, pop_from, send_within, send_to, recv_from, tells, unless_beyond, eq_text, cmp_text, by_verb, in_process, step, with_made, written_tree, written_flaw, env_of}
+use Rattle.plain_machine.specs.Step.{Outcome, does, unless_flawed, choose, put_unless_wide, put_unless_big, put_into, fill_if, fun_if, repeat_if, pop_from, send_within, send_to, recv_from, tells, unless_beyond, eq_text, cmp_text, by_verb, in_process, step, with_made, written_tree, written_flaw, env_of}
 use Rattle.plain_machine.specs.Step.Outcome.{Refused}
 use Rattle.script_grammar.proofs.Naming.{ArePlaced, placed-front, number-below, with-names-more, with-names-placed}
 use Rattle.plain_machine.proofs.Properly.Making.{Extends, extends-none, bin-more, made-more}
@@ -147,9 +148,9 @@ module _ (s : State) (p : Parsed) (q : Live) (lives : process_of q.number s ≡ 
       (wide-step (too_many ps) ps r k) (ap (λ z. unless_wide_named (nat_lt MOST_KEYS z) (pairs_named p.names s.shared ps) x r) (pairs-seen p.names s.shared ps))
 
   pair-step : (m k v : Tree) (r : ℕ) → IsKnown p.names s.shared m → IsKnown p.names s.shared k → IsKnown p.names s.shared v
-      → OwnStep q.number (put_pair (pairs_in m) k v s p q r) (pair_named (pairs_of_named (by m)) (by k) (by v) x r)
+      → OwnStep q.number (put_into (pairs_in m) k v s p q r) (pair_named (pairs_of_named (by m)) (by k) (by v) x r)
   pair-step (tree.Map ps) k v r a b c =
-      let all : Pairs = with_pair p.names s.shared k v ps in
+      let all : Pairs = put_pair p.names s.shared k v ps in
       own-as q.number (put_unless_big (is_beyond s.shared k) all s p q r) (unless_big_named (is_beyond s.shared k) (pairs_named p.names s.shared all) x r)
       (unless_big_named (named_beyond (by k)) (named_put (by k) (by v) (pairs_named p.names s.shared ps)) x r)
       (big-step (is_beyond s.shared k) all r (put-known p.names s.shared k v ps b c a))
@@ -309,7 +310,7 @@ module _ (s : State) (p : Parsed) (q : Live) (lives : process_of q.number s ≡ 
   verb-step before k word.Tl ops e a = choose-step (ops.0) (ops.1.0) pick.Tl
   verb-step before k word.Elem ops e a = choose-step (ops.0) (ops.1.1.0) (pick.Elem (ops.1.0))
   verb-step before k word.MapGet ops e a = choose-step (ops.0) (ops.1.0) (pick.MapGet (reg (ops.1.1.0)))
-  verb-step before k word.MapPut ops e a = own-as q.number (put_pair (pairs_in (register (ops.1.0) q)) (register (ops.1.1.0) q) (register (ops.1.1.1.0) q) s p q (ops.0))
+  verb-step before k word.MapPut ops e a = own-as q.number (put_into (pairs_in (register (ops.1.0) q)) (register (ops.1.1.0) q) (register (ops.1.1.1.0) q) s p q (ops.0))
       (pair_named (pairs_of_named (by (register (ops.1.0) q))) (by (register (ops.1.1.0) q)) (by (register (ops.1.1.1.0) q)) x (ops.0)) (verb_named x word.MapPut ops)
       (pair-step (register (ops.1.0) q) (register (ops.1.1.0) q) (register (ops.1.1.1.0) q) (ops.0) (held-known (ops.1.0)) (held-known (ops.1.1.0)) (held-known (ops.1.1.1.0)))
       (λ i. pair_named (pairs_of_named (held-by (ops.1.0) i)) (held-by (ops.1.1.0) i) (held-by (ops.1.1.1.0) i) x (ops.0))

@@ -8,9 +8,9 @@ use Rattle.plain_term.specs.Tree.Trees.{end, ◌▹◌}
 use Rattle.plain_term.specs.Tree.Pairs.{stop, pair}
 use Rattle.plain_term.specs.Measures.{bin_words, is_small, magnitude, int_flat}
 use Rattle.plain_term.specs.Beyond.{is_beyond}
+use Rattle.plain_term.specs.InOrder.{in_order}
 use Rattle.term_tags.specs.declared.kinds.TheConstants.{ATOMS, PIDS}
 use Rattle.term_tags.specs.declared.layouts.TheConstants.{MOST_HEAP_BYTES, MOST_KEYS}
-use Rattle.term_maps.specs.InOrder.{in_order}
 use Rattle.item_build.specs.declared.building.BuildStop.{BuildStop}
 use Rattle.item_build.specs.declared.building.BuildStop.TheVariants.{Big, Size}
 

@@ -1,34 +1,25 @@
 -- Maps that are made of good words.
 use Rattle.std.proofs.Common.{◌≡◌, ℕ, ◌+◌, ◌*◌, ◌≤◌, Bool, true, false, ◌&&◌, if◌then◌else◌, nat_lt, List, [], ◌∷◌, length, refl, sym, subst, arith, Some, None, Result, Ok, Err, IfOk, OnErr}
 use Rattle.std.specs.Result.{result_ok}
-use Rattle.std.specs.declared.cmp.Ordering.{Ordering}
-use Rattle.std.specs.declared.cmp.Ordering.TheVariants.{Less, Equal, Greater}
 use Rattle.std.proofs.lemmas.Bool.Decides.{nat_tests}
 use Rattle.word_mem.specs.declared.ranges.Room.{Room}
 use Rattle.plain_term.specs.Tree.{Tree, Pairs, pairs_len}
 use Rattle.plain_term.specs.Tree.Tree.{Map}
 use Rattle.plain_term.specs.Tree.Pairs.{stop, pair}
-use Rattle.plain_term.specs.Order.{order}
+use Rattle.plain_term.specs.InOrder.{in_order}
 use Rattle.term_words.specs.Role.{always, outside}
 use Rattle.term_words.specs.Kept.{Keeps}
 use Rattle.term_words.proofs.Framing.Rooms.{weaken}
 use Rattle.term_build.specs.Clear.{Clear, KeepsClear, IsRoom}
 use Rattle.term_build.proofs.Rooms.{room-after}
-use Rattle.term_order.specs.Named.{is_named, pairs_named}
-use Rattle.term_maps.specs.InOrder.{by_order, put_pair, put_all, in_order, has_beyond, why_not}
+use Rattle.term_order.specs.Named.{pairs_named}
+use Rattle.term_maps.specs.Stops.{has_beyond, why_not}
 use Rattle.term_maps.specs.Given.{PairsStand, CanMap, MapIsMade}
 use Rattle.term_maps.specs.declared.maps.MapStop.{MapStop}
 use Rattle.term_maps.specs.declared.maps.MapStop.TheVariants as why
+use Rattle.term_maps.proofs.Named.{in-order-named}
 use Rattle.ladder_tests.specs.Bench.{ArePairs, Makes}
 use Rattle.ladder_tests.proofs.Good.{pairs-good}
-
-and-first : (a b : Bool) → a && b ≡ true → a ≡ true
-and-first true b h = refl
-and-first false b h = h
-
-and-second : (a b : Bool) → a && b ≡ true → b ≡ true
-and-second true b h = h
-and-second false b h = absurd cc
 
 pairs-kept : (c d : ℕ → ℕ → Bool) (shared : List (List ℕ)) (mem : List ℕ) (words : List (ℕ × ℕ)) (ps : Pairs) → Keeps c d mem mem → PairsStand c shared mem words ps → PairsStand d shared mem words ps
 unfolding PairsStand
@@ -49,34 +40,6 @@ can-map shared names room mem words spare all =
       named = g.named;
       fits = λ few. omega (arith, few, spare);
     }
-
--- Names stay among the names while pairs are put in order.
-by-named : (n : ℕ) (o : Ordering) (l e g : Pairs) → pairs_named n l ≡ true → pairs_named n e ≡ true → pairs_named n g ≡ true → pairs_named n (by_order o l e g) ≡ true
-by-named n Less l e g x y z = x
-by-named n Equal l e g x y z = y
-by-named n Greater l e g x y z = z
-
-pair-named : (n : ℕ) (k v : Tree) (ps : Pairs) → is_named n k ≡ true → is_named n v ≡ true → pairs_named n ps ≡ true → pairs_named n (pair k v ps) ≡ true
-pair-named n k v ps x y z = rw (x, y, z) refl
-
-put-named : (n : ℕ) (names shared : List (List ℕ)) (k v : Tree) (ps : Pairs) → is_named n k ≡ true → is_named n v ≡ true → pairs_named n ps ≡ true
-    → pairs_named n (put_pair names shared k v ps) ≡ true
-put-named n names shared k v stop x y z = pair-named n k v stop x y refl
-put-named n names shared k v (pair j w ps) x y z =
-    let both : is_named n j && is_named n w ≡ true = and-first (is_named n j && is_named n w) (pairs_named n ps) z in
-    let rest : pairs_named n ps ≡ true = and-second (is_named n j && is_named n w) (pairs_named n ps) z in
-    by-named n (order names shared k j) (pair k v (pair j w ps)) (pair k v ps) (pair j w (put_pair names shared k v ps)) (pair-named n k v (pair j w ps) x y z)
-    (pair-named n k v ps x y rest)
-    (pair-named n j w (put_pair names shared k v ps) (and-first (is_named n j) (is_named n w) both) (and-second (is_named n j) (is_named n w) both)
-    (put-named n names shared k v ps x y rest))
-
-all-named : (n : ℕ) (names shared : List (List ℕ)) (ps given : Pairs) → pairs_named n ps ≡ true → pairs_named n given ≡ true → pairs_named n (put_all names shared ps given) ≡ true
-all-named n names shared ps stop x z = x
-all-named n names shared ps (pair k v given) x z =
-    let both : is_named n k && is_named n v ≡ true = and-first (is_named n k && is_named n v) (pairs_named n given) z in
-    all-named n names shared (put_pair names shared k v ps) given
-    (put-named n names shared k v ps (and-first (is_named n k) (is_named n v) both) (and-second (is_named n k) (is_named n v) both) x)
-    (and-second (is_named n k && is_named n v) (pairs_named n given) z)
 
 -- Where nothing is in the way there are 32 keys at most.
 no-size : (a b : Bool) → (if a then Some why.Big else (if b then Some why.Size else None)) ≡ None → b ≡ false
@@ -99,7 +62,7 @@ pub map-made : (shared names : List (List ℕ)) (given : Pairs) (old new : Room)
 map-made shared names given old new mem mem2 (Ok w) place spare named stopped made clear kept = record {
   place = room-after (4 + 2 * pairs_len (in_order names shared given)) old new mem mem2 made.uses place (omega (arith, spare, few-keys names shared given made.none));
   kept = kept;
-  good = record { tree = Map (in_order names shared given); clear = clear; named = all-named (length names) names shared stop given refl named };
+  good = record { tree = Map (in_order names shared given); clear = clear; named = in-order-named names shared (length names) given named };
 }
 map-made shared names given old new mem mem2 (Err e) place spare named stopped made clear kept = record {
   place =

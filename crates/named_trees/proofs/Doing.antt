@@ -11,13 +11,15 @@ use Rattle.plain_term.specs.Tree.Pairs.{stop, pair}
 use Rattle.plain_term.specs.Bytes.{shared_bytes}
 use Rattle.plain_term.specs.Beyond.{is_beyond}
 use Rattle.plain_term.specs.Order.{order}
+use Rattle.plain_term.specs.InOrder.{put_pair, put_all}
+use Rattle.plain_term.specs.Parts.{part_at, place_of, head_in, tail_in, element_of, env_in}
 use Rattle.script_grammar.specs.declared.command.Pick.{Pick}
 use Rattle.script_grammar.specs.declared.command.Pick.TheVariants.{Hd, Tl, Elem, MapGet, Env, Part as Bytes}
 use Rattle.script_grammar.specs.declared.command.Shape.{Shape}
 use Rattle.script_grammar.specs.declared.command.Shape.TheVariants.{Tuple as InTuple, List as InList}
 use Rattle.plain_machine.specs.State.{Process, register}
-use Rattle.plain_machine.specs.Made.{with_pair, with_pairs, list_tree}
-use Rattle.plain_machine.specs.Parts.{head_in, tail_in, tree_after, element_in, place_in, env_in, part_in, value_of, value_in, picked, repeated}
+use Rattle.plain_machine.specs.Made.{list_tree}
+use Rattle.plain_machine.specs.Parts.{part_in, value_of, value_in, picked, repeated}
 use Rattle.named_trees.specs.NamedTree.{NamedTree, NamedPairs, named, all_named, pairs_named}
 use Rattle.named_trees.specs.NamedTree.{NamedTree as by_name}
 use Rattle.named_trees.specs.NamedTree.{NamedTrees as all_by_name}
@@ -51,16 +53,16 @@ module _ (names shared : List (List ℕ)) where
   tail-by (Cons h t) = refl
   tail-by _ = refl
 
-  after-by : (ts : Trees) (k : ℕ) → option_map by (tree_after ts k) ≡ named_after (all_named names shared ts) k
+  after-by : (ts : Trees) (k : ℕ) → option_map by (part_at ts k) ≡ named_after (all_named names shared ts) k
   after-by end k = refl
   after-by (t ▹ ts) zero = refl
   after-by (t ▹ ts) (suc k) = after-by ts k
 
-  element-by : (ts : Trees) (i : ℕ) → option_map by (element_in ts i) ≡ named_element (all_named names shared ts) i
+  element-by : (ts : Trees) (i : ℕ) → option_map by (place_of ts i) ≡ named_element (all_named names shared ts) i
   element-by ts zero = refl
   element-by ts (suc k) = after-by ts k
 
-  place-by : (i : ℕ) (t : Tree) → option_map by (place_in i t) ≡ named_place i (by t)
+  place-by : (i : ℕ) (t : Tree) → option_map by (element_of i t) ≡ named_place i (by t)
   place-by i (Tuple ts) = element-by ts i
   place-by i _ = refl
 
@@ -108,17 +110,17 @@ module _ (names shared : List (List ℕ)) where
       all Equal = k
       all Greater = l
 
-  pub put-by : (k v : Tree) (ps : Pairs) → pairs_named names shared (with_pair names shared k v ps) ≡ named_put (by k) (by v) (pairs_named names shared ps)
+  pub put-by : (k v : Tree) (ps : Pairs) → pairs_named names shared (put_pair names shared k v ps) ≡ named_put (by k) (by v) (pairs_named names shared ps)
   put-by k v stop = refl
   put-by k v (pair j w ps) =
-      order-by (order names shared k j) (named_order (by k) (by j)) (pair k v (pair j w ps)) (pair k v ps) (pair j w (with_pair names shared k v ps))
+      order-by (order names shared k j) (named_order (by k) (by j)) (pair k v (pair j w ps)) (pair k v ps) (pair j w (put_pair names shared k v ps))
       (pairs_by_name.paired (by k) (by v) (pairs_named names shared (pair j w ps))) (pairs_by_name.paired (by k) (by v) (pairs_named names shared ps))
       (pairs_by_name.paired (by j) (by w) (named_put (by k) (by v) (pairs_named names shared ps)))
       (order-seen names shared k j) refl refl (ap (λ z. pairs_by_name.paired (by j) (by w) z) (put-by k v ps))
 
-  pub put-all-by : (sorted ps : Pairs) → pairs_named names shared (with_pairs names shared sorted ps) ≡ named_put_all (pairs_named names shared sorted) (pairs_named names shared ps)
+  pub put-all-by : (sorted ps : Pairs) → pairs_named names shared (put_all names shared sorted ps) ≡ named_put_all (pairs_named names shared sorted) (pairs_named names shared ps)
   put-all-by sorted stop = refl
-  put-all-by sorted (pair k v ps) = put-all-by (with_pair names shared k v sorted) ps ∙ ap (λ z. named_put_all z (pairs_named names shared ps)) (put-by k v sorted)
+  put-all-by sorted (pair k v ps) = put-all-by (put_pair names shared k v sorted) ps ∙ ap (λ z. named_put_all z (pairs_named names shared ps)) (put-by k v sorted)
 
   pub list-by : (ts : Trees) (t : Tree) → by (list_tree ts t) ≡ named_list (all_named names shared ts) (by t)
   list-by end t = refl

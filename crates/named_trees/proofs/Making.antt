@@ -1,21 +1,19 @@
 -- What written terms make, by name.
 use Rattle.std.proofs.Common.{◌≡◌, ℕ, zero, suc, ◌+◌, ◌≤◌, Bool, true, false, cond, ◌||◌, ◌&&◌, not, nat_lt, nat_le, List, [], ◌∷◌, ◌++◌, length, map, get_or, refl, sym, ap, subst, ◌∙◌, arith, append-nil, length-append}
-use Rattle.std.specs.Ordering.{match_ordering}
-use Rattle.std.specs.declared.cmp.Ordering.{Ordering}
-use Rattle.std.specs.declared.cmp.Ordering.TheVariants.{Less, Equal, Greater}
 use Rattle.term_tags.specs.declared.layouts.TheConstants.{MOST_KEYS}
 use Rattle.plain_term.specs.Tree.{Tree, Trees, Pairs}
 use Rattle.plain_term.specs.Tree.{Tree as tree}
 use Rattle.plain_term.specs.Tree.{Trees as trees}
 use Rattle.plain_term.specs.Tree.{Pairs as pairs}
 use Rattle.plain_term.specs.Bytes.{shared_bytes}
-use Rattle.plain_term.specs.Order.{order}
+use Rattle.plain_term.specs.InOrder.{put_pair, in_order}
+use Rattle.plain_term.proofs.Putting.{put-keeps, all-keep}
 use Rattle.script_grammar.specs.Written.{Term, Terms, TermPairs}
 use Rattle.script_grammar.specs.Written.Term.{Int, Atom, Pid, Held, Listed, Barred, Tuple, Map, Bin}
 use Rattle.script_grammar.specs.Written.Terms.{end, ◌▹◌}
 use Rattle.script_grammar.specs.Written.TermPairs.{stop, pair}
 use Rattle.script_grammar.specs.Names.{atoms_of, atoms_of_all, atoms_of_pairs}
-use Rattle.plain_machine.specs.Made.{tree_of, trees_of, pairs_of, with_pair, with_pairs, list_tree, bin_tree}
+use Rattle.plain_machine.specs.Made.{tree_of, trees_of, pairs_of, list_tree, bin_tree}
 use Rattle.plain_machine.specs.Flaws.{is_wide, are_wide, are_wide_pairs, is_big, are_big, are_big_pairs}
 use Rattle.plain_machine.proofs.Properly.Making.{Extends, made-more, all-made-more, pairs-made-more, extends-then}
 use Rattle.named_trees.specs.NamedTree.{NamedTree, named, all_named, pairs_named, IsKnown, AreKnown, PairsKnown}
@@ -99,20 +97,21 @@ module _ (names : List (List ℕ)) where
   list-known shared trees.end t h k = k
   list-known shared (trees.◌▹◌ u ts) t h k = (h.0, list-known shared ts t h.1 k)
 
-  pub put-known : (shared : List (List ℕ)) (k v : Tree) (ps : Pairs) → IsKnown names shared k → IsKnown names shared v → PairsKnown names shared ps
-      → PairsKnown names shared (with_pair names shared k v ps)
-  put-known shared k v pairs.stop h g l = (h, g, tt)
-  put-known shared k v (pairs.pair j w ps) h g l = by (put-known shared k v ps h g l.2) (order names shared k j)
-    where
-      by : PairsKnown names shared (with_pair names shared k v ps) → (o : Ordering)
-          → PairsKnown names shared (match_ordering o (pairs.pair k v (pairs.pair j w ps)) (pairs.pair k v ps) (pairs.pair j w (with_pair names shared k v ps)))
-      by rest Less = (h, g, l)
-      by rest Equal = (h, g, l.2)
-      by rest Greater = (l.0, l.1, rest)
+  abbrev KnownPair : (shared : List (List ℕ)) → Tree → Tree → Type 0
+  KnownPair shared k v = IsKnown names shared k × IsKnown names shared v
 
-  put-all-known : (shared : List (List ℕ)) (sorted ps : Pairs) → PairsKnown names shared sorted → PairsKnown names shared ps → PairsKnown names shared (with_pairs names shared sorted ps)
-  put-all-known shared sorted pairs.stop h k = h
-  put-all-known shared sorted (pairs.pair a b ps) h k = put-all-known shared (with_pair names shared a b sorted) ps (put-known shared a b sorted k.0 k.1 h) k.2
+  known-parts : (shared : List (List ℕ)) (k v : Tree) (ps : Pairs) → PairsKnown names shared (pairs.pair k v ps) → KnownPair shared k v × PairsKnown names shared ps
+  known-parts shared k v ps h = ((h.0, h.1), h.2)
+
+  known-join : (shared : List (List ℕ)) (k v : Tree) (ps : Pairs) → KnownPair shared k v → PairsKnown names shared ps → PairsKnown names shared (pairs.pair k v ps)
+  known-join shared k v ps h l = (h.0, h.1, l)
+
+  pub put-known : (shared : List (List ℕ)) (k v : Tree) (ps : Pairs) → IsKnown names shared k → IsKnown names shared v → PairsKnown names shared ps
+      → PairsKnown names shared (put_pair names shared k v ps)
+  put-known shared k v ps h g l = put-keeps names shared (PairsKnown names shared) (KnownPair shared) (known-parts shared) (known-join shared) k v ps (h, g) l
+
+  in-order-known : (shared : List (List ℕ)) (given : Pairs) → PairsKnown names shared given → PairsKnown names shared (in_order names shared given)
+  in-order-known shared given k = all-keep names shared (PairsKnown names shared) (KnownPair shared) (known-parts shared) (known-join shared) pairs.stop given tt k
 
   -- the tree of bytes
   pub record BinMade (bytes : List ℕ) (made : Tree × List (List ℕ)) : Type 0 where
@@ -192,11 +191,11 @@ module _ (names : List (List ℕ)) where
       made (Map ps) shared h n =
           let a = pairs-made ps shared h n in
           let all : Pairs × List (List ℕ) = pairs_of names held ps shared in
-          let sorted : pairs_named names (all.1) (with_pairs names (all.1) pairs.stop (all.0)) ≡ named_put_all pairs_by_name.unpaired (pairs_named_made (by shared) ps) =
+          let sorted : pairs_named names (all.1) (in_order names (all.1) (all.0)) ≡ named_put_all pairs_by_name.unpaired (pairs_named_made (by shared) ps) =
           put-all-by names (all.1) pairs.stop (all.0) ∙ ap (named_put_all pairs_by_name.unpaired) a.makes in record {
             makes = ap by_name.Map sorted;
-            known = put-all-known (all.1) pairs.stop (all.0) tt a.known;
-            wide = λ i. nat_lt MOST_KEYS ((pairs-seen names (all.1) (with_pairs names (all.1) pairs.stop (all.0)) ∙ ap pairs_count sorted) i) || a.wide i;
+            known = in-order-known (all.1) (all.0) a.known;
+            wide = λ i. nat_lt MOST_KEYS ((pairs-seen names (all.1) (in_order names (all.1) (all.0)) ∙ ap pairs_count sorted) i) || a.wide i;
             big = a.big;
           }
       made (Bin bytes) shared h n = let b = bin-made bytes shared in record { makes = b.makes; known = b.known; wide = refl; big = refl }

@@ -8,6 +8,7 @@ use Rattle.plain_term.specs.Tree.Pairs.{stop, pair}
 use Rattle.plain_term.specs.Bytes.{shared_bytes}
 use Rattle.plain_term.specs.Beyond.{is_beyond}
 use Rattle.plain_term.specs.Order.{order}
+use Rattle.plain_term.specs.Parts.{part_at, place_of, head_in, tail_in, element_of, env_in}
 use Rattle.script_grammar.specs.declared.command.Pick.{Pick}
 use Rattle.script_grammar.specs.declared.command.Pick.TheVariants.{Hd, Tl, Elem, MapGet, Env, Part as Bytes}
 use Rattle.script_grammar.specs.declared.command.Shape.{Shape}
@@ -15,7 +16,7 @@ use Rattle.script_grammar.specs.declared.command.Shape.TheVariants.{Tuple as InT
 use Rattle.script_grammar.specs.Names.{held_terms}
 use Rattle.plain_machine.specs.State.{Process}
 use Rattle.plain_machine.specs.Made.{trees_of}
-use Rattle.plain_machine.specs.Parts.{head_in, tail_in, tree_after, element_in, place_in, env_in, part_in, value_of, value_in, picked, repeated}
+use Rattle.plain_machine.specs.Parts.{part_in, value_of, value_in, picked, repeated}
 use Rattle.named_trees.specs.NamedTree.{named, all_named, IsKnown, AreKnown, PairsKnown}
 use Rattle.named_trees.specs.NamedTree.{NamedTrees as all_by_name}
 use Rattle.named_trees.specs.Doing.{all_named_made}
@@ -49,16 +50,16 @@ module _ (names shared : List (List ℕ)) where
   tail-known (Cons a b) h = h.1
   tail-known _ h = tt
 
-  after-known : (ts : Trees) (k : ℕ) → AreKnown names shared ts → IfKnown (tree_after ts k)
+  after-known : (ts : Trees) (k : ℕ) → AreKnown names shared ts → IfKnown (part_at ts k)
   after-known end k h = tt
   after-known (t ▹ ts) zero h = h.0
   after-known (t ▹ ts) (suc k) h = after-known ts k h.1
 
-  element-known : (ts : Trees) (i : ℕ) → AreKnown names shared ts → IfKnown (element_in ts i)
+  element-known : (ts : Trees) (i : ℕ) → AreKnown names shared ts → IfKnown (place_of ts i)
   element-known ts zero h = tt
   element-known ts (suc k) h = after-known ts k h
 
-  place-known : (i : ℕ) (t : Tree) → IsKnown names shared t → IfKnown (place_in i t)
+  place-known : (i : ℕ) (t : Tree) → IsKnown names shared t → IfKnown (element_of i t)
   place-known i (Tuple ts) h = element-known ts i h
   place-known i _ h = tt
 

@@ -5,6 +5,7 @@ use Rattle.plain_term.specs.Bytes.{bytes_of}
 use Rattle.plain_term.specs.Measures.{nodes, depth, flat}
 use Rattle.plain_term.specs.Beyond.{is_beyond}
 use Rattle.plain_term.specs.Order.{order, name_of}
+use Rattle.plain_term.specs.InOrder.{put_pair}
 use Rattle.plain_term.specs.Text.{text}
 use Rattle.plain_term.specs.Proper.{is_proper}
 use Rattle.script_grammar.specs.declared.command.Pick.{Pick}
@@ -12,7 +13,7 @@ use Rattle.script_grammar.specs.declared.command.Shape.{Shape}
 use Rattle.script_grammar.specs.Written.{Term}
 use Rattle.script_grammar.specs.Names.{number_of, atoms_of}
 use Rattle.plain_machine.specs.State.{Process}
-use Rattle.plain_machine.specs.Made.{tree_of, with_pair}
+use Rattle.plain_machine.specs.Made.{tree_of}
 use Rattle.plain_machine.specs.Flaws.{is_wide, is_big}
 use Rattle.plain_machine.specs.Parts.{picked, repeated}
 use Rattle.named_trees.specs.NamedTree.{NamedTree, named, pairs_named, IsKnown}
@@ -47,7 +48,7 @@ pub record DoneOf (names shared : List (List ℕ)) : Type 0 where
   pub part : (q : Process) (how : Pick) (t : Tree)
       → option_map (named names shared) (picked names shared q how t) ≡ named_picked (map (named names shared) q.registers) how (named names shared t)
   pub put : (k v : Tree) (ps : Pairs)
-      → pairs_named names shared (with_pair names shared k v ps) ≡ named_put (named names shared k) (named names shared v) (pairs_named names shared ps)
+      → pairs_named names shared (put_pair names shared k v ps) ≡ named_put (named names shared k) (named names shared v) (pairs_named names shared ps)
   pub many : (shape : Shape) (n : ℕ) (t : Tree) → named names shared (repeated shape n t) ≡ named_repeated shape n (named names shared t)
 
 abbrev pub IsDoneByName : Type 0

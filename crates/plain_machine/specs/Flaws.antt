@@ -1,20 +1,20 @@
 -- Which written terms have a map that cannot be made: one with too many keys, or with a key beyond the walk limit.
 use Rattle.std.specs.Prelude.{ℕ, Bool, true, false, ◌||◌, ◌&&◌, not, List, Option, Some, None}
 use Rattle.plain_term.specs.Tree.{Tree, Pairs}
-use Rattle.plain_term.specs.Tree.{Pairs as pairs}
 use Rattle.plain_term.specs.Beyond.{is_beyond}
+use Rattle.plain_term.specs.InOrder.{in_order}
 use Rattle.script_grammar.specs.declared.refusal.Refusal.{Refusal}
 use Rattle.script_grammar.specs.declared.refusal.Refusal.TheVariants.{Big, MapSize}
 use Rattle.script_grammar.specs.Written.{Term, Terms, TermPairs}
 use Rattle.script_grammar.specs.Written.Term.{Listed, Barred, Tuple, Map}
 use Rattle.script_grammar.specs.Written.Terms.{end, ◌▹◌}
 use Rattle.script_grammar.specs.Written.TermPairs.{stop, pair}
-use Rattle.plain_machine.specs.Made.{tree_of, trees_of, pairs_of, with_pairs, too_many}
+use Rattle.plain_machine.specs.Made.{tree_of, trees_of, pairs_of, too_many}
 
 -- The written pairs have more different keys than a map may have.
 abbrev pub has_many_keys : (names : List (List ℕ)) (held : List Tree) → TermPairs → (shared : List (List ℕ)) → Bool
 has_many_keys names held ps shared = let all : Pairs × List (List ℕ) = pairs_of names held ps shared in
-    too_many (with_pairs names (all.1) pairs.stop (all.0))
+    too_many (in_order names (all.1) (all.0))
 
 abbrev mutual
   -- A term is or holds, as it is written, a map with too many different keys.

@@ -1,29 +1,16 @@
 -- The trees that written terms make.
 use Rattle.std.specs.Prelude.{ℕ, ◌+◌, Bool, nat_le, nat_lt, List, [], ◌∷◌, ◌++◌, length, slice_index_or, if◌then◌else◌}
-use Rattle.std.specs.Ordering.{match_ordering}
 use Rattle.plain_term.specs.Tree.{Tree, Trees, Pairs, pairs_len}
 use Rattle.plain_term.specs.Tree.{Tree as tree}
 use Rattle.plain_term.specs.Tree.{Trees as trees}
 use Rattle.plain_term.specs.Tree.{Pairs as pairs}
-use Rattle.plain_term.specs.Order.{order}
+use Rattle.plain_term.specs.InOrder.{in_order}
 use Rattle.term_tags.specs.declared.layouts.TheConstants.{MOST_KEYS}
 use Rattle.script_grammar.specs.Written.{Term, Terms, TermPairs}
 use Rattle.script_grammar.specs.Written.Term.{Int, Atom, Pid, Held, Listed, Barred, Tuple, Map, Bin}
 use Rattle.script_grammar.specs.Written.Terms.{end, ◌▹◌}
 use Rattle.script_grammar.specs.Written.TermPairs.{stop, pair}
 use Rattle.script_grammar.specs.Names.{number_of}
-
--- A pair put into pairs in key order. Where the key is there already, the new pair stands for it.
-abbrev pub with_pair : (names shared : List (List ℕ)) (key value : Tree) → Pairs → Pairs
-with_pair names shared key value pairs.stop = pairs.pair key value pairs.stop
-with_pair names shared key value (pairs.pair k v ps) =
-    match_ordering (order names shared key k) (pairs.pair key value (pairs.pair k v ps)) (pairs.pair key value ps)
-    (pairs.pair k v (with_pair names shared key value ps))
-
--- Pairs put into others one by one, so that the later of two with equal keys stands.
-abbrev pub with_pairs : (names shared : List (List ℕ)) → Pairs → Pairs → Pairs
-with_pairs names shared sorted pairs.stop = sorted
-with_pairs names shared sorted (pairs.pair k v ps) = with_pairs names shared (with_pair names shared k v sorted) ps
 
 -- There are more pairs than a map may have.
 abbrev pub too_many : Pairs → Bool
@@ -52,7 +39,7 @@ abbrev mutual
       let last : Tree × List (List ℕ) = tree_of names held t (heads.1) in (list_tree (heads.0) (last.0), last.1)
   tree_of names held (Tuple ts) shared = let all : Trees × List (List ℕ) = trees_of names held ts shared in (tree.Tuple (all.0), all.1)
   tree_of names held (Map ps) shared = let all : Pairs × List (List ℕ) = pairs_of names held ps shared in
-      (tree.Map (with_pairs names (all.1) pairs.stop (all.0)), all.1)
+      (tree.Map (in_order names (all.1) (all.0)), all.1)
   tree_of names held (Bin bytes) shared = bin_tree bytes shared
 
   -- The trees of terms, from left to right.

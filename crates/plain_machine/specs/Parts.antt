@@ -1,45 +1,19 @@
--- The parts of trees, maps with a key more, and trees of many places.
-use Rattle.std.specs.Prelude.{ℕ, ◌+◌, zero, suc, nat_le, if◌then◌else◌, List, length, Option, Some, None}
+-- The part that is picked of a tree, the pairs of a map, and trees of many places.
+use Rattle.std.specs.Prelude.{ℕ, ◌+◌, nat_le, if◌then◌else◌, List, length, Option, Some, None}
 use Rattle.std.specs.Ordering.{is_eq}
-use Rattle.plain_term.specs.Tree.{Tree, Trees, Pairs, same_trees}
-use Rattle.plain_term.specs.Tree.Tree.{Nil, Cons, Tuple, Map, Bin, Shared, Part, Fun}
-use Rattle.plain_term.specs.Tree.Trees.{end, ◌▹◌}
+use Rattle.plain_term.specs.Tree.{Tree, Pairs, same_trees}
+use Rattle.plain_term.specs.Tree.Tree.{Nil, Tuple, Map, Bin, Shared, Part}
 use Rattle.plain_term.specs.Tree.Pairs.{stop, pair}
 use Rattle.plain_term.specs.Beyond.{is_beyond}
 use Rattle.plain_term.specs.Bytes.{shared_bytes}
 use Rattle.plain_term.specs.Order.{order}
+use Rattle.plain_term.specs.Parts.{head_in, tail_in, element_of, env_in}
 use Rattle.script_grammar.specs.declared.command.Pick.{Pick}
 use Rattle.script_grammar.specs.declared.command.Pick.TheVariants.{Hd, Tl, Elem, MapGet, Env, Part as Bytes}
 use Rattle.script_grammar.specs.declared.command.Shape.{Shape}
 use Rattle.script_grammar.specs.declared.command.Shape.TheVariants.{Tuple as InTuple, List as InList}
 use Rattle.plain_machine.specs.Made.{list_tree}
 use Rattle.plain_machine.specs.State.{Process as Live, register}
-
--- The head of a list place; no other tree has one.
-abbrev pub head_in : Tree → Option Tree
-head_in (Cons h t) = Some h
-head_in _ = None
-
--- The tail of a list place; no other tree has one.
-abbrev pub tail_in : Tree → Option Tree
-tail_in (Cons h t) = Some t
-tail_in _ = None
-
--- The tree with so many before it.
-abbrev pub tree_after : Trees → ℕ → Option Tree
-tree_after end k = None
-tree_after (t ▹ ts) zero = Some t
-tree_after (t ▹ ts) (suc k) = tree_after ts k
-
--- The tree at a place, counted from 1.
-abbrev pub element_in : Trees → ℕ → Option Tree
-element_in ts zero = None
-element_in ts (suc k) = tree_after ts k
-
--- The element of a tuple at a place; no other tree has one.
-abbrev pub place_in : ℕ → Tree → Option Tree
-place_in i (Tuple ts) = element_in ts i
-place_in i _ = None
 
 -- The value of the first key that is equal to this one.
 abbrev pub value_of : (names shared : List (List ℕ)) → (key : Tree) → Pairs → Option Tree
@@ -50,11 +24,6 @@ value_of names shared key (pair k v ps) = if is_eq (order names shared key k) th
 abbrev pub value_in : (names shared : List (List ℕ)) → (key : Tree) → Tree → Option Tree
 value_in names shared key (Map ps) = if is_beyond shared key then None else value_of names shared key ps
 value_in names shared key _ = None
-
--- What stands at a place of a fun's environment, counted from 1; no other tree has one.
-abbrev pub env_in : ℕ → Tree → Option Tree
-env_in i (Fun name arity creator env) = element_in env i
-env_in i _ = None
 
 -- The bytes of a binary from an offset on, where it has them; no other tree has bytes. The part of a part has the same base.
 abbrev pub part_in : (shared : List (List ℕ)) → (offset len : ℕ) → Tree → Option Tree
@@ -67,7 +36,7 @@ part_in shared offset len _ = None
 abbrev pub picked : (names shared : List (List ℕ)) → Live → Pick → Tree → Option Tree
 picked names shared q Hd t = head_in t
 picked names shared q Tl t = tail_in t
-picked names shared q (Elem i) t = place_in i t
+picked names shared q (Elem i) t = element_of i t
 picked names shared q (MapGet k) t = value_in names shared (register k.0 q) t
 picked names shared q (Env i) t = env_in i t
 picked names shared q (Bytes offset len) t = part_in shared offset len t

@@ -7,6 +7,7 @@ use Rattle.plain_term.specs.Tree.Tree.{Pid, Ref as Reference, Nil, Map, Fun}
 use Rattle.plain_term.specs.Beyond.{is_beyond}
 use Rattle.plain_term.specs.Measures.{flat}
 use Rattle.plain_term.specs.Order.{order}
+use Rattle.plain_term.specs.InOrder.{put_pair}
 use Rattle.plain_term.specs.Text.{text, numbers_text}
 use Rattle.script_grammar.specs.declared.command.Command.{Command}
 use Rattle.script_grammar.specs.declared.command.Command.TheVariants.{Nothing, Process, System}
@@ -22,7 +23,7 @@ use Rattle.script_grammar.specs.declared.refusal.Refusal.TheVariants.{NoProc, Ba
 use Rattle.script_grammar.specs.Written.{Terms}
 use Rattle.script_grammar.specs.Written.Terms.{end, ◌▹◌}
 use Rattle.script_grammar.specs.Names.{Parsed}
-use Rattle.plain_machine.specs.Made.{tree_of, trees_of, bin_tree, with_pair, too_many}
+use Rattle.plain_machine.specs.Made.{tree_of, trees_of, bin_tree, too_many}
 use Rattle.plain_machine.specs.Flaws.{is_wide, is_big, flaw_of}
 use Rattle.plain_machine.specs.Parts.{picked, pairs_in, repeated}
 use Rattle.plain_machine.specs.declared.limits.TheConstants.{MOST_PROCESSES, MOST_PLACES, MOST_FILL, MOST_ARITY, MOST_BYTE}
@@ -122,12 +123,12 @@ put_unless_big true ps s p q r = Refused Big
 put_unless_big false ps s p q r = put_unless_wide (too_many ps) ps s p q r
 
 -- A pair is put into those of a map.
-abbrev pub put_pair : Option Pairs → (key value : Tree) → State → Parsed → Live → ℕ → Outcome
-put_pair None key value s p q r = Refused BadArg
-put_pair (Some ps) key value s p q r = put_unless_big (is_beyond s.shared key) (with_pair p.names s.shared key value ps) s p q r
+abbrev pub put_into : Option Pairs → (key value : Tree) → State → Parsed → Live → ℕ → Outcome
+put_into None key value s p q r = Refused BadArg
+put_into (Some ps) key value s p q r = put_unless_big (is_beyond s.shared key) (put_pair p.names s.shared key value ps) s p q r
 
 abbrev pub mapput_step : State → Parsed → Live → (r m k v : ℕ) → Outcome
-mapput_step s p q r m k v = put_pair (pairs_in (register m q)) (register k q) (register v q) s p q r
+mapput_step s p q r m k v = put_into (pairs_in (register m q)) (register k q) (register v q) s p q r
 
 -- `fill`: the register holds a binary of these bytes, which are not too many and all of them a byte.
 abbrev pub fill_if : Bool → List ℕ → State → Parsed → Live → ℕ → Outcome

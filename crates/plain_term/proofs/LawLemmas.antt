@@ -1,5 +1,6 @@
 -- The laws of order, measures and text.
 use Rattle.std.proofs.Common.{◌≡◌, ◌≢◌, ◌+◌, ◌≤◌, ◌<◌, ◌^◌, ◌==◌, ◌%◌, ℕ, suc, ℤ, pos, negsuc, true, false, List, [], ◌∷◌, ◌++◌, length, get_or, max, refl, sym, ◌∙◌, ap, subst, arith, neg_ℤ, ◌-◌, ◌&&◌, nat_le, drop, leb-true, length-drop, length-take}
+use Rattle.std.proofs.lemmas.Bool.{and_parts}
 use Rattle.std.specs.Ordering.{nat_cmp, ordering_then, ordering_reverse}
 use Rattle.std.specs.Cmp.{tied_itself}
 use Rattle.std.specs.Fmt.{signed_decimal, decimal}
@@ -12,7 +13,6 @@ use Rattle.std.proofs.lemmas.Map.Lookups.{exact_bytes}
 use Rattle.std.proofs.lemmas.Str.Parse.{without_leading_plus_none}
 use Rattle.plain_term.specs.Bytes.{bytes_of, is_binary}
 use Rattle.plain_term.specs.Proper.{is_proper, is_base}
-use Rattle.plain_term.proofs.SharedLemmas.{right}
 use Rattle.plain_term.specs.Measures.{nodes, nodes_of_all, nodes_of_pairs, depth, greatest_depth, greatest_depth_of_pairs, bin_nodes, magnitude}
 use Rattle.plain_term.specs.Order.{order, order_of_all, order_of_keys, order_of_values, bytes_order, name_of}
 use Rattle.plain_term.specs.Tree.{Tree, Trees, Pairs, trees_len, pairs_len}
@@ -163,6 +163,6 @@ reads-back (negsuc n) h =
 pub part-length : (names s : List (List ℕ)) (base : Tree) (offset len : ℕ) → is_proper names s (Part base offset len) ≡ true → length (bytes_of s (Part base offset len)) ≡ len
 part-length names s base offset len h =
     let within : offset + len ≤ length (bytes_of s base) =
-    leb-true (offset + len) (length (bytes_of s base)) (right (is_base base && is_proper names s base) (nat_le (offset + len) (length (bytes_of s base))) h) in
+    leb-true (offset + len) (length (bytes_of s base)) (and_parts (is_base base && is_proper names s base) (nat_le (offset + len) (length (bytes_of s base))) h).1 in
     let dropped : length (drop offset (bytes_of s base)) ≡ length (bytes_of s base) - offset = length-drop offset (bytes_of s base) in
     length-take len (drop offset (bytes_of s base)) ∙ omega (arith, dropped, within)

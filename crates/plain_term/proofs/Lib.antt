@@ -6,4 +6,5 @@ pub mod OrderLemmas
 pub mod WrittenLemmas
 pub mod TokenLemmas
 pub mod Rising
+pub mod Putting
 pub mod LawLemmas

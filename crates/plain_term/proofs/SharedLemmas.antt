@@ -1,6 +1,7 @@
 -- A tree that names no shared binary has the same bytes, nodes and place in the order whatever the
 -- shared lists are.
-use Rattle.std.proofs.Common.{◌≡◌, ℕ, arith, Bool, true, false, true≢false, ◌&&◌, List, [], ap, refl, take, drop, length, sym}
+use Rattle.std.proofs.Common.{◌≡◌, ℕ, arith, true, ◌&&◌, List, [], ap, refl, take, drop, length}
+use Rattle.std.proofs.lemmas.Bool.{and_parts, false≢true}
 use Rattle.std.specs.Ordering.{nat_cmp, ordering_then}
 use Rattle.plain_term.specs.Order.{order, order_of_all, order_of_keys, order_of_values, kind_rank, bytes_order, name_of}
 use Rattle.plain_term.specs.Tree.{Tree, Trees, Pairs, trees_len, pairs_len}
@@ -11,49 +12,34 @@ use Rattle.plain_term.specs.Bytes.{bytes_of}
 use Rattle.plain_term.specs.Measures.{nodes, nodes_of_all, nodes_of_pairs, bin_nodes}
 use Rattle.plain_term.specs.View.{has_no_shared, all_have_no_shared, pairs_have_no_shared}
 
-pub no_way : {P : Type 0} → false ≡ true → P
-no_way h = absurd (true≢false (sym h))
-
-pub left : (a b : Bool) → (a && b) ≡ true → a ≡ true
-left true b h = refl
-left false b h = h
-
-pub right : (a b : Bool) → (a && b) ≡ true → b ≡ true
-right true b h = h
-right false b h = no_way h
-
-pub both : (a b : Bool) → a ≡ true → b ≡ true → (a && b) ≡ true
-both true b p q = q
-both false b p q = p
-
 pub bytes-any : (s : List (List ℕ)) (t : Tree) → has_no_shared t ≡ true → bytes_of s t ≡ bytes_of [] t
-bytes-any s (Shared id) h = no_way h
+bytes-any s (Shared id) h = absurd (false≢true h)
 bytes-any s (Part base offset len) h = ap (λ bs. take len (drop offset bs)) (bytes-any s base h)
 bytes-any s _ h = refl
 
 mutual
   pub nodes-any : (s : List (List ℕ)) (t : Tree) → has_no_shared t ≡ true → nodes s t ≡ nodes [] t
-  nodes-any s (Cons a b) h = omega (arith, nodes-any s a (left (has_no_shared a) (has_no_shared b) h), nodes-any s b (right (has_no_shared a) (has_no_shared b) h))
+  nodes-any s (Cons a b) h = omega (arith, nodes-any s a (and_parts (has_no_shared a) (has_no_shared b) h).0, nodes-any s b (and_parts (has_no_shared a) (has_no_shared b) h).1)
   nodes-any s (Tuple ts) h = omega (arith, nodes-any-all s ts h)
   nodes-any s (Fun f a c ts) h = omega (arith, nodes-any-all s ts h)
   nodes-any s (Map ps) h = omega (arith, nodes-any-pairs s ps h)
-  nodes-any s (Shared id) h = no_way h
+  nodes-any s (Shared id) h = absurd (false≢true h)
   nodes-any s (Part base offset len) h = ap (λ bs. bin_nodes (length bs)) (bytes-any s (Part base offset len) h)
   nodes-any s _ h = refl
 
   pub nodes-any-all : (s : List (List ℕ)) (ts : Trees) → all_have_no_shared ts ≡ true → nodes_of_all s ts ≡ nodes_of_all [] ts
   nodes-any-all s end h = refl
-  nodes-any-all s (t ▹ ts) h = omega (arith, nodes-any s t (left (has_no_shared t) (all_have_no_shared ts) h), nodes-any-all s ts (right (has_no_shared t) (all_have_no_shared ts) h))
+  nodes-any-all s (t ▹ ts) h = omega (arith, nodes-any s t (and_parts (has_no_shared t) (all_have_no_shared ts) h).0, nodes-any-all s ts (and_parts (has_no_shared t) (all_have_no_shared ts) h).1)
 
   pub nodes-any-pairs : (s : List (List ℕ)) (ps : Pairs) → pairs_have_no_shared ps ≡ true → nodes_of_pairs s ps ≡ nodes_of_pairs [] ps
   nodes-any-pairs s stop h = refl
   nodes-any-pairs s (pair k v ps) h =
-      let both = left (has_no_shared k && has_no_shared v) (pairs_have_no_shared ps) h in
+      let both = (and_parts (has_no_shared k && has_no_shared v) (pairs_have_no_shared ps) h).0 in
       omega (
         arith,
-        nodes-any s k (left (has_no_shared k) (has_no_shared v) both),
-        nodes-any s v (right (has_no_shared k) (has_no_shared v) both),
-        nodes-any-pairs s ps (right (has_no_shared k && has_no_shared v) (pairs_have_no_shared ps) h),
+        nodes-any s k (and_parts (has_no_shared k) (has_no_shared v) both).0,
+        nodes-any s v (and_parts (has_no_shared k) (has_no_shared v) both).1,
+        nodes-any-pairs s ps (and_parts (has_no_shared k && has_no_shared v) (pairs_have_no_shared ps) h).1,
       )
 
 mutual
@@ -69,8 +55,8 @@ mutual
   order-any names s (Tuple ts) (Tuple us) p q = ap (λ o. ordering_then (nat_cmp (trees_len ts) (trees_len us)) o) (order-any-all names s ts us p q)
   order-any names s (Map ps) (Map qs) p q = (λ i. ordering_then (nat_cmp (pairs_len ps) (pairs_len qs)) (ordering_then (order-any-keys names s ps qs p q i) (order-any-values names s ps qs p q i)))
   order-any names s (Cons a b) (Cons c d) p q =
-      let first = order-any names s a c (left (has_no_shared a) (has_no_shared b) p) (left (has_no_shared c) (has_no_shared d) q) in
-      let rest = order-any names s b d (right (has_no_shared a) (has_no_shared b) p) (right (has_no_shared c) (has_no_shared d) q) in
+      let first = order-any names s a c (and_parts (has_no_shared a) (has_no_shared b) p).0 (and_parts (has_no_shared c) (has_no_shared d) q).0 in
+      let rest = order-any names s b d (and_parts (has_no_shared a) (has_no_shared b) p).1 (and_parts (has_no_shared c) (has_no_shared d) q).1 in
       λ i. ordering_then (first i) (rest i)
   order-any names s a b p q = λ i. ordering_then (nat_cmp (kind_rank a) (kind_rank b)) (bytes_order (bytes-any s a p i) (bytes-any s b q i))
 
@@ -79,8 +65,8 @@ mutual
   order-any-all names s end (u ▹ us) p q = refl
   order-any-all names s (t ▹ ts) end p q = refl
   order-any-all names s (t ▹ ts) (u ▹ us) p q =
-      let first = order-any names s t u (left (has_no_shared t) (all_have_no_shared ts) p) (left (has_no_shared u) (all_have_no_shared us) q) in
-      let rest = order-any-all names s ts us (right (has_no_shared t) (all_have_no_shared ts) p) (right (has_no_shared u) (all_have_no_shared us) q) in
+      let first = order-any names s t u (and_parts (has_no_shared t) (all_have_no_shared ts) p).0 (and_parts (has_no_shared u) (all_have_no_shared us) q).0 in
+      let rest = order-any-all names s ts us (and_parts (has_no_shared t) (all_have_no_shared ts) p).1 (and_parts (has_no_shared u) (all_have_no_shared us) q).1 in
       λ i. ordering_then (first i) (rest i)
 
   pub order-any-keys : (names s : List (List ℕ)) (ps qs : Pairs) → pairs_have_no_shared ps ≡ true → pairs_have_no_shared qs ≡ true → order_of_keys names s ps qs ≡ order_of_keys names [] ps qs
@@ -88,10 +74,11 @@ mutual
   order-any-keys names s stop (pair k v qs) p q = refl
   order-any-keys names s (pair k v ps) stop p q = refl
   order-any-keys names s (pair k v ps) (pair j w qs) p q =
-      let pk = left (has_no_shared k && has_no_shared v) (pairs_have_no_shared ps) p in
-      let qj = left (has_no_shared j && has_no_shared w) (pairs_have_no_shared qs) q in
-      let first = order-any names s k j (left (has_no_shared k) (has_no_shared v) pk) (left (has_no_shared j) (has_no_shared w) qj) in
-      let rest = order-any-keys names s ps qs (right (has_no_shared k && has_no_shared v) (pairs_have_no_shared ps) p) (right (has_no_shared j && has_no_shared w) (pairs_have_no_shared qs) q) in
+      let pk = (and_parts (has_no_shared k && has_no_shared v) (pairs_have_no_shared ps) p).0 in
+      let qj = (and_parts (has_no_shared j && has_no_shared w) (pairs_have_no_shared qs) q).0 in
+      let first = order-any names s k j (and_parts (has_no_shared k) (has_no_shared v) pk).0 (and_parts (has_no_shared j) (has_no_shared w) qj).0 in
+      let rest = order-any-keys names s ps qs
+      (and_parts (has_no_shared k && has_no_shared v) (pairs_have_no_shared ps) p).1 (and_parts (has_no_shared j && has_no_shared w) (pairs_have_no_shared qs) q).1 in
       λ i. ordering_then (first i) (rest i)
 
   pub order-any-values : (names s : List (List ℕ)) (ps qs : Pairs) → pairs_have_no_shared ps ≡ true → pairs_have_no_shared qs ≡ true → order_of_values names s ps qs ≡ order_of_values names [] ps qs
@@ -99,8 +86,9 @@ mutual
   order-any-values names s stop (pair k v qs) p q = refl
   order-any-values names s (pair k v ps) stop p q = refl
   order-any-values names s (pair k v ps) (pair j w qs) p q =
-      let pk = left (has_no_shared k && has_no_shared v) (pairs_have_no_shared ps) p in
-      let qj = left (has_no_shared j && has_no_shared w) (pairs_have_no_shared qs) q in
-      let first = order-any names s v w (right (has_no_shared k) (has_no_shared v) pk) (right (has_no_shared j) (has_no_shared w) qj) in
-      let rest = order-any-values names s ps qs (right (has_no_shared k && has_no_shared v) (pairs_have_no_shared ps) p) (right (has_no_shared j && has_no_shared w) (pairs_have_no_shared qs) q) in
+      let pk = (and_parts (has_no_shared k && has_no_shared v) (pairs_have_no_shared ps) p).0 in
+      let qj = (and_parts (has_no_shared j && has_no_shared w) (pairs_have_no_shared qs) q).0 in
+      let first = order-any names s v w (and_parts (has_no_shared k) (has_no_shared v) pk).1 (and_parts (has_no_shared j) (has_no_shared w) qj).1 in
+      let rest = order-any-values names s ps qs
+      (and_parts (has_no_shared k && has_no_shared v) (pairs_have_no_shared ps) p).1 (and_parts (has_no_shared j && has_no_shared w) (pairs_have_no_shared qs) q).1 in
       λ i. ordering_then (first i) (rest i)

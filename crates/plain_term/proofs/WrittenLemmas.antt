@@ -1,5 +1,6 @@
 -- What items spell, and that they spell it alone.
 use Rattle.std.proofs.Common.{◌≡◌, ◌<◌, ◌≤◌, ◌+◌, ℕ, nat_le, Option, Some, List, [], ◌∷◌, ◌++◌, ◌==◌, true, false, subst, map, length, refl, sym, ◌∙◌, ap, arith, append_assoc, append-nil, length-append}
+use Rattle.std.proofs.lemmas.Bool.{and_parts, and_from, false≢true}
 use Rattle.std.specs.Prelude.{IfSome}
 use Rattle.std.proofs.lemmas.List.{map-append}
 use Rattle.std.proofs.lemmas.Bool.Decides.{nat_tests}
@@ -13,7 +14,6 @@ use Rattle.plain_term.specs.declared.tree.Tree as code
 use Rattle.plain_term.specs.declared.item.Item.{Item}
 use Rattle.plain_term.specs.declared.item.Item.TheVariants as item
 use Rattle.plain_term.specs.declared.tree.TreeFault.TheVariants.{Items}
-use Rattle.plain_term.proofs.SharedLemmas.{left, right, both, no_way}
 
 abbrev spelled_bytes : List ℕ → List Item
 spelled_bytes bytes = map (λ b. item.Byte b) bytes
@@ -69,7 +69,7 @@ first-kind Nil x p = refl
 first-kind (Cons h t) x p = refl
 first-kind (Tuple ts) x p = refl
 first-kind (Bin bytes) x p = refl
-first-kind _ x p = no_way p
+first-kind _ x p = absurd (false≢true p)
 
 -- trees whose items begin alike are of one kind
 same-kind : (a b : Tree) (x y : List Item) → is_spelled a ≡ true → is_spelled b ≡ true → items_of a ++ x ≡ items_of b ++ y → kind a ≡ kind b
@@ -89,8 +89,8 @@ mutual
   unique (Cons a b) (Cons c d) x y p q e =
       let tails : (items_of a ++ items_of b) ++ x ≡ (items_of c ++ items_of d) ++ y = cc in
       let apart : items_of a ++ (items_of b ++ x) ≡ items_of c ++ (items_of d ++ y) = sym (append_assoc (items_of a) (items_of b) x) ∙ tails ∙ append_assoc (items_of c) (items_of d) y in
-      let first = unique a c (items_of b ++ x) (items_of d ++ y) (left (is_spelled a) (is_spelled b) p) (left (is_spelled c) (is_spelled d) q) apart in
-      let second = unique b d x y (right (is_spelled a) (is_spelled b) p) (right (is_spelled c) (is_spelled d) q) first.1 in
+      let first = unique a c (items_of b ++ x) (items_of d ++ y) (and_parts (is_spelled a) (is_spelled b) p).0 (and_parts (is_spelled c) (is_spelled d) q).0 apart in
+      let second = unique b d x y (and_parts (is_spelled a) (is_spelled b) p).1 (and_parts (is_spelled c) (is_spelled d) q).1 first.1 in
       ((λ i. Cons (first.0 i) (second.0 i)), second.1)
   unique (Tuple ts) (Tuple us) x y p q e =
       let tails : items_of_all ts ++ x ≡ items_of_all us ++ y = cc in
@@ -102,11 +102,11 @@ mutual
       let lens : length a ≡ length b = cc in
       let bytes = unique-bytes a b x y lens tails in
       (ap Bin bytes.0, bytes.1)
-  unique (Ref n k) (Ref m j) x y p q e = no_way p
-  unique (Map ps) (Map qs) x y p q e = no_way p
-  unique (Shared i) (Shared j) x y p q e = no_way p
-  unique (Part b o l) (Part c n m) x y p q e = no_way p
-  unique (Fun f n c ts) (Fun g m d us) x y p q e = no_way p
+  unique (Ref n k) (Ref m j) x y p q e = absurd (false≢true p)
+  unique (Map ps) (Map qs) x y p q e = absurd (false≢true p)
+  unique (Shared i) (Shared j) x y p q e = absurd (false≢true p)
+  unique (Part b o l) (Part c n m) x y p q e = absurd (false≢true p)
+  unique (Fun f n c ts) (Fun g m d us) x y p q e = absurd (false≢true p)
   unique a b x y p q e = apart (kind a) (kind b) refl (same-kind a b x y p q e)
 
   unique-all : (ts us : Trees) (x y : List Item) → trees_len ts ≡ trees_len us → are_spelled ts ≡ true → are_spelled us ≡ true → items_of_all ts ++ x ≡ items_of_all us ++ y → (ts ≡ us) × (x ≡ y)
@@ -116,9 +116,9 @@ mutual
   unique-all (t ▹ ts) (u ▹ us) x y n p q e =
       let apart : items_of t ++ (items_of_all ts ++ x) ≡ items_of u ++ (items_of_all us ++ y) = sym (append_assoc (items_of t) (items_of_all ts) x) ∙ e
       ∙ append_assoc (items_of u) (items_of_all us) y in
-      let first = unique t u (items_of_all ts ++ x) (items_of_all us ++ y) (left (is_spelled t) (are_spelled ts) p) (left (is_spelled u) (are_spelled us) q) apart in
+      let first = unique t u (items_of_all ts ++ x) (items_of_all us ++ y) (and_parts (is_spelled t) (are_spelled ts) p).0 (and_parts (is_spelled u) (are_spelled us) q).0 apart in
       let lens : trees_len ts ≡ trees_len us = omega (arith, n) in
-      let rest = unique-all ts us x y lens (right (is_spelled t) (are_spelled ts) p) (right (is_spelled u) (are_spelled us) q) first.1 in
+      let rest = unique-all ts us x y lens (and_parts (is_spelled t) (are_spelled ts) p).1 (and_parts (is_spelled u) (are_spelled us) q).1 first.1 in
       ((λ i. first.0 i ▹ rest.0 i), rest.1)
 
 -- where fewer bytes are read than stand at the front, a byte is next
@@ -141,12 +141,12 @@ no-byte items i n done rest begins lt none bytes y (len, is) =
 next-term : (ts us : Trees) (x y : List Item) → are_spelled ts ≡ true → are_spelled us ≡ true → trees_len ts < trees_len us
     → items_of_all ts ++ x ≡ items_of_all us ++ y → (u : Tree) × (rest : List Item) × BeginsWith x u rest
 next-term end end x y p q lt e = absurd (omega (arith, lt))
-next-term end (u ▹ us) x y p q lt e = (u, items_of_all us ++ y, (left (is_spelled u) (are_spelled us) q, e ∙ append_assoc (items_of u) (items_of_all us) y))
+next-term end (u ▹ us) x y p q lt e = (u, items_of_all us ++ y, ((and_parts (is_spelled u) (are_spelled us) q).0, e ∙ append_assoc (items_of u) (items_of_all us) y))
 next-term (t ▹ ts) end x y p q lt e = absurd (omega (arith, lt))
 next-term (t ▹ ts) (u ▹ us) x y p q lt e =
     let apart : items_of t ++ (items_of_all ts ++ x) ≡ items_of u ++ (items_of_all us ++ y) = sym (append_assoc (items_of t) (items_of_all ts) x) ∙ e ∙ append_assoc (items_of u) (items_of_all us) y in
-    let first = unique t u (items_of_all ts ++ x) (items_of_all us ++ y) (left (is_spelled t) (are_spelled ts) p) (left (is_spelled u) (are_spelled us) q) apart in
-    next-term ts us x y (right (is_spelled t) (are_spelled ts) p) (right (is_spelled u) (are_spelled us) q) (omega (arith, lt)) first.1
+    let first = unique t u (items_of_all ts ++ x) (items_of_all us ++ y) (and_parts (is_spelled t) (are_spelled ts) p).0 (and_parts (is_spelled u) (are_spelled us) q).0 apart in
+    next-term ts us x y (and_parts (is_spelled t) (are_spelled ts) p).1 (and_parts (is_spelled u) (are_spelled us) q).1 (omega (arith, lt)) first.1
 
 pub no-part : (items : List Item) (i n : ℕ) (done : Trees) (rest : List Item) → BeginAll items i done rest → i < n → HasNoTerm rest → HasNoParts items n
 no-part items i n done rest begin lt none ts y all =
@@ -160,8 +160,8 @@ unfolding kind kind_of_item kind_of_first
 after-head rest head after begins (Cons h t) y (spelled, is) =
     let tails : rest ≡ (items_of h ++ items_of t) ++ y = cc in
     let apart : items_of head ++ after ≡ items_of h ++ (items_of t ++ y) = sym begins.1 ∙ tails ∙ append_assoc (items_of h) (items_of t) y in
-    let first = unique head h after (items_of t ++ y) begins.0 (left (is_spelled h) (is_spelled t) spelled) apart in
-    (t, (right (is_spelled h) (is_spelled t) spelled, first.1))
+    let first = unique head h after (items_of t ++ y) begins.0 (and_parts (is_spelled h) (is_spelled t) spelled).0 apart in
+    (t, ((and_parts (is_spelled h) (is_spelled t) spelled).1, first.1))
 after-head rest head after begins t y (spelled, is) = apart 5 (kind t) refl (ap kind_of_first is ∙ first-kind t y spelled)
 
 pub no-tail : (rest : List Item) (head : Tree) (after : List Item) → BeginsWith rest head after → HasNoTerm after → HasNoTerm (item.Cons ∷ rest)
@@ -172,16 +172,16 @@ pub no-more : (items : List Item) (t u : Tree) (rest : List Item) → BeginsWith
 no-more items t u rest begins spells some =
     let gone = (unique t u rest [] begins.0 spells.0 (sym begins.1 ∙ spells.1 ∙ sym (append-nil (items_of u)))).1 in
     let Some : List Item → Type 0 = λ xs. false ≡ (length xs == 0) in
-    no_way (subst Some gone some)
+    absurd (false≢true (subst Some gone some))
 
 -- items at whose front no term stands are no whole term
 pub no-front : (items : List Item) → HasNoTerm items → Explains items Items
 no-front items none t spells = none t [] (spells.0, spells.1 ∙ sym (append-nil (items_of t)))
 
 are_spelled-append : (ts : Trees) (t : Tree) → are_spelled ts ≡ true → is_spelled t ≡ true → are_spelled (trees_append ts (t ▹ end)) ≡ true
-are_spelled-append end t p q = both (is_spelled t) true q refl
+are_spelled-append end t p q = and_from (is_spelled t) true q refl
 are_spelled-append (u ▹ us) t p q =
-    both (is_spelled u) (are_spelled (trees_append us (t ▹ end))) (left (is_spelled u) (are_spelled us) p) (are_spelled-append us t (right (is_spelled u) (are_spelled us) p) q)
+    and_from (is_spelled u) (are_spelled (trees_append us (t ▹ end))) (and_parts (is_spelled u) (are_spelled us) p).0 (are_spelled-append us t (and_parts (is_spelled u) (are_spelled us) p).1 q)
 
 trees_len-append : (ts : Trees) (t : Tree) → trees_len (trees_append ts (t ▹ end)) ≡ trees_len ts + 1
 trees_len-append end t = refl
@@ -238,7 +238,7 @@ reads-cons items rest head mid tail new after is first second made =
     record {
       term = Cons a b;
       begins = (
-        both (is_spelled a) (is_spelled b) first.begins.0 second.begins.0,
+        and_from (is_spelled a) (is_spelled b) first.begins.0 second.begins.0,
         is ∙ ap (λ l. item.Cons ∷ l) (first.begins.1 ∙ ap (λ l. items_of a ++ l) second.begins.1 ∙ sym (append_assoc (items_of a) (items_of b) after)),
       );
       built = made a b first.built second.built;

@@ -1,8 +1,10 @@
 pub mod Tree
+pub mod Parts
 pub mod Bytes
 pub mod Measures
 pub mod Beyond
 pub mod Order
+pub mod InOrder
 pub mod Proper
 pub mod Text
 pub mod View

@@ -10,7 +10,7 @@ use Rattle.term_words.proofs.ByKind.Shapes.{all-at}
 use Rattle.term_words.proofs.ByKind.Makes.{all-length}
 use Rattle.term_words.proofs.ByKind.Pairs.{keys-len, values-len}
 use Rattle.term_order.specs.Compared.{answer_of, compared, Compares}
-use Rattle.term_maps.specs.InOrder.{has_beyond}
+use Rattle.term_maps.specs.Stops.{has_beyond}
 use Rattle.term_maps.specs.Spots.{IsAbove}
 use Rattle.term_order.specs.declared.compared.Compared.{Compared}
 use Rattle.term_order.specs.declared.compared.Compared.TheVariants as answer

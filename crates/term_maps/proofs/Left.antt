@@ -4,7 +4,7 @@ use Rattle.plain_term.specs.Tree.{Tree, Pairs}
 use Rattle.plain_term.specs.Tree.Pairs.{stop, pair}
 use Rattle.plain_term.specs.Beyond.{is_beyond}
 use Rattle.term_words.specs.Stands.{Stands}
-use Rattle.term_maps.specs.InOrder.{has_beyond}
+use Rattle.term_maps.specs.Stops.{has_beyond}
 use Rattle.term_maps.specs.Given.{PairsStand}
 
 -- All pairs but the first i.

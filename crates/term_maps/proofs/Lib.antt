@@ -5,4 +5,3 @@ pub mod Compares
 mod Turns
 mod Sorting
 pub mod Named
-mod Rising

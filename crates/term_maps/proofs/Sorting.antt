@@ -1,12 +1,14 @@
 -- The first pairs are sorted, and the others are left.
 use Rattle.std.proofs.Common.{◌≡◌, ℕ, zero, suc, ◌+◌, ◌*◌, ◌<◌, ◌≤◌, Bool, true, false, List, [], length, nat_lt, Some, None, refl, sym, ◌∙◌, subst, ap, arith}
-use Rattle.std.proofs.lemmas.Bool.Decides.{nat_tests}
+use Rattle.std.proofs.lemmas.Bool.{le-ltb, lt-ltb, or_parts}
 use Rattle.plain_term.specs.Tree.{Pairs, pairs_len}
 use Rattle.word_mem.specs.declared.ranges.Room.{Room}
 use Rattle.plain_term.specs.Tree.Tree.{Map}
 use Rattle.plain_term.specs.Tree.Trees.{end}
 use Rattle.plain_term.specs.Tree.Pairs.{stop, pair}
 use Rattle.plain_term.specs.Beyond.{is_beyond}
+use Rattle.plain_term.specs.InOrder.{put_pair, put_all, in_order}
+use Rattle.plain_term.proofs.Putting.{all-grows}
 use Rattle.term_tags.specs.declared.layouts.TheConstants.{MOST_KEYS}
 use Rattle.term_tags.specs.Words.{boxed_word}
 use Rattle.term_words.specs.Stands.{Stands, AllStand}
@@ -14,13 +16,13 @@ use Rattle.term_words.specs.Kept.{Keeps}
 use Rattle.term_build.specs.Taken.{Taken, IsFree, of_map}
 use Rattle.term_build.specs.Clear.{Uses}
 use Rattle.term_build.specs.Grows.{Built}
-use Rattle.term_maps.specs.InOrder.{put_pair, put_all, in_order, has_beyond, why_not}
+use Rattle.term_maps.specs.Stops.{has_beyond, why_not}
 use Rattle.term_maps.specs.Spots.{SortedStand}
 use Rattle.term_maps.specs.Given.{IsSorted, MapIsMade}
 use Rattle.term_maps.specs.declared.sorted.Sorted.{Sorted}
 use Rattle.term_maps.specs.declared.maps.MapStop.TheVariants as why
 use Rattle.term_maps.proofs.Left.{pairs_drop, Next}
-use Rattle.term_maps.proofs.Putting.{all-grows, put-within, or-first, or-second}
+use Rattle.term_maps.proofs.Putting.{put-within}
 use Rattle.term_maps.proofs.Compares.{keys-many}
 
 -- The words stand for the first i of the given pairs, in order.
@@ -45,12 +47,12 @@ sorting-begins c names shared mem given s no_keys no_values =
 left-within : (shared : List (List ℕ)) (given : Pairs) (i : ℕ) → has_beyond shared given ≡ false → has_beyond shared (pairs_drop i given) ≡ false
 left-within shared given zero h = h
 left-within shared stop (suc i) h = refl
-left-within shared (pair k v ps) (suc i) h = left-within shared ps i (or-second (is_beyond shared k) (has_beyond shared ps) h)
+left-within shared (pair k v ps) (suc i) h = left-within shared ps i (or_parts (is_beyond shared k) (has_beyond shared ps) h).1
 
 pub next-within : (c : ℕ → ℕ → Bool) (shared : List (List ℕ)) (mem : List ℕ) (given : Pairs) (i : ℕ) (p : ℕ × ℕ) (n : Next c shared mem p i given) → has_beyond shared given ≡ false
     → is_beyond shared n.key ≡ false
 next-within c shared mem given i p n h =
-    or-first (is_beyond shared n.key) (has_beyond shared (pairs_drop (i + 1) given)) (sym (ap (has_beyond shared) n.left) ∙ left-within shared given i h)
+    (or_parts (is_beyond shared n.key) (has_beyond shared (pairs_drop (i + 1) given)) (sym (ap (has_beyond shared) n.left) ∙ left-within shared given i h)).0
 
 -- What is left after the next pair is put.
 rest-after : (c : ℕ → ℕ → Bool) (names shared : List (List ℕ)) (mem : List ℕ) (given : Pairs) (i : ℕ) (p : ℕ × ℕ) (s : Sorted) (g : Sorting c names shared mem given i s)
@@ -68,12 +70,6 @@ sorting-goes c names shared mem given i p s t g n h put = record {
   rest = rest-after c names shared mem given i p s g n;
 }
 
-lt-test : (a b : ℕ) → a < b → nat_lt a b ≡ true
-lt-test a b h = grind (arith, nat_tests)
-
-le-test : (a b : ℕ) → b ≤ a → nat_lt a b ≡ false
-le-test a b h = grind (arith, nat_tests)
-
 -- A key too many is one of the whole.
 pub sorting-stops : (c : ℕ → ℕ → Bool) (names shared : List (List ℕ)) (mem : List ℕ) (given : Pairs) (i : ℕ) (p : ℕ × ℕ) (s : Sorted) (g : Sorting c names shared mem given i s)
     (n : Next c shared mem p i given)
@@ -83,7 +79,7 @@ sorting-stops c names shared mem given i p s g n h many =
     all-grows names shared (put_pair names shared n.key n.value g.now) (pairs_drop (i + 1) given) in
     let same : pairs_len (put_all names shared (put_pair names shared n.key n.value g.now) (pairs_drop (i + 1) given)) ≡ pairs_len (in_order names shared given) =
     ap pairs_len (rest-after c names shared mem given i p s g n) in
-    let large : nat_lt MOST_KEYS (pairs_len (in_order names shared given)) ≡ true = lt-test MOST_KEYS (pairs_len (in_order names shared given)) (omega (arith, many, more, same)) in
+    let large : nat_lt MOST_KEYS (pairs_len (in_order names shared given)) ≡ true = lt-ltb MOST_KEYS (pairs_len (in_order names shared given)) (omega (arith, many, more, same)) in
     rw (h, large) refl
 
 -- All are sorted where none is left.
@@ -94,7 +90,7 @@ sorting-ends c names shared mem given i s g ended h few =
     let P : Pairs → Type 0 = λ ps. SortedStand c shared mem s ps in
     let pairs : SortedStand c shared mem s (in_order names shared given) = subst P all g.stand in
     let fits : nat_lt MOST_KEYS (pairs_len (in_order names shared given)) ≡ false =
-    le-test MOST_KEYS (pairs_len (in_order names shared given)) (omega (arith, few, keys-many c shared mem s.keys.items (in_order names shared given) pairs.keys)) in
+    le-ltb MOST_KEYS (pairs_len (in_order names shared given)) (omega (arith, few, keys-many c shared mem s.keys.items (in_order names shared given) pairs.keys)) in
     record { pairs = pairs; none = rw (h, fits) refl }
 
 -- The map is made where it is made of as many keys.

@@ -4,6 +4,7 @@ use Rattle.word_mem.specs.declared.ranges.Room.{Room}
 use Rattle.plain_term.specs.Tree.{Pairs, pairs_len}
 use Rattle.plain_term.specs.Tree.Tree.{Map}
 use Rattle.plain_term.specs.Tree.Pairs.{stop, pair}
+use Rattle.plain_term.specs.InOrder.{in_order}
 use Rattle.term_tags.specs.Words.{boxed_word}
 use Rattle.term_tags.specs.declared.layouts.TheConstants.{MOST_KEYS}
 use Rattle.term_words.specs.Role.{always}
@@ -15,7 +16,7 @@ use Rattle.term_build.specs.Clear.{Uses}
 use Rattle.term_build.specs.Grows.{Built}
 use Rattle.term_order.specs.Named.{pairs_named}
 use Rattle.term_order.specs.Compared.{AreNamed}
-use Rattle.term_maps.specs.InOrder.{has_beyond, in_order, why_not}
+use Rattle.term_maps.specs.Stops.{has_beyond, why_not}
 use Rattle.term_maps.specs.Spots.{SortedStand}
 use Rattle.term_maps.specs.declared.sorted.Sorted.{Sorted}
 

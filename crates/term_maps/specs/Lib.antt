@@ -1,3 +1,3 @@
-pub mod InOrder
+pub mod Stops
 pub mod Spots
 pub mod Given

@@ -3,13 +3,14 @@ ghost use Rattle.std.specs.Prelude.{◌≡◌, ℕ, ◌+◌, ◌*◌, Bool, List
 ghost use Rattle.term_tags.specs.Words.{boxed_word};
 ghost use Rattle.plain_term.specs.Tree.{Tree, Pairs, pairs_len};
 ghost use Rattle.plain_term.specs.Tree.Tree.{Map};
+ghost use Rattle.plain_term.specs.InOrder.{in_order};
 ghost use Rattle.term_words.specs.Role.{outside};
 ghost use Rattle.term_words.specs.Stands.{Stands};
 ghost use Rattle.term_words.specs.Kept.{Keeps};
 ghost use Rattle.term_build.specs.Taken.{Taken, IsFree, of_map};
 ghost use Rattle.term_build.specs.Grows.{Built};
 ghost use Rattle.term_build.specs.Clear.{IsRoom, Clear, KeepsClear, Uses};
-ghost use Rattle.term_maps.specs.InOrder.{has_beyond, in_order, why_not};
+ghost use Rattle.term_maps.specs.Stops.{has_beyond, why_not};
 ghost use Rattle.term_maps.specs.Given.{PairsStand, keys_in, KeysNamed, KeysAreTerms, KeysWithin, CanMap, IsSorted, MapIsMade, pairs_in};
 
 use crate::sorted::Sorted;

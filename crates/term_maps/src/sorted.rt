@@ -6,7 +6,7 @@ ghost use Rattle.plain_term.specs.Beyond.{is_beyond};
 ghost use Rattle.term_words.specs.Stands.{Stands, AllStand};
 ghost use Rattle.term_words.specs.Counted.{In};
 ghost use Rattle.term_order.specs.Compared.{AreNamed};
-ghost use Rattle.term_maps.specs.InOrder.{has_beyond};
+ghost use Rattle.term_maps.specs.Stops.{has_beyond};
 ghost use Rattle.term_maps.specs.Spots.{IsWithin, Finds, SortedStand, PutsSpot};
 
 use arrayvec::ArrayVec;

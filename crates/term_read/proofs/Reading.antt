@@ -3,8 +3,9 @@ use Rattle.std.proofs.Common.{◌≡◌, ℕ, zero, suc, ◌+◌, ◌/◌, ◌%�
 use Rattle.plain_term.specs.Tree.{Tree, Trees, trees_len, keys_of, values_of}
 use Rattle.plain_term.specs.Tree.Tree.{Int, Cons, Tuple, Map, Fun}
 use Rattle.plain_term.specs.Tree.Trees.{end, ◌▹◌}
+use Rattle.plain_term.specs.Parts.{part_at, place_of, head_in, tail_in, element_of, env_in}
 use Rattle.term_words.specs.Stands.{Stands, RowStands}
-use Rattle.term_read.specs.Parts.{part_at, place_of, head_of, tail_of, element_of, key_of, value_of, env_of, map_len_of, map_len_in, AnswersPart, FindsPart, TellsOf}
+use Rattle.term_read.specs.Parts.{key_of, value_of, map_len_of, map_len_in, AnswersPart, FindsPart, TellsOf}
 use Rattle.term_words.proofs.ByKind.Shapes.{told}
 use Rattle.term_words.proofs.ByKind.Pairs.{keys-row, values-row, keys-len, values-len}
 
@@ -39,43 +40,43 @@ past-place ts (suc i) far = past-part ts i (let h : trees_len ts < suc i = far (
 
 -- The head and the tail.
 
-head-answer : (c : ℕ → ℕ → Bool) (shared : List (List ℕ)) (mem : List ℕ) (w : ℕ) (t : Tree) → Stands c shared mem w t → w % 4 ≡ 1 → AnswersPart c shared mem (head_of t) (Some (get_or mem (w / 4) 0))
+head-answer : (c : ℕ → ℕ → Bool) (shared : List (List ℕ)) (mem : List ℕ) (w : ℕ) (t : Tree) → Stands c shared mem w t → w % 4 ≡ 1 → AnswersPart c shared mem (head_in t) (Some (get_or mem (w / 4) 0))
 unfolding Stands
 head-answer c shared mem w (Cons h t) (o, sh, st) tag = (get_or mem (w / 4) 0, refl, sh)
 head-answer c shared mem w t s tag = absurd (omega (arith, told c shared mem w t s))
 
-head-none : (c : ℕ → ℕ → Bool) (shared : List (List ℕ)) (mem : List ℕ) (w : ℕ) (t : Tree) → Stands c shared mem w t → (w % 4 ≡ 1 → ⊥) → AnswersPart c shared mem (head_of t) None
+head-none : (c : ℕ → ℕ → Bool) (shared : List (List ℕ)) (mem : List ℕ) (w : ℕ) (t : Tree) → Stands c shared mem w t → (w % 4 ≡ 1 → ⊥) → AnswersPart c shared mem (head_in t) None
 unfolding Stands
 head-none c shared mem w (Cons h t) (o, sh, st) other = absurd (other o.tag)
 head-none c shared mem w t s other = refl
 
 tail-answer : (c : ℕ → ℕ → Bool) (shared : List (List ℕ)) (mem : List ℕ) (w : ℕ) (t : Tree) → Stands c shared mem w t → w % 4 ≡ 1
-    → AnswersPart c shared mem (tail_of t) (Some (get_or mem (w / 4 + 1) 0))
+    → AnswersPart c shared mem (tail_in t) (Some (get_or mem (w / 4 + 1) 0))
 unfolding Stands
 tail-answer c shared mem w (Cons h t) (o, sh, st) tag = (get_or mem (w / 4 + 1) 0, refl, st)
 tail-answer c shared mem w t s tag = absurd (omega (arith, told c shared mem w t s))
 
-tail-none : (c : ℕ → ℕ → Bool) (shared : List (List ℕ)) (mem : List ℕ) (w : ℕ) (t : Tree) → Stands c shared mem w t → (w % 4 ≡ 1 → ⊥) → AnswersPart c shared mem (tail_of t) None
+tail-none : (c : ℕ → ℕ → Bool) (shared : List (List ℕ)) (mem : List ℕ) (w : ℕ) (t : Tree) → Stands c shared mem w t → (w % 4 ≡ 1 → ⊥) → AnswersPart c shared mem (tail_in t) None
 unfolding Stands
 tail-none c shared mem w (Cons h t) (o, sh, st) other = absurd (other o.tag)
 tail-none c shared mem w t s other = refl
 
-pub reads-head : (mem : List ℕ) (w p : ℕ) → w % 4 ≡ 1 → p ≡ w / 4 → FindsPart head_of mem w (Some (get_or mem p 0))
+pub reads-head : (mem : List ℕ) (w p : ℕ) → w % 4 ≡ 1 → p ≡ w / 4 → FindsPart head_in mem w (Some (get_or mem p 0))
 reads-head mem w p tag same =
-    let P : ℕ → Type 0 = λ x. FindsPart head_of mem w (Some (get_or mem x 0)) in
-    let here : FindsPart head_of mem w (Some (get_or mem (w / 4) 0)) = record { each = λ c shared t s. head-answer c shared mem w t s tag } in
+    let P : ℕ → Type 0 = λ x. FindsPart head_in mem w (Some (get_or mem x 0)) in
+    let here : FindsPart head_in mem w (Some (get_or mem (w / 4) 0)) = record { each = λ c shared t s. head-answer c shared mem w t s tag } in
     subst P (sym same) here
 
-pub no-head : (mem : List ℕ) (w : ℕ) → (w % 4 ≡ 1 → ⊥) → FindsPart head_of mem w None
+pub no-head : (mem : List ℕ) (w : ℕ) → (w % 4 ≡ 1 → ⊥) → FindsPart head_in mem w None
 no-head mem w other = record { each = λ c shared t s. head-none c shared mem w t s other }
 
-pub reads-tail : (mem : List ℕ) (w p : ℕ) → w % 4 ≡ 1 → p ≡ w / 4 → FindsPart tail_of mem w (Some (get_or mem (p + 1) 0))
+pub reads-tail : (mem : List ℕ) (w p : ℕ) → w % 4 ≡ 1 → p ≡ w / 4 → FindsPart tail_in mem w (Some (get_or mem (p + 1) 0))
 reads-tail mem w p tag same =
-    let P : ℕ → Type 0 = λ x. FindsPart tail_of mem w (Some (get_or mem (x + 1) 0)) in
-    let here : FindsPart tail_of mem w (Some (get_or mem (w / 4 + 1) 0)) = record { each = λ c shared t s. tail-answer c shared mem w t s tag } in
+    let P : ℕ → Type 0 = λ x. FindsPart tail_in mem w (Some (get_or mem (x + 1) 0)) in
+    let here : FindsPart tail_in mem w (Some (get_or mem (w / 4 + 1) 0)) = record { each = λ c shared t s. tail-answer c shared mem w t s tag } in
     subst P (sym same) here
 
-pub no-tail : (mem : List ℕ) (w : ℕ) → (w % 4 ≡ 1 → ⊥) → FindsPart tail_of mem w None
+pub no-tail : (mem : List ℕ) (w : ℕ) → (w % 4 ≡ 1 → ⊥) → FindsPart tail_in mem w None
 no-tail mem w other = record { each = λ c shared t s. tail-none c shared mem w t s other }
 
 -- Parts of a tuple.
@@ -117,7 +118,7 @@ no-element mem w i other = record { each = λ c shared t s. element-none c share
 -- Places of a fun's environment.
 
 env-answer : (c : ℕ → ℕ → Bool) (shared : List (List ℕ)) (mem : List ℕ) (w : ℕ) (t : Tree) (i : ℕ) → Stands c shared mem w t → w % 4 ≡ 2 → get_or mem (w / 4) 0 / 4 % 16 ≡ 5
-    → 1 ≤ i → i ≤ get_or mem (w / 4 + 4) 0 → AnswersPart c shared mem (env_of i t) (Some (get_or mem (w / 4 + 5 + i) 0))
+    → 1 ≤ i → i ≤ get_or mem (w / 4 + 4) 0 → AnswersPart c shared mem (env_in i t) (Some (get_or mem (w / 4 + 5 + i) 0))
 unfolding Stands
 env-answer c shared mem w (Fun name arity creator env) i (o, row) tag sub low high = place-part c shared mem (w / 4 + 6) env i (w / 4 + 5 + i) row low (omega (arith, o.size)) (omega arith)
 env-answer c shared mem w (Int (pos n)) i s tag sub low high = absurd (omega (arith, told c shared mem w (Int (pos n)) s))
@@ -125,29 +126,29 @@ env-answer c shared mem w (Int (negsuc n)) i s tag sub low high = absurd (omega 
 env-answer c shared mem w t i s tag sub low high = absurd (omega (arith, told c shared mem w t s))
 
 env-past : (c : ℕ → ℕ → Bool) (shared : List (List ℕ)) (mem : List ℕ) (w : ℕ) (t : Tree) (i : ℕ) → Stands c shared mem w t
-    → (1 ≤ i → get_or mem (w / 4 + 4) 0 < i) → AnswersPart c shared mem (env_of i t) None
+    → (1 ≤ i → get_or mem (w / 4 + 4) 0 < i) → AnswersPart c shared mem (env_in i t) None
 unfolding Stands
 env-past c shared mem w (Fun name arity creator env) i (o, row) far =
     none c shared mem (place_of env i) (past-place env i (λ low. let h : get_or mem (w / 4 + 4) 0 < i = far low in omega (arith, o.size)))
 env-past c shared mem w t i s far = refl
 
 env-none : (c : ℕ → ℕ → Bool) (shared : List (List ℕ)) (mem : List ℕ) (w : ℕ) (t : Tree) (i : ℕ) → Stands c shared mem w t
-    → (w % 4 ≡ 2 → get_or mem (w / 4) 0 / 4 % 16 ≡ 5 → ⊥) → AnswersPart c shared mem (env_of i t) None
+    → (w % 4 ≡ 2 → get_or mem (w / 4) 0 / 4 % 16 ≡ 5 → ⊥) → AnswersPart c shared mem (env_in i t) None
 unfolding Stands
 env-none c shared mem w (Fun name arity creator env) i (o, row) other = absurd (other o.tag (omega (arith, o.header)))
 env-none c shared mem w t i s other = refl
 
-pub reads-env : (mem : List ℕ) (w p i : ℕ) → w % 4 ≡ 2 → p ≡ w / 4 → get_or mem p 0 / 4 % 16 ≡ 5 → 1 ≤ i → i ≤ get_or mem (p + 4) 0 → FindsPart (env_of i) mem w (Some (get_or mem (p + 5 + i) 0))
+pub reads-env : (mem : List ℕ) (w p i : ℕ) → w % 4 ≡ 2 → p ≡ w / 4 → get_or mem p 0 / 4 % 16 ≡ 5 → 1 ≤ i → i ≤ get_or mem (p + 4) 0 → FindsPart (env_in i) mem w (Some (get_or mem (p + 5 + i) 0))
 reads-env mem w p i tag same =
-    let P : ℕ → Type 0 = λ x. get_or mem x 0 / 4 % 16 ≡ 5 → 1 ≤ i → i ≤ get_or mem (x + 4) 0 → FindsPart (env_of i) mem w (Some (get_or mem (x + 5 + i) 0)) in
+    let P : ℕ → Type 0 = λ x. get_or mem x 0 / 4 % 16 ≡ 5 → 1 ≤ i → i ≤ get_or mem (x + 4) 0 → FindsPart (env_in i) mem w (Some (get_or mem (x + 5 + i) 0)) in
     subst P (sym same) (λ sub low high. record { each = λ c shared t s. env-answer c shared mem w t i s tag sub low high })
 
-pub past-env : (mem : List ℕ) (w p i : ℕ) → p ≡ w / 4 → (1 ≤ i → get_or mem (p + 4) 0 < i) → FindsPart (env_of i) mem w None
+pub past-env : (mem : List ℕ) (w p i : ℕ) → p ≡ w / 4 → (1 ≤ i → get_or mem (p + 4) 0 < i) → FindsPart (env_in i) mem w None
 past-env mem w p i same =
-    let P : ℕ → Type 0 = λ x. (1 ≤ i → get_or mem (x + 4) 0 < i) → FindsPart (env_of i) mem w None in
+    let P : ℕ → Type 0 = λ x. (1 ≤ i → get_or mem (x + 4) 0 < i) → FindsPart (env_in i) mem w None in
     subst P (sym same) (λ far. record { each = λ c shared t s. env-past c shared mem w t i s far })
 
-pub no-env : (mem : List ℕ) (w i : ℕ) → (w % 4 ≡ 2 → get_or mem (w / 4) 0 / 4 % 16 ≡ 5 → ⊥) → FindsPart (env_of i) mem w None
+pub no-env : (mem : List ℕ) (w i : ℕ) → (w % 4 ≡ 2 → get_or mem (w / 4) 0 / 4 % 16 ≡ 5 → ⊥) → FindsPart (env_in i) mem w None
 no-env mem w i other = record { each = λ c shared t s. env-none c shared mem w t i s other }
 
 -- Pairs of a map.

@@ -1,36 +1,10 @@
 -- What the readers answer of a tree.
-use Rattle.std.specs.Prelude.{◌≡◌, ℕ, zero, suc, Bool, List, length, slice_get, Option, Some, None, option_map, option_and_then}
+use Rattle.std.specs.Prelude.{◌≡◌, ℕ, Bool, List, length, slice_get, Option, Some, None, option_map, option_and_then}
+use Rattle.plain_term.specs.Tree.{Tree, pairs_len, keys_of, values_of}
+use Rattle.plain_term.specs.Tree.Tree.{Map, Bin, Shared, Part}
 use Rattle.plain_term.specs.Bytes.{bytes_of}
-use Rattle.plain_term.specs.Tree.{Tree, Trees, pairs_len, keys_of, values_of}
-use Rattle.plain_term.specs.Tree.Tree.{Cons, Tuple, Map, Bin, Shared, Part, Fun}
-use Rattle.plain_term.specs.Tree.Trees.{end, ◌▹◌}
+use Rattle.plain_term.specs.Parts.{part_at}
 use Rattle.term_words.specs.Stands.{Stands}
-
--- Tree i of a list, from 0.
-abbrev pub part_at : Trees → ℕ → Option Tree
-part_at end i = None
-part_at (t ▹ ts) zero = Some t
-part_at (t ▹ ts) (suc i) = part_at ts i
-
--- Tree i of a list, from 1.
-abbrev pub place_of : Trees → ℕ → Option Tree
-place_of ts zero = None
-place_of ts (suc i) = part_at ts i
-
--- The head of a cons.
-abbrev pub head_of : Tree → Option Tree
-head_of (Cons h t) = Some h
-head_of _ = None
-
--- The tail of a cons.
-abbrev pub tail_of : Tree → Option Tree
-tail_of (Cons h t) = Some t
-tail_of _ = None
-
--- Part i of a tuple, from 1.
-abbrev pub element_of : ℕ → Tree → Option Tree
-element_of i (Tuple ts) = place_of ts i
-element_of i _ = None
 
 -- Key i of a map, from 0.
 abbrev pub key_of : ℕ → Tree → Option Tree
@@ -41,11 +15,6 @@ key_of i _ = None
 abbrev pub value_of : ℕ → Tree → Option Tree
 value_of i (Map ps) = part_at (values_of ps) i
 value_of i _ = None
-
--- Place i of a fun's environment, from 1.
-abbrev pub env_of : ℕ → Tree → Option Tree
-env_of i (Fun name arity creator env) = place_of env i
-env_of i _ = None
 
 -- The number of pairs of a map.
 abbrev pub map_len_of : Tree → Option ℕ

@@ -1,7 +1,8 @@
 // The parts of tuples.
 ghost use Rattle.std.specs.Prelude.{◌≡◌, ◌+◌, ◌/◌, slice_index, IfSome};
+ghost use Rattle.plain_term.specs.Parts.{element_of};
 ghost use Rattle.term_words.specs.Stands.{IsTerm};
-ghost use Rattle.term_read.specs.Parts.{FindsPart, element_of};
+ghost use Rattle.term_read.specs.Parts.{FindsPart};
 
 use crate::object::object_at;
 use term_tags::TUPLE;

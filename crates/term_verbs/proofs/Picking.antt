@@ -1,5 +1,6 @@
 -- The part that is picked: what its word stands for.
 use Rattle.std.proofs.Common.{◌≡◌, ℕ, zero, suc, ◌+◌, ◌/◌, ◌<◌, ◌≤◌, ◌&&◌, Bool, true, false, List, get_or, Option, Some, None, if◌then◌else◌, nat_lt, refl, sym, ◌∙◌, subst, arith}
+use Rattle.std.proofs.lemmas.Bool.{and_parts}
 use Rattle.std.specs.Option.{IfSome}
 use Rattle.std.specs.Ordering.{is_eq}
 use Rattle.std.specs.declared.cmp.Ordering.{Ordering}
@@ -11,12 +12,13 @@ use Rattle.plain_term.specs.Tree.Pairs.{stop, pair}
 use Rattle.plain_term.specs.Beyond.{is_beyond}
 use Rattle.plain_term.specs.Order.{order}
 use Rattle.plain_term.specs.Proper.{keys_rise}
+use Rattle.plain_term.specs.Parts.{part_at, place_of, head_in, tail_in, element_of, env_in}
 use Rattle.plain_term.proofs.TokenLemmas.{order-total}
-use Rattle.plain_machine.specs.Parts.{element_in, env_in, head_in, place_in, tail_in, tree_after, value_in, value_of}
+use Rattle.plain_machine.specs.Parts.{value_in, value_of}
 use Rattle.term_words.specs.Stands.{Stands, tree_at}
 use Rattle.term_words.proofs.ByKind.Pairs.{keys-len, values-len, values-row}
 use Rattle.term_words.proofs.ByKind.Shapes.{row-at}
-use Rattle.term_read.specs.Parts.{AnswersPart, element_of, env_of, head_of, part_at, place_of, tail_of}
+use Rattle.term_read.specs.Parts.{AnswersPart}
 use Rattle.term_read.specs.Look.{IsSeen}
 use Rattle.term_read.specs.declared.looks.PairRows.{PairRows}
 use Rattle.term_read.specs.declared.looks.Look.{Look}
@@ -24,37 +26,10 @@ use Rattle.term_read.specs.declared.looks.Look.TheVariants as look
 use Rattle.term_order.specs.Named.{is_named, are_named, pairs_named}
 use Rattle.term_maps.specs.Spots.{Finds, IsAbove}
 use Rattle.term_maps.specs.declared.sorted.Spot.TheVariants as spot
-use Rattle.term_maps.proofs.Named.{and-first, and-second}
 use Rattle.term_verbs.specs.Found.{AreKeys, AreSorted}
 use Rattle.term_verbs.specs.Picked.{HasSorted, IsPart}
 use Rattle.term_verbs.proofs.Mapping.{RowsAre, seen-map}
 use Rattle.term_verbs.proofs.Seeking.{first-below, rise-rest}
-
--- The parts of the machine are those that the readers answer.
-pub same-head : (t : Tree) → head_of t ≡ head_in t
-same-head (Cons h t) = refl
-same-head _ = refl
-
-pub same-tail : (t : Tree) → tail_of t ≡ tail_in t
-same-tail (Cons h t) = refl
-same-tail _ = refl
-
-same-part : (ts : Trees) (i : ℕ) → part_at ts i ≡ tree_after ts i
-same-part end i = refl
-same-part (t ▹ ts) zero = refl
-same-part (t ▹ ts) (suc i) = same-part ts i
-
-same-place : (ts : Trees) (i : ℕ) → place_of ts i ≡ element_in ts i
-same-place ts zero = refl
-same-place ts (suc i) = same-part ts i
-
-pub same-element : (i : ℕ) (t : Tree) → element_of i t ≡ place_in i t
-same-element i (Tuple ts) = same-place ts i
-same-element i _ = refl
-
-pub same-env : (i : ℕ) (t : Tree) → env_of i t ≡ env_in i t
-same-env i (Fun name arity creator env) = same-place env i
-same-env i _ = refl
 
 -- The names of a part are names of the whole.
 inside : (t u : Tree) → Some t ≡ Some u → t ≡ u
@@ -67,18 +42,18 @@ named-as n t u e h = let P : Tree → Type 0 = λ z. is_named n z ≡ true in su
 abbrev pub KeepsNames : (Tree → Option Tree) → Type 0
 KeepsNames f = (t u : Tree) (n : ℕ) → f t ≡ Some u → is_named n t ≡ true → is_named n u ≡ true
 
-pub head-named : KeepsNames head_of
-head-named (Cons h t) u n e named = named-as n h u e (and-first (is_named n h) (is_named n t) named)
+pub head-named : KeepsNames head_in
+head-named (Cons h t) u n e named = named-as n h u e (and_parts (is_named n h) (is_named n t) named).0
 head-named _ u n e named = absurd cc
 
-pub tail-named : KeepsNames tail_of
-tail-named (Cons h t) u n e named = named-as n t u e (and-second (is_named n h) (is_named n t) named)
+pub tail-named : KeepsNames tail_in
+tail-named (Cons h t) u n e named = named-as n t u e (and_parts (is_named n h) (is_named n t) named).1
 tail-named _ u n e named = absurd cc
 
 part-named : (ts : Trees) (i : ℕ) (u : Tree) (n : ℕ) → part_at ts i ≡ Some u → are_named n ts ≡ true → is_named n u ≡ true
 part-named end i u n e named = absurd cc
-part-named (t ▹ ts) zero u n e named = named-as n t u e (and-first (is_named n t) (are_named n ts) named)
-part-named (t ▹ ts) (suc i) u n e named = part-named ts i u n e (and-second (is_named n t) (are_named n ts) named)
+part-named (t ▹ ts) zero u n e named = named-as n t u e (and_parts (is_named n t) (are_named n ts) named).0
+part-named (t ▹ ts) (suc i) u n e named = part-named ts i u n e (and_parts (is_named n t) (are_named n ts) named).1
 
 place-named : (ts : Trees) (i : ℕ) (u : Tree) (n : ℕ) → place_of ts i ≡ Some u → are_named n ts ≡ true → is_named n u ≡ true
 place-named ts zero u n e named = absurd cc
@@ -88,14 +63,14 @@ pub element-named : (i : ℕ) → KeepsNames (element_of i)
 element-named i (Tuple ts) u n e named = place-named ts i u n e named
 element-named i _ u n e named = absurd cc
 
-pub env-named : (i : ℕ) → KeepsNames (env_of i)
-env-named i (Fun name arity creator env) u n e named = place-named env i u n e (and-second (nat_lt name n) (are_named n env) named)
+pub env-named : (i : ℕ) → KeepsNames (env_in i)
+env-named i (Fun name arity creator env) u n e named = place-named env i u n e (and_parts (nat_lt name n) (are_named n env) named).1
 env-named i _ u n e named = absurd cc
 
 value-named : (n : ℕ) (ps : Pairs) (i : ℕ) → pairs_named n ps ≡ true → i < pairs_len ps → is_named n (tree_at (values_of ps) i) ≡ true
 value-named n stop i h below = absurd (omega arith)
-value-named n (pair k v ps) zero h below = and-second (is_named n k) (is_named n v) (and-first (is_named n k && is_named n v) (pairs_named n ps) h)
-value-named n (pair k v ps) (suc i) h below = value-named n ps i (and-second (is_named n k && is_named n v) (pairs_named n ps) h) (omega arith)
+value-named n (pair k v ps) zero h below = (and_parts (is_named n k) (is_named n v) (and_parts (is_named n k && is_named n v) (pairs_named n ps) h).0).1
+value-named n (pair k v ps) (suc i) h below = value-named n ps i (and_parts (is_named n k && is_named n v) (pairs_named n ps) h).1 (omega arith)
 
 -- A word that a reader answers stands for a part.
 answered : (c : ℕ → ℕ → Bool) (shared : List (List ℕ)) (mem : List ℕ) (f : Tree → Option Tree) (keeps : KeepsNames f) (t : Tree) (v : ℕ) (o : Option Tree) → f t ≡ o

@@ -1,15 +1,16 @@
 -- A pair is put at a spot: its words among those of the rows, and the pairs that stand there then.
 use Rattle.std.proofs.Common.{◌≡◌, ℕ, zero, suc, ◌+◌, ◌<◌, ◌≤◌, Bool, List, [], ◌∷◌, length, set, take, drop, insert, refl, sym, ◌∙◌, ap, subst, arith}
+use Rattle.std.specs.Ordering.{match_ordering}
 use Rattle.std.proofs.Math.Seq.{drop-cons}
 use Rattle.std.specs.declared.cmp.Ordering.TheVariants.{Less, Equal}
 use Rattle.plain_term.specs.Tree.{Tree, Trees, Pairs, trees_len, pairs_len, keys_of, values_of}
 use Rattle.plain_term.specs.Tree.Trees.{end, ◌▹◌}
 use Rattle.plain_term.specs.Tree.Pairs.{stop, pair}
 use Rattle.plain_term.specs.Order.{order}
+use Rattle.plain_term.specs.InOrder.{put_pair}
 use Rattle.term_words.specs.Stands.{Stands, RowStands, AllStand, tree_at}
 use Rattle.term_words.proofs.ByKind.Pairs.{keys-len}
 use Rattle.term_words.proofs.ByKind.Shapes.{row-first}
-use Rattle.term_maps.specs.InOrder.{by_order, put_pair}
 use Rattle.term_maps.specs.Spots.{Finds, IsAbove}
 use Rattle.term_maps.specs.declared.sorted.Spot.{Spot}
 use Rattle.term_maps.specs.declared.sorted.Spot.TheVariants as spot
@@ -110,18 +111,18 @@ module _ (names shared : List (List ℕ)) (k v : Tree) where
   set-put : (ps : Pairs) (i : ℕ) → i < pairs_len ps → IsAbove names shared (keys_of ps) k i → order names shared k (tree_at (keys_of ps) i) ≡ Equal
       → pair_set i k v ps ≡ put_pair names shared k v ps
   set-put stop i below above same = absurd (omega arith)
-  set-put (pair j u ps) zero below above same = sym (ap (λ o. by_order o (pair k v (pair j u ps)) (pair k v ps) (pair j u (put_pair names shared k v ps))) same)
+  set-put (pair j u ps) zero below above same = sym (ap (λ o. match_ordering o (pair k v (pair j u ps)) (pair k v ps) (pair j u (put_pair names shared k v ps))) same)
   set-put (pair j u ps) (suc i) below above same =
       ap (λ z. pair j u z) (set-put ps i (omega arith) (λ n less. above (suc n) (omega arith)) same)
-      ∙ sym (ap (λ o. by_order o (pair k v (pair j u ps)) (pair k v ps) (pair j u (put_pair names shared k v ps))) (above 0 (omega arith)))
+      ∙ sym (ap (λ o. match_ordering o (pair k v (pair j u ps)) (pair k v ps) (pair j u (put_pair names shared k v ps))) (above 0 (omega arith)))
 
   insert-put : (ps : Pairs) (i : ℕ) → i ≤ pairs_len ps → IsAbove names shared (keys_of ps) k i → (i < pairs_len ps → order names shared k (tree_at (keys_of ps) i) ≡ Less)
       → pair_insert i k v ps ≡ put_pair names shared k v ps
   insert-put stop i within above less = refl
-  insert-put (pair j u ps) zero within above less = sym (ap (λ o. by_order o (pair k v (pair j u ps)) (pair k v ps) (pair j u (put_pair names shared k v ps))) (less (omega arith)))
+  insert-put (pair j u ps) zero within above less = sym (ap (λ o. match_ordering o (pair k v (pair j u ps)) (pair k v ps) (pair j u (put_pair names shared k v ps))) (less (omega arith)))
   insert-put (pair j u ps) (suc i) within above less =
       ap (λ z. pair j u z) (insert-put ps i (omega arith) (λ n below. above (suc n) (omega arith)) (λ below. less (omega arith)))
-      ∙ sym (ap (λ o. by_order o (pair k v (pair j u ps)) (pair k v ps) (pair j u (put_pair names shared k v ps))) (above 0 (omega arith)))
+      ∙ sym (ap (λ o. match_ordering o (pair k v (pair j u ps)) (pair k v ps) (pair j u (put_pair names shared k v ps))) (above 0 (omega arith)))
 
   pub placed-put : (x : Spot) (ps : Pairs) → Finds names shared (keys_of ps) k x → placed x k v ps ≡ put_pair names shared k v ps
   placed-put (spot.Same i) ps f = set-put ps i (omega (arith, f.0, keys-len ps)) f.1.0 f.1.1

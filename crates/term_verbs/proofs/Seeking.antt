@@ -1,5 +1,6 @@
 -- The keys of a map against a key that is looked for.
 use Rattle.std.proofs.Common.{◌≡◌, ℕ, zero, suc, ◌+◌, ◌<◌, ◌≤◌, ◌⊎◌, ◌&&◌, Bool, true, false, List, length, get_or, refl, ◌∙◌, ap, subst, arith}
+use Rattle.std.proofs.lemmas.Bool.{and_parts}
 use Rattle.std.proofs.Math.Decide.{dec_le}
 use Rattle.std.specs.Ordering.{is_lt, ordering_reverse}
 use Rattle.std.specs.declared.cmp.Ordering.{Ordering}
@@ -22,7 +23,6 @@ use Rattle.term_order.specs.declared.compared.Compared.TheVariants as answer
 use Rattle.term_maps.specs.Spots.{Finds, IsAbove}
 use Rattle.term_maps.specs.declared.sorted.Spot.TheVariants as spot
 use Rattle.term_maps.proofs.Compares.{is-equal, is-greater, is-less}
-use Rattle.term_maps.proofs.Named.{and-first, and-second}
 use Rattle.term_maps.proofs.Putting.{key-within}
 use Rattle.term_verbs.specs.Found.{AreKeys, AreSorted, CanFind}
 
@@ -33,8 +33,8 @@ key-stands c shared mem rows ps i a below = row-at c shared mem rows.keys (keys_
 
 key-named : (n : ℕ) (ps : Pairs) (i : ℕ) → pairs_named n ps ≡ true → i < pairs_len ps → is_named n (tree_at (keys_of ps) i) ≡ true
 key-named n stop i h below = absurd (omega arith)
-key-named n (pair k v ps) zero h below = and-first (is_named n k) (is_named n v) (and-first (is_named n k && is_named n v) (pairs_named n ps) h)
-key-named n (pair k v ps) (suc i) h below = key-named n ps i (and-second (is_named n k && is_named n v) (pairs_named n ps) h) (omega arith)
+key-named n (pair k v ps) zero h below = (and_parts (is_named n k) (is_named n v) (and_parts (is_named n k && is_named n v) (pairs_named n ps) h).0).0
+key-named n (pair k v ps) (suc i) h below = key-named n ps i (and_parts (is_named n k && is_named n v) (pairs_named n ps) h).1 (omega arith)
 
 pub can-compare : (mem : List ℕ) (names : List (List ℕ)) (rows : PairRows) (key i : ℕ) → CanFind mem names rows key → i < rows.len → AreNamed mem names key (get_or mem (rows.keys + i) 0)
 can-compare mem names rows key i f below = record {
@@ -56,14 +56,14 @@ module _ (names shared : List (List ℕ)) where
   -- The first key is less than all others.
   pub first-below : (k v : Tree) (ps : Pairs) (j : ℕ) → keys_rise names shared (pair k v ps) ≡ true → j < pairs_len ps → order names shared k (tree_at (keys_of ps) j) ≡ Less
   first-below k v stop j h below = absurd (omega arith)
-  first-below k v (pair i w ps) zero h below = is-less-than (order names shared k i) (and-first (is_lt (order names shared k i)) (keys_rise names shared (pair i w ps)) h)
+  first-below k v (pair i w ps) zero h below = is-less-than (order names shared k i) (and_parts (is_lt (order names shared k i)) (keys_rise names shared (pair i w ps)) h).0
   first-below k v (pair i w ps) (suc j) h below =
-      (order-total names shared).trans k i (tree_at (keys_of ps) j) (is-less-than (order names shared k i) (and-first (is_lt (order names shared k i)) (keys_rise names shared (pair i w ps)) h))
-      (first-below i w ps j (and-second (is_lt (order names shared k i)) (keys_rise names shared (pair i w ps)) h) (omega arith))
+      (order-total names shared).trans k i (tree_at (keys_of ps) j) (is-less-than (order names shared k i) (and_parts (is_lt (order names shared k i)) (keys_rise names shared (pair i w ps)) h).0)
+      (first-below i w ps j (and_parts (is_lt (order names shared k i)) (keys_rise names shared (pair i w ps)) h).1 (omega arith))
 
   pub rise-rest : (k v : Tree) (ps : Pairs) → keys_rise names shared (pair k v ps) ≡ true → keys_rise names shared ps ≡ true
   rise-rest k v stop h = refl
-  rise-rest k v (pair i w ps) h = and-second (is_lt (order names shared k i)) (keys_rise names shared (pair i w ps)) h
+  rise-rest k v (pair i w ps) h = (and_parts (is_lt (order names shared k i)) (keys_rise names shared (pair i w ps)) h).1
 
   pub rise-pair : (ps : Pairs) (i j : ℕ) → keys_rise names shared ps ≡ true → i < j → j < pairs_len ps → order names shared (tree_at (keys_of ps) i) (tree_at (keys_of ps) j) ≡ Less
   rise-pair stop i j h less below = absurd (omega arith)

@@ -6,7 +6,7 @@ use Rattle.term_words.specs.Role.{always}
 use Rattle.term_words.specs.Stands.{Stands, KeysStand}
 use Rattle.term_read.specs.declared.looks.PairRows.{PairRows}
 use Rattle.term_order.specs.Named.{is_named, pairs_named}
-use Rattle.term_maps.specs.InOrder.{has_beyond}
+use Rattle.term_maps.specs.Stops.{has_beyond}
 
 -- The words of the keys stand for those of the pairs, in order.
 pub record AreKeys (c : ℕ → ℕ → Bool) (shared : List (List ℕ)) (mem : List ℕ) (rows : PairRows) (ps : Pairs) : Type 0 where

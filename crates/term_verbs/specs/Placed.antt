@@ -5,10 +5,10 @@ use Rattle.plain_term.specs.Tree.{Tree, Pairs, pairs_len, keys_of}
 use Rattle.plain_term.specs.Tree.Tree.{Map}
 use Rattle.plain_term.specs.Tree.Pairs.{stop, pair}
 use Rattle.plain_term.specs.Beyond.{is_beyond}
+use Rattle.plain_term.specs.InOrder.{put_pair}
 use Rattle.term_tags.specs.declared.layouts.TheConstants.{MOST_KEYS}
 use Rattle.term_words.specs.Role.{always}
 use Rattle.term_words.specs.Stands.{Stands}
-use Rattle.term_maps.specs.InOrder.{put_pair}
 use Rattle.term_maps.specs.Spots.{Finds, IsWithin}
 use Rattle.term_maps.specs.declared.sorted.Spot.{Spot}
 use Rattle.term_maps.specs.declared.sorted.Spot.TheVariants as spot

@@ -35,7 +35,7 @@ use Rattle.script_grammar.specs.declared.refusal.Refusal.TheVariants as refusal
 use Rattle.script_grammar.specs.Written.{Term, Terms, terms_len}
 use Rattle.script_grammar.specs.Names.{Parsed, items_of, held_terms}
 use Rattle.plain_machine.specs.State.{Process, Area, State, is_live, process_of, with_process, with_queued, register, with_register}
-use Rattle.plain_machine.specs.Step.{Outcome, step, in_process, by_verb, settled, does, with_made, unless_flawed, choose, fill_if, fun_if, env_of, put_pair, repeat_if, send_within, send_to, tells, unless_beyond, order_text, flat_text}
+use Rattle.plain_machine.specs.Step.{Outcome, step, in_process, by_verb, settled, does, with_made, unless_flawed, choose, fill_if, fun_if, env_of, put_into, repeat_if, send_within, send_to, tells, unless_beyond, order_text, flat_text}
 use Rattle.plain_machine.specs.Tightness.{grow, receiver, send_words, process_words, build_words, repeat_words, fill_words, ids_in, funs_in, held_trees, living_trees}
 use Rattle.plain_machine.specs.May.{gets_to_space}
 use Rattle.space_api.specs.declared.space.Seat.{Seat}
@@ -227,7 +227,7 @@ module _ (alive : Bool) (items : List Item) (s : State) (seat : Seat) (h : Trial
       let p : Parsed = said (OfProcess seat.pid (verb.MapPut r m k v)) terms names in
       let q : Process = one_process items in
       let none : pairs_in (register m.0 q) ≡ None = ap pairs_in (in-register m.0) ∙ no-pairs (get_or items m.0 item.Nil) in
-      let P : Option Pairs → Type 0 = λ o. Follows {A = Unit {0}} (put_pair o (register k.0 q) (register v.0 q) s p q r.0) s (Err refusal.BadArg) (TrialStands alive items) in
+      let P : Option Pairs → Type 0 = λ o. Follows {A = Unit {0}} (put_into o (register k.0 q) (register v.0 q) s p q r.0) s (Err refusal.BadArg) (TrialStands alive items) in
       at-process (λ o. Follows {A = Unit {0}} o s (Err refusal.BadArg) (TrialStands alive items)) p (verb.MapPut r m k v) (subst P (sym none) (refl, h))
 
   -- `mktuple`, `mklist`.

@@ -2,8 +2,6 @@
 use Rattle.std.proofs.Common.{◌≡◌, ℕ, zero, suc, ◌+◌, ◌/◌, ◌≤◌, ◌||◌, nat_lt, nat_le, if◌then◌else◌, Bool, true, false, List, [], ◌∷◌, ◌++◌, length, take, drop, refl, sym, ◌∙◌, ap, subst, arith, get_or, slice_index_or, length-append}
 use Rattle.std.proofs.lemmas.List.{get_or_append_left}
 use Rattle.std.specs.Ordering.{nat_cmp, ordering_then, match_ordering}
-use Rattle.std.specs.declared.cmp.Ordering.{Ordering}
-use Rattle.std.specs.declared.cmp.Ordering.TheVariants.{Less, Equal, Greater}
 use Rattle.plain_term.specs.Tree.{Tree, Trees, Pairs, trees_len, pairs_len}
 use Rattle.plain_term.specs.Tree.Tree.{Int, Atom, Pid, Ref, Nil, Cons, Tuple, Map, Bin, Shared, Part, Fun}
 use Rattle.plain_term.specs.Tree.Trees.{end, ◌▹◌}
@@ -12,9 +10,10 @@ use Rattle.plain_term.specs.Bytes.{bytes_of, shared_bytes}
 use Rattle.plain_term.specs.Measures.{nodes, nodes_of_all, nodes_of_pairs, bin_nodes, depth}
 use Rattle.plain_term.specs.Beyond.{is_beyond, node_limit, depth_limit}
 use Rattle.plain_term.specs.Order.{order, order_of_all, order_of_keys, order_of_values, kind_rank, bytes_order, name_of}
+use Rattle.plain_term.specs.InOrder.{put_pair, put_all, in_order}
+use Rattle.plain_term.proofs.Putting.{put-keeps, all-keep}
 use Rattle.term_words.specs.Object.{IsBinRecord, IsHolder, IsSub}
 use Rattle.term_words.specs.Stands.{Stands, RowStands, KeysStand, ValuesStand}
-use Rattle.plain_machine.specs.Made.{with_pair, with_pairs}
 
 -- The ids of all shared binaries in a tree are at most n.
 abbrev mutual
@@ -127,31 +126,32 @@ module _ (names s extra : List (List ℕ)) where
 
   -- Pairs put in order have the ids that there were.
 
-  pub pair-knows : (n : ℕ) (k v : Tree) (ps : Pairs) → Knows n k → Knows n v → KnowsPairs n ps → KnowsPairs n (with_pair names s k v ps)
-  pair-knows n k v stop a b h = (a, b, tt)
-  pair-knows n k v (pair j w ps) a b h = by (order names s k j) (pair-knows n k v ps a b h.2)
-    where
-      by : (o : Ordering) → KnowsPairs n (with_pair names s k v ps)
-          → KnowsPairs n (match_ordering o (pair k v (pair j w ps)) (pair k v ps) (pair j w (with_pair names s k v ps)))
-      by Less rest = (a, b, h)
-      by Equal rest = (a, b, h.2)
-      by Greater rest = (h.0, h.1, rest)
+  abbrev KnowsPair : ℕ → Tree → Tree → Type 0
+  KnowsPair n k v = Knows n k × Knows n v
 
-  pub pairs-know : (n : ℕ) (ps given : Pairs) → KnowsPairs n ps → KnowsPairs n given → KnowsPairs n (with_pairs names s ps given)
-  pairs-know n ps stop h g = h
-  pairs-know n ps (pair k v given) h g = pairs-know n (with_pair names s k v ps) given (pair-knows n k v ps g.0 g.1 h) g.2
+  pair-parts : (n : ℕ) (k v : Tree) (ps : Pairs) → KnowsPairs n (pair k v ps) → KnowsPair n k v × KnowsPairs n ps
+  pair-parts n k v ps h = ((h.0, h.1), h.2)
 
-  pair-grown : (k v : Tree) (ps : Pairs) → Knows (length s) k → KnowsPairs (length s) ps → with_pair names (s ++ extra) k v ps ≡ with_pair names s k v ps
+  pair-join : (n : ℕ) (k v : Tree) (ps : Pairs) → KnowsPair n k v → KnowsPairs n ps → KnowsPairs n (pair k v ps)
+  pair-join n k v ps p h = (p.0, p.1, h)
+
+  pair-knows : (n : ℕ) (k v : Tree) (ps : Pairs) → KnowsPair n k v → KnowsPairs n ps → KnowsPairs n (put_pair names s k v ps)
+  pair-knows n = put-keeps names s (KnowsPairs n) (KnowsPair n) (pair-parts n) (pair-join n)
+
+  pub in-order-knows : (n : ℕ) (given : Pairs) → KnowsPairs n given → KnowsPairs n (in_order names s given)
+  in-order-knows n given g = all-keep names s (KnowsPairs n) (KnowsPair n) (pair-parts n) (pair-join n) stop given tt g
+
+  pair-grown : (k v : Tree) (ps : Pairs) → Knows (length s) k → KnowsPairs (length s) ps → put_pair names (s ++ extra) k v ps ≡ put_pair names s k v ps
   pair-grown k v stop a h = refl
   pair-grown k v (pair j w ps) a h =
       λ i. match_ordering (order-grown k j a h.0 i) (pair k v (pair j w ps)) (pair k v ps) (pair j w (pair-grown k v ps a h.2 i))
 
   -- They are put in the same order.
-  pub pairs-grown : (ps given : Pairs) → KnowsPairs (length s) ps → KnowsPairs (length s) given → with_pairs names (s ++ extra) ps given ≡ with_pairs names s ps given
+  pub pairs-grown : (ps given : Pairs) → KnowsPairs (length s) ps → KnowsPairs (length s) given → put_all names (s ++ extra) ps given ≡ put_all names s ps given
   pairs-grown ps stop h g = refl
   pairs-grown ps (pair k v given) h g =
-      ap (λ z. with_pairs names (s ++ extra) z given) (pair-grown k v ps g.0 h)
-      ∙ pairs-grown (with_pair names s k v ps) given (pair-knows (length s) k v ps g.0 g.1 h) g.2
+      ap (λ z. put_all names (s ++ extra) z given) (pair-grown k v ps g.0 h)
+      ∙ pairs-grown (put_pair names s k v ps) given (pair-knows (length s) k v ps (g.0, g.1) h) g.2
 
 -- What stands over shared binaries knows no later ones.
 mutual

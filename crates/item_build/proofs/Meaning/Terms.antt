@@ -1,47 +1,24 @@
 -- The items of a written term read as its tree, or as none where the term is wide; they have a big key where it has one.
 use Rattle.std.proofs.Common.{◌≡◌, ℕ, zero, suc, ◌+◌, ◌-◌, ◌*◌, ◌≤◌, ◌||◌, ◌&&◌, not, nat_lt, nat_le, if◌then◌else◌, Bool, true, false, List, [], ◌∷◌, ◌++◌, length, map, slice_index_or, length-append, take, drop, Option, Some, None, refl, sym, ◌∙◌, ap, subst, append_assoc, arith}
-use Rattle.std.specs.Ordering.{match_ordering}
-use Rattle.std.specs.declared.cmp.Ordering.{Ordering}
-use Rattle.std.specs.declared.cmp.Ordering.TheVariants.{Less, Equal, Greater}
 use Rattle.plain_term.specs.declared.item.Item.{Item}
 use Rattle.plain_term.specs.declared.item.Item.TheVariants as item
-use Rattle.plain_term.specs.Tree.{Tree, Trees, Pairs, pairs_len as tree_pairs_len}
+use Rattle.plain_term.specs.Tree.{Tree, Trees, Pairs}
 use Rattle.plain_term.specs.Tree.{Tree as tree}
 use Rattle.plain_term.specs.Tree.{Trees as trees}
 use Rattle.plain_term.specs.Tree.{Pairs as pairs}
 use Rattle.plain_term.specs.Beyond.{is_beyond}
-use Rattle.plain_term.specs.Order.{order}
-use Rattle.term_tags.specs.declared.layouts.TheConstants.{MOST_KEYS}
-use Rattle.term_maps.specs.InOrder.{by_order, put_pair, put_all}
+use Rattle.plain_term.specs.InOrder.{in_order}
 use Rattle.script_grammar.specs.Written.{Term, Terms, TermPairs, terms_len, pairs_len}
 use Rattle.script_grammar.specs.Written.Term.{Int, Atom, Pid, Held, Listed, Barred, Tuple, Map, Bin}
 use Rattle.script_grammar.specs.Written.Terms.{end, ◌▹◌}
 use Rattle.script_grammar.specs.Written.TermPairs.{stop, pair}
 use Rattle.script_grammar.specs.Names.{items_of, listed_items, all_items, pairs_items}
-use Rattle.plain_machine.specs.Made.{tree_of, trees_of, pairs_of, bin_tree, list_tree, with_pair, with_pairs, too_many}
+use Rattle.plain_machine.specs.Made.{tree_of, trees_of, pairs_of, bin_tree, list_tree, too_many}
 use Rattle.plain_machine.specs.Flaws.{is_wide, are_wide, are_wide_pairs, is_big, are_big, are_big_pairs, is_big_key}
 use Rattle.item_build.specs.Reading.{all_of, bin_of, bins_of, bytes_in, has_big_key, is_byte, long_bins, map_of, paired, parts_of, put_first, read, tree_where}
 use Rattle.item_build.specs.Reading.{is_big as are_items_big, is_big_key as is_big_mark}
 use Rattle.item_build.proofs.Meaning.Known.{Knows, KnowsPairs, beyond-grown, pairs-grown}
 use Rattle.item_build.proofs.Meaning.Growing.{binned, binned-is, bytes-no-longs, bytes-taken, long-flip, longs-are, made, made-listed, made-all, made-pairs, grows, all-grow, pairs-grow, term-knows, pairs-known}
-
--- The machine puts pairs in order as the maps of words do.
-
-with-same : (names shared : List (List ℕ)) (k v : Tree) (ps : Pairs) → with_pair names shared k v ps ≡ put_pair names shared k v ps
-with-same names shared k v pairs.stop = refl
-with-same names shared k v (pairs.pair j w ps) = by (order names shared k j) (with-same names shared k v ps)
-  where
-    by : (o : Ordering) → with_pair names shared k v ps ≡ put_pair names shared k v ps
-        → match_ordering o (pairs.pair k v (pairs.pair j w ps)) (pairs.pair k v ps) (pairs.pair j w (with_pair names shared k v ps))
-        ≡ by_order o (pairs.pair k v (pairs.pair j w ps)) (pairs.pair k v ps) (pairs.pair j w (put_pair names shared k v ps))
-    by Less rest = refl
-    by Equal rest = refl
-    by Greater rest = ap (pairs.pair j w) rest
-
-pub all-same : (names shared : List (List ℕ)) (ps given : Pairs) → with_pairs names shared ps given ≡ put_all names shared ps given
-all-same names shared ps pairs.stop = refl
-all-same names shared ps (pairs.pair k v given) =
-    ap (λ z. with_pairs names shared z given) (with-same names shared k v ps) ∙ all-same names shared (put_pair names shared k v ps) given
 
 -- A tree, or none where it is wide.
 abbrev pub mark : Bool → Tree → Option Tree
@@ -147,16 +124,15 @@ module _ (names : List (List ℕ)) (held : List Tree) (S : List (List ℕ)) wher
   tuple-mark n xs false ts = refl
 
   map-mark : (n : ℕ) (xs : List Item) (w : Bool) (given : Pairs) → tree_where names S held (item.Map n) xs (marks w (twos given))
-      ≡ mark (too_many (with_pairs names S pairs.stop given) || w) (tree.Map (with_pairs names S pairs.stop given))
-  map-mark n xs true given = by (too_many (with_pairs names S pairs.stop given))
+      ≡ mark (too_many (in_order names S given) || w) (tree.Map (in_order names S given))
+  map-mark n xs true given = by (too_many (in_order names S given))
     where
-      by : (b : Bool) → None ≡ mark (b || true) (tree.Map (with_pairs names S pairs.stop given))
+      by : (b : Bool) → None ≡ mark (b || true) (tree.Map (in_order names S given))
       by true = refl
       by false = refl
   map-mark n xs false given =
       ap (map_of names S) (paired-twos given)
-      ∙ ap (λ z. if nat_lt MOST_KEYS (tree_pairs_len z) then None else Some (tree.Map z)) (sym (all-same names S pairs.stop given))
-      ∙ by (too_many (with_pairs names S pairs.stop given)) (with_pairs names S pairs.stop given)
+      ∙ by (too_many (in_order names S given)) (in_order names S given)
     where
       by : (b : Bool) (ps : Pairs) → (if b then None else Some (tree.Map ps)) ≡ mark (b || false) (tree.Map ps)
       by true ps = refl
@@ -167,7 +143,7 @@ module _ (names : List (List ℕ)) (held : List Tree) (S : List (List ℕ)) wher
       → tree_where names S held (item.Map n) xs (all_of (each_turn qs shared)) ≡ mark (is_wide names held (Map qs) shared) ((tree_of names held (Map qs) shared).0)
   map-at n xs qs shared extra e known =
       let all : Pairs × List (List ℕ) = pairs_of names held qs shared in
-      let P : List (List ℕ) → Type 0 = λ z. with_pairs names z pairs.stop all.0 ≡ with_pairs names all.1 pairs.stop all.0 in
+      let P : List (List ℕ) → Type 0 = λ z. in_order names z all.0 ≡ in_order names all.1 all.0 in
       ap (tree_where names S held (item.Map n) xs) (turns-all qs shared) ∙ map-mark n xs (are_wide_pairs names held qs shared) all.0
       ∙ ap (λ z. mark (too_many z || are_wide_pairs names held qs shared) (tree.Map z)) (subst P e (pairs-grown names all.1 extra pairs.stop all.0 tt known))
 

@@ -1,5 +1,6 @@
 -- What follows from items being whole: as many terms are read as they are, their names are known, and they take few words.
 use Rattle.std.proofs.Common.{◌≡◌, ℕ, zero, suc, ◌+◌, ◌-◌, ◌*◌, ◌^◌, ◌<◌, ◌≤◌, ◌&&◌, ◌||◌, nat_lt, if◌then◌else◌, Bool, true, false, List, [], ◌∷◌, length, get_or, take, drop, slice_index_or, Option, Some, None, refl, ◌∙◌, ap, subst, arith, ltb-true}
+use Rattle.std.proofs.lemmas.Bool.{and_parts}
 use Rattle.std.proofs.Math.Seq.{drop-cons}
 use Rattle.std.proofs.lemmas.Bool.Decides.{nat_tests}
 use Rattle.std.proofs.lemmas.List.{length-drop}
@@ -9,10 +10,10 @@ use Rattle.plain_term.specs.Tree.{Tree, Trees, Pairs, pairs_len}
 use Rattle.plain_term.specs.Tree.{Tree as tree}
 use Rattle.plain_term.specs.Tree.Trees.{end, ◌▹◌}
 use Rattle.plain_term.specs.Measures.{bin_words, is_small, magnitude}
+use Rattle.plain_term.specs.InOrder.{in_order}
 use Rattle.term_tags.specs.declared.layouts.TheConstants.{MOST_KEYS}
 use Rattle.term_order.specs.Named.{is_named, are_named, pairs_named}
-use Rattle.term_maps.specs.InOrder.{in_order}
-use Rattle.term_maps.proofs.Named.{and-first, and-second, in-order-named}
+use Rattle.term_maps.proofs.Named.{in-order-named}
 use Rattle.item_build.specs.Reading.{AreWhole, HasParts, IsItem, all_of, bin_of, bytes_after, bytes_in, bytes_led, far_words_of, is_big, is_big_item, is_byte, is_long, item_words, long_bins}
 use Rattle.item_build.specs.Reading.{near_words, own_words, own_words_of, paired, parts_of, read, read_item, record_words, terms_in, tree_where, tree_with, words_of}
 use Rattle.item_build.specs.Building.{MarksNamed}
@@ -199,8 +200,8 @@ module _ (names shared : List (List ℕ)) (held : List Tree) where
     item-named Cons xs end is h = tt
     item-named Cons xs (t ▹ end) is h = tt
     item-named Cons xs (t ▹ u ▹ ts) is h =
-        let others : is_named n u && are_named n ts ≡ true = and-second (is_named n t) (is_named n u && are_named n ts) h in
-        both (is_named n t) (is_named n u) (and-first (is_named n t) (is_named n u && are_named n ts) h) (and-first (is_named n u) (are_named n ts) others)
+        let others : is_named n u && are_named n ts ≡ true = (and_parts (is_named n t) (is_named n u && are_named n ts) h).1 in
+        both (is_named n t) (is_named n u) (and_parts (is_named n t) (is_named n u && are_named n ts) h).0 (and_parts (is_named n u) (are_named n ts) others).0
       where
         both : (a b : Bool) → a ≡ true → b ≡ true → a && b ≡ true
         both a b x y = rw (x, y) refl

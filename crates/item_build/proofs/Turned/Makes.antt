@@ -16,6 +16,7 @@ use Rattle.term_words.specs.Role.{always}
 use Rattle.term_words.specs.Stands.{Stands}
 use Rattle.term_words.specs.Object.{IsSmallAs}
 use Rattle.plain_term.specs.Tree.Trees.{end}
+use Rattle.plain_term.specs.InOrder.{in_order}
 use Rattle.term_tags.specs.Words.{boxed_word}
 use Rattle.std.proofs.lemmas.Bool.Decides.{nat_tests}
 use Rattle.item_build.proofs.Meaning.Bytes.{bytes-len}
@@ -25,7 +26,7 @@ use Rattle.term_build.specs.Grows.{Grows, Built}
 use Rattle.term_build.specs.Clear.{Uses}
 use Rattle.term_build.proofs.Growing.{grows-none}
 use Rattle.term_build.proofs.Rooms.{uses-none}
-use Rattle.term_maps.specs.InOrder.{has_beyond, in_order, why_not}
+use Rattle.term_maps.specs.Stops.{has_beyond, why_not}
 use Rattle.term_maps.specs.declared.maps.MapStop.TheVariants as why
 use Rattle.term_maps.specs.Given.{CanMap, MapIsMade, KeysWithin, PairsStand, pairs_in}
 use Rattle.term_maps.proofs.Putting.{in-order-few}

@@ -1,5 +1,6 @@
 -- Words that stand for trees or for wide terms.
 use Rattle.std.proofs.Common.{◌≡◌, ℕ, zero, suc, ◌+◌, ◌*◌, ◌/◌, ◌<◌, ◌≤◌, ◌||◌, ◌&&◌, ◌==◌, Bool, true, false, List, [], ◌∷◌, ◌++◌, length, get_or, take, drop, Option, Some, None, refl, sym, ◌∙◌, ap, subst, arith}
+use Rattle.std.proofs.lemmas.Bool.{and_parts}
 use Rattle.std.proofs.lemmas.Bool.Decides.{nat_tests}
 use Rattle.plain_term.specs.Tree.{Tree, Trees, Pairs, trees_len, pairs_len}
 use Rattle.plain_term.specs.Tree.Trees.{end, ◌▹◌}
@@ -12,9 +13,8 @@ use Rattle.term_words.proofs.Placing.Apart.{no-header}
 use Rattle.term_words.proofs.Framing.Frames.{frame}
 use Rattle.term_words.proofs.ByKind.Shapes.{told}
 use Rattle.term_order.specs.Named.{is_named, are_named, pairs_named}
-use Rattle.term_maps.specs.InOrder.{has_beyond}
+use Rattle.term_maps.specs.Stops.{has_beyond}
 use Rattle.term_maps.specs.Given.{PairsStand, pairs_in}
-use Rattle.term_maps.proofs.Named.{and-first, and-second}
 use Rattle.item_build.specs.Reading.{all_of, has_big_key, is_big_key, paired, put_first}
 use Rattle.item_build.specs.Building.{AreMarks, IsMark, MarksNamed, holds_wide}
 
@@ -194,9 +194,9 @@ pub named-paired : (n : ℕ) (ts : Trees) → are_named n ts ≡ true → pairs_
 named-paired n end h = refl
 named-paired n (t ▹ end) h = refl
 named-paired n (t ▹ u ▹ ts) h =
-    let others : is_named n u && are_named n ts ≡ true = and-second (is_named n t) (is_named n u && are_named n ts) h in
-    all-three (is_named n t) (is_named n u) (pairs_named n (paired ts)) (and-first (is_named n t) (is_named n u && are_named n ts) h) (and-first (is_named n u) (are_named n ts) others)
-    (named-paired n ts (and-second (is_named n u) (are_named n ts) others))
+    let others : is_named n u && are_named n ts ≡ true = (and_parts (is_named n t) (is_named n u && are_named n ts) h).1 in
+    all-three (is_named n t) (is_named n u) (pairs_named n (paired ts)) (and_parts (is_named n t) (is_named n u && are_named n ts) h).0 (and_parts (is_named n u) (are_named n ts) others).0
+    (named-paired n ts (and_parts (is_named n u) (are_named n ts) others).1)
 
 pub named-take : (n k : ℕ) (ms : List (Option Tree)) → MarksNamed n ms → MarksNamed n (take k ms)
 named-take n zero ms h = tt

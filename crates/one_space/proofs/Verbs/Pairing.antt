@@ -11,6 +11,7 @@ use Rattle.plain_term.specs.Tree.Tree.{Int, Atom, Pid, Ref, Nil, Cons, Tuple, Ma
 use Rattle.plain_term.specs.Tree.Pairs.{stop, pair}
 use Rattle.plain_term.specs.Beyond.{is_beyond}
 use Rattle.plain_term.specs.Order.{order}
+use Rattle.plain_term.specs.InOrder.{put_pair}
 use Rattle.script_grammar.specs.declared.command.Command.TheVariants.{Process as OfProcess}
 use Rattle.script_grammar.specs.declared.command.Reg.{Reg}
 use Rattle.script_grammar.specs.declared.command.Verb.{Verb}
@@ -26,7 +27,6 @@ use Rattle.term_build.specs.Taken.{IsFree}
 use Rattle.term_build.specs.Grows.{Built}
 use Rattle.term_build.specs.Clear.{Uses}
 use Rattle.term_order.specs.Named.{is_named}
-use Rattle.term_maps.specs.InOrder.{by_order, put_pair}
 use Rattle.term_maps.specs.declared.sorted.Spot.{Spot}
 use Rattle.term_maps.specs.declared.sorted.Spot.TheVariants as spot
 use Rattle.term_verbs.specs.declared.pairs.Place.{Place}
@@ -37,13 +37,12 @@ use Rattle.term_verbs.specs.Picked.{HasSorted}
 use Rattle.term_verbs.specs.Placed.{PlaceFits, HasPlace, IsPlace, count_placed, placed}
 use Rattle.term_verbs.proofs.Placing.{placed-count, placed-put}
 use Rattle.term_verbs.proofs.Sorted.{proper-sorted}
-use Rattle.plain_machine.specs.Made.{with_pair}
 use Rattle.plain_machine.specs.Parts.{pairs_in}
 use Rattle.plain_machine.specs.State.{HasNames, Process, State, process_of, register, with_process, with_register}
 use Rattle.script_grammar.specs.Names.{Parsed}
 use Rattle.plain_machine.specs.Step.{Outcome, does, in_process, put_unless_big, put_unless_wide, settled}
 use Rattle.plain_machine.specs.Step.Outcome.{Refused}
-use Rattle.plain_machine.specs.Step.{put_pair as put_step}
+use Rattle.plain_machine.specs.Step.{put_into}
 use Rattle.plain_machine.specs.Tightness.{keys_in}
 use Rattle.plain_machine.specs.May.{gets_to_space}
 use Rattle.space_api.specs.Calls.{Follows, Properly, said}
@@ -64,18 +63,6 @@ use Rattle.one_space.proofs.Processes.Registers.{held-there, proper-there, row-t
 use Rattle.one_space.proofs.Memory.Rooms.{roomed, stays-roomed}
 use Rattle.one_space.proofs.Processes.Seated.{found-there}
 use Rattle.one_space.proofs.Calls.Terming.{room-free, row-made, term-counts, term-fits, term-stands, with_term}
-
--- The pairs with one more are those of the machine.
-pub put-with : (names shared : List (List ℕ)) (k v : Tree) (ps : Pairs) → put_pair names shared k v ps ≡ with_pair names shared k v ps
-put-with names shared k v stop = refl
-put-with names shared k v (pair j u ps) = by (order names shared k j) (put-with names shared k v ps)
-  where
-    by : (o : Ordering) → put_pair names shared k v ps ≡ with_pair names shared k v ps
-        → by_order o (pair k v (pair j u ps)) (pair k v ps) (pair j u (put_pair names shared k v ps))
-        ≡ match_ordering o (pair k v (pair j u ps)) (pair k v ps) (pair j u (with_pair names shared k v ps))
-    by Less e = refl
-    by Equal e = refl
-    by Greater e = ap (λ z. pair j u z) e
 
 is-many : (n : ℕ) → MOST_KEYS < n → nat_lt MOST_KEYS n ≡ true
 is-many n many = grind (arith, nat_tests)
@@ -112,7 +99,7 @@ no-stop put.Full e = absurd cc
 module _ (k v : Tree) (s : State) (line : Parsed) (q : Process) (r : ℕ) where
   -- It refuses the pair for the reason that the search has.
   stops-at : (ps : Pairs) (e : PutStop) → AreSorted line.names s.shared ps → IsPlace line.names s.shared (Map ps) k (Err e) → (big : Bool) → is_beyond s.shared k ≡ big
-      → put_unless_big big (with_pair line.names s.shared k v ps) s line q r ≡ Refused (refusal_of_put e)
+      → put_unless_big big (put_pair line.names s.shared k v ps) s line q r ≡ Refused (refusal_of_put e)
   stops-at ps put.NoMap sorted f big is = absurd f
   stops-at ps put.Big sorted f true is = refl
   stops-at ps put.Big sorted f false is = absurd (contrary (is_beyond s.shared k) f is)
@@ -124,14 +111,12 @@ module _ (k v : Tree) (s : State) (line : Parsed) (q : Process) (r : ℕ) where
       contrary : (b : Bool) → b ≡ true → b ≡ false → ⊥
       contrary b x y = cc
   stops-at ps put.Full sorted f false is =
-      let P : Pairs → Type 0 = λ z. MOST_KEYS < pairs_len z in
-      let many : MOST_KEYS < pairs_len (with_pair line.names s.shared k v ps) = subst P (put-with line.names s.shared k v ps) (f.many v sorted) in
-      ap (λ z. put_unless_wide z (with_pair line.names s.shared k v ps) s line q r) (is-many (pairs_len (with_pair line.names s.shared k v ps)) many)
+      ap (λ z. put_unless_wide z (put_pair line.names s.shared k v ps) s line q r) (is-many (pairs_len (put_pair line.names s.shared k v ps)) (f.many v sorted))
 
   no-map-stops : (e : PutStop) → ◌≡◌ {A = Result Place PutStop} (Err e) (Err put.NoMap) → Refused refusal.BadArg ≡ Refused (refusal_of_put e)
   no-map-stops e is = ap Refused (sym (no-stop e is))
 
-  put-stops : (t : Tree) (e : PutStop) → HasSorted line.names s.shared t → IsPlace line.names s.shared t k (Err e) → put_step (pairs_in t) k v s line q r ≡ Refused (refusal_of_put e)
+  put-stops : (t : Tree) (e : PutStop) → HasSorted line.names s.shared t → IsPlace line.names s.shared t k (Err e) → put_into (pairs_in t) k v s line q r ≡ Refused (refusal_of_put e)
   put-stops (Map ps) e sorted f = stops-at ps e sorted f (is_beyond s.shared k) refl
   put-stops (Int i) e sorted f = no-map-stops e f
   put-stops (Atom i) e sorted f = no-map-stops e f
@@ -147,12 +132,12 @@ module _ (k v : Tree) (s : State) (line : Parsed) (q : Process) (r : ℕ) where
 
   -- It puts the pair at its place.
   put-steps : (ps : Pairs) (place : Place) → AreSorted line.names s.shared ps → PlaceFits line.names s.shared ps k place
-      → put_step (Some ps) k v s line q r ≡ does line (with_process (with_register r (Map (placed place.spot k v ps)) q) s)
+      → put_into (Some ps) k v s line q r ≡ does line (with_process (with_register r (Map (placed place.spot k v ps)) q) s)
   put-steps ps place sorted f =
-      let same : placed place.spot k v ps ≡ with_pair line.names s.shared k v ps = placed-put line.names s.shared k v place.spot ps (f.finds sorted) ∙ put-with line.names s.shared k v ps in
-      let few : pairs_len (with_pair line.names s.shared k v ps) ≤ MOST_KEYS = omega (arith, sym (ap pairs_len same), placed-count place.spot ps k v, f.few) in
-      ap (λ z. put_unless_big z (with_pair line.names s.shared k v ps) s line q r) f.small
-      ∙ ap (λ z. put_unless_wide z (with_pair line.names s.shared k v ps) s line q r) (is-few (pairs_len (with_pair line.names s.shared k v ps)) few)
+      let same : placed place.spot k v ps ≡ put_pair line.names s.shared k v ps = placed-put line.names s.shared k v place.spot ps (f.finds sorted) in
+      let few : pairs_len (put_pair line.names s.shared k v ps) ≤ MOST_KEYS = omega (arith, sym (ap pairs_len same), placed-count place.spot ps k v, f.few) in
+      ap (λ z. put_unless_big z (put_pair line.names s.shared k v ps) s line q r) f.small
+      ∙ ap (λ z. put_unless_wide z (put_pair line.names s.shared k v ps) s line q r) (is-few (pairs_len (put_pair line.names s.shared k v ps)) few)
       ∙ ap (λ z. does line (with_process (with_register r (Map z) q) s)) (sym same)
 
 -- A place is no more than one key.
@@ -216,14 +201,14 @@ module _ (b : One) (holds : Holds b) (seat : Seat) (x : Sits b seat) (r m k v : 
 
       -- The machine's step.
       steps-there : (s : State) (h : Properly (OneStands b) s) → HasNames s names → (terms : Terms)
-          → put_step (pairs_in (register m.0 (seated_in s))) (register k.0 (seated_in s)) (register v.0 (seated_in s)) s (line_of terms) (seated_in s) r.0
+          → put_into (pairs_in (register m.0 (seated_in s))) (register k.0 (seated_in s)) (register v.0 (seated_in s)) s (line_of terms) (seated_in s) r.0
           ≡ does (line_of terms)
           (with_process (with_register r.0 (Map (placed place.spot (register k.0 (seated_in s)) (register v.0 (seated_in s)) (pairs-there s h.0).pairs)) (seated_in s)) s)
       steps-there s h has terms =
           let q : Process = seated_in s in
           let here = pairs-there s h.0 in
           let S : Tree → Type 0 = λ z. HasSorted names s.shared z in
-          ap (λ z. put_step (pairs_in z) (register k.0 q) (register v.0 q) s (line_of terms) q r.0) here.is
+          ap (λ z. put_into (pairs_in z) (register k.0 q) (register v.0 q) s (line_of terms) q r.0) here.is
           ∙ put-steps (register k.0 q) (register v.0 q) s (line_of terms) q r.0 here.pairs place (subst S here.is (sorted-there s h has)) here.fits
 
       -- What the line asks for.

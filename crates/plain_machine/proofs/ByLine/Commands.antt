@@ -3,8 +3,10 @@ use Rattle.std.proofs.Common.{◌≡◌, ℕ, zero, suc, ◌+◌, ◌||◌, repl
 use Rattle.plain_term.specs.Tree.{Tree, Pairs}
 use Rattle.plain_term.specs.Tree.{Tree as tree}
 use Rattle.plain_term.specs.Beyond.{is_beyond}
+use Rattle.plain_term.specs.InOrder.{put_pair}
 use Rattle.plain_term.specs.Proper.{is_proper, are_bytes}
-use Rattle.std.proofs.lemmas.Bool.{and_from}
+use Rattle.plain_term.proofs.Putting.{put-rises}
+use Rattle.std.proofs.lemmas.Bool.{and_from, or_parts}
 use Rattle.std.proofs.lemmas.Bool.Decides.{nat_tests}
 use Rattle.script_grammar.specs.Written.{Terms}
 use Rattle.script_grammar.specs.declared.command.Command.{Command}
@@ -17,18 +19,18 @@ use Rattle.script_grammar.specs.declared.refusal.Refusal.{Refusal}
 use Rattle.script_grammar.specs.Names.{Parsed}
 use Rattle.plain_machine.specs.declared.limits.TheConstants.{MOST_PROCESSES, MOST_PLACES, MOST_FILL, MOST_ARITY, MOST_BYTE}
 use Rattle.plain_machine.specs.State.{Process as Live, State, HasNames, process_of, fresh_process, register, with_register, with_process}
-use Rattle.plain_machine.specs.Made.{with_pair, too_many, bin_tree}
+use Rattle.plain_machine.specs.Made.{too_many, bin_tree}
 use Rattle.plain_machine.specs.Tightness.{receiver}
 use Rattle.plain_machine.specs.Parts.{picked, pairs_in, repeated}
-use Rattle.plain_machine.specs.Step.{Outcome, by_command, in_process, by_verb, by_system, does, with_made, unless_flawed, written_flaw, fill_if, fun_if, env_of, choose, put_unless_wide, put_unless_big, put_pair, repeat_if, collect_step, pop_from, send_within, send_to, recv_from, spawn_if, tells, told_of, told_of_system, written_tree, is_printing}
+use Rattle.plain_machine.specs.Step.{Outcome, by_command, in_process, by_verb, by_system, does, with_made, unless_flawed, written_flaw, fill_if, fun_if, env_of, choose, put_unless_wide, put_unless_big, put_into, repeat_if, collect_step, pop_from, send_within, send_to, recv_from, spawn_if, tells, told_of, told_of_system, written_tree, is_printing}
 use Rattle.plain_machine.specs.Step.Outcome.{Accepted, Refused, Mapped}
 use Rattle.plain_machine.specs.Run.{is_quit}
 use Rattle.plain_machine.specs.Laws.{AreProper, AreWithin, HoldsProper}
 use Rattle.plain_machine.proofs.Numbering.Numbers.{Keeps, keeps-same, keeps-numbers, keeps-process, keeps-message, keeps-gone, keeps-come}
-use Rattle.plain_machine.proofs.Properly.Putting.{put-rises, put-proper}
+use Rattle.plain_machine.proofs.Properly.Putting.{put-proper}
 use Rattle.plain_machine.proofs.Properly.Parts.{IfProper, at-proper, picked-proper, map-proper, repeated-proper}
 use Rattle.plain_machine.proofs.Properly.Growing.{map-parts}
-use Rattle.plain_machine.proofs.Properly.Making.{or-none, bin-more, bin-proper}
+use Rattle.plain_machine.proofs.Properly.Making.{bin-more, bin-proper}
 use Rattle.plain_machine.proofs.Properly.Holding.{Holds, Before, Builds, Environs, before, found-proper, lives, same-live, in-place, in-register, sent-lives, gone-lives, spawned-lives, made-leaves, built-leaves, fun-proper, set-proper}
 
 -- the numbers after an outcome
@@ -106,11 +108,11 @@ choose-does s p q n r x (Some t) e f = register-does s p q n r x t e f
 put-does : (s : State) (p : Parsed) (q : Live) (n r : ℕ) (x : Verb) (m k v : Tree) → is_printing (Process n x) ≡ false
     → (HoldsProper s → HasNames s p.names → Before s p.names × Holds p.names s.shared q
     × (is_proper p.names s.shared m ≡ true) × (is_proper p.names s.shared k ≡ true) × (is_proper p.names s.shared v ≡ true))
-    → Does s p (Process n x) (put_pair (pairs_in m) k v s p q r)
+    → Does s p (Process n x) (put_into (pairs_in m) k v s p q r)
 put-does s p q n r x (tree.Map ps) k v e f = at-key (is_beyond s.shared k) refl
   where
     all : Pairs
-    all = with_pair p.names s.shared k v ps
+    all = put_pair p.names s.shared k v ps
 
     at-size : (b : Bool) → too_many all ≡ b → is_beyond s.shared k ≡ false → Does s p (Process n x) (put_unless_wide b all s p q r)
     at-size true wide within = refused-does s p (Process n x) _
@@ -239,7 +241,7 @@ module _ (s : State) (p : Parsed) (n : ℕ) (q : Live) (found : process_of n s �
   verb-does (MapPut r m k v) = put-does s p q n (r.0) (MapPut r m k v) (register (m.0) q) (register (k.0) q) (register (v.0) q) refl
       (λ h x. (names-before h x, holds h x, in-holds (m.0) h x, in-holds (k.0) h x, in-holds (v.0) h x))
   verb-does (Fill r len byte) = fill-does s p q n (r.0) (Fill r len byte) (nat_lt MOST_FILL len || nat_lt MOST_BYTE byte) (replicate len byte) refl
-      (λ e. filled-bytes len byte (or-none (nat_lt MOST_FILL len) (nat_lt MOST_BYTE byte) e).1) (λ h m. (names-before h m, holds h m))
+      (λ e. filled-bytes len byte (or_parts (nat_lt MOST_FILL len) (nat_lt MOST_BYTE byte) e).1) (λ h m. (names-before h m, holds h m))
   verb-does (MakeFun r name arity) =
       fun-does s p q n (r.0) name arity (MakeFun r name arity) (nat_lt MOST_ARITY arity) (tree.Fun name arity q.number (env_of s p q)) refl
       (λ h m t. (names-before h m, holds h m, fun-proper s p q name arity (holds h m) t))

@@ -1,5 +1,6 @@
 -- The numbers of processes: what changes them, and what keeps them.
 use Rattle.std.proofs.Common.{◌≡◌, ℕ, ◌+◌, ◌<◌, ◌≤◌, Bool, true, false, not, cond, ◌==◌, ◌||◌, List, [], ◌∷◌, ◌++◌, map, filter, refl, sym, ap, subst, ◌∙◌, arith, eqb-true}
+use Rattle.std.proofs.lemmas.Bool.{or_right, true≢false}
 use Rattle.std.specs.List.{list_any}
 use Rattle.plain_term.specs.Tree.{Tree}
 use Rattle.plain_machine.specs.State.{Process as Live, State, is_live, live_numbers, with_queued}
@@ -78,10 +79,6 @@ or-more : (c r t : Bool) → (c || r) ≡ true → (r ≡ true → t ≡ true) �
 or-more true r t e k = refl
 or-more false r t e k = k e
 
-or-right : (c t : Bool) → t ≡ true → (c || t) ≡ true
-or-right true t e = refl
-or-right false t e = e
-
 -- with one process less none lives that did not
 gone-lives : (test keep : Live → Bool) (qs : List Live) → list_any test (filter keep qs) ≡ true → list_any test qs ≡ true
 gone-lives test keep [] e = e
@@ -89,7 +86,7 @@ gone-lives test keep (q ∷ qs) e = at (keep q) e (λ k. gone-lives test keep qs
   where
     at : (b : Bool) → list_any test (cond b (q ∷ filter keep qs) (filter keep qs)) ≡ true → (list_any test (filter keep qs) ≡ true → list_any test qs ≡ true) → (test q || list_any test qs) ≡ true
     at true e k = or-more (test q) (list_any test (filter keep qs)) (list_any test qs) e k
-    at false e k = or-right (test q) (list_any test qs) (k e)
+    at false e k = or_right (test q) (list_any test qs) (k e)
 
 -- with one process more it is the only one that lives and did not
 come-lives : (test : Live → Bool) (p : Live) (qs : List Live) → list_any test (qs ++ p ∷ []) ≡ true → list_any test qs ≡ false → test p ≡ true
@@ -111,17 +108,14 @@ pub record Keeps (s new : State) : Type 0 where
   pub next : s.next ≤ new.next
   pub fresh : (n : ℕ) → is_live n new ≡ true → is_live n s ≡ false → s.next ≤ n
 
-both : (b : Bool) → b ≡ true → b ≡ false → ⊥
-both b e f = absurd (cc)
-
 pub keeps-same : (s new : State) → new ≡ s → Keeps s new
-keeps-same s new e = subst (Keeps s) (sym e) (record { numbers = λ h. h; next = omega arith; fresh = λ n f g. absurd (both (is_live n s) f g) })
+keeps-same s new e = subst (Keeps s) (sym e) (record { numbers = λ h. h; next = omega arith; fresh = λ n f g. absurd (true≢false (sym f ∙ g)) })
 
 pub keeps-numbers : (s new : State) → live_numbers new ≡ live_numbers s → new.next ≡ s.next → Keeps s new
 keeps-numbers s new e f = record {
   numbers = λ h. record { numbered = subst (λ z. AreNumbered 0 z new.next) (sym e) (subst (λ z. AreNumbered 0 (live_numbers s) z) (sym f) h.numbered) };
   next = omega (arith, f);
-  fresh = λ n g h. absurd (both (is_live n s) (sym (live-same s new n e) ∙ g) h);
+  fresh = λ n g h. absurd (true≢false (sym g ∙ live-same s new n e ∙ h));
 }
 
 -- a process in the place of the one with its number
@@ -141,7 +135,7 @@ keeps-gone s new n e f = record {
         (without-numbered n 0 s.next s.processes h.numbered));
   };
   next = omega (arith, f);
-  fresh = λ k g h. absurd (both (is_live k s) (gone-lives (λ p. p.number == k) (λ q. not (q.number == n)) s.processes (ap (list_any (λ p. p.number == k)) (sym e) ∙ g)) h);
+  fresh = λ k g h. absurd (true≢false (sym (gone-lives (λ p. p.number == k) (λ q. not (q.number == n)) s.processes (ap (list_any (λ p. p.number == k)) (sym e) ∙ g)) ∙ h));
 }
 
 -- one process more, with the next number

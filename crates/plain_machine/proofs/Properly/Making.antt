@@ -1,25 +1,26 @@
 -- What a written term of the built forms makes: a proper tree, over the shared binaries with its own at their end.
 use Rattle.std.proofs.Common.{◌≡◌, ℕ, suc, ◌+◌, ◌-◌, ◌^◌, ◌<◌, Bool, true, false, cond, ◌||◌, ◌&&◌, not, nat_lt, nat_le, List, [], ◌∷◌, ◌++◌, length, get_or, refl, sym, ap, subst, ◌∙◌, lt-ltb, append-nil, append_assoc, length-append, arith}
 use Rattle.std.specs.Prelude.{All}
-use Rattle.std.proofs.lemmas.Bool.{and_from, le-leb}
+use Rattle.std.proofs.lemmas.Bool.{and_from, le-leb, or_parts}
 use Rattle.plain_term.specs.Tree.{Tree, Trees, Pairs}
 use Rattle.plain_term.specs.Tree.{Tree as tree}
-use Rattle.plain_term.specs.Tree.{Pairs as pairs}
 use Rattle.plain_term.specs.Beyond.{is_beyond}
 use Rattle.plain_term.specs.Measures.{magnitude}
+use Rattle.plain_term.specs.InOrder.{in_order}
 use Rattle.plain_term.specs.Proper.{is_proper, are_proper, are_proper_pairs, are_bytes}
+use Rattle.plain_term.proofs.Putting.{in-order-rises}
 use Rattle.script_grammar.specs.Written.{Term, Terms, TermPairs}
 use Rattle.script_grammar.specs.Written.Term.{Int, Atom, Pid, Held, Listed, Barred, Tuple, Map, Bin}
 use Rattle.script_grammar.specs.Written.Terms.{end, ◌▹◌}
 use Rattle.script_grammar.specs.Written.TermPairs.{stop, pair}
 use Rattle.script_grammar.specs.Grammar.{MayStand, AllMayStand, PairsMayStand, IsBuiltTerm, AreBuiltTerms, AreBuiltPairs}
 use Rattle.script_grammar.specs.Names.{number_of, atoms_of, atoms_of_all, atoms_of_pairs, held_terms}
-use Rattle.plain_machine.specs.Made.{tree_of, trees_of, pairs_of, with_pairs, bin_tree}
+use Rattle.plain_machine.specs.Made.{tree_of, trees_of, pairs_of, bin_tree}
 use Rattle.plain_machine.specs.Flaws.{is_wide, are_wide, are_wide_pairs, has_many_keys, is_big, are_big, are_big_pairs, is_big_key}
 use Rattle.plain_machine.specs.Laws.{AreProper, AreWithin}
 use Rattle.script_grammar.proofs.Naming.{ArePlaced, number-below}
 use Rattle.plain_machine.proofs.Properly.Growing.{proper-grown, beyond-grown}
-use Rattle.plain_machine.proofs.Properly.Putting.{pairs-join, all-rise, all-proper}
+use Rattle.plain_machine.proofs.Properly.Putting.{pairs-join, in-order-proper}
 use Rattle.plain_machine.proofs.Properly.Parts.{at-proper, map-proper, list-proper}
 
 -- each of the atoms has a number
@@ -97,11 +98,6 @@ mutual
       extends-then shared (key.1) ((pairs_of names given qs (value.1)).1) (made-more names given k shared)
       (extends-then (key.1) (value.1) ((pairs_of names given qs (value.1)).1) (made-more names given v (key.1)) (pairs-made-more names given qs (value.1)))
 
--- neither of two
-pub or-none : (a b : Bool) → (a || b) ≡ false → (a ≡ false) × (b ≡ false)
-or-none true b h = absurd (cc)
-or-none false b h = (refl, h)
-
 -- a key that is neither wide nor a big one is within the walk limit
 key-within : (wide beyond : Bool) → (not wide && beyond) ≡ false → wide ≡ false → beyond ≡ false
 key-within true beyond h w = absurd (cc)
@@ -159,8 +155,8 @@ module _ (names : List (List ℕ)) where
       made-proper levels (Barred ts t) before a b m p w g =
           let heads : Trees × List (List ℕ) = trees_of names given ts before in
           let last : Tree × List (List ℕ) = tree_of names given t (heads.1) in
-          let x = or-none (are_wide names given ts before) (is_wide names given t (heads.1)) w in
-          let y = or-none (are_big names given ts before) (is_big names given t (heads.1)) g in
+          let x = or_parts (are_wide names given ts before) (is_wide names given t (heads.1)) w in
+          let y = or_parts (are_big names given ts before) (is_big names given t (heads.1)) g in
           list-proper names (last.1) (heads.0) (last.0)
           (more-proper (heads.1) (last.1) (tree.Tuple (heads.0)) (made-more names given t (heads.1))
           (all-made-proper (levels - 1) ts before a b.0 m.2 (numbers-front names (atoms_of_all ts) (atoms_of t) p) x.0 y.0))
@@ -169,10 +165,10 @@ module _ (names : List (List ℕ)) where
       made-proper levels (Tuple ts) before a b m p w g = all-made-proper (levels - 1) ts before a b m.1 p w g
       made-proper levels (Map qs) before a b m p w g =
           let all : Pairs × List (List ℕ) = pairs_of names given qs before in
-          let x = or-none (has_many_keys names given qs before) (are_wide_pairs names given qs before) w in
-          map-proper names (all.1) (with_pairs names (all.1) pairs.stop (all.0)) x.0
-          (all-rise names (all.1) pairs.stop (all.0) refl)
-          (all-proper names (all.1) pairs.stop (all.0) refl (pairs-made-proper (levels - 1) qs before a b m.1 p x.1 g))
+          let x = or_parts (has_many_keys names given qs before) (are_wide_pairs names given qs before) w in
+          map-proper names (all.1) (in_order names (all.1) (all.0)) x.0
+          (in-order-rises names (all.1) (all.0))
+          (in-order-proper names (all.1) (all.0) (pairs-made-proper (levels - 1) qs before a b m.1 p x.1 g))
       made-proper levels (Bin bytes) before a b m p w g = bin-proper bytes before (written-bytes bytes m.1)
 
       pub all-made-proper : (levels : ℕ) (ts : Terms) (before : List (List ℕ)) → AreProper names before given → AreBuiltTerms ts → AllMayStand levels ts → HaveNumbers names (atoms_of_all ts)
@@ -181,8 +177,8 @@ module _ (names : List (List ℕ)) where
       all-made-proper levels (t ▹ ts) before a b m p w g =
           let first : Tree × List (List ℕ) = tree_of names given t before in
           let others : Trees × List (List ℕ) = trees_of names given ts (first.1) in
-          let x = or-none (is_wide names given t before) (are_wide names given ts (first.1)) w in
-          let y = or-none (is_big names given t before) (are_big names given ts (first.1)) g in
+          let x = or_parts (is_wide names given t before) (are_wide names given ts (first.1)) w in
+          let y = or_parts (is_big names given t before) (are_big names given ts (first.1)) g in
           and_from (is_proper names (others.1) (first.0)) (are_proper names (others.1) (others.0))
           (more-proper (first.1) (others.1) (first.0) (all-made-more names given ts (first.1))
           (made-proper levels t before a b.0 m.0 (numbers-front names (atoms_of t) (atoms_of_all ts) p) x.0 y.0))
@@ -198,11 +194,11 @@ module _ (names : List (List ℕ)) where
           let value : Tree × List (List ℕ) = tree_of names given v (key.1) in
           let others : Pairs × List (List ℕ) = pairs_of names given qs (value.1) in
           let later = numbers-back names (atoms_of k) (atoms_of v ++ atoms_of_pairs qs) p in
-          let x = or-none (is_wide names given k before) (is_wide names given v (key.1) || are_wide_pairs names given qs (value.1)) w in
-          let xx = or-none (is_wide names given v (key.1)) (are_wide_pairs names given qs (value.1)) x.1 in
-          let y = or-none (is_big_key names given k before) (is_big names given k before || (is_big names given v (key.1) || are_big_pairs names given qs (value.1))) g in
-          let yy = or-none (is_big names given k before) (is_big names given v (key.1) || are_big_pairs names given qs (value.1)) y.1 in
-          let yyy = or-none (is_big names given v (key.1)) (are_big_pairs names given qs (value.1)) yy.1 in
+          let x = or_parts (is_wide names given k before) (is_wide names given v (key.1) || are_wide_pairs names given qs (value.1)) w in
+          let xx = or_parts (is_wide names given v (key.1)) (are_wide_pairs names given qs (value.1)) x.1 in
+          let y = or_parts (is_big_key names given k before) (is_big names given k before || (is_big names given v (key.1) || are_big_pairs names given qs (value.1))) g in
+          let yy = or_parts (is_big names given k before) (is_big names given v (key.1) || are_big_pairs names given qs (value.1)) y.1 in
+          let yyy = or_parts (is_big names given v (key.1)) (are_big_pairs names given qs (value.1)) yy.1 in
           let rest : Extends (value.1) (others.1) = pairs-made-more names given qs (value.1) in
           let behind : Extends (key.1) (others.1) = extends-then (key.1) (value.1) (others.1) (made-more names given v (key.1)) rest in
           let after : AreProper names (key.1) given = all-more-proper before (key.1) given (made-more names given k before) a in

@@ -11,6 +11,7 @@ use Rattle.plain_term.specs.Beyond.{is_beyond}
 use Rattle.plain_term.specs.Order.{order}
 use Rattle.plain_term.specs.Bytes.{bytes_of, shared_bytes}
 use Rattle.plain_term.specs.Proper.{is_proper, are_proper, are_proper_pairs, keys_rise, is_base}
+use Rattle.plain_term.specs.Parts.{part_at, place_of, head_in, tail_in, element_of, env_in}
 use Rattle.term_tags.specs.declared.layouts.TheConstants.{MOST_KEYS}
 use Rattle.script_grammar.specs.declared.command.Pick.{Pick}
 use Rattle.script_grammar.specs.declared.command.Pick.TheVariants.{Hd, Tl, Elem, MapGet, Env, Part as Bytes}
@@ -19,7 +20,7 @@ use Rattle.script_grammar.specs.declared.command.Shape.TheVariants.{Tuple as InT
 use Rattle.plain_machine.specs.Made.{list_tree, too_many}
 use Rattle.plain_machine.specs.Laws.{AreProper}
 use Rattle.plain_machine.specs.State.{Process as Live, register}
-use Rattle.plain_machine.specs.Parts.{head_in, tail_in, tree_after, element_in, place_in, env_in, part_in, value_of, value_in, picked, repeated}
+use Rattle.plain_machine.specs.Parts.{part_in, value_of, value_in, picked, repeated}
 use Rattle.plain_machine.proofs.Properly.Growing.{cons-parts, all-parts, fun-parts, part-parts, map-parts}
 use Rattle.plain_machine.proofs.Properly.Putting.{pairs-split}
 
@@ -35,12 +36,12 @@ module _ (names shared : List (List ℕ)) where
   IfProper None = Unit {0}
   IfProper (Some t) = is_proper names shared t ≡ true
 
-  after-proper : (ts : Trees) (k : ℕ) → are_proper names shared ts ≡ true → IfProper (tree_after ts k)
+  after-proper : (ts : Trees) (k : ℕ) → are_proper names shared ts ≡ true → IfProper (part_at ts k)
   after-proper end k h = tt
   after-proper (t ▹ ts) zero h = (all-parts names [] shared [] t ts h).0
   after-proper (t ▹ ts) (suc k) h = after-proper ts k (all-parts names [] shared [] t ts h).1
 
-  element-proper : (ts : Trees) (i : ℕ) → are_proper names shared ts ≡ true → IfProper (element_in ts i)
+  element-proper : (ts : Trees) (i : ℕ) → are_proper names shared ts ≡ true → IfProper (place_of ts i)
   element-proper ts zero h = tt
   element-proper ts (suc k) h = after-proper ts k h
 
@@ -61,7 +62,7 @@ module _ (names shared : List (List ℕ)) where
   tail-proper (Cons a b) h = (cons-parts names [] shared [] a b h).1
   tail-proper _ h = tt
 
-  place-proper : (i : ℕ) (t : Tree) → is_proper names shared t ≡ true → IfProper (place_in i t)
+  place-proper : (i : ℕ) (t : Tree) → is_proper names shared t ≡ true → IfProper (element_of i t)
   place-proper i (Tuple ts) h = element-proper ts i h
   place-proper i _ h = tt
 

@@ -1,5 +1,5 @@
 use Rattle.std.proofs.Common.{sym, ◌∙◌, ap, arith}
-use Rattle.term_maps.specs.InOrder.{has_beyond}
+use Rattle.term_maps.specs.Stops.{has_beyond}
 use Rattle.term_maps.proofs.Members.{key-in}
 use Rattle.term_maps.proofs.Left.{next-pair, none-left, beyond-now, beyond-later}
 use Rattle.term_maps.proofs.maps.has_big_key.Goals as goal

@@ -1,6 +1,6 @@
 use Rattle.std.proofs.Common.{◌≡◌, ℕ, Bool, List}
 use Rattle.plain_term.specs.Tree.{Pairs}
-use Rattle.term_maps.specs.InOrder.{has_beyond}
+use Rattle.term_maps.specs.Stops.{has_beyond}
 use Rattle.term_maps.specs.Given.{PairsStand}
 use Rattle.term_maps.proofs.Left.{pairs_drop}
 use Rattle.term_maps.proofs.maps.has_big_key.Given as goal

@@ -1,8 +1,8 @@
 use Rattle.std.proofs.Common.{◌≡◌, ℕ, List, length, sym, ◌∙◌, ap, subst, arith}
 use Rattle.plain_term.specs.Tree.{pairs_len, keys_of, values_of}
+use Rattle.plain_term.specs.InOrder.{in_order}
 use Rattle.term_words.specs.Role.{always, outside}
 use Rattle.term_words.specs.Stands.{AllStand}
-use Rattle.term_maps.specs.InOrder.{in_order}
 use Rattle.term_maps.proofs.Compares.{keys-many, values-many}
 use Rattle.term_maps.proofs.Named.{keys-named}
 use Rattle.term_maps.proofs.Sorting.{is-made}

@@ -2,7 +2,7 @@ use Rattle.std.proofs.Common.{◌≡◌, ℕ, ◌≤◌, Bool, false, List, leng
 use Rattle.plain_term.specs.Tree.{Pairs}
 use Rattle.term_tags.specs.declared.layouts.TheConstants.{MOST_KEYS}
 use Rattle.term_words.specs.Counted.{In}
-use Rattle.term_maps.specs.InOrder.{has_beyond}
+use Rattle.term_maps.specs.Stops.{has_beyond}
 use Rattle.term_maps.specs.Given.{PairsStand, keys_in}
 use Rattle.term_maps.proofs.Sorting.{Sorting}
 use Rattle.term_maps.proofs.maps.sort.Given as goal

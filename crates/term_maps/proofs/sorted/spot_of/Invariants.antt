@@ -2,7 +2,7 @@ use Rattle.std.proofs.Common.{◌≡◌, ℕ, Bool, false, List}
 use Rattle.plain_term.specs.Tree.{Tree, Pairs, keys_of}
 use Rattle.plain_term.specs.Beyond.{is_beyond}
 use Rattle.term_words.specs.Stands.{Stands, AllStand}
-use Rattle.term_maps.specs.InOrder.{has_beyond}
+use Rattle.term_maps.specs.Stops.{has_beyond}
 use Rattle.term_maps.specs.Spots.{IsAbove}
 use Rattle.term_maps.proofs.sorted.spot_of.Given as goal
 

@@ -1,9 +1,9 @@
 use Rattle.std.proofs.Common.{ℕ, List, sym, subst, arith}
 use Rattle.plain_term.specs.Tree.{keys_of, values_of}
+use Rattle.plain_term.specs.InOrder.{put_pair}
 use Rattle.term_words.specs.Counted.{In}
 use Rattle.term_words.specs.Stands.{AllStand}
 use Rattle.term_words.proofs.ByKind.Pairs.{keys-len}
-use Rattle.term_maps.specs.InOrder.{put_pair}
 use Rattle.term_maps.proofs.Members.{in-set, in-insert}
 use Rattle.term_maps.proofs.Putting.{new-stands, same-stands, new-count, full-len}
 use Rattle.term_maps.proofs.Compares.{keys-many}
