@@ -55,7 +55,7 @@ turned-last : (xs : List ℕ) (o : ℕ) (ys : List ℕ) → turned (xs ++ o ∷ 
 turned-last [] o ys = refl
 turned-last (x ∷ xs) o ys = turned-last xs o (x ∷ ys)
 
-in-turned : (q : ℕ) (xs ys : List ℕ) → In q (turned xs ys) → In q xs ⊎ In q ys
+pub in-turned : (q : ℕ) (xs ys : List ℕ) → In q (turned xs ys) → In q xs ⊎ In q ys
 in-turned q [] ys i = inr i
 in-turned q (x ∷ xs) ys i = elim (in-turned q xs (x ∷ ys) i) [ inl h ↦ inl (inr h) | inr h ↦ elim h [ inl e ↦ inl (inl e) | inr j ↦ inr j ] ]
 
