@@ -1,6 +1,7 @@
 -- From the answer of a space's call to the machine's step.
 use Rattle.std.proofs.Common.{◌≡◌, ℕ, inl, inr, Bool, true, false, not, cond, ◌||◌, ◌⊎◌, List, [], ◌∷◌, ◌++◌, codes, decimal, nat_le, nat_lt, length, replicate}
 use Rattle.std.proofs.Common.{Option, Some, None, Result, Ok, Err, IfOk, refl, sym, ap, subst, ◌∙◌}
+use Rattle.std.proofs.lemmas.Bool.{both_ways, true≢false}
 use Rattle.std.specs.Prelude.{MatchBool}
 use Rattle.std.specs.List.{find, list_any}
 use Rattle.plain_term.specs.Tree.{Tree, Pairs}
@@ -337,12 +338,9 @@ told-does supply seat names code after v can = λ s terms h f. record {
   stands = h;
   names = ap (λ b. cond b s.names names) (sym can.prints);
   steps = λ m. inl (at s terms (process_of seat.pid s));
-  maps = λ k m. absurd (map-or-not (is_map (Process 0 v)) k can.no_map);
+  maps = λ k m. absurd (both_ways (is_map (Process 0 v)) can.no_map k);
 }
   where
-    map-or-not : (b : Bool) → b ≡ true → b ≡ false → ⊥
-    map-or-not b e f = absurd (cc)
-
     at : (s : State) (terms : Terms) (o : Option Live) → Gives (in_process o s (said (Process seat.pid v) terms names) v) s (Process seat.pid v) false
         (outcome_text (in_process o s (said (Process seat.pid v) end names) v) ∷ []) s
     at s terms None = record { goes_on = refl; said = refl; same = refl }
@@ -360,9 +358,6 @@ if-then : (b c : Bool) → (not b || c) ≡ true → b ≡ true → c ≡ true
 if-then true c h e = h
 if-then false c h e = absurd (cc)
 
-not-true : true ≡ false → ⊥
-not-true e = absurd (cc)
-
 -- the verb is none of those that change something
 pub record IsOther (v : Verb) : Type 0 where
   pub makes : makes_term v ≡ false
@@ -374,14 +369,14 @@ pub record IsOther (v : Verb) : Type 0 where
   pub exit : v ≡ Exit → ⊥
 
 pub can-tell : (v : Verb) → is_built (word_of v) ≡ true → HasRegisters v → IsOther v → CanTell v
-can-tell (Set r) b h o = absurd (not-true o.makes)
-can-tell (Choose r m how) b h o = absurd (not-true o.makes)
-can-tell (MapPut r m k i) b h o = absurd (not-true o.makes)
-can-tell (Fill r len byte) b h o = absurd (not-true o.makes)
-can-tell (MakeFun r name arity) b h o = absurd (not-true o.makes)
-can-tell (Ref r) b h o = absurd (not-true o.makes)
-can-tell (Own r) b h o = absurd (not-true o.makes)
-can-tell (Repeat r shape n m) b h o = absurd (not-true o.makes)
+can-tell (Set r) b h o = absurd (true≢false o.makes)
+can-tell (Choose r m how) b h o = absurd (true≢false o.makes)
+can-tell (MapPut r m k i) b h o = absurd (true≢false o.makes)
+can-tell (Fill r len byte) b h o = absurd (true≢false o.makes)
+can-tell (MakeFun r name arity) b h o = absurd (true≢false o.makes)
+can-tell (Ref r) b h o = absurd (true≢false o.makes)
+can-tell (Own r) b h o = absurd (true≢false o.makes)
+can-tell (Repeat r shape n m) b h o = absurd (true≢false o.makes)
 can-tell (Push r) b h o = absurd (o.push r refl)
 can-tell (Pop r) b h o = absurd (o.pop r refl)
 can-tell (Send r to) b h o = absurd (o.send r to refl)

@@ -1,5 +1,6 @@
 -- A process in a run and on the machine where it lives alone: the same by name, and what keeps it so.
 use Rattle.std.proofs.Common.{◌≡◌, ℕ, zero, suc, ◌==◌, Bool, true, false, cond, List, [], ◌∷◌, ◌++◌, length, drop, map, replicate, Option, Some, None, refl, sym, ap, subst, ◌∙◌, append-nil, append_assoc, eqb-true}
+use Rattle.std.proofs.lemmas.Bool.{both_ways, eq-eqb}
 use Rattle.std.specs.Prelude.{option_map, flat_map}
 use Rattle.std.proofs.lemmas.List.{map-append}
 use Rattle.plain_term.specs.Tree.{Tree}
@@ -26,7 +27,7 @@ use Rattle.named_trees.proofs.Parts.{join-known, split-known, nils-known}
 use Rattle.isolation.specs.Views.{Sight, queue_in, queue_of}
 use Rattle.isolation.specs.Views.Sight.{born, message}
 use Rattle.isolation.specs.Solo.{solo_first, with_received, answers_of, left_by, step_at, solo_answers, solo_after, solo_from}
-use Rattle.isolation.proofs.Finding.{found, found-number, found-queued, same-number}
+use Rattle.isolation.proofs.Finding.{found, found-number, found-queued}
 use Rattle.isolation.proofs.ByName.{NamedProcess, process_named, KnownProcess, IfKnown, lives_named, IsKnownIn, outcome_named, KnownAfter, named_answers, named_left, line_named}
 use Rattle.isolation.proofs.Own.{OwnStep, own-line, grown-process}
 use Rattle.isolation.proofs.Others.{Passes, with_more}
@@ -121,7 +122,7 @@ module _ (m : ℕ) (a : NamedTree) (t : State) where
       let e = enters t.names t.shared a in
       let g = grown-process t.names ns t.shared bs q names-more shared-more h in
       let P : Live → Type 0 = λ z. (process_named ns bs z ≡ more_named (a ∷ []) (process_named t.names t.shared q)) × KnownProcess ns bs z in
-      let put : with_queued m u q ≡ with_more (u ∷ []) q = ap (λ b. cond b (with_more (u ∷ []) q) q) (same-number q.number m is) in
+      let put : with_queued m u q ≡ with_more (u ∷ []) q = ap (λ b. cond b (with_more (u ∷ []) q) q) (eq-eqb q.number m is) in
       let queue : map (named ns bs) (q.queue ++ u ∷ []) ≡ map (named ns bs) q.queue ++ a ∷ [] = map-append (named ns bs) q.queue (u ∷ [])
       ∙ ap (λ (z : NamedTree). map (named ns bs) q.queue ++ z ∷ []) e.is in
       subst P (sym put) (
@@ -217,7 +218,7 @@ fresh-known names shared m = record { registers = nils-known names shared REGIST
 
 pub born-alike : (m : ℕ) (next t : State) → process_of m next ≡ Some (fresh_process m) → Alike m next (solo_after m t born)
 born-alike m next t e =
-    let here : found m (fresh_process m ∷ []) ≡ Some (fresh_process m) = ap (λ b. cond b (Some (fresh_process m)) None) (same-number m m refl) in record {
+    let here : found m (fresh_process m ∷ []) ≡ Some (fresh_process m) = ap (λ b. cond b (Some (fresh_process m)) None) (eq-eqb m m refl) in record {
       same = ap (option_map (process_named next.names next.shared)) e ∙ (ap Some (fresh-named next.names next.shared m ∙ sym (fresh-named t.names t.shared m))
           ∙ ap (option_map (process_named t.names t.shared)) (sym here));
       known = subst (IfKnown t.names t.shared) (sym here) (fresh-known t.names t.shared m);
@@ -228,10 +229,7 @@ pub first-alike : (m : ℕ) → Alike m first_state (solo_first m)
 first-alike m = at (m == 1) refl
   where
     not-one : (b : Bool) → (1 == m) ≡ b → (m == 1) ≡ false → found m (fresh_process 1 ∷ []) ≡ None
-    not-one true e f = absurd (both (m == 1) (same-number m 1 (sym (eqb-true 1 m e))) f)
-      where
-        both : (b : Bool) → b ≡ true → b ≡ false → ⊥
-        both b e f = absurd (cc)
+    not-one true e f = absurd (both_ways (m == 1) f (eq-eqb m 1 (sym (eqb-true 1 m e))))
     not-one false e f = ap (λ b. cond b (Some (fresh_process 1)) None) e
 
     at : (b : Bool) → (m == 1) ≡ b → Alike m first_state (cond b first_state (record first_state { processes = [] }))

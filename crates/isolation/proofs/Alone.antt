@@ -1,5 +1,6 @@
 -- In each run each process is alone: its own lines are answered as its view alone says.
 use Rattle.std.proofs.Common.{◌≡◌, ℕ, Bool, true, false, cond, not, ◌&&◌, inl, inr, List, [], ◌∷◌, ◌++◌, length, drop, map, Option, Some, None, refl, sym, ap, subst, ◌∙◌, append-nil, eqb-true, arith}
+use Rattle.std.proofs.lemmas.Bool.{eq-eqb}
 use Rattle.std.specs.Prelude.{MatchBool}
 use Rattle.line_io.specs.Lines.{Line, text, long}
 use Rattle.script_grammar.specs.declared.command.Command.TheVariants.{Process}
@@ -21,7 +22,6 @@ use Rattle.isolation.specs.Views.{Sight, is_own, own_line, births, queue_in, mes
 use Rattle.isolation.specs.Views.Sight.{own, born, message}
 use Rattle.isolation.specs.Solo.{solo_first, solo, answers_of, left_by, step_at, solo_from}
 use Rattle.isolation.specs.Laws.{AreAlone, RunsIsolate, SameViewsSameReplies}
-use Rattle.isolation.proofs.Finding.{same-number}
 use Rattle.isolation.proofs.ByName.{IsKnownIn}
 use Rattle.isolation.proofs.Others.{Comes}
 use Rattle.isolation.proofs.Alike.{Alike, known-in, answers-alike, own-alike, after_all, solo-append, messages-silent, behind, passes-alike, born-alike, first-alike}
@@ -76,7 +76,7 @@ module _ (may : ℕ → State → Parsed → Bool) (words : ℕ) (quits : Bool) 
       let p : Parsed = parsed_of e.before.names line in
       let o : OwnEvent e.before (step_at e.before line) e.replies e.after = gives-own e.before m (verb_of p.names w ops) (step_at e.before line) quits e.replies e.after g in
       let replies : e.replies ≡ answers_of (step_at t line) = o.said ∙ answers-alike m e.before t w ops known a in
-      let mine : is_own m e.said ≡ true = ap (is_own m) is ∙ same-number m m refl in
+      let mine : is_own m e.said ≡ true = ap (is_own m) is ∙ eq-eqb m m refl in
       alone-by m e t (own line ∷ [])
       (ap (λ b. cond b (own_line e.said) (births m e ++ (messages m e ++ areas e.said e.replies))) mine ∙ ap own_line is)
       ((λ i. cond (mine i && not (shows_map (is i))) (replies i) []) ∙ by-map (is_map_line line) (answers_of (step_at t line)))

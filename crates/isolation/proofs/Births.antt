@@ -1,5 +1,6 @@
 -- Who comes to live: a process does with the `spawn` that is answered by its number, and with no other line.
 use Rattle.std.proofs.Common.{◌<◌, ◌≡◌, ℕ, Bool, true, false, cond, not, ◌&&◌, ◌⊎◌, inl, inr, List, [], ◌∷◌, ◌++◌, codes, decimal, Option, Some, None, refl, sym, ap, subst, ◌∙◌, eqb-true, arith}
+use Rattle.std.proofs.lemmas.Bool.{eq-eqb}
 use Rattle.std.specs.Prelude.{MatchBool, option_map, is_some}
 use Rattle.line_io.specs.Lines.{Line, text, long}
 use Rattle.script_grammar.specs.declared.command.Command.TheVariants.{Process, System}
@@ -23,7 +24,7 @@ use Rattle.isolation.specs.Events.{Event, IsEvent, IsAnswered, Tells}
 use Rattle.isolation.specs.Views.{Sight, is_own, births}
 use Rattle.isolation.specs.Views.Sight.{born}
 use Rattle.isolation.specs.Laws.{IsSpawnOf, AllBirthsAreSpawns}
-use Rattle.isolation.proofs.Finding.{live-found, none-come, same-number}
+use Rattle.isolation.proofs.Finding.{live-found, none-come}
 use Rattle.isolation.proofs.Others.{Passes, Comes, with_more}
 use Rattle.isolation.proofs.Told.{Brings, event-brings, event-line}
 
@@ -118,7 +119,7 @@ module _ (may : ℕ → State → Parsed → Bool) (words : ℕ) (quits : Bool) 
   spawn-bears false p is g =
       let n : ℕ = e.before.next in
       let there : process_of n e.after ≡ Some (fresh_process n) = ap (process_of n) g.is
-      ∙ (none-come n (fresh_process n) e.before.processes none-next ∙ ap (λ b. cond b (Some (fresh_process n)) None) (same-number n n refl)) in
+      ∙ (none-come n (fresh_process n) e.before.processes none-next ∙ ap (λ b. cond b (Some (fresh_process n)) None) (eq-eqb n n refl)) in
       let was : is_live n e.before ≡ false = live-found n e.before.processes ∙ ap is_some none-next in
       let now : is_live n e.after ≡ true = live-found n e.after.processes ∙ ap is_some there in
       λ i. birth-by (was i) (now i)

@@ -1,8 +1,8 @@
 -- Which process has a number, after one has changed, come or gone.
 use Rattle.std.proofs.Common.{◌≡◌, ℕ, Bool, true, false, cond, not, ◌==◌, ◌||◌, List, [], ◌∷◌, ◌++◌, map, filter, Option, Some, None, refl, sym, ap, ◌∙◌, eqb-true}
+use Rattle.std.proofs.lemmas.Bool.{eq-eqb}
 use Rattle.std.specs.Prelude.{option_map, is_some}
 use Rattle.std.specs.List.{find, list_any}
-use Rattle.std.specs.Cmp.{unsigned_Decides}
 use Rattle.plain_term.specs.Tree.{Tree}
 use Rattle.plain_machine.specs.State.{Process as Live, with_queued}
 
@@ -13,12 +13,6 @@ found n qs = find (λ r. r.number == n) qs
 -- these processes with one in the place of the one with its number
 abbrev pub put : Live → List Live → List Live
 put p qs = map (λ q. cond (q.number == p.number) p q) qs
-
-pub same-number : (n m : ℕ) → n ≡ m → (n == m) ≡ true
-same-number n m e = (unsigned_Decides n m).1 e
-
-both : (b : Bool) → b ≡ true → b ≡ false → ⊥
-both b e f = absurd (cc)
 
 -- what is found has the number
 pub found-number : (n : ℕ) (qs : List Live) (q : Live) → found n qs ≡ Some q → q.number ≡ n
@@ -45,7 +39,7 @@ found-put p q (r ∷ qs) e = by (r.number == p.number) refl e (λ f. found-put p
   where
     by : (b : Bool) → (r.number == p.number) ≡ b → cond b (Some r) (found p.number qs) ≡ Some q → (found p.number qs ≡ Some q → found p.number (put p qs) ≡ Some p)
         → found p.number (cond b p r ∷ put p qs) ≡ Some p
-    by true is e k = ap (λ b. cond b (Some p) (found p.number (put p qs))) (same-number p.number p.number refl)
+    by true is e k = ap (λ b. cond b (Some p) (found p.number (put p qs))) (eq-eqb p.number p.number refl)
     by false is e k = ap (λ b. cond b (Some r) (found p.number (put p qs))) is ∙ k e
 
 pub other-put : (m : ℕ) (p : Live) (qs : List Live) → (p.number == m) ≡ false → found m (put p qs) ≡ found m qs

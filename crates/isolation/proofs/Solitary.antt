@@ -1,5 +1,6 @@
 -- On the machine of a view at most the one process lives.
 use Rattle.std.proofs.Common.{◌≡◌, ℕ, ◌==◌, Bool, true, false, cond, not, ◌&&◌, inl, inr, List, [], ◌∷◌, ◌++◌, map, length, drop, Option, Some, None, refl, sym, ap, ◌∙◌, eqb-true}
+use Rattle.std.proofs.lemmas.Bool.{both_ways}
 use Rattle.std.specs.Prelude.{option_map, is_some}
 use Rattle.plain_term.specs.Tree.{Tree}
 use Rattle.script_grammar.specs.Written.{Written}
@@ -18,9 +19,6 @@ use Rattle.isolation.specs.Laws.{AtMost, LivesAlone}
 use Rattle.isolation.proofs.Finding.{found, live-found, found-queued}
 use Rattle.isolation.proofs.Others.{OtherOutcome, other-line}
 use Rattle.isolation.proofs.Births.{lives-same}
-
-both : (b : Bool) → b ≡ true → b ≡ false → ⊥
-both b e f = absurd (cc)
 
 -- the sight is one of this process
 abbrev IsSightOf : ℕ → Sight → Type 0
@@ -85,10 +83,10 @@ not-own p n (OfSystem w ops) mine apart = absurd (cc)
 not-own p n Nothing mine apart = absurd (cc)
 
 own-no-spawn : (p : ℕ) (w : Written) → is_own p (Some w) ≡ true → w ≡ OfSystem sys.Spawn tt → ⊥
-own-no-spawn p w mine e = both (is_own p (Some w)) mine (ap (λ z. is_own p (Some z)) e)
+own-no-spawn p w mine e = both_ways (is_own p (Some w)) (ap (λ z. is_own p (Some z)) e) mine
 
 area-no-spawn : (w : Written) → is_area_line w ≡ true → w ≡ OfSystem sys.Spawn tt → ⊥
-area-no-spawn w mine e = both (is_area_line w) mine (ap is_area_line e)
+area-no-spawn w mine e = both_ways (is_area_line w) (ap is_area_line e) mine
 
 area-not-own : (n : ℕ) (w : Written) → is_area_line w ≡ true → is_own n (Some w) ≡ false
 area-not-own n (OfProcess k w ops) mine = absurd (cc)
@@ -110,7 +108,7 @@ sight-solitary p s born mine h n lives = at (p == n) refl lives
   where
     at : (b : Bool) → (p == n) ≡ b → is_live n (record s { processes = fresh_process p ∷ [] }) ≡ true → n ≡ p
     at true e lives = sym (eqb-true p n e)
-    at false e lives = absurd (both (is_some (found n (fresh_process p ∷ []))) (sym (live-found n (fresh_process p ∷ [])) ∙ lives) (ap (λ b. is_some (cond b (Some (fresh_process p)) None)) e))
+    at false e lives = absurd (both_ways (is_some (found n (fresh_process p ∷ []))) (ap (λ b. is_some (cond b (Some (fresh_process p)) None)) e) (sym (live-found n (fresh_process p ∷ [])) ∙ lives))
 sight-solitary p s (message t) mine h n lives =
     let u : Tree = entered s.names s.shared t in
     h n (live-found n s.processes ∙ (sym (queued-lives p u (found n s.processes)) ∙ (ap is_some (sym (found-queued n p u s.processes))
@@ -126,8 +124,8 @@ solitary-first p events = view-solitary p (solo_first p) (view_of p events) (all
   where
     one : (n : ℕ) (b : Bool) → (1 == n) ≡ b → is_live n first_state ≡ true → n ≡ 1
     one n true e lives = sym (eqb-true 1 n e)
-    one n false e lives = absurd (both (is_some (found n (fresh_process 1 ∷ []))) (sym (live-found n (fresh_process 1 ∷ [])) ∙ lives) (ap (λ b. is_some (cond b (Some (fresh_process 1)) None)) e))
+    one n false e lives = absurd (both_ways (is_some (found n (fresh_process 1 ∷ []))) (ap (λ b. is_some (cond b (Some (fresh_process 1)) None)) e) (sym (live-found n (fresh_process 1 ∷ [])) ∙ lives))
 
     at : (b : Bool) → (p == 1) ≡ b → AtMost p (cond b first_state (record first_state { processes = [] }))
     at true e n lives = one n (1 == n) refl lives ∙ sym (eqb-true p 1 e)
-    at false e n lives = absurd (both false lives refl)
+    at false e n lives = absurd (both_ways false refl lives)

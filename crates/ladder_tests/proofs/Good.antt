@@ -1,8 +1,8 @@
 -- Words of terms: those of a row together, those that are left while more are made, and one more.
 use Rattle.std.proofs.Common.{◌≡◌, ℕ, zero, suc, ◌+◌, ◌-◌, ◌*◌, ◌<◌, ◌≤◌, ◌⊎◌, Bool, true, List, [], ◌∷◌, ◌++◌, length, get_or, replicate, take, drop, refl, sym}
 use Rattle.std.proofs.Common.{◌∙◌, ap, subst, arith, inl, inr, Option, Some, None, IfSome, min, ℤ, pos, negsuc, unsigned_abs, nat_lt, ◌^◌, if◌then◌else◌, false, length-take, length-append, get_or-take, get_or-drop, ◌&&◌}
+use Rattle.std.proofs.lemmas.Bool.{lt-ltb}
 use Rattle.std.proofs.lemmas.List.{length-replicate, length-drop, length-take-le, get_or_append_left, get_or_push}
-use Rattle.std.proofs.lemmas.Bool.Decides.{nat_tests}
 use Rattle.word_mem.specs.declared.ranges.Room.{Room}
 use Rattle.plain_term.specs.Tree.{Tree, Trees, Pairs, keys_of, values_of, same_trees}
 use Rattle.plain_term.specs.Measures.{int_flat, is_small, magnitude}
@@ -160,12 +160,8 @@ pairs-more shared names room mem ps a b g x y =
       ];
     }
 
--- A name is among the names.
-pub atom-named : (n k : ℕ) → k < n → nat_lt k n ≡ true
-atom-named n k less = grind (arith, nat_tests)
-
 pub fun-named : (n name : ℕ) (ts : Trees) → name < n → are_named n ts ≡ true → (nat_lt name n && are_named n ts) ≡ true
-fun-named n name ts h all = rw (atom-named n name h, all) refl
+fun-named n name ts h all = rw (lt-ltb name n h, all) refl
 
 -- The trees of a row of keys and a row of their values.
 pub record TwoRows (shared names : List (List ℕ)) (room : Room) (mem ks vs : List ℕ) : Type 0 where

@@ -1,5 +1,6 @@
 -- The lines of a made script, done one after the other.
-use Rattle.std.proofs.Common.{◌≡◌, ◌∙◌, ◌≤◌, ◌++◌, ◌&&◌, ℕ, Bool, true, false, not, refl, sym, ap, subst, arith, List, [], ◌∷◌, map, append_assoc, append-nil}
+use Rattle.std.proofs.Common.{◌≡◌, ◌∙◌, ◌≤◌, ◌++◌, ◌&&◌, ℕ, Bool, true, false, refl, sym, ap, subst, arith, List, [], ◌∷◌, map, append_assoc, append-nil}
+use Rattle.std.proofs.lemmas.Bool.{not-true}
 use Rattle.std.specs.List.{list_all, list_any}
 use Rattle.line_io.specs.Faults.{Rose}
 use Rattle.line_io.specs.Lines.{Line, text}
@@ -37,11 +38,7 @@ sums_from before after = record { wrote = SumsUp; faults = λ _. 0; before = bef
 
 -- a text lacks the byte where the test says so
 lacks : (line : List ℕ) → lacks_q line ≡ true → list_any is_q line ≡ false
-lacks line e = pick (list_any is_q line) e
-  where
-    pick : (t : Bool) → not t ≡ true → t ≡ false
-    pick true h = absurd (cc)
-    pick false h = refl
+lacks line e = not-true (list_any is_q line) e
 
 map-append : (xs ys : List (List ℕ)) → map text (xs ++ ys) ≡ map text xs ++ map text ys
 map-append [] ys = refl

@@ -16,7 +16,7 @@ use Rattle.term_order.specs.declared.compared.Compared.{Compared}
 use Rattle.term_order.specs.declared.compared.Compared.TheVariants as answer
 use Rattle.term_maps.proofs.Putting.{key-within}
 
-compared-within : (names shared : List (List ℕ)) (s t : Tree) → is_beyond shared s ≡ false → is_beyond shared t ≡ false → compared names shared s t ≡ answer_of (order names shared s t)
+pub compared-within : (names shared : List (List ℕ)) (s t : Tree) → is_beyond shared s ≡ false → is_beyond shared t ≡ false → compared names shared s t ≡ answer_of (order names shared s t)
 compared-within names shared s t hs ht = rw (hs, ht) refl
 
 -- As many keys as words.

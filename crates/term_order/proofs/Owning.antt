@@ -1,7 +1,9 @@
 -- The order of two trees is that of their words, and then that of their parts.
-use Rattle.std.proofs.Common.{◌≡◌, ℕ, ◌+◌, ◌-◌, ◌*◌, ◌^◌, ◌<◌, ◌==◌, nat_lt, if◌then◌else◌, ◌&&◌, Bool, true, false, List, [], ◌∷◌, length, refl, sym, ◌∙◌, ap, subst, inl, inr, arith, ℤ, pos, negsuc}
+use Rattle.std.proofs.Common.{◌≡◌, ℕ, ◌+◌, ◌-◌, ◌*◌, ◌^◌, ◌<◌, ◌==◌, nat_lt, if◌then◌else◌, ◌&&◌, Bool, true, false, List, [], length, refl, sym, ◌∙◌, ap, subst, inl, inr, arith, ℤ, pos, negsuc}
+use Rattle.std.proofs.lemmas.Bool.{and_from, ltb-true, and_parts}
 use Rattle.std.proofs.lemmas.Bool.Decides.{nat_tests}
 use Rattle.std.proofs.lemmas.Cmp.{ranked}
+use Rattle.std.proofs.lemmas.List.{nil_from_length}
 use Rattle.std.specs.Ordering.{int_cmp, nat_cmp, ordering_then}
 use Rattle.std.specs.declared.cmp.Ordering.{Ordering}
 use Rattle.std.specs.declared.cmp.Ordering.TheVariants.{Less, Equal, Greater}
@@ -12,6 +14,8 @@ use Rattle.plain_term.specs.Tree.Pairs.{stop, pair}
 use Rattle.plain_term.specs.Bytes.{bytes_of}
 use Rattle.plain_term.specs.Measures.{is_small, magnitude}
 use Rattle.plain_term.specs.Order.{order, order_of_all, order_of_keys, order_of_values, bytes_order, name_of, kind_rank}
+use Rattle.plain_term.proofs.ListLemmas.{trees_len-append}
+use Rattle.plain_term.proofs.OrderLemmas.{then-then}
 use Rattle.term_words.specs.Object.{IsInt}
 use Rattle.term_words.specs.Stands.{Stands}
 use Rattle.term_words.proofs.ByKind.Pairs.{keys-len, values-len}
@@ -97,11 +101,6 @@ fun-then Equal Equal Equal Greater b = refl
 
 cons-then : (a b : Ordering) → ordering_then a b ≡ ordering_then a (ordering_then b Equal)
 cons-then a b = ap (ordering_then a) (one b)
-
-then-then : (a b c : Ordering) → ordering_then (ordering_then a b) c ≡ ordering_then a (ordering_then b c)
-then-then Less b c = refl
-then-then Equal b c = refl
-then-then Greater b c = refl
 
 pub equal-numbers : (x y : ℕ) → nat_cmp x y ≡ Equal → x ≡ y
 equal-numbers x y e = ranked x y Equal (sym e)
@@ -193,12 +192,8 @@ order-own names shared (Part a o n) b = refl
 abbrev parts_count : (rank first third : ℕ) → ℕ
 parts_count r a b = if r == 8 then 2 else (if r == 5 then a else (if r == 6 then a + a else (if r == 3 then b else 0)))
 
-len-append : (ks bs : Trees) → trees_len (trees_append ks bs) ≡ trees_len ks + trees_len bs
-len-append end bs = omega arith
-len-append (a ▹ ks) bs = omega (arith, len-append ks bs)
-
 parts-counted : (t : Tree) → trees_len (parts_of t) ≡ parts_count (kind_rank t) (first_in t) (third_in t)
-parts-counted (Map ps) = omega (arith, len-append (keys_of ps) (values_of ps), keys-len ps, values-len ps)
+parts-counted (Map ps) = omega (arith, trees_len-append (keys_of ps) (values_of ps), keys-len ps, values-len ps)
 parts-counted (Int i) = refl
 parts-counted (Atom k) = refl
 parts-counted (Ref n k) = refl
@@ -301,13 +296,6 @@ looks-own c names shared mem v w t u l m e f =
 
 -- All that is compared can be read.
 
-pub both-true : (a b : Bool) → (a && b) ≡ true → (a ≡ true) × (b ≡ true)
-both-true true b e = (refl, e)
-both-true false b e = absurd cc
-
-below-true : (a b : ℕ) → nat_lt a b ≡ true → a < b
-below-true a b e = grind (arith, nat_tests)
-
 big-some : (i : ℤ) → is_small i ≡ false → 0 < magnitude i
 big-some (pos n) e = grind (arith, nat_tests)
 big-some (negsuc n) e = omega arith
@@ -326,7 +314,7 @@ unfolding Stands
 readable c names shared mem w (Int i) l s (inl (small, e)) lies named = subst (IsReadable mem names) (sym e) tt
 readable c names shared mem w (Int i) l s (inr (d, has, e)) lies named =
     subst (IsReadable mem names) (sym e) (omega (arith, has.digits, big-some i has.big), omega (arith, has.digits, big-below c mem w i s has.big))
-readable c names shared mem w (Atom k) l s e lies named = subst (IsReadable mem names) (sym e) (below-true k (length names) named)
+readable c names shared mem w (Atom k) l s e lies named = subst (IsReadable mem names) (sym e) (ltb-true k (length names) named)
 readable c names shared mem w (Pid n) l s e lies named = subst (IsReadable mem names) (sym e) tt
 readable c names shared mem w (Ref n k) l s e lies named = subst (IsReadable mem names) (sym e) tt
 readable c names shared mem w Nil l s e lies named = subst (IsReadable mem names) (sym e) tt
@@ -334,7 +322,7 @@ readable c names shared mem w (Cons h t) l s (e, within, sh, st) lies named = su
 readable c names shared mem w (Tuple ts) l s (e, within, row) lies named = subst (IsReadable mem names) (sym e) tt
 readable c names shared mem w (Map ps) l s (e, keys, values, ks, vs) lies named = subst (IsReadable mem names) (sym e) tt
 readable c names shared mem w (Fun f a p env) l s (e, within, row) lies named =
-    subst (IsReadable mem names) (sym e) (below-true f (length names) (both-true (nat_lt f (length names)) (are_named (length names) env) named).0)
+    subst (IsReadable mem names) (sym e) (ltb-true f (length names) (and_parts (nat_lt f (length names)) (are_named (length names) env) named).0)
 readable c names shared mem w (Bin xs) l s (e, from) lies named = subst (IsReadable mem names) (sym e) (subst (LiesInMemory mem) e lies)
 readable c names shared mem w (Shared id) l s (e, from) lies named = subst (IsReadable mem names) (sym e) (subst (LiesInMemory mem) e lies)
 readable c names shared mem w (Part base offset len) l s (v, e, sb, size, from) lies named =
@@ -343,48 +331,40 @@ readable c names shared mem w (Part base offset len) l s (v, e, sb, size, from) 
 
 -- The names of a tree's parts are among the names.
 
-pub both-are : (a b : Bool) → a ≡ true → b ≡ true → (a && b) ≡ true
-both-are true b p q = q
-both-are false b p q = p
-
 are-append : (n : ℕ) (ks bs : Trees) → are_named n ks ≡ true → are_named n bs ≡ true → are_named n (trees_append ks bs) ≡ true
 are-append n end bs p q = q
 are-append n (a ▹ ks) bs p q =
-    let (first, more) = both-true (is_named n a) (are_named n ks) p in
-    both-are (is_named n a) (are_named n (trees_append ks bs)) first (are-append n ks bs more q)
+    let (first, more) = and_parts (is_named n a) (are_named n ks) p in
+    and_from (is_named n a) (are_named n (trees_append ks bs)) first (are-append n ks bs more q)
 
 rows-named : (n : ℕ) (ps : Pairs) → pairs_named n ps ≡ true → (are_named n (keys_of ps) ≡ true) × (are_named n (values_of ps) ≡ true)
 rows-named n stop p = (refl, refl)
 rows-named n (pair k v ps) p =
-    let (first, others) = both-true (is_named n k && is_named n v) (pairs_named n ps) p in
-    let (key, value) = both-true (is_named n k) (is_named n v) first in
+    let (first, others) = and_parts (is_named n k && is_named n v) (pairs_named n ps) p in
+    let (key, value) = and_parts (is_named n k) (is_named n v) first in
     let (keys, values) = rows-named n ps others in
-    (both-are (is_named n k) (are_named n (keys_of ps)) key keys, both-are (is_named n v) (are_named n (values_of ps)) value values)
+    (and_from (is_named n k) (are_named n (keys_of ps)) key keys, and_from (is_named n v) (are_named n (values_of ps)) value values)
 
 parts-named : (n : ℕ) (t : Tree) → is_named n t ≡ true → are_named n (parts_of t) ≡ true
 parts-named n (Cons h t) p =
-    let (head, tail) = both-true (is_named n h) (is_named n t) p in
-    both-are (is_named n h) (is_named n t && true) head (both-are (is_named n t) true tail refl)
+    let (head, tail) = and_parts (is_named n h) (is_named n t) p in
+    and_from (is_named n h) (is_named n t && true) head (and_from (is_named n t) true tail refl)
 parts-named n (Tuple ts) p = p
 parts-named n (Map ps) p = let (keys, values) = rows-named n ps p in are-append n (keys_of ps) (values_of ps) keys values
-parts-named n (Fun f a c env) p = (both-true (nat_lt f n) (are_named n env) p).1
+parts-named n (Fun f a c env) p = (and_parts (nat_lt f n) (are_named n env) p).1
 parts-named n _ p = refl
 
 pub step-named : (n : ℕ) (now next : Tree) (rest after : Trees) → is_named n now ≡ true → are_named n rest ≡ true → trees_append (parts_of now) rest ≡ next ▹ after
     → (is_named n next ≡ true) × (are_named n after ≡ true)
 step-named n now next rest after p q e =
     let all : are_named n (next ▹ after) ≡ true = sym (ap (are_named n) e) ∙ are-append n (parts_of now) rest (parts-named n now p) q in
-    both-true (is_named n next) (are_named n after) all
+    and_parts (is_named n next) (are_named n after) all
 
 -- Two conses do not differ before their parts.
-
-no-more : (xs : List ℕ) → 0 ≡ length xs → xs ≡ []
-no-more [] e = refl
-no-more (x ∷ xs) e = absurd (omega (arith, e))
 
 pub conses-same : (mem : List ℕ) (names : List (List ℕ)) (l m : Look) (p q : ℕ) (xs ys : List ℕ) → l ≡ look.Cons p → m ≡ look.Cons q → IsBytes mem (look_data l) xs → IsBytes mem (look_data m) ys
     → Equal ≡ looks_order names l m xs ys
 conses-same mem names l m p q xs ys el em hx hy =
-    let ex : xs ≡ [] = no-more xs (sym (ap (λ z. (look_data z).len) el) ∙ hx.count) in
-    let ey : ys ≡ [] = no-more ys (sym (ap (λ z. (look_data z).len) em) ∙ hy.count) in
+    let ex : xs ≡ [] = nil_from_length xs (sym (sym (ap (λ z. (look_data z).len) el) ∙ hx.count)) in
+    let ey : ys ≡ [] = nil_from_length ys (sym (sym (ap (λ z. (look_data z).len) em) ∙ hy.count)) in
     sym (λ i. looks_order names (el i) (em i) (ex i) (ey i))

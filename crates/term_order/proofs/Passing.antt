@@ -1,5 +1,6 @@
 -- Cells with the same immediates as their heads are passed over in two lists.
 use Rattle.std.proofs.Common.{◌≡◌, ℕ, ◌+◌, ◌-◌, ◌*◌, ◌/◌, ◌≤◌, ◌||◌, nat_lt, min, max, Bool, true, false, List, [], length, get_or, refl, sym, ◌∙◌, ap, ap₂, subst, arith, inl, inr}
+use Rattle.std.proofs.lemmas.Bool.{or_parts, or_right, or_left, or_from, and_parts, cond-true, cond-false}
 use Rattle.std.proofs.lemmas.Bool.Decides.{nat_tests}
 use Rattle.std.proofs.lemmas.Cmp.{tied_itself}
 use Rattle.std.specs.Ordering.{ordering_then}
@@ -21,12 +22,10 @@ use Rattle.term_walk.specs.declared.measured.Measure.{Measure}
 use Rattle.term_walk.specs.declared.measured.Measured.TheVariants.{Within, Beyond}
 use Rattle.term_walk.proofs.Passing.{IsSlight, slight, cell-passed}
 use Rattle.term_walk.proofs.Steps.{parted, chosen}
-use Rattle.term_walk.proofs.Sums.{when-true, when-false, or-false, or-left, or-right}
 use Rattle.term_order.specs.declared.compared.Compared.TheVariants as answer
 use Rattle.term_order.specs.Named.{is_named}
 use Rattle.term_order.specs.Compared.{AreNamed, BothWithin, Orders, Compares, answer_of}
 use Rattle.term_order.specs.Runs.{AreBoth, IsSameCell, PassedBoth, PassesBoth, is_beyond_after}
-use Rattle.term_order.proofs.Owning.{both-true}
 
 -- Nothing is passed.
 pub passes-both-none : (mem : List ℕ) (a b : ℕ) → PassesBoth mem a b a b 0
@@ -47,7 +46,7 @@ order-cells names shared h k t u same =
     ap (λ z. ordering_then (order names shared z k) (order names shared t u)) same ∙ ap (λ z. ordering_then z (order names shared t u)) (tied_itself (order-total names shared) k)
 
 named-tail : (n : ℕ) (t h u : Tree) → t ≡ Cons h u → is_named n t ≡ true → is_named n u ≡ true
-named-tail n t h u e q = (both-true (is_named n h) (is_named n u) (sym (ap (is_named n) e) ∙ q)).1
+named-tail n t h u e q = (and_parts (is_named n h) (is_named n u) (sym (ap (is_named n) e) ∙ q)).1
 
 cells-passed : (c : ℕ → ℕ → Bool) (shared : List (List ℕ)) (mem : List ℕ) (names : List (List ℕ)) (t u h k x y : Tree) (left right v w cells : ℕ)
     → (p : PassedBoth c shared mem names t u left right cells)
@@ -122,8 +121,8 @@ many-after : (shared : List (List ℕ)) (cells : ℕ) (t : Tree) → is_beyond s
 many-after shared cells t e = many (nat_lt node_limit (nodes shared t)) refl e
   where
     many : (b : Bool) → nat_lt node_limit (nodes shared t) ≡ b → (b || nat_lt depth_limit (depth t)) ≡ true → true ≡ is_beyond_after shared cells t
-    many true f e = sym (or-left (nat_lt node_limit (2 * cells + nodes shared t)) (nat_lt depth_limit (depth t)) (grind (arith, nat_tests, f)))
-    many false f e = sym (or-right (nat_lt node_limit (2 * cells + nodes shared t)) (nat_lt depth_limit (depth t)) e)
+    many true f e = sym (or_left (nat_lt node_limit (2 * cells + nodes shared t)) (nat_lt depth_limit (depth t)) (grind (arith, nat_tests, f)))
+    many false f e = sym (or_right (nat_lt node_limit (2 * cells + nodes shared t)) (nat_lt depth_limit (depth t)) e)
 
 never : (m : Measure) → Within m ≡ Beyond → ⊥
 never m e = cc
@@ -133,14 +132,6 @@ after-beyond shared cells t e = elim (chosen (is_beyond shared t) Beyond (Within
   | inl b ↦ many-after shared cells t b.0
   | inr b ↦ absurd (never (record { nodes = nodes shared t; flat = flat t }) b.1)
 ]
-
-first-false : (a b : Bool) → (a || b) ≡ false → a ≡ false
-first-false true b e = absurd cc
-first-false false b e = refl
-
-second-false : (a b : Bool) → (a || b) ≡ false → b ≡ false
-second-false true b e = absurd cc
-second-false false b e = e
 
 only-first : (a b : Bool) → b ≡ false → a ≡ (a || b)
 only-first true b e = refl
@@ -153,7 +144,7 @@ few-after : (shared : List (List ℕ)) (cells n : ℕ) (t : Tree) → 2 * cells 
     → nat_lt (node_limit - 2 * cells) n ≡ is_beyond_after shared cells t
 few-after shared cells n t few e same =
     moved-over node_limit (2 * cells) n (nodes shared t) few same
-    ∙ only-first (nat_lt node_limit (2 * cells + nodes shared t)) (nat_lt depth_limit (depth t)) (second-false (nat_lt node_limit (nodes shared t)) (nat_lt depth_limit (depth t)) e)
+    ∙ only-first (nat_lt node_limit (2 * cells + nodes shared t)) (nat_lt depth_limit (depth t)) ((or_parts (nat_lt node_limit (nodes shared t)) (nat_lt depth_limit (depth t)) e).1)
 
 pub after-within : (shared : List (List ℕ)) (cells : ℕ) (m : Measure) (t : Tree) → 2 * cells ≤ node_limit → Within m ≡ measured shared t
     → nat_lt (node_limit - 2 * cells) m.nodes ≡ is_beyond_after shared cells t
@@ -172,9 +163,9 @@ fewer most k n e = grind (arith, nat_tests, e)
 
 within-alone : (shared : List (List ℕ)) (cells : ℕ) (t : Tree) → false ≡ is_beyond_after shared cells t → is_beyond shared t ≡ false
 within-alone shared cells t e =
-    or-false (nat_lt node_limit (nodes shared t)) (nat_lt depth_limit (depth t))
-    (fewer node_limit (2 * cells) (nodes shared t) (first-false (nat_lt node_limit (2 * cells + nodes shared t)) (nat_lt depth_limit (depth t)) (sym e)))
-    (second-false (nat_lt node_limit (2 * cells + nodes shared t)) (nat_lt depth_limit (depth t)) (sym e))
+    or_from (nat_lt node_limit (nodes shared t)) (nat_lt depth_limit (depth t))
+    (fewer node_limit (2 * cells) (nodes shared t) ((or_parts (nat_lt node_limit (2 * cells + nodes shared t)) (nat_lt depth_limit (depth t)) (sym e)).0))
+    ((or_parts (nat_lt node_limit (2 * cells + nodes shared t)) (nat_lt depth_limit (depth t)) (sym e)).1)
 
 -- What was found of the limit: of each tree that the word stands for.
 abbrev pub FindsBeyond : (mem : List ℕ) (w cells : ℕ) → Bool → Type 0
@@ -191,7 +182,7 @@ module _ (mem : List ℕ) (names : List (List ℕ)) (a b left right cells : ℕ)
     each = λ c shared t u s r.
         let p : PassedBoth c shared mem names t u left right cells = passed.each c shared names t u s r in
         let beyond : is_beyond shared t ≡ true = beyond-after c shared mem t left cells p.first ∙ sym (f c shared p.first.rest p.first.standing) in
-        sym (when-true (is_beyond shared t || is_beyond shared u) answer.Beyond (answer_of (order names shared t u)) (or-left (is_beyond shared t) (is_beyond shared u) beyond));
+        sym (cond-true (is_beyond shared t || is_beyond shared u) answer.Beyond (answer_of (order names shared t u)) (or_left (is_beyond shared t) (is_beyond shared u) beyond));
   }
 
   pub second-beyond : FindsBeyond mem right cells true → Compares mem names a b answer.Beyond
@@ -199,7 +190,7 @@ module _ (mem : List ℕ) (names : List (List ℕ)) (a b left right cells : ℕ)
     each = λ c shared t u s r.
         let p : PassedBoth c shared mem names t u left right cells = passed.each c shared names t u s r in
         let beyond : is_beyond shared u ≡ true = beyond-after c shared mem u right cells p.second ∙ sym (f c shared p.second.rest p.second.standing) in
-        sym (when-true (is_beyond shared t || is_beyond shared u) answer.Beyond (answer_of (order names shared t u)) (or-right (is_beyond shared t) (is_beyond shared u) beyond));
+        sym (cond-true (is_beyond shared t || is_beyond shared u) answer.Beyond (answer_of (order names shared t u)) (or_right (is_beyond shared t) (is_beyond shared u) beyond));
   }
 
   pub first-term-behind : AreNamed mem names a b → IsTerm mem left
@@ -216,5 +207,5 @@ module _ (mem : List ℕ) (names : List (List ℕ)) (a b left right cells : ℕ)
         let one : is_beyond shared t ≡ false = beyond-after c shared mem t left cells p.first ∙ sym (f c shared p.first.rest p.first.standing) in
         let two : is_beyond shared u ≡ false = beyond-after c shared mem u right cells p.second ∙ sym (g c shared p.second.rest p.second.standing) in
         ap answer_of (sym is ∙ found.each c shared p.first.rest p.second.rest p.first.standing p.second.standing ∙ sym p.order_is)
-        ∙ sym (when-false (is_beyond shared t || is_beyond shared u) answer.Beyond (answer_of (order names shared t u)) (or-false (is_beyond shared t) (is_beyond shared u) one two));
+        ∙ sym (cond-false (is_beyond shared t || is_beyond shared u) answer.Beyond (answer_of (order names shared t u)) (or_from (is_beyond shared t) (is_beyond shared u) one two));
   }

@@ -1,5 +1,6 @@
 -- Two walks side by side.
 use Rattle.std.proofs.Common.{◌≡◌, ℕ, ◌+◌, ◌<◌, ◌≤◌, ◌||◌, ◌==◌, not, nat_lt, max, Bool, true, false, List, [], length, refl, sym, ◌∙◌, ap, subst, arith, Option, Some, None}
+use Rattle.std.proofs.lemmas.Bool.{and_parts}
 use Rattle.std.proofs.lemmas.Bool.Decides.{nat_tests}
 use Rattle.std.specs.Ordering.{ordering_then, ordering_index}
 use Rattle.std.specs.declared.cmp.Ordering.{Ordering}
@@ -26,7 +27,7 @@ use Rattle.term_walk.proofs.Sums.{nodes-append, nodes-own}
 use Rattle.term_order.specs.Named.{is_named, are_named}
 use Rattle.term_order.specs.Own.{look_data, IsReadable, IsBytes, looks_order}
 use Rattle.term_order.specs.Compared.{AreNamed, BothWithin, Orders, at_end, IsDeeper, IsStep, StepsOn}
-use Rattle.term_order.proofs.Owning.{own_order, order-own, order-append, own-len, own-bytes, looks-own, readable, both-true, step-named}
+use Rattle.term_order.proofs.Owning.{own_order, order-own, order-append, own-len, own-bytes, looks-own, readable, step-named}
 
 -- A walk over a tree is at a word, after so many steps: no more nodes are left, it is nowhere deeper, and it meets no other names.
 pub record Walking (c : ℕ → ℕ → Bool) (shared : List (List ℕ)) (mem : List ℕ) (n : ℕ) (t : Tree) (word : ℕ) (levels : List Rest) (steps : ℕ) : Type 0 where
@@ -107,7 +108,7 @@ one-tree shared (Part base offset len) = omega arith
 one-tree shared (Fun f a c env) = omega arith
 
 past-named : (n : ℕ) (next : Tree) (rest after : Trees) → are_named n rest ≡ true → rest ≡ next ▹ after → (is_named n next ≡ true) × (are_named n after ≡ true)
-past-named n next rest after q e = both-true (is_named n next) (are_named n after) (sym (ap (are_named n) e) ∙ q)
+past-named n next rest after q e = and_parts (is_named n next) (are_named n after) (sym (ap (are_named n) e) ∙ q)
 
 walk-past : (c : ℕ → ℕ → Bool) (shared : List (List ℕ)) (mem : List ℕ) (n : ℕ) (t : Tree) (word next : ℕ) (levels new : List Rest) (steps : ℕ)
     → (k : Walking c shared mem n t word levels steps) → GoesNext c shared mem levels k.rests (Some next) new → Walking c shared mem n t next new (steps + 1)

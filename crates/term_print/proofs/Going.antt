@@ -1,7 +1,8 @@
 -- How printing goes on: what was written, with what is left, is the text of the whole term.
-use Rattle.std.proofs.Common.{◌≡◌, ℕ, ◌+◌, ◌^◌, ◌<◌, ◌≤◌, ◌||◌, nat_lt, nat_eq, Bool, true, false, List, [], ◌∷◌, ◌++◌, length, reverse, get_or, refl, sym, ap, ◌∙◌, subst, arith, append_assoc, append-nil, Option, Some, None, Result, Ok, Err, ◌⊎◌, inl, inr}
+use Rattle.std.proofs.Common.{◌≡◌, ℕ, ◌+◌, ◌^◌, ◌<◌, ◌≤◌, nat_lt, nat_eq, Bool, true, false, List, [], ◌∷◌, ◌++◌, length, reverse, get_or, refl, sym, ap, ◌∙◌, subst, arith, append_assoc, append-nil, Option, Some, None, Result, Ok, Err, ◌⊎◌, inl, inr}
+use Rattle.std.proofs.lemmas.Bool.{or_parts, ltb-false, and_parts}
 use Rattle.std.proofs.lemmas.Bool.Decides.{nat_tests}
-use Rattle.std.proofs.lemmas.List.{reverse-append, length-reverse}
+use Rattle.std.proofs.lemmas.List.{length-reverse}
 use Rattle.std.specs.Prelude.{IsErr}
 use Rattle.line_io.specs.Sink.{Grew, Written}
 use Rattle.line_io.proofs.Growth.{Grew-nil, Grew-append}
@@ -12,8 +13,8 @@ use Rattle.plain_term.specs.Text.{text, text_as}
 use Rattle.term_words.specs.Role.{always}
 use Rattle.term_words.specs.Stands.{Stands}
 use Rattle.term_order.specs.Named.{is_named, are_named}
-use Rattle.term_order.proofs.Owning.{both-true}
 use Rattle.term_order.proofs.Walks.{one-tree}
+use Rattle.term_walk.proofs.Steps.{popped}
 use Rattle.term_print.specs.declared.levels.Level.{Level}
 use Rattle.term_print.specs.declared.levels.Part.{Part}
 use Rattle.term_print.specs.declared.levels.Step.TheVariants as step
@@ -184,7 +185,7 @@ comes-part {K} c shared mem names t l ls p seen wrote start now e g =
       fits = λ f.
           let P : List Trees → Type 0 = λ z. StaysPrintable (length names) shared (l ∷ ls) z seen in
           let s : StaysPrintable (length names) shared (l ∷ ls) (top.top ∷ top.others) seen = subst P top.cons (g.fits f) in
-          let (named, after_named) = both-true (is_named (length names) k.now) (are_named (length names) k.after) (sym (ap (are_named (length names)) k.order) ∙ s.named.0) in
+          let (named, after_named) = and_parts (is_named (length names) k.now) (are_named (length names) k.after) (sym (ap (are_named (length names)) k.order) ∙ s.named.0) in
           let (shallow, room) = v.shallow k.now (reach l top.top) k.deep s.shallow.0 s.shallow.1 in
           record {
             few = omega (arith, s.few, v.count, ap (nodes_of_all shared) k.order);
@@ -287,9 +288,6 @@ all-came {K} {E} c shared mem names t levels seen wrote faults start now u none 
 
 -- The levels as a stack keeps them: the innermost one last. All this is so for each tree that the first word stands for.
 
-pub popped : (xs ys : List Level) (l : Level) → xs ≡ ys ++ l ∷ [] → reverse xs ≡ l ∷ reverse ys
-popped xs ys l e = ap reverse e ∙ reverse-append ys (l ∷ [])
-
 pub prints-popped : {K : Type 0} (mem : List ℕ) (names : List (List ℕ)) (first : ℕ) (xs ys : List Level) (l : Level) (seen : ℕ) (wrote : K → List ℕ → Type 0) (start now : K) → xs ≡ ys ++ l ∷ []
     → PrintsEach mem names first (reverse xs) seen wrote start now → PrintsEach mem names first (l ∷ reverse ys) seen wrote start now
 prints-popped {K} mem names first xs ys l seen wrote start now e p = let P : List Level → Type 0 = λ z. PrintsEach mem names first z seen wrote start now in subst P (popped xs ys l e) p
@@ -377,17 +375,10 @@ prints-all mem names w levels seen wrote faults start now u none same p = λ c s
 
 -- What the calls of a step ask for.
 
-at-most : (a b : ℕ) → nat_lt a b ≡ false → b ≤ a
-at-most a b e = grind (arith, nat_tests)
-
-none-true : (a b : Bool) → (a || b) ≡ false → (a ≡ false) × (b ≡ false)
-none-true true b e = absurd cc
-none-true false b e = (refl, e)
-
 pub printable : (mem : List ℕ) (names : List (List ℕ)) (w : ℕ) → (h : CanPrint mem names w) → IsPrintable (length names) h.shared h.tree
 printable mem names w h =
-    let (few, shallow) = none-true (nat_lt node_limit (nodes h.shared h.tree)) (nat_lt depth_limit (depth h.tree)) h.within in
-    record { few = at-most node_limit (nodes h.shared h.tree) few; shallow = at-most depth_limit (depth h.tree) shallow; named = h.named }
+    let (few, shallow) = or_parts (nat_lt node_limit (nodes h.shared h.tree)) (nat_lt depth_limit (depth h.tree)) h.within in
+    record { few = ltb-false node_limit (nodes h.shared h.tree) few; shallow = ltb-false depth_limit (depth h.tree) shallow; named = h.named }
 
 pub first-begins : (mem : List ℕ) (names : List (List ℕ)) (w : ℕ) → CanPrint mem names w → CanBegin mem names w
 first-begins mem names w h = record { shared = h.shared; now = h.tree; standing = h.standing; named = h.named }

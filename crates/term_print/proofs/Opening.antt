@@ -1,5 +1,6 @@
 -- What a look at a word tells of the text of its tree: its own text, and the level of its parts.
 use Rattle.std.proofs.Common.{◌≡◌, ℕ, ◌+◌, ◌/◌, ◌≤◌, Bool, true, false, List, ◌++◌, length, get_or, refl, sym, ap, ◌∙◌, subst, arith, inl, inr, Option, Result, Err}
+use Rattle.std.proofs.lemmas.Bool.{and_from, and_parts}
 use Rattle.std.specs.Fmt.{signed_decimal}
 use Rattle.std.specs.Prelude.{IsErr}
 use Rattle.line_io.specs.Sink.{Grew, Written}
@@ -15,7 +16,7 @@ use Rattle.term_read.specs.declared.looks.Look.{Look}
 use Rattle.term_read.specs.declared.looks.Look.TheVariants as look
 use Rattle.term_order.specs.Named.{is_named, are_named}
 use Rattle.term_order.specs.Own.{IsReadable}
-use Rattle.term_order.proofs.Owning.{both-true, both-are, readable, signed-is}
+use Rattle.term_order.proofs.Owning.{readable, signed-is}
 use Rattle.term_print.specs.declared.levels.Level.{Level}
 use Rattle.term_print.specs.Left.{after_level, in_turn, level_in}
 use Rattle.term_print.specs.Own.{own_text}
@@ -41,8 +42,8 @@ cons-opens c shared mem names w false h t within sh st = record {
   some = omega arith;
   deep = omega arith;
   named = λ p.
-      let (head, tail) = both-true (is_named (length names) h) (is_named (length names) t) p in
-      both-are (is_named (length names) h) (are_named (length names) (t ▹ end)) head (both-are (is_named (length names) t) true tail refl);
+      let (head, tail) = and_parts (is_named (length names) h) (is_named (length names) t) p in
+      and_from (is_named (length names) h) (are_named (length names) (t ▹ end)) head (and_from (is_named (length names) t) true tail refl);
 }
 cons-opens c shared mem names w true h t within sh st = record {
   parts = h ▹ (t ▹ end);
@@ -52,8 +53,8 @@ cons-opens c shared mem names w true h t within sh st = record {
   some = omega arith;
   deep = omega arith;
   named = λ p.
-      let (head, tail) = both-true (is_named (length names) h) (is_named (length names) t) p in
-      both-are (is_named (length names) h) (are_named (length names) (t ▹ end)) head (both-are (is_named (length names) t) true tail refl);
+      let (head, tail) = and_parts (is_named (length names) h) (is_named (length names) t) p in
+      and_from (is_named (length names) h) (are_named (length names) (t ▹ end)) head (and_from (is_named (length names) t) true tail refl);
 }
 
 pub opens : (c : ℕ → ℕ → Bool) (shared : List (List ℕ)) (mem : List ℕ) (names : List (List ℕ)) (w : ℕ) (tail : Bool) (now : Tree) (l : Look) → IsSeen c shared mem w now l

@@ -1,5 +1,6 @@
 -- What is gathered of a list.
 use Rattle.std.proofs.Common.{◌≡◌, ℕ, ◌+◌, ◌≤◌, Bool, true, false, List, [], ◌++◌, codes, length, get_or, refl, sym, ap, ◌∙◌, subst, arith, append_assoc, ℤ}
+use Rattle.std.proofs.lemmas.Bool.{and_parts}
 use Rattle.std.specs.Fmt.{signed_decimal}
 use Rattle.plain_term.specs.Tree.{Tree, Trees}
 use Rattle.plain_term.specs.Tree.Trees.{end, ◌▹◌}
@@ -9,7 +10,6 @@ use Rattle.term_words.specs.Stands.{Stands}
 use Rattle.term_read.specs.Look.{Sees}
 use Rattle.term_read.specs.declared.looks.Look.TheVariants as look
 use Rattle.term_order.specs.Named.{is_named, are_named}
-use Rattle.term_order.proofs.Owning.{both-true}
 use Rattle.term_print.specs.declared.levels.Level.{Level}
 use Rattle.term_print.specs.declared.levels.Level.TheVariants as level
 use Rattle.term_print.specs.Left.{AreTwo, IsLeft, level_text, list_text}
@@ -49,7 +49,7 @@ two-gathered c shared mem names place next i h t e o = record {
   whole = ap (λ z. z ++ text_as names shared true t) e ∙ ap (λ z. signed_decimal i ++ z) o.whole ∙ sym (append_assoc (signed_decimal i) (codes ",") (list_text names shared o.parts));
   fewer = omega (arith, o.fewer);
   deep = omega (arith, o.deep);
-  named = λ p. o.named (both-true (is_named (length names) t) true (both-true (is_named (length names) h) (are_named (length names) (t ▹ end)) p).1).0;
+  named = λ p. o.named (and_parts (is_named (length names) t) true (and_parts (is_named (length names) h) (are_named (length names) (t ▹ end)) p).1).0;
 }
 
 pub cell-gathered : (c : ℕ → ℕ → Bool) (shared : List (List ℕ)) (mem : List ℕ) (names : List (List ℕ)) (place next v w : ℕ) (i : ℤ) (ts : Trees) → v ≡ get_or mem place 0 → w ≡ get_or mem (place + 1) 0

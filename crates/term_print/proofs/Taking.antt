@@ -1,6 +1,6 @@
 -- What a level writes next.
 use Rattle.std.proofs.Common.{◌≡◌, ℕ, ◌+◌, ◌<◌, ◌≤◌, ◌^◌, nat_eq, Bool, true, false, List, [], ◌++◌, length, get_or, refl, sym, ap, ◌∙◌, subst, arith, append_assoc, append-nil, inl, inr, Option, Some, None}
-use Rattle.std.proofs.lemmas.Bool.Decides.{nat_tests}
+use Rattle.std.proofs.lemmas.Bool.{eqb-true}
 use Rattle.plain_term.specs.Tree.{Tree, Trees, Pairs, pairs_len}
 use Rattle.plain_term.specs.Tree.Trees.{end, ◌▹◌}
 use Rattle.plain_term.specs.Tree.Pairs.{stop, pair}
@@ -10,7 +10,7 @@ use Rattle.term_words.specs.Stands.{Stands, RowStands, KeysStand, ValuesStand}
 use Rattle.term_read.specs.declared.looks.Row.{Row}
 use Rattle.term_read.specs.declared.looks.PairRows.{PairRows}
 use Rattle.term_walk.specs.Left.{RowStandsFor, IsTail}
-use Rattle.term_walk.proofs.Steps.{chosen}
+use Rattle.term_walk.proofs.Steps.{chosen, not-zero, row-end}
 use Rattle.term_print.specs.declared.levels.Mark.{Mark}
 use Rattle.term_print.specs.declared.levels.Mark.TheVariants.{Nothing, Comma, Arrow}
 use Rattle.term_print.specs.declared.levels.Level.{Level}
@@ -54,12 +54,6 @@ took-as c shared mem names l got want ts e t =
 
 end-part : (last : Bool) (p : Part) → step.End last ≡ step.Part p → ⊥
 end-part last p e = cc
-
-is-zero : (n : ℕ) → nat_eq n 0 ≡ true → n ≡ 0
-is-zero n e = grind (arith, nat_tests)
-
-not-zero : (n : ℕ) → nat_eq n 0 ≡ false → 0 < n
-not-zero n e = grind (arith, nat_tests)
 
 -- A list has its head, and then its tail.
 
@@ -112,10 +106,6 @@ row-took c shared mem names row mark last (t ▹ ts) r some = record {
   left = record { count = omega (arith, r.count); within = omega (arith, r.within); standing = r.standing.1 };
   deep = (omega arith, omega arith);
 }
-
-row-end : (c : ℕ → ℕ → Bool) (shared : List (List ℕ)) (mem : List ℕ) (row : Row) (ts : Trees) → RowStandsFor c shared mem row ts → row.len ≡ 0 → ts ≡ end
-row-end c shared mem row end r none = refl
-row-end c shared mem row (t ▹ ts) r none = absurd (omega (arith, r.count))
 
 -- Pairs have a key, and then its value and the other pairs.
 
@@ -187,13 +177,13 @@ pub ends : (c : ℕ → ℕ → Bool) (shared : List (List ℕ)) (mem : List ℕ
 ends c shared mem names (level.List place) last ts r e = absurd (end-part last _ (sym e))
 ends c shared mem names (level.Tail place) last ts r e = absurd (end-part last _ (sym e))
 ends c shared mem names (level.Parts row mark x) last ts r e = elim (chosen (nat_eq row.len 0) (step.End x) (step.Part (part_taken row mark x)) (step.End last) e) [
-  | inl t ↦ let same : x ≡ last = cc in ap (λ z. row_text names shared false mark z ++ closing x) (row-end c shared mem row ts r (is-zero row.len t.0)) ∙ ap closing same
+  | inl t ↦ let same : x ≡ last = cc in ap (λ z. row_text names shared false mark z ++ closing x) (row-end c shared mem row ts r (eqb-true row.len 0 t.0)) ∙ ap closing same
   | inr f ↦ absurd (end-part last _ (sym f.1))
 ]
 ends c shared mem names (level.Pairs rows mark x) last ts r e = elim (chosen (nat_eq rows.len 0) (step.End x) (step.Part (pair_taken rows mark x)) (step.End last) e) [
   | inl t ↦
       let same : x ≡ last = cc in
-      ap (λ z. row_text names shared true mark z ++ closing x) (r.left ∙ unwritten-end mark r.pairs (sym r.count ∙ is-zero rows.len t.0)) ∙ ap closing same
+      ap (λ z. row_text names shared true mark z ++ closing x) (r.left ∙ unwritten-end mark r.pairs (sym r.count ∙ eqb-true rows.len 0 t.0)) ∙ ap closing same
   | inr f ↦ absurd (end-part last _ (sym f.1))
 ]
 

@@ -1,12 +1,12 @@
 -- The texts of parts, by the marks before them.
 use Rattle.std.proofs.Common.{◌≡◌, ℕ, Bool, true, false, ◌&&◌, List, ◌++◌, codes, refl, ap, ◌∙◌, arith, append_assoc}
+use Rattle.std.proofs.lemmas.Bool.{and_from, and_parts}
 use Rattle.plain_term.specs.Tree.{Trees, Pairs}
 use Rattle.plain_term.specs.Tree.Trees.{end, ◌▹◌}
 use Rattle.plain_term.specs.Tree.Pairs.{stop, pair}
 use Rattle.plain_term.specs.Measures.{nodes_of_all, nodes_of_pairs, greatest_depth, greatest_depth_of_pairs}
 use Rattle.plain_term.specs.Text.{text_as, text_of_all, more_terms, text_of_pairs, more_pairs, placed}
 use Rattle.term_order.specs.Named.{is_named, are_named, pairs_named}
-use Rattle.term_order.proofs.Owning.{both-true, both-are}
 use Rattle.term_print.specs.declared.levels.Mark.TheVariants.{Nothing, Comma}
 use Rattle.term_print.specs.Left.{closing, in_turn, row_text}
 use Rattle.term_print.specs.Own.{tuple_begun, map_begun}
@@ -58,6 +58,6 @@ deep-turn (pair k v ps) = omega (arith, deep-turn ps)
 pub named-turn : (n : ℕ) (ps : Pairs) → pairs_named n ps ≡ true → are_named n (in_turn ps) ≡ true
 named-turn n stop p = refl
 named-turn n (pair k v ps) p =
-    let (first, others) = both-true (is_named n k && is_named n v) (pairs_named n ps) p in
-    let (key, value) = both-true (is_named n k) (is_named n v) first in
-    both-are (is_named n k) (is_named n v && are_named n (in_turn ps)) key (both-are (is_named n v) (are_named n (in_turn ps)) value (named-turn n ps others))
+    let (first, others) = and_parts (is_named n k && is_named n v) (pairs_named n ps) p in
+    let (key, value) = and_parts (is_named n k) (is_named n v) first in
+    and_from (is_named n k) (is_named n v && are_named n (in_turn ps)) key (and_from (is_named n v) (are_named n (in_turn ps)) value (named-turn n ps others))

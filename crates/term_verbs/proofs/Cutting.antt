@@ -1,6 +1,7 @@
 -- The bytes of a binary: what a look tells of them, and whether a part of them is there.
-use Rattle.std.proofs.Common.{◌≡◌, ℕ, ◌+◌, ◌-◌, ◌/◌, ◌<◌, ◌≤◌, ◌&&◌, Bool, true, false, nat_le, List, length, get_or, Option, Some, None, if◌then◌else◌, refl, sym, ◌∙◌, ap, subst, arith, inl, inr}
-use Rattle.std.proofs.lemmas.Bool.Decides.{nat_tests}
+use Rattle.std.proofs.Common.{◌≡◌, ℕ, ◌+◌, ◌-◌, ◌/◌, ◌<◌, ◌≤◌, Bool, true, false, nat_le, List, length, get_or, Option, Some, None, if◌then◌else◌, refl, sym, ◌∙◌, ap, subst, arith, inl, inr}
+use Rattle.std.proofs.lemmas.Bool.{leb-true}
+use Rattle.std.proofs.lemmas.Option.{same_Some}
 use Rattle.std.specs.Option.{is_some}
 use Rattle.plain_term.specs.Tree.{Tree}
 use Rattle.plain_term.specs.Tree.Tree.{Int, Atom, Pid, Ref, Nil, Cons, Tuple, Map, Bin, Shared, Part, Fun}
@@ -86,10 +87,7 @@ fits c shared mem _ cut offset len i = absurd cc
 -- A part that is there has no more bytes than the binary.
 pub part-fits : (c : ℕ → ℕ → Bool) (shared : List (List ℕ)) (mem : List ℕ) (t : Tree) (cut : Cut) (offset len : ℕ) → IsCut c shared mem t (Some cut)
     → is_some (part_in shared offset len t) ≡ true → offset + len ≤ cut.len
-part-fits c shared mem t cut offset len i has = at-most (offset + len) cut.len (sym (fits c shared mem t cut offset len i) ∙ has)
-  where
-    at-most : (m n : ℕ) → nat_le m n ≡ true → m ≤ n
-    at-most m n h = grind (arith, nat_tests, h)
+part-fits c shared mem t cut offset len i has = leb-true (offset + len) cut.len (sym (fits c shared mem t cut offset len i) ∙ has)
 
 -- The part is one of the original.
 pub record PartAt (c : ℕ → ℕ → Bool) (shared : List (List ℕ)) (mem : List ℕ) (cut : Cut) (offset len : ℕ) (u : Tree) : Type 0 where
@@ -104,23 +102,17 @@ record Chosen (b : Bool) (t u : Tree) : Type 0 where
   same : t ≡ u
 
 if-some : (b : Bool) (t u : Tree) → (if b then Some t else None) ≡ Some u → Chosen b t u
-if-some true t u e = record { yes = refl; same = some-is t u e }
-  where
-    some-is : (x y : Tree) → Some x ≡ Some y → x ≡ y
-    some-is x y e = cc
+if-some true t u e = record { yes = refl; same = same_Some t u e }
 if-some false t u e = absurd (none-some e)
   where
     none-some : None ≡ Some u → ⊥
     none-some e = cc
 
-at-most : (m n : ℕ) → nat_le m n ≡ true → m ≤ n
-at-most m n h = grind (arith, nat_tests, h)
-
 part-from : (c : ℕ → ℕ → Bool) (shared : List (List ℕ)) (mem : List ℕ) (base u : Tree) (start n : ℕ) (cut : Cut) (offset len from : ℕ) → from ≡ start + offset
     → IsCutFrom c shared mem base start n (Some cut) → (if nat_le (offset + len) n then Some (Part base from len) else None) ≡ Some u → PartAt c shared mem cut offset len u
 part-from c shared mem base u start n cut offset len from at i e =
     let chosen = if-some (nat_le (offset + len) n) (Part base from len) u e in
-    let few : offset + len ≤ n = at-most (offset + len) n chosen.yes in
+    let few : offset + len ≤ n = leb-true (offset + len) n chosen.yes in
     let same : cut ≡ i.cut = cut-is cut i.cut i.is in
     let first : cut.start ≡ start = ap (λ z. z.start) same ∙ i.first in
     let there : cut.start + offset ≡ from = omega (arith, first, at) in

@@ -1,6 +1,7 @@
 -- The part that is picked: what its word stands for.
 use Rattle.std.proofs.Common.{◌≡◌, ℕ, zero, suc, ◌+◌, ◌/◌, ◌<◌, ◌≤◌, ◌&&◌, Bool, true, false, List, get_or, Option, Some, None, if◌then◌else◌, nat_lt, refl, sym, ◌∙◌, subst, arith}
 use Rattle.std.proofs.lemmas.Bool.{and_parts}
+use Rattle.std.proofs.lemmas.Option.{same_Some}
 use Rattle.std.specs.Option.{IfSome}
 use Rattle.std.specs.Ordering.{is_eq}
 use Rattle.std.specs.declared.cmp.Ordering.{Ordering}
@@ -32,11 +33,8 @@ use Rattle.term_verbs.proofs.Mapping.{RowsAre, seen-map}
 use Rattle.term_verbs.proofs.Seeking.{first-below, rise-rest}
 
 -- The names of a part are names of the whole.
-inside : (t u : Tree) → Some t ≡ Some u → t ≡ u
-inside t u e = cc
-
 named-as : (n : ℕ) (t u : Tree) → Some t ≡ Some u → is_named n t ≡ true → is_named n u ≡ true
-named-as n t u e h = let P : Tree → Type 0 = λ z. is_named n z ≡ true in subst P (inside t u e) h
+named-as n t u e h = let P : Tree → Type 0 = λ z. is_named n z ≡ true in subst P (same_Some t u e) h
 
 -- The part that f names has no names but those of the tree.
 abbrev pub KeepsNames : (Tree → Option Tree) → Type 0

@@ -3,7 +3,6 @@ use Rattle.std.proofs.Common.{◌≡◌, ℕ, zero, suc, ◌+◌, ◌<◌, ◌�
 use Rattle.std.proofs.lemmas.Bool.{and_parts}
 use Rattle.std.proofs.Math.Decide.{dec_le}
 use Rattle.std.specs.Ordering.{is_lt, ordering_reverse}
-use Rattle.std.specs.declared.cmp.Ordering.{Ordering}
 use Rattle.std.specs.declared.cmp.Ordering.TheVariants.{Less, Equal, Greater}
 use Rattle.plain_term.specs.Tree.{Tree, Trees, Pairs, pairs_len, keys_of}
 use Rattle.plain_term.specs.Tree.Pairs.{stop, pair}
@@ -11,18 +10,20 @@ use Rattle.plain_term.specs.Beyond.{is_beyond}
 use Rattle.plain_term.specs.Order.{order}
 use Rattle.plain_term.specs.Proper.{keys_rise}
 use Rattle.plain_term.proofs.TokenLemmas.{order-total}
+use Rattle.plain_term.proofs.Rising.{is-less as is-less-than}
 use Rattle.term_words.specs.Role.{always}
 use Rattle.term_words.specs.Stands.{Stands, tree_at}
 use Rattle.term_words.proofs.ByKind.Pairs.{keys-len, keys-row}
 use Rattle.term_words.proofs.ByKind.Shapes.{row-at}
 use Rattle.term_read.specs.declared.looks.PairRows.{PairRows}
 use Rattle.term_order.specs.Named.{is_named, pairs_named}
-use Rattle.term_order.specs.Compared.{AreNamed, Compares, answer_of, compared}
+use Rattle.term_order.specs.Compared.{AreNamed, Compares, answer_of}
 use Rattle.term_order.specs.declared.compared.Compared.{Compared}
 use Rattle.term_order.specs.declared.compared.Compared.TheVariants as answer
 use Rattle.term_maps.specs.Spots.{Finds, IsAbove}
 use Rattle.term_maps.specs.declared.sorted.Spot.TheVariants as spot
-use Rattle.term_maps.proofs.Compares.{is-equal, is-greater, is-less}
+use Rattle.term_maps.proofs.Compares.{is-equal, is-greater, is-less, compared-within}
+use Rattle.term_maps.proofs.Named.{and-first, and-second}
 use Rattle.term_maps.proofs.Putting.{key-within}
 use Rattle.term_verbs.specs.Found.{AreKeys, AreSorted, CanFind}
 
@@ -46,11 +47,6 @@ can-compare mem names rows key i f below = record {
   first_named = f.key_is_named;
   second_named = key-named (length names) f.pairs i f.pairs_are_named (omega (arith, below, f.keys.count));
 }
-
-is-less-than : (o : Ordering) → is_lt o ≡ true → o ≡ Less
-is-less-than Less h = refl
-is-less-than Equal h = absurd cc
-is-less-than Greater h = absurd cc
 
 module _ (names shared : List (List ℕ)) where
   -- The first key is less than all others.
@@ -98,9 +94,6 @@ module _ (names shared : List (List ℕ)) where
       (order-total names shared).congr k (tree_at (keys_of ps) m) (tree_at (keys_of ps) j) e ∙ turned-back (tree_at (keys_of ps) j) (tree_at (keys_of ps) m) (rise-pair ps j m h less below)
 
 -- The order that a comparison tells.
-compared-within : (names shared : List (List ℕ)) (s t : Tree) → is_beyond shared s ≡ false → is_beyond shared t ≡ false → compared names shared s t ≡ answer_of (order names shared s t)
-compared-within names shared s t hs ht = rw (hs, ht) refl
-
 pub told : (c : ℕ → ℕ → Bool) (names shared : List (List ℕ)) (mem : List ℕ) (rows : PairRows) (key i : ℕ) (ps : Pairs) (k : Tree) (r : Compared)
     → Compares mem names key (get_or mem (rows.keys + i) 0) r → i < rows.len → AreKeys c shared mem rows ps → AreSorted names shared ps → Stands c shared mem key k → is_beyond shared k ≡ false
     → r ≡ answer_of (order names shared k (tree_at (keys_of ps) i))

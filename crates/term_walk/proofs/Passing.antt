@@ -1,5 +1,6 @@
 -- Cells with heads of one node, no word and no depth are passed over.
 use Rattle.std.proofs.Common.{◌≡◌, ℕ, ◌+◌, ◌*◌, ◌/◌, ◌%◌, ◌≤◌, ◌⊎◌, max, Bool, List, length, reverse, get_or, refl, sym, ◌∙◌, ap, subst, arith, inl, inr, ℤ}
+use Rattle.std.proofs.lemmas.Bool.{cond-true}
 use Rattle.std.proofs.lemmas.List.{length-reverse}
 use Rattle.plain_term.specs.Tree.{Tree}
 use Rattle.plain_term.specs.Tree.Tree.{Int, Atom, Pid, Nil, Cons}
@@ -17,14 +18,14 @@ use Rattle.term_walk.specs.declared.measured.Measured.TheVariants.{Within}
 use Rattle.term_walk.specs.Measured.{Counting, Counts, Measures}
 use Rattle.term_walk.specs.Runs.{Passed, PassesCells}
 use Rattle.term_walk.proofs.Steps.{parted}
-use Rattle.term_walk.proofs.Sums.{when-true, is-within}
+use Rattle.term_walk.proofs.Sums.{is-within}
 
 -- A word that is no pointer stands for a tree of one node, no word and no depth.
 abbrev pub IsSlight : List (List ℕ) → Tree → Type 0
 IsSlight shared t = (nodes shared t ≡ 1) × (flat t ≡ 0) × (depth t ≡ 0)
 
 slight-int : (c : ℕ → ℕ → Bool) (mem : List ℕ) (w : ℕ) (i : ℤ) → IsInt c mem w i → w % 4 ≡ 3 → int_flat i ≡ 0
-slight-int c mem w i (inl s) tag = when-true (is_small i) 0 _ s.small
+slight-int c mem w i (inl s) tag = cond-true (is_small i) 0 _ s.small
 slight-int c mem w i (inr (inl s)) tag = absurd (omega (arith, s.boxed.tag))
 slight-int c mem w i (inr (inr s)) tag = absurd (omega (arith, s.boxed.tag))
 

@@ -1,5 +1,6 @@
 -- Where a walk goes, from what is left of it.
 use Rattle.std.proofs.Common.{◌≡◌, ℕ, ◌+◌, ◌/◌, ◌^◌, ◌<◌, ◌≤◌, ◌⊎◌, if◌then◌else◌, nat_eq, max, Bool, true, false, List, [], ◌∷◌, ◌++◌, length, reverse, get_or, refl, sym, ◌∙◌, ap, ap₂, subst, arith, inl, inr, Option, Some, None}
+use Rattle.std.proofs.lemmas.Bool.{eqb-true}
 use Rattle.std.proofs.lemmas.Bool.Decides.{nat_tests}
 use Rattle.std.proofs.lemmas.List.{reverse-append, length-reverse}
 use Rattle.plain_term.specs.Tree.{Tree, Trees, Pairs, trees_len, trees_append, keys_of, values_of}
@@ -32,13 +33,10 @@ len-end : (ts : Trees) → trees_len ts ≡ 0 → ts ≡ end
 len-end end e = refl
 len-end (t ▹ ts) e = absurd (omega (arith, e))
 
-is-zero : (n : ℕ) → nat_eq n 0 ≡ true → n ≡ 0
-is-zero n e = grind (arith, nat_tests)
-
-not-zero : (n : ℕ) → nat_eq n 0 ≡ false → 0 < n
+pub not-zero : (n : ℕ) → nat_eq n 0 ≡ false → 0 < n
 not-zero n e = grind (arith, nat_tests)
 
-row-end : (c : ℕ → ℕ → Bool) (shared : List (List ℕ)) (mem : List ℕ) (row : Row) (ts : Trees) → RowStandsFor c shared mem row ts → row.len ≡ 0 → ts ≡ end
+pub row-end : (c : ℕ → ℕ → Bool) (shared : List (List ℕ)) (mem : List ℕ) (row : Row) (ts : Trees) → RowStandsFor c shared mem row ts → row.len ≡ 0 → ts ≡ end
 row-end c shared mem row ts r zero = len-end ts (sym r.count ∙ zero)
 
 record RowTook (c : ℕ → ℕ → Bool) (shared : List (List ℕ)) (mem : List ℕ) (row : Row) (ts : Trees) : Type 0 where
@@ -67,12 +65,12 @@ none-some : {A : Type 0} (x : A) → Some x ≡ None → ⊥
 none-some x e = cc
 
 row-none : (row : Row) → row_taken row ≡ None → row.len ≡ 0
-row-none row e = elim (chosen (nat_eq row.len 0) None (Some (row.first, Some (rest.Row (row_after row)))) None e) [ inl t ↦ is-zero row.len t.0 | inr f ↦ absurd (none-some _ f.1) ]
+row-none row e = elim (chosen (nat_eq row.len 0) None (Some (row.first, Some (rest.Row (row_after row)))) None e) [ inl t ↦ eqb-true row.len 0 t.0 | inr f ↦ absurd (none-some _ f.1) ]
 
 take-none : (c : ℕ → ℕ → Bool) (shared : List (List ℕ)) (mem : List ℕ) (l : Rest) (ts : Trees) → IsLeft c shared mem l ts → taken l ≡ None → (ts ≡ end) × (inside l ≡ 1)
 take-none c shared mem (rest.Row row) ts r e = (row-end c shared mem row ts r (row-none row e), refl)
 take-none c shared mem (rest.Rows row next) ts r e = elim (chosen (nat_eq row.len 0) (row_taken next) (Some (row.first, Some (rest.Rows (row_after row) next))) None e) [
-  | inl t ↦ (r.both ∙ ap₂ trees_append (row-end c shared mem row r.firsts r.row_is (is-zero row.len t.0)) (row-end c shared mem next r.others r.next_is (row-none next t.1)), refl)
+  | inl t ↦ (r.both ∙ ap₂ trees_append (row-end c shared mem row r.firsts r.row_is (eqb-true row.len 0 t.0)) (row-end c shared mem next r.others r.next_is (row-none next t.1)), refl)
   | inr f ↦ absurd (none-some _ f.1)
 ]
 take-none c shared mem (rest.Tail place) ts r e = absurd (none-some _ e)
@@ -142,7 +140,8 @@ take-some c shared mem (rest.Row row) got ts r e = elim (chosen (nat_eq row.len 
 take-some c shared mem (rest.Rows row next) got ts r e = elim (chosen (nat_eq row.len 0) (row_taken next) (Some (row.first, Some (rest.Rows (row_after row) next))) (Some got) e) [
   | inl t ↦ elim (chosen (nat_eq next.len 0) None (Some (next.first, Some (rest.Row (row_after next)))) (Some got) t.1) [
     | inl u ↦ absurd (none-some got (sym u.1))
-    | inr f ↦ took-as c shared mem (rest.Rows row next) (next.first, Some (rest.Row (row_after next))) got ts f.1 (second-took c shared mem row next ts r (is-zero row.len t.0) (not-zero next.len f.0))
+    | inr f ↦ took-as c shared mem (rest.Rows row next) (next.first, Some (rest.Row (row_after next))) got ts f.1
+        (second-took c shared mem row next ts r (eqb-true row.len 0 t.0) (not-zero next.len f.0))
   ]
   | inr f ↦ took-as c shared mem (rest.Rows row next) (row.first, Some (rest.Rows (row_after row) next)) got ts f.1 (first-took c shared mem row next ts r (not-zero row.len f.0))
 ]
@@ -262,7 +261,7 @@ yields-none mem old new e s =
 
 -- The levels as a stack keeps them: the deepest one last.
 
-pub popped : (xs ys : List Rest) (l : Rest) → xs ≡ ys ++ l ∷ [] → reverse xs ≡ l ∷ reverse ys
+pub popped : {A : Type 0} (xs ys : List A) (l : A) → xs ≡ ys ++ l ∷ [] → reverse xs ≡ l ∷ reverse ys
 popped xs ys l e = ap reverse e ∙ reverse-append ys (l ∷ [])
 
 pub skips-popped : (mem : List ℕ) (old xs ys : List Rest) (l : Rest) → xs ≡ ys ++ l ∷ [] → Skips mem old (reverse xs) → Skips mem old (l ∷ reverse ys)

@@ -1,15 +1,17 @@
 -- What a walk has counted, and what is left to count.
-use Rattle.std.proofs.Common.{◌≡◌, ℕ, ◌+◌, ◌*◌, ◌/◌, ◌^◌, ◌<◌, ◌≤◌, nat_lt, ◌||◌, if◌then◌else◌, Bool, true, false, List, [], length, get_or, refl, sym, ◌∙◌, ap, ap₂, subst, arith, inl, inr, ℤ}
-use Rattle.std.proofs.lemmas.Bool.Decides.{nat_tests}
+use Rattle.std.proofs.Common.{◌≡◌, ℕ, ◌+◌, ◌*◌, ◌/◌, ◌^◌, ◌<◌, ◌≤◌, nat_lt, if◌then◌else◌, Bool, false, List, [], length, get_or, refl, sym, ◌∙◌, ap, ap₂, subst, arith, inl, inr, ℤ}
+use Rattle.std.proofs.lemmas.Bool.{le-ltb, lt-ltb, or_right, or_left, or_from, cond-true, cond-false}
 use Rattle.plain_term.specs.Tree.{Tree, Trees, Pairs, trees_len, pairs_len, trees_append, keys_of, values_of}
 use Rattle.plain_term.specs.Tree.Tree.{Int, Atom, Pid, Ref, Nil, Cons, Tuple, Map, Bin, Shared, Part, Fun}
 use Rattle.plain_term.specs.Tree.Trees.{end, ◌▹◌}
 use Rattle.plain_term.specs.Tree.Pairs.{stop, pair}
-use Rattle.plain_term.specs.Measures.{is_small, magnitude, int_flat, nodes, nodes_of_all, nodes_of_pairs, depth, flat, flat_of_all, flat_of_pairs}
+use Rattle.plain_term.specs.Measures.{is_small, magnitude, int_flat, nodes, nodes_of_all, nodes_of_pairs, depth, flat, flat_of_all}
 use Rattle.plain_term.specs.Bytes.{bytes_of}
 use Rattle.plain_term.specs.Beyond.{node_limit, depth_limit, is_beyond}
+use Rattle.plain_term.proofs.ListLemmas.{flat_of_all-append}
 use Rattle.term_words.specs.Role.{always}
 use Rattle.term_words.specs.Stands.{Stands, IsTerm}
+use Rattle.term_words.proofs.Reaching.Reached.{pairs-flat}
 use Rattle.term_read.specs.Look.{HasDigits, IsSeen, Sees}
 use Rattle.term_read.specs.declared.looks.Digits.{Digits}
 use Rattle.term_read.specs.declared.looks.Look.{Look}
@@ -28,17 +30,9 @@ pub nodes-append : (shared : List (List ℕ)) (ts us : Trees) → nodes_of_all s
 nodes-append shared end us = omega arith
 nodes-append shared (t ▹ ts) us = omega (arith, nodes-append shared ts us)
 
-flat-append : (ts us : Trees) → flat_of_all (trees_append ts us) ≡ flat_of_all ts + flat_of_all us
-flat-append end us = omega arith
-flat-append (t ▹ ts) us = omega (arith, flat-append ts us)
-
 nodes-rows : (shared : List (List ℕ)) (ps : Pairs) → nodes_of_pairs shared ps ≡ nodes_of_all shared (keys_of ps) + nodes_of_all shared (values_of ps)
 nodes-rows shared stop = refl
 nodes-rows shared (pair k v ps) = omega (arith, nodes-rows shared ps)
-
-flat-rows : (ps : Pairs) → flat_of_pairs ps ≡ flat_of_all (keys_of ps) + flat_of_all (values_of ps)
-flat-rows stop = refl
-flat-rows (pair k v ps) = omega (arith, flat-rows ps)
 
 -- A tree counts what its word counts, and its parts.
 
@@ -58,20 +52,12 @@ nodes-own c shared mem w (Bin bytes) l (e, from) = rw e (omega arith)
 nodes-own c shared mem w (Shared id) l (e, from) = rw e (omega arith)
 nodes-own c shared mem w (Part base offset len) l (v, e, sb, size, from) = rw e (omega (arith, size))
 
-pub when-true : {A : Type 0} (b : Bool) (x y : A) → b ≡ true → (if b then x else y) ≡ x
-when-true true x y e = refl
-when-true false x y e = absurd cc
-
-pub when-false : {A : Type 0} (b : Bool) (x y : A) → b ≡ false → (if b then x else y) ≡ y
-when-false true x y e = absurd cc
-when-false false x y e = refl
-
 right-zero : (a n : ℕ) → a ≡ n → a ≡ n + 0
 right-zero a n e = omega (arith, e)
 
 big-flat : (i : ℤ) (d : Digits) → HasDigits i d → int_flat i ≡ (if nat_lt (d.low + d.high * 2 ^ 64) (2 ^ 64) then 2 else 3)
 big-flat i d has =
-    when-false (is_small i) 0 (if nat_lt (magnitude i) (2 ^ 64) then 2 else 3) has.big ∙ ap (λ z. if nat_lt z (2 ^ 64) then 2 else 3) (sym has.digits)
+    cond-false (is_small i) 0 (if nat_lt (magnitude i) (2 ^ 64) then 2 else 3) has.big ∙ ap (λ z. if nat_lt z (2 ^ 64) then 2 else 3) (sym has.digits)
 
 has-flat : (mem : List ℕ) (l m : Look) (n : ℕ) → l ≡ m → HasFlat mem l n → HasFlat mem m n
 has-flat mem l m n e h = let P : Look → Type 0 = λ z. HasFlat mem z n in subst P e h
@@ -79,7 +65,7 @@ has-flat mem l m n e h = let P : Look → Type 0 = λ z. HasFlat mem z n in subs
 pub flat-own : (c : ℕ → ℕ → Bool) (shared : List (List ℕ)) (mem : List ℕ) (w : ℕ) (now : Tree) (l : Look) (n : ℕ) → Stands c shared mem w now → IsSeen c shared mem w now l → HasFlat mem l n
     → flat now ≡ n + flat_of_all (parts_of now)
 unfolding Stands
-flat-own c shared mem w (Int i) l n s (inl (small, e)) h = right-zero (int_flat i) n (when-true (is_small i) 0 (if nat_lt (magnitude i) (2 ^ 64) then 2 else 3) small
+flat-own c shared mem w (Int i) l n s (inl (small, e)) h = right-zero (int_flat i) n (cond-true (is_small i) 0 (if nat_lt (magnitude i) (2 ^ 64) then 2 else 3) small
     ∙ sym (has-flat mem l (look.Small i) n e h))
 flat-own c shared mem w (Int i) l n s (inr (d, has, e)) h = right-zero (int_flat i) n (big-flat i d has ∙ sym (has-flat mem l (look.Big d) n e h))
 flat-own c shared mem w (Atom k) l n s e h = right-zero 0 n (sym (has-flat mem l (look.Atom k) n e h))
@@ -92,7 +78,7 @@ flat-own c shared mem w (Tuple ts) l n s (e, within, row) h =
     omega (arith, k)
 flat-own c shared mem w (Map ps) l n s (e, keys, values, ks, vs) h =
     let k : n ≡ 4 + 2 * pairs_len ps = has-flat mem l (look.Map (record { keys = get_or mem (w / 4 + 2) 0 / 4 + 1; values = w / 4 + 3; len = pairs_len ps })) n e h in
-    omega (arith, k, flat-rows ps, flat-append (keys_of ps) (values_of ps))
+    omega (arith, k, pairs-flat ps, flat_of_all-append (keys_of ps) (values_of ps))
 flat-own c shared mem w (Fun name arity creator env) l n s (e, within, row) h =
     let k : n ≡ 6 + trees_len env = has-flat mem l (look.Fun (record { name = name; arity = arity; creator = creator; env = record { first = w / 4 + 6; len = trees_len env } })) n e h in
     omega (arith, k)
@@ -122,7 +108,7 @@ count-on most c shared mem t word next levels new l seen words n k sees has g = 
   left = g.left;
   few = g.few;
   nodes_are = omega (arith, k.nodes_are, nodes-own c shared mem word k.now l sees, nodes-append shared (parts_of k.now) (left_of k.rests), ap (nodes_of_all shared) g.order);
-  flat_is = omega (arith, k.flat_is, flat-own c shared mem word k.now l n k.standing sees has, flat-append (parts_of k.now) (left_of k.rests), ap flat_of_all g.order);
+  flat_is = omega (arith, k.flat_is, flat-own c shared mem word k.now l n k.standing sees has, flat_of_all-append (parts_of k.now) (left_of k.rests), ap flat_of_all g.order);
   depth_is = k.depth_is ∙ g.depths;
 }
 
@@ -143,37 +129,19 @@ counts-on most mem first word next levels new l seen words n total flats k sees 
 
 -- The answers.
 
-pub or-false : (a b : Bool) → a ≡ false → b ≡ false → (a || b) ≡ false
-or-false true b e f = absurd cc
-or-false false b e f = f
-
-pub or-left : (a b : Bool) → a ≡ true → (a || b) ≡ true
-or-left true b e = refl
-or-left false b e = absurd cc
-
-pub or-right : (a b : Bool) → b ≡ true → (a || b) ≡ true
-or-right true b e = refl
-or-right false b e = e
-
-pub test-true : (a b : ℕ) → a < b → nat_lt a b ≡ true
-test-true a b h = grind (arith, nat_tests)
-
-pub test-false : (a b : ℕ) → b ≤ a → nat_lt a b ≡ false
-test-false a b h = grind (arith, nat_tests)
-
 pub is-within : (shared : List (List ℕ)) (t : Tree) (n f : ℕ) → nodes shared t ≡ n → flat t ≡ f → n ≤ node_limit → depth t ≤ depth_limit → Within (record { nodes = n; flat = f }) ≡ measured shared t
 is-within shared t n f en ef few shallow =
-    let b : is_beyond shared t ≡ false = or-false (nat_lt node_limit (nodes shared t)) (nat_lt depth_limit (depth t)) (test-false node_limit (nodes shared t) (omega (arith, en, few)))
-    (test-false depth_limit (depth t) shallow) in
-    ap₂ (λ a b. Within (record { nodes = a; flat = b })) (sym en) (sym ef) ∙ sym (when-false (is_beyond shared t) Beyond (Within (record { nodes = nodes shared t; flat = flat t })) b)
+    let b : is_beyond shared t ≡ false = or_from (nat_lt node_limit (nodes shared t)) (nat_lt depth_limit (depth t)) (le-ltb node_limit (nodes shared t) (omega (arith, en, few)))
+    (le-ltb depth_limit (depth t) shallow) in
+    ap₂ (λ a b. Within (record { nodes = a; flat = b })) (sym en) (sym ef) ∙ sym (cond-false (is_beyond shared t) Beyond (Within (record { nodes = nodes shared t; flat = flat t })) b)
 
 is-many : (shared : List (List ℕ)) (t : Tree) → node_limit < nodes shared t → Beyond ≡ measured shared t
-is-many shared t h = sym (when-true (is_beyond shared t) Beyond (Within (record { nodes = nodes shared t; flat = flat t }))
-    (or-left (nat_lt node_limit (nodes shared t)) (nat_lt depth_limit (depth t)) (test-true node_limit (nodes shared t) h)))
+is-many shared t h = sym (cond-true (is_beyond shared t) Beyond (Within (record { nodes = nodes shared t; flat = flat t }))
+    (or_left (nat_lt node_limit (nodes shared t)) (nat_lt depth_limit (depth t)) (lt-ltb node_limit (nodes shared t) h)))
 
 is-deep : (shared : List (List ℕ)) (t : Tree) → depth_limit < depth t → Beyond ≡ measured shared t
-is-deep shared t h = sym (when-true (is_beyond shared t) Beyond (Within (record { nodes = nodes shared t; flat = flat t }))
-    (or-right (nat_lt node_limit (nodes shared t)) (nat_lt depth_limit (depth t)) (test-true depth_limit (depth t) h)))
+is-deep shared t h = sym (cond-true (is_beyond shared t) Beyond (Within (record { nodes = nodes shared t; flat = flat t }))
+    (or_right (nat_lt node_limit (nodes shared t)) (nat_lt depth_limit (depth t)) (lt-ltb depth_limit (depth t) h)))
 
 end-within : (most : ℕ) (c : ℕ → ℕ → Bool) (shared : List (List ℕ)) (mem : List ℕ) (t : Tree) (word : ℕ) (levels new : List Rest) (l : Look) (seen words n : ℕ)
     → (k : Counting c shared mem t word levels seen words) → IsSeen c shared mem word k.now l → HasFlat mem l n → Goes most c shared mem levels k.now k.rests further.End new
@@ -181,7 +149,7 @@ end-within : (most : ℕ) (c : ℕ → ℕ → Bool) (shared : List (List ℕ)) 
     → Within (record { nodes = seen + nodes_in l; flat = words + n }) ≡ measured shared t
 end-within most c shared mem t word levels new l seen words n k sees has g few = is-within shared t (seen + nodes_in l) (words + n)
     (omega (arith, k.nodes_are, nodes-own c shared mem word k.now l sees, nodes-append shared (parts_of k.now) (left_of k.rests), ap (nodes_of_all shared) g.none))
-    (omega (arith, k.flat_is, flat-own c shared mem word k.now l n k.standing sees has, flat-append (parts_of k.now) (left_of k.rests), ap flat_of_all g.none))
+    (omega (arith, k.flat_is, flat-own c shared mem word k.now l n k.standing sees has, flat_of_all-append (parts_of k.now) (left_of k.rests), ap flat_of_all g.none))
     few (omega (arith, k.depth_is, g.shallow))
 
 pub measures-within : (most : ℕ) (mem : List ℕ) (first word : ℕ) (levels new : List Rest) (l : Look) (seen words n total flats : ℕ) → Counts mem first word levels seen words → Sees mem word l

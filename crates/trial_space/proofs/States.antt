@@ -1,11 +1,13 @@
 -- The state after each call.
 use Rattle.std.proofs.Common.{◌≡◌, ℕ, ◌+◌, ◌<◌, ◌≤◌, ◌==◌, ◌||◌, Bool, true, false, nat_lt, List, [], ◌∷◌, ◌++◌, length, replicate, codes, append-nil, decimal}
 use Rattle.std.proofs.Common.{map, get_or, set, Option, None, Some, Ok, Err, if◌then◌else◌, refl, sym, ◌∙◌, ap, subst, arith, inl, inr}
+use Rattle.std.proofs.lemmas.Bool.{le-ltb, lt-ltb}
 use Rattle.std.specs.Prelude.{flat_map}
 use Rattle.std.specs.List.{find, list_any}
 use Rattle.std.specs.declared.cmp.Ordering.{Ordering}
 use Rattle.std.proofs.lemmas.Bool.Decides.{nat_tests}
-use Rattle.std.proofs.lemmas.List.{map-set}
+use Rattle.std.proofs.lemmas.List.{map-set, length-map}
+use Rattle.std.proofs.lemmas.Option.{same_Some}
 use Rattle.plain_term.specs.declared.item.Item.{Item}
 use Rattle.plain_term.specs.declared.item.Item.TheVariants as item
 use Rattle.plain_term.specs.Tree.{Tree, Pairs}
@@ -43,15 +45,6 @@ use Rattle.space_api.specs.Calls.{Becomes, Follows, Passes, Tells, HasEnv, IsTer
 use Rattle.trial_space.specs.Items.{TrialStands, TrialSits, alone, put_item, weight, one_process, processes_of}
 use Rattle.trial_space.proofs.Weights.{weight-term, held-alone, alone-is, no-flaw}
 use Rattle.trial_space.proofs.Alone.{near, no-part, no-pairs, no-ids, no-funs, one-node}
-
-lt-false : (m n : ℕ) → n ≤ m → nat_lt m n ≡ false
-lt-false m n h = grind (arith, nat_tests)
-
-inside : (p q : Process) → Some p ≡ Some q → p ≡ q
-inside p q e = cc
-
-lt-true : (m n : ℕ) → m < n → nat_lt m n ≡ true
-lt-true m n h = grind (arith, nat_tests)
 
 pub code-few : (names : List (List ℕ)) (t : Term) (code : List Item) → IsTerm names code t → length code ≤ LONGEST_LINE → length (items_of names t) ≤ LONGEST_LINE
 code-few names t code is few = omega (arith, few, ap (λ (xs : List Item). length xs) is.items)
@@ -187,22 +180,18 @@ module _ (alive : Bool) (items : List Item) (s : State) (seat : Seat) (h : Trial
       let p : Parsed = said (OfProcess seat.pid (verb.Fun r name arity)) terms names in
       let q : Process = one_process items in
       let P : Bool → Type 0 = λ b. Follows {A = Unit {0}} (fun_if b (Fun name arity q.number (env_of s p q)) s p q r.0) s (Err refusal.BadArg) (TrialStands alive items) in
-      at-process (λ o. Follows {A = Unit {0}} o s (Err refusal.BadArg) (TrialStands alive items)) p (verb.Fun r name arity) (subst P (sym (lt-true MOST_ARITY arity many)) (refl, h))
+      at-process (λ o. Follows {A = Unit {0}} o s (Err refusal.BadArg) (TrialStands alive items)) p (verb.Fun r name arity) (subst P (sym (lt-ltb MOST_ARITY arity many)) (refl, h))
 
   held-count : (rs : List ℕ) → terms_len (held_terms rs) ≡ length rs
   held-count [] = refl
   held-count (x ∷ rs) = omega (arith, held-count rs)
 
-  held-items : (rs : List ℕ) → length (map item.Held rs) ≡ length rs
-  held-items [] = refl
-  held-items (x ∷ rs) = omega (arith, held-items rs)
-
   pub fun-lacks : (r : Reg) (name arity n : ℕ) (env : List Item) (terms : Terms) (names : List (List ℕ)) → HasEnv names name env terms → n ≡ COUNTED_COST + length env → arity ≤ MOST_ARITY
       → Becomes {A = Unit {0}} (λ words s p. gets_to_space p.command (step s p)) 0 s (said (OfProcess seat.pid (verb.Fun r name arity)) terms names) (Err (refusal.NoSpace n)) (TrialStands alive items)
   fun-lacks r name arity n env terms names e count few =
       lacks (verb.Fun r name arity) terms names n
-      (omega (arith, count, ap terms_len e.written, held-count e.registers, ap (λ (xs : List Item). length xs) e.items, held-items e.registers))
-      (gets (nat_lt MOST_ARITY arity) (lt-false MOST_ARITY arity few))
+      (omega (arith, count, ap terms_len e.written, held-count e.registers, ap (λ (xs : List Item). length xs) e.items, length-map e.registers item.Held))
+      (gets (nat_lt MOST_ARITY arity) (le-ltb MOST_ARITY arity few))
     where
       gets : (b : Bool) → b ≡ false → gets_to_space (OfProcess seat.pid (verb.Fun r name arity))
           (fun_if b (Fun name arity (one_process items).number (env_of s (said (OfProcess seat.pid (verb.Fun r name arity)) terms names) (one_process items)))
@@ -237,12 +226,12 @@ module _ (alive : Bool) (items : List Item) (s : State) (seat : Seat) (h : Trial
       let p : Parsed = said (OfProcess seat.pid (verb.Repeat r shape n m)) terms names in
       let q : Process = one_process items in
       let P : Bool → Type 0 = λ b. Follows {A = Unit {0}} (repeat_if b (repeated shape n (register m.0 q)) s p q r.0) s (Err refusal.BadArg) (TrialStands alive items) in
-      at-process (λ o. Follows {A = Unit {0}} o s (Err refusal.BadArg) (TrialStands alive items)) p (verb.Repeat r shape n m) (subst P (sym (lt-true MOST_PLACES n many)) (refl, h))
+      at-process (λ o. Follows {A = Unit {0}} o s (Err refusal.BadArg) (TrialStands alive items)) p (verb.Repeat r shape n m) (subst P (sym (lt-ltb MOST_PLACES n many)) (refl, h))
 
   pub repeat-lacks : (r m : Reg) (shape : Shape) (n : ℕ) (terms : Terms) (names : List (List ℕ)) → n ≤ MOST_PLACES
       → Becomes {A = Unit {0}} (λ words s p. gets_to_space p.command (step s p)) 0 s (said (OfProcess seat.pid (verb.Repeat r shape n m)) terms names)
       (Err (refusal.NoSpace (repeat_words shape n))) (TrialStands alive items)
-  repeat-lacks r m shape n terms names few = lacks (verb.Repeat r shape n m) terms names (repeat_words shape n) refl (gets (nat_lt MOST_PLACES n) (lt-false MOST_PLACES n few))
+  repeat-lacks r m shape n terms names few = lacks (verb.Repeat r shape n m) terms names (repeat_words shape n) refl (gets (nat_lt MOST_PLACES n) (le-ltb MOST_PLACES n few))
     where
       gets : (b : Bool) → b ≡ false → gets_to_space (OfProcess seat.pid (verb.Repeat r shape n m))
           (repeat_if b (repeated shape n (register m.0 (one_process items))) s (said (OfProcess seat.pid (verb.Repeat r shape n m)) terms names) (one_process items) r.0) ≡ true
@@ -331,5 +320,5 @@ module _ (alive : Bool) (items : List Item) (s : State) (seat : Seat) (h : Trial
   -- The nodes of a register's tree.
   pub nodes-told : (m : Reg) (q : Process) → process_of seat.pid s ≡ Some q → 1 ≡ nodes s.shared (register m.0 q)
   nodes-told m q e =
-      let same : one_process items ≡ q = inside (one_process items) q (sym found ∙ e) in
+      let same : one_process items ≡ q = same_Some (one_process items) q (sym found ∙ e) in
       sym (ap (λ (z : Process). nodes s.shared (register m.0 z)) (sym same) ∙ ap (nodes s.shared) (in-register m.0) ∙ one-node s.shared (get_or items m.0 item.Nil))

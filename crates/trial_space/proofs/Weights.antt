@@ -1,6 +1,7 @@
 -- The weight of a written term, and the term whose weight is one.
 use Rattle.std.proofs.Common.{◌≡◌, ℕ, zero, suc, ◌+◌, ◌-◌, ◌*◌, ◌^◌, ◌<◌, ◌≤◌, Bool, true, false, cond, nat_lt, nat_le, List, [], ◌∷◌, ◌++◌, length, drop, map, get_or, None, refl, ap, subst, length-append, arith}
 use Rattle.std.proofs.lemmas.Bool.{leb-true, le-leb}
+use Rattle.std.proofs.lemmas.List.{length-map}
 use Rattle.plain_term.specs.declared.item.Item.{Item}
 use Rattle.plain_term.specs.declared.item.Item.TheVariants as item
 use Rattle.plain_term.specs.Tree.{Tree}
@@ -51,10 +52,6 @@ bytes-weigh : (bytes : List ℕ) → weight (map item.Byte bytes) ≡ 0
 bytes-weigh [] = refl
 bytes-weigh (b ∷ bytes) = omega (arith, bytes-weigh bytes)
 
-bytes-length : (bytes : List ℕ) → length (map item.Byte bytes) ≡ length bytes
-bytes-length [] = refl
-bytes-length (b ∷ bytes) = omega (arith, bytes-length bytes)
-
 int-light : (small one : Bool) → cond small 0 (cond one 2 3) ≤ 3
 int-light true one = omega arith
 int-light false true = omega arith
@@ -82,7 +79,7 @@ mutual
   weight-term names (Tuple ts) f = omega (arith, weight-all names ts (omega (arith, f)))
   weight-term names (Map qs) f = omega (arith, weight-pairs names qs (omega (arith, f)))
   weight-term names (Bin bytes) f =
-      let same : fill_words (written_bytes (length bytes)) ≡ fill_words (length bytes) = ap fill_words (whole-bytes (length bytes) (omega (arith, f, bytes-length bytes))) in
+      let same : fill_words (written_bytes (length bytes)) ≡ fill_words (length bytes) = ap fill_words (whole-bytes (length bytes) (omega (arith, f, length-map bytes item.Byte))) in
       omega (arith, same, bytes-weigh bytes)
 
   weight-listed : (names : List (List ℕ)) (ts : Terms) (tail : List Item) → length (listed_items names ts tail) ≤ LONGEST_LINE

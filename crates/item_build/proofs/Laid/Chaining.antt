@@ -1,7 +1,8 @@
 -- Binaries are laid one after the other.
 use Rattle.std.proofs.Common.{◌≡◌, ℕ, zero, suc, ◌+◌, ◌-◌, ◌*◌, ◌/◌, ◌<◌, ◌≤◌, ◌⊎◌, nat_lt, if◌then◌else◌, Bool, true, false, List, [], ◌∷◌, ◌++◌, length, get_or, drop, take, refl, sym, ◌∙◌, ap, subst, arith, inl, inr, length-append, append_assoc}
 use Rattle.std.proofs.Math.Seq.{drop-cons}
-use Rattle.std.proofs.lemmas.List.{get_or_append_left}
+use Rattle.std.proofs.lemmas.Bool.{cond-true, cond-false}
+use Rattle.std.proofs.lemmas.List.{get_or_append_left, drop_all}
 use Rattle.word_mem.specs.declared.ranges.Room.{Room}
 use Rattle.plain_term.specs.declared.item.Item.{Item}
 use Rattle.plain_term.specs.declared.item.Item.TheVariants.{Bin}
@@ -21,7 +22,7 @@ use Rattle.item_build.specs.declared.bins.Making.{Making}
 use Rattle.item_build.specs.Reading.{AreLed, bins_of, bytes_after, bytes_in, far_words, far_words_of, is_long, long_bins, long_bytes}
 use Rattle.item_build.specs.Building.{IsNewBin, Laid, LaidBins, LeavesRoom, holders_from}
 use Rattle.item_build.proofs.Meaning.Growing.{longs-are}
-use Rattle.item_build.proofs.Meaning.Whole.{rest-is}
+use Rattle.item_build.proofs.Meaning.Whole.{rest-is, longs-rest}
 
 -- No binary was laid.
 
@@ -134,14 +135,6 @@ laid-more c d e shared x y z m0 m1 m2 h0 h1 h2 serial next n a b from top u w fr
 abbrev one_if : Bool → ℕ
 one_if b = if b then 1 else 0
 
-one-if : (b : Bool) → b ≡ true → one_if b ≡ 1
-one-if true e = refl
-one-if false e = absurd cc
-
-none-if : (b : Bool) → b ≡ false → one_if b ≡ 0
-none-if true e = absurd cc
-none-if false e = refl
-
 -- The bytes of the next long binary.
 
 long-is : (x : Item) (xs : List Item) → is_long x ≡ true → long_bytes x xs ≡ bytes_in (bytes_after x) xs ∷ []
@@ -151,11 +144,6 @@ long-is x xs e = absurd cc
 short-is : (x : Item) (xs : List Item) → is_long x ≡ false → (long_bytes x xs ≡ []) × (far_words x ≡ 0)
 short-is (Bin n) xs e = (rw e refl, rw e refl)
 short-is x xs e = (refl, refl)
-
-longs-rest : (i : ℕ) (xs : List Item) → long_bins (drop i xs) ≤ long_bins xs
-longs-rest zero xs = omega arith
-longs-rest (suc i) [] = omega arith
-longs-rest (suc i) (x ∷ xs) = omega (arith, longs-rest i xs)
 
 bins-at : (i : ℕ) (xs : List Item) (d : Item) → i < length xs → is_long (get_or xs i d) ≡ true
     → get_or (bins_of xs) (long_bins xs - long_bins (drop i xs)) [] ≡ bytes_in (bytes_after (get_or xs i d)) (drop (suc i) xs)
@@ -169,12 +157,12 @@ bins-at (suc i) (x ∷ xs) d below long = by (is_long x) refl (bins-at i xs d (o
         → long_bins (drop i xs) ≤ long_bins xs
         → get_or (long_bytes x xs ++ bins_of xs) ((if is_long x then 1 else 0) + long_bins xs - long_bins (drop i xs)) [] ≡ bytes_in (bytes_after (get_or xs i d)) (drop (suc i) xs)
     by true e rest few =
-        let one : one_if (is_long x) ≡ 1 = one-if (is_long x) e in
+        let one : one_if (is_long x) ≡ 1 = cond-true (is_long x) 1 0 e in
         let next : (if is_long x then 1 else 0) + long_bins xs - long_bins (drop i xs) ≡ suc (long_bins xs - long_bins (drop i xs)) = omega (arith, one, few) in
         ap (λ z. get_or (z ++ bins_of xs) ((if is_long x then 1 else 0) + long_bins xs - long_bins (drop i xs)) []) (long-is x xs e)
         ∙ ap (λ k. get_or (bytes_in (bytes_after x) xs ∷ bins_of xs) k []) next ∙ rest
     by false e rest few =
-        let none : one_if (is_long x) ≡ 0 = none-if (is_long x) e in
+        let none : one_if (is_long x) ≡ 0 = cond-false (is_long x) 1 0 e in
         let next : (if is_long x then 1 else 0) + long_bins xs - long_bins (drop i xs) ≡ long_bins xs - long_bins (drop i xs) = omega (arith, none) in
         ap (λ z. get_or (z ++ bins_of xs) ((if is_long x then 1 else 0) + long_bins xs - long_bins (drop i xs)) []) (short-is x xs e).0
         ∙ ap (λ k. get_or (bins_of xs) k []) next ∙ rest
@@ -214,7 +202,8 @@ led-open [] i d below w = absurd (omega (arith, below))
 led-open (x ∷ xs) zero d below w = w.0
 led-open (x ∷ xs) (suc i) d below w = led-open xs i d (omega (arith, below)) w.1
 
-longs-few : (xs : List Item) → long_bins xs ≤ length xs
+-- No more binaries are long than there are items.
+pub longs-few : (xs : List Item) → long_bins xs ≤ length xs
 longs-few [] = omega arith
 longs-few (x ∷ xs) = by (is_long x) (longs-few xs)
   where
@@ -225,7 +214,7 @@ longs-few (x ∷ xs) = by (is_long x) (longs-few xs)
 -- So many long binaries were there before one that is left.
 pub longs-left : (code : List Item) (i : ℕ) (d : Item) → i < length code → is_long (get_or code i d) ≡ true → (long_bins code ≤ length code) × (1 ≤ long_bins (drop i code))
 longs-left code i d below long =
-    let one : one_if (is_long (get_or code i d)) ≡ 1 = one-if (is_long (get_or code i d)) long in
+    let one : one_if (is_long (get_or code i d)) ≡ 1 = cond-true (is_long (get_or code i d)) 1 0 long in
     (longs-few code, omega (arith, longs-open code i d below, one))
 
 far-rest : (i : ℕ) (xs : List Item) → far_words_of (drop i xs) ≤ far_words_of xs
@@ -270,7 +259,7 @@ laid-as i code x y y2 m0 m1 m2 was is is2 room words making t =
 pub laid-past : (i : ℕ) (d : Item) (code : List Item) (x y : Room) (m0 m1 : List ℕ) (was is : Making) → i < length code → is_long (get_or code i d) ≡ false → LaidTo i code x y m0 m1 was is
     → LaidTo (suc i) code x y m0 m1 was is
 laid-past i d code x y m0 m1 was is below short t =
-    let none : one_if (is_long (get_or code i d)) ≡ 0 = none-if (is_long (get_or code i d)) short in
+    let none : one_if (is_long (get_or code i d)) ≡ 0 = cond-false (is_long (get_or code i d)) 1 0 short in
     let same : long_bins (drop i code) ≡ long_bins (drop (suc i) code) = omega (arith, longs-open code i d below, none) in
     let P : ℕ → Type 0 = λ n. (c : ℕ → ℕ → Bool) (shared : List (List ℕ)) → IsFree c x.top x.end → length shared ≡ was.serial
     → LaidBins c (shared ++ bins_of code) x y m0 m1 was is (long_bins code - n) in
@@ -287,7 +276,7 @@ laid-past i d code x y m0 m1 was is below short t =
 pub next-fits : (i : ℕ) (d : Item) (code : List Item) (x y : Room) (m0 m1 : List ℕ) (was is : Making) → i < length code → is_long (get_or code i d) ≡ true → LaidTo i code x y m0 m1 was is
     → x.top + (6 * long_bins code + far_words_of code) ≤ x.end → y.top + (6 + (4 + (bytes_after (get_or code i d) + 7) / 8)) ≤ y.end
 next-fits i d code x y m0 m1 was is below long t fits =
-    let one : one_if (is_long (get_or code i d)) ≡ 1 = one-if (is_long (get_or code i d)) long in
+    let one : one_if (is_long (get_or code i d)) ≡ 1 = cond-true (is_long (get_or code i d)) 1 0 long in
     omega (arith, t.front, t.back, longs-open code i d below, one, far-open code i d below, long-far (get_or code i d) long, fits, far-rest i code, longs-rest i code)
 
 pub laid-next : (i : ℕ) (d : Item) (code : List Item) (x y z : Room) (m0 m1 m2 : List ℕ) (was is next : Making) (n : ℕ) (rest : List Item) → i < length code
@@ -297,7 +286,7 @@ pub laid-next : (i : ℕ) (d : Item) (code : List Item) (x y z : Room) (m0 m1 m2
     → shared_bytes shared (is.serial + 1) ≡ bytes_in n rest → LaidBins c shared y z m1 m2 is next 1)
     → LaidTo (suc i) code x z m0 m2 was next
 laid-next i d code x y z m0 m1 m2 was is next n rest below long t many_bytes left front back serial w step =
-    let one : one_if (is_long (get_or code i d)) ≡ 1 = one-if (is_long (get_or code i d)) long in
+    let one : one_if (is_long (get_or code i d)) ≡ 1 = cond-true (is_long (get_or code i d)) 1 0 long in
     let open_here : long_bins (drop i code) ≡ 1 + long_bins (drop (suc i) code) = omega (arith, longs-open code i d below, one) in
     record {
       front = omega (arith, t.front, front, open_here);
@@ -324,24 +313,18 @@ laid-next i d code x y z m0 m1 m2 was is next n rest below long t many_bytes lef
 
 -- All were laid.
 
-none-left : (i : ℕ) (code : List Item) → length code ≤ i → drop i code ≡ []
-none-left zero [] done = refl
-none-left zero (x ∷ code) done = absurd (omega (arith, done))
-none-left (suc i) [] done = refl
-none-left (suc i) (x ∷ code) done = none-left i code (omega (arith, done))
-
 module _ (i : ℕ) (code : List Item) (x y : Room) (m0 m1 : List ℕ) (was is : Making) (done : length code ≤ i) (t : LaidTo i code x y m0 m1 was is) where
   pub all-laid : (c : ℕ → ℕ → Bool) (shared : List (List ℕ)) → IsFree c x.top x.end → length shared ≡ was.serial → LaidBins c (shared ++ bins_of code) x y m0 m1 was is (long_bins code)
   all-laid c shared free len =
-      let all : long_bins code - long_bins (drop i code) ≡ long_bins code = omega (arith, ap long_bins (none-left i code done)) in
+      let all : long_bins code - long_bins (drop i code) ≡ long_bins code = omega (arith, ap long_bins (drop_all i code done)) in
       let P : ℕ → Type 0 = λ n. LaidBins c (shared ++ bins_of code) x y m0 m1 was is n in
       subst P all (t.laid c shared free len)
 
   pub all-front : y.top ≡ x.top + 6 * long_bins code
-  all-front = omega (arith, t.front, ap long_bins (none-left i code done))
+  all-front = omega (arith, t.front, ap long_bins (drop_all i code done))
 
   pub all-back : y.end + far_words_of code ≡ x.end
-  all-back = omega (arith, t.back, ap far_words_of (none-left i code done))
+  all-back = omega (arith, t.back, ap far_words_of (drop_all i code done))
 
   pub all-serial : is.serial ≡ was.serial + long_bins code
-  all-serial = omega (arith, t.serial, ap long_bins (none-left i code done))
+  all-serial = omega (arith, t.serial, ap long_bins (drop_all i code done))

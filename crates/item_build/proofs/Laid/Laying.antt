@@ -1,6 +1,5 @@
 -- A record at the end of a room and a holder at its front: roles grow, and the holder joins a chain.
 use Rattle.std.proofs.Common.{◌≡◌, ℕ, zero, suc, ◌+◌, ◌-◌, ◌*◌, ◌/◌, ◌%◌, ◌<◌, ◌≤◌, ◌⊎◌, if◌then◌else◌, Bool, true, false, List, [], ◌∷◌, ◌++◌, length, get_or, set, refl, sym, ◌∙◌, ap, subst, arith, inl, inr, length-set, get_or-set_other}
-use Rattle.std.proofs.lemmas.Bool.Decides.{nat_tests}
 use Rattle.std.proofs.lemmas.Grind.{get_or-set_at}
 use Rattle.word_mem.specs.declared.ranges.Room.{Room}
 use Rattle.plain_term.specs.Measures.{bin_words}
@@ -18,17 +17,14 @@ use Rattle.term_words.proofs.Placing.Roles.{record-role}
 use Rattle.term_words.proofs.ByKind.Inside.{record-inside}
 use Rattle.term_build.specs.Taken.{IsFree, Lie, Taken, of_holder, with_object}
 use Rattle.term_build.specs.Parts.{IsRecordOf}
-use Rattle.term_build.proofs.Taking.{holder-object, holder-next, with-object-single, with-object-taken, with-object-within, with-object-of}
+use Rattle.term_build.proofs.Taking.{beside-new, beside-old, holder-object, holder-next, with-object-single, with-object-taken, with-object-within, with-object-of}
 use Rattle.shared_rec.specs.Record.{WritesRecord, count_in, record_roles}
+use Rattle.shared_rec.proofs.Records.{record-first}
+use Rattle.shared_rec.proofs.Rows.{role-past}
 use Rattle.off_heap_list.specs.Links.{Links, IsLink, Leads, name_place, named, naming, names_it}
 use Rattle.off_heap_list.proofs.Chaining.Chained.{holder-link, leads-stays, link-stays, naming-stays, no-naming}
 use Rattle.item_build.specs.declared.bins.Making.{Making}
 use Rattle.item_build.specs.Building.{IsNewBin, Laid, LaidBins, holders_from}
-
--- The first word of a record has its role.
-pub record-first : (c : ℕ → ℕ → Bool) (mem : List ℕ) (v n : ℕ) → IsRecord c mem v n → c v RECORD_FIRST ≡ true
-record-first c mem v n (inl (serial, bytes, o, words)) = o.first
-record-first c mem v n (inr (name, arity, o, words)) = o.first
 
 -- Its count is one of its words.
 pub record-four : (c : ℕ → ℕ → Bool) (mem : List ℕ) (v n : ℕ) → IsRecord c mem v n → v + 2 < v + n
@@ -105,38 +101,28 @@ module _ (c d : ℕ → ℕ → Bool) (old new : List ℕ) (kept : Kept c d old 
 
 -- The roles of a record's words.
 
-record-after : (j : ℕ) → 3 ≤ j → record_roles j ≡ RECORD
-record-after j past = grind (arith, nat_tests)
-
 pub roles-of-record : (j : ℕ) → OfRecord (record_roles j)
 roles-of-record zero = inr (inr refl)
 roles-of-record (suc zero) = inr (inl refl)
 roles-of-record (suc (suc zero)) = inl refl
-roles-of-record (suc (suc (suc j))) = let P : ℕ → Type 0 = λ k. OfRecord k in subst P (sym (record-after (suc (suc (suc j))) (omega arith))) (inr (inl refl))
+roles-of-record (suc (suc (suc j))) = let P : ℕ → Type 0 = λ k. OfRecord k in subst P (sym (role-past (suc (suc (suc j))) (omega arith))) (inr (inl refl))
 
 first-of-record : (j : ℕ) → record_roles j ≡ RECORD_FIRST → j ≡ 0
 first-of-record zero e = refl
 first-of-record (suc zero) e = absurd (omega (arith, e))
 first-of-record (suc (suc zero)) e = absurd (omega (arith, e))
-first-of-record (suc (suc (suc j))) e = absurd (omega (arith, e, record-after (suc (suc (suc j))) (omega arith)))
+first-of-record (suc (suc (suc j))) e = absurd (omega (arith, e, role-past (suc (suc (suc j))) (omega arith)))
 
 -- What a test with an object beside it tells: the old test off its words, the object's role on them.
 pub object-tells : (roles : ℕ → ℕ) (c : ℕ → ℕ → Bool) (top n a k : ℕ) → with_object roles c top n a k ≡ true
     → (((a < top) ⊎ (top + n ≤ a)) × (c a k ≡ true)) ⊎ ((top ≤ a) × ((a < top + n) × (roles (a - top) ≡ k)))
-unfolding with_object
 object-tells roles c top n a k h =
     let which : (a < top) ⊎ ((top + n ≤ a) ⊎ ((top ≤ a) × (a < top + n))) = grind arith in
     elim which [
-      | inl low ↦ inl (inl low, off roles c top n a k (inl low) h)
-      | inr (inl high) ↦ inl (inr high, off roles c top n a k (inr high) h)
-      | inr (inr inside) ↦ inr (inside.0, (inside.1, on roles c top n a k inside.0 inside.1 h))
+      | inl low ↦ inl (inl low, sym (beside-old roles c top n a k (inl low)) ∙ h)
+      | inr (inl high) ↦ inl (inr high, sym (beside-old roles c top n a k (inr high)) ∙ h)
+      | inr (inr inside) ↦ inr (inside.0, (inside.1, beside-new roles c top n a k inside.0 inside.1 h))
     ]
-  where
-    off : (roles : ℕ → ℕ) (c : ℕ → ℕ → Bool) (top n a k : ℕ) → (a < top) ⊎ (top + n ≤ a) → with_object roles c top n a k ≡ true → c a k ≡ true
-    off roles c top n a k apart h = grind (arith, nat_tests, apart)
-
-    on : (roles : ℕ → ℕ) (c : ℕ → ℕ → Bool) (top n a k : ℕ) → top ≤ a → a < top + n → with_object roles c top n a k ≡ true → roles (a - top) ≡ k
-    on roles c top n a k from below h = grind (arith, nat_tests)
 
 -- The record that a holder names, by its words.
 pub named-rec : (mem : List ℕ) (top n rec : ℕ) → Lie mem top (head_word HOLDER 5 ∷ n ∷ 0 ∷ rec ∷ 0 ∷ 0 ∷ []) → named mem top ≡ rec

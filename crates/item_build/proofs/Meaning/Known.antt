@@ -1,6 +1,5 @@
 -- What is said of trees over shared binaries stays where more of these stand after them.
-use Rattle.std.proofs.Common.{◌≡◌, ℕ, zero, suc, ◌+◌, ◌/◌, ◌≤◌, ◌||◌, nat_lt, nat_le, if◌then◌else◌, Bool, true, false, List, [], ◌∷◌, ◌++◌, length, take, drop, refl, sym, ◌∙◌, ap, subst, arith, get_or, slice_index_or, length-append}
-use Rattle.std.proofs.lemmas.List.{get_or_append_left}
+use Rattle.std.proofs.Common.{◌≡◌, ℕ, ◌+◌, ◌/◌, ◌≤◌, ◌||◌, nat_lt, nat_le, if◌then◌else◌, Bool, true, false, List, [], ◌∷◌, ◌++◌, length, take, drop, refl, sym, ◌∙◌, ap, subst, arith, get_or, slice_index_or, length-append}
 use Rattle.std.specs.Ordering.{nat_cmp, ordering_then, match_ordering}
 use Rattle.plain_term.specs.Tree.{Tree, Trees, Pairs, trees_len, pairs_len}
 use Rattle.plain_term.specs.Tree.Tree.{Int, Atom, Pid, Ref, Nil, Cons, Tuple, Map, Bin, Shared, Part, Fun}
@@ -14,6 +13,8 @@ use Rattle.plain_term.specs.InOrder.{put_pair, put_all, in_order}
 use Rattle.plain_term.proofs.Putting.{put-keeps, all-keep}
 use Rattle.term_words.specs.Object.{IsBinRecord, IsHolder, IsSub}
 use Rattle.term_words.specs.Stands.{Stands, RowStands, KeysStand, ValuesStand}
+use Rattle.term_words.proofs.Framing.Growing.{shared-same}
+use Rattle.plain_machine.specs.Made.{with_pair, with_pairs}
 
 -- The ids of all shared binaries in a tree are at most n.
 abbrev mutual
@@ -59,12 +60,8 @@ module _ (n m : ℕ) (fewer : n ≤ m) where
     pairs-knows-more (pair j v ps) k = (knows-more j k.0, knows-more v k.1, pairs-knows-more ps k.2)
 
 module _ (names s extra : List (List ℕ)) where
-  id-grown : (id : ℕ) → id ≤ length s → shared_bytes (s ++ extra) id ≡ shared_bytes s id
-  id-grown zero h = refl
-  id-grown (suc k) h = get_or_append_left s extra [] k (omega (arith, h))
-
   bytes-grown : (t : Tree) → Knows (length s) t → bytes_of (s ++ extra) t ≡ bytes_of s t
-  bytes-grown (Shared id) h = id-grown id h
+  bytes-grown (Shared id) h = shared-same s extra id h
   bytes-grown (Part base offset len) h = ap (λ bs. take len (drop offset bs)) (bytes-grown base h)
   bytes-grown _ h = refl
 
@@ -195,7 +192,7 @@ module _ (c : ℕ → ℕ → Bool) (s extra : List (List ℕ)) (mem : List ℕ)
     stands-more w (Map ps) h = (h.0, keys-more _ ps h.1, values-more _ ps h.2)
     stands-more w (Bin bytes) h = h
     stands-more w (Shared id) h =
-        let same : shared_bytes (s ++ extra) id ≡ shared_bytes s id = id-grown [] s extra id h.known in
+        let same : shared_bytes (s ++ extra) id ≡ shared_bytes s id = shared-same s extra id h.known in
         let P : List ℕ → Type 0 = λ bs. IsHolder c mem w (length bs) in
         let Q : List ℕ → Type 0 = λ bs. IsBinRecord c mem (get_or mem (w / 4 + 3) 0) id bs in
         record { from_one = h.from_one; known = omega (arith, h.known, length-append s extra); holder = subst P (sym same) h.holder; record_is = subst Q (sym same) h.record_is }

@@ -2,6 +2,7 @@
 use Rattle.std.proofs.Common.{◌≡◌, ℕ, zero, suc, ◌+◌, ◌-◌, ◌*◌, ◌^◌, ◌<◌, ◌≤◌, ◌&&◌, ◌||◌, nat_lt, if◌then◌else◌, Bool, true, false, List, [], ◌∷◌, length, get_or, take, drop, slice_index_or, Option, Some, None, refl, ◌∙◌, ap, subst, arith, ltb-true}
 use Rattle.std.proofs.lemmas.Bool.{and_parts}
 use Rattle.std.proofs.Math.Seq.{drop-cons}
+use Rattle.std.proofs.lemmas.Bool.{or_right}
 use Rattle.std.proofs.lemmas.Bool.Decides.{nat_tests}
 use Rattle.std.proofs.lemmas.List.{length-drop}
 use Rattle.plain_term.specs.declared.item.Item.{Item}
@@ -45,14 +46,15 @@ bin-few n = by (nat_lt 64 n) refl
     by true e = let above : 64 < n = ltb-true 64 n e in omega (arith, above)
     by false e = omega arith
 
+-- An integer takes three words at most.
+pub int-few : (small one : Bool) → (if small then 0 else (if one then 2 else 3)) ≤ 3
+int-few true one = omega arith
+int-few false true = omega arith
+int-few false false = omega arith
+
 -- The words that an item asks for are few.
 pub item-few : (names held : ℕ) (x : Item) → IsItem names held x → item_words x ≤ parts_of x + 5 * bytes_after x + 4
-item-few names held (Int i) is = omega (arith, three (is_small i) (nat_lt (magnitude i) (2 ^ 64)))
-  where
-    three : (a b : Bool) → (if a then 0 else (if b then 2 else 3)) ≤ 3
-    three true b = omega arith
-    three false true = omega arith
-    three false false = omega arith
+item-few names held (Int i) is = omega (arith, int-few (is_small i) (nat_lt (magnitude i) (2 ^ 64)))
 item-few names held (Atom k) is = omega arith
 item-few names held (Pid n) is = omega arith
 item-few names held Nil is = omega arith
@@ -168,11 +170,7 @@ module _ (names shared : List (List ℕ)) (held : List Tree) where
   pub big-rest : (i : ℕ) (xs : List Item) → is_big names shared held (drop i xs) ≡ true → is_big names shared held xs ≡ true
   big-rest zero xs h = h
   big-rest (suc i) [] h = h
-  big-rest (suc i) (x ∷ xs) h = or-right (is_big_item shared x (take (parts_of x) (read names shared held xs))) (is_big names shared held xs) (big-rest i xs h)
-    where
-      or-right : (a b : Bool) → b ≡ true → a || b ≡ true
-      or-right false b e = e
-      or-right true b e = refl
+  big-rest (suc i) (x ∷ xs) h = or_right (is_big_item shared x (take (parts_of x) (read names shared held xs))) (is_big names shared held xs) (big-rest i xs h)
 
   -- The trees that are read have names among the names, where those that are held have.
   module _ (n count : ℕ) (known : (r : ℕ) → r < count → is_named n (slice_index_or held r tree.Nil) ≡ true) where

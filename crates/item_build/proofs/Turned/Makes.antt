@@ -1,5 +1,6 @@
 -- What an item is made of, and what is built of it.
 use Rattle.std.proofs.Common.{◌≡◌, ℕ, ◌+◌, ◌-◌, ◌*◌, ◌^◌, ◌<◌, ◌≤◌, nat_lt, if◌then◌else◌, inl, inr, Bool, true, false, List, [], ◌∷◌, ◌++◌, length, take, drop, slice_range, Option, Some, None, IfSome, ℤ, pos, negsuc, to_z, of_z, refl, sym, ◌∙◌, ap, subst, arith, lt-ltb}
+use Rattle.std.proofs.lemmas.Bool.{le-ltb}
 use Rattle.std.proofs.lemmas.List.{length-take}
 use Rattle.std.proofs.lemmas.List.Folds.{drop_split}
 use Rattle.std.proofs.lemmas.Int.{ints, to_z-of_z}
@@ -18,7 +19,6 @@ use Rattle.term_words.specs.Object.{IsSmallAs}
 use Rattle.plain_term.specs.Tree.Trees.{end}
 use Rattle.plain_term.specs.InOrder.{in_order}
 use Rattle.term_tags.specs.Words.{boxed_word}
-use Rattle.std.proofs.lemmas.Bool.Decides.{nat_tests}
 use Rattle.item_build.proofs.Meaning.Bytes.{bytes-len}
 use Rattle.term_words.proofs.ByKind.Makes.{all-length, stands-small}
 use Rattle.term_build.specs.Taken.{IsFree}
@@ -183,7 +183,7 @@ pub short-word : (c : ℕ → ℕ → Bool) (x y : Room) (mem mem2 : List ℕ) (
     → (IsFree c x.top (x.top + (2 + bin_words (length bytes))) → Built c x.top (2 + bin_words (length bytes)) mem mem2 shared w (tree.Bin bytes))
     → IsFree c x.top (x.top + near_words n) → MarkBuilt c x.top (y.top - x.top) mem mem2 shared w (Some (bin_of shared n xs))
 short-word c x y mem mem2 shared w n xs bytes short inside is u built free =
-    let e : nat_lt 64 n ≡ false = ge-ltb 64 n short in
+    let e : nat_lt 64 n ≡ false = le-ltb 64 n short in
     let len : length bytes ≡ n = ap length is ∙ bytes-len n xs inside in
     let words : near_words n ≡ 2 + bin_words (length bytes) = near-is n e ∙ ap (λ z. 2 + bin_words z) (sym len) in
     let F : ℕ → Type 0 = λ z. IsFree c x.top (x.top + z) in
@@ -196,9 +196,6 @@ short-word c x y mem mem2 shared w n xs bytes short inside is u built free =
 
     bin-is : nat_lt 64 n ≡ false → bin_of shared n xs ≡ tree.Bin (bytes_in n xs)
     bin-is e = rw e refl
-
-    ge-ltb : (a n : ℕ) → n ≤ a → nat_lt a n ≡ false
-    ge-ltb a n few = grind (arith, nat_tests)
 
 -- A small integer is a word.
 pub leaf-small : (held : List ℕ) (i j : ℤ) (r : Option ℕ) → j ≡ i → IfSome r (λ w. IsSmallAs w j) → IfSome r (λ w. IsLeaf held (Int i) w)

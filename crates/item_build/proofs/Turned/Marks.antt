@@ -1,6 +1,6 @@
 -- Words that stand for trees or for wide terms.
 use Rattle.std.proofs.Common.{◌≡◌, ℕ, zero, suc, ◌+◌, ◌*◌, ◌/◌, ◌<◌, ◌≤◌, ◌||◌, ◌&&◌, ◌==◌, Bool, true, false, List, [], ◌∷◌, ◌++◌, length, get_or, take, drop, Option, Some, None, refl, sym, ◌∙◌, ap, subst, arith}
-use Rattle.std.proofs.lemmas.Bool.{and_parts}
+use Rattle.std.proofs.lemmas.Bool.{and_parts, false≢true, true≢false}
 use Rattle.std.proofs.lemmas.Bool.Decides.{nat_tests}
 use Rattle.plain_term.specs.Tree.{Tree, Trees, Pairs, trees_len, pairs_len}
 use Rattle.plain_term.specs.Tree.Trees.{end, ◌▹◌}
@@ -110,10 +110,7 @@ module _ (c : ℕ → ℕ → Bool) (shared : List (List ℕ)) (mem : List ℕ) 
   past w rest = let other : (suc w == 0) ≡ false = grind (arith, nat_tests) in rw other refl
 
   is-narrow : (w : ℕ) (rest : Bool) → (w == 0) || rest ≡ false → (w ≡ 0 → ⊥) × (rest ≡ false)
-  is-narrow zero rest h = absurd (differ h)
-    where
-      differ : true ≡ false → ⊥
-      differ e = cc
+  is-narrow zero rest h = absurd (true≢false h)
   is-narrow (suc w) rest h = (λ e. omega (arith, e), sym (past w rest) ∙ h)
 
   pub narrow-all : (ws : List ℕ) (ms : List (Option Tree)) → AreMarks c shared mem ws ms → holds_wide ws ≡ false → (ts : Trees) × ((all_of ms ≡ Some ts) × AllStand c shared mem ws ts)
@@ -128,10 +125,7 @@ module _ (c : ℕ → ℕ → Bool) (shared : List (List ℕ)) (mem : List ℕ) 
 
   pub wide-none : (ws : List ℕ) (ms : List (Option Tree)) → AreMarks c shared mem ws ms → holds_wide ws ≡ true → all_of ms ≡ None
   unfolding AreMarks
-  wide-none [] [] all h = absurd (differ h)
-    where
-      differ : false ≡ true → ⊥
-      differ e = cc
+  wide-none [] [] all h = absurd (false≢true h)
   wide-none [] (m ∷ ms) all h = absurd all
   wide-none (w ∷ ws) [] all h = absurd all
   wide-none (w ∷ ws) (None ∷ ms) all h = refl

@@ -1,7 +1,8 @@
 -- Items one after the other: roles grow, and the words of what was read stand.
-use Rattle.std.proofs.Common.{◌≡◌, ℕ, suc, ◌+◌, ◌-◌, ◌<◌, ◌≤◌, ◌*◌, ◌||◌, if◌then◌else◌, Bool, true, false, List, [], ◌∷◌, length, get_or, take, drop, Option, Some, None, Ok, Err, refl, sym, ◌∙◌, ap, subst, arith, inl, inr}
+use Rattle.std.proofs.Common.{◌≡◌, ℕ, suc, ◌+◌, ◌-◌, ◌<◌, ◌≤◌, ◌*◌, if◌then◌else◌, Bool, true, false, List, [], ◌∷◌, length, get_or, take, drop, Option, Some, None, Ok, Err, sym, ◌∙◌, ap, subst, arith, inl, inr}
 use Rattle.std.proofs.Math.Seq.{drop-cons, drop-length}
-use Rattle.std.proofs.lemmas.List.{length-drop}
+use Rattle.std.proofs.lemmas.Bool.{or_from, or_left}
+use Rattle.std.proofs.lemmas.List.{length-drop, nil_from_length}
 use Rattle.word_mem.specs.declared.ranges.Room.{Room}
 use Rattle.plain_term.specs.declared.item.Item.{Item}
 use Rattle.plain_term.specs.Tree.{Tree}
@@ -157,33 +158,23 @@ module _ (names : List (List ℕ)) (held : List ℕ) (code : List Item) (i : ℕ
         let R : List (Option Tree) → Type 0 = λ ms. AreMarks e.test shared mem2 ws2 ms in
         let here : AreMarks e.test shared mem2 ws2 (read_item names shared trees (get_or code (i - 1) d) (drop i code) (read names shared trees (drop i code))) =
         subst R (ap (λ xs. read_item names shared trees (get_or code (i - 1) d) xs (read names shared trees (drop i code))) left) e.made in (
-          big-at names shared trees code i d some within ∙ neither next small,
+          big-at names shared trees code i d some within ∙ or_from _ _ next small,
           record {
             test = e.test;
             grows = subst Q sum (grows-then c b.test e.test x.top (y.top - x.top) (z.top - y.top) mem0 mem mem2 b.grows (subst P from e.grows));
             made = subst R (sym (read-at names shared trees code i d some within)) here;
           },
         )
-      where
-        neither : {a b : Bool} → a ≡ false → b ≡ false → a || b ≡ false
-        neither p q = rw (p, q) refl
 
     -- It has a big key.
     pub put-big : is_big_item shared (get_or code (i - 1) d) (take (parts_of (get_or code (i - 1) d)) (read names shared trees (drop i code))) ≡ true → is_big names shared trees code ≡ true
-    put-big big = big-rest names shared trees (i - 1) code (big-at names shared trees code i d some within ∙ first (is_big names shared trees (drop i code)) big)
-      where
-        first : {a : Bool} (b : Bool) → a ≡ true → a || b ≡ true
-        first b p = rw p refl
+    put-big big = big-rest names shared trees (i - 1) code (big-at names shared trees code i d some within ∙ or_left _ (is_big names shared trees (drop i code)) big)
 
 -- At the end one word is left.
 
-empty : (xs : List ℕ) → length xs ≡ 0 → xs ≡ []
-empty [] e = refl
-empty (x ∷ xs) e = absurd (omega (arith, e))
-
 pub one-left : (row : List ℕ) (sp : ℕ) → sp + 1 ≡ length row → drop sp row ≡ get_or row sp 0 ∷ []
 one-left row sp e =
-    drop-cons row sp 0 (omega (arith, e)) ∙ ap (λ z. get_or row sp 0 ∷ z) (empty (drop (suc sp) row) (omega (arith, e, length-drop (suc sp) row)))
+    drop-cons row sp 0 (omega (arith, e)) ∙ ap (λ z. get_or row sp 0 ∷ z) (nil_from_length (drop (suc sp) row) (omega (arith, e, length-drop (suc sp) row)))
 
 pub all-read : (i : ℕ) (code : List Item) (P : List Item → Type 0) → i ≤ 0 → P (drop i code) → P code
 all-read i code P none h = let zero_left : i ≡ 0 = omega (arith, none) in let Q : ℕ → Type 0 = λ z. P (drop z code) in subst Q zero_left h

@@ -1,6 +1,7 @@
 -- What the calls that ask for no words make of a space.
-use Rattle.std.proofs.Common.{Vec, ◌≡◌, ℕ, zero, suc, ◌+◌, ◌-◌, ◌<◌, ◌≤◌, ◌^◌, Bool, true, false, true≢false, List}
+use Rattle.std.proofs.Common.{Vec, ◌≡◌, ℕ, zero, suc, ◌+◌, ◌-◌, ◌<◌, ◌≤◌, ◌^◌, false, List}
 use Rattle.std.proofs.Common.{[], ◌∷◌, length, get_or, set, Option, Ok, Err, inl, inr, refl, sym, ◌∙◌, ap, subst, arith}
+use Rattle.std.proofs.lemmas.Bool.{both_ways, false≢true}
 use Rattle.std.specs.List.{filter, remove}
 use Rattle.std.specs.Vec.{vec_len, vec_capacity, with_item}
 use Rattle.std.specs.declared.alloc.Global.{Global}
@@ -22,6 +23,7 @@ use Rattle.term_words.proofs.ByKind.Makes.{stands-pid}
 use Rattle.plain_machine.specs.State.{Process, State, with_process, with_register}
 use Rattle.plain_machine.specs.Step.{in_process, is_sweep, pop_from, settled, step}
 use Rattle.plain_machine.specs.Laws.{AreWithin}
+use Rattle.plain_machine.proofs.Properly.Holding.{queues, gone-within}
 use Rattle.space_api.specs.Calls.{AreRising, Follows, Passes, said}
 use Rattle.space_api.specs.declared.space.Seat.{Seat}
 use Rattle.numbered_rows.specs.Numbers.{AreBelow, numbers}
@@ -39,17 +41,11 @@ use Rattle.one_space.proofs.Processes.Counting.{made-remove, made-row}
 use Rattle.one_space.proofs.Memory.Rooms.{follows-some, passes-some}
 use Rattle.one_space.proofs.Processes.Seated.{found-there, number-there, removed-there, set-there, settled-stands}
 use Rattle.one_space.proofs.Processes.Seats.{is_other}
-use Rattle.one_space.proofs.Processes.Within.{queues, within-at, within-gone}
+use Rattle.one_space.proofs.Processes.Within.{within-at}
 use Rattle.two_halves.proofs.Standing.Apart.{apart-popped, apart-removed, apart-same}
 use Rattle.two_halves.proofs.Standing.Filled.{halves-filled, laid_out}
 use Rattle.two_halves.proofs.Standing.Stacks.{no_row}
 use Rattle.one_space.proofs.Processes.Turning.{TopOf, none-held, popped, register-set, row-stands, top-here, with_stack, with_word}
-
-false-true : false ≡ true → ⊥
-false-true e = true≢false (sym e)
-
-no-sweep : (b : Bool) → b ≡ false → b ≡ true → ⊥
-no-sweep b no_sweep e = true≢false (sym e ∙ no_sweep)
 
 -- The space after a call that changed something.
 abbrev pub after : One → Halves → One
@@ -121,10 +117,15 @@ pub holds-passed : (b : One) (c : Command) (s : State) → IsCounted b → Passe
 holds-passed b c s counts f = let t = passes-some (step s (said c end [])) (OneStands b) f in record { counts = counts; state = t.0; stands = t.1 }
 
 -- The number of a seat is below the next one.
-pub seat-below : (rows : List Proc) (i limit : ℕ) (d : Proc) → i < length rows → AreBelow limit (numbers number_in rows) → (get_or rows i d).number < limit
+seat-below : (rows : List Proc) (i limit : ℕ) (d : Proc) → i < length rows → AreBelow limit (numbers number_in rows) → (get_or rows i d).number < limit
 seat-below [] i limit d less b = absurd (omega arith)
 seat-below (r ∷ rows) zero limit d less b = b.0
 seat-below (r ∷ rows) (suc i) limit d less b = seat-below rows i limit d (omega arith) b.1
+
+-- Numbers of processes are few, as calls were.
+pub pid-below : (b : One) → Holds b → (seat : Seat) → Sits b seat → seat.pid < b.calls + 2
+pid-below b holds seat x =
+    omega (arith, seat-below b.halves.procs.items seat.row b.next no_row x.within holds.counts.below, x.number no_row, holds.counts.numbered)
 
 -- A word is put in a register.
 module _ (b : One) (holds : Holds b) (seat : Seat) (x : Sits b seat) (r : Reg) (p : Proc) (is : p ≡ get_or b.halves.procs.items seat.row p) (w : ℕ) where
@@ -143,7 +144,7 @@ module _ (b : One) (holds : Holds b) (seat : Seat) (x : Sits b seat) (r : Reg) (
       (apart-same b.halves.mem b.halves.procs.items seat.row (with_word p r.0 w) p x.within is refl o.processes.apart) in
       let Q : List Process → Type 0 = λ z. HalvesStand b.named worded.halves s.shared z in
       settled-stands b worded s line (with_register r.0 t q) o (subst Q (sym (set-there b s o holds.counts seat x (with_register r.0 t q) number)) stands) refl (sym other) refl
-      (λ e. absurd (no-sweep (is_sweep line.command) other e)) (within-at s.shared s.processes seat.row o.within)
+      (λ e. absurd (both_ways (is_sweep line.command) other e)) (within-at s.shared s.processes seat.row o.within)
 
   pub word-counts : IsCounted worded
   word-counts =
@@ -203,8 +204,8 @@ module _ (b : One) (holds : Holds b) (seat : Seat) (x : Sits b seat) (v : Vec Pr
         swept = refl;
         shared = o.shared;
         areas = o.areas;
-        within = (let W : ℕ → Type 0 = λ n. AreWithin s.shared (queues (filter (is_other n) s.processes)) in subst W (sym number) (within-gone s.shared seat.pid s.processes o.within));
-        reached = λ e. absurd (false-true e);
+        within = (let W : ℕ → Type 0 = λ n. AreWithin s.shared (queues (filter (is_other n) s.processes)) in subst W (sym number) (gone-within s.shared seat.pid s.processes o.within));
+        reached = λ e. absurd (false≢true e);
       })
 
   exit-counts : IsCounted (ended b (laid_out b.halves b.halves.mem b.halves.top b.halves.low v) spare)
@@ -283,7 +284,7 @@ module _ (b : One) (holds : Holds b) (seat : Seat) (x : Sits b seat) (r : Reg) (
         let Q : List Tree → Type 0 = λ z. Follows {A = Unit {0}} (pop_from z s line q r.0) s (Ok tt) (OneStands b2) in
         let R : List Process → Type 0 = λ z. HalvesStand b.named b2.halves s.shared z in
         subst P (sym (found-there b s o holds.counts seat x)) (subst Q (sym (top-there s o).shape)
-        (settled-stands b b2 s line q2 o (subst R (sym (set-there b s o holds.counts seat x q2 (number-there b s o holds.counts seat x))) stands) refl refl refl (λ e. absurd (false-true e))
+        (settled-stands b b2 s line q2 o (subst R (sym (set-there b s o holds.counts seat x q2 (number-there b s o holds.counts seat x))) stands) refl refl refl (λ e. absurd (false≢true e))
         (within-at s.shared s.processes seat.row o.within)))
 
     pop-counts : IsCounted (after b (laid_out b.halves b.halves.mem b.halves.top b.halves.low (with_item b.halves.procs seat.row (with_stack (with_word p r.0 w) u d))))

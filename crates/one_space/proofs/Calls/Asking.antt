@@ -1,8 +1,7 @@
 -- What a call asks for: how its collection and its refusal follow from the room that was made.
 use Rattle.std.proofs.Common.{◌≡◌, ℕ, ◌<◌, ◌≤◌, Bool, true, false, not, nat_le, Result, Ok, Err, OnErr, refl, sym, ◌∙◌, ap, subst, arith, ◌+◌, OnOk}
 use Rattle.std.proofs.Math.Decide.{dec_le}
-use Rattle.std.proofs.lemmas.Bool.Decides.{nat_tests}
-use Rattle.std.proofs.lemmas.Bool.{leb-false}
+use Rattle.std.proofs.lemmas.Bool.{leb-false, true≢false, both_ways, le-leb}
 use Rattle.script_grammar.specs.declared.refusal.Refusal.{Refusal}
 use Rattle.script_grammar.specs.declared.refusal.Refusal.TheVariants as refusal
 use Rattle.two_halves.specs.Halves.{free_in}
@@ -16,21 +15,15 @@ use Rattle.item_build.specs.declared.building.BuildStop.TheVariants as stop
 use Rattle.term_verbs.specs.declared.pairs.PutStop.{PutStop}
 use Rattle.term_verbs.specs.declared.pairs.PutStop.TheVariants as put
 
-at-least : (m n : ℕ) → m ≤ n → nat_le m n ≡ true
-at-least m n h = grind (arith, nat_tests)
-
 -- There was no room before, where there is none after.
 no-room : (n : ℕ) (old h : Halves) (ok : Bool) → MakesRoom n old h ok → ok ≡ false → free_in old < n
 no-room n old h ok m lacking = elim (dec_le n (free_in old)) [
   | yes there ↦
       let P : Halves → Type 0 = λ z. ok ≡ nat_le n (free_in z) in
       let is : ok ≡ nat_le n (free_in old) = subst P (m.idle there) m.answer in
-      absurd (contrary ok (is ∙ at-least n (free_in old) there) lacking)
+      absurd (both_ways ok lacking (is ∙ le-leb n (free_in old) there))
   | no few ↦ omega arith
 ]
-  where
-    contrary : (b : Bool) → b ≡ true → b ≡ false → ⊥
-    contrary b x y = cc
 
 -- As many words are looked for as are asked for.
 looked : (n m : ℕ) (old h : Halves) (ok : Bool) → MakesRoom n old h ok → n ≡ m → MakesRoom m old h ok
@@ -61,12 +54,9 @@ module _ {A : Type 0} (n m : ℕ) (b : One) (h : Halves) (ok : Bool) (room : Mak
     given_back = back;
     idle = λ there. sweeps ∙ ap (λ z. z.sweeps) (room.idle (omega (arith, there, same)));
     once = λ few. sweeps ∙ (room.collects (omega (arith, few, same))).counted;
-    refused = λ g e. let P : Result A Refusal → Type 0 = λ z. is_nospace z ≡ false in absurd (contrary (subst P e other));
+    refused = λ g e. let P : Result A Refusal → Type 0 = λ z. is_nospace z ≡ false in absurd (true≢false (subst P e other));
     few = few;
   }
-    where
-      contrary : true ≡ false → ⊥
-      contrary x = cc
 
   pub asks-grown : ok ≡ true → (b2 : One) → b2.halves.sweeps ≡ h.sweeps → free_in h ≤ free_in b2.halves + n → (a : A) → Asks m b b2 (Ok a)
   asks-grown given b2 sweeps few a = asks-else given b2 sweeps (Ok a) refl tt (omega (arith, few, same))

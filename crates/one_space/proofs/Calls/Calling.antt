@@ -1,5 +1,6 @@
 -- The calls of the space, from those of what it holds.
-use Rattle.std.proofs.Common.{◌≡◌, ℕ, ◌≤◌, ◌%◌, ◌/◌, Bool, true, false, true≢false, List, [], ◌∷◌, ◌++◌, length, Option, Result, replicate, refl, sym, ◌∙◌, ap, subst, arith, inl}
+use Rattle.std.proofs.Common.{◌≡◌, ℕ, ◌≤◌, ◌%◌, ◌/◌, Bool, true, false, List, [], ◌∷◌, ◌++◌, length, Option, Result, replicate, refl, sym, ◌∙◌, ap, subst, arith, inl}
+use Rattle.std.proofs.lemmas.Bool.{false≢true}
 use Rattle.std.specs.Vec.{vec_len, vec_capacity}
 use Rattle.script_grammar.specs.declared.command.Command.{Command}
 use Rattle.script_grammar.specs.declared.command.Command.TheVariants.{Process as OfProcess, System}
@@ -66,11 +67,8 @@ sweep-passes b c terms names s w o =
 abbrev never : ℕ → ℕ → Bool
 never a k = false
 
-false-true : false ≡ true → ⊥
-false-true e = true≢false (sym e)
-
 no-record : (mem : List ℕ) (v n : ℕ) → IsRecord never mem v n → ⊥
-no-record mem v n there = false-true (record-first never mem v n there)
+no-record mem v n there = false≢true (record-first never mem v n there)
 
 none-listed : (mem : List ℕ) → RecordsStand never mem [] [] []
 none-listed mem = record {
@@ -94,13 +92,13 @@ module _ (b : One) (p : Proc) (one : b.halves.procs.items ≡ p ∷ []) (number 
       record {
         processes = record {
           test = never;
-          single = record { one = λ a j k x y. absurd (false-true x) };
-          lie = λ a k e. absurd (false-true e);
+          single = record { one = λ a j k x y. absurd (false≢true x) };
+          lie = λ a k e. absurd (false≢true e);
           chained = [];
           linked = sym linked;
           links = record { chain = head; once = tt; each = λ q i. absurd i; beside = λ q i. absurd i; counts = λ v n there. absurd (no-record b.halves.mem v n there) };
           inside = λ q i. absurd i;
-          every = λ q e. absurd (false-true e);
+          every = λ q e. absurd (false≢true e);
           records = subst B (sym bins) (subst F (sym funs) (none-listed b.halves.mem));
           fun_names = λ v i. absurd (let N : List ℕ → Type 0 = λ z. In v z in subst N funs i);
           processes = subst P (sym one) (fresh-stands never [] b.halves.mem b.named b.halves.low (end_of b.halves) p 1 number regs flat waiting none, tt);
@@ -111,7 +109,7 @@ module _ (b : One) (p : Proc) (one : b.halves.procs.items ≡ p ∷ []) (number 
         shared = sym serials;
         areas = refl;
         within = tt;
-        reached = λ e. absurd (false-true e);
+        reached = λ e. absurd (false≢true e);
       }
 
   module _ (words : ℕ) (len : length b.halves.mem ≡ words) (least : 4096 ≤ words) (even : words % 2 ≡ 0) (base : b.halves.base ≡ 0) (top : b.halves.top ≡ 2) (low : b.halves.low ≡ words / 2)

@@ -3,8 +3,7 @@ use Rattle.std.proofs.Common.{Vec, ◌≡◌, ℕ, ◌+◌, ◌-◌, ◌/◌, �
 use Rattle.std.proofs.Common.{◌++◌, length, get_or, set, replicate, Option, Some, Result, Ok, Err, refl, sym, ◌∙◌, ap, subst, arith, inl, inr}
 use Rattle.std.specs.Vec.{vec_len, vec_capacity, with_item}
 use Rattle.std.specs.declared.alloc.Global.{Global}
-use Rattle.std.proofs.lemmas.Bool.{leb-false, leb-true}
-use Rattle.std.proofs.lemmas.Bool.Decides.{nat_tests}
+use Rattle.std.proofs.lemmas.Bool.{leb-false, leb-true, lt-leb, le-leb}
 use Rattle.std.proofs.lemmas.List.{length-append, length-set}
 use Rattle.std.proofs.lemmas.List.Sums.{sum_by_push}
 use Rattle.script_grammar.specs.declared.command.Command.{Command}
@@ -22,6 +21,7 @@ use Rattle.plain_machine.specs.State.{Process, State, fresh_process, process_of,
 use Rattle.plain_machine.specs.Step.{in_process, spawn_if, step}
 use Rattle.plain_machine.specs.Tightness.{grow, process_words}
 use Rattle.plain_machine.specs.May.{gets_to_space, may_of_tight}
+use Rattle.plain_machine.proofs.Properly.Holding.{spawned-within}
 use Rattle.space_api.specs.Calls.{AreRising, Becomes, Follows, said}
 use Rattle.space_api.specs.declared.space.Seat.{Seat}
 use Rattle.numbered_rows.specs.Numbers.{AreBelow, numbers}
@@ -41,7 +41,7 @@ use Rattle.two_halves.proofs.Collected.Ended.{row-count}
 use Rattle.two_halves.specs.Stack.{AreApart}
 use Rattle.two_halves.specs.Halves.{all_places}
 use Rattle.two_halves.proofs.Standing.Apart.{apart-more}
-use Rattle.one_space.proofs.Processes.Within.{within-at, within-more}
+use Rattle.one_space.proofs.Processes.Within.{within-at}
 use Rattle.one_space.proofs.Memory.Rooms.{becomes-some, counts-roomed, no-space, reached-roomed, roomed, sits-roomed, stands-roomed, stays-roomed}
 use Rattle.one_space.proofs.Processes.Seated.{count-there, found-there, number-there, set-there, settled-stands}
 use Rattle.one_space.proofs.Processes.Turning.{pushed, pushed-apart, pushed-len, with_stack, words}
@@ -97,12 +97,6 @@ module _ (b : One) (holds : Holds b) (n : ℕ) (h : Halves) (ok : Bool) (room : 
 -- The space after a process was made.
 abbrev pub spawned : One → Halves → Vec Proc Global → One
 spawned b h spare = record { halves = h; row = b.row; spare = spare; next = b.next + 1; serials = b.serials; named = b.named; calls = b.calls + 1; swept = false }
-
-at-least : (m n : ℕ) → m ≤ n → nat_le m n ≡ true
-at-least m n h = grind (arith, nat_tests)
-
-not-least : (m n : ℕ) → n < m → nat_le m n ≡ false
-not-least m n h = grind (arith, nat_tests)
 
 -- A process lives where one has a seat.
 pub some-process : (b : One) → Holds b → (seat : Seat) → Sits b seat → (s : State) → OneStands b s → 0 < length s.processes
@@ -218,7 +212,7 @@ module _ (b : One) (holds : Holds b) where
   spawn-refused many = record {
     holds = holds;
     becomes = λ s terms names o.
-        let full : nat_le 1024 (length s.processes) ≡ true = at-least 1024 (length s.processes) (omega (arith, many, count-there b s o holds.counts)) in
+        let full : nat_le 1024 (length s.processes) ≡ true = le-leb 1024 (length s.processes) (omega (arith, many, count-there b s o holds.counts)) in
         let P : Bool → Type 0 = λ z. Follows {A = ℕ} (spawn_if z s (said (System sysverb.Spawn) terms names)) s (Err refusal.Procs) (OneStands b) in
         inl (subst P (sym full) (refl, o));
     books = record { same_words = refl; one_call = omega arith; few_names = omega arith };
@@ -226,7 +220,7 @@ module _ (b : One) (holds : Holds b) where
 
   module _ (few : length b.halves.procs.items < 1024) (h : Halves) (ok : Bool) (room : MakesRoom 14 b.halves h ok) where
     not-full : (s : State) → OneStands b s → nat_le 1024 (length s.processes) ≡ false
-    not-full s o = not-least 1024 (length s.processes) (omega (arith, few, count-there b s o holds.counts))
+    not-full s o = lt-leb 1024 (length s.processes) (omega (arith, few, count-there b s o holds.counts))
 
     pub room-for-one : vec_len h.procs < vec_capacity h.procs
     room-for-one = omega (
@@ -273,7 +267,7 @@ module _ (b : One) (holds : Holds b) where
             swept = refl;
             shared = o.shared;
             areas = o.areas;
-            within = within-more s.shared (fresh_process s.next) s.processes tt o.within;
+            within = spawned-within s.shared s.next s.processes o.within;
             reached = λ e. absurd
                 (true≢false (sym e));
           }))

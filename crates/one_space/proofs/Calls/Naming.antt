@@ -1,5 +1,6 @@
 -- The names of a tree are below a greater number too.
-use Rattle.std.proofs.Common.{◌≡◌, ℕ, zero, suc, ◌≤◌, ◌&&◌, Bool, true, false, nat_lt, refl, arith}
+use Rattle.std.proofs.Common.{◌≡◌, ℕ, zero, suc, ◌≤◌, ◌&&◌, true, nat_lt, refl, arith}
+use Rattle.std.proofs.lemmas.Bool.{and_from, and_parts}
 use Rattle.std.proofs.lemmas.Bool.Decides.{nat_tests}
 use Rattle.plain_term.specs.Tree.{Tree, Trees, Pairs, same_trees}
 use Rattle.plain_term.specs.Tree.Tree.{Int, Atom, Pid, Ref, Nil, Cons, Tuple, Map, Bin, Shared, Part, Fun}
@@ -14,17 +15,6 @@ use Rattle.term_maps.specs.declared.sorted.Spot.{Spot}
 use Rattle.term_maps.specs.declared.sorted.Spot.TheVariants as spot
 use Rattle.term_verbs.specs.Placed.{pair_insert, pair_set, placed}
 
-first : (a b : Bool) → a && b ≡ true → a ≡ true
-first true b h = refl
-first false b h = h
-
-second : (a b : Bool) → a && b ≡ true → b ≡ true
-second true b h = h
-second false b h = absurd cc
-
-both : (a b : Bool) → a ≡ true → b ≡ true → a && b ≡ true
-both a b x y = rw (x, y) refl
-
 below-more : (k n m : ℕ) → n ≤ m → nat_lt k n ≡ true → nat_lt k m ≡ true
 below-more k n m up h = grind (arith, nat_tests)
 
@@ -36,36 +26,36 @@ module _ (n m : ℕ) (up : n ≤ m) where
     named-more (Pid k) h = refl
     named-more (Ref k j) h = refl
     named-more Nil h = refl
-    named-more (Cons x t) h = both (is_named m x) (is_named m t) (named-more x (first (is_named n x) (is_named n t) h)) (named-more t (second (is_named n x) (is_named n t) h))
+    named-more (Cons x t) h = and_from (is_named m x) (is_named m t) (named-more x ((and_parts (is_named n x) (is_named n t) h).0)) (named-more t ((and_parts (is_named n x) (is_named n t) h).1))
     named-more (Tuple ts) h = are-more ts h
     named-more (Map ps) h = pairs-more ps h
     named-more (Bin bytes) h = refl
     named-more (Shared id) h = refl
     named-more (Part base offset len) h = refl
     named-more (Fun name arity creator env) h =
-        both (nat_lt name m) (are_named m env) (below-more name n m up (first (nat_lt name n) (are_named n env) h)) (are-more env (second (nat_lt name n) (are_named n env) h))
+        and_from (nat_lt name m) (are_named m env) (below-more name n m up ((and_parts (nat_lt name n) (are_named n env) h).0)) (are-more env ((and_parts (nat_lt name n) (are_named n env) h).1))
 
     are-more : (ts : Trees) → are_named n ts ≡ true → are_named m ts ≡ true
     are-more end h = refl
-    are-more (t ▹ ts) h = both (is_named m t) (are_named m ts) (named-more t (first (is_named n t) (are_named n ts) h)) (are-more ts (second (is_named n t) (are_named n ts) h))
+    are-more (t ▹ ts) h = and_from (is_named m t) (are_named m ts) (named-more t ((and_parts (is_named n t) (are_named n ts) h).0)) (are-more ts ((and_parts (is_named n t) (are_named n ts) h).1))
 
     pairs-more : (ps : Pairs) → pairs_named n ps ≡ true → pairs_named m ps ≡ true
     pairs-more stop h = refl
     pairs-more (pair k v ps) h =
-        let front : is_named n k && is_named n v ≡ true = first (is_named n k && is_named n v) (pairs_named n ps) h in
-        both (is_named m k && is_named m v) (pairs_named m ps)
-        (both (is_named m k) (is_named m v) (named-more k (first (is_named n k) (is_named n v) front)) (named-more v (second (is_named n k) (is_named n v) front)))
-        (pairs-more ps (second (is_named n k && is_named n v) (pairs_named n ps) h))
+        let front : is_named n k && is_named n v ≡ true = (and_parts (is_named n k && is_named n v) (pairs_named n ps) h).0 in
+        and_from (is_named m k && is_named m v) (pairs_named m ps)
+        (and_from (is_named m k) (is_named m v) (named-more k ((and_parts (is_named n k) (is_named n v) front).0)) (named-more v ((and_parts (is_named n k) (is_named n v) front).1)))
+        (pairs-more ps ((and_parts (is_named n k && is_named n v) (pairs_named n ps) h).1))
 
 -- Many times a tree has the names of the tree.
 module _ (n : ℕ) (t : Tree) (named : is_named n t ≡ true) where
   times-named : (k : ℕ) → are_named n (same_trees k t) ≡ true
   times-named zero = refl
-  times-named (suc k) = both (is_named n t) (are_named n (same_trees k t)) named (times-named k)
+  times-named (suc k) = and_from (is_named n t) (are_named n (same_trees k t)) named (times-named k)
 
   list-named : (k : ℕ) → is_named n (list_tree (same_trees k t) Nil) ≡ true
   list-named zero = refl
-  list-named (suc k) = both (is_named n t) (is_named n (list_tree (same_trees k t) Nil)) named (list-named k)
+  list-named (suc k) = and_from (is_named n t) (is_named n (list_tree (same_trees k t) Nil)) named (list-named k)
 
   pub repeated-named : (shape : Shape) (k : ℕ) → is_named n (repeated shape k t) ≡ true
   repeated-named InTuple k = times-named k
@@ -74,21 +64,21 @@ module _ (n : ℕ) (t : Tree) (named : is_named n t ≡ true) where
 -- A map with a pair more has no names but those of the map and of the pair.
 module _ (n : ℕ) (k v : Tree) (key : is_named n k ≡ true) (value : is_named n v ≡ true) where
   pair-joins : (j w : Tree) (ps : Pairs) → is_named n j ≡ true → is_named n w ≡ true → pairs_named n ps ≡ true → pairs_named n (pair j w ps) ≡ true
-  pair-joins j w ps x y h = both (is_named n j && is_named n w) (pairs_named n ps) (both (is_named n j) (is_named n w) x y) h
+  pair-joins j w ps x y h = and_from (is_named n j && is_named n w) (pairs_named n ps) (and_from (is_named n j) (is_named n w) x y) h
 
   set-named : (ps : Pairs) (i : ℕ) → pairs_named n ps ≡ true → pairs_named n (pair_set i k v ps) ≡ true
   set-named stop i h = refl
-  set-named (pair j w ps) zero h = pair-joins k v ps key value (second (is_named n j && is_named n w) (pairs_named n ps) h)
+  set-named (pair j w ps) zero h = pair-joins k v ps key value ((and_parts (is_named n j && is_named n w) (pairs_named n ps) h).1)
   set-named (pair j w ps) (suc i) h =
-      both (is_named n j && is_named n w) (pairs_named n (pair_set i k v ps)) (first (is_named n j && is_named n w) (pairs_named n ps) h)
-      (set-named ps i (second (is_named n j && is_named n w) (pairs_named n ps) h))
+      and_from (is_named n j && is_named n w) (pairs_named n (pair_set i k v ps)) ((and_parts (is_named n j && is_named n w) (pairs_named n ps) h).0)
+      (set-named ps i ((and_parts (is_named n j && is_named n w) (pairs_named n ps) h).1))
 
   insert-named : (ps : Pairs) (i : ℕ) → pairs_named n ps ≡ true → pairs_named n (pair_insert i k v ps) ≡ true
   insert-named stop i h = pair-joins k v stop key value refl
   insert-named (pair j w ps) zero h = pair-joins k v (pair j w ps) key value h
   insert-named (pair j w ps) (suc i) h =
-      both (is_named n j && is_named n w) (pairs_named n (pair_insert i k v ps)) (first (is_named n j && is_named n w) (pairs_named n ps) h)
-      (insert-named ps i (second (is_named n j && is_named n w) (pairs_named n ps) h))
+      and_from (is_named n j && is_named n w) (pairs_named n (pair_insert i k v ps)) ((and_parts (is_named n j && is_named n w) (pairs_named n ps) h).0)
+      (insert-named ps i ((and_parts (is_named n j && is_named n w) (pairs_named n ps) h).1))
 
   pub placed-named : (x : Spot) (ps : Pairs) → pairs_named n ps ≡ true → pairs_named n (placed x k v ps) ≡ true
   placed-named (spot.Same i) ps h = set-named ps i h

@@ -1,5 +1,5 @@
 -- A new term in a register: what the space stands for after it, whatever was built.
-use Rattle.std.proofs.Common.{Vec, ◌≡◌, ℕ, ◌+◌, ◌/◌, ◌<◌, ◌≤◌, ◌⊎◌, Bool, true, false, true≢false, List, length, map, get_or, set, Some, refl, sym, ◌∙◌, ap, subst, arith, inl, inr}
+use Rattle.std.proofs.Common.{Vec, ◌≡◌, ℕ, ◌+◌, ◌/◌, ◌<◌, ◌≤◌, ◌⊎◌, Bool, true, false, true≢false, List, length, map, get_or, set, Some, refl, sym, ◌∙◌, ap, subst, arith, inl, inr, [], Ok}
 use Rattle.std.specs.Vec.{vec_len, with_item}
 use Rattle.std.specs.declared.alloc.Global.{Global}
 use Rattle.std.proofs.lemmas.List.{length-set}
@@ -8,27 +8,31 @@ use Rattle.plain_term.specs.Tree.{Tree}
 use Rattle.script_grammar.specs.declared.command.Command.TheVariants.{Process as OfProcess}
 use Rattle.script_grammar.specs.declared.command.Verb.{Verb}
 use Rattle.script_grammar.specs.Written.{Terms}
+use Rattle.script_grammar.specs.Written.Terms.{end}
 use Rattle.term_order.specs.Named.{is_named}
 use Rattle.term_build.specs.Taken.{IsFree}
 use Rattle.term_build.specs.Grows.{Built}
 use Rattle.term_build.specs.Clear.{IsRoom, Uses}
 use Rattle.plain_machine.specs.State.{Process, State, process_of, with_process, with_register}
 use Rattle.plain_machine.specs.Step.{settled}
-use Rattle.space_api.specs.Calls.{said}
+use Rattle.plain_machine.specs.May.{may_of_tight}
+use Rattle.space_api.specs.Calls.{said, Becomes}
 use Rattle.space_api.specs.declared.space.Seat.{Seat}
 use Rattle.two_halves.specs.Halves.{HalvesStand, HoldsTree, IsLaid, ProcsStand, end_of, places_in}
 use Rattle.two_halves.specs.Collecting.{MakesRoom}
-use Rattle.one_space.specs.One.{Holds, IsCounted, OneStands, Sits}
+use Rattle.two_halves.proofs.Queued.Queuing.{row-set}
+use Rattle.one_space.specs.One.{Holds, IsCounted, OneStands, Sits, words_of}
 use Rattle.two_halves.specs.declared.halves.Halves.{Halves}
 use Rattle.one_space.specs.declared.one.One.{One}
+use Rattle.one_space.specs.Doing.{Does}
 use Rattle.two_halves.specs.declared.table.Proc.{Proc}
 use Rattle.one_space.proofs.Calls.Acting.{counts-same, half-within, numbers-row, places-row}
-use Rattle.one_space.proofs.Processes.Changing.{held-set, no_process, procs-set}
+use Rattle.one_space.proofs.Processes.Changing.{held-set, no_process}
 use Rattle.one_space.proofs.Processes.Counting.{made-at, made-set}
-use Rattle.one_space.proofs.Calls.Growing.{counts-there, room-there, roomed-there, sits-there}
+use Rattle.one_space.proofs.Calls.Growing.{counts-there, room-there, roomed-there, sits-there, holds-become}
 use Rattle.one_space.proofs.Calls.Naming.{named-more}
 use Rattle.one_space.proofs.Memory.Resting.{rest-laid}
-use Rattle.one_space.proofs.Memory.Rooms.{roomed}
+use Rattle.one_space.proofs.Memory.Rooms.{roomed, stays-roomed}
 use Rattle.one_space.proofs.Processes.Seated.{found-there, number-there, set-there, settled-stands}
 use Rattle.one_space.proofs.Processes.Seats.{replaced}
 use Rattle.one_space.proofs.Processes.Within.{within-at}
@@ -103,6 +107,18 @@ module _ (b : One) (holds : Holds b) (seat : Seat) (x : Sits b seat) (n : ℕ) (
           (numbers-row h.procs.items seat.row (with_term p r w made) p sits1.within is refl) (length-set h.procs.items seat.row (with_term p r w made)) refl same_row refl (omega arith) refl
           (made-set (b.calls + 1) (b.calls + 1) (omega arith) h.procs.items seat.row (with_term p r w made) counts1.made most) refl uses.same_len refl refl refl
 
+      -- A verb after which the space stands for its state does what it says.
+      pub term-does : (v : Verb) → made ≤ b.calls + 1
+          → ((s : State) (terms : Terms) (names : List (List ℕ)) → OneStands b s
+          → Becomes {A = Unit {0}} may_of_tight (words_of b) s (said (OfProcess seat.pid v) terms names) (Ok tt) (OneStands (built_in b h2 row b.named)))
+          → Does {A = Unit {0}} (OfProcess seat.pid v) b (built_in b h2 row b.named) (Ok tt)
+      term-does v most stands = record {
+        holds = holds-become {A = Unit {0}} (words_of b) (built_in b h2 row b.named) holds.state (said (OfProcess seat.pid v) end []) (Ok tt) (term-counts b.named most)
+            (stands holds.state end [] holds.stands);
+        becomes = stands;
+        books = record { same_words = uses.same_len ∙ (stays-roomed n b.halves h ok room).same_len; one_call = omega arith; few_names = omega arith };
+      }
+
       module _ (s : State) (o : OneStands b s) (t : Tree) (named refs : ℕ) (more : b.named ≤ named) (names : is_named named t ≡ true) (same_refs : refs ≡ made)
           (built : Built (roomed-there b holds n h ok room s o).processes.test h.top used h.mem mem2 s.shared w t) where
         o1 : OneStands (roomed b h) s
@@ -135,7 +151,7 @@ module _ (b : One) (holds : Holds b) (seat : Seat) (x : Sits b seat) (n : ℕ) (
         set-rows : ProcsStand built.test s.shared mem2 h.low (end_of h) named (set h.procs.items seat.row (with_term p r w made)) (set s.processes seat.row (with_tree q r t refs))
         set-rows =
             let old = row-stands built.test s.shared mem2 h.low (end_of h) named h.procs.items s.processes seat.row p sits1.within is rows in
-            procs-set built.test s.shared mem2 named h.low (end_of h) h.procs.items s.processes seat.row (with_term p r w made) (with_tree q r t refs) rows (record {
+            row-set built.test s.shared mem2 h.low (end_of h) named h.procs.items s.processes seat.row (with_term p r w made) (with_tree q r t refs) rows (record {
               number = old.number;
               count = length-set p.regs r w ∙ old.count;
               registers = held-set built.test s.shared mem2 named p.regs q.registers r w t old.registers (record { standing = built.made; names = names });

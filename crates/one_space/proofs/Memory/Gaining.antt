@@ -10,7 +10,9 @@ use Rattle.plain_machine.specs.State.{Process, State, with_process, with_registe
 use Rattle.plain_machine.specs.Step.{is_sweep, settled}
 use Rattle.space_api.specs.declared.space.Seat.{Seat}
 use Rattle.plain_machine.specs.Laws.{AreWithin}
-use Rattle.one_space.proofs.Processes.Within.{queues, within-at, within-put}
+use Rattle.plain_machine.proofs.Properly.Holding.{queues, put-within}
+use Rattle.two_halves.proofs.Queued.Queuing.{row-set}
+use Rattle.one_space.proofs.Processes.Within.{within-at}
 use Rattle.two_halves.proofs.Standing.Apart.{apart-same}
 use Rattle.two_halves.specs.Halves.{HalvesStand, IsLaid, ProcsStand, end_of, places_in}
 use Rattle.term_words.specs.Counted.{In, total}
@@ -25,7 +27,7 @@ use Rattle.two_halves.proofs.Standing.Filled.{laid_out}
 use Rattle.one_space.specs.One.{HaveMade, Holds, IsCounted, OneStands, Sits, number_in}
 use Rattle.one_space.specs.declared.one.One.{One}
 use Rattle.one_space.proofs.Calls.Acting.{numbers-row, places-row}
-use Rattle.one_space.proofs.Processes.Changing.{held-set, no_process, procs-set}
+use Rattle.one_space.proofs.Processes.Changing.{held-set, no_process}
 use Rattle.one_space.proofs.Processes.Counting.{made-row}
 use Rattle.one_space.proofs.Calls.Growing.{counts-there, room-there, roomed-there, sits-there}
 use Rattle.one_space.proofs.Memory.Rooms.{roomed}
@@ -173,7 +175,7 @@ module _ (b : One) (holds : Holds b) (seat : Seat) (x : Sits b seat) (n : ℕ) (
     set-rows : ProcsStand g.stands.test shared2 h4.mem h4.low (end_of h4) named items2 (set s.processes seat.row (with_register r t q))
     set-rows =
         let old = row-stands g.stands.test shared2 h4.mem h4.low (end_of h4) named h4.procs.items s.processes seat.row p within4 is g.stands.processes in
-        procs-set g.stands.test shared2 h4.mem named h4.low (end_of h4) h4.procs.items s.processes seat.row row2 (with_register r t q) g.stands.processes (record {
+        row-set g.stands.test shared2 h4.mem h4.low (end_of h4) named h4.procs.items s.processes seat.row row2 (with_register r t q) g.stands.processes (record {
           number = old.number;
           count = length-set p.regs r w ∙ old.count;
           registers = held-set g.stands.test shared2 h4.mem named p.regs q.registers r w t old.registers (record { standing = g.made; names = names });
@@ -211,6 +213,6 @@ module _ (b : One) (holds : Holds b) (seat : Seat) (x : Sits b seat) (n : ℕ) (
       swept = other;
       shared = serial_is;
       areas = o.areas;
-      within = within-put shared2 (with_register r t q) s.processes (within-at shared2 s.processes seat.row within2) within2;
+      within = put-within shared2 (with_register r t q) s.processes (within-at shared2 s.processes seat.row within2) within2;
       reached = λ e. absurd (true≢false (sym e ∙ other));
     }

@@ -2,7 +2,7 @@
 -- the chain and in the table.
 use Rattle.std.proofs.Common.{Vec, ◌≡◌, ℕ, zero, suc, ◌+◌, ◌*◌, ◌/◌, ◌<◌, ◌≤◌, ◌⊎◌, Bool, true, List, [], ◌∷◌, ◌++◌, length, get_or, refl, sym, ◌∙◌, ap, subst, arith, inl, inr}
 use Rattle.std.specs.declared.alloc.Global.{Global}
-use Rattle.std.proofs.lemmas.List.{get_or_append_left, length-append}
+use Rattle.std.proofs.lemmas.List.{length-append}
 use Rattle.word_mem.specs.declared.ranges.Room.{Room}
 use Rattle.plain_term.specs.Bytes.{shared_bytes}
 use Rattle.plain_machine.specs.State.{Process}
@@ -12,9 +12,12 @@ use Rattle.term_words.specs.Object.{IsBinRecord, IsRecord, IsShared}
 use Rattle.term_words.specs.Stands.{Stands}
 use Rattle.term_words.specs.Counted.{In, Distinct, total}
 use Rattle.term_words.proofs.Totals.Members.{both-distinct, both-total, in-both, in-left, in-right}
+use Rattle.term_words.proofs.ByKind.Inside.{record-inside}
+use Rattle.term_words.proofs.Framing.Growing.{shared-same}
 use Rattle.shared_rec.specs.Record.{count_in, owner_in}
-use Rattle.shared_rec.proofs.Records.{bin-stays, fun-stays}
+use Rattle.shared_rec.proofs.Records.{bin-stays, fun-stays, record-first}
 use Rattle.off_heap_list.specs.Links.{Links}
+use Rattle.off_heap_list.proofs.Chaining.Exact.{distinct-left, distinct-right}
 use Rattle.record_move.specs.Copies.{record_words}
 use Rattle.record_move.specs.Tables.{OwnersRise}
 use Rattle.item_build.specs.Building.{Laid, LeavesRoom, holders_from}
@@ -23,6 +26,7 @@ use Rattle.two_halves.specs.Stack.{AreApart}
 use Rattle.two_halves.specs.Halves.{all_places, HalvesStand, IsBinOf, IsFunOf, IsLaid, ProcsStand, RecordsStand, end_of, front_of, places_in}
 use Rattle.two_halves.specs.declared.halves.Halves.{Halves}
 use Rattle.two_halves.specs.declared.table.Proc.{Proc}
+use Rattle.two_halves.proofs.Standing.Joining.{rise-same, distinct-apart}
 use Rattle.one_space.specs.Entered.{records_from}
 use Rattle.one_space.proofs.Memory.Tabled.{entered-at, entered-in, record_at}
 
@@ -64,36 +68,6 @@ rise-both mem (x ∷ xs) ys (first, rest) two apart = (
   (λ w i. elim (in-both w xs ys i) [ inl a ↦ first w a | inr b ↦ apart x w (inl refl) b ]),
   rise-both mem xs ys rest two (λ v w i j. apart v w (inr i) j),
 )
-
-rise-same : (mem mem2 : List ℕ) (vs : List ℕ) → ((u : ℕ) → In u vs → owner_in mem2 u ≡ owner_in mem u) → OwnersRise mem vs → OwnersRise mem2 vs
-rise-same mem mem2 [] same r = tt
-rise-same mem mem2 (v ∷ vs) same (first, rest) =
-    ((λ w i. omega (arith, first w i, same v (inl refl), same w (inr i))), rise-same mem mem2 vs (λ u i. same u (inr i)) rest)
-
-bytes-more : (shared extra : List (List ℕ)) (id : ℕ) → id ≤ length shared → shared_bytes (shared ++ extra) id ≡ shared_bytes shared id
-bytes-more shared extra zero known = refl
-bytes-more shared extra (suc k) known = get_or_append_left shared extra [] k (omega (arith, known))
-
-distinct-left : (xs ys : List ℕ) → Distinct (xs ++ ys) → Distinct xs
-distinct-left [] ys d = tt
-distinct-left (x ∷ xs) ys (n, d) = ((λ i. n (in-left x xs ys i)), distinct-left xs ys d)
-
-distinct-right : (xs ys : List ℕ) → Distinct (xs ++ ys) → Distinct ys
-distinct-right [] ys d = d
-distinct-right (x ∷ xs) ys (n, d) = distinct-right xs ys d
-
-distinct-apart : (xs ys : List ℕ) → Distinct (xs ++ ys) → (u : ℕ) → In u xs → In u ys → ⊥
-distinct-apart [] ys d u i j = i
-distinct-apart (x ∷ xs) ys (n, d) u (inl e) j = let P : ℕ → Type 0 = λ z. In z ys in n (in-right x xs ys (subst P e j))
-distinct-apart (x ∷ xs) ys (n, d) u (inr i) j = distinct-apart xs ys d u i j
-
-record-first : (c : ℕ → ℕ → Bool) (mem : List ℕ) (v n : ℕ) → IsRecord c mem v n → c v RECORD_FIRST ≡ true
-record-first c mem v n (inl (serial, bytes, o, words)) = o.first
-record-first c mem v n (inr (name, arity, o, words)) = o.first
-
-record-whole : (c : ℕ → ℕ → Bool) (mem : List ℕ) (v n : ℕ) → IsRecord c mem v n → v + n ≤ length mem
-record-whole c mem v n (inl (serial, bytes, o, words)) = omega (arith, o.within, words)
-record-whole c mem v n (inr (name, arity, o, words)) = omega (arith, o.within, words)
 
 module _ (h : Halves) (shared extra : List (List ℕ)) (named : ℕ) (qs : List Process) (laid : IsLaid h) (s : HalvesStand named h shared qs) (d : ℕ → ℕ → Bool) (z : Room) (mem2 : List ℕ)
     (head2 n : ℕ) (made : Laid s.test d (shared ++ extra) (record { start = h.base; top = h.top; end = h.low }) z h.mem mem2 h.head head2 (length shared) n)
@@ -155,7 +129,7 @@ module _ (h : Halves) (shared extra : List (List ℕ)) (named : ℕ) (qs : List 
         | inl old ↦ old
         | inr new ↦ elim new [ inl o ↦ absurd (omega (arith, o.1.0, from, above, leaves.order, leaves.back)) | inr r ↦ absurd (omega (arith, r.1.0, from, above)) ]
       ])
-      (λ q from below. sym (leaves.others q (inr (omega (arith, from, above))))) (omega (arith, record-whole d mem2 v m there, leaves.same_len)) there
+      (λ q from below. sym (leaves.others q (inr (omega (arith, from, above))))) (omega (arith, record-inside d mem2 v m there, leaves.same_len)) there
 
   old-or-new : (v m : ℕ) → IsRecord d mem2 v m → IsRecord s.test h.mem v m ⊎ ((i : ℕ) × ((i < n) × (v ≡ record_at mem2 h.top i)))
   old-or-new v m there = elim (made.records v (record-first d mem2 v m there)) [
@@ -253,7 +227,7 @@ module _ (h : Halves) (shared extra : List (List ℕ)) (named : ℕ) (qs : List 
         from_one = omega (arith, own, was.from_one);
         known = omega (arith, own, was.known, length-append shared extra);
         is = subst P (sym own)
-            (subst Q (sym (bytes-more shared extra (owner_in h.mem v) was.known)) (bin-stays s.test d h.mem mem2 v (owner_in h.mem v) (shared_bytes shared (owner_in h.mem v)) made.kept was.is));
+            (subst Q (sym (shared-same shared extra (owner_in h.mem v) was.known)) (bin-stays s.test d h.mem mem2 v (owner_in h.mem v) (shared_bytes shared (owner_in h.mem v)) made.kept was.is));
       }
 
   new-each : (v : ℕ) → In v (h.bins.items ++ new_records) → IsBinOf d mem2 all_shared v

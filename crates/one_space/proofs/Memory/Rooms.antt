@@ -2,7 +2,7 @@
 use Rattle.std.proofs.Common.{◌≡◌, ℕ, zero, suc, ◌+◌, ◌<◌, ◌≤◌, ◌&&◌, ◌||◌, Bool, true, false, nat_lt, List, [], ◌∷◌, length, get_or, ◌*◌, Ok, Err, Result, refl, sym, ◌∙◌, ap, subst, arith, inl, inr}
 use Rattle.std.specs.Vec.{vec_capacity}
 use Rattle.std.proofs.Math.Decide.{dec_le}
-use Rattle.std.proofs.lemmas.Bool.Decides.{nat_tests}
+use Rattle.std.proofs.lemmas.Bool.{false≢true, lt-ltb}
 use Rattle.script_grammar.specs.Names.{Parsed}
 use Rattle.script_grammar.specs.declared.refusal.Refusal.{Refusal}
 use Rattle.script_grammar.specs.declared.refusal.Refusal.TheVariants.{NoSpace}
@@ -110,17 +110,8 @@ reached-roomed n old new r m c = elim (dec_le n (free_in old)) [
 all-true : (a b c d : Bool) → a ≡ true → b ≡ true → d ≡ true → (a && ((b || c) && d)) ≡ true
 all-true true true c true x y z = refl
 all-true true true c false x y z = z
-all-true true false c d x y z = absurd (differ y)
-  where
-    differ : false ≡ true → ⊥
-    differ e = cc
-all-true false b c d x y z = absurd (differ x)
-  where
-    differ : false ≡ true → ⊥
-    differ e = cc
-
-lt-true : (m n : ℕ) → m < n → nat_lt m n ≡ true
-lt-true m n h = grind (arith, nat_tests)
+all-true true false c d x y z = absurd (false≢true y)
+all-true false b c d x y z = absurd (false≢true x)
 
 pub no-space : (A : Type 0) (words : ℕ) (new : One) (s : State) (p : Parsed) (n : ℕ) → OneStands new s → grow s p ≡ n → words < 2 * (demand s + n) → 0 < n → gets_to_space p.command (step s p) ≡ true
     → Becomes {A = A} may_of_tight words s p (Err (NoSpace n)) (OneStands new)
@@ -128,8 +119,8 @@ no-space A words new s p n o is tight some gets =
     let more : words < 2 * (demand s + grow s p) = omega (arith, tight, is) in
     let asks : 0 < grow s p = omega (arith, some, is) in
     let may : may_of_tight words s p ≡ true =
-    all-true (nat_lt words (2 * (demand s + grow s p))) (nat_lt 0 (grow s p)) (is_purge p.command) (gets_to_space p.command (step s p)) (lt-true words (2 * (demand s + grow s p)) more)
-    (lt-true 0 (grow s p) asks) gets in
+    all-true (nat_lt words (2 * (demand s + grow s p))) (nat_lt 0 (grow s p)) (is_purge p.command) (gets_to_space p.command (step s p)) (lt-ltb words (2 * (demand s + grow s p)) more)
+    (lt-ltb 0 (grow s p) asks) gets in
     inr (may, ap NoSpace (sym is), o)
 
 -- What stands after a call, whatever its result.

@@ -1,5 +1,5 @@
 -- The flat size of a tree that stands, by its nodes.
-use Rattle.std.proofs.Common.{◌≡◌, ℕ, ◌+◌, ◌*◌, ◌^◌, ◌≤◌, ◌||◌, nat_lt, if◌then◌else◌, Bool, true, false, List, arith}
+use Rattle.std.proofs.Common.{◌≡◌, ℕ, ◌+◌, ◌*◌, ◌^◌, ◌≤◌, ◌||◌, nat_lt, Bool, true, false, List, arith}
 use Rattle.std.proofs.lemmas.Bool.Decides.{nat_tests}
 use Rattle.plain_term.specs.Tree.{Tree, Trees, Pairs, trees_len, pairs_len}
 use Rattle.plain_term.specs.Tree.Tree.{Int, Atom, Pid, Ref, Nil, Cons, Tuple, Map, Bin, Shared, Part, Fun}
@@ -8,17 +8,13 @@ use Rattle.plain_term.specs.Tree.Pairs.{stop, pair}
 use Rattle.plain_term.specs.Measures.{depth, flat, flat_of_all, flat_of_pairs, is_small, magnitude, nodes, nodes_of_all, nodes_of_pairs}
 use Rattle.plain_term.specs.Beyond.{depth_limit, is_beyond, node_limit}
 use Rattle.term_words.specs.Stands.{IsBase, KeysStand, RowStands, Stands, ValuesStand}
-
-three : (a b : Bool) → (if a then 0 else (if b then 2 else 3)) ≤ 3
-three true b = omega arith
-three false true = omega arith
-three false false = omega arith
+use Rattle.item_build.proofs.Meaning.Whole.{int-few}
 
 mutual
   unfolding Stands RowStands KeysStand ValuesStand
 
   pub flat-few : (c : ℕ → ℕ → Bool) (shared : List (List ℕ)) (mem : List ℕ) (w : ℕ) (t : Tree) → Stands c shared mem w t → flat t + 1 ≤ 16 * nodes shared t
-  flat-few c shared mem w (Int i) s = omega (arith, three (is_small i) (nat_lt (magnitude i) (2 ^ 64)))
+  flat-few c shared mem w (Int i) s = omega (arith, int-few (is_small i) (nat_lt (magnitude i) (2 ^ 64)))
   flat-few c shared mem w (Atom k) s = omega arith
   flat-few c shared mem w (Pid n) s = omega arith
   flat-few c shared mem w (Ref n k) s = omega arith

@@ -1,12 +1,13 @@
 -- The records that holders side by side name: how many, which, and how many words they take.
-use Rattle.std.proofs.Common.{◌≡◌, ℕ, zero, suc, ◌+◌, ◌*◌, ◌<◌, ◌≤◌, ◌⊎◌, Bool, true, false, if◌then◌else◌, nat_lt, List, [], ◌∷◌, ◌++◌, length, take, get_or, refl, ◌∙◌, ap, arith, inl, inr}
-use Rattle.std.proofs.lemmas.List.{length-append, length-map, length-take-le}
+use Rattle.std.proofs.Common.{◌≡◌, ℕ, zero, suc, ◌+◌, ◌*◌, ◌<◌, ◌≤◌, ◌⊎◌, Bool, true, false, if◌then◌else◌, nat_lt, List, [], ◌∷◌, ◌++◌, length, get_or, refl, ◌∙◌, ap, arith, inl, inr}
+use Rattle.std.proofs.lemmas.List.{length-append}
 use Rattle.plain_term.specs.declared.item.Item.{Item}
 use Rattle.plain_term.specs.declared.item.Item.TheVariants.{Int, Atom, Pid, Nil, Cons, Tuple, Map, Bin, Byte, Held}
 use Rattle.plain_term.specs.Measures.{bin_words}
 use Rattle.term_words.specs.Counted.{In, total}
 use Rattle.term_words.proofs.Totals.Members.{both-total, in-both, in-left, in-right}
-use Rattle.item_build.specs.Reading.{AreLed, bins_of, byte_in, bytes_after, bytes_in, far_words, far_words_of, is_long, long_bins, long_bytes}
+use Rattle.item_build.specs.Reading.{AreLed, bins_of, bytes_after, bytes_in, far_words, far_words_of, is_long, long_bytes}
+use Rattle.item_build.proofs.Meaning.Bytes.{bytes-len}
 use Rattle.one_space.specs.Entered.{records_from}
 
 -- The place of the record that holder i names.
@@ -75,9 +76,6 @@ sizes-append : (xs ys : List (List ℕ)) → bin_sizes (xs ++ ys) ≡ bin_sizes 
 sizes-append [] ys = omega arith
 sizes-append (x ∷ xs) ys = omega (arith, sizes-append xs ys)
 
-bytes-len : (n : ℕ) (xs : List Item) → n ≤ length xs → length (bytes_in n xs) ≡ n
-bytes-len n xs led = length-map (take n xs) byte_in ∙ length-take-le n xs led
-
 own-size : (x : Item) (xs : List Item) → bytes_after x ≤ length xs → bin_sizes (long_bytes x xs) ≡ far_words x
 own-size (Bin n) xs led = by (nat_lt 64 n)
   where
@@ -113,7 +111,3 @@ own-count (Held r) xs = refl
 pub bins-size : (code : List Item) → AreLed code → bin_sizes (bins_of code) ≡ far_words_of code
 bins-size [] led = refl
 bins-size (x ∷ xs) led = omega (arith, sizes-append (long_bytes x xs) (bins_of xs), own-size x xs led.0, bins-size xs led.1)
-
-pub bins-count : (code : List Item) → length (bins_of code) ≡ long_bins code
-bins-count [] = refl
-bins-count (x ∷ xs) = omega (arith, length-append (long_bytes x xs) (bins_of xs), own-count x xs, bins-count xs)

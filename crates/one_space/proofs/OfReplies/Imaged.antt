@@ -1,6 +1,7 @@
 -- The image of a space stands for each state that the space stands for.
-use Rattle.std.proofs.Common.{◌≡◌, ℕ, ◌+◌, ◌-◌, ◌<◌, ◌≤◌, ◌⊎◌, ◌&&◌, ◌||◌, Bool, true, false, nat_le, nat_lt, List, []}
+use Rattle.std.proofs.Common.{◌≡◌, ℕ, ◌+◌, ◌-◌, ◌<◌, ◌≤◌, ◌⊎◌, ◌&&◌, Bool, true, false, nat_le, nat_lt, List, []}
 use Rattle.std.proofs.Common.{◌∷◌, ◌++◌, length, map, flat_map, take, drop, get_or, reverse, inl, inr, refl, sym, ap, subst, arith}
+use Rattle.std.proofs.lemmas.Bool.{false≢true, or_cases}
 use Rattle.std.proofs.lemmas.Bool.Decides.{nat_tests}
 use Rattle.std.proofs.lemmas.List.{length-drop, length-take-le, reverse-append, reverse-reverse}
 use Rattle.std.proofs.lemmas.List.Concat.{flat_map-cons}
@@ -131,22 +132,15 @@ module _ (mem : List ℕ) where
   places-both [] us = places-are us
   places-both (v ∷ vs) us = ap (λ z. v ∷ z) (places-both vs us)
 
-  or-cases : (p q : Bool) → (p || q) ≡ true → (p ≡ true) ⊎ (q ≡ true)
-  or-cases true q e = inl refl
-  or-cases false q e = inr e
-
   -- A place in a listed record lies in its region.
   lies-listed : (vs us : List ℕ) (a : ℕ) → ((v : ℕ) → In v (vs ++ us) → v + record_words mem v ≤ length mem) → in_records mem (vs ++ us) a ≡ true
       → LiesIn (map (record_region mem) vs ++ map (record_region mem) us) a
-  lies-listed [] [] a fit e = absurd (true-false e)
-    where
-      true-false : false ≡ true → ⊥
-      true-false f = cc
-  lies-listed [] (u ∷ us) a fit e = elim (or-cases (nat_le u a && nat_lt a (u + record_words mem u)) (in_records mem us a) e) [
+  lies-listed [] [] a fit e = absurd (false≢true e)
+  lies-listed [] (u ∷ us) a fit e = elim (or_cases (nat_le u a && nat_lt a (u + record_words mem u)) (in_records mem us a) e) [
     | inl here ↦ inl (let size = piece-words mem u (record_words mem u) (fit u (inl refl)) in (grind (arith, nat_tests, here), grind (arith, nat_tests, here, size)))
     | inr rest ↦ inr (lies-listed [] us a (λ v i. fit v (inr i)) rest)
   ]
-  lies-listed (v ∷ vs) us a fit e = elim (or-cases (nat_le v a && nat_lt a (v + record_words mem v)) (in_records mem (vs ++ us) a) e) [
+  lies-listed (v ∷ vs) us a fit e = elim (or_cases (nat_le v a && nat_lt a (v + record_words mem v)) (in_records mem (vs ++ us) a) e) [
     | inl here ↦ inl (let size = piece-words mem v (record_words mem v) (fit v (inl refl)) in (grind (arith, nat_tests, here), grind (arith, nat_tests, here, size)))
     | inr rest ↦ inr (lies-listed vs us a (λ u i. fit u (inr i)) rest)
   ]

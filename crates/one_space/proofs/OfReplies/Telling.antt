@@ -1,5 +1,6 @@
 -- What is told of registers is what the machine tells of their trees.
 use Rattle.std.proofs.Common.{◌≡◌, ℕ, ◌||◌, Bool, true, false, cond, List, length, decimal, Option, Some, Result, Ok, Err, IfOk, refl, sym, ap, subst, ◌∙◌, ◌≤◌}
+use Rattle.std.proofs.lemmas.Option.{same_Some}
 use Rattle.std.specs.declared.cmp.Ordering.{Ordering}
 use Rattle.std.specs.declared.cmp.Ordering.TheVariants.{Less, Equal, Greater}
 use Rattle.line_io.specs.Sink.{Grew, GrewInPart}
@@ -72,13 +73,10 @@ module _ (b : One) (s : State) (pid : ℕ) (r : Reg) (w : ℕ) (held : IsHeld b 
       → IfOk result (λ (x : Measure). x.nodes ≡ nodes s.shared (register r.0 q))
   nodes-told q m result found told is =
       let t : Tree = register r.0 held.process in
-      let same : held.process ≡ q = inside held.process q (sym held.found ∙ found) in
+      let same : held.process ≡ q = same_Some held.process q (sym held.found ∙ found) in
       let P : Process → Type 0 = λ z. IfOk result (λ (x : Measure). x.nodes ≡ nodes s.shared (register r.0 z)) in
       let Q : Result Measure Refusal → Type 0 = λ z. IfOk z (λ (x : Measure). x.nodes ≡ nodes s.shared t) in
       subst P same (subst Q (sym (is ∙ ap measure_told (told.each always s.shared t held.standing))) (nodes-of (is_beyond s.shared t) (nodes s.shared t) (flat t)))
-    where
-      inside : (p q : Process) → Some p ≡ Some q → p ≡ q
-      inside p q e = cc
 
   -- a tree that is printed
   pub can-print : (names : List (List ℕ)) → b.named ≤ length names → is_beyond s.shared (register r.0 held.process) ≡ false → CanPrint b.halves.mem names w
@@ -115,10 +113,7 @@ module _ (b : One) (s : State) (pid : ℕ) (r : Reg) (w : ℕ) (held : IsHeld b 
 -- two registers of one process
 module _ (b : One) (s : State) (pid : ℕ) (i j : Reg) (v w : ℕ) (first : IsHeld b s pid i v) (second : IsHeld b s pid j w) where
   same-process : second.process ≡ first.process
-  same-process = inside second.process first.process (sym second.found ∙ first.found)
-    where
-      inside : (p q : Process) → Some p ≡ Some q → p ≡ q
-      inside p q e = cc
+  same-process = same_Some second.process first.process (sym second.found ∙ first.found)
 
   pub are-named : (names : List (List ℕ)) → b.named ≤ length names → AreNamed b.halves.mem names v w
   are-named names more = record {

@@ -58,21 +58,6 @@ module _ (c : ℕ → ℕ → Bool) (shared : List (List ℕ)) (mem : List ℕ) 
           refs = sym none;
         }
 
-    pub procs-at : (ps : List Proc) (qs : List Process) (i : ℕ) (d : Proc) (e : Process) → i < length ps → ProcsStand c shared mem low limit named ps qs
-        → ProcStands c shared mem low limit named (get_or ps i d) (get_or qs i e)
-    procs-at [] qs i d e less s = absurd (omega arith)
-    procs-at (p ∷ ps) [] i d e less s = absurd s
-    procs-at (p ∷ ps) (q ∷ qs) zero d e less s = s.0
-    procs-at (p ∷ ps) (q ∷ qs) (suc i) d e less s = procs-at ps qs i d e (omega arith) s.1
-
-    pub procs-set : (ps : List Proc) (qs : List Process) (i : ℕ) (p : Proc) (q : Process) → ProcsStand c shared mem low limit named ps qs → ProcStands c shared mem low limit named p q
-        → ProcsStand c shared mem low limit named (set ps i p) (set qs i q)
-    procs-set [] [] i p q s x = tt
-    procs-set [] (v ∷ qs) i p q s x = absurd s
-    procs-set (u ∷ ps) [] i p q s x = absurd s
-    procs-set (u ∷ ps) (v ∷ qs) zero p q s x = (x, s.1)
-    procs-set (u ∷ ps) (v ∷ qs) (suc i) p q s x = (s.0, procs-set ps qs i p q s.1 x)
-
     pub procs-remove : (ps : List Proc) (qs : List Process) (i : ℕ) → ProcsStand c shared mem low limit named ps qs → ProcsStand c shared mem low limit named (remove ps i) (remove qs i)
     procs-remove [] [] zero s = tt
     procs-remove [] [] (suc i) s = tt
@@ -93,12 +78,6 @@ module _ (c : ℕ → ℕ → Bool) (shared : List (List ℕ)) (mem : List ℕ) 
     procs-numbers [] (v ∷ qs) s = absurd s
     procs-numbers (u ∷ ps) [] s = absurd s
     procs-numbers (u ∷ ps) (v ∷ qs) s = ap (λ x. x ∷ process_numbers qs) s.0.number ∙ ap (λ x. u.number ∷ x) (procs-numbers ps qs s.1)
-
-    pub procs-count : (ps : List Proc) (qs : List Process) → ProcsStand c shared mem low limit named ps qs → length qs ≡ length ps
-    procs-count [] [] s = refl
-    procs-count [] (v ∷ qs) s = absurd s
-    procs-count (u ∷ ps) [] s = absurd s
-    procs-count (u ∷ ps) (v ∷ qs) s = ap suc (procs-count ps qs s.1)
 
     pub procs-among : (ps : List Proc) (qs : List Process) (pid : ℕ) → ProcsStand c shared mem low limit named ps qs → is_among number_in ps pid ≡ list_any (λ q. q.number == pid) qs
     procs-among [] [] pid s = refl

@@ -4,16 +4,17 @@ use Rattle.std.specs.List.{filter, remove}
 use Rattle.plain_machine.specs.State.{Process, State, process_of, with_process}
 use Rattle.plain_machine.specs.Step.{is_sweep, settled}
 use Rattle.plain_machine.specs.Laws.{AreWithin}
+use Rattle.plain_machine.proofs.Properly.Holding.{put-within}
 use Rattle.script_grammar.specs.Names.{Parsed}
 use Rattle.space_api.specs.Calls.{AreRising}
 use Rattle.space_api.specs.declared.space.Seat.{Seat}
 use Rattle.two_halves.specs.Halves.{HalvesStand, end_of}
 use Rattle.two_halves.specs.Reached.{ChainReached}
+use Rattle.two_halves.proofs.Queued.Queuing.{row-at, row-length}
 use Rattle.one_space.specs.One.{IsCounted, OneStands, Sits}
 use Rattle.one_space.specs.declared.one.One.{One}
-use Rattle.one_space.proofs.Processes.Changing.{no_process, procs-at, procs-count, procs-numbers}
+use Rattle.one_space.proofs.Processes.Changing.{no_process, procs-numbers}
 use Rattle.one_space.proofs.Processes.Seats.{is_other, process_numbers, replaced, seat-found, seat-removed, seat-set}
-use Rattle.one_space.proofs.Processes.Within.{within-put}
 use Rattle.two_halves.proofs.Standing.Stacks.{no_row}
 
 module _ (b : One) (s : State) (o : OneStands b s) (c : IsCounted b) where
@@ -22,7 +23,7 @@ module _ (b : One) (s : State) (o : OneStands b s) (c : IsCounted b) where
       subst (AreRising 0) (sym (procs-numbers o.processes.test s.shared b.halves.mem b.named b.halves.low (end_of b.halves) b.halves.procs.items s.processes o.processes.processes)) c.rising
 
   pub count-there : length s.processes ≡ length b.halves.procs.items
-  count-there = procs-count o.processes.test s.shared b.halves.mem b.named b.halves.low (end_of b.halves) b.halves.procs.items s.processes o.processes.processes
+  count-there = row-length o.processes.test s.shared b.halves.mem b.halves.low (end_of b.halves) b.named b.halves.procs.items s.processes o.processes.processes
 
   module _ (seat : Seat) (x : Sits b seat) where
     pub within-there : seat.row < length s.processes
@@ -30,7 +31,7 @@ module _ (b : One) (s : State) (o : OneStands b s) (c : IsCounted b) where
 
     pub number-there : (get_or s.processes seat.row no_process).number ≡ seat.pid
     number-there =
-        (procs-at o.processes.test s.shared b.halves.mem b.named b.halves.low (end_of b.halves) b.halves.procs.items s.processes seat.row no_row no_process x.within o.processes.processes).number
+        (row-at o.processes.test s.shared b.halves.mem b.halves.low (end_of b.halves) b.named b.halves.procs.items s.processes seat.row no_row no_process x.within o.processes.processes).number
         ∙ x.number no_row
 
     pub found-there : process_of seat.pid s ≡ Some (get_or s.processes seat.row no_process)
@@ -52,6 +53,6 @@ settled-stands b c s p q o h next swept serials reached within = record {
   swept = sym swept;
   shared = o.shared ∙ sym serials;
   areas = o.areas;
-  within = within-put s.shared q s.processes within o.within;
+  within = put-within s.shared q s.processes within o.within;
   reached = reached;
 }

@@ -8,7 +8,8 @@ use Rattle.term_words.proofs.Framing.Frames.{frame}
 use Rattle.two_halves.specs.Stack.{IsPlace, IsStack, values}
 use Rattle.two_halves.specs.Halves.{HoldTrees, HoldsTree, ProcStands, ProcsStand}
 use Rattle.two_halves.specs.declared.table.Proc.{Proc}
-use Rattle.one_space.proofs.Processes.Changing.{held-at, held-set, no_process, procs-at, procs-set}
+use Rattle.two_halves.proofs.Queued.Queuing.{row-at, row-set}
+use Rattle.one_space.proofs.Processes.Changing.{held-at, held-set, no_process}
 use Rattle.two_halves.proofs.Standing.Keeping.{proc-on, procs-on}
 use Rattle.two_halves.proofs.Standing.Stacks.{AreKept}
 use Rattle.two_halves.specs.Stack.{AreApart}
@@ -29,11 +30,11 @@ module _ (c : ℕ → ℕ → Bool) (shared : List (List ℕ)) (mem : List ℕ) 
   pub row-stands : ProcStands c shared mem low limit named p (get_or qs i no_process)
   row-stands =
       let P : Proc → Type 0 = λ z. ProcStands c shared mem low limit named z (get_or qs i no_process) in
-      subst P (sym is) (procs-at c shared mem named low limit ps qs i p no_process less s)
+      subst P (sym is) (row-at c shared mem low limit named ps qs i p no_process less s)
 
   pub register-set : (r w : ℕ) (t : Tree) → HoldsTree c shared mem named w t
       → ProcsStand c shared mem low limit named (set ps i (with_word p r w)) (set qs i (with_register r t (get_or qs i no_process)))
-  register-set r w t h = procs-set c shared mem named low limit ps qs i (with_word p r w) (with_register r t (get_or qs i no_process)) s (record {
+  register-set r w t h = row-set c shared mem low limit named ps qs i (with_word p r w) (with_register r t (get_or qs i no_process)) s (record {
     number = row-stands.number;
     count = length-set p.regs r w ∙ row-stands.count;
     registers = held-set c shared mem named p.regs ((get_or qs i no_process).registers) r w t row-stands.registers h;
@@ -91,7 +92,7 @@ module _ (c : ℕ → ℕ → Bool) (shared : List (List ℕ)) (mem : List ℕ) 
       let P : ℕ → Type 0 = λ z. HoldsTree c shared mem named z top-here.value in
       let Q : ℕ → ℕ → Type 0 = λ x y. HoldTrees c shared mem named (values mem x y) top-here.rest in
       let R : ℕ → ℕ → Type 0 = λ x y. IsStack c mem low limit x y in
-      procs-set c shared mem named low limit ps qs i (with_stack (with_word p r w) u d) (record (with_register r top-here.value (get_or qs i no_process)) { stack = top-here.rest }) s (record {
+      row-set c shared mem low limit named ps qs i (with_stack (with_word p r w) u d) (record (with_register r top-here.value (get_or qs i no_process)) { stack = top-here.rest }) s (record {
         number = h.number;
         count = length-set p.regs r w ∙ h.count;
         registers = held-set c shared mem named p.regs ((get_or qs i no_process).registers) r w top-here.value h.registers (subst P (sym value) top-here.here);
@@ -160,7 +161,7 @@ module _ (c : ℕ → ℕ → Bool) (shared : List (List ℕ)) (mem : List ℕ) 
       let R : ℕ → Type 0 = λ z. IsStack c mem2 (low - 2) limit z p.depth in
       let S : ℕ → Type 0 = λ z. IsStack c mem2 (low - 2) limit (low - 2) z in
       let T : ℕ → Type 0 = λ z. HoldTrees c shared mem2 named (values mem2 (low - 2) z) (register r (get_or qs i no_process) ∷ (get_or qs i no_process).stack) in
-      procs-set c shared mem2 named (low - 2) limit ps qs i (with_stack p (low - 2) (p.depth + 1))
+      row-set c shared mem2 (low - 2) limit named ps qs i (with_stack p (low - 2) (p.depth + 1))
       (record (get_or qs i no_process) { stack = register r (get_or qs i no_process) ∷ (get_or qs i no_process).stack })
       (procs-on c c shared mem mem2 named named low (low - 2) limit trees places (λ q k above below none. none k) (omega arith) ps qs s)
       (record {

@@ -1,5 +1,6 @@
 -- `hd`, `tl`, `elem` and `mapget`: the part that is picked in a register, or there is none.
 use Rattle.std.proofs.Common.{◌≡◌, ℕ, ◌<◌, ◌≤◌, Bool, false, true≢false, List, length, get_or, Option, Some, None, Ok, Err, refl, sym, subst, arith, inl}
+use Rattle.std.proofs.lemmas.Option.{same_Some}
 use Rattle.plain_term.specs.Tree.{Tree}
 use Rattle.script_grammar.specs.declared.command.Command.TheVariants.{Process as OfProcess}
 use Rattle.script_grammar.specs.declared.command.Reg.{Reg}
@@ -59,12 +60,9 @@ record SomePart (c : ℕ → ℕ → Bool) (shared : List (List ℕ)) (mem : Lis
 some-part : (c : ℕ → ℕ → Bool) (shared : List (List ℕ)) (mem : List ℕ) (o : Option Tree) (w : ℕ) → AnswersPart c shared mem o (Some w) → SomePart c shared mem o w
 some-part c shared mem None w a = absurd (let e : Some w ≡ None = a in cc)
 some-part c shared mem (Some t) w a =
-    let same : w ≡ a.0 = inner w a.0 a.1 in
+    let same : w ≡ a.0 = same_Some w a.0 a.1 in
     let P : ℕ → Type 0 = λ z. Stands c shared mem z t in
     record { tree = t; is = refl; standing = subst P (sym same) a.2 }
-  where
-    inner : (u v : ℕ) → Some u ≡ Some v → u ≡ v
-    inner u v e = cc
 
 module _ (b : One) (holds : Holds b) (seat : Seat) (x : Sits b seat) (r m : Reg) (how : Pick) (small : m.0 < 16) (key : PicksRegister how) (whole : takes_part how ≡ false) (p : Proc)
     (is : p ≡ get_or b.halves.procs.items seat.row p)

@@ -1,5 +1,6 @@
 -- `fill`: a binary of equal bytes in a register, or there is no space.
-use Rattle.std.proofs.Common.{◌≡◌, ℕ, zero, suc, take, ◌+◌, ◌<◌, ◌≤◌, ◌||◌, ◌++◌, ◌∷◌, Bool, true, false, nat_le, nat_lt, List, [], length, replicate, get_or, Option, Ok, Err, refl, sym, ◌∙◌, ap, subst, arith, inl}
+use Rattle.std.proofs.Common.{◌≡◌, ℕ, ◌+◌, ◌<◌, ◌≤◌, ◌||◌, ◌++◌, ◌∷◌, Bool, true, false, nat_le, nat_lt, List, [], length, replicate, get_or, Option, Ok, Err, refl, sym, ◌∙◌, ap, subst, arith, inl}
+use Rattle.std.proofs.lemmas.Bool.{or_from, or_right, or_left, le-ltb, lt-ltb}
 use Rattle.std.proofs.lemmas.Bool.Decides.{nat_tests}
 use Rattle.std.proofs.lemmas.List.{length-append, length-replicate}
 use Rattle.std.specs.Vec.{with_item}
@@ -42,13 +43,7 @@ use Rattle.one_space.proofs.Processes.Registers.{row-there}
 use Rattle.one_space.proofs.Memory.Rooms.{roomed, stays-roomed}
 use Rattle.one_space.proofs.Processes.Within.{within-grown}
 use Rattle.one_space.proofs.Processes.Seated.{found-there}
-use Rattle.one_space.proofs.Calls.Terming.{room-free, row-made, term-counts, term-stands, with_term}
-
-above : (m n : ℕ) → m < n → nat_lt m n ≡ true
-above m n h = grind (arith, nat_tests)
-
-not-above : (m n : ℕ) → n ≤ m → nat_lt m n ≡ false
-not-above m n h = grind (arith, nat_tests)
+use Rattle.one_space.proofs.Calls.Terming.{room-free, row-made, term-stands, with_term, term-does}
 
 pub heap-words : (len : ℕ) → len ≤ 64 → fill_words len ≡ 2 + bin_words len
 heap-words len small = rw (is) refl
@@ -92,26 +87,14 @@ module _ (b : One) (holds : Holds b) (seat : Seat) (x : Sits b seat) (r : Reg) (
   }
 
   pub fill-long-refused : MOST_FILL < len → Does {A = Unit {0}} (OfProcess seat.pid v) b b (Err refusal.BadArg)
-  fill-long-refused many = fill-refused (either (nat_lt MOST_FILL len) (nat_lt MOST_BYTE byte) (above MOST_FILL len many))
-    where
-      either : (p q : Bool) → p ≡ true → p || q ≡ true
-      either true q e = refl
-      either false q e = absurd cc
+  fill-long-refused many = fill-refused (or_left (nat_lt MOST_FILL len) (nat_lt MOST_BYTE byte) (lt-ltb MOST_FILL len many))
 
   pub fill-byte-refused : MOST_BYTE < byte → Does {A = Unit {0}} (OfProcess seat.pid v) b b (Err refusal.BadArg)
-  fill-byte-refused many = fill-refused (either (nat_lt MOST_FILL len) (nat_lt MOST_BYTE byte) (above MOST_BYTE byte many))
-    where
-      either : (p q : Bool) → q ≡ true → p || q ≡ true
-      either true q e = refl
-      either false q e = e
+  fill-byte-refused many = fill-refused (or_right (nat_lt MOST_FILL len) (nat_lt MOST_BYTE byte) (lt-ltb MOST_BYTE byte many))
 
   module _ (most : len ≤ MOST_FILL) (small : byte ≤ MOST_BYTE) (g : ℕ) (words : g ≡ fill_words len) (h : Halves) (ok : Bool) (room : MakesRoom g b.halves h ok) where
     fits : (nat_lt MOST_FILL len || nat_lt MOST_BYTE byte) ≡ false
-    fits = neither (nat_lt MOST_FILL len) (nat_lt MOST_BYTE byte) (not-above MOST_FILL len most) (not-above MOST_BYTE byte small)
-      where
-        neither : (p q : Bool) → p ≡ false → q ≡ false → p || q ≡ false
-        neither true q e f = absurd cc
-        neither false q e f = f
+    fits = or_from (nat_lt MOST_FILL len) (nat_lt MOST_BYTE byte) (le-ltb MOST_FILL len most) (le-ltb MOST_BYTE byte small)
 
     pub fill-lacks : ok ≡ false → Does {A = Unit {0}} (OfProcess seat.pid v) b (roomed b h) (Err (refusal.NoSpace g))
     fill-lacks lacking = refused-does b holds g h ok room lacking (Unit {0}) (OfProcess seat.pid v) g (some-words b holds g h ok room lacking) (λ s terms names o.
@@ -153,13 +136,7 @@ module _ (b : One) (holds : Holds b) (seat : Seat) (x : Sits b seat) (r : Reg) (
           (omega arith) refl (row-there (roomed b h) counts1 seat sits1 p2 is2 s o1).refs made v terms names))))
 
       pub small-does : Does {A = Unit {0}} (OfProcess seat.pid v) b (after b h3) (Ok tt)
-      small-does = record {
-        holds = holds-become {A = Unit {0}} (words_of b) (after b h3) holds.state (said (OfProcess seat.pid v) end []) (Ok tt)
-            (term-counts b holds seat x g h ok room given mem2 z (2 + bin_words len) used-few uses p2 is2 r.0 w p2.refs b.row refl b.named (row-made b holds seat x g h ok room p2 is2))
-            (small-stands holds.state end [] holds.stands);
-        becomes = small-stands;
-        books = record { same_words = uses.same_len ∙ (stays-roomed g b.halves h ok room).same_len; one_call = omega arith; few_names = omega arith };
-      }
+      small-does = term-does b holds seat x g h ok room given mem2 z (2 + bin_words len) used-few uses p2 is2 r.0 w p2.refs b.row refl v (row-made b holds seat x g h ok room p2 is2) small-stands
 
     -- The same of bytes that are told otherwise.
     pub small-by : (few : len ≤ 64) (given : ok ≡ true) (xs : List ℕ) → xs ≡ bytes → (mem2 : List ℕ) (z : Room)
@@ -209,10 +186,3 @@ module _ (b : One) (holds : Holds b) (seat : Seat) (x : Sits b seat) (r : Reg) (
         becomes = long-stands;
         books = record { same_words = adds.same_len ∙ (stays-roomed g b.halves h ok room).same_len; one_call = omega arith; few_names = omega arith };
       }
-
--- The first of many equal bytes.
-pub take-equal : (n m b : ℕ) → n ≤ m → take n (replicate m b) ≡ replicate n b
-take-equal zero zero b h = refl
-take-equal zero (suc m) b h = refl
-take-equal (suc n) zero b h = absurd (omega (arith, h))
-take-equal (suc n) (suc m) b h = ap (λ z. b ∷ z) (take-equal n m b (omega (arith, h)))

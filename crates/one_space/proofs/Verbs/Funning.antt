@@ -1,7 +1,7 @@
 -- `fun`: a fun in a register, whose environment are terms of registers, or there is no space.
-use Rattle.std.proofs.Common.{Vec, ◌≡◌, ℕ, suc, ◌+◌, ◌<◌, ◌≤◌, ◌&&◌, Bool, true, false, nat_lt, max, All, List, [], ◌∷◌, length, map, get_or, replicate, Option, Ok, Err, refl, sym, ◌∙◌, ap, subst, arith, inl}
-use Rattle.std.proofs.lemmas.Bool.Decides.{nat_tests}
-use Rattle.std.proofs.lemmas.List.{length-replicate}
+use Rattle.std.proofs.Common.{Vec, ◌≡◌, ℕ, suc, ◌+◌, ◌<◌, ◌≤◌, Bool, true, false, nat_lt, max, All, List, [], ◌∷◌, length, map, get_or, replicate, Option, Ok, Err, refl, sym, ◌∙◌, ap, subst, arith, inl}
+use Rattle.std.proofs.lemmas.Bool.{and_from, lt-ltb, le-ltb}
+use Rattle.std.proofs.lemmas.List.{length-replicate, length-map}
 use Rattle.std.specs.Vec.{vec_len}
 use Rattle.std.specs.declared.alloc.Global.{Global}
 use Rattle.plain_term.specs.declared.item.Item.{Item}
@@ -77,10 +77,6 @@ same-held (r ∷ rs) (s ∷ ss) e = ap (λ z. z ∷ rs) (head-of r s (map item.H
 AllBelow : ℕ → List ℕ → Type 0
 AllBelow n rs = All (λ r. r < n) rs
 
-map-len : (rs : List ℕ) → length (map item.Held rs) ≡ length rs
-map-len [] = refl
-map-len (r ∷ rs) = ap suc (map-len rs)
-
 terms-len : (rs : List ℕ) → terms_len (held_terms rs) ≡ length rs
 terms-len [] = refl
 terms-len (r ∷ rs) = omega (arith, terms-len rs)
@@ -98,22 +94,8 @@ module _ (c : ℕ → ℕ → Bool) (shared : List (List ℕ)) (mem : List ℕ) 
 
   env-named : (rs : List ℕ) → ((i d : ℕ) → i < length rs → get_or rs i d < 16) → are_named named (env_trees names q.registers rs shared) ≡ true
   env-named [] below = refl
-  env-named (r ∷ rs) below = both (is_named named (register r q)) (are_named named (env_trees names q.registers rs shared)) (held r (below 0 0 (omega arith))).names
+  env-named (r ∷ rs) below = and_from (is_named named (register r q)) (are_named named (env_trees names q.registers rs shared)) (held r (below 0 0 (omega arith))).names
       (env-named rs (λ i d less. below (suc i) d (omega (arith, less))))
-    where
-      both : (a b : Bool) → a ≡ true → b ≡ true → a && b ≡ true
-      both true b x y = y
-      both false b x y = absurd cc
-
-not-above : (m n : ℕ) → n ≤ m → nat_lt m n ≡ false
-not-above m n h = grind (arith, nat_tests)
-
-above : (m n : ℕ) → m < n → nat_lt m n ≡ true
-above m n h = grind (arith, nat_tests)
-
-and-both : (a b : Bool) → a ≡ true → b ≡ true → a && b ≡ true
-and-both true b x y = y
-and-both false b x y = absurd cc
 
 module _ (b : One) (holds : Holds b) (seat : Seat) (x : Sits b seat) (r : Reg) (name arity : ℕ) (env : List Item) where
   -- The verb.
@@ -127,11 +109,11 @@ module _ (b : One) (holds : Holds b) (seat : Seat) (x : Sits b seat) (r : Reg) (
       let line = said (OfProcess seat.pid v) terms names in
       let P : Option Process → Type 0 = λ z. Follows {A = Unit {0}} (in_process z s line v) s (Err refusal.BadArg) (OneStands b) in
       let Q : Bool → Type 0 = λ z. Follows {A = Unit {0}} (fun_if z (Fun name arity q.number (env_of s line q)) s line q r.0) s (Err refusal.BadArg) (OneStands b) in
-      inl (subst P (sym (found-there b s o holds.counts seat x)) (subst Q (sym (above MOST_ARITY arity many)) (refl, o)))
+      inl (subst P (sym (found-there b s o holds.counts seat x)) (subst Q (sym (lt-ltb MOST_ARITY arity many)) (refl, o)))
 
   module _ (few : arity ≤ MOST_ARITY) (is_env : IsEnv env) (g : ℕ) (words : g ≡ 10 + length env) (h : Halves) (ok : Bool) (room : MakesRoom g b.halves h ok) where
     asked : (names : List (List ℕ)) (terms : Terms) → HasEnv names name env terms → terms_len terms ≡ length env
-    asked names terms has = ap terms_len has.written ∙ terms-len has.registers ∙ sym (ap length has.items ∙ map-len has.registers)
+    asked names terms has = ap terms_len has.written ∙ terms-len has.registers ∙ sym (ap length has.items ∙ length-map has.registers item.Held)
 
     pub fun-lacks : ok ≡ false → (s : State) (terms : Terms) (names : List (List ℕ)) → OneStands b s → HasEnv names name env terms
         → Becomes {A = Unit {0}} may_of_tight (words_of b) s (said (OfProcess seat.pid v) terms names) (Err (refusal.NoSpace g)) (OneStands (roomed b h))
@@ -142,7 +124,7 @@ module _ (b : One) (holds : Holds b) (seat : Seat) (x : Sits b seat) (r : Reg) (
         let P : Option Process → Type 0 = λ z. gets_to_space (OfProcess seat.pid v) (in_process z s line v) ≡ true in
         let Q : Bool → Type 0 = λ z. gets_to_space (OfProcess seat.pid v) (fun_if z (Fun name arity q.number (env_of s line q)) s line q r.0) ≡ true in
         lacks-space b holds g h ok room lacking (Unit {0}) s line g o (grow-at s seat.pid terms names v q found ∙ omega (arith, words, asked names terms has))
-        (inl (omega arith, some-process b holds seat x s o)) (some-words b holds g h ok room lacking) (subst P (sym found) (subst Q (sym (not-above MOST_ARITY arity few)) refl))
+        (inl (omega arith, some-process b holds seat x s o)) (some-words b holds g h ok room lacking) (subst P (sym found) (subst Q (sym (le-ltb MOST_ARITY arity few)) refl))
 
     abbrev named2 : ℕ
     named2 = max b.named (name + 1)
@@ -196,13 +178,13 @@ module _ (b : One) (holds : Holds b) (seat : Seat) (x : Sits b seat) (r : Reg) (
           let made : Gets named2 h4 s.shared s.processes w (Fun name arity seat.pid ts) =
           gets named2 s.shared s.processes (raised b.named named2 up h s.shared s.processes o1.processes) ts (omega arith) all in
           let told : is_named named2 (Fun name arity seat.pid ts) ≡ true =
-          and-both (nat_lt name named2) (are_named named2 ts) (above name named2 (omega arith)) (env-named o1.processes.test s.shared h.mem named2 p1.regs q names held rs below) in
+          and_from (nat_lt name named2) (are_named named2 ts) (lt-ltb name named2 (omega arith)) (env-named o1.processes.test s.shared h.mem named2 p1.regs q names held rs below) in
           let stands = gained-stands b holds seat x g h ok room h4 adds p2 is2 r.0 w s o s.shared named2 b.serials (Fun name arity seat.pid ts) made told o.shared o.within row line refl in
           let P : Option Process → Type 0 = λ u. Follows {A = Unit {0}} (in_process u s line v) s (Ok tt) (OneStands b4) in
           let Q : Bool → Type 0 = λ u. Follows {A = Unit {0}} (fun_if u (Fun name arity q.number (env_of s line q)) s line q r.0) s (Ok tt) (OneStands b4) in
           let N : ℕ → Type 0 = λ z. Follows {A = Unit {0}} (fun_if false (Fun name arity z (env_of s line q)) s line q r.0) s (Ok tt) (OneStands b4) in
           let T : Terms → Type 0 = λ z. Follows {A = Unit {0}} (fun_if false (Fun name arity seat.pid ((trees_of names q.registers z s.shared).0)) s line q r.0) s (Ok tt) (OneStands b4) in
-          inl (subst P (sym (found-there (roomed b h) s o1 counts1 seat sits1)) (subst Q (sym (not-above MOST_ARITY arity few))
+          inl (subst P (sym (found-there (roomed b h) s o1 counts1 seat sits1)) (subst Q (sym (le-ltb MOST_ARITY arity few))
           (subst N (sym (number-there (roomed b h) s o1 counts1 seat sits1)) (subst T (sym has.written) stands))))
 
       pub fun-holds : Holds b4

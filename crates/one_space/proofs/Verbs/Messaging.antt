@@ -1,9 +1,11 @@
 -- `send`: a copy of a register's tree enters a queue.
-use Rattle.std.proofs.Common.{◌≡◌, ℕ, zero, suc, ◌+◌, ◌<◌, ◌≤◌, ◌==◌, ◌||◌, Bool, true, false, true≢false, if◌then◌else◌, cond, List, [], ◌∷◌, ◌++◌, length, map, get_or, set, Option, Some, None, Result, Ok, Err, refl, sym, ◌∙◌, ap, subst, arith, inl}
+use Rattle.std.proofs.Common.{◌≡◌, ℕ, zero, suc, ◌+◌, ◌<◌, ◌≤◌, ◌==◌, Bool, true, false, true≢false, if◌then◌else◌, cond, List, [], ◌∷◌, ◌++◌, length, map, get_or, set, Option, Some, None, Result, Ok, Err, refl, sym, ◌∙◌, ap, subst, arith, inl}
+use Rattle.std.proofs.lemmas.Bool.{or_parts}
 use Rattle.std.specs.List.{list_any}
 use Rattle.std.specs.Vec.{vec_len, vec_capacity, with_item}
 use Rattle.std.proofs.lemmas.Bool.Decides.{nat_tests}
-use Rattle.std.proofs.lemmas.List.{length-set}
+use Rattle.std.proofs.lemmas.List.{length-set, get_or_default}
+use Rattle.std.proofs.lemmas.Option.{same_Some}
 use Rattle.plain_term.specs.Tree.{Tree}
 use Rattle.plain_term.specs.Beyond.{is_beyond}
 use Rattle.plain_term.specs.Measures.{flat, nodes}
@@ -20,8 +22,8 @@ use Rattle.script_grammar.specs.Names.{Parsed}
 use Rattle.plain_machine.specs.State.{Process, State, is_live, process_of, register, with_queued}
 use Rattle.plain_machine.specs.Step.{in_process, send_to, send_within, step}
 use Rattle.plain_machine.specs.Tightness.{grow, receiver, send_words}
-use Rattle.plain_machine.specs.Laws.{AreWithin}
 use Rattle.plain_machine.specs.May.{gets_to_space}
+use Rattle.plain_machine.proofs.Properly.Holding.{sent-within}
 use Rattle.space_api.specs.Calls.{AreRising, Follows, said}
 use Rattle.space_api.specs.declared.space.Seat.{Seat}
 use Rattle.numbered_rows.specs.Numbers.{is_among, number_at, numbers}
@@ -52,7 +54,6 @@ use Rattle.one_space.proofs.Memory.Rooms.{roomed, stays-roomed}
 use Rattle.one_space.proofs.Processes.Seated.{found-there, number-there, rising-there, within-there}
 use Rattle.one_space.proofs.Processes.Seats.{later-above, process_numbers}
 use Rattle.one_space.proofs.Memory.Sizing.{within-few}
-use Rattle.one_space.proofs.Processes.Within.{queues, within-both, within-left, within-right}
 
 -- A message enters one queue.
 
@@ -69,12 +70,8 @@ other-one n t q other = grind (arith, nat_tests)
 pub none-queued : (qs : List Process) (n : ℕ) (t : Tree) → list_any (λ q. q.number == n) qs ≡ false → map (with_queued n t) qs ≡ qs
 none-queued [] n t e = refl
 none-queued (q ∷ qs) n t e =
-    let l = parts (q.number == n) (list_any (λ q. q.number == n) qs) e in
+    let l = or_parts (q.number == n) (list_any (λ q. q.number == n) qs) e in
     ap (λ z. z ∷ map (with_queued n t) qs) (ap (λ b. if b then queued t q else q) l.0) ∙ ap (λ z. q ∷ z) (none-queued qs n t l.1)
-  where
-    parts : (a b : Bool) → (a || b) ≡ false → (a ≡ false) × (b ≡ false)
-    parts true b e = absurd (true≢false e)
-    parts false b e = (refl, e)
 
 others-queued : (qs : List Process) (a n : ℕ) (t : Tree) → AreRising a (process_numbers qs) → n ≤ a → map (with_queued n t) qs ≡ qs
 others-queued [] a n t r up = refl
@@ -88,22 +85,6 @@ one-queued (q ∷ qs) zero a n d t r less e = ap (λ x. x ∷ map (with_queued n
 one-queued (q ∷ qs) (suc i) a n d t r less e =
     ap (λ x. x ∷ map (with_queued n t) qs) (other-one n t q (λ same. omega (arith, same, e, later-above qs i q.number d r.1 (omega (arith, less)))))
     ∙ ap (λ x. q ∷ x) (one-queued qs i q.number n d t r.1 (omega (arith, less)) e)
-
-within-queued : (shared : List (List ℕ)) (n : ℕ) (t : Tree) (qs : List Process) → is_beyond shared t ≡ false → AreWithin shared (queues qs) → AreWithin shared (queues (map (with_queued n t) qs))
-within-queued shared n t [] h k = tt
-within-queued shared n t (q ∷ qs) h k =
-    within-both shared (with_queued n t q).queue (queues (map (with_queued n t) qs)) (at (q.number == n) (within-left shared q.queue (queues qs) k))
-    (within-queued shared n t qs h (within-right shared q.queue (queues qs) k))
-  where
-    at : (b : Bool) → AreWithin shared q.queue → AreWithin shared (if b then queued t q else q).queue
-    at true m = within-both shared q.queue (t ∷ []) m (h, tt)
-    at false m = m
-
--- The row at a place does not depend on what stands for rows that are not there.
-row-any : (ps : List Proc) (i : ℕ) (d e : Proc) → i < length ps → get_or ps i d ≡ get_or ps i e
-row-any [] i d e less = absurd (omega (arith, less))
-row-any (p ∷ ps) zero d e less = refl
-row-any (p ∷ ps) (suc i) d e less = row-any ps i d e (omega (arith, less))
 
 -- What a measure says of the tree.
 
@@ -136,10 +117,7 @@ module _ (b : One) (holds : Holds b) (seat : Seat) (x : Sits b seat) (r : Reg) (
   tree s = register r.0 (q s)
 
   same-process : (s : State) → OneStands b s → (p : Process) → process_of seat.pid s ≡ Some p → q s ≡ p
-  same-process s o p e = inside (q s) p (sym (found-there b s o holds.counts seat x) ∙ e)
-    where
-      inside : (x y : Process) → Some x ≡ Some y → x ≡ y
-      inside x y e = cc
+  same-process s o p e = same_Some (q s) p (sym (found-there b s o holds.counts seat x) ∙ e)
 
   -- What the step comes to where the process is found.
   at-seat : (s : State) → OneStands b s → (terms : Terms) (names : List (List ℕ)) (res : Result (Unit {0}) Refusal) (Stands : State → Type 0)
@@ -248,7 +226,7 @@ module _ (b : One) (holds : Holds b) (seat : Seat) (x : Sits b seat) (r : Reg) (
               swept = refl;
               shared = o.shared;
               areas = o.areas;
-              within = within-queued s.shared n (tree s) s.processes (within s o) o.within;
+              within = sent-within s.shared n (tree s) s.processes (within s o, tt) o.within;
               reached = λ e. absurd (true≢false (sym e));
             })
 
@@ -363,7 +341,7 @@ module _ (b : One) (holds : Holds b) (seat : Seat) (x : Sits b seat) (r : Reg) (
               old = get_or h.procs.items row no_row
 
               old-is : old ≡ get_or h.procs.items row old
-              old-is = row-any h.procs.items row no_row old row-there.within
+              old-is = get_or_default h.procs.items row no_row old row-there.within
 
               abbrev new : Proc
               new = with_queue old sends.alone.first sends.alone.last (old.waiting + 1)
@@ -389,7 +367,7 @@ module _ (b : One) (holds : Holds b) (seat : Seat) (x : Sits b seat) (r : Reg) (
                     swept = refl;
                     shared = o.shared;
                     areas = o.areas;
-                    within = within-queued s.shared n (tree s) s.processes (within s o) o.within;
+                    within = sent-within s.shared n (tree s) s.processes (within s o, tt) o.within;
                     reached = λ e. absurd (true≢false (sym e));
                   })
 

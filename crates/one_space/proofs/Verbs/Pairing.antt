@@ -1,6 +1,8 @@
 -- `mapput`: a map with a pair more in a register, or none.
 use Rattle.std.proofs.Common.{◌-◌, ◌≡◌, ℕ, ◌+◌, ◌*◌, ◌<◌, ◌≤◌, Bool, true, false, nat_lt, List, get_or, Option, Some, Result, Ok, Err, refl, sym, ◌∙◌, ap, subst, arith, inl}
+use Rattle.std.proofs.lemmas.Bool.{both_ways}
 use Rattle.std.proofs.lemmas.Bool.Decides.{nat_tests}
+use Rattle.std.proofs.lemmas.Option.{same_Some}
 use Rattle.std.specs.Vec.{with_item}
 use Rattle.std.specs.Ordering.{match_ordering}
 use Rattle.std.specs.declared.cmp.Ordering.{Ordering}
@@ -102,14 +104,8 @@ module _ (k v : Tree) (s : State) (line : Parsed) (q : Process) (r : ℕ) where
       → put_unless_big big (put_pair line.names s.shared k v ps) s line q r ≡ Refused (refusal_of_put e)
   stops-at ps put.NoMap sorted f big is = absurd f
   stops-at ps put.Big sorted f true is = refl
-  stops-at ps put.Big sorted f false is = absurd (contrary (is_beyond s.shared k) f is)
-    where
-      contrary : (b : Bool) → b ≡ true → b ≡ false → ⊥
-      contrary b x y = cc
-  stops-at ps put.Full sorted f true is = absurd (contrary (is_beyond s.shared k) is f.small)
-    where
-      contrary : (b : Bool) → b ≡ true → b ≡ false → ⊥
-      contrary b x y = cc
+  stops-at ps put.Big sorted f false is = absurd (both_ways (is_beyond s.shared k) is f)
+  stops-at ps put.Full sorted f true is = absurd (both_ways (is_beyond s.shared k) f.small is)
   stops-at ps put.Full sorted f false is =
       ap (λ z. put_unless_wide z (put_pair line.names s.shared k v ps) s line q r) (is-many (pairs_len (put_pair line.names s.shared k v ps)) (f.many v sorted))
 
@@ -217,12 +213,9 @@ module _ (b : One) (holds : Holds b) (seat : Seat) (x : Sits b seat) (r m k v : 
 
       pub put-asked : (s : State) (o : OneStands b s) (q : Process) → process_of seat.pid s ≡ Some q → 6 + 2 * place.keys ≡ 6 + 2 * keys_in (register m.0 q)
       put-asked s o q found =
-          let same : seated_in s ≡ q = inner (seated_in s) q (sym (found-there b s o holds.counts seat x) ∙ found) in
+          let same : seated_in s ≡ q = same_Some (seated_in s) q (sym (found-there b s o holds.counts seat x) ∙ found) in
           let P : Process → Type 0 = λ z. 6 + 2 * place.keys ≡ 6 + 2 * keys_in (register m.0 z) in
           subst P same (sym (put-words s o))
-        where
-          inner : (u w : Process) → Some u ≡ Some w → u ≡ w
-          inner u w e = cc
 
       module _ (g : ℕ) (words : g ≡ 6 + 2 * place.keys) (h : Halves) (ok : Bool) (room : MakesRoom g b.halves h ok) where
         pub put-lacks : ok ≡ false → DoesBy {A = Unit {0}} names (OfProcess seat.pid put_verb) b (roomed b h) (Err (refusal.NoSpace g))

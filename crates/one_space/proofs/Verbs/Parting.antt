@@ -1,5 +1,6 @@
 -- `part`: bytes of a binary, which has none there, or there is no space.
-use Rattle.std.proofs.Common.{◌≡◌, ℕ, ◌+◌, ◌<◌, Bool, true, false, true≢false, nat_le, List, [], length, get_or, if◌then◌else◌, Option, Some, None, Ok, Err, refl, sym, ◌∙◌, subst, arith, inl}
+use Rattle.std.proofs.Common.{◌≡◌, ℕ, ◌+◌, ◌<◌, Bool, true, false, true≢false, nat_le, List, length, get_or, if◌then◌else◌, Option, Some, None, Ok, Err, refl, sym, ◌∙◌, subst, arith, inl}
+use Rattle.std.proofs.lemmas.Option.{same_Some}
 use Rattle.std.specs.Prelude.{is_some}
 use Rattle.std.specs.Vec.{vec_len, with_item}
 use Rattle.word_mem.specs.declared.ranges.Room.{Room}
@@ -35,21 +36,18 @@ use Rattle.two_halves.specs.declared.table.Proc.{Proc}
 use Rattle.one_space.proofs.Calls.Acting.{after}
 use Rattle.two_halves.proofs.Standing.Filled.{laid_out}
 use Rattle.one_space.proofs.Processes.Changing.{no_process}
-use Rattle.one_space.proofs.Calls.Growing.{counts-there, grow-at, holds-become, refused-does, roomed-there, sits-there, some-process}
+use Rattle.one_space.proofs.Calls.Growing.{counts-there, grow-at, refused-does, roomed-there, sits-there, some-process}
 use Rattle.one_space.proofs.Processes.Registers.{held-there, row-there, word-there}
-use Rattle.one_space.proofs.Memory.Rooms.{roomed, stays-roomed}
+use Rattle.one_space.proofs.Memory.Rooms.{roomed}
 use Rattle.one_space.proofs.Processes.Seated.{found-there}
-use Rattle.one_space.proofs.Calls.Terming.{room-free, row-made, term-counts, term-stands, with_term}
+use Rattle.one_space.proofs.Calls.Terming.{room-free, row-made, term-stands, with_term, term-does}
 
 -- A part names nothing.
 chosen-named : (n : ℕ) (b : Bool) (base u : Tree) (offset len : ℕ) → (if b then Some (Part base offset len) else None) ≡ Some u → is_named n u ≡ true
 chosen-named n true base u offset len e =
-    let inner : Part base offset len ≡ u = inside (Part base offset len) u e in
+    let inner : Part base offset len ≡ u = same_Some (Part base offset len) u e in
     let P : Tree → Type 0 = λ z. is_named n z ≡ true in
     subst P inner refl
-  where
-    inside : (a b : Tree) → Some a ≡ Some b → a ≡ b
-    inside a b f = cc
 chosen-named n false base u offset len e = absurd (none u e)
   where
     none : (z : Tree) → None ≡ Some z → ⊥
@@ -156,12 +154,5 @@ module _ (b : One) (holds : Holds b) (seat : Seat) (x : Sits b seat) (r m : Reg)
             (term-stands b holds seat x 5 h ok room given mem2 z 5 (omega arith) uses p3 is3 r.0 w p3.refs b.row refl s o u.0 b.named q.refs
             (omega arith) (part-named s.shared offset len b.named (register m.0 q) u.0 u.1) (row-there (roomed b h) counts1 seat sits1 p3 is3 s o1).refs made v terms names)))
 
-        cut-counts : IsCounted (after b h3)
-        cut-counts = term-counts b holds seat x 5 h ok room given mem2 z 5 (omega arith) uses p3 is3 r.0 w p3.refs b.row refl b.named (row-made b holds seat x 5 h ok room p3 is3)
-
         pub cut-does : Does {A = Unit {0}} (OfProcess seat.pid v) b (after b h3) (Ok tt)
-        cut-does = record {
-          holds = holds-become {A = Unit {0}} (words_of b) (after b h3) holds.state (said (OfProcess seat.pid v) end []) (Ok tt) cut-counts (cut-stands holds.state end [] holds.stands);
-          becomes = cut-stands;
-          books = record { same_words = uses.same_len ∙ (stays-roomed 5 b.halves h ok room).same_len; one_call = omega arith; few_names = omega arith };
-        }
+        cut-does = term-does b holds seat x 5 h ok room given mem2 z 5 (omega arith) uses p3 is3 r.0 w p3.refs b.row refl v (row-made b holds seat x 5 h ok room p3 is3) cut-stands

@@ -1,7 +1,8 @@
 -- What `recv` makes of a space.
-use Rattle.std.proofs.Common.{◌≡◌, ℕ, zero, suc, ◌+◌, ◌<◌, true, false, true≢false, List, [], ◌∷◌, length, get_or, set, Option, Some, Ok, Err, refl, sym, ◌∙◌, ap, subst, arith, inl}
+use Rattle.std.proofs.Common.{◌≡◌, ℕ, ◌+◌, ◌<◌, List, [], length, get_or, set, Option, Some, Ok, Err, refl, sym, ◌∙◌, ap, subst, arith, inl}
+use Rattle.std.proofs.lemmas.Bool.{false≢true}
 use Rattle.std.specs.Vec.{vec_capacity, vec_len, with_item}
-use Rattle.std.proofs.lemmas.List.{length-set, get_or-set_same}
+use Rattle.std.proofs.lemmas.List.{length-set, get_or-set_same, get_or_default, set-set}
 use Rattle.plain_term.specs.Tree.{Tree}
 use Rattle.script_grammar.specs.declared.command.Command.TheVariants.{Process as OfProcess}
 use Rattle.script_grammar.specs.declared.command.Reg.{Reg}
@@ -34,21 +35,6 @@ use Rattle.one_space.proofs.Processes.Seated.{count-there, found-there, number-t
 use Rattle.one_space.proofs.Processes.Turning.{none-held, register-set, row-stands, with_word}
 use Rattle.one_space.proofs.Processes.Within.{within-at}
 
-false-true : false ≡ true → ⊥
-false-true e = true≢false (sym e)
-
--- A place of a list that is written twice.
-set-again : {A : Type 0} (xs : List A) (i : ℕ) (a b : A) → set (set xs i a) i b ≡ set xs i b
-set-again [] i a b = refl
-set-again (x ∷ xs) zero a b = refl
-set-again (x ∷ xs) (suc i) a b = ap (λ z. x ∷ z) (set-again xs i a b)
-
--- A row is the same whatever stands for a row that is not there.
-row-any : (rows : List Proc) (i : ℕ) (d e : Proc) → i < length rows → get_or rows i d ≡ get_or rows i e
-row-any [] i d e less = absurd (omega (arith, less))
-row-any (p ∷ rows) zero d e less = refl
-row-any (p ∷ rows) (suc i) d e less = row-any rows i d e (omega (arith, less))
-
 -- The space with other halves.
 abbrev pub with_halves : One → Halves → One
 with_halves b h = record { halves = h; row = b.row; spare = b.spare; next = b.next; serials = b.serials; named = b.named; calls = b.calls; swept = b.swept }
@@ -60,7 +46,7 @@ module _ (b : One) (holds : Holds b) (seat : Seat) (x : Sits b seat) (r : Reg) w
     holds = holds;
     follows = λ s terms names o.
         let p : Proc = get_or b.halves.procs.items seat.row no_row in
-        let is : p ≡ get_or b.halves.procs.items seat.row p = row-any b.halves.procs.items seat.row no_row p x.within in
+        let is : p ≡ get_or b.halves.procs.items seat.row p = get_or_default b.halves.procs.items seat.row no_row p x.within in
         let q : Process = get_or s.processes seat.row no_process in
         let line : Parsed = said (OfProcess seat.pid (verb.Recv r)) terms names in
         let h = row-stands o.processes.test s.shared b.halves.mem b.halves.low (end_of b.halves) b.named b.halves.procs.items s.processes seat.row p x.within is o.processes.processes in
@@ -86,7 +72,7 @@ module _ (b : One) (holds : Holds b) (seat : Seat) (x : Sits b seat) (r : Reg) w
     p = get_or b.halves.procs.items seat.row no_row
 
     row-is : p ≡ get_or b.halves.procs.items seat.row p
-    row-is = row-any b.halves.procs.items seat.row no_row p x.within
+    row-is = get_or_default b.halves.procs.items seat.row no_row p x.within
 
     moved : h2 ≡ with_row b.halves seat.row (shifted b.halves.mem p)
     moved = takes.same p row-is
@@ -126,7 +112,7 @@ module _ (b : One) (holds : Holds b) (seat : Seat) (x : Sits b seat) (r : Reg) w
             let rows : ProcsStand left.stands.test s.shared h2.mem h2.low (end_of h2) b.named v.items (set qs1 seat.row (with_register r.0 left.message (get_or qs1 seat.row no_process))) =
             register-set left.stands.test s.shared h2.mem h2.low (end_of h2) b.named h2.procs.items qs1 seat.row p2 left-within is2 left.stands.processes r.0 w left.message left.held in
             let same : set qs1 seat.row (with_register r.0 left.message (get_or qs1 seat.row no_process)) ≡ set s.processes seat.row q2 =
-            ap (λ z. set qs1 seat.row (with_register r.0 left.message z)) own ∙ set-again s.processes seat.row q1 q2 in
+            ap (λ z. set qs1 seat.row (with_register r.0 left.message z)) own ∙ set-set s.processes seat.row q1 q2 in
             let P : List Process → Type 0 = λ z. HalvesStand b.named (received p2).halves s.shared z in
             subst P same (halves-filled b.named b.named h2 s.shared qs1 (set qs1 seat.row (with_register r.0 left.message (get_or qs1 seat.row no_process))) takes.laid left.stands
             left.stands.test left.stands.single h2.mem h2.top h2.low v refl
@@ -148,7 +134,7 @@ module _ (b : One) (holds : Holds b) (seat : Seat) (x : Sits b seat) (r : Reg) w
             let R : List Process → Type 0 = λ z. HalvesStand b.named (received p2).halves s.shared z in
             let number : left.process.number ≡ seat.pid = ap (λ z. z.number) (sym (left.is no_process)) ∙ number-there b s o holds.counts seat x in
             subst P (sym (found-there b s o holds.counts seat x ∙ ap (λ z. Some z) (left.is no_process))) (subst Q (sym left.queue)
-            (settled-stands b (received p2) s line q2 o (subst R (sym (set-there b s o holds.counts seat x q2 number)) received-stands) refl refl refl (λ e. absurd (false-true e)) rest-within))
+            (settled-stands b (received p2) s line q2 o (subst R (sym (set-there b s o holds.counts seat x q2 number)) received-stands) refl refl refl (λ e. absurd (false≢true e)) rest-within))
 
       received-counts : IsCounted (received p2)
       received-counts =

@@ -1,5 +1,5 @@
 -- `ref`: a new reference in a register, or there is no space.
-use Rattle.std.proofs.Common.{◌≡◌, ℕ, ◌+◌, ◌≤◌, Bool, true, false, List, [], get_or, Option, Ok, Err, refl, sym, ◌∙◌, ap, subst, arith, inl}
+use Rattle.std.proofs.Common.{◌≡◌, ℕ, ◌+◌, ◌≤◌, Bool, true, false, List, get_or, Option, Ok, Err, refl, sym, ap, subst, arith, inl}
 use Rattle.std.specs.Vec.{with_item}
 use Rattle.word_mem.specs.declared.ranges.Room.{Room}
 use Rattle.plain_term.specs.Tree.Tree.{Ref}
@@ -27,11 +27,11 @@ use Rattle.one_space.proofs.Calls.Acting.{after}
 use Rattle.two_halves.proofs.Standing.Filled.{laid_out}
 use Rattle.one_space.proofs.Processes.Changing.{no_process}
 use Rattle.one_space.proofs.Processes.Counting.{made-at, made-same}
-use Rattle.one_space.proofs.Calls.Growing.{counts-there, grow-at, holds-become, refused-does, roomed-there, sits-there, some-process}
+use Rattle.one_space.proofs.Calls.Growing.{counts-there, grow-at, refused-does, roomed-there, sits-there, some-process}
 use Rattle.one_space.proofs.Processes.Registers.{row-there}
 use Rattle.one_space.proofs.Memory.Rooms.{roomed, stays-roomed}
 use Rattle.one_space.proofs.Processes.Seated.{found-there, number-there}
-use Rattle.one_space.proofs.Calls.Terming.{room-free, term-counts, term-stands, with_term}
+use Rattle.one_space.proofs.Calls.Terming.{room-free, term-stands, with_term, term-does}
 
 module _ (b : One) (holds : Holds b) (seat : Seat) (x : Sits b seat) (r : Reg) (h : Halves) (ok : Bool) (room : MakesRoom 3 b.halves h ok) where
   pub ref-refused : ok ≡ false → Does {A = Unit {0}} (OfProcess seat.pid (verb.Ref r)) b (roomed b h) (Err (refusal.NoSpace 3))
@@ -71,12 +71,5 @@ module _ (b : One) (holds : Holds b) (seat : Seat) (x : Sits b seat) (r : Reg) (
         (term-stands b holds seat x 3 h ok room given mem2 z 3 (omega arith) uses p2 is2 r.0 w k b.row refl s o (Ref q.number (q.refs + 1)) b.named (q.refs + 1) (omega arith) refl made here
         (verb.Ref r) terms names))
 
-    ref-counts : IsCounted (after b h3)
-    ref-counts = term-counts b holds seat x 3 h ok room given mem2 z 3 (omega arith) uses p2 is2 r.0 w k b.row refl b.named (omega (arith, counted, refs-few p is))
-
     pub ref-does : Does {A = Unit {0}} (OfProcess seat.pid (verb.Ref r)) b (after b h3) (Ok tt)
-    ref-does = record {
-      holds = holds-become {A = Unit {0}} (words_of b) (after b h3) holds.state (said (OfProcess seat.pid (verb.Ref r)) end []) (Ok tt) ref-counts (ref-stands holds.state end [] holds.stands);
-      becomes = ref-stands;
-      books = record { same_words = uses.same_len ∙ (stays-roomed 3 b.halves h ok room).same_len; one_call = omega arith; few_names = omega arith };
-    }
+    ref-does = term-does b holds seat x 3 h ok room given mem2 z 3 (omega arith) uses p2 is2 r.0 w k b.row refl (verb.Ref r) (omega (arith, counted, refs-few p is)) ref-stands

@@ -1,5 +1,5 @@
 -- `mktuple` and `mklist`: a term in many places, too many, or there is no space.
-use Rattle.std.proofs.Common.{◌≡◌, ℕ, ◌+◌, ◌<◌, ◌≤◌, Bool, true, false, nat_lt, List, [], get_or, Option, Ok, Err, refl, sym, ◌∙◌, subst, arith, inl}
+use Rattle.std.proofs.Common.{◌≡◌, ℕ, ◌+◌, ◌<◌, ◌≤◌, Bool, true, false, nat_lt, List, get_or, Option, Ok, Err, refl, sym, ◌∙◌, subst, arith, inl}
 use Rattle.std.proofs.lemmas.Bool.Decides.{nat_tests}
 use Rattle.std.specs.Vec.{with_item}
 use Rattle.word_mem.specs.declared.ranges.Room.{Room}
@@ -33,12 +33,12 @@ use Rattle.two_halves.specs.declared.table.Proc.{Proc}
 use Rattle.one_space.proofs.Calls.Acting.{after}
 use Rattle.two_halves.proofs.Standing.Filled.{laid_out}
 use Rattle.one_space.proofs.Processes.Changing.{no_process}
-use Rattle.one_space.proofs.Calls.Growing.{counts-there, grow-at, holds-become, refused-does, roomed-there, sits-there, some-process, some-words}
+use Rattle.one_space.proofs.Calls.Growing.{counts-there, grow-at, refused-does, roomed-there, sits-there, some-process, some-words}
 use Rattle.one_space.proofs.Calls.Naming.{repeated-named}
 use Rattle.one_space.proofs.Processes.Registers.{held-there, row-there}
-use Rattle.one_space.proofs.Memory.Rooms.{roomed, stays-roomed}
+use Rattle.one_space.proofs.Memory.Rooms.{roomed}
 use Rattle.one_space.proofs.Processes.Seated.{found-there}
-use Rattle.one_space.proofs.Calls.Terming.{room-free, row-made, term-counts, term-stands, with_term}
+use Rattle.one_space.proofs.Calls.Terming.{room-free, row-made, term-stands, with_term, term-does}
 
 too-many : (n : ℕ) → MOST_PLACES < n → nat_lt MOST_PLACES n ≡ true
 too-many n many = grind (arith, nat_tests)
@@ -96,13 +96,6 @@ module _ (b : One) (holds : Holds b) (seat : Seat) (x : Sits b seat) (r : Reg) (
           (term-stands b holds seat x g h ok room given mem2 z (repeat_words shape n) (omega (arith, words)) uses p2 is2 r.0 w p2.refs b.row refl s o (repeated shape n (register m.0 q)) b.named q.refs
           (omega arith) (repeated-named b.named (register m.0 q) held.names shape n) (row-there (roomed b h) counts1 seat sits1 p2 is2 s o1).refs made v terms names)))
 
-      repeat-counts : IsCounted (after b h3)
-      repeat-counts = term-counts b holds seat x g h ok room given mem2 z (repeat_words shape n) (omega (arith, words)) uses p2 is2 r.0 w p2.refs b.row refl b.named (row-made b holds
-          seat x g h ok room p2 is2)
-
       pub repeat-does : Does {A = Unit {0}} (OfProcess seat.pid v) b (after b h3) (Ok tt)
-      repeat-does = record {
-        holds = holds-become {A = Unit {0}} (words_of b) (after b h3) holds.state (said (OfProcess seat.pid v) end []) (Ok tt) repeat-counts (repeat-stands holds.state end [] holds.stands);
-        becomes = repeat-stands;
-        books = record { same_words = uses.same_len ∙ (stays-roomed g b.halves h ok room).same_len; one_call = omega arith; few_names = omega arith };
-      }
+      repeat-does = term-does b holds seat x g h ok room given mem2 z (repeat_words shape n) (omega (arith, words)) uses p2 is2 r.0 w p2.refs b.row refl v
+          (row-made b holds seat x g h ok room p2 is2) repeat-stands

@@ -1,5 +1,5 @@
 -- `set`: a written term is built in a register, or it is refused for its maps, or there is no space.
-use Rattle.std.proofs.Common.{Vec, ◌≡◌, ℕ, zero, suc, ◌+◌, ◌-◌, ◌*◌, ◌^◌, ◌/◌, min, ◌<◌, ◌≤◌, ◌⊎◌, Bool, true, false, true≢false, if◌then◌else◌, List, [], ◌∷◌, ◌++◌, length, get_or, set, Option, Result, Ok, Err, refl, sym, ◌∙◌, ap, subst, arith, inl, inr}
+use Rattle.std.proofs.Common.{Vec, ◌≡◌, ℕ, zero, suc, ◌+◌, ◌-◌, ◌*◌, ◌^◌, ◌/◌, min, ◌<◌, ◌≤◌, ◌⊎◌, Bool, true, false, true≢false, List, [], ◌∷◌, ◌++◌, length, get_or, set, Option, Result, Ok, Err, refl, sym, ◌∙◌, ap, subst, arith, inl, inr}
 use Rattle.std.specs.Vec.{vec_len, vec_capacity, with_item}
 use Rattle.std.specs.declared.alloc.Global.{Global}
 use Rattle.word_mem.specs.declared.ranges.Room.{Room}
@@ -19,7 +19,7 @@ use Rattle.script_grammar.specs.Names.{Parsed}
 use Rattle.term_order.specs.Named.{is_named}
 use Rattle.term_build.specs.Taken.{IsFree}
 use Rattle.term_words.specs.Stands.{Stands}
-use Rattle.term_words.specs.Counted.{In, total}
+use Rattle.term_words.specs.Counted.{total}
 use Rattle.term_words.proofs.Framing.Frames.{frame}
 use Rattle.term_words.proofs.Totals.Members.{both-total}
 use Rattle.off_heap_list.proofs.Walked.Tallied.{few-links}
@@ -35,17 +35,21 @@ use Rattle.space_api.specs.Calls.{AreRising, Becomes, Follows, HasTerm, IsTerm, 
 use Rattle.space_api.specs.declared.space.Seat.{Seat}
 use Rattle.item_build.specs.declared.building.BuildStop.{BuildStop}
 use Rattle.item_build.specs.declared.bins.Making.{Making}
-use Rattle.item_build.specs.Reading.{AreLed, bins_of, far_words_of, is_long, long_bins, outcome, words_of}
+use Rattle.item_build.specs.Reading.{AreLed, bins_of, far_words_of, long_bins, outcome, words_of}
 use Rattle.item_build.specs.Building.{BuildsTerm, HasHeld, HeldStand, Laid, LeavesRoom, Made}
 use Rattle.item_build.proofs.Turned.Ending.{whole-led}
 use Rattle.item_build.proofs.Meaning.Known.{Knows, stands-known, stands-more}
 use Rattle.item_build.proofs.Meaning.Written.{is-written, outcome_of, term-makes, term-named, term-outcome, term-words, words-few}
+use Rattle.item_build.proofs.Meaning.Growing.{longs-are}
+use Rattle.item_build.proofs.Laid.Chaining.{longs-few}
 use Rattle.two_halves.specs.Halves.{HalvesStand, HoldTrees, HoldsTree, ProcStands, ProcsStand, end_of, places_in}
 use Rattle.two_halves.specs.Stack.{AreApart, values}
 use Rattle.two_halves.specs.Halves.{all_places}
 use Rattle.two_halves.proofs.Standing.Apart.{apart-kept, apart-same}
 use Rattle.plain_machine.specs.Laws.{AreWithin}
-use Rattle.one_space.proofs.Processes.Within.{queues, within-at, within-grown, within-put}
+use Rattle.plain_machine.proofs.Properly.Holding.{queues, put-within}
+use Rattle.two_halves.proofs.Queued.Queuing.{row-set}
+use Rattle.one_space.proofs.Processes.Within.{within-at, within-grown}
 use Rattle.two_halves.specs.Collecting.{MakesRoom}
 use Rattle.one_space.specs.One.{Holds, IsCounted, OneStands, Sits, number_in}
 use Rattle.one_space.specs.One.{words_of as memory_words}
@@ -55,7 +59,7 @@ use Rattle.one_space.specs.declared.one.One.{One}
 use Rattle.two_halves.specs.declared.table.Proc.{Proc}
 use Rattle.one_space.proofs.Calls.Acting.{counts-same, half-within, numbers-row, places-row}
 use Rattle.two_halves.proofs.Standing.Filled.{laid_out}
-use Rattle.one_space.proofs.Processes.Changing.{held-set, no_process, procs-set}
+use Rattle.one_space.proofs.Processes.Changing.{held-set, no_process}
 use Rattle.one_space.proofs.Processes.Counting.{made-set}
 use Rattle.one_space.proofs.Calls.Growing.{counts-there, grow-at, holds-become, lacks-space, roomed-there, sits-there, some-process, some-words}
 use Rattle.one_space.proofs.Processes.Registers.{held-there, named-there, row-there}
@@ -66,7 +70,8 @@ use Rattle.one_space.specs.Entered.{records_from}
 use Rattle.one_space.proofs.Memory.Landing.{inside-there, joined, landed-laid, landed-stands, record-there}
 use Rattle.one_space.proofs.Calls.Naming.{named-more}
 use Rattle.one_space.proofs.Memory.Resting.{rest-laid, rest-reached, rest-stands}
-use Rattle.one_space.proofs.Memory.Tabled.{bins-count, bins-size, entered-at, entered-len, record_at, records-size}
+use Rattle.one_space.proofs.Memory.Tabled.{bins-size, entered-at, entered-len, record_at, records-size}
+use Rattle.one_space.proofs.Memory.Gaining.{total-least}
 use Rattle.one_space.proofs.Processes.Turning.{row-stands}
 use Rattle.one_space.proofs.Calls.Terming.{row-made, term-fits, with_term}
 
@@ -108,15 +113,6 @@ accepts true wide s next Stands small narrow f = absurd cc
 accepts false true s next Stands small narrow f = absurd cc
 accepts false false s next Stands small narrow f = f
 
--- No more binaries are long than there are items.
-pub long-few : (code : List Item) → long_bins code ≤ length code
-long-few [] = omega arith
-long-few (x ∷ xs) = omega (arith, by (is_long x), long-few xs)
-  where
-    by : (b : Bool) → (if b then 1 else 0) ≤ 1
-    by true = omega arith
-    by false = omega arith
-
 -- What is held knows no later shared binaries.
 know-held : (c : ℕ → ℕ → Bool) (shared : List (List ℕ)) (mem : List ℕ) (named : ℕ) (ws : List ℕ) (ts : List Tree) → HoldTrees c shared mem named ws ts → (r : ℕ)
     → Knows (length shared) (get_or ts r Nil)
@@ -152,11 +148,6 @@ module _ (c : ℕ → ℕ → Bool) (shared extra : List (List ℕ)) (mem : List
   procs-more [] (q ∷ qs) s = absurd s
   procs-more (p ∷ ps) [] s = absurd s
   procs-more (p ∷ ps) (q ∷ qs) s = (proc-more p q s.0, procs-more ps qs s.1)
-
--- Records have four words at least.
-four-each : (size : ℕ → ℕ) (vs : List ℕ) → ((v : ℕ) → In v vs → 4 ≤ size v) → 4 * length vs ≤ total size vs
-four-each size [] each = omega arith
-four-each size (v ∷ vs) each = omega (arith, each v (inl refl), four-each size vs (λ w i. each w (inr i)))
 
 -- The space after a stop: its memory and its row of words changed, and nothing that it stands for.
 abbrev pub stopped_in : One → Halves → (mem : List ℕ) → Vec ℕ Global → One
@@ -360,7 +351,7 @@ module _ (b : One) (holds : Holds b) (seat : Seat) (x : Sits b seat) (r : Reg) (
             omega (arith, there.header, ap (λ g. bin_words (length g)) is_bytes)
 
         new-words : z.end + total (record_words mem2) (records_from mem2 h.top (long_bins code)) ≤ h.low
-        new-words = omega (arith, back, end-is, records-size mem2 h.top (record_words mem2) (bins_of code) (long_bins code) (sym (bins-count code)) record-size, bins-size code led)
+        new-words = omega (arith, back, end-is, records-size mem2 h.top (record_words mem2) (bins_of code) (long_bins code) (sym (longs-are code)) record-size, bins-size code led)
 
         -- All records lie in the half, so that the table has room for them.
         pub set-room : vec_len h.bins + long_bins code ≤ vec_capacity h.bins
@@ -369,9 +360,9 @@ module _ (b : One) (holds : Holds b) (seat : Seat) (x : Sits b seat) (r : Reg) (
             let old = (o1 holds.state holds.stands).processes in
             let news : List ℕ = records_from mem2 h.top (long_bins code) in
             let olds : 4 * length h.bins.items ≤ total (record_words h.mem) h.bins.items =
-            four-each (record_words h.mem) h.bins.items (λ u i. omega (arith, (old.records.each_bin u i).is.header)) in
+            total-least (record_words h.mem) h.bins.items (λ u i. omega (arith, (old.records.each_bin u i).is.header)) in
             let fresh : 4 * length news ≤ total (record_words mem2) news =
-            four-each (record_words mem2) news (λ u i.
+            total-least (record_words mem2) news (λ u i.
             let (k, (less, is)) = entered-at mem2 h.top (long_bins code) u i in
             omega (arith, record-size k less, ap (record_words mem2) is)) in
             omega (
@@ -397,6 +388,10 @@ module _ (b : One) (holds : Holds b) (seat : Seat) (x : Sits b seat) (r : Reg) (
             let old = (o1 holds.state holds.stands).processes in
             omega (arith, old.linked, few-links old.test h.mem old.chained old.links.once old.links.each)
 
+        -- The space after the build, with this half.
+        abbrev built_on : Halves → (named : ℕ) → One
+        built_on half named = record { halves = half; row = row; spare = b.spare; next = b.next; serials = now.serial; named = named; calls = b.calls + 1; swept = false }
+
         module _ (u : Proc) (row_is : u ≡ get_or h.procs.items seat.row u) (bins : Vec ℕ Global) (table : bins.items ≡ h.bins.items ++ records_from mem2 h.top (long_bins code))
             (same_capacity : vec_capacity bins ≡ vec_capacity h.bins) (made_now : now.serial ≡ b.serials + long_bins code) where
           -- The half, and the space.
@@ -404,7 +399,7 @@ module _ (b : One) (holds : Holds b) (seat : Seat) (x : Sits b seat) (r : Reg) (
           h3 = joined h mem2 z.top z.end now.head (long_bins code) (with_item h.procs seat.row (with_term u r.0 w u.refs)) bins
 
           abbrev after_build : (named : ℕ) → One
-          after_build named = record { halves = h3; row = row; spare = b.spare; next = b.next; serials = now.serial; named = named; calls = b.calls + 1; swept = false }
+          after_build named = built_on h3 named
 
           same-places : places_in (set h.procs.items seat.row (with_term u r.0 w u.refs)) ≡ places_in h.procs.items
           same-places = omega (arith, places-row h.procs.items seat.row (with_term u r.0 w u.refs) u sits1.within row_is)
@@ -456,7 +451,7 @@ module _ (b : One) (holds : Holds b) (seat : Seat) (x : Sits b seat) (r : Reg) (
                 let limit : end_of h ≡ h.base + length mem2 / 2 = omega (arith, leaves.same_len) in
                 let P : ℕ → Type 0 = λ g. ProcsStand test (s.shared ++ bins_of code) mem2 z.end g named (set h.procs.items seat.row (with_term u r.0 w u.refs))
                 (set s.processes seat.row (with_register r.0 tree (q s o))) in
-                subst P limit (procs-set test (s.shared ++ bins_of code) mem2 named z.end (end_of h) h.procs.items s.processes seat.row (with_term u r.0 w u.refs) (with_register r.0
+                subst P limit (row-set test (s.shared ++ bins_of code) mem2 z.end (end_of h) named h.procs.items s.processes seat.row (with_term u r.0 w u.refs) (with_register r.0
                 tree (q s o)) rows (record {
                   number = old.number;
                   count = length-set u.regs r.0 w ∙ old.count;
@@ -487,9 +482,9 @@ module _ (b : One) (holds : Holds b) (seat : Seat) (x : Sits b seat) (r : Reg) (
                       (with_item h.procs seat.row (with_term u r.0 w u.refs)) bins (set s.processes seat.row (with_register r.0 tree (q s o))) table set-rows set-apart);
                   next = o.next;
                   swept = refl;
-                  shared = omega (arith, length-append s.shared (bins_of code), bins-count code, o.shared, made_now);
+                  shared = omega (arith, length-append s.shared (bins_of code), longs-are code, o.shared, made_now);
                   areas = o.areas;
-                  within = within-put (s.shared ++ bins_of code) (with_register r.0 tree (q s o)) s.processes (within-at (s.shared ++ bins_of code) s.processes seat.row more-within) more-within;
+                  within = put-within (s.shared ++ bins_of code) (with_register r.0 tree (q s o)) s.processes (within-at (s.shared ++ bins_of code) s.processes seat.row more-within) more-within;
                   reached = λ e. absurd (true≢false (sym e));
                 }
 
@@ -522,7 +517,7 @@ module _ (b : One) (holds : Holds b) (seat : Seat) (x : Sits b seat) (r : Reg) (
                 numbered = counts1.numbered;
                 counted = counts1.counted;
                 made = made-set (b.calls + 1) (b.calls + 1) (omega arith) h.procs.items seat.row (with_term u r.0 w u.refs) counts1.made (row-made b holds seat x n h ok room u row_is);
-                serials = omega (arith, holds.counts.serials, made_now, long-few code, has.few);
+                serials = omega (arith, holds.counts.serials, made_now, longs-few code, has.few);
                 bins = omega (arith, counts1.bins, same_capacity, leaves.same_len);
                 funs = omega (arith, counts1.funs, leaves.same_len);
               }
@@ -538,28 +533,9 @@ module _ (b : One) (holds : Holds b) (seat : Seat) (x : Sits b seat) (r : Reg) (
 
         pub set-builds : (k : ℕ) → k ≡ long_bins code → (u : Proc) → u ≡ get_or h.procs.items seat.row u → (bins : Vec ℕ Global) → bins.items ≡ h.bins.items ++ records_from mem2 h.top k
             → vec_capacity bins ≡ vec_capacity h.bins → now.serial ≡ b.serials + long_bins code → (named : ℕ) → named ≡ length names
-            → Builds {A = Unit {0}} names seat.pid r code b
-            (record {
-              halves = joined h mem2 z.top z.end now.head k (with_item h.procs seat.row (with_term u r.0 w u.refs)) bins;
-              row = row;
-              spare = b.spare;
-              next = b.next;
-              serials = now.serial;
-              named = named;
-              calls = b.calls + 1;
-              swept = false;
-            }) (Ok tt)
+            → Builds {A = Unit {0}} names seat.pid r code b (built_on (joined h mem2 z.top z.end now.head k (with_item h.procs seat.row (with_term u r.0 w u.refs)) bins) named) (Ok tt)
         set-builds k k_is u row_is bins table capacity made_now named named_is =
             let P : ℕ → Type 0 = λ g. Builds {A = Unit {0}} names seat.pid r code b
-            (record {
-              halves = joined h mem2 z.top z.end now.head g (with_item h.procs seat.row (with_term u r.0 w u.refs)) bins;
-              row = row;
-              spare = b.spare;
-              next = b.next;
-              serials = now.serial;
-              named = named;
-              calls = b.calls + 1;
-              swept = false;
-            }) (Ok tt) in
+            (built_on (joined h mem2 z.top z.end now.head g (with_item h.procs seat.row (with_term u r.0 w u.refs)) bins) named) (Ok tt) in
             let T : ℕ → Type 0 = λ g. bins.items ≡ h.bins.items ++ records_from mem2 h.top g in
             subst P (sym k_is) (set-does u row_is bins (subst T k_is table) capacity made_now named named_is)

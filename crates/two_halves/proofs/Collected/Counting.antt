@@ -4,14 +4,13 @@ use Rattle.std.proofs.lemmas.Bool.Decides.{nat_tests}
 use Rattle.plain_term.specs.Tree.{Tree, trees_len, pairs_len}
 use Rattle.plain_term.specs.Tree.Tree.{Int, Atom, Pid, Ref, Nil, Cons, Tuple, Map, Bin, Shared, Part, Fun}
 use Rattle.plain_term.specs.Measures.{bin_words}
-use Rattle.term_tags.specs.Words.{head_word}
-use Rattle.term_tags.specs.declared.layouts.TheConstants.{HOLDER}
 use Rattle.term_words.specs.Role.{NEXT, FIRST, FURTHER, NAMES, IsSingle}
 use Rattle.term_words.specs.Object.{IsBoxed, IsInt, IsObject, IsPointer, object_words}
 use Rattle.term_words.specs.Stands.{Stands}
 use Rattle.term_words.proofs.Placing.Apart.{words-cons, words-boxed}
 use Rattle.term_words.proofs.Reaching.Carrying.{in-object}
 use Rattle.off_heap_list.specs.Links.{name_place}
+use Rattle.off_heap_list.proofs.Chaining.Chained.{holder-place}
 
 -- The object at a boxed pointer is a holder or a fun: its words `next` and the one that names its record.
 pub record IsCounting (c : ℕ → ℕ → Bool) (mem : List ℕ) (w q : ℕ) : Type 0 where
@@ -59,9 +58,6 @@ module _ (c : ℕ → ℕ → Bool) (single : IsSingle c) where
   names-alone : (q a : ℕ) → q ≡ a → c a NAMES ≡ true → c q NEXT ≡ true → ⊥
   names-alone q a e h n = let f : NAMES ≡ NEXT = single.one q NAMES NEXT (at q a NAMES e h) n in omega (arith, f)
 
-  holder-name : (mem : List ℕ) (p : ℕ) → get_or mem p 0 ≡ head_word HOLDER 5 → name_place mem p ≡ p + 3
-  holder-name mem p e = grind (arith, nat_tests, e)
-
   fun-name : (mem : List ℕ) (p k : ℕ) → get_or mem p 0 ≡ (k + 5) * 64 + 20 → name_place mem p ≡ p + 1
   fun-name mem p k e = let f : (get_or mem p 0 == 352) ≡ false = grind (arith, nat_tests, e) in rw f refl
 
@@ -85,7 +81,7 @@ module _ (c : ℕ → ℕ → Bool) (single : IsSingle c) where
           boxed = o.holder.tag;
           next = o.holder.next;
           at_next = λ n. absurd (names-alone q (w / 4 + 3) e o.holder.names n);
-          at_names = λ n. e ∙ sym (holder-name mem (w / 4) o.holder.header);
+          at_names = λ n. e ∙ sym (holder-place mem (w / 4) o.holder.header);
         }
         | inr (inr (inr (inr (inl e)))) ↦ absurd (none-plain q (w / 4 + 4) FURTHER e o.holder.fifth (inr refl) k)
         | inr (inr (inr (inr (inr e)))) ↦ absurd (none-plain q (w / 4 + 5) FURTHER e o.holder.sixth (inr refl) k)

@@ -16,7 +16,7 @@ use Rattle.cheney.specs.Collected.{AllImages, AreImages, Collected, FollowsMoves
 use Rattle.cheney.specs.Next.{IsTiled}
 use Rattle.cheney.proofs.Rooted.Begins.{has-collected, has-composed}
 use Rattle.cheney.proofs.After.Next.{is-tiled}
-use Rattle.cheney.proofs.Rooted.Rows.{images-all, images-join, root-in}
+use Rattle.cheney.proofs.Rooted.Rows.{images-all, images-join, root-in, images-count}
 use Rattle.two_halves.specs.Stack.{AreApart, values}
 use Rattle.two_halves.specs.Halves.{HoldTrees, IsLaid, ProcsStand, Standing, all_places, places_in, end_of, front_of}
 use Rattle.two_halves.specs.Reached.{held_words, roots_in}
@@ -91,13 +91,6 @@ row-count [] (n ∷ ns) a = absurd a
 row-count (o ∷ os) [] a = absurd a
 row-count (o ∷ os) (n ∷ ns) (number, (depth, (waiting, (refs, rest)))) = ap suc (row-count os ns rest)
 
-image-count : (p : Plan) (m vs xs : List ℕ) → AllImages p m vs xs → length xs ≡ length vs
-unfolding AllImages
-image-count p m [] [] a = refl
-image-count p m [] (x ∷ xs) a = absurd a
-image-count p m (v ∷ vs) [] a = absurd a
-image-count p m (v ∷ vs) (x ∷ xs) (i, a) = ap suc (image-count p m vs xs a)
-
 -- What the words have become holds their trees.
 module _ (p : Plan) (c d : ℕ → ℕ → Bool) (shared : List (List ℕ)) (start mem : List ℕ) (named : ℕ)
     (stand : (w x : ℕ) (t : Tree) → Reached p w → IsImage p mem w x → Stands c shared start w t → Stands d shared mem x t) where
@@ -122,7 +115,7 @@ module _ (p : Plan) (c d : ℕ → ℕ → Bool) (shared : List (List ℕ)) (sta
   procs-stand low limit low2 limit2 bare (o ∷ os) (n ∷ ns) (q ∷ qs) r (moved, a) (first, s) = (
     record {
       number = first.number ∙ sym moved.number;
-      count = image-count p mem o.regs n.regs moved.registers ∙ first.count;
+      count = images-count p mem o.regs n.regs moved.registers ∙ first.count;
       registers = trees-held o.regs n.regs q.registers (λ w i. r w (registers-in start o os w i)) moved.registers first.registers;
       places = stack-under p.test d mem low2 limit2 low2 limit2 n.stack n.depth (omega arith) (omega arith) (λ q k above below none. bare q k above below) moved.places;
       stack = trees-held (values start o.stack o.depth) (values mem n.stack n.depth) q.stack (λ w i. r w (values-in start o os w i)) moved.values_are first.stack;

@@ -1,24 +1,16 @@
 -- Each object is copied once: the copies take no more words than the places that the objects lie in.
-use Rattle.std.proofs.Common.{◌≡◌, ℕ, ◌+◌, ◌-◌, ◌/◌, ◌≤◌, Bool, true, List, [], ◌∷◌, refl, arith}
-use Rattle.term_words.specs.Counted.{ArePacked, Distinct, total}
+use Rattle.std.proofs.Common.{ℕ, ◌+◌, ◌-◌, ◌/◌, ◌≤◌, Bool, true, List, refl, arith}
+use Rattle.term_words.specs.Counted.{ArePacked}
 use Rattle.term_words.specs.Object.{IsPointer}
 use Rattle.term_words.proofs.Totals.Counts.{count-most}
 use Rattle.term_words.proofs.Totals.Packing.{packed}
 use Rattle.cheney.specs.Plan.{Plan, Reached, Ready, size}
 use Rattle.cheney.specs.Zones.{Row}
 use Rattle.cheney.proofs.Before.Basics.{size-some}
-use Rattle.cheney.proofs.After.Counts.{in-row}
+use Rattle.cheney.proofs.After.Counts.{in-row, row-distinct}
+use Rattle.cheney.proofs.After.Ends.{row-total}
 use Rattle.cheney.proofs.Before.Ground.{Ground, ground}
 
-row-total : (p : Plan) (m : List ℕ) (b : Bool) (place : ℕ) (vs : List ℕ) (top : ℕ) → Row p m b place vs top → place + total (size p) vs ≡ top
-row-total p m b place [] top row = omega (arith, row)
-row-total p m b place (v ∷ vs) top (c, row) = omega (arith, row-total p m b (place + size p v) vs top row)
-
-row-once : (p : Plan) (m : List ℕ) (b : Bool) (place : ℕ) (vs : List ℕ) (top : ℕ) → Row p m b place vs top → Distinct vs
-row-once p m b place [] top row = tt
-row-once p m b place (v ∷ vs) top (c, row) = (
-  (λ i. let (r, (l, (g, h))) = in-row p m b (place + size p v) vs top row v i in omega (arith, h, c.word, c.leaves.pointer, size-some p v c.leaves.pointer)),
-  row-once p m b (place + size p v) vs top row,
 )
 
 module _ (p : Plan) (y : Ready p) (m : List ℕ) (b : Bool) (place top from to : ℕ) (vs : List ℕ) (row : Row p m b place vs top) (order : from ≤ to)
@@ -27,7 +19,7 @@ module _ (p : Plan) (y : Ready p) (m : List ℕ) (b : Bool) (place top from to :
   are-packed =
       let g : Ground p = ground p y in
       record {
-        once = row-once p m b place vs top row;
+        once = row-distinct p m b place vs top row;
         apart = λ v w i j. let x = in-row p m b place vs top row v i in let z = in-row p m b place vs top row w j in g.apart v w x.0 x.1.0.pointer z.0 z.1.0.pointer;
         some = λ v i. size-some p v (in-row p m b place vs top row v i).1.0.pointer;
         inside = λ v i. let x = in-row p m b place vs top row v i in let l = lies v x.0 x.1.0.pointer in (l.0, omega (arith, l.1, order));

@@ -1,5 +1,6 @@
 -- The records were moved: what stood in the old half stands in the new one, and nothing of the old half is in use.
-use Rattle.std.proofs.Common.{◌≡◌, ℕ, ◌+◌, ◌/◌, ◌<◌, ◌≤◌, ◌⊎◌, Bool, true, false, ◌&&◌, true≢false, List, [], ◌∷◌, ◌++◌, length, get_or, refl, sym, ◌∙◌, ap, subst, arith, inl, inr}
+use Rattle.std.proofs.Common.{◌≡◌, ℕ, ◌+◌, ◌/◌, ◌<◌, ◌≤◌, ◌⊎◌, Bool, true, List, [], ◌∷◌, ◌++◌, length, get_or, refl, sym, ◌∙◌, ap, subst, arith, inl, inr}
+use Rattle.std.proofs.lemmas.Bool.{and_parts}
 use Rattle.plain_term.specs.Bytes.{shared_bytes}
 use Rattle.plain_term.specs.Measures.{bin_words}
 use Rattle.plain_term.specs.Tree.{Tree}
@@ -12,6 +13,7 @@ use Rattle.term_words.specs.Counted.{In, Distinct, total}
 use Rattle.term_words.proofs.Framing.Narrowing.{narrowed-word}
 use Rattle.term_words.proofs.Reaching.Reached.{reached}
 use Rattle.term_words.proofs.Placing.Roles.{object-role}
+use Rattle.term_words.proofs.Totals.Members.{in-left, in-right}
 use Rattle.shared_rec.specs.Record.{owner_in}
 use Rattle.shared_rec.proofs.Records.{bin-copied, bin-same, fun-copied, fun-same, record-stays, record-within}
 use Rattle.off_heap_list.specs.Links.{named, IsLink, Links}
@@ -82,11 +84,7 @@ module _ (h : Halves) (t : Target) (x : Standing h) (m : List ℕ) (mv : Moving)
   counted-there = narrow-some was mem4 mem5 left.first objects low t.to r (between t.base t.end) leaves
 
   parts-of : (a k : ℕ) → settled a k ≡ true → (r.test a k ≡ true) × (between t.base t.end a k ≡ true)
-  parts-of a k e = split (r.test a k) (between t.base t.end a k) e
-    where
-      split : (p q : Bool) → (p && q) ≡ true → (p ≡ true) × (q ≡ true)
-      split true q f = (refl, f)
-      split false q f = absurd (true≢false (sym f))
+  parts-of a k e = and_parts (r.test a k) (between t.base t.end a k) e
 
   pub single-settled : IsSingle settled
   single-settled = record { one = λ a j k e f. r.single.one a j k (parts-of a j e).0 (parts-of a k f).0 }
@@ -200,20 +198,11 @@ module _ (h : Halves) (t : Target) (x : Standing h) (m : List ℕ) (mv : Moving)
   are-records : (vs : List ℕ) → ((v : ℕ) → In v vs → In v (records_of h)) → AreRecords was mem4 vs
   are-records vs among v i = let (n, there) = listed h t x m mv news y mem4 left w v (among v i) in (n, old-record v n there)
 
-  left-in : (v : ℕ) (xs ys : List ℕ) → In v xs → In v (xs ++ ys)
-  left-in v [] ys i = absurd i
-  left-in v (z ∷ xs) ys (inl e) = inl e
-  left-in v (z ∷ xs) ys (inr i) = inr (left-in v xs ys i)
-
-  right-in : (v : ℕ) (xs ys : List ℕ) → In v ys → In v (xs ++ ys)
-  right-in v [] ys i = i
-  right-in v (z ∷ xs) ys i = inr (right-in v xs ys i)
-
   are-bins : AreRecords was mem4 h.bins.items
-  are-bins = are-records h.bins.items (λ v i. left-in v h.bins.items h.funs.items i)
+  are-bins = are-records h.bins.items (λ v i. in-left v h.bins.items h.funs.items i)
 
   are-funs : AreRecords was mem4 h.funs.items
-  are-funs = are-records h.funs.items (λ v i. right-in v h.bins.items h.funs.items i)
+  are-funs = are-records h.funs.items (λ v i. in-right v h.bins.items h.funs.items i)
 
   are-all : AreRecords was mem4 (records_of h)
   are-all = are-records (records_of h) (λ v i. i)
@@ -315,9 +304,9 @@ module _ (h : Halves) (t : Target) (x : Standing h) (m : List ℕ) (mv : Moving)
     each_bin = bin-there;
     each_fun = fun-there;
     serials = renewed-owners was mem4 mem5 left.first objects low t.to r h.bins.items are-bins
-        (owners-same h.bins.items (λ v i. owner-of v (left-in v h.bins.items h.funs.items i)) x.stands.records.serials);
+        (owners-same h.bins.items (λ v i. owner-of v (in-left v h.bins.items h.funs.items i)) x.stands.records.serials);
     codes = renewed-owners was mem4 mem5 left.first objects low t.to r h.funs.items are-funs
-        (owners-same h.funs.items (λ v i. owner-of v (right-in v h.bins.items h.funs.items i)) x.stands.records.codes);
+        (owners-same h.funs.items (λ v i. owner-of v (in-right v h.bins.items h.funs.items i)) x.stands.records.codes);
     counted = counted-there;
   }
 
@@ -338,10 +327,10 @@ module _ (h : Halves) (t : Target) (x : Standing h) (m : List ℕ) (mv : Moving)
       omega (arith, size.0, size.1, longer, r.same_len)
 
   pub bins-within : (v : ℕ) → In v h.bins.items → v + 4 ≤ length mem5
-  bins-within v i = within-there v (left-in v h.bins.items h.funs.items i)
+  bins-within v i = within-there v (in-left v h.bins.items h.funs.items i)
 
   pub funs-within : (v : ℕ) → In v h.funs.items → v + 4 ≤ length mem5
-  funs-within v i = within-there v (right-in v h.bins.items h.funs.items i)
+  funs-within v i = within-there v (in-right v h.bins.items h.funs.items i)
 
   pub fits-there : low + total (record_words mem5) (renewed mem5 h.bins.items ++ renewed mem5 h.funs.items) ≤ t.to
   fits-there =

@@ -1,6 +1,7 @@
 -- A collection from the one half to the other: its chain is swept, and the records that are named still are moved.
 use Rattle.std.proofs.Common.{◌≡◌, ℕ, ◌+◌, ◌-◌, ◌*◌, ◌/◌, ◌<◌, ◌≤◌, ◌⊎◌, ◌&&◌, Bool, true, false, nat_le}
 use Rattle.std.proofs.Common.{nat_lt, List, [], ◌∷◌, length, refl, sym, ◌∙◌, ap, subst, arith, inl, inr, if◌then◌else◌}
+use Rattle.std.proofs.lemmas.Bool.{and_parts, and_from}
 use Rattle.std.proofs.lemmas.Bool.Decides.{nat_tests}
 use Rattle.term_words.specs.Role.{NEXT, OfObject, OfRecord}
 use Rattle.term_words.specs.Object.{IsRecord}
@@ -26,6 +27,7 @@ use Rattle.cheney.proofs.After.Next.{has-roles}
 use Rattle.chain_sweep.specs.Follows.{RecordsHaveRoom, Sweepable}
 use Rattle.chain_sweep.proofs.Leaving.{carried-role, leaves-sweep, left-not, moved-is, place-is, size6, which}
 use Rattle.chain_sweep.proofs.Room.{Origin, can-move, origin}
+use Rattle.term_copy.proofs.Rows.{in-turned as turned-in}
 use Rattle.two_halves.specs.Halves.{IsFunOf, Standing, end_of, front_of, records_of}
 use Rattle.two_halves.specs.declared.halves.Halves.{Halves}
 use Rattle.two_halves.specs.declared.table.Proc.{Proc}
@@ -34,10 +36,6 @@ use Rattle.two_halves.proofs.Collected.Ended.{Scanned, aged-between, objects-few
 use Rattle.two_halves.proofs.Collected.Planned.{Target, plan_of, role-here}
 
 -- Lists that are turned round.
-turned-in : (q : ℕ) (xs ys : List ℕ) → In q (turned xs ys) → In q xs ⊎ In q ys
-turned-in q [] ys i = inr i
-turned-in q (x ∷ xs) ys i = elim (turned-in q xs (x ∷ ys) i) [ inl deep ↦ inl (inr deep) | inr (inl e) ↦ inl (inl e) | inr (inr deep) ↦ inr deep ]
-
 in-turned : (q : ℕ) (xs ys : List ℕ) → In q xs ⊎ In q ys → In q (turned xs ys)
 in-turned q [] ys (inl i) = absurd i
 in-turned q [] ys (inr i) = i
@@ -62,22 +60,15 @@ moved-in m o (p ∷ os) (inl same) e =
     subst P (sym same) (moved-here m p os (is_moved m p) (subst Q same e))
 moved-in m o (p ∷ os) (inr i) e = moved-there m o p os (is_moved m p) (moved-in m o os i e)
 
-and-true : (a b : Bool) → a ≡ true → b ≡ true → (a && b) ≡ true
-and-true a b p q = rw (p, q) refl
-
-both-true : (a b : Bool) → (a && b) ≡ true → (a ≡ true) × (b ≡ true)
-both-true true b h = (refl, h)
-both-true false b h = absurd (not-both false h refl)
-
 -- The words of records keep their roles over the collection of the objects.
 abbrev pub remaining : (low : ℕ) → (c : ℕ → ℕ → Bool) → ℕ → ℕ → Bool
 remaining low c a k = nat_le low a && c a k
 
 remaining-is : (low : ℕ) (c : ℕ → ℕ → Bool) (a k : ℕ) → remaining low c a k ≡ true → (low ≤ a) × (c a k ≡ true)
-remaining-is low c a k e = let (this, rest) = both-true (nat_le low a) (c a k) e in (grind (arith, nat_tests, this), rest)
+remaining-is low c a k e = let (this, rest) = and_parts (nat_le low a) (c a k) e in (grind (arith, nat_tests, this), rest)
 
 is-remaining : (low : ℕ) (c : ℕ → ℕ → Bool) (a k : ℕ) → low ≤ a → c a k ≡ true → remaining low c a k ≡ true
-is-remaining low c a k far e = let this : nat_le low a ≡ true = grind (arith, nat_tests, far) in and-true (nat_le low a) (c a k) this e
+is-remaining low c a k far e = let this : nat_le low a ≡ true = grind (arith, nat_tests, far) in and_from (nat_le low a) (c a k) this e
 
 -- The words from one place up to another.
 abbrev pub between : (from to : ℕ) → ℕ → ℕ → Bool
@@ -87,7 +78,7 @@ pub is-between : (from to a k : ℕ) → from ≤ a → a < to → between from 
 is-between from to a k above below = grind (arith, nat_tests, above, below)
 
 pub between-is : (from to a k : ℕ) → between from to a k ≡ true → (from ≤ a) × (a < to)
-between-is from to a k e = let (this, rest) = both-true (nat_le from a) (nat_lt a to) e in (grind (arith, nat_tests, this), grind (arith, nat_tests, rest))
+between-is from to a k e = let (this, rest) = and_parts (nat_le from a) (nat_lt a to) e in (grind (arith, nat_tests, this), grind (arith, nat_tests, rest))
 
 module _ (h : Halves) (t : Target) (x : Standing h) (m : List ℕ) (mv : Moving) (news : List Proc) (y : Scanned h t x m mv news) where
   abbrev pub the_plan : Plan

@@ -1,7 +1,6 @@
 -- Where a collection frees too little, twice all that lives and is asked for exceeds the memory.
 use Rattle.std.proofs.Common.{◌≡◌, ℕ, ◌+◌, ◌*◌, ◌<◌, ◌≤◌, true, nat_le, List, [], ◌∷◌, ◌++◌, length, sum_by, flat_map, append-nil, refl, ◌∙◌, ap, arith, inl, inr}
-use Rattle.std.proofs.lemmas.Bool.{leb-false}
-use Rattle.std.proofs.lemmas.Bool.Decides.{nat_tests}
+use Rattle.std.proofs.lemmas.Bool.{leb-false, le-leb}
 use Rattle.std.proofs.lemmas.List.Sums.{sum_by-cons}
 use Rattle.plain_term.specs.Tree.{Tree}
 use Rattle.plain_term.specs.Measures.{flat}
@@ -41,16 +40,13 @@ is-tight old new n named asked s laid c stands none looks few =
     let held : held_words s.processes + named_words s.shared s.processes + 16 * length s.processes ≤ demand s = held-demand s none in
     elim looks [ inl a ↦ omega (arith, a, bound, half, all, held, few) | inr a ↦ omega (arith, a, bound, half, all, held, few) ]
 
-enough : (a b : ℕ) → a ≤ b → true ≡ nat_le a b
-enough a b h = grind (arith, nat_tests)
-
 module _ (n : ℕ) (old : Halves) (r : CanCollect old) where
   -- There was room.
   pub room-before : n ≤ free_in old → MakesRoom n old old true
   room-before there = record {
     idle = λ h. refl;
     collects = λ h. absurd (omega (arith, h, there));
-    answer = enough n (free_in old) there;
+    answer = sym (le-leb n (free_in old) there);
     stands = λ named shared qs s. s;
     laid = r.laid;
     tight = λ named s asked h none looks e. absurd (not-both true refl (e));

@@ -1,7 +1,8 @@
 -- A record comes into a half, and an object that names it.
 use Rattle.std.proofs.Common.{Vec, take, drop, if◌then◌else◌, Result, Ok, Err, ◌≡◌, ℕ, suc, replicate, ◌+◌, ◌-◌, ◌*◌, ◌/◌, ◌<◌, ◌≤◌}
 use Rattle.std.proofs.Common.{◌⊎◌, Bool, true, List, [], ◌∷◌, ◌++◌, length, get_or, refl, sym, ◌∙◌, ap, subst, arith, inl, inr}
-use Rattle.std.proofs.lemmas.List.{length-append, length-replicate}
+use Rattle.std.proofs.lemmas.Bool.{cases_eq}
+use Rattle.std.proofs.lemmas.List.{length-append, length-replicate, get_or_push, get_or_default, append-nil, take-append-drop}
 use Rattle.std.specs.List.{insert}
 use Rattle.std.specs.Result.{IsOk, is_ok}
 use Rattle.std.specs.Vec.{vec_capacity}
@@ -18,23 +19,25 @@ use Rattle.term_words.specs.Stands.{Stands}
 use Rattle.term_words.specs.Kept.{Kept}
 use Rattle.term_words.specs.Counted.{In, Distinct, total}
 use Rattle.term_words.proofs.Framing.Frames.{frame}
-use Rattle.term_words.proofs.Totals.Members.{both-total, in-both, in-left, in-right, one-or-not}
-use Rattle.term_words.proofs.Framing.Growing.{grow}
+use Rattle.term_words.proofs.Totals.Members.{both-total, in-both, in-left, in-right, in-at}
+use Rattle.term_words.proofs.Framing.Growing.{grow, shared-same}
 use Rattle.term_build.specs.Taken.{IsFree, Lie, Taken, with_object}
 use Rattle.term_build.proofs.Taking.{with-object-of, with-object-single, with-object-taken, with-object-within}
 use Rattle.shared_rec.specs.Record.{WritesRecord, count_in, length_in, owner_in, record_roles}
-use Rattle.shared_rec.proofs.Records.{bin-stays, fun-stays}
+use Rattle.shared_rec.proofs.Records.{bin-stays, fun-stays, record-first}
 use Rattle.off_heap_list.specs.Links.{Links, named, naming}
 use Rattle.off_heap_list.proofs.Chaining.Chained.{leads-stays, link-named, link-stays, naming-stays}
 use Rattle.record_move.specs.Copies.{record_words}
 use Rattle.record_move.specs.Tables.{OwnersRise}
+use Rattle.record_move.proofs.Moving.{of-record, role-begins}
+use Rattle.chain_sweep.proofs.Room.{total-same}
 use Rattle.two_halves.specs.Stack.{AreApart}
 use Rattle.two_halves.specs.Halves.{HalvesStand, IsBinOf, IsFunOf, IsLaid, ProcsStand, all_places, end_of, front_of}
 use Rattle.two_halves.specs.Adding.{Adds, HasBin, HasFun, IsSpot, Nearly}
 use Rattle.two_halves.specs.declared.halves.Halves.{Halves}
 use Rattle.two_halves.proofs.Standing.Apart.{apart-kept}
-use Rattle.two_halves.proofs.Standing.Joining.{Joins, at-any, bytes-more, in-at, in-drop, in-take, joins-end, joins-left, joins-middle, joins-right, naming-none}
-use Rattle.two_halves.proofs.Standing.Joining.{nil-right, procs-on, record-above, record-first, record-role, rise-end, rise-middle, rise-pair, rise-same, role-first, take-drop, total-same}
+use Rattle.two_halves.proofs.Standing.Joining.{Joins, in-drop, in-take, joins-end, joins-left, joins-middle, joins-right, naming-none}
+use Rattle.two_halves.proofs.Standing.Joining.{procs-on, record-above, rise-end, rise-middle, rise-pair, rise-same}
 
 -- The half with other words, and other bounds and tables.
 abbrev pub filled : (h : Halves) → (mem : List ℕ) → (top low head linked : ℕ) → (bins funs : Vec ℕ Global) → Halves
@@ -85,7 +88,7 @@ module _ (named_below : ℕ) (h : Halves) (shared : List (List ℕ)) (qs : List 
     pub lie2 : (a k : ℕ) → d a k ≡ true → ((front_of h ≤ a) × ((a < h.top) × OfObject k)) ⊎ ((at ≤ a) × ((a < end_of h) × OfRecord k))
     lie2 a k e = elim (with-object-within record_roles x.test at n a k e) [
       | inl old ↦ lie-old a k old
-      | inr inside ↦ elim (with-object-of OfRecord record_roles x.test at n a k record-role e) [
+      | inr inside ↦ elim (with-object-of OfRecord record_roles x.test at n a k of-record e) [
         | inl old ↦ lie-old a k old
         | inr of ↦ inr (inside.0, (omega (arith, inside, next, laid.fits), of))
       ]
@@ -95,7 +98,7 @@ module _ (named_below : ℕ) (h : Halves) (shared : List (List ℕ)) (qs : List 
     first-place : (u : ℕ) → at ≤ u → u < at + n → d u RECORD_FIRST ≡ true → u ≡ at
     first-place u above below e =
         let role : record_roles (u - at) ≡ RECORD_FIRST = single2.one u (record_roles (u - at)) RECORD_FIRST (taken.new (u - at) u (omega arith) (omega arith)) e in
-        omega (arith, above, role-first (u - at) role)
+        omega (arith, above, role-begins (u - at) role)
 
     roles-above : (a k : ℕ) → h.low ≤ a → d a k ≡ true → x.test a k ≡ true
     roles-above a k above e = elim (with-object-within record_roles x.test at n a k e) [ inl old ↦ old | inr inside ↦ absurd (omega (arith, above, inside, next)) ]
@@ -154,7 +157,7 @@ module _ (named_below : ℕ) (h : Halves) (shared : List (List ℕ)) (qs : List 
     not-listed i = omega (arith, listed-above at i, next, some)
 
     every2 : (p : ℕ) → d (p + 2) NEXT ≡ true → In p x.chained
-    every2 p e = elim (with-object-of OfRecord record_roles x.test at n (p + 2) NEXT record-role e) [
+    every2 p e = elim (with-object-of OfRecord record_roles x.test at n (p + 2) NEXT of-record e) [
       | inl old ↦ x.every p old
       | inr of ↦ absurd (elim of [ inl c ↦ omega (arith, c) | inr (inl c) ↦ omega (arith, c) | inr (inr c) ↦ omega (arith, c) ])
     ]
@@ -190,7 +193,7 @@ module _ (named_below : ℕ) (h : Halves) (shared : List (List ℕ)) (qs : List 
         let size : record_words mem2 at ≡ n = omega (arith, header, small) in
         let same : (u : ℕ) → In u (h.bins.items ++ h.funs.items) → record_words mem2 u ≡ record_words h.mem u = λ u j. ap (λ z. z / 16) (word-above u (listed-above u j)) in
         let parts : total (record_words mem2) (take i h.funs.items) + total (record_words mem2) (drop i h.funs.items) ≡ total (record_words mem2) h.funs.items =
-        sym (both-total (record_words mem2) (take i h.funs.items) (drop i h.funs.items)) ∙ ap (λ z. total (record_words mem2) z) (take-drop h.funs.items i) in
+        sym (both-total (record_words mem2) (take i h.funs.items) (drop i h.funs.items)) ∙ ap (λ z. total (record_words mem2) z) (take-append-drop i h.funs.items) in
         omega (
           arith,
           size,
@@ -221,7 +224,7 @@ module _ (named_below : ℕ) (h : Halves) (shared : List (List ℕ)) (qs : List 
           let old = x.records.each_bin u i in
           let same : owner_in mem2 u ≡ owner_in h.mem u = owner-same u (in-left u h.bins.items h.funs.items i) in
           let bytes : shared_bytes shared2 (owner_in h.mem u) ≡ shared_bytes shared (owner_in h.mem u) =
-          ap (λ z. shared_bytes z (owner_in h.mem u)) grown ∙ bytes-more shared more (owner_in h.mem u) old.from_one old.known in
+          ap (λ z. shared_bytes z (owner_in h.mem u)) grown ∙ shared-same shared more (owner_in h.mem u) old.known in
           let P : List ℕ → Type 0 = λ z. IsBinRecord d mem2 u (owner_in h.mem u) z in
           let Q : ℕ → Type 0 = λ z. IsBinRecord d mem2 u z (shared_bytes shared2 z) in
           record {
@@ -296,7 +299,7 @@ module _ (named_below : ℕ) (h : Halves) (shared : List (List ℕ)) (qs : List 
         new_funs = take i h.funs.items ++ at ∷ drop i h.funs.items
 
         joins-fun : Joins at h.funs.items new_funs
-        joins-fun = let P : List ℕ → Type 0 = λ z. Joins at z new_funs in subst P (take-drop h.funs.items i) (joins-middle at (take i h.funs.items) (drop i h.funs.items))
+        joins-fun = let P : List ℕ → Type 0 = λ z. Joins at z new_funs in subst P (take-append-drop i h.funs.items) (joins-middle at (take i h.funs.items) (drop i h.funs.items))
 
         joins-all : Joins at (h.bins.items ++ h.funs.items) (h.bins.items ++ new_funs)
         joins-all = joins-right at h.bins.items h.funs.items new_funs joins-fun
@@ -317,8 +320,9 @@ module _ (named_below : ℕ) (h : Halves) (shared : List (List ℕ)) (qs : List 
         codes-fun =
             let P : List ℕ → Type 0 = λ z. OwnersRise h.mem z in
             let Q : List ℕ → Type 0 = λ z. (u : ℕ) → In u z → owner_in mem2 u ≡ owner_in h.mem u in
-            rise-middle h.mem mem2 at (take i h.funs.items) (drop i h.funs.items) (subst Q (sym (take-drop h.funs.items i)) (λ u j. owner-same u (in-right u h.bins.items h.funs.items j))) low high
-            (subst P (sym (take-drop h.funs.items i)) x.records.codes)
+            rise-middle h.mem mem2 at (take i h.funs.items) (drop i h.funs.items)
+            (subst Q (sym (take-append-drop i h.funs.items)) (λ u j. owner-same u (in-right u h.bins.items h.funs.items j))) low high
+            (subst P (sym (take-append-drop i h.funs.items)) x.records.codes)
 
         names-fun : (u : ℕ) → In u new_funs → owner_in mem2 u / 256 < named_below
         names-fun u j = elim (joins-fun.comes u j) [
@@ -406,15 +410,11 @@ bin-written old mid new at serial len byte rest first lie made second filled_in 
           subst P (length-replicate {A = ℕ} len 0) (filled_in d serial (replicate len 0) (made c d t));
     }
 
-last-at : (xs : List (List ℕ)) (b : List ℕ) → get_or (xs ++ b ∷ []) (length xs) [] ≡ b
-last-at [] b = refl
-last-at (x ∷ xs) b = last-at xs b
-
 pub last-bytes : (shared : List (List ℕ)) (b : List ℕ) (n : ℕ) → n ≡ length shared + 1 → shared_bytes (shared ++ b ∷ []) n ≡ b
 last-bytes shared b n e =
     let same : suc (length shared) ≡ n = omega (arith, e) in
     let P : ℕ → Type 0 = λ z. shared_bytes (shared ++ b ∷ []) z ≡ b in
-    subst P same (last-at shared b)
+    subst P same (get_or_push shared b [] (length shared) refl)
 
 -- A half into which the record of a binary of equal bytes comes.
 module _ (named_below : ℕ) (h : Halves) (shared : List (List ℕ)) (qs : List Process) (x : HalvesStand named_below h shared qs) (laid : IsLaid h) (len byte at serial : ℕ)
@@ -492,7 +492,7 @@ module _ (named_below : ℕ) (h : Halves) (shared : List (List ℕ)) (qs : List 
       )
     where
       strict : (a b : ℕ) → a ≤ b → (b ≡ a → ⊥) → a < b
-      strict a b le ne = elim (one-or-not b a) [ inl e ↦ absurd (ne e) | inr n ↦ omega (arith, le, apart a b n) ]
+      strict a b le ne = elim (cases_eq b a) [ inl e ↦ absurd (ne e) | inr n ↦ omega (arith, le, apart a b n) ]
         where
           apart : (a b : ℕ) → (b ≡ a → ⊥) → (a < b) ⊎ (b < a)
           apart a b n = elim which [ inl e ↦ absurd (n e) | inr o ↦ o ]
@@ -523,7 +523,7 @@ module _ (named_below : ℕ) (h : Halves) (shared : List (List ℕ)) (qs : List 
       let is : IsFunRecord (d named_below h shared qs x laid 4 at next (omega arith) fits new writes) new at name arity = made x.test
       (d named_below h shared qs x laid 4 at next (omega arith) fits new writes) t in
       record {
-        near = nearly-fun named_below h shared qs x laid 4 at next (omega arith) fits new writes shared [] (nil-right shared) (lie.each 2 (at + 2) (omega arith) refl)
+        near = nearly-fun named_below h shared qs x laid 4 at next (omega arith) fits new writes shared [] (sym (append-nil shared)) (lie.each 2 (at + 2) (omega arith) refl)
             (record { name = name; arity = arity; is = is }) (omega (arith, owner-there, small, few)) i lower higher funs2 funs_is;
         is = is;
         kept = frame x.test (d named_below h shared qs x laid 4 at next (omega arith) fits new writes) h.mem new (kept named_below h shared qs x laid 4 at next (omega arith) fits new writes);
@@ -571,7 +571,7 @@ pub fun-inside : (named_below : ℕ) (h : Halves) (shared : List (List ℕ)) (qs
     → v + 4 ≤ length h.mem
 fun-inside named_below h shared qs x v i at inside =
     let P : ℕ → Type 0 = λ z. In z h.funs.items in
-    (x.records.each_fun v (subst P (sym (at ∙ at-any h.funs.items i v 0 inside)) (in-at h.funs.items i inside))).is.within
+    (x.records.each_fun v (subst P (sym (at ∙ get_or_default h.funs.items i v 0 inside)) (in-at h.funs.items i inside))).is.within
 
 -- A place was put into a table that had room for it.
 pub inserted : {E : Type 0} (r : Result (Unit {0}) E) (xs new : List ℕ) (i v : ℕ) → IsOk r → new ≡ (if is_ok r then insert xs i v else xs) → new ≡ take i xs ++ v ∷ drop i xs

@@ -1,6 +1,7 @@
 -- An object that names a record comes into a half and its chain.
 use Rattle.std.proofs.Common.{◌==◌, if◌then◌else◌, ◌≡◌, ℕ, ◌+◌, ◌-◌, ◌/◌, ◌<◌, ◌≤◌, ◌⊎◌, Bool, true, false}
 use Rattle.std.proofs.Common.{List, [], ◌∷◌, ◌++◌, length, get_or, set, refl, sym, ◌∙◌, ap, subst, arith, inl, inr, length-set, get_or-set_other}
+use Rattle.std.proofs.lemmas.Bool.{cases_eq}
 use Rattle.std.proofs.lemmas.Bool.Decides.{nat_tests}
 use Rattle.std.proofs.lemmas.Grind.{get_or-set_at}
 use Rattle.word_mem.specs.declared.ranges.Room.{Room}
@@ -14,26 +15,28 @@ use Rattle.term_words.specs.Role.{COUNT, NEXT, RECORD, RECORD_FIRST, IsSingle, O
 use Rattle.term_words.specs.Object.{IsBinRecord, IsFunRecord, IsRecord}
 use Rattle.term_words.specs.Stands.{AllStand, Stands}
 use Rattle.term_words.specs.Kept.{Kept}
-use Rattle.term_words.specs.Counted.{In, total}
+use Rattle.term_words.specs.Counted.{In}
 use Rattle.term_words.proofs.Framing.Frames.{frame, keep-all}
-use Rattle.term_words.proofs.Totals.Members.{in-both, one-or-not}
+use Rattle.term_words.proofs.Totals.Members.{in-both}
 use Rattle.term_build.specs.Clear.{Uses}
 use Rattle.term_build.specs.Grows.{BuiltLink, GrowsLink}
 use Rattle.term_build.specs.Parts.{IsRecordOf}
 use Rattle.term_build.specs.Taken.{IsFree, Lie}
 use Rattle.shared_rec.specs.Record.{count_in, owner_in}
-use Rattle.shared_rec.proofs.Records.{bin-stays, fun-stays, record-counted, record-stays, role-idle}
-use Rattle.off_heap_list.specs.Links.{IsLink, Links, named, names_it, naming}
+use Rattle.shared_rec.proofs.Records.{bin-stays, fun-stays, record-counted, record-stays, role-idle, record-first}
+use Rattle.off_heap_list.specs.Links.{IsLink, Links, named}
 use Rattle.off_heap_list.proofs.Chaining.Chained.{fun-link, holder-link, idle-kept, idle-kept-back, kept-then, leads-stays, link-stays, naming-stays, record-inside}
-use Rattle.off_heap_list.proofs.Walked.Tallied.{few, one}
+use Rattle.off_heap_list.proofs.Walked.Tallied.{few, one, ones}
 use Rattle.record_move.specs.Copies.{record_words}
+use Rattle.record_move.proofs.Moving.{naming-few}
+use Rattle.chain_sweep.proofs.Room.{total-same}
 use Rattle.two_halves.specs.Stack.{AreApart}
 use Rattle.two_halves.specs.Halves.{HalvesStand, IsBinOf, IsFunOf, IsLaid, ProcsStand, all_places, end_of, front_of}
 use Rattle.two_halves.specs.Adding.{Gets, HasFun, Nearly}
 use Rattle.two_halves.specs.declared.halves.Halves.{Halves}
 use Rattle.two_halves.proofs.Coming.Adding.{filled}
 use Rattle.two_halves.proofs.Standing.Apart.{apart-kept}
-use Rattle.two_halves.proofs.Standing.Joining.{procs-on, record-above, record-first, rise-same, total-same}
+use Rattle.two_halves.proofs.Standing.Joining.{procs-on, record-above, rise-same}
 
 -- The record at the place is that of the binary with this serial.
 abbrev IsBinRecordOf : (ℕ → ℕ → Bool) → List ℕ → List (List ℕ) → (v serial : ℕ) → Type 0
@@ -140,7 +143,7 @@ module _ (named_below : ℕ) (h : Halves) (shared : List (List ℕ)) (qs : List 
     counted4 u m r =
         let before : IsRecord e mem3 u m = record-stays e e mem4 mem3 u m back4 r in
         let above : h.low ≤ u = record-low u m before in
-        elim (one-or-not u v) [
+        elim (cases_eq u v) [
           | inl c ↦ (let P : ℕ → Type 0 = λ z. 1 ≤ count_in mem4 z in subst P (sym c) (omega (arith, here)))
           | inr n ↦ omega (
             arith,
@@ -349,17 +352,6 @@ module _ (named_below : ℕ) (old h : Halves) (shared : List (List ℕ)) (qs : L
         (Fun name arity creator ts) new-fun.made
 
 -- No record counts more objects than there are places for.
-
-pub naming-few : (mem : List ℕ) (v : ℕ) (os : List ℕ) → naming mem v os ≤ length os
-naming-few mem v [] = omega arith
-naming-few mem v (p ∷ os) = omega (arith, at-most-one (named mem p) v, naming-few mem v os)
-  where
-    at-most-one : (r v : ℕ) → names_it r v ≤ 1
-    at-most-one r v = grind (arith, nat_tests)
-
-pub ones : (ps : List ℕ) → total one ps ≡ length ps
-ones [] = refl
-ones (p ∷ ps) = omega (arith, ones ps)
 
 pub few-named : (named_below : ℕ) (h : Halves) (shared : List (List ℕ)) (qs : List Process) (v : ℕ) (y : Nearly named_below h shared qs v) (u n : ℕ) → IsRecord y.test h.mem u n
     → length h.mem ≤ 16777216

@@ -1,5 +1,6 @@
 -- Row by row, all that the processes name moves.
 use Rattle.std.proofs.Common.{◌≡◌, ℕ, suc, ◌+◌, ◌-◌, ◌*◌, ◌<◌, ◌≤◌, List, [], ◌∷◌, length, take, get_or, set, refl, sym, ◌∙◌, ap, subst, arith, inl, inr}
+use Rattle.std.proofs.lemmas.Bool.{cases_eq}
 use Rattle.std.proofs.lemmas.List.{get_or-set_other, get_or-set_same, length-set, take_all}
 use Rattle.std.proofs.lemmas.List.Sums.{sum_by_more, sum_by_more_le, sum_by-take-le}
 use Rattle.cheney.specs.declared.moving.Moving.{Moving}
@@ -7,7 +8,7 @@ use Rattle.term_words.specs.Counted.{In}
 use Rattle.cheney.specs.Plan.{Plan, Reached}
 use Rattle.cheney.specs.Zones.{Marks}
 use Rattle.cheney.specs.Collected.{AllImages}
-use Rattle.term_words.proofs.Totals.Members.{in-both, one-or-not}
+use Rattle.term_words.proofs.Totals.Members.{in-both}
 use Rattle.two_halves.specs.Stack.{AreApart, IsPlace, IsStack, place_list, values}
 use Rattle.two_halves.specs.Halves.{all_places, places_in, places_of}
 use Rattle.two_halves.specs.Rows.{AreMovedRows, CanMoveRow, CanMoveRows, GoesAlong, HasPlaces, IsMovedRow, RowMoved, RowMoves, RowsMove, RowsMoved}
@@ -215,7 +216,7 @@ module _ (p : Plan) (old : List ℕ) (mv0 : Moving) (k : Marks) (low limit : ℕ
         let N : Proc → Type 0 = λ z. In x (places_of mem2 z) in
         let M : Proc → Type 0 = λ z. In y (places_of mem2 z) in
         let first : In x (places_of mem2 (get_or news j no_row)) = subst N (get_or-set_other news i j new no_row (λ e. omega (arith, e, before, under))) a in
-        elim (one-or-not g i) [
+        elim (cases_eq g i) [
           | inl last ↦ (
               let L : ℕ → Type 0 = λ z. In y (places_of mem2 (get_or (set news i new) z no_row)) in
               this-below j x y (omega (arith, last, before)) (omega (arith, before, in_range)) first
@@ -233,7 +234,7 @@ module _ (p : Plan) (old : List ℕ) (mv0 : Moving) (k : Marks) (low limit : ℕ
     row-more = record {
       goes = goes-then p old mem mem2 mv mv2 k k now end to (to + 2 * (row.depth + row.waiting)) to end so-far.goes r.goes (omega (arith, down)) (omega arith) (omega arith)
           (omega (arith, down, row-fits, l.at));
-      done = λ j below in_range. elim (one-or-not j i) [
+      done = λ j below in_range. elim (cases_eq j i) [
         | inl last ↦ (
             let P : ℕ → Type 0 = λ z. IsMovedRow p old mem2 to end (get_or olds z no_row) (get_or (set news i new) z no_row) in
             let Q : Proc → Type 0 = λ z. IsMovedRow p old mem2 to end z (get_or (set news i new) i no_row) in

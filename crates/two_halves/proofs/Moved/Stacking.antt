@@ -1,5 +1,6 @@
 -- A stack moves place by place.
 use Rattle.std.proofs.Common.{◌≡◌, ℕ, zero, suc, ◌+◌, ◌-◌, ◌*◌, ◌<◌, ◌≤◌, ◌⊎◌, Bool, true, List, length, get_or, refl, sym, ◌∙◌, ap, subst, arith, inl, inr}
+use Rattle.std.proofs.lemmas.Bool.{cases_eq}
 use Rattle.cheney.specs.declared.moving.Moving.{Moving}
 use Rattle.term_words.specs.Counted.{In}
 use Rattle.cheney.specs.Plan.{Plan, Reached}
@@ -7,7 +8,6 @@ use Rattle.cheney.specs.Moved.{IsImage}
 use Rattle.cheney.specs.Zones.{Marks}
 use Rattle.cheney.specs.Calls.{CanMove}
 use Rattle.cheney.specs.Collected.{AllImages}
-use Rattle.term_words.proofs.Totals.Members.{one-or-not}
 use Rattle.two_halves.specs.Stack.{AreApart, IsLastPlace, IsPlace, IsStack, place_list, values}
 use Rattle.two_halves.specs.Rows.{CanMoveStack, GoesAlong, IsAside, PlaceMoved, PlaceMoves, StackMoved, StackMoves}
 use Rattle.two_halves.proofs.Moved.Going.{goes-same, goes-then}
@@ -176,7 +176,7 @@ module _ (p : Plan) (old : List ℕ) (mv0 : Moving) (k : Marks) (low limit from 
     before q above under = m.goes.aside q (s.room.new q above (omega (arith, under, e, less))) (inl under)
 
     images-more : HoldImages p old mem2 from to (i + 1)
-    images-more j q small is = elim (one-or-not j i) [
+    images-more j q small is = elim (cases_eq j i) [
       | inl last ↦ (
           let P : ℕ → Type 0 = λ z. IsImage p mem2 (get_or old (place_at old from z) 0) (get_or mem2 q 0) in
           let Q : ℕ → Type 0 = λ z. IsImage p mem2 (get_or old (place_at old from i) 0) (get_or mem2 z 0) in
@@ -193,7 +193,7 @@ module _ (p : Plan) (old : List ℕ) (mv0 : Moving) (k : Marks) (low limit from 
     ]
 
     links-more : AreLined mem2 to (i + 1)
-    links-more j q small is = elim (one-or-not j i) [
+    links-more j q small is = elim (cases_eq j i) [
       | inl last ↦ (
           let P : ℕ → Type 0 = λ z. get_or mem2 (z + 1) 0 ≡ z + 2 in
           let here : next ≡ q = omega (arith, last, is, e) in

@@ -22,18 +22,20 @@ use Rattle.shared_rec.specs.Record.{count_in, owner_in}
 use Rattle.shared_rec.proofs.Records.{bin-stays, fun-stays, record-counted, record-stays}
 use Rattle.off_heap_list.specs.Links.{IsLink, Links}
 use Rattle.off_heap_list.specs.Whole.{turned}
-use Rattle.off_heap_list.proofs.Walked.Tallied.{few-links}
+use Rattle.off_heap_list.proofs.Walked.Tallied.{few-links, ones}
+use Rattle.off_heap_list.proofs.Walked.Turning.{turned-length}
 use Rattle.record_move.specs.Copies.{record_words}
+use Rattle.record_move.proofs.Moving.{naming-few}
 use Rattle.term_copy.specs.Copied.{CanCopy, CopiesTree, Task}
 use Rattle.term_copy.specs.Row.{AreObjects, ChainsRow, IsRow, links_in}
 use Rattle.term_copy.specs.declared.chaining.Chained.{Chained}
+use Rattle.chain_sweep.proofs.Room.{total-same}
 use Rattle.two_halves.specs.Halves.{HalvesStand, IsBinOf, IsFunOf, IsLaid, ProcsStand, RecordsStand, end_of, front_of, half_of, records_of}
 use Rattle.two_halves.specs.Copying.{CanCopyIn, CopiesIn, HasCopy}
 use Rattle.two_halves.specs.declared.halves.Halves.{Halves}
 use Rattle.two_halves.proofs.Coming.Adding.{filled}
 use Rattle.two_halves.proofs.Standing.Apart.{apart-kept}
-use Rattle.two_halves.proofs.Coming.Linking.{naming-few, ones}
-use Rattle.two_halves.proofs.Standing.Joining.{procs-on, rise-same, total-same}
+use Rattle.two_halves.proofs.Standing.Joining.{procs-on, rise-same}
 
 -- What a copy in a half is given: its free words, in which nothing stays.
 abbrev pub task_of : (h : Halves) → (stay : ℕ → Bool) → (c : ℕ → ℕ → Bool) → (shared : List (List ℕ)) → (w : ℕ) → Tree → Task
@@ -276,10 +278,6 @@ module _ (named : ℕ) (h : Halves) (shared : List (List ℕ)) (qs : List Proces
     }
 
 -- Lists that are turned round.
-
-turned-length : (xs ys : List ℕ) → length (turned xs ys) ≡ length xs + length ys
-turned-length [] ys = omega arith
-turned-length (x ∷ xs) ys = omega (arith, turned-length xs (x ∷ ys))
 
 turned-in : (xs ys : List ℕ) (p : ℕ) → In p (turned xs ys) → In p xs ⊎ In p ys
 turned-in [] ys p i = inr i

@@ -1,6 +1,6 @@
 -- A message enters a queue at its end.
 use Rattle.std.proofs.Common.{◌≡◌, ℕ, zero, suc, ◌+◌, ◌-◌, ◌/◌, ◌<◌, ◌≤◌, Bool, true, List, [], ◌∷◌, ◌++◌, length, get_or, set, refl, sym, ◌∙◌, ap, subst, arith, inl, inr}
-use Rattle.std.proofs.lemmas.List.{append_assoc, get_or-set_other, get_or-set_same, length-set}
+use Rattle.std.proofs.lemmas.List.{append_assoc, get_or-set_other, get_or-set_same, length-set, get_or_default}
 use Rattle.std.proofs.lemmas.List.Sums.{get_or-le-sum_by, sum_by-set}
 use Rattle.std.specs.Vec.{with_item}
 use Rattle.plain_term.specs.Tree.{Tree}
@@ -20,7 +20,7 @@ use Rattle.two_halves.proofs.Standing.Filled.{halves-filled, laid-filled, laid_o
 use Rattle.two_halves.proofs.Queued.Following.{RowsKept, ends-in, kept-places, kept-procs, kept-roots, rows-followed, rows-same}
 use Rattle.two_halves.proofs.Standing.Held.{have-stacks}
 use Rattle.two_halves.proofs.Standing.Keeping.{procs-on}
-use Rattle.two_halves.proofs.Queued.Queuing.{nobody, proc-any, process-any, row-at, row-length, row-set}
+use Rattle.two_halves.proofs.Queued.Queuing.{nobody, row-at, row-length, row-set}
 
 -- The row of places is that from the one place, and a place more with the word.
 pub record Longer (c : ℕ → ℕ → Bool) (mem : List ℕ) (low limit from n first place w : ℕ) : Type 0 where
@@ -303,7 +303,7 @@ module _ (named : ℕ) (h : Halves) (shared : List (List ℕ)) (qs : List Proces
         let P : ℕ → Type 0 = λ z. ProcsStand x.test shared mem2 place z named (set h.procs.items row row2) (set qs row (record q { queue = q.queue ++ t ∷ [] })) in
         record {
           process = q;
-          is = λ d. process-any qs row d nobody (omega (arith, less, row-length x.test shared h.mem h.low (end_of h) named h.procs.items qs x.processes));
+          is = λ d. get_or_default qs row d nobody (omega (arith, less, row-length x.test shared h.mem h.low (end_of h) named h.procs.items qs x.processes));
           stands =
               halves-filled named named h shared qs (set qs row (record q { queue = q.queue ++ t ∷ [] })) laid x x.test x.single mem2 h.top place (with_item h.procs row row2) len
               (λ a k e. e) (λ a k e. inl e) (λ a k e. inl e) roles-same (omega arith) (omega (arith, next)) (omega arith) (subst P limit new-rows) apart3;
@@ -383,7 +383,7 @@ module _ (h : Halves) (row w : ℕ) (r : CanQueue h row w) (p : Proc) (is : p �
     final_row = with_queue p first place (p.waiting + 1)
 
     same-row : (u : Proc) → u ≡ get_or h.procs.items row u → p ≡ u
-    same-row u other = is ∙ (proc-any h.procs.items row p u r.has.within ∙ sym other)
+    same-row u other = is ∙ (get_or_default h.procs.items row p u r.has.within ∙ sym other)
 
     row-there : (u : Proc) → u ≡ get_or (set h.procs.items row final_row) row u → final_row ≡ u
     row-there u other = sym (get_or-set_same h.procs.items row final_row u r.has.within) ∙ sym other

@@ -1,5 +1,6 @@
 -- A message leaves a queue at its front.
 use Rattle.std.proofs.Common.{◌≡◌, ℕ, zero, suc, ◌+◌, ◌-◌, ◌<◌, ◌≤◌, Bool, List, [], ◌∷◌, ◌++◌, length, get_or, set, refl, sym, ◌∙◌, ap, subst, arith, inl, inr}
+use Rattle.std.proofs.lemmas.List.{get_or_default}
 use Rattle.std.proofs.lemmas.List.Sums.{sum_by-set}
 use Rattle.std.specs.Vec.{with_item}
 use Rattle.plain_term.specs.Tree.{Tree}
@@ -16,16 +17,6 @@ use Rattle.two_halves.proofs.Standing.Filled.{laid-filled}
 -- A process for rows that are not there.
 abbrev pub nobody : Process
 nobody = record { number = 0; registers = []; stack = []; queue = []; refs = 0 }
-
-pub proc-any : (ps : List Proc) (i : ℕ) (d e : Proc) → i < length ps → get_or ps i d ≡ get_or ps i e
-proc-any [] i d e less = absurd (omega (arith, less))
-proc-any (p ∷ ps) zero d e less = refl
-proc-any (p ∷ ps) (suc i) d e less = proc-any ps i d e (omega (arith, less))
-
-pub process-any : (qs : List Process) (i : ℕ) (d e : Process) → i < length qs → get_or qs i d ≡ get_or qs i e
-process-any [] i d e less = absurd (omega (arith, less))
-process-any (q ∷ qs) zero d e less = refl
-process-any (q ∷ qs) (suc i) d e less = process-any qs i d e (omega (arith, less))
 
 -- Rows and their processes by number.
 module _ (c : ℕ → ℕ → Bool) (shared : List (List ℕ)) (mem : List ℕ) (low limit named : ℕ) where
@@ -102,7 +93,7 @@ module _ (named : ℕ) (h : Halves) (shared : List (List ℕ)) (qs : List Proces
       subst P (sym is) (row-at x.test shared h.mem h.low (end_of h) named h.procs.items qs row p nobody less x.processes)
 
   pub this-process : (d : Process) → get_or qs row d ≡ get_or qs row nobody
-  this-process d = process-any qs row d nobody (omega (arith, less, row-length x.test shared h.mem h.low (end_of h) named h.procs.items qs x.processes))
+  this-process d = get_or_default qs row d nobody (omega (arith, less, row-length x.test shared h.mem h.low (end_of h) named h.procs.items qs x.processes))
 
   module _ (some : p.waiting ≡ 0 → ⊥) where
     first-there : FirstOf x.test shared h.mem h.low (end_of h) named p.queue p.waiting p.last q.queue
@@ -188,10 +179,10 @@ module _ (h : Halves) (row : ℕ) (r : HasRow h row) (p : Proc) (is : p ≡ get_
       record {
         laid = subst P (sym next_is) (left-laid r.named h r.shared r.processes r.laid r.stands row r.within p is some);
         same = λ u at.
-            let one : p ≡ u = is ∙ (proc-any h.procs.items row p u r.within ∙ sym at) in
+            let one : p ≡ u = is ∙ (get_or_default h.procs.items row p u r.within ∙ sym at) in
             ap (λ z. with_row h row (with_queue p z p.last (p.waiting - 1))) next_is ∙ ap (λ z. with_row h row (shifted h.mem z)) one;
         some = λ d.
-            let one : p ≡ get_or h.procs.items row d = is ∙ proc-any h.procs.items row p d r.within in
+            let one : p ≡ get_or h.procs.items row d = is ∙ get_or_default h.procs.items row p d r.within in
             let S : Proc → Type 0 = λ z. 1 ≤ z.waiting in
             subst S one (least p.waiting some);
         leaves = subst Q (sym next_is) (subst R (sym w_is) (λ named shared qs x. has-left named h shared qs r.laid x row r.within p is some));

@@ -1,5 +1,6 @@
 -- A message is sent: a copy comes into the half, and its word into a queue.
 use Rattle.std.proofs.Common.{◌≡◌, ℕ, ◌+◌, ◌/◌, ◌<◌, ◌≤◌, Bool, [], ◌∷◌, ◌++◌, length, get_or, sym, ◌∙◌, ap, subst, arith, inl, inr}
+use Rattle.std.proofs.lemmas.List.{get_or_default}
 use Rattle.std.specs.Vec.{with_item}
 use Rattle.plain_term.specs.Tree.Trees.{end, ◌▹◌}
 use Rattle.term_words.specs.Object.{IsPointer, object_words}
@@ -20,7 +21,6 @@ use Rattle.two_halves.specs.declared.table.Proc.{Proc}
 use Rattle.two_halves.proofs.Standing.Held.{have-stacks, roots-stand, trees_of}
 use Rattle.two_halves.proofs.Standing.Keeping.{roots-kept}
 use Rattle.two_halves.proofs.Standing.Stacks.{stack-at, no_row, values-kept}
-use Rattle.two_halves.proofs.Queued.Queuing.{proc-any}
 
 module _ (h : Halves) (row w : ℕ) (r : CanSend h row w) where
   pub can-copy-in : CanCopyIn h w
@@ -106,7 +106,7 @@ module _ (h : Halves) (row w : ℕ) (r : CanSend h row w) where
       same-values : (o : Proc) → o ≡ get_or h.procs.items row o → values h1.mem o.queue o.waiting ≡ values h.mem o.queue o.waiting
       same-values o is =
           let stacks = have-stacks x.test r.has.shared h.mem h.low (end_of h) r.has.named h.procs.items r.has.processes x.processes in
-          let one : get_or h.procs.items row no_row ≡ o = proc-any h.procs.items row no_row o r.has.within ∙ sym is in
+          let one : get_or h.procs.items row no_row ≡ o = get_or_default h.procs.items row no_row o r.has.within ∙ sym is in
           let P : Proc → Type 0 = λ z. values h1.mem z.queue z.waiting ≡ values h.mem z.queue z.waiting in
           subst P one
           (values-kept x.test h.mem h1.mem h.low (end_of h) (get_or h.procs.items row no_row).queue (get_or h.procs.items row no_row).waiting copy-there.bare

@@ -1,5 +1,6 @@
 -- A narrower test of a half: each word with a role is one of an object, or of a record that the tables list.
 use Rattle.std.proofs.Common.{◌≡◌, ℕ, ◌+◌, ◌*◌, ◌<◌, ◌≤◌, ◌⊎◌, ◌&&◌, ◌||◌, Bool, true, false, nat_le, nat_lt, List, [], ◌∷◌, length, get_or, refl, sym, ap, subst, arith, inl, inr}
+use Rattle.std.proofs.lemmas.Bool.{and_parts, and_from, or_right, or_left}
 use Rattle.std.proofs.lemmas.Bool.Decides.{nat_tests}
 use Rattle.plain_term.specs.Tree.{Tree}
 use Rattle.plain_term.specs.Tree.Trees.{end, ◌▹◌}
@@ -29,24 +30,6 @@ abbrev pub in_records : List ℕ → List ℕ → ℕ → Bool
 in_records mem [] a = false
 in_records mem (v ∷ vs) a = (nat_le v a && nat_lt a (v + record_words mem v)) || in_records mem vs a
 
-or-left : (p q : Bool) → p ≡ true → (p || q) ≡ true
-or-left p q e = rw e refl
-
-or-right : (p q : Bool) → q ≡ true → (p || q) ≡ true
-or-right true q e = refl
-or-right false q e = e
-
-and-true : (p q : Bool) → p ≡ true → q ≡ true → (p && q) ≡ true
-and-true p q e f = rw (e, f) refl
-
-first-true : (p q : Bool) → (p && q) ≡ true → p ≡ true
-first-true true q e = refl
-first-true false q e = e
-
-second-true : (p q : Bool) → (p && q) ≡ true → q ≡ true
-second-true true q e = e
-second-true false q e = absurd (not-both false e refl)
-
 within-is : (v n a : ℕ) → v ≤ a → a < v + n → (nat_le v a && nat_lt a (v + n)) ≡ true
 within-is v n a from below = grind (arith, nat_tests, from, below)
 
@@ -54,9 +37,9 @@ pub listed-in : (mem vs : List ℕ) (v a : ℕ) → In v vs → v ≤ a → a < 
 listed-in mem [] v a i from below = absurd i
 listed-in mem (u ∷ vs) v a (inl e) from below =
     let here : (nat_le u a && nat_lt a (u + record_words mem u)) ≡ true = within-is u (record_words mem u) a (omega (arith, from, e)) (omega (arith, below, e, ap (record_words mem) e)) in
-    or-left (nat_le u a && nat_lt a (u + record_words mem u)) (in_records mem vs a) here
+    or_left (nat_le u a && nat_lt a (u + record_words mem u)) (in_records mem vs a) here
 listed-in mem (u ∷ vs) v a (inr i) from below =
-    or-right (nat_le u a && nat_lt a (u + record_words mem u)) (in_records mem vs a) (listed-in mem vs v a i from below)
+    or_right (nat_le u a && nat_lt a (u + record_words mem u)) (in_records mem vs a) (listed-in mem vs v a i from below)
 
 -- Below the free words, or in a record that is listed.
 abbrev pub covering : Halves → ℕ → ℕ → Bool
@@ -70,16 +53,16 @@ module _ (named : ℕ) (h : Halves) (shared : List (List ℕ)) (qs : List Proces
   object-in a k of e = elim (s.lie a k e) [
     | inl object ↦
         let here : nat_lt a h.low ≡ true = (let less : a < h.low = omega (arith, object.1.0, laid.order) in grind (arith, nat_tests, less)) in
-        or-left (nat_lt a h.low) (in_records h.mem (records_of h) a) here
+        or_left (nat_lt a h.low) (in_records h.mem (records_of h) a) here
     | inr there ↦ absurd (omega (arith, of, there.1.1))
   ]
 
   object-on : (a k : ℕ) → OfObject k → s.test a k ≡ true → covered a k ≡ true
-  object-on a k of e = and-true (s.test a k) (covering h a k) e (object-in a k of e)
+  object-on a k of e = and_from (s.test a k) (covering h a k) e (object-in a k of e)
 
   record-in : (v n a k : ℕ) → IsRecord s.test h.mem v n → v ≤ a → a < v + n → covering h a k ≡ true
   record-in v n a k there from below =
-      or-right (nat_lt a h.low) (in_records h.mem (records_of h) a)
+      or_right (nat_lt a h.low) (in_records h.mem (records_of h) a)
       (listed-in h.mem (records_of h) v a (s.records.all v n there) from (omega (arith, below, record-size s.test h.mem v n there)))
 
   copied-on : (v n : ℕ) → IsRecord s.test h.mem v n → IsCopiedTo s.test covered h.mem h.mem v v n
@@ -87,7 +70,7 @@ module _ (named : ℕ) (h : Halves) (shared : List (List ℕ)) (qs : List Proces
     within = (record-within s.test h.mem v n there).0;
     roles = λ j q k below e f.
         let P : ℕ → Type 0 = λ z. s.test z k ≡ true in
-        and-true (s.test q k) (covering h q k) (subst P (sym e) f) (record-in v n q k there (omega (arith, e)) (omega (arith, e, below)));
+        and_from (s.test q k) (covering h q k) (subst P (sym e) f) (record-in v n q k there (omega (arith, e)) (omega (arith, e, below)));
     same = λ j q below some e. ap (λ z. get_or h.mem z 0) e;
   }
 
@@ -105,19 +88,19 @@ module _ (named : ℕ) (h : Halves) (shared : List (List ℕ)) (qs : List Proces
       record-copied covered s.test h.mem h.mem v v n
       (record {
         within = (record-within covered h.mem v n there).0;
-        roles = λ j q k below e f. let P : ℕ → Type 0 = λ z. s.test z k ≡ true in subst P (sym e) (first-true (s.test (v + j) k) (covering h (v + j) k) f);
+        roles = λ j q k below e f. let P : ℕ → Type 0 = λ z. s.test z k ≡ true in subst P (sym e) ((and_parts (s.test (v + j) k) (covering h (v + j) k) f).0);
         same = λ j q below some e. ap (λ z. get_or h.mem z 0) e;
       })
       there
 
   pub single-covered : IsSingle covered
-  single-covered = record { one = λ a j k e f. s.single.one a j k (first-true (s.test a j) (covering h a j) e) (first-true (s.test a k) (covering h a k) f) }
+  single-covered = record { one = λ a j k e f. s.single.one a j k ((and_parts (s.test a j) (covering h a j) e).0) ((and_parts (s.test a k) (covering h a k) f).0) }
 
   -- Where a word with a role lies.
   pub lies-covered : (a k : ℕ) → covered a k ≡ true → ((front_of h ≤ a) × (a < h.top)) ⊎ (in_records h.mem (records_of h) a ≡ true)
   lies-covered a k e =
-      let c : s.test a k ≡ true = first-true (s.test a k) (covering h a k) e in
-      let d : covering h a k ≡ true = second-true (s.test a k) (covering h a k) e in
+      let c : s.test a k ≡ true = (and_parts (s.test a k) (covering h a k) e).0 in
+      let d : covering h a k ≡ true = (and_parts (s.test a k) (covering h a k) e).1 in
       elim (s.lie a k c) [
         | inl object ↦ inl (object.0, object.1.0)
         | inr there ↦ inr (past (nat_lt a h.low) (in_records h.mem (records_of h) a) (let far : h.low ≤ a = there.0 in grind (arith, nat_tests, far)) d)
@@ -177,7 +160,7 @@ module _ (named : ℕ) (h : Halves) (shared : List (List ℕ)) (qs : List Proces
   pub exact-covered : ChainReached h → (roots : List ℕ) → ((w : ℕ) → Reach h.mem (roots_of h) w → Reach h.mem roots w) → Exact covered h.mem roots
   exact-covered r roots among = counts-exact covered h.mem roots h.head s.chained links-covered (record {
     once = s.links.once;
-    all = λ p held. s.every p (first-true (s.test (p + 2) NEXT) (covering h (p + 2) NEXT) held.next);
+    all = λ p held. s.every p ((and_parts (s.test (p + 2) NEXT) (covering h (p + 2) NEXT) held.next).0);
     only = λ p i. record {
       word = p * 4 + 2;
       reached = among (p * 4 + 2) (r.all s.chained p s.linked s.links.chain i);

@@ -1,18 +1,17 @@
 -- Lists that one place joins, records above some words, and what stands still while a half fills.
 use Rattle.std.proofs.Common.{◌≡◌, ℕ, zero, suc, ◌+◌, ◌%◌, ◌<◌, ◌≤◌, ◌⊎◌, Bool, true, List, [], ◌∷◌, ◌++◌, length, get_or, take, drop, refl, sym, ◌∙◌, ap, subst, arith, inl, inr}
-use Rattle.std.proofs.lemmas.Bool.Decides.{nat_tests}
-use Rattle.std.proofs.lemmas.List.{get_or_append_left}
-use Rattle.plain_term.specs.Bytes.{shared_bytes}
+use Rattle.std.proofs.lemmas.List.{get_or_default}
 use Rattle.plain_term.specs.Tree.{Tree}
 use Rattle.plain_machine.specs.State.{Process}
-use Rattle.term_words.specs.Role.{COUNT, RECORD, RECORD_FIRST, OfRecord}
+use Rattle.term_words.specs.Role.{COUNT, RECORD, RECORD_FIRST}
 use Rattle.term_words.specs.Object.{IsBinRecord, IsFunRecord, IsRecord, byte_of}
 use Rattle.term_words.specs.Stands.{Stands}
-use Rattle.term_words.specs.Counted.{In, Distinct, total}
-use Rattle.term_words.proofs.Totals.Members.{both-distinct, in-both, in-left, in-right}
-use Rattle.shared_rec.specs.Record.{owner_in, record_roles}
+use Rattle.term_words.specs.Counted.{In, Distinct}
+use Rattle.term_words.proofs.Totals.Members.{both-distinct, in-both, in-left, in-right, in-at}
+use Rattle.shared_rec.specs.Record.{owner_in}
 use Rattle.off_heap_list.specs.Links.{named, naming}
 use Rattle.off_heap_list.proofs.Chaining.Chained.{no-naming}
+use Rattle.off_heap_list.proofs.Chaining.Exact.{distinct-left, distinct-right}
 use Rattle.record_move.specs.Tables.{OwnersRise}
 use Rattle.two_halves.specs.Stack.{IsStack, values}
 use Rattle.two_halves.specs.Halves.{HoldTrees, ProcStands, ProcsStand}
@@ -37,15 +36,7 @@ joins-end v xs = record {
   once = λ d fresh. both-distinct xs (v ∷ []) d ((λ i. i), tt) (λ u i j. elim j [ inl e ↦ fresh (in-same u v xs e i) | inr n ↦ n ]);
 }
 
-distinct-left : (xs ys : List ℕ) → Distinct (xs ++ ys) → Distinct xs
-distinct-left [] ys d = tt
-distinct-left (x ∷ xs) ys (n, d) = ((λ i. n (in-left x xs ys i)), distinct-left xs ys d)
-
-distinct-right : (xs ys : List ℕ) → Distinct (xs ++ ys) → Distinct ys
-distinct-right [] ys d = d
-distinct-right (x ∷ xs) ys (n, d) = distinct-right xs ys d
-
-distinct-apart : (xs ys : List ℕ) → Distinct (xs ++ ys) → (u : ℕ) → In u xs → In u ys → ⊥
+pub distinct-apart : (xs ys : List ℕ) → Distinct (xs ++ ys) → (u : ℕ) → In u xs → In u ys → ⊥
 distinct-apart [] ys d u i j = i
 distinct-apart (x ∷ xs) ys (n, d) u (inl e) j = n (in-right x xs ys (in-same u x ys e j))
 distinct-apart (x ∷ xs) ys (n, d) u (inr i) j = distinct-apart xs ys d u i j
@@ -114,16 +105,6 @@ rise-middle mem mem2 v (u ∷ xs) ys same below above (first, rest) = (
 
 -- Places of a table by their numbers.
 
-pub in-at : (vs : List ℕ) (i : ℕ) → i < length vs → In (get_or vs i 0) vs
-in-at [] i less = absurd (omega (arith, less))
-in-at (v ∷ vs) zero less = inl refl
-in-at (v ∷ vs) (suc i) less = inr (in-at vs i (omega (arith, less)))
-
-pub at-any : (vs : List ℕ) (i d e : ℕ) → i < length vs → get_or vs i d ≡ get_or vs i e
-at-any [] i d e less = absurd (omega (arith, less))
-at-any (v ∷ vs) zero d e less = refl
-at-any (v ∷ vs) (suc i) d e less = at-any vs i d e (omega (arith, less))
-
 pub rise-pair : (mem : List ℕ) (vs : List ℕ) (i j : ℕ) → i < j → j < length vs → OwnersRise mem vs → owner_in mem (get_or vs i 0) < owner_in mem (get_or vs j 0)
 rise-pair mem [] i j less inside r = absurd (omega (arith, inside))
 rise-pair mem (v ∷ vs) i zero less inside r = absurd (omega (arith, less))
@@ -162,20 +143,6 @@ in-drop (v ∷ vs) (suc i) u h =
     let n = in-drop vs i u h in
     record { number = suc n.number; above = omega (arith, n.above); below = omega (arith, n.below); inside = omega (arith, n.inside); is = n.is }
 
-pub take-drop : (vs : List ℕ) (i : ℕ) → take i vs ++ drop i vs ≡ vs
-take-drop [] zero = refl
-take-drop [] (suc i) = refl
-take-drop (v ∷ vs) zero = refl
-take-drop (v ∷ vs) (suc i) = ap (λ z. v ∷ z) (take-drop vs i)
-
-pub nil-right : (xs : List (List ℕ)) → xs ≡ xs ++ []
-nil-right [] = refl
-nil-right (x ∷ xs) = ap (λ z. x ∷ z) (nil-right xs)
-
-pub total-same : (f g : ℕ → ℕ) (vs : List ℕ) → ((u : ℕ) → In u vs → f u ≡ g u) → total f vs ≡ total g vs
-total-same f g [] same = refl
-total-same f g (v ∷ vs) same = omega (arith, same v (inl refl), total-same f g vs (λ u i. same u (inr i)))
-
 -- None of the objects names the record.
 pub naming-none : (mem : List ℕ) (v : ℕ) (os : List ℕ) → ((p : ℕ) → In p os → named mem p ≡ v → ⊥) → naming mem v os ≡ 0
 naming-none mem v [] none = refl
@@ -187,28 +154,6 @@ naming-none mem v (p ∷ os) none =
     ]
 
 -- The roles of a record's words.
-
-role-past : (j : ℕ) → 3 ≤ j → record_roles j ≡ RECORD
-role-past zero past = absurd (omega (arith, past))
-role-past (suc zero) past = absurd (omega (arith, past))
-role-past (suc (suc zero)) past = absurd (omega (arith, past))
-role-past (suc (suc (suc j))) past = grind (arith, nat_tests)
-
-pub record-role : (j : ℕ) → OfRecord (record_roles j)
-record-role zero = inr (inr refl)
-record-role (suc zero) = inr (inl refl)
-record-role (suc (suc zero)) = inl refl
-record-role (suc (suc (suc j))) = inr (inl (role-past (suc (suc (suc j))) (omega arith)))
-
-pub role-first : (j : ℕ) → record_roles j ≡ RECORD_FIRST → j ≡ 0
-role-first zero e = refl
-role-first (suc zero) e = absurd (omega (arith, e))
-role-first (suc (suc zero)) e = absurd (omega (arith, e))
-role-first (suc (suc (suc j))) e = absurd (omega (arith, e, role-past (suc (suc (suc j))) (omega arith)))
-
-pub record-first : (c : ℕ → ℕ → Bool) (mem : List ℕ) (v n : ℕ) → IsRecord c mem v n → c v RECORD_FIRST ≡ true
-record-first c mem v n (inl (serial, bytes, o, words)) = o.first
-record-first c mem v n (inr (name, arity, o, words)) = o.first
 
 -- Where the words from one place on are the same, and have no roles but old ones, a record there is one of before.
 module _ (c d : ℕ → ℕ → Bool) (old new : List ℕ) (low : ℕ) (same_len : length new ≡ length old) (roles : (a k : ℕ) → low ≤ a → d a k ≡ true → c a k ≡ true)
@@ -248,11 +193,6 @@ module _ (c d : ℕ → ℕ → Bool) (old new : List ℕ) (low : ℕ) (same_len
   record-above v n above (inl (serial, bytes, o, words)) = inl (serial, bytes, bin-above v serial bytes above o, words)
   record-above v n above (inr (name, arity, o, words)) = inr (name, arity, fun-above v name arity above o, words)
 
--- More shared lists leave those that were there.
-pub bytes-more : (shared more : List (List ℕ)) (id : ℕ) → 1 ≤ id → id ≤ length shared → shared_bytes (shared ++ more) id ≡ shared_bytes shared id
-bytes-more shared more zero some known = absurd (omega (arith, some))
-bytes-more shared more (suc k) some known = get_or_append_left shared more [] k (omega (arith, known))
-
 -- Rows stand for their processes still, where trees do, and places without a role are the same and get none.
 module _ (c d : ℕ → ℕ → Bool) (shared shared2 : List (List ℕ)) (mem mem2 : List ℕ) (named_below low low2 limit : ℕ)
     (trees : (w : ℕ) (t : Tree) → Stands c shared mem w t → Stands d shared2 mem2 w t) (same : AreKept c mem mem2 low limit)
@@ -291,7 +231,7 @@ module _ (c d : ℕ → ℕ → Bool) (shared shared2 : List (List ℕ)) (mem me
 -- One step of halving.
 module _ (mem funs : List ℕ) (code m v low high : ℕ) (rise : OwnersRise mem funs) (inside : m < length funs) (at : v ≡ get_or funs m v) where
   owner-is : owner_in mem (get_or funs m 0) ≡ owner_in mem v
-  owner-is = ap (λ z. owner_in mem z) (sym (at ∙ at-any funs m v 0 inside))
+  owner-is = ap (λ z. owner_in mem z) (sym (at ∙ get_or_default funs m v 0 inside))
 
   pub below-there : owner_in mem v < code → (j : ℕ) → j < m + 1 → owner_in mem (get_or funs j 0) < code
   below-there less j under =

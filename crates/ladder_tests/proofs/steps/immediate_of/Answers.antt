@@ -1,14 +1,14 @@
 use Rattle.std.proofs.Common.{refl, arith}
+use Rattle.std.proofs.lemmas.Bool.{lt-ltb}
 use Rattle.plain_term.specs.Tree.Tree.{Atom, Pid, Nil}
 use Rattle.term_words.proofs.ByKind.Makes.{stands-atom, stands-pid, stands-nil}
-use Rattle.ladder_tests.proofs.Good.{atom-named}
 use Rattle.ladder_tests.proofs.steps.immediate_of.Goals as goal
 
 pub returns-else-k-ge-ATOMS : goal.returns-else-k-ge-ATOMS
 returns-else-k-ge-ATOMS c = λ shared. record {
   tree = Atom c.in-Atom.k;
   clear = stands-atom _ shared _ _ c.in-Atom.k (omega (arith, c.if-k-ge-ATOMS.false)) c.atom.ensures;
-  named = atom-named _ c.in-Atom.k (omega (arith, c.if-k-count.false, c.count.ensures.value));
+  named = lt-ltb c.in-Atom.k _ (omega (arith, c.if-k-count.false, c.count.ensures.value));
 }
 
 pub returns-else-n-ge-PIDS : goal.returns-else-n-ge-PIDS

@@ -4,10 +4,11 @@ use Rattle.std.specs.Vec.{with_items}
 use Rattle.script_grammar.specs.declared.refusal.Refusal.{Refusal}
 use Rattle.item_build.specs.Reading.{long_bins, words_of}
 use Rattle.item_build.proofs.Meaning.Written.{is-written}
+use Rattle.item_build.proofs.Laid.Chaining.{longs-few}
 use Rattle.one_space.specs.Doing.{Asks, Builds}
 use Rattle.one_space.specs.declared.one.One.{One}
 use Rattle.one_space.proofs.Calls.Asking.{asks-grown, asks-lacks, asks-stopped}
-use Rattle.one_space.proofs.Verbs.Setting.{long-few, needed-words, set-builds, set-held, set-inside, set-linked, set-refused, set-regs, set-room, set-stops, stopped_in}
+use Rattle.one_space.proofs.Verbs.Setting.{needed-words, set-builds, set-held, set-inside, set-linked, set-refused, set-regs, set-room, set-stops, stopped_in}
 use Rattle.one_space.proofs.Calls.Terming.{term-within}
 use Rattle.one_space.proofs.one.One.build.Goals as goal
 
@@ -91,7 +92,7 @@ overflow_add-self-2 c =
     c.make_room.new.self c.make_room.result c.make_room.ensures c.requires.named c.if-not-make_room.false c.room-room.result c.room-room.ensures c.process.result.now c.process.ensures
     c.build.new.mem c.build.new.room (with_items c.args.self.now.row c.build.new.scratch) refl (record { serial = c.args.self.now.serials; head = c.make_room.new.self.head }) c.build.new.making
     c.build.ensures.leaves refl c.in-Ok.w c.in-Ok.ensures.builds c.in-Ok.ensures.back in
-    omega (arith, most, c.in-Ok.ensures.serial, c.len-len.ensures.most, c.len-len.ensures.len, c.build.ensures.leaves.same_len, long-few c.args.code.now, c.requires.term.few)
+    omega (arith, most, c.in-Ok.ensures.serial, c.len-len.ensures.most, c.len-len.ensures.len, c.build.ensures.leaves.same_len, longs-few c.args.code.now, c.requires.term.few)
 
 pub returns-then-not-make_room-clause-asks : goal.returns-then-not-make_room-clause-asks
 returns-then-not-make_room-clause-asks c =

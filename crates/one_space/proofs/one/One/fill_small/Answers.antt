@@ -1,5 +1,5 @@
 use Rattle.std.proofs.Common.{ℕ, ◌+◌, ◌/◌, Bool, List, length, replicate, take, refl, sym, subst, arith, ap, ◌∙◌}
-use Rattle.std.proofs.lemmas.List.{length-replicate}
+use Rattle.std.proofs.lemmas.List.{length-replicate, take-replicate}
 use Rattle.word_mem.specs.declared.ranges.Room.{Room}
 use Rattle.plain_term.specs.Measures.{bin_words}
 use Rattle.plain_term.specs.Tree.Tree.{Bin}
@@ -8,7 +8,7 @@ use Rattle.term_build.specs.Grows.{Built}
 use Rattle.term_build.specs.Taken.{IsFree}
 use Rattle.plain_machine.specs.Tightness.{fill_words}
 use Rattle.one_space.proofs.Calls.Asking.{unless-grown, unless-lacks}
-use Rattle.one_space.proofs.Verbs.Filling.{fill-lacks, heap-words, small-by, take-equal}
+use Rattle.one_space.proofs.Verbs.Filling.{fill-lacks, heap-words, small-by}
 use Rattle.one_space.proofs.Calls.Terming.{term-within}
 use Rattle.one_space.proofs.one.One.fill_small.Goals as goal
 
@@ -35,7 +35,7 @@ returns-clause-does c =
     → Built k y.top (2 + bin_words (length xs)) c.make_room.new.self.mem c.heap_bin-w.new.mem shared c.heap_bin-w.result (Bin xs) in
     small-by c.args.self.now c.requires.holds c.args.seat c.requires.sits c.args.r c.args.len c.args.byte (omega (arith, c.requires.small)) (omega (arith, c.ranges.byte)) g
     (sym (heap-words c.args.len c.requires.small))
-    c.make_room.new.self c.make_room.result c.make_room.ensures c.requires.small c.if-not-make_room.false xs (take-equal c.args.len 64 c.args.byte c.requires.small) c.heap_bin-w.new.mem
+    c.make_room.new.self c.make_room.result c.make_room.ensures c.requires.small c.if-not-make_room.false xs (take-replicate c.args.len 64 c.args.byte c.requires.small) c.heap_bin-w.new.mem
     c.heap_bin-w.new.room
     (subst U c.room-room.ensures c.heap_bin-w.ensures.uses) c.process_mut-process.result.now c.process_mut-process.ensures.value c.heap_bin-w.result
     (subst V c.room-room.ensures c.heap_bin-w.ensures.built)
@@ -48,5 +48,5 @@ returns-clause-asks c =
       arith,
       c.heap_bin-w.ensures.uses.moved,
       ap (λ (z : Room). z.top) c.room-room.ensures,
-      ap (λ n. 2 + bin_words n) (ap length (take-equal c.args.len 64 c.args.byte c.requires.small) ∙ length-replicate {A = ℕ} c.args.len c.args.byte),
+      ap (λ n. 2 + bin_words n) (ap length (take-replicate c.args.len 64 c.args.byte c.requires.small) ∙ length-replicate {A = ℕ} c.args.len c.args.byte),
     )) tt

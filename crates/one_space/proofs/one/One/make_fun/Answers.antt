@@ -9,12 +9,11 @@ use Rattle.space_api.specs.Calls.{Becomes, HasEnv, said}
 use Rattle.one_space.specs.Gathered.{held_word}
 use Rattle.one_space.specs.One.{Holds, OneStands, words_of}
 use Rattle.one_space.specs.declared.one.One.{One}
-use Rattle.one_space.proofs.Calls.Acting.{seat-below}
+use Rattle.one_space.proofs.Calls.Acting.{pid-below}
 use Rattle.one_space.proofs.Calls.Asking.{unless-grown, unless-lacks}
 use Rattle.one_space.proofs.Verbs.Funning.{fun-holds, fun-lacks, fun-refused, fun-stands, lacks-holds, named-there}
 use Rattle.one_space.proofs.Memory.Gaining.{funs-room, gained, gained-within, with_reg}
 use Rattle.one_space.proofs.Calls.Terming.{term-within}
-use Rattle.two_halves.proofs.Standing.Stacks.{no_row}
 use Rattle.one_space.proofs.one.One.make_fun.Goals as goal
 
 pub returns-then-arity-gt-MOST_ARITY-clause-becomes : goal.returns-then-arity-gt-MOST_ARITY-clause-becomes
@@ -42,13 +41,7 @@ add_fun-w-requires-clause-table c =
 
 pub add_fun-w-requires-clause-creator : goal.add_fun-w-requires-clause-creator
 add_fun-w-requires-clause-creator c =
-    omega (
-      arith,
-      seat-below c.args.self.now.halves.procs.items c.args.seat.row c.args.self.now.next no_row c.requires.sits.within c.requires.holds.counts.below,
-      c.requires.sits.number no_row,
-      c.requires.holds.counts.numbered,
-      c.requires.calls,
-    )
+    omega (arith, pid-below c.args.self.now c.requires.holds c.args.seat c.requires.sits, c.requires.calls)
 
 pub process_mut-process-requires : goal.process_mut-process-requires
 process_mut-process-requires c =
