@@ -1,6 +1,7 @@
 -- The objects of a chain after a collection: each was moved, or left behind as it was.
 use Rattle.std.proofs.Common.{◌≡◌, ℕ, ◌+◌, ◌*◌, ◌/◌, ◌%◌, ◌<◌, ◌≤◌, ◌⊎◌, ◌==◌, if◌then◌else◌, Bool, true, false, List, [], ◌∷◌, length, get_or}
 use Rattle.std.proofs.Common.{refl, sym, ◌∙◌, ap, subst, arith, inl, inr}
+use Rattle.std.proofs.lemmas.Bool.{cases_Bool}
 use Rattle.std.proofs.lemmas.Bool.Decides.{nat_tests}
 use Rattle.term_tags.specs.Words.{head_word}
 use Rattle.term_tags.specs.Table.{layout_for}
@@ -11,7 +12,6 @@ use Rattle.term_words.specs.Object.{IsRecord}
 use Rattle.term_words.specs.Counted.{In, Distinct}
 use Rattle.term_words.specs.Reach.{first_of}
 use Rattle.term_words.proofs.Placing.Apart.{head-no-header}
-use Rattle.term_words.proofs.Totals.Members.{true-or-false}
 use Rattle.term_words.proofs.Reaching.Reached.{reached}
 use Rattle.term_words.proofs.Placing.Roles.{object-role, first-role}
 use Rattle.shared_rec.proofs.Records.{record-same, record-length, record-counted}
@@ -41,7 +41,7 @@ place-off mem p = off-of (get_or mem p 0 == head_word HOLDER 5) p
 
 off-is : (header : ℕ) → (off header ≡ 1) ⊎ ((off header ≡ 3) × (header ≡ head_word HOLDER 5))
 unfolding off
-off-is header = elim (true-or-false (header == head_word HOLDER 5)) [
+off-is header = elim (cases_Bool (header == head_word HOLDER 5)) [
   | inl same ↦ inr (ap (λ b. if b then 3 else 1) same, grind (arith, nat_tests, same))
   | inr other ↦ inl (ap (λ b. if b then 3 else 1) other)
 ]

@@ -1,6 +1,7 @@
 -- Records move one after the other.
 use Rattle.std.proofs.Common.{◌≡◌, ℕ, ◌+◌, ◌-◌, ◌/◌, ◌<◌, ◌≤◌, ◌⊎◌, ◌==◌, if◌then◌else◌, Bool, true, false, List, [], ◌∷◌, length, get_or, set}
 use Rattle.std.proofs.Common.{refl, sym, ◌∙◌, ap, subst, arith, inl, inr, length-set, get_or-set_other}
+use Rattle.std.proofs.lemmas.Bool.{cases_eq}
 use Rattle.std.proofs.lemmas.Grind.{get_or-set_at}
 use Rattle.std.proofs.lemmas.Bool.Decides.{nat_tests}
 use Rattle.plain_term.specs.Measures.{bin_words}
@@ -12,7 +13,6 @@ use Rattle.term_words.specs.Kept.{Kept, Keeps}
 use Rattle.term_words.specs.Relocated.{IsCopiedTo}
 use Rattle.term_words.specs.Counted.{In, total}
 use Rattle.term_words.proofs.Framing.Frames.{frame}
-use Rattle.term_words.proofs.Totals.Members.{one-or-not}
 use Rattle.term_build.specs.Taken.{Taken, with_object}
 use Rattle.term_build.proofs.Taking.{with-object-taken, with-object-single, with-object-within}
 use Rattle.shared_rec.specs.Record.{record_roles, count_in}
@@ -245,7 +245,7 @@ module _ (c : ℕ → ℕ → Bool) (start mem mem2 : List ℕ) (head o : ℕ) (
   }
 
   start-word : (j : ℕ) → j < n → get_or mem (named start o + j) 0 ≡ get_or start (named start o + j) 0
-  start-word j below = elim (one-or-not j 2) [
+  start-word j below = elim (cases_eq j 2) [
     | inl two ↦ (let P : ℕ → Type 0 = λ x. get_or mem (named start o + x) 0 ≡ get_or start (named start o + x) 0 in subst P (sym two) here-count)
     | inr far ↦ record-word c start mem head os (o ∷ rest) low now top b f s (named start o) n j there below far
   ]
@@ -313,7 +313,7 @@ module _ (c : ℕ → ℕ → Bool) (start mem mem2 : List ℕ) (head o : ℕ) (
         let was : get_or mem (named start q + 2) 0 ≡ MOVED + get_or mem (name_place start q) 0 = s.done q inside out in
         count-word (named start q) (b.links.each q inside).words (record-of c start head os low top b f q inside) (other-record (named start q) (omega (arith, was)))
         ∙ (was ∙ ap (λ x. MOVED + x) (sym (name-word q inside)));
-    records = λ v m r. elim (one-or-not v (named start o)) [
+    records = λ v m r. elim (cases_eq v (named start o)) [
       | inl same ↦
           let P : ℕ → Type 0 = λ x. IsRecordCopy (with_object record_roles s.test u n) start mem2 u top x n u in
           let Q : ℕ → Type 0 = λ x. IsRecordCopy (with_object record_roles s.test u n) start mem2 u top v x u in
@@ -321,8 +321,8 @@ module _ (c : ℕ → ℕ → Bool) (start mem mem2 : List ℕ) (head o : ℕ) (
           inr (u, subst Q size (subst P (sym same) copy-here))
       | inr far ↦ elim (s.records v m r) [ inl still ↦ inl (count-word v m r far ∙ still) | inr (w, k) ↦ inr (w, copy-still v m w r far k) ]
     ];
-    one = λ v m w k x r q e g. elim (one-or-not v (named start o)) [
-      | inl same ↦ elim (one-or-not w (named start o)) [
+    one = λ v m w k x r q e g. elim (cases_eq v (named start o)) [
+      | inl same ↦ elim (cases_eq w (named start o)) [
         | inl same2 ↦ same ∙ sym same2
         | inr far2 ↦
             absurd
@@ -330,7 +330,7 @@ module _ (c : ℕ → ℕ → Bool) (start mem mem2 : List ℕ) (head o : ℕ) (
             let here : get_or mem2 (named start o + 2) 0 ≡ MOVED + x = subst P same e in
             copies-one w k x q far2 g (omega (arith, here, mark)))
       ]
-      | inr far ↦ elim (one-or-not w (named start o)) [
+      | inr far ↦ elim (cases_eq w (named start o)) [
         | inl same2 ↦
             absurd
             (let P : ℕ → Type 0 = λ y. get_or mem2 (y + 2) 0 ≡ MOVED + x in
@@ -463,7 +463,7 @@ module _ (c : ℕ → ℕ → Bool) (start mem mem2 : List ℕ) (head o : ℕ) (
     once = s.once.1;
     among = λ q inside. s.among q (inr inside);
     left = λ q inside. name-of-other q (s.among q (inr inside)) (rest-other q inside) ∙ s.left q (inr inside);
-    done = λ q inside out. elim (one-or-not q o) [
+    done = λ q inside out. elim (cases_eq q o) [
       | inl same ↦
           let P : ℕ → Type 0 = λ x. get_or mem2 (named start x + 2) 0 ≡ MOVED + get_or mem2 (name_place start x) 0 in
           subst P (sym same) (named-count o inside-here ∙ (k.mark ∙ ap (λ x. MOVED + x) (sym name)))

@@ -1,12 +1,12 @@
 -- The records of a whole chain move.
 use Rattle.std.proofs.Common.{◌≡◌, ℕ, ◌+◌, ◌<◌, ◌≤◌, ◌⊎◌, Bool, true, List, [], ◌∷◌, length, get_or}
 use Rattle.std.proofs.Common.{refl, sym, ◌∙◌, ap, subst, arith, inl, inr}
+use Rattle.std.proofs.lemmas.Bool.{cases_eq}
 use Rattle.plain_term.specs.Measures.{bin_words}
 use Rattle.term_words.specs.Role.{NEXT, FIRST, FURTHER, NAMES, RECORD_FIRST}
 use Rattle.term_words.specs.Object.{IsRecord}
 use Rattle.term_words.specs.Relocated.{IsCopiedTo}
 use Rattle.term_words.specs.Counted.{In}
-use Rattle.term_words.proofs.Totals.Members.{one-or-not}
 use Rattle.shared_rec.specs.Record.{count_in}
 use Rattle.shared_rec.proofs.Records.{bin-copied, fun-copied, record-copied, record-first, record-size, record-within}
 use Rattle.off_heap_list.specs.Links.{names_it, name_place, named, Chain, naming, IsLinkHeader, IsLink}
@@ -113,7 +113,7 @@ module _ (c : ℕ → ℕ → Bool) (start mem : List ℕ) (head : ℕ) (os : Li
       (shown q inq ∙ ap (λ x. MOVED + x) (sym e))
 
   names-same : (o q : ℕ) → In o os → In q os → names_it (named mem q) (named mem o) ≡ names_it (named start q) (named start o)
-  names-same o q ino inq = elim (one-or-not (named mem q) (named mem o)) [
+  names-same o q ino inq = elim (cases_eq (named mem q) (named mem o)) [
     | inl e ↦ one-naming (named mem q) (named mem o) e ∙ sym (one-naming (named start q) (named start o) (same-record q o inq ino e))
     | inr far ↦ no-name (named mem q) (named mem o) far ∙ sym (no-name (named start q) (named start o) (λ e. far (same-copy q o inq ino e)))
   ]

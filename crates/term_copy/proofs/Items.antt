@@ -1,10 +1,10 @@
 -- Copies side by side.
 use Rattle.std.proofs.Common.{◌≡◌, ℕ, ◌+◌, ◌*◌, ◌/◌, ◌<◌, ◌≤◌, ◌⊎◌, true, if◌then◌else◌, List, [], ◌∷◌, ◌++◌, refl, sym, ◌∙◌, ap, subst, arith, inl, inr, ◌==◌}
+use Rattle.std.proofs.lemmas.Bool.{cases_Bool}
 use Rattle.plain_term.specs.Measures.{flat_of_all}
 use Rattle.term_words.specs.Object.{object_words}
 use Rattle.term_words.specs.Reach.{parts_of}
 use Rattle.term_words.proofs.Placing.Roles.{object-some}
-use Rattle.term_words.proofs.Totals.Members.{true-or-false}
 use Rattle.off_heap_list.specs.Links.{names_it, named}
 use Rattle.off_heap_list.proofs.Walked.Tallied.{one-at-most}
 use Rattle.term_copy.specs.Row.{is_link}
@@ -85,7 +85,7 @@ pub tally-few : (old : List ℕ) (v from : ℕ) (xs : List Item) (to : ℕ) → 
 tally-few old v from [] to row many = omega arith
 tally-few old v from (x ∷ xs) to (place, rest) many =
     let more : from + object_words old x.word + 6 * tally old v xs ≤ to = tally-few old v (from + object_words old x.word) xs to rest (λ y i. many y (inr i)) in
-    elim (true-or-false (is_link old x.word)) [
+    elim (cases_Bool (is_link old x.word)) [
       | inl h ↦ rw h (omega (arith, more, many x (inl refl) h, one-at-most (named old (x.word / 4) == v)))
       | inr none ↦ rw none (omega (arith, more))
     ]

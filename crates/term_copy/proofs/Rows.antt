@@ -1,5 +1,6 @@
 -- The holders and funs of a row come into a chain, one after the other.
 use Rattle.std.proofs.Common.{◌≡◌, ℕ, ◌+◌, ◌-◌, ◌/◌, ◌%◌, ◌<◌, ◌≤◌, ◌⊎◌, ◌==◌, ◌&&◌, if◌then◌else◌, nat_le, Bool, true, false, List, [], ◌∷◌, ◌++◌, length, get_or, set, refl, sym, ◌∙◌, ap, subst, arith, inl, inr, Some, None, length-set, get_or-set_other}
+use Rattle.std.proofs.lemmas.Bool.{cases_Bool}
 use Rattle.std.proofs.lemmas.Bool.Decides.{nat_tests}
 use Rattle.std.proofs.lemmas.Grind.{get_or-set_at}
 use Rattle.std.proofs.lemmas.Option.{none-some}
@@ -11,7 +12,6 @@ use Rattle.term_words.specs.Kept.{Kept}
 use Rattle.term_words.specs.Counted.{In, Distinct}
 use Rattle.term_words.specs.Tiled.{IsTile, Tiled, tile_words}
 use Rattle.term_words.proofs.Placing.Apart.{words-cons, words-header}
-use Rattle.term_words.proofs.Totals.Members.{true-or-false}
 use Rattle.term_words.proofs.Placing.Roles.{object-some}
 use Rattle.term_words.proofs.Placing.Tiles.{tiled-order}
 use Rattle.shared_rec.proofs.Records.{record-counted, record-stays, role-idle}
@@ -94,13 +94,13 @@ no-more (x ∷ xs) = ap (λ zs. x ∷ zs) (no-more xs)
 -- Tiles that are objects, by their first words.
 
 layout-tag : (h : ℕ) (l : Layout) → layout_for h ≡ Some l → h % 4 ≡ 0
-layout-tag h l e = elim (true-or-false (h % 4 == 0)) [
+layout-tag h l e = elim (cases_Bool (h % 4 == 0)) [
   | inl t ↦ grind (arith, nat_tests, t)
   | inr f ↦ (let P : Bool → Type 0 = λ b. (if b then layout_at (h / 4 % 16) (h / 64) else None) ≡ Some l in absurd (none-some l (subst P f e)))
 ]
 
 row-arity : (a least most f : ℕ) (l : Layout) → row_layout a least most f ≡ Some l → least ≤ a
-row-arity a least most f l e = elim (true-or-false (nat_le least a && nat_le a most)) [
+row-arity a least most f l e = elim (cases_Bool (nat_le least a && nat_le a most)) [
   | inl t ↦ grind (arith, nat_tests, t)
   | inr n ↦ (let P : Bool → Type 0 = λ b. (if b then Some (record { words = 1 + a; first = f; count = 1 + a - f }) else None) ≡ Some l in absurd (none-some l (subst P n e)))
 ]
@@ -343,7 +343,7 @@ in-row mem from (w ∷ ws) to q r i =
     let P : ℕ → Type 0 = λ n. Tiled mem (from + n) ws to in
     let later : AreObjects mem (from + object_words mem w) ws to = record { row = subst P (tile-object mem w y) rest; objects = λ v j. r.objects v (inr j) } in
     let Q : Bool → Type 0 = λ b. In q (if b then w / 4 ∷ links_in mem ws else links_in mem ws) in
-    elim (true-or-false (is_link mem w)) [
+    elim (cases_Bool (is_link mem w)) [
       | inl l ↦ (let j : In q (w / 4 ∷ links_in mem ws) = subst Q l i in elim j [ inl e ↦ omega (arith, e, place) | inr k ↦ omega (arith, in-row mem (from + object_words mem w) ws to q later k) ])
       | inr n ↦ omega (arith, in-row mem (from + object_words mem w) ws to q later (subst Q n i))
     ]
@@ -356,7 +356,7 @@ row-once mem from (w ∷ ws) to r =
     let P : ℕ → Type 0 = λ n. Tiled mem (from + n) ws to in
     let later : AreObjects mem (from + object_words mem w) ws to = record { row = subst P (tile-object mem w y) rest; objects = λ v j. r.objects v (inr j) } in
     let h : Distinct (links_in mem ws) = row-once mem (from + object_words mem w) ws to later in
-    elim (true-or-false (is_link mem w)) [
+    elim (cases_Bool (is_link mem w)) [
       | inl l ↦ rw l ((λ i. omega (arith, in-row mem (from + object_words mem w) ws to (w / 4) later i, place, object-some mem w)), h)
       | inr n ↦ rw n h
     ]

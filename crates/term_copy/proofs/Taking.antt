@@ -1,5 +1,6 @@
 -- An object is copied: what stands before, what the copy asks, and what stands after it.
 use Rattle.std.proofs.Common.{◌≡◌, ℕ, ◌+◌, ◌/◌, ◌%◌, ◌^◌, ◌<◌, ◌≤◌, ◌⊎◌, ◌==◌, ◌&&◌, true, false, if◌then◌else◌, List, [], ◌∷◌, ◌++◌, length, get_or, refl, sym, ◌∙◌, ap, subst, arith, inl, inr}
+use Rattle.std.proofs.lemmas.Bool.{cases_Bool}
 use Rattle.plain_term.specs.Measures.{flat, flat_of_all}
 use Rattle.plain_term.specs.Tree.{Tree}
 use Rattle.word_mem.specs.declared.ranges.Room.{Room}
@@ -11,7 +12,6 @@ use Rattle.term_words.specs.Kept.{Kept}
 use Rattle.term_words.proofs.Reaching.Carrying.{words-same}
 use Rattle.term_words.proofs.Framing.Frames.{kept-carried}
 use Rattle.term_words.proofs.ByKind.Inside.{object-inside}
-use Rattle.term_words.proofs.Totals.Members.{true-or-false}
 use Rattle.term_words.proofs.Reaching.Reached.{scanned}
 use Rattle.term_words.proofs.Placing.Roles.{first-role, object-role, object-record-apart, object-some}
 use Rattle.shared_rec.specs.Record.{count_in}
@@ -191,7 +191,7 @@ module _ (p : Task) (known : List Item) (mem : List ℕ) (mark at top owed : ℕ
           | inl low ↦ inl (omega (arith, low, row-order))
           | inr high ↦ inr (omega (arith, high, fits-is))
         ] in
-        elim (true-or-false (is_link p.start w)) [
+        elim (cases_Bool (is_link p.start w)) [
           | inr f ↦ rw f (rest-new (v + 2) out (λ l. absurd (let e : true ≡ false = sym l ∙ f in grind (arith, e))) ∙ omega arith)
           | inl l ↦
               let which : (v ≡ named p.start (w / 4)) ⊎ ((named p.start (w / 4) < v) ⊎ (v < named p.start (w / 4))) = grind arith in

@@ -1,7 +1,7 @@
 -- When all words were gone through, the copy is whole.
 use Rattle.std.proofs.Common.{◌≡◌, ℕ, zero, suc, ◌+◌, ◌-◌, ◌*◌, ◌/◌, ◌%◌, ◌<◌, ◌≤◌, ◌⊎◌, ◌==◌, ◌||◌, ◌&&◌, if◌then◌else◌, nat_le, nat_lt, Bool, true, false, List, [], ◌∷◌, ◌++◌, length, get_or, refl, sym, ◌∙◌, ap, subst, arith, inl, inr}
 use Rattle.std.proofs.lemmas.Bool.Decides.{nat_tests}
-use Rattle.std.proofs.lemmas.Bool.{or_left, or_right, or_cases, and_from, and_parts}
+use Rattle.std.proofs.lemmas.Bool.{or_left, or_right, or_cases, and_from, and_parts, cases_Bool}
 use Rattle.plain_term.specs.Measures.{flat, flat_of_all}
 use Rattle.plain_term.specs.Tree.{Tree, Trees, trees_len}
 use Rattle.plain_term.specs.Tree.Trees.{end, ◌▹◌}
@@ -18,7 +18,7 @@ use Rattle.term_words.specs.Tiled.{Tiled, tile_words}
 use Rattle.term_words.proofs.Placing.Apart.{words-cons, words-header}
 use Rattle.term_words.proofs.Reaching.Carrying.{words-same, first-same, traced-same}
 use Rattle.term_words.proofs.Framing.Frames.{frame, kept-carried}
-use Rattle.term_words.proofs.Totals.Members.{true-or-false, in-both}
+use Rattle.term_words.proofs.Totals.Members.{in-both}
 use Rattle.term_words.proofs.Reaching.Reached.{cons-traced, scanned}
 use Rattle.term_words.proofs.Reaching.Relocating.{header-first}
 use Rattle.term_words.proofs.Placing.Roles.{first-role, object-some}
@@ -135,7 +135,7 @@ unfolding link_places
 place-told old [] q i = absurd i
 place-told old (x ∷ xs) q i =
     let more : IsPlace old xs q → IsPlace old (x ∷ xs) q = λ o. record { x = o.x; among = inr o.among; link = o.link; place = o.place } in
-    elim (true-or-false (is_link old x.word)) [
+    elim (cases_Bool (is_link old x.word)) [
       | inl l ↦ (let P : Bool → Type 0 = λ b. In q (if b then x.place ∷ link_places old xs else link_places old xs) in
           let j : In q (x.place ∷ link_places old xs) = subst P l i in
           elim j [ inl e ↦ record { x = x; among = inl refl; link = l; place = e } | inr h ↦ more (place-told old xs q h) ])
@@ -153,14 +153,14 @@ place-is old (y ∷ ys) x (inl e) l =
     subst Q (sym e) (rw m (inl refl))
 place-is old (y ∷ ys) x (inr i) l =
     let h : In x.place (link_places old ys) = place-is old ys x i l in
-    elim (true-or-false (is_link old y.word)) [ inl m ↦ rw m (inr h) | inr m ↦ rw m h ]
+    elim (cases_Bool (is_link old y.word)) [ inl m ↦ rw m (inr h) | inr m ↦ rw m h ]
 
 places-once : (old : List ℕ) (from : ℕ) (xs : List Item) (to : ℕ) → Spread old from xs to → Distinct (link_places old xs)
 unfolding link_places
 places-once old from [] to row = tt
 places-once old from (x ∷ xs) to (place, rest) =
     let h : Distinct (link_places old xs) = places-once old (from + object_words old x.word) xs to rest in
-    elim (true-or-false (is_link old x.word)) [
+    elim (cases_Bool (is_link old x.word)) [
       | inl m ↦ rw m (
         (λ i. (let o : IsPlace old xs x.place = place-told old xs x.place i in
             omega (arith, o.place, place, spread-in old (from + object_words old x.word) xs to o.x rest o.among, object-some old x.word))),
@@ -388,7 +388,7 @@ module _ (p : Task) (known : List Item) (mem : List ℕ) (top : ℕ) (g : Copyin
       })
 
   name-by : (m : List ℕ) (q : ℕ) → named m q ≡ (if get_or m q 0 == head_word HOLDER 5 then get_or m (q + 3) 0 else get_or m (q + 1) 0)
-  name-by m q = elim (true-or-false (get_or m q 0 == head_word HOLDER 5)) [ inl h ↦ rw h refl | inr h ↦ rw h refl ]
+  name-by m q = elim (cases_Bool (get_or m q 0 == head_word HOLDER 5)) [ inl h ↦ rw h refl | inr h ↦ rw h refl ]
 
   named-copy : (x : Item) → Among x g.items → is_link p.start x.word ≡ true → named mem x.place ≡ named p.start (x.word / 4)
   named-copy x i l =
@@ -409,7 +409,7 @@ module _ (p : Task) (known : List Item) (mem : List ℕ) (top : ℕ) (g : Copyin
   tally-naming v [] within = refl
   tally-naming v (x ∷ xs) within =
       let more : tally p.start v xs ≡ naming mem v (link_places p.start xs) = tally-naming v xs (λ y h. within y (inr h)) in
-      elim (true-or-false (is_link p.start x.word)) [
+      elim (cases_Bool (is_link p.start x.word)) [
         | inl l ↦ rw l (ap (λ r. names_it r v + tally p.start v xs) (sym (named-copy x (within x (inl refl)) l)) ∙ ap (λ n. names_it (named mem x.place) v + n) more)
         | inr n ↦ rw n (omega (arith, more))
       ]
@@ -509,7 +509,7 @@ module _ (p : Task) (known : List Item) (mem : List ℕ) (top : ℕ) (g : Copyin
   image-alone y x u s (inl (stays, e)) q =
       let P : ℕ → Type 0 = λ a. IsPointer a in
       let R : ℕ → Type 0 = λ a. Stands p.test p.shared p.start a u in
-      elim (true-or-false (p.stay (x / 4))) [
+      elim (cases_Bool (p.stay (x / 4))) [
         | inl h ↦ inr (h, (u, subst R (sym e) s))
         | inr n ↦ absurd (stays (record { pointer = subst P e q; goes = ap (λ a. p.stay (a / 4)) (sym e) ∙ n }))
       ]

@@ -1,5 +1,6 @@
 -- Where all is scanned: what the collection has done.
 use Rattle.std.proofs.Common.{◌≡◌, ℕ, ◌+◌, ◌-◌, ◌/◌, ◌%◌, ◌<◌, ◌≤◌, ◌⊎◌, if◌then◌else◌, nat_lt, Bool, true, false, List, [], ◌∷◌, length, suc, get_or, refl, sym, ◌∙◌, ap, subst, arith, inl, inr}
+use Rattle.std.proofs.lemmas.Bool.{cases_Bool}
 use Rattle.std.proofs.lemmas.Bool.Decides.{nat_tests}
 use Rattle.plain_term.specs.Measures.{flat_of_all}
 use Rattle.plain_term.specs.Tree.{Tree, Trees}
@@ -13,7 +14,6 @@ use Rattle.cheney.specs.Plan.{Plan, Ready, Reached, Leaves, size, first}
 use Rattle.cheney.specs.Moved.{moved, forward, IsImage}
 use Rattle.cheney.specs.Zones.{Marks, IsCopy, Row, IsRowOfCopies, Gone, Invariant, scanned_at}
 use Rattle.cheney.specs.Collected.{IsMoved, IsFilled, IsLeftOrMoved, FollowsMoves, Collected, AreImages, Composes}
-use Rattle.term_words.proofs.Totals.Members.{true-or-false}
 use Rattle.cheney.proofs.Before.Basics.{moved-boxed, same-room, not-both, leaves-or-not, size-some}
 use Rattle.cheney.proofs.After.Counts.{words-bounded}
 use Rattle.cheney.proofs.Before.Ground.{Ground, not-shown, shown-header, stay-not-shown}
@@ -76,7 +76,7 @@ module _ (p : Plan) (y : Ready p) (g : Ground p) (m : List ℕ) (top : Bool → 
   -- What stays points to nothing that moves.
   not-from-stay : (v j x : ℕ) → Reached p v → IsPointer v → (Leaves p v → ⊥) → first p v ≤ j → j < size p v → x ≡ get_or p.start (v / 4 + j) 0 → Leaves p x → ⊥
   not-from-stay v j x r w n from below e l =
-      let s : p.stay (v / 4) ≡ true = elim (true-or-false (p.stay (v / 4))) [ inl t ↦ t | inr f ↦ absurd (n (record { pointer = w; leaves = f })) ] in
+      let s : p.stay (v / 4) ≡ true = elim (cases_Bool (p.stay (v / 4))) [ inl t ↦ t | inr f ↦ absurd (n (record { pointer = w; leaves = f })) ] in
       let P : ℕ → Type 0 = λ z. Leaves p z in
       y.closed v j r w s from below (subst P e l)
 
@@ -162,7 +162,7 @@ module _ (p : Plan) (y : Ready p) (g : Ground p) (m : List ℕ) (top : Bool → 
         })
 
     home : (w x : ℕ) → Reached p w → IsPointer w → IsImage p m w x → Home p m d w x
-    home w x r t im = elim (true-or-false (p.stay (w / 4))) [
+    home w x r t im = elim (cases_Bool (p.stay (w / 4))) [
       | inl s ↦ home-stays w x r t s (im.kept (λ l. not-both (p.stay (w / 4)) s l.leaves))
       | inr n ↦ (let l : Leaves p w = record { pointer = t; leaves = n } in home-moved w x r l (im.gone l).1)
     ]

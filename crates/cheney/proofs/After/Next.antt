@@ -1,7 +1,7 @@
 -- The roles of the new memory's words, and a collection that begins where one has ended.
 use Rattle.std.proofs.Common.{◌≡◌, ℕ, ◌+◌, ◌-◌, ◌*◌, ◌/◌, ◌%◌, ◌<◌, ◌≤◌, ◌⊎◌, ◌==◌, Bool, true, false, List, [], ◌∷◌, ◌++◌, length, get_or, refl, sym, ◌∙◌, ap, subst, arith, inl, inr, if◌then◌else◌, nat_le, nat_lt, ◌&&◌, ◌||◌}
 use Rattle.std.proofs.lemmas.Bool.Decides.{nat_tests}
-use Rattle.std.proofs.lemmas.Bool.{and_parts}
+use Rattle.std.proofs.lemmas.Bool.{and_parts, cases_Bool}
 use Rattle.plain_term.specs.Tree.{Trees}
 use Rattle.term_words.specs.Object.{IsPointer, object_words}
 use Rattle.term_words.specs.Reach.{Reach, first_traced}
@@ -20,7 +20,7 @@ use Rattle.cheney.specs.Collected.{Collected, IsMoved, RootsMoved, used}
 use Rattle.cheney.specs.Next.{CollectionGoesOn, HasRoles, IsCarried, IsTiled, Remains, Succeeds}
 use Rattle.cheney.proofs.Before.Basics.{not-both, leaves-or-not, size-some}
 use Rattle.cheney.proofs.Rooted.Begins.{done}
-use Rattle.term_words.proofs.Totals.Members.{both-total, true-or-false}
+use Rattle.term_words.proofs.Totals.Members.{both-total}
 use Rattle.cheney.proofs.After.Counts.{in-row}
 use Rattle.cheney.proofs.After.Ends.{Covers, covers, old_place, row-total, fresh, shape-image}
 use Rattle.cheney.proofs.Before.Ground.{ground}
@@ -131,9 +131,9 @@ module _ (p : Plan) (y : Ready p) (m : List ℕ) (top : Bool → ℕ) (o : Colle
     unfolding new_test origin
     role-comes a k h =
         let (there, allowed) = and_parts (p.test (origin p top (λ c. (o.filled c).each) a) k) (in_use p top true a || (in_use p top false a || s a k)) h in
-        elim (true-or-false (in_use p top true a)) [
+        elim (cases_Bool (in_use p top true a)) [
           | inl t ↦ inl (from-copy a k true (use-is p top true a t).0 (use-is p top true a t).1 there)
-          | inr f ↦ elim (true-or-false (in_use p top false a)) [
+          | inr f ↦ elim (cases_Bool (in_use p top false a)) [
             | inl t ↦ inl (from-copy a k false (use-is p top false a t).0 (use-is p top false a t).1 there)
             | inr g ↦ inr (by-neither (p.test (origin p top (λ c. (o.filled c).each) a) k) (p.test a k) (in_use p top true a) (in_use p top false a) (s a k) f g (rw (f, g) refl) there allowed)
           ]
@@ -272,7 +272,7 @@ module _ (p q : Plan) (m : List ℕ) (mv : Moving) (run : Runs p m mv (at_object
   listed-again : (b : Bool) (w : ℕ) → Reached q w → Leaves q w → In w (forwards m (o.filled true).each ++ forwards m (o.filled false).each)
   listed-again b w t l =
       let (v, (tv, (lv, e))) = left w t l in
-      elim (true-or-false (p.mature (v / 4))) [
+      elim (cases_Bool (p.mature (v / 4))) [
         | inl aged ↦ in-joined w (forwards m (o.filled true).each) (forwards m (o.filled false).each) (inl (in-forwards m v w (o.filled true).each ((o.filled true).all v tv lv aged) e))
         | inr young ↦ in-joined w (forwards m (o.filled true).each) (forwards m (o.filled false).each) (inr (in-forwards m v w (o.filled false).each ((o.filled false).all v tv lv young) e))
       ]

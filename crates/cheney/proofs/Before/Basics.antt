@@ -1,11 +1,11 @@
 -- Tags, sizes and forwarding words.
 use Rattle.std.proofs.Common.{◌≡◌, ℕ, ◌+◌, ◌/◌, ◌%◌, ◌<◌, ◌≤◌, ◌⊎◌, Bool, true, false, List, get_or, refl, sym, ◌∙◌, ap, arith, inl, inr, if◌then◌else◌, ◌==◌}
 use Rattle.std.proofs.lemmas.Bool.Decides.{nat_tests}
-use Rattle.std.proofs.lemmas.Bool.{true≢false, cases_Bool}
+use Rattle.std.proofs.lemmas.Bool.{true≢false, cases_Bool, cases_eq}
 use Rattle.term_words.specs.Object.{IsPointer, object_words}
 use Rattle.term_words.specs.Reach.{first_of, part}
 use Rattle.term_tags.specs.Table.{layout_for}
-use Rattle.term_words.proofs.Totals.Members.{one-or-not, pointer-or-not}
+use Rattle.term_words.proofs.Totals.Members.{pointer-or-not}
 use Rattle.cheney.specs.Plan.{Plan, Reached, Leaves, IsIn, size, first}
 use Rattle.cheney.specs.Moved.{moved, forward, Shows}
 
@@ -85,10 +85,10 @@ reach-part p v k r i from below = part v k (get_or p.start (v / 4 + k) 0) r i fr
 
 pub shows-or-not : (w q : ℕ) → Shows w q ⊎ (Shows w q → ⊥)
 shows-or-not w q =
-    elim (one-or-not q (w / 4)) [
+    elim (cases_eq q (w / 4)) [
       | inl e ↦ inl (inl e)
-      | inr n ↦ elim (one-or-not (w % 4) 1) [
+      | inr n ↦ elim (cases_eq (w % 4) 1) [
         | inr t ↦ inr (λ s. elim s [ inl a ↦ n a | inr a ↦ t a.0 ])
-        | inl t ↦ elim (one-or-not q (w / 4 + 1)) [ inl e ↦ inl (inr (t, e)) | inr u ↦ inr (λ s. elim s [ inl a ↦ n a | inr a ↦ u a.1 ]) ]
+        | inl t ↦ elim (cases_eq q (w / 4 + 1)) [ inl e ↦ inl (inr (t, e)) | inr u ↦ inr (λ s. elim s [ inl a ↦ n a | inr a ↦ u a.1 ]) ]
       ]
     ]

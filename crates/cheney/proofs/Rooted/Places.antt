@@ -1,6 +1,7 @@
 -- Words at places of the memory with a step between, moved one by one.
 use Rattle.std.proofs.Common.{◌≡◌, ℕ, zero, suc, ◌+◌, ◌*◌, ◌<◌, ◌≤◌, ◌⊎◌, ◌==◌, ◌||◌, Bool, true, false, List, length, get_or, set, refl, sym, ◌∙◌, ap, subst, arith, inl, inr}
 use Rattle.std.proofs.Math.Nat.{mul-le-mul_right, suc-mul}
+use Rattle.std.proofs.lemmas.Bool.{cases_Bool, cases_eq}
 use Rattle.std.proofs.lemmas.Bool.Decides.{nat_tests}
 use Rattle.std.proofs.lemmas.List.{get_or-set_other, get_or-set_same}
 use Rattle.cheney.specs.declared.moving.Moving.{Moving}
@@ -11,7 +12,6 @@ use Rattle.cheney.specs.Rooms.{Runs, top_of}
 use Rattle.cheney.specs.Calls.{CanMove, Evacuated, Later, either, nowhere}
 use Rattle.cheney.specs.Collected.{IsBeside}
 use Rattle.cheney.specs.Roots.{AreRoots, CanMoveAt, EvacuatedAt, IsFreePlace, PlacesEvacuated, in_places, is_at, words_at}
-use Rattle.term_words.proofs.Totals.Members.{one-or-not, true-or-false}
 use Rattle.cheney.proofs.Before.Basics.{not-both}
 use Rattle.cheney.proofs.Rooted.Begins.{beside-grows, beside-runs, free-aside, image-beside, image-kept, write-beside}
 use Rattle.cheney.proofs.Before.Ground.{ground}
@@ -152,12 +152,12 @@ module _ (p : Plan) (old mem : List ℕ) (mv : Moving) (k : Marks) (from step n 
     places-further = record {
       runs = one.runs;
       later = later-wider p (either (in_places from step n) (is_at (from + i * step))) (in_places from step n) old mem2
-          (λ q h. elim (true-or-false (in_places from step n q)) [
+          (λ q h. elim (cases_Bool (in_places from step n q)) [
             | inl t ↦ t
             | inr f ↦ in-place from step n i q less (is-this (from + i * step) q
                 (let e : (in_places from step n q || ((from + i * step) == q)) ≡ ((from + i * step) == q) = (rw f refl) in sym e ∙ h))
           ]) (later-then p (in_places from step n) (is_at (from + i * step)) old mem mem2 c.later one.later);
-      done = λ j below in_range. elim (one-or-not j i) [
+      done = λ j below in_range. elim (cases_eq j i) [
         | inl same ↦ (let P : ℕ → Type 0 = λ z. IsImage p mem2 (get_or old (from + z * step) 0) (get_or mem2 (from + z * step) 0) in
             let Q : ℕ → Type 0 = λ z. IsImage p mem2 z (get_or mem2 (from + i * step) 0) in
             subst P (sym same) (subst Q (c.todo i (omega arith) less) one.image))

@@ -1,8 +1,9 @@
 -- Roots by membership and list by list, a row of them moved one by one, and a whole collection from a row.
 use Rattle.std.proofs.Common.{◌≡◌, ℕ, zero, suc, ◌+◌, ◌<◌, ◌≤◌, ◌⊎◌, Bool, true, List, [], ◌∷◌, ◌++◌, length, get_or, set, refl, sym, ◌∙◌, ap, subst, arith, inl, inr}
+use Rattle.std.proofs.lemmas.Bool.{cases_eq}
 use Rattle.std.proofs.lemmas.List.{length-set, get_or-set_other, get_or-set_same}
 use Rattle.term_words.specs.Reach.{Reach, root}
-use Rattle.term_words.proofs.Totals.Members.{in-left, in-right, one-or-not, in-at}
+use Rattle.term_words.proofs.Totals.Members.{in-left, in-right, in-at}
 use Rattle.cheney.specs.declared.moving.Moving.{Moving}
 use Rattle.term_words.specs.Counted.{In}
 use Rattle.cheney.specs.Plan.{Leaves, Plan, Ready, Reached}
@@ -109,7 +110,7 @@ module _ (p : Plan) (old mem : List ℕ) (mv : Moving) (k : Marks) (vs ws : List
     runs = ev.runs;
     later = later-then p nowhere nowhere old mem mem2 c.later ev.later;
     count = length-set ws i x ∙ c.count;
-    done = λ j below in_range. elim (one-or-not j i) [
+    done = λ j below in_range. elim (cases_eq j i) [
       | inl same ↦ (let now : get_or (set ws i x) i 0 ≡ x = (rw get_or-set_same refl) in
           let P : ℕ → Type 0 = λ z. IsImage p mem2 (get_or vs z 0) (get_or (set ws i x) z 0) in
           let Q : ℕ → Type 0 = λ z. IsImage p mem2 (get_or vs i 0) z in

@@ -1,10 +1,10 @@
 -- One object is moved: the state of the collection is kept.
 use Rattle.std.proofs.Common.{◌≡◌, ℕ, ◌+◌, ◌/◌, ◌%◌, ◌<◌, ◌≤◌, ◌⊎◌, Bool, true, false, List, [], ◌∷◌, ◌++◌, get_or, refl, sym, ◌∙◌, ap, subst, arith, inl, inr}
+use Rattle.std.proofs.lemmas.Bool.{cases_eq}
 use Rattle.term_words.specs.Object.{IsPointer}
 use Rattle.cheney.specs.Plan.{Plan, Reached, Leaves, IsIn, size}
 use Rattle.cheney.specs.Moved.{moved, forward, IsImage, Shows, Copies}
 use Rattle.cheney.specs.Zones.{Marks, IsShown, IsCopy, Row, IsRowOfCopies, Gone, StillFits, Invariant, scanned_at, object_at}
-use Rattle.term_words.proofs.Totals.Members.{one-or-not}
 use Rattle.cheney.proofs.Before.Basics.{shows-or-not, reach-part, same-room, not-both, moved-same, forward-same, size-some, size-cons, shows-in}
 use Rattle.cheney.proofs.Before.Ground.{Ground}
 use Rattle.cheney.proofs.Stepping.Facts.{Grows, image-later, row-later, row-more, Without, without}
@@ -109,7 +109,7 @@ module _ (p : Plan) (g : Ground p) (m n : List ℕ) (top more : Bool → ℕ) (k
   gone-now : (v : ℕ) → Reached p v → Leaves p v → moved n v ≡ true → Gone p n more (scanned_at k) v (forward n v)
   gone-now v s j y =
       let P : ℕ → Type 0 = λ z. Gone p n more (scanned_at k) v z in
-      elim (one-or-not v w) [
+      elim (cases_eq v w) [
         | inl e ↦ (let Q : ℕ → Type 0 = λ z. Gone p n more (scanned_at k) z (forward n z) in
             let R : ℕ → Type 0 = λ z. Gone p n more (scanned_at k) w z in
             subst Q (sym e) (subst R (sym c.found) new-gone))
@@ -127,13 +127,13 @@ module _ (p : Plan) (g : Ground p) (m n : List ℕ) (top more : Bool → ℕ) (k
   apart-now : (v u : ℕ) → Reached p v → Leaves p v → moved n v ≡ true → Reached p u → Leaves p u → moved n u ≡ true → p.mature (v / 4) ≡ p.mature (u / 4)
       → (v ≡ u) ⊎ ((forward n v / 4 + size p v ≤ forward n u / 4) ⊎ (forward n u / 4 + size p u ≤ forward n v / 4))
   apart-now v u s j y t h z e =
-      elim (one-or-not v w) [
-        | inl a ↦ elim (one-or-not u w) [
+      elim (cases_eq v w) [
+        | inl a ↦ elim (cases_eq u w) [
           | inl b ↦ inl (a ∙ sym b)
           | inr ne ↦ (let f : forward n v ≡ x = ap (forward n) a ∙ c.found in
               inr (inr (rw f (old-below u t h (before u t h z ne) (sym e ∙ ap (λ q. p.mature (q / 4)) a)))))
         ]
-        | inr ne ↦ elim (one-or-not u w) [
+        | inr ne ↦ elim (cases_eq u w) [
           | inl b ↦ (let f : forward n u ≡ x = ap (forward n) b ∙ c.found in
               inr (inl (rw f (old-below v s j (before v s j y ne) (e ∙ ap (λ q. p.mature (q / 4)) b)))))
           | inr nu ↦ rw (forward-other v s j.pointer ne, forward-other u t h.pointer nu) (i.apart v u s j (before v s j y ne) t h (before u t h z nu) e)
@@ -204,7 +204,7 @@ module _ (p : Plan) (g : Ground p) (m n : List ℕ) (top more : Bool → ℕ) (k
     ends = more-high;
     still = λ v q s j y h. others-same v q s j (λ e. not-both (p.stay (w / 4)) (ap (λ z. p.stay (z / 4)) (sym e) ∙ y) l.leaves) h ∙ i.still v q s j y h;
     waiting = λ v q s j y h. others-same v q s j.pointer (waits v s j y).0 h ∙ i.waiting v q s j (waits v s j y).1 h;
-    tails = λ v q s j tag h after. elim (one-or-not v w) [
+    tails = λ v q s j tag h after. elim (cases_eq v w) [
       | inl e ↦ (let own : IsIn p w q = (let P : ℕ → Type 0 = λ z. IsIn p z q in subst P e h) in
           own-same q own (λ z. elim z [ inl a ↦ omega arith | inr a ↦ omega (arith, a.0) ]) ∙ i.tails v q s j tag h after)
       | inr ne ↦ others-same v q s j.pointer ne h ∙ i.tails v q s j tag h after

@@ -2,7 +2,7 @@
 use Rattle.std.proofs.Common.{◌≡◌, ℕ, ◌+◌, ◌-◌, ◌/◌, ◌%◌, ◌<◌, ◌≤◌, ◌⊎◌, Bool, true, false, List, length, get_or, set, refl, sym, ◌∙◌, ap, subst, arith, inl, inr}
 use Rattle.std.proofs.lemmas.Bool.Decides.{nat_tests}
 use Rattle.std.proofs.lemmas.List.{get_or-set_other}
-use Rattle.std.proofs.lemmas.Bool.{or_parts}
+use Rattle.std.proofs.lemmas.Bool.{or_parts, cases_Bool}
 use Rattle.term_words.specs.Object.{IsPointer, object_words}
 use Rattle.term_words.specs.Reach.{first_of}
 use Rattle.term_tags.specs.Table.{layout_for}
@@ -15,7 +15,6 @@ use Rattle.cheney.specs.Moved.{moved, forward, IsImage, Copies}
 use Rattle.cheney.specs.Zones.{Marks, Gone, IsPart, IsCopy, StillFits, Invariant, scanned_at, object_at, mark, at_objects}
 use Rattle.cheney.specs.Rooms.{FromMoves, top_of, RoomsAgree, Runs, Advances}
 use Rattle.cheney.specs.Calls.{CanMove, Copied, IsFresh, Went, either, nowhere, Later, Evacuated, CanOpen, CanStep, RunsOn, Shape}
-use Rattle.term_words.proofs.Totals.Members.{true-or-false}
 use Rattle.term_words.proofs.Placing.Apart.{words-cons, words-header}
 use Rattle.cheney.proofs.Before.Basics.{moved-cons, moved-boxed, forward-cons, forward-boxed, not-both, reach-part, size-words, size-some, size-cons, size-boxed, first-cons, first-boxed}
 use Rattle.cheney.proofs.Before.Ground.{Ground, ground}
@@ -158,7 +157,7 @@ pub later-wider : (p : Plan) (s t : ℕ → Bool) (a b : List ℕ) → ((q : ℕ
 later-wider p s t a b wide g = record {
   gone = g.gone;
   same = g.same;
-  elsewhere = λ q past x y. g.elsewhere q (elim (true-or-false (s q)) [ inl e ↦ absurd (not-both (t q) (wide q e) past) | inr e ↦ e ]) x y;
+  elsewhere = λ q past x y. g.elsewhere q (elim (cases_Bool (s q)) [ inl e ↦ absurd (not-both (t q) (wide q e) past) | inr e ↦ e ]) x y;
 }
 
 pub later-grows : (p : Plan) (s : ℕ → Bool) (a b : List ℕ) → Later p s a b → Grows p a b

@@ -1,11 +1,11 @@
 -- A scanned word is written, and a room's marks go on: the state of the collection is kept.
 use Rattle.std.proofs.Common.{◌≡◌, ℕ, ◌+◌, ◌/◌, ◌<◌, ◌≤◌, ◌⊎◌, Bool, true, false, List, [], ◌∷◌, length, get_or, set, refl, sym, ◌∙◌, ap, subst, arith, inl, inr}
+use Rattle.std.proofs.lemmas.Bool.{cases_eq}
 use Rattle.std.proofs.lemmas.List.{length-set, get_or-set_other, get_or-set_same}
 use Rattle.term_words.specs.Object.{IsPointer}
 use Rattle.cheney.specs.Plan.{Plan, Reached, Leaves, IsIn, size, first}
 use Rattle.cheney.specs.Moved.{moved, forward, IsImage}
 use Rattle.cheney.specs.Zones.{Marks, IsCopy, IsPart, Row, IsRowOfCopies, Gone, Invariant, scanned_at, object_at, mark}
-use Rattle.term_words.proofs.Totals.Members.{one-or-not}
 use Rattle.cheney.proofs.Before.Basics.{reach-part, same-room, moved-same, forward-same, size-some, size-cons}
 use Rattle.cheney.proofs.Before.Ground.{Ground}
 use Rattle.cheney.proofs.Stepping.Facts.{Grows, image-later, row-later, copy-later}
@@ -121,7 +121,7 @@ module _ (p : Plan) (g : Ground p) (m : List ℕ) (top : Bool → ℕ) (k : Mark
         image = λ j q from less e low.
             let v : ℕ → Type 0 = λ x. IsImage p (set m place y) (get_or p.start (u / 4 + j) 0) x in
             let reach : Reached p (get_or p.start (u / 4 + j) 0) = reach-part p u j r l.pointer from less in
-            elim (one-or-not q place) [
+            elim (cases_eq q place) [
               | inl same ↦ (let done : (scanned_at k (p.mature (u / 4)) ≤ q) ⊎ (j < first p u) = elim (same-room (p.mature (u / 4)) b) [
                 | inl c ↦ inl (let P : Bool → Type 0 = λ x. scanned_at k x ≤ q in subst P (sym c) (omega arith))
                 | inr ne ↦ absurd (let away : (p.high (p.mature (u / 4)) ≤ p.low b) ⊎ (p.high b ≤ p.low (p.mature (u / 4))) = g.rooms (p.mature (u / 4)) b ne in

@@ -1,6 +1,7 @@
 -- A sweep goes on: the next object joins the new chain, or the count of its record is lowered.
 use Rattle.std.proofs.Common.{◌≡◌, ℕ, ◌+◌, ◌-◌, ◌/◌, ◌%◌, ◌<◌, ◌≤◌, ◌⊎◌, ◌==◌, if◌then◌else◌, Bool, true, false, List, [], ◌∷◌, Option, Some, None, length, get_or, set}
 use Rattle.std.proofs.Common.{true≢false, refl, sym, ◌∙◌, ap, subst, arith, inl, inr, length-set, get_or-set_other}
+use Rattle.std.proofs.lemmas.Bool.{cases_Bool}
 use Rattle.std.specs.Option.{is_some}
 use Rattle.std.proofs.lemmas.Bool.Decides.{nat_tests}
 use Rattle.std.proofs.lemmas.Grind.{get_or-set_at}
@@ -9,7 +10,6 @@ use Rattle.term_words.specs.Object.{IsRecord}
 use Rattle.term_words.specs.Kept.{Kept, Keeps}
 use Rattle.term_words.specs.Counted.{In, Distinct}
 use Rattle.term_words.proofs.Framing.Frames.{frame}
-use Rattle.term_words.proofs.Totals.Members.{true-or-false}
 use Rattle.shared_rec.specs.Record.{count_in}
 use Rattle.shared_rec.proofs.Records.{record-stays, record-counted}
 use Rattle.off_heap_list.specs.Links.{names_it, name_place, named, Leads, Chain, naming, IsLink, Links}
@@ -683,13 +683,13 @@ freed-as : (v n : ℕ) (b : Bool) → (n == 0) ≡ b → freed_at v n ≡ (if b 
 freed-as v n b e = ap (λ x. if x then Some v else None) e
 
 pub freed-zero : (x : Option ℕ) (v n : ℕ) → x ≡ freed_at v n → is_some x ≡ true → n ≡ 0
-freed-zero x v n is h = elim (true-or-false (n == 0)) [
+freed-zero x v n is h = elim (cases_Bool (n == 0)) [
   | inl e ↦ grind (arith, nat_tests, e)
   | inr e ↦ absurd (true≢false (sym h ∙ ap is_some (is ∙ freed-as v n false e)))
 ]
 
 pub freed-more : (x : Option ℕ) (v n : ℕ) → x ≡ freed_at v n → is_some x ≡ false → 0 < n
-freed-more x v n is h = elim (true-or-false (n == 0)) [
+freed-more x v n is h = elim (cases_Bool (n == 0)) [
   | inl e ↦ absurd (true≢false (sym (ap is_some (is ∙ freed-as v n true e)) ∙ h))
   | inr e ↦ grind (arith, nat_tests, e)
 ]

@@ -1,6 +1,7 @@
 -- A whole chain is swept, object by object.
 use Rattle.std.proofs.Common.{◌≡◌, ℕ, ◌+◌, ◌*◌, ◌/◌, ◌%◌, ◌<◌, ◌≤◌, ◌⊎◌, ◌==◌, if◌then◌else◌, Bool, true, false, List, [], ◌∷◌, Option, Some, None, length, zero, suc, get_or}
 use Rattle.std.proofs.Common.{refl, sym, ◌∙◌, ap, subst, arith, inl, inr}
+use Rattle.std.proofs.lemmas.Bool.{cases_Bool}
 use Rattle.std.proofs.lemmas.Bool.Decides.{nat_tests}
 use Rattle.plain_term.specs.Measures.{bin_words}
 use Rattle.term_tags.specs.Words.{head_word}
@@ -10,7 +11,7 @@ use Rattle.term_words.specs.Object.{IsRecord}
 use Rattle.term_words.specs.Kept.{Kept}
 use Rattle.term_words.specs.Counted.{In, Distinct, total}
 use Rattle.term_words.proofs.Framing.Frames.{frame}
-use Rattle.term_words.proofs.Totals.Members.{Less, less, true-or-false}
+use Rattle.term_words.proofs.Totals.Members.{Less, less}
 use Rattle.shared_rec.specs.Record.{count_in, length_in}
 use Rattle.off_heap_list.specs.Links.{named, IsLink, Links}
 use Rattle.off_heap_list.specs.Swept.{is_moved, new_place, held_words, count_less, freed_at, joined, ends_record, ended, IsOld, Relinked, Sweeping, Since}
@@ -54,7 +55,7 @@ holds-by : (mem : List ℕ) (p : ℕ) (b : Bool) (h : ℕ) → (get_or mem p 0 =
 holds-by mem p b h e = ap (λ x. if x then bin_words (get_or mem (p + 1) 0) else 0) e
 
 pub held-few : (c : ℕ → ℕ → Bool) (mem : List ℕ) (p : ℕ) → IsLink c mem p → held_words mem p ≤ length mem
-held-few c mem p l = elim (true-or-false (get_or mem p 0 == head_word HOLDER 5)) [
+held-few c mem p l = elim (cases_Bool (get_or mem p 0 == head_word HOLDER 5)) [
   | inl same ↦
       let h : get_or mem p 0 ≡ head_word HOLDER 5 = grind (arith, nat_tests, same) in
       let P : ℕ → Type 0 = λ x. bin_words x ≤ length mem in
@@ -67,7 +68,7 @@ pub held-stays : (c d : ℕ → ℕ → Bool) (old new : List ℕ) (p : ℕ) →
 held-stays c d old new p k l =
     let first : get_or new p 0 ≡ get_or old p 0 = k.same p FIRST (omega arith) l.first in
     ap (λ x. if x == head_word HOLDER 5 then bin_words (get_or new (p + 1) 0) else 0) first
-    ∙ elim (true-or-false (get_or old p 0 == head_word HOLDER 5)) [
+    ∙ elim (cases_Bool (get_or old p 0 == head_word HOLDER 5)) [
       | inl same ↦
           let h : get_or old p 0 ≡ head_word HOLDER 5 = grind (arith, nat_tests, same) in
           ap (λ x. if x then bin_words (get_or new (p + 1) 0) else 0) same
@@ -192,7 +193,7 @@ pub record Tells (mem : List ℕ) (head : ℕ) (moved told : Option ℕ) (more :
 
 module _ (mem : List ℕ) (head : ℕ) (moved told : Option ℕ) (more : ℕ) (t : Tells mem head moved told more) where
   moved-one : one_of moved ≡ (if is_moved mem head then 1 else 0)
-  moved-one = elim (true-or-false (is_moved mem head)) [
+  moved-one = elim (cases_Bool (is_moved mem head)) [
     | inl is ↦ ap one_of (t.if_moved is).0 ∙ sym (ap (λ b. if b then 1 else 0) is)
     | inr is ↦ ap one_of (t.if_left is).0 ∙ sym (ap (λ b. if b then 1 else 0) is)
   ]
@@ -202,7 +203,7 @@ module _ (mem : List ℕ) (head : ℕ) (moved told : Option ℕ) (more : ℕ) (t
   told-at false v = refl
 
   told-one : one_of told ≡ (if ends_record mem head then 1 else 0)
-  told-one = elim (true-or-false (is_moved mem head)) [
+  told-one = elim (cases_Bool (is_moved mem head)) [
     | inl is ↦ ap one_of (t.if_moved is).1 ∙ sym (ap (λ b. if (if b then false else count_less mem head == 0) then 1 else 0) is)
     | inr is ↦
         ap one_of (t.if_left is).1
@@ -210,13 +211,13 @@ module _ (mem : List ℕ) (head : ℕ) (moved told : Option ℕ) (more : ℕ) (t
   ]
 
   more-is : more ≡ (if is_moved mem head then held_words mem (new_place mem head) else 0)
-  more-is = elim (true-or-false (is_moved mem head)) [
+  more-is = elim (cases_Bool (is_moved mem head)) [
     | inl is ↦ (t.if_moved is).2 ∙ sym (ap (λ b. if b then held_words mem (new_place mem head) else 0) is)
     | inr is ↦ (t.if_left is).2 ∙ sym (ap (λ b. if b then held_words mem (new_place mem head) else 0) is)
   ]
 
   pub more-few : (c : ℕ → ℕ → Bool) → IsOld c mem head → length mem ≤ 16777216 → more ≤ 16777216
-  more-few c o most = elim (true-or-false (is_moved mem head)) [
+  more-few c o most = elim (cases_Bool (is_moved mem head)) [
     | inl is ↦ omega (arith, (t.if_moved is).2, held-few c mem (new_place mem head) (o.moved is), most)
     | inr is ↦ omega (arith, (t.if_left is).2)
   ]

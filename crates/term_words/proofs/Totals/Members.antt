@@ -1,7 +1,6 @@
 -- Words in lists without repetition.
 use Rattle.std.proofs.Common.{◌≡◌, ℕ, zero, suc, ◌+◌, ◌%◌, ◌<◌, ◌≤◌, ◌⊎◌, Bool, true, List, [], ◌∷◌, ◌++◌, length, get_or, refl, sym, ◌∙◌, ap, subst, arith, inl, inr, filter, cond}
 use Rattle.std.proofs.lemmas.Bool.{cases_eq, cases_Bool}
-pub use Rattle.std.proofs.lemmas.Bool.{cases_Bool as true-or-false, cases_eq as one-or-not}
 use Rattle.term_words.specs.Object.{IsPointer}
 use Rattle.term_words.specs.Counted.{In, Distinct, total}
 
