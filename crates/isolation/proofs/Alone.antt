@@ -14,7 +14,7 @@ use Rattle.plain_machine.specs.Tightness.{grow}
 use Rattle.plain_machine.specs.Step.{Outcome}
 use Rattle.plain_machine.specs.Step.Outcome.{Accepted, Refused, Mapped}
 use Rattle.plain_machine.specs.Run.{CommandStep, Gives}
-use Rattle.plain_machine.specs.Laws.{HoldsProper}
+use Rattle.plain_machine.specs.Laws.{HoldsProper, IsNumbered}
 use Rattle.plain_machine.proofs.Properly.Living.{first-proper}
 use Rattle.named_trees.specs.NamedTree.{named}
 use Rattle.isolation.specs.Events.{Event, IsEvent, IsAnswered, Tells, NoneShort, IsShort}
@@ -25,7 +25,7 @@ use Rattle.isolation.specs.Laws.{AreAlone, RunsIsolate, SameViewsSameReplies}
 use Rattle.isolation.proofs.ByName.{IsKnownIn}
 use Rattle.isolation.proofs.Others.{Comes}
 use Rattle.isolation.proofs.Alike.{Alike, known-in, answers-alike, own-alike, after_all, solo-append, messages-silent, behind, passes-alike, born-alike, first-alike}
-use Rattle.isolation.proofs.Births.{passes-births, comes-births, births-are}
+use Rattle.isolation.proofs.Births.{passes-births, comes-births, births-are, born-once}
 use Rattle.isolation.proofs.Solitary.{solitary-first}
 use Rattle.isolation.proofs.Told.{Brings, event-brings, areas-none, event-proper, run-events}
 
@@ -135,12 +135,18 @@ first-alone may words quits new events told ample p = events-alone may words qui
 
 pub isolates : RunsIsolate
 isolates may words quits lines replies new run =
-    let h = run-events may words quits first_state new lines replies run in record {
+    let h = run-events may words quits first_state new lines replies run in
+    let numbered : IsNumbered first_state = record { numbered = (omega arith, omega arith) } in
+    record {
       events = h.events;
       told = h.told;
       lines_are = h.lines_are;
       replies_are = h.replies_are;
-      spawned = births-are may words quits first_state new h.events (record { numbered = (omega arith, omega arith) }) h.told;
+      spawned = births-are may words quits first_state new h.events numbered h.told;
+      born_once = record {
+        once = λ p. (born-once may words quits p first_state new h.events numbered h.told).once;
+        first = ap length ((born-once may words quits 1 first_state new h.events numbered h.told).none (omega arith));
+      };
       solitary = λ p. solitary-first p h.events;
       alone = first-alone may words quits new h.events h.told;
     }

@@ -1,11 +1,12 @@
--- Who comes to live: a process does with the `spawn` that is answered by its number, and with no other line.
-use Rattle.std.proofs.Common.{◌<◌, ◌≡◌, ℕ, Bool, true, false, cond, not, ◌&&◌, ◌⊎◌, inl, inr, List, [], ◌∷◌, ◌++◌, codes, decimal, Option, Some, None, refl, sym, ap, subst, ◌∙◌, eqb-true, arith}
+-- Who comes to live: a process does with the `spawn` that is answered by its number, with no other line, and once.
+use Rattle.std.proofs.Common.{◌<◌, ◌≤◌, ◌≡◌, ℕ, Bool, true, false, cond, not, ◌&&◌, ◌⊎◌, inl, inr, List, [], ◌∷◌, ◌++◌, length, Option, Some, None, refl, sym, ap, subst, ◌∙◌, eqb-true, arith}
 use Rattle.std.proofs.lemmas.Bool.{eq-eqb}
-use Rattle.std.specs.Prelude.{MatchBool, option_map, is_some}
+use Rattle.std.specs.Prelude.{MatchBool, option_map, is_some, flat_map}
 use Rattle.line_io.specs.Lines.{Line, text, long}
 use Rattle.script_grammar.specs.declared.command.Command.TheVariants.{Process, System}
 use Rattle.script_grammar.specs.declared.command.SysVerb.TheVariants.{Spawn as SpawnVerb}
 use Rattle.script_grammar.specs.declared.command.Verb.{Verb}
+use Rattle.script_grammar.specs.declared.refusal.Refusal.TheVariants.{NoSpace, Procs}
 use Rattle.script_grammar.specs.declared.word.Word.{Word}
 use Rattle.script_grammar.specs.declared.word.SysWord.TheVariants as sys
 use Rattle.script_grammar.specs.Written.{Written, Operands, kinds_of}
@@ -16,15 +17,15 @@ use Rattle.plain_machine.specs.State.{Process as Live, State, process_of, is_liv
 use Rattle.plain_machine.specs.Tightness.{grow}
 use Rattle.plain_machine.specs.Step.{in_process, spawn_if}
 use Rattle.plain_machine.specs.Run.{CommandStep, Gives}
-use Rattle.plain_machine.specs.Laws.{IsNumbered}
+use Rattle.plain_machine.specs.Laws.{IsNumbered, AreFresh}
 use Rattle.plain_machine.proofs.ByLine.Runs.{run-one}
 use Rattle.plain_machine.proofs.Numbering.Numbers.{live-below}
 use Rattle.plain_machine.proofs.Numbering.Numbered.{run-fresh}
 use Rattle.isolation.specs.Events.{Event, IsEvent, IsAnswered, Tells}
 use Rattle.isolation.specs.Views.{Sight, is_own, births}
 use Rattle.isolation.specs.Views.Sight.{born}
-use Rattle.isolation.specs.Laws.{IsSpawnOf, AllBirthsAreSpawns}
-use Rattle.isolation.proofs.Finding.{live-found, none-come}
+use Rattle.isolation.specs.Laws.{IsSpawnOf, AllBirthsAreSpawns, AreRefused}
+use Rattle.isolation.proofs.Finding.{live-found, none-come, same-number}
 use Rattle.isolation.proofs.Others.{Passes, Comes, with_more}
 use Rattle.isolation.proofs.Told.{Brings, event-brings, event-line}
 
@@ -82,27 +83,17 @@ module _ (may : ℕ → State → Parsed → Bool) (words : ℕ) (quits : Bool) 
   own-born long None mine h = absurd (cc)
 
 -- who comes to live
-only-spawns : (may : ℕ → State → Parsed → Bool) (words : ℕ) (quits : Bool) (e : Event) → IsEvent may words quits e → (p : ℕ) → (births p e ≡ []) ⊎ IsSpawnOf p e
+only-spawns : (may : ℕ → State → Parsed → Bool) (words : ℕ) (quits : Bool) (e : Event) → IsEvent may words quits e → (p : ℕ)
+    → (births p e ≡ []) ⊎ ((p ≡ e.before.next) × IsSpawnOf p e)
 only-spawns may words quits e h p = at (is_own p e.said) refl
   where
-    at-brought : Brings p e → (births p e ≡ []) ⊎ IsSpawnOf p e
+    at-brought : Brings p e → (births p e ≡ []) ⊎ ((p ≡ e.before.next) × IsSpawnOf p e)
     at-brought (inl k) = inl (passes-births p e k)
-    at-brought (inr k) = inr (record { said = k.said; replies = k.replies })
+    at-brought (inr k) = inr (k.is_next, record { said = k.said; replies = k.replies })
 
-    at : (b : Bool) → is_own p e.said ≡ b → (births p e ≡ []) ⊎ IsSpawnOf p e
+    at : (b : Bool) → is_own p e.said ≡ b → (births p e ≡ []) ⊎ ((p ≡ e.before.next) × IsSpawnOf p e)
     at true mine = inl (own-born may words quits p e e.line e.said mine h)
     at false apart = at-brought (event-brings may words quits p e e.line e.said refl apart h)
-
--- the first byte of the first reply
-abbrev first_byte : List (List ℕ) → ℕ
-first_byte ((b ∷ bytes) ∷ replies) = b
-first_byte _ = 0
-
-refused-not-ok : (replies : List (List ℕ)) (ok error : List ℕ) → replies ≡ (111 ∷ ok) ∷ [] → replies ≡ (101 ∷ error) ∷ [] → ⊥
-refused-not-ok replies ok error e f = apart 111 101 (sym (ap first_byte e) ∙ ap first_byte f) (omega arith)
-  where
-    apart : (a b : ℕ) → a ≡ b → b < a → ⊥
-    apart a b e less = absurd (omega (arith, e, less))
 
 module _ (may : ℕ → State → Parsed → Bool) (words : ℕ) (quits : Bool) (e : Event) (numbered : IsNumbered e.before) where
   -- none has the next number
@@ -113,47 +104,88 @@ module _ (may : ℕ → State → Parsed → Bool) (words : ℕ) (quits : Bool) 
       at None is = refl
       at (Some q) is = absurd (omega (arith, live-below e.before e.before.next numbered (live-found e.before.next e.before.processes ∙ ap is_some is)))
 
-  spawn-bears : (many : Bool) (p : Parsed) → e.replies ≡ (codes "ok " ++ decimal e.before.next) ∷ [] → Gives (spawn_if many e.before p) e.before (System SpawnVerb) quits e.replies e.after
-      → births e.before.next e ≡ born ∷ []
-  spawn-bears true p is g = absurd (refused-not-ok e.replies (codes "k " ++ decimal e.before.next) (codes "rror procs") is g.said)
+  abbrev BearsNext : Type 0
+  BearsNext = IsSpawnOf e.before.next e × (births e.before.next e ≡ born ∷ [])
+
+  spawn-bears : (many : Bool) (p : Parsed) → e.said ≡ Some (OfSystem sys.Spawn tt) → Gives (spawn_if many e.before p) e.before (System SpawnVerb) quits e.replies e.after
+      → AreRefused e.replies ⊎ BearsNext
+  spawn-bears true p is g = inl (Procs, g.said)
   spawn-bears false p is g =
       let n : ℕ = e.before.next in
       let there : process_of n e.after ≡ Some (fresh_process n) = ap (process_of n) g.is
       ∙ (none-come n (fresh_process n) e.before.processes none-next ∙ ap (λ b. cond b (Some (fresh_process n)) None) (eq-eqb n n refl)) in
       let was : is_live n e.before ≡ false = live-found n e.before.processes ∙ ap is_some none-next in
       let now : is_live n e.after ≡ true = live-found n e.after.processes ∙ ap is_some there in
-      λ i. birth-by (was i) (now i)
+      inr (record { said = is; replies = g.said }, λ i. birth-by (was i) (now i))
 
-  each-spawn : (line : Line) (said : Option Written) → said ≡ Some (OfSystem sys.Spawn tt) → IsAnswered may words quits e line said → e.replies ≡ (codes "ok " ++ decimal e.before.next) ∷ []
-      → births e.before.next e ≡ born ∷ []
-  each-spawn (text line) (Some (OfSystem sys.Spawn ops)) is h told = at h.step
+  each-spawn : (line : Line) (said : Option Written) → e.said ≡ said → said ≡ Some (OfSystem sys.Spawn tt) → IsAnswered may words quits e line said → AreRefused e.replies ⊎ BearsNext
+  each-spawn (text line) (Some (OfSystem sys.Spawn ops)) mine is h = at h.step
     where
-      at : CommandStep may words e.before (parsed_of e.before.names (OfSystem sys.Spawn ops)) quits e.replies e.after → births e.before.next e ≡ born ∷ []
-      at (inl g) = spawn-bears _ (parsed_of e.before.names (OfSystem sys.Spawn ops)) told g
-      at (inr k) = absurd (refused-not-ok e.replies (codes "k " ++ decimal e.before.next) (codes "rror nospace " ++ decimal (grow e.before (parsed_of e.before.names (OfSystem sys.Spawn ops)))) told k.refuses.said)
-  each-spawn (text line) (Some (OfSystem w ops)) is h told = absurd (cc)
-  each-spawn (text line) (Some (OfProcess n w ops)) is h told = absurd (cc)
-  each-spawn (text line) (Some Nothing) is h told = absurd (cc)
-  each-spawn (text line) None is h told = absurd (cc)
-  each-spawn long (Some w) is h told = absurd h
-  each-spawn long None is h told = absurd (cc)
+      at : CommandStep may words e.before (parsed_of e.before.names (OfSystem sys.Spawn ops)) quits e.replies e.after → AreRefused e.replies ⊎ BearsNext
+      at (inl g) = spawn-bears _ (parsed_of e.before.names (OfSystem sys.Spawn ops)) (mine ∙ is) g
+      at (inr k) = inl (NoSpace (grow e.before (parsed_of e.before.names (OfSystem sys.Spawn ops))), k.refuses.said)
+  each-spawn (text line) (Some (OfSystem w ops)) mine is h = absurd (cc)
+  each-spawn (text line) (Some (OfProcess n w ops)) mine is h = absurd (cc)
+  each-spawn (text line) (Some Nothing) mine is h = absurd (cc)
+  each-spawn (text line) None mine is h = absurd (cc)
+  each-spawn long (Some w) mine is h = absurd h
+  each-spawn long None mine is h = absurd (cc)
 
--- numbers stay so over an event
-event-numbered : (may : ℕ → State → Parsed → Bool) (words : ℕ) (quits : Bool) (e : Event) → IsEvent may words quits e → IsNumbered e.before → IsNumbered e.after
-event-numbered may words quits e h k = (run-fresh may words quits e.before e.after (e.line ∷ []) e.replies k
-    (run-one may words quits e.before e.after e.line e.replies (event-line may words quits e e.line e.said h))).numbered
+-- numbers stay so over an event, and new ones are fresh
+event-fresh : (may : ℕ → State → Parsed → Bool) (words : ℕ) (quits : Bool) (e : Event) → IsEvent may words quits e → IsNumbered e.before → AreFresh e.before e.after
+event-fresh may words quits e h k = run-fresh may words quits e.before e.after (e.line ∷ []) e.replies k
+    (run-one may words quits e.before e.after e.line e.replies (event-line may words quits e e.line e.said h))
 
 pub births-are : (may : ℕ → State → Parsed → Bool) (words : ℕ) (quits : Bool) (s new : State) (events : List Event) → IsNumbered s → Tells may words quits s events new → AllBirthsAreSpawns events
 unfolding Tells
 births-are may words quits s new [] numbered told = tt
 births-are may words quits s new (e ∷ events) numbered told =
     let before : IsNumbered e.before = subst IsNumbered (sym (told.1)) numbered in
-    let after : IsNumbered e.after = event-numbered may words (told.0) e (told.2) before in (
-      record { only = only-spawns may words (told.0) e (told.2); each = λ k. each-spawn may words (told.0) e before e.line e.said k.said (told.2) k.replies },
+    let after : IsNumbered e.after = (event-fresh may words (told.0) e (told.2) before).numbered in (
+      record { only = only-spawns may words (told.0) e (told.2); each = λ k. each-spawn may words (told.0) e before e.line e.said refl k (told.2) },
       at (told.0) (told.3) (λ k. births-are may words quits e.after new events after k),
     )
   where
     at : (ends : Bool) → MatchBool ends ((quits ≡ true) × (events ≡ []) × (new ≡ e.after)) (Tells may words quits e.after events new)
         → (Tells may words quits e.after events new → AllBirthsAreSpawns events) → AllBirthsAreSpawns events
     at true k rest = subst AllBirthsAreSpawns (sym (k.1)) tt
+    at false k rest = rest k
+
+-- the births of a process from a state on: at most one, and none where its number was given before
+pub record OnceFrom (p low : ℕ) (all : List Sight) : Type 0 where
+  pub once : length all ≤ 1
+  pub none : p < low → all ≡ []
+
+once-later : (p n m : ℕ) (one rest : List Sight) → one ≡ [] → n ≤ m → OnceFrom p m rest → OnceFrom p n (one ++ rest)
+once-later p n m one rest e less h = subst (λ (z : List Sight). OnceFrom p n (z ++ rest)) (sym e) (record { once = h.once; none = λ below. h.none (omega (arith, below, less)) })
+
+once-now : (p n m : ℕ) (one rest : List Sight) → one ≡ born ∷ [] → (n ≤ p) × (p < m) → OnceFrom p m rest → OnceFrom p n (one ++ rest)
+once-now p n m one rest e k h =
+    let P : List Sight → Type 0 = λ z. OnceFrom p n z in
+    subst P (ap (λ (z : List Sight). z ++ rest) (sym e)) (record {
+      once = subst (λ (z : List Sight). length (born ∷ z) ≤ 1) (sym (h.none (k.1))) (omega arith);
+      none = λ below. absurd (omega (arith, below, k.0));
+    })
+
+once-event : (p : ℕ) (e : Event) (rest : List Sight) → AreFresh e.before e.after → OnceFrom p e.after.next rest → OnceFrom p e.before.next (births p e ++ rest)
+once-event p e rest f h = at (is_live p e.before) (is_live p e.after) refl refl
+  where
+    at : (b c : Bool) → is_live p e.before ≡ b → is_live p e.after ≡ c → OnceFrom p e.before.next (births p e ++ rest)
+    at false true was now = once-now p e.before.next e.after.next (births p e) rest (λ i. birth-by (was i) (now i)) (f.fresh p now was) h
+    at false false was now = once-later p e.before.next e.after.next (births p e) rest (λ i. birth-by (was i) (now i)) f.rises h
+    at true c was now = once-later p e.before.next e.after.next (births p e) rest (λ i. birth-by (was i) (now i)) f.rises h
+
+pub born-once : (may : ℕ → State → Parsed → Bool) (words : ℕ) (quits : Bool) (p : ℕ) (s new : State) (events : List Event) → IsNumbered s → Tells may words quits s events new
+    → OnceFrom p s.next (flat_map (births p) events)
+unfolding Tells
+born-once may words quits p s new [] numbered told = record { once = omega arith; none = λ below. refl }
+born-once may words quits p s new (e ∷ events) numbered told =
+    let before : IsNumbered e.before = subst IsNumbered (sym (told.1)) numbered in
+    let f : AreFresh e.before e.after = event-fresh may words (told.0) e (told.2) before in
+    subst (λ (z : State). OnceFrom p z.next (flat_map (births p) (e ∷ events))) (told.1)
+    (once-event p e (flat_map (births p) events) f (at (told.0) (told.3) (λ k. born-once may words quits p e.after new events f.numbered k)))
+  where
+    at : (ends : Bool) → MatchBool ends ((quits ≡ true) × (events ≡ []) × (new ≡ e.after)) (Tells may words quits e.after events new)
+        → (Tells may words quits e.after events new → OnceFrom p e.after.next (flat_map (births p) events)) → OnceFrom p e.after.next (flat_map (births p) events)
+    at true k rest = subst (λ (z : List Event). OnceFrom p e.after.next (flat_map (births p) z)) (sym (k.1)) (record { once = omega arith; none = λ below. refl })
     at false k rest = rest k

@@ -50,6 +50,7 @@ OutcomePasses m s _ = Unit {0}
 pub record ComesBySpawn (m : ℕ) (s : State) (w : Written) (next : State) (reply : List ℕ) : Type 0 where
   pub comes : Comes m s next
   pub said : w ≡ OfSystem sys.Spawn tt
+  pub is_next : m ≡ s.next
   pub told : reply ≡ codes "ok " ++ decimal m
 
 abbrev pub OtherOutcome : ℕ → State → Written → Outcome → Type 0
@@ -193,6 +194,7 @@ spawn-other m s p false h = at (process_of m s) refl
             after = none-come m (fresh_process s.next) s.processes e ∙ (ap (λ b. cond b (Some (fresh_process s.next)) None) is ∙ ap (λ z. Some (fresh_process z)) same);
           };
           said = refl;
+          is_next = sym same;
           told = ap (λ z. codes "ok " ++ decimal z) same;
         })
     at-next e false is = inl (passes-same m s _ h (extends-none s.shared) (none-come m (fresh_process s.next) s.processes e ∙ (ap (λ b. cond b (Some (fresh_process s.next)) None) is ∙ sym e)))

@@ -96,6 +96,7 @@ event-proper may words quits e h p = run-proper may words quits e.before e.after
 pub record BySpawn (m : ℕ) (e : Event) : Type 0 where
   pub comes : Comes m e.before e.after
   pub said : e.said ≡ Some (OfSystem sys.Spawn tt)
+  pub is_next : m ≡ e.before.next
   pub replies : e.replies ≡ (codes "ok " ++ decimal m) ∷ []
 
 abbrev pub Brings : ℕ → Event → Type 0
@@ -109,6 +110,7 @@ gives-brings m e w quits c (Accepted next reply) is (inl h) g = inl (subst (Pass
 gives-brings m e w quits c (Accepted next reply) is (inr h) g = inr (record {
   comes = subst (Comes m e.before) (sym g.is) h.comes;
   said = is ∙ ap Some h.said;
+  is_next = h.is_next;
   replies = g.said ∙ ap (λ z. z ∷ []) h.told;
 })
 gives-brings m e w quits c (Refused r) is h g = stays m e g.same

@@ -1,5 +1,6 @@
 -- Worked runs: what two processes see of them, and what they are answered.
-use Rattle.std.specs.Prelude.{ℕ, ◌≡◌, pos, List, [], ◌∷◌, codes, refl, Some}
+use Rattle.std.proofs.Common.{inr}
+use Rattle.std.specs.Prelude.{ℕ, ◌≡◌, pos, List, [], ◌∷◌, map, codes, refl, Some}
 use Rattle.std.specs.Fmt.{digits}
 use Rattle.line_io.specs.Lines.{text}
 use Rattle.script_grammar.specs.Written.{Written, Term}
@@ -9,7 +10,9 @@ use Rattle.script_grammar.specs.Written.Terms.{end, ◌▹◌}
 use Rattle.script_grammar.specs.declared.command.To.TheVariants.{Number}
 use Rattle.script_grammar.specs.declared.word.Word.TheVariants as word
 use Rattle.script_grammar.specs.declared.word.SysWord.TheVariants as sys
+use Rattle.script_grammar.specs.declared.refusal.Refusal.TheVariants.{NoSpace}
 use Rattle.plain_machine.specs.State.{State, first_state}
+use Rattle.plain_machine.specs.Run.{refusal_text}
 use Rattle.named_trees.specs.NamedTree.{NamedTree}
 use Rattle.named_trees.specs.NamedTree.{NamedTree as by_name}
 use Rattle.named_trees.specs.NamedTree.NamedTrees.{nothing, before}
@@ -17,6 +20,7 @@ use Rattle.isolation.specs.Events.{Event}
 use Rattle.isolation.specs.Views.{Sight, view_of, own_replies}
 use Rattle.isolation.specs.Views.Sight.{own, born, message}
 use Rattle.isolation.specs.Solo.{answers_of, left_by, step_at, solo}
+use Rattle.isolation.specs.Laws.{births_in, IsAmple}
 
 -- A line as it is written, with what it says.
 pub record Said : Type 0 where
@@ -109,3 +113,46 @@ seen-by_first = refl
 
 pub solo-of_first : solo 1 (view_of 1 two) ≡ codes "ok" ∷ codes "ok" ∷ []
 solo-of_first = refl
+
+-- Process 1 sends to itself.
+abbrev pub to_itself : List Event
+to_itself = events_from first_state (
+    record { line = codes "1 set 0 {hi,[1]}"; says = OfProcess 1 word.Set (0, (greeting, tt)) }
+    ∷ record { line = codes "1 send 0 1"; says = OfProcess 1 word.Send (0, (Number 1, tt)) }
+    ∷ record { line = codes "1 recv 2"; says = OfProcess 1 word.Recv (2, tt) }
+    ∷ record { line = codes "1 print 2"; says = OfProcess 1 word.Print (2, tt) }
+    ∷ [])
+
+-- It sees its own lines, and no message beside them: its line has put it into the queue.
+pub seen-by_itself : view_of 1 to_itself
+    ≡ own (OfProcess 1 word.Set (0, (greeting, tt))) ∷ own (OfProcess 1 word.Send (0, (Number 1, tt)))
+    ∷ own (OfProcess 1 word.Recv (2, tt)) ∷ own (OfProcess 1 word.Print (2, tt)) ∷ []
+seen-by_itself = refl
+
+pub replies-of_itself : own_replies 1 to_itself ≡ codes "ok" ∷ codes "ok" ∷ codes "ok" ∷ codes "{hi,[1]}" ∷ []
+unfolding digits
+replies-of_itself = refl
+
+pub solo-of_itself : solo 1 (view_of 1 to_itself) ≡ own_replies 1 to_itself
+unfolding digits
+solo-of_itself = refl
+
+-- Process 2 comes to live, and is gone; the next `spawn` brings another.
+abbrev pub two_spawns : List Event
+two_spawns = events_from first_state (spawn ∷ record { line = codes "2 exit"; says = OfProcess 2 word.Exit tt } ∷ spawn ∷ [])
+
+pub births-of_spawns : map (births_in two_spawns) (1 ∷ 2 ∷ 3 ∷ []) ≡ 0 ∷ 1 ∷ 1 ∷ []
+births-of_spawns = refl
+
+-- A line for which there is no space: no run with this event is ample, so nothing is said of its replies.
+abbrev pub without_space : Event
+without_space = record {
+  line = text (codes "1 set 0 {hi,[1]}");
+  said = Some (OfProcess 1 word.Set (0, (greeting, tt)));
+  before = first_state;
+  replies = refusal_text (NoSpace 5) ∷ [];
+  after = first_state;
+}
+
+pub short-not_ample : (events : List Event) → IsAmple (without_space ∷ events) → ⊥
+short-not_ample events h = h.none_short.0 (inr (5, refl))

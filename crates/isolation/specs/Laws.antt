@@ -1,11 +1,12 @@
 -- What is true of each process of each run from the first state.
-use Rattle.std.specs.Prelude.{ℕ, ◌≡◌, ◌⊎◌, Bool, true, List, [], ◌∷◌, ◌++◌, codes, decimal, Some}
+use Rattle.std.specs.Prelude.{ℕ, ◌≡◌, ◌≤◌, ◌⊎◌, Bool, true, List, [], ◌∷◌, ◌++◌, length, flat_map, codes, decimal, Some}
 use Rattle.line_io.specs.Lines.{Line}
 use Rattle.script_grammar.specs.Written.Written.{OfSystem}
+use Rattle.script_grammar.specs.declared.refusal.Refusal.{Refusal}
 use Rattle.script_grammar.specs.declared.word.SysWord.TheVariants.{Spawn}
 use Rattle.script_grammar.specs.Names.{Parsed}
 use Rattle.plain_machine.specs.State.{State, is_live, first_state}
-use Rattle.plain_machine.specs.Run.{Run}
+use Rattle.plain_machine.specs.Run.{Run, refusal_text}
 use Rattle.isolation.specs.Events.{Event, Tells, NoneShort, lines_of, replies_of}
 use Rattle.isolation.specs.Views.{Sight, births, own_replies, view_of}
 use Rattle.isolation.specs.Views.Sight.{born}
@@ -20,15 +21,28 @@ pub record IsSpawnOf (p : ℕ) (e : Event) : Type 0 where
   pub said : e.said ≡ Some (OfSystem Spawn tt)
   pub replies : e.replies ≡ (codes "ok " ++ decimal p) ∷ []
 
--- A process comes to live only with the `spawn` that is answered by its number, and each `spawn` that is answered by the next number
--- brings a process to live.
+-- The one reply is that of a refusal.
+abbrev pub AreRefused : List (List ℕ) → Type 0
+AreRefused replies = (r : Refusal) × (replies ≡ refusal_text r ∷ [])
+
+-- A process comes to live only with the `spawn` that is answered by its number, which is the next one: so no event brings two. And each
+-- `spawn` is refused, or is answered by the next number and brings this process to live.
 pub record BirthsAreSpawns (e : Event) : Type 0 where
-  pub only : (p : ℕ) → (births p e ≡ []) ⊎ IsSpawnOf p e
-  pub each : IsSpawnOf e.before.next e → births e.before.next e ≡ born ∷ []
+  pub only : (p : ℕ) → (births p e ≡ []) ⊎ ((p ≡ e.before.next) × IsSpawnOf p e)
+  pub each : e.said ≡ Some (OfSystem Spawn tt) → AreRefused e.replies ⊎ (IsSpawnOf e.before.next e × (births e.before.next e ≡ born ∷ []))
 
 abbrev pub AllBirthsAreSpawns : List Event → Type 0
 AllBirthsAreSpawns [] = Unit {0}
 AllBirthsAreSpawns (e ∷ events) = BirthsAreSpawns e × AllBirthsAreSpawns events
+
+-- How often the process comes to live in the events.
+abbrev pub births_in : List Event → ℕ → ℕ
+births_in events p = length (flat_map (births p) events)
+
+-- No process comes to live twice, and process 1, which lives from the start, does not come to live at all.
+pub record AreBornOnce (events : List Event) : Type 0 where
+  pub once : (p : ℕ) → births_in events p ≤ 1
+  pub first : births_in events 1 ≡ 0
 
 -- At most this process lives in the state; and so it is before each sight of a view on its machine, and after the last.
 abbrev pub AtMost : ℕ → State → Type 0
@@ -46,6 +60,7 @@ pub record Isolates (may : ℕ → State → Parsed → Bool) (words : ℕ) (qui
   pub lines_are : lines_of events ≡ lines
   pub replies_are : replies_of events ≡ replies
   pub spawned : AllBirthsAreSpawns events
+  pub born_once : AreBornOnce events
   pub solitary : (p : ℕ) → LivesAlone p (solo_first p) (view_of p events)
   pub alone : AreAlone events
 

@@ -99,26 +99,29 @@ pub record AsksUnless {A : Type 0} (n : ℕ) (old new : One) (result : Result A 
   pub early : is_early result ≡ true → new ≡ old
   pub asks : is_early result ≡ false → Asks n old new result
 
--- The same where words are asked for at all; where none are, no word is taken and nothing collected.
-abbrev pub AsksWhere : {A : Type 0} → (asks : Bool) (n : ℕ) (old new : One) (result : Result A Refusal) → Type 0
-AsksWhere true n old new result = AsksUnless n old new result
-AsksWhere false n old new result = new.halves ≡ old.halves
-
--- A message to the process with this number asks for words where it lives; where the operand names none, nothing at all changes.
-abbrev pub AsksToSend : {A : Type 0} → Option ℕ → State → Tree → (old new : One) (result : Result A Refusal) → Type 0
-AsksToSend None s t old new result = new ≡ old
-AsksToSend (Some pid) s t old new result = AsksWhere (is_live pid s) (MESSAGE_COST + flat t) old new result
-
--- A message of n words was sent to the process with this number. Where it stands in the new half, it reaches no object that anything
--- else reaches: what it reaches and what all that stood there when its words were found reach have no object in common.
-pub record IsSentAlone (n pid : ℕ) (old new : One) : Type 0 where
-  pub halves : Halves
-  pub room : MakesRoom n old.halves halves true
+-- A message was sent to the process with this number, from the half in which its words were found. In the new half it reaches no object
+-- that anything else reaches: what it reaches and what all that stood before reach have no object in common.
+pub record IsSentAlone (pid : ℕ) (halves : Halves) (new : One) : Type 0 where
   pub row : ℕ
   pub within : row < length halves.procs.items
   pub number : (d : Proc) → (get_or halves.procs.items row d).number ≡ pid
   pub word : ℕ
   pub alone : IsAlone halves new.halves row word
+
+-- A message of n words is asked for, to the process with this number: where the call is accepted, it was sent, and is alone.
+pub record AsksAlone {A : Type 0} (n pid : ℕ) (old new : One) (result : Result A Refusal) : Type 0 where
+  pub unless : AsksUnless n old new result
+  pub alone : (e : is_early result ≡ false) → OnOk result (IsSentAlone pid (unless.asks e).halves new)
+
+-- The same where words are asked for at all; where none are, no word is taken and nothing collected.
+abbrev pub AsksWhere : {A : Type 0} → (asks : Bool) (n pid : ℕ) (old new : One) (result : Result A Refusal) → Type 0
+AsksWhere true n pid old new result = AsksAlone n pid old new result
+AsksWhere false n pid old new result = new.halves ≡ old.halves
+
+-- A message to the process with this number asks for words where it lives; where the operand names none, nothing at all changes.
+abbrev pub AsksToSend : {A : Type 0} → Option ℕ → State → Tree → (old new : One) (result : Result A Refusal) → Type 0
+AsksToSend None s t old new result = new ≡ old
+AsksToSend (Some pid) s t old new result = AsksWhere (is_live pid s) (MESSAGE_COST + flat t) pid old new result
 
 -- A call that asks for no words: none is taken, copied or collected. No collection was made, no word of the memory changed, and the
 -- free words begin and end where they did.

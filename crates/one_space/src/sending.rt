@@ -1,16 +1,14 @@
 // A message is sent: a copy of a register's term enters a queue.
-ghost use Rattle.std.specs.Prelude.{◌≡◌, ℕ, ◌+◌, ◌<◌, true, OnOk, Some};
-ghost use Rattle.plain_term.specs.Measures.{flat};
+ghost use Rattle.std.specs.Prelude.{◌≡◌, ◌<◌, Some};
 ghost use Rattle.script_grammar.specs.declared.command.Command.TheVariants.{Process};
 ghost use Rattle.script_grammar.specs.declared.command.Verb.TheVariants as verb;
 ghost use Rattle.script_grammar.specs.Grammar.{MayReceive};
 ghost use Rattle.script_grammar.specs.Names.{IsRegister};
-ghost use Rattle.plain_machine.specs.State.{Process as Live, State, is_live, process_of, register};
+ghost use Rattle.plain_machine.specs.State.{Process as Live, State, process_of, register};
 ghost use Rattle.plain_machine.specs.Tightness.{receiver as receiver_of};
-ghost use Rattle.plain_machine.specs.declared.costs.TheConstants.{MESSAGE_COST};
 ghost use Rattle.space_api.specs.Calls.{most_calls};
 ghost use Rattle.one_space.specs.One.{Holds, OneStands, Sits};
-ghost use Rattle.one_space.specs.Doing.{AsksToSend, Does, IsSentAlone};
+ghost use Rattle.one_space.specs.Doing.{AsksToSend, Does};
 ghost use Rattle.one_space.specs.Telling.{number_seen};
 
 use crate::one::One;
@@ -32,8 +30,6 @@ impl One {
         ensures does { Does (Process seat.pid (verb.Send s to)) self.old self.new result }
         ensures asks { (state : State) (q : Live) → OneStands self.old state → process_of seat.pid state ≡ Some q
             → AsksToSend (receiver_of to q) state (register s.0 q) self.old self.new result }
-        ensures alone { (state : State) (q : Live) (n : ℕ) → OneStands self.old state → process_of seat.pid state ≡ Some q
-            → receiver_of to q ≡ Some n → is_live n state ≡ true → OnOk result (IsSentAlone (MESSAGE_COST + flat (register s.0 q)) n self.old self.new) }
     {
         let Some(number) = self.receiver(seat, to) else {
             return Err(Refusal::BadArg);

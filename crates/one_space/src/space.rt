@@ -1,5 +1,5 @@
 // The space.
-ghost use Rattle.std.specs.Prelude.{◌≡◌, ℕ, ◌+◌, ◌*◌, ◌%◌, ◌<◌, ◌≤◌, ◌^◌, true, false, Err, Some, IfOk, IfSome, OnErr, OnOk, List, length, max};
+ghost use Rattle.std.specs.Prelude.{◌≡◌, ℕ, ◌+◌, ◌*◌, ◌%◌, ◌<◌, ◌≤◌, ◌^◌, true, false, Err, Some, IfOk, IfSome, OnErr, List, length, max};
 ghost use Rattle.std.specs.Vec.{vec_capacity, vec_len};
 ghost use Rattle.plain_machine.specs.declared.limits.TheConstants.{MOST_PROCESSES};
 ghost use Rattle.script_grammar.specs.declared.command.Command.TheVariants.{Process, System};
@@ -140,12 +140,10 @@ impl Space for OneSpace {
     ghost use Rattle.plain_machine.specs.May.{may_of_tight};
     ghost use Rattle.space_api.specs.Calls.{Properly};
     ghost use Rattle.one_space.specs.One.{OneStands, Sits, words_of};
-    ghost use Rattle.one_space.specs.Doing.{Asks, AsksToSend, AsksUnless, Books, IsIdle, IsSentAlone, IsSwept, takes_part};
-    ghost use Rattle.plain_term.specs.Measures.{flat};
-    ghost use Rattle.plain_machine.specs.declared.costs.TheConstants.{MESSAGE_COST};
+    ghost use Rattle.one_space.specs.Doing.{Asks, AsksToSend, AsksUnless, Books, IsIdle, IsSwept, takes_part};
     ghost use Rattle.one_space.specs.Listing.{text_of};
     ghost use Rattle.item_build.specs.Reading.{words_of as item_words_of};
-    ghost use Rattle.plain_machine.specs.State.{Process as Live, is_live, process_of, register};
+    ghost use Rattle.plain_machine.specs.State.{Process as Live, process_of, register};
     ghost use Rattle.plain_machine.specs.Tightness.{fill_words, keys_in, receiver, repeat_words};
 
     ghost stands = { λ b s. Properly (OneStands b) s };
@@ -377,8 +375,6 @@ impl Space for OneSpace {
         ensures books { Books self.old self.new self.old.named }
         ensures asks { (state : State) (q : Live) → Properly (OneStands self.old) state → process_of seat.pid state ≡ Some q
             → AsksToSend (receiver to q) state (register s.0 q) self.old self.new result }
-        ensures alone { (state : State) (q : Live) (n : ℕ) → Properly (OneStands self.old) state → process_of seat.pid state ≡ Some q
-            → receiver to q ≡ Some n → is_live n state ≡ true → OnOk result (IsSentAlone (MESSAGE_COST + flat (register s.0 q)) n self.old self.new) }
     {
         self.one.send(seat, s, to)
     }

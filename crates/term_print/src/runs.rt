@@ -11,10 +11,10 @@ use term_tags::{Kind, kind_of};
 use word_mem::WordMem;
 
 /// How many bytes are gathered at most.
-pub const ROOM: usize = 1024;
+pub const ROOM: usize = 256;
 
 // A run ends once this many are; a number and its comma have room then.
-const ENOUGH: usize = 960;
+const ENOUGH: usize = 192;
 
 /// Gathers what a level begins with: of a list the small integers at its front, each with its comma, as far as the text
 /// holds them. Answers what is left.

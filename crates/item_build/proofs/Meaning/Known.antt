@@ -14,7 +14,6 @@ use Rattle.plain_term.proofs.Putting.{put-keeps, all-keep}
 use Rattle.term_words.specs.Object.{IsBinRecord, IsHolder, IsSub}
 use Rattle.term_words.specs.Stands.{Stands, RowStands, KeysStand, ValuesStand}
 use Rattle.term_words.proofs.Framing.Growing.{shared-same}
-use Rattle.plain_machine.specs.Made.{with_pair, with_pairs}
 
 -- The ids of all shared binaries in a tree are at most n.
 abbrev mutual

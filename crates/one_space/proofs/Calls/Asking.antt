@@ -6,7 +6,7 @@ use Rattle.script_grammar.specs.declared.refusal.Refusal.{Refusal}
 use Rattle.script_grammar.specs.declared.refusal.Refusal.TheVariants as refusal
 use Rattle.two_halves.specs.Halves.{free_in}
 use Rattle.two_halves.specs.Collecting.{MakesRoom}
-use Rattle.one_space.specs.Doing.{Asks, AsksUnless, is_nospace, refusal_for, refusal_of_put}
+use Rattle.one_space.specs.Doing.{Asks, AsksUnless, is_early, is_nospace, refusal_for, refusal_of_put}
 use Rattle.two_halves.specs.declared.halves.Halves.{Halves}
 use Rattle.one_space.specs.declared.one.One.{One}
 use Rattle.one_space.proofs.Memory.Rooms.{roomed}
@@ -72,6 +72,12 @@ module _ {A : Type 0} (n m : ℕ) (b : One) (h : Halves) (ok : Bool) (room : Mak
 
   pub unless-grown : ok ≡ true → (b2 : One) → b2.halves.sweeps ≡ h.sweeps → free_in h ≤ free_in b2.halves + n → (a : A) → AsksUnless m b b2 (Ok a)
   unless-grown given b2 sweeps few a = record { early = λ e. absurd cc; asks = λ e. asks-grown given b2 sweeps few a }
+
+  -- its words were found in this half
+  pub grown-there : (given : ok ≡ true) (b2 : One) (sweeps : b2.halves.sweeps ≡ h.sweeps) (few : free_in h ≤ free_in b2.halves + n) (a : A) (e : is_early (Ok a) ≡ false)
+      → ((unless-grown given b2 sweeps few a).asks e).halves ≡ h
+  unfolding unless-grown asks-grown asks-else
+  grown-there given b2 sweeps few a e = refl
 
 -- A call that was refused before it asked.
 pub asks-nothing : {A : Type 0} (n : ℕ) (b : One) (e : PutStop) → AsksUnless {A = A} n b b (Err (refusal_of_put e))

@@ -34,20 +34,20 @@ use Rattle.term_walk.specs.Measured.{Measures, measured}
 use Rattle.term_walk.specs.declared.measured.Measured.{Measured}
 use Rattle.term_walk.specs.declared.measured.Measured.TheVariants.{Within, Beyond}
 use Rattle.term_walk.specs.declared.measured.Measure.{Measure}
-use Rattle.two_halves.specs.Halves.{HalvesStand, HoldsTree, end_of}
+use Rattle.two_halves.specs.Halves.{HalvesStand, HoldsTree, end_of, free_in}
 use Rattle.two_halves.specs.Collecting.{MakesRoom}
 use Rattle.two_halves.specs.Queues.{CanSend, Sends, with_queue}
 use Rattle.two_halves.specs.declared.halves.Halves.{Halves}
 use Rattle.two_halves.specs.declared.table.Proc.{Proc}
 use Rattle.two_halves.proofs.Standing.Stacks.{no_row}
 use Rattle.one_space.specs.One.{HaveMade, Holds, IsCounted, OneStands, Sits, number_in, words_of}
-use Rattle.one_space.specs.Doing.{AsksToSend, AsksUnless, AsksWhere, Does, IsSentAlone}
+use Rattle.one_space.specs.Doing.{AsksAlone, AsksToSend, AsksWhere, Does, IsSentAlone}
 use Rattle.one_space.specs.Telling.{IsHeld}
 use Rattle.one_space.specs.declared.one.One.{One}
 use Rattle.one_space.proofs.Calls.Acting.{after, counts-same, numbers-row}
 use Rattle.one_space.proofs.Processes.Changing.{no_process, procs-among}
 use Rattle.one_space.proofs.Processes.Counting.{made-more, made-row}
-use Rattle.one_space.proofs.Calls.Asking.{unless-grown, unless-lacks}
+use Rattle.one_space.proofs.Calls.Asking.{grown-there, unless-grown, unless-lacks}
 use Rattle.one_space.proofs.Calls.Growing.{counts-there, grow-at, holds-become, refused-does, room-there, roomed-there, sits-there, some-process}
 use Rattle.one_space.proofs.Processes.Registers.{held-there}
 use Rattle.one_space.proofs.Memory.Rooms.{roomed, stays-roomed}
@@ -187,8 +187,8 @@ module _ (b : One) (holds : Holds b) (seat : Seat) (x : Sits b seat) (r : Reg) (
       pub big-asks : (s : State) (p : Process) → OneStands b s → process_of seat.pid s ≡ Some p → AsksToSend {A = Unit {0}} (receiver to p) s (register r.0 p) b b (Err refusal.Big)
       big-asks s p o found = asks-at s p o found b (Err refusal.Big) (by (is_live n s))
         where
-          by : (live : Bool) → AsksWhere {A = Unit {0}} live (8 + flat (tree s)) b b (Err refusal.Big)
-          by true = record { early = λ e. refl; asks = λ e. absurd cc }
+          by : (live : Bool) → AsksWhere {A = Unit {0}} live (8 + flat (tree s)) n b b (Err refusal.Big)
+          by true = record { unless = record { early = λ e. refl; asks = λ e. absurd cc }; alone = λ e. absurd cc }
           by false = refl
 
     -- The tree is within it.
@@ -241,17 +241,8 @@ module _ (b : One) (holds : Holds b) (seat : Seat) (x : Sits b seat) (r : Reg) (
 
         pub dead-asks : (s : State) (p : Process) → OneStands b s → process_of seat.pid s ≡ Some p → AsksToSend {A = Unit {0}} (receiver to p) s (register r.0 p) b quiet (Ok tt)
         dead-asks s p o found =
-            let P : Bool → Type 0 = λ z. AsksWhere {A = Unit {0}} z (8 + flat (tree s)) b quiet (Ok tt) in
+            let P : Bool → Type 0 = λ z. AsksWhere {A = Unit {0}} z (8 + flat (tree s)) n b quiet (Ok tt) in
             asks-at s p o found quiet (Ok tt) (subst P (sym (dead-there s o)) refl)
-
-        -- Where none lives nothing is sent.
-        pub dead-none : (A : Type 0) (s : State) (p : Process) (m : ℕ) → OneStands b s → process_of seat.pid s ≡ Some p → receiver to p ≡ Some m → is_live m s ≡ true → A
-        dead-none A s p m o found names live =
-            let P : ℕ → Type 0 = λ z. is_live z s ≡ true in
-            absurd (true≢false (sym (subst P (same-number (hears s p o found ∙ names)) live) ∙ dead-there s o))
-          where
-            same-number : Some n ≡ Some m → m ≡ n
-            same-number e = cc
 
       -- The process with the number has its row here.
       module _ (row : ℕ) (in_rows : row < length b.halves.procs.items) (number : number_at number_in b.halves.procs.items row ≡ n) (live : true ≡ is_among number_in b.halves.procs.items n)
@@ -287,16 +278,16 @@ module _ (b : One) (holds : Holds b) (seat : Seat) (x : Sits b seat) (r : Reg) (
         send-lacks lacking = refused-does b holds g h ok room lacking (Unit {0}) (OfProcess seat.pid v) g (omega (arith, g_is)) (λ s terms names o.
             (grow-there s terms names o, (inl (omega arith, some-process b holds seat x s o), gets-there s terms names o)))
 
-        asks-live : (s : State) (p : Process) → OneStands b s → process_of seat.pid s ≡ Some p → (b2 : One) (res : Result (Unit {0}) Refusal) → AsksUnless g b b2 res
+        asks-live : (s : State) (p : Process) → OneStands b s → process_of seat.pid s ≡ Some p → (b2 : One) (res : Result (Unit {0}) Refusal) → AsksAlone g n b b2 res
             → AsksToSend {A = Unit {0}} (receiver to p) s (register r.0 p) b b2 res
         asks-live s p o found b2 res a =
-            let P : Bool → Type 0 = λ z. AsksWhere {A = Unit {0}} z (8 + flat (tree s)) b b2 res in
-            let Q : ℕ → Type 0 = λ z. AsksUnless {A = Unit {0}} z b b2 res in
+            let P : Bool → Type 0 = λ z. AsksWhere {A = Unit {0}} z (8 + flat (tree s)) n b b2 res in
+            let Q : ℕ → Type 0 = λ z. AsksAlone {A = Unit {0}} z n b b2 res in
             asks-at s p o found b2 res (subst P (sym (live-there s o)) (subst Q (g-there s o) a))
 
         pub lacks-asks : ok ≡ false → (s : State) (p : Process) → OneStands b s → process_of seat.pid s ≡ Some p
             → AsksToSend {A = Unit {0}} (receiver to p) s (register r.0 p) b (roomed b h) (Err (refusal.NoSpace g))
-        lacks-asks lacking s p o found = asks-live s p o found (roomed b h) (Err (refusal.NoSpace g)) (unless-lacks g g b h ok room refl lacking g)
+        lacks-asks lacking s p o found = asks-live s p o found (roomed b h) (Err (refusal.NoSpace g)) (record { unless = unless-lacks g g b h ok room refl lacking g; alone = λ e. tt })
 
         module _ (given : ok ≡ true) where
           counts1 : IsCounted (roomed b h)
@@ -388,20 +379,15 @@ module _ (b : One) (holds : Holds b) (seat : Seat) (x : Sits b seat) (r : Reg) (
                 books = record { same_words = sends.same_len ∙ (stays-roomed g b.halves h ok room).same_len; one_call = omega arith; few_names = omega arith };
               }
 
+              sent-alone : IsSentAlone n h b2
+              sent-alone = record { row = row; within = row-there.within; number = row-there.number; word = sends.word; alone = sends.alone }
+
               pub sent-asks : (s : State) (p : Process) → OneStands b s → process_of seat.pid s ≡ Some p → AsksToSend {A = Unit {0}} (receiver to p) s (register r.0 p) b b2 (Ok tt)
               sent-asks s p o found =
                   let used = sends.words b.named s.shared s.processes (o1 s o).processes (tree s) (held1 s o).standing in
-                  asks-live s p o found b2 (Ok tt) (unless-grown g g b h ok room refl given b2 sends.sweeps (omega (arith, used, g-there s o)) tt)
-
-              pub sent-alone : (s : State) (p : Process) (m : ℕ) → OneStands b s → process_of seat.pid s ≡ Some p → receiver to p ≡ Some m → is_live m s ≡ true
-                  → IsSentAlone (8 + flat (register r.0 p)) m b b2
-              sent-alone s p m o found names alive =
-                  let P : ℕ → Type 0 = λ z. IsSentAlone (8 + flat (register r.0 p)) z b b2 in
-                  let Q : Process → Type 0 = λ z. IsSentAlone (8 + flat (register r.0 z)) n b b2 in
-                  let R : ℕ → Type 0 = λ z. IsSentAlone z n b b2 in
-                  let T : Bool → Type 0 = λ z. MakesRoom g b.halves h z in
-                  subst P (same-number (hears s p o found ∙ names)) (subst Q (same-process s o p found) (subst R (g-there s o)
-                  (record { halves = h; room = subst T given room; row = row; within = row-there.within; number = row-there.number; word = sends.word; alone = sends.alone })))
-                where
-                  same-number : Some n ≡ Some m → n ≡ m
-                  same-number e = cc
+                  let few : free_in h ≤ free_in h2 + g = omega (arith, used, g-there s o) in
+                  let P : Halves → Type 0 = λ z. IsSentAlone n z b2 in
+                  asks-live s p o found b2 (Ok tt) (record {
+                    unless = unless-grown g g b h ok room refl given b2 sends.sweeps few tt;
+                    alone = λ e. subst P (sym (grown-there g g b h ok room refl given b2 sends.sweeps few tt e)) sent-alone;
+                  })

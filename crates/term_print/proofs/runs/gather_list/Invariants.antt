@@ -9,8 +9,8 @@ abbrev pub invariant-loop-buffer : goal.invariant-loop-buffer
 invariant-loop-buffer l = record {
   gathers : (c : ℕ → ℕ → Bool) (shared names : List (List ℕ)) (ts : Trees) → AreTwo c shared l.mem l.place ts
       → Gathers c shared l.mem names (level.List l.place) (level.List l.at) l.text.items ts;
-  few : length l.text.items ≤ 1024;
+  few : length l.text.items ≤ 256;
 }
 
 abbrev pub decreases-loop-buffer : goal.decreases-loop-buffer
-decreases-loop-buffer l = 1024 - length l.text.items
+decreases-loop-buffer l = 256 - length l.text.items

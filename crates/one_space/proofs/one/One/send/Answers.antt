@@ -2,7 +2,7 @@ use Rattle.std.proofs.Common.{◌≡◌, ◌<◌, true, false, List, length, ref
 use Rattle.numbered_rows.specs.Numbers.{is_among, number_at}
 use Rattle.one_space.specs.One.{number_in}
 use Rattle.two_halves.specs.declared.table.Proc.{Proc}
-use Rattle.one_space.proofs.Verbs.Messaging.{big-asks, can-send, dead-asks, dead-does, dead-none, deaf-asks, lacks-asks, seat-there, send-big, send-deaf, send-lacks, sent-alone, sent-asks, sent-does, size-few}
+use Rattle.one_space.proofs.Verbs.Messaging.{big-asks, can-send, dead-asks, dead-does, deaf-asks, lacks-asks, seat-there, send-big, send-deaf, send-lacks, sent-asks, sent-does, size-few}
 use Rattle.one_space.proofs.one.One.send.Goals as goal
 
 pub returns-in_default-clause-does : goal.returns-in_default-clause-does
@@ -32,12 +32,6 @@ returns-in_default-find-clause-asks c =
     let P : List Proc → Type 0 = λ z. false ≡ is_among number_in z c.in-Some.number in
     dead-asks c.args.self.now c.requires.holds c.args.seat c.requires.sits c.args.s c.requires.register c.args.to c.in-Some.number c.in-Some.ensures c.word.result c.word.ensures
     c.in-Within.size c.in-Within.ensures (subst P c.deref.ensures.value c.in_default-find.ensures.among)
-
-pub returns-in_default-find-clause-alone : goal.returns-in_default-find-clause-alone
-returns-in_default-find-clause-alone c = λ s p m o found names live.
-    let P : List Proc → Type 0 = λ z. false ≡ is_among number_in z c.in-Some.number in
-    dead-none c.args.self.now c.requires.holds c.args.seat c.requires.sits c.args.s c.requires.register c.args.to c.in-Some.number c.in-Some.ensures c.word.result c.word.ensures
-    c.in-Within.size c.in-Within.ensures (subst P c.deref.ensures.value c.in_default-find.ensures.among) _ s p m o found names live
 
 pub overflow_add-grow : goal.overflow_add-grow
 overflow_add-grow c =
@@ -105,13 +99,3 @@ returns-clause-asks c = λ s p o found.
     c.in-Within.size c.in-Within.ensures c.in-Some-find.row (subst R c.deref.ensures.value c.in-Some-find.ensures.place.0) (subst N c.deref.ensures.value c.in-Some-find.ensures.place.1)
     (subst L c.deref.ensures.value c.in-Some-find.ensures.among) _ refl c.make_room.new.self c.make_room.result c.make_room.ensures c.if-not-make_room.false
     c.process.result.now c.process.ensures c.send.new.self c.send.ensures s p o found
-
-pub returns-clause-alone : goal.returns-clause-alone
-returns-clause-alone c = λ s p m o found names live.
-    let R : List Proc → Type 0 = λ z. c.in-Some-find.row < length z in
-    let N : List Proc → Type 0 = λ z. number_at number_in z c.in-Some-find.row ≡ c.in-Some.number in
-    let L : List Proc → Type 0 = λ z. true ≡ is_among number_in z c.in-Some.number in
-    sent-alone c.args.self.now c.requires.holds c.args.seat c.requires.sits c.args.s c.requires.register c.args.to c.in-Some.number c.in-Some.ensures c.word.result c.word.ensures
-    c.in-Within.size c.in-Within.ensures c.in-Some-find.row (subst R c.deref.ensures.value c.in-Some-find.ensures.place.0) (subst N c.deref.ensures.value c.in-Some-find.ensures.place.1)
-    (subst L c.deref.ensures.value c.in-Some-find.ensures.among) _ refl c.make_room.new.self c.make_room.result c.make_room.ensures c.if-not-make_room.false
-    c.process.result.now c.process.ensures c.send.new.self c.send.ensures s p m o found names live

@@ -1,12 +1,10 @@
-use Rattle.std.proofs.Common.{◌+◌, subst}
-use Rattle.std.specs.Prelude.{OnOk}
-use Rattle.plain_term.specs.Measures.{flat}
+use Rattle.std.proofs.Common.{subst}
 use Rattle.script_grammar.specs.declared.command.Command.TheVariants.{Process}
 use Rattle.script_grammar.specs.declared.command.Verb.TheVariants as verb
 use Rattle.plain_machine.specs.State.{register}
 use Rattle.plain_machine.specs.Tightness.{receiver}
 use Rattle.one_space.specs.One.{OneStands}
-use Rattle.one_space.specs.Doing.{AsksToSend, IsSentAlone}
+use Rattle.one_space.specs.Doing.{AsksToSend}
 use Rattle.one_space.specs.declared.one.One.{One}
 use Rattle.one_space.proofs.Calls.Calling.{becomes-so}
 use Rattle.one_space.proofs.space.OneSpaceSpace.send.Goals as goal
@@ -20,8 +18,3 @@ pub returns-clause-asks : goal.returns-clause-asks
 returns-clause-asks c = λ s q h found.
     let P : One → Type 0 = λ x. OneStands x s → AsksToSend (receiver c.args.to q) s (register c.args.s.0 q) x c.send.new.self c.send.result in
     subst P c.self.view_is (λ o. c.send.ensures.asks s q o found) h.0
-
-pub returns-clause-alone : goal.returns-clause-alone
-returns-clause-alone c = λ s q n h found names live.
-    let P : One → Type 0 = λ x. OneStands x s → OnOk c.send.result (IsSentAlone (8 + flat (register c.args.s.0 q)) n x c.send.new.self) in
-    subst P c.self.view_is (λ o. c.send.ensures.alone s q n o found names live) h.0
