@@ -25,7 +25,7 @@ use Rattle.isolation.specs.Events.{Event, IsEvent, IsAnswered, Tells}
 use Rattle.isolation.specs.Views.{Sight, is_own, births}
 use Rattle.isolation.specs.Views.Sight.{born}
 use Rattle.isolation.specs.Laws.{IsSpawnOf, AllBirthsAreSpawns, AreRefused}
-use Rattle.isolation.proofs.Finding.{live-found, none-come, same-number}
+use Rattle.isolation.proofs.Finding.{live-found, none-come}
 use Rattle.isolation.proofs.Others.{Passes, Comes, with_more}
 use Rattle.isolation.proofs.Told.{Brings, event-brings, event-line}
 
