@@ -29,7 +29,7 @@ use Rattle.term_build.proofs.Rooms.{uses-none}
 use Rattle.term_maps.specs.Stops.{has_beyond, why_not}
 use Rattle.term_maps.specs.declared.maps.MapStop.TheVariants as why
 use Rattle.term_maps.specs.Given.{CanMap, MapIsMade, KeysWithin, PairsStand, pairs_in}
-use Rattle.term_maps.proofs.Putting.{in-order-few}
+use Rattle.plain_term.proofs.Putting.{in-order-few}
 use Rattle.item_build.specs.Reading.{IsItem, all_of, is_byte, is_object, is_word, bin_of, bytes_in, long_bins, map_of, near_words, paired, is_big_item, parts_of, read_item, tree_where, tree_with}
 use Rattle.item_build.specs.Building.{AreMarks, CanPut, FitsWord, HasNoBigKey, HeldStand, HolderStands, IsLeaf, MarkBuilt, MarksBuilt, UsesSome, holds_wide}
 use Rattle.item_build.proofs.Turned.Marks.{in_turn, keep-marks, marks-more, marks-split, named-all, named-paired, narrow-all, paired-few, turns-big, turns-marks, twos-stand, wide-none}

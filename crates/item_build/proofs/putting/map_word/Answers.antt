@@ -2,7 +2,7 @@ use Rattle.std.proofs.Common.{◌+◌, ◌*◌, length, refl, arith}
 use Rattle.plain_term.specs.Tree.{pairs_len}
 use Rattle.plain_term.specs.InOrder.{in_order}
 use Rattle.term_words.specs.Role.{always}
-use Rattle.term_maps.proofs.Putting.{in-order-few}
+use Rattle.plain_term.proofs.Putting.{in-order-few}
 use Rattle.item_build.proofs.Turned.Makes.{at-room, made-map, no-map, pairs-many, uses-some, wide-mark}
 use Rattle.item_build.proofs.putting.map_word.Goals as goal
 
