@@ -5,7 +5,7 @@ use Rattle.std.proofs.lemmas.Bool.{cases_eq}
 use Rattle.atom_names.specs.declared.row.Row.{Row}
 use Rattle.atom_names.specs.declared.table.Table.{Table}
 use Rattle.atom_names.specs.Slots.{FindsSlot, IsFreeSlot}
-use Rattle.atom_names.specs.Rows.{name_of, names_of, AreShort, NamesHold}
+use Rattle.atom_names.specs.Rows.{row_name, names_of, AreShort, NamesHold}
 use Rattle.atom_names.specs.Names.{index_of, with_name}
 use Rattle.atom_names.proofs.Probing.{Finds_push, Finds_same}
 use Rattle.atom_names.proofs.Places.{once-at, index_of-none, with_name-new, index_of-push, AreNames_push, AreNames_take}
@@ -13,17 +13,17 @@ use Rattle.atom_names.specs.declared.names.TheConstants.{MOST_NAMES}
 use Rattle.atom_names.specs.declared.row.TheConstants.{LONGEST_NAME}
 
 pub names_of-len : (rows : List Row) (n : ℕ) → n ≤ length rows → length (names_of rows n) ≡ n
-names_of-len rows n h = length-map (take n rows) name_of ∙ length-take-le n rows h
+names_of-len rows n h = length-map (take n rows) row_name ∙ length-take-le n rows h
 
-pub names_of-at : (rows : List Row) (n k : ℕ) (d : Row) → k < n → n ≤ length rows → get_or (names_of rows n) k [] ≡ name_of (get_or rows k d)
+pub names_of-at : (rows : List Row) (n k : ℕ) (d : Row) → k < n → n ≤ length rows → get_or (names_of rows n) k [] ≡ row_name (get_or rows k d)
 names_of-at rows n k d less h =
-    get_or-map name_of (take n rows) k d [] (omega (arith, length-take-le n rows h)) ∙ ap name_of (get_or-take n rows k d less)
+    get_or-map row_name (take n rows) k d [] (omega (arith, length-take-le n rows h)) ∙ ap row_name (get_or-take n rows k d less)
 
-pub names_of-push : (rows : List Row) (n : ℕ) (row : Row) → n < length rows → names_of (set rows n row) (n + 1) ≡ names_of rows n ++ name_of row ∷ []
-names_of-push rows n row h = ap (map name_of) (take_more_set rows n row h) ∙ map_push name_of (take n rows) row
+pub names_of-push : (rows : List Row) (n : ℕ) (row : Row) → n < length rows → names_of (set rows n row) (n + 1) ≡ names_of rows n ++ row_name row ∷ []
+names_of-push rows n row h = ap (map row_name) (take_more_set rows n row h) ∙ map_push row_name (take n rows) row
 
 pub names_of-forget : (rows : List Row) (n count : ℕ) → n ≤ count → names_of rows n ≡ take n (names_of rows count)
-names_of-forget rows n count h = ap (map name_of) (sym (take-take n count rows h)) ∙ sym (take-map name_of n (take count rows))
+names_of-forget rows n count h = ap (map row_name) (sym (take-take n count rows h)) ∙ sym (take-map row_name n (take count rows))
 
 pub short-set : (rows : List Row) (i : ℕ) (row : Row) → row.len ≤ LONGEST_NAME → AreShort rows → AreShort (set rows i row)
 short-set rows i row low all k d h = ⊎_elim
@@ -33,7 +33,7 @@ short-set rows i row low all k d h = ⊎_elim
 
 -- A row is added at the end.
 pub Holds_push : (rows : List Row) (table grown : Table) (count slot : ℕ) (row : Row) (name : List ℕ) → NamesHold rows table count →
-    count < MOST_NAMES → row.len ≤ LONGEST_NAME → name_of row ≡ name → 1 ≤ length name → length name ≤ LONGEST_NAME →
+    count < MOST_NAMES → row.len ≤ LONGEST_NAME → row_name row ≡ name → 1 ≤ length name → length name ≤ LONGEST_NAME →
     index_of (names_of rows count) name ≡ None → IsFreeSlot name table.slots.items slot →
     grown.slots.items ≡ set table.slots.items slot (count + 1) → grown.places.items ≡ set table.places.items count slot →
     NamesHold (set rows count row) grown (count + 1)
@@ -71,7 +71,7 @@ view-len rows table count seen all e = ap length (sym e) ∙ names_of-len rows c
 
 -- The number of the name that is added.
 pub number-of-push : (rows : List Row) (table : Table) (count : ℕ) (row : Row) (name : List ℕ) → NamesHold rows table count →
-    count < MOST_NAMES → name_of row ≡ name → index_of (names_of rows count) name ≡ None →
+    count < MOST_NAMES → row_name row ≡ name → index_of (names_of rows count) name ≡ None →
     index_of (names_of (set rows count row) (count + 1)) name ≡ Some count
 number-of-push rows table count row name all room e none =
     rw (names_of-push rows count row (omega (arith, all.room)), e)
@@ -84,7 +84,7 @@ pub number-found : (rows read : List Row) (table : Table) (count k : ℕ) (name 
 number-found rows read table count k name seen all same view low there =
     let P : List Row → Type 0 = λ r. k < length (take count r) in
     let Q : List Row → Type 0 = λ r. get_or (names_of r count) k [] ≡ name in
-    let inside : k < length (names_of rows count) = omega (arith, subst P same low, length-map (take count rows) name_of) in
+    let inside : k < length (names_of rows count) = omega (arith, subst P same low, length-map (take count rows) row_name) in
     rw (← view) (once-at (names_of rows count) name k all.names inside (subst Q same there))
 
 -- Where no row in use holds the name, it is new.
@@ -93,22 +93,22 @@ pub number-new : (rows read : List Row) (count : ℕ) (name : List ℕ) (seen : 
 number-new rows read count name seen same view others =
     let P : List Row → Type 0 = λ r. (k : ℕ) → k < length (take count r) → get_or (names_of r count) k [] ≢ name in
     rw (← view) (index_of-none (names_of rows count) name
-    (λ k h. subst P same others k (omega (arith, length-map (take count rows) name_of))))
+    (λ k h. subst P same others k (omega (arith, length-map (take count rows) row_name))))
 
 -- The names after a row is added.
 pub list-of-push : (rows : List Row) (table : Table) (count : ℕ) (row : Row) (name : List ℕ) (seen : List (List ℕ)) → NamesHold rows table count →
-    count < MOST_NAMES → name_of row ≡ name → names_of rows count ≡ seen → index_of seen name ≡ None →
+    count < MOST_NAMES → row_name row ≡ name → names_of rows count ≡ seen → index_of seen name ≡ None →
     names_of (set rows count row) (count + 1) ≡ with_name seen name
 list-of-push rows table count row name seen all room e view none =
     rw (with_name-new seen name none, ← view, ← e) (names_of-push rows count row (omega (arith, all.room)))
 
 -- A row in use holds a name of 1 to 63 bytes.
 pub named-size : (rows : List Row) (table : Table) (count k : ℕ) (seen : List (List ℕ)) (row : Row) (name : List ℕ) → NamesHold rows table count →
-    names_of rows count ≡ seen → k < length seen → row ≡ get_or rows k row → name ≡ name_of row → (1 ≤ length name) × (length name ≤ LONGEST_NAME)
+    names_of rows count ≡ seen → k < length seen → row ≡ get_or rows k row → name ≡ row_name row → (1 ≤ length name) × (length name ≤ LONGEST_NAME)
 named-size rows table count k seen row name all view low at is =
     let inside : k < count = omega (arith, view-len rows table count seen all view) in
     let len : length (names_of rows count) ≡ count = names_of-len rows count (omega (arith, all.room, all.within)) in
     let same : get_or (names_of rows count) k [] ≡ name =
-    names_of-at rows count k row inside (omega (arith, all.room, all.within)) ∙ (ap name_of (sym at) ∙ sym is) in
+    names_of-at rows count k row inside (omega (arith, all.room, all.within)) ∙ (ap row_name (sym at) ∙ sym is) in
     let P : List ℕ → Type 0 = λ x. (1 ≤ length x) × (length x ≤ LONGEST_NAME) in
     subst P same (all.names.sized k (omega arith))

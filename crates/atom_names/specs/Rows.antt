@@ -8,12 +8,12 @@ use Rattle.atom_names.specs.declared.names.TheConstants.{MOST_NAMES}
 use Rattle.atom_names.specs.declared.row.TheConstants.{LONGEST_NAME}
 
 -- The name of a row.
-abbrev pub name_of : Row → List ℕ
-name_of r = take r.len r.bytes
+abbrev pub row_name : Row → List ℕ
+row_name r = take r.len r.bytes
 
 -- The names of the first rows.
 abbrev pub names_of : List Row → ℕ → List (List ℕ)
-names_of rows count = map name_of (take count rows)
+names_of rows count = map row_name (take count rows)
 
 -- No row is longer than its room.
 abbrev pub AreShort : List Row → Type 0

@@ -20,7 +20,7 @@ ghost use Rattle.std.specs.Prelude.{
   map,
 };
 ghost use Rattle.atom_names.specs.Names.{AreNames, index_of, with_name};
-ghost use Rattle.atom_names.specs.Rows.{AreShort, name_of};
+ghost use Rattle.atom_names.specs.Rows.{AreShort, row_name};
 
 use crate::open_fault::OpenFault;
 use crate::row::{LONGEST_NAME, Row, name_in, row_of};

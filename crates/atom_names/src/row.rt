@@ -1,6 +1,6 @@
 // The bytes of one name.
 ghost use Rattle.std.specs.Prelude.{◌≡◌, ℕ, ◌≤◌, length};
-ghost use Rattle.atom_names.specs.Rows.{name_of};
+ghost use Rattle.atom_names.specs.Rows.{row_name};
 
 /// The bytes of the longest name. This project's own limit.
 pub const LONGEST_NAME: usize = 63;
@@ -15,7 +15,7 @@ pub(crate) struct Row {
 /// A row that holds the name.
 pub(crate) fn row_of(name: &[u8]) -> Row
     requires { length name.now ≤ LONGEST_NAME }
-    ensures value { name_of result ≡ name.now }
+    ensures value { row_name result ≡ name.now }
     ensures short { result.len ≤ LONGEST_NAME }
 {
     let mut bytes = [0; LONGEST_NAME];
@@ -30,7 +30,7 @@ pub(crate) fn row_of(name: &[u8]) -> Row
 /// The name of the row, cut to its bytes.
 pub(crate) fn name_in(row: &Row) -> &[u8]
     requires { row.now.len ≤ LONGEST_NAME }
-    ensures { result.now ≡ name_of row.now }
+    ensures { result.now ≡ row_name row.now }
 {
     &row.bytes[..row.len as usize]
 }

@@ -19,7 +19,7 @@ ghost use Rattle.std.specs.Prelude.{
   slice_index,
   slice_index_or,
 };
-ghost use Rattle.atom_names.specs.Rows.{AreShort, name_of};
+ghost use Rattle.atom_names.specs.Rows.{AreShort, row_name};
 ghost use Rattle.atom_names.specs.Slots.{FindsSlot, IsFreeSlot};
 
 use crate::names::MOST_NAMES;
@@ -51,12 +51,12 @@ impl Table {
     pub(crate) fn find(&self, rows: &[Row], name: &[u8]) -> Result<usize, usize>
         requires few { length rows.now ≤ MOST_NAMES }
         requires short { AreShort rows.now }
-        requires finds { FindsSlot (map name_of rows.now) (length rows.now) self.now.slots.items self.now.places.items }
+        requires finds { FindsSlot (map row_name rows.now) (length rows.now) self.now.slots.items self.now.places.items }
         ensures inside { IfOk result (λ k. k < length rows.now) }
-        ensures there { IfOk result (λ k. slice_index_or (map name_of rows.now) k [] ≡ name.now) }
+        ensures there { IfOk result (λ k. slice_index_or (map row_name rows.now) k [] ≡ name.now) }
         ensures free { IfErr result (λ slot. IsFreeSlot name.now self.now.slots.items slot) }
         ensures new { IfErr result
-            (λ _. (k : ℕ) → k < length rows.now → slice_index_or (map name_of rows.now) k [] ≢ name.now) }
+            (λ _. (k : ℕ) → k < length rows.now → slice_index_or (map row_name rows.now) k [] ≢ name.now) }
     {
         let start = spread(name);
         for j in 0..SLOTS {

@@ -8,8 +8,8 @@ use Rattle.cheney.specs.Spans.{in_span}
 use Rattle.cheney.specs.Ranges.{stays}
 use Rattle.cheney.specs.Plan.{Plan, Reached, Leaves, IsOutside}
 use Rattle.cheney.specs.Moved.{moved, forward, IsImage, Shows, Copies}
-use Rattle.cheney.specs.Zones.{Marks, IsPart, mark, scanned_at, object_at, at_objects}
-use Rattle.cheney.specs.Rooms.{top_of, Advances, Runs}
+use Rattle.cheney.specs.Zones.{Marks, IsTracedPlace, mark, scanned_at, object_at, at_objects}
+use Rattle.cheney.specs.Rooms.{top_of, RoomGrows, Runs}
 
 -- A collection runs, and its roots reach the word.
 pub record CanMove (mem : List ℕ) (mv : Moving) (w : ℕ) : Type 0 where
@@ -40,7 +40,7 @@ pub record Copied (mem mem2 : List ℕ) (mv mv2 : Moving) (w x : ℕ) : Type 0 w
   pub leaves : stays mv.stay (w / 4) ≡ false
   pub here : moved mem w ≡ false
   pub copies : Copies mem mem2 w (top_of mv (in_span mv.mature (w / 4))) (object_words mem w) x
-  pub grows : Advances mv mv2 (in_span mv.mature (w / 4)) (object_words mem w)
+  pub grows : RoomGrows mv mv2 (in_span mv.mature (w / 4)) (object_words mem w)
 
 -- The word names a cons that neither stays nor was moved, with this head and this tail.
 pub record IsFresh (mem : List ℕ) (mv : Moving) (w head tail : ℕ) : Type 0 where
@@ -101,17 +101,17 @@ pub record CanStep (mem : List ℕ) (mv : Moving) (room : Bool) (place : ℕ) : 
   pub marks : Marks
   pub runs : Runs plan mem mv marks
   pub scanned : scanned_at marks room ≡ place
-  pub part : IsPart plan mem marks room place
+  pub part : IsTracedPlace plan mem marks room place
 
 -- Each collection whose next word to scan, a traced part's, lies at the place has come one word further.
 abbrev pub ScansWord : (mem mem2 : List ℕ) (mv mv2 : Moving) (at : ℕ) → Type 0
-ScansWord mem mem2 mv mv2 at = (p : Plan) (k : Marks) (b : Bool) → Runs p mem mv k → scanned_at k b ≡ at → IsPart p mem k b at
+ScansWord mem mem2 mv mv2 at = (p : Plan) (k : Marks) (b : Bool) → Runs p mem mv k → scanned_at k b ≡ at → IsTracedPlace p mem k b at
     → RunsOn p mem mem2 mv2 (mark k b (at + 1) (object_at k b))
 
 -- Its next word is again one of that object, unless the object ends there.
 abbrev pub GoesOnWithin : (mem mem2 : List ℕ) (mv : Moving) (at : ℕ) → Type 0
-GoesOnWithin mem mem2 mv at = (p : Plan) (k : Marks) (b : Bool) → Runs p mem mv k → scanned_at k b ≡ at → IsPart p mem k b at
-    → at + 1 < object_at k b → IsPart p mem2 (mark k b (at + 1) (object_at k b)) b (at + 1)
+GoesOnWithin mem mem2 mv at = (p : Plan) (k : Marks) (b : Bool) → Runs p mem mv k → scanned_at k b ≡ at → IsTracedPlace p mem k b at
+    → at + 1 < object_at k b → IsTracedPlace p mem2 (mark k b (at + 1) (object_at k b)) b (at + 1)
 
 -- Each collection whose next whole object of the room lies at the place has come to a whole object at another one.
 abbrev pub ScansObjects : (mem mem2 : List ℕ) (mv mv2 : Moving) (room : Bool) (place next : ℕ) → Type 0

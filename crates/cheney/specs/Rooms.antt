@@ -32,7 +32,7 @@ pub record Runs (p : Plan) (mem : List ℕ) (mv : Moving) (k : Marks) : Type 0 w
   pub holds : Invariant p mem (top_of mv) k
 
 -- One room has n words more in use; all else is as before.
-pub record Advances (old new : Moving) (room : Bool) (n : ℕ) : Type 0 where
+pub record RoomGrows (old new : Moving) (room : Bool) (n : ℕ) : Type 0 where
   pub stay : new.stay ≡ old.stay
   pub from_space : new.from_space ≡ old.from_space
   pub mature : new.mature ≡ old.mature

@@ -93,7 +93,7 @@ pub record Invariant (p : Plan) (m : List ℕ) (top : Bool → ℕ) (k : Marks) 
   pub fits : (b : Bool) → StillFits p m b (top b)
 
 -- The place is that of a traced word in the copy of a moved object that ends at the mark `object`.
-pub record IsPart (p : Plan) (m : List ℕ) (k : Marks) (room : Bool) (place : ℕ) : Type 0 where
+pub record IsTracedPlace (p : Plan) (m : List ℕ) (k : Marks) (room : Bool) (place : ℕ) : Type 0 where
   pub v : ℕ
   pub from : ℕ
   pub copy : IsCopy p m room v from

@@ -18,7 +18,7 @@ use Rattle.term_words.specs.Counted.{In}
 use Rattle.term_words.proofs.Totals.Members.{in-both, in-left, in-right}
 use Rattle.shared_rec.specs.Record.{owner_in}
 use Rattle.record_move.proofs.Renewing.{member-at}
-use Rattle.counts_text.specs.Told.{record_order, is_before, inserted, by_name, is_after, is_better, AreApart, CanReadTables, CanReadSome, IsLeast, IsBest}
+use Rattle.counts_text.specs.Told.{record_order, is_before, inserted, by_name, is_after, is_better, FunsDiffer, CanReadTables, CanReadSome, IsLeast, IsBest}
 
 not-less : (o : Ordering) → is_lt o ≡ false → o ≢ Less
 not-less o h e = false≢true (sym h ∙ ap is_lt e)
@@ -126,11 +126,11 @@ module _ (mem : List ℕ) (names : List (List ℕ)) where
         )
   ]
 
-  fewer-apart : (v : ℕ) (vs : List ℕ) → AreApart mem (v ∷ vs) → AreApart mem vs
+  fewer-apart : (v : ℕ) (vs : List ℕ) → FunsDiffer mem (v ∷ vs) → FunsDiffer mem vs
   fewer-apart v vs a = record { once = a.once.1; differ = λ x y i j e. a.differ x y (inr i) (inr j) e }
 
   -- So are they in order.
-  pub named-rises : (vs : List ℕ) → AreNames names → ((v : ℕ) → In v vs → CanReadTables mem names v) → AreApart mem vs → Rising (by_name mem names vs)
+  pub named-rises : (vs : List ℕ) → AreNames names → ((v : ℕ) → In v vs → CanReadTables mem names v) → FunsDiffer mem vs → Rising (by_name mem names vs)
   unfolding Rising
   named-rises [] n read a = tt
   named-rises (v ∷ vs) n read a =

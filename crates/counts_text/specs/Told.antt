@@ -43,7 +43,7 @@ pub record CanReadTables (mem : List ℕ) (names : List (List ℕ)) (v : ℕ) : 
   pub known : owner_in mem v / 256 < length names
 
 -- Each record of a fun is listed once, and no two are of one name and arity.
-pub record AreApart (mem : List ℕ) (funs : List ℕ) : Type 0 where
+pub record FunsDiffer (mem : List ℕ) (funs : List ℕ) : Type 0 where
   pub once : Distinct funs
   pub differ : (v w : ℕ) → In v funs → In w funs → owner_in mem v ≡ owner_in mem w → v ≡ w
 
@@ -51,7 +51,7 @@ pub record AreApart (mem : List ℕ) (funs : List ℕ) : Type 0 where
 pub record CanTellCounts (mem : List ℕ) (names : List (List ℕ)) (bins funs : List ℕ) : Type 0 where
   pub each_bin : AllLieWithin mem bins
   pub each_fun : (v : ℕ) → In v funs → CanReadTables mem names v
-  pub apart : AreApart mem funs
+  pub apart : FunsDiffer mem funs
 
 -- So is it of a record, if there is one.
 abbrev pub CanReadSome : List ℕ → List (List ℕ) → Option ℕ → Type 0

@@ -1,12 +1,12 @@
 // The text of `counts`, part by part.
 ghost use Rattle.std.specs.Prelude.{◌≡◌, ℕ, ◌++◌, map};
-ghost use Rattle.line_io.specs.Sink.{Written};
+ghost use Rattle.line_io.specs.Sink.{WritesCounted};
 ghost use Rattle.plain_machine.specs.Maps.{bin_text, fun_text};
 ghost use Rattle.plain_machine.specs.Texts.{divided};
 ghost use Rattle.term_words.specs.Counted.{In};
 ghost use Rattle.record_move.specs.Tables.{AllLieWithin};
 ghost use Rattle.reply_text.specs.Texts.{divider};
-ghost use Rattle.counts_text.specs.Told.{AreApart, CanReadTables, CanTellCounts, bin_of, by_name, counts_told, fun_of};
+ghost use Rattle.counts_text.specs.Told.{FunsDiffer, CanReadTables, CanTellCounts, bin_of, by_name, counts_told, fun_of};
 
 use crate::next::next_fun;
 use atom_names::AtomNames;
@@ -25,7 +25,7 @@ pub fn put_counts<K: Sink>(
     sink: &mut K,
 ) -> Result<(), SinkFault>
     requires { CanTellCounts mem.now names.now bins.now funs.now }
-    ensures { Written K.wrote K.faults sink.old sink.new (counts_told mem.now names.now bins.now funs.now) result }
+    ensures { WritesCounted K.wrote K.faults sink.old sink.new (counts_told mem.now names.now bins.now funs.now) result }
 {
     put(sink, b"bins [")?;
     put_bins(mem, bins, sink)?;
@@ -37,7 +37,7 @@ pub fn put_counts<K: Sink>(
 // Writes the entries of the records of binaries, divided by commas.
 fn put_bins<K: Sink>(mem: &WordMem, bins: &[u64], sink: &mut K) -> Result<(), SinkFault>
     requires { AllLieWithin mem.now bins.now }
-    ensures { Written K.wrote K.faults sink.old sink.new (divided (map bin_text (map (bin_of mem.now) bins.now))) result }
+    ensures { WritesCounted K.wrote K.faults sink.old sink.new (divided (map bin_text (map (bin_of mem.now) bins.now))) result }
 {
     for i in 0..bins.len() {
         let v = bins[i];
@@ -54,8 +54,8 @@ fn put_funs<K: Sink>(
     sink: &mut K,
 ) -> Result<(), SinkFault>
     requires each { (v : ℕ) → In v funs.now → CanReadTables mem.now names.now v }
-    requires apart { AreApart mem.now funs.now }
-    ensures { Written K.wrote K.faults sink.old sink.new
+    requires apart { FunsDiffer mem.now funs.now }
+    ensures { WritesCounted K.wrote K.faults sink.old sink.new
         (divided (map (fun_text names.now) (map (fun_of mem.now) (by_name mem.now names.now funs.now)))) result }
 {
     let _known = names.count();
@@ -79,7 +79,7 @@ fn put_entry<K: Sink>(
     sink: &mut K,
 ) -> Result<(), SinkFault>
     requires { CanReadTables mem.now names.now v }
-    ensures { Written K.wrote K.faults sink.old sink.new (divider first ++ fun_text names.now (fun_of mem.now v)) result }
+    ensures { WritesCounted K.wrote K.faults sink.old sink.new (divider first ++ fun_text names.now (fun_of mem.now v)) result }
 {
     let owner = serial_of(mem, v);
     put_fun(

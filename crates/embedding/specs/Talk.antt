@@ -2,7 +2,7 @@
 use Rattle.std.specs.Prelude.{ℕ}
 use Rattle.plain_machine.specs.State.{State}
 use Rattle.space_api.specs.Calls.{Properly}
-use Rattle.one_space.specs.One.{OneStands, words_of as space_words}
+use Rattle.one_space.specs.One.{OneStands, words_of}
 use Rattle.engine.specs.Acts.{StandsWith}
 use Rattle.embedding.specs.declared.talk.Talk.{Talk}
 
@@ -11,9 +11,9 @@ abbrev pub StandsFor : Talk → State → Type 0
 StandsFor t = StandsWith (Properly (OneStands t.machine.space)) t.machine.names
 
 -- the words of its arena, both halves
-abbrev pub words_of : Talk → ℕ
-words_of t = space_words t.machine.space
+abbrev pub arena_words : Talk → ℕ
+arena_words t = words_of t.machine.space
 
 -- how many lines may still be said
-abbrev pub lines_left : Talk → ℕ
-lines_left t = t.left
+abbrev pub lines_to_say : Talk → ℕ
+lines_to_say t = t.left

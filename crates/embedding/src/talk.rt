@@ -25,15 +25,15 @@ pub struct Talk {
 }
 
 impl Talk {
-    ghost use Rattle.embedding.specs.Talk.{StandsFor, lines_left, words_of};
+    ghost use Rattle.embedding.specs.Talk.{StandsFor, lines_to_say, arena_words};
 
     /// A machine in its first state, over an arena of so many words, to which so many lines may be said. All memory is taken here.
     pub fn open(alloc: Global, words: u64, lines: u64) -> Option<Talk>
         requires arena { is_arena words ≡ true }
         requires lines { lines ≤ most_calls }
         ensures first { IfSome result (λ t. StandsFor t first_state) }
-        ensures words { IfSome result (λ t. words_of t ≡ words) }
-        ensures left { IfSome result (λ t. lines_left t ≡ lines) }
+        ensures words { IfSome result (λ t. arena_words t ≡ words) }
+        ensures left { IfSome result (λ t. lines_to_say t ≡ lines) }
     {
         let machine = first_machine(alloc, words)?;
         Some(Talk {
@@ -45,13 +45,13 @@ impl Talk {
     /// Has a line done, and writes its reply to `sink`. A refused line is answered too, and leaves the state as it was.
     pub fn say<K: Sink>(&mut self, line: &[u8], sink: &mut K) -> Stepped
         requires short { length line.now ≤ LONGEST_LINE }
-        requires left { 0 < lines_left self.old }
+        requires left { 0 < lines_to_say self.old }
         ensures steps { (s : State) → StandsFor self.old s
-            → Steps (record { may = may_of_tight; words = words_of self.old }) s (text line.now)
+            → Steps (record { may = may_of_tight; words = arena_words self.old }) s (text line.now)
             (record { stands = StandsFor self.new; text = ⟦<OneSpace as Space>⟧.text self.new.machine.space self.new.machine.names })
             (record { wrote = K.wrote; faults = K.faults; before = sink.old; after = sink.new }) result }
-        ensures left { lines_left self.old ≡ lines_left self.new + 1 }
-        ensures words { words_of self.new ≡ words_of self.old }
+        ensures left { lines_to_say self.old ≡ lines_to_say self.new + 1 }
+        ensures words { arena_words self.new ≡ arena_words self.old }
     {
         self.left -= 1;
         step(&mut self.machine, line, sink)
@@ -59,7 +59,7 @@ impl Talk {
 
     /// How many lines may still be said.
     pub fn left(&self) -> u64
-        ensures { result ≡ lines_left self.now }
+        ensures { result ≡ lines_to_say self.now }
     {
         self.left
     }

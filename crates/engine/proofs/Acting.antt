@@ -35,7 +35,7 @@ use Rattle.plain_machine.specs.Step.Outcome.{Accepted, Refused as IsRefused, Map
 use Rattle.plain_machine.specs.Run.{CommandStep, Skips, Gives, LacksSpace, refusal_text, is_nothing, is_quit}
 use Rattle.plain_machine.specs.Maps.{is_map}
 use Rattle.space_api.specs.declared.space.Seat.{Seat}
-use Rattle.space_api.specs.Calls.{said, Follows, Stays, Becomes, Passes, one_term, HasEnv, IsTerm}
+use Rattle.space_api.specs.Calls.{said, Follows, Stays, Becomes, Passes, one_term, HasEnv, IsWrittenTerm}
 use Rattle.engine.specs.declared.reply.Reply.{Reply}
 use Rattle.engine.specs.declared.reply.Reply.TheVariants.{Done, Spawned, Counts, Told, Refused}
 use Rattle.engine.specs.Replies.{CanTell, reply_lines, reply_of, ends_script, outcome_text}
@@ -210,7 +210,7 @@ module _ (supply : Supply) (number : ℕ) (names : List (List ℕ)) (code : List
 
   -- `set`, whose terms are those of the code
   pub set-does : {A : Type 0} (x : Reg) (r : Result A Refusal) → reply ≡ reply_of (λ (a : A). Done) r
-      → ((s : State) (t : Term) → Old s → HasNames s names → IsTerm names code t → Becomes supply.may supply.words s (said (Process number (Set x)) (one_term t) names) r after.stands)
+      → ((s : State) (t : Term) → Old s → HasNames s names → IsWrittenTerm names code t → Becomes supply.may supply.words s (said (Process number (Set x)) (one_term t) names) r after.stands)
       → DoesVerb (Set x)
   set-does {A} x r e b = λ s terms h f.
       let t : Term = f.term.0 in

@@ -20,7 +20,7 @@ use Rattle.plain_machine.specs.Step.{is_printing}
 use Rattle.plain_machine.specs.Maps.{is_map}
 use Rattle.plain_machine.proofs.Properly.Living.{joined-end}
 use Rattle.plain_machine.proofs.ByLine.Printing.{prints-none}
-use Rattle.script_grammar.specs.ReadAs.{IsRead, IsOutside, BringsTooMany}
+use Rattle.script_grammar.specs.ReadAs.{IsRead, SaysNoCommand, BringsTooMany}
 use Rattle.plain_machine.specs.Run.{CommandStep}
 use Rattle.script_grammar.specs.ReadAs.Reading.{Means, NoSyntax, NoAtoms}
 use Rattle.space_api.specs.Calls.{said}
@@ -200,7 +200,7 @@ module _ (line : List ℕ) (before : List (List ℕ)) (c : Command) (after : Lis
 -- the line is refused before it comes to a command
 pub takes-nothing : (supply : Supply) (s : State) (line : List ℕ) (e : Refusal) (before names : List (List ℕ)) (after : After)
     → StandsWith after.stands before s → names ≡ before → (e ≡ Syntax) ⊎ (e ≡ Atoms)
-    → (e ≡ Syntax → IsOutside line) → (e ≡ Atoms → BringsTooMany before line) → Takes supply s line (Refused e) after names
+    → (e ≡ Syntax → SaysNoCommand line) → (e ≡ Atoms → BringsTooMany before line) → Takes supply s line (Refused e) after names
 takes-nothing supply s line e before names after st same (inl h) out over =
     let P : Refusal → Type 0 = λ z. Takes supply s line (Refused z) after names in
     subst P (sym h) (record {

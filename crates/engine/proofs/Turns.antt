@@ -18,7 +18,7 @@ use Rattle.plain_machine.proofs.ByLine.Runs.{run-append, run-one, run-none, text
 use Rattle.isolation.proofs.Alone.{isolates}
 use Rattle.engine.specs.Rules.{After, Rules, Input, Output}
 use Rattle.engine.specs.Steps.{Steps, StepWrites, TellsQuit, WritesAll}
-use Rattle.engine.specs.Serving.{AreIsolated, Course, EndsBy, Going, Runs, Served, Turns, turn_of}
+use Rattle.engine.specs.Serving.{AreIsolated, Course, EndsBy, Going, CourseRuns, Served, Turns, turn_of}
 use Rattle.engine.specs.declared.serving.Status.{Status}
 use Rattle.engine.specs.declared.serving.Status.TheVariants.{Done, ReadFault, TooMuch}
 use Rattle.engine.specs.declared.serving.Turn.{Turn}
@@ -30,7 +30,7 @@ abbrev pub source_from : (before after : Option (List ℕ)) → Input
 source_from before after = record { before = before; after = after }
 
 -- each process of a run from the first state was alone
-are-isolated : (rules : Rules) (c : Course) → Runs rules c → AreIsolated rules c
+are-isolated : (rules : Rules) (c : Course) → CourseRuns rules c → AreIsolated rules c
 are-isolated rules c run first = isolates rules.supply.may rules.supply.words c.quits c.given c.replies c.last
     (subst (λ (z : State). Run rules.supply.may rules.supply.words c.quits z c.given c.replies c.last) first run)
 

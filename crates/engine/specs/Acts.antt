@@ -13,7 +13,7 @@ use Rattle.plain_machine.specs.Step.{step, is_printing}
 use Rattle.plain_machine.specs.Step.Outcome.{Mapped}
 use Rattle.plain_machine.specs.Run.{CommandStep, TextStep}
 use Rattle.plain_machine.specs.Maps.{is_map}
-use Rattle.space_api.specs.Calls.{HasEnv, HasTerm, IsEnv, IsTerm, one_term}
+use Rattle.space_api.specs.Calls.{HasEnv, HasTerm, IsEnv, IsWrittenTerm, one_term}
 use Rattle.engine.specs.declared.reply.Reply.{Reply}
 use Rattle.engine.specs.declared.reply.Reply.TheVariants.{Refused}
 use Rattle.engine.specs.Replies.{AllowsMap, Shown, reply_lines, ends_script}
@@ -43,7 +43,7 @@ HasCode _ names code = Unit {0}
 
 -- The terms of a command that builds are the one that its code is the prefix form of, or the registers of its environment.
 abbrev pub TermsFit : Command → List (List ℕ) → List Item → Terms → Type 0
-TermsFit (Process number (Set r)) names code terms = (t : Term) × (terms ≡ one_term t) × IsTerm names code t
+TermsFit (Process number (Set r)) names code terms = (t : Term) × (terms ≡ one_term t) × IsWrittenTerm names code t
 TermsFit (Process number (Fun r name arity)) names code terms = HasEnv names name code terms
 TermsFit _ names code terms = Unit {0}
 

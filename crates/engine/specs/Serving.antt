@@ -38,8 +38,8 @@ pub record Course : Type 0 where
   pub quits : Bool
 
 -- The lines that were done lead from the first state to the last with these replies.
-abbrev pub Runs : Rules → Course → Type 0
-Runs rules c = Run rules.supply.may rules.supply.words c.quits rules.first c.given c.replies c.last
+abbrev pub CourseRuns : Rules → Course → Type 0
+CourseRuns rules c = Run rules.supply.may rules.supply.words c.quits rules.first c.given c.replies c.last
 
 -- Where they began at the first state, each process was alone: its own lines were answered as its view of them says.
 abbrev pub AreIsolated : Rules → Course → Type 0
@@ -93,7 +93,7 @@ pub record Served (rules : Rules) (source : Input) {K : Type 0} (out : Output K)
   pub took : Gave source.before source.after course.bytes
   pub told : IsEndOf course.ended source.after
   pub front : lines course.bytes course.ended rules.limits ≡ course.given ++ course.rest
-  pub run : Runs rules course
+  pub run : CourseRuns rules course
   pub isolated : AreIsolated rules course
   pub stands : Stands course.last
   pub ends : EndsBy status rules source.after course out

@@ -15,13 +15,13 @@ two_at zero = (12, 38)
 two_at (suc k) = move_on k (two_at k)
 
 -- Entry k of the sequence.
-abbrev pub size_at : ℕ → ℕ
-size_at k = (two_at k).0
+abbrev pub heap_size : ℕ → ℕ
+heap_size k = (two_at k).0
 
 -- The least of the 39 entries that is at least n.
 pub record IsNextSize (n size : ℕ) : Type 0 where
   pub place : ℕ
   pub inside : place < 39
-  pub entry : size ≡ size_at place
+  pub entry : size ≡ heap_size place
   pub enough : n ≤ size
-  pub least : (k : ℕ) → k < 39 → n ≤ size_at k → size ≤ size_at k
+  pub least : (k : ℕ) → k < 39 → n ≤ heap_size k → size ≤ heap_size k

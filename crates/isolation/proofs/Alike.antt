@@ -17,9 +17,9 @@ use Rattle.plain_machine.specs.Tightness.{held_trees}
 use Rattle.plain_machine.specs.Laws.{AreProper, HoldsProper}
 use Rattle.plain_machine.proofs.Properly.Making.{Extends}
 use Rattle.plain_machine.proofs.Properly.Holding.{split-proper}
-use Rattle.named_trees.specs.NamedTree.{NamedTree, named}
+use Rattle.named_trees.specs.NamedTree.{NamedTree, as_named}
 use Rattle.named_trees.specs.NamedTree.{NamedTree as by_name}
-use Rattle.named_trees.specs.Entering.{names_in, bytes_in, names_with, shared_with, entered}
+use Rattle.named_trees.specs.Entering.{names_in, shared_in, names_with, shared_with, entered}
 use Rattle.named_trees.specs.Laws.{AllKnown}
 use Rattle.named_trees.proofs.Growing.{proper-known}
 use Rattle.named_trees.proofs.Entering.{enters}
@@ -109,7 +109,7 @@ module _ (m : ℕ) (a : NamedTree) (t : State) where
   names-more = let k = with-names-more t.names (names_in a) in record { more = k.0; are = k.1 }
 
   shared-more : Extends t.shared (shared_with t.shared a)
-  shared-more = let k = with-names-more t.shared (bytes_in a) in record { more = k.0; are = k.1 }
+  shared-more = let k = with-names-more t.shared (shared_in a) in record { more = k.0; are = k.1 }
 
   -- one that lives
   process-received : (q : Live) → q.number ≡ m → KnownProcess t.names t.shared q
@@ -123,8 +123,8 @@ module _ (m : ℕ) (a : NamedTree) (t : State) where
       let g = grown-process t.names ns t.shared bs q names-more shared-more h in
       let P : Live → Type 0 = λ z. (process_named ns bs z ≡ more_named (a ∷ []) (process_named t.names t.shared q)) × KnownProcess ns bs z in
       let put : with_queued m u q ≡ with_more (u ∷ []) q = ap (λ b. cond b (with_more (u ∷ []) q) q) (eq-eqb q.number m is) in
-      let queue : map (named ns bs) (q.queue ++ u ∷ []) ≡ map (named ns bs) q.queue ++ a ∷ [] = map-append (named ns bs) q.queue (u ∷ [])
-      ∙ ap (λ (z : NamedTree). map (named ns bs) q.queue ++ z ∷ []) e.is in
+      let queue : map (as_named ns bs) (q.queue ++ u ∷ []) ≡ map (as_named ns bs) q.queue ++ a ∷ [] = map-append (as_named ns bs) q.queue (u ∷ [])
+      ∙ ap (λ (z : NamedTree). map (as_named ns bs) q.queue ++ z ∷ []) e.is in
       subst P (sym put) (
         ap (λ (z : List NamedTree). record (process_named ns bs q) { queue = z }) queue ∙ ap (more_named (a ∷ [])) (g.0),
         record { registers = (g.1).registers; stack = (g.1).stack; queue = join-known ns bs q.queue (u ∷ []) ((g.1).queue) (e.known, tt) },
@@ -181,18 +181,18 @@ behind m s next = drop (length (queue_of m s)) (queue_of m next)
 
 -- a line that is not its own leaves the process alike, once what stands behind its queue was received
 pub passes-alike : (m : ℕ) (s next t : State) → Passes m s next → IsKnownIn m s → Alike m s t
-    → Alike m next (after_all m t (map (λ u. message (named next.names next.shared u)) (behind m s next)))
+    → Alike m next (after_all m t (map (λ u. message (as_named next.names next.shared u)) (behind m s next)))
 passes-alike m s next t p h a =
-    let f : Tree → NamedTree = named next.names next.shared in
+    let f : Tree → NamedTree = as_named next.names next.shared in
     let r = messages-received m t f (behind m s next) a.known in
     record { same = at (process_of m s) h (process_of m next) p.is ∙ (ap (option_map (more_named (map f (behind m s next)))) a.same ∙ sym (r.0)); known = r.1 }
   where
     at : (o : Option Live) → IfKnown s.names s.shared o → (n : Option Live) → n ≡ option_map (with_more p.more) o
         → option_map (process_named next.names next.shared) n
-        ≡ option_map (more_named (map (named next.names next.shared) (drop (length (queue_in o)) (queue_in n)))) (option_map (process_named s.names s.shared) o)
+        ≡ option_map (more_named (map (as_named next.names next.shared) (drop (length (queue_in o)) (queue_in n)))) (option_map (process_named s.names s.shared) o)
     at None h n e = ap (option_map (process_named next.names next.shared)) e
     at (Some q) h n e =
-        let f : Tree → NamedTree = named next.names next.shared in
+        let f : Tree → NamedTree = as_named next.names next.shared in
         let g = grown-process s.names next.names s.shared next.shared q p.names p.shared h in
         let back : p.more ≡ drop (length q.queue) (queue_in n) = sym (drop-front q.queue p.more) ∙ ap (λ z. drop (length q.queue) (queue_in z)) (sym e) in
         ap (option_map (process_named next.names next.shared)) e ∙ ap Some (
@@ -200,7 +200,7 @@ passes-alike m s next t p h a =
         ∙ (λ i. more_named (map f (back i)) (g.0 i)))
 
 -- the process comes to live on both
-nils-named : (names shared : List (List ℕ)) (n : ℕ) → map (named names shared) (replicate n tree.Nil) ≡ replicate n by_name.Nil
+nils-named : (names shared : List (List ℕ)) (n : ℕ) → map (as_named names shared) (replicate n tree.Nil) ≡ replicate n by_name.Nil
 nils-named names shared zero = refl
 nils-named names shared (suc n) = ap (λ (z : List NamedTree). by_name.Nil ∷ z) (nils-named names shared n)
 

@@ -16,8 +16,8 @@ use Rattle.plain_machine.specs.Step.Outcome.{Accepted, Refused, Mapped}
 use Rattle.plain_machine.specs.Run.{CommandStep, Gives}
 use Rattle.plain_machine.specs.Laws.{HoldsProper, IsNumbered}
 use Rattle.plain_machine.proofs.Properly.Living.{first-proper}
-use Rattle.named_trees.specs.NamedTree.{named}
-use Rattle.isolation.specs.Events.{Event, IsEvent, IsAnswered, Tells, NoneShort, IsShort}
+use Rattle.named_trees.specs.NamedTree.{as_named}
+use Rattle.isolation.specs.Events.{Event, IsEvent, IsAnswered, TellsEvents, NoneShort, TellsNoRoom}
 use Rattle.isolation.specs.Views.{Sight, is_own, own_line, births, queue_in, messages, areas, sights, view_of, is_map_line, shows_map, own_answers, own_replies}
 use Rattle.isolation.specs.Views.Sight.{own, born, message}
 use Rattle.isolation.specs.Solo.{solo_first, solo, answers_of, left_by, step_at, solo_from}
@@ -30,7 +30,7 @@ use Rattle.isolation.proofs.Solitary.{solitary-first}
 use Rattle.isolation.proofs.Told.{Brings, event-brings, areas-none, event-proper, run-events}
 
 comes-messages : (m : ℕ) (e : Event) → Comes m e.before e.after → messages m e ≡ []
-comes-messages m e h = λ i. map (λ t. message (named e.after.names e.after.shared t)) (drop (length (queue_in (h.before i))) (queue_in (h.after i)))
+comes-messages m e h = λ i. map (λ t. message (as_named e.after.names e.after.shared t)) (drop (length (queue_in (h.before i))) (queue_in (h.after i)))
 
 -- an event and what is seen of it
 pub record EventAlone (m : ℕ) (e : Event) (t : State) : Type 0 where
@@ -51,7 +51,7 @@ other-answers m e apart = ap (λ b. cond (b && not (shows_map e.said)) e.replies
 
 other-alone : (m : ℕ) (e : Event) (t : State) → is_own m e.said ≡ false → areas e.said e.replies ≡ [] → Brings m e → IsKnownIn m e.before → Alike m e.before t → EventAlone m e t
 other-alone m e t apart none (inl h) known a = alone-by m e t (messages m e) (other-sights m e [] (messages m e) apart (passes-births m e h) refl none)
-    (other-answers m e apart ∙ sym (messages-silent m t (named e.after.names e.after.shared) (behind m e.before e.after)))
+    (other-answers m e apart ∙ sym (messages-silent m t (as_named e.after.names e.after.shared) (behind m e.before e.after)))
     (passes-alike m e.before e.after t h known a)
 other-alone m e t apart none (inr h) known a = alone-by m e t (born ∷ []) (other-sights m e (born ∷ []) [] apart (comes-births m e h.comes) (comes-messages m e h.comes) none)
     (other-answers m e apart) (born-alike m e.after t h.comes.after)
@@ -68,7 +68,7 @@ gives-own s n v Mapped quits replies new g = absurd (g.allowed)
 
 module _ (may : ℕ → State → Parsed → Bool) (words : ℕ) (quits : Bool) (m : ℕ) where
   -- its line is done
-  done-alone : (e : Event) (t : State) (w : Word) (ops : Operands (kinds_of w)) → e.said ≡ Some (OfProcess m w ops) → (IsShort e.replies → ⊥)
+  done-alone : (e : Event) (t : State) (w : Word) (ops : Operands (kinds_of w)) → e.said ≡ Some (OfProcess m w ops) → (TellsNoRoom e.replies → ⊥)
       → CommandStep may words e.before (parsed_of e.before.names (OfProcess m w ops)) quits e.replies e.after → IsKnownIn m e.before → Alike m e.before t → EventAlone m e t
   done-alone e t w ops is ample (inr k) known a = absurd (ample (inr (grow e.before (parsed_of e.before.names (OfProcess m w ops)), k.refuses.said)))
   done-alone e t w ops is ample (inl g) known a =
@@ -86,7 +86,7 @@ module _ (may : ℕ → State → Parsed → Bool) (words : ℕ) (quits : Bool) 
       by-map true replies = refl
       by-map false replies = sym (append-nil replies)
 
-  own-alone : (e : Event) (t : State) (line : Line) (said : Option Written) → e.said ≡ said → is_own m said ≡ true → IsAnswered may words quits e line said → (IsShort e.replies → ⊥)
+  own-alone : (e : Event) (t : State) (line : Line) (said : Option Written) → e.said ≡ said → is_own m said ≡ true → IsAnswered may words quits e line said → (TellsNoRoom e.replies → ⊥)
       → IsKnownIn m e.before → Alike m e.before t → EventAlone m e t
   own-alone e t (text line) (Some (OfProcess n w ops)) is mine h ample known a =
       let same : n ≡ m = eqb-true n m mine in
@@ -103,7 +103,7 @@ module _ (may : ℕ → State → Parsed → Bool) (words : ℕ) (quits : Bool) 
   own-alone e t long None is mine h ample known a = absurd (cc)
 
   -- each event
-  event-alone : (e : Event) (t : State) → IsEvent may words quits e → (IsShort e.replies → ⊥) → IsKnownIn m e.before → Alike m e.before t → EventAlone m e t
+  event-alone : (e : Event) (t : State) → IsEvent may words quits e → (TellsNoRoom e.replies → ⊥) → IsKnownIn m e.before → Alike m e.before t → EventAlone m e t
   event-alone e t h ample known a = at (is_own m e.said) refl
     where
       at : (b : Bool) → is_own m e.said ≡ b → EventAlone m e t
@@ -111,9 +111,10 @@ module _ (may : ℕ → State → Parsed → Bool) (words : ℕ) (quits : Bool) 
       at false apart = other-alone m e t apart (areas-none may words quits e e.line e.said h) (event-brings may words quits m e e.line e.said refl apart h) known a
 
 -- all events from a state on
-pub events-alone : (may : ℕ → State → Parsed → Bool) (words : ℕ) (quits : Bool) (m : ℕ) (s t new : State) (events : List Event) → Tells may words quits s events new → HoldsProper s → NoneShort events
+pub events-alone : (may : ℕ → State → Parsed → Bool) (words : ℕ) (quits : Bool) (m : ℕ) (s t new : State) (events : List Event) → TellsEvents may words quits s events new → HoldsProper s
+    → NoneShort events
     → Alike m s t → own_replies m events ≡ solo_from m t (view_of m events)
-unfolding Tells
+unfolding TellsEvents
 events-alone may words quits m s t new [] told h ample a = refl
 events-alone may words quits m s t new (e ∷ events) told h ample a =
     let proper : HoldsProper e.before = subst HoldsProper (sym (told.1)) h in
@@ -123,14 +124,14 @@ events-alone may words quits m s t new (e ∷ events) told h ample a =
     (λ i. one.answers i ++ at (told.0) (told.3) (λ k. events-alone may words quits m e.after (after_all m t (sights m e)) new events k after (ample.1) one.alike) i)
     ∙ sym (solo-append m t (sights m e) (view_of m events))
   where
-    at : (ends : Bool) → MatchBool ends ((quits ≡ true) × (events ≡ []) × (new ≡ e.after)) (Tells may words quits e.after events new)
-        → (Tells may words quits e.after events new → own_replies m events ≡ solo_from m (after_all m t (sights m e)) (view_of m events))
+    at : (ends : Bool) → MatchBool ends ((quits ≡ true) × (events ≡ []) × (new ≡ e.after)) (TellsEvents may words quits e.after events new)
+        → (TellsEvents may words quits e.after events new → own_replies m events ≡ solo_from m (after_all m t (sights m e)) (view_of m events))
         → own_replies m events ≡ solo_from m (after_all m t (sights m e)) (view_of m events)
     at true k rest = let P : List Event → Type 0 = λ z. own_replies m z ≡ solo_from m (after_all m t (sights m e)) (view_of m z) in subst P (sym (k.1)) refl
     at false k rest = rest k
 
 -- from the first state
-pub first-alone : (may : ℕ → State → Parsed → Bool) (words : ℕ) (quits : Bool) (new : State) (events : List Event) → Tells may words quits first_state events new → AreAlone events
+pub first-alone : (may : ℕ → State → Parsed → Bool) (words : ℕ) (quits : Bool) (new : State) (events : List Event) → TellsEvents may words quits first_state events new → AreAlone events
 first-alone may words quits new events told ample p = events-alone may words quits p first_state (solo_first p) new events told first-proper ample (first-alike p)
 
 pub isolates : RunsIsolate

@@ -21,7 +21,7 @@ use Rattle.plain_machine.specs.Laws.{IsNumbered, AreFresh}
 use Rattle.plain_machine.proofs.ByLine.Runs.{run-one}
 use Rattle.plain_machine.proofs.Numbering.Numbers.{live-below}
 use Rattle.plain_machine.proofs.Numbering.Numbered.{run-fresh}
-use Rattle.isolation.specs.Events.{Event, IsEvent, IsAnswered, Tells}
+use Rattle.isolation.specs.Events.{Event, IsEvent, IsAnswered, TellsEvents}
 use Rattle.isolation.specs.Views.{Sight, is_own, births}
 use Rattle.isolation.specs.Views.Sight.{born}
 use Rattle.isolation.specs.Laws.{IsSpawnOf, AllBirthsAreSpawns, AreRefused}
@@ -136,8 +136,9 @@ event-fresh : (may : ℕ → State → Parsed → Bool) (words : ℕ) (quits : B
 event-fresh may words quits e h k = run-fresh may words quits e.before e.after (e.line ∷ []) e.replies k
     (run-one may words quits e.before e.after e.line e.replies (event-line may words quits e e.line e.said h))
 
-pub births-are : (may : ℕ → State → Parsed → Bool) (words : ℕ) (quits : Bool) (s new : State) (events : List Event) → IsNumbered s → Tells may words quits s events new → AllBirthsAreSpawns events
-unfolding Tells
+pub births-are : (may : ℕ → State → Parsed → Bool) (words : ℕ) (quits : Bool) (s new : State) (events : List Event) → IsNumbered s → TellsEvents may words quits s events new
+    → AllBirthsAreSpawns events
+unfolding TellsEvents
 births-are may words quits s new [] numbered told = tt
 births-are may words quits s new (e ∷ events) numbered told =
     let before : IsNumbered e.before = subst IsNumbered (sym (told.1)) numbered in
@@ -146,8 +147,8 @@ births-are may words quits s new (e ∷ events) numbered told =
       at (told.0) (told.3) (λ k. births-are may words quits e.after new events after k),
     )
   where
-    at : (ends : Bool) → MatchBool ends ((quits ≡ true) × (events ≡ []) × (new ≡ e.after)) (Tells may words quits e.after events new)
-        → (Tells may words quits e.after events new → AllBirthsAreSpawns events) → AllBirthsAreSpawns events
+    at : (ends : Bool) → MatchBool ends ((quits ≡ true) × (events ≡ []) × (new ≡ e.after)) (TellsEvents may words quits e.after events new)
+        → (TellsEvents may words quits e.after events new → AllBirthsAreSpawns events) → AllBirthsAreSpawns events
     at true k rest = subst AllBirthsAreSpawns (sym (k.1)) tt
     at false k rest = rest k
 
@@ -175,9 +176,9 @@ once-event p e rest f h = at (is_live p e.before) (is_live p e.after) refl refl
     at false false was now = once-later p e.before.next e.after.next (births p e) rest (λ i. birth-by (was i) (now i)) f.rises h
     at true c was now = once-later p e.before.next e.after.next (births p e) rest (λ i. birth-by (was i) (now i)) f.rises h
 
-pub born-once : (may : ℕ → State → Parsed → Bool) (words : ℕ) (quits : Bool) (p : ℕ) (s new : State) (events : List Event) → IsNumbered s → Tells may words quits s events new
+pub born-once : (may : ℕ → State → Parsed → Bool) (words : ℕ) (quits : Bool) (p : ℕ) (s new : State) (events : List Event) → IsNumbered s → TellsEvents may words quits s events new
     → OnceFrom p s.next (flat_map (births p) events)
-unfolding Tells
+unfolding TellsEvents
 born-once may words quits p s new [] numbered told = record { once = omega arith; none = λ below. refl }
 born-once may words quits p s new (e ∷ events) numbered told =
     let before : IsNumbered e.before = subst IsNumbered (sym (told.1)) numbered in
@@ -185,7 +186,7 @@ born-once may words quits p s new (e ∷ events) numbered told =
     subst (λ (z : State). OnceFrom p z.next (flat_map (births p) (e ∷ events))) (told.1)
     (once-event p e (flat_map (births p) events) f (at (told.0) (told.3) (λ k. born-once may words quits p e.after new events f.numbered k)))
   where
-    at : (ends : Bool) → MatchBool ends ((quits ≡ true) × (events ≡ []) × (new ≡ e.after)) (Tells may words quits e.after events new)
-        → (Tells may words quits e.after events new → OnceFrom p e.after.next (flat_map (births p) events)) → OnceFrom p e.after.next (flat_map (births p) events)
+    at : (ends : Bool) → MatchBool ends ((quits ≡ true) × (events ≡ []) × (new ≡ e.after)) (TellsEvents may words quits e.after events new)
+        → (TellsEvents may words quits e.after events new → OnceFrom p e.after.next (flat_map (births p) events)) → OnceFrom p e.after.next (flat_map (births p) events)
     at true k rest = subst (λ (z : List Event). OnceFrom p e.after.next (flat_map (births p) z)) (sym (k.1)) (record { once = omega arith; none = λ below. refl })
     at false k rest = rest k

@@ -20,7 +20,7 @@ use Rattle.plain_machine.specs.Texts.{divided}
 use Rattle.plain_machine.specs.Step.{Outcome, unless_beyond, eq_text, cmp_text}
 use Rattle.plain_machine.specs.Step.Outcome.{Accepted, Refused, Mapped}
 use Rattle.plain_machine.specs.Run.{refusal_text}
-use Rattle.named_trees.specs.NamedTree.{NamedTree, NamedPairs, named}
+use Rattle.named_trees.specs.NamedTree.{NamedTree, NamedPairs, as_named}
 use Rattle.named_trees.specs.NamedTree.NamedTree.{Pid, Ref, Nil, Map, Fun}
 use Rattle.named_trees.specs.Seen.{named_beyond, named_order, named_flat, named_text, pairs_count}
 use Rattle.named_trees.specs.Doing.{named_picked, named_put, named_repeated, named_bin, named_made, all_named_made, named_wide, named_big}
@@ -37,9 +37,9 @@ pub record NamedProcess : Type 0 where
 abbrev pub process_named : (names shared : List (List ℕ)) → Live → NamedProcess
 process_named names shared q = record {
   number = q.number;
-  registers = map (named names shared) q.registers;
-  stack = map (named names shared) q.stack;
-  queue = map (named names shared) q.queue;
+  registers = map (as_named names shared) q.registers;
+  stack = map (as_named names shared) q.stack;
+  queue = map (as_named names shared) q.queue;
   refs = q.refs;
 }
 

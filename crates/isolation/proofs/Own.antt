@@ -27,17 +27,17 @@ use Rattle.script_grammar.specs.Written.Terms.{end, ◌▹◌}
 use Rattle.script_grammar.specs.Names.{Parsed, held_terms, reg, number_of, atoms_of, operands_atoms, all_atoms, operands_terms, verb_of, names_after, parsed_of}
 use Rattle.plain_machine.specs.declared.limits.TheConstants.{MOST_PLACES, MOST_FILL, MOST_ARITY, MOST_BYTE}
 use Rattle.plain_machine.specs.State.{Process as Live, State, process_of, register, with_register, with_process, with_queued, without_process}
-use Rattle.plain_machine.specs.Made.{tree_of, trees_of, bin_tree, too_many}
+use Rattle.plain_machine.specs.Made.{tree_of, trees_of_terms, bin_tree, too_many}
 use Rattle.plain_machine.specs.Flaws.{is_wide, is_big, flaw_of}
 use Rattle.plain_machine.specs.Parts.{picked, pairs_in, repeated}
-use Rattle.plain_machine.specs.Tightness.{number_in, receiver}
+use Rattle.plain_machine.specs.Tightness.{pid_number, receiver}
 use Rattle.plain_machine.specs.Texts.{divided}
 use Rattle.plain_machine.specs.Step.{Outcome, does, unless_flawed, choose, put_unless_wide, put_unless_big, put_into, fill_if, fun_if, repeat_if, pop_from, send_within, send_to, recv_from, tells, unless_beyond, eq_text, cmp_text, by_verb, in_process, step, with_made, written_tree, written_flaw, env_of}
 use Rattle.plain_machine.specs.Step.Outcome.{Refused}
 use Rattle.script_grammar.proofs.Naming.{ArePlaced, placed-front, number-below, with-names-more, with-names-placed}
 use Rattle.plain_machine.proofs.Properly.Making.{Extends, extends-none, bin-more, made-more}
 use Rattle.plain_machine.proofs.Properly.Living.{joined-end}
-use Rattle.named_trees.specs.NamedTree.{NamedTree, named, all_named, pairs_named, IsKnown, AreKnown, PairsKnown}
+use Rattle.named_trees.specs.NamedTree.{NamedTree, as_named, all_as_named, pairs_as_named, IsKnown, AreKnown, PairsKnown}
 use Rattle.named_trees.specs.NamedTree.{NamedTree as by_name}
 use Rattle.named_trees.specs.Seen.{named_beyond, named_flat, named_text, pairs_count}
 use Rattle.named_trees.specs.Doing.{named_picked, named_put, named_repeated, named_bin, named_made, all_named_made}
@@ -64,15 +64,16 @@ own-refused : (n : ℕ) (r : Refusal) → OwnStep n (Refused r) (Stays r)
 own-refused n r = record { same = refl; known = tt }
 
 -- a process that just got a tree in a register
-registers-named : (names shared : List (List ℕ)) (q : Live) (r : ℕ) (t : Tree) → process_named names shared (with_register r t q) ≡ to_register r (named names shared t) (process_named names shared q)
+registers-named : (names shared : List (List ℕ)) (q : Live) (r : ℕ) (t : Tree) → process_named names shared (with_register r t q)
+    ≡ to_register r (as_named names shared t) (process_named names shared q)
 registers-named names shared q r t =
-    let f : List NamedTree → NamedProcess = λ z. record { number = q.number; registers = z; stack = map (named names shared) q.stack; queue = map (named names shared) q.queue; refs = q.refs } in
-    ap f (map-set (named names shared) q.registers r t)
+    let f : List NamedTree → NamedProcess = λ z. record { number = q.number; registers = z; stack = map (as_named names shared) q.stack; queue = map (as_named names shared) q.queue; refs = q.refs } in
+    ap f (map-set (as_named names shared) q.registers r t)
 
 -- the process lives under these names, and its line has these
 module _ (s : State) (p : Parsed) (q : Live) (lives : process_of q.number s ≡ Some q) (h : KnownProcess p.names s.shared q) where
   abbrev by : Tree → NamedTree
-  by t = named p.names s.shared t
+  by t = as_named p.names s.shared t
 
   abbrev x : NamedProcess
   x = process_named p.names s.shared q
@@ -105,10 +106,10 @@ module _ (s : State) (p : Parsed) (q : Live) (lives : process_of q.number s ≡ 
   held-by r = at-by p.names s.shared q.registers r
 
   -- a tree over more shared binaries
-  made-step : (r : ℕ) (new : Tree × List (List ℕ)) (y : NamedTree) → Extends s.shared (new.1) → IsKnown p.names (new.1) (new.0) → named p.names (new.1) (new.0) ≡ y
+  made-step : (r : ℕ) (new : Tree × List (List ℕ)) (y : NamedTree) → Extends s.shared (new.1) → IsKnown p.names (new.1) (new.0) → as_named p.names (new.1) (new.0) ≡ y
       → OwnStep q.number (does p (with_made s q r new)) (goes (to_register r y x))
   made-step r new y m k e =
-      let same : (ts : List Tree) → AllKnown p.names s.shared ts → map (named p.names (new.1)) ts ≡ map (named p.names s.shared) ts = held-same-more p.names s.shared (new.1) m in
+      let same : (ts : List Tree) → AllKnown p.names s.shared ts → map (as_named p.names (new.1)) ts ≡ map (as_named p.names s.shared) ts = held-same-more p.names s.shared (new.1) m in
       let more : (ts : List Tree) → AllKnown p.names s.shared ts → AllKnown p.names (new.1) ts = held-known-more p.names s.shared (new.1) m in
       put-over (new.1) (with_register r (new.0) q) (to_register r y x) refl
       (record { registers = set-known p.names (new.1) q.registers r (new.0) (more q.registers h.registers) k; stack = more q.stack h.stack; queue = more q.queue h.queue })
@@ -137,22 +138,22 @@ module _ (s : State) (p : Parsed) (q : Live) (lives : process_of q.number s ≡ 
       (ap (λ z. chosen_named z x r) ((done p.names s.shared).part q how (register m q) ∙ ap (λ z. named_picked x.registers how z) (held-by m)))
 
   -- `mapput`
-  wide-step : (b : Bool) (ps : Pairs) (r : ℕ) → PairsKnown p.names s.shared ps → OwnStep q.number (put_unless_wide b ps s p q r) (unless_wide_named b (pairs_named p.names s.shared ps) x r)
+  wide-step : (b : Bool) (ps : Pairs) (r : ℕ) → PairsKnown p.names s.shared ps → OwnStep q.number (put_unless_wide b ps s p q r) (unless_wide_named b (pairs_as_named p.names s.shared ps) x r)
   wide-step true ps r k = own-refused q.number MapSize
-  wide-step false ps r k = register-step r (tree.Map ps) (by_name.Map (pairs_named p.names s.shared ps)) k refl
+  wide-step false ps r k = register-step r (tree.Map ps) (by_name.Map (pairs_as_named p.names s.shared ps)) k refl
 
-  big-step : (b : Bool) (ps : Pairs) (r : ℕ) → PairsKnown p.names s.shared ps → OwnStep q.number (put_unless_big b ps s p q r) (unless_big_named b (pairs_named p.names s.shared ps) x r)
+  big-step : (b : Bool) (ps : Pairs) (r : ℕ) → PairsKnown p.names s.shared ps → OwnStep q.number (put_unless_big b ps s p q r) (unless_big_named b (pairs_as_named p.names s.shared ps) x r)
   big-step true ps r k = own-refused q.number Big
-  big-step false ps r k = own-as q.number (put_unless_wide (too_many ps) ps s p q r) (unless_wide_named (too_many ps) (pairs_named p.names s.shared ps) x r)
-      (unless_wide_named (nat_lt MOST_KEYS (pairs_count (pairs_named p.names s.shared ps))) (pairs_named p.names s.shared ps) x r)
-      (wide-step (too_many ps) ps r k) (ap (λ z. unless_wide_named (nat_lt MOST_KEYS z) (pairs_named p.names s.shared ps) x r) (pairs-seen p.names s.shared ps))
+  big-step false ps r k = own-as q.number (put_unless_wide (too_many ps) ps s p q r) (unless_wide_named (too_many ps) (pairs_as_named p.names s.shared ps) x r)
+      (unless_wide_named (nat_lt MOST_KEYS (pairs_count (pairs_as_named p.names s.shared ps))) (pairs_as_named p.names s.shared ps) x r)
+      (wide-step (too_many ps) ps r k) (ap (λ z. unless_wide_named (nat_lt MOST_KEYS z) (pairs_as_named p.names s.shared ps) x r) (pairs-seen p.names s.shared ps))
 
   pair-step : (m k v : Tree) (r : ℕ) → IsKnown p.names s.shared m → IsKnown p.names s.shared k → IsKnown p.names s.shared v
       → OwnStep q.number (put_into (pairs_in m) k v s p q r) (pair_named (pairs_of_named (by m)) (by k) (by v) x r)
   pair-step (tree.Map ps) k v r a b c =
       let all : Pairs = put_pair p.names s.shared k v ps in
-      own-as q.number (put_unless_big (is_beyond s.shared k) all s p q r) (unless_big_named (is_beyond s.shared k) (pairs_named p.names s.shared all) x r)
-      (unless_big_named (named_beyond (by k)) (named_put (by k) (by v) (pairs_named p.names s.shared ps)) x r)
+      own-as q.number (put_unless_big (is_beyond s.shared k) all s p q r) (unless_big_named (is_beyond s.shared k) (pairs_as_named p.names s.shared all) x r)
+      (unless_big_named (named_beyond (by k)) (named_put (by k) (by v) (pairs_as_named p.names s.shared ps)) x r)
       (big-step (is_beyond s.shared k) all r (put-known p.names s.shared k v ps b c a))
       (λ i. unless_big_named (beyond-seen p.names s.shared k i) ((done p.names s.shared).put k v ps i) x r)
   pair-step _ k v r a b c = own-refused q.number BadArg
@@ -168,10 +169,10 @@ module _ (s : State) (p : Parsed) (q : Live) (lives : process_of q.number s ≡ 
       → OwnStep q.number (fun_if b (tree.Fun f a q.number (env_of s p q)) s p q r) (made_if_named b (by_name.Fun name a q.number (all_named_made x.registers (held_terms rs))) x r)
   fun-step true f a r name rs e less is = own-refused q.number BadArg
   fun-step false f a r name rs e less is =
-      let env : Terms → Trees = λ z. (trees_of p.names q.registers z s.shared).0 in
+      let env : Terms → Trees = λ z. (trees_of_terms p.names q.registers z s.shared).0 in
       let known : AreKnown p.names s.shared (env_of s p q) = subst (λ (z : Terms). AreKnown p.names s.shared (env z)) (sym e) (env-known p.names s.shared q.registers rs h.registers) in
-      let same : all_named p.names s.shared (env_of s p q) ≡ all_named_made x.registers (held_terms rs) =
-      ap (λ (z : Terms). all_named p.names s.shared (env z)) e ∙ env-by p.names s.shared q.registers rs in
+      let same : all_as_named p.names s.shared (env_of s p q) ≡ all_named_made x.registers (held_terms rs) =
+      ap (λ (z : Terms). all_as_named p.names s.shared (env z)) e ∙ env-by p.names s.shared q.registers rs in
       register-step r (tree.Fun f a q.number (env_of s p q)) (by_name.Fun name a q.number (all_named_made x.registers (held_terms rs))) (less, known)
       (λ i. by_name.Fun (is i) a q.number (same i))
 
@@ -236,7 +237,7 @@ module _ (s : State) (p : Parsed) (q : Live) (lives : process_of q.number s ≡ 
   send-step (Some n) t k = own-as q.number (send_within (is_beyond s.shared t) n t s p) (within_named (is_beyond s.shared t) n (by t) x) (within_named (named_beyond (by t)) n (by t) x)
       (within-step (is_beyond s.shared t) n t k) (ap (λ b. within_named b n (by t) x) (beyond-seen p.names s.shared t))
 
-  number-by : (t : Tree) → number_in t ≡ number_of_named (by t)
+  number-by : (t : Tree) → pid_number t ≡ number_of_named (by t)
   number-by (tree.Pid n) = refl
   number-by _ = refl
 
@@ -350,8 +351,8 @@ module _ (s : State) (p : Parsed) (q : Live) (lives : process_of q.number s ≡ 
 pub grown-process : (names new shared next : List (List ℕ)) (q : Live) → Extends names new → Extends shared next → KnownProcess names shared q
     → (process_named new next q ≡ process_named names shared q) × KnownProcess new next q
 grown-process names new shared next q n m h =
-    let same : (ts : List Tree) → AllKnown names shared ts → map (named new next) ts ≡ map (named names shared) ts =
-    λ ts k. ap (λ (z : List (List ℕ)). map (named z next) ts) n.are ∙ (ap (λ (z : List (List ℕ)). map (named (names ++ n.more) z) ts) m.are ∙ held-grown names n.more shared m.more ts k) in
+    let same : (ts : List Tree) → AllKnown names shared ts → map (as_named new next) ts ≡ map (as_named names shared) ts =
+    λ ts k. ap (λ (z : List (List ℕ)). map (as_named z next) ts) n.are ∙ (ap (λ (z : List (List ℕ)). map (as_named (names ++ n.more) z) ts) m.are ∙ held-grown names n.more shared m.more ts k) in
     let known : (ts : List Tree) → AllKnown names shared ts → AllKnown new next ts =
     λ ts k. subst (λ (z : List (List ℕ)). AllKnown z next ts) (sym n.are) (subst (λ (z : List (List ℕ)). AllKnown (names ++ n.more) z ts) (sym m.are)
     (held-known-grown names n.more shared m.more ts k)) in (

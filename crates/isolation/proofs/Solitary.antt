@@ -9,7 +9,7 @@ use Rattle.script_grammar.specs.declared.word.SysWord.TheVariants as sys
 use Rattle.plain_machine.specs.State.{Process as Live, State, is_live, first_state, fresh_process, with_queued}
 use Rattle.plain_machine.specs.Step.{Outcome}
 use Rattle.plain_machine.specs.Step.Outcome.{Accepted, Refused, Mapped}
-use Rattle.named_trees.specs.NamedTree.{NamedTree, named}
+use Rattle.named_trees.specs.NamedTree.{NamedTree, as_named}
 use Rattle.named_trees.specs.Entering.{entered}
 use Rattle.isolation.specs.Events.{Event}
 use Rattle.isolation.specs.Views.{Sight, is_own, own_line, births, messages, is_area_line, is_accepted, areas, sights, view_of, queue_of}
@@ -62,7 +62,7 @@ sight-views p e = at (is_own p e.said) refl
     at : (b : Bool) → is_own p e.said ≡ b → IsViewOf p (cond b (own_line e.said) (births p e ++ (messages p e ++ areas e.said e.replies)))
     at true mine = own-views p e.said mine
     at false apart = join-views p (births p e) (messages p e ++ areas e.said e.replies) (birth-views p (not (is_live p e.before) && is_live p e.after))
-        (join-views p (messages p e) (areas e.said e.replies) (message-views p (named e.after.names e.after.shared) (drop (length (queue_of p e.before)) (queue_of p e.after)))
+        (join-views p (messages p e) (areas e.said e.replies) (message-views p (as_named e.after.names e.after.shared) (drop (length (queue_of p e.before)) (queue_of p e.after)))
         (area-views p e.said e.replies))
 
 all-views : (p : ℕ) (events : List Event) → IsViewOf p (view_of p events)

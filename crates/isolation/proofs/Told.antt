@@ -19,7 +19,7 @@ use Rattle.plain_machine.specs.Laws.{HoldsProper}
 use Rattle.plain_machine.proofs.ByLine.Runs.{run-one}
 use Rattle.plain_machine.proofs.Properly.Living.{run-proper}
 use Rattle.plain_machine.proofs.Properly.Making.{extends-none}
-use Rattle.isolation.specs.Events.{Event, IsEvent, IsAnswered, Tells, lines_of, replies_of}
+use Rattle.isolation.specs.Events.{Event, IsEvent, IsAnswered, TellsEvents, lines_of, replies_of}
 use Rattle.isolation.specs.Views.{is_own, areas}
 use Rattle.isolation.specs.Solo.{step_at}
 use Rattle.isolation.proofs.Others.{Passes, Comes, OtherOutcome, passes-same, other-line}
@@ -61,13 +61,13 @@ line-event may words quits s long replies new h = record { said = None; is = h }
 -- so a run has events
 pub record HasEvents (may : ℕ → State → Parsed → Bool) (words : ℕ) (quits : Bool) (s : State) (lines : List Line) (replies : List (List ℕ)) (new : State) : Type 0 where
   pub events : List Event
-  pub told : Tells may words quits s events new
+  pub told : TellsEvents may words quits s events new
   pub lines_are : lines_of events ≡ lines
   pub replies_are : replies_of events ≡ replies
 
 pub run-events : (may : ℕ → State → Parsed → Bool) (words : ℕ) (quits : Bool) (s new : State) (lines : List Line) (replies : List (List ℕ))
     → Run may words quits s lines replies new → HasEvents may words quits s lines replies new
-unfolding Run Tells
+unfolding Run TellsEvents
 run-events may words quits s new [] replies h = record { events = []; told = (h.0, h.2); lines_are = refl; replies_are = sym (h.1) }
 run-events may words quits s new (line ∷ lines) replies h =
     at (h.0) (line-event may words (h.0) s line (h.1) (h.3) (h.4)) (h.6) (λ k. run-events may words quits (h.3) new lines (h.2) k)

@@ -50,8 +50,8 @@ abbrev pub receive : Written
 receive = OfProcess 2 word.Recv (0, tt)
 
 -- 2 print 0
-abbrev pub print : Written
-print = OfProcess 2 word.Print (0, tt)
+abbrev pub print_received : Written
+print_received = OfProcess 2 word.Print (0, tt)
 
 -- Process 1 sends to process 2.
 abbrev pub two : List Event
@@ -61,7 +61,7 @@ two = events_from first_state (
     ∷ record { line = codes "2 set 3 other"; says = set_other }
     ∷ record { line = codes "1 send 0 2"; says = OfProcess 1 word.Send (0, (Number 2, tt)) }
     ∷ record { line = codes "2 recv 0"; says = receive }
-    ∷ record { line = codes "2 print 0"; says = print }
+    ∷ record { line = codes "2 print 0"; says = print_received }
     ∷ [])
 
 -- The same from a third process, while the first does something else.
@@ -75,18 +75,18 @@ three = events_from first_state (
     ∷ record { line = codes "3 send 5 2"; says = OfProcess 3 word.Send (5, (Number 2, tt)) }
     ∷ record { line = codes "3 exit"; says = OfProcess 3 word.Exit tt }
     ∷ record { line = codes "2 recv 0"; says = receive }
-    ∷ record { line = codes "2 print 0"; says = print }
+    ∷ record { line = codes "2 print 0"; says = print_received }
     ∷ [])
 
 -- {hi,[1]} by name
 abbrev pub hi : NamedTree
 hi = by_name.Tuple (before (by_name.Atom (codes "hi")) (before (by_name.Cons (by_name.Int (pos 1)) by_name.Nil) nothing))
 
-abbrev pub view : List Sight
-view = born ∷ own set_other ∷ message hi ∷ own receive ∷ own print ∷ []
+abbrev pub seen_by_two : List Sight
+seen_by_two = born ∷ own set_other ∷ message hi ∷ own receive ∷ own print_received ∷ []
 
 -- What process 2 sees of the first run: it is spawned, says its lines, and a message comes.
-pub seen-of_two : view_of 2 two ≡ view
+pub seen-of_two : view_of 2 two ≡ seen_by_two
 seen-of_two = refl
 
 -- So it is answered in the run, where `hi` is the first name and `other` the second.
@@ -95,12 +95,12 @@ unfolding digits
 replies-of_two = refl
 
 -- And so it is answered alone, where `other` is the first name.
-pub solo-of_two : solo 2 view ≡ codes "ok" ∷ codes "ok" ∷ codes "{hi,[1]}" ∷ []
+pub solo-of_two : solo 2 seen_by_two ≡ codes "ok" ∷ codes "ok" ∷ codes "{hi,[1]}" ∷ []
 unfolding digits
 solo-of_two = refl
 
 -- The other run gives it the same view and the same replies.
-pub seen-of_three : view_of 2 three ≡ view
+pub seen-of_three : view_of 2 three ≡ seen_by_two
 seen-of_three = refl
 
 pub replies-of_three : own_replies 2 three ≡ own_replies 2 two

@@ -7,7 +7,7 @@ use Rattle.script_grammar.specs.declared.word.SysWord.TheVariants.{Spawn}
 use Rattle.script_grammar.specs.Names.{Parsed}
 use Rattle.plain_machine.specs.State.{State, is_live, first_state}
 use Rattle.plain_machine.specs.Run.{Run, refusal_text}
-use Rattle.isolation.specs.Events.{Event, Tells, NoneShort, lines_of, replies_of}
+use Rattle.isolation.specs.Events.{Event, TellsEvents, NoneShort, lines_of, replies_of}
 use Rattle.isolation.specs.Views.{Sight, births, own_replies, view_of}
 use Rattle.isolation.specs.Views.Sight.{born}
 use Rattle.isolation.specs.Solo.{solo_first, solo_after, solo}
@@ -56,7 +56,7 @@ LivesAlone p s (x ∷ view) = AtMost p s × LivesAlone p (solo_after p s x) view
 -- where at most it lives.
 pub record Isolates (may : ℕ → State → Parsed → Bool) (words : ℕ) (quits : Bool) (lines : List Line) (replies : List (List ℕ)) (new : State) : Type 0 where
   pub events : List Event
-  pub told : Tells may words quits first_state events new
+  pub told : TellsEvents may words quits first_state events new
   pub lines_are : lines_of events ≡ lines
   pub replies_are : replies_of events ≡ replies
   pub spawned : AllBirthsAreSpawns events
@@ -74,7 +74,7 @@ pub record IsAmple (events : List Event) : Type 0 where
   pub words : ℕ
   pub quits : Bool
   pub last : State
-  pub told : Tells may words quits first_state events last
+  pub told : TellsEvents may words quits first_state events last
   pub none_short : NoneShort events
 
 -- Two runs that give a process the same view give it the same replies.

@@ -7,7 +7,7 @@ use Rattle.script_grammar.specs.declared.word.SysWord.TheVariants.{Load, Purge, 
 use Rattle.script_grammar.specs.Written.{Written}
 use Rattle.script_grammar.specs.Written.Written.{OfProcess, OfSystem}
 use Rattle.plain_machine.specs.State.{Process, State, process_of, is_live}
-use Rattle.named_trees.specs.NamedTree.{NamedTree, named}
+use Rattle.named_trees.specs.NamedTree.{NamedTree, as_named}
 use Rattle.isolation.specs.Events.{Event}
 
 -- What a process may see: a line of its own, that it comes to live, a tree by name that another process puts into its queue,
@@ -41,7 +41,7 @@ queue_of p s = queue_in (process_of p s)
 
 -- The trees by name that stand behind those that were in the queue before the event.
 abbrev pub messages : ℕ → Event → List Sight
-messages p e = map (λ t. message (named e.after.names e.after.shared t)) (drop (length (queue_of p e.before)) (queue_of p e.after))
+messages p e = map (λ t. message (as_named e.after.names e.after.shared t)) (drop (length (queue_of p e.before)) (queue_of p e.after))
 
 -- The lines of literal areas.
 abbrev pub is_area_line : Written → Bool

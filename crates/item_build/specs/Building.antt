@@ -23,7 +23,7 @@ use Rattle.off_heap_list.specs.Links.{Links}
 use Rattle.item_build.specs.declared.bins.Making.{Making}
 use Rattle.item_build.specs.declared.building.BuildStop.{BuildStop}
 use Rattle.item_build.specs.declared.putting.TheConstants.{WIDE}
-use Rattle.item_build.specs.Reading.{IsItem, is_big_item, is_byte, is_long, long_bins, own_words, parts_of, tree_with}
+use Rattle.item_build.specs.Reading.{IsItem, is_big_item, is_byte, is_long, long_bins, own_words, parts_after, tree_with}
 
 -- The held words stand for these trees, in order.
 pub record HeldStand (c : ℕ → ℕ → Bool) (shared : List (List ℕ)) (mem held : List ℕ) (trees : List Tree) : Type 0 where
@@ -79,7 +79,7 @@ pub record LeavesRoom (old new : Room) (mem mem' : List ℕ) : Type 0 where
   pub others : (q : ℕ) → (q < old.top) ⊎ (old.end ≤ q) → slice_index mem' q ≡ slice_index mem q
 
 -- The word stands for the tree by a test that grew so.
-pub record Made (c : ℕ → ℕ → Bool) (shared : List (List ℕ)) (old new : Room) (mem mem' : List ℕ) (was is : Making) (n w : ℕ) (t : Tree) : Type 0 where
+pub record MadeTree (c : ℕ → ℕ → Bool) (shared : List (List ℕ)) (old new : Room) (mem mem' : List ℕ) (was is : Making) (n w : ℕ) (t : Tree) : Type 0 where
   pub test : ℕ → ℕ → Bool
   pub laid : Laid c test shared old new mem mem' was.head is.head was.serial n
   pub made : Stands test shared mem' w t
@@ -118,7 +118,7 @@ pub record Spares (n : ℕ) (room : Room) (mem mem' : List ℕ) : Type 0 where
 abbrev pub BuildsTerm : (ℕ → ℕ → Bool) → List (List ℕ) → (old new : Room) (mem mem' : List ℕ) (was is : Making) (n : ℕ) → Result ℕ BuildStop
     → Result Tree BuildStop
     → Type 0
-BuildsTerm c shared old new mem mem' was is n (Ok w) (Ok t) = Made c shared old new mem mem' was is n w t
+BuildsTerm c shared old new mem mem' was is n (Ok w) (Ok t) = MadeTree c shared old new mem mem' was is n w t
 BuildsTerm c shared old new mem mem' was is n (Err e) (Err f) = e ≡ f
 BuildsTerm c shared old new mem mem' was is n (Ok w) (Err f) = ⊥
 BuildsTerm c shared old new mem mem' was is n (Err e) (Ok t) = ⊥
@@ -161,8 +161,8 @@ pub record HasMarks (mem ws : List ℕ) : Type 0 where
 -- all names of the terms are below `names`.
 pub record CanPut (names held : ℕ) (room : Room) (mem ws : List ℕ) (x : Item) : Type 0 where
   pub item : IsItem names held x
-  pub parts : parts_of x ≤ length ws
-  pub few : parts_of x ≤ MOST_PARTS
+  pub parts : parts_after x ≤ length ws
+  pub few : parts_after x ≤ MOST_PARTS
   pub places : IsRoom room mem
   pub words : room.top + own_words x ≤ room.end
   pub shared : List (List ℕ)
@@ -206,7 +206,7 @@ FitsWord held _ = Unit {0}
 
 -- The word stands for an item without parts, whatever the memory.
 pub record IsLeaf (held : List ℕ) (x : Item) (w : ℕ) : Type 0 where
-  pub parts : parts_of x ≡ 0
+  pub parts : parts_after x ≡ 0
   pub term : is_byte x ≡ false
   pub small : (shared : List (List ℕ)) (ms : List (Option Tree)) → is_big_item shared x ms ≡ false
   pub stands : (c : ℕ → ℕ → Bool) (names shared : List (List ℕ)) (mem : List ℕ) (trees : List Tree) (xs : List Item) → HeldStand c shared mem held trees

@@ -33,8 +33,8 @@ own_words (Bin n) = near_words n
 own_words _ = 0
 
 -- The words of the record of a long binary.
-abbrev pub record_words : ℕ → ℕ
-record_words n = if nat_lt MOST_HEAP_BYTES n then 4 + bin_words n else 0
+abbrev pub long_record_words : ℕ → ℕ
+long_record_words n = if nat_lt MOST_HEAP_BYTES n then 4 + bin_words n else 0
 
 -- The words of an item's holder, and of its record.
 
@@ -42,7 +42,7 @@ abbrev pub holder_words : Item → ℕ
 holder_words x = if is_long x then 6 else 0
 
 abbrev pub far_words : Item → ℕ
-far_words (Bin n) = record_words n
+far_words (Bin n) = long_record_words n
 far_words _ = 0
 
 -- The words that an item asks for.
@@ -51,9 +51,9 @@ item_words x = own_words x + (holder_words x + far_words x)
 
 -- The words that all items ask for, and those of their own objects alone.
 
-abbrev pub words_of : List Item → ℕ
-words_of [] = 0
-words_of (x ∷ xs) = item_words x + words_of xs
+abbrev pub item_words_of : List Item → ℕ
+item_words_of [] = 0
+item_words_of (x ∷ xs) = item_words x + item_words_of xs
 
 abbrev pub own_words_of : List Item → ℕ
 own_words_of [] = 0
@@ -70,13 +70,13 @@ long_bins [] = 0
 long_bins (x ∷ xs) = (if is_long x then 1 else 0) + long_bins xs
 
 -- The byte that an item is.
-abbrev pub byte_in : Item → ℕ
-byte_in (Byte b) = b
-byte_in _ = 0
+abbrev pub item_byte : Item → ℕ
+item_byte (Byte b) = b
+item_byte _ = 0
 
 -- The bytes that the first n items are.
 abbrev pub bytes_in : ℕ → List Item → List ℕ
-bytes_in n xs = map byte_in (take n xs)
+bytes_in n xs = map item_byte (take n xs)
 
 -- The bytes of an item that is a long binary, where these are the items behind it.
 abbrev pub long_bytes : Item → List Item → List (List ℕ)
@@ -89,11 +89,11 @@ bins_of [] = []
 bins_of (x ∷ xs) = long_bytes x xs ++ bins_of xs
 
 -- How many of the terms that follow are the parts of an item.
-abbrev pub parts_of : Item → ℕ
-parts_of Cons = 2
-parts_of (Tuple n) = n
-parts_of (Map n) = 2 * n
-parts_of _ = 0
+abbrev pub parts_after : Item → ℕ
+parts_after Cons = 2
+parts_after (Tuple n) = n
+parts_after (Map n) = 2 * n
+parts_after _ = 0
 
 -- How many of the items that follow are the bytes of an item.
 abbrev pub bytes_after : Item → ℕ
@@ -126,7 +126,7 @@ bytes_led (x ∷ xs) = if is_byte x then 1 + bytes_led xs else 0
 -- How many terms items are.
 abbrev pub terms_in : List Item → ℕ
 terms_in [] = 0
-terms_in (x ∷ xs) = if is_byte x then terms_in xs else terms_in xs - parts_of x + 1
+terms_in (x ∷ xs) = if is_byte x then terms_in xs else terms_in xs - parts_after x + 1
 
 -- An item that can be built, with so many names and so many held terms.
 abbrev pub IsItem : (names held : ℕ) → Item → Type 0
@@ -138,7 +138,7 @@ IsItem names held _ = Unit {0}
 
 -- The parts of an item, or its bytes, stand behind it.
 abbrev pub HasParts : Item → List Item → Type 0
-HasParts x xs = (parts_of x ≤ terms_in xs) × (bytes_after x ≤ bytes_led xs)
+HasParts x xs = (parts_after x ≤ terms_in xs) × (bytes_after x ≤ bytes_led xs)
 
 -- Each item can be built, and has its parts behind it.
 abbrev pub AreWhole : (names held : ℕ) → List Item → Type 0
@@ -181,8 +181,8 @@ cons_of (h ▹ t ▹ ts) = Some (tree.Cons h t)
 cons_of _ = None
 
 -- The binary of the first n items; of a long one the id: so many later ones have the last ids.
-abbrev pub bin_of : (shared : List (List ℕ)) → ℕ → List Item → Tree
-bin_of shared n xs = if nat_lt MOST_HEAP_BYTES n then tree.Shared (length shared - long_bins xs) else tree.Bin (bytes_in n xs)
+abbrev pub bin_of_items : (shared : List (List ℕ)) → ℕ → List Item → Tree
+bin_of_items shared n xs = if nat_lt MOST_HEAP_BYTES n then tree.Shared (length shared - long_bins xs) else tree.Bin (bytes_in n xs)
 
 -- The tree of an item with these parts, behind which these items stand. `held` has the trees of the registers.
 abbrev pub tree_with : (names shared : List (List ℕ)) (held : List Tree) → Item → List Item → Trees → Option Tree
@@ -193,7 +193,7 @@ tree_with names shared held Nil xs ts = Some tree.Nil
 tree_with names shared held Cons xs ts = cons_of ts
 tree_with names shared held (Tuple n) xs ts = Some (tree.Tuple ts)
 tree_with names shared held (Map n) xs ts = map_of names shared (paired ts)
-tree_with names shared held (Bin n) xs ts = Some (bin_of shared n xs)
+tree_with names shared held (Bin n) xs ts = Some (bin_of_items shared n xs)
 tree_with names shared held (Byte b) xs ts = None
 tree_with names shared held (Held r) xs ts = Some (slice_index_or held r tree.Nil)
 
@@ -204,7 +204,7 @@ tree_where names shared held x xs (Some ts) = tree_with names shared held x xs t
 
 -- An item before terms: it takes its parts from their front. A byte is no term.
 abbrev pub read_item : (names shared : List (List ℕ)) (held : List Tree) → Item → List Item → List (Option Tree) → List (Option Tree)
-read_item names shared held x xs ms = if is_byte x then ms else tree_where names shared held x xs (all_of (take (parts_of x) ms)) ∷ drop (parts_of x) ms
+read_item names shared held x xs ms = if is_byte x then ms else tree_where names shared held x xs (all_of (take (parts_after x) ms)) ∷ drop (parts_after x) ms
 
 -- The trees of the terms that items are, in order; none for a term that is wide: a map in it, as it is written, has too
 -- many different keys.
@@ -228,9 +228,9 @@ is_big_item shared (Map n) ms = has_big_key shared ms
 is_big_item shared _ ms = false
 
 -- Some item is such a map.
-abbrev pub is_big : (names shared : List (List ℕ)) (held : List Tree) → List Item → Bool
-is_big names shared held [] = false
-is_big names shared held (x ∷ xs) = is_big_item shared x (take (parts_of x) (read names shared held xs)) || is_big names shared held xs
+abbrev pub has_big_item : (names shared : List (List ℕ)) (held : List Tree) → List Item → Bool
+has_big_item names shared held [] = false
+has_big_item names shared held (x ∷ xs) = is_big_item shared x (take (parts_after x) (read names shared held xs)) || has_big_item names shared held xs
 
 -- The one term is there, or it is wide.
 abbrev pub unless_wide : List (Option Tree) → Result Tree BuildStop
@@ -240,7 +240,7 @@ unless_wide _ = Err Size
 -- What the items come to, over all shared binaries, their own among them: the tree of their term, or why there is none.
 -- A big key comes before too many keys.
 abbrev pub outcome_over : (names shared : List (List ℕ)) (held : List Tree) → List Item → Result Tree BuildStop
-outcome_over names shared held code = if is_big names shared held code then Err Big else unless_wide (read names shared held code)
+outcome_over names shared held code = if has_big_item names shared held code then Err Big else unless_wide (read names shared held code)
 
 -- What building the items comes to, where these shared binaries were there before.
 abbrev pub outcome : (names shared : List (List ℕ)) (held : List Tree) → List Item → Result Tree BuildStop

@@ -10,7 +10,7 @@ ghost use Rattle.term_words.specs.Kept.{Keeps};
 ghost use Rattle.term_build.specs.Taken.{IsFree, Taken};
 ghost use Rattle.term_build.specs.Clear.{IsRoom, Uses};
 ghost use Rattle.shared_rec.specs.Record.{WritesRecord, count_in, record_roles};
-ghost use Rattle.item_build.specs.Reading.{byte_in, bytes_in, bins_of, far_words_of, AreLed, bytes_after, is_byte as is_byte_item, holder_words as words_of_holder, is_long as is_long_bin, long_bins as long_in};
+ghost use Rattle.item_build.specs.Reading.{item_byte, bytes_in, bins_of, far_words_of, AreLed, bytes_after, is_byte as is_byte_item, holder_words as words_of_holder, is_long as is_long_bin, long_bins as long_in};
 ghost use Rattle.item_build.specs.Building.{LaidBins, LeavesRoom};
 
 use off_heap_list::chain;
@@ -189,7 +189,7 @@ fn byte_at(bytes: &[Item], n: u64, i: u64) -> u8
 
 // The byte that an item is.
 fn byte(item: Item) -> u8
-    ensures { result ≡ byte_in item }
+    ensures { result ≡ item_byte item }
 {
     match item {
         Item::Byte(b) => b,

@@ -4,7 +4,7 @@ ghost use Rattle.plain_term.specs.Tree.{Tree};
 ghost use Rattle.term_tags.specs.declared.layouts.TheConstants.{MOST_PARTS};
 ghost use Rattle.term_build.specs.Taken.{IsFree};
 ghost use Rattle.term_build.specs.Clear.{IsRoom};
-ghost use Rattle.item_build.specs.Reading.{IsWritten, bins_of, far_words_of, is_big, long_bins, outcome, own_words_of, read, words_of};
+ghost use Rattle.item_build.specs.Reading.{IsWritten, bins_of, far_words_of, has_big_item, long_bins, outcome, own_words_of, read, item_words_of};
 ghost use Rattle.item_build.specs.Building.{BinsStand, BuildsTerm, CanRead, HasHeld, HeldStand, LeavesRoom, PutsAll, Spares, UsesSome};
 
 use crate::bins::{Making, holder_words, lay_bins};
@@ -40,14 +40,14 @@ pub fn build(
     requires serials { making.old.serial + length code.now < 2 ^ 64 }
     requires places { IsRoom room.old mem.old }
     requires somewhere { 0 < room.old.top }
-    requires words { room.old.top + words_of code.now ≤ room.old.end }
+    requires words { room.old.top + item_words_of code.now ≤ room.old.end }
     requires held { HasHeld names.now making.old.serial room.old mem.old held.now }
     ensures builds { (c : ℕ → ℕ → Bool) (shared : List (List ℕ)) (trees : List Tree) → IsFree c room.old.top room.old.end → length shared ≡ making.old.serial
         → HeldStand c shared mem.old held.now trees
         → BuildsTerm c (shared ++ bins_of code.now) room.old room.new mem.old mem.new making.old making.new (long_bins code.now) result
         (outcome names.now shared trees code.now) }
     ensures leaves { LeavesRoom room.old room.new mem.old mem.new }
-    ensures few { room.new.top + room.old.end ≤ room.old.top + room.new.end + words_of code.now }
+    ensures few { room.new.top + room.old.end ≤ room.old.top + room.new.end + item_words_of code.now }
     ensures back { OnOk result (room.new.end + far_words_of code.now ≡ room.old.end) }
     ensures serial { OnOk result (making.new.serial ≡ making.old.serial + long_bins code.now) }
     ensures stopped { OnErr result ((room.new ≡ room.old) × (making.new ≡ making.old)) }
@@ -90,7 +90,7 @@ fn put_items(
     requires held { CanRead names.now (own_words_of code.now) room.old mem.old held.now bins (long_bins code.now) }
     ensures reads { (c : ℕ → ℕ → Bool) (shared : List (List ℕ)) (trees : List Tree) → IsFree c room.old.top (room.old.top + own_words_of code.now)
         → HeldStand c shared mem.old held.now trees → BinsStand c shared mem.old bins (long_bins code.now)
-        → PutsAll c shared room.old room.new mem.old mem.new result (is_big names.now shared trees code.now) (read names.now shared trees code.now) }
+        → PutsAll c shared room.old room.new mem.old mem.new result (has_big_item names.now shared trees code.now) (read names.now shared trees code.now) }
     ensures uses { IfSome result (λ w. UsesSome (own_words_of code.now) room.old room.new mem.old mem.new) }
     ensures spares { Spares (own_words_of code.now) room.old mem.old mem.new }
     ensures row { length scratch.new ≡ length scratch.old }

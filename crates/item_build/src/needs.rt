@@ -2,14 +2,14 @@
 ghost use Rattle.std.specs.Prelude.{◌≡◌, ℕ, ◌+◌, ◌-◌, ◌≤◌, ◌^◌, length, drop, min};
 ghost use Rattle.plain_term.specs.declared.item.Item.TheVariants.{Bin};
 ghost use Rattle.plain_term.specs.Measures.{int_flat};
-ghost use Rattle.item_build.specs.Reading.{item_words, words_of};
+ghost use Rattle.item_build.specs.Reading.{item_words, item_words_of};
 
 use plain_term::Item;
 use term_tags::MOST_HEAP_BYTES;
 
 /// The words that the parts of a written term take at most: each written pair of a map counts.
 pub fn words_needed(code: &[Item]) -> u64
-    ensures { result ≡ min (words_of code.now) (2 ^ 64 - 1) }
+    ensures { result ≡ min (item_words_of code.now) (2 ^ 64 - 1) }
 {
     let mut sum: u64 = 0;
     let mut i = code.len();

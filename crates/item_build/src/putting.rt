@@ -9,9 +9,9 @@ ghost use Rattle.term_words.specs.Object.{IsSmallAs};
 ghost use Rattle.term_words.specs.Stands.{AllStand};
 ghost use Rattle.term_build.specs.Taken.{IsFree};
 ghost use Rattle.term_build.specs.Clear.{IsRoom};
-ghost use Rattle.term_maps.specs.Given.{CanMap, KeysWithin, PairsStand, pairs_in};
-ghost use Rattle.item_build.specs.Reading.{all_of, bin_of, bytes_in, bytes_led, has_big_key as has_big, is_big_item as is_big, is_big_key as is_big_mark, is_byte as is_byte_item, is_object, is_word, is_long, long_bins};
-ghost use Rattle.item_build.specs.Reading.{map_of, near_words, own_words, parts_of as parts_in, bytes_after, read_item, tree_where, tree_with};
+ghost use Rattle.term_maps.specs.Given.{CanMap, KeysWithin, PairsStand, word_pairs};
+ghost use Rattle.item_build.specs.Reading.{all_of, bin_of_items, bytes_in, bytes_led, has_big_key as has_big, is_big_item as is_big, is_big_key, is_byte as is_byte_item, is_object, is_word, is_long, long_bins};
+ghost use Rattle.item_build.specs.Reading.{map_of, near_words, own_words, parts_after, bytes_after, read_item, tree_where, tree_with};
 ghost use Rattle.item_build.specs.Building.{AreMarks, CanPut, HasMark, HasMarks, FitsWord, HasNoBigKey, HeldStand, HolderStands, IsLeaf, IsMark, MarkBuilt, Puts, UsesSome, holds_wide};
 
 use crate::bins::{first_bytes, is_byte};
@@ -40,7 +40,7 @@ pub fn put_item(
     rest: &[Item],
 ) -> Option<usize>
     requires within { sp ≤ length scratch.old }
-    requires some { is_byte_item item ≡ false → 0 < sp + parts_in item }
+    requires some { is_byte_item item ≡ false → 0 < sp + parts_after item }
     requires can { CanPut (length names.now) (length held.now) room.old mem.old (drop sp scratch.old) item }
     requires bytes { bytes_after item ≤ bytes_led rest.now }
     requires holder { is_long item ≡ true → bin < PLACES }
@@ -48,7 +48,7 @@ pub fn put_item(
         → IsFree c room.old.top (room.old.top + own_words item)
         → HeldStand c shared mem.old held.now trees → HolderStands c shared mem.old bin item (long_bins rest.now)
         → AreMarks c shared mem.old (drop sp scratch.old) ms
-        → Puts c shared room.old room.new mem.old mem.new result scratch.new (is_big shared item (take (parts_in item) ms))
+        → Puts c shared room.old room.new mem.old mem.new result scratch.new (is_big shared item (take (parts_after item) ms))
         (read_item names.now shared trees item rest.now ms) }
     ensures uses { IfSome result (λ r. UsesSome (own_words item) room.old room.new mem.old mem.new) }
     ensures place { IfSome result (λ r. r ≤ length scratch.new) }
@@ -99,8 +99,8 @@ fn small_integer(i: i128) -> Option<u64>
 
 // How many terms an item takes off.
 fn parts_of(item: Item) -> usize
-    requires { parts_in item ≤ MOST_PARTS }
-    ensures { result ≡ parts_in item }
+    requires { parts_after item ≤ MOST_PARTS }
+    ensures { result ≡ parts_after item }
 {
     match item {
         Item::Cons => 2,
@@ -149,7 +149,7 @@ fn has_big_key(mem: &WordMem, row: &[u64]) -> bool
 // Whether the key is beyond the walk limit, and not wide.
 fn is_big_key(mem: &WordMem, w: u64) -> bool
     requires { HasMark mem.now w }
-    ensures { (c : ℕ → ℕ → Bool) (shared : List (List ℕ)) (m : Option Tree) → IsMark c shared mem.now w m → result ≡ is_big_mark shared m }
+    ensures { (c : ℕ → ℕ → Bool) (shared : List (List ℕ)) (m : Option Tree) → IsMark c shared mem.now w m → result ≡ is_big_key shared m }
 {
     if w == WIDE {
         return false;
@@ -172,7 +172,7 @@ fn mark_of(
     parts: &[u64],
 ) -> u64
     requires can { CanPut (length names.now) (length held.now) room.old mem.old parts.now item }
-    requires exact { length parts.now ≡ parts_in item }
+    requires exact { length parts.now ≡ parts_after item }
     requires object { is_object item ≡ true }
     requires bytes { bytes_after item ≤ bytes_led rest.now }
     requires holder { is_long item ≡ true → bin < PLACES }
@@ -201,7 +201,7 @@ fn word_of(
     parts: &[u64],
 ) -> u64
     requires can { CanPut (length names.now) (length held.now) room.old mem.old parts.now item }
-    requires exact { length parts.now ≡ parts_in item }
+    requires exact { length parts.now ≡ parts_after item }
     requires object { is_object item ≡ true }
     requires bytes { bytes_after item ≤ bytes_led rest.now }
     requires holder { is_long item ≡ true → bin < PLACES }
@@ -230,7 +230,7 @@ fn bin_word(mem: &mut WordMem, room: &mut Room, bin: u64, n: u64, rest: &[Item])
     requires holder { is_long (ItemBin n) ≡ true → bin < PLACES }
     ensures built { (c : ℕ → ℕ → Bool) (shared : List (List ℕ)) → IsFree c room.old.top (room.old.top + near_words n)
         → HolderStands c shared mem.old bin (ItemBin n) (long_bins rest.now)
-        → MarkBuilt c room.old.top (room.new.top - room.old.top) mem.old mem.new shared result (Some (bin_of shared n rest.now)) }
+        → MarkBuilt c room.old.top (room.new.top - room.old.top) mem.old mem.new shared result (Some (bin_of_items shared n rest.now)) }
     ensures uses { UsesSome (near_words n) room.old room.new mem.old mem.new }
 {
     if n > MOST_HEAP_BYTES {
@@ -243,10 +243,10 @@ fn bin_word(mem: &mut WordMem, room: &mut Room, bin: u64, n: u64, rest: &[Item])
 // The map of the keys and values that stand in turn, none of which is wide or too big.
 fn map_word(mem: &mut WordMem, room: &mut Room, names: &AtomNames, parts: &[u64]) -> u64
     requires places { IsRoom room.old mem.old }
-    requires pairs { CanMap names.now room.old mem.old (pairs_in parts.now) }
-    requires within { KeysWithin mem.old (pairs_in parts.now) }
+    requires pairs { CanMap names.now room.old mem.old (word_pairs parts.now) }
+    requires within { KeysWithin mem.old (word_pairs parts.now) }
     ensures built { (c : ℕ → ℕ → Bool) (shared : List (List ℕ)) (given : Pairs) → IsFree c room.old.top (room.old.top + (4 + 2 * pairs_len given))
-        → PairsStand c shared mem.old (pairs_in parts.now) given
+        → PairsStand c shared mem.old (word_pairs parts.now) given
         → MarkBuilt c room.old.top (room.new.top - room.old.top) mem.old mem.new shared result (map_of names.now shared given) }
     ensures uses { UsesSome (4 + length parts.now) room.old room.new mem.old mem.new }
 {

@@ -7,25 +7,25 @@ use Rattle.std.proofs.lemmas.List.Folds.{list_all-append}
 use Rattle.std.proofs.lemmas.Bool.Decides.{nat_tests}
 use Rattle.std.specs.List.{list_all}
 use Rattle.std.specs.Str.Lines.{strip_carriage_return}
-use Rattle.line_io.specs.Lines.{Line, is_whole, pieces, line_of, finished, lines, is_too_much}
+use Rattle.line_io.specs.Lines.{Line, is_whole, pieces, as_line, finished, lines, is_too_much}
 use Rattle.line_io.specs.Reader.{IsCutting, IsOpen, line_given}
 use Rattle.line_io.specs.declared.reader.Limits.{Limits}
 use Rattle.line_io.specs.declared.reader.TheConstants.{SIZE}
-use Rattle.line_io.proofs.Pieces.{IsOpen-append, pieces-first, pieces-open, whole-of-open, pieces-some, is_whole-ended, line_of-whole, line_of-open, line_given-long, length-strip, finished-append, or-true}
+use Rattle.line_io.proofs.Pieces.{IsOpen-append, pieces-first, pieces-open, whole-of-open, pieces-some, is_whole-ended, as_line-whole, as_line-open, line_given-long, length-strip, finished-append, or-true}
 
 -- the lines of some bytes, of which the pieces that came first were given
 pub lines-cut : (bytes : List ℕ) (ended : Bool) (limits : Limits) (whole ps : List (List ℕ)) (more : ℕ) → pieces (take limits.bytes bytes) ≡ whole ++ ps → list_all is_whole whole ≡ true
     → more + length whole ≡ limits.lines
-    → lines bytes ended limits ≡ map line_of whole ++ map line_of (take more (finished (ended && nat_le (length bytes) limits.bytes) ps))
+    → lines bytes ended limits ≡ map as_line whole ++ map as_line (take more (finished (ended && nat_le (length bytes) limits.bytes) ps))
 unfolding lines
 lines-cut bytes ended limits whole ps more cut all sum =
     let last = ended && nat_le (length bytes) limits.bytes in
     let count : length whole + more ≡ limits.lines = omega arith in
-    ap (λ l. map line_of (take limits.lines (finished last l))) cut
-    ∙ ap (λ l. map line_of (take limits.lines l)) (finished-append last whole ps all)
-    ∙ ap (λ n. map line_of (take n (whole ++ finished last ps))) (sym count)
-    ∙ ap (map line_of) (take-append-add whole (finished last ps) more)
-    ∙ map-append line_of whole (take more (finished last ps))
+    ap (λ l. map as_line (take limits.lines (finished last l))) cut
+    ∙ ap (λ l. map as_line (take limits.lines l)) (finished-append last whole ps all)
+    ∙ ap (λ n. map as_line (take n (whole ++ finished last ps))) (sym count)
+    ∙ ap (map as_line) (take-append-add whole (finished last ps) more)
+    ∙ map-append as_line whole (take more (finished last ps))
 
 -- the pieces of the bytes that were taken
 pub cut-pieces : (limits : Limits) (is_long : Bool) (more room : ℕ) (held bytes : List ℕ) (given : List Line) (r : IsCutting limits is_long more room held bytes given)
@@ -114,16 +114,16 @@ module _ (limits : Limits) (is_long : Bool) (more room : ℕ) (held bytes : List
 
   -- the lines of bytes within the limit: those that were given, and what the held bytes make
   pub open-lines : (ended : Bool) (r : IsCutting limits is_long more room held bytes given)
-      → lines bytes ended limits ≡ given ++ map line_of (take more (finished ended (pieces (r.gone ++ held))))
+      → lines bytes ended limits ≡ given ++ map as_line (take more (finished ended (pieces (r.gone ++ held))))
   open-lines ended r =
       let test : nat_le (length bytes) limits.bytes ≡ true = grind (arith, nat_tests, within r) in
       lines-cut bytes ended limits r.whole (pieces (r.gone ++ held)) more (ap pieces (take-within r) ∙ cut-pieces limits is_long more room held bytes given r) r.all_whole r.lines_sum
-      ∙ ap (λ b. map line_of r.whole ++ map line_of (take more (finished b (pieces (r.gone ++ held))))) (ap (λ b. ended && b) test ∙ and-true ended)
-      ∙ ap (λ l. l ++ map line_of (take more (finished ended (pieces (r.gone ++ held))))) (sym r.given_is)
+      ∙ ap (λ b. map as_line r.whole ++ map as_line (take more (finished b (pieces (r.gone ++ held))))) (ap (λ b. ended && b) test ∙ and-true ended)
+      ∙ ap (λ l. l ++ map as_line (take more (finished ended (pieces (r.gone ++ held))))) (sym r.given_is)
 
   -- the line that the bytes t end, of which some may have gone
-  same-line : (t : List ℕ) → IsOpen t → (r : IsCutting limits is_long more room held bytes given) → line_of ((r.gone ++ t) ++ (10 ∷ [])) ≡ line_given is_long (strip_carriage_return t)
-  same-line t no_end r = line_of-whole (r.gone ++ t) (IsOpen-append r.gone t r.gone_open no_end) ∙ whole-line is_long r.gone t (more-than is_long r.gone more r.long_is)
+  same-line : (t : List ℕ) → IsOpen t → (r : IsCutting limits is_long more room held bytes given) → as_line ((r.gone ++ t) ++ (10 ∷ [])) ≡ line_given is_long (strip_carriage_return t)
+  same-line t no_end r = as_line-whole (r.gone ++ t) (IsOpen-append r.gone t r.gone_open no_end) ∙ whole-line is_long r.gone t (more-than is_long r.gone more r.long_is)
 
   -- a whole line is given
   pub gives : (t rest : List ℕ) (fewer : ℕ) → held ≡ t ++ (10 ∷ rest) → IsOpen t → fewer + 1 ≡ more → IsCutting limits is_long more room held bytes given
@@ -138,8 +138,8 @@ module _ (limits : Limits) (is_long : Bool) (more room : ℕ) (held bytes : List
         cuts = λ later. r.cuts later ∙ ap (λ l. r.whole ++ pieces (r.gone ++ (l ++ later))) parts ∙ ap (λ l. r.whole ++ l) (first later)
             ∙ sym (append_assoc r.whole (((r.gone ++ t) ++ (10 ∷ [])) ∷ []) (pieces (rest ++ later)));
         all_whole = list_all-append is_whole r.whole (((r.gone ++ t) ++ (10 ∷ [])) ∷ []) ∙ rw (r.all_whole, is_whole-ended (r.gone ++ t)) refl;
-        given_is = ap (λ l. l ++ (line_given is_long (strip_carriage_return t) ∷ [])) r.given_is ∙ ap (λ x. map line_of r.whole ++ (x ∷ [])) (sym (same-line t no_end r))
-            ∙ sym (map-append line_of r.whole (((r.gone ++ t) ++ (10 ∷ [])) ∷ []));
+        given_is = ap (λ l. l ++ (line_given is_long (strip_carriage_return t) ∷ [])) r.given_is ∙ ap (λ x. map as_line r.whole ++ (x ∷ [])) (sym (same-line t no_end r))
+            ∙ sym (map-append as_line r.whole (((r.gone ++ t) ++ (10 ∷ [])) ∷ []));
         gone_open = refl;
         long_is = refl;
         lines_sum = omega (arith, r.lines_sum, one, length-append r.whole (((r.gone ++ t) ++ (10 ∷ [])) ∷ []));
@@ -188,13 +188,13 @@ module _ (limits : Limits) (is_long : Bool) (more room : ℕ) (held bytes : List
         r.lines_sum,
         none,
       ) in
-      (λ ended. open-lines ended r ∙ ap (λ n. given ++ map line_of (take n (finished ended (pieces rest)))) none ∙ append-nil given, too-many-lines bytes limits more_lines)
+      (λ ended. open-lines ended r ∙ ap (λ n. given ++ map as_line (take n (finished ended (pieces rest)))) none ∙ append-nil given, too-many-lines bytes limits more_lines)
 
   -- without a line end no whole line is held
   pub none-whole : IsOpen held → (r : IsCutting limits is_long more room held bytes given) → lines bytes false limits ≡ given
   none-whole no_end r =
-      open-lines false r ∙ ap (λ ps. given ++ map line_of (take more ps)) (whole-of-open (r.gone ++ held) (IsOpen-append r.gone held r.gone_open no_end))
-      ∙ ap (λ ps. given ++ map line_of ps) (take-nil more) ∙ append-nil given
+      open-lines false r ∙ ap (λ ps. given ++ map as_line (take more ps)) (whole-of-open (r.gone ++ held) (IsOpen-append r.gone held r.gone_open no_end))
+      ∙ ap (λ ps. given ++ map as_line ps) (take-nil more) ∙ append-nil given
 
   -- without a whole line, and with a line begun only where one is allowed, what came keeps both limits
   pub keeps-limits : IsOpen held → (0 < length held → 0 < more) → (r : IsCutting limits is_long more room held bytes given) → is_too_much bytes limits ≡ false
@@ -207,7 +207,7 @@ module _ (limits : Limits) (is_long : Bool) (more room : ℕ) (held bytes : List
   pub all-given : is_long ≡ false → held ≡ [] → (r : IsCutting limits is_long more room held bytes given) → (lines bytes true limits ≡ given) × (is_too_much bytes limits ≡ false)
   all-given short empty r =
       let none : r.gone ++ held ≡ [] = ap (λ l. l ++ held) (not-gone is_long r.gone short (more-than is_long r.gone more r.long_is)) ∙ empty in (
-        open-lines true r ∙ ap (λ l. given ++ map line_of (take more (pieces l))) none ∙ ap (λ ps. given ++ map line_of ps) (take-nil more) ∙ append-nil given,
+        open-lines true r ∙ ap (λ l. given ++ map as_line (take more (pieces l))) none ∙ ap (λ ps. given ++ map as_line ps) (take-nil more) ∙ append-nil given,
         keeps-limits (subst IsOpen (sym empty) refl) (λ some. omega (arith, some, ap length empty)) r,
       )
 
@@ -217,31 +217,31 @@ module _ (limits : Limits) (is_long : Bool) (more room : ℕ) (held bytes : List
   last-given line no_end r some =
       let rest = r.gone ++ held in
       let one : pieces rest ≡ rest ∷ [] = one-piece rest some (IsOpen-append r.gone held r.gone_open no_end) in
-      let same : line_of rest ≡ line_given is_long held = line_of-open rest (IsOpen-append r.gone held r.gone_open no_end)
+      let same : as_line rest ≡ line_given is_long held = as_line-open rest (IsOpen-append r.gone held r.gone_open no_end)
       ∙ last-line is_long r.gone held (more-than is_long r.gone more r.long_is) in (
-        open-lines true r ∙ ap (λ ps. given ++ map line_of (take more ps)) one ∙ ap (λ ps. given ++ map line_of ps) (take-one more rest line) ∙ ap (λ l. given ++ (l ∷ [])) same,
+        open-lines true r ∙ ap (λ ps. given ++ map as_line (take more ps)) one ∙ ap (λ ps. given ++ map as_line ps) (take-one more rest line) ∙ ap (λ l. given ++ (l ∷ [])) same,
         keeps-limits no_end (λ held_some. line) r,
       )
 
 -- of bytes past the limit, the lines are those of the bytes within it
 module _ (limits : Limits) (is_long : Bool) (more room : ℕ) (held bytes : List ℕ) (given : List Line) where
   pub cut-lines : (ended : Bool) → limits.bytes < length bytes → (r : IsCutting limits is_long more room held (take limits.bytes bytes) given)
-      → lines bytes ended limits ≡ given ++ map line_of (take more (finished false (pieces (r.gone ++ held))))
+      → lines bytes ended limits ≡ given ++ map as_line (take more (finished false (pieces (r.gone ++ held))))
   cut-lines ended over r =
       let test : nat_le (length bytes) limits.bytes ≡ false = grind (arith, nat_tests, over) in
       lines-cut bytes ended limits r.whole (pieces (r.gone ++ held)) more (cut-pieces limits is_long more room held (take limits.bytes bytes) given r) r.all_whole r.lines_sum
-      ∙ ap (λ b. map line_of r.whole ++ map line_of (take more (finished b (pieces (r.gone ++ held))))) (ap (λ b. ended && b) test ∙ and-false ended)
-      ∙ ap (λ l. l ++ map line_of (take more (finished false (pieces (r.gone ++ held))))) (sym r.given_is)
+      ∙ ap (λ b. map as_line r.whole ++ map as_line (take more (finished b (pieces (r.gone ++ held))))) (ap (λ b. ended && b) test ∙ and-false ended)
+      ∙ ap (λ l. l ++ map as_line (take more (finished false (pieces (r.gone ++ held))))) (sym r.given_is)
 
   pub cut-none-left : more ≡ 0 → limits.bytes < length bytes → (r : IsCutting limits is_long more room held (take limits.bytes bytes) given)
       → ((ended : Bool) → lines bytes ended limits ≡ given) × (is_too_much bytes limits ≡ true)
   cut-none-left none over r =
-      (λ ended. cut-lines ended over r ∙ ap (λ n. given ++ map line_of (take n (finished false (pieces (r.gone ++ held))))) none ∙ append-nil given, too-many-bytes bytes limits over)
+      (λ ended. cut-lines ended over r ∙ ap (λ n. given ++ map as_line (take n (finished false (pieces (r.gone ++ held))))) none ∙ append-nil given, too-many-bytes bytes limits over)
 
   pub cut-none-whole : IsOpen held → limits.bytes < length bytes → (r : IsCutting limits is_long more room held (take limits.bytes bytes) given)
       → ((ended : Bool) → lines bytes ended limits ≡ given) × (is_too_much bytes limits ≡ true)
   cut-none-whole no_end over r = (
-    λ ended. cut-lines ended over r ∙ ap (λ ps. given ++ map line_of (take more ps)) (whole-of-open (r.gone ++ held) (IsOpen-append r.gone held r.gone_open no_end))
-        ∙ ap (λ ps. given ++ map line_of ps) (take-nil more) ∙ append-nil given,
+    λ ended. cut-lines ended over r ∙ ap (λ ps. given ++ map as_line (take more ps)) (whole-of-open (r.gone ++ held) (IsOpen-append r.gone held r.gone_open no_end))
+        ∙ ap (λ ps. given ++ map as_line ps) (take-nil more) ∙ append-nil given,
     too-many-bytes bytes limits over,
   )

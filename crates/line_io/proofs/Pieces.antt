@@ -6,7 +6,7 @@ use Rattle.std.proofs.lemmas.Bool.Decides.{nat_tests}
 use Rattle.std.proofs.lemmas.List.Folds.{list_any-append}
 use Rattle.std.specs.List.{list_any, list_all, before_first, position_or_len}
 use Rattle.std.specs.Str.Lines.{strip_carriage_return}
-use Rattle.line_io.specs.Lines.{long, is_end, is_whole, onto_first, pieces, line_of, finished}
+use Rattle.line_io.specs.Lines.{long, is_end, is_whole, onto_first, pieces, as_line, finished}
 use Rattle.line_io.specs.Reader.{line_given, IsOpen}
 use Rattle.line_io.specs.declared.reader.TheConstants.{LONGEST_LINE}
 
@@ -75,12 +75,12 @@ pub is_whole-ended : (xs : List ℕ) → is_whole (xs ++ (10 ∷ [])) ≡ true
 is_whole-ended xs = list_any-append is_end xs (10 ∷ []) ∙ or-true (list_any is_end xs)
 
 -- a whole piece as a line
-pub line_of-whole : (xs : List ℕ) → IsOpen xs → line_of (xs ++ (10 ∷ [])) ≡ line_given false (strip_carriage_return xs)
-line_of-whole xs none = rw (is_whole-ended xs, before-end xs none) refl
+pub as_line-whole : (xs : List ℕ) → IsOpen xs → as_line (xs ++ (10 ∷ [])) ≡ line_given false (strip_carriage_return xs)
+as_line-whole xs none = rw (is_whole-ended xs, before-end xs none) refl
 
 -- a piece without a line end as a line
-pub line_of-open : (xs : List ℕ) → IsOpen xs → line_of xs ≡ line_given false xs
-line_of-open xs none = rw none refl
+pub as_line-open : (xs : List ℕ) → IsOpen xs → as_line xs ≡ line_given false xs
+as_line-open xs none = rw none refl
 
 -- a line that is too long in any case
 pub line_given-long : (xs : List ℕ) → LONGEST_LINE < length xs → line_given false xs ≡ long

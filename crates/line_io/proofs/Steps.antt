@@ -3,7 +3,7 @@ use Rattle.std.proofs.Common.{◌≡◌, ◌≢◌, ◌⊎◌, inl, inr, ℕ, �
 use Rattle.std.proofs.Math.Seq.{take-append-add}
 use Rattle.std.specs.Io.KnownBytes.{IsAtEnd}
 use Rattle.std.specs.Str.Lines.{strip_carriage_return}
-use Rattle.line_io.specs.Lines.{Line as Text, finished, line_of, lines, is_too_much, pieces}
+use Rattle.line_io.specs.Lines.{Line as Text, finished, as_line, lines, is_too_much, pieces}
 use Rattle.line_io.specs.Reader.{CutBy, IsOpen, ReadAt, CutsAt, line_given, held, Settles, lines_in}
 use Rattle.line_io.specs.declared.reader.LineGot.{LineGot}
 use Rattle.line_io.specs.declared.reader.LineGot.TheVariants.{Line, Long, End, Fault, TooMuch}
@@ -131,7 +131,7 @@ pub faults-by : (stop : Stop) (limits : Limits) (is_long : Bool) (more room : �
 faults-by stop limits is_long more room held bytes given eo no_end line h =
     let k = subst (λ s. CutBy s limits is_long more room held bytes given) eo h in
     let all = open-lines limits is_long more room held bytes given true k in
-    let rest = map line_of (take more (finished true (pieces (k.gone ++ held)))) in (
+    let rest = map as_line (take more (finished true (pieces (k.gone ++ held)))) in (
       none-whole limits is_long more room held bytes given no_end k ∙ sym (append-nil given),
       (rest, all ∙ ap (λ l. l ++ rest) (sym (append-nil given))),
       keeps-limits limits is_long more room held bytes given no_end line k,

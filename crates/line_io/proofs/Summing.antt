@@ -6,7 +6,7 @@ use Rattle.std.proofs.lemmas.Bool.Decides.{nat_tests}
 use Rattle.std.specs.List.{list_any, count_by}
 use Rattle.line_io.specs.Lines.{is_end, onto_first, pieces}
 use Rattle.line_io.specs.Reader.{IsOpen}
-use Rattle.line_io.specs.Summary.{begins_with, completes, error_begun, error_lines, front_of, further, line_begun, one_more, sum_from, summary_of}
+use Rattle.line_io.specs.Summary.{begins_with, completes, error_begun, error_lines, front_len, further, line_begun, one_more, sum_from, summary_of}
 use Rattle.line_io.specs.declared.sum_sink.TheConstants.{ERROR_WORD}
 use Rattle.line_io.proofs.Pieces.{IsOpen-append, or-true, or-false_end, pieces-first, pieces-open}
 
@@ -72,7 +72,7 @@ further-more w word (Some n) b =
     pick false = refl
 
 -- how the state of a line goes on
-front-more : (word line : List ℕ) (b : ℕ) → front_of word (line ++ b ∷ []) ≡ further word (front_of word line) b
+front-more : (word line : List ℕ) (b : ℕ) → front_len word (line ++ b ∷ []) ≡ further word (front_len word line) b
 front-more [] line b = refl
 front-more (w ∷ []) [] b = pick (b == w)
   where
@@ -86,9 +86,9 @@ front-more (w ∷ v ∷ word) [] b = pick (nat_lt 1 (length (w ∷ v ∷ word)))
     pick s e false = rw e refl
 front-more (w ∷ word) (c ∷ line) b = pick (c == w) (front-more word line b)
   where
-    pick : (t : Bool) → front_of word (line ++ b ∷ []) ≡ further word (front_of word line) b
-        → cond t (one_more (front_of word (line ++ b ∷ []))) None ≡ further (w ∷ word) (cond t (one_more (front_of word line)) None) b
-    pick true same = ap one_more same ∙ further-more w word (front_of word line) b
+    pick : (t : Bool) → front_len word (line ++ b ∷ []) ≡ further word (front_len word line) b
+        → cond t (one_more (front_len word (line ++ b ∷ []))) None ≡ further (w ∷ word) (cond t (one_more (front_len word line)) None) b
+    pick true same = ap one_more same ∙ further-more w word (front_len word line) b
     pick false same = refl
 
 completes-more : (w : ℕ) (word : List ℕ) (s : Option ℕ) (b : ℕ) → completes (w ∷ word) (one_more s) b ≡ completes word s b
@@ -108,7 +108,7 @@ completes-more w word (Some n) b =
         pick false e = grind (arith, nat_tests)
 
 -- a line begins with the word from that byte on which completes it
-begins-more : (word line : List ℕ) (b : ℕ) → 0 < length word → one_if (begins_with word (line ++ b ∷ [])) ≡ one_if (begins_with word line) + one_if (completes word (front_of word line) b)
+begins-more : (word line : List ℕ) (b : ℕ) → 0 < length word → one_if (begins_with word (line ++ b ∷ [])) ≡ one_if (begins_with word line) + one_if (completes word (front_len word line) b)
 begins-more [] line b some = absurd (omega arith)
 begins-more (w ∷ []) [] b some = pick (b == w)
   where
@@ -127,10 +127,10 @@ begins-more (w ∷ []) (c ∷ line) b some = pick (c == w)
     pick false = refl
 begins-more (w ∷ v ∷ word) (c ∷ line) b some = pick (begins-more (v ∷ word) line b (omega arith)) (c == w)
   where
-    pick : one_if (begins_with (v ∷ word) (line ++ b ∷ [])) ≡ one_if (begins_with (v ∷ word) line) + one_if (completes (v ∷ word) (front_of (v ∷ word) line) b)
+    pick : one_if (begins_with (v ∷ word) (line ++ b ∷ [])) ≡ one_if (begins_with (v ∷ word) line) + one_if (completes (v ∷ word) (front_len (v ∷ word) line) b)
         → (t : Bool)
-        → one_if (t && begins_with (v ∷ word) (line ++ b ∷ [])) ≡ one_if (t && begins_with (v ∷ word) line) + one_if (completes (w ∷ v ∷ word) (cond t (one_more (front_of (v ∷ word) line)) None) b)
-    pick same true = same ∙ ap (λ t. one_if (begins_with (v ∷ word) line) + one_if t) (sym (completes-more w (v ∷ word) (front_of (v ∷ word) line) b))
+        → one_if (t && begins_with (v ∷ word) (line ++ b ∷ [])) ≡ one_if (t && begins_with (v ∷ word) line) + one_if (completes (w ∷ v ∷ word) (cond t (one_more (front_len (v ∷ word) line)) None) b)
+    pick same true = same ∙ ap (λ t. one_if (begins_with (v ∷ word) line) + one_if t) (sym (completes-more w (v ∷ word) (front_len (v ∷ word) line) b))
     pick same false = refl
 
 -- all bytes but those of the line begun are whole pieces, whatever comes after
@@ -210,8 +210,8 @@ pub error_begun-more : (bytes : List ℕ) (b : ℕ) → error_begun (bytes ++ b 
 error_begun-more bytes b = pick (is_end b) refl
   where
     pick : (t : Bool) → is_end b ≡ t → error_begun (bytes ++ b ∷ []) ≡ cond t (Some 0) (further ERROR_WORD (error_begun bytes) b)
-    pick true e = ap (front_of ERROR_WORD) (begun-end bytes b e)
-    pick false e = ap (front_of ERROR_WORD) (begun-more bytes b e) ∙ front-more ERROR_WORD (line_begun bytes) b
+    pick true e = ap (front_len ERROR_WORD) (begun-end bytes b e)
+    pick false e = ap (front_len ERROR_WORD) (begun-more bytes b e) ∙ front-more ERROR_WORD (line_begun bytes) b
 
 -- the numbers of some bytes and one more
 pub summary-more : (lines errors bytes sum b : ℕ) (taken : List ℕ) → record { lines = lines; errors = errors; bytes = bytes; sum = sum } ≡ summary_of taken

@@ -33,8 +33,8 @@ abbrev pub without_end : List ℕ → List ℕ
 without_end piece = if is_whole piece then strip_carriage_return (before_first is_end piece) else piece
 
 -- a piece as a line: too long exactly where more than 4,096 bytes are left of it
-abbrev pub line_of : List ℕ → Line
-line_of piece = if nat_lt LONGEST_LINE (length (without_end piece)) then long else text (without_end piece)
+abbrev pub as_line : List ℕ → Line
+as_line piece = if nat_lt LONGEST_LINE (length (without_end piece)) then long else text (without_end piece)
 
 -- the pieces that count as lines: the last one without a line end counts where the input has ended
 abbrev pub finished : Bool → List (List ℕ) → List (List ℕ)
@@ -42,7 +42,7 @@ finished ended ps = if ended then ps else filter is_whole ps
 
 -- the lines of the bytes, within both limits; `ended` says whether the input has ended after these bytes
 unfoldable pub lines : List ℕ → Bool → Limits → List Line
-lines bytes ended limits = map line_of (take limits.lines
+lines bytes ended limits = map as_line (take limits.lines
     (finished (ended && nat_le (length bytes) limits.bytes) (pieces (take limits.bytes bytes))))
 
 -- more bytes came than are allowed, or a byte after the last line that is allowed

@@ -10,8 +10,8 @@ use Rattle.line_io.specs.declared.mem_source.MemSource.{MemSource}
 use Rattle.line_io.specs.declared.mem_sink.MemSink.{MemSink}
 
 -- a call's number is among those at which the calls fail
-abbrev pub is_among : List ℕ → ℕ → Bool
-is_among failing call = list_any (λ other. other == call) failing
+abbrev pub fails_at : List ℕ → ℕ → Bool
+fails_at failing call = list_any (λ other. other == call) failing
 
 -- the number of a source's next call, counted from 1; it stands still at its type's end
 abbrev pub next_read : MemSource → ℕ
@@ -31,9 +31,9 @@ failing_reads s = s.failing.items
 
 -- a source fails at its next call exactly where that call's number stands among the failing ones, and ends exactly where nothing is left
 abbrev pub GivesNext : MemSource → ℕ → Got → Type 0
-GivesNext s room (Bytes n) = (is_among (failing_reads s) (next_read s) ≡ false) × (n ≡ min (min (length (bytes_left s)) (read_piece s)) room)
-GivesNext s room End = (is_among (failing_reads s) (next_read s) ≡ false) × (bytes_left s ≡ [])
-GivesNext s room ReadFailed = is_among (failing_reads s) (next_read s) ≡ true
+GivesNext s room (Bytes n) = (fails_at (failing_reads s) (next_read s) ≡ false) × (n ≡ min (min (length (bytes_left s)) (read_piece s)) room)
+GivesNext s room End = (fails_at (failing_reads s) (next_read s) ≡ false) × (bytes_left s ≡ [])
+GivesNext s room ReadFailed = fails_at (failing_reads s) (next_read s) ≡ true
 
 -- the number of a sink's next call, counted from 1; it stands still at its type's end
 abbrev pub next_write : MemSink → ℕ
@@ -58,5 +58,5 @@ failing_writes s = s.failing.items
 -- a sink fails at its next call exactly where that call's number stands among the failing ones, or its room is used up
 abbrev pub TakesNext : MemSink → ℕ → Took → Type 0
 TakesNext s given (Taken n) =
-    (is_among (failing_writes s) (next_write s) ≡ false) × (n ≡ min (min (sink_room s - length (bytes_taken s)) (write_piece s)) given)
-TakesNext s given WriteFailed = (is_among (failing_writes s) (next_write s) ≡ true) ⊎ (length (bytes_taken s) ≡ sink_room s)
+    (fails_at (failing_writes s) (next_write s) ≡ false) × (n ≡ min (min (sink_room s - length (bytes_taken s)) (write_piece s)) given)
+TakesNext s given WriteFailed = (fails_at (failing_writes s) (next_write s) ≡ true) ⊎ (length (bytes_taken s) ≡ sink_room s)

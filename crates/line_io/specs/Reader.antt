@@ -2,7 +2,7 @@
 use Rattle.std.specs.Prelude.{◌≡◌, ◌≢◌, ◌↔◌, ◌||◌, nat_lt, if◌then◌else◌, ℕ, ◌+◌, ◌<◌, ◌≤◌, Bool, true, false, IsTrue, MatchBool, Option, Some, None, List, [], ◌∷◌, ◌++◌, length, take, map, slice_range}
 use Rattle.std.specs.List.{list_any, list_all}
 use Rattle.std.specs.Io.KnownBytes.{IsAtEnd}
-use Rattle.line_io.specs.Lines.{Line, text, long, is_end, is_whole, pieces, line_of, lines, is_too_much}
+use Rattle.line_io.specs.Lines.{Line, text, long, is_end, is_whole, pieces, as_line, lines, is_too_much}
 use Rattle.line_io.specs.Source.{Gave}
 use Rattle.line_io.specs.declared.reader.Limits.{Limits}
 use Rattle.line_io.specs.declared.reader.TheConstants.{LONGEST_LINE, SIZE}
@@ -74,7 +74,7 @@ pub record IsCutting (limits : Limits) (is_long : Bool) (lines_left bytes_left :
   pub gone : List ℕ
   pub cuts : (more : List ℕ) → pieces (bytes ++ more) ≡ whole ++ pieces (gone ++ (held ++ more))
   pub all_whole : list_all is_whole whole ≡ true
-  pub given_is : given ≡ map line_of whole
+  pub given_is : given ≡ map as_line whole
   pub gone_open : list_any is_end gone ≡ false
   pub long_is : MatchBool is_long ((SIZE ≤ length gone) × (0 < lines_left)) (gone ≡ [])
   pub lines_sum : lines_left + length whole ≡ limits.lines

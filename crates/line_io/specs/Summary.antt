@@ -17,10 +17,10 @@ one_more None = None
 one_more (Some n) = Some (n + 1)
 
 -- the length of the line, where it is a front of the word and not all of it
-abbrev pub front_of : (word line : List ℕ) → Option ℕ
-front_of [] line = None
-front_of (w ∷ word) [] = Some 0
-front_of (w ∷ word) (b ∷ line) = if b == w then one_more (front_of word line) else None
+abbrev pub front_len : (word line : List ℕ) → Option ℕ
+front_len [] line = None
+front_len (w ∷ word) [] = Some 0
+front_len (w ∷ word) (b ∷ line) = if b == w then one_more (front_len word line) else None
 
 -- the bytes after the last line end
 abbrev pub line_begun : List ℕ → List ℕ
@@ -29,7 +29,7 @@ line_begun (b ∷ bytes) = if is_end b || list_any is_end bytes then line_begun 
 
 -- how much of `error ` the line begun has, where it has nothing else and not all of it
 abbrev pub error_begun : List ℕ → Option ℕ
-error_begun bytes = front_of ERROR_WORD (line_begun bytes)
+error_begun bytes = front_len ERROR_WORD (line_begun bytes)
 
 -- how many lines begin with `error `, the line begun included
 abbrev pub error_lines : List ℕ → ℕ

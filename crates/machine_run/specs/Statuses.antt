@@ -4,13 +4,13 @@ use Rattle.engine.specs.declared.serving.Status.{Status}
 use Rattle.engine.specs.declared.serving.Status.TheVariants.{Done, Usage, ReadFault, WriteFault, Memory, TooMuch}
 
 -- the number that the process ends with
-abbrev pub number_of : Status → ℕ
-number_of Done = 0
-number_of Usage = 1
-number_of ReadFault = 2
-number_of WriteFault = 3
-number_of Memory = 4
-number_of TooMuch = 5
+abbrev pub status_number : Status → ℕ
+status_number Done = 0
+status_number Usage = 1
+status_number ReadFault = 2
+status_number WriteFault = 3
+status_number Memory = 4
+status_number TooMuch = 5
 
 -- the line that standard error gets, without its end
 abbrev pub complaint_of : Status → Option (List ℕ)

@@ -1,12 +1,12 @@
 // What a run's status is outside.
 ghost use Rattle.std.specs.Prelude.{◌≡◌, option_map};
-ghost use Rattle.machine_run.specs.Statuses.{complaint_of, number_of};
+ghost use Rattle.machine_run.specs.Statuses.{complaint_of, status_number};
 
 use engine::Status;
 
 /// The number that the process ends with.
 pub fn number(status: Status) -> u8
-    ensures { result ≡ number_of status }
+    ensures { result ≡ status_number status }
 {
     match status {
         Status::Done => 0,

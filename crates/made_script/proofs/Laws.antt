@@ -6,7 +6,7 @@ use Rattle.std.proofs.lemmas.List.Folds.{list_any-append}
 use Rattle.std.proofs.lemmas.Fmt.{decimal_by_steps}
 use Rattle.rand_pcg.specs.Lcg.{Lcg}
 use Rattle.made_script.specs.Draws.{after_first, after_process, after_row, draw, drawn}
-use Rattle.made_script.specs.Lines.{line_of, receiver_of, row_of, rows, rows_of}
+use Rattle.made_script.specs.Lines.{line_of, receiver_of, drawn_row, rows, rows_of}
 use Rattle.made_script.specs.Script.{generator_of, lines_from, made_script}
 
 -- so many lines are drawn as are asked for
@@ -102,7 +102,7 @@ line-lacks g =
     rows-lack (decimal d.process) (decimal d.first) (decimal d.second) (decimal d.value) (decimal (receiver_of d))
     (decimal-lacks d.process process) (decimal-lacks d.first first) (decimal-lacks d.second second) (decimal-lacks d.value value)
     (decimal-lacks (receiver_of d) receiver) in
-    concat-lacks (slice_index_or (rows_of d) (row_of d) []) (passes-at row_lacks (rows_of d) (row_of d) [] all refl)
+    concat-lacks (slice_index_or (rows_of d) (drawn_row d) []) (passes-at row_lacks (rows_of d) (drawn_row d) [] all refl)
 
 -- nor has any of so many lines
 lines-lack : (n : ℕ) (g : Lcg) → list_all lacks_q (lines_from n g) ≡ true

@@ -6,7 +6,7 @@ use Rattle.std.proofs.lemmas.List.Sums.{AllPass-from_list_all}
 use Rattle.rand_pcg.specs.Lcg.{Lcg}
 use Rattle.made_script.specs.Draws.{drawn, after_draws}
 use Rattle.made_script.specs.Lines.{line_of}
-use Rattle.made_script.specs.Script.{opening, lines_from}
+use Rattle.made_script.specs.Script.{opening_lines, lines_from}
 use Rattle.made_script.specs.declared.lines.TheConstants.{LINE_ROOM}
 
 -- an entry of a table has room on an empty line, where all of them have
@@ -27,14 +27,14 @@ text-at text table i other lt = sym (get_or-map text table i other [] lt)
 
 -- the next line of the opening
 pub next-opening : (i : ℕ) (rest : List (List ℕ)) → i < 8
-    → drop i opening ++ rest ≡ slice_index_or opening i [] ∷ (drop (i + 1) opening ++ rest)
+    → drop i opening_lines ++ rest ≡ slice_index_or opening_lines i [] ∷ (drop (i + 1) opening_lines ++ rest)
 next-opening i rest low =
     let step : suc i ≡ i + 1 = omega arith in
-    ap (λ (ls : List (List ℕ)). ls ++ rest) (drop-cons opening i [] low ∙ ap (λ (k : ℕ). slice_index_or opening i [] ∷ drop k opening) step)
+    ap (λ (ls : List (List ℕ)). ls ++ rest) (drop-cons opening_lines i [] low ∙ ap (λ (k : ℕ). slice_index_or opening_lines i [] ∷ drop k opening_lines) step)
 
 -- the opening is over
-pub opening-over : (i : ℕ) (rest : List (List ℕ)) → 8 ≤ i → drop i opening ++ rest ≡ rest
-opening-over i rest le = ap (λ (ls : List (List ℕ)). ls ++ rest) (drop_of_length-le opening le)
+pub opening-over : (i : ℕ) (rest : List (List ℕ)) → 8 ≤ i → drop i opening_lines ++ rest ≡ rest
+opening-over i rest le = ap (λ (ls : List (List ℕ)). ls ++ rest) (drop_of_length-le opening_lines le)
 
 -- the next line that is drawn
 pub next-drawn : (n : ℕ) (g : Lcg) → 0 < n → lines_from n g ≡ line_of (drawn g) ∷ lines_from (n - 1) (after_draws g)

@@ -29,8 +29,8 @@ rows p a b x q =
     ∷ []
 
 -- the row of what was drawn: the last row drawn is four, by the value modulo 4
-abbrev pub row_of : Drawn → ℕ
-row_of d = if d.row == 15 then 15 + d.value % 4 else d.row
+abbrev pub drawn_row : Drawn → ℕ
+drawn_row d = if d.row == 15 then 15 + d.value % 4 else d.row
 
 -- the receiver of a message, from 1 to 8, by the value
 abbrev pub receiver_of : Drawn → ℕ
@@ -42,4 +42,4 @@ rows_of d = rows (decimal d.process) (decimal d.first) (decimal d.second) (decim
 
 -- the line of what was drawn
 unfoldable pub line_of : Drawn → List ℕ
-line_of d = concat (slice_index_or (rows_of d) (row_of d) [])
+line_of d = concat (slice_index_or (rows_of d) (drawn_row d) [])

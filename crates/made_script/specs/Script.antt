@@ -7,8 +7,8 @@ use Rattle.made_script.specs.Lines.{line_of}
 use Rattle.made_script.specs.declared.script.MadeScript.{MadeScript}
 
 -- the lines of the opening: seven more processes, and a literal area
-abbrev pub opening : List (List ℕ)
-opening = codes "sys spawn" ∷ codes "sys spawn" ∷ codes "sys spawn" ∷ codes "sys spawn" ∷ codes "sys spawn"
+abbrev pub opening_lines : List (List ℕ)
+opening_lines = codes "sys spawn" ∷ codes "sys spawn" ∷ codes "sys spawn" ∷ codes "sys spawn" ∷ codes "sys spawn"
     ∷ codes "sys spawn" ∷ codes "sys spawn" ∷ codes "sys load base {lit,[1,2,3]} ; #{k=>v}" ∷ []
 
 -- so many lines, each of what it draws from the generator that the line before it left
@@ -22,8 +22,8 @@ generator_of number = started 64 multiplier_64 number (increment_of 64 1)
 
 -- the script of a number has 100,000 lines
 unfoldable pub made_script : ℕ → List (List ℕ)
-made_script number = opening ++ lines_from 99992 (generator_of number)
+made_script number = opening_lines ++ lines_from 99992 (generator_of number)
 
 -- the lines that are yet to come
-abbrev pub lines_left : MadeScript → List (List ℕ)
-lines_left s = drop s.opened opening ++ lines_from s.left s.generator
+abbrev pub lines_to_come : MadeScript → List (List ℕ)
+lines_to_come s = drop s.opened opening_lines ++ lines_from s.left s.generator

@@ -2,7 +2,7 @@
 ghost use Rattle.std.specs.Prelude.{◌≡◌, ◌+◌, ◌<◌, ◌≤◌, ◌++◌, [], decimal, map, length, nat_le, true, slice_index_or};
 ghost use Rattle.std.specs.List.{concat, list_all};
 ghost use Rattle.arrayvec.specs.ArrayVec.{array_vec_len};
-ghost use Rattle.made_script.specs.Lines.{line_of, row_of};
+ghost use Rattle.made_script.specs.Lines.{line_of, drawn_row};
 ghost use Rattle.made_script.specs.Pieces.{piece_text, piece_width, width};
 
 use crate::draws::Drawn;
@@ -88,7 +88,7 @@ const ROWS: [&[Piece]; 19] = [
 /// The row of what was drawn.
 fn row_of(drawn: &Drawn) -> usize
     requires { drawn.now.row < 16 }
-    ensures value { result ≡ row_of drawn.now }
+    ensures value { result ≡ drawn_row drawn.now }
     ensures bound { result < 19 }
 {
     if drawn.row == 15 {

@@ -1,6 +1,6 @@
 // The lines of a script that a number makes, one after the other.
 ghost use Rattle.std.specs.Prelude.{◌≡◌, ◌∷◌, [], MatchBool};
-ghost use Rattle.made_script.specs.Script.{made_script, lines_left};
+ghost use Rattle.made_script.specs.Script.{made_script, lines_to_come};
 
 use crate::draws::draw_line;
 use crate::lines::{LINE_ROOM, put_line_of, write_line};
@@ -33,7 +33,7 @@ pub struct MadeScript {
 impl MadeScript {
     /// The script of a number, with all of its lines to come.
     pub fn new(number: u64) -> MadeScript
-        ensures { lines_left result ≡ made_script number }
+        ensures { lines_to_come result ≡ made_script number }
     {
         MadeScript {
             generator: Lcg64Xsh32::new(number, 1),
@@ -44,8 +44,8 @@ impl MadeScript {
 
     /// Makes `line` the next line, without its line end. Where none is left the answer is false.
     pub fn next_line(&mut self, line: &mut ArrayVec<u8, LINE_ROOM>) -> bool
-        ensures { MatchBool result (lines_left self.old ≡ line.new.items ∷ lines_left self.new)
-            ((lines_left self.old ≡ []) × (self.new ≡ self.old)) }
+        ensures { MatchBool result (lines_to_come self.old ≡ line.new.items ∷ lines_to_come self.new)
+            ((lines_to_come self.old ≡ []) × (self.new ≡ self.old)) }
     {
         if self.opened < OPENING.len() {
             put_line_of(line, &OPENING, self.opened);

@@ -20,18 +20,18 @@ use Rattle.script_grammar.specs.declared.command.Shape.TheVariants.{Tuple as InT
 use Rattle.plain_machine.specs.State.{Process, register}
 use Rattle.plain_machine.specs.Made.{list_tree}
 use Rattle.plain_machine.specs.Parts.{part_in, value_of, value_in, picked, repeated}
-use Rattle.named_trees.specs.NamedTree.{NamedTree, NamedPairs, named, all_named, pairs_named}
+use Rattle.named_trees.specs.NamedTree.{NamedTree, NamedPairs, as_named, all_as_named, pairs_as_named}
 use Rattle.named_trees.specs.NamedTree.{NamedTree as by_name}
 use Rattle.named_trees.specs.NamedTree.{NamedTrees as all_by_name}
 use Rattle.named_trees.specs.NamedTree.{NamedPairs as pairs_by_name}
 use Rattle.named_trees.specs.Seen.{named_order, named_beyond}
-use Rattle.named_trees.specs.Doing.{named_head, named_tail, named_after, named_element, named_place, named_env, named_part, named_value, named_in, named_picked, named_put, named_put_all, named_list, named_times, named_repeated}
+use Rattle.named_trees.specs.Doing.{named_head, named_tail, named_after, named_element, named_place, named_env, named_part, named_value, named_found, named_picked, named_put, named_put_all, named_list, named_times, named_repeated}
 use Rattle.named_trees.specs.Laws.{DoneOf}
 use Rattle.named_trees.proofs.Seeing.{beyond-seen, order-seen}
 
 module _ (names shared : List (List ℕ)) where
   abbrev by : Tree → NamedTree
-  by t = named names shared t
+  by t = as_named names shared t
 
   -- a tree where a test holds, by name
   if-some : (b : Bool) (t : Tree) (u : NamedTree) → by t ≡ u → option_map by (cond b (Some t) None) ≡ cond b (Some u) None
@@ -53,12 +53,12 @@ module _ (names shared : List (List ℕ)) where
   tail-by (Cons h t) = refl
   tail-by _ = refl
 
-  after-by : (ts : Trees) (k : ℕ) → option_map by (part_at ts k) ≡ named_after (all_named names shared ts) k
+  after-by : (ts : Trees) (k : ℕ) → option_map by (part_at ts k) ≡ named_after (all_as_named names shared ts) k
   after-by end k = refl
   after-by (t ▹ ts) zero = refl
   after-by (t ▹ ts) (suc k) = after-by ts k
 
-  element-by : (ts : Trees) (i : ℕ) → option_map by (place_of ts i) ≡ named_element (all_named names shared ts) i
+  element-by : (ts : Trees) (i : ℕ) → option_map by (place_of ts i) ≡ named_element (all_as_named names shared ts) i
   element-by ts zero = refl
   element-by ts (suc k) = after-by ts k
 
@@ -77,13 +77,13 @@ module _ (names shared : List (List ℕ)) where
   part-by offset len (Part base start whole) = if-some (nat_le (offset + len) whole) (Part base (start + offset) len) (by_name.Part (by base) (start + offset) len) refl
   part-by offset len _ = refl
 
-  value-by : (key : Tree) (ps : Pairs) → option_map by (value_of names shared key ps) ≡ named_value (by key) (pairs_named names shared ps)
+  value-by : (key : Tree) (ps : Pairs) → option_map by (value_of names shared key ps) ≡ named_value (by key) (pairs_as_named names shared ps)
   value-by key stop = refl
   value-by key (pair k v ps) = if-else (is_eq (order names shared key k)) (is_eq (named_order (by key) (by k))) (Some v) (value_of names shared key ps) (Some (by v))
-      (named_value (by key) (pairs_named names shared ps)) (ap is_eq (order-seen names shared key k)) refl (value-by key ps)
+      (named_value (by key) (pairs_as_named names shared ps)) (ap is_eq (order-seen names shared key k)) refl (value-by key ps)
 
-  in-by : (key t : Tree) → option_map by (value_in names shared key t) ≡ named_in (by key) (by t)
-  in-by key (Map ps) = if-else (is_beyond shared key) (named_beyond (by key)) None (value_of names shared key ps) None (named_value (by key) (pairs_named names shared ps))
+  in-by : (key t : Tree) → option_map by (value_in names shared key t) ≡ named_found (by key) (by t)
+  in-by key (Map ps) = if-else (is_beyond shared key) (named_beyond (by key)) None (value_of names shared key ps) None (named_value (by key) (pairs_as_named names shared ps))
       (beyond-seen names shared key) refl (value-by key ps)
   in-by key _ = refl
 
@@ -97,36 +97,36 @@ module _ (names shared : List (List ℕ)) where
   picked-by q Hd t = head-by t
   picked-by q Tl t = tail-by t
   picked-by q (Elem i) t = place-by i t
-  picked-by q (MapGet k) t = in-by (register k.0 q) t ∙ ap (λ z. named_in z (by t)) (at-by q.registers k.0)
+  picked-by q (MapGet k) t = in-by (register k.0 q) t ∙ ap (λ z. named_found z (by t)) (at-by q.registers k.0)
   picked-by q (Env i) t = env-by i t
   picked-by q (Bytes offset len) t = part-by offset len t
 
-  order-by : (o p : Ordering) (a b c : Pairs) (x y z : NamedPairs) → o ≡ p → pairs_named names shared a ≡ x → pairs_named names shared b ≡ y → pairs_named names shared c ≡ z
-      → pairs_named names shared (match_ordering o a b c) ≡ match_ordering p x y z
+  order-by : (o p : Ordering) (a b c : Pairs) (x y z : NamedPairs) → o ≡ p → pairs_as_named names shared a ≡ x → pairs_as_named names shared b ≡ y → pairs_as_named names shared c ≡ z
+      → pairs_as_named names shared (match_ordering o a b c) ≡ match_ordering p x y z
   order-by o p a b c x y z e h k l = all o ∙ ap (λ w. match_ordering w x y z) e
     where
-      all : (o : Ordering) → pairs_named names shared (match_ordering o a b c) ≡ match_ordering o x y z
+      all : (o : Ordering) → pairs_as_named names shared (match_ordering o a b c) ≡ match_ordering o x y z
       all Less = h
       all Equal = k
       all Greater = l
 
-  pub put-by : (k v : Tree) (ps : Pairs) → pairs_named names shared (put_pair names shared k v ps) ≡ named_put (by k) (by v) (pairs_named names shared ps)
+  pub put-by : (k v : Tree) (ps : Pairs) → pairs_as_named names shared (put_pair names shared k v ps) ≡ named_put (by k) (by v) (pairs_as_named names shared ps)
   put-by k v stop = refl
   put-by k v (pair j w ps) =
       order-by (order names shared k j) (named_order (by k) (by j)) (pair k v (pair j w ps)) (pair k v ps) (pair j w (put_pair names shared k v ps))
-      (pairs_by_name.paired (by k) (by v) (pairs_named names shared (pair j w ps))) (pairs_by_name.paired (by k) (by v) (pairs_named names shared ps))
-      (pairs_by_name.paired (by j) (by w) (named_put (by k) (by v) (pairs_named names shared ps)))
+      (pairs_by_name.paired (by k) (by v) (pairs_as_named names shared (pair j w ps))) (pairs_by_name.paired (by k) (by v) (pairs_as_named names shared ps))
+      (pairs_by_name.paired (by j) (by w) (named_put (by k) (by v) (pairs_as_named names shared ps)))
       (order-seen names shared k j) refl refl (ap (λ z. pairs_by_name.paired (by j) (by w) z) (put-by k v ps))
 
-  pub put-all-by : (sorted ps : Pairs) → pairs_named names shared (put_all names shared sorted ps) ≡ named_put_all (pairs_named names shared sorted) (pairs_named names shared ps)
+  pub put-all-by : (sorted ps : Pairs) → pairs_as_named names shared (put_all names shared sorted ps) ≡ named_put_all (pairs_as_named names shared sorted) (pairs_as_named names shared ps)
   put-all-by sorted stop = refl
-  put-all-by sorted (pair k v ps) = put-all-by (put_pair names shared k v sorted) ps ∙ ap (λ z. named_put_all z (pairs_named names shared ps)) (put-by k v sorted)
+  put-all-by sorted (pair k v ps) = put-all-by (put_pair names shared k v sorted) ps ∙ ap (λ z. named_put_all z (pairs_as_named names shared ps)) (put-by k v sorted)
 
-  pub list-by : (ts : Trees) (t : Tree) → by (list_tree ts t) ≡ named_list (all_named names shared ts) (by t)
+  pub list-by : (ts : Trees) (t : Tree) → by (list_tree ts t) ≡ named_list (all_as_named names shared ts) (by t)
   list-by end t = refl
   list-by (u ▹ ts) t = ap (λ z. by_name.Cons (by u) z) (list-by ts t)
 
-  times-by : (n : ℕ) (t : Tree) → all_named names shared (same_trees n t) ≡ named_times n (by t)
+  times-by : (n : ℕ) (t : Tree) → all_as_named names shared (same_trees n t) ≡ named_times n (by t)
   times-by zero t = refl
   times-by (suc n) t = ap (λ z. all_by_name.before (by t) z) (times-by n t)
 

@@ -9,7 +9,7 @@ use Rattle.plain_term.specs.Tree.Pairs.{stop, pair}
 use Rattle.plain_term.specs.Bytes.{shared_bytes}
 use Rattle.plain_term.specs.Proper.{is_proper, are_proper, are_proper_pairs}
 use Rattle.plain_machine.proofs.Properly.Growing.{cons-parts, all-parts, fun-parts, part-parts, map-parts, pairs-parts}
-use Rattle.named_trees.specs.NamedTree.{named, all_named, pairs_named, IsKnown, AreKnown, PairsKnown}
+use Rattle.named_trees.specs.NamedTree.{as_named, all_as_named, pairs_as_named, IsKnown, AreKnown, PairsKnown}
 use Rattle.named_trees.specs.NamedTree.{NamedTree as by_name}
 use Rattle.named_trees.specs.NamedTree.{NamedTrees as all_by_name}
 use Rattle.named_trees.specs.NamedTree.{NamedPairs as pairs_by_name}
@@ -21,7 +21,7 @@ module _ (names more s extra : List (List ℕ)) where
   id-grown (suc k) h = get_or_append_left s extra [] k (omega (arith, h))
 
   mutual
-    pub named-grown : (t : Tree) → IsKnown names s t → named (names ++ more) (s ++ extra) t ≡ named names s t
+    pub named-grown : (t : Tree) → IsKnown names s t → as_named (names ++ more) (s ++ extra) t ≡ as_named names s t
     named-grown (Atom k) h = ap by_name.Atom (get_or_append_left names more [] k h)
     named-grown (Cons a b) h = λ i. by_name.Cons (named-grown a h.0 i) (named-grown b h.1 i)
     named-grown (Tuple ts) h = ap by_name.Tuple (all-grown ts h)
@@ -35,11 +35,11 @@ module _ (names more s extra : List (List ℕ)) where
     named-grown Nil h = refl
     named-grown (Bin bytes) h = refl
 
-    pub all-grown : (ts : Trees) → AreKnown names s ts → all_named (names ++ more) (s ++ extra) ts ≡ all_named names s ts
+    pub all-grown : (ts : Trees) → AreKnown names s ts → all_as_named (names ++ more) (s ++ extra) ts ≡ all_as_named names s ts
     all-grown end h = refl
     all-grown (t ▹ ts) h = λ i. all_by_name.before (named-grown t h.0 i) (all-grown ts h.1 i)
 
-    pub pairs-grown : (ps : Pairs) → PairsKnown names s ps → pairs_named (names ++ more) (s ++ extra) ps ≡ pairs_named names s ps
+    pub pairs-grown : (ps : Pairs) → PairsKnown names s ps → pairs_as_named (names ++ more) (s ++ extra) ps ≡ pairs_as_named names s ps
     pairs-grown stop h = refl
     pairs-grown (pair k v ps) h = λ i. pairs_by_name.paired (named-grown k h.0 i) (named-grown v h.1 i) (pairs-grown ps h.2 i)
 
@@ -96,7 +96,7 @@ module _ (names more s extra : List (List ℕ)) where
     pairs-known-grown (pair k v ps) h = (known-grown k h.0, known-grown v h.1, pairs-known-grown ps h.2)
 
   -- so it is with lists of trees
-  pub held-grown : (ts : List Tree) → AllKnown names s ts → map (named (names ++ more) (s ++ extra)) ts ≡ map (named names s) ts
+  pub held-grown : (ts : List Tree) → AllKnown names s ts → map (as_named (names ++ more) (s ++ extra)) ts ≡ map (as_named names s) ts
   held-grown [] h = refl
   held-grown (t ∷ ts) h = λ i. named-grown names more s extra t h.0 i ∷ held-grown ts h.1 i
 

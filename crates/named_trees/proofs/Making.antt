@@ -13,10 +13,10 @@ use Rattle.script_grammar.specs.Written.Term.{Int, Atom, Pid, Held, Listed, Barr
 use Rattle.script_grammar.specs.Written.Terms.{end, ◌▹◌}
 use Rattle.script_grammar.specs.Written.TermPairs.{stop, pair}
 use Rattle.script_grammar.specs.Names.{atoms_of, atoms_of_all, atoms_of_pairs}
-use Rattle.plain_machine.specs.Made.{tree_of, trees_of, pairs_of, list_tree, bin_tree}
+use Rattle.plain_machine.specs.Made.{tree_of, trees_of_terms, trees_of_pairs, list_tree, bin_tree}
 use Rattle.plain_machine.specs.Flaws.{is_wide, are_wide, are_wide_pairs, is_big, are_big, are_big_pairs}
 use Rattle.plain_machine.proofs.Properly.Making.{Extends, made-more, all-made-more, pairs-made-more, extends-then}
-use Rattle.named_trees.specs.NamedTree.{NamedTree, named, all_named, pairs_named, IsKnown, AreKnown, PairsKnown}
+use Rattle.named_trees.specs.NamedTree.{NamedTree, as_named, all_as_named, pairs_as_named, IsKnown, AreKnown, PairsKnown}
 use Rattle.named_trees.specs.NamedTree.{NamedTree as by_name}
 use Rattle.named_trees.specs.NamedTree.{NamedTrees as all_by_name}
 use Rattle.named_trees.specs.NamedTree.{NamedPairs as pairs_by_name}
@@ -73,17 +73,17 @@ module _ (names : List (List ℕ)) where
     held-known-more (t ∷ ts) h = (known-more t h.0, held-known-more ts h.1)
 
     -- and are the same by name
-    pub same-more : (t : Tree) → IsKnown names old t → named names new t ≡ named names old t
+    pub same-more : (t : Tree) → IsKnown names old t → as_named names new t ≡ as_named names old t
     same-more t h =
-        let P : List (List ℕ) → Type 0 = λ z. named z new t ≡ named names old t in
-        let Q : List (List ℕ) → Type 0 = λ z. named (names ++ []) z t ≡ named names old t in
+        let P : List (List ℕ) → Type 0 = λ z. as_named z new t ≡ as_named names old t in
+        let Q : List (List ℕ) → Type 0 = λ z. as_named (names ++ []) z t ≡ as_named names old t in
         subst P (append-nil names) (subst Q (sym x.are) (named-grown names [] old x.more t h))
 
-    all-same-more : (ts : Trees) → AreKnown names old ts → all_named names new ts ≡ all_named names old ts
+    all-same-more : (ts : Trees) → AreKnown names old ts → all_as_named names new ts ≡ all_as_named names old ts
     all-same-more trees.end h = refl
     all-same-more (trees.◌▹◌ t ts) h = λ i. all_by_name.before (same-more t h.0 i) (all-same-more ts h.1 i)
 
-    pub held-same-more : (ts : List Tree) → AllKnown names old ts → map (named names new) ts ≡ map (named names old) ts
+    pub held-same-more : (ts : List Tree) → AllKnown names old ts → map (as_named names new) ts ≡ map (as_named names old) ts
     held-same-more [] h = refl
     held-same-more (t ∷ ts) h = λ i. same-more t h.0 i ∷ held-same-more ts h.1 i
 
@@ -115,7 +115,7 @@ module _ (names : List (List ℕ)) where
 
   -- the tree of bytes
   pub record BinMade (bytes : List ℕ) (made : Tree × List (List ℕ)) : Type 0 where
-    pub makes : named names (made.1) (made.0) ≡ named_bin bytes
+    pub makes : as_named names (made.1) (made.0) ≡ named_bin bytes
     pub known : IsKnown names (made.1) (made.0)
 
   pub bin-made : (bytes : List ℕ) (shared : List (List ℕ)) → BinMade bytes (bin_tree bytes shared)
@@ -140,18 +140,18 @@ module _ (names : List (List ℕ)) where
 
   module _ (held : List Tree) where
     abbrev by : List (List ℕ) → List NamedTree
-    by shared = map (named names shared) held
+    by shared = map (as_named names shared) held
 
     -- the same of terms and of pairs
     pub record AllMade (shared : List (List ℕ)) (ts : Terms) : Type 0 where
-      pub makes : all_named names ((trees_of names held ts shared).1) ((trees_of names held ts shared).0) ≡ all_named_made (by shared) ts
-      pub known : AreKnown names ((trees_of names held ts shared).1) ((trees_of names held ts shared).0)
+      pub makes : all_as_named names ((trees_of_terms names held ts shared).1) ((trees_of_terms names held ts shared).0) ≡ all_named_made (by shared) ts
+      pub known : AreKnown names ((trees_of_terms names held ts shared).1) ((trees_of_terms names held ts shared).0)
       pub wide : are_wide names held ts shared ≡ all_named_wide (by shared) ts
       pub big : are_big names held ts shared ≡ all_named_big (by shared) ts
 
     pub record PairsMade (shared : List (List ℕ)) (ps : TermPairs) : Type 0 where
-      pub makes : pairs_named names ((pairs_of names held ps shared).1) ((pairs_of names held ps shared).0) ≡ pairs_named_made (by shared) ps
-      pub known : PairsKnown names ((pairs_of names held ps shared).1) ((pairs_of names held ps shared).0)
+      pub makes : pairs_as_named names ((trees_of_pairs names held ps shared).1) ((trees_of_pairs names held ps shared).0) ≡ pairs_named_made (by shared) ps
+      pub known : PairsKnown names ((trees_of_pairs names held ps shared).1) ((trees_of_pairs names held ps shared).0)
       pub wide : are_wide_pairs names held ps shared ≡ pairs_named_wide (by shared) ps
       pub big : are_big_pairs names held ps shared ≡ pairs_named_big (by shared) ps
 
@@ -163,22 +163,22 @@ module _ (names : List (List ℕ)) where
       made (Held r) shared h n = record { makes = at-by names shared held r; known = at-known shared held r h; wide = refl; big = refl }
       made (Listed ts) shared h n =
           let a = all-made ts shared h n in
-          let all : Trees × List (List ℕ) = trees_of names held ts shared in record {
+          let all : Trees × List (List ℕ) = trees_of_terms names held ts shared in record {
             makes = list-by names (all.1) (all.0) tree.Nil ∙ ap (λ z. named_list z by_name.Nil) a.makes;
             known = list-known (all.1) (all.0) tree.Nil a.known tt;
             wide = a.wide;
             big = a.big;
           }
       made (Barred ts t) shared h n =
-          let heads : Trees × List (List ℕ) = trees_of names held ts shared in
+          let heads : Trees × List (List ℕ) = trees_of_terms names held ts shared in
           let last : Tree × List (List ℕ) = tree_of names held t (heads.1) in
           let x : Extends shared (heads.1) = all-made-more names held ts shared in
           let y : Extends (heads.1) (last.1) = made-more names held t (heads.1) in
           let a = all-made ts shared h (names-front names (atoms_of_all ts) (atoms_of t) n) in
           let b = made t (heads.1) (held-known-more shared (heads.1) x held h) (names-back names (atoms_of_all ts) (atoms_of t) n) in
           let same : by (heads.1) ≡ by shared = held-same-more shared (heads.1) x held h in
-          let first : all_named names (last.1) (heads.0) ≡ all_named_made (by shared) ts = all-same-more (heads.1) (last.1) y (heads.0) a.known ∙ a.makes in
-          let tail : named names (last.1) (last.0) ≡ named_made (by shared) t = b.makes ∙ ap (λ z. named_made z t) same in
+          let first : all_as_named names (last.1) (heads.0) ≡ all_named_made (by shared) ts = all-same-more (heads.1) (last.1) y (heads.0) a.known ∙ a.makes in
+          let tail : as_named names (last.1) (last.0) ≡ named_made (by shared) t = b.makes ∙ ap (λ z. named_made z t) same in
           let wide : is_wide names held t (heads.1) ≡ named_wide (by shared) t = b.wide ∙ ap (λ z. named_wide z t) same in
           let big : is_big names held t (heads.1) ≡ named_big (by shared) t = b.big ∙ ap (λ z. named_big z t) same in record {
             makes = list-by names (last.1) (heads.0) (last.0) ∙ (λ i. named_list (first i) (tail i));
@@ -190,8 +190,8 @@ module _ (names : List (List ℕ)) where
           let a = all-made ts shared h n in record { makes = ap by_name.Tuple a.makes; known = a.known; wide = a.wide; big = a.big }
       made (Map ps) shared h n =
           let a = pairs-made ps shared h n in
-          let all : Pairs × List (List ℕ) = pairs_of names held ps shared in
-          let sorted : pairs_named names (all.1) (in_order names (all.1) (all.0)) ≡ named_put_all pairs_by_name.unpaired (pairs_named_made (by shared) ps) =
+          let all : Pairs × List (List ℕ) = trees_of_pairs names held ps shared in
+          let sorted : pairs_as_named names (all.1) (in_order names (all.1) (all.0)) ≡ named_put_all pairs_by_name.unpaired (pairs_named_made (by shared) ps) =
           put-all-by names (all.1) pairs.stop (all.0) ∙ ap (named_put_all pairs_by_name.unpaired) a.makes in record {
             makes = ap by_name.Map sorted;
             known = in-order-known (all.1) (all.0) a.known;
@@ -204,14 +204,14 @@ module _ (names : List (List ℕ)) where
       all-made end shared h n = record { makes = refl; known = tt; wide = refl; big = refl }
       all-made (t ▹ ts) shared h n =
           let first : Tree × List (List ℕ) = tree_of names held t shared in
-          let others : Trees × List (List ℕ) = trees_of names held ts (first.1) in
+          let others : Trees × List (List ℕ) = trees_of_terms names held ts (first.1) in
           let x : Extends shared (first.1) = made-more names held t shared in
           let y : Extends (first.1) (others.1) = all-made-more names held ts (first.1) in
           let a = made t shared h (names-front names (atoms_of t) (atoms_of_all ts) n) in
           let b = all-made ts (first.1) (held-known-more shared (first.1) x held h) (names-back names (atoms_of t) (atoms_of_all ts) n) in
           let same : by (first.1) ≡ by shared = held-same-more shared (first.1) x held h in
-          let one : named names (others.1) (first.0) ≡ named_made (by shared) t = same-more (first.1) (others.1) y (first.0) a.known ∙ a.makes in
-          let rest : all_named names (others.1) (others.0) ≡ all_named_made (by shared) ts = b.makes ∙ ap (λ z. all_named_made z ts) same in
+          let one : as_named names (others.1) (first.0) ≡ named_made (by shared) t = same-more (first.1) (others.1) y (first.0) a.known ∙ a.makes in
+          let rest : all_as_named names (others.1) (others.0) ≡ all_named_made (by shared) ts = b.makes ∙ ap (λ z. all_named_made z ts) same in
           let wide : are_wide names held ts (first.1) ≡ all_named_wide (by shared) ts = b.wide ∙ ap (λ z. all_named_wide z ts) same in
           let big : are_big names held ts (first.1) ≡ all_named_big (by shared) ts = b.big ∙ ap (λ z. all_named_big z ts) same in record {
             makes = λ i. all_by_name.before (one i) (rest i);
@@ -225,7 +225,7 @@ module _ (names : List (List ℕ)) where
       pairs-made (pair k v ps) shared h n =
           let key : Tree × List (List ℕ) = tree_of names held k shared in
           let value : Tree × List (List ℕ) = tree_of names held v (key.1) in
-          let others : Pairs × List (List ℕ) = pairs_of names held ps (value.1) in
+          let others : Pairs × List (List ℕ) = trees_of_pairs names held ps (value.1) in
           let x : Extends shared (key.1) = made-more names held k shared in
           let y : Extends (key.1) (value.1) = made-more names held v (key.1) in
           let z : Extends (value.1) (others.1) = pairs-made-more names held ps (value.1) in
@@ -238,9 +238,9 @@ module _ (names : List (List ℕ)) where
           let c = pairs-made ps (value.1) known2 (names-back names (atoms_of v) (atoms_of_pairs ps) later) in
           let same1 : by (key.1) ≡ by shared = held-same-more shared (key.1) x held h in
           let same2 : by (value.1) ≡ by shared = held-same-more (key.1) (value.1) y held known1 ∙ same1 in
-          let one : named names (others.1) (key.0) ≡ named_made (by shared) k = same-more (key.1) (others.1) yz (key.0) a.known ∙ a.makes in
-          let two : named names (others.1) (value.0) ≡ named_made (by shared) v = same-more (value.1) (others.1) z (value.0) b.known ∙ b.makes ∙ ap (λ g. named_made g v) same1 in
-          let rest : pairs_named names (others.1) (others.0) ≡ pairs_named_made (by shared) ps = c.makes ∙ ap (λ g. pairs_named_made g ps) same2 in
+          let one : as_named names (others.1) (key.0) ≡ named_made (by shared) k = same-more (key.1) (others.1) yz (key.0) a.known ∙ a.makes in
+          let two : as_named names (others.1) (value.0) ≡ named_made (by shared) v = same-more (value.1) (others.1) z (value.0) b.known ∙ b.makes ∙ ap (λ g. named_made g v) same1 in
+          let rest : pairs_as_named names (others.1) (others.0) ≡ pairs_named_made (by shared) ps = c.makes ∙ ap (λ g. pairs_named_made g ps) same2 in
           let wide1 : is_wide names held v (key.1) ≡ named_wide (by shared) v = b.wide ∙ ap (λ g. named_wide g v) same1 in
           let wide2 : are_wide_pairs names held ps (value.1) ≡ pairs_named_wide (by shared) ps = c.wide ∙ ap (λ g. pairs_named_wide g ps) same2 in
           let big1 : is_big names held v (key.1) ≡ named_big (by shared) v = b.big ∙ ap (λ g. named_big g v) same1 in

@@ -15,9 +15,9 @@ use Rattle.script_grammar.specs.declared.command.Shape.{Shape}
 use Rattle.script_grammar.specs.declared.command.Shape.TheVariants.{Tuple as InTuple, List as InList}
 use Rattle.script_grammar.specs.Names.{held_terms}
 use Rattle.plain_machine.specs.State.{Process}
-use Rattle.plain_machine.specs.Made.{trees_of}
+use Rattle.plain_machine.specs.Made.{trees_of_terms}
 use Rattle.plain_machine.specs.Parts.{part_in, value_of, value_in, picked, repeated}
-use Rattle.named_trees.specs.NamedTree.{named, all_named, IsKnown, AreKnown, PairsKnown}
+use Rattle.named_trees.specs.NamedTree.{as_named, all_as_named, IsKnown, AreKnown, PairsKnown}
 use Rattle.named_trees.specs.NamedTree.{NamedTrees as all_by_name}
 use Rattle.named_trees.specs.Doing.{all_named_made}
 use Rattle.named_trees.specs.Laws.{AllKnown}
@@ -100,12 +100,12 @@ module _ (names shared : List (List ℕ)) where
   repeated-known InList n t h = list-known names shared (same_trees n t) Nil (times-known n t h) tt
 
   -- an environment: trees of registers
-  pub env-known : (held : List Tree) (rs : List ℕ) → AllKnown names shared held → AreKnown names shared ((trees_of names held (held_terms rs) shared).0)
+  pub env-known : (held : List Tree) (rs : List ℕ) → AllKnown names shared held → AreKnown names shared ((trees_of_terms names held (held_terms rs) shared).0)
   env-known held [] h = tt
   env-known held (r ∷ rs) h = (at-known names shared held r h, env-known held rs h)
 
   pub env-by : (held : List Tree) (rs : List ℕ)
-      → all_named names shared ((trees_of names held (held_terms rs) shared).0) ≡ all_named_made (map (named names shared) held) (held_terms rs)
+      → all_as_named names shared ((trees_of_terms names held (held_terms rs) shared).0) ≡ all_named_made (map (as_named names shared) held) (held_terms rs)
   env-by held [] = refl
   env-by held (r ∷ rs) = λ i. all_by_name.before (at-by names shared held r i) (env-by held rs i)
 

@@ -56,16 +56,16 @@ abbrev pub named_value : NamedTree → NamedPairs → Option NamedTree
 named_value key unpaired = None
 named_value key (paired k v ps) = if is_eq (named_order key k) then Some v else named_value key ps
 
-abbrev pub named_in : NamedTree → NamedTree → Option NamedTree
-named_in key (Map ps) = if named_beyond key then None else named_value key ps
-named_in key _ = None
+abbrev pub named_found : NamedTree → NamedTree → Option NamedTree
+named_found key (Map ps) = if named_beyond key then None else named_value key ps
+named_found key _ = None
 
 -- The part that is picked, where these trees stand in the registers.
 abbrev pub named_picked : (held : List NamedTree) → Pick → NamedTree → Option NamedTree
 named_picked held Hd t = named_head t
 named_picked held Tl t = named_tail t
 named_picked held (Elem i) t = named_place i t
-named_picked held (MapGet k) t = named_in (get_or held k.0 Nil) t
+named_picked held (MapGet k) t = named_found (get_or held k.0 Nil) t
 named_picked held (Env i) t = named_env i t
 named_picked held (Bytes offset len) t = named_part offset len t
 

@@ -31,26 +31,26 @@ abbrev mutual
 
 abbrev mutual
   -- The byte lists of shared binaries, from left to right.
-  pub bytes_in : NamedTree → List (List ℕ)
-  bytes_in (Cons h t) = bytes_in h ++ bytes_in t
-  bytes_in (Tuple ts) = all_bytes_in ts
-  bytes_in (Map ps) = pairs_bytes_in ps
-  bytes_in (Shared bytes) = bytes ∷ []
-  bytes_in (Part base offset len) = bytes_in base
-  bytes_in (Fun name arity creator env) = all_bytes_in env
-  bytes_in _ = []
+  pub shared_in : NamedTree → List (List ℕ)
+  shared_in (Cons h t) = shared_in h ++ shared_in t
+  shared_in (Tuple ts) = all_shared_in ts
+  shared_in (Map ps) = pairs_shared_in ps
+  shared_in (Shared bytes) = bytes ∷ []
+  shared_in (Part base offset len) = shared_in base
+  shared_in (Fun name arity creator env) = all_shared_in env
+  shared_in _ = []
 
-  pub all_bytes_in : NamedTrees → List (List ℕ)
-  all_bytes_in nothing = []
-  all_bytes_in (before t ts) = bytes_in t ++ all_bytes_in ts
+  pub all_shared_in : NamedTrees → List (List ℕ)
+  all_shared_in nothing = []
+  all_shared_in (before t ts) = shared_in t ++ all_shared_in ts
 
-  pub pairs_bytes_in : NamedPairs → List (List ℕ)
-  pairs_bytes_in unpaired = []
-  pairs_bytes_in (paired k v ps) = bytes_in k ++ (bytes_in v ++ pairs_bytes_in ps)
+  pub pairs_shared_in : NamedPairs → List (List ℕ)
+  pairs_shared_in unpaired = []
+  pairs_shared_in (paired k v ps) = shared_in k ++ (shared_in v ++ pairs_shared_in ps)
 
 -- The id of the first shared binary with these bytes; ids count from 1.
-abbrev pub id_of : (shared : List (List ℕ)) → List ℕ → ℕ
-id_of shared bytes = number_of shared bytes + 1
+abbrev pub first_id_of : (shared : List (List ℕ)) → List ℕ → ℕ
+first_id_of shared bytes = number_of shared bytes + 1
 
 abbrev mutual
   -- The tree that is this one by name, where these names and byte lists are known.
@@ -64,7 +64,7 @@ abbrev mutual
   tree_over names shared (Tuple ts) = tree.Tuple (trees_over names shared ts)
   tree_over names shared (Map ps) = tree.Map (pairs_over names shared ps)
   tree_over names shared (Bin bytes) = tree.Bin bytes
-  tree_over names shared (Shared bytes) = tree.Shared (id_of shared bytes)
+  tree_over names shared (Shared bytes) = tree.Shared (first_id_of shared bytes)
   tree_over names shared (Part base offset len) = tree.Part (tree_over names shared base) offset len
   tree_over names shared (Fun name arity creator env) = tree.Fun (number_of names name) arity creator (trees_over names shared env)
 
@@ -81,7 +81,7 @@ abbrev pub names_with : (names : List (List ℕ)) → NamedTree → List (List �
 names_with names t = with_names names (names_in t)
 
 abbrev pub shared_with : (shared : List (List ℕ)) → NamedTree → List (List ℕ)
-shared_with shared t = with_names shared (bytes_in t)
+shared_with shared t = with_names shared (shared_in t)
 
 -- The tree over them.
 

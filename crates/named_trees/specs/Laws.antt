@@ -16,20 +16,20 @@ use Rattle.plain_machine.specs.State.{Process}
 use Rattle.plain_machine.specs.Made.{tree_of}
 use Rattle.plain_machine.specs.Flaws.{is_wide, is_big}
 use Rattle.plain_machine.specs.Parts.{picked, repeated}
-use Rattle.named_trees.specs.NamedTree.{NamedTree, named, pairs_named, IsKnown}
+use Rattle.named_trees.specs.NamedTree.{NamedTree, as_named, pairs_as_named, IsKnown}
 use Rattle.named_trees.specs.Seen.{named_bytes, named_nodes, named_depth, named_flat, named_beyond, named_order, named_text}
 use Rattle.named_trees.specs.Doing.{named_picked, named_put, named_repeated, named_made, named_wide, named_big}
 use Rattle.named_trees.specs.Entering.{names_with, shared_with, entered}
 
 -- What is seen of one tree is seen of the tree by name.
 pub record SeenOf (names shared : List (List ℕ)) (t : Tree) : Type 0 where
-  pub has_bytes : bytes_of shared t ≡ named_bytes (named names shared t)
-  pub has_nodes : nodes shared t ≡ named_nodes (named names shared t)
-  pub is_deep : depth t ≡ named_depth (named names shared t)
-  pub is_flat : flat t ≡ named_flat (named names shared t)
-  pub is_far : is_beyond shared t ≡ named_beyond (named names shared t)
-  pub reads : text names shared t ≡ named_text (named names shared t)
-  pub stands : (u : Tree) → order names shared t u ≡ named_order (named names shared t) (named names shared u)
+  pub has_bytes : bytes_of shared t ≡ named_bytes (as_named names shared t)
+  pub has_nodes : nodes shared t ≡ named_nodes (as_named names shared t)
+  pub is_deep : depth t ≡ named_depth (as_named names shared t)
+  pub is_flat : flat t ≡ named_flat (as_named names shared t)
+  pub is_far : is_beyond shared t ≡ named_beyond (as_named names shared t)
+  pub reads : text names shared t ≡ named_text (as_named names shared t)
+  pub stands : (u : Tree) → order names shared t u ≡ named_order (as_named names shared t) (as_named names shared u)
 
 -- So it is of every tree, whatever the names and the shared binaries are.
 abbrev pub IsSeenByName : Type 0
@@ -37,7 +37,8 @@ IsSeenByName = (names shared : List (List ℕ)) (t : Tree) → SeenOf names shar
 
 -- More names and more shared binaries leave a known tree as it is by name.
 abbrev pub GrowthKeeps : Type 0
-GrowthKeeps = (names more shared extra : List (List ℕ)) (t : Tree) → IsKnown names shared t → named (names ++ more) (shared ++ extra) t ≡ named names shared t
+GrowthKeeps = (names more shared extra : List (List ℕ)) (t : Tree) → IsKnown names shared t → as_named (names ++ more) (shared ++ extra) t
+    ≡ as_named names shared t
 
 -- A proper tree is known.
 abbrev pub ProperIsKnown : Type 0
@@ -46,10 +47,11 @@ ProperIsKnown = (names shared : List (List ℕ)) (t : Tree) → is_proper names 
 -- What the machine does to trees is done to the trees by name.
 pub record DoneOf (names shared : List (List ℕ)) : Type 0 where
   pub part : (q : Process) (how : Pick) (t : Tree)
-      → option_map (named names shared) (picked names shared q how t) ≡ named_picked (map (named names shared) q.registers) how (named names shared t)
+      → option_map (as_named names shared) (picked names shared q how t) ≡ named_picked (map (as_named names shared) q.registers) how (as_named names shared t)
   pub put : (k v : Tree) (ps : Pairs)
-      → pairs_named names shared (put_pair names shared k v ps) ≡ named_put (named names shared k) (named names shared v) (pairs_named names shared ps)
-  pub many : (shape : Shape) (n : ℕ) (t : Tree) → named names shared (repeated shape n t) ≡ named_repeated shape n (named names shared t)
+      → pairs_as_named names shared (put_pair names shared k v ps)
+      ≡ named_put (as_named names shared k) (as_named names shared v) (pairs_as_named names shared ps)
+  pub many : (shape : Shape) (n : ℕ) (t : Tree) → as_named names shared (repeated shape n t) ≡ named_repeated shape n (as_named names shared t)
 
 abbrev pub IsDoneByName : Type 0
 IsDoneByName = (names shared : List (List ℕ)) → DoneOf names shared
@@ -57,10 +59,10 @@ IsDoneByName = (names shared : List (List ℕ)) → DoneOf names shared
 -- The tree of a written term, over the shared binaries with its own at their end, is by name what the term makes of the
 -- registers by name; and so is what is wrong with its maps.
 pub record MadeOf (names : List (List ℕ)) (held : List Tree) (shared : List (List ℕ)) (t : Term) : Type 0 where
-  pub makes : named names ((tree_of names held t shared).1) ((tree_of names held t shared).0) ≡ named_made (map (named names shared) held) t
+  pub makes : as_named names ((tree_of names held t shared).1) ((tree_of names held t shared).0) ≡ named_made (map (as_named names shared) held) t
   pub known : IsKnown names ((tree_of names held t shared).1) ((tree_of names held t shared).0)
-  pub wide : is_wide names held t shared ≡ named_wide (map (named names shared) held) t
-  pub big : is_big names held t shared ≡ named_big (map (named names shared) held) t
+  pub wide : is_wide names held t shared ≡ named_wide (map (as_named names shared) held) t
+  pub big : is_big names held t shared ≡ named_big (map (as_named names shared) held) t
 
 -- Each of the atoms has the number that it is found by.
 abbrev pub HaveNames : (names atoms : List (List ℕ)) → Type 0
@@ -78,7 +80,7 @@ IsMadeByName = (names : List (List ℕ)) (held : List Tree) (shared : List (List
 
 -- A tree that enters with its names and byte lists is known, and by name it is what entered.
 pub record EntersOf (names shared : List (List ℕ)) (t : NamedTree) : Type 0 where
-  pub is : named (names_with names t) (shared_with shared t) (entered names shared t) ≡ t
+  pub is : as_named (names_with names t) (shared_with shared t) (entered names shared t) ≡ t
   pub known : IsKnown (names_with names t) (shared_with shared t) (entered names shared t)
 
 abbrev pub EntersAsItself : Type 0

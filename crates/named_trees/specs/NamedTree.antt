@@ -35,27 +35,27 @@ mutual
 
 abbrev mutual
   -- A tree by name, where these are the names and the byte lists of the shared binaries.
-  pub named : (names shared : List (List ℕ)) → Tree → NamedTree
-  named names shared (tree.Int i) = NamedTree.Int i
-  named names shared (tree.Atom k) = NamedTree.Atom (name_of names k)
-  named names shared (tree.Pid n) = NamedTree.Pid n
-  named names shared (tree.Ref n k) = NamedTree.Ref n k
-  named names shared tree.Nil = NamedTree.Nil
-  named names shared (tree.Cons h t) = NamedTree.Cons (named names shared h) (named names shared t)
-  named names shared (tree.Tuple ts) = NamedTree.Tuple (all_named names shared ts)
-  named names shared (tree.Map ps) = NamedTree.Map (pairs_named names shared ps)
-  named names shared (tree.Bin bytes) = NamedTree.Bin bytes
-  named names shared (tree.Shared id) = NamedTree.Shared (shared_bytes shared id)
-  named names shared (tree.Part base offset len) = NamedTree.Part (named names shared base) offset len
-  named names shared (tree.Fun f arity creator env) = NamedTree.Fun (name_of names f) arity creator (all_named names shared env)
+  pub as_named : (names shared : List (List ℕ)) → Tree → NamedTree
+  as_named names shared (tree.Int i) = NamedTree.Int i
+  as_named names shared (tree.Atom k) = NamedTree.Atom (name_of names k)
+  as_named names shared (tree.Pid n) = NamedTree.Pid n
+  as_named names shared (tree.Ref n k) = NamedTree.Ref n k
+  as_named names shared tree.Nil = NamedTree.Nil
+  as_named names shared (tree.Cons h t) = NamedTree.Cons (as_named names shared h) (as_named names shared t)
+  as_named names shared (tree.Tuple ts) = NamedTree.Tuple (all_as_named names shared ts)
+  as_named names shared (tree.Map ps) = NamedTree.Map (pairs_as_named names shared ps)
+  as_named names shared (tree.Bin bytes) = NamedTree.Bin bytes
+  as_named names shared (tree.Shared id) = NamedTree.Shared (shared_bytes shared id)
+  as_named names shared (tree.Part base offset len) = NamedTree.Part (as_named names shared base) offset len
+  as_named names shared (tree.Fun f arity creator env) = NamedTree.Fun (name_of names f) arity creator (all_as_named names shared env)
 
-  pub all_named : (names shared : List (List ℕ)) → Trees → NamedTrees
-  all_named names shared trees.end = NamedTrees.nothing
-  all_named names shared (trees.◌▹◌ t ts) = NamedTrees.before (named names shared t) (all_named names shared ts)
+  pub all_as_named : (names shared : List (List ℕ)) → Trees → NamedTrees
+  all_as_named names shared trees.end = NamedTrees.nothing
+  all_as_named names shared (trees.◌▹◌ t ts) = NamedTrees.before (as_named names shared t) (all_as_named names shared ts)
 
-  pub pairs_named : (names shared : List (List ℕ)) → Pairs → NamedPairs
-  pairs_named names shared pairs.stop = NamedPairs.unpaired
-  pairs_named names shared (pairs.pair k v ps) = NamedPairs.paired (named names shared k) (named names shared v) (pairs_named names shared ps)
+  pub pairs_as_named : (names shared : List (List ℕ)) → Pairs → NamedPairs
+  pairs_as_named names shared pairs.stop = NamedPairs.unpaired
+  pairs_as_named names shared (pairs.pair k v ps) = NamedPairs.paired (as_named names shared k) (as_named names shared v) (pairs_as_named names shared ps)
 
 abbrev mutual
   -- Each atom and each fun of the tree has a name, and each shared binary its bytes.

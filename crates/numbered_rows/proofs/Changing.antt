@@ -2,10 +2,10 @@
 use Rattle.std.proofs.Common.{◌≡◌, ℕ, zero, suc, ◌+◌, ◌<◌, ◌≤◌, List, [], ◌∷◌, ◌++◌, length, get_or, set, ap, arith}
 use Rattle.std.specs.List.{remove}
 use Rattle.space_api.specs.Calls.{AreRising}
-use Rattle.numbered_rows.specs.Numbers.{AreBelow, number_at, numbers}
+use Rattle.numbered_rows.specs.Numbers.{AreBelow, row_number, numbers}
 
 module _ {R : Type 0} (f : R → ℕ) where
-  pub numbers-set : (rows : List R) (i : ℕ) (r : R) → i < length rows → f r ≡ number_at f rows i → numbers f (set rows i r) ≡ numbers f rows
+  pub numbers-set : (rows : List R) (i : ℕ) (r : R) → i < length rows → f r ≡ row_number f rows i → numbers f (set rows i r) ≡ numbers f rows
   numbers-set [] i r below e = absurd (omega arith)
   numbers-set (o ∷ rows) zero r below e = ap (λ x. x ∷ numbers f rows) e
   numbers-set (o ∷ rows) (suc i) r below e = ap (λ x. f o ∷ x) (numbers-set rows i r (omega arith) e)

@@ -4,7 +4,7 @@ use Rattle.std.proofs.Math.Decide.{dec_le}
 use Rattle.std.specs.List.{find}
 use Rattle.std.proofs.lemmas.Bool.Decides.{nat_tests}
 use Rattle.space_api.specs.Calls.{AreRising}
-use Rattle.numbered_rows.specs.Numbers.{numbers, number_at, is_among}
+use Rattle.numbered_rows.specs.Numbers.{numbers, row_number, is_among}
 
 -- Every number is above the one that they rise from.
 pub rising-above : (a : ℕ) (ns : List ℕ) (j : ℕ) → AreRising a ns → j < length ns → a < get_or ns j 0
@@ -31,28 +31,28 @@ module _ {R : Type 0} (f : R → ℕ) where
   numbers-len (p ∷ ps) = ap (λ n. suc n) (numbers-len ps)
 
   -- The number of an entry, whatever the default is.
-  pub number-is : (ps : List R) (i : ℕ) (d : R) → i < length ps → number_at f ps i ≡ f (get_or ps i d)
+  pub number-is : (ps : List R) (i : ℕ) (d : R) → i < length ps → row_number f ps i ≡ f (get_or ps i d)
   number-is [] i d below = absurd (omega arith)
   number-is (p ∷ ps) zero d below = refl
   number-is (p ∷ ps) (suc i) d below = number-is ps i d (omega arith)
 
   -- The number of a row that was read.
-  pub number-read : (ps : List R) (i : ℕ) (x : R) → i < length ps → x ≡ get_or ps i x → number_at f ps i ≡ f x
+  pub number-read : (ps : List R) (i : ℕ) (x : R) → i < length ps → x ≡ get_or ps i x → row_number f ps i ≡ f x
   number-read ps i x below is = number-is ps i x below ∙ sym (ap f is)
 
-  pub rising-upto : (ps : List R) (k m pid : ℕ) → AreRising 0 (numbers f ps) → k < m + 1 → m < length ps → number_at f ps m ≤ pid → number_at f ps k ≤ pid
+  pub rising-upto : (ps : List R) (k m pid : ℕ) → AreRising 0 (numbers f ps) → k < m + 1 → m < length ps → row_number f ps m ≤ pid → row_number f ps k ≤ pid
   rising-upto ps k m pid r less below h = omega (arith, rising-weak 0 (numbers f ps) k m r (omega arith) (omega (arith, numbers-len ps)))
 
-  pub rising-from : (ps : List R) (k m pid : ℕ) → AreRising 0 (numbers f ps) → m ≤ k → k < length ps → pid < number_at f ps m → pid < number_at f ps k
+  pub rising-from : (ps : List R) (k m pid : ℕ) → AreRising 0 (numbers f ps) → m ≤ k → k < length ps → pid < row_number f ps m → pid < row_number f ps k
   rising-from ps k m pid r less below h = omega (arith, rising-weak 0 (numbers f ps) m k r less (omega (arith, numbers-len ps)))
 
   -- Where a number stands, and where none does.
-  pub among-at : (ps : List R) (i pid : ℕ) → i < length ps → number_at f ps i ≡ pid → is_among f ps pid ≡ true
+  pub among-at : (ps : List R) (i pid : ℕ) → i < length ps → row_number f ps i ≡ pid → is_among f ps pid ≡ true
   among-at [] i pid below e = absurd (omega arith)
   among-at (p ∷ ps) zero pid below e = grind (arith, nat_tests)
   among-at (p ∷ ps) (suc i) pid below e = let h = among-at ps i pid (omega arith) e in grind (arith, nat_tests)
 
-  pub among-none : (ps : List R) (pid : ℕ) → ((k : ℕ) → k < length ps → number_at f ps k ≡ pid → ⊥) → is_among f ps pid ≡ false
+  pub among-none : (ps : List R) (pid : ℕ) → ((k : ℕ) → k < length ps → row_number f ps k ≡ pid → ⊥) → is_among f ps pid ≡ false
   among-none [] pid none = refl
   among-none (p ∷ ps) pid none =
       let h = among-none ps pid (λ k below e. none (suc k) (omega arith) e) in
@@ -60,8 +60,8 @@ module _ {R : Type 0} (f : R → ℕ) where
       grind (arith, nat_tests)
 
   -- No entry has the number: those up to n are at most it, the last of them is not it, and the others are above.
-  pub find-none : (ps : List R) (n pid : ℕ) → AreRising 0 (numbers f ps) → n ≤ length ps → 0 < n → (number_at f ps (n - 1) ≡ pid → ⊥) → ((k : ℕ) → k < n → number_at f ps k ≤ pid)
-      → ((k : ℕ) → n ≤ k → k < length ps → pid < number_at f ps k) → (k : ℕ) → k < length ps → number_at f ps k ≡ pid → ⊥
+  pub find-none : (ps : List R) (n pid : ℕ) → AreRising 0 (numbers f ps) → n ≤ length ps → 0 < n → (row_number f ps (n - 1) ≡ pid → ⊥) → ((k : ℕ) → k < n → row_number f ps k ≤ pid)
+      → ((k : ℕ) → n ≤ k → k < length ps → pid < row_number f ps k) → (k : ℕ) → k < length ps → row_number f ps k ≡ pid → ⊥
   find-none ps n pid r within some not low high k below e = elim (dec_le n k) [
     | yes above ↦ omega (arith, high k above below)
     | no under ↦ not (omega (arith, low (n - 1) (omega arith), rising-weak 0 (numbers f ps) k (n - 1) r (omega arith) (omega (arith, numbers-len ps))))

@@ -7,8 +7,8 @@ abbrev pub numbers : {R : Type 0} → (R → ℕ) → List R → List ℕ
 numbers f rows = map f rows
 
 -- The number of the row at a place.
-abbrev pub number_at : {R : Type 0} → (R → ℕ) → List R → ℕ → ℕ
-number_at f rows i = slice_index (numbers f rows) i
+abbrev pub row_number : {R : Type 0} → (R → ℕ) → List R → ℕ → ℕ
+row_number f rows i = slice_index (numbers f rows) i
 
 -- A row with this number is among them.
 abbrev pub is_among : {R : Type 0} → (R → ℕ) → List R → ℕ → Bool

@@ -1,7 +1,7 @@
 // The search for a number, by halving.
 ghost use Rattle.std.specs.Prelude.{◌≡◌, ℕ, ◌<◌, ◌≤◌, length, is_some, IfSome};
 ghost use Rattle.space_api.specs.Calls.{AreRising};
-ghost use Rattle.numbered_rows.specs.Numbers.{is_among, number_at, numbers};
+ghost use Rattle.numbered_rows.specs.Numbers.{is_among, row_number, numbers};
 
 /// A row with a number.
 pub trait Numbered {
@@ -17,8 +17,8 @@ pub trait Numbered {
 pub fn first_above<R: Numbered>(rows: &[R], n: u64) -> usize
     requires { AreRising 0 (numbers R.number_of rows.now) }
     ensures within { result ≤ length rows.now }
-    ensures low { (k : ℕ) → k < result → number_at R.number_of rows.now k ≤ n }
-    ensures high { (k : ℕ) → result ≤ k → k < length rows.now → n < number_at R.number_of rows.now k }
+    ensures low { (k : ℕ) → k < result → row_number R.number_of rows.now k ≤ n }
+    ensures high { (k : ℕ) → result ≤ k → k < length rows.now → n < row_number R.number_of rows.now k }
 {
     let mut low = 0;
     let mut high = rows.len();
@@ -37,7 +37,7 @@ pub fn first_above<R: Numbered>(rows: &[R], n: u64) -> usize
 pub fn find<R: Numbered>(rows: &[R], n: u64) -> Option<usize>
     requires { AreRising 0 (numbers R.number_of rows.now) }
     ensures among { is_some result ≡ is_among R.number_of rows.now n }
-    ensures place { IfSome result (λ i. (i < length rows.now) × (number_at R.number_of rows.now i ≡ n)) }
+    ensures place { IfSome result (λ i. (i < length rows.now) × (row_number R.number_of rows.now i ≡ n)) }
 {
     let above = first_above(rows, n);
     if above == 0 {

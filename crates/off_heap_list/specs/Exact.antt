@@ -8,7 +8,7 @@ use Rattle.shared_rec.specs.Record.{count_in}
 use Rattle.off_heap_list.specs.Links.{named, Chain, naming, IsLink}
 
 -- The roots reach a holder or fun at place p.
-pub record IsHeld (c : ℕ → ℕ → Bool) (mem roots : List ℕ) (p : ℕ) : Type 0 where
+pub record IsReachedLink (c : ℕ → ℕ → Bool) (mem roots : List ℕ) (p : ℕ) : Type 0 where
   pub word : ℕ
   pub reached : Reach mem roots word
   pub boxed : word % 4 ≡ 2
@@ -18,15 +18,15 @@ pub record IsHeld (c : ℕ → ℕ → Bool) (mem roots : List ℕ) (p : ℕ) : 
 -- The list has exactly the holders and funs that the roots reach, each once.
 pub record ListsHeld (c : ℕ → ℕ → Bool) (mem roots os : List ℕ) : Type 0 where
   pub once : Distinct os
-  pub all : (p : ℕ) → IsHeld c mem roots p → In p os
-  pub only : (p : ℕ) → In p os → IsHeld c mem roots p
+  pub all : (p : ℕ) → IsReachedLink c mem roots p → In p os
+  pub only : (p : ℕ) → In p os → IsReachedLink c mem roots p
 
 -- As many holders and funs that the roots reach name the record at place v: they can be listed, each once.
-pub record IsNumber (c : ℕ → ℕ → Bool) (mem roots : List ℕ) (v n : ℕ) : Type 0 where
+pub record IsExactCount (c : ℕ → ℕ → Bool) (mem roots : List ℕ) (v n : ℕ) : Type 0 where
   pub each : List ℕ
   pub once : Distinct each
-  pub all : (p : ℕ) → IsHeld c mem roots p → named mem p ≡ v → In p each
-  pub only : (p : ℕ) → In p each → IsHeld c mem roots p × (named mem p ≡ v)
+  pub all : (p : ℕ) → IsReachedLink c mem roots p → named mem p ≡ v → In p each
+  pub only : (p : ℕ) → In p each → IsReachedLink c mem roots p × (named mem p ≡ v)
   pub number : length each ≡ n
 
 -- No record has count 0.
@@ -35,7 +35,7 @@ AllCounted c mem = (v n : ℕ) → IsRecord c mem v n → 1 ≤ count_in mem v
 
 -- Each record's count is the number of holders and funs in reach that name it, and at least 1.
 abbrev pub Exact : (ℕ → ℕ → Bool) → (mem roots : List ℕ) → Type 0
-Exact c mem roots = (v n : ℕ) → IsRecord c mem v n → IsNumber c mem roots v (count_in mem v) × (1 ≤ count_in mem v)
+Exact c mem roots = (v n : ℕ) → IsRecord c mem v n → IsExactCount c mem roots v (count_in mem v) × (1 ≤ count_in mem v)
 
 -- A chain of its own: its first object, 0 for none, its objects in order, and the places where they may lie.
 pub record OwnChain : Type 0 where
@@ -47,7 +47,7 @@ pub record OwnChain : Type 0 where
 pub record IsOwn (c : ℕ → ℕ → Bool) (mem roots : List ℕ) (x : OwnChain) : Type 0 where
   pub chain : Chain mem x.head x.os
   pub inside : (p : ℕ) → In p x.os → x.mine p ≡ true
-  pub all : (p : ℕ) → IsHeld c mem roots p → x.mine p ≡ true → In p x.os
+  pub all : (p : ℕ) → IsReachedLink c mem roots p → x.mine p ≡ true → In p x.os
 
 -- Each of the chains is so.
 abbrev pub AreOwn : (ℕ → ℕ → Bool) → (mem roots : List ℕ) → List OwnChain → Type 0

@@ -19,8 +19,8 @@ abbrev pub new_place : List ℕ → ℕ → ℕ
 new_place mem p = slice_index mem p / 4
 
 -- The words of the bytes that a holder has, 0 for a fun.
-abbrev pub held_words : List ℕ → ℕ → ℕ
-held_words mem p = if slice_index mem p == head_word HOLDER 5 then bin_words (slice_index mem (p + 1)) else 0
+abbrev pub bin_words_at : List ℕ → ℕ → ℕ
+bin_words_at mem p = if slice_index mem p == head_word HOLDER 5 then bin_words (slice_index mem (p + 1)) else 0
 
 -- The count of its record when the object names it no more.
 abbrev pub count_less : List ℕ → (p : ℕ) → ℕ
@@ -40,9 +40,9 @@ lying mem [] = []
 lying mem (p ∷ os) = lies_at mem p ∷ lying mem os
 
 -- The records that the objects name, in order.
-abbrev pub records_of : List ℕ → List ℕ → List ℕ
-records_of mem [] = []
-records_of mem (p ∷ os) = named mem p ∷ records_of mem os
+abbrev pub named_records : List ℕ → List ℕ → List ℕ
+named_records mem [] = []
+named_records mem (p ∷ os) = named mem p ∷ named_records mem os
 
 -- The words by which an object of a chain is read: its first word, its word `next`, and the one that names its record.
 abbrev pub IsReadAt : List ℕ → (p q : ℕ) → Type 0
@@ -85,7 +85,7 @@ pub record Sweeping (c : ℕ → ℕ → Bool) (mem : List ℕ) (head : ℕ) (os
   pub counts : (v n : ℕ) → IsRecord c mem v n → count_in mem v ≡ naming mem v (lying mem os) + naming mem v kept + naming mem v further
   pub gone : Chain mem last ends
   pub freed : (p : ℕ) → In p ends → IsLast c mem p
-  pub freed_once : Distinct (records_of mem ends)
+  pub freed_once : Distinct (named_records mem ends)
 
 -- What a sweep has done since it began: content and the old objects that are left are as they were, no count is greater, and
 -- the records of its last namers are those that were counted at its beginning and are not any more.
@@ -95,19 +95,19 @@ pub record Since (c : ℕ → ℕ → Bool) (start mem : List ℕ) (os ends : Li
   pub same : (p q : ℕ) → In p os → IsReadAt start p q → slice_index mem q ≡ slice_index start q
   pub fewer : (v n : ℕ) → IsRecord c mem v n → count_in mem v ≤ count_in start v
   pub only : (p : ℕ) → In p ends → 0 < count_in start (named mem p)
-  pub all : (v n : ℕ) → IsRecord c mem v n → count_in mem v ≡ 0 → 0 < count_in start v → In v (records_of mem ends)
+  pub all : (v n : ℕ) → IsRecord c mem v n → count_in mem v ≡ 0 → 0 < count_in start v → In v (named_records mem ends)
 
 -- The new chain's objects after one more of the old chain was seen.
-abbrev pub joined : List ℕ → (p : ℕ) → (kept : List ℕ) → List ℕ
-joined mem p kept = if is_moved mem p then new_place mem p ∷ kept else kept
+abbrev pub kept_after : List ℕ → (p : ℕ) → (kept : List ℕ) → List ℕ
+kept_after mem p kept = if is_moved mem p then new_place mem p ∷ kept else kept
 
 -- The object was left behind, and is the last to name its record.
 abbrev pub ends_record : List ℕ → (p : ℕ) → Bool
 ends_record mem p = if is_moved mem p then false else count_less mem p == 0
 
 -- The last namers after one more object of the old chain was seen.
-abbrev pub ended : List ℕ → (p : ℕ) → (ends : List ℕ) → List ℕ
-ended mem p ends = if ends_record mem p then p ∷ ends else ends
+abbrev pub ends_after : List ℕ → (p : ℕ) → (ends : List ℕ) → List ℕ
+ends_after mem p ends = if ends_record mem p then p ∷ ends else ends
 
 -- The words when an object was left behind: its record does not count it any more, and where it was the last to name the
 -- record it leads to the last namer before it.

@@ -9,7 +9,7 @@ use Rattle.off_heap_list.specs.declared.whole.Order.{Order}
 use Rattle.off_heap_list.specs.declared.whole.Order.TheVariants.{Same, Turned}
 use Rattle.off_heap_list.specs.declared.whole.Survivors.{Survivors}
 use Rattle.off_heap_list.specs.Links.{named, Chain, Links}
-use Rattle.off_heap_list.specs.Swept.{is_moved, new_place, held_words, records_of, Relinked, IsLast, Sweeping}
+use Rattle.off_heap_list.specs.Swept.{is_moved, new_place, bin_words_at, named_records, Relinked, IsLast, Sweeping}
 
 -- The new places of those of the objects that were moved, in order.
 abbrev pub moved_of : List ℕ → List ℕ → List ℕ
@@ -27,9 +27,9 @@ ordered Same xs = xs
 ordered Turned xs = turned xs []
 
 -- The words of bytes that the objects hold, together.
-abbrev pub held_by : List ℕ → List ℕ → ℕ
-held_by mem [] = 0
-held_by mem (p ∷ os) = held_words mem p + held_by mem os
+abbrev pub bin_words_of_all : List ℕ → List ℕ → ℕ
+bin_words_of_all mem [] = 0
+bin_words_of_all mem (p ∷ os) = bin_words_at mem p + bin_words_of_all mem os
 
 -- 1 where there is one, else 0.
 abbrev pub one_of : Option ℕ → ℕ
@@ -41,16 +41,16 @@ one_of (Some x) = 1
 pub record EndRecords (c : ℕ → ℕ → Bool) (start mem : List ℕ) (last : ℕ) (ends : List ℕ) : Type 0 where
   pub chain : Chain mem last ends
   pub each : (p : ℕ) → In p ends → IsLast c mem p
-  pub once : Distinct (records_of mem ends)
+  pub once : Distinct (named_records mem ends)
   pub only : (p : ℕ) → In p ends → 0 < count_in start (named mem p)
-  pub all : (v n : ℕ) → IsRecord c mem v n → count_in mem v ≡ 0 → 0 < count_in start v → In v (records_of mem ends)
+  pub all : (v n : ℕ) → IsRecord c mem v n → count_in mem v ≡ 0 → 0 < count_in start v → In v (named_records mem ends)
 
 -- A whole chain was swept: the new chain has exactly these objects, and counts are namings by them and by further ones; their
 -- number and their words of bytes are told, and so are the records that are freed; every tree stands.
 pub record SweptWhole (c : ℕ → ℕ → Bool) (start mem : List ℕ) (os kept further : List ℕ) (left : Survivors) : Type 0 where
   pub links : Links c mem left.first kept further
   pub len : left.len ≡ length kept
-  pub words : left.words ≡ held_by mem kept
+  pub words : left.words ≡ bin_words_of_all mem kept
   pub ends : List ℕ
   pub records : EndRecords c start mem left.last ends
   pub freed : left.freed ≡ length ends

@@ -8,7 +8,7 @@ ghost use Rattle.shared_rec.specs.Record.{count_in};
 ghost use Rattle.off_heap_list.specs.Links.{named, IsLink, Links};
 ghost use Rattle.off_heap_list.specs.Exact.{ListsHeld, AllCounted, Exact, OwnChain, AreOwn, objects_of, Chained};
 ghost use Rattle.off_heap_list.specs.Turned.{Turning};
-ghost use Rattle.off_heap_list.specs.Swept.{is_moved, new_place, records_of, IsOld, Sweeping};
+ghost use Rattle.off_heap_list.specs.Swept.{is_moved, new_place, named_records, IsOld, Sweeping};
 ghost use Rattle.off_heap_list.specs.Whole.{SweptWhole};
 ghost use Rattle.off_heap_list.specs.declared.whole.Survivors.{Survivors};
 ghost use Rattle.term_words.specs.Object.{IsRecord};
@@ -62,7 +62,7 @@ pub fn chains_of_what_is_reached_count_exactly()
 /// Where no record had count 0 before a sweep, each record has one after it, or is told as freed.
 pub fn swept_records_are_counted_or_told()
     ensures { (c : ℕ → ℕ → Bool) (start mem os kept further : List ℕ) (left : Survivors) (s : SweptWhole c start mem os kept further left)
-        → AllCounted c start → (v n : ℕ) → IsRecord c mem v n → (1 ≤ count_in mem v) ⊎ In v (records_of mem s.ends) }
+        → AllCounted c start → (v n : ℕ) → IsRecord c mem v n → (1 ≤ count_in mem v) ⊎ In v (named_records mem s.ends) }
 {}
 
 /// One of several chains is a chain with the objects of the others beside it, and back.

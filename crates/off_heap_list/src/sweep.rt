@@ -4,7 +4,7 @@ ghost use Rattle.term_words.specs.Role.{IsSingle, Idle};
 ghost use Rattle.term_words.specs.Kept.{Keeps};
 ghost use Rattle.shared_rec.specs.Record.{count_in};
 ghost use Rattle.off_heap_list.specs.Links.{named, next_in};
-ghost use Rattle.off_heap_list.specs.Swept.{is_moved, new_place, held_words, count_less, freed_at, left_behind, joined, ended, Relinked, IsOld, Sweeping, Since};
+ghost use Rattle.off_heap_list.specs.Swept.{is_moved, new_place, bin_words_at, count_less, freed_at, left_behind, kept_after, ends_after, Relinked, IsOld, Sweeping, Since};
 
 use crate::chains::freed_by;
 use crate::links::{next_of, record_of, set_next};
@@ -30,7 +30,7 @@ pub fn sweep_one(mem: &mut WordMem, at: u64) -> Swept
     requires count { is_moved mem.old at ≡ false → 1 ≤ count_in mem.old (named mem.old at) }
     ensures next { result.next ≡ next_in mem.old at }
     ensures moved { is_moved mem.old at ≡ true
-        → (result.moved ≡ Some (new_place mem.old at)) × (result.freed ≡ None) × (result.words ≡ held_words mem.old (new_place mem.old at))
+        → (result.moved ≡ Some (new_place mem.old at)) × (result.freed ≡ None) × (result.words ≡ bin_words_at mem.old (new_place mem.old at))
         × (mem.new ≡ mem.old) }
     ensures left { is_moved mem.old at ≡ false
         → (result.moved ≡ None) × (result.freed ≡ freed_at (named mem.old at) (count_in mem.old (named mem.old at) - 1)) × (result.words ≡ 0)
@@ -79,7 +79,7 @@ pub fn sweep_next(mem: &mut WordMem, sweep: &mut Sweep) -> Swept
     ensures rest { (sweep.new.rest ≡ next_in mem.old sweep.old.rest) × (result.next ≡ next_in mem.old sweep.old.rest) }
     ensures moved { is_moved mem.old sweep.old.rest ≡ true
         → (result.moved ≡ Some (new_place mem.old sweep.old.rest)) × (result.freed ≡ None)
-        × (result.words ≡ held_words mem.old (new_place mem.old sweep.old.rest))
+        × (result.words ≡ bin_words_at mem.old (new_place mem.old sweep.old.rest))
         × (sweep.new.first ≡ new_place mem.old sweep.old.rest) × (sweep.new.last ≡ sweep.old.last)
         × (mem.new ≡ slice_set mem.old (new_place mem.old sweep.old.rest + 2) sweep.old.first) }
     ensures left { is_moved mem.old sweep.old.rest ≡ false
@@ -91,11 +91,11 @@ pub fn sweep_next(mem: &mut WordMem, sweep: &mut Sweep) -> Swept
     ensures kept { (c : ℕ → ℕ → Bool) → IsSingle c → IsOld c mem.old sweep.old.rest → Keeps c c mem.old mem.new }
     ensures goes_on { (c : ℕ → ℕ → Bool) (p : ℕ) (os kept ends further : List ℕ) → IsSingle c
         → Sweeping c mem.old sweep.old.rest (p ∷ os) sweep.old.first kept sweep.old.last ends further
-        → Sweeping c mem.new sweep.new.rest os sweep.new.first (joined mem.old sweep.old.rest kept) sweep.new.last (ended mem.old sweep.old.rest ends)
+        → Sweeping c mem.new sweep.new.rest os sweep.new.first (kept_after mem.old sweep.old.rest kept) sweep.new.last (ends_after mem.old sweep.old.rest ends)
         further }
     ensures since { (c : ℕ → ℕ → Bool) (p : ℕ) (os kept ends further start : List ℕ) → IsSingle c
         → Sweeping c mem.old sweep.old.rest (p ∷ os) sweep.old.first kept sweep.old.last ends further → Since c start mem.old (p ∷ os) ends
-        → Since c start mem.new os (ended mem.old sweep.old.rest ends) }
+        → Since c start mem.new os (ends_after mem.old sweep.old.rest ends) }
 {
     let _len = mem.len();
     let at = sweep.rest;
@@ -117,7 +117,7 @@ pub fn sweep_next(mem: &mut WordMem, sweep: &mut Sweep) -> Swept
 // The words of the bytes that a holder has, 0 for a fun.
 fn held_in(mem: &WordMem, object: u64) -> u64
     requires { object + 6 ≤ length mem.now }
-    ensures { result ≡ held_words mem.now object }
+    ensures { result ≡ bin_words_at mem.now object }
 {
     let _len = mem.len();
     if mem.get(object) != head_of(HOLDER, 5) {

@@ -16,7 +16,7 @@ use Rattle.plain_machine.specs.State.{HasNames, State, is_live}
 use Rattle.plain_machine.specs.declared.costs.TheConstants.{MESSAGE_COST}
 use Rattle.plain_machine.specs.Step.{step}
 use Rattle.plain_machine.specs.May.{may_of_tight}
-use Rattle.space_api.specs.Calls.{Becomes, Follows, IsTerm, KeepsBooks, Passes, Properly, one_term, said}
+use Rattle.space_api.specs.Calls.{Becomes, Follows, IsWrittenTerm, KeepsBooks, Passes, Properly, one_term, said}
 use Rattle.item_build.specs.declared.building.BuildStop.{BuildStop}
 use Rattle.item_build.specs.declared.building.BuildStop.TheVariants as stop
 use Rattle.term_verbs.specs.declared.pairs.PutStop.{PutStop}
@@ -63,7 +63,7 @@ pub record DoesAtOnce {A : Type 0} (c : Command) (old new : One) (result : Resul
 -- The same of a written term, whose items are these.
 pub record Builds {A : Type 0} (names : List (List ℕ)) (pid : ℕ) (r : Reg) (code : List Item) (old new : One) (result : Result A Refusal) : Type 0 where
   pub holds : Holds new
-  pub becomes : (s : State) (t : Term) → OneStands old s → IsTerm names code t
+  pub becomes : (s : State) (t : Term) → OneStands old s → IsWrittenTerm names code t
       → Becomes may_of_tight (words_of old) s (said (Process pid (verb.Set r)) (one_term t) names) result (OneStands new)
   pub books : Books old new (max old.named (length names))
   pub refused : OnErr result (new.named ≤ old.named)

@@ -11,6 +11,6 @@ abbrev pub counts_of : One → (names : List (List ℕ)) → List ℕ
 counts_of b names = counts_told b.halves.mem names b.halves.bins.items b.halves.funs.items
 
 -- The text for a command; one that does not tell the store has none.
-abbrev pub text_of : One → (names : List (List ℕ)) → Command → List ℕ
-text_of b names (System Counts) = counts_of b names
-text_of b names _ = []
+abbrev pub command_text : One → (names : List (List ℕ)) → Command → List ℕ
+command_text b names (System Counts) = counts_of b names
+command_text b names _ = []

@@ -10,7 +10,7 @@ ghost use Rattle.script_grammar.specs.Written.{Term, Terms};
 ghost use Rattle.plain_machine.specs.State.{HasNames, State, first_state};
 ghost use Rattle.plain_machine.specs.Step.{step};
 ghost use Rattle.atom_names.specs.Names.{most_names};
-ghost use Rattle.space_api.specs.Calls.{Becomes, Follows, HasEnv, HasTerm, IsEnv, IsTerm, Passes, most_calls, one_term, said};
+ghost use Rattle.space_api.specs.Calls.{Becomes, Follows, HasEnv, HasTerm, IsEnv, IsWrittenTerm, Passes, most_calls, one_term, said};
 ghost use Rattle.script_grammar.specs.Grammar.{MayReceive};
 ghost use Rattle.script_grammar.specs.Names.{IsRegister, PicksRegister};
 
@@ -141,10 +141,10 @@ impl Space for OneSpace {
     ghost use Rattle.space_api.specs.Calls.{Properly};
     ghost use Rattle.one_space.specs.One.{OneStands, Sits, words_of};
     ghost use Rattle.one_space.specs.Doing.{Asks, AsksToSend, AsksUnless, Books, IsIdle, IsSwept, takes_part};
-    ghost use Rattle.one_space.specs.Listing.{text_of};
-    ghost use Rattle.item_build.specs.Reading.{words_of as item_words_of};
+    ghost use Rattle.one_space.specs.Listing.{command_text};
+    ghost use Rattle.item_build.specs.Reading.{item_words_of};
     ghost use Rattle.plain_machine.specs.State.{Process as Live, process_of, register};
-    ghost use Rattle.plain_machine.specs.Tightness.{fill_words, keys_in, receiver, repeat_words};
+    ghost use Rattle.plain_machine.specs.Tightness.{fill_words, key_count, receiver, repeat_words};
 
     ghost stands = { λ b s. Properly (OneStands b) s };
 
@@ -158,7 +158,7 @@ impl Space for OneSpace {
 
     ghost may = { may_of_tight };
 
-    ghost text = { λ b names c. text_of b names c };
+    ghost text = { λ b names c. command_text b names c };
 
     fn find(&self, pid: u64) -> Option<Seat> {
         match find(&self.one.halves.procs, pid) {
@@ -205,7 +205,7 @@ impl Space for OneSpace {
         requires calls { self.old.calls < most_calls }
         requires named { self.old.named ≤ length names.now }
         requires term { HasTerm names.now code.now }
-        ensures becomes { (s : State) (t : Term) → Properly (OneStands self.old) s → HasNames s names.now → IsTerm names.now code.now t
+        ensures becomes { (s : State) (t : Term) → Properly (OneStands self.old) s → HasNames s names.now → IsWrittenTerm names.now code.now t
             → Becomes may_of_tight (words_of self.old) s (said (Process seat.pid (verb.Set r)) (one_term t) names.now) result (Properly (OneStands self.new)) }
         ensures books { Books self.old self.new (max self.old.named (length names.now)) }
         ensures refused { OnErr result (self.new.named ≤ self.old.named) }
@@ -263,7 +263,7 @@ impl Space for OneSpace {
             (Properly (OneStands self.new)) }
         ensures books { Books self.old self.new self.old.named }
         ensures asks { (state : State) (q : Live) → Properly (OneStands self.old) state → process_of seat.pid state ≡ Some q
-            → AsksUnless (6 + 2 * keys_in (register s.0 q)) self.old self.new result }
+            → AsksUnless (6 + 2 * key_count (register s.0 q)) self.old self.new result }
     {
         self.one.map_put(names, seat, r, s, k, v)
     }

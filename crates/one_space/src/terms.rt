@@ -5,9 +5,9 @@ ghost use Rattle.script_grammar.specs.declared.command.Verb.TheVariants as verb;
 ghost use Rattle.script_grammar.specs.Names.{IsRegister, PicksRegister};
 ghost use Rattle.plain_machine.specs.State.{State, process_of, register};
 ghost use Rattle.plain_machine.specs.State.{Process as Live};
-ghost use Rattle.plain_machine.specs.Tightness.{keys_in, repeat_words as words_by};
+ghost use Rattle.plain_machine.specs.Tightness.{key_count, repeat_words as words_by};
 ghost use Rattle.space_api.specs.Calls.{HasTerm, most_calls};
-ghost use Rattle.item_build.specs.Reading.{words_of as item_words_of};
+ghost use Rattle.item_build.specs.Reading.{item_words_of};
 ghost use Rattle.one_space.specs.One.{Holds, OneStands, Sits};
 ghost use Rattle.one_space.specs.Doing.{Asks, AsksUnless, Builds, Does, DoesBy, IsIdle, refusal_for, refusal_of_put, takes_part};
 
@@ -144,7 +144,7 @@ impl One {
         requires named { self.old.named ≤ length names.now }
         ensures does { DoesBy names.now (Process seat.pid (verb.MapPut r s k v)) self.old self.new result }
         ensures asks { (state : State) (q : Live) → OneStands self.old state → process_of seat.pid state ≡ Some q
-            → AsksUnless (6 + 2 * keys_in (register s.0 q)) self.old self.new result }
+            → AsksUnless (6 + 2 * key_count (register s.0 q)) self.old self.new result }
     {
         let process = *self.halves.process(seat.row);
         let place = match place_in(

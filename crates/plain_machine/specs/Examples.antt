@@ -46,8 +46,8 @@ abbrev pub set_words : Term → ℕ
 set_words t = grow first_state (line word.Set (0, (t, tt)))
 
 -- {1,[2]}
-abbrev pub one_list_of_two : Term
-one_list_of_two = Tuple (Int (pos 1) ▹ Listed (Int (pos 2) ▹ end) ▹ end)
+abbrev pub written_one_list_of_two : Term
+written_one_list_of_two = Tuple (Int (pos 1) ▹ Listed (Int (pos 2) ▹ end) ▹ end)
 
 -- `set` asks for the parts of the term as it is written.
 pub set-small : map set_words (Int (pos 576460752303423487) ∷ Atom (codes "a") ∷ Pid 1 ∷ Held 0 ∷ Listed end ∷ []) ≡ 0 ∷ 0 ∷ 0 ∷ 0 ∷ 0 ∷ []
@@ -56,10 +56,10 @@ set-small = refl
 pub set-big_integers : map set_words (Int (pos 576460752303423488) ∷ Int (negsuc 18446744073709551615) ∷ []) ≡ 2 ∷ 3 ∷ []
 set-big_integers = refl
 
-pub set-tuple_of_list : set_words one_list_of_two ≡ 5
+pub set-tuple_of_list : set_words written_one_list_of_two ≡ 5
 set-tuple_of_list = refl
 
-pub set-barred_list : set_words (Barred (Int (pos 1) ▹ Int (pos 2) ▹ end) one_list_of_two) ≡ 9
+pub set-barred_list : set_words (Barred (Int (pos 1) ▹ Int (pos 2) ▹ end) written_one_list_of_two) ≡ 9
 set-barred_list = refl
 
 -- Of a pair whose key comes again, both pairs count.
@@ -115,7 +115,7 @@ send-dead = refl
 pub spawn-grow : grow first_state (parsed_of [] (OfSystem sys.Spawn tt)) ≡ 16
 spawn-grow = refl
 
-pub load-two_terms : grow first_state (parsed_of [] (OfSystem sys.Load (codes "a", (one_list_of_two ▹ Listed (ones 1) ▹ end, tt)))) ≡ 25
+pub load-two_terms : grow first_state (parsed_of [] (OfSystem sys.Load (codes "a", (written_one_list_of_two ▹ Listed (ones 1) ▹ end, tt)))) ≡ 25
 load-two_terms = refl
 
 -- All other lines ask for nothing.

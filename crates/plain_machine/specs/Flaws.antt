@@ -9,18 +9,18 @@ use Rattle.script_grammar.specs.Written.{Term, Terms, TermPairs}
 use Rattle.script_grammar.specs.Written.Term.{Listed, Barred, Tuple, Map}
 use Rattle.script_grammar.specs.Written.Terms.{end, ◌▹◌}
 use Rattle.script_grammar.specs.Written.TermPairs.{stop, pair}
-use Rattle.plain_machine.specs.Made.{tree_of, trees_of, pairs_of, too_many}
+use Rattle.plain_machine.specs.Made.{tree_of, trees_of_terms, trees_of_pairs, too_many}
 
 -- The written pairs have more different keys than a map may have.
 abbrev pub has_many_keys : (names : List (List ℕ)) (held : List Tree) → TermPairs → (shared : List (List ℕ)) → Bool
-has_many_keys names held ps shared = let all : Pairs × List (List ℕ) = pairs_of names held ps shared in
+has_many_keys names held ps shared = let all : Pairs × List (List ℕ) = trees_of_pairs names held ps shared in
     too_many (in_order names (all.1) (all.0))
 
 abbrev mutual
   -- A term is or holds, as it is written, a map with too many different keys.
   pub is_wide : (names : List (List ℕ)) (held : List Tree) → Term → (shared : List (List ℕ)) → Bool
   is_wide names held (Listed ts) shared = are_wide names held ts shared
-  is_wide names held (Barred ts t) shared = are_wide names held ts shared || is_wide names held t ((trees_of names held ts shared).1)
+  is_wide names held (Barred ts t) shared = are_wide names held ts shared || is_wide names held t ((trees_of_terms names held ts shared).1)
   is_wide names held (Tuple ts) shared = are_wide names held ts shared
   is_wide names held (Map ps) shared = has_many_keys names held ps shared || are_wide_pairs names held ps shared
   is_wide names held _ shared = false
@@ -38,15 +38,15 @@ abbrev mutual
       is_wide names held k shared || (is_wide names held v (key.1) || are_wide_pairs names held ps (value.1))
 
 -- A written key that is not wide makes a tree beyond the walk limit.
-abbrev pub is_big_key : (names : List (List ℕ)) (held : List Tree) → Term → (shared : List (List ℕ)) → Bool
-is_big_key names held k shared = let key : Tree × List (List ℕ) = tree_of names held k shared in
+abbrev pub makes_big_key : (names : List (List ℕ)) (held : List Tree) → Term → (shared : List (List ℕ)) → Bool
+makes_big_key names held k shared = let key : Tree × List (List ℕ) = tree_of names held k shared in
     not (is_wide names held k shared) && is_beyond (key.1) (key.0)
 
 abbrev mutual
   -- A term is or holds, as it is written, a map with such a key.
   pub is_big : (names : List (List ℕ)) (held : List Tree) → Term → (shared : List (List ℕ)) → Bool
   is_big names held (Listed ts) shared = are_big names held ts shared
-  is_big names held (Barred ts t) shared = are_big names held ts shared || is_big names held t ((trees_of names held ts shared).1)
+  is_big names held (Barred ts t) shared = are_big names held ts shared || is_big names held t ((trees_of_terms names held ts shared).1)
   is_big names held (Tuple ts) shared = are_big names held ts shared
   is_big names held (Map ps) shared = are_big_pairs names held ps shared
   is_big names held _ shared = false
@@ -61,7 +61,7 @@ abbrev mutual
   are_big_pairs names held stop shared = false
   are_big_pairs names held (pair k v ps) shared = let key : Tree × List (List ℕ) = tree_of names held k shared in
       let value : Tree × List (List ℕ) = tree_of names held v (key.1) in
-      is_big_key names held k shared || (is_big names held k shared || (is_big names held v (key.1) || are_big_pairs names held ps (value.1)))
+      makes_big_key names held k shared || (is_big names held k shared || (is_big names held v (key.1) || are_big_pairs names held ps (value.1)))
 
 -- Why a written term is refused, if it is: a key beyond the walk limit comes before too many keys.
 abbrev pub flaw_of : (big wide : Bool) → Option Refusal

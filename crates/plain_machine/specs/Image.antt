@@ -40,15 +40,15 @@ pub record Image : Type 0 where
   pub processes : List Rooted
 
 -- The words from which all that lives is reached: registers, stacks and queues.
-abbrev pub roots_in : Rooted → List ℕ
-roots_in p = p.registers ++ (p.stack ++ p.queue)
+abbrev pub process_roots : Rooted → List ℕ
+process_roots p = p.registers ++ (p.stack ++ p.queue)
 
 abbrev pub image_roots : Image → List ℕ
-image_roots i = flat_map roots_in i.processes
+image_roots i = flat_map process_roots i.processes
 
 -- The places of regions or records.
-abbrev pub places_of : List Region → List ℕ
-places_of rs = map (λ r. r.place) rs
+abbrev pub region_places : List Region → List ℕ
+region_places rs = map (λ r. r.place) rs
 
 -- The place lies in one of the regions.
 abbrev pub LiesIn : List Region → ℕ → Type 0
@@ -92,11 +92,11 @@ AllFuns c mem (r ∷ rs) = FunTold c mem r × AllFuns c mem rs
 
 -- The records told are all that there are, no two are of one shared binary, and no two of one fun's name and arity.
 pub record RecordsTold (c : ℕ → ℕ → Bool) (shared : List (List ℕ)) (mem : List ℕ) (bins funs : List Region) : Type 0 where
-  pub all : (v n : ℕ) → IsRecord c mem v n → In v (places_of (bins ++ funs))
+  pub all : (v n : ℕ) → IsRecord c mem v n → In v (region_places (bins ++ funs))
   pub each_bin : AllBins c shared mem bins
   pub each_fun : AllFuns c mem funs
-  pub bins_once : Distinct (map (owner_in mem) (places_of bins))
-  pub funs_once : Distinct (map (owner_in mem) (places_of funs))
+  pub bins_once : Distinct (map (owner_in mem) (region_places bins))
+  pub funs_once : Distinct (map (owner_in mem) (region_places funs))
 
 -- The process told stands for the process: each register, stack place and message for its tree.
 pub record RootedStands (c : ℕ → ℕ → Bool) (shared : List (List ℕ)) (mem : List ℕ) (p : Rooted) (q : Process) : Type 0 where

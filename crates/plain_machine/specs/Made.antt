@@ -33,24 +33,24 @@ abbrev mutual
   tree_of names held (Atom a) shared = (tree.Atom (number_of names a), shared)
   tree_of names held (Pid n) shared = (tree.Pid n, shared)
   tree_of names held (Held r) shared = (slice_index_or held r tree.Nil, shared)
-  tree_of names held (Listed ts) shared = let heads : Trees × List (List ℕ) = trees_of names held ts shared in
+  tree_of names held (Listed ts) shared = let heads : Trees × List (List ℕ) = trees_of_terms names held ts shared in
       (list_tree (heads.0) tree.Nil, heads.1)
-  tree_of names held (Barred ts t) shared = let heads : Trees × List (List ℕ) = trees_of names held ts shared in
+  tree_of names held (Barred ts t) shared = let heads : Trees × List (List ℕ) = trees_of_terms names held ts shared in
       let last : Tree × List (List ℕ) = tree_of names held t (heads.1) in (list_tree (heads.0) (last.0), last.1)
-  tree_of names held (Tuple ts) shared = let all : Trees × List (List ℕ) = trees_of names held ts shared in (tree.Tuple (all.0), all.1)
-  tree_of names held (Map ps) shared = let all : Pairs × List (List ℕ) = pairs_of names held ps shared in
+  tree_of names held (Tuple ts) shared = let all : Trees × List (List ℕ) = trees_of_terms names held ts shared in (tree.Tuple (all.0), all.1)
+  tree_of names held (Map ps) shared = let all : Pairs × List (List ℕ) = trees_of_pairs names held ps shared in
       (tree.Map (in_order names (all.1) (all.0)), all.1)
   tree_of names held (Bin bytes) shared = bin_tree bytes shared
 
   -- The trees of terms, from left to right.
-  pub trees_of : (names : List (List ℕ)) (held : List Tree) → Terms → (shared : List (List ℕ)) → Trees × List (List ℕ)
-  trees_of names held end shared = (trees.end, shared)
-  trees_of names held (t ▹ ts) shared = let first : Tree × List (List ℕ) = tree_of names held t shared in
-      let others : Trees × List (List ℕ) = trees_of names held ts (first.1) in (trees.◌▹◌ (first.0) (others.0), others.1)
+  pub trees_of_terms : (names : List (List ℕ)) (held : List Tree) → Terms → (shared : List (List ℕ)) → Trees × List (List ℕ)
+  trees_of_terms names held end shared = (trees.end, shared)
+  trees_of_terms names held (t ▹ ts) shared = let first : Tree × List (List ℕ) = tree_of names held t shared in
+      let others : Trees × List (List ℕ) = trees_of_terms names held ts (first.1) in (trees.◌▹◌ (first.0) (others.0), others.1)
 
   -- The trees of keys and values, in the order of writing.
-  pub pairs_of : (names : List (List ℕ)) (held : List Tree) → TermPairs → (shared : List (List ℕ)) → Pairs × List (List ℕ)
-  pairs_of names held stop shared = (pairs.stop, shared)
-  pairs_of names held (pair k v ps) shared = let key : Tree × List (List ℕ) = tree_of names held k shared in
+  pub trees_of_pairs : (names : List (List ℕ)) (held : List Tree) → TermPairs → (shared : List (List ℕ)) → Pairs × List (List ℕ)
+  trees_of_pairs names held stop shared = (pairs.stop, shared)
+  trees_of_pairs names held (pair k v ps) shared = let key : Tree × List (List ℕ) = tree_of names held k shared in
       let value : Tree × List (List ℕ) = tree_of names held v (key.1) in
-      let others : Pairs × List (List ℕ) = pairs_of names held ps (value.1) in (pairs.pair (key.0) (value.0) (others.0), others.1)
+      let others : Pairs × List (List ℕ) = trees_of_pairs names held ps (value.1) in (pairs.pair (key.0) (value.0) (others.0), others.1)

@@ -20,10 +20,10 @@ use Rattle.plain_machine.specs.Run.{refusal_text}
 use Rattle.plain_machine.specs.Maps.{CountsOf, counts_text}
 
 -- What an outcome is answered; a map of the store is a text of its own.
-abbrev pub answer_of : Outcome → List ℕ
-answer_of (Accepted next reply) = reply
-answer_of (Refused r) = refusal_text r
-answer_of Mapped = codes "a map"
+abbrev pub answer_text : Outcome → List ℕ
+answer_text (Accepted next reply) = reply
+answer_text (Refused r) = refusal_text r
+answer_text Mapped = codes "a map"
 
 abbrev pub state_after : State → Outcome → State
 state_after s (Accepted next reply) = next
@@ -32,7 +32,7 @@ state_after s _ = s
 -- The answers to lines one after the other.
 abbrev pub answers_to : State → List Written → List (List ℕ)
 answers_to s [] = []
-answers_to s (w ∷ ws) = answer_of (step s (parsed_of s.names w)) ∷ answers_to (state_after s (step s (parsed_of s.names w))) ws
+answers_to s (w ∷ ws) = answer_text (step s (parsed_of s.names w)) ∷ answers_to (state_after s (step s (parsed_of s.names w))) ws
 
 -- 1 fill 0 LEN BYTE, and so on
 abbrev pub fill : (r len byte : ℕ) → Written
@@ -47,8 +47,8 @@ set r t = OfProcess 1 word.Set (r, (t, tt))
 abbrev pub print : ℕ → Written
 print r = OfProcess 1 word.Print (r, tt)
 
-abbrev pub flat : ℕ → Written
-flat r = OfProcess 1 word.Flat (r, tt)
+abbrev pub flat_of_register : ℕ → Written
+flat_of_register r = OfProcess 1 word.Flat (r, tt)
 
 abbrev pub send : ℕ → To → Written
 send r receiver = OfProcess 1 word.Send (r, (receiver, tt))
@@ -71,13 +71,14 @@ pub bounds-of_binaries : answers_to first_state (fill 0 1048577 1 ∷ fill 0 65 
 bounds-of_binaries = refl
 
 -- A binary of 64 bytes stands on the heap, one of 65 is shared.
-pub flat-of_filled : answers_to first_state (fill 0 64 1 ∷ fill 1 65 1 ∷ flat 0 ∷ flat 1 ∷ sweep ∷ counts ∷ [])
+pub flat-of_filled : answers_to first_state (fill 0 64 1 ∷ fill 1 65 1 ∷ flat_of_register 0 ∷ flat_of_register 1 ∷ sweep ∷ counts ∷ [])
     ≡ codes "ok" ∷ codes "ok" ∷ codes "10" ∷ codes "6" ∷ codes "ok" ∷ codes "a map" ∷ []
 unfolding digits
 flat-of_filled = refl
 
 -- A part keeps its base, also where no register holds the base itself, and a part of it lies within it.
-pub part-of_part : answers_to first_state (fill 0 100 9 ∷ part 1 0 98 2 ∷ set 0 (Listed end) ∷ print 1 ∷ flat 1 ∷ part 2 1 1 2 ∷ part 2 1 1 1 ∷ print 2 ∷ [])
+pub part-of_part : answers_to first_state
+    (fill 0 100 9 ∷ part 1 0 98 2 ∷ set 0 (Listed end) ∷ print 1 ∷ flat_of_register 1 ∷ part 2 1 1 2 ∷ part 2 1 1 1 ∷ print 2 ∷ [])
     ≡ codes "ok" ∷ codes "ok" ∷ codes "ok" ∷ codes "<<9,9>>" ∷ codes "11" ∷ codes "error badarg" ∷ codes "ok" ∷ codes "<<9>>" ∷ []
 unfolding digits
 part-of_part = refl
@@ -118,7 +119,7 @@ set-binaries = refl
 
 -- A fun with two registers as its environment.
 pub fun-and_env : answers_to first_state (
-    OfProcess 1 word.Fun (0, (codes "f", (2, (0 ∷ 1 ∷ [], tt)))) ∷ print 0 ∷ flat 0
+    OfProcess 1 word.Fun (0, (codes "f", (2, (0 ∷ 1 ∷ [], tt)))) ∷ print 0 ∷ flat_of_register 0
     ∷ OfProcess 1 word.Env (1, (2, (0, tt))) ∷ OfProcess 1 word.Env (1, (3, (0, tt)))
     ∷ OfProcess 1 word.Fun (2, (codes "g", (256, ([], tt)))) ∷ sweep ∷ counts ∷ [])
     ≡ codes "ok" ∷ codes "#Fun<f/2>" ∷ codes "8" ∷ codes "ok" ∷ codes "error badarg" ∷ codes "error badarg" ∷ codes "ok" ∷ codes "a map" ∷ []
@@ -139,7 +140,7 @@ sent-to_none = refl
 
 -- A message is the tree that was sent, and a register that holds no pid names no process.
 pub sent-to_itself : answers_to first_state (set 0 (Tuple (Atom (codes "x") ▹ end)) ∷ set 1 (Tuple (Held 0 ▹ Held 0 ▹ end)) ∷ send 1 (to.Number 1) ∷ recv 2
-    ∷ OfProcess 1 word.Eq (1, (2, tt)) ∷ flat 2 ∷ send 1 (to.Held (record { 0 = 0 })) ∷ [])
+    ∷ OfProcess 1 word.Eq (1, (2, tt)) ∷ flat_of_register 2 ∷ send 1 (to.Held (record { 0 = 0 })) ∷ [])
     ≡ codes "ok" ∷ codes "ok" ∷ codes "ok" ∷ codes "ok" ∷ codes "true" ∷ codes "7" ∷ codes "error badarg" ∷ []
 unfolding digits
 sent-to_itself = refl

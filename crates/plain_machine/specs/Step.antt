@@ -23,7 +23,7 @@ use Rattle.script_grammar.specs.declared.refusal.Refusal.TheVariants.{NoProc, Ba
 use Rattle.script_grammar.specs.Written.{Terms}
 use Rattle.script_grammar.specs.Written.Terms.{end, ◌▹◌}
 use Rattle.script_grammar.specs.Names.{Parsed}
-use Rattle.plain_machine.specs.Made.{tree_of, trees_of, bin_tree, too_many}
+use Rattle.plain_machine.specs.Made.{tree_of, trees_of_terms, bin_tree, too_many}
 use Rattle.plain_machine.specs.Flaws.{is_wide, is_big, flaw_of}
 use Rattle.plain_machine.specs.Parts.{picked, pairs_in, repeated}
 use Rattle.plain_machine.specs.declared.limits.TheConstants.{MOST_PROCESSES, MOST_PLACES, MOST_FILL, MOST_ARITY, MOST_BYTE}
@@ -140,7 +140,7 @@ fill_step s p q r len byte = fill_if (nat_lt MOST_FILL len || nat_lt MOST_BYTE b
 
 -- The trees of the registers that are written as an environment; they bring no shared binary.
 abbrev pub env_of : State → Parsed → Live → Trees
-env_of s p q = (trees_of p.names q.registers p.terms s.shared).0
+env_of s p q = (trees_of_terms p.names q.registers p.terms s.shared).0
 
 -- `fun`: the register holds a fun with this environment, which the process has made, where its arity is not too great.
 abbrev pub fun_if : Bool → Tree → State → Parsed → Live → ℕ → Outcome

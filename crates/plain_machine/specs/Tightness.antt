@@ -18,7 +18,7 @@ use Rattle.script_grammar.specs.declared.command.Verb.{Verb}
 use Rattle.script_grammar.specs.declared.command.Verb.TheVariants.{Set, Choose, MapPut, Fill, Fun as MakeFun, Ref as MakeRef, Repeat, Push, Send}
 use Rattle.script_grammar.specs.declared.command.SysVerb.{SysVerb}
 use Rattle.script_grammar.specs.declared.command.SysVerb.TheVariants.{Spawn, Load}
-use Rattle.script_grammar.specs.Written.{Term, Terms, TermPairs, terms_len, pairs_len as written_pairs_len}
+use Rattle.script_grammar.specs.Written.{Term, Terms, TermPairs, terms_len, term_pairs_len}
 use Rattle.script_grammar.specs.Written.{Term as term}
 use Rattle.script_grammar.specs.Written.{Terms as terms}
 use Rattle.script_grammar.specs.Written.{TermPairs as pairs}
@@ -40,7 +40,7 @@ abbrev mutual
   build_words (term.Listed ts) = 2 * terms_len ts + build_words_of_all ts
   build_words (term.Barred ts t) = 2 * terms_len ts + (build_words_of_all ts + build_words t)
   build_words (term.Tuple ts) = 1 + terms_len ts + build_words_of_all ts
-  build_words (term.Map ps) = 4 + 2 * written_pairs_len ps + build_words_of_pairs ps
+  build_words (term.Map ps) = 4 + 2 * term_pairs_len ps + build_words_of_pairs ps
   build_words (term.Bin bytes) = fill_words (length bytes)
 
   -- The words of all written terms of a list.
@@ -54,9 +54,9 @@ abbrev mutual
   build_words_of_pairs (pairs.pair k v ps) = build_words k + build_words v + build_words_of_pairs ps
 
 -- How many keys a map has; no other tree has any.
-abbrev pub keys_in : Tree → ℕ
-keys_in (Map ps) = pairs_len ps
-keys_in _ = 0
+abbrev pub key_count : Tree → ℕ
+key_count (Map ps) = pairs_len ps
+key_count _ = 0
 
 -- Many places: a tuple has a header, a list place is two words.
 abbrev pub repeat_words : Shape → ℕ → ℕ
@@ -64,14 +64,14 @@ repeat_words TupleShape n = 1 + n
 repeat_words ListShape n = 2 * n
 
 -- The process that a pid names; no other tree names one.
-abbrev pub number_in : Tree → Option ℕ
-number_in (Pid n) = Some n
-number_in _ = None
+abbrev pub pid_number : Tree → Option ℕ
+pid_number (Pid n) = Some n
+pid_number _ = None
 
 -- The number that a message is sent to.
 abbrev pub receiver : To → Live → Option ℕ
 receiver (ToNumber n) q = Some n
-receiver (ToHeld r) q = number_in (register r.0 q)
+receiver (ToHeld r) q = pid_number (register r.0 q)
 
 -- A copy for a live process; a process that does not live gets none.
 abbrev pub send_words : Option ℕ → State → Tree → ℕ
@@ -81,7 +81,7 @@ send_words (Some n) s t = if is_live n s then MESSAGE_COST + flat t else 0
 -- What a verb asks for at a live process.
 abbrev pub verb_words : State → Parsed → Live → Verb → ℕ
 verb_words s p q (Set r) = build_words_of_all p.terms
-verb_words s p q (MapPut r m k v) = 6 + 2 * keys_in (register m.0 q)
+verb_words s p q (MapPut r m k v) = 6 + 2 * key_count (register m.0 q)
 verb_words s p q (Choose r m (pick.Part offset len)) = 5
 verb_words s p q (Fill r len byte) = fill_words len
 verb_words s p q (MakeFun r name arity) = COUNTED_COST + terms_len p.terms

@@ -7,7 +7,7 @@ use Rattle.std.proofs.lemmas.Bool.Decides.{nat_tests}
 use Rattle.plain_term.specs.Tree.{Tree, Trees, trees_len, trees_append}
 use Rattle.plain_term.specs.Tree.Tree.{Int, Atom, Pid, Ref, Nil, Cons, Tuple, Map, Bin, Shared, Part, Fun}
 use Rattle.plain_term.specs.Tree.Trees.{end, ◌▹◌}
-use Rattle.plain_term.specs.Written.{is_spelled, are_spelled, items_of, items_of_all, SpellsTree, Explains, BeginsWith, HasNoTerm, BeginAll, HasNoParts, BeginBytes, HasNoBytes, IsOf, AreOf, ReadsTerm, ReadsAll, ReadsBytes}
+use Rattle.plain_term.specs.Written.{is_spelled, are_spelled, tree_items, trees_items, SpellsTree, Explains, BeginsWith, HasNoTerm, BeginAll, HasNoParts, BeginBytes, HasNoBytes, IsValueOf, AreOf, ReadsTerm, ReadsAll, ReadsBytes}
 use Rattle.plain_term.specs.View.{view, trees_of}
 use Rattle.plain_term.specs.declared.reading.TheConstants.{HEAP_BINARY}
 use Rattle.plain_term.specs.declared.tree.Tree as code
@@ -60,7 +60,7 @@ kind_of_first : List Item → ℕ
 kind_of_first [] = 0
 kind_of_first (i ∷ items) = kind_of_item i
 
-first-kind : (t : Tree) (x : List Item) → is_spelled t ≡ true → kind_of_first (items_of t ++ x) ≡ kind t
+first-kind : (t : Tree) (x : List Item) → is_spelled t ≡ true → kind_of_first (tree_items t ++ x) ≡ kind t
 unfolding kind kind_of_item kind_of_first
 first-kind (Int i) x p = refl
 first-kind (Atom k) x p = refl
@@ -72,7 +72,7 @@ first-kind (Bin bytes) x p = refl
 first-kind _ x p = absurd (false≢true p)
 
 -- trees whose items begin alike are of one kind
-same-kind : (a b : Tree) (x y : List Item) → is_spelled a ≡ true → is_spelled b ≡ true → items_of a ++ x ≡ items_of b ++ y → kind a ≡ kind b
+same-kind : (a b : Tree) (x y : List Item) → is_spelled a ≡ true → is_spelled b ≡ true → tree_items a ++ x ≡ tree_items b ++ y → kind a ≡ kind b
 same-kind a b x y p q e = sym (first-kind a x p) ∙ ap kind_of_first e ∙ first-kind b y q
 
 apart : {P : Type 0} (m n : ℕ) → (m == n) ≡ false → m ≡ n → P
@@ -81,19 +81,20 @@ apart m n differ same = absurd (grind (arith, nat_tests, differ, same))
 mutual
   unfolding kind
 
-  unique : (a b : Tree) (x y : List Item) → is_spelled a ≡ true → is_spelled b ≡ true → items_of a ++ x ≡ items_of b ++ y → (a ≡ b) × (x ≡ y)
+  unique : (a b : Tree) (x y : List Item) → is_spelled a ≡ true → is_spelled b ≡ true → tree_items a ++ x ≡ tree_items b ++ y → (a ≡ b) × (x ≡ y)
   unique (Int i) (Int j) x y p q e = let same : i ≡ j = cc in (ap Int same, cc)
   unique (Atom i) (Atom j) x y p q e = let same : i ≡ j = cc in (ap Atom same, cc)
   unique (Pid i) (Pid j) x y p q e = let same : i ≡ j = cc in (ap Pid same, cc)
   unique Nil Nil x y p q e = (refl, cc)
   unique (Cons a b) (Cons c d) x y p q e =
-      let tails : (items_of a ++ items_of b) ++ x ≡ (items_of c ++ items_of d) ++ y = cc in
-      let apart : items_of a ++ (items_of b ++ x) ≡ items_of c ++ (items_of d ++ y) = sym (append_assoc (items_of a) (items_of b) x) ∙ tails ∙ append_assoc (items_of c) (items_of d) y in
-      let first = unique a c (items_of b ++ x) (items_of d ++ y) (and_parts (is_spelled a) (is_spelled b) p).0 (and_parts (is_spelled c) (is_spelled d) q).0 apart in
+      let tails : (tree_items a ++ tree_items b) ++ x ≡ (tree_items c ++ tree_items d) ++ y = cc in
+      let apart : tree_items a ++ (tree_items b ++ x) ≡ tree_items c ++ (tree_items d ++ y) =
+      sym (append_assoc (tree_items a) (tree_items b) x) ∙ tails ∙ append_assoc (tree_items c) (tree_items d) y in
+      let first = unique a c (tree_items b ++ x) (tree_items d ++ y) (and_parts (is_spelled a) (is_spelled b) p).0 (and_parts (is_spelled c) (is_spelled d) q).0 apart in
       let second = unique b d x y (and_parts (is_spelled a) (is_spelled b) p).1 (and_parts (is_spelled c) (is_spelled d) q).1 first.1 in
       ((λ i. Cons (first.0 i) (second.0 i)), second.1)
   unique (Tuple ts) (Tuple us) x y p q e =
-      let tails : items_of_all ts ++ x ≡ items_of_all us ++ y = cc in
+      let tails : trees_items ts ++ x ≡ trees_items us ++ y = cc in
       let lens : trees_len ts ≡ trees_len us = cc in
       let parts = unique-all ts us x y lens p q tails in
       (ap Tuple parts.0, parts.1)
@@ -109,14 +110,14 @@ mutual
   unique (Fun f n c ts) (Fun g m d us) x y p q e = absurd (false≢true p)
   unique a b x y p q e = apart (kind a) (kind b) refl (same-kind a b x y p q e)
 
-  unique-all : (ts us : Trees) (x y : List Item) → trees_len ts ≡ trees_len us → are_spelled ts ≡ true → are_spelled us ≡ true → items_of_all ts ++ x ≡ items_of_all us ++ y → (ts ≡ us) × (x ≡ y)
+  unique-all : (ts us : Trees) (x y : List Item) → trees_len ts ≡ trees_len us → are_spelled ts ≡ true → are_spelled us ≡ true → trees_items ts ++ x ≡ trees_items us ++ y → (ts ≡ us) × (x ≡ y)
   unique-all end end x y n p q e = (refl, e)
   unique-all end (u ▹ us) x y n p q e = absurd (omega (arith, n))
   unique-all (t ▹ ts) end x y n p q e = absurd (omega (arith, n))
   unique-all (t ▹ ts) (u ▹ us) x y n p q e =
-      let apart : items_of t ++ (items_of_all ts ++ x) ≡ items_of u ++ (items_of_all us ++ y) = sym (append_assoc (items_of t) (items_of_all ts) x) ∙ e
-      ∙ append_assoc (items_of u) (items_of_all us) y in
-      let first = unique t u (items_of_all ts ++ x) (items_of_all us ++ y) (and_parts (is_spelled t) (are_spelled ts) p).0 (and_parts (is_spelled u) (are_spelled us) q).0 apart in
+      let apart : tree_items t ++ (trees_items ts ++ x) ≡ tree_items u ++ (trees_items us ++ y) = sym (append_assoc (tree_items t) (trees_items ts) x) ∙ e
+      ∙ append_assoc (tree_items u) (trees_items us) y in
+      let first = unique t u (trees_items ts ++ x) (trees_items us ++ y) (and_parts (is_spelled t) (are_spelled ts) p).0 (and_parts (is_spelled u) (are_spelled us) q).0 apart in
       let lens : trees_len ts ≡ trees_len us = omega (arith, n) in
       let rest = unique-all ts us x y lens (and_parts (is_spelled t) (are_spelled ts) p).1 (and_parts (is_spelled u) (are_spelled us) q).1 first.1 in
       ((λ i. first.0 i ▹ rest.0 i), rest.1)
@@ -139,13 +140,14 @@ no-byte items i n done rest begins lt none bytes y (len, is) =
 
 -- where fewer terms are read than stand at the front, a term is next
 next-term : (ts us : Trees) (x y : List Item) → are_spelled ts ≡ true → are_spelled us ≡ true → trees_len ts < trees_len us
-    → items_of_all ts ++ x ≡ items_of_all us ++ y → (u : Tree) × (rest : List Item) × BeginsWith x u rest
+    → trees_items ts ++ x ≡ trees_items us ++ y → (u : Tree) × (rest : List Item) × BeginsWith x u rest
 next-term end end x y p q lt e = absurd (omega (arith, lt))
-next-term end (u ▹ us) x y p q lt e = (u, items_of_all us ++ y, ((and_parts (is_spelled u) (are_spelled us) q).0, e ∙ append_assoc (items_of u) (items_of_all us) y))
+next-term end (u ▹ us) x y p q lt e = (u, trees_items us ++ y, ((and_parts (is_spelled u) (are_spelled us) q).0, e ∙ append_assoc (tree_items u) (trees_items us) y))
 next-term (t ▹ ts) end x y p q lt e = absurd (omega (arith, lt))
 next-term (t ▹ ts) (u ▹ us) x y p q lt e =
-    let apart : items_of t ++ (items_of_all ts ++ x) ≡ items_of u ++ (items_of_all us ++ y) = sym (append_assoc (items_of t) (items_of_all ts) x) ∙ e ∙ append_assoc (items_of u) (items_of_all us) y in
-    let first = unique t u (items_of_all ts ++ x) (items_of_all us ++ y) (and_parts (is_spelled t) (are_spelled ts) p).0 (and_parts (is_spelled u) (are_spelled us) q).0 apart in
+    let apart : tree_items t ++ (trees_items ts ++ x) ≡ tree_items u ++ (trees_items us ++ y) =
+    sym (append_assoc (tree_items t) (trees_items ts) x) ∙ e ∙ append_assoc (tree_items u) (trees_items us) y in
+    let first = unique t u (trees_items ts ++ x) (trees_items us ++ y) (and_parts (is_spelled t) (are_spelled ts) p).0 (and_parts (is_spelled u) (are_spelled us) q).0 apart in
     next-term ts us x y (and_parts (is_spelled t) (are_spelled ts) p).1 (and_parts (is_spelled u) (are_spelled us) q).1 (omega (arith, lt)) first.1
 
 pub no-part : (items : List Item) (i n : ℕ) (done : Trees) (rest : List Item) → BeginAll items i done rest → i < n → HasNoTerm rest → HasNoParts items n
@@ -158,9 +160,9 @@ after-head : (rest : List Item) (head : Tree) (after : List Item) → BeginsWith
     → (tail : Tree) × BeginsWith after tail y
 unfolding kind kind_of_item kind_of_first
 after-head rest head after begins (Cons h t) y (spelled, is) =
-    let tails : rest ≡ (items_of h ++ items_of t) ++ y = cc in
-    let apart : items_of head ++ after ≡ items_of h ++ (items_of t ++ y) = sym begins.1 ∙ tails ∙ append_assoc (items_of h) (items_of t) y in
-    let first = unique head h after (items_of t ++ y) begins.0 (and_parts (is_spelled h) (is_spelled t) spelled).0 apart in
+    let tails : rest ≡ (tree_items h ++ tree_items t) ++ y = cc in
+    let apart : tree_items head ++ after ≡ tree_items h ++ (tree_items t ++ y) = sym begins.1 ∙ tails ∙ append_assoc (tree_items h) (tree_items t) y in
+    let first = unique head h after (tree_items t ++ y) begins.0 (and_parts (is_spelled h) (is_spelled t) spelled).0 apart in
     (t, ((and_parts (is_spelled h) (is_spelled t) spelled).1, first.1))
 after-head rest head after begins t y (spelled, is) = apart 5 (kind t) refl (ap kind_of_first is ∙ first-kind t y spelled)
 
@@ -170,13 +172,13 @@ no-tail rest head after begins none t y it = let found = after-head rest head af
 -- a whole term has no items after it
 pub no-more : (items : List Item) (t u : Tree) (rest : List Item) → BeginsWith items t rest → SpellsTree items u → false ≡ (length rest == 0) → ⊥
 no-more items t u rest begins spells some =
-    let gone = (unique t u rest [] begins.0 spells.0 (sym begins.1 ∙ spells.1 ∙ sym (append-nil (items_of u)))).1 in
+    let gone = (unique t u rest [] begins.0 spells.0 (sym begins.1 ∙ spells.1 ∙ sym (append-nil (tree_items u)))).1 in
     let Some : List Item → Type 0 = λ xs. false ≡ (length xs == 0) in
     absurd (false≢true (subst Some gone some))
 
 -- items at whose front no term stands are no whole term
 pub no-front : (items : List Item) → HasNoTerm items → Explains items Items
-no-front items none t spells = none t [] (spells.0, spells.1 ∙ sym (append-nil (items_of t)))
+no-front items none t spells = none t [] (spells.0, spells.1 ∙ sym (append-nil (tree_items t)))
 
 are_spelled-append : (ts : Trees) (t : Tree) → are_spelled ts ≡ true → is_spelled t ≡ true → are_spelled (trees_append ts (t ▹ end)) ≡ true
 are_spelled-append end t p q = and_from (is_spelled t) true q refl
@@ -187,12 +189,12 @@ trees_len-append : (ts : Trees) (t : Tree) → trees_len (trees_append ts (t ▹
 trees_len-append end t = refl
 trees_len-append (u ▹ us) t = omega (arith, trees_len-append us t)
 
-items_of_all-append : (ts : Trees) (t : Tree) (y : List Item) → items_of_all (trees_append ts (t ▹ end)) ++ y ≡ items_of_all ts ++ (items_of t ++ y)
-items_of_all-append end t y = ap (λ xs. xs ++ y) (append-nil (items_of t))
-items_of_all-append (u ▹ us) t y =
-    append_assoc (items_of u) (items_of_all (trees_append us (t ▹ end))) y
-    ∙ ap (λ xs. items_of u ++ xs) (items_of_all-append us t y)
-    ∙ sym (append_assoc (items_of u) (items_of_all us) (items_of t ++ y))
+trees_items-append : (ts : Trees) (t : Tree) (y : List Item) → trees_items (trees_append ts (t ▹ end)) ++ y ≡ trees_items ts ++ (tree_items t ++ y)
+trees_items-append end t y = ap (λ xs. xs ++ y) (append-nil (tree_items t))
+trees_items-append (u ▹ us) t y =
+    append_assoc (tree_items u) (trees_items (trees_append us (t ▹ end))) y
+    ∙ ap (λ xs. tree_items u ++ xs) (trees_items-append us t y)
+    ∙ sym (append_assoc (tree_items u) (trees_items us) (tree_items t ++ y))
 
 -- one more term is read
 pub begin-more : (items : List Item) (i : ℕ) (ts : Trees) (rest : List Item) (t : Tree) (after : List Item)
@@ -200,13 +202,13 @@ pub begin-more : (items : List Item) (i : ℕ) (ts : Trees) (rest : List Item) (
 begin-more items i ts rest t after begin begins = (
   are_spelled-append ts t begin.0 begins.0,
   omega (arith, trees_len-append ts t, begin.1),
-  begin.2 ∙ ap (λ xs. items_of_all ts ++ xs) begins.1 ∙ sym (items_of_all-append ts t after),
+  begin.2 ∙ ap (λ xs. trees_items ts ++ xs) begins.1 ∙ sym (trees_items-append ts t after),
 )
 
 -- one more term is read, and kept if all were
 pub reads-more : (items : List Item) (i : ℕ) (values new : Option (List code.Tree)) (rest : List Item) (value : Option code.Tree) (after : List Item) → ReadsAll items i values rest
     → ReadsTerm rest value after
-    → ((ts : Trees) (t : Tree) → AreOf values ts → IsOf value t → AreOf new (trees_append ts (t ▹ end))) → ReadsAll items (i + 1) new after
+    → ((ts : Trees) (t : Tree) → AreOf values ts → IsValueOf value t → AreOf new (trees_append ts (t ▹ end))) → ReadsAll items (i + 1) new after
 reads-more items i values new rest value after all one kept = record {
   terms = trees_append all.terms (one.term ▹ end);
   begin = begin-more items i all.terms rest one.term after all.begin one.begins;
@@ -231,7 +233,7 @@ reads-byte items i kept new rest b after all is more =
 -- a list place is read, and built if its parts were
 pub reads-cons : (items rest : List Item) (head : Option code.Tree) (mid : List Item) (tail new : Option code.Tree) (after : List Item) → items ≡ item.Cons ∷ rest → ReadsTerm rest head mid
     → ReadsTerm mid tail after
-    → ((h t : Tree) → IsOf head h → IsOf tail t → IsOf new (Cons h t)) → ReadsTerm items new after
+    → ((h t : Tree) → IsValueOf head h → IsValueOf tail t → IsValueOf new (Cons h t)) → ReadsTerm items new after
 reads-cons items rest head mid tail new after is first second made =
     let a = first.term in
     let b = second.term in
@@ -239,14 +241,14 @@ reads-cons items rest head mid tail new after is first second made =
       term = Cons a b;
       begins = (
         and_from (is_spelled a) (is_spelled b) first.begins.0 second.begins.0,
-        is ∙ ap (λ l. item.Cons ∷ l) (first.begins.1 ∙ ap (λ l. items_of a ++ l) second.begins.1 ∙ sym (append_assoc (items_of a) (items_of b) after)),
+        is ∙ ap (λ l. item.Cons ∷ l) (first.begins.1 ∙ ap (λ l. tree_items a ++ l) second.begins.1 ∙ sym (append_assoc (tree_items a) (tree_items b) after)),
       );
       built = made a b first.built second.built;
     }
 
 -- a binary is read, and built if its bytes were kept
 pub reads-bin : (items rest : List Item) (n : ℕ) (kept : Option (List ℕ)) (new : Option code.Tree) (after : List Item) → items ≡ item.Bin n ∷ rest → n ≤ HEAP_BINARY → ReadsBytes rest n kept after
-    → ((bs : List ℕ) → IfSome kept (λ xs. xs ≡ bs) → IsOf new (Bin bs)) → ReadsTerm items new after
+    → ((bs : List ℕ) → IfSome kept (λ xs. xs ≡ bs) → IsValueOf new (Bin bs)) → ReadsTerm items new after
 reads-bin items rest n kept new after is few all made =
     let len : length all.bytes ≡ n = all.begin.0 in
     let short : nat_le (length all.bytes) HEAP_BINARY ≡ true = grind (arith, nat_tests, len, few) in
@@ -263,8 +265,8 @@ trees_of-push (y ∷ ys) x = ap (λ us. view y ▹ us) (trees_of-push ys x)
 
 pub are-more : (values : Option (List code.Tree)) (value : Option code.Tree) (xs : List code.Tree) (x : code.Tree) (new : List code.Tree) (ts : Trees) (t : Tree) → values ≡ Some xs → value ≡ Some x
     → new ≡ xs ++ x ∷ []
-    → AreOf values ts → IsOf value t → trees_of (map view new) ≡ trees_append ts (t ▹ end)
+    → AreOf values ts → IsValueOf value t → trees_of (map view new) ≡ trees_append ts (t ▹ end)
 are-more values value xs x new ts t is one pushed all it =
     let many : trees_of (map view xs) ≡ ts = subst (λ v. AreOf v ts) is all in
-    let last : view x ≡ t = subst (λ v. IsOf v t) one it in
+    let last : view x ≡ t = subst (λ v. IsValueOf v t) one it in
     ap (λ l. trees_of (map view l)) pushed ∙ trees_of-push xs x ∙ ap (λ us. trees_append us (view x ▹ end)) many ∙ ap (λ u. trees_append ts (u ▹ end)) last

@@ -32,24 +32,24 @@ abbrev mutual
 
 abbrev mutual
   -- The items of a term, a constructor before its parts.
-  pub items_of : Tree → List Item
-  items_of (Int i) = item.Int i ∷ []
-  items_of (Atom k) = item.Atom k ∷ []
-  items_of (Pid n) = item.Pid n ∷ []
-  items_of Nil = item.Nil ∷ []
-  items_of (Cons h t) = item.Cons ∷ (items_of h ++ items_of t)
-  items_of (Tuple ts) = item.Tuple (trees_len ts) ∷ items_of_all ts
-  items_of (Bin bytes) = item.Bin (length bytes) ∷ map (λ b. item.Byte b) bytes
-  items_of _ = []
+  pub tree_items : Tree → List Item
+  tree_items (Int i) = item.Int i ∷ []
+  tree_items (Atom k) = item.Atom k ∷ []
+  tree_items (Pid n) = item.Pid n ∷ []
+  tree_items Nil = item.Nil ∷ []
+  tree_items (Cons h t) = item.Cons ∷ (tree_items h ++ tree_items t)
+  tree_items (Tuple ts) = item.Tuple (trees_len ts) ∷ trees_items ts
+  tree_items (Bin bytes) = item.Bin (length bytes) ∷ map (λ b. item.Byte b) bytes
+  tree_items _ = []
 
   -- The items of terms, one after the other.
-  pub items_of_all : Trees → List Item
-  items_of_all end = []
-  items_of_all (t ▹ ts) = items_of t ++ items_of_all ts
+  pub trees_items : Trees → List Item
+  trees_items end = []
+  trees_items (t ▹ ts) = tree_items t ++ trees_items ts
 
 -- The items are those of the tree, which is of a kind that they spell.
 abbrev pub SpellsTree : List Item → Tree → Type 0
-SpellsTree items t = IsTrue (is_spelled t) × (items ≡ items_of t)
+SpellsTree items t = IsTrue (is_spelled t) × (items ≡ tree_items t)
 
 -- Only items that are not one whole term are a fault of items, and memory is wanting only for one.
 abbrev pub Explains : List Item → TreeFault → Type 0
@@ -58,7 +58,7 @@ Explains items Items = (t : Tree) → SpellsTree items t → ⊥
 
 -- What is left after a term at the front.
 abbrev pub BeginsWith : List Item → Tree → List Item → Type 0
-BeginsWith items t rest = IsTrue (is_spelled t) × (items ≡ items_of t ++ rest)
+BeginsWith items t rest = IsTrue (is_spelled t) × (items ≡ tree_items t ++ rest)
 
 -- No term stands at the front.
 abbrev pub HasNoTerm : List Item → Type 0
@@ -66,7 +66,7 @@ HasNoTerm items = (t : Tree) (rest : List Item) → BeginsWith items t rest → 
 
 -- What is left after n terms at the front.
 abbrev pub BeginAll : List Item → ℕ → Trees → List Item → Type 0
-BeginAll items n ts rest = IsTrue (are_spelled ts) × (trees_len ts ≡ n) × (items ≡ items_of_all ts ++ rest)
+BeginAll items n ts rest = IsTrue (are_spelled ts) × (trees_len ts ≡ n) × (items ≡ trees_items ts ++ rest)
 
 -- No n terms stand at the front.
 abbrev pub HasNoParts : List Item → ℕ → Type 0
@@ -81,9 +81,9 @@ abbrev pub HasNoBytes : List Item → ℕ → Type 0
 HasNoBytes items n = (bytes : List ℕ) (rest : List Item) → BeginBytes items n bytes rest → ⊥
 
 -- A value is of a tree, if it was built.
-abbrev pub IsOf : Option code.Tree → Tree → Type 0
-IsOf None t = ⊤
-IsOf (Some value) t = view value ≡ t
+abbrev pub IsValueOf : Option code.Tree → Tree → Type 0
+IsValueOf None t = ⊤
+IsValueOf (Some value) t = view value ≡ t
 
 -- Values are of trees, if they were built.
 abbrev pub AreOf : Option (List code.Tree) → Trees → Type 0
@@ -94,7 +94,7 @@ AreOf (Some values) ts = trees_of (map view values) ≡ ts
 pub record ReadsTerm (items : List Item) (value : Option code.Tree) (rest : List Item) : Type 0 where
   pub term : Tree
   pub begins : BeginsWith items term rest
-  pub built : IsOf value term
+  pub built : IsValueOf value term
 
 -- The same of n terms.
 pub record ReadsAll (items : List Item) (n : ℕ) (values : Option (List code.Tree)) (rest : List Item) : Type 0 where

@@ -7,7 +7,7 @@ ghost use Rattle.plain_term.specs.Tree.Trees.{end, ◌▹◌};
 ghost use Rattle.plain_term.specs.Tree.Tree.{Cons as plain_cons, Tuple as plain_tuple, Bin as plain_bin};
 ghost use Rattle.plain_term.specs.declared.item.Item.{Item};
 ghost use Rattle.plain_term.specs.declared.item.Item.TheVariants.{Byte};
-ghost use Rattle.plain_term.specs.Written.{AreOf, Explains, HasNoBytes, HasNoParts, HasNoTerm, IsOf, ReadsTerm, ReadsAll, ReadsBytes, SpellsTree};
+ghost use Rattle.plain_term.specs.Written.{AreOf, Explains, HasNoBytes, HasNoParts, HasNoTerm, IsValueOf, ReadsTerm, ReadsAll, ReadsBytes, SpellsTree};
 
 use crate::item::Item;
 use crate::tree::{Tree, TreeFault};
@@ -136,35 +136,35 @@ fn first_byte(items: &[Item]) -> Option<(u8, &[Item])>
 
 // A term in a box, where it is built and memory is left for it.
 fn boxed(alloc: Global, tree: Option<Tree>) -> Option<Boxed<Tree>>
-    ensures { (t : plain.Tree) → IsOf tree t → IsOf result t }
+    ensures { (t : plain.Tree) → IsValueOf tree t → IsValueOf result t }
 {
     Boxed::new(alloc, tree?).ok()
 }
 
 // A list place of two terms that are built.
 fn cons(head: Option<Boxed<Tree>>, tail: Option<Boxed<Tree>>) -> Option<Tree>
-    ensures { (h t : plain.Tree) → IsOf head h → IsOf tail t → IsOf result (plain_cons h t) }
+    ensures { (h t : plain.Tree) → IsValueOf head h → IsValueOf tail t → IsValueOf result (plain_cons h t) }
 {
     Some(Tree::Cons(head?, tail?))
 }
 
 // A tuple of parts that are built.
 fn tuple(parts: Option<Items<Tree>>) -> Option<Tree>
-    ensures { (ts : Trees) → AreOf parts ts → IsOf result (plain_tuple ts) }
+    ensures { (ts : Trees) → AreOf parts ts → IsValueOf result (plain_tuple ts) }
 {
     Some(Tree::Tuple(parts?))
 }
 
 // A binary of bytes that are kept.
 fn binary(bytes: Option<Items<u8>>) -> Option<Tree>
-    ensures { (bs : List ℕ) → IfSome bytes (λ xs. xs ≡ bs) → IsOf result (plain_bin bs) }
+    ensures { (bs : List ℕ) → IfSome bytes (λ xs. xs ≡ bs) → IsValueOf result (plain_bin bs) }
 {
     Some(Tree::Bin(bytes?))
 }
 
 // One part more, where all are built and memory is left for it.
 fn with_part(parts: Option<Items<Tree>>, part: Option<Tree>) -> Option<Items<Tree>>
-    ensures { (ts : Trees) (t : plain.Tree) → AreOf parts ts → IsOf part t → AreOf result (trees_append ts (t ▹ end)) }
+    ensures { (ts : Trees) (t : plain.Tree) → AreOf parts ts → IsValueOf part t → AreOf result (trees_append ts (t ▹ end)) }
 {
     let mut parts = parts?;
     parts.push(part?).ok()?;

@@ -3,7 +3,7 @@ use Rattle.std.specs.Prelude.{ℕ, ◌<◌, List, [], ◌∷◌, ◌++◌, lengt
 use Rattle.atom_names.specs.Names.{most_names, index_of, with_name}
 use Rattle.plain_term.specs.declared.item.Item.{Item}
 use Rattle.plain_term.specs.declared.item.Item.TheVariants as item
-use Rattle.script_grammar.specs.Written.{Term, Terms, TermPairs, terms_len, pairs_len, joined, Kind, OperandOf, Operands, kinds_of, sys_kinds_of, Written}
+use Rattle.script_grammar.specs.Written.{Term, Terms, TermPairs, terms_len, term_pairs_len, joined, Kind, OperandOf, Operands, kinds_of, sys_kinds_of, Written}
 use Rattle.script_grammar.specs.declared.limits.TheConstants.{REGISTERS, NUMBERS}
 use Rattle.script_grammar.specs.declared.word.Word.{Word}
 use Rattle.script_grammar.specs.declared.word.SysWord.{SysWord}
@@ -92,7 +92,7 @@ abbrev mutual
   items_of names (Listed ts) = listed_items names ts (item.Nil ∷ [])
   items_of names (Barred ts t) = listed_items names ts (items_of names t)
   items_of names (Tuple ts) = item.Tuple (terms_len ts) ∷ all_items names ts
-  items_of names (Map ps) = item.Map (pairs_len ps) ∷ pairs_items names ps
+  items_of names (Map ps) = item.Map (term_pairs_len ps) ∷ pairs_items names ps
   items_of names (Bin bytes) = item.Bin (length bytes) ∷ map item.Byte bytes
 
   -- The prefix form of a list with these heads, before that of its tail.

@@ -14,8 +14,8 @@ pub record IsRead (names : List (List ℕ)) (line : List ℕ) (p : Parsed) : Typ
   pub few : length p.names ≤ most_names
 
 -- The line says no built command.
-abbrev pub IsOutside : List ℕ → Type 0
-IsOutside line = (w : Written) → Says line w → IsBuilt w → ⊥
+abbrev pub SaysNoCommand : List ℕ → Type 0
+SaysNoCommand line = (w : Written) → Says line w → IsBuilt w → ⊥
 
 -- The line says a built command that would bring too many names.
 pub record BringsTooMany (names : List (List ℕ)) (line : List ℕ) : Type 0 where
@@ -33,5 +33,5 @@ pub data Reading : Type 0 where
 -- The line is read so, where these names are known before it.
 abbrev pub IsReadAs : List (List ℕ) → List ℕ → Reading → Type 0
 IsReadAs names line (Means p) = IsRead names line p
-IsReadAs names line NoSyntax = IsOutside line
+IsReadAs names line NoSyntax = SaysNoCommand line
 IsReadAs names line NoAtoms = BringsTooMany names line

@@ -37,9 +37,9 @@ terms_len end = 0
 terms_len (t ▹ ts) = terms_len ts + 1
 
 -- How many pairs a list has.
-abbrev pub pairs_len : TermPairs → ℕ
-pairs_len stop = 0
-pairs_len (pair k v ps) = pairs_len ps + 1
+abbrev pub term_pairs_len : TermPairs → ℕ
+term_pairs_len stop = 0
+term_pairs_len (pair k v ps) = term_pairs_len ps + 1
 
 -- One list of terms after the other.
 abbrev pub joined : Terms → Terms → Terms

@@ -3,7 +3,7 @@ use Rattle.std.specs.Prelude.{ℕ, ◌+◌, ◌<◌, ◌≤◌, nat_le, Bool, tr
 use Rattle.atom_names.specs.Names.{most_names, with_name}
 use Rattle.plain_term.specs.declared.item.Item.{Item}
 use Rattle.plain_term.specs.declared.item.Item.TheVariants as item
-use Rattle.script_grammar.specs.Written.{Term, Terms, TermPairs, terms_len, pairs_len}
+use Rattle.script_grammar.specs.Written.{Term, Terms, TermPairs, terms_len, term_pairs_len}
 use Rattle.script_grammar.specs.Written.Term.{Int, Atom, Pid, Held, Listed, Barred, Tuple, Map, Bin}
 use Rattle.script_grammar.specs.Written.Terms.{end, ◌▹◌}
 use Rattle.script_grammar.specs.Written.TermPairs.{stop, pair}
@@ -23,7 +23,7 @@ abbrev pub out : List (List ℕ) → Bool → List Item → Out
 out names full items = record { names = names; full = full; items = items }
 
 -- All names stay in their places.
-pub record Keeps (old new : List (List ℕ)) : Type 0 where
+pub record NamesStay (old new : List (List ℕ)) : Type 0 where
   pub longer : length old ≤ length new
   pub same : (n : ℕ) → n ≤ length old → take n new ≡ take n old
 
@@ -36,8 +36,8 @@ abbrev pub IsSame : (old new : Output) → Type 0
 IsSame old new = (new.names.ghost_name ≡ old.names.ghost_name) × (new.code.ghost_name ≡ old.code.ghost_name)
 
 -- All names stay in their places, and items only come.
-abbrev pub Grows : (old new : Output) → Type 0
-Grows old new = IsSame old new × Keeps old.names.now new.names.now × (length old.code.now ≤ length new.code.now)
+abbrev pub OutputGrows : (old new : Output) → Type 0
+OutputGrows old new = IsSame old new × NamesStay old.names.now new.names.now × (length old.code.now ≤ length new.code.now)
 
 -- Something of the line was read, and its bytes make up for the items that came, but for so many.
 abbrev pub Spends : (spare : ℕ) (line rest : List ℕ) (old new : Output) → Type 0
@@ -87,8 +87,8 @@ put_atom o a = if nat_le (length (with_name o.names a)) most_names
     else record { names = o.names; full = true; items = o.items ++ item.Atom 0 ∷ [] }
 
 -- The number of a name that is put in: none but 0 where it is new and finds no place.
-abbrev pub named : Out → List ℕ → ℕ
-named o a = if nat_le (length (with_name o.names a)) most_names then number_of (with_name o.names a) a else 0
+abbrev pub entered_number : Out → List ℕ → ℕ
+entered_number o a = if nat_le (length (with_name o.names a)) most_names then number_of (with_name o.names a) a else 0
 
 -- Bytes go last one by one.
 abbrev pub put_bytes : List ℕ → Out → Out
@@ -108,16 +108,16 @@ abbrev mutual
   put (Atom a) o = put_atom o a
   put (Pid n) o = push o (item.Pid n)
   put (Held r) o = push o (item.Held r)
-  put (Listed ts) o = ended form.List (length o.items) (terms_len ts) (put_all form.List ts (begun form.List o))
-  put (Barred ts t) o = put t (put_all form.List ts (begun form.List o))
-  put (Tuple ts) o = ended form.Tuple (length o.items) (terms_len ts) (put_all form.Tuple ts (begun form.Tuple o))
-  put (Map qs) o = ended form.Map (length o.items) (pairs_len qs) (put_pairs qs (begun form.Map o))
+  put (Listed ts) o = ended form.List (length o.items) (terms_len ts) (put_terms form.List ts (begun form.List o))
+  put (Barred ts t) o = put t (put_terms form.List ts (begun form.List o))
+  put (Tuple ts) o = ended form.Tuple (length o.items) (terms_len ts) (put_terms form.Tuple ts (begun form.Tuple o))
+  put (Map qs) o = ended form.Map (length o.items) (term_pairs_len qs) (put_pairs qs (begun form.Map o))
   put (Bin bytes) o = ended form.Binary (length o.items) (length bytes) (put_bytes bytes (begun form.Binary o))
 
   -- The terms of a form go last.
-  pub put_all : Form → Terms → Out → Out
-  put_all f end o = o
-  put_all f (t ▹ ts) o = put_all f ts (put t (led f o))
+  pub put_terms : Form → Terms → Out → Out
+  put_terms f end o = o
+  put_terms f (t ▹ ts) o = put_terms f ts (put t (led f o))
 
   -- The pairs of a map go last, each key before its value.
   pub put_pairs : TermPairs → Out → Out

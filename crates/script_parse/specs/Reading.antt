@@ -29,7 +29,7 @@ use Rattle.script_grammar.specs.Written.Term.{Int, Atom, Pid, Held}
 use Rattle.script_parse.specs.declared.forms.Form.{Form}
 use Rattle.script_parse.specs.declared.forms.Form.TheVariants as form
 use Rattle.script_parse.specs.Forms.{all_forms, opening, closing, has_tail}
-use Rattle.script_parse.specs.Output.{Out, push, begun, led, ended, put, put_name, named}
+use Rattle.script_parse.specs.Output.{Out, push, begun, led, ended, put, put_name, entered_number}
 
 -- What was found, and the rest after it, go on.
 abbrev pub then_read : {A B : Type 0} → Option A → (A → Option B) → Option B
@@ -75,16 +75,16 @@ number_at limit (b ∷ bytes) = if nat_eq b 48 then Some (0, bytes) else
     (if is_digit b then digits_at limit (b - 48) bytes else None)
 
 -- A number taken with its sign.
-abbrev pub signed : Bool → ℕ × List ℕ → Option (ℤ × List ℕ)
-signed false r = Some (pos (r.0), r.1)
-signed true r = cond (nat_eq (r.0) 0) None (Some (negsuc (r.0 - 1), r.1))
+abbrev pub with_sign : Bool → ℕ × List ℕ → Option (ℤ × List ℕ)
+with_sign false r = Some (pos (r.0), r.1)
+with_sign true r = cond (nat_eq (r.0) 0) None (Some (negsuc (r.0 - 1), r.1))
 
 -- An integer at the front.
 abbrev pub integer_at : List ℕ → Option (ℤ × List ℕ)
 integer_at [] = None
 integer_at (b ∷ bytes) = if nat_eq b 45
-    then then_read (number_at WIDEST bytes) (signed true)
-    else then_read (number_at WIDEST (b ∷ bytes)) (signed false)
+    then then_read (number_at WIDEST bytes) (with_sign true)
+    else then_read (number_at WIDEST (b ∷ bytes)) (with_sign false)
 
 -- The end of a pid, whose number is not 0.
 abbrev pub pid_end : ℕ × List ℕ → Option (ℕ × List ℕ)
@@ -173,9 +173,9 @@ abbrev pub after_word : List ℕ → List ℕ
 after_word line = drop (prefix_len is_solid line) line
 
 -- Nothing but blanks is left.
-abbrev pub is_end : List ℕ → Bool
-is_end [] = true
-is_end (b ∷ bytes) = is_blank b && is_end bytes
+abbrev pub are_blanks : List ℕ → Bool
+are_blanks [] = true
+are_blanks (b ∷ bytes) = is_blank b && are_blanks bytes
 
 -- A blank, and then this.
 abbrev pub spaced_at : {A : Type 0} → (List ℕ → Option (A × List ℕ)) → List ℕ → Option (A × List ℕ)
@@ -203,7 +203,7 @@ plain_run front line o = then_read (spaced_at front line) (λ r. Some (r.0, (r.1
 
 -- A name, by its number.
 abbrev pub title_run : List ℕ → Out → Option (ℕ × (List ℕ × Out))
-title_run line o = then_read (spaced_at title_at line) (λ r. Some (named o (r.0), (r.1, put_name o (r.0))))
+title_run line o = then_read (spaced_at title_at line) (λ r. Some (entered_number o (r.0), (r.1, put_name o (r.0))))
 
 -- A register after `$`.
 abbrev pub held_at : List ℕ → Option (ℕ × List ℕ)
@@ -231,30 +231,30 @@ operand_at _ line o = None
 
 -- The operands of a row, and nothing after them.
 abbrev pub operands_at : (ks : List Kind) → List ℕ → Out → Option (Arguments ks × Out)
-operands_at [] line o = cond (is_end line) (Some (tt, o)) None
+operands_at [] line o = cond (are_blanks line) (Some (tt, o)) None
 operands_at (k ∷ ks) line o = then_read (operand_at k line o)
     (λ r. then_read (operands_at ks (r.1.0) (r.1.1)) (λ s. Some ((r.0, s.0), s.1)))
 
 -- A row of a table of verbs: the kinds of its operands, and what comes of their arguments.
-pub record Row (V : Type 0) : Type 0 where
+pub record VerbRow (V : Type 0) : Type 0 where
   pub kinds : List Kind
   pub made : Arguments kinds → V
 
 -- The two as one.
-abbrev pub row : {V : Type 0} (kinds : List Kind) → (Arguments kinds → V) → Row V
+abbrev pub row : {V : Type 0} (kinds : List Kind) → (Arguments kinds → V) → VerbRow V
 row kinds made = record { kinds = kinds; made = made }
 
 -- What comes of the operands of a row, with nothing after them.
-unfoldable pub row_run : {V : Type 0} → Row V → List ℕ → Out → Option (V × Out)
+unfoldable pub row_run : {V : Type 0} → VerbRow V → List ℕ → Out → Option (V × Out)
 row_run r line o = then_read (operands_at (r.kinds) line o) (λ x. Some (r.made (x.0), x.1))
 
 -- The row of a verb of a process. All clauses say the same; the first keeps a row folded while its verb is not known.
-abbrev pub row_of : Word → Row Verb
+abbrev pub row_of : Word → VerbRow Verb
 row_of word.Set = row (kinds_of word.Set) (verb_with word.Set)
 row_of w = row (kinds_of w) (verb_with w)
 
 -- The row of a verb of the system, in the same way.
-abbrev pub sys_row_of : SysWord → Row SysVerb
+abbrev pub sys_row_of : SysWord → VerbRow SysVerb
 sys_row_of sys.Spawn = row (sys_kinds_of sys.Spawn) (sys_verb_with sys.Spawn)
 sys_row_of w = row (sys_kinds_of w) (sys_verb_with w)
 
@@ -263,18 +263,18 @@ abbrev pub verb_run : Word → List ℕ → Out → Option (Verb × Out)
 verb_run w line o = cond (is_built w) (row_run (row_of w) line o) None
 
 -- The verbs of a process that take a part of a term.
-abbrev pub takes_part : Word → Bool
-takes_part word.Hd = true
-takes_part word.Tl = true
-takes_part word.Elem = true
-takes_part word.MapGet = true
-takes_part word.Part = true
-takes_part word.Env = true
-takes_part _ = false
+abbrev pub takes_choice : Word → Bool
+takes_choice word.Hd = true
+takes_choice word.Tl = true
+takes_choice word.Elem = true
+takes_choice word.MapGet = true
+takes_choice word.Part = true
+takes_choice word.Env = true
+takes_choice _ = false
 
 -- One of these with the operands after it.
 abbrev pub choice_run : Word → List ℕ → Out → Option (Verb × Out)
-choice_run w line o = cond (takes_part w) (row_run (row_of w) line o) None
+choice_run w line o = cond (takes_choice w) (row_run (row_of w) line o) None
 
 -- The built verbs of a process that take several operands, none of them a term or a name.
 abbrev pub takes_several : Word → Bool
@@ -285,7 +285,7 @@ takes_several word.MkList = true
 takes_several word.Send = true
 takes_several word.Eq = true
 takes_several word.Cmp = true
-takes_several w = takes_part w
+takes_several w = takes_choice w
 
 -- One of these with the operands after it.
 abbrev pub several_run : Word → List ℕ → Out → Option (Verb × Out)

@@ -2,7 +2,7 @@
 ghost use Rattle.std.specs.Prelude.{◌≡◌, ℕ, ◌≢◌, ◌+◌, List, [], ◌∷◌, ◌++◌, length, MatchOption, ◌≤◌, ◌<◌};
 ghost use Rattle.std.specs.List.{prefix_len};
 ghost use Rattle.script_grammar.specs.Grammar.{is_blank};
-ghost use Rattle.script_parse.specs.Reading.{after_blanks, gap_at, byte_at, text_at, is_end, is_solid};
+ghost use Rattle.script_parse.specs.Reading.{after_blanks, gap_at, byte_at, text_at, are_blanks, is_solid};
 
 /// A space or a tab.
 pub(crate) fn blank(b: u8) -> bool
@@ -68,7 +68,7 @@ pub(crate) fn after_text<'a>(line: &'a [u8], text: &[u8]) -> Option<&'a [u8]>
 
 /// Nothing but blanks is left.
 pub(crate) fn ends(line: &[u8]) -> bool
-    ensures { result ≡ is_end line.now }
+    ensures { result ≡ are_blanks line.now }
 {
     for b in line {
         if !blank(*b) {

@@ -22,9 +22,9 @@ ghost use Rattle.std.specs.Prelude.{
 ghost use Rattle.script_grammar.specs.Written.{Written};
 ghost use Rattle.script_grammar.specs.Grammar.{SaysOne, IsBuiltCommand};
 ghost use Rattle.script_grammar.specs.Names.{IsInBounds};
-ghost use Rattle.script_grammar.specs.ReadAs.{IsOutside, BringsTooMany};
+ghost use Rattle.script_grammar.specs.ReadAs.{SaysNoCommand, BringsTooMany};
 ghost use Rattle.script_parse.specs.declared.buffer.TheConstants.{MOST_ITEMS};
-ghost use Rattle.script_parse.specs.Output.{out, given, Grows, Keeps};
+ghost use Rattle.script_parse.specs.Output.{out, given, OutputGrows, NamesStay};
 ghost use Rattle.script_parse.specs.Parses.{ReadsLine};
 ghost use Rattle.script_parse.specs.Reading.{is_silent, command_run, line_run};
 
@@ -50,7 +50,7 @@ fn silent(line: &[u8]) -> bool
 fn command(line: &[u8], out: &mut Output) -> Option<Command>
     requires { length out.old.code.now + length line.now ≤ MOST_ITEMS }
     ensures read { MatchOption result (command_run line.now (given out.old) ≡ None) (λ c. command_run line.now (given out.old) ≡ Some (c, given out.new)) }
-    ensures grown { Grows out.old out.new }
+    ensures grown { OutputGrows out.old out.new }
 {
     if let Some((n, rest)) = number(line, GREATEST) {
         let verb = process_verb(rest, out)?;
@@ -65,7 +65,7 @@ fn command(line: &[u8], out: &mut Output) -> Option<Command>
 fn whole(line: &[u8], out: &mut Output) -> Option<Command>
     requires { length out.old.code.now + length line.now ≤ MOST_ITEMS }
     ensures read { MatchOption result (line_run line.now (given out.old) ≡ None) (λ c. line_run line.now (given out.old) ≡ Some (c, given out.new)) }
-    ensures grown { Grows out.old out.new }
+    ensures grown { OutputGrows out.old out.new }
 {
     let start = skip(line);
     if silent(start) {
@@ -79,7 +79,7 @@ fn read(line: &[u8], names: &mut AtomNames, code: &mut Code) -> Option<(Command,
     requires { length code.old + length line.now ≤ MOST_ITEMS }
     ensures read { MatchOption result (line_run line.now (out names.old false code.old) ≡ None)
         (λ r. line_run line.now (out names.old false code.old) ≡ Some (r.0, out names.new r.1 code.new)) }
-    ensures kept { Keeps names.old names.new }
+    ensures kept { NamesStay names.old names.new }
 {
     let mut out = Output {
         names,
@@ -101,7 +101,7 @@ pub fn parse(line: &[u8], names: &mut AtomNames, code: &mut Code) -> Result<Comm
     ensures built { IfOk result IsBuiltCommand }
     ensures bounds { IfOk result IsInBounds }
     ensures kept { IfErr result (λ e. (names.new ≡ names.old) × ((e ≡ Refusal.Syntax) ⊎ (e ≡ Refusal.Atoms))) }
-    ensures syntax { IsErrOf result Refusal.Syntax → IsOutside line.now }
+    ensures syntax { IsErrOf result Refusal.Syntax → SaysNoCommand line.now }
     ensures atoms { IsErrOf result Refusal.Atoms → BringsTooMany names.old line.now }
 {
     code.clear();

@@ -2,7 +2,7 @@
 ghost use Rattle.std.specs.Prelude.{◌≡◌, ℕ, ◌+◌, ◌≤◌, ◌<◌, List, [], ◌++◌, length};
 ghost use Rattle.atom_names.specs.declared.row.TheConstants.{LONGEST_NAME};
 ghost use Rattle.script_parse.specs.declared.buffer.TheConstants.{MOST_ITEMS};
-ghost use Rattle.script_parse.specs.Output.{given, push, put_at, put_atom, put_name, named, begun, begun_items, led, ended, led_items, Grows};
+ghost use Rattle.script_parse.specs.Output.{given, push, put_at, put_atom, put_name, entered_number, begun, begun_items, led, ended, led_items, OutputGrows};
 
 use crate::buffer::Code;
 use crate::forms::Form;
@@ -22,7 +22,7 @@ impl<'a> Output<'a> {
     pub(crate) fn push(&mut self, item: Item)
         requires { length self.old.code.now < MOST_ITEMS }
         ensures item { given self.new ≡ push (given self.old) item }
-        ensures grown { Grows self.old self.new }
+        ensures grown { OutputGrows self.old self.new }
     {
         self.code.push(item);
     }
@@ -32,7 +32,7 @@ impl<'a> Output<'a> {
         requires sized { (1 ≤ length name.now) × (length name.now ≤ LONGEST_NAME) }
         requires room { length self.old.code.now < MOST_ITEMS }
         ensures atom { given self.new ≡ put_atom (given self.old) name.now }
-        ensures grown { Grows self.old self.new }
+        ensures grown { OutputGrows self.old self.new }
         ensures one { length self.new.code.now ≡ length self.old.code.now + 1 }
     {
         match self.names.intern(name) {
@@ -48,8 +48,8 @@ impl<'a> Output<'a> {
     pub(crate) fn put_name(&mut self, name: &[u8]) -> u64
         requires { (1 ≤ length name.now) × (length name.now ≤ LONGEST_NAME) }
         ensures name { given self.new ≡ put_name (given self.old) name.now }
-        ensures number { result ≡ named (given self.old) name.now }
-        ensures grown { Grows self.old self.new }
+        ensures number { result ≡ entered_number (given self.old) name.now }
+        ensures grown { OutputGrows self.old self.new }
         ensures same { length self.new.code.now ≡ length self.old.code.now }
     {
         match self.names.intern(name) {
@@ -65,7 +65,7 @@ impl<'a> Output<'a> {
     pub(crate) fn begin(&mut self, form: Form)
         requires { length self.old.code.now < MOST_ITEMS }
         ensures items { given self.new ≡ begun form (given self.old) }
-        ensures grown { Grows self.old self.new }
+        ensures grown { OutputGrows self.old self.new }
     {
         match form {
             Form::List => {},
@@ -79,7 +79,7 @@ impl<'a> Output<'a> {
     pub(crate) fn lead(&mut self, form: Form)
         requires { length (led_items form self.old.code.now) ≤ MOST_ITEMS }
         ensures items { given self.new ≡ led form (given self.old) }
-        ensures grown { Grows self.old self.new }
+        ensures grown { OutputGrows self.old self.new }
     {
         match form {
             Form::List => self.code.push(Item::Cons),
@@ -92,7 +92,7 @@ impl<'a> Output<'a> {
         requires room { length self.old.code.now < MOST_ITEMS }
         requires at { at + length (begun_items form []) ≤ length self.old.code.now }
         ensures items { given self.new ≡ ended form at n (given self.old) }
-        ensures grown { Grows self.old self.new }
+        ensures grown { OutputGrows self.old self.new }
         ensures one { length self.new.code.now ≤ length self.old.code.now + 1 }
     {
         match form {

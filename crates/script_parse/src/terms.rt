@@ -1,7 +1,7 @@
 // Terms: those without parts, and those in brackets.
 ghost use Rattle.std.specs.Prelude.{◌≡◌, ℕ, ◌+◌, ◌≤◌, ◌<◌, Bool, List, [], length, MatchOption, Some, None};
 ghost use Rattle.script_parse.specs.declared.buffer.TheConstants.{MOST_ITEMS};
-ghost use Rattle.script_parse.specs.Output.{given, begun, begun_items, led_items, Grows, Spends};
+ghost use Rattle.script_parse.specs.Output.{given, begun, begun_items, led_items, OutputGrows, Spends};
 ghost use Rattle.script_parse.specs.Reading.{leaf_run, byte_run, pair_run, part_run, parts_run, tail_run, end_run, form_run, term_run};
 
 use crate::atoms::{name_len, small_letter};
@@ -16,7 +16,7 @@ use plain_term::Item;
 fn leaf<'a>(line: &'a [u8], out: &mut Output) -> Option<&'a [u8]>
     requires { length out.old.code.now + length line.now ≤ MOST_ITEMS }
     ensures read { MatchOption result (leaf_run line.now (given out.old) ≡ None) (λ r. leaf_run line.now (given out.old) ≡ Some (r.now, given out.new)) }
-    ensures grown { Grows out.old out.new }
+    ensures grown { OutputGrows out.old out.new }
     ensures room { MatchOption result (Unit {0}) (λ r. Spends 0 line.now r.now out.old out.new) }
 {
     let (b, rest) = first(line)?;
@@ -47,7 +47,7 @@ fn leaf<'a>(line: &'a [u8], out: &mut Output) -> Option<&'a [u8]>
 fn byte<'a>(line: &'a [u8], out: &mut Output) -> Option<&'a [u8]>
     requires { length out.old.code.now + length line.now ≤ MOST_ITEMS }
     ensures read { MatchOption result (byte_run line.now (given out.old) ≡ None) (λ r. byte_run line.now (given out.old) ≡ Some (r.now, given out.new)) }
-    ensures grown { Grows out.old out.new }
+    ensures grown { OutputGrows out.old out.new }
     ensures room { MatchOption result (Unit {0}) (λ r. Spends 0 line.now r.now out.old out.new) }
 {
     let (n, rest) = number(skip(line), GREATEST_BYTE)?;
@@ -61,7 +61,7 @@ fn pair<'a>(line: &'a [u8], levels: u64, out: &mut Output) -> Option<&'a [u8]>
     requires { length out.old.code.now + length line.now ≤ MOST_ITEMS }
     ensures read { MatchOption result (pair_run (term_run levels) line.now (given out.old) ≡ None)
         (λ r. pair_run (term_run levels) line.now (given out.old) ≡ Some (r.now, given out.new)) }
-    ensures grown { Grows out.old out.new }
+    ensures grown { OutputGrows out.old out.new }
     ensures room { MatchOption result (Unit {0}) (λ r. Spends 0 line.now r.now out.old out.new) }
 {
     let rest = term(line, levels, out)?;
@@ -75,7 +75,7 @@ fn part<'a>(form: Form, line: &'a [u8], levels: u64, out: &mut Output) -> Option
     requires { length (led_items form out.old.code.now) + length line.now ≤ MOST_ITEMS }
     ensures read { MatchOption result (part_run (term_run levels) form line.now (given out.old) ≡ None)
         (λ r. part_run (term_run levels) form line.now (given out.old) ≡ Some (r.now, given out.new)) }
-    ensures grown { Grows out.old out.new }
+    ensures grown { OutputGrows out.old out.new }
     ensures room { MatchOption result (Unit {0})
         (λ r. (length out.new.code.now + length r.now ≤ length (led_items form out.old.code.now) + length line.now) × (length r.now < length line.now)) }
 {
@@ -95,7 +95,7 @@ fn parts<'a>(form: Form, line: &'a [u8], levels: u64, out: &mut Output) -> Optio
     requires { length (led_items form out.old.code.now) + length line.now ≤ MOST_ITEMS }
     ensures read { MatchOption result (parts_run (part_run (term_run levels) form) (length line.now + 1) line.now 0 (given out.old) ≡ None)
         (λ r. parts_run (part_run (term_run levels) form) (length line.now + 1) line.now 0 (given out.old) ≡ Some (r.0.now, (r.1, given out.new))) }
-    ensures grown { Grows out.old out.new }
+    ensures grown { OutputGrows out.old out.new }
     ensures room { MatchOption result (Unit {0})
         (λ r. (length out.new.code.now + length r.0.now ≤ length (led_items form out.old.code.now) + length line.now) × (length r.0.now < length line.now)) }
 {
@@ -116,7 +116,7 @@ fn tail<'a>(form: Form, line: &'a [u8], levels: u64, out: &mut Output) -> Option
     requires { length out.old.code.now + length line.now ≤ MOST_ITEMS }
     ensures read { MatchOption result (tail_run (term_run levels) form line.now (given out.old) ≡ None)
         (λ r. tail_run (term_run levels) form line.now (given out.old) ≡ Some (r.now, given out.new)) }
-    ensures grown { Grows out.old out.new }
+    ensures grown { OutputGrows out.old out.new }
     ensures room { MatchOption result (Unit {0}) (λ r. Spends 0 line.now r.now out.old out.new) }
 {
     if !form.has_tail() {
@@ -141,7 +141,7 @@ fn ending<'a>(
     requires at { at + length (begun_items form []) ≤ length out.old.code.now }
     ensures read { MatchOption result (end_run (term_run levels) form at n line.now (given out.old) ≡ None)
         (λ r. end_run (term_run levels) form at n line.now (given out.old) ≡ Some (r.now, given out.new)) }
-    ensures grown { Grows out.old out.new }
+    ensures grown { OutputGrows out.old out.new }
     ensures room { MatchOption result (Unit {0}) (λ r. Spends 0 line.now r.now out.old out.new) }
 {
     let line = skip(line);
@@ -158,7 +158,7 @@ fn bracketed<'a>(form: Form, line: &'a [u8], levels: u64, out: &mut Output) -> O
     requires { length out.old.code.now + length line.now < MOST_ITEMS }
     ensures read { MatchOption result (form_run (term_run levels) form line.now (given out.old) ≡ None)
         (λ r. form_run (term_run levels) form line.now (given out.old) ≡ Some (r.now, given out.new)) }
-    ensures grown { Grows out.old out.new }
+    ensures grown { OutputGrows out.old out.new }
     ensures room { MatchOption result (Unit {0}) (λ r. Spends 1 line.now r.now out.old out.new) }
 {
     let at = out.code.len();
@@ -177,7 +177,7 @@ pub(crate) fn term<'a>(line: &'a [u8], levels: u64, out: &mut Output) -> Option<
     requires { length out.old.code.now + length line.now ≤ MOST_ITEMS }
     ensures read { MatchOption result (term_run levels line.now (given out.old) ≡ None)
         (λ r. term_run levels line.now (given out.old) ≡ Some (r.now, given out.new)) }
-    ensures grown { Grows out.old out.new }
+    ensures grown { OutputGrows out.old out.new }
     ensures room { MatchOption result (Unit {0}) (λ r. Spends 0 line.now r.now out.old out.new) }
 {
     let line = skip(line);

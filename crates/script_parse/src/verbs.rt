@@ -6,7 +6,7 @@ ghost use Rattle.script_grammar.specs.Written.Kind.{Slot, Count, Receiver, Title
 ghost use Rattle.script_grammar.specs.declared.limits.TheConstants.{MOST_HELD};
 ghost use Rattle.script_parse.specs.declared.buffer.TheConstants.{MOST_ITEMS};
 ghost use Rattle.script_parse.specs.declared.numbers.TheConstants.{GREATEST, LAST_REGISTER};
-ghost use Rattle.script_parse.specs.Output.{Out, given, Grows};
+ghost use Rattle.script_parse.specs.Output.{Out, given, OutputGrows};
 ghost use Rattle.script_parse.specs.Reading.{extent_at, held_at, held_run, number_at, receiver_at, spaced_at, title_run, row, row_run, choice_run, several_run, single_run, verb_run, named_run, process_run, sys_verb_run, sys_named_run, system_run};
 
 use crate::atoms::atom;
@@ -45,7 +45,7 @@ fn count(line: &[u8]) -> Option<(u64, &[u8])>
 fn title<'a>(line: &'a [u8], out: &mut Output) -> Option<(u64, &'a [u8])>
     ensures read { MatchOption result (title_run line.now (given out.old) ≡ None)
         (λ r. title_run line.now (given out.old) ≡ Some (r.0, (r.1.now, given out.new))) }
-    ensures grown { Grows out.old out.new }
+    ensures grown { OutputGrows out.old out.new }
     ensures same { length out.new.code.now ≡ length out.old.code.now }
     ensures shorter { MatchOption result (Unit {0}) (λ r. length r.1.now ≤ length line.now) }
 {
@@ -69,7 +69,7 @@ fn held(line: &[u8]) -> Option<(u8, &[u8])>
 fn environment<'a>(line: &'a [u8], out: &mut Output) -> &'a [u8]
     requires { length out.old.code.now + length line.now ≤ MOST_ITEMS }
     ensures read { held_run MOST_HELD line.now (given out.old) ≡ (result.now, given out.new) }
-    ensures grown { Grows out.old out.new }
+    ensures grown { OutputGrows out.old out.new }
 {
     let mut rest = line;
     for _ in 0..MOST_HELD {
@@ -212,7 +212,7 @@ fn slot_title_count_held(line: &[u8], out: &mut Output) -> Option<(Reg, u64, u64
     ensures read { (f : Arguments (Slot ∷ Title ∷ Count ∷ Environment ∷ []) → Verb)
         → MatchOption result (row_run (row (Slot ∷ Title ∷ Count ∷ Environment ∷ []) f) line.now (given out.old) ≡ None)
         (λ r. row_run (row (Slot ∷ Title ∷ Count ∷ Environment ∷ []) f) line.now (given out.old) ≡ Some (f (r.0.0, (r.1, (r.2, (tt, tt)))), given out.new)) }
-    ensures grown { Grows out.old out.new }
+    ensures grown { OutputGrows out.old out.new }
 {
     let (r, rest) = register(line)?;
     let (name, rest) = title(rest, out)?;
@@ -254,7 +254,7 @@ fn slot_body(line: &[u8], out: &mut Output) -> Option<Reg>
     requires { length out.old.code.now + length line.now ≤ MOST_ITEMS }
     ensures read { (f : Arguments (Slot ∷ Body ∷ []) → Verb) → MatchOption result (row_run (row (Slot ∷ Body ∷ []) f) line.now (given out.old) ≡ None)
         (λ r. row_run (row (Slot ∷ Body ∷ []) f) line.now (given out.old) ≡ Some (f (r.0, (tt, tt)), given out.new)) }
-    ensures grown { Grows out.old out.new }
+    ensures grown { OutputGrows out.old out.new }
 {
     let (r, rest) = register(line)?;
     let rest = gap(rest)?;
@@ -353,7 +353,7 @@ fn verb(word: Word, line: &[u8], out: &mut Output) -> Option<Verb>
     requires { length out.old.code.now + length line.now ≤ MOST_ITEMS }
     ensures read { MatchOption result (verb_run word line.now (given out.old) ≡ None)
         (λ v. verb_run word line.now (given out.old) ≡ Some (v, given out.new)) }
-    ensures grown { Grows out.old out.new }
+    ensures grown { OutputGrows out.old out.new }
 {
     match word {
         Word::Set => Some(Verb::Set(slot_body(line, out)?)),
@@ -378,7 +378,7 @@ fn verb(word: Word, line: &[u8], out: &mut Output) -> Option<Verb>
 fn named(line: &[u8], out: &mut Output) -> Option<Verb>
     requires { length out.old.code.now + length line.now ≤ MOST_ITEMS }
     ensures read { MatchOption result (named_run line.now (given out.old) ≡ None) (λ v. named_run line.now (given out.old) ≡ Some (v, given out.new)) }
-    ensures grown { Grows out.old out.new }
+    ensures grown { OutputGrows out.old out.new }
 {
     let n = word_len(line);
     let word = verb_word(&line[..n])?;
@@ -389,7 +389,7 @@ fn named(line: &[u8], out: &mut Output) -> Option<Verb>
 pub(crate) fn process_verb(line: &[u8], out: &mut Output) -> Option<Verb>
     requires { length out.old.code.now + length line.now ≤ MOST_ITEMS }
     ensures read { MatchOption result (process_run line.now (given out.old) ≡ None) (λ v. process_run line.now (given out.old) ≡ Some (v, given out.new)) }
-    ensures grown { Grows out.old out.new }
+    ensures grown { OutputGrows out.old out.new }
 {
     let rest = gap(line)?;
     named(skip(rest), out)
@@ -400,7 +400,7 @@ fn sys_verb(word: SysWord, line: &[u8], out: &mut Output) -> Option<SysVerb>
     requires { length out.old.code.now + length line.now ≤ MOST_ITEMS }
     ensures read { MatchOption result (sys_verb_run word line.now (given out.old) ≡ None)
         (λ v. sys_verb_run word line.now (given out.old) ≡ Some (v, given out.new)) }
-    ensures grown { Grows out.old out.new }
+    ensures grown { OutputGrows out.old out.new }
 {
     match word {
         SysWord::Spawn => {
@@ -431,7 +431,7 @@ fn sys_verb(word: SysWord, line: &[u8], out: &mut Output) -> Option<SysVerb>
 fn sys_named(line: &[u8], out: &mut Output) -> Option<SysVerb>
     requires { length out.old.code.now + length line.now ≤ MOST_ITEMS }
     ensures read { MatchOption result (sys_named_run line.now (given out.old) ≡ None) (λ v. sys_named_run line.now (given out.old) ≡ Some (v, given out.new)) }
-    ensures grown { Grows out.old out.new }
+    ensures grown { OutputGrows out.old out.new }
 {
     let n = word_len(line);
     let word = sys_word(&line[..n])?;
@@ -442,7 +442,7 @@ fn sys_named(line: &[u8], out: &mut Output) -> Option<SysVerb>
 pub(crate) fn system_verb(line: &[u8], out: &mut Output) -> Option<SysVerb>
     requires { length out.old.code.now + length line.now ≤ MOST_ITEMS }
     ensures read { MatchOption result (system_run line.now (given out.old) ≡ None) (λ v. system_run line.now (given out.old) ≡ Some (v, given out.new)) }
-    ensures grown { Grows out.old out.new }
+    ensures grown { OutputGrows out.old out.new }
 {
     let rest = gap(line)?;
     sys_named(skip(rest), out)

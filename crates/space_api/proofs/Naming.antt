@@ -10,7 +10,7 @@ use Rattle.script_grammar.specs.Written.TermPairs.{stop, pair}
 use Rattle.script_grammar.specs.Names.{atoms_of, atoms_of_all, atoms_of_pairs, items_of, listed_items, all_items, pairs_items}
 use Rattle.plain_machine.proofs.Properly.Making.{HaveNumbers}
 use Rattle.plain_machine.proofs.Properly.Holding.{Builds, Environs}
-use Rattle.space_api.specs.Calls.{HasEnv, IsNamedBelow, IsTerm, one_term}
+use Rattle.space_api.specs.Calls.{HasEnv, IsNamedBelow, IsWrittenTerm, one_term}
 
 -- items whose atoms have numbers below a count
 abbrev pub AreBelow : ℕ → List Item → Type 0
@@ -66,7 +66,7 @@ module _ (names : List (List ℕ)) where
         (numbers-pairs ps (below-back (length names) (items_of names v) (pairs_items names ps) rest)))
 
 -- a term of `build` is one of which the machine makes a proper tree
-pub builds : (names : List (List ℕ)) (code : List Item) (t : Term) → IsTerm names code t → All (IsNamedBelow (length names)) code → Builds (one_term t) names
+pub builds : (names : List (List ℕ)) (code : List Item) (t : Term) → IsWrittenTerm names code t → All (IsNamedBelow (length names)) code → Builds (one_term t) names
 builds names code t is named = record {
   term = t;
   one = refl;

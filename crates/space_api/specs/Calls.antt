@@ -55,7 +55,7 @@ IsNamedBelow count (item.Atom k) = k < count
 IsNamedBelow count _ = Unit {0}
 
 -- The items are the prefix form of a written term of the built forms, in as many levels of brackets as there may be.
-pub record IsTerm (names : List (List ℕ)) (code : List Item) (t : Term) : Type 0 where
+pub record IsWrittenTerm (names : List (List ℕ)) (code : List Item) (t : Term) : Type 0 where
   pub items : items_of names t ≡ code
   pub allowed : MayStand LEVELS t
   pub built : IsBuiltTerm t
@@ -63,7 +63,7 @@ pub record IsTerm (names : List (List ℕ)) (code : List Item) (t : Term) : Type
 -- The items are the prefix form of some written term, all atoms have names, and there are no more than a line has bytes.
 pub record HasTerm (names : List (List ℕ)) (code : List Item) : Type 0 where
   pub term : Term
-  pub is : IsTerm names code term
+  pub is : IsWrittenTerm names code term
   pub named : All (IsNamedBelow (length names)) code
   pub few : length code ≤ LONGEST_LINE
 

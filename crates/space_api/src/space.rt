@@ -34,7 +34,7 @@ ghost use Rattle.plain_term.specs.Measures.{nodes};
 ghost use Rattle.plain_machine.specs.State.{Process as Live, State, HasNames, is_live, live_numbers, process_of, register};
 ghost use Rattle.plain_machine.specs.Step.{step, eq_text, cmp_text};
 ghost use Rattle.plain_machine.specs.Maps.{IsMapOf};
-ghost use Rattle.space_api.specs.Calls.{AreRising, Becomes, Follows, HasEnv, HasTerm, IsEnv, IsTerm, KeepsBooks, Passes, Prints, Tells, WritesReply, most_calls, one_term, said};
+ghost use Rattle.space_api.specs.Calls.{AreRising, Becomes, Follows, HasEnv, HasTerm, IsEnv, IsWrittenTerm, KeepsBooks, Passes, Prints, Tells, WritesReply, most_calls, one_term, said};
 
 use atom_names::AtomNames;
 use line_io::{Sink, SinkFault};
@@ -119,7 +119,7 @@ pub trait Space {
         requires calls { calls self.old < most_calls }
         requires named { named self.old ≤ length names.now }
         requires term { HasTerm names.now code.now }
-        ensures becomes { (s : State) (t : Term) → stands self.old s → HasNames s names.now → IsTerm names.now code.now t
+        ensures becomes { (s : State) (t : Term) → stands self.old s → HasNames s names.now → IsWrittenTerm names.now code.now t
             → Becomes may (words self.old) s (said (Process seat.pid (verb.Set r)) (one_term t) names.now) result (stands self.new) }
         ensures books { KeepsBooks words calls named self.old self.new (max (named self.old) (length names.now)) }
         ensures refused { OnErr result (named self.new ≤ named self.old) };

@@ -8,7 +8,7 @@ use Rattle.term_words.proofs.Placing.Roles.{object-some}
 use Rattle.off_heap_list.specs.Links.{names_it, named}
 use Rattle.off_heap_list.proofs.Walked.Tallied.{one-at-most}
 use Rattle.term_copy.specs.Row.{is_link}
-use Rattle.term_copy.specs.Going.{Item, Among, Spread, left_of, tally}
+use Rattle.term_copy.specs.Going.{Item, Among, Spread, flat_of_parts, tally}
 
 -- Members of a list with one more at its end.
 
@@ -27,7 +27,7 @@ among-split x y [] (inr i) = absurd i
 among-split x y (z ∷ zs) (inl e) = inl (inl e)
 among-split x y (z ∷ zs) (inr i) = elim (among-split x y zs i) [ inl j ↦ inl (inr j) | inr e ↦ inr e ]
 
-pub left-last : (y : Item) (xs : List Item) → left_of (xs ++ y ∷ []) ≡ left_of xs + flat_of_all (parts_of y.tree)
+pub left-last : (y : Item) (xs : List Item) → flat_of_parts (xs ++ y ∷ []) ≡ flat_of_parts xs + flat_of_all (parts_of y.tree)
 left-last y [] = omega arith
 left-last y (x ∷ xs) = omega (arith, left-last y xs)
 

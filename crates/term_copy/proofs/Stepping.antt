@@ -22,7 +22,7 @@ use Rattle.term_words.proofs.Placing.Tiles.{has-layout}
 use Rattle.shared_rec.proofs.Records.{record-counted}
 use Rattle.term_copy.specs.Copied.{CanCopy, Task}
 use Rattle.word_mem.specs.declared.ranges.Room.{Room}
-use Rattle.term_copy.specs.Going.{Advances, HasRoom, Among, Begun, Copying, Goes, HasImage, IsCopy, IsImage, IsLed, IsOf, IsStay, Item, Pends, Ready, Scanning, Spread, left_of}
+use Rattle.term_copy.specs.Going.{Advances, CopyHasRoom, Among, Begun, Copying, Goes, HasImage, HasCopiedWords, IsCopiedWord, IsLed, IsOf, IsStay, Item, Pends, ReadyToCopy, Scanning, Spread, flat_of_parts}
 use Rattle.term_copy.proofs.Items.{spread-in, spread-one}
 use Rattle.term_copy.proofs.Linked.{LinkFacts, linked}
 use Rattle.term_copy.proofs.Taking.{image-same, role-beside, top-limit}
@@ -142,7 +142,7 @@ module _ (p : Task) (known : List Item) (mem : List ℕ) (mark at top owed : ℕ
       subst P was b.goes
 
   pub replaced : (new : List ℕ) → length new ≡ length mem → ((q : ℕ) → (q ≡ mark → ⊥) → get_or new q 0 ≡ get_or mem q 0)
-      → IsImage p g.items (get_or mem mark 0) (get_or new mark 0) → mark + 1 ≤ at
+      → IsCopiedWord p g.items (get_or mem mark 0) (get_or new mark 0) → mark + 1 ≤ at
       → (Goes p (get_or mem mark 0) → (p.top < get_or new mark 0 / 4) × ((q : ℕ) → IsLed p mark g.items q → get_or mem q 0 / 4 < get_or new mark 0 / 4))
       → Copying p known new (mark + 1) at top owed
   replaced new len same image more later = record {
@@ -156,7 +156,7 @@ module _ (p : Task) (known : List Item) (mem : List ℕ) (mark at top owed : ℕ
     among = g.among;
     stands = g.stands;
     copies = λ x h.
-        let c : IsCopy p mem mark g.items x = g.copies x h in
+        let c : HasCopiedWords p mem mark g.items x = g.copies x h in
         record {
           plain = λ j q less below e other. same q (λ z. not-plain x j h less below (omega (arith, z, e))) ∙ c.plain j q less below e other;
           next = λ l.
@@ -168,8 +168,8 @@ module _ (p : Task) (known : List Item) (mem : List ℕ) (mark at top owed : ℕ
                 | inl low ↦ image-same p g.items (get_or p.start (x.word / 4 + j) 0) (get_or mem q 0) (get_or new q 0) (same q (λ z. omega (arith, z, low))) (c.done j q from below e low)
                 | inr here ↦
                     let was : get_or p.start (x.word / 4 + j) 0 ≡ get_or mem mark 0 = sym (c.waits j mark from below (omega (arith, e, here)) (omega arith)) in
-                    let P : ℕ → Type 0 = λ a. IsImage p g.items a (get_or new q 0) in
-                    let Q : ℕ → Type 0 = λ a. IsImage p g.items (get_or mem mark 0) (get_or new a 0) in
+                    let P : ℕ → Type 0 = λ a. IsCopiedWord p g.items a (get_or new q 0) in
+                    let Q : ℕ → Type 0 = λ a. IsCopiedWord p g.items (get_or mem mark 0) (get_or new a 0) in
                     subst P (sym was) (subst Q (sym here) image)
               ];
         };
@@ -275,7 +275,7 @@ module _ (p : Task) (known : List Item) (mem : List ℕ) (mark at top : ℕ) (u 
       ∙ sym (word-is p known mem mark at top (flat u + flat_of_all rest) s.on s.item s.among s.traced mark-inside) in
       let now : get_or (set mem2 mark x) mark 0 ≡ x = grind (arith, get_or-set_at, inside) in
       let r : (p.top ≤ s.item.place) × (s.item.place + object_words p.start s.item.word ≤ top) = spread-in p.start p.top s.on.items top s.item s.on.row s.among in
-      let P : ℕ → Type 0 = λ a. IsImage p h.on.items a x in
+      let P : ℕ → Type 0 = λ a. IsCopiedWord p h.on.items a x in
       gone (set mem2 mark x) top2
       (forget p known s.item (set mem2 mark x) (mark + 1) at top2 (flat_of_all rest)
       (replaced p (s.item ∷ known) mem2 mark at top2 (flat_of_all rest) h.on s.item i s.traced mark-inside (set mem2 mark x) (length-set mem2 mark x)
@@ -341,7 +341,7 @@ module _ (p : Task) (known : List Item) (mem : List ℕ) (at top : ℕ) (g : Cop
     pointer : IsPointer o.x.word
     pointer = of-it.goes.pointer
 
-    copy-it : IsCopy p mem at g.items o.x
+    copy-it : HasCopiedWords p mem at g.items o.x
     copy-it = g.copies o.x in-items
 
     -- Its first word.
@@ -387,7 +387,7 @@ module _ (p : Task) (known : List Item) (mem : List ℕ) (at top : ℕ) (g : Cop
         let Q : Item → Type 0 = λ z. q ≡ z.place + j in
         omega (arith, subst P same from, subst Q same e, spreads.0, high)
 
-    opened-copy : (y : Item) → Among y g.items → IsCopy p mem at g.items y → IsCopy p mem (at + first_traced p.start o.x.word) g.items y
+    opened-copy : (y : Item) → Among y g.items → HasCopiedWords p mem at g.items y → HasCopiedWords p mem (at + first_traced p.start o.x.word) g.items y
     opened-copy y i c = record {
       plain = c.plain;
       next = c.next;
@@ -406,7 +406,7 @@ module _ (p : Task) (known : List Item) (mem : List ℕ) (at top : ℕ) (g : Cop
 
     opened : Scanning p known mem (at + first_traced p.start o.x.word) (at + object_words p.start o.x.word) top (parts_of o.x.tree)
     opened =
-        let more : left_of g.after ≡ flat_of_all (parts_of o.x.tree) + left_of o.later = ap left_of o.is in
+        let more : flat_of_parts g.after ≡ flat_of_all (parts_of o.x.tree) + flat_of_parts o.later = ap flat_of_parts o.is in
         record {
           on = record {
             ready = g.ready;
@@ -460,7 +460,7 @@ closed p known mem mark at top (u ▹ rest) s over = absurd (omega (arith, s.end
 
 -- How it begins.
 
-begins-at : (p : Task) (mem : List ℕ) (owed : ℕ) → Ready p → p.start ≡ mem → owed ≤ flat p.tree → (((q : ℕ) → p.stay q ≡ false) → owed ≡ flat p.tree) → Copying p [] mem p.top p.top p.top owed
+begins-at : (p : Task) (mem : List ℕ) (owed : ℕ) → ReadyToCopy p → p.start ≡ mem → owed ≤ flat p.tree → (((q : ℕ) → p.stay q ≡ false) → owed ≡ flat p.tree) → Copying p [] mem p.top p.top p.top owed
 begins-at p mem owed r e few all = record {
   ready = r;
   items = [];
@@ -481,11 +481,11 @@ begins-at p mem owed r e few all = record {
   exact = λ none. omega (arith, all none);
 }
 
-pub begins : (p : Task) (mem : List ℕ) (top : ℕ) → Ready p → p.start ≡ mem → p.top ≡ top → Copying p [] mem top top top (flat p.tree + 0)
+pub begins : (p : Task) (mem : List ℕ) (top : ℕ) → ReadyToCopy p → p.start ≡ mem → p.top ≡ top → Copying p [] mem top top top (flat p.tree + 0)
 begins p mem top r e t = let P : ℕ → Type 0 = λ a. Copying p [] mem a a a (flat p.tree + 0) in subst P t (begins-at p mem (flat p.tree + 0) r e (omega arith) (λ none. omega arith))
 
 -- The root stays, or is no pointer.
-pub begins-same : (p : Task) (mem : List ℕ) (top w : ℕ) → Ready p → p.start ≡ mem → p.top ≡ top → p.word ≡ w → (Goes p w → ⊥) → Begun p mem top top w
+pub begins-same : (p : Task) (mem : List ℕ) (top w : ℕ) → ReadyToCopy p → p.start ≡ mem → p.top ≡ top → p.word ≡ w → (Goes p w → ⊥) → Begun p mem top top w
 begins-same p mem top w r e t same stays =
     let P : ℕ → Type 0 = λ a. Copying p [] mem a a a 0 in
     let none : Goes p p.word → ⊥ = (let Q : ℕ → Type 0 = λ a. Goes p a → ⊥ in subst Q (sym same) stays) in
@@ -503,7 +503,7 @@ begins-copied p mem at top w x same start goes place h = elim h.image [
   | inl n ↦ absurd (n.0 goes)
   | inr (g, (z, (i, e))) ↦ record {
     known = z ∷ [];
-    image = (let P : ℕ → Type 0 = λ a. IsImage p (z ∷ []) a x in subst P (sym same) (inr (g, (z, (inl refl, e)))));
+    image = (let P : ℕ → Type 0 = λ a. IsCopiedWord p (z ∷ []) a x in subst P (sym same) (inr (g, (z, (inl refl, e)))));
     first = λ go. place ∙ sym start;
     on = know p [] z mem at at top 0 h.on i;
   }
@@ -529,13 +529,13 @@ further p known mem mark at top s more = further-by p known mem mark at top s.re
 
 -- Rooms while a copy goes on.
 
-pub room-same : (p : Task) (known : List Item) (mem : List ℕ) (mark at : ℕ) (room : Room) (owed : ℕ) → Copying p known mem mark at room.top owed → HasRoom p room.end → Advances room room
+pub room-same : (p : Task) (known : List Item) (mem : List ℕ) (mark at : ℕ) (room : Room) (owed : ℕ) → Copying p known mem mark at room.top owed → CopyHasRoom p room.end → Advances room room
 room-same p known mem mark at room owed g has = record { start = refl; end = refl; top = omega arith; inside = omega (arith, has.same, top-limit p known mem mark at room.top owed g) }
 
 pub room-then : (a b e : Room) → Advances a b → Advances b e → Advances a e
 room-then a b e x y = record { start = y.start ∙ x.start; end = y.end ∙ x.end; top = omega (arith, x.top, y.top); inside = y.inside }
 
-pub room-has : (p : Task) (a b : Room) → HasRoom p a.end → Advances a b → HasRoom p b.end
+pub room-has : (p : Task) (a b : Room) → CopyHasRoom p a.end → Advances a b → CopyHasRoom p b.end
 room-has p a b has x = record { same = x.end ∙ has.same; inside = has.inside; counts = has.counts }
 
 -- The task of a call, and that it can begin.
@@ -543,13 +543,13 @@ room-has p a b has x = record { same = x.end ∙ has.same; inside = has.inside; 
 abbrev pub task_of : (mem : List ℕ) (room : Room) (stay : ℕ → Bool) (test : ℕ → ℕ → Bool) (shared : List (List ℕ)) (w : ℕ) (t : Tree) → Task
 task_of mem room stay test shared w t = record { start = mem; top = room.top; limit = room.end; stay = stay; test = test; shared = shared; word = w; tree = t }
 
-pub can-begin : (mem : List ℕ) (room : Room) (stay : ℕ → Bool) (w : ℕ) (can : CanCopy mem room w) → Ready (task_of mem room stay can.test can.shared w can.tree)
+pub can-begin : (mem : List ℕ) (room : Room) (stay : ℕ → Bool) (w : ℕ) (can : CanCopy mem room w) → ReadyToCopy (task_of mem room stay can.test can.shared w can.tree)
 can-begin mem room stay w can = record { single = can.single; standing = can.standing; clear = can.clear; fits = can.fits }
 
-pub can-room : (mem : List ℕ) (room : Room) (stay : ℕ → Bool) (w : ℕ) (can : CanCopy mem room w) → room.end ≤ length mem → HasRoom (task_of mem room stay can.test can.shared w can.tree) room.end
+pub can-room : (mem : List ℕ) (room : Room) (stay : ℕ → Bool) (w : ℕ) (can : CanCopy mem room w) → room.end ≤ length mem → CopyHasRoom (task_of mem room stay can.test can.shared w can.tree) room.end
 can-room mem room stay w can inside = record { same = refl; inside = inside; counts = can.counts }
 
-pub stands-root : (p : Task) (w : ℕ) → Ready p → p.word ≡ w → Stands p.test p.shared p.start w p.tree
+pub stands-root : (p : Task) (w : ℕ) → ReadyToCopy p → p.word ≡ w → Stands p.test p.shared p.start w p.tree
 stands-root p w r e = let P : ℕ → Type 0 = λ x. Stands p.test p.shared p.start x p.tree in subst P e r.standing
 
 -- The traced words of an object by its first word, which was read.

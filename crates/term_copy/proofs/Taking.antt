@@ -20,17 +20,17 @@ use Rattle.off_heap_list.specs.Links.{name_place, named, names_it}
 use Rattle.off_heap_list.proofs.Chaining.Chained.{place-same, one-naming, no-naming}
 use Rattle.term_copy.specs.Row.{is_link, is_link_header}
 use Rattle.term_copy.specs.Copied.{Task}
-use Rattle.term_copy.specs.Going.{Advances, Among, CanTake, Copying, Goes, HasImage, HasRoom, IsBeside, IsCopy, IsImage, IsLed, IsOf, Item, Took}
+use Rattle.term_copy.specs.Going.{Advances, Among, CanTake, Copying, Goes, HasImage, CopyHasRoom, LiesBeside, HasCopiedWords, IsCopiedWord, IsLed, IsOf, Item, Took}
 use Rattle.term_copy.proofs.Items.{among-last, among-left, among-split, left-last, spread-in, spread-last, spread-order, tally-few, tally-last}
 use Rattle.term_copy.proofs.Linked.{LinkFacts, linked, next-linked}
 
 -- An image by some copies is one by more.
-pub image-more : (p : Task) (xs ys : List Item) (w x : ℕ) → ((z : Item) → Among z xs → Among z ys) → IsImage p xs w x → IsImage p ys w x
+pub image-more : (p : Task) (xs ys : List Item) (w x : ℕ) → ((z : Item) → Among z xs → Among z ys) → IsCopiedWord p xs w x → IsCopiedWord p ys w x
 image-more p xs ys w x more (inl i) = inl i
 image-more p xs ys w x more (inr (g, (z, (i, e)))) = inr (g, (z, (more z i, e)))
 
-pub image-same : (p : Task) (xs : List Item) (w x y : ℕ) → y ≡ x → IsImage p xs w x → IsImage p xs w y
-image-same p xs w x y e i = let P : ℕ → Type 0 = λ z. IsImage p xs w z in subst P (sym e) i
+pub image-same : (p : Task) (xs : List Item) (w x y : ℕ) → y ≡ x → IsCopiedWord p xs w x → IsCopiedWord p xs w y
+image-same p xs w x y e i = let P : ℕ → Type 0 = λ z. IsCopiedWord p xs w z in subst P (sym e) i
 
 module _ (p : Task) (known : List Item) (mem : List ℕ) (mark at top owed : ℕ) (g : Copying p known mem mark at top owed) where
   -- Where things lie.
@@ -109,12 +109,12 @@ module _ (p : Task) (known : List Item) (mem : List ℕ) (mark at top owed : ℕ
     few-there : (v n : ℕ) → IsRecord p.test p.start v n → p.limit ≤ 2 ^ 24 → count_in p.start v < 2 ^ 23 → count_in mem v < 2 ^ 24
     few-there v n r small few = omega (arith, g.counts v n r, tally-few p.start v p.top g.items top g.row link-many, top-limit, small, few)
 
-    beside-word : (v n : ℕ) → IsRecord p.test p.start v n → IsBeside (w / 4) (object_words p.start w) (v + 2)
+    beside-word : (v n : ℕ) → IsRecord p.test p.start v n → LiesBeside (w / 4) (object_words p.start w) (v + 2)
     beside-word v n r =
         let (inside, four) = record-within p.test p.start v n r in
         elim (object-record-apart p.test p.shared p.start w v n u g.ready.single s y r) [ inl l ↦ inr (omega (arith, l)) | inr l ↦ inl (omega (arith, l, four)) ]
 
-    pub can-take : (limit : ℕ) → HasRoom p limit → length mem ≤ 2 ^ 24 → flat u ≤ owed → CanTake mem top limit w
+    pub can-take : (limit : ℕ) → CopyHasRoom p limit → length mem ≤ 2 ^ 24 → flat u ≤ owed → CanTake mem top limit w
     can-take limit has most part =
         let words : object_words mem w ≡ object_words p.start w = size-now in
         let fits : top + object_words p.start w ≤ p.limit = omega (arith, size-flat, part, top-limit) in
@@ -133,8 +133,8 @@ module _ (p : Task) (known : List Item) (mem : List ℕ) (mark at top owed : ℕ
               let few : count_in mem (named p.start (w / 4)) < 2 ^ 24 =
               few-there (named p.start (w / 4)) f.words f.record_is (omega (arith, has.inside, g.same_len, most)) (has.counts (named p.start (w / 4)) f.words f.record_is) in
               let P : ℕ → Type 0 = λ r. count_in mem r < 2 ^ 24 in
-              let Q : ℕ → ℕ → Type 0 = λ n r. IsBeside (w / 4) n (r + 2) in
-              let here : IsBeside (w / 4) (object_words p.start w) (named p.start (w / 4) + 2) = beside-word (named p.start (w / 4)) f.words f.record_is in
+              let Q : ℕ → ℕ → Type 0 = λ n r. LiesBeside (w / 4) n (r + 2) in
+              let here : LiesBeside (w / 4) (object_words p.start w) (named p.start (w / 4) + 2) = beside-word (named p.start (w / 4)) f.words f.record_is in
               record {
                 size = omega (arith, words, f.many);
                 within = omega (arith, same, inside, four, g.same_len);
@@ -203,7 +203,7 @@ module _ (p : Task) (known : List Item) (mem : List ℕ) (mark at top owed : ℕ
               ])
         ]
 
-    old-copy : (y : Item) → Among y g.items → IsCopy p mem mark g.items y → IsCopy p new mark (g.items ++ z ∷ []) y
+    old-copy : (y : Item) → Among y g.items → HasCopiedWords p mem mark g.items y → HasCopiedWords p new mark (g.items ++ z ∷ []) y
     old-copy y i o =
         let (low, high) = spread-in p.start p.top g.items top y g.row i in
         record {
@@ -215,7 +215,7 @@ module _ (p : Task) (known : List Item) (mem : List ℕ) (mark at top owed : ℕ
               (image-more p g.items (g.items ++ z ∷ []) (get_or p.start (y.word / 4 + j) 0) (get_or mem q 0) (λ a h. among-left a z g.items h) (o.done j q from below e past));
         }
 
-    new-copy : IsCopy p new mark (g.items ++ z ∷ []) z
+    new-copy : HasCopiedWords p new mark (g.items ++ z ∷ []) z
     new-copy = record {
       plain = λ j q less below e other. same-new j q below e other;
       next = λ l. t.next (link-is ∙ l);
@@ -266,7 +266,7 @@ module _ (p : Task) (known : List Item) (mem : List ℕ) (mark at top owed : ℕ
       ];
       copies = λ y i. elim (among-split y z g.items i) [
         | inl j ↦ old-copy y j (g.copies y j)
-        | inr e ↦ (let P : Item → Type 0 = λ a. IsCopy p new mark (g.items ++ z ∷ []) a in subst P (sym e) new-copy)
+        | inr e ↦ (let P : Item → Type 0 = λ a. HasCopiedWords p new mark (g.items ++ z ∷ []) a in subst P (sym e) new-copy)
       ];
       rises = λ q r a b less.
           let ha : IsLed p mark g.items q = led-old q a in

@@ -32,7 +32,7 @@ use Rattle.off_heap_list.proofs.Chaining.Chained.{leads-stays, link-stays, namin
 use Rattle.off_heap_list.proofs.Chaining.Exact.{naming-both}
 use Rattle.term_copy.specs.Row.{is_link, is_link_header, links_in}
 use Rattle.term_copy.specs.Copied.{CopiesTree, IsClosed, PointsInto, Task}
-use Rattle.term_copy.specs.Going.{Among, Begun, Copying, Goes, IsCopy, IsImage, IsLed, IsOf, Item, Spread, left_of, tally}
+use Rattle.term_copy.specs.Going.{Among, Begun, Copying, Goes, HasCopiedWords, IsCopiedWord, IsLed, IsOf, Item, Spread, flat_of_parts, tally}
 use Rattle.term_copy.proofs.Items.{spread-in, spread-none, spread-one, spread-order}
 use Rattle.term_copy.proofs.Linked.{LinkFacts, link-told, linked, next-linked}
 use Rattle.term_copy.proofs.Alike.{IsAlike, alike}
@@ -215,7 +215,7 @@ module _ (p : Task) (known : List Item) (mem : List ℕ) (top : ℕ) (g : Copyin
 
   -- Copies.
 
-  copy-of : (x : Item) → Among x g.items → IsCopy p mem top g.items x
+  copy-of : (x : Item) → Among x g.items → HasCopiedWords p mem top g.items x
   copy-of x i = g.copies x i
 
   alike-copy : (x : Item) → Among x g.items → IsAlike p.test test p.start mem x.word (pointer_to x)
@@ -237,7 +237,7 @@ module _ (p : Task) (known : List Item) (mem : List ℕ) (top : ℕ) (g : Copyin
   Made : ℕ → Type 0
   Made n = (x : Item) → Among x g.items → flat x.tree ≤ n → Stands test p.shared mem (pointer_to x) x.tree
 
-  image-made : (n y z : ℕ) (u : Tree) → Made n → Stands p.test p.shared p.start y u → flat u ≤ n → IsImage p g.items y z → Stands test p.shared mem z u
+  image-made : (n y z : ℕ) (u : Tree) → Made n → Stands p.test p.shared p.start y u → flat u ≤ n → IsCopiedWord p g.items y z → Stands test p.shared mem z u
   unfolding Made
   image-made n y z u each s few (inl (stays, e)) =
       let P : ℕ → Type 0 = λ a. Stands test p.shared mem a u in
@@ -251,12 +251,12 @@ module _ (p : Task) (known : List Item) (mem : List ℕ) (top : ℕ) (g : Copyin
       subst Q tree (subst R word (each x i (omega (arith, ap flat tree, few))))
 
   row-made : (n a q : ℕ) (ts : Trees) → Made n → RowStands p.test p.shared p.start a ts → flat_of_all ts ≤ n
-      → ((j : ℕ) → j < trees_len ts → IsImage p g.items (get_or p.start (a + j) 0) (get_or mem (q + j) 0))
+      → ((j : ℕ) → j < trees_len ts → IsCopiedWord p g.items (get_or p.start (a + j) 0) (get_or mem (q + j) 0))
       → RowStands test p.shared mem q ts
   unfolding RowStands
   row-made n a q end each row few image = tt
   row-made n a q (t ▹ ts) each (first, rest) few image =
-      let P : ℕ → ℕ → Type 0 = λ b c. IsImage p g.items (get_or p.start b 0) (get_or mem c 0) in
+      let P : ℕ → ℕ → Type 0 = λ b c. IsCopiedWord p g.items (get_or p.start b 0) (get_or mem c 0) in
       let here : P a q = (let e : a + 0 ≡ a = omega arith in let f : q + 0 ≡ q = omega arith in
       let Q : ℕ → Type 0 = λ b. P b (q + 0) in let R : ℕ → Type 0 = λ c. P a c in subst R f (subst Q e (image 0 (omega arith)))) in (
         image-made n (get_or p.start a 0) (get_or mem q 0) t each first (omega (arith, few)) here,
@@ -276,7 +276,7 @@ module _ (p : Task) (known : List Item) (mem : List ℕ) (top : ℕ) (g : Copyin
       let row : RowStands test p.shared mem (x.place + first_traced p.start x.word) (parts_of x.tree) =
       row-made n (x.word / 4 + first_traced p.start x.word) (x.place + first_traced p.start x.word) (parts_of x.tree) each sc.row (omega (arith, sc.left, few, object-some p.start x.word))
       (λ j below.
-      let P : ℕ → Type 0 = λ b. IsImage p g.items (get_or p.start b 0) (get_or mem (x.place + first_traced p.start x.word + j) 0) in
+      let P : ℕ → Type 0 = λ b. IsCopiedWord p g.items (get_or p.start b 0) (get_or mem (x.place + first_traced p.start x.word + j) 0) in
       let e : x.word / 4 + (first_traced p.start x.word + j) ≡ x.word / 4 + first_traced p.start x.word + j = omega arith in
       subst P e ((copy-of x i).done (first_traced p.start x.word + j) (x.place + first_traced p.start x.word + j) (omega arith) (omega (arith, below, sc.ends)) (omega arith)
       (omega (arith, below, sc.ends, spread-in p.start p.top g.items top x g.row i)))) in
@@ -294,7 +294,7 @@ module _ (p : Task) (known : List Item) (mem : List ℕ) (top : ℕ) (g : Copyin
   unfolding Made
   copy-made x i = all-made (flat x.tree) x i (omega arith)
 
-  made-word : (y z : ℕ) (u : Tree) → Stands p.test p.shared p.start y u → IsImage p g.items y z → Stands test p.shared mem z u
+  made-word : (y z : ℕ) (u : Tree) → Stands p.test p.shared p.start y u → IsCopiedWord p g.items y z → Stands test p.shared mem z u
   made-word y z u s i = image-made (flat u) y z u (all-made (flat u)) s (omega arith) i
 
   -- The first word, the size and the traced words of a copy.
@@ -503,7 +503,7 @@ module _ (p : Task) (known : List Item) (mem : List ℕ) (top : ℕ) (g : Copyin
   Alone : ℕ → Type 0
   Alone x = ((z : Item) × (Among z g.items × (x ≡ pointer_to z))) ⊎ ((p.stay (x / 4) ≡ true) × ((u : Tree) × Stands p.test p.shared p.start x u))
 
-  image-alone : (y x : ℕ) (u : Tree) → Stands p.test p.shared p.start y u → IsImage p g.items y x → IsPointer x → Alone x
+  image-alone : (y x : ℕ) (u : Tree) → Stands p.test p.shared p.start y u → IsCopiedWord p g.items y x → IsPointer x → Alone x
   unfolding Alone
   image-alone y x u s (inr (goes, (z, (i, (same, e))))) q = inl (z, (i, omega (arith, e, same)))
   image-alone y x u s (inl (stays, e)) q =
@@ -531,8 +531,8 @@ module _ (p : Task) (known : List Item) (mem : List ℕ) (top : ℕ) (g : Copyin
       let high : k < object_words p.start z.word = omega (arith, words-copy z i, below) in
       let r = spread-in p.start p.top g.items top z g.row i in
       let (u, s) = part-of z.word k z.tree (g.stands z i).standing (g.stands z i).goes.pointer low high in
-      let image : IsImage p g.items (get_or p.start (z.word / 4 + k) 0) (get_or mem (z.place + k) 0) = (copy-of z i).done k (z.place + k) low high refl (omega (arith, r, high)) in
-      let P : ℕ → Type 0 = λ a. IsImage p g.items (get_or p.start (z.word / 4 + k) 0) a in
+      let image : IsCopiedWord p g.items (get_or p.start (z.word / 4 + k) 0) (get_or mem (z.place + k) 0) = (copy-of z i).done k (z.place + k) low high refl (omega (arith, r, high)) in
+      let P : ℕ → Type 0 = λ a. IsCopiedWord p g.items (get_or p.start (z.word / 4 + k) 0) a in
       let same : get_or mem (z.place + k) 0 ≡ x = ap (λ a. get_or mem (a + k) 0) (sym (place-to z)) ∙ sym e in
       image-alone (get_or p.start (z.word / 4 + k) 0) x u s (subst P same image) q
 
@@ -549,10 +549,10 @@ module _ (p : Task) (known : List Item) (mem : List ℕ) (top : ℕ) (g : Copyin
       let R : ℕ → Type 0 = λ a. Stands p.test p.shared p.start a u in
       inr (ap (λ a. p.stay (a / 4)) same ∙ closed v k t s y h low high (subst P same q), (u, subst R (sym same) r))
 
-  reach-alone : IsClosed p → (result : ℕ) → IsImage p g.items p.word result → (x : ℕ) → Reach mem (result ∷ []) x → IsPointer x → Alone x
+  reach-alone : IsClosed p → (result : ℕ) → IsCopiedWord p g.items p.word result → (x : ℕ) → Reach mem (result ∷ []) x → IsPointer x → Alone x
   unfolding Alone
   reach-alone closed result image x (root zero y below e) q =
-      let P : ℕ → Type 0 = λ a. IsImage p g.items p.word a in
+      let P : ℕ → Type 0 = λ a. IsCopiedWord p g.items p.word a in
       image-alone p.word x p.tree g.ready.standing (subst P (sym e) image) q
   reach-alone closed result image x (root (suc i) y below e) q = absurd (omega (arith, below))
   reach-alone closed result image x (part v k y r w from below e) q = elim (reach-alone closed result image v r w) [
@@ -616,20 +616,20 @@ module _ (p : Task) (known : List Item) (mem : List ℕ) (top : ℕ) (g : Copyin
     | inr (inr more) ↦ absurd (omega (arith, e, g.rises r q (led-of r b) (led-of q a) more))
   ]
 
-  rooted-now : (result : ℕ) → IsImage p g.items p.word result → (Goes p p.word → result / 4 ≡ p.top)
+  rooted-now : (result : ℕ) → IsCopiedWord p g.items p.word result → (Goes p p.word → result / 4 ≡ p.top)
       → (q : ℕ) → PointsInto mem (tiles_of g.items) p.top top q → IsPointer result → get_or mem q 0 / 4 ≡ result / 4 → ⊥
   rooted-now result (inr h) first q a y e = omega (arith, first h.0, e, g.beyond q (led-of q a))
   rooted-now result (inl (stays, same)) first q a y e =
       let P : ℕ → Type 0 = λ w. IsPointer w in
       omega (arith, same, e, a.low, a.high, outside p.word p.tree g.ready.standing (subst P same y))
 
-  left-none : left_of g.after ≡ 0
-  left-none = ap left_of (spread-none p.start top g.after g.further)
+  left-none : flat_of_parts g.after ≡ 0
+  left-none = ap flat_of_parts (spread-none p.start top g.after g.further)
 
-  pub whole : (result : ℕ) → IsImage p known p.word result → (Goes p p.word → result / 4 ≡ p.top) → CopiesTree p mem top result
+  pub whole : (result : ℕ) → IsCopiedWord p known p.word result → (Goes p p.word → result / 4 ≡ p.top) → CopiesTree p mem top result
   unfolding links-now
   whole result im first =
-      let image : IsImage p g.items p.word result = image-more p known g.items p.word result g.has im in
+      let image : IsCopiedWord p g.items p.word result = image-more p known g.items p.word result g.has im in
       record {
         test = test;
         more = test-more;

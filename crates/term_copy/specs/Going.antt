@@ -15,7 +15,7 @@ use Rattle.term_copy.specs.Row.{is_link}
 use Rattle.term_copy.specs.Copied.{Task}
 
 -- The tree stands clear of the free words, and these hold its flat words.
-pub record Ready (p : Task) : Type 0 where
+pub record ReadyToCopy (p : Task) : Type 0 where
   pub single : IsSingle p.test
   pub standing : Stands p.test p.shared p.start p.word p.tree
   pub clear : IsFree p.test p.top p.limit
@@ -38,9 +38,9 @@ Spread old from [] to = from ≡ to
 Spread old from (x ∷ xs) to = (x.place ≡ from) × Spread old (from + object_words old x.word) xs to
 
 -- The flat words of all their parts.
-abbrev pub left_of : List Item → ℕ
-left_of [] = 0
-left_of (x ∷ xs) = flat_of_all (parts_of x.tree) + left_of xs
+abbrev pub flat_of_parts : List Item → ℕ
+flat_of_parts [] = 0
+flat_of_parts (x ∷ xs) = flat_of_all (parts_of x.tree) + flat_of_parts xs
 
 -- How many of them are holders and funs that name the record.
 abbrev pub tally : List ℕ → (v : ℕ) → List Item → ℕ
@@ -53,19 +53,19 @@ pub record Goes (p : Task) (w : ℕ) : Type 0 where
   pub goes : p.stay (w / 4) ≡ false
 
 -- The word x is what the word w has become: the pointer to a copy of its object, or the same word where none is copied.
-abbrev pub IsImage : Task → List Item → (w x : ℕ) → Type 0
-IsImage p xs w x = ((Goes p w → ⊥) × (x ≡ w)) ⊎ (Goes p w × ((z : Item) × (Among z xs × ((z.word ≡ w) × (x ≡ z.place * 4 + w % 4)))))
+abbrev pub IsCopiedWord : Task → List Item → (w x : ℕ) → Type 0
+IsCopiedWord p xs w x = ((Goes p w → ⊥) × (x ≡ w)) ⊎ (Goes p w × ((z : Item) × (Among z xs × ((z.word ≡ w) × (x ≡ z.place * 4 + w % 4)))))
 
 -- The copy has the words of its original, but for 0 in place of a word `next`; its traced words below a mark have been
 -- replaced by their images.
-pub record IsCopy (p : Task) (mem : List ℕ) (mark : ℕ) (xs : List Item) (x : Item) : Type 0 where
+pub record HasCopiedWords (p : Task) (mem : List ℕ) (mark : ℕ) (xs : List Item) (x : Item) : Type 0 where
   pub plain : (j q : ℕ) → j < first_traced p.start x.word → j < object_words p.start x.word → q ≡ x.place + j
       → (is_link p.start x.word ≡ true → j ≡ 2 → ⊥) → slice_index mem q ≡ slice_index p.start (x.word / 4 + j)
   pub next : is_link p.start x.word ≡ true → slice_index mem (x.place + 2) ≡ 0
   pub waits : (j q : ℕ) → first_traced p.start x.word ≤ j → j < object_words p.start x.word → q ≡ x.place + j → mark ≤ q
       → slice_index mem q ≡ slice_index p.start (x.word / 4 + j)
   pub done : (j q : ℕ) → first_traced p.start x.word ≤ j → j < object_words p.start x.word → q ≡ x.place + j → q < mark
-      → IsImage p xs (slice_index p.start (x.word / 4 + j)) (slice_index mem q)
+      → IsCopiedWord p xs (slice_index p.start (x.word / 4 + j)) (slice_index mem q)
 
 -- At the place is a traced word of a copy, below a mark, in place of one that points to an object that is copied.
 pub record IsLed (p : Task) (mark : ℕ) (xs : List Item) (q : ℕ) : Type 0 where
@@ -87,7 +87,7 @@ pub record IsOf (p : Task) (x : Item) : Type 0 where
 -- on are all left; beside these, words of a tree or trees of so many flat words are. Some copies are known by name. The
 -- pointers to copies rise with their places, behind the first copy.
 pub record Copying (p : Task) (known : List Item) (mem : List ℕ) (mark at top owed : ℕ) : Type 0 where
-  pub ready : Ready p
+  pub ready : ReadyToCopy p
   pub items : List Item
   pub after : List Item
   pub has : (x : Item) → Among x known → Among x items
@@ -96,14 +96,14 @@ pub record Copying (p : Task) (known : List Item) (mem : List ℕ) (mark at top 
   pub further : Spread p.start at after top
   pub among : (x : Item) → Among x after → Among x items
   pub stands : (x : Item) → Among x items → IsOf p x
-  pub copies : (x : Item) → Among x items → IsCopy p mem mark items x
+  pub copies : (x : Item) → Among x items → HasCopiedWords p mem mark items x
   pub rises : (q r : ℕ) → IsLed p mark items q → IsLed p mark items r → q < r → slice_index mem q / 4 < slice_index mem r / 4
   pub beyond : (q : ℕ) → IsLed p mark items q → p.top < slice_index mem q / 4
   pub same_len : length mem ≡ length p.start
   pub others : (q : ℕ) → (q < p.top) ⊎ (top ≤ q) → (p.test q COUNT ≡ true → ⊥) → slice_index mem q ≡ slice_index p.start q
   pub counts : (v n : ℕ) → IsRecord p.test p.start v n → count_in mem v ≡ count_in p.start v + tally p.start v items
-  pub used : top + (owed + left_of after) ≤ p.top + flat p.tree
-  pub exact : ((q : ℕ) → p.stay q ≡ false) → top + (owed + left_of after) ≡ p.top + flat p.tree
+  pub used : top + (owed + flat_of_parts after) ≤ p.top + flat p.tree
+  pub exact : ((q : ℕ) → p.stay q ≡ false) → top + (owed + flat_of_parts after) ≡ p.top + flat p.tree
 
 -- The words from place q on stand for the trees in order, in the memory that the copy began with.
 abbrev pub Pends : Task → List ℕ → ℕ → Trees → Type 0
@@ -131,16 +131,16 @@ pub record Took (old new : List ℕ) (w to x : ℕ) : Type 0 where
   pub rest : (q : ℕ) → (q < to) ⊎ (to + object_words old w ≤ q) → (is_link old w ≡ true → q ≡ named old (w / 4) + 2 → ⊥) → slice_index new q ≡ slice_index old q
 
 -- The place lies beside n words.
-abbrev pub IsBeside : (a n q : ℕ) → Type 0
-IsBeside a n q = (q < a) ⊎ (a + n ≤ q)
+abbrev pub LiesBeside : (a n q : ℕ) → Type 0
+LiesBeside a n q = (q < a) ⊎ (a + n ≤ q)
 
 -- A holder or fun has six words, and its record, whose count is no word of it nor of its copy, can count one more.
 pub record CanCount (mem : List ℕ) (top w : ℕ) : Type 0 where
   pub size : 6 ≤ object_words mem w
   pub within : named mem (w / 4) + 4 ≤ length mem
   pub few : count_in mem (named mem (w / 4)) < 2 ^ 24
-  pub here : IsBeside (w / 4) (object_words mem w) (named mem (w / 4) + 2)
-  pub there : IsBeside top (object_words mem w) (named mem (w / 4) + 2)
+  pub here : LiesBeside (w / 4) (object_words mem w) (named mem (w / 4) + 2)
+  pub there : LiesBeside top (object_words mem w) (named mem (w / 4) + 2)
 
 -- The object can be copied to the free words from a place on, up to a limit.
 pub record CanTake (mem : List ℕ) (top limit w : ℕ) : Type 0 where
@@ -152,7 +152,7 @@ pub record CanTake (mem : List ℕ) (top limit w : ℕ) : Type 0 where
   pub link : is_link mem w ≡ true → CanCount mem top w
 
 -- The room's free places reach to the limit, and no record's count will be too large.
-pub record HasRoom (p : Task) (limit : ℕ) : Type 0 where
+pub record CopyHasRoom (p : Task) (limit : ℕ) : Type 0 where
   pub same : limit ≡ p.limit
   pub inside : p.limit ≤ length p.start
   pub counts : (v n : ℕ) → IsRecord p.test p.start v n → count_in p.start v < 2 ^ 23
@@ -179,20 +179,20 @@ pub record CanPart (mem : List ℕ) (room : Room) (w : ℕ) : Type 0 where
   pub on : Copying task known mem mark at room.top (flat tree + owed)
   pub standing : Stands task.test task.shared task.start w tree
   pub goes : Goes task w
-  pub has : HasRoom task room.end
+  pub has : CopyHasRoom task room.end
 
 -- A step of the copy has come to an image of the word, behind those that were written.
 pub record HasImage (p : Task) (known : List Item) (mem : List ℕ) (mark at top owed w x : ℕ) : Type 0 where
   pub on : Copying p known mem mark at top owed
-  pub image : IsImage p on.items w x
+  pub image : IsCopiedWord p on.items w x
   pub later : (q : ℕ) → IsLed p mark on.items q → slice_index mem q / 4 < x / 4
 
 -- The words from a place up to another are gone through next.
-pub record CanScan (mem : List ℕ) (room : Room) (stay : ℕ → Bool) (mark at : ℕ) (rest : Trees) : Type 0 where
+pub record CanScanRest (mem : List ℕ) (room : Room) (stay : ℕ → Bool) (mark at : ℕ) (rest : Trees) : Type 0 where
   pub task : Task
   pub known : List Item
   pub on : Scanning task known mem mark at room.top rest
-  pub has : HasRoom task room.end
+  pub has : CopyHasRoom task room.end
   pub same_stay : IsStay task stay
 
 -- The first of these words is.
@@ -200,25 +200,25 @@ pub record CanWord (mem : List ℕ) (room : Room) (stay : ℕ → Bool) (mark : 
   pub at : ℕ
   pub tree : Tree
   pub rest : Trees
-  pub can : CanScan mem room stay mark at (tree ▹ rest)
+  pub can : CanScanRest mem room stay mark at (tree ▹ rest)
 
 -- Some words up to a place are.
 pub record CanWords (mem : List ℕ) (room : Room) (stay : ℕ → Bool) (mark at : ℕ) : Type 0 where
   pub rest : Trees
-  pub can : CanScan mem room stay mark at rest
+  pub can : CanScanRest mem room stay mark at rest
 
 -- The object at a place is gone through next.
-pub record CanOpen (mem : List ℕ) (room : Room) (stay : ℕ → Bool) (at : ℕ) : Type 0 where
+pub record CanScanObject (mem : List ℕ) (room : Room) (stay : ℕ → Bool) (at : ℕ) : Type 0 where
   pub task : Task
   pub known : List Item
   pub on : Copying task known mem at at room.top 0
   pub some : at < room.top
-  pub has : HasRoom task room.end
+  pub has : CopyHasRoom task room.end
   pub same_stay : IsStay task stay
 
 -- The root has an image by the copies that are known, the first copy where it is copied, and the parts of all copies are left.
 pub record Begun (p : Task) (mem : List ℕ) (at top result : ℕ) : Type 0 where
   pub known : List Item
-  pub image : IsImage p known p.word result
+  pub image : IsCopiedWord p known p.word result
   pub first : Goes p p.word → result / 4 ≡ p.top
   pub on : Copying p known mem at at top 0

@@ -7,7 +7,7 @@ ghost use Rattle.term_build.specs.Taken.{IsFree};
 ghost use Rattle.term_build.specs.Clear.{IsRoom};
 ghost use Rattle.cheney.specs.Ranges.{stays};
 ghost use Rattle.term_copy.specs.Copied.{CanCopy, CopiesTree, Task};
-ghost use Rattle.term_copy.specs.Going.{Advances, Begun, IsStay, Ready};
+ghost use Rattle.term_copy.specs.Going.{Advances, Begun, IsStay, ReadyToCopy};
 
 use crate::objects::copy_part;
 use crate::scanning::{goes, scan_object};
@@ -42,7 +42,7 @@ fn copy_root(mem: &mut WordMem, room: &mut Room, stay: &Stay, w: u64) -> u64
     requires places { IsRoom room.old mem.old }
     requires can { CanCopy mem.old room.old w }
     ensures room { Advances room.old room.new }
-    ensures begins { (p : Task) → IsStay p (stays stay.now) → Ready p → p.start ≡ mem.old → p.top ≡ room.old.top → p.word ≡ w
+    ensures begins { (p : Task) → IsStay p (stays stay.now) → ReadyToCopy p → p.start ≡ mem.old → p.top ≡ room.old.top → p.word ≡ w
         → Begun p mem.new room.old.top room.new.top result }
 {
     if goes(stay, w) {

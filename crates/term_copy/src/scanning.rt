@@ -7,7 +7,7 @@ ghost use Rattle.term_tags.specs.declared.layouts.Layout.{Layout};
 ghost use Rattle.term_words.specs.Object.{IsPointer};
 ghost use Rattle.cheney.specs.Ranges.{stays};
 ghost use Rattle.term_copy.specs.Copied.{Task};
-ghost use Rattle.term_copy.specs.Going.{Advances, CanOpen, CanWord, CanWords, Copying, IsStay, Item, Scanning};
+ghost use Rattle.term_copy.specs.Going.{Advances, CanScanObject, CanWord, CanWords, Copying, IsStay, Item, Scanning};
 
 use crate::objects::copy_part;
 use cheney::Stay;
@@ -17,7 +17,7 @@ use word_mem::{Room, WordMem};
 /// Goes through the traced words of the object at a place, and answers the place after it.
 #[inline(always)]
 pub fn scan_object(mem: &mut WordMem, room: &mut Room, stay: &Stay, at: u64) -> u64
-    requires { CanOpen mem.old room.old (stays stay.now) at }
+    requires { CanScanObject mem.old room.old (stays stay.now) at }
     ensures room { Advances room.old room.new }
     ensures further { at < result }
     ensures each { (p : Task) (known : List Item) → IsStay p (stays stay.now) → Copying p known mem.old at at room.old.top 0

@@ -28,9 +28,9 @@ PairsStand c shared mem [] (pair k v ps) = ⊥
 PairsStand c shared mem (p ∷ words) stop = ⊥
 
 -- The words of a row by twos: each key with the value behind it.
-abbrev pub pairs_in : List ℕ → List (ℕ × ℕ)
-pairs_in (k ∷ v ∷ row) = (k, v) ∷ pairs_in row
-pairs_in _ = []
+abbrev pub word_pairs : List ℕ → List (ℕ × ℕ)
+word_pairs (k ∷ v ∷ row) = (k, v) ∷ word_pairs row
+word_pairs _ = []
 
 -- The words of the keys.
 abbrev pub keys_in : List (ℕ × ℕ) → List ℕ

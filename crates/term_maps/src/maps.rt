@@ -11,7 +11,7 @@ ghost use Rattle.term_build.specs.Taken.{Taken, IsFree, of_map};
 ghost use Rattle.term_build.specs.Grows.{Built};
 ghost use Rattle.term_build.specs.Clear.{IsRoom, Clear, KeepsClear, Uses};
 ghost use Rattle.term_maps.specs.Stops.{has_beyond, why_not};
-ghost use Rattle.term_maps.specs.Given.{PairsStand, keys_in, KeysNamed, KeysAreTerms, KeysWithin, CanMap, IsSorted, MapIsMade, pairs_in};
+ghost use Rattle.term_maps.specs.Given.{PairsStand, keys_in, KeysNamed, KeysAreTerms, KeysWithin, CanMap, IsSorted, MapIsMade, word_pairs};
 
 use crate::sorted::Sorted;
 use atom_names::AtomNames;
@@ -88,12 +88,12 @@ fn has_big_key(mem: &WordMem, pairs: &[(u64, u64)]) -> bool
 /// of `map`. `None` where more than 32 keys are distinct. The room and the memory are then as they were.
 pub fn map_of_row(mem: &mut WordMem, room: &mut Room, names: &AtomNames, row: &[u64]) -> Option<u64>
     requires places { IsRoom room.old mem.old }
-    requires pairs { CanMap names.now room.old mem.old (pairs_in row.now) }
-    requires within { KeysWithin mem.old (pairs_in row.now) }
-    ensures none { IfNone result ((c : ℕ → ℕ → Bool) (shared : List (List ℕ)) (given : Pairs) → PairsStand c shared mem.old (pairs_in row.now) given
+    requires pairs { CanMap names.now room.old mem.old (word_pairs row.now) }
+    requires within { KeysWithin mem.old (word_pairs row.now) }
+    ensures none { IfNone result ((c : ℕ → ℕ → Bool) (shared : List (List ℕ)) (given : Pairs) → PairsStand c shared mem.old (word_pairs row.now) given
         → why_not names.now shared given ≡ Some MapStop.Size) }
     ensures stopped { IfNone result ((room.new ≡ room.old) × (mem.new ≡ mem.old)) }
-    ensures made { IfSome result (λ w. (c : ℕ → ℕ → Bool) (shared : List (List ℕ)) (given : Pairs) → PairsStand c shared mem.old (pairs_in row.now) given
+    ensures made { IfSome result (λ w. (c : ℕ → ℕ → Bool) (shared : List (List ℕ)) (given : Pairs) → PairsStand c shared mem.old (word_pairs row.now) given
         → MapIsMade c names.now shared given room.old room.new mem.old mem.new w) }
 {
     let sorted = sort_row(mem, names, row)?;
@@ -102,11 +102,11 @@ pub fn map_of_row(mem: &mut WordMem, room: &mut Room, names: &AtomNames, row: &[
 
 // The keys and values of a row by their keys, or nothing where there are too many.
 fn sort_row(mem: &WordMem, names: &AtomNames, row: &[u64]) -> Option<Sorted>
-    requires named { KeysNamed mem.now names.now (keys_in (pairs_in row.now)) }
-    requires within { KeysWithin mem.now (pairs_in row.now) }
-    ensures none { IfNone result ((c : ℕ → ℕ → Bool) (shared : List (List ℕ)) (given : Pairs) → PairsStand c shared mem.now (pairs_in row.now) given
+    requires named { KeysNamed mem.now names.now (keys_in (word_pairs row.now)) }
+    requires within { KeysWithin mem.now (word_pairs row.now) }
+    ensures none { IfNone result ((c : ℕ → ℕ → Bool) (shared : List (List ℕ)) (given : Pairs) → PairsStand c shared mem.now (word_pairs row.now) given
         → why_not names.now shared given ≡ Some MapStop.Size) }
-    ensures sorted { IfSome result (λ s. (c : ℕ → ℕ → Bool) (shared : List (List ℕ)) (given : Pairs) → PairsStand c shared mem.now (pairs_in row.now) given
+    ensures sorted { IfSome result (λ s. (c : ℕ → ℕ → Bool) (shared : List (List ℕ)) (given : Pairs) → PairsStand c shared mem.now (word_pairs row.now) given
         → IsSorted c names.now shared mem.now given s) }
 {
     let mut sorted = Sorted::new();

@@ -23,7 +23,7 @@ use Rattle.term_read.specs.Look.{HasDigits, IsSeen, LiesInMemory}
 use Rattle.term_read.specs.declared.looks.Digits.{Digits}
 use Rattle.term_read.specs.declared.looks.Look.{Look}
 use Rattle.term_read.specs.declared.looks.Look.TheVariants as look
-use Rattle.term_walk.specs.Left.{parts_of}
+use Rattle.term_walk.specs.Left.{walk_parts}
 use Rattle.term_order.specs.Named.{is_named, are_named, pairs_named}
 use Rattle.term_order.specs.Own.{look_rank, signed, look_int, look_name, look_first, look_second, look_third, look_data, IsBytes, IsReadable, looks_order}
 
@@ -152,7 +152,7 @@ map-then names shared ps qs Greater e = refl
 map-then names shared ps qs Equal e = rows-order names shared ps qs (equal-numbers (pairs_len ps) (pairs_len qs) (sym e))
 
 abbrev IsOwn : List (List ℕ) → List (List ℕ) → Tree → Tree → Type 0
-IsOwn names shared a b = order names shared a b ≡ ordering_then (own_order names shared a b) (order_of_all names shared (parts_of a) (parts_of b))
+IsOwn names shared a b = order names shared a b ≡ ordering_then (own_order names shared a b) (order_of_all names shared (walk_parts a) (walk_parts b))
 
 pub order-own : (names shared : List (List ℕ)) (a b : Tree) → IsOwn names shared a b
 order-own names shared (Int i) (Int j) = one-one (int_cmp i j)
@@ -192,7 +192,7 @@ order-own names shared (Part a o n) b = refl
 abbrev parts_count : (rank first third : ℕ) → ℕ
 parts_count r a b = if r == 8 then 2 else (if r == 5 then a else (if r == 6 then a + a else (if r == 3 then b else 0)))
 
-parts-counted : (t : Tree) → trees_len (parts_of t) ≡ parts_count (kind_rank t) (first_in t) (third_in t)
+parts-counted : (t : Tree) → trees_len (walk_parts t) ≡ parts_count (kind_rank t) (first_in t) (third_in t)
 parts-counted (Map ps) = omega (arith, trees_len-append (keys_of ps) (values_of ps), keys-len ps, values-len ps)
 parts-counted (Int i) = refl
 parts-counted (Atom k) = refl
@@ -206,7 +206,7 @@ parts-counted (Bin bytes) = refl
 parts-counted (Shared id) = refl
 parts-counted (Part base offset len) = refl
 
-pub own-len : (names shared : List (List ℕ)) (a b : Tree) → own_order names shared a b ≡ Equal → trees_len (parts_of a) ≡ trees_len (parts_of b)
+pub own-len : (names shared : List (List ℕ)) (a b : Tree) → own_order names shared a b ≡ Equal → trees_len (walk_parts a) ≡ trees_len (walk_parts b)
 own-len names shared a b e =
     let (rank, more) = then-equals (nat_cmp (kind_rank a) (kind_rank b)) (ordering_then (int_cmp (int_in a) (int_in b))
     (ordering_then (bytes_order (name_in names a) (name_in names b)) (ordering_then (ordering_then (nat_cmp (first_in a) (first_in b))
@@ -345,7 +345,7 @@ rows-named n (pair k v ps) p =
     let (keys, values) = rows-named n ps others in
     (and_from (is_named n k) (are_named n (keys_of ps)) key keys, and_from (is_named n v) (are_named n (values_of ps)) value values)
 
-parts-named : (n : ℕ) (t : Tree) → is_named n t ≡ true → are_named n (parts_of t) ≡ true
+parts-named : (n : ℕ) (t : Tree) → is_named n t ≡ true → are_named n (walk_parts t) ≡ true
 parts-named n (Cons h t) p =
     let (head, tail) = and_parts (is_named n h) (is_named n t) p in
     and_from (is_named n h) (is_named n t && true) head (and_from (is_named n t) true tail refl)
@@ -354,10 +354,10 @@ parts-named n (Map ps) p = let (keys, values) = rows-named n ps p in are-append 
 parts-named n (Fun f a c env) p = (and_parts (nat_lt f n) (are_named n env) p).1
 parts-named n _ p = refl
 
-pub step-named : (n : ℕ) (now next : Tree) (rest after : Trees) → is_named n now ≡ true → are_named n rest ≡ true → trees_append (parts_of now) rest ≡ next ▹ after
+pub step-named : (n : ℕ) (now next : Tree) (rest after : Trees) → is_named n now ≡ true → are_named n rest ≡ true → trees_append (walk_parts now) rest ≡ next ▹ after
     → (is_named n next ≡ true) × (are_named n after ≡ true)
 step-named n now next rest after p q e =
-    let all : are_named n (next ▹ after) ≡ true = sym (ap (are_named n) e) ∙ are-append n (parts_of now) rest (parts-named n now p) q in
+    let all : are_named n (next ▹ after) ≡ true = sym (ap (are_named n) e) ∙ are-append n (walk_parts now) rest (parts-named n now p) q in
     and_parts (is_named n next) (are_named n after) all
 
 -- Two conses do not differ before their parts.

@@ -21,7 +21,7 @@ use Rattle.term_read.specs.Look.{IsSeen, Sees, LiesInMemory}
 use Rattle.term_read.specs.declared.looks.Look.{Look}
 use Rattle.term_read.specs.declared.looks.Look.TheVariants as look
 use Rattle.term_walk.specs.declared.levels.Rest.{Rest}
-use Rattle.term_walk.specs.Left.{AreLeft, left_of, deepest, parts_of, CanGo, HasLeft, GoesNext, Yields}
+use Rattle.term_walk.specs.Left.{AreLeft, left_of, deepest, walk_parts, CanGo, HasLeft, GoesNext, Yields}
 use Rattle.term_walk.specs.Weights.{nodes_in}
 use Rattle.term_walk.proofs.Sums.{nodes-append, nodes-own}
 use Rattle.term_order.specs.Named.{is_named, are_named}
@@ -86,7 +86,7 @@ walk-on c shared mem n t word next levels new l steps k sees g = record {
   standing = g.standing;
   left = g.left;
   few = g.few;
-  nodes_are = omega (arith, k.nodes_are, nodes-own c shared mem word k.now l sees, one-node l, nodes-append shared (parts_of k.now) (left_of k.rests), ap (nodes_of_all shared) g.order);
+  nodes_are = omega (arith, k.nodes_are, nodes-own c shared mem word k.now l sees, one-node l, nodes-append shared (walk_parts k.now) (left_of k.rests), ap (nodes_of_all shared) g.order);
   depth_is = omega (arith, k.depth_is, g.depths);
   named = λ e. step-named n k.now g.now (left_of k.rests) (left_of g.rests) (k.named e).0 (k.named e).1 g.order;
 }
@@ -126,13 +126,13 @@ walk-past c shared mem n t word next levels new steps k g = record {
 -- Where the two words do not differ before their parts, the order is that of the parts and of what is left behind them.
 order-parts : (c : ℕ → ℕ → Bool) (shared : List (List ℕ)) (mem : List ℕ) (names : List (List ℕ)) (t u : Tree) (x y : ℕ) (left right : List Rest) (steps : ℕ)
     → (k : Comparing c shared mem names t u x y left right steps) → own_order names shared k.first.now k.second.now ≡ ordering.Equal
-    → order names shared t u ≡ order_of_all names shared (trees_append (parts_of k.first.now) (left_of k.first.rests)) (trees_append (parts_of k.second.now) (left_of k.second.rests))
+    → order names shared t u ≡ order_of_all names shared (trees_append (walk_parts k.first.now) (left_of k.first.rests)) (trees_append (walk_parts k.second.now) (left_of k.second.rests))
 order-parts c shared mem names t u x y left right steps k e =
     let behind : Ordering = order_of_all names shared (left_of k.first.rests) (left_of k.second.rests) in
-    let parts : Ordering = order_of_all names shared (parts_of k.first.now) (parts_of k.second.now) in
+    let parts : Ordering = order_of_all names shared (walk_parts k.first.now) (walk_parts k.second.now) in
     k.order_is
     ∙ ap (λ z. ordering_then z behind) (order-own names shared k.first.now k.second.now ∙ ap (λ z. ordering_then z parts) e)
-    ∙ sym (order-append names shared (parts_of k.first.now) (parts_of k.second.now) (left_of k.first.rests) (left_of k.second.rests) (own-len names shared k.first.now k.second.now e))
+    ∙ sym (order-append names shared (walk_parts k.first.now) (walk_parts k.second.now) (left_of k.first.rests) (left_of k.second.rests) (own-len names shared k.first.now k.second.now e))
 
 differs-then : (o p q : Ordering) → (o ≡ ordering.Equal → ⊥) → ordering_then (ordering_then o p) q ≡ o
 differs-then ordering.Less p q other = refl
@@ -144,7 +144,7 @@ order-differs : (c : ℕ → ℕ → Bool) (shared : List (List ℕ)) (mem : Lis
     → own_order names shared k.first.now k.second.now ≡ order names shared t u
 order-differs c shared mem names t u x y left right steps k other =
     let behind : Ordering = order_of_all names shared (left_of k.first.rests) (left_of k.second.rests) in
-    let parts : Ordering = order_of_all names shared (parts_of k.first.now) (parts_of k.second.now) in
+    let parts : Ordering = order_of_all names shared (walk_parts k.first.now) (walk_parts k.second.now) in
     sym (k.order_is ∙ ap (λ z. ordering_then z behind) (order-own names shared k.first.now k.second.now) ∙ differs-then (own_order names shared k.first.now k.second.now) parts behind other)
 
 -- A tree within the walk limit is nowhere too deep, and has so few nodes.
@@ -190,7 +190,7 @@ module _ (mem : List ℕ) (names : List (List ℕ)) (a b x y : ℕ) (left right 
   module _ (same : r ≡ ordering.Equal) (w : BothWithin mem a b) (p q : Option ℕ) (left2 right2 : List Rest) (sp : StepsOn mem left l p left2) (sq : StepsOn mem right m q right2) where
     parts-order : (c : ℕ → ℕ → Bool) (shared : List (List ℕ)) (t u : Tree) (st : Stands c shared mem a t) (su : Stands c shared mem b u)
         → let here : Comparing c shared mem names t u x y left right steps = k c shared t u st su in
-        order names shared t u ≡ order_of_all names shared (trees_append (parts_of here.first.now) (left_of here.first.rests)) (trees_append (parts_of here.second.now) (left_of here.second.rests))
+        order names shared t u ≡ order_of_all names shared (trees_append (walk_parts here.first.now) (left_of here.first.rests)) (trees_append (walk_parts here.second.now) (left_of here.second.rests))
     parts-order c shared t u st su = order-parts c shared mem names t u x y left right steps (k c shared t u st su) (sym (own-found c shared t u st su) ∙ same)
 
     first-step : (c : ℕ → ℕ → Bool) (shared : List (List ℕ)) (t u : Tree) (st : Stands c shared mem a t) (su : Stands c shared mem b u)

@@ -11,7 +11,7 @@ use Rattle.term_words.specs.Stands.{Stands}
 use Rattle.term_read.specs.Look.{IsSeen}
 use Rattle.term_read.specs.declared.looks.Look.{Look}
 use Rattle.term_walk.specs.declared.levels.Rest.{Rest}
-use Rattle.term_walk.specs.Left.{AreLeft, left_of, deepest, parts_of, GoesTo, WalkEnds}
+use Rattle.term_walk.specs.Left.{AreLeft, left_of, deepest, walk_parts, GoesTo, WalkEnds}
 use Rattle.term_order.specs.declared.compared.Compared.{Compared}
 use Rattle.term_order.specs.declared.compared.Compared.TheVariants.{Less, Same, More, Beyond}
 use Rattle.term_order.specs.Named.{is_named}
@@ -54,11 +54,11 @@ abbrev pub at_end : Option ℕ → Ordering
 at_end (Some word) = ordering.Less
 at_end None = ordering.Equal
 
--- Where a walk goes from a tree, as of `Goes`, but for what is too deep.
+-- Where a walk goes from a tree, as of `WalkGoes`, but for what is too deep.
 abbrev pub IsStep : (ℕ → ℕ → Bool) → List (List ℕ) → List ℕ → List Rest → Tree → List Trees → Option ℕ → List Rest → Type 0
 IsStep c shared mem old now rests (Some word) new =
-    GoesTo c shared mem (trees_append (parts_of now) (left_of rests)) (max (length old + depth now) (deepest old rests)) word new
-IsStep c shared mem old now rests None new = WalkEnds (trees_append (parts_of now) (left_of rests)) (max (length old + depth now) (deepest old rests))
+    GoesTo c shared mem (trees_append (walk_parts now) (left_of rests)) (max (length old + depth now) (deepest old rests)) word new
+IsStep c shared mem old now rests None new = WalkEnds (trees_append (walk_parts now) (left_of rests)) (max (length old + depth now) (deepest old rests))
 
 -- So it is for all trees that the words stand for, and that are nowhere too deep.
 pub record StepsOn (mem : List ℕ) (old : List Rest) (l : Look) (result : Option ℕ) (new : List Rest) : Type 0 where

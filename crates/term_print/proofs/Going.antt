@@ -4,7 +4,7 @@ use Rattle.std.proofs.lemmas.Bool.{or_parts, ltb-false, and_parts}
 use Rattle.std.proofs.lemmas.Bool.Decides.{nat_tests}
 use Rattle.std.proofs.lemmas.List.{length-reverse}
 use Rattle.std.specs.Prelude.{IsErr}
-use Rattle.line_io.specs.Sink.{Grew, Written}
+use Rattle.line_io.specs.Sink.{Grew, WritesCounted}
 use Rattle.line_io.proofs.Growth.{Grew-nil, Grew-append}
 use Rattle.plain_term.specs.Tree.{Tree, Trees}
 use Rattle.plain_term.specs.Measures.{nodes, nodes_of_all, depth}
@@ -18,9 +18,9 @@ use Rattle.term_walk.proofs.Steps.{popped}
 use Rattle.term_print.specs.declared.levels.Level.{Level}
 use Rattle.term_print.specs.declared.levels.Part.{Part}
 use Rattle.term_print.specs.declared.levels.Step.TheVariants as step
-use Rattle.term_print.specs.Left.{mark_text, closing, taken, after_level, IsCountable, IsLeft, level_text, reach}
+use Rattle.term_print.specs.Left.{mark_text, closing_text, level_taken, after_level, IsCountable, IsLeft, level_text, reach}
 use Rattle.term_print.specs.Printed.{CanPrint, CanBegin, Opens, BeginsText}
-use Rattle.term_print.specs.Going.{AreLeft, text_left, nodes_left, AreShallow, AreNamed, IsPrintable, StaysPrintable, Printing, PrintsEach, Begun, GoesOn}
+use Rattle.term_print.specs.Going.{LevelsAreLeft, text_left, nodes_left, AreShallow, LeftAreNamed, IsPrintable, StaysPrintable, Printing, PrintsEach, PrintBegun, GoesOn}
 use Rattle.term_print.specs.Runs.{CanGather, Gathers}
 use Rattle.text_parts.proofs.Writing.{written-as, written-stops}
 use Rattle.term_print.proofs.Taking.{IsMore, more_text, IsNoDeeper, Took, ends, took, countable}
@@ -31,9 +31,9 @@ record TopLeft (c : ℕ → ℕ → Bool) (shared : List (List ℕ)) (mem : List
   others : List Trees
   cons : rests ≡ top ∷ others
   is_left : IsLeft c shared mem l top
-  are_left : AreLeft c shared mem ls others
+  are_left : LevelsAreLeft c shared mem ls others
 
-top-left : (c : ℕ → ℕ → Bool) (shared : List (List ℕ)) (mem : List ℕ) (l : Level) (ls : List Level) (rests : List Trees) → AreLeft c shared mem (l ∷ ls) rests → TopLeft c shared mem l ls rests
+top-left : (c : ℕ → ℕ → Bool) (shared : List (List ℕ)) (mem : List ℕ) (l : Level) (ls : List Level) (rests : List Trees) → LevelsAreLeft c shared mem (l ∷ ls) rests → TopLeft c shared mem l ls rests
 top-left c shared mem l ls [] bad = absurd bad
 top-left c shared mem l ls (ts ∷ rests) (one, all) = record { top = ts; others = rests; cons = refl; is_left = one; are_left = all }
 
@@ -44,7 +44,7 @@ pub record NextFits (n : ℕ) (shared : List (List ℕ)) (now : Tree) (levels : 
   pub room : length levels + depth now ≤ depth_limit
   pub shallow : AreShallow levels rests
   pub named : is_named n now ≡ true
-  pub others_named : AreNamed n rests
+  pub others_named : LeftAreNamed n rests
 
 pub record Coming {K : Type 0} (c : ℕ → ℕ → Bool) (shared : List (List ℕ)) (mem : List ℕ) (names : List (List ℕ)) (t : Tree) (mark : List ℕ) (tail : Bool) (word : ℕ) (levels : List Level) (seen : ℕ)
     (wrote : K → List ℕ → Type 0) (start now : K) : Type 0 where
@@ -52,7 +52,7 @@ pub record Coming {K : Type 0} (c : ℕ → ℕ → Bool) (shared : List (List �
   pub rests : List Trees
   pub came : List ℕ
   pub standing : Stands c shared mem word next
-  pub left : AreLeft c shared mem levels rests
+  pub left : LevelsAreLeft c shared mem levels rests
   pub whole : text names shared t ≡ came ++ ((mark ++ text_as names shared tail next) ++ text_left names shared levels rests)
   pub grew : Grew wrote start now came
   pub fits : IsPrintable (length names) shared t → NextFits (length names) shared next levels rests seen
@@ -62,13 +62,13 @@ pub record Coming {K : Type 0} (c : ℕ → ℕ → Bool) (shared : List (List �
 record Pushed (c : ℕ → ℕ → Bool) (shared : List (List ℕ)) (mem : List ℕ) (names : List (List ℕ)) (tail : Bool) (now : Tree) (own : List ℕ) (levels new : List Level) (rests : List Trees)
     (seen : ℕ) : Type 0 where
   more : List Trees
-  left : AreLeft c shared mem new more
+  left : LevelsAreLeft c shared mem new more
   whole : text_as names shared tail now ++ text_left names shared levels rests ≡ own ++ text_left names shared new more
   fits : NextFits (length names) shared now levels rests seen → StaysPrintable (length names) shared new more (seen + 1)
 
 pushed : (c : ℕ → ℕ → Bool) (shared : List (List ℕ)) (mem : List ℕ) (names : List (List ℕ)) (tail : Bool) (now : Tree) (own : List ℕ) (parts : Option Level) (levels : List Level)
     (rests : List Trees) (seen : ℕ)
-    → AreLeft c shared mem levels rests → Opens c shared mem names tail now own parts → Pushed c shared mem names tail now own levels (after_level parts levels) rests seen
+    → LevelsAreLeft c shared mem levels rests → Opens c shared mem names tail now own parts → Pushed c shared mem names tail now own levels (after_level parts levels) rests seen
 pushed c shared mem names tail now own None levels rests seen left o = record {
   more = rests;
   left = left;
@@ -114,7 +114,7 @@ goes-on {K} {E} c shared mem names t mark tail word levels new seen wrote faults
 pub goes-off : {K E F : Type 0} (c : ℕ → ℕ → Bool) (shared : List (List ℕ)) (mem : List ℕ) (names : List (List ℕ)) (t : Tree) (mark : List ℕ) (tail : Bool) (word : ℕ) (levels new : List Level)
     (seen : ℕ) (wrote : K → List ℕ → Type 0) (faults : K → ℕ) (start before after : K) (e : E) (r : Result (Unit {0}) F) → IsErr r → faults before ≡ faults start
     → (n : Coming c shared mem names t mark tail word levels seen wrote start before)
-    → BeginsText c shared mem names mark tail n.next levels new wrote faults before after (Err e) → Written wrote faults start after (text names shared t) r
+    → BeginsText c shared mem names mark tail n.next levels new wrote faults before after (Err e) → WritesCounted wrote faults start after (text names shared t) r
 goes-off {K} {E} {F} c shared mem names t mark tail word levels new seen wrote faults start before after e r failed same n b =
     let p : Pushed c shared mem names tail n.next b.own levels (after_level b.parts levels) n.rests seen = pushed c shared mem names tail n.next b.own b.parts levels n.rests seen n.left b.opens in
     written-stops wrote faults start before after (text names shared t) n.came (mark ++ b.own) (text_left names shared (after_level b.parts levels) p.more) e r failed n.grew same
@@ -139,15 +139,15 @@ comes-first c shared mem names t w wrote start s = record {
 
 record Kept (c : ℕ → ℕ → Bool) (shared : List (List ℕ)) (mem : List ℕ) (names : List (List ℕ)) (more : Option Level) (after : Trees) (levels : List Level) (rests : List Trees) : Type 0 where
   all : List Trees
-  left : AreLeft c shared mem (after_level more levels) all
+  left : LevelsAreLeft c shared mem (after_level more levels) all
   whole : more_text names shared more after ++ text_left names shared levels rests ≡ text_left names shared (after_level more levels) all
   count : nodes_left shared all ≡ nodes_of_all shared after + nodes_left shared rests
-  named : are_named (length names) after ≡ true → AreNamed (length names) rests → AreNamed (length names) all
+  named : are_named (length names) after ≡ true → LeftAreNamed (length names) rests → LeftAreNamed (length names) all
   shallow : (now : Tree) (deep : ℕ) → IsNoDeeper more after now deep → length levels + deep ≤ depth_limit → AreShallow levels rests
       → AreShallow (after_level more levels) all × (length (after_level more levels) + depth now ≤ depth_limit)
 
 kept : (c : ℕ → ℕ → Bool) (shared : List (List ℕ)) (mem : List ℕ) (names : List (List ℕ)) (more : Option Level) (after : Trees) (levels : List Level) (rests : List Trees)
-    → AreLeft c shared mem levels rests → IsMore c shared mem more after → Kept c shared mem names more after levels rests
+    → LevelsAreLeft c shared mem levels rests → IsMore c shared mem more after → Kept c shared mem names more after levels rests
 kept c shared mem names None after levels rests left m = record {
   all = rests;
   left = left;
@@ -166,7 +166,7 @@ kept c shared mem names (Some l) after levels rests left m = record {
 }
 
 comes-part : {K : Type 0} (c : ℕ → ℕ → Bool) (shared : List (List ℕ)) (mem : List ℕ) (names : List (List ℕ)) (t : Tree) (l : Level) (ls : List Level) (p : Part) (seen : ℕ)
-    (wrote : K → List ℕ → Type 0) (start now : K) → taken l ≡ step.Part p → Printing c shared mem names t (l ∷ ls) seen wrote start now
+    (wrote : K → List ℕ → Type 0) (start now : K) → level_taken l ≡ step.Part p → Printing c shared mem names t (l ∷ ls) seen wrote start now
     → Coming c shared mem names t (mark_text p.mark) p.tail (get_or mem p.place 0) (after_level p.more ls) seen wrote start now
 comes-part {K} c shared mem names t l ls p seen wrote start now e g =
     let top : TopLeft c shared mem l ls g.rests = top-left c shared mem l ls g.rests g.left in
@@ -202,23 +202,24 @@ comes-part {K} c shared mem names t l ls p seen wrote start now e g =
 -- An object ends.
 
 level-ends : {K : Type 0} (c : ℕ → ℕ → Bool) (shared : List (List ℕ)) (mem : List ℕ) (names : List (List ℕ)) (t : Tree) (l : Level) (ls : List Level) (last : Bool) (seen : ℕ)
-    (wrote : K → List ℕ → Type 0) (start now : K) → taken l ≡ step.End last → (g : Printing c shared mem names t (l ∷ ls) seen wrote start now)
-    → (top : TopLeft c shared mem l ls g.rests) → text names shared t ≡ g.came ++ (closing last ++ text_left names shared ls top.others)
+    (wrote : K → List ℕ → Type 0) (start now : K) → level_taken l ≡ step.End last → (g : Printing c shared mem names t (l ∷ ls) seen wrote start now)
+    → (top : TopLeft c shared mem l ls g.rests) → text names shared t ≡ g.came ++ (closing_text last ++ text_left names shared ls top.others)
 level-ends c shared mem names t l ls last seen wrote start now e g top =
     g.whole ∙ ap (λ z. g.came ++ text_left names shared (l ∷ ls) z) top.cons
     ∙ ap (λ z. g.came ++ (z ++ text_left names shared ls top.others)) (ends c shared mem names l last top.top top.is_left e)
 
 end-goes : {K : Type 0} (c : ℕ → ℕ → Bool) (shared : List (List ℕ)) (mem : List ℕ) (names : List (List ℕ)) (t : Tree) (l : Level) (ls : List Level) (last : Bool) (seen : ℕ)
-    (wrote : K → List ℕ → Type 0) (start before after : K) → taken l ≡ step.End last → Printing c shared mem names t (l ∷ ls) seen wrote start before → Grew wrote before after (closing last)
+    (wrote : K → List ℕ → Type 0) (start before after : K) → level_taken l ≡ step.End last → Printing c shared mem names t (l ∷ ls) seen wrote start before
+    → Grew wrote before after (closing_text last)
     → Printing c shared mem names t ls seen wrote start after
 end-goes {K} c shared mem names t l ls last seen wrote start before after e g w =
     let top : TopLeft c shared mem l ls g.rests = top-left c shared mem l ls g.rests g.left in
     record {
       rests = top.others;
-      came = g.came ++ closing last;
+      came = g.came ++ closing_text last;
       left = top.are_left;
-      whole = level-ends c shared mem names t l ls last seen wrote start before e g top ∙ sym (append_assoc g.came (closing last) (text_left names shared ls top.others));
-      grew = Grew-append wrote start before after g.came (closing last) g.grew w;
+      whole = level-ends c shared mem names t l ls last seen wrote start before e g top ∙ sym (append_assoc g.came (closing_text last) (text_left names shared ls top.others));
+      grew = Grew-append wrote start before after g.came (closing_text last) g.grew w;
       fits = λ f.
           let P : List Trees → Type 0 = λ z. StaysPrintable (length names) shared (l ∷ ls) z seen in
           let s : StaysPrintable (length names) shared (l ∷ ls) (top.top ∷ top.others) seen = subst P top.cons (g.fits f) in
@@ -227,11 +228,11 @@ end-goes {K} c shared mem names t l ls last seen wrote start before after e g w 
 
 end-stops : {K E F : Type 0} (c : ℕ → ℕ → Bool) (shared : List (List ℕ)) (mem : List ℕ) (names : List (List ℕ)) (t : Tree) (l : Level) (ls : List Level) (last : Bool) (seen : ℕ)
     (wrote : K → List ℕ → Type 0) (faults : K → ℕ)
-    (start before after : K) (e : E) (r : Result (Unit {0}) F) → IsErr r → faults before ≡ faults start → taken l ≡ step.End last → Printing c shared mem names t (l ∷ ls) seen wrote start before
-    → Written wrote faults before after (closing last) (Err e) → Written wrote faults start after (text names shared t) r
+    (start before after : K) (e : E) (r : Result (Unit {0}) F) → IsErr r → faults before ≡ faults start → level_taken l ≡ step.End last → Printing c shared mem names t (l ∷ ls) seen wrote start before
+    → WritesCounted wrote faults before after (closing_text last) (Err e) → WritesCounted wrote faults start after (text names shared t) r
 end-stops {K} {E} {F} c shared mem names t l ls last seen wrote faults start before after e r failed same is g w =
     let top : TopLeft c shared mem l ls g.rests = top-left c shared mem l ls g.rests g.left in
-    written-stops wrote faults start before after (text names shared t) g.came (closing last) (text_left names shared ls top.others) e r failed g.grew same
+    written-stops wrote faults start before after (text names shared t) g.came (closing_text last) (text_left names shared ls top.others) e r failed g.grew same
     (level-ends c shared mem names t l ls last seen wrote start before is g top) w
 
 -- What a level begins with was gathered and written, or a fault came in that.
@@ -269,7 +270,8 @@ gathered-goes c shared mem names t l m ls x seen wrote start before after g more
 gathered-stops : {K E F : Type 0} (c : ℕ → ℕ → Bool) (shared : List (List ℕ)) (mem : List ℕ) (names : List (List ℕ)) (t : Tree) (l m : Level) (ls : List Level) (x : List ℕ) (seen : ℕ)
     (wrote : K → List ℕ → Type 0) (faults : K → ℕ) (start before after : K) (e : E) (r : Result (Unit {0}) F) → IsErr r → faults before ≡ faults start
     → (g : Printing c shared mem names t (l ∷ ls) seen wrote start before)
-    → ((ts : Trees) → IsLeft c shared mem l ts → Gathers c shared mem names l m x ts) → Written wrote faults before after x (Err e) → Written wrote faults start after (text names shared t) r
+    → ((ts : Trees) → IsLeft c shared mem l ts → Gathers c shared mem names l m x ts) → WritesCounted wrote faults before after x (Err e)
+    → WritesCounted wrote faults start after (text names shared t) r
 gathered-stops c shared mem names t l m ls x seen wrote faults start before after e r failed same g more w =
     let top : TopLeft c shared mem l ls g.rests = top-left c shared mem l ls g.rests g.left in
     let k : Gathers c shared mem names l m x top.top = more top.top top.is_left in
@@ -280,7 +282,7 @@ gathered-stops c shared mem names t l m ls x seen wrote faults start before afte
 
 all-came : {K E : Type 0} (c : ℕ → ℕ → Bool) (shared : List (List ℕ)) (mem : List ℕ) (names : List (List ℕ)) (t : Tree) (levels : List Level) (seen : ℕ) (wrote : K → List ℕ → Type 0)
     (faults : K → ℕ) (start now : K) (u : Unit {0})
-    → levels ≡ [] → faults now ≡ faults start → Printing c shared mem names t levels seen wrote start now → Written {K = K} {E = E} wrote faults start now (text names shared t) (Ok u)
+    → levels ≡ [] → faults now ≡ faults start → Printing c shared mem names t levels seen wrote start now → WritesCounted {K = K} {E = E} wrote faults start now (text names shared t) (Ok u)
 all-came {K} {E} c shared mem names t levels seen wrote faults start now u none same g =
     let e : text names shared t ≡ g.came = g.whole ∙ ap (λ z. g.came ++ text_left names shared z g.rests) none ∙ append-nil g.came in
     let P : List ℕ → Type 0 = λ z. Grew wrote start now z in
@@ -302,7 +304,7 @@ prints-first {K} {E} mem names w old new wrote faults start after u none b = λ 
 pub first-stops : {K E F : Type 0} (mem : List ℕ) (names : List (List ℕ)) (w : ℕ) (old new : List Level) (wrote : K → List ℕ → Type 0) (faults : K → ℕ) (start after : K) (e : E)
     (r : Result (Unit {0}) F) → IsErr r → old ≡ []
     → ((c : ℕ → ℕ → Bool) (shared : List (List ℕ)) (now : Tree) → Stands c shared mem w now → BeginsText {K = K} {E = E} c shared mem names [] false now old new wrote faults start after (Err e))
-    → (c : ℕ → ℕ → Bool) (shared : List (List ℕ)) (t : Tree) → Stands c shared mem w t → Written wrote faults start after (text names shared t) r
+    → (c : ℕ → ℕ → Bool) (shared : List (List ℕ)) (t : Tree) → Stands c shared mem w t → WritesCounted wrote faults start after (text names shared t) r
 first-stops {K} {E} {F} mem names w old new wrote faults start after e r failed none b = λ c shared t s.
     let P : List Level → Type 0 = λ z. BeginsText {K = K} {E = E} c shared mem names [] false t z new wrote faults start after (Err e) in
     goes-off c shared mem names t [] false w [] new 0 wrote faults start start after e r failed refl (comes-first c shared mem names t w wrote start s) (subst P none (b c shared t s))
@@ -321,26 +323,26 @@ prints-gathered {K} mem names w xs ys l m x put seen wrote start before after it
 
 pub prints-gathered-stops : {K E F : Type 0} (mem : List ℕ) (names : List (List ℕ)) (w : ℕ) (xs ys : List Level) (l m : Level) (x put : List ℕ) (seen : ℕ) (wrote : K → List ℕ → Type 0)
     (faults : K → ℕ) (start before after : K) (e : E) (r : Result (Unit {0}) F) → IsErr r → faults before ≡ faults start → xs ≡ ys ++ l ∷ [] → put ≡ x
-    → PrintsEach mem names w (reverse xs) seen wrote start before → AllGather mem l m x → Written wrote faults before after put (Err e)
-    → (c : ℕ → ℕ → Bool) (shared : List (List ℕ)) (t : Tree) → Stands c shared mem w t → Written wrote faults start after (text names shared t) r
+    → PrintsEach mem names w (reverse xs) seen wrote start before → AllGather mem l m x → WritesCounted wrote faults before after put (Err e)
+    → (c : ℕ → ℕ → Bool) (shared : List (List ℕ)) (t : Tree) → Stands c shared mem w t → WritesCounted wrote faults start after (text names shared t) r
 prints-gathered-stops mem names w xs ys l m x put seen wrote faults start before after e r failed same items is p more g = λ c shared t s.
     gathered-stops c shared mem names t l m (reverse ys) x seen wrote faults start before after e r failed same (prints-popped mem names w xs ys l seen wrote start before items p c shared t s)
     (more c shared names) (written-as wrote faults before after put x (Err e) is g)
 
 pub prints-end : {K : Type 0} (mem : List ℕ) (names : List (List ℕ)) (w : ℕ) (l : Level) (ls : List Level) (last : Bool) (seen : ℕ) (wrote : K → List ℕ → Type 0) (start before after : K)
-    → taken l ≡ step.End last → PrintsEach mem names w (l ∷ ls) seen wrote start before → Grew wrote before after (closing last) → PrintsEach mem names w ls seen wrote start after
+    → level_taken l ≡ step.End last → PrintsEach mem names w (l ∷ ls) seen wrote start before → Grew wrote before after (closing_text last) → PrintsEach mem names w ls seen wrote start after
 prints-end mem names w l ls last seen wrote start before after e p g = λ c shared t s. end-goes c shared mem names t l ls last seen wrote start before after e (p c shared t s) g
 
 pub prints-end-stops : {K E F : Type 0} (mem : List ℕ) (names : List (List ℕ)) (w : ℕ) (l : Level) (ls : List Level) (last : Bool) (seen : ℕ) (wrote : K → List ℕ → Type 0) (faults : K → ℕ)
     (start before after : K) (e : E)
-    (r : Result (Unit {0}) F) → IsErr r → faults before ≡ faults start → taken l ≡ step.End last → PrintsEach mem names w (l ∷ ls) seen wrote start before
-    → Written wrote faults before after (closing last) (Err e)
-    → (c : ℕ → ℕ → Bool) (shared : List (List ℕ)) (t : Tree) → Stands c shared mem w t → Written wrote faults start after (text names shared t) r
+    (r : Result (Unit {0}) F) → IsErr r → faults before ≡ faults start → level_taken l ≡ step.End last → PrintsEach mem names w (l ∷ ls) seen wrote start before
+    → WritesCounted wrote faults before after (closing_text last) (Err e)
+    → (c : ℕ → ℕ → Bool) (shared : List (List ℕ)) (t : Tree) → Stands c shared mem w t → WritesCounted wrote faults start after (text names shared t) r
 prints-end-stops mem names w l ls last seen wrote faults start before after e r failed same is p g = λ c shared t s.
     end-stops c shared mem names t l ls last seen wrote faults start before after e r failed same is (p c shared t s) g
 
 pub prints-part : {K E : Type 0} (mem : List ℕ) (names : List (List ℕ)) (w : ℕ) (l : Level) (ls : List Level) (p : Part) (word : ℕ) (old new : List Level) (seen : ℕ) (wrote : K → List ℕ → Type 0)
-    (faults : K → ℕ) (start before after : K) (u : Unit {0}) → taken l ≡ step.Part p → word ≡ get_or mem p.place 0 → old ≡ after_level p.more ls
+    (faults : K → ℕ) (start before after : K) (u : Unit {0}) → level_taken l ≡ step.Part p → word ≡ get_or mem p.place 0 → old ≡ after_level p.more ls
     → PrintsEach mem names w (l ∷ ls) seen wrote start before
     → ((c : ℕ → ℕ → Bool) (shared : List (List ℕ)) (now : Tree) → Stands c shared mem word now
     → BeginsText {K = K} {E = E} c shared mem names (mark_text p.mark) p.tail now old new wrote faults before after (Ok u))
@@ -355,11 +357,11 @@ prints-part {K} {E} mem names w l ls p word old new seen wrote faults start befo
 
 pub prints-part-stops : {K E F : Type 0} (mem : List ℕ) (names : List (List ℕ)) (w : ℕ) (l : Level) (ls : List Level) (p : Part) (word : ℕ) (old new : List Level) (seen : ℕ)
     (wrote : K → List ℕ → Type 0) (faults : K → ℕ)
-    (start before after : K) (x : E) (r : Result (Unit {0}) F) → IsErr r → faults before ≡ faults start → taken l ≡ step.Part p → word ≡ get_or mem p.place 0 → old ≡ after_level p.more ls
+    (start before after : K) (x : E) (r : Result (Unit {0}) F) → IsErr r → faults before ≡ faults start → level_taken l ≡ step.Part p → word ≡ get_or mem p.place 0 → old ≡ after_level p.more ls
     → PrintsEach mem names w (l ∷ ls) seen wrote start before
     → ((c : ℕ → ℕ → Bool) (shared : List (List ℕ)) (now : Tree) → Stands c shared mem word now
     → BeginsText {K = K} {E = E} c shared mem names (mark_text p.mark) p.tail now old new wrote faults before after (Err x))
-    → (c : ℕ → ℕ → Bool) (shared : List (List ℕ)) (t : Tree) → Stands c shared mem w t → Written wrote faults start after (text names shared t) r
+    → (c : ℕ → ℕ → Bool) (shared : List (List ℕ)) (t : Tree) → Stands c shared mem w t → WritesCounted wrote faults start after (text names shared t) r
 prints-part-stops {K} {E} {F} mem names w l ls p word old new seen wrote faults start before after x r failed same e at is g b = λ c shared t s.
     let n : Coming c shared mem names t (mark_text p.mark) p.tail (get_or mem p.place 0) (after_level p.more ls) seen wrote start before = comes-part c shared mem names t l ls p seen wrote start
     before e (g c shared t s) in
@@ -370,7 +372,7 @@ prints-part-stops {K} {E} {F} mem names w l ls p word old new seen wrote faults 
 
 pub prints-all : {K E : Type 0} (mem : List ℕ) (names : List (List ℕ)) (w : ℕ) (levels : List Level) (seen : ℕ) (wrote : K → List ℕ → Type 0) (faults : K → ℕ) (start now : K) (u : Unit {0})
     → levels ≡ [] → faults now ≡ faults start → PrintsEach mem names w levels seen wrote start now
-    → (c : ℕ → ℕ → Bool) (shared : List (List ℕ)) (t : Tree) → Stands c shared mem w t → Written {K = K} {E = E} wrote faults start now (text names shared t) (Ok u)
+    → (c : ℕ → ℕ → Bool) (shared : List (List ℕ)) (t : Tree) → Stands c shared mem w t → WritesCounted {K = K} {E = E} wrote faults start now (text names shared t) (Ok u)
 prints-all mem names w levels seen wrote faults start now u none same p = λ c shared t s. all-came c shared mem names t levels seen wrote faults start now u none same (p c shared t s)
 
 -- What the calls of a step ask for.
@@ -390,7 +392,7 @@ pub record PartAsks (mem : List ℕ) (names : List (List ℕ)) (p : Part) (seen 
   pub few : seen + 1 ≤ node_limit
 
 pub part-asks : {K : Type 0} (mem : List ℕ) (names : List (List ℕ)) (w : ℕ) (l : Level) (ls : List Level) (p : Part) (seen : ℕ) (wrote : K → List ℕ → Type 0) (start now : K)
-    → CanPrint mem names w → taken l ≡ step.Part p → PrintsEach mem names w (l ∷ ls) seen wrote start now → PartAsks mem names p seen
+    → CanPrint mem names w → level_taken l ≡ step.Part p → PrintsEach mem names w (l ∷ ls) seen wrote start now → PartAsks mem names p seen
 part-asks mem names w l ls p seen wrote start now h e g =
     let here = g always h.shared h.tree h.standing in
     let n = comes-part always h.shared mem names h.tree l ls p seen wrote start now e here in
@@ -438,7 +440,7 @@ levels-grow parts more ls mid new e f = omega (arith, ap length e, ap length f, 
 
 -- No more levels are left than a walk has, and one.
 
-shallow-few : (c : ℕ → ℕ → Bool) (shared : List (List ℕ)) (mem : List ℕ) (levels : List Level) (rests : List Trees) → AreLeft c shared mem levels rests → AreShallow levels rests
+shallow-few : (c : ℕ → ℕ → Bool) (shared : List (List ℕ)) (mem : List ℕ) (levels : List Level) (rests : List Trees) → LevelsAreLeft c shared mem levels rests → AreShallow levels rests
     → length levels ≤ depth_limit + 1
 shallow-few c shared mem [] rests left s = omega arith
 shallow-few c shared mem (l ∷ ls) [] bad s = absurd bad
@@ -462,14 +464,14 @@ none-left mem names w items seen wrote start now h g (inr e) = absurd (omega (ar
 
 -- A fault ends it.
 pub stops : {K E : Type 0} (mem : List ℕ) (names : List (List ℕ)) (first : ℕ) (levels : List Level) (wrote : K → List ℕ → Type 0) (faults : K → ℕ) (start now : K) (r : Result ℕ E) → IsErr r
-    → ((q : Result (Unit {0}) E) → IsErr q → (c : ℕ → ℕ → Bool) (shared : List (List ℕ)) (t : Tree) → Stands c shared mem first t → Written wrote faults start now (text names shared t) q)
+    → ((q : Result (Unit {0}) E) → IsErr q → (c : ℕ → ℕ → Bool) (shared : List (List ℕ)) (t : Tree) → Stands c shared mem first t → WritesCounted wrote faults start now (text names shared t) q)
     → GoesOn mem names first levels wrote faults start now r
 stops mem names first levels wrote faults start now (Ok n) bad w = absurd cc
 stops mem names first levels wrote faults start now (Err e) failed w = w (Err e) failed
 
 -- The text was not written, whatever the fault.
 pub unwritten : {K E F : Type 0} (wrote : K → List ℕ → Type 0) (faults : K → ℕ) (start now : K) (x : List ℕ) (e : E) (r : Result (Unit {0}) F) → IsErr r
-    → Written wrote faults start now x (Err e) → Written wrote faults start now x r
+    → WritesCounted wrote faults start now x (Err e) → WritesCounted wrote faults start now x r
 unwritten wrote faults start now x e (Ok u) bad w = absurd cc
 unwritten wrote faults start now x e (Err f) failed w = record { all = tt; part = w.part; later = w.later; rose = w.rose; told = tt }
 
@@ -477,7 +479,7 @@ unwritten wrote faults start now x e (Err f) failed w = record { all = tt; part 
 pub begun-first : {K E : Type 0} (mem : List ℕ) (names : List (List ℕ)) (w : ℕ) (old new : List Level) (wrote : K → List ℕ → Type 0) (faults : K → ℕ) (start after : K) (u : Unit {0}) → old ≡ []
     → CanPrint mem names w
     → ((c : ℕ → ℕ → Bool) (shared : List (List ℕ)) (now : Tree) → Stands c shared mem w now → BeginsText {K = K} {E = E} c shared mem names [] false now old new wrote faults start after (Ok u))
-    → Begun mem names w new 1 wrote faults start after
+    → PrintBegun mem names w new 1 wrote faults start after
 begun-first {K} {E} mem names w old new wrote faults start after u none h b = record {
   prints = prints-first mem names w old new wrote faults start after u none b;
   told = (b always h.shared h.tree h.standing).written.told;

@@ -17,7 +17,7 @@ use Rattle.term_print.specs.declared.levels.Level.{Level}
 use Rattle.term_print.specs.declared.levels.Level.TheVariants as level
 use Rattle.term_print.specs.declared.levels.Part.{Part}
 use Rattle.term_print.specs.declared.levels.Step.TheVariants as step
-use Rattle.term_print.specs.Left.{mark_text, closing, IsCountable, in_turn, unwritten, part_taken, pair_taken, taken, AreTwo, ArePairs, IsLeft, mark_after, row_text, level_text, reach}
+use Rattle.term_print.specs.Left.{mark_text, closing_text, IsCountable, in_turn, unwritten, part_taken, pair_taken, level_taken, AreTwo, PairsAreLeft, IsLeft, mark_after, row_text, level_text, reach}
 
 -- What is left on a level behind a part.
 abbrev pub IsMore : (ℕ → ℕ → Bool) → List (List ℕ) → List ℕ → Option Level → Trees → Type 0
@@ -102,7 +102,7 @@ row-took c shared mem names row mark last (t ▹ ts) r some = record {
   order = refl;
   within = omega (arith, r.within);
   standing = r.standing.0;
-  whole = regroup (mark_text mark) (text_as names shared false t) (row_text names shared false Comma ts) (closing last);
+  whole = regroup (mark_text mark) (text_as names shared false t) (row_text names shared false Comma ts) (closing_text last);
   left = record { count = omega (arith, r.count); within = omega (arith, r.within); standing = r.standing.1 };
   deep = (omega arith, omega arith);
 }
@@ -123,8 +123,8 @@ key-took c shared mem rows (pair k v ps) names mark last count kw vw ks vs some 
       order = refl;
       within = omega (arith, kw);
       standing = ks.0;
-      whole = regroup (mark_text mark) (text_as names shared false k) (row_text names shared true (mark_after true mark) (v ▹ in_turn ps)) (closing last)
-          ∙ ap (λ z. mark_text mark ++ (text_as names shared false k ++ (row_text names shared true z (v ▹ in_turn ps) ++ closing last))) next;
+      whole = regroup (mark_text mark) (text_as names shared false k) (row_text names shared true (mark_after true mark) (v ▹ in_turn ps)) (closing_text last)
+          ∙ ap (λ z. mark_text mark ++ (text_as names shared false k ++ (row_text names shared true z (v ▹ in_turn ps) ++ closing_text last))) next;
       left = record { pairs = pair k v ps; left = refl; count = count; keys_within = kw; values_within = vw; keys_stand = ks; values_stand = vs };
       deep = (omega arith, omega arith);
     })
@@ -142,7 +142,7 @@ value-took c shared mem rows (pair k v ps) names last count kw vw ks vs some ts 
       order = refl;
       within = omega (arith, vw);
       standing = vs.0;
-      whole = regroup (mark_text Arrow) (text_as names shared false v) (row_text names shared true Comma (in_turn ps)) (closing last);
+      whole = regroup (mark_text Arrow) (text_as names shared false v) (row_text names shared true Comma (in_turn ps)) (closing_text last);
       left = record {
         pairs = ps;
         left = refl;
@@ -155,7 +155,7 @@ value-took c shared mem rows (pair k v ps) names last count kw vw ks vs some ts 
       deep = (omega arith, omega arith);
     })
 
-pairs-took : (c : ℕ → ℕ → Bool) (shared : List (List ℕ)) (mem : List ℕ) (names : List (List ℕ)) (rows : PairRows) (mark : Mark) (last : Bool) (ts : Trees) → ArePairs c shared mem rows mark ts
+pairs-took : (c : ℕ → ℕ → Bool) (shared : List (List ℕ)) (mem : List ℕ) (names : List (List ℕ)) (rows : PairRows) (mark : Mark) (last : Bool) (ts : Trees) → PairsAreLeft c shared mem rows mark ts
     → 0 < rows.len → Took c shared mem names (level.Pairs rows mark last) (pair_taken rows mark last) ts
 pairs-took c shared mem names rows Nothing last ts r some =
     key-took c shared mem rows r.pairs names Nothing last r.count r.keys_within r.values_within r.keys_stand r.values_stand some ts r.left refl
@@ -172,22 +172,22 @@ unwritten-end mark (pair k v ps) none = absurd (omega (arith, none))
 
 -- A level is at its end, or has a part.
 
-pub ends : (c : ℕ → ℕ → Bool) (shared : List (List ℕ)) (mem : List ℕ) (names : List (List ℕ)) (l : Level) (last : Bool) (ts : Trees) → IsLeft c shared mem l ts → taken l ≡ step.End last
-    → level_text names shared l ts ≡ closing last
+pub ends : (c : ℕ → ℕ → Bool) (shared : List (List ℕ)) (mem : List ℕ) (names : List (List ℕ)) (l : Level) (last : Bool) (ts : Trees) → IsLeft c shared mem l ts → level_taken l ≡ step.End last
+    → level_text names shared l ts ≡ closing_text last
 ends c shared mem names (level.List place) last ts r e = absurd (end-part last _ (sym e))
 ends c shared mem names (level.Tail place) last ts r e = absurd (end-part last _ (sym e))
 ends c shared mem names (level.Parts row mark x) last ts r e = elim (chosen (nat_eq row.len 0) (step.End x) (step.Part (part_taken row mark x)) (step.End last) e) [
-  | inl t ↦ let same : x ≡ last = cc in ap (λ z. row_text names shared false mark z ++ closing x) (row-end c shared mem row ts r (eqb-true row.len 0 t.0)) ∙ ap closing same
+  | inl t ↦ let same : x ≡ last = cc in ap (λ z. row_text names shared false mark z ++ closing_text x) (row-end c shared mem row ts r (eqb-true row.len 0 t.0)) ∙ ap closing_text same
   | inr f ↦ absurd (end-part last _ (sym f.1))
 ]
 ends c shared mem names (level.Pairs rows mark x) last ts r e = elim (chosen (nat_eq rows.len 0) (step.End x) (step.Part (pair_taken rows mark x)) (step.End last) e) [
   | inl t ↦
       let same : x ≡ last = cc in
-      ap (λ z. row_text names shared true mark z ++ closing x) (r.left ∙ unwritten-end mark r.pairs (sym r.count ∙ eqb-true rows.len 0 t.0)) ∙ ap closing same
+      ap (λ z. row_text names shared true mark z ++ closing_text x) (r.left ∙ unwritten-end mark r.pairs (sym r.count ∙ eqb-true rows.len 0 t.0)) ∙ ap closing_text same
   | inr f ↦ absurd (end-part last _ (sym f.1))
 ]
 
-pub took : (c : ℕ → ℕ → Bool) (shared : List (List ℕ)) (mem : List ℕ) (names : List (List ℕ)) (l : Level) (p : Part) (ts : Trees) → IsLeft c shared mem l ts → taken l ≡ step.Part p
+pub took : (c : ℕ → ℕ → Bool) (shared : List (List ℕ)) (mem : List ℕ) (names : List (List ℕ)) (l : Level) (p : Part) (ts : Trees) → IsLeft c shared mem l ts → level_taken l ≡ step.Part p
     → Took c shared mem names l p ts
 took c shared mem names (level.List place) p ts r e = took-as c shared mem names (level.List place) _ p ts e (two-took c shared mem names place ts r)
 took c shared mem names (level.Tail place) p ts r e = took-as c shared mem names (level.Tail place) _ p ts e (tail-took c shared mem names place ts r)

@@ -8,7 +8,7 @@ use Rattle.plain_term.specs.Measures.{nodes_of_all, nodes_of_pairs, greatest_dep
 use Rattle.plain_term.specs.Text.{text_as, text_of_all, more_terms, text_of_pairs, more_pairs, placed}
 use Rattle.term_order.specs.Named.{is_named, are_named, pairs_named}
 use Rattle.term_print.specs.declared.levels.Mark.TheVariants.{Nothing, Comma}
-use Rattle.term_print.specs.Left.{closing, in_turn, row_text}
+use Rattle.term_print.specs.Left.{closing_text, in_turn, row_text}
 use Rattle.term_print.specs.Own.{tuple_begun, map_begun}
 
 -- Terms after commas, and pairs.
@@ -34,13 +34,13 @@ pairs-row names shared (pair k v ps) =
 -- A tuple and a map, as they stand or behind a bar.
 
 pub tuple-text : (names shared : List (List ℕ)) (tail : Bool) (ts : Trees)
-    → placed tail (codes "{" ++ (text_of_all names shared ts ++ codes "}")) ≡ tuple_begun tail ++ (row_text names shared false Nothing ts ++ closing tail)
+    → placed tail (codes "{" ++ (text_of_all names shared ts ++ codes "}")) ≡ tuple_begun tail ++ (row_text names shared false Nothing ts ++ closing_text tail)
 tuple-text names shared false ts = ap (λ z. codes "{" ++ (z ++ codes "}")) (all-row names shared ts)
 tuple-text names shared true ts =
     ap (λ z. codes "|{" ++ z) (append_assoc (text_of_all names shared ts) (codes "}") (codes "]")) ∙ ap (λ z. codes "|{" ++ (z ++ codes "}]")) (all-row names shared ts)
 
 pub map-text : (names shared : List (List ℕ)) (tail : Bool) (ps : Pairs)
-    → placed tail (codes "#{" ++ (text_of_pairs names shared ps ++ codes "}")) ≡ map_begun tail ++ (row_text names shared true Nothing (in_turn ps) ++ closing tail)
+    → placed tail (codes "#{" ++ (text_of_pairs names shared ps ++ codes "}")) ≡ map_begun tail ++ (row_text names shared true Nothing (in_turn ps) ++ closing_text tail)
 map-text names shared false ps = ap (λ z. codes "#{" ++ (z ++ codes "}")) (pairs-row names shared ps)
 map-text names shared true ps =
     ap (λ z. codes "|#{" ++ z) (append_assoc (text_of_pairs names shared ps) (codes "}") (codes "]")) ∙ ap (λ z. codes "|#{" ++ (z ++ codes "}]")) (pairs-row names shared ps)

@@ -26,9 +26,9 @@ mark_text Comma = codes ","
 mark_text Arrow = codes "=>"
 
 -- The end of a tuple or a map, and of the list whose last tail it is.
-abbrev pub closing : (last : Bool) → List ℕ
-closing false = codes "}"
-closing true = codes "}]"
+abbrev pub closing_text : (last : Bool) → List ℕ
+closing_text false = codes "}"
+closing_text true = codes "}]"
 
 -- All places of the words that are left can be counted on.
 abbrev pub IsCountable : Level → Type 0
@@ -52,11 +52,11 @@ pair_taken rows Comma last = record { mark = Comma; place = rows.keys; tail = fa
 pair_taken rows Arrow last = record { mark = Arrow; place = rows.values; tail = false; more = Some (level.Pairs (pairs_after rows) Comma last) }
 
 -- What a level writes next.
-abbrev pub taken : Level → Step
-taken (level.List place) = step.Part (record { mark = Nothing; place = place; tail = false; more = Some (level.Tail (place + 1)) })
-taken (level.Tail place) = step.Part (record { mark = Nothing; place = place; tail = true; more = None })
-taken (level.Parts row mark last) = if row.len == 0 then step.End last else step.Part (part_taken row mark last)
-taken (level.Pairs rows mark last) = if rows.len == 0 then step.End last else step.Part (pair_taken rows mark last)
+abbrev pub level_taken : Level → Step
+level_taken (level.List place) = step.Part (record { mark = Nothing; place = place; tail = false; more = Some (level.Tail (place + 1)) })
+level_taken (level.Tail place) = step.Part (record { mark = Nothing; place = place; tail = true; more = None })
+level_taken (level.Parts row mark last) = if row.len == 0 then step.End last else step.Part (part_taken row mark last)
+level_taken (level.Pairs rows mark last) = if rows.len == 0 then step.End last else step.Part (pair_taken rows mark last)
 
 -- The level of the parts of a look's tree, if it has parts that are written; a fun's environment is not.
 abbrev pub level_in : Look → (tail : Bool) → Option Level
@@ -92,7 +92,7 @@ pub record AreTwo (c : ℕ → ℕ → Bool) (shared : List (List ℕ)) (mem : L
   pub tail_stands : Stands c shared mem (slice_index mem (place + 1)) tail
 
 -- The words of the two rows stand for the keys and values of pairs, of which these trees are left.
-pub record ArePairs (c : ℕ → ℕ → Bool) (shared : List (List ℕ)) (mem : List ℕ) (rows : PairRows) (mark : Mark) (ts : Trees) : Type 0 where
+pub record PairsAreLeft (c : ℕ → ℕ → Bool) (shared : List (List ℕ)) (mem : List ℕ) (rows : PairRows) (mark : Mark) (ts : Trees) : Type 0 where
   pub pairs : Pairs
   pub left : ts ≡ unwritten mark pairs
   pub count : rows.len ≡ pairs_len pairs
@@ -106,7 +106,7 @@ abbrev pub IsLeft : (ℕ → ℕ → Bool) → List (List ℕ) → List ℕ → 
 IsLeft c shared mem (level.List place) ts = AreTwo c shared mem place ts
 IsLeft c shared mem (level.Tail place) ts = IsTail c shared mem place ts
 IsLeft c shared mem (level.Parts row mark last) ts = RowStandsFor c shared mem row ts
-IsLeft c shared mem (level.Pairs rows mark last) ts = ArePairs c shared mem rows mark ts
+IsLeft c shared mem (level.Pairs rows mark last) ts = PairsAreLeft c shared mem rows mark ts
 
 -- What is written before the part behind this one: of pairs an arrow and a comma in turn, else a comma.
 abbrev pub mark_after : (in_pairs : Bool) → Mark → Mark
@@ -135,8 +135,8 @@ list_text names shared (t ▹ ts) = text_as names shared false t ++ tail_text na
 abbrev pub level_text : (names shared : List (List ℕ)) → Level → Trees → List ℕ
 level_text names shared (level.List place) ts = list_text names shared ts
 level_text names shared (level.Tail place) ts = tail_text names shared ts
-level_text names shared (level.Parts row mark last) ts = row_text names shared false mark ts ++ closing last
-level_text names shared (level.Pairs rows mark last) ts = row_text names shared true mark ts ++ closing last
+level_text names shared (level.Parts row mark last) ts = row_text names shared false mark ts ++ closing_text last
+level_text names shared (level.Pairs rows mark last) ts = row_text names shared true mark ts ++ closing_text last
 
 -- How many levels deep the trees of a level go, from it on: the head of a list is one level deeper than its tail.
 abbrev pub reach : Level → Trees → ℕ

@@ -1,6 +1,6 @@
 // The levels of a term that is written: on each, what is left to write of one object.
 ghost use Rattle.std.specs.Prelude.{◌≡◌, ◌<◌, length, reverse};
-ghost use Rattle.term_print.specs.Left.{IsCountable, after_level, closing, level_in, mark_text, part_taken, pair_taken, taken};
+ghost use Rattle.term_print.specs.Left.{IsCountable, after_level, closing_text, level_in, mark_text, part_taken, pair_taken, level_taken};
 
 use arrayvec::ArrayVec;
 use term_read::{Look, PairRows, Row};
@@ -53,7 +53,7 @@ pub enum Step {
 /// What a level writes next.
 pub fn next(level: Level) -> Step
     requires { IsCountable level }
-    ensures { result ≡ taken level }
+    ensures { result ≡ level_taken level }
 {
     match level {
         Level::List(place) => Step::Part(Part {
@@ -163,7 +163,7 @@ pub fn mark_bytes(mark: Mark) -> &'static [u8]
 
 /// The end of a tuple or a map, and of the list whose last tail it is.
 pub fn end_bytes(last: bool) -> &'static [u8]
-    ensures { result.now ≡ closing last }
+    ensures { result.now ≡ closing_text last }
 {
     if last { b"}]" } else { b"}" }
 }

@@ -8,8 +8,8 @@ use Rattle.plain_term.specs.Tree.Tree.{Int, Bin, Shared, Part}
 use Rattle.term_words.specs.Role.{always}
 use Rattle.term_words.specs.Object.{byte_of, BytesLie}
 use Rattle.term_words.specs.Stands.{Stands, IsTerm, IsBase}
-use Rattle.term_read.specs.Parts.{binary_of, whole_of, TellsOf, byte_len_in, byte_in}
-use Rattle.term_read.specs.Data.{BytesFrom, IsData, HasData, IsFirst, HasFirst}
+use Rattle.term_read.specs.Parts.{binary_of, whole_of, TellsOf, byte_len_in, binary_byte_in}
+use Rattle.term_read.specs.Data.{BytesFrom, IsData, HasData, IsFirstOfBytes, HasFirst}
 use Rattle.term_read.specs.declared.looks.Bytes.{Bytes}
 use Rattle.term_words.proofs.ByKind.Shapes.{told}
 
@@ -22,7 +22,7 @@ lies-from mem q bytes lie inside = record {
 -- The first word of the bytes of a whole binary.
 
 heap-first : (c : ℕ → ℕ → Bool) (shared : List (List ℕ)) (mem : List ℕ) (w : ℕ) (t : Tree) → Stands c shared mem w t → w % 4 ≡ 2 → get_or mem (w / 4) 0 / 4 % 16 ≡ 9
-    → IsFirst mem (whole_of shared t) (Some (w / 4 + 2))
+    → IsFirstOfBytes mem (whole_of shared t) (Some (w / 4 + 2))
 unfolding Stands
 heap-first c shared mem w (Bin bytes) o tag sub = (w / 4 + 2, refl, lies-from mem (w / 4 + 2) bytes o.content (omega (arith, o.boxed.object.within)))
 heap-first c shared mem w (Int (pos n)) s tag sub = absurd (omega (arith, told c shared mem w (Int (pos n)) s))
@@ -35,7 +35,7 @@ has-heap_first mem w p tag same =
     subst P (sym same) (λ sub. record { each = λ c shared t s. heap-first c shared mem w t s tag sub })
 
 holder-first : (c : ℕ → ℕ → Bool) (shared : List (List ℕ)) (mem : List ℕ) (w : ℕ) (t : Tree) → Stands c shared mem w t → w % 4 ≡ 2 → get_or mem (w / 4) 0 / 4 % 16 ≡ 8
-    → IsFirst mem (whole_of shared t) (Some (get_or mem (w / 4 + 3) 0 + 4)) × (get_or mem (w / 4 + 3) 0 + 4 ≤ length mem)
+    → IsFirstOfBytes mem (whole_of shared t) (Some (get_or mem (w / 4 + 3) 0 + 4)) × (get_or mem (w / 4 + 3) 0 + 4 ≤ length mem)
 unfolding Stands
 holder-first c shared mem w (Shared id) o tag sub = (
   (get_or mem (w / 4 + 3) 0 + 4, refl, lies-from mem (get_or mem (w / 4 + 3) 0 + 4) (shared_bytes shared id) o.record_is.content (omega (arith, o.record_is.within))),
@@ -56,7 +56,7 @@ record-inside mem w p i tag same =
     subst P (sym same) (λ sub. (holder-first always i.shared mem w i.tree i.standing tag sub).1)
 
 no-whole : (c : ℕ → ℕ → Bool) (shared : List (List ℕ)) (mem : List ℕ) (w : ℕ) (t : Tree) → Stands c shared mem w t
-    → (w % 4 ≡ 2 → get_or mem (w / 4) 0 / 4 % 16 ≡ 9 → ⊥) → (w % 4 ≡ 2 → get_or mem (w / 4) 0 / 4 % 16 ≡ 8 → ⊥) → IsFirst mem (whole_of shared t) None
+    → (w % 4 ≡ 2 → get_or mem (w / 4) 0 / 4 % 16 ≡ 9 → ⊥) → (w % 4 ≡ 2 → get_or mem (w / 4) 0 / 4 % 16 ≡ 8 → ⊥) → IsFirstOfBytes mem (whole_of shared t) None
 unfolding Stands
 no-whole c shared mem w (Bin bytes) o a b = absurd (a o.boxed.tag (omega (arith, o.boxed.header)))
 no-whole c shared mem w (Shared id) o a b = absurd (b o.holder.tag (omega (arith, o.holder.header)))
@@ -96,12 +96,12 @@ slice-from mem first offset len whole b inside = record {
       subst P same there ∙ sym read;
 }
 
-pub base-some : (mem : List ℕ) (shared : List (List ℕ)) (base : Tree) (v : ℕ) → IsBase base → IsFirst mem (whole_of shared base) (Some v) → BytesFrom mem v 0 (bytes_of shared base)
+pub base-some : (mem : List ℕ) (shared : List (List ℕ)) (base : Tree) (v : ℕ) → IsBase base → IsFirstOfBytes mem (whole_of shared base) (Some v) → BytesFrom mem v 0 (bytes_of shared base)
 base-some mem shared (Bin bytes) v is (u, e, b) = let P : ℕ → Type 0 = λ x. BytesFrom mem x 0 bytes in subst P (sym (same_Some v u e)) b
 base-some mem shared (Shared id) v is (u, e, b) = let P : ℕ → Type 0 = λ x. BytesFrom mem x 0 (shared_bytes shared id) in subst P (sym (same_Some v u e)) b
 base-some mem shared _ v is b = absurd is
 
-pub base-none : (mem : List ℕ) (shared : List (List ℕ)) (base : Tree) → IsBase base → IsFirst mem (whole_of shared base) None → ⊥
+pub base-none : (mem : List ℕ) (shared : List (List ℕ)) (base : Tree) → IsBase base → IsFirstOfBytes mem (whole_of shared base) None → ⊥
 base-none mem shared (Bin bytes) is (u, e, b) = none-some u e
 base-none mem shared (Shared id) is (u, e, b) = none-some u e
 base-none mem shared _ is b = absurd is
@@ -139,13 +139,14 @@ byte-none : (mem : List ℕ) (o : Option (List ℕ)) (i : ℕ) → IsData mem o 
 byte-none mem None i e = refl
 byte-none mem (Some bytes) i (x, e, b, l) = absurd (none-some x e)
 
-pub tells-byte : (mem : List ℕ) (w i : ℕ) (d : Bytes) → HasData mem w (Some d) → i < d.len → TellsOf (byte_in i) mem w (Some (byte_of (get_or mem (d.first + (d.start + i) / 8) 0) ((d.start + i) % 8)))
+pub tells-byte : (mem : List ℕ) (w i : ℕ) (d : Bytes) → HasData mem w (Some d) → i < d.len
+    → TellsOf (binary_byte_in i) mem w (Some (byte_of (get_or mem (d.first + (d.start + i) / 8) 0) ((d.start + i) % 8)))
 tells-byte mem w i d h below = record { each = λ c shared t s. byte-told mem (binary_of shared t) d i (h.each c shared t s) below }
 
-pub past-byte : (mem : List ℕ) (w i : ℕ) (d : Bytes) → HasData mem w (Some d) → d.len ≤ i → TellsOf (byte_in i) mem w None
+pub past-byte : (mem : List ℕ) (w i : ℕ) (d : Bytes) → HasData mem w (Some d) → d.len ≤ i → TellsOf (binary_byte_in i) mem w None
 past-byte mem w i d h far = record { each = λ c shared t s. byte-past mem (binary_of shared t) d i (h.each c shared t s) far }
 
-pub no-byte : (mem : List ℕ) (w i : ℕ) → HasData mem w None → TellsOf (byte_in i) mem w None
+pub no-byte : (mem : List ℕ) (w i : ℕ) → HasData mem w None → TellsOf (binary_byte_in i) mem w None
 no-byte mem w i h = record { each = λ c shared t s. byte-none mem (binary_of shared t) i (h.each c shared t s) }
 
 byte-within : (mem : List ℕ) (o : Option (List ℕ)) (d : Bytes) (i : ℕ) → IsData mem o (Some d) → i < d.len → d.first + (d.start + i) / 8 < length mem

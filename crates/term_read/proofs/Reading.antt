@@ -5,7 +5,7 @@ use Rattle.plain_term.specs.Tree.Tree.{Int, Cons, Tuple, Map, Fun}
 use Rattle.plain_term.specs.Tree.Trees.{end, ◌▹◌}
 use Rattle.plain_term.specs.Parts.{part_at, place_of, head_in, tail_in, element_of, env_in}
 use Rattle.term_words.specs.Stands.{Stands, RowStands}
-use Rattle.term_read.specs.Parts.{key_of, value_of, map_len_of, map_len_in, AnswersPart, FindsPart, TellsOf}
+use Rattle.term_read.specs.Parts.{key_of, map_value_of, map_len_of, map_len_in, AnswersPart, FindsPart, TellsOf}
 use Rattle.term_words.proofs.ByKind.Shapes.{told}
 use Rattle.term_words.proofs.ByKind.Pairs.{keys-row, values-row, keys-len, values-len}
 
@@ -210,7 +210,7 @@ pub no-key : (mem : List ℕ) (w i : ℕ) → (w % 4 ≡ 2 → get_or mem (w / 4
 no-key mem w i other = record { each = λ c shared t s. key-none c shared mem w t i s other }
 
 value-answer : (c : ℕ → ℕ → Bool) (shared : List (List ℕ)) (mem : List ℕ) (w : ℕ) (t : Tree) (i : ℕ) → Stands c shared mem w t → w % 4 ≡ 2 → get_or mem (w / 4) 0 / 4 % 16 ≡ 15
-    → i < get_or mem (w / 4 + 1) 0 → AnswersPart c shared mem (value_of i t) (Some (get_or mem (w / 4 + 3 + i) 0))
+    → i < get_or mem (w / 4 + 1) 0 → AnswersPart c shared mem (map_value_of i t) (Some (get_or mem (w / 4 + 3 + i) 0))
 unfolding Stands
 value-answer c shared mem w (Map ps) i (o, ks, vs) tag sub below =
     row-part c shared mem (w / 4 + 3) (values_of ps) i (w / 4 + 3 + i) (values-row c shared mem (w / 4 + 3) ps vs) (omega (arith, o.count, values-len ps)) refl
@@ -219,26 +219,26 @@ value-answer c shared mem w (Int (negsuc n)) i s tag sub below = absurd (omega (
 value-answer c shared mem w t i s tag sub below = absurd (omega (arith, told c shared mem w t s))
 
 value-past : (c : ℕ → ℕ → Bool) (shared : List (List ℕ)) (mem : List ℕ) (w : ℕ) (t : Tree) (i : ℕ) → Stands c shared mem w t → get_or mem (w / 4 + 1) 0 ≤ i
-    → AnswersPart c shared mem (value_of i t) None
+    → AnswersPart c shared mem (map_value_of i t) None
 unfolding Stands
 value-past c shared mem w (Map ps) i (o, ks, vs) far = none c shared mem (part_at (values_of ps) i) (past-part (values_of ps) i (omega (arith, o.count, values-len ps)))
 value-past c shared mem w t i s far = refl
 
 value-none : (c : ℕ → ℕ → Bool) (shared : List (List ℕ)) (mem : List ℕ) (w : ℕ) (t : Tree) (i : ℕ) → Stands c shared mem w t
-    → (w % 4 ≡ 2 → get_or mem (w / 4) 0 / 4 % 16 ≡ 15 → ⊥) → AnswersPart c shared mem (value_of i t) None
+    → (w % 4 ≡ 2 → get_or mem (w / 4) 0 / 4 % 16 ≡ 15 → ⊥) → AnswersPart c shared mem (map_value_of i t) None
 unfolding Stands
 value-none c shared mem w (Map ps) i (o, ks, vs) other = absurd (other o.boxed.tag (omega (arith, o.boxed.header)))
 value-none c shared mem w t i s other = refl
 
-pub reads-value : (mem : List ℕ) (w p i : ℕ) → w % 4 ≡ 2 → p ≡ w / 4 → get_or mem p 0 / 4 % 16 ≡ 15 → i < get_or mem (p + 1) 0 → FindsPart (value_of i) mem w (Some (get_or mem (p + 3 + i) 0))
+pub reads-value : (mem : List ℕ) (w p i : ℕ) → w % 4 ≡ 2 → p ≡ w / 4 → get_or mem p 0 / 4 % 16 ≡ 15 → i < get_or mem (p + 1) 0 → FindsPart (map_value_of i) mem w (Some (get_or mem (p + 3 + i) 0))
 reads-value mem w p i tag same =
-    let P : ℕ → Type 0 = λ x. get_or mem x 0 / 4 % 16 ≡ 15 → i < get_or mem (x + 1) 0 → FindsPart (value_of i) mem w (Some (get_or mem (x + 3 + i) 0)) in
+    let P : ℕ → Type 0 = λ x. get_or mem x 0 / 4 % 16 ≡ 15 → i < get_or mem (x + 1) 0 → FindsPart (map_value_of i) mem w (Some (get_or mem (x + 3 + i) 0)) in
     subst P (sym same) (λ sub below. record { each = λ c shared t s. value-answer c shared mem w t i s tag sub below })
 
-pub past-value : (mem : List ℕ) (w p i : ℕ) → p ≡ w / 4 → get_or mem (p + 1) 0 ≤ i → FindsPart (value_of i) mem w None
+pub past-value : (mem : List ℕ) (w p i : ℕ) → p ≡ w / 4 → get_or mem (p + 1) 0 ≤ i → FindsPart (map_value_of i) mem w None
 past-value mem w p i same =
-    let P : ℕ → Type 0 = λ x. get_or mem (x + 1) 0 ≤ i → FindsPart (value_of i) mem w None in
+    let P : ℕ → Type 0 = λ x. get_or mem (x + 1) 0 ≤ i → FindsPart (map_value_of i) mem w None in
     subst P (sym same) (λ far. record { each = λ c shared t s. value-past c shared mem w t i s far })
 
-pub no-value : (mem : List ℕ) (w i : ℕ) → (w % 4 ≡ 2 → get_or mem (w / 4) 0 / 4 % 16 ≡ 15 → ⊥) → FindsPart (value_of i) mem w None
+pub no-value : (mem : List ℕ) (w i : ℕ) → (w % 4 ≡ 2 → get_or mem (w / 4) 0 / 4 % 16 ≡ 15 → ⊥) → FindsPart (map_value_of i) mem w None
 no-value mem w i other = record { each = λ c shared t s. value-none c shared mem w t i s other }

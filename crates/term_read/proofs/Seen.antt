@@ -26,7 +26,7 @@ use Rattle.term_words.proofs.ByKind.Shapes.{Told, told, row-at}
 use Rattle.term_words.proofs.Placing.Single.{single}
 use Rattle.term_read.specs.Data.{BytesFrom, IsData, HasData, HasFirst}
 use Rattle.term_read.specs.Parts.{binary_of}
-use Rattle.term_read.specs.Look.{is_negative, HasDigits, IsSeen, Sees, data_in, AreTerms, LiesInMemory}
+use Rattle.term_read.specs.Look.{is_negative, HasDigits, IsSeen, Sees, data_in, TermsFrom, LiesInMemory}
 use Rattle.term_read.specs.declared.looks.Digits.{Digits}
 use Rattle.term_read.specs.declared.looks.Bytes.{Bytes}
 use Rattle.term_read.specs.declared.looks.PartBytes.{PartBytes}
@@ -367,11 +367,11 @@ told-subtag (Cons x y) w h s tag = absurd (omega arith)
 
 -- The places of parts lie in the memory, and their words stand.
 
-row-terms : (c : ℕ → ℕ → Bool) (shared : List (List ℕ)) (mem : List ℕ) (p n : ℕ) (ts : Trees) → p + n ≤ length mem → n ≡ trees_len ts → RowStands c shared mem p ts → AreTerms mem p n
+row-terms : (c : ℕ → ℕ → Bool) (shared : List (List ℕ)) (mem : List ℕ) (p n : ℕ) (ts : Trees) → p + n ≤ length mem → n ≡ trees_len ts → RowStands c shared mem p ts → TermsFrom mem p n
 row-terms c shared mem p n ts inside count row = record { within = inside; each = λ j below. is-term c shared mem (get_or mem (p + j) 0) (tree_at ts j) (row-at c shared mem p ts j row (omega arith)) }
 
 pub two-terms : (c : ℕ → ℕ → Bool) (shared : List (List ℕ)) (mem : List ℕ) (p : ℕ) (h t : Tree) → p + 2 ≤ length mem → Stands c shared mem (get_or mem p 0) h
-    → Stands c shared mem (get_or mem (p + 1) 0) t → AreTerms mem p 2
+    → Stands c shared mem (get_or mem (p + 1) 0) t → TermsFrom mem p 2
 unfolding RowStands
 two-terms c shared mem p h t inside sh st = row-terms c shared mem p 2 (h ▹ t ▹ end) inside refl (sh, (st, tt))
 

@@ -21,10 +21,10 @@ pub record HasData (mem : List ℕ) (w : ℕ) (result : Option Bytes) : Type 0 w
   pub each : (c : ℕ → ℕ → Bool) (shared : List (List ℕ)) (t : Tree) → Stands c shared mem w t → IsData mem (binary_of shared t) result
 
 -- The answer is the place from which these bytes lie, or is none where there are none.
-abbrev pub IsFirst : List ℕ → Option (List ℕ) → Option ℕ → Type 0
-IsFirst mem None result = result ≡ None
-IsFirst mem (Some bytes) result = (v : ℕ) × (result ≡ Some v) × BytesFrom mem v 0 bytes
+abbrev pub IsFirstOfBytes : List ℕ → Option (List ℕ) → Option ℕ → Type 0
+IsFirstOfBytes mem None result = result ≡ None
+IsFirstOfBytes mem (Some bytes) result = (v : ℕ) × (result ≡ Some v) × BytesFrom mem v 0 bytes
 
 -- The answer is the place from which the bytes of a whole binary lie, of each tree that the word stands for.
 pub record HasFirst (mem : List ℕ) (w : ℕ) (result : Option ℕ) : Type 0 where
-  pub each : (c : ℕ → ℕ → Bool) (shared : List (List ℕ)) (t : Tree) → Stands c shared mem w t → IsFirst mem (whole_of shared t) result
+  pub each : (c : ℕ → ℕ → Bool) (shared : List (List ℕ)) (t : Tree) → Stands c shared mem w t → IsFirstOfBytes mem (whole_of shared t) result

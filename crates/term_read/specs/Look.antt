@@ -59,7 +59,7 @@ data_in (look.Part part) = Some part.bytes
 data_in _ = None
 
 -- The n words from a place on are words of the memory, and each stands for a tree.
-pub record AreTerms (mem : List ℕ) (first n : ℕ) : Type 0 where
+pub record TermsFrom (mem : List ℕ) (first n : ℕ) : Type 0 where
   pub within : first + n ≤ length mem
   pub each : (j : ℕ) → j < n → IsTerm mem (slice_index mem (first + j))
 
@@ -69,10 +69,10 @@ HasBytes mem b = (i : ℕ) → i < b.len → b.first + (b.start + i) / 8 < lengt
 
 -- The places that the look tells lie in the memory, and the words of its parts stand for trees.
 abbrev pub LiesInMemory : List ℕ → Look → Type 0
-LiesInMemory mem (look.Cons place) = AreTerms mem place 2
-LiesInMemory mem (look.Tuple row) = AreTerms mem row.first row.len
-LiesInMemory mem (look.Map rows) = AreTerms mem rows.keys rows.len × AreTerms mem rows.values rows.len
-LiesInMemory mem (look.Fun parts) = AreTerms mem parts.env.first parts.env.len
+LiesInMemory mem (look.Cons place) = TermsFrom mem place 2
+LiesInMemory mem (look.Tuple row) = TermsFrom mem row.first row.len
+LiesInMemory mem (look.Map rows) = TermsFrom mem rows.keys rows.len × TermsFrom mem rows.values rows.len
+LiesInMemory mem (look.Fun parts) = TermsFrom mem parts.env.first parts.env.len
 LiesInMemory mem (look.Heap bytes) = HasBytes mem bytes
 LiesInMemory mem (look.Holder bytes) = HasBytes mem bytes
 LiesInMemory mem (look.Part part) = IsTerm mem part.base × HasBytes mem part.bytes

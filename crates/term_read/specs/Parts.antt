@@ -12,9 +12,9 @@ key_of i (Map ps) = part_at (keys_of ps) i
 key_of i _ = None
 
 -- Value i of a map, from 0.
-abbrev pub value_of : ℕ → Tree → Option Tree
-value_of i (Map ps) = part_at (values_of ps) i
-value_of i _ = None
+abbrev pub map_value_of : ℕ → Tree → Option Tree
+map_value_of i (Map ps) = part_at (values_of ps) i
+map_value_of i _ = None
 
 -- The number of pairs of a map.
 abbrev pub map_len_of : Tree → Option ℕ
@@ -56,5 +56,5 @@ abbrev pub byte_len_in : List (List ℕ) → Tree → Option ℕ
 byte_len_in shared t = option_map length (binary_of shared t)
 
 -- Byte i of a binary, from 0.
-abbrev pub byte_in : ℕ → List (List ℕ) → Tree → Option ℕ
-byte_in i shared t = option_and_then (λ bytes. slice_get bytes i) (binary_of shared t)
+abbrev pub binary_byte_in : ℕ → List (List ℕ) → Tree → Option ℕ
+binary_byte_in i shared t = option_and_then (λ bytes. slice_get bytes i) (binary_of shared t)

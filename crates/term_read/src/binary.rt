@@ -1,6 +1,6 @@
 // The bytes of binaries: on the heap, in a record that a holder names, or a part of either.
 ghost use Rattle.term_words.specs.Stands.{IsTerm};
-ghost use Rattle.term_read.specs.Parts.{TellsOf, byte_len_in, byte_in};
+ghost use Rattle.term_read.specs.Parts.{TellsOf, byte_len_in, binary_byte_in};
 ghost use Rattle.term_read.specs.Data.{HasData};
 
 use crate::looks::{Bytes, Look, look_at};
@@ -18,7 +18,7 @@ pub fn byte_len(mem: &WordMem, w: u64) -> Option<u64>
 /// Byte `i`, from 0, or `None` where the tree is no binary or has no such byte.
 pub fn byte_at(mem: &WordMem, w: u64, i: u64) -> Option<u8>
     requires { IsTerm mem.now w }
-    ensures { TellsOf (byte_in i) mem.now w result }
+    ensures { TellsOf (binary_byte_in i) mem.now w result }
 {
     let _len = mem.len();
     let bytes = data_of(mem, w)?;

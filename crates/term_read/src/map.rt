@@ -1,7 +1,7 @@
 // The pairs of maps.
 ghost use Rattle.std.specs.Prelude.{◌≡◌, ◌+◌, ◌/◌, slice_index, IfSome};
 ghost use Rattle.term_words.specs.Stands.{IsTerm};
-ghost use Rattle.term_read.specs.Parts.{FindsPart, TellsOf, key_of, value_of, map_len_in};
+ghost use Rattle.term_read.specs.Parts.{FindsPart, TellsOf, key_of, map_value_of, map_len_in};
 
 use crate::object::object_at;
 use term_tags::MAP;
@@ -36,7 +36,7 @@ pub fn map_key(mem: &WordMem, w: u64, i: u64) -> Option<u64>
 /// The word of the value of key `i`, from 0, or `None` where the tree is no map or has no such pair.
 pub fn map_value(mem: &WordMem, w: u64, i: u64) -> Option<u64>
     requires { IsTerm mem.now w }
-    ensures reads { FindsPart (value_of i) mem.now w result }
+    ensures reads { FindsPart (map_value_of i) mem.now w result }
     ensures word { IfSome result (λ v. v ≡ slice_index mem.now (w / 4 + 3 + i)) }
 {
     let _len = mem.len();

@@ -17,15 +17,15 @@ InRange (Header subtag arity) = (subtag < SUBTAGS) × (arity < ARITIES)
 InRange Other = ⊥
 
 -- the word of a kind
-abbrev pub word_of : Kind → ℕ
-word_of (Small i) = small_word i
-word_of (Pid n) = pid_word n
-word_of (Atom k) = atom_word k
-word_of Nil = NIL
-word_of (ListAt place) = list_word place
-word_of (BoxedAt place) = boxed_word place
-word_of (Header subtag arity) = head_word subtag arity
-word_of Other = 0
+abbrev pub kind_word : Kind → ℕ
+kind_word (Small i) = small_word i
+kind_word (Pid n) = pid_word n
+kind_word (Atom k) = atom_word k
+kind_word Nil = NIL
+kind_word (ListAt place) = list_word place
+kind_word (BoxedAt place) = boxed_word place
+kind_word (Header subtag arity) = head_word subtag arity
+kind_word Other = 0
 
 -- a word reads as the kind whose word it is, and as Other where it is the word of none
 abbrev pub ReadsAs : ℕ → Kind → Type 0
@@ -36,4 +36,4 @@ ReadsAs w Nil = NIL ≡ w
 ReadsAs w (ListAt place) = (place < PLACES) × (list_word place ≡ w)
 ReadsAs w (BoxedAt place) = (place < PLACES) × (boxed_word place ≡ w)
 ReadsAs w (Header subtag arity) = (subtag < SUBTAGS) × (arity < ARITIES) × (head_word subtag arity ≡ w)
-ReadsAs w Other = (k : Kind) → InRange k → word_of k ≢ w
+ReadsAs w Other = (k : Kind) → InRange k → kind_word k ≢ w

@@ -1,7 +1,7 @@
 // What a word is.
 ghost use Rattle.std.specs.Prelude.{◌≡◌, ◌≢◌, ◌/◌, ◌%◌, ◌^◌, ◌<◌, ◌⊎◌, true, false, nat_lt, if◌then◌else◌};
 ghost use Rattle.term_tags.specs.Words.{small_of_bits, small_value};
-ghost use Rattle.term_tags.specs.Kinds.{InRange, word_of, ReadsAs};
+ghost use Rattle.term_tags.specs.Kinds.{InRange, kind_word, ReadsAs};
 ghost use Rattle.term_tags.specs.declared.kinds.Kind.{Kind as AnyKind};
 
 /// How many places a pointer can name.
@@ -42,7 +42,7 @@ pub enum Kind {
 #[inline]
 pub fn kind_of(w: u64) -> Kind
     ensures exact { ReadsAs w result }
-    ensures back { (k : AnyKind) → InRange k → w ≡ word_of k → result ≡ k }
+    ensures back { (k : AnyKind) → InRange k → w ≡ kind_word k → result ≡ k }
     ensures small { w % 16 ≡ 15 → result ≡ Kind.Small (small_value w) }
     ensures pid { w % 16 ≡ 3 → w < 2 ^ 45 → result ≡ Kind.Pid (w / 16) }
     ensures atom { w % 64 ≡ 11 → w < 2 ^ 20 → result ≡ Kind.Atom (w / 64) }

@@ -15,7 +15,7 @@ use Rattle.term_maps.specs.Spots.{Finds}
 use Rattle.term_maps.specs.declared.sorted.Spot.{Spot}
 use Rattle.term_verbs.specs.declared.pairs.PutStop.TheVariants.{Full}
 use Rattle.term_verbs.specs.Found.{AreKeys, AreSorted}
-use Rattle.term_verbs.specs.Placed.{IsPlace, count_placed, placed, word_placed}
+use Rattle.term_verbs.specs.Placed.{IsPlaceInMap, count_placed, put_at_spot, word_placed}
 use Rattle.term_verbs.proofs.Placing.{keys-placed, placed-count, placed-length, placed-put, row-all, values-placed}
 
 -- The words of the rows stand for these pairs.
@@ -53,10 +53,10 @@ seen-map c shared mem w (Fun name arity creator env) rows s = absurd cc
 -- There are too many keys with one at its spot.
 pub full-place : (c : ℕ → ℕ → Bool) (names shared : List (List ℕ)) (mem : List ℕ) (w : ℕ) (t k : Tree) (rows : PairRows) (x : Spot) → IsSeen c shared mem w t (look.Map rows)
     → is_beyond shared k ≡ false
-    → ((ps : Pairs) → AreKeys c shared mem rows ps → AreSorted names shared ps → Finds names shared (keys_of ps) k x) → MOST_KEYS < count_placed x rows.len → IsPlace names shared t k (Err Full)
+    → ((ps : Pairs) → AreKeys c shared mem rows ps → AreSorted names shared ps → Finds names shared (keys_of ps) k x) → MOST_KEYS < count_placed x rows.len → IsPlaceInMap names shared t k (Err Full)
 full-place c names shared mem w t k rows x seen small finds many =
     let m = seen-map c shared mem w t rows seen in
-    let P : Tree → Type 0 = λ z. IsPlace names shared z k (Err Full) in
+    let P : Tree → Type 0 = λ z. IsPlaceInMap names shared z k (Err Full) in
     let Q : ℕ → Type 0 = λ z. MOST_KEYS < z in
     subst P (sym m.is) (record {
       small = small;
@@ -69,20 +69,20 @@ full-place c names shared mem w t k rows x seen small finds many =
 module _ (c : ℕ → ℕ → Bool) (shared : List (List ℕ)) (mem : List ℕ) (w : ℕ) (ps : Pairs) (k v : Tree) (rows : PairRows) (x : Spot) (key value : ℕ) (words : List ℕ)
     (seen : IsSeen c shared mem w (Map ps) (look.Map rows)) where
   pub keys-there : Stands c shared mem key k → rows.keys + rows.len ≤ length mem → words ≡ word_placed x key (take rows.len (drop rows.keys mem))
-      → AllStand c shared mem words (keys_of (placed x k v ps))
+      → AllStand c shared mem words (keys_of (put_at_spot x k v ps))
   keys-there s inside is =
       let same = ap rows_in seen.0 in
-      let P : List ℕ → Type 0 = λ z. AllStand c shared mem z (keys_of (placed x k v ps)) in
+      let P : List ℕ → Type 0 = λ z. AllStand c shared mem z (keys_of (put_at_spot x k v ps)) in
       let Q : ℕ → Type 0 = λ z. KeysStand c shared mem z ps in
       let row = subst Q (sym (ap (λ r. r.keys) same)) seen.3 in
       subst P (sym is) (keys-placed c shared mem k v x (take rows.len (drop rows.keys mem)) ps key s
       (row-all c shared mem rows.keys rows.len (keys_of ps) (keys-row c shared mem rows.keys ps row) (keys-len ps ∙ sym (ap (λ r. r.len) same)) inside))
 
   pub values-there : Stands c shared mem value v → rows.values + rows.len ≤ length mem → words ≡ word_placed x value (take rows.len (drop rows.values mem))
-      → AllStand c shared mem words (values_of (placed x k v ps))
+      → AllStand c shared mem words (values_of (put_at_spot x k v ps))
   values-there s inside is =
       let same = ap rows_in seen.0 in
-      let P : List ℕ → Type 0 = λ z. AllStand c shared mem z (values_of (placed x k v ps)) in
+      let P : List ℕ → Type 0 = λ z. AllStand c shared mem z (values_of (put_at_spot x k v ps)) in
       let Q : ℕ → Type 0 = λ z. ValuesStand c shared mem z ps in
       let row = subst Q (sym (ap (λ r. r.values) same)) seen.4 in
       subst P (sym is) (values-placed c shared mem k v x (take rows.len (drop rows.values mem)) ps value s

@@ -14,7 +14,7 @@ use Rattle.term_words.proofs.ByKind.Shapes.{row-first}
 use Rattle.term_maps.specs.Spots.{Finds, IsAbove}
 use Rattle.term_maps.specs.declared.sorted.Spot.{Spot}
 use Rattle.term_maps.specs.declared.sorted.Spot.TheVariants as spot
-use Rattle.term_verbs.specs.Placed.{count_placed, pair_insert, pair_set, placed, word_placed}
+use Rattle.term_verbs.specs.Placed.{count_placed, pair_insert, pair_set, put_at_spot, word_placed}
 
 -- The words of a row as a list.
 pub row-all : (c : ℕ → ℕ → Bool) (shared : List (List ℕ)) (mem : List ℕ) (p n : ℕ) (ts : Trees) → RowStands c shared mem p ts → trees_len ts ≡ n → p + n ≤ length mem
@@ -66,12 +66,12 @@ module _ (c : ℕ → ℕ → Bool) (shared : List (List ℕ)) (mem : List ℕ) 
   values-insert (x ∷ ws) (pair j u ps) (suc i) w s a = (a.0, values-insert ws ps i w s a.1)
 
   pub keys-placed : (x : Spot) (ws : List ℕ) (ps : Pairs) (w : ℕ) → Stands c shared mem w k → AllStand c shared mem ws (keys_of ps)
-      → AllStand c shared mem (word_placed x w ws) (keys_of (placed x k v ps))
+      → AllStand c shared mem (word_placed x w ws) (keys_of (put_at_spot x k v ps))
   keys-placed (spot.Same i) ws ps w s a = keys-set ws ps i w s a
   keys-placed (spot.New i) ws ps w s a = keys-insert ws ps i w s a
 
   pub values-placed : (x : Spot) (ws : List ℕ) (ps : Pairs) (w : ℕ) → Stands c shared mem w v → AllStand c shared mem ws (values_of ps)
-      → AllStand c shared mem (word_placed x w ws) (values_of (placed x k v ps))
+      → AllStand c shared mem (word_placed x w ws) (values_of (put_at_spot x k v ps))
   values-placed (spot.Same i) ws ps w s a = values-set ws ps i w s a
   values-placed (spot.New i) ws ps w s a = values-insert ws ps i w s a
 
@@ -102,7 +102,7 @@ insert-count stop i k v = refl
 insert-count (pair j u ps) zero k v = refl
 insert-count (pair j u ps) (suc i) k v = ap (λ n. n + 1) (insert-count ps i k v)
 
-pub placed-count : (x : Spot) (ps : Pairs) (k v : Tree) → pairs_len (placed x k v ps) ≡ count_placed x (pairs_len ps)
+pub placed-count : (x : Spot) (ps : Pairs) (k v : Tree) → pairs_len (put_at_spot x k v ps) ≡ count_placed x (pairs_len ps)
 placed-count (spot.Same i) ps k v = set-count ps i k v
 placed-count (spot.New i) ps k v = insert-count ps i k v
 
@@ -124,6 +124,6 @@ module _ (names shared : List (List ℕ)) (k v : Tree) where
       ap (λ z. pair j u z) (insert-put ps i (omega arith) (λ n below. above (suc n) (omega arith)) (λ below. less (omega arith)))
       ∙ sym (ap (λ o. match_ordering o (pair k v (pair j u ps)) (pair k v ps) (pair j u (put_pair names shared k v ps))) (above 0 (omega arith)))
 
-  pub placed-put : (x : Spot) (ps : Pairs) → Finds names shared (keys_of ps) k x → placed x k v ps ≡ put_pair names shared k v ps
+  pub placed-put : (x : Spot) (ps : Pairs) → Finds names shared (keys_of ps) k x → put_at_spot x k v ps ≡ put_pair names shared k v ps
   placed-put (spot.Same i) ps f = set-put ps i (omega (arith, f.0, keys-len ps)) f.1.0 f.1.1
   placed-put (spot.New i) ps f = insert-put ps i (omega (arith, f.0, keys-len ps)) f.1.0 (λ below. f.1.1 (omega (arith, below, keys-len ps)))

@@ -30,9 +30,9 @@ pair_insert zero k v (pair j w ps) = pair k v (pair j w ps)
 pair_insert (suc i) k v (pair j w ps) = pair j w (pair_insert i k v ps)
 
 -- The pairs with this one at the spot.
-abbrev pub placed : Spot → (key value : Tree) → Pairs → Pairs
-placed (spot.Same i) k v ps = pair_set i k v ps
-placed (spot.New i) k v ps = pair_insert i k v ps
+abbrev pub put_at_spot : Spot → (key value : Tree) → Pairs → Pairs
+put_at_spot (spot.Same i) k v ps = pair_set i k v ps
+put_at_spot (spot.New i) k v ps = pair_insert i k v ps
 
 -- The words with this one at the spot.
 abbrev pub word_placed : Spot → ℕ → List ℕ → List ℕ
@@ -66,9 +66,9 @@ IsPlaceAmong names shared ps k (Err Big) = is_beyond shared k ≡ true
 IsPlaceAmong names shared ps k (Err Full) = IsFull names shared ps k
 
 -- The same of the pairs of a tree; one that is no map has none.
-abbrev pub IsPlace : (names shared : List (List ℕ)) → Tree → Tree → Result Place PutStop → Type 0
-IsPlace names shared (Map ps) k result = IsPlaceAmong names shared ps k result
-IsPlace names shared _ k result = result ≡ Err NoMap
+abbrev pub IsPlaceInMap : (names shared : List (List ℕ)) → Tree → Tree → Result Place PutStop → Type 0
+IsPlaceInMap names shared (Map ps) k result = IsPlaceAmong names shared ps k result
+IsPlaceInMap names shared _ k result = result ≡ Err NoMap
 
 -- The word stands for a map, the spot is one of its pairs or behind the last, and the room has the words of the map with it.
 pub record HasPlace (room : Room) (mem : List ℕ) (w : ℕ) (x : Spot) : Type 0 where

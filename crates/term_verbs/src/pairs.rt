@@ -9,7 +9,7 @@ ghost use Rattle.term_build.specs.Grows.{Built};
 ghost use Rattle.term_build.specs.Clear.{IsRoom, Uses};
 ghost use Rattle.term_maps.specs.Spots.{IsWithin};
 ghost use Rattle.term_verbs.specs.Picked.{CanSeek};
-ghost use Rattle.term_verbs.specs.Placed.{HasPlace, IsPlace, count_placed, placed, word_placed};
+ghost use Rattle.term_verbs.specs.Placed.{HasPlace, IsPlaceInMap, count_placed, put_at_spot, word_placed};
 
 use crate::keys::spot_of;
 use arrayvec::ArrayVec;
@@ -41,7 +41,7 @@ pub enum PutStop {
 pub fn place_in(mem: &WordMem, names: &AtomNames, w: u64, key: u64) -> Result<Place, PutStop>
     requires { CanSeek mem.now names.now w key }
     ensures { (c : ℕ → ℕ → Bool) (shared : List (List ℕ)) (t k : Tree) → Stands c shared mem.now w t → Stands c shared mem.now key k
-        → IsPlace names.now shared t k result }
+        → IsPlaceInMap names.now shared t k result }
 {
     let _len = mem.len();
     let Look::Map(rows) = look_at(mem, w) else {
@@ -79,7 +79,7 @@ pub fn map_with(mem: &mut WordMem, room: &mut Room, w: u64, spot: Spot, key: u64
     ensures built { (c : ℕ → ℕ → Bool) (shared : List (List ℕ)) (ps : Pairs) (k v : Tree)
         → IsFree c room.old.top (room.old.top + (4 + 2 * count_placed spot (pairs_len ps)))
         → Stands c shared mem.old w (Map ps) → Stands c shared mem.old key k → Stands c shared mem.old value v
-        → Built c room.old.top (4 + 2 * count_placed spot (pairs_len ps)) mem.old mem.new shared result (Map (placed spot k v ps)) }
+        → Built c room.old.top (4 + 2 * count_placed spot (pairs_len ps)) mem.old mem.new shared result (Map (put_at_spot spot k v ps)) }
 {
     let Look::Map(rows) = look_at(mem, w) else {
         unreachable!()

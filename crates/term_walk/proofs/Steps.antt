@@ -19,7 +19,7 @@ use Rattle.term_read.specs.declared.looks.Look.TheVariants as look
 use Rattle.term_walk.specs.declared.levels.Rest.{Rest}
 use Rattle.term_walk.specs.declared.levels.Rest.TheVariants as rest
 use Rattle.term_walk.specs.declared.levels.Further.TheVariants as further
-use Rattle.term_walk.specs.Left.{AreShort, row_after, row_taken, taken, rest_in, RowStandsFor, IsTail, AreRows, IsLeft, AreLeft, left_of, inside, deepest, parts_of, HasLeft, CanGo, GoesTo, WalkEnds, Goes, Yields}
+use Rattle.term_walk.specs.Left.{RestIsShort, row_after, row_taken, rest_taken, rest_in, RowStandsFor, IsTail, AreRows, RestIsLeft, AreLeft, left_of, inside, deepest, walk_parts, HasLeft, CanGo, GoesTo, WalkEnds, WalkGoes, Yields}
 
 -- A choice is one of its two arms.
 
@@ -67,7 +67,7 @@ none-some x e = cc
 row-none : (row : Row) → row_taken row ≡ None → row.len ≡ 0
 row-none row e = elim (chosen (nat_eq row.len 0) None (Some (row.first, Some (rest.Row (row_after row)))) None e) [ inl t ↦ eqb-true row.len 0 t.0 | inr f ↦ absurd (none-some _ f.1) ]
 
-take-none : (c : ℕ → ℕ → Bool) (shared : List (List ℕ)) (mem : List ℕ) (l : Rest) (ts : Trees) → IsLeft c shared mem l ts → taken l ≡ None → (ts ≡ end) × (inside l ≡ 1)
+take-none : (c : ℕ → ℕ → Bool) (shared : List (List ℕ)) (mem : List ℕ) (l : Rest) (ts : Trees) → RestIsLeft c shared mem l ts → rest_taken l ≡ None → (ts ≡ end) × (inside l ≡ 1)
 take-none c shared mem (rest.Row row) ts r e = (row-end c shared mem row ts r (row-none row e), refl)
 take-none c shared mem (rest.Rows row next) ts r e = elim (chosen (nat_eq row.len 0) (row_taken next) (Some (row.first, Some (rest.Rows (row_after row) next))) None e) [
   | inl t ↦ (r.both ∙ ap₂ trees_append (row-end c shared mem row r.firsts r.row_is (eqb-true row.len 0 t.0)) (row-end c shared mem next r.others r.next_is (row-none next t.1)), refl)
@@ -78,7 +78,7 @@ take-none c shared mem (rest.Tail place) ts r e = absurd (none-some _ e)
 -- What is left on a level behind a word.
 abbrev MoreLeft : (ℕ → ℕ → Bool) → List (List ℕ) → List ℕ → Rest → Option Rest → Trees → Type 0
 MoreLeft c shared mem l None after = (after ≡ end) × (inside l ≡ 0)
-MoreLeft c shared mem l (Some m) after = IsLeft c shared mem m after × (inside l ≡ 1) × (inside m ≡ 1)
+MoreLeft c shared mem l (Some m) after = RestIsLeft c shared mem m after × (inside l ≡ 1) × (inside m ≡ 1)
 
 record Took (c : ℕ → ℕ → Bool) (shared : List (List ℕ)) (mem : List ℕ) (l : Rest) (place : ℕ) (more : Option Rest) (ts : Trees) : Type 0 where
   now : Tree
@@ -131,7 +131,7 @@ first-took c shared mem row next ts r some =
 tail-took : (c : ℕ → ℕ → Bool) (shared : List (List ℕ)) (mem : List ℕ) (place : ℕ) (ts : Trees) → IsTail c shared mem place ts → Took c shared mem (rest.Tail place) place None ts
 tail-took c shared mem place ts r = record { now = r.tree; after = end; order = r.one; within = r.within; standing = r.standing; left = (refl, refl) }
 
-take-some : (c : ℕ → ℕ → Bool) (shared : List (List ℕ)) (mem : List ℕ) (l : Rest) (got : ℕ × Option Rest) (ts : Trees) → IsLeft c shared mem l ts → taken l ≡ Some got
+take-some : (c : ℕ → ℕ → Bool) (shared : List (List ℕ)) (mem : List ℕ) (l : Rest) (got : ℕ × Option Rest) (ts : Trees) → RestIsLeft c shared mem l ts → rest_taken l ≡ Some got
     → Took c shared mem l got.0 got.1 ts
 take-some c shared mem (rest.Row row) got ts r e = elim (chosen (nat_eq row.len 0) None (Some (row.first, Some (rest.Row (row_after row)))) (Some got) e) [
   | inl t ↦ absurd (none-some got (sym t.1))
@@ -148,7 +148,7 @@ take-some c shared mem (rest.Rows row next) got ts r e = elim (chosen (nat_eq ro
 take-some c shared mem (rest.Tail place) got ts r e = took-as c shared mem (rest.Tail place) (place, None) got ts e (tail-took c shared mem place ts r)
 
 -- The rows that are left end where the memory can end.
-short-left : (c : ℕ → ℕ → Bool) (shared : List (List ℕ)) (mem : List ℕ) (l : Rest) (ts : Trees) → length mem ≤ 2 ^ 24 → IsLeft c shared mem l ts → AreShort l
+short-left : (c : ℕ → ℕ → Bool) (shared : List (List ℕ)) (mem : List ℕ) (l : Rest) (ts : Trees) → length mem ≤ 2 ^ 24 → RestIsLeft c shared mem l ts → RestIsShort l
 short-left c shared mem (rest.Row row) ts most r = omega (arith, r.within)
 short-left c shared mem (rest.Rows row next) ts most r = (omega (arith, r.row_is.within), omega (arith, r.next_is.within))
 short-left c shared mem (rest.Tail place) ts most r = tt
@@ -173,14 +173,14 @@ record TopLeft (c : ℕ → ℕ → Bool) (shared : List (List ℕ)) (mem : List
   top : Trees
   others : List Trees
   cons : rests ≡ top ∷ others
-  is_left : IsLeft c shared mem l top
+  is_left : RestIsLeft c shared mem l top
   are_left : AreLeft c shared mem ls others
 
 top-left : (c : ℕ → ℕ → Bool) (shared : List (List ℕ)) (mem : List ℕ) (l : Rest) (ls : List Rest) (rests : List Trees) → AreLeft c shared mem (l ∷ ls) rests → TopLeft c shared mem l ls rests
 top-left c shared mem l ls [] bad = absurd bad
 top-left c shared mem l ls (ts ∷ rests) (one, all) = record { top = ts; others = rests; cons = refl; is_left = one; are_left = all }
 
-skip-one : (c : ℕ → ℕ → Bool) (shared : List (List ℕ)) (mem : List ℕ) (old : List Rest) (l : Rest) (ls : List Rest) (before : List Trees) → length old ≤ depth_limit → taken l ≡ None
+skip-one : (c : ℕ → ℕ → Bool) (shared : List (List ℕ)) (mem : List ℕ) (old : List Rest) (l : Rest) (ls : List Rest) (before : List Trees) → length old ≤ depth_limit → rest_taken l ≡ None
     → Skipped c shared mem old (l ∷ ls) before → Skipped c shared mem old ls before
 skip-one c shared mem old l ls before most none s =
     let t : TopLeft c shared mem l ls s.rests = top-left c shared mem l ls s.rests s.left in
@@ -195,7 +195,7 @@ skip-one c shared mem old l ls before most none s =
       depths = omega (arith, s.depths, s.few, deep, flat, one);
     }
 
-pub skips-one : (mem : List ℕ) (old : List Rest) (l : Rest) (ls : List Rest) → taken l ≡ None → Skips mem old (l ∷ ls) → Skips mem old ls
+pub skips-one : (mem : List ℕ) (old : List Rest) (l : Rest) (ls : List Rest) → rest_taken l ≡ None → Skips mem old (l ∷ ls) → Skips mem old ls
 skips-one mem old l ls none s = record { each = λ c shared rests few left. skip-one c shared mem old l ls rests few none (s.each c shared rests few left) }
 
 -- The same trees, as deep, begin with the word.
@@ -231,7 +231,7 @@ more-left c shared mem l ls (Some m) ts others word now after few s left order (
     }
 
 next-some : (c : ℕ → ℕ → Bool) (shared : List (List ℕ)) (mem : List ℕ) (old : List Rest) (l : Rest) (ls : List Rest) (got : ℕ × Option Rest) (before : List Trees) → length old ≤ depth_limit
-    → taken l ≡ Some got → Skipped c shared mem old (l ∷ ls) before → GoesTo c shared mem (left_of before) (deepest old before) (get_or mem got.0 0) (after_word got.1 ls)
+    → rest_taken l ≡ Some got → Skipped c shared mem old (l ∷ ls) before → GoesTo c shared mem (left_of before) (deepest old before) (get_or mem got.0 0) (after_word got.1 ls)
 next-some c shared mem old l ls got before most e s =
     let t : TopLeft c shared mem l ls s.rests = top-left c shared mem l ls s.rests s.left in
     let k : Took c shared mem l got.0 got.1 t.top = take-some c shared mem l got t.top t.is_left e in
@@ -240,7 +240,7 @@ next-some c shared mem old l ls got before most e s =
     (get_or mem got.0 0) (after_word got.1 ls) (s.same ∙ ap left_of t.cons) (s.depths ∙ ap (max depth_limit) deep)
     (more-left c shared mem l ls got.1 t.top t.others (get_or mem got.0 0) k.now k.after (omega (arith, s.few)) k.standing t.are_left k.order k.left)
 
-pub yields-some : (mem : List ℕ) (old : List Rest) (l : Rest) (ls : List Rest) (got : ℕ × Option Rest) → taken l ≡ Some got → Skips mem old (l ∷ ls)
+pub yields-some : (mem : List ℕ) (old : List Rest) (l : Rest) (ls : List Rest) (got : ℕ × Option Rest) → rest_taken l ≡ Some got → Skips mem old (l ∷ ls)
     → Yields mem old (Some (get_or mem got.0 0)) (after_word got.1 ls)
 yields-some mem old l ls got e s = record { each = λ c shared rests few left. next-some c shared mem old l ls got rests few e (s.each c shared rests few left) }
 
@@ -267,7 +267,8 @@ popped xs ys l e = ap reverse e ∙ reverse-append ys (l ∷ [])
 pub skips-popped : (mem : List ℕ) (old xs ys : List Rest) (l : Rest) → xs ≡ ys ++ l ∷ [] → Skips mem old (reverse xs) → Skips mem old (l ∷ reverse ys)
 skips-popped mem old xs ys l e s = let P : List Rest → Type 0 = λ z. Skips mem old z in subst P (popped xs ys l e) s
 
-pub yields-more : (mem : List ℕ) (old : List Rest) (l : Rest) (ls new : List Rest) (place x : ℕ) (more : Option Rest) (m : Rest) → taken l ≡ Some (place, more) → more ≡ Some m → new ≡ ls ++ m ∷ []
+pub yields-more : (mem : List ℕ) (old : List Rest) (l : Rest) (ls new : List Rest) (place x : ℕ) (more : Option Rest) (m : Rest) → rest_taken l ≡ Some (place, more) → more ≡ Some m → new ≡ ls ++ m
+    ∷ []
     → x ≡ get_or mem place 0 → Skips mem old (l ∷ reverse ls) → Yields mem old (Some x) (reverse new)
 yields-more mem old l ls new place x more m e is add word s =
     let P : Option Rest → Type 0 = λ z. Yields mem old (Some (get_or mem place 0)) (after_word z (reverse ls)) in
@@ -275,7 +276,7 @@ yields-more mem old l ls new place x more m e is add word s =
     let R : ℕ → Type 0 = λ z. Yields mem old (Some z) (reverse new) in
     subst R (sym word) (subst Q (sym (popped new ls m add)) (subst P is (yields-some mem old l (reverse ls) (place, more) e s)))
 
-pub yields-last : (mem : List ℕ) (old : List Rest) (l : Rest) (ls new : List Rest) (place x : ℕ) (more : Option Rest) → taken l ≡ Some (place, more) → more ≡ None → new ≡ ls
+pub yields-last : (mem : List ℕ) (old : List Rest) (l : Rest) (ls new : List Rest) (place x : ℕ) (more : Option Rest) → rest_taken l ≡ Some (place, more) → more ≡ None → new ≡ ls
     → x ≡ get_or mem place 0 → Skips mem old (l ∷ reverse ls) → Yields mem old (Some x) (reverse new)
 yields-last mem old l ls new place x more e is same word s =
     let P : Option Rest → Type 0 = λ z. Yields mem old (Some (get_or mem place 0)) (after_word z (reverse ls)) in
@@ -286,16 +287,16 @@ yields-last mem old l ls new place x more e is same word s =
 -- What a call of `take` asks for, where words are left.
 
 left-top : (mem : List ℕ) (old : List Rest) (l : Rest) (ls : List Rest) → (h : HasLeft mem old) → Skips mem old (l ∷ ls)
-    → (c : ℕ → ℕ → Bool) × (shared : List (List ℕ)) × (ts : Trees) × IsLeft c shared mem l ts
+    → (c : ℕ → ℕ → Bool) × (shared : List (List ℕ)) × (ts : Trees) × RestIsLeft c shared mem l ts
 left-top mem old l ls h s =
     let k : Skipped always h.shared mem old (l ∷ ls) h.rests = s.each always h.shared h.rests h.few h.left in
     let t : TopLeft always h.shared mem l ls k.rests = top-left always h.shared mem l ls k.rests k.left in
     (always, h.shared, t.top, t.is_left)
 
-pub top-short : (mem : List ℕ) (old : List Rest) (l : Rest) (ls : List Rest) → length mem ≤ 2 ^ 24 → HasLeft mem old → Skips mem old (l ∷ ls) → AreShort l
+pub top-short : (mem : List ℕ) (old : List Rest) (l : Rest) (ls : List Rest) → length mem ≤ 2 ^ 24 → HasLeft mem old → Skips mem old (l ∷ ls) → RestIsShort l
 top-short mem old l ls most h s = let (c, shared, ts, is) = left-top mem old l ls h s in short-left c shared mem l ts most is
 
-pub top-within : (mem : List ℕ) (old : List Rest) (l : Rest) (ls : List Rest) (got : ℕ × Option Rest) → HasLeft mem old → Skips mem old (l ∷ ls) → taken l ≡ Some got → got.0 < length mem
+pub top-within : (mem : List ℕ) (old : List Rest) (l : Rest) (ls : List Rest) (got : ℕ × Option Rest) → HasLeft mem old → Skips mem old (l ∷ ls) → rest_taken l ≡ Some got → got.0 < length mem
 top-within mem old l ls got h s e = let (c, shared, ts, is) = left-top mem old l ls h s in (take-some c shared mem l got ts is e).within
 
 -- The parts of a tree that a word stands for, by the look at it.
@@ -312,8 +313,8 @@ greatest-pairs : (ps : Pairs) → 1 + greatest_depth_of_pairs ps ≡ 1 + greates
 greatest-pairs ps = omega (arith, greatest-rows ps, greatest-append (keys_of ps) (values_of ps))
 
 abbrev pub PartedBy : (ℕ → ℕ → Bool) → List (List ℕ) → List ℕ → Tree → Option Rest → Type 0
-PartedBy c shared mem now None = (parts_of now ≡ end) × (depth now ≡ 0)
-PartedBy c shared mem now (Some r) = IsLeft c shared mem r (parts_of now) × (depth now ≡ 1 + greatest_depth (parts_of now)) × (inside r ≡ 1)
+PartedBy c shared mem now None = (walk_parts now ≡ end) × (depth now ≡ 0)
+PartedBy c shared mem now (Some r) = RestIsLeft c shared mem r (walk_parts now) × (depth now ≡ 1 + greatest_depth (walk_parts now)) × (inside r ≡ 1)
 
 abbrev pub Parted : (ℕ → ℕ → Bool) → List (List ℕ) → List ℕ → Tree → Look → Type 0
 Parted c shared mem now (look.Cons place) =
@@ -360,7 +361,7 @@ parted-none c shared mem now l other e p = subst (PartedBy c shared mem now) e p
 from-cons : (most : ℕ) (c : ℕ → ℕ → Bool) (shared : List (List ℕ)) (mem : List ℕ) (old : List Rest) (rests : List Trees) (place : ℕ) (h t : Tree) → length old + 1 ≤ depth_limit
     → AreLeft c shared mem old rests
     → place + 2 ≤ length mem → Stands c shared mem (get_or mem place 0) h → Stands c shared mem (get_or mem (place + 1) 0) t
-    → Goes most c shared mem old (Cons h t) rests (further.Word (get_or mem place 0)) (rest.Tail (place + 1) ∷ old)
+    → WalkGoes most c shared mem old (Cons h t) rests (further.Word (get_or mem place 0)) (rest.Tail (place + 1) ∷ old)
 from-cons most c shared mem old rests place h t few left within sh st = record {
   now = h;
   rests = (t ▹ end) ∷ rests;
@@ -372,10 +373,10 @@ from-cons most c shared mem old rests place h t few left within sh st = record {
 }
 
 pub goes-cons : (most : ℕ) (c : ℕ → ℕ → Bool) (shared : List (List ℕ)) (mem : List ℕ) (old : List Rest) (w : ℕ) (now : Tree) (rests : List Trees) (l : Look) (place : ℕ) → length old + 1 ≤ depth_limit
-    → l ≡ look.Cons place → IsSeen c shared mem w now l → AreLeft c shared mem old rests → Goes most c shared mem old now rests (further.Word (get_or mem place 0)) (rest.Tail (place + 1) ∷ old)
+    → l ≡ look.Cons place → IsSeen c shared mem w now l → AreLeft c shared mem old rests → WalkGoes most c shared mem old now rests (further.Word (get_or mem place 0)) (rest.Tail (place + 1) ∷ old)
 goes-cons most c shared mem old w now rests l place few e seen left =
     let (h, t, is, within, sh, st) = subst (Parted c shared mem now) e (parted c shared mem w now l seen) in
-    let P : Tree → Type 0 = λ z. Goes most c shared mem old z rests (further.Word (get_or mem place 0)) (rest.Tail (place + 1) ∷ old) in
+    let P : Tree → Type 0 = λ z. WalkGoes most c shared mem old z rests (further.Word (get_or mem place 0)) (rest.Tail (place + 1) ∷ old) in
     subst P (sym is) (from-cons most c shared mem old rests place h t few left within sh st)
 
 pub deep-cons : (most : ℕ) (c : ℕ → ℕ → Bool) (shared : List (List ℕ)) (mem : List ℕ) (old : List Rest) (w : ℕ) (now : Tree) (l : Look) (place : ℕ) → length old ≡ most
@@ -389,23 +390,23 @@ deep-cons most c shared mem old w now l place full e seen =
 
 pub goes-rows : (most : ℕ) (c : ℕ → ℕ → Bool) (shared : List (List ℕ)) (mem : List ℕ) (old : List Rest) (w : ℕ) (now : Tree) (rests : List Trees) (l : Look) (r : Rest) (word : ℕ) (new : List Rest)
     → length old + 1 ≤ depth_limit → rest_in l ≡ Some r → IsSeen c shared mem w now l → AreLeft c shared mem old rests → Yields mem (r ∷ old) (Some word) new
-    → Goes most c shared mem old now rests (further.Word word) new
+    → WalkGoes most c shared mem old now rests (further.Word word) new
 goes-rows most c shared mem old w now rests l r word new few e seen left y =
     let (is, deep, one) = parted-some c shared mem now l r e (parted c shared mem w now l seen) in
-    let same : length old + depth now ≡ length old + (inside r + greatest_depth (parts_of now)) = omega (arith, deep, one) in
-    goes-same c shared mem (trees_append (parts_of now) (left_of rests)) (trees_append (parts_of now) (left_of rests))
-    (max (length old + (inside r + greatest_depth (parts_of now))) (deepest old rests)) (max (length old + depth now) (deepest old rests)) word new refl
-    (ap (λ z. max depth_limit (max z (deepest old rests))) same) (y.each c shared (parts_of now ∷ rests) (omega arith) (is, left))
+    let same : length old + depth now ≡ length old + (inside r + greatest_depth (walk_parts now)) = omega (arith, deep, one) in
+    goes-same c shared mem (trees_append (walk_parts now) (left_of rests)) (trees_append (walk_parts now) (left_of rests))
+    (max (length old + (inside r + greatest_depth (walk_parts now))) (deepest old rests)) (max (length old + depth now) (deepest old rests)) word new refl
+    (ap (λ z. max depth_limit (max z (deepest old rests))) same) (y.each c shared (walk_parts now ∷ rests) (omega arith) (is, left))
 
 pub ends-rows : (most : ℕ) (c : ℕ → ℕ → Bool) (shared : List (List ℕ)) (mem : List ℕ) (old : List Rest) (w : ℕ) (now : Tree) (rests : List Trees) (l : Look) (r : Rest) (new : List Rest)
     → length old + 1 ≤ depth_limit → rest_in l ≡ Some r → IsSeen c shared mem w now l → AreLeft c shared mem old rests → Yields mem (r ∷ old) None new
-    → Goes most c shared mem old now rests further.End new
+    → WalkGoes most c shared mem old now rests further.End new
 ends-rows most c shared mem old w now rests l r new few e seen left y =
     let (is, deep, one) = parted-some c shared mem now l r e (parted c shared mem w now l seen) in
-    let same : length old + depth now ≡ length old + (inside r + greatest_depth (parts_of now)) = omega (arith, deep, one) in
-    ends-same (trees_append (parts_of now) (left_of rests)) (trees_append (parts_of now) (left_of rests))
-    (max (length old + (inside r + greatest_depth (parts_of now))) (deepest old rests)) (max (length old + depth now) (deepest old rests)) refl
-    (ap (λ z. max depth_limit (max z (deepest old rests))) same) (y.each c shared (parts_of now ∷ rests) (omega arith) (is, left))
+    let same : length old + depth now ≡ length old + (inside r + greatest_depth (walk_parts now)) = omega (arith, deep, one) in
+    ends-same (trees_append (walk_parts now) (left_of rests)) (trees_append (walk_parts now) (left_of rests))
+    (max (length old + (inside r + greatest_depth (walk_parts now))) (deepest old rests)) (max (length old + depth now) (deepest old rests)) refl
+    (ap (λ z. max depth_limit (max z (deepest old rests))) same) (y.each c shared (walk_parts now ∷ rests) (omega arith) (is, left))
 
 pub deep-rows : (most : ℕ) (c : ℕ → ℕ → Bool) (shared : List (List ℕ)) (mem : List ℕ) (old : List Rest) (w : ℕ) (now : Tree) (l : Look) (r : Rest) → length old ≡ most
     → rest_in l ≡ Some r → IsSeen c shared mem w now l → most < length old + depth now
@@ -417,18 +418,18 @@ deep-rows most c shared mem old w now l r full e seen =
 
 pub goes-on : (most : ℕ) (c : ℕ → ℕ → Bool) (shared : List (List ℕ)) (mem : List ℕ) (old : List Rest) (w : ℕ) (now : Tree) (rests : List Trees) (l : Look) (word : ℕ) (new : List Rest)
     → length old ≤ depth_limit → ((place : ℕ) → l ≡ look.Cons place → ⊥) → rest_in l ≡ None → IsSeen c shared mem w now l → AreLeft c shared mem old rests → Yields mem old (Some word) new
-    → Goes most c shared mem old now rests (further.Word word) new
+    → WalkGoes most c shared mem old now rests (further.Word word) new
 goes-on most c shared mem old w now rests l word new few other e seen left y =
     let (none, flat) = parted-none c shared mem now l other e (parted c shared mem w now l seen) in
-    goes-same c shared mem (left_of rests) (trees_append (parts_of now) (left_of rests)) (deepest old rests) (max (length old + depth now) (deepest old rests)) word new
+    goes-same c shared mem (left_of rests) (trees_append (walk_parts now) (left_of rests)) (deepest old rests) (max (length old + depth now) (deepest old rests)) word new
     (ap (λ z. trees_append z (left_of rests)) none) (omega (arith, flat)) (y.each c shared rests few left)
 
 pub ends-on : (most : ℕ) (c : ℕ → ℕ → Bool) (shared : List (List ℕ)) (mem : List ℕ) (old : List Rest) (w : ℕ) (now : Tree) (rests : List Trees) (l : Look) (new : List Rest)
     → length old ≤ depth_limit → ((place : ℕ) → l ≡ look.Cons place → ⊥) → rest_in l ≡ None → IsSeen c shared mem w now l → AreLeft c shared mem old rests → Yields mem old None new
-    → Goes most c shared mem old now rests further.End new
+    → WalkGoes most c shared mem old now rests further.End new
 ends-on most c shared mem old w now rests l new few other e seen left y =
     let (none, flat) = parted-none c shared mem now l other e (parted c shared mem w now l seen) in
-    ends-same (left_of rests) (trees_append (parts_of now) (left_of rests)) (deepest old rests) (max (length old + depth now) (deepest old rests))
+    ends-same (left_of rests) (trees_append (walk_parts now) (left_of rests)) (deepest old rests) (max (length old + depth now) (deepest old rests))
     (ap (λ z. trees_append z (left_of rests)) none) (omega (arith, flat)) (y.each c shared rests few left)
 
 -- What the calls of a walk ask for.
@@ -441,7 +442,7 @@ cons-within mem old l place g e =
 pub rows-left : (mem : List ℕ) (old : List Rest) (l : Look) (r : Rest) → length old + 1 ≤ depth_limit → CanGo mem old l → rest_in l ≡ Some r → HasLeft mem (r ∷ old)
 rows-left mem old l r few g e =
     let (is, deep, one) = parted-some always g.shared mem g.now l r e (parted always g.shared mem g.word g.now l g.seen) in
-    record { shared = g.shared; rests = parts_of g.now ∷ g.rests; few = omega (arith, few); left = (is, g.left) }
+    record { shared = g.shared; rests = walk_parts g.now ∷ g.rests; few = omega (arith, few); left = (is, g.left) }
 
 pub same-left : (mem : List ℕ) (old : List Rest) (l : Look) → CanGo mem old l → HasLeft mem old
 same-left mem old l g = record { shared = g.shared; rests = g.rests; few = g.few; left = g.left }
@@ -472,7 +473,7 @@ entered-left mem old new l g (inr (e, is, other)) = let P : List Rest → Type 0
 
 pub entered-goes : (most : ℕ) (c : ℕ → ℕ → Bool) (shared : List (List ℕ)) (mem : List ℕ) (old levels new : List Rest) (w : ℕ) (now : Tree) (rests : List Trees) (l : Look) (word : ℕ)
     → length old ≤ depth_limit
-    → Entered l old levels → Yields mem levels (Some word) new → IsSeen c shared mem w now l → AreLeft c shared mem old rests → Goes most c shared mem old now rests (further.Word word) new
+    → Entered l old levels → Yields mem levels (Some word) new → IsSeen c shared mem w now l → AreLeft c shared mem old rests → WalkGoes most c shared mem old now rests (further.Word word) new
 entered-goes most c shared mem old levels new w now rests l word low (inl (r, e, is, few)) y seen left =
     let P : List Rest → Type 0 = λ z. Yields mem z (Some word) new in
     goes-rows most c shared mem old w now rests l r word new few e seen left (subst P is y)
@@ -481,7 +482,7 @@ entered-goes most c shared mem old levels new w now rests l word low (inr (e, is
     goes-on most c shared mem old w now rests l word new low other e seen left (subst P is y)
 
 pub entered-ends : (most : ℕ) (c : ℕ → ℕ → Bool) (shared : List (List ℕ)) (mem : List ℕ) (old levels new : List Rest) (w : ℕ) (now : Tree) (rests : List Trees) (l : Look) → length old ≤ depth_limit
-    → Entered l old levels → Yields mem levels None new → IsSeen c shared mem w now l → AreLeft c shared mem old rests → Goes most c shared mem old now rests further.End new
+    → Entered l old levels → Yields mem levels None new → IsSeen c shared mem w now l → AreLeft c shared mem old rests → WalkGoes most c shared mem old now rests further.End new
 entered-ends most c shared mem old levels new w now rests l low (inl (r, e, is, few)) y seen left =
     let P : List Rest → Type 0 = λ z. Yields mem z None new in
     ends-rows most c shared mem old w now rests l r new few e seen left (subst P is y)
@@ -492,8 +493,8 @@ entered-ends most c shared mem old levels new w now rests l low (inr (e, is, oth
 pub cons-goes : (most : ℕ) (c : ℕ → ℕ → Bool) (shared : List (List ℕ)) (mem : List ℕ) (old new : List Rest) (w : ℕ) (now : Tree) (rests : List Trees) (l : Look) (place word : ℕ)
     → length old + 1 ≤ depth_limit
     → l ≡ look.Cons place → new ≡ rest.Tail (place + 1) ∷ old → word ≡ get_or mem place 0 → IsSeen c shared mem w now l → AreLeft c shared mem old rests
-    → Goes most c shared mem old now rests (further.Word word) new
+    → WalkGoes most c shared mem old now rests (further.Word word) new
 cons-goes most c shared mem old new w now rests l place word few e is at seen left =
-    let P : List Rest → Type 0 = λ z. Goes most c shared mem old now rests (further.Word (get_or mem place 0)) z in
-    let Q : ℕ → Type 0 = λ z. Goes most c shared mem old now rests (further.Word z) new in
+    let P : List Rest → Type 0 = λ z. WalkGoes most c shared mem old now rests (further.Word (get_or mem place 0)) z in
+    let Q : ℕ → Type 0 = λ z. WalkGoes most c shared mem old now rests (further.Word z) new in
     subst Q (sym at) (subst P (sym is) (goes-cons most c shared mem old w now rests l place few e seen left))

@@ -20,7 +20,7 @@ use Rattle.term_walk.specs.declared.levels.Rest.{Rest}
 use Rattle.term_walk.specs.declared.levels.Further.{Further}
 use Rattle.term_walk.specs.declared.levels.Further.TheVariants as further
 use Rattle.term_walk.specs.declared.measured.Measured.TheVariants.{Within, Beyond}
-use Rattle.term_walk.specs.Left.{AreLeft, left_of, parts_of, CanGo, Goes}
+use Rattle.term_walk.specs.Left.{AreLeft, left_of, walk_parts, CanGo, WalkGoes}
 use Rattle.term_walk.specs.Weights.{nodes_in, HasFlat}
 use Rattle.term_walk.specs.Measured.{measured, Measures, Counting, Counts}
 
@@ -37,7 +37,7 @@ nodes-rows shared (pair k v ps) = omega (arith, nodes-rows shared ps)
 -- A tree counts what its word counts, and its parts.
 
 pub nodes-own : (c : ℕ → ℕ → Bool) (shared : List (List ℕ)) (mem : List ℕ) (w : ℕ) (now : Tree) (l : Look) → IsSeen c shared mem w now l
-    → nodes shared now ≡ nodes_in l + nodes_of_all shared (parts_of now)
+    → nodes shared now ≡ nodes_in l + nodes_of_all shared (walk_parts now)
 nodes-own c shared mem w (Int i) l (inl (small, e)) = rw e refl
 nodes-own c shared mem w (Int i) l (inr (d, has, e)) = rw e refl
 nodes-own c shared mem w (Atom k) l e = rw e refl
@@ -63,7 +63,7 @@ has-flat : (mem : List ℕ) (l m : Look) (n : ℕ) → l ≡ m → HasFlat mem l
 has-flat mem l m n e h = let P : Look → Type 0 = λ z. HasFlat mem z n in subst P e h
 
 pub flat-own : (c : ℕ → ℕ → Bool) (shared : List (List ℕ)) (mem : List ℕ) (w : ℕ) (now : Tree) (l : Look) (n : ℕ) → Stands c shared mem w now → IsSeen c shared mem w now l → HasFlat mem l n
-    → flat now ≡ n + flat_of_all (parts_of now)
+    → flat now ≡ n + flat_of_all (walk_parts now)
 unfolding Stands
 flat-own c shared mem w (Int i) l n s (inl (small, e)) h = right-zero (int_flat i) n (cond-true (is_small i) 0 (if nat_lt (magnitude i) (2 ^ 64) then 2 else 3) small
     ∙ sym (has-flat mem l (look.Small i) n e h))
@@ -99,7 +99,7 @@ counts-first mem w levels e =
 -- A step counts the word.
 
 count-on : (most : ℕ) (c : ℕ → ℕ → Bool) (shared : List (List ℕ)) (mem : List ℕ) (t : Tree) (word next : ℕ) (levels new : List Rest) (l : Look) (seen words n : ℕ)
-    → (k : Counting c shared mem t word levels seen words) → IsSeen c shared mem word k.now l → HasFlat mem l n → Goes most c shared mem levels k.now k.rests (further.Word next) new
+    → (k : Counting c shared mem t word levels seen words) → IsSeen c shared mem word k.now l → HasFlat mem l n → WalkGoes most c shared mem levels k.now k.rests (further.Word next) new
     → Counting c shared mem t next new (seen + nodes_in l) (words + n)
 count-on most c shared mem t word next levels new l seen words n k sees has g = record {
   now = g.now;
@@ -107,14 +107,14 @@ count-on most c shared mem t word next levels new l seen words n k sees has g = 
   standing = g.standing;
   left = g.left;
   few = g.few;
-  nodes_are = omega (arith, k.nodes_are, nodes-own c shared mem word k.now l sees, nodes-append shared (parts_of k.now) (left_of k.rests), ap (nodes_of_all shared) g.order);
-  flat_is = omega (arith, k.flat_is, flat-own c shared mem word k.now l n k.standing sees has, flat_of_all-append (parts_of k.now) (left_of k.rests), ap flat_of_all g.order);
+  nodes_are = omega (arith, k.nodes_are, nodes-own c shared mem word k.now l sees, nodes-append shared (walk_parts k.now) (left_of k.rests), ap (nodes_of_all shared) g.order);
+  flat_is = omega (arith, k.flat_is, flat-own c shared mem word k.now l n k.standing sees has, flat_of_all-append (walk_parts k.now) (left_of k.rests), ap flat_of_all g.order);
   depth_is = k.depth_is ∙ g.depths;
 }
 
 abbrev pub Leads : (most : ℕ) → List ℕ → List Rest → Look → Further → List Rest → Type 0
 Leads most mem levels l result new = (c : ℕ → ℕ → Bool) (shared : List (List ℕ)) (w : ℕ) (now : Tree) (rests : List Trees)
-    → Stands c shared mem w now → IsSeen c shared mem w now l → AreLeft c shared mem levels rests → Goes most c shared mem levels now rests result new
+    → Stands c shared mem w now → IsSeen c shared mem w now l → AreLeft c shared mem levels rests → WalkGoes most c shared mem levels now rests result new
 
 pub counts-on : (most : ℕ) (mem : List ℕ) (first word next : ℕ) (levels new : List Rest) (l : Look) (seen words n total flats : ℕ) → Counts mem first word levels seen words → Sees mem word l
     → HasFlat mem l n
@@ -144,12 +144,12 @@ is-deep shared t h = sym (cond-true (is_beyond shared t) Beyond (Within (record 
     (or_right (nat_lt node_limit (nodes shared t)) (nat_lt depth_limit (depth t)) (lt-ltb depth_limit (depth t) h)))
 
 end-within : (most : ℕ) (c : ℕ → ℕ → Bool) (shared : List (List ℕ)) (mem : List ℕ) (t : Tree) (word : ℕ) (levels new : List Rest) (l : Look) (seen words n : ℕ)
-    → (k : Counting c shared mem t word levels seen words) → IsSeen c shared mem word k.now l → HasFlat mem l n → Goes most c shared mem levels k.now k.rests further.End new
+    → (k : Counting c shared mem t word levels seen words) → IsSeen c shared mem word k.now l → HasFlat mem l n → WalkGoes most c shared mem levels k.now k.rests further.End new
     → seen + nodes_in l ≤ node_limit
     → Within (record { nodes = seen + nodes_in l; flat = words + n }) ≡ measured shared t
 end-within most c shared mem t word levels new l seen words n k sees has g few = is-within shared t (seen + nodes_in l) (words + n)
-    (omega (arith, k.nodes_are, nodes-own c shared mem word k.now l sees, nodes-append shared (parts_of k.now) (left_of k.rests), ap (nodes_of_all shared) g.none))
-    (omega (arith, k.flat_is, flat-own c shared mem word k.now l n k.standing sees has, flat_of_all-append (parts_of k.now) (left_of k.rests), ap flat_of_all g.none))
+    (omega (arith, k.nodes_are, nodes-own c shared mem word k.now l sees, nodes-append shared (walk_parts k.now) (left_of k.rests), ap (nodes_of_all shared) g.none))
+    (omega (arith, k.flat_is, flat-own c shared mem word k.now l n k.standing sees has, flat_of_all-append (walk_parts k.now) (left_of k.rests), ap flat_of_all g.none))
     few (omega (arith, k.depth_is, g.shallow))
 
 pub measures-within : (most : ℕ) (mem : List ℕ) (first word : ℕ) (levels new : List Rest) (l : Look) (seen words n total flats : ℕ) → Counts mem first word levels seen words → Sees mem word l

@@ -22,10 +22,10 @@ abbrev pub IsShort : Row → Type 0
 IsShort row = row.first + row.len ≤ 2 ^ 24
 
 -- So do all rows that are left.
-abbrev pub AreShort : Rest → Type 0
-AreShort (rest.Row row) = IsShort row
-AreShort (rest.Rows row next) = IsShort row × IsShort next
-AreShort (rest.Tail place) = Unit {0}
+abbrev pub RestIsShort : Rest → Type 0
+RestIsShort (rest.Row row) = IsShort row
+RestIsShort (rest.Rows row next) = IsShort row × IsShort next
+RestIsShort (rest.Tail place) = Unit {0}
 
 -- A row without its first word.
 abbrev pub row_after : Row → Row
@@ -36,10 +36,10 @@ abbrev pub row_taken : Row → Option (ℕ × Option Rest)
 row_taken row = if row.len == 0 then None else Some (row.first, Some (rest.Row (row_after row)))
 
 -- The place of the first word that is left, and what is left after it.
-abbrev pub taken : Rest → Option (ℕ × Option Rest)
-taken (rest.Row row) = row_taken row
-taken (rest.Rows row next) = if row.len == 0 then row_taken next else Some (row.first, Some (rest.Rows (row_after row) next))
-taken (rest.Tail place) = Some (place, None)
+abbrev pub rest_taken : Rest → Option (ℕ × Option Rest)
+rest_taken (rest.Row row) = row_taken row
+rest_taken (rest.Rows row next) = if row.len == 0 then row_taken next else Some (row.first, Some (rest.Rows (row_after row) next))
+rest_taken (rest.Tail place) = Some (place, None)
 
 -- What is left of an object before its first part is seen, but of a cons.
 abbrev pub rest_in : Look → Option Rest
@@ -70,15 +70,15 @@ pub record AreRows (c : ℕ → ℕ → Bool) (shared : List (List ℕ)) (mem : 
   pub next_is : RowStandsFor c shared mem next others
 
 -- The words that are left on one level stand for these trees in order.
-abbrev pub IsLeft : (ℕ → ℕ → Bool) → List (List ℕ) → List ℕ → Rest → Trees → Type 0
-IsLeft c shared mem (rest.Row row) ts = RowStandsFor c shared mem row ts
-IsLeft c shared mem (rest.Rows row next) ts = AreRows c shared mem row next ts
-IsLeft c shared mem (rest.Tail place) ts = IsTail c shared mem place ts
+abbrev pub RestIsLeft : (ℕ → ℕ → Bool) → List (List ℕ) → List ℕ → Rest → Trees → Type 0
+RestIsLeft c shared mem (rest.Row row) ts = RowStandsFor c shared mem row ts
+RestIsLeft c shared mem (rest.Rows row next) ts = AreRows c shared mem row next ts
+RestIsLeft c shared mem (rest.Tail place) ts = IsTail c shared mem place ts
 
 -- The words that are left stand for these trees, level by level.
 abbrev pub AreLeft : (ℕ → ℕ → Bool) → List (List ℕ) → List ℕ → List Rest → List Trees → Type 0
 AreLeft c shared mem [] [] = Unit {0}
-AreLeft c shared mem (l ∷ ls) (ts ∷ rests) = IsLeft c shared mem l ts × AreLeft c shared mem ls rests
+AreLeft c shared mem (l ∷ ls) (ts ∷ rests) = RestIsLeft c shared mem l ts × AreLeft c shared mem ls rests
 AreLeft c shared mem [] (ts ∷ rests) = ⊥
 AreLeft c shared mem (l ∷ ls) [] = ⊥
 
@@ -100,12 +100,12 @@ deepest (l ∷ ls) [] = 0
 deepest (l ∷ ls) (ts ∷ rests) = max (length ls + (inside l + greatest_depth ts)) (deepest ls rests)
 
 -- The parts of a tree, in the order of the walk: of a map the keys, then the values.
-abbrev pub parts_of : Tree → Trees
-parts_of (Cons h t) = h ▹ (t ▹ end)
-parts_of (Tuple ts) = ts
-parts_of (Map ps) = trees_append (keys_of ps) (values_of ps)
-parts_of (Fun name arity creator env) = env
-parts_of _ = end
+abbrev pub walk_parts : Tree → Trees
+walk_parts (Cons h t) = h ▹ (t ▹ end)
+walk_parts (Tuple ts) = ts
+walk_parts (Map ps) = trees_append (keys_of ps) (values_of ps)
+walk_parts (Fun name arity creator env) = env
+walk_parts _ = end
 
 -- The words that are left stand for trees.
 pub record HasLeft (mem : List ℕ) (levels : List Rest) : Type 0 where
@@ -141,11 +141,12 @@ pub record WalkEnds (ts : Trees) (deep : ℕ) : Type 0 where
   pub shallow : deep ≤ depth_limit
 
 -- Where a walk of so many levels goes from a tree: to its parts, and then to what was left.
-abbrev pub Goes : (most : ℕ) → (ℕ → ℕ → Bool) → List (List ℕ) → List ℕ → List Rest → Tree → List Trees → Further → List Rest → Type 0
-Goes most c shared mem old now rests (further.Word word) new =
-    GoesTo c shared mem (trees_append (parts_of now) (left_of rests)) (max (length old + depth now) (deepest old rests)) word new
-Goes most c shared mem old now rests further.End new = WalkEnds (trees_append (parts_of now) (left_of rests)) (max (length old + depth now) (deepest old rests))
-Goes most c shared mem old now rests further.TooDeep new = most < length old + depth now
+abbrev pub WalkGoes : (most : ℕ) → (ℕ → ℕ → Bool) → List (List ℕ) → List ℕ → List Rest → Tree → List Trees → Further → List Rest → Type 0
+WalkGoes most c shared mem old now rests (further.Word word) new =
+    GoesTo c shared mem (trees_append (walk_parts now) (left_of rests)) (max (length old + depth now) (deepest old rests)) word new
+WalkGoes most c shared mem old now rests further.End new =
+    WalkEnds (trees_append (walk_parts now) (left_of rests)) (max (length old + depth now) (deepest old rests))
+WalkGoes most c shared mem old now rests further.TooDeep new = most < length old + depth now
 
 -- The first word that is left, if there is one, and what is left after it.
 abbrev pub GoesNext : (ℕ → ℕ → Bool) → List (List ℕ) → List ℕ → List Rest → List Trees → Option ℕ → List Rest → Type 0

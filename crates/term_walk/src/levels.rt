@@ -3,7 +3,7 @@ ghost use Rattle.std.specs.Prelude.{◌≡◌, ℕ, ◌<◌, ◌≤◌, Bool, Li
 ghost use Rattle.plain_term.specs.Tree.{Tree, Trees};
 ghost use Rattle.term_words.specs.Stands.{Stands};
 ghost use Rattle.term_read.specs.Look.{IsSeen};
-ghost use Rattle.term_walk.specs.Left.{IsShort, AreShort, row_after, row_taken, taken, rest_in, AreLeft, CanGo, Goes, HasLeft, Yields};
+ghost use Rattle.term_walk.specs.Left.{IsShort, RestIsShort, row_after, row_taken, rest_taken, rest_in, AreLeft, CanGo, WalkGoes, HasLeft, Yields};
 
 use arrayvec::ArrayVec;
 use term_read::{Look, Row};
@@ -52,7 +52,7 @@ pub fn go_on<const N: usize>(mem: &WordMem, levels: &mut ArrayVec<Rest, N>, look
     requires go { CanGo mem.now (reverse levels.old.items) look }
     ensures each { (c : ℕ → ℕ → Bool) (shared : List (List ℕ)) (w : ℕ) (now : Tree) (rests : List Trees)
         → Stands c shared mem.now w now → IsSeen c shared mem.now w now look → AreLeft c shared mem.now (reverse levels.old.items) rests
-        → Goes N c shared mem.now (reverse levels.old.items) now rests result (reverse levels.new.items) }
+        → WalkGoes N c shared mem.now (reverse levels.old.items) now rests result (reverse levels.new.items) }
 {
     let _len = mem.len();
     if let Look::Cons(place) = look {
@@ -116,8 +116,8 @@ pub fn next_word<const N: usize>(mem: &WordMem, levels: &mut ArrayVec<Rest, N>) 
 
 // The place of the first word, and what is left after it.
 fn take(rest: Rest) -> Option<(u64, Option<Rest>)>
-    requires { AreShort rest }
-    ensures { result ≡ taken rest }
+    requires { RestIsShort rest }
+    ensures { result ≡ rest_taken rest }
 {
     match rest {
         Rest::Tail(place) => Some((place, None)),

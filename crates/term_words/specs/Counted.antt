@@ -42,5 +42,5 @@ pub record ArePacked (at size : ℕ → ℕ) (s : ℕ → Bool) (from n : ℕ) (
   pub passes : (v q : ℕ) → In v vs → at v ≤ q → q < at v + size v → s q ≡ true
 
 -- A tile, an object's pointer or 4 times the place of a record, names what stands by the test.
-abbrev pub IsLaid : (ℕ → ℕ → Bool) → List (List ℕ) → List ℕ → ℕ → Type 0
-IsLaid c shared mem w = (IsPointer w × ((t : Tree) × Stands c shared mem w t)) ⊎ ((v n : ℕ) × ((w ≡ v * 4) × IsRecord c mem v n))
+abbrev pub TileStands : (ℕ → ℕ → Bool) → List (List ℕ) → List ℕ → ℕ → Type 0
+TileStands c shared mem w = (IsPointer w × ((t : Tree) × Stands c shared mem w t)) ⊎ ((v n : ℕ) × ((w ≡ v * 4) × IsRecord c mem v n))

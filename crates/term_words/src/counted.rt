@@ -7,7 +7,7 @@ ghost use Rattle.term_words.specs.Object.{IsPointer, object_words};
 ghost use Rattle.term_words.specs.Stands.{AllStand};
 ghost use Rattle.term_words.specs.Reach.{Reach};
 ghost use Rattle.term_words.specs.Tiled.{tile_words};
-ghost use Rattle.term_words.specs.Counted.{In, Distinct, total, count, Listed, ArePacked, IsLaid};
+ghost use Rattle.term_words.specs.Counted.{In, Distinct, total, count, Listed, ArePacked, TileStands};
 
 /// Each object that standing roots reach has at most the flat words of their trees.
 pub fn flat_size_covers_objects()
@@ -28,7 +28,7 @@ pub fn flat_size_covers_lists_of_objects()
 pub fn packed_words_are_counted()
     ensures words { (at size : ℕ → ℕ) (s : ℕ → Bool) (from n : ℕ) (vs : List ℕ) → ArePacked at size s from n vs → total size vs ≤ count s from n }
     ensures tiles { (c : ℕ → ℕ → Bool) (shared : List (List ℕ)) (mem : List ℕ) (s : ℕ → Bool) (from n : ℕ) (ws : List ℕ) → IsSingle c → Distinct ws
-        → ((w : ℕ) → In w ws → IsLaid c shared mem w) → ((w : ℕ) → In w ws → (from ≤ w / 4) × (w / 4 + tile_words mem w ≤ from + n))
+        → ((w : ℕ) → In w ws → TileStands c shared mem w) → ((w : ℕ) → In w ws → (from ≤ w / 4) × (w / 4 + tile_words mem w ≤ from + n))
         → ((w q : ℕ) → In w ws → w / 4 ≤ q → q < w / 4 + tile_words mem w → s q ≡ true) → ArePacked (λ w. w / 4) (tile_words mem) s from n ws }
 {}
 

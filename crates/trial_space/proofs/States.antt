@@ -41,12 +41,12 @@ use Rattle.plain_machine.specs.Step.{Outcome, step, in_process, by_verb, settled
 use Rattle.plain_machine.specs.Tightness.{grow, receiver, send_words, process_words, build_words, repeat_words, fill_words, ids_in, funs_in, held_trees, living_trees}
 use Rattle.plain_machine.specs.May.{gets_to_space}
 use Rattle.space_api.specs.declared.space.Seat.{Seat}
-use Rattle.space_api.specs.Calls.{Becomes, Follows, Passes, Tells, HasEnv, IsTerm, said, one_term}
+use Rattle.space_api.specs.Calls.{Becomes, Follows, Passes, Tells, HasEnv, IsWrittenTerm, said, one_term}
 use Rattle.trial_space.specs.Items.{TrialStands, TrialSits, alone, put_item, weight, one_process, processes_of}
 use Rattle.trial_space.proofs.Weights.{weight-term, held-alone, alone-is, no-flaw}
 use Rattle.trial_space.proofs.Alone.{near, no-part, no-pairs, no-ids, no-funs, one-node}
 
-pub code-few : (names : List (List ℕ)) (t : Term) (code : List Item) → IsTerm names code t → length code ≤ LONGEST_LINE → length (items_of names t) ≤ LONGEST_LINE
+pub code-few : (names : List (List ℕ)) (t : Term) (code : List Item) → IsWrittenTerm names code t → length code ≤ LONGEST_LINE → length (items_of names t) ≤ LONGEST_LINE
 code-few names t code is few = omega (arith, few, ap (λ (xs : List Item). length xs) is.items)
 
 -- No record is counted, for no shared binary and no fun lives.
@@ -121,7 +121,7 @@ module _ (alive : Bool) (items : List Item) (s : State) (seat : Seat) (h : Trial
       inr (at-process (λ o. gets_to_space (OfProcess seat.pid v) o ≡ true) p v gets, ap refusal.NoSpace (sym (asks v terms names ∙ e)), h)
 
   -- `set`.
-  pub build-lacks : (r : Reg) (t : Term) (names : List (List ℕ)) (code : List Item) (n : ℕ) → IsTerm names code t → length code ≤ LONGEST_LINE → n + 1 ≡ weight code
+  pub build-lacks : (r : Reg) (t : Term) (names : List (List ℕ)) (code : List Item) (n : ℕ) → IsWrittenTerm names code t → length code ≤ LONGEST_LINE → n + 1 ≡ weight code
       → Becomes {A = Unit {0}} (λ words s p. gets_to_space p.command (step s p)) 0 s (said (OfProcess seat.pid (verb.Set r)) (one_term t) names) (Err (refusal.NoSpace n)) (TrialStands alive items)
   build-lacks r t names code n is few heavy = lacks (verb.Set r) (one_term t) names n (omega (arith, heavy, weight-term names t (code-few names t code is few), ap weight is.items))
       (set-gets (is_big names (map alone items) t s.shared) (is_wide names (map alone items) t s.shared))
@@ -132,7 +132,7 @@ module _ (alive : Bool) (items : List Item) (s : State) (seat : Seat) (h : Trial
       set-gets false true = refl
       set-gets false false = refl
 
-  pub build-holds : (r : Reg) (t : Term) (names : List (List ℕ)) (code : List Item) (d x : Item) → IsTerm names code t → length code ≤ LONGEST_LINE → x ≡ put_item items (get_or code 0 d)
+  pub build-holds : (r : Reg) (t : Term) (names : List (List ℕ)) (code : List Item) (d x : Item) → IsWrittenTerm names code t → length code ≤ LONGEST_LINE → x ≡ put_item items (get_or code 0 d)
       → weight code ≤ 1
       → Becomes {A = Unit {0}} (λ words s p. gets_to_space p.command (step s p)) 0 s (said (OfProcess seat.pid (verb.Set r)) (one_term t) names) (Ok tt) (TrialStands alive (set items r.0 x))
   build-holds r t names code d x is few put light =

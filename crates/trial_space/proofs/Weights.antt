@@ -8,7 +8,7 @@ use Rattle.plain_term.specs.Tree.{Tree}
 use Rattle.plain_term.specs.Tree.Tree.{Nil}
 use Rattle.line_io.specs.declared.reader.TheConstants.{LONGEST_LINE}
 use Rattle.plain_term.specs.Measures.{is_small, magnitude, bin_words}
-use Rattle.script_grammar.specs.Written.{Term, Terms, TermPairs, terms_len, pairs_len}
+use Rattle.script_grammar.specs.Written.{Term, Terms, TermPairs, terms_len, term_pairs_len}
 use Rattle.script_grammar.specs.Written.Term.{Int, Atom, Pid, Held, Listed, Barred, Tuple, Map, Bin}
 use Rattle.script_grammar.specs.Written.Terms.{end, ◌▹◌}
 use Rattle.script_grammar.specs.Written.TermPairs.{stop, pair}
@@ -95,7 +95,7 @@ mutual
       let l = length-append (items_of names t) (all_items names ts) in
       omega (arith, weight-term names t (omega (arith, f, l)), weight-all names ts (omega (arith, f, l)), weight-append (items_of names t) (all_items names ts))
 
-  weight-pairs : (names : List (List ℕ)) (qs : TermPairs) → length (pairs_items names qs) ≤ LONGEST_LINE → weight (pairs_items names qs) ≡ 2 * pairs_len qs + build_words_of_pairs qs
+  weight-pairs : (names : List (List ℕ)) (qs : TermPairs) → length (pairs_items names qs) ≤ LONGEST_LINE → weight (pairs_items names qs) ≡ 2 * term_pairs_len qs + build_words_of_pairs qs
   weight-pairs names stop f = refl
   weight-pairs names (pair k v qs) f =
       let l = length-append (items_of names k) (items_of names v ++ pairs_items names qs) in

@@ -4,7 +4,7 @@ ghost use Rattle.plain_term.specs.declared.item.Item.TheVariants.{Nil};
 ghost use Rattle.script_grammar.specs.Names.{IsRegister};
 ghost use Rattle.script_grammar.specs.Grammar.{MayReceive};
 ghost use Rattle.plain_machine.specs.State.{first_state};
-ghost use Rattle.plain_machine.specs.Tightness.{number_in, receiver};
+ghost use Rattle.plain_machine.specs.Tightness.{pid_number, receiver};
 ghost use Rattle.trial_space.specs.Items.{NamesRegister, alone, one_process, put_item};
 
 use crate::comparing::item_order;
@@ -50,7 +50,7 @@ impl TrialSpace {
 
 // The process that a pid names; no other item names one.
 fn number_of(item: Item) -> Option<u64>
-    ensures { result ≡ number_in (alone item) }
+    ensures { result ≡ pid_number (alone item) }
 {
     match item {
         Item::Pid(n) => Some(n),

@@ -57,7 +57,7 @@ pub record HasRow (h : Halves) (row : ℕ) : Type 0 where
   pub within : row < length h.procs.items
 
 -- The first message of the process has left its queue, and the word stands for it.
-pub record HasLeft (named : ℕ) (new : Halves) (shared : List (List ℕ)) (qs : List Process) (row w : ℕ) : Type 0 where
+pub record HasLeftQueue (named : ℕ) (new : Halves) (shared : List (List ℕ)) (qs : List Process) (row w : ℕ) : Type 0 where
   pub process : Process
   pub is : (d : Process) → get_or qs row d ≡ process
   pub message : Tree
@@ -68,21 +68,21 @@ pub record HasLeft (named : ℕ) (new : Halves) (shared : List (List ℕ)) (qs :
 
 -- A message was taken off the queue of the row: whatever processes the old half stood for, the first message has left, and nothing
 -- but the row has changed.
-pub record Takes (old new : Halves) (row w : ℕ) : Type 0 where
+pub record TakesMessage (old new : Halves) (row w : ℕ) : Type 0 where
   pub laid : IsLaid new
   pub same : (p : Proc) → p ≡ get_or old.procs.items row p → new ≡ with_row old row (shifted old.mem p)
   pub some : (d : Proc) → 1 ≤ (get_or old.procs.items row d).waiting
-  pub leaves : (named : ℕ) (shared : List (List ℕ)) (qs : List Process) → HalvesStand named old shared qs → HasLeft named new shared qs row w
+  pub leaves : (named : ℕ) (shared : List (List ℕ)) (qs : List Process) → HalvesStand named old shared qs → HasLeftQueue named new shared qs row w
 
 -- Where no message waits nothing changes.
 abbrev pub Receives : (old new : Halves) → (row : ℕ) → Option ℕ → Type 0
 Receives old new row None = (new ≡ old) × ((d : Proc) → (get_or old.procs.items row d).waiting ≡ 0)
-Receives old new row (Some w) = Takes old new row w
+Receives old new row (Some w) = TakesMessage old new row w
 
 -- A place follows the last one of a queue; the answer is the first place then.
-abbrev pub Follows : (old new : List ℕ) → (queue last waiting place : ℕ) → (result : ℕ) → Type 0
-Follows old new queue last zero place result = (new ≡ old) × (result ≡ place)
-Follows old new queue last (suc n) place result = (new ≡ slice_set old (last + 1) place) × (result ≡ queue)
+abbrev pub PlaceFollows : (old new : List ℕ) → (queue last waiting place : ℕ) → (result : ℕ) → Type 0
+PlaceFollows old new queue last zero place result = (new ≡ old) × (result ≡ place)
+PlaceFollows old new queue last (suc n) place result = (new ≡ slice_set old (last + 1) place) × (result ≡ queue)
 
 -- The half in use stands for some processes, of which one has the row, and the word stands for a tree that fits: a message of it
 -- asks for no more words than are free.

@@ -2,7 +2,7 @@
 ghost use Rattle.std.specs.Prelude.{◌≡◌, ◌+◌, ◌≤◌, length};
 ghost use Rattle.two_halves.specs.declared.halves.TheConstants.{PLACE_WORDS};
 ghost use Rattle.two_halves.specs.Copying.{CanCopyIn, CopiesIn};
-ghost use Rattle.two_halves.specs.Queues.{CanQueue, CanSend, Follows, HasRow, Queues, Receives, Sends};
+ghost use Rattle.two_halves.specs.Queues.{CanQueue, CanSend, PlaceFollows, HasRow, Queues, Receives, Sends};
 
 use crate::halves::{Halves, PLACE_WORDS};
 use crate::table::Proc;
@@ -90,7 +90,7 @@ impl Halves {
 // Lets a place follow the last one of a queue in which so many messages wait, and answers the first place then.
 fn follow(mem: &mut WordMem, queue: u64, last: u64, waiting: u64, place: u64) -> u64
     requires { (waiting ≡ 0 → ⊥) → last + PLACE_WORDS ≤ length mem.old }
-    ensures { Follows mem.old mem.new queue last waiting place result }
+    ensures { PlaceFollows mem.old mem.new queue last waiting place result }
 {
     if waiting == 0 {
         return place;

@@ -39,12 +39,12 @@ places_from mem zero at = []
 places_from mem (suc steps) at = if nat_lt at (length mem) then at ∷ places_from mem steps (at + size_at mem at) else []
 
 -- The places where blocks begin, from the memory's first word on.
-unfoldable pub places_of : List ℕ → List ℕ
-places_of mem = places_from mem (length mem) 0
+unfoldable pub block_places : List ℕ → List ℕ
+block_places mem = places_from mem (length mem) 0
 
 -- The memory is a row of blocks.
 pub record Blocked (mem : List ℕ) : Type 0 where
-  pub row : Blocks mem 0 (places_of mem) (length mem)
+  pub row : Blocks mem 0 (block_places mem) (length mem)
 
 -- Blocks lead from the memory's first word to the place.
 pub record Reaches (mem : List ℕ) (at : ℕ) : Type 0 where
@@ -58,7 +58,7 @@ IsListed p (q ∷ qs) = (p ≡ q) ⊎ IsListed p qs
 
 -- A block begins at the place.
 pub record BlockBegins (mem : List ℕ) (at : ℕ) : Type 0 where
-  pub listed : IsListed at (places_of mem)
+  pub listed : IsListed at (block_places mem)
 
 -- A block begins at the place that is not free.
 pub record IsUsed (mem : List ℕ) (at : ℕ) : Type 0 where
@@ -71,13 +71,13 @@ pub record IsBoundary (mem : List ℕ) (at : ℕ) : Type 0 where
   pub begins : at < length mem → BlockBegins mem at
 
 -- The free words of the blocks at these places.
-abbrev pub free_in : List ℕ → List ℕ → ℕ
-free_in mem [] = 0
-free_in mem (p ∷ ps) = free_at mem p + free_in mem ps
+abbrev pub free_among : List ℕ → List ℕ → ℕ
+free_among mem [] = 0
+free_among mem (p ∷ ps) = free_at mem p + free_among mem ps
 
 -- The free words of all blocks.
 unfoldable pub free_of : List ℕ → ℕ
-free_of mem = free_in mem (places_of mem)
+free_of mem = free_among mem (block_places mem)
 
 -- No two free blocks stand side by side.
 pub record FreeApart (mem : List ℕ) : Type 0 where

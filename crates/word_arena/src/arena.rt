@@ -1,6 +1,6 @@
 // The arena and its calls.
 ghost use Rattle.std.specs.Prelude.{◌≡◌, ◌≢◌, ℕ, ◌+◌, ◌-◌, ◌<◌, ◌≤◌, List, length, IfOk, IfSome, IfNone};
-ghost use Rattle.word_arena.specs.Blocks.{size_at, kind_at, owner_at, Blocks, Reaches, BlockBegins, IsUsed, free_in, free_of, FreeApart};
+ghost use Rattle.word_arena.specs.Blocks.{size_at, kind_at, owner_at, Blocks, Reaches, BlockBegins, IsUsed, free_among, free_of, FreeApart};
 ghost use Rattle.word_arena.specs.Calls.{NoneFits, FirstFit, IsGreatest, freed, taken, shortened, FreeFrom, Merged, OthersStay, IsBlock};
 
 use crate::blocks::{LAST_KIND, first_fit, free_before, next, size};
@@ -46,7 +46,8 @@ impl Arena {
         requires inside { end ≤ length self.old.mem }
         ensures sound { Sound self.new }
         ensures mem { self.new.mem ≡ freed self.old.mem end (length self.old.mem) }
-        ensures free { (places : List ℕ) → Blocks self.old.mem 0 places end → free_of self.new.mem + end ≡ free_in self.old.mem places + length self.old.mem }
+        ensures free { (places : List ℕ) → Blocks self.old.mem 0 places end → free_of self.new.mem + end
+            ≡ free_among self.old.mem places + length self.old.mem }
         ensures apart { ((p : ℕ) → BlockBegins self.new.mem p → p < end → 1 ≤ kind_at self.new.mem p) → FreeApart self.new.mem }
     {
         close(&mut self.mem, end);

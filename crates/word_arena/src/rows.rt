@@ -2,7 +2,7 @@
 ghost use Rattle.std.specs.Prelude.{◌≡◌, ℕ, ◌+◌, ◌-◌, ◌<◌, ◌≤◌, length};
 ghost use Rattle.word_arena.specs.Blocks.{size_at, Blocked, Reaches, IsUsed};
 ghost use Rattle.word_arena.specs.Calls.{FirstFit, FreeFrom, freed};
-ghost use Rattle.word_arena.specs.Changes.{Took, Shortened, Gave, Closed};
+ghost use Rattle.word_arena.specs.Changes.{TookBlock, Shortened, GaveBlock, Closed};
 
 use crate::blocks::{KINDS, LAST_KIND, free_end, kind, next};
 use word_mem::WordMem;
@@ -13,7 +13,7 @@ pub(crate) fn carve(mem: &mut WordMem, at: u64, words: u64, kind: u64, owner: u6
     requires first { FirstFit mem.old words at }
     requires words { 2 ≤ words }
     requires kind { (1 ≤ kind) × (kind ≤ LAST_KIND) }
-    ensures { Took mem.old mem.new at words kind owner }
+    ensures { TookBlock mem.old mem.new at words kind owner }
 {
     let _len = mem.len();
     let behind = next(mem, at);
@@ -43,7 +43,7 @@ pub(crate) fn merge(mem: &mut WordMem, at: u64, from: u64)
     requires blocked { Blocked mem.old }
     requires block { IsUsed mem.old at }
     requires free { FreeFrom mem.old at from }
-    ensures { Gave mem.old mem.new at from }
+    ensures { GaveBlock mem.old mem.new at from }
 {
     let _len = mem.len();
     let behind = next(mem, at);

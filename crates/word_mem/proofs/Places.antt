@@ -14,21 +14,21 @@ use denote.Index.{place, place_is}
 use denote.Memory.{part_at}
 use denote.Plain.{uint_in, uint_out}
 use denote.RawPtr.{block_ptr}
-use Rattle.word_mem.specs.Ownership.{block_of_words, word_at, words_at}
+use Rattle.word_mem.specs.Ownership.{block_of_words, word_own, all_own}
 
 -- the row without its i-th place
 abbrev pub besides : ℕ → ℕ → List ℕ → List Bool → ℕ → Fml
 besides b o [] fs i = ftrue
 besides b o (x ∷ xs) [] i = ftrue
-besides b o (x ∷ xs) (f ∷ fs) zero = words_at (block_ptr b (o + 8)) xs fs
-besides b o (x ∷ xs) (f ∷ fs) (suc i) = fsep (word_at f (block_ptr b o) x) (besides b (o + 8) xs fs i)
+besides b o (x ∷ xs) (f ∷ fs) zero = all_own (block_ptr b (o + 8)) xs fs
+besides b o (x ∷ xs) (f ∷ fs) (suc i) = fsep (word_own f (block_ptr b o) x) (besides b (o + 8) xs fs i)
 
 module _ {M : Type 1} {𝓤 : Ura M} (𝓛 : Logic 𝓤) (b : ℕ) where
   abbrev one : Bool → ℕ → ℕ → Fml
-  one f o x = word_at f (block_ptr b o) x
+  one f o x = word_own f (block_ptr b o) x
 
   abbrev all : ℕ → List ℕ → List Bool → Fml
-  all o xs fs = words_at (block_ptr b o) xs fs
+  all o xs fs = all_own (block_ptr b o) xs fs
 
   abbrev has : Fml → SProp 𝓤
   has F = sem 𝓛 F

@@ -15,7 +15,7 @@ use denote.RawPtr.{Ptr, block_ptr, ptr_val, in_block, in_a_block}
 use denote.Steps.{opens, closes, nothing}
 use denote.Struct.Struct.{Struct, within}
 use denote.Struct.Owning.{shape}
-use Rattle.word_mem.specs.Ownership.{words_at}
+use Rattle.word_mem.specs.Ownership.{all_own}
 use Rattle.word_mem.specs.declared.words.Words.{Words}
 use Rattle.word_mem.specs.contracts.words.Words as C
 
@@ -34,7 +34,7 @@ abbrev pub Fields : RattleType
 Fields = Struct (shape C.the_type)
 
 abbrev pub places : Words → ℕ → ℕ → Fml
-places d b o = words_at (block_ptr b o) d.items d.filled
+places d b o = all_own (block_ptr b o) d.items d.filled
 
 module _ {M : Type 1} {𝓤 : Ura M} {𝓛 : Logic 𝓤} {K : Type 0} {Γ : List (Item 𝓤)} {G : Goal 𝓤 𝓛.H} where
   pub row-had : K → (d : Words) (vs : List Val)
@@ -42,7 +42,7 @@ module _ {M : Type 1} {𝓤 : Ura M} {𝓛 : Logic 𝓤} {K : Type 0} {Γ : List
       → Seq K 𝓛 (‵ (W.own_val d vs) ∷ Γ) G
   row-had t d vs k =
       fsplit t $ fpick t (λ vss. fsplit t $ feq_l t (λ all. fsplit t $ feq_l t (λ e₀. fsplit t $ fsplit t $ feq_l t (λ e₁. flt_l t (λ fn. drop t $ fsplit t $ flt_l t (λ fit.
-      in_a_block t d.ptr (λ p. in_block p (words_at p d.items d.filled)) (id⊢ 𝓤 (never 𝓤)) (λ b o e.
+      in_a_block t d.ptr (λ p. in_block p (all_own p d.items d.filled)) (id⊢ 𝓤 (never 𝓤)) (λ b o e.
       k b o e (all ∙ ((λ i. vstruct (of_list (e₀ i ++ (e₁ i ++ []))) ∷ []) ∙ ap (λ (p : Ptr). pair_of p d.len ∷ []) e)) fn fit)))))))
 
   pub row-made : K → (d : Words) (b o : ℕ) → d.ptr ≡ block_ptr b o → d.len < 2 ^ 64 → d.len * 8 < 2 ^ 63
@@ -52,7 +52,7 @@ module _ {M : Type 1} {𝓤 : Ura M} {𝓛 : Logic 𝓤} {K : Type 0} {Γ : List
       nothing t $ flt_i t d.len (2 ^ 64) fn $ feq_i t (List Val) (vint w64 d.len ∷ []) (vint w64 d.len ∷ []) refl $ fjoin t $ fjoin t $
       feq_i t (List Val) (vptr b o ∷ []) (vptr b o ∷ []) refl $ fjoin t $ feq_i t (List Val) (row_val b o d.len ∷ []) (row_val b o d.len ∷ []) refl $ fjoin t $
       fpack t (Valss (shape C.the_type).fields) (within (shape C.the_type) (block_ptr b o, (d.len, tt)) (row_val b o d.len ∷ [])) (vptr b o ∷ [], (vint w64 d.len ∷ [], tt)) $ fjoin t $
-      rewrite t 0 (λ (p : Ptr). ‵ (fsep (Fields.own_val (p, (d.len, tt)) (row_val b o d.len ∷ [])) (fsep (flt (d.len * 8) (2 ^ 63)) (in_block p (words_at p d.items d.filled))))) (sym at) refl $ s)
+      rewrite t 0 (λ (p : Ptr). ‵ (fsep (Fields.own_val (p, (d.len, tt)) (row_val b o d.len ∷ [])) (fsep (flt (d.len * 8) (2 ^ 63)) (in_block p (all_own p d.items d.filled))))) (sym at) refl $ s)
 
 module _ {M : Type 1} {𝓤 : Ura M} {𝓛 : Logic 𝓤} {K : Type 0} {Γ : List (Item 𝓤)} {G : Goal 𝓤 𝓛.H} where
   -- [the places; the two fields; the open borrow; obs; auth]

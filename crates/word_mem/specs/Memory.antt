@@ -3,8 +3,8 @@ use Rattle.std.specs.Prelude.{◌≡◌, ℕ, ◌^◌, ◌<◌, ◌≤◌, true,
 use Rattle.word_mem.specs.declared.mem.WordMem.TheInside.{Inside}
 
 -- the list of its words
-abbrev pub words_of : Inside → List ℕ
-words_of m = m.words.items
+abbrev pub inside_words : Inside → List ℕ
+inside_words m = m.words.items
 
 -- it has at most 2^24 words, each was written, and its lease is that of its block
 abbrev pub IsWhole : Inside → Type 0

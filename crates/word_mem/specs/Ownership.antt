@@ -13,19 +13,19 @@ abbrev pub block_of_words : ℕ → Ty
 block_of_words n = ty_array (ty_int w64) n
 
 -- a place holds its word, or is room for one
-abbrev pub word_at : Bool → Ptr → ℕ → Fml
-word_at true p x = lies_at u64 full_share p x
-word_at false p x = room_for (ty_int w64) p
+abbrev pub word_own : Bool → Ptr → ℕ → Fml
+word_own true p x = lies_at u64 full_share p x
+word_own false p x = room_for (ty_int w64) p
 
 -- the places from p on
-abbrev pub words_at : Ptr → List ℕ → List Bool → Fml
-words_at p [] fs = ftrue
-words_at p (x ∷ xs) [] = ftrue
-words_at p (x ∷ xs) (f ∷ fs) = fsep (word_at f p x) (words_at (p +ₚ 8) xs fs)
+abbrev pub all_own : Ptr → List ℕ → List Bool → Fml
+all_own p [] fs = ftrue
+all_own p (x ∷ xs) [] = ftrue
+all_own p (x ∷ xs) (f ∷ fs) = fsep (word_own f p x) (all_own (p +ₚ 8) xs fs)
 
 -- the places of a row of n words, whose bytes can be counted
 abbrev pub words_own : Ptr → ℕ → List ℕ → List Bool → Fml
-words_own p n xs fs = fsep (flt (n * 8) (2 ^ 63)) (in_block p (words_at p xs fs))
+words_own p n xs fs = fsep (flt (n * 8) (2 ^ 63)) (in_block p (all_own p xs fs))
 
 -- a word that can be read where its place holds one
 abbrev pub word_lent : Bool → Ptr → ℕ → Lft → Fml

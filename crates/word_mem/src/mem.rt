@@ -22,9 +22,9 @@ impl Model for WordMem {
 
     ghost Value = { List ℕ };
 
-    ghost use Rattle.word_mem.specs.Memory.{words_of, IsWhole};
+    ghost use Rattle.word_mem.specs.Memory.{inside_words, IsWhole};
 
-    ghost view = { words_of };
+    ghost view = { inside_words };
 
     ghost invariant = { IsWhole };
 }

@@ -1,7 +1,7 @@
 // Small callers of the laws of words.
 ghost use Rattle.std.specs.Prelude.{◌≡◌, ℕ, ◌+◌, ◌/◌, ◌≤◌, Bool, true, List};
 ghost use Rattle.plain_term.specs.Tree.{Trees};
-ghost use Rattle.term_words.specs.Counted.{In, Distinct, IsLaid, total};
+ghost use Rattle.term_words.specs.Counted.{In, Distinct, TileStands, total};
 ghost use Rattle.term_words.specs.Reach.{PassTest};
 ghost use Rattle.term_words.specs.Role.{outside, IsSingle};
 ghost use Rattle.term_words.specs.Stands.{AllStand};
@@ -25,7 +25,7 @@ pub fn roots_that_reach_no_free_word_are_clear()
 /// Distinct objects and records that lie in n words take at most n words together.
 pub fn what_lies_in_some_words_takes_no_more()
     ensures { (c : ℕ → ℕ → Bool) (shared : List (List ℕ)) (mem : List ℕ) (from n : ℕ) (ws : List ℕ) → IsSingle c → Distinct ws
-        → ((w : ℕ) → In w ws → IsLaid c shared mem w) → ((w : ℕ) → In w ws → (from ≤ w / 4) × (w / 4 + tile_words mem w ≤ from + n))
+        → ((w : ℕ) → In w ws → TileStands c shared mem w) → ((w : ℕ) → In w ws → (from ≤ w / 4) × (w / 4 + tile_words mem w ≤ from + n))
         → total (tile_words mem) ws ≤ n }
 {
     packed_words_are_counted();

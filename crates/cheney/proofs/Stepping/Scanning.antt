@@ -9,7 +9,7 @@ use Rattle.cheney.specs.declared.moving.Moving.{Moving}
 use Rattle.cheney.specs.Spans.{in_span}
 use Rattle.cheney.specs.Plan.{Plan, Reached, Leaves, size}
 use Rattle.cheney.specs.Moved.{Copies}
-use Rattle.cheney.specs.Zones.{Marks, IsPart, scanned_at, object_at, mark}
+use Rattle.cheney.specs.Zones.{Marks, IsTracedPlace, scanned_at, object_at, mark}
 use Rattle.cheney.specs.Rooms.{top_of, Runs}
 use Rattle.cheney.specs.Calls.{CanOpen, CanStep, Copied, Evacuated, GoesOnWithin, IsFresh, IsFreshCons, RunsOn, ScansWord, Shape, nowhere}
 use Rattle.cheney.proofs.Stepping.Facts.{copy-later}
@@ -22,7 +22,7 @@ boxed-shape h from zero_end each = record { cons = λ n. absurd (n zero_end); bo
 
 -- A word that points to nothing is left as it is.
 
-module _ (p : Plan) (mem : List ℕ) (mv : Moving) (k : Marks) (b : Bool) (at w : ℕ) (run : Runs p mem mv k) (s : scanned_at k b ≡ at) (o : IsPart p mem k b at) (e : w ≡ get_or mem at 0)
+module _ (p : Plan) (mem : List ℕ) (mv : Moving) (k : Marks) (b : Bool) (at w : ℕ) (run : Runs p mem mv k) (s : scanned_at k b ≡ at) (o : IsTracedPlace p mem k b at) (e : w ≡ get_or mem at 0)
     (no_pointer : IsPointer w → ⊥) where
   itself : Evacuated p mem mem mv k (get_or mem at 0) (get_or mem at 0)
   itself =
@@ -35,12 +35,12 @@ module _ (p : Plan) (mem : List ℕ) (mv : Moving) (k : Marks) (b : Bool) (at w 
   pub kept-word : RunsOn p mem mem mv (mark k b (at + 1) (object_at k b))
   kept-word = stepped p mem mem mv mv k b at (get_or mem at 0) run s o itself mem same-set
 
-  pub kept-part : at + 1 < object_at k b → IsPart p mem (mark k b (at + 1) (object_at k b)) b (at + 1)
+  pub kept-part : at + 1 < object_at k b → IsTracedPlace p mem (mark k b (at + 1) (object_at k b)) b (at + 1)
   kept-part more = step-part p mem mem mv mv k b at (get_or mem at 0) run s o itself mem same-set more
 
 -- A tail whose cons is copied.
 
-pub tail-moved : (p : Plan) (mem mem2 mem3 : List ℕ) (mv mv2 : Moving) (k : Marks) (b : Bool) (at w x : ℕ) → Runs p mem mv k → scanned_at k b ≡ at → IsPart p mem k b at → w ≡ get_or mem at
+pub tail-moved : (p : Plan) (mem mem2 mem3 : List ℕ) (mv mv2 : Moving) (k : Marks) (b : Bool) (at w x : ℕ) → Runs p mem mv k → scanned_at k b ≡ at → IsTracedPlace p mem k b at → w ≡ get_or mem at
     0 → Copied mem mem2 mv mv2 w x
     → mem3 ≡ set mem2 at x → RunsOn p mem mem3 mv2 (mark k b (at + 1) (object_at k b))
 tail-moved p mem mem2 mem3 mv mv2 k b at w x run s o e c written =
@@ -125,7 +125,7 @@ module _ (p : Plan) (old mem : List ℕ) (mv : Moving) (k : Marks) (b : Bool) (a
     -- The tail is as it was.
     pub tail-kept : tail ≡ get_or mem1 (at + 1) 0
     tail-kept =
-        let o : IsPart p mem (mark (mark k b at at) b at (at + 2)) b at = cell-going.part (omega arith) in
+        let o : IsTracedPlace p mem (mark (mark k b at at) b at (at + 2)) b at = cell-going.part (omega arith) in
         let end : o.from + size p o.v ≡ at + 2 = o.ends ∙ object-here (mark k b at at) b at (at + 2) in
         let low : o.from ≤ at + 1 = omega (arith, o.traced) in
         let before : get_or mem (at + 1) 0 ≡ get_or p.start (o.v / 4 + (at + 1 - o.from)) 0 =

@@ -12,8 +12,8 @@ use Rattle.cheney.specs.Spans.{in_span}
 use Rattle.cheney.specs.Ranges.{stays}
 use Rattle.cheney.specs.Plan.{Plan, Reached, Leaves, size, first}
 use Rattle.cheney.specs.Moved.{moved, forward, IsImage, Copies}
-use Rattle.cheney.specs.Zones.{Marks, Gone, IsPart, IsCopy, StillFits, Invariant, scanned_at, object_at, mark, at_objects}
-use Rattle.cheney.specs.Rooms.{FromMoves, top_of, RoomsAgree, Runs, Advances}
+use Rattle.cheney.specs.Zones.{Marks, Gone, IsTracedPlace, IsCopy, StillFits, Invariant, scanned_at, object_at, mark, at_objects}
+use Rattle.cheney.specs.Rooms.{FromMoves, top_of, RoomsAgree, Runs, RoomGrows}
 use Rattle.cheney.specs.Calls.{CanMove, Copied, IsFresh, Went, either, nowhere, Later, Evacuated, CanOpen, CanStep, RunsOn, Shape}
 use Rattle.term_words.proofs.Placing.Apart.{words-cons, words-header}
 use Rattle.cheney.proofs.Before.Basics.{moved-cons, moved-boxed, forward-cons, forward-boxed, not-both, reach-part, size-words, size-some, size-cons, size-boxed, first-cons, first-boxed}
@@ -109,7 +109,7 @@ abbrev pub with_room : Moving → Bool → Room → Moving
 with_room mv true room = record mv { aged = room }
 with_room mv false room = record mv { young = room }
 
-advances : (mv : Moving) (b : Bool) (room : Room) (n : ℕ) → room ≡ record (room_of mv b) { top = top_of mv b + n } → Advances mv (with_room mv b room) b n
+advances : (mv : Moving) (b : Bool) (room : Room) (n : ℕ) → room ≡ record (room_of mv b) { top = top_of mv b + n } → RoomGrows mv (with_room mv b room) b n
 advances mv true room n e = record {
   stay = refl;
   from_space = refl;
@@ -139,8 +139,8 @@ copied-to : (mem mem2 : List ℕ) (mv : Moving) (b : Bool) (room : Room) (w x n 
 copied-to mem mem2 mv b room w x n mature i s here size c e =
     let A : ℕ → Type 0 = λ z. Copies mem mem2 w (top_of mv b) z x in
     let B : Bool → Type 0 = λ d. Copies mem mem2 w (top_of mv d) (object_words mem w) x in
-    let C : ℕ → Type 0 = λ z. Advances mv (with_room mv b room) b z in
-    let D : Bool → Type 0 = λ d. Advances mv (with_room mv b room) d (object_words mem w) in
+    let C : ℕ → Type 0 = λ z. RoomGrows mv (with_room mv b room) b z in
+    let D : Bool → Type 0 = λ d. RoomGrows mv (with_room mv b room) d (object_words mem w) in
     record { pointer = i; leaves = s; here = here; copies = subst B (sym mature) (subst A size c); grows = subst D (sym mature) (subst C size (advances mv b room n e)) }
 
 pub later-same : (p : Plan) (mem : List ℕ) → Later p nowhere mem mem
@@ -170,7 +170,7 @@ not-written p mem mem2 mv mv2 k w x e f run i =
     let B : Moving → Type 0 = λ z. Evacuated p mem mem z k w x in
     subst A (sym e) (subst B (sym f) (record { runs = run; later = later-same p mem; image = i }))
 
-agrees-on : (p : Plan) (mv mv2 : Moving) (b : Bool) (n : ℕ) → RoomsAgree p mv → Advances mv mv2 b n → RoomsAgree p mv2
+agrees-on : (p : Plan) (mv mv2 : Moving) (b : Bool) (n : ℕ) → RoomsAgree p mv → RoomGrows mv mv2 b n → RoomsAgree p mv2
 agrees-on p mv mv2 b n a o = record {
   stay = λ q. ap (λ z. stays z q) o.stay ∙ a.stay q;
   moves = λ q h. a.moves q (sym (ap (λ z. in_span z q) o.from_space) ∙ h);
@@ -183,7 +183,7 @@ agrees-on p mv mv2 b n a o = record {
 
 module _ (p : Plan) (mem mem2 : List ℕ) (mv mv2 : Moving) (k : Marks) (w x : ℕ) (run : Runs p mem mv k) (r : Reached p w) where
   -- An object that moved in this call.
-  by-copy : Leaves p w → moved mem w ≡ false → Copies mem mem2 w (top_of mv (p.mature (w / 4))) (size p w) x → Advances mv mv2 (p.mature (w / 4)) (size p w) → Evacuated p mem mem2 mv2 k w x
+  by-copy : Leaves p w → moved mem w ≡ false → Copies mem mem2 w (top_of mv (p.mature (w / 4))) (size p w) x → RoomGrows mv mv2 (p.mature (w / 4)) (size p w) → Evacuated p mem mem2 mv2 k w x
   by-copy l here c a =
       let g : Ground p = ground p run.ready in
       let fit : top_of mv (p.mature (w / 4)) + size p w ≤ p.high (p.mature (w / 4)) = room-fits p mem mv k w run r l here in
@@ -223,8 +223,8 @@ module _ (p : Plan) (mem mem2 : List ℕ) (mv mv2 : Moving) (k : Marks) (w x : �
       let b : in_span mv.mature (w / 4) ≡ p.mature (w / 4) = run.agrees.mature (w / 4) in
       let A : ℕ → Type 0 = λ z. Copies mem mem2 w (top_of mv (in_span mv.mature (w / 4))) z x in
       let B : Bool → Type 0 = λ d. Copies mem mem2 w (top_of mv d) (size p w) x in
-      let C : ℕ → Type 0 = λ z. Advances mv mv2 (in_span mv.mature (w / 4)) z in
-      let D : Bool → Type 0 = λ d. Advances mv mv2 d (size p w) in
+      let C : ℕ → Type 0 = λ z. RoomGrows mv mv2 (in_span mv.mature (w / 4)) z in
+      let D : Bool → Type 0 = λ d. RoomGrows mv mv2 d (size p w) in
       by-copy l o.here (subst B b (subst A n o.copies)) (subst D b (subst C n o.grows))
 
 cons-here : (mem : List ℕ) (w head : ℕ) → w % 4 ≡ 1 → head ≡ get_or mem (w / 4) 0 → (head ≡ 0 → ⊥) → moved mem w ≡ false
@@ -293,7 +293,7 @@ raw-at p mem mv k b at run s v from c low below =
     let done : scanned_at k (p.mature (v / 4)) ≤ at = subst P (sym c.goes) (omega arith) in
     G.raw (at - from) at (omega arith) (omega arith) (inl done)
 
-pub reached-there : (p : Plan) (mem : List ℕ) (mv : Moving) (k : Marks) (b : Bool) (at : ℕ) → Runs p mem mv k → scanned_at k b ≡ at → IsPart p mem k b at → Reached p (get_or mem at 0)
+pub reached-there : (p : Plan) (mem : List ℕ) (mv : Moving) (k : Marks) (b : Bool) (at : ℕ) → Runs p mem mv k → scanned_at k b ≡ at → IsTracedPlace p mem k b at → Reached p (get_or mem at 0)
 reached-there p mem mv k b at run s o =
     let low : o.from ≤ at = omega (arith, o.traced) in
     let below : at < o.from + size p o.v = omega (arith, o.below, o.ends) in
@@ -316,9 +316,9 @@ step-within mem mv b at c =
     let g : Ground c.plan = ground c.plan c.runs.ready in
     omega (arith, c.part.below, c.runs.holds.outer b, c.runs.holds.ends b, g.ends b, c.runs.holds.same_len)
 
-module _ (p : Plan) (mem mem2 : List ℕ) (mv mv2 : Moving) (k : Marks) (b : Bool) (at x : ℕ) (run : Runs p mem mv k) (s : scanned_at k b ≡ at) (o : IsPart p mem k b at)
+module _ (p : Plan) (mem mem2 : List ℕ) (mv mv2 : Moving) (k : Marks) (b : Bool) (at x : ℕ) (run : Runs p mem mv k) (s : scanned_at k b ≡ at) (o : IsTracedPlace p mem k b at)
     (ev : Evacuated p mem mem2 mv2 k (get_or mem at 0) x) where
-  part-on : IsPart p mem2 k b at
+  part-on : IsTracedPlace p mem2 k b at
   part-on = record { v = o.v; from = o.from; copy = copy-later p mem mem2 b o.v o.from (later-grows p nowhere mem mem2 ev.later) o.copy; ends = o.ends; traced = o.traced; below = o.below }
 
   word-on : get_or mem2 at 0 ≡ get_or mem at 0
@@ -346,10 +346,10 @@ module _ (p : Plan) (mem mem2 : List ℕ) (mv mv2 : Moving) (k : Marks) (b : Boo
         });
       })
 
-  pub step-part : (mem3 : List ℕ) → mem3 ≡ set mem2 at x → at + 1 < object_at k b → IsPart p mem3 (mark k b (at + 1) (object_at k b)) b (at + 1)
+  pub step-part : (mem3 : List ℕ) → mem3 ≡ set mem2 at x → at + 1 < object_at k b → IsTracedPlace p mem3 (mark k b (at + 1) (object_at k b)) b (at + 1)
   step-part mem3 e more =
       let g : Ground p = ground p run.ready in
-      let P : List ℕ → Type 0 = λ z. IsPart p z (mark k b (at + 1) (object_at k b)) b (at + 1) in
+      let P : List ℕ → Type 0 = λ z. IsTracedPlace p z (mark k b (at + 1) (object_at k b)) b (at + 1) in
       subst P (sym e) (write-part p g mem2 (top_of mv2) k ev.runs.holds b at x s part-on image-on more)
 
 -- A place in a room that is not scanned lies in the memory after the move too.
@@ -359,7 +359,7 @@ step-after mem mem2 mv mv2 b at x c ev = omega (arith, step-within mem mv b at c
 -- The object at a place of a room is opened, and its words are gone through one by one.
 pub record Going (p : Plan) (mem mem2 : List ℕ) (mv2 : Moving) (k : Marks) (b : Bool) (at end : ℕ) : Type 0 where
   pub on : RunsOn p mem mem2 mv2 (mark k b at end)
-  pub part : at < end → IsPart p mem2 (mark k b at end) b at
+  pub part : at < end → IsTracedPlace p mem2 (mark k b at end) b at
   pub within : at ≤ end
 
 shape-first : (p : Plan) (mem : List ℕ) (v place from words : ℕ) → Ground p → Reached p v → IsPointer v → get_or mem place 0 ≡ get_or p.start (v / 4) 0 → Shape (get_or mem place 0) from
@@ -408,14 +408,14 @@ opened-there p mem mv k b place from words run s o less sh =
 
 -- One word further.
 pub going-on : (p : Plan) (mem mem2 mem3 : List ℕ) (mv2 mv3 : Moving) (k : Marks) (b : Bool) (at end : ℕ) → Going p mem mem2 mv2 k b at end → at < end
-    → (IsPart p mem2 (mark k b at end) b at → RunsOn p mem2 mem3 mv3 (mark (mark k b at end) b (at + 1) (object_at (mark k b at end) b)))
-    → (IsPart p mem2 (mark k b at end) b at → at + 1 < object_at (mark k b at end) b → IsPart p mem3 (mark (mark k b at end) b (at + 1) (object_at (mark k b at end) b)) b (at + 1))
+    → (IsTracedPlace p mem2 (mark k b at end) b at → RunsOn p mem2 mem3 mv3 (mark (mark k b at end) b (at + 1) (object_at (mark k b at end) b)))
+    → (IsTracedPlace p mem2 (mark k b at end) b at → at + 1 < object_at (mark k b at end) b → IsTracedPlace p mem3 (mark (mark k b at end) b (at + 1) (object_at (mark k b at end) b)) b (at + 1))
     → Going p mem mem3 mv3 k b (at + 1) end
 going-on p mem mem2 mem3 mv2 mv3 k b at end go less on part =
     let ob : object_at (mark k b at end) b ≡ end = object-here k b at end in
     let marks : mark (mark k b at end) b (at + 1) (object_at (mark k b at end) b) ≡ mark k b (at + 1) end = ap (λ z. mark (mark k b at end) b (at + 1) z) ob ∙ mark-twice k b at end (at + 1) end in
     let A : Marks → Type 0 = λ z. RunsOn p mem2 mem3 mv3 z in
-    let B : Marks → Type 0 = λ z. IsPart p mem3 z b (at + 1) in
+    let B : Marks → Type 0 = λ z. IsTracedPlace p mem3 z b (at + 1) in
     let r : RunsOn p mem2 mem3 mv3 (mark k b (at + 1) end) = subst A marks (on (go.part less)) in
     record {
       on = record { runs = r.runs; later = later-then p nowhere nowhere mem mem2 mem3 go.on.later r.later };
@@ -441,7 +441,7 @@ same-ends p mem mem2 mv mv2 k l a b = (b.agrees.aged_high ∙ sym a.agrees.aged_
 -- The loop of scanning, one object further.
 pub went-there : (p : Plan) (mem mem2 : List ℕ) (mv mv2 : Moving) (k : Marks) (b : Bool) (at w x : ℕ) → w ≡ get_or mem at 0 →
     ((q : Plan) (l : Marks) → Runs q mem mv l → Reached q w → Evacuated q mem mem2 mv2 l w x)
-    → Runs p mem mv k → scanned_at k b ≡ at → IsPart p mem k b at → Evacuated p mem mem2 mv2 k (get_or mem at 0) x
+    → Runs p mem mv k → scanned_at k b ≡ at → IsTracedPlace p mem k b at → Evacuated p mem mem2 mv2 k (get_or mem at 0) x
 went-there p mem mem2 mv mv2 k b at w x e ev run s o =
     let P : ℕ → Type 0 = λ z. Evacuated p mem mem2 mv2 k z x in
     let Q : ℕ → Type 0 = λ z. Reached p z in

@@ -5,7 +5,7 @@ use Rattle.std.proofs.lemmas.List.{length-set, get_or-set_other, get_or-set_same
 use Rattle.term_words.specs.Object.{IsPointer}
 use Rattle.cheney.specs.Plan.{Plan, Reached, Leaves, IsIn, size, first}
 use Rattle.cheney.specs.Moved.{moved, forward, IsImage}
-use Rattle.cheney.specs.Zones.{Marks, IsCopy, IsPart, Row, IsRowOfCopies, Gone, Invariant, scanned_at, object_at, mark}
+use Rattle.cheney.specs.Zones.{Marks, IsCopy, IsTracedPlace, Row, IsRowOfCopies, Gone, Invariant, scanned_at, object_at, mark}
 use Rattle.cheney.proofs.Before.Basics.{reach-part, same-room, moved-same, forward-same, size-some, size-cons}
 use Rattle.cheney.proofs.Before.Ground.{Ground}
 use Rattle.cheney.proofs.Stepping.Facts.{Grows, image-later, row-later, copy-later}
@@ -46,7 +46,7 @@ at-copy p m top k i b v from c u j q r l y goes e less above below =
       | inr (inr a) ↦ absurd (omega (arith, a, place))
     ]
 
-module _ (p : Plan) (g : Ground p) (m : List ℕ) (top : Bool → ℕ) (k : Marks) (i : Invariant p m top k) (b : Bool) (place y : ℕ) (at : scanned_at k b ≡ place) (o : IsPart p m k b place)
+module _ (p : Plan) (g : Ground p) (m : List ℕ) (top : Bool → ℕ) (k : Marks) (i : Invariant p m top k) (b : Bool) (place y : ℕ) (at : scanned_at k b ≡ place) (o : IsTracedPlace p m k b place)
     (z : IsImage p m (get_or m place 0) y) where
   in-zone : (p.low b ≤ place) × (place < top b)
   in-zone = (omega (arith, i.begins b, at), omega (arith, o.below, i.outer b))
@@ -171,7 +171,7 @@ module _ (p : Plan) (g : Ground p) (m : List ℕ) (top : Bool → ℕ) (k : Mark
   }
 
   -- The object that is scanned has its copy there still.
-  pub write-part : place + 1 < object_at k b → IsPart p (set m place y) (mark k b (place + 1) (object_at k b)) b (place + 1)
+  pub write-part : place + 1 < object_at k b → IsTracedPlace p (set m place y) (mark k b (place + 1) (object_at k b)) b (place + 1)
   write-part more = record {
     v = o.v;
     from = o.from;

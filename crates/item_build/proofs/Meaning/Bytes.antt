@@ -6,7 +6,7 @@ use Rattle.plain_term.specs.Measures.{bin_words}
 use Rattle.term_words.specs.Object.{BytesLie, IsBinRecord}
 use Rattle.shared_rec.specs.Record.{WritesRecord}
 use Rattle.shared_rec.proofs.Rows.{bytes-written}
-use Rattle.item_build.specs.Reading.{byte_in, bytes_in}
+use Rattle.item_build.specs.Reading.{item_byte, bytes_in}
 
 pub bytes-len : (n : ℕ) (xs : List Item) → n ≤ length xs → length (bytes_in n xs) ≡ n
 bytes-len zero xs few = refl
@@ -20,10 +20,10 @@ take-step i [] b below = absurd (omega (arith, below))
 take-step zero (x ∷ row) b below = refl
 take-step (suc i) (x ∷ row) b below = ap (λ z. x ∷ z) (take-step i row b (omega (arith, below)))
 
-pub bytes-step : (i : ℕ) (xs : List Item) (d : Item) → i < length xs → bytes_in (suc i) xs ≡ bytes_in i xs ++ byte_in (get_or xs i d) ∷ []
+pub bytes-step : (i : ℕ) (xs : List Item) (d : Item) → i < length xs → bytes_in (suc i) xs ≡ bytes_in i xs ++ item_byte (get_or xs i d) ∷ []
 bytes-step i [] d below = absurd (omega (arith, below))
 bytes-step zero (x ∷ xs) d below = refl
-bytes-step (suc i) (x ∷ xs) d below = ap (λ z. byte_in x ∷ z) (bytes-step i xs d (omega (arith, below)))
+bytes-step (suc i) (x ∷ xs) d below = ap (λ z. item_byte x ∷ z) (bytes-step i xs d (omega (arith, below)))
 
 -- A record whose zeros became these bytes.
 pub record-made : (d : ℕ → ℕ → Bool) (m1 m2 : List ℕ) (rec serial n : ℕ) (xs : List Item) → n ≤ length xs → IsBinRecord d m1 rec serial (replicate n 0)

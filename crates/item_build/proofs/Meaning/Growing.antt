@@ -13,7 +13,7 @@ use Rattle.script_grammar.specs.Written.Term.{Int, Atom, Pid, Held, Listed, Barr
 use Rattle.script_grammar.specs.Written.Terms.{end, ◌▹◌}
 use Rattle.script_grammar.specs.Written.TermPairs.{stop, pair}
 use Rattle.script_grammar.specs.Names.{items_of, listed_items, all_items, pairs_items}
-use Rattle.plain_machine.specs.Made.{tree_of, trees_of, pairs_of, bin_tree, list_tree}
+use Rattle.plain_machine.specs.Made.{tree_of, trees_of_terms, trees_of_pairs, bin_tree, list_tree}
 use Rattle.item_build.specs.Reading.{bins_of, bytes_in, long_bins}
 use Rattle.item_build.proofs.Meaning.Known.{Knows, KnowsAll, KnowsPairs, all-knows-more, knows-more, in-order-knows, pairs-knows-more}
 
@@ -78,7 +78,7 @@ module _ (names : List (List ℕ)) (held : List Tree) where
     made (Pid n) shared rest = refl
     made (Held r) shared rest = refl
     made (Listed ts) shared rest = made-listed ts shared (item.Nil ∷ []) rest
-    made (Barred ts t) shared rest = made-listed ts shared (items_of names t) rest ∙ made t ((trees_of names held ts shared).1) rest
+    made (Barred ts t) shared rest = made-listed ts shared (items_of names t) rest ∙ made t ((trees_of_terms names held ts shared).1) rest
     made (Tuple ts) shared rest = made-all ts shared rest
     made (Map qs) shared rest = made-pairs qs shared rest
     made (Bin bytes) shared rest =
@@ -91,20 +91,20 @@ module _ (names : List (List ℕ)) (held : List Tree) where
         by true = refl
         by false = sym (append_assoc shared (bytes ∷ []) (bins_of rest))
 
-    pub made-listed : (ts : Terms) (shared : List (List ℕ)) (tail rest : List Item) → shared ++ bins_of (listed_items names ts tail ++ rest) ≡ (trees_of names held ts shared).1
+    pub made-listed : (ts : Terms) (shared : List (List ℕ)) (tail rest : List Item) → shared ++ bins_of (listed_items names ts tail ++ rest) ≡ (trees_of_terms names held ts shared).1
         ++ bins_of (tail ++ rest)
     made-listed end shared tail rest = refl
     made-listed (t ▹ ts) shared tail rest =
         ap (λ z. shared ++ bins_of z) (append_assoc (items_of names t) (listed_items names ts tail) rest)
         ∙ made t shared (listed_items names ts tail ++ rest) ∙ made-listed ts ((tree_of names held t shared).1) tail rest
 
-    pub made-all : (ts : Terms) (shared : List (List ℕ)) (rest : List Item) → shared ++ bins_of (all_items names ts ++ rest) ≡ (trees_of names held ts shared).1 ++ bins_of rest
+    pub made-all : (ts : Terms) (shared : List (List ℕ)) (rest : List Item) → shared ++ bins_of (all_items names ts ++ rest) ≡ (trees_of_terms names held ts shared).1 ++ bins_of rest
     made-all end shared rest = refl
     made-all (t ▹ ts) shared rest =
         ap (λ z. shared ++ bins_of z) (append_assoc (items_of names t) (all_items names ts) rest)
         ∙ made t shared (all_items names ts ++ rest) ∙ made-all ts ((tree_of names held t shared).1) rest
 
-    pub made-pairs : (qs : TermPairs) (shared : List (List ℕ)) (rest : List Item) → shared ++ bins_of (pairs_items names qs ++ rest) ≡ (pairs_of names held qs shared).1 ++ bins_of rest
+    pub made-pairs : (qs : TermPairs) (shared : List (List ℕ)) (rest : List Item) → shared ++ bins_of (pairs_items names qs ++ rest) ≡ (trees_of_pairs names held qs shared).1 ++ bins_of rest
     made-pairs stop shared rest = refl
     made-pairs (pair k v qs) shared rest =
         let key : Tree × List (List ℕ) = tree_of names held k shared in
@@ -121,11 +121,11 @@ module _ (names : List (List ℕ)) (held : List Tree) where
   pub grows : (t : Term) (shared : List (List ℕ)) → length shared ≤ length ((tree_of names held t shared).1)
   grows t shared = longer shared (bins_of (items_of names t ++ [])) ((tree_of names held t shared).1) [] (made t shared [])
 
-  pub all-grow : (ts : Terms) (shared : List (List ℕ)) → length shared ≤ length ((trees_of names held ts shared).1)
-  all-grow ts shared = longer shared (bins_of (all_items names ts ++ [])) ((trees_of names held ts shared).1) [] (made-all ts shared [])
+  pub all-grow : (ts : Terms) (shared : List (List ℕ)) → length shared ≤ length ((trees_of_terms names held ts shared).1)
+  all-grow ts shared = longer shared (bins_of (all_items names ts ++ [])) ((trees_of_terms names held ts shared).1) [] (made-all ts shared [])
 
-  pub pairs-grow : (qs : TermPairs) (shared : List (List ℕ)) → length shared ≤ length ((pairs_of names held qs shared).1)
-  pairs-grow qs shared = longer shared (bins_of (pairs_items names qs ++ [])) ((pairs_of names held qs shared).1) [] (made-pairs qs shared [])
+  pub pairs-grow : (qs : TermPairs) (shared : List (List ℕ)) → length shared ≤ length ((trees_of_pairs names held qs shared).1)
+  pairs-grow qs shared = longer shared (bins_of (pairs_items names qs ++ [])) ((trees_of_pairs names held qs shared).1) [] (made-pairs qs shared [])
 
   list-knows : (n : ℕ) (ts : Trees) (t : Tree) → KnowsAll n ts → Knows n t → Knows n (list_tree ts t)
   list-knows n trees.end t a k = k
@@ -139,15 +139,15 @@ module _ (names : List (List ℕ)) (held : List Tree) where
       term-knows (Atom a) shared few = tt
       term-knows (Pid n) shared few = tt
       term-knows (Held r) shared few = knows-more m (length shared) few (slice_index_or held r tree.Nil) (known r)
-      term-knows (Listed ts) shared few = list-knows (length ((trees_of names held ts shared).1)) ((trees_of names held ts shared).0) tree.Nil (all-know ts shared few) tt
+      term-knows (Listed ts) shared few = list-knows (length ((trees_of_terms names held ts shared).1)) ((trees_of_terms names held ts shared).0) tree.Nil (all-know ts shared few) tt
       term-knows (Barred ts t) shared few =
-          let heads : Trees × List (List ℕ) = trees_of names held ts shared in
+          let heads : Trees × List (List ℕ) = trees_of_terms names held ts shared in
           list-knows (length ((tree_of names held t heads.1).1)) heads.0 ((tree_of names held t heads.1).0)
           (all-knows-more (length heads.1) (length ((tree_of names held t heads.1).1)) (grows t heads.1) heads.0 (all-know ts shared few))
           (term-knows t heads.1 (omega (arith, few, all-grow ts shared)))
       term-knows (Tuple ts) shared few = all-know ts shared few
       term-knows (Map qs) shared few =
-          let all : Pairs × List (List ℕ) = pairs_of names held qs shared in
+          let all : Pairs × List (List ℕ) = trees_of_pairs names held qs shared in
           in-order-knows names all.1 [] (length all.1) all.0 (pairs-known qs shared few)
       term-knows (Bin bytes) shared few =
           let P : Tree × List (List ℕ) → Type 0 = λ z. Knows (length z.1) z.0 in
@@ -157,21 +157,21 @@ module _ (names : List (List ℕ)) (held : List Tree) where
           by true = tt
           by false = omega (arith, length-append shared (bytes ∷ []))
 
-      pub all-know : (ts : Terms) (shared : List (List ℕ)) → m ≤ length shared → KnowsAll (length ((trees_of names held ts shared).1)) ((trees_of names held ts shared).0)
+      pub all-know : (ts : Terms) (shared : List (List ℕ)) → m ≤ length shared → KnowsAll (length ((trees_of_terms names held ts shared).1)) ((trees_of_terms names held ts shared).0)
       all-know end shared few = tt
       all-know (t ▹ ts) shared few =
           let first : Tree × List (List ℕ) = tree_of names held t shared in (
-            knows-more (length first.1) (length ((trees_of names held ts first.1).1)) (all-grow ts first.1) first.0 (term-knows t shared few),
+            knows-more (length first.1) (length ((trees_of_terms names held ts first.1).1)) (all-grow ts first.1) first.0 (term-knows t shared few),
             all-know ts first.1 (omega (arith, few, grows t shared)),
           )
 
-      pub pairs-known : (qs : TermPairs) (shared : List (List ℕ)) → m ≤ length shared → KnowsPairs (length ((pairs_of names held qs shared).1)) ((pairs_of names held qs shared).0)
+      pub pairs-known : (qs : TermPairs) (shared : List (List ℕ)) → m ≤ length shared → KnowsPairs (length ((trees_of_pairs names held qs shared).1)) ((trees_of_pairs names held qs shared).0)
       pairs-known stop shared few = tt
       pairs-known (pair k v qs) shared few =
           let key : Tree × List (List ℕ) = tree_of names held k shared in
           let value : Tree × List (List ℕ) = tree_of names held v key.1 in
-          let more : length value.1 ≤ length ((pairs_of names held qs value.1).1) = pairs-grow qs value.1 in (
-            knows-more (length key.1) (length ((pairs_of names held qs value.1).1)) (omega (arith, grows v key.1, more)) key.0 (term-knows k shared few),
-            knows-more (length value.1) (length ((pairs_of names held qs value.1).1)) more value.0 (term-knows v key.1 (omega (arith, few, grows k shared))),
+          let more : length value.1 ≤ length ((trees_of_pairs names held qs value.1).1) = pairs-grow qs value.1 in (
+            knows-more (length key.1) (length ((trees_of_pairs names held qs value.1).1)) (omega (arith, grows v key.1, more)) key.0 (term-knows k shared few),
+            knows-more (length value.1) (length ((trees_of_pairs names held qs value.1).1)) more value.0 (term-knows v key.1 (omega (arith, few, grows k shared))),
             pairs-known qs value.1 (omega (arith, few, grows k shared, grows v key.1)),
           )

@@ -15,8 +15,8 @@ use Rattle.plain_term.specs.InOrder.{in_order}
 use Rattle.term_tags.specs.declared.layouts.TheConstants.{MOST_KEYS}
 use Rattle.term_order.specs.Named.{is_named, are_named, pairs_named}
 use Rattle.term_maps.proofs.Named.{in-order-named}
-use Rattle.item_build.specs.Reading.{AreWhole, HasParts, IsItem, all_of, bin_of, bytes_after, bytes_in, bytes_led, far_words_of, is_big, is_big_item, is_byte, is_long, item_words, long_bins}
-use Rattle.item_build.specs.Reading.{near_words, own_words, own_words_of, paired, parts_of, read, read_item, record_words, terms_in, tree_where, tree_with, words_of}
+use Rattle.item_build.specs.Reading.{AreWhole, HasParts, IsItem, all_of, bin_of_items, bytes_after, bytes_in, bytes_led, far_words_of, has_big_item, is_big_item, is_byte, is_long, item_words, long_bins}
+use Rattle.item_build.specs.Reading.{near_words, own_words, own_words_of, paired, parts_after, read, read_item, long_record_words, terms_in, tree_where, tree_with, item_words_of}
 use Rattle.item_build.specs.Building.{MarksNamed}
 use Rattle.item_build.proofs.Turned.Marks.{named-all, named-drop, named-paired, named-take}
 
@@ -25,7 +25,7 @@ pub terms-few : (xs : List Item) → terms_in xs ≤ length xs
 terms-few [] = omega arith
 terms-few (x ∷ xs) = by (is_byte x) (terms-few xs)
   where
-    by : (b : Bool) → terms_in xs ≤ length xs → (if b then terms_in xs else terms_in xs - parts_of x + 1) ≤ suc (length xs)
+    by : (b : Bool) → terms_in xs ≤ length xs → (if b then terms_in xs else terms_in xs - parts_after x + 1) ≤ suc (length xs)
     by true few = omega (arith, few)
     by false few = omega (arith, few)
 
@@ -39,7 +39,7 @@ led-within (x ∷ xs) = by (is_byte x) (led-within xs)
     by false few = omega arith
 
 -- The words of a binary are few, and those of its holder and record.
-bin-few : (n : ℕ) → near_words n + ((if nat_lt 64 n then 6 else 0) + record_words n) ≤ 5 * n + 4
+bin-few : (n : ℕ) → near_words n + ((if nat_lt 64 n then 6 else 0) + long_record_words n) ≤ 5 * n + 4
 bin-few n = by (nat_lt 64 n) refl
   where
     by : (b : Bool) → nat_lt 64 n ≡ b → (if b then 0 else 2 + bin_words n) + ((if b then 6 else 0) + (if b then 4 + bin_words n else 0)) ≤ 5 * n + 4
@@ -53,7 +53,7 @@ int-few false true = omega arith
 int-few false false = omega arith
 
 -- The words that an item asks for are few.
-pub item-few : (names held : ℕ) (x : Item) → IsItem names held x → item_words x ≤ parts_of x + 5 * bytes_after x + 4
+pub item-few : (names held : ℕ) (x : Item) → IsItem names held x → item_words x ≤ parts_after x + 5 * bytes_after x + 4
 item-few names held (Int i) is = omega (arith, int-few (is_small i) (nat_lt (magnitude i) (2 ^ 64)))
 item-few names held (Atom k) is = omega arith
 item-few names held (Pid n) is = omega arith
@@ -70,20 +70,20 @@ byte-none (Byte b) e = refl
 byte-none x e = absurd cc
 
 -- As many words as five for each item.
-words-within : (names held : ℕ) (xs : List Item) → AreWhole names held xs → words_of xs + terms_in xs + 5 * bytes_led xs ≤ 5 * length xs
+words-within : (names held : ℕ) (xs : List Item) → AreWhole names held xs → item_words_of xs + terms_in xs + 5 * bytes_led xs ≤ 5 * length xs
 words-within names held [] w = omega arith
 words-within names held (x ∷ xs) w = by (is_byte x) refl (words-within names held xs w.2)
   where
-    by : (b : Bool) → is_byte x ≡ b → words_of xs + terms_in xs + 5 * bytes_led xs ≤ 5 * length xs
-        → item_words x + words_of xs + (if b then terms_in xs else terms_in xs - parts_of x + 1) + 5 * (if b then 1 + bytes_led xs else 0) ≤ 5 * suc (length xs)
+    by : (b : Bool) → is_byte x ≡ b → item_words_of xs + terms_in xs + 5 * bytes_led xs ≤ 5 * length xs
+        → item_words x + item_words_of xs + (if b then terms_in xs else terms_in xs - parts_after x + 1) + 5 * (if b then 1 + bytes_led xs else 0) ≤ 5 * suc (length xs)
     by true e few = omega (arith, few, byte-none x e)
     by false e few = omega (arith, few, item-few names held x w.0, w.1.0, w.1.1)
 
-pub words-few : (names held : ℕ) (xs : List Item) → AreWhole names held xs → words_of xs + terms_in xs ≤ 5 * length xs
+pub words-few : (names held : ℕ) (xs : List Item) → AreWhole names held xs → item_words_of xs + terms_in xs ≤ 5 * length xs
 words-few names held xs w = omega (arith, words-within names held xs w)
 
 -- The words that items ask for, by where they lie: of their own objects, of holders, of records.
-pub words-apart : (xs : List Item) → words_of xs ≡ own_words_of xs + 6 * long_bins xs + far_words_of xs
+pub words-apart : (xs : List Item) → item_words_of xs ≡ own_words_of xs + 6 * long_bins xs + far_words_of xs
 words-apart [] = refl
 words-apart (x ∷ xs) = omega (arith, six (is_long x), words-apart xs)
   where
@@ -152,25 +152,26 @@ module _ (names shared : List (List ℕ)) (held : List Tree) where
   read-count (x ∷ xs) = by (is_byte x) (read-count xs)
     where
       by : (b : Bool) → length (read names shared held xs) ≡ terms_in xs
-          → length (if b then read names shared held xs else tree_where names shared held x xs (all_of (take (parts_of x) (read names shared held xs))) ∷ drop (parts_of x) (read names shared held xs))
-          ≡ (if b then terms_in xs else terms_in xs - parts_of x + 1)
+          → length (if b then read names shared held xs else tree_where names shared held x xs (all_of (take (parts_after x) (read names shared held xs)))
+          ∷ drop (parts_after x) (read names shared held xs))
+          ≡ (if b then terms_in xs else terms_in xs - parts_after x + 1)
       by true same = same
-      by false same = omega (arith, same, length-drop (parts_of x) (read names shared held xs))
+      by false same = omega (arith, same, length-drop (parts_after x) (read names shared held xs))
 
   pub read-at : (xs : List Item) (i : ℕ) (d : Item) → 0 < i → i ≤ length xs
       → read names shared held (drop (i - 1) xs) ≡ read_item names shared held (get_or xs (i - 1) d) (drop i xs) (read names shared held (drop i xs))
   read-at xs i d some within = ap (read names shared held) (open-at xs i d some within)
 
   pub big-at : (xs : List Item) (i : ℕ) (d : Item) → 0 < i → i ≤ length xs
-      → is_big names shared held (drop (i - 1) xs)
-      ≡ is_big_item shared (get_or xs (i - 1) d) (take (parts_of (get_or xs (i - 1) d)) (read names shared held (drop i xs))) || is_big names shared held (drop i xs)
-  big-at xs i d some within = ap (is_big names shared held) (open-at xs i d some within)
+      → has_big_item names shared held (drop (i - 1) xs)
+      ≡ is_big_item shared (get_or xs (i - 1) d) (take (parts_after (get_or xs (i - 1) d)) (read names shared held (drop i xs))) || has_big_item names shared held (drop i xs)
+  big-at xs i d some within = ap (has_big_item names shared held) (open-at xs i d some within)
 
   -- A big key among what follows is one of all.
-  pub big-rest : (i : ℕ) (xs : List Item) → is_big names shared held (drop i xs) ≡ true → is_big names shared held xs ≡ true
+  pub big-rest : (i : ℕ) (xs : List Item) → has_big_item names shared held (drop i xs) ≡ true → has_big_item names shared held xs ≡ true
   big-rest zero xs h = h
   big-rest (suc i) [] h = h
-  big-rest (suc i) (x ∷ xs) h = or_right (is_big_item shared x (take (parts_of x) (read names shared held xs))) (is_big names shared held xs) (big-rest i xs h)
+  big-rest (suc i) (x ∷ xs) h = or_right (is_big_item shared x (take (parts_after x) (read names shared held xs))) (has_big_item names shared held xs) (big-rest i xs h)
 
   -- The trees that are read have names among the names, where those that are held have.
   module _ (n count : ℕ) (known : (r : ℕ) → r < count → is_named n (slice_index_or held r tree.Nil) ≡ true) where
@@ -183,7 +184,7 @@ module _ (names shared : List (List ℕ)) (held : List Tree) where
     map-named given true h = tt
     map-named given false h = in-order-named names shared n given h
 
-    bin-named : (m : ℕ) (xs : List Item) → is_named n (bin_of shared m xs) ≡ true
+    bin-named : (m : ℕ) (xs : List Item) → is_named n (bin_of_items shared m xs) ≡ true
     bin-named m xs = by (nat_lt 64 m)
       where
         by : (b : Bool) → is_named n (if b then tree.Shared (length shared - long_bins xs) else tree.Bin (bytes_in m xs)) ≡ true
@@ -222,10 +223,10 @@ module _ (names shared : List (List ℕ)) (held : List Tree) where
     read-named (x ∷ xs) w = by (is_byte x) (read-named xs w.2)
       where
         by : (b : Bool) → MarksNamed n (read names shared held xs)
-            → MarksNamed n (if b then read names shared held xs else tree_where names shared held x xs (all_of (take (parts_of x) (read names shared held xs))) ∷ drop (parts_of x)
+            → MarksNamed n (if b then read names shared held xs else tree_where names shared held x xs (all_of (take (parts_after x) (read names shared held xs))) ∷ drop (parts_after x)
             (read names shared held xs))
         by true rest = rest
         by false rest =
-            more-named (tree_where names shared held x xs (all_of (take (parts_of x) (read names shared held xs)))) (drop (parts_of x) (read names shared held xs))
-            (where-named x xs (take (parts_of x) (read names shared held xs)) (all_of (take (parts_of x) (read names shared held xs))) refl w.0
-            (named-take n (parts_of x) (read names shared held xs) rest)) (named-drop n (parts_of x) (read names shared held xs) rest)
+            more-named (tree_where names shared held x xs (all_of (take (parts_after x) (read names shared held xs)))) (drop (parts_after x) (read names shared held xs))
+            (where-named x xs (take (parts_after x) (read names shared held xs)) (all_of (take (parts_after x) (read names shared held xs))) refl w.0
+            (named-take n (parts_after x) (read names shared held xs) rest)) (named-drop n (parts_after x) (read names shared held xs) rest)

@@ -6,7 +6,7 @@ use Rattle.plain_term.specs.Tree.{Tree}
 use Rattle.plain_term.specs.Tree.{Tree as tree}
 use Rattle.plain_term.specs.Measures.{bin_words}
 use Rattle.term_order.specs.Named.{is_named}
-use Rattle.script_grammar.specs.Written.{Term, Terms, TermPairs, terms_len, pairs_len}
+use Rattle.script_grammar.specs.Written.{Term, Terms, TermPairs, terms_len, term_pairs_len}
 use Rattle.script_grammar.specs.Written.Term.{Int, Atom, Pid, Held, Listed, Barred, Tuple, Map, Bin}
 use Rattle.script_grammar.specs.Written.Terms.{end, ◌▹◌}
 use Rattle.script_grammar.specs.Written.TermPairs.{stop, pair}
@@ -15,11 +15,11 @@ use Rattle.script_grammar.specs.Names.{items_of, listed_items, all_items, pairs_
 use Rattle.plain_machine.specs.Made.{tree_of}
 use Rattle.plain_machine.specs.Flaws.{is_wide, is_big}
 use Rattle.plain_machine.specs.Tightness.{fill_words, build_words, build_words_of_all, build_words_of_pairs}
-use Rattle.space_api.specs.Calls.{IsTerm, IsNamedBelow}
+use Rattle.space_api.specs.Calls.{IsWrittenTerm, IsNamedBelow}
 use Rattle.item_build.specs.declared.building.BuildStop.{BuildStop}
 use Rattle.item_build.specs.declared.building.BuildStop.TheVariants as why
-use Rattle.item_build.specs.Reading.{AreWhole, IsWritten, bins_of, bytes_led, item_words, outcome, read, terms_in, unless_wide, words_of}
-use Rattle.item_build.specs.Reading.{is_big as are_items_big}
+use Rattle.item_build.specs.Reading.{AreWhole, IsWritten, bins_of, bytes_led, item_words, outcome, read, terms_in, unless_wide, item_words_of}
+use Rattle.item_build.specs.Reading.{has_big_item}
 use Rattle.item_build.specs.Building.{MarksNamed}
 use Rattle.item_build.proofs.Meaning.Known.{Knows}
 use Rattle.item_build.proofs.Meaning.Growing.{long-flip, made}
@@ -41,7 +41,7 @@ all-both : {X : Type 0} (P : X → Type 0) (xs ys : List X) → Each P (xs ++ ys
 all-both P [] ys a = (tt, a)
 all-both P (x ∷ xs) ys a = let two = all-both P xs ys a.1 in ((a.0, two.0), two.1)
 
-words-append : (xs ys : List Item) → words_of (xs ++ ys) ≡ words_of xs + words_of ys
+words-append : (xs ys : List Item) → item_words_of (xs ++ ys) ≡ item_words_of xs + item_words_of ys
 words-append [] ys = omega arith
 words-append (x ∷ xs) ys = omega (arith, words-append xs ys)
 
@@ -55,13 +55,13 @@ bin-words-are n =
     by true = omega arith
     by false = omega arith
 
-words-bytes : (bytes : List ℕ) → words_of (map item.Byte bytes) ≡ 0
+words-bytes : (bytes : List ℕ) → item_words_of (map item.Byte bytes) ≡ 0
 words-bytes [] = refl
 words-bytes (b ∷ bytes) = omega (arith, words-bytes bytes)
 
 -- The items take the words that the term asks for.
 mutual
-  words-term : (names : List (List ℕ)) (t : Term) → IsBuiltTerm t → words_of (items_of names t) ≡ build_words t
+  words-term : (names : List (List ℕ)) (t : Term) → IsBuiltTerm t → item_words_of (items_of names t) ≡ build_words t
   words-term names (Int i) b = omega arith
   words-term names (Atom x) b = refl
   words-term names (Pid k) b = refl
@@ -72,15 +72,15 @@ mutual
   words-term names (Map qs) b = omega (arith, words-pairs names qs b)
   words-term names (Bin bytes) b = omega (arith, bin-words-are (length bytes), words-bytes bytes)
 
-  words-listed : (names : List (List ℕ)) (ts : Terms) (tail : List Item) → AreBuiltTerms ts → words_of (listed_items names ts tail) ≡ 2 * terms_len ts + build_words_of_all ts + words_of tail
+  words-listed : (names : List (List ℕ)) (ts : Terms) (tail : List Item) → AreBuiltTerms ts → item_words_of (listed_items names ts tail) ≡ 2 * terms_len ts + build_words_of_all ts + item_words_of tail
   words-listed names end tail b = omega arith
   words-listed names (t ▹ ts) tail b = omega (arith, words-term names t b.0, words-listed names ts tail b.1, words-append (items_of names t) (listed_items names ts tail))
 
-  words-all : (names : List (List ℕ)) (ts : Terms) → AreBuiltTerms ts → words_of (all_items names ts) ≡ build_words_of_all ts
+  words-all : (names : List (List ℕ)) (ts : Terms) → AreBuiltTerms ts → item_words_of (all_items names ts) ≡ build_words_of_all ts
   words-all names end b = refl
   words-all names (t ▹ ts) b = omega (arith, words-term names t b.0, words-all names ts b.1, words-append (items_of names t) (all_items names ts))
 
-  words-pairs : (names : List (List ℕ)) (qs : TermPairs) → AreBuiltPairs qs → words_of (pairs_items names qs) ≡ build_words_of_pairs qs
+  words-pairs : (names : List (List ℕ)) (qs : TermPairs) → AreBuiltPairs qs → item_words_of (pairs_items names qs) ≡ build_words_of_pairs qs
   words-pairs names stop b = refl
   words-pairs names (pair k v qs) b =
       omega (
@@ -92,8 +92,8 @@ mutual
         words-append (items_of names v) (pairs_items names qs),
       )
 
-pub term-words : (names : List (List ℕ)) (t : Term) (code : List Item) → IsTerm names code t → words_of code ≡ build_words t
-term-words names t code is = ap words_of (sym is.items) ∙ words-term names t is.built
+pub term-words : (names : List (List ℕ)) (t : Term) (code : List Item) → IsWrittenTerm names code t → item_words_of code ≡ build_words t
+term-words names t code is = ap item_words_of (sym is.items) ∙ words-term names t is.built
 
 -- Bytes before items lead them, are whole and are no term.
 
@@ -156,7 +156,7 @@ module _ (names : List (List ℕ)) (n count : ℕ) (few : n ≤ 16384) (all : 16
         subst P (sym (append_assoc (items_of names t) (all_items names ts) rest)) (all_parts.0, omega (arith, all_parts.1, more.1))
 
     whole-pairs : (levels : ℕ) (qs : TermPairs) → AreBuiltPairs qs → PairsMayStand levels qs → Each (IsNamedBelow n) (pairs_items names qs) → (rest : List Item) → AreWhole n count rest
-        → AreWhole n count (pairs_items names qs ++ rest) × (terms_in (pairs_items names qs ++ rest) ≡ terms_in rest + 2 * pairs_len qs)
+        → AreWhole n count (pairs_items names qs ++ rest) × (terms_in (pairs_items names qs ++ rest) ≡ terms_in rest + 2 * term_pairs_len qs)
     whole-pairs levels stop b m a rest w = (w, omega arith)
     whole-pairs levels (pair k v qs) b m a rest w =
         let two = all-both (IsNamedBelow n) (items_of names k) (items_of names v ++ pairs_items names qs) a in
@@ -164,13 +164,13 @@ module _ (names : List (List ℕ)) (n count : ℕ) (few : n ≤ 16384) (all : 16
         let more = whole-pairs levels qs b.2 m.2 others.1 rest w in
         let values = whole-term levels v b.1 m.1 others.0 (pairs_items names qs ++ rest) more.0 in
         let all_parts = whole-term levels k b.0 m.0 two.0 (items_of names v ++ (pairs_items names qs ++ rest)) values.0 in
-        let P : List Item → Type 0 = λ z. AreWhole n count z × (terms_in z ≡ terms_in rest + 2 * (pairs_len qs + 1)) in
+        let P : List Item → Type 0 = λ z. AreWhole n count z × (terms_in z ≡ terms_in rest + 2 * (term_pairs_len qs + 1)) in
         let Q : List Item → Type 0 = λ z. P (items_of names k ++ z) in
         subst P (sym (append_assoc (items_of names k) (items_of names v ++ pairs_items names qs) rest))
         (subst Q (sym (append_assoc (items_of names v) (pairs_items names qs) rest)) (all_parts.0, omega (arith, all_parts.1, values.1, more.1)))
 
 -- The items of a written term can be built, where the first sixteen registers are held.
-pub is-written : (names : List (List ℕ)) (code : List Item) (t : Term) (count : ℕ) → IsTerm names code t → All (IsNamedBelow (length names)) code → length names ≤ 16384 → 16 ≤ count
+pub is-written : (names : List (List ℕ)) (code : List Item) (t : Term) (count : ℕ) → IsWrittenTerm names code t → All (IsNamedBelow (length names)) code → length names ≤ 16384 → 16 ≤ count
     → IsWritten (length names) count code
 is-written names code t count is named few all =
     let P : List Item → Type 0 = λ x. Each (IsNamedBelow (length names)) x in
@@ -180,7 +180,7 @@ is-written names code t count is named few all =
     record { whole = both.0; one = both.1 }
 
 -- Its words are few.
-pub words-few : (names count : ℕ) (code : List Item) → IsWritten names count code → length code ≤ 4096 → words_of code < 2 ^ 64 - 1
+pub words-few : (names count : ℕ) (code : List Item) → IsWritten names count code → length code ≤ 4096 → item_words_of code < 2 ^ 64 - 1
 words-few names count code w few = omega (arith, whole-few names count code w.whole)
 
 -- What a term comes to: its tree, or why there is none.
@@ -189,7 +189,7 @@ outcome_of true wide t = Err why.Big
 outcome_of false true t = Err why.Size
 outcome_of false false t = Ok t
 
-module _ (names : List (List ℕ)) (held : List Tree) (code : List Item) (t : Term) (shared : List (List ℕ)) (is : IsTerm names code t) where
+module _ (names : List (List ℕ)) (held : List Tree) (code : List Item) (t : Term) (shared : List (List ℕ)) (is : IsWrittenTerm names code t) where
   -- The shared binaries that it makes are those of its items.
   pub term-makes : (tree_of names held t shared).1 ≡ shared ++ bins_of code
   term-makes =
@@ -204,9 +204,9 @@ module _ (names : List (List ℕ)) (held : List Tree) (code : List Item) (t : Te
         ap (read names (shared ++ bins_of code) held) (sym is.items ∙ sym (append-nil (items_of names t)))
         ∙ read-term names held (shared ++ bins_of code) (length shared) known t shared [] (all-there, omega arith)
 
-    big-is : are_items_big names (shared ++ bins_of code) held code ≡ is_big names held t shared
+    big-is : has_big_item names (shared ++ bins_of code) held code ≡ is_big names held t shared
     big-is =
-        ap (are_items_big names (shared ++ bins_of code) held) (sym is.items ∙ sym (append-nil (items_of names t)))
+        ap (has_big_item names (shared ++ bins_of code) held) (sym is.items ∙ sym (append-nil (items_of names t)))
         ∙ big-term names held (shared ++ bins_of code) (length shared) known t shared [] (all-there, omega arith)
         ∙ or-none (is_big names held t shared)
 

@@ -19,8 +19,8 @@ use Rattle.shared_rec.specs.Record.{count_in}
 use Rattle.off_heap_list.specs.Links.{Links}
 use Rattle.item_build.specs.declared.bins.Making.{Making}
 use Rattle.item_build.specs.declared.building.BuildStop.TheVariants.{Big, Size}
-use Rattle.item_build.specs.Reading.{AreLed, AreWhole, bins_of, far_words_of, long_bins, own_words_of, unless_wide, words_of}
-use Rattle.item_build.specs.Building.{AreMarks, BinsStand, BuildsTerm, CanRead, HasHeld, HeldStand, IsNewBin, Laid, LaidBins, LeavesRoom, Made, MarksBuilt, Spares, UsesSome, holders_from}
+use Rattle.item_build.specs.Reading.{AreLed, AreWhole, bins_of, far_words_of, long_bins, own_words_of, unless_wide, item_words_of}
+use Rattle.item_build.specs.Building.{AreMarks, BinsStand, BuildsTerm, CanRead, HasHeld, HeldStand, IsNewBin, Laid, LaidBins, LeavesRoom, MadeTree, MarksBuilt, Spares, UsesSome, holders_from}
 use Rattle.item_build.proofs.Turned.Marks.{none-stands}
 use Rattle.item_build.proofs.Meaning.Known.{stands-more}
 use Rattle.item_build.proofs.Meaning.Growing.{longs-are}

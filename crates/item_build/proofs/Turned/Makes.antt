@@ -28,9 +28,9 @@ use Rattle.term_build.proofs.Growing.{grows-none}
 use Rattle.term_build.proofs.Rooms.{uses-none}
 use Rattle.term_maps.specs.Stops.{has_beyond, why_not}
 use Rattle.term_maps.specs.declared.maps.MapStop.TheVariants as why
-use Rattle.term_maps.specs.Given.{CanMap, MapIsMade, KeysWithin, PairsStand, pairs_in}
+use Rattle.term_maps.specs.Given.{CanMap, MapIsMade, KeysWithin, PairsStand, word_pairs}
 use Rattle.plain_term.proofs.Putting.{in-order-few}
-use Rattle.item_build.specs.Reading.{IsItem, all_of, is_byte, is_object, is_word, bin_of, bytes_in, long_bins, map_of, near_words, paired, is_big_item, parts_of, read_item, tree_where, tree_with}
+use Rattle.item_build.specs.Reading.{IsItem, all_of, is_byte, is_object, is_word, bin_of_items, bytes_in, long_bins, map_of, near_words, paired, is_big_item, parts_after, read_item, tree_where, tree_with}
 use Rattle.item_build.specs.Building.{AreMarks, CanPut, FitsWord, HasNoBigKey, HeldStand, HolderStands, IsLeaf, MarkBuilt, MarksBuilt, UsesSome, holds_wide}
 use Rattle.item_build.proofs.Turned.Marks.{in_turn, keep-marks, marks-more, marks-split, named-all, named-paired, narrow-all, paired-few, turns-big, turns-marks, twos-stand, wide-none}
 
@@ -75,7 +75,7 @@ at-room c x y mem mem2 shared w m room words b =
 
 module _ (names : List (List ℕ)) (held n : ℕ) (room : Room) (mem ws : List ℕ) (can : CanPut (length names) held room mem ws (Map n)) (exact : length ws ≡ 2 * n) where
   -- The map of these words can be made, as far as the keys go.
-  pub can-map : holds_wide ws ≡ false → CanMap names room mem (pairs_in ws)
+  pub can-map : holds_wide ws ≡ false → CanMap names room mem (word_pairs ws)
   can-map narrow =
       let all = narrow-all always can.shared mem ws can.marks can.standing narrow in
       let few : pairs_len (paired all.0) ≤ n = paired-few all.0 n (sym (all-length always can.shared mem ws all.0 all.1.1) ∙ exact) in
@@ -88,11 +88,11 @@ module _ (names : List (List ℕ)) (held n : ℕ) (room : Room) (mem ws : List �
         fits = λ most. omega (arith, can.words, few, fewer);
       }
 
-  pub keys-within : HasNoBigKey mem ws (Map n) → KeysWithin mem (pairs_in ws)
+  pub keys-within : HasNoBigKey mem ws (Map n) → KeysWithin mem (word_pairs ws)
   keys-within none = record { each = λ c shared given stand. sym (turns-big shared given) ∙ none.each c shared (in_turn given) (turns-marks c shared mem ws given n exact stand) }
 
 -- No more pairs stand in turn than half of the words.
-pub pairs-many : (c : ℕ → ℕ → Bool) (shared : List (List ℕ)) (mem ws : List ℕ) (ps : Pairs) → PairsStand c shared mem (pairs_in ws) ps → 2 * pairs_len ps ≤ length ws
+pub pairs-many : (c : ℕ → ℕ → Bool) (shared : List (List ℕ)) (mem ws : List ℕ) (ps : Pairs) → PairsStand c shared mem (word_pairs ws) ps → 2 * pairs_len ps ≤ length ws
 unfolding PairsStand
 pairs-many c shared mem [] stop all = omega arith
 pairs-many c shared mem [] (pair k v ps) all = absurd all
@@ -169,11 +169,11 @@ parts-split c shared mem row sp n p ms same fits all =
 
 -- The holder of a long binary is its word.
 pub long-word : (c : ℕ → ℕ → Bool) (x : Room) (mem : List ℕ) (shared : List (List ℕ)) (w bin n : ℕ) (xs : List Item) → 64 < n → w ≡ boxed_word bin
-    → HolderStands c shared mem bin (Bin n) (long_bins xs) → MarkBuilt c x.top (x.top - x.top) mem mem shared w (Some (bin_of shared n xs))
+    → HolderStands c shared mem bin (Bin n) (long_bins xs) → MarkBuilt c x.top (x.top - x.top) mem mem shared w (Some (bin_of_items shared n xs))
 long-word c x mem shared w bin n xs long is holder =
     let e : nat_lt 64 n ≡ true = lt-ltb 64 n long in
     let P : ℕ → Type 0 = λ z. Stands c shared mem z (tree.Shared (length shared - long_bins xs)) in
-    let tree_is : bin_of shared n xs ≡ tree.Shared (length shared - long_bins xs) = rw e refl in
+    let tree_is : bin_of_items shared n xs ≡ tree.Shared (length shared - long_bins xs) = rw e refl in
     let Q : Tree → Type 0 = λ z. MarkBuilt c x.top (x.top - x.top) mem mem shared w (Some z) in
     subst Q (sym tree_is) (there-mark c x mem shared w (tree.Shared (length shared - long_bins xs)) (subst P (sym is) (holder.stands e)))
 
@@ -181,20 +181,20 @@ long-word c x mem shared w bin n xs long is holder =
 pub short-word : (c : ℕ → ℕ → Bool) (x y : Room) (mem mem2 : List ℕ) (shared : List (List ℕ)) (w n : ℕ) (xs : List Item) (bytes : List ℕ) → n ≤ 64 → n ≤ length xs → bytes ≡ bytes_in n xs
     → Uses (2 + bin_words (length bytes)) x y mem mem2
     → (IsFree c x.top (x.top + (2 + bin_words (length bytes))) → Built c x.top (2 + bin_words (length bytes)) mem mem2 shared w (tree.Bin bytes))
-    → IsFree c x.top (x.top + near_words n) → MarkBuilt c x.top (y.top - x.top) mem mem2 shared w (Some (bin_of shared n xs))
+    → IsFree c x.top (x.top + near_words n) → MarkBuilt c x.top (y.top - x.top) mem mem2 shared w (Some (bin_of_items shared n xs))
 short-word c x y mem mem2 shared w n xs bytes short inside is u built free =
     let e : nat_lt 64 n ≡ false = le-ltb 64 n short in
     let len : length bytes ≡ n = ap length is ∙ bytes-len n xs inside in
     let words : near_words n ≡ 2 + bin_words (length bytes) = near-is n e ∙ ap (λ z. 2 + bin_words z) (sym len) in
     let F : ℕ → Type 0 = λ z. IsFree c x.top (x.top + z) in
-    let tree_is : bin_of shared n xs ≡ tree.Bin bytes = bin-is e ∙ ap tree.Bin (sym is) in
+    let tree_is : bin_of_items shared n xs ≡ tree.Bin bytes = bin-is e ∙ ap tree.Bin (sym is) in
     let Q : Tree → Type 0 = λ z. MarkBuilt c x.top (y.top - x.top) mem mem2 shared w (Some z) in
     subst Q (sym tree_is) (built-mark c (2 + bin_words (length bytes)) x y mem mem2 shared w (tree.Bin bytes) u (built (subst F words free)))
   where
     near-is : (n : ℕ) → nat_lt 64 n ≡ false → near_words n ≡ 2 + bin_words n
     near-is n e = rw e refl
 
-    bin-is : nat_lt 64 n ≡ false → bin_of shared n xs ≡ tree.Bin (bytes_in n xs)
+    bin-is : nat_lt 64 n ≡ false → bin_of_items shared n xs ≡ tree.Bin (bytes_in n xs)
     bin-is e = rw e refl
 
 -- A small integer is a word.
@@ -214,13 +214,13 @@ leaf-small held i j (Some w) same s =
 pub leaf-marks : (c : ℕ → ℕ → Bool) (names shared : List (List ℕ)) (trees : List Tree) (x : Item) (xs : List Item) (room : Room) (mem held : List ℕ) (w : ℕ) (rest row : List ℕ)
     (ms : List (Option Tree))
     → IsLeaf held x w → HeldStand c shared mem held trees → row ≡ w ∷ rest → AreMarks c shared mem rest ms
-    → (is_big_item shared x (take (parts_of x) ms) ≡ false) × MarksBuilt c room.top (room.top - room.top) mem mem shared row (read_item names shared trees x xs ms)
+    → (is_big_item shared x (take (parts_after x) ms) ≡ false) × MarksBuilt c room.top (room.top - room.top) mem mem shared row (read_item names shared trees x xs ms)
 leaf-marks c names shared trees x xs room mem held w rest row ms leaf h is all =
     let P : Bool → Type 0 = λ b. MarksBuilt c room.top (room.top - room.top) mem mem shared row
-    (if b then ms else tree_where names shared trees x xs (all_of (take (parts_of x) ms)) ∷ drop (parts_of x) ms) in
+    (if b then ms else tree_where names shared trees x xs (all_of (take (parts_after x) ms)) ∷ drop (parts_after x) ms) in
     let Q : ℕ → Type 0 = λ n. MarksBuilt c room.top (room.top - room.top) mem mem shared row (tree_where names shared trees x xs (all_of (take n ms)) ∷ drop n ms) in
     let R : List ℕ → Type 0 = λ ws. AreMarks c shared mem ws (tree_with names shared trees x xs end ∷ ms) in (
-      leaf.small shared (take (parts_of x) ms),
+      leaf.small shared (take (parts_after x) ms),
       subst P (sym leaf.term) (subst Q (sym leaf.parts) (record {
         test = c;
         grows = grows-nothing c room.top mem;

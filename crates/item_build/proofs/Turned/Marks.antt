@@ -14,7 +14,7 @@ use Rattle.term_words.proofs.Framing.Frames.{frame}
 use Rattle.term_words.proofs.ByKind.Shapes.{told}
 use Rattle.term_order.specs.Named.{is_named, are_named, pairs_named}
 use Rattle.term_maps.specs.Stops.{has_beyond}
-use Rattle.term_maps.specs.Given.{PairsStand, pairs_in}
+use Rattle.term_maps.specs.Given.{PairsStand, word_pairs}
 use Rattle.item_build.specs.Reading.{all_of, has_big_key, is_big_key, paired, put_first}
 use Rattle.item_build.specs.Building.{AreMarks, IsMark, MarksNamed, holds_wide}
 
@@ -133,7 +133,7 @@ module _ (c : ℕ → ℕ → Bool) (shared : List (List ℕ)) (mem : List ℕ) 
   wide-none (suc w ∷ ws) (Some t ∷ ms) all h = ap (put_first (Some t)) (wide-none ws ms all.1 (sym (past w (holds_wide ws)) ∙ h))
 
   -- Words by twos stand for pairs.
-  pub twos-stand : (ws : List ℕ) (ts : Trees) → AllStand c shared mem ws ts → PairsStand c shared mem (pairs_in ws) (paired ts)
+  pub twos-stand : (ws : List ℕ) (ts : Trees) → AllStand c shared mem ws ts → PairsStand c shared mem (word_pairs ws) (paired ts)
   unfolding AllStand PairsStand
   twos-stand [] end all = tt
   twos-stand [] (t ▹ ts) all = absurd all
@@ -143,7 +143,7 @@ module _ (c : ℕ → ℕ → Bool) (shared : List (List ℕ)) (mem : List ℕ) 
   twos-stand (w ∷ v ∷ ws) (t ▹ end) all = absurd all.1
   twos-stand (w ∷ v ∷ ws) (t ▹ u ▹ ts) all = ((all.0, all.1.0), twos-stand ws ts all.1.1)
 
-  pub turns-marks : (ws : List ℕ) (ps : Pairs) (n : ℕ) → length ws ≡ 2 * n → PairsStand c shared mem (pairs_in ws) ps → AreMarks c shared mem ws (in_turn ps)
+  pub turns-marks : (ws : List ℕ) (ps : Pairs) (n : ℕ) → length ws ≡ 2 * n → PairsStand c shared mem (word_pairs ws) ps → AreMarks c shared mem ws (in_turn ps)
   unfolding AreMarks PairsStand
   turns-marks [] stop n even all = tt
   turns-marks [] (pair k v ps) n even all = absurd all

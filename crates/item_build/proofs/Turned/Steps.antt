@@ -18,7 +18,7 @@ use Rattle.term_build.specs.Clear.{IsRoom}
 use Rattle.term_build.proofs.Growing.{free-after, grows-then}
 use Rattle.term_build.proofs.Rooms.{room-after, uses-then}
 use Rattle.item_build.specs.declared.building.BuildStop.TheVariants.{Big, Size}
-use Rattle.item_build.specs.Reading.{AreWhole, is_big, is_big_item, is_long, long_bins, own_words, own_words_of, parts_of, read, read_item, terms_in, unless_wide}
+use Rattle.item_build.specs.Reading.{AreWhole, has_big_item, is_big_item, is_long, long_bins, own_words, own_words_of, parts_after, read, read_item, terms_in, unless_wide}
 use Rattle.item_build.specs.Building.{AreMarks, BinsStand, CanPut, CanRead, HeldStand, HolderStands, MarksBuilt, Spares, UsesSome}
 use Rattle.item_build.proofs.Turned.Marks.{always-keeps, keep-marks, marks-length, marks-none, none-stands}
 use Rattle.item_build.proofs.Meaning.Whole.{big-at, big-rest, longs-at, longs-rest, own-fit, read-at, read-count, read-named, terms-few, whole-at}
@@ -145,11 +145,11 @@ module _ (names : List (List ℕ)) (held : List ℕ) (code : List Item) (i : ℕ
             (all.each (long_bins (drop i code)) below))
 
     -- It was put.
-    pub put-more : (rest : List Item) → rest ≡ drop i code → (z : Room) (mem2 ws2 : List ℕ) → is_big names shared trees (drop i code) ≡ false
+    pub put-more : (rest : List Item) → rest ≡ drop i code → (z : Room) (mem2 ws2 : List ℕ) → has_big_item names shared trees (drop i code) ≡ false
         → UsesSome (own_words (get_or code (i - 1) d)) y z mem mem2
-        → is_big_item shared (get_or code (i - 1) d) (take (parts_of (get_or code (i - 1) d)) (read names shared trees (drop i code))) ≡ false
+        → is_big_item shared (get_or code (i - 1) d) (take (parts_after (get_or code (i - 1) d)) (read names shared trees (drop i code))) ≡ false
         → MarksBuilt b.test y.top (z.top - y.top) mem mem2 shared ws2 (read_item names shared trees (get_or code (i - 1) d) rest (read names shared trees (drop i code)))
-        → (is_big names shared trees (drop (i - 1) code) ≡ false) × MarksBuilt c x.top (z.top - x.top) mem0 mem2 shared ws2 (read names shared trees (drop (i - 1) code))
+        → (has_big_item names shared trees (drop (i - 1) code) ≡ false) × MarksBuilt c x.top (z.top - x.top) mem0 mem2 shared ws2 (read names shared trees (drop (i - 1) code))
     put-more rest left z mem2 ws2 small v next e =
         let from : y.top ≡ x.top + (y.top - x.top) = omega (arith, u.uses.moved) in
         let sum : (y.top - x.top) + (z.top - y.top) ≡ z.top - x.top = omega (arith, u.uses.moved, v.uses.moved) in
@@ -167,8 +167,8 @@ module _ (names : List (List ℕ)) (held : List ℕ) (code : List Item) (i : ℕ
         )
 
     -- It has a big key.
-    pub put-big : is_big_item shared (get_or code (i - 1) d) (take (parts_of (get_or code (i - 1) d)) (read names shared trees (drop i code))) ≡ true → is_big names shared trees code ≡ true
-    put-big big = big-rest names shared trees (i - 1) code (big-at names shared trees code i d some within ∙ or_left _ (is_big names shared trees (drop i code)) big)
+    pub put-big : is_big_item shared (get_or code (i - 1) d) (take (parts_after (get_or code (i - 1) d)) (read names shared trees (drop i code))) ≡ true → has_big_item names shared trees code ≡ true
+    put-big big = big-rest names shared trees (i - 1) code (big-at names shared trees code i d some within ∙ or_left _ (has_big_item names shared trees (drop i code)) big)
 
 -- At the end one word is left.
 

@@ -9,7 +9,7 @@ use Rattle.std.proofs.lemmas.Bool.{eq-eqb, eqb-true}
 use Rattle.shared_rec.specs.Record.{count_in}
 use Rattle.off_heap_list.specs.Links.{names_it, named, naming, IsLink, Links}
 use Rattle.off_heap_list.specs.Exact.{ListsHeld, AllCounted, Exact, OwnChain, IsOwn, AreOwn, objects_of, Chained}
-use Rattle.off_heap_list.specs.Swept.{records_of}
+use Rattle.off_heap_list.specs.Swept.{named_records}
 use Rattle.off_heap_list.specs.Whole.{SweptWhole}
 use Rattle.off_heap_list.specs.declared.whole.Survivors.{Survivors}
 
@@ -51,7 +51,7 @@ several-exact c mem roots xs further k held =
 
 -- After a sweep each record is counted still, or is told.
 pub counted-or-told : (c : ℕ → ℕ → Bool) (start mem os kept further : List ℕ) (left : Survivors) (s : SweptWhole c start mem os kept further left) → AllCounted c start
-    → (v n : ℕ) → IsRecord c mem v n → (1 ≤ count_in mem v) ⊎ In v (records_of mem s.ends)
+    → (v n : ℕ) → IsRecord c mem v n → (1 ≤ count_in mem v) ⊎ In v (named_records mem s.ends)
 counted-or-told c start mem os kept further left s some v n there =
     let which : (1 ≤ count_in mem v) ⊎ (count_in mem v ≡ 0) = grind arith in
     elim which [

@@ -13,7 +13,7 @@ use Rattle.term_words.proofs.Framing.Frames.{frame}
 use Rattle.shared_rec.specs.Record.{count_in}
 use Rattle.shared_rec.proofs.Records.{record-stays, record-counted}
 use Rattle.off_heap_list.specs.Links.{names_it, name_place, named, Leads, Chain, naming, IsLink, Links}
-use Rattle.off_heap_list.specs.Swept.{is_moved, new_place, count_less, freed_at, lies_at, lying, records_of, IsReadAt, joined, ended, left_behind, Relinked, IsOld, IsLast, Sweeping, Since}
+use Rattle.off_heap_list.specs.Swept.{is_moved, new_place, count_less, freed_at, lies_at, lying, named_records, IsReadAt, kept_after, ends_after, left_behind, Relinked, IsOld, IsLast, Sweeping, Since}
 use Rattle.off_heap_list.proofs.Chaining.Chained.{roles-apart, kept-then, place-same, link-named, link-stays, naming-stays, leads-stays, one-naming, no-naming, record-inside}
 
 -- Content is kept where only words `next`, counts, and words of old objects without a role were written, forwards and back.
@@ -114,10 +114,10 @@ module _ (old new : List ℕ) where
   lying-same (q ∷ os) each =
       ap (λ x. x ∷ lying new os) (lies-same old new q (each q (inl refl))) ∙ ap (λ xs. lies_at old q ∷ xs) (lying-same os (λ r inside. each r (inr inside)))
 
-  pub records-same : (os : List ℕ) → ((q : ℕ) → In q os → SameObject old new q) → records_of new os ≡ records_of old os
+  pub records-same : (os : List ℕ) → ((q : ℕ) → In q os → SameObject old new q) → named_records new os ≡ named_records old os
   records-same [] each = refl
   records-same (q ∷ os) each =
-      ap (λ x. x ∷ records_of new os) (named-same old new q (each q (inl refl))) ∙ ap (λ xs. named old q ∷ xs) (records-same os (λ r inside. each r (inr inside)))
+      ap (λ x. x ∷ named_records new os) (named-same old new q (each q (inl refl))) ∙ ap (λ xs. named old q ∷ xs) (records-same os (λ r inside. each r (inr inside)))
 
   lying-naming : (c : ℕ → ℕ → Bool) (v : ℕ) (os : List ℕ) → Kept c c old new → ((q : ℕ) → In q os → SameObject old new q) → ((q : ℕ) → In q os → IsOld c old q)
       → naming new v (lying old os) ≡ naming old v (lying old os)
@@ -138,7 +138,7 @@ pub lies-left : (mem : List ℕ) (p : ℕ) → is_moved mem p ≡ false → lies
 lies-left mem p is = ap (λ b. if b then new_place mem p else p) is
 
 -- A record of the list is named by one of its objects.
-record-named : (mem : List ℕ) (v : ℕ) (os : List ℕ) → In v (records_of mem os) → (p : ℕ) × (In p os × (named mem p ≡ v))
+record-named : (mem : List ℕ) (v : ℕ) (os : List ℕ) → In v (named_records mem os) → (p : ℕ) × (In p os × (named mem p ≡ v))
 record-named mem v [] inside = absurd inside
 record-named mem v (p ∷ os) (inl e) = (p, (inl refl, sym e))
 record-named mem v (p ∷ os) (inr deep) = let (q, (inside, e)) = record-named mem v os deep in (q, (inr inside, e))
@@ -258,7 +258,7 @@ module _ (c : ℕ → ℕ → Bool) (old new : List ℕ) (head p : ℕ) (os : Li
         freed = ap (λ x. get_or new (x + 2) 0) (named-same old new q (same-ends q inside)) ∙ (zero q inside ∙ l.freed);
       }
 
-  once-after : Distinct (records_of new ends)
+  once-after : Distinct (named_records new ends)
   once-after = subst Distinct (sym (records-same old new ends same-ends)) s.freed_once
 
   before : (v n : ℕ) → IsRecord c new v n
@@ -288,7 +288,7 @@ module _ (c : ℕ → ℕ → Bool) (old new : List ℕ) (head p : ℕ) (os : Li
   since-only : (start : List ℕ) → Since c start old (p ∷ os) ends → (q : ℕ) → In q ends → 0 < count_in start (named new q)
   since-only start b q inside = let P : ℕ → Type 0 = λ x. 0 < count_in start x in subst P (sym (named-same old new q (same-ends q inside))) (b.only q inside)
 
-  since-all : (start : List ℕ) → Since c start old (p ∷ os) ends → (v n : ℕ) → IsRecord c new v n → get_or old (v + 2) 0 ≡ 0 → 0 < get_or start (v + 2) 0 → In v (records_of new ends)
+  since-all : (start : List ℕ) → Since c start old (p ∷ os) ends → (v n : ℕ) → IsRecord c new v n → get_or old (v + 2) 0 ≡ 0 → 0 < get_or start (v + 2) 0 → In v (named_records new ends)
   since-all start b v n there zero some =
       let P : List ℕ → Type 0 = λ xs. In v xs in
       subst P (sym (records-same old new ends same-ends)) (b.all v n (record-stays c c new old v n step-back there) zero some)
@@ -524,21 +524,21 @@ module _ (c : ℕ → ℕ → Bool) (old new : List ℕ) (head p : ℕ) (os : Li
 
 -- What the first word and the count tell.
 
-joined-moved : (mem : List ℕ) (p : ℕ) (kept : List ℕ) → is_moved mem p ≡ true → new_place mem p ∷ kept ≡ joined mem p kept
+joined-moved : (mem : List ℕ) (p : ℕ) (kept : List ℕ) → is_moved mem p ≡ true → new_place mem p ∷ kept ≡ kept_after mem p kept
 joined-moved mem p kept is = sym (ap (λ b. if b then new_place mem p ∷ kept else kept) is)
 
-joined-left : (mem : List ℕ) (p : ℕ) (kept : List ℕ) → is_moved mem p ≡ false → kept ≡ joined mem p kept
+joined-left : (mem : List ℕ) (p : ℕ) (kept : List ℕ) → is_moved mem p ≡ false → kept ≡ kept_after mem p kept
 joined-left mem p kept is = sym (ap (λ b. if b then new_place mem p ∷ kept else kept) is)
 
-ended-moved : (mem : List ℕ) (p : ℕ) (ends : List ℕ) → is_moved mem p ≡ true → ends ≡ ended mem p ends
+ended-moved : (mem : List ℕ) (p : ℕ) (ends : List ℕ) → is_moved mem p ≡ true → ends ≡ ends_after mem p ends
 ended-moved mem p ends is = sym (ap (λ b. if (if b then false else count_less mem p == 0) then p ∷ ends else ends) is)
 
-ended-left : (mem : List ℕ) (p : ℕ) (ends : List ℕ) → is_moved mem p ≡ false → 0 < count_less mem p → ends ≡ ended mem p ends
+ended-left : (mem : List ℕ) (p : ℕ) (ends : List ℕ) → is_moved mem p ≡ false → 0 < count_less mem p → ends ≡ ends_after mem p ends
 ended-left mem p ends is some =
     let no : (count_less mem p == 0) ≡ false = grind (arith, nat_tests, some) in
     sym (ap (λ b. if (if b then false else count_less mem p == 0) then p ∷ ends else ends) is ∙ ap (λ b. if b then p ∷ ends else ends) no)
 
-ended-last : (mem : List ℕ) (p : ℕ) (ends : List ℕ) → is_moved mem p ≡ false → count_less mem p ≡ 0 → p ∷ ends ≡ ended mem p ends
+ended-last : (mem : List ℕ) (p : ℕ) (ends : List ℕ) → is_moved mem p ≡ false → count_less mem p ≡ 0 → p ∷ ends ≡ ends_after mem p ends
 ended-last mem p ends is zero =
     let yes : (count_less mem p == 0) ≡ true = grind (arith, nat_tests, zero) in
     sym (ap (λ b. if (if b then false else count_less mem p == 0) then p ∷ ends else ends) is ∙ ap (λ b. if b then p ∷ ends else ends) yes)
@@ -616,25 +616,26 @@ module _ (c : ℕ → ℕ → Bool) (mem : List ℕ) (head p : ℕ) (os : List �
   at-head = let P : ℕ → Type 0 = λ x. Sweeping c mem head (x ∷ os) first kept last ends further in subst P (sym s.rest.0) s
 
   pub next-step-moved : IsSingle c → is_moved mem head ≡ true
-      → Sweeping c (set mem (new_place mem head + 2) first) (get_or mem (head + 2) 0) os (new_place mem head) (joined mem head kept) last (ended mem head ends) further
+      → Sweeping c (set mem (new_place mem head + 2) first) (get_or mem (head + 2) 0) os (new_place mem head) (kept_after mem head kept) last (ends_after mem head ends) further
   next-step-moved single is =
-      let P : List ℕ → Type 0 = λ xs. Sweeping c (set mem (new_place mem head + 2) first) (get_or mem (head + 2) 0) os (new_place mem head) xs last (ended mem head ends) further in
+      let P : List ℕ → Type 0 = λ xs. Sweeping c (set mem (new_place mem head + 2) first) (get_or mem (head + 2) 0) os (new_place mem head) xs last (ends_after mem head ends) further in
       let Q : List ℕ → Type 0 = λ xs. Sweeping c (set mem (new_place mem head + 2) first) (get_or mem (head + 2) 0) os (new_place mem head) (new_place mem head ∷ kept) last xs further in
       subst P (joined-moved mem head kept is) (subst Q (ended-moved mem head ends is) (step-moved c mem head head os first kept last ends further single is at-head))
 
   pub next-step-left : IsSingle c → is_moved mem head ≡ false → 0 < count_less mem head
-      → Sweeping c (set mem (named mem head + 2) (count_less mem head)) (get_or mem (head + 2) 0) os first (joined mem head kept) last (ended mem head ends) further
+      → Sweeping c (set mem (named mem head + 2) (count_less mem head)) (get_or mem (head + 2) 0) os first (kept_after mem head kept) last (ends_after mem head ends) further
   next-step-left single is some =
-      let P : List ℕ → Type 0 = λ xs. Sweeping c (set mem (named mem head + 2) (count_less mem head)) (get_or mem (head + 2) 0) os first xs last (ended mem head ends) further in
+      let P : List ℕ → Type 0 = λ xs. Sweeping c (set mem (named mem head + 2) (count_less mem head)) (get_or mem (head + 2) 0) os first xs last (ends_after mem head ends) further in
       let Q : List ℕ → Type 0 = λ xs. Sweeping c (set mem (named mem head + 2) (count_less mem head)) (get_or mem (head + 2) 0) os first kept last xs further in
       subst P (joined-left mem head kept is) (subst Q (ended-left mem head ends is some)
       (step-left c mem (set mem (named mem head + 2) (count_less mem head)) head head os first kept last ends further single is at-head (less-relinked c mem head last is next-old)
       (less-others c mem head last is next-old) (less-now c mem head last is next-old)))
 
   pub next-step-last : IsSingle c → is_moved mem head ≡ false → count_less mem head ≡ 0
-      → Sweeping c (set (set mem (named mem head + 2) (count_less mem head)) (head + 2) last) (get_or mem (head + 2) 0) os first (joined mem head kept) head (ended mem head ends) further
+      → Sweeping c (set (set mem (named mem head + 2) (count_less mem head)) (head + 2) last) (get_or mem (head + 2) 0) os first (kept_after mem head kept) head (ends_after mem head ends) further
   next-step-last single is zero =
-      let P : List ℕ → Type 0 = λ xs. Sweeping c (set (set mem (named mem head + 2) (count_less mem head)) (head + 2) last) (get_or mem (head + 2) 0) os first xs head (ended mem head ends) further in
+      let P : List ℕ → Type 0 =
+      λ xs. Sweeping c (set (set mem (named mem head + 2) (count_less mem head)) (head + 2) last) (get_or mem (head + 2) 0) os first xs head (ends_after mem head ends) further in
       let Q : List ℕ → Type 0 = λ xs. Sweeping c (set (set mem (named mem head + 2) (count_less mem head)) (head + 2) last) (get_or mem (head + 2) 0) os first kept head xs further in
       subst P (joined-left mem head kept is) (subst Q (ended-last mem head ends is zero)
       (step-last c mem (set (set mem (named mem head + 2) (count_less mem head)) (head + 2) last) head head os first kept last ends further single is at-head
@@ -645,13 +646,13 @@ module _ (c : ℕ → ℕ → Bool) (mem : List ℕ) (head p : ℕ) (os : List �
   since-head start b = let P : ℕ → Type 0 = λ x. Since c start mem (x ∷ os) ends in subst P (sym s.rest.0) b
 
   pub next-since-moved : IsSingle c → is_moved mem head ≡ true → (start : List ℕ) → Since c start mem (p ∷ os) ends
-      → Since c start (set mem (new_place mem head + 2) first) os (ended mem head ends)
+      → Since c start (set mem (new_place mem head + 2) first) os (ends_after mem head ends)
   next-since-moved single is start b =
       let Q : List ℕ → Type 0 = λ xs. Since c start (set mem (new_place mem head + 2) first) os xs in
       subst Q (ended-moved mem head ends is) (since-moved c mem head head os first kept last ends further single is at-head start (since-head start b))
 
   pub next-since-left : IsSingle c → is_moved mem head ≡ false → 0 < count_less mem head → (start : List ℕ) → Since c start mem (p ∷ os) ends
-      → Since c start (set mem (named mem head + 2) (count_less mem head)) os (ended mem head ends)
+      → Since c start (set mem (named mem head + 2) (count_less mem head)) os (ends_after mem head ends)
   next-since-left single is some start b =
       let Q : List ℕ → Type 0 = λ xs. Since c start (set mem (named mem head + 2) (count_less mem head)) os xs in
       let now : get_or (set mem (named mem head + 2) (count_less mem head)) (named mem head + 2) 0 ≡ count_less mem head = less-now c mem head last is next-old in
@@ -660,7 +661,7 @@ module _ (c : ℕ → ℕ → Bool) (mem : List ℕ) (head p : ℕ) (os : List �
       (less-others c mem head last is next-old) now (omega (arith, now, some)) start (since-head start b))
 
   pub next-since-last : IsSingle c → is_moved mem head ≡ false → count_less mem head ≡ 0 → (start : List ℕ) → Since c start mem (p ∷ os) ends
-      → Since c start (set (set mem (named mem head + 2) (count_less mem head)) (head + 2) last) os (ended mem head ends)
+      → Since c start (set (set mem (named mem head + 2) (count_less mem head)) (head + 2) last) os (ends_after mem head ends)
   next-since-last single is zero start b =
       let Q : List ℕ → Type 0 = λ xs. Since c start (set (set mem (named mem head + 2) (count_less mem head)) (head + 2) last) os xs in
       subst Q (ended-last mem head ends is zero)

@@ -14,8 +14,8 @@ use Rattle.term_words.proofs.Framing.Frames.{frame}
 use Rattle.term_words.proofs.Totals.Members.{Less, less}
 use Rattle.shared_rec.specs.Record.{count_in, length_in}
 use Rattle.off_heap_list.specs.Links.{named, IsLink, Links}
-use Rattle.off_heap_list.specs.Swept.{is_moved, new_place, held_words, count_less, freed_at, joined, ends_record, ended, IsOld, Relinked, Sweeping, Since}
-use Rattle.off_heap_list.specs.Whole.{moved_of, turned, held_by, one_of, SweptWhole}
+use Rattle.off_heap_list.specs.Swept.{is_moved, new_place, bin_words_at, count_less, freed_at, kept_after, ends_record, ends_after, IsOld, Relinked, Sweeping, Since}
+use Rattle.off_heap_list.specs.Whole.{moved_of, turned, bin_words_of_all, one_of, SweptWhole}
 use Rattle.off_heap_list.proofs.Walked.Sweeping.{relinked-kept, relinked-then, relinked-wider, next-old, next-moved, next-record, next-counted, sweep-done}
 
 -- A list of distinct places below a limit is no longer than the limit.
@@ -54,17 +54,17 @@ holds-by : (mem : List ℕ) (p : ℕ) (b : Bool) (h : ℕ) → (get_or mem p 0 =
     → (if get_or mem p 0 == h then bin_words (get_or mem (p + 1) 0) else 0) ≡ (if b then bin_words (get_or mem (p + 1) 0) else 0)
 holds-by mem p b h e = ap (λ x. if x then bin_words (get_or mem (p + 1) 0) else 0) e
 
-pub held-few : (c : ℕ → ℕ → Bool) (mem : List ℕ) (p : ℕ) → IsLink c mem p → held_words mem p ≤ length mem
+pub held-few : (c : ℕ → ℕ → Bool) (mem : List ℕ) (p : ℕ) → IsLink c mem p → bin_words_at mem p ≤ length mem
 held-few c mem p l = elim (cases_Bool (get_or mem p 0 == head_word HOLDER 5)) [
   | inl same ↦
       let h : get_or mem p 0 ≡ head_word HOLDER 5 = grind (arith, nat_tests, same) in
       let P : ℕ → Type 0 = λ x. bin_words x ≤ length mem in
-      let is : held_words mem p ≡ bin_words (get_or mem (p + 1) 0) = holds-by mem p true (head_word HOLDER 5) same in
+      let is : bin_words_at mem p ≡ bin_words (get_or mem (p + 1) 0) = holds-by mem p true (head_word HOLDER 5) same in
       omega (arith, is, subst P (sym (l.size h).1) (record-holds c mem (named mem p) l.words l.record_is))
-  | inr other ↦ (let is : held_words mem p ≡ 0 = holds-by mem p false (head_word HOLDER 5) other in omega (arith, is))
+  | inr other ↦ (let is : bin_words_at mem p ≡ 0 = holds-by mem p false (head_word HOLDER 5) other in omega (arith, is))
 ]
 
-pub held-stays : (c d : ℕ → ℕ → Bool) (old new : List ℕ) (p : ℕ) → Kept c d old new → IsLink c old p → held_words new p ≡ held_words old p
+pub held-stays : (c d : ℕ → ℕ → Bool) (old new : List ℕ) (p : ℕ) → Kept c d old new → IsLink c old p → bin_words_at new p ≡ bin_words_at old p
 held-stays c d old new p k l =
     let first : get_or new p 0 ≡ get_or old p 0 = k.same p FIRST (omega arith) l.first in
     ap (λ x. if x == head_word HOLDER 5 then bin_words (get_or new (p + 1) 0) else 0) first
@@ -76,12 +76,12 @@ held-stays c d old new p k l =
       | inr other ↦ ap (λ x. if x then bin_words (get_or new (p + 1) 0) else 0) other ∙ sym (holds-by old p false (head_word HOLDER 5) other)
     ]
 
-pub all-held-stay : (c d : ℕ → ℕ → Bool) (old new : List ℕ) (ps : List ℕ) → Kept c d old new → ((p : ℕ) → In p ps → IsLink c old p) → held_by new ps ≡ held_by old ps
+pub all-held-stay : (c d : ℕ → ℕ → Bool) (old new : List ℕ) (ps : List ℕ) → Kept c d old new → ((p : ℕ) → In p ps → IsLink c old p) → bin_words_of_all new ps ≡ bin_words_of_all old ps
 all-held-stay c d old new [] k each = refl
 all-held-stay c d old new (p ∷ ps) k each =
     omega (arith, held-stays c d old new p k (each p (inl refl)), all-held-stay c d old new ps k (λ q inside. each q (inr inside)))
 
-pub all-held-few : (c : ℕ → ℕ → Bool) (mem : List ℕ) (ps : List ℕ) → length mem ≤ 16777216 → ((p : ℕ) → In p ps → IsLink c mem p) → held_by mem ps ≤ length ps * 16777216
+pub all-held-few : (c : ℕ → ℕ → Bool) (mem : List ℕ) (ps : List ℕ) → length mem ≤ 16777216 → ((p : ℕ) → In p ps → IsLink c mem p) → bin_words_of_all mem ps ≤ length ps * 16777216
 all-held-few c mem [] most each = omega arith
 all-held-few c mem (p ∷ ps) most each =
     omega (arith, held-few c mem p (each p (inl refl)), most, all-held-few c mem ps most (λ q inside. each q (inr inside)))
@@ -97,7 +97,7 @@ pub record Sweeps (c : ℕ → ℕ → Bool) (start mem : List ℕ) (head first 
   pub among : (p : ℕ) → In p rest → In p os
   pub whole : turned (moved_of start rest) kept ≡ turned (moved_of start os) []
   pub len_is : len ≡ length kept
-  pub words_is : words ≡ held_by mem kept
+  pub words_is : words ≡ bin_words_of_all mem kept
   pub freed_is : freed ≡ length ends
   pub few_freed : freed ≤ i
   pub writes : Relinked c os start mem
@@ -175,7 +175,7 @@ one-joined : (b : Bool) (x : ℕ) (kept : List ℕ) → (if b then 1 else 0) + l
 one-joined true x kept = omega arith
 one-joined false x kept = omega arith
 
-held-joined : (mem : List ℕ) (b : Bool) (x : ℕ) (kept : List ℕ) → (if b then held_words mem x else 0) + held_by mem kept ≡ held_by mem (if b then x ∷ kept else kept)
+held-joined : (mem : List ℕ) (b : Bool) (x : ℕ) (kept : List ℕ) → (if b then bin_words_at mem x else 0) + bin_words_of_all mem kept ≡ bin_words_of_all mem (if b then x ∷ kept else kept)
 held-joined mem true x kept = omega arith
 held-joined mem false x kept = omega arith
 
@@ -188,7 +188,7 @@ module _ (c : ℕ → ℕ → Bool) (start mem : List ℕ) (head first last len 
 
 -- What a step tells of the object that was swept.
 pub record Tells (mem : List ℕ) (head : ℕ) (moved told : Option ℕ) (more : ℕ) : Type 0 where
-  pub if_moved : is_moved mem head ≡ true → (moved ≡ Some (new_place mem head)) × (told ≡ None) × (more ≡ held_words mem (new_place mem head))
+  pub if_moved : is_moved mem head ≡ true → (moved ≡ Some (new_place mem head)) × (told ≡ None) × (more ≡ bin_words_at mem (new_place mem head))
   pub if_left : is_moved mem head ≡ false → (moved ≡ None) × (told ≡ freed_at (named mem head) (count_less mem head)) × (more ≡ 0)
 
 module _ (mem : List ℕ) (head : ℕ) (moved told : Option ℕ) (more : ℕ) (t : Tells mem head moved told more) where
@@ -210,10 +210,10 @@ module _ (mem : List ℕ) (head : ℕ) (moved told : Option ℕ) (more : ℕ) (t
         ∙ (told-at (count_less mem head == 0) (named mem head) ∙ sym (ap (λ b. if (if b then false else count_less mem head == 0) then 1 else 0) is))
   ]
 
-  more-is : more ≡ (if is_moved mem head then held_words mem (new_place mem head) else 0)
+  more-is : more ≡ (if is_moved mem head then bin_words_at mem (new_place mem head) else 0)
   more-is = elim (cases_Bool (is_moved mem head)) [
-    | inl is ↦ (t.if_moved is).2 ∙ sym (ap (λ b. if b then held_words mem (new_place mem head) else 0) is)
-    | inr is ↦ (t.if_left is).2 ∙ sym (ap (λ b. if b then held_words mem (new_place mem head) else 0) is)
+    | inl is ↦ (t.if_moved is).2 ∙ sym (ap (λ b. if b then bin_words_at mem (new_place mem head) else 0) is)
+    | inr is ↦ (t.if_left is).2 ∙ sym (ap (λ b. if b then bin_words_at mem (new_place mem head) else 0) is)
   ]
 
   pub more-few : (c : ℕ → ℕ → Bool) → IsOld c mem head → length mem ≤ 16777216 → more ≤ 16777216
@@ -235,8 +235,8 @@ joined-links c mem x kept false new each p inside = each p inside
 module _ (c : ℕ → ℕ → Bool) (start mem mem2 : List ℕ) (head head2 first first2 last last2 len words freed i : ℕ) (os further : List ℕ) (moved told : Option ℕ) (more : ℕ) where
   pub sweeps-more : Sweeps c start mem head first last len words freed i os further → i < length os → IsSingle c → Tells mem head moved told more
       → ((p : ℕ) (rest kept ends : List ℕ) → Sweeping c mem head (p ∷ rest) first kept last ends further
-      → Sweeping c mem2 head2 rest first2 (joined mem head kept) last2 (ended mem head ends) further)
-      → ((p : ℕ) (rest kept ends : List ℕ) → Sweeping c mem head (p ∷ rest) first kept last ends further → Since c start mem (p ∷ rest) ends → Since c start mem2 rest (ended mem head ends))
+      → Sweeping c mem2 head2 rest first2 (kept_after mem head kept) last2 (ends_after mem head ends) further)
+      → ((p : ℕ) (rest kept ends : List ℕ) → Sweeping c mem head (p ∷ rest) first kept last ends further → Since c start mem (p ∷ rest) ends → Since c start mem2 rest (ends_after mem head ends))
       → (IsOld c mem head → Relinked c (head ∷ []) mem mem2)
       → Sweeps c start mem2 head2 first2 last2 (len + one_of moved) (words + more) (freed + one_of told) (i + 1) os further
   sweeps-more s less single t goes_on since writes =
@@ -251,14 +251,14 @@ module _ (c : ℕ → ℕ → Bool) (start mem mem2 : List ℕ) (head head2 firs
         | inl e ↦ (let P : ℕ → Type 0 = λ y. c (y + 2) r ≡ true in o.none (head + 2) r (inr (inl refl)) (subst P e h))
         | inr j ↦ j
       ]) (writes o) in
-      let links : (p : ℕ) → In p (joined mem head s.kept) → IsLink c mem p = joined-links c mem (new_place mem head) s.kept (is_moved mem head) o.moved now.each in
+      let links : (p : ℕ) → In p (kept_after mem head s.kept) → IsLink c mem p = joined-links c mem (new_place mem head) s.kept (is_moved mem head) o.moved now.each in
       let I : List ℕ → Type 0 = λ xs. In n.p xs in
       let J : ℕ → Type 0 = λ x. In x os in
       let inside : In head os = subst J (sym at) (s.among n.p (subst I (sym n.is) (inl refl))) in
       record {
         rest = n.left;
-        kept = joined mem head s.kept;
-        ends = ended mem head s.ends;
+        kept = kept_after mem head s.kept;
+        ends = ends_after mem head s.ends;
         now = goes_on n.p n.left s.kept s.ends now;
         since = since n.p n.left s.kept s.ends now before;
         number = omega (arith, s.number, ap length n.is);
@@ -271,7 +271,7 @@ module _ (c : ℕ → ℕ → Bool) (start mem mem2 : List ℕ) (head head2 firs
           s.words_is,
           more-is mem head moved told more t,
           held-joined mem (is_moved mem head) (new_place mem head) s.kept,
-          all-held-stay c c mem mem2 (joined mem head s.kept) k links,
+          all-held-stay c c mem mem2 (kept_after mem head s.kept) k links,
         );
         freed_is = omega (arith, s.freed_is, told-one mem head moved told more t, one-joined (ends_record mem head) head s.ends);
         few_freed = omega (arith, s.few_freed, told-one mem head moved told more t, one-at-most (ends_record mem head));
@@ -292,7 +292,7 @@ sweeps-done c start mem head first last len words freed i os further s end =
     record {
       links = subst Q kept (sweep-done c mem head first s.kept last s.ends further (subst P over s.now));
       len = s.len_is ∙ ap length kept;
-      words = s.words_is ∙ ap (λ xs. held_by mem xs) kept;
+      words = s.words_is ∙ ap (λ xs. bin_words_of_all mem xs) kept;
       ends = s.ends;
       records = record {
         chain = s.now.gone;

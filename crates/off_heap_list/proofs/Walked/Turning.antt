@@ -7,9 +7,9 @@ use Rattle.term_words.specs.Kept.{Kept}
 use Rattle.term_words.specs.Counted.{In, Distinct}
 use Rattle.shared_rec.proofs.Records.{record-stays, record-counted}
 use Rattle.off_heap_list.specs.Links.{names_it, name_place, named, Leads, naming, IsLink, Links}
-use Rattle.off_heap_list.specs.Swept.{records_of, IsReadAt, Relinked, IsLast}
+use Rattle.off_heap_list.specs.Swept.{named_records, IsReadAt, Relinked, IsLast}
 use Rattle.off_heap_list.specs.declared.whole.Survivors.{Survivors}
-use Rattle.off_heap_list.specs.Whole.{turned, held_by, OnlyNext, EndRecords, SweptWhole, TurnedWhole}
+use Rattle.off_heap_list.specs.Whole.{turned, bin_words_of_all, OnlyNext, EndRecords, SweptWhole, TurnedWhole}
 use Rattle.off_heap_list.specs.Turned.{Turning}
 use Rattle.off_heap_list.proofs.Chaining.Chained.{kept-then, roles-apart, link-named, link-stays, naming-stays, leads-stays}
 use Rattle.off_heap_list.proofs.Walked.Sweeping.{relinked-next, relinked-kept, relinked-back, relinked-then, relinked-wider, relinked-keeps, SameObject, moved-same, named-same, old-stays, records-same}
@@ -148,7 +148,7 @@ pub turned-length : (xs ys : List ℕ) → length (turned xs ys) ≡ length xs +
 turned-length [] ys = omega arith
 turned-length (x ∷ xs) ys = omega (arith, turned-length xs (x ∷ ys))
 
-turned-held : (mem xs ys : List ℕ) → held_by mem (turned xs ys) ≡ held_by mem xs + held_by mem ys
+turned-held : (mem xs ys : List ℕ) → bin_words_of_all mem (turned xs ys) ≡ bin_words_of_all mem xs + bin_words_of_all mem ys
 turned-held mem [] ys = omega arith
 turned-held mem (x ∷ xs) ys = omega (arith, turned-held mem xs (x ∷ ys))
 
@@ -169,7 +169,7 @@ module _ (c : ℕ → ℕ → Bool) (start old new : List ℕ) (last : ℕ) (end
   count-still : (v : ℕ) → c (v + 2) COUNT ≡ true → get_or new (v + 2) 0 ≡ get_or old (v + 2) 0
   count-still v h = w.same (v + 2) (λ n. roles-apart c (v + 2) (v + 2) single n h refl)
 
-  records-still : records_of new ends ≡ records_of old ends
+  records-still : named_records new ends ≡ named_records old ends
   records-still = records-same old new ends object-still
 
   pub ends-still : EndRecords c start new last ends

@@ -13,7 +13,7 @@ use Rattle.script_grammar.specs.declared.command.Shape.{Shape}
 use Rattle.script_grammar.specs.declared.command.Shape.TheVariants.{Tuple as InTuple, List as InList}
 use Rattle.term_maps.specs.declared.sorted.Spot.{Spot}
 use Rattle.term_maps.specs.declared.sorted.Spot.TheVariants as spot
-use Rattle.term_verbs.specs.Placed.{pair_insert, pair_set, placed}
+use Rattle.term_verbs.specs.Placed.{pair_insert, pair_set, put_at_spot}
 
 below-more : (k n m : ℕ) → n ≤ m → nat_lt k n ≡ true → nat_lt k m ≡ true
 below-more k n m up h = grind (arith, nat_tests)
@@ -80,6 +80,6 @@ module _ (n : ℕ) (k v : Tree) (key : is_named n k ≡ true) (value : is_named 
       and_from (is_named n j && is_named n w) (pairs_named n (pair_insert i k v ps)) ((and_parts (is_named n j && is_named n w) (pairs_named n ps) h).0)
       (insert-named ps i ((and_parts (is_named n j && is_named n w) (pairs_named n ps) h).1))
 
-  pub placed-named : (x : Spot) (ps : Pairs) → pairs_named n ps ≡ true → pairs_named n (placed x k v ps) ≡ true
+  pub placed-named : (x : Spot) (ps : Pairs) → pairs_named n ps ≡ true → pairs_named n (put_at_spot x k v ps) ≡ true
   placed-named (spot.Same i) ps h = set-named ps i h
   placed-named (spot.New i) ps h = insert-named ps i h

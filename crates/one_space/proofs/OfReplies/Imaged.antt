@@ -9,8 +9,8 @@ use Rattle.plain_term.specs.Bytes.{shared_bytes}
 use Rattle.plain_term.specs.Tree.{Tree}
 use Rattle.plain_term.specs.Tree.Trees.{end}
 use Rattle.plain_machine.specs.State.{Process, State}
-use Rattle.plain_machine.specs.Image.{AllBins, AllFuns, AllRooted, HasRegions, ImageStands, LiesIn, Region, RecordsTold, RootedStands, WordsStand, image_roots, places_of}
-use Rattle.plain_machine.specs.Image.{roots_in as told_roots}
+use Rattle.plain_machine.specs.Image.{AllBins, AllFuns, AllRooted, HasRegions, ImageStands, LiesIn, Region, RecordsTold, RootedStands, WordsStand, image_roots, region_places}
+use Rattle.plain_machine.specs.Image.{process_roots}
 use Rattle.term_words.specs.Reach.{Reach, root, part}
 use Rattle.term_words.specs.Stands.{Stands}
 use Rattle.term_words.specs.Counted.{In, Distinct}
@@ -39,13 +39,13 @@ in-reverse w (x ∷ xs) i =
     let P : List ℕ → Type 0 = λ z. In w z in
     subst P (sym (reverse-append (x ∷ []) xs)) (elim i [ inl e ↦ in-right w (reverse xs) (x ∷ []) (inl e) | inr deep ↦ in-left w (reverse xs) (x ∷ []) (in-reverse w xs deep) ])
 
-told-in : (h : Halves) (ps : List Proc) (w : ℕ) → In w (roots_in h.mem ps) → In w (flat_map told_roots (map (rooted h) ps))
+told-in : (h : Halves) (ps : List Proc) (w : ℕ) → In w (roots_in h.mem ps) → In w (flat_map process_roots (map (rooted h) ps))
 told-in h [] w i = absurd i
 told-in h (p ∷ ps) w i =
     let P : List ℕ → Type 0 = λ z. In w z in
     let stack : List ℕ = values h.mem p.stack p.depth in
     let queue : List ℕ = values h.mem p.queue p.waiting in
-    let here : In w (p.regs ++ (reverse (values h.mem p.stack p.depth) ++ values h.mem p.queue p.waiting)) ⊎ In w (flat_map told_roots (map (rooted h) ps)) =
+    let here : In w (p.regs ++ (reverse (values h.mem p.stack p.depth) ++ values h.mem p.queue p.waiting)) ⊎ In w (flat_map process_roots (map (rooted h) ps)) =
     elim (in-both w p.regs (values h.mem p.stack p.depth ++ (values h.mem p.queue p.waiting ++ roots_in h.mem ps)) i) [
       | inl register ↦ inl (in-left w p.regs (reverse (values h.mem p.stack p.depth) ++ values h.mem p.queue p.waiting) register)
       | inr deep ↦ elim (in-both w (values h.mem p.stack p.depth) (values h.mem p.queue p.waiting ++ roots_in h.mem ps) deep) [
@@ -58,9 +58,9 @@ told-in h (p ∷ ps) w i =
         ]
       ]
     ] in
-    subst P (sym (flat_map-cons told_roots (rooted h p) (map (rooted h) ps))) (elim here [
-      | inl first ↦ in-left w (p.regs ++ (reverse (values h.mem p.stack p.depth) ++ values h.mem p.queue p.waiting)) (flat_map told_roots (map (rooted h) ps)) first
-      | inr rest ↦ in-right w (p.regs ++ (reverse (values h.mem p.stack p.depth) ++ values h.mem p.queue p.waiting)) (flat_map told_roots (map (rooted h) ps)) rest
+    subst P (sym (flat_map-cons process_roots (rooted h p) (map (rooted h) ps))) (elim here [
+      | inl first ↦ in-left w (p.regs ++ (reverse (values h.mem p.stack p.depth) ++ values h.mem p.queue p.waiting)) (flat_map process_roots (map (rooted h) ps)) first
+      | inr rest ↦ in-right w (p.regs ++ (reverse (values h.mem p.stack p.depth) ++ values h.mem p.queue p.waiting)) (flat_map process_roots (map (rooted h) ps)) rest
     ])
 
 -- A plan that begins with these roots.
@@ -124,11 +124,11 @@ module _ (mem : List ℕ) where
   held-both [] qs a b = b
   held-both (r ∷ rs) qs (fits, is, rest) b = (fits, is, held-both rs qs rest b)
 
-  places-are : (vs : List ℕ) → places_of (map (record_region mem) vs) ≡ vs
+  places-are : (vs : List ℕ) → region_places (map (record_region mem) vs) ≡ vs
   places-are [] = refl
   places-are (v ∷ vs) = ap (λ z. v ∷ z) (places-are vs)
 
-  places-both : (vs us : List ℕ) → places_of (map (record_region mem) vs ++ map (record_region mem) us) ≡ vs ++ us
+  places-both : (vs us : List ℕ) → region_places (map (record_region mem) vs ++ map (record_region mem) us) ≡ vs ++ us
   places-both [] us = places-are us
   places-both (v ∷ vs) us = ap (λ z. v ∷ z) (places-both vs us)
 
@@ -146,11 +146,11 @@ module _ (mem : List ℕ) where
   ]
 
   -- Owners that rise are all different.
-  owners-once : (vs : List ℕ) → OwnersRise mem vs → Distinct (map (owner_in mem) (places_of (map (record_region mem) vs)))
+  owners-once : (vs : List ℕ) → OwnersRise mem vs → Distinct (map (owner_in mem) (region_places (map (record_region mem) vs)))
   owners-once [] r = tt
   owners-once (v ∷ vs) (first, rest) = ((λ i. below vs first i), owners-once vs rest)
     where
-      below : (us : List ℕ) → ((w : ℕ) → In w us → owner_in mem v < owner_in mem w) → In (owner_in mem v) (map (owner_in mem) (places_of (map (record_region mem) us))) → ⊥
+      below : (us : List ℕ) → ((w : ℕ) → In w us → owner_in mem v < owner_in mem w) → In (owner_in mem v) (map (owner_in mem) (region_places (map (record_region mem) us))) → ⊥
       below [] less i = i
       below (u ∷ us) less (inl e) = omega (arith, less u (inl refl), e)
       below (u ∷ us) less (inr i) = below us (λ w j. less w (inr j)) i

@@ -18,7 +18,7 @@ use Rattle.script_grammar.specs.Names.{held_terms}
 use Rattle.term_order.specs.Named.{are_named, is_named}
 use Rattle.term_words.specs.Stands.{AllStand}
 use Rattle.plain_machine.specs.declared.limits.TheConstants.{MOST_ARITY}
-use Rattle.plain_machine.specs.Made.{trees_of}
+use Rattle.plain_machine.specs.Made.{trees_of_terms}
 use Rattle.plain_machine.specs.State.{Process, State, register}
 use Rattle.plain_machine.specs.Step.{env_of, fun_if, in_process}
 use Rattle.plain_machine.specs.May.{gets_to_space, may_of_tight}
@@ -83,7 +83,7 @@ terms-len (r ∷ rs) = omega (arith, terms-len rs)
 
 -- The trees of an environment's registers.
 abbrev env_trees : (names : List (List ℕ)) (held : List Tree) (rs : List ℕ) (shared : List (List ℕ)) → Trees
-env_trees names held rs shared = (trees_of names held (held_terms rs) shared).0
+env_trees names held rs shared = (trees_of_terms names held (held_terms rs) shared).0
 
 module _ (c : ℕ → ℕ → Bool) (shared : List (List ℕ)) (mem : List ℕ) (named : ℕ) (regs : List ℕ) (q : Process) (names : List (List ℕ))
     (held : (r : ℕ) → r < 16 → HoldsTree c shared mem named (get_or regs r 0) (register r q)) where
@@ -183,7 +183,7 @@ module _ (b : One) (holds : Holds b) (seat : Seat) (x : Sits b seat) (r : Reg) (
           let P : Option Process → Type 0 = λ u. Follows {A = Unit {0}} (in_process u s line v) s (Ok tt) (OneStands b4) in
           let Q : Bool → Type 0 = λ u. Follows {A = Unit {0}} (fun_if u (Fun name arity q.number (env_of s line q)) s line q r.0) s (Ok tt) (OneStands b4) in
           let N : ℕ → Type 0 = λ z. Follows {A = Unit {0}} (fun_if false (Fun name arity z (env_of s line q)) s line q r.0) s (Ok tt) (OneStands b4) in
-          let T : Terms → Type 0 = λ z. Follows {A = Unit {0}} (fun_if false (Fun name arity seat.pid ((trees_of names q.registers z s.shared).0)) s line q r.0) s (Ok tt) (OneStands b4) in
+          let T : Terms → Type 0 = λ z. Follows {A = Unit {0}} (fun_if false (Fun name arity seat.pid ((trees_of_terms names q.registers z s.shared).0)) s line q r.0) s (Ok tt) (OneStands b4) in
           inl (subst P (sym (found-there (roomed b h) s o1 counts1 seat sits1)) (subst Q (sym (le-ltb MOST_ARITY arity few))
           (subst N (sym (number-there (roomed b h) s o1 counts1 seat sits1)) (subst T (sym has.written) stands))))
 

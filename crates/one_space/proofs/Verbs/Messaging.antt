@@ -26,7 +26,7 @@ use Rattle.plain_machine.specs.May.{gets_to_space}
 use Rattle.plain_machine.proofs.Properly.Holding.{sent-within}
 use Rattle.space_api.specs.Calls.{AreRising, Follows, said}
 use Rattle.space_api.specs.declared.space.Seat.{Seat}
-use Rattle.numbered_rows.specs.Numbers.{is_among, number_at, numbers}
+use Rattle.numbered_rows.specs.Numbers.{is_among, row_number, numbers}
 use Rattle.numbered_rows.proofs.Rising.{number-is}
 use Rattle.term_words.specs.Role.{always}
 use Rattle.term_words.specs.Stands.{Stands}
@@ -245,7 +245,7 @@ module _ (b : One) (holds : Holds b) (seat : Seat) (x : Sits b seat) (r : Reg) (
             asks-at s p o found quiet (Ok tt) (subst P (sym (dead-there s o)) refl)
 
       -- The process with the number has its row here.
-      module _ (row : ℕ) (in_rows : row < length b.halves.procs.items) (number : number_at number_in b.halves.procs.items row ≡ n) (live : true ≡ is_among number_in b.halves.procs.items n)
+      module _ (row : ℕ) (in_rows : row < length b.halves.procs.items) (number : row_number number_in b.halves.procs.items row ≡ n) (live : true ≡ is_among number_in b.halves.procs.items n)
           (g : ℕ) (g_is : g ≡ 8 + size.flat) (h : Halves) (ok : Bool) (room : MakesRoom g b.halves h ok) where
         abbrev seat2 : Seat
         seat2 = record { pid = n; row = row }

@@ -33,7 +33,7 @@ use Rattle.term_verbs.specs.declared.pairs.PutStop.{PutStop}
 use Rattle.term_verbs.specs.declared.pairs.PutStop.TheVariants as put
 use Rattle.term_verbs.specs.Found.{AreSorted}
 use Rattle.term_verbs.specs.Picked.{HasSorted}
-use Rattle.term_verbs.specs.Placed.{PlaceFits, HasPlace, IsPlace, count_placed, placed}
+use Rattle.term_verbs.specs.Placed.{PlaceFits, HasPlace, IsPlaceInMap, count_placed, put_at_spot}
 use Rattle.term_verbs.proofs.Placing.{placed-count, placed-put}
 use Rattle.term_verbs.proofs.Sorted.{proper-sorted}
 use Rattle.plain_machine.specs.Parts.{pairs_in}
@@ -42,7 +42,7 @@ use Rattle.script_grammar.specs.Names.{Parsed}
 use Rattle.plain_machine.specs.Step.{Outcome, does, in_process, put_unless_big, put_unless_wide, settled}
 use Rattle.plain_machine.specs.Step.Outcome.{Refused}
 use Rattle.plain_machine.specs.Step.{put_into}
-use Rattle.plain_machine.specs.Tightness.{keys_in}
+use Rattle.plain_machine.specs.Tightness.{key_count}
 use Rattle.plain_machine.specs.May.{gets_to_space}
 use Rattle.space_api.specs.Calls.{Follows, Properly, said}
 use Rattle.space_api.specs.declared.space.Seat.{Seat}
@@ -75,7 +75,7 @@ record HasPairs (names shared : List (List ℕ)) (t k : Tree) (place : Place) : 
   is : t ≡ Map pairs
   fits : PlaceFits names shared pairs k place
 
-has-pairs : (names shared : List (List ℕ)) (t k : Tree) (place : Place) → IsPlace names shared t k (Ok place) → HasPairs names shared t k place
+has-pairs : (names shared : List (List ℕ)) (t k : Tree) (place : Place) → IsPlaceInMap names shared t k (Ok place) → HasPairs names shared t k place
 has-pairs names shared (Map ps) k place f = record { pairs = ps; is = refl; fits = f }
 has-pairs names shared (Int i) k place f = absurd cc
 has-pairs names shared (Atom i) k place f = absurd cc
@@ -97,7 +97,7 @@ no-stop put.Full e = absurd cc
 -- The machine's step for a line, a process and a register, with a key and a value.
 module _ (k v : Tree) (s : State) (line : Parsed) (q : Process) (r : ℕ) where
   -- It refuses the pair for the reason that the search has.
-  stops-at : (ps : Pairs) (e : PutStop) → AreSorted line.names s.shared ps → IsPlace line.names s.shared (Map ps) k (Err e) → (big : Bool) → is_beyond s.shared k ≡ big
+  stops-at : (ps : Pairs) (e : PutStop) → AreSorted line.names s.shared ps → IsPlaceInMap line.names s.shared (Map ps) k (Err e) → (big : Bool) → is_beyond s.shared k ≡ big
       → put_unless_big big (put_pair line.names s.shared k v ps) s line q r ≡ Refused (refusal_of_put e)
   stops-at ps put.NoMap sorted f big is = absurd f
   stops-at ps put.Big sorted f true is = refl
@@ -109,7 +109,7 @@ module _ (k v : Tree) (s : State) (line : Parsed) (q : Process) (r : ℕ) where
   no-map-stops : (e : PutStop) → ◌≡◌ {A = Result Place PutStop} (Err e) (Err put.NoMap) → Refused refusal.BadArg ≡ Refused (refusal_of_put e)
   no-map-stops e is = ap Refused (sym (no-stop e is))
 
-  put-stops : (t : Tree) (e : PutStop) → HasSorted line.names s.shared t → IsPlace line.names s.shared t k (Err e) → put_into (pairs_in t) k v s line q r ≡ Refused (refusal_of_put e)
+  put-stops : (t : Tree) (e : PutStop) → HasSorted line.names s.shared t → IsPlaceInMap line.names s.shared t k (Err e) → put_into (pairs_in t) k v s line q r ≡ Refused (refusal_of_put e)
   put-stops (Map ps) e sorted f = stops-at ps e sorted f (is_beyond s.shared k) refl
   put-stops (Int i) e sorted f = no-map-stops e f
   put-stops (Atom i) e sorted f = no-map-stops e f
@@ -125,9 +125,9 @@ module _ (k v : Tree) (s : State) (line : Parsed) (q : Process) (r : ℕ) where
 
   -- It puts the pair at its place.
   put-steps : (ps : Pairs) (place : Place) → AreSorted line.names s.shared ps → PlaceFits line.names s.shared ps k place
-      → put_into (Some ps) k v s line q r ≡ does line (with_process (with_register r (Map (placed place.spot k v ps)) q) s)
+      → put_into (Some ps) k v s line q r ≡ does line (with_process (with_register r (Map (put_at_spot place.spot k v ps)) q) s)
   put-steps ps place sorted f =
-      let same : placed place.spot k v ps ≡ put_pair line.names s.shared k v ps = placed-put line.names s.shared k v place.spot ps (f.finds sorted) in
+      let same : put_at_spot place.spot k v ps ≡ put_pair line.names s.shared k v ps = placed-put line.names s.shared k v place.spot ps (f.finds sorted) in
       let few : pairs_len (put_pair line.names s.shared k v ps) ≤ MOST_KEYS = omega (arith, sym (ap pairs_len same), placed-count place.spot ps k v, f.few) in
       ap (λ z. put_unless_big z (put_pair line.names s.shared k v ps) s line q r) f.small
       ∙ ap (λ z. put_unless_wide z (put_pair line.names s.shared k v ps) s line q r) (is-few (pairs_len (put_pair line.names s.shared k v ps)) few)
@@ -160,8 +160,8 @@ module _ (b : One) (holds : Holds b) (seat : Seat) (x : Sits b seat) (r m k v : 
   -- What the search answers of the trees of the registers.
   module _ (result : Result Place PutStop)
       (is_place : (c : ℕ → ℕ → Bool) (shared : List (List ℕ)) (t u : Tree) → Stands c shared b.halves.mem (get_or p.regs m.0 0) t → Stands c shared b.halves.mem (get_or p.regs k.0 0) u
-      → IsPlace names shared t u result) where
-    place-there : (s : State) (o : OneStands b s) → IsPlace names s.shared (register m.0 (seated_in s)) (register k.0 (seated_in s)) result
+      → IsPlaceInMap names shared t u result) where
+    place-there : (s : State) (o : OneStands b s) → IsPlaceInMap names s.shared (register m.0 (seated_in s)) (register k.0 (seated_in s)) result
     place-there s o =
         is_place o.processes.test s.shared (register m.0 (seated_in s)) (register k.0 (seated_in s)) (held-there b holds.counts seat x p is s o m.0 one).standing
         (held-there b holds.counts seat x p is s o k.0 two).standing
@@ -172,7 +172,7 @@ module _ (b : One) (holds : Holds b) (seat : Seat) (x : Sits b seat) (r m k v : 
       holds = holds;
       becomes = λ s terms h has.
           let q : Process = seated_in s in
-          let T : Result Place PutStop → Type 0 = λ z. IsPlace names s.shared (register m.0 q) (register k.0 q) z in
+          let T : Result Place PutStop → Type 0 = λ z. IsPlaceInMap names s.shared (register m.0 q) (register k.0 q) z in
           let step_is = put-stops (register k.0 q) (register v.0 q) s (line_of terms) q r.0 (register m.0 q) e (sorted-there s h has) (subst T stop_is (place-there s h.0)) in
           let P : Option Process → Type 0 = λ z. Follows {A = Unit {0}} (in_process z s (line_of terms) put_verb) s (Err (refusal_of_put e)) (OneStands b) in
           let Q : Outcome → Type 0 = λ z. Follows {A = Unit {0}} z s (Err (refusal_of_put e)) (OneStands b) in
@@ -183,7 +183,7 @@ module _ (b : One) (holds : Holds b) (seat : Seat) (x : Sits b seat) (r m k v : 
     module _ (place : Place) (place_is : result ≡ Ok place) where
       pairs-there : (s : State) (o : OneStands b s) → HasPairs names s.shared (register m.0 (seated_in s)) (register k.0 (seated_in s)) place
       pairs-there s o =
-          let T : Result Place PutStop → Type 0 = λ z. IsPlace names s.shared (register m.0 (seated_in s)) (register k.0 (seated_in s)) z in
+          let T : Result Place PutStop → Type 0 = λ z. IsPlaceInMap names s.shared (register m.0 (seated_in s)) (register k.0 (seated_in s)) z in
           has-pairs names s.shared (register m.0 (seated_in s)) (register k.0 (seated_in s)) place (subst T place_is (place-there s o))
 
       -- The map has few keys.
@@ -196,7 +196,7 @@ module _ (b : One) (holds : Holds b) (seat : Seat) (x : Sits b seat) (r m k v : 
       steps-there : (s : State) (h : Properly (OneStands b) s) → HasNames s names → (terms : Terms)
           → put_into (pairs_in (register m.0 (seated_in s))) (register k.0 (seated_in s)) (register v.0 (seated_in s)) s (line_of terms) (seated_in s) r.0
           ≡ does (line_of terms)
-          (with_process (with_register r.0 (Map (placed place.spot (register k.0 (seated_in s)) (register v.0 (seated_in s)) (pairs-there s h.0).pairs)) (seated_in s)) s)
+          (with_process (with_register r.0 (Map (put_at_spot place.spot (register k.0 (seated_in s)) (register v.0 (seated_in s)) (pairs-there s h.0).pairs)) (seated_in s)) s)
       steps-there s h has terms =
           let q : Process = seated_in s in
           let here = pairs-there s h.0 in
@@ -205,13 +205,13 @@ module _ (b : One) (holds : Holds b) (seat : Seat) (x : Sits b seat) (r m k v : 
           ∙ put-steps (register k.0 q) (register v.0 q) s (line_of terms) q r.0 here.pairs place (subst S here.is (sorted-there s h has)) here.fits
 
       -- What the line asks for.
-      pub put-words : (s : State) → OneStands b s → 6 + 2 * keys_in (register m.0 (seated_in s)) ≡ 6 + 2 * place.keys
-      put-words s o = omega (arith, ap keys_in (pairs-there s o).is, (pairs-there s o).fits.count)
+      pub put-words : (s : State) → OneStands b s → 6 + 2 * key_count (register m.0 (seated_in s)) ≡ 6 + 2 * place.keys
+      put-words s o = omega (arith, ap key_count (pairs-there s o).is, (pairs-there s o).fits.count)
 
-      pub put-asked : (s : State) (o : OneStands b s) (q : Process) → process_of seat.pid s ≡ Some q → 6 + 2 * place.keys ≡ 6 + 2 * keys_in (register m.0 q)
+      pub put-asked : (s : State) (o : OneStands b s) (q : Process) → process_of seat.pid s ≡ Some q → 6 + 2 * place.keys ≡ 6 + 2 * key_count (register m.0 q)
       put-asked s o q found =
           let same : seated_in s ≡ q = same_Some (seated_in s) q (sym (found-there b s o holds.counts seat x) ∙ found) in
-          let P : Process → Type 0 = λ z. 6 + 2 * place.keys ≡ 6 + 2 * keys_in (register m.0 z) in
+          let P : Process → Type 0 = λ z. 6 + 2 * place.keys ≡ 6 + 2 * key_count (register m.0 z) in
           subst P same (sym (put-words s o))
 
       module _ (g : ℕ) (words : g ≡ 6 + 2 * place.keys) (h : Halves) (ok : Bool) (room : MakesRoom g b.halves h ok) where
@@ -268,7 +268,7 @@ module _ (b : One) (holds : Holds b) (seat : Seat) (x : Sits b seat) (r m k v : 
                 → Uses (4 + 2 * count_placed place.spot (pairs_len ps)) (record { start = h.base; top = h.top; end = h.low }) z h.mem mem2)
                 (built : (c : ℕ → ℕ → Bool) (shared : List (List ℕ)) (ps : Pairs) (t u : Tree) → IsFree c h.top (h.top + (4 + 2 * count_placed place.spot (pairs_len ps)))
                 → Stands c shared h.mem (get_or p1.regs m.0 0) (Map ps) → Stands c shared h.mem (get_or p1.regs k.0 0) t → Stands c shared h.mem (get_or p1.regs v.0 0) u
-                → Built c h.top (4 + 2 * count_placed place.spot (pairs_len ps)) h.mem mem2 shared w (Map (placed place.spot t u ps))) where
+                → Built c h.top (4 + 2 * count_placed place.spot (pairs_len ps)) h.mem mem2 shared w (Map (put_at_spot place.spot t u ps))) where
               -- The words that the map takes.
               abbrev used : ℕ
               used = 4 + 2 * count_placed place.spot place.keys
@@ -287,7 +287,7 @@ module _ (b : One) (holds : Holds b) (seat : Seat) (x : Sits b seat) (r m k v : 
 
               -- The new map, whatever the order of its keys.
               abbrev made_in : (s : State) → OneStands b s → Tree
-              made_in s o = Map (placed place.spot (register k.0 (seated_in s)) (register v.0 (seated_in s)) (pairs-there s o).pairs)
+              made_in s o = Map (put_at_spot place.spot (register k.0 (seated_in s)) (register v.0 (seated_in s)) (pairs-there s o).pairs)
 
               built-there : (s : State) (o : OneStands b s) → Built (roomed-there b holds g h ok room s o).processes.test h.top used h.mem mem2 s.shared w (made_in s o)
               built-there s o =

@@ -18,7 +18,7 @@ use Rattle.space_api.specs.Calls.{Follows, said}
 use Rattle.space_api.specs.declared.space.Seat.{Seat}
 use Rattle.numbered_rows.specs.Numbers.{numbers}
 use Rattle.two_halves.specs.Halves.{HalvesStand, ProcsStand, end_of}
-use Rattle.two_halves.specs.Queues.{HasLeft, Takes, shifted, with_row}
+use Rattle.two_halves.specs.Queues.{HasLeftQueue, TakesMessage, shifted, with_row}
 use Rattle.two_halves.specs.declared.halves.Halves.{Halves}
 use Rattle.two_halves.specs.declared.table.Proc.{Proc}
 use Rattle.two_halves.proofs.Standing.Apart.{apart-same}
@@ -67,7 +67,7 @@ module _ (b : One) (holds : Holds b) (seat : Seat) (x : Sits b seat) (r : Reg) w
   none-idle h2 same = record { sweeps = ap (λ z. z.sweeps) same; mem = ap (λ z. z.mem) same; top = ap (λ z. z.top) same; low = ap (λ z. z.low) same }
 
   -- The first message was taken off, and its word is put in the register.
-  module _ (h2 : Halves) (w : ℕ) (takes : Takes b.halves h2 seat.row w) where
+  module _ (h2 : Halves) (w : ℕ) (takes : TakesMessage b.halves h2 seat.row w) where
     abbrev p : Proc
     p = get_or b.halves.procs.items seat.row no_row
 
@@ -92,7 +92,7 @@ module _ (b : One) (holds : Holds b) (seat : Seat) (x : Sits b seat) (r : Reg) w
 
     module _ (p2 : Proc) (is2 : p2 ≡ get_or h2.procs.items seat.row p2) where
       module _ (s : State) (o : OneStands b s) where
-        abbrev left : HasLeft b.named h2 s.shared s.processes seat.row w
+        abbrev left : HasLeftQueue b.named h2 s.shared s.processes seat.row w
         left = takes.leaves b.named s.shared s.processes o.processes
 
         abbrev q1 : Process

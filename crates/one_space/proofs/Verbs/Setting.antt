@@ -31,12 +31,12 @@ use Rattle.plain_machine.specs.State.{Process, State, register, with_process, wi
 use Rattle.plain_machine.specs.Step.{Outcome, in_process, settled, unless_flawed}
 use Rattle.plain_machine.specs.Step.Outcome.{Accepted, Refused}
 use Rattle.plain_machine.specs.May.{gets_to_space, may_of_tight}
-use Rattle.space_api.specs.Calls.{AreRising, Becomes, Follows, HasTerm, IsTerm, one_term, said}
+use Rattle.space_api.specs.Calls.{AreRising, Becomes, Follows, HasTerm, IsWrittenTerm, one_term, said}
 use Rattle.space_api.specs.declared.space.Seat.{Seat}
 use Rattle.item_build.specs.declared.building.BuildStop.{BuildStop}
 use Rattle.item_build.specs.declared.bins.Making.{Making}
-use Rattle.item_build.specs.Reading.{AreLed, bins_of, far_words_of, long_bins, outcome, words_of}
-use Rattle.item_build.specs.Building.{BuildsTerm, HasHeld, HeldStand, Laid, LeavesRoom, Made}
+use Rattle.item_build.specs.Reading.{AreLed, bins_of, far_words_of, long_bins, outcome, item_words_of}
+use Rattle.item_build.specs.Building.{BuildsTerm, HasHeld, HeldStand, Laid, LeavesRoom, MadeTree}
 use Rattle.item_build.proofs.Turned.Ending.{whole-led}
 use Rattle.item_build.proofs.Meaning.Known.{Knows, stands-known, stands-more}
 use Rattle.item_build.proofs.Meaning.Written.{is-written, outcome_of, term-makes, term-named, term-outcome, term-words, words-few}
@@ -52,7 +52,7 @@ use Rattle.two_halves.proofs.Queued.Queuing.{row-set}
 use Rattle.one_space.proofs.Processes.Within.{within-at, within-grown}
 use Rattle.two_halves.specs.Collecting.{MakesRoom}
 use Rattle.one_space.specs.One.{Holds, IsCounted, OneStands, Sits, number_in}
-use Rattle.one_space.specs.One.{words_of as memory_words}
+use Rattle.one_space.specs.One.{words_of}
 use Rattle.one_space.specs.Doing.{Builds, refusal_for}
 use Rattle.two_halves.specs.declared.halves.Halves.{Halves}
 use Rattle.one_space.specs.declared.one.One.{One}
@@ -76,7 +76,7 @@ use Rattle.one_space.proofs.Processes.Turning.{row-stands}
 use Rattle.one_space.proofs.Calls.Terming.{row-made, term-fits, with_term}
 
 -- The words that were reckoned are those of the items.
-pub needed-words : (names : List (List ℕ)) (code : List Item) (t : HasTerm names code) (n : ℕ) → length names ≤ 16384 → n ≡ min (words_of code) (2 ^ 64 - 1) → n ≡ words_of code
+pub needed-words : (names : List (List ℕ)) (code : List Item) (t : HasTerm names code) (n : ℕ) → length names ≤ 16384 → n ≡ min (item_words_of code) (2 ^ 64 - 1) → n ≡ item_words_of code
 needed-words names code t n few is = omega (arith, is, words-few (length names) 16 code (is-written names code t.term 16 t.is t.named few (omega arith)) t.few)
 
 -- A written term gets to the want of space, whatever its flaw.
@@ -99,7 +99,7 @@ stop-flaw c shared x y mem mem2 was now n e false false t s next Stands is stand
 pub record Whole (c : ℕ → ℕ → Bool) (shared : List (List ℕ)) (x y : Room) (mem mem2 : List ℕ) (was now : Making) (n w : ℕ) (big wide : Bool) (t : Tree) : Type 0 where
   pub small : big ≡ false
   pub narrow : wide ≡ false
-  pub built : Made c shared x y mem mem2 was now n w t
+  pub built : MadeTree c shared x y mem mem2 was now n w t
 
 no-flaw : (c : ℕ → ℕ → Bool) (shared : List (List ℕ)) (x y : Room) (mem mem2 : List ℕ) (was now : Making) (n w : ℕ) (big wide : Bool) (t : Tree)
     → BuildsTerm c shared x y mem mem2 was now n (Ok w) (outcome_of big wide t) → Whole c shared x y mem mem2 was now n w big wide t
@@ -154,7 +154,7 @@ abbrev pub stopped_in : One → Halves → (mem : List ℕ) → Vec ℕ Global �
 stopped_in b h mem row = record { halves = laid_out h mem h.top h.low h.procs; row = row; spare = b.spare; next = b.next; serials = b.serials; named = b.named; calls = b.calls + 1; swept = b.swept }
 
 module _ (b : One) (holds : Holds b) (seat : Seat) (x : Sits b seat) (r : Reg) (names : List (List ℕ)) (code : List Item) (has : HasTerm names code) (few : length names ≤ 16384) (n : ℕ)
-    (is_n : n ≡ words_of code) (h : Halves) (ok : Bool) (room : MakesRoom n b.halves h ok) (more : b.named ≤ length names) where
+    (is_n : n ≡ item_words_of code) (h : Halves) (ok : Bool) (room : MakesRoom n b.halves h ok) (more : b.named ≤ length names) where
   abbrev v : Verb
   v = verb.Set r
 
@@ -162,8 +162,8 @@ module _ (b : One) (holds : Holds b) (seat : Seat) (x : Sits b seat) (r : Reg) (
   abbrev line : Term → Parsed
   line t = said (OfProcess seat.pid v) (one_term t) names
 
-  set-lacks : ok ≡ false → (s : State) (t : Term) → OneStands b s → IsTerm names code t
-      → Becomes {A = Unit {0}} may_of_tight (memory_words b) s (line t) (Err (refusal.NoSpace n)) (OneStands (roomed b h))
+  set-lacks : ok ≡ false → (s : State) (t : Term) → OneStands b s → IsWrittenTerm names code t
+      → Becomes {A = Unit {0}} may_of_tight (words_of b) s (line t) (Err (refusal.NoSpace n)) (OneStands (roomed b h))
   set-lacks lacking s t o is =
       let q : Process = get_or s.processes seat.row no_process in
       let found = found-there b s o holds.counts seat x in
@@ -174,7 +174,7 @@ module _ (b : One) (holds : Holds b) (seat : Seat) (x : Sits b seat) (r : Reg) (
 
   pub set-refused : ok ≡ false → Builds {A = Unit {0}} names seat.pid r code b (roomed b h) (Err (refusal.NoSpace n))
   set-refused lacking = record {
-    holds = holds-become {A = Unit {0}} (memory_words b) (roomed b h) holds.state (line has.term) (Err (refusal.NoSpace n)) (counts-there b holds n h ok room)
+    holds = holds-become {A = Unit {0}} (words_of b) (roomed b h) holds.state (line has.term) (Err (refusal.NoSpace n)) (counts-there b holds n h ok room)
         (set-lacks lacking holds.state has.term holds.stands has.is);
     becomes = set-lacks lacking;
     books = record { same_words = (stays-roomed n b.halves h ok room).same_len; one_call = omega arith; few_names = omega arith };
@@ -191,7 +191,7 @@ module _ (b : One) (holds : Holds b) (seat : Seat) (x : Sits b seat) (r : Reg) (
     sits1 : Sits (roomed b h) seat
     sits1 = sits-there b holds n h ok room seat x
 
-    pub set-fits : y.top + words_of code ≤ y.end
+    pub set-fits : y.top + item_words_of code ≤ y.end
     set-fits = omega (arith, term-fits b holds seat x n h ok room given, top-is, ap (λ q. q.end) start, is_n)
 
     end-is : y.end ≡ h.low
@@ -258,8 +258,8 @@ module _ (b : One) (holds : Holds b) (seat : Seat) (x : Sits b seat) (r : Reg) (
               reached = λ swept. rest-reached b.named h s.shared s.processes room.laid old.processes mem2 h.top leaves.same_len others (omega arith) room.laid.order (old.reached swept);
             }
 
-        stop-becomes : (s : State) (t : Term) → OneStands b s → IsTerm names code t
-            → Becomes {A = Unit {0}} may_of_tight (memory_words b) s (line t) (Err (refusal_for e)) (OneStands (stopped_in b h mem2 row))
+        stop-becomes : (s : State) (t : Term) → OneStands b s → IsWrittenTerm names code t
+            → Becomes {A = Unit {0}} may_of_tight (words_of b) s (line t) (Err (refusal_for e)) (OneStands (stopped_in b h mem2 row))
         stop-becomes s t o is_term =
             let P : Option Process → Type 0 = λ u. Follows {A = Unit {0}} (in_process u s (line t) v) s (Err (refusal_for e)) (OneStands (stopped_in b h mem2 row)) in
             let Q : Result Tree BuildStop → Type 0 = λ u. BuildsTerm (o1 s o).processes.test (s.shared ++ bins_of code) y z h.mem mem2 was now (long_bins code) (Err e) u in
@@ -277,7 +277,7 @@ module _ (b : One) (holds : Holds b) (seat : Seat) (x : Sits b seat) (r : Reg) (
 
         pub set-stops : Builds {A = Unit {0}} names seat.pid r code b (stopped_in b h mem2 row) (Err (refusal_for e))
         set-stops = record {
-          holds = holds-become {A = Unit {0}} (memory_words b) (stopped_in b h mem2 row) holds.state (line has.term) (Err (refusal_for e)) stop-counts
+          holds = holds-become {A = Unit {0}} (words_of b) (stopped_in b h mem2 row) holds.state (line has.term) (Err (refusal_for e)) stop-counts
               (stop-becomes holds.state has.term holds.stands has.is);
           becomes = stop-becomes;
           books = record { same_words = leaves.same_len ∙ (stays-roomed n b.halves h ok room).same_len; one_call = omega arith; few_names = omega arith };
@@ -290,7 +290,7 @@ module _ (b : One) (holds : Holds b) (seat : Seat) (x : Sits b seat) (r : Reg) (
           → BuildsTerm c (shared ++ bins_of code) y z h.mem mem2 was now (long_bins code) (Ok w) (outcome names shared trees code))
           (back : z.end + far_words_of code ≡ y.end) where
         -- What was built of the tree of a written term.
-        whole-there : (s : State) (t : Term) (o : OneStands b s) → IsTerm names code t
+        whole-there : (s : State) (t : Term) (o : OneStands b s) → IsWrittenTerm names code t
             → Whole (o1 s o).processes.test (s.shared ++ bins_of code) y z h.mem mem2 was now (long_bins code) w (is_big names (q s o).registers t s.shared) (is_wide names (q s
             o).registers t s.shared)
             ((tree_of names (q s o).registers t s.shared).0)
@@ -302,7 +302,7 @@ module _ (b : One) (holds : Holds b) (seat : Seat) (x : Sits b seat) (r : Reg) (
             (subst Q (term-outcome names (q s o).registers code t s.shared is_term (knows s o)) (builds (o1 s o).processes.test s.shared (q s o).registers (free s o) o.shared (held s o)))
 
         -- The holders and records lie so.
-        laid-there : (s : State) (t : Term) (o : OneStands b s) (is_term : IsTerm names code t)
+        laid-there : (s : State) (t : Term) (o : OneStands b s) (is_term : IsWrittenTerm names code t)
             → Laid (o1 s o).processes.test (whole-there s t o is_term).built.test (s.shared ++ bins_of code) (record { start = h.base; top = h.top; end = h.low }) z h.mem mem2 h.head now.head
             (length s.shared) (long_bins code)
         laid-there s t o is_term =
@@ -404,7 +404,7 @@ module _ (b : One) (holds : Holds b) (seat : Seat) (x : Sits b seat) (r : Reg) (
           same-places : places_in (set h.procs.items seat.row (with_term u r.0 w u.refs)) ≡ places_in h.procs.items
           same-places = omega (arith, places-row h.procs.items seat.row (with_term u r.0 w u.refs) u sits1.within row_is)
 
-          module _ (named : ℕ) (named_is : named ≡ length names) (s : State) (o : OneStands b s) (t : Term) (is_term : IsTerm names code t) where
+          module _ (named : ℕ) (named_is : named ≡ length names) (s : State) (o : OneStands b s) (t : Term) (is_term : IsWrittenTerm names code t) where
             abbrev tree : Tree
             tree = (tree_of names (q s o).registers t s.shared).0
 
@@ -488,7 +488,7 @@ module _ (b : One) (holds : Holds b) (seat : Seat) (x : Sits b seat) (r : Reg) (
                   reached = λ e. absurd (true≢false (sym e));
                 }
 
-            pub set-becomes : Becomes {A = Unit {0}} may_of_tight (memory_words b) s (line t) (Ok tt) (OneStands (after_build named))
+            pub set-becomes : Becomes {A = Unit {0}} may_of_tight (words_of b) s (line t) (Ok tt) (OneStands (after_build named))
             set-becomes =
                 let P : Option Process → Type 0 = λ g. Follows {A = Unit {0}} (in_process g s (line t) v) s (Ok tt) (OneStands (after_build named)) in
                 let S : List (List ℕ) → Type 0 = λ g. OneStands (after_build named) (settled (line t) (record (with_process (with_register r.0 tree (q s o)) s) { shared = g })) in
@@ -524,7 +524,7 @@ module _ (b : One) (holds : Holds b) (seat : Seat) (x : Sits b seat) (r : Reg) (
 
           set-does : (named : ℕ) → named ≡ length names → Builds {A = Unit {0}} names seat.pid r code b (after_build named) (Ok tt)
           set-does named named_is = record {
-            holds = holds-become {A = Unit {0}} (memory_words b) (after_build named) holds.state (line has.term) (Ok tt) (set-counts named)
+            holds = holds-become {A = Unit {0}} (words_of b) (after_build named) holds.state (line has.term) (Ok tt) (set-counts named)
                 (set-becomes named named_is holds.state holds.stands has.term has.is);
             becomes = λ s t o is_term. set-becomes named named_is s o t is_term;
             books = record { same_words = leaves.same_len ∙ (stays-roomed n b.halves h ok room).same_len; one_call = omega arith; few_names = omega (arith, named_is) };

@@ -12,7 +12,7 @@ use Rattle.script_grammar.specs.Written.{Term, Terms}
 use Rattle.script_grammar.specs.Written.Terms.{end, ◌▹◌}
 use Rattle.script_grammar.specs.Grammar.{MayStand, IsBuiltTerm}
 use Rattle.script_grammar.specs.Names.{Parsed, atoms_of, held_terms}
-use Rattle.plain_machine.specs.Made.{tree_of, trees_of}
+use Rattle.plain_machine.specs.Made.{tree_of, trees_of_terms}
 use Rattle.plain_machine.specs.State.{Process as Live, Area, State, HasNames, fresh_process, with_register, with_queued}
 use Rattle.plain_machine.specs.Tightness.{held_trees, living_trees}
 use Rattle.plain_machine.specs.Flaws.{is_wide, is_big, flaw_of}
@@ -265,7 +265,7 @@ pub record Environs (name : ℕ) (terms : Terms) (names : List (List ℕ)) : Typ
 pub fun-proper : (s : State) (p : Parsed) (q : Live) (name arity : ℕ) → Holds p.names s.shared q → Environs name p.terms p.names
     → is_proper p.names s.shared (tree.Fun name arity q.number (env_of s p q)) ≡ true
 fun-proper s p q name arity h e =
-    let P : Terms → Type 0 = λ z. are_proper p.names s.shared ((trees_of p.names q.registers z s.shared).0) ≡ true in
+    let P : Terms → Type 0 = λ z. are_proper p.names s.shared ((trees_of_terms p.names q.registers z s.shared).0) ≡ true in
     and_from (nat_lt name (length p.names)) (are_proper p.names s.shared (env_of s p q))
     (lt-ltb name (length p.names) e.known) (subst P (sym e.written) (held-proper p.names q.registers e.registers s.shared h.registers))
 

@@ -15,8 +15,8 @@ use Rattle.script_grammar.specs.Written.Terms.{end, ◌▹◌}
 use Rattle.script_grammar.specs.Written.TermPairs.{stop, pair}
 use Rattle.script_grammar.specs.Grammar.{MayStand, AllMayStand, PairsMayStand, IsBuiltTerm, AreBuiltTerms, AreBuiltPairs}
 use Rattle.script_grammar.specs.Names.{number_of, atoms_of, atoms_of_all, atoms_of_pairs, held_terms}
-use Rattle.plain_machine.specs.Made.{tree_of, trees_of, pairs_of, bin_tree}
-use Rattle.plain_machine.specs.Flaws.{is_wide, are_wide, are_wide_pairs, has_many_keys, is_big, are_big, are_big_pairs, is_big_key}
+use Rattle.plain_machine.specs.Made.{tree_of, trees_of_terms, trees_of_pairs, bin_tree}
+use Rattle.plain_machine.specs.Flaws.{is_wide, are_wide, are_wide_pairs, has_many_keys, is_big, are_big, are_big_pairs, makes_big_key}
 use Rattle.plain_machine.specs.Laws.{AreProper, AreWithin}
 use Rattle.script_grammar.proofs.Naming.{ArePlaced, number-below}
 use Rattle.plain_machine.proofs.Properly.Growing.{proper-grown, beyond-grown}
@@ -79,24 +79,24 @@ mutual
   made-more names given (Pid k) shared = extends-none shared
   made-more names given (Held r) shared = extends-none shared
   made-more names given (Listed ts) shared = all-made-more names given ts shared
-  made-more names given (Barred ts t) shared = let heads : Trees × List (List ℕ) = trees_of names given ts shared in
+  made-more names given (Barred ts t) shared = let heads : Trees × List (List ℕ) = trees_of_terms names given ts shared in
       extends-then shared (heads.1) ((tree_of names given t (heads.1)).1) (all-made-more names given ts shared) (made-more names given t (heads.1))
   made-more names given (Tuple ts) shared = all-made-more names given ts shared
   made-more names given (Map qs) shared = pairs-made-more names given qs shared
   made-more names given (Bin bytes) shared = bin-more bytes shared
 
-  pub all-made-more : (names : List (List ℕ)) (given : List Tree) (ts : Terms) (shared : List (List ℕ)) → Extends shared ((trees_of names given ts shared).1)
+  pub all-made-more : (names : List (List ℕ)) (given : List Tree) (ts : Terms) (shared : List (List ℕ)) → Extends shared ((trees_of_terms names given ts shared).1)
   all-made-more names given end shared = extends-none shared
   all-made-more names given (t ▹ ts) shared = let first : Tree × List (List ℕ) = tree_of names given t shared in
-      extends-then shared (first.1) ((trees_of names given ts (first.1)).1) (made-more names given t shared) (all-made-more names given ts (first.1))
+      extends-then shared (first.1) ((trees_of_terms names given ts (first.1)).1) (made-more names given t shared) (all-made-more names given ts (first.1))
 
-  pub pairs-made-more : (names : List (List ℕ)) (given : List Tree) (qs : TermPairs) (shared : List (List ℕ)) → Extends shared ((pairs_of names given qs shared).1)
+  pub pairs-made-more : (names : List (List ℕ)) (given : List Tree) (qs : TermPairs) (shared : List (List ℕ)) → Extends shared ((trees_of_pairs names given qs shared).1)
   pairs-made-more names given stop shared = extends-none shared
   pairs-made-more names given (pair k v qs) shared =
       let key : Tree × List (List ℕ) = tree_of names given k shared in
       let value : Tree × List (List ℕ) = tree_of names given v (key.1) in
-      extends-then shared (key.1) ((pairs_of names given qs (value.1)).1) (made-more names given k shared)
-      (extends-then (key.1) (value.1) ((pairs_of names given qs (value.1)).1) (made-more names given v (key.1)) (pairs-made-more names given qs (value.1)))
+      extends-then shared (key.1) ((trees_of_pairs names given qs (value.1)).1) (made-more names given k shared)
+      (extends-then (key.1) (value.1) ((trees_of_pairs names given qs (value.1)).1) (made-more names given v (key.1)) (pairs-made-more names given qs (value.1)))
 
 -- a key that is neither wide nor a big one is within the walk limit
 key-within : (wide beyond : Bool) → (not wide && beyond) ≡ false → wide ≡ false → beyond ≡ false
@@ -150,10 +150,10 @@ module _ (names : List (List ℕ)) where
       made-proper levels (Pid n) before a b m p w g = refl
       made-proper levels (Held r) before a b m p w g = at-proper names before given r a
       made-proper levels (Listed ts) before a b m p w g =
-          let all : Trees × List (List ℕ) = trees_of names given ts before in
+          let all : Trees × List (List ℕ) = trees_of_terms names given ts before in
           list-proper names (all.1) (all.0) tree.Nil (all-made-proper (levels - 1) ts before a b m.1 p w g) refl
       made-proper levels (Barred ts t) before a b m p w g =
-          let heads : Trees × List (List ℕ) = trees_of names given ts before in
+          let heads : Trees × List (List ℕ) = trees_of_terms names given ts before in
           let last : Tree × List (List ℕ) = tree_of names given t (heads.1) in
           let x = or_parts (are_wide names given ts before) (is_wide names given t (heads.1)) w in
           let y = or_parts (are_big names given ts before) (is_big names given t (heads.1)) g in
@@ -164,7 +164,7 @@ module _ (names : List (List ℕ)) where
           (numbers-back names (atoms_of_all ts) (atoms_of t) p) x.1 y.1)
       made-proper levels (Tuple ts) before a b m p w g = all-made-proper (levels - 1) ts before a b m.1 p w g
       made-proper levels (Map qs) before a b m p w g =
-          let all : Pairs × List (List ℕ) = pairs_of names given qs before in
+          let all : Pairs × List (List ℕ) = trees_of_pairs names given qs before in
           let x = or_parts (has_many_keys names given qs before) (are_wide_pairs names given qs before) w in
           map-proper names (all.1) (in_order names (all.1) (all.0)) x.0
           (in-order-rises names (all.1) (all.0))
@@ -172,11 +172,12 @@ module _ (names : List (List ℕ)) where
       made-proper levels (Bin bytes) before a b m p w g = bin-proper bytes before (written-bytes bytes m.1)
 
       pub all-made-proper : (levels : ℕ) (ts : Terms) (before : List (List ℕ)) → AreProper names before given → AreBuiltTerms ts → AllMayStand levels ts → HaveNumbers names (atoms_of_all ts)
-          → are_wide names given ts before ≡ false → are_big names given ts before ≡ false → are_proper names ((trees_of names given ts before).1) ((trees_of names given ts before).0) ≡ true
+          → are_wide names given ts before ≡ false → are_big names given ts before ≡ false → are_proper names ((trees_of_terms names given ts before).1) ((trees_of_terms names given ts before).0)
+          ≡ true
       all-made-proper levels end before a b m p w g = refl
       all-made-proper levels (t ▹ ts) before a b m p w g =
           let first : Tree × List (List ℕ) = tree_of names given t before in
-          let others : Trees × List (List ℕ) = trees_of names given ts (first.1) in
+          let others : Trees × List (List ℕ) = trees_of_terms names given ts (first.1) in
           let x = or_parts (is_wide names given t before) (are_wide names given ts (first.1)) w in
           let y = or_parts (is_big names given t before) (are_big names given ts (first.1)) g in
           and_from (is_proper names (others.1) (first.0)) (are_proper names (others.1) (others.0))
@@ -187,16 +188,16 @@ module _ (names : List (List ℕ)) where
 
       pub pairs-made-proper : (levels : ℕ) (qs : TermPairs) (before : List (List ℕ)) → AreProper names before given → AreBuiltPairs qs → PairsMayStand levels qs → HaveNumbers names (atoms_of_pairs qs)
           → are_wide_pairs names given qs before ≡ false → are_big_pairs names given qs before ≡ false
-          → are_proper_pairs names ((pairs_of names given qs before).1) ((pairs_of names given qs before).0) ≡ true
+          → are_proper_pairs names ((trees_of_pairs names given qs before).1) ((trees_of_pairs names given qs before).0) ≡ true
       pairs-made-proper levels stop before a b m p w g = refl
       pairs-made-proper levels (pair k v qs) before a b m p w g =
           let key : Tree × List (List ℕ) = tree_of names given k before in
           let value : Tree × List (List ℕ) = tree_of names given v (key.1) in
-          let others : Pairs × List (List ℕ) = pairs_of names given qs (value.1) in
+          let others : Pairs × List (List ℕ) = trees_of_pairs names given qs (value.1) in
           let later = numbers-back names (atoms_of k) (atoms_of v ++ atoms_of_pairs qs) p in
           let x = or_parts (is_wide names given k before) (is_wide names given v (key.1) || are_wide_pairs names given qs (value.1)) w in
           let xx = or_parts (is_wide names given v (key.1)) (are_wide_pairs names given qs (value.1)) x.1 in
-          let y = or_parts (is_big_key names given k before) (is_big names given k before || (is_big names given v (key.1) || are_big_pairs names given qs (value.1))) g in
+          let y = or_parts (makes_big_key names given k before) (is_big names given k before || (is_big names given v (key.1) || are_big_pairs names given qs (value.1))) g in
           let yy = or_parts (is_big names given k before) (is_big names given v (key.1) || are_big_pairs names given qs (value.1)) y.1 in
           let yyy = or_parts (is_big names given v (key.1)) (are_big_pairs names given qs (value.1)) yy.1 in
           let rest : Extends (value.1) (others.1) = pairs-made-more names given qs (value.1) in
@@ -214,7 +215,7 @@ module _ (names : List (List ℕ)) where
           (numbers-back names (atoms_of v) (atoms_of_pairs qs) later) xx.1 yyy.1)
 
     -- the trees of registers that are written as an environment
-    pub held-proper : (rs : List ℕ) (shared : List (List ℕ)) → AreProper names shared given → are_proper names shared ((trees_of names given (held_terms rs) shared).0) ≡ true
+    pub held-proper : (rs : List ℕ) (shared : List (List ℕ)) → AreProper names shared given → are_proper names shared ((trees_of_terms names given (held_terms rs) shared).0) ≡ true
     held-proper [] shared a = refl
-    held-proper (r ∷ rs) shared a = and_from (is_proper names shared (get_or given r tree.Nil)) (are_proper names shared ((trees_of names given (held_terms rs) shared).0))
+    held-proper (r ∷ rs) shared a = and_from (is_proper names shared (get_or given r tree.Nil)) (are_proper names shared ((trees_of_terms names given (held_terms rs) shared).0))
         (at-proper names shared given r a) (held-proper rs shared a)

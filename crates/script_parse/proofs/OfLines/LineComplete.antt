@@ -23,8 +23,8 @@ use Rattle.script_grammar.specs.declared.command.Depth.TheVariants.{Minor, Major
 use Rattle.script_grammar.specs.declared.command.Command.TheVariants as command
 use Rattle.script_grammar.specs.declared.command.Verb.{Verb}
 use Rattle.script_grammar.specs.declared.command.SysVerb.{SysVerb}
-use Rattle.script_parse.specs.Output.{Out, push, put, put_name, named}
-use Rattle.script_parse.specs.Reading.{then_read, after_blanks, gap_at, number_at, is_solid, word_at, after_word, is_silent, atom_at, receiver_at, title_at, extent_at, held_at, held_run, spaced_at, operand_at, operands_at, Row, row, row_run, row_of, sys_row_of, process_run, system_run, line_run, term_run}
+use Rattle.script_parse.specs.Output.{Out, push, put, put_name, entered_number}
+use Rattle.script_parse.specs.Reading.{then_read, after_blanks, gap_at, number_at, is_solid, word_at, after_word, is_silent, atom_at, receiver_at, title_at, extent_at, held_at, held_run, spaced_at, operand_at, operands_at, VerbRow, row, row_run, row_of, sys_row_of, process_run, system_run, line_run, term_run}
 use Rattle.script_parse.proofs.Stepwise.Tools.{not-blank, apart, false-not}
 use Rattle.script_parse.proofs.Stepwise.Tools.{unequal}
 use Rattle.script_parse.proofs.Stepwise.GapSteps.{Gap, gap-found, Token, token, Stops, Divides, stops, blank-end}
@@ -190,7 +190,7 @@ operand-stands Receiver x ps line o d w a b l = let f : Fronts receiver_at x ps 
 operand-stands Extent x ps line o d w a b l = let f : Fronts extent_at x ps line = extent-fronts x ps line l in
     record { argument = x; rest = f.rest; after = o; read = rw (f.gap, f.read) refl; lies = f.lies }
 operand-stands Title x ps line o d w a b l = let f : Fronts title_at x ps line = title-fronts x ps line a d l in
-    record { argument = named o x; rest = f.rest; after = put_name o x; read = rw (f.gap, f.read) refl; lies = f.lies }
+    record { argument = entered_number o x; rest = f.rest; after = put_name o x; read = rw (f.gap, f.read) refl; lies = f.lies }
 operand-stands Environment rs ps line o d w a b l = let P : List Piece → Type 0 = λ z. Lies (held_pieces rs z) line in
     let Q : List Piece → Type 0 = λ z. Lies z ((held_run MOST_HELD line o).0) in
     record {
@@ -286,7 +286,8 @@ word-stands (b ∷ text) ps line w d (gap, t, rest, g, s, e, l) =
     record { word = rw k.front (f.0); lies = rw (k.front, f.1) k.lies }
 
 -- A verb and its operands are read after a blank, by a table of texts, of rows and of what is built.
-spoken-any : {W V : Type 0} (text : W → List ℕ) (ks : List Kind) (made : Arguments ks → V) (built : W → Bool) (all : List W) (rows : W → Row V) (w : W) (ops : Operands ks) (line : List ℕ) (o : Out)
+spoken-any : {W V : Type 0} (text : W → List ℕ) (ks : List Kind) (made : Arguments ks → V) (built : W → Bool) (all : List W) (rows : W → VerbRow V) (w : W) (ops : Operands ks) (line : List ℕ)
+    (o : Out)
     → find (λ x. bytes_eq (text w) (text x)) all ≡ Some w → is_word (text w) ≡ true → rows w ≡ row ks made → IsRow ks → built w ≡ true → AreOperands ks ops → AreBuiltOperands ks ops
     → Lies (Space ∷ Text (text w) ∷ operands_pieces ks ops) line
     → Any (then_read (gap_at line) (λ rest. then_read (find (λ x. bytes_eq (word_at (after_blanks rest)) (text x)) all)

@@ -23,8 +23,8 @@ use Rattle.script_grammar.specs.declared.command.Command.{Command}
 use Rattle.script_grammar.specs.declared.command.Command.TheVariants as command
 use Rattle.script_grammar.specs.declared.command.Verb.{Verb}
 use Rattle.script_grammar.specs.declared.command.SysVerb.{SysVerb}
-use Rattle.script_parse.specs.Output.{Out, push, put, put_name, named}
-use Rattle.script_parse.specs.Reading.{then_read, after_blanks, gap_at, byte_at, text_at, number_at, is_solid, word_at, after_word, is_end, is_silent, spaced_at, receiver_at, title_at, extent_at, plain_run, title_run, held_at, held_run, body_run, term_run, operand_at, operands_at, Row, row, row_run, row_of, sys_row_of, process_run, system_run, command_run, line_run}
+use Rattle.script_parse.specs.Output.{Out, push, put, put_name, entered_number}
+use Rattle.script_parse.specs.Reading.{then_read, after_blanks, gap_at, byte_at, text_at, number_at, is_solid, word_at, after_word, are_blanks, is_silent, spaced_at, receiver_at, title_at, extent_at, plain_run, title_run, held_at, held_run, body_run, term_run, operand_at, operands_at, VerbRow, row, row_run, row_of, sys_row_of, process_run, system_run, command_run, line_run}
 use Rattle.script_parse.proofs.Stepwise.Tools.{chosen, read-some, found-cases, inside, both}
 use Rattle.script_parse.proofs.Stepwise.GapSteps.{lies, gap-lies, end-blank}
 use Rattle.script_parse.proofs.Stepwise.NumberSteps.{Counted, number-read, byte-read, text-read}
@@ -138,24 +138,24 @@ title-named a (b ∷ bytes) rest h = elim (chosen (is_small_letter b) h) [
   | inr e ↦ let none : None ≡ Some (a, rest) = e.1 in cc
 ]
 
-named-step : (o : Out) (a : List ℕ) (t : Bool) → nat_le (length (with_name o.names a)) most_names ≡ t → (put_name o a).full ≡ false → named o a ≡ number_of (with_name o.names a) a
+named-step : (o : Out) (a : List ℕ) (t : Bool) → nat_le (length (with_name o.names a)) most_names ≡ t → (put_name o a).full ≡ false → entered_number o a ≡ number_of (with_name o.names a) a
 named-step o a true e c = rw e refl
 named-step o a false e c = let full : true ≡ false = rw e at c in cc
 
-title-argument : (o : Out) (a : List ℕ) → (put_name o a).full ≡ false → (more : List (List ℕ)) → named o a ≡ number_of ((put_name o a).names ++ more) a
+title-argument : (o : Out) (a : List ℕ) → (put_name o a).full ≡ false → (more : List (List ℕ)) → entered_number o a ≡ number_of ((put_name o a).names ++ more) a
 title-argument o a c more = let same : (put_name o a).names ≡ with_name o.names a = (name-put o a).names c in
     named-step o a (nat_le (length (with_name o.names a)) most_names) refl c ∙ sym (ap (λ (z : List (List ℕ)). number_of (z ++ more) a) same ∙ number-stays o.names more a)
 
 title-read : (line : List ℕ) (o : Out) (n : ℕ) (rest : List ℕ) (p : Out) → title_run line o ≡ Some (n, (rest, p)) → Operand Title line o n rest p
 title-read line o n rest p h =
-    let f : (x : List ℕ × List ℕ) × (spaced_at title_at line ≡ Some x) × (Some (named o (x.0), (x.1, put_name o (x.0))) ≡ Some (n, (rest, p)))
-    = read-some (spaced_at title_at line) (λ r. Some (named o (r.0), (r.1, put_name o (r.0)))) h in
-    let j : (named o (f.0.0) ≡ n) × ((f.0.1, put_name o (f.0.0)) ≡ (rest, p)) = both (f.2) in
+    let f : (x : List ℕ × List ℕ) × (spaced_at title_at line ≡ Some x) × (Some (entered_number o (x.0), (x.1, put_name o (x.0))) ≡ Some (n, (rest, p)))
+    = read-some (spaced_at title_at line) (λ r. Some (entered_number o (r.0), (r.1, put_name o (r.0)))) h in
+    let j : (entered_number o (f.0.0) ≡ n) × ((f.0.1, put_name o (f.0.0)) ≡ (rest, p)) = both (f.2) in
     let g : (x : List ℕ) × (gap_at line ≡ Some x) × (title_at (after_blanks x) ≡ Some (f.0)) = read-some (gap_at line) (λ z. title_at (after_blanks z)) (f.1) in
     let m : Named (f.0.0) (after_blanks (g.0)) (f.0.1) = title-named (f.0.0) (after_blanks (g.0)) (f.0.1) (g.2) in
     let s : Spaced (Text (f.0.0)) line (f.0.1) = spaced-read (Text (f.0.0)) line (g.0) (f.0.1) (g.1) (record { text = f.0.0; whole = m.whole; spells = refl }) in
     let P : ℕ → Type 0 = λ z. Operand Title line o z rest p in
-    let Q : List ℕ × Out → Type 0 = λ z. Operand Title line o (named o (f.0.0)) (z.0) (z.1) in
+    let Q : List ℕ × Out → Type 0 = λ z. Operand Title line o (entered_number o (f.0.0)) (z.0) (z.1) in
     subst P (j.0) (subst Q (j.1) (record { operand = f.0.0; allowed = m.is_name; built = tt; is = title-argument o (f.0.0); put = name-put o (f.0.0); lies = s.lies }))
 
 number-step : (limit n : ℕ) (line : List ℕ) (o : Out) (rest : List ℕ) (p : Out) → 9 ≤ limit → Plain (number_at limit) line o n rest p → (n ≤ limit) × Spaced (Number n) line rest
@@ -242,8 +242,8 @@ pub record Operated (ks : List Kind) (line : List ℕ) (o : Out) (args : Argumen
   pub put : Put o (operands_atoms ks operands) (λ names. all_items names (operands_terms ks operands)) p
   pub lies : Lies (operands_pieces ks operands) line
 
-end-step : {A : Type 0} (line : List ℕ) (x y : A) → cond (is_end line) (Some x) None ≡ Some y → (is_end line ≡ true) × (x ≡ y)
-end-step line x y h = elim (chosen (is_end line) h) [ inl e ↦ (e.0, inside (e.1)) | inr e ↦ let none : None ≡ Some y = e.1 in cc ]
+end-step : {A : Type 0} (line : List ℕ) (x y : A) → cond (are_blanks line) (Some x) None ≡ Some y → (are_blanks line ≡ true) × (x ≡ y)
+end-step line x y h = elim (chosen (are_blanks line) h) [ inl e ↦ (e.0, inside (e.1)) | inr e ↦ let none : None ≡ Some y = e.1 in cc ]
 
 pub pair-same : {A B : Type 0} (a b : A) (c d : B) → a ≡ b → c ≡ d → ◌≡◌ {A = A × B} (a, c) (b, d)
 pair-same {A} {B} a b c d e f = let x : ◌≡◌ {A = A × B} (a, c) (b, c) = ap (λ (z : A). (z, c)) e in
@@ -274,7 +274,7 @@ operands-then k ks line mid o q p a args x y = record {
 
 -- Operands that are read are in the grammar.
 pub operands-read : (ks : List Kind) (line : List ℕ) (o : Out) (args : Arguments ks) (p : Out) → operands_at ks line o ≡ Some (args, p) → Operated ks line o args p
-operands-read [] line o args p h = let f : (is_end line ≡ true) × ((tt, o) ≡ (args, p)) = end-step line (tt, o) (args, p) h in
+operands-read [] line o args p h = let f : (are_blanks line ≡ true) × ((tt, o) ≡ (args, p)) = end-step line (tt, o) (args, p) h in
     let last : o ≡ p = ap (λ (z : Unit {0} × Out). z.1) (f.1) in
     record { operands = tt; allowed = tt; built = tt; are = λ c more. refl; put = none-put o p last; lies = end-blank line (f.0) }
 operands-read (k ∷ ks) line o args p h =
@@ -289,12 +289,12 @@ operands-read (k ∷ ks) line o args p h =
     (operand-read k line o (f.0.0) (f.0.1.0) (f.0.1.1) (f.1)) (operands-read ks (f.0.1.0) (f.0.1.1) (g.0.0) (g.0.1) (g.1))))
 
 -- The operands of a row, and what came of them.
-pub record Made {V : Type 0} (r : Row V) (line : List ℕ) (o : Out) (v : V) (p : Out) : Type 0 where
+pub record Made {V : Type 0} (r : VerbRow V) (line : List ℕ) (o : Out) (v : V) (p : Out) : Type 0 where
   pub arguments : Arguments r.kinds
   pub operated : Operated r.kinds line o arguments p
   pub is : v ≡ r.made arguments
 
-row-read : {V : Type 0} (r : Row V) (line : List ℕ) (o : Out) (v : V) (p : Out) → row_run r line o ≡ Some (v, p) → Made r line o v p
+row-read : {V : Type 0} (r : VerbRow V) (line : List ℕ) (o : Out) (v : V) (p : Out) → row_run r line o ≡ Some (v, p) → Made r line o v p
 unfolding row_run
 row-read r line o v p h =
     let f : (x : Arguments r.kinds × Out) × (operands_at r.kinds line o ≡ Some x) × (Some (r.made (x.0), x.1) ≡ Some (v, p))
@@ -334,7 +334,7 @@ spoken-word text kinds with built line start o v p w g t b m = record {
       (lies (Text (text w)) (operands_pieces (kinds w) m.operated.operands) start (text w) (after_word (after_blanks start)) (cut (after_blanks start) (text w) t) refl m.operated.lies);
 }
 
-spoken : {W V : Type 0} (text : W → List ℕ) (kinds : W → List Kind) (with : (w : W) → Arguments (kinds w) → V) (built : W → Bool) (all : List W) (rows : W → Row V)
+spoken : {W V : Type 0} (text : W → List ℕ) (kinds : W → List Kind) (with : (w : W) → Arguments (kinds w) → V) (built : W → Bool) (all : List W) (rows : W → VerbRow V)
     → ((w : W) → rows w ≡ row (kinds w) (with w)) → (line : List ℕ) (o : Out) (v : V) (p : Out)
     → then_read (gap_at line) (λ rest. then_read (find (λ w. bytes_eq (word_at (after_blanks rest)) (text w)) all)
     (λ w. cond (built w) (row_run (rows w) (after_word (after_blanks rest)) o) None)) ≡ Some (v, p)
@@ -347,7 +347,7 @@ spoken {W} {V} text kinds with built all rows same line o v p h =
     let g : (w : W) × (find (λ w. bytes_eq (word_at (after_blanks (f.0))) (text w)) all ≡ Some w) × (cond (built w) (row_run (rows w) (after_word (after_blanks (f.0))) o) None ≡ Some (v, p))
     = read-some (find (λ w. bytes_eq (word_at (after_blanks (f.0))) (text w)) all) (λ w. cond (built w) (row_run (rows w) (after_word (after_blanks (f.0))) o) None) (f.2) in
     elim (chosen (built (g.0)) (g.2)) [
-      | inl e ↦ let P : Row V → Type 0 = λ z. row_run z (after_word (after_blanks (f.0))) o ≡ Some (v, p) in
+      | inl e ↦ let P : VerbRow V → Type 0 = λ z. row_run z (after_word (after_blanks (f.0))) o ≡ Some (v, p) in
           spoken-word text kinds with built line (f.0) o v p (g.0) (f.1) (found-text text all (word_at (after_blanks (f.0))) (g.0) (g.1)) (e.0)
           (row-read (row (kinds (g.0)) (with (g.0))) (after_word (after_blanks (f.0))) o v p (subst P (same (g.0)) (e.1)))
       | inr e ↦ let none : None ≡ Some (v, p) = e.1 in cc

@@ -7,10 +7,10 @@ use Rattle.plain_term.specs.declared.item.Item.{Item}
 use Rattle.script_grammar.specs.Written.{Written, Terms}
 use Rattle.script_grammar.specs.Grammar.{IsBuiltCommand}
 use Rattle.script_grammar.specs.Names.{Parsed, names_after, command_of, terms_of, all_items, IsInBounds}
-use Rattle.script_grammar.specs.ReadAs.{IsOutside, BringsTooMany}
+use Rattle.script_grammar.specs.ReadAs.{SaysNoCommand, BringsTooMany}
 use Rattle.script_grammar.specs.declared.command.Command.{Command}
 use Rattle.script_grammar.proofs.Commands.{command-built, command-bounded}
-use Rattle.script_parse.specs.Output.{Out, out, Keeps}
+use Rattle.script_parse.specs.Output.{Out, out, NamesStay}
 use Rattle.script_parse.specs.Parses.{ReadsLine}
 use Rattle.script_parse.specs.Reading.{line_run}
 use Rattle.script_parse.proofs.Stepwise.Tools.{none-some}
@@ -57,11 +57,11 @@ over line names c after full code h e = let r : LineRead line (out names false [
     record { written = r.written; says = r.says; built = r.built; many = r.put.over refl e }
 
 -- A line that was not read.
-pub refused : (line : List ℕ) (o : Out) → line_run line o ≡ None → IsOutside line
+pub refused : (line : List ℕ) (o : Out) → line_run line o ≡ None → SaysNoCommand line
 refused line o h w s b = let r : (x : Command × Out) × (line_run line o ≡ Some x) = line-any line w o s b in
     let none : None ≡ Some (r.0) = sym h ∙ r.1 in none-some none
 
 -- The names that were there before are back.
-pub back : (old mid new : List (List ℕ)) (n : ℕ) → n ≡ length old → Keeps old mid → new ≡ take n mid → new ≡ old
+pub back : (old mid new : List (List ℕ)) (n : ℕ) → n ≡ length old → NamesStay old mid → new ≡ take n mid → new ≡ old
 back old mid new n e k f = let kept : take (length old) mid ≡ take (length old) old = k.same (length old) (omega arith) in
     f ∙ (ap (λ (z : ℕ). take z mid) e ∙ (kept ∙ take-length old))

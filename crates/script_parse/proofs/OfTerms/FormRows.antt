@@ -1,7 +1,7 @@
 -- What holds of each row of the table of forms in brackets: its parts, the term that they make, and its marks.
 use Rattle.std.proofs.Common.{◌≡◌, ℕ, zero, suc, ◌-◌, ◌<◌, ◌⊎◌, Bool, true, List, [], ◌∷◌, ◌++◌, length, Option, Some, None, codes, refl, ◌∙◌, ap, inl, inr, arith}
 use Rattle.plain_term.specs.declared.item.Item.TheVariants as item
-use Rattle.script_grammar.specs.Written.{Term, Terms, TermPairs, terms_len, pairs_len}
+use Rattle.script_grammar.specs.Written.{Term, Terms, TermPairs, terms_len, term_pairs_len}
 use Rattle.script_grammar.specs.Written.Term.{Int, Atom, Pid, Held, Listed, Barred, Tuple, Map, Bin}
 use Rattle.script_grammar.specs.Written.Terms.{end, ◌▹◌}
 use Rattle.script_grammar.specs.Written.TermPairs.{stop, pair}
@@ -10,7 +10,7 @@ use Rattle.script_grammar.specs.Grammar.Piece.{Text, Number}
 use Rattle.script_parse.specs.declared.forms.Form.{Form}
 use Rattle.script_parse.specs.declared.forms.Form.TheVariants as form
 use Rattle.script_parse.specs.Forms.{all_forms, opening, closing, has_tail}
-use Rattle.script_parse.specs.Output.{Out, push, begun, led, ended, put, put_all, put_pairs, put_bytes}
+use Rattle.script_parse.specs.Output.{Out, push, begun, led, ended, put, put_terms, put_pairs, put_bytes}
 use Rattle.script_parse.specs.Reading.{text_at, form_in}
 use Rattle.script_parse.proofs.Stepwise.Tools.{found-cases, both, false-not, far_from, IsNone, none-of}
 use Rattle.script_parse.proofs.Stepwise.GapSteps.{Divides}
@@ -123,7 +123,7 @@ terms-count : (ts : List Term) → terms_len (terms_from ts) ≡ length ts
 terms-count [] = refl
 terms-count (t ∷ ts) = omega (arith, terms-count ts)
 
-terms-put : (f : Form) (ts : List Term) (o : Out) → put_all f (terms_from ts) o ≡ put_each (λ t o. put t (led f o)) ts o
+terms-put : (f : Form) (ts : List Term) (o : Out) → put_terms f (terms_from ts) o ≡ put_each (λ t o. put t (led f o)) ts o
 terms-put f [] o = refl
 terms-put f (t ∷ ts) o = terms-put f ts (put t (led f o))
 
@@ -147,7 +147,7 @@ pairs-written : (qs : List (Term × Term)) (ps : List Piece) → pairs_pieces (p
 pairs-written [] ps = refl
 pairs-written (q ∷ qs) ps = ap (λ (z : List Piece). pair_pieces q z) (pairs-more qs ps)
 
-pairs-count : (qs : List (Term × Term)) → pairs_len (pairs_from qs) ≡ length qs
+pairs-count : (qs : List (Term × Term)) → term_pairs_len (pairs_from qs) ≡ length qs
 pairs-count [] = refl
 pairs-count (q ∷ qs) = omega (arith, pairs-count qs)
 
@@ -218,7 +218,7 @@ pub made-put : (f : Form) (xs : List (PartOf f)) (e : Option Term) (o : Out) →
     → put (made f xs e) o ≡ end_put f e (length o.items) (length xs) (put_each (part_put f) xs (begun f o))
 made-put form.List xs None o c = ap (λ (z : Out). ended form.List (length o.items) (length xs) z) (terms-put form.List xs (begun form.List o))
 made-put form.List xs (Some t) o c = ap (λ (z : Out). put t z) (terms-put form.List xs (begun form.List o))
-made-put form.Tuple xs None o c = ap (λ (z : ℕ). ended form.Tuple (length o.items) z (put_all form.Tuple (terms_from xs) (begun form.Tuple o))) (terms-count xs)
+made-put form.Tuple xs None o c = ap (λ (z : ℕ). ended form.Tuple (length o.items) z (put_terms form.Tuple (terms_from xs) (begun form.Tuple o))) (terms-count xs)
     ∙ ap (λ (z : Out). ended form.Tuple (length o.items) (length xs) z) (terms-put form.Tuple xs (begun form.Tuple o))
 made-put form.Tuple xs (Some t) o c = absurd (false-not c)
 made-put form.Map xs None o c = ap (λ (z : ℕ). ended form.Map (length o.items) z (put_pairs (pairs_from xs) (begun form.Map o))) (pairs-count xs)

@@ -6,7 +6,7 @@ use Rattle.std.proofs.Math.Seq.{set-append_seam}
 use Rattle.atom_names.specs.Names.{index_of, most_names, with_name}
 use Rattle.plain_term.specs.declared.item.Item.{Item}
 use Rattle.plain_term.specs.declared.item.Item.TheVariants as item
-use Rattle.script_grammar.specs.Written.{Term, Terms, TermPairs, terms_len, pairs_len}
+use Rattle.script_grammar.specs.Written.{Term, Terms, TermPairs, terms_len, term_pairs_len}
 use Rattle.script_grammar.specs.Written.Term.{Int, Atom, Pid, Held, Listed, Barred, Tuple, Map, Bin}
 use Rattle.script_grammar.specs.Written.Terms.{end, ◌▹◌}
 use Rattle.script_grammar.specs.Written.TermPairs.{stop, pair}
@@ -15,7 +15,7 @@ use Rattle.script_grammar.specs.Names.{number_of, with_names, atoms_of, atoms_of
 use Rattle.atom_names.proofs.Places.{index_of-append, index_of-push}
 use Rattle.script_parse.specs.declared.forms.Form.{Form}
 use Rattle.script_parse.specs.declared.forms.Form.TheVariants as form
-use Rattle.script_parse.specs.Output.{Out, out, push, led_items, led, put_at, put_atom, put_name, put, put_all, put_pairs, put_bytes}
+use Rattle.script_parse.specs.Output.{Out, out, push, led_items, led, put_at, put_atom, put_name, put, put_terms, put_pairs, put_bytes}
 
 -- The names and items that came, so long as each name found a place.
 pub record Put (o : Out) (atoms : List (List ℕ)) (its : List (List ℕ) → List Item) (p : Out) : Type 0 where
@@ -178,34 +178,34 @@ mutual
   term-put (Atom a) o b = atom-step o a (nat_le (length (with_name o.names a)) most_names) refl
   term-put (Pid n) o b = put-item o (item.Pid n)
   term-put (Held r) o b = put-item o (item.Held r)
-  term-put (Listed ts) o b = as-atoms o (push (put_all form.List ts o) item.Nil) (atoms_of_all ts ++ []) (atoms_of_all ts) (λ names. listed_items names ts (item.Nil ∷ []))
+  term-put (Listed ts) o b = as-atoms o (push (put_terms form.List ts o) item.Nil) (atoms_of_all ts ++ []) (atoms_of_all ts) (λ names. listed_items names ts (item.Nil ∷ []))
       (append-nil (atoms_of_all ts))
-      (as-items o (push (put_all form.List ts o) item.Nil) (atoms_of_all ts ++ []) (λ names. part_items form.List ts names ++ item.Nil ∷ []) (λ names. listed_items names ts (item.Nil ∷ []))
+      (as-items o (push (put_terms form.List ts o) item.Nil) (atoms_of_all ts ++ []) (λ names. part_items form.List ts names ++ item.Nil ∷ []) (λ names. listed_items names ts (item.Nil ∷ []))
       (λ names. list-items ts names (item.Nil ∷ []))
-      (put-then o (put_all form.List ts o) (push (put_all form.List ts o) item.Nil) (atoms_of_all ts) [] (part_items form.List ts) (λ names. item.Nil ∷ []) (all-put ts form.List o b)
-      (put-item (put_all form.List ts o) item.Nil)))
-  term-put (Barred ts t) o b = as-items o (put t (put_all form.List ts o)) (atoms_of_all ts ++ atoms_of t) (λ names. part_items form.List ts names ++ items_of names t)
+      (put-then o (put_terms form.List ts o) (push (put_terms form.List ts o) item.Nil) (atoms_of_all ts) [] (part_items form.List ts) (λ names. item.Nil ∷ []) (all-put ts form.List o b)
+      (put-item (put_terms form.List ts o) item.Nil)))
+  term-put (Barred ts t) o b = as-items o (put t (put_terms form.List ts o)) (atoms_of_all ts ++ atoms_of t) (λ names. part_items form.List ts names ++ items_of names t)
       (λ names. listed_items names ts (items_of names t)) (λ names. list-items ts names (items_of names t))
-      (put-then o (put_all form.List ts o) (put t (put_all form.List ts o)) (atoms_of_all ts) (atoms_of t) (part_items form.List ts) (λ names. items_of names t) (all-put ts form.List o (b.0))
-      (term-put t (put_all form.List ts o) (b.1)))
+      (put-then o (put_terms form.List ts o) (put t (put_terms form.List ts o)) (atoms_of_all ts) (atoms_of t) (part_items form.List ts) (λ names. items_of names t) (all-put ts form.List o (b.0))
+      (term-put t (put_terms form.List ts o) (b.1)))
   term-put (Tuple ts) o b = as-items o (put (Tuple ts) o) (atoms_of_all ts) (λ names. item.Tuple (terms_len ts) ∷ part_items form.Tuple ts names)
       (λ names. item.Tuple (terms_len ts) ∷ all_items names ts)
       (λ names. ap (λ (z : List Item). item.Tuple (terms_len ts) ∷ z) (tuple-items ts names))
-      (counted o (put_all form.Tuple ts (push o (item.Tuple 0))) (item.Tuple 0) (item.Tuple (terms_len ts)) (atoms_of_all ts) (part_items form.Tuple ts)
-      (put-then o (push o (item.Tuple 0)) (put_all form.Tuple ts (push o (item.Tuple 0))) [] (atoms_of_all ts) (λ names. item.Tuple 0 ∷ []) (part_items form.Tuple ts) (put-item o (item.Tuple 0))
+      (counted o (put_terms form.Tuple ts (push o (item.Tuple 0))) (item.Tuple 0) (item.Tuple (terms_len ts)) (atoms_of_all ts) (part_items form.Tuple ts)
+      (put-then o (push o (item.Tuple 0)) (put_terms form.Tuple ts (push o (item.Tuple 0))) [] (atoms_of_all ts) (λ names. item.Tuple 0 ∷ []) (part_items form.Tuple ts) (put-item o (item.Tuple 0))
       (all-put ts form.Tuple (push o (item.Tuple 0)) b)))
-  term-put (Map qs) o b = counted o (put_pairs qs (push o (item.Map 0))) (item.Map 0) (item.Map (pairs_len qs)) (atoms_of_pairs qs) (λ names. pairs_items names qs)
+  term-put (Map qs) o b = counted o (put_pairs qs (push o (item.Map 0))) (item.Map 0) (item.Map (term_pairs_len qs)) (atoms_of_pairs qs) (λ names. pairs_items names qs)
       (put-then o (push o (item.Map 0)) (put_pairs qs (push o (item.Map 0))) [] (atoms_of_pairs qs) (λ names. item.Map 0 ∷ []) (λ names. pairs_items names qs) (put-item o (item.Map 0))
       (pairs-put qs (push o (item.Map 0)) b))
   term-put (Bin bytes) o b = counted o (put_bytes bytes (push o (item.Bin 0))) (item.Bin 0) (item.Bin (length bytes)) [] (λ names. map item.Byte bytes)
       (put-then o (push o (item.Bin 0)) (put_bytes bytes (push o (item.Bin 0))) [] [] (λ names. item.Bin 0 ∷ []) (λ names. map item.Byte bytes) (put-item o (item.Bin 0))
       (bytes-put bytes (push o (item.Bin 0))))
 
-  pub all-put : (ts : Terms) (f : Form) (o : Out) → AreBuiltTerms ts → Put o (atoms_of_all ts) (part_items f ts) (put_all f ts o)
+  pub all-put : (ts : Terms) (f : Form) (o : Out) → AreBuiltTerms ts → Put o (atoms_of_all ts) (part_items f ts) (put_terms f ts o)
   all-put end f o b = put-none o
-  all-put (t ▹ ts) f o b = put-then o (led f o) (put_all f ts (put t (led f o))) [] (atoms_of t ++ atoms_of_all ts) (λ names. led_items f []) (λ names. items_of names t ++ part_items f ts names)
+  all-put (t ▹ ts) f o b = put-then o (led f o) (put_terms f ts (put t (led f o))) [] (atoms_of t ++ atoms_of_all ts) (λ names. led_items f []) (λ names. items_of names t ++ part_items f ts names)
       (led-put f o)
-      (put-then (led f o) (put t (led f o)) (put_all f ts (put t (led f o))) (atoms_of t) (atoms_of_all ts) (λ names. items_of names t) (part_items f ts)
+      (put-then (led f o) (put t (led f o)) (put_terms f ts (put t (led f o))) (atoms_of t) (atoms_of_all ts) (λ names. items_of names t) (part_items f ts)
       (term-put t (led f o) (b.0)) (all-put ts f (put t (led f o)) (b.1)))
 
   pub pairs-put : (qs : TermPairs) (o : Out) → AreBuiltPairs qs → Put o (atoms_of_pairs qs) (λ names. pairs_items names qs) (put_pairs qs o)

@@ -2,7 +2,7 @@
 use Rattle.std.proofs.Common.{◌≡◌, ℕ, ◌<◌, Bool, true, false, List, [], ◌∷◌, ◌++◌, length, Some, None, refl, sym, ◌∙◌, ap, subst, arith, append_assoc, length-append}
 use Rattle.script_grammar.specs.Grammar.{is_blank, is_name_byte, AreAll, Piece, Spells, Lies}
 use Rattle.script_grammar.specs.Grammar.Piece.{Space, Text, Number, Whole, Process, Register}
-use Rattle.script_parse.specs.Reading.{after_blanks, gap_at, is_end}
+use Rattle.script_parse.specs.Reading.{after_blanks, gap_at, are_blanks}
 use Rattle.script_parse.proofs.Stepwise.Tools.{inside, blank-not, both-true}
 
 pub blanks-pass : (gap rest : List ℕ) → AreAll is_blank gap → after_blanks (gap ++ rest) ≡ after_blanks rest
@@ -116,10 +116,10 @@ stops (Process n ∷ ps) rest d l = absurd d
 stops (Register n ∷ ps) rest d l = absurd d
 
 -- Nothing but blanks is left, read either way.
-pub end-blank : (line : List ℕ) → is_end line ≡ true → AreAll is_blank line
+pub end-blank : (line : List ℕ) → are_blanks line ≡ true → AreAll is_blank line
 end-blank [] h = tt
-end-blank (b ∷ bytes) h = let k : (is_blank b ≡ true) × (is_end bytes ≡ true) = both-true (is_blank b) (is_end bytes) h in (k.0, end-blank bytes (k.1))
+end-blank (b ∷ bytes) h = let k : (is_blank b ≡ true) × (are_blanks bytes ≡ true) = both-true (is_blank b) (are_blanks bytes) h in (k.0, end-blank bytes (k.1))
 
-pub blank-end : (line : List ℕ) → AreAll is_blank line → is_end line ≡ true
+pub blank-end : (line : List ℕ) → AreAll is_blank line → are_blanks line ≡ true
 blank-end [] h = refl
 blank-end (b ∷ bytes) h = rw (h.0) (blank-end bytes (h.1))

@@ -6,7 +6,7 @@ use Rattle.std.proofs.lemmas.Bool.{leb-true, le-leb}
 use Rattle.plain_term.specs.Measures.{magnitude}
 use Rattle.script_grammar.specs.Grammar.{is_name_byte, is_digit, is_small_letter, AreAll, value_after, HasNoLeadingZero, IsNumber, IsInteger, Piece, Lies}
 use Rattle.script_grammar.specs.Grammar.Piece.{Number}
-use Rattle.script_parse.specs.Reading.{then_read, after_blanks, is_silent, byte_at, text_at, digits_at, number_at, signed, integer_at, pid_end, pid_at}
+use Rattle.script_parse.specs.Reading.{then_read, after_blanks, is_silent, byte_at, text_at, digits_at, number_at, with_sign, integer_at, pid_end, pid_at}
 use Rattle.script_parse.proofs.Stepwise.Tools.{chosen, read-some, inside, both, both-true, either-false, apart, not-blank}
 use Rattle.script_parse.proofs.Stepwise.Tools.{unequal}
 use Rattle.script_parse.proofs.Stepwise.GapSteps.{Stops, Divides, stops, Token, token}
@@ -132,7 +132,7 @@ pub record Integral (i : ℤ) (line rest : List ℕ) : Type 0 where
   pub whole : line ≡ text ++ rest
   pub within : magnitude i ≤ WIDEST
 
-negative : (n : ℕ) (i : ℤ) (line bytes rest : List ℕ) (t : Bool) → nat_eq n 0 ≡ t → Counted WIDEST n line bytes → signed true (n, bytes) ≡ Some (i, rest)
+negative : (n : ℕ) (i : ℤ) (line bytes rest : List ℕ) (t : Bool) → nat_eq n 0 ≡ t → Counted WIDEST n line bytes → with_sign true (n, bytes) ≡ Some (i, rest)
     → Integral i (45 ∷ line) rest
 negative n i line bytes rest true e c h = let k : None ≡ Some (i, rest) = rw e at h in cc
 negative n i line bytes rest false e c h = let k : Some (negsuc (n - 1), bytes) ≡ Some (i, rest) = rw e at h in
@@ -149,18 +149,18 @@ negative n i line bytes rest false e c h = let k : Some (negsuc (n - 1), bytes) 
       within = subst R whole c.within;
     })
 
-positive : (n : ℕ) (i : ℤ) (line bytes rest : List ℕ) → Counted WIDEST n line bytes → signed false (n, bytes) ≡ Some (i, rest) → Integral i line rest
+positive : (n : ℕ) (i : ℤ) (line bytes rest : List ℕ) → Counted WIDEST n line bytes → with_sign false (n, bytes) ≡ Some (i, rest) → Integral i line rest
 positive n i line bytes rest c h = let j : (pos n ≡ i) × (bytes ≡ rest) = both h in
     let Q : ℤ → Type 0 = λ z. Integral z line rest in
     subst Q (j.0) (record { text = c.text; integer = c.number; whole = c.whole ∙ ap (λ (r : List ℕ). c.text ++ r) (j.1); within = c.within })
 
 integer-step : (i : ℤ) (b : ℕ) (bytes rest : List ℕ) (t : Bool) → nat_eq b 45 ≡ t → integer_at (b ∷ bytes) ≡ Some (i, rest) → Integral i (b ∷ bytes) rest
-integer-step i b bytes rest true e h = let k : then_read (number_at WIDEST bytes) (signed true) ≡ Some (i, rest) = rw e at h in
-    let r : (x : ℕ × List ℕ) × (number_at WIDEST bytes ≡ Some x) × (signed true x ≡ Some (i, rest)) = read-some (number_at WIDEST bytes) (signed true) k in
+integer-step i b bytes rest true e h = let k : then_read (number_at WIDEST bytes) (with_sign true) ≡ Some (i, rest) = rw e at h in
+    let r : (x : ℕ × List ℕ) × (number_at WIDEST bytes ≡ Some x) × (with_sign true x ≡ Some (i, rest)) = read-some (number_at WIDEST bytes) (with_sign true) k in
     let Q : ℕ → Type 0 = λ z. Integral i (z ∷ bytes) rest in
     subst Q (sym (eqb-true b 45 e)) (negative (r.0.0) i bytes (r.0.1) rest (nat_eq (r.0.0) 0) refl (number-read WIDEST (r.0.0) bytes (r.0.1) (omega arith) (r.1)) (r.2))
-integer-step i b bytes rest false e h = let k : then_read (number_at WIDEST (b ∷ bytes)) (signed false) ≡ Some (i, rest) = rw e at h in
-    let r : (x : ℕ × List ℕ) × (number_at WIDEST (b ∷ bytes) ≡ Some x) × (signed false x ≡ Some (i, rest)) = read-some (number_at WIDEST (b ∷ bytes)) (signed false) k in
+integer-step i b bytes rest false e h = let k : then_read (number_at WIDEST (b ∷ bytes)) (with_sign false) ≡ Some (i, rest) = rw e at h in
+    let r : (x : ℕ × List ℕ) × (number_at WIDEST (b ∷ bytes) ≡ Some x) × (with_sign false x ≡ Some (i, rest)) = read-some (number_at WIDEST (b ∷ bytes)) (with_sign false) k in
     positive (r.0.0) i (b ∷ bytes) (r.0.1) rest (number-read WIDEST (r.0.0) (b ∷ bytes) (r.0.1) (omega arith) (r.1)) (r.2)
 
 pub integer-read : (i : ℤ) (line rest : List ℕ) → integer_at line ≡ Some (i, rest) → Integral i line rest

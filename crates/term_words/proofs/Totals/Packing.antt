@@ -5,7 +5,7 @@ use Rattle.term_words.specs.Role.{IsSingle}
 use Rattle.term_words.specs.Object.{IsPointer, IsRecord, object_words}
 use Rattle.term_words.specs.Stands.{Stands}
 use Rattle.term_words.specs.Tiled.{tile_words}
-use Rattle.term_words.specs.Counted.{In, Distinct, total, count, ArePacked, IsLaid}
+use Rattle.term_words.specs.Counted.{In, Distinct, total, count, ArePacked, TileStands}
 use Rattle.term_words.proofs.Placing.Apart.{objects-apart}
 use Rattle.term_words.proofs.Placing.Roles.{records-apart, object-record-apart, record-some}
 use Rattle.term_words.proofs.Placing.Tiles.{tiled-object, tiled-record}
@@ -93,11 +93,11 @@ object-size c shared mem w t s p = omega (arith, (tiled-object c shared mem w t 
 record-size : (c : ℕ → ℕ → Bool) (mem : List ℕ) (w v n : ℕ) → w ≡ v * 4 → IsRecord c mem v n → tile_words mem w ≡ n
 record-size c mem w v n e r = let there : tile_words mem (v * 4) ≡ n = omega (arith, (tiled-record c mem v n r).2) in ap (tile_words mem) e ∙ there
 
-laid-some : (c : ℕ → ℕ → Bool) (shared : List (List ℕ)) (mem : List ℕ) (w : ℕ) → IsLaid c shared mem w → 0 < tile_words mem w
+laid-some : (c : ℕ → ℕ → Bool) (shared : List (List ℕ)) (mem : List ℕ) (w : ℕ) → TileStands c shared mem w → 0 < tile_words mem w
 laid-some c shared mem w (inl (p, (t, s))) = omega (arith, object-size c shared mem w t s p, words-some mem w p)
 laid-some c shared mem w (inr (v, n, (e, r))) = omega (arith, record-size c mem w v n e r, record-some c mem v n r)
 
-laid-apart : (c : ℕ → ℕ → Bool) (shared : List (List ℕ)) (mem : List ℕ) (w v : ℕ) → IsSingle c → IsLaid c shared mem w → IsLaid c shared mem v
+laid-apart : (c : ℕ → ℕ → Bool) (shared : List (List ℕ)) (mem : List ℕ) (w v : ℕ) → IsSingle c → TileStands c shared mem w → TileStands c shared mem v
     → (w ≡ v) ⊎ ((w / 4 + tile_words mem w ≤ v / 4) ⊎ (v / 4 + tile_words mem v ≤ w / 4))
 laid-apart c shared mem w v single (inl (p, (t, s))) (inl (q, (u, r))) =
     let a : tile_words mem w ≡ object_words mem w = object-size c shared mem w t s p in
@@ -116,7 +116,7 @@ laid-apart c shared mem w v single (inr (x, m, (d, o))) (inr (y, n, (e, r))) =
     let b : tile_words mem v ≡ n = record-size c mem v y n e r in
     elim (records-apart c mem x m y n single o r) [ inl same ↦ inl (omega arith) | inr (inl l) ↦ inr (inl (omega arith)) | inr (inr l) ↦ inr (inr (omega arith)) ]
 
-pub laid-packed : (c : ℕ → ℕ → Bool) (shared : List (List ℕ)) (mem : List ℕ) (s : ℕ → Bool) (from n : ℕ) (ws : List ℕ) → IsSingle c → Distinct ws → ((w : ℕ) → In w ws → IsLaid c shared mem w)
+pub laid-packed : (c : ℕ → ℕ → Bool) (shared : List (List ℕ)) (mem : List ℕ) (s : ℕ → Bool) (from n : ℕ) (ws : List ℕ) → IsSingle c → Distinct ws → ((w : ℕ) → In w ws → TileStands c shared mem w)
     → ((w : ℕ) → In w ws → (from ≤ w / 4) × (w / 4 + tile_words mem w ≤ from + n)) → ((w q : ℕ) → In w ws → w / 4 ≤ q → q < w / 4 + tile_words mem w → s q ≡ true)
     → ArePacked (λ w. w / 4) (tile_words mem) s from n ws
 laid-packed c shared mem s from n ws single once laid inside passes = record {

@@ -11,8 +11,6 @@ use Rattle.cheney.proofs.After.Counts.{in-row, row-distinct}
 use Rattle.cheney.proofs.After.Ends.{row-total}
 use Rattle.cheney.proofs.Before.Ground.{Ground, ground}
 
-)
-
 module _ (p : Plan) (y : Ready p) (m : List ℕ) (b : Bool) (place top from to : ℕ) (vs : List ℕ) (row : Row p m b place vs top) (order : from ≤ to)
     (lies : (v : ℕ) → Reached p v → IsPointer v → (from ≤ v / 4) × (v / 4 + size p v ≤ to)) where
   are-packed : ArePacked (λ v. v / 4) (size p) (λ q. true) from (to - from) vs

@@ -12,7 +12,7 @@ use Rattle.two_halves.specs.Stack.{AreApart, IsLastPlace, IsPlace, IsStack, plac
 use Rattle.two_halves.specs.Halves.{HalvesStand, HoldTrees, HoldsTree, IsLaid, ProcStands, ProcsStand, all_places, end_of, places_of}
 use Rattle.two_halves.specs.Reached.{roots_in}
 use Rattle.two_halves.specs.Rows.{HaveStacks}
-use Rattle.two_halves.specs.Queues.{CanQueue, Follows, HasEntered, Queues, with_queue}
+use Rattle.two_halves.specs.Queues.{CanQueue, PlaceFollows, HasEntered, Queues, with_queue}
 use Rattle.two_halves.specs.declared.halves.Halves.{Halves}
 use Rattle.two_halves.specs.declared.table.Proc.{Proc}
 use Rattle.two_halves.proofs.Standing.Apart.{all-within, apart-at, apart-both, apart-cross, apart-left, apart-right, apart-set, place-within}
@@ -323,7 +323,7 @@ record Followed (old new : List ℕ) (queue last n place result : ℕ) : Type 0 
   none : n ≡ 0 → result ≡ place
   some : (n ≡ 0 → ⊥) → (result ≡ queue) × (get_or new (last + 1) 0 ≡ place)
 
-followed : (old new : List ℕ) (queue last n place result : ℕ) → ((n ≡ 0 → ⊥) → last + 2 ≤ length old) → Follows old new queue last n place result
+followed : (old new : List ℕ) (queue last n place result : ℕ) → ((n ≡ 0 → ⊥) → last + 2 ≤ length old) → PlaceFollows old new queue last n place result
     → Followed old new queue last n place result
 followed old new queue last zero place result inside f = record {
   same_len = ap length f.0;
@@ -351,7 +351,7 @@ module _ (h : Halves) (row w : ℕ) (r : CanQueue h row w) (p : Proc) (is : p �
   waiting-few =
       omega (arith, r.has.laid.fits, inside, get_or-le-sum_by (λ z. z.depth + z.waiting) h.procs.items row p r.has.within, ap (λ z. z.depth + z.waiting) is)
 
-  module _ (mem1 mem2 : List ℕ) (place first : ℕ) (at : place ≡ h.low - 2) (f : Follows h.mem mem1 p.queue p.last p.waiting place first) (written : mem2 ≡ set mem1 place w) where
+  module _ (mem1 mem2 : List ℕ) (place first : ℕ) (at : place ≡ h.low - 2) (f : PlaceFollows h.mem mem1 p.queue p.last p.waiting place first) (written : mem2 ≡ set mem1 place w) where
     facts : Followed h.mem mem1 p.queue p.last p.waiting place first
     facts = followed h.mem mem1 p.queue p.last p.waiting place first last-inside f
 

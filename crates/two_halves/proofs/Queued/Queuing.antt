@@ -8,7 +8,7 @@ use Rattle.plain_machine.specs.State.{Process}
 use Rattle.term_words.specs.Counted.{In}
 use Rattle.two_halves.specs.Stack.{AreApart, IsLastPlace, IsPlace, IsStack, place_list, values}
 use Rattle.two_halves.specs.Halves.{HalvesStand, HoldTrees, HoldsTree, IsLaid, ProcStands, ProcsStand, all_places, end_of, places_of}
-use Rattle.two_halves.specs.Queues.{HasLeft, HasRow, Takes, shifted, with_queue, with_row}
+use Rattle.two_halves.specs.Queues.{HasLeftQueue, HasRow, TakesMessage, shifted, with_queue, with_row}
 use Rattle.two_halves.specs.declared.halves.Halves.{Halves}
 use Rattle.two_halves.specs.declared.table.Proc.{Proc}
 use Rattle.two_halves.proofs.Standing.Apart.{apart-at, apart-both, apart-cross, apart-left, apart-right, apart-set}
@@ -133,7 +133,7 @@ module _ (named : ℕ) (h : Halves) (shared : List (List ℕ)) (qs : List Proces
       refs = this-row.refs;
     })
 
-    pub has-left : HasLeft named (with_row h row row2) shared qs row (get_or h.mem p.queue 0)
+    pub has-left : HasLeftQueue named (with_row h row row2) shared qs row (get_or h.mem p.queue 0)
     has-left = record {
       process = q;
       is = this-process;
@@ -170,12 +170,12 @@ module _ (h : Halves) (row : ℕ) (r : HasRow h row) (p : Proc) (is : p ≡ get_
       let below : p.queue + 2 ≤ end_of h = first-below r.named h r.shared r.processes r.laid r.stands row r.within p is some in
       elim r.laid.side [ inl e ↦ omega (arith, e, below) | inr e ↦ omega (arith, e, below) ]
 
-  pub takes : (next w : ℕ) → next ≡ get_or h.mem (p.queue + 1) 0 → w ≡ get_or h.mem p.queue 0 → Takes h (with_row h row (with_queue p next p.last (p.waiting - 1))) row w
+  pub takes : (next w : ℕ) → next ≡ get_or h.mem (p.queue + 1) 0 → w ≡ get_or h.mem p.queue 0 → TakesMessage h (with_row h row (with_queue p next p.last (p.waiting - 1))) row w
   takes next w next_is w_is =
       let P : ℕ → Type 0 = λ z. IsLaid (with_row h row (with_queue p z p.last (p.waiting - 1))) in
       let Q : ℕ → Type 0 = λ z. (named : ℕ) (shared : List (List ℕ)) (qs : List Process) → HalvesStand named h shared qs
-      → HasLeft named (with_row h row (with_queue p z p.last (p.waiting - 1))) shared qs row w in
-      let R : ℕ → Type 0 = λ z. (named : ℕ) (shared : List (List ℕ)) (qs : List Process) → HalvesStand named h shared qs → HasLeft named (with_row h row (shifted h.mem p)) shared qs row z in
+      → HasLeftQueue named (with_row h row (with_queue p z p.last (p.waiting - 1))) shared qs row w in
+      let R : ℕ → Type 0 = λ z. (named : ℕ) (shared : List (List ℕ)) (qs : List Process) → HalvesStand named h shared qs → HasLeftQueue named (with_row h row (shifted h.mem p)) shared qs row z in
       record {
         laid = subst P (sym next_is) (left-laid r.named h r.shared r.processes r.laid r.stands row r.within p is some);
         same = λ u at.

@@ -1,6 +1,6 @@
 -- An arena whose memory was lent, and came back with the headers as they were, is sound.
 use Rattle.std.proofs.Common.{◌≡◌, ℕ, ◌+◌, ◌*◌, ◌/◌, ◌<◌, ◌≤◌, List, length, get_or, refl, sym, ◌∙◌, ap, subst, arith}
-use Rattle.word_arena.specs.Blocks.{size_at, kind_at, Blocks, Blocked, places_of, IsListed, BlockBegins, free_of, FreeApart}
+use Rattle.word_arena.specs.Blocks.{size_at, kind_at, Blocks, Blocked, block_places, IsListed, BlockBegins, free_of, FreeApart}
 use Rattle.word_arena.specs.Calls.{HeadersStay}
 use Rattle.word_arena.specs.Changes.{Frame}
 use Rattle.word_arena.specs.Sound.{Sound}
@@ -8,18 +8,18 @@ use Rattle.word_arena.specs.Stretches.{HasRoom, Agrees}
 use Rattle.word_arena.specs.declared.arena.Arena.{Arena}
 use Rattle.word_arena.specs.declared.holes.Holes.{Holes}
 use Rattle.word_arena.proofs.Side.Facts.{next-begins}
-use Rattle.word_arena.proofs.Side.Places.{free_in-same}
+use Rattle.word_arena.proofs.Side.Places.{free_among-same}
 use Rattle.word_arena.proofs.Laid.Relaid.{free_of-row}
 use Rattle.word_arena.proofs.Found.Table.{frame-right}
-use Rattle.word_arena.proofs.Side.Tiling.{blocks-same, places_of-row, blocked-row}
+use Rattle.word_arena.proofs.Side.Tiling.{blocks-same, block_places-row, blocked-row}
 
-row-same : (old new : List ℕ) → Blocked old → HeadersStay old new → Blocks new 0 (places_of old) (length new)
+row-same : (old new : List ℕ) → Blocked old → HeadersStay old new → Blocks new 0 (block_places old) (length new)
 row-same old new blocked same =
-    let P : ℕ → Type 0 = λ z. Blocks new 0 (places_of old) z in
-    subst P (sym same.same_len) (blocks-same old new 0 (length old) (places_of old) (λ p listed. same.same p (record { listed = listed })) blocked.row)
+    let P : ℕ → Type 0 = λ z. Blocks new 0 (block_places old) z in
+    subst P (sym same.same_len) (blocks-same old new 0 (length old) (block_places old) (λ p listed. same.same p (record { listed = listed })) blocked.row)
 
-pub lent-places : (old new : List ℕ) → Blocked old → HeadersStay old new → places_of new ≡ places_of old
-lent-places old new blocked same = places_of-row new (places_of old) (row-same old new blocked same)
+pub lent-places : (old new : List ℕ) → Blocked old → HeadersStay old new → block_places new ≡ block_places old
+lent-places old new blocked same = block_places-row new (block_places old) (row-same old new blocked same)
 
 pub lent-begins : (old new : List ℕ) (p : ℕ) → Blocked old → HeadersStay old new → BlockBegins old p → BlockBegins new p
 lent-begins old new p blocked same begins =
@@ -33,9 +33,9 @@ lent-began old new p blocked same begins =
 
 pub lent-free : (old new : List ℕ) → Blocked old → HeadersStay old new → free_of new ≡ free_of old
 lent-free old new blocked same =
-    free_of-row new (places_of old) (lent-places old new blocked same)
-    ∙ free_in-same old new (places_of old) (λ p listed. same.same p (record { listed = listed }))
-    ∙ sym (free_of-row old (places_of old) refl)
+    free_of-row new (block_places old) (lent-places old new blocked same)
+    ∙ free_among-same old new (block_places old) (λ p listed. same.same p (record { listed = listed }))
+    ∙ sym (free_of-row old (block_places old) refl)
 
 pub lent-apart : (old new : List ℕ) → Blocked old → HeadersStay old new → FreeApart old → FreeApart new
 lent-apart old new blocked same fa =
@@ -71,4 +71,4 @@ lent-agrees old new h blocked same agrees =
 
 pub lent : (a : Arena) (new : List ℕ) → Sound a → HeadersStay a.mem new → Sound (record { mem = new; holes = a.holes })
 lent a new sound same =
-    record { blocked = blocked-row new (places_of a.mem) (row-same a.mem new sound.blocked same); agrees = lent-agrees a.mem new a.holes sound.blocked same sound.agrees }
+    record { blocked = blocked-row new (block_places a.mem) (row-same a.mem new sound.blocked same); agrees = lent-agrees a.mem new a.holes sound.blocked same sound.agrees }

@@ -1,10 +1,10 @@
 -- Blocks side by side are laid anew: the words outside of them stay, and so do all other blocks.
 use Rattle.std.proofs.Common.{◌≡◌, ◌≢◌, ℕ, ◌+◌, ◌/◌, ◌<◌, ◌≤◌, ◌⊎◌, List, ◌∷◌, ◌++◌, length, get_or, sym, ◌∙◌, ap, subst, arith, inl, inr}
 use Rattle.std.proofs.lemmas.Bool.{cases_lt}
-use Rattle.word_arena.specs.Blocks.{size_at, kind_at, Blocks, Blocked, places_of, IsListed, BlockBegins, IsUsed, free_in, free_of, FreeApart}
+use Rattle.word_arena.specs.Blocks.{size_at, kind_at, Blocks, Blocked, block_places, IsListed, BlockBegins, IsUsed, free_among, free_of, FreeApart}
 use Rattle.word_arena.specs.Calls.{OthersStay}
-use Rattle.word_arena.proofs.Side.Places.{in-left, in-right, in-append, free_in-append, free_in-same}
-use Rattle.word_arena.proofs.Side.Tiling.{blocks-append, blocks-within, blocks-same, blocks-front, places_of-row, blocked-row}
+use Rattle.word_arena.proofs.Side.Places.{in-left, in-right, in-append, free_among-append, free_among-same}
+use Rattle.word_arena.proofs.Side.Tiling.{blocks-append, blocks-within, blocks-same, blocks-front, block_places-row, blocked-row}
 use Rattle.word_arena.proofs.Side.Facts.{row-at, apart}
 
 -- The blocks from a to e were `cs` and are `ds`, and no word outside of them changed.
@@ -20,8 +20,8 @@ pub record Change (old new : List ℕ) (a e : ℕ) (cs ds : List ℕ) : Type 0 w
 pub record Rows (old new : List ℕ) (a e : ℕ) (cs ds : List ℕ) : Type 0 where
   pub front : List ℕ
   pub back : List ℕ
-  pub old_is : places_of old ≡ front ++ (cs ++ back)
-  pub new_is : places_of new ≡ front ++ (ds ++ back)
+  pub old_is : block_places old ≡ front ++ (cs ++ back)
+  pub new_is : block_places new ≡ front ++ (ds ++ back)
   pub before : Blocks old 0 front a
   pub behind : Blocks old e back (length old)
   pub row : Blocks new 0 (front ++ (ds ++ back)) (length new)
@@ -49,7 +49,7 @@ change-rows old new a e cs ds blocked ch =
       front = r.before;
       back = f.rest;
       old_is = r.is ∙ ap (λ (z : List ℕ). r.before ++ z) f.is;
-      new_is = places_of-row new (r.before ++ (ds ++ f.rest)) row;
+      new_is = block_places-row new (r.before ++ (ds ++ f.rest)) row;
       before = r.front;
       behind = f.row;
       row = row;
@@ -62,7 +62,7 @@ pub record Relaid (old new : List ℕ) (a e : ℕ) (cs ds : List ℕ) : Type 0 w
   pub comes : (p : ℕ) → BlockBegins new p → (BlockBegins old p × ((p < a) ⊎ (e ≤ p))) ⊎ IsListed p ds
   pub made : (p : ℕ) → IsListed p ds → BlockBegins new p
   pub between : (p : ℕ) → BlockBegins old p → ((p < a) ⊎ (e ≤ p)) ⊎ IsListed p cs
-  pub free : free_of new + free_in old cs ≡ free_of old + free_in new ds
+  pub free : free_of new + free_among old cs ≡ free_of old + free_among new ds
 
 three : (p : ℕ) (xs ys zs : List ℕ) → IsListed p (xs ++ (ys ++ zs)) → IsListed p xs ⊎ (IsListed p ys ⊎ IsListed p zs)
 three p xs ys zs is =
@@ -133,17 +133,17 @@ old-between old new a e p cs ds r begins =
       ]
     ]
 
-free-three : (mem xs ys zs : List ℕ) → free_in mem (xs ++ (ys ++ zs)) ≡ free_in mem xs + free_in mem ys + free_in mem zs
-free-three mem xs ys zs = omega (arith, free_in-append mem xs (ys ++ zs), free_in-append mem ys zs)
+free-three : (mem xs ys zs : List ℕ) → free_among mem (xs ++ (ys ++ zs)) ≡ free_among mem xs + free_among mem ys + free_among mem zs
+free-three mem xs ys zs = omega (arith, free_among-append mem xs (ys ++ zs), free_among-append mem ys zs)
 
-pub free_of-row : (mem ps : List ℕ) → places_of mem ≡ ps → free_of mem ≡ free_in mem ps
+pub free_of-row : (mem ps : List ℕ) → block_places mem ≡ ps → free_of mem ≡ free_among mem ps
 unfolding free_of
-free_of-row mem ps is = ap (λ (z : List ℕ). free_in mem z) is
+free_of-row mem ps is = ap (λ (z : List ℕ). free_among mem z) is
 
-free-changed : (old new : List ℕ) (a e : ℕ) (cs ds : List ℕ) → Change old new a e cs ds → (r : Rows old new a e cs ds) → free_of new + free_in old cs ≡ free_of old + free_in new ds
+free-changed : (old new : List ℕ) (a e : ℕ) (cs ds : List ℕ) → Change old new a e cs ds → (r : Rows old new a e cs ds) → free_of new + free_among old cs ≡ free_of old + free_among new ds
 free-changed old new a e cs ds ch r =
-    let f : free_in new r.front ≡ free_in old r.front = free_in-same old new r.front (before-same old new a e cs ds r.front ch r.before) in
-    let b : free_in new r.back ≡ free_in old r.back = free_in-same old new r.back (behind-same old new a e cs ds r.back ch r.behind) in
+    let f : free_among new r.front ≡ free_among old r.front = free_among-same old new r.front (before-same old new a e cs ds r.front ch r.before) in
+    let b : free_among new r.back ≡ free_among old r.back = free_among-same old new r.back (behind-same old new a e cs ds r.back ch r.behind) in
     omega (
       arith,
       f,

@@ -2,14 +2,14 @@
 use Rattle.std.proofs.Common.{◌≡◌, ◌≢◌, ℕ, ◌+◌, ◌-◌, ◌<◌, ◌≤◌, ◌⊎◌, List, ◌++◌, length, get_or, set, refl, sym, ◌∙◌, ap, subst, arith, inl, inr}
 use Rattle.std.proofs.lemmas.Bool.{cases_lt}
 use Rattle.std.proofs.lemmas.List.{get_or_past, get_or-set_same, get_or-set_other, length-set}
-use Rattle.word_arena.specs.Blocks.{size_at, kind_at, free_at, header, Blocks, Blocked, Reaches, IsListed, BlockBegins, IsUsed, free_in, FreeApart}
+use Rattle.word_arena.specs.Blocks.{size_at, kind_at, free_at, header, Blocks, Blocked, Reaches, IsListed, BlockBegins, IsUsed, free_among, FreeApart}
 use Rattle.word_arena.specs.Calls.{FirstFit, taken, shortened, free_end, freed, FreeFrom, OthersStay}
-use Rattle.word_arena.specs.Changes.{Frame, Took, Shortened, Gave, Closed}
-use Rattle.word_arena.proofs.Side.Places.{in-append, free_in-append, free_in-same}
-use Rattle.word_arena.proofs.Side.Tiling.{blocks-within, blocks-same, blocks-append, blocks-front, places_of-row, blocked-row}
+use Rattle.word_arena.specs.Changes.{Frame, TookBlock, Shortened, GaveBlock, Closed}
+use Rattle.word_arena.proofs.Side.Places.{in-append, free_among-append, free_among-same}
+use Rattle.word_arena.proofs.Side.Tiling.{blocks-within, blocks-same, blocks-append, blocks-front, block_places-row, blocked-row}
 use Rattle.word_arena.proofs.Side.Facts.{free-all, some-free, made-header, header-size, header-kind, block-within, next-begins, behind-used}
 use Rattle.word_arena.proofs.Laid.Relaid.{free_of-row, Change, Relaid, relaid, others-stay, apart-again}
-use Rattle.word_arena.proofs.Side.Summing.{free_in-most}
+use Rattle.word_arena.proofs.Side.Summing.{free_among-most}
 use Rattle.word_arena.proofs.Side.Runs.{one-run, run-behind, run-before, made-run, Led, led, between}
 use Rattle.word_arena.proofs.Laid.Writes.{freed-length, freed-first, freed-other, Written, shortened-written, shortened-owner, taken-written, taken-owner}
 
@@ -58,7 +58,7 @@ outside-rest at words e q some (inr high) =
     elim (cases_lt (at + words) e) as (λ _. (q ≢ at + words) ⊎ (e ≤ at + words)) [ inl below ↦ inl (omega arith) | inr none ↦ inr none ]
 
 pub took : (old : List ℕ) (at words kind owner : ℕ) → Blocked old → FirstFit old words at → 2 ≤ words → 1 ≤ kind → kind ≤ 8
-    → Took old (taken old at words kind owner) at words kind owner
+    → TookBlock old (taken old at words kind owner) at words kind owner
 took old at words kind owner blocked fit some used low =
     let new = taken old at words kind owner in
     let n = size_at old at in
@@ -175,7 +175,7 @@ none-before old at from p blocked fa free inside begins is_free ends =
     ]
 
 pub gave : (old : List ℕ) (at from : ℕ) → Blocked old → IsUsed old at → FreeFrom old at from
-    → Gave old (set old from (header (free_end old (at + size_at old at) - from) 0)) at from
+    → GaveBlock old (set old from (header (free_end old (at + size_at old at) - from) 0)) at from
 gave old at from blocked used free =
     let n = size_at old at in
     let e = free_end old (at + n) in
@@ -225,7 +225,7 @@ closed old end_of_row reach inside =
       apart = λ used. record {
         apart = λ p begins is_free below.
             let P : List ℕ → Type 0 = λ z. IsListed p z in
-            elim (in-append p reach.places is.ps (subst P (places_of-row new (reach.places ++ is.ps) row) begins.listed)) as (λ _. 1 ≤ kind_at new (p + size_at new p)) [
+            elim (in-append p reach.places is.ps (subst P (block_places-row new (reach.places ++ is.ps) row) begins.listed)) as (λ _. 1 ≤ kind_at new (p + size_at new p)) [
               | inl first ↦ (let w = blocks-within old 0 end_of_row p reach.places reach.row first in
                   absurd (omega (arith, used p begins (omega (arith, w.to, w.header.sized)), is_free)))
               | inr second ↦ absurd (omega (arith, is.last p second, below, len))
@@ -234,13 +234,13 @@ closed old end_of_row reach inside =
       mem = refl;
       free = λ ps other.
           let f = blocks-front old 0 end_of_row end_of_row ps reach.places other reach.row (omega arith) in
-          let none : free_in old f.rest ≡ 0 = omega (arith, free_in-most old end_of_row end_of_row f.rest f.row) in
-          let split : free_in old reach.places ≡ free_in old ps + free_in old f.rest = ap (λ (z : List ℕ). free_in old z) f.is ∙ free_in-append old ps f.rest in
+          let none : free_among old f.rest ≡ 0 = omega (arith, free_among-most old end_of_row end_of_row f.rest f.row) in
+          let split : free_among old reach.places ≡ free_among old ps + free_among old f.rest = ap (λ (z : List ℕ). free_among old z) f.is ∙ free_among-append old ps f.rest in
           omega (
             arith,
-            free_of-row new (reach.places ++ is.ps) (places_of-row new (reach.places ++ is.ps) row),
-            free_in-append new reach.places is.ps,
-            free_in-same old new reach.places (same reach.places reach.row),
+            free_of-row new (reach.places ++ is.ps) (block_places-row new (reach.places ++ is.ps) row),
+            free_among-append new reach.places is.ps,
+            free_among-same old new reach.places (same reach.places reach.row),
             is.sum,
             split,
             none,

@@ -2,7 +2,7 @@
 use Rattle.std.proofs.Common.{◌≡◌, ℕ, ◌+◌, ◌/◌, ◌%◌, ◌<◌, ◌≤◌, true, false, ◌==◌, List, [], ◌∷◌, ◌++◌, length, refl, sym, subst, arith, inl, inr}
 use Rattle.std.proofs.lemmas.Bool.{cases_lt}
 use Rattle.std.proofs.lemmas.Bool.Decides.{nat_tests}
-use Rattle.word_arena.specs.Blocks.{size_at, kind_at, free_at, header, IsHeader, Blocks, Blocked, places_of, IsListed, BlockBegins, IsBoundary, FreeApart}
+use Rattle.word_arena.specs.Blocks.{size_at, kind_at, free_at, header, IsHeader, Blocks, Blocked, block_places, IsListed, BlockBegins, IsBoundary, FreeApart}
 use Rattle.word_arena.specs.Calls.{free_end}
 use Rattle.word_arena.proofs.Side.Places.{in-right, around}
 use Rattle.word_arena.proofs.Side.Tiling.{blocks-part, Within, blocks-within, blocks-apart, Covers, blocks-cover}
@@ -39,13 +39,13 @@ header-kind word size kind is low = omega arith
 pub record At (mem : List ℕ) (p : ℕ) : Type 0 where
   pub before : List ℕ
   pub after : List ℕ
-  pub is : places_of mem ≡ before ++ (p ∷ after)
+  pub is : block_places mem ≡ before ++ (p ∷ after)
   pub front : Blocks mem 0 before p
   pub back : Blocks mem p (p ∷ after) (length mem)
 
 pub row-at : (mem : List ℕ) (p : ℕ) → Blocked mem → BlockBegins mem p → At mem p
 row-at mem p blocked begins =
-    let r = around p (places_of mem) begins.listed in
+    let r = around p (block_places mem) begins.listed in
     let P : List ℕ → Type 0 = λ z. Blocks mem 0 z (length mem) in
     let t = blocks-part mem 0 (length mem) r.before (p ∷ r.after) (subst P r.is blocked.row) in
     let place : t.at ≡ p = sym t.back.0 in
@@ -54,18 +54,18 @@ row-at mem p blocked begins =
     record { before = r.before; after = r.after; is = r.is; front = subst F place t.front; back = subst B place t.back }
 
 pub block-within : (mem : List ℕ) (p : ℕ) → Blocked mem → BlockBegins mem p → Within mem 0 (length mem) p
-block-within mem p blocked begins = blocks-within mem 0 (length mem) p (places_of mem) blocked.row begins.listed
+block-within mem p blocked begins = blocks-within mem 0 (length mem) p (block_places mem) blocked.row begins.listed
 
 -- Each place of the memory lies in a block.
 pub block-around : (mem : List ℕ) (q : ℕ) → Blocked mem → q < length mem → (p : ℕ) × BlockBegins mem p × (p ≤ q) × (q < p + size_at mem p)
 block-around mem q blocked inside =
-    let c = blocks-cover mem 0 (length mem) q (places_of mem) blocked.row (omega arith) inside in
+    let c = blocks-cover mem 0 (length mem) q (block_places mem) blocked.row (omega arith) inside in
     (c.p, record { listed = c.listed }, c.from, c.to)
 
 -- Two blocks are one or apart.
 pub apart : (mem : List ℕ) (p q : ℕ) → Blocked mem → BlockBegins mem p → BlockBegins mem q → p < q → p + size_at mem p ≤ q
 apart mem p q blocked first second below =
-    blocks-apart mem 0 (length mem) p q (places_of mem) blocked.row first.listed second.listed below
+    blocks-apart mem 0 (length mem) p q (block_places mem) blocked.row first.listed second.listed below
 
 next-in : (mem : List ℕ) (p a : ℕ) (xs : List ℕ) → Blocks mem a xs (length mem) → a < length mem → IsListed a xs
 next-in mem p a [] same below = absurd (omega arith)
@@ -80,7 +80,7 @@ next-begins mem p blocked begins below =
     record { listed = subst P (sym r.is) (in-right (p + size_at mem p) r.before (p ∷ r.after) next) }
 
 pub zero-begins : (mem : List ℕ) → Blocked mem → 0 < length mem → BlockBegins mem 0
-zero-begins mem blocked some = record { listed = next-in mem 0 0 (places_of mem) blocked.row some }
+zero-begins mem blocked some = record { listed = next-in mem 0 0 (block_places mem) blocked.row some }
 
 pub stop-next : (mem : List ℕ) (p : ℕ) → Blocked mem → BlockBegins mem p → IsBoundary mem (p + size_at mem p)
 stop-next mem p blocked begins =

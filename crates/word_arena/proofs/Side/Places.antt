@@ -1,6 +1,6 @@
 -- Places in lists of places.
 use Rattle.std.proofs.Common.{◌≡◌, ℕ, ◌+◌, ◌⊎◌, List, [], ◌∷◌, ◌++◌, get_or, refl, sym, ap, arith, inl, inr}
-use Rattle.word_arena.specs.Blocks.{IsListed, free_in}
+use Rattle.word_arena.specs.Blocks.{IsListed, free_among}
 
 pub in-left : (p : ℕ) (xs ys : List ℕ) → IsListed p xs → IsListed p (xs ++ ys)
 in-left p [] ys is = elim is [ ]
@@ -30,12 +30,12 @@ around p (x ∷ xs) (inr there) =
     let r = around p xs there in
     record { before = x ∷ r.before; after = r.after; is = ap (λ (zs : List ℕ). x ∷ zs) r.is }
 
-pub free_in-append : (mem xs ys : List ℕ) → free_in mem (xs ++ ys) ≡ free_in mem xs + free_in mem ys
-free_in-append mem [] ys = omega arith
-free_in-append mem (x ∷ xs) ys = omega (arith, free_in-append mem xs ys)
+pub free_among-append : (mem xs ys : List ℕ) → free_among mem (xs ++ ys) ≡ free_among mem xs + free_among mem ys
+free_among-append mem [] ys = omega arith
+free_among-append mem (x ∷ xs) ys = omega (arith, free_among-append mem xs ys)
 
 -- Blocks whose headers are the same have the same free words.
-pub free_in-same : (old new xs : List ℕ) → ((p : ℕ) → IsListed p xs → get_or new p 0 ≡ get_or old p 0) → free_in new xs ≡ free_in old xs
-free_in-same old new [] same = refl
-free_in-same old new (x ∷ xs) same =
-    rw (same x (inl refl), free_in-same old new xs (λ p is. same p (inr is))) refl
+pub free_among-same : (old new xs : List ℕ) → ((p : ℕ) → IsListed p xs → get_or new p 0 ≡ get_or old p 0) → free_among new xs ≡ free_among old xs
+free_among-same old new [] same = refl
+free_among-same old new (x ∷ xs) same =
+    rw (same x (inl refl), free_among-same old new xs (λ p is. same p (inr is))) refl

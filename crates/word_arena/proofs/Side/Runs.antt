@@ -2,9 +2,9 @@
 use Rattle.std.proofs.Common.{◌≡◌, ◌≢◌, ℕ, ◌+◌, ◌-◌, ◌<◌, ◌≤◌, ◌⊎◌, List, [], ◌∷◌, ◌++◌, length, get_or, refl, sym, ap, subst, arith, inl, inr}
 use Rattle.std.proofs.lemmas.Bool.{cases_lt}
 use Rattle.std.proofs.lemmas.List.{get_or_past}
-use Rattle.word_arena.specs.Blocks.{size_at, kind_at, free_at, header, IsHeader, Blocks, Blocked, IsListed, BlockBegins, free_in}
+use Rattle.word_arena.specs.Blocks.{size_at, kind_at, free_at, header, IsHeader, Blocks, Blocked, IsListed, BlockBegins, free_among}
 use Rattle.word_arena.specs.Calls.{free_end, FreeFrom}
-use Rattle.word_arena.proofs.Side.Places.{in-append, free_in-append}
+use Rattle.word_arena.proofs.Side.Places.{in-append, free_among-append}
 use Rattle.word_arena.proofs.Side.Tiling.{blocks-append}
 use Rattle.word_arena.proofs.Side.Facts.{free-all, free-none, some-free, made-header, header-size, block-within}
 
@@ -14,7 +14,7 @@ pub record Run (mem : List ℕ) (a e : ℕ) : Type 0 where
   pub row : Blocks mem a ps e
   pub only : (p : ℕ) → IsListed p ps → p ≡ a
   pub free : (p : ℕ) → IsListed p ps → kind_at mem p ≡ 0
-  pub sum : free_in mem ps + a ≡ e
+  pub sum : free_among mem ps + a ≡ e
   pub some : a < e → IsListed a ps
   pub whole : a < e → a + size_at mem a ≡ e
   pub last : (p : ℕ) → IsListed p ps → p + size_at mem p ≡ e
@@ -92,7 +92,7 @@ pub record Led (mem : List ℕ) (at b e : ℕ) : Type 0 where
   pub first : IsListed at ps
   pub only : (p : ℕ) → IsListed p ps → (p ≡ at) ⊎ (p ≡ b)
   pub free : (p : ℕ) → IsListed p ps → p ≢ at → kind_at mem p ≡ 0
-  pub sum : free_in mem ps + b ≡ e
+  pub sum : free_among mem ps + b ≡ e
   pub second : b < e → IsListed b ps
   pub whole : b < e → b + size_at mem b ≡ e
   pub last : (p : ℕ) → IsListed p ps → kind_at mem p ≡ 0 → p + size_at mem p ≡ e
@@ -125,7 +125,7 @@ pub record Between (mem : List ℕ) (from at b e : ℕ) : Type 0 where
   pub row : Blocks mem from ps e
   pub only : (p : ℕ) → IsListed p ps → (p ≡ from) ⊎ ((p ≡ at) ⊎ (p ≡ b))
   pub free : (p : ℕ) → IsListed p ps → p ≢ at → kind_at mem p ≡ 0
-  pub sum : free_in mem ps + b + from ≡ e + at
+  pub sum : free_among mem ps + b + from ≡ e + at
 
 pub between : (mem : List ℕ) (from at b e : ℕ) → Run mem from at → Led mem at b e → Between mem from at b e
 between mem from at b e run l =
@@ -138,5 +138,5 @@ between mem from at b e run l =
       row = blocks-append mem from at e run.ps l.ps run.row l.row;
       only = only;
       free = free;
-      sum = omega (arith, free_in-append mem run.ps l.ps, run.sum, l.sum);
+      sum = omega (arith, free_among-append mem run.ps l.ps, run.sum, l.sum);
     }

@@ -2,7 +2,7 @@
 use Rattle.std.proofs.Common.{◌≡◌, ℕ, zero, suc, ◌+◌, ◌/◌, ◌<◌, ◌≤◌, true, false, nat_lt, List, [], ◌∷◌, ◌++◌, length, get_or, refl, sym, ◌∙◌, ap, subst, arith, inl, inr}
 use Rattle.std.proofs.lemmas.Bool.{cases_lt}
 use Rattle.std.proofs.lemmas.Bool.Decides.{nat_tests}
-use Rattle.word_arena.specs.Blocks.{size_at, IsHeader, Blocks, Blocked, places_from, places_of, IsListed}
+use Rattle.word_arena.specs.Blocks.{size_at, IsHeader, Blocks, Blocked, places_from, block_places, IsListed}
 
 -- One row after another.
 pub blocks-append : (mem : List ℕ) (a b c : ℕ) (xs ys : List ℕ) → Blocks mem a xs b → Blocks mem b ys c → Blocks mem a (xs ++ ys) c
@@ -117,11 +117,11 @@ places-row mem (suc steps) a (x ∷ xs) (place, is, rest) room =
     places-row mem steps (a + size_at mem a) xs (subst P place rest) (let s : 1 ≤ size_at mem a = (let Q : ℕ → Type 0 = λ z. 1 ≤ size_at mem z in subst Q place is.sized) in omega arith) in
     rw (inside, more, place) refl
 
-pub places_of-row : (mem xs : List ℕ) → Blocks mem 0 xs (length mem) → places_of mem ≡ xs
-unfolding places_of
-places_of-row mem xs row = places-row mem (length mem) 0 xs row (omega arith)
+pub block_places-row : (mem xs : List ℕ) → Blocks mem 0 xs (length mem) → block_places mem ≡ xs
+unfolding block_places
+block_places-row mem xs row = places-row mem (length mem) 0 xs row (omega arith)
 
 pub blocked-row : (mem xs : List ℕ) → Blocks mem 0 xs (length mem) → Blocked mem
 blocked-row mem xs row =
     let P : List ℕ → Type 0 = λ z. Blocks mem 0 z (length mem) in
-    record { row = subst P (sym (places_of-row mem xs row)) row }
+    record { row = subst P (sym (block_places-row mem xs row)) row }

@@ -1,5 +1,5 @@
 use Rattle.std.proofs.Common.{◌≡◌, ℕ, ◌+◌, ◌≤◌, List, ◌++◌, length, arith}
-use Rattle.item_build.specs.Reading.{bins_of, is_big, long_bins, own_words_of, read}
+use Rattle.item_build.specs.Reading.{bins_of, has_big_item, long_bins, own_words_of, read}
 use Rattle.item_build.proofs.Meaning.Whole.{words-apart}
 use Rattle.item_build.proofs.Laid.Chaining.{leaves-then}
 use Rattle.item_build.proofs.Turned.Ending.{big-makes, leaves-back, leaves-uses, ok-makes, ready, whole-led, wide-makes}
@@ -32,7 +32,7 @@ returns-then-w-ne-WIDE-clause-builds c = λ k shared trees free len held.
     let S : List (List ℕ) = shared ++ bins_of c.args.code.now in
     let b = c.in-Some.ensures.reads r.test S trees r.free r.standing r.holders in
     ok-makes k r.test S c.args.room.now c.lay_bins.new.room c.put_items.new.room c.args.mem.now c.lay_bins.new.mem c.put_items.new.mem c.args.making.now c.lay_bins.new.making
-    (long_bins c.args.code.now) (own_words_of c.args.code.now) c.in-Some.w r.laid c.lay_bins.ensures.leaves free fits (is_big c.args.names.now S trees c.args.code.now)
+    (long_bins c.args.code.now) (own_words_of c.args.code.now) c.in-Some.w r.laid c.lay_bins.ensures.leaves free fits (has_big_item c.args.names.now S trees c.args.code.now)
     (read c.args.names.now S trees c.args.code.now) b.0 (λ none. c.if-w-ne-WIDE.true none) c.in-Some.ensures.uses b.1
 
 pub returns-else-w-ne-WIDE-clause-builds : goal.returns-else-w-ne-WIDE-clause-builds
@@ -44,7 +44,7 @@ returns-else-w-ne-WIDE-clause-builds c = λ k shared trees free len held.
     let S : List (List ℕ) = shared ++ bins_of c.args.code.now in
     let b = c.in-Some.ensures.reads r.test S trees r.free r.standing r.holders in
     wide-makes k r.test S c.args.room.now c.lay_bins.new.room c.put_items.new.room c.args.room.now c.args.mem.now c.lay_bins.new.mem c.put_items.new.mem c.args.making.now c.args.making.now
-    (long_bins c.args.code.now) c.in-Some.w (is_big c.args.names.now S trees c.args.code.now) (read c.args.names.now S trees c.args.code.now) b.0 c.if-w-ne-WIDE.false b.1
+    (long_bins c.args.code.now) c.in-Some.w (has_big_item c.args.names.now S trees c.args.code.now) (read c.args.names.now S trees c.args.code.now) b.0 c.if-w-ne-WIDE.false b.1
 
 pub returns-in-None-clause-builds : goal.returns-in-None-clause-builds
 returns-in-None-clause-builds c = λ k shared trees free len held.
@@ -54,7 +54,7 @@ returns-in-None-clause-builds c = λ k shared trees free len held.
     (own_words_of c.args.code.now) (c.lay_bins.ensures.laid k shared free len) c.lay_bins.ensures.leaves free c.lay_bins.ensures.front len fits held in
     let S : List (List ℕ) = shared ++ bins_of c.args.code.now in
     big-makes k S c.args.room.now c.args.room.now c.args.mem.now c.put_items.new.mem c.args.making.now c.args.making.now (long_bins c.args.code.now)
-    (is_big c.args.names.now S trees c.args.code.now) (read c.args.names.now S trees c.args.code.now) (c.in-None.ensures.reads r.test S trees r.free r.standing r.holders)
+    (has_big_item c.args.names.now S trees c.args.code.now) (read c.args.names.now S trees c.args.code.now) (c.in-None.ensures.reads r.test S trees r.free r.standing r.holders)
 
 pub returns-then-w-ne-WIDE-clause-leaves : goal.returns-then-w-ne-WIDE-clause-leaves
 returns-then-w-ne-WIDE-clause-leaves c =

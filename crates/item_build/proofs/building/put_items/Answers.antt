@@ -3,7 +3,7 @@ use Rattle.std.proofs.lemmas.List.{length-drop}
 use Rattle.plain_term.specs.declared.item.Item.{Item}
 use Rattle.plain_term.specs.declared.item.Item.TheVariants.{Int}
 use Rattle.plain_term.specs.Tree.{Tree}
-use Rattle.item_build.specs.Reading.{bytes_after, bytes_led, is_big, long_bins, own_words, own_words_of, read, terms_in}
+use Rattle.item_build.specs.Reading.{bytes_after, bytes_led, has_big_item, long_bins, own_words, own_words_of, read, terms_in}
 use Rattle.term_build.specs.Taken.{IsFree}
 use Rattle.item_build.specs.Building.{BinsStand, HeldStand, MarksBuilt, PutsAll, UsesSome}
 use Rattle.item_build.proofs.Turned.Makes.{uses-nothing}
@@ -21,7 +21,7 @@ loop-i-init c = record {
   uses = uses-nothing (own_words_of (drop (length c.args.code.now) c.args.code.now)) c.args.room.now c.args.mem.now;
   built = λ k shared trees free held holders.
       no-items c.args.code.now
-      (λ z. (is_big c.args.names.now shared trees z ≡ false)
+      (λ z. (has_big_item c.args.names.now shared trees z ≡ false)
       × MarksBuilt k c.args.room.now.top (c.args.room.now.top - c.args.room.now.top) c.args.mem.now c.args.mem.now shared (drop (length c.args.scratch.now) c.args.scratch.now)
       (read c.args.names.now shared trees z))
       (refl, begun k c.args.room.now c.args.mem.now shared c.args.scratch.now);
@@ -61,14 +61,14 @@ returns-clause-reads c = λ k shared trees free held holders.
     let P : List ℕ → Type 0 = λ z. MarksBuilt k c.args.room.now.top (c.loop-i.room.top - c.args.room.now.top) c.args.mem.now c.loop-i.mem shared z
     (read c.args.names.now shared trees c.args.code.now) in
     let all = all-read c.loop-i.i c.args.code.now
-    (λ z. (is_big c.args.names.now shared trees z ≡ false)
+    (λ z. (has_big_item c.args.names.now shared trees z ≡ false)
     × MarksBuilt k c.args.room.now.top (c.loop-i.room.top - c.args.room.now.top) c.args.mem.now c.loop-i.mem shared (drop c.loop-i.sp c.loop-i.scratch) (read c.args.names.now shared trees z))
     c.loop-i-test.false b in
     (all.0, subst P (one-left c.loop-i.scratch c.loop-i.sp last) all.1)
 
 pub returns-in_err-sp-clause-reads : goal.returns-in_err-sp-clause-reads
 returns-in_err-sp-clause-reads c = λ k shared trees free held holders.
-    let P : Option ℕ → Type 0 = λ z. PutsAll k shared c.args.room.now c.put_item.new.room c.args.mem.now c.put_item.new.mem z (is_big c.args.names.now shared trees c.args.code.now)
+    let P : Option ℕ → Type 0 = λ z. PutsAll k shared c.args.room.now c.put_item.new.room c.args.mem.now c.put_item.new.mem z (has_big_item c.args.names.now shared trees c.args.code.now)
     (read c.args.names.now shared trees c.args.code.now) in
     let b = c.loop-i.invariant.built k shared trees free held holders in
     let big = c.in_err-sp.ensures.puts b.1.test shared trees (read c.args.names.now shared trees (drop c.loop-i.i c.args.code.now))
@@ -87,7 +87,7 @@ pub loop-i-preserved : goal.loop-i-preserved
 loop-i-preserved c =
     let built : (k : ℕ → ℕ → Bool) (shared : List (List ℕ)) (trees : List Tree) → IsFree k c.args.room.now.top (c.args.room.now.top + own_words_of c.args.code.now)
     → HeldStand k shared c.args.mem.now c.args.held.now trees → BinsStand k shared c.args.mem.now c.args.bins (long_bins c.args.code.now)
-    → (is_big c.args.names.now shared trees (drop (c.loop-i.i - 1) c.args.code.now) ≡ false)
+    → (has_big_item c.args.names.now shared trees (drop (c.loop-i.i - 1) c.args.code.now) ≡ false)
     × MarksBuilt k c.args.room.now.top (c.put_item.new.room.top - c.args.room.now.top) c.args.mem.now c.put_item.new.mem shared (drop c.in_ok-sp.sp c.put_item.new.scratch)
     (read c.args.names.now shared trees (drop (c.loop-i.i - 1) c.args.code.now)) =
     (λ k shared trees free held holders.

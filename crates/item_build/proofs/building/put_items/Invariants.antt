@@ -1,7 +1,7 @@
 use Rattle.std.proofs.Common.{◌≡◌, ◌+◌, ◌-◌, ◌*◌, ◌≤◌, ℕ, Bool, false, List, length, drop}
 use Rattle.plain_term.specs.Tree.{Tree}
 use Rattle.term_build.specs.Taken.{IsFree}
-use Rattle.item_build.specs.Reading.{is_big, long_bins, own_words_of, read, terms_in}
+use Rattle.item_build.specs.Reading.{has_big_item, long_bins, own_words_of, read, terms_in}
 use Rattle.item_build.specs.Building.{BinsStand, HeldStand, MarksBuilt, UsesSome}
 use Rattle.item_build.proofs.building.put_items.Given as goal
 
@@ -15,7 +15,7 @@ invariant-loop-i l = record {
   bin : l.bin + 6 * long_bins (drop l.i l.code) ≡ l.bins;
   built : (c : ℕ → ℕ → Bool) (shared : List (List ℕ)) (trees : List Tree) → IsFree c l.initial.room.top (l.initial.room.top + own_words_of l.code)
       → HeldStand c shared l.initial.mem l.held trees → BinsStand c shared l.initial.mem l.bins (long_bins l.code)
-      → (is_big l.names shared trees (drop l.i l.code) ≡ false)
+      → (has_big_item l.names shared trees (drop l.i l.code) ≡ false)
       × MarksBuilt c l.initial.room.top (l.room.top - l.initial.room.top) l.initial.mem l.mem shared (drop l.sp l.scratch) (read l.names shared trees (drop l.i l.code));
 }
 

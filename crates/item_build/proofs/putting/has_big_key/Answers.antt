@@ -2,7 +2,7 @@ use Rattle.std.proofs.Common.{◌≡◌, ℕ, suc, ◌+◌, ◌*◌, true, false
 use Rattle.std.proofs.lemmas.List.{length-drop}
 use Rattle.plain_term.specs.Tree.{Tree}
 use Rattle.term_words.specs.Role.{always}
-use Rattle.item_build.specs.Reading.{has_big_key as has_big, is_big_key as is_big_mark}
+use Rattle.item_build.specs.Reading.{has_big_key as has_big, is_big_key}
 use Rattle.item_build.proofs.Turned.Marks.{few-small, marks-length, two-at}
 use Rattle.item_build.proofs.putting.has_big_key.Goals as goal
 
@@ -11,10 +11,10 @@ next-place i = omega arith
 
 -- A key that is big is one of all, and another is not.
 
-now-big : (shared : List (List ℕ)) (k v : Option Tree) (ms rest : List (Option Tree)) → ms ≡ k ∷ v ∷ rest → is_big_mark shared k ≡ true → has_big shared ms ≡ true
+now-big : (shared : List (List ℕ)) (k v : Option Tree) (ms rest : List (Option Tree)) → ms ≡ k ∷ v ∷ rest → is_big_key shared k ≡ true → has_big shared ms ≡ true
 now-big shared k v ms rest left e = ap (has_big shared) left ∙ rw e refl
 
-later-big : (shared : List (List ℕ)) (k v : Option Tree) (ms rest : List (Option Tree)) → ms ≡ k ∷ v ∷ rest → is_big_mark shared k ≡ false → has_big shared ms ≡ has_big shared rest
+later-big : (shared : List (List ℕ)) (k v : Option Tree) (ms rest : List (Option Tree)) → ms ≡ k ∷ v ∷ rest → is_big_key shared k ≡ false → has_big shared ms ≡ has_big shared rest
 later-big shared k v ms rest left e = ap (has_big shared) left ∙ rw e refl
 
 pub is_big_key-requires : goal.is_big_key-requires

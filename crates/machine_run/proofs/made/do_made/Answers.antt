@@ -1,7 +1,7 @@
 -- Each line is done by the machine's step, and its reply is summed up.
 use Rattle.std.proofs.Common.{◌≡◌, ◌∙◌, ◌∷◌, ◌+◌, ◌≤◌, ℕ, List, refl, sym, ap, subst, arith, length}
 use Rattle.line_io.specs.Lines.{text}
-use Rattle.made_script.specs.Script.{lines_left}
+use Rattle.made_script.specs.Script.{lines_to_come}
 use Rattle.made_script.proofs.Laws.{lines-made}
 use Rattle.engine.specs.Acts.{StandsWith}
 use Rattle.engine.specs.Rules.{After, Supply}
@@ -21,9 +21,9 @@ pub loop-script-preserved : goal.loop-script-preserved
 loop-script-preserved g c =
     let kept = c.loop-script.invariant in
     let line : List ℕ = c.as_slice.result.now in
-    let rest : List (List ℕ) = lines_left c.next_line.new.self in
-    let left : lines_left c.loop-script.script ≡ line ∷ rest =
-    subst (λ l. lines_left c.loop-script.script ≡ l ∷ rest) (sym c.as_slice.ensures.value) c.loop-script-test.ensures in
+    let rest : List (List ℕ) = lines_to_come c.next_line.new.self in
+    let left : lines_to_come c.loop-script.script ≡ line ∷ rest =
+    subst (λ l. lines_to_come c.loop-script.script ≡ l ∷ rest) (sym c.as_slice.ensures.value) c.loop-script-test.ensures in
     let after : After = record {
       stands = StandsWith (g.P.Space.stands c.step.new.m.space) c.step.new.m.names;
       text = g.P.Space.text c.step.new.m.space c.step.new.m.names;

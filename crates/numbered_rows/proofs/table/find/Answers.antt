@@ -1,5 +1,5 @@
 use Rattle.std.proofs.Common.{◌≡◌, ◌-◌, sym, ◌∙◌, arith}
-use Rattle.numbered_rows.specs.Numbers.{number_at}
+use Rattle.numbered_rows.specs.Numbers.{row_number}
 use Rattle.numbered_rows.proofs.Rising.{number-read, among-none, find-none}
 use Rattle.numbered_rows.proofs.table.find.Goals as goal
 
@@ -9,7 +9,7 @@ returns-then-above-eq0-clause-among g c =
 
 pub returns-else-number-n-clause-among : goal.returns-else-number-n-clause-among
 returns-else-number-n-clause-among g c =
-    let none : number_at g.R.Numbered.number_of c.args.rows.now (c.first_above-above.result - 1) ≡ c.args.n → ⊥ =
+    let none : row_number g.R.Numbered.number_of c.args.rows.now (c.first_above-above.result - 1) ≡ c.args.n → ⊥ =
     λ e.
     c.if-number-n.false
     (c.number.ensures ∙ (sym (number-read g.R.Numbered.number_of c.args.rows.now (c.first_above-above.result - 1) c.index-rows-above.result (omega arith) c.index-rows-above.is) ∙ e)) in

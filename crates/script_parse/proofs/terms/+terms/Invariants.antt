@@ -1,5 +1,5 @@
 use Rattle.std.proofs.Common.{◌≡◌, ◌+◌, ◌-◌, ◌*◌, ◌≤◌, length}
-use Rattle.script_parse.specs.Output.{given, Grows}
+use Rattle.script_parse.specs.Output.{given, OutputGrows}
 use Rattle.script_parse.specs.Reading.{parts_run, part_run, term_run}
 use Rattle.script_parse.proofs.terms.+terms.Given as goal
 
@@ -29,7 +29,7 @@ abbrev pub invariant-parts-loop-n : goal.invariant-parts-loop-n
 invariant-parts-loop-n l = record {
   read : parts_run (part_run (term_run l.levels) l.form) (l.n-end - l.n) l.at l.n (given l.out)
       ≡ parts_run (part_run (term_run l.levels) l.form) (length l.line + 1) l.line 0 (given l.initial.out);
-  grown : Grows l.initial.out l.out;
+  grown : OutputGrows l.initial.out l.out;
   room : length l.out.code.now + length l.at ≤ length l.initial.out.code.now + length l.line;
   within : length l.at ≤ length l.line;
 }

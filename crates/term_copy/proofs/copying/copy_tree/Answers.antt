@@ -4,7 +4,7 @@ use Rattle.plain_term.specs.Measures.{flat}
 use Rattle.cheney.specs.Ranges.{stays}
 use Rattle.term_words.proofs.Placing.Single.{single}
 use Rattle.term_copy.specs.Copied.{Task}
-use Rattle.term_copy.specs.Going.{Begun, Ready}
+use Rattle.term_copy.specs.Going.{Begun, ReadyToCopy}
 use Rattle.term_copy.proofs.Stepping.{can-begin, can-room, room-has, room-then, task_of}
 use Rattle.term_copy.proofs.Whole.{ended}
 use Rattle.term_copy.proofs.copying.copy_tree.Goals as goal
@@ -59,7 +59,7 @@ pub returns-clause-copies : goal.returns-clause-copies
 returns-clause-copies c = λ test shared t one s free.
     let same : c.requires.can.tree ≡ t = single c.requires.can.test test c.requires.can.shared shared c.args.mem.now c.args.w c.requires.can.tree t c.requires.can.standing s in
     let P : Tree → Type 0 = λ u. c.args.room.now.top + flat u ≤ c.args.room.now.end in
-    let r : Ready (task_of c.args.mem.now c.args.room.now (stays c.args.stay.now) test shared c.args.w t) =
+    let r : ReadyToCopy (task_of c.args.mem.now c.args.room.now (stays c.args.stay.now) test shared c.args.w t) =
     record { single = one; standing = s; clear = free; fits = subst P same c.requires.can.fits } in
     ended (task_of c.args.mem.now c.args.room.now (stays c.args.stay.now) test shared c.args.w t) c.loop-at.mem c.loop-at.at c.loop-at.room.top c.copy_root-result.result
     (c.loop-at.invariant.each (task_of c.args.mem.now c.args.room.now (stays c.args.stay.now) test shared c.args.w t) (λ q. refl) r refl refl refl)

@@ -3,7 +3,7 @@ use Rattle.plain_term.specs.Tree.{pairs_len, keys_of, values_of}
 use Rattle.plain_term.specs.InOrder.{in_order}
 use Rattle.term_words.specs.Role.{always}
 use Rattle.term_words.specs.Stands.{AllStand}
-use Rattle.term_maps.specs.Given.{pairs_in}
+use Rattle.term_maps.specs.Given.{word_pairs}
 use Rattle.term_maps.proofs.Compares.{keys-many, values-many}
 use Rattle.term_maps.proofs.Named.{keys-named}
 use Rattle.term_maps.proofs.Sorting.{is-made}
@@ -11,7 +11,7 @@ use Rattle.term_maps.proofs.maps.map_of_row.Goals as goal
 
 pub sort_row-requires-clause-named : goal.sort_row-requires-clause-named
 sort_row-requires-clause-named c =
-    keys-named c.args.mem.now c.args.names.now c.requires.pairs.shared (pairs_in c.args.row.now) c.requires.pairs.given c.requires.pairs.standing c.requires.pairs.named
+    keys-named c.args.mem.now c.args.names.now c.requires.pairs.shared (word_pairs c.args.row.now) c.requires.pairs.given c.requires.pairs.standing c.requires.pairs.named
 
 pub map_in_order-requires-clause-pairs : goal.map_in_order-requires-clause-pairs
 map_in_order-requires-clause-pairs c =

@@ -1,7 +1,7 @@
 use Rattle.std.proofs.Common.{ℕ, ◌+◌, ◌*◌, List, Bool, length, inl, inr, sym, ◌∙◌, refl, subst, ap, arith}
 use Rattle.term_words.specs.Counted.{In}
 use Rattle.term_maps.specs.Spots.{PutsSpot}
-use Rattle.term_maps.specs.Given.{keys_in, pairs_in}
+use Rattle.term_maps.specs.Given.{keys_in, word_pairs}
 use Rattle.term_maps.proofs.Turns.{next-in-turn, pairs-many, turn-key}
 use Rattle.term_maps.proofs.Left.{none-left}
 use Rattle.term_maps.proofs.Sorting.{sorting-begins, sorting-goes, sorting-stops, sorting-ends, next-within}
@@ -33,7 +33,7 @@ pub loop-i-preserved : goal.loop-i-preserved
 loop-i-preserved c = record {
   keys = λ w h. elim (c.put.ensures.keys w h) [
     | inl is ↦
-        let P : ℕ → Type 0 = λ x. In x (keys_in (pairs_in c.args.row.now)) in
+        let P : ℕ → Type 0 = λ x. In x (keys_in (word_pairs c.args.row.now)) in
         subst P (sym is) (turn-key c.args.row.now c.loop-i.i (2 * c.loop-i.i) (2 * c.loop-i.i + 1) (omega (arith, c.loop-i-test.true)) refl refl)
     | inr old ↦ c.loop-i.invariant.keys w old
   ];
@@ -52,5 +52,5 @@ loop-i-preserved c = record {
 pub returns-clause-sorted : goal.returns-clause-sorted
 returns-clause-sorted c = λ k shared given stand.
     sorting-ends k _ shared c.args.mem.now given c.loop-i.i c.loop-i.sorted (c.loop-i.invariant.sorting k shared given stand)
-    (none-left k shared c.args.mem.now (pairs_in c.args.row.now) given c.loop-i.i stand (omega (arith, pairs-many c.args.row.now, c.loop-i-test.false)))
+    (none-left k shared c.args.mem.now (word_pairs c.args.row.now) given c.loop-i.i stand (omega (arith, pairs-many c.args.row.now, c.loop-i-test.false)))
     (c.requires.within.each k shared given stand) c.loop-i.invariant.few

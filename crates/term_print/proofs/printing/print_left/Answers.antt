@@ -3,8 +3,8 @@ use Rattle.std.proofs.lemmas.List.{length-reverse}
 use Rattle.line_io.specs.Sink.{Grew}
 use Rattle.term_words.specs.Role.{always}
 use Rattle.term_words.specs.Stands.{Stands}
-use Rattle.term_print.specs.Left.{closing}
-use Rattle.term_print.specs.Going.{Begun}
+use Rattle.term_print.specs.Left.{closing_text}
+use Rattle.term_print.specs.Going.{PrintBegun}
 use Rattle.term_walk.proofs.Steps.{differs}
 use Rattle.text_parts.proofs.Writing.{written-as}
 use Rattle.term_print.proofs.Going.{prints-gathered, prints-gathered-stops, keeps-room, prints-popped, prints-end, prints-end-stops, prints-part, prints-part-stops, part-asks, stops, begins-kept, level-counts, level-gathers, levels-grow}
@@ -24,7 +24,7 @@ returns-in_err-put-in-End-clause-on g c = λ first start b.
     (prints-gathered c.args.mem.now c.args.names.now first c.loop-text.levels.items c.pop.new.self.items c.in-Some.top c.gather-level.result c.gather-level.new.text.items c.as_slice.result.now
     c.loop-text.seen g.K.Sink.wrote start c.loop-text.sink c.put.new.sink c.in-Some.ensures.items c.as_slice.ensures.value (c.loop-text.invariant.on first start b).prints c.gather-level.ensures
     c.in_ok-put.ensures.all)
-    (written-as g.K.Sink.wrote g.K.Sink.faults c.put.new.sink c.put-in-End.new.sink c.end_bytes.result.now (closing c.in-End.last) (Err c.in_err-put-in-End.field-0.0) c.end_bytes.ensures
+    (written-as g.K.Sink.wrote g.K.Sink.faults c.put.new.sink c.put-in-End.new.sink c.end_bytes.result.now (closing_text c.in-End.last) (Err c.in_err-put-in-End.field-0.0) c.end_bytes.ensures
     c.in_err-put-in-End.ensures))
 
 pub get-word-requires : goal.get-word-requires
@@ -163,5 +163,6 @@ next-requires g c =
 
 pub returns-in_default-clause-on : goal.returns-in_default-clause-on
 returns-in_default-clause-on g c = λ first start b.
-    subst (λ z. Begun c.args.mem.now c.args.names.now first (reverse z) c.loop-text.seen g.K.Sink.wrote g.K.Sink.faults start c.loop-text.sink) (sym (ap (λ z. z.items) c.in_default.ensures.empty))
+    subst (λ z. PrintBegun c.args.mem.now c.args.names.now first (reverse z) c.loop-text.seen g.K.Sink.wrote g.K.Sink.faults start c.loop-text.sink)
+    (sym (ap (λ z. z.items) c.in_default.ensures.empty))
     (c.loop-text.invariant.on first start b)

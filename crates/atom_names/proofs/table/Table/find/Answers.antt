@@ -3,7 +3,7 @@ use Rattle.std.proofs.lemmas.List.{get_or-map}
 use Rattle.std.proofs.lemmas.Bool.{false≢true}
 use Rattle.std.proofs.lemmas.Slice.Eq.{bytes_eq-Decides}
 use Rattle.std.specs.Str.{bytes_eq}
-use Rattle.atom_names.specs.Rows.{name_of}
+use Rattle.atom_names.specs.Rows.{row_name}
 use Rattle.atom_names.specs.Slots.{after}
 use Rattle.atom_names.proofs.Probing.{new-at, some-free, read-is, read-known}
 use Rattle.atom_names.proofs.table.Table.find.Goals as goal
@@ -12,39 +12,39 @@ pub returns-then-number-eq0-clause-new : goal.returns-then-number-eq0-clause-new
 returns-then-number-eq0-clause-new c =
     let at = read-is c.args.self.now.slots.items (after c.spread-start.result c.loop-j.j) c.index.result.now
     (omega (arith, c.requires.finds.slots_room)) c.index.ensures in
-    new-at (map name_of c.args.rows.now) c.args.name.now (length c.args.rows.now) c.args.self.now.slots.items
+    new-at (map row_name c.args.rows.now) c.args.name.now (length c.args.rows.now) c.args.self.now.slots.items
     c.args.self.now.places.items c.loop-j.j c.requires.finds c.loop-j-test.true
     (rw (← c.spread-start.ensures.value) (at ∙ c.if-number-eq0.true)) (rw (← c.spread-start.ensures.value) c.loop-j.invariant.others)
 
 pub bounds-rows-number : goal.bounds-rows-number
 bounds-rows-number c =
-    read-known (map name_of c.args.rows.now) (length c.args.rows.now) c.args.self.now.slots.items c.args.self.now.places.items
+    read-known (map row_name c.args.rows.now) (length c.args.rows.now) c.args.self.now.slots.items c.args.self.now.places.items
     (after c.spread-start.result c.loop-j.j) c.index.result.now c.requires.finds (omega arith) c.index.ensures c.if-number-eq0.false
 
 pub returns-then-eq-clause-inside : goal.returns-then-eq-clause-inside
 returns-then-eq-clause-inside c =
-    read-known (map name_of c.args.rows.now) (length c.args.rows.now) c.args.self.now.slots.items c.args.self.now.places.items
+    read-known (map row_name c.args.rows.now) (length c.args.rows.now) c.args.self.now.slots.items c.args.self.now.places.items
     (after c.spread-start.result c.loop-j.j) c.index.result.now c.requires.finds (omega arith) c.index.ensures c.if-number-eq0.false
 
 pub returns-then-eq-clause-there : goal.returns-then-eq-clause-there
 returns-then-eq-clause-there c =
-    let inside = read-known (map name_of c.args.rows.now) (length c.args.rows.now) c.args.self.now.slots.items c.args.self.now.places.items
+    let inside = read-known (map row_name c.args.rows.now) (length c.args.rows.now) c.args.self.now.slots.items c.args.self.now.places.items
     (after c.spread-start.result c.loop-j.j) c.index.result.now c.requires.finds (omega arith) c.index.ensures c.if-number-eq0.false in
-    get_or-map name_of c.args.rows.now (c.index.result.now - 1) _ [] inside
+    get_or-map row_name c.args.rows.now (c.index.result.now - 1) _ [] inside
     ∙ (sym c.name_in.ensures ∙ (bytes_eq-Decides c.name_in.result.now c.args.name.now).0 (sym c.eq.ensures ∙ c.if-eq.true))
 
 pub loop-j-preserved : goal.loop-j-preserved
 loop-j-preserved c =
     let at = read-is c.args.self.now.slots.items (after c.spread-start.result c.loop-j.j) c.index.result.now
     (omega (arith, c.requires.finds.slots_room)) c.index.ensures in
-    let inside = read-known (map name_of c.args.rows.now) (length c.args.rows.now) c.args.self.now.slots.items c.args.self.now.places.items
+    let inside = read-known (map row_name c.args.rows.now) (length c.args.rows.now) c.args.self.now.slots.items c.args.self.now.places.items
     (after c.spread-start.result c.loop-j.j) c.index.result.now c.requires.finds (omega arith) c.index.ensures c.if-number-eq0.false in
-    let named = get_or-map name_of c.args.rows.now (c.index.result.now - 1) _ [] inside ∙ sym c.name_in.ensures in
+    let named = get_or-map row_name c.args.rows.now (c.index.result.now - 1) _ [] inside ∙ sym c.name_in.ensures in
     let P : ℕ → Type 0 = λ i. (k : ℕ) → get_or c.args.self.now.slots.items (after c.spread-start.result i) 0 ≡ k + 1 →
-    get_or (map name_of c.args.rows.now) k [] ≡ c.args.name.now → ⊥ in
+    get_or (map row_name c.args.rows.now) k [] ≡ c.args.name.now → ⊥ in
     let here : P c.loop-j.j = λ k e same.
     let is : k ≡ c.index.result.now - 1 = omega (arith, at, e) in
-    let Q : ℕ → Type 0 = λ m. get_or (map name_of c.args.rows.now) m [] ≡ c.args.name.now in
+    let Q : ℕ → Type 0 = λ m. get_or (map row_name c.args.rows.now) m [] ≡ c.args.name.now in
     let yes : bytes_eq c.name_in.result.now c.args.name.now ≡ true =
     (bytes_eq-Decides c.name_in.result.now c.args.name.now).1 (sym named ∙ subst Q is same) in
     false≢true (sym c.if-eq.false ∙ (c.eq.ensures ∙ yes)) in
@@ -56,6 +56,6 @@ loop-j-preserved c =
 
 pub unreachable-requires : goal.unreachable-requires
 unreachable-requires c =
-    some-free (map name_of c.args.rows.now) c.args.name.now (length c.args.rows.now) c.args.self.now.slots.items c.args.self.now.places.items
+    some-free (map row_name c.args.rows.now) c.args.name.now (length c.args.rows.now) c.args.self.now.slots.items c.args.self.now.places.items
     c.requires.finds c.requires.few
     (rw (← c.spread-start.ensures.value) (λ j h. c.loop-j.invariant.full j (omega (arith, c.loop-j-test.false))))

@@ -1,6 +1,6 @@
 use Rattle.std.proofs.Common.{arith, ◌∙◌, ◌∷◌, ◌++◌, ◌+◌, ◌-◌, ◌<◌, ◌≤◌, ℕ, refl, sym, ap, ap₂, List, drop}
 use Rattle.made_script.specs.Lines.{line_of}
-use Rattle.made_script.specs.Script.{lines_from, opening}
+use Rattle.made_script.specs.Script.{lines_from, opening_lines}
 use Rattle.made_script.proofs.Tables.{next-opening, opening-over, next-drawn}
 use Rattle.made_script.proofs.script.MadeScript.next_line.Goals as goal
 
@@ -8,7 +8,7 @@ pub returns-then-self-lt8 : goal.returns-then-self-lt8
 returns-then-self-lt8 c =
     let s = c.args.self.now in
     next-opening s.opened (lines_from s.left s.generator) c.if-self-lt8.true
-    ∙ ap (λ (l : List ℕ). l ∷ (drop (s.opened + 1) opening ++ lines_from s.left s.generator)) (sym c.put_line_of.ensures)
+    ∙ ap (λ (l : List ℕ). l ∷ (drop (s.opened + 1) opening_lines ++ lines_from s.left s.generator)) (sym c.put_line_of.ensures)
 
 pub returns-then-self-eq0 : goal.returns-then-self-eq0
 unfolding lines_from

@@ -2,7 +2,7 @@ use Rattle.std.proofs.Common.{◌≡◌, ℕ, ◌+◌, ◌-◌, ◌*◌, ◌≤�
 use Rattle.word_mem.specs.declared.ranges.Room.{Room}
 use Rattle.std.specs.Vec.{with_items}
 use Rattle.script_grammar.specs.declared.refusal.Refusal.{Refusal}
-use Rattle.item_build.specs.Reading.{long_bins, words_of}
+use Rattle.item_build.specs.Reading.{long_bins, item_words_of}
 use Rattle.item_build.proofs.Meaning.Written.{is-written}
 use Rattle.item_build.proofs.Laid.Chaining.{longs-few}
 use Rattle.one_space.specs.Doing.{Asks, Builds}
@@ -96,7 +96,7 @@ overflow_add-self-2 c =
 
 pub returns-then-not-make_room-clause-asks : goal.returns-then-not-make_room-clause-asks
 returns-then-not-make_room-clause-asks c =
-    asks-lacks c.words_needed-grow.result (words_of c.args.code.now) c.args.self.now c.make_room.new.self c.make_room.result c.make_room.ensures (needed-words c.args.names.now
+    asks-lacks c.words_needed-grow.result (item_words_of c.args.code.now) c.args.self.now c.make_room.new.self c.make_room.result c.make_room.ensures (needed-words c.args.names.now
     c.args.code.now c.requires.term c.words_needed-grow.result c.count-named.ensures.names.few c.words_needed-grow.ensures) c.if-not-make_room.true c.words_needed-grow.result
 
 pub returns-in-Err-clause-asks : goal.returns-in-Err-clause-asks
@@ -104,13 +104,13 @@ returns-in-Err-clause-asks c =
     let n = c.words_needed-grow.result in
     let b : One = c.args.self.now in
     let new : One = stopped_in b c.make_room.new.self c.build.new.mem (with_items b.row c.build.new.scratch) in
-    let P : Refusal → Type 0 = λ e. Asks {A = Unit {0}} (words_of c.args.code.now) b new (Err e) in
-    subst P (sym c.refusal_of.ensures) (asks-stopped n (words_of c.args.code.now) b c.make_room.new.self c.make_room.result c.make_room.ensures (needed-words c.args.names.now
+    let P : Refusal → Type 0 = λ e. Asks {A = Unit {0}} (item_words_of c.args.code.now) b new (Err e) in
+    subst P (sym c.refusal_of.ensures) (asks-stopped n (item_words_of c.args.code.now) b c.make_room.new.self c.make_room.result c.make_room.ensures (needed-words c.args.names.now
     c.args.code.now c.requires.term c.words_needed-grow.result c.count-named.ensures.names.few c.words_needed-grow.ensures) c.if-not-make_room.false new refl refl refl c.in-Err.stop)
 
 pub returns-clause-asks : goal.returns-clause-asks
 returns-clause-asks c =
-    asks-grown c.words_needed-grow.result (words_of c.args.code.now) c.args.self.now c.make_room.new.self c.make_room.result c.make_room.ensures (needed-words c.args.names.now
+    asks-grown c.words_needed-grow.result (item_words_of c.args.code.now) c.args.self.now c.make_room.new.self c.make_room.result c.make_room.ensures (needed-words c.args.names.now
     c.args.code.now c.requires.term c.words_needed-grow.result c.count-named.ensures.names.few c.words_needed-grow.ensures) c.if-not-make_room.false _ refl
     (omega (
       arith,

@@ -7,11 +7,11 @@ use Rattle.term_words.specs.Stands.{Stands}
 use Rattle.term_build.specs.Clear.{Uses}
 use Rattle.term_build.specs.Grows.{Built}
 use Rattle.term_build.specs.Taken.{IsFree}
-use Rattle.term_verbs.specs.Placed.{HasPlace, count_placed, placed}
+use Rattle.term_verbs.specs.Placed.{HasPlace, count_placed, put_at_spot}
 use Rattle.plain_machine.specs.State.{register}
 use Rattle.script_grammar.specs.declared.command.Command.TheVariants.{Process as OfProcess}
 use Rattle.script_grammar.specs.declared.command.Verb.TheVariants as verb
-use Rattle.plain_machine.specs.Tightness.{keys_in}
+use Rattle.plain_machine.specs.Tightness.{key_count}
 use Rattle.one_space.specs.Doing.{DoesBy}
 use Rattle.one_space.proofs.Calls.Asking.{asks-grown, asks-lacks}
 use Rattle.one_space.proofs.Verbs.Choosing.{can-seek}
@@ -55,7 +55,7 @@ pub returns-then-not-make_room-clause-asks : goal.returns-then-not-make_room-cla
 returns-then-not-make_room-clause-asks c = λ s q o found. record {
   early = λ e. absurd cc;
   asks = λ e.
-      asks-lacks (6 + 2 * c.in-Ok.place.keys) (6 + 2 * keys_in (register c.args.s.0 q)) c.args.self.now c.make_room.new.self c.make_room.result c.make_room.ensures
+      asks-lacks (6 + 2 * c.in-Ok.place.keys) (6 + 2 * key_count (register c.args.s.0 q)) c.args.self.now c.make_room.new.self c.make_room.result c.make_room.ensures
       (put-asked c.args.self.now c.requires.holds c.args.seat c.requires.sits c.args.r c.args.s c.args.k c.args.v c.requires.map c.requires.key c.requires.value c.process.result.now c.process.ensures
       c.args.names.now c.place_in.result c.place_in.ensures c.in-Ok.place c.in-Ok.is s o q found) c.if-not-make_room.true (6 + 2 * c.in-Ok.place.keys);
 }
@@ -81,7 +81,7 @@ returns-clause-does c =
     let V : Room → Type 0 = λ y. (d : ℕ → ℕ → Bool) (shared : List (List ℕ)) (ps : Pairs) (t u : Tree) → IsFree d y.top (y.top + (4 + 2 * count_placed c.in-Ok.place.spot (pairs_len ps)))
     → Stands d shared c.make_room.new.self.mem (get_or c.process-2.result.now.regs c.args.s.0 0) (Map ps) → Stands d shared c.make_room.new.self.mem (get_or c.process-2.result.now.regs c.args.k.0 0) t
     → Stands d shared c.make_room.new.self.mem (get_or c.process-2.result.now.regs c.args.v.0 0) u
-    → Built d y.top (4 + 2 * count_placed c.in-Ok.place.spot (pairs_len ps)) c.make_room.new.self.mem c.map_with-w.new.mem shared c.map_with-w.result (Map (placed c.in-Ok.place.spot t u ps)) in
+    → Built d y.top (4 + 2 * count_placed c.in-Ok.place.spot (pairs_len ps)) c.make_room.new.self.mem c.map_with-w.new.mem shared c.map_with-w.result (Map (put_at_spot c.in-Ok.place.spot t u ps)) in
     put-does c.args.self.now c.requires.holds c.args.seat c.requires.sits c.args.r c.args.s c.args.k c.args.v c.requires.map c.requires.key c.requires.value c.process.result.now c.process.ensures
     c.args.names.now c.place_in.result c.place_in.ensures c.in-Ok.place c.in-Ok.is _ refl c.make_room.new.self c.make_room.result c.make_room.ensures c.process-2.result.now
     c.process-2.ensures c.if-not-make_room.false
@@ -92,7 +92,7 @@ pub returns-clause-asks : goal.returns-clause-asks
 returns-clause-asks c = λ s q o found. record {
   early = λ e. absurd cc;
   asks = λ e.
-      asks-grown (6 + 2 * c.in-Ok.place.keys) (6 + 2 * keys_in (register c.args.s.0 q)) c.args.self.now c.make_room.new.self c.make_room.result c.make_room.ensures
+      asks-grown (6 + 2 * c.in-Ok.place.keys) (6 + 2 * key_count (register c.args.s.0 q)) c.args.self.now c.make_room.new.self c.make_room.result c.make_room.ensures
       (put-asked c.args.self.now c.requires.holds c.args.seat c.requires.sits c.args.r c.args.s c.args.k c.args.v c.requires.map c.requires.key c.requires.value c.process.result.now c.process.ensures
       c.args.names.now c.place_in.result c.place_in.ensures c.in-Ok.place c.in-Ok.is s o q found) c.if-not-make_room.false _ refl
       (let U : Room → Type 0 = λ y. (d : ℕ → ℕ → Bool) (shared : List (List ℕ)) (ps : Pairs) → Stands d shared c.make_room.new.self.mem (get_or c.process-2.result.now.regs c.args.s.0 0) (Map ps)

@@ -1,5 +1,5 @@
 use Rattle.std.proofs.Common.{◌≡◌, ◌<◌, true, false, List, length, refl, subst, arith}
-use Rattle.numbered_rows.specs.Numbers.{is_among, number_at}
+use Rattle.numbered_rows.specs.Numbers.{is_among, row_number}
 use Rattle.one_space.specs.One.{number_in}
 use Rattle.two_halves.specs.declared.table.Proc.{Proc}
 use Rattle.one_space.proofs.Verbs.Messaging.{big-asks, can-send, dead-asks, dead-does, deaf-asks, lacks-asks, seat-there, send-big, send-deaf, send-lacks, sent-asks, sent-does, size-few}
@@ -44,7 +44,7 @@ overflow_add-grow c =
 pub returns-then-not-make_room-clause-does : goal.returns-then-not-make_room-clause-does
 returns-then-not-make_room-clause-does c =
     let R : List Proc → Type 0 = λ z. c.in-Some-find.row < length z in
-    let N : List Proc → Type 0 = λ z. number_at number_in z c.in-Some-find.row ≡ c.in-Some.number in
+    let N : List Proc → Type 0 = λ z. row_number number_in z c.in-Some-find.row ≡ c.in-Some.number in
     let L : List Proc → Type 0 = λ z. true ≡ is_among number_in z c.in-Some.number in
     send-lacks c.args.self.now c.requires.holds c.args.seat c.requires.sits c.args.s c.requires.register c.args.to c.in-Some.number c.in-Some.ensures c.word.result c.word.ensures
     c.in-Within.size c.in-Within.ensures c.in-Some-find.row (subst R c.deref.ensures.value c.in-Some-find.ensures.place.0) (subst N c.deref.ensures.value c.in-Some-find.ensures.place.1)
@@ -53,7 +53,7 @@ returns-then-not-make_room-clause-does c =
 pub returns-then-not-make_room-clause-asks : goal.returns-then-not-make_room-clause-asks
 returns-then-not-make_room-clause-asks c = λ s p o found.
     let R : List Proc → Type 0 = λ z. c.in-Some-find.row < length z in
-    let N : List Proc → Type 0 = λ z. number_at number_in z c.in-Some-find.row ≡ c.in-Some.number in
+    let N : List Proc → Type 0 = λ z. row_number number_in z c.in-Some-find.row ≡ c.in-Some.number in
     let L : List Proc → Type 0 = λ z. true ≡ is_among number_in z c.in-Some.number in
     lacks-asks c.args.self.now c.requires.holds c.args.seat c.requires.sits c.args.s c.requires.register c.args.to c.in-Some.number c.in-Some.ensures c.word.result c.word.ensures
     c.in-Within.size c.in-Within.ensures c.in-Some-find.row (subst R c.deref.ensures.value c.in-Some-find.ensures.place.0) (subst N c.deref.ensures.value c.in-Some-find.ensures.place.1)
@@ -62,7 +62,7 @@ returns-then-not-make_room-clause-asks c = λ s p o found.
 pub process-requires : goal.process-requires
 process-requires c =
     let R : List Proc → Type 0 = λ z. c.in-Some-find.row < length z in
-    let N : List Proc → Type 0 = λ z. number_at number_in z c.in-Some-find.row ≡ c.in-Some.number in
+    let N : List Proc → Type 0 = λ z. row_number number_in z c.in-Some-find.row ≡ c.in-Some.number in
     let L : List Proc → Type 0 = λ z. true ≡ is_among number_in z c.in-Some.number in
     seat-there c.args.self.now c.requires.holds c.args.seat c.requires.sits c.args.s c.requires.register c.args.to c.in-Some.number c.in-Some.ensures c.word.result c.word.ensures
     c.in-Within.size c.in-Within.ensures c.in-Some-find.row (subst R c.deref.ensures.value c.in-Some-find.ensures.place.0) (subst N c.deref.ensures.value c.in-Some-find.ensures.place.1)
@@ -71,7 +71,7 @@ process-requires c =
 pub send-requires : goal.send-requires
 send-requires c =
     let R : List Proc → Type 0 = λ z. c.in-Some-find.row < length z in
-    let N : List Proc → Type 0 = λ z. number_at number_in z c.in-Some-find.row ≡ c.in-Some.number in
+    let N : List Proc → Type 0 = λ z. row_number number_in z c.in-Some-find.row ≡ c.in-Some.number in
     let L : List Proc → Type 0 = λ z. true ≡ is_among number_in z c.in-Some.number in
     record {
       can = can-send c.args.self.now c.requires.holds c.args.seat c.requires.sits c.args.s c.requires.register c.args.to c.in-Some.number c.in-Some.ensures c.word.result c.word.ensures
@@ -83,7 +83,7 @@ send-requires c =
 pub returns-clause-does : goal.returns-clause-does
 returns-clause-does c =
     let R : List Proc → Type 0 = λ z. c.in-Some-find.row < length z in
-    let N : List Proc → Type 0 = λ z. number_at number_in z c.in-Some-find.row ≡ c.in-Some.number in
+    let N : List Proc → Type 0 = λ z. row_number number_in z c.in-Some-find.row ≡ c.in-Some.number in
     let L : List Proc → Type 0 = λ z. true ≡ is_among number_in z c.in-Some.number in
     sent-does c.args.self.now c.requires.holds c.args.seat c.requires.sits c.args.s c.requires.register c.args.to c.in-Some.number c.in-Some.ensures c.word.result c.word.ensures
     c.in-Within.size c.in-Within.ensures c.in-Some-find.row (subst R c.deref.ensures.value c.in-Some-find.ensures.place.0) (subst N c.deref.ensures.value c.in-Some-find.ensures.place.1)
@@ -93,7 +93,7 @@ returns-clause-does c =
 pub returns-clause-asks : goal.returns-clause-asks
 returns-clause-asks c = λ s p o found.
     let R : List Proc → Type 0 = λ z. c.in-Some-find.row < length z in
-    let N : List Proc → Type 0 = λ z. number_at number_in z c.in-Some-find.row ≡ c.in-Some.number in
+    let N : List Proc → Type 0 = λ z. row_number number_in z c.in-Some-find.row ≡ c.in-Some.number in
     let L : List Proc → Type 0 = λ z. true ≡ is_among number_in z c.in-Some.number in
     sent-asks c.args.self.now c.requires.holds c.args.seat c.requires.sits c.args.s c.requires.register c.args.to c.in-Some.number c.in-Some.ensures c.word.result c.word.ensures
     c.in-Within.size c.in-Within.ensures c.in-Some-find.row (subst R c.deref.ensures.value c.in-Some-find.ensures.place.0) (subst N c.deref.ensures.value c.in-Some-find.ensures.place.1)

@@ -1,7 +1,7 @@
 use Rattle.std.proofs.Common.{◌≡◌, ℕ, ◌<◌, ◌≤◌, List, length, nat_lt, Some, None, sym, ◌∙◌, ap, subst, arith}
 use Rattle.std.specs.List.{find}
 use Rattle.plain_machine.specs.State.{live_numbers}
-use Rattle.numbered_rows.specs.Numbers.{number_at}
+use Rattle.numbered_rows.specs.Numbers.{row_number}
 use Rattle.numbered_rows.proofs.Rising.{find-above, find-no-above, number-read, numbers-len}
 use Rattle.two_halves.specs.Halves.{end_of}
 use Rattle.one_space.specs.One.{OneStands, number_in, numbers_of}
@@ -19,8 +19,8 @@ returns-then-above-len-clause-means c = λ s h.
     let same : live_numbers s ≡ numbers_of c.self.inside.one = procs-numbers o.processes.test s.shared b.halves.mem b.named b.halves.low (end_of b.halves) b.halves.procs.items s.processes
     o.processes.processes in
     let within : c.first_above-above.result < length c.self.inside.one.halves.procs.items = omega (arith, c.self.inside.one.halves.procs.ok, c.len.ensures, c.if-above-len.true) in
-    let P : List Proc → Type 0 = λ x. c.first_above-above.result < length x → c.args.pid < number_at number_in x c.first_above-above.result in
-    let Q : List Proc → Type 0 = λ x. (k : ℕ) → k < c.first_above-above.result → number_at number_in x k ≤ c.args.pid in
+    let P : List Proc → Type 0 = λ x. c.first_above-above.result < length x → c.args.pid < row_number number_in x c.first_above-above.result in
+    let Q : List Proc → Type 0 = λ x. (k : ℕ) → k < c.first_above-above.result → row_number number_in x k ≤ c.args.pid in
     let R : List ℕ → Type 0 = λ x. Some c.process.result.now.number ≡ find (λ n. nat_lt c.args.pid n) x in
     let up = subst P c.deref.ensures.value (λ less. c.first_above-above.ensures.high c.first_above-above.result (omega arith) less) within in
     let low = subst Q c.deref.ensures.value (λ k less. c.first_above-above.ensures.low k less) in
@@ -43,7 +43,7 @@ returns-else-above-len-clause-means c = λ s h.
     let same : live_numbers s ≡ numbers_of c.self.inside.one = procs-numbers o.processes.test s.shared b.halves.mem b.named b.halves.low (end_of b.halves) b.halves.procs.items s.processes
     o.processes.processes in
     let over : length c.self.inside.one.halves.procs.items ≤ c.first_above-above.result = omega (arith, c.self.inside.one.halves.procs.ok, c.len.ensures, c.if-above-len.false) in
-    let Q : List Proc → Type 0 = λ x. (k : ℕ) → k < c.first_above-above.result → number_at number_in x k ≤ c.args.pid in
+    let Q : List Proc → Type 0 = λ x. (k : ℕ) → k < c.first_above-above.result → row_number number_in x k ≤ c.args.pid in
     let R : List ℕ → Type 0 = λ x. None ≡ find (λ n. nat_lt c.args.pid n) x in
     let low = subst Q c.deref.ensures.value (λ k less. c.first_above-above.ensures.low k less) in
     subst R (sym same) (sym (find-no-above (numbers_of c.self.inside.one) c.args.pid (λ k less. low k (omega (arith, less, over, numbers-len number_in c.self.inside.one.halves.procs.items)))))

@@ -2,7 +2,7 @@ use Rattle.std.proofs.Common.{◌+◌, ◌*◌, subst}
 use Rattle.script_grammar.specs.declared.command.Command.TheVariants.{Process}
 use Rattle.script_grammar.specs.declared.command.Verb.TheVariants as verb
 use Rattle.plain_machine.specs.State.{register}
-use Rattle.plain_machine.specs.Tightness.{keys_in}
+use Rattle.plain_machine.specs.Tightness.{key_count}
 use Rattle.one_space.specs.Doing.{AsksUnless}
 use Rattle.one_space.specs.One.{OneStands}
 use Rattle.one_space.specs.declared.one.One.{One}
@@ -16,5 +16,5 @@ returns-clause-becomes c = λ s terms h has.
 
 pub returns-clause-asks : goal.returns-clause-asks
 returns-clause-asks c = λ s q h e.
-    let P : One → Type 0 = λ x. OneStands x s → AsksUnless (6 + 2 * keys_in (register c.args.s.0 q)) x c.map_put.new.self c.map_put.result in
+    let P : One → Type 0 = λ x. OneStands x s → AsksUnless (6 + 2 * key_count (register c.args.s.0 q)) x c.map_put.new.self c.map_put.result in
     subst P c.self.view_is (λ o. c.map_put.ensures.asks s q o e) h.0
