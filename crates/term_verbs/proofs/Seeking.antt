@@ -23,7 +23,6 @@ use Rattle.term_order.specs.declared.compared.Compared.TheVariants as answer
 use Rattle.term_maps.specs.Spots.{Finds, IsAbove}
 use Rattle.term_maps.specs.declared.sorted.Spot.TheVariants as spot
 use Rattle.term_maps.proofs.Compares.{is-equal, is-greater, is-less, compared-within}
-use Rattle.term_maps.proofs.Named.{and-first, and-second}
 use Rattle.term_maps.proofs.Putting.{key-within}
 use Rattle.term_verbs.specs.Found.{AreKeys, AreSorted, CanFind}
 

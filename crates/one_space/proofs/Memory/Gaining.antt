@@ -52,7 +52,7 @@ record-least : (c : ℕ → ℕ → Bool) (mem : List ℕ) (v n : ℕ) → IsRec
 record-least c mem v n (inl (serial, bytes, o, e)) = omega (arith, o.header)
 record-least c mem v n (inr (name, arity, o, e)) = omega (arith, o.header)
 
-total-least : (f : ℕ → ℕ) (vs : List ℕ) → ((u : ℕ) → In u vs → 4 ≤ f u) → 4 * length vs ≤ total f vs
+pub total-least : (f : ℕ → ℕ) (vs : List ℕ) → ((u : ℕ) → In u vs → 4 ≤ f u) → 4 * length vs ≤ total f vs
 total-least f [] least = omega arith
 total-least f (v ∷ vs) least = omega (arith, least v (inl refl), total-least f vs (λ u i. least u (inr i)))
 

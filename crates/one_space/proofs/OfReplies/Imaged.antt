@@ -14,12 +14,12 @@ use Rattle.plain_machine.specs.Image.{process_roots}
 use Rattle.term_words.specs.Reach.{Reach, root, part}
 use Rattle.term_words.specs.Stands.{Stands}
 use Rattle.term_words.specs.Counted.{In, Distinct}
-use Rattle.term_words.proofs.Totals.Members.{in-both, in-left, in-right}
+use Rattle.term_words.proofs.Totals.Members.{in-at, in-both, in-left, in-right}
 use Rattle.shared_rec.specs.Record.{owner_in}
 use Rattle.record_move.specs.Copies.{record_words}
 use Rattle.record_move.specs.Tables.{OwnersRise}
 use Rattle.cheney.specs.Plan.{Plan}
-use Rattle.cheney.proofs.Rooted.Rows.{in-at, root-in}
+use Rattle.cheney.proofs.Rooted.Rows.{root-in}
 use Rattle.two_halves.specs.Stack.{values}
 use Rattle.two_halves.specs.Halves.{HoldTrees, IsBinOf, IsFunOf, IsLaid, ProcStands, ProcsStand, end_of, front_of, records_of}
 use Rattle.two_halves.specs.Reached.{roots_in, roots_of}
