@@ -1,8 +1,7 @@
 -- What follows from items being whole: as many terms are read as they are, their names are known, and they take few words.
 use Rattle.std.proofs.Common.{◌≡◌, ℕ, zero, suc, ◌+◌, ◌-◌, ◌*◌, ◌^◌, ◌<◌, ◌≤◌, ◌&&◌, ◌||◌, nat_lt, if◌then◌else◌, Bool, true, false, List, [], ◌∷◌, length, get_or, take, drop, slice_index_or, Option, Some, None, refl, ◌∙◌, ap, subst, arith, ltb-true}
-use Rattle.std.proofs.lemmas.Bool.{and_parts}
+use Rattle.std.proofs.lemmas.Bool.{and_from, and_parts, or_right}
 use Rattle.std.proofs.Math.Seq.{drop-cons}
-use Rattle.std.proofs.lemmas.Bool.{or_right}
 use Rattle.std.proofs.lemmas.Bool.Decides.{nat_tests}
 use Rattle.std.proofs.lemmas.List.{length-drop}
 use Rattle.plain_term.specs.declared.item.Item.{Item}
@@ -200,10 +199,7 @@ module _ (names shared : List (List ℕ)) (held : List Tree) where
     item-named Cons xs (t ▹ end) is h = tt
     item-named Cons xs (t ▹ u ▹ ts) is h =
         let others : is_named n u && are_named n ts ≡ true = (and_parts (is_named n t) (is_named n u && are_named n ts) h).1 in
-        both (is_named n t) (is_named n u) (and_parts (is_named n t) (is_named n u && are_named n ts) h).0 (and_parts (is_named n u) (are_named n ts) others).0
-      where
-        both : (a b : Bool) → a ≡ true → b ≡ true → a && b ≡ true
-        both a b x y = rw (x, y) refl
+        and_from (is_named n t) (is_named n u) (and_parts (is_named n t) (is_named n u && are_named n ts) h).0 (and_parts (is_named n u) (are_named n ts) others).0
     item-named (Tuple k) xs ts is h = h
     item-named (Map k) xs ts is h = map-named (paired ts) (nat_lt MOST_KEYS (pairs_len (in_order names shared (paired ts)))) (named-paired n ts h)
     item-named (Bin k) xs ts is h = bin-named k xs
