@@ -4,11 +4,6 @@ use Rattle.std.specs.List.{refill}
 use Rattle.term_words.specs.Counted.{In}
 use Rattle.term_maps.specs.Given.{keys_in}
 
-pub in-at : (ws : List ℕ) (i : ℕ) → i < length ws → In (get_or ws i 0) ws
-in-at [] i below = absurd (omega arith)
-in-at (w ∷ ws) zero below = inl refl
-in-at (w ∷ ws) (suc i) below = inr (in-at ws i (omega arith))
-
 pub key-in : (words : List (ℕ × ℕ)) (i : ℕ) (d : ℕ × ℕ) → i < length words → In (get_or words i d).0 (keys_in words)
 key-in [] i d below = absurd (omega arith)
 key-in (p ∷ words) zero d below = inl refl

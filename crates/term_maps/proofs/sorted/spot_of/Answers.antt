@@ -1,7 +1,7 @@
 use Rattle.std.proofs.Common.{arith}
 use Rattle.plain_term.specs.Tree.{keys_of}
 use Rattle.term_words.proofs.ByKind.Makes.{all-length}
-use Rattle.term_maps.proofs.Members.{in-at}
+use Rattle.term_words.proofs.Totals.Members.{in-at}
 use Rattle.term_maps.proofs.Compares.{order-told, is-less, is-equal, is-greater, above-more}
 use Rattle.term_maps.proofs.sorted.spot_of.Goals as goal
 
