@@ -1,13 +1,12 @@
 -- More names and shared binaries behind those that there are leave known trees as they are by name.
-use Rattle.std.proofs.Common.{◌≡◌, ℕ, zero, suc, ◌<◌, ◌≤◌, true, nat_lt, nat_le, List, [], ◌∷◌, ◌++◌, length, length-append, map, refl, ap, arith, ltb-true}
+use Rattle.std.proofs.Common.{◌≡◌, ℕ, ◌<◌, true, nat_lt, nat_le, List, [], ◌∷◌, ◌++◌, length, length-append, map, refl, ap, arith, ltb-true}
 use Rattle.std.proofs.lemmas.Bool.{and_parts, leb-true}
-use Rattle.std.proofs.lemmas.List.{get_or_append_left}
 use Rattle.plain_term.specs.Tree.{Tree, Trees, Pairs}
 use Rattle.plain_term.specs.Tree.Tree.{Int, Atom, Pid, Ref, Nil, Cons, Tuple, Map, Bin, Shared, Part, Fun}
 use Rattle.plain_term.specs.Tree.Trees.{end, ◌▹◌}
 use Rattle.plain_term.specs.Tree.Pairs.{stop, pair}
-use Rattle.plain_term.specs.Bytes.{shared_bytes}
 use Rattle.plain_term.specs.Proper.{is_proper, are_proper, are_proper_pairs}
+use Rattle.plain_term.proofs.Known.{name-stays, bytes-stay}
 use Rattle.plain_machine.proofs.Properly.Growing.{cons-parts, all-parts, fun-parts, part-parts, map-parts, pairs-parts}
 use Rattle.named_trees.specs.NamedTree.{as_named, all_as_named, pairs_as_named, IsKnown, AreKnown, PairsKnown}
 use Rattle.named_trees.specs.NamedTree.{NamedTree as by_name}
@@ -16,19 +15,15 @@ use Rattle.named_trees.specs.NamedTree.{NamedPairs as pairs_by_name}
 use Rattle.named_trees.specs.Laws.{AllKnown}
 
 module _ (names more s extra : List (List ℕ)) where
-  id-grown : (id : ℕ) → id ≤ length s → shared_bytes (s ++ extra) id ≡ shared_bytes s id
-  id-grown zero h = refl
-  id-grown (suc k) h = get_or_append_left s extra [] k (omega (arith, h))
-
   mutual
     pub named-grown : (t : Tree) → IsKnown names s t → as_named (names ++ more) (s ++ extra) t ≡ as_named names s t
-    named-grown (Atom k) h = ap by_name.Atom (get_or_append_left names more [] k h)
+    named-grown (Atom k) h = ap by_name.Atom (name-stays names more k h)
     named-grown (Cons a b) h = λ i. by_name.Cons (named-grown a h.0 i) (named-grown b h.1 i)
     named-grown (Tuple ts) h = ap by_name.Tuple (all-grown ts h)
     named-grown (Map ps) h = ap by_name.Map (pairs-grown ps h)
-    named-grown (Shared id) h = ap by_name.Shared (id-grown id h)
+    named-grown (Shared id) h = ap by_name.Shared (bytes-stay s extra id h)
     named-grown (Part base offset len) h = ap (λ z. by_name.Part z offset len) (named-grown base h)
-    named-grown (Fun f a c env) h = λ i. by_name.Fun (get_or_append_left names more [] f h.0 i) a c (all-grown env h.1 i)
+    named-grown (Fun f a c env) h = λ i. by_name.Fun (name-stays names more f h.0 i) a c (all-grown env h.1 i)
     named-grown (Int i) h = refl
     named-grown (Pid n) h = refl
     named-grown (Ref n k) h = refl

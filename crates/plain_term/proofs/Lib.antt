@@ -1,10 +1,11 @@
 pub mod ViewLemmas
 pub mod ListLemmas
-pub mod SharedLemmas
 pub mod ApartLemmas
 pub mod OrderLemmas
 pub mod WrittenLemmas
 pub mod TokenLemmas
 pub mod Rising
 pub mod Putting
+pub mod Known
+pub mod SharedLemmas
 pub mod LawLemmas

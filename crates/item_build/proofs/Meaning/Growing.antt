@@ -15,7 +15,7 @@ use Rattle.script_grammar.specs.Written.TermPairs.{stop, pair}
 use Rattle.script_grammar.specs.Names.{items_of, listed_items, all_items, pairs_items}
 use Rattle.plain_machine.specs.Made.{tree_of, trees_of_terms, trees_of_pairs, bin_tree, list_tree}
 use Rattle.item_build.specs.Reading.{bins_of, bytes_in, long_bins}
-use Rattle.item_build.proofs.Meaning.Known.{Knows, KnowsAll, KnowsPairs, all-knows-more, knows-more, in-order-knows, pairs-knows-more}
+use Rattle.plain_term.proofs.Known.{Knows, KnowsAll, KnowsPairs, all-knows-more, knows-more, in-order-has-only}
 
 -- More than 64 is not at most 64.
 pub long-flip : (n : ℕ) → nat_lt 64 n ≡ not (nat_le n 64)
@@ -148,7 +148,7 @@ module _ (names : List (List ℕ)) (held : List Tree) where
       term-knows (Tuple ts) shared few = all-know ts shared few
       term-knows (Map qs) shared few =
           let all : Pairs × List (List ℕ) = trees_of_pairs names held qs shared in
-          in-order-knows names all.1 [] (length all.1) all.0 (pairs-known qs shared few)
+          in-order-has-only (λ k. Unit {0}) (λ id. id ≤ length all.1) names all.1 all.0 (pairs-known qs shared few)
       term-knows (Bin bytes) shared few =
           let P : Tree × List (List ℕ) → Type 0 = λ z. Knows (length z.1) z.0 in
           subst P (sym (binned-is bytes shared)) (by (nat_le (length bytes) 64))

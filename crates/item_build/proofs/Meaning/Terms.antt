@@ -17,7 +17,7 @@ use Rattle.plain_machine.specs.Made.{tree_of, trees_of_terms, trees_of_pairs, bi
 use Rattle.plain_machine.specs.Flaws.{is_wide, are_wide, are_wide_pairs, is_big, are_big, are_big_pairs, makes_big_key}
 use Rattle.item_build.specs.Reading.{all_of, bin_of_items, bins_of, bytes_in, has_big_key, is_byte, long_bins, map_of, paired, parts_after, put_first, read, tree_where}
 use Rattle.item_build.specs.Reading.{has_big_item, is_big_key}
-use Rattle.item_build.proofs.Meaning.Known.{Knows, KnowsPairs, beyond-grown, pairs-grown}
+use Rattle.plain_term.proofs.Known.{Knows, KnowsPairs, knows-beyond, knows-in-order}
 use Rattle.item_build.proofs.Meaning.Growing.{binned, binned-is, bytes-no-longs, bytes-taken, long-flip, longs-are, made, made-listed, made-all, made-pairs, grows, all-grow, pairs-grow, term-knows, pairs-known}
 
 -- A tree, or none where it is wide.
@@ -145,7 +145,7 @@ module _ (names : List (List ℕ)) (held : List Tree) (S : List (List ℕ)) wher
       let all : Pairs × List (List ℕ) = trees_of_pairs names held qs shared in
       let P : List (List ℕ) → Type 0 = λ z. in_order names z all.0 ≡ in_order names all.1 all.0 in
       ap (tree_where names S held (item.Map n) xs) (turns-all qs shared) ∙ map-mark n xs (are_wide_pairs names held qs shared) all.0
-      ∙ ap (λ z. mark (too_many z || are_wide_pairs names held qs shared) (tree.Map z)) (subst P e (pairs-grown names all.1 extra pairs.stop all.0 tt known))
+      ∙ ap (λ z. mark (too_many z || are_wide_pairs names held qs shared) (tree.Map z)) (subst P e (knows-in-order names all.1 extra all.0 known))
 
   -- An item takes the terms of its parts off.
   put-row : (x : Item) (n : ℕ) → is_byte x ≡ false → parts_after x ≡ n → (code : List Item) (ms rest : List (Option Tree)) → length ms ≡ n → read names S held code ≡ ms ++ rest
@@ -298,7 +298,7 @@ module _ (names : List (List ℕ)) (held : List Tree) (S : List (List ℕ)) wher
 
     key-mark : (w : Bool) (t : Tree) (shared extra : List (List ℕ)) → shared ++ extra ≡ S → Knows (length shared) t → is_big_key S (mark w t) ≡ not w && is_beyond shared t
     key-mark true t shared extra e k = refl
-    key-mark false t shared extra e k = let P : List (List ℕ) → Type 0 = λ z. is_beyond z t ≡ is_beyond shared t in subst P e (beyond-grown names shared extra t k)
+    key-mark false t shared extra e k = let P : List (List ℕ) → Type 0 = λ z. is_beyond z t ≡ is_beyond shared t in subst P e (knows-beyond names shared extra t k)
 
     keys-turn : (qs : TermPairs) (shared : List (List ℕ)) (rest : List Item) → At shared (pairs_items names qs ++ rest) → has_big_key S (each_turn qs shared) ≡ keys_big qs shared
     keys-turn stop shared rest a = refl

@@ -21,7 +21,7 @@ use Rattle.item_build.specs.declared.building.BuildStop.TheVariants as why
 use Rattle.item_build.specs.Reading.{AreWhole, IsWritten, bins_of, bytes_led, item_words, outcome, read, terms_in, unless_wide, item_words_of}
 use Rattle.item_build.specs.Reading.{has_big_item}
 use Rattle.item_build.specs.Building.{MarksNamed}
-use Rattle.item_build.proofs.Meaning.Known.{Knows}
+use Rattle.plain_term.proofs.Known.{Knows}
 use Rattle.item_build.proofs.Meaning.Growing.{long-flip, made}
 use Rattle.item_build.proofs.Meaning.Terms.{big-term, mark, or-none, read-term}
 use Rattle.item_build.proofs.Meaning.Whole.{read-named}

@@ -22,7 +22,7 @@ use Rattle.item_build.specs.declared.building.BuildStop.TheVariants.{Big, Size}
 use Rattle.item_build.specs.Reading.{AreLed, AreWhole, bins_of, far_words_of, long_bins, own_words_of, unless_wide, item_words_of}
 use Rattle.item_build.specs.Building.{AreMarks, BinsStand, BuildsTerm, CanRead, HasHeld, HeldStand, IsNewBin, Laid, LaidBins, LeavesRoom, MadeTree, MarksBuilt, Spares, UsesSome, holders_from}
 use Rattle.item_build.proofs.Turned.Marks.{none-stands}
-use Rattle.item_build.proofs.Meaning.Known.{stands-more}
+use Rattle.term_words.proofs.Framing.Growing.{grow}
 use Rattle.item_build.proofs.Meaning.Growing.{longs-are}
 use Rattle.item_build.proofs.Meaning.Whole.{led-within, words-apart}
 use Rattle.item_build.proofs.Laid.Laying.{OldOrNew, links-grow, record-back, record-four}
@@ -125,7 +125,7 @@ module _ (c d : ℕ → ℕ → Bool) (shared : List (List ℕ)) (code : List It
   held-laid held trees h = record {
     each = λ r below.
         (frame c d m0 m1 l.kept).each (shared ++ bins_of code) (get_or held r 0) (slice_index_or trees r Nil)
-        (stands-more c shared (bins_of code) m0 (get_or held r 0) (slice_index_or trees r Nil) (h.each r below));
+        (grow c shared (bins_of code) m0 (get_or held r 0) (slice_index_or trees r Nil) (h.each r below));
   }
 
   pub bins-laid : BinsStand d (shared ++ bins_of code) m1 y.top (long_bins code)

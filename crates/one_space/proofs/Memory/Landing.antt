@@ -13,7 +13,7 @@ use Rattle.term_words.specs.Stands.{Stands}
 use Rattle.term_words.specs.Counted.{In, Distinct, total}
 use Rattle.term_words.proofs.Totals.Members.{both-distinct, both-total, in-both, in-left, in-right}
 use Rattle.term_words.proofs.ByKind.Inside.{record-inside}
-use Rattle.term_words.proofs.Framing.Growing.{shared-same}
+use Rattle.plain_term.proofs.Known.{bytes-stay}
 use Rattle.shared_rec.specs.Record.{count_in, owner_in}
 use Rattle.shared_rec.proofs.Records.{bin-stays, fun-stays, record-first}
 use Rattle.off_heap_list.specs.Links.{Links}
@@ -227,7 +227,7 @@ module _ (h : Halves) (shared extra : List (List ℕ)) (named : ℕ) (qs : List 
         from_one = omega (arith, own, was.from_one);
         known = omega (arith, own, was.known, length-append shared extra);
         is = subst P (sym own)
-            (subst Q (sym (shared-same shared extra (owner_in h.mem v) was.known)) (bin-stays s.test d h.mem mem2 v (owner_in h.mem v) (shared_bytes shared (owner_in h.mem v)) made.kept was.is));
+            (subst Q (sym (bytes-stay shared extra (owner_in h.mem v) was.known)) (bin-stays s.test d h.mem mem2 v (owner_in h.mem v) (shared_bytes shared (owner_in h.mem v)) made.kept was.is));
       }
 
   new-each : (v : ℕ) → In v (h.bins.items ++ new_records) → IsBinOf d mem2 all_shared v

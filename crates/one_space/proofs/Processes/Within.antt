@@ -4,7 +4,8 @@ use Rattle.plain_term.specs.Tree.{Tree}
 use Rattle.plain_machine.specs.State.{Process}
 use Rattle.plain_machine.specs.Laws.{AreWithin}
 use Rattle.plain_machine.proofs.Properly.Holding.{joined-within, queues, split-within}
-use Rattle.item_build.proofs.Meaning.Known.{beyond-grown, stands-known}
+use Rattle.plain_term.proofs.Known.{knows-beyond}
+use Rattle.item_build.proofs.Meaning.Known.{stands-known}
 use Rattle.two_halves.specs.Halves.{HoldTrees, ProcsStand}
 use Rattle.two_halves.specs.Stack.{values}
 use Rattle.two_halves.specs.declared.table.Proc.{Proc}
@@ -23,7 +24,7 @@ module _ (c : ℕ → ℕ → Bool) (shared extra : List (List ℕ)) (mem : List
   held-within [] [] h k = tt
   held-within [] (t ∷ ts) h k = absurd h
   held-within (w ∷ ws) [] h k = absurd h
-  held-within (w ∷ ws) (t ∷ ts) h k = (beyond-grown [] shared extra t (stands-known c shared mem w t h.0.standing) ∙ k.0, held-within ws ts h.1 k.1)
+  held-within (w ∷ ws) (t ∷ ts) h k = (knows-beyond [] shared extra t (stands-known c shared mem w t h.0.standing) ∙ k.0, held-within ws ts h.1 k.1)
 
   pub within-grown : (ps : List Proc) (qs : List Process) → ProcsStand c shared mem low limit named ps qs → AreWithin shared (queues qs) → AreWithin (shared ++ extra) (queues qs)
   within-grown [] [] s k = tt

@@ -38,7 +38,9 @@ use Rattle.item_build.specs.declared.bins.Making.{Making}
 use Rattle.item_build.specs.Reading.{AreLed, bins_of, far_words_of, long_bins, outcome, item_words_of}
 use Rattle.item_build.specs.Building.{BuildsTerm, HasHeld, HeldStand, Laid, LeavesRoom, MadeTree}
 use Rattle.item_build.proofs.Turned.Ending.{whole-led}
-use Rattle.item_build.proofs.Meaning.Known.{Knows, stands-known, stands-more}
+use Rattle.plain_term.proofs.Known.{Knows}
+use Rattle.term_words.proofs.Framing.Growing.{grow}
+use Rattle.item_build.proofs.Meaning.Known.{stands-known}
 use Rattle.item_build.proofs.Meaning.Written.{is-written, outcome_of, term-makes, term-named, term-outcome, term-words, words-few}
 use Rattle.item_build.proofs.Meaning.Growing.{longs-are}
 use Rattle.item_build.proofs.Laid.Chaining.{longs-few}
@@ -128,7 +130,7 @@ module _ (c : ℕ → ℕ → Bool) (shared extra : List (List ℕ)) (mem : List
   held-more [] [] h = tt
   held-more [] (t ∷ ts) h = absurd h
   held-more (w ∷ ws) [] h = absurd h
-  held-more (w ∷ ws) (t ∷ ts) h = (record { standing = stands-more c shared extra mem w t h.0.standing; names = h.0.names }, held-more ws ts h.1)
+  held-more (w ∷ ws) (t ∷ ts) h = (record { standing = grow c shared extra mem w t h.0.standing; names = h.0.names }, held-more ws ts h.1)
 
   proc-more : (p : Proc) (q : Process) → ProcStands c shared mem low limit named p q → ProcStands c (shared ++ extra) mem low limit named p q
   proc-more p q s = record {

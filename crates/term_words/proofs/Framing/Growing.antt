@@ -1,23 +1,18 @@
 -- More shared lists keep every tree.
-use Rattle.std.proofs.Common.{◌≡◌, ℕ, zero, suc, ◌+◌, ◌/◌, ◌≤◌, Bool, List, ◌++◌, length, get_or, refl, sym, subst, arith, length-append}
-use Rattle.std.proofs.lemmas.List.{get_or_append_left}
+use Rattle.std.proofs.Common.{◌≡◌, ℕ, ◌+◌, ◌/◌, Bool, List, ◌++◌, length, get_or, refl, sym, subst, arith, length-append}
 use Rattle.plain_term.specs.Bytes.{bytes_of, shared_bytes}
 use Rattle.plain_term.specs.Tree.{Tree, Trees, Pairs}
 use Rattle.plain_term.specs.Tree.Tree.{Int, Atom, Pid, Ref, Nil, Cons, Tuple, Map, Bin, Shared, Part, Fun}
 use Rattle.plain_term.specs.Tree.Trees.{end, ◌▹◌}
 use Rattle.plain_term.specs.Tree.Pairs.{stop, pair}
+use Rattle.plain_term.proofs.Known.{bytes-stay}
 use Rattle.term_words.specs.Object.{IsShared, IsSub, IsHolder, IsBinRecord}
 use Rattle.term_words.specs.Stands.{Stands, RowStands, KeysStand, ValuesStand, IsBase}
-
--- The lists that were there stay.
-pub shared-same : (shared more : List (List ℕ)) (id : ℕ) → id ≤ length shared → shared_bytes (shared ++ more) id ≡ shared_bytes shared id
-shared-same shared more zero below = refl
-shared-same shared more (suc k) below = grind (arith, get_or_append_left)
 
 module _ (c : ℕ → ℕ → Bool) (shared more : List (List ℕ)) (mem : List ℕ) where
   shared-grows : (w id : ℕ) → IsShared c shared mem w id → IsShared c (shared ++ more) mem w id
   shared-grows w id o =
-      let same : shared_bytes shared id ≡ shared_bytes (shared ++ more) id = sym (shared-same shared more id o.known) in
+      let same : shared_bytes shared id ≡ shared_bytes (shared ++ more) id = sym (bytes-stay shared more id o.known) in
       let P : List ℕ → Type 0 = λ x. IsHolder c mem w (length x) in
       let Q : List ℕ → Type 0 = λ x. IsBinRecord c mem (get_or mem (w / 4 + 3) 0) id x in
       record { from_one = o.from_one; known = omega (arith, length-append shared more, o.known); holder = subst P same o.holder; record_is = subst Q same o.record_is }
@@ -25,7 +20,7 @@ module _ (c : ℕ → ℕ → Bool) (shared more : List (List ℕ)) (mem : List 
   base-grows : (w : ℕ) (base : Tree) → IsBase base → Stands c shared mem w base → bytes_of shared base ≡ bytes_of (shared ++ more) base
   unfolding Stands
   base-grows w (Bin bytes) is s = refl
-  base-grows w (Shared id) is s = sym (shared-same shared more id s.known)
+  base-grows w (Shared id) is s = sym (bytes-stay shared more id s.known)
   base-grows w _ is s = absurd is
 
   mutual

@@ -20,7 +20,8 @@ use Rattle.term_words.specs.Kept.{Kept}
 use Rattle.term_words.specs.Counted.{In, Distinct, total}
 use Rattle.term_words.proofs.Framing.Frames.{frame}
 use Rattle.term_words.proofs.Totals.Members.{both-total, in-both, in-left, in-right, in-at}
-use Rattle.term_words.proofs.Framing.Growing.{grow, shared-same}
+use Rattle.plain_term.proofs.Known.{bytes-stay}
+use Rattle.term_words.proofs.Framing.Growing.{grow}
 use Rattle.term_build.specs.Taken.{IsFree, Lie, Taken, with_object}
 use Rattle.term_build.proofs.Taking.{with-object-of, with-object-single, with-object-taken, with-object-within}
 use Rattle.shared_rec.specs.Record.{WritesRecord, count_in, length_in, owner_in, record_roles}
@@ -224,7 +225,7 @@ module _ (named_below : ℕ) (h : Halves) (shared : List (List ℕ)) (qs : List 
           let old = x.records.each_bin u i in
           let same : owner_in mem2 u ≡ owner_in h.mem u = owner-same u (in-left u h.bins.items h.funs.items i) in
           let bytes : shared_bytes shared2 (owner_in h.mem u) ≡ shared_bytes shared (owner_in h.mem u) =
-          ap (λ z. shared_bytes z (owner_in h.mem u)) grown ∙ shared-same shared more (owner_in h.mem u) old.known in
+          ap (λ z. shared_bytes z (owner_in h.mem u)) grown ∙ bytes-stay shared more (owner_in h.mem u) old.known in
           let P : List ℕ → Type 0 = λ z. IsBinRecord d mem2 u (owner_in h.mem u) z in
           let Q : ℕ → Type 0 = λ z. IsBinRecord d mem2 u z (shared_bytes shared2 z) in
           record {
