@@ -57,7 +57,7 @@ fn command(line: &[u8], out: &mut Output) -> Option<Command>
         return Some(Command::Process(n, verb));
     }
     let rest = after_text(line, b"sys")?;
-    let verb = system_verb(rest, out)?;
+    let verb = system_verb(rest)?;
     Some(Command::System(verb))
 }
 

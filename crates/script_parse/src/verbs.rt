@@ -128,81 +128,98 @@ fn slot(line: &[u8]) -> Option<Reg>
 }
 
 /// Two registers, and nothing more.
-#[tactic(auto, unfolding(crate::specs::Reading::row_run))]
 fn two_slots(line: &[u8]) -> Option<(Reg, Reg)>
     ensures value { (o : Out) (f : Arguments (Slot ∷ Slot ∷ []) → Verb) → MatchOption result (row_run (row (Slot ∷ Slot ∷ []) f) line.now o ≡ None)
         (λ r. row_run (row (Slot ∷ Slot ∷ []) f) line.now o ≡ Some (f (r.0.0, (r.1.0, tt)), o)) }
 {
     let (r, rest) = register(line)?;
-    let (s, rest) = register(rest)?;
-    if ends(rest) { Some((r, s)) } else { None }
+    let s = slot(rest)?;
+    Some((r, s))
 }
 
 /// Three registers, and nothing more.
-#[tactic(auto, unfolding(crate::specs::Reading::row_run))]
 fn three_slots(line: &[u8]) -> Option<(Reg, Reg, Reg)>
     ensures value { (o : Out) (f : Arguments (Slot ∷ Slot ∷ Slot ∷ []) → Verb)
         → MatchOption result (row_run (row (Slot ∷ Slot ∷ Slot ∷ []) f) line.now o ≡ None)
         (λ r. row_run (row (Slot ∷ Slot ∷ Slot ∷ []) f) line.now o ≡ Some (f (r.0.0, (r.1.0, (r.2.0, tt))), o)) }
 {
     let (r, rest) = register(line)?;
-    let (s, rest) = register(rest)?;
-    let (t, rest) = register(rest)?;
-    if ends(rest) { Some((r, s, t)) } else { None }
+    let (s, t) = two_slots(rest)?;
+    Some((r, s, t))
 }
 
 /// Four registers, and nothing more.
-#[tactic(auto, unfolding(crate::specs::Reading::row_run))]
 fn four_slots(line: &[u8]) -> Option<(Reg, Reg, Reg, Reg)>
     ensures value { (o : Out) (f : Arguments (Slot ∷ Slot ∷ Slot ∷ Slot ∷ []) → Verb)
         → MatchOption result (row_run (row (Slot ∷ Slot ∷ Slot ∷ Slot ∷ []) f) line.now o ≡ None)
         (λ r. row_run (row (Slot ∷ Slot ∷ Slot ∷ Slot ∷ []) f) line.now o ≡ Some (f (r.0.0, (r.1.0, (r.2.0, (r.3.0, tt)))), o)) }
 {
     let (r, rest) = register(line)?;
-    let (s, rest) = register(rest)?;
-    let (t, rest) = register(rest)?;
-    let (u, rest) = register(rest)?;
-    if ends(rest) { Some((r, s, t, u)) } else { None }
+    let (s, t, u) = three_slots(rest)?;
+    Some((r, s, t, u))
+}
+
+/// A number and a register, and nothing more.
+fn count_slot(line: &[u8]) -> Option<(u64, Reg)>
+    ensures value { (o : Out) (f : Arguments (Count ∷ Slot ∷ []) → Verb) → MatchOption result (row_run (row (Count ∷ Slot ∷ []) f) line.now o ≡ None)
+        (λ r. row_run (row (Count ∷ Slot ∷ []) f) line.now o ≡ Some (f (r.0, (r.1.0, tt)), o)) }
+{
+    let (n, rest) = count(line)?;
+    let s = slot(rest)?;
+    Some((n, s))
 }
 
 /// A register, a number and a register, and nothing more.
-#[tactic(auto, unfolding(crate::specs::Reading::row_run))]
 fn slot_count_slot(line: &[u8]) -> Option<(Reg, u64, Reg)>
     ensures value { (o : Out) (f : Arguments (Slot ∷ Count ∷ Slot ∷ []) → Verb)
         → MatchOption result (row_run (row (Slot ∷ Count ∷ Slot ∷ []) f) line.now o ≡ None)
         (λ r. row_run (row (Slot ∷ Count ∷ Slot ∷ []) f) line.now o ≡ Some (f (r.0.0, (r.1, (r.2.0, tt))), o)) }
 {
     let (r, rest) = register(line)?;
-    let (n, rest) = count(rest)?;
-    let (s, rest) = register(rest)?;
-    if ends(rest) { Some((r, n, s)) } else { None }
+    let (n, s) = count_slot(rest)?;
+    Some((r, n, s))
+}
+
+/// A number, and nothing more.
+#[tactic(auto, unfolding(crate::specs::Reading::row_run))]
+fn last_count(line: &[u8]) -> Option<u64>
+    ensures value { (o : Out) (f : Arguments (Count ∷ []) → Verb) → MatchOption result (row_run (row (Count ∷ []) f) line.now o ≡ None)
+        (λ r. row_run (row (Count ∷ []) f) line.now o ≡ Some (f (r, tt), o)) }
+{
+    let (n, rest) = count(line)?;
+    if ends(rest) { Some(n) } else { None }
+}
+
+/// Two numbers, and nothing more.
+fn two_counts(line: &[u8]) -> Option<(u64, u64)>
+    ensures value { (o : Out) (f : Arguments (Count ∷ Count ∷ []) → Verb) → MatchOption result (row_run (row (Count ∷ Count ∷ []) f) line.now o ≡ None)
+        (λ r. row_run (row (Count ∷ Count ∷ []) f) line.now o ≡ Some (f (r.0, (r.1, tt)), o)) }
+{
+    let (n, rest) = count(line)?;
+    let m = last_count(rest)?;
+    Some((n, m))
 }
 
 /// A register and two numbers, and nothing more.
-#[tactic(auto, unfolding(crate::specs::Reading::row_run))]
 fn slot_two_counts(line: &[u8]) -> Option<(Reg, u64, u64)>
     ensures value { (o : Out) (f : Arguments (Slot ∷ Count ∷ Count ∷ []) → Verb)
         → MatchOption result (row_run (row (Slot ∷ Count ∷ Count ∷ []) f) line.now o ≡ None)
         (λ r. row_run (row (Slot ∷ Count ∷ Count ∷ []) f) line.now o ≡ Some (f (r.0.0, (r.1, (r.2, tt))), o)) }
 {
     let (r, rest) = register(line)?;
-    let (n, rest) = count(rest)?;
-    let (m, rest) = count(rest)?;
-    if ends(rest) { Some((r, n, m)) } else { None }
+    let (n, m) = two_counts(rest)?;
+    Some((r, n, m))
 }
 
 /// Two registers and two numbers, and nothing more.
-#[tactic(auto, unfolding(crate::specs::Reading::row_run))]
 fn two_slots_two_counts(line: &[u8]) -> Option<(Reg, Reg, u64, u64)>
     ensures value { (o : Out) (f : Arguments (Slot ∷ Slot ∷ Count ∷ Count ∷ []) → Verb)
         → MatchOption result (row_run (row (Slot ∷ Slot ∷ Count ∷ Count ∷ []) f) line.now o ≡ None)
         (λ r. row_run (row (Slot ∷ Slot ∷ Count ∷ Count ∷ []) f) line.now o ≡ Some (f (r.0.0, (r.1.0, (r.2, (r.3, tt)))), o)) }
 {
     let (r, rest) = register(line)?;
-    let (s, rest) = register(rest)?;
-    let (n, rest) = count(rest)?;
-    let (m, rest) = count(rest)?;
-    if ends(rest) { Some((r, s, n, m)) } else { None }
+    let (s, n, m) = slot_two_counts(rest)?;
+    Some((r, s, n, m))
 }
 
 /// A register, a name, a number and an environment, and nothing more. The environment's registers go last.
@@ -395,55 +412,43 @@ pub(crate) fn process_verb(line: &[u8], out: &mut Output) -> Option<Verb>
     named(skip(rest), out)
 }
 
-/// The operands of a verb of the system, by the table of what is built.
-fn sys_verb(word: SysWord, line: &[u8], out: &mut Output) -> Option<SysVerb>
-    requires { length out.old.code.now + length line.now ≤ MOST_ITEMS }
-    ensures read { MatchOption result (sys_verb_run word line.now (given out.old) ≡ None)
-        (λ v. sys_verb_run word line.now (given out.old) ≡ Some (v, given out.new)) }
-    ensures grown { OutputGrows out.old out.new }
+/// A verb of the system that is built. It has no operand.
+fn alone(word: SysWord) -> Option<SysVerb>
+    ensures { (line : List ℕ) (o : Out) → MatchOption result (sys_verb_run word line o ≡ None)
+        (λ v. sys_verb_run word line o ≡ row_run (row [] (λ _. v)) line o) }
 {
     match word {
-        SysWord::Spawn => {
-            none(line)?;
-            Some(SysVerb::Spawn)
-        },
-        SysWord::Sweep => {
-            none(line)?;
-            Some(SysVerb::Sweep)
-        },
-        SysWord::Counts => {
-            none(line)?;
-            Some(SysVerb::Counts)
-        },
-        SysWord::Procs => {
-            none(line)?;
-            Some(SysVerb::Procs)
-        },
-        SysWord::Quit => {
-            none(line)?;
-            Some(SysVerb::Quit)
-        },
+        SysWord::Spawn => Some(SysVerb::Spawn),
+        SysWord::Sweep => Some(SysVerb::Sweep),
+        SysWord::Counts => Some(SysVerb::Counts),
+        SysWord::Procs => Some(SysVerb::Procs),
+        SysWord::Quit => Some(SysVerb::Quit),
         _ => None,
     }
 }
 
+/// A verb of the system, with nothing after it.
+fn sys_verb(word: SysWord, line: &[u8]) -> Option<SysVerb>
+    ensures { (o : Out) → MatchOption result (sys_verb_run word line.now o ≡ None) (λ v. sys_verb_run word line.now o ≡ Some (v, o)) }
+{
+    let verb = alone(word)?;
+    none(line)?;
+    Some(verb)
+}
+
 /// A verb of the system and its operands. The line begins with its word.
-fn sys_named(line: &[u8], out: &mut Output) -> Option<SysVerb>
-    requires { length out.old.code.now + length line.now ≤ MOST_ITEMS }
-    ensures read { MatchOption result (sys_named_run line.now (given out.old) ≡ None) (λ v. sys_named_run line.now (given out.old) ≡ Some (v, given out.new)) }
-    ensures grown { OutputGrows out.old out.new }
+fn sys_named(line: &[u8]) -> Option<SysVerb>
+    ensures { (o : Out) → MatchOption result (sys_named_run line.now o ≡ None) (λ v. sys_named_run line.now o ≡ Some (v, o)) }
 {
     let n = word_len(line);
     let word = sys_word(&line[..n])?;
-    sys_verb(word, &line[n..], out)
+    sys_verb(word, &line[n..])
 }
 
 /// A system line after its first word.
-pub(crate) fn system_verb(line: &[u8], out: &mut Output) -> Option<SysVerb>
-    requires { length out.old.code.now + length line.now ≤ MOST_ITEMS }
-    ensures read { MatchOption result (system_run line.now (given out.old) ≡ None) (λ v. system_run line.now (given out.old) ≡ Some (v, given out.new)) }
-    ensures grown { OutputGrows out.old out.new }
+pub(crate) fn system_verb(line: &[u8]) -> Option<SysVerb>
+    ensures { (o : Out) → MatchOption result (system_run line.now o ≡ None) (λ v. system_run line.now o ≡ Some (v, o)) }
 {
     let rest = gap(line)?;
-    sys_named(skip(rest), out)
+    sys_named(skip(rest))
 }

@@ -24,12 +24,13 @@ use Rattle.script_grammar.specs.declared.command.Command.TheVariants as command
 use Rattle.script_grammar.specs.declared.command.Verb.{Verb}
 use Rattle.script_grammar.specs.declared.command.SysVerb.{SysVerb}
 use Rattle.script_parse.specs.Output.{Out, push, put, put_name, entered_number}
-use Rattle.script_parse.specs.Reading.{then_read, after_blanks, gap_at, number_at, is_solid, word_at, after_word, is_silent, atom_at, receiver_at, title_at, extent_at, held_at, held_run, spaced_at, operand_at, operands_at, VerbRow, row, row_run, row_of, sys_row_of, process_run, system_run, line_run, term_run}
+use Rattle.script_parse.specs.Reading.{then_read, after_blanks, gap_at, number_at, is_solid, word_at, after_word, is_silent, atom_at, receiver_at, title_at, extent_at, held_at, held_run, spaced_at, operand_at, operands_at, VerbRow, row, row_run, row_of, sys_row_of, process_run, system_run, line_run}
 use Rattle.script_parse.proofs.Stepwise.Tools.{not-blank, apart, false-not}
 use Rattle.script_parse.proofs.Stepwise.Tools.{unequal}
 use Rattle.script_parse.proofs.Stepwise.GapSteps.{Gap, gap-found, Token, token, Stops, Divides, stops, blank-end}
 use Rattle.script_parse.proofs.Stepwise.NumberSteps.{Begun, begun, stops-digits, number-found, Numbers, number-stands, number-loud}
 use Rattle.script_parse.proofs.Stepwise.AtomSteps.{atom-found, word-found}
+use Rattle.script_parse.proofs.Stepwise.RowSteps.{body-at}
 use Rattle.script_parse.proofs.Stepwise.Tables.{named-so, sys_named-so, row-is, sys-row-is, is_word, word-solid, text-word, sys-text-word}
 use Rattle.script_parse.proofs.OfTerms.Divided.{Each, each-of-all}
 use Rattle.script_parse.proofs.OfTerms.Complete.{Done, term-done}
@@ -173,11 +174,6 @@ pub record Stands (k : Kind) (ps : List Piece) (line : List ℕ) (o : Out) : Typ
   pub after : Out
   pub read : operand_at k line o ≡ Some (argument, (rest, after))
   pub lies : Lies ps rest
-
--- A term after a blank.
-body-at : (levels : ℕ) (line start rest : List ℕ) (o p : Out) → gap_at line ≡ Some start → term_run levels start o ≡ Some (rest, p)
-    → then_read {B = Unit {0} × (List ℕ × Out)} (then_read (gap_at line) (λ r. term_run levels r o)) (λ r. Some (tt, r)) ≡ Some (tt, (rest, p))
-body-at levels line start rest o p g h = rw (g, h) refl
 
 operand-stands : (k : Kind) (x : OperandOf k) (ps : List Piece) (line : List ℕ) (o : Out) → Divides ps → MayFollow k ps → IsOperand k x → IsBuiltOperand k x → Lies (operand_pieces k x ps) line
     → Stands k ps line o

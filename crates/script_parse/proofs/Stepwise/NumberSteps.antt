@@ -270,3 +270,7 @@ number-stands limit n ps line h d (gap, text, rest, g, i, e, l) =
 -- So it is no line without a command.
 pub number-loud : (limit n : ℕ) (ps : List Piece) (line : List ℕ) → Numbers limit n ps line → is_silent (after_blanks line) ≡ false
 number-loud limit n ps line k = rw k.front (unequal k.first 37 (apart is_digit k.first 37 refl k.digit))
+
+-- A number that begins with 0 is 0.
+pub zero-read : (limit b : ℕ) (line rest : List ℕ) → line ≡ b ∷ rest → b ≡ 48 → number_at limit line ≡ Some (0, rest)
+zero-read limit b line rest e f = rw (e, f) refl
