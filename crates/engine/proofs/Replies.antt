@@ -1,14 +1,17 @@
 -- What a verb that prints writes.
-use Rattle.std.proofs.Common.{◌≡◌, ℕ, List, [], ◌∷◌, Result, Ok, Err, sym, ap}
+use Rattle.std.proofs.Common.{◌≡◌, ℕ, List, [], ◌∷◌, Result, Ok, Err, sym, ap, subst, ◌∙◌}
 use Rattle.script_grammar.specs.declared.refusal.Refusal.{Refusal}
+use Rattle.script_grammar.specs.declared.refusal.Refusal.TheVariants.{Big as TooBig}
+use Rattle.space_api.specs.declared.space.Stop.{Stop}
+use Rattle.space_api.specs.declared.space.Stop.TheVariants.{Big, Fault}
 use Rattle.plain_machine.specs.Step.{Outcome}
 use Rattle.plain_machine.specs.Step.Outcome.{Accepted, Refused, Mapped}
 use Rattle.plain_machine.specs.Run.{refusal_text}
 use Rattle.space_api.specs.Calls.{Prints, Tells, WritesReply}
-use Rattle.line_io.specs.Sink.{Writes}
+use Rattle.line_io.specs.Sink.{GrewInPart, Writes}
 use Rattle.engine.specs.Writing.{end_of_line}
 use Rattle.engine.specs.Replies.{outcome_text}
-use Rattle.line_io.proofs.Growth.{writes-after}
+use Rattle.line_io.proofs.Growth.{part-front, writes-after}
 
 -- the text was printed, and then the line's end
 pub text-line : {A B E K : Type 0} (wrote : K → List ℕ → Type 0) (old mid new : K) (o : Outcome) (a : A) (r : Result B E)
@@ -34,3 +37,29 @@ pub told-refusal : {A : Type 0} (o : Outcome) (text : A → List ℕ) (e : Refus
 told-refusal (Accepted next reply) text e t = absurd t
 told-refusal (Refused x) text e t = ap refusal_text (sym t)
 told-refusal Mapped text e t = absurd t
+
+-- the line of what a call tells
+pub told-line : {A B E K : Type 0} (wrote : K → List ℕ → Type 0) (old new : K) (o : Outcome) (text : A → List ℕ) (a : A) (line : List ℕ) (r : Result B E)
+    → Tells o text (Ok a) → line ≡ text a → Writes wrote old new r (end_of_line line) → Writes wrote old new r (end_of_line (outcome_text o))
+told-line wrote old new o text a line r t e w = subst (λ l. Writes wrote old new r (end_of_line l)) (e ∙ sym (told-text o text a t)) w
+
+-- the line of a call that is refused
+pub refused-line : {A B E K : Type 0} (wrote : K → List ℕ → Type 0) (old new : K) (o : Outcome) (text : A → List ℕ) (e : Refusal) (r : Result B E)
+    → Tells o text (Err e) → Writes wrote old new r (end_of_line (refusal_text e)) → Writes wrote old new r (end_of_line (outcome_text o))
+refused-line wrote old new o text e r t w = subst (λ l. Writes wrote old new r (end_of_line l)) (sym (told-refusal o text e t)) w
+
+-- nothing was printed of a text beyond the walk limit, and the refusal's line was written
+pub big-line : {B E K : Type 0} (A : Type 0) (wrote : K → List ℕ → Type 0) (old mid new : K) (o : Outcome) (x : Stop) (r : Result B E) → x ≡ Big → mid ≡ old
+    → Prints {A = A} o wrote old mid (Err x) → Writes wrote mid new r (end_of_line (refusal_text TooBig)) → Writes wrote old new r (end_of_line (outcome_text o))
+big-line A wrote old mid new (Accepted next reply) x r is same p w = absurd (subst (λ y. Prints {A = A} (Accepted next reply) wrote old mid (Err y)) is p)
+big-line A wrote old mid new (Refused e) x r is same p w =
+    let big : e ≡ TooBig = subst (λ y. Prints {A = A} (Refused e) wrote old mid (Err y)) is p in
+    subst (λ y. Writes wrote old new r (end_of_line (refusal_text y))) (sym big) (subst (λ k. Writes wrote k new r (end_of_line (refusal_text TooBig))) same w)
+big-line A wrote old mid new Mapped x r is same p w = absurd p
+
+-- the text was not printed to its end
+pub text-stopped : {K : Type 0} (A : Type 0) (wrote : K → List ℕ → Type 0) (old new : K) (o : Outcome) (x : Stop) → x ≡ Fault → Prints {A = A} o wrote old new (Err x)
+    → GrewInPart wrote old new (end_of_line (outcome_text o))
+text-stopped A wrote old new (Accepted next reply) x is p = part-front wrote old new reply (10 ∷ []) (subst (λ y. Prints {A = A} (Accepted next reply) wrote old new (Err y)) is p)
+text-stopped A wrote old new (Refused e) x is p = absurd (subst (λ y. Prints {A = A} (Refused e) wrote old new (Err y)) is p)
+text-stopped A wrote old new Mapped x is p = absurd p

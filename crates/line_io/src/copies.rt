@@ -1,5 +1,5 @@
 // Copies of bytes into a buffer at a place.
-ghost use Rattle.std.specs.Prelude.{◌≡◌, ◌+◌, ◌≤◌, ◌++◌, length, take};
+ghost use Rattle.std.specs.Prelude.{◌≡◌, ◌+◌, ◌-◌, ◌≤◌, ◌++◌, min, length, take, drop};
 
 // Writes `bytes` over what stands in `buf` from `at` on.
 pub fn put_at(buf: &mut [u8], at: usize, bytes: &[u8])
@@ -9,4 +9,23 @@ pub fn put_at(buf: &mut [u8], at: usize, bytes: &[u8])
 {
     let end = at + bytes.len();
     buf[at..end].copy_from_slice(bytes);
+}
+
+// How many bytes a call moves: what there is, and at most `piece` and `room`.
+pub fn moved(there: usize, piece: usize, room: usize) -> usize
+    ensures { result ≡ min (min there piece) room }
+{
+    there.min(piece).min(room)
+}
+
+// Copies bytes from `at` on to the front of `buf`, at most `piece` of them, and says how many.
+pub fn copy_out(bytes: &[u8], at: usize, piece: usize, buf: &mut [u8]) -> usize
+    requires { at ≤ length bytes.now }
+    ensures count { result ≡ min (min (length bytes.now - at) piece) (length buf.old) }
+    ensures len { length buf.new ≡ length buf.old }
+    ensures front { take result buf.new ≡ take result (drop at bytes.now) }
+{
+    let n = moved(bytes.len() - at, piece, buf.len());
+    put_at(buf, 0, &bytes[at..at + n]);
+    n
 }

@@ -4,7 +4,7 @@ ghost use Rattle.line_io.specs.Faults.{Rose, raised};
 ghost use Rattle.line_io.specs.Sink.{CountsWrite, Grew, TakesWithin, went};
 ghost use Rattle.line_io.specs.declared.sink.Took.{Took};
 
-use crate::copies::put_at;
+use crate::copies::{moved, put_at};
 use crate::fault::OpenFault;
 use crate::sink::{Sink, Took};
 use std::alloc::Global;
@@ -101,7 +101,7 @@ impl Sink for MemSink {
         if self.failing.contains(&self.calls) {
             return fail(&mut self.faults);
         }
-        let n = room.min(self.piece).min(bytes.len());
+        let n = moved(room, self.piece, bytes.len());
         put_at(&mut self.buf, self.len, &bytes[..n]);
         self.len += n;
         Took::Took(n)

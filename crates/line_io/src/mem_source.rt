@@ -4,7 +4,7 @@ ghost use Rattle.line_io.specs.Faults.{Rose, raised};
 ghost use Rattle.line_io.specs.Source.{CountsRead, CountsWithin, EndsAt, Gave, came};
 ghost use Rattle.line_io.specs.declared.source.Got.{Got};
 
-use crate::copies::put_at;
+use crate::copies::copy_out;
 use crate::fault::OpenFault;
 use crate::source::{Got, Source};
 use std::alloc::Global;
@@ -84,13 +84,11 @@ impl Source for MemSource {
             self.faults = self.faults.saturating_add(1);
             return Got::Failed;
         }
-        let n = (self.bytes.len() - self.at).min(self.piece).min(buf.len());
+        let n = copy_out(&self.bytes, self.at, self.piece, buf);
         if n == 0 {
             return Got::End;
         }
-        let end = self.at + n;
-        put_at(buf, 0, &self.bytes[self.at..end]);
-        self.at = end;
+        self.at += n;
         Got::Got(n)
     }
 }
