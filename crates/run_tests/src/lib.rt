@@ -4,6 +4,8 @@
 #[cfg(test)]
 mod binaries;
 #[cfg(test)]
+mod cuts;
+#[cfg(test)]
 mod edge;
 #[cfg(test)]
 mod faults;
@@ -14,7 +16,7 @@ mod made;
 #[cfg(test)]
 mod messages;
 #[cfg(test)]
-mod parts;
+mod repeats;
 #[cfg(test)]
 mod rows;
 #[cfg(test)]

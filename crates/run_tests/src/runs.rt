@@ -104,8 +104,3 @@ pub(crate) fn is_answered_by(
     }
     Ok(true)
 }
-
-// The same without options.
-pub(crate) fn is_answered(alloc: Global, script: &[u8], written: &[u8]) -> Result<bool, Fail> {
-    is_answered_by(alloc, NAME_ALONE, script, written)
-}

@@ -1,50 +1,96 @@
-// Tables of short scripts, each with its replies.
-use crate::runs::is_answered;
+// Tables of scripts, each with its replies, and the short ones among them.
+use crate::cuts::cut;
+use crate::repeats::whole_of;
+use crate::runs::{NAME_ALONE, NONE, is_answered_by, ran};
 use crate::{binaries, messages, rows, verbs};
 use std::alloc::Global;
+use std::str;
 use std::test::Fail;
 
-// A script, what it shows, and its replies.
-pub(crate) struct Row {
-    pub(crate) name: &'static str,
-    pub(crate) script: &'static [u8],
-    pub(crate) replies: &'static [u8],
+// What a script shows, the script, and its replies.
+#[derive(Clone, Copy)]
+struct Row {
+    name: &'static [u8],
+    script: &'static [u8],
+    replies: &'static [u8],
 }
 
-// The name of the first script of a table that is answered otherwise.
-fn first_wrong(alloc: Global, rows: &[Row]) -> Result<Option<&'static str>, Fail> {
-    for row in rows {
-        if !is_answered(alloc, row.script, row.replies)? {
-            return Ok(Some(row.name));
+// The first row of a table and those behind it. A row is its name, the lines of its script, a line with a mark alone, and the lines
+// of its replies; a mark stands before each row, and the first of a table is gone.
+fn first_row(table: &'static [u8]) -> (Row, &'static [u8]) {
+    let (asked, behind) = cut(table, b'~');
+    let (name, script) = cut(asked, b'\n');
+    let (answered, others) = cut(behind, b'~');
+    let (_, replies) = cut(answered, b'\n');
+    let row = Row {
+        name,
+        script,
+        replies,
+    };
+    (row, others)
+}
+
+// Whether a row is answered as it says, in pieces of each size, and leaves so many names where their number is given.
+fn is_row_answered(
+    alloc: Global,
+    words: &[&str],
+    row: Row,
+    names: Option<u64>,
+) -> Result<bool, Fail> {
+    let script = whole_of(alloc, row.script)?;
+    let replies = whole_of(alloc, row.replies)?;
+    Ok(
+        is_answered_by(alloc, words, script.as_slice(), replies.as_slice())?
+            && (names.is_none()
+                || ran(alloc, words, script.as_slice(), 8192, NONE)?.names == names),
+    )
+}
+
+// The name of the first row of a table that is answered otherwise by these words; none has no letter.
+pub(crate) fn first_wrong(
+    alloc: Global,
+    words: &[&str],
+    table: &'static [u8],
+    names: Option<u64>,
+) -> Result<&'static str, Fail> {
+    let (_, mut rest) = cut(table, b'~');
+    for _ in 0..table.len() {
+        if rest.is_empty() {
+            return Ok("");
         }
+        let (row, others) = first_row(rest);
+        if !is_row_answered(alloc, words, row, names)? {
+            return Ok(str::from_utf8(row.name).unwrap_or("a name that is no text"));
+        }
+        rest = others;
     }
-    Ok(None)
+    Ok("")
 }
 
 #[test]
 fn short_scripts_are_answered(rt: HostRuntime) -> Result<(), Fail> {
-    let wrong = first_wrong(rt.alloc(), &rows::ROWS)?;
-    assert!(rt; wrong.is_none(), "{}", wrong.unwrap_or(""));
+    let wrong = first_wrong(rt.alloc(), NAME_ALONE, rows::ROWS, None)?;
+    assert!(rt; wrong.is_empty(), "{wrong}");
     Ok(())
 }
 
 #[test]
 fn verbs_on_terms_are_answered(rt: HostRuntime) -> Result<(), Fail> {
-    let wrong = first_wrong(rt.alloc(), &verbs::ROWS)?;
-    assert!(rt; wrong.is_none(), "{}", wrong.unwrap_or(""));
+    let wrong = first_wrong(rt.alloc(), NAME_ALONE, verbs::ROWS, None)?;
+    assert!(rt; wrong.is_empty(), "{wrong}");
     Ok(())
 }
 
 #[test]
 fn binaries_and_funs_are_answered(rt: HostRuntime) -> Result<(), Fail> {
-    let wrong = first_wrong(rt.alloc(), &binaries::ROWS)?;
-    assert!(rt; wrong.is_none(), "{}", wrong.unwrap_or(""));
+    let wrong = first_wrong(rt.alloc(), NAME_ALONE, binaries::ROWS, None)?;
+    assert!(rt; wrong.is_empty(), "{wrong}");
     Ok(())
 }
 
 #[test]
 fn messages_are_answered(rt: HostRuntime) -> Result<(), Fail> {
-    let wrong = first_wrong(rt.alloc(), &messages::ROWS)?;
-    assert!(rt; wrong.is_none(), "{}", wrong.unwrap_or(""));
+    let wrong = first_wrong(rt.alloc(), NAME_ALONE, messages::ROWS, None)?;
+    assert!(rt; wrong.is_empty(), "{wrong}");
     Ok(())
 }

@@ -1,14 +1,12 @@
 //! Tests of the memory, the arena, words, sizes, names, trees, and of parts and builders of terms, over their contracts alone.
 #![tactic(auto)]
 
-mod laws;
-
-pub use laws::{roots_that_reach_no_free_word_are_clear, what_lies_in_some_words_takes_no_more};
-
 #[cfg(test)]
 mod arena;
 #[cfg(test)]
 mod building;
+#[cfg(test)]
+mod laws;
 #[cfg(test)]
 mod names;
 #[cfg(test)]
