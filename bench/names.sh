@@ -1,6 +1,7 @@
 #!/bin/sh
-# How long a look-up of a name takes among 100, 1,000 and 16,000 names, drawn at random: the best of 400 short rounds.
-# The program that is timed stands here as text: it is proved and built outside the repository.
+# How long a look-up of a name takes among 100, 1,000 and 16,000 names, drawn at random: the best of 400 short rounds. It shows that
+# a look-up does not go through the names (docs/BENCHMARKS.md, "Look-ups of names"). bench/all leaves it out, for it measures no built
+# program: the one that is timed stands here as text, and is proved and built outside the repository.
 set -e
 here=$(cd "$(dirname "$0")/.." && pwd)
 work=$(mktemp -d)
