@@ -1,9 +1,9 @@
 pub mod One
 pub mod Image
 pub mod Entered
+pub mod Gathered
 pub mod Doing
 pub mod Telling
 pub mod Listing
-pub mod Figures
-pub mod Gathered
 pub mod Queued
+pub mod Figures
