@@ -202,4 +202,5 @@ module _ (names shared more : List (List ℕ)) where
   pub knows-in-order : (given : Pairs) → KnowsPairs (length shared) given → in_order names (shared ++ more) given ≡ in_order names shared given
   knows-in-order given h =
       all-put-same names names (shared ++ more) shared stop given tt
-      (pairs-have-only (λ k. Unit {0}) (λ id. id ≤ length shared) (SameName names names (shared ++ more) shared) (SameBytes names names (shared ++ more) shared) (λ k u. refl) (bytes-stay shared more) given h)
+      (pairs-have-only (λ k. Unit {0}) (λ id. id ≤ length shared)
+      (SameName names names (shared ++ more) shared) (SameBytes names names (shared ++ more) shared) (λ k u. refl) (bytes-stay shared more) given h)
