@@ -86,7 +86,8 @@ the-list = (record { tag = refl; object = object-lies sample role 1 1 (lit≤ tt
 
 the-tuple : Stands (roles_of role) lists sample 14 (Tuple (Atom 5 ▹ Cons (Int (pos 1)) Nil ▹ end))
 unfolding Stands RowStands roles_of all_hold
-the-tuple = (record { range = lit≤ tt; boxed = record { tag = refl; header = refl; object = object-lies sample role 3 2 (lit≤ tt) refl refl } }, (record { range = lit< tt; word = refl }, (the-list, tt)))
+the-tuple =
+    (record { range = lit≤ tt; boxed = record { tag = refl; header = refl; object = object-lies sample role 3 2 (lit≤ tt) refl refl } }, (record { range = lit< tt; word = refl }, (the-list, tt)))
 
 the-empty : Stands (roles_of role) lists sample 190 (Tuple end)
 unfolding Stands RowStands roles_of all_hold
@@ -94,7 +95,8 @@ the-empty = (record { range = lit≤ tt; boxed = record { tag = refl; header = r
 
 the-bytes : Stands (roles_of role) lists sample 26 (Bin (7 ∷ 8 ∷ 9 ∷ []))
 unfolding Stands all_hold byte_lies roles_of
-the-bytes = record { range = lit≤ tt; boxed = record { tag = refl; header = refl; object = object-lies sample role 6 2 (lit≤ tt) refl refl }; size = refl; content = bytes-lie sample 8 (7 ∷ 8 ∷ 9 ∷ []) refl }
+the-bytes =
+    record { range = lit≤ tt; boxed = record { tag = refl; header = refl; object = object-lies sample role 6 2 (lit≤ tt) refl refl }; size = refl; content = bytes-lie sample 8 (7 ∷ 8 ∷ 9 ∷ []) refl }
 
 the-shared : Stands (roles_of role) lists sample 58 (Shared 1)
 unfolding Stands all_hold byte_lies roles_of
@@ -130,7 +132,8 @@ the-shared = record {
 
 the-part : Stands (roles_of role) lists sample 82 (Part (Shared 1) 1 1)
 unfolding Stands roles_of all_hold
-the-part = (record { boxed = record { tag = refl; header = refl; object = object-lies sample role 20 4 (lit≤ tt) refl refl }; size = refl; start = refl; bits = refl; inside = lit≤ tt }, tt, the-shared)
+the-part =
+    (record { boxed = record { tag = refl; header = refl; object = object-lies sample role 20 4 (lit≤ tt) refl refl }; size = refl; start = refl; bits = refl; inside = lit≤ tt }, tt, the-shared)
 
 the-fun : Stands (roles_of role) lists sample 118 (Fun 3 2 1 (Int (pos 4) ▹ end))
 unfolding Stands RowStands roles_of all_hold
@@ -211,7 +214,8 @@ parts-has : (us vs : List ℕ) (v k : ℕ) → parts-in us vs ≡ true → has v
 unfolding parts-in has listed
 parts-has us [] v k h i t from below = absurd (cc)
 parts-has us (u ∷ vs) v k h i t from below =
-    let (this, rest) = and_parts (if (u % 4 == 1) || (u % 4 == 2) then all_hold (listed us) (u / 4 + first_traced sample u) (object_words sample u - first_traced sample u) else true) (parts-in us vs) h in
+    let (this, rest) = and_parts
+    (if (u % 4 == 1) || (u % 4 == 2) then all_hold (listed us) (u / 4 + first_traced sample u) (object_words sample u - first_traced sample u) else true) (parts-in us vs) h in
     elim (either (u == v) (has vs v) i) [
       | inr more ↦ parts-has us vs v k rest more t from below
       | inl same ↦ (let e : u ≡ v = eqb-true _ _ same in

@@ -51,7 +51,17 @@ the-shared = record {
     fifth = refl;
     sixth = refl;
   };
-  record_is = record { within = lit≤ tt; header = refl; owner = refl; size = refl; content = bytes-lie sample 13 (1 ∷ 2 ∷ []) refl; first = refl; second = refl; counted = refl; others = λ q from below. refl };
+  record_is = record {
+    within = lit≤ tt;
+    header = refl;
+    owner = refl;
+    size = refl;
+    content = bytes-lie sample 13 (1 ∷ 2 ∷ []) refl;
+    first = refl;
+    second = refl;
+    counted = refl;
+    others = λ q from below. refl;
+  };
 }
 
 pub the-part : Stands always lists sample 82 (Part (Shared 1) 1 1)
