@@ -126,14 +126,14 @@ error big
 
 #[test]
 fn limits_are_kept(rt: HostRuntime) -> Result<(), Fail> {
-    let wrong = first_wrong(rt.alloc(), NAME_ALONE, GROWN, None)?;
+    let wrong = first_wrong(rt.alloc(), NAME_ALONE, GROWN, 6, None)?;
     assert!(rt; wrong.is_empty(), "{wrong}");
     Ok(())
 }
 
 #[test]
 fn terms_beyond_the_walk_limit_are_refused(rt: HostRuntime) -> Result<(), Fail> {
-    let wrong = first_wrong(rt.alloc(), NAME_ALONE, BEYOND, None)?;
+    let wrong = first_wrong(rt.alloc(), NAME_ALONE, BEYOND, 2, None)?;
     assert!(rt; wrong.is_empty(), "{wrong}");
     Ok(())
 }

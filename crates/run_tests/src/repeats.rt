@@ -71,3 +71,21 @@ pub(crate) fn whole_of(alloc: Global, text: &[u8]) -> Result<Vec<u8>, Fail> {
     }
     Ok(whole)
 }
+
+// Whether this text stands for that one.
+fn stands_for(alloc: Global, text: &[u8], whole: &[u8]) -> Result<bool, Fail> {
+    let found = whole_of(alloc, text)?;
+    Ok(found.as_slice() == whole)
+}
+
+#[test]
+fn repeated_texts_are_whole(rt: HostRuntime) -> Result<(), Fail> {
+    assert!(rt;
+        stands_for(
+            rt.alloc(),
+            b"w^ab^3^x!^c^2^?d!9!12!y",
+            b"wabababxcc9dcc10dcc11dy"
+        )?
+    );
+    Ok(())
+}

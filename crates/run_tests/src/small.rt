@@ -167,14 +167,14 @@ const SMALL: &[&str] = &["beam_heap", "--arena", "4096"];
 
 #[test]
 fn small_arenas_refuse_by_what_lives(rt: HostRuntime) -> Result<(), Fail> {
-    let wrong = first_wrong(rt.alloc(), SMALL, ROWS, Some(0))?;
+    let wrong = first_wrong(rt.alloc(), SMALL, ROWS, 6, Some(0))?;
     assert!(rt; wrong.is_empty(), "{wrong}");
     Ok(())
 }
 
 #[test]
 fn refused_lines_of_small_arenas_bring_no_name(rt: HostRuntime) -> Result<(), Fail> {
-    let wrong = first_wrong(rt.alloc(), SMALL, NAMING, Some(1))?;
+    let wrong = first_wrong(rt.alloc(), SMALL, NAMING, 1, Some(1))?;
     assert!(rt; wrong.is_empty(), "{wrong}");
     Ok(())
 }
