@@ -1,19 +1,19 @@
 -- A memory laid out by hand, with an object of each kind: a collection can begin there.
 use Rattle.std.proofs.Common.{◌≡◌, ℕ, zero, suc, ◌+◌, ◌-◌, ◌*◌, ◌/◌, ◌%◌, ◌<◌, ◌≤◌, ◌⊎◌, Bool, true, false, List, [], ◌∷◌, length, drop, get_or, refl, sym, ◌∙◌, ap, subst, arith, inl, inr, pos, lit≤, lit<, ◌==◌, ◌&&◌, ◌||◌, if◌then◌else◌, nat_lt}
-use Rattle.std.proofs.lemmas.Bool.{eqb-true}
+use Rattle.std.proofs.lemmas.Bool.{and_parts, eqb-true}
 use Rattle.std.proofs.lemmas.List.{get_or-drop, get_or-take, get_or_past}
 use Rattle.std.proofs.lemmas.Bool.Decides.{nat_tests}
 use Rattle.std.specs.Prelude.{Result, Ok, IfOk}
-use Rattle.plain_term.specs.Measures.{bin_words}
 use Rattle.plain_term.specs.Tree.{Trees}
 use Rattle.plain_term.specs.Tree.Tree.{Int, Atom, Ref, Nil, Cons, Tuple, Map, Bin, Shared, Part, Fun}
 use Rattle.plain_term.specs.Tree.Trees.{end, ◌▹◌}
 use Rattle.plain_term.specs.Tree.Pairs.{stop, pair}
 use Rattle.term_words.specs.Role.{roles_of}
-use Rattle.term_words.specs.Object.{byte_of, BytesLie, IsObject, IsPointer, object_words}
+use Rattle.term_words.specs.Object.{IsPointer, object_words}
 use Rattle.term_words.specs.Reach.{Reach, root, part, first_traced}
 use Rattle.term_words.specs.Stands.{Stands, RowStands, KeysStand, ValuesStand, AllStand}
 use Rattle.term_words.proofs.Framing.Rooms.{role-at}
+use Rattle.term_words.proofs.Placing.Tried.{all_hold, holds-there, byte_lies, bytes-lie, object-lies, none-there}
 use Rattle.word_mem.specs.declared.ranges.Room.{Room}
 use Rattle.word_mem.specs.declared.ranges.Span.{Span}
 use Rattle.cheney.specs.declared.stay.Stay.{Stay}
@@ -76,76 +76,30 @@ the-trees = Cons (Int (pos 1)) Nil ▹ Tuple (Atom 5 ▹ Cons (Int (pos 1)) Nil 
 abbrev pub plan : Plan
 plan = record { start = sample; roots = roots; shared = lists; trees = the-trees; test = test; stay = in_span kept; mature = in_span old; low = low; high = high }
 
-both : (a b : Bool) → (a && b) ≡ true → (a ≡ true) × (b ≡ true)
-both true b h = (refl, h)
-both false b h = absurd (cc)
-
 either : (a b : Bool) → (a || b) ≡ true → (a ≡ true) ⊎ (b ≡ true)
 either true b h = inl refl
 either false b h = inr h
 
--- Places of one role are found by testing each.
-run : ℕ → ℕ → ℕ → Bool
-run k s zero = true
-run k s (suc n) = roles_of role s k && run k (s + 1) n
-
-run-at : (k s n : ℕ) → run k s n ≡ true → (q : ℕ) → s ≤ q → q < s + n → roles_of role q k ≡ true
-unfolding run
-run-at k s zero h q from below = absurd (omega arith)
-run-at k s (suc n) h q from below =
-    let (this, rest) = both (roles_of role s k) (run k (s + 1) n) h in
-    let order : (q ≡ s) ⊎ (s + 1 ≤ q) = grind arith in
-    elim order [
-      | inl same ↦ (let P : ℕ → Type 0 = λ x. roles_of role x k ≡ true in subst P (sym same) this)
-      | inr more ↦ run-at k (s + 1) n rest q more (omega arith)
-    ]
-
-object : (p n : ℕ) → p + (n + 1) ≤ length sample → roles_of role p 3 ≡ true → run 4 (p + 1) n ≡ true → IsObject (roles_of role) sample p (n + 1)
-object p n inside head tail = record { within = inside; first = head; others = λ q above below. run-at 4 (p + 1) n tail q (omega arith) (omega arith) }
-
--- Bytes that lie are found by testing each.
-lie : List ℕ → ℕ → List ℕ → ℕ → Bool
-lie mem q bytes zero = true
-lie mem q bytes (suc k) = (byte_of (get_or mem (q + k / 8) 0) (k % 8) == get_or bytes k 0) && lie mem q bytes k
-
-order : (i k : ℕ) → i < suc k → (i ≡ k) ⊎ (i < k)
-order i k below = grind arith
-
-lies-below : (mem : List ℕ) (q : ℕ) (bytes : List ℕ) (n : ℕ) → lie mem q bytes n ≡ true → (i : ℕ) → i < n → byte_of (get_or mem (q + i / 8) 0) (i % 8) ≡ get_or bytes i 0
-unfolding lie
-lies-below mem q bytes zero h i below = absurd (omega arith)
-lies-below mem q bytes (suc k) h i below =
-    let (this, rest) = both (byte_of (get_or mem (q + k / 8) 0) (k % 8) == get_or bytes k 0) (lie mem q bytes k) h in
-    elim (order i k below) [
-      | inl same ↦ (let P : ℕ → Type 0 = λ x. byte_of (get_or mem (q + x / 8) 0) (x % 8) ≡ get_or bytes x 0 in subst P (sym same) (eqb-true _ _ this))
-      | inr less ↦ lies-below mem q bytes k rest i less
-    ]
-
-lies : (q : ℕ) (bytes : List ℕ) → lie sample q bytes (bin_words (length bytes) * 8) ≡ true → BytesLie sample q bytes
-lies q bytes h = record {
-  each = λ i a below place.
-      let P : ℕ → Type 0 = λ x. byte_of (get_or sample x 0) (i % 8) ≡ get_or bytes i 0 in
-      subst P (sym place) (lies-below sample q bytes (bin_words (length bytes) * 8) h i below);
-}
-
 the-list : Stands (roles_of role) lists sample 5 (Cons (Int (pos 1)) Nil)
-unfolding Stands roles_of run
-the-list = (record { tag = refl; object = object 1 1 (lit≤ tt) refl refl }, inl (record { small = refl; word = refl }), refl)
+unfolding Stands roles_of all_hold
+the-list = (record { tag = refl; object = object-lies sample role 1 1 (lit≤ tt) refl refl }, inl (record { small = refl; word = refl }), refl)
 
 the-tuple : Stands (roles_of role) lists sample 14 (Tuple (Atom 5 ▹ Cons (Int (pos 1)) Nil ▹ end))
-unfolding Stands RowStands roles_of run
-the-tuple = (record { range = lit≤ tt; boxed = record { tag = refl; header = refl; object = object 3 2 (lit≤ tt) refl refl } }, (record { range = lit< tt; word = refl }, (the-list, tt)))
+unfolding Stands RowStands roles_of all_hold
+the-tuple =
+    (record { range = lit≤ tt; boxed = record { tag = refl; header = refl; object = object-lies sample role 3 2 (lit≤ tt) refl refl } }, (record { range = lit< tt; word = refl }, (the-list, tt)))
 
 the-empty : Stands (roles_of role) lists sample 190 (Tuple end)
-unfolding Stands RowStands roles_of run
-the-empty = (record { range = lit≤ tt; boxed = record { tag = refl; header = refl; object = object 47 0 (lit≤ tt) refl refl } }, tt)
+unfolding Stands RowStands roles_of all_hold
+the-empty = (record { range = lit≤ tt; boxed = record { tag = refl; header = refl; object = object-lies sample role 47 0 (lit≤ tt) refl refl } }, tt)
 
 the-bytes : Stands (roles_of role) lists sample 26 (Bin (7 ∷ 8 ∷ 9 ∷ []))
-unfolding Stands lie roles_of run
-the-bytes = record { range = lit≤ tt; boxed = record { tag = refl; header = refl; object = object 6 2 (lit≤ tt) refl refl }; size = refl; content = lies 8 (7 ∷ 8 ∷ 9 ∷ []) refl }
+unfolding Stands all_hold byte_lies roles_of
+the-bytes =
+    record { range = lit≤ tt; boxed = record { tag = refl; header = refl; object = object-lies sample role 6 2 (lit≤ tt) refl refl }; size = refl; content = bytes-lie sample 8 (7 ∷ 8 ∷ 9 ∷ []) refl }
 
 the-shared : Stands (roles_of role) lists sample 58 (Shared 1)
-unfolding Stands lie roles_of run
+unfolding Stands all_hold byte_lies roles_of
 the-shared = record {
   from_one = lit< tt;
   known = lit≤ tt;
@@ -168,21 +122,21 @@ the-shared = record {
     header = refl;
     owner = refl;
     size = refl;
-    content = lies 13 (1 ∷ 2 ∷ []) refl;
+    content = bytes-lie sample 13 (1 ∷ 2 ∷ []) refl;
     first = refl;
     second = refl;
     counted = refl;
-    others = λ q from
-        below. run-at 6 12 2 refl q from below;
+    others = λ q from below. holds-there (λ x. roles_of role x 6) 12 2 q refl from below;
   };
 }
 
 the-part : Stands (roles_of role) lists sample 82 (Part (Shared 1) 1 1)
-unfolding Stands roles_of run
-the-part = (record { boxed = record { tag = refl; header = refl; object = object 20 4 (lit≤ tt) refl refl }; size = refl; start = refl; bits = refl; inside = lit≤ tt }, tt, the-shared)
+unfolding Stands roles_of all_hold
+the-part =
+    (record { boxed = record { tag = refl; header = refl; object = object-lies sample role 20 4 (lit≤ tt) refl refl }; size = refl; start = refl; bits = refl; inside = lit≤ tt }, tt, the-shared)
 
 the-fun : Stands (roles_of role) lists sample 118 (Fun 3 2 1 (Int (pos 4) ▹ end))
-unfolding Stands RowStands roles_of run
+unfolding Stands RowStands roles_of all_hold
 the-fun = (
   record {
     range = lit≤ tt;
@@ -197,35 +151,35 @@ the-fun = (
     first = refl;
     names = refl;
     next = refl;
-    others = λ q above below. run-at 4 32 4 refl q (omega arith) below;
+    others = λ q above below. holds-there (λ x. roles_of role x 4) 32 4 q refl (omega arith) below;
   },
   (inl (record { small = refl; word = refl }), tt),
 )
 
 the-map : Stands (roles_of role) lists sample 154 (Map (pair (Atom 1) (Int (pos 9)) stop))
-unfolding Stands KeysStand ValuesStand roles_of run
+unfolding Stands KeysStand ValuesStand roles_of all_hold
 the-map = (
   record {
     range = lit≤ tt;
-    boxed = record { tag = refl; header = refl; object = object 38 3 (lit≤ tt) refl refl };
+    boxed = record { tag = refl; header = refl; object = object-lies sample role 38 3 (lit≤ tt) refl refl };
     count = refl;
-    keys = record { range = lit≤ tt; boxed = record { tag = refl; header = refl; object = object 36 1 (lit≤ tt) refl refl } };
+    keys = record { range = lit≤ tt; boxed = record { tag = refl; header = refl; object = object-lies sample role 36 1 (lit≤ tt) refl refl } };
   },
   (record { range = lit< tt; word = refl }, tt),
   (inl (record { small = refl; word = refl }), tt),
 )
 
 the-reference : Stands (roles_of role) lists sample 170 (Ref 1 7)
-unfolding Stands roles_of run
-the-reference = record { boxed = record { tag = refl; header = refl; object = object 42 2 (lit≤ tt) refl refl }; number = refl; count = refl }
+unfolding Stands roles_of all_hold
+the-reference = record { boxed = record { tag = refl; header = refl; object = object-lies sample role 42 2 (lit≤ tt) refl refl }; number = refl; count = refl }
 
 the-big : Stands (roles_of role) lists sample 182 (Int (pos 9223372036854775808))
-unfolding Stands roles_of run
-the-big = inr (inl (record { big = refl; boxed = record { tag = refl; header = refl; object = object 45 1 (lit≤ tt) refl refl }; digit = refl; range = lit< tt }))
+unfolding Stands roles_of all_hold
+the-big = inr (inl (record { big = refl; boxed = record { tag = refl; header = refl; object = object-lies sample role 45 1 (lit≤ tt) refl refl }; digit = refl; range = lit< tt }))
 
 the-wide : Stands (roles_of role) lists sample 194 (Int (pos 18446744073709551616))
-unfolding Stands roles_of run
-the-wide = inr (inr (record { boxed = record { tag = refl; header = refl; object = object 48 2 (lit≤ tt) refl refl }; low = lit< tt; high = lit< tt; digits = refl; range = lit< tt }))
+unfolding Stands roles_of all_hold
+the-wide = inr (inr (record { boxed = record { tag = refl; header = refl; object = object-lies sample role 48 2 (lit≤ tt) refl refl }; low = lit< tt; high = lit< tt; digits = refl; range = lit< tt }))
 
 the-small : Stands (roles_of role) lists sample 79 (Int (pos 4))
 unfolding Stands
@@ -241,13 +195,13 @@ has : List ℕ → ℕ → Bool
 has [] v = false
 has (u ∷ us) v = (u == v) || has us v
 
-row-in : List ℕ → ℕ → ℕ → Bool
-row-in us p zero = true
-row-in us p (suc n) = has us (get_or sample p 0) && row-in us (p + 1) n
+-- whether the list has the word at a place
+listed : List ℕ → ℕ → Bool
+listed us q = has us (get_or sample q 0)
 
 parts-in : List ℕ → List ℕ → Bool
 parts-in us [] = true
-parts-in us (v ∷ vs) = (if (v % 4 == 1) || (v % 4 == 2) then row-in us (v / 4 + first_traced sample v) (object_words sample v - first_traced sample v) else true) && parts-in us vs
+parts-in us (v ∷ vs) = (if (v % 4 == 1) || (v % 4 == 2) then all_hold (listed us) (v / 4 + first_traced sample v) (object_words sample v - first_traced sample v) else true) && parts-in us vs
 
 all-in : List ℕ → List ℕ → Bool
 all-in us [] = true
@@ -256,55 +210,41 @@ all-in us (v ∷ vs) = has us v && all-in us vs
 abbrev known : List ℕ
 known = 5 ∷ 14 ∷ 26 ∷ 58 ∷ 82 ∷ 118 ∷ 154 ∷ 170 ∷ 182 ∷ 190 ∷ 194 ∷ 79 ∷ 31 ∷ 59 ∷ 331 ∷ 146 ∷ 159 ∷ 75 ∷ []
 
-row-has : (us : List ℕ) (p n q : ℕ) → row-in us p n ≡ true → p ≤ q → q < p + n → has us (get_or sample q 0) ≡ true
-unfolding row-in
-row-has us p zero q h from below = absurd (omega arith)
-row-has us p (suc n) q h from below =
-    let (this, rest) = both (has us (get_or sample p 0)) (row-in us (p + 1) n) h in
-    let order2 : (q ≡ p) ⊎ (p + 1 ≤ q) = grind arith in
-    elim order2 [
-      | inl same ↦ (let P : ℕ → Type 0 = λ x. has us (get_or sample x 0) ≡ true in subst P (sym same) this)
-      | inr more ↦ row-has us (p + 1) n q rest more (omega arith)
-    ]
-
 parts-has : (us vs : List ℕ) (v k : ℕ) → parts-in us vs ≡ true → has vs v ≡ true → IsPointer v → first_traced sample v ≤ k → k < object_words sample v → has us (get_or sample (v / 4 + k) 0) ≡ true
-unfolding parts-in has
+unfolding parts-in has listed
 parts-has us [] v k h i t from below = absurd (cc)
 parts-has us (u ∷ vs) v k h i t from below =
-    let (this, rest) = both (if (u % 4 == 1) || (u % 4 == 2) then row-in us (u / 4 + first_traced sample u) (object_words sample u - first_traced sample u) else true) (parts-in us vs) h in
+    let (this, rest) = and_parts
+    (if (u % 4 == 1) || (u % 4 == 2) then all_hold (listed us) (u / 4 + first_traced sample u) (object_words sample u - first_traced sample u) else true) (parts-in us vs) h in
     elim (either (u == v) (has vs v) i) [
       | inr more ↦ parts-has us vs v k rest more t from below
       | inl same ↦ (let e : u ≡ v = eqb-true _ _ same in
-          let P : ℕ → Type 0 = λ x. (if (x % 4 == 1) || (x % 4 == 2) then row-in us (x / 4 + first_traced sample x) (object_words sample x - first_traced sample x) else true) ≡ true in
-          let here : (if (v % 4 == 1) || (v % 4 == 2) then row-in us (v / 4 + first_traced sample v) (object_words sample v - first_traced sample v) else true) ≡ true = subst P e this in
+          let P : ℕ → Type 0 = λ x. (if (x % 4 == 1) || (x % 4 == 2) then all_hold (listed us) (x / 4 + first_traced sample x) (object_words sample x - first_traced sample x) else true) ≡ true in
+          let here : (if (v % 4 == 1) || (v % 4 == 2) then all_hold (listed us) (v / 4 + first_traced sample v) (object_words sample v - first_traced sample v) else true) ≡ true = subst P e this in
           let pointer : ((v % 4 == 1) || (v % 4 == 2)) ≡ true = grind (arith, nat_tests, t) in
-          let Q : Bool → Type 0 = λ b. (if b then row-in us (v / 4 + first_traced sample v) (object_words sample v - first_traced sample v) else true) ≡ true in
-          row-has us (v / 4 + first_traced sample v) (object_words sample v - first_traced sample v) (v / 4 + k) (subst Q pointer here) (omega arith) (omega arith))
+          let Q : Bool → Type 0 = λ b. (if b then all_hold (listed us) (v / 4 + first_traced sample v) (object_words sample v - first_traced sample v) else true) ≡ true in
+          holds-there (listed us) (v / 4 + first_traced sample v) (object_words sample v - first_traced sample v) (v / 4 + k) (subst Q pointer here) (omega arith) (omega arith))
     ]
 
 all-has : (us vs : List ℕ) (j : ℕ) → all-in us vs ≡ true → j < length vs → has us (get_or vs j 0) ≡ true
 unfolding all-in
 all-has us [] j h below = absurd (omega arith)
-all-has us (v ∷ vs) zero h below = (both (has us v) (all-in us vs) h).0
-all-has us (v ∷ vs) (suc j) h below = all-has us vs j (both (has us v) (all-in us vs) h).1 (omega arith)
+all-has us (v ∷ vs) zero h below = (and_parts (has us v) (all-in us vs) h).0
+all-has us (v ∷ vs) (suc j) h below = all-has us vs j (and_parts (has us v) (all-in us vs) h).1 (omega arith)
 
 found : (v : ℕ) → Reach sample roots v → has known v ≡ true
-unfolding parts-in has row-in all-in
+unfolding parts-in has listed all_hold all-in
 found v (root j w below e) = let P : ℕ → Type 0 = λ x. has known x ≡ true in subst P (sym e) (all-has known roots j refl below)
 found v (part u k w r t from below e) = let P : ℕ → Type 0 = λ x. has known x ≡ true in subst P (sym e) (parts-has known known u k refl (found u r) t from below)
 
 -- No word past the objects has a role.
-
-role-none : (a k : ℕ) → role a ≡ 0 → roles_of role a k ≡ true → ⊥
-unfolding roles_of
-role-none a k none h = grind (arith, nat_tests)
 
 clear-of : (a k : ℕ) → roles_of role a k ≡ true → (b : Bool) → (a < low b) ⊎ (high b ≤ a)
 clear-of a k h b =
     let order3 : (a < 51) ⊎ (51 ≤ a) = grind arith in
     elim order3 [
       | inl near ↦ inl (elim b as (λ c. a < low c) [ true ↦ near | false ↦ omega arith ])
-      | inr far ↦ absurd (role-none a k (get_or_past roles a 0 far) h)
+      | inr far ↦ absurd (none-there role a k (get_or_past roles a 0 far) h)
     ]
 
 -- A test that holds of each listed word holds of each word that the roots reach.
@@ -316,7 +256,7 @@ every-has : (f : ℕ → Bool) (vs : List ℕ) (v : ℕ) → every f vs ≡ true
 unfolding every has
 every-has f [] v h i = absurd (cc)
 every-has f (u ∷ vs) v h i =
-    let (this, rest) = both (f u) (every f vs) h in
+    let (this, rest) = and_parts (f u) (every f vs) h in
     elim (either (u == v) (has vs v) i) [
       | inl same ↦ (let P : ℕ → Type 0 = λ x. f x ≡ true in subst P (eqb-true _ _ same) this)
       | inr more ↦ every-has f vs v rest more
@@ -460,7 +400,7 @@ stacked {E} r m none stay aged young e h n s a y =
       free = λ j less. record {
         inside = omega arith;
         outside = λ c. inr (omega (arith, high-to c));
-        none = λ k role_at. role-none (91 + j * 1) k
+        none = λ k role_at. none-there role (91 + j * 1) k
             (get_or_past roles (91 + j * 1) 0 (omega arith)) role_at;
       };
       reached = λ j less. let Q : ℕ → Type 0 = λ z. Reached plan z in subst Q (sym (there j less)) (root j (get_or roots j 0) less refl);
@@ -507,7 +447,7 @@ below a k = nat_lt a 51
 has-role : (a k : ℕ) → roles_of role a k ≡ true → a < 51
 has-role a k h =
     let order4 : (a < 51) ⊎ (51 ≤ a) = grind arith in
-    elim order4 [ inl near ↦ near | inr far ↦ absurd (role-none a k (get_or_past roles a 0 far) h) ]
+    elim order4 [ inl near ↦ near | inr far ↦ absurd (none-there role a k (get_or_past roles a 0 far) h) ]
 
 is-below : (a k : ℕ) → a < 51 → below a k ≡ true
 unfolding below

@@ -1,19 +1,19 @@
 -- A memory laid out by hand, with holders and funs that share records: a collection can begin there, and its chain stands.
 use Rattle.std.proofs.Common.{◌≡◌, ℕ, zero, suc, ◌+◌, ◌*◌, ◌/◌, ◌%◌, ◌<◌, ◌≤◌, ◌⊎◌, Bool, true, false, List, [], ◌∷◌, length, get_or, true≢false, refl, sym, ◌∙◌, ap, subst, arith, inl, inr, pos, lit≤, lit<, ◌==◌, ◌&&◌, ◌||◌, if◌then◌else◌, nat_lt, nat_le}
-use Rattle.std.proofs.lemmas.Bool.{eqb-true}
+use Rattle.std.proofs.lemmas.Bool.{and_parts}
 use Rattle.std.proofs.lemmas.List.{get_or_past}
 use Rattle.std.proofs.lemmas.Bool.Decides.{nat_tests}
 use Rattle.std.specs.Prelude.{Result, Ok, IfOk}
-use Rattle.plain_term.specs.Measures.{bin_words}
 use Rattle.plain_term.specs.Tree.{Trees}
 use Rattle.plain_term.specs.Tree.Tree.{Int, Shared, Fun}
 use Rattle.plain_term.specs.Tree.Trees.{end, ◌▹◌}
 use Rattle.term_words.specs.Role.{roles_of, COUNT, IsSingle}
-use Rattle.term_words.specs.Object.{byte_of, BytesLie, IsPointer, IsRecord, IsBinRecord, IsFunRecord, object_words}
+use Rattle.term_words.specs.Object.{IsPointer, IsRecord, IsBinRecord, IsFunRecord, object_words}
 use Rattle.term_words.specs.Reach.{Reach, root, part, first_traced}
 use Rattle.term_words.specs.Stands.{Stands, RowStands, AllStand}
 use Rattle.term_words.specs.Counted.{In}
 use Rattle.term_words.proofs.Framing.Rooms.{role-at}
+use Rattle.term_words.proofs.Placing.Tried.{all_hold, holds-there, byte_lies, bytes-lie, none-there}
 use Rattle.word_mem.specs.declared.ranges.Room.{Room}
 use Rattle.shared_rec.specs.Record.{count_in}
 use Rattle.shared_rec.proofs.Records.{record-first}
@@ -77,70 +77,32 @@ the-trees = Shared 1 ▹ Fun 3 2 1 (Int (pos 4) ▹ end) ▹ Fun 3 2 1 (Int (pos
 abbrev pub plan : Plan
 plan = record { start = sample; roots = roots; shared = lists; trees = the-trees; test = test; stay = λ q. false; mature = λ q. false; low = low; high = high }
 
-both-true : (a b : Bool) → (a && b) ≡ true → (a ≡ true) × (b ≡ true)
-both-true true b h = (refl, h)
-both-true false b h = absurd (cc)
-
--- A test that holds of each place below another one, by testing each.
-below : (ℕ → Bool) → ℕ → Bool
-below f zero = true
-below f (suc n) = f n && below f n
-
-below-at : (f : ℕ → Bool) (n q : ℕ) → below f n ≡ true → q < n → f q ≡ true
-unfolding below
-below-at f zero q h less = absurd (omega (arith, less))
-below-at f (suc n) q h less =
-    let (this, rest) = both-true (f n) (below f n) h in
-    let order : (q ≡ n) ⊎ (q < n) = grind (arith, less) in
-    elim order [ inl same ↦ (let P : ℕ → Type 0 = λ x. f x ≡ true in subst P (sym same) this) | inr more ↦ below-at f n q rest more ]
-
--- Bytes that lie are found by testing each.
-lie : ℕ → List ℕ → ℕ → Bool
-lie q bytes k = byte_of (get_or sample (q + k / 8) 0) (k % 8) == get_or bytes k 0
-
-lies : (q : ℕ) (bytes : List ℕ) → below (lie q bytes) (bin_words (length bytes) * 8) ≡ true → BytesLie sample q bytes
-unfolding lie
-lies q bytes h = record {
-  each = λ i a less place.
-      let P : ℕ → Type 0 = λ x. byte_of (get_or sample x 0) (i % 8) ≡ get_or bytes i 0 in
-      subst P (sym place) (eqb-true _ _ (below-at (lie q bytes) (bin_words (length bytes) * 8) i h less));
-}
-
-two-or-more : (q a : ℕ) → a ≤ q → q < a + 2 → (q ≡ a) ⊎ (q ≡ a + 1)
-two-or-more q a from less = grind arith
-
--- The words of a row of two have one role.
-pair-role : (q a k : ℕ) → roles_of role a k ≡ true → roles_of role (a + 1) k ≡ true → a ≤ q → q < a + 2 → roles_of role q k ≡ true
-pair-role q a k h i from less =
-    let P : ℕ → Type 0 = λ x. roles_of role x k ≡ true in
-    elim (two-or-more q a from less) [ inl e ↦ subst P (sym e) h | inr e ↦ subst P (sym e) i ]
-
 record-a : IsBinRecord (roles_of role) sample 40 1 (1 ∷ 2 ∷ [])
-unfolding below lie roles_of
+unfolding all_hold byte_lies roles_of
 record-a = record {
   within = lit≤ tt;
   header = refl;
   owner = refl;
   size = refl;
-  content = lies 44 (1 ∷ 2 ∷ []) refl;
+  content = bytes-lie sample 44 (1 ∷ 2 ∷ []) refl;
   first = refl;
   second = refl;
   counted = refl;
-  others = λ q from less. pair-role q 43 6 refl refl from less;
+  others = λ q from less. holds-there (λ x. roles_of role x 6) 43 2 q refl from less;
 }
 
 record-b : IsBinRecord (roles_of role) sample 45 2 (3 ∷ [])
-unfolding below lie roles_of
+unfolding all_hold byte_lies roles_of
 record-b = record {
   within = lit≤ tt;
   header = refl;
   owner = refl;
   size = refl;
-  content = lies 49 (3 ∷ []) refl;
+  content = bytes-lie sample 49 (3 ∷ []) refl;
   first = refl;
   second = refl;
   counted = refl;
-  others = λ q from less. pair-role q 48 6 refl refl from less;
+  others = λ q from less. holds-there (λ x. roles_of role x 6) 48 2 q refl from less;
 }
 
 record-c : IsFunRecord (roles_of role) sample 50 3 2
@@ -213,17 +175,8 @@ the-third = record {
   record_is = record-b;
 }
 
-four-or-more : (q a : ℕ) → a < q → q < a + 5 → (q ≡ a + 1) ⊎ ((q ≡ a + 2) ⊎ ((q ≡ a + 3) ⊎ (q ≡ a + 4)))
-four-or-more q a from less = grind arith
-
-four-role : (q a : ℕ) → roles_of role (a + 1) 4 ≡ true → roles_of role (a + 2) 4 ≡ true → roles_of role (a + 3) 4 ≡ true → roles_of role (a + 4) 4 ≡ true → a < q → q < a + 5
-    → roles_of role q 4 ≡ true
-four-role q a h i j k from less =
-    let P : ℕ → Type 0 = λ x. roles_of role x 4 ≡ true in
-    elim (four-or-more q a from less) [ inl e ↦ subst P (sym e) h | inr (inl e) ↦ subst P (sym e) i | inr (inr (inl e)) ↦ subst P (sym e) j | inr (inr (inr e)) ↦ subst P (sym e) k ]
-
 the-fun : Stands (roles_of role) lists sample 82 (Fun 3 2 1 (Int (pos 4) ▹ end))
-unfolding Stands RowStands roles_of
+unfolding Stands RowStands all_hold roles_of
 the-fun = (
   record {
     range = lit≤ tt;
@@ -238,13 +191,13 @@ the-fun = (
     first = refl;
     names = refl;
     next = refl;
-    others = λ q from less. four-role q 22 refl refl refl refl from less;
+    others = λ q from less. holds-there (λ x. roles_of role x 4) 23 4 q refl (omega (arith, from)) (omega (arith, less));
   },
   (inl (record { small = refl; word = refl }), tt),
 )
 
 the-other : Stands (roles_of role) lists sample 110 (Fun 3 2 1 (Int (pos 4) ▹ end))
-unfolding Stands RowStands roles_of
+unfolding Stands RowStands all_hold roles_of
 the-other = (
   record {
     range = lit≤ tt;
@@ -259,7 +212,7 @@ the-other = (
     first = refl;
     names = refl;
     next = refl;
-    others = λ q from less. four-role q 29 refl refl refl refl from less;
+    others = λ q from less. holds-there (λ x. roles_of role x 4) 30 4 q refl (omega (arith, from)) (omega (arith, less));
   },
   (inl (record { small = refl; word = refl }), tt),
 )
@@ -310,14 +263,10 @@ found v (part u k w r t from less e) = let P : ℕ → Type 0 = λ x. In x known
 
 -- No word past the records has a role.
 
-role-none : (a k : ℕ) → role a ≡ 0 → roles_of role a k ≡ true → ⊥
-unfolding roles_of
-role-none a k none h = grind (arith, nat_tests)
-
 has-role : (a k : ℕ) → roles_of role a k ≡ true → a < 54
 has-role a k h =
     let order : (a < 54) ⊎ (54 ≤ a) = grind arith in
-    elim order [ inl near ↦ near | inr far ↦ absurd (role-none a k (get_or_past roles a 0 far) h) ]
+    elim order [ inl near ↦ near | inr far ↦ absurd (none-there role a k (get_or_past roles a 0 far) h) ]
 
 low-from : (b : Bool) → 64 ≤ low b
 low-from true = lit≤ tt
@@ -361,10 +310,10 @@ first-test : ℕ → Bool
 first-test q = if roles_of role q 8 then (q == 40) || ((q == 45) || (q == 50)) else true
 
 record-place : (v n : ℕ) → IsRecord (roles_of role) sample v n → (v ≡ 40) ⊎ ((v ≡ 45) ⊎ (v ≡ 50))
-unfolding below first-test roles_of
+unfolding all_hold first-test roles_of
 record-place v n there =
     let f : roles_of role v 8 ≡ true = record-first (roles_of role) sample v n there in
-    let t : first-test v ≡ true = below-at first-test 54 v refl (has-role v 8 f) in
+    let t : first-test v ≡ true = holds-there first-test 0 54 v refl (omega arith) (omega (arith, has-role v 8 f)) in
     let P : Bool → Type 0 = λ b. (if b then (v == 40) || ((v == 45) || (v == 50)) else true) ≡ true in
     let here : ((v == 40) || ((v == 45) || (v == 50))) ≡ true = subst P f t in
     grind (arith, nat_tests, here)
@@ -381,8 +330,8 @@ below-all p (o ∷ os) = nat_lt o p && below-all p os
 none-in : (p : ℕ) (os : List ℕ) → below-all p os ≡ true → In p os → ⊥
 unfolding below-all
 none-in p [] h i = i
-none-in p (o ∷ os) h (inl e) = let (this, rest) = both-true (nat_lt o p) (below-all p os) h in grind (arith, nat_tests, this, e)
-none-in p (o ∷ os) h (inr i) = let (this, rest) = both-true (nat_lt o p) (below-all p os) h in none-in p os rest i
+none-in p (o ∷ os) h (inl e) = let (this, rest) = and_parts (nat_lt o p) (below-all p os) h in grind (arith, nat_tests, this, e)
+none-in p (o ∷ os) h (inr i) = let (this, rest) = and_parts (nat_lt o p) (below-all p os) h in none-in p os rest i
 
 links : Links (roles_of role) sample 27 chain []
 unfolding below-all
@@ -401,7 +350,7 @@ remaining a k = nat_le 40 a && roles_of role a k
 
 remaining-is : (a k : ℕ) → remaining a k ≡ true → (40 ≤ a) × (roles_of role a k ≡ true)
 unfolding remaining
-remaining-is a k h = let (this, rest) = both-true (nat_le 40 a) (roles_of role a k) h in (grind (arith, nat_tests, this), rest)
+remaining-is a k h = let (this, rest) = and_parts (nat_le 40 a) (roles_of role a k) h in (grind (arith, nat_tests, this), rest)
 
 is-remaining : (a k : ℕ) → 40 ≤ a → roles_of role a k ≡ true → remaining a k ≡ true
 unfolding remaining
@@ -411,13 +360,13 @@ record-test : ℕ → Bool
 record-test q = (role q == 0) || ((role q == 1) || ((role q == 3) || ((role q == 4) || (role q == 5))))
 
 record-far : (a k : ℕ) → roles_of role a k ≡ true → (k ≡ 2) ⊎ (6 ≤ k) → 40 ≤ a
-unfolding below record-test
+unfolding all_hold record-test
 record-far a k h of =
     let order : (a < 40) ⊎ (40 ≤ a) = grind arith in
     elim order [
       | inr far ↦ far
       | inl near ↦ absurd
-          (let t : record-test a ≡ true = below-at record-test 40 a refl near in
+          (let t : record-test a ≡ true = holds-there record-test 0 40 a refl (omega arith) (omega (arith, near)) in
           let same : role a ≡ k = role-at role a k h in
           grind (arith, nat_tests, t, same, of))
     ]

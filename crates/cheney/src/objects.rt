@@ -1,5 +1,5 @@
 // Moving one object.
-ghost use Rattle.std.specs.Prelude.{◌≡◌, ℕ, ◌+◌, ◌*◌, ◌/◌, ◌%◌, ◌<◌, ◌≤◌, ◌⊎◌, ◌^◌, length, slice_index};
+ghost use Rattle.std.specs.Prelude.{◌≡◌, ◌+◌, ◌/◌, ◌%◌, ◌≤◌, ◌⊎◌, length, slice_index};
 ghost use Rattle.cheney.specs.Plan.{Plan, Reached};
 ghost use Rattle.cheney.specs.Moved.{Copies};
 ghost use Rattle.cheney.specs.Zones.{Marks};

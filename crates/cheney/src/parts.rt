@@ -1,8 +1,5 @@
 // Moving the parts of what was moved.
-ghost use Rattle.std.specs.Prelude.{◌≡◌, ℕ, Bool, true, false, ◌+◌, ◌/◌, ◌%◌, ◌<◌, ◌≤◌, ◌⊎◌, length, slice_index, slice_set, Some};
-ghost use Rattle.term_words.specs.Object.{IsPointer};
-ghost use Rattle.term_tags.specs.Table.{layout_for};
-ghost use Rattle.term_tags.specs.declared.layouts.Layout.{Layout};
+ghost use Rattle.std.specs.Prelude.{◌≡◌, Bool, ◌+◌, ◌%◌, ◌<◌, slice_index};
 ghost use Rattle.cheney.specs.Plan.{Plan};
 ghost use Rattle.cheney.specs.Zones.{at_objects};
 ghost use Rattle.cheney.specs.Rooms.{Runs};

@@ -1,7 +1,7 @@
 -- The arena that words ask for.
 use Rattle.std.proofs.Common.{◌≡◌, ◌∙◌, ℕ, Bool, true, false, Option, Some, None, refl, sym, ap, List, [], ◌∷◌, cond, option_and_then}
 use Rattle.clap.specs.Words.{Kinds, Row, Text}
-use Rattle.command_line.specs.Values.{arena_asked, arena_of, is_arena, written_number}
+use Rattle.command_line.specs.Values.{arena_asked, arena_of, is_arena, option_number}
 use Rattle.command_line.specs.Words.{asks, faults, matches, options_of, options_where}
 use Rattle.command_line.specs.declared.options.Options.{Options}
 
@@ -12,7 +12,7 @@ of-value None words e = ap is_some_arena (sym e)
     is_some_arena : Option ℕ → Bool
     is_some_arena None = true
     is_some_arena (Some w) = is_arena w
-of-value (Some text) words e = of-number (written_number text) e
+of-value (Some text) words e = of-number (option_number text) e
   where
     of-number : (n : Option ℕ) → option_and_then arena_of n ≡ Some words → is_arena words ≡ true
     of-number None e = absurd (cc)

@@ -4,7 +4,7 @@ use Rattle.std.specs.Result.{OkIff, result_ok}
 use Rattle.std.specs.Str.{all_ascii_digits}
 use Rattle.std.specs.Str.Parse.{IsNumeral, ParsesUnsigned, digits_value, without_leading_plus}
 use Rattle.std.proofs.lemmas.Str.Parse.{tells_all_ascii_digits, numerals_by_value, without_leading_plus_none}
-use Rattle.command_line.specs.Values.{written_number}
+use Rattle.command_line.specs.Values.{option_number}
 
 -- digits have no plus before them
 no-plus : (t : List ℕ) → all_ascii_digits t ≡ true → without_leading_plus t ≡ t
@@ -18,8 +18,8 @@ numeral : (t : List ℕ) → all_ascii_digits t ≡ true → 0 < length t → Is
 numeral t e some = (some, (numerals_by_value (λ ds. all_ascii_digits ds ≡ true) tells_all_ascii_digits).to t e)
 
 -- a text with another byte than digits is no number
-pub no-number : (t : List ℕ) → all_ascii_digits t ≡ false → None ≡ written_number t
-unfolding written_number
+pub no-number : (t : List ℕ) → all_ascii_digits t ≡ false → None ≡ option_number t
+unfolding option_number
 no-number t e = rw e refl
 
 -- what std reads of a numeral is its value, where that is below 2^64
@@ -41,8 +41,8 @@ reads t (Err x) true true is-some is-low e h =
 
 -- of digits alone, what std reads is the number
 pub read-number : {E : Type 0} (t : List ℕ) (r : Result ℕ E) → all_ascii_digits t ≡ true → ParsesUnsigned 64 10 t r
-    → result_ok r ≡ written_number t
-unfolding written_number
+    → result_ok r ≡ option_number t
+unfolding option_number
 read-number {E} t r e h =
     let parsed : OkIff r (IsNumeral 10 t × (digits_value 10 t < 2 ^ 64)) (digits_value 10 t) = rw (no-plus t e) at h in
     rw e (reads t r (nat_lt 0 (length t)) (nat_lt (digits_value 10 t) (2 ^ 64)) refl refl e parsed)

@@ -9,8 +9,8 @@ abbrev pub is_number : List ℕ → Bool
 is_number text = all_ascii_digits text && (nat_lt 0 (length text) && nat_lt (digits_value 10 text) (2 ^ 64))
 
 -- the number that a text writes
-unfoldable pub written_number : List ℕ → Option ℕ
-written_number text = if is_number text then Some (digits_value 10 text) else None
+unfoldable pub option_number : List ℕ → Option ℕ
+option_number text = if is_number text then Some (digits_value 10 text) else None
 
 -- an arena has an even number of words, from 4,096 to 16,777,216
 abbrev pub is_arena : ℕ → Bool
@@ -23,7 +23,7 @@ arena_of words = if is_arena words then Some words else None
 -- the words of the arena by the value of `--arena`, where it has one
 abbrev pub arena_asked : Option (List ℕ) → Option ℕ
 arena_asked None = Some USUAL_ARENA
-arena_asked (Some text) = option_and_then arena_of (written_number text)
+arena_asked (Some text) = option_and_then arena_of (option_number text)
 
 -- the value of `--space`, where it has one, is `one`
 abbrev pub space_asked : Option (List ℕ) → Bool
@@ -33,4 +33,4 @@ space_asked (Some text) = bytes_eq text (codes "one")
 -- the number to make a script from by the value of `--gen`, where it has one
 abbrev pub number_asked : Option (List ℕ) → Option (Option ℕ)
 number_asked None = Some None
-number_asked (Some text) = option_map Some (written_number text)
+number_asked (Some text) = option_map Some (option_number text)

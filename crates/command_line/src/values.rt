@@ -1,7 +1,7 @@
 // The values of the options.
 ghost use Rattle.std.specs.Prelude.{◌≡◌, ◌&&◌, option_map, nat_le};
 ghost use Rattle.std.specs.Str.{all_ascii_digits};
-ghost use Rattle.command_line.specs.Values.{written_number, is_arena, arena_asked, space_asked, number_asked};
+ghost use Rattle.command_line.specs.Values.{option_number, is_arena, arena_asked, space_asked, number_asked};
 
 /// The words of the smallest arena.
 pub const SMALLEST_ARENA: u64 = 4_096;
@@ -27,7 +27,7 @@ fn has_digits_alone(text: &[u8]) -> bool
 /// The number that decimal digits write, leading zeros allowed. `None` where there is no digit, where another byte
 /// stands, and where the number is 2^64 or more.
 fn number_of(text: &str) -> Option<u64>
-    ensures { result ≡ written_number text.now }
+    ensures { result ≡ option_number text.now }
 {
     if !has_digits_alone(text.as_bytes()) {
         return None;

@@ -4,7 +4,7 @@ use Rattle.std.proofs.Common.{refl, sym, ap, ◌∙◌, subst, arith, append_ass
 use Rattle.std.specs.Prelude.{IsErr}
 use Rattle.std.proofs.lemmas.Bool.Decides.{nat_tests}
 use Rattle.std.proofs.lemmas.List.{append-nil, get_or-map, length-map, take_all}
-use Rattle.line_io.specs.Sink.{Grew, WritesCounted}
+use Rattle.line_io.specs.Sink.{Grew, WritesTold}
 use Rattle.line_io.proofs.Growth.{Grew-append, Grew-nil}
 use Rattle.text_parts.proofs.Writing.{written-stops}
 use Rattle.reply_text.specs.Texts.{divider, bin_entry}
@@ -57,12 +57,12 @@ entries-more wrote old mid new ts i below first next =
     subst (Grew wrote old new) (sym (take-next ts i below) ∙ ap (λ z. divided (take z ts)) more) (Grew-append wrote old mid new (divided (take i ts)) (entry_at ts i) first next)
 
 pub entries-stop : {K E F : Type 0} (wrote : K → List ℕ → Type 0) (faults : K → ℕ) (old mid new : K) (ts : List (List ℕ)) (i : ℕ) (e : E) (r : Result (Unit {0}) F) → IsErr r → i < length ts
-    → Grew wrote old mid (divided (take i ts)) → faults mid ≡ faults old → WritesCounted wrote faults mid new (entry_at ts i) (Err e) → WritesCounted wrote faults old new (divided ts) r
+    → Grew wrote old mid (divided (take i ts)) → faults mid ≡ faults old → WritesTold wrote faults mid new (entry_at ts i) (Err e) → WritesTold wrote faults old new (divided ts) r
 entries-stop wrote faults old mid new ts i e r failed below g same w =
     written-stops wrote faults old mid new (divided ts) (divided (take i ts)) (entry_at ts i) (more_divided (drop (suc i) ts)) e r failed g same (whole-at ts i below) w
 
 pub entries-done : {K E : Type 0} (wrote : K → List ℕ → Type 0) (faults : K → ℕ) (old new : K) (ts : List (List ℕ)) (i : ℕ) → length ts ≤ i → Grew wrote old new (divided (take i ts))
-    → faults new ≡ faults old → WritesCounted {E = E} wrote faults old new (divided ts) (Ok tt)
+    → faults new ≡ faults old → WritesTold {E = E} wrote faults old new (divided ts) (Ok tt)
 entries-done wrote faults old new ts i over g same = record {
   all = subst (Grew wrote old new) (ap divided (take_all i ts over)) g;
   part = tt;

@@ -1,7 +1,7 @@
 -- The text of `counts` in its five parts.
 use Rattle.std.proofs.Common.{◌≡◌, ℕ, List, ◌++◌, refl, sym, ◌∙◌, append_assoc, Result, Err}
 use Rattle.std.specs.Prelude.{IsErr}
-use Rattle.line_io.specs.Sink.{Grew, WritesCounted}
+use Rattle.line_io.specs.Sink.{Grew, WritesTold}
 use Rattle.line_io.proofs.Growth.{Grew-append}
 use Rattle.text_parts.proofs.Writing.{written-stops}
 
@@ -25,6 +25,6 @@ module _ {K : Type 0} (wrote : K → List ℕ → Type 0) (faults : K → ℕ) (
   }
 
   pub come-short : {E F : Type 0} (mid new : K) (whole came x rest : List ℕ) (e : E) (r : Result (Unit {0}) F) → IsErr r → Come mid whole came (x ++ rest)
-      → WritesCounted wrote faults mid new x (Err e)
-      → WritesCounted wrote faults old new whole r
+      → WritesTold wrote faults mid new x (Err e)
+      → WritesTold wrote faults old new whole r
   come-short mid new whole came x rest e r failed c w = written-stops wrote faults old mid new whole came x rest e r failed c.grew c.told c.parts w

@@ -1,6 +1,6 @@
 // The text of `counts`, part by part.
 ghost use Rattle.std.specs.Prelude.{◌≡◌, ℕ, ◌++◌, map};
-ghost use Rattle.line_io.specs.Sink.{WritesCounted};
+ghost use Rattle.line_io.specs.Sink.{WritesTold};
 ghost use Rattle.plain_machine.specs.Maps.{bin_text, fun_text};
 ghost use Rattle.plain_machine.specs.Texts.{divided};
 ghost use Rattle.term_words.specs.Counted.{In};
@@ -25,7 +25,7 @@ pub fn put_counts<K: Sink>(
     sink: &mut K,
 ) -> Result<(), SinkFault>
     requires { CanTellCounts mem.now names.now bins.now funs.now }
-    ensures { WritesCounted K.wrote K.faults sink.old sink.new (counts_told mem.now names.now bins.now funs.now) result }
+    ensures { WritesTold K.wrote K.faults sink.old sink.new (counts_told mem.now names.now bins.now funs.now) result }
 {
     put(sink, b"bins [")?;
     put_bins(mem, bins, sink)?;
@@ -37,7 +37,7 @@ pub fn put_counts<K: Sink>(
 // Writes the entries of the records of binaries, divided by commas.
 fn put_bins<K: Sink>(mem: &WordMem, bins: &[u64], sink: &mut K) -> Result<(), SinkFault>
     requires { AllLieWithin mem.now bins.now }
-    ensures { WritesCounted K.wrote K.faults sink.old sink.new (divided (map bin_text (map (bin_of mem.now) bins.now))) result }
+    ensures { WritesTold K.wrote K.faults sink.old sink.new (divided (map bin_text (map (bin_of mem.now) bins.now))) result }
 {
     for i in 0..bins.len() {
         let v = bins[i];
@@ -55,7 +55,7 @@ fn put_funs<K: Sink>(
 ) -> Result<(), SinkFault>
     requires each { (v : ℕ) → In v funs.now → CanReadTables mem.now names.now v }
     requires apart { FunsDiffer mem.now funs.now }
-    ensures { WritesCounted K.wrote K.faults sink.old sink.new
+    ensures { WritesTold K.wrote K.faults sink.old sink.new
         (divided (map (fun_text names.now) (map (fun_of mem.now) (by_name mem.now names.now funs.now)))) result }
 {
     let _known = names.count();
@@ -79,7 +79,7 @@ fn put_entry<K: Sink>(
     sink: &mut K,
 ) -> Result<(), SinkFault>
     requires { CanReadTables mem.now names.now v }
-    ensures { WritesCounted K.wrote K.faults sink.old sink.new (divider first ++ fun_text names.now (fun_of mem.now v)) result }
+    ensures { WritesTold K.wrote K.faults sink.old sink.new (divider first ++ fun_text names.now (fun_of mem.now v)) result }
 {
     let owner = serial_of(mem, v);
     put_fun(

@@ -11,17 +11,13 @@ use Rattle.script_grammar.specs.Grammar.{IsBuiltTerm, AreBuiltTerms, AreBuiltPai
 use Rattle.script_grammar.specs.Names.{atoms_of, atoms_of_all, atoms_of_pairs, items_of, listed_items, all_items, pairs_items}
 use Rattle.script_grammar.proofs.Naming.{ArePlaced, placed-front, placed-back, number-below}
 use Rattle.space_api.specs.Calls.{IsNamedBelow}
+use Rattle.space_api.proofs.Naming.{AreNamedBelow}
 
--- items whose atoms have numbers below a count
-abbrev pub AreBelow : ℕ → List Item → Type 0
-AreBelow count [] = Unit {0}
-AreBelow count (i ∷ items) = IsNamedBelow count i × AreBelow count items
-
-pub below-append : (count : ℕ) (xs ys : List Item) → AreBelow count xs → AreBelow count ys → AreBelow count (xs ++ ys)
+pub below-append : (count : ℕ) (xs ys : List Item) → AreNamedBelow count xs → AreNamedBelow count ys → AreNamedBelow count (xs ++ ys)
 below-append count [] ys h k = k
 below-append count (x ∷ xs) ys h k = (h.0, below-append count xs ys h.1 k)
 
-pub below-all : (count : ℕ) (xs : List Item) → AreBelow count xs → All (IsNamedBelow count) xs
+pub below-all : (count : ℕ) (xs : List Item) → AreNamedBelow count xs → All (IsNamedBelow count) xs
 below-all count [] h = λ k d less. absurd (omega arith)
 below-all count (x ∷ xs) h = λ k. at k (below-all count xs h.1) h.0
   where
@@ -30,13 +26,13 @@ below-all count (x ∷ xs) h = λ k. at k (below-all count xs h.1) h.0
     at (suc k) rest first d less = rest k d (omega arith)
 
 -- bytes name nothing
-bytes-below : (count : ℕ) (bytes : List ℕ) → AreBelow count (map item.Byte bytes)
+bytes-below : (count : ℕ) (bytes : List ℕ) → AreNamedBelow count (map item.Byte bytes)
 bytes-below count [] = tt
 bytes-below count (b ∷ bytes) = (tt, bytes-below count bytes)
 
 mutual
   -- the items of a term of the built forms whose atoms have numbers
-  pub items-below : (names : List (List ℕ)) (t : Term) → IsBuiltTerm t → ArePlaced names (atoms_of t) → AreBelow (length names) (items_of names t)
+  pub items-below : (names : List (List ℕ)) (t : Term) → IsBuiltTerm t → ArePlaced names (atoms_of t) → AreNamedBelow (length names) (items_of names t)
   items-below names (Int i) b p = (tt, tt)
   items-below names (Atom a) b p = (number-below names a p.0, tt)
   items-below names (Pid n) b p = (tt, tt)
@@ -48,8 +44,8 @@ mutual
   items-below names (Map ps) b p = (tt, pairs-below names ps b p)
   items-below names (Bin bytes) b p = (tt, bytes-below (length names) bytes)
 
-  pub listed-below : (names : List (List ℕ)) (ts : Terms) (tail : List Item) → AreBuiltTerms ts → ArePlaced names (atoms_of_all ts) → AreBelow (length names) tail
-      → AreBelow (length names) (listed_items names ts tail)
+  pub listed-below : (names : List (List ℕ)) (ts : Terms) (tail : List Item) → AreBuiltTerms ts → ArePlaced names (atoms_of_all ts) → AreNamedBelow (length names) tail
+      → AreNamedBelow (length names) (listed_items names ts tail)
   listed-below names end tail b p h = h
   listed-below names (t ▹ ts) tail b p h = (
     tt,
@@ -57,12 +53,12 @@ mutual
         (items-below names t b.0 (placed-front names (atoms_of t) (atoms_of_all ts) p)) (listed-below names ts tail b.1 (placed-back names (atoms_of t) (atoms_of_all ts) p) h),
   )
 
-  pub all-below : (names : List (List ℕ)) (ts : Terms) → AreBuiltTerms ts → ArePlaced names (atoms_of_all ts) → AreBelow (length names) (all_items names ts)
+  pub all-below : (names : List (List ℕ)) (ts : Terms) → AreBuiltTerms ts → ArePlaced names (atoms_of_all ts) → AreNamedBelow (length names) (all_items names ts)
   all-below names end b p = tt
   all-below names (t ▹ ts) b p = below-append (length names) (items_of names t) (all_items names ts)
       (items-below names t b.0 (placed-front names (atoms_of t) (atoms_of_all ts) p)) (all-below names ts b.1 (placed-back names (atoms_of t) (atoms_of_all ts) p))
 
-  pub pairs-below : (names : List (List ℕ)) (ps : TermPairs) → AreBuiltPairs ps → ArePlaced names (atoms_of_pairs ps) → AreBelow (length names) (pairs_items names ps)
+  pub pairs-below : (names : List (List ℕ)) (ps : TermPairs) → AreBuiltPairs ps → ArePlaced names (atoms_of_pairs ps) → AreNamedBelow (length names) (pairs_items names ps)
   pairs-below names stop b p = tt
   pairs-below names (pair k v ps) b p =
       let later = placed-back names (atoms_of k) (atoms_of v ++ atoms_of_pairs ps) p in

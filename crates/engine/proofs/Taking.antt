@@ -33,7 +33,8 @@ use Rattle.engine.specs.Replies.{AllowsMap, Shown, reply_lines, ends_script}
 use Rattle.engine.specs.Rules.{Supply, After}
 use Rattle.engine.specs.Acts.{Acts, Fits, HasCode, TermsFit, Takes, TellsMap, StandsWith, names_left}
 use Rattle.script_grammar.proofs.Naming.{ArePlaced, with-names-placed, with-names-more, names-back, names-longer, placed-front, number-below}
-use Rattle.engine.proofs.Naming.{AreBelow, items-below, below-all}
+use Rattle.engine.proofs.Naming.{items-below, below-all}
+use Rattle.space_api.proofs.Naming.{AreNamedBelow}
 
 -- the items of an environment are its registers
 held-items : (names : List (List ℕ)) (rs : List ℕ) → all_items names (held_terms rs) ≡ map item.Held rs
@@ -52,7 +53,7 @@ has-code names (OfProcess n word.Set ops) code a b e few p =
     record {
       term = t;
       is = record { items = items; allowed = a.1.1.0; built = b.1.1.0 };
-      named = below-all (length names) code (subst (AreBelow (length names)) items (items-below names t b.1.1.0 (placed-front names (atoms_of t) [] p)));
+      named = below-all (length names) code (subst (AreNamedBelow (length names)) items (items-below names t b.1.1.0 (placed-front names (atoms_of t) [] p)));
       few = few;
     }
 has-code names (OfProcess n word.Fun ops) code a b e few p = (

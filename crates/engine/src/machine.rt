@@ -7,7 +7,7 @@ ghost use Rattle.plain_machine.specs.Run.{replies_text};
 ghost use Rattle.plain_machine.specs.State.{State};
 ghost use Rattle.plain_machine.specs.Step.{is_printing};
 ghost use Rattle.line_io.specs.Lines.{text, long};
-ghost use Rattle.line_io.specs.Sink.{WritesCounted};
+ghost use Rattle.line_io.specs.Sink.{WritesTold};
 ghost use Rattle.line_io.specs.declared.reader.TheConstants.{LONGEST_LINE};
 ghost use Rattle.space_api.specs.Calls.{KeepsBooks, most_calls};
 ghost use Rattle.engine.specs.Replies.{AllowsMap, CanReply, ends_script, reply_lines};
@@ -73,7 +73,7 @@ fn gather<S: Space, K: Sink>(
 ) -> Result<(), SinkFault>
     requires can { CanReply S.sits S.named space.now names.now reply }
     ensures sent { (s : State) → S.stands space.now s
-        → WritesCounted K.wrote K.faults sink.old sink.new
+        → WritesTold K.wrote K.faults sink.old sink.new
         (replies_text (reply_lines reply (record { state = s; names = names.now; text = S.text space.now names.now }))) result }
     ensures allowed { (s : State) → S.stands space.now s → names.now ≡ s.names
         → AllowsMap reply (record { state = s; names = names.now; text = S.text space.now names.now }) }
@@ -92,7 +92,7 @@ fn send<S: Space, K: Sink>(
 ) -> Result<(), SinkFault>
     requires can { CanReply S.sits S.named space.now names.now reply }
     ensures sent { (s : State) → S.stands space.now s
-        → WritesCounted K.wrote K.faults sink.old sink.new
+        → WritesTold K.wrote K.faults sink.old sink.new
         (replies_text (reply_lines reply (record { state = s; names = names.now; text = S.text space.now names.now }))) result }
     ensures allowed { (s : State) → S.stands space.now s → names.now ≡ s.names
         → AllowsMap reply (record { state = s; names = names.now; text = S.text space.now names.now }) }

@@ -6,7 +6,6 @@ use Rattle.line_io.specs.Lines.{Line, text, long}
 use Rattle.script_grammar.specs.declared.command.Command.TheVariants.{Process, System}
 use Rattle.script_grammar.specs.declared.command.SysVerb.TheVariants.{Spawn as SpawnVerb}
 use Rattle.script_grammar.specs.declared.command.Verb.{Verb}
-use Rattle.script_grammar.specs.declared.refusal.Refusal.TheVariants.{NoSpace, Procs}
 use Rattle.script_grammar.specs.declared.word.Word.{Word}
 use Rattle.script_grammar.specs.declared.word.SysWord.TheVariants as sys
 use Rattle.script_grammar.specs.Written.{Written, Operands, kinds_of}
@@ -24,7 +23,7 @@ use Rattle.plain_machine.proofs.Numbering.Numbered.{run-fresh}
 use Rattle.isolation.specs.Events.{Event, IsEvent, IsAnswered, TellsEvents}
 use Rattle.isolation.specs.Views.{Sight, is_own, births}
 use Rattle.isolation.specs.Views.Sight.{born}
-use Rattle.isolation.specs.Laws.{IsSpawnOf, AllBirthsAreSpawns, AreRefused}
+use Rattle.isolation.specs.Laws.{IsSpawnOf, AllBirthsAreSpawns, TellsNoProcess}
 use Rattle.isolation.proofs.Finding.{live-found, none-come}
 use Rattle.isolation.proofs.Others.{Passes, Comes, with_more}
 use Rattle.isolation.proofs.Told.{Brings, event-brings, event-line}
@@ -108,8 +107,8 @@ module _ (may : ℕ → State → Parsed → Bool) (words : ℕ) (quits : Bool) 
   BearsNext = IsSpawnOf e.before.next e × (births e.before.next e ≡ born ∷ [])
 
   spawn-bears : (many : Bool) (p : Parsed) → e.said ≡ Some (OfSystem sys.Spawn tt) → Gives (spawn_if many e.before p) e.before (System SpawnVerb) quits e.replies e.after
-      → AreRefused e.replies ⊎ BearsNext
-  spawn-bears true p is g = inl (Procs, g.said)
+      → TellsNoProcess e.replies ⊎ BearsNext
+  spawn-bears true p is g = inl (inl g.said)
   spawn-bears false p is g =
       let n : ℕ = e.before.next in
       let there : process_of n e.after ≡ Some (fresh_process n) = ap (process_of n) g.is
@@ -118,12 +117,12 @@ module _ (may : ℕ → State → Parsed → Bool) (words : ℕ) (quits : Bool) 
       let now : is_live n e.after ≡ true = live-found n e.after.processes ∙ ap is_some there in
       inr (record { said = is; replies = g.said }, λ i. birth-by (was i) (now i))
 
-  each-spawn : (line : Line) (said : Option Written) → e.said ≡ said → said ≡ Some (OfSystem sys.Spawn tt) → IsAnswered may words quits e line said → AreRefused e.replies ⊎ BearsNext
+  each-spawn : (line : Line) (said : Option Written) → e.said ≡ said → said ≡ Some (OfSystem sys.Spawn tt) → IsAnswered may words quits e line said → TellsNoProcess e.replies ⊎ BearsNext
   each-spawn (text line) (Some (OfSystem sys.Spawn ops)) mine is h = at h.step
     where
-      at : CommandStep may words e.before (parsed_of e.before.names (OfSystem sys.Spawn ops)) quits e.replies e.after → AreRefused e.replies ⊎ BearsNext
+      at : CommandStep may words e.before (parsed_of e.before.names (OfSystem sys.Spawn ops)) quits e.replies e.after → TellsNoProcess e.replies ⊎ BearsNext
       at (inl g) = spawn-bears _ (parsed_of e.before.names (OfSystem sys.Spawn ops)) (mine ∙ is) g
-      at (inr k) = inl (NoSpace (grow e.before (parsed_of e.before.names (OfSystem sys.Spawn ops))), k.refuses.said)
+      at (inr k) = inl (inr (grow e.before (parsed_of e.before.names (OfSystem sys.Spawn ops)), k.refuses.said))
   each-spawn (text line) (Some (OfSystem w ops)) mine is h = absurd (cc)
   each-spawn (text line) (Some (OfProcess n w ops)) mine is h = absurd (cc)
   each-spawn (text line) (Some Nothing) mine is h = absurd (cc)

@@ -144,7 +144,7 @@ two_spawns = events_from first_state (spawn ∷ record { line = codes "2 exit"; 
 pub births-of_spawns : map (births_in two_spawns) (1 ∷ 2 ∷ 3 ∷ []) ≡ 0 ∷ 1 ∷ 1 ∷ []
 births-of_spawns = refl
 
--- A line for which there is no space: no run with this event is ample, so nothing is said of its replies.
+-- A line for which there is no space: no run that begins with this event is ample, so nothing is said of its replies.
 abbrev pub without_space : Event
 without_space = record {
   line = text (codes "1 set 0 {hi,[1]}");

@@ -2,7 +2,7 @@
 use Rattle.std.specs.Prelude.{ℕ, ◌≡◌, ◌≤◌, ◌⊎◌, Bool, true, List, [], ◌∷◌, ◌++◌, length, flat_map, codes, decimal, Some}
 use Rattle.line_io.specs.Lines.{Line}
 use Rattle.script_grammar.specs.Written.Written.{OfSystem}
-use Rattle.script_grammar.specs.declared.refusal.Refusal.{Refusal}
+use Rattle.script_grammar.specs.declared.refusal.Refusal.TheVariants.{Procs, NoSpace}
 use Rattle.script_grammar.specs.declared.word.SysWord.TheVariants.{Spawn}
 use Rattle.script_grammar.specs.Names.{Parsed}
 use Rattle.plain_machine.specs.State.{State, is_live, first_state}
@@ -21,15 +21,15 @@ pub record IsSpawnOf (p : ℕ) (e : Event) : Type 0 where
   pub said : e.said ≡ Some (OfSystem Spawn tt)
   pub replies : e.replies ≡ (codes "ok " ++ decimal p) ∷ []
 
--- The one reply is that of a refusal.
-abbrev pub AreRefused : List (List ℕ) → Type 0
-AreRefused replies = (r : Refusal) × (replies ≡ refusal_text r ∷ [])
+-- The one reply says that processes are too many, or that there is no space.
+abbrev pub TellsNoProcess : List (List ℕ) → Type 0
+TellsNoProcess replies = (replies ≡ refusal_text Procs ∷ []) ⊎ ((n : ℕ) × (replies ≡ refusal_text (NoSpace n) ∷ []))
 
 -- A process comes to live only with the `spawn` that is answered by its number, which is the next one: so no event brings two. And each
--- `spawn` is refused, or is answered by the next number and brings this process to live.
+-- `spawn` is refused since processes are too many or there is no space, or is answered by the next number and brings this process to live.
 pub record BirthsAreSpawns (e : Event) : Type 0 where
   pub only : (p : ℕ) → (births p e ≡ []) ⊎ ((p ≡ e.before.next) × IsSpawnOf p e)
-  pub each : e.said ≡ Some (OfSystem Spawn tt) → AreRefused e.replies ⊎ (IsSpawnOf e.before.next e × (births e.before.next e ≡ born ∷ []))
+  pub each : e.said ≡ Some (OfSystem Spawn tt) → TellsNoProcess e.replies ⊎ (IsSpawnOf e.before.next e × (births e.before.next e ≡ born ∷ []))
 
 abbrev pub AllBirthsAreSpawns : List Event → Type 0
 AllBirthsAreSpawns [] = Unit {0}

@@ -15,16 +15,13 @@ ghost use Rattle.item_build.specs.Building.{LaidBins, LeavesRoom};
 
 use off_heap_list::chain;
 use plain_term::Item;
-use shared_rec::write_bin;
+use shared_rec::{HEAD_WORDS, write_bin};
 use term_build::holder;
 use term_tags::MOST_HEAP_BYTES;
 use word_mem::{Room, WordMem};
 
 /// The words of a holder.
 pub const HOLDER_WORDS: u64 = 6;
-
-/// The words of a record before its bytes.
-pub const HEAD_WORDS: u64 = 4;
 
 /// What shared binaries that are made go on from, and what they leave: how many there were made so far, which is the id of the last
 /// one, and the first object of the chain that their holders join, 0 for none.

@@ -6,6 +6,6 @@ mod building;
 mod needs;
 mod putting;
 
-pub use bins::{Making, long_bins};
+pub use bins::{HOLDER_WORDS, Making, long_bins};
 pub use building::{BuildStop, build};
 pub use needs::words_needed;

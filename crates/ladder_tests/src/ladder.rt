@@ -3,7 +3,7 @@ ghost use Rattle.std.specs.Prelude.{◌+◌, ◌≤◌, ◌≡◌, []};
 ghost use Rattle.term_build.specs.Clear.{IsRoom};
 ghost use Rattle.ladder_tests.specs.Bench.{AreTerms, IsBench, shared_of};
 
-use crate::rungs::{LADDER, NAMES, ROLLS, Rung};
+use crate::rungs::{NAMES, ROLLS, Rung, ladder};
 use crate::steps::{WAITING, put_all};
 use arrayvec::ArrayVec;
 use atom_names::AtomNames;
@@ -119,6 +119,7 @@ fn stands(alloc: Global, rungs: &[Rung]) -> Result<bool, Fail> {
 
 #[test]
 fn terms_of_each_kind_are_measured_and_in_order(rt: HostRuntime) -> Result<(), Fail> {
-    assert!(rt; stands(rt.alloc(), &LADDER)?);
+    let rungs = ladder(rt.alloc())?;
+    assert!(rt; stands(rt.alloc(), rungs.as_slice())?);
     Ok(())
 }

@@ -16,7 +16,9 @@ use word_mem::{Room, WordMem};
 
 // The steps of a term, steps that are made so many times after them, and the nodes and heap words of what is made, if it
 // is not beyond the limit.
-const ROWS: [(&[Step], &[Step], u64, Option<[u64; 2]>); 8] = [
+type Row = (&'static [Step], &'static [Step], u64, Option<[u64; 2]>);
+
+const ROWS: [Row; 8] = [
     (
         &[Int(0), Same(1_024), Same(1_023)],
         &[],
@@ -90,10 +92,15 @@ fn holds(
     Ok(is_found(&mem, &names, words.as_slice(), want))
 }
 
+fn row_holds(alloc: Global, row: &Row) -> Result<bool, Fail> {
+    let (steps, more, times, want) = row;
+    holds(alloc, steps, more, *times, want)
+}
+
 #[test]
 fn walks_go_to_the_limit_and_not_beyond(rt: HostRuntime) -> Result<(), Fail> {
-    for (steps, more, times, want) in &ROWS {
-        assert!(rt; holds(rt.alloc(), steps, more, *times, want)?);
+    for row in &ROWS {
+        assert!(rt; row_holds(rt.alloc(), row)?);
     }
     Ok(())
 }

@@ -3,7 +3,7 @@ use Rattle.std.proofs.Common.{◌≡◌, ℕ, zero, suc, List, [], ◌∷◌, �
 use Rattle.std.specs.Prelude.{IsErr}
 use Rattle.std.proofs.lemmas.List.{append_cancel_right}
 use Rattle.line_io.specs.Faults.{Rose}
-use Rattle.line_io.specs.Sink.{Grew, GrewInPart, WritesCounted}
+use Rattle.line_io.specs.Sink.{Grew, GrewInPart, WritesTold}
 use Rattle.line_io.specs.Gathered.{gathered_wrote, pending, Sent}
 use Rattle.line_io.specs.declared.gathered.Gathered.{Gathered}
 use Rattle.line_io.proofs.Growth.{Grew-append}
@@ -75,25 +75,25 @@ module _ {K : Type 0} (wrote : K → List ℕ → Type 0) (old new : Gathered K)
 
   -- the adapter wrote x, and finished: last is what the sink is then
   pub finished : {E : Type 0} (faults : K → ℕ) (start last final : K) (x : List ℕ) (r : Result (Unit {0}) E) → old.sink.now ≡ start → pending old ≡ [] → Grew (gathered_wrote wrote) old new x
-      → faults old.sink.now ≤ faults new.sink.now → faults new.sink.now ≡ faults old.sink.now → WritesCounted wrote faults new.sink.now last (pending new) r → final ≡ last
-      → WritesCounted wrote faults start final x r
+      → faults old.sink.now ≤ faults new.sink.now → faults new.sink.now ≡ faults old.sink.now → WritesTold wrote faults new.sink.now last (pending new) r → final ≡ last
+      → WritesTold wrote faults start final x r
   finished {E} faults start last final x (Ok u) starts empty grew later told rest ends =
       let whole : Grew wrote old.sink.now last x = sent-all last x (sent x empty grew) rest.all in
-      let P : K → Type 0 = λ k. WritesCounted {E = E} wrote faults k last x (Ok u) in
-      let Q : K → Type 0 = λ k. WritesCounted {E = E} wrote faults start k x (Ok u) in
+      let P : K → Type 0 = λ k. WritesTold {E = E} wrote faults k last x (Ok u) in
+      let Q : K → Type 0 = λ k. WritesTold {E = E} wrote faults start k x (Ok u) in
       subst Q (sym ends) (subst P starts (record { all = whole; part = tt; later = omega (arith, later, rest.later); rose = tt; told = rest.told ∙ told }))
   finished {E} faults start last final x (Err e) starts empty grew later told rest ends =
       let short : GrewInPart wrote old.sink.now last x = sent-short last x (sent x empty grew) rest.part in
-      let P : K → Type 0 = λ k. WritesCounted {E = E} wrote faults k last x (Err e) in
-      let Q : K → Type 0 = λ k. WritesCounted {E = E} wrote faults start k x (Err e) in
+      let P : K → Type 0 = λ k. WritesTold {E = E} wrote faults k last x (Err e) in
+      let Q : K → Type 0 = λ k. WritesTold {E = E} wrote faults start k x (Err e) in
       subst Q (sym ends) (subst P starts (record { all = tt; part = short; later = omega (arith, later, rest.later); rose = omega (arith, later, rest.later, rest.rose); told = tt }))
 
   -- writing x to the adapter failed, and it was given up
   pub given-up : {E : Type 0} (faults : K → ℕ) (start final : K) (x : List ℕ) (r : Result (Unit {0}) E) → IsErr r → old.sink.now ≡ start → pending old ≡ []
       → GrewInPart (gathered_wrote wrote) old new x
-      → faults old.sink.now ≤ faults new.sink.now → Rose (faults old.sink.now) (faults new.sink.now) → final ≡ new.sink.now → WritesCounted wrote faults start final x r
+      → faults old.sink.now ≤ faults new.sink.now → Rose (faults old.sink.now) (faults new.sink.now) → final ≡ new.sink.now → WritesTold wrote faults start final x r
   given-up faults start final x (Ok u) failed starts empty grew later rose ends = cc
   given-up {E} faults start final x (Err e) failed starts empty grew later rose ends =
-      let P : K → Type 0 = λ k. WritesCounted {E = E} wrote faults k new.sink.now x (Err e) in
-      let Q : K → Type 0 = λ k. WritesCounted {E = E} wrote faults start k x (Err e) in
+      let P : K → Type 0 = λ k. WritesTold {E = E} wrote faults k new.sink.now x (Err e) in
+      let Q : K → Type 0 = λ k. WritesTold {E = E} wrote faults start k x (Err e) in
       subst Q (sym ends) (subst P starts (record { all = tt; part = sent-part x empty grew; later = later; rose = rose; told = tt }))

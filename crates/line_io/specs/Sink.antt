@@ -37,7 +37,7 @@ Writes wrote old new (Ok a) x = Grew wrote old new x
 Writes wrote old new (Err e) x = GrewInPart wrote old new x
 
 -- the same, and the count of faults, which rose at an error, and else is as it was
-pub record WritesCounted {K E : Type 0} (wrote : K → List ℕ → Type 0) (faults : K → ℕ) (old new : K) (x : List ℕ) (r : Result (Unit {0}) E) : Type 0 where
+pub record WritesTold {K E : Type 0} (wrote : K → List ℕ → Type 0) (faults : K → ℕ) (old new : K) (x : List ℕ) (r : Result (Unit {0}) E) : Type 0 where
   pub all : OnOk r (Grew wrote old new x)
   pub part : OnErr r (GrewInPart wrote old new x)
   pub later : faults old ≤ faults new

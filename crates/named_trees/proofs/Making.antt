@@ -1,5 +1,6 @@
 -- What written terms make, by name.
 use Rattle.std.proofs.Common.{◌≡◌, ℕ, zero, suc, ◌+◌, ◌≤◌, Bool, true, false, cond, ◌||◌, ◌&&◌, not, nat_lt, nat_le, List, [], ◌∷◌, ◌++◌, length, map, get_or, refl, sym, ap, subst, ◌∙◌, arith, append-nil, length-append}
+use Rattle.std.proofs.Math.Seq.{get_or-append_seam}
 use Rattle.term_tags.specs.declared.layouts.TheConstants.{MOST_KEYS}
 use Rattle.plain_term.specs.Tree.{Tree, Trees, Pairs}
 use Rattle.plain_term.specs.Tree.{Tree as tree}
@@ -34,10 +35,6 @@ names-front names (x ∷ xs) ys h = (h.0, h.1, names-front names xs ys h.2)
 names-back : (names xs ys : List (List ℕ)) → HaveNames names (xs ++ ys) → HaveNames names ys
 names-back names [] ys h = h
 names-back names (x ∷ xs) ys h = names-back names xs ys h.2
-
-at-end : (xs : List (List ℕ)) (y : List ℕ) → get_or (xs ++ y ∷ []) (length xs) [] ≡ y
-at-end [] y = refl
-at-end (x ∷ xs) y = at-end xs y
 
 module _ (names : List (List ℕ)) where
   -- known trees stay known
@@ -125,7 +122,7 @@ module _ (names : List (List ℕ)) where
       plus-one n = omega arith
 
       last : shared_bytes (shared ++ bytes ∷ []) (length shared + 1) ≡ bytes
-      last = ap (shared_bytes (shared ++ bytes ∷ [])) (plus-one (length shared)) ∙ at-end shared bytes
+      last = ap (shared_bytes (shared ++ bytes ∷ [])) (plus-one (length shared)) ∙ get_or-append_seam shared bytes [] []
 
       few : by_name.Bin bytes ≡ cond true (by_name.Bin bytes) (by_name.Shared bytes)
       few = refl

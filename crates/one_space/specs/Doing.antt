@@ -109,13 +109,13 @@ pub record IsSentAlone (pid : ℕ) (halves : Halves) (new : One) : Type 0 where
   pub alone : IsAlone halves new.halves row word
 
 -- A message of n words is asked for, to the process with this number: where the call is accepted, it was sent, and is alone.
-pub record AsksAlone {A : Type 0} (n pid : ℕ) (old new : One) (result : Result A Refusal) : Type 0 where
+pub record AsksForMessage {A : Type 0} (n pid : ℕ) (old new : One) (result : Result A Refusal) : Type 0 where
   pub unless : AsksUnless n old new result
   pub alone : (e : is_early result ≡ false) → OnOk result (IsSentAlone pid (unless.asks e).halves new)
 
 -- The same where words are asked for at all; where none are, no word is taken and nothing collected.
 abbrev pub AsksWhere : {A : Type 0} → (asks : Bool) (n pid : ℕ) (old new : One) (result : Result A Refusal) → Type 0
-AsksWhere true n pid old new result = AsksAlone n pid old new result
+AsksWhere true n pid old new result = AsksForMessage n pid old new result
 AsksWhere false n pid old new result = new.halves ≡ old.halves
 
 -- A message to the process with this number asks for words where it lives; where the operand names none, nothing at all changes.

@@ -1,12 +1,11 @@
 // The records of binaries that were built, in the table of binaries' records.
 ghost use Rattle.std.specs.Prelude.{◌≡◌, ◌+◌, ◌*◌, ◌≤◌, ◌++◌, length};
 ghost use Rattle.std.specs.Vec.{vec_len, vec_capacity};
+ghost use Rattle.item_build.specs.declared.bins.TheConstants.{HOLDER_WORDS};
 ghost use Rattle.one_space.specs.Entered.{records_from};
 
+use item_build::HOLDER_WORDS;
 use word_mem::WordMem;
-
-// The words of a holder.
-const HOLDER_WORDS: u64 = 6;
 
 /// Puts the records of `n` holders that lie side by side from a place on at the end of the table, in order.
 pub fn enter_bins(mem: &WordMem, bins: &mut Vec<u64>, first: u64, n: u64)

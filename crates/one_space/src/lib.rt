@@ -3,9 +3,9 @@
 
 mod cutting;
 mod entering;
+mod filling;
 mod gathering;
 mod listing;
-mod new_calls;
 mod one;
 mod queues;
 mod sending;

@@ -1,6 +1,6 @@
 // The text of `counts`.
 ghost use Rattle.std.specs.Prelude.{◌≡◌, ℕ, ◌≤◌, List, length};
-ghost use Rattle.line_io.specs.Sink.{WritesCounted};
+ghost use Rattle.line_io.specs.Sink.{WritesTold};
 ghost use Rattle.plain_machine.specs.State.{State};
 ghost use Rattle.plain_machine.specs.Maps.{CountsOf};
 ghost use Rattle.one_space.specs.One.{Holds, OneStands};
@@ -16,7 +16,7 @@ impl One {
     pub fn counts<K: Sink>(&self, names: &AtomNames, sink: &mut K) -> Result<(), SinkFault>
         requires holds { Holds self.now }
         requires named { self.now.named ≤ length names.now }
-        ensures written { WritesCounted K.wrote K.faults sink.old sink.new (counts_of self.now names.now) result }
+        ensures written { WritesTold K.wrote K.faults sink.old sink.new (counts_of self.now names.now) result }
         ensures allowed { (s : State) → OneStands self.now s → names.now ≡ s.names → CountsOf s (counts_of self.now names.now) }
     {
         let _count = names.count();

@@ -21,9 +21,8 @@ pub const ROW: usize = 4096;
 pub const SPAWN_WORDS: u64 = PROCESS_COST - UNUSED;
 
 /// Two halves with their processes; a row of words for terms that are being put together; the boxes of rows that are not in use;
-/// the number of the next process; how
-/// many shared binaries were made; a number above all atoms; how many calls changed something; and whether nothing has since all
-/// was swept.
+/// the number of the next process; how many shared binaries were made; a number above all atoms; how many calls changed something;
+/// and whether nothing has since all was swept.
 #[derive(Drop)]
 pub struct One {
     pub halves: Halves,

@@ -1,7 +1,7 @@
 // Messages that are received, and the text of a queue.
 ghost use Rattle.std.specs.Prelude.{◌≡◌, ℕ, ◌+◌, ◌≤◌, ◌<◌, ◌++◌, List, OnErr, OnOk, length, slice_index};
 ghost use Rattle.line_io.specs.Faults.{Rose};
-ghost use Rattle.line_io.specs.Sink.{WritesCounted};
+ghost use Rattle.line_io.specs.Sink.{WritesTold};
 ghost use Rattle.plain_term.specs.Text.{text};
 ghost use Rattle.plain_term.specs.Tree.{Tree};
 ghost use Rattle.script_grammar.specs.declared.command.Command.TheVariants.{Process};
@@ -85,7 +85,7 @@ fn put_queue<K: Sink>(
 ) -> Result<(), SinkFault>
     requires { HaveMessages mem.now (length names.now) queue waiting }
     ensures { (shared : List (List ℕ)) (ts : List Tree) → AreMessages shared mem.now (length names.now) queue waiting ts
-        → WritesCounted K.wrote K.faults sink.old sink.new (whole_text names.now shared ts) result }
+        → WritesTold K.wrote K.faults sink.old sink.new (whole_text names.now shared ts) result }
 {
     put(sink, b"[")?;
     put_messages(mem, names, queue, waiting, sink)?;
@@ -102,7 +102,7 @@ fn put_messages<K: Sink>(
 ) -> Result<(), SinkFault>
     requires { HaveMessages mem.now (length names.now) queue waiting }
     ensures { (shared : List (List ℕ)) (ts : List Tree) → AreMessages shared mem.now (length names.now) queue waiting ts
-        → WritesCounted K.wrote K.faults sink.old sink.new (messages_text names.now shared ts) result }
+        → WritesTold K.wrote K.faults sink.old sink.new (messages_text names.now shared ts) result }
 {
     let _len = mem.len();
     let mut place = queue;
@@ -123,7 +123,7 @@ fn put_message<K: Sink>(
 ) -> Result<(), SinkFault>
     requires { CanPrint mem.now names.now w }
     ensures { (shared : List (List ℕ)) (t : Tree) → Stands always shared mem.now w t
-        → WritesCounted K.wrote K.faults sink.old sink.new (divider first ++ text names.now shared t) result }
+        → WritesTold K.wrote K.faults sink.old sink.new (divider first ++ text names.now shared t) result }
 {
     put(sink, divider_bytes(first))?;
     print(mem, names, w, sink)

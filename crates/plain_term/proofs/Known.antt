@@ -197,9 +197,11 @@ module _ (names shared more : List (List ℕ)) where
   pub knows-beyond : (t : Tree) → Knows (length shared) t → is_beyond (shared ++ more) t ≡ is_beyond shared t
   knows-beyond t h =
       same-beyond names names (shared ++ more) shared t
-      (has-only (λ k. Unit {0}) (λ id. id ≤ length shared) (SameName names names (shared ++ more) shared) (SameBytes names names (shared ++ more) shared) (λ k u. refl) (bytes-stay shared more) t h)
+      (has-only (λ k. Unit {0}) (λ id. id ≤ length shared) (SameName names names (shared ++ more) shared)
+      (SameBytes names names (shared ++ more) shared) (λ k u. refl) (bytes-stay shared more) t h)
 
   pub knows-in-order : (given : Pairs) → KnowsPairs (length shared) given → in_order names (shared ++ more) given ≡ in_order names shared given
   knows-in-order given h =
       all-put-same names names (shared ++ more) shared stop given tt
-      (pairs-have-only (λ k. Unit {0}) (λ id. id ≤ length shared) (SameName names names (shared ++ more) shared) (SameBytes names names (shared ++ more) shared) (λ k u. refl) (bytes-stay shared more) given h)
+      (pairs-have-only (λ k. Unit {0}) (λ id. id ≤ length shared) (SameName names names (shared ++ more) shared)
+      (SameBytes names names (shared ++ more) shared) (λ k u. refl) (bytes-stay shared more) given h)

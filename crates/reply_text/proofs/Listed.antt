@@ -3,7 +3,7 @@ use Rattle.std.proofs.Common.{◌≡◌, ℕ, ◌+◌, ◌<◌, ◌≤◌, List,
 use Rattle.std.specs.Prelude.{IsErr}
 use Rattle.std.proofs.lemmas.List.{append-nil, drop_more, flat_map_more, take_all, take_more, take-append-drop}
 use Rattle.std.proofs.lemmas.Grind.{flat_map-append}
-use Rattle.line_io.specs.Sink.{Grew, WritesCounted}
+use Rattle.line_io.specs.Sink.{Grew, WritesTold}
 use Rattle.line_io.proofs.Growth.{Grew-append}
 use Rattle.text_parts.proofs.Writing.{written-stops}
 use Rattle.reply_text.specs.Texts.{field_text, fields_text}
@@ -34,14 +34,14 @@ whole-text text numbers i below =
     ∙ sym (append_assoc text (flat_map field_text (take i numbers)) (field_text (get_or numbers i 0) ++ flat_map field_text (drop (i + 1) numbers)))))
 
 pub fields-stop : {K E F : Type 0} (wrote : K → List ℕ → Type 0) (faults : K → ℕ) (old mid new : K) (text numbers : List ℕ) (i : ℕ) (e : E) (r : Result (Unit {0}) F) → IsErr r
-    → i < length numbers → Grew wrote old mid (came text numbers i) → faults mid ≡ faults old → WritesCounted wrote faults mid new (field_text (get_or numbers i 0)) (Err e)
-    → WritesCounted wrote faults old new (fields_text text numbers) r
+    → i < length numbers → Grew wrote old mid (came text numbers i) → faults mid ≡ faults old → WritesTold wrote faults mid new (field_text (get_or numbers i 0)) (Err e)
+    → WritesTold wrote faults old new (fields_text text numbers) r
 fields-stop wrote faults old mid new text numbers i e r failed below g same w =
     written-stops wrote faults old mid new (fields_text text numbers) (came text numbers i) (field_text (get_or numbers i 0)) (flat_map field_text (drop (i + 1) numbers)) e r failed g same
     (whole-text text numbers i below) w
 
 pub fields-done : {K E : Type 0} (wrote : K → List ℕ → Type 0) (faults : K → ℕ) (old new : K) (text numbers : List ℕ) (i : ℕ) → length numbers ≤ i
-    → Grew wrote old new (came text numbers i) → faults new ≡ faults old → WritesCounted {E = E} wrote faults old new (fields_text text numbers) (Ok tt)
+    → Grew wrote old new (came text numbers i) → faults new ≡ faults old → WritesTold {E = E} wrote faults old new (fields_text text numbers) (Ok tt)
 unfolding came
 fields-done wrote faults old new text numbers i over g same = record {
   all = subst (Grew wrote old new) (ap (λ z. text ++ flat_map field_text z) (take_all i numbers over)) g;

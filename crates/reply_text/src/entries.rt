@@ -1,6 +1,6 @@
 // Entries of lists in brackets: a comma stands before each but the first.
 ghost use Rattle.std.specs.Prelude.{◌≡◌, ◌++◌, Bool, decimal};
-ghost use Rattle.line_io.specs.Sink.{WritesCounted};
+ghost use Rattle.line_io.specs.Sink.{WritesTold};
 ghost use Rattle.reply_text.specs.Texts.{bin_entry, divider, fun_entry, object_entry};
 
 use itoa::Buffer;
@@ -9,7 +9,7 @@ use text_parts::{put, put_five, put_four, put_two};
 
 /// Writes an entry that is a number.
 pub fn put_number<K: Sink>(first: bool, n: u64, sink: &mut K) -> Result<(), SinkFault>
-    ensures { WritesCounted K.wrote K.faults sink.old sink.new (divider first ++ decimal n) result }
+    ensures { WritesTold K.wrote K.faults sink.old sink.new (divider first ++ decimal n) result }
 {
     let mut number = Buffer::new();
     put_two(sink, divider_bytes(first), number.format(n).as_bytes())
@@ -17,7 +17,7 @@ pub fn put_number<K: Sink>(first: bool, n: u64, sink: &mut K) -> Result<(), Sink
 
 /// Writes the entry of a shared binary, by its id and its count.
 pub fn put_bin<K: Sink>(first: bool, id: u64, count: u64, sink: &mut K) -> Result<(), SinkFault>
-    ensures { WritesCounted K.wrote K.faults sink.old sink.new (divider first ++ bin_entry id count) result }
+    ensures { WritesTold K.wrote K.faults sink.old sink.new (divider first ++ bin_entry id count) result }
 {
     let mut ids = Buffer::new();
     let mut counts = Buffer::new();
@@ -38,7 +38,7 @@ pub fn put_fun<K: Sink>(
     count: u64,
     sink: &mut K,
 ) -> Result<(), SinkFault>
-    ensures { WritesCounted K.wrote K.faults sink.old sink.new (divider first ++ fun_entry name.now arity count) result }
+    ensures { WritesTold K.wrote K.faults sink.old sink.new (divider first ++ fun_entry name.now arity count) result }
 {
     put(sink, divider_bytes(first))?;
     let mut arities = Buffer::new();
@@ -61,7 +61,7 @@ pub fn put_object<K: Sink>(
     size: u64,
     sink: &mut K,
 ) -> Result<(), SinkFault>
-    ensures { WritesCounted K.wrote K.faults sink.old sink.new (divider first ++ object_entry place kind.now size) result }
+    ensures { WritesTold K.wrote K.faults sink.old sink.new (divider first ++ object_entry place kind.now size) result }
 {
     put(sink, divider_bytes(first))?;
     let mut places = Buffer::new();

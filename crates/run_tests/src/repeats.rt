@@ -71,3 +71,20 @@ pub(crate) fn whole_of(alloc: Global, text: &[u8]) -> Result<Vec<u8>, Fail> {
     }
     Ok(whole)
 }
+
+// A text with repeats, and the whole of it.
+const REPEATED: &[u8] = b"w^ab^3^x!^c^2^?d!9!12!y";
+
+const WHOLE: &[u8] = b"wabababxcc9dcc10dcc11dy";
+
+// Whether this text stands for that one.
+fn stands_for(alloc: Global, text: &[u8], whole: &[u8]) -> Result<bool, Fail> {
+    let found = whole_of(alloc, text)?;
+    Ok(found.as_slice() == whole)
+}
+
+#[test]
+fn repeated_texts_are_whole(rt: HostRuntime) -> Result<(), Fail> {
+    assert!(rt; stands_for(rt.alloc(), REPEATED, WHOLE)?);
+    Ok(())
+}

@@ -50,7 +50,7 @@ ok 4
 1 mktuple 0 2040 1
 sys spawn
 1 set 4 #{a=>1,a=>2}
-1 set 4 #{1=>0,2=>0,3=>0,4=>0,5=>0,6=>0,7=>0,8=>0,9=>0,10=>0,11=>0,12=>0,13=>0,14=>0,15=>0,16=>0,17=>0,18=>0,19=>0,20=>0,21=>0,22=>0,23=>0,24=>0,25=>0,26=>0,27=>0,28=>0,29=>0,30=>0,31=>0,32=>0,33=>0}
+1 set 4 #{!?=>0,!1!33!33=>0}
 1 push 0
 1 ref 1
 1 ref 2
@@ -149,7 +149,7 @@ ok
 // The same with one name after them.
 const NAMING: &[u8] = b"
 ~ maps that are refused for their keys bring no name
-1 set 1 #{a1=>1,a2=>1,a3=>1,a4=>1,a5=>1,a6=>1,a7=>1,a8=>1,a9=>1,b1=>1,b2=>1,b3=>1,b4=>1,b5=>1,b6=>1,b7=>1,b8=>1,b9=>1,c1=>1,c2=>1,c3=>1,c4=>1,c5=>1,c6=>1,c7=>1,c8=>1,c9=>1,d1=>1,d2=>1,d3=>1,d4=>1,d5=>1,d6=>1}
+1 set 1 #{!a?=>1,!1!10!!b?=>1,!1!10!!c?=>1,!1!10!!d?=>1,!1!6!d6=>1}
 ^1 set 0 {$0,$0}
 ^25^1 set 1 #{$0=>fresh}
 1 set 1 z1
@@ -167,14 +167,14 @@ const SMALL: &[&str] = &["beam_heap", "--arena", "4096"];
 
 #[test]
 fn small_arenas_refuse_by_what_lives(rt: HostRuntime) -> Result<(), Fail> {
-    let wrong = first_wrong(rt.alloc(), SMALL, ROWS, Some(0))?;
+    let wrong = first_wrong(rt.alloc(), SMALL, ROWS, 6, Some(0))?;
     assert!(rt; wrong.is_empty(), "{wrong}");
     Ok(())
 }
 
 #[test]
 fn refused_lines_of_small_arenas_bring_no_name(rt: HostRuntime) -> Result<(), Fail> {
-    let wrong = first_wrong(rt.alloc(), SMALL, NAMING, Some(1))?;
+    let wrong = first_wrong(rt.alloc(), SMALL, NAMING, 1, Some(1))?;
     assert!(rt; wrong.is_empty(), "{wrong}");
     Ok(())
 }

@@ -8,5 +8,5 @@ mod laws;
 
 pub use bytes::{fill, put_byte};
 pub use counts::{Dropped, add, count_of, drop_one, is_fun, len_of, serial_of};
-pub use heads::{write_bin, write_fun};
+pub use heads::{HEAD_WORDS, write_bin, write_fun};
 pub use laws::kept_content_keeps_records;

@@ -13,19 +13,19 @@ use Rattle.plain_machine.proofs.Properly.Holding.{Builds, Environs}
 use Rattle.space_api.specs.Calls.{HasEnv, IsNamedBelow, IsWrittenTerm, one_term}
 
 -- items whose atoms have numbers below a count
-abbrev pub AreBelow : ℕ → List Item → Type 0
-AreBelow count [] = Unit {0}
-AreBelow count (i ∷ items) = IsNamedBelow count i × AreBelow count items
+abbrev pub AreNamedBelow : ℕ → List Item → Type 0
+AreNamedBelow count [] = Unit {0}
+AreNamedBelow count (i ∷ items) = IsNamedBelow count i × AreNamedBelow count items
 
-pub below-all : (count : ℕ) (xs : List Item) → All (IsNamedBelow count) xs → AreBelow count xs
+pub below-all : (count : ℕ) (xs : List Item) → All (IsNamedBelow count) xs → AreNamedBelow count xs
 below-all count [] h = tt
 below-all count (x ∷ xs) h = (h 0 x (omega arith), below-all count xs (λ k d less. h (suc k) d (omega (arith, less))))
 
-below-front : (count : ℕ) (xs ys : List Item) → AreBelow count (xs ++ ys) → AreBelow count xs
+below-front : (count : ℕ) (xs ys : List Item) → AreNamedBelow count (xs ++ ys) → AreNamedBelow count xs
 below-front count [] ys h = tt
 below-front count (x ∷ xs) ys h = (h.0, below-front count xs ys h.1)
 
-below-back : (count : ℕ) (xs ys : List Item) → AreBelow count (xs ++ ys) → AreBelow count ys
+below-back : (count : ℕ) (xs ys : List Item) → AreNamedBelow count (xs ++ ys) → AreNamedBelow count ys
 below-back count [] ys h = h
 below-back count (x ∷ xs) ys h = below-back count xs ys h.1
 
@@ -35,7 +35,7 @@ both names (x ∷ xs) ys h k = (h.0, both names xs ys h.1 k)
 
 module _ (names : List (List ℕ)) where
   mutual
-    numbers-term : (t : Term) → AreBelow (length names) (items_of names t) → HaveNumbers names (atoms_of t)
+    numbers-term : (t : Term) → AreNamedBelow (length names) (items_of names t) → HaveNumbers names (atoms_of t)
     numbers-term (Int i) h = tt
     numbers-term (Atom a) h = (h.0, tt)
     numbers-term (Pid n) h = tt
@@ -46,18 +46,18 @@ module _ (names : List (List ℕ)) where
     numbers-term (Map ps) h = numbers-pairs ps h.1
     numbers-term (Bin bytes) h = tt
 
-    numbers-listed : (ts : Terms) (tail : List Item) → AreBelow (length names) (listed_items names ts tail) → HaveNumbers names (atoms_of_all ts) × AreBelow (length names) tail
+    numbers-listed : (ts : Terms) (tail : List Item) → AreNamedBelow (length names) (listed_items names ts tail) → HaveNumbers names (atoms_of_all ts) × AreNamedBelow (length names) tail
     numbers-listed end tail h = (tt, h)
     numbers-listed (t ▹ ts) tail h =
         let k = numbers-listed ts tail (below-back (length names) (items_of names t) (listed_items names ts tail) h.1) in
         (both names (atoms_of t) (atoms_of_all ts) (numbers-term t (below-front (length names) (items_of names t) (listed_items names ts tail) h.1)) k.0, k.1)
 
-    numbers-all : (ts : Terms) → AreBelow (length names) (all_items names ts) → HaveNumbers names (atoms_of_all ts)
+    numbers-all : (ts : Terms) → AreNamedBelow (length names) (all_items names ts) → HaveNumbers names (atoms_of_all ts)
     numbers-all end h = tt
     numbers-all (t ▹ ts) h = both names (atoms_of t) (atoms_of_all ts) (numbers-term t (below-front (length names) (items_of names t) (all_items names ts) h))
         (numbers-all ts (below-back (length names) (items_of names t) (all_items names ts) h))
 
-    numbers-pairs : (ps : TermPairs) → AreBelow (length names) (pairs_items names ps) → HaveNumbers names (atoms_of_pairs ps)
+    numbers-pairs : (ps : TermPairs) → AreNamedBelow (length names) (pairs_items names ps) → HaveNumbers names (atoms_of_pairs ps)
     numbers-pairs stop h = tt
     numbers-pairs (pair k v ps) h =
         let rest = below-back (length names) (items_of names k) (items_of names v ++ pairs_items names ps) h in
@@ -72,7 +72,7 @@ builds names code t is named = record {
   one = refl;
   built = is.built;
   allowed = is.allowed;
-  numbers = numbers-term names t (subst (AreBelow (length names)) (sym is.items) (below-all (length names) code named));
+  numbers = numbers-term names t (subst (AreNamedBelow (length names)) (sym is.items) (below-all (length names) code named));
 }
 
 -- so is the environment of `make_fun`

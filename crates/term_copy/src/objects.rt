@@ -1,5 +1,5 @@
 // Copying one object.
-ghost use Rattle.std.specs.Prelude.{◌≡◌, ℕ, ◌+◌, ◌*◌, ◌/◌, ◌%◌, ◌<◌, ◌≤◌, ◌⊎◌, List, true, length, slice_index};
+ghost use Rattle.std.specs.Prelude.{◌≡◌, ℕ, ◌+◌, ◌/◌, ◌%◌, List};
 ghost use Rattle.plain_term.specs.Tree.{Tree};
 ghost use Rattle.plain_term.specs.Measures.{flat};
 ghost use Rattle.term_words.specs.Object.{object_words};

@@ -1,9 +1,7 @@
 // Going through the words of what was copied.
-ghost use Rattle.std.specs.Prelude.{◌≡◌, ℕ, Bool, true, false, List, ◌+◌, ◌/◌, ◌%◌, ◌^◌, ◌<◌, ◌≤◌, ◌⊎◌, length, slice_index, Some};
+ghost use Rattle.std.specs.Prelude.{◌≡◌, ℕ, true, false, List, ◌+◌, ◌/◌, ◌<◌};
 ghost use Rattle.plain_term.specs.Tree.{Tree, Trees};
 ghost use Rattle.plain_term.specs.Tree.Trees.{◌▹◌};
-ghost use Rattle.term_tags.specs.Table.{layout_for};
-ghost use Rattle.term_tags.specs.declared.layouts.Layout.{Layout};
 ghost use Rattle.term_words.specs.Object.{IsPointer};
 ghost use Rattle.cheney.specs.Ranges.{stays};
 ghost use Rattle.term_copy.specs.Copied.{Task};

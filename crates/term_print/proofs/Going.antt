@@ -4,7 +4,7 @@ use Rattle.std.proofs.lemmas.Bool.{or_parts, ltb-false, and_parts}
 use Rattle.std.proofs.lemmas.Bool.Decides.{nat_tests}
 use Rattle.std.proofs.lemmas.List.{length-reverse}
 use Rattle.std.specs.Prelude.{IsErr}
-use Rattle.line_io.specs.Sink.{Grew, WritesCounted}
+use Rattle.line_io.specs.Sink.{Grew, WritesTold}
 use Rattle.line_io.proofs.Growth.{Grew-nil, Grew-append}
 use Rattle.plain_term.specs.Tree.{Tree, Trees}
 use Rattle.plain_term.specs.Measures.{nodes, nodes_of_all, depth}
@@ -114,7 +114,7 @@ goes-on {K} {E} c shared mem names t mark tail word levels new seen wrote faults
 pub goes-off : {K E F : Type 0} (c : ℕ → ℕ → Bool) (shared : List (List ℕ)) (mem : List ℕ) (names : List (List ℕ)) (t : Tree) (mark : List ℕ) (tail : Bool) (word : ℕ) (levels new : List Level)
     (seen : ℕ) (wrote : K → List ℕ → Type 0) (faults : K → ℕ) (start before after : K) (e : E) (r : Result (Unit {0}) F) → IsErr r → faults before ≡ faults start
     → (n : Coming c shared mem names t mark tail word levels seen wrote start before)
-    → BeginsText c shared mem names mark tail n.next levels new wrote faults before after (Err e) → WritesCounted wrote faults start after (text names shared t) r
+    → BeginsText c shared mem names mark tail n.next levels new wrote faults before after (Err e) → WritesTold wrote faults start after (text names shared t) r
 goes-off {K} {E} {F} c shared mem names t mark tail word levels new seen wrote faults start before after e r failed same n b =
     let p : Pushed c shared mem names tail n.next b.own levels (after_level b.parts levels) n.rests seen = pushed c shared mem names tail n.next b.own b.parts levels n.rests seen n.left b.opens in
     written-stops wrote faults start before after (text names shared t) n.came (mark ++ b.own) (text_left names shared (after_level b.parts levels) p.more) e r failed n.grew same
@@ -229,7 +229,7 @@ end-goes {K} c shared mem names t l ls last seen wrote start before after e g w 
 end-stops : {K E F : Type 0} (c : ℕ → ℕ → Bool) (shared : List (List ℕ)) (mem : List ℕ) (names : List (List ℕ)) (t : Tree) (l : Level) (ls : List Level) (last : Bool) (seen : ℕ)
     (wrote : K → List ℕ → Type 0) (faults : K → ℕ)
     (start before after : K) (e : E) (r : Result (Unit {0}) F) → IsErr r → faults before ≡ faults start → level_taken l ≡ step.End last → Printing c shared mem names t (l ∷ ls) seen wrote start before
-    → WritesCounted wrote faults before after (closing_text last) (Err e) → WritesCounted wrote faults start after (text names shared t) r
+    → WritesTold wrote faults before after (closing_text last) (Err e) → WritesTold wrote faults start after (text names shared t) r
 end-stops {K} {E} {F} c shared mem names t l ls last seen wrote faults start before after e r failed same is g w =
     let top : TopLeft c shared mem l ls g.rests = top-left c shared mem l ls g.rests g.left in
     written-stops wrote faults start before after (text names shared t) g.came (closing_text last) (text_left names shared ls top.others) e r failed g.grew same
@@ -270,8 +270,8 @@ gathered-goes c shared mem names t l m ls x seen wrote start before after g more
 gathered-stops : {K E F : Type 0} (c : ℕ → ℕ → Bool) (shared : List (List ℕ)) (mem : List ℕ) (names : List (List ℕ)) (t : Tree) (l m : Level) (ls : List Level) (x : List ℕ) (seen : ℕ)
     (wrote : K → List ℕ → Type 0) (faults : K → ℕ) (start before after : K) (e : E) (r : Result (Unit {0}) F) → IsErr r → faults before ≡ faults start
     → (g : Printing c shared mem names t (l ∷ ls) seen wrote start before)
-    → ((ts : Trees) → IsLeft c shared mem l ts → Gathers c shared mem names l m x ts) → WritesCounted wrote faults before after x (Err e)
-    → WritesCounted wrote faults start after (text names shared t) r
+    → ((ts : Trees) → IsLeft c shared mem l ts → Gathers c shared mem names l m x ts) → WritesTold wrote faults before after x (Err e)
+    → WritesTold wrote faults start after (text names shared t) r
 gathered-stops c shared mem names t l m ls x seen wrote faults start before after e r failed same g more w =
     let top : TopLeft c shared mem l ls g.rests = top-left c shared mem l ls g.rests g.left in
     let k : Gathers c shared mem names l m x top.top = more top.top top.is_left in
@@ -282,7 +282,7 @@ gathered-stops c shared mem names t l m ls x seen wrote faults start before afte
 
 all-came : {K E : Type 0} (c : ℕ → ℕ → Bool) (shared : List (List ℕ)) (mem : List ℕ) (names : List (List ℕ)) (t : Tree) (levels : List Level) (seen : ℕ) (wrote : K → List ℕ → Type 0)
     (faults : K → ℕ) (start now : K) (u : Unit {0})
-    → levels ≡ [] → faults now ≡ faults start → Printing c shared mem names t levels seen wrote start now → WritesCounted {K = K} {E = E} wrote faults start now (text names shared t) (Ok u)
+    → levels ≡ [] → faults now ≡ faults start → Printing c shared mem names t levels seen wrote start now → WritesTold {K = K} {E = E} wrote faults start now (text names shared t) (Ok u)
 all-came {K} {E} c shared mem names t levels seen wrote faults start now u none same g =
     let e : text names shared t ≡ g.came = g.whole ∙ ap (λ z. g.came ++ text_left names shared z g.rests) none ∙ append-nil g.came in
     let P : List ℕ → Type 0 = λ z. Grew wrote start now z in
@@ -304,7 +304,7 @@ prints-first {K} {E} mem names w old new wrote faults start after u none b = λ 
 pub first-stops : {K E F : Type 0} (mem : List ℕ) (names : List (List ℕ)) (w : ℕ) (old new : List Level) (wrote : K → List ℕ → Type 0) (faults : K → ℕ) (start after : K) (e : E)
     (r : Result (Unit {0}) F) → IsErr r → old ≡ []
     → ((c : ℕ → ℕ → Bool) (shared : List (List ℕ)) (now : Tree) → Stands c shared mem w now → BeginsText {K = K} {E = E} c shared mem names [] false now old new wrote faults start after (Err e))
-    → (c : ℕ → ℕ → Bool) (shared : List (List ℕ)) (t : Tree) → Stands c shared mem w t → WritesCounted wrote faults start after (text names shared t) r
+    → (c : ℕ → ℕ → Bool) (shared : List (List ℕ)) (t : Tree) → Stands c shared mem w t → WritesTold wrote faults start after (text names shared t) r
 first-stops {K} {E} {F} mem names w old new wrote faults start after e r failed none b = λ c shared t s.
     let P : List Level → Type 0 = λ z. BeginsText {K = K} {E = E} c shared mem names [] false t z new wrote faults start after (Err e) in
     goes-off c shared mem names t [] false w [] new 0 wrote faults start start after e r failed refl (comes-first c shared mem names t w wrote start s) (subst P none (b c shared t s))
@@ -323,8 +323,8 @@ prints-gathered {K} mem names w xs ys l m x put seen wrote start before after it
 
 pub prints-gathered-stops : {K E F : Type 0} (mem : List ℕ) (names : List (List ℕ)) (w : ℕ) (xs ys : List Level) (l m : Level) (x put : List ℕ) (seen : ℕ) (wrote : K → List ℕ → Type 0)
     (faults : K → ℕ) (start before after : K) (e : E) (r : Result (Unit {0}) F) → IsErr r → faults before ≡ faults start → xs ≡ ys ++ l ∷ [] → put ≡ x
-    → PrintsEach mem names w (reverse xs) seen wrote start before → AllGather mem l m x → WritesCounted wrote faults before after put (Err e)
-    → (c : ℕ → ℕ → Bool) (shared : List (List ℕ)) (t : Tree) → Stands c shared mem w t → WritesCounted wrote faults start after (text names shared t) r
+    → PrintsEach mem names w (reverse xs) seen wrote start before → AllGather mem l m x → WritesTold wrote faults before after put (Err e)
+    → (c : ℕ → ℕ → Bool) (shared : List (List ℕ)) (t : Tree) → Stands c shared mem w t → WritesTold wrote faults start after (text names shared t) r
 prints-gathered-stops mem names w xs ys l m x put seen wrote faults start before after e r failed same items is p more g = λ c shared t s.
     gathered-stops c shared mem names t l m (reverse ys) x seen wrote faults start before after e r failed same (prints-popped mem names w xs ys l seen wrote start before items p c shared t s)
     (more c shared names) (written-as wrote faults before after put x (Err e) is g)
@@ -336,8 +336,8 @@ prints-end mem names w l ls last seen wrote start before after e p g = λ c shar
 pub prints-end-stops : {K E F : Type 0} (mem : List ℕ) (names : List (List ℕ)) (w : ℕ) (l : Level) (ls : List Level) (last : Bool) (seen : ℕ) (wrote : K → List ℕ → Type 0) (faults : K → ℕ)
     (start before after : K) (e : E)
     (r : Result (Unit {0}) F) → IsErr r → faults before ≡ faults start → level_taken l ≡ step.End last → PrintsEach mem names w (l ∷ ls) seen wrote start before
-    → WritesCounted wrote faults before after (closing_text last) (Err e)
-    → (c : ℕ → ℕ → Bool) (shared : List (List ℕ)) (t : Tree) → Stands c shared mem w t → WritesCounted wrote faults start after (text names shared t) r
+    → WritesTold wrote faults before after (closing_text last) (Err e)
+    → (c : ℕ → ℕ → Bool) (shared : List (List ℕ)) (t : Tree) → Stands c shared mem w t → WritesTold wrote faults start after (text names shared t) r
 prints-end-stops mem names w l ls last seen wrote faults start before after e r failed same is p g = λ c shared t s.
     end-stops c shared mem names t l ls last seen wrote faults start before after e r failed same is (p c shared t s) g
 
@@ -361,7 +361,7 @@ pub prints-part-stops : {K E F : Type 0} (mem : List ℕ) (names : List (List �
     → PrintsEach mem names w (l ∷ ls) seen wrote start before
     → ((c : ℕ → ℕ → Bool) (shared : List (List ℕ)) (now : Tree) → Stands c shared mem word now
     → BeginsText {K = K} {E = E} c shared mem names (mark_text p.mark) p.tail now old new wrote faults before after (Err x))
-    → (c : ℕ → ℕ → Bool) (shared : List (List ℕ)) (t : Tree) → Stands c shared mem w t → WritesCounted wrote faults start after (text names shared t) r
+    → (c : ℕ → ℕ → Bool) (shared : List (List ℕ)) (t : Tree) → Stands c shared mem w t → WritesTold wrote faults start after (text names shared t) r
 prints-part-stops {K} {E} {F} mem names w l ls p word old new seen wrote faults start before after x r failed same e at is g b = λ c shared t s.
     let n : Coming c shared mem names t (mark_text p.mark) p.tail (get_or mem p.place 0) (after_level p.more ls) seen wrote start before = comes-part c shared mem names t l ls p seen wrote start
     before e (g c shared t s) in
@@ -372,7 +372,7 @@ prints-part-stops {K} {E} {F} mem names w l ls p word old new seen wrote faults 
 
 pub prints-all : {K E : Type 0} (mem : List ℕ) (names : List (List ℕ)) (w : ℕ) (levels : List Level) (seen : ℕ) (wrote : K → List ℕ → Type 0) (faults : K → ℕ) (start now : K) (u : Unit {0})
     → levels ≡ [] → faults now ≡ faults start → PrintsEach mem names w levels seen wrote start now
-    → (c : ℕ → ℕ → Bool) (shared : List (List ℕ)) (t : Tree) → Stands c shared mem w t → WritesCounted {K = K} {E = E} wrote faults start now (text names shared t) (Ok u)
+    → (c : ℕ → ℕ → Bool) (shared : List (List ℕ)) (t : Tree) → Stands c shared mem w t → WritesTold {K = K} {E = E} wrote faults start now (text names shared t) (Ok u)
 prints-all mem names w levels seen wrote faults start now u none same p = λ c shared t s. all-came c shared mem names t levels seen wrote faults start now u none same (p c shared t s)
 
 -- What the calls of a step ask for.
@@ -464,14 +464,14 @@ none-left mem names w items seen wrote start now h g (inr e) = absurd (omega (ar
 
 -- A fault ends it.
 pub stops : {K E : Type 0} (mem : List ℕ) (names : List (List ℕ)) (first : ℕ) (levels : List Level) (wrote : K → List ℕ → Type 0) (faults : K → ℕ) (start now : K) (r : Result ℕ E) → IsErr r
-    → ((q : Result (Unit {0}) E) → IsErr q → (c : ℕ → ℕ → Bool) (shared : List (List ℕ)) (t : Tree) → Stands c shared mem first t → WritesCounted wrote faults start now (text names shared t) q)
+    → ((q : Result (Unit {0}) E) → IsErr q → (c : ℕ → ℕ → Bool) (shared : List (List ℕ)) (t : Tree) → Stands c shared mem first t → WritesTold wrote faults start now (text names shared t) q)
     → GoesOn mem names first levels wrote faults start now r
 stops mem names first levels wrote faults start now (Ok n) bad w = absurd cc
 stops mem names first levels wrote faults start now (Err e) failed w = w (Err e) failed
 
 -- The text was not written, whatever the fault.
 pub unwritten : {K E F : Type 0} (wrote : K → List ℕ → Type 0) (faults : K → ℕ) (start now : K) (x : List ℕ) (e : E) (r : Result (Unit {0}) F) → IsErr r
-    → WritesCounted wrote faults start now x (Err e) → WritesCounted wrote faults start now x r
+    → WritesTold wrote faults start now x (Err e) → WritesTold wrote faults start now x r
 unwritten wrote faults start now x e (Ok u) bad w = absurd cc
 unwritten wrote faults start now x e (Err f) failed w = record { all = tt; part = w.part; later = w.later; rose = w.rose; told = tt }
 

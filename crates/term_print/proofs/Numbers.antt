@@ -2,7 +2,7 @@
 use Rattle.std.proofs.Common.{◌≡◌, ℕ, suc, ◌+◌, ◌<◌, ◌≤◌, List, [], ◌∷◌, ◌++◌, codes, decimal, drop, get_or, refl, sym, ap, ◌∙◌, arith, append_assoc, Result, Err}
 use Rattle.std.specs.Prelude.{IsErr}
 use Rattle.std.proofs.lemmas.List.{drop_more, drop_all}
-use Rattle.line_io.specs.Sink.{Grew, WritesCounted}
+use Rattle.line_io.specs.Sink.{Grew, WritesTold}
 use Rattle.line_io.proofs.Growth.{Grew-append}
 use Rattle.plain_term.specs.Text.{binary_text, numbers_text, more_numbers}
 use Rattle.term_read.specs.declared.looks.Bytes.{Bytes}
@@ -57,20 +57,20 @@ bytes-more mem b xs i n wrote start before after h below e c g = record {
 
 pub bytes-stop : {K E F : Type 0} (mem : List ℕ) (b : Bytes) (xs : List ℕ) (i n : ℕ) (wrote : K → List ℕ → Type 0) (faults : K → ℕ) (start before after : K) (x : E) (r : Result (Unit {0}) F) → IsErr r
     → faults before ≡ faults start → IsBytes mem b xs → i < b.len → n ≡ byte_in mem b i → BytesCome xs i wrote start before
-    → WritesCounted wrote faults before after (comma_before i ++ decimal n) (Err x)
-    → WritesCounted wrote faults start after (binary_text xs) r
+    → WritesTold wrote faults before after (comma_before i ++ decimal n) (Err x)
+    → WritesTold wrote faults start after (binary_text xs) r
 bytes-stop mem b xs i n wrote faults start before after x r failed same h below e c w =
     written-stops wrote faults start before after (binary_text xs) c.came (comma_before i ++ decimal n) (numbers_from (i + 1) (drop (i + 1) xs) ++ codes ">>") x r failed c.grew same
     (c.whole ∙ ap (λ z. c.came ++ z) (from-byte mem b xs i n h below e)) w
 
 pub bytes-end : {K E : Type 0} (mem : List ℕ) (b : Bytes) (xs : List ℕ) (i : ℕ) (wrote : K → List ℕ → Type 0) (faults : K → ℕ) (start before after : K) (r : Result (Unit {0}) E)
-    → faults before ≡ faults start → IsBytes mem b xs → b.len ≤ i → BytesCome xs i wrote start before → WritesCounted wrote faults before after (codes ">>") r
-    → WritesCounted wrote faults start after (binary_text xs) r
+    → faults before ≡ faults start → IsBytes mem b xs → b.len ≤ i → BytesCome xs i wrote start before → WritesTold wrote faults before after (codes ">>") r
+    → WritesTold wrote faults start after (binary_text xs) r
 bytes-end mem b xs i wrote faults start before after r same h all c w =
     written-as wrote faults start after (c.came ++ codes ">>") (binary_text xs) r
     (sym (c.whole ∙ ap (λ z. c.came ++ (numbers_from i z ++ codes ">>")) (drop_all i xs (omega (arith, h.count, all)))))
     (written-after wrote faults start before after c.came (codes ">>") r c.grew same w)
 
 pub bytes-begin-badly : {K E F : Type 0} (xs : List ℕ) (wrote : K → List ℕ → Type 0) (faults : K → ℕ) (start after : K) (x : E) (r : Result (Unit {0}) F) → IsErr r
-    → WritesCounted wrote faults start after (codes "<<") (Err x) → WritesCounted wrote faults start after (binary_text xs) r
+    → WritesTold wrote faults start after (codes "<<") (Err x) → WritesTold wrote faults start after (binary_text xs) r
 bytes-begin-badly xs wrote faults start after x r failed w = written-short wrote faults start after (codes "<<") (numbers_text xs ++ codes ">>") x r failed w

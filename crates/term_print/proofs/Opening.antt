@@ -3,7 +3,7 @@ use Rattle.std.proofs.Common.{◌≡◌, ℕ, ◌+◌, ◌/◌, ◌≤◌, Bool,
 use Rattle.std.proofs.lemmas.Bool.{and_from, and_parts}
 use Rattle.std.specs.Fmt.{signed_decimal}
 use Rattle.std.specs.Prelude.{IsErr}
-use Rattle.line_io.specs.Sink.{Grew, WritesCounted}
+use Rattle.line_io.specs.Sink.{Grew, WritesTold}
 use Rattle.plain_term.specs.Tree.{Tree}
 use Rattle.plain_term.specs.Tree.Tree.{Int, Atom, Pid, Ref, Nil, Cons, Tuple, Map, Bin, Shared, Part, Fun}
 use Rattle.plain_term.specs.Tree.Trees.{end, ◌▹◌}
@@ -103,10 +103,10 @@ begins-term mem names word h = record { shared = h.shared; tree = h.now; standin
 pub begins : {K E : Type 0} (c : ℕ → ℕ → Bool) (shared : List (List ℕ)) (mem : List ℕ) (names : List (List ℕ)) (mark put : List ℕ) (tail : Bool) (now : Tree) (w : ℕ) (l : Look)
     (old new : List Level) (kept : Option Level)
     (wrote : K → List ℕ → Type 0) (faults : K → ℕ) (before mid after : K) (r : Result (Unit {0}) E) → IsSeen c shared mem w now l → kept ≡ level_in l tail → new ≡ after_level kept old → put ≡ mark
-    → Grew wrote before mid put → faults mid ≡ faults before → WritesCounted wrote faults mid after (own_text names tail (bytes_of shared now) l) r
+    → Grew wrote before mid put → faults mid ≡ faults before → WritesTold wrote faults mid after (own_text names tail (bytes_of shared now) l) r
     → BeginsText c shared mem names mark tail now old new wrote faults before after r
 begins {K} {E} c shared mem names mark put tail now w l old new kept wrote faults before mid after r seen is levels marked grew told written =
-    let P : List ℕ → Type 0 = λ z. WritesCounted {K = K} {E = E} wrote faults before after (z ++ own_text names tail (bytes_of shared now) l) r in
+    let P : List ℕ → Type 0 = λ z. WritesTold {K = K} {E = E} wrote faults before after (z ++ own_text names tail (bytes_of shared now) l) r in
     record {
       own = own_text names tail (bytes_of shared now) l;
       parts = level_in l tail;
@@ -119,9 +119,9 @@ pub begins-badly : {K E F : Type 0} (c : ℕ → ℕ → Bool) (shared : List (L
     (old new : List Level) (kept : Option Level)
     (wrote : K → List ℕ → Type 0) (faults : K → ℕ) (before after : K) (e : E) (r : Result (Unit {0}) F) → IsErr r → IsSeen c shared mem w now l → kept ≡ level_in l tail
     → new ≡ after_level kept old → put ≡ mark
-    → WritesCounted wrote faults before after put (Err e) → BeginsText c shared mem names mark tail now old new wrote faults before after r
+    → WritesTold wrote faults before after put (Err e) → BeginsText c shared mem names mark tail now old new wrote faults before after r
 begins-badly {K} {E} {F} c shared mem names mark put tail now w l old new kept wrote faults before after e r failed seen is levels marked written =
-    let P : List ℕ → Type 0 = λ z. WritesCounted {K = K} {E = F} wrote faults before after (z ++ own_text names tail (bytes_of shared now) l) r in
+    let P : List ℕ → Type 0 = λ z. WritesTold {K = K} {E = F} wrote faults before after (z ++ own_text names tail (bytes_of shared now) l) r in
     record {
       own = own_text names tail (bytes_of shared now) l;
       parts = level_in l tail;

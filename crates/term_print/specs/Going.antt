@@ -1,6 +1,6 @@
 -- How printing goes on: what was written, with what is left, is the text of the whole term.
 use Rattle.std.specs.Prelude.{◌≡◌, ℕ, ◌+◌, ◌≤◌, Bool, true, List, [], ◌∷◌, ◌++◌, length, Result, Ok, Err}
-use Rattle.line_io.specs.Sink.{Grew, WritesCounted}
+use Rattle.line_io.specs.Sink.{Grew, WritesTold}
 use Rattle.plain_term.specs.Tree.{Tree, Trees}
 use Rattle.plain_term.specs.Measures.{nodes, nodes_of_all, depth}
 use Rattle.plain_term.specs.Beyond.{node_limit, depth_limit}
@@ -88,7 +88,7 @@ abbrev pub GoesOn : {K E : Type 0} → (mem : List ℕ) (names : List (List ℕ)
     (start now : K) → Result ℕ E → Type 0
 GoesOn mem names first levels wrote faults start now (Ok seen) = PrintBegun mem names first levels seen wrote faults start now
 GoesOn {K} {E} mem names first levels wrote faults start now (Err e) = (c : ℕ → ℕ → Bool) (shared : List (List ℕ)) (t : Tree) → Stands c shared mem first t
-    → WritesCounted {K = K} {E = E} wrote faults start now (text names shared t) (Err e)
+    → WritesTold {K = K} {E = E} wrote faults start now (text names shared t) (Err e)
 
 -- Of each term of which this was left, wherever it was begun, more was written, and that is left now.
 abbrev pub Continues : {K : Type 0} → (mem : List ℕ) (names : List (List ℕ)) (old : List Level) (before : ℕ) (new : List Level) (seen : ℕ)
@@ -107,4 +107,4 @@ abbrev pub PrintsAll : {K E : Type 0} → (mem : List ℕ) (names : List (List �
     (entry now : K) → Result (Unit {0}) E → Type 0
 PrintsAll {K} mem names old before wrote faults entry now result =
     (first : ℕ) (start : K) → PrintBegun mem names first old before wrote faults start entry
-    → (c : ℕ → ℕ → Bool) (shared : List (List ℕ)) (t : Tree) → Stands c shared mem first t → WritesCounted wrote faults start now (text names shared t) result
+    → (c : ℕ → ℕ → Bool) (shared : List (List ℕ)) (t : Tree) → Stands c shared mem first t → WritesTold wrote faults start now (text names shared t) result

@@ -4,7 +4,7 @@ use Rattle.plain_term.specs.Tree.{Tree, Trees}
 use Rattle.plain_term.specs.Measures.{depth, nodes, nodes_of_all}
 use Rattle.plain_term.specs.Beyond.{is_beyond}
 use Rattle.plain_term.specs.Text.{text_as}
-use Rattle.line_io.specs.Sink.{WritesCounted}
+use Rattle.line_io.specs.Sink.{WritesTold}
 use Rattle.term_words.specs.Role.{always}
 use Rattle.term_words.specs.Stands.{Stands}
 use Rattle.term_order.specs.Named.{is_named, are_named}
@@ -51,4 +51,4 @@ pub record BeginsText {K E : Type 0} (c : ℕ → ℕ → Bool) (shared : List (
   pub parts : Option Level
   pub opens : Opens c shared mem names tail now own parts
   pub levels : new ≡ after_level parts old
-  pub written : WritesCounted wrote faults before after (mark ++ own) result
+  pub written : WritesTold wrote faults before after (mark ++ own) result

@@ -3,7 +3,7 @@ ghost use Rattle.std.specs.Prelude.{◌≡◌, ℕ, ◌<◌, ◌++◌, List, cod
 ghost use Rattle.std.specs.Fmt.{signed_decimal};
 ghost use Rattle.plain_term.specs.Order.{name_of};
 ghost use Rattle.plain_term.specs.Text.{placed};
-ghost use Rattle.line_io.specs.Sink.{WritesCounted};
+ghost use Rattle.line_io.specs.Sink.{WritesTold};
 ghost use Rattle.term_order.specs.Own.{IsBytes, IsReadable, look_data};
 ghost use Rattle.term_print.specs.Own.{leaf_text, list_begun, list_ended, map_begun, own_text, tuple_begun};
 
@@ -26,7 +26,7 @@ pub fn put_own<K: Sink>(
 ) -> Result<(), SinkFault>
     requires { IsReadable mem.now names.now look }
     ensures { (xs : List ℕ) → IsBytes mem.now (look_data look) xs
-        → WritesCounted K.wrote K.faults sink.old sink.new (own_text names.now tail xs look) result }
+        → WritesTold K.wrote K.faults sink.old sink.new (own_text names.now tail xs look) result }
 {
     match look {
         Look::Cons(_) => put(sink, list_begin(tail)),
@@ -47,7 +47,7 @@ fn put_placed<K: Sink>(
 ) -> Result<(), SinkFault>
     requires { IsReadable mem.now names.now look }
     ensures { (xs : List ℕ) → IsBytes mem.now (look_data look) xs
-        → WritesCounted K.wrote K.faults sink.old sink.new (placed tail (leaf_text names.now xs look)) result }
+        → WritesTold K.wrote K.faults sink.old sink.new (placed tail (leaf_text names.now xs look)) result }
 {
     if tail {
         put(sink, b"|")?;
@@ -66,7 +66,7 @@ fn put_leaf<K: Sink>(
 ) -> Result<(), SinkFault>
     requires { IsReadable mem.now names.now look }
     ensures { (xs : List ℕ) → IsBytes mem.now (look_data look) xs
-        → WritesCounted K.wrote K.faults sink.old sink.new (leaf_text names.now xs look) result }
+        → WritesTold K.wrote K.faults sink.old sink.new (leaf_text names.now xs look) result }
 {
     match look {
         Look::Small(i) => put_small(i, sink),
@@ -81,7 +81,7 @@ fn put_leaf<K: Sink>(
 
 // Writes an integer of one word in decimal.
 fn put_small<K: Sink>(i: i64, sink: &mut K) -> Result<(), SinkFault>
-    ensures { WritesCounted K.wrote K.faults sink.old sink.new (signed_decimal i) result }
+    ensures { WritesTold K.wrote K.faults sink.old sink.new (signed_decimal i) result }
 {
     let mut buffer = Buffer::new();
     put(sink, buffer.format(i).as_bytes())
@@ -89,7 +89,7 @@ fn put_small<K: Sink>(i: i64, sink: &mut K) -> Result<(), SinkFault>
 
 // Writes an integer of two digits in decimal.
 fn put_integer<K: Sink>(i: i128, sink: &mut K) -> Result<(), SinkFault>
-    ensures { WritesCounted K.wrote K.faults sink.old sink.new (signed_decimal i) result }
+    ensures { WritesTold K.wrote K.faults sink.old sink.new (signed_decimal i) result }
 {
     let mut digits = Buffer::new();
     put(sink, digits.format(i).as_bytes())
@@ -97,7 +97,7 @@ fn put_integer<K: Sink>(i: i128, sink: &mut K) -> Result<(), SinkFault>
 
 // Writes a pid by its number.
 fn put_pid<K: Sink>(n: u64, sink: &mut K) -> Result<(), SinkFault>
-    ensures { WritesCounted K.wrote K.faults sink.old sink.new (codes "<0." ++ (decimal n ++ codes ".0>")) result }
+    ensures { WritesTold K.wrote K.faults sink.old sink.new (codes "<0." ++ (decimal n ++ codes ".0>")) result }
 {
     let mut buffer = Buffer::new();
     put_three(sink, b"<0.", buffer.format(n).as_bytes(), b".0>")
@@ -105,7 +105,7 @@ fn put_pid<K: Sink>(n: u64, sink: &mut K) -> Result<(), SinkFault>
 
 // Writes a reference by the number of its process and its own.
 fn put_ref<K: Sink>(n: u64, k: u64, sink: &mut K) -> Result<(), SinkFault>
-    ensures { WritesCounted K.wrote K.faults sink.old sink.new (codes "#Ref<0." ++ (decimal n ++ (codes "." ++ (decimal k ++ codes ">")))) result }
+    ensures { WritesTold K.wrote K.faults sink.old sink.new (codes "#Ref<0." ++ (decimal n ++ (codes "." ++ (decimal k ++ codes ">")))) result }
 {
     let mut process = Buffer::new();
     let mut own = Buffer::new();
@@ -122,7 +122,7 @@ fn put_ref<K: Sink>(n: u64, k: u64, sink: &mut K) -> Result<(), SinkFault>
 // Writes a fun by its name and arity.
 fn put_fun<K: Sink>(names: &AtomNames, name: u64, arity: u64, sink: &mut K) -> Result<(), SinkFault>
     requires { name < length names.now }
-    ensures { WritesCounted K.wrote K.faults sink.old sink.new
+    ensures { WritesTold K.wrote K.faults sink.old sink.new
         (codes "#Fun<" ++ (name_of names.now name ++ (codes "/" ++ (decimal arity ++ codes ">")))) result }
 {
     let mut buffer = Buffer::new();

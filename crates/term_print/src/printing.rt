@@ -1,7 +1,7 @@
 // The text of a term, from its word.
 ghost use Rattle.std.specs.Prelude.{◌≡◌, ℕ, ◌<◌, ◌≤◌, ◌⊎◌, Bool, List, [], IfOk, OnErr, OnOk, length, reverse};
 ghost use Rattle.line_io.specs.Faults.{Rose};
-ghost use Rattle.line_io.specs.Sink.{Writes, WritesCounted};
+ghost use Rattle.line_io.specs.Sink.{Writes, WritesTold};
 ghost use Rattle.plain_term.specs.Tree.{Tree};
 ghost use Rattle.plain_term.specs.Text.{text};
 ghost use Rattle.term_words.specs.Stands.{Stands};
@@ -49,7 +49,7 @@ fn print_whole<K: Sink>(
 ) -> Result<(), SinkFault>
     requires { CanPrint mem.now names.now w }
     ensures { (c : ℕ → ℕ → Bool) (shared : List (List ℕ)) (t : Tree) → Stands c shared mem.now w t
-        → WritesCounted K.wrote K.faults sink.old sink.new (text names.now shared t) result }
+        → WritesTold K.wrote K.faults sink.old sink.new (text names.now shared t) result }
 {
     let mut levels: ArrayVec<Level, FEW_LEVELS> = ArrayVec::new();
     begin(mem, names, &mut levels, w, Mark::Nothing, false, sink)?;

@@ -116,7 +116,8 @@ fn row(arity: u64, least: u64, most: u64, first: u64) -> Option<Layout>
     }
 }
 
-/// The first traced word of the object with this header, counted from its place; its size, if it has none.
+/// The first traced word of the object with this header, counted from its place; its size, if it has none. Of a header of no
+/// object it is at most 6, or the size.
 #[inline]
 pub fn traced_from(header: u64) -> u64
     ensures first { (l : Shape) → layout_for header ≡ Some l → result ≡ l.first }

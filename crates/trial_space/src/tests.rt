@@ -37,12 +37,13 @@ const SENT: &[u8] =
 const TOLD: &[u8] =
     b"ok\nok\na\ntrue\nok\nfalse\nlt\ngt\neq\nok\nlt\ngt\nok\nok\nlt\n0\nerror badarg\nerror badarg\nerror badarg\nerror badarg\nerror nospace 3\nerror nospace 3\nerror nospace 4\nerror badarg\nerror nospace 2\nerror nospace 2\nerror nospace 9\na\n";
 
+// Whether a script was served to its end.
+fn is_done(status: Status) -> bool {
+    matches!(status, Status::Done)
+}
+
 // Whether a script is answered by these replies.
 fn serves(alloc: Global, script: &[u8], replies: &[u8]) -> Result<bool, Fail> {
-    let names = AtomNames::new(alloc)?;
-    let code = Code::new(alloc)?;
-    let space = TrialSpace::start();
-    let mut machine = Machine { space, names, code };
     let limits = Limits {
         lines: 100,
         bytes: 1000,
@@ -50,8 +51,12 @@ fn serves(alloc: Global, script: &[u8], replies: &[u8]) -> Result<bool, Fail> {
     let mut reader = LineReader::new(alloc, limits)?;
     let mut source = MemSource::new(alloc, script, 7, &[])?;
     let mut sink = MemSink::new(alloc, 1000, 5, &[])?;
+    let code = Code::new(alloc)?;
+    let names = AtomNames::new(alloc)?;
+    let space = TrialSpace::start();
+    let mut machine = Machine { space, names, code };
     let status = serve(&mut machine, &mut reader, &mut source, &mut sink);
-    Ok(matches!(status, Status::Done) && sink.bytes() == replies)
+    Ok(is_done(status) && sink.bytes() == replies)
 }
 
 #[test]
@@ -78,16 +83,26 @@ fn a_message_finds_no_words_and_none_waits(rt: HostRuntime) -> Result<(), Fail> 
     Ok(())
 }
 
-#[test]
-fn a_line_is_one_step(rt: HostRuntime) -> Result<(), Fail> {
-    let names = AtomNames::new(rt.alloc())?;
-    let code = Code::new(rt.alloc())?;
+// Whether a line that is done goes on, and one that quits ends the script.
+fn went(set: Stepped, quit: Stepped) -> bool {
+    matches!(set, Stepped::Next) && matches!(quit, Stepped::Quit)
+}
+
+// Whether two lines are done one by one, and leave the process alive.
+fn steps(alloc: Global) -> Result<bool, Fail> {
+    let mut sink = MemSink::new(alloc, 100, 100, &[])?;
+    let code = Code::new(alloc)?;
+    let names = AtomNames::new(alloc)?;
     let space = TrialSpace::start();
     let mut machine = Machine { space, names, code };
-    let mut sink = MemSink::new(rt.alloc(), 100, 100, &[])?;
     let set = step(&mut machine, b"1 set 5 ok", &mut sink);
     let quit = step(&mut machine, b"sys quit", &mut sink);
-    assert!(rt; matches!(set, Stepped::Next) && matches!(quit, Stepped::Quit));
-    assert!(rt; machine.space.find(1).is_some() && sink.bytes() == b"ok\nok\n".as_slice());
+    let lives = machine.space.find(1).is_some();
+    Ok(lives && went(set, quit) && sink.bytes() == b"ok\nok\n".as_slice())
+}
+
+#[test]
+fn a_line_is_one_step(rt: HostRuntime) -> Result<(), Fail> {
+    assert!(rt; steps(rt.alloc())?);
     Ok(())
 }

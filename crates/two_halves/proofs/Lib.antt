@@ -2,4 +2,4 @@ pub mod Standing
 mod Moved
 pub mod Collected
 mod Coming
-mod Queued
+pub mod Queued

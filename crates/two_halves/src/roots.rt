@@ -1,4 +1,4 @@
-// Moving what the registers and the stacks of all processes name.
+// Moving what the registers, stacks and queues of all processes name.
 ghost use Rattle.std.specs.Prelude.{◌≡◌, ℕ, ◌+◌, ◌-◌, ◌*◌, ◌^◌, ◌<◌, ◌≤◌, length, slice_index};
 ghost use Rattle.cheney.specs.Plan.{Plan};
 ghost use Rattle.cheney.specs.Zones.{Marks};

@@ -121,7 +121,7 @@ impl WordMem {
         }
     }
 
-    // From the first word to the last, where the target begins below the source or behind its end.
+    // From the first word to the last, where the target does not begin above the source, or begins at or behind its end.
     #[inline]
     fn copy_up(&mut self, src: u64, dst: u64, n: u64)
         requires order { (dst ≤ src) ⊎ (src + n ≤ dst) }

@@ -1,50 +1,20 @@
 -- A memory laid out by hand, with an object of each kind: its words stand for trees.
-use Rattle.std.proofs.Common.{◌≡◌, ℕ, zero, suc, ◌+◌, ◌*◌, ◌/◌, ◌%◌, ◌<◌, ◌≤◌, ◌⊎◌, Bool, true, false, List, [], ◌∷◌, length, get_or, refl, sym, subst, arith, inl, inr, pos, lit≤, lit<, ◌==◌, ◌&&◌}
-use Rattle.std.proofs.lemmas.Bool.{eqb-true}
+use Rattle.std.proofs.Common.{◌≡◌, ℕ, ◌+◌, ◌≤◌, List, [], ◌∷◌, length, refl, sym, subst, inl, inr, pos, lit≤, lit<}
 use Rattle.word_tests.specs.Sample.{sample}
-use Rattle.plain_term.specs.Measures.{bin_words}
 use Rattle.plain_term.specs.Tree.{Tree}
 use Rattle.plain_term.specs.Tree.Tree.{Int, Atom, Ref, Nil, Cons, Tuple, Map, Bin, Shared, Part, Fun}
 use Rattle.plain_term.specs.Tree.Trees.{end, ◌▹◌}
 use Rattle.plain_term.specs.Tree.Pairs.{stop, pair}
 use Rattle.term_words.specs.Role.{always}
-use Rattle.term_words.specs.Object.{byte_of, BytesLie, IsObject}
+use Rattle.term_words.specs.Object.{IsObject}
 use Rattle.term_words.specs.Stands.{Stands, RowStands, KeysStand, ValuesStand, IsTerm}
+use Rattle.term_words.proofs.Placing.Tried.{all_hold, byte_lies, bytes-lie}
 
 pub lists : List (List ℕ)
 lists = (1 ∷ 2 ∷ []) ∷ []
 
 object : (p n : ℕ) → p + n ≤ length sample → IsObject always sample p n
 object p n inside = record { within = inside; first = refl; others = λ q above below. refl }
-
--- Bytes that lie are found by testing each.
-lie : List ℕ → ℕ → List ℕ → ℕ → Bool
-lie mem q bytes zero = true
-lie mem q bytes (suc k) = (byte_of (get_or mem (q + k / 8) 0) (k % 8) == get_or bytes k 0) && lie mem q bytes k
-
-both : (a b : Bool) → (a && b) ≡ true → (a ≡ true) × (b ≡ true)
-both true b h = (refl, h)
-both false b h = absurd (cc)
-
-order : (i k : ℕ) → i < suc k → (i ≡ k) ⊎ (i < k)
-order i k below = grind arith
-
-lies-below : (mem : List ℕ) (q : ℕ) (bytes : List ℕ) (n : ℕ) → lie mem q bytes n ≡ true → (i : ℕ) → i < n → byte_of (get_or mem (q + i / 8) 0) (i % 8) ≡ get_or bytes i 0
-unfolding lie
-lies-below mem q bytes zero h i below = absurd (omega arith)
-lies-below mem q bytes (suc k) h i below =
-    let (this, rest) = both (byte_of (get_or mem (q + k / 8) 0) (k % 8) == get_or bytes k 0) (lie mem q bytes k) h in
-    elim (order i k below) [
-      | inl same ↦ (let P : ℕ → Type 0 = λ x. byte_of (get_or mem (q + x / 8) 0) (x % 8) ≡ get_or bytes x 0 in subst P (sym same) (eqb-true _ _ this))
-      | inr less ↦ lies-below mem q bytes k rest i less
-    ]
-
-lies : (q : ℕ) (bytes : List ℕ) → lie sample q bytes (bin_words (length bytes) * 8) ≡ true → BytesLie sample q bytes
-lies q bytes h = record {
-  each = λ i a below place.
-      let P : ℕ → Type 0 = λ x. byte_of (get_or sample x 0) (i % 8) ≡ get_or bytes i 0 in
-      subst P (sym place) (lies-below sample q bytes (bin_words (length bytes) * 8) h i below);
-}
 
 pub the-list : Stands always lists sample 5 (Cons (Int (pos 1)) Nil)
 unfolding Stands
@@ -59,11 +29,11 @@ unfolding Stands RowStands
 the-empty = (record { range = lit≤ tt; boxed = record { tag = refl; header = refl; object = object 47 1 (lit≤ tt) } }, tt)
 
 pub the-bytes : Stands always lists sample 26 (Bin (7 ∷ 8 ∷ 9 ∷ []))
-unfolding Stands lie
-the-bytes = record { range = lit≤ tt; boxed = record { tag = refl; header = refl; object = object 6 3 (lit≤ tt) }; size = refl; content = lies 8 (7 ∷ 8 ∷ 9 ∷ []) refl }
+unfolding Stands all_hold byte_lies
+the-bytes = record { range = lit≤ tt; boxed = record { tag = refl; header = refl; object = object 6 3 (lit≤ tt) }; size = refl; content = bytes-lie sample 8 (7 ∷ 8 ∷ 9 ∷ []) refl }
 
 pub the-shared : Stands always lists sample 58 (Shared 1)
-unfolding Stands lie lists
+unfolding Stands all_hold byte_lies lists
 the-shared = record {
   from_one = lit< tt;
   known = lit≤ tt;
@@ -81,7 +51,17 @@ the-shared = record {
     fifth = refl;
     sixth = refl;
   };
-  record_is = record { within = lit≤ tt; header = refl; owner = refl; size = refl; content = lies 13 (1 ∷ 2 ∷ []) refl; first = refl; second = refl; counted = refl; others = λ q from below. refl };
+  record_is = record {
+    within = lit≤ tt;
+    header = refl;
+    owner = refl;
+    size = refl;
+    content = bytes-lie sample 13 (1 ∷ 2 ∷ []) refl;
+    first = refl;
+    second = refl;
+    counted = refl;
+    others = λ q from below. refl;
+  };
 }
 
 pub the-part : Stands always lists sample 82 (Part (Shared 1) 1 1)

@@ -1,6 +1,7 @@
 // Words of terms and layouts of objects, written out by hand.
 use term_tags::{
-    Kind, Layout, atom, boxed_at, head_of, kind_of, layout_of, list_at, nil, pid, small,
+    Kind, Layout, atom, boxed_at, head_of, is_pointer, kind_of, layout_of, list_at, nil, pid,
+    small, traced_from,
 };
 
 // Words of each kind up to the last of its range, and at the end those of no kind: a port, a catch, a second nil, and what is
@@ -113,10 +114,30 @@ const LAYOUTS: [(u64, Option<(u64, u64, u64)>); 18] = [
     (22, None),
 ];
 
+// Whether the layout is this, and the first traced word that of the layout, where there is one.
+fn is_laid(header: u64, shape: Option<(u64, u64, u64)>) -> bool {
+    let told = layout_of(header).map(|l: Layout| (l.words, l.first, l.count));
+    if told != shape {
+        return false;
+    }
+    match shape {
+        Some((_, first, _)) => traced_from(header) == first,
+        None => true,
+    }
+}
+
 #[test]
 fn layouts_are_those_of_the_table(rt: HostRuntime) {
     for (header, shape) in &LAYOUTS {
-        let told = layout_of(*header).map(|l: Layout| (l.words, l.first, l.count));
-        assert!(rt; told == *shape);
+        assert!(rt; is_laid(*header, *shape));
     }
+}
+
+fn pointers_are_known() -> bool {
+    !is_pointer(28) && is_pointer(29) && is_pointer(30) && !is_pointer(31)
+}
+
+#[test]
+fn pointers_are_told_from_other_words(rt: HostRuntime) {
+    assert!(rt; pointers_are_known());
 }

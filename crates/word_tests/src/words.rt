@@ -41,3 +41,29 @@ fn a_new_memory_is_written_and_copied(rt: HostRuntime) -> Result<(), Fail> {
     }
     Ok(())
 }
+
+// Whether the words 1 to n are copied to the places right behind them.
+fn copies_behind(alloc: Global, n: u64) -> Result<bool, Fail>
+    requires some { 1 ≤ n }
+    requires few { n ≤ 100 }
+{
+    let mut mem = WordMem::new(alloc, 2 * n)?;
+    for at in 0..n {
+        mem.set(at, at + 1);
+    }
+    mem.copy_apart(0, n, n);
+    for at in 0..n {
+        if mem.get(at) != at + 1 || mem.get(n + at) != at + 1 {
+            return Ok(false);
+        }
+    }
+    Ok(true)
+}
+
+#[test]
+fn words_are_copied_to_places_apart(rt: HostRuntime) -> Result<(), Fail> {
+    for n in &[8, 9] {
+        assert!(rt; copies_behind(rt.alloc(), *n)?);
+    }
+    Ok(())
+}

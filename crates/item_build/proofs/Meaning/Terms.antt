@@ -1,5 +1,5 @@
 -- The items of a written term read as its tree, or as none where the term is wide; they have a big key where it has one.
-use Rattle.std.proofs.Common.{◌≡◌, ℕ, zero, suc, ◌+◌, ◌-◌, ◌*◌, ◌≤◌, ◌||◌, ◌&&◌, not, nat_lt, nat_le, if◌then◌else◌, Bool, true, false, List, [], ◌∷◌, ◌++◌, length, map, slice_index_or, length-append, take, drop, Option, Some, None, refl, sym, ◌∙◌, ap, subst, append_assoc, arith}
+use Rattle.std.proofs.Common.{◌≡◌, ℕ, zero, suc, ◌+◌, ◌-◌, ◌*◌, ◌≤◌, ◌||◌, ◌&&◌, not, nat_le, if◌then◌else◌, Bool, true, false, List, [], ◌∷◌, ◌++◌, length, map, slice_index_or, length-append, take, drop, Option, Some, None, refl, sym, ◌∙◌, ap, subst, append_assoc, arith}
 use Rattle.plain_term.specs.declared.item.Item.{Item}
 use Rattle.plain_term.specs.declared.item.Item.TheVariants as item
 use Rattle.plain_term.specs.Tree.{Tree, Trees, Pairs}
@@ -18,7 +18,7 @@ use Rattle.plain_machine.specs.Flaws.{is_wide, are_wide, are_wide_pairs, is_big,
 use Rattle.item_build.specs.Reading.{all_of, bin_of_items, bins_of, bytes_in, has_big_key, is_byte, long_bins, map_of, paired, parts_after, put_first, read, tree_where}
 use Rattle.item_build.specs.Reading.{has_big_item, is_big_key}
 use Rattle.plain_term.proofs.Known.{Knows, KnowsPairs, knows-beyond, knows-in-order}
-use Rattle.item_build.proofs.Meaning.Growing.{binned, binned-is, bytes-no-longs, bytes-taken, long-flip, longs-are, made, made-listed, made-all, made-pairs, grows, all-grow, pairs-grow, term-knows, pairs-known}
+use Rattle.item_build.proofs.Meaning.Growing.{binned, binned-is, bytes-no-longs, bytes-taken, long-flip, longs-are, made, made-listed, made-pairs, grows, all-grow, pairs-grow, term-knows, pairs-known}
 
 -- A tree, or none where it is wide.
 abbrev pub mark : Bool → Tree → Option Tree

@@ -1,30 +1,28 @@
 -- A term built after its long binaries: what all of it leaves.
-use Rattle.std.proofs.Common.{◌≡◌, ℕ, suc, ◌+◌, ◌-◌, ◌*◌, ◌<◌, ◌≤◌, ◌⊎◌, if◌then◌else◌, Bool, true, false, List, [], ◌∷◌, ◌++◌, length, get_or, slice_index_or, Option, Some, None, Ok, Err, refl, sym, ◌∙◌, ap, subst, arith, inl, inr, length-append}
+use Rattle.std.proofs.Common.{◌≡◌, ℕ, suc, ◌+◌, ◌-◌, ◌*◌, ◌<◌, ◌≤◌, if◌then◌else◌, Bool, true, false, List, [], ◌∷◌, ◌++◌, length, get_or, slice_index_or, Option, Some, None, Ok, Err, refl, sym, ◌∙◌, subst, arith, inl, inr, length-append}
 use Rattle.word_mem.specs.declared.ranges.Room.{Room}
 use Rattle.plain_term.specs.declared.item.Item.{Item}
 use Rattle.plain_term.specs.Tree.{Tree}
 use Rattle.plain_term.specs.Tree.Tree.{Nil, Shared}
 use Rattle.term_tags.specs.Words.{boxed_word}
-use Rattle.term_words.specs.Role.{NEXT, RECORD_FIRST, IsContent, OfObject, OfRecord}
+use Rattle.term_words.specs.Role.{NEXT, RECORD_FIRST, OfObject, OfRecord}
 use Rattle.term_words.specs.Object.{IsRecord}
 use Rattle.term_words.specs.Stands.{Stands}
-use Rattle.term_words.specs.Kept.{Kept, Keeps}
+use Rattle.term_words.specs.Kept.{Kept}
 use Rattle.term_words.proofs.Framing.Frames.{frame}
 use Rattle.term_words.proofs.ByKind.Inside.{record-inside}
 use Rattle.term_words.proofs.Placing.Roles.{record-role}
 use Rattle.term_build.specs.Taken.{IsFree}
 use Rattle.term_build.specs.Grows.{Grows, IsPlain}
-use Rattle.term_build.specs.Clear.{IsRoom, Uses}
-use Rattle.shared_rec.specs.Record.{count_in}
-use Rattle.off_heap_list.specs.Links.{Links}
+use Rattle.term_build.specs.Clear.{IsRoom}
 use Rattle.item_build.specs.declared.bins.Making.{Making}
 use Rattle.item_build.specs.declared.building.BuildStop.TheVariants.{Big, Size}
-use Rattle.item_build.specs.Reading.{AreLed, AreWhole, bins_of, far_words_of, long_bins, own_words_of, unless_wide, item_words_of}
-use Rattle.item_build.specs.Building.{AreMarks, BinsStand, BuildsTerm, CanRead, HasHeld, HeldStand, IsNewBin, Laid, LaidBins, LeavesRoom, MadeTree, MarksBuilt, Spares, UsesSome, holders_from}
+use Rattle.item_build.specs.Reading.{AreLed, AreWhole, bins_of, long_bins, unless_wide}
+use Rattle.item_build.specs.Building.{AreMarks, BinsStand, BuildsTerm, HeldStand, IsNewBin, Laid, LaidBins, LeavesRoom, MarksBuilt, Spares, UsesSome, holders_from}
 use Rattle.item_build.proofs.Turned.Marks.{none-stands}
 use Rattle.term_words.proofs.Framing.Growing.{grow}
 use Rattle.item_build.proofs.Meaning.Growing.{longs-are}
-use Rattle.item_build.proofs.Meaning.Whole.{led-within, words-apart}
+use Rattle.item_build.proofs.Meaning.Whole.{led-within}
 use Rattle.item_build.proofs.Laid.Laying.{OldOrNew, links-grow, record-back, record-four}
 use Rattle.item_build.proofs.Laid.Chaining.{free-laid, new-bin-kept}
 

@@ -41,7 +41,7 @@ use Rattle.two_halves.specs.declared.halves.Halves.{Halves}
 use Rattle.two_halves.specs.declared.table.Proc.{Proc}
 use Rattle.two_halves.proofs.Standing.Stacks.{no_row}
 use Rattle.one_space.specs.One.{HaveMade, Holds, IsCounted, OneStands, Sits, number_in, words_of}
-use Rattle.one_space.specs.Doing.{AsksAlone, AsksToSend, AsksWhere, Does, IsSentAlone}
+use Rattle.one_space.specs.Doing.{AsksForMessage, AsksToSend, AsksWhere, Does, IsSentAlone}
 use Rattle.one_space.specs.Telling.{IsHeld}
 use Rattle.one_space.specs.declared.one.One.{One}
 use Rattle.one_space.proofs.Calls.Acting.{after, counts-same, numbers-row}
@@ -278,11 +278,11 @@ module _ (b : One) (holds : Holds b) (seat : Seat) (x : Sits b seat) (r : Reg) (
         send-lacks lacking = refused-does b holds g h ok room lacking (Unit {0}) (OfProcess seat.pid v) g (omega (arith, g_is)) (λ s terms names o.
             (grow-there s terms names o, (inl (omega arith, some-process b holds seat x s o), gets-there s terms names o)))
 
-        asks-live : (s : State) (p : Process) → OneStands b s → process_of seat.pid s ≡ Some p → (b2 : One) (res : Result (Unit {0}) Refusal) → AsksAlone g n b b2 res
+        asks-live : (s : State) (p : Process) → OneStands b s → process_of seat.pid s ≡ Some p → (b2 : One) (res : Result (Unit {0}) Refusal) → AsksForMessage g n b b2 res
             → AsksToSend {A = Unit {0}} (receiver to p) s (register r.0 p) b b2 res
         asks-live s p o found b2 res a =
             let P : Bool → Type 0 = λ z. AsksWhere {A = Unit {0}} z (8 + flat (tree s)) n b b2 res in
-            let Q : ℕ → Type 0 = λ z. AsksAlone {A = Unit {0}} z n b b2 res in
+            let Q : ℕ → Type 0 = λ z. AsksForMessage {A = Unit {0}} z n b b2 res in
             asks-at s p o found b2 res (subst P (sym (live-there s o)) (subst Q (g-there s o) a))
 
         pub lacks-asks : ok ≡ false → (s : State) (p : Process) → OneStands b s → process_of seat.pid s ≡ Some p

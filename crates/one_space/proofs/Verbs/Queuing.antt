@@ -4,7 +4,7 @@ use Rattle.std.proofs.Common.{Result, Ok, Err, OnOk, OnErr, refl, sym, ◌∙◌
 use Rattle.std.specs.Prelude.{IsErr}
 use Rattle.std.proofs.lemmas.List.{get_or-map, length-map}
 use Rattle.line_io.specs.Faults.{Rose}
-use Rattle.line_io.specs.Sink.{Grew, Writes, WritesCounted}
+use Rattle.line_io.specs.Sink.{Grew, Writes, WritesTold}
 use Rattle.text_parts.proofs.Writing.{written-as}
 use Rattle.reply_text.specs.Texts.{divider}
 use Rattle.counts_text.proofs.Listed.{entry_at, entries-begin, entries-done, entries-more, entries-stop}
@@ -40,12 +40,12 @@ use Rattle.one_space.proofs.Processes.Within.{within-at}
 
 -- A call that says apart what it wrote says so at once.
 pub said-at-once : {K E : Type 0} (wrote : K → List ℕ → Type 0) (faults : K → ℕ) (old new : K) (x : List ℕ) (r : Result (Unit {0}) E) → Writes wrote old new r x → faults old ≤ faults new
-    → OnErr r (Rose (faults old) (faults new)) → OnOk r (faults new ≡ faults old) → WritesCounted wrote faults old new x r
+    → OnErr r (Rose (faults old) (faults new)) → OnOk r (faults new ≡ faults old) → WritesTold wrote faults old new x r
 said-at-once wrote faults old new x (Ok u) w later rose told = record { all = w; part = tt; later = later; rose = rose; told = told }
 said-at-once wrote faults old new x (Err e) w later rose told = record { all = tt; part = w; later = later; rose = rose; told = told }
 
 -- What was said at once, said apart.
-pub said-apart : {K E : Type 0} (wrote : K → List ℕ → Type 0) (faults : K → ℕ) (old new : K) (x : List ℕ) (r : Result (Unit {0}) E) → WritesCounted wrote faults old new x r → Writes wrote old new r x
+pub said-apart : {K E : Type 0} (wrote : K → List ℕ → Type 0) (faults : K → ℕ) (old new : K) (x : List ℕ) (r : Result (Unit {0}) E) → WritesTold wrote faults old new x r → Writes wrote old new r x
 said-apart wrote faults old new x (Ok u) w = w.all
 said-apart wrote faults old new x (Err e) w = w.part
 
@@ -115,7 +115,7 @@ module _ {K : Type 0} (wrote : K → List ℕ → Type 0) (faults : K → ℕ) (
         record { shared = h.shared; tree = get_or h.trees i Nil; standing = subst P (sym is) m.standing; within = m.within; named = m.named_below }
 
     pub come-all : {E : Type 0} → waiting ≤ i → (shared : List (List ℕ)) (ts : List Tree) → AreMessages shared mem (length names) queue waiting ts
-        → WritesCounted {E = E} wrote faults start now (messages_text names shared ts) (Ok tt)
+        → WritesTold {E = E} wrote faults start now (messages_text names shared ts) (Ok tt)
     come-all over shared ts a =
         let k = c shared ts a in
         entries-done wrote faults start now (map (text names shared) ts) i (omega (arith, over, k.left.count, length-map ts (text names shared))) k.grew k.told
@@ -145,8 +145,8 @@ module _ {K : Type 0} (wrote : K → List ℕ → Type 0) (faults : K → ℕ) (
           }
 
       pub come-short : {E F : Type 0} (new : K) (f : E) (r : Result (Unit {0}) F) → IsErr r
-          → ((shared : List (List ℕ)) (t : Tree) → Stands always shared mem w t → WritesCounted wrote faults now new (divider (i == 0) ++ text names shared t) (Err f))
-          → (shared : List (List ℕ)) (ts : List Tree) → AreMessages shared mem (length names) queue waiting ts → WritesCounted wrote faults start new (messages_text names shared ts) r
+          → ((shared : List (List ℕ)) (t : Tree) → Stands always shared mem w t → WritesTold wrote faults now new (divider (i == 0) ++ text names shared t) (Err f))
+          → (shared : List (List ℕ)) (ts : List Tree) → AreMessages shared mem (length names) queue waiting ts → WritesTold wrote faults start new (messages_text names shared ts) r
       come-short new f r failed wrote_here shared ts a =
           let k = c shared ts a in
           let e = entry shared ts k in
@@ -183,7 +183,7 @@ module _ (b : One) (counts : IsCounted b) (seat : Seat) (x : Sits b seat) (p : P
 
   -- What was written is the reply of `queue`.
   pub queue-writes : {K E : Type 0} (wrote : K → List ℕ → Type 0) (faults : K → ℕ) (old new : K) (r : Result (Unit {0}) E)
-      → ((shared : List (List ℕ)) (ts : List Tree) → AreMessages shared b.halves.mem (length names) p.queue p.waiting ts → WritesCounted wrote faults old new (whole_text names shared ts) r)
+      → ((shared : List (List ℕ)) (ts : List Tree) → AreMessages shared b.halves.mem (length names) p.queue p.waiting ts → WritesTold wrote faults old new (whole_text names shared ts) r)
       → (s : State) (terms : Terms) → OneStands b s → WritesReply (step s (said (OfProcess seat.pid verb.Queue) terms names)) wrote old new r
   queue-writes wrote faults old new r written s terms o =
       let q : Process = get_or s.processes seat.row no_process in

@@ -1,5 +1,5 @@
 use Rattle.std.proofs.Common.{◌≡◌, ◌+◌, ◌-◌, ◌<◌, ◌++◌, length, take, drop, slice_range, refl, sym, ap, subst, ◌∙◌, arith, append_assoc}
-use Rattle.line_io.specs.Reader.{CutBy, HasCut, IsOpen, answer_at, held}
+use Rattle.line_io.specs.Reader.{CutBy, HasCut, IsOpen, held}
 use Rattle.line_io.proofs.Ranges.{range-kept, written-over}
 use Rattle.line_io.proofs.Steps.{faults-by, length-held}
 use Rattle.line_io.proofs.Loop.{Gave-append, Gave-end, reads-of, reads-again}
@@ -94,63 +94,3 @@ returns-in-Failed-clause-reads g c = λ bytes given h.
     let line : 0 < length (held m) → 0 < m.lines_left = λ some. me.line (omega (arith, some, length-held m)) in
     reads-of _ _ _ (g.S.Source.left c.fill.new.source) _ bytes t.0 given limits (Gave-end _ _ _ t.0 t.1 c.in-Failed.ensures.bytes)
     (record { here = faults-by m.stop m.limits m.long m.lines_left m.bytes_left (held m) (bytes ++ t.0) given going me.open line at_start }) refl
-
-pub returns-in-Some-ready-clause-fault : goal.returns-in-Some-ready-clause-fault
-returns-in-Some-ready-clause-fault g c = λ e. absurd (c.in-Some-ready.ensures.some.no_fault_now e)
-
-pub returns-in-Some-ready-clause-told : goal.returns-in-Some-ready-clause-told
-returns-in-Some-ready-clause-told g c = λ e. c.reading.invariant.no_fault
-
-pub returns-in-Some-ready-clause-faulted : goal.returns-in-Some-ready-clause-faulted
-returns-in-Some-ready-clause-faulted g c = λ e. absurd (c.in-Some-ready.ensures.some.no_fault (ap answer_at e))
-
-pub returns-in-Some-ready-clause-later : goal.returns-in-Some-ready-clause-later
-returns-in-Some-ready-clause-later g c = omega (arith, c.reading.invariant.no_fault)
-
-pub returns-in-Some-ready-clause-settles : goal.returns-in-Some-ready-clause-settles
-returns-in-Some-ready-clause-settles g c = c.in-Some-ready.ensures.some.settles
-
-pub returns-in-Some-ready-clause-counted : goal.returns-in-Some-ready-clause-counted
-returns-in-Some-ready-clause-counted g c = c.in-Some-ready.ensures.some.counted ∙ c.reading.invariant.lines
-
-pub returns-in-Some-ready-clause-limits : goal.returns-in-Some-ready-clause-limits
-returns-in-Some-ready-clause-limits g c = c.in-Some-ready.ensures.some.limits ∙ c.reading.invariant.limits
-
-pub returns-in-End-clause-fault : goal.returns-in-End-clause-fault
-returns-in-End-clause-fault g c = λ e. absurd (c.last_line.ensures.no_fault e)
-
-pub returns-in-End-clause-told : goal.returns-in-End-clause-told
-returns-in-End-clause-told g c = λ n. c.in-End.ensures.told (λ e. cc) ∙ c.reading.invariant.no_fault
-
-pub returns-in-End-clause-later : goal.returns-in-End-clause-later
-returns-in-End-clause-later g c = omega (arith, c.in-End.ensures.later, c.reading.invariant.no_fault)
-
-pub returns-in-End-clause-settles : goal.returns-in-End-clause-settles
-returns-in-End-clause-settles g c = c.last_line.ensures.settles
-
-pub returns-in-End-clause-counted : goal.returns-in-End-clause-counted
-returns-in-End-clause-counted g c =
-    c.last_line.ensures.counted ∙ c.make_room.ensures.lines ∙ ap (λ w. w.lines_left) c.in_default-ready.ensures.same ∙ c.reading.invariant.lines
-
-pub returns-in-End-clause-limits : goal.returns-in-End-clause-limits
-returns-in-End-clause-limits g c =
-    c.last_line.ensures.limits ∙ c.make_room.ensures.limits ∙ ap (λ w. w.limits) c.in_default-ready.ensures.same ∙ c.reading.invariant.limits
-
-pub returns-in-Failed-clause-told : goal.returns-in-Failed-clause-told
-returns-in-Failed-clause-told g c = λ n. absurd (n refl)
-
-pub returns-in-Failed-clause-faulted : goal.returns-in-Failed-clause-faulted
-returns-in-Failed-clause-faulted g c = λ e. refl
-
-pub returns-in-Failed-clause-later : goal.returns-in-Failed-clause-later
-returns-in-Failed-clause-later g c = omega (arith, c.in-Failed.ensures.later, c.reading.invariant.no_fault)
-
-pub returns-in-Failed-clause-settles : goal.returns-in-Failed-clause-settles
-returns-in-Failed-clause-settles g c = refl
-
-pub returns-in-Failed-clause-counted : goal.returns-in-Failed-clause-counted
-returns-in-Failed-clause-counted g c =
-    omega (arith, c.make_room.ensures.lines, ap (λ w. w.lines_left) c.in_default-ready.ensures.same, c.reading.invariant.lines)
-
-pub returns-in-Failed-clause-limits : goal.returns-in-Failed-clause-limits
-returns-in-Failed-clause-limits g c = c.make_room.ensures.limits ∙ ap (λ w. w.limits) c.in_default-ready.ensures.same ∙ c.reading.invariant.limits

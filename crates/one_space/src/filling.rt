@@ -1,4 +1,4 @@
-// Binaries of equal bytes, parts of binaries, funs, and the text of `counts`.
+// Binaries of equal bytes, and funs.
 ghost use Rattle.std.specs.Prelude.{◌≡◌, ℕ, ◌+◌, ◌<◌, ◌≤◌, List, OnErr, length, max};
 ghost use Rattle.script_grammar.specs.declared.command.Command.TheVariants.{Process};
 ghost use Rattle.script_grammar.specs.declared.command.Verb.TheVariants as verb;
