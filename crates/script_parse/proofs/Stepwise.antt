@@ -7,4 +7,5 @@ pub mod TermSteps
 pub mod KeepsSteps
 pub mod GapSteps
 pub mod NumberSteps
+pub mod NumberRows
 pub mod AtomSteps

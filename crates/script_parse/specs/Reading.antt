@@ -1,6 +1,6 @@
 -- Reading from left to right: each function takes the rest of a line, and gives what it read with
 -- the rest after it, or nothing.
-use Rattle.std.specs.Prelude.{ℕ, zero, suc, ◌+◌, ◌-◌, ◌*◌, nat_eq, nat_le, Bool, true, false, not, ◌&&◌, ℤ, pos, negsuc, List, [], ◌∷◌, length, take, drop, Option, Some, None, cond, codes, if◌then◌else◌}
+use Rattle.std.specs.Prelude.{ℕ, zero, suc, ◌+◌, ◌-◌, ◌*◌, ◌%◌, nat_eq, nat_le, Bool, true, false, not, ◌&&◌, ℤ, pos, negsuc, List, [], ◌∷◌, length, take, drop, Option, Some, None, cond, codes, if◌then◌else◌}
 use Rattle.script_parse.specs.declared.numbers.TheConstants.{GREATEST, WIDEST, LAST_REGISTER, GREATEST_BYTE}
 use Rattle.script_grammar.specs.declared.limits.TheConstants.{LEVELS, MOST_HELD}
 use Rattle.atom_names.specs.declared.row.TheConstants.{LONGEST_NAME}
@@ -14,7 +14,7 @@ use Rattle.script_grammar.specs.declared.word.Word.{Word}
 use Rattle.script_grammar.specs.declared.word.Word.TheVariants as word
 use Rattle.script_grammar.specs.declared.word.SysWord.TheVariants as sys
 use Rattle.script_grammar.specs.declared.word.SysWord.{SysWord}
-use Rattle.script_grammar.specs.Written.Kind.{Slot, Count, Receiver, Title, Environment, Extent, Body}
+use Rattle.script_grammar.specs.Written.Kind.{Slot, Count, Receiver, Title, Environment, Extent, Body, Bodies}
 use Rattle.script_grammar.specs.declared.command.To.{To}
 use Rattle.script_grammar.specs.declared.command.To.TheVariants as to
 use Rattle.script_grammar.specs.declared.command.Depth.{Depth}
@@ -28,6 +28,8 @@ use Rattle.script_grammar.specs.Written.{Term}
 use Rattle.script_grammar.specs.Written.Term.{Int, Atom, Pid, Held}
 use Rattle.script_parse.specs.declared.forms.Form.{Form}
 use Rattle.script_parse.specs.declared.forms.Form.TheVariants as form
+use Rattle.script_parse.specs.declared.verbs.Numeric.{Numeric}
+use Rattle.script_parse.specs.declared.verbs.Numeric.TheVariants as numeric
 use Rattle.script_parse.specs.Forms.{all_forms, opening, closing, has_tail}
 use Rattle.script_parse.specs.Output.{Out, push, begun, led, ended, put, put_name, entered_number}
 
@@ -262,49 +264,69 @@ sys_row_of w = row (sys_kinds_of w) (sys_verb_with w)
 abbrev pub verb_run : Word → List ℕ → Out → Option (Verb × Out)
 verb_run w line o = cond (is_built w) (row_run (row_of w) line o) None
 
--- The verbs of a process that take a part of a term.
-abbrev pub takes_choice : Word → Bool
-takes_choice word.Hd = true
-takes_choice word.Tl = true
-takes_choice word.Elem = true
-takes_choice word.MapGet = true
-takes_choice word.Part = true
-takes_choice word.Env = true
-takes_choice _ = false
+-- The greatest number of an operand that is one.
+abbrev pub most_of : Numeric → ℕ
+most_of numeric.Slot = LAST_REGISTER
+most_of numeric.Count = GREATEST
+
+-- Its kind.
+abbrev pub kind_of : Numeric → Kind
+kind_of numeric.Slot = Slot
+kind_of numeric.Count = Count
+
+-- The numbers of a row of up to four of these, and nothing after them. Those past its end are 0.
+abbrev pub numbers_at : List Numeric → List ℕ → Option (ℕ × (ℕ × (ℕ × ℕ)))
+numbers_at [] line = cond (are_blanks line) (Some (0, (0, (0, 0)))) None
+numbers_at (k ∷ ks) line = then_read (spaced_at (number_at (most_of k)) line)
+    (λ r. then_read (numbers_at ks (r.1)) (λ n. Some (r.0, (n.0, (n.1.0, n.1.1.0)))))
+
+-- What such a number is in a command. Registers are below 256.
+abbrev pub argument_from : (k : Kind) → ℕ → ArgumentOf k
+argument_from Slot n = n % 256
+argument_from Count n = n
+argument_from Receiver n = to.Number n
+argument_from Title n = n
+argument_from Environment n = tt
+argument_from Extent n = Minor
+argument_from Body n = tt
+argument_from Bodies n = n
+
+-- The arguments of a row of up to four.
+abbrev pub arguments_from : (ks : List Kind) → ℕ × (ℕ × (ℕ × ℕ)) → Arguments ks
+arguments_from [] n = tt
+arguments_from (k ∷ ks) n = (argument_from k (n.0), arguments_from ks (n.1.0, (n.1.1.0, (n.1.1.1, 0))))
+
+-- The verb of a process that they make.
+abbrev pub verb_from : Word → ℕ × (ℕ × (ℕ × ℕ)) → Verb
+verb_from word.Set n = verb_with word.Set (arguments_from (kinds_of word.Set) n)
+verb_from w n = verb_with w (arguments_from (kinds_of w) n)
+
+-- The built verbs of a process whose operands are registers and numbers alone, at least one.
+abbrev pub takes_numbers : Word → Bool
+takes_numbers word.Hd = true
+takes_numbers word.Tl = true
+takes_numbers word.Elem = true
+takes_numbers word.MapGet = true
+takes_numbers word.MapPut = true
+takes_numbers word.Part = true
+takes_numbers word.Fill = true
+takes_numbers word.Env = true
+takes_numbers word.Ref = true
+takes_numbers word.Own = true
+takes_numbers word.MkTuple = true
+takes_numbers word.MkList = true
+takes_numbers word.Push = true
+takes_numbers word.Pop = true
+takes_numbers word.Recv = true
+takes_numbers word.Print = true
+takes_numbers word.Eq = true
+takes_numbers word.Cmp = true
+takes_numbers word.Flat = true
+takes_numbers _ = false
 
 -- One of these with the operands after it.
-abbrev pub choice_run : Word → List ℕ → Out → Option (Verb × Out)
-choice_run w line o = cond (takes_choice w) (row_run (row_of w) line o) None
-
--- The built verbs of a process that take several operands, none of them a term or a name.
-abbrev pub takes_several : Word → Bool
-takes_several word.MapPut = true
-takes_several word.Fill = true
-takes_several word.MkTuple = true
-takes_several word.MkList = true
-takes_several word.Send = true
-takes_several word.Eq = true
-takes_several word.Cmp = true
-takes_several w = takes_choice w
-
--- One of these with the operands after it.
-abbrev pub several_run : Word → List ℕ → Out → Option (Verb × Out)
-several_run w line o = cond (takes_several w) (row_run (row_of w) line o) None
-
--- The built verbs of a process that take one register, and those that take several operands, none of them a term or a name.
-abbrev pub takes_single : Word → Bool
-takes_single word.Ref = true
-takes_single word.Own = true
-takes_single word.Push = true
-takes_single word.Pop = true
-takes_single word.Recv = true
-takes_single word.Print = true
-takes_single word.Flat = true
-takes_single w = takes_several w
-
--- One of these with the operands after it.
-abbrev pub single_run : Word → List ℕ → Out → Option (Verb × Out)
-single_run w line o = cond (takes_single w) (row_run (row_of w) line o) None
+abbrev pub numbers_run : Word → List ℕ → Out → Option (Verb × Out)
+numbers_run w line o = cond (takes_numbers w) (row_run (row_of w) line o) None
 
 -- A verb of the system with the operands after it, where it is built.
 abbrev pub sys_verb_run : SysWord → List ℕ → Out → Option (SysVerb × Out)

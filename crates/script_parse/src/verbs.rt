@@ -1,13 +1,13 @@
 // The operands of each verb.
-ghost use Rattle.std.specs.Prelude.{◌≡◌, ℕ, ◌+◌, ◌≤◌, ◌<◌, Bool, true, false, List, [], ◌∷◌, length, MatchOption, Some, None};
+ghost use Rattle.std.specs.Prelude.{◌≡◌, ℕ, ◌+◌, ◌≤◌, ◌<◌, Bool, true, false, List, [], ◌∷◌, length, MatchOption, Some, None, map};
 ghost use Rattle.script_grammar.specs.Names.{Arguments};
-ghost use Rattle.script_grammar.specs.Written.{Kind};
+ghost use Rattle.script_grammar.specs.Written.{Kind, kinds_of};
 ghost use Rattle.script_grammar.specs.Written.Kind.{Slot, Count, Receiver, Title, Environment, Extent, Body};
 ghost use Rattle.script_grammar.specs.declared.limits.TheConstants.{MOST_HELD};
 ghost use Rattle.script_parse.specs.declared.buffer.TheConstants.{MOST_ITEMS};
 ghost use Rattle.script_parse.specs.declared.numbers.TheConstants.{GREATEST, LAST_REGISTER};
 ghost use Rattle.script_parse.specs.Output.{Out, given, OutputGrows};
-ghost use Rattle.script_parse.specs.Reading.{extent_at, held_at, held_run, number_at, receiver_at, spaced_at, title_run, row, row_run, choice_run, several_run, single_run, verb_run, named_run, process_run, sys_verb_run, sys_named_run, system_run};
+ghost use Rattle.script_parse.specs.Reading.{extent_at, held_at, held_run, number_at, receiver_at, spaced_at, title_run, row, row_run, most_of, kind_of, numbers_at, takes_numbers, verb_from, numbers_run, verb_run, named_run, process_run, sys_verb_run, sys_named_run, system_run};
 
 use crate::atoms::atom;
 use crate::blanks::{after_byte, after_text, ends, first, gap, skip, word_len};
@@ -20,6 +20,13 @@ use script_grammar::{
     Depth, LEVELS, MOST_HELD, Pick, Reg, Shape, SysVerb, SysWord, To, Verb, Word,
 };
 
+/// An operand of a row that is one number.
+#[derive(Clone, Copy)]
+enum Numeric {
+    Slot,
+    Count,
+}
+
 /// A blank and a register.
 fn register(line: &[u8]) -> Option<(Reg, &[u8])>
     ensures value { MatchOption result (spaced_at (number_at LAST_REGISTER) line.now ≡ None)
@@ -29,16 +36,6 @@ fn register(line: &[u8]) -> Option<(Reg, &[u8])>
     let rest = gap(line)?;
     let (n, rest) = number(skip(rest), LAST_REGISTER)?;
     Some((Reg(n as u8), rest))
-}
-
-/// A blank and a number.
-fn count(line: &[u8]) -> Option<(u64, &[u8])>
-    ensures value { MatchOption result (spaced_at (number_at GREATEST) line.now ≡ None)
-        (λ r. spaced_at (number_at GREATEST) line.now ≡ Some (r.0, r.1.now)) }
-    ensures shorter { MatchOption result (Unit {0}) (λ r. length r.1.now ≤ length line.now) }
-{
-    let rest = gap(line)?;
-    number(skip(rest), GREATEST)
 }
 
 /// A blank and a name, by its number.
@@ -117,109 +114,31 @@ fn none(line: &[u8]) -> Option<()>
     if ends(line) { Some(()) } else { None }
 }
 
-/// A register, and nothing more.
-#[tactic(auto, unfolding(crate::specs::Reading::row_run))]
-fn slot(line: &[u8]) -> Option<Reg>
-    ensures value { (o : Out) (f : Arguments (Slot ∷ []) → Verb) → MatchOption result (row_run (row (Slot ∷ []) f) line.now o ≡ None)
-        (λ r. row_run (row (Slot ∷ []) f) line.now o ≡ Some (f (r.0, tt), o)) }
+/// A number of a row, by what it counts.
+fn spaced_number(kind: Numeric, line: &[u8]) -> Option<(u64, &[u8])>
+    ensures value { MatchOption result (spaced_at (number_at (most_of kind)) line.now ≡ None)
+        (λ r. spaced_at (number_at (most_of kind)) line.now ≡ Some (r.0, r.1.now)) }
+    ensures shorter { MatchOption result (Unit {0}) (λ r. length r.1.now ≤ length line.now) }
 {
-    let (r, rest) = register(line)?;
-    if ends(rest) { Some(r) } else { None }
+    let rest = skip(gap(line)?);
+    match kind {
+        Numeric::Slot => number(rest, LAST_REGISTER),
+        Numeric::Count => number(rest, GREATEST),
+    }
 }
 
-/// Two registers, and nothing more.
-fn two_slots(line: &[u8]) -> Option<(Reg, Reg)>
-    ensures value { (o : Out) (f : Arguments (Slot ∷ Slot ∷ []) → Verb) → MatchOption result (row_run (row (Slot ∷ Slot ∷ []) f) line.now o ≡ None)
-        (λ r. row_run (row (Slot ∷ Slot ∷ []) f) line.now o ≡ Some (f (r.0.0, (r.1.0, tt)), o)) }
+/// The numbers of a row of up to four, and nothing more. Those past its end are 0.
+fn numbers(kinds: &[Numeric], line: &[u8]) -> Option<(u64, u64, u64, u64)>
+    ensures { MatchOption result (numbers_at kinds.now line.now ≡ None) (λ n. numbers_at kinds.now line.now ≡ Some (n.0, (n.1, (n.2, n.3)))) }
 {
-    let (r, rest) = register(line)?;
-    let s = slot(rest)?;
-    Some((r, s))
-}
-
-/// Three registers, and nothing more.
-fn three_slots(line: &[u8]) -> Option<(Reg, Reg, Reg)>
-    ensures value { (o : Out) (f : Arguments (Slot ∷ Slot ∷ Slot ∷ []) → Verb)
-        → MatchOption result (row_run (row (Slot ∷ Slot ∷ Slot ∷ []) f) line.now o ≡ None)
-        (λ r. row_run (row (Slot ∷ Slot ∷ Slot ∷ []) f) line.now o ≡ Some (f (r.0.0, (r.1.0, (r.2.0, tt))), o)) }
-{
-    let (r, rest) = register(line)?;
-    let (s, t) = two_slots(rest)?;
-    Some((r, s, t))
-}
-
-/// Four registers, and nothing more.
-fn four_slots(line: &[u8]) -> Option<(Reg, Reg, Reg, Reg)>
-    ensures value { (o : Out) (f : Arguments (Slot ∷ Slot ∷ Slot ∷ Slot ∷ []) → Verb)
-        → MatchOption result (row_run (row (Slot ∷ Slot ∷ Slot ∷ Slot ∷ []) f) line.now o ≡ None)
-        (λ r. row_run (row (Slot ∷ Slot ∷ Slot ∷ Slot ∷ []) f) line.now o ≡ Some (f (r.0.0, (r.1.0, (r.2.0, (r.3.0, tt)))), o)) }
-{
-    let (r, rest) = register(line)?;
-    let (s, t, u) = three_slots(rest)?;
-    Some((r, s, t, u))
-}
-
-/// A number and a register, and nothing more.
-fn count_slot(line: &[u8]) -> Option<(u64, Reg)>
-    ensures value { (o : Out) (f : Arguments (Count ∷ Slot ∷ []) → Verb) → MatchOption result (row_run (row (Count ∷ Slot ∷ []) f) line.now o ≡ None)
-        (λ r. row_run (row (Count ∷ Slot ∷ []) f) line.now o ≡ Some (f (r.0, (r.1.0, tt)), o)) }
-{
-    let (n, rest) = count(line)?;
-    let s = slot(rest)?;
-    Some((n, s))
-}
-
-/// A register, a number and a register, and nothing more.
-fn slot_count_slot(line: &[u8]) -> Option<(Reg, u64, Reg)>
-    ensures value { (o : Out) (f : Arguments (Slot ∷ Count ∷ Slot ∷ []) → Verb)
-        → MatchOption result (row_run (row (Slot ∷ Count ∷ Slot ∷ []) f) line.now o ≡ None)
-        (λ r. row_run (row (Slot ∷ Count ∷ Slot ∷ []) f) line.now o ≡ Some (f (r.0.0, (r.1, (r.2.0, tt))), o)) }
-{
-    let (r, rest) = register(line)?;
-    let (n, s) = count_slot(rest)?;
-    Some((r, n, s))
-}
-
-/// A number, and nothing more.
-#[tactic(auto, unfolding(crate::specs::Reading::row_run))]
-fn last_count(line: &[u8]) -> Option<u64>
-    ensures value { (o : Out) (f : Arguments (Count ∷ []) → Verb) → MatchOption result (row_run (row (Count ∷ []) f) line.now o ≡ None)
-        (λ r. row_run (row (Count ∷ []) f) line.now o ≡ Some (f (r, tt), o)) }
-{
-    let (n, rest) = count(line)?;
-    if ends(rest) { Some(n) } else { None }
-}
-
-/// Two numbers, and nothing more.
-fn two_counts(line: &[u8]) -> Option<(u64, u64)>
-    ensures value { (o : Out) (f : Arguments (Count ∷ Count ∷ []) → Verb) → MatchOption result (row_run (row (Count ∷ Count ∷ []) f) line.now o ≡ None)
-        (λ r. row_run (row (Count ∷ Count ∷ []) f) line.now o ≡ Some (f (r.0, (r.1, tt)), o)) }
-{
-    let (n, rest) = count(line)?;
-    let m = last_count(rest)?;
-    Some((n, m))
-}
-
-/// A register and two numbers, and nothing more.
-fn slot_two_counts(line: &[u8]) -> Option<(Reg, u64, u64)>
-    ensures value { (o : Out) (f : Arguments (Slot ∷ Count ∷ Count ∷ []) → Verb)
-        → MatchOption result (row_run (row (Slot ∷ Count ∷ Count ∷ []) f) line.now o ≡ None)
-        (λ r. row_run (row (Slot ∷ Count ∷ Count ∷ []) f) line.now o ≡ Some (f (r.0.0, (r.1, (r.2, tt))), o)) }
-{
-    let (r, rest) = register(line)?;
-    let (n, m) = two_counts(rest)?;
-    Some((r, n, m))
-}
-
-/// Two registers and two numbers, and nothing more.
-fn two_slots_two_counts(line: &[u8]) -> Option<(Reg, Reg, u64, u64)>
-    ensures value { (o : Out) (f : Arguments (Slot ∷ Slot ∷ Count ∷ Count ∷ []) → Verb)
-        → MatchOption result (row_run (row (Slot ∷ Slot ∷ Count ∷ Count ∷ []) f) line.now o ≡ None)
-        (λ r. row_run (row (Slot ∷ Slot ∷ Count ∷ Count ∷ []) f) line.now o ≡ Some (f (r.0.0, (r.1.0, (r.2, (r.3, tt)))), o)) }
-{
-    let (r, rest) = register(line)?;
-    let (s, n, m) = slot_two_counts(rest)?;
-    Some((r, s, n, m))
+    match kinds {
+        [] => if ends(line) { Some((0, 0, 0, 0)) } else { None },
+        [kind, more @ ..] => {
+            let (a, rest) = spaced_number(*kind, line)?;
+            let (b, c, d, _) = numbers(more, rest)?;
+            Some((a, b, c, d))
+        }
+    }
 }
 
 /// A register, a name, a number and an environment, and nothing more. The environment's registers go last.
@@ -233,7 +152,7 @@ fn slot_title_count_held(line: &[u8], out: &mut Output) -> Option<(Reg, u64, u64
 {
     let (r, rest) = register(line)?;
     let (name, rest) = title(rest, out)?;
-    let (arity, rest) = count(rest)?;
+    let (arity, rest) = spaced_number(Numeric::Count, rest)?;
     let rest = environment(rest, out);
     if ends(rest) {
         Some((r, name, arity))
@@ -279,90 +198,66 @@ fn slot_body(line: &[u8], out: &mut Output) -> Option<Reg>
     if ends(rest) { Some(r) } else { None }
 }
 
-/// The operands of a verb of a process that takes a part of a term.
-fn choice(word: Word, line: &[u8]) -> Option<Verb>
-    ensures { (o : Out) → MatchOption result (choice_run word line.now o ≡ None) (λ v. choice_run word line.now o ≡ Some (v, o)) }
+/// The row of a verb of a process whose operands are registers and numbers alone.
+fn numerics(word: Word) -> Option<&'static [Numeric]>
+    ensures { MatchOption result (takes_numbers word ≡ false) (λ ks. (takes_numbers word ≡ true) × (map kind_of ks.now ≡ kinds_of word)) }
 {
     match word {
-        Word::Hd => {
-            let (r, s) = two_slots(line)?;
-            Some(Verb::Choose(r, s, Pick::Hd))
+        Word::Ref | Word::Own | Word::Push | Word::Pop | Word::Recv | Word::Print | Word::Flat => {
+            Some(&[Numeric::Slot])
         },
-        Word::Tl => {
-            let (r, s) = two_slots(line)?;
-            Some(Verb::Choose(r, s, Pick::Tl))
+        Word::Hd | Word::Tl | Word::Eq | Word::Cmp => Some(&[Numeric::Slot, Numeric::Slot]),
+        Word::MapGet => Some(&[Numeric::Slot, Numeric::Slot, Numeric::Slot]),
+        Word::MapPut => Some(&[Numeric::Slot, Numeric::Slot, Numeric::Slot, Numeric::Slot]),
+        Word::Elem | Word::Env | Word::MkTuple | Word::MkList => {
+            Some(&[Numeric::Slot, Numeric::Count, Numeric::Slot])
         },
-        Word::Elem => {
-            let (r, i, s) = slot_count_slot(line)?;
-            Some(Verb::Choose(r, s, Pick::Elem(i)))
-        },
-        Word::MapGet => {
-            let (r, s, k) = three_slots(line)?;
-            Some(Verb::Choose(r, s, Pick::MapGet(k)))
-        },
-        Word::Part => {
-            let (r, s, offset, len) = two_slots_two_counts(line)?;
-            Some(Verb::Choose(r, s, Pick::Part(offset, len)))
-        },
-        Word::Env => {
-            let (r, i, s) = slot_count_slot(line)?;
-            Some(Verb::Choose(r, s, Pick::Env(i)))
-        },
+        Word::Part => Some(&[Numeric::Slot, Numeric::Slot, Numeric::Count, Numeric::Count]),
+        Word::Fill => Some(&[Numeric::Slot, Numeric::Count, Numeric::Count]),
         _ => None,
     }
 }
 
-/// The operands of a verb of a process that takes several, none of them a term or a name.
-fn several(word: Word, line: &[u8]) -> Option<Verb>
-    ensures { (o : Out) → MatchOption result (several_run word line.now o ≡ None) (λ v. several_run word line.now o ≡ Some (v, o)) }
+/// The verb of a process that these numbers of its row make. A register is below 16, so that its byte is all of it.
+fn made(word: Word, n: (u64, u64, u64, u64)) -> Verb
+    requires { takes_numbers word ≡ true }
+    ensures { result ≡ verb_from word (n.0, (n.1, (n.2, n.3))) }
 {
+    let (a, b, c, d) = n;
+    let r = Reg((a % 256) as u8);
+    let s = Reg((b % 256) as u8);
+    let t = Reg((c % 256) as u8);
     match word {
-        Word::MapPut => {
-            let (r, s, k, v) = four_slots(line)?;
-            Some(Verb::MapPut(r, s, k, v))
-        },
-        Word::Fill => {
-            let (r, len, byte) = slot_two_counts(line)?;
-            Some(Verb::Fill(r, len, byte))
-        },
-        Word::MkTuple => {
-            let (r, n, s) = slot_count_slot(line)?;
-            Some(Verb::Repeat(r, Shape::Tuple, n, s))
-        },
-        Word::MkList => {
-            let (r, n, s) = slot_count_slot(line)?;
-            Some(Verb::Repeat(r, Shape::List, n, s))
-        },
-        Word::Send => {
-            let (r, to) = slot_receiver(line)?;
-            Some(Verb::Send(r, to))
-        },
-        Word::Eq => {
-            let (r, s) = two_slots(line)?;
-            Some(Verb::Eq(r, s))
-        },
-        Word::Cmp => {
-            let (r, s) = two_slots(line)?;
-            Some(Verb::Cmp(r, s))
-        },
-        _ => choice(word, line),
+        Word::Hd => Verb::Choose(r, s, Pick::Hd),
+        Word::Tl => Verb::Choose(r, s, Pick::Tl),
+        Word::Elem => Verb::Choose(r, t, Pick::Elem(b)),
+        Word::MapGet => Verb::Choose(r, s, Pick::MapGet(t)),
+        Word::MapPut => Verb::MapPut(r, s, t, Reg((d % 256) as u8)),
+        Word::Part => Verb::Choose(r, s, Pick::Part(c, d)),
+        Word::Fill => Verb::Fill(r, b, c),
+        Word::Env => Verb::Choose(r, t, Pick::Env(b)),
+        Word::Ref => Verb::Ref(r),
+        Word::Own => Verb::Own(r),
+        Word::MkTuple => Verb::Repeat(r, Shape::Tuple, b, t),
+        Word::MkList => Verb::Repeat(r, Shape::List, b, t),
+        Word::Push => Verb::Push(r),
+        Word::Pop => Verb::Pop(r),
+        Word::Recv => Verb::Recv(r),
+        Word::Print => Verb::Print(r),
+        Word::Eq => Verb::Eq(r, s),
+        Word::Cmp => Verb::Cmp(r, s),
+        Word::Flat => Verb::Flat(r),
+        _ => unreachable!(),
     }
 }
 
-/// The operand of a verb of a process that takes one register, or the operands of one that takes several.
-fn single(word: Word, line: &[u8]) -> Option<Verb>
-    ensures { (o : Out) → MatchOption result (single_run word line.now o ≡ None) (λ v. single_run word line.now o ≡ Some (v, o)) }
+/// The operands of a verb of a process that takes registers and numbers alone.
+fn numeric_verb(word: Word, line: &[u8]) -> Option<Verb>
+    ensures { (o : Out) → MatchOption result (numbers_run word line.now o ≡ None) (λ v. numbers_run word line.now o ≡ Some (v, o)) }
 {
-    match word {
-        Word::Ref => Some(Verb::Ref(slot(line)?)),
-        Word::Own => Some(Verb::Own(slot(line)?)),
-        Word::Push => Some(Verb::Push(slot(line)?)),
-        Word::Pop => Some(Verb::Pop(slot(line)?)),
-        Word::Recv => Some(Verb::Recv(slot(line)?)),
-        Word::Print => Some(Verb::Print(slot(line)?)),
-        Word::Flat => Some(Verb::Flat(slot(line)?)),
-        _ => several(word, line),
-    }
+    let kinds = numerics(word)?;
+    let n = numbers(kinds, line)?;
+    Some(made(word, n))
 }
 
 /// The operands of a verb of a process, by the table of what is built.
@@ -378,6 +273,10 @@ fn verb(word: Word, line: &[u8], out: &mut Output) -> Option<Verb>
             let (r, name, arity) = slot_title_count_held(line, out)?;
             Some(Verb::Fun(r, name, arity))
         },
+        Word::Send => {
+            let (r, to) = slot_receiver(line)?;
+            Some(Verb::Send(r, to))
+        },
         Word::Gc => Some(Verb::Gc(extent(line)?)),
         Word::Queue => {
             none(line)?;
@@ -387,7 +286,7 @@ fn verb(word: Word, line: &[u8], out: &mut Output) -> Option<Verb>
             none(line)?;
             Some(Verb::Exit)
         },
-        _ => single(word, line),
+        _ => numeric_verb(word, line),
     }
 }
 
