@@ -14,3 +14,18 @@ loop-preserved c = record {
   grown = grows-then c.args.out.now c.loop.out c.push.new.self c.loop.invariant.grown c.push.ensures.grown;
   room = grind (arith, common_steps);
 }
+
+pub loop-init : goal.loop-init
+loop-init c = grind (arith, common_steps)
+
+pub returns-in_default-clause-grown : goal.returns-in_default-clause-grown
+returns-in_default-clause-grown c = grind (arith, common_steps)
+
+pub push-requires : goal.push-requires
+push-requires c = grind (arith, common_steps)
+
+pub returns-clause-read : goal.returns-clause-read
+returns-clause-read c = grind (arith, common_steps)
+
+pub returns-clause-grown : goal.returns-clause-grown
+returns-clause-grown c = grind (arith, common_steps)

@@ -1,4 +1,5 @@
-use Rattle.std.proofs.Common.{refl}
+use Rattle.std.proofs.Common.{arith, refl}
+use Rattle.std.proofs.lemmas.Grind.{common_steps}
 use Rattle.script_parse.proofs.verbs.made.Goals as goal
 
 pub returns-in-Hd : goal.returns-in-Hd
@@ -57,3 +58,21 @@ returns-in-Cmp c = rw c.in-Cmp.is refl
 
 pub returns-in-Flat : goal.returns-in-Flat
 returns-in-Flat c = rw c.in-Flat.is refl
+
+pub overflow_cast-r : goal.overflow_cast-r
+overflow_cast-r c = grind (arith, common_steps)
+
+pub overflow_cast-s : goal.overflow_cast-s
+overflow_cast-s c = grind (arith, common_steps)
+
+pub overflow_cast-t : goal.overflow_cast-t
+overflow_cast-t c = grind (arith, common_steps)
+
+pub overflow_cast-result : goal.overflow_cast-result
+overflow_cast-result c = grind (arith, common_steps)
+
+pub unreachable-requires : goal.unreachable-requires
+unreachable-requires c = grind (arith, common_steps)
+
+pub unreachable-unreachable : goal.unreachable-unreachable
+unreachable-unreachable c = grind (arith, common_steps)

@@ -39,3 +39,9 @@ returns-else-ends-clause-read c = λ f. slot-more (Body ∷ []) f c.args.line.no
 
 pub returns-else-ends-clause-grown : goal.returns-else-ends-clause-grown
 returns-else-ends-clause-grown c = c.term.ensures.grown
+
+pub returns-in_err-r-clause-grown : goal.returns-in_err-r-clause-grown
+returns-in_err-r-clause-grown c = grind (arith, common_steps)
+
+pub returns-in_err-rest-clause-grown : goal.returns-in_err-rest-clause-grown
+returns-in_err-rest-clause-grown c = grind (arith, common_steps)

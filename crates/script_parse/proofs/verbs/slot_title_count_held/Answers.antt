@@ -53,3 +53,6 @@ returns-else-ends-clause-read c = λ f. slot-more (Title ∷ Count ∷ Environme
 
 pub returns-else-ends-clause-grown : goal.returns-else-ends-clause-grown
 returns-else-ends-clause-grown c = grows-then c.args.out.now c.title.new.out c.environment-rest.new.out c.title.ensures.grown c.environment-rest.ensures.grown
+
+pub returns-in_err-r-clause-grown : goal.returns-in_err-r-clause-grown
+returns-in_err-r-clause-grown c = grind (arith, common_steps)
