@@ -301,7 +301,7 @@ abbrev pub verb_from : Word → ℕ × (ℕ × (ℕ × ℕ)) → Verb
 verb_from word.Set n = verb_with word.Set (arguments_from (kinds_of word.Set) n)
 verb_from w n = verb_with w (arguments_from (kinds_of w) n)
 
--- The built verbs of a process whose operands are registers and numbers alone, at least one.
+-- The built verbs of a process whose operands, if any, are registers and numbers alone.
 abbrev pub takes_numbers : Word → Bool
 takes_numbers word.Hd = true
 takes_numbers word.Tl = true
@@ -322,6 +322,8 @@ takes_numbers word.Print = true
 takes_numbers word.Eq = true
 takes_numbers word.Cmp = true
 takes_numbers word.Flat = true
+takes_numbers word.Queue = true
+takes_numbers word.Exit = true
 takes_numbers _ = false
 
 -- One of these with the operands after it.

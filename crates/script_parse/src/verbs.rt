@@ -1,13 +1,12 @@
 // The operands of each verb.
-ghost use Rattle.std.specs.Prelude.{◌≡◌, ℕ, ◌+◌, ◌≤◌, ◌<◌, Bool, true, false, List, [], ◌∷◌, length, MatchOption, Some, None, map};
-ghost use Rattle.script_grammar.specs.Names.{Arguments};
-ghost use Rattle.script_grammar.specs.Written.{Kind, kinds_of};
-ghost use Rattle.script_grammar.specs.Written.Kind.{Slot, Count, Receiver, Title, Environment, Extent, Body};
+ghost use Rattle.std.specs.Prelude.{◌≡◌, ℕ, ◌+◌, ◌≤◌, ◌<◌, true, false, List, [], length, MatchOption, Some, None, map};
+ghost use Rattle.script_grammar.specs.Written.{kinds_of};
+ghost use Rattle.script_grammar.specs.Written.Kind.{Slot, Count};
 ghost use Rattle.script_grammar.specs.declared.limits.TheConstants.{MOST_HELD};
 ghost use Rattle.script_parse.specs.declared.buffer.TheConstants.{MOST_ITEMS};
 ghost use Rattle.script_parse.specs.declared.numbers.TheConstants.{GREATEST, LAST_REGISTER};
 ghost use Rattle.script_parse.specs.Output.{Out, given, OutputGrows};
-ghost use Rattle.script_parse.specs.Reading.{extent_at, held_at, held_run, number_at, receiver_at, spaced_at, title_run, row, row_run, most_of, kind_of, numbers_at, takes_numbers, verb_from, numbers_run, verb_run, named_run, process_run, sys_verb_run, sys_named_run, system_run};
+ghost use Rattle.script_parse.specs.Reading.{extent_at, held_at, held_run, number_at, receiver_at, spaced_at, title_run, row, row_run, most_of, kind_of, numbers_at, takes_numbers, verb_from, numbers_run, verb_run, process_run, sys_verb_run, system_run};
 
 use crate::atoms::atom;
 use crate::blanks::{after_byte, after_text, ends, first, gap, skip, word_len};
@@ -103,17 +102,6 @@ fn depth(line: &[u8]) -> Option<(Depth, &[u8])>
     Some((Depth::Major, rest))
 }
 
-/// No operand, and nothing more.
-#[tactic(auto, unfolding(crate::specs::Reading::row_run))]
-fn none(line: &[u8]) -> Option<()>
-    ensures process { (o : Out) (f : Arguments [] → Verb) → MatchOption result (row_run (row [] f) line.now o ≡ None)
-        (λ r. row_run (row [] f) line.now o ≡ Some (f tt, o)) }
-    ensures system { (o : Out) (f : Arguments [] → SysVerb) → MatchOption result (row_run (row [] f) line.now o ≡ None)
-        (λ r. row_run (row [] f) line.now o ≡ Some (f tt, o)) }
-{
-    if ends(line) { Some(()) } else { None }
-}
-
 /// A number of a row, by what it counts.
 fn spaced_number(kind: Numeric, line: &[u8]) -> Option<(u64, &[u8])>
     ensures value { MatchOption result (spaced_at (number_at (most_of kind)) line.now ≡ None)
@@ -141,13 +129,12 @@ fn numbers(kinds: &[Numeric], line: &[u8]) -> Option<(u64, u64, u64, u64)>
     }
 }
 
-/// A register, a name, a number and an environment, and nothing more. The environment's registers go last.
+/// A register, a name, a number and an environment, and nothing more: the register gets the fun. The environment's registers go last.
 #[tactic(auto, unfolding(crate::specs::Reading::row_run))]
-fn slot_title_count_held(line: &[u8], out: &mut Output) -> Option<(Reg, u64, u64)>
+fn slot_title_count_held(line: &[u8], out: &mut Output) -> Option<Verb>
     requires { length out.old.code.now + length line.now ≤ MOST_ITEMS }
-    ensures read { (f : Arguments (Slot ∷ Title ∷ Count ∷ Environment ∷ []) → Verb)
-        → MatchOption result (row_run (row (Slot ∷ Title ∷ Count ∷ Environment ∷ []) f) line.now (given out.old) ≡ None)
-        (λ r. row_run (row (Slot ∷ Title ∷ Count ∷ Environment ∷ []) f) line.now (given out.old) ≡ Some (f (r.0.0, (r.1, (r.2, (tt, tt)))), given out.new)) }
+    ensures read { MatchOption result (verb_run Word.Fun line.now (given out.old) ≡ None)
+        (λ v. verb_run Word.Fun line.now (given out.old) ≡ Some (v, given out.new)) }
     ensures grown { OutputGrows out.old out.new }
 {
     let (r, rest) = register(line)?;
@@ -155,47 +142,53 @@ fn slot_title_count_held(line: &[u8], out: &mut Output) -> Option<(Reg, u64, u64
     let (arity, rest) = spaced_number(Numeric::Count, rest)?;
     let rest = environment(rest, out);
     if ends(rest) {
-        Some((r, name, arity))
+        Some(Verb::Fun(r, name, arity))
     } else {
         None
     }
 }
 
-/// A register and a process, and nothing more.
+/// A register and a process, and nothing more: the process gets the register's term.
 #[tactic(auto, unfolding(crate::specs::Reading::row_run))]
-fn slot_receiver(line: &[u8]) -> Option<(Reg, To)>
-    ensures value { (o : Out) (f : Arguments (Slot ∷ Receiver ∷ []) → Verb) → MatchOption result (row_run (row (Slot ∷ Receiver ∷ []) f) line.now o ≡ None)
-        (λ r. row_run (row (Slot ∷ Receiver ∷ []) f) line.now o ≡ Some (f (r.0.0, (r.1, tt)), o)) }
+fn slot_receiver(line: &[u8]) -> Option<Verb>
+    ensures value { (o : Out) → MatchOption result (verb_run Word.Send line.now o ≡ None) (λ v. verb_run Word.Send line.now o ≡ Some (v, o)) }
 {
     let (r, rest) = register(line)?;
     let rest = gap(rest)?;
     let (to, rest) = receiver(skip(rest))?;
-    if ends(rest) { Some((r, to)) } else { None }
+    if ends(rest) {
+        Some(Verb::Send(r, to))
+    } else {
+        None
+    }
 }
 
-/// A depth of collection, and nothing more.
+/// A depth of collection, and nothing more: the process is collected so.
 #[tactic(auto, unfolding(crate::specs::Reading::row_run))]
-fn extent(line: &[u8]) -> Option<Depth>
-    ensures value { (o : Out) (f : Arguments (Extent ∷ []) → Verb) → MatchOption result (row_run (row (Extent ∷ []) f) line.now o ≡ None)
-        (λ r. row_run (row (Extent ∷ []) f) line.now o ≡ Some (f (r, tt), o)) }
+fn extent(line: &[u8]) -> Option<Verb>
+    ensures value { (o : Out) → MatchOption result (verb_run Word.Gc line.now o ≡ None) (λ v. verb_run Word.Gc line.now o ≡ Some (v, o)) }
 {
     let rest = gap(line)?;
     let (depth, rest) = depth(skip(rest))?;
-    if ends(rest) { Some(depth) } else { None }
+    if ends(rest) {
+        Some(Verb::Gc(depth))
+    } else {
+        None
+    }
 }
 
-/// A register and a term, and nothing more. The term goes last.
+/// A register and a term, and nothing more: the register gets the term. The term goes last.
 #[tactic(auto, unfolding(crate::specs::Reading::row_run))]
-fn slot_body(line: &[u8], out: &mut Output) -> Option<Reg>
+fn slot_body(line: &[u8], out: &mut Output) -> Option<Verb>
     requires { length out.old.code.now + length line.now ≤ MOST_ITEMS }
-    ensures read { (f : Arguments (Slot ∷ Body ∷ []) → Verb) → MatchOption result (row_run (row (Slot ∷ Body ∷ []) f) line.now (given out.old) ≡ None)
-        (λ r. row_run (row (Slot ∷ Body ∷ []) f) line.now (given out.old) ≡ Some (f (r.0, (tt, tt)), given out.new)) }
+    ensures read { MatchOption result (verb_run Word.Set line.now (given out.old) ≡ None)
+        (λ v. verb_run Word.Set line.now (given out.old) ≡ Some (v, given out.new)) }
     ensures grown { OutputGrows out.old out.new }
 {
     let (r, rest) = register(line)?;
     let rest = gap(rest)?;
     let rest = term(rest, LEVELS, out)?;
-    if ends(rest) { Some(r) } else { None }
+    if ends(rest) { Some(Verb::Set(r)) } else { None }
 }
 
 /// The row of a verb of a process whose operands are registers and numbers alone.
@@ -206,6 +199,7 @@ fn numerics(word: Word) -> Option<&'static [Numeric]>
         Word::Ref | Word::Own | Word::Push | Word::Pop | Word::Recv | Word::Print | Word::Flat => {
             Some(&[Numeric::Slot])
         },
+        Word::Queue | Word::Exit => Some(&[]),
         Word::Hd | Word::Tl | Word::Eq | Word::Cmp => Some(&[Numeric::Slot, Numeric::Slot]),
         Word::MapGet => Some(&[Numeric::Slot, Numeric::Slot, Numeric::Slot]),
         Word::MapPut => Some(&[Numeric::Slot, Numeric::Slot, Numeric::Slot, Numeric::Slot]),
@@ -247,6 +241,8 @@ fn made(word: Word, n: (u64, u64, u64, u64)) -> Verb
         Word::Eq => Verb::Eq(r, s),
         Word::Cmp => Verb::Cmp(r, s),
         Word::Flat => Verb::Flat(r),
+        Word::Queue => Verb::Queue,
+        Word::Exit => Verb::Exit,
         _ => unreachable!(),
     }
 }
@@ -268,37 +264,12 @@ fn verb(word: Word, line: &[u8], out: &mut Output) -> Option<Verb>
     ensures grown { OutputGrows out.old out.new }
 {
     match word {
-        Word::Set => Some(Verb::Set(slot_body(line, out)?)),
-        Word::Fun => {
-            let (r, name, arity) = slot_title_count_held(line, out)?;
-            Some(Verb::Fun(r, name, arity))
-        },
-        Word::Send => {
-            let (r, to) = slot_receiver(line)?;
-            Some(Verb::Send(r, to))
-        },
-        Word::Gc => Some(Verb::Gc(extent(line)?)),
-        Word::Queue => {
-            none(line)?;
-            Some(Verb::Queue)
-        },
-        Word::Exit => {
-            none(line)?;
-            Some(Verb::Exit)
-        },
+        Word::Set => slot_body(line, out),
+        Word::Fun => slot_title_count_held(line, out),
+        Word::Send => slot_receiver(line),
+        Word::Gc => extent(line),
         _ => numeric_verb(word, line),
     }
-}
-
-/// A verb of a process and its operands. The line begins with its word.
-fn named(line: &[u8], out: &mut Output) -> Option<Verb>
-    requires { length out.old.code.now + length line.now ≤ MOST_ITEMS }
-    ensures read { MatchOption result (named_run line.now (given out.old) ≡ None) (λ v. named_run line.now (given out.old) ≡ Some (v, given out.new)) }
-    ensures grown { OutputGrows out.old out.new }
-{
-    let n = word_len(line);
-    let word = verb_word(&line[..n])?;
-    verb(word, &line[n..], out)
 }
 
 /// A process line after its number.
@@ -307,8 +278,10 @@ pub(crate) fn process_verb(line: &[u8], out: &mut Output) -> Option<Verb>
     ensures read { MatchOption result (process_run line.now (given out.old) ≡ None) (λ v. process_run line.now (given out.old) ≡ Some (v, given out.new)) }
     ensures grown { OutputGrows out.old out.new }
 {
-    let rest = gap(line)?;
-    named(skip(rest), out)
+    let rest = skip(gap(line)?);
+    let n = word_len(rest);
+    let word = verb_word(&rest[..n])?;
+    verb(word, &rest[n..], out)
 }
 
 /// A verb of the system that is built. It has no operand.
@@ -327,27 +300,20 @@ fn alone(word: SysWord) -> Option<SysVerb>
 }
 
 /// A verb of the system, with nothing after it.
+#[tactic(auto, unfolding(crate::specs::Reading::row_run))]
 fn sys_verb(word: SysWord, line: &[u8]) -> Option<SysVerb>
     ensures { (o : Out) → MatchOption result (sys_verb_run word line.now o ≡ None) (λ v. sys_verb_run word line.now o ≡ Some (v, o)) }
 {
     let verb = alone(word)?;
-    none(line)?;
-    Some(verb)
-}
-
-/// A verb of the system and its operands. The line begins with its word.
-fn sys_named(line: &[u8]) -> Option<SysVerb>
-    ensures { (o : Out) → MatchOption result (sys_named_run line.now o ≡ None) (λ v. sys_named_run line.now o ≡ Some (v, o)) }
-{
-    let n = word_len(line);
-    let word = sys_word(&line[..n])?;
-    sys_verb(word, &line[n..])
+    if ends(line) { Some(verb) } else { None }
 }
 
 /// A system line after its first word.
 pub(crate) fn system_verb(line: &[u8]) -> Option<SysVerb>
     ensures { (o : Out) → MatchOption result (system_run line.now o ≡ None) (λ v. system_run line.now o ≡ Some (v, o)) }
 {
-    let rest = gap(line)?;
-    sys_named(skip(rest))
+    let rest = skip(gap(line)?);
+    let n = word_len(rest);
+    let word = sys_word(&rest[..n])?;
+    sys_verb(word, &rest[n..])
 }

@@ -76,3 +76,9 @@ unreachable-requires c = grind (arith, common_steps)
 
 pub unreachable-unreachable : goal.unreachable-unreachable
 unreachable-unreachable c = grind (arith, common_steps)
+
+pub returns-in-Queue : goal.returns-in-Queue
+returns-in-Queue c = rw c.in-Queue.is refl
+
+pub returns-in-Exit : goal.returns-in-Exit
+returns-in-Exit c = rw c.in-Exit.is refl
