@@ -3,29 +3,28 @@ ghost use Rattle.std.specs.Prelude.{◌≡◌, ◌≤◌, length};
 
 use atom_names::{AtomNames, LONGEST_NAME, MOST_NAMES};
 use plain_term::Item;
-use script_grammar::{Command, LEVELS, MOST_HELD, Refusal, Reg, Verb};
+use script_grammar::{Command, LEVELS, MOST_HELD, Refusal, Verb};
 use script_parse::{Code, MOST_ITEMS, parse};
 use std::alloc::{AllocError, Global};
 use std::test::Fail;
 
 // What a line is answered.
-#[derive(Clone, Copy, PartialEq)]
+#[derive(Clone, Copy)]
 enum Answer {
     Read,
     Syntax,
     Atoms,
-    Other,
 }
 
-fn answer_to(line: &[u8], names: &mut AtomNames, code: &mut Code) -> Answer {
+fn answers(line: &[u8], want: Answer, names: &mut AtomNames, code: &mut Code) -> bool {
     if line.len() > MOST_ITEMS {
-        return Answer::Other;
+        return false;
     }
     match parse(line, names, code) {
-        Ok(_) => Answer::Read,
-        Err(Refusal::Syntax) => Answer::Syntax,
-        Err(Refusal::Atoms) => Answer::Atoms,
-        Err(_) => Answer::Other,
+        Ok(_) => matches!(want, Answer::Read),
+        Err(Refusal::Syntax) => matches!(want, Answer::Syntax),
+        Err(Refusal::Atoms) => matches!(want, Answer::Atoms),
+        Err(_) => false,
     }
 }
 
@@ -312,7 +311,7 @@ fn all_answer(text: &[u8], want: Answer, names: &mut AtomNames, code: &mut Code)
             return true;
         }
         let n = row_len(rest);
-        if answer_to(&rest[..n], names, code) != want {
+        if !answers(&rest[..n], want, names, code) {
             return false;
         }
         if n == rest.len() {
@@ -323,132 +322,115 @@ fn all_answer(text: &[u8], want: Answer, names: &mut AtomNames, code: &mut Code)
     rest.is_empty()
 }
 
-// The same, where no name stands before.
-fn rows_answer(alloc: Global, text: &[u8], want: Answer) -> Result<bool, Fail> {
+// What is asked where no name stands before.
+#[derive(Clone, Copy)]
+enum Task<'a> {
+    // Each row of the text is a line that is answered so.
+    Rows(&'a [u8], Answer),
+    // A table that is full takes no new name.
+    Full,
+    // Lines give their items.
+    Items,
+}
+
+fn holds_over(task: Task, names: &mut AtomNames, code: &mut Code) -> bool {
+    match task {
+        Task::Rows(text, want) => all_answer(text, want, names, code),
+        Task::Full => fill(names) && full_answers(names, code),
+        Task::Items => rows_hold(names, code),
+    }
+}
+
+fn holds(alloc: Global, task: Task) -> Result<bool, Fail> {
     let mut names = AtomNames::new(alloc)?;
     let mut code = Code::new(alloc)?;
-    Ok(all_answer(text, want, &mut names, &mut code))
+    Ok(holds_over(task, &mut names, &mut code))
 }
 
 #[test]
 fn commands_are_read(rt: HostRuntime) -> Result<(), Fail> {
-    assert!(rt; rows_answer(rt.alloc(), READ, Answer::Read)?);
+    assert!(rt; holds(rt.alloc(), Task::Rows(READ, Answer::Read))?);
     Ok(())
 }
 
 #[test]
 fn all_else_is_a_fault_of_syntax(rt: HostRuntime) -> Result<(), Fail> {
-    assert!(rt; rows_answer(rt.alloc(), UNREAD, Answer::Syntax)?);
+    assert!(rt; holds(rt.alloc(), Task::Rows(UNREAD, Answer::Syntax))?);
     Ok(())
 }
 
-// A line that is made: something that is repeated between a beginning and an end, so many times at most.
+// A line that is made: its beginning, something that is repeated, what stands within, something that is repeated as often, and how often.
 #[derive(Clone, Copy)]
-enum Made {
-    // A term within levels of one form: what opens a level, the innermost term, and what closes a level.
-    Nested(&'static [u8], &'static [u8], &'static [u8], u64),
-    // An atom of so many bytes.
-    Atom(u64),
-    // A fun with so many registers.
-    Fun(u64),
-}
+struct Made(
+    &'static [u8],
+    &'static [u8],
+    &'static [u8],
+    &'static [u8],
+    u64,
+);
 
-// Lines that are read up to their limits, and not beyond them.
+// Lines that are read up to their limits, and not beyond them: terms within levels of one form, an atom, and a fun with registers.
 const LIMITS: [Made; 9] = [
-    Made::Nested(b"[", b"b", b"]", LEVELS),
-    Made::Nested(b"{", b"b", b"}", LEVELS),
-    Made::Nested(b"[a|", b"b", b"]", LEVELS),
-    Made::Nested(b"#{a=>", b"b", b"}", LEVELS),
-    Made::Nested(b"#{", b"b", b"=>a}", LEVELS),
-    Made::Nested(b"[", b"<<1>>", b"]", LEVELS - 1),
-    Made::Nested(b"[", b"<<>>", b"]", LEVELS - 1),
-    Made::Atom(LONGEST_NAME as u64),
-    Made::Fun(MOST_HELD),
+    Made(b"1 set 0 ", b"[", b"b", b"]", LEVELS),
+    Made(b"1 set 0 ", b"{", b"b", b"}", LEVELS),
+    Made(b"1 set 0 ", b"[a|", b"b", b"]", LEVELS),
+    Made(b"1 set 0 ", b"#{a=>", b"b", b"}", LEVELS),
+    Made(b"1 set 0 ", b"#{", b"b", b"=>a}", LEVELS),
+    Made(b"1 set 0 ", b"[", b"<<1>>", b"]", LEVELS - 1),
+    Made(b"1 set 0 ", b"[", b"<<>>", b"]", LEVELS - 1),
+    Made(b"1 set 0 ", b"a", b"", b"", LONGEST_NAME as u64),
+    Made(b"1 fun 0 f 2", b" $15", b"", b"", MOST_HELD),
 ];
 
-// How many bytes a binary has that is read: there is no limit but that of the line.
-const SIZES: [u64; 5] = [0, 1, 64, 65, 1000];
+// Binaries that are read, of 0, 1, 64, 65 and 1,000 bytes: there is no limit but that of the line.
+const BINARIES: [Made; 5] = [
+    Made(b"1 set 0 <<", b"", b">>", b"", 0),
+    Made(b"1 set 0 <<7", b",7", b">>", b"", 1 - 1),
+    Made(b"1 set 0 <<7", b",7", b">>", b"", 64 - 1),
+    Made(b"1 set 0 <<7", b",7", b">>", b"", 65 - 1),
+    Made(b"1 set 0 <<7", b",7", b">>", b"", 1000 - 1),
+];
 
-fn nested(
-    alloc: Global,
-    opening: &[u8],
-    inner: &[u8],
-    closing: &[u8],
-    levels: u64,
-) -> Result<Vec<u8>, AllocError> {
-    let mut line = b"1 set 0 ".to_vec(alloc)?;
-    for _ in 0..levels {
-        line.extend_from_slice(opening)?;
+fn repeat(line: &mut Vec<u8>, part: &[u8], times: u64) -> Result<(), AllocError> {
+    for _ in 0..times {
+        line.extend_from_slice(part)?;
     }
-    line.extend_from_slice(inner)?;
-    for _ in 0..levels {
-        line.extend_from_slice(closing)?;
-    }
-    Ok(line)
-}
-
-fn long_atom(alloc: Global, len: u64) -> Result<Vec<u8>, AllocError> {
-    let mut line = b"1 set 0 ".to_vec(alloc)?;
-    for _ in 0..len {
-        line.push(b'a')?;
-    }
-    Ok(line)
-}
-
-fn long_binary(alloc: Global, len: u64) -> Result<Vec<u8>, AllocError> {
-    let mut line = b"1 set 0 <<".to_vec(alloc)?;
-    for k in 0..len {
-        if k > 0 {
-            line.push(b',')?;
-        }
-        line.push(b'7')?;
-    }
-    line.extend_from_slice(b">>")?;
-    Ok(line)
-}
-
-fn wide_fun(alloc: Global, held: u64) -> Result<Vec<u8>, AllocError> {
-    let mut line = b"1 fun 0 f 2".to_vec(alloc)?;
-    for _ in 0..held {
-        line.extend_from_slice(b" $15")?;
-    }
-    Ok(line)
+    Ok(())
 }
 
 // The line with so many times more than its limit.
 fn line_of(alloc: Global, made: Made, more: u64) -> Result<Vec<u8>, AllocError> {
-    match made {
-        Made::Nested(opening, inner, closing, levels) => {
-            nested(alloc, opening, inner, closing, levels.saturating_add(more))
-        },
-        Made::Atom(len) => long_atom(alloc, len.saturating_add(more)),
-        Made::Fun(held) => wide_fun(alloc, held.saturating_add(more)),
-    }
+    let Made(start, opening, inner, closing, limit) = made;
+    let times = limit.saturating_add(more);
+    let mut line = start.to_vec(alloc)?;
+    repeat(&mut line, opening, times)?;
+    line.extend_from_slice(inner)?;
+    repeat(&mut line, closing, times)?;
+    Ok(line)
 }
 
 fn made_answers(alloc: Global, made: Made, more: u64, want: Answer) -> Result<bool, Fail> {
     let line = line_of(alloc, made, more)?;
-    rows_answer(alloc, line.as_slice(), want)
+    holds(alloc, Task::Rows(line.as_slice(), want))
+}
+
+fn is_limit(alloc: Global, made: Made) -> Result<bool, Fail> {
+    let read = made_answers(alloc, made, 0, Answer::Read)?;
+    Ok(made_answers(alloc, made, 1, Answer::Syntax)? && read)
 }
 
 #[test]
 fn limits_are_met(rt: HostRuntime) -> Result<(), Fail> {
     for made in &LIMITS {
-        assert!(rt; made_answers(rt.alloc(), *made, 0, Answer::Read)?);
-        assert!(rt; made_answers(rt.alloc(), *made, 1, Answer::Syntax)?);
+        assert!(rt; is_limit(rt.alloc(), *made)?);
     }
     Ok(())
 }
 
-fn binary_is_read(alloc: Global, len: u64) -> Result<bool, Fail> {
-    let line = long_binary(alloc, len)?;
-    rows_answer(alloc, line.as_slice(), Answer::Read)
-}
-
 #[test]
 fn binaries_of_any_size_are_read(rt: HostRuntime) -> Result<(), Fail> {
-    for len in &SIZES {
-        assert!(rt; binary_is_read(rt.alloc(), *len)?);
+    for made in &BINARIES {
+        assert!(rt; made_answers(rt.alloc(), *made, 0, Answer::Read)?);
     }
     Ok(())
 }
@@ -486,23 +468,16 @@ fn fill(names: &mut AtomNames) -> bool {
     true
 }
 
-fn full_holds(alloc: Global) -> Result<bool, Fail> {
-    let mut names = AtomNames::new(alloc)?;
-    let mut code = Code::new(alloc)?;
-    if !fill(&mut names) {
-        return Ok(false);
-    }
-    Ok(
-        all_answer(FULL_ATOMS, Answer::Atoms, &mut names, &mut code)
-            && all_answer(FULL_UNREAD, Answer::Syntax, &mut names, &mut code)
-            && all_answer(FULL_READ, Answer::Read, &mut names, &mut code)
-            && names.count() == MOST_NAMES as u64,
-    )
+fn full_answers(names: &mut AtomNames, code: &mut Code) -> bool {
+    all_answer(FULL_ATOMS, Answer::Atoms, names, code)
+        && all_answer(FULL_UNREAD, Answer::Syntax, names, code)
+        && all_answer(FULL_READ, Answer::Read, names, code)
+        && names.count() == MOST_NAMES as u64
 }
 
 #[test]
 fn a_full_table_takes_no_new_name(rt: HostRuntime) -> Result<(), Fail> {
-    assert!(rt; full_holds(rt.alloc())?);
+    assert!(rt; holds(rt.alloc(), Task::Full)?);
     Ok(())
 }
 
@@ -607,42 +582,55 @@ fn same_item(a: Item, b: Item) -> bool {
 }
 
 fn same_items(a: &[Item], b: &[Item]) -> bool {
+    if a.len() != b.len() {
+        return false;
+    }
     for (i, item) in a.iter().enumerate() {
-        match b.get(i) {
-            Some(other) if same_item(*item, *other) => {},
-            _ => return false,
+        if !same_item(*item, b[i]) {
+            return false;
         }
     }
-    a.len() == b.len()
+    true
 }
 
-// Whether the line is a `set` of the third register, or a `fun` into it with the fifth name and two arguments.
+// Whether it is a `set` of the third register, or a `fun` into it with the fifth name and two arguments.
+fn is_third(verb: Verb) -> bool {
+    match verb {
+        Verb::Set(r) => r.0 == 3,
+        Verb::Fun(r, name, arity) => r.0 == 3 && name == 4 && arity == 2,
+        _ => false,
+    }
+}
+
+// Whether the line is such a verb of the first process.
 fn makes_third(line: &[u8], names: &mut AtomNames, code: &mut Code) -> bool {
-    line.len() <= MOST_ITEMS
-        && matches!(
-            parse(line, names, code),
-            Ok(Command::Process(1, Verb::Set(Reg(3)) | Verb::Fun(Reg(3), 4, 2)))
-        )
+    if line.len() > MOST_ITEMS {
+        return false;
+    }
+    match parse(line, names, code) {
+        Ok(Command::Process(n, verb)) => n == 1 && is_third(verb),
+        _ => false,
+    }
 }
 
-fn rows_hold(alloc: Global) -> Result<bool, Fail> {
-    let mut names = AtomNames::new(alloc)?;
-    let mut code = Code::new(alloc)?;
+fn row_holds(row: &Row, names: &mut AtomNames, code: &mut Code) -> bool {
+    makes_third(row.line, names, code)
+        && same_items(code.items(), row.items)
+        && answers(b"1 set 0 [x,y", Answer::Syntax, names, code)
+        && names.count() == row.names
+}
+
+fn rows_hold(names: &mut AtomNames, code: &mut Code) -> bool {
     for row in &ROWS {
-        if !makes_third(row.line, &mut names, &mut code) || !same_items(code.items(), row.items) {
-            return Ok(false);
-        }
-        if answer_to(b"1 set 0 [x,y", &mut names, &mut code) != Answer::Syntax
-            || names.count() != row.names
-        {
-            return Ok(false);
+        if !row_holds(row, names, code) {
+            return false;
         }
     }
-    Ok(true)
+    true
 }
 
 #[test]
 fn a_line_gives_its_items_and_a_broken_one_no_name(rt: HostRuntime) -> Result<(), Fail> {
-    assert!(rt; rows_hold(rt.alloc())?);
+    assert!(rt; holds(rt.alloc(), Task::Items)?);
     Ok(())
 }
