@@ -43,7 +43,8 @@ ended f line o false e = rw e (row-open f line o e)
 
 slot-first : {V : Type 0} (ps : List Numeric) (f : Arguments (Slot ∷ map kind_of ps) → V) (line : List ℕ) (o : Out) (A : Option (ℕ × List ℕ)) → length (map kind_of ps) ≤ 3
     → spaced_at (number_at LAST_REGISTER) line ≡ A
-    → ((rest : List ℕ) (g : Arguments (map kind_of ps) → V) → row_run (row (map kind_of ps) g) rest o ≡ then_read {B = V × Out} (numbers_at ps rest) (λ n. Some (g (arguments_from (map kind_of ps) n), o)))
+    → ((rest : List ℕ) (g : Arguments (map kind_of ps) → V)
+    → row_run (row (map kind_of ps) g) rest o ≡ then_read {B = V × Out} (numbers_at ps rest) (λ n. Some (g (arguments_from (map kind_of ps) n), o)))
     → row_run (row (Slot ∷ map kind_of ps) f) line o ≡ then_read {B = V × Out} (numbers_at (numeric.Slot ∷ ps) line) (λ n. Some (f (arguments_from (Slot ∷ map kind_of ps) n), o))
 slot-first ps f line o None l e h = rw e (slot-none (map kind_of ps) f line o e)
 slot-first ps f line o (Some (a, rest)) l e h = rw e (slot-more (map kind_of ps) f line o {n = a} {rest = rest} e (h rest (λ xs. f (a, xs)))
@@ -51,7 +52,8 @@ slot-first ps f line o (Some (a, rest)) l e h = rw e (slot-more (map kind_of ps)
 
 count-first : {V : Type 0} (ps : List Numeric) (f : Arguments (Count ∷ map kind_of ps) → V) (line : List ℕ) (o : Out) (A : Option (ℕ × List ℕ)) → length (map kind_of ps) ≤ 3
     → spaced_at (number_at GREATEST) line ≡ A
-    → ((rest : List ℕ) (g : Arguments (map kind_of ps) → V) → row_run (row (map kind_of ps) g) rest o ≡ then_read {B = V × Out} (numbers_at ps rest) (λ n. Some (g (arguments_from (map kind_of ps) n), o)))
+    → ((rest : List ℕ) (g : Arguments (map kind_of ps) → V)
+    → row_run (row (map kind_of ps) g) rest o ≡ then_read {B = V × Out} (numbers_at ps rest) (λ n. Some (g (arguments_from (map kind_of ps) n), o)))
     → row_run (row (Count ∷ map kind_of ps) f) line o ≡ then_read {B = V × Out} (numbers_at (numeric.Count ∷ ps) line) (λ n. Some (f (arguments_from (Count ∷ map kind_of ps) n), o))
 count-first ps f line o None l e h = rw e (count-none (map kind_of ps) f line o e)
 count-first ps f line o (Some (a, rest)) l e h = rw e (count-more (map kind_of ps) f line o {n = a} {rest = rest} e (h rest (λ xs. f (a, xs)))
@@ -81,5 +83,6 @@ made w (Some n) o = rw (from-is w n) refl
 -- What the row of a verb comes to.
 pub numbers-run : (w : Word) (ps : List Numeric) (line : List ℕ) (o : Out) → takes_numbers w ≡ true → map kind_of ps ≡ kinds_of w
     → numbers_run w line o ≡ then_read (numbers_at ps line) (λ n. Some (verb_from w n, o))
-numbers-run w ps line o t e = let P : List Kind → Type 0 = λ ks. (f : Arguments ks → Verb) → length ks ≤ 4 → row_run (row ks f) line o ≡ then_read (numbers_at ps line) (λ n. Some (f (arguments_from ks n), o)) in
+numbers-run w ps line o t e = let P : List Kind → Type 0 = λ ks. (f : Arguments ks → Verb) → length ks ≤ 4
+    → row_run (row ks f) line o ≡ then_read (numbers_at ps line) (λ n. Some (f (arguments_from ks n), o)) in
     rw (t, row-is w) (subst P e (λ f l. rows-run ps f line o l) (verb_with w) (few w) ∙ made w (numbers_at ps line) o)

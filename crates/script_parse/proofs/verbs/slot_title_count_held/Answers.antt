@@ -12,14 +12,16 @@ pub returns-in_err-r-clause-read : goal.returns-in_err-r-clause-read
 returns-in_err-r-clause-read c = rw c.from_residual.ensures (slot-none (Title ∷ Count ∷ Environment ∷ []) (verb_with word.Fun) c.args.line.now (given c.args.out.now) c.in_err-r.ensures.value)
 
 pub returns-in_err-name-clause-read : goal.returns-in_err-name-clause-read
-returns-in_err-name-clause-read c = rw c.from_residual-in_err-name.ensures (slot-more (Title ∷ Count ∷ Environment ∷ []) (verb_with word.Fun) c.args.line.now (given c.args.out.now) c.in_ok-r.ensures.value
+returns-in_err-name-clause-read c = rw c.from_residual-in_err-name.ensures (slot-more (Title ∷ Count ∷ Environment ∷ []) (verb_with word.Fun)
+    c.args.line.now (given c.args.out.now) c.in_ok-r.ensures.value
     (title-none (Count ∷ Environment ∷ []) (λ xs. verb_with word.Fun (c.in_ok-r.r.0, xs)) c.in_ok-r.rest.now (given c.args.out.now) c.in_err-name.ensures.read))
 
 pub returns-in_err-name-clause-grown : goal.returns-in_err-name-clause-grown
 returns-in_err-name-clause-grown c = c.title.ensures.grown
 
 pub returns-in_err-arity-clause-read : goal.returns-in_err-arity-clause-read
-returns-in_err-arity-clause-read c = rw c.from_residual-in_err-arity.ensures (slot-more (Title ∷ Count ∷ Environment ∷ []) (verb_with word.Fun) c.args.line.now (given c.args.out.now) c.in_ok-r.ensures.value
+returns-in_err-arity-clause-read c = rw c.from_residual-in_err-arity.ensures (slot-more (Title ∷ Count ∷ Environment ∷ []) (verb_with word.Fun)
+    c.args.line.now (given c.args.out.now) c.in_ok-r.ensures.value
     (title-more (Count ∷ Environment ∷ []) (λ xs. verb_with word.Fun (c.in_ok-r.r.0, xs)) c.in_ok-r.rest.now c.in_ok-name.rest.now (given c.args.out.now)
     (given c.title.new.out) c.in_ok-name.name c.in_ok-name.ensures.read
     (count-none (Environment ∷ []) (λ xs. verb_with word.Fun (c.in_ok-r.r.0, (c.in_ok-name.name, xs))) c.in_ok-name.rest.now (given c.title.new.out) c.in_err-arity.ensures.value)))
