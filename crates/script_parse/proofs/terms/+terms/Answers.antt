@@ -178,3 +178,63 @@ term-returns-in-Some-clause-room t c = grind (arith, common_steps)
 
 pub term-returns-in-None-clause-room : goal.term-returns-in-None-clause-room
 term-returns-in-None-clause-room t c = grind (arith, common_steps)
+
+pub pair-returns-in_err-rest-clause-read : goal.pair-returns-in_err-rest-clause-read
+pair-returns-in_err-rest-clause-read c = grind (arith, common_steps)
+
+pub pair-returns-in_err-rest-clause-room : goal.pair-returns-in_err-rest-clause-room
+pair-returns-in_err-rest-clause-room c = grind (arith, common_steps)
+
+pub part-lead-requires : goal.part-lead-requires
+part-lead-requires c = grind (arith, common_steps)
+
+pub part-returns-in-Map-clause-read : goal.part-returns-in-Map-clause-read
+part-returns-in-Map-clause-read c = grind (arith, common_steps)
+
+pub part-returns-in-Binary-clause-read : goal.part-returns-in-Binary-clause-read
+part-returns-in-Binary-clause-read c = grind (arith, common_steps)
+
+pub part-returns-in-List-clause-read : goal.part-returns-in-List-clause-read
+part-returns-in-List-clause-read c = grind (arith, common_steps)
+
+pub parts-overflow_add-n-end : goal.parts-overflow_add-n-end
+parts-overflow_add-n-end c = grind (arith, common_steps)
+
+pub parts-loop-n-init : goal.parts-loop-n-init
+parts-loop-n-init c = grind (arith, common_steps)
+
+pub parts-returns-clause-read : goal.parts-returns-clause-read
+parts-returns-clause-read c = grind (arith, common_steps)
+
+pub tail-returns-then-not-has_tail-clause-read : goal.tail-returns-then-not-has_tail-clause-read
+tail-returns-then-not-has_tail-clause-read c = grind (arith, common_steps)
+
+pub tail-returns-then-not-has_tail-clause-grown : goal.tail-returns-then-not-has_tail-clause-grown
+tail-returns-then-not-has_tail-clause-grown c = grind (arith, common_steps)
+
+pub tail-returns-then-not-has_tail-clause-room : goal.tail-returns-then-not-has_tail-clause-room
+tail-returns-then-not-has_tail-clause-room c = grind (arith, common_steps)
+
+pub tail-returns-in_err-rest-clause-read : goal.tail-returns-in_err-rest-clause-read
+tail-returns-in_err-rest-clause-read c = grind (arith, common_steps)
+
+pub tail-returns-in_err-rest-clause-grown : goal.tail-returns-in_err-rest-clause-grown
+tail-returns-in_err-rest-clause-grown c = grind (arith, common_steps)
+
+pub tail-returns-in_err-rest-clause-room : goal.tail-returns-in_err-rest-clause-room
+tail-returns-in_err-rest-clause-room c = grind (arith, common_steps)
+
+pub tail-returns-in_err-rest-2-clause-read : goal.tail-returns-in_err-rest-2-clause-read
+tail-returns-in_err-rest-2-clause-read c = grind (arith, common_steps)
+
+pub tail-returns-in_err-rest-2-clause-room : goal.tail-returns-in_err-rest-2-clause-room
+tail-returns-in_err-rest-2-clause-room c = grind (arith, common_steps)
+
+pub tail-returns-clause-read : goal.tail-returns-clause-read
+tail-returns-clause-read c = grind (arith, common_steps)
+
+pub term-returns-then-levels-eq0-clause-read : goal.term-returns-then-levels-eq0-clause-read
+term-returns-then-levels-eq0-clause-read c = grind (arith, common_steps)
+
+pub term-overflow_sub-levels : goal.term-overflow_sub-levels
+term-overflow_sub-levels c = grind (arith, common_steps)
