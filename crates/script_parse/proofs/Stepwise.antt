@@ -1,4 +1,4 @@
--- Single steps of reading: a word looked up in a table, the first operand of a row, blanks, numbers, atoms, and what a step leaves as it was.
+-- Single steps of reading: a word looked up in a table, the first operand of a row, rows of numbers, blanks, numbers, atoms, and what a step leaves as it was.
 pub mod Tables
 pub mod Tools
 pub mod PartSteps

@@ -74,9 +74,6 @@ overflow_cast-result c = grind (arith, common_steps)
 pub unreachable-requires : goal.unreachable-requires
 unreachable-requires c = grind (arith, common_steps)
 
-pub unreachable-unreachable : goal.unreachable-unreachable
-unreachable-unreachable c = grind (arith, common_steps)
-
 pub returns-in-Queue : goal.returns-in-Queue
 returns-in-Queue c = rw c.in-Queue.is refl
 
