@@ -1,5 +1,6 @@
-use Rattle.std.proofs.Common.{arith}
+use Rattle.std.proofs.Common.{arith, ap, ◌∙◌, take, drop}
 use Rattle.std.proofs.lemmas.Grind.{common_steps}
+use Rattle.line_io.proofs.Ranges.{Gave-front}
 use Rattle.line_io.proofs.mem_source.MemSourceSource.read.Goals as goal
 
 pub invariant_of-self : goal.invariant_of-self
@@ -112,3 +113,10 @@ returns-clause-piece c = grind (arith, common_steps)
 
 pub returns-clause-failing : goal.returns-clause-failing
 returns-clause-failing c = grind (arith, common_steps)
+
+pub returns-clause-bytes : goal.returns-clause-bytes
+returns-clause-bytes c =
+    let at = c.args.self.now.at in
+    let n = c.copy_out-n.result in
+    let same = c.copy_out-n.ensures.front ∙ ap (λ l. take n (drop at l)) c.deref-2.ensures.value in
+    Gave-front c.args.self.now.bytes.items _ at n same
