@@ -5,25 +5,21 @@ use line_io::{Limits, LineGot, LineReader, MemSource};
 use std::alloc::{AllocError, Global};
 use std::test::Fail;
 
-// What a call for the next line is to answer: a line by its length.
-enum Answer {
-    Line(usize),
-    Long,
-    End,
-    Fault,
-    TooMuch,
-}
+// What a call for the next line is to answer: the length of a line, or one of these.
+const LONG: usize = 90_001;
 
-// An input: some bytes, or a line of so many letters with its end.
-enum Input {
-    Bytes(&'static [u8]),
-    Letters(usize),
-}
+const END: usize = 90_002;
 
+const FAULT: usize = 90_003;
+
+const TOO_MUCH: usize = 90_004;
+
+// An input is so many letters and then some bytes.
 struct Row {
-    input: Input,
+    letters: usize,
+    bytes: &'static [u8],
     limits: Limits,
-    answers: &'static [Answer],
+    answers: &'static [usize],
 }
 
 const AMPLE: Limits = Limits {
@@ -45,94 +41,87 @@ const THREE: &[u8] = b"1 print 0\n1 print 0\n1 print 0\n";
 
 const ROWS: [Row; 11] = [
     Row {
-        input: Input::Bytes(b""),
+        letters: 0,
+        bytes: b"",
         limits: AMPLE,
-        answers: &[Answer::End, Answer::End],
+        answers: &[END, END],
     },
     Row {
-        input: Input::Bytes(b"\n"),
+        letters: 0,
+        bytes: b"\n",
         limits: AMPLE,
-        answers: &[Answer::Line(0), Answer::End, Answer::End],
+        answers: &[0, END, END],
     },
     Row {
-        input: Input::Bytes(b"ab\r\ncd"),
+        letters: 0,
+        bytes: b"ab\r\ncd",
         limits: AMPLE,
-        answers: &[Answer::Line(2), Answer::Line(2), Answer::End, Answer::End],
+        answers: &[2, 2, END, END],
     },
     Row {
-        input: Input::Bytes(b"a\rb\r\r\n\rc\r"),
+        letters: 0,
+        bytes: b"a\rb\r\r\n\rc\r",
         limits: AMPLE,
-        answers: &[Answer::Line(4), Answer::Line(3), Answer::End, Answer::End],
+        answers: &[4, 3, END, END],
     },
     Row {
-        input: Input::Letters(4095),
+        letters: 4095,
+        bytes: b"\n",
         limits: AMPLE,
-        answers: &[Answer::Line(4095), Answer::End],
+        answers: &[4095, END],
     },
     Row {
-        input: Input::Letters(4096),
+        letters: 4096,
+        bytes: b"\n",
         limits: AMPLE,
-        answers: &[Answer::Line(4096), Answer::End],
+        answers: &[4096, END],
     },
     Row {
-        input: Input::Letters(4097),
+        letters: 4097,
+        bytes: b"\n",
         limits: AMPLE,
-        answers: &[Answer::Long, Answer::End],
+        answers: &[LONG, END],
     },
     Row {
-        input: Input::Letters(20_000),
+        letters: 20_000,
+        bytes: b"\n",
         limits: AMPLE,
-        answers: &[Answer::Long, Answer::End, Answer::End],
+        answers: &[LONG, END, END],
     },
     Row {
-        input: Input::Bytes(THREE),
+        letters: 0,
+        bytes: THREE,
         limits: TWO_LINES,
-        answers: &[
-            Answer::Line(9),
-            Answer::Line(9),
-            Answer::TooMuch,
-            Answer::TooMuch,
-        ],
+        answers: &[9, 9, TOO_MUCH, TOO_MUCH],
     },
     Row {
-        input: Input::Bytes(THREE),
+        letters: 0,
+        bytes: THREE,
         limits: FIFTEEN_BYTES,
-        answers: &[Answer::Line(9), Answer::TooMuch, Answer::TooMuch],
+        answers: &[9, TOO_MUCH, TOO_MUCH],
     },
     Row {
-        input: Input::Bytes(THREE),
+        letters: 0,
+        bytes: THREE,
         limits: AMPLE,
-        answers: &[
-            Answer::Line(9),
-            Answer::Line(9),
-            Answer::Line(9),
-            Answer::End,
-            Answer::End,
-        ],
+        answers: &[9, 9, 9, END, END],
     },
 ];
 
-fn bytes_of(alloc: Global, input: &Input) -> Result<Vec<u8>, AllocError> {
-    match input {
-        Input::Bytes(bytes) => Vec::from_slice(alloc, bytes),
-        Input::Letters(count) => letters(alloc, *count),
-    }
+fn input_of(alloc: Global, row: &Row) -> Result<Vec<u8>, AllocError> {
+    let mut input = Vec::new(alloc);
+    input.resize(row.letters, b'a')?;
+    input.extend_from_slice(row.bytes)?;
+    Ok(input)
 }
 
-fn letters(alloc: Global, count: usize) -> Result<Vec<u8>, AllocError> {
-    let mut line = Vec::new(alloc);
-    line.resize(count, b'a')?;
-    line.push(b'\n')?;
-    Ok(line)
-}
-
-fn is_answer(got: LineGot, len: usize, answer: &Answer) -> bool {
-    match answer {
-        Answer::Line(wanted) => matches!(got, LineGot::Line) && len == *wanted,
-        Answer::Long => matches!(got, LineGot::Long),
-        Answer::End => matches!(got, LineGot::End),
-        Answer::Fault => matches!(got, LineGot::Fault),
-        Answer::TooMuch => matches!(got, LineGot::TooMuch),
+fn shown(got: LineGot, len: usize) -> usize {
+    match got {
+        LineGot::Line => len,
+        LineGot::Long => LONG,
+        LineGot::End => END,
+        LineGot::Fault => FAULT,
+        LineGot::TooMuch => TOO_MUCH,
     }
 }
 
@@ -142,29 +131,27 @@ fn reads_as(
     piece: usize,
     failing: &[u64],
     limits: Limits,
-    answers: &[Answer],
+    answers: &[usize],
 ) -> Result<bool, Fail>
     requires { 0 < piece }
 {
     let mut source = MemSource::new(alloc, bytes, piece, failing)?;
     let mut reader = LineReader::new(alloc, limits)?;
+    let mut all = true;
     for answer in answers {
         let got = reader.next(&mut source);
-        if !is_answer(got, reader.line().len(), answer) {
-            return Ok(false);
-        }
+        all &= shown(got, reader.line().len()) == *answer;
     }
-    Ok(true)
+    Ok(all)
 }
 
 fn row_holds(alloc: Global, row: &Row) -> Result<bool, Fail> {
-    let bytes = bytes_of(alloc, &row.input)?;
+    let bytes = input_of(alloc, row)?;
+    let mut all = true;
     for piece in [1, 7, 8192] {
-        if !reads_as(alloc, bytes.as_slice(), piece, &[], row.limits, row.answers)? {
-            return Ok(false);
-        }
+        all &= reads_as(alloc, bytes.as_slice(), piece, &[], row.limits, row.answers)?;
     }
-    Ok(true)
+    Ok(all)
 }
 
 #[test]
@@ -176,10 +163,12 @@ fn lines_come_whatever_the_pieces(rt: HostRuntime) -> Result<(), Fail> {
 }
 
 // At a source whose eleventh read of one byte fails.
-const FAULTY: [Answer; 4] = [Answer::Line(9), Answer::Fault, Answer::Fault, Answer::Fault];
+fn stays(alloc: Global) -> Result<bool, Fail> {
+    reads_as(alloc, THREE, 1, &[11], AMPLE, &[9, FAULT, FAULT, FAULT])
+}
 
 #[test]
 fn a_fault_stays(rt: HostRuntime) -> Result<(), Fail> {
-    assert!(rt; reads_as(rt.alloc(), THREE, 1, &[11], AMPLE, &FAULTY)?);
+    assert!(rt; stays(rt.alloc())?);
     Ok(())
 }

@@ -2,7 +2,7 @@
 ghost use Rattle.std.specs.Prelude.{◌≤◌, IfOk};
 
 use line_io::{Got, Sink, Source, StdSink, StdSource, Took, put_all};
-use std::alloc::Global;
+use std::alloc::{AllocError, Global};
 use std::io;
 use std::io::{ErrorKind, Read, Write};
 use std::test::Fail;
@@ -66,56 +66,54 @@ impl<'a> Write for Scripted<'a> {
     }
 }
 
-// What a read is to bring.
-enum Reading {
-    Bytes(usize),
-    End,
-    Fault,
-}
+// What a read is to bring: a number of bytes, or one of these.
+const END: usize = 10;
 
-// The turns of a reader, what it does from then on, and what reads into four bytes bring.
-const READS: [(&[Turn], Turn, &[Reading]); 4] = [
+const FAULT: usize = 11;
+
+// The turns of a reader, what it does from then on, and what reads into `abcd` bring and make of it.
+const READS: [(&[Turn], Turn, &[(usize, [u8; 4])]); 4] = [
     (
         &[Turn::Moves(2), BREAK, Turn::Moves(9), BREAK],
         Turn::Moves(0),
         &[
-            Reading::Bytes(2),
-            Reading::Fault,
-            Reading::Bytes(4),
-            Reading::Fault,
-            Reading::End,
+            (2, *b"xxcd"),
+            (FAULT, *b"abcd"),
+            (4, *b"xxxx"),
+            (FAULT, *b"abcd"),
+            (END, *b"abcd"),
         ],
     ),
     (
         &[Turn::Interrupt, Turn::Moves(3), Turn::Interrupt],
         Turn::Moves(0),
-        &[Reading::Bytes(3), Reading::End],
+        &[(3, *b"xxxd"), (END, *b"abcd")],
     ),
-    (&[Turn::Interrupt], BREAK, &[Reading::Fault]),
-    (&[], Turn::Interrupt, &[Reading::Fault, Reading::Fault]),
+    (&[Turn::Interrupt], BREAK, &[(FAULT, *b"abcd")]),
+    (
+        &[],
+        Turn::Interrupt,
+        &[(FAULT, *b"abcd"), (FAULT, *b"abcd")],
+    ),
 ];
 
-fn is_reading(got: Got, buf: &[u8], reading: &Reading) -> bool {
-    match reading {
-        Reading::Bytes(count) => {
-            matches!(got, Got::Got(n) if n == *count)
-                && buf.iter().filter(|b| **b == b'x').count() == *count
-        }
-        Reading::End => matches!(got, Got::End),
-        Reading::Fault => matches!(got, Got::Failed),
+fn brought(got: Got) -> usize {
+    match got {
+        Got::Got(n) => n,
+        Got::End => END,
+        Got::Failed => FAULT,
     }
 }
 
-fn reads_as(turns: &[Turn], last: Turn, readings: &[Reading]) -> bool {
+fn reads_as(turns: &[Turn], last: Turn, readings: &[(usize, [u8; 4])]) -> bool {
     let mut source = StdSource::new(Scripted { turns, last });
-    for reading in readings {
+    let mut all = true;
+    for (count, text) in readings {
         let mut buf = *b"abcd";
-        let got = source.read(&mut buf);
-        if !is_reading(got, &buf, reading) {
-            return false;
-        }
+        all &= brought(source.read(&mut buf)) == *count;
+        all &= buf == *text;
     }
-    true
+    all
 }
 
 #[test]
@@ -169,8 +167,11 @@ const FAULTS: [ErrorKind; 6] = [
 fn is_fault(kind: ErrorKind) -> bool {
     let turns = [Turn::Fails(kind)];
     let flushing = [Turn::Moves(4), Turn::Fails(kind)];
-    reads_as(&turns, Turn::Moves(0), &[Reading::Fault, Reading::End])
-        && takes_as(&turns, None)
+    reads_as(
+        &turns,
+        Turn::Moves(0),
+        &[(FAULT, *b"abcd"), (END, *b"abcd")],
+    ) && takes_as(&turns, None)
         && takes_as(&flushing, None)
 }
 
@@ -199,15 +200,20 @@ impl<'a> Write for Keeps<'a> {
     }
 }
 
-fn parts_arrive(alloc: Global) -> Result<bool, Fail> {
+fn many(alloc: Global) -> Result<Vec<u8>, AllocError> {
     let mut bytes = Vec::new(alloc);
     for i in 0..1024u32 {
         bytes.push((i % 251) as u8)?;
     }
+    Ok(bytes)
+}
+
+fn parts_arrive(alloc: Global) -> Result<bool, Fail> {
+    let bytes = many(alloc)?;
     let mut kept = Vec::new(alloc);
     let mut sink = StdSink::new(Keeps { kept: &mut kept });
     let written = put_all(&mut sink, bytes.as_slice()).is_ok();
-    Ok(written && kept.as_slice() == bytes.as_slice())
+    Ok(written & (kept.as_slice() == bytes.as_slice()))
 }
 
 #[test]

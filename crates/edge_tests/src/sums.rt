@@ -14,13 +14,12 @@ const ROWS: [(&[&[u8]], [u64; 4]); 7] = [
 
 fn sums_to(texts: &[&[u8]], numbers: &[u64; 4]) -> bool {
     let mut sink = SumSink::new();
+    let mut all = true;
     for text in texts {
-        if put_all(&mut sink, text).is_err() {
-            return false;
-        }
+        all &= put_all(&mut sink, text).is_ok();
     }
     let found = sink.summary();
-    [found.lines, found.errors, found.bytes, found.sum] == *numbers
+    all & ([found.lines, found.errors, found.bytes, found.sum] == *numbers)
 }
 
 #[test]

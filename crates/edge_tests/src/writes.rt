@@ -10,12 +10,12 @@ const TEXTS: [(&[u8], bool); 3] = [(b"abcd", false), (b"defgh", true), (b"i", fa
 
 fn texts_go(alloc: Global) -> Result<bool, Fail> {
     let mut sink = MemSink::new(alloc, 8, 3, &[2])?;
+    let mut all = true;
     for (text, goes) in &TEXTS {
-        if put_all(&mut sink, text).is_ok() != *goes {
-            return Ok(false);
-        }
+        all &= put_all(&mut sink, text).is_ok() == *goes;
     }
-    Ok(sink.bytes() == b"abcdefgh".as_slice())
+    all &= sink.bytes() == b"abcdefgh".as_slice();
+    Ok(all)
 }
 
 #[test]
@@ -27,19 +27,20 @@ fn a_sink_takes_all_or_fails(rt: HostRuntime) -> Result<(), Fail> {
 // Two writes of one byte, gathered into one.
 fn greet<K: Sink>(sink: &mut K) -> Result<(), SinkFault> {
     let mut gathered = Gathered::new(sink);
-    put_all(&mut gathered, b"h")?;
-    put_all(&mut gathered, b"i")?;
+    for text in [b"h", b"i"] {
+        put_all(&mut gathered, text)?;
+    }
     gathered.finish()
 }
 
 fn greetings_go(alloc: Global) -> Result<bool, Fail> {
     let mut sink = MemSink::new(alloc, 8, 8, &[2])?;
+    let mut all = true;
     for goes in [true, false, true] {
-        if greet(&mut sink).is_ok() != goes {
-            return Ok(false);
-        }
+        all &= greet(&mut sink).is_ok() == goes;
     }
-    Ok(sink.bytes() == b"hihi".as_slice())
+    all &= sink.bytes() == b"hihi".as_slice();
+    Ok(all)
 }
 
 #[test]

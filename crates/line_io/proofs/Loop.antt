@@ -3,8 +3,9 @@ use Rattle.std.proofs.Common.{◌≡◌, ℕ, ◌≤◌, Bool, true, false, Opti
 use Rattle.std.specs.Io.KnownBytes.{IsAtEnd}
 use Rattle.std.proofs.KnownBytes.{Consumes-nil, Consumes-trans}
 use Rattle.line_io.specs.Lines.{Line as Text, lines}
-use Rattle.line_io.specs.Source.{Gave}
+use Rattle.line_io.specs.Source.{Gave, came}
 use Rattle.line_io.specs.Reader.{CutsAt, HasCut, HasRead, IsOpen, ReadAt, Reads, EndsLines, IsEndOf, Settles, answer_at, answered, came_line, held, limits_of, lines_left, line_in}
+use Rattle.line_io.specs.declared.source.Got.{Got}
 use Rattle.line_io.specs.declared.reader.Limits.{Limits}
 use Rattle.line_io.specs.declared.reader.Stop.{Stop}
 use Rattle.line_io.specs.declared.reader.Stop.TheVariants.{Open, Cut, Ended, Faulted, Passed}
@@ -32,6 +33,10 @@ Gave-append a b c x y first second = record { known = Consumes-trans a b c x y f
 
 pub Gave-end : (a b c : Option (List ℕ)) (x : List ℕ) → Gave a b x → Gave b c [] → Gave a c x
 Gave-end a b c x first second = subst (Gave a c) (append-nil x) (Gave-append a b c x [] first second)
+
+-- the same bytes at another place
+pub Gave-same : (a b : Option (List ℕ)) (r : Got) (xs ys : List ℕ) → Gave a b (came r xs) → ys ≡ xs → Gave a b (came r ys)
+Gave-same a b r xs ys gave same = subst (λ l. Gave a b (came r l)) (sym same) gave
 
 -- a reader that is not at its end, of what it has read
 pub cut-of-read : (stop : Stop) (r : LineReader) (left : Option (List ℕ)) (bytes : List ℕ) (given : List Text) → answer_at stop ≡ None → ReadAt stop r left bytes given → CutsAt stop r bytes given

@@ -1,6 +1,7 @@
 -- Ranges of a buffer after a write behind them, and from a later start.
-use Rattle.std.proofs.Common.{◌≡◌, ℕ, ◌+◌, ◌-◌, ◌≤◌, List, ◌++◌, length, take, drop, slice_range, sym, ap, ◌∙◌, arith, length-take, length-take-le, length-drop, take-append-drop}
+use Rattle.std.proofs.Common.{Some, ◌≡◌, ℕ, ◌+◌, ◌-◌, ◌≤◌, List, ◌++◌, length, take, drop, slice_range, sym, ap, ◌∙◌, arith, length-take, length-take-le, length-drop, take-append-drop}
 use Rattle.std.proofs.lemmas.List.{drop-take, drop-append-le, drop-drop}
+use Rattle.line_io.specs.Source.{Gave}
 use lib.Seq.{take-append_seam}
 
 -- a range is what stands from its start on in all that stands before its end
@@ -8,6 +9,11 @@ pub range-is-drop : (xs : List ℕ) (from to : ℕ) → from ≤ to → slice_ra
 range-is-drop xs from to in_order =
     let whole : from + (to - from) ≡ to = omega arith in
     sym (drop-take from (to - from) xs) ∙ ap (λ n. drop from (take n xs)) whole
+
+-- what comes off the front of the bytes that are left, and stands at a buffer's front
+pub Gave-front : (xs buf : List ℕ) (at n : ℕ) → take n buf ≡ take n (drop at xs) → Gave (Some (drop at xs)) (Some (drop (at + n) xs)) (take n buf)
+Gave-front xs buf at n same =
+    record { known = sym (take-append-drop n (drop at xs)) ∙ ap (λ l. l ++ drop n (drop at xs)) (sym same) ∙ ap (λ l. take n buf ++ l) (drop-drop n at xs) }
 
 -- a write behind a range makes it longer
 pub range-grows : (xs ys x : List ℕ) (from to n : ℕ) → from ≤ to → to ≤ length xs → take (to + n) ys ≡ take to xs ++ x → slice_range ys from (to + n) ≡ slice_range xs from to ++ x

@@ -1,9 +1,10 @@
 -- What items spell, and that they spell it alone.
-use Rattle.std.proofs.Common.{◌≡◌, ◌<◌, ◌≤◌, ◌+◌, ℕ, nat_le, Option, Some, List, [], ◌∷◌, ◌++◌, ◌==◌, true, false, subst, map, length, refl, sym, ◌∙◌, ap, arith, append_assoc, append-nil, length-append}
+use Rattle.std.proofs.Common.{◌≡◌, ◌<◌, ◌≤◌, ◌+◌, ℕ, nat_le, Option, None, Some, List, [], ◌∷◌, ◌++◌, ◌==◌, true, false, subst, map, length, refl, sym, ◌∙◌, ap, arith, append_assoc, append-nil, length-append}
 use Rattle.std.proofs.lemmas.Bool.{and_parts, and_from, false≢true}
 use Rattle.std.specs.Prelude.{IfSome}
 use Rattle.std.proofs.lemmas.List.{map-append}
 use Rattle.std.proofs.lemmas.Bool.Decides.{nat_tests}
+use Rattle.std.specs.Prelude.{IfSome}
 use Rattle.plain_term.specs.Tree.{Tree, Trees, trees_len, trees_append}
 use Rattle.plain_term.specs.Tree.Tree.{Int, Atom, Pid, Ref, Nil, Cons, Tuple, Map, Bin, Shared, Part, Fun}
 use Rattle.plain_term.specs.Tree.Trees.{end, ◌▹◌}
@@ -270,3 +271,9 @@ are-more values value xs x new ts t is one pushed all it =
     let many : trees_of (map view xs) ≡ ts = subst (λ v. AreOf v ts) is all in
     let last : view x ≡ t = subst (λ v. IsValueOf v t) one it in
     ap (λ l. trees_of (map view l)) pushed ∙ trees_of-push xs x ∙ ap (λ us. trees_append us (view x ▹ end)) many ∙ ap (λ u. trees_append ts (u ▹ end)) last
+
+-- the same of values that are there only where memory was left for one more
+pub are-more-if : (values : Option (List code.Tree)) (value : Option code.Tree) (xs : List code.Tree) (x : code.Tree) (new : Option (List code.Tree)) (ts : Trees) (t : Tree)
+    → values ≡ Some xs → value ≡ Some x → IfSome new (λ l. l ≡ xs ++ x ∷ []) → AreOf values ts → IsValueOf value t → AreOf new (trees_append ts (t ▹ end))
+are-more-if values value xs x None ts t is one pushed all it = tt
+are-more-if values value xs x (Some new) ts t is one pushed all it = are-more values value xs x new ts t is one pushed all it

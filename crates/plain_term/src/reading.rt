@@ -166,16 +166,21 @@ fn binary(bytes: Option<Items<u8>>) -> Option<Tree>
 fn with_part(parts: Option<Items<Tree>>, part: Option<Tree>) -> Option<Items<Tree>>
     ensures { (ts : Trees) (t : plain.Tree) → AreOf parts ts → IsValueOf part t → AreOf result (trees_append ts (t ▹ end)) }
 {
-    let mut parts = parts?;
-    parts.push(part?).ok()?;
-    Some(parts)
+    pushed(parts?, part?)
 }
 
 // One byte more, where all are kept and memory is left for it.
 fn with_byte(bytes: Option<Items<u8>>, byte: u8) -> Option<Items<u8>>
     ensures { (bs : List ℕ) → IfSome bytes (λ xs. xs ≡ bs) → IfSome result (λ xs. xs ≡ bs ++ byte ∷ []) }
 {
-    let mut bytes = bytes?;
-    bytes.push(byte).ok()?;
-    Some(bytes)
+    pushed(bytes?, byte)
+}
+
+// One item more, where memory is left for it.
+fn pushed<T: Drop>(items: Items<T>, item: T) -> Option<Items<T>>
+    ensures { IfSome result (λ xs. xs ≡ items ++ item ∷ []) }
+{
+    let mut items = items;
+    items.push(item).ok()?;
+    Some(items)
 }

@@ -1,4 +1,5 @@
 use Rattle.std.proofs.Common.{◌∷◌, ◌≤◌, ap, ◌∙◌, arith}
+use Rattle.std.proofs.lemmas.Grind.{common_steps}
 use Rattle.plain_term.specs.declared.reading.TheConstants.{HEAP_BINARY}
 use Rattle.plain_term.proofs.WrittenLemmas.{no-part, no-tail, reads-more, reads-cons, reads-bin}
 use Rattle.plain_term.proofs.reading.+reading.Goals as goal
@@ -36,3 +37,57 @@ read_term-returns-in_ok-bytes-in-Bin-clause-read t c =
     let few : n ≤ HEAP_BINARY = omega (arith, c.if-n-gt-HEAP_BINARY.false) in
     let bytes = c.in_ok-bytes-in-Bin in
     reads-bin c.args.items.now c.in_ok-first.rest.now n bytes.bytes c.binary.result bytes.rest.now begins few bytes.ensures.read c.binary.ensures
+
+pub read_parts-returns-in_err-part-clause-shorter : goal.read_parts-returns-in_err-part-clause-shorter
+read_parts-returns-in_err-part-clause-shorter t c = grind (arith, common_steps)
+
+pub read_parts-returns-clause-read : goal.read_parts-returns-clause-read
+read_parts-returns-clause-read t c = grind (arith, common_steps)
+
+pub read_parts-returns-clause-shorter : goal.read_parts-returns-clause-shorter
+read_parts-returns-clause-shorter t c = grind (arith, common_steps)
+
+pub read_term-returns-in_err-first-clause-read : goal.read_term-returns-in_err-first-clause-read
+read_term-returns-in_err-first-clause-read t c = grind (arith, common_steps)
+
+pub read_term-returns-in_err-first-clause-shorter : goal.read_term-returns-in_err-first-clause-shorter
+read_term-returns-in_err-first-clause-shorter t c = grind (arith, common_steps)
+
+pub read_term-returns-in_err-head-in-Cons-clause-read : goal.read_term-returns-in_err-head-in-Cons-clause-read
+read_term-returns-in_err-head-in-Cons-clause-read t c = grind (arith, common_steps)
+
+pub read_term-returns-in_err-head-in-Cons-clause-shorter : goal.read_term-returns-in_err-head-in-Cons-clause-shorter
+read_term-returns-in_err-head-in-Cons-clause-shorter t c = grind (arith, common_steps)
+
+pub read_term-returns-in_err-tail-in-Cons-clause-shorter : goal.read_term-returns-in_err-tail-in-Cons-clause-shorter
+read_term-returns-in_err-tail-in-Cons-clause-shorter t c = grind (arith, common_steps)
+
+pub read_term-returns-in_err-parts-in-Tuple-clause-read : goal.read_term-returns-in_err-parts-in-Tuple-clause-read
+read_term-returns-in_err-parts-in-Tuple-clause-read t c = grind (arith, common_steps)
+
+pub read_term-returns-in_err-parts-in-Tuple-clause-shorter : goal.read_term-returns-in_err-parts-in-Tuple-clause-shorter
+read_term-returns-in_err-parts-in-Tuple-clause-shorter t c = grind (arith, common_steps)
+
+pub read_term-returns-then-n-gt-HEAP_BINARY-clause-read : goal.read_term-returns-then-n-gt-HEAP_BINARY-clause-read
+read_term-returns-then-n-gt-HEAP_BINARY-clause-read t c = grind (arith, common_steps)
+
+pub read_term-returns-then-n-gt-HEAP_BINARY-clause-shorter : goal.read_term-returns-then-n-gt-HEAP_BINARY-clause-shorter
+read_term-returns-then-n-gt-HEAP_BINARY-clause-shorter t c = grind (arith, common_steps)
+
+pub read_term-returns-in_err-bytes-in-Bin-clause-read : goal.read_term-returns-in_err-bytes-in-Bin-clause-read
+read_term-returns-in_err-bytes-in-Bin-clause-read t c = grind (arith, common_steps)
+
+pub read_term-returns-in_err-bytes-in-Bin-clause-shorter : goal.read_term-returns-in_err-bytes-in-Bin-clause-shorter
+read_term-returns-in_err-bytes-in-Bin-clause-shorter t c = grind (arith, common_steps)
+
+pub read_term-returns-in_ok-tail-in-Cons-clause-shorter : goal.read_term-returns-in_ok-tail-in-Cons-clause-shorter
+read_term-returns-in_ok-tail-in-Cons-clause-shorter t c = grind (arith, common_steps)
+
+pub read_term-returns-in_ok-parts-in-Tuple-clause-read : goal.read_term-returns-in_ok-parts-in-Tuple-clause-read
+read_term-returns-in_ok-parts-in-Tuple-clause-read t c = grind (arith, common_steps)
+
+pub read_term-returns-in_ok-parts-in-Tuple-clause-shorter : goal.read_term-returns-in_ok-parts-in-Tuple-clause-shorter
+read_term-returns-in_ok-parts-in-Tuple-clause-shorter t c = grind (arith, common_steps)
+
+pub read_term-returns-in_ok-bytes-in-Bin-clause-shorter : goal.read_term-returns-in_ok-bytes-in-Bin-clause-shorter
+read_term-returns-in_ok-bytes-in-Bin-clause-shorter t c = grind (arith, common_steps)

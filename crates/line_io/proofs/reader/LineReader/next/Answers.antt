@@ -1,4 +1,5 @@
 use Rattle.std.proofs.Common.{◌≡◌, ◌+◌, ◌-◌, ◌<◌, ◌++◌, length, take, drop, slice_range, refl, sym, ap, subst, ◌∙◌, arith, append_assoc}
+use Rattle.std.proofs.lemmas.Grind.{common_steps}
 use Rattle.line_io.specs.Reader.{CutBy, HasCut, IsOpen, held}
 use Rattle.line_io.proofs.Ranges.{range-kept, written-over}
 use Rattle.line_io.proofs.Steps.{faults-by, length-held}
@@ -94,3 +95,162 @@ returns-in-Failed-clause-reads g c = λ bytes given h.
     let line : 0 < length (held m) → 0 < m.lines_left = λ some. me.line (omega (arith, some, length-held m)) in
     reads-of _ _ _ (g.S.Source.left c.fill.new.source) _ bytes t.0 given limits (Gave-end _ _ _ t.0 t.1 c.in-Failed.ensures.bytes)
     (record { here = faults-by m.stop m.limits m.long m.lines_left m.bytes_left (held m) (bytes ++ t.0) given going me.open line at_start }) refl
+
+pub returns-in-Some-clause-fault : goal.returns-in-Some-clause-fault
+returns-in-Some-clause-fault g c = grind (arith, common_steps)
+
+pub returns-in-Some-clause-told : goal.returns-in-Some-clause-told
+returns-in-Some-clause-told g c = grind (arith, common_steps)
+
+pub returns-in-Some-clause-faulted : goal.returns-in-Some-clause-faulted
+returns-in-Some-clause-faulted g c = grind (arith, common_steps)
+
+pub returns-in-Some-clause-later : goal.returns-in-Some-clause-later
+returns-in-Some-clause-later g c = grind (arith, common_steps)
+
+pub returns-in-Some-clause-again : goal.returns-in-Some-clause-again
+returns-in-Some-clause-again g c = grind (arith, common_steps)
+
+pub returns-in-Some-clause-settles : goal.returns-in-Some-clause-settles
+returns-in-Some-clause-settles g c = grind (arith, common_steps)
+
+pub returns-in-Some-clause-counted : goal.returns-in-Some-clause-counted
+returns-in-Some-clause-counted g c = grind (arith, common_steps)
+
+pub returns-in-Some-clause-limits : goal.returns-in-Some-clause-limits
+returns-in-Some-clause-limits g c = grind (arith, common_steps)
+
+pub returns-in-Some-clause-short : goal.returns-in-Some-clause-short
+returns-in-Some-clause-short g c = grind (arith, common_steps)
+
+pub reading-init : goal.reading-init
+reading-init g c = grind (arith, common_steps)
+
+pub ready-requires-clause-going : goal.ready-requires-clause-going
+ready-requires-clause-going g c = grind (arith, common_steps)
+
+pub ready-requires-clause-behind : goal.ready-requires-clause-behind
+ready-requires-clause-behind g c = grind (arith, common_steps)
+
+pub ready-requires-clause-within : goal.ready-requires-clause-within
+ready-requires-clause-within g c = grind (arith, common_steps)
+
+pub ready-requires-clause-open : goal.ready-requires-clause-open
+ready-requires-clause-open g c = grind (arith, common_steps)
+
+pub returns-in-Some-ready-clause-fault : goal.returns-in-Some-ready-clause-fault
+returns-in-Some-ready-clause-fault g c = grind (arith, common_steps)
+
+pub returns-in-Some-ready-clause-told : goal.returns-in-Some-ready-clause-told
+returns-in-Some-ready-clause-told g c = grind (arith, common_steps)
+
+pub returns-in-Some-ready-clause-faulted : goal.returns-in-Some-ready-clause-faulted
+returns-in-Some-ready-clause-faulted g c = grind (arith, common_steps)
+
+pub returns-in-Some-ready-clause-later : goal.returns-in-Some-ready-clause-later
+returns-in-Some-ready-clause-later g c = grind (arith, common_steps)
+
+pub returns-in-Some-ready-clause-again : goal.returns-in-Some-ready-clause-again
+returns-in-Some-ready-clause-again g c = grind (arith, common_steps)
+
+pub returns-in-Some-ready-clause-settles : goal.returns-in-Some-ready-clause-settles
+returns-in-Some-ready-clause-settles g c = grind (arith, common_steps)
+
+pub returns-in-Some-ready-clause-counted : goal.returns-in-Some-ready-clause-counted
+returns-in-Some-ready-clause-counted g c = grind (arith, common_steps)
+
+pub returns-in-Some-ready-clause-limits : goal.returns-in-Some-ready-clause-limits
+returns-in-Some-ready-clause-limits g c = grind (arith, common_steps)
+
+pub returns-in-Some-ready-clause-short : goal.returns-in-Some-ready-clause-short
+returns-in-Some-ready-clause-short g c = grind (arith, common_steps)
+
+pub make_room-requires-clause-open : goal.make_room-requires-clause-open
+make_room-requires-clause-open g c = grind (arith, common_steps)
+
+pub make_room-requires-clause-line : goal.make_room-requires-clause-line
+make_room-requires-clause-line g c = grind (arith, common_steps)
+
+pub fill-requires : goal.fill-requires
+fill-requires g c = grind (arith, common_steps)
+
+pub invariant_of-self : goal.invariant_of-self
+invariant_of-self g c = grind (arith, common_steps)
+
+pub count_in-requires-clause-open : goal.count_in-requires-clause-open
+count_in-requires-clause-open g c = grind (arith, common_steps)
+
+pub count_in-requires-clause-some : goal.count_in-requires-clause-some
+count_in-requires-clause-some g c = grind (arith, common_steps)
+
+pub count_in-requires-clause-fits : goal.count_in-requires-clause-fits
+count_in-requires-clause-fits g c = grind (arith, common_steps)
+
+pub reading-smaller : goal.reading-smaller
+reading-smaller g c = grind (arith, common_steps)
+
+pub invariant_of-self-in-End : goal.invariant_of-self-in-End
+invariant_of-self-in-End g c = grind (arith, common_steps)
+
+pub last_line-requires-clause-going : goal.last_line-requires-clause-going
+last_line-requires-clause-going g c = grind (arith, common_steps)
+
+pub last_line-requires-clause-line : goal.last_line-requires-clause-line
+last_line-requires-clause-line g c = grind (arith, common_steps)
+
+pub returns-in-End-clause-fault : goal.returns-in-End-clause-fault
+returns-in-End-clause-fault g c = grind (arith, common_steps)
+
+pub returns-in-End-clause-told : goal.returns-in-End-clause-told
+returns-in-End-clause-told g c = grind (arith, common_steps)
+
+pub returns-in-End-clause-faulted : goal.returns-in-End-clause-faulted
+returns-in-End-clause-faulted g c = grind (arith, common_steps)
+
+pub returns-in-End-clause-later : goal.returns-in-End-clause-later
+returns-in-End-clause-later g c = grind (arith, common_steps)
+
+pub returns-in-End-clause-again : goal.returns-in-End-clause-again
+returns-in-End-clause-again g c = grind (arith, common_steps)
+
+pub returns-in-End-clause-settles : goal.returns-in-End-clause-settles
+returns-in-End-clause-settles g c = grind (arith, common_steps)
+
+pub returns-in-End-clause-counted : goal.returns-in-End-clause-counted
+returns-in-End-clause-counted g c = grind (arith, common_steps)
+
+pub returns-in-End-clause-limits : goal.returns-in-End-clause-limits
+returns-in-End-clause-limits g c = grind (arith, common_steps)
+
+pub returns-in-End-clause-short : goal.returns-in-End-clause-short
+returns-in-End-clause-short g c = grind (arith, common_steps)
+
+pub invariant_of-self-in-Failed : goal.invariant_of-self-in-Failed
+invariant_of-self-in-Failed g c = grind (arith, common_steps)
+
+pub returns-in-Failed-clause-fault : goal.returns-in-Failed-clause-fault
+returns-in-Failed-clause-fault g c = grind (arith, common_steps)
+
+pub returns-in-Failed-clause-told : goal.returns-in-Failed-clause-told
+returns-in-Failed-clause-told g c = grind (arith, common_steps)
+
+pub returns-in-Failed-clause-faulted : goal.returns-in-Failed-clause-faulted
+returns-in-Failed-clause-faulted g c = grind (arith, common_steps)
+
+pub returns-in-Failed-clause-later : goal.returns-in-Failed-clause-later
+returns-in-Failed-clause-later g c = grind (arith, common_steps)
+
+pub returns-in-Failed-clause-again : goal.returns-in-Failed-clause-again
+returns-in-Failed-clause-again g c = grind (arith, common_steps)
+
+pub returns-in-Failed-clause-settles : goal.returns-in-Failed-clause-settles
+returns-in-Failed-clause-settles g c = grind (arith, common_steps)
+
+pub returns-in-Failed-clause-counted : goal.returns-in-Failed-clause-counted
+returns-in-Failed-clause-counted g c = grind (arith, common_steps)
+
+pub returns-in-Failed-clause-limits : goal.returns-in-Failed-clause-limits
+returns-in-Failed-clause-limits g c = grind (arith, common_steps)
+
+pub returns-in-Failed-clause-short : goal.returns-in-Failed-clause-short
+returns-in-Failed-clause-short g c = grind (arith, common_steps)

@@ -1,4 +1,5 @@
 use Rattle.std.proofs.Common.{◌≡◌, ◌+◌, ◌<◌, ◌++◌, ◌∷◌, [], Some, None, Option, length, slice_range, refl, arith, sym, ap, ◌∙◌}
+use Rattle.std.proofs.lemmas.Grind.{common_steps}
 use Rattle.std.specs.List.{position}
 use Rattle.std.specs.Prelude.{IfNone}
 use Rattle.std.specs.Str.Lines.{strip_carriage_return}
@@ -71,3 +72,75 @@ returns-in-None-clause-open c =
     let none : position is_end (slice_range w.buf.items c.args.looked w.end) ≡ None =
     ap (λ l. position is_end (slice_range l c.args.looked w.end)) (sym c.deref.ensures.value) ∙ sym c.end_at.ensures ∙ c.in-None.is in
     if_none c.passed_if_cut.result (none-held w.buf.items w.start c.args.looked w.end c.requires.behind c.requires.within c.requires.open none)
+
+pub invariant_of-self : goal.invariant_of-self
+invariant_of-self c = grind (arith, common_steps)
+
+pub returns-then-self-clause-same : goal.returns-then-self-clause-same
+returns-then-self-clause-same c = grind (arith, common_steps)
+
+pub returns-then-self-clause-open : goal.returns-then-self-clause-open
+returns-then-self-clause-open c = grind (arith, common_steps)
+
+pub returns-then-self-clause-going : goal.returns-then-self-clause-going
+returns-then-self-clause-going c = grind (arith, common_steps)
+
+pub returns-then-self-clause-line : goal.returns-then-self-clause-line
+returns-then-self-clause-line c = grind (arith, common_steps)
+
+pub slice_bounds-end_at-count : goal.slice_bounds-end_at-count
+slice_bounds-end_at-count c = grind (arith, common_steps)
+
+pub slice_bounds-end_at-start : goal.slice_bounds-end_at-start
+slice_bounds-end_at-start c = grind (arith, common_steps)
+
+pub slice_bounds-end_at-end : goal.slice_bounds-end_at-end
+slice_bounds-end_at-end c = grind (arith, common_steps)
+
+pub overflow_add-at : goal.overflow_add-at
+overflow_add-at c = grind (arith, common_steps)
+
+pub end_of_text-to-requires-clause-in_order : goal.end_of_text-to-requires-clause-in_order
+end_of_text-to-requires-clause-in_order c = grind (arith, common_steps)
+
+pub end_of_text-to-requires-clause-within : goal.end_of_text-to-requires-clause-within
+end_of_text-to-requires-clause-within c = grind (arith, common_steps)
+
+pub overflow_add-at-in-Some : goal.overflow_add-at-in-Some
+overflow_add-at-in-Some c = grind (arith, common_steps)
+
+pub give-requires-clause-in_order : goal.give-requires-clause-in_order
+give-requires-clause-in_order c = grind (arith, common_steps)
+
+pub give-requires-clause-within : goal.give-requires-clause-within
+give-requires-clause-within c = grind (arith, common_steps)
+
+pub give-requires-clause-next_within : goal.give-requires-clause-next_within
+give-requires-clause-next_within c = grind (arith, common_steps)
+
+pub give-requires-clause-line : goal.give-requires-clause-line
+give-requires-clause-line c = grind (arith, common_steps)
+
+pub returns-in-Some-clause-same : goal.returns-in-Some-clause-same
+returns-in-Some-clause-same c = grind (arith, common_steps)
+
+pub returns-in-Some-clause-open : goal.returns-in-Some-clause-open
+returns-in-Some-clause-open c = grind (arith, common_steps)
+
+pub returns-in-Some-clause-going : goal.returns-in-Some-clause-going
+returns-in-Some-clause-going c = grind (arith, common_steps)
+
+pub returns-in-Some-clause-line : goal.returns-in-Some-clause-line
+returns-in-Some-clause-line c = grind (arith, common_steps)
+
+pub returns-in-None-clause-some : goal.returns-in-None-clause-some
+returns-in-None-clause-some c = grind (arith, common_steps)
+
+pub returns-in-None-clause-same : goal.returns-in-None-clause-same
+returns-in-None-clause-same c = grind (arith, common_steps)
+
+pub returns-in-None-clause-going : goal.returns-in-None-clause-going
+returns-in-None-clause-going c = grind (arith, common_steps)
+
+pub returns-in-None-clause-line : goal.returns-in-None-clause-line
+returns-in-None-clause-line c = grind (arith, common_steps)

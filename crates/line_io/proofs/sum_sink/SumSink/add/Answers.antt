@@ -1,4 +1,5 @@
-use Rattle.std.proofs.Common.{rules, ◌≡◌, ℕ, Some, cond, sym, ap, ◌∙◌}
+use Rattle.std.proofs.Common.{arith, rules, ◌≡◌, ℕ, Some, cond, sym, ap, ◌∙◌}
+use Rattle.std.proofs.lemmas.Grind.{common_steps}
 use Rattle.line_io.specs.Lines.{is_end}
 use Rattle.line_io.specs.Summary.{completes, further}
 use Rattle.line_io.specs.declared.sum_sink.TheConstants.{ERROR_WORD}
@@ -17,3 +18,12 @@ returns c = λ taken h.
       numbers = rw (ends, wrong_now, same) (summary-more w.lines w.errors w.bytes w.sum b taken h.numbers);
       begun = c.begun_after-self.ensures.value ∙ ap (λ s. cond (is_end b) (Some 0) (further ERROR_WORD s b)) h.begun ∙ sym (error_begun-more taken b);
     }
+
+pub completes-completed-requires : goal.completes-completed-requires
+completes-completed-requires c = grind (arith, common_steps)
+
+pub begun_after-self-requires : goal.begun_after-self-requires
+begun_after-self-requires c = grind (arith, common_steps)
+
+pub invariant_of-self : goal.invariant_of-self
+invariant_of-self c = grind (arith, common_steps)
