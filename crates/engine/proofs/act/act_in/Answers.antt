@@ -1,54 +1,50 @@
-use Rattle.std.proofs.Common.{refl, sym, ◌∙◌}
-use Rattle.script_grammar.specs.declared.command.Verb.TheVariants.{Push, Gc, Exit}
-use Rattle.engine.proofs.Acting.{does-same, becomes-does, passes-does, pop-does, recv-does, send-does, told-does, can-tell}
+use Rattle.std.proofs.Common.{sym, subst, ◌∙◌}
+use Rattle.std.proofs.lemmas.Bool.{both_ways}
+use Rattle.plain_machine.specs.Step.{is_printing_verb}
+use Rattle.engine.proofs.Acting.{told-does, can-tell, done-acts, done-can, done-refused}
 use Rattle.engine.proofs.act.act_in.Goals as goal
 
-pub returns-in-Push-clause-acts : goal.returns-in-Push-clause-acts
-returns-in-Push-clause-acts g c = does-same _ _ _ _ _ _ _ _ _ c.in-Push.is
-    (becomes-does _ _ _ _ _ _ _ _ (Push c.in-Push.r) c.push.result c.done.ensures refl (λ s terms q a. (refl, refl, refl)) (λ s terms h m. c.push.ensures.becomes s terms c.args.names.now h m))
+pub change-requires-clause-changes : goal.change-requires-clause-changes
+change-requires-clause-changes g c = sym c.tells.ensures ∙ c.if-tells.false
 
-pub returns-in-Pop-clause-acts : goal.returns-in-Pop-clause-acts
-returns-in-Pop-clause-acts g c = does-same _ _ _ _ _ _ _ _ _ c.in-Pop.is
-    (pop-does _ _ _ _ _ _ _ c.in-Pop.r c.pop.result c.done-in-Pop.ensures (λ s terms h m. c.pop.ensures.follows s terms c.args.names.now h m))
+pub change-requires-clause-sits : goal.change-requires-clause-sits
+change-requires-clause-sits g c = c.requires.sits
 
-pub returns-in-Send-clause-acts : goal.returns-in-Send-clause-acts
-returns-in-Send-clause-acts g c = does-same _ _ _ _ _ _ _ _ _ c.in-Send.is
-    (send-does _ _ _ _ _ _ _ c.in-Send.s c.in-Send.to c.send.result c.done-in-Send.ensures (λ s terms h m. c.send.ensures.becomes s terms c.args.names.now h m))
+pub change-requires-clause-built : goal.change-requires-clause-built
+change-requires-clause-built g c = c.requires.built
 
-pub returns-in-Recv-clause-acts : goal.returns-in-Recv-clause-acts
-returns-in-Recv-clause-acts g c = does-same _ _ _ _ _ _ _ _ _ c.in-Recv.is
-    (recv-does _ _ _ _ _ _ _ c.in-Recv.r c.receive.result c.done-in-Recv.ensures (λ s terms h m. c.receive.ensures.follows s terms c.args.names.now h m))
+pub change-requires-clause-registers : goal.change-requires-clause-registers
+change-requires-clause-registers g c = c.requires.registers
 
-pub returns-in-Gc-clause-acts : goal.returns-in-Gc-clause-acts
-returns-in-Gc-clause-acts g c = does-same _ _ _ _ _ _ _ _ _ c.in-Gc.is
-    (passes-does _ _ _ _ _ _ _ (Gc c.in-Gc.depth) refl refl (λ s terms q. (refl, refl, refl)) (λ s terms h m. c.collect.ensures.passes s terms c.args.names.now h m))
+pub change-requires-clause-name : goal.change-requires-clause-name
+change-requires-clause-name g c = c.requires.name
 
-pub returns-in-Exit-clause-acts : goal.returns-in-Exit-clause-acts
-returns-in-Exit-clause-acts g c = does-same _ _ _ _ _ _ _ _ _ c.in-Exit.is
-    (passes-does _ _ _ _ _ _ _ Exit refl refl (λ s terms q. (refl, refl, refl)) (λ s terms h m. c.exit.ensures.passes s terms c.args.names.now h m))
+pub change-requires-clause-calls : goal.change-requires-clause-calls
+change-requires-clause-calls g c = c.requires.calls
 
-pub returns-in_default-clause-acts : goal.returns-in_default-clause-acts
-returns-in_default-clause-acts g c = told-does _ c.args.seat _ _ _ c.args.verb (can-tell c.args.verb c.requires.built c.requires.registers (record {
-  makes = sym c.makes_term.ensures ∙ c.if-makes_term.false;
-  push = c.in_default.not-Push;
-  pop = c.in_default.not-Pop;
-  send = c.in_default.not-Send;
-  recv = c.in_default.not-Recv;
-  gc = c.in_default.not-Gc;
-  exit = c.in_default.not-Exit;
-}))
+pub change-requires-clause-named : goal.change-requires-clause-named
+change-requires-clause-named g c = c.requires.named
 
-pub returns-in_default-clause-can : goal.returns-in_default-clause-can
-returns-in_default-clause-can g c = (
-  c.requires.sits,
-  can-tell c.args.verb c.requires.built c.requires.registers (record {
-    makes = sym c.makes_term.ensures ∙ c.if-makes_term.false;
-    push = c.in_default.not-Push;
-    pop = c.in_default.not-Pop;
-    send = c.in_default.not-Send;
-    recv = c.in_default.not-Recv;
-    gc = c.in_default.not-Gc;
-    exit = c.in_default.not-Exit;
-  }),
-  c.requires.named,
-)
+pub change-requires-clause-code : goal.change-requires-clause-code
+change-requires-clause-code g c = c.requires.code
+
+pub returns-then-tells-clause-acts : goal.returns-then-tells-clause-acts
+returns-then-tells-clause-acts g c = told-does _ c.args.seat _ _ _ c.args.verb (can-tell c.args.verb c.requires.built c.requires.registers (sym c.tells.ensures ∙ c.if-tells.true))
+
+pub returns-then-tells-clause-can : goal.returns-then-tells-clause-can
+returns-then-tells-clause-can g c = (c.requires.sits, can-tell c.args.verb c.requires.built c.requires.registers (sym c.tells.ensures ∙ c.if-tells.true), c.requires.named)
+
+pub returns-clause-acts : goal.returns-clause-acts
+returns-clause-acts g c = done-acts _ _ _ _ _ _ _ _ c.change.result c.done.ensures c.change.ensures.acts
+
+pub returns-clause-can : goal.returns-clause-can
+returns-clause-can g c = done-can g.S.Space.sits g.S.Space.named c.change.new.space c.args.names.now c.done.result c.change.result c.done.ensures
+
+pub returns-clause-books : goal.returns-clause-books
+returns-clause-books g c = c.change.ensures.books
+
+pub returns-clause-refused : goal.returns-clause-refused
+returns-clause-refused g c = done-refused _ _ c.change.result c.done.ensures c.change.ensures.refused
+
+pub returns-clause-leaves : goal.returns-clause-leaves
+returns-clause-leaves g c = λ e. absurd (both_ways (is_printing_verb c.args.verb) (sym c.tells.ensures ∙ c.if-tells.false) e)
