@@ -48,13 +48,13 @@ exit-requires g c = record {
 pub make_term-requires : goal.make_term-requires
 make_term-requires g c = record {
   makes = makes-rest c.args.verb c.requires.built c.requires.changes (record {
-      push = c.in_default.not-Push;
-      pop = c.in_default.not-Pop;
-      send = c.in_default.not-Send;
-      recv = c.in_default.not-Recv;
-      gc = c.in_default.not-Gc;
-      exit = c.in_default.not-Exit;
-    });
+    push = c.in_default.not-Push;
+    pop = c.in_default.not-Pop;
+    send = c.in_default.not-Send;
+    recv = c.in_default.not-Recv;
+    gc = c.in_default.not-Gc;
+    exit = c.in_default.not-Exit;
+  });
   sits = c.requires.sits;
   built = c.requires.built;
   registers = c.requires.registers;
@@ -67,7 +67,7 @@ make_term-requires g c = record {
 pub returns-in-Push : goal.returns-in-Push
 returns-in-Push g c = record {
   acts = does-same _ _ _ _ _ _ _ _ _ c.in-Push.is
-        (becomes-does _ _ _ _ _ _ _ _ (Push c.in-Push.r) c.push.result refl refl (λ s terms q a. (refl, refl, refl)) (λ s terms h m. c.push.ensures.becomes s terms c.args.names.now h m));
+      (becomes-does _ _ _ _ _ _ _ _ (Push c.in-Push.r) c.push.result refl refl (λ s terms q a. (refl, refl, refl)) (λ s terms h m. c.push.ensures.becomes s terms c.args.names.now h m));
   books = keeps-more _ c.requires.named c.push.ensures.books;
   refused = on-err c.push.result c.push.ensures.books.few_names;
 }
@@ -75,7 +75,7 @@ returns-in-Push g c = record {
 pub returns-in-Pop : goal.returns-in-Pop
 returns-in-Pop g c = record {
   acts = does-same _ _ _ _ _ _ _ _ _ c.in-Pop.is
-        (pop-does _ _ _ _ _ _ _ c.in-Pop.r c.pop.result refl (λ s terms h m. c.pop.ensures.follows s terms c.args.names.now h m));
+      (pop-does _ _ _ _ _ _ _ c.in-Pop.r c.pop.result refl (λ s terms h m. c.pop.ensures.follows s terms c.args.names.now h m));
   books = keeps-more _ c.requires.named c.pop.ensures.books;
   refused = on-err c.pop.result c.pop.ensures.books.few_names;
 }
@@ -83,7 +83,7 @@ returns-in-Pop g c = record {
 pub returns-in-Send : goal.returns-in-Send
 returns-in-Send g c = record {
   acts = does-same _ _ _ _ _ _ _ _ _ c.in-Send.is
-        (send-does _ _ _ _ _ _ _ c.in-Send.s c.in-Send.to c.send.result refl (λ s terms h m. c.send.ensures.becomes s terms c.args.names.now h m));
+      (send-does _ _ _ _ _ _ _ c.in-Send.s c.in-Send.to c.send.result refl (λ s terms h m. c.send.ensures.becomes s terms c.args.names.now h m));
   books = keeps-more _ c.requires.named c.send.ensures.books;
   refused = on-err c.send.result c.send.ensures.books.few_names;
 }
@@ -91,7 +91,7 @@ returns-in-Send g c = record {
 pub returns-in-Recv : goal.returns-in-Recv
 returns-in-Recv g c = record {
   acts = does-same _ _ _ _ _ _ _ _ _ c.in-Recv.is
-        (recv-does _ _ _ _ _ _ _ c.in-Recv.r c.receive.result refl (λ s terms h m. c.receive.ensures.follows s terms c.args.names.now h m));
+      (recv-does _ _ _ _ _ _ _ c.in-Recv.r c.receive.result refl (λ s terms h m. c.receive.ensures.follows s terms c.args.names.now h m));
   books = keeps-more _ c.requires.named c.receive.ensures.books;
   refused = on-err c.receive.result c.receive.ensures.books.few_names;
 }
@@ -99,7 +99,7 @@ returns-in-Recv g c = record {
 pub returns-in-Gc : goal.returns-in-Gc
 returns-in-Gc g c = record {
   acts = does-same _ _ _ _ _ _ _ _ _ c.in-Gc.is
-        (passes-does _ _ _ _ _ _ _ (Gc c.in-Gc.depth) refl refl (λ s terms q. (refl, refl, refl)) (λ s terms h m. c.collect.ensures.passes s terms c.args.names.now h m));
+      (passes-does _ _ _ _ _ _ _ (Gc c.in-Gc.depth) refl refl (λ s terms q. (refl, refl, refl)) (λ s terms h m. c.collect.ensures.passes s terms c.args.names.now h m));
   books = keeps-more _ c.requires.named c.collect.ensures.books;
   refused = tt;
 }
@@ -107,7 +107,7 @@ returns-in-Gc g c = record {
 pub returns-in-Exit : goal.returns-in-Exit
 returns-in-Exit g c = record {
   acts = does-same _ _ _ _ _ _ _ _ _ c.in-Exit.is
-        (passes-does _ _ _ _ _ _ _ Exit refl refl (λ s terms q. (refl, refl, refl)) (λ s terms h m. c.exit.ensures.passes s terms c.args.names.now h m));
+      (passes-does _ _ _ _ _ _ _ Exit refl refl (λ s terms q. (refl, refl, refl)) (λ s terms h m. c.exit.ensures.passes s terms c.args.names.now h m));
   books = keeps-more _ c.requires.named c.exit.ensures.books;
   refused = tt;
 }
