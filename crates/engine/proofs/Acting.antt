@@ -15,10 +15,10 @@ use Rattle.script_grammar.specs.declared.command.Depth.{Depth}
 use Rattle.script_grammar.specs.declared.command.To.{To}
 use Rattle.script_grammar.specs.declared.command.Shape.{Shape}
 use Rattle.script_grammar.specs.declared.command.Command.{Command}
-use Rattle.script_grammar.specs.declared.command.Command.TheVariants.{Process, System}
+use Rattle.script_grammar.specs.declared.command.Command.TheVariants.{Nothing as NoCommand, Process, System}
 use Rattle.script_grammar.specs.declared.command.Verb.{Verb}
 use Rattle.script_grammar.specs.declared.command.Verb.TheVariants.{Set, Choose, MapPut, Fill, Fun as MakeFun, Ref, Own, Repeat, Push, Pop, Send, Recv, Queue, Print, Eq, Cmp, Flat, Gc, Exit}
-use Rattle.script_grammar.specs.declared.command.SysVerb.TheVariants.{Spawn, Sweep, Counts as CountsVerb}
+use Rattle.script_grammar.specs.declared.command.SysVerb.TheVariants.{Spawn, Sweep, Procs, Counts as CountsVerb, Quit as QuitVerb}
 use Rattle.script_grammar.specs.declared.refusal.Refusal.{Refusal}
 use Rattle.script_grammar.specs.declared.refusal.Refusal.TheVariants.{NoProc}
 use Rattle.script_grammar.specs.Written.{Term, Terms}
@@ -37,7 +37,7 @@ use Rattle.plain_machine.specs.Maps.{is_map}
 use Rattle.space_api.specs.declared.space.Seat.{Seat}
 use Rattle.space_api.specs.Calls.{KeepsBooks, said, Follows, Stays, Becomes, Passes, one_term, HasEnv, IsWrittenTerm}
 use Rattle.engine.specs.declared.reply.Reply.{Reply}
-use Rattle.engine.specs.declared.reply.Reply.TheVariants.{Done, Spawned, Counts, Told, Refused}
+use Rattle.engine.specs.declared.reply.Reply.TheVariants.{Nothing as NoReply, Done, Spawned, Numbers, Counts, Told, Quit, Refused}
 use Rattle.engine.specs.Replies.{CanReply, CanTell, reply_lines, reply_of, ends_script, outcome_text}
 use Rattle.engine.specs.Rules.{Supply, After}
 use Rattle.engine.specs.Acts.{Acts, Fits, OnRefused, TermsFit, makes_term, names_left, shown}
@@ -411,20 +411,20 @@ pub on-err : {A P : Type 0} (r : Result A Refusal) → P → OnErr r P
 on-err (Ok a) p = tt
 on-err (Err e) p = p
 
--- the reply to an answer that tells nothing
-pub done-refused : {A : Type 0} (P : Type 0) (reply : Reply) (r : Result A Refusal) → reply ≡ reply_of (λ (a : A). Done) r → OnErr r P → OnRefused reply P
-done-refused {A} P reply r e h = subst (λ x. OnRefused x P) (sym e) (at r h)
+-- what is not said of a refusal is said of the reply to a call's answer
+pub said-refused : {A : Type 0} (say : A → Reply) (P : Type 0) (reply : Reply) (r : Result A Refusal) → reply ≡ reply_of say r → ((a : A) → OnRefused (say a) P) → OnErr r P → OnRefused reply P
+said-refused {A} say P reply r e ok h = subst (λ x. OnRefused x P) (sym e) (at r h)
   where
-    at : (r : Result A Refusal) → OnErr r P → OnRefused (reply_of (λ (a : A). Done) r) P
-    at (Ok a) h = tt
+    at : (r : Result A Refusal) → OnErr r P → OnRefused (reply_of say r) P
+    at (Ok a) h = ok a
     at (Err x) h = h
 
-pub done-can : {A S : Type 0} (sits : S → Seat → Type 0) (named : S → ℕ) (space : S) (names : List (List ℕ)) (reply : Reply) (r : Result A Refusal)
-    → reply ≡ reply_of (λ (a : A). Done) r → CanReply sits named space names reply
-done-can {A} sits named space names reply r e = subst (CanReply sits named space names) (sym e) (at r)
+pub said-can : {A S : Type 0} (say : A → Reply) (sits : S → Seat → Type 0) (named : S → ℕ) (space : S) (names : List (List ℕ)) (reply : Reply) (r : Result A Refusal)
+    → reply ≡ reply_of say r → ((a : A) → CanReply sits named space names (say a)) → CanReply sits named space names reply
+said-can {A} say sits named space names reply r e ok = subst (CanReply sits named space names) (sym e) (at r)
   where
-    at : (r : Result A Refusal) → CanReply sits named space names (reply_of (λ (a : A). Done) r)
-    at (Ok a) = tt
+    at : (r : Result A Refusal) → CanReply sits named space names (reply_of say r)
+    at (Ok a) = ok a
     at (Err x) = tt
 
 module _ (supply : Supply) (names : List (List ℕ)) (code : List Item) (reply : Reply) (Old : State → Type 0) (after : After) where
@@ -474,3 +474,40 @@ counts-does supply names code Old after same = λ s terms h f. record {
   steps = λ m. inl (record { goes_on = refl; map = after.text (System CountsVerb); allowed = m; said = refl; same = refl });
   maps = λ e o. refl;
 }
+
+-- what prints and is no map of the store
+pub procs-does : (supply : Supply) (names : List (List ℕ)) (code : List Item) (Old : State → Type 0) (after : After) → ((s : State) → Old s → after.stands s)
+    → DoesCommand supply names code Numbers Old after (System Procs)
+procs-does supply names code Old after same = λ s terms h f. record {
+  new = s;
+  stands = same s h;
+  names = refl;
+  steps = λ m. inl (record { ends = refl; said = refl; is = refl });
+  maps = λ e o. absurd (cc);
+}
+
+pub quit-does : (supply : Supply) (names : List (List ℕ)) (code : List Item) (Old : State → Type 0) (after : After) → ((s : State) → Old s → after.stands s)
+    → DoesCommand supply names code Quit Old after (System QuitVerb)
+quit-does supply names code Old after same = λ s terms h f. record {
+  new = s;
+  stands = same s h;
+  names = refl;
+  steps = λ m. inl (record { ends = refl; said = refl; is = refl });
+  maps = λ e o. absurd (cc);
+}
+
+-- a line without a command
+pub nothing-does : (supply : Supply) (names : List (List ℕ)) (code : List Item) (Old : State → Type 0) (after : After) → ((s : State) → Old s → after.stands s)
+    → DoesCommand supply names code NoReply Old after NoCommand
+nothing-does supply names code Old after same = λ s terms h f. record {
+  new = s;
+  stands = same s h;
+  names = refl;
+  steps = λ m. record { goes_on = refl; said = refl; same = refl };
+  maps = λ e o. absurd (cc);
+}
+
+-- a verb of the process that was found
+pub found-does : (supply : Supply) (m n : ℕ) (names : List (List ℕ)) (code : List Item) (reply : Reply) (Old : State → Type 0) (after : After) (verb : Verb)
+    → m ≡ n → DoesVerb supply m names code reply Old after verb → DoesVerb supply n names code reply Old after verb
+found-does supply m n names code reply Old after verb e d = subst (λ k. DoesVerb supply k names code reply Old after verb) e d

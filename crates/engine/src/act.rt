@@ -24,7 +24,7 @@ fn done(answer: Result<(), Refusal>) -> Reply
 {
     match answer {
         Ok(()) => Reply::Done,
-        Err(refusal) => Reply::Refused(refusal),
+        Err(why) => Reply::Refused(why),
     }
 }
 
