@@ -5,6 +5,9 @@ use Rattle.engine.specs.declared.reply.Reply.TheVariants.{Done}
 use Rattle.engine.proofs.Acting.{told-does, can-tell, done-acts, said-can, said-refused}
 use Rattle.engine.proofs.act.act_in.Goals as goal
 
+pub tells-requires : goal.tells-requires
+tells-requires g c = record { built = c.requires.built }
+
 pub change-requires : goal.change-requires
 change-requires g c = record {
   changes = sym c.tells.ensures ∙ c.if-tells.false;
