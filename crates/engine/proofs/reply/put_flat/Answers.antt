@@ -19,7 +19,8 @@ returns-in-Ok g c = record {
 pub returns-in-Err : goal.returns-in-Err
 returns-in-Err g c = record {
   writes = λ s h.
-      refused-line g.K.Sink.wrote c.args.sink.now c.put_refusal.new.sink _ (λ m. decimal m.flat) c.in-Err.refusal c.put_refusal.result (c.in-Err.ensures.flat s end c.args.names.now h) c.put_refusal.ensures.writes;
+      refused-line g.K.Sink.wrote c.args.sink.now c.put_refusal.new.sink _ (λ m. decimal m.flat) c.in-Err.refusal c.put_refusal.result
+      (c.in-Err.ensures.flat s end c.args.names.now h) c.put_refusal.ensures.writes;
   later = c.put_refusal.ensures.later;
   rose = c.put_refusal.ensures.rose;
   told = c.put_refusal.ensures.told;

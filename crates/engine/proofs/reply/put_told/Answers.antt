@@ -10,7 +10,8 @@ put_text-requires g c =
 
 pub returns-in-Print : goal.returns-in-Print
 returns-in-Print g c = record {
-  writes = λ s h. told-verb g.K.Sink.wrote c.args.sink.now c.put_text.new.sink c.put_text.result c.args.seat _ _ (record { state = s; names = c.args.names.now; text = g.S.Space.text c.args.space.now c.args.names.now }) c.in-Print.is (c.put_text.ensures.writes s h);
+  writes = λ s h. told-verb g.K.Sink.wrote c.args.sink.now c.put_text.new.sink c.put_text.result c.args.seat _ _
+      (record { state = s; names = c.args.names.now; text = g.S.Space.text c.args.space.now c.args.names.now }) c.in-Print.is (c.put_text.ensures.writes s h);
   later = c.put_text.ensures.later;
   rose = c.put_text.ensures.rose;
   told = c.put_text.ensures.told;
@@ -22,7 +23,8 @@ put_equal-requires g c =
 
 pub returns-in-Eq : goal.returns-in-Eq
 returns-in-Eq g c = record {
-  writes = λ s h. told-verb g.K.Sink.wrote c.args.sink.now c.put_equal.new.sink c.put_equal.result c.args.seat _ _ (record { state = s; names = c.args.names.now; text = g.S.Space.text c.args.space.now c.args.names.now }) c.in-Eq.is (c.put_equal.ensures.writes s h);
+  writes = λ s h. told-verb g.K.Sink.wrote c.args.sink.now c.put_equal.new.sink c.put_equal.result c.args.seat _ _
+      (record { state = s; names = c.args.names.now; text = g.S.Space.text c.args.space.now c.args.names.now }) c.in-Eq.is (c.put_equal.ensures.writes s h);
   later = c.put_equal.ensures.later;
   rose = c.put_equal.ensures.rose;
   told = c.put_equal.ensures.told;
@@ -34,7 +36,8 @@ put_order-requires g c =
 
 pub returns-in-Cmp : goal.returns-in-Cmp
 returns-in-Cmp g c = record {
-  writes = λ s h. told-verb g.K.Sink.wrote c.args.sink.now c.put_order.new.sink c.put_order.result c.args.seat _ _ (record { state = s; names = c.args.names.now; text = g.S.Space.text c.args.space.now c.args.names.now }) c.in-Cmp.is (c.put_order.ensures.writes s h);
+  writes = λ s h. told-verb g.K.Sink.wrote c.args.sink.now c.put_order.new.sink c.put_order.result c.args.seat _ _
+      (record { state = s; names = c.args.names.now; text = g.S.Space.text c.args.space.now c.args.names.now }) c.in-Cmp.is (c.put_order.ensures.writes s h);
   later = c.put_order.ensures.later;
   rose = c.put_order.ensures.rose;
   told = c.put_order.ensures.told;
@@ -46,7 +49,8 @@ put_flat-requires g c =
 
 pub returns-in-Flat : goal.returns-in-Flat
 returns-in-Flat g c = record {
-  writes = λ s h. told-verb g.K.Sink.wrote c.args.sink.now c.put_flat.new.sink c.put_flat.result c.args.seat _ _ (record { state = s; names = c.args.names.now; text = g.S.Space.text c.args.space.now c.args.names.now }) c.in-Flat.is (c.put_flat.ensures.writes s h);
+  writes = λ s h. told-verb g.K.Sink.wrote c.args.sink.now c.put_flat.new.sink c.put_flat.result c.args.seat _ _
+      (record { state = s; names = c.args.names.now; text = g.S.Space.text c.args.space.now c.args.names.now }) c.in-Flat.is (c.put_flat.ensures.writes s h);
   later = c.put_flat.ensures.later;
   rose = c.put_flat.ensures.rose;
   told = c.put_flat.ensures.told;
@@ -58,7 +62,8 @@ put_queue-requires g c =
 
 pub returns-in-Queue : goal.returns-in-Queue
 returns-in-Queue g c = record {
-  writes = λ s h. told-verb g.K.Sink.wrote c.args.sink.now c.put_queue.new.sink c.put_queue.result c.args.seat _ _ (record { state = s; names = c.args.names.now; text = g.S.Space.text c.args.space.now c.args.names.now }) c.in-Queue.is (c.put_queue.ensures.writes s h);
+  writes = λ s h. told-verb g.K.Sink.wrote c.args.sink.now c.put_queue.new.sink c.put_queue.result c.args.seat _ _
+      (record { state = s; names = c.args.names.now; text = g.S.Space.text c.args.space.now c.args.names.now }) c.in-Queue.is (c.put_queue.ensures.writes s h);
   later = c.put_queue.ensures.later;
   rose = c.put_queue.ensures.rose;
   told = c.put_queue.ensures.told;

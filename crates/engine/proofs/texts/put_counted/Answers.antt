@@ -16,9 +16,11 @@ returns-in_err-put_all g c =
 
 pub returns-in_err-put_number : goal.returns-in_err-put_number
 returns-in_err-put_number g c =
-    let t = tells-fault _ _ _ c.from_residual-in_err-put_number.result (c.from_residual-in_err-put_number.ensures.0) c.in_ok-put_all.ensures.told c.in_err-put_number.ensures.later c.in_err-put_number.ensures.rose in record {
+    let t = tells-fault _ _ _ c.from_residual-in_err-put_number.result (c.from_residual-in_err-put_number.ensures.0)
+    c.in_ok-put_all.ensures.told c.in_err-put_number.ensures.later c.in_err-put_number.ensures.rose in record {
       writes = writes-fault _ _ _ _ _ (c.from_residual-in_err-put_number.ensures.0)
-          (second-stopped g.K.Sink.wrote c.args.sink.now c.put_all.new.sink c.put_number.new.sink c.args.text.now (decimal c.args.n) (10 ∷ [])
+          (second-stopped g.K.Sink.wrote c.args.sink.now c.put_all.new.sink c.put_number.new.sink c.args.text.now (decimal c.args.n)
+          (10 ∷ [])
           (c.in_ok-put_all.ensures.all) (c.in_err-put_number.ensures.writes));
       later = t.0;
       rose = t.1;
@@ -27,8 +29,10 @@ returns-in_err-put_number g c =
 
 pub returns : goal.returns
 returns g c =
-    let t = tells-after _ _ _ c.put_all-2.result (c.in_ok-put_number.ensures.told ∙ c.in_ok-put_all.ensures.told) c.put_all-2.ensures.later c.put_all-2.ensures.rose c.put_all-2.ensures.told in record {
-      writes = three-parts g.K.Sink.wrote c.args.sink.now c.put_all.new.sink c.put_number.new.sink c.put_all-2.new.sink c.args.text.now (decimal c.args.n) (10 ∷ []) c.put_all-2.result
+    let t = tells-after _ _ _ c.put_all-2.result (c.in_ok-put_number.ensures.told ∙ c.in_ok-put_all.ensures.told)
+    c.put_all-2.ensures.later c.put_all-2.ensures.rose c.put_all-2.ensures.told in record {
+      writes = three-parts g.K.Sink.wrote c.args.sink.now c.put_all.new.sink c.put_number.new.sink c.put_all-2.new.sink c.args.text.now (decimal c.args.n)
+          (10 ∷ []) c.put_all-2.result
           (c.in_ok-put_all.ensures.all) (c.in_ok-put_number.ensures.writes) (writes-of _ _ _ _ _ c.put_all-2.ensures.all c.put_all-2.ensures.part);
       later = t.0;
       rose = t.1;
