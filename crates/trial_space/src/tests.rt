@@ -1,4 +1,6 @@
 // Scripts served at the trial space.
+ghost use Rattle.std.specs.Prelude.{◌≡◌, ◌≤◌, IfOk, length};
+
 use crate::space::TrialSpace;
 use atom_names::AtomNames;
 use engine::{Machine, Status, Stepped, serve, step};
@@ -37,6 +39,61 @@ const SENT: &[u8] =
 const TOLD: &[u8] =
     b"ok\nok\na\ntrue\nok\nfalse\nlt\ngt\neq\nok\nlt\ngt\nok\nok\nlt\n0\nerror badarg\nerror badarg\nerror badarg\nerror badarg\nerror nospace 3\nerror nospace 3\nerror nospace 4\nerror badarg\nerror nospace 2\nerror nospace 2\nerror nospace 9\na\n";
 
+// A script, and the replies to its lines.
+struct Case {
+    script: &'static [u8],
+    replies: &'static [u8],
+}
+
+// A script is served at a space that is no arena; what needs no word of the verbs on terms is done; binaries and funs find no
+// words, and none is counted; a message finds no words, and none waits.
+const CASES: [Case; 4] = [
+    Case {
+        script: SCRIPT,
+        replies: REPLIES,
+    },
+    Case {
+        script: VERBS,
+        replies: TOLD,
+    },
+    Case {
+        script: BINARIES,
+        replies: LISTED,
+    },
+    Case {
+        script: MESSAGES,
+        replies: SENT,
+    },
+];
+
+// A machine at the trial space.
+fn machine(alloc: Global) -> Result<Machine<TrialSpace>, Fail>
+    ensures { IfOk result (λ m. ⟦<TrialSpace as Space>⟧.named m.space ≡ 0) }
+{
+    let code = Code::new(alloc)?;
+    let names = AtomNames::new(alloc)?;
+    let space = TrialSpace::start();
+    Ok(Machine { space, names, code })
+}
+
+// Serves a script.
+fn run(
+    m: &mut Machine<TrialSpace>,
+    script: &[u8],
+    sink: &mut MemSink,
+    alloc: Global,
+) -> Result<Status, Fail>
+    requires { ⟦<TrialSpace as Space>⟧.named m.old.space ≤ length m.old.names }
+{
+    let limits = Limits {
+        lines: 100,
+        bytes: 1000,
+    };
+    let mut reader = LineReader::new(alloc, limits)?;
+    let mut source = MemSource::new(alloc, script, 7, &[])?;
+    Ok(serve(m, &mut reader, &mut source, sink))
+}
+
 // Whether a script was served to its end.
 fn is_done(status: Status) -> bool {
     matches!(status, Status::Done)
@@ -44,61 +101,44 @@ fn is_done(status: Status) -> bool {
 
 // Whether a script is answered by these replies.
 fn serves(alloc: Global, script: &[u8], replies: &[u8]) -> Result<bool, Fail> {
-    let limits = Limits {
-        lines: 100,
-        bytes: 1000,
-    };
-    let mut reader = LineReader::new(alloc, limits)?;
-    let mut source = MemSource::new(alloc, script, 7, &[])?;
+    let mut m = machine(alloc)?;
     let mut sink = MemSink::new(alloc, 1000, 5, &[])?;
-    let code = Code::new(alloc)?;
-    let names = AtomNames::new(alloc)?;
-    let space = TrialSpace::start();
-    let mut machine = Machine { space, names, code };
-    let status = serve(&mut machine, &mut reader, &mut source, &mut sink);
+    let status = run(&mut m, script, &mut sink, alloc)?;
     Ok(is_done(status) && sink.bytes() == replies)
 }
 
-#[test]
-fn a_script_is_served_at_a_space_that_is_no_arena(rt: HostRuntime) -> Result<(), Fail> {
-    assert!(rt; serves(rt.alloc(), SCRIPT, REPLIES)?);
-    Ok(())
+// Whether each script is.
+fn serves_all(alloc: Global) -> Result<bool, Fail> {
+    for case in &CASES {
+        if !serves(alloc, case.script, case.replies)? {
+            return Ok(false);
+        }
+    }
+    Ok(true)
 }
 
 #[test]
-fn what_needs_no_word_of_the_verbs_on_terms_is_done(rt: HostRuntime) -> Result<(), Fail> {
-    assert!(rt; serves(rt.alloc(), VERBS, TOLD)?);
-    Ok(())
-}
-
-#[test]
-fn binaries_and_funs_find_no_words_and_none_is_counted(rt: HostRuntime) -> Result<(), Fail> {
-    assert!(rt; serves(rt.alloc(), BINARIES, LISTED)?);
-    Ok(())
-}
-
-#[test]
-fn a_message_finds_no_words_and_none_waits(rt: HostRuntime) -> Result<(), Fail> {
-    assert!(rt; serves(rt.alloc(), MESSAGES, SENT)?);
+fn scripts_are_served_at_a_space_that_is_no_arena(rt: HostRuntime) -> Result<(), Fail> {
+    assert!(rt; serves_all(rt.alloc())?);
     Ok(())
 }
 
 // Whether a line that is done goes on, and one that quits ends the script.
-fn went(set: Stepped, quit: Stepped) -> bool {
+fn went(m: &mut Machine<TrialSpace>, sink: &mut MemSink) -> bool
+    requires { ⟦<TrialSpace as Space>⟧.named m.old.space ≤ length m.old.names }
+{
+    let set = step(m, b"1 set 5 ok", sink);
+    let quit = step(m, b"sys quit", sink);
     matches!(set, Stepped::Next) && matches!(quit, Stepped::Quit)
 }
 
 // Whether two lines are done one by one, and leave the process alive.
 fn steps(alloc: Global) -> Result<bool, Fail> {
+    let mut m = machine(alloc)?;
     let mut sink = MemSink::new(alloc, 100, 100, &[])?;
-    let code = Code::new(alloc)?;
-    let names = AtomNames::new(alloc)?;
-    let space = TrialSpace::start();
-    let mut machine = Machine { space, names, code };
-    let set = step(&mut machine, b"1 set 5 ok", &mut sink);
-    let quit = step(&mut machine, b"sys quit", &mut sink);
-    let lives = machine.space.find(1).is_some();
-    Ok(lives && went(set, quit) && sink.bytes() == b"ok\nok\n".as_slice())
+    let went = went(&mut m, &mut sink);
+    let lives = m.space.find(1).is_some();
+    Ok(lives && went && sink.bytes() == b"ok\nok\n".as_slice())
 }
 
 #[test]
