@@ -1,5 +1,5 @@
 // Scripts served at the trial space.
-ghost use Rattle.std.specs.Prelude.{◌≡◌, ◌≤◌, IfOk, length};
+ghost use Rattle.std.specs.Prelude.{◌≡◌, IfOk};
 
 use crate::space::TrialSpace;
 use atom_names::AtomNames;
@@ -77,21 +77,15 @@ fn machine(alloc: Global) -> Result<Machine<TrialSpace>, Fail>
 }
 
 // Serves a script.
-fn run(
-    m: &mut Machine<TrialSpace>,
-    script: &[u8],
-    sink: &mut MemSink,
-    alloc: Global,
-) -> Result<Status, Fail>
-    requires { ⟦<TrialSpace as Space>⟧.named m.old.space ≤ length m.old.names }
-{
+fn run(alloc: Global, script: &[u8], sink: &mut MemSink) -> Result<Status, Fail> {
     let limits = Limits {
         lines: 100,
         bytes: 1000,
     };
     let mut reader = LineReader::new(alloc, limits)?;
     let mut source = MemSource::new(alloc, script, 7, &[])?;
-    Ok(serve(m, &mut reader, &mut source, sink))
+    let mut m = machine(alloc)?;
+    Ok(serve(&mut m, &mut reader, &mut source, sink))
 }
 
 // Whether a script was served to its end.
@@ -99,12 +93,16 @@ fn is_done(status: Status) -> bool {
     matches!(status, Status::Done)
 }
 
+// Whether all was done, and this is what was written.
+fn told(done: bool, sink: &MemSink, text: &[u8]) -> bool {
+    done && sink.bytes() == text
+}
+
 // Whether a script is answered by these replies.
 fn serves(alloc: Global, script: &[u8], replies: &[u8]) -> Result<bool, Fail> {
-    let mut m = machine(alloc)?;
     let mut sink = MemSink::new(alloc, 1000, 5, &[])?;
-    let status = run(&mut m, script, &mut sink, alloc)?;
-    Ok(is_done(status) && sink.bytes() == replies)
+    let status = run(alloc, script, &mut sink)?;
+    Ok(told(is_done(status), &sink, replies))
 }
 
 // Whether each script is.
@@ -124,21 +122,24 @@ fn scripts_are_served_at_a_space_that_is_no_arena(rt: HostRuntime) -> Result<(),
 }
 
 // Whether a line that is done goes on, and one that quits ends the script.
-fn went(m: &mut Machine<TrialSpace>, sink: &mut MemSink) -> bool
-    requires { ⟦<TrialSpace as Space>⟧.named m.old.space ≤ length m.old.names }
-{
-    let set = step(m, b"1 set 5 ok", sink);
-    let quit = step(m, b"sys quit", sink);
+fn went(set: Stepped, quit: Stepped) -> bool {
     matches!(set, Stepped::Next) && matches!(quit, Stepped::Quit)
 }
 
 // Whether two lines are done one by one, and leave the process alive.
-fn steps(alloc: Global) -> Result<bool, Fail> {
+fn go(alloc: Global, sink: &mut MemSink) -> Result<bool, Fail> {
     let mut m = machine(alloc)?;
-    let mut sink = MemSink::new(alloc, 100, 100, &[])?;
-    let went = went(&mut m, &mut sink);
+    let set = step(&mut m, b"1 set 5 ok", sink);
+    let quit = step(&mut m, b"sys quit", sink);
     let lives = m.space.find(1).is_some();
-    Ok(lives && went && sink.bytes() == b"ok\nok\n".as_slice())
+    Ok(lives && went(set, quit))
+}
+
+// Whether they are, and each is answered.
+fn steps(alloc: Global) -> Result<bool, Fail> {
+    let mut sink = MemSink::new(alloc, 100, 100, &[])?;
+    let done = go(alloc, &mut sink)?;
+    Ok(told(done, &sink, b"ok\nok\n"))
 }
 
 #[test]
