@@ -1,6 +1,4 @@
 // Scripts served at the trial space.
-ghost use Rattle.std.specs.Prelude.{◌≡◌, IfOk};
-
 use crate::space::TrialSpace;
 use atom_names::AtomNames;
 use engine::{Machine, Status, Stepped, serve, step};
@@ -66,43 +64,26 @@ const CASES: [Case; 4] = [
     },
 ];
 
-// A machine at the trial space.
-fn machine(alloc: Global) -> Result<Machine<TrialSpace>, Fail>
-    ensures { IfOk result (λ m. ⟦<TrialSpace as Space>⟧.named m.space ≡ 0) }
-{
-    let code = Code::new(alloc)?;
-    let names = AtomNames::new(alloc)?;
-    let space = TrialSpace::start();
-    Ok(Machine { space, names, code })
+// Whether a script was served to its end.
+fn is_done(status: Status) -> bool {
+    matches!(status, Status::Done)
 }
 
-// Serves a script.
-fn run(alloc: Global, script: &[u8], sink: &mut MemSink) -> Result<Status, Fail> {
+// Whether a script is answered by these replies.
+fn serves(alloc: Global, script: &[u8], replies: &[u8]) -> Result<bool, Fail> {
     let limits = Limits {
         lines: 100,
         bytes: 1000,
     };
     let mut reader = LineReader::new(alloc, limits)?;
     let mut source = MemSource::new(alloc, script, 7, &[])?;
-    let mut m = machine(alloc)?;
-    Ok(serve(&mut m, &mut reader, &mut source, sink))
-}
-
-// Whether a script was served to its end.
-fn is_done(status: Status) -> bool {
-    matches!(status, Status::Done)
-}
-
-// Whether all was done, and this is what was written.
-fn told(done: bool, sink: &MemSink, text: &[u8]) -> bool {
-    done && sink.bytes() == text
-}
-
-// Whether a script is answered by these replies.
-fn serves(alloc: Global, script: &[u8], replies: &[u8]) -> Result<bool, Fail> {
     let mut sink = MemSink::new(alloc, 1000, 5, &[])?;
-    let status = run(alloc, script, &mut sink)?;
-    Ok(told(is_done(status), &sink, replies))
+    let code = Code::new(alloc)?;
+    let names = AtomNames::new(alloc)?;
+    let space = TrialSpace::start();
+    let mut machine = Machine { space, names, code };
+    let status = serve(&mut machine, &mut reader, &mut source, &mut sink);
+    Ok(is_done(status) && sink.bytes() == replies)
 }
 
 // Whether each script is.
@@ -127,19 +108,16 @@ fn went(set: Stepped, quit: Stepped) -> bool {
 }
 
 // Whether two lines are done one by one, and leave the process alive.
-fn go(alloc: Global, sink: &mut MemSink) -> Result<bool, Fail> {
-    let mut m = machine(alloc)?;
-    let set = step(&mut m, b"1 set 5 ok", sink);
-    let quit = step(&mut m, b"sys quit", sink);
-    let lives = m.space.find(1).is_some();
-    Ok(lives && went(set, quit))
-}
-
-// Whether they are, and each is answered.
 fn steps(alloc: Global) -> Result<bool, Fail> {
     let mut sink = MemSink::new(alloc, 100, 100, &[])?;
-    let done = go(alloc, &mut sink)?;
-    Ok(told(done, &sink, b"ok\nok\n"))
+    let code = Code::new(alloc)?;
+    let names = AtomNames::new(alloc)?;
+    let space = TrialSpace::start();
+    let mut machine = Machine { space, names, code };
+    let set = step(&mut machine, b"1 set 5 ok", &mut sink);
+    let quit = step(&mut machine, b"sys quit", &mut sink);
+    let lives = machine.space.find(1).is_some();
+    Ok(lives && went(set, quit) && sink.bytes() == b"ok\nok\n".as_slice())
 }
 
 #[test]
