@@ -1,8 +1,8 @@
 -- From the answer of a space's call to the machine's step.
 use Rattle.std.proofs.Common.{◌≡◌, ℕ, inl, inr, Bool, true, false, not, cond, ◌||◌, ◌⊎◌, List, [], ◌∷◌, ◌++◌, codes, decimal, nat_le, nat_lt, length, replicate}
-use Rattle.std.proofs.Common.{Option, Some, None, Result, Ok, Err, IfOk, refl, sym, ap, subst, ◌∙◌}
+use Rattle.std.proofs.Common.{arith, ◌≤◌, Option, Some, None, Result, Ok, Err, IfOk, refl, sym, ap, subst, ◌∙◌}
 use Rattle.std.proofs.lemmas.Bool.{both_ways, true≢false}
-use Rattle.std.specs.Prelude.{MatchBool}
+use Rattle.std.specs.Prelude.{MatchBool, OnErr}
 use Rattle.std.specs.List.{find, list_any}
 use Rattle.plain_term.specs.Tree.{Tree, Pairs}
 use Rattle.plain_term.specs.Tree.{Tree as tree}
@@ -15,10 +15,10 @@ use Rattle.script_grammar.specs.declared.command.Depth.{Depth}
 use Rattle.script_grammar.specs.declared.command.To.{To}
 use Rattle.script_grammar.specs.declared.command.Shape.{Shape}
 use Rattle.script_grammar.specs.declared.command.Command.{Command}
-use Rattle.script_grammar.specs.declared.command.Command.TheVariants.{Process, System}
+use Rattle.script_grammar.specs.declared.command.Command.TheVariants.{Nothing as NoCommand, Process, System}
 use Rattle.script_grammar.specs.declared.command.Verb.{Verb}
 use Rattle.script_grammar.specs.declared.command.Verb.TheVariants.{Set, Choose, MapPut, Fill, Fun as MakeFun, Ref, Own, Repeat, Push, Pop, Send, Recv, Queue, Print, Eq, Cmp, Flat, Gc, Exit}
-use Rattle.script_grammar.specs.declared.command.SysVerb.TheVariants.{Spawn, Sweep, Counts as CountsVerb}
+use Rattle.script_grammar.specs.declared.command.SysVerb.TheVariants.{Spawn, Sweep, Procs, Counts as CountsVerb, Quit as QuitVerb}
 use Rattle.script_grammar.specs.declared.refusal.Refusal.{Refusal}
 use Rattle.script_grammar.specs.declared.refusal.Refusal.TheVariants.{NoProc}
 use Rattle.script_grammar.specs.Written.{Term, Terms}
@@ -35,12 +35,12 @@ use Rattle.plain_machine.specs.Step.Outcome.{Accepted, Refused as IsRefused, Map
 use Rattle.plain_machine.specs.Run.{CommandStep, Skips, Gives, LacksSpace, refusal_text, is_nothing, is_quit}
 use Rattle.plain_machine.specs.Maps.{is_map}
 use Rattle.space_api.specs.declared.space.Seat.{Seat}
-use Rattle.space_api.specs.Calls.{said, Follows, Stays, Becomes, Passes, one_term, HasEnv, IsWrittenTerm}
+use Rattle.space_api.specs.Calls.{KeepsBooks, said, Follows, Stays, Becomes, Passes, one_term, HasEnv, IsWrittenTerm}
 use Rattle.engine.specs.declared.reply.Reply.{Reply}
-use Rattle.engine.specs.declared.reply.Reply.TheVariants.{Done, Spawned, Counts, Told, Refused}
-use Rattle.engine.specs.Replies.{CanTell, reply_lines, reply_of, ends_script, outcome_text}
+use Rattle.engine.specs.declared.reply.Reply.TheVariants.{Nothing as NoReply, Done, Spawned, Numbers, Counts, Told, Quit, Refused}
+use Rattle.engine.specs.Replies.{CanReply, CanTell, reply_lines, reply_of, ends_script, outcome_text}
 use Rattle.engine.specs.Rules.{Supply, After}
-use Rattle.engine.specs.Acts.{Acts, Fits, TermsFit, makes_term, names_left, shown}
+use Rattle.engine.specs.Acts.{Acts, Fits, OnRefused, TermsFit, makes_term, names_left, shown}
 
 -- A reply fits to an outcome: an accepted one's text, names and end are the reply's.
 abbrev pub Fitting : After → State → Parsed → Reply → Outcome → Type 0
@@ -300,6 +300,12 @@ module _ (supply : Supply) (number : ℕ) (names : List (List ℕ)) (code : List
         maps = λ k m. absurd (cc);
       })
 
+-- the reply to what a verb's call answered
+pub done-acts : {A : Type 0} (supply : Supply) (number : ℕ) (names : List (List ℕ)) (code : List Item) (Old : State → Type 0) (after : After) (verb : Verb) (reply : Reply)
+    (r : Result A Refusal) → reply ≡ reply_of (λ (a : A). Done) r → DoesVerb supply number names code (reply_of (λ (a : A). Done) r) Old after verb
+    → DoesVerb supply number names code reply Old after verb
+done-acts supply number names code Old after verb reply r e d = subst (λ x. DoesVerb supply number names code x Old after verb) (sym e) d
+
 -- a verb that prints tells, and what it tells does not depend on the line's terms
 verb-tells : (s : State) (p : Parsed) (q : Live) (v : Verb) → is_printing_verb v ≡ true → is_map (Process 0 v) ≡ false → by_verb s p q v ≡ tells s (told_of s p q v)
 verb-tells s p q (Set r) e m = absurd (cc)
@@ -353,39 +359,13 @@ told-does supply seat names code after v can = λ s terms h f. record {
         subst P (sym (verb-tells s (said c terms names) q v can.prints can.no_map))
         (subst Q (sym same) (told-gives s c (told_of s (said c terms names) q v) refl))
 
--- what is built and does not change anything tells
-if-then : (b c : Bool) → (not b || c) ≡ true → b ≡ true → c ≡ true
-if-then true c h e = h
-if-then false c h e = absurd (cc)
-
--- the verb is none of those that change something
-pub record IsOther (v : Verb) : Type 0 where
-  pub makes : makes_term v ≡ false
-  pub push : (r : Reg) → v ≡ Push r → ⊥
-  pub pop : (r : Reg) → v ≡ Pop r → ⊥
-  pub send : (r : Reg) (to : To) → v ≡ Send r to → ⊥
-  pub recv : (r : Reg) → v ≡ Recv r → ⊥
-  pub gc : (d : Depth) → v ≡ Gc d → ⊥
-  pub exit : v ≡ Exit → ⊥
-
-pub can-tell : (v : Verb) → is_built (word_of v) ≡ true → HasRegisters v → IsOther v → CanTell v
-can-tell (Set r) b h o = absurd (true≢false o.makes)
-can-tell (Choose r m how) b h o = absurd (true≢false o.makes)
-can-tell (MapPut r m k i) b h o = absurd (true≢false o.makes)
-can-tell (Fill r len byte) b h o = absurd (true≢false o.makes)
-can-tell (MakeFun r name arity) b h o = absurd (true≢false o.makes)
-can-tell (Ref r) b h o = absurd (true≢false o.makes)
-can-tell (Own r) b h o = absurd (true≢false o.makes)
-can-tell (Repeat r shape n m) b h o = absurd (true≢false o.makes)
-can-tell (Push r) b h o = absurd (o.push r refl)
-can-tell (Pop r) b h o = absurd (o.pop r refl)
-can-tell (Send r to) b h o = absurd (o.send r to refl)
-can-tell (Recv r) b h o = absurd (o.recv r refl)
-can-tell (Gc d) b h o = absurd (o.gc d refl)
-can-tell Exit b h o = absurd (o.exit refl)
-can-tell v b h o = record {
+-- a verb that is built and prints can tell
+pub can-tell : (v : Verb) → is_built (word_of v) ≡ true → HasRegisters v → is_printing_verb v ≡ true → CanTell v
+can-tell (Choose r m how) b h e = absurd (true≢false (sym e))
+can-tell (Repeat r shape n m) b h e = absurd (true≢false (sym e))
+can-tell v b h e = record {
   built = b;
-  prints = if-then (is_built (word_of v)) (is_printing_verb v) refl b;
+  prints = e;
   no_map = not-map (is_built (word_of v)) (is_map (Process 0 v)) refl b;
   registers = h;
 }
@@ -394,6 +374,58 @@ can-tell v b h o = record {
     not-map true true h e = absurd (cc)
     not-map true false h e = refl
     not-map false c h e = absurd (cc)
+
+-- the verb is none of those that change something and make no term
+pub record MakesNone (v : Verb) : Type 0 where
+  pub push : (r : Reg) → v ≡ Push r → ⊥
+  pub pop : (r : Reg) → v ≡ Pop r → ⊥
+  pub send : (r : Reg) (to : To) → v ≡ Send r to → ⊥
+  pub recv : (r : Reg) → v ≡ Recv r → ⊥
+  pub gc : (d : Depth) → v ≡ Gc d → ⊥
+  pub exit : v ≡ Exit → ⊥
+
+-- what is built and prints nothing makes a term, but for these
+pub makes-rest : (v : Verb) → is_built (word_of v) ≡ true → is_printing_verb v ≡ false → MakesNone v → makes_term v ≡ true
+makes-rest (Choose r m how) b e o = refl
+makes-rest (Repeat r shape n m) b e o = refl
+makes-rest (Push r) b e o = absurd (o.push r refl)
+makes-rest (Pop r) b e o = absurd (o.pop r refl)
+makes-rest (Send r to) b e o = absurd (o.send r to refl)
+makes-rest (Recv r) b e o = absurd (o.recv r refl)
+makes-rest (Gc d) b e o = absurd (o.gc d refl)
+makes-rest Exit b e o = absurd (o.exit refl)
+makes-rest v b e o = one-of (is_built (word_of v)) (is_printing_verb v) (makes_term v) refl b e
+  where
+    one-of : (b c d : Bool) → (not b || (c || d)) ≡ true → b ≡ true → c ≡ false → d ≡ true
+    one-of true true d h i e = absurd (true≢false e)
+    one-of true false d h i e = h
+    one-of false c d h i e = absurd (true≢false (sym i))
+
+-- the books of a call bring the bound of the names
+pub keeps-more : {S : Type 0} {words calls named : S → ℕ} {old new : S} {few : ℕ} (more : ℕ) → few ≤ more → KeepsBooks words calls named old new few
+    → KeepsBooks words calls named old new more
+keeps-more more h b = record { same_words = b.same_words; one_call = b.one_call; few_names = omega (arith, b.few_names, h) }
+
+-- what holds holds at a refusal
+pub on-err : {A P : Type 0} (r : Result A Refusal) → P → OnErr r P
+on-err (Ok a) p = tt
+on-err (Err e) p = p
+
+-- what is not said of a refusal is said of the reply to a call's answer
+pub said-refused : {A : Type 0} (say : A → Reply) (P : Type 0) (reply : Reply) (r : Result A Refusal) → reply ≡ reply_of say r → ((a : A) → OnRefused (say a) P) → OnErr r P → OnRefused reply P
+said-refused {A} say P reply r e ok h = subst (λ x. OnRefused x P) (sym e) (at r h)
+  where
+    at : (r : Result A Refusal) → OnErr r P → OnRefused (reply_of say r) P
+    at (Ok a) h = ok a
+    at (Err x) h = h
+
+pub said-can : {A S : Type 0} (say : A → Reply) (sits : S → Seat → Type 0) (named : S → ℕ) (space : S) (names : List (List ℕ)) (reply : Reply) (r : Result A Refusal)
+    → reply ≡ reply_of say r → ((a : A) → CanReply sits named space names (say a)) → CanReply sits named space names reply
+said-can {A} say sits named space names reply r e ok = subst (CanReply sits named space names) (sym e) (at r)
+  where
+    at : (r : Result A Refusal) → CanReply sits named space names (reply_of say r)
+    at (Ok a) = ok a
+    at (Err x) = tt
 
 module _ (supply : Supply) (names : List (List ℕ)) (code : List Item) (reply : Reply) (Old : State → Type 0) (after : After) where
   -- what is promised of a command
@@ -442,3 +474,40 @@ counts-does supply names code Old after same = λ s terms h f. record {
   steps = λ m. inl (record { goes_on = refl; map = after.text (System CountsVerb); allowed = m; said = refl; same = refl });
   maps = λ e o. refl;
 }
+
+-- what prints and is no map of the store
+pub procs-does : (supply : Supply) (names : List (List ℕ)) (code : List Item) (Old : State → Type 0) (after : After) → ((s : State) → Old s → after.stands s)
+    → DoesCommand supply names code Numbers Old after (System Procs)
+procs-does supply names code Old after same = λ s terms h f. record {
+  new = s;
+  stands = same s h;
+  names = refl;
+  steps = λ m. inl (record { ends = refl; said = refl; is = refl });
+  maps = λ e o. absurd (cc);
+}
+
+pub quit-does : (supply : Supply) (names : List (List ℕ)) (code : List Item) (Old : State → Type 0) (after : After) → ((s : State) → Old s → after.stands s)
+    → DoesCommand supply names code Quit Old after (System QuitVerb)
+quit-does supply names code Old after same = λ s terms h f. record {
+  new = s;
+  stands = same s h;
+  names = refl;
+  steps = λ m. inl (record { ends = refl; said = refl; is = refl });
+  maps = λ e o. absurd (cc);
+}
+
+-- a line without a command
+pub nothing-does : (supply : Supply) (names : List (List ℕ)) (code : List Item) (Old : State → Type 0) (after : After) → ((s : State) → Old s → after.stands s)
+    → DoesCommand supply names code NoReply Old after NoCommand
+nothing-does supply names code Old after same = λ s terms h f. record {
+  new = s;
+  stands = same s h;
+  names = refl;
+  steps = λ m. record { goes_on = refl; said = refl; same = refl };
+  maps = λ e o. absurd (cc);
+}
+
+-- a verb of the process that was found
+pub found-does : (supply : Supply) (m n : ℕ) (names : List (List ℕ)) (code : List Item) (reply : Reply) (Old : State → Type 0) (after : After) (verb : Verb)
+    → m ≡ n → DoesVerb supply m names code reply Old after verb → DoesVerb supply n names code reply Old after verb
+found-does supply m n names code reply Old after verb e d = subst (λ k. DoesVerb supply k names code reply Old after verb) e d

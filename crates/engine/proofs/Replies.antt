@@ -6,11 +6,15 @@ use Rattle.space_api.specs.declared.space.Stop.{Stop}
 use Rattle.space_api.specs.declared.space.Stop.TheVariants.{Big, Fault}
 use Rattle.plain_machine.specs.Step.{Outcome}
 use Rattle.plain_machine.specs.Step.Outcome.{Accepted, Refused, Mapped}
-use Rattle.plain_machine.specs.Run.{refusal_text}
+use Rattle.plain_machine.specs.Run.{refusal_text, replies_text}
 use Rattle.space_api.specs.Calls.{Prints, Tells, WritesReply}
 use Rattle.line_io.specs.Sink.{GrewInPart, Writes}
 use Rattle.engine.specs.Writing.{end_of_line}
-use Rattle.engine.specs.Replies.{outcome_text}
+use Rattle.script_grammar.specs.declared.command.Verb.{Verb}
+use Rattle.space_api.specs.declared.space.Seat.{Seat}
+use Rattle.engine.specs.declared.reply.Reply.{Reply}
+use Rattle.engine.specs.declared.reply.Reply.TheVariants.{Told}
+use Rattle.engine.specs.Replies.{AllowsMap, Shown, outcome_text, reply_lines}
 use Rattle.line_io.proofs.Growth.{part-front, writes-after}
 
 -- the text was printed, and then the line's end
@@ -63,3 +67,23 @@ pub text-stopped : {K : Type 0} (A : Type 0) (wrote : K → List ℕ → Type 0)
 text-stopped A wrote old new (Accepted next reply) x is p = part-front wrote old new reply (10 ∷ []) (subst (λ y. Prints {A = A} (Accepted next reply) wrote old new (Err y)) is p)
 text-stopped A wrote old new (Refused e) x is p = absurd (subst (λ y. Prints {A = A} (Refused e) wrote old new (Err y)) is p)
 text-stopped A wrote old new Mapped x is p = absurd p
+
+-- the messages were not written to their end
+pub queue-stopped : {K : Type 0} (A F : Type 0) (wrote : K → List ℕ → Type 0) (old new : K) (o : Outcome) (e : F) → WritesReply {A = A} {E = F} o wrote old new (Err e)
+    → GrewInPart wrote old new (end_of_line (outcome_text o))
+queue-stopped A F wrote old new (Accepted next reply) e p = part-front wrote old new reply (10 ∷ []) p
+queue-stopped A F wrote old new (Refused x) e p = absurd p
+queue-stopped A F wrote old new Mapped e p = absurd p
+
+-- what the verb in hand tells
+pub told-verb : {A E K : Type 0} (wrote : K → List ℕ → Type 0) (old new : K) (r : Result A E) (seat : Seat) (v w : Verb) (x : Shown) → v ≡ w
+    → Writes wrote old new r (replies_text (reply_lines (Told seat w) x)) → Writes wrote old new r (replies_text (reply_lines (Told seat v) x))
+told-verb wrote old new r seat v w x e h = subst (λ z. Writes wrote old new r (replies_text (reply_lines (Told seat z) x))) (sym e) h
+
+-- what the reply in hand writes
+pub reply-same : {A E K : Type 0} (wrote : K → List ℕ → Type 0) (old new : K) (r : Result A E) (y z : Reply) (x : Shown) → y ≡ z
+    → Writes wrote old new r (replies_text (reply_lines z x)) → Writes wrote old new r (replies_text (reply_lines y x))
+reply-same wrote old new r y z x e h = subst (λ k. Writes wrote old new r (replies_text (reply_lines k x))) (sym e) h
+
+pub allows-same : (y z : Reply) (x : Shown) → y ≡ z → AllowsMap z x → AllowsMap y x
+allows-same y z x e h = subst (λ k. AllowsMap k x) (sym e) h

@@ -1,10 +1,11 @@
 -- From the turns to the whole.
-use Rattle.std.proofs.Common.{◌≡◌, ℕ, ◌≤◌, inl, inr, Bool, false, Option, List, [], ◌∷◌, ◌++◌, refl, sym, ap, subst, ◌∙◌, arith, append-nil}
+use Rattle.std.proofs.Common.{◌≡◌, ℕ, ◌≤◌, ◌⊎◌, inl, inr, Bool, true, false, Option, List, [], ◌∷◌, ◌++◌, refl, sym, ap, subst, ◌∙◌, arith, append-nil}
+use Rattle.std.proofs.lemmas.Bool.{true≢false}
 use Rattle.line_io.specs.Faults.{Rose}
 use Rattle.line_io.specs.Sink.{Grew}
 use Rattle.line_io.specs.Source.{Gave}
 use Rattle.line_io.specs.Lines.{Line, lines}
-use Rattle.line_io.specs.Reader.{HasRead, IsEndOf, Reads, came_line, line_in}
+use Rattle.line_io.specs.Reader.{HasRead, IsEndOf, IsFaulted, Reads, came_line, line_in}
 use Rattle.line_io.specs.declared.reader.Limits.{Limits}
 use Rattle.line_io.specs.declared.reader.LineReader.{LineReader}
 use Rattle.line_io.specs.declared.reader.LineGot.{LineGot}
@@ -18,7 +19,7 @@ use Rattle.plain_machine.proofs.ByLine.Runs.{run-append, run-one, run-none, text
 use Rattle.isolation.proofs.Alone.{isolates}
 use Rattle.engine.specs.Rules.{After, Rules, Input, Output}
 use Rattle.engine.specs.Steps.{Steps, StepWrites, TellsQuit, WritesAll}
-use Rattle.engine.specs.Serving.{AreIsolated, Course, EndsBy, Going, CourseRuns, Served, Turns, turn_of}
+use Rattle.engine.specs.Serving.{AreIsolated, Course, EndsBy, Going, CourseRuns, Served, TurnTellsRead, Turns, turn_of}
 use Rattle.engine.specs.declared.serving.Status.{Status}
 use Rattle.engine.specs.declared.serving.Status.TheVariants.{Done, ReadFault, TooMuch}
 use Rattle.engine.specs.declared.serving.Turn.{Turn}
@@ -186,3 +187,25 @@ same-rules P may words words' first limits limits' e l h =
     let Q : ℕ → Type 0 = λ w. P (record { supply = record { may = may; words = w }; first = first; limits = limits' }) in
     let R : Limits → Type 0 = λ k. P (record { supply = record { may = may; words = words }; first = first; limits = k }) in
     subst Q e (subst R l h)
+
+-- what a turn tells of its reading, after a line
+pub told-after : (before now : ℕ) (stepped : Stepped) (turn : Turn) → turn ≡ turn_of stepped → now ≡ before → TurnTellsRead turn before now
+told-after before now stepped turn e told = subst (λ t. TurnTellsRead t before now) (sym e) (at stepped)
+  where
+    at : (x : Stepped) → TurnTellsRead (turn_of x) before now
+    at Next = told
+    at Quit = told
+    at SinkFault = told
+
+-- an answer of another kind is no fault
+abbrev pub is_fault : LineGot → Bool
+is_fault Fault = true
+is_fault _ = false
+
+pub is-no-fault : (answer kind : LineGot) → answer ≡ kind → is_fault kind ≡ false → answer ≡ Fault → ⊥
+is-no-fault answer kind e other f = true≢false (sym (ap is_fault f) ∙ ap is_fault e ∙ other)
+
+-- where the reader had not met one before, a fault is the source's now
+pub rose-now : (before now : ℕ) (reader : LineReader) → Rose before now ⊎ IsFaulted reader → (IsFaulted reader → ⊥) → Rose before now
+rose-now before now reader (inl a) never = a
+rose-now before now reader (inr b) never = absurd (never b)

@@ -1,5 +1,6 @@
 -- How what was written grows over the parts of a line.
-use Rattle.std.proofs.Common.{◌≡◌, ℕ, List, [], ◌∷◌, ◌++◌, sym, ap, subst, ◌∙◌, append_assoc, append-nil, Result, codes}
+use Rattle.std.proofs.Common.{◌≡◌, ℕ, ◌≤◌, List, [], ◌∷◌, ◌++◌, sym, ap, subst, ◌∙◌, append_assoc, append-nil, Result, Ok, Err, OnOk, OnErr, IsErr, codes}
+use Rattle.line_io.specs.Faults.{Rose}
 use Rattle.line_io.specs.Sink.{Grew, GrewInPart, Writes}
 use Rattle.line_io.proofs.Growth.{Grew-append, part-front, part-after, writes-after}
 use Rattle.engine.specs.Writing.{end_of_line}
@@ -53,3 +54,14 @@ bracket-stopped wrote old mid new x g p = subst (GrewInPart wrote old new) (brac
 pub bracket-line : {A E K : Type 0} (wrote : K → List ℕ → Type 0) (old one two new : K) (x : List ℕ) (r : Result A E)
     → Grew wrote old one (91 ∷ []) → Grew wrote one two x → Writes wrote two new r (93 ∷ 10 ∷ []) → Writes wrote old new r (end_of_line (codes "[" ++ (x ++ codes "]")))
 bracket-line wrote old one two new x r g h w = subst (Writes wrote old new r) (bracketed x) (three-parts wrote old one two new (91 ∷ []) x (93 ∷ 10 ∷ []) r g h w)
+
+-- what a call tells of faults, where none was told before it
+pub tells-after : {A E : Type 0} (old mid new : ℕ) (r : Result A E) → mid ≡ old → mid ≤ new → OnErr r (Rose mid new) → OnOk r (new ≡ mid)
+    → (old ≤ new) × OnErr r (Rose old new) × OnOk r (new ≡ old)
+tells-after old mid new r e later rose told = subst (λ n. (n ≤ new) × OnErr r (Rose n new) × OnOk r (new ≡ n)) e (later, rose, told)
+
+-- the same at a fault
+pub tells-fault : {A E : Type 0} (old mid new : ℕ) (r : Result A E) → IsErr r → mid ≡ old → mid ≤ new → Rose mid new
+    → (old ≤ new) × OnErr r (Rose old new) × OnOk r (new ≡ old)
+tells-fault old mid new (Ok a) h e later rose = absurd (cc)
+tells-fault old mid new (Err x) h e later rose = subst (λ n. (n ≤ new) × Rose n new × Unit {0}) e (later, rose, tt)

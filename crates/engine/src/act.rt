@@ -1,13 +1,13 @@
 // What a command asks of the space, and the reply to the space's answer.
-ghost use Rattle.std.specs.Prelude.{◌≡◌, ℕ, ◌<◌, ◌≤◌, List, length, true};
+ghost use Rattle.std.specs.Prelude.{◌≡◌, ℕ, ◌<◌, ◌≤◌, List, OnErr, false, length, true};
 ghost use Rattle.script_grammar.specs.declared.command.Command.{Command};
 ghost use Rattle.script_grammar.specs.declared.command.Command.TheVariants.{Process, System};
-ghost use Rattle.script_grammar.specs.Grammar.{IsBuiltCommand};
+ghost use Rattle.script_grammar.specs.Grammar.{IsBuiltCommand, is_built, word_of};
 ghost use Rattle.script_grammar.specs.Names.{HasName, HasRegisters, IsInBounds};
 ghost use Rattle.script_grammar.specs.Written.{Terms};
 ghost use Rattle.plain_term.specs.declared.item.Item.{Item};
 ghost use Rattle.plain_machine.specs.State.{State};
-ghost use Rattle.plain_machine.specs.Step.{is_printing};
+ghost use Rattle.plain_machine.specs.Step.{is_printing, is_printing_verb};
 ghost use Rattle.space_api.specs.Calls.{KeepsBooks, most_calls, said};
 ghost use Rattle.engine.specs.Replies.{CanReply, reply_of};
 ghost use Rattle.engine.specs.Acts.{Acts, Fits, HasCode, OnRefused, makes_term};
@@ -24,7 +24,7 @@ fn done(answer: Result<(), Refusal>) -> Reply
 {
     match answer {
         Ok(()) => Reply::Done,
-        Err(refusal) => Reply::Refused(refusal),
+        Err(why) => Reply::Refused(why),
     }
 }
 
@@ -38,20 +38,14 @@ fn spawned(answer: Result<u64, Refusal>) -> Reply
     }
 }
 
-/// Whether a verb puts a new term, or a part of one, in a register.
-fn makes_term(verb: Verb) -> bool
-    ensures { result ≡ makes_term verb }
+/// Whether a verb tells something of its process and changes nothing.
+fn tells(verb: Verb) -> bool
+    requires built { is_built (word_of verb) ≡ true }
+    ensures { result ≡ is_printing_verb verb }
 {
     matches!(
         verb,
-        Verb::Set(_)
-            | Verb::Choose(_, _, _)
-            | Verb::MapPut(_, _, _, _)
-            | Verb::Fill(_, _, _)
-            | Verb::Fun(_, _, _)
-            | Verb::Ref(_)
-            | Verb::Own(_)
-            | Verb::Repeat(_, _, _, _)
+        Verb::Queue | Verb::Print(_) | Verb::Eq(_, _) | Verb::Cmp(_, _) | Verb::Flat(_)
     )
 }
 
@@ -62,7 +56,7 @@ fn make_term<S: Space>(
     seat: Seat,
     verb: Verb,
     code: &[Item],
-) -> Reply
+) -> Result<(), Refusal>
     requires makes { makes_term verb ≡ true }
     requires sits { S.sits space.old seat }
     requires built { IsBuiltCommand (Process seat.pid verb) }
@@ -72,26 +66,63 @@ fn make_term<S: Space>(
     requires named { S.named space.old ≤ length names.now }
     requires code { HasCode (Process seat.pid verb) names.now code.now }
     ensures acts { (s : State) (terms : Terms) → S.stands space.old s → Fits (Process seat.pid verb) names.now code.now terms s
-        → Acts (record { may = S.may; words = S.words space.old }) s (said (Process seat.pid verb) terms names.now) result
-        (record { stands = S.stands space.new; text = S.text space.new names.now }) }
-    ensures can { CanReply S.sits S.named space.new names.now result }
+        → Acts (record { may = S.may; words = S.words space.old }) s (said (Process seat.pid verb) terms names.now)
+        (reply_of (λ _. Reply.Done) result) (record { stands = S.stands space.new; text = S.text space.new names.now }) }
     ensures books { KeepsBooks S.words S.calls S.named space.old space.new (length names.now) }
-    ensures refused { OnRefused result (S.named space.new ≤ S.named space.old) }
-    ensures leaves { is_printing (Process seat.pid verb) ≡ true → space.new ≡ space.old }
+    ensures refused { OnErr result (S.named space.new ≤ S.named space.old) }
 {
     match verb {
-        Verb::Set(r) => done(space.build(names, seat, r, code)),
-        Verb::Choose(r, s, how) => done(space.pick(names, seat, r, s, how)),
-        Verb::MapPut(r, s, k, v) => done(space.map_put(names, seat, r, s, k, v)),
-        Verb::Fill(r, len, byte) => done(space.fill(seat, r, len, byte)),
-        Verb::Fun(r, name, arity) => done(space.make_fun(seat, r, name, arity, code)),
-        Verb::Ref(r) => done(space.make_ref(seat, r)),
-        Verb::Repeat(r, shape, n, s) => done(space.repeat(seat, r, shape, n, s)),
+        Verb::Set(r) => space.build(names, seat, r, code),
+        Verb::Choose(r, s, how) => space.pick(names, seat, r, s, how),
+        Verb::MapPut(r, s, k, v) => space.map_put(names, seat, r, s, k, v),
+        Verb::Fill(r, len, byte) => space.fill(seat, r, len, byte),
+        Verb::Fun(r, name, arity) => space.make_fun(seat, r, name, arity, code),
+        Verb::Ref(r) => space.make_ref(seat, r),
+        Verb::Repeat(r, shape, n, s) => space.repeat(seat, r, shape, n, s),
         Verb::Own(r) => {
             space.own_pid(seat, r);
-            Reply::Done
+            Ok(())
         }
         _ => unreachable!(),
+    }
+}
+
+/// Does a verb that changes something.
+fn change<S: Space>(
+    space: &mut S,
+    names: &AtomNames,
+    seat: Seat,
+    verb: Verb,
+    code: &[Item],
+) -> Result<(), Refusal>
+    requires changes { is_printing_verb verb ≡ false }
+    requires sits { S.sits space.old seat }
+    requires built { IsBuiltCommand (Process seat.pid verb) }
+    requires registers { HasRegisters verb }
+    requires name { HasName verb }
+    requires calls { S.calls space.old < most_calls }
+    requires named { S.named space.old ≤ length names.now }
+    requires code { HasCode (Process seat.pid verb) names.now code.now }
+    ensures acts { (s : State) (terms : Terms) → S.stands space.old s → Fits (Process seat.pid verb) names.now code.now terms s
+        → Acts (record { may = S.may; words = S.words space.old }) s (said (Process seat.pid verb) terms names.now)
+        (reply_of (λ _. Reply.Done) result) (record { stands = S.stands space.new; text = S.text space.new names.now }) }
+    ensures books { KeepsBooks S.words S.calls S.named space.old space.new (length names.now) }
+    ensures refused { OnErr result (S.named space.new ≤ S.named space.old) }
+{
+    match verb {
+        Verb::Push(r) => space.push(seat, r),
+        Verb::Pop(r) => space.pop(seat, r),
+        Verb::Send(s, to) => space.send(seat, s, to),
+        Verb::Recv(r) => space.receive(seat, r),
+        Verb::Gc(depth) => {
+            space.collect(seat, depth);
+            Ok(())
+        }
+        Verb::Exit => {
+            space.exit(seat);
+            Ok(())
+        }
+        _ => make_term(space, names, seat, verb, code),
     }
 }
 
@@ -118,24 +149,10 @@ fn act_in<S: Space>(
     ensures refused { OnRefused result (S.named space.new ≤ S.named space.old) }
     ensures leaves { is_printing (Process seat.pid verb) ≡ true → space.new ≡ space.old }
 {
-    if makes_term(verb) {
-        return make_term(space, names, seat, verb, code);
+    if tells(verb) {
+        return Reply::Told(seat, verb);
     }
-    match verb {
-        Verb::Push(r) => done(space.push(seat, r)),
-        Verb::Pop(r) => done(space.pop(seat, r)),
-        Verb::Send(s, to) => done(space.send(seat, s, to)),
-        Verb::Recv(r) => done(space.receive(seat, r)),
-        Verb::Gc(depth) => {
-            space.collect(seat, depth);
-            Reply::Done
-        }
-        Verb::Exit => {
-            space.exit(seat);
-            Reply::Done
-        }
-        _ => Reply::Told(seat, verb),
-    }
+    done(change(space, names, seat, verb, code))
 }
 
 /// Does a verb of the system.

@@ -37,6 +37,33 @@ const SENT: &[u8] =
 const TOLD: &[u8] =
     b"ok\nok\na\ntrue\nok\nfalse\nlt\ngt\neq\nok\nlt\ngt\nok\nok\nlt\n0\nerror badarg\nerror badarg\nerror badarg\nerror badarg\nerror nospace 3\nerror nospace 3\nerror nospace 4\nerror badarg\nerror nospace 2\nerror nospace 2\nerror nospace 9\na\n";
 
+// A script, and the replies to its lines.
+struct Case {
+    script: &'static [u8],
+    replies: &'static [u8],
+}
+
+// A script is served at a space that is no arena; what needs no word of the verbs on terms is done; binaries and funs find no
+// words, and none is counted; a message finds no words, and none waits.
+const CASES: [Case; 4] = [
+    Case {
+        script: SCRIPT,
+        replies: REPLIES,
+    },
+    Case {
+        script: VERBS,
+        replies: TOLD,
+    },
+    Case {
+        script: BINARIES,
+        replies: LISTED,
+    },
+    Case {
+        script: MESSAGES,
+        replies: SENT,
+    },
+];
+
 // Whether a script was served to its end.
 fn is_done(status: Status) -> bool {
     matches!(status, Status::Done)
@@ -59,27 +86,19 @@ fn serves(alloc: Global, script: &[u8], replies: &[u8]) -> Result<bool, Fail> {
     Ok(is_done(status) && sink.bytes() == replies)
 }
 
-#[test]
-fn a_script_is_served_at_a_space_that_is_no_arena(rt: HostRuntime) -> Result<(), Fail> {
-    assert!(rt; serves(rt.alloc(), SCRIPT, REPLIES)?);
-    Ok(())
+// Whether each script is.
+fn serves_all(alloc: Global) -> Result<bool, Fail> {
+    for case in &CASES {
+        if !serves(alloc, case.script, case.replies)? {
+            return Ok(false);
+        }
+    }
+    Ok(true)
 }
 
 #[test]
-fn what_needs_no_word_of_the_verbs_on_terms_is_done(rt: HostRuntime) -> Result<(), Fail> {
-    assert!(rt; serves(rt.alloc(), VERBS, TOLD)?);
-    Ok(())
-}
-
-#[test]
-fn binaries_and_funs_find_no_words_and_none_is_counted(rt: HostRuntime) -> Result<(), Fail> {
-    assert!(rt; serves(rt.alloc(), BINARIES, LISTED)?);
-    Ok(())
-}
-
-#[test]
-fn a_message_finds_no_words_and_none_waits(rt: HostRuntime) -> Result<(), Fail> {
-    assert!(rt; serves(rt.alloc(), MESSAGES, SENT)?);
+fn scripts_are_served_at_a_space_that_is_no_arena(rt: HostRuntime) -> Result<(), Fail> {
+    assert!(rt; serves_all(rt.alloc())?);
     Ok(())
 }
 
