@@ -1,0 +1,7 @@
+-- All words have their texts.
+use Rattle.std.proofs.Common.{◌∙◌, ap, map, string_bytes}
+use Rattle.std.proofs.lemmas.List.{take_all}
+use Rattle.machine_run.proofs.arguments.texts_of.Goals as goal
+
+pub returns : goal.returns
+returns c = c.loop-word.invariant ∙ ap (map string_bytes) (take_all c.loop-word.word-index c.args.words.now c.loop-word-test.false)
