@@ -36,10 +36,10 @@ pub(crate) fn run_read<S: Source, K: Sink>(
     ensures read_told { TellsRead result (S.faults source.old) (S.faults source.new) }
     ensures write_told { TellsWrite result (K.faults sink.old) (K.faults sink.new) }
 {
-    let Some(mut machine) = first_machine(alloc, arena) else {
+    let Ok(mut reader) = LineReader::new(alloc, LIMITS) else {
         return Status::Memory;
     };
-    let Ok(mut reader) = LineReader::new(alloc, LIMITS) else {
+    let Some(mut machine) = first_machine(alloc, arena) else {
         return Status::Memory;
     };
     let status = serve(&mut machine, &mut reader, source, sink);

@@ -1,19 +1,16 @@
 // Words as the system gives them, which need be no text.
 ghost use Rattle.std.specs.Io.{WritesAtMost};
 
-use crate::runs::ROOM;
-use line_io::{MemSink, MemSource};
-use machine_run::{Store, number, run_with};
+use crate::runs::{Ending, Left, NONE, Words, ends};
 use std::alloc::Global;
-use std::env;
 use std::env::FillError;
 use std::rt::Env;
 use std::test::Fail;
 
 // A system that gives these words, and no variables.
 #[derive(Clone, Copy)]
-struct Given<'a> {
-    words: &'a [&'a [u8]],
+pub(crate) struct Given<'a> {
+    pub(crate) words: &'a [&'a [u8]],
 }
 
 impl<'a> Env for Given<'a> {
@@ -37,7 +34,10 @@ impl<'a> Env for Given<'a> {
     }
 }
 
-// Words, the number that the process ends with, and what is written to a script of one line.
+// A script of one line.
+const SCRIPT: &[u8] = b"1 print 0\n";
+
+// Words, the number that the process ends with, and what is written to the script.
 const ROWS: [(&[&[u8]], u8, &[u8]); 8] = [
     (&[b"beam_heap"], 0, b"[]\n"),
     (&[], 0, b"[]\n"),
@@ -49,20 +49,38 @@ const ROWS: [(&[&[u8]], u8, &[u8]); 8] = [
     (&[b"beam_heap", b"--space", b"one", b"--help"], 1, b""),
 ];
 
-// Whether a run with these words ends so.
-fn ends_so(alloc: Global, words: &[&[u8]], ends: u8, written: &[u8]) -> Result<bool, Fail> {
-    let mut source = MemSource::new(alloc, b"1 print 0\n", 7, &[])?;
-    let mut sink = MemSink::new(alloc, ROOM, 7, &[])?;
-    let mut store = Store::empty();
-    let args = env::args(&(Given { words }, alloc));
-    let status = run_with(alloc, args, &mut store, &mut source, &mut sink);
-    Ok(number(status) == ends && sink.bytes() == written)
+// How a run with this number at its end must end.
+fn ending_of(number: u8, written: &[u8]) -> Ending {
+    let left = if number == 0 {
+        Left::Machine
+    } else {
+        Left::Vacant
+    };
+    Ending {
+        ends: number,
+        written,
+        left,
+    }
+}
+
+// The words of the system are taken each.
+fn are_taken(alloc: Global) -> Result<(), Fail> {
+    for (words, number, written) in &ROWS {
+        let ending = ending_of(*number, written);
+        ends(
+            alloc,
+            "words of the system",
+            Words::Bytes(words),
+            SCRIPT,
+            7,
+            NONE,
+            ending,
+        )?;
+    }
+    Ok(())
 }
 
 #[test]
 fn words_of_the_system_are_taken_each(rt: HostRuntime) -> Result<(), Fail> {
-    for (words, ends, written) in &ROWS {
-        assert!(rt; ends_so(rt.alloc(), words, *ends, written)?);
-    }
-    Ok(())
+    are_taken(rt.alloc())
 }

@@ -1,8 +1,8 @@
 // Reads and writes that fail, each call in turn.
 ghost use Rattle.std.specs.Prelude.{◌<◌, ◌≤◌};
 
-use crate::runs::{Ending, Failing, NAME_ALONE, ends_with};
-use machine_run::Status;
+use crate::runs::{Ending, Failing, Left, NAME_ALONE, ends};
+use machine_run::{Status, number};
 use std::alloc::Global;
 use std::test::Fail;
 
@@ -32,9 +32,9 @@ fn ending_of(end: End) -> Ending<'static>
     requires { end.written ≤ 9 }
 {
     Ending {
-        status: end.status,
+        ends: number(end.status),
         written: &REPLIES[..end.written],
-        vacant: false,
+        left: Left::Machine,
     }
 }
 
@@ -78,51 +78,45 @@ fn writing_ends(call: usize, piece: usize) -> End
     }
 }
 
-// Whether a fault of each read is told, in pieces of this size.
-fn reading_is_told(alloc: Global, piece: usize) -> Result<bool, Fail>
-    requires { 0 < piece }
+// A fault of this read is told, in pieces of this size.
+fn reading_is_told(alloc: Global, call: usize, piece: usize) -> Result<(), Fail>
+    requires call { 0 < call }
+    requires piece { 0 < piece }
 {
-    for call in 1..CALLS {
-        let end = reading_ends(call, piece);
-        let failing = Failing {
-            reads: &[call as u64],
-            writes: &[],
-        };
-        if !ends_with(alloc, NAME_ALONE, SCRIPT, piece, failing, ending_of(end))? {
-            return Ok(false);
-        }
-    }
-    Ok(true)
+    let failing = Failing {
+        reads: &[call as u64],
+        writes: &[],
+    };
+    let ending = ending_of(reading_ends(call, piece));
+    ends(alloc, "reads", NAME_ALONE, SCRIPT, piece, failing, ending)
 }
 
-// The same of each write.
-fn writing_is_told(alloc: Global, piece: usize) -> Result<bool, Fail>
+// The same of this write.
+fn writing_is_told(alloc: Global, call: usize, piece: usize) -> Result<(), Fail>
+    requires call { 0 < call }
+    requires piece { 0 < piece }
+{
+    let failing = Failing {
+        reads: &[],
+        writes: &[call as u64],
+    };
+    let ending = ending_of(writing_ends(call, piece));
+    ends(alloc, "writes", NAME_ALONE, SCRIPT, piece, failing, ending)
+}
+
+// The same of each call.
+fn each_is_told(alloc: Global, piece: usize) -> Result<(), Fail>
     requires { 0 < piece }
 {
     for call in 1..CALLS {
-        let end = writing_ends(call, piece);
-        let failing = Failing {
-            reads: &[],
-            writes: &[call as u64],
-        };
-        if !ends_with(alloc, NAME_ALONE, SCRIPT, piece, failing, ending_of(end))? {
-            return Ok(false);
-        }
+        reading_is_told(alloc, call, piece)?;
+        writing_is_told(alloc, call, piece)?;
     }
-    Ok(true)
+    Ok(())
 }
 
 #[test]
 fn faults_are_told(rt: HostRuntime) -> Result<(), Fail> {
-    for piece in [1usize, 7] {
-        assert!(rt;
-            reading_is_told(rt.alloc(), piece)?,
-            "reads in pieces of {piece}"
-        );
-        assert!(rt;
-            writing_is_told(rt.alloc(), piece)?,
-            "writes in pieces of {piece}"
-        );
-    }
-    Ok(())
+    each_is_told(rt.alloc(), 1)?;
+    each_is_told(rt.alloc(), 7)
 }

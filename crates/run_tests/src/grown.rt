@@ -1,6 +1,6 @@
 // Scripts at the limits, too long to be written out: `repeats.rt` says how they are written.
-use crate::runs::NAME_ALONE;
-use crate::tables::first_wrong;
+use crate::runs::{Left, NAME_ALONE};
+use crate::tables::are_answered;
 use std::test::Fail;
 
 const GROWN: &[u8] = b"
@@ -126,14 +126,10 @@ error big
 
 #[test]
 fn limits_are_kept(rt: HostRuntime) -> Result<(), Fail> {
-    let wrong = first_wrong(rt.alloc(), NAME_ALONE, GROWN, 6, None)?;
-    assert!(rt; wrong.is_empty(), "{wrong}");
-    Ok(())
+    are_answered(rt.alloc(), NAME_ALONE, GROWN, 6, Left::Machine)
 }
 
 #[test]
 fn terms_beyond_the_walk_limit_are_refused(rt: HostRuntime) -> Result<(), Fail> {
-    let wrong = first_wrong(rt.alloc(), NAME_ALONE, BEYOND, 2, None)?;
-    assert!(rt; wrong.is_empty(), "{wrong}");
-    Ok(())
+    are_answered(rt.alloc(), NAME_ALONE, BEYOND, 2, Left::Machine)
 }

@@ -1,9 +1,9 @@
 // Scripts that are made from numbers.
 ghost use Rattle.std.specs.Prelude.{◌<◌};
 
-use crate::runs::{Ending, Failing, ends_with};
+use crate::runs::{Ending, Failing, Left, Words, done, ends};
 use itoa::Buffer;
-use machine_run::Status;
+use machine_run::{Status, number};
 use std::alloc::Global;
 use std::test::Fail;
 
@@ -45,43 +45,43 @@ const NO_THIRD_WRITE: Failing<'static> = Failing {
     writes: &[3],
 };
 
-// Whether a run from a number ends so.
+// A run from a number ends so.
 fn is_made(
     alloc: Global,
-    number: u64,
+    from: u64,
     piece: usize,
     failing: Failing,
     ending: Ending,
-) -> Result<bool, Fail>
+) -> Result<(), Fail>
     requires { 0 < piece }
 {
     let mut buffer = Buffer::new();
-    let words = ["beam_heap", "--gen", buffer.format(number)];
-    ends_with(alloc, &words, SCRIPT, piece, failing, ending)
+    let text = buffer.format(from);
+    let words = ["beam_heap", "--gen", text];
+    ends(
+        alloc,
+        text,
+        Words::Texts(&words),
+        SCRIPT,
+        piece,
+        failing,
+        ending,
+    )
 }
 
-// Whether two runs from a number write this summary.
-fn is_summed_up(alloc: Global, number: u64, written: &[u8]) -> Result<bool, Fail> {
-    let ending = Ending {
-        status: Status::Done,
-        written,
-        vacant: false,
-    };
-    Ok(
-        is_made(alloc, number, 1, NO_READ, ending)?
-            && is_made(alloc, number, 8192, NO_READ, ending)?,
-    )
+// Two runs from a number write this summary.
+fn is_summed_up(alloc: Global, from: u64, written: &[u8]) -> Result<(), Fail> {
+    let ending = done(written, Left::Machine);
+    is_made(alloc, from, 1, NO_READ, ending)?;
+    is_made(alloc, from, 8192, NO_READ, ending)
 }
 
 #[test]
 fn made_scripts_have_their_summaries(rt: HostRuntime) -> Result<(), Fail> {
-    let mut number = 0u64;
+    let mut from = 0u64;
     for written in &SUMMARIES {
-        number = number.saturating_add(1);
-        assert!(rt;
-            is_summed_up(rt.alloc(), number, written)?,
-            "number {number}"
-        );
+        from = from.saturating_add(1);
+        is_summed_up(rt.alloc(), from, written)?;
     }
     Ok(())
 }
@@ -89,10 +89,9 @@ fn made_scripts_have_their_summaries(rt: HostRuntime) -> Result<(), Fail> {
 #[test]
 fn a_summary_that_is_not_written_whole_is_told(rt: HostRuntime) -> Result<(), Fail> {
     let ending = Ending {
-        status: Status::WriteFault,
+        ends: number(Status::WriteFault),
         written: b"lines 100000 e",
-        vacant: false,
+        left: Left::Machine,
     };
-    assert!(rt; is_made(rt.alloc(), 1, 7, NO_THIRD_WRITE, ending)?);
-    Ok(())
+    is_made(rt.alloc(), 1, 7, NO_THIRD_WRITE, ending)
 }

@@ -1,16 +1,25 @@
 // Whole runs, each with what it must write.
-ghost use Rattle.std.specs.Prelude.{◌<◌};
+ghost use Rattle.std.specs.Prelude.{◌≡◌, ◌<◌};
 
+use crate::edge::Given;
 use line_io::{MemSink, MemSource};
-use machine_run::{Status, Store, number, run};
+use machine_run::{Status, Store, number, run, run_with};
 use std::alloc::Global;
+use std::env;
 use std::test::Fail;
 
 // How many bytes of replies a test may have.
 pub(crate) const ROOM: usize = 65_536;
 
+// The words of a command line: texts, or bytes as the system gives them.
+#[derive(Clone, Copy)]
+pub(crate) enum Words<'a> {
+    Texts(&'a [&'a str]),
+    Bytes(&'a [&'a [u8]]),
+}
+
 // The words of a command line without options.
-pub(crate) const NAME_ALONE: &[&str] = &["beam_heap"];
+pub(crate) const NAME_ALONE: Words<'static> = Words::Texts(&["beam_heap"]);
 
 // Which read and which write fail, counted from 1.
 #[derive(Clone, Copy)]
@@ -25,51 +34,81 @@ pub(crate) const NONE: Failing<'static> = Failing {
     writes: &[],
 };
 
-// How a run must end: its status, what was written, and whether the store is vacant.
+// What a run leaves in the store: nothing, a machine, or a machine with so many names.
+#[derive(Clone, Copy)]
+pub(crate) enum Left {
+    Vacant,
+    Machine,
+    Named(u64),
+}
+
+// How a run must end: the number of its status, what was written, and what is left.
 #[derive(Clone, Copy)]
 pub(crate) struct Ending<'a> {
-    pub(crate) status: Status,
+    pub(crate) ends: u8,
     pub(crate) written: &'a [u8],
-    pub(crate) vacant: bool,
+    pub(crate) left: Left,
 }
 
-// What a run came to: its status, what it wrote, and how many names there are in the machine that it left, if it left one.
-#[derive(Drop)]
-pub(crate) struct Came {
-    pub(crate) status: Status,
-    pub(crate) sink: MemSink,
-    pub(crate) names: Option<u64>,
+// The end of a run that is done and wrote this.
+pub(crate) fn done(written: &[u8], left: Left) -> Ending {
+    Ending {
+        ends: number(Status::Done),
+        written,
+        left,
+    }
 }
 
-// A run by these words, with bytes that come and go in pieces.
-pub(crate) fn ran(
+// Whether this is what must be left.
+fn is_left(store: &Store, left: Left) -> bool {
+    match store {
+        Store::Vacant => matches!(left, Left::Vacant),
+        Store::One(machine) => match left {
+            Left::Vacant => false,
+            Left::Machine => true,
+            Left::Named(names) => machine.names.count() == names,
+        },
+    }
+}
+
+// Does what the words ask for, and tells whether it ends so.
+fn ends_so(
     alloc: Global,
-    words: &[&str],
-    script: &[u8],
-    piece: usize,
-    failing: Failing,
-) -> Result<Came, Fail>
-    requires { 0 < piece }
+    words: Words,
+    store: &mut Store,
+    source: &mut MemSource,
+    sink: &mut MemSink,
+    ending: Ending,
+) -> bool
+    requires { store.old ≡ Store.Vacant }
 {
-    let mut source = MemSource::new(alloc, script, piece, failing.reads)?;
-    let mut sink = MemSink::new(alloc, ROOM, piece, failing.writes)?;
-    let mut store = Store::empty();
-    let status = run(alloc, words, &mut store, &mut source, &mut sink);
-    let names = match &store {
-        Store::One(machine) => Some(machine.names.count()),
-        Store::Vacant => None,
+    let status = match words {
+        Words::Texts(words) => run(alloc, words, store, source, sink),
+        Words::Bytes(words) => {
+            run_with(
+                alloc,
+                env::args(&(Given { words }, alloc)),
+                store,
+                source,
+                sink,
+            )
+        }
     };
-    Ok(Came {
-        status,
-        sink,
-        names,
-    })
+    number(status) == ending.ends && sink.bytes() == ending.written && is_left(store, ending.left)
 }
 
-// Whether such a run ends so.
-pub(crate) fn ends_with(
+// Nothing where it holds, else the failure of what is shown.
+pub(crate) fn told(holds: bool, shows: &str) -> Result<(), Fail> {
+    if holds {
+        return Ok(());
+    }
+    Err(Fail::new(shows))
+}
+
+// Whether a run by these words, with bytes that come and go in pieces, ends so.
+fn is_run(
     alloc: Global,
-    words: &[&str],
+    words: Words,
     script: &[u8],
     piece: usize,
     failing: Failing,
@@ -77,30 +116,36 @@ pub(crate) fn ends_with(
 ) -> Result<bool, Fail>
     requires { 0 < piece }
 {
-    let came = ran(alloc, words, script, piece, failing)?;
-    Ok(
-        number(came.status) == number(ending.status)
-            && came.sink.bytes() == ending.written
-            && came.names.is_none() == ending.vacant,
-    )
+    let mut source = MemSource::new(alloc, script, piece, failing.reads)?;
+    let mut sink = MemSink::new(alloc, ROOM, piece, failing.writes)?;
+    let mut store = Store::empty();
+    Ok(ends_so(alloc, words, &mut store, &mut source, &mut sink, ending))
 }
 
-// Whether a script is read to its end and answered so by these words, in pieces of each size.
-pub(crate) fn is_answered_by(
+// A run by these words, with bytes that come and go in pieces, ends so: else what it shows is told.
+pub(crate) fn ends(
     alloc: Global,
-    words: &[&str],
+    shows: &str,
+    words: Words,
     script: &[u8],
-    written: &[u8],
-) -> Result<bool, Fail> {
-    let ending = Ending {
-        status: Status::Done,
-        written,
-        vacant: false,
-    };
-    for piece in [1usize, 7, 8192] {
-        if !ends_with(alloc, words, script, piece, NONE, ending)? {
-            return Ok(false);
-        }
-    }
-    Ok(true)
+    piece: usize,
+    failing: Failing,
+    ending: Ending,
+) -> Result<(), Fail>
+    requires { 0 < piece }
+{
+    told(is_run(alloc, words, script, piece, failing, ending)?, shows)
+}
+
+// A script is read to its end and answered so by these words, in pieces of each size, and leaves this.
+pub(crate) fn is_answered(
+    alloc: Global,
+    shows: &str,
+    words: Words,
+    script: &[u8],
+    ending: Ending,
+) -> Result<(), Fail> {
+    ends(alloc, shows, words, script, 1, NONE, ending)?;
+    ends(alloc, shows, words, script, 7, NONE, ending)?;
+    ends(alloc, shows, words, script, 8192, NONE, ending)
 }

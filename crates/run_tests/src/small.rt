@@ -1,6 +1,10 @@
 // Scripts over an arena of the fewest words, and the limits of a reader.
-use crate::runs::ROOM;
-use crate::tables::first_wrong;
+ghost use Rattle.std.specs.Prelude.{◌≡◌};
+ghost use Rattle.line_io.specs.Reader.{limits_of};
+ghost use Rattle.engine.specs.Serving.{IsNew};
+
+use crate::runs::{Left, ROOM, Words, told};
+use crate::tables::are_answered;
 use engine::serve;
 use line_io::{Limits, LineReader, MemSink, MemSource};
 use machine_run::{Status, first_machine};
@@ -163,20 +167,16 @@ z1
 ";
 
 // The words that ask for such an arena.
-const SMALL: &[&str] = &["beam_heap", "--arena", "4096"];
+const SMALL: Words<'static> = Words::Texts(&["beam_heap", "--arena", "4096"]);
 
 #[test]
 fn small_arenas_refuse_by_what_lives(rt: HostRuntime) -> Result<(), Fail> {
-    let wrong = first_wrong(rt.alloc(), SMALL, ROWS, 6, Some(0))?;
-    assert!(rt; wrong.is_empty(), "{wrong}");
-    Ok(())
+    are_answered(rt.alloc(), SMALL, ROWS, 6, Left::Named(0))
 }
 
 #[test]
 fn refused_lines_of_small_arenas_bring_no_name(rt: HostRuntime) -> Result<(), Fail> {
-    let wrong = first_wrong(rt.alloc(), SMALL, NAMING, 1, Some(1))?;
-    assert!(rt; wrong.is_empty(), "{wrong}");
-    Ok(())
+    are_answered(rt.alloc(), SMALL, NAMING, 1, Left::Named(1))
 }
 
 // A reader of two lines at most.
@@ -190,20 +190,32 @@ const THREE_LINES: &[u8] = b"1 print 0\n1 print 0\n1 print 0\n";
 
 const TWO_REPLIES: &[u8] = b"[]\n[]\n";
 
-// Whether of three lines the two that such a reader allows are answered, and no more.
-fn two_lines_are_answered(alloc: Global) -> Result<bool, Fail> {
+// Whether a reader of two lines has two replies, and no more.
+fn two_are_answered(
+    alloc: Global,
+    reader: &mut LineReader,
+    source: &mut MemSource,
+    sink: &mut MemSink,
+) -> bool
+    requires new { IsNew reader.old }
+    requires two { (limits_of reader.old).lines ≡ 2 }
+{
+    let Some(mut machine) = first_machine(alloc, 4096) else {
+        return false;
+    };
+    let status = serve(&mut machine, reader, source, sink);
+    matches!(status, Status::TooMuch) && sink.bytes() == TWO_REPLIES
+}
+
+// Whether of three lines the two that such a reader allows are answered.
+fn two_of_three_are_answered(alloc: Global) -> Result<bool, Fail> {
     let mut reader = LineReader::new(alloc, TWO_LINES)?;
     let mut source = MemSource::new(alloc, THREE_LINES, 7, &[])?;
     let mut sink = MemSink::new(alloc, ROOM, 7, &[])?;
-    let Some(mut machine) = first_machine(alloc, 4096) else {
-        return Ok(false);
-    };
-    let status = serve(&mut machine, &mut reader, &mut source, &mut sink);
-    Ok(matches!(status, Status::TooMuch) && sink.bytes() == TWO_REPLIES)
+    Ok(two_are_answered(alloc, &mut reader, &mut source, &mut sink))
 }
 
 #[test]
 fn more_lines_than_are_allowed_are_too_much(rt: HostRuntime) -> Result<(), Fail> {
-    assert!(rt; two_lines_are_answered(rt.alloc())?);
-    Ok(())
+    told(two_of_three_are_answered(rt.alloc())?, "three lines")
 }

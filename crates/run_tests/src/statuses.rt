@@ -1,5 +1,7 @@
 // What a status is outside.
+use crate::runs::told;
 use machine_run::{Status, complaint, number};
+use std::test::Fail;
 
 // The number that the process ends with, and the line that standard error gets.
 const STATUSES: [(Status, u8, Option<&str>); 6] = [
@@ -15,12 +17,18 @@ const STATUSES: [(Status, u8, Option<&str>); 6] = [
     (Status::TooMuch, 5, Some("beam_heap: script too long")),
 ];
 
+// Whether a status has this number and this line.
+fn is_outside(status: Status, wanted: u8, line: Option<&str>) -> bool {
+    number(status) == wanted && complaint(status) == line
+}
+
 #[test]
-fn statuses_have_their_numbers_and_lines(rt: HostRuntime) {
-    for (status, wanted, line) in STATUSES {
-        assert!(rt;
-            number(status) == wanted && complaint(status) == line,
-            "status {wanted}"
-        );
+fn statuses_have_their_numbers_and_lines() -> Result<(), Fail> {
+    for (status, wanted, line) in &STATUSES {
+        told(
+            is_outside(*status, *wanted, *line),
+            line.unwrap_or("no line"),
+        )?;
     }
+    Ok(())
 }

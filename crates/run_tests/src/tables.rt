@@ -1,7 +1,7 @@
 // Tables of scripts, each with its replies, and the short ones among them.
 use crate::cuts::cut;
 use crate::repeats::whole_of;
-use crate::runs::{NAME_ALONE, NONE, is_answered_by, ran};
+use crate::runs::{Left, NAME_ALONE, Words, done, is_answered, told};
 use crate::{binaries, messages, rows, verbs};
 use std::alloc::Global;
 use std::str;
@@ -30,75 +30,61 @@ fn first_row(table: &'static [u8]) -> (Row, &'static [u8]) {
     (row, others)
 }
 
-// Whether a row is answered as it says, in pieces of each size, and leaves so many names where their number is given.
+// A script is answered by these replies, in pieces of each size, and leaves this.
 fn is_row_answered(
     alloc: Global,
-    words: &[&str],
+    shows: &str,
+    words: Words,
     row: Row,
-    names: Option<u64>,
-) -> Result<bool, Fail> {
+    left: Left,
+) -> Result<(), Fail> {
     let script = whole_of(alloc, row.script)?;
     let replies = whole_of(alloc, row.replies)?;
-    Ok(
-        is_answered_by(alloc, words, script.as_slice(), replies.as_slice())?
-            && (names.is_none()
-                || ran(alloc, words, script.as_slice(), 8192, NONE)?.names == names),
+    is_answered(
+        alloc,
+        shows,
+        words,
+        script.as_slice(),
+        done(replies.as_slice(), left),
     )
 }
 
-// What is told of a table that has not so many rows as its test says.
-const OTHER_ROWS: &str = "the table has another number of rows";
-
-// The name of the first row of a table that is answered otherwise by these words, or what is said where it has not so many rows;
-// no letter where all is as it is told.
-pub(crate) fn first_wrong(
+// Each row of a table is answered as it says by these words, and leaves this; the table has so many rows. Each row has a name
+// that is a text, and behind the last there is none.
+pub(crate) fn are_answered(
     alloc: Global,
-    words: &[&str],
+    words: Words,
     table: &'static [u8],
     rows: usize,
-    names: Option<u64>,
-) -> Result<&'static str, Fail> {
+    left: Left,
+) -> Result<(), Fail> {
     let (_, mut rest) = cut(table, b'~');
-    for n in 0..table.len() {
-        if rest.is_empty() && n == rows {
-            return Ok("");
-        }
-        if rest.is_empty() {
-            return Ok(OTHER_ROWS);
-        }
+    for _ in 0..rows {
         let (row, others) = first_row(rest);
-        if !is_row_answered(alloc, words, row, names)? {
-            return Ok(str::from_utf8(row.name).unwrap_or("a name that is no text"));
-        }
+        let shows = str::from_utf8(row.name).unwrap_or("");
+        told(!shows.is_empty(), "the table has fewer rows")?;
+        is_row_answered(alloc, shows, words, row, left)?;
         rest = others;
     }
-    Ok(OTHER_ROWS)
+    told(rest.is_empty(), "the table has more rows")
 }
 
 #[test]
 fn short_scripts_are_answered(rt: HostRuntime) -> Result<(), Fail> {
-    let wrong = first_wrong(rt.alloc(), NAME_ALONE, rows::ROWS, 25, None)?;
-    assert!(rt; wrong.is_empty(), "{wrong}");
-    Ok(())
+    are_answered(rt.alloc(), NAME_ALONE, rows::ROWS, 25, Left::Machine)
 }
 
 #[test]
 fn verbs_on_terms_are_answered(rt: HostRuntime) -> Result<(), Fail> {
-    let wrong = first_wrong(rt.alloc(), NAME_ALONE, verbs::ROWS, 14, None)?;
-    assert!(rt; wrong.is_empty(), "{wrong}");
-    Ok(())
+    are_answered(rt.alloc(), NAME_ALONE, verbs::ROWS, 14, Left::Machine)
 }
 
 #[test]
 fn binaries_and_funs_are_answered(rt: HostRuntime) -> Result<(), Fail> {
-    let wrong = first_wrong(rt.alloc(), NAME_ALONE, binaries::ROWS, 14, None)?;
-    assert!(rt; wrong.is_empty(), "{wrong}");
-    Ok(())
+    are_answered(rt.alloc(), NAME_ALONE, binaries::ROWS, 14, Left::Machine)
 }
 
 #[test]
 fn messages_are_answered(rt: HostRuntime) -> Result<(), Fail> {
-    let wrong = first_wrong(rt.alloc(), NAME_ALONE, messages::ROWS, 13, None)?;
-    assert!(rt; wrong.is_empty(), "{wrong}");
-    Ok(())
+    are_answered(rt.alloc(), NAME_ALONE, messages::ROWS, 13, Left::Machine)
 }

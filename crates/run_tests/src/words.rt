@@ -1,6 +1,7 @@
 // Command lines, and what the program makes of them.
-use crate::runs::{Ending, NONE, ends_with};
-use machine_run::Status;
+use crate::runs::{Ending, Left, NONE, Words, done, ends};
+use machine_run::{Status, number};
+use std::alloc::Global;
 use std::test::Fail;
 
 // A script that is read, and its reply.
@@ -37,26 +38,33 @@ const ROWS: [(&[&str], bool); 22] = [
 // How a run by words must end, by whether they are taken.
 fn ending_of(taken: bool) -> Ending<'static> {
     if taken {
-        return Ending {
-            status: Status::Done,
-            written: REPLY,
-            vacant: false,
-        };
+        return done(REPLY, Left::Machine);
     }
     Ending {
-        status: Status::Usage,
+        ends: number(Status::Usage),
         written: b"",
-        vacant: true,
+        left: Left::Vacant,
     }
+}
+
+// A run by words ends so.
+fn are_taken(alloc: Global, words: &[&str], taken: bool) -> Result<(), Fail> {
+    let last = words.last().copied().unwrap_or("no word");
+    ends(
+        alloc,
+        last,
+        Words::Texts(words),
+        SCRIPT,
+        7,
+        NONE,
+        ending_of(taken),
+    )
 }
 
 #[test]
 fn words_are_options_or_usage(rt: HostRuntime) -> Result<(), Fail> {
     for (words, taken) in &ROWS {
-        assert!(rt;
-            ends_with(rt.alloc(), words, SCRIPT, 7, NONE, ending_of(*taken))?,
-            "{words:?}"
-        );
+        are_taken(rt.alloc(), words, *taken)?;
     }
     Ok(())
 }
