@@ -134,12 +134,11 @@ fn part_of(alloc: Global, bytes: &[u8], offset: u64, len: u64) -> Option<Tree> {
     Some(Tree::Part(Boxed::new(alloc, base).ok()?, offset, len))
 }
 
-fn names(alloc: Global) -> Option<Vec<Vec<u8>>> {
-    let mut names = Vec::new(alloc);
+fn put_names(alloc: Global, names: &mut Vec<Vec<u8>>) -> Option<()> {
     for name in &NAMES {
         names.push(Vec::from_slice(alloc, name).ok()?).ok()?;
     }
-    Some(names)
+    Some(())
 }
 
 // Whether the trees stand in their order, each compared with each.
@@ -162,19 +161,21 @@ fn climb(alloc: Global, trees: &mut Items<Tree>, rungs: &[Rung]) -> Option<()> {
     Some(())
 }
 
-fn ladder_rises(alloc: Global, trees: &mut Items<Tree>) -> Option<bool> {
+fn put_ladder(alloc: Global, trees: &mut Items<Tree>) -> Option<()> {
     climb(alloc, trees, integers_and_names())?;
     climb(alloc, trees, funs_and_pids())?;
     climb(alloc, trees, tuples_and_maps())?;
-    climb(alloc, trees, lists_and_parts())?;
-    let names = names(alloc)?;
-    Some(is_in_order(trees.as_slice(), names.as_slice()))
+    climb(alloc, trees, lists_and_parts())
 }
 
 #[test]
 fn terms_are_in_order(rt: HostRuntime) {
     let mut trees = Items::new(rt.alloc());
-    assert!(rt; ladder_rises(rt.alloc(), &mut trees).unwrap_or(false));
+    let mut names = Vec::new(rt.alloc());
+    assert!(rt;
+        put_ladder(rt.alloc(), &mut trees).is_some() && put_names(rt.alloc(), &mut names).is_some()
+    );
+    assert!(rt; is_in_order(trees.as_slice(), names.as_slice()));
 }
 
 const PART_AND_BYTES: [Rung; 2] = [
@@ -182,12 +183,18 @@ const PART_AND_BYTES: [Rung; 2] = [
     Rung::Items(&[Item::Bin(2), Item::Byte(1), Item::Byte(2)]),
 ];
 
+fn part_and_bytes() -> &'static [Rung] {
+    &PART_AND_BYTES
+}
+
 // A part of two bytes is equal to them, has their nodes, and its own words beside those of the whole.
+fn is_its_bytes(part: &Tree, bytes: &Tree) -> bool {
+    order(part, bytes, &[]) == Ordering::Equal && nodes(part) == 2 && flat(part) == 8
+}
+
 fn part_is_its_bytes(alloc: Global, trees: &mut Items<Tree>) -> Option<bool> {
-    climb(alloc, trees, &PART_AND_BYTES)?;
-    let part = trees.get(0)?;
-    let equal = order(part, trees.get(1)?, &[]) == Ordering::Equal;
-    Some(equal && nodes(part) == 2 && flat(part) == 8)
+    climb(alloc, trees, part_and_bytes())?;
+    Some(is_its_bytes(trees.get(0)?, trees.get(1)?))
 }
 
 #[test]
