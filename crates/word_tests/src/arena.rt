@@ -1,16 +1,16 @@
 // The arena answers as a plain list of blocks does, over long runs of calls that are drawn at random.
-ghost use Rattle.std.specs.Prelude.{◌≤◌, ◌<◌, ◌^◌, ℕ, length};
+ghost use Rattle.std.specs.Prelude.{◌≤◌, ◌<◌, ◌^◌, ℕ, length, IfSome};
 ghost use Rattle.word_arena.specs.Blocks.{BlockBegins};
 ghost use Rattle.word_arena.specs.Sound.{Sound};
 
 use std::alloc::Global;
-use std::test::Fail;
 use word_arena::{Arena, KINDS, LAST_KIND};
 use word_mem::WordMem;
 
-// A block of the plain list; it begins where the words of those before it end.
+// A block of the plain list: the place where it begins, and what its header and its second word say.
 #[derive(Clone, Copy)]
 struct Block {
+    at: u64,
     words: u64,
     kind: u64,
     owner: u64,
@@ -23,55 +23,24 @@ const RUNS: [(u64, u64, u32); 3] = [
     (600_000, 20_000, 2_000),
 ];
 
-fn free_block(words: u64) -> Block {
-    Block {
-        words,
-        kind: 0,
-        owner: 0,
-    }
-}
-
-// The first block from a place in the list on that is free and has the words.
+// The first block in the list that is free and has the words.
 fn first_of(row: &[Block], words: u64) -> Option<usize> {
-    row.iter().position(|b| b.kind == 0 && b.words >= words)
-}
-
-// The words of the first so many blocks.
-fn place_of(row: &[Block], blocks: usize) -> u64 {
-    let mut at = 0u64;
-    for (k, block) in row.iter().enumerate() {
-        if k == blocks {
-            return at;
+    for k in 0..row.len() {
+        if row[k].kind == 0 && row[k].words >= words {
+            return Some(k);
         }
-        at = at.wrapping_add(block.words);
     }
-    at
+    None
 }
 
 // Which block begins at a place.
 fn block_at(row: &[Block], place: u64) -> usize {
-    let mut at = 0u64;
-    for (k, block) in row.iter().enumerate() {
-        if at == place {
+    for k in 0..row.len() {
+        if row[k].at == place {
             return k;
         }
-        at = at.wrapping_add(block.words);
     }
     row.len()
-}
-
-// Cuts a block to its first words; the rest is a block of the same kind.
-fn split(row: &mut Vec<Block>, k: usize, words: u64) -> Result<(), Fail> {
-    if k < row.len() && words < row[k].words {
-        let rest = Block {
-            words: row[k].words - words,
-            kind: row[k].kind,
-            owner: 0,
-        };
-        row[k].words = words;
-        row.insert(k + 1, rest)?;
-    }
-    Ok(())
 }
 
 // Joins a free block with the free one behind it.
@@ -80,6 +49,23 @@ fn join(row: &mut Vec<Block>, k: usize) {
         let behind = row.remove(k + 1);
         row[k].words = row[k].words.wrapping_add(behind.words);
     }
+}
+
+// Cuts a block to its first words; the rest is free, with what is free behind it. False where memory is wanting.
+fn split(row: &mut Vec<Block>, k: usize, words: u64) -> bool {
+    if k >= row.len() || words >= row[k].words {
+        return true;
+    }
+    let rest = Block {
+        at: row[k].at.wrapping_add(words),
+        words: row[k].words - words,
+        kind: 0,
+        owner: 0,
+    };
+    row[k].words = words;
+    let grown = row.insert(k + 1, rest).is_ok();
+    join(row, k + 1);
+    grown
 }
 
 fn free(row: &mut Vec<Block>, k: usize) {
@@ -92,30 +78,25 @@ fn free(row: &mut Vec<Block>, k: usize) {
     }
 }
 
-fn plain_take(
-    row: &mut Vec<Block>,
-    words: u64,
-    kind: u64,
-    owner: u64,
-) -> Result<Option<u64>, Fail> {
-    let Some(k) = first_of(row, words) else {
-        return Ok(None);
-    };
-    split(row, k, words)?;
-    if k < row.len() {
-        row[k].kind = kind;
-        row[k].owner = owner;
+fn plain_take(row: &mut Vec<Block>, words: u64, kind: u64, owner: u64) -> Option<u64> {
+    let k = first_of(row, words)?;
+    if !split(row, k, words) || k >= row.len() {
+        return None;
     }
-    Ok(Some(place_of(row, k)))
+    row[k].kind = kind;
+    row[k].owner = owner;
+    Some(row[k].at)
 }
 
-fn plain_cut(row: &mut Vec<Block>, k: usize, words: u64) -> Result<(), Fail> {
-    let blocks = row.len();
-    split(row, k, words)?;
-    if row.len() > blocks && k < blocks {
-        free(row, k + 1);
+// Whether the header of a block stands in the memory, and where it is taken the owner.
+fn stands(mem: &WordMem, block: &Block) -> bool {
+    if block.at >= mem.len() {
+        return false;
     }
-    Ok(())
+    let header = block.words.wrapping_mul(KINDS).wrapping_add(block.kind);
+    let owner = block.at.wrapping_add(1);
+    mem.get(block.at) == header
+        && (block.kind == 0 || owner < mem.len() && mem.get(owner) == block.owner)
 }
 
 // Whether the memory and the sums are those of the list.
@@ -127,13 +108,7 @@ fn is_as(arena: &Arena, row: &[Block]) -> bool
     let mut free = 0u64;
     let mut most = 0u64;
     for block in row {
-        if at >= len
-            || arena.mem.get(at) != block.words.wrapping_mul(KINDS).wrapping_add(block.kind)
-        {
-            return false;
-        }
-        let owner = at.wrapping_add(1);
-        if block.kind != 0 && (owner >= len || arena.mem.get(owner) != block.owner) {
+        if block.at != at || !stands(&arena.mem, block) {
             return false;
         }
         if block.kind == 0 {
@@ -163,13 +138,13 @@ fn block_behind(arena: &Arena, blocks: u64) -> u64
 }
 
 // A call on both, drawn at random: a take where the block that was drawn is free, else a give or a cut of it.
-fn call(arena: &mut Arena, row: &mut Vec<Block>, most: u64, draw: u64) -> Result<bool, Fail>
+fn call(arena: &mut Arena, row: &mut Vec<Block>, most: u64, draw: u64) -> bool
     requires sound { Sound arena.old }
     requires most { (1 ≤ most) × (most ≤ 2 ^ 20) }
     ensures { Sound arena.new }
 {
     if arena.mem.len() == 0 {
-        return Ok(false);
+        return false;
     }
     let at = block_behind(arena, draw % 512);
     let header = arena.mem.get(at);
@@ -178,65 +153,89 @@ fn call(arena: &mut Arena, row: &mut Vec<Block>, most: u64, draw: u64) -> Result
     if header % KINDS == 0 {
         let words = 2 + draw % most;
         let kind = 1 + draw % LAST_KIND;
-        return Ok(arena.take(words, kind, draw) == plain_take(row, words, kind, draw)?);
+        return arena.take(words, kind, draw) == plain_take(row, words, kind, draw);
     }
     let size = header / KINDS;
     if draw % 2 == 0 || size < 2 {
         arena.give(at);
         free(row, k);
-    } else {
-        let words = 2 + draw / 2 % (size - 1);
-        arena.cut(at, words);
-        plain_cut(row, k, words)?;
+        return true;
     }
-    Ok(true)
+    let words = 2 + draw / 2 % (size - 1);
+    arena.cut(at, words);
+    split(row, k, words)
 }
 
-fn run_agrees(alloc: Global, words: u64, most: u64, calls: u32) -> Result<bool, Fail>
-    requires words { (2 ≤ words) × (words ≤ 2 ^ 24) }
+fn calls_agree(arena: &mut Arena, row: &mut Vec<Block>, most: u64, calls: u32) -> bool
+    requires sound { Sound arena.old }
     requires most { (1 ≤ most) × (most ≤ 2 ^ 20) }
 {
-    let mem = WordMem::new(alloc, words)?;
-    let mut arena = Arena::lay(alloc, mem)?;
-    let mut row = vec![in alloc; free_block(words); 1]?;
-    let mut draw = words;
+    let mut draw = arena.mem.len();
     'run: for _ in 0..calls {
         draw = draw
             .wrapping_mul(6_364_136_223_846_793_005)
             .wrapping_add(1_442_695_040_888_963_407);
-        if !call(&mut arena, &mut row, most, draw >> 16)? || !is_as(&arena, &row) {
-            return Ok(false);
+        if !call(arena, row, most, draw >> 16) || !is_as(arena, row) {
+            return false;
         }
     }
-    Ok(true)
+    true
+}
+
+// An arena of so many words, all of them free.
+fn opened(alloc: Global, words: u64) -> Option<Arena>
+    requires { (2 ≤ words) × (words ≤ 2 ^ 24) }
+    ensures { IfSome result (λ a. Sound a) }
+{
+    let mem = WordMem::new(alloc, words).ok()?;
+    Arena::lay(alloc, mem).ok()
+}
+
+fn run_agrees(alloc: Global, words: u64, most: u64, calls: u32) -> Option<bool>
+    requires words { (2 ≤ words) × (words ≤ 2 ^ 24) }
+    requires most { (1 ≤ most) × (most ≤ 2 ^ 20) }
+{
+    let all = Block {
+        at: 0,
+        words,
+        kind: 0,
+        owner: 0,
+    };
+    let mut row = vec![in alloc; all; 1].ok()?;
+    let mut arena = opened(alloc, words)?;
+    Some(calls_agree(&mut arena, &mut row, most, calls))
 }
 
 #[test]
-fn an_arena_answers_as_a_list_of_blocks(rt: HostRuntime) -> Result<(), Fail> {
+fn an_arena_answers_as_a_list_of_blocks(rt: HostRuntime) {
     for (words, most, calls) in &RUNS {
-        assert!(rt; run_agrees(rt.alloc(), *words, *most, *calls)?);
+        assert!(rt; run_agrees(rt.alloc(), *words, *most, *calls).unwrap_or(false));
     }
-    Ok(())
 }
 
-// The whole arena is taken, nothing is left, and it is given back.
-fn whole_is_taken(alloc: Global, words: u64) -> Result<bool, Fail>
-    requires { (2 ≤ words) × (words ≤ 2 ^ 24) }
+// Whether the whole arena is taken, nothing is left, and it is given back.
+fn is_taken(arena: &mut Arena, words: u64) -> bool
+    requires sound { Sound arena.old }
+    requires least { 2 ≤ words }
 {
-    let mem = WordMem::new(alloc, words)?;
-    let mut arena = Arena::lay(alloc, mem)?;
     let Some(at) = arena.take(words, 1, 1) else {
-        return Ok(false);
+        return false;
     };
     if at != 0 || arena.take(2, 1, 1).is_some() {
-        return Ok(false);
+        return false;
     }
     arena.give(at);
-    Ok(arena.free_words() == words)
+    arena.free_words() == words
+}
+
+fn whole_is_taken(alloc: Global, words: u64) -> Option<bool>
+    requires { (2 ≤ words) × (words ≤ 2 ^ 24) }
+{
+    let mut arena = opened(alloc, words)?;
+    Some(is_taken(&mut arena, words))
 }
 
 #[test]
-fn the_whole_arena_is_taken_and_given_back(rt: HostRuntime) -> Result<(), Fail> {
-    assert!(rt; whole_is_taken(rt.alloc(), 4_096)?);
-    Ok(())
+fn the_whole_arena_is_taken_and_given_back(rt: HostRuntime) {
+    assert!(rt; whole_is_taken(rt.alloc(), 4_096).unwrap_or(false));
 }

@@ -3,7 +3,6 @@ ghost use Rattle.std.specs.Prelude.{◌≡◌, ◌≤◌, ◌^◌, length, IfOk}
 ghost use Rattle.word_tests.specs.Sample.{sample};
 
 use std::alloc::Global;
-use std::test::Fail;
 use term_read::{
     Look, byte_at, byte_len, element, fun_env, hd, look_at, map_key, map_len, map_value, tl,
 };
@@ -137,13 +136,12 @@ fn looks(mem: &WordMem) -> bool
     }
 }
 
-fn parts_are_read(alloc: Global) -> Result<bool, Fail> {
-    let mem = laid(alloc, &WORDS)?;
-    Ok(lists_and_tuples(&mem) && funs_and_maps(&mem) && bytes_of_binaries(&mem) && looks(&mem))
+fn parts_are_read(alloc: Global) -> Option<bool> {
+    let mem = laid(alloc, &WORDS).ok()?;
+    Some(lists_and_tuples(&mem) && funs_and_maps(&mem) && bytes_of_binaries(&mem) && looks(&mem))
 }
 
 #[test]
-fn parts_of_each_kind_are_read(rt: HostRuntime) -> Result<(), Fail> {
-    assert!(rt; parts_are_read(rt.alloc())?);
-    Ok(())
+fn parts_of_each_kind_are_read(rt: HostRuntime) {
+    assert!(rt; parts_are_read(rt.alloc()).unwrap_or(false));
 }

@@ -1,7 +1,10 @@
-use Rattle.std.proofs.Common.{◌<◌, length, ◌∙◌, arith}
+use Rattle.std.proofs.Common.{◌<◌, length, ◌∙◌, refl, arith}
 use Rattle.std.proofs.lemmas.List.{length-set}
-use Rattle.cheney.proofs.Rooted.Rows.{row-done, row-further, row-moves, row-reached}
+use Rattle.cheney.proofs.Rooted.Rows.{row-done, row-further, row-moves, row-reached, row-start}
 use Rattle.cheney.proofs.roots.evacuate_all.Goals as goal
+
+pub loop-i-init : goal.loop-i-init
+loop-i-init c = record { len = refl; each = λ p k run each. row-start p c.args.mem.now c.args.mv.now k c.args.words.now run }
 
 pub evacuate-requires : goal.evacuate-requires
 evacuate-requires c =

@@ -1,5 +1,10 @@
+use Rattle.std.proofs.Common.{arith}
+use Rattle.std.proofs.lemmas.Grind.{common_steps}
 use Rattle.word_mem.proofs.Copies.{copied}
 use Rattle.word_mem.proofs.mem.WordMem.copy_words.Goals as goal
+
+pub copy_up-requires-clause-order : goal.copy_up-requires-clause-order
+copy_up-requires-clause-order c = grind (arith, common_steps)
 
 pub returns-then-dst-src-clause-list : goal.returns-then-dst-src-clause-list
 returns-then-dst-src-clause-list c =
