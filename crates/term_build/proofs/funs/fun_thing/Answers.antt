@@ -1,4 +1,5 @@
 use Rattle.std.proofs.Common.{ℕ, ◌+◌, [], ◌∷◌, length, refl, arith, subst}
+use Rattle.std.proofs.lemmas.Grind.{common_steps}
 use Rattle.term_tags.specs.Words.{head_word, pid_word}
 use Rattle.term_tags.specs.declared.layouts.TheConstants.{FUN}
 use Rattle.term_words.specs.Role.{outside}
@@ -47,3 +48,33 @@ returns-clause-made_clear c = λ shared name ts named all.
 
 pub returns-clause-kept_clear : goal.returns-clause-kept_clear
 returns-clause-kept_clear c = taken-keeps (6 + length c.args.env.now) _ _ _ _ c.requires.words (returns-clause-uses c)
+
+pub overflow_add-count : goal.overflow_add-count
+overflow_add-count c = grind (arith, common_steps)
+
+pub head_of-requires-clause-subtag : goal.head_of-requires-clause-subtag
+head_of-requires-clause-subtag c = grind (arith, common_steps)
+
+pub head_of-requires-clause-arity : goal.head_of-requires-clause-arity
+head_of-requires-clause-arity c = grind (arith, common_steps)
+
+pub pid-requires : goal.pid-requires
+pid-requires c = grind (arith, common_steps)
+
+pub slice_bounds-put-end : goal.slice_bounds-put-end
+slice_bounds-put-end c = grind (arith, common_steps)
+
+pub put-place-requires-clause-places : goal.put-place-requires-clause-places
+put-place-requires-clause-places c = grind (arith, common_steps)
+
+pub put-place-requires-clause-words : goal.put-place-requires-clause-words
+put-place-requires-clause-words c = grind (arith, common_steps)
+
+pub put-requires-clause-places : goal.put-requires-clause-places
+put-requires-clause-places c = grind (arith, common_steps)
+
+pub put-requires-clause-words : goal.put-requires-clause-words
+put-requires-clause-words c = grind (arith, common_steps)
+
+pub boxed_at-requires : goal.boxed_at-requires
+boxed_at-requires c = grind (arith, common_steps)

@@ -1,4 +1,5 @@
 use Rattle.std.proofs.Common.{◌/◌, ◌%◌, get_or, ap, sym, ◌∙◌, arith}
+use Rattle.std.proofs.lemmas.Grind.{common_steps}
 use Rattle.term_read.proofs.Seen.{object-within, big-words, range-of, sees-one-digit, sees-two-digits}
 use Rattle.term_read.proofs.looks.big_look.Goals as goal
 
@@ -23,3 +24,12 @@ pub returns-else-get-eq2 : goal.returns-else-get-eq2
 returns-else-get-eq2 c =
     rw c.get-low.ensures (sees-one-digit c.args.mem.now c.args.w c.args.place c.args.negative c.requires.pointer.0 c.requires.pointer.1 c.requires.subtag
     (λ e. c.if-get-eq2.false (ap (λ x. x / 64) c.get.ensures ∙ e)))
+
+pub overflow_add-place : goal.overflow_add-place
+overflow_add-place c = grind (arith, common_steps)
+
+pub get-requires : goal.get-requires
+get-requires c = grind (arith, common_steps)
+
+pub overflow_add-place-then-get-eq2 : goal.overflow_add-place-then-get-eq2
+overflow_add-place-then-get-eq2 c = grind (arith, common_steps)

@@ -1,4 +1,5 @@
 use Rattle.std.proofs.Common.{◌≡◌, ◌/◌, get_or, arith}
+use Rattle.std.proofs.lemmas.Grind.{common_steps}
 use Rattle.term_read.proofs.Binaries.{has-heap_first, has-holder_first, record-inside, has-no_first}
 use Rattle.term_words.proofs.ByKind.Inside.{binary-inside}
 use Rattle.term_read.proofs.looks.first_word.Goals as goal
@@ -27,3 +28,15 @@ pub returns : goal.returns
 returns c =
     let (tag, place, sub, inside) = c.in_ok-place.ensures.some in
     rw c.get.ensures (has-holder_first c.args.mem.now c.args.w c.in_ok-place.place tag place sub)
+
+pub object_at-requires : goal.object_at-requires
+object_at-requires c = grind (arith, common_steps)
+
+pub overflow_add-result : goal.overflow_add-result
+overflow_add-result c = grind (arith, common_steps)
+
+pub object_at-requires-2 : goal.object_at-requires-2
+object_at-requires-2 c = grind (arith, common_steps)
+
+pub overflow_add-place : goal.overflow_add-place
+overflow_add-place c = grind (arith, common_steps)

@@ -1,4 +1,5 @@
 use Rattle.std.proofs.Common.{arith}
+use Rattle.std.proofs.lemmas.Grind.{common_steps}
 use Rattle.term_words.proofs.ByKind.Inside.{map-inside}
 use Rattle.term_read.proofs.Reading.{reads-key, past-key, no-key}
 use Rattle.term_read.proofs.map.map_key.Goals as goal
@@ -39,3 +40,24 @@ overflow_add-keys-then-i-get c =
     let (tag, place, sub, inside) = c.in_ok-place.ensures.some in
     let (words, keys) = map-inside c.args.mem.now c.args.w c.in_ok-place.place c.requires tag place sub in
     omega (arith, keys, c.get-keys.ensures, c.get.ensures, c.if-i-get.true, c.len-len.ensures.most)
+
+pub object_at-requires : goal.object_at-requires
+object_at-requires c = grind (arith, common_steps)
+
+pub returns-in_err-place-clause-word : goal.returns-in_err-place-clause-word
+returns-in_err-place-clause-word c = grind (arith, common_steps)
+
+pub overflow_add-place : goal.overflow_add-place
+overflow_add-place c = grind (arith, common_steps)
+
+pub overflow_add-place-then-i-get : goal.overflow_add-place-then-i-get
+overflow_add-place-then-i-get c = grind (arith, common_steps)
+
+pub overflow_add-keys : goal.overflow_add-keys
+overflow_add-keys c = grind (arith, common_steps)
+
+pub returns-then-i-get-clause-word : goal.returns-then-i-get-clause-word
+returns-then-i-get-clause-word c = grind (arith, common_steps)
+
+pub returns-else-i-get-clause-word : goal.returns-else-i-get-clause-word
+returns-else-i-get-clause-word c = grind (arith, common_steps)

@@ -1,4 +1,5 @@
 use Rattle.std.proofs.Common.{arith}
+use Rattle.std.proofs.lemmas.Grind.{common_steps}
 use Rattle.term_read.proofs.Reading.{reads-element, past-element, no-element}
 use Rattle.term_read.proofs.tuple.element.Goals as goal
 
@@ -14,3 +15,24 @@ pub returns-else-i-ge1-clause-reads : goal.returns-else-i-ge1-clause-reads
 returns-else-i-ge1-clause-reads c =
     let (tag, place, sub, inside) = c.in_ok-place.ensures.some in
     past-element c.args.mem.now c.args.w c.in_ok-place.place c.args.i place (λ low. omega (arith, c.get-parts.ensures, c.else-i-ge1.either))
+
+pub object_at-requires : goal.object_at-requires
+object_at-requires c = grind (arith, common_steps)
+
+pub returns-in_err-place-clause-word : goal.returns-in_err-place-clause-word
+returns-in_err-place-clause-word c = grind (arith, common_steps)
+
+pub get-parts-requires : goal.get-parts-requires
+get-parts-requires c = grind (arith, common_steps)
+
+pub overflow_add-place : goal.overflow_add-place
+overflow_add-place c = grind (arith, common_steps)
+
+pub get-requires : goal.get-requires
+get-requires c = grind (arith, common_steps)
+
+pub returns-then-i-parts-clause-word : goal.returns-then-i-parts-clause-word
+returns-then-i-parts-clause-word c = grind (arith, common_steps)
+
+pub returns-else-i-ge1-clause-word : goal.returns-else-i-ge1-clause-word
+returns-else-i-ge1-clause-word c = grind (arith, common_steps)

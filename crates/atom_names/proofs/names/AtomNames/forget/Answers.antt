@@ -1,4 +1,5 @@
 use Rattle.std.proofs.Common.{take, arith, ap, ◌∙◌}
+use Rattle.std.proofs.lemmas.Grind.{common_steps}
 use Rattle.atom_names.specs.Rows.{names_of}
 use Rattle.atom_names.proofs.Filled.{Holds_forget, names_of-forget, view-len}
 use Rattle.atom_names.proofs.names.AtomNames.forget.Goals as goal
@@ -13,3 +14,15 @@ pub returns : goal.returns
 returns c =
     let len = view-len c.self.inside.rows.items c.self.inside.table c.self.inside.count c.args.self.now c.self.invariant c.self.view_is in
     names_of-forget c.self.inside.rows.items c.args.n c.self.inside.count (omega arith) ∙ ap (take c.args.n) c.self.view_is
+
+pub free-requires-clause-order : goal.free-requires-clause-order
+free-requires-clause-order c = grind (arith, common_steps)
+
+pub free-requires-clause-slots_room : goal.free-requires-clause-slots_room
+free-requires-clause-slots_room c = grind (arith, common_steps)
+
+pub free-requires-clause-places_room : goal.free-requires-clause-places_room
+free-requires-clause-places_room c = grind (arith, common_steps)
+
+pub free-requires-clause-placed : goal.free-requires-clause-placed
+free-requires-clause-placed c = grind (arith, common_steps)

@@ -1,4 +1,5 @@
 use Rattle.std.proofs.Common.{◌≡◌, ℕ, ◌+◌, ◌-◌, length, get_or, set, arith, subst, ap, ◌∙◌}
+use Rattle.std.proofs.lemmas.Grind.{common_steps}
 use Rattle.std.proofs.lemmas.List.{length-set}
 use Rattle.atom_names.specs.Slots.{FindsSlot}
 use Rattle.atom_names.proofs.Probing.{Finds_pop, read-is}
@@ -29,3 +30,18 @@ returns c = λ names f.
     let same : c.loop-number.number ≡ c.args.first = omega (arith, c.loop-number-test.false, c.loop-number.invariant.low) in
     let P : ℕ → Type 0 = λ n. FindsSlot names n c.loop-number.self.slots.items c.loop-number.self.places.items in
     subst P same (c.loop-number.invariant.finds names f)
+
+pub loop-number-init : goal.loop-number-init
+loop-number-init c = grind (arith, common_steps)
+
+pub overflow_sub-number : goal.overflow_sub-number
+overflow_sub-number c = grind (arith, common_steps)
+
+pub index-requires : goal.index-requires
+index-requires c = grind (arith, common_steps)
+
+pub index_mut-requires : goal.index_mut-requires
+index_mut-requires c = grind (arith, common_steps)
+
+pub loop-number-smaller : goal.loop-number-smaller
+loop-number-smaller c = grind (arith, common_steps)
