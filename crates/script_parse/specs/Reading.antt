@@ -296,7 +296,7 @@ abbrev pub arguments_from : (ks : List Kind) → ℕ × (ℕ × (ℕ × ℕ)) �
 arguments_from [] n = tt
 arguments_from (k ∷ ks) n = (argument_from k (n.0), arguments_from ks (n.1.0, (n.1.1.0, (n.1.1.1, 0))))
 
--- The verb of a process that they make.
+-- The verb of a process that they make. The first clause stands for itself, as at `row_of`.
 abbrev pub verb_from : Word → ℕ × (ℕ × (ℕ × ℕ)) → Verb
 verb_from word.Set n = verb_with word.Set (arguments_from (kinds_of word.Set) n)
 verb_from w n = verb_with w (arguments_from (kinds_of w) n)

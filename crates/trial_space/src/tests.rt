@@ -37,28 +37,31 @@ const SENT: &[u8] =
 const TOLD: &[u8] =
     b"ok\nok\na\ntrue\nok\nfalse\nlt\ngt\neq\nok\nlt\ngt\nok\nok\nlt\n0\nerror badarg\nerror badarg\nerror badarg\nerror badarg\nerror nospace 3\nerror nospace 3\nerror nospace 4\nerror badarg\nerror nospace 2\nerror nospace 2\nerror nospace 9\na\n";
 
-// A script, and the replies to its lines.
+// A script, the replies to its lines, and what they show.
 struct Case {
+    shows: &'static str,
     script: &'static [u8],
     replies: &'static [u8],
 }
 
-// A script is served at a space that is no arena; what needs no word of the verbs on terms is done; binaries and funs find no
-// words, and none is counted; a message finds no words, and none waits.
 const CASES: [Case; 4] = [
     Case {
+        shows: "a script is served",
         script: SCRIPT,
         replies: REPLIES,
     },
     Case {
+        shows: "what needs no word of the verbs on terms is done",
         script: VERBS,
         replies: TOLD,
     },
     Case {
+        shows: "binaries and funs find no words, and none is counted",
         script: BINARIES,
         replies: LISTED,
     },
     Case {
+        shows: "a message finds no words, and none waits",
         script: MESSAGES,
         replies: SENT,
     },
@@ -86,20 +89,19 @@ fn serves(alloc: Global, script: &[u8], replies: &[u8]) -> Result<bool, Fail> {
     Ok(is_done(status) && sink.bytes() == replies)
 }
 
-// Whether each script is.
-fn serves_all(alloc: Global) -> Result<bool, Fail> {
+// Each script is, or what it shows is told.
+fn are_served(alloc: Global) -> Result<(), Fail> {
     for case in &CASES {
         if !serves(alloc, case.script, case.replies)? {
-            return Ok(false);
+            return Err(Fail::new(case.shows));
         }
     }
-    Ok(true)
+    Ok(())
 }
 
 #[test]
 fn scripts_are_served_at_a_space_that_is_no_arena(rt: HostRuntime) -> Result<(), Fail> {
-    assert!(rt; serves_all(rt.alloc())?);
-    Ok(())
+    are_served(rt.alloc())
 }
 
 // Whether a line that is done goes on, and one that quits ends the script.

@@ -8,7 +8,7 @@ use word_mem::{Room, WordMem};
 const BUILT: [u64; 5] = [47, 59, 128, 31, 1];
 
 /// Whether the words are the first of a memory.
-pub fn are_first(mem: &WordMem, words: &[u64]) -> bool {
+pub(crate) fn are_first(mem: &WordMem, words: &[u64]) -> bool {
     for (at, word) in words.iter().enumerate() {
         if at as u64 >= mem.len() || mem.get(at as u64) != *word {
             return false;

@@ -44,6 +44,7 @@ fn a_new_memory_is_written_and_copied(rt: HostRuntime) {
     }
 }
 
+// Whether the words 1 to n are copied to the places right behind them.
 fn copies_behind(alloc: Global, n: u64, after: &[u64]) -> Option<bool>
     requires some { 1 ≤ n }
     requires few { n ≤ 100 }
