@@ -5,21 +5,21 @@ use line_io::{Limits, LineGot, LineReader, MemSource};
 use std::alloc::{AllocError, Global};
 use std::test::Fail;
 
-// What a call for the next line is to answer: the length of a line, or one of these.
-const LONG: usize = 90_001;
-
-const END: usize = 90_002;
-
-const FAULT: usize = 90_003;
-
-const TOO_MUCH: usize = 90_004;
+// What a call for the next line is to answer: a line by its length.
+enum Answer {
+    Line(usize),
+    Long,
+    End,
+    Fault,
+    TooMuch,
+}
 
 // An input is so many letters and then some bytes.
 struct Row {
     letters: usize,
     bytes: &'static [u8],
     limits: Limits,
-    answers: &'static [usize],
+    answers: &'static [Answer],
 }
 
 const AMPLE: Limits = Limits {
@@ -44,67 +44,78 @@ const ROWS: [Row; 11] = [
         letters: 0,
         bytes: b"",
         limits: AMPLE,
-        answers: &[END, END],
+        answers: &[Answer::End, Answer::End],
     },
     Row {
         letters: 0,
         bytes: b"\n",
         limits: AMPLE,
-        answers: &[0, END, END],
+        answers: &[Answer::Line(0), Answer::End, Answer::End],
     },
     Row {
         letters: 0,
         bytes: b"ab\r\ncd",
         limits: AMPLE,
-        answers: &[2, 2, END, END],
+        answers: &[Answer::Line(2), Answer::Line(2), Answer::End, Answer::End],
     },
     Row {
         letters: 0,
         bytes: b"a\rb\r\r\n\rc\r",
         limits: AMPLE,
-        answers: &[4, 3, END, END],
+        answers: &[Answer::Line(4), Answer::Line(3), Answer::End, Answer::End],
     },
     Row {
         letters: 4095,
         bytes: b"\n",
         limits: AMPLE,
-        answers: &[4095, END],
+        answers: &[Answer::Line(4095), Answer::End],
     },
     Row {
         letters: 4096,
         bytes: b"\n",
         limits: AMPLE,
-        answers: &[4096, END],
+        answers: &[Answer::Line(4096), Answer::End],
     },
     Row {
         letters: 4097,
         bytes: b"\n",
         limits: AMPLE,
-        answers: &[LONG, END],
+        answers: &[Answer::Long, Answer::End],
     },
     Row {
         letters: 20_000,
         bytes: b"\n",
         limits: AMPLE,
-        answers: &[LONG, END, END],
+        answers: &[Answer::Long, Answer::End, Answer::End],
     },
     Row {
         letters: 0,
         bytes: THREE,
         limits: TWO_LINES,
-        answers: &[9, 9, TOO_MUCH, TOO_MUCH],
+        answers: &[
+            Answer::Line(9),
+            Answer::Line(9),
+            Answer::TooMuch,
+            Answer::TooMuch,
+        ],
     },
     Row {
         letters: 0,
         bytes: THREE,
         limits: FIFTEEN_BYTES,
-        answers: &[9, TOO_MUCH, TOO_MUCH],
+        answers: &[Answer::Line(9), Answer::TooMuch, Answer::TooMuch],
     },
     Row {
         letters: 0,
         bytes: THREE,
         limits: AMPLE,
-        answers: &[9, 9, 9, END, END],
+        answers: &[
+            Answer::Line(9),
+            Answer::Line(9),
+            Answer::Line(9),
+            Answer::End,
+            Answer::End,
+        ],
     },
 ];
 
@@ -115,13 +126,13 @@ fn input_of(alloc: Global, row: &Row) -> Result<Vec<u8>, AllocError> {
     Ok(input)
 }
 
-fn shown(got: LineGot, len: usize) -> usize {
-    match got {
-        LineGot::Line => len,
-        LineGot::Long => LONG,
-        LineGot::End => END,
-        LineGot::Fault => FAULT,
-        LineGot::TooMuch => TOO_MUCH,
+fn is_answer(got: LineGot, len: usize, answer: &Answer) -> bool {
+    match answer {
+        Answer::Line(wanted) => matches!(got, LineGot::Line) && len == *wanted,
+        Answer::Long => matches!(got, LineGot::Long),
+        Answer::End => matches!(got, LineGot::End),
+        Answer::Fault => matches!(got, LineGot::Fault),
+        Answer::TooMuch => matches!(got, LineGot::TooMuch),
     }
 }
 
@@ -131,7 +142,7 @@ fn reads_as(
     piece: usize,
     failing: &[u64],
     limits: Limits,
-    answers: &[usize],
+    answers: &[Answer],
 ) -> Result<bool, Fail>
     requires { 0 < piece }
 {
@@ -140,7 +151,7 @@ fn reads_as(
     let mut all = true;
     for answer in answers {
         let got = reader.next(&mut source);
-        all &= shown(got, reader.line().len()) == *answer;
+        all &= is_answer(got, reader.line().len(), answer);
     }
     Ok(all)
 }
@@ -163,8 +174,10 @@ fn lines_come_whatever_the_pieces(rt: HostRuntime) -> Result<(), Fail> {
 }
 
 // At a source whose eleventh read of one byte fails.
+const FAULTY: [Answer; 4] = [Answer::Line(9), Answer::Fault, Answer::Fault, Answer::Fault];
+
 fn stays(alloc: Global) -> Result<bool, Fail> {
-    reads_as(alloc, THREE, 1, &[11], AMPLE, &[9, FAULT, FAULT, FAULT])
+    reads_as(alloc, THREE, 1, &[11], AMPLE, &FAULTY)
 }
 
 #[test]

@@ -564,26 +564,19 @@ const ROWS: [Row; 7] = [
     },
 ];
 
-// What an item tells: its kind, and its number.
-fn told(item: Item) -> (u8, i128) {
-    match item {
-        Item::Int(i) => (0, i),
-        Item::Atom(k) => (1, k as i128),
-        Item::Pid(n) => (2, n as i128),
-        Item::Held(r) => (3, r as i128),
-        Item::Tuple(n) => (4, n as i128),
-        Item::Map(n) => (5, n as i128),
-        Item::Bin(n) => (6, n as i128),
-        Item::Byte(n) => (7, n as i128),
-        Item::Nil => (8, 0),
-        Item::Cons => (9, 0),
-    }
-}
-
 fn same_item(a: Item, b: Item) -> bool {
-    let (kind, number) = told(a);
-    let (other, n) = told(b);
-    kind == other && number == n
+    match a {
+        Item::Int(i) => matches!(b, Item::Int(j) if i == j),
+        Item::Atom(k) => matches!(b, Item::Atom(j) if k == j),
+        Item::Pid(n) => matches!(b, Item::Pid(m) if n == m),
+        Item::Held(r) => matches!(b, Item::Held(s) if r == s),
+        Item::Tuple(n) => matches!(b, Item::Tuple(m) if n == m),
+        Item::Map(n) => matches!(b, Item::Map(m) if n == m),
+        Item::Bin(n) => matches!(b, Item::Bin(m) if n == m),
+        Item::Byte(n) => matches!(b, Item::Byte(m) if n == m),
+        Item::Nil => matches!(b, Item::Nil),
+        Item::Cons => matches!(b, Item::Cons),
+    }
 }
 
 fn same_items(a: &[Item], b: &[Item]) -> bool {

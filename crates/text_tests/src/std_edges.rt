@@ -66,51 +66,53 @@ impl<'a> Write for Scripted<'a> {
     }
 }
 
-// What a read is to bring: a number of bytes, or one of these.
-const END: usize = 10;
-
-const FAULT: usize = 11;
+// What a read is to bring.
+enum Reading {
+    Bytes(usize),
+    End,
+    Fault,
+}
 
 // The turns of a reader, what it does from then on, and what reads into `abcd` bring and make of it.
-const READS: [(&[Turn], Turn, &[(usize, [u8; 4])]); 4] = [
+const READS: [(&[Turn], Turn, &[(Reading, [u8; 4])]); 4] = [
     (
         &[Turn::Moves(2), BREAK, Turn::Moves(9), BREAK],
         Turn::Moves(0),
         &[
-            (2, *b"xxcd"),
-            (FAULT, *b"abcd"),
-            (4, *b"xxxx"),
-            (FAULT, *b"abcd"),
-            (END, *b"abcd"),
+            (Reading::Bytes(2), *b"xxcd"),
+            (Reading::Fault, *b"abcd"),
+            (Reading::Bytes(4), *b"xxxx"),
+            (Reading::Fault, *b"abcd"),
+            (Reading::End, *b"abcd"),
         ],
     ),
     (
         &[Turn::Interrupt, Turn::Moves(3), Turn::Interrupt],
         Turn::Moves(0),
-        &[(3, *b"xxxd"), (END, *b"abcd")],
+        &[(Reading::Bytes(3), *b"xxxd"), (Reading::End, *b"abcd")],
     ),
-    (&[Turn::Interrupt], BREAK, &[(FAULT, *b"abcd")]),
+    (&[Turn::Interrupt], BREAK, &[(Reading::Fault, *b"abcd")]),
     (
         &[],
         Turn::Interrupt,
-        &[(FAULT, *b"abcd"), (FAULT, *b"abcd")],
+        &[(Reading::Fault, *b"abcd"), (Reading::Fault, *b"abcd")],
     ),
 ];
 
-fn brought(got: Got) -> usize {
-    match got {
-        Got::Got(n) => n,
-        Got::End => END,
-        Got::Failed => FAULT,
+fn is_reading(got: Got, reading: &Reading) -> bool {
+    match reading {
+        Reading::Bytes(count) => matches!(got, Got::Got(n) if n == *count),
+        Reading::End => matches!(got, Got::End),
+        Reading::Fault => matches!(got, Got::Failed),
     }
 }
 
-fn reads_as(turns: &[Turn], last: Turn, readings: &[(usize, [u8; 4])]) -> bool {
+fn reads_as(turns: &[Turn], last: Turn, readings: &[(Reading, [u8; 4])]) -> bool {
     let mut source = StdSource::new(Scripted { turns, last });
     let mut all = true;
-    for (count, text) in readings {
+    for (reading, text) in readings {
         let mut buf = *b"abcd";
-        all &= brought(source.read(&mut buf)) == *count;
+        all &= is_reading(source.read(&mut buf), reading);
         all &= buf == *text;
     }
     all
@@ -163,16 +165,14 @@ const FAULTS: [ErrorKind; 6] = [
     ErrorKind::Other,
 ];
 
+// What two reads bring where the first fails.
+const FAULTY: [(Reading, [u8; 4]); 2] = [(Reading::Fault, *b"abcd"), (Reading::End, *b"abcd")];
+
 // Whether an error is a fault of a read, of a write and of a flush.
 fn is_fault(kind: ErrorKind) -> bool {
     let turns = [Turn::Fails(kind)];
     let flushing = [Turn::Moves(4), Turn::Fails(kind)];
-    reads_as(
-        &turns,
-        Turn::Moves(0),
-        &[(FAULT, *b"abcd"), (END, *b"abcd")],
-    ) && takes_as(&turns, None)
-        && takes_as(&flushing, None)
+    reads_as(&turns, Turn::Moves(0), &FAULTY) && takes_as(&turns, None) && takes_as(&flushing, None)
 }
 
 #[test]
