@@ -1,38 +1,7 @@
 // Words as the system gives them, which need be no text.
-ghost use Rattle.std.specs.Io.{WritesAtMost};
-
 use crate::runs::{Ending, Left, NONE, Words, ends};
 use std::alloc::Global;
-use std::env::FillError;
-use std::rt::Env;
 use std::test::Fail;
-
-// A system that gives these words, and no variables.
-#[derive(Clone, Copy)]
-pub(crate) struct Given<'a> {
-    pub(crate) words: &'a [&'a [u8]],
-}
-
-impl<'a> Env for Given<'a> {
-    fn arg(&self, i: usize, buf: &mut [u8]) -> Result<usize, FillError> {
-        let Some(word) = self.words.get(i) else {
-            return Err(FillError::NotPresent);
-        };
-        if buf.len() < word.len() {
-            return Err(FillError::TooLong);
-        }
-        buf[..word.len()].copy_from_slice(word);
-        Ok(word.len())
-    }
-
-    fn var(&self, _name: &str, _buf: &mut [u8]) -> Result<usize, FillError> {
-        Err(FillError::NotPresent)
-    }
-
-    fn var_at(&self, _i: usize, _buf: &mut [u8]) -> Result<usize, FillError> {
-        Err(FillError::NotPresent)
-    }
-}
 
 // A script of one line.
 const SCRIPT: &[u8] = b"1 print 0\n";

@@ -1,11 +1,13 @@
 // Whole runs, each with what it must write.
 ghost use Rattle.std.specs.Prelude.{◌≡◌, ◌<◌};
+ghost use Rattle.std.specs.Io.{WritesAtMost};
 
-use crate::edge::Given;
 use line_io::{MemSink, MemSource};
 use machine_run::{Status, Store, number, run, run_with};
 use std::alloc::Global;
 use std::env;
+use std::env::FillError;
+use std::rt::Env;
 use std::test::Fail;
 
 // How many bytes of replies a test may have.
@@ -20,6 +22,33 @@ pub(crate) enum Words<'a> {
 
 // The words of a command line without options.
 pub(crate) const NAME_ALONE: Words<'static> = Words::Texts(&["beam_heap"]);
+
+// A system that gives these words, and no variables.
+#[derive(Clone, Copy)]
+struct Given<'a> {
+    words: &'a [&'a [u8]],
+}
+
+impl<'a> Env for Given<'a> {
+    fn arg(&self, i: usize, buf: &mut [u8]) -> Result<usize, FillError> {
+        let Some(word) = self.words.get(i) else {
+            return Err(FillError::NotPresent);
+        };
+        if buf.len() < word.len() {
+            return Err(FillError::TooLong);
+        }
+        buf[..word.len()].copy_from_slice(word);
+        Ok(word.len())
+    }
+
+    fn var(&self, _name: &str, _buf: &mut [u8]) -> Result<usize, FillError> {
+        Err(FillError::NotPresent)
+    }
+
+    fn var_at(&self, _i: usize, _buf: &mut [u8]) -> Result<usize, FillError> {
+        Err(FillError::NotPresent)
+    }
+}
 
 // Which read and which write fail, counted from 1.
 #[derive(Clone, Copy)]

@@ -62,7 +62,7 @@ pub(crate) fn are_answered(
     for _ in 0..rows {
         let (row, others) = first_row(rest);
         let shows = str::from_utf8(row.name).unwrap_or("");
-        told(!shows.is_empty(), "the table has fewer rows")?;
+        told(!shows.is_empty(), "no row, or one without a name")?;
         is_row_answered(alloc, shows, words, row, left)?;
         rest = others;
     }
