@@ -1,5 +1,5 @@
 -- Parts are in the order of tuples of them, and pairs in that of maps: by their number, then from the left.
-use Rattle.std.proofs.Common.{◌≡◌, ◌≢◌, ◌+◌, ◌<◌, ◌≤◌, ℕ, suc, List, [], ◌∷◌, map, length, drop, get_or, ap, refl, sym, ◌∙◌, add-one, arith, drop_of_length-le, drop-cons}
+use Rattle.std.proofs.Common.{◌≡◌, ◌≢◌, ◌+◌, ◌<◌, ◌≤◌, ℕ, List, [], ◌∷◌, map, length, drop, get_or, ap, refl, sym, ◌∙◌, add-one, arith, drop_of_length-le, drop-cons}
 use Rattle.std.specs.Ordering.{nat_cmp, ordering_then}
 use Rattle.std.specs.Cmp.{nat_cmp_is}
 use Rattle.std.proofs.lemmas.Map.Lookups.{exact_unsigned}
@@ -81,9 +81,11 @@ module _ (names : List (List ℕ)) (xs ys : List Tree) where
       left ∙ left-next (order_of_all names []) all one refl (λ x y xs ys. refl) xs ys i x y long below
       ∙ (λ j. ordering_then (one (sym ex j) (sym ey j)) (parts (drop (i + 1) xs) (drop (i + 1) ys)))
 
-  pub part-differs : (i : ℕ) (x y : Tree) (r : Ordering) → length xs ≡ length ys → i < length xs → x ≡ get_or xs i x → y ≡ get_or ys i y → IsLeft i → r ≡ one x y → r ≢ Equal → InOrder r
+  pub part-differs : (i : ℕ) (x y : Tree) (r : Ordering) → length xs ≡ length ys → i < length xs → x ≡ get_or xs i x → y ≡ get_or ys i y
+      → IsLeft i → r ≡ one x y → r ≢ Equal → InOrder r
   part-differs i x y r long below ex ey left is differs =
-      by-parts r long (decides r (parts (drop (i + 1) xs) (drop (i + 1) ys)) differs ∙ ap (λ a. ordering_then a (parts (drop (i + 1) xs) (drop (i + 1) ys))) is ∙ sym (next-part i x y long below ex ey left))
+      let rest = parts (drop (i + 1) xs) (drop (i + 1) ys) in
+      by-parts r long (decides r rest differs ∙ ap (λ a. ordering_then a rest) is ∙ sym (next-part i x y long below ex ey left))
 
   pub part-same : (i : ℕ) (x y : Tree) → length xs ≡ length ys → i < length xs → x ≡ get_or xs i x → y ≡ get_or ys i y → IsLeft i → Equal ≡ one x y → IsLeft (i + 1)
   part-same i x y long below ex ey left same = next-part i x y long below ex ey left ∙ ap (λ a. ordering_then a (parts (drop (i + 1) xs) (drop (i + 1) ys))) (sym same)
@@ -138,7 +140,8 @@ module _ (names : List (List ℕ)) (ps qs : List (Tree × Tree)) where
   pub key-same : (i : ℕ) (d e : Tree × Tree) → length ps ≡ length qs → i < length ps → AreLeft i → Equal ≡ key (get_or ps i d) (get_or qs i e) → AreLeft (i + 1)
   key-same i d e long below left same = next-key i d e long below left ∙ ap (λ a. ordering_then a (keys (drop (i + 1) ps) (drop (i + 1) qs))) (sym same)
 
-  pub value-next : (i : ℕ) (d e : Tree × Tree) (v r : Ordering) → length ps ≡ length qs → i < length ps → AreLeftWith v i → r ≡ ordering_then v (value (get_or ps i d) (get_or qs i e)) → AreLeftWith r (i + 1)
+  pub value-next : (i : ℕ) (d e : Tree × Tree) (v r : Ordering) → length ps ≡ length qs → i < length ps → AreLeftWith v i
+      → r ≡ ordering_then v (value (get_or ps i d) (get_or qs i e)) → AreLeftWith r (i + 1)
   value-next i d e v r long below left is =
       let rest = values (drop (i + 1) ps) (drop (i + 1) qs) in
       left ∙ ap (λ a. ordering_then v a) (left-next (order_of_values names []) pairs value refl (λ x y xs ys. refl) ps qs i d e long below)

@@ -30,10 +30,14 @@ fn compare(a: &Tree, b: &Tree, names: &[Vec<u8>]) -> Ordering
         (Tree::Int(i), Tree::Int(j)) => i.cmp(j),
         (Tree::Atom(k), Tree::Atom(j)) => name(names, *k).cmp(name(names, *j)),
         (Tree::Ref(n, k), Tree::Ref(m, j)) => n.cmp(m).then(k.cmp(j)),
-        (Tree::Fun(f, n, c, env), Tree::Fun(g, m, d, others)) => name(names, *f).cmp(name(names, *g)).then(n.cmp(m).then(
-            c.cmp(d)
-                .then(compare_all(env.as_slice(), others.as_slice(), names)),
-        )),
+        (Tree::Fun(f, n, c, env), Tree::Fun(g, m, d, others)) => name(names, *f)
+            .cmp(name(names, *g))
+            .then(
+                n.cmp(m).then(
+                    c.cmp(d)
+                        .then(compare_all(env.as_slice(), others.as_slice(), names)),
+                ),
+            ),
         (Tree::Pid(n), Tree::Pid(m)) => n.cmp(m),
         (Tree::Tuple(xs), Tree::Tuple(ys)) => compare_all(xs.as_slice(), ys.as_slice(), names),
         (Tree::Map(ps), Tree::Map(qs)) => compare_pairs(ps.as_slice(), qs.as_slice(), names),

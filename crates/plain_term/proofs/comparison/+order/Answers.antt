@@ -1,13 +1,12 @@
 -- The orders of terms by kinds, and of lists at their ends.
-use Rattle.std.proofs.Common.{rules, ◌≡◌, ℕ, List, [], map, length, arith, ◌∙◌, sym, ap}
+use Rattle.std.proofs.Common.{rules, ◌≡◌, ℕ, List, [], map, ◌∙◌, sym, ap}
 use Rattle.std.specs.Ordering.{nat_cmp, ordering_then}
-use Rattle.plain_term.specs.View.{view, trees_of, pairs_of, pair_of}
+use Rattle.plain_term.specs.View.{view}
 use Rattle.plain_term.specs.Order.{order as order_of}
-use Rattle.plain_term.specs.Order.{bytes_order, name_of, order_of_all, order_of_keys, order_of_values}
+use Rattle.plain_term.specs.Order.{bytes_order, name_of}
 use Rattle.plain_term.proofs.ApartLemmas.{by_kind, apart-Int, apart-Atom, apart-Ref, apart-Fun, apart-Pid, apart-Tuple, apart-Map, apart-Nil, apart-Cons, apart-others}
 use Rattle.plain_term.proofs.ViewLemmas.{as-Map, as-Tuple, as-Fun}
 use Rattle.plain_term.proofs.OrderLemmas.{numbers-differ, part-differs, part-same, parts-same, pair-numbers-differ, key-differs, key-same, value-next, pairs-same}
-use Rattle.std.proofs.lemmas.Grind.{common_steps}
 use Rattle.plain_term.proofs.comparison.+order.Goals as goal
 use Rattle.plain_term.proofs.comparison.+order.Goals.{compare-in_default-via-in-Int+in_default, compare-in_default-via-in-Atom+in_default, compare-in_default-via-in-Ref+in_default, compare-in_default-via-in-Fun+in_default, compare-in_default-via-in-Pid+in_default, compare-in_default-via-in-Tuple+in_default, compare-in_default-via-in-Map+in_default, compare-in_default-via-in-Nil+in_default, compare-in_default-via-in-Cons+in_default, compare-in_default-via-in_default}
 
@@ -61,12 +60,13 @@ compare_all-returns-then-xs-ys t c = numbers-differ _ c.args.xs.now c.args.ys.no
 
 pub compare_all-loop-i-preserved : goal.compare_all-loop-i-preserved
 compare_all-loop-i-preserved t c =
-    part-same _ c.args.xs.now c.args.ys.now c.loop-i.i c.index-xs-i.result c.index-ys-i.result c.if-xs-ys.false c.loop-i-test.true c.index-xs-i.is c.index-ys-i.is c.loop-i.invariant c.in-Equal.ensures
+    part-same _ c.args.xs.now c.args.ys.now c.loop-i.i c.index-xs-i.result c.index-ys-i.result c.if-xs-ys.false c.loop-i-test.true c.index-xs-i.is c.index-ys-i.is
+    c.loop-i.invariant c.in-Equal.ensures
 
 pub compare_all-returns-in_default : goal.compare_all-returns-in_default
 compare_all-returns-in_default t c =
-    part-differs _ c.args.xs.now c.args.ys.now c.loop-i.i c.index-xs-i.result c.index-ys-i.result c.compare.result c.if-xs-ys.false c.loop-i-test.true c.index-xs-i.is c.index-ys-i.is c.loop-i.invariant
-    c.compare.ensures c.in_default.not-Equal
+    part-differs _ c.args.xs.now c.args.ys.now c.loop-i.i c.index-xs-i.result c.index-ys-i.result c.compare.result c.if-xs-ys.false c.loop-i-test.true c.index-xs-i.is c.index-ys-i.is
+    c.loop-i.invariant c.compare.ensures c.in_default.not-Equal
 
 pub compare_all-returns : goal.compare_all-returns
 compare_all-returns t c = parts-same _ c.args.xs.now c.args.ys.now c.loop-i.i c.if-xs-ys.false c.loop-i-test.false c.loop-i.invariant

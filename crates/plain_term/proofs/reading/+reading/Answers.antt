@@ -1,4 +1,4 @@
-use Rattle.std.proofs.Common.{arith, rules, ◌≡◌}
+use Rattle.std.proofs.Common.{arith}
 use Rattle.plain_term.proofs.WrittenLemmas.{no-head, no-tail, no-part, no-tuple, reads-more, reads-cons, reads-tuple, are-more, is-tuple}
 use Rattle.plain_term.proofs.reading.+reading.Goals as goal
 

@@ -1,4 +1,4 @@
-use Rattle.std.proofs.Common.{arith, rules, ◌≡◌}
+use Rattle.std.proofs.Common.{arith}
 use Rattle.plain_term.proofs.WrittenLemmas.{no-byte, no-binary, reads-byte, reads-bin, bytes-more, is-binary}
 use Rattle.plain_term.proofs.reading.read_binary.Goals as goal
 
@@ -14,4 +14,5 @@ loop-i-preserved c =
 
 pub returns : goal.returns
 returns c =
-    reads-bin c.args.items.now c.loop-i._i c.args.n c.loop-i.bytes c.map.result c.loop-i.rest.now (omega arith) (omega arith) c.loop-i.invariant (is-binary c.loop-i.bytes c.map.result c.map.ensures.cases)
+    reads-bin c.args.items.now c.loop-i._i c.args.n c.loop-i.bytes c.map.result c.loop-i.rest.now (omega arith) (omega arith) c.loop-i.invariant
+    (is-binary c.loop-i.bytes c.map.result c.map.ensures.cases)
