@@ -1,8 +1,9 @@
 -- The laws of order, measures and text.
 use Rattle.std.proofs.Common.{◌≡◌, ◌≢◌, ◌+◌, ◌≤◌, ◌<◌, ◌^◌, ◌==◌, ◌%◌, ℕ, suc, ℤ, pos, negsuc, true, false, List, [], ◌∷◌, ◌++◌, length, get_or, max, refl, sym, ◌∙◌, ap, subst, arith, neg_ℤ, ◌-◌, ◌&&◌, nat_le, drop, leb-true, length-drop, length-take}
-use Rattle.std.proofs.lemmas.Bool.{and_parts}
+use Rattle.std.proofs.lemmas.Bool.{and_parts, false≢true}
 use Rattle.std.specs.Ordering.{nat_cmp, ordering_then, ordering_reverse}
 use Rattle.std.specs.Cmp.{tied_itself}
+use Rattle.std.specs.Ordering.{is_eq}
 use Rattle.std.specs.Fmt.{signed_decimal, decimal}
 use Rattle.std.specs.Str.Parse.{signed_digits_value, digits_value}
 use Rattle.std.specs.declared.cmp.Ordering.{Ordering}
@@ -39,6 +40,10 @@ second Less b e = absurd cc
 second Equal b e = e
 second Greater b e = absurd cc
 
+-- Terms of different kinds are not equal.
+undecided : {P : Type 0} (o : Ordering) → is_eq o ≡ false → o ≡ Equal → P
+undecided o differ same = absurd (false≢true (sym differ ∙ ap is_eq same))
+
 bytes-same : (a b : List ℕ) → bytes_order a b ≡ Equal → a ≡ b
 bytes-same a b e = exact_bytes a b e
 
@@ -49,13 +54,16 @@ pub order-of-binaries : (names s : List (List ℕ)) (a b : Tree) → is_binary a
 order-of-binaries names s (Bin x) (Bin y) p q = refl
 order-of-binaries names s (Bin x) (Shared y) p q = refl
 order-of-binaries names s (Bin x) (Part y o l) p q = refl
+order-of-binaries names s (Bin x) _ p q = absurd (false≢true q)
 order-of-binaries names s (Shared x) (Bin y) p q = refl
 order-of-binaries names s (Shared x) (Shared y) p q = refl
 order-of-binaries names s (Shared x) (Part y o l) p q = refl
+order-of-binaries names s (Shared x) _ p q = absurd (false≢true q)
 order-of-binaries names s (Part x n m) (Bin y) p q = refl
 order-of-binaries names s (Part x n m) (Shared y) p q = refl
 order-of-binaries names s (Part x n m) (Part y o l) p q = refl
-order-of-binaries names s a b p q = absurd cc
+order-of-binaries names s (Part x n m) _ p q = absurd (false≢true q)
+order-of-binaries names s _ b p q = absurd (false≢true p)
 
 pub equal-binaries : (names s : List (List ℕ)) (a b : Tree) → is_binary a ≡ true → is_binary b ≡ true
     → (order names s a b ≡ Equal → bytes_of s a ≡ bytes_of s b) × (bytes_of s a ≡ bytes_of s b → order names s a b ≡ Equal)
@@ -97,7 +105,7 @@ mutual
   alike names s (Part x n m) (Bin y) e = bin-alike (bytes_of s (Part x n m)) y e
   alike names s (Part x n m) (Shared y) e = bin-alike (bytes_of s (Part x n m)) (bytes_of s (Shared y)) e
   alike names s (Part x n m) (Part y o l) e = bin-alike (bytes_of s (Part x n m)) (bytes_of s (Part y o l)) e
-  alike names s a b e = absurd cc
+  alike names s a b e = undecided (order names s a b) refl e
 
   alike-all : (names s : List (List ℕ)) (ts us : Trees) → order_of_all names s ts us ≡ Equal → (nodes_of_all s ts ≡ nodes_of_all s us) × (greatest_depth ts ≡ greatest_depth us)
   alike-all names s end end e = (refl, refl)

@@ -1,10 +1,9 @@
 -- What items spell, and that they spell it alone.
 use Rattle.std.proofs.Common.{◌≡◌, ◌<◌, ◌≤◌, ◌+◌, ℕ, nat_le, Option, None, Some, List, [], ◌∷◌, ◌++◌, ◌==◌, true, false, subst, map, length, refl, sym, ◌∙◌, ap, arith, append_assoc, append-nil, length-append}
 use Rattle.std.proofs.lemmas.Bool.{and_parts, and_from, false≢true}
-use Rattle.std.specs.Prelude.{IfSome}
+use Rattle.std.specs.Prelude.{IfSome, IsSomeAnd, MatchOption}
 use Rattle.std.proofs.lemmas.List.{map-append}
 use Rattle.std.proofs.lemmas.Bool.Decides.{nat_tests}
-use Rattle.std.specs.Prelude.{IfSome}
 use Rattle.plain_term.specs.Tree.{Tree, Trees, trees_len, trees_append}
 use Rattle.plain_term.specs.Tree.Tree.{Int, Atom, Pid, Ref, Nil, Cons, Tuple, Map, Bin, Shared, Part, Fun}
 use Rattle.plain_term.specs.Tree.Trees.{end, ◌▹◌}
@@ -12,6 +11,8 @@ use Rattle.plain_term.specs.Written.{is_spelled, are_spelled, tree_items, trees_
 use Rattle.plain_term.specs.View.{view, trees_of}
 use Rattle.plain_term.specs.declared.reading.TheConstants.{HEAP_BINARY}
 use Rattle.plain_term.specs.declared.tree.Tree as code
+use Rattle.plain_term.specs.declared.tree.Tree.TheViews as made
+use Rattle.plain_term.proofs.ViewLemmas.{view-Bin, view-Tuple}
 use Rattle.plain_term.specs.declared.item.Item.{Item}
 use Rattle.plain_term.specs.declared.item.Item.TheVariants as item
 use Rattle.plain_term.specs.declared.tree.TreeFault.TheVariants.{Items}
@@ -167,6 +168,30 @@ after-head rest head after begins (Cons h t) y (spelled, is) =
     (t, ((and_parts (is_spelled h) (is_spelled t) spelled).1, first.1))
 after-head rest head after begins t y (spelled, is) = apart 5 (kind t) refl (ap kind_of_first is ∙ first-kind t y spelled)
 
+-- a list needs a head, a tuple its parts, and a binary its bytes
+pub no-head : (rest : List Item) → HasNoTerm rest → HasNoTerm (item.Cons ∷ rest)
+unfolding kind kind_of_item kind_of_first
+no-head rest none (Cons h t) y (spelled, is) =
+    let tails : rest ≡ (tree_items h ++ tree_items t) ++ y = cc in
+    none h (tree_items t ++ y) ((and_parts (is_spelled h) (is_spelled t) spelled).0, tails ∙ append_assoc (tree_items h) (tree_items t) y)
+no-head rest none t y (spelled, is) = apart 5 (kind t) refl (ap kind_of_first is ∙ first-kind t y spelled)
+
+pub no-tuple : (rest : List Item) (n : ℕ) → HasNoParts rest n → HasNoTerm (item.Tuple n ∷ rest)
+unfolding kind kind_of_item kind_of_first
+no-tuple rest n none (Tuple ts) y (spelled, is) =
+    let lens : trees_len ts ≡ n = cc in
+    let tails : rest ≡ trees_items ts ++ y = cc in
+    none ts y (spelled, lens, tails)
+no-tuple rest n none t y (spelled, is) = apart 6 (kind t) refl (ap kind_of_first is ∙ first-kind t y spelled)
+
+pub no-binary : (rest : List Item) (n : ℕ) → HasNoBytes rest n → HasNoTerm (item.Bin n ∷ rest)
+unfolding kind kind_of_item kind_of_first
+no-binary rest n none (Bin bytes) y (spelled, is) =
+    let lens : length bytes ≡ n = cc in
+    let tails : rest ≡ spelled_bytes bytes ++ y = cc in
+    none bytes y (lens, tails)
+no-binary rest n none t y (spelled, is) = apart 7 (kind t) refl (ap kind_of_first is ∙ first-kind t y spelled)
+
 pub no-tail : (rest : List Item) (head : Tree) (after : List Item) → BeginsWith rest head after → HasNoTerm after → HasNoTerm (item.Cons ∷ rest)
 no-tail rest head after begins none t y it = let found = after-head rest head after begins t y it in none found.0 y found.1
 
@@ -232,30 +257,38 @@ reads-byte items i kept new rest b after all is more =
     }
 
 -- a list place is read, and built if its parts were
-pub reads-cons : (items rest : List Item) (head : Option code.Tree) (mid : List Item) (tail new : Option code.Tree) (after : List Item) → items ≡ item.Cons ∷ rest → ReadsTerm rest head mid
-    → ReadsTerm mid tail after
-    → ((h t : Tree) → IsValueOf head h → IsValueOf tail t → IsValueOf new (Cons h t)) → ReadsTerm items new after
-reads-cons items rest head mid tail new after is first second made =
+pub reads-cons : (items : List Item) (head : Option code.Tree) (mid : List Item) (tail new : Option code.Tree) (after : List Item) → ReadsTerm items head mid → ReadsTerm mid tail after
+    → ((h t : Tree) → IsValueOf head h → IsValueOf tail t → IsValueOf new (Cons h t)) → ReadsTerm (item.Cons ∷ items) new after
+reads-cons items head mid tail new after first second made =
     let a = first.term in
     let b = second.term in
     record {
       term = Cons a b;
       begins = (
         and_from (is_spelled a) (is_spelled b) first.begins.0 second.begins.0,
-        is ∙ ap (λ l. item.Cons ∷ l) (first.begins.1 ∙ ap (λ l. tree_items a ++ l) second.begins.1 ∙ sym (append_assoc (tree_items a) (tree_items b) after)),
+        ap (λ l. item.Cons ∷ l) (first.begins.1 ∙ ap (λ l. tree_items a ++ l) second.begins.1 ∙ sym (append_assoc (tree_items a) (tree_items b) after)),
       );
       built = made a b first.built second.built;
     }
 
+-- a tuple is read, and built if its parts were
+pub reads-tuple : (items : List Item) (i n : ℕ) (values : Option (List code.Tree)) (new : Option code.Tree) (after : List Item) → i ≡ n → ReadsAll items i values after
+    → ((ts : Trees) → AreOf values ts → IsValueOf new (Tuple ts)) → ReadsTerm (item.Tuple n ∷ items) new after
+reads-tuple items i n values new after whole all made = record {
+  term = Tuple all.terms;
+  begins = (all.begin.0, (λ j. item.Tuple (sym (all.begin.1 ∙ whole) j) ∷ all.begin.2 j));
+  built = made all.terms all.built;
+}
+
 -- a binary is read, and built if its bytes were kept
-pub reads-bin : (items rest : List Item) (n : ℕ) (kept : Option (List ℕ)) (new : Option code.Tree) (after : List Item) → items ≡ item.Bin n ∷ rest → n ≤ HEAP_BINARY → ReadsBytes rest n kept after
-    → ((bs : List ℕ) → IfSome kept (λ xs. xs ≡ bs) → IsValueOf new (Bin bs)) → ReadsTerm items new after
-reads-bin items rest n kept new after is few all made =
-    let len : length all.bytes ≡ n = all.begin.0 in
+pub reads-bin : (items : List Item) (i n : ℕ) (kept : Option (List ℕ)) (new : Option code.Tree) (after : List Item) → i ≡ n → n ≤ HEAP_BINARY → ReadsBytes items i kept after
+    → ((bs : List ℕ) → IfSome kept (λ xs. xs ≡ bs) → IsValueOf new (Bin bs)) → ReadsTerm (item.Bin n ∷ items) new after
+reads-bin items i n kept new after whole few all made =
+    let len : length all.bytes ≡ n = all.begin.0 ∙ whole in
     let short : nat_le (length all.bytes) HEAP_BINARY ≡ true = grind (arith, nat_tests, len, few) in
     record {
       term = Bin all.bytes;
-      begins = (short, is ∙ ap (λ l. item.Bin n ∷ l) all.begin.1 ∙ ap (λ m. item.Bin m ∷ (spelled_bytes all.bytes ++ after)) (sym len));
+      begins = (short, ap (λ m. item.Bin m ∷ items) (sym len) ∙ ap (λ l. item.Bin (length all.bytes) ∷ l) all.begin.1);
       built = made all.bytes all.built;
     }
 
@@ -264,16 +297,30 @@ trees_of-push : (xs : List code.Tree) (x : code.Tree) → trees_of (map view (xs
 trees_of-push [] x = refl
 trees_of-push (y ∷ ys) x = ap (λ us. view y ▹ us) (trees_of-push ys x)
 
-pub are-more : (values : Option (List code.Tree)) (value : Option code.Tree) (xs : List code.Tree) (x : code.Tree) (new : List code.Tree) (ts : Trees) (t : Tree) → values ≡ Some xs → value ≡ Some x
-    → new ≡ xs ++ x ∷ []
-    → AreOf values ts → IsValueOf value t → trees_of (map view new) ≡ trees_append ts (t ▹ end)
-are-more values value xs x new ts t is one pushed all it =
-    let many : trees_of (map view xs) ≡ ts = subst (λ v. AreOf v ts) is all in
-    let last : view x ≡ t = subst (λ v. IsValueOf v t) one it in
-    ap (λ l. trees_of (map view l)) pushed ∙ trees_of-push xs x ∙ ap (λ us. trees_append us (view x ▹ end)) many ∙ ap (λ u. trees_append ts (u ▹ end)) last
+-- so are these where one more was put on
+pub are-more : (values : Option (List code.Tree)) (value : Option code.Tree) (new : Option (List code.Tree)) (ts : Trees) (t : Tree)
+    → IfSome new (λ more. IsSomeAnd values (λ xs. IsSomeAnd value (λ x. more ≡ xs ++ x ∷ []))) → AreOf values ts → IsValueOf value t → AreOf new (trees_append ts (t ▹ end))
+are-more values value None ts t pushed all it = tt
+are-more None value (Some new) ts t pushed all it = absurd pushed
+are-more (Some xs) None (Some new) ts t pushed all it = absurd pushed
+are-more (Some xs) (Some x) (Some new) ts t pushed all it =
+    ap (λ l. trees_of (map view l)) pushed ∙ trees_of-push xs x ∙ (λ i. trees_append (all i) (it i ▹ end))
 
--- the same of values that are there only where memory was left for one more
-pub are-more-if : (values : Option (List code.Tree)) (value : Option code.Tree) (xs : List code.Tree) (x : code.Tree) (new : Option (List code.Tree)) (ts : Trees) (t : Tree)
-    → values ≡ Some xs → value ≡ Some x → IfSome new (λ l. l ≡ xs ++ x ∷ []) → AreOf values ts → IsValueOf value t → AreOf new (trees_append ts (t ▹ end))
-are-more-if values value xs x None ts t is one pushed all it = tt
-are-more-if values value xs x (Some new) ts t is one pushed all it = are-more values value xs x new ts t is one pushed all it
+pub bytes-more : (kept new : Option (List ℕ)) (b : ℕ) (bs : List ℕ) → IfSome new (λ more. IsSomeAnd kept (λ xs. more ≡ xs ++ b ∷ [])) → IfSome kept (λ xs. xs ≡ bs)
+    → IfSome new (λ xs. xs ≡ bs ++ b ∷ [])
+bytes-more kept None b bs pushed all = tt
+bytes-more None (Some new) b bs pushed all = absurd pushed
+bytes-more (Some xs) (Some new) b bs pushed all = pushed ∙ ap (λ l. l ++ b ∷ []) all
+
+-- parts and bytes are those of the value that is made of them
+pub is-tuple : (values : Option (List code.Tree)) (new : Option code.Tree) → MatchOption values (new ≡ None) (λ xs. IsSomeAnd new (λ v. v ≡ made.Tuple xs))
+    → (ts : Trees) → AreOf values ts → IsValueOf new (Tuple ts)
+is-tuple None new made ts all = rw made tt
+is-tuple (Some xs) None made ts all = absurd made
+is-tuple (Some xs) (Some v) made ts all = ap view made ∙ view-Tuple xs ∙ ap Tuple all
+
+pub is-binary : (kept : Option (List ℕ)) (new : Option code.Tree) → MatchOption kept (new ≡ None) (λ xs. IsSomeAnd new (λ v. v ≡ code.Bin xs))
+    → (bs : List ℕ) → IfSome kept (λ xs. xs ≡ bs) → IsValueOf new (Bin bs)
+is-binary None new made bs all = rw made tt
+is-binary (Some xs) None made bs all = absurd made
+is-binary (Some xs) (Some v) made bs all = ap view made ∙ view-Bin xs ∙ ap Bin all

@@ -3,7 +3,8 @@
 
 ghost use Rattle.std.specs.Prelude.{◌≡◌, ℕ, List, [], map, IsTrue};
 ghost use Rattle.plain_term.specs.View.{view, trees_of, pairs_of, pair_of, has_no_shared};
-ghost use Rattle.plain_term.specs.Order.{order as order_of, order_of_all, order_of_keys, order_of_values, kind_rank, name_of};
+ghost use Rattle.plain_term.specs.Order.{order as order_of, kind_rank, name_of};
+ghost use Rattle.plain_term.specs.Tree.Tree.{Tuple as plain_tuple, Map as plain_map};
 
 use crate::tree::{Tree, bytes};
 use std::cmp::Ordering;
@@ -31,20 +32,15 @@ fn compare(a: &Tree, b: &Tree, names: &[Vec<u8>]) -> Ordering
         (Tree::Ref(n, k), Tree::Ref(m, j)) => n.cmp(m).then(k.cmp(j)),
         (Tree::Fun(f, n, c, env), Tree::Fun(g, m, d, others)) => name(names, *f)
             .cmp(name(names, *g))
-            .then(n.cmp(m))
-            .then(c.cmp(d))
-            .then(env.len().cmp(&others.len()))
-            .then(compare_all(env.as_slice(), others.as_slice(), names)),
+            .then(
+                n.cmp(m).then(
+                    c.cmp(d)
+                        .then(compare_all(env.as_slice(), others.as_slice(), names)),
+                ),
+            ),
         (Tree::Pid(n), Tree::Pid(m)) => n.cmp(m),
-        (Tree::Tuple(xs), Tree::Tuple(ys)) => xs
-            .len()
-            .cmp(&ys.len())
-            .then(compare_all(xs.as_slice(), ys.as_slice(), names)),
-        (Tree::Map(ps), Tree::Map(qs)) => ps
-            .len()
-            .cmp(&qs.len())
-            .then(compare_keys(ps.as_slice(), qs.as_slice(), names))
-            .then(compare_values(ps.as_slice(), qs.as_slice(), names)),
+        (Tree::Tuple(xs), Tree::Tuple(ys)) => compare_all(xs.as_slice(), ys.as_slice(), names),
+        (Tree::Map(ps), Tree::Map(qs)) => compare_pairs(ps.as_slice(), qs.as_slice(), names),
         (Tree::Nil, Tree::Nil) => Ordering::Equal,
         (Tree::Cons(head, tail), Tree::Cons(other, rest)) => {
             compare(head.get(), other.get(), names).then(compare(tail.get(), rest.get(), names))
@@ -53,52 +49,39 @@ fn compare(a: &Tree, b: &Tree, names: &[Vec<u8>]) -> Ordering
     }
 }
 
+// Parts by their number, then from the left, as the tuples of them.
 #[cycle(order)]
 fn compare_all(xs: &[Tree], ys: &[Tree], names: &[Vec<u8>]) -> Ordering
-    ensures { result ≡ order_of_all (map (λ v. v.items) names.now) [] (trees_of (map view xs.now)) (trees_of (map view ys.now)) }
+    ensures { result ≡ order_of (map (λ v. v.items) names.now) [] (plain_tuple (trees_of (map view xs.now))) (plain_tuple (trees_of (map view ys.now))) }
 {
-    for (i, x) in xs.iter().enumerate() {
-        let Some(y) = ys.get(i) else {
-            return Ordering::Greater;
-        };
-        let order = compare(x, y, names);
-        if order != Ordering::Equal {
-            return order;
+    if xs.len() != ys.len() {
+        return xs.len().cmp(&ys.len());
+    }
+    for i in 0..xs.len() {
+        match compare(&xs[i], &ys[i], names) {
+            Ordering::Equal => {}
+            order => return order,
         }
     }
-    xs.len().cmp(&ys.len())
+    Ordering::Equal
 }
 
+// Pairs by their number, then by the keys, then by the values, as the maps of them.
 #[cycle(order)]
-fn compare_keys(ps: &[(Tree, Tree)], qs: &[(Tree, Tree)], names: &[Vec<u8>]) -> Ordering
-    ensures { result ≡ order_of_keys (map (λ v. v.items) names.now) [] (pairs_of (map pair_of ps.now)) (pairs_of (map pair_of qs.now)) }
+fn compare_pairs(ps: &[(Tree, Tree)], qs: &[(Tree, Tree)], names: &[Vec<u8>]) -> Ordering
+    ensures { result ≡ order_of (map (λ v. v.items) names.now) [] (plain_map (pairs_of (map pair_of ps.now))) (plain_map (pairs_of (map pair_of qs.now))) }
 {
-    for (i, p) in ps.iter().enumerate() {
-        let Some(q) = qs.get(i) else {
-            return Ordering::Greater;
-        };
-        let order = compare(&p.0, &q.0, names);
-        if order != Ordering::Equal {
-            return order;
+    if ps.len() != qs.len() {
+        return ps.len().cmp(&qs.len());
+    }
+    let mut values = Ordering::Equal;
+    for i in 0..ps.len() {
+        match compare(&ps[i].0, &qs[i].0, names) {
+            Ordering::Equal => values = values.then(compare(&ps[i].1, &qs[i].1, names)),
+            keys => return keys,
         }
     }
-    ps.len().cmp(&qs.len())
-}
-
-#[cycle(order)]
-fn compare_values(ps: &[(Tree, Tree)], qs: &[(Tree, Tree)], names: &[Vec<u8>]) -> Ordering
-    ensures { result ≡ order_of_values (map (λ v. v.items) names.now) [] (pairs_of (map pair_of ps.now)) (pairs_of (map pair_of qs.now)) }
-{
-    for (i, p) in ps.iter().enumerate() {
-        let Some(q) = qs.get(i) else {
-            return Ordering::Greater;
-        };
-        let order = compare(&p.1, &q.1, names);
-        if order != Ordering::Equal {
-            return order;
-        }
-    }
-    ps.len().cmp(&qs.len())
+    values
 }
 
 // The bytes of the k-th name; none where there are fewer.

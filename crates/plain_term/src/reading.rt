@@ -1,13 +1,11 @@
 // A tree read from its items.
-ghost use Rattle.std.specs.Prelude.{◌≡◌, ◌≢◌, ◌<◌, ◌≤◌, ℕ, List, [], ◌∷◌, ◌++◌, length, IfSome, MatchOption, MatchResult};
+ghost use Rattle.std.specs.Prelude.{◌≡◌, ◌≢◌, ℕ, List, [], ◌∷◌, ◌++◌, IfSome, IsSomeAnd, MatchOption, MatchResult};
 ghost use Rattle.plain_term.specs.View.{view};
 ghost use Rattle.plain_term.specs.Tree as plain;
-ghost use Rattle.plain_term.specs.Tree.{Trees, trees_append};
-ghost use Rattle.plain_term.specs.Tree.Trees.{end, ◌▹◌};
-ghost use Rattle.plain_term.specs.Tree.Tree.{Cons as plain_cons, Tuple as plain_tuple, Bin as plain_bin};
+ghost use Rattle.plain_term.specs.Tree.Tree.{Cons as plain_cons};
 ghost use Rattle.plain_term.specs.declared.item.Item.{Item};
-ghost use Rattle.plain_term.specs.declared.item.Item.TheVariants.{Byte};
-ghost use Rattle.plain_term.specs.Written.{AreOf, Explains, HasNoBytes, HasNoParts, HasNoTerm, IsValueOf, ReadsTerm, ReadsAll, ReadsBytes, SpellsTree};
+ghost use Rattle.plain_term.specs.declared.item.Item.TheVariants.{Byte, Cons, Tuple, Bin};
+ghost use Rattle.plain_term.specs.Written.{Explains, HasNoTerm, IsValueOf, ReadsTerm, SpellsTree};
 
 use crate::item::Item;
 use crate::tree::{Tree, TreeFault};
@@ -43,8 +41,7 @@ impl Tree {
 // wanting the term is not built, and reading goes on.
 #[cycle(reading)]
 fn read_term(alloc: Global, items: &[Item]) -> Option<(Option<Tree>, &[Item])>
-    ensures read { MatchOption result (HasNoTerm items.now) (λ p. ReadsTerm items.now p.0 p.1.now) }
-    ensures shorter { IfSome result (λ p. length p.1.now < length items.now) }
+    ensures { MatchOption result (HasNoTerm items.now) (λ p. ReadsTerm items.now p.0 p.1.now) }
 {
     let (first, rest) = first(items)?;
     match first {
@@ -58,56 +55,54 @@ fn read_term(alloc: Global, items: &[Item]) -> Option<(Option<Tree>, &[Item])>
         Item::Atom(k) => Some((Some(Tree::Atom(k)), rest)),
         Item::Pid(n) => Some((Some(Tree::Pid(n)), rest)),
         Item::Nil => Some((Some(Tree::Nil), rest)),
-        Item::Cons => {
-            let (head, rest) = read_term(alloc, rest)?;
-            let head = boxed(alloc, head);
-            let (tail, rest) = read_term(alloc, rest)?;
-            Some((cons(head, boxed(alloc, tail)), rest))
-        }
-        Item::Tuple(n) => {
-            let (parts, rest) = read_parts(alloc, n, rest)?;
-            Some((tuple(parts), rest))
-        }
-        Item::Bin(n) => {
-            if n > HEAP_BINARY {
-                return None;
-            }
-            let (bytes, rest) = read_bytes(alloc, n, rest)?;
-            Some((binary(bytes), rest))
-        }
+        Item::Cons => read_cons(alloc, rest),
+        Item::Tuple(n) => read_tuple(alloc, n, rest),
+        Item::Bin(n) => read_binary(alloc, n, rest),
         Item::Map(_) | Item::Byte(_) | Item::Held(_) => None,
     }
 }
 
-// The next `n` terms, and the items after them.
+// A list place of the next two terms, and the items after them.
 #[cycle(reading)]
-fn read_parts(alloc: Global, n: u64, items: &[Item]) -> Option<(Option<Items<Tree>>, &[Item])>
-    ensures read { MatchOption result (HasNoParts items.now n) (λ p. ReadsAll items.now n p.0 p.1.now) }
-    ensures shorter { IfSome result (λ p. length p.1.now ≤ length items.now) }
+fn read_cons(alloc: Global, items: &[Item]) -> Option<(Option<Tree>, &[Item])>
+    ensures { MatchOption result (HasNoTerm (Cons ∷ items.now)) (λ p. ReadsTerm (Cons ∷ items.now) p.0 p.1.now) }
+{
+    let (head, rest) = read_term(alloc, items)?;
+    let head = boxed(alloc, head);
+    let (tail, rest) = read_term(alloc, rest)?;
+    Some((cons(head, boxed(alloc, tail)), rest))
+}
+
+// A tuple of the next `n` terms, and the items after them.
+#[cycle(reading)]
+fn read_tuple(alloc: Global, n: u64, items: &[Item]) -> Option<(Option<Tree>, &[Item])>
+    ensures { MatchOption result (HasNoTerm (Tuple n ∷ items.now)) (λ p. ReadsTerm (Tuple n ∷ items.now) p.0 p.1.now) }
 {
     let mut parts = Some(Items::new(alloc));
     let mut rest = items;
     for _i in 0..n {
         let (part, after) = read_term(alloc, rest)?;
-        parts = with_part(parts, part);
+        parts = pushed(parts, part);
         rest = after;
     }
-    Some((parts, rest))
+    Some((parts.map(Tree::Tuple), rest))
 }
 
-// The next `n` bytes, and the items after them.
-fn read_bytes(alloc: Global, n: u64, items: &[Item]) -> Option<(Option<Items<u8>>, &[Item])>
-    ensures read { MatchOption result (HasNoBytes items.now n) (λ p. ReadsBytes items.now n p.0 p.1.now) }
-    ensures shorter { IfSome result (λ p. length p.1.now ≤ length items.now) }
+// A binary of the next `n` bytes, and the items after them; none where these are too many for one that is not shared.
+fn read_binary(alloc: Global, n: u64, items: &[Item]) -> Option<(Option<Tree>, &[Item])>
+    ensures { MatchOption result (HasNoTerm (Bin n ∷ items.now)) (λ p. ReadsTerm (Bin n ∷ items.now) p.0 p.1.now) }
 {
+    if n > HEAP_BINARY {
+        return None;
+    }
     let mut bytes = Some(Items::new(alloc));
     let mut rest = items;
     for _i in 0..n {
         let (byte, after) = first_byte(rest)?;
-        bytes = with_byte(bytes, byte);
+        bytes = pushed(bytes, Some(byte));
         rest = after;
     }
-    Some((bytes, rest))
+    Some((bytes.map(Tree::Bin), rest))
 }
 
 // The first item and the others.
@@ -124,13 +119,10 @@ fn first(items: &[Item]) -> Option<(Item, &[Item])>
 fn first_byte(items: &[Item]) -> Option<(u8, &[Item])>
     ensures { MatchOption result ((b : ℕ) (rest : List Item) → items.now ≢ Byte b ∷ rest) (λ p. items.now ≡ Byte p.0 ∷ p.1.now) }
 {
-    match first(items) {
-        Some((item, rest)) => match item {
-            Item::Byte(b) => Some((b, rest)),
-            Item::Int(_) | Item::Atom(_) | Item::Pid(_) | Item::Nil | Item::Cons => None,
-            Item::Tuple(_) | Item::Map(_) | Item::Bin(_) | Item::Held(_) => None,
-        },
-        None => None,
+    let (item, rest) = first(items)?;
+    match item {
+        Item::Byte(b) => Some((b, rest)),
+        _ => None,
     }
 }
 
@@ -145,42 +137,15 @@ fn boxed(alloc: Global, tree: Option<Tree>) -> Option<Boxed<Tree>>
 fn cons(head: Option<Boxed<Tree>>, tail: Option<Boxed<Tree>>) -> Option<Tree>
     ensures { (h t : plain.Tree) → IsValueOf head h → IsValueOf tail t → IsValueOf result (plain_cons h t) }
 {
-    Some(Tree::Cons(head?, tail?))
+    let (head, tail) = head.zip(tail)?;
+    Some(Tree::Cons(head, tail))
 }
 
-// A tuple of parts that are built.
-fn tuple(parts: Option<Items<Tree>>) -> Option<Tree>
-    ensures { (ts : Trees) → AreOf parts ts → IsValueOf result (plain_tuple ts) }
+// One item more, where all are there and memory is left for it.
+fn pushed<T: Drop>(items: Option<Items<T>>, item: Option<T>) -> Option<Items<T>>
+    ensures { IfSome result (λ more. IsSomeAnd items (λ xs. IsSomeAnd item (λ x. more ≡ xs ++ x ∷ []))) }
 {
-    Some(Tree::Tuple(parts?))
-}
-
-// A binary of bytes that are kept.
-fn binary(bytes: Option<Items<u8>>) -> Option<Tree>
-    ensures { (bs : List ℕ) → IfSome bytes (λ xs. xs ≡ bs) → IsValueOf result (plain_bin bs) }
-{
-    Some(Tree::Bin(bytes?))
-}
-
-// One part more, where all are built and memory is left for it.
-fn with_part(parts: Option<Items<Tree>>, part: Option<Tree>) -> Option<Items<Tree>>
-    ensures { (ts : Trees) (t : plain.Tree) → AreOf parts ts → IsValueOf part t → AreOf result (trees_append ts (t ▹ end)) }
-{
-    pushed(parts?, part?)
-}
-
-// One byte more, where all are kept and memory is left for it.
-fn with_byte(bytes: Option<Items<u8>>, byte: u8) -> Option<Items<u8>>
-    ensures { (bs : List ℕ) → IfSome bytes (λ xs. xs ≡ bs) → IfSome result (λ xs. xs ≡ bs ++ byte ∷ []) }
-{
-    pushed(bytes?, byte)
-}
-
-// One item more, where memory is left for it.
-fn pushed<T: Drop>(items: Items<T>, item: T) -> Option<Items<T>>
-    ensures { IfSome result (λ xs. xs ≡ items ++ item ∷ []) }
-{
-    let mut items = items;
+    let (mut items, item) = items.zip(item)?;
     items.push(item).ok()?;
     Some(items)
 }

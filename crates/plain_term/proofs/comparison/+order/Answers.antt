@@ -1,12 +1,12 @@
 -- The orders of terms by kinds, and of lists at their ends.
-use Rattle.std.proofs.Common.{rules, ◌≡◌, ℕ, List, [], map, length, arith, ◌∙◌, sym}
+use Rattle.std.proofs.Common.{rules, ◌≡◌, ℕ, List, [], map, ◌∙◌, sym, ap}
 use Rattle.std.specs.Ordering.{nat_cmp, ordering_then}
-use Rattle.plain_term.specs.View.{view, trees_of, pairs_of, pair_of}
+use Rattle.plain_term.specs.View.{view}
 use Rattle.plain_term.specs.Order.{order as order_of}
-use Rattle.plain_term.specs.Order.{bytes_order, name_of, order_of_all, order_of_keys, order_of_values}
+use Rattle.plain_term.specs.Order.{bytes_order, name_of}
 use Rattle.plain_term.proofs.ApartLemmas.{by_kind, apart-Int, apart-Atom, apart-Ref, apart-Fun, apart-Pid, apart-Tuple, apart-Map, apart-Nil, apart-Cons, apart-others}
-use Rattle.plain_term.proofs.OrderLemmas.{order-Map, order-Fun, at-end-of-all, at-end-of-keys, at-end-of-values}
-use Rattle.std.proofs.lemmas.Grind.{common_steps}
+use Rattle.plain_term.proofs.ViewLemmas.{as-Map, as-Tuple, as-Fun}
+use Rattle.plain_term.proofs.OrderLemmas.{numbers-differ, part-differs, part-same, parts-same, pair-numbers-differ, key-differs, key-same, value-next, pairs-same}
 use Rattle.plain_term.proofs.comparison.+order.Goals as goal
 use Rattle.plain_term.proofs.comparison.+order.Goals.{compare-in_default-via-in-Int+in_default, compare-in_default-via-in-Atom+in_default, compare-in_default-via-in-Ref+in_default, compare-in_default-via-in-Fun+in_default, compare-in_default-via-in-Pid+in_default, compare-in_default-via-in-Tuple+in_default, compare-in_default-via-in-Map+in_default, compare-in_default-via-in-Nil+in_default, compare-in_default-via-in-Cons+in_default, compare-in_default-via-in_default}
 
@@ -14,17 +14,28 @@ pub compare-returns-in-Fun-Fun : goal.compare-returns-in-Fun-Fun
 compare-returns-in-Fun-Fun t c =
     let names : List (List ℕ) = map (λ v. v.items) c.args.names.now in
     let of = c.in-Fun-Fun in
-    let known : c.then-in-Fun-Fun-4.result ≡ ordering_then (ordering_then (ordering_then (ordering_then (bytes_order (name_of names of.f) (name_of names of.g))
-    (nat_cmp of.n of.m)) (nat_cmp of.c of.d)) (nat_cmp (length of.env) (length of.others))) (order_of_all names [] (trees_of (map view of.env)) (trees_of (map view of.others))) = search rules in
-    known ∙ sym (order-Fun names c.args.a.now c.args.b.now of.f of.n of.c of.env of.g of.m of.d of.others of.is-0 of.is-1)
+    let known : c.then-in-Fun-Fun-3.result ≡ ordering_then (bytes_order (name_of names of.f) (name_of names of.g))
+    (ordering_then (nat_cmp of.n of.m) (ordering_then (nat_cmp of.c of.d) c.compare_all.result)) = search rules in
+    known
+    ∙ (λ i. ordering_then (bytes_order (name_of names of.f) (name_of names of.g)) (ordering_then (nat_cmp of.n of.m) (ordering_then (nat_cmp of.c of.d) (c.compare_all.ensures i))))
+    ∙ (λ i. order_of names [] (as-Fun c.args.a.now of.f of.n of.c of.env c.as_slice.result.now of.is-0 c.as_slice.ensures i)
+    (as-Fun c.args.b.now of.g of.m of.d of.others c.as_slice-in-Fun-Fun.result.now of.is-1 c.as_slice-in-Fun-Fun.ensures i))
+
+pub compare-returns-in-Tuple-Tuple : goal.compare-returns-in-Tuple-Tuple
+compare-returns-in-Tuple-Tuple t c =
+    let names : List (List ℕ) = map (λ v. v.items) c.args.names.now in
+    let of = c.in-Tuple-Tuple in
+    c.compare_all-in-Tuple-Tuple.ensures
+    ∙ (λ i. order_of names [] (as-Tuple c.args.a.now of.xs c.as_slice-in-Tuple-Tuple.result.now of.is-0 c.as_slice-in-Tuple-Tuple.ensures i)
+    (as-Tuple c.args.b.now of.ys c.as_slice-in-Tuple-Tuple-2.result.now of.is-1 c.as_slice-in-Tuple-Tuple-2.ensures i))
 
 pub compare-returns-in-Map-Map : goal.compare-returns-in-Map-Map
 compare-returns-in-Map-Map t c =
     let names : List (List ℕ) = map (λ v. v.items) c.args.names.now in
     let of = c.in-Map-Map in
-    let known : c.then-in-Map-Map-2.result ≡ ordering_then (ordering_then (nat_cmp (length of.ps) (length of.qs))
-    (order_of_keys names [] (pairs_of (map pair_of of.ps)) (pairs_of (map pair_of of.qs)))) (order_of_values names [] (pairs_of (map pair_of of.ps)) (pairs_of (map pair_of of.qs))) = search rules in
-    known ∙ sym (order-Map names c.args.a.now c.args.b.now of.ps of.qs of.is-0 of.is-1)
+    c.compare_pairs.ensures
+    ∙ (λ i. order_of names [] (as-Map c.args.a.now of.ps c.as_slice-in-Map-Map.result.now of.is-0 c.as_slice-in-Map-Map.ensures i)
+    (as-Map c.args.b.now of.qs c.as_slice-in-Map-Map-2.result.now of.is-1 c.as_slice-in-Map-Map-2.ensures i))
 
 pub compare-returns-in_default : goal.compare-returns-in_default
 compare-returns-in_default t c =
@@ -44,44 +55,36 @@ compare-returns-in_default t c =
           w.in_default.not-Pid-0 w.in_default.not-Tuple-0 w.in_default.not-Map-0 w.in_default.not-Nil-0 w.in_default.not-Cons-0
     ] in known ∙ sym apart
 
-pub compare_all-returns : goal.compare_all-returns
-compare_all-returns t c =
-    let known : c.cmp.result ≡ nat_cmp (length c.args.xs.now) (length c.args.ys.now) = search rules in
-    known ∙ sym (at-end-of-all _ c.loop-i.i c.args.xs.now c.args.ys.now (omega arith) (omega arith) c.loop-i.invariant.0 c.loop-i.invariant.1)
-
-pub compare_keys-returns : goal.compare_keys-returns
-compare_keys-returns t c =
-    let known : c.cmp.result ≡ nat_cmp (length c.args.ps.now) (length c.args.qs.now) = search rules in
-    known ∙ sym (at-end-of-keys _ c.loop-i.i c.args.ps.now c.args.qs.now (omega arith) (omega arith) c.loop-i.invariant.0 c.loop-i.invariant.1)
-
-pub compare_values-returns : goal.compare_values-returns
-compare_values-returns t c =
-    let known : c.cmp.result ≡ nat_cmp (length c.args.ps.now) (length c.args.qs.now) = search rules in
-    known ∙ sym (at-end-of-values _ c.loop-i.i c.args.ps.now c.args.qs.now (omega arith) (omega arith) c.loop-i.invariant.0 c.loop-i.invariant.1)
-
-pub compare_all-returns-in_default : goal.compare_all-returns-in_default
-compare_all-returns-in_default t c = grind (arith, common_steps)
-
-pub compare_all-returns-then-ne : goal.compare_all-returns-then-ne
-compare_all-returns-then-ne t c = grind (arith, common_steps)
+pub compare_all-returns-then-xs-ys : goal.compare_all-returns-then-xs-ys
+compare_all-returns-then-xs-ys t c = numbers-differ _ c.args.xs.now c.args.ys.now c.cmp.result c.if-xs-ys.true (search rules)
 
 pub compare_all-loop-i-preserved : goal.compare_all-loop-i-preserved
-compare_all-loop-i-preserved t c = grind (arith, common_steps)
+compare_all-loop-i-preserved t c =
+    part-same _ c.args.xs.now c.args.ys.now c.loop-i.i c.index-xs-i.result c.index-ys-i.result c.if-xs-ys.false c.loop-i-test.true c.index-xs-i.is c.index-ys-i.is
+    c.loop-i.invariant c.in-Equal.ensures
 
-pub compare_keys-returns-in_default : goal.compare_keys-returns-in_default
-compare_keys-returns-in_default t c = grind (arith, common_steps)
+pub compare_all-returns-in_default : goal.compare_all-returns-in_default
+compare_all-returns-in_default t c =
+    part-differs _ c.args.xs.now c.args.ys.now c.loop-i.i c.index-xs-i.result c.index-ys-i.result c.compare.result c.if-xs-ys.false c.loop-i-test.true c.index-xs-i.is c.index-ys-i.is
+    c.loop-i.invariant c.compare.ensures c.in_default.not-Equal
 
-pub compare_keys-returns-then-ne : goal.compare_keys-returns-then-ne
-compare_keys-returns-then-ne t c = grind (arith, common_steps)
+pub compare_all-returns : goal.compare_all-returns
+compare_all-returns t c = parts-same _ c.args.xs.now c.args.ys.now c.loop-i.i c.if-xs-ys.false c.loop-i-test.false c.loop-i.invariant
 
-pub compare_keys-loop-i-preserved : goal.compare_keys-loop-i-preserved
-compare_keys-loop-i-preserved t c = grind (arith, common_steps)
+pub compare_pairs-returns-then-ps-qs : goal.compare_pairs-returns-then-ps-qs
+compare_pairs-returns-then-ps-qs t c = pair-numbers-differ _ c.args.ps.now c.args.qs.now c.cmp.result c.if-ps-qs.true (search rules)
 
-pub compare_values-returns-in_default : goal.compare_values-returns-in_default
-compare_values-returns-in_default t c = grind (arith, common_steps)
+pub compare_pairs-loop-i-preserved : goal.compare_pairs-loop-i-preserved
+compare_pairs-loop-i-preserved t c = (
+  key-same _ c.args.ps.now c.args.qs.now c.loop-i.i c.index-ps-i.result c.index-qs-i.result c.if-ps-qs.false c.loop-i-test.true c.loop-i.invariant.0 c.in-Equal.ensures,
+  value-next _ c.args.ps.now c.args.qs.now c.loop-i.i c.index-ps-i-in-Equal.result c.index-qs-i-in-Equal.result c.loop-i.values c.then-values.result c.if-ps-qs.false c.loop-i-test.true
+      c.loop-i.invariant.1 (c.then-values.ensures ∙ ap (λ a. ordering_then c.loop-i.values a) c.compare-in-Equal.ensures),
+)
 
-pub compare_values-returns-then-ne : goal.compare_values-returns-then-ne
-compare_values-returns-then-ne t c = grind (arith, common_steps)
+pub compare_pairs-returns-in_default : goal.compare_pairs-returns-in_default
+compare_pairs-returns-in_default t c =
+    key-differs _ c.args.ps.now c.args.qs.now c.loop-i.i c.index-ps-i.result c.index-qs-i.result c.compare.result c.if-ps-qs.false c.loop-i-test.true c.loop-i.invariant.0
+    c.compare.ensures c.in_default.not-Equal
 
-pub compare_values-loop-i-preserved : goal.compare_values-loop-i-preserved
-compare_values-loop-i-preserved t c = grind (arith, common_steps)
+pub compare_pairs-returns : goal.compare_pairs-returns
+compare_pairs-returns t c = pairs-same _ c.args.ps.now c.args.qs.now c.loop-i.i c.loop-i.values c.if-ps-qs.false c.loop-i-test.false c.loop-i.invariant.0 c.loop-i.invariant.1
