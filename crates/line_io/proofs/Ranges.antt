@@ -40,8 +40,12 @@ pub copied-front : (xs ys bytes : List ℕ) (to n : ℕ) → n ≤ length bytes 
 copied-front xs ys bytes to n fits written = ap (λ k. take (to + k) ys) (sym (length-take-le n bytes fits)) ∙ written
 
 -- how long a range within a buffer is
-pub length-range : (xs : List ℕ) (from n : ℕ) → from + n ≤ length xs → length (slice_range xs from (from + n)) ≡ n
-length-range xs from n within = omega (arith, length-take (from + n - from) (drop from xs), length-drop from xs)
+pub length-range : (xs : List ℕ) (from to : ℕ) → from ≤ to → to ≤ length xs → length (slice_range xs from to) ≡ to - from
+length-range xs from to in_order within = omega (arith, length-take (to - from) (drop from xs), length-drop from xs)
+
+-- a range of which the end is near the start is short
+pub length-short : (xs : List ℕ) (from to most : ℕ) → to ≤ from + most → length (slice_range xs from to) ≤ most
+length-short xs from to most near = omega (arith, length-take (to - from) (drop from xs))
 
 -- a range stays where all that stands before its end stays
 pub range-kept : (xs ys : List ℕ) (from to : ℕ) → from ≤ to → take to ys ≡ take to xs → slice_range ys from to ≡ slice_range xs from to
