@@ -1,5 +1,5 @@
 -- Ranges of a buffer after a write behind them, and from a later start.
-use Rattle.std.proofs.Common.{Some, ◌≡◌, ℕ, ◌+◌, ◌-◌, ◌≤◌, List, ◌++◌, length, take, drop, slice_range, sym, ap, ◌∙◌, arith, length-take, length-take-le, length-drop, take-append-drop}
+use Rattle.std.proofs.Common.{Some, ◌≡◌, ℕ, ◌+◌, ◌-◌, ◌≤◌, List, [], ◌∷◌, ◌++◌, length, take, drop, slice_range, refl, sym, ap, ◌∙◌, arith, length-take, length-take-le, length-drop, take-append-drop}
 use Rattle.std.proofs.lemmas.List.{drop-take, drop-append-le, drop-drop}
 use Rattle.line_io.specs.Source.{Gave}
 use lib.Seq.{take-append_seam}
@@ -42,6 +42,10 @@ copied-front xs ys bytes to n fits written = ap (λ k. take (to + k) ys) (sym (l
 -- how long a range within a buffer is
 pub length-range : (xs : List ℕ) (from to : ℕ) → from ≤ to → to ≤ length xs → length (slice_range xs from to) ≡ to - from
 length-range xs from to in_order within = omega (arith, length-take (to - from) (drop from xs), length-drop from xs)
+
+pub nothing-held : (xs : List ℕ) → length xs ≡ 0 → xs ≡ []
+nothing-held [] none = refl
+nothing-held (x ∷ xs) none = absurd (omega arith)
 
 -- a range of which the end is near the start is short
 pub length-short : (xs : List ℕ) (from to most : ℕ) → to ≤ from + most → length (slice_range xs from to) ≤ most

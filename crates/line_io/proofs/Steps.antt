@@ -168,10 +168,6 @@ none-not-fault stays none = λ e. cc
 pub length-held : (r : LineReader) → length (held r) ≡ r.end - r.start
 length-held r = length-range r.buf.items r.start r.end r.in_order (omega (arith, r.size, r.in_buffer))
 
-pub nothing-held : (xs : List ℕ) → length xs ≡ 0 → xs ≡ []
-nothing-held [] none = refl
-nothing-held (x ∷ xs) none = absurd (omega arith)
-
 -- a line as it is given, by its length
 pub given-long : (is_long : Bool) (xs : List ℕ) (len : ℕ) → length xs ≡ len → (is_long || nat_lt LONGEST_LINE len) ≡ true → long ∷ [] ≡ line_given is_long xs ∷ []
 given-long is_long xs len same test = rw (same, test) refl

@@ -1,6 +1,7 @@
 use Rattle.std.proofs.Common.{◌≡◌, ◌⊎◌, inl, inr, ◌<◌, [], true, length, arith}
 use Rattle.line_io.specs.Reader.{held}
-use Rattle.line_io.proofs.Steps.{ends-empty, ends-last, read-of-end, length-held, nothing-held}
+use Rattle.line_io.proofs.Ranges.{nothing-held}
+use Rattle.line_io.proofs.Steps.{ends-empty, ends-last, read-of-end, length-held}
 use Rattle.line_io.proofs.reader.LineReader.last_line.Goals as goal
 use Rattle.line_io.proofs.reader.LineReader.last_line.Goals.{else-self-via-then-self+else-not-self, else-self-via-else-self}
 

@@ -1,8 +1,8 @@
 use Rattle.std.proofs.Common.{◌≡◌, ◌≤◌, ◌-◌, ◌++◌, [], length, take, drop, slice_range, refl, sym, ap, subst, ◌∙◌, arith, length-take}
 use Rattle.line_io.specs.Reader.{CutBy, IsOpen, held}
 use Rattle.line_io.specs.declared.reader.TheConstants.{SIZE}
-use Rattle.line_io.proofs.Ranges.{written-over}
-use Rattle.line_io.proofs.Steps.{lets-go-by, length-held, nothing-held}
+use Rattle.line_io.proofs.Ranges.{nothing-held, written-over}
+use Rattle.line_io.proofs.Steps.{lets-go-by, length-held}
 use Rattle.line_io.proofs.reader.LineReader.make_room.Goals as goal
 
 pub returns-then-self-lt-SIZE : goal.returns-then-self-lt-SIZE
