@@ -1,7 +1,7 @@
 -- What a reader's loop keeps, and what its end says of the lines.
 use Rattle.std.proofs.Common.{◌≡◌, ℕ, ◌≤◌, Bool, true, false, Option, None, Some, List, [], ◌∷◌, ◌++◌, slice_range, refl, sym, ap, subst, ◌∙◌, append-nil}
 use Rattle.std.specs.Io.KnownBytes.{IsAtEnd}
-use Rattle.std.proofs.KnownBytes.{Consumes-nil, Consumes-trans}
+use Rattle.std.proofs.KnownBytes.{Consumes-trans}
 use Rattle.line_io.specs.Lines.{Line as Text, lines}
 use Rattle.line_io.specs.Source.{Gave, came}
 use Rattle.line_io.specs.Reader.{CutsAt, HasCut, HasRead, IsOpen, ReadAt, Reads, EndsLines, IsEndOf, Settles, answer_at, answered, came_line, held, limits_of, lines_in, lines_left, line_in}
@@ -12,6 +12,7 @@ use Rattle.line_io.specs.declared.reader.Stop.TheVariants.{Open, Cut, Ended, Fau
 use Rattle.line_io.specs.declared.reader.LineGot.{LineGot}
 use Rattle.line_io.specs.declared.reader.LineGot.TheVariants.{Line, Long, End, Fault, TooMuch}
 use Rattle.line_io.specs.declared.reader.LineReader.{LineReader}
+use Rattle.line_io.proofs.Ranges.{Gave-nil}
 use Rattle.line_io.proofs.Cutting.{open-lines, cut-lines}
 
 -- what is known at the start of each turn
@@ -24,9 +25,6 @@ pub record Looping (before now : Option (List ℕ)) (faults_before faults_now : 
   pub lines : lines_left new ≡ lines_left old
   pub no_fault : faults_now ≡ faults_before
   pub took : (bytes : List ℕ) (given : List Text) → HasRead old before bytes given → (x : List ℕ) × Gave before now x × HasCut new (bytes ++ x) given
-
-pub Gave-nil : (left : Option (List ℕ)) → Gave left left []
-Gave-nil left = record { known = Consumes-nil left }
 
 pub Gave-append : (a b c : Option (List ℕ)) (x y : List ℕ) → Gave a b x → Gave b c y → Gave a c (x ++ y)
 Gave-append a b c x y first second = record { known = Consumes-trans a b c x y first.known second.known }

@@ -1,6 +1,7 @@
 -- Ranges of a buffer after a write behind them, and from a later start.
-use Rattle.std.proofs.Common.{Some, ◌≡◌, ℕ, ◌+◌, ◌-◌, ◌≤◌, List, [], ◌∷◌, ◌++◌, length, take, drop, slice_range, refl, sym, ap, ◌∙◌, arith, length-take, length-take-le, length-drop, take-append-drop}
+use Rattle.std.proofs.Common.{Option, Some, ◌≡◌, ℕ, ◌+◌, ◌-◌, ◌≤◌, List, [], ◌∷◌, ◌++◌, length, take, drop, slice_range, refl, sym, ap, ◌∙◌, arith, length-take, length-take-le, length-drop, take-append-drop}
 use Rattle.std.proofs.lemmas.List.{drop-take, drop-append-le, drop-drop}
+use Rattle.std.proofs.KnownBytes.{Consumes-nil}
 use Rattle.line_io.specs.Source.{Gave}
 use lib.Seq.{take-append_seam}
 
@@ -9,6 +10,10 @@ pub range-is-drop : (xs : List ℕ) (from to : ℕ) → from ≤ to → slice_ra
 range-is-drop xs from to in_order =
     let whole : from + (to - from) ≡ to = omega arith in
     sym (drop-take from (to - from) xs) ∙ ap (λ n. drop from (take n xs)) whole
+
+-- no byte came
+pub Gave-nil : (left : Option (List ℕ)) → Gave left left []
+Gave-nil left = record { known = Consumes-nil left }
 
 -- what comes off the front of the bytes that are left, and stands at a buffer's front
 pub Gave-front : (xs buf : List ℕ) (at n : ℕ) → take n buf ≡ take n (drop at xs) → Gave (Some (drop at xs)) (Some (drop (at + n) xs)) (take n buf)
