@@ -1,6 +1,7 @@
 use Rattle.std.proofs.Common.{refl, ◌+◌, ◌-◌, ◌≤◌, length, take, drop, arith, subst, ◌∙◌, append-nil, length-take}
 use Rattle.line_io.specs.Faults.{Rose}
 use Rattle.line_io.specs.Sink.{Grew}
+use Rattle.line_io.proofs.Apart.{took-failed}
 use Rattle.line_io.proofs.Growth.{Grew-append, Grew-more}
 use Rattle.line_io.proofs.sink.put_most.Goals as goal
 
@@ -12,7 +13,7 @@ loop-at-preserved g c =
     let before = c.loop-at.invariant in
     let most = length-take (length xs - at) (drop at xs) in
     let fits : at + n ≤ length xs = omega (arith, c.in-Took.ensures.count.1, most, before.0) in
-    (fits, Grew-more g.K.Sink.wrote _ _ _ xs at n fits before.1 c.in-Took.ensures.grew, c.in-Took.ensures.told (λ e. cc) ∙ before.2)
+    (fits, Grew-more g.K.Sink.wrote _ _ _ xs at n fits before.1 c.in-Took.ensures.grew, c.in-Took.ensures.told (λ e. took-failed e) ∙ before.2)
 
 pub returns-in-Failed : goal.returns-in-Failed
 returns-in-Failed g c =

@@ -1,4 +1,5 @@
 use Rattle.std.proofs.Common.{◌+◌, ◌-◌, take, take_all, drop, length-take, slice_range, refl, sym, ◌∙◌, append-nil, arith}
+use Rattle.line_io.proofs.Apart.{no-yes, yes-no}
 use Rattle.line_io.proofs.Ranges.{length-range, range-splits}
 use Rattle.line_io.proofs.gathered.Gathered.hand_on.Goals as goal
 
@@ -14,11 +15,11 @@ returns-then-self g c =
         parts = range-splits w.buf w.from n w.to (omega (arith, c.if-self.true));
         grew = e.grew;
       };
-      emptied = λ f. absurd (cc);
+      emptied = λ f. no-yes f;
       left = λ f. omega (arith, c.if-self.true, length-range w.buf (w.from + n) w.to (omega (arith, c.if-self.true)) (omega (arith, w.in_buffer)));
       later = e.later;
       rose = λ f. e.rose (omega (arith, c.if-self.true));
-      told = λ f. absurd (cc);
+      told = λ f. no-yes f;
     }
 
 pub returns : goal.returns
@@ -34,8 +35,8 @@ returns g c =
         grew = e.grew;
       };
       emptied = λ f. refl;
-      left = λ f. absurd (cc);
+      left = λ f. yes-no f;
       later = e.later;
-      rose = λ f. absurd (cc);
+      rose = λ f. yes-no f;
       told = λ f. e.told (omega (arith, c.if-self.false));
     }

@@ -1,4 +1,5 @@
 use Rattle.std.proofs.Common.{refl, arith, [], sym, ap, ◌∙◌, append-nil}
+use Rattle.line_io.proofs.Apart.{took-failed}
 use Rattle.line_io.proofs.Collects.{gathers, gathered-grew, hands-none}
 use Rattle.line_io.proofs.gathered.GatheredSink.write.Goals as goal
 
@@ -14,7 +15,7 @@ returns-then-self-lt-ROOM g c =
       count = (e.some, e.most);
       grew = gathers g.K.Sink.wrote w c.gather.new.self w _ refl (hands-none g.K.Sink.wrote w) e.sink e.gathered;
       later = omega (arith, same);
-      failed = λ f. absurd (cc);
+      failed = λ f. took-failed f;
       told = λ f. same;
     }
 
@@ -30,7 +31,7 @@ returns-then-hand_on g c =
       count = (e.some, e.most);
       grew = gathers g.K.Sink.wrote c.args.self.now c.gather-then-hand_on.new.self c.hand_on.new.self _ on.same_reference on.handed e.sink e.gathered;
       later = omega (arith, on.later, same);
-      failed = λ f. absurd (cc);
+      failed = λ f. took-failed f;
       told = λ f. same ∙ on.told c.if-hand_on.true;
     }
 

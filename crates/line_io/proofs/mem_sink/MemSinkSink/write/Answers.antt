@@ -1,5 +1,6 @@
 use Rattle.std.proofs.Common.{◌≡◌, ◌⊎◌, inl, inr, ℕ, ◌+◌, ◌-◌, ◌<◌, ◌≤◌, Bool, true, false, cond, min, List, [], ◌++◌, length, take, drop, refl, sym, ap, ◌∙◌, arith, append-nil, length-take, length-take-le}
 use Rattle.line_io.specs.Memory.{bytes_taken, fails_at, failing_writes, next_write, sink_room}
+use Rattle.line_io.proofs.Apart.{took-failed}
 use Rattle.line_io.proofs.Ranges.{copied-front, written-over}
 use Rattle.line_io.proofs.mem_sink.MemSinkSink.write.Goals as goal
 
@@ -54,7 +55,7 @@ returns c =
       count = (omega (arith, c.if-n-eq0.false), fits);
       grew = record { each = λ before h. ap (λ l. l ++ take n bytes) h ∙ sym taken };
       later = omega arith;
-      failed = λ f. absurd (cc);
+      failed = λ f. took-failed f;
       told = λ f. refl;
       exact = (t.0, t.1 ∙ ap most (sym (length-take-le w.len w.buf.items (omega (arith, w.within, w.buf.ok.0)))));
       taken = taken;

@@ -1,5 +1,6 @@
 use Rattle.std.proofs.Common.{◌≡◌, ◌-◌, [], length, min, refl, arith, sym, ap, ◌∙◌, take, drop, length-drop}
 use Rattle.line_io.specs.Memory.{bytes_left, fails_at, failing_reads, next_read}
+use Rattle.line_io.proofs.Apart.{end-failed, got-failed}
 use Rattle.line_io.proofs.Ranges.{Gave-front, Gave-nil, nothing-held}
 use Rattle.line_io.proofs.mem_source.MemSourceSource.read.Goals as goal
 
@@ -35,7 +36,7 @@ returns-then-n-eq0 c =
       bytes = Gave-nil _;
       end = ended;
       later = omega arith;
-      failed = λ f. absurd (cc);
+      failed = λ f. end-failed f;
       told = λ f. refl;
       exact = (sym fails ∙ c.if-contains.false, ended);
       faults = refl;
@@ -58,7 +59,7 @@ returns c =
       bytes = Gave-front w.bytes.items _ w.at n (e.front ∙ ap (λ l. take n (drop w.at l)) value);
       end = tt;
       later = omega arith;
-      failed = λ f. absurd (cc);
+      failed = λ f. got-failed f;
       told = λ f. refl;
       exact = (sym fails ∙ c.if-contains.false, e.count ∙ ap (λ k. min (min k w.piece) (length c.args.buf.now)) left);
       faults = refl;

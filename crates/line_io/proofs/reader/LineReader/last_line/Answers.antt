@@ -1,5 +1,6 @@
 use Rattle.std.proofs.Common.{refl, ◌≡◌, ◌⊎◌, inl, inr, ◌<◌, [], true, length, arith}
 use Rattle.line_io.specs.Reader.{held}
+use Rattle.line_io.proofs.Apart.{end-fault}
 use Rattle.line_io.proofs.Ranges.{nothing-held}
 use Rattle.line_io.proofs.Steps.{settles-line, line-not-fault, ends-empty, ends-last, read-of-end, length-held}
 use Rattle.line_io.proofs.reader.LineReader.last_line.Goals as goal
@@ -17,7 +18,7 @@ returns-then-not-self c =
       counted = omega arith;
       limits = refl;
       ended = refl;
-      no_fault = λ f. cc;
+      no_fault = λ f. end-fault f;
     }
 
 pub returns : goal.returns

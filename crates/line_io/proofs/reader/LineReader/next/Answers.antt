@@ -2,6 +2,7 @@ use Rattle.std.proofs.Common.{inl, inr, ◌≡◌, ◌+◌, ◌-◌, ◌<◌, �
 use Rattle.std.proofs.lemmas.Grind.{common_steps}
 use Rattle.line_io.specs.Faults.{Rose}
 use Rattle.line_io.specs.Reader.{answer_at, CutBy, HasCut, IsOpen, held}
+use Rattle.line_io.proofs.Apart.{end-failed, ended-faulted, got-failed}
 use Rattle.line_io.proofs.Ranges.{length-short, range-kept, written-over}
 use Rattle.line_io.proofs.Steps.{faults-by, length-held}
 use Rattle.line_io.proofs.Loop.{Gave-append, Gave-end, reads-of, reads-again, stays}
@@ -90,7 +91,7 @@ reading-preserved g c =
       going = k.going;
       limits = k.limits ∙ me.limits ∙ ap (λ w. w.limits) r.same ∙ inv.limits;
       lines = k.lines ∙ me.lines ∙ ap (λ w. w.lines_left) r.same ∙ inv.lines;
-      no_fault = c.in-Got.ensures.told (λ e. cc) ∙ inv.no_fault;
+      no_fault = c.in-Got.ensures.told (λ e. got-failed e) ∙ inv.no_fault;
       took = λ bytes given h.
           let t = inv.took bytes given h in
           let at_start = me.cuts (bytes ++ t.0) given (subst (λ w. HasCut w (bytes ++ t.0) given) (sym r.same) t.2) in
@@ -136,8 +137,8 @@ returns-in-End g c =
           reads-of c.last_line.result new _ (g.S.Source.left c.fill.new.source) _ bytes t.0 given limits (Gave-end _ _ _ t.0 t.1 c.in-End.ensures.bytes)
           (l.reads (g.S.Source.left c.fill.new.source) (bytes ++ t.0) given c.in-End.ensures.end cuts) l.settles;
       fault = λ e. absurd (l.no_fault e);
-      told = λ e. c.in-End.ensures.told (λ f. cc) ∙ inv.no_fault;
-      faulted = λ e. absurd (cc (e, l.ended));
+      told = λ e. c.in-End.ensures.told (λ f. end-failed f) ∙ inv.no_fault;
+      faulted = λ e. ended-faulted (sym l.ended ∙ e);
       later = omega (arith, c.in-End.ensures.later, inv.no_fault);
       again = rw (sym c.in_default.ensures) tt;
       settles = l.settles;

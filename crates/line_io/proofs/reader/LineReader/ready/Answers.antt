@@ -3,6 +3,7 @@ use Rattle.std.specs.List.{position}
 use Rattle.std.specs.Str.Lines.{strip_carriage_return}
 use Rattle.line_io.specs.Lines.{is_end}
 use Rattle.line_io.specs.Reader.{answer_at, held, line_given}
+use Rattle.line_io.proofs.Apart.{much-fault, stays-fault}
 use Rattle.line_io.proofs.Found.{found-line, found-within, none-held}
 use Rattle.line_io.proofs.Steps.{passes-many, passes-cut, open-left, gives-by, read-of-cut, settles-line, line-not-fault, none-not-fault, length-held}
 use Rattle.line_io.proofs.reader.LineReader.ready.Goals as goal
@@ -18,8 +19,8 @@ returns-then-self c =
         settles = refl;
         counted = omega arith;
         limits = refl;
-        no_fault = λ e. cc;
-        no_fault_now = λ e. cc;
+        no_fault = λ e. stays-fault e;
+        no_fault_now = λ e. much-fault e;
       };
       same = tt;
       «open» = tt;
@@ -96,8 +97,8 @@ returns-in-Cut c =
         settles = refl;
         counted = omega arith;
         limits = refl;
-        no_fault = λ e. cc;
-        no_fault_now = λ e. cc;
+        no_fault = λ e. stays-fault e;
+        no_fault_now = λ e. much-fault e;
       };
       same = tt;
       «open» = tt;
