@@ -1,4 +1,4 @@
-use Rattle.std.proofs.Common.{refl, ◌+◌, ◌-◌, ◌≤◌, length, take, drop, arith, subst, ◌∙◌, append-nil, length-take}
+use Rattle.std.proofs.Common.{refl, ◌+◌, ◌-◌, ◌≤◌, length, drop, arith, subst, ◌∙◌, append-nil, length-take}
 use Rattle.line_io.specs.Faults.{Rose}
 use Rattle.line_io.specs.Sink.{Grew}
 use Rattle.line_io.proofs.Apart.{took-failed}

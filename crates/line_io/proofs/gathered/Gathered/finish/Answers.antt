@@ -1,4 +1,3 @@
-use Rattle.std.proofs.Common.{refl}
 use Rattle.line_io.specs.Gathered.{pending}
 use Rattle.line_io.proofs.Collects.{handed-all, none-pending}
 use Rattle.line_io.proofs.gathered.Gathered.finish.Goals as goal

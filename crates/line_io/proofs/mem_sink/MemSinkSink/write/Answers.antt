@@ -1,4 +1,4 @@
-use Rattle.std.proofs.Common.{◌≡◌, ◌⊎◌, inl, inr, ℕ, ◌+◌, ◌-◌, ◌<◌, ◌≤◌, Bool, true, false, cond, min, List, [], ◌++◌, length, take, drop, refl, sym, ap, ◌∙◌, arith, append-nil, length-take, length-take-le}
+use Rattle.std.proofs.Common.{◌≡◌, ◌⊎◌, inl, inr, ℕ, ◌+◌, ◌-◌, ◌<◌, ◌≤◌, Bool, true, false, cond, min, List, ◌++◌, length, take, drop, refl, sym, ap, ◌∙◌, arith, append-nil, length-take, length-take-le}
 use Rattle.line_io.specs.Memory.{bytes_taken, fails_at, failing_writes, next_write, sink_room}
 use Rattle.line_io.proofs.Apart.{took-failed}
 use Rattle.line_io.proofs.Ranges.{copied-front, written-over}

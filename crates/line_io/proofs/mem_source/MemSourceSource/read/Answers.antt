@@ -1,5 +1,5 @@
 use Rattle.std.proofs.Common.{◌≡◌, ◌-◌, [], length, min, refl, arith, sym, ap, ◌∙◌, take, drop, length-drop}
-use Rattle.line_io.specs.Memory.{bytes_left, fails_at, failing_reads, next_read}
+use Rattle.line_io.specs.Memory.{bytes_left, fails_at, failing_reads}
 use Rattle.line_io.proofs.Apart.{end-failed, got-failed}
 use Rattle.line_io.proofs.Ranges.{Gave-front, Gave-nil, nothing-held}
 use Rattle.line_io.proofs.mem_source.MemSourceSource.read.Goals as goal

@@ -14,8 +14,9 @@ returns-then-n64-self c =
     let whole : length x ≡ n = omega (arith, length-range b w.end (w.end + n) (omega arith) (omega (arith, c.requires.fits, w.size))) in
     record {
       cuts = λ bytes given cuts. takes-past w.stop w.limits w.long w.lines_left w.bytes_left (held w) (slice_range b w.start (w.end + w.bytes_left)) bytes x given c.requires.open
-    (omega (arith, whole, c.if-n64-self.true))
-    (range-joins b w.start w.end (w.end + w.bytes_left) w.in_order (omega arith) ∙ ap (λ l. held w ++ l) (sym (range-take b w.end (w.end + n) w.bytes_left (omega (arith, c.if-n64-self.true))))) cuts;
+          (omega (arith, whole, c.if-n64-self.true))
+          (range-joins b w.start w.end (w.end + w.bytes_left) w.in_order (omega arith)
+          ∙ ap (λ l. held w ++ l) (sym (range-take b w.end (w.end + n) w.bytes_left (omega (arith, c.if-n64-self.true))))) cuts;
       buf = refl;
       start = refl;
       end = omega arith;
@@ -34,7 +35,7 @@ returns-else-n64-self c =
     let whole : length x ≡ n = omega (arith, length-range b w.end (w.end + n) (omega arith) (omega (arith, c.requires.fits, w.size))) in
     record {
       cuts = λ bytes given cuts. takes-by w.stop w.limits w.long w.lines_left w.bytes_left (w.bytes_left - n) (held w) (slice_range b w.start (w.end + n)) bytes x given c.requires.open
-    (range-joins b w.start w.end (w.end + n) w.in_order (omega arith)) (omega (arith, whole, c.if-n64-self.false)) cuts;
+          (range-joins b w.start w.end (w.end + n) w.in_order (omega arith)) (omega (arith, whole, c.if-n64-self.false)) cuts;
       buf = refl;
       start = refl;
       end = omega arith;

@@ -1,5 +1,4 @@
 use Rattle.std.proofs.Common.{inl, inr, ◌≡◌, ◌+◌, ◌-◌, ◌<◌, ◌++◌, length, take, drop, slice_range, refl, sym, ap, subst, ◌∙◌, arith, append_assoc}
-use Rattle.std.proofs.lemmas.Grind.{common_steps}
 use Rattle.line_io.specs.Faults.{Rose}
 use Rattle.line_io.specs.Reader.{answer_at, CutBy, HasCut, IsOpen, held}
 use Rattle.line_io.proofs.Apart.{end-failed, ended-faulted, got-failed}

@@ -44,7 +44,10 @@ give-requires c =
       in_order = c.end_of_text-to.ensures.in_order;
       within = omega (arith, c.end_of_text-to.ensures.before, within);
       next_within = omega (arith, within);
-      line = elim c.else-self-eq0.branch [ else-self-eq0-via-then-self-eq0+else-self v ↦ absurd (omega (arith, within, c.requires.behind, v.if-self.false)) | else-self-eq0-via-else-self-eq0 v ↦ omega (arith, v.if-self-eq0.false) ];
+      line = elim c.else-self-eq0.branch [
+        | else-self-eq0-via-then-self-eq0+else-self v ↦ absurd (omega (arith, within, c.requires.behind, v.if-self.false))
+        | else-self-eq0-via-else-self-eq0 v ↦ omega (arith, v.if-self-eq0.false)
+      ];
     }
 
 pub returns-in-Some : goal.returns-in-Some
@@ -117,4 +120,7 @@ pub returns-in_default-clause-going : goal.returns-in_default-clause-going
 returns-in_default-clause-going c = open-left c.args.self.now.stop c.requires.going c.in_default.not-Cut
 
 pub returns-in_default-clause-line : goal.returns-in_default-clause-line
-returns-in_default-clause-line c = λ some. elim c.else-self-eq0.branch [ else-self-eq0-via-then-self-eq0+else-self v ↦ absurd (omega (arith, some, v.if-self.false)) | else-self-eq0-via-else-self-eq0 v ↦ omega (arith, v.if-self-eq0.false) ]
+returns-in_default-clause-line c = λ some. elim c.else-self-eq0.branch [
+  | else-self-eq0-via-then-self-eq0+else-self v ↦ absurd (omega (arith, some, v.if-self.false))
+  | else-self-eq0-via-else-self-eq0 v ↦ omega (arith, v.if-self-eq0.false)
+]
