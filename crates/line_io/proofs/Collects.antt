@@ -1,12 +1,21 @@
 -- What the inner sink has, after bytes were written to the adapter in front of it.
-use Rattle.std.proofs.Common.{◌≡◌, ℕ, zero, suc, List, [], ◌∷◌, ◌++◌, ◌≤◌, arith, length-append, refl, sym, ap, subst, ◌∙◌, append_assoc, append-nil, Result, Ok, Err}
+use Rattle.std.proofs.Common.{◌≡◌, ℕ, zero, suc, List, [], ◌∷◌, ◌++◌, ◌-◌, ◌≤◌, drop, arith, length-take, length-append, refl, sym, ap, subst, ◌∙◌, append_assoc, append-nil, Result, Ok, Err}
 use Rattle.std.specs.Prelude.{IsErr}
 use Rattle.std.proofs.lemmas.List.{append_cancel_right}
 use Rattle.line_io.specs.Faults.{Rose}
 use Rattle.line_io.specs.Sink.{Grew, GrewInPart, WritesTold}
-use Rattle.line_io.specs.Gathered.{gathered_wrote, pending, Sent}
+use Rattle.line_io.specs.Gathered.{gathered_wrote, pending, HandsOn, Sent}
 use Rattle.line_io.specs.declared.gathered.Gathered.{Gathered}
-use Rattle.line_io.proofs.Growth.{Grew-append}
+use Rattle.line_io.proofs.Growth.{Grew-append, Grew-nil}
+use Rattle.line_io.proofs.Ranges.{nothing-held}
+
+-- nothing is gathered where the end of what is gathered is the buffer's front
+pub none-pending : {K : Type 0} (g : Gathered K) → g.to ≡ 0 → pending g ≡ []
+none-pending g emptied = nothing-held (pending g) (omega (arith, emptied, length-take (g.to - g.from) (drop g.from g.buf)))
+
+-- nothing was handed on
+pub hands-none : {K : Type 0} (wrote : K → List ℕ → Type 0) (g : Gathered K) → HandsOn wrote g g
+hands-none wrote g = record { out = []; parts = refl; grew = Grew-nil wrote g.sink.now }
 
 module _ {K : Type 0} (wrote : K → List ℕ → Type 0) (old new : Gathered K) where
   joined : (taken before x out : List ℕ) → taken ≡ before ++ pending old → pending old ++ x ≡ out ++ pending new → taken ++ x ≡ (before ++ out) ++ pending new
@@ -24,6 +33,19 @@ module _ {K : Type 0} (wrote : K → List ℕ → Type 0) (old new : Gathered K)
   pub gathered-grew : (x out : List ℕ) → old.sink.ghost_name ≡ new.sink.ghost_name → pending old ++ x ≡ out ++ pending new → Grew wrote old.sink.now new.sink.now out
       → Grew (gathered_wrote wrote) old new x
   gathered-grew x out same parts grew = record { each = moved x out same parts grew }
+
+  -- bytes were gathered, after some of those that were gathered before were handed on
+  pub gathers : (mid : Gathered K) (x : List ℕ) → mid.sink.ghost_name ≡ old.sink.ghost_name → HandsOn wrote old mid → new.sink ≡ mid.sink → pending new ≡ pending mid ++ x
+      → Grew (gathered_wrote wrote) old new x
+  gathers mid x names on same gathered =
+      let parts = ap (λ l. l ++ x) on.parts ∙ append_assoc on.out (pending mid) x ∙ ap (λ l. on.out ++ l) (sym gathered) in
+      gathered-grew x on.out (sym (ap (λ s. s.ghost_name) same ∙ names)) parts (subst (λ s. Grew wrote old.sink.now s.now on.out) (sym same) on.grew)
+
+  -- all that was gathered was handed on
+  pub handed-all : HandsOn wrote old new → new.to ≡ 0 → Grew wrote old.sink.now new.sink.now (pending old)
+  handed-all on emptied =
+      let whole = on.parts ∙ ap (λ l. on.out ++ l) (none-pending new emptied) ∙ append-nil on.out in
+      subst (Grew wrote old.sink.now new.sink.now) (sym whole) on.grew
 
   -- bytes that were written to a new adapter were handed on, up to those that are gathered
   pub sent : (x : List ℕ) → pending old ≡ [] → Grew (gathered_wrote wrote) old new x → Sent wrote old new x

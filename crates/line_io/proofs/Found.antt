@@ -61,13 +61,17 @@ range-take xs b c i within =
     let count : i ≡ b + i - b = omega arith in
     take-take i (c - b) (drop b xs) (omega arith) ∙ ap (λ n. take n (drop b xs)) count
 
+-- a line end that is found stands before the end of the range
+pub found-within : (buf : List ℕ) (looked end i : ℕ) → position is_end (slice_range buf looked end) ≡ Some i → looked + i < end
+found-within buf looked end i at = omega (arith, (found (slice_range buf looked end) i at).0, length-take (end - looked) (drop looked buf))
+
 -- a line end among the bytes that are held, of which those before `looked` were looked at
 pub found-line : (buf : List ℕ) (start looked end i : ℕ) → start ≤ looked → looked ≤ end → IsOpen (slice_range buf start looked) → position is_end (slice_range buf looked end) ≡ Some i
     → (looked + i < end) × (slice_range buf start end ≡ slice_range buf start (looked + i) ++ (10 ∷ slice_range buf (looked + i + 1) end)) × IsOpen (slice_range buf start (looked + i))
 found-line buf start looked end i behind within before at =
     let window = slice_range buf looked end in
     let f = found window i at in
-    let fits : looked + i + 1 ≤ end = omega (arith, f.0, length-take (end - looked) (drop looked buf)) in
+    let fits : looked + i + 1 ≤ end = omega (arith, found-within buf looked end i at) in
     let front : slice_range buf start (looked + i) ≡ slice_range buf start looked ++ take i window =
     range-joins buf start looked (looked + i) behind (omega arith) ∙ ap (λ l. slice_range buf start looked ++ l) (sym (range-take buf looked end i (omega (arith, fits)))) in
     let place : looked + (i + 1) ≡ looked + i + 1 = omega arith in

@@ -1,5 +1,6 @@
 pub mod Ranges
 pub mod Growth
+pub mod Apart
 pub mod Collects
 pub mod Pieces
 pub mod Cutting

@@ -1,10 +1,10 @@
 -- What a reader's loop keeps, and what its end says of the lines.
 use Rattle.std.proofs.Common.{◌≡◌, ℕ, ◌≤◌, Bool, true, false, Option, None, Some, List, [], ◌∷◌, ◌++◌, slice_range, refl, sym, ap, subst, ◌∙◌, append-nil}
 use Rattle.std.specs.Io.KnownBytes.{IsAtEnd}
-use Rattle.std.proofs.KnownBytes.{Consumes-nil, Consumes-trans}
+use Rattle.std.proofs.KnownBytes.{Consumes-trans}
 use Rattle.line_io.specs.Lines.{Line as Text, lines}
 use Rattle.line_io.specs.Source.{Gave, came}
-use Rattle.line_io.specs.Reader.{CutsAt, HasCut, HasRead, IsOpen, ReadAt, Reads, EndsLines, IsEndOf, Settles, answer_at, answered, came_line, held, limits_of, lines_left, line_in}
+use Rattle.line_io.specs.Reader.{CutsAt, HasCut, HasRead, IsOpen, ReadAt, Reads, EndsLines, IsEndOf, Settles, answer_at, answered, came_line, held, limits_of, lines_in, lines_left, line_in}
 use Rattle.line_io.specs.declared.source.Got.{Got}
 use Rattle.line_io.specs.declared.reader.Limits.{Limits}
 use Rattle.line_io.specs.declared.reader.Stop.{Stop}
@@ -12,6 +12,7 @@ use Rattle.line_io.specs.declared.reader.Stop.TheVariants.{Open, Cut, Ended, Fau
 use Rattle.line_io.specs.declared.reader.LineGot.{LineGot}
 use Rattle.line_io.specs.declared.reader.LineGot.TheVariants.{Line, Long, End, Fault, TooMuch}
 use Rattle.line_io.specs.declared.reader.LineReader.{LineReader}
+use Rattle.line_io.proofs.Ranges.{Gave-nil}
 use Rattle.line_io.proofs.Cutting.{open-lines, cut-lines}
 
 -- what is known at the start of each turn
@@ -24,9 +25,6 @@ pub record Looping (before now : Option (List ℕ)) (faults_before faults_now : 
   pub lines : lines_left new ≡ lines_left old
   pub no_fault : faults_now ≡ faults_before
   pub took : (bytes : List ℕ) (given : List Text) → HasRead old before bytes given → (x : List ℕ) × Gave before now x × HasCut new (bytes ++ x) given
-
-pub Gave-nil : (left : Option (List ℕ)) → Gave left left []
-Gave-nil left = record { known = Consumes-nil left }
 
 pub Gave-append : (a b c : Option (List ℕ)) (x y : List ℕ) → Gave a b x → Gave b c y → Gave a c (x ++ y)
 Gave-append a b c x y first second = record { known = Consumes-trans a b c x y first.known second.known }
@@ -120,34 +118,33 @@ reads-of answer r before after limits bytes x given el gave has settles =
       ends = ends-of answer r.stop r after (bytes ++ x) given has.here settles;
     })
 
--- a last answer brings no line
-came-none : (answer : LineGot) (stop : Stop) (line : List ℕ) → answer_at stop ≡ Some answer → came_line answer line ≡ []
-came-none End stop line e = refl
-came-none Fault stop line e = refl
-came-none TooMuch stop line e = refl
-came-none Line Open line e = absurd (cc)
-came-none Line Cut line e = absurd (cc)
-came-none Line Ended line e = absurd (cc)
-came-none Line Faulted line e = absurd (cc)
-came-none Line Passed line e = absurd (cc)
-came-none Long Open line e = absurd (cc)
-came-none Long Cut line e = absurd (cc)
-came-none Long Ended line e = absurd (cc)
-came-none Long Faulted line e = absurd (cc)
-came-none Long Passed line e = absurd (cc)
+-- what is told of an answer at which a reader stays
+pub record Stays (stop : Stop) (answer : LineGot) : Type 0 where
+  pub settles : Settles answer (answer_at stop)
+  pub none : lines_in answer ≡ 0
+  pub brings : (line : List ℕ) → came_line answer line ≡ []
+  pub fault : answer ≡ Fault → stop ≡ Faulted
+  pub faulted : stop ≡ Faulted → answer ≡ Fault
 
-pub settles-again : (answer : LineGot) (stays : Option LineGot) → stays ≡ Some answer → Settles answer stays
-settles-again Line stays e = tt
-settles-again Long stays e = tt
-settles-again End stays e = e
-settles-again Fault stays e = e
-settles-again TooMuch stays e = e
+pub stays : (stop : Stop) (answer : LineGot) → answer_at stop ≡ Some answer → Stays stop answer
+stays Open answer e = absurd (cc)
+stays Cut answer e = absurd (cc)
+stays Ended answer e =
+    let same : End ≡ answer = cc in
+    subst (Stays Ended) same (record { settles = refl; none = refl; brings = λ line. refl; fault = λ f. absurd (cc); faulted = λ f. absurd (cc) })
+stays Faulted answer e =
+    let same : Fault ≡ answer = cc in
+    subst (Stays Faulted) same (record { settles = refl; none = refl; brings = λ line. refl; fault = λ f. refl; faulted = λ f. refl })
+stays Passed answer e =
+    let same : TooMuch ≡ answer = cc in
+    subst (Stays Passed) same (record { settles = refl; none = refl; brings = λ line. refl; fault = λ f. absurd (cc); faulted = λ f. absurd (cc) })
 
 -- a last answer that is given again
 pub reads-again : (answer : LineGot) (r : LineReader) (left : Option (List ℕ)) (bytes : List ℕ) (given : List Text) → answered r ≡ Some answer → HasRead r left bytes given
     → Reads left left (limits_of r) r bytes given answer
 reads-again answer r left bytes given e has =
-    let same : given ++ came_line answer (line_in r) ≡ given = ap (λ l. given ++ l) (came-none answer r.stop (line_in r) e) ∙ append-nil given in
+    let s = stays r.stop answer e in
+    let same : given ++ came_line answer (line_in r) ≡ given = ap (λ l. given ++ l) (s.brings (line_in r)) ∙ append-nil given in
     let again : HasRead r left (bytes ++ []) (given ++ came_line answer (line_in r)) =
     subst (λ b. HasRead r left b (given ++ came_line answer (line_in r))) (sym (append-nil bytes)) (subst (HasRead r left bytes) (sym same) has) in
-    reads-of answer r left left (limits_of r) bytes [] given refl (Gave-nil left) again (settles-again answer (answered r) e)
+    reads-of answer r left left (limits_of r) bytes [] given refl (Gave-nil left) again s.settles

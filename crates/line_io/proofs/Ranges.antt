@@ -1,6 +1,7 @@
 -- Ranges of a buffer after a write behind them, and from a later start.
-use Rattle.std.proofs.Common.{Some, ◌≡◌, ℕ, ◌+◌, ◌-◌, ◌≤◌, List, ◌++◌, length, take, drop, slice_range, sym, ap, ◌∙◌, arith, length-take, length-take-le, length-drop, take-append-drop}
+use Rattle.std.proofs.Common.{Option, Some, ◌≡◌, ℕ, ◌+◌, ◌-◌, ◌≤◌, List, [], ◌∷◌, ◌++◌, length, take, drop, slice_range, refl, sym, ap, ◌∙◌, arith, length-take, length-take-le, length-drop, take-append-drop}
 use Rattle.std.proofs.lemmas.List.{drop-take, drop-append-le, drop-drop}
+use Rattle.std.proofs.KnownBytes.{Consumes-nil}
 use Rattle.line_io.specs.Source.{Gave}
 use lib.Seq.{take-append_seam}
 
@@ -9,6 +10,10 @@ pub range-is-drop : (xs : List ℕ) (from to : ℕ) → from ≤ to → slice_ra
 range-is-drop xs from to in_order =
     let whole : from + (to - from) ≡ to = omega arith in
     sym (drop-take from (to - from) xs) ∙ ap (λ n. drop from (take n xs)) whole
+
+-- no byte came
+pub Gave-nil : (left : Option (List ℕ)) → Gave left left []
+Gave-nil left = record { known = Consumes-nil left }
 
 -- what comes off the front of the bytes that are left, and stands at a buffer's front
 pub Gave-front : (xs buf : List ℕ) (at n : ℕ) → take n buf ≡ take n (drop at xs) → Gave (Some (drop at xs)) (Some (drop (at + n) xs)) (take n buf)
@@ -40,8 +45,16 @@ pub copied-front : (xs ys bytes : List ℕ) (to n : ℕ) → n ≤ length bytes 
 copied-front xs ys bytes to n fits written = ap (λ k. take (to + k) ys) (sym (length-take-le n bytes fits)) ∙ written
 
 -- how long a range within a buffer is
-pub length-range : (xs : List ℕ) (from n : ℕ) → from + n ≤ length xs → length (slice_range xs from (from + n)) ≡ n
-length-range xs from n within = omega (arith, length-take (from + n - from) (drop from xs), length-drop from xs)
+pub length-range : (xs : List ℕ) (from to : ℕ) → from ≤ to → to ≤ length xs → length (slice_range xs from to) ≡ to - from
+length-range xs from to in_order within = omega (arith, length-take (to - from) (drop from xs), length-drop from xs)
+
+pub nothing-held : (xs : List ℕ) → length xs ≡ 0 → xs ≡ []
+nothing-held [] none = refl
+nothing-held (x ∷ xs) none = absurd (omega arith)
+
+-- a range of which the end is near the start is short
+pub length-short : (xs : List ℕ) (from to most : ℕ) → to ≤ from + most → length (slice_range xs from to) ≤ most
+length-short xs from to most near = omega (arith, length-take (to - from) (drop from xs))
 
 -- a range stays where all that stands before its end stays
 pub range-kept : (xs ys : List ℕ) (from to : ℕ) → from ≤ to → take to ys ≡ take to xs → slice_range ys from to ≡ slice_range xs from to

@@ -1,17 +1,18 @@
 -- What each step of the reader does to what is known of it.
-use Rattle.std.proofs.Common.{◌≡◌, ◌≢◌, ◌⊎◌, inl, inr, ℕ, ◌+◌, ◌-◌, ◌<◌, ◌≤◌, Bool, true, false, MatchBool, Option, None, Some, List, [], ◌∷◌, ◌++◌, length, take, drop, map, refl, sym, ap, subst, ◌∙◌, arith, append-nil, length-take, length-drop, length-append}
+use Rattle.std.proofs.Common.{◌≡◌, ◌≢◌, ◌⊎◌, inl, inr, ℕ, ◌+◌, ◌-◌, ◌<◌, ◌≤◌, ◌||◌, nat_lt, Bool, true, false, MatchBool, Option, None, Some, List, [], ◌∷◌, ◌++◌, length, take, map, refl, sym, ap, subst, ◌∙◌, arith, append-nil, length-take, length-append}
 use Rattle.std.proofs.Math.Seq.{take-append-add}
 use Rattle.std.specs.Io.KnownBytes.{IsAtEnd}
 use Rattle.std.specs.Str.Lines.{strip_carriage_return}
-use Rattle.line_io.specs.Lines.{Line as Text, finished, as_line, lines, is_too_much, pieces}
-use Rattle.line_io.specs.Reader.{CutBy, IsOpen, ReadAt, CutsAt, line_given, held, Settles, lines_in}
+use Rattle.line_io.specs.Lines.{Line as Text, text, long, finished, as_line, lines, is_too_much, pieces}
+use Rattle.line_io.specs.Reader.{answer_at, CutBy, IsOpen, ReadAt, CutsAt, line_given, held, Settles, lines_in}
 use Rattle.line_io.specs.declared.reader.LineGot.{LineGot}
 use Rattle.line_io.specs.declared.reader.LineGot.TheVariants.{Line, Long, End, Fault, TooMuch}
 use Rattle.line_io.specs.declared.reader.Limits.{Limits}
 use Rattle.line_io.specs.declared.reader.Stop.{Stop}
 use Rattle.line_io.specs.declared.reader.Stop.TheVariants.{Open, Cut, Ended, Faulted, Passed}
 use Rattle.line_io.specs.declared.reader.LineReader.{LineReader}
-use Rattle.line_io.specs.declared.reader.TheConstants.{SIZE}
+use Rattle.line_io.specs.declared.reader.TheConstants.{LONGEST_LINE, SIZE}
+use Rattle.line_io.proofs.Ranges.{length-range}
 use Rattle.line_io.proofs.Cutting.{gives, takes, lets-go, none-left, none-whole, all-given, last-given, cut-none-left, cut-none-whole, open-lines, keeps-limits}
 
 -- a reader that is not at its end has read
@@ -46,6 +47,14 @@ pub passes-cut : (stop : Stop) (limits : Limits) (is_long : Bool) (more room : �
 passes-cut stop limits is_long more room held bytes given cut no_end h =
     let k = subst (λ s. CutBy s limits is_long more room held bytes given) cut h in
     nothing-more limits bytes given (cut-none-whole limits is_long more room held bytes given no_end k.1 k.0)
+
+-- a reader goes on that is not at its end and of which no bytes were cut off
+pub open-left : (stop : Stop) → answer_at stop ≡ None → stop ≢ Cut → stop ≡ Open
+open-left Open going kept = refl
+open-left Cut going kept = absurd (kept refl)
+open-left Ended going kept = absurd (cc)
+open-left Faulted going kept = absurd (cc)
+open-left Passed going kept = absurd (cc)
 
 -- a whole line is given
 gives-at : (stop : Stop) (limits : Limits) (is_long : Bool) (more fewer room : ℕ) (held rest bytes t : List ℕ) (given : List Text) → fewer + 1 ≡ more → held ≡ t ++ (10 ∷ rest) → IsOpen t
@@ -157,8 +166,11 @@ none-not-fault stays none = λ e. cc
 
 -- how many bytes are held
 pub length-held : (r : LineReader) → length (held r) ≡ r.end - r.start
-length-held r = omega (arith, r.size, r.in_order, r.in_buffer, length-take (r.end - r.start) (drop r.start r.buf.items), length-drop r.start r.buf.items)
+length-held r = length-range r.buf.items r.start r.end r.in_order (omega (arith, r.size, r.in_buffer))
 
-pub nothing-held : (xs : List ℕ) → length xs ≡ 0 → xs ≡ []
-nothing-held [] none = refl
-nothing-held (x ∷ xs) none = absurd (omega arith)
+-- a line as it is given, by its length
+pub given-long : (is_long : Bool) (xs : List ℕ) (len : ℕ) → length xs ≡ len → (is_long || nat_lt LONGEST_LINE len) ≡ true → long ∷ [] ≡ line_given is_long xs ∷ []
+given-long is_long xs len same test = rw (same, test) refl
+
+pub given-short : (is_long : Bool) (xs : List ℕ) (len : ℕ) → length xs ≡ len → (is_long || nat_lt LONGEST_LINE len) ≡ false → text xs ∷ [] ≡ line_given is_long xs ∷ []
+given-short is_long xs len same test = rw (same, test) refl

@@ -11,13 +11,6 @@ pub fn put_at(buf: &mut [u8], at: usize, bytes: &[u8])
     buf[at..end].copy_from_slice(bytes);
 }
 
-// How many bytes a call moves: what there is, and at most `piece` and `room`.
-pub fn moved(there: usize, piece: usize, room: usize) -> usize
-    ensures { result ≡ min (min there piece) room }
-{
-    there.min(piece).min(room)
-}
-
 // Copies bytes from `at` on to the front of `buf`, at most `piece` of them, and says how many.
 pub fn copy_out(bytes: &[u8], at: usize, piece: usize, buf: &mut [u8]) -> usize
     requires { at ≤ length bytes.now }
@@ -25,7 +18,7 @@ pub fn copy_out(bytes: &[u8], at: usize, piece: usize, buf: &mut [u8]) -> usize
     ensures len { length buf.new ≡ length buf.old }
     ensures front { take result buf.new ≡ take result (drop at bytes.now) }
 {
-    let n = moved(bytes.len() - at, piece, buf.len());
+    let n = (bytes.len() - at).min(piece).min(buf.len());
     put_at(buf, 0, &bytes[at..at + n]);
     n
 }

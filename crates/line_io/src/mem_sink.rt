@@ -1,10 +1,10 @@
 // A sink over memory, which takes small pieces and fails where it is told to.
-ghost use Rattle.std.specs.Prelude.{◌≡◌, ◌≢◌, ℕ, ◌+◌, ◌<◌, ◌≤◌, ◌^◌, List, [], ◌++◌, length, take, IfOk, vec_len};
-ghost use Rattle.line_io.specs.Faults.{Rose, raised};
+ghost use Rattle.std.specs.Prelude.{◌≡◌, ◌≢◌, ℕ, if◌then◌else◌, min, ◌-◌, ◌+◌, ◌<◌, ◌≤◌, ◌^◌, List, [], ◌++◌, length, take, IfOk, vec_len};
+ghost use Rattle.line_io.specs.Faults.{Rose};
 ghost use Rattle.line_io.specs.Sink.{CountsWrite, Grew, TakesWithin, went};
 ghost use Rattle.line_io.specs.declared.sink.Took.{Took};
 
-use crate::copies::{moved, put_at};
+use crate::copies::put_at;
 use crate::fault::OpenFault;
 use crate::sink::{Sink, Took};
 use std::alloc::Global;
@@ -24,7 +24,7 @@ pub struct MemSink {
 }
 
 impl MemSink {
-    ghost use Rattle.line_io.specs.Memory.{bytes_taken, next_write, sink_room, write_piece, failing_writes};
+    ghost use Rattle.line_io.specs.Memory.{bytes_taken, fails_at, next_write, sink_room, write_piece, failing_writes};
 
     /// A sink with memory for `room` bytes, which is all that it takes. The numbers in `failing` count calls from 1.
     pub fn new(
@@ -67,6 +67,17 @@ impl MemSink {
         let all = self.buf.as_slice();
         &all[..self.len]
     }
+
+    // How many of `given` bytes are taken by the call that was counted last: none where it fails, or the room is used up.
+    fn allowed(&self, given: usize) -> usize
+        ensures { result ≡ (if fails_at (failing_writes self.now) self.now.calls then 0
+            else min (min (sink_room self.now - self.now.len) self.now.piece) given) }
+    {
+        if self.failing.contains(&self.calls) {
+            return 0;
+        }
+        (self.buf.len() - self.len).min(self.piece).min(given)
+    }
 }
 
 impl Sink for MemSink {
@@ -94,25 +105,13 @@ impl Sink for MemSink {
         ensures failing { failing_writes self.new ≡ failing_writes self.old }
     {
         self.calls = self.calls.saturating_add(1);
-        let room = self.buf.len() - self.len;
-        if room == 0 {
-            return fail(&mut self.faults);
+        let n = self.allowed(bytes.len());
+        if n == 0 {
+            self.faults = self.faults.saturating_add(1);
+            return Took::Failed;
         }
-        if self.failing.contains(&self.calls) {
-            return fail(&mut self.faults);
-        }
-        let n = moved(room, self.piece, bytes.len());
         put_at(&mut self.buf, self.len, &bytes[..n]);
         self.len += n;
         Took::Took(n)
     }
-}
-
-// Counts a fault.
-fn fail(faults: &mut u64) -> Took
-    ensures failed { result ≡ Took.Failed }
-    ensures counted { faults.new ≡ raised faults.old }
-{
-    *faults = faults.saturating_add(1);
-    Took::Failed
 }

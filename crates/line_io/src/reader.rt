@@ -159,7 +159,8 @@ impl LineReader {
         }
     }
 
-    // The answer that the held bytes allow, where no line end stands before `looked`.
+    // The answer that the held bytes allow, where no line end stands before `looked`. Where bytes were cut off and no
+    // whole line is held, too much has come.
     fn ready(&mut self, looked: usize) -> Option<LineGot>
         requires going { answered self.old ≡ None }
         requires behind { self.old.start ≤ looked }
@@ -181,7 +182,13 @@ impl LineReader {
                 let to = end_of_text(&self.buf, self.start, at);
                 Some(self.give(self.start, to, at + 1))
             }
-            None => self.passed_if_cut(),
+            None => match self.stop {
+                Stop::Cut => {
+                    self.stop = Stop::Passed;
+                    Some(LineGot::TooMuch)
+                }
+                _ => None,
+            },
         }
     }
 
@@ -212,22 +219,6 @@ impl LineReader {
         self.from = from;
         self.to = to;
         LineGot::Line
-    }
-
-    // Too much input has come where bytes were cut off and no whole line is held.
-    fn passed_if_cut(&mut self) -> Option<LineGot>
-        requires open { IsOpen (held self.old) }
-        ensures some { IfSome result (Answers self.old self.new) }
-        ensures same { IfNone result (self.new ≡ self.old) }
-        ensures going { IfNone result (answered self.old ≡ None → self.old.stop ≡ Stop.Open) }
-    {
-        match self.stop {
-            Stop::Cut => {
-                self.stop = Stop::Passed;
-                Some(LineGot::TooMuch)
-            }
-            _ => None,
-        }
     }
 
     // Makes room at the buffer's end. A full buffer without a line end is let go.

@@ -65,8 +65,8 @@ impl SumSink {
         ensures { (taken : List ℕ) → SumsUp self.old taken → SumsUp self.new (taken ++ byte ∷ []) }
     {
         let completed = completes(self.begun, byte);
-        self.lines = self.lines.wrapping_add(u64::from(byte == b'\n'));
-        self.errors = self.errors.wrapping_add(u64::from(completed));
+        self.lines = self.lines.wrapping_add(one_if(byte == b'\n'));
+        self.errors = self.errors.wrapping_add(one_if(completed));
         self.bytes = self.bytes.wrapping_add(1);
         self.sum = self.sum.wrapping_mul(31).wrapping_add(u32::from(byte));
         self.begun = begun_after(self.begun, byte);
@@ -86,6 +86,13 @@ impl Sink for SumSink {
         }
         Took::Took(bytes.len())
     }
+}
+
+// 1 where a test holds.
+fn one_if(test: bool) -> u64
+    ensures { result ≡ (if test then 1 else 0) }
+{
+    u64::from(test)
 }
 
 // Whether a line that has so much of `error ` has all of it with this byte.

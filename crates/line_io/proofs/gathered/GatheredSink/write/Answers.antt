@@ -1,63 +1,47 @@
-use Rattle.std.proofs.Common.{arith, [], sym, ◌∙◌, append-nil}
-use Rattle.std.proofs.lemmas.Grind.{common_steps}
-use Rattle.line_io.proofs.Collects.{gathered-grew}
+use Rattle.std.proofs.Common.{refl, arith, [], sym, ap, ◌∙◌, append-nil}
+use Rattle.line_io.proofs.Apart.{took-failed}
+use Rattle.line_io.proofs.Collects.{gathers, gathered-grew, hands-none}
 use Rattle.line_io.proofs.gathered.GatheredSink.write.Goals as goal
 
-pub returns-clause-grew : goal.returns-clause-grew
-returns-clause-grew g c =
-    let on = c.hand_on.ensures.handed in
-    gathered-grew g.K.Sink.wrote c.args.self.now c.hand_on.new.self [] on.out (sym c.hand_on.ensures.same_reference) (append-nil _ ∙ on.parts) on.grew
+pub gather-requires : goal.gather-requires
+gather-requires g c = record { room = c.if-self-lt-ROOM.true; some = c.requires }
 
-pub gather-requires-clause-room : goal.gather-requires-clause-room
-gather-requires-clause-room g c = grind (arith, common_steps)
+pub returns-then-self-lt-ROOM : goal.returns-then-self-lt-ROOM
+returns-then-self-lt-ROOM g c =
+    let w = c.args.self.now in
+    let e = c.gather.ensures in
+    let same = ap (λ s. g.K.Sink.faults s.now) e.sink in
+    record {
+      count = (e.some, e.most);
+      grew = gathers g.K.Sink.wrote w c.gather.new.self w _ refl (hands-none g.K.Sink.wrote w) e.sink e.gathered;
+      later = omega (arith, same);
+      failed = λ f. took-failed f;
+      told = λ f. same;
+    }
 
-pub gather-requires-clause-some : goal.gather-requires-clause-some
-gather-requires-clause-some g c = grind (arith, common_steps)
+pub gather-requires-then-hand_on : goal.gather-requires-then-hand_on
+gather-requires-then-hand_on g c = record { room = omega (arith, c.hand_on.ensures.emptied c.if-hand_on.true); some = c.requires }
 
-pub returns-then-self-lt-ROOM-clause-count : goal.returns-then-self-lt-ROOM-clause-count
-returns-then-self-lt-ROOM-clause-count g c = grind (arith, common_steps)
+pub returns-then-hand_on : goal.returns-then-hand_on
+returns-then-hand_on g c =
+    let on = c.hand_on.ensures in
+    let e = c.gather-then-hand_on.ensures in
+    let same = ap (λ s. g.K.Sink.faults s.now) e.sink in
+    record {
+      count = (e.some, e.most);
+      grew = gathers g.K.Sink.wrote c.args.self.now c.gather-then-hand_on.new.self c.hand_on.new.self _ on.same_reference on.handed e.sink e.gathered;
+      later = omega (arith, on.later, same);
+      failed = λ f. took-failed f;
+      told = λ f. same ∙ on.told c.if-hand_on.true;
+    }
 
-pub returns-then-self-lt-ROOM-clause-grew : goal.returns-then-self-lt-ROOM-clause-grew
-returns-then-self-lt-ROOM-clause-grew g c = grind (arith, common_steps)
-
-pub returns-then-self-lt-ROOM-clause-later : goal.returns-then-self-lt-ROOM-clause-later
-returns-then-self-lt-ROOM-clause-later g c = grind (arith, common_steps)
-
-pub returns-then-self-lt-ROOM-clause-failed : goal.returns-then-self-lt-ROOM-clause-failed
-returns-then-self-lt-ROOM-clause-failed g c = grind (arith, common_steps)
-
-pub returns-then-self-lt-ROOM-clause-told : goal.returns-then-self-lt-ROOM-clause-told
-returns-then-self-lt-ROOM-clause-told g c = grind (arith, common_steps)
-
-pub gather-requires-then-hand_on-clause-room : goal.gather-requires-then-hand_on-clause-room
-gather-requires-then-hand_on-clause-room g c = grind (arith, common_steps)
-
-pub gather-requires-then-hand_on-clause-some : goal.gather-requires-then-hand_on-clause-some
-gather-requires-then-hand_on-clause-some g c = grind (arith, common_steps)
-
-pub returns-then-hand_on-clause-count : goal.returns-then-hand_on-clause-count
-returns-then-hand_on-clause-count g c = grind (arith, common_steps)
-
-pub returns-then-hand_on-clause-grew : goal.returns-then-hand_on-clause-grew
-returns-then-hand_on-clause-grew g c = grind (arith, common_steps)
-
-pub returns-then-hand_on-clause-later : goal.returns-then-hand_on-clause-later
-returns-then-hand_on-clause-later g c = grind (arith, common_steps)
-
-pub returns-then-hand_on-clause-failed : goal.returns-then-hand_on-clause-failed
-returns-then-hand_on-clause-failed g c = grind (arith, common_steps)
-
-pub returns-then-hand_on-clause-told : goal.returns-then-hand_on-clause-told
-returns-then-hand_on-clause-told g c = grind (arith, common_steps)
-
-pub returns-clause-count : goal.returns-clause-count
-returns-clause-count g c = grind (arith, common_steps)
-
-pub returns-clause-later : goal.returns-clause-later
-returns-clause-later g c = grind (arith, common_steps)
-
-pub returns-clause-failed : goal.returns-clause-failed
-returns-clause-failed g c = grind (arith, common_steps)
-
-pub returns-clause-told : goal.returns-clause-told
-returns-clause-told g c = grind (arith, common_steps)
+pub returns : goal.returns
+returns g c =
+    let on = c.hand_on.ensures in
+    record {
+      count = tt;
+      grew = gathered-grew g.K.Sink.wrote c.args.self.now c.hand_on.new.self [] on.handed.out (sym on.same_reference) (append-nil _ ∙ on.handed.parts) on.handed.grew;
+      later = on.later;
+      failed = λ f. on.rose c.if-hand_on.false;
+      told = λ f. absurd (f refl);
+    }

@@ -1,136 +1,67 @@
-use Rattle.std.proofs.Common.{arith, ◌≡◌, true, inl, rules}
-use Rattle.std.proofs.lemmas.Grind.{common_steps}
-use Rattle.line_io.specs.Memory.{fails_at, failing_writes, next_write}
+use Rattle.std.proofs.Common.{◌≡◌, ◌⊎◌, inl, inr, ℕ, ◌+◌, ◌-◌, ◌<◌, ◌≤◌, Bool, true, false, cond, min, List, ◌++◌, length, take, drop, refl, sym, ap, ◌∙◌, arith, append-nil, length-take, length-take-le}
+use Rattle.line_io.specs.Memory.{bytes_taken, fails_at, failing_writes, next_write, sink_room}
+use Rattle.line_io.proofs.Apart.{took-failed}
+use Rattle.line_io.proofs.Ranges.{copied-front, written-over}
 use Rattle.line_io.proofs.mem_sink.MemSinkSink.write.Goals as goal
 
-pub returns-then-contains-clause-exact : goal.returns-then-contains-clause-exact
-returns-then-contains-clause-exact c =
+-- a call takes nothing where it fails, or no room is left
+takes-none : (fails : Bool) (items : List ℕ) (len piece given : ℕ) → cond fails 0 (min (min (length items - len) piece) given) ≡ 0 → len ≤ length items → 0 < piece → 0 < given
+    → (fails ≡ true) ⊎ (length (take len items) ≡ length items)
+takes-none true items len piece given none within pieces some = inl refl
+takes-none false items len piece given none within pieces some = inr (omega (arith, none, length-take len items))
+
+-- a call that takes something does not fail
+takes-some : (fails : Bool) (n most : ℕ) → n ≡ cond fails 0 most → 0 < n → (fails ≡ false) × (n ≡ most)
+takes-some true n most same some = absurd (omega arith)
+takes-some false n most same some = (refl, same)
+
+pub returns-then-n-eq0 : goal.returns-then-n-eq0
+returns-then-n-eq0 c =
     let w = c.args.self.now in
-    let listed : fails_at (failing_writes w) (next_write w) ≡ true = search rules in
-    rw c.fail-then-contains.ensures.failed (inl listed)
+    let given = length c.args.bytes.now in
+    let counts = c.saturating_add-self-then-n-eq0.ensures in
+    let n = sym c.allowed-n.ensures ∙ c.if-n-eq0.true in
+    let none = ap (λ k. cond (fails_at (failing_writes w) k) 0 (min (min (sink_room w - w.len) w.piece) given)) (sym c.saturating_add-self.ensures) ∙ n in
+    record {
+      count = tt;
+      grew = record { each = λ before h. append-nil before ∙ h };
+      later = omega (arith, counts);
+      failed = λ f. omega (arith, counts);
+      told = λ f. absurd (f refl);
+      exact = takes-none (fails_at (failing_writes w) (next_write w)) w.buf.items w.len w.piece given none (omega (arith, w.within, w.buf.ok.0)) w.takes c.requires;
+      taken = sym (append-nil _);
+      faults = counts;
+      calls = c.saturating_add-self.ensures;
+      room = refl;
+      piece = refl;
+      failing = refl;
+    }
 
-pub overflow_sub-room : goal.overflow_sub-room
-overflow_sub-room c = grind (arith, common_steps)
-
-pub invariant_of-self : goal.invariant_of-self
-invariant_of-self c = grind (arith, common_steps)
-
-pub returns-then-room-eq0-clause-count : goal.returns-then-room-eq0-clause-count
-returns-then-room-eq0-clause-count c = grind (arith, common_steps)
-
-pub returns-then-room-eq0-clause-grew : goal.returns-then-room-eq0-clause-grew
-returns-then-room-eq0-clause-grew c = grind (arith, common_steps)
-
-pub returns-then-room-eq0-clause-later : goal.returns-then-room-eq0-clause-later
-returns-then-room-eq0-clause-later c = grind (arith, common_steps)
-
-pub returns-then-room-eq0-clause-failed : goal.returns-then-room-eq0-clause-failed
-returns-then-room-eq0-clause-failed c = grind (arith, common_steps)
-
-pub returns-then-room-eq0-clause-told : goal.returns-then-room-eq0-clause-told
-returns-then-room-eq0-clause-told c = grind (arith, common_steps)
-
-pub returns-then-room-eq0-clause-exact : goal.returns-then-room-eq0-clause-exact
-returns-then-room-eq0-clause-exact c = grind (arith, common_steps)
-
-pub returns-then-room-eq0-clause-taken : goal.returns-then-room-eq0-clause-taken
-returns-then-room-eq0-clause-taken c = grind (arith, common_steps)
-
-pub returns-then-room-eq0-clause-faults : goal.returns-then-room-eq0-clause-faults
-returns-then-room-eq0-clause-faults c = grind (arith, common_steps)
-
-pub returns-then-room-eq0-clause-calls : goal.returns-then-room-eq0-clause-calls
-returns-then-room-eq0-clause-calls c = grind (arith, common_steps)
-
-pub returns-then-room-eq0-clause-room : goal.returns-then-room-eq0-clause-room
-returns-then-room-eq0-clause-room c = grind (arith, common_steps)
-
-pub returns-then-room-eq0-clause-piece : goal.returns-then-room-eq0-clause-piece
-returns-then-room-eq0-clause-piece c = grind (arith, common_steps)
-
-pub returns-then-room-eq0-clause-failing : goal.returns-then-room-eq0-clause-failing
-returns-then-room-eq0-clause-failing c = grind (arith, common_steps)
-
-pub invariant_of-self-then-contains : goal.invariant_of-self-then-contains
-invariant_of-self-then-contains c = grind (arith, common_steps)
-
-pub returns-then-contains-clause-count : goal.returns-then-contains-clause-count
-returns-then-contains-clause-count c = grind (arith, common_steps)
-
-pub returns-then-contains-clause-grew : goal.returns-then-contains-clause-grew
-returns-then-contains-clause-grew c = grind (arith, common_steps)
-
-pub returns-then-contains-clause-later : goal.returns-then-contains-clause-later
-returns-then-contains-clause-later c = grind (arith, common_steps)
-
-pub returns-then-contains-clause-failed : goal.returns-then-contains-clause-failed
-returns-then-contains-clause-failed c = grind (arith, common_steps)
-
-pub returns-then-contains-clause-told : goal.returns-then-contains-clause-told
-returns-then-contains-clause-told c = grind (arith, common_steps)
-
-pub returns-then-contains-clause-taken : goal.returns-then-contains-clause-taken
-returns-then-contains-clause-taken c = grind (arith, common_steps)
-
-pub returns-then-contains-clause-faults : goal.returns-then-contains-clause-faults
-returns-then-contains-clause-faults c = grind (arith, common_steps)
-
-pub returns-then-contains-clause-calls : goal.returns-then-contains-clause-calls
-returns-then-contains-clause-calls c = grind (arith, common_steps)
-
-pub returns-then-contains-clause-room : goal.returns-then-contains-clause-room
-returns-then-contains-clause-room c = grind (arith, common_steps)
-
-pub returns-then-contains-clause-piece : goal.returns-then-contains-clause-piece
-returns-then-contains-clause-piece c = grind (arith, common_steps)
-
-pub returns-then-contains-clause-failing : goal.returns-then-contains-clause-failing
-returns-then-contains-clause-failing c = grind (arith, common_steps)
-
-pub slice_bounds-put_at-end : goal.slice_bounds-put_at-end
-slice_bounds-put_at-end c = grind (arith, common_steps)
-
-pub put_at-requires : goal.put_at-requires
-put_at-requires c = grind (arith, common_steps)
-
-pub overflow_add-self : goal.overflow_add-self
-overflow_add-self c = grind (arith, common_steps)
-
-pub invariant_of-self-2 : goal.invariant_of-self-2
-invariant_of-self-2 c = grind (arith, common_steps)
-
-pub returns-clause-count : goal.returns-clause-count
-returns-clause-count c = grind (arith, common_steps)
-
-pub returns-clause-grew : goal.returns-clause-grew
-returns-clause-grew c = grind (arith, common_steps)
-
-pub returns-clause-later : goal.returns-clause-later
-returns-clause-later c = grind (arith, common_steps)
-
-pub returns-clause-failed : goal.returns-clause-failed
-returns-clause-failed c = grind (arith, common_steps)
-
-pub returns-clause-told : goal.returns-clause-told
-returns-clause-told c = grind (arith, common_steps)
-
-pub returns-clause-exact : goal.returns-clause-exact
-returns-clause-exact c = grind (arith, common_steps)
-
-pub returns-clause-taken : goal.returns-clause-taken
-returns-clause-taken c = grind (arith, common_steps)
-
-pub returns-clause-faults : goal.returns-clause-faults
-returns-clause-faults c = grind (arith, common_steps)
-
-pub returns-clause-calls : goal.returns-clause-calls
-returns-clause-calls c = grind (arith, common_steps)
-
-pub returns-clause-room : goal.returns-clause-room
-returns-clause-room c = grind (arith, common_steps)
-
-pub returns-clause-piece : goal.returns-clause-piece
-returns-clause-piece c = grind (arith, common_steps)
-
-pub returns-clause-failing : goal.returns-clause-failing
-returns-clause-failing c = grind (arith, common_steps)
+pub returns : goal.returns
+returns c =
+    let w = c.args.self.now in
+    let bytes = c.args.bytes.now in
+    let n = c.allowed-n.result in
+    let buf = c.put_at.new.buf in
+    let most : ℕ → ℕ = λ k. min (min (sink_room w - k) w.piece) (length bytes) in
+    let same = c.allowed-n.ensures ∙ ap (λ k. cond (fails_at (failing_writes w) k) 0 (most w.len)) c.saturating_add-self.ensures in
+    let t = takes-some (fails_at (failing_writes w) (next_write w)) n (most w.len) same (omega (arith, c.if-n-eq0.false)) in
+    let fits : n ≤ length bytes = omega (arith, t.1) in
+    let value = c.deref_mut.ensures.value in
+    let over : take w.buf.len (buf ++ drop (length buf) w.buf.items) ≡ buf = written-over w.buf.len buf w.buf.items (omega (arith, c.put_at.auto.buf, c.deref_mut.ensures.len)) in
+    let taken : take (w.len + n) (take w.buf.len (buf ++ drop (length buf) w.buf.items)) ≡ bytes_taken w ++ take n bytes =
+    ap (take (w.len + n)) over ∙ copied-front c.deref_mut.result.now buf bytes w.len n fits c.put_at.ensures.front ∙ ap (λ l. take w.len l ++ take n bytes) value in
+    record {
+      count = (omega (arith, c.if-n-eq0.false), fits);
+      grew = record { each = λ before h. ap (λ l. l ++ take n bytes) h ∙ sym taken };
+      later = omega arith;
+      failed = λ f. took-failed f;
+      told = λ f. refl;
+      exact = (t.0, t.1 ∙ ap most (sym (length-take-le w.len w.buf.items (omega (arith, w.within, w.buf.ok.0)))));
+      taken = taken;
+      faults = refl;
+      calls = c.saturating_add-self.ensures;
+      room = ap length over ∙ c.put_at.ensures.len ∙ ap length value;
+      piece = refl;
+      failing = refl;
+    }

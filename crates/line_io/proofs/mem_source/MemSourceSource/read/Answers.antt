@@ -1,122 +1,69 @@
-use Rattle.std.proofs.Common.{arith, ap, ◌∙◌, take, drop}
-use Rattle.std.proofs.lemmas.Grind.{common_steps}
-use Rattle.line_io.proofs.Ranges.{Gave-front}
+use Rattle.std.proofs.Common.{◌≡◌, ◌-◌, [], length, min, refl, arith, sym, ap, ◌∙◌, take, drop, length-drop}
+use Rattle.line_io.specs.Memory.{bytes_left, fails_at, failing_reads}
+use Rattle.line_io.proofs.Apart.{end-failed, got-failed}
+use Rattle.line_io.proofs.Ranges.{Gave-front, Gave-nil, nothing-held}
 use Rattle.line_io.proofs.mem_source.MemSourceSource.read.Goals as goal
 
-pub invariant_of-self : goal.invariant_of-self
-invariant_of-self c = grind (arith, common_steps)
+pub returns-then-contains : goal.returns-then-contains
+returns-then-contains c =
+    let w = c.args.self.now in
+    let calls = c.saturating_add-self.ensures in
+    let counts = c.saturating_add-self-then-contains.ensures in
+    let fails = c.contains.ensures.value ∙ ap (λ l. fails_at l c.saturating_add-self.result) c.deref.ensures.value ∙ ap (fails_at (failing_reads w)) calls in
+    record {
+      count = tt;
+      bytes = Gave-nil _;
+      end = tt;
+      later = omega (arith, counts);
+      failed = λ f. omega (arith, counts);
+      told = λ f. absurd (f refl);
+      exact = sym fails ∙ c.if-contains.true;
+      faults = counts;
+      calls = calls;
+      piece = refl;
+      failing = refl;
+    }
 
-pub returns-then-contains-clause-count : goal.returns-then-contains-clause-count
-returns-then-contains-clause-count c = grind (arith, common_steps)
+pub returns-then-n-eq0 : goal.returns-then-n-eq0
+returns-then-n-eq0 c =
+    let w = c.args.self.now in
+    let calls = c.saturating_add-self.ensures in
+    let fails = c.contains.ensures.value ∙ ap (λ l. fails_at l c.saturating_add-self.result) c.deref.ensures.value ∙ ap (fails_at (failing_reads w)) calls in
+    let ended : bytes_left w ≡ [] =
+    nothing-held (bytes_left w) (omega (arith, c.copy_out-n.ensures.count, c.if-n-eq0.true, ap length c.deref-2.ensures.value, length-drop w.at w.bytes.items, w.gives, c.requires)) in
+    record {
+      count = tt;
+      bytes = Gave-nil _;
+      end = ended;
+      later = omega arith;
+      failed = λ f. end-failed f;
+      told = λ f. refl;
+      exact = (sym fails ∙ c.if-contains.false, ended);
+      faults = refl;
+      calls = calls;
+      piece = refl;
+      failing = refl;
+    }
 
-pub returns-then-contains-clause-bytes : goal.returns-then-contains-clause-bytes
-returns-then-contains-clause-bytes c = grind (arith, common_steps)
-
-pub returns-then-contains-clause-end : goal.returns-then-contains-clause-end
-returns-then-contains-clause-end c = grind (arith, common_steps)
-
-pub returns-then-contains-clause-later : goal.returns-then-contains-clause-later
-returns-then-contains-clause-later c = grind (arith, common_steps)
-
-pub returns-then-contains-clause-failed : goal.returns-then-contains-clause-failed
-returns-then-contains-clause-failed c = grind (arith, common_steps)
-
-pub returns-then-contains-clause-told : goal.returns-then-contains-clause-told
-returns-then-contains-clause-told c = grind (arith, common_steps)
-
-pub returns-then-contains-clause-exact : goal.returns-then-contains-clause-exact
-returns-then-contains-clause-exact c = grind (arith, common_steps)
-
-pub returns-then-contains-clause-faults : goal.returns-then-contains-clause-faults
-returns-then-contains-clause-faults c = grind (arith, common_steps)
-
-pub returns-then-contains-clause-calls : goal.returns-then-contains-clause-calls
-returns-then-contains-clause-calls c = grind (arith, common_steps)
-
-pub returns-then-contains-clause-piece : goal.returns-then-contains-clause-piece
-returns-then-contains-clause-piece c = grind (arith, common_steps)
-
-pub returns-then-contains-clause-failing : goal.returns-then-contains-clause-failing
-returns-then-contains-clause-failing c = grind (arith, common_steps)
-
-pub copy_out-n-requires : goal.copy_out-n-requires
-copy_out-n-requires c = grind (arith, common_steps)
-
-pub invariant_of-self-then-n-eq0 : goal.invariant_of-self-then-n-eq0
-invariant_of-self-then-n-eq0 c = grind (arith, common_steps)
-
-pub returns-then-n-eq0-clause-count : goal.returns-then-n-eq0-clause-count
-returns-then-n-eq0-clause-count c = grind (arith, common_steps)
-
-pub returns-then-n-eq0-clause-bytes : goal.returns-then-n-eq0-clause-bytes
-returns-then-n-eq0-clause-bytes c = grind (arith, common_steps)
-
-pub returns-then-n-eq0-clause-end : goal.returns-then-n-eq0-clause-end
-returns-then-n-eq0-clause-end c = grind (arith, common_steps)
-
-pub returns-then-n-eq0-clause-later : goal.returns-then-n-eq0-clause-later
-returns-then-n-eq0-clause-later c = grind (arith, common_steps)
-
-pub returns-then-n-eq0-clause-failed : goal.returns-then-n-eq0-clause-failed
-returns-then-n-eq0-clause-failed c = grind (arith, common_steps)
-
-pub returns-then-n-eq0-clause-told : goal.returns-then-n-eq0-clause-told
-returns-then-n-eq0-clause-told c = grind (arith, common_steps)
-
-pub returns-then-n-eq0-clause-exact : goal.returns-then-n-eq0-clause-exact
-returns-then-n-eq0-clause-exact c = grind (arith, common_steps)
-
-pub returns-then-n-eq0-clause-faults : goal.returns-then-n-eq0-clause-faults
-returns-then-n-eq0-clause-faults c = grind (arith, common_steps)
-
-pub returns-then-n-eq0-clause-calls : goal.returns-then-n-eq0-clause-calls
-returns-then-n-eq0-clause-calls c = grind (arith, common_steps)
-
-pub returns-then-n-eq0-clause-piece : goal.returns-then-n-eq0-clause-piece
-returns-then-n-eq0-clause-piece c = grind (arith, common_steps)
-
-pub returns-then-n-eq0-clause-failing : goal.returns-then-n-eq0-clause-failing
-returns-then-n-eq0-clause-failing c = grind (arith, common_steps)
-
-pub overflow_add-self : goal.overflow_add-self
-overflow_add-self c = grind (arith, common_steps)
-
-pub invariant_of-self-2 : goal.invariant_of-self-2
-invariant_of-self-2 c = grind (arith, common_steps)
-
-pub returns-clause-count : goal.returns-clause-count
-returns-clause-count c = grind (arith, common_steps)
-
-pub returns-clause-end : goal.returns-clause-end
-returns-clause-end c = grind (arith, common_steps)
-
-pub returns-clause-later : goal.returns-clause-later
-returns-clause-later c = grind (arith, common_steps)
-
-pub returns-clause-failed : goal.returns-clause-failed
-returns-clause-failed c = grind (arith, common_steps)
-
-pub returns-clause-told : goal.returns-clause-told
-returns-clause-told c = grind (arith, common_steps)
-
-pub returns-clause-exact : goal.returns-clause-exact
-returns-clause-exact c = grind (arith, common_steps)
-
-pub returns-clause-faults : goal.returns-clause-faults
-returns-clause-faults c = grind (arith, common_steps)
-
-pub returns-clause-calls : goal.returns-clause-calls
-returns-clause-calls c = grind (arith, common_steps)
-
-pub returns-clause-piece : goal.returns-clause-piece
-returns-clause-piece c = grind (arith, common_steps)
-
-pub returns-clause-failing : goal.returns-clause-failing
-returns-clause-failing c = grind (arith, common_steps)
-
-pub returns-clause-bytes : goal.returns-clause-bytes
-returns-clause-bytes c =
-    let at = c.args.self.now.at in
+pub returns : goal.returns
+returns c =
+    let w = c.args.self.now in
     let n = c.copy_out-n.result in
-    let same = c.copy_out-n.ensures.front ∙ ap (λ l. take n (drop at l)) c.deref-2.ensures.value in
-    Gave-front c.args.self.now.bytes.items _ at n same
+    let e = c.copy_out-n.ensures in
+    let value = c.deref-2.ensures.value in
+    let calls = c.saturating_add-self.ensures in
+    let fails = c.contains.ensures.value ∙ ap (λ l. fails_at l c.saturating_add-self.result) c.deref.ensures.value ∙ ap (fails_at (failing_reads w)) calls in
+    let left = ap (λ l. length l - w.at) value ∙ sym (length-drop w.at w.bytes.items) in
+    record {
+      count = (omega (arith, c.if-n-eq0.false), omega (arith, e.count, e.len));
+      bytes = Gave-front w.bytes.items _ w.at n (e.front ∙ ap (λ l. take n (drop w.at l)) value);
+      end = tt;
+      later = omega arith;
+      failed = λ f. got-failed f;
+      told = λ f. refl;
+      exact = (sym fails ∙ c.if-contains.false, e.count ∙ ap (λ k. min (min k w.piece) (length c.args.buf.now)) left);
+      faults = refl;
+      calls = calls;
+      piece = refl;
+      failing = refl;
+    }

@@ -1,22 +1,69 @@
-use Rattle.std.proofs.Common.{◌≡◌, ◌+◌, ◌-◌, ◌<◌, ◌++◌, length, take, drop, slice_range, refl, sym, ap, subst, ◌∙◌, arith, append_assoc}
-use Rattle.std.proofs.lemmas.Grind.{common_steps}
-use Rattle.line_io.specs.Reader.{CutBy, HasCut, IsOpen, held}
-use Rattle.line_io.proofs.Ranges.{range-kept, written-over}
+use Rattle.std.proofs.Common.{inl, inr, ◌≡◌, ◌+◌, ◌-◌, ◌<◌, ◌++◌, length, take, drop, slice_range, refl, sym, ap, subst, ◌∙◌, arith, append_assoc}
+use Rattle.line_io.specs.Faults.{Rose}
+use Rattle.line_io.specs.Reader.{answer_at, CutBy, HasCut, IsOpen, held}
+use Rattle.line_io.proofs.Apart.{end-failed, ended-faulted, got-failed}
+use Rattle.line_io.proofs.Ranges.{length-short, range-kept, written-over}
 use Rattle.line_io.proofs.Steps.{faults-by, length-held}
-use Rattle.line_io.proofs.Loop.{Gave-append, Gave-end, reads-of, reads-again}
+use Rattle.line_io.proofs.Loop.{Gave-append, Gave-end, reads-of, reads-again, stays}
 use Rattle.line_io.proofs.reader.LineReader.next.Goals as goal
 
-pub returns-in-Some-clause-reads : goal.returns-in-Some-clause-reads
-returns-in-Some-clause-reads g c = λ bytes given h.
-    reads-again c.in-Some.answer c.args.self.now (g.S.Source.left c.args.source.now) bytes given (sym c.in-Some.ensures) h
+pub returns-in-Some : goal.returns-in-Some
+returns-in-Some g c =
+    let w = c.args.self.now in
+    let s = stays w.stop c.in-Some.answer (sym c.in-Some.ensures) in
+    record {
+      reads = λ bytes given h. reads-again c.in-Some.answer w (g.S.Source.left c.args.source.now) bytes given (sym c.in-Some.ensures) h;
+      fault = λ e. inr (s.fault e);
+      told = λ e. refl;
+      faulted = s.faulted;
+      later = omega arith;
+      again = rw (sym c.in-Some.ensures) (refl, refl, refl);
+      settles = s.settles;
+      counted = omega (arith, s.none);
+      limits = refl;
+      short = length-short w.buf.items w.from w.to _ w.line_is_short;
+    }
 
-pub returns-in-Some-ready-clause-reads : goal.returns-in-Some-ready-clause-reads
-returns-in-Some-ready-clause-reads g c = λ bytes given h.
+pub ready-requires : goal.ready-requires
+ready-requires g c =
+    let inv = c.reading.invariant in
+    record { going = inv.going; behind = inv.behind; within = inv.within; «open» = inv.no_end }
+
+pub returns-in-Some-ready : goal.returns-in-Some-ready
+returns-in-Some-ready g c =
     let inv = c.reading.invariant in
     let a = c.in-Some-ready.ensures.some in
-    let t = inv.took bytes given h in
-    reads-of c.in-Some-ready.answer c.ready.new.self (g.S.Source.left c.args.source.now) (g.S.Source.left c.reading.source) _ bytes t.0 given
-    (a.limits ∙ inv.limits) t.1 (a.reads _ (bytes ++ t.0) given t.2) a.settles
+    let new = c.ready.new.self in
+    record {
+      reads = λ bytes given h.
+          let t = inv.took bytes given h in
+          reads-of c.in-Some-ready.answer new (g.S.Source.left c.args.source.now) (g.S.Source.left c.reading.source) _ bytes t.0 given
+          (a.limits ∙ inv.limits) t.1 (a.reads _ (bytes ++ t.0) given t.2) a.settles;
+      fault = λ e. absurd (a.no_fault_now e);
+      told = λ e. inv.no_fault;
+      faulted = λ e. absurd (a.no_fault (ap answer_at e));
+      later = omega (arith, inv.no_fault);
+      again = rw (sym c.in_default.ensures) tt;
+      settles = a.settles;
+      counted = omega (arith, a.counted, inv.lines);
+      limits = a.limits ∙ inv.limits;
+      short = length-short new.buf.items new.from new.to _ new.line_is_short;
+    }
+
+pub make_room-requires : goal.make_room-requires
+make_room-requires g c =
+    let r = c.in_default-ready.ensures in
+    record { «open» = subst (λ w. IsOpen (held w)) (sym r.same) r.open; line = subst (λ w. w.start < w.end → 0 < w.lines_left) (sym r.same) r.line }
+
+pub count_in-requires : goal.count_in-requires
+count_in-requires g c =
+    let m = c.make_room.new.self in
+    let count = c.in-Got.ensures.count in
+    record {
+      «open» = c.make_room.ensures.stop ∙ ap (λ w. w.stop) c.in_default-ready.ensures.same ∙ c.in_default-ready.ensures.going;
+      some = count.0;
+      fits = omega (arith, count.1, c.make_room.ensures.room, c.fill.auto.buf, c.deref_mut.ensures.len, m.size);
+    }
 
 pub reading-preserved : goal.reading-preserved
 reading-preserved g c =
@@ -43,7 +90,7 @@ reading-preserved g c =
       going = k.going;
       limits = k.limits ∙ me.limits ∙ ap (λ w. w.limits) r.same ∙ inv.limits;
       lines = k.lines ∙ me.lines ∙ ap (λ w. w.lines_left) r.same ∙ inv.lines;
-      no_fault = c.in-Got.ensures.told (λ e. cc) ∙ inv.no_fault;
+      no_fault = c.in-Got.ensures.told (λ e. got-failed e) ∙ inv.no_fault;
       took = λ bytes given h.
           let t = inv.took bytes given h in
           let at_start = me.cuts (bytes ++ t.0) given (subst (λ w. HasCut w (bytes ++ t.0) given) (sym r.same) t.2) in
@@ -53,204 +100,74 @@ reading-preserved g c =
           (t.0 ++ take n (drop m.end buf), Gave-append _ _ _ t.0 _ t.1 c.in-Got.ensures.bytes, subst (λ b. HasCut new b given) all read);
     }
 
-pub last_line-requires-clause-open : goal.last_line-requires-clause-open
-last_line-requires-clause-open g c =
+pub last_line-requires : goal.last_line-requires
+last_line-requires g c =
     let m = c.make_room.new.self in
     let buf = c.fill.new.buf in
     let items = take m.buf.len (buf ++ drop (length buf) m.buf.items) in
     let over : items ≡ buf = written-over m.buf.len buf m.buf.items (omega (arith, c.fill.auto.buf, c.deref_mut.ensures.len)) in
     let kept : slice_range items m.start m.end ≡ held m =
     range-kept m.buf.items items m.start m.end m.in_order (ap (take m.end) over ∙ c.fill.ensures.front ∙ ap (take m.end) c.deref_mut.ensures.value) in
-    subst IsOpen (sym kept) c.make_room.ensures.open
+    record {
+      «open» = subst IsOpen (sym kept) c.make_room.ensures.open;
+      going = c.make_room.ensures.stop ∙ ap (λ w. w.stop) c.in_default-ready.ensures.same ∙ c.in_default-ready.ensures.going;
+      line = c.make_room.ensures.line;
+    }
 
-pub returns-in-End-clause-reads : goal.returns-in-End-clause-reads
-returns-in-End-clause-reads g c = λ bytes given h.
+pub returns-in-End : goal.returns-in-End
+returns-in-End g c =
     let inv = c.reading.invariant in
     let r = c.in_default-ready.ensures in
     let m = c.make_room.new.self in
     let me = c.make_room.ensures in
     let l = c.last_line.ensures in
+    let new = c.last_line.new.self in
     let buf = c.fill.new.buf in
     let items = take m.buf.len (buf ++ drop (length buf) m.buf.items) in
     let over : items ≡ buf = written-over m.buf.len buf m.buf.items (omega (arith, c.fill.auto.buf, c.deref_mut.ensures.len)) in
     let kept : slice_range items m.start m.end ≡ held m =
     range-kept m.buf.items items m.start m.end m.in_order (ap (take m.end) over ∙ c.fill.ensures.front ∙ ap (take m.end) c.deref_mut.ensures.value) in
-    let t = inv.took bytes given h in
-    let at_start = me.cuts (bytes ++ t.0) given (subst (λ w. HasCut w (bytes ++ t.0) given) (sym r.same) t.2) in
-    let cuts = subst (λ x. CutBy m.stop m.limits m.long m.lines_left m.bytes_left x (bytes ++ t.0) given) (sym kept) at_start in
     let limits = l.limits ∙ me.limits ∙ ap (λ w. w.limits) r.same ∙ inv.limits in
-    reads-of c.last_line.result c.last_line.new.self _ (g.S.Source.left c.fill.new.source) _ bytes t.0 given limits (Gave-end _ _ _ t.0 t.1 c.in-End.ensures.bytes)
-    (l.reads (g.S.Source.left c.fill.new.source) (bytes ++ t.0) given c.in-End.ensures.end cuts) l.settles
+    record {
+      reads = λ bytes given h.
+          let t = inv.took bytes given h in
+          let at_start = me.cuts (bytes ++ t.0) given (subst (λ w. HasCut w (bytes ++ t.0) given) (sym r.same) t.2) in
+          let cuts = subst (λ x. CutBy m.stop m.limits m.long m.lines_left m.bytes_left x (bytes ++ t.0) given) (sym kept) at_start in
+          reads-of c.last_line.result new _ (g.S.Source.left c.fill.new.source) _ bytes t.0 given limits (Gave-end _ _ _ t.0 t.1 c.in-End.ensures.bytes)
+          (l.reads (g.S.Source.left c.fill.new.source) (bytes ++ t.0) given c.in-End.ensures.end cuts) l.settles;
+      fault = λ e. absurd (l.no_fault e);
+      told = λ e. c.in-End.ensures.told (λ f. end-failed f) ∙ inv.no_fault;
+      faulted = λ e. ended-faulted (sym l.ended ∙ e);
+      later = omega (arith, c.in-End.ensures.later, inv.no_fault);
+      again = rw (sym c.in_default.ensures) tt;
+      settles = l.settles;
+      counted = omega (arith, l.counted, me.lines, ap (λ w. w.lines_left) r.same, inv.lines);
+      limits = limits;
+      short = length-short new.buf.items new.from new.to _ new.line_is_short;
+    }
 
-pub returns-in-Failed-clause-reads : goal.returns-in-Failed-clause-reads
-returns-in-Failed-clause-reads g c = λ bytes given h.
+pub returns-in-Failed : goal.returns-in-Failed
+returns-in-Failed g c =
     let inv = c.reading.invariant in
     let r = c.in_default-ready.ensures in
     let m = c.make_room.new.self in
     let me = c.make_room.ensures in
-    let t = inv.took bytes given h in
-    let at_start = me.cuts (bytes ++ t.0) given (subst (λ w. HasCut w (bytes ++ t.0) given) (sym r.same) t.2) in
     let going = me.stop ∙ ap (λ w. w.stop) r.same ∙ r.going in
     let limits = me.limits ∙ ap (λ w. w.limits) r.same ∙ inv.limits in
     let line : 0 < length (held m) → 0 < m.lines_left = λ some. me.line (omega (arith, some, length-held m)) in
-    reads-of _ _ _ (g.S.Source.left c.fill.new.source) _ bytes t.0 given limits (Gave-end _ _ _ t.0 t.1 c.in-Failed.ensures.bytes)
-    (record { here = faults-by m.stop m.limits m.long m.lines_left m.bytes_left (held m) (bytes ++ t.0) given going me.open line at_start }) refl
-
-pub returns-in-Some-clause-fault : goal.returns-in-Some-clause-fault
-returns-in-Some-clause-fault g c = grind (arith, common_steps)
-
-pub returns-in-Some-clause-told : goal.returns-in-Some-clause-told
-returns-in-Some-clause-told g c = grind (arith, common_steps)
-
-pub returns-in-Some-clause-faulted : goal.returns-in-Some-clause-faulted
-returns-in-Some-clause-faulted g c = grind (arith, common_steps)
-
-pub returns-in-Some-clause-later : goal.returns-in-Some-clause-later
-returns-in-Some-clause-later g c = grind (arith, common_steps)
-
-pub returns-in-Some-clause-again : goal.returns-in-Some-clause-again
-returns-in-Some-clause-again g c = grind (arith, common_steps)
-
-pub returns-in-Some-clause-settles : goal.returns-in-Some-clause-settles
-returns-in-Some-clause-settles g c = grind (arith, common_steps)
-
-pub returns-in-Some-clause-counted : goal.returns-in-Some-clause-counted
-returns-in-Some-clause-counted g c = grind (arith, common_steps)
-
-pub returns-in-Some-clause-limits : goal.returns-in-Some-clause-limits
-returns-in-Some-clause-limits g c = grind (arith, common_steps)
-
-pub returns-in-Some-clause-short : goal.returns-in-Some-clause-short
-returns-in-Some-clause-short g c = grind (arith, common_steps)
-
-pub reading-init : goal.reading-init
-reading-init g c = grind (arith, common_steps)
-
-pub ready-requires-clause-going : goal.ready-requires-clause-going
-ready-requires-clause-going g c = grind (arith, common_steps)
-
-pub ready-requires-clause-behind : goal.ready-requires-clause-behind
-ready-requires-clause-behind g c = grind (arith, common_steps)
-
-pub ready-requires-clause-within : goal.ready-requires-clause-within
-ready-requires-clause-within g c = grind (arith, common_steps)
-
-pub ready-requires-clause-open : goal.ready-requires-clause-open
-ready-requires-clause-open g c = grind (arith, common_steps)
-
-pub returns-in-Some-ready-clause-fault : goal.returns-in-Some-ready-clause-fault
-returns-in-Some-ready-clause-fault g c = grind (arith, common_steps)
-
-pub returns-in-Some-ready-clause-told : goal.returns-in-Some-ready-clause-told
-returns-in-Some-ready-clause-told g c = grind (arith, common_steps)
-
-pub returns-in-Some-ready-clause-faulted : goal.returns-in-Some-ready-clause-faulted
-returns-in-Some-ready-clause-faulted g c = grind (arith, common_steps)
-
-pub returns-in-Some-ready-clause-later : goal.returns-in-Some-ready-clause-later
-returns-in-Some-ready-clause-later g c = grind (arith, common_steps)
-
-pub returns-in-Some-ready-clause-again : goal.returns-in-Some-ready-clause-again
-returns-in-Some-ready-clause-again g c = grind (arith, common_steps)
-
-pub returns-in-Some-ready-clause-settles : goal.returns-in-Some-ready-clause-settles
-returns-in-Some-ready-clause-settles g c = grind (arith, common_steps)
-
-pub returns-in-Some-ready-clause-counted : goal.returns-in-Some-ready-clause-counted
-returns-in-Some-ready-clause-counted g c = grind (arith, common_steps)
-
-pub returns-in-Some-ready-clause-limits : goal.returns-in-Some-ready-clause-limits
-returns-in-Some-ready-clause-limits g c = grind (arith, common_steps)
-
-pub returns-in-Some-ready-clause-short : goal.returns-in-Some-ready-clause-short
-returns-in-Some-ready-clause-short g c = grind (arith, common_steps)
-
-pub make_room-requires-clause-open : goal.make_room-requires-clause-open
-make_room-requires-clause-open g c = grind (arith, common_steps)
-
-pub make_room-requires-clause-line : goal.make_room-requires-clause-line
-make_room-requires-clause-line g c = grind (arith, common_steps)
-
-pub fill-requires : goal.fill-requires
-fill-requires g c = grind (arith, common_steps)
-
-pub invariant_of-self : goal.invariant_of-self
-invariant_of-self g c = grind (arith, common_steps)
-
-pub count_in-requires-clause-open : goal.count_in-requires-clause-open
-count_in-requires-clause-open g c = grind (arith, common_steps)
-
-pub count_in-requires-clause-some : goal.count_in-requires-clause-some
-count_in-requires-clause-some g c = grind (arith, common_steps)
-
-pub count_in-requires-clause-fits : goal.count_in-requires-clause-fits
-count_in-requires-clause-fits g c = grind (arith, common_steps)
-
-pub reading-smaller : goal.reading-smaller
-reading-smaller g c = grind (arith, common_steps)
-
-pub invariant_of-self-in-End : goal.invariant_of-self-in-End
-invariant_of-self-in-End g c = grind (arith, common_steps)
-
-pub last_line-requires-clause-going : goal.last_line-requires-clause-going
-last_line-requires-clause-going g c = grind (arith, common_steps)
-
-pub last_line-requires-clause-line : goal.last_line-requires-clause-line
-last_line-requires-clause-line g c = grind (arith, common_steps)
-
-pub returns-in-End-clause-fault : goal.returns-in-End-clause-fault
-returns-in-End-clause-fault g c = grind (arith, common_steps)
-
-pub returns-in-End-clause-told : goal.returns-in-End-clause-told
-returns-in-End-clause-told g c = grind (arith, common_steps)
-
-pub returns-in-End-clause-faulted : goal.returns-in-End-clause-faulted
-returns-in-End-clause-faulted g c = grind (arith, common_steps)
-
-pub returns-in-End-clause-later : goal.returns-in-End-clause-later
-returns-in-End-clause-later g c = grind (arith, common_steps)
-
-pub returns-in-End-clause-again : goal.returns-in-End-clause-again
-returns-in-End-clause-again g c = grind (arith, common_steps)
-
-pub returns-in-End-clause-settles : goal.returns-in-End-clause-settles
-returns-in-End-clause-settles g c = grind (arith, common_steps)
-
-pub returns-in-End-clause-counted : goal.returns-in-End-clause-counted
-returns-in-End-clause-counted g c = grind (arith, common_steps)
-
-pub returns-in-End-clause-limits : goal.returns-in-End-clause-limits
-returns-in-End-clause-limits g c = grind (arith, common_steps)
-
-pub returns-in-End-clause-short : goal.returns-in-End-clause-short
-returns-in-End-clause-short g c = grind (arith, common_steps)
-
-pub invariant_of-self-in-Failed : goal.invariant_of-self-in-Failed
-invariant_of-self-in-Failed g c = grind (arith, common_steps)
-
-pub returns-in-Failed-clause-fault : goal.returns-in-Failed-clause-fault
-returns-in-Failed-clause-fault g c = grind (arith, common_steps)
-
-pub returns-in-Failed-clause-told : goal.returns-in-Failed-clause-told
-returns-in-Failed-clause-told g c = grind (arith, common_steps)
-
-pub returns-in-Failed-clause-faulted : goal.returns-in-Failed-clause-faulted
-returns-in-Failed-clause-faulted g c = grind (arith, common_steps)
-
-pub returns-in-Failed-clause-later : goal.returns-in-Failed-clause-later
-returns-in-Failed-clause-later g c = grind (arith, common_steps)
-
-pub returns-in-Failed-clause-again : goal.returns-in-Failed-clause-again
-returns-in-Failed-clause-again g c = grind (arith, common_steps)
-
-pub returns-in-Failed-clause-settles : goal.returns-in-Failed-clause-settles
-returns-in-Failed-clause-settles g c = grind (arith, common_steps)
-
-pub returns-in-Failed-clause-counted : goal.returns-in-Failed-clause-counted
-returns-in-Failed-clause-counted g c = grind (arith, common_steps)
-
-pub returns-in-Failed-clause-limits : goal.returns-in-Failed-clause-limits
-returns-in-Failed-clause-limits g c = grind (arith, common_steps)
-
-pub returns-in-Failed-clause-short : goal.returns-in-Failed-clause-short
-returns-in-Failed-clause-short g c = grind (arith, common_steps)
+    record {
+      reads = λ bytes given h.
+          let t = inv.took bytes given h in
+          let at_start = me.cuts (bytes ++ t.0) given (subst (λ w. HasCut w (bytes ++ t.0) given) (sym r.same) t.2) in
+          reads-of _ _ _ (g.S.Source.left c.fill.new.source) _ bytes t.0 given limits (Gave-end _ _ _ t.0 t.1 c.in-Failed.ensures.bytes)
+          (record { here = faults-by m.stop m.limits m.long m.lines_left m.bytes_left (held m) (bytes ++ t.0) given going me.open line at_start }) refl;
+      fault = λ e. inl (subst (λ f. Rose f (g.S.Source.faults c.fill.new.source)) inv.no_fault (c.in-Failed.ensures.failed refl));
+      told = λ e. absurd (e refl);
+      faulted = λ e. refl;
+      later = omega (arith, c.in-Failed.ensures.later, inv.no_fault);
+      again = rw (sym c.in_default.ensures) tt;
+      settles = refl;
+      counted = omega (arith, me.lines, ap (λ w. w.lines_left) r.same, inv.lines);
+      limits = limits;
+      short = length-short _ m.from m.to _ m.line_is_short;
+    }
