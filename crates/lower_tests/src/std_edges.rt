@@ -17,12 +17,11 @@ enum Turn {
 // One of the errors that are faults.
 const BREAK: Turn = Turn::Fails(ErrorKind::BrokenPipe);
 
-// A reader of the byte `x` and a writer that does its turns one after the other, and then the last one for ever. It keeps what it takes.
+// A reader of the byte `x` and a writer that does its turns one after the other, and then the last one for ever.
 #[derive(Drop)]
 struct Scripted<'a> {
     turns: &'a [Turn],
     last: Turn,
-    kept: &'a mut Vec<u8>,
 }
 
 impl<'a> Scripted<'a> {
@@ -57,9 +56,7 @@ impl<'a> Read for Scripted<'a> {
 
 impl<'a> Write for Scripted<'a> {
     fn write(&mut self, bytes: &[u8]) -> io::Result<usize> {
-        let n = self.turn(bytes.len())?;
-        self.kept.extend_from_slice(&bytes[..n])?;
-        Ok(n)
+        self.turn(bytes.len())
     }
 
     fn flush(&mut self) -> io::Result<()> {
@@ -109,13 +106,8 @@ fn is_reading(got: Got, reading: &Reading) -> bool {
     }
 }
 
-fn reads_as(
-    kept: &mut Vec<u8>,
-    turns: &[Turn],
-    last: Turn,
-    readings: &[(Reading, [u8; 4])],
-) -> bool {
-    let mut source = StdSource::new(Scripted { turns, last, kept });
+fn reads_as(turns: &[Turn], last: Turn, readings: &[(Reading, [u8; 4])]) -> bool {
+    let mut source = StdSource::new(Scripted { turns, last });
     let mut all = true;
     for (reading, text) in readings {
         let mut buf = *b"abcd";
@@ -126,9 +118,9 @@ fn reads_as(
 }
 
 // A reader of std gives its bytes, its faults and its end.
-fn readers_give(kept: &mut Vec<u8>) -> bool {
+fn readers_give() -> bool {
     for (turns, last, readings) in &READS {
-        if !reads_as(kept, turns, *last, readings) {
+        if !reads_as(turns, *last, readings) {
             return false;
         }
     }
@@ -149,9 +141,9 @@ const WRITES: [(&[Turn], Option<usize>); 10] = [
     (&[Turn::Moves(4)], None),
 ];
 
-fn takes_as(kept: &mut Vec<u8>, turns: &[Turn], taken: Option<usize>) -> bool {
+fn takes_as(turns: &[Turn], taken: Option<usize>) -> bool {
     let last = Turn::Interrupt;
-    let mut sink = StdSink::new(Scripted { turns, last, kept });
+    let mut sink = StdSink::new(Scripted { turns, last });
     match sink.write(b"abcd") {
         Took::Took(n) => taken == Some(n),
         Took::Failed => taken.is_none(),
@@ -159,9 +151,9 @@ fn takes_as(kept: &mut Vec<u8>, turns: &[Turn], taken: Option<usize>) -> bool {
 }
 
 // A writer of std takes bytes or fails.
-fn writers_take(kept: &mut Vec<u8>) -> bool {
+fn writers_take() -> bool {
     for (turns, taken) in &WRITES {
-        if !takes_as(kept, turns, *taken) {
+        if !takes_as(turns, *taken) {
             return false;
         }
     }
@@ -182,31 +174,42 @@ const FAULTS: [ErrorKind; 6] = [
 const FAULTY: [(Reading, [u8; 4]); 2] = [(Reading::Fault, *b"abcd"), (Reading::End, *b"abcd")];
 
 // Whether an error is a fault of a read, of a write and of a flush.
-fn is_fault(kept: &mut Vec<u8>, kind: ErrorKind) -> bool {
+fn is_fault(kind: ErrorKind) -> bool {
     let turns = [Turn::Fails(kind)];
     let flushing = [Turn::Moves(4), Turn::Fails(kind)];
-    reads_as(kept, &turns, Turn::Moves(0), &FAULTY)
-        && takes_as(kept, &turns, None)
-        && takes_as(kept, &flushing, None)
+    reads_as(&turns, Turn::Moves(0), &FAULTY) && takes_as(&turns, None) && takes_as(&flushing, None)
 }
 
-fn errors_are_faults(kept: &mut Vec<u8>) -> bool {
+fn errors_are_faults() -> bool {
     for kind in &FAULTS {
-        if !is_fault(kept, *kind) {
+        if !is_fault(*kind) {
             return false;
         }
     }
     true
 }
 
-// The lines of a text come whole and in order to a writer that takes at most 300 bytes at once.
+// A writer that takes at most 300 bytes at once, and keeps them.
+#[derive(Drop)]
+struct Keeps<'a> {
+    kept: &'a mut Vec<u8>,
+}
+
+impl<'a> Write for Keeps<'a> {
+    fn write(&mut self, bytes: &[u8]) -> io::Result<usize> {
+        let n = bytes.len().min(300);
+        self.kept.extend_from_slice(&bytes[..n])?;
+        Ok(n)
+    }
+
+    fn flush(&mut self) -> io::Result<()> {
+        Ok(())
+    }
+}
+
+// The lines of a text come whole and in order to a writer that takes them in parts.
 fn parts_arrive(kept: &mut Vec<u8>) -> bool {
-    let writer = Scripted {
-        turns: &[],
-        last: Turn::Moves(300),
-        kept: &mut *kept,
-    };
-    let mut sink = StdSink::new(writer);
+    let mut sink = StdSink::new(Keeps { kept: &mut *kept });
     let written = put_all(&mut sink, UNREAD).is_ok();
     written & (kept.as_slice() == UNREAD)
 }
@@ -215,7 +218,7 @@ fn parts_arrive(kept: &mut Vec<u8>) -> bool {
 fn readers_and_writers_of_std_are_sources_and_sinks(rt: HostRuntime) {
     let mut kept = Vec::new(rt.alloc());
     assert!(rt; parts_arrive(&mut kept));
-    assert!(rt; readers_give(&mut kept));
-    assert!(rt; writers_take(&mut kept));
-    assert!(rt; errors_are_faults(&mut kept));
+    assert!(rt; readers_give());
+    assert!(rt; writers_take());
+    assert!(rt; errors_are_faults());
 }
