@@ -1,5 +1,0 @@
-use Rattle.word_arena.specs.Blocks.{BlockBegins}
-use Rattle.word_tests.proofs.arena.block_behind.Given as goal
-
-abbrev pub invariant-walk : goal.invariant-walk
-invariant-walk l = BlockBegins l.arena.mem l.at
