@@ -77,11 +77,11 @@ pub fn run_with<S: Source, K: Sink>(
         Ok(args) => args,
         Err(fault) => return unread(&fault),
     };
-    let Some(words) = words_of(alloc, args) else {
-        return Status::Memory;
-    };
-    let Some(texts) = texts_of(alloc, words.as_slice()) else {
-        return Status::Memory;
-    };
-    run(alloc, texts.as_slice(), store, source, sink)
+    if let Some(words) = words_of(alloc, args)
+        && let Some(texts) = texts_of(alloc, words.as_slice())
+    {
+        run(alloc, texts.as_slice(), store, source, sink)
+    } else {
+        Status::Memory
+    }
 }

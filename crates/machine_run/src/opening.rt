@@ -19,14 +19,12 @@ pub fn first_machine(alloc: Global, words: u64) -> Option<Machine<OneSpace>>
     ensures calls { IfSome result (λ m. ⟦<OneSpace as Space>⟧.calls m.space ≡ 0) }
     ensures named { IfSome result (λ m. ⟦<OneSpace as Space>⟧.named m.space ≤ length m.names) }
 {
-    let Ok(space) = OneSpace::start(alloc, words) else {
-        return None;
-    };
-    let Ok(names) = AtomNames::new(alloc) else {
-        return None;
-    };
-    let Ok(code) = Code::new(alloc) else {
-        return None;
-    };
-    Some(Machine { space, names, code })
+    if let Ok(space) = OneSpace::start(alloc, words)
+        && let Ok(names) = AtomNames::new(alloc)
+        && let Ok(code) = Code::new(alloc)
+    {
+        Some(Machine { space, names, code })
+    } else {
+        None
+    }
 }

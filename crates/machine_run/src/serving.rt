@@ -36,14 +36,14 @@ pub(crate) fn run_read<S: Source, K: Sink>(
     ensures read_told { TellsRead result (S.faults source.old) (S.faults source.new) }
     ensures write_told { TellsWrite result (K.faults sink.old) (K.faults sink.new) }
 {
-    let Ok(mut reader) = LineReader::new(alloc, LIMITS) else {
-        return Status::Memory;
-    };
-    let Some(mut machine) = first_machine(alloc, arena) else {
-        return Status::Memory;
-    };
-    let status = serve(&mut machine, &mut reader, source, sink);
-    machine.space.images_stand();
-    *store = Store::One(machine);
-    status
+    if let Ok(mut reader) = LineReader::new(alloc, LIMITS)
+        && let Some(mut machine) = first_machine(alloc, arena)
+    {
+        let status = serve(&mut machine, &mut reader, source, sink);
+        machine.space.images_stand();
+        *store = Store::One(machine);
+        status
+    } else {
+        Status::Memory
+    }
 }

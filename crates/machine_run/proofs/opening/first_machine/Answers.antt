@@ -3,23 +3,13 @@ use Rattle.std.proofs.Common.{arith}
 use Rattle.machine_run.proofs.Arena.{arena-bounds}
 use Rattle.machine_run.proofs.opening.first_machine.Goals as goal
 
-pub start-requires-clause-least : goal.start-requires-clause-least
-start-requires-clause-least c = (arena-bounds c.args.words c.requires).0
+pub start-requires : goal.start-requires
+start-requires c = let bounds = arena-bounds c.args.words c.requires in record { least = bounds.0; most = bounds.1; even = bounds.2 }
 
-pub start-requires-clause-most : goal.start-requires-clause-most
-start-requires-clause-most c = (arena-bounds c.args.words c.requires).1
-
-pub start-requires-clause-even : goal.start-requires-clause-even
-start-requires-clause-even c = (arena-bounds c.args.words c.requires).2
-
-pub returns-clause-stands : goal.returns-clause-stands
-returns-clause-stands c = (c.in-Ok.ensures.first, c.in-Ok-new.ensures)
-
-pub returns-clause-words : goal.returns-clause-words
-returns-clause-words c = c.in-Ok.ensures.words
-
-pub returns-clause-calls : goal.returns-clause-calls
-returns-clause-calls c = c.in-Ok.ensures.calls
-
-pub returns-clause-named : goal.returns-clause-named
-returns-clause-named c = omega (arith, c.in-Ok.ensures.named)
+pub returns-in-Ok-new-2 : goal.returns-in-Ok-new-2
+returns-in-Ok-new-2 c = record {
+  stands = (c.in-Ok.ensures.first, c.in-Ok-new.ensures);
+  words = c.in-Ok.ensures.words;
+  calls = c.in-Ok.ensures.calls;
+  named = omega (arith, c.in-Ok.ensures.named);
+}
