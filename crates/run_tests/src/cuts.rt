@@ -15,9 +15,7 @@ fn len_before(text: &[u8], mark: u8) -> usize
 
 // What stands before the first such byte, and what stands behind it.
 pub(crate) fn cut(text: &[u8], mark: u8) -> (&[u8], &[u8]) {
-    let (before, rest) = text.split_at(len_before(text, mark));
-    match rest.split_first() {
-        Some((_, behind)) => (before, behind),
-        None => (before, rest),
-    }
+    let before = len_before(text, mark);
+    let behind = text.len().min(before + 1);
+    (&text[..before], &text[behind..])
 }

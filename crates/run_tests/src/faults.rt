@@ -4,7 +4,6 @@ ghost use Rattle.std.specs.Prelude.{◌<◌, ◌≤◌};
 use crate::runs::{Ending, Failing, Left, NAME_ALONE, ends};
 use machine_run::{Status, number};
 use std::alloc::Global;
-use std::test::Fail;
 
 // A line, its reply, and a script of such lines with its replies.
 const LINE: &[u8] = b"1 print 0\n";
@@ -78,8 +77,8 @@ fn writing_ends(call: usize, piece: usize) -> End
     }
 }
 
-// A fault of this read is told, in pieces of this size.
-fn reading_is_told(alloc: Global, call: usize, piece: usize) -> Result<(), Fail>
+// Whether a fault of this read is told, in pieces of this size.
+fn is_reading_told(alloc: Global, call: usize, piece: usize) -> bool
     requires call { 0 < call }
     requires piece { 0 < piece }
 {
@@ -88,11 +87,11 @@ fn reading_is_told(alloc: Global, call: usize, piece: usize) -> Result<(), Fail>
         writes: &[],
     };
     let ending = ending_of(reading_ends(call, piece));
-    ends(alloc, "reads", NAME_ALONE, SCRIPT, piece, failing, ending)
+    ends(alloc, NAME_ALONE, SCRIPT, piece, failing, ending)
 }
 
 // The same of this write.
-fn writing_is_told(alloc: Global, call: usize, piece: usize) -> Result<(), Fail>
+fn is_writing_told(alloc: Global, call: usize, piece: usize) -> bool
     requires call { 0 < call }
     requires piece { 0 < piece }
 {
@@ -101,22 +100,22 @@ fn writing_is_told(alloc: Global, call: usize, piece: usize) -> Result<(), Fail>
         writes: &[call as u64],
     };
     let ending = ending_of(writing_ends(call, piece));
-    ends(alloc, "writes", NAME_ALONE, SCRIPT, piece, failing, ending)
+    ends(alloc, NAME_ALONE, SCRIPT, piece, failing, ending)
 }
 
 // The same of each call.
-fn each_is_told(alloc: Global, piece: usize) -> Result<(), Fail>
+fn are_told(alloc: Global, piece: usize) -> bool
     requires { 0 < piece }
 {
     for call in 1..CALLS {
-        reading_is_told(alloc, call, piece)?;
-        writing_is_told(alloc, call, piece)?;
+        if !is_reading_told(alloc, call, piece) || !is_writing_told(alloc, call, piece) {
+            return false;
+        }
     }
-    Ok(())
+    true
 }
 
 #[test]
-fn faults_are_told(rt: HostRuntime) -> Result<(), Fail> {
-    each_is_told(rt.alloc(), 1)?;
-    each_is_told(rt.alloc(), 7)
+fn faults_are_told(rt: HostRuntime) {
+    assert!(rt; are_told(rt.alloc(), 1) && are_told(rt.alloc(), 7));
 }

@@ -1,9 +1,5 @@
 // Scripts at the limits, too long to be written out: `repeats.rt` says how they are written.
-use crate::runs::{Left, NAME_ALONE};
-use crate::tables::are_answered;
-use std::test::Fail;
-
-const GROWN: &[u8] = b"
+pub(crate) const ROWS: &[u8] = b"
 ~ faulty lines are refused one by one, and the last line needs no end
 ^a^4097^
 1 set 0 {1,
@@ -63,7 +59,8 @@ ok
 ok
 ";
 
-const BEYOND: &[u8] = b"
+// Terms beyond the walk limit.
+pub(crate) const BEYOND: &[u8] = b"
 ~ a term of too many nodes
 !1 set 0 {$0,$0}
 !0!25!1 gc major
@@ -123,13 +120,3 @@ ok
 2048
 error big
 ";
-
-#[test]
-fn limits_are_kept(rt: HostRuntime) -> Result<(), Fail> {
-    are_answered(rt.alloc(), NAME_ALONE, GROWN, 6, Left::Machine)
-}
-
-#[test]
-fn terms_beyond_the_walk_limit_are_refused(rt: HostRuntime) -> Result<(), Fail> {
-    are_answered(rt.alloc(), NAME_ALONE, BEYOND, 2, Left::Machine)
-}

@@ -6,11 +6,11 @@ mod binaries;
 #[cfg(test)]
 mod cuts;
 #[cfg(test)]
-mod edge;
-#[cfg(test)]
 mod faults;
 #[cfg(test)]
 mod grown;
+#[cfg(test)]
+mod limits;
 #[cfg(test)]
 mod made;
 #[cfg(test)]

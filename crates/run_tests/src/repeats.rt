@@ -1,9 +1,7 @@
 // Texts that are too long to be written out: what is repeated stands once, between marks, with how often behind it.
 use crate::cuts::cut;
-use crate::runs::told;
 use itoa::Buffer;
 use std::alloc::Global;
-use std::test::Fail;
 
 // The number that these digits say.
 fn number_of(digits: &[u8]) -> u64 {
@@ -16,61 +14,67 @@ fn number_of(digits: &[u8]) -> u64 {
     number
 }
 
-// Appends bytes so many times.
-fn push_times(whole: &mut Vec<u8>, bytes: &[u8], times: u64) -> Result<(), Fail> {
-    for _ in 0..times {
-        whole.extend_from_slice(bytes)?;
-    }
-    Ok(())
+// A text that is written out, and whether memory was short for a part of it.
+#[derive(Drop)]
+pub(crate) struct Whole {
+    pub(crate) bytes: Vec<u8>,
+    pub(crate) short: bool,
 }
 
-// Appends a text in which `^ab^3^` stands for `ababab`.
-fn push_repeated(whole: &mut Vec<u8>, text: &[u8]) -> Result<(), Fail> {
-    let mut rest = text;
-    for _ in 0..text.len() {
-        let (once, behind) = cut(rest, b'^');
-        let (bytes, behind) = cut(behind, b'^');
-        let (times, others) = cut(behind, b'^');
-        whole.extend_from_slice(once)?;
-        push_times(whole, bytes, number_of(times))?;
-        rest = others;
+impl Whole {
+    // Appends bytes.
+    fn push(&mut self, bytes: &[u8]) {
+        if self.bytes.extend_from_slice(bytes).is_err() {
+            self.short = true;
+        }
     }
-    Ok(())
-}
 
-// The same with a number where the text has a `?`.
-fn push_numbered(whole: &mut Vec<u8>, text: &[u8], number: u64) -> Result<(), Fail> {
-    let (before, behind) = cut(text, b'?');
-    push_repeated(whole, before)?;
-    if before.len() < text.len() {
-        let mut buffer = Buffer::new();
-        whole.extend_from_slice(buffer.format(number).as_bytes())?;
+    // Appends a text in which `^ab^3^` stands for `ababab`.
+    fn push_repeated(&mut self, text: &[u8]) {
+        let mut rest = text;
+        for _ in 0..text.len() {
+            let (once, behind) = cut(rest, b'^');
+            let (bytes, behind) = cut(behind, b'^');
+            let (times, others) = cut(behind, b'^');
+            self.push(once);
+            for _ in 0..number_of(times) {
+                self.push(bytes);
+            }
+            rest = others;
+        }
     }
-    push_repeated(whole, behind)
-}
 
-// The same for each number from the first to before the last.
-fn push_block(whole: &mut Vec<u8>, text: &[u8], first: u64, past: u64) -> Result<(), Fail> {
-    for number in first..past {
-        push_numbered(whole, text, number)?;
+    // The same with a number where the text has a `?`.
+    fn push_numbered(&mut self, text: &[u8], number: u64) {
+        let (before, behind) = cut(text, b'?');
+        self.push_repeated(before);
+        if before.len() < text.len() {
+            let mut buffer = Buffer::new();
+            self.push(buffer.format(number).as_bytes());
+        }
+        self.push_repeated(behind);
     }
-    Ok(())
 }
 
 // The whole of a text in which also `!a?b!1!4!` stands for `a1ba2ba3b`.
-pub(crate) fn whole_of(alloc: Global, text: &[u8]) -> Result<Vec<u8>, Fail> {
-    let mut whole = Vec::new(alloc);
+pub(crate) fn whole_of(alloc: Global, text: &[u8]) -> Whole {
+    let mut whole = Whole {
+        bytes: Vec::new(alloc),
+        short: false,
+    };
     let mut rest = text;
     for _ in 0..text.len() {
         let (once, behind) = cut(rest, b'!');
         let (block, behind) = cut(behind, b'!');
         let (first, behind) = cut(behind, b'!');
         let (past, others) = cut(behind, b'!');
-        push_repeated(&mut whole, once)?;
-        push_block(&mut whole, block, number_of(first), number_of(past))?;
+        whole.push_repeated(once);
+        for number in number_of(first)..number_of(past) {
+            whole.push_numbered(block, number);
+        }
         rest = others;
     }
-    Ok(whole)
+    whole
 }
 
 // A text with repeats, and the whole of it.
@@ -79,12 +83,12 @@ const REPEATED: &[u8] = b"w^ab^3^x!^c^2^?d!9!12!y";
 const WHOLE: &[u8] = b"wabababxcc9dcc10dcc11dy";
 
 // Whether this text stands for that one.
-fn stands_for(alloc: Global, text: &[u8], whole: &[u8]) -> Result<bool, Fail> {
-    let found = whole_of(alloc, text)?;
-    Ok(found.as_slice() == whole)
+fn stands_for(alloc: Global, text: &[u8], whole: &[u8]) -> bool {
+    let found = whole_of(alloc, text);
+    found.bytes.as_slice() == whole && !found.short
 }
 
 #[test]
-fn repeated_texts_are_whole(rt: HostRuntime) -> Result<(), Fail> {
-    told(stands_for(rt.alloc(), REPEATED, WHOLE)?, "repeats")
+fn repeated_texts_are_whole(rt: HostRuntime) {
+    assert!(rt; stands_for(rt.alloc(), REPEATED, WHOLE));
 }

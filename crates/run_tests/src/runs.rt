@@ -5,10 +5,10 @@ ghost use Rattle.std.specs.Io.{WritesAtMost};
 use line_io::{MemSink, MemSource};
 use machine_run::{Status, Store, number, run, run_with};
 use std::alloc::Global;
-use std::env;
 use std::env::FillError;
 use std::rt::Env;
 use std::test::Fail;
+use std::{env, str};
 
 // How many bytes of replies a test may have.
 pub(crate) const ROOM: usize = 65_536;
@@ -126,55 +126,38 @@ fn ends_so(
     number(status) == ending.ends && sink.bytes() == ending.written && is_left(store, ending.left)
 }
 
-// Nothing where it holds, else the failure of what is shown.
-pub(crate) fn told(holds: bool, shows: &str) -> Result<(), Fail> {
-    if holds {
-        return Ok(());
+// Nothing where no row is wrong, else the failure of this row.
+pub(crate) fn told(wrong: Option<&[u8]>) -> Result<(), Fail> {
+    match wrong {
+        None => Ok(()),
+        Some(row) => Err(Fail::new(str::from_utf8(row).unwrap_or("no text"))),
     }
-    Err(Fail::new(shows))
 }
 
-// Whether a run by these words, with bytes that come and go in pieces, ends so.
-fn is_run(
-    alloc: Global,
-    words: Words,
-    script: &[u8],
-    piece: usize,
-    failing: Failing,
-    ending: Ending,
-) -> Result<bool, Fail>
-    requires { 0 < piece }
-{
-    let mut source = MemSource::new(alloc, script, piece, failing.reads)?;
-    let mut sink = MemSink::new(alloc, ROOM, piece, failing.writes)?;
-    let mut store = Store::empty();
-    Ok(ends_so(alloc, words, &mut store, &mut source, &mut sink, ending))
-}
-
-// A run by these words, with bytes that come and go in pieces, ends so: else what it shows is told.
+// Whether a run by these words, with bytes that come and go in pieces, ends so. Where memory is short, it does not.
 pub(crate) fn ends(
     alloc: Global,
-    shows: &str,
     words: Words,
     script: &[u8],
     piece: usize,
     failing: Failing,
     ending: Ending,
-) -> Result<(), Fail>
+) -> bool
     requires { 0 < piece }
 {
-    told(is_run(alloc, words, script, piece, failing, ending)?, shows)
+    if let Ok(mut source) = MemSource::new(alloc, script, piece, failing.reads)
+        && let Ok(mut sink) = MemSink::new(alloc, ROOM, piece, failing.writes)
+    {
+        let mut store = Store::empty();
+        ends_so(alloc, words, &mut store, &mut source, &mut sink, ending)
+    } else {
+        false
+    }
 }
 
-// A script is read to its end and answered so by these words, in pieces of each size, and leaves this.
-pub(crate) fn is_answered(
-    alloc: Global,
-    shows: &str,
-    words: Words,
-    script: &[u8],
-    ending: Ending,
-) -> Result<(), Fail> {
-    ends(alloc, shows, words, script, 1, NONE, ending)?;
-    ends(alloc, shows, words, script, 7, NONE, ending)?;
-    ends(alloc, shows, words, script, 8192, NONE, ending)
+// Whether a script is read to its end and answered so by these words, in pieces of each size, and leaves this.
+pub(crate) fn is_answered(alloc: Global, words: Words, script: &[u8], ending: Ending) -> bool {
+    ends(alloc, words, script, 1, NONE, ending)
+        && ends(alloc, words, script, 7, NONE, ending)
+        && ends(alloc, words, script, 8192, NONE, ending)
 }

@@ -1,18 +1,5 @@
-// Scripts over an arena of the fewest words, and the limits of a reader.
-ghost use Rattle.std.specs.Prelude.{◌≡◌};
-ghost use Rattle.line_io.specs.Reader.{limits_of};
-ghost use Rattle.engine.specs.Serving.{IsNew};
-
-use crate::runs::{Left, ROOM, Words, told};
-use crate::tables::are_answered;
-use engine::serve;
-use line_io::{Limits, LineReader, MemSink, MemSource};
-use machine_run::{Status, first_machine};
-use std::alloc::Global;
-use std::test::Fail;
-
 // Scripts over an arena of 4,096 words, after which there is no name.
-const ROWS: &[u8] = b"
+pub(crate) const ROWS: &[u8] = b"
 ~ lists of 700 ones ask for 1,400 words: a second one is too many as long as the first lives
 1 set 0 [1^,1^699^]
 1 set 1 [1^,1^699^]
@@ -151,7 +138,7 @@ ok
 ";
 
 // The same with one name after them.
-const NAMING: &[u8] = b"
+pub(crate) const NAMING: &[u8] = b"
 ~ maps that are refused for their keys bring no name
 1 set 1 #{!a?=>1,!1!10!!b?=>1,!1!10!!c?=>1,!1!10!!d?=>1,!1!6!d6=>1}
 ^1 set 0 {$0,$0}
@@ -165,57 +152,3 @@ error mapsize
 ok
 z1
 ";
-
-// The words that ask for such an arena.
-const SMALL: Words<'static> = Words::Texts(&["beam_heap", "--arena", "4096"]);
-
-#[test]
-fn small_arenas_refuse_by_what_lives(rt: HostRuntime) -> Result<(), Fail> {
-    are_answered(rt.alloc(), SMALL, ROWS, 6, Left::Named(0))
-}
-
-#[test]
-fn refused_lines_of_small_arenas_bring_no_name(rt: HostRuntime) -> Result<(), Fail> {
-    are_answered(rt.alloc(), SMALL, NAMING, 1, Left::Named(1))
-}
-
-// A reader of two lines at most.
-const TWO_LINES: Limits = Limits {
-    lines: 2,
-    bytes: 100,
-};
-
-// Three lines, and the replies to the first two.
-const THREE_LINES: &[u8] = b"1 print 0\n1 print 0\n1 print 0\n";
-
-const TWO_REPLIES: &[u8] = b"[]\n[]\n";
-
-// Whether a reader of two lines has two replies, and no more.
-fn two_are_answered(
-    alloc: Global,
-    reader: &mut LineReader,
-    source: &mut MemSource,
-    sink: &mut MemSink,
-) -> bool
-    requires new { IsNew reader.old }
-    requires two { (limits_of reader.old).lines ≡ 2 }
-{
-    let Some(mut machine) = first_machine(alloc, 4096) else {
-        return false;
-    };
-    let status = serve(&mut machine, reader, source, sink);
-    matches!(status, Status::TooMuch) && sink.bytes() == TWO_REPLIES
-}
-
-// Whether of three lines the two that such a reader allows are answered.
-fn two_of_three_are_answered(alloc: Global) -> Result<bool, Fail> {
-    let mut reader = LineReader::new(alloc, TWO_LINES)?;
-    let mut source = MemSource::new(alloc, THREE_LINES, 7, &[])?;
-    let mut sink = MemSink::new(alloc, ROOM, 7, &[])?;
-    Ok(two_are_answered(alloc, &mut reader, &mut source, &mut sink))
-}
-
-#[test]
-fn more_lines_than_are_allowed_are_too_much(rt: HostRuntime) -> Result<(), Fail> {
-    told(two_of_three_are_answered(rt.alloc())?, "three lines")
-}

@@ -2,9 +2,8 @@
 use crate::cuts::cut;
 use crate::repeats::whole_of;
 use crate::runs::{Left, NAME_ALONE, Words, done, is_answered, told};
-use crate::{binaries, messages, rows, verbs};
+use crate::{binaries, grown, messages, rows, small, verbs};
 use std::alloc::Global;
-use std::str;
 use std::test::Fail;
 
 // What a script shows, the script, and its replies.
@@ -30,61 +29,76 @@ fn first_row(table: &'static [u8]) -> (Row, &'static [u8]) {
     (row, others)
 }
 
-// A script is answered by these replies, in pieces of each size, and leaves this.
-fn is_row_answered(
-    alloc: Global,
-    shows: &str,
-    words: Words,
-    row: Row,
-    left: Left,
-) -> Result<(), Fail> {
-    let script = whole_of(alloc, row.script)?;
-    let replies = whole_of(alloc, row.replies)?;
-    is_answered(
-        alloc,
-        shows,
-        words,
-        script.as_slice(),
-        done(replies.as_slice(), left),
-    )
+// The words that ask for an arena of the fewest words.
+const SMALL: Words<'static> = Words::Texts(&["beam_heap", "--arena", "4096"]);
+
+// Whether a script is answered by these replies, in pieces of each size, and leaves this.
+fn is_row_answered(alloc: Global, words: Words, row: Row, left: Left) -> bool {
+    let script = whole_of(alloc, row.script);
+    let replies = whole_of(alloc, row.replies);
+    let ending = done(replies.bytes.as_slice(), left);
+    !script.short && !replies.short && is_answered(alloc, words, script.bytes.as_slice(), ending)
 }
 
-// Each row of a table is answered as it says by these words, and leaves this; the table has so many rows. Each row has a name
-// that is a text, and behind the last there is none.
-pub(crate) fn are_answered(
+// The name of the first row of a table that is answered otherwise by these words, or leaves something else; the table has so many
+// rows, each with a name, and behind the last there is none.
+fn wrong_row(
     alloc: Global,
     words: Words,
     table: &'static [u8],
     rows: usize,
     left: Left,
-) -> Result<(), Fail> {
+) -> Option<&'static [u8]> {
     let (_, mut rest) = cut(table, b'~');
     for _ in 0..rows {
         let (row, others) = first_row(rest);
-        let shows = str::from_utf8(row.name).unwrap_or("");
-        told(!shows.is_empty(), "no row, or one without a name")?;
-        is_row_answered(alloc, shows, words, row, left)?;
+        if row.name.is_empty() || !is_row_answered(alloc, words, row, left) {
+            return Some(row.name);
+        }
         rest = others;
     }
-    told(rest.is_empty(), "the table has more rows")
+    if rest.is_empty() {
+        return None;
+    }
+    Some(b"the table has more rows")
 }
 
 #[test]
 fn short_scripts_are_answered(rt: HostRuntime) -> Result<(), Fail> {
-    are_answered(rt.alloc(), NAME_ALONE, rows::ROWS, 25, Left::Machine)
+    told(wrong_row(rt.alloc(), NAME_ALONE, rows::ROWS, 25, Left::Machine))
 }
 
 #[test]
 fn verbs_on_terms_are_answered(rt: HostRuntime) -> Result<(), Fail> {
-    are_answered(rt.alloc(), NAME_ALONE, verbs::ROWS, 14, Left::Machine)
+    told(wrong_row(rt.alloc(), NAME_ALONE, verbs::ROWS, 14, Left::Machine))
 }
 
 #[test]
 fn binaries_and_funs_are_answered(rt: HostRuntime) -> Result<(), Fail> {
-    are_answered(rt.alloc(), NAME_ALONE, binaries::ROWS, 14, Left::Machine)
+    told(wrong_row(rt.alloc(), NAME_ALONE, binaries::ROWS, 14, Left::Machine))
 }
 
 #[test]
 fn messages_are_answered(rt: HostRuntime) -> Result<(), Fail> {
-    are_answered(rt.alloc(), NAME_ALONE, messages::ROWS, 13, Left::Machine)
+    told(wrong_row(rt.alloc(), NAME_ALONE, messages::ROWS, 13, Left::Machine))
+}
+
+#[test]
+fn limits_are_kept(rt: HostRuntime) -> Result<(), Fail> {
+    told(wrong_row(rt.alloc(), NAME_ALONE, grown::ROWS, 6, Left::Machine))
+}
+
+#[test]
+fn terms_beyond_the_walk_limit_are_refused(rt: HostRuntime) -> Result<(), Fail> {
+    told(wrong_row(rt.alloc(), NAME_ALONE, grown::BEYOND, 2, Left::Machine))
+}
+
+#[test]
+fn small_arenas_refuse_by_what_lives(rt: HostRuntime) -> Result<(), Fail> {
+    told(wrong_row(rt.alloc(), SMALL, small::ROWS, 6, Left::Named(0)))
+}
+
+#[test]
+fn refused_lines_of_small_arenas_bring_no_name(rt: HostRuntime) -> Result<(), Fail> {
+    told(wrong_row(rt.alloc(), SMALL, small::NAMING, 1, Left::Named(1)))
 }

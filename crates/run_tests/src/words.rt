@@ -1,5 +1,7 @@
 // Command lines, and what the program makes of them.
-use crate::runs::{Ending, Left, NONE, Words, done, ends};
+use crate::cuts::cut;
+use crate::runs::{Ending, Left, NONE, Words, done, ends, told};
+use arrayvec::ArrayVec;
 use machine_run::{Status, number};
 use std::alloc::Global;
 use std::test::Fail;
@@ -9,35 +11,45 @@ const SCRIPT: &[u8] = b"1 print 0\n";
 
 const REPLY: &[u8] = b"[]\n";
 
-// Words after the program's name, and whether they are taken.
-const ROWS: [(&[&str], bool); 22] = [
-    (&["beam_heap"], true),
-    (&[], true),
-    (&["beam_heap", "--arena", "4096"], true),
-    (&["beam_heap", "--arena", "0004096"], true),
-    (&["beam_heap", "--arena", "16777216"], true),
-    (&["beam_heap", "--space", "one"], true),
-    (&["beam_heap", "--space=one", "--arena=4098"], true),
-    (&["beam_heap", "--arena", "4097"], false),
-    (&["beam_heap", "--arena", "4094"], false),
-    (&["beam_heap", "--arena", "16777218"], false),
-    (&["beam_heap", "--arena", "+4096"], false),
-    (&["beam_heap", "--arena", ""], false),
-    (&["beam_heap", "--arena", "4096", "--arena", "4096"], false),
-    (&["beam_heap", "--arena"], false),
-    (&["beam_heap", "--space", "two"], false),
-    (&["beam_heap", "--space", "own"], false),
-    (&["beam_heap", "--gen", "18446744073709551616"], false),
-    (&["beam_heap", "--gen", "-1"], false),
-    (&["beam_heap", "--gen", "1", "--gen", "1"], false),
-    (&["beam_heap", "--help"], false),
-    (&["beam_heap", "script"], false),
-    (&["beam_heap", ""], false),
-];
+// Words as the system gives them, which need be no text, a mark `|` behind each: in the rows with a `+` before them they are taken,
+// in those with a `-` they are a faulty command line.
+const ROWS: &[u8] = b"+beam_heap|
++
++beam_heap|--arena|4096|
++|--arena|4096|
++beam_heap|--arena|0004096|
++beam_heap|--arena|16777216|
++beam_heap|--space|one|
++beam_heap|--space=one|--arena=4098|
+-beam_heap|--arena|4097|
+-beam_heap|--arena|4094|
+-beam_heap|--arena|16777218|
+-beam_heap|--arena|+4096|
+-beam_heap|--arena||
+-beam_heap|--arena|4096|--arena|4096|
+-beam_heap|--arena|
+-beam_heap|--arena|4096||
+-beam_heap|--arena|4\xff96|
+-beam_heap|--space|two|
+-beam_heap|--space|own|
+-beam_heap|--space|one|--help|
+-beam_heap|--gen|18446744073709551616|
+-beam_heap|--gen|-1|
+-beam_heap|--gen|1|--gen|1|
+-beam_heap|--help|
+-beam_heap|script|
+-beam_heap||
+-\xff|
+";
 
-// How a run by words must end, by whether they are taken.
-fn ending_of(taken: bool) -> Ending<'static> {
-    if taken {
+// How many rows there are, and how many words a row has at most.
+const COUNT: usize = 27;
+
+const MOST: usize = 5;
+
+// How a run by the words of a row must end.
+fn ending_of(is_taken: bool) -> Ending<'static> {
+    if is_taken {
         return done(REPLY, Left::Machine);
     }
     Ending {
@@ -47,24 +59,55 @@ fn ending_of(taken: bool) -> Ending<'static> {
     }
 }
 
-// A run by words ends so.
-fn are_taken(alloc: Global, words: &[&str], taken: bool) -> Result<(), Fail> {
-    let last = words.last().copied().unwrap_or("no word");
+// The words of a row.
+fn words_of(row: &[u8]) -> ArrayVec<&[u8], MOST> {
+    let mut words = ArrayVec::new();
+    let mut rest = row;
+    for _ in 0..row.len() {
+        if rest.is_empty() {
+            return words;
+        }
+        let (word, others) = cut(rest, b'|');
+        let _ = words.try_push(word);
+        rest = others;
+    }
+    words
+}
+
+// Whether a run by the words of a row ends as it says.
+fn is_row_taken(alloc: Global, row: &[u8]) -> bool {
+    let Some((mark, words)) = row.split_first() else {
+        return false;
+    };
+    let words = words_of(words);
+    let ending = ending_of(*mark == b'+');
     ends(
         alloc,
-        last,
-        Words::Texts(words),
+        Words::Bytes(words.as_slice()),
         SCRIPT,
         7,
         NONE,
-        ending_of(taken),
+        ending,
     )
+}
+
+// The first row that is taken otherwise; there are so many, and behind the last there is none.
+fn wrong_row(alloc: Global) -> Option<&'static [u8]> {
+    let mut rest = ROWS;
+    for _ in 0..COUNT {
+        let (row, others) = cut(rest, b'\n');
+        if !is_row_taken(alloc, row) {
+            return Some(row);
+        }
+        rest = others;
+    }
+    if rest.is_empty() {
+        return None;
+    }
+    Some(b"there are more rows")
 }
 
 #[test]
 fn words_are_options_or_usage(rt: HostRuntime) -> Result<(), Fail> {
-    for (words, taken) in &ROWS {
-        are_taken(rt.alloc(), words, *taken)?;
-    }
-    Ok(())
+    told(wrong_row(rt.alloc()))
 }
