@@ -77,7 +77,8 @@ fn put_compared<S: Space, K: Sink>(
     requires can { CanReply S.sits S.named space.now names.now (Reply.Told seat (compares equal a b)) }
     ensures { (s : State) → S.stands space.now s
         → WritesTold K.wrote K.faults sink.old sink.new
-        (replies_text (reply_lines (Reply.Told seat (compares equal a b)) (record { state = s; names = names.now; text = S.text space.now names.now }))) result }
+        (replies_text
+        (reply_lines (Reply.Told seat (compares equal a b)) (record { state = s; names = names.now; text = S.text space.now names.now }))) result }
 {
     match space.compare(names, seat, a, b) {
         Ok(order) => put_two(sink, compared_word(equal, order), b"\n"),
