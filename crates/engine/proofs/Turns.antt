@@ -13,7 +13,7 @@ use Rattle.line_io.specs.declared.reader.LineGot.TheVariants.{End, Fault, TooMuc
 use Rattle.line_io.proofs.Growth.{Grew-nil, Grew-append}
 use Rattle.line_io.proofs.Loop.{Gave-nil, Gave-append}
 use Rattle.script_grammar.specs.Names.{Parsed}
-use Rattle.plain_machine.specs.State.{State, first_state}
+use Rattle.plain_machine.specs.State.{State}
 use Rattle.plain_machine.specs.Run.{Run, LineStep, replies_text}
 use Rattle.plain_machine.proofs.ByLine.Runs.{run-append, run-one, run-none, text-append}
 use Rattle.isolation.proofs.Alone.{isolates}

@@ -1,46 +1,20 @@
-// Numbers, ends of lines and the texts of refusals.
-ghost use Rattle.std.specs.Prelude.{◌≡◌, ℕ, ◌≤◌, ◌++◌, ◌∷◌, [], List, OnErr, OnOk, codes, decimal};
-ghost use Rattle.line_io.specs.Faults.{Rose};
+// Numbers in lines, and the texts of refusals.
+ghost use Rattle.std.specs.Prelude.{◌≡◌, ◌++◌, decimal};
 ghost use Rattle.plain_machine.specs.Run.{refusal_text};
-ghost use Rattle.line_io.specs.Sink.{Writes};
+ghost use Rattle.line_io.specs.Sink.{WritesTold};
 ghost use Rattle.engine.specs.Writing.{refusal_front, end_of_line};
 
 use itoa::Buffer;
-use line_io::{Sink, SinkFault, put_all};
+use line_io::{Sink, SinkFault};
 use plain_machine::Refusal;
-
-/// Writes a number in decimal.
-pub(crate) fn put_number<K: Sink>(n: u64, sink: &mut K) -> Result<(), SinkFault>
-    ensures writes { Writes K.wrote sink.old sink.new result (decimal n) }
-    ensures later { K.faults sink.old ≤ K.faults sink.new }
-    ensures rose { OnErr result (Rose (K.faults sink.old) (K.faults sink.new)) }
-    ensures told { OnOk result (K.faults sink.new ≡ K.faults sink.old) }
-{
-    let mut buffer = Buffer::new();
-    put_all(sink, buffer.format(n).as_bytes())
-}
-
-/// Writes a text and the end of its line.
-pub(crate) fn put_line<K: Sink>(text: &[u8], sink: &mut K) -> Result<(), SinkFault>
-    ensures writes { Writes K.wrote sink.old sink.new result (end_of_line text.now) }
-    ensures later { K.faults sink.old ≤ K.faults sink.new }
-    ensures rose { OnErr result (Rose (K.faults sink.old) (K.faults sink.new)) }
-    ensures told { OnOk result (K.faults sink.new ≡ K.faults sink.old) }
-{
-    put_all(sink, text)?;
-    put_all(sink, b"\n")
-}
+use text_parts::{put, put_three};
 
 /// Writes a text, a number in decimal and the end of their line.
 pub(crate) fn put_counted<K: Sink>(text: &[u8], n: u64, sink: &mut K) -> Result<(), SinkFault>
-    ensures writes { Writes K.wrote sink.old sink.new result (end_of_line (text.now ++ decimal n)) }
-    ensures later { K.faults sink.old ≤ K.faults sink.new }
-    ensures rose { OnErr result (Rose (K.faults sink.old) (K.faults sink.new)) }
-    ensures told { OnOk result (K.faults sink.new ≡ K.faults sink.old) }
+    ensures { WritesTold K.wrote K.faults sink.old sink.new (end_of_line (text.now ++ decimal n)) result }
 {
-    put_all(sink, text)?;
-    put_number(n, sink)?;
-    put_all(sink, b"\n")
+    let mut number = Buffer::new();
+    put_three(sink, text, number.format(n).as_bytes(), b"\n")
 }
 
 /// The line that answers a refusal, up to its number where it has one.
@@ -65,14 +39,11 @@ fn front_of(refusal: Refusal) -> &'static [u8]
 
 /// Writes the line that answers a refusal. One without a number takes one write.
 pub(crate) fn put_refusal<K: Sink>(refusal: Refusal, sink: &mut K) -> Result<(), SinkFault>
-    ensures writes { Writes K.wrote sink.old sink.new result (end_of_line (refusal_text refusal)) }
-    ensures later { K.faults sink.old ≤ K.faults sink.new }
-    ensures rose { OnErr result (Rose (K.faults sink.old) (K.faults sink.new)) }
-    ensures told { OnOk result (K.faults sink.new ≡ K.faults sink.old) }
+    ensures { WritesTold K.wrote K.faults sink.old sink.new (end_of_line (refusal_text refusal)) result }
 {
     let front = front_of(refusal);
     if let Refusal::NoSpace(n) = refusal {
         return put_counted(front, n, sink);
     }
-    put_all(sink, front)
+    put(sink, front)
 }

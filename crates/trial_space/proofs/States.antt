@@ -15,6 +15,8 @@ use Rattle.plain_term.specs.Tree.Tree.{Pid, Fun}
 use Rattle.plain_term.specs.Beyond.{is_beyond}
 use Rattle.plain_term.specs.Measures.{flat, nodes}
 use Rattle.plain_term.specs.Order.{order}
+use Rattle.plain_term.specs.Text.{text}
+use Rattle.line_io.specs.Sink.{Grew, GrewInPart}
 use Rattle.script_grammar.specs.declared.limits.TheConstants.{LEVELS}
 use Rattle.script_grammar.specs.declared.command.Measure.{Measure}
 use Rattle.script_grammar.specs.declared.command.Pick.{Pick}
@@ -41,7 +43,8 @@ use Rattle.plain_machine.specs.Step.{Outcome, step, in_process, by_verb, settled
 use Rattle.plain_machine.specs.Tightness.{grow, receiver, send_words, process_words, build_words, repeat_words, fill_words, ids_in, funs_in, held_trees, living_trees}
 use Rattle.plain_machine.specs.May.{gets_to_space}
 use Rattle.space_api.specs.declared.space.Seat.{Seat}
-use Rattle.space_api.specs.Calls.{Becomes, Follows, Passes, Tells, HasEnv, IsWrittenTerm, said, one_term}
+use Rattle.space_api.specs.declared.space.Stop.TheVariants.{Fault}
+use Rattle.space_api.specs.Calls.{Becomes, Follows, Passes, Prints, Tells, HasEnv, IsWrittenTerm, said, one_term}
 use Rattle.trial_space.specs.Items.{TrialStands, TrialSits, alone, put_item, weight, one_process, processes_of}
 use Rattle.trial_space.proofs.Weights.{weight-term, held-alone, alone-is, no-flaw}
 use Rattle.trial_space.proofs.Alone.{near, no-part, no-pairs, no-ids, no-funs, one-node}
@@ -316,6 +319,24 @@ module _ (alive : Bool) (items : List Item) (s : State) (seat : Seat) (h : Trial
       let within : (is_beyond s.shared (alone x) || is_beyond s.shared (alone y)) ≡ false = rw (near s.shared x, near s.shared y) refl in
       at-process T p v (subst T (sym is) (subst P (sym (in-register a.0 ∙ ap alone (sym first))) (subst Q (sym (in-register b.0 ∙ ap alone (sym second))) (subst R (sym within)
       (ap (λ z. tell (order names z (alone x) (alone y))) h.shared ∙ ap tell (sym e))))))
+
+  -- `print`: what holds of the outcome that has the item's text is told of the step.
+  by-text : (P : Outcome → Type 0) (m : Reg) (terms : Terms) (names : List (List ℕ)) (x : Item) → x ≡ get_or items m.0 item.Nil → P (tells s (Ok (text names [] (alone x))))
+      → P (step s (said (OfProcess seat.pid (verb.Print m)) terms names))
+  by-text P m terms names x is k =
+      let p : Parsed = said (OfProcess seat.pid (verb.Print m)) terms names in
+      let Q : Tree → Type 0 = λ t. P (tells s (unless_beyond (is_beyond s.shared t) (text names s.shared t))) in
+      let R : Bool → Type 0 = λ b. P (tells s (unless_beyond b (text names s.shared (alone x)))) in
+      let V : List (List ℕ) → Type 0 = λ z. P (tells s (Ok (text names z (alone x)))) in
+      at-process P p (verb.Print m) (subst Q (sym (in-register m.0 ∙ ap alone (sym is))) (subst R (sym (near s.shared x)) (subst V (sym h.shared) k)))
+
+  pub printed : {K : Type 0} (m : Reg) (terms : Terms) (names : List (List ℕ)) (wrote : K → List ℕ → Type 0) (old new : K) (x : Item) → x ≡ get_or items m.0 item.Nil
+      → Grew wrote old new (text names [] (alone x)) → Prints {A = Unit {0}} (step s (said (OfProcess seat.pid (verb.Print m)) terms names)) wrote old new (Ok tt)
+  printed m terms names wrote old new x is g = by-text (λ o. Prints {A = Unit {0}} o wrote old new (Ok tt)) m terms names x is g
+
+  pub unprinted : {K : Type 0} (m : Reg) (terms : Terms) (names : List (List ℕ)) (wrote : K → List ℕ → Type 0) (old new : K) (x : Item) → x ≡ get_or items m.0 item.Nil
+      → GrewInPart wrote old new (text names [] (alone x)) → Prints {A = Unit {0}} (step s (said (OfProcess seat.pid (verb.Print m)) terms names)) wrote old new (Err Fault)
+  unprinted m terms names wrote old new x is g = by-text (λ o. Prints {A = Unit {0}} o wrote old new (Err Fault)) m terms names x is g
 
   -- The nodes of a register's tree.
   pub nodes-told : (m : Reg) (q : Process) → process_of seat.pid s ≡ Some q → 1 ≡ nodes s.shared (register m.0 q)

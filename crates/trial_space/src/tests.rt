@@ -1,4 +1,6 @@
 // Scripts served at the trial space.
+ghost use Rattle.std.specs.Prelude.{◌≤◌, length};
+
 use crate::space::TrialSpace;
 use atom_names::AtomNames;
 use engine::{Machine, Status, Stepped, serve, step};
@@ -72,27 +74,61 @@ fn is_done(status: Status) -> bool {
     matches!(status, Status::Done)
 }
 
-// Whether a script is answered by these replies.
-fn serves(alloc: Global, script: &[u8], replies: &[u8]) -> Result<bool, Fail> {
+// Whether a script is served to its end.
+fn serves(
+    machine: &mut Machine<TrialSpace>,
+    alloc: Global,
+    script: &[u8],
+    sink: &mut MemSink,
+) -> bool
+    requires { ⟦<TrialSpace as Space>⟧.named machine.old.space ≤ length machine.old.names }
+{
     let limits = Limits {
         lines: 100,
         bytes: 1000,
     };
-    let mut reader = LineReader::new(alloc, limits)?;
-    let mut source = MemSource::new(alloc, script, 7, &[])?;
+    let Ok(mut reader) = LineReader::new(alloc, limits) else {
+        return false;
+    };
+    let Ok(mut source) = MemSource::new(alloc, script, 7, &[]) else {
+        return false;
+    };
+    is_done(serve(machine, &mut reader, &mut source, sink))
+}
+
+// Whether a line that is done goes on, and one that quits ends the script.
+fn went(set: Stepped, quit: Stepped) -> bool {
+    matches!(set, Stepped::Next) && matches!(quit, Stepped::Quit)
+}
+
+// Whether two lines are done one by one, and leave the process alive.
+fn steps(machine: &mut Machine<TrialSpace>, sink: &mut MemSink) -> bool
+    requires { ⟦<TrialSpace as Space>⟧.named machine.old.space ≤ length machine.old.names }
+{
+    let set = step(machine, b"1 set 5 ok", sink);
+    let quit = step(machine, b"sys quit", sink);
+    let lives = machine.space.find(1).is_some();
+    lives && went(set, quit)
+}
+
+// Whether a new machine is served this script, or else steps two lines, and writes these replies.
+fn answers(alloc: Global, script: Option<&[u8]>, replies: &[u8]) -> Result<bool, Fail> {
     let mut sink = MemSink::new(alloc, 1000, 5, &[])?;
     let code = Code::new(alloc)?;
     let names = AtomNames::new(alloc)?;
     let space = TrialSpace::start();
     let mut machine = Machine { space, names, code };
-    let status = serve(&mut machine, &mut reader, &mut source, &mut sink);
-    Ok(is_done(status) && sink.bytes() == replies)
+    let went = match script {
+        Some(script) => serves(&mut machine, alloc, script, &mut sink),
+        None => steps(&mut machine, &mut sink),
+    };
+    Ok(went && sink.bytes() == replies)
 }
 
 // Each script is, or what it shows is told.
 fn are_served(alloc: Global) -> Result<(), Fail> {
     for case in &CASES {
-        if !serves(alloc, case.script, case.replies)? {
+        if !answers(alloc, Some(case.script), case.replies)? {
             return Err(Fail::new(case.shows));
         }
     }
@@ -104,26 +140,8 @@ fn scripts_are_served_at_a_space_that_is_no_arena(rt: HostRuntime) -> Result<(),
     are_served(rt.alloc())
 }
 
-// Whether a line that is done goes on, and one that quits ends the script.
-fn went(set: Stepped, quit: Stepped) -> bool {
-    matches!(set, Stepped::Next) && matches!(quit, Stepped::Quit)
-}
-
-// Whether two lines are done one by one, and leave the process alive.
-fn steps(alloc: Global) -> Result<bool, Fail> {
-    let mut sink = MemSink::new(alloc, 100, 100, &[])?;
-    let code = Code::new(alloc)?;
-    let names = AtomNames::new(alloc)?;
-    let space = TrialSpace::start();
-    let mut machine = Machine { space, names, code };
-    let set = step(&mut machine, b"1 set 5 ok", &mut sink);
-    let quit = step(&mut machine, b"sys quit", &mut sink);
-    let lives = machine.space.find(1).is_some();
-    Ok(lives && went(set, quit) && sink.bytes() == b"ok\nok\n".as_slice())
-}
-
 #[test]
 fn a_line_is_one_step(rt: HostRuntime) -> Result<(), Fail> {
-    assert!(rt; steps(rt.alloc())?);
+    assert!(rt; answers(rt.alloc(), None, b"ok\nok\n")?);
     Ok(())
 }

@@ -1,4 +1,4 @@
-use Rattle.std.proofs.Common.{arith, refl, sym, subst, ◌∙◌}
+use Rattle.std.proofs.Common.{arith, refl, sym, ◌∙◌}
 use Rattle.std.proofs.lemmas.Bool.{both_ways}
 use Rattle.plain_machine.specs.Step.{is_printing_verb}
 use Rattle.engine.specs.declared.reply.Reply.TheVariants.{Done}

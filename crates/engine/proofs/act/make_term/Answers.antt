@@ -1,4 +1,4 @@
-use Rattle.std.proofs.Common.{refl, arith, subst, length}
+use Rattle.std.proofs.Common.{refl, arith, subst}
 use Rattle.script_grammar.specs.declared.command.Command.TheVariants.{Process}
 use Rattle.script_grammar.specs.declared.command.Verb.TheVariants.{Ref, Own}
 use Rattle.script_grammar.specs.Names.{HasName, HasRegisters}

@@ -7,21 +7,11 @@ pub measure-requires : goal.measure-requires
 measure-requires g c = record { sits = c.requires.can.0; register = c.requires.can.1.registers }
 
 pub returns-in-Ok : goal.returns-in-Ok
-returns-in-Ok g c = record {
-  writes = λ s h.
-      told-line g.K.Sink.wrote c.args.sink.now c.put_counted.new.sink _ (λ m. decimal m.flat) c.in-Ok.measure (decimal c.in-Ok.measure.flat) c.put_counted.result
-      (c.in-Ok.ensures.flat s end c.args.names.now h) refl c.put_counted.ensures.writes;
-  later = c.put_counted.ensures.later;
-  rose = c.put_counted.ensures.rose;
-  told = c.put_counted.ensures.told;
-}
+returns-in-Ok g c = λ s h.
+    told-line g.K.Sink.wrote g.K.Sink.faults c.args.sink.now c.put_counted.new.sink _ (λ m. decimal m.flat) c.in-Ok.measure (decimal c.in-Ok.measure.flat) c.put_counted.result
+    (c.in-Ok.ensures.flat s end c.args.names.now h) refl c.put_counted.ensures
 
 pub returns-in-Err : goal.returns-in-Err
-returns-in-Err g c = record {
-  writes = λ s h.
-      refused-line g.K.Sink.wrote c.args.sink.now c.put_refusal.new.sink _ (λ m. decimal m.flat) c.in-Err.refusal c.put_refusal.result
-      (c.in-Err.ensures.flat s end c.args.names.now h) c.put_refusal.ensures.writes;
-  later = c.put_refusal.ensures.later;
-  rose = c.put_refusal.ensures.rose;
-  told = c.put_refusal.ensures.told;
-}
+returns-in-Err g c = λ s h.
+    refused-line g.K.Sink.wrote g.K.Sink.faults c.args.sink.now c.put_refusal.new.sink _ (λ m. decimal m.flat) c.in-Err.refusal c.put_refusal.result
+    (c.in-Err.ensures.flat s end c.args.names.now h) c.put_refusal.ensures

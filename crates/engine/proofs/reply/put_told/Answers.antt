@@ -1,7 +1,9 @@
 use Rattle.std.proofs.Common.{subst}
 use Rattle.engine.specs.Replies.{CanReply}
 use Rattle.engine.specs.declared.reply.Reply.TheVariants.{Told}
-use Rattle.engine.proofs.Replies.{told-verb}
+use Rattle.script_grammar.specs.Written.Terms.{end}
+use Rattle.engine.proofs.Replies.{told-verb, queue-line, queue-stopped}
+use Rattle.engine.proofs.Writing.{stopped}
 use Rattle.engine.proofs.reply.put_told.Goals as goal
 
 pub put_text-requires : goal.put_text-requires
@@ -9,62 +11,43 @@ put_text-requires g c =
     record { can = subst (λ v. CanReply g.S.Space.sits g.S.Space.named c.args.space.now c.args.names.now (Told c.args.seat v)) c.in-Print.is c.requires.can }
 
 pub returns-in-Print : goal.returns-in-Print
-returns-in-Print g c = record {
-  writes = λ s h. told-verb g.K.Sink.wrote c.args.sink.now c.put_text.new.sink c.put_text.result c.args.seat _ _
-      (record { state = s; names = c.args.names.now; text = g.S.Space.text c.args.space.now c.args.names.now }) c.in-Print.is (c.put_text.ensures.writes s h);
-  later = c.put_text.ensures.later;
-  rose = c.put_text.ensures.rose;
-  told = c.put_text.ensures.told;
-}
+returns-in-Print g c = λ s h. told-verb g.K.Sink.wrote g.K.Sink.faults _ _ c.put_text.result c.args.seat _ _
+    (record { state = s; names = c.args.names.now; text = g.S.Space.text c.args.space.now c.args.names.now }) c.in-Print.is (c.put_text.ensures s h)
 
-pub put_equal-requires : goal.put_equal-requires
-put_equal-requires g c =
+pub put_compared-requires : goal.put_compared-requires
+put_compared-requires g c =
     record { can = subst (λ v. CanReply g.S.Space.sits g.S.Space.named c.args.space.now c.args.names.now (Told c.args.seat v)) c.in-Eq.is c.requires.can }
 
 pub returns-in-Eq : goal.returns-in-Eq
-returns-in-Eq g c = record {
-  writes = λ s h. told-verb g.K.Sink.wrote c.args.sink.now c.put_equal.new.sink c.put_equal.result c.args.seat _ _
-      (record { state = s; names = c.args.names.now; text = g.S.Space.text c.args.space.now c.args.names.now }) c.in-Eq.is (c.put_equal.ensures.writes s h);
-  later = c.put_equal.ensures.later;
-  rose = c.put_equal.ensures.rose;
-  told = c.put_equal.ensures.told;
-}
+returns-in-Eq g c = λ s h. told-verb g.K.Sink.wrote g.K.Sink.faults _ _ c.put_compared.result c.args.seat _ _
+    (record { state = s; names = c.args.names.now; text = g.S.Space.text c.args.space.now c.args.names.now }) c.in-Eq.is (c.put_compared.ensures s h)
 
-pub put_order-requires : goal.put_order-requires
-put_order-requires g c =
+pub put_compared-requires-in-Cmp : goal.put_compared-requires-in-Cmp
+put_compared-requires-in-Cmp g c =
     record { can = subst (λ v. CanReply g.S.Space.sits g.S.Space.named c.args.space.now c.args.names.now (Told c.args.seat v)) c.in-Cmp.is c.requires.can }
 
 pub returns-in-Cmp : goal.returns-in-Cmp
-returns-in-Cmp g c = record {
-  writes = λ s h. told-verb g.K.Sink.wrote c.args.sink.now c.put_order.new.sink c.put_order.result c.args.seat _ _
-      (record { state = s; names = c.args.names.now; text = g.S.Space.text c.args.space.now c.args.names.now }) c.in-Cmp.is (c.put_order.ensures.writes s h);
-  later = c.put_order.ensures.later;
-  rose = c.put_order.ensures.rose;
-  told = c.put_order.ensures.told;
-}
+returns-in-Cmp g c = λ s h. told-verb g.K.Sink.wrote g.K.Sink.faults _ _ c.put_compared-in-Cmp.result c.args.seat _ _
+    (record { state = s; names = c.args.names.now; text = g.S.Space.text c.args.space.now c.args.names.now }) c.in-Cmp.is (c.put_compared-in-Cmp.ensures s h)
 
 pub put_flat-requires : goal.put_flat-requires
 put_flat-requires g c =
     record { can = subst (λ v. CanReply g.S.Space.sits g.S.Space.named c.args.space.now c.args.names.now (Told c.args.seat v)) c.in-Flat.is c.requires.can }
 
 pub returns-in-Flat : goal.returns-in-Flat
-returns-in-Flat g c = record {
-  writes = λ s h. told-verb g.K.Sink.wrote c.args.sink.now c.put_flat.new.sink c.put_flat.result c.args.seat _ _
-      (record { state = s; names = c.args.names.now; text = g.S.Space.text c.args.space.now c.args.names.now }) c.in-Flat.is (c.put_flat.ensures.writes s h);
-  later = c.put_flat.ensures.later;
-  rose = c.put_flat.ensures.rose;
-  told = c.put_flat.ensures.told;
-}
+returns-in-Flat g c = λ s h. told-verb g.K.Sink.wrote g.K.Sink.faults _ _ c.put_flat.result c.args.seat _ _
+    (record { state = s; names = c.args.names.now; text = g.S.Space.text c.args.space.now c.args.names.now }) c.in-Flat.is (c.put_flat.ensures s h)
 
-pub put_queue-requires : goal.put_queue-requires
-put_queue-requires g c =
-    record { can = subst (λ v. CanReply g.S.Space.sits g.S.Space.named c.args.space.now c.args.names.now (Told c.args.seat v)) c.in-Queue.is c.requires.can }
+pub returns-in_err-queue-in-Queue : goal.returns-in_err-queue-in-Queue
+returns-in_err-queue-in-Queue g c = λ s h.
+    let e = c.in_err-queue-in-Queue.ensures in
+    told-verb g.K.Sink.wrote g.K.Sink.faults _ _ c.from_residual.result c.args.seat _ _
+    (record { state = s; names = c.args.names.now; text = g.S.Space.text c.args.space.now c.args.names.now }) c.in-Queue.is
+    (stopped g.K.Sink.wrote g.K.Sink.faults _ _ _ _ (c.from_residual.ensures.0) (queue-stopped _ _ g.K.Sink.wrote c.args.sink.now c.queue.new.sink _ _ (e.writes s end h)) e.later e.rose)
 
-pub returns-in-Queue : goal.returns-in-Queue
-returns-in-Queue g c = record {
-  writes = λ s h. told-verb g.K.Sink.wrote c.args.sink.now c.put_queue.new.sink c.put_queue.result c.args.seat _ _
-      (record { state = s; names = c.args.names.now; text = g.S.Space.text c.args.space.now c.args.names.now }) c.in-Queue.is (c.put_queue.ensures.writes s h);
-  later = c.put_queue.ensures.later;
-  rose = c.put_queue.ensures.rose;
-  told = c.put_queue.ensures.told;
-}
+pub returns-in_ok-queue-in-Queue : goal.returns-in_ok-queue-in-Queue
+returns-in_ok-queue-in-Queue g c = λ s h.
+    told-verb g.K.Sink.wrote g.K.Sink.faults _ _ c.put.result c.args.seat _ _
+    (record { state = s; names = c.args.names.now; text = g.S.Space.text c.args.space.now c.args.names.now }) c.in-Queue.is
+    (queue-line _ g.K.Sink.wrote g.K.Sink.faults c.args.sink.now c.queue.new.sink c.put.new.sink _ c.in_ok-queue-in-Queue.field-0 c.put.result (c.in_ok-queue-in-Queue.ensures.writes s end h)
+    c.in_ok-queue-in-Queue.ensures.told c.put.ensures)

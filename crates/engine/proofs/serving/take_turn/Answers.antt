@@ -1,6 +1,6 @@
 use Rattle.std.proofs.Common.{sym, ap, refl, arith, [], ◌∷◌}
 use Rattle.line_io.specs.Lines.{text, long}
-use Rattle.line_io.specs.declared.reader.LineGot.TheVariants.{Line as GotLine, Long as GotLong, End, Fault, TooMuch}
+use Rattle.line_io.specs.declared.reader.LineGot.TheVariants.{Line as GotLine, Long as GotLong, End, TooMuch}
 use Rattle.line_io.specs.Reader.{lines_in}
 use Rattle.engine.proofs.Turns.{turn-line, turn-end, turn-too-much, turn-fault, told-after, is-no-fault, rose-now}
 use Rattle.engine.proofs.serving.take_turn.Goals as goal
