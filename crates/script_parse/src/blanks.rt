@@ -27,10 +27,9 @@ pub(crate) fn skip(line: &[u8]) -> &[u8]
     ensures shorter { length result.now ≤ length line.now }
 {
     let mut rest = line;
-    while let Some((b, after)) = first(rest) {
-        if !blank(b) {
-            return rest;
-        }
+    while let Some((b, after)) = first(rest)
+        && blank(b)
+    {
         rest = after;
     }
     rest

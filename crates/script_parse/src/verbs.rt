@@ -213,7 +213,7 @@ fn slot_body(line: &[u8], out: &mut Output) -> Option<Verb>
 }
 
 /// The row of a verb of a process whose operands are registers and numbers alone.
-fn numerics(word: Word) -> Option<&'static [Numeric]>
+fn numeric_row(word: Word) -> Option<&'static [Numeric]>
     ensures { MatchOption result (takes_numbers word ≡ false) (λ ks. (takes_numbers word ≡ true) × (map kind_of ks.now ≡ kinds_of word)) }
 {
     match word {
@@ -272,7 +272,7 @@ fn made(word: Word, n: (u64, u64, u64, u64)) -> Verb
 fn numeric_verb(word: Word, line: &[u8]) -> Option<Verb>
     ensures { (o : Out) → MatchOption result (numbers_run word line.now o ≡ None) (λ v. numbers_run word line.now o ≡ Some (v, o)) }
 {
-    if let Some(kinds) = numerics(word)
+    if let Some(kinds) = numeric_row(word)
         && let Some(n) = numbers(kinds, line)
     {
         return Some(made(word, n));
