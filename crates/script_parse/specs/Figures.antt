@@ -1,5 +1,5 @@
 -- The limits of items and numbers in figures: a constant that is cited by its name is pinned here.
-use Rattle.std.specs.Prelude.{ℕ, ◌≡◌, ◌+◌, ◌^◌, refl}
+use Rattle.std.specs.Prelude.{◌≡◌, ◌+◌, ◌^◌, refl}
 use Rattle.script_parse.specs.declared.buffer.TheConstants.{MOST_ITEMS}
 use Rattle.script_parse.specs.declared.numbers.TheConstants.{GREATEST_BYTE, WIDEST}
 

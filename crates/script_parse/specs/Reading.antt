@@ -23,6 +23,7 @@ use Rattle.script_grammar.specs.declared.command.Command.{Command}
 use Rattle.script_grammar.specs.declared.command.Command.TheVariants as command
 use Rattle.script_grammar.specs.declared.command.Verb.{Verb}
 use Rattle.script_grammar.specs.declared.command.SysVerb.{SysVerb}
+use Rattle.plain_term.specs.declared.item.Item.{Item}
 use Rattle.plain_term.specs.declared.item.Item.TheVariants as item
 use Rattle.script_grammar.specs.Written.{Term}
 use Rattle.script_grammar.specs.Written.Term.{Int, Atom, Pid, Held}
@@ -108,6 +109,13 @@ leaf_at (b ∷ bytes) = if nat_eq b 60 then then_read (pid_at bytes) (λ r. Some
     (if nat_eq b 36 then then_read (number_at LAST_REGISTER bytes) (λ r. Some (Held (r.0), r.1)) else
     (if is_small_letter b then then_read (atom_at (b ∷ bytes)) (λ r. Some (Atom (r.0), r.1)) else
     then_read (integer_at (b ∷ bytes)) (λ r. Some (Int (r.0), r.1))))
+
+-- One that is no atom, as its item.
+abbrev pub item_at : List ℕ → Option (Item × List ℕ)
+item_at [] = None
+item_at (b ∷ bytes) = if nat_eq b 60 then then_read (pid_at bytes) (λ r. Some (item.Pid (r.0), r.1)) else
+    (if nat_eq b 36 then then_read (number_at LAST_REGISTER bytes) (λ r. Some (item.Held (r.0), r.1)) else
+    then_read (integer_at (b ∷ bytes)) (λ r. Some (item.Int (r.0), r.1)))
 
 -- It goes last.
 abbrev pub leaf_run : List ℕ → Out → Option (List ℕ × Out)

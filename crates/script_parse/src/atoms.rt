@@ -9,7 +9,7 @@ use crate::blanks::first;
 use atom_names::LONGEST_NAME;
 
 /// A letter from a to z.
-pub(crate) fn small_letter(b: u8) -> bool
+fn small_letter(b: u8) -> bool
     ensures { result ≡ is_small_letter b }
 {
     b >= b'a' && b <= b'z'
@@ -27,7 +27,7 @@ fn name_byte(b: u8) -> bool
 }
 
 /// How many bytes of names stand at the front.
-pub(crate) fn name_len(line: &[u8]) -> usize
+fn name_len(line: &[u8]) -> usize
     ensures value { result ≡ prefix_len is_name_byte line.now }
     ensures within { result ≤ length line.now }
 {
@@ -45,13 +45,13 @@ pub(crate) fn atom(line: &[u8]) -> Option<(&[u8], &[u8])>
     ensures sized { MatchOption result (Unit {0}) (λ r. (1 ≤ length r.0.now) × (length r.0.now ≤ LONGEST_NAME)) }
     ensures shorter { MatchOption result (Unit {0}) (λ r. length r.1.now < length line.now) }
 {
-    let (b, _) = first(line)?;
-    if !small_letter(b) {
-        return None;
-    }
     let n = name_len(line);
-    if n == 0 || n > LONGEST_NAME {
-        return None;
+    if let Some((b, _)) = first(line)
+        && small_letter(b)
+        && n > 0
+        && n <= LONGEST_NAME
+    {
+        return Some((&line[..n], &line[n..]));
     }
-    Some((&line[..n], &line[n..]))
+    None
 }

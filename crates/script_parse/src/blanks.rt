@@ -27,10 +27,9 @@ pub(crate) fn skip(line: &[u8]) -> &[u8]
     ensures shorter { length result.now ≤ length line.now }
 {
     let mut rest = line;
-    while let Some((b, after)) = first(rest) {
-        if !blank(b) {
-            return rest;
-        }
+    while let Some((b, after)) = first(rest)
+        && blank(b)
+    {
         rest = after;
     }
     rest
@@ -41,8 +40,12 @@ pub(crate) fn gap(line: &[u8]) -> Option<&[u8]>
     ensures value { MatchOption result (gap_at line.now ≡ None) (λ r. gap_at line.now ≡ Some r.now) }
     ensures shorter { MatchOption result (Unit {0}) (λ r. length r.now < length line.now) }
 {
-    let (b, rest) = first(line)?;
-    if blank(b) { Some(rest) } else { None }
+    if let Some((b, rest)) = first(line)
+        && blank(b)
+    {
+        return Some(rest);
+    }
+    None
 }
 
 /// The line after this byte.
@@ -50,8 +53,12 @@ pub(crate) fn after_byte(line: &[u8], c: u8) -> Option<&[u8]>
     ensures value { MatchOption result (byte_at c line.now ≡ None) (λ r. byte_at c line.now ≡ Some r.now) }
     ensures shorter { MatchOption result (Unit {0}) (λ r. length r.now < length line.now) }
 {
-    let (b, rest) = first(line)?;
-    if b == c { Some(rest) } else { None }
+    if let Some((b, rest)) = first(line)
+        && b == c
+    {
+        return Some(rest);
+    }
+    None
 }
 
 /// The line after this text.

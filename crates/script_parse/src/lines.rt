@@ -53,12 +53,17 @@ fn command(line: &[u8], out: &mut Output) -> Option<Command>
     ensures grown { OutputGrows out.old out.new }
 {
     if let Some((n, rest)) = number(line, GREATEST) {
-        let verb = process_verb(rest, out)?;
-        return Some(Command::Process(n, verb));
+        if let Some(verb) = process_verb(rest, out) {
+            return Some(Command::Process(n, verb));
+        }
+        return None;
     }
-    let rest = after_text(line, b"sys")?;
-    let verb = system_verb(rest)?;
-    Some(Command::System(verb))
+    if let Some(rest) = after_text(line, b"sys")
+        && let Some(verb) = system_verb(rest)
+    {
+        return Some(Command::System(verb));
+    }
+    None
 }
 
 /// A whole line.
@@ -86,8 +91,10 @@ fn read(line: &[u8], names: &mut AtomNames, code: &mut Code) -> Option<(Command,
         code,
         full: false,
     };
-    let command = whole(line, &mut out)?;
-    Some((command, out.full))
+    if let Some(command) = whole(line, &mut out) {
+        return Some((command, out.full));
+    }
+    None
 }
 
 /// Reads a line of at most `MOST_ITEMS` bytes without its end. The items of its terms are left in `code`,

@@ -4,7 +4,7 @@ ghost use Rattle.script_grammar.specs.Grammar.{is_digit};
 ghost use Rattle.script_parse.specs.declared.numbers.TheConstants.{GREATEST, WIDEST};
 ghost use Rattle.script_parse.specs.Reading.{digits_at, number_at, integer_at, pid_at};
 
-use crate::blanks::{after_text, first};
+use crate::blanks::{after_byte, after_text, first};
 use script_grammar::{NUMBERS, REGISTERS};
 
 /// The greatest number of a line but those in terms.
@@ -27,19 +27,21 @@ fn digit(b: u8) -> bool
 }
 
 /// A number goes on by the digits at the front, up to a limit.
-fn digits(line: &[u8], limit: u64, start: u64) -> Option<(u64, &[u8])>
-    requires limit { limit ≤ GREATEST }
+fn digits(line: &[u8], limit: u128, start: u128) -> Option<(u128, &[u8])>
+    requires limit { limit ≤ WIDEST }
     requires start { start ≤ limit }
     ensures value { MatchOption result (digits_at limit start line.now ≡ None) (λ r. digits_at limit start line.now ≡ Some (r.0, r.1.now)) }
     ensures within { MatchOption result (Unit {0}) (λ r. (r.0 ≤ limit) × (length r.1.now ≤ length line.now)) }
 {
     let mut rest = line;
     let mut n = start;
-    while let Some((b, after)) = first(rest) {
-        if !digit(b) {
-            return Some((n, rest));
+    while let Some((b, after)) = first(rest)
+        && digit(b)
+    {
+        if n > WIDEST / 10 {
+            return None;
         }
-        n = n * 10 + (b - b'0') as u64;
+        n = n * 10 + (b - b'0') as u128;
         if n > limit {
             return None;
         }
@@ -48,59 +50,33 @@ fn digits(line: &[u8], limit: u64, start: u64) -> Option<(u64, &[u8])>
     Some((n, rest))
 }
 
+/// A number without sign and without leading zeros, up to a limit, however wide.
+fn magnitude(line: &[u8], limit: u128) -> Option<(u128, &[u8])>
+    requires { (9 ≤ limit) × (limit ≤ WIDEST) }
+    ensures value { MatchOption result (number_at limit line.now ≡ None) (λ r. number_at limit line.now ≡ Some (r.0, r.1.now)) }
+    ensures within { MatchOption result (Unit {0}) (λ r. (r.0 ≤ limit) × (length r.1.now < length line.now)) }
+{
+    if let Some((b, rest)) = first(line)
+        && digit(b)
+    {
+        if b > b'0' {
+            return digits(rest, limit, (b - b'0') as u128);
+        }
+        return Some((0, rest));
+    }
+    None
+}
+
 /// A number without sign and without leading zeros, up to a limit.
 pub(crate) fn number(line: &[u8], limit: u64) -> Option<(u64, &[u8])>
     requires { (9 ≤ limit) × (limit ≤ GREATEST) }
     ensures value { MatchOption result (number_at limit line.now ≡ None) (λ r. number_at limit line.now ≡ Some (r.0, r.1.now)) }
     ensures within { MatchOption result (Unit {0}) (λ r. (r.0 ≤ limit) × (length r.1.now < length line.now)) }
 {
-    let (b, rest) = first(line)?;
-    if b == b'0' {
-        return Some((0, rest));
+    if let Some((n, rest)) = magnitude(line, limit as u128) {
+        return Some((n as u64, rest));
     }
-    if !digit(b) {
-        return None;
-    }
-    digits(rest, limit, (b - b'0') as u64)
-}
-
-/// A magnitude goes on by the digits at the front.
-fn more_digits(line: &[u8], start: u128) -> Option<(u128, &[u8])>
-    requires { start ≤ WIDEST }
-    ensures value { MatchOption result (digits_at WIDEST start line.now ≡ None) (λ r. digits_at WIDEST start line.now ≡ Some (r.0, r.1.now)) }
-    ensures within { MatchOption result (Unit {0}) (λ r. (r.0 ≤ WIDEST) × (length r.1.now ≤ length line.now)) }
-{
-    let mut rest = line;
-    let mut n = start;
-    while let Some((b, after)) = first(rest) {
-        if !digit(b) {
-            return Some((n, rest));
-        }
-        if n > WIDEST / 10 {
-            return None;
-        }
-        n = n * 10 + (b - b'0') as u128;
-        if n > WIDEST {
-            return None;
-        }
-        rest = after;
-    }
-    Some((n, rest))
-}
-
-/// The magnitude of an integer, without leading zeros.
-fn magnitude(line: &[u8]) -> Option<(u128, &[u8])>
-    ensures value { MatchOption result (number_at WIDEST line.now ≡ None) (λ r. number_at WIDEST line.now ≡ Some (r.0, r.1.now)) }
-    ensures within { MatchOption result (Unit {0}) (λ r. (r.0 ≤ WIDEST) × (length r.1.now < length line.now)) }
-{
-    let (b, rest) = first(line)?;
-    if !digit(b) {
-        return None;
-    }
-    if b > b'0' {
-        return more_digits(rest, (b - b'0') as u128);
-    }
-    Some((0, rest))
+    None
 }
 
 /// An integer.
@@ -108,16 +84,16 @@ pub(crate) fn integer(line: &[u8]) -> Option<(i128, &[u8])>
     ensures value { MatchOption result (integer_at line.now ≡ None) (λ r. integer_at line.now ≡ Some (r.0, r.1.now)) }
     ensures shorter { MatchOption result (Unit {0}) (λ r. length r.1.now < length line.now) }
 {
-    let (b, after) = first(line)?;
-    if b != b'-' {
-        let (n, rest) = magnitude(line)?;
+    if let Some(after) = after_byte(line, b'-')
+        && let Some((n, rest)) = magnitude(after, WIDEST)
+        && n > 0
+    {
+        return Some((-(n as i128), rest));
+    }
+    if let Some((n, rest)) = magnitude(line, WIDEST) {
         return Some((n as i128, rest));
     }
-    let (n, rest) = magnitude(after)?;
-    if n == 0 {
-        return None;
-    }
-    Some((-(n as i128), rest))
+    None
 }
 
 /// The number of a pid, whose first byte stands before the line.
@@ -125,11 +101,12 @@ pub(crate) fn pid(line: &[u8]) -> Option<(u64, &[u8])>
     ensures value { MatchOption result (pid_at line.now ≡ None) (λ r. pid_at line.now ≡ Some (r.0, r.1.now)) }
     ensures shorter { MatchOption result (Unit {0}) (λ r. length r.1.now < length line.now) }
 {
-    let rest = after_text(line, b"0.")?;
-    let (n, rest) = number(rest, GREATEST)?;
-    if n == 0 {
-        return None;
+    if let Some(rest) = after_text(line, b"0.")
+        && let Some((n, rest)) = number(rest, GREATEST)
+        && n > 0
+        && let Some(rest) = after_text(rest, b".0>")
+    {
+        return Some((n, rest));
     }
-    let rest = after_text(rest, b".0>")?;
-    Some((n, rest))
+    None
 }

@@ -2,15 +2,35 @@
 ghost use Rattle.std.specs.Prelude.{◌≡◌, ℕ, ◌+◌, ◌≤◌, ◌<◌, Bool, List, [], length, MatchOption, Some, None};
 ghost use Rattle.script_parse.specs.declared.buffer.TheConstants.{MOST_ITEMS};
 ghost use Rattle.script_parse.specs.Output.{given, begun, begun_items, led_items, OutputGrows, Spends};
-ghost use Rattle.script_parse.specs.Reading.{leaf_run, byte_run, pair_run, part_run, parts_run, tail_run, end_run, form_run, term_run};
+ghost use Rattle.script_parse.specs.Reading.{item_at, leaf_run, byte_run, pair_run, part_run, parts_run, end_run, form_run, term_run};
 
-use crate::atoms::{name_len, small_letter};
-use crate::blanks::{after_byte, after_text, first, skip};
+use crate::atoms::atom;
+use crate::blanks::{after_byte, after_text, skip};
 use crate::forms::{Form, opened};
 use crate::numbers::{GREATEST_BYTE, LAST_REGISTER, integer, number, pid};
 use crate::output::Output;
-use atom_names::LONGEST_NAME;
 use plain_term::Item;
+
+/// A term without parts but an atom, as its item.
+fn item(line: &[u8]) -> Option<(Item, &[u8])>
+    ensures value { MatchOption result (item_at line.now ≡ None) (λ r. item_at line.now ≡ Some (r.0, r.1.now)) }
+    ensures shorter { MatchOption result (Unit {0}) (λ r. length r.1.now < length line.now) }
+{
+    if let Some(rest) = after_byte(line, b'<')
+        && let Some((n, rest)) = pid(rest)
+    {
+        return Some((Item::Pid(n), rest));
+    }
+    if let Some(rest) = after_byte(line, b'$')
+        && let Some((r, rest)) = number(rest, LAST_REGISTER)
+    {
+        return Some((Item::Held(r as u8), rest));
+    }
+    if let Some((i, rest)) = integer(line) {
+        return Some((Item::Int(i), rest));
+    }
+    None
+}
 
 /// A term without parts goes last. The line begins with its first byte.
 fn leaf<'a>(line: &'a [u8], out: &mut Output) -> Option<&'a [u8]>
@@ -19,28 +39,15 @@ fn leaf<'a>(line: &'a [u8], out: &mut Output) -> Option<&'a [u8]>
     ensures grown { OutputGrows out.old out.new }
     ensures room { MatchOption result (Unit {0}) (λ r. Spends 0 line.now r.now out.old out.new) }
 {
-    let (b, rest) = first(line)?;
-    if b == b'<' {
-        let (n, rest) = pid(rest)?;
-        out.push(Item::Pid(n));
+    if let Some((name, rest)) = atom(line) {
+        out.put_atom(name);
         return Some(rest);
     }
-    if b == b'$' {
-        let (r, rest) = number(rest, LAST_REGISTER)?;
-        out.push(Item::Held(r as u8));
+    if let Some((item, rest)) = item(line) {
+        out.push(item);
         return Some(rest);
     }
-    if small_letter(b) {
-        let n = name_len(line);
-        if n > LONGEST_NAME {
-            return None;
-        }
-        out.put_atom(&line[..n]);
-        return Some(&line[n..]);
-    }
-    let (i, rest) = integer(line)?;
-    out.push(Item::Int(i));
-    Some(rest)
+    None
 }
 
 /// A byte of a binary goes last.
@@ -50,9 +57,11 @@ fn byte<'a>(line: &'a [u8], out: &mut Output) -> Option<&'a [u8]>
     ensures grown { OutputGrows out.old out.new }
     ensures room { MatchOption result (Unit {0}) (λ r. Spends 0 line.now r.now out.old out.new) }
 {
-    let (n, rest) = number(skip(line), GREATEST_BYTE)?;
-    out.push(Item::Byte(n as u8));
-    Some(rest)
+    if let Some((n, rest)) = number(skip(line), GREATEST_BYTE) {
+        out.push(Item::Byte(n as u8));
+        return Some(rest);
+    }
+    None
 }
 
 /// A key and its value go last.
@@ -64,9 +73,12 @@ fn pair<'a>(line: &'a [u8], levels: u64, out: &mut Output) -> Option<&'a [u8]>
     ensures grown { OutputGrows out.old out.new }
     ensures room { MatchOption result (Unit {0}) (λ r. Spends 0 line.now r.now out.old out.new) }
 {
-    let rest = term(line, levels, out)?;
-    let rest = after_text(skip(rest), b"=>")?;
-    term(rest, levels, out)
+    if let Some(rest) = term(line, levels, out)
+        && let Some(rest) = after_text(skip(rest), b"=>")
+    {
+        return term(rest, levels, out);
+    }
+    None
 }
 
 /// A part of a form goes last.
@@ -110,24 +122,7 @@ fn parts<'a>(form: Form, line: &'a [u8], levels: u64, out: &mut Output) -> Optio
     None
 }
 
-/// A last tail goes last, and its form is complete. The line begins with the bar.
-#[cycle(terms)]
-fn tail<'a>(form: Form, line: &'a [u8], levels: u64, out: &mut Output) -> Option<&'a [u8]>
-    requires { length out.old.code.now + length line.now ≤ MOST_ITEMS }
-    ensures read { MatchOption result (tail_run (term_run levels) form line.now (given out.old) ≡ None)
-        (λ r. tail_run (term_run levels) form line.now (given out.old) ≡ Some (r.now, given out.new)) }
-    ensures grown { OutputGrows out.old out.new }
-    ensures room { MatchOption result (Unit {0}) (λ r. Spends 0 line.now r.now out.old out.new) }
-{
-    if !form.has_tail() {
-        return None;
-    }
-    let rest = after_byte(line, b'|')?;
-    let rest = term(rest, levels, out)?;
-    after_text(skip(rest), form.closing())
-}
-
-/// A form whose items begin at this place and that has so many parts is completed.
+/// A form whose items begin at this place and that has so many parts is completed, or its last tail goes last.
 #[cycle(terms)]
 fn ending<'a>(
     form: Form,
@@ -149,7 +144,13 @@ fn ending<'a>(
         out.end(form, at, n);
         return Some(rest);
     }
-    tail(form, line, levels, out)
+    if form.has_tail()
+        && let Some(rest) = after_byte(line, b'|')
+        && let Some(rest) = term(rest, levels, out)
+    {
+        return after_text(skip(rest), form.closing());
+    }
+    None
 }
 
 /// A form goes last. The line begins after its opening.
@@ -167,8 +168,10 @@ fn bracketed<'a>(form: Form, line: &'a [u8], levels: u64, out: &mut Output) -> O
         out.end(form, at, 0);
         return Some(rest);
     }
-    let (rest, n) = parts(form, line, levels, out)?;
-    ending(form, rest, levels, at, n, out)
+    if let Some((rest, n)) = parts(form, line, levels, out) {
+        return ending(form, rest, levels, at, n, out);
+    }
+    None
 }
 
 /// A term goes last, with at most so many levels of brackets.
@@ -181,11 +184,10 @@ pub(crate) fn term<'a>(line: &'a [u8], levels: u64, out: &mut Output) -> Option<
     ensures room { MatchOption result (Unit {0}) (λ r. Spends 0 line.now r.now out.old out.new) }
 {
     let line = skip(line);
-    if levels == 0 {
-        return leaf(line, out);
+    if levels > 0
+        && let Some((form, rest)) = opened(line)
+    {
+        return bracketed(form, rest, levels - 1, out);
     }
-    match opened(line) {
-        Some((form, rest)) => bracketed(form, rest, levels - 1, out),
-        None => leaf(line, out),
-    }
+    leaf(line, out)
 }

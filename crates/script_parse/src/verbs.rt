@@ -32,9 +32,12 @@ fn register(line: &[u8]) -> Option<(Reg, &[u8])>
         (λ r. spaced_at (number_at LAST_REGISTER) line.now ≡ Some (r.0.0, r.1.now)) }
     ensures shorter { MatchOption result (Unit {0}) (λ r. length r.1.now ≤ length line.now) }
 {
-    let rest = gap(line)?;
-    let (n, rest) = number(skip(rest), LAST_REGISTER)?;
-    Some((Reg(n as u8), rest))
+    if let Some(rest) = gap(line)
+        && let Some((n, rest)) = number(skip(rest), LAST_REGISTER)
+    {
+        return Some((Reg(n as u8), rest));
+    }
+    None
 }
 
 /// A blank and a name, by its number.
@@ -45,9 +48,12 @@ fn title<'a>(line: &'a [u8], out: &mut Output) -> Option<(u64, &'a [u8])>
     ensures same { length out.new.code.now ≡ length out.old.code.now }
     ensures shorter { MatchOption result (Unit {0}) (λ r. length r.1.now ≤ length line.now) }
 {
-    let rest = gap(line)?;
-    let (name, rest) = atom(skip(rest))?;
-    Some((out.put_name(name), rest))
+    if let Some(rest) = gap(line)
+        && let Some((name, rest)) = atom(skip(rest))
+    {
+        return Some((out.put_name(name), rest));
+    }
+    None
 }
 
 /// A blank, `$` and a register.
@@ -55,10 +61,13 @@ fn held(line: &[u8]) -> Option<(u8, &[u8])>
     ensures value { MatchOption result (spaced_at held_at line.now ≡ None) (λ r. spaced_at held_at line.now ≡ Some (r.0, r.1.now)) }
     ensures shorter { MatchOption result (Unit {0}) (λ r. length r.1.now < length line.now) }
 {
-    let rest = gap(line)?;
-    let rest = after_byte(skip(rest), b'$')?;
-    let (r, rest) = number(rest, LAST_REGISTER)?;
-    Some((r as u8, rest))
+    if let Some(rest) = gap(line)
+        && let Some(rest) = after_byte(skip(rest), b'$')
+        && let Some((r, rest)) = number(rest, LAST_REGISTER)
+    {
+        return Some((r as u8, rest));
+    }
+    None
 }
 
 /// The registers of an environment go last, as long as one comes, but as many as there may be at most.
@@ -82,13 +91,15 @@ fn environment<'a>(line: &'a [u8], out: &mut Output) -> &'a [u8]
 fn receiver(line: &[u8]) -> Option<(To, &[u8])>
     ensures value { MatchOption result (receiver_at line.now ≡ None) (λ r. receiver_at line.now ≡ Some (r.0, r.1.now)) }
 {
-    let (b, after) = first(line)?;
-    if b != b'$' {
-        let (n, rest) = number(line, GREATEST)?;
+    if let Some(after) = after_byte(line, b'$')
+        && let Some((r, rest)) = number(after, LAST_REGISTER)
+    {
+        return Some((To::Held(Reg(r as u8)), rest));
+    }
+    if let Some((n, rest)) = number(line, GREATEST) {
         return Some((To::Number(n), rest));
     }
-    let (r, rest) = number(after, LAST_REGISTER)?;
-    Some((To::Held(Reg(r as u8)), rest))
+    None
 }
 
 /// A depth of collection.
@@ -98,8 +109,10 @@ fn depth(line: &[u8]) -> Option<(Depth, &[u8])>
     if let Some(rest) = after_text(line, b"minor") {
         return Some((Depth::Minor, rest));
     }
-    let rest = after_text(line, b"major")?;
-    Some((Depth::Major, rest))
+    if let Some(rest) = after_text(line, b"major") {
+        return Some((Depth::Major, rest));
+    }
+    None
 }
 
 /// A number of a row, by what it counts.
@@ -108,11 +121,13 @@ fn spaced_number(kind: Numeric, line: &[u8]) -> Option<(u64, &[u8])>
         (λ r. spaced_at (number_at (most_of kind)) line.now ≡ Some (r.0, r.1.now)) }
     ensures shorter { MatchOption result (Unit {0}) (λ r. length r.1.now ≤ length line.now) }
 {
-    let rest = skip(gap(line)?);
-    match kind {
-        Numeric::Slot => number(rest, LAST_REGISTER),
-        Numeric::Count => number(rest, GREATEST),
+    if let Some(rest) = gap(line) {
+        return match kind {
+            Numeric::Slot => number(skip(rest), LAST_REGISTER),
+            Numeric::Count => number(skip(rest), GREATEST),
+        };
     }
+    None
 }
 
 /// The numbers of a row of up to four, and nothing more. Those past its end are 0.
@@ -122,9 +137,12 @@ fn numbers(kinds: &[Numeric], line: &[u8]) -> Option<(u64, u64, u64, u64)>
     match kinds {
         [] => if ends(line) { Some((0, 0, 0, 0)) } else { None },
         [kind, more @ ..] => {
-            let (a, rest) = spaced_number(*kind, line)?;
-            let (b, c, d, _) = numbers(more, rest)?;
-            Some((a, b, c, d))
+            if let Some((a, rest)) = spaced_number(*kind, line)
+                && let Some((b, c, d, _)) = numbers(more, rest)
+            {
+                return Some((a, b, c, d));
+            }
+            None
         }
     }
 }
@@ -137,15 +155,14 @@ fn slot_title_count_held(line: &[u8], out: &mut Output) -> Option<Verb>
         (λ v. verb_run Word.Fun line.now (given out.old) ≡ Some (v, given out.new)) }
     ensures grown { OutputGrows out.old out.new }
 {
-    let (r, rest) = register(line)?;
-    let (name, rest) = title(rest, out)?;
-    let (arity, rest) = spaced_number(Numeric::Count, rest)?;
-    let rest = environment(rest, out);
-    if ends(rest) {
-        Some(Verb::Fun(r, name, arity))
-    } else {
-        None
+    if let Some((r, rest)) = register(line)
+        && let Some((name, rest)) = title(rest, out)
+        && let Some((arity, rest)) = spaced_number(Numeric::Count, rest)
+        && ends(environment(rest, out))
+    {
+        return Some(Verb::Fun(r, name, arity));
     }
+    None
 }
 
 /// A register and a process, and nothing more: the process gets the register's term.
@@ -153,14 +170,14 @@ fn slot_title_count_held(line: &[u8], out: &mut Output) -> Option<Verb>
 fn slot_receiver(line: &[u8]) -> Option<Verb>
     ensures value { (o : Out) → MatchOption result (verb_run Word.Send line.now o ≡ None) (λ v. verb_run Word.Send line.now o ≡ Some (v, o)) }
 {
-    let (r, rest) = register(line)?;
-    let rest = gap(rest)?;
-    let (to, rest) = receiver(skip(rest))?;
-    if ends(rest) {
-        Some(Verb::Send(r, to))
-    } else {
-        None
+    if let Some((r, rest)) = register(line)
+        && let Some(rest) = gap(rest)
+        && let Some((to, rest)) = receiver(skip(rest))
+        && ends(rest)
+    {
+        return Some(Verb::Send(r, to));
     }
+    None
 }
 
 /// A depth of collection, and nothing more: the process is collected so.
@@ -168,13 +185,13 @@ fn slot_receiver(line: &[u8]) -> Option<Verb>
 fn extent(line: &[u8]) -> Option<Verb>
     ensures value { (o : Out) → MatchOption result (verb_run Word.Gc line.now o ≡ None) (λ v. verb_run Word.Gc line.now o ≡ Some (v, o)) }
 {
-    let rest = gap(line)?;
-    let (depth, rest) = depth(skip(rest))?;
-    if ends(rest) {
-        Some(Verb::Gc(depth))
-    } else {
-        None
+    if let Some(rest) = gap(line)
+        && let Some((depth, rest)) = depth(skip(rest))
+        && ends(rest)
+    {
+        return Some(Verb::Gc(depth));
     }
+    None
 }
 
 /// A register and a term, and nothing more: the register gets the term. The term goes last.
@@ -185,14 +202,18 @@ fn slot_body(line: &[u8], out: &mut Output) -> Option<Verb>
         (λ v. verb_run Word.Set line.now (given out.old) ≡ Some (v, given out.new)) }
     ensures grown { OutputGrows out.old out.new }
 {
-    let (r, rest) = register(line)?;
-    let rest = gap(rest)?;
-    let rest = term(rest, LEVELS, out)?;
-    if ends(rest) { Some(Verb::Set(r)) } else { None }
+    if let Some((r, rest)) = register(line)
+        && let Some(rest) = gap(rest)
+        && let Some(rest) = term(rest, LEVELS, out)
+        && ends(rest)
+    {
+        return Some(Verb::Set(r));
+    }
+    None
 }
 
 /// The row of a verb of a process whose operands are registers and numbers alone.
-fn numerics(word: Word) -> Option<&'static [Numeric]>
+fn numeric_row(word: Word) -> Option<&'static [Numeric]>
     ensures { MatchOption result (takes_numbers word ≡ false) (λ ks. (takes_numbers word ≡ true) × (map kind_of ks.now ≡ kinds_of word)) }
 {
     match word {
@@ -251,9 +272,12 @@ fn made(word: Word, n: (u64, u64, u64, u64)) -> Verb
 fn numeric_verb(word: Word, line: &[u8]) -> Option<Verb>
     ensures { (o : Out) → MatchOption result (numbers_run word line.now o ≡ None) (λ v. numbers_run word line.now o ≡ Some (v, o)) }
 {
-    let kinds = numerics(word)?;
-    let n = numbers(kinds, line)?;
-    Some(made(word, n))
+    if let Some(kinds) = numeric_row(word)
+        && let Some(n) = numbers(kinds, line)
+    {
+        return Some(made(word, n));
+    }
+    None
 }
 
 /// The operands of a verb of a process, by the table of what is built.
@@ -278,10 +302,14 @@ pub(crate) fn process_verb(line: &[u8], out: &mut Output) -> Option<Verb>
     ensures read { MatchOption result (process_run line.now (given out.old) ≡ None) (λ v. process_run line.now (given out.old) ≡ Some (v, given out.new)) }
     ensures grown { OutputGrows out.old out.new }
 {
-    let rest = skip(gap(line)?);
-    let n = word_len(rest);
-    let word = verb_word(&rest[..n])?;
-    verb(word, &rest[n..], out)
+    if let Some(rest) = gap(line) {
+        let rest = skip(rest);
+        let n = word_len(rest);
+        if let Some(word) = verb_word(&rest[..n]) {
+            return verb(word, &rest[n..], out);
+        }
+    }
+    None
 }
 
 /// A verb of the system that is built. It has no operand.
@@ -304,16 +332,24 @@ fn alone(word: SysWord) -> Option<SysVerb>
 fn sys_verb(word: SysWord, line: &[u8]) -> Option<SysVerb>
     ensures { (o : Out) → MatchOption result (sys_verb_run word line.now o ≡ None) (λ v. sys_verb_run word line.now o ≡ Some (v, o)) }
 {
-    let verb = alone(word)?;
-    if ends(line) { Some(verb) } else { None }
+    if let Some(verb) = alone(word)
+        && ends(line)
+    {
+        return Some(verb);
+    }
+    None
 }
 
 /// A system line after its first word.
 pub(crate) fn system_verb(line: &[u8]) -> Option<SysVerb>
     ensures { (o : Out) → MatchOption result (system_run line.now o ≡ None) (λ v. system_run line.now o ≡ Some (v, o)) }
 {
-    let rest = skip(gap(line)?);
-    let n = word_len(rest);
-    let word = sys_word(&rest[..n])?;
-    sys_verb(word, &rest[n..])
+    if let Some(rest) = gap(line) {
+        let rest = skip(rest);
+        let n = word_len(rest);
+        if let Some(word) = sys_word(&rest[..n]) {
+            return sys_verb(word, &rest[n..]);
+        }
+    }
+    None
 }

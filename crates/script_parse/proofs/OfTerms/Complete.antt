@@ -1,8 +1,7 @@
 -- What is in the grammar and built is read.
-use Rattle.std.proofs.Common.{◌≡◌, ℕ, zero, suc, ◌+◌, ◌<◌, ◌≤◌, Bool, true, false, nat_eq, nat_le, ℤ, pos, negsuc, List, [], ◌∷◌, ◌++◌, length, Option, Some, None, codes, refl, sym, ◌∙◌, ap, subst, inl, inr, arith}
+use Rattle.std.proofs.Common.{◌≡◌, ℕ, zero, suc, ◌+◌, ◌<◌, ◌≤◌, Bool, true, nat_eq, ℤ, pos, negsuc, List, [], ◌∷◌, ◌++◌, length, Option, Some, None, codes, refl, sym, ◌∙◌, ap, subst, inl, inr, arith}
 use Rattle.script_grammar.specs.declared.limits.TheConstants.{NUMBERS, REGISTERS}
 use Rattle.script_parse.specs.declared.numbers.TheConstants.{LAST_REGISTER, WIDEST, GREATEST_BYTE}
-use Rattle.std.proofs.lemmas.Bool.{leb-true}
 use Rattle.plain_term.specs.Measures.{magnitude}
 use Rattle.plain_term.specs.declared.item.Item.TheVariants as item
 use Rattle.script_grammar.specs.Written.{Term}
@@ -14,8 +13,8 @@ use Rattle.script_parse.specs.declared.forms.Form.TheVariants as form
 use Rattle.script_parse.specs.Forms.{all_forms, opening, closing, has_tail}
 use Rattle.script_parse.specs.Output.{Out, push, begun, led, ended, put}
 use Rattle.script_parse.specs.Reading.{then_read, after_blanks, text_at, number_at, integer_at, atom_at, leaf_at, parts_run, pair_run, part_run, end_run, form_in, form_run, any_run, term_run}
-use Rattle.script_parse.proofs.Stepwise.Tools.{unequal, not-blank, apart, both-true, far_from}
-use Rattle.script_parse.proofs.Stepwise.TermSteps.{term-leaf}
+use Rattle.script_parse.proofs.Stepwise.Tools.{unequal, not-blank, apart, far_from}
+use Rattle.script_parse.proofs.Stepwise.TermSteps.{term-leaf, letter-run, digit-not-letter}
 use Rattle.script_parse.proofs.Stepwise.GapSteps.{Token, token, Divides, stops}
 use Rattle.script_parse.proofs.Stepwise.NumberSteps.{Begun, begun as number_begun, stops-digits, number-found, integer-found, pid-found, pid-text, Numbers, number-stands}
 use Rattle.script_parse.proofs.Stepwise.AtomSteps.{atom-found}
@@ -32,17 +31,6 @@ pub record DoneLeaf (t : Term) (ps : List Piece) (line : List ℕ) : Type 0 wher
   pub no_end : (f : Form) → text_at (closing f) (after_blanks line) ≡ None
 
 -- The bytes that a leaf of a kind begins with begin no other form.
-digit-not-letter : (b : ℕ) → is_digit b ≡ true → is_small_letter b ≡ false
-digit-not-letter b h = let k : (nat_le 48 b ≡ true) × (nat_le b 57 ≡ true) = both-true (nat_le 48 b) (nat_le b 57) h in
-    let small : b ≤ 57 = leb-true b 57 (k.1) in
-    elim (is_small_letter b) as (λ t. (t ≡ true → (nat_le 97 b ≡ true) × (nat_le b 122 ≡ true)) → t ≡ false) [
-      | true ↦ λ f. let large : 97 ≤ b = leb-true 97 b ((f refl).0) in absurd (omega arith)
-      | false ↦ λ f. refl
-    ] (both-true (nat_le 97 b) (nat_le b 122))
-
-letter-run : (b : ℕ) (bytes : List ℕ) → is_small_letter b ≡ true → leaf_at (b ∷ bytes) ≡ then_read {B = Term × List ℕ} (atom_at (b ∷ bytes)) (λ r. Some (Atom (r.0), r.1))
-letter-run b bytes h = rw (unequal b 60 (apart is_small_letter b 60 refl h), unequal b 36 (apart is_small_letter b 36 refl h), h) refl
-
 digit-run : (b : ℕ) (bytes : List ℕ) → is_digit b ≡ true → leaf_at (b ∷ bytes) ≡ then_read {B = Term × List ℕ} (integer_at (b ∷ bytes)) (λ r. Some (Int (r.0), r.1))
 digit-run b bytes h = rw (unequal b 60 (apart is_digit b 60 refl h), unequal b 36 (apart is_digit b 36 refl h), digit-not-letter b h) refl
 

@@ -10,7 +10,7 @@ use Rattle.script_parse.specs.declared.numbers.TheConstants.{GREATEST, LAST_REGI
 use Rattle.script_parse.specs.declared.verbs.Numeric.{Numeric}
 use Rattle.script_parse.specs.declared.verbs.Numeric.TheVariants as numeric
 use Rattle.script_parse.specs.Output.{Out}
-use Rattle.script_parse.specs.Reading.{then_read, gap_at, after_blanks, number_at, are_blanks, spaced_at, row, row_run, row_of, kind_of, numbers_at, arguments_from, verb_from, takes_numbers, numbers_run}
+use Rattle.script_parse.specs.Reading.{then_read, gap_at, after_blanks, number_at, are_blanks, spaced_at, row, row_run, kind_of, numbers_at, arguments_from, verb_from, takes_numbers, numbers_run}
 use Rattle.script_parse.proofs.Stepwise.NumberSteps.{number-read}
 use Rattle.script_parse.proofs.Stepwise.RowSteps.{slot-none, slot-more, count-none, count-more, row-end, row-open}
 use Rattle.script_parse.proofs.Stepwise.Tables.{row-is}

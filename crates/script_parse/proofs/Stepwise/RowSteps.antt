@@ -3,11 +3,10 @@ use Rattle.std.proofs.Common.{◌≡◌, ℕ, ◌+◌, true, false, List, [], �
 use Rattle.plain_term.specs.declared.item.Item.TheVariants as item
 use Rattle.script_grammar.specs.Names.{ArgumentOf, Arguments}
 use Rattle.script_grammar.specs.Written.{Kind}
-use Rattle.script_grammar.specs.Written.Kind.{Slot, Count, Title, Environment, Body}
-use Rattle.script_grammar.specs.declared.limits.TheConstants.{LEVELS, MOST_HELD}
+use Rattle.script_grammar.specs.Written.Kind.{Slot, Count}
 use Rattle.script_parse.specs.declared.numbers.TheConstants.{GREATEST, LAST_REGISTER}
 use Rattle.script_parse.specs.Output.{Out, push}
-use Rattle.script_parse.specs.Reading.{then_read, gap_at, number_at, are_blanks, spaced_at, title_run, held_at, held_run, term_run, operand_at, operands_at, row, row_run}
+use Rattle.script_parse.specs.Reading.{then_read, gap_at, number_at, are_blanks, spaced_at, held_at, held_run, term_run, operand_at, operands_at, row, row_run}
 
 through : {A B C O : Type 0} (r : Option (B × O)) (a : A) (f : A × B → C)
     → then_read {B = C × O} (then_read {B = (A × B) × O} r (λ s. Some ((a, s.0), s.1))) (λ x. Some (f (x.0), x.1)) ≡ then_read {B = C × O} r (λ x. Some (f (a, x.0), x.1))
@@ -39,23 +38,7 @@ pub count-more : {V : Type 0} (ks : List Kind) (f : Arguments (Count ∷ ks) →
     → spaced_at (number_at GREATEST) line ≡ Some (n, rest) → row_run (row ks (λ xs. f (n, xs))) rest o ≡ x → row_run (row (Count ∷ ks) f) line o ≡ x
 count-more ks f line o {n} {rest} e h = row-more Count ks f line rest o o n (rw e refl) ∙ h
 
--- A name first.
-pub title-none : {V : Type 0} (ks : List Kind) (f : Arguments (Title ∷ ks) → V) (line : List ℕ) (o : Out) → title_run line o ≡ None → row_run (row (Title ∷ ks) f) line o ≡ None
-title-none ks f line o e = row-none Title ks f line o e
-
-pub title-more : {V : Type 0} (ks : List Kind) (f : Arguments (Title ∷ ks) → V) (line rest : List ℕ) (o p : Out) (a : ℕ) {x : Option (V × Out)}
-    → title_run line o ≡ Some (a, (rest, p)) → row_run (row ks (λ xs. f (a, xs))) rest p ≡ x → row_run (row (Title ∷ ks) f) line o ≡ x
-title-more ks f line rest o p a e h = row-more Title ks f line rest o p a e ∙ h
-
--- An environment first.
-held-at : (left : ℕ) (line rest : List ℕ) (o p : Out) → held_run left line o ≡ (rest, p) → ◌≡◌ {A = Option (Unit {0} × (List ℕ × Out))} (Some (tt, held_run left line o)) (Some (tt, (rest, p)))
-held-at left line rest o p e = rw e refl
-
-pub held-more : {V : Type 0} (ks : List Kind) (f : Arguments (Environment ∷ ks) → V) (line rest : List ℕ) (o p : Out) {x : Option (V × Out)}
-    → held_run MOST_HELD line o ≡ (rest, p) → row_run (row ks (λ xs. f (tt, xs))) rest p ≡ x → row_run (row (Environment ∷ ks) f) line o ≡ x
-held-more ks f line rest o p e h = row-more Environment ks f line rest o p tt (held-at MOST_HELD line rest o p e) ∙ h
-
--- One register of it.
+-- One register of an environment.
 pub held-step : (left k : ℕ) (line rest : List ℕ) (o p : Out) (r : ℕ) → k ≡ left + 1 → spaced_at held_at line ≡ Some (r, rest) → p ≡ push o (item.Held r)
     → held_run k line o ≡ held_run left rest p
 held-step left k line rest o p r e h f = rw (e, add-one left, h, f) refl
@@ -73,23 +56,3 @@ row-open f line o e = rw e refl
 pub body-at : (levels : ℕ) (line start rest : List ℕ) (o p : Out) → gap_at line ≡ Some start → term_run levels start o ≡ Some (rest, p)
     → then_read {B = Unit {0} × (List ℕ × Out)} (then_read (gap_at line) (λ r. term_run levels r o)) (λ r. Some (tt, r)) ≡ Some (tt, (rest, p))
 body-at levels line start rest o p g h = rw (g, h) refl
-
-no-body : (levels : ℕ) (line start : List ℕ) (o : Out) → gap_at line ≡ Some start → term_run levels start o ≡ None
-    → then_read {B = Unit {0} × (List ℕ × Out)} (then_read (gap_at line) (λ r. term_run levels r o)) (λ r. Some (tt, r)) ≡ None
-no-body levels line start o g h = rw (g, h) refl
-
-no-gap : (levels : ℕ) (line : List ℕ) (o : Out) → gap_at line ≡ None
-    → then_read {B = Unit {0} × (List ℕ × Out)} (then_read (gap_at line) (λ r. term_run levels r o)) (λ r. Some (tt, r)) ≡ None
-no-gap levels line o g = rw g refl
-
--- A term first.
-pub body-gap : {V : Type 0} (ks : List Kind) (f : Arguments (Body ∷ ks) → V) (line : List ℕ) (o : Out) → gap_at line ≡ None → row_run (row (Body ∷ ks) f) line o ≡ None
-body-gap ks f line o g = row-none Body ks f line o (no-gap LEVELS line o g)
-
-pub body-none : {V : Type 0} (ks : List Kind) (f : Arguments (Body ∷ ks) → V) (line start : List ℕ) (o : Out) → gap_at line ≡ Some start → term_run LEVELS start o ≡ None
-    → row_run (row (Body ∷ ks) f) line o ≡ None
-body-none ks f line start o g h = row-none Body ks f line o (no-body LEVELS line start o g h)
-
-pub body-more : {V : Type 0} (ks : List Kind) (f : Arguments (Body ∷ ks) → V) (line start rest : List ℕ) (o p : Out) {x : Option (V × Out)}
-    → gap_at line ≡ Some start → term_run LEVELS start o ≡ Some (rest, p) → row_run (row ks (λ xs. f (tt, xs))) rest p ≡ x → row_run (row (Body ∷ ks) f) line o ≡ x
-body-more ks f line start rest o p g h e = row-more Body ks f line rest o p tt (body-at LEVELS line start rest o p g h) ∙ e

@@ -2,9 +2,13 @@ use Rattle.std.proofs.Common.{◌≡◌, ◌≤◌, length}
 use Rattle.script_parse.specs.Reading.{digits_at}
 use Rattle.script_parse.proofs.numbers.digits.Given as goal
 
--- What is left goes on from the number so far.
+-- What is left is read from the number so far.
 abbrev pub invariant-loop-b : goal.invariant-loop-b
-invariant-loop-b l = (digits_at l.limit l.start l.line ≡ digits_at l.limit l.n l.rest) × (l.n ≤ l.limit) × (length l.rest ≤ length l.line)
+invariant-loop-b l = record {
+  value : digits_at l.limit l.n l.rest ≡ digits_at l.limit l.start l.line;
+  within : l.n ≤ l.limit;
+  shorter : length l.rest ≤ length l.line;
+}
 
 abbrev pub decreases-loop-b : goal.decreases-loop-b
 decreases-loop-b l = length l.rest

@@ -9,9 +9,6 @@ decreases-term l = 5 * l.levels
 abbrev pub decreases-pair : goal.decreases-pair
 decreases-pair l = 5 * l.levels + 1
 
-abbrev pub decreases-tail : goal.decreases-tail
-decreases-tail l = 5 * l.levels + 1
-
 abbrev pub decreases-part : goal.decreases-part
 decreases-part l = 5 * l.levels + 2
 

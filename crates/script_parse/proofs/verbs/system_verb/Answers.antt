@@ -1,9 +1,0 @@
-use Rattle.std.proofs.Common.{arith}
-use Rattle.std.proofs.lemmas.Grind.{common_steps}
-use Rattle.script_parse.proofs.verbs.system_verb.Goals as goal
-
-pub returns : goal.returns
-returns c = grind (arith, common_steps)
-
-pub returns-in_err-word : goal.returns-in_err-word
-returns-in_err-word c = grind (arith, common_steps)
