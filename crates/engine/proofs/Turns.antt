@@ -11,7 +11,8 @@ use Rattle.line_io.specs.declared.reader.LineReader.{LineReader}
 use Rattle.line_io.specs.declared.reader.LineGot.{LineGot}
 use Rattle.line_io.specs.declared.reader.LineGot.TheVariants.{End, Fault, TooMuch as GotTooMuch}
 use Rattle.line_io.proofs.Growth.{Grew-nil, Grew-append}
-use Rattle.line_io.proofs.Loop.{Gave-nil, Gave-append}
+use Rattle.line_io.proofs.Loop.{Gave-append}
+use Rattle.line_io.proofs.Ranges.{Gave-nil}
 use Rattle.script_grammar.specs.Names.{Parsed}
 use Rattle.plain_machine.specs.State.{State}
 use Rattle.plain_machine.specs.Run.{Run, LineStep, replies_text}
