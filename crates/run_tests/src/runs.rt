@@ -130,7 +130,10 @@ fn ends_so(
 pub(crate) fn told(wrong: Option<&[u8]>) -> Result<(), Fail> {
     match wrong {
         None => Ok(()),
-        Some(row) => Err(Fail::new(str::from_utf8(row).unwrap_or("no text"))),
+        Some(row) => match str::from_utf8(row) {
+            Ok(text) if !text.is_empty() => Err(Fail::new(text)),
+            _ => Err(Fail::new("a row that is none or no text")),
+        },
     }
 }
 
