@@ -1,7 +1,7 @@
 -- How what was written grows over several calls.
-use Rattle.std.proofs.Common.{ℕ, ◌+◌, ◌-◌, ◌<◌, ◌≤◌, List, [], ◌++◌, length, take, drop, sym, ap, subst, ◌∙◌, arith, append_assoc, append-nil, take-append-drop, length-append, length-drop, Result, Ok, Err, OnOk, OnErr, IsErr}
+use Rattle.std.proofs.Common.{ℕ, ◌+◌, ◌-◌, ◌<◌, ◌≤◌, List, [], ◌++◌, length, take, drop, sym, ap, subst, ◌∙◌, arith, append_assoc, append-nil, take-append-drop, length-append, length-drop}
 use lib.Seq.{take-add, take-take}
-use Rattle.line_io.specs.Sink.{Grew, GrewInPart, Writes}
+use Rattle.line_io.specs.Sink.{Grew, GrewInPart}
 
 pub Grew-nil : {K : Type 0} (wrote : K → List ℕ → Type 0) (old : K) → Grew wrote old old []
 Grew-nil wrote old = record { each = λ before h. subst (wrote old) (sym (append-nil before)) h }
@@ -46,19 +46,3 @@ part-after wrote old mid new x y g p = record {
   some = p.some;
   grew = Grew-append wrote old mid new x p.part g p.grew;
 }
-
--- the first part was written, and then what a call left of the second
-pub writes-after : {A E K : Type 0} (wrote : K → List ℕ → Type 0) (old mid new : K) (x y : List ℕ) (r : Result A E) → Grew wrote old mid x → Writes wrote mid new r y → Writes wrote old new r (x ++ y)
-writes-after wrote old mid new x y (Ok a) g w = Grew-append wrote old mid new x y g w
-writes-after wrote old mid new x y (Err e) g w = part-after wrote old mid new x y g w
-
--- the two clauses of a call as one
-pub writes-of : {A E K : Type 0} (wrote : K → List ℕ → Type 0) (old new : K) (x : List ℕ) (r : Result A E) → OnOk r (Grew wrote old new x) → OnErr r (GrewInPart wrote old new x)
-    → Writes wrote old new r x
-writes-of wrote old new x (Ok a) all part = all
-writes-of wrote old new x (Err e) all part = part
-
--- at a fault
-pub writes-fault : {A E K : Type 0} (wrote : K → List ℕ → Type 0) (old new : K) (x : List ℕ) (r : Result A E) → IsErr r → GrewInPart wrote old new x → Writes wrote old new r x
-writes-fault wrote old new x (Ok a) h part = absurd (cc)
-writes-fault wrote old new x (Err e) h part = part

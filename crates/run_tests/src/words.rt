@@ -47,48 +47,51 @@ const COUNT: usize = 27;
 
 const MOST: usize = 5;
 
-// How a run by the words of a row must end.
-fn ending_of(is_taken: bool) -> Ending<'static> {
-    if is_taken {
-        return done(REPLY, Left::Machine);
-    }
-    Ending {
-        ends: number(Status::Usage),
-        written: b"",
-        left: Left::Vacant,
+// How a run by the words of a row with this mark must end.
+fn ending_of(mark: u8) -> Option<Ending<'static>> {
+    match mark {
+        b'+' => Some(done(REPLY, Left::Machine)),
+        b'-' => Some(Ending {
+            ends: number(Status::Usage),
+            written: b"",
+            left: Left::Vacant,
+        }),
+        _ => None,
     }
 }
 
-// The words of a row.
-fn words_of(row: &[u8]) -> ArrayVec<&[u8], MOST> {
-    let mut words = ArrayVec::new();
+// Puts the words of a row behind one another, and tells whether each found a place.
+fn put_words<'a>(row: &'a [u8], words: &mut ArrayVec<&'a [u8], MOST>) -> bool {
+    let mut have_room = true;
     let mut rest = row;
     for _ in 0..row.len() {
-        if rest.is_empty() {
-            return words;
+        if !rest.is_empty() {
+            let (word, others) = cut(rest, b'|');
+            have_room &= words.try_push(word).is_ok();
+            rest = others;
         }
-        let (word, others) = cut(rest, b'|');
-        let _ = words.try_push(word);
-        rest = others;
     }
-    words
+    have_room
 }
 
 // Whether a run by the words of a row ends as it says.
 fn is_row_taken(alloc: Global, row: &[u8]) -> bool {
-    let Some((mark, words)) = row.split_first() else {
-        return false;
-    };
-    let words = words_of(words);
-    let ending = ending_of(*mark == b'+');
-    ends(
-        alloc,
-        Words::Bytes(words.as_slice()),
-        SCRIPT,
-        7,
-        NONE,
-        ending,
-    )
+    let mut words = ArrayVec::new();
+    if let Some((mark, rest)) = row.split_first()
+        && let Some(ending) = ending_of(*mark)
+        && put_words(rest, &mut words)
+    {
+        ends(
+            alloc,
+            Words::Bytes(words.as_slice()),
+            SCRIPT,
+            7,
+            NONE,
+            ending,
+        )
+    } else {
+        false
+    }
 }
 
 // The first row that is taken otherwise; there are so many, and behind the last there is none.

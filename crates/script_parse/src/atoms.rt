@@ -45,13 +45,13 @@ pub(crate) fn atom(line: &[u8]) -> Option<(&[u8], &[u8])>
     ensures sized { MatchOption result (Unit {0}) (λ r. (1 ≤ length r.0.now) × (length r.0.now ≤ LONGEST_NAME)) }
     ensures shorter { MatchOption result (Unit {0}) (λ r. length r.1.now < length line.now) }
 {
-    let n = name_len(line);
     if let Some((b, _)) = first(line)
         && small_letter(b)
-        && n > 0
-        && n <= LONGEST_NAME
     {
-        return Some((&line[..n], &line[n..]));
+        let n = name_len(line);
+        if n > 0 && n <= LONGEST_NAME {
+            return Some((&line[..n], &line[n..]));
+        }
     }
     None
 }

@@ -5,7 +5,7 @@ ghost use Rattle.script_grammar.specs.Grammar.{is_blank};
 ghost use Rattle.script_parse.specs.Reading.{after_blanks, gap_at, byte_at, text_at, are_blanks, is_solid};
 
 /// A space or a tab.
-pub(crate) fn blank(b: u8) -> bool
+fn blank(b: u8) -> bool
     ensures { result ≡ is_blank b }
 {
     b == b' ' || b == b'\t'

@@ -9,7 +9,7 @@ ghost use Rattle.script_parse.specs.Output.{Out, given, OutputGrows};
 ghost use Rattle.script_parse.specs.Reading.{extent_at, held_at, held_run, number_at, receiver_at, spaced_at, title_run, row, row_run, most_of, kind_of, numbers_at, takes_numbers, verb_from, numbers_run, verb_run, process_run, sys_verb_run, system_run};
 
 use crate::atoms::atom;
-use crate::blanks::{after_byte, after_text, ends, first, gap, skip, word_len};
+use crate::blanks::{after_byte, after_text, ends, gap, skip, word_len};
 use crate::numbers::{GREATEST, LAST_REGISTER, number};
 use crate::output::Output;
 use crate::terms::term;
