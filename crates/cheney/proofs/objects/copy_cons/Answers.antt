@@ -1,5 +1,4 @@
-use Rattle.std.proofs.Common.{arith, true, false}
-use Rattle.std.proofs.lemmas.Grind.{common_steps}
+use Rattle.std.proofs.Common.{true, false}
 use Rattle.cheney.proofs.Stepping.Steps.{cons-spot, cons-to}
 use Rattle.cheney.proofs.objects.copy_cons.Goals as goal
 
@@ -31,21 +30,3 @@ returns-else-is_in c =
     cons-to c.args.mem.now c.cons_to-else-is_in.new.mem c.args.mv.now false c.cons_to-else-is_in.new.room c.args.w c.args.head c.args.tail c.cons_to-else-is_in.result c.requires.fresh
     c.if-is_in.ensures
     c.cons_to-else-is_in.ensures.copies c.cons_to-else-is_in.ensures.room
-
-pub cons_to-requires-clause-tag : goal.cons_to-requires-clause-tag
-cons_to-requires-clause-tag c = grind (arith, common_steps)
-
-pub cons_to-requires-clause-head : goal.cons_to-requires-clause-head
-cons_to-requires-clause-head c = grind (arith, common_steps)
-
-pub cons_to-requires-clause-tail : goal.cons_to-requires-clause-tail
-cons_to-requires-clause-tail c = grind (arith, common_steps)
-
-pub cons_to-requires-else-is_in-clause-tag : goal.cons_to-requires-else-is_in-clause-tag
-cons_to-requires-else-is_in-clause-tag c = grind (arith, common_steps)
-
-pub cons_to-requires-else-is_in-clause-head : goal.cons_to-requires-else-is_in-clause-head
-cons_to-requires-else-is_in-clause-head c = grind (arith, common_steps)
-
-pub cons_to-requires-else-is_in-clause-tail : goal.cons_to-requires-else-is_in-clause-tail
-cons_to-requires-else-is_in-clause-tail c = grind (arith, common_steps)

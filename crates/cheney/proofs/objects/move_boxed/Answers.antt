@@ -1,5 +1,4 @@
-use Rattle.std.proofs.Common.{arith, true, false}
-use Rattle.std.proofs.lemmas.Grind.{common_steps}
+use Rattle.std.proofs.Common.{true, false}
 use Rattle.cheney.proofs.Stepping.Steps.{from-moves, boxed-some, boxed-spot, boxed-found, boxed-to}
 use Rattle.cheney.proofs.objects.move_boxed.Goals as goal
 
@@ -46,18 +45,3 @@ returns-else-is_in c =
 
 pub stays_at-requires : goal.stays_at-requires
 stays_at-requires c = from-moves c.args.mem.now c.args.mv.now c.args.w c.requires.can
-
-pub returns-then-stays_at : goal.returns-then-stays_at
-returns-then-stays_at c = grind (arith, common_steps)
-
-pub boxed_to-requires-clause-tag : goal.boxed_to-requires-clause-tag
-boxed_to-requires-clause-tag c = grind (arith, common_steps)
-
-pub boxed_to-requires-clause-header : goal.boxed_to-requires-clause-header
-boxed_to-requires-clause-header c = grind (arith, common_steps)
-
-pub boxed_to-requires-else-is_in-clause-tag : goal.boxed_to-requires-else-is_in-clause-tag
-boxed_to-requires-else-is_in-clause-tag c = grind (arith, common_steps)
-
-pub boxed_to-requires-else-is_in-clause-header : goal.boxed_to-requires-else-is_in-clause-header
-boxed_to-requires-else-is_in-clause-header c = grind (arith, common_steps)
