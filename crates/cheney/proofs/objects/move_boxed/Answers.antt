@@ -1,5 +1,5 @@
-use Rattle.std.proofs.Common.{true, false}
-use Rattle.cheney.proofs.Stepping.Steps.{from-moves, boxed-some, boxed-spot, boxed-found, boxed-to}
+use Rattle.std.proofs.Common.{true, false, ◌+◌, ◌/◌}
+use Rattle.cheney.proofs.Stepping.Steps.{Spot, from-moves, boxed-some, boxed-spot, boxed-found, boxed-to}
 use Rattle.cheney.proofs.objects.move_boxed.Goals as goal
 
 pub get-header-requires : goal.get-header-requires
@@ -8,29 +8,17 @@ get-header-requires c = boxed-some c.args.mem.now c.args.mv.now c.args.w c.requi
 pub returns-then-header-eq2 : goal.returns-then-header-eq2
 returns-then-header-eq2 c = boxed-found c.args.mem.now c.args.mv.now c.args.w c.get-header.result c.requires.tag c.if-stays_at.ensures c.get-header.ensures c.if-header-eq2.true
 
-pub boxed_to-requires-clause-within : goal.boxed_to-requires-clause-within
-boxed_to-requires-clause-within c = (boxed-spot c.args.mem.now c.args.mv.now c.args.w c.get-header.result true c.requires.can c.requires.tag c.if-stays_at.ensures c.get-header.ensures
-    c.if-header-eq2.false c.if-is_in.ensures).within
+pub boxed_to-requires : goal.boxed_to-requires
+boxed_to-requires c =
+    let place : Spot c.args.mem.now c.args.mv.now c.args.w (1 + c.get-header.result / 64) true = boxed-spot c.args.mem.now c.args.mv.now c.args.w c.get-header.result true c.requires.can c.requires.tag c.if-stays_at.ensures c.get-header.ensures
+    c.if-header-eq2.false c.if-is_in.ensures in
+    record { tag = c.requires.tag; header = c.get-header.ensures; within = place.within; fits = place.fits; apart = place.apart }
 
-pub boxed_to-requires-clause-fits : goal.boxed_to-requires-clause-fits
-boxed_to-requires-clause-fits c = (boxed-spot c.args.mem.now c.args.mv.now c.args.w c.get-header.result true c.requires.can c.requires.tag c.if-stays_at.ensures c.get-header.ensures
-    c.if-header-eq2.false c.if-is_in.ensures).fits
-
-pub boxed_to-requires-clause-apart : goal.boxed_to-requires-clause-apart
-boxed_to-requires-clause-apart c = (boxed-spot c.args.mem.now c.args.mv.now c.args.w c.get-header.result true c.requires.can c.requires.tag c.if-stays_at.ensures c.get-header.ensures
-    c.if-header-eq2.false c.if-is_in.ensures).apart
-
-pub boxed_to-requires-else-is_in-clause-within : goal.boxed_to-requires-else-is_in-clause-within
-boxed_to-requires-else-is_in-clause-within c = (boxed-spot c.args.mem.now c.args.mv.now c.args.w c.get-header.result false c.requires.can c.requires.tag c.if-stays_at.ensures
-    c.get-header.ensures c.if-header-eq2.false c.if-is_in.ensures).within
-
-pub boxed_to-requires-else-is_in-clause-fits : goal.boxed_to-requires-else-is_in-clause-fits
-boxed_to-requires-else-is_in-clause-fits c = (boxed-spot c.args.mem.now c.args.mv.now c.args.w c.get-header.result false c.requires.can c.requires.tag c.if-stays_at.ensures
-    c.get-header.ensures c.if-header-eq2.false c.if-is_in.ensures).fits
-
-pub boxed_to-requires-else-is_in-clause-apart : goal.boxed_to-requires-else-is_in-clause-apart
-boxed_to-requires-else-is_in-clause-apart c = (boxed-spot c.args.mem.now c.args.mv.now c.args.w c.get-header.result false c.requires.can c.requires.tag c.if-stays_at.ensures
-    c.get-header.ensures c.if-header-eq2.false c.if-is_in.ensures).apart
+pub boxed_to-requires-else-is_in : goal.boxed_to-requires-else-is_in
+boxed_to-requires-else-is_in c =
+    let place : Spot c.args.mem.now c.args.mv.now c.args.w (1 + c.get-header.result / 64) false = boxed-spot c.args.mem.now c.args.mv.now c.args.w c.get-header.result false c.requires.can c.requires.tag c.if-stays_at.ensures c.get-header.ensures
+    c.if-header-eq2.false c.if-is_in.ensures in
+    record { tag = c.requires.tag; header = c.get-header.ensures; within = place.within; fits = place.fits; apart = place.apart }
 
 pub returns-then-is_in : goal.returns-then-is_in
 returns-then-is_in c =

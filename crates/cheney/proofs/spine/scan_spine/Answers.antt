@@ -23,19 +23,19 @@ scan_word-requires-clause-can c = (
       c.requires.can.below) c.loop-further.invariant.next,
 )
 
-pub scan_tail-next-requires-clause-can : goal.scan_tail-next-requires-clause-can
-scan_tail-next-requires-clause-can c =
-    tail-step c.requires.can.plan c.args.mem.now c.loop-further.mem c.loop-further.mv c.requires.can.marks c.args.aged c.loop-further.cell.place c.loop-further.cell.head
-    c.loop-further.cell.tail (c.loop-further.invariant.each c.requires.can.plan c.requires.can.marks c.requires.can.runs c.requires.can.scanned c.requires.can.object
-    c.requires.can.below) c.loop-further.invariant.next
-    c.scan_word.new.mem c.scan_word.new.mv c.scan_word.ensures.each c.scan_word.ensures.copies
-
-pub scan_tail-next-requires-clause-word : goal.scan_tail-next-requires-clause-word
-scan_tail-next-requires-clause-word c =
-    tail-kept c.requires.can.plan c.args.mem.now c.loop-further.mem c.loop-further.mv c.requires.can.marks c.args.aged c.loop-further.cell.place c.loop-further.cell.head
-    c.loop-further.cell.tail (c.loop-further.invariant.each c.requires.can.plan c.requires.can.marks c.requires.can.runs c.requires.can.scanned c.requires.can.object
-    c.requires.can.below) c.loop-further.invariant.next
-    c.scan_word.new.mem c.scan_word.new.mv c.scan_word.ensures.each c.scan_word.ensures.copies
+pub scan_tail-next-requires : goal.scan_tail-next-requires
+scan_tail-next-requires c = record {
+  can =
+      tail-step c.requires.can.plan c.args.mem.now c.loop-further.mem c.loop-further.mv c.requires.can.marks c.args.aged c.loop-further.cell.place c.loop-further.cell.head
+      c.loop-further.cell.tail (c.loop-further.invariant.each c.requires.can.plan c.requires.can.marks c.requires.can.runs c.requires.can.scanned c.requires.can.object
+      c.requires.can.below) c.loop-further.invariant.next
+      c.scan_word.new.mem c.scan_word.new.mv c.scan_word.ensures.each c.scan_word.ensures.copies;
+  word =
+      tail-kept c.requires.can.plan c.args.mem.now c.loop-further.mem c.loop-further.mv c.requires.can.marks c.args.aged c.loop-further.cell.place c.loop-further.cell.head
+      c.loop-further.cell.tail (c.loop-further.invariant.each c.requires.can.plan c.requires.can.marks c.requires.can.runs c.requires.can.scanned c.requires.can.object
+      c.requires.can.below) c.loop-further.invariant.next
+      c.scan_word.new.mem c.scan_word.new.mv c.scan_word.ensures.each c.scan_word.ensures.copies;
+}
 
 pub returns-in_default : goal.returns-in_default
 returns-in_default c = record {
