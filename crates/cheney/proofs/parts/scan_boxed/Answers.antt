@@ -19,13 +19,16 @@ get-w-requires c =
     (c.loop-at.invariant c.requires.can.1.plan c.requires.can.1.marks c.requires.can.0 c.requires.can.1.runs c.requires.can.1.scanned c.requires.can.1.object c.requires.can.1.below)
     c.loop-at-test.true)
 
-pub scan_word-requires-clause-can : goal.scan_word-requires-clause-can
-scan_word-requires-clause-can c = (
-  c.requires.can.0,
-  going-step c.requires.can.1.plan c.args.mem.now c.loop-at.mem c.loop-at.mv c.requires.can.1.marks c.requires.can.0 c.loop-at.at (c.args.place + (1 + c.args.header / 64))
-      (c.loop-at.invariant c.requires.can.1.plan c.requires.can.1.marks c.requires.can.0 c.requires.can.1.runs c.requires.can.1.scanned c.requires.can.1.object c.requires.can.1.below)
-      c.loop-at-test.true,
-)
+pub scan_word-requires : goal.scan_word-requires
+scan_word-requires c = record {
+  can = (
+    c.requires.can.0,
+    going-step c.requires.can.1.plan c.args.mem.now c.loop-at.mem c.loop-at.mv c.requires.can.1.marks c.requires.can.0 c.loop-at.at (c.args.place + (1 + c.args.header / 64))
+        (c.loop-at.invariant c.requires.can.1.plan c.requires.can.1.marks c.requires.can.0 c.requires.can.1.runs c.requires.can.1.scanned c.requires.can.1.object c.requires.can.1.below)
+        c.loop-at-test.true,
+  );
+  word = c.get-w.ensures;
+}
 
 pub loop-at-preserved : goal.loop-at-preserved
 loop-at-preserved c = λ p k b run s o less.

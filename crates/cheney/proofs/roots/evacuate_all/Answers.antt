@@ -22,6 +22,9 @@ loop-i-preserved c = record {
       (row-reached p c.args.mem.now c.loop-i.mem c.loop-i.mv k c.args.words.now c.loop-i.words c.loop-i.i (c.loop-i.invariant.each p k run each) each less));
 }
 
-pub returns-clause-each : goal.returns-clause-each
-returns-clause-each c = λ p k run each. row-done p c.args.mem.now c.loop-i.mem c.loop-i.mv k c.args.words.now c.loop-i.words c.loop-i.i (c.loop-i.invariant.each p k run each) each
-    c.loop-i-test.false
+pub returns : goal.returns
+returns c = record {
+  each = λ p k run each. row-done p c.args.mem.now c.loop-i.mem c.loop-i.mv k c.args.words.now c.loop-i.words c.loop-i.i (c.loop-i.invariant.each p k run each) each
+      c.loop-i-test.false;
+  len = c.loop-i.invariant.len;
+}

@@ -15,13 +15,16 @@ loop-further-init c = record {
   above = omega arith;
 }
 
-pub scan_word-requires-clause-can : goal.scan_word-requires-clause-can
-scan_word-requires-clause-can c = (
-  c.args.aged,
-  cell-step c.requires.can.plan c.args.mem.now c.loop-further.mem c.loop-further.mv c.requires.can.marks c.args.aged c.loop-further.cell.place c.loop-further.cell.head
-      c.loop-further.cell.tail (c.loop-further.invariant.each c.requires.can.plan c.requires.can.marks c.requires.can.runs c.requires.can.scanned c.requires.can.object
-      c.requires.can.below) c.loop-further.invariant.next,
-)
+pub scan_word-requires : goal.scan_word-requires
+scan_word-requires c = record {
+  can = (
+    c.args.aged,
+    cell-step c.requires.can.plan c.args.mem.now c.loop-further.mem c.loop-further.mv c.requires.can.marks c.args.aged c.loop-further.cell.place c.loop-further.cell.head
+        c.loop-further.cell.tail (c.loop-further.invariant.each c.requires.can.plan c.requires.can.marks c.requires.can.runs c.requires.can.scanned c.requires.can.object
+        c.requires.can.below) c.loop-further.invariant.next,
+  );
+  word = c.loop-further.invariant.next.head_is;
+}
 
 pub scan_tail-next-requires : goal.scan_tail-next-requires
 scan_tail-next-requires c = record {
