@@ -1,4 +1,5 @@
 use Rattle.std.proofs.Common.{ℕ, ◌+◌, ◌≤◌, length, subst, sym, arith}
+use Rattle.std.proofs.lemmas.Grind.{common_steps}
 use Rattle.cheney.specs.Zones.{mark}
 use Rattle.cheney.specs.Calls.{RunsOn}
 use Rattle.cheney.proofs.Stepping.Scanning.{cell-done, cell-inside, cell-step, spine-inside, spine-start, spine-within, tail-kept, tail-step}
@@ -77,3 +78,15 @@ loop-further-preserved c = record {
   next = c.in-Some.ensures.next;
   above = omega (arith, c.if-further-at.true, c.loop-further.invariant.above);
 }
+
+pub overflow_add-place : goal.overflow_add-place
+overflow_add-place c = grind (arith, common_steps)
+
+pub overflow_add-at : goal.overflow_add-at
+overflow_add-at c = grind (arith, common_steps)
+
+pub overflow_add-result : goal.overflow_add-result
+overflow_add-result c = grind (arith, common_steps)
+
+pub overflow_add-at-in-loop-further : goal.overflow_add-at-in-loop-further
+overflow_add-at-in-loop-further c = grind (arith, common_steps)
