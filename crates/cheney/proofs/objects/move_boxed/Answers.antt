@@ -10,13 +10,15 @@ returns-then-header-eq2 c = boxed-found c.args.mem.now c.args.mv.now c.args.w c.
 
 pub boxed_to-requires : goal.boxed_to-requires
 boxed_to-requires c =
-    let place : Spot c.args.mem.now c.args.mv.now c.args.w (1 + c.get-header.result / 64) true = boxed-spot c.args.mem.now c.args.mv.now c.args.w c.get-header.result true c.requires.can c.requires.tag c.if-stays_at.ensures c.get-header.ensures
+    let place : Spot c.args.mem.now c.args.mv.now c.args.w (1 + c.get-header.result / 64) true =
+    boxed-spot c.args.mem.now c.args.mv.now c.args.w c.get-header.result true c.requires.can c.requires.tag c.if-stays_at.ensures c.get-header.ensures
     c.if-header-eq2.false c.if-is_in.ensures in
     record { tag = c.requires.tag; header = c.get-header.ensures; within = place.within; fits = place.fits; apart = place.apart }
 
 pub boxed_to-requires-else-is_in : goal.boxed_to-requires-else-is_in
 boxed_to-requires-else-is_in c =
-    let place : Spot c.args.mem.now c.args.mv.now c.args.w (1 + c.get-header.result / 64) false = boxed-spot c.args.mem.now c.args.mv.now c.args.w c.get-header.result false c.requires.can c.requires.tag c.if-stays_at.ensures c.get-header.ensures
+    let place : Spot c.args.mem.now c.args.mv.now c.args.w (1 + c.get-header.result / 64) false =
+    boxed-spot c.args.mem.now c.args.mv.now c.args.w c.get-header.result false c.requires.can c.requires.tag c.if-stays_at.ensures c.get-header.ensures
     c.if-header-eq2.false c.if-is_in.ensures in
     record { tag = c.requires.tag; header = c.get-header.ensures; within = place.within; fits = place.fits; apart = place.apart }
 
