@@ -33,13 +33,13 @@ pub fn scan_spine(mem: &mut WordMem, mv: &mut Moving, aged: bool, place: u64, he
         let at = cell.place;
         scan_word(mem, mv, at, cell.head);
         let next = scan_tail(mem, mv, aged, at + 1, cell.tail);
-        let Some(further) = next else {
-            return at + 2;
-        };
-        if further.place != at + 2 {
+        if let Some(further) = next
+            && further.place == at + 2
+        {
+            cell = further;
+        } else {
             return at + 2;
         }
-        cell = further;
     }
 }
 

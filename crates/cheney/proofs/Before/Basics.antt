@@ -1,6 +1,5 @@
 -- Tags, sizes and forwarding words.
 use Rattle.std.proofs.Common.{◌≡◌, ℕ, ◌+◌, ◌/◌, ◌%◌, ◌<◌, ◌≤◌, ◌⊎◌, Bool, true, false, List, get_or, refl, sym, ◌∙◌, ap, arith, inl, inr, if◌then◌else◌, ◌==◌}
-use Rattle.std.proofs.lemmas.Bool.Decides.{nat_tests}
 use Rattle.std.proofs.lemmas.Bool.{true≢false, cases_Bool, cases_eq}
 use Rattle.term_words.specs.Object.{IsPointer, object_words}
 use Rattle.term_words.specs.Reach.{first_of, part}
@@ -27,19 +26,19 @@ leaves-or-not p w =
 
 pub moved-cons : (m : List ℕ) (w : ℕ) → w % 4 ≡ 1 → moved m w ≡ (get_or m (w / 4) 0 == 0)
 unfolding moved
-moved-cons m w tag = let one : (w % 4 == 1) ≡ true = grind (arith, nat_tests) in rw one refl
+moved-cons m w tag = let one : (w % 4 == 1) ≡ true = ap (λ x. x == 1) tag in rw one refl
 
 pub moved-boxed : (m : List ℕ) (w : ℕ) → w % 4 ≡ 2 → moved m w ≡ (get_or m (w / 4) 0 % 4 == 2)
 unfolding moved
-moved-boxed m w tag = let one : (w % 4 == 1) ≡ false = grind (arith, nat_tests) in rw one refl
+moved-boxed m w tag = let one : (w % 4 == 1) ≡ false = ap (λ x. x == 1) tag in rw one refl
 
 pub forward-cons : (m : List ℕ) (w : ℕ) → w % 4 ≡ 1 → forward m w ≡ get_or m (w / 4 + 1) 0
 unfolding forward
-forward-cons m w tag = let one : (w % 4 == 1) ≡ true = grind (arith, nat_tests) in rw one refl
+forward-cons m w tag = let one : (w % 4 == 1) ≡ true = ap (λ x. x == 1) tag in rw one refl
 
 pub forward-boxed : (m : List ℕ) (w : ℕ) → w % 4 ≡ 2 → forward m w ≡ get_or m (w / 4) 0
 unfolding forward
-forward-boxed m w tag = let one : (w % 4 == 1) ≡ false = grind (arith, nat_tests) in rw one refl
+forward-boxed m w tag = let one : (w % 4 == 1) ≡ false = ap (λ x. x == 1) tag in rw one refl
 
 pub moved-same : (m n : List ℕ) (w : ℕ) → get_or n (w / 4) 0 ≡ get_or m (w / 4) 0 → moved n w ≡ moved m w
 unfolding moved
@@ -51,19 +50,19 @@ forward-same m n w (inr tag) e f = forward-boxed n w tag ∙ e ∙ sym (forward-
 
 pub size-cons : (p : Plan) (w : ℕ) → w % 4 ≡ 1 → size p w ≡ 2
 unfolding size
-size-cons p w tag = let one : (w % 4 == 1) ≡ true = grind (arith, nat_tests) in rw one refl
+size-cons p w tag = let one : (w % 4 == 1) ≡ true = ap (λ x. x == 1) tag in rw one refl
 
 pub size-boxed : (p : Plan) (w : ℕ) → w % 4 ≡ 2 → size p w ≡ 1 + get_or p.start (w / 4) 0 / 64
 unfolding size
-size-boxed p w tag = let one : (w % 4 == 1) ≡ false = grind (arith, nat_tests) in rw one refl
+size-boxed p w tag = let one : (w % 4 == 1) ≡ false = ap (λ x. x == 1) tag in rw one refl
 
 pub first-cons : (p : Plan) (w : ℕ) → w % 4 ≡ 1 → first p w ≡ 0
 unfolding first
-first-cons p w tag = let one : (w % 4 == 1) ≡ true = grind (arith, nat_tests) in rw one refl
+first-cons p w tag = let one : (w % 4 == 1) ≡ true = ap (λ x. x == 1) tag in rw one refl
 
 pub first-boxed : (p : Plan) (w : ℕ) → w % 4 ≡ 2 → first p w ≡ first_of (layout_for (get_or p.start (w / 4) 0)) (1 + get_or p.start (w / 4) 0 / 64)
 unfolding first
-first-boxed p w tag = let one : (w % 4 == 1) ≡ false = grind (arith, nat_tests) in rw one refl
+first-boxed p w tag = let one : (w % 4 == 1) ≡ false = ap (λ x. x == 1) tag in rw one refl
 
 pub size-some : (p : Plan) (w : ℕ) → IsPointer w → 0 < size p w
 size-some p w (inl tag) = omega (arith, size-cons p w tag)

@@ -14,15 +14,15 @@ scan-requires c = record {
       (start-reached c.requires.plan c.args.mem.now c.args.mv.now c.args.roots.now c.requires.begins));
 }
 
-pub returns-clause-len : goal.returns-clause-len
-returns-clause-len c =
-    same-length c.requires.plan c.args.mem.now c.args.mv.now c.args.roots.now c.requires.begins c.evacuate_all.new.mem c.evacuate_all.new.mv c.evacuate_all.new.words
-    (c.evacuate_all.ensures.each c.requires.plan (at_objects c.args.mv.now.aged.start c.args.mv.now.young.start)
-    (start-runs c.requires.plan c.args.mem.now c.args.mv.now c.args.roots.now c.requires.begins)
-    (start-reached c.requires.plan c.args.mem.now c.args.mv.now c.args.roots.now c.requires.begins)) c.scan.new.mem c.scan.new.mv (c.scan.ensures c.requires.plan)
-
-pub returns-clause-done : goal.returns-clause-done
-returns-clause-done c = λ p b.
-    ended p c.args.mem.now c.args.mv.now c.args.roots.now b c.evacuate_all.new.mem c.evacuate_all.new.mv c.evacuate_all.new.words
-    (c.evacuate_all.ensures.each p (at_objects c.args.mv.now.aged.start c.args.mv.now.young.start) (start-runs p c.args.mem.now c.args.mv.now c.args.roots.now b)
-    (start-reached p c.args.mem.now c.args.mv.now c.args.roots.now b)) c.scan.new.mem c.scan.new.mv (c.scan.ensures p)
+pub returns : goal.returns
+returns c = record {
+  len =
+      same-length c.requires.plan c.args.mem.now c.args.mv.now c.args.roots.now c.requires.begins c.evacuate_all.new.mem c.evacuate_all.new.mv c.evacuate_all.new.words
+      (c.evacuate_all.ensures.each c.requires.plan (at_objects c.args.mv.now.aged.start c.args.mv.now.young.start)
+      (start-runs c.requires.plan c.args.mem.now c.args.mv.now c.args.roots.now c.requires.begins)
+      (start-reached c.requires.plan c.args.mem.now c.args.mv.now c.args.roots.now c.requires.begins)) c.scan.new.mem c.scan.new.mv (c.scan.ensures c.requires.plan);
+  done = λ p b.
+      ended p c.args.mem.now c.args.mv.now c.args.roots.now b c.evacuate_all.new.mem c.evacuate_all.new.mv c.evacuate_all.new.words
+      (c.evacuate_all.ensures.each p (at_objects c.args.mv.now.aged.start c.args.mv.now.young.start) (start-runs p c.args.mem.now c.args.mv.now c.args.roots.now b)
+      (start-reached p c.args.mem.now c.args.mv.now c.args.roots.now b)) c.scan.new.mem c.scan.new.mv (c.scan.ensures p);
+}

@@ -1,25 +1,16 @@
-use Rattle.std.proofs.Common.{arith, true, false}
-use Rattle.std.proofs.lemmas.Grind.{common_steps}
-use Rattle.cheney.proofs.Stepping.Steps.{cons-spot, cons-to}
+use Rattle.std.proofs.Common.{true, false}
+use Rattle.cheney.proofs.Stepping.Steps.{Spot, cons-spot, cons-to}
 use Rattle.cheney.proofs.objects.copy_cons.Goals as goal
 
-pub cons_to-requires-clause-within : goal.cons_to-requires-clause-within
-cons_to-requires-clause-within c = (cons-spot c.args.mem.now c.args.mv.now c.args.w c.args.head c.args.tail true c.requires.can c.requires.fresh c.if-is_in.ensures).within
+pub cons_to-requires : goal.cons_to-requires
+cons_to-requires c =
+    let place : Spot c.args.mem.now c.args.mv.now c.args.w 2 true = cons-spot c.args.mem.now c.args.mv.now c.args.w c.args.head c.args.tail true c.requires.can c.requires.fresh c.if-is_in.ensures in
+    record { tag = c.requires.fresh.tag; head = c.requires.fresh.head_is; tail = c.requires.fresh.tail_is; within = place.within; fits = place.fits; apart = place.apart }
 
-pub cons_to-requires-clause-fits : goal.cons_to-requires-clause-fits
-cons_to-requires-clause-fits c = (cons-spot c.args.mem.now c.args.mv.now c.args.w c.args.head c.args.tail true c.requires.can c.requires.fresh c.if-is_in.ensures).fits
-
-pub cons_to-requires-clause-apart : goal.cons_to-requires-clause-apart
-cons_to-requires-clause-apart c = (cons-spot c.args.mem.now c.args.mv.now c.args.w c.args.head c.args.tail true c.requires.can c.requires.fresh c.if-is_in.ensures).apart
-
-pub cons_to-requires-else-is_in-clause-within : goal.cons_to-requires-else-is_in-clause-within
-cons_to-requires-else-is_in-clause-within c = (cons-spot c.args.mem.now c.args.mv.now c.args.w c.args.head c.args.tail false c.requires.can c.requires.fresh c.if-is_in.ensures).within
-
-pub cons_to-requires-else-is_in-clause-fits : goal.cons_to-requires-else-is_in-clause-fits
-cons_to-requires-else-is_in-clause-fits c = (cons-spot c.args.mem.now c.args.mv.now c.args.w c.args.head c.args.tail false c.requires.can c.requires.fresh c.if-is_in.ensures).fits
-
-pub cons_to-requires-else-is_in-clause-apart : goal.cons_to-requires-else-is_in-clause-apart
-cons_to-requires-else-is_in-clause-apart c = (cons-spot c.args.mem.now c.args.mv.now c.args.w c.args.head c.args.tail false c.requires.can c.requires.fresh c.if-is_in.ensures).apart
+pub cons_to-requires-else-is_in : goal.cons_to-requires-else-is_in
+cons_to-requires-else-is_in c =
+    let place : Spot c.args.mem.now c.args.mv.now c.args.w 2 false = cons-spot c.args.mem.now c.args.mv.now c.args.w c.args.head c.args.tail false c.requires.can c.requires.fresh c.if-is_in.ensures in
+    record { tag = c.requires.fresh.tag; head = c.requires.fresh.head_is; tail = c.requires.fresh.tail_is; within = place.within; fits = place.fits; apart = place.apart }
 
 pub returns-then-is_in : goal.returns-then-is_in
 returns-then-is_in c =
@@ -31,21 +22,3 @@ returns-else-is_in c =
     cons-to c.args.mem.now c.cons_to-else-is_in.new.mem c.args.mv.now false c.cons_to-else-is_in.new.room c.args.w c.args.head c.args.tail c.cons_to-else-is_in.result c.requires.fresh
     c.if-is_in.ensures
     c.cons_to-else-is_in.ensures.copies c.cons_to-else-is_in.ensures.room
-
-pub cons_to-requires-clause-tag : goal.cons_to-requires-clause-tag
-cons_to-requires-clause-tag c = grind (arith, common_steps)
-
-pub cons_to-requires-clause-head : goal.cons_to-requires-clause-head
-cons_to-requires-clause-head c = grind (arith, common_steps)
-
-pub cons_to-requires-clause-tail : goal.cons_to-requires-clause-tail
-cons_to-requires-clause-tail c = grind (arith, common_steps)
-
-pub cons_to-requires-else-is_in-clause-tag : goal.cons_to-requires-else-is_in-clause-tag
-cons_to-requires-else-is_in-clause-tag c = grind (arith, common_steps)
-
-pub cons_to-requires-else-is_in-clause-head : goal.cons_to-requires-else-is_in-clause-head
-cons_to-requires-else-is_in-clause-head c = grind (arith, common_steps)
-
-pub cons_to-requires-else-is_in-clause-tail : goal.cons_to-requires-else-is_in-clause-tail
-cons_to-requires-else-is_in-clause-tail c = grind (arith, common_steps)

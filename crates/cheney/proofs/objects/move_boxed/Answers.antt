@@ -1,6 +1,5 @@
-use Rattle.std.proofs.Common.{arith, true, false}
-use Rattle.std.proofs.lemmas.Grind.{common_steps}
-use Rattle.cheney.proofs.Stepping.Steps.{from-moves, boxed-some, boxed-spot, boxed-found, boxed-to}
+use Rattle.std.proofs.Common.{true, false, ◌+◌, ◌/◌}
+use Rattle.cheney.proofs.Stepping.Steps.{Spot, from-moves, boxed-some, boxed-spot, boxed-found, boxed-to}
 use Rattle.cheney.proofs.objects.move_boxed.Goals as goal
 
 pub get-header-requires : goal.get-header-requires
@@ -9,29 +8,19 @@ get-header-requires c = boxed-some c.args.mem.now c.args.mv.now c.args.w c.requi
 pub returns-then-header-eq2 : goal.returns-then-header-eq2
 returns-then-header-eq2 c = boxed-found c.args.mem.now c.args.mv.now c.args.w c.get-header.result c.requires.tag c.if-stays_at.ensures c.get-header.ensures c.if-header-eq2.true
 
-pub boxed_to-requires-clause-within : goal.boxed_to-requires-clause-within
-boxed_to-requires-clause-within c = (boxed-spot c.args.mem.now c.args.mv.now c.args.w c.get-header.result true c.requires.can c.requires.tag c.if-stays_at.ensures c.get-header.ensures
-    c.if-header-eq2.false c.if-is_in.ensures).within
+pub boxed_to-requires : goal.boxed_to-requires
+boxed_to-requires c =
+    let place : Spot c.args.mem.now c.args.mv.now c.args.w (1 + c.get-header.result / 64) true =
+    boxed-spot c.args.mem.now c.args.mv.now c.args.w c.get-header.result true c.requires.can c.requires.tag c.if-stays_at.ensures c.get-header.ensures
+    c.if-header-eq2.false c.if-is_in.ensures in
+    record { tag = c.requires.tag; header = c.get-header.ensures; within = place.within; fits = place.fits; apart = place.apart }
 
-pub boxed_to-requires-clause-fits : goal.boxed_to-requires-clause-fits
-boxed_to-requires-clause-fits c = (boxed-spot c.args.mem.now c.args.mv.now c.args.w c.get-header.result true c.requires.can c.requires.tag c.if-stays_at.ensures c.get-header.ensures
-    c.if-header-eq2.false c.if-is_in.ensures).fits
-
-pub boxed_to-requires-clause-apart : goal.boxed_to-requires-clause-apart
-boxed_to-requires-clause-apart c = (boxed-spot c.args.mem.now c.args.mv.now c.args.w c.get-header.result true c.requires.can c.requires.tag c.if-stays_at.ensures c.get-header.ensures
-    c.if-header-eq2.false c.if-is_in.ensures).apart
-
-pub boxed_to-requires-else-is_in-clause-within : goal.boxed_to-requires-else-is_in-clause-within
-boxed_to-requires-else-is_in-clause-within c = (boxed-spot c.args.mem.now c.args.mv.now c.args.w c.get-header.result false c.requires.can c.requires.tag c.if-stays_at.ensures
-    c.get-header.ensures c.if-header-eq2.false c.if-is_in.ensures).within
-
-pub boxed_to-requires-else-is_in-clause-fits : goal.boxed_to-requires-else-is_in-clause-fits
-boxed_to-requires-else-is_in-clause-fits c = (boxed-spot c.args.mem.now c.args.mv.now c.args.w c.get-header.result false c.requires.can c.requires.tag c.if-stays_at.ensures
-    c.get-header.ensures c.if-header-eq2.false c.if-is_in.ensures).fits
-
-pub boxed_to-requires-else-is_in-clause-apart : goal.boxed_to-requires-else-is_in-clause-apart
-boxed_to-requires-else-is_in-clause-apart c = (boxed-spot c.args.mem.now c.args.mv.now c.args.w c.get-header.result false c.requires.can c.requires.tag c.if-stays_at.ensures
-    c.get-header.ensures c.if-header-eq2.false c.if-is_in.ensures).apart
+pub boxed_to-requires-else-is_in : goal.boxed_to-requires-else-is_in
+boxed_to-requires-else-is_in c =
+    let place : Spot c.args.mem.now c.args.mv.now c.args.w (1 + c.get-header.result / 64) false =
+    boxed-spot c.args.mem.now c.args.mv.now c.args.w c.get-header.result false c.requires.can c.requires.tag c.if-stays_at.ensures c.get-header.ensures
+    c.if-header-eq2.false c.if-is_in.ensures in
+    record { tag = c.requires.tag; header = c.get-header.ensures; within = place.within; fits = place.fits; apart = place.apart }
 
 pub returns-then-is_in : goal.returns-then-is_in
 returns-then-is_in c =
@@ -46,18 +35,3 @@ returns-else-is_in c =
 
 pub stays_at-requires : goal.stays_at-requires
 stays_at-requires c = from-moves c.args.mem.now c.args.mv.now c.args.w c.requires.can
-
-pub returns-then-stays_at : goal.returns-then-stays_at
-returns-then-stays_at c = grind (arith, common_steps)
-
-pub boxed_to-requires-clause-tag : goal.boxed_to-requires-clause-tag
-boxed_to-requires-clause-tag c = grind (arith, common_steps)
-
-pub boxed_to-requires-clause-header : goal.boxed_to-requires-clause-header
-boxed_to-requires-clause-header c = grind (arith, common_steps)
-
-pub boxed_to-requires-else-is_in-clause-tag : goal.boxed_to-requires-else-is_in-clause-tag
-boxed_to-requires-else-is_in-clause-tag c = grind (arith, common_steps)
-
-pub boxed_to-requires-else-is_in-clause-header : goal.boxed_to-requires-else-is_in-clause-header
-boxed_to-requires-else-is_in-clause-header c = grind (arith, common_steps)

@@ -15,9 +15,12 @@ pub returns-then-head-eq0 : goal.returns-then-head-eq0
 returns-then-head-eq0 c = cons-found c.args.mem.now c.args.mv.now c.args.w c.get-head.result c.get-tail.result c.requires.tag c.if-stays_at.ensures c.get-head.ensures c.if-head-eq0.true
     c.get-tail.ensures
 
-pub copy_cons-requires-clause-fresh : goal.copy_cons-requires-clause-fresh
-copy_cons-requires-clause-fresh c = is-fresh c.args.mem.now c.args.mv.now c.args.w c.get-head.result c.get-tail.result c.requires.tag c.if-stays_at.ensures c.get-head.ensures
-    c.if-head-eq0.false c.get-tail.ensures
+pub copy_cons-requires : goal.copy_cons-requires
+copy_cons-requires c = record {
+  fresh = is-fresh c.args.mem.now c.args.mv.now c.args.w c.get-head.result c.get-tail.result c.requires.tag c.if-stays_at.ensures c.get-head.ensures
+      c.if-head-eq0.false c.get-tail.ensures;
+  can = c.requires.can;
+}
 
 pub returns : goal.returns
 returns c = inr (inr c.copy_cons.ensures)

@@ -1,4 +1,4 @@
-use Rattle.std.proofs.Common.{ℕ, subst, ◌+◌, ◌/◌}
+use Rattle.std.proofs.Common.{ℕ, subst, arith, ◌+◌, ◌/◌}
 use Rattle.cheney.specs.Calls.{Shape}
 use Rattle.cheney.specs.Zones.{mark}
 use Rattle.cheney.proofs.Stepping.Steps.{Going, opened-there, going-on, going-step, gone-through, same-ends, step-within}
@@ -19,13 +19,16 @@ get-w-requires c =
     (c.loop-at.invariant c.requires.can.1.plan c.requires.can.1.marks c.requires.can.0 c.requires.can.1.runs c.requires.can.1.scanned c.requires.can.1.object c.requires.can.1.below)
     c.loop-at-test.true)
 
-pub scan_word-requires-clause-can : goal.scan_word-requires-clause-can
-scan_word-requires-clause-can c = (
-  c.requires.can.0,
-  going-step c.requires.can.1.plan c.args.mem.now c.loop-at.mem c.loop-at.mv c.requires.can.1.marks c.requires.can.0 c.loop-at.at (c.args.place + (1 + c.args.header / 64))
-      (c.loop-at.invariant c.requires.can.1.plan c.requires.can.1.marks c.requires.can.0 c.requires.can.1.runs c.requires.can.1.scanned c.requires.can.1.object c.requires.can.1.below)
-      c.loop-at-test.true,
-)
+pub scan_word-requires : goal.scan_word-requires
+scan_word-requires c = record {
+  can = (
+    c.requires.can.0,
+    going-step c.requires.can.1.plan c.args.mem.now c.loop-at.mem c.loop-at.mv c.requires.can.1.marks c.requires.can.0 c.loop-at.at (c.args.place + (1 + c.args.header / 64))
+        (c.loop-at.invariant c.requires.can.1.plan c.requires.can.1.marks c.requires.can.0 c.requires.can.1.runs c.requires.can.1.scanned c.requires.can.1.object c.requires.can.1.below)
+        c.loop-at-test.true,
+  );
+  word = c.get-w.ensures;
+}
 
 pub loop-at-preserved : goal.loop-at-preserved
 loop-at-preserved c = λ p k b run s o less.
@@ -35,12 +38,13 @@ loop-at-preserved c = λ p k b run s o less.
     (c.scan_word.ensures.each p (mark k b c.loop-at.at (c.args.place + (1 + c.args.header / 64))) b go.on.runs (scanned-here k b c.loop-at.at (c.args.place + (1 + c.args.header / 64))))
     (c.scan_word.ensures.copies p (mark k b c.loop-at.at (c.args.place + (1 + c.args.header / 64))) b go.on.runs (scanned-here k b c.loop-at.at (c.args.place + (1 + c.args.header / 64))))
 
-pub returns-clause-each : goal.returns-clause-each
-returns-clause-each c = λ b p k run s o less.
-    gone-through p c.args.mem.now c.loop-at.mem c.loop-at.mv k b c.loop-at.at (c.args.place + (1 + c.args.header / 64)) (c.loop-at.invariant p k b run s o less) c.loop-at-test.false
-
-pub returns-clause-ends : goal.returns-clause-ends
-returns-clause-ends c =
-    same-ends c.requires.can.1.plan c.args.mem.now c.loop-at.mem c.args.mv.now c.loop-at.mv c.requires.can.1.marks
-    (mark c.requires.can.1.marks c.requires.can.0 c.loop-at.at (c.args.place + (1 + c.args.header / 64))) c.requires.can.1.runs
-    (c.loop-at.invariant c.requires.can.1.plan c.requires.can.1.marks c.requires.can.0 c.requires.can.1.runs c.requires.can.1.scanned c.requires.can.1.object c.requires.can.1.below).on.runs
+pub returns : goal.returns
+returns c = record {
+  each = λ b p k run s o less.
+      gone-through p c.args.mem.now c.loop-at.mem c.loop-at.mv k b c.loop-at.at (c.args.place + (1 + c.args.header / 64)) (c.loop-at.invariant p k b run s o less) c.loop-at-test.false;
+  ends =
+      same-ends c.requires.can.1.plan c.args.mem.now c.loop-at.mem c.args.mv.now c.loop-at.mv c.requires.can.1.marks
+      (mark c.requires.can.1.marks c.requires.can.0 c.loop-at.at (c.args.place + (1 + c.args.header / 64))) c.requires.can.1.runs
+      (c.loop-at.invariant c.requires.can.1.plan c.requires.can.1.marks c.requires.can.0 c.requires.can.1.runs c.requires.can.1.scanned c.requires.can.1.object c.requires.can.1.below).on.runs;
+  further = omega arith;
+}

@@ -12,21 +12,21 @@ set-requires c =
     c.evacuate-new.result c.requires.word c.evacuate-new.ensures
     c.requires.can.1.runs c.requires.can.1.scanned c.requires.can.1.part)
 
-pub returns-then-is_pointer-clause-each : goal.returns-then-is_pointer-clause-each
-returns-then-is_pointer-clause-each c = λ p k b run s o.
-    stepped p c.args.mem.now c.evacuate-new.new.mem c.args.mv.now c.evacuate-new.new.mv k b c.args.at c.evacuate-new.result run s o
-    (went-there p c.args.mem.now c.evacuate-new.new.mem c.args.mv.now c.evacuate-new.new.mv k b c.args.at c.args.w c.evacuate-new.result c.requires.word c.evacuate-new.ensures run s o)
-    c.set.new.self c.set.ensures
+pub returns-then-is_pointer : goal.returns-then-is_pointer
+returns-then-is_pointer c = record {
+  each = λ p k b run s o.
+      stepped p c.args.mem.now c.evacuate-new.new.mem c.args.mv.now c.evacuate-new.new.mv k b c.args.at c.evacuate-new.result run s o
+      (went-there p c.args.mem.now c.evacuate-new.new.mem c.args.mv.now c.evacuate-new.new.mv k b c.args.at c.args.w c.evacuate-new.result c.requires.word c.evacuate-new.ensures run s o)
+      c.set.new.self c.set.ensures;
+  copies = λ p k b run s o more.
+      step-part p c.args.mem.now c.evacuate-new.new.mem c.args.mv.now c.evacuate-new.new.mv k b c.args.at c.evacuate-new.result run s o
+      (went-there p c.args.mem.now c.evacuate-new.new.mem c.args.mv.now c.evacuate-new.new.mv k b c.args.at c.args.w c.evacuate-new.result c.requires.word c.evacuate-new.ensures run s o)
+      c.set.new.self c.set.ensures more;
+}
 
-pub returns-then-is_pointer-clause-copies : goal.returns-then-is_pointer-clause-copies
-returns-then-is_pointer-clause-copies c = λ p k b run s o more.
-    step-part p c.args.mem.now c.evacuate-new.new.mem c.args.mv.now c.evacuate-new.new.mv k b c.args.at c.evacuate-new.result run s o
-    (went-there p c.args.mem.now c.evacuate-new.new.mem c.args.mv.now c.evacuate-new.new.mv k b c.args.at c.args.w c.evacuate-new.result c.requires.word c.evacuate-new.ensures run s o)
-    c.set.new.self c.set.ensures more
-
-pub returns-else-is_pointer-clause-each : goal.returns-else-is_pointer-clause-each
-returns-else-is_pointer-clause-each c = λ p k b run s o. kept-word p c.args.mem.now c.args.mv.now k b c.args.at c.args.w run s o c.requires.word (c.is_pointer.ensures.no c.if-is_pointer.false)
-
-pub returns-else-is_pointer-clause-copies : goal.returns-else-is_pointer-clause-copies
-returns-else-is_pointer-clause-copies c = λ p k b run s o more. kept-part p c.args.mem.now c.args.mv.now k b c.args.at c.args.w run s o c.requires.word
-    (c.is_pointer.ensures.no c.if-is_pointer.false) more
+pub returns-else-is_pointer : goal.returns-else-is_pointer
+returns-else-is_pointer c = record {
+  each = λ p k b run s o. kept-word p c.args.mem.now c.args.mv.now k b c.args.at c.args.w run s o c.requires.word (c.is_pointer.ensures.no c.if-is_pointer.false);
+  copies = λ p k b run s o more. kept-part p c.args.mem.now c.args.mv.now k b c.args.at c.args.w run s o c.requires.word
+      (c.is_pointer.ensures.no c.if-is_pointer.false) more;
+}

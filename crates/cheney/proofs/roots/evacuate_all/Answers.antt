@@ -1,5 +1,4 @@
 use Rattle.std.proofs.Common.{◌<◌, length, ◌∙◌, refl, arith}
-use Rattle.std.proofs.lemmas.Grind.{common_steps}
 use Rattle.std.proofs.lemmas.List.{length-set}
 use Rattle.cheney.proofs.Rooted.Rows.{row-done, row-further, row-moves, row-reached, row-start}
 use Rattle.cheney.proofs.roots.evacuate_all.Goals as goal
@@ -23,21 +22,9 @@ loop-i-preserved c = record {
       (row-reached p c.args.mem.now c.loop-i.mem c.loop-i.mv k c.args.words.now c.loop-i.words c.loop-i.i (c.loop-i.invariant.each p k run each) each less));
 }
 
-pub returns-clause-each : goal.returns-clause-each
-returns-clause-each c = λ p k run each. row-done p c.args.mem.now c.loop-i.mem c.loop-i.mv k c.args.words.now c.loop-i.words c.loop-i.i (c.loop-i.invariant.each p k run each) each
-    c.loop-i-test.false
-
-pub offset_bounds-words-i : goal.offset_bounds-words-i
-offset_bounds-words-i c = grind (arith, common_steps)
-
-pub bounds-words-i : goal.bounds-words-i
-bounds-words-i c = grind (arith, common_steps)
-
-pub offset_bounds-words-i-in-loop-i : goal.offset_bounds-words-i-in-loop-i
-offset_bounds-words-i-in-loop-i c = grind (arith, common_steps)
-
-pub bounds-words-i-in-loop-i : goal.bounds-words-i-in-loop-i
-bounds-words-i-in-loop-i c = grind (arith, common_steps)
-
-pub returns-clause-len : goal.returns-clause-len
-returns-clause-len c = grind (arith, common_steps)
+pub returns : goal.returns
+returns c = record {
+  each = λ p k run each. row-done p c.args.mem.now c.loop-i.mem c.loop-i.mv k c.args.words.now c.loop-i.words c.loop-i.i (c.loop-i.invariant.each p k run each) each
+      c.loop-i-test.false;
+  len = c.loop-i.invariant.len;
+}

@@ -1,5 +1,3 @@
-use Rattle.std.proofs.Common.{arith}
-use Rattle.std.proofs.lemmas.Grind.{common_steps}
 use Rattle.cheney.proofs.Rooted.Places.{places-done, places-further, places-moves, places-reached}
 use Rattle.cheney.proofs.roots.evacuate_places.Goals as goal
 
@@ -18,12 +16,3 @@ loop-i-preserved c = λ p k run roots.
 pub returns : goal.returns
 returns c = λ p k run roots. places-done p c.args.mem.now c.loop-i.mem c.loop-i.mv k c.args.from c.args.step c.args.count c.loop-i.i c.requires.apart (c.loop-i.invariant p k run roots)
     roots c.loop-i-test.false
-
-pub loop-i-init : goal.loop-i-init
-loop-i-init c = grind (arith, common_steps)
-
-pub overflow_mul-i : goal.overflow_mul-i
-overflow_mul-i c = grind (arith, common_steps)
-
-pub overflow_add-from : goal.overflow_add-from
-overflow_add-from c = grind (arith, common_steps)

@@ -16,57 +16,46 @@ loop-further-init c = record {
   above = omega arith;
 }
 
-pub scan_word-requires-clause-can : goal.scan_word-requires-clause-can
-scan_word-requires-clause-can c = (
-  c.args.aged,
-  cell-step c.requires.can.plan c.args.mem.now c.loop-further.mem c.loop-further.mv c.requires.can.marks c.args.aged c.loop-further.cell.place c.loop-further.cell.head
+pub scan_word-requires : goal.scan_word-requires
+scan_word-requires c = record {
+  can = (
+    c.args.aged,
+    cell-step c.requires.can.plan c.args.mem.now c.loop-further.mem c.loop-further.mv c.requires.can.marks c.args.aged c.loop-further.cell.place c.loop-further.cell.head
+        c.loop-further.cell.tail (c.loop-further.invariant.each c.requires.can.plan c.requires.can.marks c.requires.can.runs c.requires.can.scanned c.requires.can.object
+        c.requires.can.below) c.loop-further.invariant.next,
+  );
+  word = c.loop-further.invariant.next.head_is;
+}
+
+pub scan_tail-next-requires : goal.scan_tail-next-requires
+scan_tail-next-requires c = record {
+  can =
+      tail-step c.requires.can.plan c.args.mem.now c.loop-further.mem c.loop-further.mv c.requires.can.marks c.args.aged c.loop-further.cell.place c.loop-further.cell.head
       c.loop-further.cell.tail (c.loop-further.invariant.each c.requires.can.plan c.requires.can.marks c.requires.can.runs c.requires.can.scanned c.requires.can.object
-      c.requires.can.below) c.loop-further.invariant.next,
-)
+      c.requires.can.below) c.loop-further.invariant.next
+      c.scan_word.new.mem c.scan_word.new.mv c.scan_word.ensures.each c.scan_word.ensures.copies;
+  word =
+      tail-kept c.requires.can.plan c.args.mem.now c.loop-further.mem c.loop-further.mv c.requires.can.marks c.args.aged c.loop-further.cell.place c.loop-further.cell.head
+      c.loop-further.cell.tail (c.loop-further.invariant.each c.requires.can.plan c.requires.can.marks c.requires.can.runs c.requires.can.scanned c.requires.can.object
+      c.requires.can.below) c.loop-further.invariant.next
+      c.scan_word.new.mem c.scan_word.new.mv c.scan_word.ensures.each c.scan_word.ensures.copies;
+}
 
-pub scan_tail-next-requires-clause-can : goal.scan_tail-next-requires-clause-can
-scan_tail-next-requires-clause-can c =
-    tail-step c.requires.can.plan c.args.mem.now c.loop-further.mem c.loop-further.mv c.requires.can.marks c.args.aged c.loop-further.cell.place c.loop-further.cell.head
-    c.loop-further.cell.tail (c.loop-further.invariant.each c.requires.can.plan c.requires.can.marks c.requires.can.runs c.requires.can.scanned c.requires.can.object
-    c.requires.can.below) c.loop-further.invariant.next
-    c.scan_word.new.mem c.scan_word.new.mv c.scan_word.ensures.each c.scan_word.ensures.copies
-
-pub scan_tail-next-requires-clause-word : goal.scan_tail-next-requires-clause-word
-scan_tail-next-requires-clause-word c =
-    tail-kept c.requires.can.plan c.args.mem.now c.loop-further.mem c.loop-further.mv c.requires.can.marks c.args.aged c.loop-further.cell.place c.loop-further.cell.head
-    c.loop-further.cell.tail (c.loop-further.invariant.each c.requires.can.plan c.requires.can.marks c.requires.can.runs c.requires.can.scanned c.requires.can.object
-    c.requires.can.below) c.loop-further.invariant.next
-    c.scan_word.new.mem c.scan_word.new.mv c.scan_word.ensures.each c.scan_word.ensures.copies
-
-pub returns-in_default-clause-each : goal.returns-in_default-clause-each
-returns-in_default-clause-each c = λ p k run s o less.
-    cell-done p c.args.mem.now c.loop-further.mem c.loop-further.mv k c.args.aged c.loop-further.cell.place c.loop-further.cell.head c.loop-further.cell.tail
-    (c.loop-further.invariant.each p k run s o less) c.loop-further.invariant.next c.scan_word.new.mem c.scan_word.new.mv c.scan_word.ensures.each c.scan_word.ensures.copies
-    c.scan_tail-next.new.mem c.scan_tail-next.new.mv c.scan_tail-next.ensures.each
-
-pub returns-in_default-clause-ends : goal.returns-in_default-clause-ends
-returns-in_default-clause-ends c =
-    same-ends c.requires.can.plan c.args.mem.now c.scan_tail-next.new.mem c.args.mv.now c.scan_tail-next.new.mv c.requires.can.marks
-    (mark c.requires.can.marks c.args.aged (c.loop-further.cell.place + 2) (c.loop-further.cell.place + 2)) c.requires.can.runs
-    (cell-done c.requires.can.plan c.args.mem.now c.loop-further.mem c.loop-further.mv c.requires.can.marks c.args.aged c.loop-further.cell.place c.loop-further.cell.head
-    c.loop-further.cell.tail (c.loop-further.invariant.each c.requires.can.plan c.requires.can.marks c.requires.can.runs c.requires.can.scanned c.requires.can.object
-    c.requires.can.below) c.loop-further.invariant.next c.scan_word.new.mem c.scan_word.new.mv c.scan_word.ensures.each c.scan_word.ensures.copies c.scan_tail-next.new.mem
-    c.scan_tail-next.new.mv c.scan_tail-next.ensures.each).runs
-
-pub returns-then-further-at-clause-each : goal.returns-then-further-at-clause-each
-returns-then-further-at-clause-each c = λ p k run s o less.
-    cell-done p c.args.mem.now c.loop-further.mem c.loop-further.mv k c.args.aged c.loop-further.cell.place c.loop-further.cell.head c.loop-further.cell.tail
-    (c.loop-further.invariant.each p k run s o less) c.loop-further.invariant.next c.scan_word.new.mem c.scan_word.new.mv c.scan_word.ensures.each c.scan_word.ensures.copies
-    c.scan_tail-next.new.mem c.scan_tail-next.new.mv c.scan_tail-next.ensures.each
-
-pub returns-then-further-at-clause-ends : goal.returns-then-further-at-clause-ends
-returns-then-further-at-clause-ends c =
-    same-ends c.requires.can.plan c.args.mem.now c.scan_tail-next.new.mem c.args.mv.now c.scan_tail-next.new.mv c.requires.can.marks
-    (mark c.requires.can.marks c.args.aged (c.loop-further.cell.place + 2) (c.loop-further.cell.place + 2)) c.requires.can.runs
-    (cell-done c.requires.can.plan c.args.mem.now c.loop-further.mem c.loop-further.mv c.requires.can.marks c.args.aged c.loop-further.cell.place c.loop-further.cell.head
-    c.loop-further.cell.tail (c.loop-further.invariant.each c.requires.can.plan c.requires.can.marks c.requires.can.runs c.requires.can.scanned c.requires.can.object
-    c.requires.can.below) c.loop-further.invariant.next c.scan_word.new.mem c.scan_word.new.mv c.scan_word.ensures.each c.scan_word.ensures.copies c.scan_tail-next.new.mem
-    c.scan_tail-next.new.mv c.scan_tail-next.ensures.each).runs
+pub returns-in_default : goal.returns-in_default
+returns-in_default c = record {
+  each = λ p k run s o less.
+      cell-done p c.args.mem.now c.loop-further.mem c.loop-further.mv k c.args.aged c.loop-further.cell.place c.loop-further.cell.head c.loop-further.cell.tail
+      (c.loop-further.invariant.each p k run s o less) c.loop-further.invariant.next c.scan_word.new.mem c.scan_word.new.mv c.scan_word.ensures.each c.scan_word.ensures.copies
+      c.scan_tail-next.new.mem c.scan_tail-next.new.mv c.scan_tail-next.ensures.each;
+  further = omega (arith, c.loop-further.invariant.above);
+  ends =
+      same-ends c.requires.can.plan c.args.mem.now c.scan_tail-next.new.mem c.args.mv.now c.scan_tail-next.new.mv c.requires.can.marks
+      (mark c.requires.can.marks c.args.aged (c.loop-further.cell.place + 2) (c.loop-further.cell.place + 2)) c.requires.can.runs
+      (cell-done c.requires.can.plan c.args.mem.now c.loop-further.mem c.loop-further.mv c.requires.can.marks c.args.aged c.loop-further.cell.place c.loop-further.cell.head
+      c.loop-further.cell.tail (c.loop-further.invariant.each c.requires.can.plan c.requires.can.marks c.requires.can.runs c.requires.can.scanned c.requires.can.object
+      c.requires.can.below) c.loop-further.invariant.next c.scan_word.new.mem c.scan_word.new.mv c.scan_word.ensures.each c.scan_word.ensures.copies c.scan_tail-next.new.mem
+      c.scan_tail-next.new.mv c.scan_tail-next.ensures.each).runs;
+}
 
 pub loop-further-smaller : goal.loop-further-smaller
 loop-further-smaller c =
@@ -77,24 +66,21 @@ loop-further-smaller c =
     (cell-inside c.requires.can.plan c.args.mem.now c.loop-further.mem c.loop-further.mv c.requires.can.marks c.args.aged c.loop-further.cell.place c.loop-further.cell.head
     c.loop-further.cell.tail (c.loop-further.invariant.each c.requires.can.plan c.requires.can.marks c.requires.can.runs c.requires.can.scanned c.requires.can.object
     c.requires.can.below) c.loop-further.invariant.next) in
-    omega (arith, c.if-further-at.false, inside)
+    omega (arith, c.if-further-at.true, inside)
 
 pub loop-further-preserved : goal.loop-further-preserved
 loop-further-preserved c = record {
   each = λ p k run s o less.
       let P : ℕ → Type 0 = λ z. RunsOn p c.args.mem.now c.scan_tail-next.new.mem c.scan_tail-next.new.mv (mark k c.args.aged z z) in
-      subst P (sym c.if-further-at.false) (cell-done p c.args.mem.now c.loop-further.mem c.loop-further.mv k c.args.aged c.loop-further.cell.place c.loop-further.cell.head
+      subst P (sym c.if-further-at.true) (cell-done p c.args.mem.now c.loop-further.mem c.loop-further.mv k c.args.aged c.loop-further.cell.place c.loop-further.cell.head
       c.loop-further.cell.tail (c.loop-further.invariant.each p k run s o less) c.loop-further.invariant.next c.scan_word.new.mem c.scan_word.new.mv c.scan_word.ensures.each
       c.scan_word.ensures.copies c.scan_tail-next.new.mem c.scan_tail-next.new.mv c.scan_tail-next.ensures.each);
   next = c.in-Some.ensures.next;
-  above = omega (arith, c.if-further-at.false, c.loop-further.invariant.above);
+  above = omega (arith, c.if-further-at.true, c.loop-further.invariant.above);
 }
 
 pub overflow_add-place : goal.overflow_add-place
 overflow_add-place c = grind (arith, common_steps)
-
-pub scan_word-requires-clause-word : goal.scan_word-requires-clause-word
-scan_word-requires-clause-word c = grind (arith, common_steps)
 
 pub overflow_add-at : goal.overflow_add-at
 overflow_add-at c = grind (arith, common_steps)
@@ -102,14 +88,5 @@ overflow_add-at c = grind (arith, common_steps)
 pub overflow_add-result : goal.overflow_add-result
 overflow_add-result c = grind (arith, common_steps)
 
-pub returns-in_default-clause-further : goal.returns-in_default-clause-further
-returns-in_default-clause-further c = grind (arith, common_steps)
-
 pub overflow_add-at-in-loop-further : goal.overflow_add-at-in-loop-further
 overflow_add-at-in-loop-further c = grind (arith, common_steps)
-
-pub overflow_add-result-then-further-at : goal.overflow_add-result-then-further-at
-overflow_add-result-then-further-at c = grind (arith, common_steps)
-
-pub returns-then-further-at-clause-further : goal.returns-then-further-at-clause-further
-returns-then-further-at-clause-further c = grind (arith, common_steps)
