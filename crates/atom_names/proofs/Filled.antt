@@ -31,6 +31,10 @@ short-set rows i row low all k d h = ⊎_elim
     (λ apart. rw (get_or-set_other rows i k row d apart) (all k d (omega (arith, length-set rows i row))))
     (cases_eq k i)
 
+pub short-take : (rows : List Row) (n : ℕ) → n ≤ length rows → AreShort rows → AreShort (take n rows)
+short-take rows n fits all k d h =
+    let less : k < n = omega (arith, length-take-le n rows fits) in rw (get_or-take n rows k d less) (all k d (omega arith))
+
 -- A row is added at the end.
 pub Holds_push : (rows : List Row) (table grown : Table) (count slot : ℕ) (row : Row) (name : List ℕ) → NamesHold rows table count →
     count < MOST_NAMES → row.len ≤ LONGEST_NAME → row_name row ≡ name → 1 ≤ length name → length name ≤ LONGEST_NAME →
@@ -76,6 +80,12 @@ pub number-of-push : (rows : List Row) (table : Table) (count : ℕ) (row : Row)
 number-of-push rows table count row name all room e none =
     rw (names_of-push rows count row (omega (arith, all.room)), e)
     (index_of-push (names_of rows count) name count (names_of-len rows count (omega (arith, all.room))) none)
+
+-- How many names there are when a row is added.
+pub room-of-push : (rows : List Row) (table : Table) (count : ℕ) (row : Row) → NamesHold rows table count → count < MOST_NAMES →
+    length (names_of (set rows count row) (count + 1)) ≤ MOST_NAMES
+room-of-push rows table count row all room =
+    omega (arith, names_of-len (set rows count row) (count + 1) (omega (arith, length-set rows count row, all.room)))
 
 -- Where a row in use holds the name, its place is the name's number.
 pub number-found : (rows read : List Row) (table : Table) (count k : ℕ) (name : List ℕ) (seen : List (List ℕ)) → NamesHold rows table count →

@@ -191,6 +191,15 @@ Finds_push names name n slots places slot f len room free =
       rest = omega (arith, f.rest, empties-fill slots slot n inside free.empty);
     }
 
+-- The first free slot on the way of a name is free for it.
+pub free-at : (slots : List ℕ) (name : List ℕ) (j : ℕ) → j < 65536 → get_or slots (after (first_slot name) j) 0 ≡ 0 →
+    ((i : ℕ) → i < j → 0 < get_or slots (after (first_slot name) i) 0) → IsFreeSlot name slots (after (first_slot name) j)
+free-at slots name j low empty full = record {
+  inside = after-low (first_slot name) j;
+  empty = empty;
+  led = λ i h. full i (omega (arith, steps-after (first_slot name) j (first_slot-low name) low));
+}
+
 -- A name that is none of those on the way to a free slot is new.
 pub new-at : (names : List (List ℕ)) (name : List ℕ) (n : ℕ) (slots places : List ℕ) (j : ℕ) → FindsSlot names n slots places → j < 65536 →
     get_or slots (after (first_slot name) j) 0 ≡ 0 →

@@ -1,5 +1,4 @@
 use Rattle.std.proofs.Common.{take, arith, ap, ◌∙◌}
-use Rattle.std.proofs.lemmas.Grind.{common_steps}
 use Rattle.atom_names.specs.Rows.{names_of}
 use Rattle.atom_names.proofs.Filled.{Holds_forget, names_of-forget, view-len}
 use Rattle.atom_names.proofs.names.AtomNames.forget.Goals as goal
@@ -15,14 +14,11 @@ returns c =
     let len = view-len c.self.inside.rows.items c.self.inside.table c.self.inside.count c.args.self.now c.self.invariant c.self.view_is in
     names_of-forget c.self.inside.rows.items c.args.n c.self.inside.count (omega arith) ∙ ap (take c.args.n) c.self.view_is
 
-pub free-requires-clause-order : goal.free-requires-clause-order
-free-requires-clause-order c = grind (arith, common_steps)
-
-pub free-requires-clause-slots_room : goal.free-requires-clause-slots_room
-free-requires-clause-slots_room c = grind (arith, common_steps)
-
-pub free-requires-clause-places_room : goal.free-requires-clause-places_room
-free-requires-clause-places_room c = grind (arith, common_steps)
-
-pub free-requires-clause-placed : goal.free-requires-clause-placed
-free-requires-clause-placed c = grind (arith, common_steps)
+pub free-requires : goal.free-requires
+free-requires c =
+    let len = view-len c.self.inside.rows.items c.self.inside.table c.self.inside.count c.args.self.now c.self.invariant c.self.view_is in record {
+      order = (omega arith, c.self.invariant.within);
+      slots_room = c.self.invariant.finds.slots_room;
+      places_room = c.self.invariant.finds.places_room;
+      placed = c.self.invariant.finds.placed;
+    }

@@ -5,33 +5,37 @@ use Rattle.std.proofs.lemmas.Slice.Eq.{bytes_eq-Decides}
 use Rattle.std.specs.Str.{bytes_eq}
 use Rattle.atom_names.specs.Rows.{row_name}
 use Rattle.atom_names.specs.Slots.{after}
-use Rattle.atom_names.proofs.Probing.{new-at, some-free, read-is, read-known}
+use Rattle.atom_names.proofs.Probing.{free-at, new-at, some-free, read-is, read-known}
 use Rattle.atom_names.proofs.table.Table.find.Goals as goal
 
-pub returns-then-number-eq0-clause-new : goal.returns-then-number-eq0-clause-new
-returns-then-number-eq0-clause-new c =
+pub returns-then-number-eq0 : goal.returns-then-number-eq0
+returns-then-number-eq0 c =
+    let start = c.spread-start.ensures.value in
     let at = read-is c.args.self.now.slots.items (after c.spread-start.result c.loop-j.j) c.index.result.now
-    (omega (arith, c.requires.finds.slots_room)) c.index.ensures in
-    new-at (map row_name c.args.rows.now) c.args.name.now (length c.args.rows.now) c.args.self.now.slots.items
-    c.args.self.now.places.items c.loop-j.j c.requires.finds c.loop-j-test.true
-    (rw (← c.spread-start.ensures.value) (at ∙ c.if-number-eq0.true)) (rw (← c.spread-start.ensures.value) c.loop-j.invariant.others)
+    (omega (arith, c.requires.finds.slots_room)) c.index.ensures ∙ c.if-number-eq0.true in record {
+      inside = tt;
+      there = tt;
+      free = rw start (free-at c.args.self.now.slots.items c.args.name.now c.loop-j.j c.loop-j-test.true (rw (← start) at)
+          (rw (← start) c.loop-j.invariant.full));
+      new = new-at (map row_name c.args.rows.now) c.args.name.now (length c.args.rows.now) c.args.self.now.slots.items
+          c.args.self.now.places.items c.loop-j.j c.requires.finds c.loop-j-test.true (rw (← start) at) (rw (← start) c.loop-j.invariant.others);
+    }
 
 pub bounds-rows-number : goal.bounds-rows-number
 bounds-rows-number c =
     read-known (map row_name c.args.rows.now) (length c.args.rows.now) c.args.self.now.slots.items c.args.self.now.places.items
     (after c.spread-start.result c.loop-j.j) c.index.result.now c.requires.finds (omega arith) c.index.ensures c.if-number-eq0.false
 
-pub returns-then-eq-clause-inside : goal.returns-then-eq-clause-inside
-returns-then-eq-clause-inside c =
-    read-known (map row_name c.args.rows.now) (length c.args.rows.now) c.args.self.now.slots.items c.args.self.now.places.items
-    (after c.spread-start.result c.loop-j.j) c.index.result.now c.requires.finds (omega arith) c.index.ensures c.if-number-eq0.false
-
-pub returns-then-eq-clause-there : goal.returns-then-eq-clause-there
-returns-then-eq-clause-there c =
+pub returns-then-eq : goal.returns-then-eq
+returns-then-eq c =
     let inside = read-known (map row_name c.args.rows.now) (length c.args.rows.now) c.args.self.now.slots.items c.args.self.now.places.items
-    (after c.spread-start.result c.loop-j.j) c.index.result.now c.requires.finds (omega arith) c.index.ensures c.if-number-eq0.false in
-    get_or-map row_name c.args.rows.now (c.index.result.now - 1) _ [] inside
-    ∙ (sym c.name_in.ensures ∙ (bytes_eq-Decides c.name_in.result.now c.args.name.now).0 (sym c.eq.ensures ∙ c.if-eq.true))
+    (after c.spread-start.result c.loop-j.j) c.index.result.now c.requires.finds (omega arith) c.index.ensures c.if-number-eq0.false in record {
+      inside = inside;
+      there = get_or-map row_name c.args.rows.now (c.index.result.now - 1) _ [] inside
+          ∙ (sym c.name_in.ensures ∙ (bytes_eq-Decides c.name_in.result.now c.args.name.now).0 (sym c.eq.ensures ∙ c.if-eq.true));
+      free = tt;
+      new = tt;
+    }
 
 pub loop-j-preserved : goal.loop-j-preserved
 loop-j-preserved c =
