@@ -1,8 +1,10 @@
 -- When the words of a room are an object that stands: one lemma a kind, by the words that lie there.
 use Rattle.std.proofs.Common.{◌≡◌, ℕ, zero, suc, ◌+◌, ◌-◌, ◌*◌, ◌/◌, ◌%◌, ◌^◌, ◌<◌, ◌≤◌, Bool, true, false, List, [], ◌∷◌, ◌++◌, length, replicate, get_or, ℤ}
-use Rattle.std.proofs.Common.{refl, sym, ◌∙◌, subst, arith, inl, inr, nat_lt}
+use Rattle.std.proofs.Common.{refl, sym, ap, ◌∙◌, subst, arith, inl, inr, nat_lt, pos, negsuc}
+use lib.IntN.{nat_abs}
 use Rattle.std.proofs.lemmas.Bool.{cases_Bool}
 use Rattle.std.proofs.lemmas.Bool.Decides.{nat_tests}
+use Rattle.word_mem.specs.declared.ranges.Room.{Room}
 use Rattle.plain_term.specs.Tree.{Tree, Trees, Pairs, trees_len, pairs_len, keys_of, values_of, same_trees}
 use Rattle.plain_term.specs.Tree.Tree.{Int, Ref, Map, Bin, Shared, Part, Fun}
 use Rattle.plain_term.specs.Tree.Pairs.{stop, pair}
@@ -20,6 +22,7 @@ use Rattle.term_words.proofs.Framing.Frames.{keep-all}
 use Rattle.term_words.proofs.Framing.Records.{bin-stays, fun-stays}
 use Rattle.term_words.proofs.ByKind.Pairs.{keys-len}
 use Rattle.term_build.specs.Taken.{Taken, Lie, plain, of_holder, of_fun, of_map}
+use Rattle.term_build.specs.Clear.{Uses}
 use Rattle.term_build.specs.Parts.{IsRecordOf, integer_words}
 use Rattle.term_build.proofs.Taking.{taken-first, taken-other, taken-keys, taken-map, fun-after}
 use Rattle.term_build.proofs.Putting.{lie-front, lie-back}
@@ -130,10 +133,10 @@ fun-made c d top n old new env r rec next arity creator count is few process ins
 
 -- The words of a big integer are as many as its magnitude needs.
 
-one-digit : (i : ℤ) → is_small i ≡ false → nat_lt (magnitude i) (2 ^ 64) ≡ true → (integer_words i ≡ head_word (sign_tag i) 1 ∷ magnitude i ∷ []) × (int_flat i ≡ 2)
+pub one-digit : (i : ℤ) → is_small i ≡ false → nat_lt (magnitude i) (2 ^ 64) ≡ true → (integer_words i ≡ head_word (sign_tag i) 1 ∷ magnitude i ∷ []) × (int_flat i ≡ 2)
 one-digit i big low = (rw (big, low) refl, rw (big, low) refl)
 
-two-digits : (i : ℤ) → is_small i ≡ false → nat_lt (magnitude i) (2 ^ 64) ≡ false
+pub two-digits : (i : ℤ) → is_small i ≡ false → nat_lt (magnitude i) (2 ^ 64) ≡ false
     → (integer_words i ≡ head_word (sign_tag i) 2 ∷ magnitude i % 2 ^ 64 ∷ magnitude i / 2 ^ 64 ∷ []) × (int_flat i ≡ 3)
 two-digits i big low = (rw (big, low) refl, rw (big, low) refl)
 
@@ -178,6 +181,38 @@ int-made c d top new r i range inside small boxed lie taken shared = elim (cases
         (subst Q (two-digits i big large).1 taken) shared
   ]
 ]
+
+-- The digits of an integer are those of its magnitude.
+pub magnitude-is : (i j : ℤ) (n : ℕ) → j ≡ i → n ≡ nat_abs j → n ≡ magnitude i
+magnitude-is i j n same is = is ∙ (ap nat_abs same ∙ of i)
+  where
+    of : (k : ℤ) → nat_abs k ≡ magnitude k
+    of (pos n) = refl
+    of (negsuc n) = omega arith
+
+-- One that is not small has no word of its own ..
+pub never-small : (i : ℤ) (r : ℕ) → is_small i ≡ false → is_small i ≡ true → r ≡ small_word i
+never-small i r big is = absurd (cc (big, is))
+
+-- .. and its header and its digits, one or two, are the words that were put.
+pub one-put : (i : ℤ) (t h w : ℕ) (old new : Room) (mem mem2 : List ℕ) → is_small i ≡ false → magnitude i / 2 ^ 64 ≡ 0 → t ≡ sign_tag i → h ≡ head_word t 1 → w ≡ magnitude i
+    → Uses 2 old new mem mem2 → Lie mem2 old.top (h ∷ w ∷ []) → Uses (int_flat i) old new mem mem2 × Lie mem2 old.top (integer_words i)
+one-put i t h w old new mem mem2 big low tag head word u lie =
+    let few : nat_lt (magnitude i) (2 ^ 64) ≡ true = grind (arith, nat_tests, low) in
+    let e = one-digit i big few in
+    let P : ℕ → Type 0 = λ n. Uses n old new mem mem2 in
+    let Q : List ℕ → Type 0 = λ ws. Lie mem2 old.top ws in
+    let same : h ∷ w ∷ [] ≡ head_word (sign_tag i) 1 ∷ magnitude i ∷ [] = cc (tag, head, word) in
+    (subst P (sym e.1) u, subst Q (sym e.0) (subst Q same lie))
+
+pub two-put : (i : ℤ) (t h w v : ℕ) (old new : Room) (mem mem2 : List ℕ) → is_small i ≡ false → nat_lt (magnitude i) (2 ^ 64) ≡ false → t ≡ sign_tag i → h ≡ head_word t 2 → w ≡ magnitude i % 2 ^ 64
+    → v ≡ magnitude i / 2 ^ 64 → Uses 3 old new mem mem2 → Lie mem2 old.top (h ∷ w ∷ v ∷ []) → Uses (int_flat i) old new mem mem2 × Lie mem2 old.top (integer_words i)
+two-put i t h w v old new mem mem2 big few tag head word high u lie =
+    let e = two-digits i big few in
+    let P : ℕ → Type 0 = λ n. Uses n old new mem mem2 in
+    let Q : List ℕ → Type 0 = λ ws. Lie mem2 old.top ws in
+    let same : h ∷ w ∷ v ∷ [] ≡ head_word (sign_tag i) 2 ∷ magnitude i % 2 ^ 64 ∷ magnitude i / 2 ^ 64 ∷ [] = cc (tag, head, word, high) in
+    (subst P (sym e.1) u, subst Q (sym e.0) (subst Q same lie))
 
 -- A row of the same word stands for the same tree.
 pub same-row : (c : ℕ → ℕ → Bool) (shared : List (List ℕ)) (mem : List ℕ) (n w : ℕ) (t : Tree) → Stands c shared mem w t → AllStand c shared mem (replicate n w) (same_trees n t)

@@ -48,16 +48,15 @@ fn put_integer(mem: &mut WordMem, room: &mut Room, i: i128) -> u64
         return small(i as i64);
     }
     let _len = mem.len();
-    let place = room.top;
+    let tag = sign_tag(i);
     let digits = i.unsigned_abs();
     let low = (digits % (1 << 64)) as u64;
     let high = (digits / (1 << 64)) as u64;
     if high == 0 {
-        put(mem, room, &[head_of(sign_tag(i), 1), low]);
+        boxed_at(put(mem, room, &[head_of(tag, 1), low]))
     } else {
-        put(mem, room, &[head_of(sign_tag(i), 2), low, high]);
+        boxed_at(put(mem, room, &[head_of(tag, 2), low, high]))
     }
-    boxed_at(place)
 }
 
 // The subtag of a big integer.

@@ -46,21 +46,3 @@ returns-clause-built c = λ k shared a b free sa sb. record {
   grows = grown plain k 2 c.args.room.now _ _ _ plain-object free (returns-clause-uses c);
   made = returns-clause-made c k (with_object plain k c.args.room.now.top 2) shared a b (with-object-taken plain k c.args.room.now.top 2 free) sa sb;
 }
-
-pub set-requires : goal.set-requires
-set-requires c = grind (arith, common_steps)
-
-pub overflow_add-place : goal.overflow_add-place
-overflow_add-place c = grind (arith, common_steps)
-
-pub set-requires-2 : goal.set-requires-2
-set-requires-2 c = grind (arith, common_steps)
-
-pub overflow_add-room : goal.overflow_add-room
-overflow_add-room c = grind (arith, common_steps)
-
-pub list_at-requires : goal.list_at-requires
-list_at-requires c = grind (arith, common_steps)
-
-pub returns-clause-place : goal.returns-clause-place
-returns-clause-place c = grind (arith, common_steps)
