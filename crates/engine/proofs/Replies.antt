@@ -1,5 +1,5 @@
 -- What a verb that prints writes.
-use Rattle.std.proofs.Common.{◌≡◌, ℕ, Bool, true, false, List, [], ◌∷◌, Result, Ok, Err, refl, sym, ap, subst, ◌∙◌}
+use Rattle.std.proofs.Common.{◌≡◌, ℕ, true, false, List, [], ◌∷◌, Result, Ok, Err, refl, sym, ap, subst, ◌∙◌}
 use Rattle.std.proofs.lemmas.Bool.{true≢false}
 use Rattle.script_grammar.specs.declared.refusal.Refusal.{Refusal}
 use Rattle.script_grammar.specs.declared.refusal.Refusal.TheVariants.{Big as TooBig}
@@ -11,6 +11,8 @@ use Rattle.plain_machine.specs.Step.Outcome.{Accepted, Refused, Mapped}
 use Rattle.plain_machine.specs.Run.{refusal_text, replies_text}
 use Rattle.space_api.specs.Calls.{Prints, Tells, WritesReply, said}
 use Rattle.line_io.specs.Sink.{GrewInPart, WritesTold}
+use Rattle.engine.specs.declared.reply.Asked.{Asked}
+use Rattle.engine.specs.declared.reply.Asked.TheVariants.{Equality, Order}
 use Rattle.engine.specs.Writing.{compared_text, compares, end_of_line}
 use Rattle.std.specs.declared.cmp.Ordering.{Ordering}
 use Rattle.script_grammar.specs.declared.command.Command.TheVariants.{Process}
@@ -114,16 +116,16 @@ plain-rest (Told seat v) n c t = absurd (t seat v refl)
 plain-rest _ n c t = refl
 
 -- the registers that are compared are a process's
-pub compared-registers : (equal : Bool) (a b : Reg) → HasRegisters (compares equal a b) → IsRegister a × IsRegister b
-compared-registers true a b h = h
-compared-registers false a b h = h
+pub compared-registers : (asked : Asked) (a b : Reg) → HasRegisters (compares asked a b) → IsRegister a × IsRegister b
+compared-registers Equality a b h = h
+compared-registers Order a b h = h
 
 -- what comparing tells, of the two verbs that do
-pub compared-tells : (s : State) (pid : ℕ) (names : List (List ℕ)) (equal : Bool) (a b : Reg) (r : Result Ordering Refusal)
+pub compared-tells : (s : State) (pid : ℕ) (names : List (List ℕ)) (asked : Asked) (a b : Reg) (r : Result Ordering Refusal)
     → Tells (step s (said (Process pid (Eq a b)) end names)) eq_text r → Tells (step s (said (Process pid (Cmp a b)) end names)) cmp_text r
-    → Tells (step s (said (Process pid (compares equal a b)) end names)) (compared_text equal) r
-compared-tells s pid names true a b r eq cmp = eq
-compared-tells s pid names false a b r eq cmp = cmp
+    → Tells (step s (said (Process pid (compares asked a b)) end names)) (compared_text asked) r
+compared-tells s pid names Equality a b r eq cmp = eq
+compared-tells s pid names Order a b r eq cmp = cmp
 
 -- a reply that is not to `sys quit` does not end the script
 pub goes-on : (y : Reply) → (y ≡ Quit → ⊥) → ends_script y ≡ false

@@ -1,5 +1,5 @@
 -- The texts that replies are made of.
-use Rattle.std.specs.Prelude.{ℕ, nat_lt, if◌then◌else◌, Bool, List, [], ◌∷◌, ◌++◌, codes}
+use Rattle.std.specs.Prelude.{ℕ, nat_lt, if◌then◌else◌, List, [], ◌∷◌, ◌++◌, codes}
 use Rattle.std.specs.declared.cmp.Ordering.{Ordering}
 use Rattle.script_grammar.specs.declared.command.Reg.{Reg}
 use Rattle.script_grammar.specs.declared.command.Verb.{Verb}
@@ -8,6 +8,8 @@ use Rattle.script_grammar.specs.declared.refusal.Refusal.{Refusal}
 use Rattle.script_grammar.specs.declared.refusal.Refusal.TheVariants.{NoSpace}
 use Rattle.plain_machine.specs.Run.{refusal_text}
 use Rattle.plain_machine.specs.Step.{eq_text, cmp_text}
+use Rattle.engine.specs.declared.reply.Asked.{Asked}
+use Rattle.engine.specs.declared.reply.Asked.TheVariants.{Equality, Order}
 
 -- A line with its end.
 abbrev pub end_of_line : List ℕ → List ℕ
@@ -23,10 +25,12 @@ abbrev pub above : ℕ → List ℕ → List ℕ
 above last [] = []
 above last (n ∷ ns) = if nat_lt last n then (n ∷ ns) else above last ns
 
--- The verb that tells whether two registers' terms are equal, or how the first stands to the second.
-abbrev pub compares : (equal : Bool) → Reg → Reg → Verb
-compares equal a b = if equal then Eq a b else Cmp a b
+-- The verb that asks it of two registers' terms.
+abbrev pub compares : Asked → Reg → Reg → Verb
+compares Equality a b = Eq a b
+compares Order a b = Cmp a b
 
--- What it tells.
-abbrev pub compared_text : (equal : Bool) → Ordering → List ℕ
-compared_text equal order = if equal then eq_text order else cmp_text order
+-- What it is answered.
+abbrev pub compared_text : Asked → Ordering → List ℕ
+compared_text Equality order = eq_text order
+compared_text Order order = cmp_text order

@@ -51,37 +51,48 @@ fn put_text<S: Space, K: Sink>(
     }
 }
 
-/// The word for whether two terms are equal, or else for how the first stands to the second.
-fn compared_word(equal: bool, order: Ordering) -> &'static [u8]
-    ensures { result.now ≡ compared_text equal order }
+/// What is asked of two terms: whether they are equal, or how the first stands to the second.
+#[derive(Clone, Copy)]
+enum Asked {
+    Equality,
+    Order,
+}
+
+/// The word that answers it.
+fn compared_word(asked: Asked, order: Ordering) -> &'static [u8]
+    ensures { result.now ≡ compared_text asked order }
 {
-    match order {
-        Ordering::Equal if equal => b"true",
-        _ if equal => b"false",
-        Ordering::Less => b"lt",
-        Ordering::Equal => b"eq",
-        Ordering::Greater => b"gt",
+    match asked {
+        Asked::Equality => match order {
+            Ordering::Equal => b"true",
+            _ => b"false",
+        },
+        Asked::Order => match order {
+            Ordering::Less => b"lt",
+            Ordering::Equal => b"eq",
+            Ordering::Greater => b"gt",
+        },
     }
 }
 
-/// Writes the line of whether two registers' terms are equal, or of how the first stands to the second.
+/// Writes the line of what is asked of two registers' terms.
 fn put_compared<S: Space, K: Sink>(
     space: &S,
     names: &AtomNames,
     seat: Seat,
-    equal: bool,
+    asked: Asked,
     a: Reg,
     b: Reg,
     sink: &mut K,
 ) -> Result<(), SinkFault>
-    requires can { CanReply S.sits S.named space.now names.now (Reply.Told seat (compares equal a b)) }
+    requires can { CanReply S.sits S.named space.now names.now (Reply.Told seat (compares asked a b)) }
     ensures { (s : State) → S.stands space.now s
         → WritesTold K.wrote K.faults sink.old sink.new
         (replies_text
-        (reply_lines (Reply.Told seat (compares equal a b)) (record { state = s; names = names.now; text = S.text space.now names.now }))) result }
+        (reply_lines (Reply.Told seat (compares asked a b)) (record { state = s; names = names.now; text = S.text space.now names.now }))) result }
 {
     match space.compare(names, seat, a, b) {
-        Ok(order) => put_two(sink, compared_word(equal, order), b"\n"),
+        Ok(order) => put_two(sink, compared_word(asked, order), b"\n"),
         Err(refusal) => put_refusal(refusal, sink),
     }
 }
@@ -120,8 +131,8 @@ fn put_told<S: Space, K: Sink>(
 {
     match verb {
         Verb::Print(r) => put_text(space, names, seat, r, sink),
-        Verb::Eq(a, b) => put_compared(space, names, seat, true, a, b, sink),
-        Verb::Cmp(a, b) => put_compared(space, names, seat, false, a, b, sink),
+        Verb::Eq(a, b) => put_compared(space, names, seat, Asked::Equality, a, b, sink),
+        Verb::Cmp(a, b) => put_compared(space, names, seat, Asked::Order, a, b, sink),
         Verb::Flat(r) => put_flat(space, names, seat, r, sink),
         Verb::Queue => {
             space.queue(names, seat, sink)?;
