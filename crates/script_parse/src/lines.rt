@@ -53,10 +53,8 @@ fn command(line: &[u8], out: &mut Output) -> Option<Command>
     ensures grown { OutputGrows out.old out.new }
 {
     if let Some((n, rest)) = number(line, GREATEST) {
-        if let Some(verb) = process_verb(rest, out) {
-            return Some(Command::Process(n, verb));
-        }
-        return None;
+        let verb = process_verb(rest, out)?;
+        return Some(Command::Process(n, verb));
     }
     if let Some(rest) = after_text(line, b"sys")
         && let Some(verb) = system_verb(rest)
@@ -91,10 +89,8 @@ fn read(line: &[u8], names: &mut AtomNames, code: &mut Code) -> Option<(Command,
         code,
         full: false,
     };
-    if let Some(command) = whole(line, &mut out) {
-        return Some((command, out.full));
-    }
-    None
+    let command = whole(line, &mut out)?;
+    Some((command, out.full))
 }
 
 /// Reads a line of at most `MOST_ITEMS` bytes without its end. The items of its terms are left in `code`,

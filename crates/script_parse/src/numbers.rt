@@ -73,10 +73,8 @@ pub(crate) fn number(line: &[u8], limit: u64) -> Option<(u64, &[u8])>
     ensures value { MatchOption result (number_at limit line.now ≡ None) (λ r. number_at limit line.now ≡ Some (r.0, r.1.now)) }
     ensures within { MatchOption result (Unit {0}) (λ r. (r.0 ≤ limit) × (length r.1.now < length line.now)) }
 {
-    if let Some((n, rest)) = magnitude(line, limit as u128) {
-        return Some((n as u64, rest));
-    }
-    None
+    let (n, rest) = magnitude(line, limit as u128)?;
+    Some((n as u64, rest))
 }
 
 /// An integer.
@@ -90,10 +88,8 @@ pub(crate) fn integer(line: &[u8]) -> Option<(i128, &[u8])>
     {
         return Some((-(n as i128), rest));
     }
-    if let Some((n, rest)) = magnitude(line, WIDEST) {
-        return Some((n as i128, rest));
-    }
-    None
+    let (n, rest) = magnitude(line, WIDEST)?;
+    Some((n as i128, rest))
 }
 
 /// The number of a pid, whose first byte stands before the line.

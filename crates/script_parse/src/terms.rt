@@ -26,10 +26,8 @@ fn item(line: &[u8]) -> Option<(Item, &[u8])>
     {
         return Some((Item::Held(r as u8), rest));
     }
-    if let Some((i, rest)) = integer(line) {
-        return Some((Item::Int(i), rest));
-    }
-    None
+    let (i, rest) = integer(line)?;
+    Some((Item::Int(i), rest))
 }
 
 /// A term without parts goes last. The line begins with its first byte.
@@ -57,11 +55,9 @@ fn byte<'a>(line: &'a [u8], out: &mut Output) -> Option<&'a [u8]>
     ensures grown { OutputGrows out.old out.new }
     ensures room { MatchOption result (Unit {0}) (λ r. Spends 0 line.now r.now out.old out.new) }
 {
-    if let Some((n, rest)) = number(skip(line), GREATEST_BYTE) {
-        out.push(Item::Byte(n as u8));
-        return Some(rest);
-    }
-    None
+    let (n, rest) = number(skip(line), GREATEST_BYTE)?;
+    out.push(Item::Byte(n as u8));
+    Some(rest)
 }
 
 /// A key and its value go last.
@@ -168,10 +164,8 @@ fn bracketed<'a>(form: Form, line: &'a [u8], levels: u64, out: &mut Output) -> O
         out.end(form, at, 0);
         return Some(rest);
     }
-    if let Some((rest, n)) = parts(form, line, levels, out) {
-        return ending(form, rest, levels, at, n, out);
-    }
-    None
+    let (rest, n) = parts(form, line, levels, out)?;
+    ending(form, rest, levels, at, n, out)
 }
 
 /// A term goes last, with at most so many levels of brackets.

@@ -96,10 +96,8 @@ fn receiver(line: &[u8]) -> Option<(To, &[u8])>
     {
         return Some((To::Held(Reg(r as u8)), rest));
     }
-    if let Some((n, rest)) = number(line, GREATEST) {
-        return Some((To::Number(n), rest));
-    }
-    None
+    let (n, rest) = number(line, GREATEST)?;
+    Some((To::Number(n), rest))
 }
 
 /// A depth of collection.
@@ -109,10 +107,8 @@ fn depth(line: &[u8]) -> Option<(Depth, &[u8])>
     if let Some(rest) = after_text(line, b"minor") {
         return Some((Depth::Minor, rest));
     }
-    if let Some(rest) = after_text(line, b"major") {
-        return Some((Depth::Major, rest));
-    }
-    None
+    let rest = after_text(line, b"major")?;
+    Some((Depth::Major, rest))
 }
 
 /// A number of a row, by what it counts.
@@ -121,13 +117,11 @@ fn spaced_number(kind: Numeric, line: &[u8]) -> Option<(u64, &[u8])>
         (λ r. spaced_at (number_at (most_of kind)) line.now ≡ Some (r.0, r.1.now)) }
     ensures shorter { MatchOption result (Unit {0}) (λ r. length r.1.now ≤ length line.now) }
 {
-    if let Some(rest) = gap(line) {
-        return match kind {
-            Numeric::Slot => number(skip(rest), LAST_REGISTER),
-            Numeric::Count => number(skip(rest), GREATEST),
-        };
+    let rest = skip(gap(line)?);
+    match kind {
+        Numeric::Slot => number(rest, LAST_REGISTER),
+        Numeric::Count => number(rest, GREATEST),
     }
-    None
 }
 
 /// The numbers of a row of up to four, and nothing more. Those past its end are 0.
@@ -302,14 +296,10 @@ pub(crate) fn process_verb(line: &[u8], out: &mut Output) -> Option<Verb>
     ensures read { MatchOption result (process_run line.now (given out.old) ≡ None) (λ v. process_run line.now (given out.old) ≡ Some (v, given out.new)) }
     ensures grown { OutputGrows out.old out.new }
 {
-    if let Some(rest) = gap(line) {
-        let rest = skip(rest);
-        let n = word_len(rest);
-        if let Some(word) = verb_word(&rest[..n]) {
-            return verb(word, &rest[n..], out);
-        }
-    }
-    None
+    let rest = skip(gap(line)?);
+    let n = word_len(rest);
+    let word = verb_word(&rest[..n])?;
+    verb(word, &rest[n..], out)
 }
 
 /// A verb of the system that is built. It has no operand.
@@ -344,12 +334,8 @@ fn sys_verb(word: SysWord, line: &[u8]) -> Option<SysVerb>
 pub(crate) fn system_verb(line: &[u8]) -> Option<SysVerb>
     ensures { (o : Out) → MatchOption result (system_run line.now o ≡ None) (λ v. system_run line.now o ≡ Some (v, o)) }
 {
-    if let Some(rest) = gap(line) {
-        let rest = skip(rest);
-        let n = word_len(rest);
-        if let Some(word) = sys_word(&rest[..n]) {
-            return sys_verb(word, &rest[n..]);
-        }
-    }
-    None
+    let rest = skip(gap(line)?);
+    let n = word_len(rest);
+    let word = sys_word(&rest[..n])?;
+    sys_verb(word, &rest[n..])
 }
