@@ -12,13 +12,13 @@ use std::alloc::{AllocError, Global};
 #[derive(Clone, Copy)]
 pub(crate) enum Answer {
     Read,
-    // A `set` of the third register of the first process, or a `fun` into it with the fifth name and two arguments.
-    Third,
+    // A `set` of register 3 of process 1, or a `fun` into it with the name of number 4 and two arguments.
+    IntoThree,
     Syntax,
     Atoms,
 }
 
-fn is_third(command: Command) -> bool {
+fn is_into_three(command: Command) -> bool {
     match command {
         Command::Process(1, Verb::Set(r)) => r.0 == 3,
         Command::Process(1, Verb::Fun(r, name, arity)) => r.0 == 3 && name == 4 && arity == 2,
@@ -34,7 +34,7 @@ fn answers(line: &[u8], want: Answer, names: &mut AtomNames, code: &mut Code) ->
         (Ok(_), Answer::Read)
         | (Err(Refusal::Syntax), Answer::Syntax)
         | (Err(Refusal::Atoms), Answer::Atoms) => true,
-        (Ok(command), Answer::Third) => is_third(command),
+        (Ok(command), Answer::IntoThree) => is_into_three(command),
         _ => false,
     }
 }
@@ -419,11 +419,12 @@ fn repeat(line: &mut Vec<u8>, part: &[u8], times: u64) -> Result<(), AllocError>
 
 // Writes the line with so many times more than its limit.
 fn put_made(line: &mut Vec<u8>, made: Made, more: u64) -> Result<(), AllocError> {
-    let times = made.4.saturating_add(more);
-    line.extend_from_slice(made.0)?;
-    repeat(line, made.1, times)?;
-    line.extend_from_slice(made.2)?;
-    repeat(line, made.3, times)
+    let Made(start, opening, inner, closing, limit, _) = made;
+    let times = limit.saturating_add(more);
+    line.extend_from_slice(start)?;
+    repeat(line, opening, times)?;
+    line.extend_from_slice(inner)?;
+    repeat(line, closing, times)
 }
 
 fn made_answers(alloc: Global, made: Made, more: u64, want: Answer) -> bool {
@@ -434,9 +435,10 @@ fn made_answers(alloc: Global, made: Made, more: u64, want: Answer) -> bool {
 #[test]
 fn limits_are_met(rt: HostRuntime) {
     for made in &LIMITS {
+        let Made(.., beyond) = *made;
         assert!(rt;
             made_answers(rt.alloc(), *made, 0, Answer::Read)
-                && made_answers(rt.alloc(), *made, 1, made.5)
+                && made_answers(rt.alloc(), *made, 1, beyond)
         );
     }
 }
@@ -595,7 +597,7 @@ fn same_items(a: &[Item], b: &[Item]) -> bool {
 }
 
 fn row_holds(row: &Row, names: &mut AtomNames, code: &mut Code) -> bool {
-    answers(row.line, Answer::Third, names, code)
+    answers(row.line, Answer::IntoThree, names, code)
         && same_items(code.items(), row.items)
         && answers(b"1 set 0 [x,y", Answer::Syntax, names, code)
         && names.count() == row.names

@@ -29,22 +29,28 @@ fn greetings_go(sink: &mut MemSink) -> bool {
     greets(sink) && !greets(sink) && greets(sink) && sink.bytes() == b"hihi".as_slice()
 }
 
-// To a sink that has room for 8 bytes and fails at its second call.
-fn arrives(alloc: Global, piece: usize, gathers: bool) -> bool
+// How writes go to a sink: each at once, or gathered.
+#[derive(Clone, Copy)]
+enum Way {
+    AtOnce,
+    Gathered,
+}
+
+// Whether they arrive at a sink that has room for 8 bytes and fails at its second call.
+fn arrives(alloc: Global, piece: usize, way: Way) -> bool
     requires { 0 < piece }
 {
     let Ok(mut sink) = MemSink::new(alloc, 8, piece, &[2]) else {
         return false;
     };
-    if gathers {
-        greetings_go(&mut sink)
-    } else {
-        texts_go(&mut sink)
+    match way {
+        Way::AtOnce => texts_go(&mut sink),
+        Way::Gathered => greetings_go(&mut sink),
     }
 }
 
 #[test]
 fn writes_go_at_once_or_gathered(rt: HostRuntime) {
-    assert!(rt; arrives(rt.alloc(), 3, false));
-    assert!(rt; arrives(rt.alloc(), 8, true));
+    assert!(rt; arrives(rt.alloc(), 3, Way::AtOnce));
+    assert!(rt; arrives(rt.alloc(), 8, Way::Gathered));
 }

@@ -111,24 +111,31 @@ fn steps(machine: &mut Machine<TrialSpace>, sink: &mut MemSink) -> bool
     lives && went(set, quit)
 }
 
-// Whether a new machine is served this script, or else steps two lines, and writes these replies.
-fn answers(alloc: Global, script: Option<&[u8]>, replies: &[u8]) -> Result<bool, Fail> {
+// What a new machine is given: a whole script, or two lines one by one.
+#[derive(Clone, Copy)]
+enum Given<'a> {
+    Script(&'a [u8]),
+    Lines,
+}
+
+// Whether a new machine does what it is given, and writes these replies.
+fn answers(alloc: Global, given: Given, replies: &[u8]) -> Result<bool, Fail> {
     let mut sink = MemSink::new(alloc, 1000, 5, &[])?;
     let code = Code::new(alloc)?;
     let names = AtomNames::new(alloc)?;
     let space = TrialSpace::start();
     let mut machine = Machine { space, names, code };
-    let went = match script {
-        Some(script) => serves(&mut machine, alloc, script, &mut sink),
-        None => steps(&mut machine, &mut sink),
+    let does = match given {
+        Given::Script(script) => serves(&mut machine, alloc, script, &mut sink),
+        Given::Lines => steps(&mut machine, &mut sink),
     };
-    Ok(went && sink.bytes() == replies)
+    Ok(does && sink.bytes() == replies)
 }
 
 // Each script is, or what it shows is told.
 fn are_served(alloc: Global) -> Result<(), Fail> {
     for case in &CASES {
-        if !answers(alloc, Some(case.script), case.replies)? {
+        if !answers(alloc, Given::Script(case.script), case.replies)? {
             return Err(Fail::new(case.shows));
         }
     }
@@ -142,6 +149,6 @@ fn scripts_are_served_at_a_space_that_is_no_arena(rt: HostRuntime) -> Result<(),
 
 #[test]
 fn a_line_is_one_step(rt: HostRuntime) -> Result<(), Fail> {
-    assert!(rt; answers(rt.alloc(), None, b"ok\nok\n")?);
+    assert!(rt; answers(rt.alloc(), Given::Lines, b"ok\nok\n")?);
     Ok(())
 }
