@@ -27,11 +27,48 @@ fn digit(b: u8) -> bool
 }
 
 /// A number goes on by the digits at the front, up to a limit.
-fn digits(line: &[u8], limit: u128, start: u128) -> Option<(u128, &[u8])>
-    requires limit { limit ≤ WIDEST }
+fn digits(line: &[u8], limit: u64, start: u64) -> Option<(u64, &[u8])>
+    requires limit { limit ≤ GREATEST }
     requires start { start ≤ limit }
     ensures value { MatchOption result (digits_at limit start line.now ≡ None) (λ r. digits_at limit start line.now ≡ Some (r.0, r.1.now)) }
     ensures within { MatchOption result (Unit {0}) (λ r. (r.0 ≤ limit) × (length r.1.now ≤ length line.now)) }
+{
+    let mut rest = line;
+    let mut n = start;
+    while let Some((b, after)) = first(rest)
+        && digit(b)
+    {
+        n = n * 10 + (b - b'0') as u64;
+        if n > limit {
+            return None;
+        }
+        rest = after;
+    }
+    Some((n, rest))
+}
+
+/// A number without sign and without leading zeros, up to a limit.
+pub(crate) fn number(line: &[u8], limit: u64) -> Option<(u64, &[u8])>
+    requires { (9 ≤ limit) × (limit ≤ GREATEST) }
+    ensures value { MatchOption result (number_at limit line.now ≡ None) (λ r. number_at limit line.now ≡ Some (r.0, r.1.now)) }
+    ensures within { MatchOption result (Unit {0}) (λ r. (r.0 ≤ limit) × (length r.1.now < length line.now)) }
+{
+    if let Some((b, rest)) = first(line)
+        && digit(b)
+    {
+        return match b {
+            b'0' => Some((0, rest)),
+            _ => digits(rest, limit, (b - b'0') as u64),
+        };
+    }
+    None
+}
+
+/// A magnitude goes on by the digits at the front.
+fn wide_digits(line: &[u8], start: u128) -> Option<(u128, &[u8])>
+    requires { start ≤ WIDEST }
+    ensures value { MatchOption result (digits_at WIDEST start line.now ≡ None) (λ r. digits_at WIDEST start line.now ≡ Some (r.0, r.1.now)) }
+    ensures within { MatchOption result (Unit {0}) (λ r. (r.0 ≤ WIDEST) × (length r.1.now ≤ length line.now)) }
 {
     let mut rest = line;
     let mut n = start;
@@ -42,7 +79,7 @@ fn digits(line: &[u8], limit: u128, start: u128) -> Option<(u128, &[u8])>
             return None;
         }
         n = n * 10 + (b - b'0') as u128;
-        if n > limit {
+        if n > WIDEST {
             return None;
         }
         rest = after;
@@ -50,31 +87,20 @@ fn digits(line: &[u8], limit: u128, start: u128) -> Option<(u128, &[u8])>
     Some((n, rest))
 }
 
-/// A number without sign and without leading zeros, up to a limit, however wide.
-fn magnitude(line: &[u8], limit: u128) -> Option<(u128, &[u8])>
-    requires { (9 ≤ limit) × (limit ≤ WIDEST) }
-    ensures value { MatchOption result (number_at limit line.now ≡ None) (λ r. number_at limit line.now ≡ Some (r.0, r.1.now)) }
-    ensures within { MatchOption result (Unit {0}) (λ r. (r.0 ≤ limit) × (length r.1.now < length line.now)) }
+/// The magnitude of an integer, without leading zeros.
+fn magnitude(line: &[u8]) -> Option<(u128, &[u8])>
+    ensures value { MatchOption result (number_at WIDEST line.now ≡ None) (λ r. number_at WIDEST line.now ≡ Some (r.0, r.1.now)) }
+    ensures within { MatchOption result (Unit {0}) (λ r. (r.0 ≤ WIDEST) × (length r.1.now < length line.now)) }
 {
     if let Some((b, rest)) = first(line)
         && digit(b)
     {
         if b > b'0' {
-            return digits(rest, limit, (b - b'0') as u128);
+            return wide_digits(rest, (b - b'0') as u128);
         }
         return Some((0, rest));
     }
     None
-}
-
-/// A number without sign and without leading zeros, up to a limit.
-pub(crate) fn number(line: &[u8], limit: u64) -> Option<(u64, &[u8])>
-    requires { (9 ≤ limit) × (limit ≤ GREATEST) }
-    ensures value { MatchOption result (number_at limit line.now ≡ None) (λ r. number_at limit line.now ≡ Some (r.0, r.1.now)) }
-    ensures within { MatchOption result (Unit {0}) (λ r. (r.0 ≤ limit) × (length r.1.now < length line.now)) }
-{
-    let (n, rest) = magnitude(line, limit as u128)?;
-    Some((n as u64, rest))
 }
 
 /// An integer.
@@ -83,12 +109,12 @@ pub(crate) fn integer(line: &[u8]) -> Option<(i128, &[u8])>
     ensures shorter { MatchOption result (Unit {0}) (λ r. length r.1.now < length line.now) }
 {
     if let Some(after) = after_byte(line, b'-')
-        && let Some((n, rest)) = magnitude(after, WIDEST)
+        && let Some((n, rest)) = magnitude(after)
         && n > 0
     {
         return Some((-(n as i128), rest));
     }
-    let (n, rest) = magnitude(line, WIDEST)?;
+    let (n, rest) = magnitude(line)?;
     Some((n as i128, rest))
 }
 
