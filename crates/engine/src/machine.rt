@@ -64,6 +64,25 @@ fn take_line<S: Space>(space: &mut S, names: &mut AtomNames, code: &mut Code, li
     }
 }
 
+/// Gathers the lines of a reply, and writes them in one piece.
+fn gather<S: Space, K: Sink>(
+    space: &S,
+    names: &AtomNames,
+    reply: Reply,
+    sink: &mut K,
+) -> Result<(), SinkFault>
+    requires can { CanReply S.sits S.named space.now names.now reply }
+    ensures sent { (s : State) → S.stands space.now s
+        → WritesTold K.wrote K.faults sink.old sink.new
+        (replies_text (reply_lines reply (record { state = s; names = names.now; text = S.text space.now names.now }))) result }
+    ensures allowed { (s : State) → S.stands space.now s → names.now ≡ s.names
+        → AllowsMap reply (record { state = s; names = names.now; text = S.text space.now names.now }) }
+{
+    let mut gathered = Gathered::new(sink);
+    put_reply(space, names, reply, &mut gathered)?;
+    gathered.finish()
+}
+
 /// Writes the lines of a reply in one piece. A constant text needs no gathering.
 fn send<S: Space, K: Sink>(
     space: &S,
@@ -81,9 +100,7 @@ fn send<S: Space, K: Sink>(
     if is_constant(reply) {
         return put_plain(reply, sink);
     }
-    let mut gathered = Gathered::new(sink);
-    put_reply(space, names, reply, &mut gathered)?;
-    gathered.finish()
+    gather(space, names, reply, sink)
 }
 
 /// Writes the lines of a reply, and says what the line comes to.
