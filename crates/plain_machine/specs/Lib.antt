@@ -10,6 +10,7 @@ pub mod May
 pub mod Run
 pub mod Laws
 pub mod Image
+pub mod Counting
 pub mod Examples
 pub mod Scripts
 pub mod Figures

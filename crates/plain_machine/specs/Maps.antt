@@ -78,6 +78,11 @@ abbrev pub AreCounted : {A : Type 0} → (code count : A → ℕ) → (occurring
 AreCounted code count occurring [] = Unit {0}
 AreCounted code count occurring (x ∷ xs) = (1 ≤ count x) × (count x ≤ occurrences (code x) occurring) × AreCounted code count occurring xs
 
+-- Each entry counts at least one.
+abbrev pub CountSome : {A : Type 0} → (count : A → ℕ) → List A → Type 0
+CountSome count [] = Unit {0}
+CountSome count (x ∷ xs) = (1 ≤ count x) × CountSome count xs
+
 -- The id of an entry, and the number that a fun's name and arity have among those that occur.
 abbrev pub id_of : CountedBin → ℕ
 id_of b = b.id
@@ -92,8 +97,8 @@ living_ids s = flat_map ids_in (living_trees s)
 abbrev pub living_funs : State → List ℕ
 living_funs s = flat_map funs_in (living_trees s)
 
--- The text is that of some entries. All that occurs is among them, each once and in order; where nothing has changed since the
--- last sweep nothing else is, and none counts more than its occurrences.
+-- The text is that of some entries, each of which counts at least one. All that occurs is among them, each once and in order; where
+-- nothing has changed since the last sweep nothing else is, and none counts more than its occurrences.
 pub record CountsOf (s : State) (text : List ℕ) : Type 0 where
   pub bins : List CountedBin
   pub funs : List CountedFun
@@ -102,6 +107,8 @@ pub record CountsOf (s : State) (text : List ℕ) : Type 0 where
   pub by_names : AreFuns s.names funs
   pub bins_occur : AllIn (living_ids s) (map id_of bins)
   pub funs_occur : AllIn (living_funs s) (map code_of funs)
+  pub bins_named : CountSome (λ b. b.count) bins
+  pub funs_named : CountSome (λ f. f.count) funs
   pub bins_exact : s.swept ≡ true → AreCounted id_of (λ b. b.count) (living_ids s) bins
   pub funs_exact : s.swept ≡ true → AreCounted code_of (λ f. f.count) (living_funs s) funs
 

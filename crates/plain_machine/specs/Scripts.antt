@@ -105,6 +105,8 @@ counts-of_part = record {
   by_names = tt;
   bins_occur = λ n i. i;
   funs_occur = λ n i. i;
+  bins_named = (one-is-one, tt);
+  funs_named = tt;
   bins_exact = λ e. (one-is-one, one-is-one, tt);
   funs_exact = λ e. tt;
 }
