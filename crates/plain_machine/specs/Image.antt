@@ -5,12 +5,13 @@ use Rattle.std.specs.List.{filter, list_any}
 use Rattle.plain_term.specs.Tree.{Tree}
 use Rattle.plain_term.specs.Bytes.{shared_bytes}
 use Rattle.plain_term.specs.Measures.{bin_words}
-use Rattle.term_words.specs.Role.{IsSingle}
+use Rattle.term_words.specs.Role.{IsSingle, NEXT}
 use Rattle.term_words.specs.Object.{IsBinRecord, IsFunRecord, IsPointer, IsRecord, object_words}
 use Rattle.term_words.specs.Reach.{Reach, first_traced}
 use Rattle.term_words.specs.Counted.{In, Distinct}
 use Rattle.term_words.specs.Stands.{Stands}
 use Rattle.shared_rec.specs.Record.{owner_in}
+use Rattle.off_heap_list.specs.Links.{IsLinkHeader}
 use Rattle.off_heap_list.specs.Exact.{AllCounted, Exact}
 use Rattle.plain_machine.specs.State.{Area, Process, State}
 
@@ -168,14 +169,16 @@ abbrev pub IsAmong : Region → List Region → Type 0
 IsAmong r [] = ⊥
 IsAmong r (q ∷ rs) = (r ≡ q) ⊎ IsAmong r rs
 
--- Each word of a queue has a region of its own among those that wait, into which no word before it leads, and leads into that and into
--- areas alone.
+-- Each word of a queue leads into areas alone, or has a region of its own among those that wait, and leads into that and into areas
+-- alone. So the regions of a queue are gone through in its order; an immediate has none.
 abbrev pub MessagesLead : (mem : List ℕ) (waiting areas each : List Region) → (queue : List ℕ) → Type 0
 MessagesLead mem waiting areas [] [] = Unit {0}
-MessagesLead mem waiting areas (r ∷ each) (w ∷ queue) = IsAmong r waiting × LeadInto mem (w ∷ []) (r ∷ areas) × MessagesLead mem waiting areas each queue
-MessagesLead mem waiting areas [] (w ∷ queue) = ⊥
 MessagesLead mem waiting areas (r ∷ each) [] = ⊥
+MessagesLead mem waiting areas [] (w ∷ queue) = LeadInto mem (w ∷ []) areas × MessagesLead mem waiting areas [] queue
+MessagesLead mem waiting areas (r ∷ each) (w ∷ queue) = (LeadInto mem (w ∷ []) areas × MessagesLead mem waiting areas (r ∷ each) queue)
+    ⊎ (IsAmong r waiting × LeadInto mem (w ∷ []) (r ∷ areas) × MessagesLead mem waiting areas each queue)
 
+-- The messages of a queue lead so, and no two have one region.
 pub record QueueLeads (mem : List ℕ) (waiting areas : List Region) (queue : List ℕ) : Type 0 where
   pub each : List Region
   pub lead : MessagesLead mem waiting areas each queue
@@ -195,15 +198,31 @@ abbrev pub AllLiteralsLead : List ℕ → List Region → List Literals → Type
 AllLiteralsLead mem rs [] = Unit {0}
 AllLiteralsLead mem rs (a ∷ more) = LeadInto mem a.words (area_of a.name rs) × AllLiteralsLead mem rs more
 
--- Where pointers lead in a store of blocks: none from one process to another, none out of a message or an area.
+-- Where pointers lead in a store of blocks: none from one process to another, none out of a message or an area. Each region of an area
+-- is that of an area that is told, and no two are of one.
 pub record BlocksLead (i : Image) (mem : List ℕ) : Type 0 where
+  pub areas_told : (n : ℕ) → In n (map (λ r. r.owner) (areas_in i.regions)) → In n (map (λ a. a.name) i.areas)
+  pub areas_once : Distinct (map (λ r. r.owner) (areas_in i.regions))
   pub processes : AllProcessesLead mem i.regions i.processes
   pub literals : AllLiteralsLead mem i.regions i.areas
   pub areas : EachLeadsToItself mem (image_roots i) (areas_in i.regions)
 
--- Where pointers may lead, by the layout: in the half in use to whole objects there.
+-- Each piece lies between the two places.
+abbrev pub AllWithin : (from to : ℕ) → List Piece → Type 0
+AllWithin from to [] = Unit {0}
+AllWithin from to (r ∷ rs) = (from ≤ r.place) × (r.place + length r.words ≤ to) × AllWithin from to rs
+
+-- Where pointers lead in a store of two halves: all regions and records lie in one of them, the half in use, and pointers lead to
+-- whole objects there.
+pub record HalfLeads (i : Image) (mem : List ℕ) : Type 0 where
+  pub base : ℕ
+  pub side : (base ≡ 0) ⊎ (base ≡ i.words / 2)
+  pub within : AllWithin base (base + i.words / 2) (all_pieces i)
+  pub lead : LeadInto mem (image_roots i) (halves_in i.regions)
+
+-- Where pointers may lead, by the layout.
 abbrev pub PointersLead : Layout → Image → List ℕ → Type 0
-PointersLead in_half i mem = LeadInto mem (image_roots i) (halves_in i.regions)
+PointersLead in_half i mem = HalfLeads i mem
 PointersLead in_blocks i mem = BlocksLead i mem
 
 -- Each of the words stands for its tree, in order.
@@ -281,7 +300,7 @@ AllLiterals c shared mem (l ∷ ls) [] = ⊥
 
 -- The image stands for the state. Its numbers are those of the state, and in a memory with its regions and records each root
 -- stands for its tree. By the test every object lies in a region or is a record that is told, and each place has one role, so no
--- object begins within another. Pointers lead where the layout allows it. Where nothing has changed since the last sweep, each
+-- object begins within another; a word `next` is that of a holder or a fun. Pointers lead where the layout allows it. Where nothing has changed since the last sweep, each
 -- record's count is the number of holders and funs that are reached and name it.
 pub record ImageStands (i : Image) (s : State) : Type 0 where
   pub serials : length s.shared ≡ i.serials
@@ -296,6 +315,7 @@ pub record ImageStands (i : Image) (s : State) : Type 0 where
   pub test : ℕ → ℕ → Bool
   pub single : IsSingle test
   pub inside : (a k : ℕ) → test a k ≡ true → LiesIn (all_pieces i) a
+  pub nexts : (p : ℕ) → test (p + 2) NEXT ≡ true → IsLinkHeader (slice_index mem p)
   pub records : RecordsTold test s.shared mem i.bins i.funs
   pub processes : AllRooted test s.shared mem i.processes s.processes
   pub areas : AllLiterals test s.shared mem i.areas (areas_by_name s.areas)
