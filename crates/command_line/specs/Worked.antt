@@ -45,3 +45,28 @@ empty-word = refl
 pub help : asks (codes "beam_heap" ∷ codes "--help" ∷ []) ≡ None
 unfolding clap_on_literals faults matches option_number
 help = refl
+
+-- The lone word `--` is no option and no stray word: it asks for nothing.
+pub two-dashes : asks (codes "beam_heap" ∷ codes "--" ∷ []) ≡ Some (record { arena = 1048576; made_from = None })
+unfolding clap_on_literals faults matches option_number
+two-dashes = refl
+
+-- Nothing that stands behind the lone word `--` is an option.
+pub behind-two-dashes : asks (codes "beam_heap" ∷ codes "--" ∷ codes "--arena" ∷ codes "4096" ∷ []) ≡ None
+unfolding clap_on_literals faults matches option_number
+behind-two-dashes = refl
+
+-- Nor is it the value of an option.
+pub value-of-two-dashes : asks (codes "beam_heap" ∷ codes "--gen" ∷ codes "--" ∷ []) ≡ None
+unfolding clap_on_literals faults matches option_number
+value-of-two-dashes = refl
+
+-- It may stand behind options.
+pub two-dashes-last : asks (codes "beam_heap" ∷ codes "--arena" ∷ codes "4096" ∷ codes "--" ∷ []) ≡ Some (record { arena = 4096; made_from = None })
+unfolding clap_on_literals faults matches option_number
+two-dashes-last = refl
+
+-- A second one is a stray word.
+pub two-dashes-twice : asks (codes "beam_heap" ∷ codes "--" ∷ codes "--" ∷ []) ≡ None
+unfolding clap_on_literals faults matches option_number
+two-dashes-twice = refl

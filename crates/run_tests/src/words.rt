@@ -21,6 +21,8 @@ const ROWS: &[u8] = b"+beam_heap|
 +beam_heap|--arena|16777216|
 +beam_heap|--space|one|
 +beam_heap|--space=one|--arena=4098|
++beam_heap|--|
++beam_heap|--arena|4096|--|
 -beam_heap|--arena|4097|
 -beam_heap|--arena|4094|
 -beam_heap|--arena|16777218|
@@ -38,12 +40,16 @@ const ROWS: &[u8] = b"+beam_heap|
 -beam_heap|--gen|1|--gen|1|
 -beam_heap|--help|
 -beam_heap|script|
+-beam_heap|--|script|
+-beam_heap|--|--arena|4096|
+-beam_heap|--gen|--|
+-beam_heap|--|--|
 -beam_heap||
 -\xff|
 ";
 
 // How many rows there are, and how many words a row has at most.
-const COUNT: usize = 27;
+const COUNT: usize = 33;
 
 const MOST: usize = 5;
 
