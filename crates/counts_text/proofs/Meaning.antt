@@ -6,7 +6,7 @@ use Rattle.plain_term.specs.Tree.{Trees}
 use Rattle.plain_term.proofs.Rising.{is-less}
 use Rattle.plain_machine.specs.State.{State}
 use Rattle.plain_machine.specs.Tightness.{ids_in_all, funs_in_all}
-use Rattle.plain_machine.specs.Maps.{CountedBin, CountedFun, AreIds, AreFuns, IsBelow, AreCounted, AllIn, CountsOf, id_of, code_of, living_ids, living_funs, occurrences}
+use Rattle.plain_machine.specs.Maps.{CountedBin, CountedFun, AreIds, AreFuns, IsBelow, AreCounted, CountSome, AllIn, CountsOf, id_of, code_of, living_ids, living_funs, occurrences}
 use Rattle.term_words.specs.Object.{IsBinRecord, IsFunRecord, IsRecord}
 use Rattle.term_words.specs.Stands.{AllStand}
 use Rattle.term_words.specs.Counted.{In, Distinct}
@@ -75,6 +75,14 @@ funs-counted : (mem occurring : List ℕ) (vs : List ℕ) → ((v : ℕ) → In 
     → AreCounted code_of (λ (f : CountedFun). f.count) occurring (map (fun_of mem) vs)
 funs-counted mem occurring [] each = tt
 funs-counted mem occurring (v ∷ vs) each = ((each v (inl refl)).0, (each v (inl refl)).1, funs-counted mem occurring vs (λ w i. each w (inr i)))
+
+bins-some : (mem vs : List ℕ) → ((v : ℕ) → In v vs → 1 ≤ count_in mem v) → CountSome (λ (b : CountedBin). b.count) (map (bin_of mem) vs)
+bins-some mem [] each = tt
+bins-some mem (v ∷ vs) each = (each v (inl refl), bins-some mem vs (λ w i. each w (inr i)))
+
+funs-some : (mem vs : List ℕ) → ((v : ℕ) → In v vs → 1 ≤ count_in mem v) → CountSome (λ (f : CountedFun). f.count) (map (fun_of mem) vs)
+funs-some mem [] each = tt
+funs-some mem (v ∷ vs) each = (each v (inl refl), funs-some mem vs (λ w i. each w (inr i)))
 
 module _ (s : State) (c : ℕ → ℕ → Bool) (mem roots : List ℕ) (ts : Trees) (bins funs os : List ℕ) (all : AllStand c s.shared mem roots ts) (ids : ids_in_all ts ≡ living_ids s)
     (codes : funs_in_all ts ≡ living_funs s) (read : CanTellCounts mem s.names bins funs) (names : AreNames s.names) (l : AllListed c s.shared mem bins funs)
@@ -149,6 +157,8 @@ module _ (s : State) (c : ℕ → ℕ → Bool) (mem roots : List ℕ) (ts : Tre
     by_names = funs-rise mem s.names (by_name mem s.names funs) (λ v i. read.each_fun v (in-named mem s.names v funs i)) (named-rises mem s.names funs names read.each_fun read.apart);
     bins_occur = ids-occur;
     funs_occur = codes-occur;
+    bins_named = bins-some mem bins (λ v i. l.some v (4 + bin_words (length (shared_bytes s.shared (owner_in mem v)))) (bin-record v i));
+    funs_named = funs-some mem (by_name mem s.names funs) (λ v i. l.some v 4 (fun-record v (in-named mem s.names v funs i)));
     bins_exact = λ swept. bins-counted mem (living_ids s) bins (bin-exact swept);
     funs_exact = λ swept. funs-counted mem (living_funs s) (by_name mem s.names funs) (fun-exact swept);
   }

@@ -1,6 +1,6 @@
 -- The image of a space, over its memory, its tables and its single numbers.
 use Rattle.std.specs.Prelude.{ℕ, ◌-◌, List, [], ◌∷◌, map, take, drop, reverse}
-use Rattle.plain_machine.specs.Image.{Image, Region, Rooted}
+use Rattle.plain_machine.specs.Image.{Image, Piece, Region, Rooted, half, in_half, pieces_by_place}
 use Rattle.record_move.specs.Copies.{record_words}
 use Rattle.two_halves.specs.Stack.{values}
 use Rattle.two_halves.specs.Halves.{front_of}
@@ -9,13 +9,16 @@ use Rattle.two_halves.specs.declared.table.Proc.{Proc}
 use Rattle.two_halves.specs.declared.halves.Halves.{Halves}
 use Rattle.one_space.specs.declared.one.One.{One}
 
--- The words of objects in the half in use.
+-- The words of objects in the half in use, as a region without owner.
+abbrev pub object_piece : Halves → Piece
+object_piece h = record { place = front_of h; words = take (h.top - front_of h) (drop (front_of h) h.mem) }
+
 abbrev pub object_region : Halves → Region
-object_region h = record { place = front_of h; words = take (h.top - front_of h) (drop (front_of h) h.mem) }
+object_region h = record { kind = half; owner = 0; piece = object_piece h }
 
 -- The record at a place.
-abbrev pub record_region : List ℕ → ℕ → Region
-record_region mem v = record { place = v; words = take (record_words mem v) (drop v mem) }
+abbrev pub record_piece : List ℕ → ℕ → Piece
+record_piece mem v = record { place = v; words = take (record_words mem v) (drop v mem) }
 
 -- A row with the first object of the one chain, its stack from the first pushed, and its queue from the first to be received.
 abbrev pub rooted : Halves → Proc → Rooted
@@ -28,15 +31,17 @@ rooted h p = record {
   queue = values h.mem p.queue p.waiting;
 }
 
--- The whole image.
+-- The whole image: one region, records in the order of their places, and no area.
 abbrev pub image : One → Image
 image b = record {
+  layout = in_half;
   words = words_of b;
   serials = b.serials;
   next = b.next;
   swept = b.swept;
   regions = object_region b.halves ∷ [];
-  bins = map (record_region b.halves.mem) b.halves.bins.items;
-  funs = map (record_region b.halves.mem) b.halves.funs.items;
+  bins = pieces_by_place (map (record_piece b.halves.mem) b.halves.bins.items);
+  funs = pieces_by_place (map (record_piece b.halves.mem) b.halves.funs.items);
   processes = map (rooted b.halves) b.halves.procs.items;
+  areas = [];
 }

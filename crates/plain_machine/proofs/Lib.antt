@@ -1,3 +1,4 @@
 pub mod Properly
 pub mod Numbering
 pub mod ByLine
+pub mod Pieces

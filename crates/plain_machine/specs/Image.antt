@@ -108,6 +108,15 @@ FollowEachOther [] = Unit {0}
 FollowEachOther (r ∷ []) = Unit {0}
 FollowEachOther (r ∷ q ∷ rs) = (r.place + length r.words ≤ q.place) × FollowEachOther (q ∷ rs)
 
+-- Pieces in the order of their places.
+abbrev pub insert_piece : Piece → List Piece → List Piece
+insert_piece r [] = r ∷ []
+insert_piece r (q ∷ qs) = if nat_lt q.place r.place then q ∷ insert_piece r qs else (r ∷ q ∷ qs)
+
+abbrev pub pieces_by_place : List Piece → List Piece
+pieces_by_place [] = []
+pieces_by_place (r ∷ rs) = insert_piece r (pieces_by_place rs)
+
 -- The table of kinds of regions: what a process's own words lie in, messages aside.
 abbrev pub is_heap : Kind → Bool
 is_heap young = true

@@ -12,5 +12,6 @@ pub mod Laws
 pub mod Image
 pub mod Counting
 pub mod Examples
+pub mod Images
 pub mod Scripts
 pub mod Figures

@@ -1,7 +1,7 @@
 -- The image of a space stands for each state that the space stands for.
-use Rattle.std.proofs.Common.{◌≡◌, ℕ, ◌+◌, ◌-◌, ◌<◌, ◌≤◌, ◌⊎◌, ◌&&◌, Bool, true, false, nat_le, nat_lt, List, []}
+use Rattle.std.proofs.Common.{◌≡◌, ℕ, ◌+◌, ◌-◌, ◌/◌, ◌<◌, ◌≤◌, ◌⊎◌, ◌&&◌, Bool, true, false, nat_le, nat_lt, List, []}
 use Rattle.std.proofs.Common.{◌∷◌, ◌++◌, length, map, flat_map, take, drop, get_or, reverse, inl, inr, refl, sym, ap, subst, arith}
-use Rattle.std.proofs.lemmas.Bool.{false≢true, or_cases}
+use Rattle.std.proofs.lemmas.Bool.{and_from, false≢true, or_cases, or_left, or_right}
 use Rattle.std.proofs.lemmas.Bool.Decides.{nat_tests}
 use Rattle.std.proofs.lemmas.List.{length-drop, length-take-le, reverse-append, reverse-reverse}
 use Rattle.std.proofs.lemmas.List.Concat.{flat_map-cons}
@@ -9,13 +9,21 @@ use Rattle.plain_term.specs.Bytes.{shared_bytes}
 use Rattle.plain_term.specs.Tree.{Tree}
 use Rattle.plain_term.specs.Tree.Trees.{end}
 use Rattle.plain_machine.specs.State.{Process, State}
-use Rattle.plain_machine.specs.Image.{AllBins, AllFuns, AllRooted, HasRegions, ImageStands, LiesIn, Region, RecordsTold, RootedStands, WordsStand, image_roots, region_places}
-use Rattle.plain_machine.specs.Image.{process_roots}
+use Rattle.plain_machine.specs.Image.{AllBins, AllFuns, AllLiterals, AllRooted, FollowEachOther, HasPieces, ImageStands, LeadInto, LiesIn, Piece, RecordsTold, RootedStands, WordsStand, areas_by_name}
+use Rattle.plain_machine.specs.Image.{halves_in, holds_words, image_roots, piece_places, pieces_by_place, process_roots}
+use Rattle.plain_machine.proofs.Pieces.Ordered.{AllPieces, EachTwo, HasWords, PiecesApart, bins-any, each-once, follow-ordered, funs-any, has-any, has-both, lies-any, lies-left, lies-right, ordered}
+use Rattle.plain_machine.proofs.Pieces.Ordered.{place-any, places-both, two-ordered}
+use Rattle.term_words.specs.Role.{IsSingle}
+use Rattle.plain_term.specs.Measures.{bin_words}
+use Rattle.term_words.specs.Object.{IsPointer, IsRecord, object_words}
 use Rattle.term_words.specs.Reach.{Reach, root, part}
 use Rattle.term_words.specs.Stands.{Stands}
 use Rattle.term_words.specs.Counted.{In, Distinct}
+use Rattle.term_words.proofs.Reaching.Reached.{reached}
+use Rattle.term_words.proofs.Placing.Roles.{object-role, object-some, record-some, records-apart}
 use Rattle.term_words.proofs.Totals.Members.{in-at, in-both, in-left, in-right}
 use Rattle.shared_rec.specs.Record.{owner_in}
+use Rattle.shared_rec.proofs.Records.{record-size}
 use Rattle.record_move.specs.Copies.{record_words}
 use Rattle.record_move.specs.Tables.{OwnersRise}
 use Rattle.cheney.specs.Plan.{Plan}
@@ -23,8 +31,9 @@ use Rattle.cheney.proofs.Rooted.Rows.{root-in}
 use Rattle.two_halves.specs.Stack.{values}
 use Rattle.two_halves.specs.Halves.{HoldTrees, IsBinOf, IsFunOf, IsLaid, ProcStands, ProcsStand, end_of, front_of, records_of}
 use Rattle.two_halves.specs.Reached.{roots_in, roots_of}
-use Rattle.two_halves.proofs.Standing.Covered.{bin-covered, covered, exact-covered, fun-covered, in_records, lies-covered, record-wide, single-covered, tree-covered}
-use Rattle.one_space.specs.Image.{image, object_region, record_region, rooted}
+use Rattle.two_halves.proofs.Standing.Held.{roots-stand, trees_of}
+use Rattle.two_halves.proofs.Standing.Covered.{bin-covered, counted-covered, covered, exact-covered, fun-covered, in_records, lies-covered, record-wide, single-covered, tree-covered}
+use Rattle.one_space.specs.Image.{image, object_piece, object_region, record_piece, rooted}
 use Rattle.one_space.specs.One.{Holds, OneStands}
 use Rattle.two_halves.specs.declared.table.Proc.{Proc}
 use Rattle.two_halves.specs.declared.halves.Halves.{Halves}
@@ -62,6 +71,33 @@ told-in h (p ∷ ps) w i =
       | inl first ↦ in-left w (p.regs ++ (reverse (values h.mem p.stack p.depth) ++ values h.mem p.queue p.waiting)) (flat_map process_roots (map (rooted h) ps)) first
       | inr rest ↦ in-right w (p.regs ++ (reverse (values h.mem p.stack p.depth) ++ values h.mem p.queue p.waiting)) (flat_map process_roots (map (rooted h) ps)) rest
     ])
+
+from-reverse : (w : ℕ) (xs : List ℕ) → In w (reverse xs) → In w xs
+from-reverse w xs i = let P : List ℕ → Type 0 = λ z. In w z in subst P (reverse-reverse xs) (in-reverse w (reverse xs) i)
+
+told-out : (h : Halves) (ps : List Proc) (w : ℕ) → In w (flat_map process_roots (map (rooted h) ps)) → In w (roots_in h.mem ps)
+told-out h [] w i = absurd i
+told-out h (p ∷ ps) w i =
+    let P : List ℕ → Type 0 = λ z. In w z in
+    let stack : List ℕ = values h.mem p.stack p.depth in
+    let queue : List ℕ = values h.mem p.queue p.waiting in
+    let split : In w ((p.regs ++ (reverse (values h.mem p.stack p.depth) ++ values h.mem p.queue p.waiting)) ++ flat_map process_roots (map (rooted h) ps)) =
+    subst P (flat_map-cons process_roots (rooted h p) (map (rooted h) ps)) i in
+    elim (in-both w (p.regs ++ (reverse (values h.mem p.stack p.depth) ++ values h.mem p.queue p.waiting)) (flat_map process_roots (map (rooted h) ps)) split) [
+      | inl own ↦ elim (in-both w p.regs (reverse (values h.mem p.stack p.depth) ++ values h.mem p.queue p.waiting) own) [
+        | inl register ↦ in-left w p.regs (values h.mem p.stack p.depth ++ (values h.mem p.queue p.waiting ++ roots_in h.mem ps)) register
+        | inr deep ↦ in-right w p.regs (values h.mem p.stack p.depth ++ (values h.mem p.queue p.waiting ++ roots_in h.mem ps))
+            (elim (in-both w (reverse (values h.mem p.stack p.depth)) (values h.mem p.queue p.waiting) deep) [
+              | inl value ↦ in-left w (values h.mem p.stack p.depth) (values h.mem p.queue p.waiting ++ roots_in h.mem ps)
+                  (from-reverse w (values h.mem p.stack p.depth) value)
+              | inr message ↦ in-right w (values h.mem p.stack p.depth) (values h.mem p.queue p.waiting ++ roots_in h.mem ps)
+                  (in-left w (values h.mem p.queue p.waiting) (roots_in h.mem ps) message)
+            ])
+      ]
+      | inr others ↦ in-right w p.regs (values h.mem p.stack p.depth ++ (values h.mem p.queue p.waiting ++ roots_in h.mem ps))
+          (in-right w (values h.mem p.stack p.depth) (values h.mem p.queue p.waiting ++ roots_in h.mem ps)
+          (in-right w (values h.mem p.queue p.waiting) (roots_in h.mem ps) (told-out h ps w others)))
+    ]
 
 -- A plan that begins with these roots.
 abbrev plan_over : (mem roots : List ℕ) → Plan
@@ -113,54 +149,93 @@ piece-words : (mem : List ℕ) (v n : ℕ) → v + n ≤ length mem → length (
 piece-words mem v n fits = length-take-le n (drop v mem) (omega (arith, length-drop v mem, fits))
 
 module _ (mem : List ℕ) where
-  -- The records are regions of the memory.
-  records-held : (vs : List ℕ) → ((v : ℕ) → In v vs → v + record_words mem v ≤ length mem) → HasRegions mem (map (record_region mem) vs)
+  -- The records are pieces of the memory.
+  records-held : (vs : List ℕ) → ((v : ℕ) → In v vs → v + record_words mem v ≤ length mem) → HasPieces mem (map (record_piece mem) vs)
   records-held [] fit = tt
   records-held (v ∷ vs) fit =
       let size = piece-words mem v (record_words mem v) (fit v (inl refl)) in
       (omega (arith, size, fit v (inl refl)), ap (λ n. take n (drop v mem)) size, records-held vs (λ u i. fit u (inr i)))
 
-  held-both : (rs qs : List Region) → HasRegions mem rs → HasRegions mem qs → HasRegions mem (rs ++ qs)
-  held-both [] qs a b = b
-  held-both (r ∷ rs) qs (fits, is, rest) b = (fits, is, held-both rs qs rest b)
+  place-listed : (v : ℕ) (vs : List ℕ) → In v vs → In v (piece_places (map (record_piece mem) vs))
+  place-listed v [] i = i
+  place-listed v (u ∷ vs) (inl e) = inl e
+  place-listed v (u ∷ vs) (inr i) = inr (place-listed v vs i)
 
-  places-are : (vs : List ℕ) → region_places (map (record_region mem) vs) ≡ vs
-  places-are [] = refl
-  places-are (v ∷ vs) = ap (λ z. v ∷ z) (places-are vs)
-
-  places-both : (vs us : List ℕ) → region_places (map (record_region mem) vs ++ map (record_region mem) us) ≡ vs ++ us
-  places-both [] us = places-are us
-  places-both (v ∷ vs) us = ap (λ z. v ∷ z) (places-both vs us)
-
-  -- A place in a listed record lies in its region.
-  lies-listed : (vs us : List ℕ) (a : ℕ) → ((v : ℕ) → In v (vs ++ us) → v + record_words mem v ≤ length mem) → in_records mem (vs ++ us) a ≡ true
-      → LiesIn (map (record_region mem) vs ++ map (record_region mem) us) a
-  lies-listed [] [] a fit e = absurd (false≢true e)
-  lies-listed [] (u ∷ us) a fit e = elim (or_cases (nat_le u a && nat_lt a (u + record_words mem u)) (in_records mem us a) e) [
-    | inl here ↦ inl (let size = piece-words mem u (record_words mem u) (fit u (inl refl)) in (grind (arith, nat_tests, here), grind (arith, nat_tests, here, size)))
-    | inr rest ↦ inr (lies-listed [] us a (λ v i. fit v (inr i)) rest)
-  ]
-  lies-listed (v ∷ vs) us a fit e = elim (or_cases (nat_le v a && nat_lt a (v + record_words mem v)) (in_records mem (vs ++ us) a) e) [
+  -- A place in a listed record lies in its piece.
+  lies-listed : (vs : List ℕ) (a : ℕ) → ((v : ℕ) → In v vs → v + record_words mem v ≤ length mem) → in_records mem vs a ≡ true → LiesIn (map (record_piece mem) vs) a
+  lies-listed [] a fit e = absurd (false≢true e)
+  lies-listed (v ∷ vs) a fit e = elim (or_cases (nat_le v a && nat_lt a (v + record_words mem v)) (in_records mem vs a) e) [
     | inl here ↦ inl (let size = piece-words mem v (record_words mem v) (fit v (inl refl)) in (grind (arith, nat_tests, here), grind (arith, nat_tests, here, size)))
-    | inr rest ↦ inr (lies-listed vs us a (λ u i. fit u (inr i)) rest)
+    | inr rest ↦ inr (lies-listed vs a (λ u i. fit u (inr i)) rest)
+  ]
+
+  listed-both : (vs us : List ℕ) (a : ℕ) → in_records mem (vs ++ us) a ≡ true → (in_records mem vs a ≡ true) ⊎ (in_records mem us a ≡ true)
+  listed-both [] us a e = inr e
+  listed-both (v ∷ vs) us a e = elim (or_cases (nat_le v a && nat_lt a (v + record_words mem v)) (in_records mem (vs ++ us) a) e) [
+    | inl here ↦ inl (or_left (nat_le v a && nat_lt a (v + record_words mem v)) (in_records mem vs a) here)
+    | inr rest ↦ elim (listed-both vs us a rest) [
+      | inl more ↦ inl (or_right (nat_le v a && nat_lt a (v + record_words mem v)) (in_records mem vs a) more)
+      | inr others ↦ inr others
+    ]
   ]
 
   -- Owners that rise are all different.
-  owners-once : (vs : List ℕ) → OwnersRise mem vs → Distinct (map (owner_in mem) (region_places (map (record_region mem) vs)))
-  owners-once [] r = tt
-  owners-once (v ∷ vs) (first, rest) = ((λ i. below vs first i), owners-once vs rest)
-    where
-      below : (us : List ℕ) → ((w : ℕ) → In w us → owner_in mem v < owner_in mem w) → In (owner_in mem v) (map (owner_in mem) (region_places (map (record_region mem) us))) → ⊥
-      below [] less i = i
-      below (u ∷ us) less (inl e) = omega (arith, less u (inl refl), e)
-      below (u ∷ us) less (inr i) = below us (λ w j. less w (inr j)) i
+  owners-differ : (v : ℕ) (us : List ℕ) → ((w : ℕ) → In w us → owner_in mem v < owner_in mem w)
+      → AllPieces (λ q. owner_in mem v ≡ owner_in mem q.place → ⊥) (map (record_piece mem) us)
+  owners-differ v [] less = tt
+  owners-differ v (u ∷ us) less = ((λ e. omega (arith, less u (inl refl), e)), owners-differ v us (λ w i. less w (inr i)))
+
+  owners-two : (vs : List ℕ) → OwnersRise mem vs → EachTwo (λ r q. owner_in mem r.place ≡ owner_in mem q.place → ⊥) (map (record_piece mem) vs)
+  owners-two [] r = tt
+  owners-two (v ∷ vs) (first, rest) = (owners-differ v vs first, owners-two vs rest)
+
+  owners-once : (vs : List ℕ) → OwnersRise mem vs → Distinct (map (owner_in mem) (piece_places (pieces_by_place (map (record_piece mem) vs))))
+  owners-once vs r =
+      each-once (owner_in mem) (pieces_by_place (map (record_piece mem) vs))
+      (two-ordered (λ r q. owner_in mem r.place ≡ owner_in mem q.place → ⊥) (λ r q n e. n (sym e)) (map (record_piece mem) vs) (owners-two vs r))
+
+  -- Records of which no two are one follow each other.
+  module _ (c : ℕ → ℕ → Bool) (single : IsSingle c) where
+    apart-all : (v : ℕ) (us : List ℕ) → IsRecord c mem v (record_words mem v) → v + record_words mem v ≤ length mem → ((u : ℕ) → In u us → IsRecord c mem u (record_words mem u))
+        → ((u : ℕ) → In u us → u + record_words mem u ≤ length mem) → ((u : ℕ) → In u us → owner_in mem v < owner_in mem u)
+        → AllPieces (PiecesApart (record_piece mem v)) (map (record_piece mem) us)
+    apart-all v [] is fits are fit less = tt
+    apart-all v (u ∷ us) is fits are fit less =
+        let size = piece-words mem v (record_words mem v) fits in
+        let other = piece-words mem u (record_words mem u) (fit u (inl refl)) in (
+          elim (records-apart c mem v (record_words mem v) u (record_words mem u) single is (are u (inl refl))) [
+            | inl e ↦ absurd (omega (arith, less u (inl refl), ap (owner_in mem) e))
+            | inr (inl before) ↦ inl (omega (arith, size, before))
+            | inr (inr behind) ↦ inr (omega (arith, other, behind))
+          ],
+          apart-all v us is fits (λ w i. are w (inr i)) (λ w i. fit w (inr i)) (λ w i. less w (inr i)),
+        )
+
+    apart-two : (vs : List ℕ) → ((v : ℕ) → In v vs → IsRecord c mem v (record_words mem v)) → ((v : ℕ) → In v vs → v + record_words mem v ≤ length mem) → OwnersRise mem vs
+        → EachTwo PiecesApart (map (record_piece mem) vs)
+    apart-two [] are fit rise = tt
+    apart-two (v ∷ vs) are fit (first, rest) = (
+      apart-all v vs (are v (inl refl)) (fit v (inl refl)) (λ u i. are u (inr i)) (λ u i. fit u (inr i)) first,
+      apart-two vs (λ u i. are u (inr i)) (λ u i. fit u (inr i)) rest,
+    )
+
+    all-some : (vs : List ℕ) → ((v : ℕ) → In v vs → IsRecord c mem v (record_words mem v)) → ((v : ℕ) → In v vs → v + record_words mem v ≤ length mem)
+        → AllPieces HasWords (map (record_piece mem) vs)
+    all-some [] are fit = tt
+    all-some (v ∷ vs) are fit =
+        let size = piece-words mem v (record_words mem v) (fit v (inl refl)) in
+        (omega (arith, size, record-some c mem v (record_words mem v) (are v (inl refl))), all-some vs (λ u i. are u (inr i)) (λ u i. fit u (inr i)))
+
+    records-follow : (vs : List ℕ) → ((v : ℕ) → In v vs → IsRecord c mem v (record_words mem v)) → ((v : ℕ) → In v vs → v + record_words mem v ≤ length mem) → OwnersRise mem vs
+        → FollowEachOther (pieces_by_place (map (record_piece mem) vs))
+    records-follow vs are fit rise = follow-ordered (map (record_piece mem) vs) (apart-two vs are fit rise) (all-some vs are fit)
 
 module _ (h : Halves) (laid : IsLaid h) where
   -- The region has as many words as lie between the front and the top.
-  region-words : length ((object_region h).words) ≡ h.top - front_of h
+  region-words : length ((object_piece h).words) ≡ h.top - front_of h
   region-words = piece-words h.mem (front_of h) (h.top - front_of h) (omega (arith, half-within h laid, laid.order, laid.fits, laid.front))
 
-  in-region : (a : ℕ) → front_of h ≤ a → a < h.top → (front_of h ≤ a) × (a < front_of h + length ((object_region h).words))
+  in-region : (a : ℕ) → front_of h ≤ a → a < h.top → (front_of h ≤ a) × (a < front_of h + length ((object_piece h).words))
   in-region a from to = (from, omega (arith, region-words, to, laid.front))
 
 module _ (b : One) (s : State) (holds : Holds b) (o : OneStands b s) where
@@ -178,7 +253,7 @@ module _ (b : One) (s : State) (holds : Holds b) (o : OneStands b s) where
   abbrev narrow : ℕ → ℕ → Bool
   narrow = covered b.named b.halves s.shared s.processes holds.counts.laid o.processes
 
-  bins-told : (vs : List ℕ) → ((v : ℕ) → In v vs → In v b.halves.bins.items) → AllBins narrow s.shared b.halves.mem (map (record_region b.halves.mem) vs)
+  bins-told : (vs : List ℕ) → ((v : ℕ) → In v vs → In v b.halves.bins.items) → AllBins narrow s.shared b.halves.mem (map (record_piece b.halves.mem) vs)
   bins-told [] among = tt
   bins-told (v ∷ vs) among =
       let r : IsBinOf o.processes.test b.halves.mem s.shared v = o.processes.records.each_bin v (among v (inl refl)) in
@@ -192,7 +267,7 @@ module _ (b : One) (s : State) (holds : Holds b) (o : OneStands b s) where
         bins-told vs (λ u i. among u (inr i)),
       )
 
-  funs-told : (vs : List ℕ) → ((v : ℕ) → In v vs → In v b.halves.funs.items) → AllFuns narrow b.halves.mem (map (record_region b.halves.mem) vs)
+  funs-told : (vs : List ℕ) → ((v : ℕ) → In v vs → In v b.halves.funs.items) → AllFuns narrow b.halves.mem (map (record_piece b.halves.mem) vs)
   funs-told [] among = tt
   funs-told (v ∷ vs) among =
       let r : IsFunOf o.processes.test b.halves.mem v = o.processes.records.each_fun v (among v (inl refl)) in
@@ -206,49 +281,142 @@ module _ (b : One) (s : State) (holds : Holds b) (o : OneStands b s) where
         funs-told vs (λ u i. among u (inr i)),
       )
 
-  records-told : RecordsTold narrow s.shared b.halves.mem (map (record_region b.halves.mem) b.halves.bins.items) (map (record_region b.halves.mem) b.halves.funs.items)
+  abbrev bin_pieces : List Piece
+  bin_pieces = map (record_piece b.halves.mem) b.halves.bins.items
+
+  abbrev fun_pieces : List Piece
+  fun_pieces = map (record_piece b.halves.mem) b.halves.funs.items
+
+  -- The places of the tables are those of the pieces in order.
+  place-told : (v : ℕ) → In v (b.halves.bins.items ++ b.halves.funs.items) → In v (piece_places (pieces_by_place bin_pieces ++ pieces_by_place fun_pieces))
+  place-told v i =
+      let P : List ℕ → Type 0 = λ z. In v z in
+      subst P (sym (places-both (pieces_by_place bin_pieces) (pieces_by_place fun_pieces))) (elim (in-both v b.halves.bins.items b.halves.funs.items i) [
+        | inl bin ↦ in-left v (piece_places (pieces_by_place bin_pieces)) (piece_places (pieces_by_place fun_pieces))
+            (ordered (λ rs. In v (piece_places rs)) (place-any v) bin_pieces (place-listed b.halves.mem v b.halves.bins.items bin))
+        | inr fun ↦ in-right v (piece_places (pieces_by_place bin_pieces)) (piece_places (pieces_by_place fun_pieces))
+            (ordered (λ rs. In v (piece_places rs)) (place-any v) fun_pieces (place-listed b.halves.mem v b.halves.funs.items fun))
+      ])
+
+  records-told : RecordsTold narrow s.shared b.halves.mem (pieces_by_place bin_pieces) (pieces_by_place fun_pieces)
   records-told = record {
-    all = λ v n there.
-        let P : List ℕ → Type 0 = λ z. In v z in
-        subst P (sym (places-both b.halves.mem b.halves.bins.items b.halves.funs.items))
-        (o.processes.records.all v n (record-wide b.named b.halves s.shared s.processes holds.counts.laid o.processes v n there));
-    each_bin = bins-told b.halves.bins.items (λ v i. i);
-    each_fun = funs-told b.halves.funs.items (λ v i. i);
+    all = λ v n there. place-told v (o.processes.records.all v n (record-wide b.named b.halves s.shared s.processes holds.counts.laid o.processes v n there));
+    each_bin = ordered (AllBins narrow s.shared b.halves.mem) (bins-any narrow s.shared b.halves.mem) bin_pieces (bins-told b.halves.bins.items (λ v i. i));
+    each_fun = ordered (AllFuns narrow b.halves.mem) (funs-any narrow b.halves.mem) fun_pieces (funs-told b.halves.funs.items (λ v i. i));
     bins_once = owners-once b.halves.mem b.halves.bins.items o.processes.records.serials;
     funs_once = owners-once b.halves.mem b.halves.funs.items o.processes.records.codes;
   }
 
-  regions-there : HasRegions b.halves.mem (object_region b.halves ∷ (map (record_region b.halves.mem) b.halves.bins.items ++ map (record_region b.halves.mem) b.halves.funs.items))
-  regions-there = (
+  -- Records of binaries follow each other, and so do those of funs.
+  bin-record : (v : ℕ) → In v b.halves.bins.items → IsRecord o.processes.test b.halves.mem v (record_words b.halves.mem v)
+  bin-record v i =
+      let r : IsBinOf o.processes.test b.halves.mem s.shared v = o.processes.records.each_bin v i in
+      let n : ℕ = 4 + bin_words (length (shared_bytes s.shared (owner_in b.halves.mem v))) in
+      let there : IsRecord o.processes.test b.halves.mem v (4 + bin_words (length (shared_bytes s.shared (owner_in b.halves.mem v)))) =
+      inl (owner_in b.halves.mem v, shared_bytes s.shared (owner_in b.halves.mem v), r.is, refl) in
+      let P : ℕ → Type 0 = λ z. IsRecord o.processes.test b.halves.mem v z in
+      subst P (sym (record-size o.processes.test b.halves.mem v (4 + bin_words (length (shared_bytes s.shared (owner_in b.halves.mem v)))) there)) there
+
+  fun-record : (v : ℕ) → In v b.halves.funs.items → IsRecord o.processes.test b.halves.mem v (record_words b.halves.mem v)
+  fun-record v i =
+      let r : IsFunOf o.processes.test b.halves.mem v = o.processes.records.each_fun v i in
+      let there : IsRecord o.processes.test b.halves.mem v 4 = inr (r.name, r.arity, r.is, refl) in
+      let P : ℕ → Type 0 = λ z. IsRecord o.processes.test b.halves.mem v z in
+      subst P (sym (record-size o.processes.test b.halves.mem v 4 there)) there
+
+  bins-follow : FollowEachOther (pieces_by_place bin_pieces)
+  bins-follow =
+      records-follow b.halves.mem o.processes.test o.processes.single b.halves.bins.items bin-record (λ v i. records-fit v (in-left v b.halves.bins.items b.halves.funs.items i))
+      o.processes.records.serials
+
+  funs-follow : FollowEachOther (pieces_by_place fun_pieces)
+  funs-follow =
+      records-follow b.halves.mem o.processes.test o.processes.single b.halves.funs.items fun-record (λ v i. records-fit v (in-right v b.halves.bins.items b.halves.funs.items i))
+      o.processes.records.codes
+
+  pieces-there : HasPieces b.halves.mem (object_piece b.halves ∷ (pieces_by_place bin_pieces ++ pieces_by_place fun_pieces))
+  pieces-there = (
     omega (arith, region-words b.halves holds.counts.laid, half-within b.halves holds.counts.laid, holds.counts.laid.order, holds.counts.laid.fits, holds.counts.laid.front),
     ap (λ n. take n (drop (front_of b.halves) b.halves.mem)) (region-words b.halves holds.counts.laid),
-    held-both b.halves.mem (map (record_region b.halves.mem) b.halves.bins.items) (map (record_region b.halves.mem) b.halves.funs.items)
-        (records-held b.halves.mem b.halves.bins.items (λ v i. records-fit v (in-left v b.halves.bins.items b.halves.funs.items i)))
-        (records-held b.halves.mem b.halves.funs.items (λ v i. records-fit v (in-right v b.halves.bins.items b.halves.funs.items i))),
+    has-both b.halves.mem (pieces_by_place bin_pieces) (pieces_by_place fun_pieces)
+        (ordered (HasPieces b.halves.mem) (has-any b.halves.mem) bin_pieces
+        (records-held b.halves.mem b.halves.bins.items (λ v i. records-fit v (in-left v b.halves.bins.items b.halves.funs.items i))))
+        (ordered (HasPieces b.halves.mem) (has-any b.halves.mem) fun_pieces
+        (records-held b.halves.mem b.halves.funs.items (λ v i. records-fit v (in-right v b.halves.bins.items b.halves.funs.items i)))),
   )
 
-  inside-there : (a k : ℕ) → narrow a k ≡ true
-      → LiesIn (object_region b.halves ∷ (map (record_region b.halves.mem) b.halves.bins.items ++ map (record_region b.halves.mem) b.halves.funs.items)) a
+  listed-there : (a : ℕ) → in_records b.halves.mem (records_of b.halves) a ≡ true → LiesIn (pieces_by_place bin_pieces ++ pieces_by_place fun_pieces) a
+  listed-there a e = elim (listed-both b.halves.mem b.halves.bins.items b.halves.funs.items a e) [
+    | inl bin ↦ lies-left a (pieces_by_place bin_pieces) (pieces_by_place fun_pieces)
+        (ordered (λ rs. LiesIn rs a) (lies-any a) bin_pieces
+        (lies-listed b.halves.mem b.halves.bins.items a (λ v i. records-fit v (in-left v b.halves.bins.items b.halves.funs.items i)) bin))
+    | inr fun ↦ lies-right a (pieces_by_place bin_pieces) (pieces_by_place fun_pieces)
+        (ordered (λ rs. LiesIn rs a) (lies-any a) fun_pieces
+        (lies-listed b.halves.mem b.halves.funs.items a (λ v i. records-fit v (in-right v b.halves.bins.items b.halves.funs.items i)) fun))
+  ]
+
+  inside-there : (a k : ℕ) → narrow a k ≡ true → LiesIn (object_piece b.halves ∷ (pieces_by_place bin_pieces ++ pieces_by_place fun_pieces)) a
   inside-there a k e = elim (lies-covered b.named b.halves s.shared s.processes holds.counts.laid o.processes a k e) [
     | inl object ↦ inl (in-region b.halves holds.counts.laid a object.0 object.1)
-    | inr listed ↦ inr (lies-listed b.halves.mem b.halves.bins.items b.halves.funs.items a records-fit listed)
+    | inr listed ↦ inr (listed-there a listed)
   ]
+
+  -- Every object that the roots reach lies whole in the half in use.
+  roots-there : (w : ℕ) → In w (image_roots (image b)) → In w (roots_of b.halves)
+  roots-there w i = elim (in-both w (flat_map process_roots (map (rooted b.halves) b.halves.procs.items)) [] i) [
+    | inl own ↦ told-out b.halves b.halves.procs.items w own
+    | inr none ↦ absurd none
+  ]
+
+  image-in : (w : ℕ) → In w (roots_of b.halves) → In w (image_roots (image b))
+  image-in w i = in-left w (flat_map process_roots (map (rooted b.halves) b.halves.procs.items)) [] (told-in b.halves b.halves.procs.items w i)
+
+  in-half : (w q : ℕ) → Reach b.halves.mem (roots_of b.halves) w → IsPointer w → w / 4 ≤ q → q < w / 4 + object_words b.halves.mem w → (front_of b.halves ≤ q) × (q < b.halves.top)
+  in-half w q r p from below =
+      let all = roots-stand o.processes.test s.shared b.halves.mem b.halves.low (end_of b.halves) b.named b.halves.procs.items s.processes o.processes.processes in
+      let (t, st) = reached o.processes.test s.shared b.halves.mem (roots_of b.halves) (trees_of s.processes) all w r in
+      let (k, (of, role)) = object-role o.processes.test s.shared b.halves.mem w t q st p from below in
+      elim (o.processes.lie q k role) [ inl object ↦ (object.0, object.1.0) | inr there ↦ absurd (omega (arith, of, there.1.1)) ]
+
+  whole-there : (w n : ℕ) → 0 < n → ((q : ℕ) → w ≤ q → q < w + n → (front_of b.halves ≤ q) × (q < b.halves.top)) → holds_words w n (object_region b.halves) ≡ true
+  whole-there w n some each =
+      let first = (each w (omega arith) (omega (arith, some))).0 in
+      let last = (each (w + (n - 1)) (omega arith) (omega (arith, some))).1 in
+      let size = region-words b.halves holds.counts.laid in
+      let from : nat_le (front_of b.halves) w ≡ true = grind (arith, nat_tests, first) in
+      let upto : w + n ≤ front_of b.halves + length ((object_piece b.halves).words) = omega (arith, size, last, some, holds.counts.laid.front) in
+      let to : nat_le (w + n) (front_of b.halves + length ((object_piece b.halves).words)) ≡ true = grind (arith, nat_tests, upto) in
+      and_from (nat_le (front_of b.halves) w) (nat_le (w + n) (front_of b.halves + length ((object_piece b.halves).words))) from to
+
+  leads : LeadInto b.halves.mem (image_roots (image b)) (halves_in (object_region b.halves ∷ []))
+  leads w r p =
+      let back : Reach b.halves.mem (roots_of b.halves) w = reach-among b.halves.mem (image_roots (image b)) (roots_of b.halves) roots-there w r in
+      or_left (holds_words (w / 4) (object_words b.halves.mem w) (object_region b.halves)) false
+      (whole-there (w / 4) (object_words b.halves.mem w) (object-some b.halves.mem w) (λ q from below. in-half w q back p from below))
+
+  areas-told : AllLiterals narrow s.shared b.halves.mem [] (areas_by_name s.areas)
+  areas-told = rw o.areas tt
 
   pub image-stands : ImageStands (image b) s
   image-stands = record {
     serials = o.shared;
     next = o.next;
     swept = o.swept;
-    areas = o.areas;
     mem = b.halves.mem;
     arena = refl;
-    regions = regions-there;
+    told = pieces-there;
+    regions_follow = tt;
+    bins_follow = bins-follow;
+    funs_follow = funs-follow;
     test = narrow;
     single = single-covered b.named b.halves s.shared s.processes holds.counts.laid o.processes;
     inside = inside-there;
     records = records-told;
     processes = rows-rooted o.processes.test narrow s.shared b.halves b.named (tree-covered b.named b.halves s.shared s.processes holds.counts.laid o.processes) b.halves.low (end_of b.halves)
         b.halves.procs.items s.processes o.processes.processes;
+    areas = areas-told;
+    lead = leads;
+    counted = counted-covered b.named b.halves s.shared s.processes holds.counts.laid o.processes;
     exact = λ e. exact-covered b.named b.halves s.shared s.processes holds.counts.laid o.processes (o.reached e) (image_roots (image b))
-        (reach-among b.halves.mem (roots_of b.halves) (image_roots (image b)) (λ w i. told-in b.halves b.halves.procs.items w i));
+        (reach-among b.halves.mem (roots_of b.halves) (image_roots (image b)) image-in);
   }

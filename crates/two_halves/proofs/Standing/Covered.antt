@@ -153,7 +153,7 @@ module _ (named : ℕ) (h : Halves) (shared : List (List ℕ)) (qs : List Proces
     counts = λ v n there. s.links.counts v n (record-wide v n there);
   }
 
-  counted-covered : AllCounted covered h.mem
+  pub counted-covered : AllCounted covered h.mem
   counted-covered v n there = s.records.counted v n (record-wide v n there)
 
   -- Where every object of the chain is reached, counts are exact.
