@@ -219,7 +219,7 @@ pub record BlocksLead (i : Image) (mem : List ℕ) : Type 0 where
 -- Each piece lies between the two places.
 abbrev pub AllWithin : (from to : ℕ) → List Piece → Type 0
 AllWithin from to [] = Unit {0}
-AllWithin from to (r ∷ rs) = (from ≤ r.place) × (r.place + length r.words ≤ to) × AllWithin from to rs
+AllWithin from to (r ∷ rs) = ((from ≤ r.place) × (r.place + length r.words ≤ to)) × AllWithin from to rs
 
 -- Where pointers lead in a store of two halves: all regions and records lie in one of them, the half in use, and pointers lead to
 -- whole objects there.

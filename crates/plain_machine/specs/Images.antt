@@ -95,14 +95,20 @@ in-first mem r (inr (inl e)) leads =
     let P : Region → Type 0 = λ z. LeadInto mem (73 ∷ []) (z ∷ []) in
     absurd (false≢true (first-leads mem 73 [] (block_region message 2 24 2 ∷ []) (subst P e leads) (inl refl)))
 
+-- It leads into no area, for there is none.
+in-none : (mem : List ℕ) → LeadInto mem (73 ∷ []) [] → ⊥
+in-none mem leads = false≢true (first-leads mem 73 [] [] leads (inl refl))
+
 pub shared-stands_for_none : (s : State) → ImageStands blocks_shared s → ⊥
 shared-stands_for_none s i = two i.mem i.lead.processes.0.queue.each i.lead.processes.0.queue.lead i.lead.processes.0.queue.apart
   where
     two : (mem : List ℕ) (each : List Region) → MessagesLead mem shared_regions [] each (73 ∷ 73 ∷ []) → Distinct (piece_places (region_pieces each)) → ⊥
-    two mem (r ∷ q ∷ []) (a, leads, (b, more, t)) (once, rest) = once (inl (in-first mem r a leads ∙ sym (in-first mem q b more)))
-    two mem [] l d = absurd l
-    two mem (r ∷ []) l d = absurd l.2
-    two mem (r ∷ q ∷ x ∷ each) l d = absurd l.2.2
+    two mem [] (leads, rest) d = in-none mem leads
+    two mem (r ∷ each) (inl (leads, rest)) d = in-none mem leads
+    two mem (r ∷ []) (inr (a, leads, (none, rest))) d = in-none mem none
+    two mem (r ∷ q ∷ each) (inr (a, leads, inl (none, rest))) d = in-none mem none
+    two mem (r ∷ q ∷ []) (inr (a, leads, inr (b, more, t))) (once, rest) = once (inl (in-first mem r a leads ∙ sym (in-first mem q b more)))
+    two mem (r ∷ q ∷ x ∷ each) (inr (a, leads, inr (b, more, t))) d = absurd t
 
 -- One half in use, from place 2 on: a list whose head is the tuple of 1 and 2, in a memory of two halves of 8 words.
 abbrev pub half_words : List ℕ
@@ -130,7 +136,7 @@ abbrev pub half_astray : ℕ → Image
 half_astray w = record in_one_half { processes = record { number = 1; refs = 0; chain = 0; registers = w ∷ replicate 15 59; stack = []; queue = [] } ∷ [] }
 
 pub other_half-stands_for_none : (s : State) → ImageStands (half_astray 41) s → ⊥
-other_half-stands_for_none s i = false≢true (first-leads i.mem 41 (replicate 15 59) (half_region ∷ []) i.lead (inl refl))
+other_half-stands_for_none s i = false≢true (first-leads i.mem 41 (replicate 15 59) (half_region ∷ []) i.lead.lead (inl refl))
 
 pub not_whole-stands_for_none : (s : State) → ImageStands (half_astray 25) s → ⊥
-not_whole-stands_for_none s i = false≢true (first-leads i.mem 25 (replicate 15 59) (half_region ∷ []) i.lead (inl refl))
+not_whole-stands_for_none s i = false≢true (first-leads i.mem 25 (replicate 15 59) (half_region ∷ []) i.lead.lead (inl refl))

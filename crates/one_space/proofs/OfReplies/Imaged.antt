@@ -9,10 +9,10 @@ use Rattle.plain_term.specs.Bytes.{shared_bytes}
 use Rattle.plain_term.specs.Tree.{Tree}
 use Rattle.plain_term.specs.Tree.Trees.{end}
 use Rattle.plain_machine.specs.State.{Process, State}
-use Rattle.plain_machine.specs.Image.{AllBins, AllFuns, AllLiterals, AllRooted, FollowEachOther, HasPieces, ImageStands, LeadInto, LiesIn, Piece, RecordsTold, RootedStands, WordsStand, areas_by_name}
+use Rattle.plain_machine.specs.Image.{AllBins, AllFuns, AllLiterals, AllRooted, AllWithin, FollowEachOther, HasPieces, ImageStands, LeadInto, LiesIn, Piece, RecordsTold, RootedStands, WordsStand, areas_by_name}
 use Rattle.plain_machine.specs.Image.{halves_in, holds_words, image_roots, piece_places, pieces_by_place, process_roots}
 use Rattle.plain_machine.proofs.Pieces.Ordered.{AllPieces, EachTwo, HasWords, PiecesApart, bins-any, each-once, follow-ordered, funs-any, has-any, has-both, lies-any, lies-left, lies-right, ordered}
-use Rattle.plain_machine.proofs.Pieces.Ordered.{place-any, places-both, two-ordered}
+use Rattle.plain_machine.proofs.Pieces.Ordered.{place-any, places-both, two-ordered, within-any, within-both}
 use Rattle.term_words.specs.Role.{IsSingle}
 use Rattle.plain_term.specs.Measures.{bin_words}
 use Rattle.term_words.specs.Object.{IsPointer, IsRecord, object_words}
@@ -20,7 +20,7 @@ use Rattle.term_words.specs.Reach.{Reach, root, part}
 use Rattle.term_words.specs.Stands.{Stands}
 use Rattle.term_words.specs.Counted.{In, Distinct}
 use Rattle.term_words.proofs.Reaching.Reached.{reached}
-use Rattle.term_words.proofs.Placing.Roles.{object-role, object-some, record-some, records-apart}
+use Rattle.term_words.proofs.Placing.Roles.{object-role, object-some, record-role, record-some, records-apart}
 use Rattle.term_words.proofs.Totals.Members.{in-at, in-both, in-left, in-right}
 use Rattle.shared_rec.specs.Record.{owner_in}
 use Rattle.shared_rec.proofs.Records.{record-size}
@@ -32,7 +32,7 @@ use Rattle.two_halves.specs.Stack.{values}
 use Rattle.two_halves.specs.Halves.{HoldTrees, IsBinOf, IsFunOf, IsLaid, ProcStands, ProcsStand, end_of, front_of, records_of}
 use Rattle.two_halves.specs.Reached.{roots_in, roots_of}
 use Rattle.two_halves.proofs.Standing.Held.{roots-stand, trees_of}
-use Rattle.two_halves.proofs.Standing.Covered.{bin-covered, counted-covered, covered, exact-covered, fun-covered, in_records, lies-covered, record-wide, single-covered, tree-covered}
+use Rattle.two_halves.proofs.Standing.Covered.{bin-covered, counted-covered, covered, exact-covered, fun-covered, in_records, lies-covered, next-covered, record-wide, single-covered, tree-covered}
 use Rattle.one_space.specs.Image.{image, object_piece, object_region, record_piece, rooted}
 use Rattle.one_space.specs.One.{Holds, OneStands}
 use Rattle.two_halves.specs.declared.table.Proc.{Proc}
@@ -345,6 +345,38 @@ module _ (b : One) (s : State) (holds : Holds b) (o : OneStands b s) where
         (records-held b.halves.mem b.halves.funs.items (λ v i. records-fit v (in-right v b.halves.bins.items b.halves.funs.items i)))),
   )
 
+  -- All lies in the half in use.
+  record-within : (v : ℕ) → IsRecord o.processes.test b.halves.mem v (record_words b.halves.mem v) → (b.halves.base ≤ v) × (v + record_words b.halves.mem v ≤ end_of b.halves)
+  record-within v r =
+      let some = record-some o.processes.test b.halves.mem v (record_words b.halves.mem v) r in
+      let first = record-side v v r (omega arith) (omega (arith, some)) in
+      let last = record-side v (v + (record_words b.halves.mem v - 1)) r (omega arith) (omega (arith, some)) in
+      (omega (arith, first.0, holds.counts.laid.front, holds.counts.laid.order), omega (arith, last.1, some))
+    where
+      record-side : (v q : ℕ) → IsRecord o.processes.test b.halves.mem v (record_words b.halves.mem v) → v ≤ q → q < v + record_words b.halves.mem v
+          → (b.halves.low ≤ q) × (q < end_of b.halves)
+      record-side v q r from below =
+          let (k, (of, role)) = record-role o.processes.test b.halves.mem v (record_words b.halves.mem v) q r from below in
+          elim (o.processes.lie q k role) [ inl object ↦ absurd (omega (arith, of, object.1.1)) | inr there ↦ (there.0, there.1.0) ]
+
+  records-within : (vs : List ℕ) → ((v : ℕ) → In v vs → v + record_words b.halves.mem v ≤ length b.halves.mem)
+      → ((v : ℕ) → In v vs → IsRecord o.processes.test b.halves.mem v (record_words b.halves.mem v)) → AllWithin b.halves.base (end_of b.halves) (map (record_piece b.halves.mem) vs)
+  records-within [] fit are = tt
+  records-within (v ∷ vs) fit are =
+      let size = piece-words b.halves.mem v (record_words b.halves.mem v) (fit v (inl refl)) in
+      let here = record-within v (are v (inl refl)) in
+      ((here.0, omega (arith, here.1, size)), records-within vs (λ u i. fit u (inr i)) (λ u i. are u (inr i)))
+
+  within-half : AllWithin b.halves.base (end_of b.halves) (object_piece b.halves ∷ (pieces_by_place bin_pieces ++ pieces_by_place fun_pieces))
+  within-half = (
+    (omega arith, omega (arith, region-words b.halves holds.counts.laid, holds.counts.laid.order, holds.counts.laid.fits, holds.counts.laid.front)),
+    within-both b.halves.base (end_of b.halves) (pieces_by_place bin_pieces) (pieces_by_place fun_pieces)
+        (ordered (AllWithin b.halves.base (end_of b.halves)) (within-any b.halves.base (end_of b.halves)) bin_pieces
+        (records-within b.halves.bins.items (λ v i. records-fit v (in-left v b.halves.bins.items b.halves.funs.items i)) bin-record))
+        (ordered (AllWithin b.halves.base (end_of b.halves)) (within-any b.halves.base (end_of b.halves)) fun_pieces
+        (records-within b.halves.funs.items (λ v i. records-fit v (in-right v b.halves.bins.items b.halves.funs.items i)) fun-record)),
+  )
+
   listed-there : (a : ℕ) → in_records b.halves.mem (records_of b.halves) a ≡ true → LiesIn (pieces_by_place bin_pieces ++ pieces_by_place fun_pieces) a
   listed-there a e = elim (listed-both b.halves.mem b.halves.bins.items b.halves.funs.items a e) [
     | inl bin ↦ lies-left a (pieces_by_place bin_pieces) (pieces_by_place fun_pieces)
@@ -411,11 +443,12 @@ module _ (b : One) (s : State) (holds : Holds b) (o : OneStands b s) where
     test = narrow;
     single = single-covered b.named b.halves s.shared s.processes holds.counts.laid o.processes;
     inside = inside-there;
+    nexts = next-covered b.named b.halves s.shared s.processes holds.counts.laid o.processes;
     records = records-told;
     processes = rows-rooted o.processes.test narrow s.shared b.halves b.named (tree-covered b.named b.halves s.shared s.processes holds.counts.laid o.processes) b.halves.low (end_of b.halves)
         b.halves.procs.items s.processes o.processes.processes;
     areas = areas-told;
-    lead = leads;
+    lead = record { base = b.halves.base; side = holds.counts.laid.side; within = within-half; lead = leads };
     counted = counted-covered b.named b.halves s.shared s.processes holds.counts.laid o.processes;
     exact = λ e. exact-covered b.named b.halves s.shared s.processes holds.counts.laid o.processes (o.reached e) (image_roots (image b))
         (reach-among b.halves.mem (roots_of b.halves) (image_roots (image b)) image-in);

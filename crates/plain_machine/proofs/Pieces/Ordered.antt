@@ -2,7 +2,7 @@
 use Rattle.std.proofs.Common.{◌≡◌, ℕ, ◌+◌, ◌<◌, ◌≤◌, ◌⊎◌, Bool, true, false, nat_lt, if◌then◌else◌, List, [], ◌∷◌, ◌++◌, length, map, refl, ap, arith, inl, inr}
 use Rattle.std.proofs.lemmas.Bool.Decides.{nat_tests}
 use Rattle.term_words.specs.Counted.{In, Distinct}
-use Rattle.plain_machine.specs.Image.{AllBins, AllFuns, FollowEachOther, HasPieces, LiesIn, Piece, insert_piece, piece_places, pieces_by_place}
+use Rattle.plain_machine.specs.Image.{AllBins, AllFuns, AllWithin, FollowEachOther, HasPieces, LiesIn, Piece, insert_piece, piece_places, pieces_by_place}
 
 -- What is true of pieces whatever their order: of more where of fewer, and of two that change their places.
 pub record IsAnyOrder (P : List Piece → Type 0) : Type 0 where
@@ -113,6 +113,9 @@ place-any v = record {
   swap = λ r q rs h. elim h [ inl first ↦ inr (inl first) | inr more ↦ elim more [ inl second ↦ inl second | inr rest ↦ inr (inr rest) ] ];
 }
 
+pub within-any : (from to : ℕ) → IsAnyOrder (AllWithin from to)
+within-any from to = record { next = λ r xs ys go h. (h.0, go h.1); swap = λ r q rs h. (h.1.0, (h.0, h.1.1)) }
+
 -- Numbers of pieces that differ two by two are listed each once.
 
 none-in : (f : ℕ → ℕ) (v : ℕ) (rs : List Piece) → AllPieces (λ q. f v ≡ f q.place → ⊥) rs → In (f v) (map f (piece_places rs)) → ⊥
@@ -129,6 +132,10 @@ each-once f (r ∷ rs) (a, b) = (none-in f r.place rs a, each-once f rs b)
 pub has-both : (mem : List ℕ) (rs qs : List Piece) → HasPieces mem rs → HasPieces mem qs → HasPieces mem (rs ++ qs)
 has-both mem [] qs a b = b
 has-both mem (r ∷ rs) qs (fits, is, rest) b = (fits, is, has-both mem rs qs rest b)
+
+pub within-both : (from to : ℕ) (rs qs : List Piece) → AllWithin from to rs → AllWithin from to qs → AllWithin from to (rs ++ qs)
+within-both from to [] qs a b = b
+within-both from to (r ∷ rs) qs (here, rest) b = (here, within-both from to rs qs rest b)
 
 pub lies-left : (a : ℕ) (rs qs : List Piece) → LiesIn rs a → LiesIn (rs ++ qs) a
 lies-left a [] qs h = absurd h

@@ -1,5 +1,5 @@
 -- A narrower test of a half: each word with a role is one of an object, or of a record that the tables list.
-use Rattle.std.proofs.Common.{◌≡◌, ℕ, ◌+◌, ◌*◌, ◌<◌, ◌≤◌, ◌⊎◌, ◌&&◌, ◌||◌, Bool, true, false, nat_le, nat_lt, List, [], ◌∷◌, length, get_or, refl, sym, ap, subst, arith, inl, inr}
+use Rattle.std.proofs.Common.{◌≡◌, ℕ, ◌+◌, ◌*◌, ◌<◌, ◌≤◌, ◌⊎◌, ◌&&◌, ◌||◌, Bool, true, false, nat_le, nat_lt, List, [], ◌∷◌, length, get_or, slice_index, refl, sym, ap, subst, arith, inl, inr}
 use Rattle.std.proofs.lemmas.Bool.{and_parts, and_from, or_right, or_left}
 use Rattle.std.proofs.lemmas.Bool.Decides.{nat_tests}
 use Rattle.plain_term.specs.Tree.{Tree}
@@ -16,7 +16,7 @@ use Rattle.term_words.proofs.Framing.Narrowing.{narrowed-word}
 use Rattle.term_words.proofs.Reaching.Reached.{reached}
 use Rattle.term_words.proofs.Placing.Roles.{object-role}
 use Rattle.shared_rec.proofs.Records.{bin-copied, fun-copied, record-copied, record-size, record-within}
-use Rattle.off_heap_list.specs.Links.{name_place, named as name_of, IsLink, Links}
+use Rattle.off_heap_list.specs.Links.{name_place, named as name_of, IsLink, IsLinkHeader, Links}
 use Rattle.off_heap_list.specs.Exact.{AllCounted, Exact}
 use Rattle.off_heap_list.proofs.Chaining.Exact.{counts-exact}
 use Rattle.record_move.specs.Copies.{record_words}
@@ -155,6 +155,10 @@ module _ (named : ℕ) (h : Halves) (shared : List (List ℕ)) (qs : List Proces
 
   pub counted-covered : AllCounted covered h.mem
   counted-covered v n there = s.records.counted v n (record-wide v n there)
+
+  -- A word `next` is that of an object of the chain.
+  pub next-covered : (p : ℕ) → covered (p + 2) NEXT ≡ true → IsLinkHeader (slice_index h.mem p)
+  next-covered p e = (s.links.each p (s.every p ((and_parts (s.test (p + 2) NEXT) (covering h (p + 2) NEXT) e).0))).kind
 
   -- Where every object of the chain is reached, counts are exact.
   pub exact-covered : ChainReached h → (roots : List ℕ) → ((w : ℕ) → Reach h.mem (roots_of h) w → Reach h.mem roots w) → Exact covered h.mem roots
