@@ -14,6 +14,7 @@ use Rattle.line_io.proofs.Growth.{Grew-nil, Grew-append}
 use Rattle.line_io.proofs.Loop.{Gave-append}
 use Rattle.line_io.proofs.Ranges.{Gave-nil}
 use Rattle.script_grammar.specs.Names.{Parsed}
+use Rattle.plain_machine.specs.May.{may_of_tight}
 use Rattle.plain_machine.specs.State.{State}
 use Rattle.plain_machine.specs.Run.{Run, LineStep, replies_text}
 use Rattle.plain_machine.proofs.ByLine.Runs.{run-append, run-one, run-none, text-append}
@@ -33,8 +34,8 @@ source_from before after = record { before = before; after = after }
 
 -- each process of a run from the first state was alone
 are-isolated : (rules : Rules) (c : Course) → CourseRuns rules c → AreIsolated rules c
-are-isolated rules c run first = isolates rules.supply.may rules.supply.words c.quits c.given c.replies c.last
-    (subst (λ (z : State). Run rules.supply.may rules.supply.words c.quits z c.given c.replies c.last) first run)
+are-isolated rules c run first = isolates may_of_tight rules.words c.quits c.given c.replies c.last
+    (subst (λ (z : State). Run may_of_tight rules.words c.quits z c.given c.replies c.last) first run)
 
 module _ {K : Type 0} (wrote : K → List ℕ → Type 0) (faults : K → ℕ) where
   -- a sink before and after
@@ -59,7 +60,7 @@ module _ {K : Type 0} (wrote : K → List ℕ → Type 0) (faults : K → ℕ) w
     state = rules.first;
     took = Gave-nil left;
     has = has;
-    run = run-none rules.supply.may rules.supply.words rules.first;
+    run = run-none may_of_tight rules.words rules.first;
     stands = st;
     writes = (Grew-nil wrote sink, refl);
   }
@@ -81,7 +82,7 @@ module _ {K : Type 0} (wrote : K → List ℕ → Type 0) (faults : K → ℕ) w
     -- a line was read, done and answered
     pub turn-line : (answer : LineGot) (line : Line) (left : After) (new : K) (stepped : Stepped) (turn : Turn)
         → turn ≡ turn_of stepped → came_line answer (line_in next) ≡ line ∷ []
-        → Reads now after rules.limits next g.bytes g.given answer → Steps rules.supply g.state line left (sink_from mid new) stepped
+        → Reads now after rules.limits next g.bytes g.given answer → Steps rules.words g.state line left (sink_from mid new) stepped
         → Turns turn rules (source_from before after) (sink_from start new) next left.stands
     turn-line answer line left new stepped turn e came r p =
         let P : Turn → Type 0 = λ t. Turns t rules (source_from before after) (sink_from start new) next left.stands in
@@ -96,10 +97,10 @@ module _ {K : Type 0} (wrote : K → List ℕ → Type 0) (faults : K → ℕ) w
         front-it : lines (g.bytes ++ r.x) r.ended rules.limits ≡ (g.given ++ line ∷ []) ++ r.rest
         front-it = subst (λ z. lines (g.bytes ++ r.x) r.ended rules.limits ≡ (g.given ++ z) ++ r.rest) came r.front
 
-        run-it : (quits : Bool) → p.quits ≡ quits → Run rules.supply.may rules.supply.words quits rules.first (g.given ++ line ∷ []) (g.replies ++ p.replies) p.new
-        run-it quits q = run-append rules.supply.may rules.supply.words quits rules.first g.state p.new g.given (line ∷ []) g.replies p.replies g.run
-            (run-one rules.supply.may rules.supply.words quits g.state p.new line p.replies
-            (subst (λ b. LineStep rules.supply.may rules.supply.words g.state line b p.replies p.new) q p.follows))
+        run-it : (quits : Bool) → p.quits ≡ quits → Run may_of_tight rules.words quits rules.first (g.given ++ line ∷ []) (g.replies ++ p.replies) p.new
+        run-it quits q = run-append may_of_tight rules.words quits rules.first g.state p.new g.given (line ∷ []) g.replies p.replies g.run
+            (run-one may_of_tight rules.words quits g.state p.new line p.replies
+            (subst (λ b. LineStep may_of_tight rules.words g.state line b p.replies p.new) q p.follows))
 
         at : (stepped : Stepped) → StepWrites (sink_from mid new) (replies_text p.replies) stepped → TellsQuit stepped p.quits
             → Turns (turn_of stepped) rules (source_from before after) (sink_from start new) next left.stands
@@ -181,12 +182,12 @@ module _ {K : Type 0} (wrote : K → List ℕ → Type 0) (faults : K → ℕ) w
     turn-fault r = stopped ReadFault r.x r.ended r.rest r.gave r.told r.front (g.writes, record { whole_lines = r.ends.0; no_more = r.ends.1; goes_on = refl })
 
 -- rules of other words and limits that are the same
-pub same-rules : (P : Rules → Type 0) (may : ℕ → State → Parsed → Bool) (words words' : ℕ) (first : State) (limits limits' : Limits) → words ≡ words' → limits ≡ limits'
-    → P (record { supply = record { may = may; words = words }; first = first; limits = limits })
-    → P (record { supply = record { may = may; words = words' }; first = first; limits = limits' })
-same-rules P may words words' first limits limits' e l h =
-    let Q : ℕ → Type 0 = λ w. P (record { supply = record { may = may; words = w }; first = first; limits = limits' }) in
-    let R : Limits → Type 0 = λ k. P (record { supply = record { may = may; words = words }; first = first; limits = k }) in
+pub same-rules : (P : Rules → Type 0) (words words' : ℕ) (first : State) (limits limits' : Limits) → words ≡ words' → limits ≡ limits'
+    → P (record { words = words; first = first; limits = limits })
+    → P (record { words = words'; first = first; limits = limits' })
+same-rules P words words' first limits limits' e l h =
+    let Q : ℕ → Type 0 = λ w. P (record { words = w; first = first; limits = limits' }) in
+    let R : Limits → Type 0 = λ k. P (record { words = words; first = first; limits = k }) in
     subst Q e (subst R l h)
 
 -- what a turn tells of its reading, after a line

@@ -8,6 +8,7 @@ use Rattle.line_io.specs.Lines.{Line, lines, is_too_much}
 use Rattle.line_io.specs.Reader.{HasRead, IsEndOf, IsFaulted, lines_left, limits_of}
 use Rattle.line_io.specs.declared.reader.Limits.{Limits}
 use Rattle.line_io.specs.declared.reader.LineReader.{LineReader}
+use Rattle.plain_machine.specs.May.{may_of_tight}
 use Rattle.plain_machine.specs.State.{State, first_state}
 use Rattle.plain_machine.specs.Run.{Run, LineStep, replies_text}
 use Rattle.isolation.specs.Laws.{Isolates}
@@ -39,11 +40,11 @@ pub record Course : Type 0 where
 
 -- The lines that were done lead from the first state to the last with these replies.
 abbrev pub CourseRuns : Rules → Course → Type 0
-CourseRuns rules c = Run rules.supply.may rules.supply.words c.quits rules.first c.given c.replies c.last
+CourseRuns rules c = Run may_of_tight rules.words c.quits rules.first c.given c.replies c.last
 
 -- Where they began at the first state, each process was alone: its own lines were answered as its view of them says.
 abbrev pub AreIsolated : Rules → Course → Type 0
-AreIsolated rules c = rules.first ≡ first_state → Isolates rules.supply.may rules.supply.words c.quits c.given c.replies c.last
+AreIsolated rules c = rules.first ≡ first_state → Isolates may_of_tight rules.words c.quits c.given c.replies c.last
 
 -- The reply to the last line was not written whole; those before it were.
 pub record Unwritten (rules : Rules) (c : Course) {K : Type 0} (out : Output K) : Type 0 where
@@ -54,8 +55,8 @@ pub record Unwritten (rules : Rules) (c : Course) {K : Type 0} (out : Output K) 
   pub mid : State
   pub lines_are : c.given ≡ before ++ line ∷ []
   pub replies_are : c.replies ≡ earlier ++ final
-  pub run : Run rules.supply.may rules.supply.words false rules.first before earlier mid
-  pub step : LineStep rules.supply.may rules.supply.words mid line c.quits final c.last
+  pub run : Run may_of_tight rules.words false rules.first before earlier mid
+  pub step : LineStep may_of_tight rules.words mid line c.quits final c.last
   pub part : List ℕ
   pub missing : List ℕ
   pub whole : replies_text final ≡ part ++ missing
@@ -117,7 +118,7 @@ pub record Going (rules : Rules) (source : Input) {K : Type 0} (out : Output K) 
   pub state : State
   pub took : Gave source.before source.after bytes
   pub has : HasRead reader source.after bytes given
-  pub run : Run rules.supply.may rules.supply.words false rules.first given replies state
+  pub run : Run may_of_tight rules.words false rules.first given replies state
   pub stands : Stands state
   pub writes : WritesAll out (replies_text replies)
 

@@ -44,7 +44,7 @@ fn take_line<S: Space>(space: &mut S, names: &mut AtomNames, code: &mut Code, li
     requires calls { S.calls space.old < most_calls }
     requires named { S.named space.old ≤ length names.old }
     ensures takes { (s : State) → StandsWith (S.stands space.old) names.old s
-        → Takes (record { may = S.may; words = S.words space.old }) s line.now result
+        → Takes (S.words space.old) s line.now result
         (record { stands = S.stands space.new; text = S.text space.new names.new }) names.new }
     ensures can { CanReply S.sits S.named space.new names.new result }
     ensures books { KeepsBooks S.words S.calls S.named space.old space.new (length names.new) }
@@ -132,7 +132,7 @@ pub fn step<S: Space, K: Sink>(m: &mut Machine<S>, line: &[u8], sink: &mut K) ->
     requires named { S.named m.old.space ≤ length m.old.names }
     // The machine of plain trees makes this step, and a map line is answered by the text of the store.
     ensures steps { (s : State) → StandsWith (S.stands m.old.space) m.old.names s
-        → Steps (record { may = S.may; words = S.words m.old.space }) s (text line.now)
+        → Steps (S.words m.old.space) s (text line.now)
         (record { stands = StandsWith (S.stands m.new.space) m.new.names; text = S.text m.new.space m.new.names })
         (record { wrote = K.wrote; faults = K.faults; before = sink.old; after = sink.new }) result }
     // A line that prints, a map line among them, leaves the store as it is.
@@ -147,7 +147,7 @@ pub fn step<S: Space, K: Sink>(m: &mut Machine<S>, line: &[u8], sink: &mut K) ->
 /// Answers a line of more than `LONGEST_LINE` bytes.
 pub(crate) fn refuse_long<S: Space, K: Sink>(m: &Machine<S>, sink: &mut K) -> Stepped
     ensures steps { (s : State) → StandsWith (S.stands m.now.space) m.now.names s
-        → Steps (record { may = S.may; words = S.words m.now.space }) s long
+        → Steps (S.words m.now.space) s long
         (record { stands = StandsWith (S.stands m.now.space) m.now.names; text = S.text m.now.space m.now.names })
         (record { wrote = K.wrote; faults = K.faults; before = sink.old; after = sink.new }) result }
 {

@@ -50,11 +50,11 @@ fn take_turn<S: Space, T: Source, K: Sink>(
     requires named { S.named m.old.space ≤ length m.old.names }
     requires no_fault { IsFaulted reader.old → ⊥ }
     ensures turns { (first : State) (left : Option (List ℕ)) (start : K)
-        → Going (record { supply = record { may = S.may; words = S.words m.old.space }; first = first; limits = limits_of reader.old })
+        → Going (record { words = S.words m.old.space; first = first; limits = limits_of reader.old })
         (record { before = left; after = T.left source.old })
         (record { wrote = K.wrote; faults = K.faults; before = start; after = sink.old })
         reader.old (StandsWith (S.stands m.old.space) m.old.names)
-        → Turns result (record { supply = record { may = S.may; words = S.words m.old.space }; first = first; limits = limits_of reader.old })
+        → Turns result (record { words = S.words m.old.space; first = first; limits = limits_of reader.old })
         (record { before = left; after = T.left source.new })
         (record { wrote = K.wrote; faults = K.faults; before = start; after = sink.new })
         reader.new (StandsWith (S.stands m.new.space) m.new.names) }
@@ -89,7 +89,7 @@ pub fn serve<S: Space, T: Source, K: Sink>(
     requires calls { S.calls m.old.space + (limits_of reader.old).lines ≤ most_calls }
     requires named { S.named m.old.space ≤ length m.old.names }
     ensures served { (first : State) → StandsWith (S.stands m.old.space) m.old.names first
-        → Served (record { supply = record { may = S.may; words = S.words m.old.space }; first = first; limits = limits_of reader.old })
+        → Served (record { words = S.words m.old.space; first = first; limits = limits_of reader.old })
         (record { before = T.left source.old; after = T.left source.new })
         (record { wrote = K.wrote; faults = K.faults; before = sink.old; after = sink.new })
         (StandsWith (S.stands m.new.space) m.new.names) result }

@@ -3,13 +3,13 @@ use Rattle.std.proofs.Common.{ℕ, ◌≡◌, ◌⊎◌, List, subst, refl, inl,
 use Rattle.plain_machine.specs.State.{State, first_state}
 use Rattle.line_io.specs.Faults.{Rose}
 use Rattle.line_io.specs.declared.sum_sink.Summary.{Summary}
-use Rattle.engine.specs.Rules.{Rules, Supply, Input, Output}
+use Rattle.engine.specs.Rules.{Rules, Input, Output}
 use Rattle.engine.specs.Serving.{Served, TellsRead, TellsWrite}
 use Rattle.engine.specs.declared.serving.Status.{Status}
 use Rattle.engine.specs.declared.serving.Status.TheVariants.{Done, Usage, ReadFault, WriteFault, Memory, TooMuch}
 use Rattle.machine_run.specs.Contract.{IfBegun, IsComplete}
 use Rattle.machine_run.specs.Summary.{EndsMade, summary_text}
-use Rattle.machine_run.specs.Made.{IsMade, Made, supply_of}
+use Rattle.machine_run.specs.Made.{IsMade, Made}
 
 module _ (rules : Rules) (source : Input) {K : Type 0} (out : Output K) (Stands : State → Type 0) where
   -- a script that was served has no status of a run that did not begin
@@ -68,13 +68,13 @@ module _ {K : Type 0} (out : Output K) (x : List ℕ) where
   summary-told TooMuch e = absurd e
 
 -- what stands for the last state of a made script may be said in other words
-pub made-so : (supply : Supply) (first : State) (number : ℕ) (Stands Other : State → Type 0) (numbers : Summary) → ((s : State) → Stands s → Other s)
-    → IsMade supply first number Stands numbers → IsMade supply first number Other numbers
-made-so supply first number Stands Other numbers f m = record { replies = m.replies; last = m.last; run = m.run; stands = f m.last m.stands; sums = m.sums }
+pub made-so : (words : ℕ) (first : State) (number : ℕ) (Stands Other : State → Type 0) (numbers : Summary) → ((s : State) → Stands s → Other s)
+    → IsMade words first number Stands numbers → IsMade words first number Other numbers
+made-so words first number Stands Other numbers f m = record { replies = m.replies; last = m.last; run = m.run; stands = f m.last m.stands; sums = m.sums }
 
 -- a made script that ended was begun
 pub if-made : (words number : ℕ) {K : Type 0} (out : Output K) (Stands : State → Type 0) (numbers : Summary) (status : Status) (Q : Type 0)
-    → IsMade (supply_of words) first_state number Stands numbers → EndsMade status out (summary_text numbers)
+    → IsMade words first_state number Stands numbers → EndsMade status out (summary_text numbers)
     → IfBegun status (Made words number out Stands status) Q
 if-made words number out Stands numbers Done Q m e = (numbers, m, e)
 if-made words number out Stands numbers Usage Q m e = absurd e

@@ -1,7 +1,6 @@
 -- What the whole program promises: the store that a run leaves, and what a run was.
 use Rattle.std.specs.Prelude.{ℕ, ◌≡◌, ◌⊎◌, Option, Some, None, MatchOption}
 use Rattle.plain_machine.specs.State.{State, first_state}
-use Rattle.plain_machine.specs.May.{may_of_tight}
 use Rattle.plain_machine.specs.Image.{ImageStands}
 use Rattle.space_api.specs.Calls.{Properly}
 use Rattle.engine.specs.Acts.{StandsWith}
@@ -14,7 +13,7 @@ use Rattle.one_space.specs.Image.{image}
 use Rattle.command_line.specs.declared.options.Options.{Options}
 use Rattle.command_line.specs.declared.options.Refusal.{Refusal}
 use Rattle.command_line.specs.declared.options.Refusal.TheVariants as refusal
-use Rattle.machine_run.specs.Made.{Made, supply_of}
+use Rattle.machine_run.specs.Made.{Made}
 use Rattle.machine_run.specs.declared.serving.TheConstants.{LIMITS}
 use Rattle.machine_run.specs.declared.store.Store.{Store}
 use Rattle.machine_run.specs.declared.store.Store.TheVariants.{Vacant, One}
@@ -36,7 +35,7 @@ IfBegun TooMuch P Q = P
 
 -- What a script is served by over an arena of so many words: from the first state on, to the limits of scripts.
 abbrev pub rules_of : (words : ℕ) → Rules
-rules_of words = record { supply = supply_of words; first = first_state; limits = LIMITS }
+rules_of words = record { words = words; first = first_state; limits = LIMITS }
 
 -- A run by these options: the script that is read was served; or, where a number is asked for, nothing was read, and the
 -- script of the number was made and done.

@@ -23,8 +23,8 @@ returns-in-Stop-clause-served g c = λ first h.
     (sink_from g.K.Sink.wrote g.K.Sink.faults c.args.sink.now c.loop-status.sink) c.loop-status.reader (StandsWith (g.S.Space.stands c.loop-status.m.space) c.loop-status.m.names) in
     let ends : Rules → Type 0 = λ r. Served r (source_from (g.T.Source.left c.args.source.now) (g.T.Source.left c.take_turn.new.source))
     (sink_from g.K.Sink.wrote g.K.Sink.faults c.args.sink.now c.take_turn.new.sink) (StandsWith (g.S.Space.stands c.take_turn.new.m.space) c.take_turn.new.m.names) c.in-Stop.status in
-    same-rules ends g.S.Space.may _ _ first _ _ kept.words kept.limits
-    (c.in-Stop.ensures.turns first _ _ (same-rules past g.S.Space.may _ _ first _ _ (sym kept.words) (sym kept.limits) (kept.going first h)))
+    same-rules ends _ _ first _ _ kept.words kept.limits
+    (c.in-Stop.ensures.turns first _ _ (same-rules past _ _ first _ _ (sym kept.words) (sym kept.limits) (kept.going first h)))
 
 pub returns-in-Stop-clause-told : goal.returns-in-Stop-clause-told
 returns-in-Stop-clause-told g c = subst (λ n. TellsRead c.in-Stop.status n (g.T.Source.faults c.take_turn.new.source)) c.loop-status.invariant.read_told c.in-Stop.ensures.told
@@ -40,8 +40,8 @@ loop-status-preserved g c =
     let next : Rules → Type 0 = λ r. Going r (source_from (g.T.Source.left c.args.source.now) (g.T.Source.left c.take_turn.new.source))
     (sink_from g.K.Sink.wrote g.K.Sink.faults c.args.sink.now c.take_turn.new.sink) c.take_turn.new.reader (StandsWith (g.S.Space.stands c.take_turn.new.m.space) c.take_turn.new.m.names) in
     record {
-      going = λ first h. same-rules next g.S.Space.may _ _ first _ _ kept.words kept.limits
-          (c.in_default.ensures.turns first _ _ (same-rules past g.S.Space.may _ _ first _ _ (sym kept.words) (sym kept.limits) (kept.going first h)));
+      going = λ first h. same-rules next _ _ first _ _ kept.words kept.limits
+          (c.in_default.ensures.turns first _ _ (same-rules past _ _ first _ _ (sym kept.words) (sym kept.limits) (kept.going first h)));
       no_fault = (c.take_turn.ensures.going c.in_default.is).0;
       read_told = c.in_default.ensures.told ∙ kept.read_told;
       words = c.take_turn.ensures.words ∙ kept.words;

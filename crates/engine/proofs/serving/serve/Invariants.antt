@@ -9,7 +9,7 @@ use Rattle.engine.proofs.serving.serve.Given as goal
 abbrev pub invariant-loop-status : goal.invariant-loop-status
 invariant-loop-status g l = record {
   going : (first : State) → StandsWith (g.S.Space.stands l.initial.m.space) l.initial.m.names first
-      → Going (record { supply = record { may = g.S.Space.may; words = g.S.Space.words l.initial.m.space }; first = first; limits = limits_of l.initial.reader })
+      → Going (record { words = g.S.Space.words l.initial.m.space; first = first; limits = limits_of l.initial.reader })
       (record { before = g.T.Source.left l.initial.source; after = g.T.Source.left l.source })
       (record { wrote = g.K.Sink.wrote; faults = g.K.Sink.faults; before = l.initial.sink; after = l.sink })
       l.reader (StandsWith (g.S.Space.stands l.m.space) l.m.names);
