@@ -22,7 +22,10 @@ use Rattle.plain_machine.specs.Maps.{is_map}
 use Rattle.plain_machine.proofs.Properly.Living.{joined-end}
 use Rattle.plain_machine.proofs.ByLine.Printing.{prints-none}
 use Rattle.script_grammar.specs.ReadAs.{IsRead, SaysNoCommand, BringsTooMany}
-use Rattle.plain_machine.specs.Run.{CommandStep}
+use Rattle.plain_machine.specs.Run.{CommandStep, is_nothing}
+use Rattle.line_io.specs.Lines.{text as whole_line}
+use Rattle.engine.specs.Last.{SaysNothing}
+use Rattle.engine.proofs.Lasting.{idle-means}
 use Rattle.script_grammar.specs.ReadAs.Reading.{Means, NoSyntax, NoAtoms}
 use Rattle.space_api.specs.Calls.{said}
 use Rattle.script_parse.specs.declared.buffer.TheConstants.{MOST_ITEMS}
@@ -112,6 +115,12 @@ map-prints (Process n _) e = absurd (cc)
 map-prints (System _) e = absurd (cc)
 map-prints NoCommand e = absurd (cc)
 
+-- a line without a command prints nothing, and changes as little
+nothing-prints : (c : Command) → is_nothing c ≡ true → is_printing c ≡ true
+nothing-prints NoCommand e = refl
+nothing-prints (Process n v) e = absurd (cc)
+nothing-prints (System v) e = absurd (cc)
+
 module _ (line : List ℕ) (before : List (List ℕ)) (c : Command) (after : List (List ℕ)) (code : List Item) (w : Written) (t : Told line before c after code w) where
   -- the names before a line, and after it
   pub told-longer : length before ≤ length after
@@ -146,6 +155,11 @@ module _ (line : List ℕ) (before : List (List ℕ)) (c : Command) (after : Lis
   -- so it prints where it comes to one that does
   pub told-prints : (p : Parsed) → IsRead before line p → is_printing p.command ≡ true → is_printing c ≡ true
   told-prints p r e = ap (λ (z : Parsed). is_printing z.command) (sym (told-one p r)) ∙ e
+
+  -- and where it says no command, as nothing does
+  pub told-idle : SaysNothing before (whole_line line) → is_printing c ≡ true
+  told-idle i = nothing-prints c (idle-means before line (said c (terms_of w) after) (i.0)
+      (record { written = w; says = t.says; built = t.built; is = t.is; few = t.fits }) (i.1) (i.2))
 
   module _ (words : ℕ) (s : State) (reply : Reply) (stands : State → Type 0) (text : List (List ℕ) → Command → List ℕ) (same : before ≡ s.names)
       (a : Acts words s (said c (terms_of w) after) reply (record { stands = stands; text = text after })) where

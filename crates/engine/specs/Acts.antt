@@ -24,6 +24,10 @@ use Rattle.engine.specs.Rules.{After}
 abbrev pub StandsWith : (stands : State → Type 0) (names : List (List ℕ)) → State → Type 0
 StandsWith stands names s = stands s × (names ≡ s.names)
 
+-- What such a machine leaves: the states that it stands for, and the text of its store.
+abbrev pub leaving : (stands : State → Type 0) (text : List (List ℕ) → Command → List ℕ) (names : List (List ℕ)) → After
+leaving stands text names = record { stands = StandsWith stands names; text = text names }
+
 -- The verbs that put a new term, or a part of one, in a register.
 abbrev pub makes_term : Verb → Bool
 makes_term (Set r) = true

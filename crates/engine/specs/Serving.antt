@@ -12,7 +12,8 @@ use Rattle.plain_machine.specs.May.{may_of_tight}
 use Rattle.plain_machine.specs.State.{State, first_state}
 use Rattle.plain_machine.specs.Run.{Run, LineStep, replies_text}
 use Rattle.isolation.specs.Laws.{Isolates}
-use Rattle.engine.specs.Rules.{Rules, Input, Output}
+use Rattle.engine.specs.Last.{TellsLast}
+use Rattle.engine.specs.Rules.{After, Rules, Input, Output}
 use Rattle.engine.specs.Steps.{WritesAll}
 use Rattle.engine.specs.declared.serving.Status.{Status}
 use Rattle.engine.specs.declared.serving.Status.TheVariants.{Done, Usage, ReadFault, WriteFault, Memory, TooMuch}
@@ -88,15 +89,17 @@ EndsBy TooMuch rules left c out = WritesAll out (replies_text c.replies) × Ends
 EndsBy Usage rules left c out = ⊥
 EndsBy Memory rules left c out = ⊥
 
--- A script was served: its course, which the machine's run follows, the state that is left, and what the status says.
-pub record Served (rules : Rules) (source : Input) {K : Type 0} (out : Output K) (Stands : State → Type 0) (status : Status) : Type 0 where
+-- A script was served: its course, which the machine's run follows, what is left of the machine, and what the status says. The
+-- reply to the last command, where it is a map line, is the text of the store that is left.
+pub record Served (rules : Rules) (source : Input) {K : Type 0} (out : Output K) (after : After) (status : Status) : Type 0 where
   pub course : Course
   pub took : Gave source.before source.after course.bytes
   pub told : IsEndOf course.ended source.after
   pub front : lines course.bytes course.ended rules.limits ≡ course.given ++ course.rest
   pub run : CourseRuns rules course
   pub isolated : AreIsolated rules course
-  pub stands : Stands course.last
+  pub stands : after.stands course.last
+  pub maps : TellsLast rules.words rules.first course.given course.replies course.quits after.text
   pub ends : EndsBy status rules source.after course out
   pub later : out.faults out.before ≤ out.faults out.after
 
@@ -111,7 +114,7 @@ TellsWrite WriteFault before now = Rose before now
 TellsWrite _ before now = now ≡ before
 
 -- All lines that were read so far are done and answered, and serving goes on.
-pub record Going (rules : Rules) (source : Input) {K : Type 0} (out : Output K) (reader : LineReader) (Stands : State → Type 0) : Type 0 where
+pub record Going (rules : Rules) (source : Input) {K : Type 0} (out : Output K) (reader : LineReader) (after : After) : Type 0 where
   pub bytes : List ℕ
   pub given : List Line
   pub replies : List (List ℕ)
@@ -119,13 +122,14 @@ pub record Going (rules : Rules) (source : Input) {K : Type 0} (out : Output K) 
   pub took : Gave source.before source.after bytes
   pub has : HasRead reader source.after bytes given
   pub run : Run may_of_tight rules.words false rules.first given replies state
-  pub stands : Stands state
+  pub stands : after.stands state
+  pub maps : TellsLast rules.words rules.first given replies false after.text
   pub writes : WritesAll out (replies_text replies)
 
 -- After a turn serving goes on, or it is over.
-abbrev pub Turns : {K : Type 0} → Turn → Rules → Input → Output K → LineReader → (State → Type 0) → Type 0
-Turns On rules source out reader Stands = Going rules source out reader Stands
-Turns (Stop status) rules source out reader Stands = Served rules source out Stands status
+abbrev pub Turns : {K : Type 0} → Turn → Rules → Input → Output K → LineReader → After → Type 0
+Turns On rules source out reader after = Going rules source out reader after
+Turns (Stop status) rules source out reader after = Served rules source out after status
 
 -- What a turn tells of reading.
 abbrev pub TurnTellsRead : Turn → (before now : ℕ) → Type 0

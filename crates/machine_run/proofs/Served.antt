@@ -3,7 +3,7 @@ use Rattle.std.proofs.Common.{ℕ, ◌≡◌, ◌⊎◌, List, subst, refl, inl,
 use Rattle.plain_machine.specs.State.{State, first_state}
 use Rattle.line_io.specs.Faults.{Rose}
 use Rattle.line_io.specs.declared.sum_sink.Summary.{Summary}
-use Rattle.engine.specs.Rules.{Rules, Input, Output}
+use Rattle.engine.specs.Rules.{After, Rules, Input, Output}
 use Rattle.engine.specs.Serving.{Served, TellsRead, TellsWrite}
 use Rattle.engine.specs.declared.serving.Status.{Status}
 use Rattle.engine.specs.declared.serving.Status.TheVariants.{Done, Usage, ReadFault, WriteFault, Memory, TooMuch}
@@ -11,9 +11,9 @@ use Rattle.machine_run.specs.Contract.{IfBegun, IsComplete}
 use Rattle.machine_run.specs.Summary.{EndsMade, summary_text}
 use Rattle.machine_run.specs.Made.{IsMade, Made}
 
-module _ (rules : Rules) (source : Input) {K : Type 0} (out : Output K) (Stands : State → Type 0) where
+module _ (rules : Rules) (source : Input) {K : Type 0} (out : Output K) (left : After) where
   -- a script that was served has no status of a run that did not begin
-  pub if-served : (status : Status) (Q : Type 0) → Served rules source out Stands status → IfBegun status (Served rules source out Stands status) Q
+  pub if-served : (status : Status) (Q : Type 0) → Served rules source out left status → IfBegun status (Served rules source out left status) Q
   if-served Done Q s = s
   if-served Usage Q s = absurd s.ends
   if-served ReadFault Q s = s
@@ -22,11 +22,11 @@ module _ (rules : Rules) (source : Input) {K : Type 0} (out : Output K) (Stands 
   if-served TooMuch Q s = s
 
   -- it is not refused for its words
-  pub not-usage : (status : Status) → Served rules source out Stands status → status ≡ Usage → ⊥
-  not-usage status s e = let P : Status → Type 0 = λ k. Served rules source out Stands k in let t : Served rules source out Stands Usage = subst P e s in t.ends
+  pub not-usage : (status : Status) → Served rules source out left status → status ≡ Usage → ⊥
+  not-usage status s e = let P : Status → Type 0 = λ k. Served rules source out left k in let t : Served rules source out left Usage = subst P e s in t.ends
 
   -- a fault of writing is told
-  pub write-told : (status : Status) → Served rules source out Stands status → TellsWrite status (out.faults out.before) (out.faults out.after)
+  pub write-told : (status : Status) → Served rules source out left status → TellsWrite status (out.faults out.before) (out.faults out.after)
   write-told Done s = s.ends.0.1
   write-told Usage s = absurd s.ends
   write-told ReadFault s = s.ends.0.1
@@ -35,7 +35,8 @@ module _ (rules : Rules) (source : Input) {K : Type 0} (out : Output K) (Stands 
   write-told TooMuch s = s.ends.0.1
 
   -- what stands for the last state may be said in other words
-  pub stands-so : (Other : State → Type 0) (status : Status) → ((s : State) → Stands s → Other s) → Served rules source out Stands status → Served rules source out Other status
+  pub stands-so : (Other : State → Type 0) (status : Status) → ((s : State) → left.stands s → Other s) → Served rules source out left status
+      → Served rules source out (record { stands = Other; text = left.text }) status
   stands-so Other status f s = record {
     course = s.course;
     took = s.took;
@@ -44,6 +45,7 @@ module _ (rules : Rules) (source : Input) {K : Type 0} (out : Output K) (Stands 
     run = s.run;
     isolated = s.isolated;
     stands = f s.course.last s.stands;
+    maps = s.maps;
     ends = s.ends;
     later = s.later;
   }
