@@ -4,7 +4,6 @@ ghost use Rattle.command_line.specs.Values.{is_arena};
 ghost use Rattle.line_io.specs.Lines.{text};
 ghost use Rattle.line_io.specs.declared.reader.TheConstants.{LONGEST_LINE};
 ghost use Rattle.plain_machine.specs.State.{State, first_state};
-ghost use Rattle.plain_machine.specs.May.{may_of_tight};
 ghost use Rattle.space_api.specs.Calls.{most_calls};
 ghost use Rattle.engine.specs.Steps.{Steps};
 
@@ -47,7 +46,7 @@ impl Talk {
         requires short { length line.now ≤ LONGEST_LINE }
         requires left { 0 < lines_to_say self.old }
         ensures steps { (s : State) → StandsFor self.old s
-            → Steps (record { may = may_of_tight; words = arena_words self.old }) s (text line.now)
+            → Steps (arena_words self.old) s (text line.now)
             (record { stands = StandsFor self.new; text = ⟦<OneSpace as Space>⟧.text self.new.machine.space self.new.machine.names })
             (record { wrote = K.wrote; faults = K.faults; before = sink.old; after = sink.new }) result }
         ensures left { lines_to_say self.old ≡ lines_to_say self.new + 1 }

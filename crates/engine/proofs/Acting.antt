@@ -25,6 +25,7 @@ use Rattle.script_grammar.specs.Written.{Term, Terms}
 use Rattle.script_grammar.specs.Written.Terms.{end}
 use Rattle.script_grammar.specs.Grammar.{is_built, word_of}
 use Rattle.script_grammar.specs.Names.{Parsed, HasRegisters}
+use Rattle.plain_machine.specs.May.{may_of_tight}
 use Rattle.plain_machine.specs.declared.limits.TheConstants.{MOST_PROCESSES, MOST_PLACES, MOST_FILL, MOST_ARITY, MOST_BYTE}
 use Rattle.plain_machine.specs.State.{Process as Live, State, HasNames, process_of, is_live, register}
 use Rattle.plain_machine.specs.Made.{too_many}
@@ -39,7 +40,7 @@ use Rattle.space_api.specs.Calls.{KeepsBooks, said, Follows, Stays, Becomes, Pas
 use Rattle.engine.specs.declared.reply.Reply.{Reply}
 use Rattle.engine.specs.declared.reply.Reply.TheVariants.{Nothing as NoReply, Done, Spawned, Numbers, Counts, Told, Quit, Refused}
 use Rattle.engine.specs.Replies.{CanReply, CanTell, reply_lines, reply_of, ends_script, outcome_text}
-use Rattle.engine.specs.Rules.{Supply, After}
+use Rattle.engine.specs.Rules.{After}
 use Rattle.engine.specs.Acts.{Acts, Fits, OnRefused, TermsFit, makes_term, names_left, shown}
 
 -- A reply fits to an outcome: an accepted one's text, names and end are the reply's.
@@ -65,38 +66,38 @@ module _ (s : State) (p : Parsed) (after : After) {A : Type 0} (say : A → Repl
   gave Mapped r fit f = absurd f
 
 -- a command that is one steps as it gives, or finds no space
-steps-as : (supply : Supply) (s : State) (p : Parsed) (quits : Bool) (replies : List (List ℕ)) (new : State) → is_nothing p.command ≡ false
-    → Gives (step s p) s p.command quits replies new ⊎ LacksSpace supply.may supply.words s p quits replies new → CommandStep supply.may supply.words s p quits replies new
-steps-as supply s p quits replies new some k = at (is_nothing p.command) some
+steps-as : (words : ℕ) (s : State) (p : Parsed) (quits : Bool) (replies : List (List ℕ)) (new : State) → is_nothing p.command ≡ false
+    → Gives (step s p) s p.command quits replies new ⊎ LacksSpace may_of_tight words s p quits replies new → CommandStep may_of_tight words s p quits replies new
+steps-as words s p quits replies new some k = at (is_nothing p.command) some
   where
-    at : (b : Bool) → b ≡ false → MatchBool b (Skips s quits replies new) (Gives (step s p) s p.command quits replies new ⊎ LacksSpace supply.may supply.words s p quits replies new)
+    at : (b : Bool) → b ≡ false → MatchBool b (Skips s quits replies new) (Gives (step s p) s p.command quits replies new ⊎ LacksSpace may_of_tight words s p quits replies new)
     at true e = absurd (cc)
     at false e = k
 
-module _ (supply : Supply) (s : State) (p : Parsed) (after : After) (some : is_nothing p.command ≡ false) (no_map : is_map p.command ≡ false) where
-  pub acts-gave : (reply : Reply) → Gave s p (step s p) reply after → Acts supply s p reply after
+module _ (words : ℕ) (s : State) (p : Parsed) (after : After) (some : is_nothing p.command ≡ false) (no_map : is_map p.command ≡ false) where
+  pub acts-gave : (reply : Reply) → Gave s p (step s p) reply after → Acts words s p reply after
   acts-gave reply k = record {
     new = k.new;
     stands = k.stands;
     names = k.kept;
-    steps = λ m. steps-as supply s p (ends_script reply) (reply_lines reply (shown after k.new p.names)) k.new some (inl k.gives);
+    steps = λ m. steps-as words s p (ends_script reply) (reply_lines reply (shown after k.new p.names)) k.new some (inl k.gives);
     maps = λ e m. absurd (cc);
   }
 
-  pub acts-lacks : {A : Type 0} (say : A → Reply) (r : Result A Refusal) → Stays supply.may supply.words s p r after.stands → Acts supply s p (reply_of say r) after
+  pub acts-lacks : {A : Type 0} (say : A → Reply) (r : Result A Refusal) → Stays words s p r after.stands → Acts words s p (reply_of say r) after
   acts-lacks say (Ok a) st = absurd st
   acts-lacks say (Err e) st = record {
     new = s;
     stands = st.2;
     names = refl;
-    steps = λ m. steps-as supply s p false (refusal_text e ∷ []) s some
+    steps = λ m. steps-as words s p false (refusal_text e ∷ []) s some
         (inr (record { allowed = st.0; no_map = no_map; refuses = record { goes_on = refl; said = ap (λ y. refusal_text y ∷ []) st.1; same = refl } }));
     maps = λ e m. absurd (cc);
   }
 
   -- a call that may find no space
   pub acts-becomes : {A : Type 0} (say : A → Reply) (r : Result A Refusal) → ((a : A) → r ≡ Ok a → Fitting after s p (say a) (step s p))
-      → Becomes supply.may supply.words s p r after.stands → Acts supply s p (reply_of say r) after
+      → Becomes words s p r after.stands → Acts words s p (reply_of say r) after
   acts-becomes say r fit (inl f) = acts-gave (reply_of say r) (gave s p after say (step s p) r fit f)
   acts-becomes say r fit (inr st) = acts-lacks say r st
 
@@ -182,10 +183,10 @@ fits-in : (after : After) (s : State) (p : Parsed) (x : Reply) (verb : Verb) (o 
 fits-in after s p x verb None h = tt
 fits-in after s p x verb (Some q) h = h q
 
-module _ (supply : Supply) (number : ℕ) (names : List (List ℕ)) (code : List Item) (reply : Reply) (Old : State → Type 0) (after : After) where
+module _ (words : ℕ) (number : ℕ) (names : List (List ℕ)) (code : List Item) (reply : Reply) (Old : State → Type 0) (after : After) where
   -- what is promised of a verb
   abbrev pub DoesVerb : Verb → Type 0
-  DoesVerb verb = (s : State) (terms : Terms) → Old s → Fits (Process number verb) names code terms s → Acts supply s (said (Process number verb) terms names) reply after
+  DoesVerb verb = (s : State) (terms : Terms) → Old s → Fits (Process number verb) names code terms s → Acts words s (said (Process number verb) terms names) reply after
 
   pub does-same : (v w : Verb) → v ≡ w → DoesVerb w → DoesVerb v
   does-same v w e d = subst DoesVerb (sym e) d
@@ -194,32 +195,32 @@ module _ (supply : Supply) (number : ℕ) (names : List (List ℕ)) (code : List
   pub fitting-does : {A : Type 0} (say : A → Reply) (verb : Verb) (r : Result A Refusal) → reply ≡ reply_of say r → is_map (Process number verb) ≡ false
       → ((s : State) (terms : Terms) (q : Live) (a : A) → Fitting after s (said (Process number verb) terms names) (say a) (by_verb s (said (Process number verb) terms names) q verb))
       → ((s : State) (terms : Terms) → Old s → HasNames s names → TermsFit (Process number verb) names code terms
-      → Becomes supply.may supply.words s (said (Process number verb) terms names) r after.stands)
+      → Becomes words s (said (Process number verb) terms names) r after.stands)
       → DoesVerb verb
   fitting-does say verb r e no_map fit b = λ s terms h f.
       let p : Parsed = said (Process number verb) terms names in
-      let P : Reply → Type 0 = λ x. Acts supply s p x after in
-      subst P (sym e) (acts-becomes supply s p after refl no_map say r (λ a k. fits-in after s p (say a) verb (process_of number s) (λ q. fit s terms q a)) (b s terms h f.longer f.term))
+      let P : Reply → Type 0 = λ x. Acts words s p x after in
+      subst P (sym e) (acts-becomes words s p after refl no_map say r (λ a k. fits-in after s p (say a) verb (process_of number s) (λ q. fit s terms q a)) (b s terms h f.longer f.term))
 
   -- the same, whatever its terms are
   pub becomes-does : {A : Type 0} (say : A → Reply) (verb : Verb) (r : Result A Refusal) → reply ≡ reply_of say r → is_map (Process number verb) ≡ false
       → ((s : State) (terms : Terms) (q : Live) (a : A) → Fitting after s (said (Process number verb) terms names) (say a) (by_verb s (said (Process number verb) terms names) q verb))
-      → ((s : State) (terms : Terms) → Old s → HasNames s names → Becomes supply.may supply.words s (said (Process number verb) terms names) r after.stands)
+      → ((s : State) (terms : Terms) → Old s → HasNames s names → Becomes words s (said (Process number verb) terms names) r after.stands)
       → DoesVerb verb
   becomes-does say verb r e no_map fit b = fitting-does say verb r e no_map fit (λ s terms h m t. b s terms h m)
 
   -- `set`, whose terms are those of the code
   pub set-does : {A : Type 0} (x : Reg) (r : Result A Refusal) → reply ≡ reply_of (λ (a : A). Done) r
-      → ((s : State) (t : Term) → Old s → HasNames s names → IsWrittenTerm names code t → Becomes supply.may supply.words s (said (Process number (Set x)) (one_term t) names) r after.stands)
+      → ((s : State) (t : Term) → Old s → HasNames s names → IsWrittenTerm names code t → Becomes words s (said (Process number (Set x)) (one_term t) names) r after.stands)
       → DoesVerb (Set x)
   set-does {A} x r e b = λ s terms h f.
       let t : Term = f.term.0 in
       let p : Parsed = said (Process number (Set x)) (one_term t) names in
-      let P : Terms → Type 0 = λ z. Acts supply s (said (Process number (Set x)) z names) reply after in
-      let Q : Reply → Type 0 = λ y. Acts supply s p y after in
+      let P : Terms → Type 0 = λ z. Acts words s (said (Process number (Set x)) z names) reply after in
+      let Q : Reply → Type 0 = λ y. Acts words s p y after in
       let fit = λ (q : Live). set-fits after s p (settled p (with_made s q x.0 (written_tree s p q p.terms))) (written_flaw s p q p.terms) refl refl in
       subst P (sym (f.term.1))
-      (subst Q (sym e) (acts-becomes supply s p after refl refl (λ (a : A). Done) r (λ a k. fits-in after s p Done (Set x) (process_of number s) fit) (b s t h f.longer (f.term.2))))
+      (subst Q (sym e) (acts-becomes words s p after refl refl (λ (a : A). Done) r (λ a k. fits-in after s p Done (Set x) (process_of number s) fit) (b s t h f.longer (f.term.2))))
 
   -- the call of a verb that is never refused
   pub passes-does : (verb : Verb) → reply ≡ Done → is_map (Process number verb) ≡ false
@@ -247,40 +248,40 @@ module _ (supply : Supply) (number : ℕ) (names : List (List ℕ)) (code : List
 
   -- `send`
   pub send-does : {A : Type 0} (x : Reg) (to : To) (r : Result A Refusal) → reply ≡ reply_of (λ (a : A). Done) r
-      → ((s : State) (terms : Terms) → Old s → HasNames s names → Becomes supply.may supply.words s (said (Process number (Send x to)) terms names) r after.stands)
+      → ((s : State) (terms : Terms) → Old s → HasNames s names → Becomes words s (said (Process number (Send x to)) terms names) r after.stands)
       → DoesVerb (Send x to)
   send-does {A} x to r e b = becomes-does (λ (a : A). Done) (Send x to) r e refl
       (λ s terms q a. send-fits after s (said (Process number (Send x to)) terms names) (receiver to q) (register x.0 q) refl refl) b
 
   -- the verbs that put a tree in a register
   pub pick-does : {A : Type 0} (x m : Reg) (how : Pick) (r : Result A Refusal) → reply ≡ reply_of (λ (a : A). Done) r
-      → ((s : State) (terms : Terms) → Old s → HasNames s names → Becomes supply.may supply.words s (said (Process number (Choose x m how)) terms names) r after.stands)
+      → ((s : State) (terms : Terms) → Old s → HasNames s names → Becomes words s (said (Process number (Choose x m how)) terms names) r after.stands)
       → DoesVerb (Choose x m how)
   pick-does {A} x m how r e b = becomes-does (λ (a : A). Done) (Choose x m how) r e refl
       (λ s terms q a. choose-fits after s (said (Process number (Choose x m how)) terms names) q x.0 (picked names s.shared q how (register m.0 q)) refl refl) b
 
   pub fill-does : {A : Type 0} (x : Reg) (len byte : ℕ) (r : Result A Refusal) → reply ≡ reply_of (λ (a : A). Done) r
-      → ((s : State) (terms : Terms) → Old s → HasNames s names → Becomes supply.may supply.words s (said (Process number (Fill x len byte)) terms names) r after.stands)
+      → ((s : State) (terms : Terms) → Old s → HasNames s names → Becomes words s (said (Process number (Fill x len byte)) terms names) r after.stands)
       → DoesVerb (Fill x len byte)
   fill-does {A} x len byte r e b = becomes-does (λ (a : A). Done) (Fill x len byte) r e refl
       (λ s terms q a. fill-fits after s (said (Process number (Fill x len byte)) terms names) q x.0 (nat_lt MOST_FILL len || nat_lt MOST_BYTE byte) (replicate len byte) refl refl) b
 
   pub fun-does : {A : Type 0} (x : Reg) (name arity : ℕ) (r : Result A Refusal) → reply ≡ reply_of (λ (a : A). Done) r
       → ((s : State) (terms : Terms) → Old s → HasNames s names → HasEnv names name code terms
-      → Becomes supply.may supply.words s (said (Process number (MakeFun x name arity)) terms names) r after.stands)
+      → Becomes words s (said (Process number (MakeFun x name arity)) terms names) r after.stands)
       → DoesVerb (MakeFun x name arity)
   fun-does {A} x name arity r e b = fitting-does (λ (a : A). Done) (MakeFun x name arity) r e refl
       (λ s terms q a. let p : Parsed = said (Process number (MakeFun x name arity)) terms names in
       fun-fits after s p q x.0 (nat_lt MOST_ARITY arity) (tree.Fun name arity q.number (env_of s p q)) refl refl) b
 
   pub put-does : {A : Type 0} (x m k v : Reg) (r : Result A Refusal) → reply ≡ reply_of (λ (a : A). Done) r
-      → ((s : State) (terms : Terms) → Old s → HasNames s names → Becomes supply.may supply.words s (said (Process number (MapPut x m k v)) terms names) r after.stands)
+      → ((s : State) (terms : Terms) → Old s → HasNames s names → Becomes words s (said (Process number (MapPut x m k v)) terms names) r after.stands)
       → DoesVerb (MapPut x m k v)
   put-does {A} x m k v r e b = becomes-does (λ (a : A). Done) (MapPut x m k v) r e refl
       (λ s terms q a. put-fits after s (said (Process number (MapPut x m k v)) terms names) q x.0 (pairs_in (register m.0 q)) (register k.0 q) (register v.0 q) refl refl) b
 
   pub repeat-does : {A : Type 0} (x m : Reg) (shape : Shape) (n : ℕ) (r : Result A Refusal) → reply ≡ reply_of (λ (a : A). Done) r
-      → ((s : State) (terms : Terms) → Old s → HasNames s names → Becomes supply.may supply.words s (said (Process number (Repeat x shape n m)) terms names) r after.stands)
+      → ((s : State) (terms : Terms) → Old s → HasNames s names → Becomes words s (said (Process number (Repeat x shape n m)) terms names) r after.stands)
       → DoesVerb (Repeat x shape n m)
   repeat-does {A} x m shape n r e b = becomes-does (λ (a : A). Done) (Repeat x shape n m) r e refl
       (λ s terms q a. repeat-fits after s (said (Process number (Repeat x shape n m)) terms names) q x.0 (nat_lt MOST_PLACES n) (repeated shape n (register m.0 q)) refl refl) b
@@ -290,7 +291,7 @@ module _ (supply : Supply) (number : ℕ) (names : List (List ℕ)) (code : List
   noproc-does verb e same dead = λ s terms h f.
       let p : Parsed = said (Process number verb) terms names in
       let none : step s p ≡ IsRefused NoProc = ap (λ o. in_process o s p verb) (not-found _ s.processes (dead s h)) in
-      let P : Reply → Type 0 = λ x. Acts supply s p x after in
+      let P : Reply → Type 0 = λ x. Acts words s p x after in
       let Q : Outcome → Type 0 = λ o. Gives o s (Process number verb) false (refusal_text NoProc ∷ []) s in
       subst P (sym e) (record {
         new = s;
@@ -301,10 +302,10 @@ module _ (supply : Supply) (number : ℕ) (names : List (List ℕ)) (code : List
       })
 
 -- the reply to what a verb's call answered
-pub done-acts : {A : Type 0} (supply : Supply) (number : ℕ) (names : List (List ℕ)) (code : List Item) (Old : State → Type 0) (after : After) (verb : Verb) (reply : Reply)
-    (r : Result A Refusal) → reply ≡ reply_of (λ (a : A). Done) r → DoesVerb supply number names code (reply_of (λ (a : A). Done) r) Old after verb
-    → DoesVerb supply number names code reply Old after verb
-done-acts supply number names code Old after verb reply r e d = subst (λ x. DoesVerb supply number names code x Old after verb) (sym e) d
+pub done-acts : {A : Type 0} (words : ℕ) (number : ℕ) (names : List (List ℕ)) (code : List Item) (Old : State → Type 0) (after : After) (verb : Verb) (reply : Reply)
+    (r : Result A Refusal) → reply ≡ reply_of (λ (a : A). Done) r → DoesVerb words number names code (reply_of (λ (a : A). Done) r) Old after verb
+    → DoesVerb words number names code reply Old after verb
+done-acts words number names code Old after verb reply r e d = subst (λ x. DoesVerb words number names code x Old after verb) (sym e) d
 
 -- a verb that prints tells, and what it tells does not depend on the line's terms
 verb-tells : (s : State) (p : Parsed) (q : Live) (v : Verb) → is_printing_verb v ≡ true → is_map (Process 0 v) ≡ false → by_verb s p q v ≡ tells s (told_of s p q v)
@@ -337,9 +338,9 @@ told-gives s c (Ok t) e = record { ends = sym e; said = refl; is = refl }
 told-gives s c (Err x) e = record { goes_on = refl; said = refl; same = refl }
 
 -- a verb that prints, which leaves the space
-pub told-does : (supply : Supply) (seat : Seat) (names : List (List ℕ)) (code : List Item) (after : After) (v : Verb) → CanTell v
-    → DoesVerb supply seat.pid names code (Told seat v) after.stands after v
-told-does supply seat names code after v can = λ s terms h f. record {
+pub told-does : (words : ℕ) (seat : Seat) (names : List (List ℕ)) (code : List Item) (after : After) (v : Verb) → CanTell v
+    → DoesVerb words seat.pid names code (Told seat v) after.stands after v
+told-does words seat names code after v can = λ s terms h f. record {
   new = s;
   stands = h;
   names = ap (λ b. cond b s.names names) (sym can.prints);
@@ -427,10 +428,10 @@ said-can {A} say sits named space names reply r e ok = subst (CanReply sits name
     at (Ok a) = ok a
     at (Err x) = tt
 
-module _ (supply : Supply) (names : List (List ℕ)) (code : List Item) (reply : Reply) (Old : State → Type 0) (after : After) where
+module _ (words : ℕ) (names : List (List ℕ)) (code : List Item) (reply : Reply) (Old : State → Type 0) (after : After) where
   -- what is promised of a command
   abbrev pub DoesCommand : Command → Type 0
-  DoesCommand c = (s : State) (terms : Terms) → Old s → Fits c names code terms s → Acts supply s (said c terms names) reply after
+  DoesCommand c = (s : State) (terms : Terms) → Old s → Fits c names code terms s → Acts words s (said c terms names) reply after
 
   pub command-same : (c d : Command) → c ≡ d → DoesCommand d → DoesCommand c
   command-same c d e h = subst DoesCommand (sym e) h
@@ -441,33 +442,33 @@ spawned-fits : (after : After) (s : State) (terms : Terms) (names : List (List �
 spawned-fits after s terms names true n e = tt
 spawned-fits after s terms names false n e = (ap (λ y. (codes "ok " ++ decimal y) ∷ []) e, refl, refl)
 
-pub spawn-does : (supply : Supply) (names : List (List ℕ)) (code : List Item) (reply : Reply) (Old : State → Type 0) (after : After) (r : Result ℕ Refusal)
+pub spawn-does : (words : ℕ) (names : List (List ℕ)) (code : List Item) (reply : Reply) (Old : State → Type 0) (after : After) (r : Result ℕ Refusal)
     → reply ≡ reply_of Spawned r → ((s : State) → Old s → IfOk r (λ n. n ≡ s.next))
-    → ((s : State) (terms : Terms) → Old s → HasNames s names → Becomes supply.may supply.words s (said (System Spawn) terms names) r after.stands)
-    → DoesCommand supply names code reply Old after (System Spawn)
-spawn-does supply names code reply Old after r e next b = λ s terms h f.
+    → ((s : State) (terms : Terms) → Old s → HasNames s names → Becomes words s (said (System Spawn) terms names) r after.stands)
+    → DoesCommand words names code reply Old after (System Spawn)
+spawn-does words names code reply Old after r e next b = λ s terms h f.
     let p : Parsed = said (System Spawn) terms names in
-    let P : Reply → Type 0 = λ x. Acts supply s p x after in
-    subst P (sym e) (acts-becomes supply s p after refl refl Spawned r
+    let P : Reply → Type 0 = λ x. Acts words s p x after in
+    subst P (sym e) (acts-becomes words s p after refl refl Spawned r
     (λ n k. spawned-fits after s terms names (nat_le MOST_PROCESSES (length s.processes)) n (number s n k (next s h))) (b s terms h f.longer))
   where
     number : (s : State) (n : ℕ) → r ≡ Ok n → IfOk r (λ n. n ≡ s.next) → n ≡ s.next
     number s n k h = let P : Result ℕ Refusal → Type 0 = λ z. IfOk z (λ n. n ≡ s.next) in subst P k h
 
 -- `sys sweep`
-pub sweep-does : (supply : Supply) (names : List (List ℕ)) (code : List Item) (Old : State → Type 0) (after : After)
+pub sweep-does : (words : ℕ) (names : List (List ℕ)) (code : List Item) (Old : State → Type 0) (after : After)
     → ((s : State) (terms : Terms) → Old s → HasNames s names → Passes (step s (said (System Sweep) terms names)) after.stands)
-    → DoesCommand supply names code Done Old after (System Sweep)
-sweep-does supply names code Old after b = λ s terms h f.
+    → DoesCommand words names code Done Old after (System Sweep)
+sweep-does words names code Old after b = λ s terms h f.
     let p : Parsed = said (System Sweep) terms names in
     let u : Unit {0} = tt in
-    acts-gave supply s p after refl refl Done
+    acts-gave words s p after refl refl Done
     (gave s p after (λ (a : Unit {0}). Done) (step s p) (Ok u) (λ a k. (refl, refl, refl)) (passes-follows (step s p) s u after.stands (b s terms h f.longer)))
 
 -- `sys counts`, whose reply is the text of the store
-pub counts-does : (supply : Supply) (names : List (List ℕ)) (code : List Item) (Old : State → Type 0) (after : After) → ((s : State) → Old s → after.stands s)
-    → DoesCommand supply names code Counts Old after (System CountsVerb)
-counts-does supply names code Old after same = λ s terms h f. record {
+pub counts-does : (words : ℕ) (names : List (List ℕ)) (code : List Item) (Old : State → Type 0) (after : After) → ((s : State) → Old s → after.stands s)
+    → DoesCommand words names code Counts Old after (System CountsVerb)
+counts-does words names code Old after same = λ s terms h f. record {
   new = s;
   stands = same s h;
   names = refl;
@@ -476,9 +477,9 @@ counts-does supply names code Old after same = λ s terms h f. record {
 }
 
 -- what prints and is no map of the store
-pub procs-does : (supply : Supply) (names : List (List ℕ)) (code : List Item) (Old : State → Type 0) (after : After) → ((s : State) → Old s → after.stands s)
-    → DoesCommand supply names code Numbers Old after (System Procs)
-procs-does supply names code Old after same = λ s terms h f. record {
+pub procs-does : (words : ℕ) (names : List (List ℕ)) (code : List Item) (Old : State → Type 0) (after : After) → ((s : State) → Old s → after.stands s)
+    → DoesCommand words names code Numbers Old after (System Procs)
+procs-does words names code Old after same = λ s terms h f. record {
   new = s;
   stands = same s h;
   names = refl;
@@ -486,9 +487,9 @@ procs-does supply names code Old after same = λ s terms h f. record {
   maps = λ e o. absurd (cc);
 }
 
-pub quit-does : (supply : Supply) (names : List (List ℕ)) (code : List Item) (Old : State → Type 0) (after : After) → ((s : State) → Old s → after.stands s)
-    → DoesCommand supply names code Quit Old after (System QuitVerb)
-quit-does supply names code Old after same = λ s terms h f. record {
+pub quit-does : (words : ℕ) (names : List (List ℕ)) (code : List Item) (Old : State → Type 0) (after : After) → ((s : State) → Old s → after.stands s)
+    → DoesCommand words names code Quit Old after (System QuitVerb)
+quit-does words names code Old after same = λ s terms h f. record {
   new = s;
   stands = same s h;
   names = refl;
@@ -497,9 +498,9 @@ quit-does supply names code Old after same = λ s terms h f. record {
 }
 
 -- a line without a command
-pub nothing-does : (supply : Supply) (names : List (List ℕ)) (code : List Item) (Old : State → Type 0) (after : After) → ((s : State) → Old s → after.stands s)
-    → DoesCommand supply names code NoReply Old after NoCommand
-nothing-does supply names code Old after same = λ s terms h f. record {
+pub nothing-does : (words : ℕ) (names : List (List ℕ)) (code : List Item) (Old : State → Type 0) (after : After) → ((s : State) → Old s → after.stands s)
+    → DoesCommand words names code NoReply Old after NoCommand
+nothing-does words names code Old after same = λ s terms h f. record {
   new = s;
   stands = same s h;
   names = refl;
@@ -508,6 +509,6 @@ nothing-does supply names code Old after same = λ s terms h f. record {
 }
 
 -- a verb of the process that was found
-pub found-does : (supply : Supply) (m n : ℕ) (names : List (List ℕ)) (code : List Item) (reply : Reply) (Old : State → Type 0) (after : After) (verb : Verb)
-    → m ≡ n → DoesVerb supply m names code reply Old after verb → DoesVerb supply n names code reply Old after verb
-found-does supply m n names code reply Old after verb e d = subst (λ k. DoesVerb supply k names code reply Old after verb) e d
+pub found-does : (words : ℕ) (m n : ℕ) (names : List (List ℕ)) (code : List Item) (reply : Reply) (Old : State → Type 0) (after : After) (verb : Verb)
+    → m ≡ n → DoesVerb words m names code reply Old after verb → DoesVerb words n names code reply Old after verb
+found-does words m n names code reply Old after verb e d = subst (λ k. DoesVerb words k names code reply Old after verb) e d

@@ -4,4 +4,5 @@ pub mod Replies
 pub mod Acting
 pub mod Naming
 pub mod Taking
+pub mod Lasting
 pub mod Turns

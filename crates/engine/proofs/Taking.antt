@@ -15,13 +15,17 @@ use Rattle.script_grammar.specs.declared.word.Word.TheVariants as word
 use Rattle.script_grammar.specs.Written.Written.{Nothing, OfProcess, OfSystem}
 use Rattle.script_grammar.specs.Grammar.{Says, IsAllowed, IsBuilt}
 use Rattle.script_grammar.specs.Names.{Parsed, parsed_of, names_after, command_of, terms_of, all_atoms, all_items, items_of, atoms_of, held_terms, with_names}
+use Rattle.plain_machine.specs.May.{may_of_tight}
 use Rattle.plain_machine.specs.State.{State}
 use Rattle.plain_machine.specs.Step.{is_printing}
 use Rattle.plain_machine.specs.Maps.{is_map}
 use Rattle.plain_machine.proofs.Properly.Living.{joined-end}
 use Rattle.plain_machine.proofs.ByLine.Printing.{prints-none}
 use Rattle.script_grammar.specs.ReadAs.{IsRead, SaysNoCommand, BringsTooMany}
-use Rattle.plain_machine.specs.Run.{CommandStep}
+use Rattle.plain_machine.specs.Run.{CommandStep, is_nothing}
+use Rattle.line_io.specs.Lines.{text as whole_line}
+use Rattle.engine.specs.Last.{SaysNothing}
+use Rattle.engine.proofs.Lasting.{idle-means}
 use Rattle.script_grammar.specs.ReadAs.Reading.{Means, NoSyntax, NoAtoms}
 use Rattle.space_api.specs.Calls.{said}
 use Rattle.script_parse.specs.declared.buffer.TheConstants.{MOST_ITEMS}
@@ -30,7 +34,7 @@ use Rattle.script_parse.proofs.OfLines.OneLine.{one_line}
 use Rattle.engine.specs.declared.reply.Reply.{Reply}
 use Rattle.engine.specs.declared.reply.Reply.TheVariants.{Refused}
 use Rattle.engine.specs.Replies.{AllowsMap, Shown, reply_lines, ends_script}
-use Rattle.engine.specs.Rules.{Supply, After}
+use Rattle.engine.specs.Rules.{After}
 use Rattle.engine.specs.Acts.{Acts, Fits, HasCode, TermsFit, Takes, TellsMap, StandsWith, names_left}
 use Rattle.script_grammar.proofs.Naming.{ArePlaced, with-names-placed, with-names-more, names-back, names-longer, placed-front, number-below}
 use Rattle.engine.proofs.Naming.{items-below, below-all}
@@ -111,6 +115,12 @@ map-prints (Process n _) e = absurd (cc)
 map-prints (System _) e = absurd (cc)
 map-prints NoCommand e = absurd (cc)
 
+-- a line without a command prints nothing, and changes as little
+nothing-prints : (c : Command) → is_nothing c ≡ true → is_printing c ≡ true
+nothing-prints NoCommand e = refl
+nothing-prints (Process n v) e = absurd (cc)
+nothing-prints (System v) e = absurd (cc)
+
 module _ (line : List ℕ) (before : List (List ℕ)) (c : Command) (after : List (List ℕ)) (code : List Item) (w : Written) (t : Told line before c after code w) where
   -- the names before a line, and after it
   pub told-longer : length before ≤ length after
@@ -146,8 +156,13 @@ module _ (line : List ℕ) (before : List (List ℕ)) (c : Command) (after : Lis
   pub told-prints : (p : Parsed) → IsRead before line p → is_printing p.command ≡ true → is_printing c ≡ true
   told-prints p r e = ap (λ (z : Parsed). is_printing z.command) (sym (told-one p r)) ∙ e
 
-  module _ (supply : Supply) (s : State) (reply : Reply) (stands : State → Type 0) (text : List (List ℕ) → Command → List ℕ) (same : before ≡ s.names)
-      (a : Acts supply s (said c (terms_of w) after) reply (record { stands = stands; text = text after })) where
+  -- and where it says no command, as nothing does
+  pub told-idle : SaysNothing before (whole_line line) → is_printing c ≡ true
+  told-idle i = nothing-prints c (idle-means before line (said c (terms_of w) after) (i.0)
+      (record { written = w; says = t.says; built = t.built; is = t.is; few = t.fits }) (i.1) (i.2))
+
+  module _ (words : ℕ) (s : State) (reply : Reply) (stands : State → Type 0) (text : List (List ℕ) → Command → List ℕ) (same : before ≡ s.names)
+      (a : Acts words s (said c (terms_of w) after) reply (record { stands = stands; text = text after })) where
     -- what the reply is read from, where these are the names
     abbrev seen : (names : List (List ℕ)) → Shown
     seen names = record { state = a.new; names = names; text = text names }
@@ -169,7 +184,7 @@ module _ (line : List ℕ) (before : List (List ℕ)) (c : Command) (after : Lis
         at false k = refl
 
     -- the line was done
-    pub takes-done : ((e : Refusal) → reply ≡ Refused e → ⊥) → Takes supply s line reply (record { stands = stands; text = text after }) after
+    pub takes-done : ((e : Refusal) → reply ≡ Refused e → ⊥) → Takes words s line reply (record { stands = stands; text = text after }) after
     takes-done h = record {
       new = a.new;
       stands = (a.stands, left-all reply h ∙ sym a.names);
@@ -178,14 +193,14 @@ module _ (line : List ℕ) (before : List (List ℕ)) (c : Command) (after : Lis
     }
 
     -- the line was refused, and its names were given back
-    pub takes-refused : (e : Refusal) (names : List (List ℕ)) → reply ≡ Refused e → names ≡ before → Takes supply s line reply (record { stands = stands; text = text names }) names
+    pub takes-refused : (e : Refusal) (names : List (List ℕ)) → reply ≡ Refused e → names ≡ before → Takes words s line reply (record { stands = stands; text = text names }) names
     takes-refused e names k back = record {
       new = a.new;
       stands = (a.stands, back ∙ same ∙ sym (a.names ∙ ap (λ x. names_left x s (said c (terms_of w) after)) k));
       steps = λ m. record {
         reading = Means (said c (terms_of w) after);
         reads = reads;
-        follows = subst (λ z. CommandStep supply.may supply.words s (said c (terms_of w) after) (ends_script reply) z a.new) (lines names) (a.steps (no-map));
+        follows = subst (λ z. CommandStep may_of_tight words s (said c (terms_of w) after) (ends_script reply) z a.new) (lines names) (a.steps (no-map));
       };
       maps = λ p r. let P : Parsed → Type 0 = λ z. TellsMap s z (text names) (reply_lines reply (seen names)) in
           subst P (read-one p r) (λ m o. sym (lines names) ∙ a.maps m o ∙ ap (λ z. text z c ∷ []) (told-same (map-prints c m) ∙ sym back));
@@ -199,19 +214,19 @@ module _ (line : List ℕ) (before : List (List ℕ)) (c : Command) (after : Lis
             ∙ sym (ap (λ x. reply_lines x (seen names)) k)
 
 -- the line is refused before it comes to a command
-pub takes-nothing : (supply : Supply) (s : State) (line : List ℕ) (e : Refusal) (before names : List (List ℕ)) (after : After)
+pub takes-nothing : (words : ℕ) (s : State) (line : List ℕ) (e : Refusal) (before names : List (List ℕ)) (after : After)
     → StandsWith after.stands before s → names ≡ before → (e ≡ Syntax) ⊎ (e ≡ Atoms)
-    → (e ≡ Syntax → SaysNoCommand line) → (e ≡ Atoms → BringsTooMany before line) → Takes supply s line (Refused e) after names
-takes-nothing supply s line e before names after st same (inl h) out over =
-    let P : Refusal → Type 0 = λ z. Takes supply s line (Refused z) after names in
+    → (e ≡ Syntax → SaysNoCommand line) → (e ≡ Atoms → BringsTooMany before line) → Takes words s line (Refused e) after names
+takes-nothing words s line e before names after st same (inl h) out over =
+    let P : Refusal → Type 0 = λ z. Takes words s line (Refused z) after names in
     subst P (sym h) (record {
       new = s;
       stands = (st.0, same ∙ st.1);
       steps = λ m. record { reading = NoSyntax; reads = out h; follows = record { goes_on = refl; said = refl; same = refl } };
       maps = λ p r. absurd (out h r.written r.says r.built);
     })
-takes-nothing supply s line e before names after st same (inr h) out over =
-    let P : Refusal → Type 0 = λ z. Takes supply s line (Refused z) after names in
+takes-nothing words s line e before names after st same (inr h) out over =
+    let P : Refusal → Type 0 = λ z. Takes words s line (Refused z) after names in
     let many : BringsTooMany s.names line = subst (λ z. BringsTooMany z line) st.1 (over h) in
     subst P (sym h) (record {
       new = s;

@@ -13,13 +13,16 @@ use Rattle.line_io.specs.declared.reader.LineGot.TheVariants.{End, Fault, TooMuc
 use Rattle.line_io.proofs.Growth.{Grew-nil, Grew-append}
 use Rattle.line_io.proofs.Loop.{Gave-append}
 use Rattle.line_io.proofs.Ranges.{Gave-nil}
-use Rattle.script_grammar.specs.Names.{Parsed}
+use Rattle.script_grammar.specs.declared.command.Command.{Command}
+use Rattle.plain_machine.specs.May.{may_of_tight}
 use Rattle.plain_machine.specs.State.{State}
 use Rattle.plain_machine.specs.Run.{Run, LineStep, replies_text}
 use Rattle.plain_machine.proofs.ByLine.Runs.{run-append, run-one, run-none, text-append}
 use Rattle.isolation.proofs.Alone.{isolates}
 use Rattle.engine.specs.Rules.{After, Rules, Input, Output}
 use Rattle.engine.specs.Steps.{Steps, StepWrites, TellsQuit, WritesAll}
+use Rattle.engine.specs.Last.{SaysNothing, TellsLast}
+use Rattle.engine.proofs.Lasting.{tells-more, tells-none}
 use Rattle.engine.specs.Serving.{AreIsolated, Course, EndsBy, Going, CourseRuns, Served, TurnTellsRead, Turns, turn_of}
 use Rattle.engine.specs.declared.serving.Status.{Status}
 use Rattle.engine.specs.declared.serving.Status.TheVariants.{Done, ReadFault, TooMuch}
@@ -33,8 +36,8 @@ source_from before after = record { before = before; after = after }
 
 -- each process of a run from the first state was alone
 are-isolated : (rules : Rules) (c : Course) → CourseRuns rules c → AreIsolated rules c
-are-isolated rules c run first = isolates rules.supply.may rules.supply.words c.quits c.given c.replies c.last
-    (subst (λ (z : State). Run rules.supply.may rules.supply.words c.quits z c.given c.replies c.last) first run)
+are-isolated rules c run first = isolates may_of_tight rules.words c.quits c.given c.replies c.last
+    (subst (λ (z : State). Run may_of_tight rules.words c.quits z c.given c.replies c.last) first run)
 
 module _ {K : Type 0} (wrote : K → List ℕ → Type 0) (faults : K → ℕ) where
   -- a sink before and after
@@ -50,21 +53,22 @@ module _ {K : Type 0} (wrote : K → List ℕ → Type 0) (faults : K → ℕ) w
   )
 
   -- nothing was read yet
-  pub going-none : (rules : Rules) (left : Option (List ℕ)) (sink : K) (reader : LineReader) (Stands : State → Type 0) → HasRead reader left [] [] → Stands rules.first
-      → Going rules (source_from left left) (sink_from sink sink) reader Stands
-  going-none rules left sink reader Stands has st = record {
+  pub going-none : (rules : Rules) (left : Option (List ℕ)) (sink : K) (reader : LineReader) (after : After) → HasRead reader left [] [] → after.stands rules.first
+      → Going rules (source_from left left) (sink_from sink sink) reader after
+  going-none rules left sink reader after has st = record {
     bytes = [];
     given = [];
     replies = [];
     state = rules.first;
     took = Gave-nil left;
     has = has;
-    run = run-none rules.supply.may rules.supply.words rules.first;
+    run = run-none may_of_tight rules.words rules.first;
     stands = st;
+    maps = tells-none rules.words rules.first after.text;
     writes = (Grew-nil wrote sink, refl);
   }
 
-  module _ (rules : Rules) (before now after : Option (List ℕ)) (start mid : K) (reader next : LineReader) (Old : State → Type 0)
+  module _ (rules : Rules) (before now after : Option (List ℕ)) (start mid : K) (reader next : LineReader) (Old : After)
       (g : Going rules (source_from before now) (sink_from start mid) reader Old) where
     -- what is served once one more line was done
     abbrev course : (x : List ℕ) (ended : Bool) (line : Line) (rest : List Line) (replies : List (List ℕ)) (last : State) (quits : Bool) → Course
@@ -81,10 +85,10 @@ module _ {K : Type 0} (wrote : K → List ℕ → Type 0) (faults : K → ℕ) w
     -- a line was read, done and answered
     pub turn-line : (answer : LineGot) (line : Line) (left : After) (new : K) (stepped : Stepped) (turn : Turn)
         → turn ≡ turn_of stepped → came_line answer (line_in next) ≡ line ∷ []
-        → Reads now after rules.limits next g.bytes g.given answer → Steps rules.supply g.state line left (sink_from mid new) stepped
-        → Turns turn rules (source_from before after) (sink_from start new) next left.stands
-    turn-line answer line left new stepped turn e came r p =
-        let P : Turn → Type 0 = λ t. Turns t rules (source_from before after) (sink_from start new) next left.stands in
+        → Reads now after rules.limits next g.bytes g.given answer → (p : Steps rules.words g.state line left (sink_from mid new) stepped) → (SaysNothing g.state.names line → left.text ≡ Old.text)
+        → (p.quits ≡ true → left.text ≡ Old.text) → Turns turn rules (source_from before after) (sink_from start new) next left
+    turn-line answer line left new stepped turn e came r p idle ends =
+        let P : Turn → Type 0 = λ t. Turns t rules (source_from before after) (sink_from start new) next left in
         subst P (sym e) (at stepped p.writes p.tells)
       where
         took-it : Gave before after (g.bytes ++ r.x)
@@ -96,13 +100,16 @@ module _ {K : Type 0} (wrote : K → List ℕ → Type 0) (faults : K → ℕ) w
         front-it : lines (g.bytes ++ r.x) r.ended rules.limits ≡ (g.given ++ line ∷ []) ++ r.rest
         front-it = subst (λ z. lines (g.bytes ++ r.x) r.ended rules.limits ≡ (g.given ++ z) ++ r.rest) came r.front
 
-        run-it : (quits : Bool) → p.quits ≡ quits → Run rules.supply.may rules.supply.words quits rules.first (g.given ++ line ∷ []) (g.replies ++ p.replies) p.new
-        run-it quits q = run-append rules.supply.may rules.supply.words quits rules.first g.state p.new g.given (line ∷ []) g.replies p.replies g.run
-            (run-one rules.supply.may rules.supply.words quits g.state p.new line p.replies
-            (subst (λ b. LineStep rules.supply.may rules.supply.words g.state line b p.replies p.new) q p.follows))
+        run-it : (quits : Bool) → p.quits ≡ quits → Run may_of_tight rules.words quits rules.first (g.given ++ line ∷ []) (g.replies ++ p.replies) p.new
+        run-it quits q = run-append may_of_tight rules.words quits rules.first g.state p.new g.given (line ∷ []) g.replies p.replies g.run
+            (run-one may_of_tight rules.words quits g.state p.new line p.replies
+            (subst (λ b. LineStep may_of_tight rules.words g.state line b p.replies p.new) q p.follows))
+
+        maps-it : (quits : Bool) → p.quits ≡ quits → TellsLast rules.words rules.first (g.given ++ line ∷ []) (g.replies ++ p.replies) quits left.text
+        maps-it quits q = tells-more rules.words rules.first g.given g.replies g.state Old.text g.run g.maps line quits p.replies left.text p.maps idle (λ e. ends (q ∙ e))
 
         at : (stepped : Stepped) → StepWrites (sink_from mid new) (replies_text p.replies) stepped → TellsQuit stepped p.quits
-            → Turns (turn_of stepped) rules (source_from before after) (sink_from start new) next left.stands
+            → Turns (turn_of stepped) rules (source_from before after) (sink_from start new) next left
         at Next w q = record {
           bytes = g.bytes ++ r.x;
           given = g.given ++ line ∷ [];
@@ -112,6 +119,7 @@ module _ {K : Type 0} (wrote : K → List ℕ → Type 0) (faults : K → ℕ) w
           has = has-it;
           run = run-it false q;
           stands = p.stands;
+          maps = maps-it false q;
           writes = texts-written start mid new g.replies p.replies g.writes w;
         }
         at Quit w q = record {
@@ -122,6 +130,7 @@ module _ {K : Type 0} (wrote : K → List ℕ → Type 0) (faults : K → ℕ) w
           run = run-it p.quits refl;
           isolated = are-isolated rules (course r.x r.ended line r.rest p.replies p.new p.quits) (run-it p.quits refl);
           stands = p.stands;
+          maps = maps-it p.quits refl;
           ends = (texts-written start mid new g.replies p.replies g.writes w, record { why = inl q });
           later = let h : faults new ≡ faults start = w.1 ∙ g.writes.1 in omega arith;
         }
@@ -133,6 +142,7 @@ module _ {K : Type 0} (wrote : K → List ℕ → Type 0) (faults : K → ℕ) w
           run = run-it p.quits refl;
           isolated = are-isolated rules (course r.x r.ended line r.rest p.replies p.new p.quits) (run-it p.quits refl);
           stands = p.stands;
+          maps = maps-it p.quits refl;
           ends = (
             record {
               before = g.given;
@@ -167,6 +177,7 @@ module _ {K : Type 0} (wrote : K → List ℕ → Type 0) (faults : K → ℕ) w
       run = g.run;
       isolated = are-isolated rules (record { bytes = g.bytes ++ x; ended = ended; given = g.given; rest = rest; replies = g.replies; last = g.state; quits = false }) g.run;
       stands = g.stands;
+      maps = g.maps;
       ends = ends;
       later = let h : faults mid ≡ faults start = g.writes.1 in omega arith;
     }
@@ -180,13 +191,17 @@ module _ {K : Type 0} (wrote : K → List ℕ → Type 0) (faults : K → ℕ) w
     pub turn-fault : Reads now after rules.limits next g.bytes g.given Fault → Served rules (source_from before after) (sink_from start mid) Old ReadFault
     turn-fault r = stopped ReadFault r.x r.ended r.rest r.gave r.told r.front (g.writes, record { whole_lines = r.ends.0; no_more = r.ends.1; goes_on = refl })
 
+-- the text of a machine that is as it was
+pub text-same : {S : Type 0} (text : S → List (List ℕ) → Command → List ℕ) (new old : S) (names before : List (List ℕ)) → (new ≡ old) × (names ≡ before) → text new names ≡ text old before
+text-same text new old names before e = ap (λ s. text s names) (e.0) ∙ ap (text old) (e.1)
+
 -- rules of other words and limits that are the same
-pub same-rules : (P : Rules → Type 0) (may : ℕ → State → Parsed → Bool) (words words' : ℕ) (first : State) (limits limits' : Limits) → words ≡ words' → limits ≡ limits'
-    → P (record { supply = record { may = may; words = words }; first = first; limits = limits })
-    → P (record { supply = record { may = may; words = words' }; first = first; limits = limits' })
-same-rules P may words words' first limits limits' e l h =
-    let Q : ℕ → Type 0 = λ w. P (record { supply = record { may = may; words = w }; first = first; limits = limits' }) in
-    let R : Limits → Type 0 = λ k. P (record { supply = record { may = may; words = words }; first = first; limits = k }) in
+pub same-rules : (P : Rules → Type 0) (words words' : ℕ) (first : State) (limits limits' : Limits) → words ≡ words' → limits ≡ limits'
+    → P (record { words = words; first = first; limits = limits })
+    → P (record { words = words'; first = first; limits = limits' })
+same-rules P words words' first limits limits' e l h =
+    let Q : ℕ → Type 0 = λ w. P (record { words = w; first = first; limits = limits' }) in
+    let R : Limits → Type 0 = λ k. P (record { words = words; first = first; limits = k }) in
     subst Q e (subst R l h)
 
 -- what a turn tells of its reading, after a line

@@ -8,6 +8,7 @@ use Rattle.script_grammar.specs.declared.command.Verb.TheVariants.{Set, Choose, 
 use Rattle.script_grammar.specs.Written.{Term, Terms}
 use Rattle.script_grammar.specs.Names.{Parsed}
 use Rattle.script_grammar.specs.ReadAs.{IsRead}
+use Rattle.plain_machine.specs.May.{may_of_tight}
 use Rattle.plain_machine.specs.State.{State, HasNames}
 use Rattle.plain_machine.specs.Step.{step, is_printing}
 use Rattle.plain_machine.specs.Step.Outcome.{Mapped}
@@ -17,11 +18,15 @@ use Rattle.space_api.specs.Calls.{HasEnv, HasTerm, IsEnv, IsWrittenTerm, one_ter
 use Rattle.engine.specs.declared.reply.Reply.{Reply}
 use Rattle.engine.specs.declared.reply.Reply.TheVariants.{Refused}
 use Rattle.engine.specs.Replies.{AllowsMap, Shown, reply_lines, ends_script}
-use Rattle.engine.specs.Rules.{Supply, After}
+use Rattle.engine.specs.Rules.{After}
 
 -- The space stands for the state, and these are its names.
 abbrev pub StandsWith : (stands : State → Type 0) (names : List (List ℕ)) → State → Type 0
 StandsWith stands names s = stands s × (names ≡ s.names)
+
+-- What such a machine leaves: the states that it stands for, and the text of its store.
+abbrev pub leaving : (stands : State → Type 0) (text : List (List ℕ) → Command → List ℕ) (names : List (List ℕ)) → After
+leaving stands text names = record { stands = StandsWith stands names; text = text names }
 
 -- The verbs that put a new term, or a part of one, in a register.
 abbrev pub makes_term : Verb → Bool
@@ -67,20 +72,20 @@ shown after s names = record { state = s; names = names; text = after.text }
 
 -- The command was done: a state is stood for to which, and to the lines of the reply, the machine steps, where a map of the
 -- store is an allowed one.
-pub record Acts (supply : Supply) (s : State) (p : Parsed) (reply : Reply) (after : After) : Type 0 where
+pub record Acts (words : ℕ) (s : State) (p : Parsed) (reply : Reply) (after : After) : Type 0 where
   pub new : State
   pub stands : after.stands new
   pub names : new.names ≡ names_left reply s p
   pub steps : AllowsMap reply (shown after new p.names)
-      → CommandStep supply.may supply.words s p (ends_script reply) (reply_lines reply (shown after new p.names)) new
+      → CommandStep may_of_tight words s p (ends_script reply) (reply_lines reply (shown after new p.names)) new
   pub maps : TellsMap s p after.text (reply_lines reply (shown after new p.names))
 
 -- The line was done. A map of the store is allowed once it is written.
-pub record Takes (supply : Supply) (s : State) (line : List ℕ) (reply : Reply) (after : After) (names : List (List ℕ)) : Type 0 where
+pub record Takes (words : ℕ) (s : State) (line : List ℕ) (reply : Reply) (after : After) (names : List (List ℕ)) : Type 0 where
   pub new : State
   pub stands : StandsWith after.stands names new
   pub steps : AllowsMap reply (shown after new names)
-      → TextStep supply.may supply.words s line (ends_script reply) (reply_lines reply (shown after new names)) new
+      → TextStep may_of_tight words s line (ends_script reply) (reply_lines reply (shown after new names)) new
   pub maps : (p : Parsed) → IsRead s.names line p → TellsMap s p after.text (reply_lines reply (shown after new names))
 
 -- What holds where the reply is a refusal.

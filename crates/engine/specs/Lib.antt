@@ -3,4 +3,5 @@ pub mod Replies
 pub mod Acts
 pub mod Rules
 pub mod Steps
+pub mod Last
 pub mod Serving

@@ -1,23 +1,17 @@
 -- What is constant while a script is served, and what lines leave of the machine, the source and the sink.
-use Rattle.std.specs.Prelude.{ℕ, Bool, Option, List}
+use Rattle.std.specs.Prelude.{ℕ, Option, List}
 use Rattle.line_io.specs.declared.reader.Limits.{Limits}
-use Rattle.script_grammar.specs.Names.{Parsed}
 use Rattle.script_grammar.specs.declared.command.Command.{Command}
 use Rattle.plain_machine.specs.State.{State}
-
--- When a space may answer that it has none, and how many words it has.
-pub record Supply : Type 0 where
-  pub may : ℕ → State → Parsed → Bool
-  pub words : ℕ
 
 -- What a line leaves: the states that are stood for after it, and the text of the store for each map line.
 pub record After : Type 1 where
   pub stands : State → Type 0
   pub text : Command → List ℕ
 
--- What a script is served by: the supply, the state before its first line, and the limits of its input.
+-- What a script is served by: the number of words, the state before its first line, and the limits of its input.
 pub record Rules : Type 0 where
-  pub supply : Supply
+  pub words : ℕ
   pub first : State
   pub limits : Limits
 

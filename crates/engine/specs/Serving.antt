@@ -8,10 +8,12 @@ use Rattle.line_io.specs.Lines.{Line, lines, is_too_much}
 use Rattle.line_io.specs.Reader.{HasRead, IsEndOf, IsFaulted, lines_left, limits_of}
 use Rattle.line_io.specs.declared.reader.Limits.{Limits}
 use Rattle.line_io.specs.declared.reader.LineReader.{LineReader}
+use Rattle.plain_machine.specs.May.{may_of_tight}
 use Rattle.plain_machine.specs.State.{State, first_state}
 use Rattle.plain_machine.specs.Run.{Run, LineStep, replies_text}
 use Rattle.isolation.specs.Laws.{Isolates}
-use Rattle.engine.specs.Rules.{Rules, Input, Output}
+use Rattle.engine.specs.Last.{TellsLast}
+use Rattle.engine.specs.Rules.{After, Rules, Input, Output}
 use Rattle.engine.specs.Steps.{WritesAll}
 use Rattle.engine.specs.declared.serving.Status.{Status}
 use Rattle.engine.specs.declared.serving.Status.TheVariants.{Done, Usage, ReadFault, WriteFault, Memory, TooMuch}
@@ -39,11 +41,11 @@ pub record Course : Type 0 where
 
 -- The lines that were done lead from the first state to the last with these replies.
 abbrev pub CourseRuns : Rules → Course → Type 0
-CourseRuns rules c = Run rules.supply.may rules.supply.words c.quits rules.first c.given c.replies c.last
+CourseRuns rules c = Run may_of_tight rules.words c.quits rules.first c.given c.replies c.last
 
 -- Where they began at the first state, each process was alone: its own lines were answered as its view of them says.
 abbrev pub AreIsolated : Rules → Course → Type 0
-AreIsolated rules c = rules.first ≡ first_state → Isolates rules.supply.may rules.supply.words c.quits c.given c.replies c.last
+AreIsolated rules c = rules.first ≡ first_state → Isolates may_of_tight rules.words c.quits c.given c.replies c.last
 
 -- The reply to the last line was not written whole; those before it were.
 pub record Unwritten (rules : Rules) (c : Course) {K : Type 0} (out : Output K) : Type 0 where
@@ -54,8 +56,8 @@ pub record Unwritten (rules : Rules) (c : Course) {K : Type 0} (out : Output K) 
   pub mid : State
   pub lines_are : c.given ≡ before ++ line ∷ []
   pub replies_are : c.replies ≡ earlier ++ final
-  pub run : Run rules.supply.may rules.supply.words false rules.first before earlier mid
-  pub step : LineStep rules.supply.may rules.supply.words mid line c.quits final c.last
+  pub run : Run may_of_tight rules.words false rules.first before earlier mid
+  pub step : LineStep may_of_tight rules.words mid line c.quits final c.last
   pub part : List ℕ
   pub missing : List ℕ
   pub whole : replies_text final ≡ part ++ missing
@@ -87,15 +89,17 @@ EndsBy TooMuch rules left c out = WritesAll out (replies_text c.replies) × Ends
 EndsBy Usage rules left c out = ⊥
 EndsBy Memory rules left c out = ⊥
 
--- A script was served: its course, which the machine's run follows, the state that is left, and what the status says.
-pub record Served (rules : Rules) (source : Input) {K : Type 0} (out : Output K) (Stands : State → Type 0) (status : Status) : Type 0 where
+-- A script was served: its course, which the machine's run follows, what is left of the machine, and what the status says. The
+-- reply to the last command, where it is a map line, is the text of the store that is left.
+pub record Served (rules : Rules) (source : Input) {K : Type 0} (out : Output K) (after : After) (status : Status) : Type 0 where
   pub course : Course
   pub took : Gave source.before source.after course.bytes
   pub told : IsEndOf course.ended source.after
   pub front : lines course.bytes course.ended rules.limits ≡ course.given ++ course.rest
   pub run : CourseRuns rules course
   pub isolated : AreIsolated rules course
-  pub stands : Stands course.last
+  pub stands : after.stands course.last
+  pub maps : TellsLast rules.words rules.first course.given course.replies course.quits after.text
   pub ends : EndsBy status rules source.after course out
   pub later : out.faults out.before ≤ out.faults out.after
 
@@ -110,21 +114,22 @@ TellsWrite WriteFault before now = Rose before now
 TellsWrite _ before now = now ≡ before
 
 -- All lines that were read so far are done and answered, and serving goes on.
-pub record Going (rules : Rules) (source : Input) {K : Type 0} (out : Output K) (reader : LineReader) (Stands : State → Type 0) : Type 0 where
+pub record Going (rules : Rules) (source : Input) {K : Type 0} (out : Output K) (reader : LineReader) (after : After) : Type 0 where
   pub bytes : List ℕ
   pub given : List Line
   pub replies : List (List ℕ)
   pub state : State
   pub took : Gave source.before source.after bytes
   pub has : HasRead reader source.after bytes given
-  pub run : Run rules.supply.may rules.supply.words false rules.first given replies state
-  pub stands : Stands state
+  pub run : Run may_of_tight rules.words false rules.first given replies state
+  pub stands : after.stands state
+  pub maps : TellsLast rules.words rules.first given replies false after.text
   pub writes : WritesAll out (replies_text replies)
 
 -- After a turn serving goes on, or it is over.
-abbrev pub Turns : {K : Type 0} → Turn → Rules → Input → Output K → LineReader → (State → Type 0) → Type 0
-Turns On rules source out reader Stands = Going rules source out reader Stands
-Turns (Stop status) rules source out reader Stands = Served rules source out Stands status
+abbrev pub Turns : {K : Type 0} → Turn → Rules → Input → Output K → LineReader → After → Type 0
+Turns On rules source out reader after = Going rules source out reader after
+Turns (Stop status) rules source out reader after = Served rules source out after status
 
 -- What a turn tells of reading.
 abbrev pub TurnTellsRead : Turn → (before now : ℕ) → Type 0

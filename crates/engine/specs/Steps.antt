@@ -5,10 +5,11 @@ use Rattle.line_io.specs.Lines.{Line, text, long}
 use Rattle.line_io.specs.Sink.{Grew, GrewInPart}
 use Rattle.script_grammar.specs.Names.{Parsed}
 use Rattle.script_grammar.specs.ReadAs.{IsRead}
+use Rattle.plain_machine.specs.May.{may_of_tight}
 use Rattle.plain_machine.specs.State.{State}
 use Rattle.plain_machine.specs.Run.{LineStep, replies_text}
 use Rattle.engine.specs.Acts.{TellsMap}
-use Rattle.engine.specs.Rules.{Supply, After, Output}
+use Rattle.engine.specs.Rules.{After, Output}
 use Rattle.engine.specs.declared.machine.Stepped.{Stepped}
 use Rattle.engine.specs.declared.machine.Stepped.TheVariants.{Next, Quit, SinkFault}
 
@@ -43,11 +44,11 @@ ComesTo names (text line) p = IsRead names line p
 
 -- One line: the machine's step, the state that is stood for after it, and what was written. The reply to a map line is
 -- the text of the store.
-pub record Steps (supply : Supply) (s : State) (line : Line) (after : After) {K : Type 0} (out : Output K) (result : Stepped) : Type 0 where
+pub record Steps (words : ℕ) (s : State) (line : Line) (after : After) {K : Type 0} (out : Output K) (result : Stepped) : Type 0 where
   pub quits : Bool
   pub replies : List (List ℕ)
   pub new : State
-  pub follows : LineStep supply.may supply.words s line quits replies new
+  pub follows : LineStep may_of_tight words s line quits replies new
   pub stands : after.stands new
   pub maps : (p : Parsed) → ComesTo s.names line p → TellsMap s p after.text replies
   pub writes : StepWrites out (replies_text replies) result

@@ -66,7 +66,7 @@ fn make_term<S: Space>(
     requires named { S.named space.old ≤ length names.now }
     requires code { HasCode (Process seat.pid verb) names.now code.now }
     ensures acts { (s : State) (terms : Terms) → S.stands space.old s → Fits (Process seat.pid verb) names.now code.now terms s
-        → Acts (record { may = S.may; words = S.words space.old }) s (said (Process seat.pid verb) terms names.now)
+        → Acts (S.words space.old) s (said (Process seat.pid verb) terms names.now)
         (reply_of (λ _. Reply.Done) result) (record { stands = S.stands space.new; text = S.text space.new names.now }) }
     ensures books { KeepsBooks S.words S.calls S.named space.old space.new (length names.now) }
     ensures refused { OnErr result (S.named space.new ≤ S.named space.old) }
@@ -104,7 +104,7 @@ fn change<S: Space>(
     requires named { S.named space.old ≤ length names.now }
     requires code { HasCode (Process seat.pid verb) names.now code.now }
     ensures acts { (s : State) (terms : Terms) → S.stands space.old s → Fits (Process seat.pid verb) names.now code.now terms s
-        → Acts (record { may = S.may; words = S.words space.old }) s (said (Process seat.pid verb) terms names.now)
+        → Acts (S.words space.old) s (said (Process seat.pid verb) terms names.now)
         (reply_of (λ _. Reply.Done) result) (record { stands = S.stands space.new; text = S.text space.new names.now }) }
     ensures books { KeepsBooks S.words S.calls S.named space.old space.new (length names.now) }
     ensures refused { OnErr result (S.named space.new ≤ S.named space.old) }
@@ -142,7 +142,7 @@ fn act_in<S: Space>(
     requires named { S.named space.old ≤ length names.now }
     requires code { HasCode (Process seat.pid verb) names.now code.now }
     ensures acts { (s : State) (terms : Terms) → S.stands space.old s → Fits (Process seat.pid verb) names.now code.now terms s
-        → Acts (record { may = S.may; words = S.words space.old }) s (said (Process seat.pid verb) terms names.now) result
+        → Acts (S.words space.old) s (said (Process seat.pid verb) terms names.now) result
         (record { stands = S.stands space.new; text = S.text space.new names.now }) }
     ensures can { CanReply S.sits S.named space.new names.now result }
     ensures books { KeepsBooks S.words S.calls S.named space.old space.new (length names.now) }
@@ -161,7 +161,7 @@ fn act_system<S: Space>(space: &mut S, names: &AtomNames, verb: SysVerb) -> Repl
     requires calls { S.calls space.old < most_calls }
     requires named { S.named space.old ≤ length names.now }
     ensures acts { (s : State) (terms : Terms) (code : List Item) → S.stands space.old s → Fits (System verb) names.now code terms s
-        → Acts (record { may = S.may; words = S.words space.old }) s (said (System verb) terms names.now) result
+        → Acts (S.words space.old) s (said (System verb) terms names.now) result
         (record { stands = S.stands space.new; text = S.text space.new names.now }) }
     ensures can { CanReply S.sits S.named space.new names.now result }
     ensures books { KeepsBooks S.words S.calls S.named space.old space.new (length names.now) }
@@ -194,7 +194,7 @@ pub(crate) fn act<S: Space>(
     requires named { S.named space.old ≤ length names.now }
     requires code { HasCode command names.now code.now }
     ensures acts { (s : State) (terms : Terms) → S.stands space.old s → Fits command names.now code.now terms s
-        → Acts (record { may = S.may; words = S.words space.old }) s (said command terms names.now) result
+        → Acts (S.words space.old) s (said command terms names.now) result
         (record { stands = S.stands space.new; text = S.text space.new names.now }) }
     ensures can { CanReply S.sits S.named space.new names.now result }
     ensures books { KeepsBooks S.words S.calls S.named space.old space.new (length names.now) }

@@ -11,7 +11,8 @@ ghost use Rattle.line_io.specs.Sink.{WritesTold};
 ghost use Rattle.line_io.specs.declared.reader.TheConstants.{LONGEST_LINE};
 ghost use Rattle.space_api.specs.Calls.{KeepsBooks, most_calls};
 ghost use Rattle.engine.specs.Replies.{AllowsMap, CanReply, ends_script, reply_lines};
-ghost use Rattle.engine.specs.Acts.{StandsWith, Takes};
+ghost use Rattle.engine.specs.Acts.{StandsWith, Takes, leaving};
+ghost use Rattle.engine.specs.Last.{SaysNothing};
 ghost use Rattle.engine.specs.Steps.{StepWrites, Steps, TellsQuit};
 
 use crate::act::act;
@@ -44,12 +45,13 @@ fn take_line<S: Space>(space: &mut S, names: &mut AtomNames, code: &mut Code, li
     requires calls { S.calls space.old < most_calls }
     requires named { S.named space.old ≤ length names.old }
     ensures takes { (s : State) → StandsWith (S.stands space.old) names.old s
-        → Takes (record { may = S.may; words = S.words space.old }) s line.now result
+        → Takes (S.words space.old) s line.now result
         (record { stands = S.stands space.new; text = S.text space.new names.new }) names.new }
     ensures can { CanReply S.sits S.named space.new names.new result }
     ensures books { KeepsBooks S.words S.calls S.named space.old space.new (length names.new) }
     ensures leaves { (p : Parsed) → IsRead names.old line.now p → is_printing p.command ≡ true
         → (space.new ≡ space.old) × (names.new ≡ names.old) }
+    ensures idle { SaysNothing names.old (text line.now) → (space.new ≡ space.old) × (names.new ≡ names.old) }
 {
     let before = names.count();
     match parse(line, names, code) {
@@ -132,12 +134,13 @@ pub fn step<S: Space, K: Sink>(m: &mut Machine<S>, line: &[u8], sink: &mut K) ->
     requires named { S.named m.old.space ≤ length m.old.names }
     // The machine of plain trees makes this step, and a map line is answered by the text of the store.
     ensures steps { (s : State) → StandsWith (S.stands m.old.space) m.old.names s
-        → Steps (record { may = S.may; words = S.words m.old.space }) s (text line.now)
-        (record { stands = StandsWith (S.stands m.new.space) m.new.names; text = S.text m.new.space m.new.names })
+        → Steps (S.words m.old.space) s (text line.now)
+        (leaving (S.stands m.new.space) (S.text m.new.space) m.new.names)
         (record { wrote = K.wrote; faults = K.faults; before = sink.old; after = sink.new }) result }
-    // A line that prints, a map line among them, leaves the store as it is.
+    // A line that prints, a map line among them, leaves the store as it is, and so does one that says no command.
     ensures leaves { (p : Parsed) → IsRead m.old.names line.now p → is_printing p.command ≡ true
         → (m.new.space ≡ m.old.space) × (m.new.names ≡ m.old.names) }
+    ensures idle { SaysNothing m.old.names (text line.now) → (m.new.space ≡ m.old.space) × (m.new.names ≡ m.old.names) }
     ensures books { KeepsBooks S.words S.calls S.named m.old.space m.new.space (length m.new.names) }
 {
     let reply = take_line(&mut m.space, &mut m.names, &mut m.code, line);
@@ -147,8 +150,8 @@ pub fn step<S: Space, K: Sink>(m: &mut Machine<S>, line: &[u8], sink: &mut K) ->
 /// Answers a line of more than `LONGEST_LINE` bytes.
 pub(crate) fn refuse_long<S: Space, K: Sink>(m: &Machine<S>, sink: &mut K) -> Stepped
     ensures steps { (s : State) → StandsWith (S.stands m.now.space) m.now.names s
-        → Steps (record { may = S.may; words = S.words m.now.space }) s long
-        (record { stands = StandsWith (S.stands m.now.space) m.now.names; text = S.text m.now.space m.now.names })
+        → Steps (S.words m.now.space) s long
+        (leaving (S.stands m.now.space) (S.text m.now.space) m.now.names)
         (record { wrote = K.wrote; faults = K.faults; before = sink.old; after = sink.new }) result }
 {
     answer(m, Reply::Refused(Refusal::Long), sink)

@@ -3,7 +3,7 @@ ghost use Rattle.std.specs.Prelude.{◌≡◌, ℕ, ◌+◌, ◌<◌, ◌≤◌,
 ghost use Rattle.line_io.specs.Reader.{IsFaulted, lines_left, limits_of};
 ghost use Rattle.plain_machine.specs.State.{State};
 ghost use Rattle.space_api.specs.Calls.{most_calls};
-ghost use Rattle.engine.specs.Acts.{StandsWith};
+ghost use Rattle.engine.specs.Acts.{StandsWith, leaving};
 ghost use Rattle.engine.specs.Serving.{Going, IsNew, Served, TellsRead, TurnTellsRead, Turns, turn_of};
 
 use crate::machine::{Machine, Stepped, refuse_long, step};
@@ -50,14 +50,14 @@ fn take_turn<S: Space, T: Source, K: Sink>(
     requires named { S.named m.old.space ≤ length m.old.names }
     requires no_fault { IsFaulted reader.old → ⊥ }
     ensures turns { (first : State) (left : Option (List ℕ)) (start : K)
-        → Going (record { supply = record { may = S.may; words = S.words m.old.space }; first = first; limits = limits_of reader.old })
+        → Going (record { words = S.words m.old.space; first = first; limits = limits_of reader.old })
         (record { before = left; after = T.left source.old })
         (record { wrote = K.wrote; faults = K.faults; before = start; after = sink.old })
-        reader.old (StandsWith (S.stands m.old.space) m.old.names)
-        → Turns result (record { supply = record { may = S.may; words = S.words m.old.space }; first = first; limits = limits_of reader.old })
+        reader.old (leaving (S.stands m.old.space) (S.text m.old.space) m.old.names)
+        → Turns result (record { words = S.words m.old.space; first = first; limits = limits_of reader.old })
         (record { before = left; after = T.left source.new })
         (record { wrote = K.wrote; faults = K.faults; before = start; after = sink.new })
-        reader.new (StandsWith (S.stands m.new.space) m.new.names) }
+        reader.new (leaving (S.stands m.new.space) (S.text m.new.space) m.new.names) }
     ensures told { TurnTellsRead result (T.faults source.old) (T.faults source.new) }
     ensures read_later { T.faults source.old ≤ T.faults source.new }
     ensures going { result ≡ Turn.On → (IsFaulted reader.new → ⊥) × (lines_left reader.new < lines_left reader.old) }
@@ -89,13 +89,15 @@ pub fn serve<S: Space, T: Source, K: Sink>(
     requires calls { S.calls m.old.space + (limits_of reader.old).lines ≤ most_calls }
     requires named { S.named m.old.space ≤ length m.old.names }
     ensures served { (first : State) → StandsWith (S.stands m.old.space) m.old.names first
-        → Served (record { supply = record { may = S.may; words = S.words m.old.space }; first = first; limits = limits_of reader.old })
+        → Served (record { words = S.words m.old.space; first = first; limits = limits_of reader.old })
         (record { before = T.left source.old; after = T.left source.new })
         (record { wrote = K.wrote; faults = K.faults; before = sink.old; after = sink.new })
-        (StandsWith (S.stands m.new.space) m.new.names) result }
+        (leaving (S.stands m.new.space) (S.text m.new.space) m.new.names) result }
     ensures told { TellsRead result (T.faults source.old) (T.faults source.new) }
     ensures read_later { T.faults source.old ≤ T.faults source.new }
     ensures words { S.words m.new.space ≡ S.words m.old.space }
+    // The count of calls rises by one a line at most, so another script or another line can follow.
+    ensures calls { S.calls m.new.space + lines_left reader.new ≤ S.calls m.old.space + (limits_of reader.old).lines }
     ensures named { S.named m.new.space ≤ length m.new.names }
 {
     loop {

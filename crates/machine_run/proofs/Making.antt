@@ -1,5 +1,5 @@
 -- The lines of a made script, done one after the other.
-use Rattle.std.proofs.Common.{◌≡◌, ◌∙◌, ◌≤◌, ◌++◌, ◌&&◌, ℕ, Bool, true, false, refl, sym, ap, subst, arith, List, [], ◌∷◌, map, append_assoc, append-nil}
+use Rattle.std.proofs.Common.{◌≡◌, ◌∙◌, ◌++◌, ◌&&◌, ℕ, Bool, true, false, refl, sym, ap, subst, arith, List, [], ◌∷◌, map, append_assoc, append-nil}
 use Rattle.std.proofs.lemmas.Bool.{not-true}
 use Rattle.std.specs.List.{list_all, list_any}
 use Rattle.line_io.specs.Faults.{Rose}
@@ -11,10 +11,11 @@ use Rattle.line_io.specs.declared.sum_sink.Summary.{Summary}
 use Rattle.line_io.specs.Summary.{summary_of}
 use Rattle.made_script.specs.Script.{made_script}
 use Rattle.made_script.proofs.Laws.{is_q, lacks_q, lines-lack_q}
+use Rattle.plain_machine.specs.May.{may_of_tight}
 use Rattle.plain_machine.specs.State.{State}
 use Rattle.plain_machine.specs.Run.{LineStep, Run, replies_text}
 use Rattle.plain_machine.proofs.ByLine.Runs.{run-append, run-none, run-one, text-append}
-use Rattle.engine.specs.Rules.{After, Output, Supply}
+use Rattle.engine.specs.Rules.{After, Output}
 use Rattle.engine.specs.Steps.{Steps, StepWrites}
 use Rattle.engine.specs.declared.machine.Stepped.{Stepped}
 use Rattle.engine.specs.declared.machine.Stepped.TheVariants.{Next, Quit, SinkFault}
@@ -22,13 +23,13 @@ use Rattle.machine_run.specs.Made.{IsMade}
 use Rattle.machine_run.proofs.Quits.{goes-on}
 
 -- Of the script of a number these lines are left; the others are done, and the sink holds the numbers of their replies.
-pub record Making (supply : Supply) (first : State) (number : ℕ) (left : List (List ℕ)) (Stands : State → Type 0) (sums : SumSink) : Type 0 where
+pub record Making (words : ℕ) (first : State) (number : ℕ) (left : List (List ℕ)) (Stands : State → Type 0) (sums : SumSink) : Type 0 where
   pub given : List (List ℕ)
   pub replies : List (List ℕ)
   pub state : State
   pub whole : given ++ left ≡ made_script number
   pub lack : list_all lacks_q left ≡ true
-  pub run : Run supply.may supply.words false first (map text given) replies state
+  pub run : Run may_of_tight words false first (map text given) replies state
   pub stands : Stands state
   pub sums_up : SumsUp sums (replies_text replies)
 
@@ -50,33 +51,33 @@ all-written before after x Next w = w.0
 all-written before after x Quit w = w.0
 all-written before after x SinkFault w = let rose : Rose 0 0 = w.1 in absurd (omega arith)
 
-module _ (supply : Supply) (first : State) (number : ℕ) where
+module _ (words : ℕ) (first : State) (number : ℕ) where
   -- no line is done yet
   pub making-none : (left : List (List ℕ)) (Stands : State → Type 0) (sums : SumSink) → left ≡ made_script number → Stands first → SumsUp sums []
-      → Making supply first number left Stands sums
+      → Making words first number left Stands sums
   making-none left Stands sums is st none = record {
     given = [];
     replies = [];
     state = first;
     whole = is;
     lack = ap (list_all lacks_q) is ∙ lines-lack_q number;
-    run = run-none supply.may supply.words first;
+    run = run-none may_of_tight words first;
     stands = st;
     sums_up = none;
   }
 
   -- one line more is done
   pub making-more : (left : List (List ℕ)) (line : List ℕ) (rest : List (List ℕ)) (Old : State → Type 0) (old new : SumSink) (after : After) (stepped : Stepped)
-      (m : Making supply first number left Old old) → left ≡ line ∷ rest → Steps supply m.state (text line) after (sums_from old new) stepped
-      → Making supply first number rest after.stands new
+      (m : Making words first number left Old old) → left ≡ line ∷ rest → Steps words m.state (text line) after (sums_from old new) stepped
+      → Making words first number rest after.stands new
   making-more left line rest Old old new after stepped m is p =
       let lack : (lacks_q line && list_all lacks_q rest) ≡ true = ap (list_all lacks_q) (sym is) ∙ m.lack in
       let parts = both (lacks_q line) lack in
-      let on : p.quits ≡ false = goes-on line (lacks line parts.0) supply.may supply.words m.state p.new p.quits p.replies p.follows in
-      let step : LineStep supply.may supply.words m.state (text line) false p.replies p.new = subst (λ b. LineStep supply.may supply.words m.state (text line) b p.replies p.new) on p.follows in
-      let run : Run supply.may supply.words false first (map text m.given ++ text line ∷ []) (m.replies ++ p.replies) p.new =
-      run-append supply.may supply.words false first m.state p.new (map text m.given) (text line ∷ []) m.replies p.replies m.run
-      (run-one supply.may supply.words false m.state p.new (text line) p.replies step) in
+      let on : p.quits ≡ false = goes-on line (lacks line parts.0) may_of_tight words m.state p.new p.quits p.replies p.follows in
+      let step : LineStep may_of_tight words m.state (text line) false p.replies p.new = subst (λ b. LineStep may_of_tight words m.state (text line) b p.replies p.new) on p.follows in
+      let run : Run may_of_tight words false first (map text m.given ++ text line ∷ []) (m.replies ++ p.replies) p.new =
+      run-append may_of_tight words false first m.state p.new (map text m.given) (text line ∷ []) m.replies p.replies m.run
+      (run-one may_of_tight words false m.state p.new (text line) p.replies step) in
       let grew : Grew SumsUp old new (replies_text p.replies) = all-written old new (replies_text p.replies) stepped p.writes in
       record {
         given = m.given ++ line ∷ [];
@@ -84,7 +85,7 @@ module _ (supply : Supply) (first : State) (number : ℕ) where
         state = p.new;
         whole = append_assoc m.given (line ∷ []) rest ∙ ap (λ l. m.given ++ l) (sym is) ∙ m.whole;
         lack = parts.1;
-        run = subst (λ ls. Run supply.may supply.words false first ls (m.replies ++ p.replies) p.new) (sym (map-append m.given (line ∷ []))) run;
+        run = subst (λ ls. Run may_of_tight words false first ls (m.replies ++ p.replies) p.new) (sym (map-append m.given (line ∷ []))) run;
         stands = p.stands;
         sums_up = subst (SumsUp new) (sym (text-append m.replies p.replies)) (grew.each (replies_text m.replies) m.sums_up);
       }
@@ -94,12 +95,12 @@ module _ (supply : Supply) (first : State) (number : ℕ) where
       both false e = absurd (cc)
 
   -- all lines are done
-  pub making-all : (left : List (List ℕ)) (Stands : State → Type 0) (sums : SumSink) (numbers : Summary) → Making supply first number left Stands sums → left ≡ []
-      → ((taken : List ℕ) → SumsUp sums taken → numbers ≡ summary_of taken) → IsMade supply first number Stands numbers
+  pub making-all : (left : List (List ℕ)) (Stands : State → Type 0) (sums : SumSink) (numbers : Summary) → Making words first number left Stands sums → left ≡ []
+      → ((taken : List ℕ) → SumsUp sums taken → numbers ≡ summary_of taken) → IsMade words first number Stands numbers
   making-all left Stands sums numbers m none sum = record {
     replies = m.replies;
     last = m.state;
-    run = subst (λ ls. Run supply.may supply.words false first (map text ls) m.replies m.state) (sym (append-nil m.given) ∙ ap (λ l. m.given ++ l) (sym none) ∙ m.whole) m.run;
+    run = subst (λ ls. Run may_of_tight words false first (map text ls) m.replies m.state) (sym (append-nil m.given) ∙ ap (λ l. m.given ++ l) (sym none) ∙ m.whole) m.run;
     stands = m.stands;
     sums = sum (replies_text m.replies) m.sums_up;
   }

@@ -1,19 +1,17 @@
 -- A line without the byte `q` ends no script.
-use Rattle.std.proofs.Common.{◌≡◌, ◌∙◌, ◌++◌, ◌||◌, ◌==◌, inl, inr, ℕ, Bool, true, false, refl, sym, ap, subst, List, [], ◌∷◌, codes}
+use Rattle.std.proofs.Common.{◌≡◌, ◌∙◌, ◌++◌, ◌||◌, inl, inr, ℕ, Bool, true, false, refl, ap, List, [], ◌∷◌, codes}
 use Rattle.std.specs.Prelude.{◌⊎◌, MatchBool}
 use Rattle.std.specs.List.{list_any}
 use Rattle.line_io.specs.Lines.{text}
 use Rattle.made_script.proofs.Laws.{is_q}
-use Rattle.script_grammar.specs.Written.{Written, Operands, sys_kinds_of}
+use Rattle.script_grammar.specs.Written.{Written}
 use Rattle.script_grammar.specs.Written.Written.{Nothing, OfProcess, OfSystem}
 use Rattle.script_grammar.specs.Grammar.{Lies, Spelled}
 use Rattle.script_grammar.specs.Grammar.Piece.{Space, Text}
-use Rattle.script_grammar.specs.Names.{Parsed, command_of, names_after, sys_verb_of}
-use Rattle.script_grammar.specs.ReadAs.{IsRead, IsReadAs, Reading}
+use Rattle.script_grammar.specs.Names.{Parsed, command_of, names_after}
+use Rattle.script_grammar.specs.ReadAs.{IsReadAs, Reading}
 use Rattle.script_grammar.specs.ReadAs.Reading.{Means, NoSyntax, NoAtoms}
-use Rattle.script_grammar.specs.declared.word.SysWord.{SysWord}
 use Rattle.script_grammar.specs.declared.word.SysWord.TheVariants as sys
-use Rattle.script_grammar.specs.declared.command.Command.TheVariants.{System}
 use Rattle.plain_machine.specs.State.{State}
 use Rattle.plain_machine.specs.Step.{Outcome, step}
 use Rattle.plain_machine.specs.Step.Outcome.{Accepted, Refused, Mapped}

@@ -1,20 +1,21 @@
 -- What the whole program promises: the store that a run leaves, and what a run was.
-use Rattle.std.specs.Prelude.{ℕ, ◌≡◌, ◌⊎◌, Option, Some, None, MatchOption}
+use Rattle.std.specs.Prelude.{ℕ, ◌≡◌, ◌⊎◌, List, [], Option, Some, None, MatchOption}
+use Rattle.script_grammar.specs.declared.command.Command.{Command}
 use Rattle.plain_machine.specs.State.{State, first_state}
-use Rattle.plain_machine.specs.May.{may_of_tight}
 use Rattle.plain_machine.specs.Image.{ImageStands}
 use Rattle.space_api.specs.Calls.{Properly}
 use Rattle.engine.specs.Acts.{StandsWith}
-use Rattle.engine.specs.Rules.{Rules, Input, Output}
+use Rattle.engine.specs.Rules.{After, Rules, Input, Output}
 use Rattle.engine.specs.Serving.{Served}
 use Rattle.engine.specs.declared.serving.Status.{Status}
 use Rattle.engine.specs.declared.serving.Status.TheVariants.{Done, Usage, ReadFault, WriteFault, Memory, TooMuch}
 use Rattle.one_space.specs.One.{OneStands}
 use Rattle.one_space.specs.Image.{image}
+use Rattle.one_space.specs.Listing.{command_text}
 use Rattle.command_line.specs.declared.options.Options.{Options}
 use Rattle.command_line.specs.declared.options.Refusal.{Refusal}
 use Rattle.command_line.specs.declared.options.Refusal.TheVariants as refusal
-use Rattle.machine_run.specs.Made.{Made, supply_of}
+use Rattle.machine_run.specs.Made.{Made}
 use Rattle.machine_run.specs.declared.serving.TheConstants.{LIMITS}
 use Rattle.machine_run.specs.declared.store.Store.{Store}
 use Rattle.machine_run.specs.declared.store.Store.TheVariants.{Vacant, One}
@@ -24,6 +25,15 @@ use Rattle.machine_run.specs.declared.store.Store.TheVariants.{Vacant, One}
 abbrev pub StoreStands : (words : ℕ) → Store → State → Type 0
 StoreStands words Vacant s = ⊥
 StoreStands words (One m) s = StandsWith (Properly (OneStands m.space)) m.names s × ImageStands (image m.space) s × ((image m.space).words ≡ words)
+
+-- The text of the store for each map line, which is that of the machine in it; a vacant store has none.
+abbrev pub store_text : Store → Command → List ℕ
+store_text Vacant c = []
+store_text (One m) c = command_text m.space m.names c
+
+-- What a run leaves in the store.
+abbrev pub left_in : (words : ℕ) → Store → After
+left_in words store = record { stands = StoreStands words store; text = store_text store }
 
 -- The first where a script was begun, the second where the run ended before its first line.
 abbrev pub IfBegun : Status → (begun unopened : Type 0) → Type 0
@@ -36,13 +46,13 @@ IfBegun TooMuch P Q = P
 
 -- What a script is served by over an arena of so many words: from the first state on, to the limits of scripts.
 abbrev pub rules_of : (words : ℕ) → Rules
-rules_of words = record { supply = supply_of words; first = first_state; limits = LIMITS }
+rules_of words = record { words = words; first = first_state; limits = LIMITS }
 
 -- A run by these options: the script that is read was served; or, where a number is asked for, nothing was read, and the
 -- script of the number was made and done.
 abbrev pub RunBy : {K : Type 0} → Options → (unread : Type 0) → Input → Output K → Store → Status → Type 0
 RunBy o unread source out store status = MatchOption o.made_from
-    (Served (rules_of o.arena) source out (StoreStands o.arena store) status)
+    (Served (rules_of o.arena) source out (left_in o.arena store) status)
     (λ n. unread × Made o.arena n out (StoreStands o.arena store) status)
 
 -- A run by what the words ask for. Where they ask for nothing, none begins.

@@ -24,7 +24,7 @@ fn do_made<P: Space>(m: &mut Machine<P>, number: u64) -> Summary
     requires calls { P.calls m.old.space + 100000 ≤ most_calls }
     requires named { P.named m.old.space ≤ length m.old.names }
     ensures made { (first : State) → StandsWith (P.stands m.old.space) m.old.names first
-        → IsMade (record { may = P.may; words = P.words m.old.space }) first number
+        → IsMade (P.words m.old.space) first number
         (StandsWith (P.stands m.new.space) m.new.names) result }
     ensures words { P.words m.new.space ≡ P.words m.old.space }
 {

@@ -2,7 +2,7 @@
 ghost use Rattle.std.specs.Prelude.{◌≡◌, ◌≢◌, true};
 ghost use Rattle.command_line.specs.Values.{is_arena};
 ghost use Rattle.engine.specs.Serving.{Served, TellsRead, TellsWrite};
-ghost use Rattle.machine_run.specs.Contract.{IfBegun, StoreStands, rules_of};
+ghost use Rattle.machine_run.specs.Contract.{IfBegun, left_in, rules_of};
 
 use crate::opening::first_machine;
 use crate::store::Store;
@@ -31,7 +31,7 @@ pub(crate) fn run_read<S: Source, K: Sink>(
         (Served (rules_of arena)
         (record { before = S.left source.old; after = S.left source.new })
         (record { wrote = K.wrote; faults = K.faults; before = sink.old; after = sink.new })
-        (StoreStands arena store.new) result)
+        (left_in arena store.new) result)
         ((store.new ≡ Store.Vacant) × (source.new ≡ source.old) × (sink.new ≡ sink.old)) }
     ensures read_told { TellsRead result (S.faults source.old) (S.faults source.new) }
     ensures write_told { TellsWrite result (K.faults sink.old) (K.faults sink.new) }

@@ -15,7 +15,6 @@ use Rattle.script_grammar.specs.Written.{Term, Terms}
 use Rattle.plain_machine.specs.State.{HasNames, State, is_live}
 use Rattle.plain_machine.specs.declared.costs.TheConstants.{MESSAGE_COST}
 use Rattle.plain_machine.specs.Step.{step}
-use Rattle.plain_machine.specs.May.{may_of_tight}
 use Rattle.space_api.specs.Calls.{Becomes, Follows, IsWrittenTerm, KeepsBooks, Passes, Properly, one_term, said}
 use Rattle.item_build.specs.declared.building.BuildStop.{BuildStop}
 use Rattle.item_build.specs.declared.building.BuildStop.TheVariants as stop
@@ -38,14 +37,14 @@ Books old new bound = KeepsBooks words_of (λ b. b.calls) (λ b. b.named) old ne
 pub record Does {A : Type 0} (c : Command) (old new : One) (result : Result A Refusal) : Type 0 where
   pub holds : Holds new
   pub becomes : (s : State) (terms : Terms) (names : List (List ℕ)) → OneStands old s
-      → Becomes may_of_tight (words_of old) s (said c terms names) result (OneStands new)
+      → Becomes (words_of old) s (said c terms names) result (OneStands new)
   pub books : Books old new old.named
 
 -- The same of a call that is given the names that there are after its line, in a state all of whose trees are proper.
 pub record DoesBy {A : Type 0} (names : List (List ℕ)) (c : Command) (old new : One) (result : Result A Refusal) : Type 0 where
   pub holds : Holds new
   pub becomes : (s : State) (terms : Terms) → Properly (OneStands old) s → HasNames s names
-      → Becomes may_of_tight (words_of old) s (said c terms names) result (OneStands new)
+      → Becomes (words_of old) s (said c terms names) result (OneStands new)
   pub books : Books old new old.named
 
 -- The same of a call that is never refused.
@@ -64,7 +63,7 @@ pub record DoesAtOnce {A : Type 0} (c : Command) (old new : One) (result : Resul
 pub record Builds {A : Type 0} (names : List (List ℕ)) (pid : ℕ) (r : Reg) (code : List Item) (old new : One) (result : Result A Refusal) : Type 0 where
   pub holds : Holds new
   pub becomes : (s : State) (t : Term) → OneStands old s → IsWrittenTerm names code t
-      → Becomes may_of_tight (words_of old) s (said (Process pid (verb.Set r)) (one_term t) names) result (OneStands new)
+      → Becomes (words_of old) s (said (Process pid (verb.Set r)) (one_term t) names) result (OneStands new)
   pub books : Books old new (max old.named (length names))
   pub refused : OnErr result (new.named ≤ old.named)
 

@@ -6,7 +6,6 @@ ghost use Rattle.script_grammar.specs.Names.{IsRegister};
 ghost use Rattle.script_grammar.specs.Written.{Terms};
 ghost use Rattle.atom_names.specs.Names.{most_names};
 ghost use Rattle.plain_machine.specs.State.{State};
-ghost use Rattle.plain_machine.specs.May.{may_of_tight};
 ghost use Rattle.space_api.specs.Calls.{Becomes, HasEnv, IsEnv, most_calls, said};
 ghost use Rattle.one_space.specs.One.{Holds, OneStands, Sits, words_of};
 ghost use Rattle.plain_machine.specs.declared.limits.TheConstants.{MOST_FILL};
@@ -108,7 +107,7 @@ impl One {
         requires name { name < most_names }
         requires env { IsEnv env.now }
         ensures becomes { (s : State) (terms : Terms) (names : List (List ℕ)) → OneStands self.old s → HasEnv names name env.now terms
-            → Becomes may_of_tight (words_of self.old) s (said (Process seat.pid (verb.Fun r name arity)) terms names) result (OneStands self.new) }
+            → Becomes (words_of self.old) s (said (Process seat.pid (verb.Fun r name arity)) terms names) result (OneStands self.new) }
         ensures books { Books self.old self.new (max self.old.named (name + 1)) }
         ensures refused { OnErr result (self.new.named ≤ self.old.named) }
         ensures asks { AsksUnless (10 + length env.now) self.old self.new result }

@@ -137,7 +137,6 @@ impl OneSpace {
 
 impl Space for OneSpace {
     ghost use Rattle.std.specs.Prelude.{[]};
-    ghost use Rattle.plain_machine.specs.May.{may_of_tight};
     ghost use Rattle.space_api.specs.Calls.{Properly};
     ghost use Rattle.one_space.specs.One.{OneStands, Sits, words_of};
     ghost use Rattle.one_space.specs.Doing.{Asks, AsksToSend, AsksUnless, Books, IsIdle, IsSwept, takes_part};
@@ -155,8 +154,6 @@ impl Space for OneSpace {
     ghost named = { λ b. b.named };
 
     ghost calls = { λ b. b.calls };
-
-    ghost may = { may_of_tight };
 
     ghost text = { λ b names c. command_text b names c };
 
@@ -179,7 +176,7 @@ impl Space for OneSpace {
     fn spawn(&mut self) -> Result<u64, Refusal>
         requires calls { self.old.calls < most_calls }
         ensures becomes { (s : State) (terms : Terms) (names : List (List ℕ)) → Properly (OneStands self.old) s → HasNames s names
-            → Becomes may_of_tight (words_of self.old) s (said (System sysverb.Spawn) terms names) result (Properly (OneStands self.new)) }
+            → Becomes (words_of self.old) s (said (System sysverb.Spawn) terms names) result (Properly (OneStands self.new)) }
         ensures number { (s : State) → Properly (OneStands self.old) s → IfOk result (λ n. n ≡ s.next) }
         ensures books { Books self.old self.new self.old.named }
         ensures early { result ≡ Err Procs → self.new ≡ self.old }
@@ -206,7 +203,7 @@ impl Space for OneSpace {
         requires named { self.old.named ≤ length names.now }
         requires term { HasTerm names.now code.now }
         ensures becomes { (s : State) (t : Term) → Properly (OneStands self.old) s → HasNames s names.now → IsWrittenTerm names.now code.now t
-            → Becomes may_of_tight (words_of self.old) s (said (Process seat.pid (verb.Set r)) (one_term t) names.now) result (Properly (OneStands self.new)) }
+            → Becomes (words_of self.old) s (said (Process seat.pid (verb.Set r)) (one_term t) names.now) result (Properly (OneStands self.new)) }
         ensures books { Books self.old self.new (max self.old.named (length names.now)) }
         ensures refused { OnErr result (self.new.named ≤ self.old.named) }
         ensures asks { Asks (item_words_of code.now) self.old self.new result }
@@ -229,7 +226,7 @@ impl Space for OneSpace {
         requires calls { self.old.calls < most_calls }
         requires named { self.old.named ≤ length names.now }
         ensures becomes { (state : State) (terms : Terms) → Properly (OneStands self.old) state → HasNames state names.now
-            → Becomes may_of_tight (words_of self.old) state (said (Process seat.pid (verb.Choose r s how)) terms names.now) result
+            → Becomes (words_of self.old) state (said (Process seat.pid (verb.Choose r s how)) terms names.now) result
             (Properly (OneStands self.new)) }
         ensures books { Books self.old self.new self.old.named }
         ensures idle { takes_part how ≡ false → IsIdle self.old self.new }
@@ -259,7 +256,7 @@ impl Space for OneSpace {
         requires calls { self.old.calls < most_calls }
         requires named { self.old.named ≤ length names.now }
         ensures becomes { (state : State) (terms : Terms) → Properly (OneStands self.old) state → HasNames state names.now
-            → Becomes may_of_tight (words_of self.old) state (said (Process seat.pid (verb.MapPut r s k v)) terms names.now) result
+            → Becomes (words_of self.old) state (said (Process seat.pid (verb.MapPut r s k v)) terms names.now) result
             (Properly (OneStands self.new)) }
         ensures books { Books self.old self.new self.old.named }
         ensures asks { (state : State) (q : Live) → Properly (OneStands self.old) state → process_of seat.pid state ≡ Some q
@@ -273,7 +270,7 @@ impl Space for OneSpace {
         requires register { IsRegister r }
         requires calls { self.old.calls < most_calls }
         ensures becomes { (s : State) (terms : Terms) (names : List (List ℕ)) → Properly (OneStands self.old) s → HasNames s names
-            → Becomes may_of_tight (words_of self.old) s (said (Process seat.pid (verb.Ref r)) terms names) result (Properly (OneStands self.new)) }
+            → Becomes (words_of self.old) s (said (Process seat.pid (verb.Ref r)) terms names) result (Properly (OneStands self.new)) }
         ensures books { Books self.old self.new self.old.named }
         ensures asks { Asks REF_WORDS self.old self.new result }
     {
@@ -286,7 +283,7 @@ impl Space for OneSpace {
         requires other { IsRegister s }
         requires calls { self.old.calls < most_calls }
         ensures becomes { (state : State) (terms : Terms) (names : List (List ℕ)) → Properly (OneStands self.old) state → HasNames state names
-            → Becomes may_of_tight (words_of self.old) state (said (Process seat.pid (verb.Repeat r shape n s)) terms names) result
+            → Becomes (words_of self.old) state (said (Process seat.pid (verb.Repeat r shape n s)) terms names) result
             (Properly (OneStands self.new)) }
         ensures books { Books self.old self.new self.old.named }
         ensures asks { AsksUnless (repeat_words shape n) self.old self.new result }
@@ -299,7 +296,7 @@ impl Space for OneSpace {
         requires register { IsRegister r }
         requires calls { self.old.calls < most_calls }
         ensures becomes { (s : State) (terms : Terms) (names : List (List ℕ)) → Properly (OneStands self.old) s → HasNames s names
-            → Becomes may_of_tight (words_of self.old) s (said (Process seat.pid (verb.Fill r len byte)) terms names) result (Properly (OneStands self.new)) }
+            → Becomes (words_of self.old) s (said (Process seat.pid (verb.Fill r len byte)) terms names) result (Properly (OneStands self.new)) }
         ensures books { Books self.old self.new self.old.named }
         ensures asks { AsksUnless (fill_words len) self.old self.new result }
     {
@@ -321,7 +318,7 @@ impl Space for OneSpace {
         requires env { IsEnv env.now }
         ensures becomes { (s : State) (terms : Terms) (names : List (List ℕ)) → Properly (OneStands self.old) s → HasNames s names
             → HasEnv names name env.now terms
-            → Becomes may_of_tight (words_of self.old) s (said (Process seat.pid (verb.Fun r name arity)) terms names) result (Properly (OneStands self.new)) }
+            → Becomes (words_of self.old) s (said (Process seat.pid (verb.Fun r name arity)) terms names) result (Properly (OneStands self.new)) }
         ensures books { Books self.old self.new (max self.old.named (name + 1)) }
         ensures refused { OnErr result (self.new.named ≤ self.old.named) }
         ensures asks { AsksUnless (10 + length env.now) self.old self.new result }
@@ -346,7 +343,7 @@ impl Space for OneSpace {
         requires register { IsRegister s }
         requires calls { self.old.calls < most_calls }
         ensures becomes { (state : State) (terms : Terms) (names : List (List ℕ)) → Properly (OneStands self.old) state → HasNames state names
-            → Becomes may_of_tight (words_of self.old) state (said (Process seat.pid (verb.Push s)) terms names) result (Properly (OneStands self.new)) }
+            → Becomes (words_of self.old) state (said (Process seat.pid (verb.Push s)) terms names) result (Properly (OneStands self.new)) }
         ensures books { Books self.old self.new self.old.named }
         ensures asks { Asks PLACE_COST self.old self.new result }
     {
@@ -371,7 +368,7 @@ impl Space for OneSpace {
         requires receiver { MayReceive to }
         requires calls { self.old.calls < most_calls }
         ensures becomes { (state : State) (terms : Terms) (names : List (List ℕ)) → Properly (OneStands self.old) state → HasNames state names
-            → Becomes may_of_tight (words_of self.old) state (said (Process seat.pid (verb.Send s to)) terms names) result (Properly (OneStands self.new)) }
+            → Becomes (words_of self.old) state (said (Process seat.pid (verb.Send s to)) terms names) result (Properly (OneStands self.new)) }
         ensures books { Books self.old self.new self.old.named }
         ensures asks { (state : State) (q : Live) → Properly (OneStands self.old) state → process_of seat.pid state ≡ Some q
             → AsksToSend (receiver to q) state (register s.0 q) self.old self.new result }

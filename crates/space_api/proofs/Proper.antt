@@ -33,8 +33,8 @@ module _ (s : State) (c : Command) (terms : Terms) (names : List (List ℕ)) (pr
   pub follows-proper : {A : Type 0} (r : Result A Refusal) (Stands : State → Type 0) → Follows (step s (said c terms names)) s r Stands → Follows (step s (said c terms names)) s r (Properly Stands)
   follows-proper r Stands f = follows (step s (said c terms names)) s r Stands proper leaves f
 
-  pub becomes-proper : {A : Type 0} (may : ℕ → State → Parsed → Bool) (words : ℕ) (r : Result A Refusal) (Stands : State → Type 0)
-      → Becomes may words s (said c terms names) r Stands → Becomes may words s (said c terms names) r (Properly Stands)
-  becomes-proper may words r Stands (inl f) = inl (follows-proper r Stands f)
-  becomes-proper may words (Ok a) Stands (inr f) = inr f
-  becomes-proper may words (Err e) Stands (inr f) = inr (f.0, f.1, (f.2, proper))
+  pub becomes-proper : {A : Type 0} (words : ℕ) (r : Result A Refusal) (Stands : State → Type 0)
+      → Becomes words s (said c terms names) r Stands → Becomes words s (said c terms names) r (Properly Stands)
+  becomes-proper words r Stands (inl f) = inl (follows-proper r Stands f)
+  becomes-proper words (Ok a) Stands (inr f) = inr f
+  becomes-proper words (Err e) Stands (inr f) = inr (f.0, f.1, (f.2, proper))

@@ -14,6 +14,7 @@ use Rattle.script_grammar.specs.Grammar.{MayStand, IsBuiltTerm}
 use Rattle.script_grammar.specs.Names.{Parsed, held_terms, items_of}
 use Rattle.plain_machine.specs.State.{State}
 use Rattle.plain_machine.specs.Tightness.{grow}
+use Rattle.plain_machine.specs.May.{may_of_tight}
 use Rattle.plain_machine.specs.Step.{Outcome, step}
 use Rattle.plain_machine.specs.Laws.{HoldsProper}
 use Rattle.plain_machine.specs.Step.Outcome.{Accepted, Refused, Mapped}
@@ -89,14 +90,14 @@ Follows (Refused r) s (Ok a) Stands = ⊥
 Follows (Refused r) s (Err e) Stands = (e ≡ r) × Stands s
 Follows Mapped s r Stands = ⊥
 
--- The call answers that there is no space for what the line asks, where that may be; the state is as before.
-abbrev pub Stays : {A : Type 0} → (may : ℕ → State → Parsed → Bool) → ℕ → State → Parsed → Result A Refusal → (State → Type 0) → Type 0
-Stays may words s p (Ok a) Stands = ⊥
-Stays may words s p (Err e) Stands = (may words s p ≡ true) × (e ≡ NoSpace (grow s p)) × Stands s
+-- The call of a space of so many words answers that there is none for what the line asks, where that may be; the state is as before.
+abbrev pub Stays : {A : Type 0} → ℕ → State → Parsed → Result A Refusal → (State → Type 0) → Type 0
+Stays words s p (Ok a) Stands = ⊥
+Stays words s p (Err e) Stands = (may_of_tight words s p ≡ true) × (e ≡ NoSpace (grow s p)) × Stands s
 
 -- The machine's step, or no space.
-abbrev pub Becomes : {A : Type 0} → (may : ℕ → State → Parsed → Bool) → ℕ → State → Parsed → Result A Refusal → (State → Type 0) → Type 0
-Becomes may words s p result Stands = Follows (step s p) s result Stands ⊎ Stays may words s p result Stands
+abbrev pub Becomes : {A : Type 0} → ℕ → State → Parsed → Result A Refusal → (State → Type 0) → Type 0
+Becomes words s p result Stands = Follows (step s p) s result Stands ⊎ Stays words s p result Stands
 
 -- A call that is never refused: the machine accepts, and this is the state after it.
 abbrev pub Passes : Outcome → (State → Type 0) → Type 0

@@ -28,7 +28,7 @@ ghost use Rattle.script_grammar.specs.declared.command.Command.TheVariants.{Proc
 ghost use Rattle.script_grammar.specs.declared.command.Verb.TheVariants as verb;
 ghost use Rattle.script_grammar.specs.declared.command.SysVerb.TheVariants as sysverb;
 ghost use Rattle.script_grammar.specs.Grammar.{MayReceive};
-ghost use Rattle.script_grammar.specs.Names.{Parsed, IsRegister, PicksRegister};
+ghost use Rattle.script_grammar.specs.Names.{IsRegister, PicksRegister};
 ghost use Rattle.script_grammar.specs.Written.{Term, Terms};
 ghost use Rattle.plain_term.specs.Measures.{nodes};
 ghost use Rattle.plain_machine.specs.State.{Process as Live, State, HasNames, is_live, live_numbers, process_of, register};
@@ -79,9 +79,6 @@ pub trait Space {
     /// A number that each changing call raises by at most one.
     ghost calls: { Self → ℕ };
 
-    /// Whether a space with so many words may answer in this state that it has none for this command.
-    ghost may: { ℕ → State → Parsed → Bool };
-
     /// The text of the store as it is, which answers a map line, with these names.
     ghost text: { Self → List (List ℕ) → Command → List ℕ };
 
@@ -100,7 +97,7 @@ pub trait Space {
     fn spawn(&mut self) -> Result<u64, Refusal>
         requires calls { calls self.old < most_calls }
         ensures becomes { (s : State) (terms : Terms) (names : List (List ℕ)) → stands self.old s → HasNames s names
-            → Becomes may (words self.old) s (said (System sysverb.Spawn) terms names) result (stands self.new) }
+            → Becomes (words self.old) s (said (System sysverb.Spawn) terms names) result (stands self.new) }
         ensures number { (s : State) → stands self.old s → IfOk result (λ n. n ≡ s.next) }
         ensures books { KeepsBooks words calls named self.old self.new (named self.old) };
 
@@ -120,7 +117,7 @@ pub trait Space {
         requires named { named self.old ≤ length names.now }
         requires term { HasTerm names.now code.now }
         ensures becomes { (s : State) (t : Term) → stands self.old s → HasNames s names.now → IsWrittenTerm names.now code.now t
-            → Becomes may (words self.old) s (said (Process seat.pid (verb.Set r)) (one_term t) names.now) result (stands self.new) }
+            → Becomes (words self.old) s (said (Process seat.pid (verb.Set r)) (one_term t) names.now) result (stands self.new) }
         ensures books { KeepsBooks words calls named self.old self.new (max (named self.old) (length names.now)) }
         ensures refused { OnErr result (named self.new ≤ named self.old) };
 
@@ -140,7 +137,7 @@ pub trait Space {
         requires calls { calls self.old < most_calls }
         requires named { named self.old ≤ length names.now }
         ensures becomes { (state : State) (terms : Terms) → stands self.old state → HasNames state names.now
-            → Becomes may (words self.old) state (said (Process seat.pid (verb.Choose r s how)) terms names.now) result (stands self.new) }
+            → Becomes (words self.old) state (said (Process seat.pid (verb.Choose r s how)) terms names.now) result (stands self.new) }
         ensures books { KeepsBooks words calls named self.old self.new (named self.old) };
 
     /// Puts the map of `s` with the term of `k` bound to that of `v` in the register `r`. Refused by `BadArg` where there is no
@@ -162,7 +159,7 @@ pub trait Space {
         requires calls { calls self.old < most_calls }
         requires named { named self.old ≤ length names.now }
         ensures becomes { (state : State) (terms : Terms) → stands self.old state → HasNames state names.now
-            → Becomes may (words self.old) state (said (Process seat.pid (verb.MapPut r s k v)) terms names.now) result (stands self.new) }
+            → Becomes (words self.old) state (said (Process seat.pid (verb.MapPut r s k v)) terms names.now) result (stands self.new) }
         ensures books { KeepsBooks words calls named self.old self.new (named self.old) };
 
     /// Puts a binary of `len` bytes, each of them `byte`, in the register. Refused by `BadArg` where that is more than 1,048,576
@@ -172,7 +169,7 @@ pub trait Space {
         requires register { IsRegister r }
         requires calls { calls self.old < most_calls }
         ensures becomes { (s : State) (terms : Terms) (names : List (List ℕ)) → stands self.old s → HasNames s names
-            → Becomes may (words self.old) s (said (Process seat.pid (verb.Fill r len byte)) terms names) result (stands self.new) }
+            → Becomes (words self.old) s (said (Process seat.pid (verb.Fill r len byte)) terms names) result (stands self.new) }
         ensures books { KeepsBooks words calls named self.old self.new (named self.old) };
 
     /// Puts a fun in the register: the number of its name, its arity, and the registers whose terms are its environment. Its
@@ -191,7 +188,7 @@ pub trait Space {
         requires name { name < most_names }
         requires env { IsEnv env.now }
         ensures becomes { (s : State) (terms : Terms) (names : List (List ℕ)) → stands self.old s → HasNames s names → HasEnv names name env.now terms
-            → Becomes may (words self.old) s (said (Process seat.pid (verb.Fun r name arity)) terms names) result (stands self.new) }
+            → Becomes (words self.old) s (said (Process seat.pid (verb.Fun r name arity)) terms names) result (stands self.new) }
         ensures books { KeepsBooks words calls named self.old self.new (max (named self.old) (name + 1)) }
         ensures refused { OnErr result (named self.new ≤ named self.old) };
 
@@ -201,7 +198,7 @@ pub trait Space {
         requires register { IsRegister r }
         requires calls { calls self.old < most_calls }
         ensures becomes { (s : State) (terms : Terms) (names : List (List ℕ)) → stands self.old s → HasNames s names
-            → Becomes may (words self.old) s (said (Process seat.pid (verb.Ref r)) terms names) result (stands self.new) }
+            → Becomes (words self.old) s (said (Process seat.pid (verb.Ref r)) terms names) result (stands self.new) }
         ensures books { KeepsBooks words calls named self.old self.new (named self.old) };
 
     /// Puts a tuple or a list of `n` times the second register's term in the first. Refused by `BadArg` where that is more than
@@ -212,7 +209,7 @@ pub trait Space {
         requires other { IsRegister s }
         requires calls { calls self.old < most_calls }
         ensures becomes { (state : State) (terms : Terms) (names : List (List ℕ)) → stands self.old state → HasNames state names
-            → Becomes may (words self.old) state (said (Process seat.pid (verb.Repeat r shape n s)) terms names) result (stands self.new) }
+            → Becomes (words self.old) state (said (Process seat.pid (verb.Repeat r shape n s)) terms names) result (stands self.new) }
         ensures books { KeepsBooks words calls named self.old self.new (named self.old) };
 
     /// Puts the process's own pid in the register.
@@ -230,7 +227,7 @@ pub trait Space {
         requires register { IsRegister s }
         requires calls { calls self.old < most_calls }
         ensures becomes { (state : State) (terms : Terms) (names : List (List ℕ)) → stands self.old state → HasNames state names
-            → Becomes may (words self.old) state (said (Process seat.pid (verb.Push s)) terms names) result (stands self.new) }
+            → Becomes (words self.old) state (said (Process seat.pid (verb.Push s)) terms names) result (stands self.new) }
         ensures books { KeepsBooks words calls named self.old self.new (named self.old) };
 
     /// Takes the term that was pushed last off the stack into the register. Refused by `Empty`.
@@ -251,7 +248,7 @@ pub trait Space {
         requires receiver { MayReceive to }
         requires calls { calls self.old < most_calls }
         ensures becomes { (state : State) (terms : Terms) (names : List (List ℕ)) → stands self.old state → HasNames state names
-            → Becomes may (words self.old) state (said (Process seat.pid (verb.Send s to)) terms names) result (stands self.new) }
+            → Becomes (words self.old) state (said (Process seat.pid (verb.Send s to)) terms names) result (stands self.new) }
         ensures books { KeepsBooks words calls named self.old self.new (named self.old) };
 
     /// Takes the first message off the queue of the process into the register. Refused by `Empty`.

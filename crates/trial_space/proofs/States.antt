@@ -1,7 +1,7 @@
 -- The state after each call.
-use Rattle.std.proofs.Common.{◌≡◌, ℕ, ◌+◌, ◌<◌, ◌≤◌, ◌==◌, ◌||◌, Bool, true, false, nat_lt, List, [], ◌∷◌, ◌++◌, length, replicate, codes, append-nil, decimal}
+use Rattle.std.proofs.Common.{◌≡◌, ℕ, zero, suc, ◌+◌, ◌*◌, ◌<◌, ◌≤◌, ◌==◌, ◌||◌, ◌&&◌, Bool, true, false, nat_lt, nat_le, List, [], ◌∷◌, ◌++◌, length, replicate, codes, append-nil, decimal}
 use Rattle.std.proofs.Common.{map, get_or, set, Option, None, Some, Ok, Err, if◌then◌else◌, refl, sym, ◌∙◌, ap, subst, arith, inl, inr}
-use Rattle.std.proofs.lemmas.Bool.{le-ltb, lt-ltb}
+use Rattle.std.proofs.lemmas.Bool.{le-ltb, lt-ltb, false≢true}
 use Rattle.std.specs.Prelude.{flat_map}
 use Rattle.std.specs.List.{find, list_any}
 use Rattle.std.specs.declared.cmp.Ordering.{Ordering}
@@ -11,9 +11,9 @@ use Rattle.std.proofs.lemmas.Option.{same_Some}
 use Rattle.plain_term.specs.declared.item.Item.{Item}
 use Rattle.plain_term.specs.declared.item.Item.TheVariants as item
 use Rattle.plain_term.specs.Tree.{Tree, Pairs}
-use Rattle.plain_term.specs.Tree.Tree.{Pid, Fun}
+use Rattle.plain_term.specs.Tree.Tree.{Nil, Pid, Fun}
 use Rattle.plain_term.specs.Beyond.{is_beyond}
-use Rattle.plain_term.specs.Measures.{flat, nodes}
+use Rattle.plain_term.specs.Measures.{bin_words, flat, nodes}
 use Rattle.plain_term.specs.Order.{order}
 use Rattle.plain_term.specs.Text.{text}
 use Rattle.line_io.specs.Sink.{Grew, GrewInPart}
@@ -21,6 +21,7 @@ use Rattle.script_grammar.specs.declared.limits.TheConstants.{LEVELS}
 use Rattle.script_grammar.specs.declared.command.Measure.{Measure}
 use Rattle.script_grammar.specs.declared.command.Pick.{Pick}
 use Rattle.script_grammar.specs.declared.command.Shape.{Shape}
+use Rattle.script_grammar.specs.declared.command.Shape.TheVariants as shape
 use Rattle.script_grammar.specs.declared.refusal.Refusal.{Refusal}
 use Rattle.plain_machine.specs.declared.limits.TheConstants.{MOST_PLACES, MOST_FILL, MOST_ARITY, MOST_BYTE}
 use Rattle.plain_machine.specs.declared.costs.TheConstants.{COUNTED_COST, MESSAGE_COST}
@@ -40,8 +41,8 @@ use Rattle.script_grammar.specs.Written.{Term, Terms, terms_len}
 use Rattle.script_grammar.specs.Names.{Parsed, items_of, held_terms}
 use Rattle.plain_machine.specs.State.{Process, Area, State, is_live, process_of, with_process, with_queued, register, with_register}
 use Rattle.plain_machine.specs.Step.{Outcome, step, in_process, by_verb, settled, does, with_made, unless_flawed, choose, fill_if, fun_if, env_of, put_into, repeat_if, send_within, send_to, tells, unless_beyond, order_text, flat_text}
-use Rattle.plain_machine.specs.Tightness.{grow, receiver, send_words, process_words, build_words, repeat_words, fill_words, ids_in, funs_in, held_trees, living_trees}
-use Rattle.plain_machine.specs.May.{gets_to_space}
+use Rattle.plain_machine.specs.Tightness.{grow, receiver, send_words, process_words, build_words, repeat_words, fill_words, demand, ids_in, funs_in, held_trees, living_trees}
+use Rattle.plain_machine.specs.May.{gets_to_space, is_purge, may_of_tight}
 use Rattle.space_api.specs.declared.space.Seat.{Seat}
 use Rattle.space_api.specs.declared.space.Stop.TheVariants.{Fault}
 use Rattle.space_api.specs.Calls.{Becomes, Follows, Passes, Prints, Tells, HasEnv, IsWrittenTerm, said, one_term}
@@ -76,6 +77,19 @@ none-counted alive items s h = record {
         ap (λ (qs : List Process). flat_map f (flat_map held_trees qs ++ flat_map (λ (a : Area). a.literals) s.areas)) h.processes
         ∙ ap (λ (xs : List Area). flat_map f (flat_map held_trees (processes_of alive items) ++ flat_map (λ (a : Area). a.literals) xs)) h.areas
         ∙ of-processes f alive e
+
+-- Where there is no word, each line that asks for some is tight.
+all-true : (a b c d : Bool) → a ≡ true → b ≡ true → d ≡ true → (a && ((b || c) && d)) ≡ true
+all-true true true c true x y z = refl
+all-true true true c false x y z = z
+all-true true false c d x y z = absurd (false≢true y)
+all-true false b c d x y z = absurd (false≢true x)
+
+pub may-lack : (s : State) (p : Parsed) → 0 < grow s p → gets_to_space p.command (step s p) ≡ true → may_of_tight 0 s p ≡ true
+may-lack s p some gets =
+    let tight : 0 < 2 * (demand s + grow s p) = omega (arith, some) in
+    all-true (nat_lt 0 (2 * (demand s + grow s p))) (nat_lt 0 (grow s p)) (is_purge p.command) (gets_to_space p.command (step s p)) (lt-ltb 0 (2 * (demand s + grow s p)) tight)
+    (lt-ltb 0 (grow s p) some) gets
 
 module _ (alive : Bool) (items : List Item) (s : State) (seat : Seat) (h : TrialStands alive items s) (l : TrialSits alive seat) where
   -- The process, where it lives, is the only one, and it is found by its number.
@@ -115,18 +129,18 @@ module _ (alive : Bool) (items : List Item) (s : State) (seat : Seat) (h : Trial
   asks : (v : Verb) (terms : Terms) (names : List (List ℕ)) → grow s (said (OfProcess seat.pid v) terms names) ≡ process_words (Some (one_process items)) s (said (OfProcess seat.pid v) terms names) v
   asks v terms names = ap (λ o. process_words o s (said (OfProcess seat.pid v) terms names) v) found
 
-  -- A line that is not refused for another cause may be answered that there is no space.
-  pub lacks : (v : Verb) (terms : Terms) (names : List (List ℕ)) (n : ℕ) → process_words (Some (one_process items)) s (said (OfProcess seat.pid v) terms names) v ≡ n
+  -- A line that asks for words, and is not refused for another cause, may be answered that there is no space: there is no word.
+  pub lacks : (v : Verb) (terms : Terms) (names : List (List ℕ)) (n : ℕ) → process_words (Some (one_process items)) s (said (OfProcess seat.pid v) terms names) v ≡ n → 0 < n
       → gets_to_space (OfProcess seat.pid v) (by_verb s (said (OfProcess seat.pid v) terms names) (one_process items) v) ≡ true
-      → Becomes {A = Unit {0}} (λ words s p. gets_to_space p.command (step s p)) 0 s (said (OfProcess seat.pid v) terms names) (Err (refusal.NoSpace n)) (TrialStands alive items)
-  lacks v terms names n e gets =
+      → Becomes {A = Unit {0}} 0 s (said (OfProcess seat.pid v) terms names) (Err (refusal.NoSpace n)) (TrialStands alive items)
+  lacks v terms names n e some gets =
       let p : Parsed = said (OfProcess seat.pid v) terms names in
-      inr (at-process (λ o. gets_to_space (OfProcess seat.pid v) o ≡ true) p v gets, ap refusal.NoSpace (sym (asks v terms names ∙ e)), h)
+      inr (may-lack s p (omega (arith, some, asks v terms names ∙ e)) (at-process (λ o. gets_to_space (OfProcess seat.pid v) o ≡ true) p v gets), ap refusal.NoSpace (sym (asks v terms names ∙ e)), h)
 
   -- `set`.
-  pub build-lacks : (r : Reg) (t : Term) (names : List (List ℕ)) (code : List Item) (n : ℕ) → IsWrittenTerm names code t → length code ≤ LONGEST_LINE → n + 1 ≡ weight code
-      → Becomes {A = Unit {0}} (λ words s p. gets_to_space p.command (step s p)) 0 s (said (OfProcess seat.pid (verb.Set r)) (one_term t) names) (Err (refusal.NoSpace n)) (TrialStands alive items)
-  build-lacks r t names code n is few heavy = lacks (verb.Set r) (one_term t) names n (omega (arith, heavy, weight-term names t (code-few names t code is few), ap weight is.items))
+  pub build-lacks : (r : Reg) (t : Term) (names : List (List ℕ)) (code : List Item) (n : ℕ) → IsWrittenTerm names code t → length code ≤ LONGEST_LINE → n + 1 ≡ weight code → 0 < n
+      → Becomes {A = Unit {0}} 0 s (said (OfProcess seat.pid (verb.Set r)) (one_term t) names) (Err (refusal.NoSpace n)) (TrialStands alive items)
+  build-lacks r t names code n is few heavy some = lacks (verb.Set r) (one_term t) names n (omega (arith, heavy, weight-term names t (code-few names t code is few), ap weight is.items)) some
       (set-gets (is_big names (map alone items) t s.shared) (is_wide names (map alone items) t s.shared))
     where
       set-gets : (big wide : Bool) → gets_to_space (OfProcess seat.pid (verb.Set r)) (unless_flawed (flaw_of big wide)
@@ -137,7 +151,7 @@ module _ (alive : Bool) (items : List Item) (s : State) (seat : Seat) (h : Trial
 
   pub build-holds : (r : Reg) (t : Term) (names : List (List ℕ)) (code : List Item) (d x : Item) → IsWrittenTerm names code t → length code ≤ LONGEST_LINE → x ≡ put_item items (get_or code 0 d)
       → weight code ≤ 1
-      → Becomes {A = Unit {0}} (λ words s p. gets_to_space p.command (step s p)) 0 s (said (OfProcess seat.pid (verb.Set r)) (one_term t) names) (Ok tt) (TrialStands alive (set items r.0 x))
+      → Becomes {A = Unit {0}} 0 s (said (OfProcess seat.pid (verb.Set r)) (one_term t) names) (Ok tt) (TrialStands alive (set items r.0 x))
   build-holds r t names code d x is few put light =
       let none : build_words t ≡ 0 = omega (arith, weight-term names t (code-few names t code is few), ap weight is.items) in
       let single = alone-is names items LEVELS t s.shared d is.built is.allowed none in
@@ -167,10 +181,14 @@ module _ (alive : Bool) (items : List Item) (s : State) (seat : Seat) (h : Trial
       at-process (λ o. Follows {A = Unit {0}} o s (Err refusal.BadArg) (TrialStands alive items)) p (verb.Fill r len byte) (subst P (sym bad) (refl, h))
 
   pub fill-lacks : (r : Reg) (len byte : ℕ) (terms : Terms) (names : List (List ℕ)) → (nat_lt MOST_FILL len || nat_lt MOST_BYTE byte) ≡ false
-      → Becomes {A = Unit {0}} (λ words s p. gets_to_space p.command (step s p)) 0 s (said (OfProcess seat.pid (verb.Fill r len byte)) terms names)
+      → Becomes {A = Unit {0}} 0 s (said (OfProcess seat.pid (verb.Fill r len byte)) terms names)
       (Err (refusal.NoSpace (fill_words len))) (TrialStands alive items)
-  fill-lacks r len byte terms names good = lacks (verb.Fill r len byte) terms names (fill_words len) refl (gets (nat_lt MOST_FILL len || nat_lt MOST_BYTE byte) good)
+  fill-lacks r len byte terms names good = lacks (verb.Fill r len byte) terms names (fill_words len) refl (some-filled (nat_le len 64)) (gets (nat_lt MOST_FILL len || nat_lt MOST_BYTE byte) good)
     where
+      some-filled : (b : Bool) → 0 < (if b then 2 + bin_words len else COUNTED_COST + bin_words len)
+      some-filled true = omega arith
+      some-filled false = omega arith
+
       gets : (b : Bool) → b ≡ false → gets_to_space (OfProcess seat.pid (verb.Fill r len byte))
           (fill_if b (replicate len byte) s (said (OfProcess seat.pid (verb.Fill r len byte)) terms names) (one_process items) r.0) ≡ true
       gets true e = absurd (cc)
@@ -190,10 +208,10 @@ module _ (alive : Bool) (items : List Item) (s : State) (seat : Seat) (h : Trial
   held-count (x ∷ rs) = omega (arith, held-count rs)
 
   pub fun-lacks : (r : Reg) (name arity n : ℕ) (env : List Item) (terms : Terms) (names : List (List ℕ)) → HasEnv names name env terms → n ≡ COUNTED_COST + length env → arity ≤ MOST_ARITY
-      → Becomes {A = Unit {0}} (λ words s p. gets_to_space p.command (step s p)) 0 s (said (OfProcess seat.pid (verb.Fun r name arity)) terms names) (Err (refusal.NoSpace n)) (TrialStands alive items)
+      → Becomes {A = Unit {0}} 0 s (said (OfProcess seat.pid (verb.Fun r name arity)) terms names) (Err (refusal.NoSpace n)) (TrialStands alive items)
   fun-lacks r name arity n env terms names e count few =
       lacks (verb.Fun r name arity) terms names n
-      (omega (arith, count, ap terms_len e.written, held-count e.registers, ap (λ (xs : List Item). length xs) e.items, length-map e.registers item.Held))
+      (omega (arith, count, ap terms_len e.written, held-count e.registers, ap (λ (xs : List Item). length xs) e.items, length-map e.registers item.Held)) (omega (arith, count))
       (gets (nat_lt MOST_ARITY arity) (le-ltb MOST_ARITY arity few))
     where
       gets : (b : Bool) → b ≡ false → gets_to_space (OfProcess seat.pid (verb.Fun r name arity))
@@ -231,15 +249,36 @@ module _ (alive : Bool) (items : List Item) (s : State) (seat : Seat) (h : Trial
       let P : Bool → Type 0 = λ b. Follows {A = Unit {0}} (repeat_if b (repeated shape n (register m.0 q)) s p q r.0) s (Err refusal.BadArg) (TrialStands alive items) in
       at-process (λ o. Follows {A = Unit {0}} o s (Err refusal.BadArg) (TrialStands alive items)) p (verb.Repeat r shape n m) (subst P (sym (lt-ltb MOST_PLACES n many)) (refl, h))
 
-  pub repeat-lacks : (r m : Reg) (shape : Shape) (n : ℕ) (terms : Terms) (names : List (List ℕ)) → n ≤ MOST_PLACES
-      → Becomes {A = Unit {0}} (λ words s p. gets_to_space p.command (step s p)) 0 s (said (OfProcess seat.pid (verb.Repeat r shape n m)) terms names)
+  pub repeat-lacks : (r m : Reg) (shape : Shape) (n : ℕ) (terms : Terms) (names : List (List ℕ)) → n ≤ MOST_PLACES → (repeat_words shape n ≡ 0 → ⊥)
+      → Becomes {A = Unit {0}} 0 s (said (OfProcess seat.pid (verb.Repeat r shape n m)) terms names)
       (Err (refusal.NoSpace (repeat_words shape n))) (TrialStands alive items)
-  repeat-lacks r m shape n terms names few = lacks (verb.Repeat r shape n m) terms names (repeat_words shape n) refl (gets (nat_lt MOST_PLACES n) (le-ltb MOST_PLACES n few))
+  repeat-lacks r m shape n terms names few some = lacks (verb.Repeat r shape n m) terms names (repeat_words shape n) refl (omega (arith, some)) (gets (nat_lt MOST_PLACES n) (le-ltb MOST_PLACES n few))
     where
       gets : (b : Bool) → b ≡ false → gets_to_space (OfProcess seat.pid (verb.Repeat r shape n m))
           (repeat_if b (repeated shape n (register m.0 (one_process items))) s (said (OfProcess seat.pid (verb.Repeat r shape n m)) terms names) (one_process items) r.0) ≡ true
       gets true e = absurd (cc)
       gets false e = refl
+
+  -- A list of no place asks for no word.
+  none-repeated : (shape : Shape) (n : ℕ) (t : Tree) → repeat_words shape n ≡ 0 → repeated shape n t ≡ Nil
+  none-repeated shape.Tuple n t e = absurd (omega (arith, e))
+  none-repeated shape.List zero t e = refl
+  none-repeated shape.List (suc n) t e = absurd (omega (arith, e))
+
+  pub repeat-holds : (r m : Reg) (shape : Shape) (n : ℕ) (terms : Terms) (names : List (List ℕ)) → n ≤ MOST_PLACES → repeat_words shape n ≡ 0
+      → Becomes {A = Unit {0}} 0 s (said (OfProcess seat.pid (verb.Repeat r shape n m)) terms names) (Ok tt) (TrialStands alive (set items r.0 item.Nil))
+  repeat-holds r m shape n terms names few none =
+      let p : Parsed = said (OfProcess seat.pid (verb.Repeat r shape n m)) terms names in
+      let q : Process = one_process items in
+      let F : Outcome → Type 0 = λ o. Follows {A = Unit {0}} o s (Ok tt) (TrialStands alive (set items r.0 item.Nil)) in
+      let P : Bool → Type 0 = λ b. F (repeat_if b (repeated shape n (register m.0 q)) s p q r.0) in
+      let Q : Tree → Type 0 = λ t. F (repeat_if false t s p q r.0) in
+      inl (at-process F p (verb.Repeat r shape n m) (subst P (sym (le-ltb MOST_PLACES n few)) (subst Q (sym (none-repeated shape n (register m.0 q) none)) (record {
+        processes = held r.0 Nil item.Nil refl;
+        next = h.next;
+        shared = h.shared;
+        areas = h.areas;
+      }))))
 
   -- `send`.
   pub send-refused : (m : Reg) (to : To) (terms : Terms) (names : List (List ℕ)) → receiver to (one_process items) ≡ None
@@ -278,7 +317,7 @@ module _ (alive : Bool) (items : List Item) (s : State) (seat : Seat) (h : Trial
       same n t e = ap (map (with_queued n t)) only ∙ (stays (1 == n) t e ∙ ap (λ z. processes_of z items) (sym l.lives))
 
   pub send-lacks : (m : Reg) (to : To) (n : ℕ) (terms : Terms) (names : List (List ℕ)) → receiver to (one_process items) ≡ Some 1 → n ≡ MESSAGE_COST + flat (alone (get_or items m.0 item.Nil))
-      → Becomes {A = Unit {0}} (λ words s p. gets_to_space p.command (step s p)) 0 s (said (OfProcess seat.pid (verb.Send m to)) terms names)
+      → Becomes {A = Unit {0}} 0 s (said (OfProcess seat.pid (verb.Send m to)) terms names)
       (Err (refusal.NoSpace n)) (TrialStands alive items)
   send-lacks m to n terms names goes count =
       let p : Parsed = said (OfProcess seat.pid (verb.Send m to)) terms names in
@@ -291,7 +330,7 @@ module _ (alive : Bool) (items : List Item) (s : State) (seat : Seat) (h : Trial
       let asked : send_words (receiver to (one_process items)) s (register m.0 (one_process items)) ≡ n =
       ap (λ o. send_words o s (register m.0 (one_process items))) goes
       ∙ (ap (λ b. if b then MESSAGE_COST + flat (register m.0 (one_process items)) else 0) alive ∙ (ap (λ t. MESSAGE_COST + flat t) (in-register m.0) ∙ sym count)) in
-      lacks (verb.Send m to) terms names n asked (subst P (sym goes) (subst Q (sym (in-register m.0)) (subst R (sym (near s.shared x)) refl)))
+      lacks (verb.Send m to) terms names n asked (omega (arith, count)) (subst P (sym goes) (subst Q (sym (in-register m.0)) (subst R (sym (near s.shared x)) refl)))
 
   -- `flat`.
   pub flat-told : (m : Reg) (terms : Terms) (names : List (List ℕ)) (n : ℕ) → n ≡ flat (alone (get_or items m.0 item.Nil))

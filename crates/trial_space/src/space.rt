@@ -24,8 +24,7 @@ use std::cmp::Ordering;
 // How many registers the process has.
 const SLOTS: usize = REGISTERS as usize;
 
-/// Process 1 alone, with one item in each register, and no word of memory: what asks for words is refused, and every list that
-/// is made of one term.
+/// Process 1 alone, with one item in each register, and no word of memory: what asks for words is refused.
 #[derive(Drop)]
 pub struct TrialSpace {
     alive: bool,
@@ -92,8 +91,6 @@ impl TrialSpace {
 
 impl Space for TrialSpace {
     ghost use Rattle.std.specs.Prelude.{codes};
-    ghost use Rattle.plain_machine.specs.May.{gets_to_space};
-    ghost use Rattle.plain_machine.specs.Step.{step};
     ghost use Rattle.space_api.specs.Calls.{Properly};
     ghost use Rattle.trial_space.specs.Items.{TrialSits, TrialStands};
 
@@ -106,8 +103,6 @@ impl Space for TrialSpace {
     ghost named = { λ b. b.named };
 
     ghost calls = { λ b. 0 };
-
-    ghost may = { λ words s p. gets_to_space p.command (step s p) };
 
     ghost text = { λ b names c. codes "bins [] funs []" };
 
@@ -207,7 +202,12 @@ impl Space for TrialSpace {
         if n > MOST_PLACES {
             return Err(Refusal::BadArg);
         }
-        Err(Refusal::NoSpace(many_words(shape, n)))
+        let words = many_words(shape, n);
+        if words == 0 {
+            self.registers[r.0 as usize] = Item::Nil;
+            return Ok(());
+        }
+        Err(Refusal::NoSpace(words))
     }
 
     fn own_pid(&mut self, seat: Seat, r: Reg) {

@@ -20,7 +20,7 @@ const REPLIES: &[u8] =
 
 // The verbs on terms: what needs no word is done, and each refusal stands before the want of words.
 const VERBS: &[u8] =
-    b"1 set 0 a\n1 set 1 $0\n1 print 1\n1 eq 0 1\n1 set 1 b\n1 eq 0 1\n1 cmp 0 1\n1 cmp 1 0\n1 cmp 1 1\n1 self 2\n1 cmp 0 2\n1 cmp 3 2\n1 set 4 -9\n1 set 5 7\n1 cmp 4 5\n1 flat 4\n1 hd 0 0\n1 elem 0 1 0\n1 mapget 0 0 0\n1 mapput 0 0 0 0\n1 ref 0\n1 mktuple 0 2 0\n1 mklist 0 2 0\n1 mklist 0 65537 0\n1 set 0 576460752303423488\n1 set 0 [a|b]\n1 set 0 #{a=>$0,b=>{}}\n1 print 0\n";
+    b"1 set 0 a\n1 set 1 $0\n1 print 1\n1 eq 0 1\n1 set 1 b\n1 eq 0 1\n1 cmp 0 1\n1 cmp 1 0\n1 cmp 1 1\n1 self 2\n1 cmp 0 2\n1 cmp 3 2\n1 set 4 -9\n1 set 5 7\n1 cmp 4 5\n1 flat 4\n1 hd 0 0\n1 elem 0 1 0\n1 mapget 0 0 0\n1 mapput 0 0 0 0\n1 ref 0\n1 mktuple 0 2 0\n1 mklist 0 2 0\n1 mklist 0 65537 0\n1 mklist 6 0 0\n1 print 6\n1 set 0 576460752303423488\n1 set 0 [a|b]\n1 set 0 #{a=>$0,b=>{}}\n1 print 0\n";
 
 // Binaries, parts, funs and counts: the bounds of a line stand before the want of words.
 const BINARIES: &[u8] =
@@ -37,7 +37,7 @@ const SENT: &[u8] =
     b"error nospace 8\nok\nerror badarg\nok\nerror nospace 8\nok\nok\nerror empty\n[]\n";
 
 const TOLD: &[u8] =
-    b"ok\nok\na\ntrue\nok\nfalse\nlt\ngt\neq\nok\nlt\ngt\nok\nok\nlt\n0\nerror badarg\nerror badarg\nerror badarg\nerror badarg\nerror nospace 3\nerror nospace 3\nerror nospace 4\nerror badarg\nerror nospace 2\nerror nospace 2\nerror nospace 9\na\n";
+    b"ok\nok\na\ntrue\nok\nfalse\nlt\ngt\neq\nok\nlt\ngt\nok\nok\nlt\n0\nerror badarg\nerror badarg\nerror badarg\nerror badarg\nerror nospace 3\nerror nospace 3\nerror nospace 4\nerror badarg\nok\n[]\nerror nospace 2\nerror nospace 2\nerror nospace 9\na\n";
 
 // A script, the replies to its lines, and what they show.
 struct Case {

@@ -10,7 +10,6 @@ use Rattle.script_grammar.specs.declared.command.Depth.{Depth}
 use Rattle.script_grammar.specs.declared.refusal.Refusal.{Refusal}
 use Rattle.script_grammar.specs.Written.{Terms}
 use Rattle.plain_machine.specs.State.{HasNames, Process, State, fresh_process, first_state}
-use Rattle.plain_machine.specs.May.{may_of_tight}
 use Rattle.plain_machine.specs.Step.{in_process, step}
 use Rattle.plain_machine.proofs.ByLine.Commands.{TermsOf}
 use Rattle.space_api.specs.Calls.{AreRising, Becomes, Follows, Passes, Properly, said}
@@ -33,11 +32,11 @@ use Rattle.one_space.proofs.Processes.Seated.{found-there}
 
 -- A call of what the space holds is one of the space, all of whose trees are proper.
 module _ (a b : One) (same : a ≡ b) (c : Command) (terms : Terms) (names : List (List ℕ)) (s : State) (h : Properly (OneStands b) s) (has : HasNames s names) (made : TermsOf c terms names) where
-  pub becomes-so : {A : Type 0} (r : Result A Refusal) (Stands : State → Type 0) → (OneStands a s → Becomes may_of_tight (words_of a) s (said c terms names) r Stands)
-      → Becomes may_of_tight (words_of b) s (said c terms names) r (Properly Stands)
+  pub becomes-so : {A : Type 0} (r : Result A Refusal) (Stands : State → Type 0) → (OneStands a s → Becomes (words_of a) s (said c terms names) r Stands)
+      → Becomes (words_of b) s (said c terms names) r (Properly Stands)
   becomes-so r Stands f =
-      let P : One → Type 0 = λ x. OneStands x s → Becomes may_of_tight (words_of x) s (said c terms names) r Stands in
-      becomes-proper s c terms names h.1 has made may_of_tight (words_of b) r Stands (subst P same f h.0)
+      let P : One → Type 0 = λ x. OneStands x s → Becomes (words_of x) s (said c terms names) r Stands in
+      becomes-proper s c terms names h.1 has made (words_of b) r Stands (subst P same f h.0)
 
   pub passes-so : (Stands : State → Type 0) → (OneStands a s → Passes (step s (said c terms names)) Stands) → Passes (step s (said c terms names)) (Properly Stands)
   passes-so Stands f =

@@ -20,7 +20,7 @@ use Rattle.script_grammar.specs.Names.{Parsed}
 use Rattle.plain_machine.specs.State.{Process, State, fresh_process, process_of, register}
 use Rattle.plain_machine.specs.Step.{in_process, spawn_if, step}
 use Rattle.plain_machine.specs.Tightness.{grow, process_words}
-use Rattle.plain_machine.specs.May.{gets_to_space, may_of_tight}
+use Rattle.plain_machine.specs.May.{gets_to_space}
 use Rattle.plain_machine.proofs.Properly.Holding.{spawned-within}
 use Rattle.space_api.specs.Calls.{AreRising, Becomes, Follows, said}
 use Rattle.space_api.specs.declared.space.Seat.{Seat}
@@ -47,7 +47,7 @@ use Rattle.one_space.proofs.Processes.Seated.{count-there, found-there, number-t
 use Rattle.one_space.proofs.Processes.Turning.{pushed, pushed-apart, pushed-len, with_stack, words}
 
 -- A space that stands for something after a call.
-pub holds-become : {A : Type 0} (words : ℕ) (b : One) (s : State) (line : Parsed) (r : Result A Refusal) → IsCounted b → Becomes may_of_tight words s line r (OneStands b) → Holds b
+pub holds-become : {A : Type 0} (words : ℕ) (b : One) (s : State) (line : Parsed) (r : Result A Refusal) → IsCounted b → Becomes words s line r (OneStands b) → Holds b
 holds-become words b s line r counts f = let t = becomes-some words s line r (OneStands b) f in record { counts = counts; state = t.0; stands = t.1 }
 
 -- What a line asks for where its process lives.
@@ -81,7 +81,7 @@ module _ (b : One) (holds : Holds b) (n : ℕ) (h : Halves) (ok : Bool) (room : 
     some-words = omega (arith, leb-false n (free_in h) (sym room.answer ∙ lacking))
 
     pub lacks-space : (A : Type 0) (s : State) (line : Parsed) (g : ℕ) → OneStands b s → grow s line ≡ g → LooksFor s g n → 0 < g → gets_to_space line.command (step s line) ≡ true
-        → Becomes {A = A} may_of_tight (words_of b) s line (Err (refusal.NoSpace g)) (OneStands (roomed b h))
+        → Becomes {A = A} (words_of b) s line (Err (refusal.NoSpace g)) (OneStands (roomed b h))
     lacks-space A s line g o asked looks some gets = no-space A (words_of b) (roomed b h) s line g (roomed-there s o) asked (room.tight b.named s g o.processes o.areas looks lacking) some gets
 
     pub refused-does : (A : Type 0) (c : Command) (g : ℕ) → 0 < g
@@ -135,7 +135,7 @@ module _ (b : One) (holds : Holds b) (seat : Seat) (x : Sits b seat) (r : Reg) (
     order = omega (arith, room.laid.fits)
 
     push-becomes : (s : State) (terms : Terms) (names : List (List ℕ)) → OneStands b s
-        → Becomes {A = Unit {0}} may_of_tight (words_of b) s (said (OfProcess seat.pid (verb.Push r)) terms names) (Ok tt)
+        → Becomes {A = Unit {0}} (words_of b) s (said (OfProcess seat.pid (verb.Push r)) terms names) (Ok tt)
         (OneStands (after b (laid_out h mem2 h.top (h.low - 2) (with_item h.procs seat.row (with_stack p (h.low - 2) (p.depth + 1))))))
     push-becomes s terms names o =
         let b2 : One = after b (laid_out h mem2 h.top (h.low - 2) (with_item h.procs seat.row (with_stack p (h.low - 2) (p.depth + 1)))) in
@@ -247,7 +247,7 @@ module _ (b : One) (holds : Holds b) where
       counts2 : IsCounted (roomed b h)
       counts2 = counts-there b holds 14 h ok room
 
-      spawn-becomes : (s : State) (terms : Terms) (names : List (List ℕ)) → OneStands b s → Becomes {A = ℕ} may_of_tight (words_of b) s (said (System sysverb.Spawn) terms names) (Ok b.next)
+      spawn-becomes : (s : State) (terms : Terms) (names : List (List ℕ)) → OneStands b s → Becomes {A = ℕ} (words_of b) s (said (System sysverb.Spawn) terms names) (Ok b.next)
           (OneStands (spawned b (laid_out h h.mem h.top h.low v) spare))
       spawn-becomes s terms names o =
           let b2 : One = spawned b (laid_out h h.mem h.top h.low v) spare in

@@ -15,7 +15,6 @@ use Rattle.term_build.specs.Grows.{Built}
 use Rattle.term_build.specs.Clear.{IsRoom, Uses}
 use Rattle.plain_machine.specs.State.{Process, State, process_of, with_process, with_register}
 use Rattle.plain_machine.specs.Step.{settled}
-use Rattle.plain_machine.specs.May.{may_of_tight}
 use Rattle.space_api.specs.Calls.{said, Becomes}
 use Rattle.space_api.specs.declared.space.Seat.{Seat}
 use Rattle.two_halves.specs.Halves.{HalvesStand, HoldsTree, IsLaid, ProcsStand, end_of, places_in}
@@ -110,7 +109,7 @@ module _ (b : One) (holds : Holds b) (seat : Seat) (x : Sits b seat) (n : ℕ) (
       -- A verb after which the space stands for its state does what it says.
       pub term-does : (v : Verb) → made ≤ b.calls + 1
           → ((s : State) (terms : Terms) (names : List (List ℕ)) → OneStands b s
-          → Becomes {A = Unit {0}} may_of_tight (words_of b) s (said (OfProcess seat.pid v) terms names) (Ok tt) (OneStands (built_in b h2 row b.named)))
+          → Becomes {A = Unit {0}} (words_of b) s (said (OfProcess seat.pid v) terms names) (Ok tt) (OneStands (built_in b h2 row b.named)))
           → Does {A = Unit {0}} (OfProcess seat.pid v) b (built_in b h2 row b.named) (Ok tt)
       term-does v most stands = record {
         holds = holds-become {A = Unit {0}} (words_of b) (built_in b h2 row b.named) holds.state (said (OfProcess seat.pid v) end []) (Ok tt) (term-counts b.named most)

@@ -114,7 +114,7 @@ all-true true false c d x y z = absurd (false≢true y)
 all-true false b c d x y z = absurd (false≢true x)
 
 pub no-space : (A : Type 0) (words : ℕ) (new : One) (s : State) (p : Parsed) (n : ℕ) → OneStands new s → grow s p ≡ n → words < 2 * (demand s + n) → 0 < n → gets_to_space p.command (step s p) ≡ true
-    → Becomes {A = A} may_of_tight words s p (Err (NoSpace n)) (OneStands new)
+    → Becomes {A = A} words s p (Err (NoSpace n)) (OneStands new)
 no-space A words new s p n o is tight some gets =
     let more : words < 2 * (demand s + grow s p) = omega (arith, tight, is) in
     let asks : 0 < grow s p = omega (arith, some, is) in
@@ -136,7 +136,7 @@ passes-some (Accepted next reply) Stands f = (next, f)
 passes-some (Refused x) Stands f = absurd f
 passes-some Mapped Stands f = absurd f
 
-pub becomes-some : {A : Type 0} (words : ℕ) (s : State) (p : Parsed) (r : Result A Refusal) (Stands : State → Type 0) → Becomes may_of_tight words s p r Stands → (t : State) × Stands t
+pub becomes-some : {A : Type 0} (words : ℕ) (s : State) (p : Parsed) (r : Result A Refusal) (Stands : State → Type 0) → Becomes words s p r Stands → (t : State) × Stands t
 becomes-some words s p r Stands (inl f) = follows-some (step s p) s r Stands f
 becomes-some words s p (Ok a) Stands (inr f) = absurd f
 becomes-some words s p (Err e) Stands (inr f) = (s, f.2)

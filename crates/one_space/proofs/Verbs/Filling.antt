@@ -23,7 +23,7 @@ use Rattle.plain_machine.specs.Made.{bin_tree}
 use Rattle.plain_machine.specs.State.{Process, State}
 use Rattle.plain_machine.specs.Tightness.{fill_words}
 use Rattle.plain_machine.specs.Step.{does, fill_if, in_process, with_made}
-use Rattle.plain_machine.specs.May.{gets_to_space, may_of_tight}
+use Rattle.plain_machine.specs.May.{gets_to_space}
 use Rattle.space_api.specs.Calls.{Becomes, Follows, said}
 use Rattle.space_api.specs.declared.space.Seat.{Seat}
 use Rattle.two_halves.specs.Halves.{HalvesStand, end_of}
@@ -120,7 +120,7 @@ module _ (b : One) (holds : Holds b) (seat : Seat) (x : Sits b seat) (r : Reg) (
       used-few = omega (arith, words, heap-words len few)
 
       small-stands : (s : State) (terms : Terms) (names : List (List ℕ)) → OneStands b s
-          → Becomes {A = Unit {0}} may_of_tight (words_of b) s (said (OfProcess seat.pid v) terms names) (Ok tt) (OneStands (after b h3))
+          → Becomes {A = Unit {0}} (words_of b) s (said (OfProcess seat.pid v) terms names) (Ok tt) (OneStands (after b h3))
       small-stands s terms names o =
           let o1 : OneStands (roomed b h) s = roomed-there b holds g h ok room s o in
           let counts1 : IsCounted (roomed b h) = counts-there b holds g h ok room in
@@ -160,7 +160,7 @@ module _ (b : One) (holds : Holds b) (seat : Seat) (x : Sits b seat) (r : Reg) (
       b4 = gained b (with_reg h4 seat.row p2 r.0 w) b.row (b.serials + 1) b.named
 
       long-stands : (s : State) (terms : Terms) (names : List (List ℕ)) → OneStands b s
-          → Becomes {A = Unit {0}} may_of_tight (words_of b) s (said (OfProcess seat.pid v) terms names) (Ok tt) (OneStands b4)
+          → Becomes {A = Unit {0}} (words_of b) s (said (OfProcess seat.pid v) terms names) (Ok tt) (OneStands b4)
       long-stands s terms names o =
           let o1 : OneStands (roomed b h) s = roomed-there b holds g h ok room s o in
           let counts1 : IsCounted (roomed b h) = counts-there b holds g h ok room in

@@ -21,7 +21,7 @@ use Rattle.plain_machine.specs.declared.limits.TheConstants.{MOST_ARITY}
 use Rattle.plain_machine.specs.Made.{trees_of_terms}
 use Rattle.plain_machine.specs.State.{Process, State, register}
 use Rattle.plain_machine.specs.Step.{env_of, fun_if, in_process}
-use Rattle.plain_machine.specs.May.{gets_to_space, may_of_tight}
+use Rattle.plain_machine.specs.May.{gets_to_space}
 use Rattle.space_api.specs.Calls.{Becomes, Follows, HasEnv, IsEnv, said}
 use Rattle.space_api.specs.declared.space.Seat.{Seat}
 use Rattle.two_halves.specs.Halves.{HalvesStand, HoldsTree, end_of}
@@ -103,7 +103,7 @@ module _ (b : One) (holds : Holds b) (seat : Seat) (x : Sits b seat) (r : Reg) (
   v = verb.Fun r name arity
 
   pub fun-refused : MOST_ARITY < arity → (s : State) (terms : Terms) (names : List (List ℕ)) → OneStands b s → HasEnv names name env terms
-      → Becomes {A = Unit {0}} may_of_tight (words_of b) s (said (OfProcess seat.pid v) terms names) (Err refusal.BadArg) (OneStands b)
+      → Becomes {A = Unit {0}} (words_of b) s (said (OfProcess seat.pid v) terms names) (Err refusal.BadArg) (OneStands b)
   fun-refused many s terms names o has =
       let q : Process = get_or s.processes seat.row no_process in
       let line = said (OfProcess seat.pid v) terms names in
@@ -116,7 +116,7 @@ module _ (b : One) (holds : Holds b) (seat : Seat) (x : Sits b seat) (r : Reg) (
     asked names terms has = ap terms_len has.written ∙ terms-len has.registers ∙ sym (ap length has.items ∙ length-map has.registers item.Held)
 
     pub fun-lacks : ok ≡ false → (s : State) (terms : Terms) (names : List (List ℕ)) → OneStands b s → HasEnv names name env terms
-        → Becomes {A = Unit {0}} may_of_tight (words_of b) s (said (OfProcess seat.pid v) terms names) (Err (refusal.NoSpace g)) (OneStands (roomed b h))
+        → Becomes {A = Unit {0}} (words_of b) s (said (OfProcess seat.pid v) terms names) (Err (refusal.NoSpace g)) (OneStands (roomed b h))
     fun-lacks lacking s terms names o has =
         let q : Process = get_or s.processes seat.row no_process in
         let line = said (OfProcess seat.pid v) terms names in
@@ -156,7 +156,7 @@ module _ (b : One) (holds : Holds b) (seat : Seat) (x : Sits b seat) (r : Reg) (
       b4 = gained b (with_reg h4 seat.row p2 r.0 w) row b.serials named2
 
       pub fun-stands : (s : State) (terms : Terms) (names : List (List ℕ)) → OneStands b s → HasEnv names name env terms
-          → Becomes {A = Unit {0}} may_of_tight (words_of b) s (said (OfProcess seat.pid v) terms names) (Ok tt) (OneStands b4)
+          → Becomes {A = Unit {0}} (words_of b) s (said (OfProcess seat.pid v) terms names) (Ok tt) (OneStands b4)
       unfolding raised
       fun-stands s terms names o has =
           let o1 : OneStands (roomed b h) s = roomed-there b holds g h ok room s o in

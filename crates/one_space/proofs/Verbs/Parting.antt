@@ -23,7 +23,7 @@ use Rattle.term_build.specs.Clear.{Uses}
 use Rattle.plain_machine.specs.Parts.{part_in}
 use Rattle.plain_machine.specs.State.{Process, State, register}
 use Rattle.plain_machine.specs.Step.{choose, in_process}
-use Rattle.plain_machine.specs.May.{gets_to_space, may_of_tight}
+use Rattle.plain_machine.specs.May.{gets_to_space}
 use Rattle.term_verbs.specs.Cut.{HasPart}
 use Rattle.space_api.specs.Calls.{Becomes, Follows, said}
 use Rattle.space_api.specs.declared.space.Seat.{Seat}
@@ -138,7 +138,7 @@ module _ (b : One) (holds : Holds b) (seat : Seat) (x : Sits b seat) (r m : Reg)
         h3 = laid_out h mem2 z.top h.low (with_item h.procs seat.row (with_term p3 r.0 w p3.refs))
 
         cut-stands : (s : State) (terms : Terms) (names : List (List ℕ)) → OneStands b s
-            → Becomes {A = Unit {0}} may_of_tight (words_of b) s (said (OfProcess seat.pid v) terms names) (Ok tt) (OneStands (after b h3))
+            → Becomes {A = Unit {0}} (words_of b) s (said (OfProcess seat.pid v) terms names) (Ok tt) (OneStands (after b h3))
         cut-stands s terms names o =
             let o1 : OneStands (roomed b h) s = roomed-there b holds 5 h ok room s o in
             let counts1 : IsCounted (roomed b h) = counts-there b holds 5 h ok room in

@@ -21,7 +21,7 @@ use Rattle.plain_machine.specs.State.{Process, State, register}
 use Rattle.plain_machine.specs.Parts.{repeated}
 use Rattle.plain_machine.specs.Tightness.{repeat_words}
 use Rattle.plain_machine.specs.Step.{in_process, repeat_if}
-use Rattle.plain_machine.specs.May.{gets_to_space, may_of_tight}
+use Rattle.plain_machine.specs.May.{gets_to_space}
 use Rattle.space_api.specs.Calls.{Becomes, Follows, said}
 use Rattle.space_api.specs.declared.space.Seat.{Seat}
 use Rattle.two_halves.specs.Collecting.{MakesRoom}
@@ -81,7 +81,7 @@ module _ (b : One) (holds : Holds b) (seat : Seat) (x : Sits b seat) (r : Reg) (
       h3 = laid_out h mem2 z.top h.low (with_item h.procs seat.row (with_term p2 r.0 w p2.refs))
 
       repeat-stands : (s : State) (terms : Terms) (names : List (List ℕ)) → OneStands b s
-          → Becomes {A = Unit {0}} may_of_tight (words_of b) s (said (OfProcess seat.pid v) terms names) (Ok tt) (OneStands (after b h3))
+          → Becomes {A = Unit {0}} (words_of b) s (said (OfProcess seat.pid v) terms names) (Ok tt) (OneStands (after b h3))
       repeat-stands s terms names o =
           let o1 : OneStands (roomed b h) s = roomed-there b holds g h ok room s o in
           let counts1 : IsCounted (roomed b h) = counts-there b holds g h ok room in

@@ -30,7 +30,7 @@ use Rattle.plain_machine.specs.Flaws.{flaw_of, is_big, is_wide}
 use Rattle.plain_machine.specs.State.{Process, State, register, with_process, with_register}
 use Rattle.plain_machine.specs.Step.{Outcome, in_process, settled, unless_flawed}
 use Rattle.plain_machine.specs.Step.Outcome.{Accepted, Refused}
-use Rattle.plain_machine.specs.May.{gets_to_space, may_of_tight}
+use Rattle.plain_machine.specs.May.{gets_to_space}
 use Rattle.space_api.specs.Calls.{AreRising, Becomes, Follows, HasTerm, IsWrittenTerm, one_term, said}
 use Rattle.space_api.specs.declared.space.Seat.{Seat}
 use Rattle.item_build.specs.declared.building.BuildStop.{BuildStop}
@@ -165,7 +165,7 @@ module _ (b : One) (holds : Holds b) (seat : Seat) (x : Sits b seat) (r : Reg) (
   line t = said (OfProcess seat.pid v) (one_term t) names
 
   set-lacks : ok ≡ false → (s : State) (t : Term) → OneStands b s → IsWrittenTerm names code t
-      → Becomes {A = Unit {0}} may_of_tight (words_of b) s (line t) (Err (refusal.NoSpace n)) (OneStands (roomed b h))
+      → Becomes {A = Unit {0}} (words_of b) s (line t) (Err (refusal.NoSpace n)) (OneStands (roomed b h))
   set-lacks lacking s t o is =
       let q : Process = get_or s.processes seat.row no_process in
       let found = found-there b s o holds.counts seat x in
@@ -261,7 +261,7 @@ module _ (b : One) (holds : Holds b) (seat : Seat) (x : Sits b seat) (r : Reg) (
             }
 
         stop-becomes : (s : State) (t : Term) → OneStands b s → IsWrittenTerm names code t
-            → Becomes {A = Unit {0}} may_of_tight (words_of b) s (line t) (Err (refusal_for e)) (OneStands (stopped_in b h mem2 row))
+            → Becomes {A = Unit {0}} (words_of b) s (line t) (Err (refusal_for e)) (OneStands (stopped_in b h mem2 row))
         stop-becomes s t o is_term =
             let P : Option Process → Type 0 = λ u. Follows {A = Unit {0}} (in_process u s (line t) v) s (Err (refusal_for e)) (OneStands (stopped_in b h mem2 row)) in
             let Q : Result Tree BuildStop → Type 0 = λ u. BuildsTerm (o1 s o).processes.test (s.shared ++ bins_of code) y z h.mem mem2 was now (long_bins code) (Err e) u in
@@ -490,7 +490,7 @@ module _ (b : One) (holds : Holds b) (seat : Seat) (x : Sits b seat) (r : Reg) (
                   reached = λ e. absurd (true≢false (sym e));
                 }
 
-            pub set-becomes : Becomes {A = Unit {0}} may_of_tight (words_of b) s (line t) (Ok tt) (OneStands (after_build named))
+            pub set-becomes : Becomes {A = Unit {0}} (words_of b) s (line t) (Ok tt) (OneStands (after_build named))
             set-becomes =
                 let P : Option Process → Type 0 = λ g. Follows {A = Unit {0}} (in_process g s (line t) v) s (Ok tt) (OneStands (after_build named)) in
                 let S : List (List ℕ) → Type 0 = λ g. OneStands (after_build named) (settled (line t) (record (with_process (with_register r.0 tree (q s o)) s) { shared = g })) in

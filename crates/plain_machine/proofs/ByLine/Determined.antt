@@ -1,5 +1,5 @@
 -- Lines and replies determine a run.
-use Rattle.std.proofs.Common.{◌≡◌, ℕ, ◌<◌, ◌≤◌, ◌⊎◌, inl, inr, Bool, true, false, List, [], ◌∷◌, ◌++◌, length, refl, sym, ap, subst, ◌∙◌, arith}
+use Rattle.std.proofs.Common.{◌≡◌, ℕ, ◌<◌, ◌≤◌, ◌⊎◌, inl, inr, Bool, true, false, List, [], ◌∷◌, ◌++◌, length, refl, sym, ap, subst, ◌∙◌, append_assoc, arith}
 use Rattle.std.specs.Prelude.{MatchBool}
 use Rattle.atom_names.specs.Names.{most_names}
 use Rattle.line_io.specs.Lines.{Line, text, long}
@@ -92,7 +92,7 @@ refused-pair : (r t : Refusal) (s : State) (quits ends : Bool) (rs ts : List (Li
 refused-pair r t s quits ends rs ts new other g h = record { count = ap length g.said ∙ sym (ap length h.said); agree = λ e. record { same = g.same ∙ sym h.same; alike = g.goes_on ∙ sym h.goes_on } }
 
 -- a line does not both fit and not fit
-few-many : (names : List (List ℕ)) (w v : Written) → w ≡ v → (p : Parsed) → p ≡ parsed_of names w → length p.names ≤ most_names → most_names < length (names_after names v) → ⊥
+pub few-many : (names : List (List ℕ)) (w v : Written) → w ≡ v → (p : Parsed) → p ≡ parsed_of names w → length p.names ≤ most_names → most_names < length (names_after names v) → ⊥
 few-many names w v e p f few many =
     let h : length p.names ≡ length (names_after names v) = ap (λ (z : Parsed). length z.names) f ∙ ap (λ z. length (names_after names z)) e in
     omega (arith, h, few, many)
@@ -130,6 +130,33 @@ fronts (x ∷ xs) ys (u ∷ us) vs e f =
     let t : xs ++ ys ≡ us ++ vs = cc in
     let k : (xs ≡ us) × (ys ≡ vs) = fronts xs ys us vs (omega (arith, e)) t in
     (ap (λ z. z ∷ xs) h ∙ ap (λ z. u ∷ z) (k.0), k.1)
+
+-- so of two runs over the same lines, whose replies stand in front of the same list
+pub run-fronts : SaysOne → (may : ℕ → State → Parsed → Bool) (words : ℕ) (s new other : State) (lines : List Line) (rs xs ts ys : List (List ℕ))
+    → Run may words false s lines rs new → Run may words false s lines ts other → rs ++ xs ≡ ts ++ ys → (rs ≡ ts) × (xs ≡ ys) × (new ≡ other)
+unfolding Run
+run-fronts one may words s new other [] rs xs ts ys g h e = (g.1 ∙ sym (h.1), ap (λ z. z ++ xs) (sym (g.1)) ∙ e ∙ ap (λ z. z ++ ys) (h.1), g.2 ∙ sym (h.2))
+run-fronts one may words s new other (line ∷ lines) rs xs ts ys g h e =
+    at (g.0) (h.0) (g.3) (h.3) (pair.agree (cut.0)).same (g.6) (h.6) (λ m a b. run-fronts one may words m new other lines (g.2) xs (h.2) ys a b (cut.1))
+  where
+    pair : Pair (g.0) (h.0) (g.1) (h.1) (g.3) (h.3)
+    pair = line-pair one may words s line (g.0) (h.0) (g.1) (h.1) (g.3) (h.3) (g.4) (h.4)
+
+    cut : ((g.1) ≡ (h.1)) × ((g.2) ++ xs ≡ (h.2) ++ ys)
+    cut = fronts (g.1) ((g.2) ++ xs) (h.1) ((h.2) ++ ys) pair.count
+        (sym (append_assoc (g.1) (g.2) xs) ∙ (ap (λ z. z ++ xs) (sym (g.5)) ∙ e ∙ ap (λ z. z ++ ys) (h.5)) ∙ append_assoc (h.1) (h.2) ys)
+
+    at : (q e : Bool) (m n : State) → m ≡ n
+        → MatchBool q ((false ≡ true) × (lines ≡ []) × ((g.2) ≡ []) × (new ≡ m)) (Run may words false m lines (g.2) new)
+        → MatchBool e ((false ≡ true) × (lines ≡ []) × ((h.2) ≡ []) × (other ≡ n)) (Run may words false n lines (h.2) other)
+        → ((m : State) → Run may words false m lines (g.2) new → Run may words false m lines (h.2) other → ((g.2) ≡ (h.2)) × (xs ≡ ys) × (new ≡ other))
+        → (rs ≡ ts) × (xs ≡ ys) × (new ≡ other)
+    at true e m n same a b k = absurd (cc)
+    at false true m n same a b k = absurd (cc)
+    at false false m n same a b k =
+        let P : State → Type 0 = λ z. Run may words false z lines (h.2) other in
+        let l : ((g.2) ≡ (h.2)) × (xs ≡ ys) × (new ≡ other) = k m a (subst P (sym same) b) in
+        (g.5 ∙ (ap (λ z. z ++ (g.2)) (cut.0) ∙ ap (λ z. (h.1) ++ z) (l.0)) ∙ sym (h.5), l.1, l.2)
 
 pub run-determined : SaysOne → (may : ℕ → State → Parsed → Bool) (words : ℕ) (quits ends : Bool) (s new other : State) (lines : List Line) (replies : List (List ℕ))
     → Run may words quits s lines replies new → Run may words ends s lines replies other → new ≡ other

@@ -24,6 +24,34 @@ run-append may words quits s mid new (line ∷ lines) more replies others first 
     at true one rest m step e h k = absurd (cc)
     at false one rest m step e h k = (false, one, rest ++ others, m, step, ap (λ z. z ++ others) e ∙ append_assoc one rest others, k m rest h)
 
+-- a run that goes on after all of its lines is one over the first of them, and then one over the others
+pub record Cut (may : ℕ → State → Parsed → Bool) (words : ℕ) (s new : State) (lines more : List Line) (replies : List (List ℕ)) : Type 0 where
+  pub mid : State
+  pub earlier : List (List ℕ)
+  pub others : List (List ℕ)
+  pub first : Run may words false s lines earlier mid
+  pub then : Run may words false mid more others new
+  pub whole : replies ≡ earlier ++ others
+
+pub run-cut : (may : ℕ → State → Parsed → Bool) (words : ℕ) (s new : State) (lines more : List Line) (replies : List (List ℕ))
+    → Run may words false s (lines ++ more) replies new → Cut may words s new lines more replies
+unfolding Run
+run-cut may words s new [] more replies h = record { mid = s; earlier = []; others = replies; first = (refl, refl, refl); then = h; whole = refl }
+run-cut may words s new (line ∷ lines) more replies h = at (h.0) (h.4) (h.6) (λ k. run-cut may words (h.3) new lines more (h.2) k)
+  where
+    at : (ends : Bool) → LineStep may words s line ends (h.1) (h.3)
+        → MatchBool ends ((false ≡ true) × (lines ++ more ≡ []) × (h.2 ≡ []) × (new ≡ h.3)) (Run may words false (h.3) (lines ++ more) (h.2) new)
+        → (Run may words false (h.3) (lines ++ more) (h.2) new → Cut may words (h.3) new lines more (h.2)) → Cut may words s new (line ∷ lines) more replies
+    at true step k rest = absurd (cc)
+    at false step k rest = let c = rest k in record {
+      mid = c.mid;
+      earlier = h.1 ++ c.earlier;
+      others = c.others;
+      first = (false, h.1, c.earlier, h.3, step, refl, c.first);
+      then = c.then;
+      whole = h.5 ∙ (ap (λ z. h.1 ++ z) c.whole ∙ sym (append_assoc (h.1) c.earlier c.others));
+    }
+
 -- a run of one line
 pub run-one : (may : ℕ → State → Parsed → Bool) (words : ℕ) (quits : Bool) (s new : State) (line : Line) (replies : List (List ℕ))
     → LineStep may words s line quits replies new → Run may words quits s (line ∷ []) replies new

@@ -18,5 +18,6 @@ returns g c =
             later = told.later t.new t.stands.0;
           };
       leaves = took.leaves;
+      idle = took.idle;
       books = took.books;
     }

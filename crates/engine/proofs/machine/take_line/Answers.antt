@@ -2,7 +2,7 @@ use Rattle.std.proofs.Common.{ap, ◌∙◌, arith, sym, refl, subst, ◌≤◌,
 use Rattle.script_grammar.specs.Names.{terms_of}
 use Rattle.engine.specs.Acts.{OnRefused}
 use Rattle.engine.specs.Replies.{CanReply}
-use Rattle.engine.proofs.Taking.{told, told-longer, told-back, told-code, told-fits, told-prints, told-same, takes-done, takes-refused, takes-nothing}
+use Rattle.engine.proofs.Taking.{told, told-longer, told-back, told-code, told-fits, told-idle, told-prints, told-same, takes-done, takes-refused, takes-nothing}
 use Rattle.engine.proofs.machine.take_line.Goals as goal
 
 pub act-reply-requires : goal.act-reply-requires
@@ -29,6 +29,7 @@ returns-in-Err g c = record {
   can = tt;
   books = record { same_words = refl; one_call = omega arith; few_names = omega (arith, c.requires.named, ap length c.in-Err.ensures.kept.0) };
   leaves = λ p r e. (refl, c.in-Err.ensures.kept.0);
+  idle = λ i. (refl, c.in-Err.ensures.kept.0);
 }
 
 pub returns-in-Refused : goal.returns-in-Refused
@@ -52,6 +53,7 @@ returns-in-Refused g c =
         );
       };
       leaves = λ p r e. (c.act-reply.ensures.leaves (told-prints _ _ _ _ _ said.0 t p r e), back);
+      idle = λ i. (c.act-reply.ensures.leaves (told-idle _ _ _ _ _ said.0 t i), back);
     }
 
 pub returns-in_default : goal.returns-in_default
@@ -66,5 +68,8 @@ returns-in_default g c =
       books = c.act-reply.ensures.books;
       leaves = λ p r e.
           let prints = told-prints _ _ _ _ _ said.0 t p r e in
+          (c.act-reply.ensures.leaves prints, told-same _ _ _ _ _ said.0 t prints);
+      idle = λ i.
+          let prints = told-idle _ _ _ _ _ said.0 t i in
           (c.act-reply.ensures.leaves prints, told-same _ _ _ _ _ said.0 t prints);
     }

@@ -1,12 +1,12 @@
 -- Each line is done by the machine's step, and its reply is summed up.
-use Rattle.std.proofs.Common.{◌≡◌, ◌∙◌, ◌∷◌, ◌+◌, ◌≤◌, ℕ, List, refl, sym, ap, subst, arith, length}
+use Rattle.std.proofs.Common.{◌≡◌, ◌∙◌, ◌∷◌, ℕ, List, refl, sym, ap, subst, arith, length}
 use Rattle.line_io.specs.Lines.{text}
 use Rattle.made_script.specs.Script.{lines_to_come}
 use Rattle.made_script.proofs.Laws.{lines-made}
 use Rattle.engine.specs.Acts.{StandsWith}
-use Rattle.engine.specs.Rules.{After, Supply}
+use Rattle.engine.specs.Rules.{After}
 use Rattle.engine.specs.Steps.{Steps}
-use Rattle.machine_run.proofs.Making.{Making, making-none, making-more, making-all, sums_from}
+use Rattle.machine_run.proofs.Making.{making-none, making-more, making-all, sums_from}
 use Rattle.machine_run.proofs.made.do_made.Goals as goal
 
 pub loop-script-init : goal.loop-script-init
@@ -31,7 +31,7 @@ loop-script-preserved g c =
     record {
       making = λ first h.
           let m = kept.making first h in
-          let P : ℕ → Type 0 = λ w. Steps (record { may = g.P.Space.may; words = w }) m.state (text line) after (sums_from c.loop-script.sums c.step.new.sink) c.step.result in
+          let P : ℕ → Type 0 = λ w. Steps w m.state (text line) after (sums_from c.loop-script.sums c.step.new.sink) c.step.result in
           making-more _ first c.args.number _ line rest _ _ _ after c.step.result m left (subst P kept.words (c.step.ensures.steps m.state m.stands));
       words = c.step.ensures.books.same_words ∙ kept.words;
       calls = omega (arith, kept.calls, c.step.ensures.books.one_call, ap length left);

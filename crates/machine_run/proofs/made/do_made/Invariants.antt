@@ -10,7 +10,7 @@ use Rattle.machine_run.proofs.made.do_made.Given as goal
 abbrev pub invariant-loop-script : goal.invariant-loop-script
 invariant-loop-script g l = record {
   making : (first : State) → StandsWith (g.P.Space.stands l.initial.m.space) l.initial.m.names first
-      → Making (record { may = g.P.Space.may; words = g.P.Space.words l.initial.m.space }) first l.number (lines_to_come l.script)
+      → Making (g.P.Space.words l.initial.m.space) first l.number (lines_to_come l.script)
       (StandsWith (g.P.Space.stands l.m.space) l.m.names) l.sums;
   words : g.P.Space.words l.m.space ≡ g.P.Space.words l.initial.m.space;
   calls : g.P.Space.calls l.m.space + length (lines_to_come l.script) ≤ most_calls;

@@ -1,7 +1,6 @@
 -- The script was done by a machine that stood for the first state.
 use Rattle.std.proofs.Common.{◌∙◌, ℕ, subst}
 use Rattle.plain_machine.specs.State.{State, first_state}
-use Rattle.plain_machine.specs.May.{may_of_tight}
 use Rattle.space_api.specs.Calls.{Properly}
 use Rattle.one_space.specs.One.{OneStands}
 use Rattle.engine.specs.Acts.{StandsWith}
@@ -18,7 +17,7 @@ returns-clause-made g c =
     let numbers = c.do_made-numbers.result in
     let out : Output g.row.K.Denot = record { wrote = g.K.Sink.wrote; faults = g.K.Sink.faults; before = c.args.sink.now; after = c.put_summary.new.sink } in
     let machine : State → Type 0 = StandsWith (Properly (OneStands m.space)) m.names in
-    let P : ℕ → Type 0 = λ words. IsMade (record { may = may_of_tight; words = words }) first_state c.args.number machine numbers in
+    let P : ℕ → Type 0 = λ words. IsMade words first_state c.args.number machine numbers in
     let done = subst P c.in-Some.ensures.words (c.do_made-numbers.ensures.made first_state c.in-Some.ensures.stands) in
     if-made c.args.arena c.args.number out (StoreStands c.args.arena (One m)) numbers c.put_summary.result _
     (made-so _ first_state c.args.number machine _ numbers (λ s h. (h, c.images_stand.ensures s h.0.0, c.do_made-numbers.ensures.words ∙ c.in-Some.ensures.words)) done)

@@ -4,7 +4,6 @@ use Rattle.script_grammar.specs.declared.command.Command.TheVariants.{Process}
 use Rattle.script_grammar.specs.declared.command.Verb.TheVariants as verb
 use Rattle.script_grammar.specs.Written.{Terms}
 use Rattle.plain_machine.specs.State.{State}
-use Rattle.plain_machine.specs.May.{may_of_tight}
 use Rattle.space_api.specs.Calls.{Becomes, HasEnv, said}
 use Rattle.one_space.specs.Gathered.{held_word}
 use Rattle.one_space.specs.One.{Holds, OneStands, words_of}
@@ -55,7 +54,7 @@ returns-clause-becomes c =
     let g : ℕ → One = λ z. gained c.args.self.now (with_reg c.add_fun-w.new.self c.args.seat.row c.process_mut-process.result.now c.args.r.0 c.add_fun-w.result) c.gather.new.row
     c.args.self.now.serials z in
     let P : ℕ → Type 0 = λ z. (s : State) (terms : Terms) (names : List (List ℕ)) → OneStands c.args.self.now s → HasEnv names c.args.name c.args.env.now terms
-    → Becomes {A = Unit {0}} may_of_tight (words_of c.args.self.now) s (said (Process c.args.seat.pid (verb.Fun c.args.r c.args.name c.args.arity)) terms names) (Ok tt) (OneStands (g z)) in
+    → Becomes {A = Unit {0}} (words_of c.args.self.now) s (said (Process c.args.seat.pid (verb.Fun c.args.r c.args.name c.args.arity)) terms names) (Ok tt) (OneStands (g z)) in
     subst P (sym c.above-self.ensures) (fun-stands c.args.self.now c.requires.holds c.args.seat c.requires.sits c.args.r c.args.name c.args.arity c.args.env.now c.if-arity-gt-MOST_ARITY.false
     c.requires.env (10 + length c.args.env.now) refl c.make_room.new.self c.make_room.result c.make_room.ensures
     c.gather.new.row c.gather.ensures.len c.process.result.now c.process.ensures (take (length c.args.env.now) c.deref.result.now) words

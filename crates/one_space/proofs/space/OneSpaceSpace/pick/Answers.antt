@@ -4,7 +4,6 @@ use Rattle.script_grammar.specs.declared.command.Command.TheVariants.{Process}
 use Rattle.script_grammar.specs.declared.command.Pick.{Pick}
 use Rattle.script_grammar.specs.declared.command.Pick.TheVariants as pick
 use Rattle.script_grammar.specs.declared.command.Verb.TheVariants as verb
-use Rattle.plain_machine.specs.May.{may_of_tight}
 use Rattle.space_api.specs.Calls.{Becomes, Properly, said}
 use Rattle.one_space.specs.One.{OneStands, words_of}
 use Rattle.one_space.specs.Doing.{AsksUnless, Books, IsIdle, takes_part}
@@ -24,7 +23,7 @@ no-part (pick.Env i) e n = cc
 pub returns-in-Part-clause-becomes : goal.returns-in-Part-clause-becomes
 returns-in-Part-clause-becomes c = λ s terms h has.
     let P : Pick → Type 0 = λ z.
-    Becomes may_of_tight (words_of c.args.self.now) s (said (Process c.args.seat.pid (verb.Choose c.args.r c.args.s z)) terms c.args.names.now) c.cut.result (Properly (OneStands c.cut.new.self)) in
+    Becomes (words_of c.args.self.now) s (said (Process c.args.seat.pid (verb.Choose c.args.r c.args.s z)) terms c.args.names.now) c.cut.result (Properly (OneStands c.cut.new.self)) in
     subst P (sym c.in-Part.is)
     (becomes-so c.self.inside.one c.args.self.now c.self.view_is (Process c.args.seat.pid (verb.Choose c.args.r c.args.s (pick.Part c.in-Part.offset c.in-Part.len))) terms c.args.names.now s h has tt
     c.cut.result (OneStands c.cut.new.self) (λ o. c.cut.ensures.does.becomes s terms c.args.names.now o))

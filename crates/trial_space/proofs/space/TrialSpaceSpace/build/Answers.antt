@@ -3,8 +3,6 @@ use Rattle.plain_term.specs.declared.item.Item.TheVariants as item
 use Rattle.script_grammar.specs.declared.command.Command.TheVariants.{Process}
 use Rattle.script_grammar.specs.declared.command.Verb.TheVariants.{Set}
 use Rattle.script_grammar.specs.declared.limits.TheConstants.{LEVELS}
-use Rattle.plain_machine.specs.May.{gets_to_space}
-use Rattle.plain_machine.specs.Step.{step}
 use Rattle.space_api.specs.Calls.{one_term}
 use Rattle.space_api.proofs.Naming.{builds}
 use Rattle.space_api.proofs.Proper.{becomes-proper}
@@ -16,9 +14,9 @@ use Rattle.trial_space.proofs.space.TrialSpaceSpace.build.Goals as goal
 pub returns-then-weight-gt1-clause-becomes : goal.returns-then-weight-gt1-clause-becomes
 returns-then-weight-gt1-clause-becomes c = λ s t h has is.
     let made = builds c.args.names.now c.args.code.now t is c.requires.term.named in
-    becomes-proper s (Process c.args.seat.pid (Set c.args.r)) (one_term t) c.args.names.now h.1 has made (λ words s p. gets_to_space p.command (step s p)) 0 _ _
+    becomes-proper s (Process c.args.seat.pid (Set c.args.r)) (one_term t) c.args.names.now h.1 has made 0 _ _
     (build-lacks c.args.self.now.alive c.args.self.now.registers s c.args.seat h.0 c.requires.sits c.args.r t c.args.names.now c.args.code.now (c.weigh-weight.result - 1) is c.requires.term.few
-    (omega (arith, c.if-weight-gt1.true, c.weigh-weight.ensures)))
+    (omega (arith, c.if-weight-gt1.true, c.weigh-weight.ensures)) (omega (arith, c.if-weight-gt1.true)))
 
 pub bounds-code-0 : goal.bounds-code-0
 bounds-code-0 c =
@@ -33,6 +31,6 @@ meant-requires c =
 pub returns-clause-becomes : goal.returns-clause-becomes
 returns-clause-becomes c = λ s t h has is.
     let made = builds c.args.names.now c.args.code.now t is c.requires.term.named in
-    becomes-proper s (Process c.args.seat.pid (Set c.args.r)) (one_term t) c.args.names.now h.1 has made (λ words s p. gets_to_space p.command (step s p)) 0 _ _
+    becomes-proper s (Process c.args.seat.pid (Set c.args.r)) (one_term t) c.args.names.now h.1 has made 0 _ _
     (build-holds c.args.self.now.alive c.args.self.now.registers s c.args.seat h.0 c.requires.sits c.args.r t c.args.names.now c.args.code.now (item.Int (pos 0)) c.meant.result is c.requires.term.few
     c.meant.ensures (omega (arith, c.if-weight-gt1.false, c.weigh-weight.ensures)))
