@@ -1,5 +1,6 @@
 -- What the table of shifts knows of each stretch of 64 words.
 use Rattle.std.specs.Prelude.{◌≡◌, ℕ, ◌*◌, ◌<◌, ◌≤◌, ◌^◌, List, length, slice_index}
+use Rattle.word_arena.specs.Blocks.{Blocked}
 use Rattle.word_arena.specs.Stretches.{IsFirst}
 use Rattle.word_arena.specs.Sums.{free_before}
 use Rattle.word_arena.specs.declared.shifts.Shifts.{Shifts}
@@ -17,7 +18,8 @@ pub record IsSummedAt (mem sums firsts : List ℕ) (stretch : ℕ) : Type 0 wher
   pub first : IsFirst mem stretch (slice_index firsts stretch)
   pub most : slice_index firsts stretch ≤ STRETCH
 
--- The table is right about every stretch of the memory.
+-- The memory is a row of blocks, and the table is right about every stretch of it.
 pub record IsSummed (mem : List ℕ) (s : Shifts) : Type 0 where
+  pub blocked : Blocked mem
   pub room : HasStretches (length mem) s
   pub at : (i : ℕ) → i < length s.firsts.items → IsSummedAt mem s.sums.items s.firsts.items i

@@ -2,9 +2,11 @@
 ghost use Rattle.std.specs.Prelude.{◌≡◌, ℕ, ◌+◌, ◌*◌, ◌<◌, ◌≤◌, ◌⊎◌, List, length, slice_index, slice_set};
 ghost use Rattle.word_arena.specs.Blocks.{size_at, Blocked, BlockBegins, IsUsed, IsListed, free_of};
 ghost use Rattle.word_arena.specs.Calls.{NoneFits, FirstFit, IsGreatest, taken, Merged, HeadersStay};
-ghost use Rattle.word_arena.specs.Sums.{free_before, used_of, words_among};
+ghost use Rattle.word_arena.specs.Sums.{free_before, slid, used_of, words_among};
 ghost use Rattle.word_arena.specs.Shifts.{IsSummed};
+ghost use Rattle.word_arena.specs.Sound.{Sound};
 
+use crate::arena::Arena;
 use crate::shifts::Shifts;
 
 /// Two blocks are one, or have no word in common.
@@ -19,6 +21,11 @@ pub fn words_inside_a_block_are_no_headers()
         → HeadersStay mem (slice_set mem q w) }
     ensures range { (old new : List ℕ) (p from to : ℕ) → Blocked old → BlockBegins old p → p < from → to ≤ p + size_at old p
         → length new ≡ length old → ((q : ℕ) → (q < from) ⊎ (to ≤ q) → slice_index new q ≡ slice_index old q) → HeadersStay old new }
+{}
+
+/// An arena whose memory was lent is sound still where each header is as it was.
+pub fn lent_memories_come_back()
+    ensures { (a b : Arena) → Sound a → HeadersStay a.mem b.mem → b.holes ≡ a.holes → Sound b }
 {}
 
 /// The greatest free block loses at most the words of the block that is taken.
@@ -39,8 +46,18 @@ pub fn words_are_free_or_in_use()
     ensures most { (mem ps : List ℕ) → Blocked mem → ((p : ℕ) → IsUsed mem p → IsListed p ps) → used_of mem ≤ words_among mem ps }
 {}
 
+/// As much is free before each place of a block in use, and before its end, as before the block, and no more than lies before it.
+/// Blocks that move down by so much stay in their order, and none meets another.
+pub fn blocks_in_use_move_down_as_one()
+    ensures same { (mem : List ℕ) (p at : ℕ) → Blocked mem → IsUsed mem p → p ≤ at → at ≤ p + size_at mem p
+        → free_before mem at ≡ free_before mem p }
+    ensures most { (mem : List ℕ) (p : ℕ) → Blocked mem → BlockBegins mem p → free_before mem p ≤ p }
+    ensures order { (mem : List ℕ) (p q : ℕ) → Blocked mem → IsUsed mem p → IsUsed mem q → p < q
+        → slid mem p p + size_at mem p ≤ slid mem q q }
+{}
+
 /// What was summed up stays right while each header is as it was.
 pub fn sums_stay_with_the_headers()
     ensures before { (old new : List ℕ) (at : ℕ) → Blocked old → HeadersStay old new → free_before new at ≡ free_before old at }
-    ensures summed { (old new : List ℕ) (s : Shifts) → Blocked old → HeadersStay old new → IsSummed old s → IsSummed new s }
+    ensures summed { (old new : List ℕ) (s : Shifts) → HeadersStay old new → IsSummed old s → IsSummed new s }
 {}

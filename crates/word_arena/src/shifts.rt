@@ -1,6 +1,5 @@
 // How far each place moves down when the free words before it go: a table of sums, beside the arena.
 ghost use Rattle.std.specs.Prelude.{◌≡◌, ◌+◌, ◌*◌, ◌<◌, ◌≤◌, ◌^◌, length, slice_index, IfOk};
-ghost use Rattle.word_arena.specs.Blocks.{Blocked};
 ghost use Rattle.word_arena.specs.Sums.{free_before};
 ghost use Rattle.word_arena.specs.Sound.{Sound};
 
@@ -61,7 +60,6 @@ impl Shifts {
 
     /// The free words of the blocks that begin before a place: by so many it moves down when all blocks in use are packed.
     pub fn before(&self, mem: &WordMem, at: u64) -> u64
-        requires blocked { Blocked mem.now }
         requires summed { IsSummed mem.now self.now }
         requires inside { at ≤ length mem.now }
         ensures { result ≡ free_before mem.now at }

@@ -71,9 +71,12 @@ lent-agrees old new h blocked same agrees =
       free = agrees.free ∙ sym (lent-free old new blocked same);
     }
 
+pub lent-blocked : (old new : List ℕ) → Blocked old → HeadersStay old new → Blocked new
+lent-blocked old new blocked same = blocked-row new (block_places old) (row-same old new blocked same)
+
 pub lent : (a : Arena) (new : List ℕ) → Sound a → HeadersStay a.mem new → Sound (record { mem = new; holes = a.holes })
 lent a new sound same =
-    record { blocked = blocked-row new (block_places a.mem) (row-same a.mem new sound.blocked same); agrees = lent-agrees a.mem new a.holes sound.blocked same sound.agrees }
+    record { blocked = lent-blocked a.mem new sound.blocked same; agrees = lent-agrees a.mem new a.holes sound.blocked same sound.agrees }
 
 -- What is written inside a block, behind its header, is no header.
 pub kept-inside : (old new : List ℕ) (p from to : ℕ) → Blocked old → BlockBegins old p → p < from → to ≤ p + size_at old p → length new ≡ length old

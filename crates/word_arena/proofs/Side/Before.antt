@@ -2,12 +2,13 @@
 use Rattle.std.proofs.Common.{◌≡◌, ℕ, ◌+◌, ◌<◌, ◌≤◌, true, false, nat_lt, List, [], ◌∷◌, ◌++◌, length, get_or, refl, sym, ◌∙◌, ap, subst, arith, inl, inr}
 use Rattle.std.proofs.lemmas.Bool.{cases_lt}
 use Rattle.std.proofs.lemmas.Bool.Decides.{nat_tests}
-use Rattle.word_arena.specs.Blocks.{size_at, free_at, Blocked, block_places, IsListed, BlockBegins, IsBoundary, free_among, free_of}
+use Rattle.word_arena.specs.Blocks.{size_at, free_at, Blocked, block_places, IsListed, BlockBegins, IsUsed, IsBoundary, free_among, free_of}
 use Rattle.word_arena.specs.Calls.{HeadersStay}
-use Rattle.word_arena.specs.Sums.{free_below, free_before}
+use Rattle.word_arena.specs.Sums.{free_below, free_before, slid}
+use Rattle.word_arena.proofs.Side.Places.{free_among-append}
 use Rattle.word_arena.proofs.Side.Tiling.{blocks-front, blocks-within}
-use Rattle.word_arena.proofs.Side.Facts.{row-at, block-within}
-use Rattle.word_arena.proofs.Side.Summing.{Sum, sum-zero, sum-next, sum-most}
+use Rattle.word_arena.proofs.Side.Facts.{row-at, block-within, apart, free-none}
+use Rattle.word_arena.proofs.Side.Summing.{Sum, sum-zero, sum-next, sum-most, free_among-most}
 use Rattle.word_arena.proofs.Laid.Relaid.{free_of-row}
 use Rattle.word_arena.proofs.Laid.Lent.{lent-places}
 use Rattle.word_arena.proofs.Found.Table.{same-free}
@@ -103,6 +104,38 @@ boundary-most mem a blocked stop =
           let P : ℕ → Type 0 = λ z. free_before mem z ≤ z in
           subst P same (omega (arith, sum-before mem (length mem) (free_among mem (block_places mem)) blocked fits s, sum-most mem (length mem) (free_among mem (block_places mem)) s)))
     ]
+
+-- Before each place of a block in use, and before its end, as much is free as before the block.
+pub before-used : (mem : List ℕ) (p at : ℕ) → Blocked mem → IsUsed mem p → p ≤ at → at ≤ p + size_at mem p → free_before mem at ≡ free_before mem p
+before-used mem p at blocked used from to =
+    elim (cases_lt p at) as (λ _. free_before mem at ≡ free_before mem p) [
+      | inl behind ↦ (
+          let e = p + size_at mem p in
+          let same : free_before mem at ≡ free_before mem e = before-same mem at e
+          (λ q begins high. apart mem p q blocked used.begins begins (omega (arith, high, behind))) (λ q begins high. omega (arith, high, to)) in
+          omega (arith, same, before-next mem p blocked used.begins, free-none mem p used.kind))
+      | inr here ↦ (let same : p ≡ at = omega arith in let P : ℕ → Type 0 = λ z. free_before mem z ≡ free_before mem p in subst P same refl)
+    ]
+
+-- Blocks in use that move down by the free words before them stay apart.
+pub before-order : (mem : List ℕ) (p q : ℕ) → Blocked mem → IsUsed mem p → IsUsed mem q → p < q → slid mem p p + size_at mem p ≤ slid mem q q
+before-order mem p q blocked first second below =
+    let e = p + size_at mem p in
+    let far : e ≤ q = apart mem p q blocked first.begins second.begins below in
+    let s = sum-next mem p (free_before mem p) blocked first.begins (block-sum mem p blocked first.begins) in
+    let t = block-sum mem q blocked second.begins in
+    let f = blocks-front mem 0 e q s.ps t.ps s.row t.row far in
+    let split : free_among mem t.ps ≡ free_among mem (s.ps ++ f.rest) = ap (λ (z : List ℕ). free_among mem z) f.is in
+    omega (
+      arith,
+      s.is,
+      t.is,
+      split,
+      free_among-append mem s.ps f.rest,
+      free_among-most mem e q f.rest f.row,
+      free-none mem p first.kind,
+      before-most mem p blocked first.begins,
+    )
 
 -- Headers that stay keep what is free before each place.
 

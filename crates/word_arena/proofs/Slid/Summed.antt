@@ -9,7 +9,7 @@ use Rattle.word_arena.specs.Sums.{free_before}
 use Rattle.word_arena.specs.Shifts.{IsSummedAt, IsSummed}
 use Rattle.word_arena.specs.declared.shifts.Shifts.{Shifts}
 use Rattle.word_arena.proofs.Side.Before.{before-same, before-kept}
-use Rattle.word_arena.proofs.Laid.Lent.{lent-begins, lent-began}
+use Rattle.word_arena.proofs.Laid.Lent.{lent-blocked, lent-begins, lent-began}
 use Rattle.word_arena.proofs.Found.Table.{begins-below}
 
 -- As much is free before a stretch as before its first block.
@@ -18,9 +18,11 @@ start-sum mem i from blocked start =
     before-same mem (i * 64) from start.least
     (λ p begins high. (let low : i * 64 ≤ from = start.low (omega (arith, high, begins-below mem p blocked begins)) in omega arith))
 
-pub summed-kept : (old new : List ℕ) (s : Shifts) → Blocked old → HeadersStay old new → IsSummed old s → IsSummed new s
-summed-kept old new s blocked same summed =
+pub summed-kept : (old new : List ℕ) (s : Shifts) → HeadersStay old new → IsSummed old s → IsSummed new s
+summed-kept old new s same summed =
+    let blocked = summed.blocked in
     record {
+      blocked = lent-blocked old new blocked same;
       room = record { stretches = omega (arith, summed.room.stretches, same.same_len); sums = summed.room.sums; few = summed.room.few };
       at = λ i inside.
           let was = summed.at i inside in

@@ -6,4 +6,4 @@ pub returns-clause-before : goal.returns-clause-before
 returns-clause-before k = λ old new at blocked same. before-kept old new at blocked same
 
 pub returns-clause-summed : goal.returns-clause-summed
-returns-clause-summed k = λ old new s blocked same summed. summed-kept old new s blocked same summed
+returns-clause-summed k = λ old new s same summed. summed-kept old new s same summed

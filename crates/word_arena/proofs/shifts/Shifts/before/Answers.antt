@@ -26,12 +26,12 @@ overflow_add-sum c =
     let here : BlockBegins c.args.mem.now c.loop-p.p = c.loop-p.invariant.begins c.loop-p-test.true in
     omega (
       arith,
-      before-most c.args.mem.now c.loop-p.p c.requires.blocked here,
+      before-most c.args.mem.now c.loop-p.p c.requires.summed.blocked here,
       free-most c.args.mem.now c.loop-p.p,
       c.loop-p.invariant.sum,
       c.free-sum.ensures,
       c.len-len.ensures.most,
-      (block-within _ _ c.requires.blocked here).to,
+      (block-within _ _ c.requires.summed.blocked here).to,
     )
 
 pub loop-p-preserved : goal.loop-p-preserved
@@ -41,9 +41,9 @@ loop-p-preserved c =
       begins = λ below. c.next-p.ensures.stop.begins (omega (arith, below, c.requires.inside));
       from = omega (arith, c.loop-p.invariant.from, c.next-p.ensures.after);
       inner = λ q begins low high.
-          walked (λ z. z < c.args.at) c.args.mem.now (c.stretch_of-stretch.result * 64) c.loop-p.p c.requires.blocked here
+          walked (λ z. z < c.args.at) c.args.mem.now (c.stretch_of-stretch.result * 64) c.loop-p.p c.requires.summed.blocked here
           c.loop-p.invariant.inner c.loop-p-test.true q begins low (omega (arith, high, c.next-p.ensures.value));
-      sum = rw c.next-p.ensures.value (omega (arith, before-next c.args.mem.now c.loop-p.p c.requires.blocked here, c.loop-p.invariant.sum, c.free-sum.ensures));
+      sum = rw c.next-p.ensures.value (omega (arith, before-next c.args.mem.now c.loop-p.p c.requires.summed.blocked here, c.loop-p.invariant.sum, c.free-sum.ensures));
     }
 
 pub returns : goal.returns
