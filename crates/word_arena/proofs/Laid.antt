@@ -4,3 +4,5 @@ pub mod Relaid
 pub mod Writes
 pub mod Taking
 pub mod Lent
+pub mod Turning
+pub mod Greatest

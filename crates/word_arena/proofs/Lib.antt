@@ -1,3 +1,4 @@
 pub mod Side
 pub mod Laid
 pub mod Found
+pub mod Slid

@@ -5,3 +5,5 @@ pub mod Tiling
 pub mod Facts
 pub mod Runs
 pub mod Summing
+pub mod Shares
+pub mod Before

@@ -61,6 +61,10 @@ pub record OthersStay (old new : List ℕ) (at : ℕ) : Type 0 where
   pub only : (p : ℕ) → p ≢ at → IsUsed new p → IsUsed old p
   pub words : (p q : ℕ) → p ≢ at → IsUsed old p → p ≤ q → q < p + size_at old p → slice_index new q ≡ slice_index old q
 
+-- No block in use has a word in common with the so many words from the place on.
+abbrev pub BesideUsed : List ℕ → (at words : ℕ) → Type 0
+BesideUsed mem at words = (p : ℕ) → IsUsed mem p → (p + size_at mem p ≤ at) ⊎ (at + words ≤ p)
+
 -- The headers are as they were, whatever else was written.
 pub record HeadersStay (old new : List ℕ) : Type 0 where
   pub same_len : length new ≡ length old

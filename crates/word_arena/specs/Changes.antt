@@ -31,6 +31,16 @@ pub record Shortened (old new : List ℕ) (at words : ℕ) : Type 0 where
   pub apart : FreeApart old → FreeApart new
   pub rest : words < size_at old at → BlockBegins new (at + words) × (at + size_at old at ≤ at + words + size_at new (at + words))
 
+-- The block at the place was given this kind.
+pub record Turned (old new : List ℕ) (at kind : ℕ) : Type 0 where
+  pub blocked : Blocked new
+  pub mem : new ≡ slice_set old at (header (size_at old at) kind)
+  pub block : IsBlock new at (size_at old at) kind (owner_at old at)
+  pub others : OthersStay old new at
+  pub free : free_of new ≡ free_of old
+  pub frame : Frame old new at at at
+  pub apart : FreeApart old → FreeApart new
+
 -- The block at the place was freed and is one with the free words beside it, from the given place on.
 pub record GaveBlock (old new : List ℕ) (at from : ℕ) : Type 0 where
   pub blocked : Blocked new

@@ -5,3 +5,6 @@ pub mod Over
 pub mod Tops
 pub mod Stretches
 pub mod Sound
+pub mod Sums
+pub mod Packs
+pub mod Shifts

@@ -1,11 +1,13 @@
 // The arena and its calls.
-ghost use Rattle.std.specs.Prelude.{◌≡◌, ◌≢◌, ℕ, ◌+◌, ◌-◌, ◌<◌, ◌≤◌, List, length, IfOk, IfSome, IfNone};
-ghost use Rattle.word_arena.specs.Blocks.{size_at, kind_at, owner_at, Blocks, Reaches, BlockBegins, IsUsed, free_among, free_of, FreeApart};
-ghost use Rattle.word_arena.specs.Calls.{NoneFits, FirstFit, IsGreatest, freed, taken, shortened, FreeFrom, Merged, OthersStay, IsBlock};
+ghost use Rattle.std.specs.Prelude.{◌≡◌, ◌≢◌, ℕ, ◌+◌, ◌-◌, ◌<◌, ◌≤◌, List, length, slice_set, IfOk, IfSome, IfNone};
+ghost use Rattle.word_arena.specs.Blocks.{size_at, kind_at, owner_at, header, Blocks, Reaches, BlockBegins, IsUsed, free_among, free_of, FreeApart};
+ghost use Rattle.word_arena.specs.Calls.{NoneFits, FirstFit, IsGreatest, freed, taken, shortened, FreeFrom, Merged, OthersStay, IsBlock, BesideUsed};
+ghost use Rattle.word_arena.specs.Packs.{Packed};
 
 use crate::blocks::{LAST_KIND, first_fit, free_before, next, size};
 use crate::holes::Holes;
-use crate::rows::{carve, close, merge, shorten};
+use crate::packing::gather;
+use crate::rows::{carve, close, merge, set_kind, shorten};
 use crate::stretches::{stretch_end, stretch_of};
 use std::alloc::Global;
 use word_mem::{OpenFault, WordMem};
@@ -62,6 +64,7 @@ impl Arena {
         ensures sound { Sound self.new }
         ensures none { IfNone result (NoneFits self.old.mem words × (self.new.mem ≡ self.old.mem)) }
         ensures first { IfSome result (λ at. FirstFit self.old.mem words at) }
+        ensures beside { IfSome result (λ at. BesideUsed self.old.mem at words) }
         ensures mem { IfSome result (λ at. self.new.mem ≡ taken self.old.mem at words kind owner) }
         ensures block { IfSome result (λ at. IsBlock self.new.mem at words kind owner) }
         ensures others { IfSome result (λ at. OthersStay self.old.mem self.new.mem at) }
@@ -116,6 +119,33 @@ impl Arena {
         let last = if words < size { at + words } else { at };
         self.holes.settle_behind(&self.mem, last, at + size);
         self.holes.free += size - words;
+    }
+
+    /// Gives the block at a place another kind.
+    pub fn turn(&mut self, at: u64, kind: u64)
+        requires sound { Sound self.old }
+        requires block { IsUsed self.old.mem at }
+        requires kind { (1 ≤ kind) × (kind ≤ LAST_KIND) }
+        ensures sound { Sound self.new }
+        ensures mem { self.new.mem ≡ slice_set self.old.mem at (header (size_at self.old.mem at) kind) }
+        ensures block { IsBlock self.new.mem at (size_at self.old.mem at) kind (owner_at self.old.mem at) }
+        ensures others { OthersStay self.old.mem self.new.mem at }
+        ensures free { free_of self.new.mem ≡ free_of self.old.mem }
+        ensures apart { FreeApart self.old.mem → FreeApart self.new.mem }
+    {
+        set_kind(&mut self.mem, at, kind);
+    }
+
+    /// Packs the blocks in use at the memory's front, in their order and word for word; all behind them is one free block.
+    pub fn pack(&mut self)
+        requires { Sound self.old }
+        ensures sound { Sound self.new }
+        ensures packed { Packed self.old.mem self.new.mem }
+        ensures free { free_of self.new.mem ≡ free_of self.old.mem }
+        ensures apart { FreeApart self.new.mem }
+    {
+        let end = gather(&mut self.mem);
+        self.relay(end);
     }
 
     /// The words of all free blocks.

@@ -2,6 +2,7 @@
 ghost use Rattle.std.specs.Prelude.{◌≡◌, ℕ, ◌+◌, ◌-◌, ◌<◌, ◌≤◌, ◌≢◌, ◌⊎◌, length, slice_index, IfSome, IfNone};
 ghost use Rattle.word_arena.specs.Blocks.{size_at, kind_at, free_at, Blocked, BlockBegins, IsBoundary, free_of};
 ghost use Rattle.word_arena.specs.Calls.{free_end};
+ghost use Rattle.word_arena.specs.Sums.{free_before};
 
 use word_mem::WordMem;
 
@@ -131,6 +132,34 @@ pub(crate) fn greatest(mem: &WordMem, from: u64, end: u64) -> Walk
         at = next(mem, at);
     }
     Walk { most, at }
+}
+
+/// The free words before a block, and where it begins.
+#[derive(Drop)]
+pub(crate) struct Count {
+    pub(crate) sum: u64,
+    pub(crate) at: u64,
+}
+
+/// Counts on over the blocks that begin from one place on and before another: `sum` words are free before the first.
+pub(crate) fn count_before(mem: &WordMem, from: u64, end: u64, sum: u64) -> Count
+    requires blocked { Blocked mem.now }
+    requires from { IsBoundary mem.now from }
+    requires end { end ≤ length mem.now }
+    requires sum { sum ≡ free_before mem.now from }
+    ensures sum { result.sum ≡ free_before mem.now result.at }
+    ensures stop { IsBoundary mem.now result.at }
+    ensures past { end ≤ result.at }
+    ensures next { (p : ℕ) → BlockBegins mem.now p → from ≤ p → end ≤ p → result.at ≤ p }
+{
+    let _len = mem.len();
+    let mut sum = sum;
+    let mut at = from;
+    while at < end {
+        sum += free(mem, at);
+        at = next(mem, at);
+    }
+    Count { sum, at }
 }
 
 /// The free words of all blocks.

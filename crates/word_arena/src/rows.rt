@@ -2,9 +2,9 @@
 ghost use Rattle.std.specs.Prelude.{◌≡◌, ℕ, ◌+◌, ◌-◌, ◌<◌, ◌≤◌, length};
 ghost use Rattle.word_arena.specs.Blocks.{size_at, Blocked, Reaches, IsUsed};
 ghost use Rattle.word_arena.specs.Calls.{FirstFit, FreeFrom, freed};
-ghost use Rattle.word_arena.specs.Changes.{TookBlock, Shortened, GaveBlock, Closed};
+ghost use Rattle.word_arena.specs.Changes.{TookBlock, Shortened, Turned, GaveBlock, Closed};
 
-use crate::blocks::{KINDS, LAST_KIND, free_end, kind, next};
+use crate::blocks::{KINDS, LAST_KIND, free_end, kind, next, size};
 use word_mem::WordMem;
 
 /// Takes a block from the front of the first free block that has its words.
@@ -36,6 +36,18 @@ pub(crate) fn shorten(mem: &mut WordMem, at: u64, words: u64)
     let kind = kind(mem, at);
     set_free(mem, at + words, end);
     mem.set(at, words * KINDS + kind);
+}
+
+/// Gives a block in use another kind.
+pub(crate) fn set_kind(mem: &mut WordMem, at: u64, kind: u64)
+    requires blocked { Blocked mem.old }
+    requires block { IsUsed mem.old at }
+    requires kind { (1 ≤ kind) × (kind ≤ LAST_KIND) }
+    ensures { Turned mem.old mem.new at kind }
+{
+    let _len = mem.len();
+    let size = size(mem, at);
+    mem.set(at, size * KINDS + kind);
 }
 
 /// Frees a block, which becomes one with the free words before it, from the given place on, and behind it.

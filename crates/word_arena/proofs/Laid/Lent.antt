@@ -1,5 +1,7 @@
 -- An arena whose memory was lent, and came back with the headers as they were, is sound.
-use Rattle.std.proofs.Common.{◌≡◌, ℕ, ◌+◌, ◌*◌, ◌/◌, ◌<◌, ◌≤◌, List, length, get_or, refl, sym, ◌∙◌, ap, subst, arith}
+use Rattle.std.proofs.Common.{◌≡◌, ℕ, ◌+◌, ◌*◌, ◌/◌, ◌<◌, ◌≤◌, ◌⊎◌, List, length, get_or, set, refl, sym, ◌∙◌, ap, subst, arith, inl, inr}
+use Rattle.std.proofs.lemmas.Bool.{cases_lt}
+use Rattle.std.proofs.lemmas.List.{get_or-set_other, length-set}
 use Rattle.word_arena.specs.Blocks.{size_at, kind_at, Blocks, Blocked, block_places, IsListed, BlockBegins, free_of, FreeApart}
 use Rattle.word_arena.specs.Calls.{HeadersStay}
 use Rattle.word_arena.specs.Changes.{Frame}
@@ -7,7 +9,7 @@ use Rattle.word_arena.specs.Sound.{Sound}
 use Rattle.word_arena.specs.Stretches.{HasRoom, Agrees}
 use Rattle.word_arena.specs.declared.arena.Arena.{Arena}
 use Rattle.word_arena.specs.declared.holes.Holes.{Holes}
-use Rattle.word_arena.proofs.Side.Facts.{next-begins}
+use Rattle.word_arena.proofs.Side.Facts.{next-begins, apart}
 use Rattle.word_arena.proofs.Side.Places.{free_among-same}
 use Rattle.word_arena.proofs.Laid.Relaid.{free_of-row}
 use Rattle.word_arena.proofs.Found.Table.{frame-right}
@@ -69,6 +71,28 @@ lent-agrees old new h blocked same agrees =
       free = agrees.free ∙ sym (lent-free old new blocked same);
     }
 
+pub lent-blocked : (old new : List ℕ) → Blocked old → HeadersStay old new → Blocked new
+lent-blocked old new blocked same = blocked-row new (block_places old) (row-same old new blocked same)
+
 pub lent : (a : Arena) (new : List ℕ) → Sound a → HeadersStay a.mem new → Sound (record { mem = new; holes = a.holes })
 lent a new sound same =
-    record { blocked = blocked-row new (block_places a.mem) (row-same a.mem new sound.blocked same); agrees = lent-agrees a.mem new a.holes sound.blocked same sound.agrees }
+    record { blocked = lent-blocked a.mem new sound.blocked same; agrees = lent-agrees a.mem new a.holes sound.blocked same sound.agrees }
+
+-- What is written inside a block, behind its header, is no header.
+pub kept-inside : (old new : List ℕ) (p from to : ℕ) → Blocked old → BlockBegins old p → p < from → to ≤ p + size_at old p → length new ≡ length old
+    → ((q : ℕ) → (q < from) ⊎ (to ≤ q) → get_or new q 0 ≡ get_or old q 0) → HeadersStay old new
+kept-inside old new p from to blocked begins above below same_len same =
+    record {
+      same_len = same_len;
+      same = λ r is. same r (elim (cases_lt r from) as (λ _. (r < from) ⊎ (to ≤ r)) [
+        | inl low ↦ inl low
+        | inr high ↦ elim (cases_lt r to) as (λ _. (r < from) ⊎ (to ≤ r)) [
+          | inl inner ↦ (let far : p + size_at old p ≤ r = apart old p r blocked begins is (omega arith) in absurd (omega arith))
+          | inr past ↦ inr past
+        ]
+      ]);
+    }
+
+pub set-inside : (mem : List ℕ) (p q w : ℕ) → Blocked mem → BlockBegins mem p → p < q → q < p + size_at mem p → HeadersStay mem (set mem q w)
+set-inside mem p q w blocked begins above below =
+    kept-inside mem (set mem q w) p q (q + 1) blocked begins above (omega arith) (length-set mem q w) (λ r out. get_or-set_other mem q r w 0 (omega (arith, out)))

@@ -14,7 +14,7 @@ use Rattle.word_arena.proofs.Side.Runs.{one-run, run-behind, run-before, made-ru
 use Rattle.word_arena.proofs.Laid.Writes.{freed-length, freed-first, freed-other, Written, shortened-written, shortened-owner, taken-written, taken-owner}
 
 -- A call changed the blocks from a to e, which begin at a, b or c, before and after it.
-record Changed (old new : List ℕ) (a e b c at : ℕ) (cs ds : List ℕ) : Type 0 where
+pub record Changed (old new : List ℕ) (a e b c at : ℕ) (cs ds : List ℕ) : Type 0 where
   pub others : OthersStay old new at
   pub relaid : Relaid old new a e cs ds
   pub frame : Frame old new a b c
@@ -36,7 +36,7 @@ framed old new a e b c cs ds ch r were are =
       same = λ p na nb nc begins. ch.same p (out p na nb nc begins);
     }
 
-changed : (old new : List ℕ) (a e b c at : ℕ) (cs ds : List ℕ) → Blocked old → Change old new a e cs ds
+pub changed : (old new : List ℕ) (a e b c at : ℕ) (cs ds : List ℕ) → Blocked old → Change old new a e cs ds
     → ((p : ℕ) → IsListed p cs → (p ≡ a) ⊎ ((p ≡ b) ⊎ (p ≡ c))) → ((p : ℕ) → IsListed p ds → (p ≡ a) ⊎ ((p ≡ b) ⊎ (p ≡ c)))
     → ((p : ℕ) → IsListed p cs → p ≢ at → kind_at old p ≡ 0) → ((p : ℕ) → IsListed p ds → p ≢ at → kind_at new p ≡ 0) → Changed old new a e b c at cs ds
 changed old new a e b c at cs ds blocked ch were are cs_free ds_free =
@@ -52,7 +52,7 @@ written-led old new at words kind e w order some used low =
     led new at (at + words) e (made-header word words kind w.head low (omega arith) (λ z. some)) is_used size
     (made-run new (at + words) e order w.rest)
 
-outside-rest : (at words e q : ℕ) → 2 ≤ words → (q < at) ⊎ (e ≤ q) → (q ≢ at + words) ⊎ (e ≤ at + words)
+pub outside-rest : (at words e q : ℕ) → 2 ≤ words → (q < at) ⊎ (e ≤ q) → (q ≢ at + words) ⊎ (e ≤ at + words)
 outside-rest at words e q some (inl low) = inl (omega arith)
 outside-rest at words e q some (inr high) =
     elim (cases_lt (at + words) e) as (λ _. (q ≢ at + words) ⊎ (e ≤ at + words)) [ inl below ↦ inl (omega arith) | inr none ↦ inr none ]

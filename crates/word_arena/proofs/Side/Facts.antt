@@ -1,11 +1,11 @@
 -- What is known of the blocks of a memory that is a row of blocks.
-use Rattle.std.proofs.Common.{◌≡◌, ℕ, ◌+◌, ◌/◌, ◌%◌, ◌<◌, ◌≤◌, true, false, ◌==◌, List, [], ◌∷◌, ◌++◌, length, refl, sym, subst, arith, inl, inr}
+use Rattle.std.proofs.Common.{◌≡◌, ℕ, ◌+◌, ◌/◌, ◌%◌, ◌<◌, ◌≤◌, ◌⊎◌, true, false, ◌==◌, List, [], ◌∷◌, ◌++◌, length, refl, sym, subst, arith, inl, inr}
 use Rattle.std.proofs.lemmas.Bool.{cases_lt}
 use Rattle.std.proofs.lemmas.Bool.Decides.{nat_tests}
 use Rattle.word_arena.specs.Blocks.{size_at, kind_at, free_at, header, IsHeader, Blocks, Blocked, block_places, IsListed, BlockBegins, IsBoundary, FreeApart}
 use Rattle.word_arena.specs.Calls.{free_end}
 use Rattle.word_arena.proofs.Side.Places.{in-right, around}
-use Rattle.word_arena.proofs.Side.Tiling.{blocks-part, Within, blocks-within, blocks-apart, Covers, blocks-cover}
+use Rattle.word_arena.proofs.Side.Tiling.{blocks-part, Within, blocks-within, blocks-apart, blocks-cover}
 
 -- The free words of a free block and of another.
 
@@ -66,6 +66,25 @@ block-around mem q blocked inside =
 pub apart : (mem : List ℕ) (p q : ℕ) → Blocked mem → BlockBegins mem p → BlockBegins mem q → p < q → p + size_at mem p ≤ q
 apart mem p q blocked first second below =
     blocks-apart mem 0 (length mem) p q (block_places mem) blocked.row first.listed second.listed below
+
+pub one-or-apart : (mem : List ℕ) (p q : ℕ) → Blocked mem → BlockBegins mem p → BlockBegins mem q → (p ≡ q) ⊎ ((p + size_at mem p ≤ q) ⊎ (q + size_at mem q ≤ p))
+one-or-apart mem p q blocked first second =
+    elim (cases_lt p q) as (λ _. (p ≡ q) ⊎ ((p + size_at mem p ≤ q) ⊎ (q + size_at mem q ≤ p))) [
+      | inl below ↦ inr (inl (apart mem p q blocked first second below))
+      | inr above ↦ elim (cases_lt q p) as (λ _. (p ≡ q) ⊎ ((p + size_at mem p ≤ q) ⊎ (q + size_at mem q ≤ p))) [
+        | inl more ↦ inr (inr (apart mem q p blocked second first more))
+        | inr less ↦ inl (omega arith)
+      ]
+    ]
+
+-- A free block has no word in common with one in use.
+pub free-beside : (mem : List ℕ) (p q : ℕ) → Blocked mem → BlockBegins mem p → BlockBegins mem q → kind_at mem p ≡ 0 → 1 ≤ kind_at mem q
+    → (q + size_at mem q ≤ p) ⊎ (p + size_at mem p ≤ q)
+free-beside mem p q blocked first second free used =
+    elim (one-or-apart mem p q blocked first second) as (λ _. (q + size_at mem q ≤ p) ⊎ (p + size_at mem p ≤ q)) [
+      | inl same ↦ (let P : ℕ → Type 0 = λ z. kind_at mem z ≡ 0 in let none : kind_at mem q ≡ 0 = subst P same free in absurd (omega (arith, none, used)))
+      | inr far ↦ elim far as (λ _. (q + size_at mem q ≤ p) ⊎ (p + size_at mem p ≤ q)) [ inl x ↦ inr x | inr y ↦ inl y ]
+    ]
 
 next-in : (mem : List ℕ) (p a : ℕ) (xs : List ℕ) → Blocks mem a xs (length mem) → a < length mem → IsListed a xs
 next-in mem p a [] same below = absurd (omega arith)

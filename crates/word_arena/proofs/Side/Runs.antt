@@ -19,7 +19,7 @@ pub record Run (mem : List ℕ) (a e : ℕ) : Type 0 where
   pub whole : a < e → a + size_at mem a ≡ e
   pub last : (p : ℕ) → IsListed p ps → p + size_at mem p ≡ e
 
-only-in : (p a : ℕ) → IsListed p (a ∷ []) → p ≡ a
+pub only-in : (p a : ℕ) → IsListed p (a ∷ []) → p ≡ a
 only-in p a (inl same) = same
 only-in p a (inr none) = elim none [ ]
 

@@ -1,6 +1,7 @@
-use Rattle.std.proofs.Common.{◌+◌, ◌-◌, ◌/◌, arith, refl}
+use Rattle.std.proofs.Common.{◌+◌, ◌-◌, ◌/◌, ◌≤◌, ◌⊎◌, arith, refl, inl, inr}
+use Rattle.word_arena.specs.Blocks.{size_at}
 use Rattle.word_arena.specs.Stretches.{Settled}
-use Rattle.word_arena.proofs.Side.Facts.{block-within}
+use Rattle.word_arena.proofs.Side.Facts.{block-within, free-beside}
 use Rattle.word_arena.proofs.Found.Table.{frame-first, settled-then, agrees-again}
 use Rattle.word_arena.proofs.Found.Searching.{right-at}
 use Rattle.word_arena.proofs.arena.Arena.take.Goals as goal
@@ -33,3 +34,9 @@ returns-clause-sound c =
           c.requires.sound.agrees settled t.frame (s.settled.keeps (at / 64) c.settle_at.ensures.right) (λ other. absurd (other refl)) s.right
           (omega (arith, settled.free, c.requires.sound.agrees.free, t.free));
     }
+
+pub returns-clause-beside : goal.returns-clause-beside
+returns-clause-beside c = λ p used.
+    let f = c.in_ok-at.ensures.first in
+    let o = free-beside c.args.self.now.mem c.in_ok-at.at p c.requires.sound.blocked f.begins used.begins f.free used.kind in
+    elim o as (λ _. (p + size_at c.args.self.now.mem p ≤ c.in_ok-at.at) ⊎ (c.in_ok-at.at + c.args.words ≤ p)) [ inl x ↦ inl x | inr y ↦ inr (omega (arith, y, f.fits)) ]
