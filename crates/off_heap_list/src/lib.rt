@@ -15,6 +15,6 @@ pub use laws::{
     turns_begin_and_end,
 };
 pub use links::{next_of, record_of, set_next, set_record};
-pub use sweep::{Sweep, Swept, sweep_next, sweep_one};
+pub use sweep::{Sweep, Swept, held_in, sweep_next, sweep_one};
 pub use turn::{Turn, turn_next};
 pub use whole::{Order, Survivors, sweep_chain, turn_chain};

@@ -114,8 +114,8 @@ pub fn sweep_next(mem: &mut WordMem, sweep: &mut Sweep) -> Swept
     swept
 }
 
-// The words of the bytes that a holder has, 0 for a fun.
-fn held_in(mem: &WordMem, object: u64) -> u64
+/// The words of the bytes that a holder has, 0 for a fun.
+pub fn held_in(mem: &WordMem, object: u64) -> u64
     requires { object + 6 ≤ length mem.now }
     ensures { result ≡ bin_words_at mem.now object }
 {
