@@ -5,13 +5,14 @@ ghost use Rattle.plain_term.specs.Tree.Tree.{Shared, Fun};
 ghost use Rattle.term_words.specs.Stands.{Stands};
 ghost use Rattle.term_words.specs.Kept.{Kept};
 ghost use Rattle.shared_rec.specs.Record.{count_in};
-ghost use Rattle.off_heap_list.specs.Links.{named, IsLink, Links};
+ghost use Rattle.off_heap_list.specs.Links.{named, Chain, IsLink, Links};
 ghost use Rattle.off_heap_list.specs.Exact.{ListsHeld, AllCounted, Exact, OwnChain, AreOwn, objects_of, Chained};
 ghost use Rattle.off_heap_list.specs.Several.{AreChains, ManyLinks, AreListed, LeadAlike};
 ghost use Rattle.off_heap_list.specs.Elsewhere.{LinksMoved, AreChainsTo};
 ghost use Rattle.off_heap_list.specs.Turned.{Turning};
 ghost use Rattle.off_heap_list.specs.Swept.{is_moved, new_place, named_records, IsOld, Sweeping};
-ghost use Rattle.off_heap_list.specs.Whole.{SweptWhole};
+ghost use Rattle.off_heap_list.specs.Whole.{SweptFront, SweptWhole};
+ghost use Rattle.off_heap_list.specs.declared.whole.FrontLeft.{FrontLeft};
 ghost use Rattle.off_heap_list.specs.declared.whole.Survivors.{Survivors};
 ghost use Rattle.term_words.specs.Object.{IsRecord};
 ghost use Rattle.term_words.specs.Counted.{In, Distinct};
@@ -50,6 +51,13 @@ pub fn sweeps_go_on()
 pub fn sweeps_end()
     ensures { (c : ℕ → ℕ → Bool) (mem : List ℕ) (head first : ℕ) (kept : List ℕ) (last : ℕ) (ends further : List ℕ)
         → Sweeping c mem head [] first kept last ends further → Links c mem first kept further }
+{}
+
+/// The rest of a chain whose front part was swept leads on as before, where nothing was moved to its objects.
+pub fn swept_fronts_leave_the_rest()
+    ensures { (c : ℕ → ℕ → Bool) (start mem os kept further : List ℕ) (to : ℕ) (result : FrontLeft) → SweptFront c start mem os kept further to result
+        → (rest : List ℕ) → Chain start to rest → ((p : ℕ) → In p rest → IsLink c start p) → ((p : ℕ) → In p rest → In p kept → ⊥)
+        → Chain mem result.rest rest }
 {}
 
 /// Where a chain, or several with a further list, have exactly the holders and funs that the roots reach, and no record has
