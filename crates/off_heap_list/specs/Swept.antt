@@ -8,7 +8,7 @@ use Rattle.term_words.specs.Object.{IsRecord}
 use Rattle.term_words.specs.Kept.{Kept}
 use Rattle.term_words.specs.Counted.{In, Distinct}
 use Rattle.shared_rec.specs.Record.{count_in}
-use Rattle.off_heap_list.specs.Links.{name_place, named, Chain, naming, IsLink}
+use Rattle.off_heap_list.specs.Links.{name_place, named, Leads, Chain, naming, IsLink}
 
 -- The object was moved: its first word is a boxed pointer to its new place.
 abbrev pub is_moved : List ℕ → ℕ → Bool
@@ -69,11 +69,12 @@ pub record IsLast (c : ℕ → ℕ → Bool) (mem : List ℕ) (p : ℕ) : Type 0
   pub left : is_moved mem p ≡ false
   pub freed : count_in mem (named mem p) ≡ 0
 
--- In the middle of a sweep: the old chain's objects that are left to see, the new chain of those that were moved, and a
--- chain of those that were the last to name their records. No object comes twice, and none is read by another's word `next`;
+-- In the middle of a sweep of a chain up to a place: its objects that are left to see, the new chain of those that were moved,
+-- and a chain of those that were the last to name their records. No object comes twice, and none is read by another's word `next`;
 -- each record's count is the number of objects of the first two, and of further ones, that name it.
-pub record Sweeping (c : ℕ → ℕ → Bool) (mem : List ℕ) (head : ℕ) (os : List ℕ) (first : ℕ) (kept : List ℕ) (last : ℕ) (ends further : List ℕ) : Type 0 where
-  pub rest : Chain mem head os
+pub record FrontSweeping (c : ℕ → ℕ → Bool) (mem : List ℕ) (head : ℕ) (os : List ℕ) (to first : ℕ) (kept : List ℕ) (last : ℕ)
+    (ends further : List ℕ) : Type 0 where
+  pub rest : Leads mem head os to
   pub old : (p : ℕ) → In p os → IsOld c mem p
   pub chain : Chain mem first kept
   pub once : Distinct kept
@@ -86,6 +87,10 @@ pub record Sweeping (c : ℕ → ℕ → Bool) (mem : List ℕ) (head : ℕ) (os
   pub gone : Chain mem last ends
   pub freed : (p : ℕ) → In p ends → IsLast c mem p
   pub freed_once : Distinct (named_records mem ends)
+
+-- The same of a chain to its end.
+abbrev pub Sweeping : (ℕ → ℕ → Bool) → List ℕ → (head : ℕ) → (os : List ℕ) → (first : ℕ) → (kept : List ℕ) → (last : ℕ) → (ends further : List ℕ) → Type 0
+Sweeping c mem head os first kept last ends further = FrontSweeping c mem head os 0 first kept last ends further
 
 -- What a sweep has done since it began: content and the old objects that are left are as they were, no count is greater, and
 -- the records of its last namers are those that were counted at its beginning and are not any more.

@@ -8,8 +8,9 @@ use Rattle.shared_rec.specs.Record.{count_in}
 use Rattle.off_heap_list.specs.declared.whole.Order.{Order}
 use Rattle.off_heap_list.specs.declared.whole.Order.TheVariants.{Same, Turned}
 use Rattle.off_heap_list.specs.declared.whole.Survivors.{Survivors}
+use Rattle.off_heap_list.specs.declared.whole.FrontLeft.{FrontLeft}
 use Rattle.off_heap_list.specs.Links.{named, Chain, Links}
-use Rattle.off_heap_list.specs.Swept.{is_moved, new_place, bin_words_at, named_records, Relinked, IsLast, Sweeping}
+use Rattle.off_heap_list.specs.Swept.{is_moved, new_place, bin_words_at, named_records, Relinked, IsLast, FrontSweeping, Sweeping}
 
 -- The new places of those of the objects that were moved, in order.
 abbrev pub moved_of : List ℕ → List ℕ → List ℕ
@@ -58,6 +59,23 @@ pub record SweptWhole (c : ℕ → ℕ → Bool) (start mem : List ℕ) (os kept
   pub content : Kept c c start mem
   pub back : Kept c c mem start
   pub trees : Keeps c c start mem
+
+-- The front part of a chain, up to a place, was swept: what was moved is a chain of its own, no other word `next` was written, and
+-- the place where the rest begins is told.
+pub record SweptFront (c : ℕ → ℕ → Bool) (start mem : List ℕ) (os kept further : List ℕ) (to : ℕ) (result : FrontLeft) : Type 0 where
+  pub whole : SweptWhole c start mem os kept further result.left
+  pub rest : result.rest ≡ to
+  pub nexts : (q : ℕ) → c q NEXT ≡ true → ((p : ℕ) → In p kept → q ≡ p + 2 → ⊥) → slice_index mem q ≡ slice_index start q
+
+-- The first objects of a chain, so many, stand before a sweep.
+pub record CanSweepFront (mem : List ℕ) (head len : ℕ) : Type 0 where
+  pub test : ℕ → ℕ → Bool
+  pub single : IsSingle test
+  pub os : List ℕ
+  pub to : ℕ
+  pub further : List ℕ
+  pub number : length os ≡ len
+  pub begins : FrontSweeping test mem head os to 0 [] 0 [] further
 
 -- A chain of so many objects stands before a sweep.
 pub record CanSweep (mem : List ℕ) (head len : ℕ) : Type 0 where

@@ -10,11 +10,13 @@ mod whole;
 
 pub use chains::{Unchained, chain, unchain};
 pub use laws::{
-    chained_objects_stay, chains_of_what_is_reached_count_exactly, each_of_several_chains_is_one,
-    holders_and_funs_are_links, sweeps_end, sweeps_go_on, swept_records_are_counted_or_told,
+    chained_objects_stay, chains_of_what_is_reached_are_many,
+    chains_of_what_is_reached_count_exactly, each_of_several_chains_is_one,
+    holders_and_funs_are_links, many_chains_are_chains, relocated_chains_stand, sweeps_end,
+    sweeps_go_on, swept_fronts_leave_the_rest, swept_records_are_counted_or_told,
     turns_begin_and_end,
 };
 pub use links::{next_of, record_of, set_next, set_record};
-pub use sweep::{Sweep, Swept, sweep_next, sweep_one};
+pub use sweep::{Sweep, Swept, held_in, sweep_next, sweep_one};
 pub use turn::{Turn, turn_next};
-pub use whole::{Order, Survivors, sweep_chain, turn_chain};
+pub use whole::{FrontLeft, Order, Survivors, sweep_chain, sweep_front, turn_chain};

@@ -4,7 +4,7 @@ ghost use Rattle.term_words.specs.Role.{IsSingle, Idle};
 ghost use Rattle.term_words.specs.Kept.{Keeps};
 ghost use Rattle.shared_rec.specs.Record.{count_in};
 ghost use Rattle.off_heap_list.specs.Links.{named, next_in};
-ghost use Rattle.off_heap_list.specs.Swept.{is_moved, new_place, bin_words_at, count_less, freed_at, left_behind, kept_after, ends_after, Relinked, IsOld, Sweeping, Since};
+ghost use Rattle.off_heap_list.specs.Swept.{is_moved, new_place, bin_words_at, count_less, freed_at, left_behind, kept_after, ends_after, Relinked, IsOld, FrontSweeping, Since};
 
 use crate::chains::freed_by;
 use crate::links::{next_of, record_of, set_next};
@@ -89,12 +89,12 @@ pub fn sweep_next(mem: &mut WordMem, sweep: &mut Sweep) -> Swept
         × (mem.new ≡ left_behind mem.old sweep.old.rest sweep.old.last) }
     ensures writes { (c : ℕ → ℕ → Bool) → IsOld c mem.old sweep.old.rest → Relinked c (sweep.old.rest ∷ []) mem.old mem.new }
     ensures kept { (c : ℕ → ℕ → Bool) → IsSingle c → IsOld c mem.old sweep.old.rest → Keeps c c mem.old mem.new }
-    ensures goes_on { (c : ℕ → ℕ → Bool) (p : ℕ) (os kept ends further : List ℕ) → IsSingle c
-        → Sweeping c mem.old sweep.old.rest (p ∷ os) sweep.old.first kept sweep.old.last ends further
-        → Sweeping c mem.new sweep.new.rest os sweep.new.first (kept_after mem.old sweep.old.rest kept) sweep.new.last (ends_after mem.old sweep.old.rest ends)
-        further }
-    ensures since { (c : ℕ → ℕ → Bool) (p : ℕ) (os kept ends further start : List ℕ) → IsSingle c
-        → Sweeping c mem.old sweep.old.rest (p ∷ os) sweep.old.first kept sweep.old.last ends further → Since c start mem.old (p ∷ os) ends
+    ensures goes_on { (c : ℕ → ℕ → Bool) (p : ℕ) (os : List ℕ) (to : ℕ) (kept ends further : List ℕ) → IsSingle c
+        → FrontSweeping c mem.old sweep.old.rest (p ∷ os) to sweep.old.first kept sweep.old.last ends further
+        → FrontSweeping c mem.new sweep.new.rest os to sweep.new.first (kept_after mem.old sweep.old.rest kept) sweep.new.last
+        (ends_after mem.old sweep.old.rest ends) further }
+    ensures since { (c : ℕ → ℕ → Bool) (p : ℕ) (os : List ℕ) (to : ℕ) (kept ends further start : List ℕ) → IsSingle c
+        → FrontSweeping c mem.old sweep.old.rest (p ∷ os) to sweep.old.first kept sweep.old.last ends further → Since c start mem.old (p ∷ os) ends
         → Since c start mem.new os (ends_after mem.old sweep.old.rest ends) }
 {
     let _len = mem.len();
@@ -114,8 +114,8 @@ pub fn sweep_next(mem: &mut WordMem, sweep: &mut Sweep) -> Swept
     swept
 }
 
-// The words of the bytes that a holder has, 0 for a fun.
-fn held_in(mem: &WordMem, object: u64) -> u64
+/// The words of the bytes that a holder has, 0 for a fun.
+pub fn held_in(mem: &WordMem, object: u64) -> u64
     requires { object + 6 ≤ length mem.now }
     ensures { result ≡ bin_words_at mem.now object }
 {

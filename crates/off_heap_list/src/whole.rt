@@ -2,8 +2,8 @@
 ghost use Rattle.std.specs.Prelude.{◌≡◌, ℕ, ◌+◌, ◌<◌, ◌^◌, Bool, List, [], length};
 ghost use Rattle.term_words.specs.Role.{IsSingle};
 ghost use Rattle.off_heap_list.specs.Links.{Links};
-ghost use Rattle.off_heap_list.specs.Swept.{Sweeping};
-ghost use Rattle.off_heap_list.specs.Whole.{moved_of, ordered, turned, one_of, SweptWhole, CanSweep, TurnedWhole, CanTurn};
+ghost use Rattle.off_heap_list.specs.Swept.{FrontSweeping, Sweeping};
+ghost use Rattle.off_heap_list.specs.Whole.{moved_of, ordered, turned, one_of, SweptFront, SweptWhole, CanSweep, CanSweepFront, TurnedWhole, CanTurn};
 
 use crate::sweep::{Sweep, Swept, sweep_next};
 use crate::turn::{Turn, turn_next};
@@ -35,7 +35,7 @@ pub fn sweep_chain(mem: &mut WordMem, head: u64, len: u64, order: Order) -> Surv
     ensures { (c : ℕ → ℕ → Bool) (os further : List ℕ) → IsSingle c → length os ≡ len → Sweeping c mem.old head os 0 [] 0 [] further
         → SweptWhole c mem.old mem.new os (ordered order (moved_of mem.old os)) further result }
 {
-    let left = sweep_turned(mem, head, len);
+    let left = sweep_front(mem, head, len).left;
     match order {
         Order::Turned => left,
         Order::Same => Survivors {
@@ -48,19 +48,20 @@ pub fn sweep_chain(mem: &mut WordMem, head: u64, len: u64, order: Order) -> Surv
     }
 }
 
-// How many objects were moved, how many words of bytes they hold, and how many records were freed.
+/// What a sweep leaves of the front part of a chain: the survivors, a chain of their own, the last one first; and the first object
+/// of the rest, 0 for none.
 #[derive(Clone, Copy)]
-pub struct Tally {
-    pub len: u64,
-    pub words: u64,
-    pub freed: u64,
+pub struct FrontLeft {
+    pub left: Survivors,
+    pub rest: u64,
 }
 
-// Sweeps a chain; the last object of the old one that was moved becomes the first of the new one.
-fn sweep_turned(mem: &mut WordMem, head: u64, len: u64) -> Survivors
-    requires { CanSweep mem.old head len }
-    ensures { (c : ℕ → ℕ → Bool) (os further : List ℕ) → IsSingle c → length os ≡ len → Sweeping c mem.old head os 0 [] 0 [] further
-        → SweptWhole c mem.old mem.new os (turned (moved_of mem.old os) []) further result }
+/// Sweeps the first `len` objects of a chain after a collection, as where the objects behind them are of an older part: the rest
+/// leads on as it did. Every tree stands.
+pub fn sweep_front(mem: &mut WordMem, head: u64, len: u64) -> FrontLeft
+    requires { CanSweepFront mem.old head len }
+    ensures { (c : ℕ → ℕ → Bool) (os : List ℕ) (to : ℕ) (further : List ℕ) → IsSingle c → length os ≡ len
+        → FrontSweeping c mem.old head os to 0 [] 0 [] further → SweptFront c mem.old mem.new os (turned (moved_of mem.old os) []) further to result }
 {
     let mut sweep = Sweep {
         rest: head,
@@ -77,13 +78,24 @@ fn sweep_turned(mem: &mut WordMem, head: u64, len: u64) -> Survivors
         let swept = sweep_next(mem, &mut sweep);
         tally = counted(tally, swept);
     }
-    Survivors {
-        first: sweep.first,
-        len: tally.len,
-        words: tally.words,
-        last: sweep.last,
-        freed: tally.freed,
+    FrontLeft {
+        left: Survivors {
+            first: sweep.first,
+            len: tally.len,
+            words: tally.words,
+            last: sweep.last,
+            freed: tally.freed,
+        },
+        rest: sweep.rest,
     }
+}
+
+// How many objects were moved, how many words of bytes they hold, and how many records were freed.
+#[derive(Clone, Copy)]
+pub struct Tally {
+    pub len: u64,
+    pub words: u64,
+    pub freed: u64,
 }
 
 // The tally with what became of one more object.

@@ -7,7 +7,7 @@ use Rattle.term_words.specs.Reach.{parts_of}
 use Rattle.term_words.proofs.Placing.Roles.{object-some}
 use Rattle.off_heap_list.specs.Links.{names_it, named}
 use Rattle.off_heap_list.proofs.Walked.Tallied.{one-at-most}
-use Rattle.term_copy.specs.Row.{is_link}
+use Rattle.object_rows.specs.Row.{is_link}
 use Rattle.term_copy.specs.Going.{Item, Among, Spread, flat_of_parts, tally}
 
 -- Members of a list with one more at its end.

@@ -4,4 +4,3 @@ pub mod Taking
 pub mod Stepping
 pub mod Alike
 pub mod Whole
-pub mod Rows

@@ -18,7 +18,7 @@ use Rattle.term_words.proofs.ByKind.Shapes.{told}
 use Rattle.shared_rec.specs.Record.{length_in}
 use Rattle.off_heap_list.specs.Links.{name_place, named, IsLinkHeader}
 use Rattle.off_heap_list.proofs.Chaining.Chained.{holder-place, fun-place}
-use Rattle.term_copy.specs.Row.{is_link}
+use Rattle.object_rows.specs.Row.{is_link}
 
 -- What tag and header of a holder or fun tell.
 pub link-told : (mem : List ℕ) (w : ℕ) → is_link mem w ≡ true → (w % 4 ≡ 2) × ((get_or mem (w / 4) 0 / 4 % 16 ≡ 8) ⊎ (get_or mem (w / 4) 0 / 4 % 16 ≡ 5))

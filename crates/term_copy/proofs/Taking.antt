@@ -18,7 +18,7 @@ use Rattle.shared_rec.specs.Record.{count_in}
 use Rattle.shared_rec.proofs.Records.{record-counted, record-within}
 use Rattle.off_heap_list.specs.Links.{name_place, named, names_it}
 use Rattle.off_heap_list.proofs.Chaining.Chained.{place-same, one-naming, no-naming}
-use Rattle.term_copy.specs.Row.{is_link, is_link_header}
+use Rattle.object_rows.specs.Row.{is_link, is_link_header}
 use Rattle.term_copy.specs.Copied.{Task}
 use Rattle.term_copy.specs.Going.{Advances, Among, CanTake, Copying, Goes, HasImage, CopyHasRoom, LiesBeside, HasCopiedWords, IsCopiedWord, IsLed, IsOf, Item, Took}
 use Rattle.term_copy.proofs.Items.{among-last, among-left, among-split, left-last, spread-in, spread-last, spread-order, tally-few, tally-last}

@@ -30,7 +30,7 @@ use Rattle.shared_rec.proofs.Records.{bin-stays, fun-stays, record-same}
 use Rattle.off_heap_list.specs.Links.{named, names_it, naming, next_in, IsLink, Links}
 use Rattle.off_heap_list.proofs.Chaining.Chained.{leads-stays, link-stays, naming-stays}
 use Rattle.off_heap_list.proofs.Chaining.Exact.{naming-both}
-use Rattle.term_copy.specs.Row.{is_link, is_link_header, links_in}
+use Rattle.object_rows.specs.Row.{is_link, is_link_header, links_in}
 use Rattle.term_copy.specs.Copied.{CopiesTree, IsClosed, PointsInto, Task}
 use Rattle.term_copy.specs.Going.{Among, Begun, Copying, Goes, HasCopiedWords, IsCopiedWord, IsLed, IsOf, Item, Spread, flat_of_parts, tally}
 use Rattle.term_copy.proofs.Items.{spread-in, spread-none, spread-one, spread-order}

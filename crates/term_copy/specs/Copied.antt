@@ -12,7 +12,7 @@ use Rattle.term_words.specs.Counted.{In, Distinct}
 use Rattle.term_build.specs.Taken.{IsFree}
 use Rattle.shared_rec.specs.Record.{count_in}
 use Rattle.off_heap_list.specs.Links.{naming, next_in, IsLink, Links}
-use Rattle.term_copy.specs.Row.{AreObjects, links_in}
+use Rattle.object_rows.specs.Row.{AreObjects, links_in}
 
 -- What is constant while a tree is copied: the memory that it begins with, the free places of the room, from `top` up to
 -- `limit`, which places stay, a test that says where the words of the tree lie, and the word that stands for the tree.

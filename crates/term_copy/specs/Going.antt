@@ -11,7 +11,7 @@ use Rattle.term_words.specs.Reach.{first_traced, parts_of}
 use Rattle.term_build.specs.Taken.{IsFree}
 use Rattle.shared_rec.specs.Record.{count_in}
 use Rattle.off_heap_list.specs.Links.{names_it, named}
-use Rattle.term_copy.specs.Row.{is_link}
+use Rattle.object_rows.specs.Row.{is_link}
 use Rattle.term_copy.specs.Copied.{Task}
 
 -- The tree stands clear of the free words, and these hold its flat words.

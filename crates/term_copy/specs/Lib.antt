@@ -1,3 +1,2 @@
-pub mod Row
 pub mod Copied
 pub mod Going

@@ -7,7 +7,7 @@ ghost use Rattle.term_words.specs.Stands.{Stands};
 ghost use Rattle.term_copy.specs.Copied.{Task};
 ghost use Rattle.term_copy.specs.Going.{Advances, CanPart, CanTake, Copying, Goes, HasImage, Item, Took};
 
-use crate::chaining::is_link_word;
+use object_rows::is_link_word;
 use off_heap_list::chain;
 use word_mem::{Room, WordMem};
 

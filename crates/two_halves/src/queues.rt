@@ -7,7 +7,8 @@ ghost use Rattle.two_halves.specs.Queues.{CanQueue, CanSend, PlaceFollows, HasRo
 use crate::halves::{Halves, PLACE_WORDS};
 use crate::table::Proc;
 use cheney::Stay;
-use term_copy::{chain_row, copy_tree};
+use object_rows::chain_row;
+use term_copy::copy_tree;
 use word_mem::{Room, WordMem};
 
 impl Halves {

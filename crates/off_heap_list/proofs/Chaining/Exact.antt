@@ -1,14 +1,13 @@
 -- A chain that lists what is reached makes counts exact.
-use Rattle.std.proofs.Common.{◌≡◌, ℕ, ◌+◌, ◌≤◌, ◌⊎◌, ◌==◌, if◌then◌else◌, cond, Bool, true, false, List, [], ◌∷◌, ◌++◌, length, filter, refl, sym, ◌∙◌, ap, subst, arith, inl, inr}
-use Rattle.term_words.proofs.Totals.Members.{in-filter, filter-in, filter-distinct, in-both, in-left, in-right}
+use Rattle.std.proofs.Common.{◌≡◌, ℕ, ◌+◌, ◌≤◌, ◌⊎◌, ◌==◌, if◌then◌else◌, cond, Bool, true, false, List, [], ◌∷◌, ◌++◌, length, filter, refl, sym, ◌∙◌, ap, arith, inl, inr}
+use Rattle.term_words.proofs.Totals.Members.{in-filter, filter-in, filter-distinct, in-left}
 use Rattle.term_words.specs.Object.{IsRecord}
 use Rattle.term_words.specs.Counted.{In, Distinct}
 use Rattle.shared_rec.proofs.Records.{record-stays}
-use Rattle.std.proofs.lemmas.List.{append_assoc}
 use Rattle.std.proofs.lemmas.Bool.{eq-eqb, eqb-true}
 use Rattle.shared_rec.specs.Record.{count_in}
-use Rattle.off_heap_list.specs.Links.{names_it, named, naming, IsLink, Links}
-use Rattle.off_heap_list.specs.Exact.{ListsHeld, AllCounted, Exact, OwnChain, IsOwn, AreOwn, objects_of, Chained}
+use Rattle.off_heap_list.specs.Links.{names_it, named, naming, Links}
+use Rattle.off_heap_list.specs.Exact.{ListsHeld, AllCounted, Exact, OwnChain, objects_of, Chained}
 use Rattle.off_heap_list.specs.Swept.{named_records}
 use Rattle.off_heap_list.specs.Whole.{SweptWhole}
 use Rattle.off_heap_list.specs.declared.whole.Survivors.{Survivors}
@@ -59,15 +58,7 @@ counted-or-told c start mem os kept further left s some v n there =
       | inr zero ↦ inr (s.records.all v n there zero (omega (arith, some v n (record-stays c c mem start v n s.back there))))
     ]
 
--- One of several chains, with the objects of the others beside it.
-
-objects-both : (xs ys : List OwnChain) → objects_of (xs ++ ys) ≡ objects_of xs ++ objects_of ys
-objects-both [] ys = refl
-objects-both (x ∷ xs) ys = ap (λ zs. x.os ++ zs) (objects-both xs ys) ∙ sym (append_assoc x.os (objects_of xs) (objects_of ys))
-
-own-at : (c : ℕ → ℕ → Bool) (mem roots : List ℕ) (xs ys : List OwnChain) (x : OwnChain) → AreOwn c mem roots (xs ++ x ∷ ys) → IsOwn c mem roots x
-own-at c mem roots [] ys x (o, os) = o
-own-at c mem roots (z ∷ xs) ys x (o, os) = own-at c mem roots xs ys x os
+-- The parts of a list without repetition.
 
 pub distinct-left : (xs ys : List ℕ) → Distinct (xs ++ ys) → Distinct xs
 distinct-left [] ys d = tt
@@ -76,69 +67,3 @@ distinct-left (x ∷ xs) ys (n, d) = ((λ i. n (in-left x xs ys i)), distinct-le
 pub distinct-right : (xs ys : List ℕ) → Distinct (xs ++ ys) → Distinct ys
 distinct-right [] ys d = d
 distinct-right (x ∷ xs) ys (n, d) = distinct-right xs ys d
-
-module _ (c : ℕ → ℕ → Bool) (mem roots : List ℕ) (xs ys : List OwnChain) (x : OwnChain) (further : List ℕ) (k : Chained c mem roots (xs ++ x ∷ ys) further) where
-  split : objects_of (xs ++ x ∷ ys) ≡ objects_of xs ++ (x.os ++ objects_of ys)
-  split = objects-both xs (x ∷ ys)
-
-  link-at : (p : ℕ) → In p (objects_of xs ++ (x.os ++ objects_of ys)) → IsLink c mem p
-  link-at p inside = let P : List ℕ → Type 0 = λ zs. In p zs in k.each p (subst P (sym split) inside)
-
-  others-in : (p : ℕ) → In p (objects_of xs ++ (objects_of ys ++ further)) → IsLink c mem p
-  others-in p inside = elim (in-both p (objects_of xs) (objects_of ys ++ further) inside) [
-    | inl a ↦ link-at p (in-left p (objects_of xs) (x.os ++ objects_of ys) a)
-    | inr rest ↦ elim (in-both p (objects_of ys) further rest) [
-      | inl b ↦ link-at p (in-right p (objects_of xs) (x.os ++ objects_of ys) (in-right p x.os (objects_of ys) b))
-      | inr f ↦ k.beside p f
-    ]
-  ]
-
-  pub one-of-several : Links c mem x.head x.os (objects_of xs ++ (objects_of ys ++ further))
-  one-of-several = record {
-    chain = (own-at c mem roots xs ys x k.own).chain;
-    once = distinct-left x.os (objects_of ys) (distinct-right (objects_of xs) (x.os ++ objects_of ys) (subst Distinct split (distinct-left (objects_of (xs ++ x ∷ ys)) further k.once)));
-    each = λ p inside. link-at p (in-right p (objects_of xs) (x.os ++ objects_of ys) (in-left p x.os (objects_of ys) inside));
-    beside = others-in;
-    counts = λ v n there.
-        let was : count_in mem v ≡ naming mem v (objects_of (xs ++ x ∷ ys)) + naming mem v further = k.counts v n there in
-        omega (
-          arith,
-          was,
-          ap (λ zs. naming mem v zs) split,
-          naming-both mem v (objects_of xs) (x.os ++ objects_of ys),
-          naming-both mem v x.os (objects_of ys),
-          naming-both mem v (objects_of xs) (objects_of ys ++ further),
-          naming-both mem v (objects_of ys) further,
-        );
-  }
-
--- And back: where one chain is so and the others are, all are.
-pub several-again : (c : ℕ → ℕ → Bool) (mem roots : List ℕ) (xs ys : List OwnChain) (x : OwnChain) (further : List ℕ) → AreOwn c mem roots (xs ++ x ∷ ys)
-    → Distinct (objects_of (xs ++ x ∷ ys) ++ further) → AllCounted c mem → Links c mem x.head x.os (objects_of xs ++ (objects_of ys ++ further)) → Chained c mem roots (xs ++ x ∷ ys) further
-several-again c mem roots xs ys x further own once some l =
-    let split : objects_of (xs ++ x ∷ ys) ≡ objects_of xs ++ (x.os ++ objects_of ys) = objects-both xs (x ∷ ys) in
-    record {
-      own = own;
-      once = once;
-      each = λ p inside.
-          let P : List ℕ → Type 0 = λ zs. In p zs in
-          elim (in-both p (objects_of xs) (x.os ++ objects_of ys) (subst P split inside)) [
-            | inl a ↦ l.beside p (in-left p (objects_of xs) (objects_of ys ++ further) a)
-            | inr rest ↦ elim (in-both p x.os (objects_of ys) rest) [
-              | inl b ↦ l.each p b
-              | inr d ↦ l.beside p (in-right p (objects_of xs) (objects_of ys ++ further) (in-left p (objects_of ys) further d))
-            ]
-          ];
-      beside = λ p inside. l.beside p (in-right p (objects_of xs) (objects_of ys ++ further) (in-right p (objects_of ys) further inside));
-      counts = λ v n there.
-          omega (
-            arith,
-            l.counts v n there,
-            ap (λ zs. naming mem v zs) split,
-            naming-both mem v (objects_of xs) (x.os ++ objects_of ys),
-            naming-both mem v x.os (objects_of ys),
-            naming-both mem v (objects_of xs) (objects_of ys ++ further),
-            naming-both mem v (objects_of ys) further,
-          );
-      some = some;
-    }

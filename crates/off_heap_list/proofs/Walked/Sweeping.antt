@@ -13,7 +13,7 @@ use Rattle.term_words.proofs.Framing.Frames.{frame}
 use Rattle.shared_rec.specs.Record.{count_in}
 use Rattle.shared_rec.proofs.Records.{record-stays, record-counted}
 use Rattle.off_heap_list.specs.Links.{names_it, name_place, named, Leads, Chain, naming, IsLink, Links}
-use Rattle.off_heap_list.specs.Swept.{is_moved, new_place, count_less, freed_at, lies_at, lying, named_records, IsReadAt, kept_after, ends_after, left_behind, Relinked, IsOld, IsLast, Sweeping, Since}
+use Rattle.off_heap_list.specs.Swept.{is_moved, new_place, count_less, freed_at, lies_at, lying, named_records, IsReadAt, kept_after, ends_after, left_behind, Relinked, IsOld, IsLast, FrontSweeping, Since}
 use Rattle.off_heap_list.proofs.Chaining.Chained.{roles-apart, kept-then, place-same, link-named, link-stays, naming-stays, leads-stays, one-naming, no-naming, record-inside}
 
 -- Content is kept where only words `next`, counts, and words of old objects without a role were written, forwards and back.
@@ -144,8 +144,8 @@ record-named mem v (p ∷ os) (inl e) = (p, (inl refl, sym e))
 record-named mem v (p ∷ os) (inr deep) = let (q, (inside, e)) = record-named mem v os deep in (q, (inr inside, e))
 
 -- The next object's record counts it.
-module _ (c : ℕ → ℕ → Bool) (mem : List ℕ) (head p : ℕ) (os : List ℕ) (first : ℕ) (kept : List ℕ) (last : ℕ) (ends further : List ℕ)
-    (s : Sweeping c mem head (p ∷ os) first kept last ends further) where
+module _ (c : ℕ → ℕ → Bool) (mem : List ℕ) (head p : ℕ) (os : List ℕ) (to first : ℕ) (kept : List ℕ) (last : ℕ) (ends further : List ℕ)
+    (s : FrontSweeping c mem head (p ∷ os) to first kept last ends further) where
   is-counted : is_moved mem p ≡ false → 1 ≤ count_in mem (named mem p)
   is-counted is =
       let o : IsOld c mem p = s.old p (inl refl) in
@@ -173,13 +173,13 @@ module _ (c : ℕ → ℕ → Bool) (mem : List ℕ) (head p : ℕ) (os : List �
   no-role x k (inr i) h = i
 
 -- What a step leaves of a sweep, but for the new chain and the last namers: the old one's rest, and the namings of both.
-module _ (c : ℕ → ℕ → Bool) (old new : List ℕ) (head p : ℕ) (os : List ℕ) (first : ℕ) (kept : List ℕ) (last : ℕ) (ends further : List ℕ) (single : IsSingle c)
-    (r : Relinked c (p ∷ []) old new) (s : Sweeping c old head (p ∷ os) first kept last ends further) where
+module _ (c : ℕ → ℕ → Bool) (old new : List ℕ) (head p : ℕ) (os : List ℕ) (to first : ℕ) (kept : List ℕ) (last : ℕ) (ends further : List ℕ) (single : IsSingle c)
+    (r : Relinked c (p ∷ []) old new) (s : FrontSweeping c old head (p ∷ os) to first kept last ends further) where
   step-kept : Kept c c old new
-  step-kept = relinked-kept c (p ∷ []) old new single (no-role c old head p os first kept last ends further s) r
+  step-kept = relinked-kept c (p ∷ []) old new single (no-role c old head p os to first kept last ends further s) r
 
   step-back : Kept c c new old
-  step-back = relinked-back c (p ∷ []) old new single (no-role c old head p os first kept last ends further s) r
+  step-back = relinked-back c (p ∷ []) old new single (no-role c old head p os to first kept last ends further s) r
 
   -- The words by which an old object is read are the same, where none is the word `next` of the one that is swept.
 
@@ -196,10 +196,10 @@ module _ (c : ℕ → ℕ → Bool) (old new : List ℕ) (head p : ℕ) (os : Li
   }
 
   rest-apart : (q : ℕ) → In q os → IsReadAt old q (p + 2) → ⊥
-  rest-apart q inside = s.alone p q (inl refl) (inl (inr inside)) (rest-differs c old head p os first kept last ends further s q inside)
+  rest-apart q inside = s.alone p q (inl refl) (inl (inr inside)) (rest-differs c old head p os to first kept last ends further s q inside)
 
   ends-apart : (q : ℕ) → In q ends → IsReadAt old q (p + 2) → ⊥
-  ends-apart q inside = s.alone p q (inl refl) (inr inside) (ends-differ c old head p os first kept last ends further s q inside)
+  ends-apart q inside = s.alone p q (inl refl) (inr inside) (ends-differ c old head p os to first kept last ends further s q inside)
 
   same-rest : (q : ℕ) → In q os → SameObject old new q
   same-rest q inside = record {
@@ -213,8 +213,8 @@ module _ (c : ℕ → ℕ → Bool) (old new : List ℕ) (head p : ℕ) (os : Li
     name = still-apart q (name_place old q) (s.freed q inside).old (ends-apart q inside) (inr (inr refl));
   }
 
-  rest-after : Chain new (get_or old (p + 2) 0) os
-  rest-after = leads-stays old new (get_or old (p + 2) 0) os 0 (λ q inside. still-apart q (q + 2) (s.old q (inr inside)) (rest-apart q inside) (inr (inl refl))) s.rest.1
+  rest-after : Leads new (get_or old (p + 2) 0) os to
+  rest-after = leads-stays old new (get_or old (p + 2) 0) os to (λ q inside. still-apart q (q + 2) (s.old q (inr inside)) (rest-apart q inside) (inr (inl refl))) s.rest.1
 
   old-after : (q : ℕ) → In q os → IsOld c new q
   old-after q inside = old-stays old new q (same-rest q inside) c step-kept (s.old q (inr inside))
@@ -294,8 +294,8 @@ module _ (c : ℕ → ℕ → Bool) (old new : List ℕ) (head p : ℕ) (os : Li
       subst P (sym (records-same old new ends same-ends)) (b.all v n (record-stays c c new old v n step-back there) zero some)
 
 -- A moved object joins the new chain.
-module _ (c : ℕ → ℕ → Bool) (old : List ℕ) (head p : ℕ) (os : List ℕ) (first : ℕ) (kept : List ℕ) (last : ℕ) (ends further : List ℕ) (single : IsSingle c)
-    (is : is_moved old p ≡ true) (s : Sweeping c old head (p ∷ os) first kept last ends further) where
+module _ (c : ℕ → ℕ → Bool) (old : List ℕ) (head p : ℕ) (os : List ℕ) (to first : ℕ) (kept : List ℕ) (last : ℕ) (ends further : List ℕ) (single : IsSingle c)
+    (is : is_moved old p ≡ true) (s : FrontSweeping c old head (p ∷ os) to first kept last ends further) where
   new-link : IsLink c old (new_place old p)
   new-link = (s.old p (inl refl)).moved is
 
@@ -305,9 +305,9 @@ module _ (c : ℕ → ℕ → Bool) (old : List ℕ) (head p : ℕ) (os : List �
   count-stays : (v : ℕ) → c (v + 2) COUNT ≡ true → get_or (set old (new_place old p + 2) first) (v + 2) 0 ≡ get_or old (v + 2) 0
   count-stays v h = get_or-set_other old (new_place old p + 2) (v + 2) first 0 (λ at. roles-apart c (new_place old p + 2) (v + 2) single new-link.next h (sym at))
 
-  pub step-moved : Sweeping c (set old (new_place old p + 2) first) (get_or old (p + 2) 0) os (new_place old p) (new_place old p ∷ kept) last ends further
+  pub step-moved : FrontSweeping c (set old (new_place old p + 2) first) (get_or old (p + 2) 0) os to (new_place old p) (new_place old p ∷ kept) last ends further
   step-moved =
-      let new_kept : Kept c c old (set old (new_place old p + 2) first) = step-kept c old (set old (new_place old p + 2) first) head p os first kept last ends further single moved-relinked s in
+      let new_kept : Kept c c old (set old (new_place old p + 2) first) = step-kept c old (set old (new_place old p + 2) first) head p os to first kept last ends further single moved-relinked s in
       let Q : ℕ → Type 0 = λ x. Leads (set old (new_place old p + 2) first) x kept 0 in
       let S : ℕ → Type 0 = λ x. In x kept in
       let T : ℕ → Type 0 = λ x. In x (lying old os) in
@@ -318,61 +318,61 @@ module _ (c : ℕ → ℕ → Bool) (old : List ℕ) (head p : ℕ) (os : List �
       get_or-set_other old (new_place old p + 2) (q + 2) first 0 (λ e. let this : q ≡ new_place old p = omega (arith, e) in s.fresh p (inl refl) is (subst S this inside)) in
       let lies : lies_at old p ≡ new_place old p = lies-moved old p is in
       record {
-        rest = rest-after c old (set old (new_place old p + 2) first) head p os first kept last ends further single moved-relinked s;
-        old = old-after c old (set old (new_place old p + 2) first) head p os first kept last ends further single moved-relinked s;
+        rest = rest-after c old (set old (new_place old p + 2) first) head p os to first kept last ends further single moved-relinked s;
+        old = old-after c old (set old (new_place old p + 2) first) head p os to first kept last ends further single moved-relinked s;
         chain = (refl, subst Q (sym lead) (leads-stays old (set old (new_place old p + 2) first) first kept 0 same s.chain));
         once = (s.fresh p (inl refl) is, s.once);
         fresh = λ q inside m hit. elim hit [
           | inl e ↦
               let x : SameObject old (set old (new_place old p + 2) first) q =
-              same-rest c old (set old (new_place old p + 2) first) head p os first kept last ends further single moved-relinked s q inside in
+              same-rest c old (set old (new_place old p + 2) first) head p os to first kept last ends further single moved-relinked s q inside in
               let before_moved : is_moved old q ≡ true = sym (moved-same old (set old (new_place old p + 2) first) q x) ∙ m in
               let there : lies_at old q ≡ lies_at old p = lies-moved old q before_moved ∙ (sym (place-stays old (set old (new_place old p + 2) first) q x) ∙ (e ∙ sym lies)) in
               s.apart.0 (subst T there (lying-has old q os inside))
-          | inr deep ↦ fresh-after c old (set old (new_place old p + 2) first) head p os first kept last ends further single moved-relinked s q inside m deep
+          | inr deep ↦ fresh-after c old (set old (new_place old p + 2) first) head p os to first kept last ends further single moved-relinked s q inside m deep
         ];
-        apart = apart-after c old (set old (new_place old p + 2) first) head p os first kept last ends further single moved-relinked s;
-        alone = alone-after c old (set old (new_place old p + 2) first) head p os first kept last ends further single moved-relinked s;
+        apart = apart-after c old (set old (new_place old p + 2) first) head p os to first kept last ends further single moved-relinked s;
+        alone = alone-after c old (set old (new_place old p + 2) first) head p os to first kept last ends further single moved-relinked s;
         each = λ q inside. elim inside [
           | inl e ↦ subst P (sym e) (link-stays c c old (set old (new_place old p + 2) first) (new_place old p) new_kept new-link)
-          | inr deep ↦ each-after c old (set old (new_place old p + 2) first) head p os first kept last ends further single moved-relinked s q deep
+          | inr deep ↦ each-after c old (set old (new_place old p + 2) first) head p os to first kept last ends further single moved-relinked s q deep
         ];
-        beside = beside-after c old (set old (new_place old p + 2) first) head p os first kept last ends further single moved-relinked s;
+        beside = beside-after c old (set old (new_place old p + 2) first) head p os to first kept last ends further single moved-relinked s;
         counts = λ v n there.
             let was : get_or old (v + 2) 0 ≡ names_it (named old (lies_at old p)) v + naming old v (lying old os) + naming old v kept + naming old v further =
-            before c old (set old (new_place old p + 2) first) head p os first kept last ends further single moved-relinked s v n there in
+            before c old (set old (new_place old p + 2) first) head p os to first kept last ends further single moved-relinked s v n there in
             let a : naming (set old (new_place old p + 2) first) v (lying (set old (new_place old p + 2) first) os) ≡ naming old v (lying old os) =
-            naming-rest c old (set old (new_place old p + 2) first) head p os first kept last ends further single moved-relinked s v in
+            naming-rest c old (set old (new_place old p + 2) first) head p os to first kept last ends further single moved-relinked s v in
             let b : names_it (named (set old (new_place old p + 2) first) (new_place old p)) v ≡ names_it (named old (lies_at old p)) v =
             ap (λ x. names_it x v) (link-named c c old (set old (new_place old p + 2) first) (new_place old p) new_kept new-link ∙ ap (λ x. named old x) (sym lies)) in
             let d : naming (set old (new_place old p + 2) first) v kept ≡ naming old v kept =
-            naming-kept c old (set old (new_place old p + 2) first) head p os first kept last ends further single moved-relinked s v in
+            naming-kept c old (set old (new_place old p + 2) first) head p os to first kept last ends further single moved-relinked s v in
             let e : naming (set old (new_place old p + 2) first) v further ≡ naming old v further =
-            naming-further c old (set old (new_place old p + 2) first) head p os first kept last ends further single moved-relinked s v in
+            naming-further c old (set old (new_place old p + 2) first) head p os to first kept last ends further single moved-relinked s v in
             count-stays v (record-counted c (set old (new_place old p + 2) first) v n there) ∙ omega (arith, was, a, b, d, e);
-        gone = gone-after c old (set old (new_place old p + 2) first) head p os first kept last ends further single moved-relinked s;
-        freed = freed-after c old (set old (new_place old p + 2) first) head p os first kept last ends further single moved-relinked s
-            (λ q inside. count-stays (named old q) (last-counted c old (set old (new_place old p + 2) first) head p os first kept last ends further single moved-relinked s q inside));
-        freed_once = once-after c old (set old (new_place old p + 2) first) head p os first kept last ends further single moved-relinked s;
+        gone = gone-after c old (set old (new_place old p + 2) first) head p os to first kept last ends further single moved-relinked s;
+        freed = freed-after c old (set old (new_place old p + 2) first) head p os to first kept last ends further single moved-relinked s
+            (λ q inside. count-stays (named old q) (last-counted c old (set old (new_place old p + 2) first) head p os to first kept last ends further single moved-relinked s q inside));
+        freed_once = once-after c old (set old (new_place old p + 2) first) head p os to first kept last ends further single moved-relinked s;
       }
 
   pub since-moved : (start : List ℕ) → Since c start old (p ∷ os) ends → Since c start (set old (new_place old p + 2) first) os ends
   since-moved start b = record {
-    content = since-content c old (set old (new_place old p + 2) first) head p os first kept last ends further single moved-relinked s start b;
-    back = since-back c old (set old (new_place old p + 2) first) head p os first kept last ends further single moved-relinked s start b;
-    same = since-same c old (set old (new_place old p + 2) first) head p os first kept last ends further single moved-relinked s start b;
-    fewer = since-fewer c old (set old (new_place old p + 2) first) head p os first kept last ends further single moved-relinked s start b
+    content = since-content c old (set old (new_place old p + 2) first) head p os to first kept last ends further single moved-relinked s start b;
+    back = since-back c old (set old (new_place old p + 2) first) head p os to first kept last ends further single moved-relinked s start b;
+    same = since-same c old (set old (new_place old p + 2) first) head p os to first kept last ends further single moved-relinked s start b;
+    fewer = since-fewer c old (set old (new_place old p + 2) first) head p os to first kept last ends further single moved-relinked s start b
         (λ v n there.
         let e : get_or (set old (new_place old p + 2) first) (v + 2) 0 ≡ get_or old (v + 2) 0 =
         count-stays v (record-counted c (set old (new_place old p + 2) first) v n there) in omega (arith, e));
-    only = since-only c old (set old (new_place old p + 2) first) head p os first kept last ends further single moved-relinked s start b;
-    all = λ v n there zero some. since-all c old (set old (new_place old p + 2) first) head p os first kept last ends further single moved-relinked s start b v n there
+    only = since-only c old (set old (new_place old p + 2) first) head p os to first kept last ends further single moved-relinked s start b;
+    all = λ v n there zero some. since-all c old (set old (new_place old p + 2) first) head p os to first kept last ends further single moved-relinked s start b v n there
         (sym (count-stays v (record-counted c (set old (new_place old p + 2) first) v n there)) ∙ zero) some;
   }
 
 -- An object that was left behind names its record no more.
-module _ (c : ℕ → ℕ → Bool) (old new : List ℕ) (head p : ℕ) (os : List ℕ) (first : ℕ) (kept : List ℕ) (last : ℕ) (ends further : List ℕ) (single : IsSingle c)
-    (is : is_moved old p ≡ false) (s : Sweeping c old head (p ∷ os) first kept last ends further) (r : Relinked c (p ∷ []) old new)
+module _ (c : ℕ → ℕ → Bool) (old new : List ℕ) (head p : ℕ) (os : List ℕ) (to first : ℕ) (kept : List ℕ) (last : ℕ) (ends further : List ℕ) (single : IsSingle c)
+    (is : is_moved old p ≡ false) (s : FrontSweeping c old head (p ∷ os) to first kept last ends further) (r : Relinked c (p ∷ []) old new)
     (others : (q : ℕ) → (q ≡ named old p + 2 → ⊥) → (q ≡ p + 2 → ⊥) → get_or new q 0 ≡ get_or old q 0)
     (less : get_or new (named old p + 2) 0 ≡ get_or old (named old p + 2) 0 - 1) where
   counted-here : c (named old p + 2) COUNT ≡ true
@@ -393,25 +393,25 @@ module _ (c : ℕ → ℕ → Bool) (old new : List ℕ) (head p : ℕ) (os : Li
   ends-named : (q : ℕ) → In q ends → named old q ≡ named old p → ⊥
   ends-named q inside e =
       let P : ℕ → Type 0 = λ x. get_or old (x + 2) 0 ≡ 0 in
-      omega (arith, is-counted c old head p os first kept last ends further s is, subst P e (s.freed q inside).freed)
+      omega (arith, is-counted c old head p os to first kept last ends further s is, subst P e (s.freed q inside).freed)
 
-  pub step-left : Sweeping c new (get_or old (p + 2) 0) os first kept last ends further
+  pub step-left : FrontSweeping c new (get_or old (p + 2) 0) os to first kept last ends further
   step-left = record {
-    rest = rest-after c old new head p os first kept last ends further single r s;
-    old = old-after c old new head p os first kept last ends further single r s;
+    rest = rest-after c old new head p os to first kept last ends further single r s;
+    old = old-after c old new head p os to first kept last ends further single r s;
     chain = leads-stays old new first kept 0 next-same s.chain;
     once = s.once;
-    fresh = fresh-after c old new head p os first kept last ends further single r s;
-    apart = apart-after c old new head p os first kept last ends further single r s;
-    alone = alone-after c old new head p os first kept last ends further single r s;
-    each = each-after c old new head p os first kept last ends further single r s;
-    beside = beside-after c old new head p os first kept last ends further single r s;
+    fresh = fresh-after c old new head p os to first kept last ends further single r s;
+    apart = apart-after c old new head p os to first kept last ends further single r s;
+    alone = alone-after c old new head p os to first kept last ends further single r s;
+    each = each-after c old new head p os to first kept last ends further single r s;
+    beside = beside-after c old new head p os to first kept last ends further single r s;
     counts = λ v n there.
         let was : get_or old (v + 2) 0 ≡ names_it (named old (lies_at old p)) v + naming old v (lying old os) + naming old v kept + naming old v further =
-        before c old new head p os first kept last ends further single r s v n there in
-        let a : naming new v (lying new os) ≡ naming old v (lying old os) = naming-rest c old new head p os first kept last ends further single r s v in
-        let d : naming new v kept ≡ naming old v kept = naming-kept c old new head p os first kept last ends further single r s v in
-        let e : naming new v further ≡ naming old v further = naming-further c old new head p os first kept last ends further single r s v in
+        before c old new head p os to first kept last ends further single r s v n there in
+        let a : naming new v (lying new os) ≡ naming old v (lying old os) = naming-rest c old new head p os to first kept last ends further single r s v in
+        let d : naming new v kept ≡ naming old v kept = naming-kept c old new head p os to first kept last ends further single r s v in
+        let e : naming new v further ≡ naming old v further = naming-further c old new head p os to first kept last ends further single r s v in
         let name : named old (lies_at old p) ≡ named old p = ap (λ x. named old x) (lies-left old p is) in
         let which : (v ≡ named old p) ⊎ ((named old p < v) ⊎ (v < named old p)) = grind arith in
         elim which [
@@ -424,25 +424,25 @@ module _ (c : ℕ → ℕ → Bool) (old new : List ℕ) (head p : ℕ) (os : Li
               let now : get_or new (v + 2) 0 ≡ get_or old (v + 2) 0 = other-count v (record-counted c new v n there) (λ at. omega (arith, at, far)) in
               now ∙ omega (arith, none, was, a, d, e)
         ];
-    gone = gone-after c old new head p os first kept last ends further single r s;
-    freed = freed-after c old new head p os first kept last ends further single r s
-        (λ q inside. other-count (named old q) (last-counted c old new head p os first kept last ends further single r s q inside) (ends-named q inside));
-    freed_once = once-after c old new head p os first kept last ends further single r s;
+    gone = gone-after c old new head p os to first kept last ends further single r s;
+    freed = freed-after c old new head p os to first kept last ends further single r s
+        (λ q inside. other-count (named old q) (last-counted c old new head p os to first kept last ends further single r s q inside) (ends-named q inside));
+    freed_once = once-after c old new head p os to first kept last ends further single r s;
   }
 
   here-same : SameObject old new p
-  here-same = same-here c old new head p os first kept last ends further single r s
+  here-same = same-here c old new head p os to first kept last ends further single r s
 
   here-named : named new p ≡ named old p
   here-named = named-same old new p here-same
 
   -- And where it was the last to do so, it is told.
-  pub step-last : get_or new (named old p + 2) 0 ≡ 0 → get_or new (p + 2) 0 ≡ last → Sweeping c new (get_or old (p + 2) 0) os first kept p (p ∷ ends) further
+  pub step-last : get_or new (named old p + 2) 0 ≡ 0 → get_or new (p + 2) 0 ≡ last → FrontSweeping c new (get_or old (p + 2) 0) os to first kept p (p ∷ ends) further
   step-last zero lead =
       let Q : ℕ → Type 0 = λ x. Leads new x ends 0 in
       let P : ℕ → Type 0 = λ x. IsLast c new x in
       let mine : IsLast c new p = record {
-        old = old-stays old new p here-same c (step-kept c old new head p os first kept last ends further single r s) (s.old p (inl refl));
+        old = old-stays old new p here-same c (step-kept c old new head p os to first kept last ends further single r s) (s.old p (inl refl));
         left = moved-same old new p here-same ∙ is;
         freed = ap (λ x. get_or new (x + 2) 0) here-named ∙ zero;
       } in
@@ -469,7 +469,7 @@ module _ (c : ℕ → ℕ → Bool) (old new : List ℕ) (head p : ℕ) (os : Li
         freed = λ q inside. elim inside [ inl e ↦ subst P (sym e) mine | inr deep ↦ step-left.freed q deep ];
         freed_once = (
           λ hit. let (q, (inside, e)) = record-named new (named new p) ends hit in
-              ends-named q inside (sym (named-same old new q (same-ends c old new head p os first kept last ends further single r s q inside)) ∙ (e ∙ here-named)),
+              ends-named q inside (sym (named-same old new q (same-ends c old new head p os to first kept last ends further single r s q inside)) ∙ (e ∙ here-named)),
           step-left.freed_once,
         );
       }
@@ -490,35 +490,35 @@ module _ (c : ℕ → ℕ → Bool) (old new : List ℕ) (head p : ℕ) (os : Li
 
   pub since-left : (0 < get_or new (named old p + 2) 0) → (start : List ℕ) → Since c start old (p ∷ os) ends → Since c start new os ends
   since-left some start b = record {
-    content = since-content c old new head p os first kept last ends further single r s start b;
-    back = since-back c old new head p os first kept last ends further single r s start b;
-    same = since-same c old new head p os first kept last ends further single r s start b;
-    fewer = since-fewer c old new head p os first kept last ends further single r s start b down;
-    only = since-only c old new head p os first kept last ends further single r s start b;
+    content = since-content c old new head p os to first kept last ends further single r s start b;
+    back = since-back c old new head p os to first kept last ends further single r s start b;
+    same = since-same c old new head p os to first kept last ends further single r s start b;
+    fewer = since-fewer c old new head p os to first kept last ends further single r s start b down;
+    only = since-only c old new head p os to first kept last ends further single r s start b;
     all = λ v n there zero was. elim (none-before v n there zero) [
       | inl at ↦ absurd (let P : ℕ → Type 0 = λ x. get_or new (x + 2) 0 ≡ 0 in omega (arith, some, subst P at zero))
-      | inr none ↦ since-all c old new head p os first kept last ends further single r s start b v n there none was
+      | inr none ↦ since-all c old new head p os to first kept last ends further single r s start b v n there none was
     ];
   }
 
   pub since-last : (start : List ℕ) → Since c start old (p ∷ os) ends → Since c start new os (p ∷ ends)
   since-last start b = record {
-    content = since-content c old new head p os first kept last ends further single r s start b;
-    back = since-back c old new head p os first kept last ends further single r s start b;
-    same = since-same c old new head p os first kept last ends further single r s start b;
-    fewer = since-fewer c old new head p os first kept last ends further single r s start b down;
+    content = since-content c old new head p os to first kept last ends further single r s start b;
+    back = since-back c old new head p os to first kept last ends further single r s start b;
+    same = since-same c old new head p os to first kept last ends further single r s start b;
+    fewer = since-fewer c old new head p os to first kept last ends further single r s start b down;
     only = λ q inside. elim inside [
       | inl e ↦
           let P : ℕ → Type 0 = λ x. 0 < get_or start (named new x + 2) 0 in
           let Q : ℕ → Type 0 = λ x. 0 < get_or start (x + 2) 0 in
           let was : 0 < get_or start (named old p + 2) 0 =
-          omega (arith, is-counted c old head p os first kept last ends further s is, b.fewer (named old p) (s.old p (inl refl)).words ((s.old p (inl refl)).left is)) in
+          omega (arith, is-counted c old head p os to first kept last ends further s is, b.fewer (named old p) (s.old p (inl refl)).words ((s.old p (inl refl)).left is)) in
           subst P (sym e) (subst Q (sym here-named) was)
-      | inr deep ↦ since-only c old new head p os first kept last ends further single r s start b q deep
+      | inr deep ↦ since-only c old new head p os to first kept last ends further single r s start b q deep
     ];
     all = λ v n there zero was. elim (none-before v n there zero) [
       | inl at ↦ inl (at ∙ sym here-named)
-      | inr none ↦ inr (since-all c old new head p os first kept last ends further single r s start b v n there none was)
+      | inr none ↦ inr (since-all c old new head p os to first kept last ends further single r s start b v n there none was)
     ];
   }
 
@@ -592,8 +592,8 @@ module _ (c : ℕ → ℕ → Bool) (old : List ℕ) (p last : ℕ) (is : is_mov
 
 -- The same from the place where the sweep is.
 
-module _ (c : ℕ → ℕ → Bool) (mem : List ℕ) (head p : ℕ) (os : List ℕ) (first : ℕ) (kept : List ℕ) (last : ℕ) (ends further : List ℕ)
-    (s : Sweeping c mem head (p ∷ os) first kept last ends further) where
+module _ (c : ℕ → ℕ → Bool) (mem : List ℕ) (head p : ℕ) (os : List ℕ) (to first : ℕ) (kept : List ℕ) (last : ℕ) (ends further : List ℕ)
+    (s : FrontSweeping c mem head (p ∷ os) to first kept last ends further) where
   pub next-old : IsOld c mem head
   next-old = let P : ℕ → Type 0 = λ x. IsOld c mem x in subst P (sym s.rest.0) (s.old p (inl refl))
 
@@ -610,35 +610,36 @@ module _ (c : ℕ → ℕ → Bool) (mem : List ℕ) (head p : ℕ) (os : List �
   next-counted is =
       let A : ℕ → Type 0 = λ x. is_moved mem x ≡ false in
       let P : ℕ → Type 0 = λ x. 1 ≤ count_in mem (named mem x) in
-      subst P (sym s.rest.0) (is-counted c mem head p os first kept last ends further s (subst A s.rest.0 is))
+      subst P (sym s.rest.0) (is-counted c mem head p os to first kept last ends further s (subst A s.rest.0 is))
 
-  at-head : Sweeping c mem head (head ∷ os) first kept last ends further
-  at-head = let P : ℕ → Type 0 = λ x. Sweeping c mem head (x ∷ os) first kept last ends further in subst P (sym s.rest.0) s
+  at-head : FrontSweeping c mem head (head ∷ os) to first kept last ends further
+  at-head = let P : ℕ → Type 0 = λ x. FrontSweeping c mem head (x ∷ os) to first kept last ends further in subst P (sym s.rest.0) s
 
   pub next-step-moved : IsSingle c → is_moved mem head ≡ true
-      → Sweeping c (set mem (new_place mem head + 2) first) (get_or mem (head + 2) 0) os (new_place mem head) (kept_after mem head kept) last (ends_after mem head ends) further
+      → FrontSweeping c (set mem (new_place mem head + 2) first) (get_or mem (head + 2) 0) os to (new_place mem head) (kept_after mem head kept) last (ends_after mem head ends) further
   next-step-moved single is =
-      let P : List ℕ → Type 0 = λ xs. Sweeping c (set mem (new_place mem head + 2) first) (get_or mem (head + 2) 0) os (new_place mem head) xs last (ends_after mem head ends) further in
-      let Q : List ℕ → Type 0 = λ xs. Sweeping c (set mem (new_place mem head + 2) first) (get_or mem (head + 2) 0) os (new_place mem head) (new_place mem head ∷ kept) last xs further in
-      subst P (joined-moved mem head kept is) (subst Q (ended-moved mem head ends is) (step-moved c mem head head os first kept last ends further single is at-head))
+      let P : List ℕ → Type 0 = λ xs. FrontSweeping c (set mem (new_place mem head + 2) first) (get_or mem (head + 2) 0) os to (new_place mem head) xs last (ends_after mem head ends) further in
+      let Q : List ℕ → Type 0 = λ xs. FrontSweeping c (set mem (new_place mem head + 2) first) (get_or mem (head + 2) 0) os to (new_place mem head) (new_place mem head ∷ kept) last xs further in
+      subst P (joined-moved mem head kept is) (subst Q (ended-moved mem head ends is) (step-moved c mem head head os to first kept last ends further single is at-head))
 
   pub next-step-left : IsSingle c → is_moved mem head ≡ false → 0 < count_less mem head
-      → Sweeping c (set mem (named mem head + 2) (count_less mem head)) (get_or mem (head + 2) 0) os first (kept_after mem head kept) last (ends_after mem head ends) further
+      → FrontSweeping c (set mem (named mem head + 2) (count_less mem head)) (get_or mem (head + 2) 0) os to first (kept_after mem head kept) last (ends_after mem head ends) further
   next-step-left single is some =
-      let P : List ℕ → Type 0 = λ xs. Sweeping c (set mem (named mem head + 2) (count_less mem head)) (get_or mem (head + 2) 0) os first xs last (ends_after mem head ends) further in
-      let Q : List ℕ → Type 0 = λ xs. Sweeping c (set mem (named mem head + 2) (count_less mem head)) (get_or mem (head + 2) 0) os first kept last xs further in
+      let P : List ℕ → Type 0 = λ xs. FrontSweeping c (set mem (named mem head + 2) (count_less mem head)) (get_or mem (head + 2) 0) os to first xs last (ends_after mem head ends) further in
+      let Q : List ℕ → Type 0 = λ xs. FrontSweeping c (set mem (named mem head + 2) (count_less mem head)) (get_or mem (head + 2) 0) os to first kept last xs further in
       subst P (joined-left mem head kept is) (subst Q (ended-left mem head ends is some)
-      (step-left c mem (set mem (named mem head + 2) (count_less mem head)) head head os first kept last ends further single is at-head (less-relinked c mem head last is next-old)
+      (step-left c mem (set mem (named mem head + 2) (count_less mem head)) head head os to first kept last ends further single is at-head (less-relinked c mem head last is next-old)
       (less-others c mem head last is next-old) (less-now c mem head last is next-old)))
 
   pub next-step-last : IsSingle c → is_moved mem head ≡ false → count_less mem head ≡ 0
-      → Sweeping c (set (set mem (named mem head + 2) (count_less mem head)) (head + 2) last) (get_or mem (head + 2) 0) os first (kept_after mem head kept) head (ends_after mem head ends) further
+      → FrontSweeping c (set (set mem (named mem head + 2) (count_less mem head)) (head + 2) last) (get_or mem (head + 2) 0) os to first (kept_after mem head kept)
+      head (ends_after mem head ends) further
   next-step-last single is zero =
       let P : List ℕ → Type 0 =
-      λ xs. Sweeping c (set (set mem (named mem head + 2) (count_less mem head)) (head + 2) last) (get_or mem (head + 2) 0) os first xs head (ends_after mem head ends) further in
-      let Q : List ℕ → Type 0 = λ xs. Sweeping c (set (set mem (named mem head + 2) (count_less mem head)) (head + 2) last) (get_or mem (head + 2) 0) os first kept head xs further in
+      λ xs. FrontSweeping c (set (set mem (named mem head + 2) (count_less mem head)) (head + 2) last) (get_or mem (head + 2) 0) os to first xs head (ends_after mem head ends) further in
+      let Q : List ℕ → Type 0 = λ xs. FrontSweeping c (set (set mem (named mem head + 2) (count_less mem head)) (head + 2) last) (get_or mem (head + 2) 0) os to first kept head xs further in
       subst P (joined-left mem head kept is) (subst Q (ended-last mem head ends is zero)
-      (step-last c mem (set (set mem (named mem head + 2) (count_less mem head)) (head + 2) last) head head os first kept last ends further single is at-head
+      (step-last c mem (set (set mem (named mem head + 2) (count_less mem head)) (head + 2) last) head head os to first kept last ends further single is at-head
       (last-relinked c mem head last is next-old) (last-others c mem head last is next-old) (last-now c mem head last is next-old)
       (last-now c mem head last is next-old ∙ zero) (lead-now c mem head last is next-old)))
 
@@ -649,7 +650,7 @@ module _ (c : ℕ → ℕ → Bool) (mem : List ℕ) (head p : ℕ) (os : List �
       → Since c start (set mem (new_place mem head + 2) first) os (ends_after mem head ends)
   next-since-moved single is start b =
       let Q : List ℕ → Type 0 = λ xs. Since c start (set mem (new_place mem head + 2) first) os xs in
-      subst Q (ended-moved mem head ends is) (since-moved c mem head head os first kept last ends further single is at-head start (since-head start b))
+      subst Q (ended-moved mem head ends is) (since-moved c mem head head os to first kept last ends further single is at-head start (since-head start b))
 
   pub next-since-left : IsSingle c → is_moved mem head ≡ false → 0 < count_less mem head → (start : List ℕ) → Since c start mem (p ∷ os) ends
       → Since c start (set mem (named mem head + 2) (count_less mem head)) os (ends_after mem head ends)
@@ -657,7 +658,7 @@ module _ (c : ℕ → ℕ → Bool) (mem : List ℕ) (head p : ℕ) (os : List �
       let Q : List ℕ → Type 0 = λ xs. Since c start (set mem (named mem head + 2) (count_less mem head)) os xs in
       let now : get_or (set mem (named mem head + 2) (count_less mem head)) (named mem head + 2) 0 ≡ count_less mem head = less-now c mem head last is next-old in
       subst Q (ended-left mem head ends is some)
-      (since-left c mem (set mem (named mem head + 2) (count_less mem head)) head head os first kept last ends further single is at-head (less-relinked c mem head last is next-old)
+      (since-left c mem (set mem (named mem head + 2) (count_less mem head)) head head os to first kept last ends further single is at-head (less-relinked c mem head last is next-old)
       (less-others c mem head last is next-old) now (omega (arith, now, some)) start (since-head start b))
 
   pub next-since-last : IsSingle c → is_moved mem head ≡ false → count_less mem head ≡ 0 → (start : List ℕ) → Since c start mem (p ∷ os) ends
@@ -665,12 +666,12 @@ module _ (c : ℕ → ℕ → Bool) (mem : List ℕ) (head p : ℕ) (os : List �
   next-since-last single is zero start b =
       let Q : List ℕ → Type 0 = λ xs. Since c start (set (set mem (named mem head + 2) (count_less mem head)) (head + 2) last) os xs in
       subst Q (ended-last mem head ends is zero)
-      (since-last c mem (set (set mem (named mem head + 2) (count_less mem head)) (head + 2) last) head head os first kept last ends further single is at-head
+      (since-last c mem (set (set mem (named mem head + 2) (count_less mem head)) (head + 2) last) head head os to first kept last ends further single is at-head
       (last-relinked c mem head last is next-old) (last-others c mem head last is next-old) (last-now c mem head last is next-old) start (since-head start b))
 
-pub sweep-done : (c : ℕ → ℕ → Bool) (mem : List ℕ) (head first : ℕ) (kept : List ℕ) (last : ℕ) (ends further : List ℕ) → Sweeping c mem head [] first kept last ends further
+pub sweep-done : (c : ℕ → ℕ → Bool) (mem : List ℕ) (head to first : ℕ) (kept : List ℕ) (last : ℕ) (ends further : List ℕ) → FrontSweeping c mem head [] to first kept last ends further
     → Links c mem first kept further
-sweep-done c mem head first kept last ends further s = record { chain = s.chain; once = s.once; each = s.each; beside = s.beside; counts = λ v n there. s.counts v n there ∙ omega arith }
+sweep-done c mem head to first kept last ends further s = record { chain = s.chain; once = s.once; each = s.each; beside = s.beside; counts = λ v n there. s.counts v n there ∙ omega arith }
 
 -- What the first word of an object tells.
 
@@ -703,3 +704,21 @@ last-keeps c old p last single is o = relinked-keeps c (p ∷ []) old (set (set 
       | inl e ↦ (let P : ℕ → Type 0 = λ y. c (y + 2) k ≡ true in o.none (p + 2) k (inr (inl refl)) (subst P e h))
       | inr i ↦ i
     ]) (last-relinked c old p last is o)
+
+-- A step writes no word `next` but that of an object that was moved.
+pub next-still : (c : ℕ → ℕ → Bool) (mem mem2 : List ℕ) (head first last : ℕ) → IsSingle c → IsOld c mem head → (is_moved mem head ≡ true → mem2 ≡ set mem (new_place mem head + 2) first)
+    → (is_moved mem head ≡ false → mem2 ≡ left_behind mem head last) → (q : ℕ) → c q NEXT ≡ true → (is_moved mem head ≡ true → q ≡ new_place mem head + 2 → ⊥)
+    → get_or mem2 q 0 ≡ get_or mem q 0
+next-still c mem mem2 head first last single o moved left q h out =
+    let P : List ℕ → Type 0 = λ m. get_or m q 0 ≡ get_or mem q 0 in
+    elim (cases_Bool (is_moved mem head)) [
+      | inl is ↦ subst P (sym (moved is)) (get_or-set_other mem (new_place mem head + 2) q first 0 (out is))
+      | inr is ↦
+          let far : q ≡ named mem head + 2 → ⊥ = λ e. roles-apart c q (named mem head + 2) single h (record-counted c mem (named mem head) o.words (o.left is)) e in
+          let apart : q ≡ head + 2 → ⊥ = λ e. let Q : ℕ → Type 0 = λ x. c x NEXT ≡ true in o.none (head + 2) NEXT (inr (inl refl)) (subst Q e h) in
+          let which : (count_less mem head ≡ 0) ⊎ (0 < count_less mem head) = grind arith in
+          elim which [
+            | inl zero ↦ subst P (sym (left is ∙ less-last mem head last zero)) (last-others c mem head last is o q far apart)
+            | inr some ↦ subst P (sym (left is ∙ less-left mem head last some)) (less-others c mem head last is o q far apart)
+          ]
+    ]

@@ -1,21 +1,23 @@
 -- A whole chain is swept, object by object.
 use Rattle.std.proofs.Common.{◌≡◌, ℕ, ◌+◌, ◌*◌, ◌/◌, ◌%◌, ◌<◌, ◌≤◌, ◌⊎◌, ◌==◌, if◌then◌else◌, Bool, true, false, List, [], ◌∷◌, Option, Some, None, length, zero, suc, get_or}
-use Rattle.std.proofs.Common.{refl, sym, ◌∙◌, ap, subst, arith, inl, inr}
+use Rattle.std.proofs.Common.{true≢false, refl, sym, ◌∙◌, ap, subst, arith, inl, inr}
 use Rattle.std.proofs.lemmas.Bool.{cases_Bool}
 use Rattle.std.proofs.lemmas.Bool.Decides.{nat_tests}
 use Rattle.plain_term.specs.Measures.{bin_words}
 use Rattle.term_tags.specs.Words.{head_word}
 use Rattle.term_tags.specs.declared.layouts.TheConstants.{HOLDER}
-use Rattle.term_words.specs.Role.{FIRST, FURTHER, IsSingle}
+use Rattle.term_words.specs.Role.{NEXT, FIRST, FURTHER, IsSingle}
 use Rattle.term_words.specs.Object.{IsRecord}
 use Rattle.term_words.specs.Kept.{Kept}
 use Rattle.term_words.specs.Counted.{In, Distinct, total}
 use Rattle.term_words.proofs.Framing.Frames.{frame}
 use Rattle.term_words.proofs.Totals.Members.{Less, less}
 use Rattle.shared_rec.specs.Record.{count_in, length_in}
-use Rattle.off_heap_list.specs.Links.{named, IsLink, Links}
-use Rattle.off_heap_list.specs.Swept.{is_moved, new_place, bin_words_at, count_less, freed_at, kept_after, ends_record, ends_after, IsOld, Relinked, Sweeping, Since}
-use Rattle.off_heap_list.specs.Whole.{moved_of, turned, bin_words_of_all, one_of, SweptWhole}
+use Rattle.off_heap_list.specs.Links.{named, Leads, Chain, IsLink, Links}
+use Rattle.off_heap_list.specs.declared.whole.FrontLeft.{FrontLeft}
+use Rattle.off_heap_list.proofs.Chaining.Chained.{leads-stays}
+use Rattle.off_heap_list.specs.Swept.{is_moved, new_place, bin_words_at, count_less, freed_at, kept_after, ends_record, ends_after, IsOld, Relinked, FrontSweeping, Since}
+use Rattle.off_heap_list.specs.Whole.{moved_of, turned, bin_words_of_all, one_of, SweptFront}
 use Rattle.off_heap_list.proofs.Walked.Sweeping.{relinked-kept, relinked-then, relinked-wider, next-old, next-moved, next-record, next-counted, sweep-done}
 
 -- A list of distinct places below a limit is no longer than the limit.
@@ -87,11 +89,11 @@ all-held-few c mem (p ∷ ps) most each =
     omega (arith, held-few c mem p (each p (inl refl)), most, all-held-few c mem ps most (λ q inside. each q (inr inside)))
 
 -- A sweep that has come so far.
-pub record Sweeps (c : ℕ → ℕ → Bool) (start mem : List ℕ) (head first last len words freed i : ℕ) (os further : List ℕ) : Type 0 where
+pub record Sweeps (c : ℕ → ℕ → Bool) (start mem : List ℕ) (head to first last len words freed i : ℕ) (os further : List ℕ) : Type 0 where
   pub rest : List ℕ
   pub kept : List ℕ
   pub ends : List ℕ
-  pub now : Sweeping c mem head rest first kept last ends further
+  pub now : FrontSweeping c mem head rest to first kept last ends further
   pub since : Since c start mem rest ends
   pub number : i + length rest ≡ length os
   pub among : (p : ℕ) → In p rest → In p os
@@ -101,9 +103,10 @@ pub record Sweeps (c : ℕ → ℕ → Bool) (start mem : List ℕ) (head first 
   pub freed_is : freed ≡ length ends
   pub few_freed : freed ≤ i
   pub writes : Relinked c os start mem
+  pub nexts : (q : ℕ) → c q NEXT ≡ true → ((p : ℕ) → In p kept → q ≡ p + 2 → ⊥) → get_or mem q 0 ≡ get_or start q 0
 
-pub sweeps-begin : (c : ℕ → ℕ → Bool) (mem : List ℕ) (head : ℕ) (os further : List ℕ) → Sweeping c mem head os 0 [] 0 [] further → Sweeps c mem mem head 0 0 0 0 0 0 os further
-sweeps-begin c mem head os further s = record {
+pub sweeps-begin : (c : ℕ → ℕ → Bool) (mem : List ℕ) (head to : ℕ) (os further : List ℕ) → FrontSweeping c mem head os to 0 [] 0 [] further → Sweeps c mem mem head to 0 0 0 0 0 0 os further
+sweeps-begin c mem head to os further s = record {
   rest = os;
   kept = [];
   ends = [];
@@ -124,6 +127,7 @@ sweeps-begin c mem head os further s = record {
   freed_is = refl;
   few_freed = omega arith;
   writes = record { same_len = refl; same = λ q n k w. refl };
+  nexts = λ q h out. refl;
 }
 
 -- A list that is not at its end.
@@ -136,28 +140,28 @@ pub goes : (rest : List ℕ) → 0 < length rest → Goes rest
 goes [] some = absurd (omega (arith, some))
 goes (p ∷ left) some = record { p = p; left = left; is = refl }
 
-module _ (c : ℕ → ℕ → Bool) (start mem : List ℕ) (head first last len words freed i : ℕ) (os further : List ℕ) (s : Sweeps c start mem head first last len words freed i os further)
+module _ (c : ℕ → ℕ → Bool) (start mem : List ℕ) (head to first last len words freed i : ℕ) (os further : List ℕ) (s : Sweeps c start mem head to first last len words freed i os further)
     (more : i < length os) where
   next : Goes s.rest
   next = goes s.rest (omega (arith, s.number, more))
 
-  sweeping : Sweeping c mem head (next.p ∷ next.left) first s.kept last s.ends further
-  sweeping = let P : List ℕ → Type 0 = λ xs. Sweeping c mem head xs first s.kept last s.ends further in subst P next.is s.now
+  sweeping : FrontSweeping c mem head (next.p ∷ next.left) to first s.kept last s.ends further
+  sweeping = let P : List ℕ → Type 0 = λ xs. FrontSweeping c mem head xs to first s.kept last s.ends further in subst P next.is s.now
 
   since-now : Since c start mem (next.p ∷ next.left) s.ends
   since-now = let P : List ℕ → Type 0 = λ xs. Since c start mem xs s.ends in subst P next.is s.since
 
   pub sweeps-old : IsOld c mem head
-  sweeps-old = next-old c mem head next.p next.left first s.kept last s.ends further sweeping
+  sweeps-old = next-old c mem head next.p next.left to first s.kept last s.ends further sweeping
 
   pub sweeps-moved : is_moved mem head ≡ true → new_place mem head + 6 ≤ length mem
-  sweeps-moved = next-moved c mem head next.p next.left first s.kept last s.ends further sweeping
+  sweeps-moved = next-moved c mem head next.p next.left to first s.kept last s.ends further sweeping
 
   pub sweeps-record : is_moved mem head ≡ false → named mem head + 4 ≤ length mem
-  sweeps-record = next-record c mem head next.p next.left first s.kept last s.ends further sweeping
+  sweeps-record = next-record c mem head next.p next.left to first s.kept last s.ends further sweeping
 
   pub sweeps-counted : is_moved mem head ≡ false → 1 ≤ count_in mem (named mem head)
-  sweeps-counted = next-counted c mem head next.p next.left first s.kept last s.ends further sweeping
+  sweeps-counted = next-counted c mem head next.p next.left to first s.kept last s.ends further sweeping
 
   head-is : head ≡ next.p
   head-is = sweeping.rest.0
@@ -179,7 +183,7 @@ held-joined : (mem : List ℕ) (b : Bool) (x : ℕ) (kept : List ℕ) → (if b 
 held-joined mem true x kept = omega arith
 held-joined mem false x kept = omega arith
 
-module _ (c : ℕ → ℕ → Bool) (start mem : List ℕ) (head first last len words freed i : ℕ) (os further : List ℕ) (s : Sweeps c start mem head first last len words freed i os further) where
+module _ (c : ℕ → ℕ → Bool) (start mem : List ℕ) (head to first last len words freed i : ℕ) (os further : List ℕ) (s : Sweeps c start mem head to first last len words freed i os further) where
   pub sweeps-len : length mem ≤ 16777216 → len ≤ 16777216
   sweeps-len most = omega (arith, s.len_is, few-links c mem s.kept s.now.once s.now.each, most)
 
@@ -232,21 +236,31 @@ joined-links c mem x kept true new each p (inl e) = let P : ℕ → Type 0 = λ 
 joined-links c mem x kept true new each p (inr deep) = each p deep
 joined-links c mem x kept false new each p inside = each p inside
 
-module _ (c : ℕ → ℕ → Bool) (start mem mem2 : List ℕ) (head head2 first first2 last last2 len words freed i : ℕ) (os further : List ℕ) (moved told : Option ℕ) (more : ℕ) where
-  pub sweeps-more : Sweeps c start mem head first last len words freed i os further → i < length os → IsSingle c → Tells mem head moved told more
-      → ((p : ℕ) (rest kept ends : List ℕ) → Sweeping c mem head (p ∷ rest) first kept last ends further
-      → Sweeping c mem2 head2 rest first2 (kept_after mem head kept) last2 (ends_after mem head ends) further)
-      → ((p : ℕ) (rest kept ends : List ℕ) → Sweeping c mem head (p ∷ rest) first kept last ends further → Since c start mem (p ∷ rest) ends → Since c start mem2 rest (ends_after mem head ends))
+joined-new : (b : Bool) (x : ℕ) (kept : List ℕ) → b ≡ true → In x (if b then x ∷ kept else kept)
+joined-new true x kept e = inl refl
+joined-new false x kept e = absurd (true≢false (sym e))
+
+joined-old : (b : Bool) (x p : ℕ) (kept : List ℕ) → In p kept → In p (if b then x ∷ kept else kept)
+joined-old true x p kept i = inr i
+joined-old false x p kept i = i
+
+module _ (c : ℕ → ℕ → Bool) (start mem mem2 : List ℕ) (head head2 to first first2 last last2 len words freed i : ℕ) (os further : List ℕ) (moved told : Option ℕ) (more : ℕ) where
+  pub sweeps-more : Sweeps c start mem head to first last len words freed i os further → i < length os → IsSingle c → Tells mem head moved told more
+      → ((p : ℕ) (rest kept ends : List ℕ) → FrontSweeping c mem head (p ∷ rest) to first kept last ends further
+      → FrontSweeping c mem2 head2 rest to first2 (kept_after mem head kept) last2 (ends_after mem head ends) further)
+      → ((p : ℕ) (rest kept ends : List ℕ) → FrontSweeping c mem head (p ∷ rest) to first kept last ends further → Since c start mem (p ∷ rest) ends
+      → Since c start mem2 rest (ends_after mem head ends))
       → (IsOld c mem head → Relinked c (head ∷ []) mem mem2)
-      → Sweeps c start mem2 head2 first2 last2 (len + one_of moved) (words + more) (freed + one_of told) (i + 1) os further
-  sweeps-more s less single t goes_on since writes =
-      let n : Goes s.rest = next c start mem head first last len words freed i os further s less in
-      let now : Sweeping c mem head (n.p ∷ n.left) first s.kept last s.ends further = sweeping c start mem head first last len words freed i os further s less in
-      let before : Since c start mem (n.p ∷ n.left) s.ends = since-now c start mem head first last len words freed i os further s less in
-      let o : IsOld c mem head = sweeps-old c start mem head first last len words freed i os further s less in
+      → (IsOld c mem head → (q : ℕ) → c q NEXT ≡ true → (is_moved mem head ≡ true → q ≡ new_place mem head + 2 → ⊥) → get_or mem2 q 0 ≡ get_or mem q 0)
+      → Sweeps c start mem2 head2 to first2 last2 (len + one_of moved) (words + more) (freed + one_of told) (i + 1) os further
+  sweeps-more s less single t goes_on since writes still =
+      let n : Goes s.rest = next c start mem head to first last len words freed i os further s less in
+      let now : FrontSweeping c mem head (n.p ∷ n.left) to first s.kept last s.ends further = sweeping c start mem head to first last len words freed i os further s less in
+      let before : Since c start mem (n.p ∷ n.left) s.ends = since-now c start mem head to first last len words freed i os further s less in
+      let o : IsOld c mem head = sweeps-old c start mem head to first last len words freed i os further s less in
       let at : head ≡ n.p = now.rest.0 in
       let word : get_or mem head 0 ≡ get_or start n.p 0 =
-      head-first c start mem head first last len words freed i os further s less ∙ ap (λ x. get_or start x 0) at in
+      head-first c start mem head to first last len words freed i os further s less ∙ ap (λ x. get_or start x 0) at in
       let k : Kept c c mem mem2 = relinked-kept c (head ∷ []) mem mem2 single (λ x r inside h. elim inside [
         | inl e ↦ (let P : ℕ → Type 0 = λ y. c (y + 2) r ≡ true in o.none (head + 2) r (inr (inl refl)) (subst P e h))
         | inr j ↦ j
@@ -276,34 +290,52 @@ module _ (c : ℕ → ℕ → Bool) (start mem mem2 : List ℕ) (head head2 firs
         freed_is = omega (arith, s.freed_is, told-one mem head moved told more t, one-joined (ends_record mem head) head s.ends);
         few_freed = omega (arith, s.few_freed, told-one mem head moved told more t, one-at-most (ends_record mem head));
         writes = relinked-then c os start mem mem2 s.writes (relinked-wider c (head ∷ []) os mem mem2 (λ p is. elim is [ inl e ↦ subst J (sym e) inside | inr j ↦ absurd j ]) (writes o));
+        nexts = λ q h out. still o q h (λ is e. out (new_place mem head) (joined-new (is_moved mem head) (new_place mem head) s.kept is) e)
+            ∙ s.nexts q h (λ p i. out p (joined-old (is_moved mem head) (new_place mem head) p s.kept i));
       }
 
 pub none-left : (rest : List ℕ) → length rest ≡ 0 → rest ≡ []
 none-left [] e = refl
 none-left (p ∷ rest) e = absurd (omega (arith, e))
 
-pub sweeps-done : (c : ℕ → ℕ → Bool) (start mem : List ℕ) (head first last len words freed i : ℕ) (os further : List ℕ) → Sweeps c start mem head first last len words freed i os further
-    → length os ≤ i → SweptWhole c start mem os (turned (moved_of start os) []) further (record { first = first; len = len; words = words; last = last; freed = freed })
-sweeps-done c start mem head first last len words freed i os further s end =
+pub sweeps-done : (c : ℕ → ℕ → Bool) (start mem : List ℕ) (head to first last len words freed i : ℕ) (os further : List ℕ) → Sweeps c start mem head to first last len words freed i os further
+    → length os ≤ i
+    → SweptFront c start mem os (turned (moved_of start os) []) further to (record { left = record { first = first; len = len; words = words; last = last; freed = freed }; rest = head })
+sweeps-done c start mem head to first last len words freed i os further s end =
     let over : s.rest ≡ [] = none-left s.rest (omega (arith, s.number, end)) in
-    let P : List ℕ → Type 0 = λ xs. Sweeping c mem head xs first s.kept last s.ends further in
+    let P : List ℕ → Type 0 = λ xs. FrontSweeping c mem head xs to first s.kept last s.ends further in
     let kept : s.kept ≡ turned (moved_of start os) [] = sym (ap (λ xs. turned (moved_of start xs) s.kept) over) ∙ s.whole in
     let Q : List ℕ → Type 0 = λ xs. Links c mem first xs further in
+    let R : List ℕ → Type 0 = λ xs. (q : ℕ) → c q NEXT ≡ true → ((p : ℕ) → In p xs → q ≡ p + 2 → ⊥) → get_or mem q 0 ≡ get_or start q 0 in
     record {
-      links = subst Q kept (sweep-done c mem head first s.kept last s.ends further (subst P over s.now));
-      len = s.len_is ∙ ap length kept;
-      words = s.words_is ∙ ap (λ xs. bin_words_of_all mem xs) kept;
-      ends = s.ends;
-      records = record {
-        chain = s.now.gone;
-        each = s.now.freed;
-        once = s.now.freed_once;
-        only = s.since.only;
-        all = s.since.all;
+      whole = record {
+        links = subst Q kept (sweep-done c mem head to first s.kept last s.ends further (subst P over s.now));
+        len = s.len_is ∙ ap length kept;
+        words = s.words_is ∙ ap (λ xs. bin_words_of_all mem xs) kept;
+        ends = s.ends;
+        records = record {
+          chain = s.now.gone;
+          each = s.now.freed;
+          once = s.now.freed_once;
+          only = s.since.only;
+          all = s.since.all;
+        };
+        freed = s.freed_is;
+        writes = s.writes;
+        content = s.since.content;
+        back = s.since.back;
+        trees = frame c c start mem s.since.content;
       };
-      freed = s.freed_is;
-      writes = s.writes;
-      content = s.since.content;
-      back = s.since.back;
-      trees = frame c c start mem s.since.content;
+      rest = (subst P over s.now).rest;
+      nexts = subst R kept s.nexts;
     }
+
+-- The rest of a chain whose front part was swept.
+pub rest-stays : (c : ℕ → ℕ → Bool) (start mem os kept further : List ℕ) (to : ℕ) (result : FrontLeft) → SweptFront c start mem os kept further to result → (rest : List ℕ) → Chain start to rest
+    → ((p : ℕ) → In p rest → IsLink c start p) → ((p : ℕ) → In p rest → In p kept → ⊥) → Chain mem result.rest rest
+rest-stays c start mem os kept further to result s rest chain each apart =
+    let P : ℕ → Type 0 = λ x. Leads mem x rest 0 in
+    subst P (sym s.rest) (leads-stays start mem to rest 0 (λ p i. s.nexts (p + 2) (each p i).next (λ q j e.
+    let same : p ≡ q = omega (arith, e) in
+    let Q : ℕ → Type 0 = λ x. In x kept in
+    apart p i (subst Q (sym same) j))) chain)

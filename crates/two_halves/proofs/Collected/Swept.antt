@@ -27,7 +27,7 @@ use Rattle.cheney.proofs.After.Next.{has-roles}
 use Rattle.chain_sweep.specs.Follows.{RecordsHaveRoom, Sweepable}
 use Rattle.chain_sweep.proofs.Leaving.{carried-role, leaves-sweep, left-not, moved-is, place-is, size6, which}
 use Rattle.chain_sweep.proofs.Room.{Origin, can-move, origin}
-use Rattle.term_copy.proofs.Rows.{in-turned as turned-in}
+use Rattle.object_rows.proofs.Rows.{in-turned as turned-in}
 use Rattle.two_halves.specs.Halves.{IsFunOf, Standing, end_of, front_of, records_of}
 use Rattle.two_halves.specs.declared.halves.Halves.{Halves}
 use Rattle.two_halves.specs.declared.table.Proc.{Proc}

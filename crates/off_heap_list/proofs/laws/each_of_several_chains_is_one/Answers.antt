@@ -1,4 +1,4 @@
-use Rattle.off_heap_list.proofs.Chaining.Exact.{one-of-several, several-again}
+use Rattle.off_heap_list.proofs.Chaining.Several.{one-of-several, several-again}
 use Rattle.off_heap_list.proofs.laws.each_of_several_chains_is_one.Goals as goal
 
 pub returns-clause-one : goal.returns-clause-one

@@ -1,9 +1,12 @@
 -- The holders and funs of a row come into a chain, one after the other.
-use Rattle.std.proofs.Common.{◌≡◌, ℕ, ◌+◌, ◌-◌, ◌/◌, ◌%◌, ◌<◌, ◌≤◌, ◌⊎◌, ◌==◌, ◌&&◌, if◌then◌else◌, nat_le, Bool, true, false, List, [], ◌∷◌, ◌++◌, length, get_or, set, refl, sym, ◌∙◌, ap, subst, arith, inl, inr, Some, None, length-set, get_or-set_other}
+use Rattle.std.proofs.Common.{◌≡◌, ℕ, ◌+◌, ◌-◌, ◌*◌, ◌/◌, ◌%◌, ◌<◌, ◌≤◌, ◌⊎◌, ◌==◌, ◌&&◌, if◌then◌else◌, nat_le, Bool, true, false, List, [], ◌∷◌, ◌++◌, length, get_or, set, refl, sym, ◌∙◌, ap, subst, arith, inl, inr, Some, None, length-set, get_or-set_other}
 use Rattle.std.proofs.lemmas.Bool.{cases_Bool}
 use Rattle.std.proofs.lemmas.Bool.Decides.{nat_tests}
 use Rattle.std.proofs.lemmas.Grind.{get_or-set_at}
 use Rattle.std.proofs.lemmas.Option.{none-some}
+use Rattle.plain_term.specs.Measures.{bin_words}
+use Rattle.term_tags.specs.Words.{head_word}
+use Rattle.term_tags.specs.declared.layouts.TheConstants.{HOLDER}
 use Rattle.term_tags.specs.Table.{layout_for, layout_at, row_layout}
 use Rattle.term_tags.specs.declared.layouts.Layout.{Layout}
 use Rattle.term_words.specs.Role.{NEXT, IsSingle}
@@ -16,10 +19,12 @@ use Rattle.term_words.proofs.Placing.Roles.{object-some}
 use Rattle.term_words.proofs.Placing.Tiles.{tiled-order}
 use Rattle.shared_rec.proofs.Records.{record-counted, record-stays, role-idle}
 use Rattle.off_heap_list.specs.Links.{names_it, named, naming, Leads, IsLink, Links}
-use Rattle.off_heap_list.specs.Whole.{turned}
+use Rattle.off_heap_list.specs.Swept.{bin_words_at}
+use Rattle.off_heap_list.specs.Whole.{turned, bin_words_of_all}
+use Rattle.off_heap_list.proofs.Walked.Tallied.{all-held-few, held-few}
 use Rattle.off_heap_list.proofs.Chaining.Chained.{idle-kept, idle-kept-back, leads-stays, link-named, link-stays, naming-stays, roles-apart}
-use Rattle.term_copy.specs.declared.chaining.Chained.{Chained}
-use Rattle.term_copy.specs.Row.{AreObjects, ChainsRow, is_link, is_link_header, links_in}
+use Rattle.object_rows.specs.declared.chaining.Chained.{Chained}
+use Rattle.object_rows.specs.Row.{AreObjects, ChainsRow, is_link, is_link_header, links_in}
 
 -- One object that stands beside a chain becomes its first.
 pub chained-one : (c : ℕ → ℕ → Bool) (mem : List ℕ) (head o : ℕ) (os more : List ℕ) → IsSingle c → o + 2 < length mem → Links c mem head os (o ∷ more) → (In o os → ⊥)
@@ -60,40 +65,54 @@ pub in-turned : (q : ℕ) (xs ys : List ℕ) → In q (turned xs ys) → In q xs
 in-turned q [] ys i = inr i
 in-turned q (x ∷ xs) ys i = elim (in-turned q xs (x ∷ ys) i) [ inl h ↦ inl (inr h) | inr h ↦ elim h [ inl e ↦ inl (inl e) | inr j ↦ inr j ] ]
 
-one-more : (xs : List ℕ) (o : ℕ) (ys : List ℕ) → xs ++ (o ∷ ys) ≡ (xs ++ o ∷ []) ++ ys
+pub one-more : (xs : List ℕ) (o : ℕ) (ys : List ℕ) → xs ++ (o ∷ ys) ≡ (xs ++ o ∷ []) ++ ys
 one-more [] o ys = refl
 one-more (x ∷ xs) o ys = ap (λ zs. x ∷ zs) (one-more xs o ys)
 
-in-left : (q o : ℕ) (xs : List ℕ) → In q xs → In q (xs ++ o ∷ [])
+pub in-left : (q o : ℕ) (xs : List ℕ) → In q xs → In q (xs ++ o ∷ [])
 in-left q o [] i = absurd i
 in-left q o (x ∷ xs) (inl e) = inl e
 in-left q o (x ∷ xs) (inr i) = inr (in-left q o xs i)
 
-in-last : (o : ℕ) (xs : List ℕ) → In o (xs ++ o ∷ [])
+pub in-last : (o : ℕ) (xs : List ℕ) → In o (xs ++ o ∷ [])
 in-last o [] = inl refl
 in-last o (x ∷ xs) = inr (in-last o xs)
 
-in-split : (q o : ℕ) (xs : List ℕ) → In q (xs ++ o ∷ []) → In q xs ⊎ (q ≡ o)
+pub in-split : (q o : ℕ) (xs : List ℕ) → In q (xs ++ o ∷ []) → In q xs ⊎ (q ≡ o)
 in-split q o [] (inl e) = inr e
 in-split q o [] (inr i) = absurd i
 in-split q o (x ∷ xs) (inl e) = inl (inl e)
 in-split q o (x ∷ xs) (inr i) = elim (in-split q o xs i) [ inl h ↦ inl (inr h) | inr e ↦ inr e ]
 
-in-here : (o : ℕ) (xs ys : List ℕ) → In o (xs ++ (o ∷ ys))
+pub in-here : (o : ℕ) (xs ys : List ℕ) → In o (xs ++ (o ∷ ys))
 in-here o [] ys = inl refl
 in-here o (x ∷ xs) ys = inr (in-here o xs ys)
 
-length-last : (xs : List ℕ) (o : ℕ) → length (xs ++ o ∷ []) ≡ length xs + 1
+pub length-last : (xs : List ℕ) (o : ℕ) → length (xs ++ o ∷ []) ≡ length xs + 1
 length-last [] o = omega arith
 length-last (x ∷ xs) o = omega (arith, length-last xs o)
 
-no-more : (xs : List ℕ) → xs ++ [] ≡ xs
+pub in-front : (q : ℕ) (xs ys : List ℕ) → In q xs → In q (xs ++ ys)
+in-front q [] ys i = absurd i
+in-front q (x ∷ xs) ys (inl e) = inl e
+in-front q (x ∷ xs) ys (inr i) = inr (in-front q xs ys i)
+
+held-last : (mem xs : List ℕ) (o : ℕ) → bin_words_of_all mem (xs ++ o ∷ []) ≡ bin_words_of_all mem xs + bin_words_at mem o
+held-last mem [] o = omega arith
+held-last mem (x ∷ xs) o = omega (arith, held-last mem xs o)
+
+-- Words of bytes that lie in the memory make no sum too large.
+few-words : (words held now all one n len : ℕ) → now ≡ (words + held) % 18446744073709551616 → words ≡ all → held ≡ one → all ≤ n * 16777216 → one ≤ len → len ≤ 16777216 → n ≤ len
+    → now ≡ all + one
+few-words words held now all one n len is w h some here most short = omega (arith, is, w, h, some, here, most, short)
+
+pub no-more : (xs : List ℕ) → xs ++ [] ≡ xs
 no-more [] = refl
 no-more (x ∷ xs) = ap (λ zs. x ∷ zs) (no-more xs)
 
 -- Tiles that are objects, by their first words.
 
-layout-tag : (h : ℕ) (l : Layout) → layout_for h ≡ Some l → h % 4 ≡ 0
+pub layout-tag : (h : ℕ) (l : Layout) → layout_for h ≡ Some l → h % 4 ≡ 0
 layout-tag h l e = elim (cases_Bool (h % 4 == 0)) [
   | inl t ↦ grind (arith, nat_tests, t)
   | inr f ↦ (let P : Bool → Type 0 = λ b. (if b then layout_at (h / 4 % 16) (h / 64) else None) ≡ Some l in absurd (none-some l (subst P f e)))
@@ -126,10 +145,10 @@ pub record Next (old : List ℕ) (at : ℕ) (rest : List ℕ) (to : ℕ) : Type 
   pub tile : IsTile old w
   pub are : AreObjects old (at + object_words old w) later to
 
-tile-object : (mem : List ℕ) (w : ℕ) → IsPointer w → tile_words mem w ≡ object_words mem w
+pub tile-object : (mem : List ℕ) (w : ℕ) → IsPointer w → tile_words mem w ≡ object_words mem w
 tile-object mem w y = let other : (w % 4 == 0) ≡ false = grind (arith, nat_tests, y) in rw other refl
 
-next-by : (old : List ℕ) (at : ℕ) (rest : List ℕ) (to : ℕ) → AreObjects old at rest to → at < to → Next old at rest to
+pub next-by : (old : List ℕ) (at : ℕ) (rest : List ℕ) (to : ℕ) → AreObjects old at rest to → at < to → Next old at rest to
 next-by old at [] to r some = absurd (omega (arith, r.row, some))
 next-by old at (w ∷ ws) to r some =
     let y : IsPointer w = r.objects w (inl refl) in
@@ -190,10 +209,10 @@ module _ (old : List ℕ) (at : ℕ) (rest : List ℕ) (to : ℕ) (x : Next old 
   pub ends : at + object_words old x.w ≤ to
   ends = tiled-order old (at + object_words old x.w) to x.later x.are.row
 
-  links-step : is_link old x.w ≡ true → links_in old rest ≡ at ∷ links_in old x.later
+  pub links-step : is_link old x.w ≡ true → links_in old rest ≡ at ∷ links_in old x.later
   links-step l = ap (links_in old) x.is ∙ ap (λ b. if b then x.w / 4 ∷ links_in old x.later else links_in old x.later) l ∙ ap (λ a. a ∷ links_in old x.later) x.place
 
-  links-skip : is_link old x.w ≡ false → links_in old rest ≡ links_in old x.later
+  pub links-skip : is_link old x.w ≡ false → links_in old rest ≡ links_in old x.later
   links-skip l = ap (links_in old) x.is ∙ ap (λ b. if b then x.w / 4 ∷ links_in old x.later else links_in old x.later) l
 
 -- The row up to a place was gone through: these objects were seen and chained, and the others are beside the chain.
@@ -207,10 +226,11 @@ pub record Chaining (old mem : List ℕ) (at to head : ℕ) (ws : List ℕ) (h :
   pub others : (q : ℕ) → ((p : ℕ) → In p seen → q ≡ p + 2 → ⊥) → get_or mem q 0 ≡ get_or old q 0
   pub count : h.count ≡ length seen
   pub few : h.count ≤ at
+  pub words : (c : ℕ → ℕ → Bool) → ((p : ℕ) → In p (links_in old ws) → IsLink c old p) → h.words ≡ bin_words_of_all old seen
   pub links : (c : ℕ → ℕ → Bool) (os further : List ℕ) → IsSingle c → Links c old head os (links_in old ws ++ further)
       → ((p : ℕ) → In p os → In p (links_in old ws) → ⊥) → Links c mem h.head (turned seen os) (links_in old rest ++ further)
 
-pub chaining-begins : (mem : List ℕ) (from to head : ℕ) (ws : List ℕ) → AreObjects mem from ws to → Chaining mem mem from to head ws (record { head = head; count = 0 })
+pub chaining-begins : (mem : List ℕ) (from to head : ℕ) (ws : List ℕ) → AreObjects mem from ws to → Chaining mem mem from to head ws (record { head = head; count = 0; words = 0 })
 chaining-begins mem from to head ws are = record {
   rest = ws;
   seen = [];
@@ -221,6 +241,7 @@ chaining-begins mem from to head ws are = record {
   others = λ q out. refl;
   count = refl;
   few = omega arith;
+  words = λ c each. refl;
   links = λ c os further one l apart. l;
 }
 
@@ -262,6 +283,7 @@ module _ (old mem : List ℕ) (at to head : ℕ) (ws : List ℕ) (h : Chained) (
           others = g.others;
           count = g.count;
           few = omega (arith, g.few, e);
+          words = g.words;
           links = λ c os further one l apart. (let Q : List ℕ → Type 0 = λ ys. Links c mem h.head (turned g.seen os) (ys ++ further) in subst Q same (g.links c os further one l apart));
         }
 
@@ -275,9 +297,9 @@ module _ (old mem : List ℕ) (at to head : ℕ) (ws : List ℕ) (h : Chained) (
         skips (at + (1 + get_or mem at 0 / 64)) (omega (arith, size-at t)) ((large old at g.rest to x (omega (arith, t, word-at))).1 ∙ ap is_link_header (sym word-at) ∙ none)
 
     -- One that is comes first.
-    pub joins : (h2 : Chained) → to ≤ length mem → get_or mem at 0 % 4 ≡ 0 → is_link_header (get_or mem at 0) ≡ true → h2.head ≡ at → h2.count ≡ h.count + 1
-        → Chaining old (set mem (at + 2) h.head) (at + (1 + get_or mem at 0 / 64)) to head ws h2
-    joins h2 inside t link first count =
+    pub joins : (h2 : Chained) → to ≤ length mem → length old ≤ 16777216 → get_or mem at 0 % 4 ≡ 0 → is_link_header (get_or mem at 0) ≡ true → h2.head ≡ at → h2.count ≡ h.count + 1
+        → h2.words ≡ (h.words + bin_words_at mem at) % 18446744073709551616 → Chaining old (set mem (at + 2) h.head) (at + (1 + get_or mem at 0 / 64)) to head ws h2
+    joins h2 inside most t link first count words =
         let is : is_link old x.w ≡ true = (large old at g.rest to x (omega (arith, t, word-at))).1 ∙ ap is_link_header (sym word-at) ∙ link in
         let step : links_in old g.rest ≡ at ∷ links_in old x.later = links-step old at g.rest to x is in
         let e : at + (1 + get_or mem at 0 / 64) ≡ at + object_words old x.w = omega (arith, size-at t) in
@@ -293,6 +315,19 @@ module _ (old mem : List ℕ) (at to head : ℕ) (ws : List ℕ) (h : Chained) (
           others = λ q out. get_or-set_other mem (at + 2) q h.head 0 (λ z. out at (in-last at g.seen) z) ∙ g.others q (λ p i. out p (in-left p at g.seen i));
           count = omega (arith, count, g.count, length-last g.seen at);
           few = omega (arith, count, g.few, wide);
+          words = λ c each.
+              let Q : ℕ → Type 0 = λ p. In p (links_in old ws) in
+              let here : bin_words_at mem at ≡ bin_words_at old at =
+              ap (λ b. if b == head_word HOLDER 5 then bin_words (get_or mem (at + 1) 0) else 0) word-at
+              ∙ ap (λ b. if get_or old at 0 == head_word HOLDER 5 then bin_words b else 0) (g.others (at + 1) (λ p i z. omega (arith, g.low p i, z))) in
+              let all : g.seen ++ at ∷ links_in old x.later ≡ links_in old ws = ap (λ ys. g.seen ++ ys) (sym step) ∙ g.whole in
+              let R : List ℕ → Type 0 = λ ys. In at ys in
+              let this : IsLink c old at = each at (subst R all (in-here at g.seen (links_in old x.later))) in
+              let S : (p : ℕ) → List ℕ → Type 0 = λ p ys. In p ys in
+              let among : (p : ℕ) → In p g.seen → IsLink c old p = λ p i. each p (subst (S p) all (in-front p g.seen (at ∷ links_in old x.later) i)) in
+              few-words h.words (bin_words_at mem at) h2.words (bin_words_of_all old g.seen) (bin_words_at old at) (length g.seen) (length old) words (g.words c each) here
+              (all-held-few c old g.seen most among) (held-few c old at this) most (omega (arith, g.count, g.few, wide, large-ends t, inside, g.same_len))
+              ∙ sym (held-last old g.seen at);
           links = λ c os further one l apart.
               let Q : List ℕ → Type 0 = λ ys. Links c mem h.head (turned g.seen os) (ys ++ further) in
               let before : Links c mem h.head (turned g.seen os) (at ∷ (links_in old x.later ++ further)) = subst Q step (g.links c os further one l apart) in
@@ -324,14 +359,15 @@ module _ (old mem : List ℕ) (at to head : ℕ) (ws : List ℕ) (h : Chained) (
         let S : Chained → Type 0 = λ k. Chaining old mem2 (at + (1 + word / 64)) to head ws k in
         subst S (sym also) (subst R (sym same) (subst Q (sym e) (large-skips tag link)))
 
-    pub joins-at : (word : ℕ) → word ≡ get_or mem at 0 → word % 4 ≡ 0 → is_link_header word ≡ true → to ≤ length old → (mem2 : List ℕ) (h2 : Chained) → mem2 ≡ set mem (at + 2) h.head
-        → h2.head ≡ at → h2.count ≡ h.count + 1 → Chaining old mem2 (at + (1 + word / 64)) to head ws h2
-    joins-at word e t l inside mem2 h2 same first count =
+    pub joins-at : (word : ℕ) → word ≡ get_or mem at 0 → word % 4 ≡ 0 → is_link_header word ≡ true → to ≤ length old → length old ≤ 16777216
+        → (mem2 : List ℕ) (h2 : Chained) → mem2 ≡ set mem (at + 2) h.head
+        → h2.head ≡ at → h2.count ≡ h.count + 1 → h2.words ≡ (h.words + bin_words_at mem at) % 18446744073709551616 → Chaining old mem2 (at + (1 + word / 64)) to head ws h2
+    joins-at word e t l inside most mem2 h2 same first count words =
         let P : ℕ → Type 0 = λ a. (a % 4 ≡ 0) × (is_link_header a ≡ true) in
         let (tag, link) = subst P e (t, l) in
         let Q : ℕ → Type 0 = λ a. Chaining old (set mem (at + 2) h.head) (at + (1 + a / 64)) to head ws h2 in
         let R : List ℕ → Type 0 = λ m. Chaining old m (at + (1 + word / 64)) to head ws h2 in
-        subst R (sym same) (subst Q (sym e) (joins h2 (omega (arith, inside, g.same_len)) tag link first count))
+        subst R (sym same) (subst Q (sym e) (joins h2 (omega (arith, inside, g.same_len)) most tag link first count words))
 
 -- The places of a row rise.
 
@@ -348,7 +384,7 @@ in-row mem from (w ∷ ws) to q r i =
       | inr n ↦ omega (arith, in-row mem (from + object_words mem w) ws to q later (subst Q n i))
     ]
 
-row-once : (mem : List ℕ) (from : ℕ) (ws : List ℕ) (to : ℕ) → AreObjects mem from ws to → Distinct (links_in mem ws)
+pub row-once : (mem : List ℕ) (from : ℕ) (ws : List ℕ) (to : ℕ) → AreObjects mem from ws to → Distinct (links_in mem ws)
 row-once mem from [] to r = tt
 row-once mem from (w ∷ ws) to r =
     let y : IsPointer w = r.objects w (inl refl) in
@@ -360,6 +396,12 @@ row-once mem from (w ∷ ws) to r =
       | inl l ↦ rw l ((λ i. omega (arith, in-row mem (from + object_words mem w) ws to (w / 4) later i, place, object-some mem w)), h)
       | inr n ↦ rw n h
     ]
+
+-- A row that ends where it begins has no object.
+pub ended-row : (mem : List ℕ) (a : ℕ) (ys : List ℕ) (b : ℕ) → AreObjects mem a ys b → b ≤ a → ys ≡ []
+ended-row mem a [] b r le = refl
+ended-row mem a (w ∷ ys) b r le = (let (place, is, rest) = r.row in
+    absurd (omega (arith, le, tiled-order mem (a + tile_words mem w) b ys rest, tile-object mem w (r.objects w (inl refl)), object-some mem w)))
 
 -- A row that was gone through is chained.
 pub chaining-ends : (old mem : List ℕ) (from at to head : ℕ) (ws : List ℕ) (h : Chained) → AreObjects old from ws to → Chaining old mem at to head ws h → to ≤ at
@@ -373,6 +415,7 @@ chaining-ends old mem from at to head ws h are g over =
       same_len = g.same_len;
       once = row-once old from ws to are;
       count = g.count ∙ ap length all;
+      words = λ c each. g.words c each ∙ ap (bin_words_of_all old) all;
       others = others;
       kept = λ c one next. record {
         longer = omega (arith, g.same_len);
@@ -387,8 +430,3 @@ chaining-ends old mem from at to head ws h are g over =
           let R : List ℕ → Type 0 = λ ys. Links c mem h.head (turned ys os) further in
           subst R all (subst Q none (g.links c os further one l apart));
     }
-  where
-    ended-row : (mem : List ℕ) (a : ℕ) (ys : List ℕ) (b : ℕ) → AreObjects mem a ys b → b ≤ a → ys ≡ []
-    ended-row mem a [] b r le = refl
-    ended-row mem a (w ∷ ys) b r le = (let (place, is, rest) = r.row in
-        absurd (omega (arith, le, tiled-order mem (a + tile_words mem w) b ys rest, tile-object mem w (r.objects w (inl refl)), object-some mem w)))

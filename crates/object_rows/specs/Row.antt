@@ -6,9 +6,9 @@ use Rattle.term_words.specs.Object.{IsPointer}
 use Rattle.term_words.specs.Kept.{Kept}
 use Rattle.term_words.specs.Counted.{In, Distinct}
 use Rattle.term_words.specs.Tiled.{Tiled}
-use Rattle.off_heap_list.specs.Links.{Links}
-use Rattle.off_heap_list.specs.Whole.{turned}
-use Rattle.term_copy.specs.declared.chaining.Chained.{Chained}
+use Rattle.off_heap_list.specs.Links.{IsLink, Links}
+use Rattle.off_heap_list.specs.Whole.{turned, bin_words_of_all}
+use Rattle.object_rows.specs.declared.chaining.Chained.{Chained}
 
 -- These pointers name the objects from one place up to another, in order and without a gap.
 pub record AreObjects (mem : List ℕ) (from : ℕ) (ws : List ℕ) (to : ℕ) : Type 0 where
@@ -35,11 +35,12 @@ pub record IsRow (mem : List ℕ) (from to : ℕ) : Type 0 where
   pub inside : to ≤ length mem
 
 -- The holders and funs of a row were put before a chain, each before those that had come before it; their words `next`
--- alone were written, and they are counted in the answer.
+-- alone were written, and they are counted in the answer. Where they stand, so are the words of bytes that they have.
 pub record ChainsRow (old new : List ℕ) (ps : List ℕ) (head : ℕ) (result : Chained) : Type 0 where
   pub same_len : length new ≡ length old
   pub once : Distinct ps
   pub count : result.count ≡ length ps
+  pub words : (c : ℕ → ℕ → Bool) → ((p : ℕ) → In p ps → IsLink c old p) → result.words ≡ bin_words_of_all old ps
   pub others : (q : ℕ) → ((p : ℕ) → In p ps → q ≡ p + 2 → ⊥) → slice_index new q ≡ slice_index old q
   pub kept : (c : ℕ → ℕ → Bool) → IsSingle c → ((p : ℕ) → In p ps → c (p + 2) NEXT ≡ true) → Kept c c old new
   pub links : (c : ℕ → ℕ → Bool) (os further : List ℕ) → IsSingle c → Links c old head os (ps ++ further)

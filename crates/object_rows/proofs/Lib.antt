@@ -1,0 +1,4 @@
+pub mod Rows
+pub mod Walk
+pub mod Raised
+pub mod Passed

@@ -1,0 +1,10 @@
+//! Rows of whole objects side by side: their holders and funs are chained, or counted once more, or once less one by one.
+#![tactic(auto)]
+
+mod chaining;
+mod dropping;
+mod raising;
+
+pub use chaining::{Chained, chain_row, is_link_word};
+pub use dropping::{DroppedNext, drop_next};
+pub use raising::raise_row;
