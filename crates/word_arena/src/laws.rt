@@ -1,12 +1,13 @@
 // What holds of blocks, of their words and of what calls change: each law is the contract of a function that does nothing.
 ghost use Rattle.std.specs.Prelude.{◌≡◌, ℕ, ◌+◌, ◌*◌, ◌<◌, ◌≤◌, ◌⊎◌, List, length, slice_index, slice_set};
-ghost use Rattle.word_arena.specs.Blocks.{size_at, Blocked, BlockBegins, IsUsed, IsListed, free_of};
-ghost use Rattle.word_arena.specs.Calls.{NoneFits, FirstFit, IsGreatest, taken, Merged, HeadersStay};
+ghost use Rattle.word_arena.specs.Blocks.{size_at, free_at, Blocked, BlockBegins, IsUsed, IsListed, free_of};
+ghost use Rattle.word_arena.specs.Calls.{NoneFits, FirstFit, IsGreatest, taken, shortened, Merged, HeadersStay};
 ghost use Rattle.word_arena.specs.Sums.{free_before, slid, used_of, words_among};
 ghost use Rattle.word_arena.specs.Shifts.{IsSummed};
 ghost use Rattle.word_arena.specs.Sound.{Sound};
 
 use crate::arena::Arena;
+use crate::blocks::LAST_KIND;
 use crate::shifts::Shifts;
 
 /// Two blocks are one, or have no word in common.
@@ -30,14 +31,26 @@ pub fn lent_memories_come_back()
 
 /// The greatest free block loses at most the words of the block that is taken.
 pub fn greatest_blocks_lose_what_is_taken()
-    ensures { (mem : List ℕ) (at words kind owner before after : ℕ) → Blocked mem → FirstFit mem words at → 2 ≤ words → 1 ≤ kind → kind ≤ 8
-        → IsGreatest mem before → IsGreatest (taken mem at words kind owner) after → before ≤ after + words }
+    ensures greatest { (mem : List ℕ) (at words kind owner before after : ℕ) → Blocked mem → FirstFit mem words at → 2 ≤ words
+        → 1 ≤ kind → kind ≤ LAST_KIND → IsGreatest mem before → IsGreatest (taken mem at words kind owner) after → before ≤ after + words }
+    ensures none { (mem : List ℕ) (at words kind owner n : ℕ) → Blocked mem → FirstFit mem words at → 2 ≤ words
+        → 1 ≤ kind → kind ≤ LAST_KIND → NoneFits (taken mem at words kind owner) n → NoneFits mem (n + words) }
 {}
 
-/// Where no free block had so many words, none has twice as many and those of the block that is given back.
+/// A free block that has the words of the block that was given back and twice so many more shows that one had so many before.
 pub fn given_words_join_two_free_blocks_at_most()
-    ensures { (old new : List ℕ) (at words : ℕ) → Blocked old → IsUsed old at → Merged old new at → NoneFits old words
+    ensures shows { (old new : List ℕ) (at words p : ℕ) → Blocked old → IsUsed old at → Merged old new at → BlockBegins new p
+        → size_at old at + 2 * words ≤ free_at new p → (q : ℕ) × BlockBegins old q × (words ≤ free_at old q) }
+    ensures none { (old new : List ℕ) (at words : ℕ) → Blocked old → IsUsed old at → Merged old new at → NoneFits old words
         → NoneFits new (size_at old at + 2 * words) }
+{}
+
+/// For each free block one is there that has as many words at least after a block was given back or cut.
+pub fn free_blocks_lose_nothing_to_what_comes_free()
+    ensures given { (old new : List ℕ) (at p : ℕ) → Blocked old → IsUsed old at → Merged old new at → BlockBegins old p
+        → (q : ℕ) × BlockBegins new q × (free_at old p ≤ free_at new q) }
+    ensures cut { (mem : List ℕ) (at words p : ℕ) → Blocked mem → IsUsed mem at → 2 ≤ words → words ≤ size_at mem at → BlockBegins mem p
+        → (q : ℕ) × BlockBegins (shortened mem at words) q × (free_at mem p ≤ free_at (shortened mem at words) q) }
 {}
 
 /// Words are free or in use; those in use are in the blocks of each list that has every block in use.
