@@ -26,7 +26,8 @@ block_region k owner place count = record { kind = k; owner = owner; piece = rec
 -- The heap of process 1 has a list whose head is a literal, that of process 2 the list of 1; the message that waits for process 2 is the
 -- list of 2, the fragment of process 1 has a list whose head is the literal too, and the area has the tuple of 1 and 2.
 abbrev pub block_regions : List Region
-block_regions = block_region young 1 2 2 ∷ block_region young 2 10 2 ∷ block_region message 2 18 2 ∷ block_region fragment 1 24 2 ∷ block_region area 0 29 3 ∷ []
+block_regions =
+    block_region young 1 2 2 ∷ block_region young 2 10 2 ∷ block_region message 2 18 2 ∷ block_region fragment 1 24 2 ∷ block_region area 0 29 3 ∷ []
 
 -- Process 1 holds the fragment's list in register 0 and its heap's list on the stack; process 2 holds its list in register 0.
 abbrev pub first_process : Rooted
@@ -85,7 +86,11 @@ abbrev pub shared_regions : List Region
 shared_regions = block_region message 2 18 2 ∷ block_region message 2 24 2 ∷ []
 
 abbrev pub blocks_shared : Image
-blocks_shared = record blocks { regions = shared_regions; processes = record second_process { registers = replicate 16 59; queue = 73 ∷ 73 ∷ [] } ∷ []; areas = [] }
+blocks_shared = record blocks {
+  regions = shared_regions;
+  processes = record second_process { registers = replicate 16 59; queue = 73 ∷ 73 ∷ [] } ∷ [];
+  areas = [];
+}
 
 -- A list at place 18 lies in none but the first of these regions.
 in-first : (mem : List ℕ) (r : Region) → IsAmong r shared_regions → LeadInto mem (73 ∷ []) (r ∷ []) → r.piece.place ≡ 18
