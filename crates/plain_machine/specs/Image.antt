@@ -1,5 +1,5 @@
 -- The image of a store, which is what the lines of its dump give, and which states it stands for.
-use Rattle.std.specs.Prelude.{◌≡◌, ℕ, ◌+◌, ◌*◌, ◌/◌, ◌≤◌, ◌<◌, ◌⊎◌, ◌==◌, ◌&&◌, ◌||◌, nat_le, nat_lt, Bool, true, false, List, [], ◌∷◌, ◌++◌, length, map}
+use Rattle.std.specs.Prelude.{◌≡◌, ℕ, ◌+◌, ◌/◌, ◌≤◌, ◌<◌, ◌⊎◌, ◌==◌, ◌&&◌, nat_le, nat_lt, Bool, true, false, List, [], ◌∷◌, ◌++◌, length, map}
 use Rattle.std.specs.Prelude.{flat_map, take, drop, reverse, if◌then◌else◌, slice_index}
 use Rattle.std.specs.List.{filter, list_any}
 use Rattle.plain_term.specs.Tree.{Tree}
@@ -210,9 +210,14 @@ pub record BlocksLead (i : Image) (mem : List ℕ) : Type 0 where
   pub literals : AllLiteralsLead mem i.regions i.areas
   pub areas : EachLeadsToItself mem (image_roots i) (areas_in i.regions)
 
--- Where pointers may lead, by the layout: in the half in use to whole objects there.
+-- Where pointers lead in a store of one half: to whole objects in the one region that there is.
+pub record HalfLeads (i : Image) (mem : List ℕ) : Type 0 where
+  pub alone : length i.regions ≡ 1
+  pub lead : LeadInto mem (image_roots i) (halves_in i.regions)
+
+-- Where pointers may lead, by the layout.
 abbrev pub PointersLead : Layout → Image → List ℕ → Type 0
-PointersLead in_half i mem = LeadInto mem (image_roots i) (halves_in i.regions)
+PointersLead in_half i mem = HalfLeads i mem
 PointersLead in_blocks i mem = BlocksLead i mem
 
 -- Each of the words stands for its tree, in order.

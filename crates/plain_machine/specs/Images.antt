@@ -1,13 +1,13 @@
 -- Worked images: where each pointer may lead, and images that stand for no state.
-use Rattle.std.proofs.Common.{◌≡◌, ℕ, ◌&&◌, true, false, List, [], ◌∷◌, ◌++◌, length, map, take, drop, replicate, refl, sym, ◌∙◌, ap, subst, inl, inr}
+use Rattle.std.proofs.Common.{◌≡◌, ℕ, true, false, List, [], ◌∷◌, ◌++◌, length, map, take, drop, replicate, refl, sym, ◌∙◌, ap, subst, inl, inr}
 use Prim.Native.Nat.{zero-le, suc-le-suc}
 use Rattle.std.proofs.lemmas.Bool.{false≢true}
 use Rattle.plain_machine.specs.State.{State}
 use Rattle.term_words.specs.Object.{IsPointer}
 use Rattle.term_words.specs.Reach.{root}
 use Rattle.term_words.specs.Counted.{Distinct}
-use Rattle.plain_machine.specs.Image.{Image, ImageStands, IsAmong, Kind, LeadInto, Literals, MessagesLead, Piece, PointersLead, QueueLeads, Region, Rooted, all_pieces, area_of, piece_places}
-use Rattle.plain_machine.specs.Image.{areas_in, halves_in, heaps_of, in_blocks, in_half, half, young, message, fragment, area, lies_whole, messages_of, region_pieces}
+use Rattle.plain_machine.specs.Image.{Image, ImageStands, IsAmong, Kind, LeadInto, MessagesLead, Region, Rooted, all_pieces, area_of, piece_places}
+use Rattle.plain_machine.specs.Image.{areas_in, heaps_of, in_blocks, in_half, half, young, message, fragment, area, lies_whole, messages_of, region_pieces}
 
 -- A memory of two heaps, a message, a fragment and an area, each behind the words that say what it is. The place of a block's first
 -- object is 2, 10, 18, 24 and 29; a list pointer is four times a place and 1, a boxed pointer four times a place and 2.
@@ -135,7 +135,7 @@ abbrev pub half_astray : ℕ → Image
 half_astray w = record in_one_half { processes = record { number = 1; refs = 0; chain = 0; registers = w ∷ replicate 15 59; stack = []; queue = [] } ∷ [] }
 
 pub other_half-stands_for_none : (s : State) → ImageStands (half_astray 41) s → ⊥
-other_half-stands_for_none s i = false≢true (first-leads i.mem 41 (replicate 15 59) (half_region ∷ []) i.lead (inl refl))
+other_half-stands_for_none s i = false≢true (first-leads i.mem 41 (replicate 15 59) (half_region ∷ []) i.lead.lead (inl refl))
 
 pub not_whole-stands_for_none : (s : State) → ImageStands (half_astray 25) s → ⊥
-not_whole-stands_for_none s i = false≢true (first-leads i.mem 25 (replicate 15 59) (half_region ∷ []) i.lead (inl refl))
+not_whole-stands_for_none s i = false≢true (first-leads i.mem 25 (replicate 15 59) (half_region ∷ []) i.lead.lead (inl refl))

@@ -415,7 +415,7 @@ module _ (b : One) (s : State) (holds : Holds b) (o : OneStands b s) where
     processes = rows-rooted o.processes.test narrow s.shared b.halves b.named (tree-covered b.named b.halves s.shared s.processes holds.counts.laid o.processes) b.halves.low (end_of b.halves)
         b.halves.procs.items s.processes o.processes.processes;
     areas = areas-told;
-    lead = leads;
+    lead = record { alone = refl; lead = leads };
     counted = counted-covered b.named b.halves s.shared s.processes holds.counts.laid o.processes;
     exact = λ e. exact-covered b.named b.halves s.shared s.processes holds.counts.laid o.processes (o.reached e) (image_roots (image b))
         (reach-among b.halves.mem (roots_of b.halves) (image_roots (image b)) image-in);

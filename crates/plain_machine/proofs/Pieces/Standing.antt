@@ -1,5 +1,5 @@
 -- A worked image in blocks that stands for a state: two processes, a message, a fragment and an area.
-use Rattle.std.proofs.Common.{◌≡◌, ℕ, zero, suc, ◌+◌, ◌<◌, ◌≤◌, ◌⊎◌, ◌==◌, ◌&&◌, ◌||◌, nat_le, nat_lt, Bool, true, false, List, [], ◌∷◌, ◌++◌, length, map, replicate, slice_index, pos, refl, sym, ◌∙◌, ap, subst, arith, inl, inr}
+use Rattle.std.proofs.Common.{◌≡◌, ℕ, zero, suc, ◌+◌, ◌<◌, ◌≤◌, ◌⊎◌, ◌==◌, ◌&&◌, ◌||◌, nat_le, nat_lt, Bool, true, false, List, [], ◌∷◌, length, replicate, slice_index, pos, refl, sym, ◌∙◌, subst, arith, inl, inr}
 use Rattle.std.proofs.lemmas.Bool.{and_parts, or_cases, false≢true}
 use Rattle.std.proofs.lemmas.Bool.Decides.{nat_tests}
 use Rattle.plain_term.specs.Tree.{Tree}
@@ -9,7 +9,7 @@ use Rattle.term_words.specs.Role.{FIRST, FURTHER, IsSingle, roles_of}
 use Rattle.term_words.specs.Object.{IsObject, IsRecord}
 use Rattle.term_words.specs.Stands.{Stands}
 use Rattle.shared_rec.proofs.Records.{record-first}
-use Rattle.plain_machine.specs.State.{Process, State, first_state}
+use Rattle.plain_machine.specs.State.{State, first_state}
 use Rattle.plain_machine.specs.Image.{ImageStands, LiesIn, Piece, WordsStand, all_pieces}
 use Rattle.plain_machine.specs.Images.{block_words, blocks}
 use Rattle.plain_machine.proofs.Pieces.Worked.{blocks-lead}

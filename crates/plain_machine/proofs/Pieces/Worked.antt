@@ -1,5 +1,5 @@
 -- The worked images: where each of their pointers leads.
-use Rattle.std.proofs.Common.{List, [], ◌∷◌, ◌++◌, replicate, refl, inl}
+use Rattle.std.proofs.Common.{[], ◌∷◌, ◌++◌, replicate, refl, inl}
 use Rattle.plain_machine.specs.Image.{PointersLead, area_of, areas_in, heaps_of, image_roots, in_blocks, in_half, message, area}
 use Rattle.plain_machine.specs.Images.{block_region, block_regions, block_words, blocks, half_region, half_words, in_one_half}
 use Rattle.plain_machine.proofs.Pieces.Leading.{leads-into, leads-to_itself}
@@ -33,4 +33,4 @@ blocks-lead = record {
 
 -- In one half too.
 pub half-leads : PointersLead in_half in_one_half half_words
-half-leads = leads-into half_words (9 ∷ replicate 15 59) (half_region ∷ []) (9 ∷ 59 ∷ 18 ∷ 31 ∷ 47 ∷ []) refl
+half-leads = record { alone = refl; lead = leads-into half_words (9 ∷ replicate 15 59) (half_region ∷ []) (9 ∷ 59 ∷ 18 ∷ 31 ∷ 47 ∷ []) refl }
