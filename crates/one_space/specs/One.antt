@@ -9,9 +9,10 @@ use Rattle.space_api.specs.Calls.{AreRising}
 use Rattle.space_api.specs.declared.space.Seat.{Seat}
 use Rattle.numbered_rows.specs.Numbers.{AreBelow}
 use Rattle.numbered_rows.specs.Numbers.{numbers as numbers_by}
-use Rattle.two_halves.specs.Halves.{HalvesStand, IsLaid, half_of}
+use Rattle.two_halves.specs.Halves.{HalvesStand, IsLaid, free_in, half_of}
 use Rattle.two_halves.specs.Reached.{ChainReached}
 use Rattle.two_halves.specs.declared.table.Proc.{Proc}
+use Rattle.two_halves.specs.declared.halves.TheConstants.{UNUSED}
 use Rattle.one_space.specs.declared.one.One.{One}
 use Rattle.one_space.specs.declared.one.TheConstants.{ROW}
 
@@ -26,6 +27,10 @@ numbers_of b = numbers_by number_in b.halves.procs.items
 -- The words of the memory.
 abbrev pub words_of : One → ℕ
 words_of b = length b.halves.mem
+
+-- All words of a half are free, but those that are never used.
+abbrev pub AllFree : One → Type 0
+AllFree b = free_in b.halves + UNUSED ≡ words_of b / 2
 
 -- The space stands for the state, whose areas are none and whose queued messages are within the walk limit. Where nothing has
 -- changed since the last sweep, the processes reach every object of the chain.

@@ -67,11 +67,12 @@ impl Model for OneSpace {
 }
 
 impl OneSpace {
-    ghost use Rattle.plain_machine.specs.Image.{ImageStands};
+    ghost use Rattle.plain_machine.specs.Image.{HoldsNothing, ImageStands};
     ghost use Rattle.one_space.specs.Image.{image};
-    ghost use Rattle.one_space.specs.One.{OneStands};
+    ghost use Rattle.one_space.specs.One.{AllFree, OneStands};
 
-    /// A space of so many words in which process 1 lives alone. All memory that it will ever need is taken here.
+    /// A space of so many words in which process 1 lives alone. Its image holds nothing, and all words of a half but those that are
+    /// never used are free. All memory that it will ever need is taken here.
     pub fn start(alloc: Global, words: u64) -> Result<OneSpace, OpenFault>
         requires least { LEAST_WORDS ≤ words }
         requires most { words ≤ 2 ^ 24 }
@@ -80,6 +81,8 @@ impl OneSpace {
         ensures words { IfOk result (λ b. ⟦<OneSpace as Space>⟧.words b ≡ words) }
         ensures calls { IfOk result (λ b. ⟦<OneSpace as Space>⟧.calls b ≡ 0) }
         ensures named { IfOk result (λ b. ⟦<OneSpace as Space>⟧.named b ≡ 0) }
+        ensures empty { IfOk result (λ b. HoldsNothing (image b)) }
+        ensures free { IfOk result (λ b. AllFree b) }
     {
         let mem = WordMem::new(alloc, words)?;
         let Ok(mut procs) = Vec::with_capacity(alloc, MOST_PROCESSES) else {

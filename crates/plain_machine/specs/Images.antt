@@ -1,13 +1,13 @@
 -- Worked images: where each pointer may lead, and images that stand for no state.
-use Rattle.std.proofs.Common.{◌≡◌, ℕ, ◌&&◌, true, false, List, [], ◌∷◌, ◌++◌, length, map, take, drop, replicate, refl, sym, ◌∙◌, ap, subst, inl, inr}
+use Rattle.std.proofs.Common.{◌≡◌, ℕ, true, false, List, [], ◌∷◌, ◌++◌, length, map, take, drop, replicate, refl, sym, ◌∙◌, ap, subst, inl, inr}
 use Prim.Native.Nat.{zero-le, suc-le-suc}
 use Rattle.std.proofs.lemmas.Bool.{false≢true}
 use Rattle.plain_machine.specs.State.{State}
 use Rattle.term_words.specs.Object.{IsPointer}
 use Rattle.term_words.specs.Reach.{root}
 use Rattle.term_words.specs.Counted.{Distinct}
-use Rattle.plain_machine.specs.Image.{Image, ImageStands, IsAmong, Kind, LeadInto, Literals, MessagesLead, Piece, PointersLead, QueueLeads, Region, Rooted, all_pieces, area_of, piece_places}
-use Rattle.plain_machine.specs.Image.{areas_in, halves_in, heaps_of, in_blocks, in_half, half, young, message, fragment, area, lies_whole, messages_of, region_pieces}
+use Rattle.plain_machine.specs.Image.{Image, ImageStands, IsAmong, Kind, LeadInto, MessagesLead, Region, Rooted, all_pieces, area_of, piece_places}
+use Rattle.plain_machine.specs.Image.{areas_in, heaps_of, in_blocks, in_half, half, young, message, fragment, area, lies_whole, messages_of, region_pieces}
 
 -- A memory of two heaps, a message, a fragment and an area, each behind the words that say what it is. The place of a block's first
 -- object is 2, 10, 18, 24 and 29; a list pointer is four times a place and 1, a boxed pointer four times a place and 2.
@@ -26,7 +26,8 @@ block_region k owner place count = record { kind = k; owner = owner; piece = rec
 -- The heap of process 1 has a list whose head is a literal, that of process 2 the list of 1; the message that waits for process 2 is the
 -- list of 2, the fragment of process 1 has a list whose head is the literal too, and the area has the tuple of 1 and 2.
 abbrev pub block_regions : List Region
-block_regions = block_region young 1 2 2 ∷ block_region young 2 10 2 ∷ block_region message 2 18 2 ∷ block_region fragment 1 24 2 ∷ block_region area 0 29 3 ∷ []
+block_regions =
+    block_region young 1 2 2 ∷ block_region young 2 10 2 ∷ block_region message 2 18 2 ∷ block_region fragment 1 24 2 ∷ block_region area 0 29 3 ∷ []
 
 -- Process 1 holds the fragment's list in register 0 and its heap's list on the stack; process 2 holds its list in register 0.
 abbrev pub first_process : Rooted
@@ -85,7 +86,11 @@ abbrev pub shared_regions : List Region
 shared_regions = block_region message 2 18 2 ∷ block_region message 2 24 2 ∷ []
 
 abbrev pub blocks_shared : Image
-blocks_shared = record blocks { regions = shared_regions; processes = record second_process { registers = replicate 16 59; queue = 73 ∷ 73 ∷ [] } ∷ []; areas = [] }
+blocks_shared = record blocks {
+  regions = shared_regions;
+  processes = record second_process { registers = replicate 16 59; queue = 73 ∷ 73 ∷ [] } ∷ [];
+  areas = [];
+}
 
 -- A list at place 18 lies in none but the first of these regions.
 in-first : (mem : List ℕ) (r : Region) → IsAmong r shared_regions → LeadInto mem (73 ∷ []) (r ∷ []) → r.piece.place ≡ 18

@@ -111,7 +111,8 @@ module _ (b : One) (p : Proc) (one : b.halves.procs.items ≡ p ∷ []) (number 
         reached = λ e. absurd (false≢true e);
       }
 
-  module _ (words : ℕ) (len : length b.halves.mem ≡ words) (least : 4096 ≤ words) (even : words % 2 ≡ 0) (base : b.halves.base ≡ 0) (top : b.halves.top ≡ 2) (low : b.halves.low ≡ words / 2)
+  module _ (words : ℕ) (len : length b.halves.mem ≡ words) (least : 4096 ≤ words) (even : words % 2 ≡ 0) (base : b.halves.base ≡ 0)
+      (front : 2 ≤ b.halves.top) (order : b.halves.top ≤ b.halves.low) (end : b.halves.low ≤ words / 2)
       (row : vec_len b.row ≡ 4096)
       (capacity : 1024 ≤ vec_capacity b.halves.procs) (calls : b.calls ≡ 0) (sweeps : b.halves.sweeps ≡ 0) (bins_room : words / 2 / 4 ≤ vec_capacity b.halves.bins)
       (funs_room : words / 2 / 4 ≤ vec_capacity b.halves.funs) (spare : vec_len b.spare ≡ 1023) (boxes : 1024 ≤ vec_capacity b.spare) where
@@ -128,9 +129,9 @@ module _ (b : One) (p : Proc) (one : b.halves.procs.items ≡ p ∷ []) (number 
     laid-first = record {
       even = ap (λ x. x % 2) len ∙ even;
       side = inl base;
-      front = omega (arith, base, top);
-      order = omega (arith, top, low, least);
-      fits = omega (arith, base, low, half-is, places-none, records-none);
+      front = omega (arith, base, front);
+      order = order;
+      fits = omega (arith, base, end, half-is, places-none, records-none);
     }
 
     pub first-holds : Holds b

@@ -12,4 +12,6 @@ returns-in-Ok-new-2 c = record {
   words = c.in-Ok.ensures.words;
   calls = c.in-Ok.ensures.calls;
   named = omega (arith, c.in-Ok.ensures.named);
+  empty = c.in-Ok.ensures.empty;
+  free = c.in-Ok.ensures.free;
 }
