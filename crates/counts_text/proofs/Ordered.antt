@@ -51,7 +51,8 @@ module _ (mem : List ℕ) (names : List (List ℕ)) where
   before-back x y a b = before-none x (before-trans x y x a b)
 
   -- Two records of which neither is less are of one name and arity.
-  same-owner : (x y : ℕ) → AreNames names → CanReadTables mem names x → CanReadTables mem names y → is_before mem names x y ≡ false → is_before mem names y x ≡ false → owner_in mem x ≡ owner_in mem y
+  pub same-owner : (x y : ℕ) → AreNames names → CanReadTables mem names x → CanReadTables mem names y → is_before mem names x y ≡ false → is_before mem names y x ≡ false
+      → owner_in mem x ≡ owner_in mem y
   same-owner x y n rx ry a b =
       let tie : record_order mem names x y ≡ Equal =
       (neither (record_order mem names x y) (record_order mem names y x) (order-total.antisymm x y)).1 (not-less (record_order mem names x y) a, not-less (record_order mem names y x) b) in

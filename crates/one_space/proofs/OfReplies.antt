@@ -2,3 +2,4 @@
 pub mod Telling
 pub mod Imaged
 pub mod Allowing
+pub mod Counted

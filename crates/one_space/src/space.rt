@@ -24,7 +24,7 @@ use plain_machine::{
     Depth, MOST_PROCESSES, Measure, PLACE_COST, Pick, RECORD_COST, Refusal, Reg, Shape, To,
 };
 use plain_term::Item;
-use space_api::{Seat, Space, Stop};
+use space_api::{Imaged, Seat, Space, Stop};
 use std::alloc::Global;
 use std::cmp::Ordering;
 use std::marker::Model;
@@ -67,9 +67,9 @@ impl Model for OneSpace {
 }
 
 impl OneSpace {
-    ghost use Rattle.plain_machine.specs.Image.{HoldsNothing, ImageStands};
+    ghost use Rattle.plain_machine.specs.Image.{HoldsNothing};
     ghost use Rattle.one_space.specs.Image.{image};
-    ghost use Rattle.one_space.specs.One.{AllFree, OneStands};
+    ghost use Rattle.one_space.specs.One.{AllFree};
 
     /// A space of so many words in which process 1 lives alone. Its image holds nothing, and all words of a half but those that are
     /// never used are free. All memory that it will ever need is taken here.
@@ -128,13 +128,6 @@ impl OneSpace {
                 swept: false,
             },
         })
-    }
-
-    /// The image of the space stands for each state that the space stands for.
-    pub fn images_stand(&self)
-        ensures { (s : State) → OneStands self.now s → ImageStands (image self.now) s }
-    {
-        let _one = &self.one;
     }
 }
 
@@ -436,5 +429,15 @@ impl Space for OneSpace {
 
     fn counts<K: Sink>(&self, names: &AtomNames, sink: &mut K) -> Result<(), SinkFault> {
         self.one.counts(names, sink)
+    }
+}
+
+impl Imaged for OneSpace {
+    ghost use Rattle.one_space.specs.Image.{image};
+
+    ghost image = { λ b. image b };
+
+    fn images_stand(&self) {
+        let _one = &self.one;
     }
 }

@@ -63,6 +63,8 @@ none-counted alive items s h = record {
   by_names = tt;
   bins_occur = let P : List ℕ → Type 0 = λ z. AllIn z [] in subst P (sym (no-living ids_in (no-ids items))) (λ n i. i);
   funs_occur = let P : List ℕ → Type 0 = λ z. AllIn z [] in subst P (sym (no-living funs_in (no-funs items))) (λ n i. i);
+  bins_named = tt;
+  funs_named = tt;
   bins_exact = λ e. tt;
   funs_exact = λ e. tt;
 }

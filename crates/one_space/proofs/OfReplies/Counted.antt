@@ -1,0 +1,59 @@
+-- The text of `counts` is that of the image.
+use Rattle.std.proofs.Common.{◌≡◌, ℕ, ◌+◌, ◌/◌, ◌%◌, ◌<◌, ◌≤◌, List, length, map, take, drop, refl, ◌∙◌, ap, arith}
+use Rattle.std.specs.Prelude.{slice_index}
+use Rattle.std.proofs.lemmas.List.{get_or-drop, get_or-take}
+use Rattle.atom_names.specs.Names.{AreNames}
+use Rattle.plain_machine.specs.Counting.{bin_entry, bins_by_id, fun_entry, image_counts}
+use Rattle.plain_machine.specs.Image.{pieces_by_place}
+use Rattle.plain_machine.specs.Maps.{CountedBin, CountedFun, counts_text}
+use Rattle.plain_machine.specs.State.{State}
+use Rattle.term_words.specs.Counted.{In}
+use Rattle.shared_rec.specs.Record.{count_in, owner_in}
+use Rattle.record_move.specs.Copies.{record_words}
+use Rattle.counts_text.specs.Told.{bin_of, by_name, fun_of}
+use Rattle.counts_text.proofs.Entries.{bins-of-pieces, funs-of-pieces}
+use Rattle.two_halves.specs.Halves.{IsBinOf, IsFunOf}
+use Rattle.one_space.specs.Image.{image, record_piece}
+use Rattle.one_space.specs.Listing.{counts_of}
+use Rattle.one_space.specs.One.{OneStands}
+use Rattle.one_space.specs.declared.one.One.{One}
+use Rattle.one_space.proofs.OfReplies.Allowing.{can-tell}
+
+-- A word of a piece is that of the memory.
+piece-word : (mem : List ℕ) (v n i : ℕ) → i < n → slice_index (take n (drop v mem)) i ≡ slice_index mem (v + i)
+piece-word mem v n i below = get_or-take n (drop v mem) i 0 below ∙ get_or-drop v mem i 0
+
+abbrev counted_bin : (owner count : ℕ) → CountedBin
+counted_bin owner count = record { id = owner; count = count }
+
+abbrev counted_fun : (owner count : ℕ) → CountedFun
+counted_fun owner count = record { name = owner / 256; arity = owner % 256; count = count }
+
+module _ (mem : List ℕ) (v : ℕ) (large : 4 ≤ record_words mem v) where
+  owner-word : slice_index (take (record_words mem v) (drop v mem)) 1 ≡ owner_in mem v
+  owner-word = piece-word mem v (record_words mem v) 1 (omega (arith, large))
+
+  count-word : slice_index (take (record_words mem v) (drop v mem)) 2 ≡ count_in mem v
+  count-word = piece-word mem v (record_words mem v) 2 (omega (arith, large))
+
+  bin-same : bin_entry (record_piece mem v) ≡ bin_of mem v
+  bin-same = ap (λ z. counted_bin z (slice_index (take (record_words mem v) (drop v mem)) 2)) owner-word ∙ ap (λ z. counted_bin (owner_in mem v) z) count-word
+
+  fun-same : fun_entry (record_piece mem v) ≡ fun_of mem v
+  fun-same = ap (λ z. counted_fun z (slice_index (take (record_words mem v) (drop v mem)) 2)) owner-word ∙ ap (λ z. counted_fun (owner_in mem v) z) count-word
+
+module _ (b : One) (s : State) (o : OneStands b s) where
+  bin-large : (v : ℕ) → In v b.halves.bins.items → 4 ≤ record_words b.halves.mem v
+  bin-large v i = let r : IsBinOf o.processes.test b.halves.mem s.shared v = o.processes.records.each_bin v i in omega (arith, r.is.header)
+
+  fun-large : (v : ℕ) → In v b.halves.funs.items → 4 ≤ record_words b.halves.mem v
+  fun-large v i = let r : IsFunOf o.processes.test b.halves.mem v = o.processes.records.each_fun v i in omega (arith, r.is.header)
+
+  -- With names that are known, the text is that of the records in the image.
+  pub counts-imaged : (names : List (List ℕ)) → AreNames names → b.named ≤ length names → counts_of b names ≡ image_counts names (image b)
+  counts-imaged names all known =
+      let mem : List ℕ = b.halves.mem in
+      ap (λ z. counts_text names z (map (fun_of mem) (by_name mem names b.halves.funs.items)))
+      (bins-of-pieces mem (record_piece mem) b.halves.bins.items (λ v i. bin-same mem v (bin-large v i)) o.processes.records.serials)
+      ∙ ap (λ z. counts_text names (bins_by_id (map bin_entry (pieces_by_place (map (record_piece mem) b.halves.bins.items)))) z)
+      (funs-of-pieces names mem (record_piece mem) b.halves.funs.items all (can-tell b s o names known).each_fun (λ v i. fun-same mem v (fun-large v i)) o.processes.records.codes)
