@@ -2,3 +2,4 @@
 pub mod Turning
 pub mod Sweeping
 pub mod Tallied
+pub mod Parted

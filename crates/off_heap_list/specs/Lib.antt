@@ -4,4 +4,5 @@ pub mod Exact
 pub mod Several
 pub mod Turned
 pub mod Whole
+pub mod Dealt
 pub mod Elsewhere

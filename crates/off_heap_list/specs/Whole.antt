@@ -10,6 +10,7 @@ use Rattle.off_heap_list.specs.declared.whole.Order.TheVariants.{Same, Turned}
 use Rattle.off_heap_list.specs.declared.whole.Survivors.{Survivors}
 use Rattle.off_heap_list.specs.declared.whole.FrontLeft.{FrontLeft}
 use Rattle.off_heap_list.specs.Links.{named, Chain, Links}
+use Rattle.off_heap_list.specs.Turned.{Turning}
 use Rattle.off_heap_list.specs.Swept.{is_moved, new_place, bin_words_at, named_records, Relinked, IsLast, FrontSweeping, Sweeping}
 
 -- The new places of those of the objects that were moved, in order.
@@ -90,6 +91,22 @@ pub record CanSweep (mem : List ℕ) (head len : ℕ) : Type 0 where
 pub record OnlyNext (c : ℕ → ℕ → Bool) (old new : List ℕ) : Type 0 where
   pub same_len : length new ≡ length old
   pub same : (q : ℕ) → (c q NEXT ≡ true → ⊥) → slice_index new q ≡ slice_index old q
+
+-- A chain was put before another one, turned round.
+pub record TurnedOnto (c : ℕ → ℕ → Bool) (start mem : List ℕ) (first : ℕ) (os kept further : List ℕ) : Type 0 where
+  pub links : Links c mem first (turned os kept) further
+  pub writes : OnlyNext c start mem
+  pub trees : Keeps c c start mem
+
+-- A chain of so many objects stands beside the one that it is put before.
+pub record CanTurnOnto (mem : List ℕ) (head len first : ℕ) : Type 0 where
+  pub test : ℕ → ℕ → Bool
+  pub single : IsSingle test
+  pub os : List ℕ
+  pub kept : List ℕ
+  pub further : List ℕ
+  pub number : length os ≡ len
+  pub turning : Turning test mem head os first kept further
 
 -- A whole chain was turned round.
 pub record TurnedWhole (c : ℕ → ℕ → Bool) (start mem : List ℕ) (first : ℕ) (os further : List ℕ) : Type 0 where

@@ -11,6 +11,7 @@ ghost use Rattle.off_heap_list.specs.Several.{AreChains, ManyLinks, AreListed, L
 ghost use Rattle.off_heap_list.specs.Elsewhere.{LinksMoved, AreChainsTo};
 ghost use Rattle.off_heap_list.specs.Turned.{Turning};
 ghost use Rattle.off_heap_list.specs.Swept.{is_moved, new_place, named_records, IsOld, Sweeping};
+ghost use Rattle.off_heap_list.specs.Dealt.{FrontLinks};
 ghost use Rattle.off_heap_list.specs.Whole.{SweptFront, SweptWhole};
 ghost use Rattle.off_heap_list.specs.declared.whole.FrontLeft.{FrontLeft};
 ghost use Rattle.off_heap_list.specs.declared.whole.Survivors.{Survivors};
@@ -55,9 +56,12 @@ pub fn sweeps_end()
 
 /// The rest of a chain whose front part was swept leads on as before, where nothing was moved to its objects.
 pub fn swept_fronts_leave_the_rest()
-    ensures { (c : ℕ → ℕ → Bool) (start mem os kept further : List ℕ) (to : ℕ) (result : FrontLeft) → SweptFront c start mem os kept further to result
+    ensures chain { (c : ℕ → ℕ → Bool) (start mem os kept further : List ℕ) (to : ℕ) (result : FrontLeft) → SweptFront c start mem os kept further to result
         → (rest : List ℕ) → Chain start to rest → ((p : ℕ) → In p rest → IsLink c start p) → ((p : ℕ) → In p rest → In p kept → ⊥)
         → Chain mem result.rest rest }
+    ensures front { (c : ℕ → ℕ → Bool) (start mem os kept rest further : List ℕ) (to : ℕ) (result : FrontLeft)
+        → SweptFront c start mem os kept (rest ++ further) to result → Chain start to rest → Distinct rest → ((p : ℕ) → In p rest → IsLink c start p)
+        → ((p : ℕ) → In p rest → In p kept → ⊥) → FrontLinks c mem result.left.first kept result.rest rest further }
 {}
 
 /// Where a chain, or several with a further list, have exactly the holders and funs that the roots reach, and no record has

@@ -2,6 +2,7 @@
 #![tactic(auto)]
 
 mod chains;
+mod deal;
 mod laws;
 mod links;
 mod sweep;
@@ -9,6 +10,7 @@ mod turn;
 mod whole;
 
 pub use chains::{Unchained, chain, unchain};
+pub use deal::{Dealt, deal_chain};
 pub use laws::{
     chained_objects_stay, chains_of_what_is_reached_are_many,
     chains_of_what_is_reached_count_exactly, each_of_several_chains_is_one,
@@ -19,4 +21,4 @@ pub use laws::{
 pub use links::{next_of, record_of, set_next, set_record};
 pub use sweep::{Sweep, Swept, held_in, sweep_next, sweep_one};
 pub use turn::{Turn, turn_next};
-pub use whole::{FrontLeft, Order, Survivors, sweep_chain, sweep_front, turn_chain};
+pub use whole::{FrontLeft, Order, Survivors, sweep_chain, sweep_front, turn_chain, turn_onto};

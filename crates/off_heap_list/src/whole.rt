@@ -2,8 +2,9 @@
 ghost use Rattle.std.specs.Prelude.{◌≡◌, ℕ, ◌+◌, ◌<◌, ◌^◌, Bool, List, [], length};
 ghost use Rattle.term_words.specs.Role.{IsSingle};
 ghost use Rattle.off_heap_list.specs.Links.{Links};
+ghost use Rattle.off_heap_list.specs.Turned.{Turning};
 ghost use Rattle.off_heap_list.specs.Swept.{FrontSweeping, Sweeping};
-ghost use Rattle.off_heap_list.specs.Whole.{moved_of, ordered, turned, one_of, SweptFront, SweptWhole, CanSweep, CanSweepFront, TurnedWhole, CanTurn};
+ghost use Rattle.off_heap_list.specs.Whole.{moved_of, ordered, turned, one_of, SweptFront, SweptWhole, CanSweep, CanSweepFront, TurnedOnto, CanTurnOnto, TurnedWhole, CanTurn};
 
 use crate::sweep::{Sweep, Swept, sweep_next};
 use crate::turn::{Turn, turn_next};
@@ -130,10 +131,17 @@ pub fn turn_chain(mem: &mut WordMem, head: u64, len: u64) -> u64
     ensures { (c : ℕ → ℕ → Bool) (os further : List ℕ) → IsSingle c → length os ≡ len → Links c mem.old head os further
         → TurnedWhole c mem.old mem.new result os further }
 {
-    let mut turn = Turn {
-        rest: head,
-        first: 0,
-    };
+    turn_onto(mem, head, len, 0)
+}
+
+/// Puts a chain of `len` objects before the one that begins at `first`, 0 for none, turned round. Counts stay, and every tree
+/// stands. The answer is the first object.
+pub fn turn_onto(mem: &mut WordMem, head: u64, len: u64, first: u64) -> u64
+    requires { CanTurnOnto mem.old head len first }
+    ensures { (c : ℕ → ℕ → Bool) (os kept further : List ℕ) → IsSingle c → length os ≡ len → Turning c mem.old head os first kept further
+        → TurnedOnto c mem.old mem.new result os kept further }
+{
+    let mut turn = Turn { rest: head, first };
     for i in 0..len {
         turn_next(mem, &mut turn);
     }

@@ -1,5 +1,5 @@
 -- A whole chain is swept, object by object.
-use Rattle.std.proofs.Common.{◌≡◌, ℕ, ◌+◌, ◌*◌, ◌/◌, ◌%◌, ◌<◌, ◌≤◌, ◌⊎◌, ◌==◌, if◌then◌else◌, Bool, true, false, List, [], ◌∷◌, Option, Some, None, length, zero, suc, get_or}
+use Rattle.std.proofs.Common.{◌≡◌, ℕ, ◌+◌, ◌*◌, ◌/◌, ◌%◌, ◌<◌, ◌≤◌, ◌⊎◌, ◌==◌, if◌then◌else◌, Bool, true, false, List, [], ◌∷◌, ◌++◌, Option, Some, None, length, zero, suc, get_or}
 use Rattle.std.proofs.Common.{true≢false, refl, sym, ◌∙◌, ap, subst, arith, inl, inr}
 use Rattle.std.proofs.lemmas.Bool.{cases_Bool}
 use Rattle.std.proofs.lemmas.Bool.Decides.{nat_tests}
@@ -17,6 +17,7 @@ use Rattle.off_heap_list.specs.Links.{named, Leads, Chain, IsLink, Links}
 use Rattle.off_heap_list.specs.declared.whole.FrontLeft.{FrontLeft}
 use Rattle.off_heap_list.proofs.Chaining.Chained.{leads-stays}
 use Rattle.off_heap_list.specs.Swept.{is_moved, new_place, bin_words_at, count_less, freed_at, kept_after, ends_record, ends_after, IsOld, Relinked, FrontSweeping, Since}
+use Rattle.off_heap_list.specs.Dealt.{FrontLinks}
 use Rattle.off_heap_list.specs.Whole.{moved_of, turned, bin_words_of_all, one_of, SweptFront}
 use Rattle.off_heap_list.proofs.Walked.Sweeping.{relinked-kept, relinked-then, relinked-wider, next-old, next-moved, next-record, next-counted, sweep-done}
 
@@ -339,3 +340,12 @@ rest-stays c start mem os kept further to result s rest chain each apart =
     let same : p ≡ q = omega (arith, e) in
     let Q : ℕ → Type 0 = λ x. In x kept in
     apart p i (subst Q (sym same) j))) chain)
+
+pub front-links : (c : ℕ → ℕ → Bool) (start mem os kept rest further : List ℕ) (to : ℕ) (result : FrontLeft) → SweptFront c start mem os kept (rest ++ further) to result → Chain start to rest
+    → Distinct rest → ((p : ℕ) → In p rest → IsLink c start p) → ((p : ℕ) → In p rest → In p kept → ⊥) → FrontLinks c mem result.left.first kept result.rest rest further
+front-links c start mem os kept rest further to result s chain once each apart = record {
+  links = s.whole.links;
+  chain = rest-stays c start mem os kept (rest ++ further) to result s rest chain each apart;
+  once = once;
+  apart = λ p i j. apart p j i;
+}

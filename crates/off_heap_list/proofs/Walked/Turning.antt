@@ -9,7 +9,7 @@ use Rattle.shared_rec.proofs.Records.{record-stays, record-counted}
 use Rattle.off_heap_list.specs.Links.{names_it, name_place, named, Leads, naming, IsLink, Links}
 use Rattle.off_heap_list.specs.Swept.{named_records, IsReadAt, Relinked, IsLast}
 use Rattle.off_heap_list.specs.declared.whole.Survivors.{Survivors}
-use Rattle.off_heap_list.specs.Whole.{turned, bin_words_of_all, OnlyNext, EndRecords, SweptWhole, TurnedWhole}
+use Rattle.off_heap_list.specs.Whole.{turned, bin_words_of_all, OnlyNext, EndRecords, SweptWhole, TurnedOnto, TurnedWhole}
 use Rattle.off_heap_list.specs.Turned.{Turning}
 use Rattle.off_heap_list.proofs.Chaining.Chained.{kept-then, roles-apart, link-named, link-stays, naming-stays, leads-stays}
 use Rattle.off_heap_list.proofs.Walked.Sweeping.{relinked-next, relinked-kept, relinked-back, relinked-then, relinked-wider, relinked-keeps, SameObject, moved-same, named-same, old-stays, records-same}
@@ -47,6 +47,43 @@ turn-step c old new head p os first kept further single k back other lead s =
           other (v + 2) (λ at. roles-apart c (p + 2) (v + 2) single this.next (record-counted c new v n there) (sym at)) ∙ omega (arith, was, a, b, d, e);
     }
 
+-- The first object of the one chain leaves it for a place beside both.
+pub turning-passes : (c : ℕ → ℕ → Bool) (old : List ℕ) (head p : ℕ) (os : List ℕ) (first : ℕ) (kept further : List ℕ) (x : ℕ) → IsSingle c → Turning c old head (p ∷ os) first kept further
+    → Turning c (set old (head + 2) x) (get_or old (head + 2) 0) os first kept (head ∷ further)
+turning-passes c old head p os first kept further x single s =
+    let Z : ℕ → Type 0 = λ h. Turning c (set old (h + 2) x) (get_or old (h + 2) 0) os first kept (h ∷ further) in
+    let S : ℕ → Type 0 = λ y. In y kept in
+    let T : ℕ → Type 0 = λ y. In y os in
+    let P : ℕ → Type 0 = λ y. IsLink c (set old (p + 2) x) y in
+    let this : IsLink c old p = s.left p (inl refl) in
+    let r : Relinked c [] old (set old (p + 2) x) = relinked-next c [] old (p + 2) x this.next in
+    let k : Kept c c old (set old (p + 2) x) = relinked-kept c [] old (set old (p + 2) x) single (λ y j inside h. inside) r in
+    let back : Kept c c (set old (p + 2) x) old = relinked-back c [] old (set old (p + 2) x) single (λ y j inside h. inside) r in
+    let other : (q : ℕ) → (q ≡ p + 2 → ⊥) → get_or (set old (p + 2) x) q 0 ≡ get_or old q 0 = λ q far. get_or-set_other old (p + 2) q x 0 far in
+    subst Z (sym s.rest.0) (record {
+      rest = leads-stays old (set old (p + 2) x) (get_or old (p + 2) 0) os 0
+          (λ q inside. other (q + 2) (λ e. let same : q ≡ p = omega (arith, e) in s.once_left.0 (subst T same inside))) s.rest.1;
+      once_left = s.once_left.1;
+      left = λ q inside. link-stays c c old (set old (p + 2) x) q k (s.left q (inr inside));
+      chain = leads-stays old (set old (p + 2) x) first kept 0
+          (λ q inside. other (q + 2) (λ e. let same : q ≡ p = omega (arith, e) in s.apart p (inl refl) (subst S same inside))) s.chain;
+      once = s.once;
+      each = λ q inside. link-stays c c old (set old (p + 2) x) q k (s.each q inside);
+      apart = λ q inside hit. s.apart q (inr inside) hit;
+      beside = λ q inside. elim inside [
+        | inl e ↦ subst P (sym e) (link-stays c c old (set old (p + 2) x) p k this)
+        | inr deep ↦ link-stays c c old (set old (p + 2) x) q k (s.beside q deep)
+      ];
+      counts = λ v n there.
+          let was : get_or old (v + 2) 0 ≡ names_it (named old p) v + naming old v os + naming old v kept + naming old v further =
+          s.counts v n (record-stays c c (set old (p + 2) x) old v n back there) in
+          let a : naming (set old (p + 2) x) v os ≡ naming old v os = naming-stays c c old (set old (p + 2) x) v os k (λ q inside. s.left q (inr inside)) in
+          let b : names_it (named (set old (p + 2) x) p) v ≡ names_it (named old p) v = ap (λ y. names_it y v) (link-named c c old (set old (p + 2) x) p k this) in
+          let d : naming (set old (p + 2) x) v kept ≡ naming old v kept = naming-stays c c old (set old (p + 2) x) v kept k s.each in
+          let e : naming (set old (p + 2) x) v further ≡ naming old v further = naming-stays c c old (set old (p + 2) x) v further k s.beside in
+          other (v + 2) (λ at. roles-apart c (p + 2) (v + 2) single this.next (record-counted c (set old (p + 2) x) v n there) (sym at)) ∙ omega (arith, was, a, b, d, e);
+    })
+
 -- The first object of the one chain becomes the first of the other.
 pub turned-one : (c : ℕ → ℕ → Bool) (old : List ℕ) (head p : ℕ) (os : List ℕ) (first : ℕ) (kept further : List ℕ) → IsSingle c → Turning c old head (p ∷ os) first kept further
     → Turning c (set old (head + 2) first) (get_or old (head + 2) 0) os head (head ∷ kept) further
@@ -78,26 +115,26 @@ turn-ends c mem head first kept further s = record { chain = s.chain; once = s.o
 pub only-relinked : (c : ℕ → ℕ → Bool) (old new : List ℕ) → OnlyNext c old new → Relinked c [] old new
 only-relinked c old new w = record { same_len = w.same_len; same = λ q n k o. w.same q n }
 
--- A whole chain, turned round so far.
-pub record Turns (c : ℕ → ℕ → Bool) (start mem : List ℕ) (head first i : ℕ) (os further : List ℕ) : Type 0 where
+-- A whole chain, put before another one so far.
+pub record Turns (c : ℕ → ℕ → Bool) (start mem : List ℕ) (head first i : ℕ) (os base further : List ℕ) : Type 0 where
   pub rest : List ℕ
   pub kept : List ℕ
   pub now : Turning c mem head rest first kept further
   pub number : i + length rest ≡ length os
-  pub whole : turned rest kept ≡ turned os []
+  pub whole : turned rest kept ≡ turned os base
   pub writes : OnlyNext c start mem
 
-pub turns-begin : (c : ℕ → ℕ → Bool) (mem : List ℕ) (head : ℕ) (os further : List ℕ) → Links c mem head os further → Turns c mem mem head 0 0 os further
-turns-begin c mem head os further l = record {
+pub turns-begin : (c : ℕ → ℕ → Bool) (mem : List ℕ) (head first : ℕ) (os base further : List ℕ) → Turning c mem head os first base further → Turns c mem mem head first 0 os base further
+turns-begin c mem head first os base further t = record {
   rest = os;
-  kept = [];
-  now = turn-begins c mem head os further l;
+  kept = base;
+  now = t;
   number = omega arith;
   whole = refl;
   writes = record { same_len = refl; same = λ q n. refl };
 }
 
-module _ (c : ℕ → ℕ → Bool) (start mem : List ℕ) (head first i : ℕ) (os further : List ℕ) (s : Turns c start mem head first i os further) (more : i < length os) where
+module _ (c : ℕ → ℕ → Bool) (start mem : List ℕ) (head first i : ℕ) (os base further : List ℕ) (s : Turns c start mem head first i os base further) (more : i < length os) where
   next : Goes s.rest
   next = goes s.rest (omega (arith, s.number, more))
 
@@ -110,7 +147,7 @@ module _ (c : ℕ → ℕ → Bool) (start mem : List ℕ) (head first i : ℕ) 
   pub turns-within : head + 6 ≤ length mem
   turns-within = link-here.within
 
-  pub turns-more : IsSingle c → Turns c start (set mem (head + 2) first) (get_or mem (head + 2) 0) head (i + 1) os further
+  pub turns-more : IsSingle c → Turns c start (set mem (head + 2) first) (get_or mem (head + 2) 0) head (i + 1) os base further
   turns-more single = record {
     rest = next.left;
     kept = head ∷ s.kept;
@@ -123,9 +160,9 @@ module _ (c : ℕ → ℕ → Bool) (start mem : List ℕ) (head first i : ℕ) 
     };
   }
 
-pub turns-done : (c : ℕ → ℕ → Bool) (start mem : List ℕ) (head first i : ℕ) (os further : List ℕ) → IsSingle c → Turns c start mem head first i os further → length os ≤ i
-    → TurnedWhole c start mem first os further
-turns-done c start mem head first i os further single s end =
+pub turns-done : (c : ℕ → ℕ → Bool) (start mem : List ℕ) (head first i : ℕ) (os base further : List ℕ) → IsSingle c → Turns c start mem head first i os base further → length os ≤ i
+    → TurnedOnto c start mem first os base further
+turns-done c start mem head first i os base further single s end =
     let over : s.rest ≡ [] = none-left s.rest (omega (arith, s.number, end)) in
     let P : List ℕ → Type 0 = λ xs. Turning c mem head xs first s.kept further in
     let Q : List ℕ → Type 0 = λ xs. Links c mem first xs further in
@@ -137,7 +174,7 @@ turns-done c start mem head first i os further single s end =
 
 -- A list turned round twice is the list.
 
-turned-twice : (xs ys zs : List ℕ) → turned (turned xs ys) zs ≡ turned ys (xs ++ zs)
+pub turned-twice : (xs ys zs : List ℕ) → turned (turned xs ys) zs ≡ turned ys (xs ++ zs)
 turned-twice [] ys zs = refl
 turned-twice (x ∷ xs) ys zs = turned-twice xs (x ∷ ys) zs
 
@@ -148,7 +185,7 @@ pub turned-length : (xs ys : List ℕ) → length (turned xs ys) ≡ length xs +
 turned-length [] ys = omega arith
 turned-length (x ∷ xs) ys = omega (arith, turned-length xs (x ∷ ys))
 
-turned-held : (mem xs ys : List ℕ) → bin_words_of_all mem (turned xs ys) ≡ bin_words_of_all mem xs + bin_words_of_all mem ys
+pub turned-held : (mem xs ys : List ℕ) → bin_words_of_all mem (turned xs ys) ≡ bin_words_of_all mem xs + bin_words_of_all mem ys
 turned-held mem [] ys = omega arith
 turned-held mem (x ∷ xs) ys = omega (arith, turned-held mem xs (x ∷ ys))
 

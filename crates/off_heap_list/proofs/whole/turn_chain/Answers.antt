@@ -1,24 +1,19 @@
-use Rattle.std.proofs.Common.{arith}
-use Rattle.off_heap_list.proofs.Walked.Turning.{turns-begin, turns-within, turns-more, turns-done}
+use Rattle.std.proofs.Common.{[]}
+use Rattle.off_heap_list.proofs.Walked.Turning.{turn-begins}
 use Rattle.off_heap_list.proofs.whole.turn_chain.Goals as goal
 
-pub loop-i-init : goal.loop-i-init
-loop-i-init c = record { each = λ k os further single number l. turns-begin k c.args.mem.now c.args.head os further l }
-
-pub turn_next-requires : goal.turn_next-requires
-turn_next-requires c =
-    turns-within c.requires.test c.args.mem.now c.loop-i.mem c.loop-i.turn.rest c.loop-i.turn.first c.loop-i.i c.requires.os c.requires.further
-    (c.loop-i.invariant.each c.requires.test c.requires.os c.requires.further c.requires.single c.requires.number c.requires.links) (omega (arith, c.loop-i-test.true, c.requires.number))
-
-pub loop-i-preserved : goal.loop-i-preserved
-loop-i-preserved c = record {
-  each = λ k os further single number l.
-      rw (c.turn_next.ensures.writes, c.turn_next.ensures.rest, c.turn_next.ensures.first)
-      (turns-more k c.args.mem.now c.loop-i.mem c.loop-i.turn.rest c.loop-i.turn.first c.loop-i.i os further (c.loop-i.invariant.each k os further single number l)
-      (omega (arith, c.loop-i-test.true, number)) single);
+pub turn_onto-requires : goal.turn_onto-requires
+turn_onto-requires c = record {
+  test = c.requires.test;
+  single = c.requires.single;
+  os = c.requires.os;
+  kept = [];
+  further = c.requires.further;
+  number = c.requires.number;
+  turning = turn-begins c.requires.test c.args.mem.now c.args.head c.requires.os c.requires.further c.requires.links;
 }
 
 pub returns : goal.returns
 returns c = λ k os further single number l.
-    turns-done k c.args.mem.now c.loop-i.mem c.loop-i.turn.rest c.loop-i.turn.first c.loop-i.i os further single (c.loop-i.invariant.each k os further single number l)
-    (omega (arith, c.loop-i-test.false, number))
+    let t = c.turn_onto.ensures k os [] further single number (turn-begins k c.args.mem.now c.args.head os further l) in
+    record { links = t.links; writes = t.writes; trees = t.trees }
