@@ -7,8 +7,8 @@ use Rattle.std.specs.Cmp.{IsTotalOrder}
 use Rattle.std.specs.Ordering.{is_lt}
 use Rattle.plain_term.specs.Order.{name_of}
 use Rattle.plain_term.proofs.Rising.{is-less}
-use Rattle.plain_machine.specs.Counting.{bin_entry, bins_by_id, fun_entry, funs_by_name, insert_bin, insert_fun}
-use Rattle.plain_machine.specs.Image.{Piece, insert_piece, pieces_by_place}
+use Rattle.plain_machine.specs.Counting.{entry_of_bin, bins_by_id, entry_of_fun, funs_by_name, insert_bin, insert_fun}
+use Rattle.plain_machine.specs.Image.{Stretch, insert_piece, pieces_by_place}
 use Rattle.plain_machine.specs.Maps.{CountedBin, CountedFun, fun_order}
 use Rattle.plain_machine.proofs.Pieces.Ordered.{AllPieces, EachTwo, all-any, ordered}
 use Rattle.atom_names.specs.Names.{AreNames}
@@ -83,14 +83,14 @@ module _ {A : Type 0} (less : A → A → Bool) where
     ]
 
     -- Entries of pieces in the order of their places.
-    piece-put : (f : Piece → A) (r : Piece) (qs : List Piece) → AllPieces (λ q. OneFirst (f r) (f q)) qs → in_order (map f (insert_piece r qs)) ≡ put_in (f r) (in_order (map f qs))
+    piece-put : (f : Stretch → A) (r : Stretch) (qs : List Stretch) → AllPieces (λ q. OneFirst (f r) (f q)) qs → in_order (map f (insert_piece r qs)) ≡ put_in (f r) (in_order (map f qs))
     piece-put f r [] all = refl
     piece-put f r (q ∷ qs) (here, more) = elim (cases_Bool (nat_lt q.place r.place)) [
       | inl e ↦ rw e (ap (put_in (f q)) (piece-put f r qs more) ∙ put-swap (f q) (f r) (one-turned (f r) (f q) here) (in_order (map f qs)))
       | inr e ↦ rw e refl
     ]
 
-    pub any-places : (f : Piece → A) (rs : List Piece) → EachTwo (λ r q. OneFirst (f r) (f q)) rs → in_order (map f (pieces_by_place rs)) ≡ in_order (map f rs)
+    pub any-places : (f : Stretch → A) (rs : List Stretch) → EachTwo (λ r q. OneFirst (f r) (f q)) rs → in_order (map f (pieces_by_place rs)) ≡ in_order (map f rs)
     any-places f [] two = refl
     any-places f (r ∷ rs) (first, rest) =
         piece-put f r (pieces_by_place rs) (ordered (AllPieces (λ q. OneFirst (f r) (f q))) (all-any (λ q. OneFirst (f r) (f q))) rs first)
@@ -98,11 +98,11 @@ module _ {A : Type 0} (less : A → A → Bool) where
 
 -- Entries of records, by a function from a record's place to its piece.
 
-map-pieces : {A : Type 0} (f : Piece → A) (g : ℕ → A) (piece : ℕ → Piece) (vs : List ℕ) → ((v : ℕ) → In v vs → f (piece v) ≡ g v) → map f (map piece vs) ≡ map g vs
+map-pieces : {A : Type 0} (f : Stretch → A) (g : ℕ → A) (piece : ℕ → Stretch) (vs : List ℕ) → ((v : ℕ) → In v vs → f (piece v) ≡ g v) → map f (map piece vs) ≡ map g vs
 map-pieces f g piece [] same = refl
 map-pieces f g piece (v ∷ vs) same = ap (λ z. z ∷ map f (map piece vs)) (same v (inl refl)) ∙ ap (λ z. g v ∷ z) (map-pieces f g piece vs (λ w i. same w (inr i)))
 
-each-one : {A : Type 0} (P : A → A → Type 0) (f : Piece → A) (g : ℕ → A) (piece : ℕ → Piece) (v : ℕ) (us : List ℕ) → f (piece v) ≡ g v → ((u : ℕ) → In u us → f (piece u) ≡ g u)
+each-one : {A : Type 0} (P : A → A → Type 0) (f : Stretch → A) (g : ℕ → A) (piece : ℕ → Stretch) (v : ℕ) (us : List ℕ) → f (piece v) ≡ g v → ((u : ℕ) → In u us → f (piece u) ≡ g u)
     → ((u : ℕ) → In u us → P (g v) (g u)) → AllPieces (λ q. P (f (piece v)) (f q)) (map piece us)
 each-one P f g piece v [] here same each = tt
 each-one P f g piece v (u ∷ us) here same each = (
@@ -137,22 +137,22 @@ bins-stay mem (v ∷ vs) (first, rest) = ap (insert_bin (bin_of mem v)) (bins-st
     stays [] less = refl
     stays (w ∷ ws) less = rw (id-first (owner_in mem v) (owner_in mem w) (less w (inl refl))).1 refl
 
-bins-two : (mem : List ℕ) (piece : ℕ → Piece) (vs : List ℕ) → ((v : ℕ) → In v vs → bin_entry (piece v) ≡ bin_of mem v) → OwnersRise mem vs
-    → EachTwo (λ r q. OneFirst id_before (bin_entry r) (bin_entry q)) (map piece vs)
+bins-two : (mem : List ℕ) (piece : ℕ → Stretch) (vs : List ℕ) → ((v : ℕ) → In v vs → entry_of_bin (piece v) ≡ bin_of mem v) → OwnersRise mem vs
+    → EachTwo (λ r q. OneFirst id_before (entry_of_bin r) (entry_of_bin q)) (map piece vs)
 bins-two mem piece [] same r = tt
 bins-two mem piece (v ∷ vs) same (first, rest) = (
-  each-one (OneFirst id_before) bin_entry (bin_of mem) piece v vs (same v (inl refl)) (λ u i. same u (inr i)) (λ u i. inl (id-first (owner_in mem v) (owner_in mem u) (first u i))),
+  each-one (OneFirst id_before) entry_of_bin (bin_of mem) piece v vs (same v (inl refl)) (λ u i. same u (inr i)) (λ u i. inl (id-first (owner_in mem v) (owner_in mem u) (first u i))),
   bins-two mem piece vs (λ u i. same u (inr i)) rest,
 )
 
 -- The entries of a table of binaries are those of its pieces, in the order of places.
-pub bins-of-pieces : (mem : List ℕ) (piece : ℕ → Piece) (vs : List ℕ) → ((v : ℕ) → In v vs → bin_entry (piece v) ≡ bin_of mem v) → OwnersRise mem vs
-    → map (bin_of mem) vs ≡ bins_by_id (map bin_entry (pieces_by_place (map piece vs)))
+pub bins-of-pieces : (mem : List ℕ) (piece : ℕ → Stretch) (vs : List ℕ) → ((v : ℕ) → In v vs → entry_of_bin (piece v) ≡ bin_of mem v) → OwnersRise mem vs
+    → map (bin_of mem) vs ≡ bins_by_id (map entry_of_bin (pieces_by_place (map piece vs)))
 bins-of-pieces mem piece vs same rise =
     sym (bins-stay mem vs rise)
-    ∙ (ap bins_by_id (sym (map-pieces bin_entry (bin_of mem) piece vs same))
-    ∙ (bins-put (map bin_entry (map piece vs))
-    ∙ (sym (any-places id_before id-trans bin_entry (map piece vs) (bins-two mem piece vs same rise)) ∙ sym (bins-put (map bin_entry (pieces_by_place (map piece vs)))))))
+    ∙ (ap bins_by_id (sym (map-pieces entry_of_bin (bin_of mem) piece vs same))
+    ∙ (bins-put (map entry_of_bin (map piece vs))
+    ∙ (sym (any-places id_before id-trans entry_of_bin (map piece vs) (bins-two mem piece vs same rise)) ∙ sym (bins-put (map entry_of_bin (pieces_by_place (map piece vs)))))))
 
 -- Funs by their names, and then by arity.
 
@@ -198,22 +198,22 @@ module _ (names : List (List ℕ)) where
     ]
   ]
 
-  funs-two : (mem : List ℕ) (piece : ℕ → Piece) (vs : List ℕ) → AreNames names → ((v : ℕ) → In v vs → CanReadTables mem names v) → ((v : ℕ) → In v vs → fun_entry (piece v) ≡ fun_of mem v)
-      → OwnersRise mem vs → EachTwo (λ r q. OneFirst fun_before (fun_entry r) (fun_entry q)) (map piece vs)
+  funs-two : (mem : List ℕ) (piece : ℕ → Stretch) (vs : List ℕ) → AreNames names → ((v : ℕ) → In v vs → CanReadTables mem names v) → ((v : ℕ) → In v vs → entry_of_fun (piece v) ≡ fun_of mem v)
+      → OwnersRise mem vs → EachTwo (λ r q. OneFirst fun_before (entry_of_fun r) (entry_of_fun q)) (map piece vs)
   funs-two mem piece [] n read same r = tt
   funs-two mem piece (v ∷ vs) n read same (first, rest) = (
-    each-one (OneFirst fun_before) fun_entry (fun_of mem) piece v vs (same v (inl refl)) (λ u i. same u (inr i))
+    each-one (OneFirst fun_before) entry_of_fun (fun_of mem) piece v vs (same v (inl refl)) (λ u i. same u (inr i))
         (λ u i. one-fun-first mem v u n (read v (inl refl)) (read u (inr i)) (first u i)),
     funs-two mem piece vs n (λ u i. read u (inr i)) (λ u i. same u (inr i)) rest,
   )
 
   -- The entries of a table of funs are those of its pieces, in the order of places.
-  pub funs-of-pieces : (mem : List ℕ) (piece : ℕ → Piece) (vs : List ℕ) → AreNames names → ((v : ℕ) → In v vs → CanReadTables mem names v)
-      → ((v : ℕ) → In v vs → fun_entry (piece v) ≡ fun_of mem v) → OwnersRise mem vs
-      → map (fun_of mem) (by_name mem names vs) ≡ funs_by_name names (map fun_entry (pieces_by_place (map piece vs)))
+  pub funs-of-pieces : (mem : List ℕ) (piece : ℕ → Stretch) (vs : List ℕ) → AreNames names → ((v : ℕ) → In v vs → CanReadTables mem names v)
+      → ((v : ℕ) → In v vs → entry_of_fun (piece v) ≡ fun_of mem v) → OwnersRise mem vs
+      → map (fun_of mem) (by_name mem names vs) ≡ funs_by_name names (map entry_of_fun (pieces_by_place (map piece vs)))
   funs-of-pieces mem piece vs n read same rise =
       sym (records-put mem vs)
-      ∙ (ap (funs_by_name names) (sym (map-pieces fun_entry (fun_of mem) piece vs same))
-      ∙ (funs-put (map fun_entry (map piece vs))
-      ∙ (sym (any-places fun_before fun-trans fun_entry (map piece vs) (funs-two mem piece vs n read same rise))
-      ∙ sym (funs-put (map fun_entry (pieces_by_place (map piece vs)))))))
+      ∙ (ap (funs_by_name names) (sym (map-pieces entry_of_fun (fun_of mem) piece vs same))
+      ∙ (funs-put (map entry_of_fun (map piece vs))
+      ∙ (sym (any-places fun_before fun-trans entry_of_fun (map piece vs) (funs-two mem piece vs n read same rise))
+      ∙ sym (funs-put (map entry_of_fun (pieces_by_place (map piece vs)))))))

@@ -1,6 +1,6 @@
 -- The image of a space, over its memory, its tables and its single numbers.
 use Rattle.std.specs.Prelude.{ℕ, ◌-◌, List, [], ◌∷◌, map, take, drop, reverse}
-use Rattle.plain_machine.specs.Image.{Image, Piece, Region, Rooted, half, in_half, pieces_by_place}
+use Rattle.plain_machine.specs.Image.{Image, Stretch, Region, Rooted, half, in_half, pieces_by_place}
 use Rattle.record_move.specs.Copies.{record_words}
 use Rattle.two_halves.specs.Stack.{values}
 use Rattle.two_halves.specs.Halves.{front_of}
@@ -10,14 +10,14 @@ use Rattle.two_halves.specs.declared.halves.Halves.{Halves}
 use Rattle.one_space.specs.declared.one.One.{One}
 
 -- The words of objects in the half in use, as a region without owner.
-abbrev pub object_piece : Halves → Piece
+abbrev pub object_piece : Halves → Stretch
 object_piece h = record { place = front_of h; words = take (h.top - front_of h) (drop (front_of h) h.mem) }
 
 abbrev pub object_region : Halves → Region
 object_region h = record { kind = half; owner = 0; piece = object_piece h }
 
 -- The record at a place.
-abbrev pub record_piece : List ℕ → ℕ → Piece
+abbrev pub record_piece : List ℕ → ℕ → Stretch
 record_piece mem v = record { place = v; words = take (record_words mem v) (drop v mem) }
 
 -- A row with the first object of the one chain, its stack from the first pushed, and its queue from the first to be received.

@@ -2,15 +2,15 @@
 use Rattle.std.specs.Prelude.{ℕ, ◌/◌, ◌%◌, nat_lt, if◌then◌else◌, List, [], ◌∷◌, map, slice_index}
 use Rattle.std.specs.Ordering.{is_lt}
 use Rattle.plain_machine.specs.Maps.{CountedBin, CountedFun, counts_text, fun_order}
-use Rattle.plain_machine.specs.Image.{Image, Piece}
+use Rattle.plain_machine.specs.Image.{Image, Stretch}
 
 -- The entry of a shared binary's record: its second word is the id, its third the count.
-abbrev pub bin_entry : Piece → CountedBin
-bin_entry r = record { id = slice_index r.words 1; count = slice_index r.words 2 }
+abbrev pub entry_of_bin : Stretch → CountedBin
+entry_of_bin r = record { id = slice_index r.words 1; count = slice_index r.words 2 }
 
 -- The entry of a fun's record: its second word is 256 times the number of the name, and the arity.
-abbrev pub fun_entry : Piece → CountedFun
-fun_entry r = record { name = slice_index r.words 1 / 256; arity = slice_index r.words 1 % 256; count = slice_index r.words 2 }
+abbrev pub entry_of_fun : Stretch → CountedFun
+entry_of_fun r = record { name = slice_index r.words 1 / 256; arity = slice_index r.words 1 % 256; count = slice_index r.words 2 }
 
 -- Entries of binaries with rising ids.
 abbrev pub insert_bin : CountedBin → List CountedBin → List CountedBin
@@ -32,4 +32,4 @@ funs_by_name names (f ∷ fs) = insert_fun names f (funs_by_name names fs)
 
 -- The text of `counts` for an image.
 abbrev pub image_counts : (names : List (List ℕ)) → Image → List ℕ
-image_counts names i = counts_text names (bins_by_id (map bin_entry i.bins)) (funs_by_name names (map fun_entry i.funs))
+image_counts names i = counts_text names (bins_by_id (map entry_of_bin i.bins)) (funs_by_name names (map entry_of_fun i.funs))

@@ -22,24 +22,24 @@ pub data Layout : Type 0 where
 
 -- What the words of a region are: those of the half in use; the young heap, the old heap, a message that waits or a fragment that
 -- was received, of one process; a literal area.
-pub data Kind : Type 0 where
-  half : Kind
-  young : Kind
-  old : Kind
-  message : Kind
-  fragment : Kind
-  area : Kind
+pub data RegionKind : Type 0 where
+  half : RegionKind
+  young : RegionKind
+  old : RegionKind
+  message : RegionKind
+  fragment : RegionKind
+  area : RegionKind
 
 -- Words side by side, and the place of the first: of a region, or of a record.
-pub record Piece : Type 0 where
+pub record Stretch : Type 0 where
   pub place : ℕ
   pub words : List ℕ
 
 -- A region of objects. Its owner is the number of a process, that of an area's name, or 0 of the half.
 pub record Region : Type 0 where
-  pub kind : Kind
+  pub kind : RegionKind
   pub owner : ℕ
-  pub piece : Piece
+  pub piece : Stretch
 
 -- A process as its lines tell it: its number, the references it made, the first object of the chain that its objects stand in
 -- (0 for none), and the words of its registers, of its stack, which begins with the first pushed, and of its queue.
@@ -66,8 +66,8 @@ pub record Image : Type 0 where
   pub next : ℕ
   pub swept : Bool
   pub regions : List Region
-  pub bins : List Piece
-  pub funs : List Piece
+  pub bins : List Stretch
+  pub funs : List Stretch
   pub processes : List Rooted
   pub areas : List Literals
 
@@ -82,57 +82,57 @@ abbrev pub image_roots : Image → List ℕ
 image_roots i = flat_map process_roots i.processes ++ flat_map literal_roots i.areas
 
 -- The places of pieces, and the pieces of regions.
-abbrev pub piece_places : List Piece → List ℕ
+abbrev pub piece_places : List Stretch → List ℕ
 piece_places rs = map (λ r. r.place) rs
 
-abbrev pub region_pieces : List Region → List Piece
+abbrev pub region_pieces : List Region → List Stretch
 region_pieces rs = map (λ r. r.piece) rs
 
 -- All words that an image tells: those of regions and of records.
-abbrev pub all_pieces : Image → List Piece
+abbrev pub all_pieces : Image → List Stretch
 all_pieces i = region_pieces i.regions ++ (i.bins ++ i.funs)
 
 -- The place lies in one of the pieces.
-abbrev pub LiesIn : List Piece → ℕ → Type 0
+abbrev pub LiesIn : List Stretch → ℕ → Type 0
 LiesIn [] a = ⊥
 LiesIn (r ∷ rs) a = ((r.place ≤ a) × (a < r.place + length r.words)) ⊎ LiesIn rs a
 
 -- The memory has the words of each piece at their places.
-abbrev pub HasPieces : List ℕ → List Piece → Type 0
+abbrev pub HasPieces : List ℕ → List Stretch → Type 0
 HasPieces mem [] = Unit {0}
 HasPieces mem (r ∷ rs) = (r.place + length r.words ≤ length mem) × (take (length r.words) (drop r.place mem) ≡ r.words) × HasPieces mem rs
 
 -- Each piece ends before the next one begins.
-abbrev pub FollowEachOther : List Piece → Type 0
+abbrev pub FollowEachOther : List Stretch → Type 0
 FollowEachOther [] = Unit {0}
 FollowEachOther (r ∷ []) = Unit {0}
 FollowEachOther (r ∷ q ∷ rs) = (r.place + length r.words ≤ q.place) × FollowEachOther (q ∷ rs)
 
 -- Pieces in the order of their places.
-abbrev pub insert_piece : Piece → List Piece → List Piece
+abbrev pub insert_piece : Stretch → List Stretch → List Stretch
 insert_piece r [] = r ∷ []
 insert_piece r (q ∷ qs) = if nat_lt q.place r.place then q ∷ insert_piece r qs else (r ∷ q ∷ qs)
 
-abbrev pub pieces_by_place : List Piece → List Piece
+abbrev pub pieces_by_place : List Stretch → List Stretch
 pieces_by_place [] = []
 pieces_by_place (r ∷ rs) = insert_piece r (pieces_by_place rs)
 
 -- The table of kinds of regions: what a process's own words lie in, messages aside.
-abbrev pub is_heap : Kind → Bool
+abbrev pub is_heap : RegionKind → Bool
 is_heap young = true
 is_heap old = true
 is_heap fragment = true
 is_heap _ = false
 
-abbrev pub is_half : Kind → Bool
+abbrev pub is_half : RegionKind → Bool
 is_half half = true
 is_half _ = false
 
-abbrev pub is_message : Kind → Bool
+abbrev pub is_message : RegionKind → Bool
 is_message message = true
 is_message _ = false
 
-abbrev pub is_area : Kind → Bool
+abbrev pub is_area : RegionKind → Bool
 is_area area = true
 is_area _ = false
 
@@ -217,7 +217,7 @@ pub record BlocksLead (i : Image) (mem : List ℕ) : Type 0 where
   pub areas : EachLeadsToItself mem (image_roots i) (areas_in i.regions)
 
 -- Each piece lies between the two places.
-abbrev pub AllWithin : (from to : ℕ) → List Piece → Type 0
+abbrev pub AllWithin : (from to : ℕ) → List Stretch → Type 0
 AllWithin from to [] = Unit {0}
 AllWithin from to (r ∷ rs) = ((from ≤ r.place) × (r.place + length r.words ≤ to)) × AllWithin from to rs
 
@@ -242,30 +242,30 @@ WordsStand c shared mem [] (t ∷ ts) = ⊥
 WordsStand c shared mem (w ∷ ws) [] = ⊥
 
 -- The record of a shared binary of the state: its serial is the binary's id.
-pub record BinTold (c : ℕ → ℕ → Bool) (shared : List (List ℕ)) (mem : List ℕ) (r : Piece) : Type 0 where
+pub record BinTold (c : ℕ → ℕ → Bool) (shared : List (List ℕ)) (mem : List ℕ) (r : Stretch) : Type 0 where
   pub from_one : 1 ≤ owner_in mem r.place
   pub known : owner_in mem r.place ≤ length shared
   pub is : IsBinRecord c mem r.place (owner_in mem r.place) (shared_bytes shared (owner_in mem r.place))
   pub whole : length r.words ≡ 4 + bin_words (length (shared_bytes shared (owner_in mem r.place)))
 
 -- The record of a fun's name and arity.
-pub record FunTold (c : ℕ → ℕ → Bool) (mem : List ℕ) (r : Piece) : Type 0 where
+pub record FunTold (c : ℕ → ℕ → Bool) (mem : List ℕ) (r : Stretch) : Type 0 where
   pub name : ℕ
   pub arity : ℕ
   pub is : IsFunRecord c mem r.place name arity
   pub whole : length r.words ≡ 4
 
 -- Each of the records is one of a shared binary, of a fun.
-abbrev pub AllBins : (ℕ → ℕ → Bool) → List (List ℕ) → List ℕ → List Piece → Type 0
+abbrev pub AllBins : (ℕ → ℕ → Bool) → List (List ℕ) → List ℕ → List Stretch → Type 0
 AllBins c shared mem [] = Unit {0}
 AllBins c shared mem (r ∷ rs) = BinTold c shared mem r × AllBins c shared mem rs
 
-abbrev pub AllFuns : (ℕ → ℕ → Bool) → List ℕ → List Piece → Type 0
+abbrev pub AllFuns : (ℕ → ℕ → Bool) → List ℕ → List Stretch → Type 0
 AllFuns c mem [] = Unit {0}
 AllFuns c mem (r ∷ rs) = FunTold c mem r × AllFuns c mem rs
 
 -- The records told are all that there are, no two are of one shared binary, and no two of one fun's name and arity.
-pub record RecordsTold (c : ℕ → ℕ → Bool) (shared : List (List ℕ)) (mem : List ℕ) (bins funs : List Piece) : Type 0 where
+pub record RecordsTold (c : ℕ → ℕ → Bool) (shared : List (List ℕ)) (mem : List ℕ) (bins funs : List Stretch) : Type 0 where
   pub all : (v n : ℕ) → IsRecord c mem v n → In v (piece_places (bins ++ funs))
   pub each_bin : AllBins c shared mem bins
   pub each_fun : AllFuns c mem funs
@@ -309,8 +309,9 @@ AllLiterals c shared mem (l ∷ ls) [] = ⊥
 
 -- The image stands for the state. Its numbers are those of the state, and in a memory with its regions and records each root
 -- stands for its tree. By the test every object lies in a region or is a record that is told, and each place has one role, so no
--- object begins within another; a word `next` is that of a holder or a fun. Pointers lead where the layout allows it. Where nothing has changed since the last sweep, each
--- record's count is the number of holders and funs that are reached and name it.
+-- object begins within another; a word `next` is that of a holder or a fun. Pointers lead where the layout allows it. No record has
+-- the count 0. Where nothing has changed since the last sweep, each record's count is the number of holders and funs that are
+-- reached and name it.
 pub record ImageStands (i : Image) (s : State) : Type 0 where
   pub serials : length s.shared ≡ i.serials
   pub next : s.next ≡ i.next

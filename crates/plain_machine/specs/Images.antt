@@ -6,7 +6,7 @@ use Rattle.plain_machine.specs.State.{State}
 use Rattle.term_words.specs.Object.{IsPointer}
 use Rattle.term_words.specs.Reach.{root}
 use Rattle.term_words.specs.Counted.{Distinct}
-use Rattle.plain_machine.specs.Image.{Image, ImageStands, IsAmong, Kind, LeadInto, MessagesLead, Region, Rooted, all_pieces, area_of, piece_places}
+use Rattle.plain_machine.specs.Image.{Image, ImageStands, IsAmong, RegionKind, LeadInto, MessagesLead, Region, Rooted, all_pieces, area_of, piece_places}
 use Rattle.plain_machine.specs.Image.{areas_in, heaps_of, in_blocks, in_half, half, young, message, fragment, area, lies_whole, messages_of, region_pieces}
 
 -- A memory of two heaps, a message, a fragment and an area, each behind the words that say what it is. The place of a block's first
@@ -20,7 +20,7 @@ block_words =
     ∷ 101 ∷ 0 ∷ 118 ∷ 128 ∷ 31 ∷ 47 ∷ []
 
 -- So many of its words from a place on, as a region.
-abbrev pub block_region : Kind → (owner place count : ℕ) → Region
+abbrev pub block_region : RegionKind → (owner place count : ℕ) → Region
 block_region k owner place count = record { kind = k; owner = owner; piece = record { place = place; words = take count (drop place block_words) } }
 
 -- The heap of process 1 has a list whose head is a literal, that of process 2 the list of 1; the message that waits for process 2 is the

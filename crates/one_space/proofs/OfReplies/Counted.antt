@@ -3,7 +3,7 @@ use Rattle.std.proofs.Common.{◌≡◌, ℕ, ◌+◌, ◌/◌, ◌%◌, ◌<◌
 use Rattle.std.specs.Prelude.{slice_index}
 use Rattle.std.proofs.lemmas.List.{get_or-drop, get_or-take}
 use Rattle.atom_names.specs.Names.{AreNames}
-use Rattle.plain_machine.specs.Counting.{bin_entry, bins_by_id, fun_entry, image_counts}
+use Rattle.plain_machine.specs.Counting.{entry_of_bin, bins_by_id, entry_of_fun, image_counts}
 use Rattle.plain_machine.specs.Image.{pieces_by_place}
 use Rattle.plain_machine.specs.Maps.{CountedBin, CountedFun, counts_text}
 use Rattle.plain_machine.specs.State.{State}
@@ -36,10 +36,10 @@ module _ (mem : List ℕ) (v : ℕ) (large : 4 ≤ record_words mem v) where
   count-word : slice_index (take (record_words mem v) (drop v mem)) 2 ≡ count_in mem v
   count-word = piece-word mem v (record_words mem v) 2 (omega (arith, large))
 
-  bin-same : bin_entry (record_piece mem v) ≡ bin_of mem v
+  bin-same : entry_of_bin (record_piece mem v) ≡ bin_of mem v
   bin-same = ap (λ z. counted_bin z (slice_index (take (record_words mem v) (drop v mem)) 2)) owner-word ∙ ap (λ z. counted_bin (owner_in mem v) z) count-word
 
-  fun-same : fun_entry (record_piece mem v) ≡ fun_of mem v
+  fun-same : entry_of_fun (record_piece mem v) ≡ fun_of mem v
   fun-same = ap (λ z. counted_fun z (slice_index (take (record_words mem v) (drop v mem)) 2)) owner-word ∙ ap (λ z. counted_fun (owner_in mem v) z) count-word
 
 module _ (b : One) (s : State) (o : OneStands b s) where
@@ -55,5 +55,5 @@ module _ (b : One) (s : State) (o : OneStands b s) where
       let mem : List ℕ = b.halves.mem in
       ap (λ z. counts_text names z (map (fun_of mem) (by_name mem names b.halves.funs.items)))
       (bins-of-pieces mem (record_piece mem) b.halves.bins.items (λ v i. bin-same mem v (bin-large v i)) o.processes.records.serials)
-      ∙ ap (λ z. counts_text names (bins_by_id (map bin_entry (pieces_by_place (map (record_piece mem) b.halves.bins.items)))) z)
+      ∙ ap (λ z. counts_text names (bins_by_id (map entry_of_bin (pieces_by_place (map (record_piece mem) b.halves.bins.items)))) z)
       (funs-of-pieces names mem (record_piece mem) b.halves.funs.items all (can-tell b s o names known).each_fun (λ v i. fun-same mem v (fun-large v i)) o.processes.records.codes)

@@ -9,7 +9,7 @@ use Rattle.plain_term.specs.Bytes.{shared_bytes}
 use Rattle.plain_term.specs.Tree.{Tree}
 use Rattle.plain_term.specs.Tree.Trees.{end}
 use Rattle.plain_machine.specs.State.{Process, State}
-use Rattle.plain_machine.specs.Image.{AllBins, AllFuns, AllLiterals, AllRooted, AllWithin, FollowEachOther, HasPieces, ImageStands, LeadInto, LiesIn, Piece, RecordsTold, RootedStands, WordsStand, areas_by_name}
+use Rattle.plain_machine.specs.Image.{AllBins, AllFuns, AllLiterals, AllRooted, AllWithin, FollowEachOther, HasPieces, ImageStands, LeadInto, LiesIn, Stretch, RecordsTold, RootedStands, WordsStand, areas_by_name}
 use Rattle.plain_machine.specs.Image.{halves_in, holds_words, image_roots, piece_places, pieces_by_place, process_roots}
 use Rattle.plain_machine.proofs.Pieces.Ordered.{AllPieces, EachTwo, HasWords, PiecesApart, bins-any, each-once, follow-ordered, funs-any, has-any, has-both, lies-any, lies-left, lies-right, ordered}
 use Rattle.plain_machine.proofs.Pieces.Ordered.{place-any, places-both, two-ordered, within-any, within-both}
@@ -281,10 +281,10 @@ module _ (b : One) (s : State) (holds : Holds b) (o : OneStands b s) where
         funs-told vs (λ u i. among u (inr i)),
       )
 
-  abbrev bin_pieces : List Piece
+  abbrev bin_pieces : List Stretch
   bin_pieces = map (record_piece b.halves.mem) b.halves.bins.items
 
-  abbrev fun_pieces : List Piece
+  abbrev fun_pieces : List Stretch
   fun_pieces = map (record_piece b.halves.mem) b.halves.funs.items
 
   -- The places of the tables are those of the pieces in order.

@@ -10,7 +10,7 @@ use Rattle.term_words.specs.Object.{IsObject, IsRecord}
 use Rattle.term_words.specs.Stands.{Stands}
 use Rattle.shared_rec.proofs.Records.{record-first}
 use Rattle.plain_machine.specs.State.{State, first_state}
-use Rattle.plain_machine.specs.Image.{ImageStands, LiesIn, Piece, WordsStand, all_pieces}
+use Rattle.plain_machine.specs.Image.{ImageStands, LiesIn, Stretch, WordsStand, all_pieces}
 use Rattle.plain_machine.specs.Images.{block_words, blocks}
 use Rattle.plain_machine.proofs.Pieces.Worked.{blocks-lead}
 
@@ -48,22 +48,22 @@ block-single = record { one = λ a j k e f. sym (role-is a j e).1 ∙ (role-is a
 
 -- Words with roles lie in the regions, and none has a record's role.
 
-abbrev lies_in : List Piece → ℕ → Bool
+abbrev lies_in : List Stretch → ℕ → Bool
 lies_in [] a = false
 lies_in (r ∷ rs) a = (nat_le r.place a && nat_lt a (r.place + length r.words)) || lies_in rs a
 
-lies-in : (rs : List Piece) (a : ℕ) → lies_in rs a ≡ true → LiesIn rs a
+lies-in : (rs : List Stretch) (a : ℕ) → lies_in rs a ≡ true → LiesIn rs a
 lies-in [] a e = absurd (false≢true e)
 lies-in (r ∷ rs) a e = elim (or_cases (nat_le r.place a && nat_lt a (r.place + length r.words)) (lies_in rs a) e) [
   | inl here ↦ inl (grind (arith, nat_tests, here), grind (arith, nat_tests, here))
   | inr more ↦ inr (lies-in rs a more)
 ]
 
-abbrev all_roled : List Piece → ℕ → List ℕ → Bool
+abbrev all_roled : List Stretch → ℕ → List ℕ → Bool
 all_roled rs a [] = true
 all_roled rs a (k ∷ ks) = ((k == 0) || (nat_lt k 6 && lies_in rs a)) && all_roled rs (a + 1) ks
 
-all-roled : (rs : List Piece) (a : ℕ) (ks : List ℕ) (i : ℕ) → all_roled rs a ks ≡ true → 0 < slice_index ks i → (slice_index ks i < 6) × LiesIn rs (a + i)
+all-roled : (rs : List Stretch) (a : ℕ) (ks : List ℕ) (i : ℕ) → all_roled rs a ks ≡ true → 0 < slice_index ks i → (slice_index ks i < 6) × LiesIn rs (a + i)
 all-roled rs a [] i e some = absurd (omega (arith, some))
 all-roled rs a (k ∷ ks) zero e some = elim (or_cases (k == 0) (nat_lt k 6 && lies_in rs a) (and_parts ((k == 0) || (nat_lt k 6 && lies_in rs a)) (all_roled rs (a + 1) ks) e).0) [
   | inl none ↦ absurd (let is : k ≡ 0 = grind (arith, nat_tests, none) in omega (arith, is, some))
