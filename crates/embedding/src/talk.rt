@@ -3,6 +3,7 @@ ghost use Rattle.std.specs.Prelude.{◌≡◌, ℕ, ◌+◌, ◌<◌, ◌≤◌,
 ghost use Rattle.command_line.specs.Values.{is_arena};
 ghost use Rattle.line_io.specs.Lines.{text};
 ghost use Rattle.line_io.specs.declared.reader.TheConstants.{LONGEST_LINE};
+ghost use Rattle.plain_machine.specs.Image.{ImageStands};
 ghost use Rattle.plain_machine.specs.State.{State, first_state};
 ghost use Rattle.space_api.specs.Calls.{most_calls};
 ghost use Rattle.engine.specs.Steps.{Steps};
@@ -11,7 +12,7 @@ use engine::{Machine, Stepped, step};
 use line_io::Sink;
 use machine_run::first_machine;
 use one_space::OneSpace;
-use space_api::Space;
+use space_api::{Imaged, Space};
 use std::alloc::Global;
 
 /// A machine, and how many lines may still be said to it.
@@ -41,7 +42,8 @@ impl Talk {
         })
     }
 
-    /// Has a line done, and writes its reply to `sink`. A refused line is answered too, and leaves the state as it was.
+    /// Has a line done, and writes its reply to `sink`. A refused line is answered too, and leaves the state as it was. What a dump
+    /// would tell afterwards stands for the state.
     pub fn say<K: Sink>(&mut self, line: &[u8], sink: &mut K) -> Stepped
         requires short { length line.now ≤ LONGEST_LINE }
         requires left { 0 < lines_to_say self.old }
@@ -49,11 +51,14 @@ impl Talk {
             → Steps (arena_words self.old) s (text line.now)
             (record { stands = StandsFor self.new; text = ⟦<OneSpace as Space>⟧.text self.new.machine.space self.new.machine.names })
             (record { wrote = K.wrote; faults = K.faults; before = sink.old; after = sink.new }) result }
+        ensures images { (s : State) → StandsFor self.new s → ImageStands (⟦<OneSpace as Imaged>⟧.image self.new.machine.space) s }
         ensures left { lines_to_say self.old ≡ lines_to_say self.new + 1 }
         ensures words { arena_words self.new ≡ arena_words self.old }
     {
         self.left -= 1;
-        step(&mut self.machine, line, sink)
+        let came = step(&mut self.machine, line, sink);
+        self.machine.space.images_stand();
+        came
     }
 
     /// How many lines may still be said.

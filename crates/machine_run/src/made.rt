@@ -15,7 +15,7 @@ use arrayvec::ArrayVec;
 use engine::{Machine, Status, step};
 use line_io::{Sink, SumSink, Summary};
 use made_script::MadeScript;
-use space_api::Space;
+use space_api::{Imaged, Space};
 use std::alloc::Global;
 
 /// Does the lines of the script of a number, one at a time, and sums up their replies. No line of it ends a script, and

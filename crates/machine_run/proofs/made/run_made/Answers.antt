@@ -20,5 +20,5 @@ returns-clause-made g c =
     let P : ℕ → Type 0 = λ words. IsMade words first_state c.args.number machine numbers in
     let done = subst P c.in-Some.ensures.words (c.do_made-numbers.ensures.made first_state c.in-Some.ensures.stands) in
     if-made c.args.arena c.args.number out (StoreStands c.args.arena (One m)) numbers c.put_summary.result _
-    (made-so _ first_state c.args.number machine _ numbers (λ s h. (h, c.images_stand.ensures s h.0.0, c.do_made-numbers.ensures.words ∙ c.in-Some.ensures.words)) done)
+    (made-so _ first_state c.args.number machine _ numbers (λ s h. (h, c.images_stand.ensures.stands s h.0, c.do_made-numbers.ensures.words ∙ c.in-Some.ensures.words)) done)
     c.put_summary.ensures

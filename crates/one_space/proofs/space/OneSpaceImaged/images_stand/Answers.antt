@@ -1,5 +1,4 @@
-use Rattle.std.proofs.Common.{◌≡◌, ◌≤◌, List, ℕ, length, subst}
-use Rattle.atom_names.specs.Names.{AreNames}
+use Rattle.std.proofs.Common.{◌≡◌, ◌≤◌, length, subst}
 use Rattle.plain_machine.specs.Counting.{image_counts}
 use Rattle.plain_machine.specs.Image.{ImageStands}
 use Rattle.one_space.specs.Image.{image}
