@@ -18,6 +18,7 @@ use Rattle.script_grammar.specs.declared.command.Command.{Command}
 use Rattle.script_grammar.specs.declared.command.Command.TheVariants.{Nothing as NoCommand, Process, System}
 use Rattle.script_grammar.specs.declared.command.Verb.{Verb}
 use Rattle.script_grammar.specs.declared.command.Verb.TheVariants.{Set, Choose, MapPut, Fill, Fun as MakeFun, Ref, Own, Repeat, Push, Pop, Send, Recv, Queue, Print, Eq, Cmp, Flat, Gc, Exit}
+use Rattle.script_grammar.specs.declared.command.SysVerb.{SysVerb}
 use Rattle.script_grammar.specs.declared.command.SysVerb.TheVariants.{Spawn, Sweep, Procs, Counts as CountsVerb, Quit as QuitVerb}
 use Rattle.script_grammar.specs.declared.refusal.Refusal.{Refusal}
 use Rattle.script_grammar.specs.declared.refusal.Refusal.TheVariants.{NoProc}
@@ -37,8 +38,9 @@ use Rattle.plain_machine.specs.Run.{CommandStep, Skips, Gives, LacksSpace, refus
 use Rattle.plain_machine.specs.Maps.{is_map}
 use Rattle.space_api.specs.declared.space.Seat.{Seat}
 use Rattle.space_api.specs.Calls.{KeepsBooks, said, Follows, Stays, Becomes, Passes, one_term, HasEnv, IsWrittenTerm}
+use Rattle.engine.specs.declared.reply.MapLine.TheVariants.{OfSystem}
 use Rattle.engine.specs.declared.reply.Reply.{Reply}
-use Rattle.engine.specs.declared.reply.Reply.TheVariants.{Nothing as NoReply, Done, Spawned, Numbers, Counts, Told, Quit, Refused}
+use Rattle.engine.specs.declared.reply.Reply.TheVariants.{Nothing as NoReply, Done, Spawned, Numbers, Map, Told, Quit, Refused}
 use Rattle.engine.specs.Replies.{CanReply, CanTell, reply_lines, reply_of, ends_script, outcome_text}
 use Rattle.engine.specs.Rules.{After}
 use Rattle.engine.specs.Acts.{Acts, Fits, OnRefused, TermsFit, makes_term, names_left, shown}
@@ -465,16 +467,18 @@ sweep-does words names code Old after b = λ s terms h f.
     acts-gave words s p after refl refl Done
     (gave s p after (λ (a : Unit {0}). Done) (step s p) (Ok u) (λ a k. (refl, refl, refl)) (passes-follows (step s p) s u after.stands (b s terms h f.longer)))
 
--- `sys counts`, whose reply is the text of the store
-pub counts-does : (words : ℕ) (names : List (List ℕ)) (code : List Item) (Old : State → Type 0) (after : After) → ((s : State) → Old s → after.stands s)
-    → DoesCommand words names code Counts Old after (System CountsVerb)
-counts-does words names code Old after same = λ s terms h f. record {
-  new = s;
-  stands = same s h;
-  names = refl;
-  steps = λ m. inl (record { goes_on = refl; map = after.text (System CountsVerb); allowed = m; said = refl; same = refl });
-  maps = λ e o. refl;
-}
+-- a map line of the system, whose reply is the text of the store
+pub map-does : (words : ℕ) (names : List (List ℕ)) (code : List Item) (Old : State → Type 0) (after : After) (v : SysVerb) → v ≡ CountsVerb
+    → ((s : State) → Old s → after.stands s) → DoesCommand words names code (Map (OfSystem v)) Old after (System v)
+map-does words names code Old after v e same =
+    let P : SysVerb → Type 0 = λ z. DoesCommand words names code (Map (OfSystem z)) Old after (System z) in
+    subst P (sym e) (λ s terms h f. record {
+      new = s;
+      stands = same s h;
+      names = refl;
+      steps = λ m. inl (record { goes_on = refl; map = after.text (System CountsVerb); allowed = m; said = refl; same = refl });
+      maps = λ e o. refl;
+    })
 
 -- what prints and is no map of the store
 pub procs-does : (words : ℕ) (names : List (List ℕ)) (code : List Item) (Old : State → Type 0) (after : After) → ((s : State) → Old s → after.stands s)

@@ -22,8 +22,9 @@ use Rattle.script_grammar.specs.declared.command.Verb.TheVariants.{Eq, Cmp}
 use Rattle.script_grammar.specs.Names.{HasRegisters, IsRegister}
 use Rattle.script_grammar.specs.Written.Terms.{end}
 use Rattle.space_api.specs.declared.space.Seat.{Seat}
+use Rattle.engine.specs.declared.reply.MapLine.{MapLine}
 use Rattle.engine.specs.declared.reply.Reply.{Reply}
-use Rattle.engine.specs.declared.reply.Reply.TheVariants.{Numbers, Counts, Told, Quit}
+use Rattle.engine.specs.declared.reply.Reply.TheVariants.{Numbers, Map, Told, Quit}
 use Rattle.engine.specs.Replies.{AllowsMap, Shown, ends_script, is_plain, outcome_text, reply_lines}
 use Rattle.line_io.proofs.Growth.{part-front}
 use Rattle.text_parts.proofs.Writing.{written-after, written-as}
@@ -105,13 +106,13 @@ allows-same y z x e h = subst (λ k. AllowsMap k x) (sym e) h
 
 -- a reply that is made without a look at the space tells no map
 pub plain-allows : (y : Reply) (x : Shown) → is_plain y ≡ true → AllowsMap y x
-plain-allows Counts x e = absurd (true≢false (sym e))
+plain-allows (Map line) x e = absurd (true≢false (sym e))
 plain-allows _ x e = tt
 
 -- the others are made so
-pub plain-rest : (y : Reply) → (y ≡ Numbers → ⊥) → (y ≡ Counts → ⊥) → ((seat : Seat) (v : Verb) → y ≡ Told seat v → ⊥) → is_plain y ≡ true
+pub plain-rest : (y : Reply) → (y ≡ Numbers → ⊥) → ((line : MapLine) → y ≡ Map line → ⊥) → ((seat : Seat) (v : Verb) → y ≡ Told seat v → ⊥) → is_plain y ≡ true
 plain-rest Numbers n c t = absurd (n refl)
-plain-rest Counts n c t = absurd (c refl)
+plain-rest (Map line) n c t = absurd (c line refl)
 plain-rest (Told seat v) n c t = absurd (t seat v refl)
 plain-rest _ n c t = refl
 

@@ -12,7 +12,7 @@ ghost use Rattle.space_api.specs.Calls.{KeepsBooks, most_calls, said};
 ghost use Rattle.engine.specs.Replies.{CanReply, reply_of};
 ghost use Rattle.engine.specs.Acts.{Acts, Fits, HasCode, OnRefused, makes_term};
 
-use crate::reply::Reply;
+use crate::reply::{MapLine, Reply};
 use atom_names::AtomNames;
 use plain_machine::{Command, Refusal, SysVerb, Verb};
 use plain_term::Item;
@@ -175,7 +175,7 @@ fn act_system<S: Space>(space: &mut S, names: &AtomNames, verb: SysVerb) -> Repl
             Reply::Done
         }
         SysVerb::Procs => Reply::Numbers,
-        SysVerb::Counts => Reply::Counts,
+        SysVerb::Counts => Reply::Map(MapLine::OfSystem(verb)),
         SysVerb::Quit => Reply::Quit,
         _ => unreachable!(),
     }

@@ -1,20 +1,28 @@
 // The text of each reply.
 ghost use Rattle.std.specs.Prelude.{◌≡◌, ℕ, ◌≤◌, length, true};
+ghost use Rattle.plain_machine.specs.Maps.{IsMapOf};
 ghost use Rattle.plain_machine.specs.Run.{replies_text};
 ghost use Rattle.plain_machine.specs.State.{State};
 ghost use Rattle.script_grammar.specs.declared.command.Verb.TheVariants.{Print, Flat};
 ghost use Rattle.line_io.specs.Sink.{WritesTold};
-ghost use Rattle.engine.specs.Replies.{AllowsMap, CanReply, Shown, is_plain, reply_lines};
-ghost use Rattle.engine.specs.Writing.{compared_text, compares};
+ghost use Rattle.engine.specs.Replies.{AllowsMap, CanReply, Shown, is_plain, map_command, reply_lines};
+ghost use Rattle.engine.specs.Writing.{compared_text, compares, end_of_line};
 
 use crate::numbers::put_numbers;
 use crate::texts::{put_counted, put_refusal};
 use atom_names::AtomNames;
 use line_io::{Sink, SinkFault};
-use plain_machine::{Refusal, Reg, Verb};
+use plain_machine::{Refusal, Reg, SysVerb, Verb};
 use space_api::{Seat, Space, Stop};
 use std::cmp::Ordering;
 use text_parts::{put, put_two};
+
+/// A map line: what is asked of a process, by its seat, or of the whole store.
+#[derive(Clone, Copy)]
+pub(crate) enum MapLine {
+    OfProcess(Seat, Verb),
+    OfSystem(SysVerb),
+}
 
 /// How a line that was done is answered.
 #[derive(Clone, Copy)]
@@ -23,8 +31,8 @@ pub(crate) enum Reply {
     Done,
     Spawned(u64),
     Numbers,
-    /// The map of the store with all counts.
-    Counts,
+    /// A map of the store.
+    Map(MapLine),
     /// What a verb that prints tells of a process.
     Told(Seat, Verb),
     Quit,
@@ -142,6 +150,27 @@ fn put_told<S: Space, K: Sink>(
     }
 }
 
+/// Writes the line of a map of the store.
+fn put_map<S: Space, K: Sink>(
+    space: &S,
+    names: &AtomNames,
+    line: MapLine,
+    sink: &mut K,
+) -> Result<(), SinkFault>
+    requires can { CanReply S.sits S.named space.now names.now (Reply.Map line) }
+    ensures sent { WritesTold K.wrote K.faults sink.old sink.new (end_of_line (S.text space.now names.now (map_command line))) result }
+    ensures allowed { (s : State) → S.stands space.now s → names.now ≡ s.names
+        → IsMapOf (map_command line) s (S.text space.now names.now (map_command line)) }
+{
+    match line {
+        MapLine::OfSystem(SysVerb::Counts) => {
+            space.counts(names, sink)?;
+            put(sink, b"\n")
+        }
+        _ => unreachable!(),
+    }
+}
+
 /// Whether a reply is one constant text or none, so that it takes one write at most.
 pub(crate) fn is_constant(reply: Reply) -> bool
     ensures { result ≡ true → is_plain reply ≡ true }
@@ -187,10 +216,7 @@ pub(crate) fn put_reply<S: Space, K: Sink>(
 {
     match reply {
         Reply::Numbers => put_numbers(space, sink),
-        Reply::Counts => {
-            space.counts(names, sink)?;
-            put(sink, b"\n")
-        }
+        Reply::Map(line) => put_map(space, names, line, sink),
         Reply::Told(seat, verb) => put_told(space, names, seat, verb, sink),
         _ => put_plain(reply, sink),
     }

@@ -1,15 +1,18 @@
 -- What is true of runs, whatever the spaces may refuse.
-use Rattle.std.specs.Prelude.{ℕ, ◌≡◌, ◌<◌, ◌≤◌, Bool, true, false, List, [], ◌∷◌, ◌++◌, flat_map}
-use Rattle.line_io.specs.Lines.{Line}
+use Rattle.std.specs.Prelude.{ℕ, ◌≡◌, ◌<◌, ◌≤◌, ◌⊎◌, decimal, Bool, true, false, List, [], ◌∷◌, ◌++◌, flat_map}
+use Rattle.line_io.specs.Lines.{Line, text, long}
 use Rattle.plain_term.specs.Tree.{Tree}
 use Rattle.plain_term.specs.Beyond.{is_beyond}
 use Rattle.plain_term.specs.Proper.{is_proper}
 use Rattle.script_grammar.specs.Written.{Written}
 use Rattle.script_grammar.specs.Names.{Parsed, parsed_of}
+use Rattle.script_grammar.specs.ReadAs.{IsRead}
 use Rattle.script_grammar.specs.declared.refusal.Refusal.{Refusal}
+use Rattle.script_grammar.specs.declared.refusal.Refusal.TheVariants.{NoSpace}
 use Rattle.plain_machine.specs.State.{Process as Live, State, is_live, live_numbers}
 use Rattle.plain_machine.specs.Tightness.{grow, living_trees}
-use Rattle.plain_machine.specs.Step.{is_printing}
+use Rattle.plain_machine.specs.Step.{is_printing, step}
+use Rattle.plain_machine.specs.Step.Outcome.{Accepted}
 use Rattle.plain_machine.specs.Run.{CommandStep, LineStep, Run, refusal_text}
 
 -- A run over two lists of lines is the two runs one after the other.
@@ -21,6 +24,33 @@ RunsJoin = (may : ℕ → State → Parsed → Bool) (words : ℕ) (quits : Bool
 abbrev pub RefusalsLeave : Type 0
 RefusalsLeave = (may : ℕ → State → Parsed → Bool) (words : ℕ) (s new : State) (line : Line) (r : Refusal) (quits : Bool)
     → LineStep may words s line quits (refusal_text r ∷ []) new → (new ≡ s) × (quits ≡ false)
+
+-- A command that is answered that there is no space for n words: that may be, and it asks for n, if n is written as its number
+-- is; or the machine itself accepts it and tells this very text, as where a name that is printed reads so.
+abbrev pub IsLacking : (may : ℕ → State → Parsed → Bool) (words : ℕ) (s : State) (p : Parsed) (n : ℕ) → Type 0
+IsLacking may words s p n = ((may words s p ≡ true) × (decimal n ≡ decimal (grow s p))) ⊎ (step s p ≡ Accepted s (refusal_text (NoSpace n)))
+
+-- A line that is answered so says such a command.
+pub record SaysLacking (may : ℕ → State → Parsed → Bool) (words : ℕ) (s : State) (line : List ℕ) (n : ℕ) : Type 0 where
+  pub said : Parsed
+  pub reads : IsRead s.names line said
+  pub lacks : IsLacking may words s said n
+
+-- No other line is: none that is too long, that says no command, or that brings too many names.
+abbrev pub OnlyLacking : (may : ℕ → State → Parsed → Bool) (words : ℕ) (s : State) → Line → (n : ℕ) → Type 0
+OnlyLacking may words s long n = ⊥
+OnlyLacking may words s (text line) n = SaysLacking may words s line n
+
+-- A line is answered that there is no space only where that may be.
+abbrev pub LacksOnlyWhereMay : Type 0
+LacksOnlyWhereMay = (may : ℕ → State → Parsed → Bool) (words : ℕ) (s new : State) (line : Line) (n : ℕ) (quits : Bool)
+    → LineStep may words s line quits (refusal_text (NoSpace n) ∷ []) new → OnlyLacking may words s line n
+
+-- So a line that says a command for which it may not be is never refused so: where it is answered by this text, the machine tells it.
+abbrev pub NeverElse : Type 0
+NeverElse = (may : ℕ → State → Parsed → Bool) (words : ℕ) (s new : State) (line : List ℕ) (p : Parsed) (n : ℕ) (quits : Bool)
+    → IsRead s.names line p → may words s p ≡ false → LineStep may words s (text line) quits (refusal_text (NoSpace n) ∷ []) new
+    → step s p ≡ Accepted s (refusal_text (NoSpace n))
 
 -- The numbers rise from above a number on, and all stand below the next one.
 abbrev pub AreNumbered : (low : ℕ) → List ℕ → (next : ℕ) → Type 0

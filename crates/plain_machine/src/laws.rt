@@ -1,7 +1,7 @@
 // The laws of steps and of runs.
 ghost use Rattle.script_grammar.specs.Grammar.{SaysOne};
 ghost use Rattle.plain_machine.specs.State.{first_state};
-ghost use Rattle.plain_machine.specs.Laws.{HoldsProper, IsNumbered, NumbersAreFresh, PrintingLeaves, RefusalsLeave, RepliesDetermine, RunsJoin, TreesStayProper};
+ghost use Rattle.plain_machine.specs.Laws.{HoldsProper, IsNumbered, LacksOnlyWhereMay, NeverElse, NumbersAreFresh, PrintingLeaves, RefusalsLeave, RepliesDetermine, RunsJoin, TreesStayProper};
 
 /// A run over two lists of lines is the two runs one after the other.
 pub fn runs_join()
@@ -11,6 +11,13 @@ pub fn runs_join()
 /// Every line that is answered by a refusal, whatever its cause, leaves the whole state, and the script goes on.
 pub fn refusals_leave()
     ensures { RefusalsLeave }
+{}
+
+/// A line is answered that there is no space only where that may be, by the number of words that it asks for. Where a line says
+/// one command at most, one for which it may not be is never refused so.
+pub fn space_lacks_only_where_it_may()
+    ensures only { LacksOnlyWhereMay }
+    ensures never { SaysOne → NeverElse }
 {}
 
 /// A line that prints brings no name, asks for no word and leaves the state.

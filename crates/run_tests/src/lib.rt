@@ -28,6 +28,8 @@ mod statuses;
 #[cfg(test)]
 mod tables;
 #[cfg(test)]
+mod twice;
+#[cfg(test)]
 mod verbs;
 #[cfg(test)]
 mod words;
