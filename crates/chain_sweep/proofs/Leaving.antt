@@ -1,5 +1,5 @@
 -- The objects of a chain after a collection: each was moved, or left behind as it was.
-use Rattle.std.proofs.Common.{◌≡◌, ℕ, ◌+◌, ◌*◌, ◌/◌, ◌%◌, ◌<◌, ◌≤◌, ◌⊎◌, ◌==◌, if◌then◌else◌, Bool, true, false, List, [], ◌∷◌, length, get_or}
+use Rattle.std.proofs.Common.{◌≡◌, ℕ, ◌+◌, ◌*◌, ◌/◌, ◌%◌, ◌<◌, ◌≤◌, ◌⊎◌, ◌==◌, if◌then◌else◌, Bool, true, false, List, [], ◌∷◌, ◌++◌, length, get_or}
 use Rattle.std.proofs.Common.{refl, sym, ◌∙◌, ap, subst, arith, inl, inr}
 use Rattle.std.proofs.lemmas.Bool.{cases_Bool}
 use Rattle.std.proofs.lemmas.Bool.Decides.{nat_tests}
@@ -15,8 +15,8 @@ use Rattle.term_words.proofs.Placing.Apart.{head-no-header}
 use Rattle.term_words.proofs.Reaching.Reached.{reached}
 use Rattle.term_words.proofs.Placing.Roles.{object-role, first-role}
 use Rattle.shared_rec.proofs.Records.{record-same, record-length, record-counted}
-use Rattle.off_heap_list.specs.Links.{names_it, name_place, named, naming, IsLinkHeader, IsLink, Links}
-use Rattle.off_heap_list.specs.Swept.{is_moved, new_place, lies_at, lying, IsReadAt, IsOld, Sweeping}
+use Rattle.off_heap_list.specs.Links.{names_it, name_place, named, Leads, Chain, naming, IsLinkHeader, IsLink, Links}
+use Rattle.off_heap_list.specs.Swept.{is_moved, new_place, lies_at, lying, IsReadAt, IsOld, FrontSweeping, Sweeping}
 use Rattle.off_heap_list.proofs.Chaining.Chained.{leads-stays}
 use Rattle.off_heap_list.proofs.Walked.Sweeping.{lies-moved, lies-left}
 use Rattle.cheney.specs.Plan.{Plan, Ready, Reached, Leaves, IsOutside, size, first}
@@ -24,7 +24,9 @@ use Rattle.cheney.specs.Moved.{forward}
 use Rattle.cheney.specs.Collected.{Collected, IsMoved, IsLeftOrMoved}
 use Rattle.cheney.specs.Next.{HasRoles, IsCarried, Remains}
 use Rattle.cheney.proofs.Before.Basics.{not-both, forward-boxed, size-boxed, first-boxed}
-use Rattle.chain_sweep.specs.Follows.{Sweepable}
+use Rattle.off_heap_list.proofs.Chaining.Exact.{distinct-left, naming-both}
+use Rattle.term_words.proofs.Totals.Members.{in-both, in-left, in-right}
+use Rattle.chain_sweep.specs.Follows.{Sweepable, first_object}
 
 -- The word that names a record, counted from the object.
 
@@ -403,28 +405,55 @@ module _ (p : Plan) (y : Ready p) (m : List ℕ) (top : Bool → ℕ) (w : Colle
       let next : had.k ≡ NEXT = y.single.one (a + 2) had.k NEXT had.role l.next in
       far (omega (arith, had.next next))
 
-pub leaves-sweep : (p : Plan) (m : List ℕ) (top : Bool → ℕ) (s : ℕ → ℕ → Bool) (r : HasRoles p m s) (head : ℕ) (os further : List ℕ) → Ready p → Collected p m top → Remains p s
-    → Sweepable p s os further → Links p.test p.start head os further → Sweeping r.test m head os 0 [] 0 [] further
-leaves-sweep p m top s r head os further y w e x l = record {
-  rest = leads-stays p.start m head os 0 (λ o inside. next-stays p y m top w s r o (l.each o inside)) l.chain;
-  old = λ o inside. is-old p y m top w s r o (l.each o inside) x.rooms (λ a k from below h. x.left o a k inside from below h);
+-- The front part of a chain, up to a place.
+leaves-front : (p : Plan) (m : List ℕ) (top : Bool → ℕ) (s : ℕ → ℕ → Bool) (r : HasRoles p m s) (head : ℕ) (os : List ℕ) (to : ℕ) (further : List ℕ) → Ready p → Collected p m top → Remains p s
+    → Sweepable p s os further → Leads p.start head os to → Distinct os → ((o : ℕ) → In o os → IsLink p.test p.start o) → ((o : ℕ) → In o further → IsLink p.test p.start o)
+    → ((v n : ℕ) → IsRecord p.test p.start v n → get_or p.start (v + 2) 0 ≡ naming p.start v os + naming p.start v further)
+    → FrontSweeping r.test m head os to 0 [] 0 [] further
+leaves-front p m top s r head os to further y w e x leads once each beside counts = record {
+  rest = leads-stays p.start m head os to (λ o inside. next-stays p y m top w s r o (each o inside)) leads;
+  old = λ o inside. is-old p y m top w s r o (each o inside) x.rooms (λ a k from below h. x.left o a k inside from below h);
   chain = refl;
   once = tt;
   fresh = λ o inside gone hit. hit;
-  apart = lying-once p y m top w s r x.rooms os l.each l.once;
+  apart = lying-once p y m top w s r x.rooms os each once;
   alone = λ a b ina inb far here. elim inb [
-    | inl inside ↦ read-apart p y m top w s r x.rooms a b (l.each a ina) (l.each b inside) far here
+    | inl inside ↦ read-apart p y m top w s r x.rooms a b (each a ina) (each b inside) far here
     | inr none ↦ none
   ];
   each = λ o inside. absurd inside;
-  beside = λ o inside. further-link p y m top w s r o (l.beside o inside) (x.still o inside) (λ a k from below h. x.kept o a k inside from below h);
+  beside = λ o inside. further-link p y m top w s r o (beside o inside) (x.still o inside) (λ a k from below h. x.kept o a k inside from below h);
   counts = λ v n there.
       let back : IsRecord p.test p.start v n = record-back p y m top w s r v n there in
-      let was : get_or p.start (v + 2) 0 ≡ naming p.start v os + naming p.start v further = l.counts v n back in
-      let a : naming m v (lying m os) ≡ naming p.start v os = lying-named p y m top w s r x.rooms v os l.each in
-      let b : naming m v further ≡ naming p.start v further = further-naming p y m top w s r x.rooms v further l.beside x.still in
+      let was : get_or p.start (v + 2) 0 ≡ naming p.start v os + naming p.start v further = counts v n back in
+      let a : naming m v (lying m os) ≡ naming p.start v os = lying-named p y m top w s r x.rooms v os each in
+      let b : naming m v further ≡ naming p.start v further = further-naming p y m top w s r x.rooms v further beside x.still in
       count-stays p y m top w s r v n back ∙ omega (arith, was, a, b);
   gone = refl;
   freed = λ o inside. absurd inside;
   freed_once = tt;
 }
+
+pub leaves-sweep : (p : Plan) (m : List ℕ) (top : Bool → ℕ) (s : ℕ → ℕ → Bool) (r : HasRoles p m s) (head : ℕ) (os further : List ℕ) → Ready p → Collected p m top → Remains p s
+    → Sweepable p s os further → Links p.test p.start head os further → Sweeping r.test m head os 0 [] 0 [] further
+leaves-sweep p m top s r head os further y w e x l = leaves-front p m top s r head os 0 further y w e x l.chain l.once l.each l.beside l.counts
+
+-- A chain is its front part, which leads to the first object of the rest, and the rest.
+
+leads-parted : (mem : List ℕ) (from : ℕ) (os rest : List ℕ) → Leads mem from (os ++ rest) 0 → Leads mem from os (first_object rest) × Leads mem (first_object rest) rest 0
+leads-parted mem from [] [] l = (l, refl)
+leads-parted mem from [] (q ∷ rest) (e, l) = (e, (refl, l))
+leads-parted mem from (q ∷ os) rest (e, l) = (let (front, behind) = leads-parted mem (get_or mem (q + 2) 0) os rest l in ((e, front), behind))
+
+pub leaves-fronts : (p : Plan) (m : List ℕ) (top : Bool → ℕ) (s : ℕ → ℕ → Bool) (r : HasRoles p m s) (head : ℕ) (os rest further : List ℕ) → Ready p → Collected p m top → Remains p s
+    → Sweepable p s os (rest ++ further) → Links p.test p.start head (os ++ rest) further → FrontSweeping r.test m head os (first_object rest) 0 [] 0 [] (rest ++ further)
+leaves-fronts p m top s r head os rest further y w e x l =
+    leaves-front p m top s r head os (first_object rest) (rest ++ further) y w e x (leads-parted p.start head os rest l.chain).0 (distinct-left os rest l.once)
+    (λ o i. l.each o (in-left o os rest i))
+    (λ o i. elim (in-both o rest further i) [ inl a ↦ l.each o (in-right o os rest a) | inr b ↦ l.beside o b ])
+    (λ v n there. omega (arith, l.counts v n there, naming-both p.start v os rest, naming-both p.start v rest further))
+
+pub leaves-rests : (p : Plan) (m : List ℕ) (top : Bool → ℕ) (s : ℕ → ℕ → Bool) (r : HasRoles p m s) (head : ℕ) (os rest further : List ℕ) → Ready p → Collected p m top
+    → Links p.test p.start head (os ++ rest) further → Chain m (first_object rest) rest
+leaves-rests p m top s r head os rest further y w l =
+    leads-stays p.start m (first_object rest) rest 0 (λ o i. next-stays p y m top w s r o (l.each o (in-right o os rest i))) (leads-parted p.start head os rest l.chain).1

@@ -1,5 +1,5 @@
 -- What a caller of a collection says of its chain.
-use Rattle.std.specs.Prelude.{◌≡◌, ℕ, ◌+◌, ◌<◌, ◌≤◌, ◌⊎◌, Bool, true, List, length}
+use Rattle.std.specs.Prelude.{◌≡◌, ℕ, ◌+◌, ◌<◌, ◌≤◌, ◌⊎◌, Bool, true, List, [], ◌∷◌, length}
 use Rattle.term_tags.specs.Words.{boxed_word}
 use Rattle.term_words.specs.Object.{IsRecord}
 use Rattle.term_words.specs.Counted.{In, total}
@@ -14,6 +14,11 @@ pub record Sweepable (p : Plan) (s : ℕ → ℕ → Bool) (os further : List �
   pub kept : (o a k : ℕ) → In o further → o ≤ a → a < o + 6 → p.test a k ≡ true → s a k ≡ true
   pub still : (o : ℕ) → In o further → Reached p (boxed_word o) → p.stay o ≡ true
   pub rooms : (b : Bool) → 0 < p.low b
+
+-- The first of the objects, 0 for none.
+abbrev pub first_object : List ℕ → ℕ
+first_object [] = 0
+first_object (o ∷ os) = o
 
 -- The words from `low` up to `high` are free after the collection, and hold the records that the reached objects of the chain
 -- name, each once.

@@ -4,4 +4,4 @@
 
 mod laws;
 
-pub use laws::{collections_leave_sweeps, swept_records_can_move};
+pub use laws::{collections_leave_front_sweeps, collections_leave_sweeps, swept_records_can_move};

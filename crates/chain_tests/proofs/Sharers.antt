@@ -1,5 +1,5 @@
 -- A memory laid out by hand, with holders and funs that share records: a collection can begin there, and its chain stands.
-use Rattle.std.proofs.Common.{◌≡◌, ℕ, zero, suc, ◌+◌, ◌*◌, ◌/◌, ◌%◌, ◌<◌, ◌≤◌, ◌⊎◌, Bool, true, false, List, [], ◌∷◌, length, get_or, true≢false, refl, sym, ◌∙◌, ap, subst, arith, inl, inr, pos, lit≤, lit<, ◌==◌, ◌&&◌, ◌||◌, if◌then◌else◌, nat_lt, nat_le}
+use Rattle.std.proofs.Common.{◌≡◌, ℕ, ◌+◌, ◌/◌, ◌<◌, ◌≤◌, ◌⊎◌, Bool, true, false, List, [], ◌∷◌, length, get_or, true≢false, refl, sym, ◌∙◌, ap, subst, arith, inl, inr, pos, lit≤, lit<, ◌==◌, ◌&&◌, ◌||◌, if◌then◌else◌, nat_lt, nat_le}
 use Rattle.std.proofs.lemmas.Bool.{and_parts}
 use Rattle.std.proofs.lemmas.List.{get_or_past}
 use Rattle.std.proofs.lemmas.Bool.Decides.{nat_tests}
@@ -18,8 +18,10 @@ use Rattle.word_mem.specs.declared.ranges.Room.{Room}
 use Rattle.shared_rec.specs.Record.{count_in}
 use Rattle.shared_rec.proofs.Records.{record-first}
 use Rattle.off_heap_list.specs.Links.{named, naming, IsLink, Links}
-use Rattle.off_heap_list.specs.Swept.{Sweeping}
-use Rattle.off_heap_list.specs.Whole.{moved_of, SweptWhole, CanSweep}
+use Rattle.off_heap_list.specs.Dealt.{CanDeal}
+use Rattle.off_heap_list.specs.Swept.{FrontSweeping, Sweeping}
+use Rattle.off_heap_list.specs.declared.whole.FrontLeft.{FrontLeft}
+use Rattle.off_heap_list.specs.Whole.{moved_of, turned, SweptFront, SweptWhole, CanSweep, CanSweepFront}
 use Rattle.off_heap_list.specs.declared.whole.Survivors.{Survivors}
 use Rattle.off_heap_list.proofs.Chaining.Chained.{holder-link, fun-link}
 use Rattle.record_move.specs.Copies.{AllRecordsCanMove}
@@ -52,12 +54,12 @@ abbrev lists : List (List ℕ)
 lists = (1 ∷ 2 ∷ []) ∷ (3 ∷ []) ∷ []
 
 -- The role of each place.
-abbrev roles : List ℕ
+abbrev pub roles : List ℕ
 roles =
     0 ∷ 0 ∷ 3 ∷ 4 ∷ 1 ∷ 5 ∷ 4 ∷ 4 ∷ 3 ∷ 4 ∷ 1 ∷ 5 ∷ 4 ∷ 4 ∷ 3 ∷ 4 ∷ 1 ∷ 5 ∷ 4 ∷ 4 ∷ 3 ∷ 5 ∷ 1 ∷ 4 ∷ 4 ∷ 4 ∷ 4 ∷ 3 ∷ 5 ∷ 1 ∷ 4 ∷ 4 ∷ 4 ∷ 4 ∷ 0 ∷ 0 ∷ 0 ∷ 0 ∷ 0 ∷ 0 ∷ 8 ∷ 6 ∷ 2 ∷ 6 ∷
     6 ∷ 8 ∷ 6 ∷ 2 ∷ 6 ∷ 6 ∷ 8 ∷ 6 ∷ 2 ∷ 6 ∷ []
 
-abbrev role : ℕ → ℕ
+abbrev pub role : ℕ → ℕ
 role a = get_or roles a 0
 
 abbrev test : ℕ → ℕ → Bool
@@ -298,7 +300,7 @@ ready = record {
 
 -- The chain stands, and counts are namings.
 
-link-of : (p : ℕ) → In p chain → IsLink (roles_of role) sample p
+pub link-of : (p : ℕ) → In p chain → IsLink (roles_of role) sample p
 link-of p (inl e) = let P : ℕ → Type 0 = λ x. IsLink (roles_of role) sample x in subst P (sym e) (fun-link (roles_of role) lists sample 110 3 2 1 (Int (pos 4) ▹ end) the-other (lit< tt))
 link-of p (inr (inl e)) = let P : ℕ → Type 0 = λ x. IsLink (roles_of role) sample x in subst P (sym e) (fun-link (roles_of role) lists sample 82 3 2 1 (Int (pos 4) ▹ end) the-fun (lit< tt))
 link-of p (inr (inr (inl e))) = let P : ℕ → Type 0 = λ x. IsLink (roles_of role) sample x in subst P (sym e) (holder-link (roles_of role) lists sample 58 2 the-third (lit< tt))
@@ -309,7 +311,7 @@ link-of p (inr (inr (inr (inr (inr i))))) = absurd i
 first-test : ℕ → Bool
 first-test q = if roles_of role q 8 then (q == 40) || ((q == 45) || (q == 50)) else true
 
-record-place : (v n : ℕ) → IsRecord (roles_of role) sample v n → (v ≡ 40) ⊎ ((v ≡ 45) ⊎ (v ≡ 50))
+pub record-place : (v n : ℕ) → IsRecord (roles_of role) sample v n → (v ≡ 40) ⊎ ((v ≡ 45) ⊎ (v ≡ 50))
 unfolding all_hold first-test roles_of
 record-place v n there =
     let f : roles_of role v 8 ≡ true = record-first (roles_of role) sample v n there in
@@ -359,7 +361,7 @@ is-remaining a k far h = let this : nat_le 40 a ≡ true = grind (arith, nat_tes
 record-test : ℕ → Bool
 record-test q = (role q == 0) || ((role q == 1) || ((role q == 3) || ((role q == 4) || (role q == 5))))
 
-record-far : (a k : ℕ) → roles_of role a k ≡ true → (k ≡ 2) ⊎ (6 ≤ k) → 40 ≤ a
+pub record-far : (a k : ℕ) → roles_of role a k ≡ true → (k ≡ 2) ⊎ (6 ≤ k) → 40 ≤ a
 unfolding all_hold record-test
 record-far a k h of =
     let order : (a < 40) ⊎ (40 ≤ a) = grind arith in
@@ -456,6 +458,23 @@ module _ (m : List ℕ) (mv : Moving) (ws : List ℕ) (done : Ended plan m mv ws
 
   pub can-sweep : CanSweep m 27 5
   can-sweep = record { test = roles-after.test; single = roles-after.single; os = chain; further = []; number = refl; begins = sweeps }
+
+  pub can-sweep-front : CanSweepFront m 27 5
+  can-sweep-front = record { test = roles-after.test; single = roles-after.single; os = chain; to = 0; further = []; number = refl; begins = sweeps }
+
+  pub can-deal : (mem : List ℕ) (front : FrontLeft) → ((c : ℕ → ℕ → Bool) (os : List ℕ) (to : ℕ) (further : List ℕ) → IsSingle c → length os ≡ 5
+      → FrontSweeping c m 27 os to 0 [] 0 [] further → SweptFront c m mem os (turned (moved_of m os) []) further to front) → CanDeal mem front.left.first front.left.len front.rest
+  can-deal mem front swept =
+      let w : SweptFront roles-after.test m mem chain (turned (moved_of m chain) []) [] 0 front = swept roles-after.test chain 0 [] roles-after.single refl sweeps in
+      record {
+        test = roles-after.test;
+        single = roles-after.single;
+        os = turned (moved_of m chain) [];
+        rest = [];
+        further = [];
+        number = sym w.whole.len;
+        links = record { links = w.whole.links; chain = w.rest; once = tt; apart = λ p i j. j };
+      }
 
   room : RecordsHaveRoom plan remaining (top_of mv) chain 100 128
   room = record {
