@@ -8,8 +8,8 @@ mod side_by_side;
 mod standing;
 
 pub use counted::{
-    flat_size_covers_lists_of_objects, flat_size_covers_objects, lists_without_repetition,
-    packed_words_are_counted, places_are_counted,
+    flat_size_covers_lists_of_objects, flat_size_covers_objects, flat_size_covers_references,
+    lists_without_repetition, packed_words_are_counted, places_are_counted,
 };
 pub use elsewhere::{relocated_words_stand, roots_stand_by_narrower_tests};
 pub use one_role::{
