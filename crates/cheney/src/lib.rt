@@ -12,7 +12,7 @@ mod roots;
 mod spine;
 mod stay;
 
-pub use collection::collect;
+pub use collection::{collect, collect_with};
 pub use laws::{
     calls_change_no_other_words, collections_can_follow, counted_places_bound_rooms,
     images_keep_their_shape, images_last, memories_get_single_roles, new_roots_reach_the_copies,
