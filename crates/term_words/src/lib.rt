@@ -17,7 +17,8 @@ pub use one_role::{
     words_of_objects_have_roles,
 };
 pub use side_by_side::{
-    lists_stand_side_by_side, lists_stand_word_by_word, tiles_lie_side_by_side,
+    lists_stand_side_by_side, lists_stand_word_by_word, moved_tiles_lie_side_by_side,
+    tiles_lie_side_by_side,
 };
 pub use standing::{
     carried_objects_keep_reach, carried_objects_keep_trees, idle_writes_keep_trees,

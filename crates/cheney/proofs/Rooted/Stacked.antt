@@ -59,7 +59,8 @@ module _ (p : Plan) (mem : List ℕ) (mv : Moving) (regs : List ℕ) (from n : �
       (stack-reached (get_or (words_at mem from 1 n) j 0) (in-at (words_at mem from 1 n) j (omega (arith, less, words-length mem from 1 n))))
 
   module _ (mem2 : List ℕ) (mv2 : Moving) (xs : List ℕ)
-      (each : (q : Plan) → Runs q mem mv (at_objects mv.aged.start mv.young.start) → ((w : ℕ) → In w regs → Reached q w) → AllEvacuated q mem mem2 mv2 (at_objects mv.aged.start mv.young.start) regs xs) where
+      (each : (q : Plan) → Runs q mem mv (at_objects mv.aged.start mv.young.start) → ((w : ℕ) → In w regs → Reached q w)
+      → AllEvacuated q mem mem2 mv2 (at_objects mv.aged.start mv.young.start) regs xs) where
     all : AllEvacuated p mem mem2 mv2 (at_objects mv.aged.start mv.young.start) regs xs
     all = each p with-runs with-reached
 
@@ -73,7 +74,8 @@ module _ (p : Plan) (mem : List ℕ) (mv : Moving) (regs : List ℕ) (from n : �
     stack-moves = record { plan = p; marks = at_objects mv.aged.start mv.young.start; runs = all.runs; roots = stack-roots }
 
     module _ (mem3 : List ℕ) (mv3 : Moving)
-        (at : (q : Plan) → Runs q mem2 mv2 (at_objects mv.aged.start mv.young.start) → AreRoots q mem2 from 1 n → PlacesEvacuated q mem2 mem3 mv3 (at_objects mv.aged.start mv.young.start) from 1 n) where
+        (at : (q : Plan) → Runs q mem2 mv2 (at_objects mv.aged.start mv.young.start) → AreRoots q mem2 from 1 n
+        → PlacesEvacuated q mem2 mem3 mv3 (at_objects mv.aged.start mv.young.start) from 1 n) where
       places : PlacesEvacuated p mem2 mem3 mv3 (at_objects mv.aged.start mv.young.start) from 1 n
       places = at p all.runs stack-roots
 
