@@ -3,6 +3,7 @@
 
 mod counted;
 mod elsewhere;
+mod narrowed;
 mod one_role;
 mod side_by_side;
 mod standing;
@@ -12,6 +13,7 @@ pub use counted::{
     lists_without_repetition, packed_words_are_counted, places_are_counted,
 };
 pub use elsewhere::{relocated_words_stand, roots_stand_by_narrower_tests};
+pub use narrowed::narrowed_tests_keep_trees;
 pub use one_role::{
     maps_of_roles_are_single, objects_are_one_or_apart, records_are_one_or_apart,
     words_of_objects_have_roles,

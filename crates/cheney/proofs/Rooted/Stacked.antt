@@ -1,5 +1,6 @@
 -- A whole collection from a row and from words at places of the memory.
-use Rattle.std.proofs.Common.{◌≡◌, ℕ, zero, suc, ◌+◌, ◌*◌, ◌<◌, ◌||◌, Bool, true, false, List, ◌∷◌, ◌++◌, length, get_or, refl, sym, ◌∙◌, ap, subst, arith, inl, inr}
+use Rattle.std.proofs.Common.{◌≡◌, ℕ, zero, suc, ◌+◌, ◌*◌, ◌<◌, List, ◌∷◌, ◌++◌, length, get_or, refl, sym, ◌∙◌, ap, subst, arith, inl, inr}
+use Rattle.std.proofs.Math.Bool.{or-false}
 use Rattle.term_words.proofs.Totals.Members.{in-at}
 use Rattle.cheney.specs.declared.moving.Moving.{Moving}
 use Rattle.term_words.specs.Counted.{In}
@@ -26,10 +27,6 @@ words-same m n from step (suc count) same =
     words-same m n (from + step) step count (λ j less.
     ap (λ q. get_or n q 0) (next-place from step j) ∙ same (suc j) (omega (arith, less)) ∙ ap (λ q. get_or m q 0) (sym (next-place from step j))) in
     ap (λ w. w ∷ words_at n (from + step) step count) first ∙ ap (λ ws. get_or m from 0 ∷ ws) rest
-
-or-false : (x : Bool) → (x || false) ≡ true → x ≡ true
-or-false true h = refl
-or-false false h = h
 
 module _ (p : Plan) (mem : List ℕ) (mv : Moving) (regs : List ℕ) (from n : ℕ) (b : CanStartWith p mem mv regs from n) where
   with-runs : Runs p mem mv (at_objects mv.aged.start mv.young.start)
@@ -105,7 +102,7 @@ module _ (p : Plan) (mem : List ℕ) (mv : Moving) (regs : List ℕ) (from n : �
 
         all-later : Later p (in_places from 1 n) mem mem4
         all-later =
-            later-wider p (either (either nowhere (in_places from 1 n)) nowhere) (in_places from 1 n) mem mem4 (λ q h. or-false (in_places from 1 n q) h)
+            later-wider p (either (either nowhere (in_places from 1 n)) nowhere) (in_places from 1 n) mem mem4 (λ q h. sym (or-false (in_places from 1 n q)) ∙ h)
             (later-then p (either nowhere (in_places from 1 n)) nowhere mem mem3 mem4 (later-then p nowhere (in_places from 1 n) mem mem2 mem3 all.later places.later) on.later)
 
         pub with-ended : EndedWith p mem mem4 mv4 xs from n
