@@ -1,5 +1,5 @@
 -- A memory laid out by hand, with an object of each kind: a collection can begin there.
-use Rattle.std.proofs.Common.{◌≡◌, ℕ, zero, suc, ◌+◌, ◌-◌, ◌*◌, ◌/◌, ◌%◌, ◌<◌, ◌≤◌, ◌⊎◌, Bool, true, false, List, [], ◌∷◌, length, drop, get_or, refl, sym, ◌∙◌, ap, subst, arith, inl, inr, pos, lit≤, lit<, ◌==◌, ◌&&◌, ◌||◌, if◌then◌else◌, nat_lt}
+use Rattle.std.proofs.Common.{◌≡◌, ℕ, zero, suc, ◌+◌, ◌-◌, ◌*◌, ◌/◌, ◌%◌, ◌<◌, ◌≤◌, ◌⊎◌, Bool, true, false, List, [], ◌∷◌, ◌++◌, length, drop, get_or, refl, sym, ◌∙◌, ap, subst, arith, inl, inr, pos, lit≤, lit<, ◌==◌, ◌&&◌, ◌||◌, if◌then◌else◌, nat_lt}
 use Rattle.std.proofs.lemmas.Bool.{and_parts, eqb-true}
 use Rattle.std.proofs.lemmas.List.{get_or-drop, get_or-take, get_or_past}
 use Rattle.std.proofs.lemmas.Bool.Decides.{nat_tests}
@@ -25,7 +25,8 @@ use Rattle.cheney.specs.declared.moving.Moving.{Moving}
 use Rattle.cheney.specs.Rooms.{Runs, top_of}
 use Rattle.cheney.specs.Collected.{CanStart, CanCollectRow, Collected, used}
 use Rattle.cheney.specs.Next.{Ended, CollectionGoesOn, HasRoles, Remains, Succeeds}
-use Rattle.cheney.specs.Roots.{AreRoots, CanMovePlaces, PlacesEvacuated}
+use Rattle.cheney.specs.Roots.{AreRoots, CanMovePlaces, PlacesEvacuated, words_at}
+use Rattle.cheney.specs.Stacked.{CanCollectWith}
 use Rattle.cheney.specs.Calls.{CanScan}
 use Rattle.cheney.specs.Zones.{Marks, at_objects}
 use Rattle.cheney.proofs.Rooted.Rows.{start-runs, starts}
@@ -428,6 +429,33 @@ stack-scans r m m2 none stay aged young mv2 e h n s a y moves =
       plan = plan;
       runs = starts plan m m2 (first-rooms stay aged young) mv2 (at_objects aged.start young.start) run
           (moves plan (at_objects aged.start young.start) run (stacked r m none stay aged young e h n s a y)).runs;
+    }
+
+-- The first two roots are registers, and the others stand on the stack behind them.
+
+parted : (m : List ℕ) → m ≡ sample → roots ≡ (5 ∷ 14 ∷ []) ++ words_at m 93 1 11
+unfolding words_at
+parted m same =
+    let here : roots ≡ (5 ∷ 14 ∷ []) ++ words_at sample 93 1 11 = refl in
+    here ∙ ap (λ z. (5 ∷ 14 ∷ []) ++ words_at z 93 1 11) (sym same)
+
+pub can-collect-with : {E : Type 0} (r : Result (List ℕ) E) (m : List ℕ) (none stay : Stay) (aged young : Room) → r ≡ Ok m → IfOk r (λ x. x ≡ sample) → none.spans.items ≡ [] →
+    ((q : ℕ) → stays stay q ≡ (stays none q || in_span kept q))
+    → aged ≡ record { start = 51; top = 51; end = 60 } → young ≡ record { start = 60; top = 60; end = 91 } → CanCollectWith m (first-rooms stay aged young) (5 ∷ 14 ∷ []) 93 11
+can-collect-with {E} r m none stay aged young e h n s a y =
+    let P : Result (List ℕ) E → Type 0 = λ x. IfOk x (λ z. z ≡ sample) in
+    let Q : List ℕ → Type 0 = λ ws. CanStart plan m (first-rooms stay aged young) ws in
+    let same : m ≡ sample = subst P e h in
+    record {
+      plan = plan;
+      begins = record {
+        begins = subst Q (parted m same) (begins-there r m none stay aged young e h n s a y);
+        free = λ j less. record {
+          inside = omega arith;
+          outside = λ c. inr (omega (arith, high-to c));
+          none = λ k role_at. none-there role (93 + j) k (get_or_past roles (93 + j) 0 (omega arith)) role_at;
+        };
+      };
     }
 
 -- A second collection goes to the free words at the end.

@@ -1,6 +1,6 @@
 // An object of each kind is moved.
 use crate::memory::{empty, holds, laid};
-use cheney::{Moving, Stay, collect, evacuate_places, scan};
+use cheney::{Moving, Stay, collect, collect_with, evacuate_places, scan};
 use std::alloc::Global;
 use std::rt::HostRuntime;
 use word_mem::{OpenFault, Span};
@@ -47,6 +47,13 @@ const MOVED: [u64; 13] = [
 const MOVED_AGAIN: [u64; 13] = [
     417, 426, 438, 450, 474, 494, 522, 170, 538, 546, 550, 417, 79,
 ];
+
+// The first two roots as registers, what they become, and the stack after that: its first two places are not given.
+const REGISTERS: [u64; 2] = [5, 14];
+
+const MOVED_REGISTERS: [u64; 2] = [205, 214];
+
+const MOVED_STACK: [u64; 13] = [5, 14, 226, 242, 266, 286, 314, 170, 330, 338, 342, 205, 79];
 
 // A collection of each kind, and a second one of what it has moved: the roots, the ends of the rooms and all words are
 // as they have to be after each.
@@ -96,6 +103,21 @@ fn is_moved_from_a_stack(alloc: Global) -> Result<bool, OpenFault> {
     Ok(holds(&mem, 0, &AFTER) && holds(&mem, 91, &MOVED))
 }
 
+// The first two roots as registers, and the others as they stand on that stack.
+fn is_moved_with_registers(alloc: Global) -> Result<bool, OpenFault> {
+    let mut mem = laid(alloc, &BEFORE)?;
+    let mut mv = Moving {
+        stay: Stay::none().with(Span { start: 42, end: 45 }),
+        from_space: Span { start: 1, end: 42 },
+        mature: Span { start: 1, end: 9 },
+        aged: empty(51, 60),
+        young: empty(60, 91),
+    };
+    let mut regs = REGISTERS;
+    collect_with(&mut mem, &mut mv, &mut regs, 93, 11);
+    Ok(regs == MOVED_REGISTERS && holds(&mem, 0, &AFTER) && holds(&mem, 91, &MOVED_STACK))
+}
+
 #[test]
 fn each_kind_is_moved_once(rt: HostRuntime) {
     assert!(rt; is_moved_twice(rt.alloc()).expect(&rt, "a memory"));
@@ -104,6 +126,11 @@ fn each_kind_is_moved_once(rt: HostRuntime) {
 #[test]
 fn roots_on_a_stack_are_moved(rt: HostRuntime) {
     assert!(rt; is_moved_from_a_stack(rt.alloc()).expect(&rt, "a memory"));
+}
+
+#[test]
+fn registers_and_a_stack_are_moved(rt: HostRuntime) {
+    assert!(rt; is_moved_with_registers(rt.alloc()).expect(&rt, "a memory"));
 }
 
 // Places, and whether they stay by the spans of the test below.

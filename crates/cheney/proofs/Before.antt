@@ -2,4 +2,5 @@
 -- reach in the memory as it is at the start. No later proof opens what a word stands for again.
 pub mod Basics
 pub mod Spans
+pub mod Lengths
 pub mod Ground

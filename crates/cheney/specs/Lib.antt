@@ -8,3 +8,4 @@ pub mod Calls
 pub mod Collected
 pub mod Next
 pub mod Roots
+pub mod Stacked

@@ -1,5 +1,5 @@
 -- Spans of places, in order of place.
-use Rattle.std.specs.Prelude.{ℕ, ◌≤◌, ◌<◌, Bool, false, ◌&&◌, ◌||◌, nat_le, nat_lt, List, [], ◌∷◌, length, slice_index_or}
+use Rattle.std.specs.Prelude.{◌≡◌, ℕ, ◌+◌, ◌-◌, ◌≤◌, ◌<◌, Bool, true, false, ◌&&◌, ◌||◌, nat_le, nat_lt, List, [], ◌∷◌, length, slice_index_or}
 use Rattle.word_mem.specs.declared.ranges.Span.{Span}
 
 -- The place lies in the span.
@@ -10,6 +10,16 @@ in_span s q = nat_le s.start q && nat_lt q s.end
 abbrev pub in_spans : List Span → ℕ → Bool
 in_spans [] q = false
 in_spans (s ∷ ss) q = in_span s q || in_spans ss q
+
+-- The lengths of the spans together.
+abbrev pub span_places : List Span → ℕ
+span_places [] = 0
+span_places (s ∷ ss) = (s.end - s.start) + span_places ss
+
+-- No place lies in two of the spans.
+abbrev pub AreDisjoint : List Span → Type 0
+AreDisjoint [] = Unit {0}
+AreDisjoint (s ∷ ss) = ((q : ℕ) → in_span s q ≡ true → in_spans ss q ≡ true → ⊥) × AreDisjoint ss
 
 -- Where span i begins.
 abbrev pub start_at : List Span → ℕ → ℕ

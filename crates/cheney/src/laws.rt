@@ -8,6 +8,8 @@ ghost use Rattle.term_words.specs.Reach.{first_traced};
 ghost use Rattle.term_words.specs.Counted.{In, count, total};
 ghost use Rattle.cheney.specs.Plan.{RoomFits, IsIn, IsNoTail, IsOutside, Leaves, LiesBetween, Plan, Ready, Reached, first, size};
 ghost use Rattle.cheney.specs.Moved.{IsImage, moved};
+ghost use Rattle.cheney.specs.Spans.{AreDisjoint, in_spans, span_places};
+ghost use Rattle.word_mem.specs.declared.ranges.Span.{Span};
 ghost use Rattle.cheney.specs.Zones.{Marks, at_objects};
 ghost use Rattle.cheney.specs.Rooms.{RoomsAgree, Runs, top_of};
 ghost use Rattle.cheney.specs.Calls.{Later, either, nowhere};
@@ -30,6 +32,15 @@ pub fn counted_places_bound_rooms()
         → IsSingle p.test → from ≤ to
         → ((v : ℕ) → Reached p v → Leaves p v → p.mature (v / 4) ≡ b → In v others ⊎ LiesBetween p s from to v)
         → p.low b + (count s from (to - from) + total (size p) others) ≤ p.high b → RoomFits p b }
+{}
+
+/// The places of spans are no more than the lengths of the spans together; and they are as many where no two have a place in
+/// common, counted among places that have all of these: with `counted_places_bound_rooms`, a room that has as many free words as
+/// the spans have places holds what lies in them.
+pub fn spans_are_counted()
+    ensures most { (ss : List Span) (from n : ℕ) → count (in_spans ss) from n ≤ span_places ss }
+    ensures whole { (ss : List Span) (from n : ℕ) → AreDisjoint ss → ((q : ℕ) → in_spans ss q ≡ true → (from ≤ q) × (q < from + n))
+        → count (in_spans ss) from n ≡ span_places ss }
 {}
 
 /// A collection that is ready, with two empty rooms, runs.

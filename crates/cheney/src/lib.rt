@@ -12,12 +12,12 @@ mod roots;
 mod spine;
 mod stay;
 
-pub use collection::collect;
+pub use collection::{collect, collect_with};
 pub use laws::{
     calls_change_no_other_words, collections_can_follow, counted_places_bound_rooms,
     images_keep_their_shape, images_last, memories_get_single_roles, new_roots_reach_the_copies,
     places_without_roles_lie_beside, ready_collections_run, rooms_are_tiled, roots_become_images,
-    scanned_collections_are_whole, writes_beside_keep_collections,
+    scanned_collections_are_whole, spans_are_counted, writes_beside_keep_collections,
 };
 pub use moving::Moving;
 pub use objects::evacuate;

@@ -22,7 +22,7 @@ use Rattle.term_words.proofs.Placing.Tiles.{has-layout}
 use Rattle.shared_rec.proofs.Records.{record-counted}
 use Rattle.term_copy.specs.Copied.{CanCopy, Task}
 use Rattle.word_mem.specs.declared.ranges.Room.{Room}
-use Rattle.term_copy.specs.Going.{Advances, CopyHasRoom, Among, Begun, Copying, Goes, HasImage, HasCopiedWords, IsCopiedWord, IsLed, IsOf, IsStay, Item, Pends, ReadyToCopy, Scanning, Spread, flat_of_parts}
+use Rattle.term_copy.specs.Going.{Advances, CopyHasRoom, Among, AllAreLed, Begun, Copying, Goes, HasImage, HasCopiedWords, IsCopiedWord, IsLed, IsLedTo, IsOf, IsStay, Item, Leading, Pends, ReadyToCopy, Scanning, Spread, flat_of_parts}
 use Rattle.term_copy.proofs.Items.{spread-in, spread-one}
 use Rattle.term_copy.proofs.Linked.{LinkFacts, linked}
 use Rattle.term_copy.proofs.Taking.{image-same, role-beside, top-limit}
@@ -33,6 +33,29 @@ below-or-at q m h = grind (arith, h)
 -- A word below a mark that was replaced is so by a lower mark above it.
 led-below : (p : Task) (mark low : ℕ) (xs : List Item) (q : ℕ) → IsLed p mark xs q → q < low → IsLed p low xs q
 led-below p mark low xs q a past = record { item = a.item; among = a.among; index = a.index; traced = a.traced; below = a.below; place = a.place; past = past; goes = a.goes }
+
+-- A word that leads to a copy does so still where more words were gone through.
+led-on : (p : Task) (old new : List ℕ) (mark high : ℕ) (xs : List Item) (x : Item) → ((q : ℕ) → q < mark → get_or new q 0 ≡ get_or old q 0) → mark ≤ high → IsLedTo p old mark xs x
+    → IsLedTo p new high xs x
+led-on p old new mark high xs x same more l = record {
+  from = l.from;
+  led = record {
+    item = l.led.item;
+    among = l.led.among;
+    index = l.led.index;
+    traced = l.led.traced;
+    below = l.led.below;
+    place = l.led.place;
+    past = omega (arith, l.led.past, more);
+    goes = l.led.goes;
+  };
+  there = ap (λ a. a / 4) (same l.from l.led.past) ∙ l.there;
+  before = l.before;
+}
+
+all-on : (p : Task) (old new : List ℕ) (mark high : ℕ) (xs : List Item) → ((q : ℕ) → q < mark → get_or new q 0 ≡ get_or old q 0) → mark ≤ high → AllAreLed p old mark xs
+    → AllAreLed p new high xs
+all-on p old new mark high xs same more all = λ x i. elim (all x i) [ inl e ↦ inl e | inr l ↦ inr (led-on p old new mark high xs x same more l) ]
 
 -- Another copy may be known, and one may be forgotten.
 
@@ -61,7 +84,8 @@ known-as p known now mem mark at top owed g has = record {
 abbrev pub forget : (p : Task) (known : List Item) (x : Item) (mem : List ℕ) (mark at top owed : ℕ) → Copying p (x ∷ known) mem mark at top owed → Copying p known mem mark at top owed
 forget p known x mem mark at top owed g = known-as p (x ∷ known) known mem mark at top owed g (λ y i. g.has y (inr i))
 
-pub know : (p : Task) (known : List Item) (x : Item) (mem : List ℕ) (mark at top owed : ℕ) (g : Copying p known mem mark at top owed) → Among x g.items → Copying p (x ∷ known) mem mark at top owed
+abbrev pub know : (p : Task) (known : List Item) (x : Item) (mem : List ℕ) (mark at top owed : ℕ) (g : Copying p known mem mark at top owed) → Among x g.items
+    → Copying p (x ∷ known) mem mark at top owed
 know p known x mem mark at top owed g i =
     known-as p known (x ∷ known) mem mark at top owed g (λ y h. elim h [ inl e ↦ (let P : Item → Type 0 = λ z. Among z g.items in subst P (sym e) i) | inr j ↦ g.has y j ])
 
@@ -229,8 +253,8 @@ module _ (p : Task) (known : List Item) (mem : List ℕ) (mark at top : ℕ) (u 
   pub stands-at : (w : ℕ) → w ≡ get_or mem mark 0 → Stands p.test p.shared p.start w u
   stands-at w e = let P : ℕ → Type 0 = λ x. Stands p.test p.shared p.start x u in subst P (sym e) s.pends.0
 
-  pub owed-known : Copying p (s.item ∷ known) mem mark at top (flat u + flat_of_all rest)
-  owed-known = know p known s.item mem mark at top (flat_of_all (u ▹ rest)) s.on s.among
+  pub owed-known : Leading p (s.item ∷ known) mem mark at top (flat u + flat_of_all rest)
+  owed-known = record { on = know p known s.item mem mark at top (flat_of_all (u ▹ rest)) s.on s.among; led = s.led }
 
   pub mark-inside : mark < s.item.place + object_words p.start s.item.word
   mark-inside = omega (arith, s.ends, s.whole)
@@ -241,9 +265,11 @@ module _ (p : Task) (known : List Item) (mem : List ℕ) (mark at top : ℕ) (u 
       omega (arith, inside, mark-inside, r, top-limit p known mem mark at top (flat_of_all (u ▹ rest)) s.on, s.on.same_len)
 
   -- After its image was written.
-  gone : (new : List ℕ) (top2 : ℕ) (g : Copying p known new (mark + 1) at top2 (flat_of_all rest)) → Among s.item g.items → Scanning p known new (mark + 1) at top2 rest
-  gone new top2 g i = record {
+  gone : (new : List ℕ) (top2 : ℕ) (g : Copying p known new (mark + 1) at top2 (flat_of_all rest)) → Among s.item g.items
+      → AllAreLed p new (mark + 1) g.items → Scanning p known new (mark + 1) at top2 rest
+  gone new top2 g i all = record {
     on = g;
+    led = all;
     pends = pends-same p mem new (mark + 1) rest (λ a low high.
         (g.copies s.item i).waits (a - s.item.place) a (omega (arith, s.traced, low)) (omega (arith, s.traced, low, high, s.ends, s.whole)) (omega (arith, s.traced, low)) low
         ∙ sym ((s.on.copies s.item s.among).waits (a - s.item.place) a (omega (arith, s.traced, low)) (omega (arith, s.traced, low, high, s.ends, s.whole))
@@ -263,12 +289,40 @@ module _ (p : Task) (known : List Item) (mem : List ℕ) (mark at top : ℕ) (u 
       (owe-less p known mem (mark + 1) at top (get_or mem mark 0) u (flat_of_all rest) stays s.pends.0
       (replaced p known mem mark at top (flat u + flat_of_all rest) s.on s.item s.among s.traced mark-inside mem refl (λ q z. refl) (inl (stays, refl)) (omega (arith, s.ends))
       (λ goes. absurd (stays goes))))
-      s.among
+      s.among (all-on p mem mem mark (mark + 1) s.on.items (λ q below. refl) (omega arith) s.led)
+
+  -- The word at the mark leads to the copy that was made for it.
+  led-all : (mem2 : List ℕ) (top2 x : ℕ) (h : HasImage p (s.item ∷ known) mem2 mark at top2 (flat_of_all rest) (get_or mem mark 0) x) → Among s.item h.on.items
+      → get_or (set mem2 mark x) mark 0 ≡ x → x / 4 ≡ top → Goes p (get_or mem mark 0) → AllAreLed p (set mem2 mark x) (mark + 1) h.on.items
+  led-all mem2 top2 x h i now place go = λ z j. elim (h.led z j) [
+    | inl e ↦
+        let was : get_or mem mark 0 ≡ get_or p.start (s.item.word / 4 + (mark - s.item.place)) 0 =
+        word-is p known mem mark at top (flat u + flat_of_all rest) s.on s.item s.among s.traced mark-inside in
+        let r : (p.top ≤ s.item.place) × (s.item.place + object_words p.start s.item.word ≤ top) = spread-in p.start p.top s.on.items top s.item s.on.row s.among in
+        let P : ℕ → Type 0 = λ a. Goes p a in
+        inr (record {
+          from = mark;
+          led = record {
+            item = s.item;
+            among = i;
+            index = mark - s.item.place;
+            traced = omega (arith, s.traced);
+            below = omega (arith, s.traced, mark-inside);
+            place = omega (arith, s.traced);
+            past = omega arith;
+            goes = subst P was go;
+          };
+          there = ap (λ a. a / 4) now ∙ sym e;
+          before = omega (arith, e, place, r, mark-inside);
+        })
+    | inr (inl e) ↦ inl e
+    | inr (inr l) ↦ inr (led-on p mem2 (set mem2 mark x) mark (mark + 1) h.on.items z (λ q below. get_or-set_other mem2 mark q x 0 (λ same. omega (arith, same, below))) (omega arith) l)
+  ]
 
   pub gone-copied : (mem2 : List ℕ) (top2 x : ℕ) → HasImage p (s.item ∷ known) mem2 mark at top2 (flat_of_all rest) (get_or mem mark 0) x → mark < length mem2
-      → x / 4 ≡ top → Scanning p known (set mem2 mark x) (mark + 1) at top2 rest
+      → x / 4 ≡ top → Goes p (get_or mem mark 0) → Scanning p known (set mem2 mark x) (mark + 1) at top2 rest
   unfolding replaced
-  gone-copied mem2 top2 x h inside place =
+  gone-copied mem2 top2 x h inside place go =
       let i : Among s.item h.on.items = h.on.has s.item (inl refl) in
       let was : get_or mem2 mark 0 ≡ get_or mem mark 0 =
       word-is p (s.item ∷ known) mem2 mark at top2 (flat_of_all rest) h.on s.item i s.traced mark-inside
@@ -282,7 +336,7 @@ module _ (p : Task) (known : List Item) (mem : List ℕ) (mark at top : ℕ) (u 
       (λ q other. get_or-set_other mem2 mark q x 0 other)
       (image-same p h.on.items (get_or mem2 mark 0) x (get_or (set mem2 mark x) mark 0) now (subst P (sym was) h.image)) (omega (arith, s.ends))
       (λ goes. (omega (arith, now, place, r, s.traced, mark-inside), (λ q a. omega (arith, now, h.later q a))))))
-      i
+      i (led-all mem2 top2 x h i now place go)
 
   same-length : (mem2 : List ℕ) (top2 w x : ℕ) → HasImage p (s.item ∷ known) mem2 mark at top2 (flat_of_all rest) w x → length mem2 ≡ length mem
   same-length mem2 top2 w x h = h.on.same_len ∙ sym s.on.same_len
@@ -291,11 +345,12 @@ module _ (p : Task) (known : List Item) (mem : List ℕ) (mark at top : ℕ) (u 
   image-memory mem2 top2 w x h inside = omega (arith, same-length mem2 top2 w x h, mark-memory inside)
 
   pub image-at : (mem2 mem3 : List ℕ) (top2 w x : ℕ) → w ≡ get_or mem mark 0 → HasImage p (s.item ∷ known) mem2 mark at top2 (flat_of_all rest) w x → mark < length mem → mem3 ≡ set mem2 mark x
-      → x / 4 ≡ top → Scanning p known mem3 (mark + 1) at top2 rest
-  image-at mem2 mem3 top2 w x e h inside is place =
+      → x / 4 ≡ top → Goes p w → Scanning p known mem3 (mark + 1) at top2 rest
+  image-at mem2 mem3 top2 w x e h inside is place go =
+      let R : ℕ → Type 0 = λ z. Goes p z in
       let P : ℕ → Type 0 = λ z. HasImage p (s.item ∷ known) mem2 mark at top2 (flat_of_all rest) z x in
       let Q : List ℕ → Type 0 = λ m. Scanning p known m (mark + 1) at top2 rest in
-      subst Q (sym is) (gone-copied mem2 top2 x (subst P e h) (omega (arith, same-length mem2 top2 w x h, inside)) place)
+      subst Q (sym is) (gone-copied mem2 top2 x (subst P e h) (omega (arith, same-length mem2 top2 w x h, inside)) place (subst R e go))
 
 -- What the test of a word tells.
 
@@ -404,8 +459,8 @@ module _ (p : Task) (known : List Item) (mem : List ℕ) (at top : ℕ) (g : Cop
       | inr high ↦ absurd (mine a.item a.index q a.among a.traced a.below a.place high a.past)
     ]
 
-    opened : Scanning p known mem (at + first_traced p.start o.x.word) (at + object_words p.start o.x.word) top (parts_of o.x.tree)
-    opened =
+    opened : AllAreLed p mem at g.items → Scanning p known mem (at + first_traced p.start o.x.word) (at + object_words p.start o.x.word) top (parts_of o.x.tree)
+    opened all =
         let more : flat_of_parts g.after ≡ flat_of_all (parts_of o.x.tree) + flat_of_parts o.later = ap flat_of_parts o.is in
         record {
           on = record {
@@ -427,6 +482,7 @@ module _ (p : Task) (known : List Item) (mem : List ℕ) (at top : ℕ) (g : Cop
             used = omega (arith, g.used, more);
             exact = λ none. omega (arith, g.exact none, more);
           };
+          led = all-on p mem mem at (at + first_traced p.start o.x.word) g.items (λ q below. refl) (omega arith) all;
           pends = pends-row p mem (o.x.word / 4 + first_traced p.start o.x.word) (at + first_traced p.start o.x.word) (parts_of o.x.tree)
               (λ j below. copy-it.waits (first_traced p.start o.x.word + j) (at + first_traced p.start o.x.word + j) (omega arith) (omega (arith, below, traced-len))
               (omega (arith, spreads.0)) (omega arith)
@@ -440,60 +496,68 @@ module _ (p : Task) (known : List Item) (mem : List ℕ) (at top : ℕ) (g : Cop
         }
 
   -- The words of the object, by its first word.
-  pub opens-at : (from to : ℕ) → at < top → Traced (get_or mem at 0) at from to → (rest : Trees) × (Scanning p known mem from to top rest × (at < to))
-  opens-at from to some t =
+  pub opens-at : (from to : ℕ) → at < top → Traced (get_or mem at 0) at from to → AllAreLed p mem at g.items → (rest : Trees) × (Scanning p known mem from to top rest × (at < to))
+  opens-at from to some t all =
       let o : Opens = opens some in
       let (a, b) = places o from to t in
       let P : ℕ → ℕ → Type 0 = λ x y. Scanning p known mem x y top (parts_of o.x.tree) in
-      (parts_of o.x.tree, (rw (a, b) (opened o), omega (arith, b, object-some p.start o.x.word)))
+      (parts_of o.x.tree, (rw (a, b) (opened o all), omega (arith, b, object-some p.start o.x.word)))
 
   pub at-memory : at < top → p.limit ≤ length p.start → at < length mem
   at-memory some inside = omega (arith, some, inside, top-limit p known mem at at top 0 g, g.same_len)
 
 -- All words of an object were gone through.
-pub closed : (p : Task) (known : List Item) (mem : List ℕ) (mark at top : ℕ) (rest : Trees) → Scanning p known mem mark at top rest → at ≤ mark → Copying p known mem at at top 0
+pub closed : (p : Task) (known : List Item) (mem : List ℕ) (mark at top : ℕ) (rest : Trees) → Scanning p known mem mark at top rest → at ≤ mark → Leading p known mem at at top 0
 closed p known mem mark at top end s over =
     let e : mark ≡ at = omega (arith, s.ends) in
-    let P : ℕ → Type 0 = λ a. Copying p known mem a at top 0 in
-    subst P e s.on
+    let P : ℕ → Type 0 = λ a. Leading p known mem a at top 0 in
+    subst P e (record { on = s.on; led = s.led })
 closed p known mem mark at top (u ▹ rest) s over = absurd (omega (arith, s.ends, over))
 
 -- How it begins.
 
-begins-at : (p : Task) (mem : List ℕ) (owed : ℕ) → ReadyToCopy p → p.start ≡ mem → owed ≤ flat p.tree → (((q : ℕ) → p.stay q ≡ false) → owed ≡ flat p.tree) → Copying p [] mem p.top p.top p.top owed
+begins-at : (p : Task) (mem : List ℕ) (owed : ℕ) → ReadyToCopy p → p.start ≡ mem → owed ≤ flat p.tree → (((q : ℕ) → p.stay q ≡ false) → owed ≡ flat p.tree) → Leading p [] mem p.top p.top p.top owed
 begins-at p mem owed r e few all = record {
-  ready = r;
-  items = [];
-  after = [];
-  has = λ x i. i;
-  marked = omega arith;
-  row = refl;
-  further = refl;
-  among = λ x i. i;
-  stands = λ x i. absurd i;
-  copies = λ x i. absurd i;
-  rises = λ q r a b less. absurd a.among;
-  beyond = λ q a. absurd a.among;
-  same_len = ap length (sym e);
-  others = λ q out other. ap (λ m. get_or m q 0) (sym e);
-  counts = λ v n is. ap (λ m. get_or m (v + 2) 0) (sym e) ∙ omega arith;
-  used = omega (arith, few);
-  exact = λ none. omega (arith, all none);
+  on = record {
+    ready = r;
+    items = [];
+    after = [];
+    has = λ x i. i;
+    marked = omega arith;
+    row = refl;
+    further = refl;
+    among = λ x i. i;
+    stands = λ x i. absurd i;
+    copies = λ x i. absurd i;
+    rises = λ q r a b less. absurd a.among;
+    beyond = λ q a. absurd a.among;
+    same_len = ap length (sym e);
+    others = λ q out other. ap (λ m. get_or m q 0) (sym e);
+    counts = λ v n is. ap (λ m. get_or m (v + 2) 0) (sym e) ∙ omega arith;
+    used = omega (arith, few);
+    exact = λ none. omega (arith, all none);
+  };
+  led = λ x i. absurd i;
 }
 
-pub begins : (p : Task) (mem : List ℕ) (top : ℕ) → ReadyToCopy p → p.start ≡ mem → p.top ≡ top → Copying p [] mem top top top (flat p.tree + 0)
-begins p mem top r e t = let P : ℕ → Type 0 = λ a. Copying p [] mem a a a (flat p.tree + 0) in subst P t (begins-at p mem (flat p.tree + 0) r e (omega arith) (λ none. omega arith))
+pub begins : (p : Task) (mem : List ℕ) (top : ℕ) → ReadyToCopy p → p.start ≡ mem → p.top ≡ top → Leading p [] mem top top top (flat p.tree + 0)
+begins p mem top r e t = let P : ℕ → Type 0 = λ a. Leading p [] mem a a a (flat p.tree + 0) in subst P t (begins-at p mem (flat p.tree + 0) r e (omega arith) (λ none. omega arith))
 
 -- The root stays, or is no pointer.
 pub begins-same : (p : Task) (mem : List ℕ) (top w : ℕ) → ReadyToCopy p → p.start ≡ mem → p.top ≡ top → p.word ≡ w → (Goes p w → ⊥) → Begun p mem top top w
 begins-same p mem top w r e t same stays =
-    let P : ℕ → Type 0 = λ a. Copying p [] mem a a a 0 in
+    let P : ℕ → Type 0 = λ a. Leading p [] mem a a a 0 in
     let none : Goes p p.word → ⊥ = (let Q : ℕ → Type 0 = λ a. Goes p a → ⊥ in subst Q (sym same) stays) in
+    let l : Leading p [] mem top top top 0 =
+    subst P t (begins-at p mem 0 r e (omega arith) (λ no. sym (flat-none p.test p.shared p.start p.word p.tree r.standing (goes-none p p.word none no)))) in
     record {
       known = [];
       image = inl (none, sym same);
       first = λ goes. absurd (none goes);
-      on = subst P t (begins-at p mem 0 r e (omega arith) (λ no. sym (flat-none p.test p.shared p.start p.word p.tree r.standing (goes-none p p.word none no))));
+      on = l.on;
+      led = l.led;
+      past = omega (arith, t);
+      none = λ n. sym t;
     }
 
 -- The root's object was copied.
@@ -506,6 +570,9 @@ begins-copied p mem at top w x same start goes place h = elim h.image [
     image = (let P : ℕ → Type 0 = λ a. IsCopiedWord p (z ∷ []) a x in subst P (sym same) (inr (g, (z, (inl refl, e)))));
     first = λ go. place ∙ sym start;
     on = know p [] z mem at at top 0 h.on i;
+    led = λ y j. elim (h.led y j) [ inl k ↦ inl (omega (arith, k, place, start)) | inr l ↦ l ];
+    past = omega (arith, start);
+    none = λ n. absurd (n (let Q : ℕ → Type 0 = λ a. Goes p a in subst Q (sym same) goes));
   }
 ]
 

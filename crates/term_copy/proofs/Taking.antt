@@ -20,7 +20,7 @@ use Rattle.off_heap_list.specs.Links.{name_place, named, names_it}
 use Rattle.off_heap_list.proofs.Chaining.Chained.{place-same, one-naming, no-naming}
 use Rattle.object_rows.specs.Row.{is_link, is_link_header}
 use Rattle.term_copy.specs.Copied.{Task}
-use Rattle.term_copy.specs.Going.{Advances, Among, CanTake, Copying, Goes, HasImage, CopyHasRoom, LiesBeside, HasCopiedWords, IsCopiedWord, IsLed, IsOf, Item, Took}
+use Rattle.term_copy.specs.Going.{Advances, AllAreLed, Among, CanTake, Copying, Goes, HasImage, CopyHasRoom, LiesBeside, HasCopiedWords, IsCopiedWord, IsLed, IsLedTo, IsOf, Item, Took}
 use Rattle.term_copy.proofs.Items.{among-last, among-left, among-split, left-last, spread-in, spread-last, spread-order, tally-few, tally-last}
 use Rattle.term_copy.proofs.Linked.{LinkFacts, linked, next-linked}
 
@@ -247,6 +247,28 @@ module _ (p : Task) (known : List Item) (mem : List ℕ) (mark at top owed : ℕ
     led-later : (q : ℕ) → IsLed p mark (g.items ++ z ∷ []) q → get_or new q 0 / 4 < x / 4
     led-later q a = let h : IsLed p mark g.items q = led-old q a in omega (arith, led-before q h, led-same q h, t.word)
 
+    led-more : (q : ℕ) → IsLed p mark g.items q → IsLed p mark (g.items ++ z ∷ []) q
+    led-more q a = record {
+      item = a.item;
+      among = among-left a.item z g.items a.among;
+      index = a.index;
+      traced = a.traced;
+      below = a.below;
+      place = a.place;
+      past = a.past;
+      goes = a.goes;
+    }
+
+    -- A word leads to each copy that was there.
+    led-new : AllAreLed p mem mark g.items → (y : Item) → Among y (g.items ++ z ∷ []) → (y.place ≡ x / 4) ⊎ ((y.place ≡ p.top) ⊎ IsLedTo p new mark (g.items ++ z ∷ []) y)
+    led-new all y i = elim (among-split y z g.items i) [
+      | inl j ↦ elim (all y j) [
+        | inl e ↦ inr (inl e)
+        | inr l ↦ inr (inr (record { from = l.from; led = led-more l.from l.led; there = ap (λ a. a / 4) (led-same l.from l.led) ∙ l.there; before = l.before }))
+      ]
+      | inr e ↦ (let P : Item → Type 0 = λ a. a.place ≡ x / 4 in inl (subst P (sym e) (omega (arith, t.word))))
+    ]
+
     taken : Copying p known new mark at (top + object_words p.start w) more
     taken = record {
       ready = g.ready;
@@ -280,12 +302,12 @@ module _ (p : Task) (known : List Item) (mem : List ℕ) (mark at top owed : ℕ
       exact = λ none. omega (arith, g.exact none, left-last z g.after, flat-is, is);
     }
 
-    pub took-image : (top2 : ℕ) → top2 ≡ top + object_words mem w → HasImage p known new mark at top2 more w x
+    pub took-image : AllAreLed p mem mark g.items → (top2 : ℕ) → top2 ≡ top + object_words mem w → HasImage p known new mark at top2 more w x
     unfolding taken
-    took-image top2 e =
+    took-image all top2 e =
         let there : top2 ≡ top + object_words p.start w = omega (arith, e, words-is) in
         let P : ℕ → Type 0 = λ a. HasImage p known new mark at a more w x in
-        subst P (sym there) (record { on = taken; image = inr (goes, (z, (among-last z g.items, (refl, t.word)))); later = led-later })
+        subst P (sym there) (record { on = taken; image = inr (goes, (z, (among-last z g.items, (refl, t.word)))); later = led-later; led = led-new all })
 
 -- The room after a copy.
 pub room-advances : (old new : Room) (n : ℕ) → new ≡ record old { top = old.top + n } → old.top + n ≤ old.end → Advances old new

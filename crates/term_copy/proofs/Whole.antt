@@ -32,7 +32,7 @@ use Rattle.off_heap_list.proofs.Chaining.Chained.{leads-stays, link-stays, namin
 use Rattle.off_heap_list.proofs.Chaining.Exact.{naming-both}
 use Rattle.object_rows.specs.Row.{is_link, is_link_header, links_in}
 use Rattle.term_copy.specs.Copied.{CopiesTree, IsClosed, PointsInto, Task}
-use Rattle.term_copy.specs.Going.{Among, Begun, Copying, Goes, HasCopiedWords, IsCopiedWord, IsLed, IsOf, Item, Spread, flat_of_parts, tally}
+use Rattle.term_copy.specs.Going.{AllAreLed, Among, Begun, Copying, Goes, HasCopiedWords, IsCopiedWord, IsLed, IsLedTo, IsOf, Item, Leading, Spread, flat_of_parts, tally}
 use Rattle.term_copy.proofs.Items.{spread-in, spread-none, spread-one, spread-order}
 use Rattle.term_copy.proofs.Linked.{LinkFacts, link-told, linked, next-linked}
 use Rattle.term_copy.proofs.Alike.{IsAlike, alike}
@@ -623,12 +623,62 @@ module _ (p : Task) (known : List Item) (mem : List ℕ) (top : ℕ) (g : Copyin
       let P : ℕ → Type 0 = λ w. IsPointer w in
       omega (arith, same, e, a.low, a.high, outside p.word p.tree g.ready.standing (subst P same y))
 
+  -- The new word reaches each copy: words lead to it from copies before it, back to the first one.
+
+  one-place : (x y : Item) → Among x g.items → Among y g.items → x.place ≡ y.place → x ≡ y
+  one-place x y i j e =
+      spread-one p.start p.top g.items top x y x.place g.row i j (omega arith) (omega (arith, object-some p.start x.word)) (omega (arith, e)) (omega (arith, e, object-some p.start y.word))
+
+  module _ (result : ℕ) (image : IsCopiedWord p g.items p.word result) (first : Goes p p.word → result / 4 ≡ p.top) (none : (Goes p p.word → ⊥) → top ≡ p.top)
+      (led : AllAreLed p mem top g.items) where
+    Reaches : Item → Type 0
+    Reaches x = Reach mem (result ∷ []) (pointer_to x)
+
+    root-reached : (x : Item) → Among x g.items → x.place ≡ p.top → Reaches x
+    unfolding Reaches
+    root-reached x i e = elim image [
+      | inl (stays, same) ↦ absurd (omega (arith, none stays, spread-in p.start p.top g.items top x g.row i, object-some p.start x.word))
+      | inr (goes, (z, (j, (same, word)))) ↦
+          let one : z ≡ x = one-place z x j i (omega (arith, word, first goes, e)) in
+          let P : Item → Type 0 = λ y. pointer_to y ≡ result in
+          root 0 (pointer_to x) (omega arith) (subst P one (omega (arith, word, same)))
+    ]
+
+    part-reached : (x : Item) → Among x g.items → ((y : Item) → Among y g.items → y.place < x.place → Reaches y) → IsLedTo p mem top g.items x → Reaches x
+    unfolding Reaches
+    part-reached x i each l =
+        elim ((copy-of l.led.item l.led.among).done l.led.index l.from l.led.traced l.led.below l.led.place l.led.past) [
+          | inl (stays, same) ↦ absurd (stays l.led.goes)
+          | inr (goes, (z, (j, (same, word)))) ↦
+              let one : z ≡ x = one-place z x j i (omega (arith, word, l.there)) in
+              let P : Item → Type 0 = λ v. pointer_to v ≡ get_or mem l.from 0 in
+              let here : pointer_to x ≡ get_or mem l.from 0 = subst P one (omega (arith, word, same)) in
+              part (pointer_to l.led.item) l.led.index (pointer_to x) (each l.led.item l.led.among (omega (arith, l.led.place, l.before))) (pointer-copy l.led.item l.led.among)
+              (omega (arith, first-copy l.led.item l.led.among, l.led.traced)) (omega (arith, words-copy l.led.item l.led.among, l.led.below))
+              (here ∙ ap (λ a. get_or mem a 0) (omega (arith, l.led.place, place-to l.led.item)))
+        ]
+
+    all-reached : (n : ℕ) (x : Item) → Among x g.items → x.place < n → Reaches x
+    all-reached zero x i below = absurd (omega (arith, below))
+    all-reached (suc n) x i below = elim (led x i) [
+      | inl e ↦ root-reached x i e
+      | inr l ↦ part-reached x i (λ y j less. all-reached n y j (omega (arith, less, below))) l
+    ]
+
+    reached-now : (x : ℕ) → In x (tiles_of g.items) → Reach mem (result ∷ []) x
+    unfolding Reaches
+    reached-now x i =
+        let (y, (j, e)) = tile-told g.items x i in
+        let P : ℕ → Type 0 = λ w. Reach mem (result ∷ []) w in
+        subst P (sym e) (all-reached (suc y.place) y j (omega arith))
+
   left-none : flat_of_parts g.after ≡ 0
   left-none = ap flat_of_parts (spread-none p.start top g.after g.further)
 
-  pub whole : (result : ℕ) → IsCopiedWord p known p.word result → (Goes p p.word → result / 4 ≡ p.top) → CopiesTree p mem top result
+  pub whole : (result : ℕ) → IsCopiedWord p known p.word result → (Goes p p.word → result / 4 ≡ p.top) → ((Goes p p.word → ⊥) → top ≡ p.top)
+      → AllAreLed p mem top g.items → CopiesTree p mem top result
   unfolding links-now
-  whole result im first =
+  whole result im first none led =
       let image : IsCopiedWord p g.items p.word result = image-more p known g.items p.word result g.has im in
       record {
         test = test;
@@ -643,6 +693,7 @@ module _ (p : Task) (known : List Item) (mem : List ℕ) (top : ℕ) (g : Copyin
         exact = λ none. omega (arith, g.exact none, left-none);
         tiles = tiles_of g.items;
         row = record { row = tiled p.top g.items g.row (λ x i. i); objects = tiles-pointers g.items (λ x i. i) };
+        reached = reached-now result image first none led;
         apart = apart-now;
         rooted = rooted-now result image first;
         alone = λ closed x r q. alone-told x (reach-alone closed result image x r q);
@@ -661,5 +712,6 @@ module _ (p : Task) (known : List Item) (mem : List ℕ) (top : ℕ) (g : Copyin
 pub ended : (p : Task) (mem : List ℕ) (at top result : ℕ) → Begun p mem at top result → top ≤ at → p.limit ≤ length p.start → CopiesTree p mem top result
 ended p mem at top result b over inside =
     let e : at ≡ top = omega (arith, over, spread-order p.start at b.on.after top b.on.further) in
-    let P : ℕ → Type 0 = λ a. Copying p b.known mem a a top 0 in
-    whole p b.known mem top (subst P e b.on) inside result b.image b.first
+    let P : ℕ → Type 0 = λ a. Leading p b.known mem a a top 0 in
+    let l : Leading p b.known mem top top top 0 = subst P e (record { on = b.on; led = b.led }) in
+    whole p b.known mem top l.on inside result b.image b.first b.none l.led

@@ -57,8 +57,8 @@ pub record PointsInto (mem : List ℕ) (ws : List ℕ) (from to q : ℕ) : Type 
 
 -- The new word stands for the tree, by a test that gives the new words the roles of objects and is as before elsewhere. From
 -- the first place that was free up to `top` lie new objects side by side, as many words as the tree is flat where nothing
--- stays; no two traced words of these point to one of them, and none to the object of the new word. Each new holder and fun
--- has `next` 0 and is counted by its record; all words but these counts are as before.
+-- stays. The new word reaches each of them; no two traced words of these point to one of them, and none to the object of the
+-- new word. Each new holder and fun has `next` 0 and is counted by its record; all words but these counts are as before.
 pub record CopiesTree (p : Task) (new : List ℕ) (top result : ℕ) : Type 0 where
   pub test : ℕ → ℕ → Bool
   pub more : (a k : ℕ) → p.test a k ≡ true → test a k ≡ true
@@ -72,6 +72,7 @@ pub record CopiesTree (p : Task) (new : List ℕ) (top result : ℕ) : Type 0 wh
   pub exact : ((q : ℕ) → p.stay q ≡ false) → top ≡ p.top + flat p.tree
   pub tiles : List ℕ
   pub row : AreObjects new p.top tiles top
+  pub reached : (x : ℕ) → In x tiles → Reach new (result ∷ []) x
   pub apart : (q r : ℕ) → PointsInto new tiles p.top top q → PointsInto new tiles p.top top r → slice_index new q / 4 ≡ slice_index new r / 4 → q ≡ r
   pub rooted : (q : ℕ) → PointsInto new tiles p.top top q → IsPointer result → slice_index new q / 4 ≡ result / 4 → ⊥
   pub alone : IsClosed p → (x : ℕ) → Reach new (result ∷ []) x → IsPointer x → ((p.top ≤ x / 4) × (x / 4 + object_words new x ≤ top)) ⊎ (p.stay (x / 4) ≡ true)

@@ -105,6 +105,22 @@ pub record Copying (p : Task) (known : List Item) (mem : List ℕ) (mark at top 
   pub used : top + (owed + flat_of_parts after) ≤ p.top + flat p.tree
   pub exact : ((q : ℕ) → p.stay q ≡ false) → top + (owed + flat_of_parts after) ≡ p.top + flat p.tree
 
+-- A traced word before the copy was replaced and points to it.
+pub record IsLedTo (p : Task) (mem : List ℕ) (mark : ℕ) (xs : List Item) (x : Item) : Type 0 where
+  pub from : ℕ
+  pub led : IsLed p mark xs from
+  pub there : slice_index mem from / 4 ≡ x.place
+  pub before : from < x.place
+
+-- A word leads to each copy, but for the first one, the root's.
+abbrev pub AllAreLed : Task → List ℕ → (mark : ℕ) → List Item → Type 0
+AllAreLed p mem mark xs = (x : Item) → Among x xs → (x.place ≡ p.top) ⊎ IsLedTo p mem mark xs x
+
+-- A copy on the way where a word leads to each object that was copied.
+pub record Leading (p : Task) (known : List Item) (mem : List ℕ) (mark at top owed : ℕ) : Type 0 where
+  pub on : Copying p known mem mark at top owed
+  pub led : AllAreLed p mem mark on.items
+
 -- The words from place q on stand for the trees in order, in the memory that the copy began with.
 abbrev pub Pends : Task → List ℕ → ℕ → Trees → Type 0
 Pends p mem q end = Unit {0}
@@ -113,6 +129,7 @@ Pends p mem q (t ▹ ts) = Stands p.test p.shared p.start (slice_index mem q) t 
 -- The words from a mark up to place `at`, the last of a copy, are left, and stand for these trees.
 pub record Scanning (p : Task) (known : List Item) (mem : List ℕ) (mark at top : ℕ) (rest : Trees) : Type 0 where
   pub on : Copying p known mem mark at top (flat_of_all rest)
+  pub led : AllAreLed p mem mark on.items
   pub pends : Pends p mem mark rest
   pub ends : mark + trees_len rest ≡ at
   pub item : Item
@@ -181,11 +198,13 @@ pub record CanPart (mem : List ℕ) (room : Room) (w : ℕ) : Type 0 where
   pub goes : Goes task w
   pub has : CopyHasRoom task room.end
 
--- A step of the copy has come to an image of the word, behind those that were written.
+-- A step of the copy has come to an image of the word, behind those that were written; the image leads to a copy to which no
+-- other word does.
 pub record HasImage (p : Task) (known : List Item) (mem : List ℕ) (mark at top owed w x : ℕ) : Type 0 where
   pub on : Copying p known mem mark at top owed
   pub image : IsCopiedWord p on.items w x
   pub later : (q : ℕ) → IsLed p mark on.items q → slice_index mem q / 4 < x / 4
+  pub led : (z : Item) → Among z on.items → (z.place ≡ x / 4) ⊎ ((z.place ≡ p.top) ⊎ IsLedTo p mem mark on.items z)
 
 -- The words from a place up to another are gone through next.
 pub record CanScanRest (mem : List ℕ) (room : Room) (stay : ℕ → Bool) (mark at : ℕ) (rest : Trees) : Type 0 where
@@ -211,14 +230,18 @@ pub record CanWords (mem : List ℕ) (room : Room) (stay : ℕ → Bool) (mark a
 pub record CanScanObject (mem : List ℕ) (room : Room) (stay : ℕ → Bool) (at : ℕ) : Type 0 where
   pub task : Task
   pub known : List Item
-  pub on : Copying task known mem at at room.top 0
+  pub on : Leading task known mem at at room.top 0
   pub some : at < room.top
   pub has : CopyHasRoom task room.end
   pub same_stay : IsStay task stay
 
 -- The root has an image by the copies that are known, the first copy where it is copied, and the parts of all copies are left.
+-- Where the root is not copied, nothing is.
 pub record Begun (p : Task) (mem : List ℕ) (at top result : ℕ) : Type 0 where
   pub known : List Item
   pub image : IsCopiedWord p known p.word result
   pub first : Goes p p.word → result / 4 ≡ p.top
   pub on : Copying p known mem at at top 0
+  pub led : AllAreLed p mem at on.items
+  pub past : p.top ≤ at
+  pub none : (Goes p p.word → ⊥) → top ≡ p.top

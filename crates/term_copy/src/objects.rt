@@ -5,7 +5,7 @@ ghost use Rattle.plain_term.specs.Measures.{flat};
 ghost use Rattle.term_words.specs.Object.{object_words};
 ghost use Rattle.term_words.specs.Stands.{Stands};
 ghost use Rattle.term_copy.specs.Copied.{Task};
-ghost use Rattle.term_copy.specs.Going.{Advances, CanPart, CanTake, Copying, Goes, HasImage, Item, Took};
+ghost use Rattle.term_copy.specs.Going.{Advances, CanPart, CanTake, Goes, HasImage, Item, Leading, Took};
 
 use object_rows::is_link_word;
 use off_heap_list::chain;
@@ -17,7 +17,7 @@ pub fn copy_part(mem: &mut WordMem, room: &mut Room, w: u64) -> u64
     requires { CanPart mem.old room.old w }
     ensures room { Advances room.old room.new }
     ensures place { result / 4 ≡ room.old.top }
-    ensures each { (p : Task) (known : List Item) (mark at owed : ℕ) (u : Tree) → Copying p known mem.old mark at room.old.top (flat u + owed)
+    ensures each { (p : Task) (known : List Item) (mark at owed : ℕ) (u : Tree) → Leading p known mem.old mark at room.old.top (flat u + owed)
         → Stands p.test p.shared p.start w u → Goes p w → HasImage p known mem.new mark at room.new.top owed w result }
 {
     let _len = mem.len();

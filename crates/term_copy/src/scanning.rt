@@ -5,7 +5,7 @@ ghost use Rattle.plain_term.specs.Tree.Trees.{◌▹◌};
 ghost use Rattle.term_words.specs.Object.{IsPointer};
 ghost use Rattle.cheney.specs.Ranges.{stays};
 ghost use Rattle.term_copy.specs.Copied.{Task};
-ghost use Rattle.term_copy.specs.Going.{Advances, CanScanObject, CanWord, CanWords, Copying, IsStay, Item, Scanning};
+ghost use Rattle.term_copy.specs.Going.{Advances, CanScanObject, CanWord, CanWords, IsStay, Item, Leading, Scanning};
 
 use crate::objects::copy_part;
 use cheney::Stay;
@@ -18,8 +18,8 @@ pub fn scan_object(mem: &mut WordMem, room: &mut Room, stay: &Stay, at: u64) -> 
     requires { CanScanObject mem.old room.old (stays stay.now) at }
     ensures room { Advances room.old room.new }
     ensures further { at < result }
-    ensures each { (p : Task) (known : List Item) → IsStay p (stays stay.now) → Copying p known mem.old at at room.old.top 0
-        → Copying p known mem.new result result room.new.top 0 }
+    ensures each { (p : Task) (known : List Item) → IsStay p (stays stay.now) → Leading p known mem.old at at room.old.top 0
+        → Leading p known mem.new result result room.new.top 0 }
 {
     let _len = mem.len();
     let word = mem.get(at);
@@ -39,7 +39,7 @@ fn scan_words(mem: &mut WordMem, room: &mut Room, stay: &Stay, from: u64, to: u6
     requires { CanWords mem.old room.old (stays stay.now) from to }
     ensures room { Advances room.old room.new }
     ensures each { (p : Task) (known : List Item) (rest : Trees) → IsStay p (stays stay.now) → Scanning p known mem.old from to room.old.top rest
-        → Copying p known mem.new to to room.new.top 0 }
+        → Leading p known mem.new to to room.new.top 0 }
 {
     let mut at = from;
     while at < to {

@@ -1,9 +1,10 @@
 -- Lists without repetition of objects and of other things that take words, and places that are counted.
-use Rattle.std.specs.Prelude.{◌≡◌, ℕ, zero, suc, ◌+◌, ◌*◌, ◌<◌, ◌≤◌, ◌⊎◌, if◌then◌else◌, Bool, true, List, [], ◌∷◌}
+use Rattle.std.specs.Prelude.{◌≡◌, ℕ, zero, suc, ◌+◌, ◌-◌, ◌*◌, ◌/◌, ◌<◌, ◌≤◌, ◌⊎◌, if◌then◌else◌, Bool, true, List, [], ◌∷◌, slice_index}
 use Rattle.plain_term.specs.Tree.{Tree}
-use Rattle.term_words.specs.Object.{IsPointer, IsRecord}
+use Rattle.plain_term.specs.Measures.{flat}
+use Rattle.term_words.specs.Object.{IsPointer, IsRecord, object_words}
 use Rattle.term_words.specs.Stands.{Stands}
-use Rattle.term_words.specs.Reach.{Reach}
+use Rattle.term_words.specs.Reach.{Reach, first_traced}
 
 -- The word is in the list.
 abbrev pub In : ℕ → List ℕ → Type 0
@@ -19,6 +20,23 @@ Distinct (v ∷ vs) = (In v vs → ⊥) × Distinct vs
 abbrev pub total : (ℕ → ℕ) → List ℕ → ℕ
 total size [] = 0
 total size (v ∷ vs) = size v + total size vs
+
+-- What n words from a place on owe together, where it is said what each word owes.
+abbrev pub owed_row : (owed : ℕ → ℕ) → List ℕ → (at n : ℕ) → ℕ
+owed_row owed mem at zero = 0
+owed_row owed mem at (suc n) = owed (slice_index mem at) + owed_row owed mem (at + 1) n
+
+-- The words of an object, and what its traced words owe.
+abbrev pub words_and_owed : (owed : ℕ → ℕ) → List ℕ → ℕ → ℕ
+words_and_owed owed mem v = object_words mem v + owed_row owed mem (v / 4 + first_traced mem v) (object_words mem v - first_traced mem v)
+
+-- A word that refers to a place of a set owes the flat words of its tree, and no other word owes any; what stands at these
+-- places refers to these alone.
+pub record OwesReferences (c : ℕ → ℕ → Bool) (shared : List (List ℕ)) (mem : List ℕ) (s : ℕ → Bool) (owed : ℕ → ℕ) : Type 0 where
+  pub closed : (v k : ℕ) (t : Tree) → Stands c shared mem v t → IsPointer v → s (v / 4) ≡ true → first_traced mem v ≤ k → k < object_words mem v
+      → IsPointer (slice_index mem (v / 4 + k)) → s (slice_index mem (v / 4 + k) / 4) ≡ true
+  pub into : (v : ℕ) (t : Tree) → Stands c shared mem v t → IsPointer v → s (v / 4) ≡ true → owed v ≡ flat t
+  pub others : (v : ℕ) → (IsPointer v → s (v / 4) ≡ true → ⊥) → owed v ≡ 0
 
 -- The objects that the roots reach, each once.
 pub record Listed (mem roots : List ℕ) : Type 0 where

@@ -1,7 +1,7 @@
 -- What keeps trees standing while the memory changes.
 use Rattle.std.specs.Prelude.{◌≡◌, ℕ, ◌≤◌, Bool, true, List, length, slice_index}
 use Rattle.plain_term.specs.Tree.{Tree}
-use Rattle.term_words.specs.Role.{NEXT, FIRST, FURTHER, NAMES, IsContent}
+use Rattle.term_words.specs.Role.{NEXT, FIRST, FURTHER, NAMES, IsContent, IsInSight}
 use Rattle.term_words.specs.Stands.{Stands}
 use Rattle.term_words.specs.Object.{IsBinRecord, IsFunRecord}
 
@@ -14,6 +14,12 @@ pub record Kept (c d : ℕ → ℕ → Bool) (old new : List ℕ) : Type 0 where
   pub longer : length old ≤ length new
   pub weaker : (a k : ℕ) → c a k ≡ true → d a k ≡ true
   pub same : (a k : ℕ) → IsContent k → c a k ≡ true → slice_index new a ≡ slice_index old a
+
+-- Two memories agree in what an owner sees: the second test allows no less of it, and its content is the same.
+pub record AgreeInSight (c d : ℕ → ℕ → Bool) (own common : ℕ → Bool) (old new : List ℕ) : Type 0 where
+  pub longer : length old ≤ length new
+  pub roles : (a k : ℕ) → IsInSight own common a k → c a k ≡ true → d a k ≡ true
+  pub words : (a k : ℕ) → IsInSight own common a k → IsContent k → c a k ≡ true → slice_index new a ≡ slice_index old a
 
 -- The words of objects are the same; what names a record names one with the same content, though
 -- perhaps at another place.

@@ -41,6 +41,10 @@ OfObject k = (k ≡ NEXT) ⊎ ((FIRST ≤ k) × (k ≤ NAMES))
 abbrev pub OfRecord : ℕ → Type 0
 OfRecord k = (k ≡ COUNT) ⊎ ((k ≡ RECORD) ⊎ (k ≡ RECORD_FIRST))
 
+-- It is one of these.
+abbrev pub is_of_record : ℕ → Bool
+is_of_record k = k == COUNT || (k == RECORD || k == RECORD_FIRST)
+
 -- Every word may have every role.
 abbrev pub always : ℕ → ℕ → Bool
 always a k = true
@@ -52,6 +56,18 @@ outside top limit a k = nat_lt a top || nat_le limit a
 -- What both tests allow.
 abbrev pub both : (c d : ℕ → ℕ → Bool) → ℕ → ℕ → Bool
 both c d a k = c a k && d a k
+
+-- What an owner sees: words at its own places, words at places that it has in common with others, and records, wherever they lie.
+unfoldable pub sees : (own common : ℕ → Bool) → ℕ → ℕ → Bool
+sees own common a k = own a || (common a || is_of_record k)
+
+-- What the test allows of what an owner sees.
+abbrev pub by : (c : ℕ → ℕ → Bool) → (own common : ℕ → Bool) → ℕ → ℕ → Bool
+by c own common = both c (sees own common)
+
+-- The place is one of the owner's, or is common, or the role is that of a record's word.
+abbrev pub IsInSight : (own common : ℕ → Bool) → ℕ → ℕ → Type 0
+IsInSight own common a k = (own a ≡ true) ⊎ ((common a ≡ true) ⊎ OfRecord k)
 
 -- Each place has one role, 0 for none.
 unfoldable pub roles_of : (ℕ → ℕ) → ℕ → ℕ → Bool

@@ -1,11 +1,12 @@
 -- Whole objects and records side by side, read by their first words. A tile is an object's pointer, or 4 times the place
 -- of a record.
-use Rattle.std.specs.Prelude.{◌≡◌, ℕ, ◌+◌, ◌/◌, ◌%◌, ◌≤◌, ◌⊎◌, ◌==◌, if◌then◌else◌, List, [], ◌∷◌, slice_index, Some}
+use Rattle.std.specs.Prelude.{◌≡◌, ℕ, ◌+◌, ◌-◌, ◌*◌, ◌/◌, ◌%◌, ◌≤◌, ◌⊎◌, ◌==◌, if◌then◌else◌, List, [], ◌∷◌, slice_index, Some}
 use Rattle.term_tags.specs.Table.{layout_for}
 use Rattle.term_tags.specs.declared.layouts.Layout.{Layout}
 use Rattle.term_tags.specs.Words.{record_word}
 use Rattle.term_tags.specs.declared.records.TheConstants.{BIN_RECORD, FUN_RECORD}
 use Rattle.term_words.specs.Object.{object_words}
+use Rattle.term_words.specs.Counted.{In}
 
 -- The header of a record: 4 words at least for the bytes of a binary, 4 for a fun.
 abbrev pub IsRecordHeader : ℕ → Type 0
@@ -25,3 +26,15 @@ IsTile mem w = ((w % 4 ≡ 1) × (slice_index mem (w / 4) % 4 ≡ 0 → ⊥))
 abbrev pub Tiled : List ℕ → (from : ℕ) → (tiles : List ℕ) → (to : ℕ) → Type 0
 Tiled mem from [] to = from ≡ to
 Tiled mem from (w ∷ ws) to = (w / 4 ≡ from) × IsTile mem w × Tiled mem (from + tile_words mem w) ws to
+
+-- What a tile is read by stands at the other place: the tag of a cons's first word, the whole first word of what is no cons.
+pub record IsTileAt (old new : List ℕ) (w at : ℕ) : Type 0 where
+  pub cons : w % 4 ≡ 1 → slice_index new at % 4 ≡ slice_index old (w / 4) % 4
+  pub others : (w % 4 ≡ 1 → ⊥) → slice_index new at ≡ slice_index old (w / 4)
+
+-- The tiles between two places move with these by one shift: what each is read by stands at its new place, to which its new
+-- word leads.
+pub record MoveAsOne (old new : List ℕ) (f g : ℕ → ℕ) (from to : ℕ) (ws : List ℕ) : Type 0 where
+  pub shift : (q : ℕ) → from ≤ q → q ≤ to → g q ≡ g from + (q - from)
+  pub words : (w : ℕ) → In w ws → f w ≡ g (w / 4) * 4 + w % 4
+  pub read : (w : ℕ) → In w ws → IsTileAt old new w (g (w / 4))

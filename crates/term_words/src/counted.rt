@@ -7,7 +7,7 @@ ghost use Rattle.term_words.specs.Object.{IsPointer, object_words};
 ghost use Rattle.term_words.specs.Stands.{AllStand};
 ghost use Rattle.term_words.specs.Reach.{Reach};
 ghost use Rattle.term_words.specs.Tiled.{tile_words};
-ghost use Rattle.term_words.specs.Counted.{In, Distinct, total, count, Listed, ArePacked, TileStands};
+ghost use Rattle.term_words.specs.Counted.{In, Distinct, total, words_and_owed, OwesReferences, count, Listed, ArePacked, TileStands};
 
 /// Each object that standing roots reach has at most the flat words of their trees.
 pub fn flat_size_covers_objects()
@@ -21,6 +21,16 @@ pub fn flat_size_covers_lists_of_objects()
     ensures words { (c : ℕ → ℕ → Bool) (shared : List (List ℕ)) (mem roots : List ℕ) (ts : Trees) (vs : List ℕ) → AllStand c shared mem roots ts → Distinct vs
         → ((v : ℕ) → In v vs → IsPointer v × Reach mem roots v) → total (object_words mem) vs ≤ flat_of_all ts }
     ensures listed { (c : ℕ → ℕ → Bool) (shared : List (List ℕ)) (mem roots : List ℕ) (ts : Trees) → AllStand c shared mem roots ts → Listed mem roots }
+{}
+
+/// Where words that refer to a set of places owe the flat words of their trees, and what stands there refers to that set alone:
+/// a list without repetition of reached objects outside it takes, with what their traced words and the roots owe, at most the
+/// flat words of the roots' trees together. What would be copied to each place that refers to the set is within these.
+pub fn flat_size_covers_references()
+    ensures { (c : ℕ → ℕ → Bool) (shared : List (List ℕ)) (mem roots : List ℕ) (ts : Trees) (vs : List ℕ) (s : ℕ → Bool) (owed : ℕ → ℕ)
+        → AllStand c shared mem roots ts → OwesReferences c shared mem s owed → Distinct vs
+        → ((v : ℕ) → In v vs → IsPointer v × (Reach mem roots v × (s (v / 4) ≡ false)))
+        → total (words_and_owed owed mem) vs + total owed roots ≤ flat_of_all ts }
 {}
 
 /// What is one or apart and lies at places that pass a test takes at most as many words as places pass; and where each

@@ -1,9 +1,9 @@
 // Words and objects in a row.
-ghost use Rattle.std.specs.Prelude.{◌≡◌, ℕ, Bool, List, [], ◌∷◌, ◌+◌, ◌*◌, ◌/◌, ◌<◌, ◌≤◌, ◌++◌, length, slice_index};
+ghost use Rattle.std.specs.Prelude.{◌≡◌, ℕ, Bool, List, [], ◌∷◌, ◌+◌, ◌*◌, ◌/◌, ◌<◌, ◌≤◌, ◌++◌, length, map, slice_index};
 ghost use Rattle.plain_term.specs.Tree.{Tree, Trees, trees_append, trees_len};
 ghost use Rattle.term_words.specs.Object.{IsPointer, IsRecord, object_words};
 ghost use Rattle.term_words.specs.Stands.{tree_at, Stands, RowStands, AllStand};
-ghost use Rattle.term_words.specs.Tiled.{Tiled};
+ghost use Rattle.term_words.specs.Tiled.{MoveAsOne, Tiled};
 ghost use Rattle.term_words.specs.Counted.{In};
 
 /// Two lists of words stand for two lists of trees exactly where they stand for both side by side.
@@ -39,4 +39,11 @@ pub fn tiles_lie_side_by_side()
     ensures joined { (mem : List ℕ) (a b e : ℕ) (xs ys : List ℕ) → Tiled mem a xs b → Tiled mem b ys e → Tiled mem a (xs ++ ys) e }
     ensures same { (old new : List ℕ) (a b : ℕ) (ws : List ℕ) → ((q : ℕ) → a ≤ q → q < b → slice_index new q ≡ slice_index old q) → Tiled old a ws b
         → Tiled new a ws b }
+{}
+
+/// A row of whole objects and records that moves as a block is a row at its new places: a heap that slides, a block that is
+/// copied elsewhere. Only what tiles are read by has to stand there, so traced words may be images by then.
+pub fn moved_tiles_lie_side_by_side()
+    ensures { (old new : List ℕ) (f g : ℕ → ℕ) (from to : ℕ) (ws : List ℕ) → MoveAsOne old new f g from to ws → Tiled old from ws to
+        → Tiled new (g from) (map f ws) (g to) }
 {}

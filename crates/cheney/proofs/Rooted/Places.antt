@@ -23,7 +23,7 @@ use Rattle.cheney.proofs.Stepping.Steps.{later-same, later-then, later-wider}
 first-place : (from step : ℕ) → from ≡ from + 0 * step
 first-place from step = omega arith
 
-next-place : (from step j : ℕ) → from + step + j * step ≡ from + suc j * step
+pub next-place : (from step j : ℕ) → from + step + j * step ≡ from + suc j * step
 next-place from step j = omega (arith, suc-mul j step)
 
 pub word-at : (m : List ℕ) (from step n j : ℕ) → j < n → get_or (words_at m from step n) j 0 ≡ get_or m (from + j * step) 0

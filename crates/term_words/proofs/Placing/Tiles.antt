@@ -1,5 +1,5 @@
 -- Rows of whole objects and records.
-use Rattle.std.proofs.Common.{◌≡◌, ℕ, ◌+◌, ◌-◌, ◌*◌, ◌/◌, ◌%◌, ◌<◌, ◌≤◌, ◌⊎◌, Bool, true, false, List, [], ◌∷◌, ◌++◌, length, get_or, refl, sym, ◌∙◌, ap, subst, arith, inl, inr, ℤ, pos, negsuc, Some, nat_le, ◌==◌, if◌then◌else◌}
+use Rattle.std.proofs.Common.{◌≡◌, ℕ, ◌+◌, ◌-◌, ◌*◌, ◌/◌, ◌%◌, ◌<◌, ◌≤◌, ◌⊎◌, Bool, true, false, List, [], ◌∷◌, ◌++◌, map, length, get_or, refl, sym, ◌∙◌, ap, subst, arith, inl, inr, ℤ, pos, negsuc, Some, nat_le, ◌==◌, if◌then◌else◌}
 use Rattle.std.proofs.lemmas.Bool.Decides.{nat_tests}
 use Rattle.plain_term.specs.Measures.{bin_words}
 use Rattle.plain_term.specs.Tree.{Tree, trees_len, pairs_len}
@@ -8,8 +8,9 @@ use Rattle.term_tags.specs.Table.{layout_for, layout_at, row_layout}
 use Rattle.term_tags.specs.declared.layouts.Layout.{Layout}
 use Rattle.term_words.specs.Object.{IsInt, IsRecord, IsPointer, object_words}
 use Rattle.term_words.specs.Stands.{Stands}
-use Rattle.term_words.specs.Tiled.{IsTile, Tiled, tile_words}
-use Rattle.term_words.proofs.Placing.Apart.{head-no-header}
+use Rattle.term_words.specs.Tiled.{IsTile, IsTileAt, MoveAsOne, Tiled, tile_words}
+use Rattle.term_words.specs.Counted.{In}
+use Rattle.term_words.proofs.Placing.Apart.{head-no-header, words-cons, words-header}
 use Rattle.term_words.proofs.Reaching.Reached.{layout-parts}
 use Rattle.term_words.proofs.Placing.Roles.{object-some}
 use Rattle.term_words.proofs.ByKind.Shapes.{told}
@@ -48,6 +49,52 @@ tiled-same old new a b (w ∷ ws) same (place, is, rest) =
     let P : ℕ → Type 0 = λ h. ((w % 4 ≡ 1) × (h % 4 ≡ 0 → ⊥)) ⊎ (((w % 4 ≡ 2) × ((l : Layout) × (layout_for h ≡ Some l))) ⊎ ((w % 4 ≡ 0) × (((4 ≤ h / 16) × (h % 16 ≡ 6)) ⊎ (h ≡ 71)))) in
     let Q : ℕ → Type 0 = λ n. Tiled new (a + n) ws b in
     (place, subst P word is, subst Q size (tiled-same old new (a + tile_words old w) b ws (λ q from below. same q (omega arith) below) rest))
+
+-- Tiles that move by one shift.
+
+tile-moved : (old new : List ℕ) (w x at : ℕ) → x ≡ at * 4 + w % 4 → IsTileAt old new w at → IsTile old w → IsTile new x × (tile_words new x ≡ tile_words old w)
+tile-moved old new w x at e r (inl (tag, head)) =
+    let place : x / 4 ≡ at = omega (arith, e) in
+    let same : get_or new (x / 4) 0 ≡ get_or new at 0 = ap (λ q. get_or new q 0) place in
+    let one : x % 4 ≡ 1 = omega (arith, e, tag) in (
+      inl (one, (λ z. head (omega (arith, z, same, r.cons tag)))),
+      object-tile new x (λ z. omega (arith, one, z)) ∙ words-cons new x one ∙ sym (words-cons old w tag) ∙ sym (object-tile old w (λ z. omega (arith, tag, z))),
+    )
+tile-moved old new w x at e r (inr (inl (tag, (l, layout)))) =
+    let place : x / 4 ≡ at = omega (arith, e) in
+    let same : get_or new (x / 4) 0 ≡ get_or old (w / 4) 0 = ap (λ q. get_or new q 0) place ∙ r.others (λ z. omega (arith, tag, z)) in
+    let two : x % 4 ≡ 2 = omega (arith, e, tag) in (
+      inr (inl (two, (l, ap layout_for same ∙ layout))),
+      object-tile new x (λ z. omega (arith, two, z)) ∙ words-header new x two ∙ ap (λ h. 1 + h / 64) same ∙ sym (words-header old w tag)
+          ∙ sym (object-tile old w (λ z. omega (arith, tag, z))),
+    )
+tile-moved old new w x at e r (inr (inr (tag, header))) =
+    let place : x / 4 ≡ at = omega (arith, e) in
+    let same : get_or new (x / 4) 0 ≡ get_or old (w / 4) 0 = ap (λ q. get_or new q 0) place ∙ r.others (λ z. omega (arith, tag, z)) in
+    let none : x % 4 ≡ 0 = omega (arith, e, tag) in
+    let P : ℕ → Type 0 = λ h. ((4 ≤ h / 16) × (h % 16 ≡ 6)) ⊎ (h ≡ 71) in (
+      inr (inr (none, subst P (sym same) header)),
+      record-tile new x none ∙ ap (λ h. h / 16) same ∙ sym (record-tile old w tag),
+    )
+
+moved-from : (old new : List ℕ) (f g : ℕ → ℕ) (from a to : ℕ) (ws : List ℕ) → ((q : ℕ) → from ≤ q → q ≤ to → g q ≡ g from + (q - from)) → from ≤ a
+    → ((w : ℕ) → In w ws → f w ≡ g (w / 4) * 4 + w % 4) → ((w : ℕ) → In w ws → IsTileAt old new w (g (w / 4))) → Tiled old a ws to → Tiled new (g a) (map f ws) (g to)
+moved-from old new f g from a to [] shift low words read same = ap g same
+moved-from old new f g from a to (w ∷ ws) shift low words read (place, is, rest) =
+    let (tile, size) = tile-moved old new w (f w) (g (w / 4)) (words w (inl refl)) (read w (inl refl)) is in
+    let there : g (w / 4) ≡ g a = ap g place in
+    let high : a + tile_words old w ≤ to = tiled-order old (a + tile_words old w) to ws rest in
+    let next : g (a + tile_words old w) ≡ g a + tile_words new (f w) =
+    omega (arith, shift (a + tile_words old w) (omega (arith, low)) high, shift a low (omega (arith, high)), size, low) in
+    let P : ℕ → Type 0 = λ q. Tiled new q (map f ws) (g to) in (
+      omega (arith, words w (inl refl), there),
+      tile,
+      subst P next (moved-from old new f g from (a + tile_words old w) to ws shift (omega (arith, low)) (λ v i. words v (inr i)) (λ v i. read v (inr i)) rest),
+    )
+
+-- A row that moves as a block is one at its new places.
+pub tiled-moved : (old new : List ℕ) (f g : ℕ → ℕ) (from to : ℕ) (ws : List ℕ) → MoveAsOne old new f g from to ws → Tiled old from ws to → Tiled new (g from) (map f ws) (g to)
+tiled-moved old new f g from to ws m row = moved-from old new f g from from to ws m.shift (omega arith) m.words m.read row
 
 -- The header of a standing object has a layout.
 

@@ -144,7 +144,7 @@ flat-at (t ▹ ts) zero below = omega arith
 flat-at (t ▹ ts) (suc i) below = omega (arith, flat-at ts i (omega arith))
 
 -- A traced word stands, for a tree within what is left of the flat words.
-part-stands : (c : ℕ → ℕ → Bool) (shared : List (List ℕ)) (mem : List ℕ) (w : ℕ) (t : Tree) (k : ℕ) → Stands c shared mem w t → IsPointer w → first_traced mem w ≤ k → k < object_words mem w
+pub part-stands : (c : ℕ → ℕ → Bool) (shared : List (List ℕ)) (mem : List ℕ) (w : ℕ) (t : Tree) (k : ℕ) → Stands c shared mem w t → IsPointer w → first_traced mem w ≤ k → k < object_words mem w
     → (u : Tree) × (Stands c shared mem (get_or mem (w / 4 + k) 0) u × (flat u ≤ flat t))
 part-stands c shared mem w t k s p from below =
     let scan : IsScanned c shared mem w t = scanned c shared mem w t s p in

@@ -1,16 +1,18 @@
--- The words of the objects that roots reach, each once, are at most the flat words of the roots' trees.
-use Rattle.std.proofs.Common.{◌≡◌, ℕ, zero, suc, ◌+◌, ◌-◌, ◌/◌, ◌%◌, ◌<◌, ◌≤◌, ◌⊎◌, ◌==◌, Bool, false, List, [], ◌∷◌, length, get_or, refl, sym, ◌∙◌, ap, subst, arith, inl, inr}
+-- The words of the objects that roots reach, each once, and what their words and the roots owe for references that leave a set
+-- of places, are at most the flat words of the roots' trees.
+use Rattle.std.proofs.Common.{◌≡◌, ℕ, zero, suc, ◌+◌, ◌-◌, ◌/◌, ◌%◌, ◌<◌, ◌≤◌, ◌⊎◌, ◌==◌, Bool, false, List, [], ◌∷◌, length, get_or, refl, sym, ◌∙◌, ap, subst, arith, inl, inr, true}
 use Rattle.std.proofs.lemmas.Bool.Decides.{nat_tests}
+use Rattle.std.proofs.lemmas.Bool.{true≢false, cases_Bool}
 use Rattle.plain_term.specs.Measures.{flat_of_all}
-use Rattle.plain_term.specs.Tree.{Trees, trees_len, trees_append}
+use Rattle.plain_term.specs.Tree.{Tree, Trees, trees_len, trees_append}
 use Rattle.plain_term.specs.Tree.Trees.{end, ◌▹◌}
 use Rattle.plain_term.proofs.ListLemmas.{flat_of_all-append}
 use Rattle.term_words.specs.Object.{IsPointer, object_words}
 use Rattle.term_words.specs.Reach.{Reach, root, part, first_traced, parts_of}
-use Rattle.term_words.specs.Stands.{RowStands, AllStand}
-use Rattle.term_words.specs.Counted.{In, Distinct, total, Listed}
+use Rattle.term_words.specs.Stands.{Stands, RowStands, AllStand}
+use Rattle.term_words.specs.Counted.{In, Distinct, total, owed_row, words_and_owed, OwesReferences, Listed}
 use Rattle.term_words.proofs.Placing.Apart.{words-cons}
-use Rattle.term_words.proofs.Reaching.Reached.{scanned, IsScanned}
+use Rattle.term_words.proofs.Reaching.Reached.{scanned, IsScanned, part-stands}
 use Rattle.term_words.proofs.Totals.Members.{pointer-or-not, in-or-not, Less, less}
 
 module _ (mem : List ℕ) where
@@ -72,10 +74,6 @@ module _ (mem : List ℕ) where
   nothing v (root i y below e) = omega arith
   nothing v (part u k y r q from below e) = nothing u r
 
-  none-left : (vs : List ℕ) → ((v : ℕ) → In v vs → Reach mem [] v) → total (object_words mem) vs ≡ 0
-  none-left [] r = refl
-  none-left (v ∷ vs) r = absurd (nothing v (r v (inl refl)))
-
   pub words-some : (w : ℕ) → IsPointer w → 0 < object_words mem w
   words-some w (inl tag) = omega (arith, words-cons mem w tag)
   words-some w (inr tag) = let one : (w % 4 == 1) ≡ false = grind (arith, nat_tests) in rw one (omega arith)
@@ -83,32 +81,94 @@ module _ (mem : List ℕ) where
   not-same : (v w : ℕ) → (IsPointer w → ⊥) → IsPointer v → v ≡ w → ⊥
   not-same v w n p e = let P : ℕ → Type 0 = λ z. IsPointer z in n (subst P e p)
 
-  -- A bound on the work that is left goes down with each word.
-  bounded : (n : ℕ) (c : ℕ → ℕ → Bool) (shared : List (List ℕ)) (ws : List ℕ) (ts : Trees) → AllStand c shared mem ws ts → flat_of_all ts + length ws ≤ n
-      → (vs : List ℕ) → Distinct vs → ((v : ℕ) → In v vs → IsPointer v × Reach mem ws v) → total (object_words mem) vs ≤ flat_of_all ts
-  unfolding AllStand
-  bounded n c shared [] end all le vs d r = omega (arith, none-left vs (λ v i. (r v i).1))
-  bounded n c shared [] (t ▹ ts) all le vs d r = absurd all
-  bounded n c shared (w ∷ ws) end all le vs d r = absurd all
-  bounded zero c shared (w ∷ ws) (t ▹ ts) all le vs d r = absurd (omega arith)
-  bounded (suc n) c shared (w ∷ ws) (t ▹ ts) (s, all) le vs d r =
-      elim (pointer-or-not w) [
-        | inr nt ↦ (let low : total (object_words mem) vs ≤ flat_of_all ts = bounded n c shared ws ts all (omega arith) vs d (λ v i. (
-          (r v i).0,
-          elim (split-none w ws nt v (r v i).1) [ inl e ↦ absurd (not-same v w nt (r v i).0 e) | inr z ↦ z ],
-        )) in
-            omega (arith, low))
-        | inl y ↦ (let sc : IsScanned c shared mem w t = scanned c shared mem w t s y in
-            let o : Less (object_words mem) w vs = less (object_words mem) w vs d in
-            let some : 0 < object_words mem w = words-some w y in
-            let low : total (object_words mem) o.rest ≤ flat_of_all (trees_append (parts_of t) ts) =
-            bounded n c shared (onto (w / 4 + first_traced mem w) (parts_of t) ws) (trees_append (parts_of t) ts)
-            (all-onto c shared (w / 4 + first_traced mem w) (parts_of t) ws ts sc.row all)
-            (omega (arith, le, sc.left, sc.ends, some, flat_of_all-append (parts_of t) ts, length-onto (w / 4 + first_traced mem w) (parts_of t) ws))
-            o.rest o.once
-            (λ v i. ((r v (o.inner v i).0).0, elim (split w (parts_of t) ws sc.ends v (r v (o.inner v i).0).1) [ inl e ↦ absurd ((o.inner v i).1 e) | inr z ↦ z ])) in
-            omega (arith, low, o.words, sc.left, flat_of_all-append (parts_of t) ts))
-      ]
+  owed-onto : (owed : ℕ → ℕ) (p : ℕ) (ts : Trees) (ws : List ℕ) → total owed (onto p ts ws) ≡ owed_row owed mem p (trees_len ts) + total owed ws
+  unfolding onto
+  owed-onto owed p end ws = omega arith
+  owed-onto owed p (t ▹ ts) ws =
+      let one : trees_len (t ▹ ts) ≡ suc (trees_len ts) = omega arith in
+      let first : owed_row owed mem p (trees_len (t ▹ ts)) ≡ owed (get_or mem p 0) + owed_row owed mem (p + 1) (trees_len ts) = ap (λ n. owed_row owed mem p n) one in
+      omega (arith, first, owed-onto owed (p + 1) ts ws)
+
+  module _ (c : ℕ → ℕ → Bool) (shared : List (List ℕ)) (s : ℕ → Bool) (owed : ℕ → ℕ) (o : OwesReferences c shared mem s owed) where
+    weight : ℕ → ℕ
+    weight v = words_and_owed owed mem v
+
+    none-left : (vs : List ℕ) → ((v : ℕ) → In v vs → Reach mem [] v) → total weight vs ≡ 0
+    none-left [] r = refl
+    none-left (v ∷ vs) r = absurd (nothing v (r v (inl refl)))
+
+    weight-is : (w : ℕ) (t : Tree) → IsScanned c shared mem w t → weight w ≡ object_words mem w + owed_row owed mem (w / 4 + first_traced mem w) (trees_len (parts_of t))
+    unfolding weight
+    weight-is w t sc =
+        let left : object_words mem w - first_traced mem w ≡ trees_len (parts_of t) = omega (arith, sc.ends) in
+        ap (λ n. object_words mem w + owed_row owed mem (w / 4 + first_traced mem w) n) left
+
+    -- What a pointer into the set and other words reach lies in the set, or is reached from the other words.
+    leads : (w : ℕ) (t : Tree) (ws : List ℕ) → Stands c shared mem w t → IsPointer w → s (w / 4) ≡ true → (v : ℕ) → Reach mem (w ∷ ws) v
+        → (IsPointer v → (s (v / 4) ≡ true) × ((u : Tree) × Stands c shared mem v u)) ⊎ Reach mem ws v
+    leads w t ws st y here v (root zero x below e) = inl (λ p.
+        let P : ℕ → Type 0 = λ z. (s (z / 4) ≡ true) × ((u : Tree) × Stands c shared mem z u) in
+        subst P (sym e) (here, (t, st)))
+    leads w t ws st y here v (root (suc i) x below e) = inr (root i v (omega arith) e)
+    leads w t ws st y here v (part u k x r q from below e) = elim (leads w t ws st y here u r) [
+      | inr z ↦ inr (part u k v z q from below e)
+      | inl f ↦ inl (λ p.
+          let (inside, (a, stands)) = f q in
+          let (b, (part_is, less)) = part-stands c shared mem u a k stands q from below in
+          let P : ℕ → Type 0 = λ z. (s (z / 4) ≡ true) × ((n : Tree) × Stands c shared mem z n) in
+          let Q : ℕ → Type 0 = λ z. IsPointer z in
+          subst P (sym e) (o.closed u k a stands q inside from below (subst Q e p), (b, part_is)))
+    ]
+
+    beyond : (w : ℕ) (t : Tree) (ws : List ℕ) → Stands c shared mem w t → IsPointer w → s (w / 4) ≡ true → (v : ℕ) → Reach mem (w ∷ ws) v → IsPointer v → s (v / 4) ≡ false → Reach mem ws v
+    beyond w t ws st y here v r p out = elim (leads w t ws st y here v r) [ inr z ↦ z | inl f ↦ absurd (true≢false (sym (f p).0 ∙ out)) ]
+
+    -- A bound on the work that is left goes down with each word.
+    bounded : (n : ℕ) (ws : List ℕ) (ts : Trees) → AllStand c shared mem ws ts → flat_of_all ts + length ws ≤ n
+        → (vs : List ℕ) → Distinct vs → ((v : ℕ) → In v vs → IsPointer v × (Reach mem ws v × (s (v / 4) ≡ false))) → total weight vs + total owed ws ≤ flat_of_all ts
+    unfolding AllStand
+    bounded n [] end all le vs d r = omega (arith, none-left vs (λ v i. (r v i).1.0))
+    bounded n [] (t ▹ ts) all le vs d r = absurd all
+    bounded n (w ∷ ws) end all le vs d r = absurd all
+    bounded zero (w ∷ ws) (t ▹ ts) all le vs d r = absurd (omega arith)
+    bounded (suc n) (w ∷ ws) (t ▹ ts) (st, all) le vs d r =
+        elim (pointer-or-not w) [
+          | inr nt ↦ (let low : total weight vs + total owed ws ≤ flat_of_all ts = bounded n ws ts all (omega arith) vs d (λ v i. (
+            (r v i).0,
+            (elim (split-none w ws nt v (r v i).1.0) [ inl e ↦ absurd (not-same v w nt (r v i).0 e) | inr z ↦ z ], (r v i).1.1),
+          )) in
+              omega (arith, low, o.others w (λ p h. nt p)))
+          | inl y ↦ elim (cases_Bool (s (w / 4))) [
+            | inl here ↦ (let low : total weight vs + total owed ws ≤ flat_of_all ts =
+                bounded n ws ts all (omega arith) vs d (λ v i. ((r v i).0, (beyond w t ws st y here v (r v i).1.0 (r v i).0 (r v i).1.1, (r v i).1.1))) in
+                omega (arith, low, o.into w t st y here))
+            | inr out ↦ (let sc : IsScanned c shared mem w t = scanned c shared mem w t st y in
+                let l : Less weight w vs = less weight w vs d in
+                let some : 0 < object_words mem w = words-some w y in
+                let low : total weight l.rest + total owed (onto (w / 4 + first_traced mem w) (parts_of t) ws) ≤ flat_of_all (trees_append (parts_of t) ts) =
+                bounded n (onto (w / 4 + first_traced mem w) (parts_of t) ws) (trees_append (parts_of t) ts)
+                (all-onto c shared (w / 4 + first_traced mem w) (parts_of t) ws ts sc.row all)
+                (omega (arith, le, sc.left, sc.ends, some, flat_of_all-append (parts_of t) ts, length-onto (w / 4 + first_traced mem w) (parts_of t) ws))
+                l.rest l.once
+                (λ v i. (
+                  (r v (l.inner v i).0).0,
+                  (
+                    elim (split w (parts_of t) ws sc.ends v (r v (l.inner v i).0).1.0) [ inl e ↦ absurd ((l.inner v i).1 e) | inr z ↦ z ],
+                    (r v (l.inner v i).0).1.1,
+                  ),
+                )) in
+                omega (
+                  arith,
+                  low,
+                  l.words,
+                  sc.left,
+                  flat_of_all-append (parts_of t) ts,
+                  owed-onto owed (w / 4 + first_traced mem w) (parts_of t) ws,
+                  weight-is w t sc,
+                  o.others w (λ p h. true≢false (sym h ∙ out)),
+                ))
+          ]
+        ]
 
   -- A word of the row or of the others is one of these.
   onto-place : (p : ℕ) (ts : Trees) (ws : List ℕ) (i v : ℕ) → i < length (onto p ts ws) → v ≡ get_or (onto p ts ws) i 0
@@ -178,10 +238,29 @@ module _ (mem : List ℕ) where
             with-first w ws (onto (w / 4 + first_traced mem w) (parts_of t) ws) o y (split w (parts_of t) ws sc.ends) (back w (parts_of t) ws y sc.ends))
       ]
 
+pub references : (c : ℕ → ℕ → Bool) (shared : List (List ℕ)) (mem roots : List ℕ) (ts : Trees) (vs : List ℕ) (s : ℕ → Bool) (owed : ℕ → ℕ) → AllStand c shared mem roots ts
+    → OwesReferences c shared mem s owed → Distinct vs → ((v : ℕ) → In v vs → IsPointer v × (Reach mem roots v × (s (v / 4) ≡ false)))
+    → total (words_and_owed owed mem) vs + total owed roots ≤ flat_of_all ts
+unfolding weight
+references c shared mem roots ts vs s owed all o d r = bounded mem c shared s owed o (flat_of_all ts + length roots) roots ts all (omega arith) vs d r
+
+total-more : (f g : ℕ → ℕ) (vs : List ℕ) → ((v : ℕ) → f v ≤ g v) → total f vs ≤ total g vs
+total-more f g [] more = omega arith
+total-more f g (v ∷ vs) more = omega (arith, more v, total-more f g vs more)
+
+-- Where nothing is in the set, nothing is owed.
 pub flat-total : (c : ℕ → ℕ → Bool) (shared : List (List ℕ)) (mem roots : List ℕ) (ts : Trees) (vs : List ℕ) → AllStand c shared mem roots ts → Distinct vs
     → ((v : ℕ) → In v vs → IsPointer v × Reach mem roots v)
     → total (object_words mem) vs ≤ flat_of_all ts
-flat-total c shared mem roots ts vs all d r = bounded mem (flat_of_all ts + length roots) c shared roots ts all (omega arith) vs d r
+flat-total c shared mem roots ts vs all d r =
+    let none : OwesReferences c shared mem (λ q. false) (λ v. 0) = record {
+      closed = λ v k t st y h from below p. h;
+      into = λ v t st y h. absurd (true≢false (sym h));
+      others = λ v n. refl;
+    } in
+    let sum : total (words_and_owed (λ v. 0) mem) vs + total (λ v. 0) roots ≤ flat_of_all ts =
+    references c shared mem roots ts vs (λ q. false) (λ v. 0) all none d (λ v i. ((r v i).0, ((r v i).1, refl))) in
+    omega (arith, sum, total-more (object_words mem) (words_and_owed (λ v. 0) mem) vs (λ v. omega arith))
 
 pub listed : (c : ℕ → ℕ → Bool) (shared : List (List ℕ)) (mem roots : List ℕ) (ts : Trees) → AllStand c shared mem roots ts → Listed mem roots
 listed c shared mem roots ts all = listing mem (flat_of_all ts + length roots) c shared roots ts all (omega arith)

@@ -11,8 +11,8 @@ copy_part-requires c = record {
   at = c.args.room.now.top;
   owed = 0;
   tree = c.requires.can.tree;
-  on = begins (task_of c.args.mem.now c.args.room.now (stays c.args.stay.now) c.requires.can.test c.requires.can.shared c.args.w c.requires.can.tree) c.args.mem.now c.args.room.now.top
-      (can-begin c.args.mem.now c.args.room.now (stays c.args.stay.now) c.args.w c.requires.can) refl refl;
+  on = (begins (task_of c.args.mem.now c.args.room.now (stays c.args.stay.now) c.requires.can.test c.requires.can.shared c.args.w c.requires.can.tree) c.args.mem.now c.args.room.now.top
+      (can-begin c.args.mem.now c.args.room.now (stays c.args.stay.now) c.args.w c.requires.can) refl refl).on;
   standing = c.requires.can.standing;
   goes = goes-by (task_of c.args.mem.now c.args.room.now (stays c.args.stay.now) c.requires.can.test c.requires.can.shared c.args.w c.requires.can.tree) (stays c.args.stay.now) c.args.w (λ q. refl)
       (c.goes.ensures.yes c.if-goes.true);

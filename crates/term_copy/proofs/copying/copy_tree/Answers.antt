@@ -4,7 +4,7 @@ use Rattle.plain_term.specs.Measures.{flat}
 use Rattle.cheney.specs.Ranges.{stays}
 use Rattle.term_words.proofs.Placing.Single.{single}
 use Rattle.term_copy.specs.Copied.{Task}
-use Rattle.term_copy.specs.Going.{Begun, ReadyToCopy}
+use Rattle.term_copy.specs.Going.{Begun, Leading, ReadyToCopy}
 use Rattle.term_copy.proofs.Stepping.{can-begin, can-room, room-has, room-then, task_of}
 use Rattle.term_copy.proofs.Whole.{ended}
 use Rattle.term_copy.proofs.copying.copy_tree.Goals as goal
@@ -22,7 +22,7 @@ scan_object-at-requires c =
     record {
       task = task_of c.args.mem.now c.args.room.now (stays c.args.stay.now) c.requires.can.test c.requires.can.shared c.args.w c.requires.can.tree;
       known = b.known;
-      on = b.on;
+      on = record { on = b.on; led = b.led };
       some = c.loop-at-test.true;
       has = room-has (task_of c.args.mem.now c.args.room.now (stays c.args.stay.now) c.requires.can.test c.requires.can.shared c.args.w c.requires.can.tree) c.args.room.now c.loop-at.room
           (can-room c.args.mem.now c.args.room.now (stays c.args.stay.now) c.args.w c.requires.can c.requires.places.inside) c.loop-at.invariant.room;
@@ -34,7 +34,17 @@ loop-at-preserved c = record {
   room = room-then c.args.room.now c.loop-at.room c.scan_object-at.new.room c.loop-at.invariant.room c.scan_object-at.ensures.room;
   each = λ p stay r start top word.
       let b : Begun p c.loop-at.mem c.loop-at.at c.loop-at.room.top c.copy_root-result.result = c.loop-at.invariant.each p stay r start top word in
-      record { known = b.known; image = b.image; first = b.first; on = c.scan_object-at.ensures.each p b.known stay b.on };
+      let l : Leading p b.known c.scan_object-at.new.mem c.scan_object-at.result c.scan_object-at.result c.scan_object-at.new.room.top 0 =
+      c.scan_object-at.ensures.each p b.known stay (record { on = b.on; led = b.led }) in
+      record {
+        known = b.known;
+        image = b.image;
+        first = b.first;
+        on = l.on;
+        led = l.led;
+        past = omega (arith, b.past, c.scan_object-at.ensures.further);
+        none = λ n. absurd (omega (arith, b.none n, b.past, c.loop-at-test.true));
+      };
 }
 
 pub returns-clause-places : goal.returns-clause-places

@@ -22,5 +22,5 @@ returns-clause-place c = omega (arith, c.copy_object.ensures.took.word)
 
 pub returns-clause-each : goal.returns-clause-each
 returns-clause-each c = λ p known mark at owed u g s goes.
-    took-image p known c.args.mem.now mark at c.args.room.now.top (flat u + owed) g c.args.w u owed refl s goes c.copy_object.new.mem c.copy_object.result c.copy_object.ensures.took
+    took-image p known c.args.mem.now mark at c.args.room.now.top (flat u + owed) g.on c.args.w u owed refl s goes c.copy_object.new.mem c.copy_object.result c.copy_object.ensures.took g.led
     c.copy_object.new.room.top (ap (λ r. r.top) c.copy_object.ensures.room)

@@ -42,7 +42,7 @@ returns-then-goes-clause-each c = λ p known to u rest stay s.
     (stands-at p known c.args.mem.now c.args.at to c.args.room.now.top u rest s c.get-w.result c.get-w.ensures)
     (goes-by p (stays c.args.stay.now) c.get-w.result stay (c.goes.ensures.yes c.if-goes.true)))
     (mark-memory c.requires.can.task c.requires.can.known c.args.mem.now c.args.at c.requires.at c.args.room.now.top c.requires.tree c.requires.rest c.requires.can.on c.requires.can.has.inside)
-    c.set.ensures c.copy_part-new.ensures.place
+    c.set.ensures c.copy_part-new.ensures.place (goes-by p (stays c.args.stay.now) c.get-w.result stay (c.goes.ensures.yes c.if-goes.true))
 
 pub returns-else-goes-clause-each : goal.returns-else-goes-clause-each
 returns-else-goes-clause-each c = λ p known to u rest stay s.
