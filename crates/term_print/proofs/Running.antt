@@ -61,6 +61,22 @@ cell-gathered c shared mem names place next v w i ts ev ew small cons r =
     let tail = opens c shared mem names w true r.tail (look.Cons next) (cons.each c shared r.tail (subst (Q r.tail) (sym ew) r.tail_stands)) in
     subst P (sym r.two) (two-gathered c shared mem names place next i r.head r.tail head tail)
 
+-- A place with a small integer, of which its tail is left.
+pub last-gathered : (c : ℕ → ℕ → Bool) (shared : List (List ℕ)) (mem : List ℕ) (names : List (List ℕ)) (place v : ℕ) (i : ℤ) (ts : Trees) → v ≡ get_or mem place 0
+    → Sees mem v (look.Small i) → AreTwo c shared mem place ts → Gathers c shared mem names (level.List place) (level.Tail (place + 1)) (signed_decimal i) ts
+last-gathered c shared mem names place v i ts ev small r =
+    let P : Trees → Type 0 = λ z. Gathers c shared mem names (level.List place) (level.Tail (place + 1)) (signed_decimal i) z in
+    let Q : Tree → ℕ → Type 0 = λ t z. Stands c shared mem z t in
+    let head = opens c shared mem names v false r.head (look.Small i) (small.each c shared r.head (subst (Q r.head) (sym ev) r.head_stands)) in
+    subst P (sym r.two) (record {
+      rest = r.tail ▹ end;
+      left = record { tree = r.tail; one = refl; within = omega (arith, r.within); standing = r.tail_stands };
+      whole = ap (λ z. z ++ text_as names shared true r.tail) head;
+      fewer = omega arith;
+      deep = omega arith;
+      named = λ p. (and_parts (is_named (length names) r.head) (are_named (length names) (r.tail ▹ end)) p).1;
+    })
+
 -- What a look at a list asks for.
 
 pub gather-within : (mem : List ℕ) (place : ℕ) → CanGather mem (level.List place) → place + 2 ≤ length mem

@@ -16,8 +16,8 @@ pub const ROOM: usize = 256;
 // A run ends once this many are; a number and its comma have room then.
 const ENOUGH: usize = 192;
 
-/// Gathers what a level begins with: of a list the small integers at its front, each with its comma, as far as the text
-/// holds them. Answers what is left.
+/// Gathers what a level begins with: of a list the small integers at its front, each with its comma where the list goes on,
+/// as far as the text holds them. Answers what is left.
 pub fn gather(mem: &WordMem, level: Level, text: &mut ArrayVec<u8, ROOM>) -> Level
     requires { CanGather mem.now level }
     ensures { (c : ℕ → ℕ → Bool) (shared names : List (List ℕ)) (ts : Trees) → IsLeft c shared mem.now level ts
@@ -25,34 +25,34 @@ pub fn gather(mem: &WordMem, level: Level, text: &mut ArrayVec<u8, ROOM>) -> Lev
 {
     text.clear();
     if let Level::List(place) = level {
-        return Level::List(gather_list(mem, place, text));
+        return gather_list(mem, place, text);
     }
     level
 }
 
-// The same of a list, to an empty text. Answers the place of the list that is left.
-fn gather_list(mem: &WordMem, place: u64, text: &mut ArrayVec<u8, ROOM>) -> u64
+// The same of a list, to an empty text. Behind an integer that is not followed by a cell its tail is left.
+fn gather_list(mem: &WordMem, place: u64, text: &mut ArrayVec<u8, ROOM>) -> Level
     requires list { CanGather mem.now (Level.List place) }
     requires empty { text.old.items ≡ [] }
     ensures { (c : ℕ → ℕ → Bool) (shared names : List (List ℕ)) (ts : Trees) → AreTwo c shared mem.now place ts
-        → Gathers c shared mem.now names (Level.List place) (Level.List result) text.new.items ts }
+        → Gathers c shared mem.now names (Level.List place) result text.new.items ts }
 {
     let _len = mem.len();
     let mut buffer = Buffer::new();
     let mut at = place;
     while text.len() < ENOUGH {
         let Kind::Small(i) = kind_of(mem.get(at)) else {
-            return at;
-        };
-        let Kind::ListAt(next) = kind_of(mem.get(at + 1)) else {
-            return at;
+            return Level::List(at);
         };
         let digits = buffer.format(i);
         let Ok(()) = text.try_extend_from_slice(digits.as_bytes()) else {
-            return at;
+            return Level::List(at);
+        };
+        let Kind::ListAt(next) = kind_of(mem.get(at + 1)) else {
+            return Level::Tail(at + 1);
         };
         text.push(b',');
         at = next;
     }
-    at
+    Level::List(at)
 }
