@@ -1,21 +1,26 @@
 -- What is gathered of a list.
-use Rattle.std.proofs.Common.{◌≡◌, ℕ, ◌+◌, ◌≤◌, Bool, true, false, List, [], ◌++◌, codes, length, get_or, refl, sym, ap, ◌∙◌, subst, arith, append_assoc, ℤ}
+use Rattle.std.proofs.Common.{◌≡◌, ℕ, ◌+◌, ◌<◌, ◌≤◌, Bool, true, false, List, [], ◌++◌, codes, length, get_or, refl, sym, ap, ◌∙◌, subst, arith, append_assoc, ℤ}
 use Rattle.std.proofs.lemmas.Bool.{and_parts}
 use Rattle.std.specs.Fmt.{signed_decimal}
 use Rattle.plain_term.specs.Tree.{Tree, Trees}
 use Rattle.plain_term.specs.Tree.Trees.{end, ◌▹◌}
 use Rattle.plain_term.specs.Text.{text_as}
 use Rattle.term_words.specs.Role.{always}
-use Rattle.term_words.specs.Stands.{Stands}
+use Rattle.term_words.specs.Stands.{Stands, RowStands}
+use Rattle.term_read.specs.declared.looks.Row.{Row}
+use Rattle.term_walk.specs.Left.{RowStandsFor, row_after}
 use Rattle.term_read.specs.Look.{Sees}
 use Rattle.term_read.specs.declared.looks.Look.TheVariants as look
 use Rattle.term_order.specs.Named.{is_named, are_named}
+use Rattle.term_print.specs.declared.levels.Mark.{Mark}
+use Rattle.term_print.specs.declared.levels.Mark.TheVariants.{Comma}
 use Rattle.term_print.specs.declared.levels.Level.{Level}
 use Rattle.term_print.specs.declared.levels.Level.TheVariants as level
-use Rattle.term_print.specs.Left.{AreTwo, IsLeft, level_text, list_text}
+use Rattle.term_print.specs.Left.{AreTwo, IsLeft, mark_text, closing_text, row_text, level_text, list_text}
 use Rattle.term_print.specs.Printed.{LevelHasParts}
 use Rattle.term_print.specs.Runs.{CanGather, Gathers}
 use Rattle.term_print.proofs.Opening.{opens}
+use Rattle.term_print.proofs.Taking.{regroup}
 
 -- Nothing is gathered.
 pub gathers-none : (c : ℕ → ℕ → Bool) (shared : List (List ℕ)) (mem : List ℕ) (names : List (List ℕ)) (l m : Level) (came : List ℕ) (ts : Trees) → l ≡ m → came ≡ [] → IsLeft c shared mem l ts
@@ -61,6 +66,42 @@ cell-gathered c shared mem names place next v w i ts ev ew small cons r =
     let tail = opens c shared mem names w true r.tail (look.Cons next) (cons.each c shared r.tail (subst (Q r.tail) (sym ew) r.tail_stands)) in
     subst P (sym r.two) (two-gathered c shared mem names place next i r.head r.tail head tail)
 
+-- A place with a small integer, of which its tail is left.
+pub last-gathered : (c : ℕ → ℕ → Bool) (shared : List (List ℕ)) (mem : List ℕ) (names : List (List ℕ)) (place v : ℕ) (i : ℤ) (ts : Trees) → v ≡ get_or mem place 0
+    → Sees mem v (look.Small i) → AreTwo c shared mem place ts → Gathers c shared mem names (level.List place) (level.Tail (place + 1)) (signed_decimal i) ts
+last-gathered c shared mem names place v i ts ev small r =
+    let P : Trees → Type 0 = λ z. Gathers c shared mem names (level.List place) (level.Tail (place + 1)) (signed_decimal i) z in
+    let Q : Tree → ℕ → Type 0 = λ t z. Stands c shared mem z t in
+    let head = opens c shared mem names v false r.head (look.Small i) (small.each c shared r.head (subst (Q r.head) (sym ev) r.head_stands)) in
+    subst P (sym r.two) (record {
+      rest = r.tail ▹ end;
+      left = record { tree = r.tail; one = refl; within = omega (arith, r.within); standing = r.tail_stands };
+      whole = ap (λ z. z ++ text_as names shared true r.tail) head;
+      fewer = omega arith;
+      deep = omega arith;
+      named = λ p. (and_parts (is_named (length names) r.head) (are_named (length names) (r.tail ▹ end)) p).1;
+    })
+
+-- The first part of a tuple is a small integer, and the others come after commas.
+pub part-gathered : (c : ℕ → ℕ → Bool) (shared : List (List ℕ)) (mem : List ℕ) (names : List (List ℕ)) (row : Row) (mark : Mark) (last : Bool) (v : ℕ) (i : ℤ) (ts : Trees)
+    → v ≡ get_or mem row.first 0 → Sees mem v (look.Small i) → 0 < row.len → RowStandsFor c shared mem row ts
+    → Gathers c shared mem names (level.Parts row mark last) (level.Parts (row_after row) Comma last) (mark_text mark ++ signed_decimal i) ts
+unfolding RowStands
+part-gathered c shared mem names row mark last v i end ev small some r = absurd (omega (arith, r.count))
+part-gathered c shared mem names row mark last v i (t ▹ ts) ev small some r =
+    let Q : Tree → ℕ → Type 0 = λ t z. Stands c shared mem z t in
+    let head = opens c shared mem names v false t (look.Small i) (small.each c shared t (subst (Q t) (sym ev) r.standing.0)) in
+    let after : List ℕ = row_text names shared false Comma ts ++ closing_text last in
+    record {
+      rest = ts;
+      left = record { count = omega (arith, r.count); within = omega (arith, r.within); standing = r.standing.1 };
+      whole = regroup (mark_text mark) (text_as names shared false t) (row_text names shared false Comma ts) (closing_text last)
+          ∙ ap (λ z. mark_text mark ++ (z ++ after)) head ∙ sym (append_assoc (mark_text mark) (signed_decimal i) after);
+      fewer = omega arith;
+      deep = omega arith;
+      named = λ p. (and_parts (is_named (length names) t) (are_named (length names) ts) p).1;
+    }
+
 -- What a look at a list asks for.
 
 pub gather-within : (mem : List ℕ) (place : ℕ) → CanGather mem (level.List place) → place + 2 ≤ length mem
@@ -69,3 +110,6 @@ gather-within mem place h = h.left.within
 pub gathers-can : (mem : List ℕ) (l m : Level) (came : List ℕ) → CanGather mem l
     → ((c : ℕ → ℕ → Bool) (shared names : List (List ℕ)) (ts : Trees) → IsLeft c shared mem l ts → Gathers c shared mem names l m came ts) → CanGather mem m
 gathers-can mem l m came h g = let here = g always h.shared [] h.ts h.left in record { shared = h.shared; ts = here.rest; left = here.left }
+
+pub parts-within : (mem : List ℕ) (row : Row) (mark : Mark) (last : Bool) → CanGather mem (level.Parts row mark last) → row.first + row.len ≤ length mem
+parts-within mem row mark last h = h.left.within

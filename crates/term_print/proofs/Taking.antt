@@ -89,7 +89,7 @@ tail-took c shared mem names place ts r =
 
 -- A row has its first part, and then the others after commas.
 
-regroup : (a b x y : List ℕ) → (a ++ (b ++ x)) ++ y ≡ a ++ (b ++ (x ++ y))
+pub regroup : (a b x y : List ℕ) → (a ++ (b ++ x)) ++ y ≡ a ++ (b ++ (x ++ y))
 regroup a b x y = append_assoc a (b ++ x) y ∙ ap (λ z. a ++ z) (append_assoc b x y)
 
 row-took : (c : ℕ → ℕ → Bool) (shared : List (List ℕ)) (mem : List ℕ) (names : List (List ℕ)) (row : Row) (mark : Mark) (last : Bool) (ts : Trees) → RowStandsFor c shared mem row ts → 0 < row.len

@@ -1,4 +1,4 @@
-use Rattle.std.proofs.Common.{◌++◌, codes, ap, ◌∙◌, append_assoc, subst, to_z, of_z, arith}
+use Rattle.std.proofs.Common.{◌+◌, ◌++◌, codes, ap, ◌∙◌, append_assoc, subst, to_z, of_z, arith}
 use Rattle.std.specs.Int.{w64}
 use Rattle.std.specs.Fmt.{signed_decimal}
 use Rattle.term_tags.specs.Kinds.{ReadsAs}
@@ -6,7 +6,7 @@ use Rattle.term_tags.specs.declared.kinds.Kind.{Kind}
 use Rattle.term_read.proofs.Pointers.{list-kind}
 use Rattle.term_read.proofs.Seen.{sees-small-word, sees-cons}
 use Rattle.term_print.specs.declared.levels.Level.TheVariants as level
-use Rattle.term_print.proofs.Running.{cell-gathered, gather-within, gathers-can, gathers-more}
+use Rattle.term_print.proofs.Running.{cell-gathered, gather-within, gathers-can, gathers-more, last-gathered}
 use Rattle.term_print.proofs.runs.gather_list.Goals as goal
 
 pub get-requires : goal.get-requires
@@ -40,3 +40,15 @@ loop-buffer-preserved c =
           cons before.left);
       few = omega (arith, c.push.ensures.len, c.in-Ok.ensures.len, c.loop-buffer-test.true, c.as_bytes.ensures.len, c.format-digits.ensures.short);
     }
+
+pub returns-in_default-kind_of : goal.returns-in_default-kind_of
+returns-in_default-kind_of c = λ r shared names ts two.
+    let P : Kind → Type 0 = λ k. ReadsAs c.get.result k in
+    let i = to_z w64 (of_z w64 c.in-Small.i) in
+    let small = sees-small-word c.args.mem.now c.get.result c.in-Small.i (subst P c.in-Small.is c.kind_of.ensures.exact) in
+    let before = c.loop-buffer.invariant.gathers r shared names ts two in
+    gathers-more r shared c.args.mem.now names (level.List c.args.place) (level.List c.loop-buffer.at) (level.Tail (c.loop-buffer.at + 1)) c.loop-buffer.text.items
+    (signed_decimal i) c.try_extend_from_slice.new.self.items ts
+    (c.in-Ok.ensures.ok ∙ ap (λ z. c.loop-buffer.text.items ++ z) (c.as_bytes.ensures.value ∙ c.format-digits.ensures.text))
+    before
+    (last-gathered r shared c.args.mem.now names c.loop-buffer.at c.get.result i before.rest c.get.ensures small before.left)
