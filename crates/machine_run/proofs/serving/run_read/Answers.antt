@@ -22,7 +22,8 @@ returns-in-Some g c =
     record {
       begins = not-usage _ _ _ _ _ all;
       served = if-served _ before out _ _ _
-          (stands-so _ before out machine (StoreStands c.args.arena (One c.serve-status.new.m)) _ (λ s h. (h, c.images_stand.ensures.stands s h.0, c.serve-status.ensures.words ∙ c.in-Some.ensures.words))
+          (stands-so _ before out machine (StoreStands c.args.arena (One c.serve-status.new.m)) _
+          (λ s h. (h, c.images_stand.ensures.stands s h.0, c.serve-status.ensures.words ∙ c.in-Some.ensures.words))
           (same-rules (λ r. Served r before out machine c.serve-status.result) _ _ _ _ _ c.in-Some.ensures.words c.in-Ok.ensures.limits all));
       read_told = c.serve-status.ensures.told;
       write_told = write-told _ _ _ _ _ all;
