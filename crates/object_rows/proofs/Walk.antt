@@ -1,10 +1,13 @@
 -- A row is walked object by object: what was seen of its holders and funs, and what is left.
-use Rattle.std.proofs.Common.{◌≡◌, ℕ, ◌+◌, ◌*◌, ◌/◌, ◌%◌, ◌<◌, ◌≤◌, true, false, List, [], ◌∷◌, ◌++◌, length, get_or, refl, sym, ◌∙◌, ap, subst, arith, inl, inr}
+use Rattle.std.proofs.Common.{◌≡◌, ℕ, ◌+◌, ◌*◌, ◌/◌, ◌%◌, ◌<◌, ◌≤◌, ◌==◌, ◌&&◌, if◌then◌else◌, true, false, List, [], ◌∷◌, ◌++◌, length, get_or, refl, sym, ◌∙◌, ap, subst, arith, inl, inr}
+use Rattle.term_tags.specs.Table.{layout_for}
 use Rattle.term_words.specs.Object.{IsPointer, object_words}
 use Rattle.term_words.specs.Counted.{In}
-use Rattle.term_words.specs.Tiled.{IsTile, Tiled, tile_words}
+use Rattle.term_words.specs.Tiled.{IsRecordHeader, IsTile, Tiled, tile_words}
+use Rattle.term_words.proofs.Placing.Roles.{object-some}
+use Rattle.term_words.proofs.Placing.Tiles.{tiled-order}
 use Rattle.object_rows.specs.Row.{AreObjects, is_link, is_link_header, links_in}
-use Rattle.object_rows.proofs.Rows.{Next, next-by, small, large, six, ends, links-step, links-skip, one-more, in-split, in-here, in-front, length-last, no-more, ended-row, layout-tag}
+use Rattle.object_rows.proofs.Rows.{tile-object, Next, next-by, small, large, six, ends, links-step, links-skip, one-more, in-split, in-here, in-front, length-last, no-more, ended-row, layout-tag}
 
 -- The row up to a place was walked: these holders and funs were seen.
 pub record Walked (old : List ℕ) (at to : ℕ) (ws seen : List ℕ) : Type 0 where
@@ -114,3 +117,27 @@ objects-one mem a (w ∷ ws) (v ∷ vs) b x y =
     let rest : ws ≡ vs = objects-one mem (a + tile_words mem w) ws vs b (record { row = rest-w; objects = λ u i. x.objects u (inr i) })
     (record { row = subst P (sym same) rest-v; objects = λ u i. y.objects u (inr i) }) in
     ap (λ u. u ∷ ws) same ∙ ap (λ us. v ∷ us) rest
+
+-- A row whose words are the same.
+
+tile-same : (old new : List ℕ) (w : ℕ) → get_or new (w / 4) 0 ≡ get_or old (w / 4) 0 → IsTile old w → IsTile new w
+tile-same old new w e (inl (t, h)) = inl (t, (λ z. h (ap (λ x. x % 4) (sym e) ∙ z)))
+tile-same old new w e (inr (inl (t, (l, is)))) = inr (inl (t, (l, ap layout_for e ∙ is)))
+tile-same old new w e (inr (inr (t, h))) = inr (inr (t, subst IsRecordHeader (sym e) h))
+
+pub row-stays : (old new : List ℕ) (from : ℕ) (ws : List ℕ) (to : ℕ) → AreObjects old from ws to → ((q : ℕ) → from ≤ q → q < to → get_or new q 0 ≡ get_or old q 0)
+    → AreObjects new from ws to × (links_in new ws ≡ links_in old ws)
+row-stays old new from [] to r same = (record { row = r.row; objects = r.objects }, refl)
+row-stays old new from (w ∷ ws) to r same =
+    let (place, is, rest) = r.row in
+    let y : IsPointer w = r.objects w (inl refl) in
+    let some : 0 < tile_words old w = omega (arith, tile-object old w y, object-some old w) in
+    let order : from + tile_words old w ≤ to = tiled-order old (from + tile_words old w) to ws rest in
+    let here : get_or new (w / 4) 0 ≡ get_or old (w / 4) 0 = same (w / 4) (omega (arith, place)) (omega (arith, place, some, order)) in
+    let size : tile_words new w ≡ tile_words old w = ap (λ h. if w % 4 == 0 then h / 16 else (if w % 4 == 1 then 2 else 1 + h / 64)) here in
+    let link : is_link new w ≡ is_link old w = ap (λ h. (w % 4 == 2) && is_link_header h) here in
+    let (later, links) = row-stays old new (from + tile_words old w) ws to (record { row = rest; objects = λ v i. r.objects v (inr i) }) (λ q low high. same q (omega (arith, low)) high) in
+    let P : ℕ → Type 0 = λ n. Tiled new (from + n) ws to in (
+      record { row = (place, tile-same old new w here is, subst P (sym size) later.row); objects = r.objects },
+      ap (λ b. if b then w / 4 ∷ links_in new ws else links_in new ws) link ∙ ap (λ xs. if is_link old w then w / 4 ∷ xs else xs) links,
+    )
