@@ -1,3 +1,5 @@
 pub mod Ranges
 pub mod Objects
 pub mod Walk
+pub mod Roled
+pub mod Sliding

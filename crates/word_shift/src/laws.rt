@@ -1,0 +1,27 @@
+// What stands after both passes.
+ghost use Rattle.std.specs.Prelude.{◌≡◌, ℕ, Bool, List, map};
+ghost use Rattle.plain_term.specs.Tree.{Tree, Trees};
+ghost use Rattle.term_words.specs.Role.{IsSingle};
+ghost use Rattle.term_words.specs.Stands.{Stands, AllStand};
+ghost use Rattle.term_words.specs.Reach.{Reach};
+ghost use Rattle.term_words.specs.Relocated.{Relocated};
+ghost use Rattle.word_shift.specs.Shifted.{word_image};
+ghost use Rattle.word_shift.specs.Slides.{Slides};
+
+/// Where words were relocated in place and then each used word moved, what the roots reached lies at the new places: each word's
+/// image stands for the tree that the word stood for, and what the images of the roots reach are exactly the images.
+pub fn slid_words_stand()
+    ensures lies { (g : ℕ → ℕ) (used : ℕ → Bool) (c d : ℕ → ℕ → Bool) (shared : List (List ℕ)) (old mid new roots : List ℕ) (ts : Trees)
+        → IsSingle c → AllStand c shared old roots ts → Slides g used c d old mid new roots → Relocated c d old new roots (word_image g) g }
+    ensures word { (g : ℕ → ℕ) (used : ℕ → Bool) (c d : ℕ → ℕ → Bool) (shared : List (List ℕ)) (old mid new roots : List ℕ) (ts : Trees)
+        → IsSingle c → AllStand c shared old roots ts → Slides g used c d old mid new roots
+        → (w : ℕ) (t : Tree) → Reach old roots w → Stands c shared old w t → Stands d shared new (word_image g w) t }
+    ensures roots { (g : ℕ → ℕ) (used : ℕ → Bool) (c d : ℕ → ℕ → Bool) (shared : List (List ℕ)) (old mid new roots : List ℕ) (ts : Trees)
+        → IsSingle c → AllStand c shared old roots ts → Slides g used c d old mid new roots → AllStand d shared new (map (word_image g) roots) ts }
+    ensures reached { (g : ℕ → ℕ) (used : ℕ → Bool) (c d : ℕ → ℕ → Bool) (shared : List (List ℕ)) (old mid new roots : List ℕ) (ts : Trees)
+        → IsSingle c → AllStand c shared old roots ts → Slides g used c d old mid new roots
+        → (w : ℕ) → Reach old roots w → Reach new (map (word_image g) roots) (word_image g w) }
+    ensures no_more { (g : ℕ → ℕ) (used : ℕ → Bool) (c d : ℕ → ℕ → Bool) (shared : List (List ℕ)) (old mid new roots : List ℕ) (ts : Trees)
+        → IsSingle c → AllStand c shared old roots ts → Slides g used c d old mid new roots
+        → (x : ℕ) → Reach new (map (word_image g) roots) x → (w : ℕ) × (Reach old roots w × (x ≡ word_image g w)) }
+{}
