@@ -87,6 +87,18 @@ fn wide_digits(line: &[u8], start: u128) -> Option<(u128, &[u8])>
     Some((n, rest))
 }
 
+/// The same behind the first digit. Most magnitudes are within the greatest number, and need half the width.
+fn more_digits(line: &[u8], start: u64) -> Option<(u128, &[u8])>
+    requires { start ≤ 9 }
+    ensures value { MatchOption result (digits_at WIDEST start line.now ≡ None) (λ r. digits_at WIDEST start line.now ≡ Some (r.0, r.1.now)) }
+    ensures within { MatchOption result (Unit {0}) (λ r. (r.0 ≤ WIDEST) × (length r.1.now ≤ length line.now)) }
+{
+    if let Some((n, rest)) = digits(line, GREATEST, start) {
+        return Some((n as u128, rest));
+    }
+    wide_digits(line, start as u128)
+}
+
 /// The magnitude of an integer, without leading zeros.
 fn magnitude(line: &[u8]) -> Option<(u128, &[u8])>
     ensures value { MatchOption result (number_at WIDEST line.now ≡ None) (λ r. number_at WIDEST line.now ≡ Some (r.0, r.1.now)) }
@@ -96,7 +108,7 @@ fn magnitude(line: &[u8]) -> Option<(u128, &[u8])>
         && digit(b)
     {
         if b > b'0' {
-            return wide_digits(rest, (b - b'0') as u128);
+            return more_digits(rest, (b - b'0') as u64);
         }
         return Some((0, rest));
     }

@@ -274,3 +274,20 @@ number-loud limit n ps line k = rw k.front (unequal k.first 37 (apart is_digit k
 -- A number that begins with 0 is 0.
 pub zero-read : (limit b : ℕ) (line rest : List ℕ) → line ≡ b ∷ rest → b ≡ 48 → number_at limit line ≡ Some (0, rest)
 zero-read limit b line rest e f = rw (e, f) refl
+
+-- What is read up to a limit is read up to a greater one.
+
+wider-step : (a b n m x : ℕ) (line rest : List ℕ) (t s : Bool) → is_digit x ≡ t → nat_le (n * 10 + (x - 48)) a ≡ s → a ≤ b
+    → (digits_at a (n * 10 + (x - 48)) line ≡ Some (m, rest) → digits_at b (n * 10 + (x - 48)) line ≡ Some (m, rest))
+    → digits_at a n (x ∷ line) ≡ Some (m, rest) → digits_at b n (x ∷ line) ≡ Some (m, rest)
+wider-step a b n m x line rest true true e f h ih k =
+    let some : n * 10 + (x - 48) ≤ a = leb-true (n * 10 + (x - 48)) a f in
+    let within : nat_le (n * 10 + (x - 48)) b ≡ true = le-leb (n * 10 + (x - 48)) b (omega (arith, some, h)) in
+    rw (e, within) (ih (rw (e, f) at k))
+wider-step a b n m x line rest true false e f h ih k = let j : None ≡ Some (m, rest) = rw (e, f) at k in cc
+wider-step a b n m x line rest false s e f h ih k = let j : Some (n, x ∷ line) ≡ Some (m, rest) = rw e at k in rw e j
+
+pub digits-wider : (a b n m : ℕ) (line rest : List ℕ) → a ≤ b → digits_at a n line ≡ Some (m, rest) → digits_at b n line ≡ Some (m, rest)
+digits-wider a b n m [] rest h k = k
+digits-wider a b n m (x ∷ line) rest h k =
+    wider-step a b n m x line rest (is_digit x) (nat_le (n * 10 + (x - 48)) a) refl refl h (digits-wider a b (n * 10 + (x - 48)) m line rest h) k
