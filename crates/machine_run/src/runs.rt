@@ -77,7 +77,7 @@ pub fn run<S: Source, K: Sink>(
     ensures read_told { TellsRead result (S.faults source.old) (S.faults source.new) }
     ensures write_told { TellsWrite result (K.faults sink.old) (K.faults sink.new) }
 
-    // Where there was memory and nothing failed, every line has its reply.
+    // Where there was memory and nothing failed, every line that is allowed has its reply, up to an accepted `sys quit`.
     ensures complete { IsComplete result (Rose (S.faults source.old) (S.faults source.new))
         (Rose (K.faults sink.old) (K.faults sink.new)) }
 {
