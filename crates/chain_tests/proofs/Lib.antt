@@ -1,2 +1,3 @@
 pub mod Sharers
 pub mod Sample
+pub mod SampleShift

@@ -7,3 +7,5 @@ mod memory;
 mod moving;
 #[cfg(test)]
 mod sharing;
+#[cfg(test)]
+mod shifting;
