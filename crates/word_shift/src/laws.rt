@@ -8,7 +8,7 @@ ghost use Rattle.term_words.specs.Relocated.{Relocated};
 ghost use Rattle.term_words.specs.Counted.{In};
 ghost use Rattle.object_rows.specs.Row.{AreObjects};
 ghost use Rattle.word_shift.specs.Shifted.{word_image, ObjectShifted, RowShifted};
-ghost use Rattle.word_shift.specs.Slides.{Slides};
+ghost use Rattle.word_shift.specs.Slides.{RolesMoved, Slides};
 
 /// A row that was relocated stays so while other words are written, and one that is relocated after others was a row from the start:
 /// so rows that have no word in common are relocated one by one, and each object is relocated over the first memory.
@@ -37,4 +37,9 @@ pub fn slid_words_stand()
     ensures no_more { (g : ℕ → ℕ) (used : ℕ → Bool) (c d : ℕ → ℕ → Bool) (shared : List (List ℕ)) (old mid new roots : List ℕ) (ts : Trees)
         → IsSingle c → AllStand c shared old roots ts → Slides g used c d old mid new roots
         → (x : ℕ) → Reach new (map (word_image g) roots) x → (w : ℕ) × (Reach old roots w × (x ≡ word_image g w)) }
+{}
+
+/// Where no two used places come to one, roles that moved with their words are one a place still.
+pub fn moved_roles_are_single()
+    ensures { (g : ℕ → ℕ) (used : ℕ → Bool) (c d : ℕ → ℕ → Bool) → IsSingle c → RolesMoved g used c d → IsSingle d }
 {}
