@@ -1,4 +1,5 @@
-//! Tests of collections: an object of each kind is moved, and holders and funs that share records are swept and their records moved.
+//! Tests of collections: an object of each kind is moved, holders and funs that share records are swept and their records moved, and
+//! words are relocated in place.
 #![tactic(auto)]
 
 #[cfg(test)]
