@@ -1,3 +1,4 @@
 pub mod Sharers
 pub mod Sample
 pub mod SampleRow
+pub mod SampleShift

@@ -1,5 +1,6 @@
 pub mod Ranges
 pub mod Objects
 pub mod Walk
+pub mod Apart
 pub mod Roled
 pub mod Sliding

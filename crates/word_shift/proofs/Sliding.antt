@@ -13,7 +13,7 @@ use Rattle.term_words.proofs.Reaching.Reached.{reached}
 use Rattle.off_heap_list.specs.Links.{name_place}
 use Rattle.object_rows.specs.Row.{is_link}
 use Rattle.word_shift.specs.Shifted.{word_image, ObjectShifted}
-use Rattle.word_shift.specs.Slides.{MovesWhole, Slides}
+use Rattle.word_shift.specs.Slides.{MovesWhole, RolesMoved, Slides}
 use Rattle.word_shift.proofs.Roled.{Roled, roled}
 
 pub image-other : (g : ℕ → ℕ) (w : ℕ) → (IsPointer w → ⊥) → word_image g w ≡ w
@@ -117,4 +117,15 @@ slid g used c d shared old mid new roots ts single stand s = record {
       let (t, there) = reached c shared old roots ts stand w r in
       slid-object g used c d old mid new roots single s w r y (roled c shared old w t single there y);
   records = λ v n named is. slid-record g used c d old mid new roots single s v n named is;
+}
+
+-- Roles that moved are one a place.
+pub single-moved : (g : ℕ → ℕ) (used : ℕ → Bool) (c d : ℕ → ℕ → Bool) → IsSingle c → RolesMoved g used c d → IsSingle d
+single-moved g used c d single m = record {
+  one = λ q j k x y.
+      let (a, (used-a, (at-a, role-a))) = m.only q j x in
+      let (b, (used-b, (at-b, role-b))) = m.only q k y in
+      let same : a ≡ b = m.once a b used-a used-b (sym at-a ∙ at-b) in
+      let P : ℕ → Type 0 = λ p. c p k ≡ true in
+      single.one a j k role-a (subst P (sym same) role-b);
 }

@@ -27,31 +27,34 @@ tile-by old now w e =
 pub words-by : (old now : List ℕ) (w : ℕ) → get_or now (w / 4) 0 ≡ get_or old (w / 4) 0 → object_words now w ≡ object_words old w
 words-by old now w e = ap (λ h. if w % 4 == 1 then 2 else 1 + h / 64) e
 
-first-by : (old now : List ℕ) (w : ℕ) → get_or now (w / 4) 0 ≡ get_or old (w / 4) 0 → first_traced now w ≡ first_traced old w
+pub first-by : (old now : List ℕ) (w : ℕ) → get_or now (w / 4) 0 ≡ get_or old (w / 4) 0 → first_traced now w ≡ first_traced old w
 first-by old now w e = ap (λ h. if w % 4 == 1 then 0 else first_of (layout_for h) (if w % 4 == 1 then 2 else 1 + h / 64)) e
 
-link-by : (old now : List ℕ) (w : ℕ) → get_or now (w / 4) 0 ≡ get_or old (w / 4) 0 → is_link now w ≡ is_link old w
+pub link-by : (old now : List ℕ) (w : ℕ) → get_or now (w / 4) 0 ≡ get_or old (w / 4) 0 → is_link now w ≡ is_link old w
 link-by old now w e = ap (λ h. (w % 4 == 2) && is_link_header h) e
 
-name-by : (old now : List ℕ) (p : ℕ) → get_or now p 0 ≡ get_or old p 0 → name_place now p ≡ name_place old p
+pub name-by : (old now : List ℕ) (p : ℕ) → get_or now p 0 ≡ get_or old p 0 → name_place now p ≡ name_place old p
 name-by old now p e = ap (λ h. if h == head_word HOLDER 5 then p + 3 else p + 1) e
 
 -- What was relocated over a memory that was the same there.
-shift-eq : (g : ℕ → ℕ) (old now new : List ℕ) (p first first-old size size-old name name-old : ℕ) (leads leads-old : Bool) → first ≡ first-old → size ≡ size-old → name ≡ name-old
-    → leads ≡ leads-old → p ≤ name-old → ((q : ℕ) → p ≤ q → get_or now q 0 ≡ get_or old q 0) → IsShifted g now new p first size leads name
+pub shift-within : (g : ℕ → ℕ) (old now new : List ℕ) (p first first-old size size-old name name-old : ℕ) (leads leads-old : Bool) → first ≡ first-old → size ≡ size-old → name ≡ name-old
+    → leads ≡ leads-old → (leads-old ≡ true → 6 ≤ size-old) → (name-old ≡ p + 3) ⊎ (name-old ≡ p + 1)
+    → ((q : ℕ) → p ≤ q → q < p + size-old → get_or now q 0 ≡ get_or old q 0) → IsShifted g now new p first size leads name
     → IsShifted g old new p first-old size-old leads-old name-old
-shift-eq g old now new p first first-old size size-old name name-old leads leads-old ef es en el low-name same s = record {
-  traced = λ q low high. s.traced q (omega (arith, low, ef)) (omega (arith, high, es)) ∙ ap (word_image g) (same q (omega (arith, low)));
-  next = λ l. s.next (el ∙ l) ∙ ap g (same (p + 2) (omega arith));
-  names = λ l. ap (λ a. get_or new a 0) (sym en) ∙ (s.names (el ∙ l) ∙ (ap (λ a. g (get_or now a 0)) en ∙ ap g (same name-old low-name)));
+shift-within g old now new p first first-old size size-old name name-old leads leads-old ef es en el long near same s = record {
+  traced = λ q low high. s.traced q (omega (arith, low, ef)) (omega (arith, high, es)) ∙ ap (word_image g) (same q (omega (arith, low)) high);
+  next = λ l. (let six-words : 6 ≤ size-old = long l in s.next (el ∙ l) ∙ ap g (same (p + 2) (omega arith) (omega (arith, six-words))));
+  names = λ l.
+      let six-words : 6 ≤ size-old = long l in
+      ap (λ a. get_or new a 0) (sym en) ∙ (s.names (el ∙ l) ∙ (ap (λ a. g (get_or now a 0)) en ∙ ap g (same name-old (omega (arith, near)) (omega (arith, near, six-words)))));
   others = λ q low below high x y.
       s.others q low (omega (arith, below, ef)) (omega (arith, high, es)) (elim x [ inl f ↦ inl (el ∙ f) | inr z ↦ inr z ])
       (elim y [ inl f ↦ inl (el ∙ f) | inr z ↦ inr (grind (arith, z, en)) ])
-      ∙ same q low;
+      ∙ same q low high;
 }
 
 -- What was relocated stays so while other words are written.
-shift-stays : (g : ℕ → ℕ) (old now new : List ℕ) (p first size name : ℕ) (leads : Bool) → (leads ≡ true → 6 ≤ size) → (name ≡ p + 3) ⊎ (name ≡ p + 1)
+pub shift-stays : (g : ℕ → ℕ) (old now new : List ℕ) (p first size name : ℕ) (leads : Bool) → (leads ≡ true → 6 ≤ size) → (name ≡ p + 3) ⊎ (name ≡ p + 1)
     → ((q : ℕ) → p ≤ q → q < p + size → get_or new q 0 ≡ get_or now q 0) → IsShifted g old now p first size leads name → IsShifted g old new p first size leads name
 shift-stays g old now new p first size name leads long near same s = record {
   traced = λ q low high. same q (omega (arith, low)) high ∙ s.traced q low high;
@@ -85,7 +88,7 @@ relocating-begins g mem from to ws are = record {
   long = λ w i. absurd i;
 }
 
-link-long : (old : List ℕ) (at : ℕ) (rest : List ℕ) (to : ℕ) (x : Next old at rest to) → is_link old x.w ≡ true → 6 ≤ object_words old x.w
+pub link-long : (old : List ℕ) (at : ℕ) (rest : List ℕ) (to : ℕ) (x : Next old at rest to) → is_link old x.w ≡ true → 6 ≤ object_words old x.w
 link-long old at rest to x l =
     let which : (get_or old at 0 % 4 ≡ 0) ⊎ (get_or old at 0 % 4 ≡ 0 → ⊥) = grind arith in
     elim which [
@@ -161,9 +164,10 @@ module _ (g : ℕ → ℕ) (old now : List ℕ) (from at to : ℕ) (ws : List �
                   shift-stays g old now new (w / 4) (first_traced old w) (object_words old w) (name_place old (w / 4)) (is_link old w) (r.long w j) (name-near old (w / 4))
                   (λ q a b. one.beside.same q (inl (omega (arith, b, low, x.place)))) (r.each w j)
               | inr e ↦ subst Q (sym e)
-                  (shift-eq g old now new (x.w / 4) (first_traced now x.w) (first_traced old x.w) (object_words now x.w) (object_words old x.w) (name_place now (x.w / 4)) (name_place old (x.w / 4))
+                  (shift-within g old now new (x.w / 4) (first_traced now x.w) (first_traced old x.w) (object_words now x.w)
+                  (object_words old x.w) (name_place now (x.w / 4)) (name_place old (x.w / 4))
                   (is_link now x.w) (is_link old x.w) (first-by old now x.w header) size (name-by old now (x.w / 4) header) (link-by old now x.w header)
-                  (omega (arith, name-near old (x.w / 4))) (λ q low. ahead q (omega (arith, low, x.place))) one.shifted)
+                  (link-long old at r.rest to x) (name-near old (x.w / 4)) (λ q low high. ahead q (omega (arith, low, x.place))) one.shifted)
             ];
             low = λ w i. elim (in-split w x.w r.before i) [
               | inl j ↦ (let low : w / 4 + object_words old w ≤ at = r.low w j in omega (arith, low, relocating-goes))

@@ -23,3 +23,8 @@ pub record Slides (g : ℕ → ℕ) (used : ℕ → Bool) (c d : ℕ → ℕ →
   pub kept : (v n q : ℕ) → IsNamed c old roots v → IsRecord c old v n → v ≤ q → q < v + n → slice_index mid q ≡ slice_index old q
   pub records : (v n : ℕ) → IsNamed c old roots v → IsRecord c old v n → MovesWhole g used v n
   pub words : UsedMoved g used c d mid new
+
+-- No two used places come to one, and the second test allows at a place only what the first one allows at the used place that came there.
+pub record RolesMoved (g : ℕ → ℕ) (used : ℕ → Bool) (c d : ℕ → ℕ → Bool) : Type 0 where
+  pub once : (a b : ℕ) → used a ≡ true → used b ≡ true → g a ≡ g b → a ≡ b
+  pub only : (q k : ℕ) → d q k ≡ true → (a : ℕ) × ((used a ≡ true) × ((q ≡ g a) × (c a k ≡ true)))
