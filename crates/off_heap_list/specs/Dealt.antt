@@ -1,5 +1,5 @@
 -- A chain that is dealt: its objects that lie in a span come behind the others.
-use Rattle.std.specs.Prelude.{◌≡◌, ℕ, ◌&&◌, nat_le, nat_lt, if◌then◌else◌, Bool, List, [], ◌∷◌, ◌++◌, length}
+use Rattle.std.specs.Prelude.{◌≡◌, ℕ, ◌+◌, ◌&&◌, nat_le, nat_lt, if◌then◌else◌, Bool, List, [], ◌∷◌, ◌++◌, length, slice_index}
 use Rattle.word_mem.specs.declared.ranges.Span.{Span}
 use Rattle.term_words.specs.Role.{IsSingle}
 use Rattle.term_words.specs.Kept.{Keeps}
@@ -49,6 +49,7 @@ pub record DealtWhole (c : ℕ → ℕ → Bool) (start mem : List ℕ) (os rest
   pub young : result.young ≡ length (outside_of span os)
   pub words : result.words ≡ bin_words_of_all mem (outside_of span os)
   pub writes : OnlyNext c start mem
+  pub others : (q : ℕ) → ((p : ℕ) → In p (outside_of span os ++ turned (inside_of span os) rest) → q ≡ p + 2 → ⊥) → slice_index mem q ≡ slice_index start q
   pub trees : Keeps c c start mem
 
 -- In the middle of dealing: the objects that are left, a chain of those outside the span, and one of those within it before the rest.
@@ -63,4 +64,6 @@ pub record DealtApart (c : ℕ → ℕ → Bool) (start mem : List ℕ) (os rest
   pub count : deal.count ≡ length (turned (outside_of span os) [])
   pub words : deal.words ≡ bin_words_of_all mem (turned (outside_of span os) [])
   pub writes : OnlyNext c start mem
+  pub others : (q : ℕ) → ((p : ℕ) → In p (turned (outside_of span os) []) → q ≡ p + 2 → ⊥)
+      → ((p : ℕ) → In p (turned (inside_of span os) rest) → q ≡ p + 2 → ⊥) → slice_index mem q ≡ slice_index start q
   pub trees : Keeps c c start mem

@@ -48,7 +48,8 @@ pub record EndRecords (c : ℕ → ℕ → Bool) (start mem : List ℕ) (last : 
   pub all : (v n : ℕ) → IsRecord c mem v n → count_in mem v ≡ 0 → 0 < count_in start v → In v (named_records mem ends)
 
 -- A whole chain was swept: the new chain has exactly these objects, and counts are namings by them and by further ones; their
--- number and their words of bytes are told, and so are the records that are freed; every tree stands.
+-- number and their words of bytes are told, and so are the records that are freed; no other word `next` was written, and every tree
+-- stands.
 pub record SweptWhole (c : ℕ → ℕ → Bool) (start mem : List ℕ) (os kept further : List ℕ) (left : Survivors) : Type 0 where
   pub links : Links c mem left.first kept further
   pub len : left.len ≡ length kept
@@ -57,16 +58,16 @@ pub record SweptWhole (c : ℕ → ℕ → Bool) (start mem : List ℕ) (os kept
   pub records : EndRecords c start mem left.last ends
   pub freed : left.freed ≡ length ends
   pub writes : Relinked c os start mem
+  pub nexts : (q : ℕ) → c q NEXT ≡ true → ((p : ℕ) → In p kept → q ≡ p + 2 → ⊥) → slice_index mem q ≡ slice_index start q
   pub content : Kept c c start mem
   pub back : Kept c c mem start
   pub trees : Keeps c c start mem
 
--- The front part of a chain, up to a place, was swept: what was moved is a chain of its own, no other word `next` was written, and
--- the place where the rest begins is told.
+-- The front part of a chain, up to a place, was swept: what was moved is a chain of its own, and the place where the rest begins is
+-- told.
 pub record SweptFront (c : ℕ → ℕ → Bool) (start mem : List ℕ) (os kept further : List ℕ) (to : ℕ) (result : FrontLeft) : Type 0 where
   pub whole : SweptWhole c start mem os kept further result.left
   pub rest : result.rest ≡ to
-  pub nexts : (q : ℕ) → c q NEXT ≡ true → ((p : ℕ) → In p kept → q ≡ p + 2 → ⊥) → slice_index mem q ≡ slice_index start q
 
 -- The first objects of a chain, so many, stand before a sweep.
 pub record CanSweepFront (mem : List ℕ) (head len : ℕ) : Type 0 where
@@ -96,6 +97,7 @@ pub record OnlyNext (c : ℕ → ℕ → Bool) (old new : List ℕ) : Type 0 whe
 pub record TurnedOnto (c : ℕ → ℕ → Bool) (start mem : List ℕ) (first : ℕ) (os kept further : List ℕ) : Type 0 where
   pub links : Links c mem first (turned os kept) further
   pub writes : OnlyNext c start mem
+  pub others : (q : ℕ) → ((p : ℕ) → In p (turned os kept) → q ≡ p + 2 → ⊥) → slice_index mem q ≡ slice_index start q
   pub trees : Keeps c c start mem
 
 -- A chain of so many objects stands beside the one that it is put before.
@@ -112,6 +114,7 @@ pub record CanTurnOnto (mem : List ℕ) (head len first : ℕ) : Type 0 where
 pub record TurnedWhole (c : ℕ → ℕ → Bool) (start mem : List ℕ) (first : ℕ) (os further : List ℕ) : Type 0 where
   pub links : Links c mem first (turned os []) further
   pub writes : OnlyNext c start mem
+  pub others : (q : ℕ) → ((p : ℕ) → In p (turned os []) → q ≡ p + 2 → ⊥) → slice_index mem q ≡ slice_index start q
   pub trees : Keeps c c start mem
 
 -- A chain of so many objects stands.

@@ -142,6 +142,7 @@ impl Arena {
         ensures sound { Sound self.new }
         ensures packed { Packed self.old.mem self.new.mem }
         ensures free { free_of self.new.mem ≡ free_of self.old.mem }
+        ensures greatest { IsGreatest self.new.mem (free_of self.new.mem) }
         ensures apart { FreeApart self.new.mem }
     {
         let end = gather(&mut self.mem);

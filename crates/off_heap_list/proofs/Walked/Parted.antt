@@ -1,5 +1,5 @@
 -- A chain is dealt object by object.
-use Rattle.std.proofs.Common.{◌≡◌, ℕ, ◌+◌, ◌<◌, ◌≤◌, ◌⊎◌, if◌then◌else◌, List, [], ◌∷◌, ◌++◌, Bool, true, false, length, get_or, set, refl, sym, ◌∙◌, subst, ap, arith, inl, inr, length-set, get_or-set_other}
+use Rattle.std.proofs.Common.{◌≡◌, ℕ, ◌+◌, ◌<◌, ◌≤◌, if◌then◌else◌, List, [], ◌∷◌, ◌++◌, Bool, true, false, length, get_or, set, refl, sym, ◌∙◌, subst, ap, arith, inl, inr, length-set, get_or-set_other}
 use Rattle.word_mem.specs.declared.ranges.Span.{Span}
 use Rattle.term_words.specs.Role.{NEXT, IsSingle}
 use Rattle.term_words.specs.Kept.{Kept}
@@ -14,7 +14,7 @@ use Rattle.off_heap_list.specs.declared.deal.Deal.{Deal}
 use Rattle.off_heap_list.proofs.Chaining.Exact.{naming-both}
 use Rattle.off_heap_list.proofs.Walked.Sweeping.{relinked-kept, relinked-keeps}
 use Rattle.off_heap_list.proofs.Walked.Tallied.{Goes, goes, none-left, all-held-few, all-held-stay, few-links, held-few}
-use Rattle.off_heap_list.proofs.Walked.Turning.{only-relinked, turn-begins, turned-one, turned-twice, turned-length, turned-held, turning-passes}
+use Rattle.off_heap_list.proofs.Walked.Turning.{only-relinked, turn-begins, turned-one, turned-has, turned-twice, turned-length, turned-held, turning-passes}
 
 -- Dealt so far.
 pub record Deals (c : ℕ → ℕ → Bool) (start mem : List ℕ) (deal : Deal) (i : ℕ) (os base further : List ℕ) (span : Span) : Type 0 where
@@ -29,6 +29,7 @@ pub record Deals (c : ℕ → ℕ → Bool) (start mem : List ℕ) (deal : Deal)
   pub words : deal.words ≡ bin_words_of_all mem ys
   pub few : deal.count ≤ i
   pub writes : OnlyNext c start mem
+  pub others : (q : ℕ) → ((p : ℕ) → In p ys → q ≡ p + 2 → ⊥) → ((p : ℕ) → In p zs → q ≡ p + 2 → ⊥) → get_or mem q 0 ≡ get_or start q 0
 
 pub deals-begin : (c : ℕ → ℕ → Bool) (mem : List ℕ) (head to : ℕ) (os base further : List ℕ) (span : Span) → FrontLinks c mem head os to base further
     → Deals c mem mem (record { rest = head; young = 0; count = 0; words = 0; aged = to }) 0 os base further span
@@ -58,6 +59,7 @@ deals-begin c mem head to os base further span f = record {
   words = refl;
   few = omega arith;
   writes = record { same_len = refl; same = λ q n. refl };
+  others = λ q young aged. refl;
 }
 
 module _ (c : ℕ → ℕ → Bool) (start mem : List ℕ) (deal : Deal) (i : ℕ) (os base further : List ℕ) (span : Span) (s : Deals c start mem deal i os base further span) where
@@ -131,6 +133,7 @@ module _ (c : ℕ → ℕ → Bool) (start mem : List ℕ) (deal : Deal) (i : �
           words = s.words ∙ sym (held-same deal.aged single s.ys s.now.outer.each);
           few = omega (arith, s.few);
           writes = written deal.aged;
+          others = λ q young aged. get_or-set_other mem (deal.rest + 2) q deal.aged 0 (λ e. aged deal.rest (inl refl) e) ∙ s.others q young (λ p i. aged p (inr i));
         }
 
     pub deals-outside : IsSingle c → lies_within span deal.rest ≡ false → Deals c start (set mem (deal.rest + 2) deal.young)
@@ -161,6 +164,7 @@ module _ (c : ℕ → ℕ → Bool) (start mem : List ℕ) (deal : Deal) (i : �
           words = omega (arith, s.words, held-same deal.young single (deal.rest ∷ s.ys) links);
           few = omega (arith, s.few);
           writes = written deal.young;
+          others = λ q young aged. get_or-set_other mem (deal.rest + 2) q deal.young 0 (λ e. young deal.rest (inl refl) e) ∙ s.others q (λ p i. young p (inr i)) aged;
         }
 
 -- All were seen.
@@ -185,20 +189,17 @@ deals-done c start mem deal i os base further span single s end-reached =
     } in
     let Q : List ℕ → Type 0 = λ xs. Turning c mem deal.young xs deal.aged s.zs further in
     let R : List ℕ → Type 0 = λ xs. Turning c mem deal.young (turned (outside_of span os) []) deal.aged xs further in
+    let F : List ℕ → Type 0 = λ xs. (q : ℕ) → ((p : ℕ) → In p xs → q ≡ p + 2 → ⊥) → ((p : ℕ) → In p s.zs → q ≡ p + 2 → ⊥) → get_or mem q 0 ≡ get_or start q 0 in
+    let G : List ℕ → Type 0 = λ xs. (q : ℕ) → ((p : ℕ) → In p (turned (outside_of span os) []) → q ≡ p + 2 → ⊥) → ((p : ℕ) → In p xs → q ≡ p + 2 → ⊥)
+    → get_or mem q 0 ≡ get_or start q 0 in
     record {
       turning = subst R inner (subst Q outer both);
       count = s.count ∙ ap length outer;
       words = s.words ∙ ap (bin_words_of_all mem) outer;
       writes = s.writes;
+      others = subst G inner (subst F outer s.others);
       trees = relinked-keeps c [] start mem single (λ x k inside h. inside) (only-relinked c start mem s.writes);
     }
-
-turned-has : (q : ℕ) (xs ys : List ℕ) → In q xs ⊎ In q ys → In q (turned xs ys)
-turned-has q [] ys (inl i) = absurd i
-turned-has q [] ys (inr i) = i
-turned-has q (x ∷ xs) ys (inl (inl e)) = turned-has q xs (x ∷ ys) (inr (inl e))
-turned-has q (x ∷ xs) ys (inl (inr i)) = turned-has q xs (x ∷ ys) (inl i)
-turned-has q (x ∷ xs) ys (inr i) = turned-has q xs (x ∷ ys) (inr (inr i))
 
 pub dealt-whole : (c : ℕ → ℕ → Bool) (start mid mem : List ℕ) (first : ℕ) (deal : Deal) (os base further : List ℕ) (span : Span) → IsSingle c
     → DealtApart c start mid os base further span deal
@@ -208,6 +209,13 @@ dealt-whole c start mid mem first deal os base further span single d t =
     let order : turned (turned (outside_of span os) []) (turned (inside_of span os) base) ≡ outside_of span os ++ turned (inside_of span os) base =
     turned-twice (outside_of span os) [] (turned (inside_of span os) base) in
     let P : List ℕ → Type 0 = λ xs. Links c mem first xs further in
+    let I : ℕ → List ℕ → Type 0 = λ p xs. In p xs in
+    let young : (p : ℕ) → In p (turned (outside_of span os) []) → In p (outside_of span os ++ turned (inside_of span os) base) =
+    λ p i. subst (I p) order (turned-has p (turned (outside_of span os) []) (turned (inside_of span os) base) (inl i)) in
+    let aged : (p : ℕ) → In p (turned (inside_of span os) base) → In p (outside_of span os ++ turned (inside_of span os) base) =
+    λ p i. subst (I p) order (turned-has p (turned (outside_of span os) []) (turned (inside_of span os) base) (inr i)) in
+    let back : (p : ℕ) → In p (turned (turned (outside_of span os) []) (turned (inside_of span os) base)) → In p (outside_of span os ++ turned (inside_of span os) base) =
+    λ p i. subst (I p) order i in
     let kept : Kept c c mid mem = relinked-kept c [] mid mem single (λ x k inside h. inside) (only-relinked c mid mem t.writes) in
     record {
       links = subst P order t.links;
@@ -219,5 +227,6 @@ dealt-whole c start mid mem first deal os base further span single d t =
         all-held-stay c c mid mem (outside_of span os) kept (λ p i. d.turning.left p (turned-has p (outside_of span os) [] (inl i))),
       );
       writes = record { same_len = t.writes.same_len ∙ d.writes.same_len; same = λ q n. t.writes.same q n ∙ d.writes.same q n };
+      others = λ q out. t.others q (λ p i. out p (back p i)) ∙ d.others q (λ p i. out p (young p i)) (λ p i. out p (aged p i));
       trees = record { each = λ shared w u st. t.trees.each shared w u (d.trees.each shared w u st) };
     }

@@ -323,12 +323,12 @@ sweeps-done c start mem head to first last len words freed i os further s end =
         };
         freed = s.freed_is;
         writes = s.writes;
+        nexts = subst R kept s.nexts;
         content = s.since.content;
         back = s.since.back;
         trees = frame c c start mem s.since.content;
       };
       rest = (subst P over s.now).rest;
-      nexts = subst R kept s.nexts;
     }
 
 -- The rest of a chain whose front part was swept.
@@ -336,7 +336,7 @@ pub rest-stays : (c : ℕ → ℕ → Bool) (start mem os kept further : List �
     → ((p : ℕ) → In p rest → IsLink c start p) → ((p : ℕ) → In p rest → In p kept → ⊥) → Chain mem result.rest rest
 rest-stays c start mem os kept further to result s rest chain each apart =
     let P : ℕ → Type 0 = λ x. Leads mem x rest 0 in
-    subst P (sym s.rest) (leads-stays start mem to rest 0 (λ p i. s.nexts (p + 2) (each p i).next (λ q j e.
+    subst P (sym s.rest) (leads-stays start mem to rest 0 (λ p i. s.whole.nexts (p + 2) (each p i).next (λ q j e.
     let same : p ≡ q = omega (arith, e) in
     let Q : ℕ → Type 0 = λ x. In x kept in
     apart p i (subst Q (sym same) j))) chain)

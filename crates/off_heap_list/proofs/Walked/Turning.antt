@@ -1,5 +1,5 @@
 -- A chain is turned round object by object.
-use Rattle.std.proofs.Common.{◌≡◌, ℕ, ◌+◌, ◌<◌, ◌≤◌, List, [], ◌∷◌, ◌++◌, Bool, true, length, get_or, set, refl, sym, ◌∙◌, subst, ap, arith, inl, inr, length-set, get_or-set_other}
+use Rattle.std.proofs.Common.{◌≡◌, ℕ, ◌+◌, ◌<◌, ◌≤◌, ◌⊎◌, List, [], ◌∷◌, ◌++◌, Bool, true, length, get_or, set, refl, sym, ◌∙◌, subst, ap, arith, inl, inr, length-set, get_or-set_other}
 use Rattle.std.proofs.lemmas.List.{append-nil}
 use Rattle.std.proofs.lemmas.Grind.{get_or-set_at}
 use Rattle.term_words.specs.Role.{NEXT, COUNT, IsSingle}
@@ -123,6 +123,7 @@ pub record Turns (c : ℕ → ℕ → Bool) (start mem : List ℕ) (head first i
   pub number : i + length rest ≡ length os
   pub whole : turned rest kept ≡ turned os base
   pub writes : OnlyNext c start mem
+  pub others : (q : ℕ) → ((p : ℕ) → In p kept → q ≡ p + 2 → ⊥) → get_or mem q 0 ≡ get_or start q 0
 
 pub turns-begin : (c : ℕ → ℕ → Bool) (mem : List ℕ) (head first : ℕ) (os base further : List ℕ) → Turning c mem head os first base further → Turns c mem mem head first 0 os base further
 turns-begin c mem head first os base further t = record {
@@ -132,6 +133,7 @@ turns-begin c mem head first os base further t = record {
   number = omega arith;
   whole = refl;
   writes = record { same_len = refl; same = λ q n. refl };
+  others = λ q out. refl;
 }
 
 module _ (c : ℕ → ℕ → Bool) (start mem : List ℕ) (head first i : ℕ) (os base further : List ℕ) (s : Turns c start mem head first i os base further) (more : i < length os) where
@@ -158,6 +160,7 @@ module _ (c : ℕ → ℕ → Bool) (start mem : List ℕ) (head first i : ℕ) 
       same_len = length-set mem (head + 2) first ∙ s.writes.same_len;
       same = λ q n. get_or-set_other mem (head + 2) q first 0 (λ e. let P : ℕ → Type 0 = λ x. c x NEXT ≡ true in n (subst P (sym e) link-here.next)) ∙ s.writes.same q n;
     };
+    others = λ q out. get_or-set_other mem (head + 2) q first 0 (λ e. out head (inl refl) e) ∙ s.others q (λ p i. out p (inr i));
   }
 
 pub turns-done : (c : ℕ → ℕ → Bool) (start mem : List ℕ) (head first i : ℕ) (os base further : List ℕ) → IsSingle c → Turns c start mem head first i os base further → length os ≤ i
@@ -166,9 +169,11 @@ turns-done c start mem head first i os base further single s end =
     let over : s.rest ≡ [] = none-left s.rest (omega (arith, s.number, end)) in
     let P : List ℕ → Type 0 = λ xs. Turning c mem head xs first s.kept further in
     let Q : List ℕ → Type 0 = λ xs. Links c mem first xs further in
+    let R : List ℕ → Type 0 = λ xs. (q : ℕ) → ((p : ℕ) → In p xs → q ≡ p + 2 → ⊥) → get_or mem q 0 ≡ get_or start q 0 in
     record {
       links = subst Q (sym (ap (λ xs. turned xs s.kept) over) ∙ s.whole) (turn-ends c mem head first s.kept further (subst P over s.now));
       writes = s.writes;
+      others = subst R (sym (ap (λ xs. turned xs s.kept) over) ∙ s.whole) s.others;
       trees = relinked-keeps c [] start mem single (λ x k inside h. inside) (only-relinked c start mem s.writes);
     }
 
@@ -180,6 +185,13 @@ turned-twice (x ∷ xs) ys zs = turned-twice xs (x ∷ ys) zs
 
 pub turned-back : (xs : List ℕ) → turned (turned xs []) [] ≡ xs
 turned-back xs = turned-twice xs [] [] ∙ append-nil xs
+
+pub turned-has : (q : ℕ) (xs ys : List ℕ) → In q xs ⊎ In q ys → In q (turned xs ys)
+turned-has q [] ys (inl i) = absurd i
+turned-has q [] ys (inr i) = i
+turned-has q (x ∷ xs) ys (inl (inl e)) = turned-has q xs (x ∷ ys) (inr (inl e))
+turned-has q (x ∷ xs) ys (inl (inr i)) = turned-has q xs (x ∷ ys) (inl i)
+turned-has q (x ∷ xs) ys (inr i) = turned-has q xs (x ∷ ys) (inr (inr i))
 
 pub turned-length : (xs ys : List ℕ) → length (turned xs ys) ≡ length xs + length ys
 turned-length [] ys = omega arith
@@ -245,6 +257,9 @@ in-old-order c start mem mem2 os xs further left first single s t =
       records = ends-still c start mem mem2 left.last s.ends single t.writes s.records;
       freed = s.freed;
       writes = relinked-then c os start mem mem2 s.writes (relinked-wider c [] os mem mem2 (λ p i. absurd i) (only-relinked c mem mem2 t.writes));
+      nexts = λ q h out.
+          let I : ℕ → List ℕ → Type 0 = λ p zs. In p zs in
+          t.others q (λ p i. out p (subst (I p) (turned-back xs) i)) ∙ s.nexts q h (λ p i. out p (subst (I p) (turned-back xs) (turned-has p (turned xs []) [] (inl i))));
       content = kept-then c start mem mem2 s.content (relinked-kept c [] mem mem2 single (λ x k i h. i) (only-relinked c mem mem2 t.writes));
       back = kept-then c mem2 mem start back s.back;
       trees = record { each = λ shared w u st. t.trees.each shared w u (s.trees.each shared w u st) };

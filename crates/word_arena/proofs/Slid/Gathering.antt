@@ -1,14 +1,15 @@
 -- The walk that brings the blocks in use side by side.
 use Rattle.std.proofs.Common.{◌≡◌, ℕ, ◌+◌, ◌/◌, ◌<◌, ◌≤◌, ◌⊎◌, List, [], ◌∷◌, ◌++◌, length, get_or, refl, sym, ◌∙◌, ap, subst, arith, inl, inr}
-use Rattle.word_arena.specs.Blocks.{size_at, kind_at, IsHeader, Blocks, Blocked, block_places, IsListed, BlockBegins, IsUsed, free_among, free_of}
-use Rattle.word_arena.specs.Calls.{freed}
+use Rattle.word_arena.specs.Blocks.{size_at, kind_at, IsHeader, Blocks, Blocked, block_places, IsListed, BlockBegins, IsUsed, free_at, free_among, free_of}
+use Rattle.word_arena.specs.Calls.{IsGreatest, freed}
 use Rattle.word_arena.specs.Sums.{slid}
 use Rattle.word_arena.specs.Packs.{Packed, Gathered}
 use Rattle.word_arena.proofs.Side.Places.{in-left, in-right, in-append}
-use Rattle.word_arena.proofs.Side.Tiling.{blocks-append, blocks-same, blocks-within, block_places-row}
+use Rattle.word_arena.proofs.Side.Tiling.{blocks-append, blocks-order, blocks-same, blocks-within, block_places-row}
 use Rattle.word_arena.proofs.Side.Facts.{free-all, free-none, block-within, one-or-apart}
 use Rattle.word_arena.proofs.Side.Runs.{Run, only-in, made-run}
 use Rattle.word_arena.proofs.Side.Before.{before-zero, before-next, before-most, before-all}
+use Rattle.word_arena.proofs.Laid.Relaid.{free_of-row}
 use Rattle.word_arena.proofs.Laid.Writes.{freed-length, freed-first, freed-other}
 use Rattle.word_arena.proofs.Found.Table.{begins-below}
 
@@ -188,3 +189,40 @@ used-none-free mem (p ∷ ps) used = omega (arith, free-none mem p (used p (inl 
 
 pub packed-free : (old now : List ℕ) (to free : ℕ) → Blocked old → (g : Gathered old now (length old) to) → free + to ≡ free_among now g.places + length now → free ≡ free_of old
 packed-free old now to free blocked g sum = omega (arith, used-none-free now g.places g.used, sum, g.order, before-all old blocked, g.same_len)
+
+-- Where each free block ends at the end of a row, there is one at most, with all free words.
+sum-above : (mem ps : List ℕ) (p : ℕ) → IsListed p ps → free_at mem p ≤ free_among mem ps
+sum-above mem [] p listed = absurd listed
+sum-above mem (q ∷ qs) p (inl e) = let P : ℕ → Type 0 = λ x. free_at mem x ≤ free_at mem q + free_among mem qs in subst P (sym e) (omega arith)
+sum-above mem (q ∷ qs) p (inr deep) = omega (arith, sum-above mem qs p deep)
+
+none-behind : (mem ps : List ℕ) (b : ℕ) → Blocks mem b ps b → ps ≡ []
+none-behind mem [] b row = refl
+none-behind mem (p ∷ ps) b (e, header, row) = absurd (omega (arith, header.sized, blocks-order mem (b + size_at mem p) b ps row))
+
+sum-met : (mem : List ℕ) (a b : ℕ) (ps : List ℕ) → Blocks mem a ps b → ((r : ℕ) → IsListed r ps → kind_at mem r ≡ 0 → r + size_at mem r ≡ b) → 0 < free_among mem ps
+    → (p : ℕ) × IsListed p ps × (free_at mem p ≡ free_among mem ps)
+sum-met mem a b [] row last some = absurd (omega (arith, some))
+sum-met mem a b (p ∷ ps) (e, header, row) last some =
+    let which : (kind_at mem p ≡ 0) ⊎ (1 ≤ kind_at mem p) = grind arith in
+    elim which [
+      | inl free ↦
+          let ends : p + size_at mem p ≡ b = last p (inl refl) free in
+          let P : ℕ → Type 0 = λ z. Blocks mem z ps b in
+          let behind : ps ≡ [] = none-behind mem ps b (subst P (omega (arith, ends, e)) row) in
+          (p, inl refl, omega (arith, ap (free_among mem) behind))
+      | inr used ↦
+          let none : free_at mem p ≡ 0 = free-none mem p used in
+          let deep = sum-met mem (a + size_at mem p) b ps row (λ r i k. last r (inr i) k) (omega (arith, some, none)) in
+          (deep.0, inr deep.1, omega (arith, deep.2, none))
+    ]
+
+pub one-hole : (mem : List ℕ) → Blocked mem → ((r : ℕ) → BlockBegins mem r → kind_at mem r ≡ 0 → r + size_at mem r ≡ length mem) → IsGreatest mem (free_of mem)
+one-hole mem blocked last =
+    let sum : free_of mem ≡ free_among mem (block_places mem) = free_of-row mem (block_places mem) refl in
+    record {
+      above = λ p begins. omega (arith, sum, sum-above mem (block_places mem) p begins.listed);
+      met = λ some.
+          let m = sum-met mem 0 (length mem) (block_places mem) blocked.row (λ r i k. last r (record { listed = i }) k) (omega (arith, some, sum)) in
+          (m.0, record { listed = m.1 }, m.2 ∙ sym sum);
+    }

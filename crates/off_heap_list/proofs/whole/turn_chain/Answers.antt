@@ -16,4 +16,4 @@ turn_onto-requires c = record {
 pub returns : goal.returns
 returns c = λ k os further single number l.
     let t = c.turn_onto.ensures k os [] further single number (turn-begins k c.args.mem.now c.args.head os further l) in
-    record { links = t.links; writes = t.writes; trees = t.trees }
+    record { links = t.links; writes = t.writes; others = t.others; trees = t.trees }
