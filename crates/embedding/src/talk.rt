@@ -6,6 +6,10 @@ ghost use Rattle.line_io.specs.declared.reader.TheConstants.{LONGEST_LINE};
 ghost use Rattle.plain_machine.specs.Image.{ImageStands};
 ghost use Rattle.plain_machine.specs.State.{State, first_state};
 ghost use Rattle.space_api.specs.Calls.{most_calls};
+ghost use Rattle.plain_machine.specs.Step.{is_printing};
+ghost use Rattle.script_grammar.specs.Names.{Parsed};
+ghost use Rattle.script_grammar.specs.ReadAs.{IsRead};
+ghost use Rattle.engine.specs.Last.{SaysNothing};
 ghost use Rattle.engine.specs.Steps.{Steps};
 
 use engine::{Machine, Stepped, step};
@@ -51,6 +55,10 @@ impl Talk {
             → Steps (arena_words self.old) s (text line.now)
             (record { stands = StandsFor self.new; text = ⟦<OneSpace as Space>⟧.text self.new.machine.space self.new.machine.names })
             (record { wrote = K.wrote; faults = K.faults; before = sink.old; after = sink.new }) result }
+        ensures leaves { (p : Parsed) → IsRead self.old.machine.names line.now p → is_printing p.command ≡ true
+            → (self.new.machine.space ≡ self.old.machine.space) × (self.new.machine.names ≡ self.old.machine.names) }
+        ensures idle { SaysNothing self.old.machine.names (text line.now)
+            → (self.new.machine.space ≡ self.old.machine.space) × (self.new.machine.names ≡ self.old.machine.names) }
         ensures images { (s : State) → StandsFor self.new s → ImageStands (⟦<OneSpace as Imaged>⟧.image self.new.machine.space) s }
         ensures left { lines_to_say self.old ≡ lines_to_say self.new + 1 }
         ensures words { arena_words self.new ≡ arena_words self.old }

@@ -1,8 +1,11 @@
 -- What the whole program promises: the store that a run leaves, and what a run was.
 use Rattle.std.specs.Prelude.{ℕ, ◌≡◌, ◌⊎◌, List, [], Option, Some, None, MatchOption}
 use Rattle.script_grammar.specs.declared.command.Command.{Command}
+use Rattle.script_grammar.specs.declared.command.Command.TheVariants.{System}
+use Rattle.script_grammar.specs.declared.command.SysVerb.TheVariants.{Counts}
 use Rattle.plain_machine.specs.State.{State, first_state}
 use Rattle.plain_machine.specs.Image.{ImageStands}
+use Rattle.plain_machine.specs.Counting.{image_counts}
 use Rattle.space_api.specs.Calls.{Properly}
 use Rattle.engine.specs.Acts.{StandsWith}
 use Rattle.engine.specs.Rules.{After, Rules, Input, Output}
@@ -20,11 +23,12 @@ use Rattle.machine_run.specs.declared.serving.TheConstants.{LIMITS}
 use Rattle.machine_run.specs.declared.store.Store.{Store}
 use Rattle.machine_run.specs.declared.store.Store.TheVariants.{Vacant, One}
 
--- The machine in the store stands for the state, names and all, and so does its image, over an arena of so many words; a
--- vacant store stands for none.
+-- The machine in the store stands for the state, names and all, and so does its image, over an arena of so many words; its text of
+-- `counts` is that of the image. A vacant store stands for none.
 abbrev pub StoreStands : (words : ℕ) → Store → State → Type 0
 StoreStands words Vacant s = ⊥
 StoreStands words (One m) s = StandsWith (Properly (OneStands m.space)) m.names s × ImageStands (image m.space) s × ((image m.space).words ≡ words)
+    × (command_text m.space m.names (System Counts) ≡ image_counts m.names (image m.space))
 
 -- The text of the store for each map line, which is that of the machine in it; a vacant store has none.
 abbrev pub store_text : Store → Command → List ℕ

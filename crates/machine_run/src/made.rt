@@ -27,6 +27,7 @@ fn do_made<P: Space>(m: &mut Machine<P>, number: u64) -> Summary
         → IsMade (P.words m.old.space) first number
         (StandsWith (P.stands m.new.space) m.new.names) result }
     ensures words { P.words m.new.space ≡ P.words m.old.space }
+    ensures named { P.named m.new.space ≤ length m.new.names }
 {
     let mut script = MadeScript::new(number);
     let mut sums = SumSink::new();
@@ -60,6 +61,8 @@ pub(crate) fn run_made<K: Sink>(
     };
     let numbers = do_made(&mut machine, number);
     machine.space.images_stand();
+    // The text of `counts` goes by names, none of which stands twice.
+    let _count = machine.names.count();
     *store = Store::One(machine);
     put_summary(&numbers, sink)
 }

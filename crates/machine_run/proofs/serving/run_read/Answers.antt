@@ -19,11 +19,12 @@ returns-in-Some g c =
     let before : Input = record { before = g.S.Source.left c.args.source.now; after = g.S.Source.left c.serve-status.new.source } in
     let out : Output g.row.K.Denot = record { wrote = g.K.Sink.wrote; faults = g.K.Sink.faults; before = c.args.sink.now; after = c.serve-status.new.sink } in
     let machine : After = leaving (Properly (OneStands c.serve-status.new.m.space)) (command_text c.serve-status.new.m.space) c.serve-status.new.m.names in
+    let told = c.images_stand.ensures.counts c.serve-status.new.m.names c.count-count.ensures.names c.serve-status.ensures.named in
     record {
       begins = not-usage _ _ _ _ _ all;
       served = if-served _ before out _ _ _
           (stands-so _ before out machine (StoreStands c.args.arena (One c.serve-status.new.m)) _
-          (λ s h. (h, c.images_stand.ensures.stands s h.0, c.serve-status.ensures.words ∙ c.in-Some.ensures.words))
+          (λ s h. (h, c.images_stand.ensures.stands s h.0, c.serve-status.ensures.words ∙ c.in-Some.ensures.words, told))
           (same-rules (λ r. Served r before out machine c.serve-status.result) _ _ _ _ _ c.in-Some.ensures.words c.in-Ok.ensures.limits all));
       read_told = c.serve-status.ensures.told;
       write_told = write-told _ _ _ _ _ all;
