@@ -2,7 +2,7 @@
 use Rattle.std.specs.Prelude.{ℕ, ◌≡◌, ◌⊎◌, List, [], Option, Some, None, MatchOption}
 use Rattle.script_grammar.specs.declared.command.Command.{Command}
 use Rattle.plain_machine.specs.State.{State, first_state}
-use Rattle.plain_machine.specs.Image.{ImageStands}
+use Rattle.store_image.specs.Image.{ImageStands}
 use Rattle.space_api.specs.Calls.{Properly}
 use Rattle.engine.specs.Acts.{StandsWith}
 use Rattle.engine.specs.Rules.{After, Rules, Input, Output}

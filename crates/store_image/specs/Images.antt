@@ -6,8 +6,8 @@ use Rattle.plain_machine.specs.State.{State}
 use Rattle.term_words.specs.Object.{IsPointer}
 use Rattle.term_words.specs.Reach.{root}
 use Rattle.term_words.specs.Counted.{Distinct}
-use Rattle.plain_machine.specs.Image.{Image, ImageStands, IsAmong, RegionKind, LeadInto, MessagesLead, Region, Rooted, all_pieces, area_of, piece_places}
-use Rattle.plain_machine.specs.Image.{areas_in, heaps_of, in_blocks, in_half, half, young, message, fragment, area, lies_whole, messages_of, region_pieces}
+use Rattle.store_image.specs.Image.{Image, ImageStands, IsAmong, RegionKind, LeadInto, MessagesLead, Region, Rooted, all_pieces, area_of, piece_places}
+use Rattle.store_image.specs.Image.{areas_in, heaps_of, in_blocks, in_half, half, young, message, fragment, area, lies_whole, messages_of, region_pieces}
 
 -- A memory of two heaps, a message, a fragment and an area, each behind the words that say what it is. The place of a block's first
 -- object is 2, 10, 18, 24 and 29; a list pointer is four times a place and 1, a boxed pointer four times a place and 2.

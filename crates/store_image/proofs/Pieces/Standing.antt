@@ -10,9 +10,9 @@ use Rattle.term_words.specs.Object.{IsObject, IsRecord}
 use Rattle.term_words.specs.Stands.{Stands}
 use Rattle.shared_rec.proofs.Records.{record-first}
 use Rattle.plain_machine.specs.State.{State, first_state}
-use Rattle.plain_machine.specs.Image.{ImageStands, LiesIn, Stretch, WordsStand, all_pieces}
-use Rattle.plain_machine.specs.Images.{block_words, blocks}
-use Rattle.plain_machine.proofs.Pieces.Worked.{blocks-lead}
+use Rattle.store_image.specs.Image.{ImageStands, LiesIn, Stretch, WordsStand, all_pieces}
+use Rattle.store_image.specs.Images.{block_words, blocks}
+use Rattle.store_image.proofs.Pieces.Worked.{blocks-lead}
 
 -- The state: process 1 has a list of the literal in register 0 and on its stack, process 2 the list of 1, and the list of 2 waits for it.
 abbrev literal : Tree

@@ -5,7 +5,7 @@ use Rattle.std.proofs.lemmas.Bool.Decides.{nat_tests}
 use Rattle.term_words.specs.Object.{IsPointer, object_words}
 use Rattle.term_words.specs.Reach.{Reach, first_traced, root, part}
 use Rattle.term_words.specs.Counted.{In}
-use Rattle.plain_machine.specs.Image.{LeadInto, LeadsToItself, Region, lies_whole}
+use Rattle.store_image.specs.Image.{LeadInto, LeadsToItself, Region, lies_whole}
 
 -- So many words from a place on, and the traced words of an object.
 abbrev pub words_at : (mem : List ℕ) (a n : ℕ) → List ℕ

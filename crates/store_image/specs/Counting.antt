@@ -2,7 +2,7 @@
 use Rattle.std.specs.Prelude.{ℕ, ◌/◌, ◌%◌, nat_lt, if◌then◌else◌, List, [], ◌∷◌, map, slice_index}
 use Rattle.std.specs.Ordering.{is_lt}
 use Rattle.plain_machine.specs.Maps.{CountedBin, CountedFun, counts_text, fun_order}
-use Rattle.plain_machine.specs.Image.{Image, Stretch}
+use Rattle.store_image.specs.Image.{Image, Stretch}
 
 -- The entry of a shared binary's record: its second word is the id, its third the count.
 abbrev pub entry_of_bin : Stretch → CountedBin

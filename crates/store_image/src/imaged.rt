@@ -4,10 +4,10 @@ ghost use Rattle.atom_names.specs.Names.{AreNames};
 ghost use Rattle.script_grammar.specs.declared.command.Command.TheVariants.{System};
 ghost use Rattle.script_grammar.specs.declared.command.SysVerb.TheVariants.{Counts};
 ghost use Rattle.plain_machine.specs.State.{State};
-ghost use Rattle.plain_machine.specs.Image.{Image, ImageStands};
-ghost use Rattle.plain_machine.specs.Counting.{image_counts};
+ghost use Rattle.store_image.specs.Image.{Image, ImageStands};
+ghost use Rattle.store_image.specs.Counting.{image_counts};
 
-use crate::space::Space;
+use space_api::Space;
 
 /// A space that keeps what lives in words: it has an image, which is what a dump tells of it.
 ///

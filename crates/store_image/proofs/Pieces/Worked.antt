@@ -1,8 +1,8 @@
 -- The worked images: where each of their pointers leads.
 use Rattle.std.proofs.Common.{List, [], ◌∷◌, ◌++◌, replicate, refl, arith, inl, inr}
-use Rattle.plain_machine.specs.Image.{PointersLead, area_of, areas_in, heaps_of, image_roots, in_blocks, in_half, message, area}
-use Rattle.plain_machine.specs.Images.{block_region, block_regions, block_words, blocks, half_region, half_words, in_one_half}
-use Rattle.plain_machine.proofs.Pieces.Leading.{leads-into, leads-to_itself}
+use Rattle.store_image.specs.Image.{PointersLead, area_of, areas_in, heaps_of, image_roots, in_blocks, in_half, message, area}
+use Rattle.store_image.specs.Images.{block_region, block_regions, block_words, blocks, half_region, half_words, in_one_half}
+use Rattle.store_image.proofs.Pieces.Leading.{leads-into, leads-to_itself}
 
 -- In blocks each pointer leads where it may.
 pub blocks-lead : PointersLead in_blocks blocks block_words

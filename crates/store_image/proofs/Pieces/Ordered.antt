@@ -2,7 +2,7 @@
 use Rattle.std.proofs.Common.{◌≡◌, ℕ, ◌+◌, ◌<◌, ◌≤◌, ◌⊎◌, Bool, true, false, nat_lt, if◌then◌else◌, List, [], ◌∷◌, ◌++◌, length, map, refl, ap, arith, inl, inr}
 use Rattle.std.proofs.lemmas.Bool.Decides.{nat_tests}
 use Rattle.term_words.specs.Counted.{In, Distinct}
-use Rattle.plain_machine.specs.Image.{AllBins, AllFuns, AllWithin, FollowEachOther, HasPieces, LiesIn, Stretch, insert_piece, piece_places, pieces_by_place}
+use Rattle.store_image.specs.Image.{AllBins, AllFuns, AllWithin, FollowEachOther, HasPieces, LiesIn, Stretch, insert_piece, piece_places, pieces_by_place}
 
 -- What is true of pieces whatever their order: of more where of fewer, and of two that change their places.
 pub record IsAnyOrder (P : List Stretch → Type 0) : Type 0 where
