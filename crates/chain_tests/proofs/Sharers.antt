@@ -33,9 +33,9 @@ use Rattle.cheney.specs.Rooms.{top_of}
 use Rattle.cheney.specs.Collected.{CanStart}
 use Rattle.cheney.specs.Next.{Ended, HasRoles, Remains}
 use Rattle.cheney.proofs.After.Next.{has-roles}
-use Rattle.chain_sweep.specs.Follows.{Sweepable, RecordsHaveRoom}
-use Rattle.chain_sweep.proofs.Leaving.{leaves-sweep}
-use Rattle.chain_sweep.proofs.Room.{can-move}
+use Rattle.record_move.specs.Follows.{Sweepable, RecordsHaveRoom}
+use Rattle.record_move.proofs.Leaving.{leaves-sweep}
+use Rattle.record_move.proofs.Room.{can-move}
 
 abbrev pub sample : List ℕ
 sample =

@@ -7,10 +7,10 @@ use Rattle.std.specs.Cmp.{IsTotalOrder}
 use Rattle.std.specs.Ordering.{is_lt}
 use Rattle.plain_term.specs.Order.{name_of}
 use Rattle.plain_term.proofs.Rising.{is-less}
-use Rattle.plain_machine.specs.Counting.{entry_of_bin, bins_by_id, entry_of_fun, funs_by_name, insert_bin, insert_fun}
-use Rattle.plain_machine.specs.Image.{Stretch, insert_piece, pieces_by_place}
+use Rattle.store_image.specs.Counting.{entry_of_bin, bins_by_id, entry_of_fun, funs_by_name, insert_bin, insert_fun}
+use Rattle.store_image.specs.Image.{Stretch, insert_piece, pieces_by_place}
 use Rattle.plain_machine.specs.Maps.{CountedBin, CountedFun, fun_order}
-use Rattle.plain_machine.proofs.Pieces.Ordered.{AllPieces, EachTwo, all-any, ordered}
+use Rattle.store_image.proofs.Pieces.Ordered.{AllPieces, EachTwo, all-any, ordered}
 use Rattle.atom_names.specs.Names.{AreNames}
 use Rattle.term_words.specs.Counted.{In}
 use Rattle.shared_rec.specs.Record.{owner_in}

@@ -3,7 +3,7 @@ ghost use Rattle.std.specs.Prelude.{◌≡◌, ℕ, ◌+◌, ◌<◌, ◌≤◌,
 ghost use Rattle.command_line.specs.Values.{is_arena};
 ghost use Rattle.line_io.specs.Lines.{text};
 ghost use Rattle.line_io.specs.declared.reader.TheConstants.{LONGEST_LINE};
-ghost use Rattle.plain_machine.specs.Image.{ImageStands};
+ghost use Rattle.store_image.specs.Image.{ImageStands};
 ghost use Rattle.plain_machine.specs.State.{State, first_state};
 ghost use Rattle.space_api.specs.Calls.{most_calls};
 ghost use Rattle.plain_machine.specs.Step.{is_printing};
@@ -16,8 +16,9 @@ use engine::{Machine, Stepped, step};
 use line_io::Sink;
 use machine_run::first_machine;
 use one_space::OneSpace;
-use space_api::{Imaged, Space};
+use space_api::Space;
 use std::alloc::Global;
+use store_image::Imaged;
 
 /// A machine, and how many lines may still be said to it.
 #[derive(Drop)]

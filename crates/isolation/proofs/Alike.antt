@@ -17,13 +17,13 @@ use Rattle.plain_machine.specs.Tightness.{held_trees}
 use Rattle.plain_machine.specs.Laws.{AreProper, HoldsProper}
 use Rattle.plain_machine.proofs.Properly.Making.{Extends}
 use Rattle.plain_machine.proofs.Properly.Holding.{split-proper}
-use Rattle.named_trees.specs.NamedTree.{NamedTree, as_named}
-use Rattle.named_trees.specs.NamedTree.{NamedTree as by_name}
-use Rattle.named_trees.specs.Entering.{names_in, shared_in, names_with, shared_with, entered}
-use Rattle.named_trees.specs.Laws.{AllKnown}
-use Rattle.named_trees.proofs.Growing.{proper-known}
-use Rattle.named_trees.proofs.Entering.{enters}
-use Rattle.named_trees.proofs.Parts.{join-known, split-known, nils-known}
+use Rattle.isolation.specs.Named.NamedTree.{NamedTree, as_named}
+use Rattle.isolation.specs.Named.NamedTree.{NamedTree as by_name}
+use Rattle.isolation.specs.Named.Entering.{names_in, shared_in, names_with, shared_with, entered}
+use Rattle.isolation.specs.Named.Laws.{AllKnown}
+use Rattle.isolation.proofs.Named.Growing.{proper-known}
+use Rattle.isolation.proofs.Named.Entering.{enters}
+use Rattle.isolation.proofs.Named.Parts.{join-known, split-known, nils-known}
 use Rattle.isolation.specs.Views.{Sight, queue_in, queue_of}
 use Rattle.isolation.specs.Views.Sight.{born, message}
 use Rattle.isolation.specs.Solo.{solo_first, with_received, answers_of, left_by, step_at, solo_answers, solo_after, solo_from}

@@ -16,7 +16,7 @@ use Rattle.plain_machine.specs.Step.Outcome.{Accepted, Refused, Mapped}
 use Rattle.plain_machine.specs.Run.{CommandStep, Gives}
 use Rattle.plain_machine.specs.Laws.{HoldsProper, IsNumbered}
 use Rattle.plain_machine.proofs.Properly.Living.{first-proper}
-use Rattle.named_trees.specs.NamedTree.{as_named}
+use Rattle.isolation.specs.Named.NamedTree.{as_named}
 use Rattle.isolation.specs.Events.{Event, IsEvent, IsAnswered, TellsEvents, NoneShort, TellsNoRoom}
 use Rattle.isolation.specs.Views.{Sight, is_own, own_line, births, queue_in, messages, areas, sights, view_of, is_map_line, shows_map, own_answers, own_replies}
 use Rattle.isolation.specs.Views.Sight.{own, born, message}

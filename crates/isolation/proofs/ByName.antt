@@ -20,11 +20,11 @@ use Rattle.plain_machine.specs.Texts.{divided}
 use Rattle.plain_machine.specs.Step.{Outcome, unless_beyond, eq_text, cmp_text}
 use Rattle.plain_machine.specs.Step.Outcome.{Accepted, Refused, Mapped}
 use Rattle.plain_machine.specs.Run.{refusal_text}
-use Rattle.named_trees.specs.NamedTree.{NamedTree, NamedPairs, as_named}
-use Rattle.named_trees.specs.NamedTree.NamedTree.{Pid, Ref, Nil, Map, Fun}
-use Rattle.named_trees.specs.Seen.{named_beyond, named_order, named_flat, named_text, pairs_count}
-use Rattle.named_trees.specs.Doing.{named_picked, named_put, named_repeated, named_bin, named_made, all_named_made, named_wide, named_big}
-use Rattle.named_trees.specs.Laws.{AllKnown}
+use Rattle.isolation.specs.Named.NamedTree.{NamedTree, NamedPairs, as_named}
+use Rattle.isolation.specs.Named.NamedTree.NamedTree.{Pid, Ref, Nil, Map, Fun}
+use Rattle.isolation.specs.Named.Seen.{named_beyond, named_order, named_flat, named_text, pairs_count}
+use Rattle.isolation.specs.Named.Doing.{named_picked, named_put, named_repeated, named_bin, named_made, all_named_made, named_wide, named_big}
+use Rattle.isolation.specs.Named.Laws.{AllKnown}
 
 -- a live process by name
 pub record NamedProcess : Type 0 where

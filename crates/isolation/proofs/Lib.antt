@@ -1,3 +1,4 @@
+pub mod Named
 mod Finding
 mod ByName
 mod Own

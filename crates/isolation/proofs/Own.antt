@@ -37,17 +37,17 @@ use Rattle.plain_machine.specs.Step.Outcome.{Refused}
 use Rattle.script_grammar.proofs.Naming.{ArePlaced, placed-front, number-below, with-names-more, with-names-placed}
 use Rattle.plain_machine.proofs.Properly.Making.{Extends, extends-none, bin-more, made-more}
 use Rattle.plain_machine.proofs.Properly.Living.{joined-end}
-use Rattle.named_trees.specs.NamedTree.{NamedTree, as_named, all_as_named, pairs_as_named, IsKnown, AreKnown, PairsKnown}
-use Rattle.named_trees.specs.NamedTree.{NamedTree as by_name}
-use Rattle.named_trees.specs.Seen.{named_beyond, named_flat, named_text, pairs_count}
-use Rattle.named_trees.specs.Doing.{named_picked, named_put, named_repeated, named_bin, named_made, all_named_made}
-use Rattle.named_trees.specs.Laws.{AllKnown, HaveNames, MadeOf}
-use Rattle.named_trees.proofs.Seeing.{beyond-seen, seen, pairs-seen, order-seen}
-use Rattle.named_trees.proofs.Doing.{done, at-by}
-use Rattle.named_trees.proofs.Making.{made, at-known, put-known, bin-made, BinMade, held-known-more, held-same-more}
-use Rattle.named_trees.proofs.Growing.{held-grown, held-known-grown}
-use Rattle.named_trees.proofs.Entering.{name-placed, have-names}
-use Rattle.named_trees.proofs.Parts.{IfKnown as IfTree, picked-known, repeated-known, env-known, env-by, set-known, join-known}
+use Rattle.isolation.specs.Named.NamedTree.{NamedTree, as_named, all_as_named, pairs_as_named, IsKnown, AreKnown, PairsKnown}
+use Rattle.isolation.specs.Named.NamedTree.{NamedTree as by_name}
+use Rattle.isolation.specs.Named.Seen.{named_beyond, named_flat, named_text, pairs_count}
+use Rattle.isolation.specs.Named.Doing.{named_picked, named_put, named_repeated, named_bin, named_made, all_named_made}
+use Rattle.isolation.specs.Named.Laws.{AllKnown, HaveNames, MadeOf}
+use Rattle.isolation.proofs.Named.Seeing.{beyond-seen, seen, pairs-seen, order-seen}
+use Rattle.isolation.proofs.Named.Doing.{done, at-by}
+use Rattle.isolation.proofs.Named.Making.{made, at-known, put-known, bin-made, BinMade, held-known-more, held-same-more}
+use Rattle.isolation.proofs.Named.Growing.{held-grown, held-known-grown}
+use Rattle.isolation.proofs.Named.Entering.{name-placed, have-names}
+use Rattle.isolation.proofs.Named.Parts.{IfKnown as IfTree, picked-known, repeated-known, env-known, env-by, set-known, join-known}
 use Rattle.isolation.proofs.Finding.{found, found-put, found-queued, found-gone, found-number}
 use Rattle.isolation.proofs.ByName.{NamedProcess, process_named, KnownProcess, IfKnown, lives_named, IsKnownIn, NamedOutcome, outcome_named, KnownAfter, in_register, to_register, goes, unless_named, set_named, chosen_named, pairs_of_named, unless_wide_named, unless_big_named, pair_named, made_if_named, pop_named, recv_named, number_of_named, receiver_named, queued_named, within_named, send_named, tell_named, order_named, verb_named, line_named}
 use Rattle.isolation.proofs.ByName.NamedOutcome.{Goes, Stays}

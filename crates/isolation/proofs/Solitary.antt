@@ -9,8 +9,8 @@ use Rattle.script_grammar.specs.declared.word.SysWord.TheVariants as sys
 use Rattle.plain_machine.specs.State.{Process as Live, State, is_live, first_state, fresh_process, with_queued}
 use Rattle.plain_machine.specs.Step.{Outcome}
 use Rattle.plain_machine.specs.Step.Outcome.{Accepted, Refused, Mapped}
-use Rattle.named_trees.specs.NamedTree.{NamedTree, as_named}
-use Rattle.named_trees.specs.Entering.{entered}
+use Rattle.isolation.specs.Named.NamedTree.{NamedTree, as_named}
+use Rattle.isolation.specs.Named.Entering.{entered}
 use Rattle.isolation.specs.Events.{Event}
 use Rattle.isolation.specs.Views.{Sight, is_own, own_line, births, messages, is_area_line, is_accepted, areas, sights, view_of, queue_of}
 use Rattle.isolation.specs.Views.Sight.{own, born, message, area}

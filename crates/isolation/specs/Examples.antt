@@ -13,9 +13,9 @@ use Rattle.script_grammar.specs.declared.word.SysWord.TheVariants as sys
 use Rattle.script_grammar.specs.declared.refusal.Refusal.TheVariants.{NoSpace}
 use Rattle.plain_machine.specs.State.{State, first_state}
 use Rattle.plain_machine.specs.Run.{refusal_text}
-use Rattle.named_trees.specs.NamedTree.{NamedTree}
-use Rattle.named_trees.specs.NamedTree.{NamedTree as by_name}
-use Rattle.named_trees.specs.NamedTree.NamedTrees.{nothing, before}
+use Rattle.isolation.specs.Named.NamedTree.{NamedTree}
+use Rattle.isolation.specs.Named.NamedTree.{NamedTree as by_name}
+use Rattle.isolation.specs.Named.NamedTree.NamedTrees.{nothing, before}
 use Rattle.isolation.specs.Events.{Event}
 use Rattle.isolation.specs.Views.{Sight, view_of, own_replies}
 use Rattle.isolation.specs.Views.Sight.{own, born, message}

@@ -1,3 +1,4 @@
+pub mod Named
 pub mod Events
 pub mod Views
 pub mod Solo

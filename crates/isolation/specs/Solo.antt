@@ -6,8 +6,8 @@ use Rattle.plain_machine.specs.State.{State, first_state, fresh_process, with_me
 use Rattle.plain_machine.specs.Step.{Outcome, step}
 use Rattle.plain_machine.specs.Step.Outcome.{Accepted, Refused, Mapped}
 use Rattle.plain_machine.specs.Run.{refusal_text}
-use Rattle.named_trees.specs.NamedTree.{NamedTree}
-use Rattle.named_trees.specs.Entering.{names_with, shared_with, entered}
+use Rattle.isolation.specs.Named.NamedTree.{NamedTree}
+use Rattle.isolation.specs.Named.Entering.{names_with, shared_with, entered}
 use Rattle.isolation.specs.Views.{Sight, is_map_line}
 use Rattle.isolation.specs.Views.Sight.{own, born, message, area}
 

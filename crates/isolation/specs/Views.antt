@@ -7,7 +7,7 @@ use Rattle.script_grammar.specs.declared.word.SysWord.TheVariants.{Load, Purge, 
 use Rattle.script_grammar.specs.Written.{Written}
 use Rattle.script_grammar.specs.Written.Written.{OfProcess, OfSystem}
 use Rattle.plain_machine.specs.State.{Process, State, process_of, is_live}
-use Rattle.named_trees.specs.NamedTree.{NamedTree, as_named}
+use Rattle.isolation.specs.Named.NamedTree.{NamedTree, as_named}
 use Rattle.isolation.specs.Events.{Event}
 
 -- What a process may see: a line of its own, that it comes to live, a tree by name that another process puts into its queue,

@@ -4,8 +4,8 @@ use Rattle.script_grammar.specs.declared.command.Command.{Command}
 use Rattle.script_grammar.specs.declared.command.Command.TheVariants.{System}
 use Rattle.script_grammar.specs.declared.command.SysVerb.TheVariants.{Counts}
 use Rattle.plain_machine.specs.State.{State, first_state}
-use Rattle.plain_machine.specs.Image.{ImageStands}
-use Rattle.plain_machine.specs.Counting.{image_counts}
+use Rattle.store_image.specs.Image.{ImageStands}
+use Rattle.store_image.specs.Counting.{image_counts}
 use Rattle.space_api.specs.Calls.{Properly}
 use Rattle.engine.specs.Acts.{StandsWith}
 use Rattle.engine.specs.Rules.{After, Rules, Input, Output}

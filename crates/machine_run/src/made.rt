@@ -15,8 +15,9 @@ use arrayvec::ArrayVec;
 use engine::{Machine, Status, step};
 use line_io::{Sink, SumSink, Summary};
 use made_script::MadeScript;
-use space_api::{Imaged, Space};
+use space_api::Space;
 use std::alloc::Global;
+use store_image::Imaged;
 
 /// Does the lines of the script of a number, one at a time, and sums up their replies. No line of it ends a script, and
 /// no reply fails to be summed up, so what a line comes to needs no look.

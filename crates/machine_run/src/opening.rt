@@ -1,7 +1,7 @@
 // What a run begins with.
 ghost use Rattle.std.specs.Prelude.{◌≡◌, ◌≤◌, length, IfSome, true};
 ghost use Rattle.plain_machine.specs.State.{first_state};
-ghost use Rattle.plain_machine.specs.Image.{HoldsNothing};
+ghost use Rattle.store_image.specs.Image.{HoldsNothing};
 ghost use Rattle.one_space.specs.Image.{image};
 ghost use Rattle.one_space.specs.One.{AllFree};
 ghost use Rattle.command_line.specs.Values.{is_arena};

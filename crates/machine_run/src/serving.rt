@@ -8,8 +8,8 @@ use crate::opening::first_machine;
 use crate::store::Store;
 use engine::{Status, serve};
 use line_io::{Limits, LineReader, Sink, Source};
-use space_api::Imaged;
 use std::alloc::Global;
+use store_image::Imaged;
 
 /// How many lines and bytes a script may have (this project).
 pub const LIMITS: Limits = Limits {

@@ -1,6 +1,6 @@
 -- The image of a space, over its memory, its tables and its single numbers.
 use Rattle.std.specs.Prelude.{ℕ, ◌-◌, List, [], ◌∷◌, map, take, drop, reverse}
-use Rattle.plain_machine.specs.Image.{Image, Stretch, Region, Rooted, half, in_half, pieces_by_place}
+use Rattle.store_image.specs.Image.{Image, Stretch, Region, Rooted, half, in_half, pieces_by_place}
 use Rattle.record_move.specs.Copies.{record_words}
 use Rattle.two_halves.specs.Stack.{values}
 use Rattle.two_halves.specs.Halves.{front_of}

@@ -24,10 +24,11 @@ use plain_machine::{
     Depth, MOST_PROCESSES, Measure, PLACE_COST, Pick, RECORD_COST, Refusal, Reg, Shape, To,
 };
 use plain_term::Item;
-use space_api::{Imaged, Seat, Space, Stop};
+use space_api::{Seat, Space, Stop};
 use std::alloc::Global;
 use std::cmp::Ordering;
 use std::marker::Model;
+use store_image::Imaged;
 use two_halves::{Halves, Row, UNUSED, fresh};
 use word_mem::{OpenFault, WordMem};
 
@@ -67,7 +68,7 @@ impl Model for OneSpace {
 }
 
 impl OneSpace {
-    ghost use Rattle.plain_machine.specs.Image.{HoldsNothing};
+    ghost use Rattle.store_image.specs.Image.{HoldsNothing};
     ghost use Rattle.one_space.specs.Image.{image};
     ghost use Rattle.one_space.specs.One.{AllFree};
 

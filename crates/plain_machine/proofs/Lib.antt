@@ -1,4 +1,3 @@
 pub mod Properly
 pub mod Numbering
 pub mod ByLine
-pub mod Pieces

@@ -9,9 +9,6 @@ pub mod Maps
 pub mod May
 pub mod Run
 pub mod Laws
-pub mod Image
-pub mod Counting
 pub mod Examples
-pub mod Images
 pub mod Scripts
 pub mod Figures

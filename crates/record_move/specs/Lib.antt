@@ -1,3 +1,4 @@
 pub mod Copies
 pub mod Tables
+pub mod Follows
 pub mod Figures

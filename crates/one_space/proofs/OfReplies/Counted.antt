@@ -3,8 +3,8 @@ use Rattle.std.proofs.Common.{◌≡◌, ℕ, ◌+◌, ◌/◌, ◌%◌, ◌<◌
 use Rattle.std.specs.Prelude.{slice_index}
 use Rattle.std.proofs.lemmas.List.{get_or-drop, get_or-take}
 use Rattle.atom_names.specs.Names.{AreNames}
-use Rattle.plain_machine.specs.Counting.{entry_of_bin, bins_by_id, entry_of_fun, image_counts}
-use Rattle.plain_machine.specs.Image.{pieces_by_place}
+use Rattle.store_image.specs.Counting.{entry_of_bin, bins_by_id, entry_of_fun, image_counts}
+use Rattle.store_image.specs.Image.{pieces_by_place}
 use Rattle.plain_machine.specs.Maps.{CountedBin, CountedFun, counts_text}
 use Rattle.plain_machine.specs.State.{State}
 use Rattle.term_words.specs.Counted.{In}

@@ -9,10 +9,10 @@ use Rattle.plain_term.specs.Bytes.{shared_bytes}
 use Rattle.plain_term.specs.Tree.{Tree}
 use Rattle.plain_term.specs.Tree.Trees.{end}
 use Rattle.plain_machine.specs.State.{Process, State}
-use Rattle.plain_machine.specs.Image.{AllBins, AllFuns, AllLiterals, AllRooted, AllWithin, FollowEachOther, HasPieces, ImageStands, LeadInto, LiesIn, Stretch, RecordsTold, RootedStands, WordsStand, areas_by_name}
-use Rattle.plain_machine.specs.Image.{halves_in, holds_words, image_roots, piece_places, pieces_by_place, process_roots}
-use Rattle.plain_machine.proofs.Pieces.Ordered.{AllPieces, EachTwo, HasWords, PiecesApart, bins-any, each-once, follow-ordered, funs-any, has-any, has-both, lies-any, lies-left, lies-right, ordered}
-use Rattle.plain_machine.proofs.Pieces.Ordered.{place-any, places-both, two-ordered, within-any, within-both}
+use Rattle.store_image.specs.Image.{AllBins, AllFuns, AllLiterals, AllRooted, AllWithin, FollowEachOther, HasPieces, ImageStands, LeadInto, LiesIn, Stretch, RecordsTold, RootedStands, WordsStand, areas_by_name}
+use Rattle.store_image.specs.Image.{halves_in, holds_words, image_roots, piece_places, pieces_by_place, process_roots}
+use Rattle.store_image.proofs.Pieces.Ordered.{AllPieces, EachTwo, HasWords, PiecesApart, bins-any, each-once, follow-ordered, funs-any, has-any, has-both, lies-any, lies-left, lies-right, ordered}
+use Rattle.store_image.proofs.Pieces.Ordered.{place-any, places-both, two-ordered, within-any, within-both}
 use Rattle.term_words.specs.Role.{IsSingle}
 use Rattle.plain_term.specs.Measures.{bin_words}
 use Rattle.term_words.specs.Object.{IsPointer, IsRecord, object_words}

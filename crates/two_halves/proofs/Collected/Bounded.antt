@@ -22,7 +22,7 @@ use Rattle.cheney.specs.declared.moving.Moving.{Moving}
 use Rattle.cheney.specs.Plan.{Reached}
 use Rattle.cheney.specs.Rooms.{top_of}
 use Rattle.cheney.proofs.Before.Basics.{not-both}
-use Rattle.chain_sweep.proofs.Leaving.{left-not, moved-is, which}
+use Rattle.record_move.proofs.Leaving.{left-not, moved-is, which}
 use Rattle.counted_records.specs.Occurs.{AreHeld, NamedOnce, OwnersDiffer}
 use Rattle.counted_records.proofs.Demand.{demanded, named-once}
 use Rattle.counted_records.proofs.Weighing.{total-within}

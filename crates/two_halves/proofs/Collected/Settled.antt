@@ -27,7 +27,7 @@ use Rattle.record_move.proofs.Renewing.{renewed-all, renewed-both, renewed-fits,
 use Rattle.cheney.specs.declared.moving.Moving.{Moving}
 use Rattle.cheney.specs.Collected.{Collected}
 use Rattle.cheney.specs.Rooms.{top_of}
-use Rattle.chain_sweep.proofs.Leaving.{record-back, role-goes}
+use Rattle.record_move.proofs.Leaving.{record-back, role-goes}
 use Rattle.two_halves.specs.Halves.{HoldsTree, IsBinOf, IsFunOf, ProcsStand, RecordsStand, Standing, front_of, records_of}
 use Rattle.two_halves.specs.declared.halves.Halves.{Halves}
 use Rattle.two_halves.specs.declared.table.Proc.{Proc}

@@ -24,9 +24,9 @@ use Rattle.cheney.specs.Collected.{Collected, IsMoved}
 use Rattle.cheney.specs.Next.{HasRoles, IsCarried, Remains}
 use Rattle.cheney.proofs.Before.Basics.{not-both}
 use Rattle.cheney.proofs.After.Next.{has-roles}
-use Rattle.chain_sweep.specs.Follows.{RecordsHaveRoom, Sweepable}
-use Rattle.chain_sweep.proofs.Leaving.{carried-role, leaves-sweep, left-not, moved-is, place-is, size6, which}
-use Rattle.chain_sweep.proofs.Room.{Origin, can-move, origin}
+use Rattle.record_move.specs.Follows.{RecordsHaveRoom, Sweepable}
+use Rattle.record_move.proofs.Leaving.{carried-role, leaves-sweep, left-not, moved-is, place-is, size6, which}
+use Rattle.record_move.proofs.Room.{Origin, can-move, origin}
 use Rattle.object_rows.proofs.Rows.{in-turned as turned-in}
 use Rattle.two_halves.specs.Halves.{IsFunOf, Standing, end_of, front_of, records_of}
 use Rattle.two_halves.specs.declared.halves.Halves.{Halves}

@@ -31,7 +31,7 @@ use Rattle.off_heap_list.proofs.Chaining.Chained.{leads-stays, link-named, link-
 use Rattle.record_move.specs.Copies.{record_words}
 use Rattle.record_move.specs.Tables.{OwnersRise}
 use Rattle.record_move.proofs.Moving.{of-record, role-begins}
-use Rattle.chain_sweep.proofs.Room.{total-same}
+use Rattle.record_move.proofs.Room.{total-same}
 use Rattle.two_halves.specs.Stack.{AreApart}
 use Rattle.two_halves.specs.Halves.{HalvesStand, IsBinOf, IsFunOf, IsLaid, ProcsStand, all_places, end_of, front_of}
 use Rattle.two_halves.specs.Adding.{Adds, HasBin, HasFun, IsSpot, Nearly}

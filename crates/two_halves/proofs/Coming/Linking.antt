@@ -29,7 +29,7 @@ use Rattle.off_heap_list.proofs.Chaining.Chained.{fun-link, holder-link, idle-ke
 use Rattle.off_heap_list.proofs.Walked.Tallied.{few, one, ones}
 use Rattle.record_move.specs.Copies.{record_words}
 use Rattle.record_move.proofs.Moving.{naming-few}
-use Rattle.chain_sweep.proofs.Room.{total-same}
+use Rattle.record_move.proofs.Room.{total-same}
 use Rattle.two_halves.specs.Stack.{AreApart}
 use Rattle.two_halves.specs.Halves.{HalvesStand, IsBinOf, IsFunOf, IsLaid, ProcsStand, all_places, end_of, front_of}
 use Rattle.two_halves.specs.Adding.{Gets, HasFun, Nearly}

@@ -29,7 +29,7 @@ use Rattle.record_move.proofs.Moving.{naming-few}
 use Rattle.term_copy.specs.Copied.{CanCopy, CopiesTree, Task}
 use Rattle.object_rows.specs.Row.{AreObjects, ChainsRow, IsRow, links_in}
 use Rattle.object_rows.specs.declared.chaining.Chained.{Chained}
-use Rattle.chain_sweep.proofs.Room.{total-same}
+use Rattle.record_move.proofs.Room.{total-same}
 use Rattle.two_halves.specs.Halves.{HalvesStand, IsBinOf, IsFunOf, IsLaid, ProcsStand, RecordsStand, end_of, front_of, half_of, records_of}
 use Rattle.two_halves.specs.Copying.{CanCopyIn, CopiesIn, HasCopy}
 use Rattle.two_halves.specs.declared.halves.Halves.{Halves}

@@ -1,6 +1,6 @@
 use Rattle.std.proofs.Common.{◌≡◌, List, [], ◌∷◌, ◌++◌, length, map, refl, ◌∙◌, ap, subst, arith}
 use Rattle.std.proofs.lemmas.List.{length-replicate}
-use Rattle.plain_machine.specs.Image.{pieces_by_place}
+use Rattle.store_image.specs.Image.{pieces_by_place}
 use Rattle.plain_machine.proofs.Properly.Living.{first-proper}
 use Rattle.one_space.specs.Image.{record_piece}
 use Rattle.two_halves.specs.declared.table.Proc.{Proc}

@@ -1,6 +1,6 @@
 use Rattle.std.proofs.Common.{◌≡◌, ◌≤◌, length, subst}
-use Rattle.plain_machine.specs.Counting.{image_counts}
-use Rattle.plain_machine.specs.Image.{ImageStands}
+use Rattle.store_image.specs.Counting.{image_counts}
+use Rattle.store_image.specs.Image.{ImageStands}
 use Rattle.one_space.specs.Image.{image}
 use Rattle.one_space.specs.Listing.{counts_of}
 use Rattle.one_space.specs.One.{OneStands}

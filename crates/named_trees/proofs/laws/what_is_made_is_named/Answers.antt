@@ -1,5 +1,0 @@
-use Rattle.named_trees.proofs.Making.{made}
-use Rattle.named_trees.proofs.laws.what_is_made_is_named.Goals as goal
-
-pub returns : goal.returns
-returns c = λ names held shared t h n. made names held t shared h n
