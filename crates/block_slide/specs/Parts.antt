@@ -8,7 +8,8 @@ use Rattle.word_arena.specs.Packs.{Packed}
 use Rattle.object_rows.specs.Row.{AreObjects, IsRow}
 use Rattle.word_shift.specs.Shifted.{word_image, ObjectShifted, RowShifted, StaysBeside, WordsShifted}
 use Rattle.block_slide.specs.Down.{packed_place}
-use Rattle.block_slide.specs.declared.parts.Part.{Part, Objects, Words, Links}
+use Rattle.block_slide.specs.declared.parts.Part.{Part}
+use Rattle.block_slide.specs.declared.parts.Part.TheVariants.{Objects, Words, Links}
 
 -- The places of a part.
 abbrev pub span_of : Part → Span
@@ -16,15 +17,15 @@ span_of (Objects s) = s
 span_of (Words s) = s
 span_of (Links s) = s
 
--- Part i of a list; a part without places past its end.
-abbrev pub part_at : List Part → ℕ → Part
-part_at xs i = slice_index_or xs i (Words (record { start = 0; end = 0 }))
+-- Part i of a list; a row without places past its end.
+abbrev pub nth_part : List Part → ℕ → Part
+nth_part xs i = slice_index_or xs i (Objects (record { start = 0; end = 0 }))
 
 -- The part lies in the memory, and a row is one of whole objects.
-abbrev pub IsPart : List ℕ → Part → Type 0
-IsPart mem (Objects s) = IsRow mem s.start s.end
-IsPart mem (Words s) = s.end ≤ length mem
-IsPart mem (Links s) = s.end ≤ length mem
+abbrev pub IsPartIn : List ℕ → Part → Type 0
+IsPartIn mem (Objects s) = IsRow mem s.start s.end
+IsPartIn mem (Words s) = s.end ≤ length mem
+IsPartIn mem (Links s) = s.end ≤ length mem
 
 -- Each word from one place up to another, a place, became its new place, and no other word changed.
 pub record PlacesShifted (g : ℕ → ℕ) (old new : List ℕ) (from to : ℕ) : Type 0 where
@@ -54,22 +55,22 @@ pub record LiesInUse (mem : List ℕ) (x : Part) : Type 0 where
   pub used : IsUsed mem block
   pub behind : block + 2 ≤ (span_of x).start
   pub inside : (span_of x).end ≤ block + size_at mem block
-  pub is : IsPart mem x
+  pub is : IsPartIn mem x
 
 -- One part ends before the other begins.
-abbrev pub AreApart : (x y : Part) → Type 0
-AreApart x y = ((span_of x).end ≤ (span_of y).start) ⊎ ((span_of y).end ≤ (span_of x).start)
+abbrev pub PartsApart : (x y : Part) → Type 0
+PartsApart x y = ((span_of x).end ≤ (span_of y).start) ⊎ ((span_of y).end ≤ (span_of x).start)
 
 -- Each part lies in a block in use, and no two have a word in common.
 pub record AreParts (mem : List ℕ) (xs : List Part) : Type 0 where
-  pub each : (i : ℕ) → i < length xs → LiesInUse mem (part_at xs i)
-  pub apart : (i j : ℕ) → i < j → j < length xs → AreApart (part_at xs i) (part_at xs j)
+  pub each : (i : ℕ) → i < length xs → LiesInUse mem (nth_part xs i)
+  pub apart : (i j : ℕ) → i < j → j < length xs → PartsApart (nth_part xs i) (nth_part xs j)
 
 -- The first n parts were relocated, and no word outside them changed.
 pub record PartsShifted (g : ℕ → ℕ) (old new : List ℕ) (xs : List Part) (n : ℕ) : Type 0 where
   pub same_len : length new ≡ length old
-  pub done : (i : ℕ) → i < n → i < length xs → PartDone g old new (part_at xs i)
-  pub others : (q : ℕ) → ((i : ℕ) → i < n → i < length xs → (q < (span_of (part_at xs i)).start) ⊎ ((span_of (part_at xs i)).end ≤ q))
+  pub done : (i : ℕ) → i < n → i < length xs → PartDone g old new (nth_part xs i)
+  pub others : (q : ℕ) → ((i : ℕ) → i < n → i < length xs → (q < (span_of (nth_part xs i)).start) ⊎ ((span_of (nth_part xs i)).end ≤ q))
       → slice_index new q ≡ slice_index old q
 
 -- All parts were relocated where they stood, and then the blocks in use were packed.

@@ -2,13 +2,11 @@
 #![tactic(auto)]
 
 mod parts;
+mod passes;
 mod places;
 mod relocating;
-mod slide;
-#[cfg(test)]
-mod trial;
 
 pub use parts::Part;
+pub use passes::slide;
 pub use places::PackedPlaces;
 pub use relocating::{relocate_part, relocate_place_list, relocate_places};
-pub use slide::slide;

@@ -19,7 +19,7 @@ impl<'a> Places for PackedPlaces<'a> {
 
     fn place(&self, mem: &WordMem, at: u64) -> u64 {
         if at <= mem.len() {
-            at - self.shifts.before(mem, at)
+            at.saturating_sub(self.shifts.before(mem, at))
         } else {
             at
         }

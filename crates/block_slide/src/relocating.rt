@@ -1,7 +1,7 @@
 // Parts of the memory, and lists beside it, are relocated.
 ghost use Rattle.std.specs.Prelude.{◌≡◌, ◌≤◌, length};
 ghost use Rattle.word_shift.specs.Shifted.{FitsBeside};
-ghost use Rattle.block_slide.specs.Parts.{span_of, IsPart, PlacesShifted, PlaceListShifted, PartShifted};
+ghost use Rattle.block_slide.specs.Parts.{span_of, IsPartIn, PlacesShifted, PlaceListShifted, PartShifted};
 
 use crate::parts::Part;
 use word_mem::WordMem;
@@ -9,7 +9,7 @@ use word_shift::{Places, relocate_row, relocate_words};
 
 /// Relocates a part of the memory where it stands.
 pub fn relocate_part<P: Places>(mem: &mut WordMem, part: Part, places: &P)
-    requires part { IsPart mem.old part }
+    requires part { IsPartIn mem.old part }
     requires fits { FitsBeside (P.fits places.now) (P.to places.now) mem.old (span_of part).start (span_of part).end }
     ensures { PartShifted (P.to places.now mem.old) mem.old mem.new part }
 {

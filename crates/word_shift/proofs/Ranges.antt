@@ -1,7 +1,5 @@
 -- Ranges that are written, and a list of which the first words are images.
-use Rattle.std.proofs.Common.{◌≡◌, ℕ, ◌+◌, ◌*◌, ◌/◌, ◌%◌, ◌<◌, ◌≤◌, ◌==◌, ◌||◌, if◌then◌else◌, Bool, List, length, get_or, set, sym, ◌∙◌, ap, subst, arith, inl, inr}
-use Rattle.std.proofs.lemmas.Bool.{cases_eq}
-use Rattle.std.proofs.lemmas.List.{get_or-set_same, get_or-set_other, length-set}
+use Rattle.std.proofs.Common.{◌≡◌, ℕ, ◌+◌, ◌*◌, ◌/◌, ◌%◌, ◌<◌, ◌≤◌, ◌==◌, ◌||◌, if◌then◌else◌, Bool, List, length, get_or, sym, ◌∙◌, ap, arith}
 use Rattle.term_words.specs.Object.{object_words}
 use Rattle.term_words.specs.Reach.{first_traced}
 use Rattle.off_heap_list.specs.Links.{name_place}
@@ -40,27 +38,6 @@ module _ (g h : ℕ → ℕ) (e : (a : ℕ) → g a ≡ h a) (old new : List ℕ
     beside = r.beside;
     shifted = object-by-map (w / 4) (first_traced old w) (object_words old w) (name_place old (w / 4)) (is_link old w) r.shifted;
   }
-
--- A word of a range is written: the words before the next place are images by the map of the start.
-pub words-step : (fits : List ℕ → Type 0) (to-of : List ℕ → ℕ → ℕ) (old now : List ℕ) (from to at word image : ℕ) → FitsBeside fits to-of old from to → to ≤ length old → from ≤ at
-    → at < to → WordsShifted (to-of old) old now from at → word ≡ get_or now at 0 → image ≡ word_image (to-of now) word → WordsShifted (to-of old) old (set now at image) from (at + 1)
-words-step fits to-of old now from to at word image f inside low below s is made =
-    let same : word_image (to-of now) word ≡ word_image (to-of old) word =
-    image-by (to-of now) (to-of old) (f.alike now s.beside.same_len (λ q out. s.beside.same q (grind (arith, out, below)))) word in
-    let was : get_or now at 0 ≡ get_or old at 0 = s.beside.same at (inr (omega arith)) in
-    let here : get_or (set now at image) at 0 ≡ image = get_or-set_same now at image 0 (omega (arith, below, inside, s.beside.same_len)) in
-    record {
-      beside = record {
-        same_len = length-set now at image ∙ s.beside.same_len;
-        same = λ q out. get_or-set_other now at q image 0 (omega (arith, out, low)) ∙ s.beside.same q (grind (arith, out));
-      };
-      images = λ q above under. elim (cases_eq q at) as (λ _. get_or (set now at image) q 0 ≡ word_image (to-of old) (get_or old q 0)) [
-        | inl e ↦ (
-            let P : ℕ → Type 0 = λ z. get_or (set now at image) z 0 ≡ word_image (to-of old) (get_or old z 0) in
-            subst P (sym e) (here ∙ (made ∙ (same ∙ ap (word_image (to-of old)) (is ∙ was)))))
-        | inr other ↦ get_or-set_other now at q image 0 other ∙ s.images q above (omega (arith, under, other))
-      ];
-    }
 
 -- A list beside the memory: the words before a number are images.
 pub record ListGoing (g : ℕ → ℕ) (old now : List ℕ) (at : ℕ) : Type 0 where

@@ -51,7 +51,8 @@ fn relocate_names<P: Places>(mem: &mut WordMem, at: u64, header: u64, places: &P
     requires six { is_link_header header ≡ true → 6 ≤ 1 + header / 64 }
     requires fits { P.fits places.now mem.old }
     ensures beside { StaysBeside mem.old mem.new at (at + (1 + header / 64)) }
-    ensures shifted { IsShifted (P.to places.now mem.old) mem.old mem.new at (1 + header / 64) (1 + header / 64) (is_link_header header) (name_place mem.old at) }
+    ensures shifted { IsShifted (P.to places.now mem.old) mem.old mem.new at (1 + header / 64) (1 + header / 64) (is_link_header header)
+        (name_place mem.old at) }
 {
     if is_link_word(header) {
         let next = places.place(mem, next_of(mem, at));

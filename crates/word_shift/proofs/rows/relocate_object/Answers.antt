@@ -1,4 +1,4 @@
-use Rattle.std.proofs.Common.{◌≡◌, ℕ, ◌+◌, ◌/◌, ◌<◌, ◌≤◌, ◌⊎◌, subst, arith}
+use Rattle.std.proofs.Common.{◌≡◌, ℕ, ◌+◌, ◌/◌, subst, arith}
 use Rattle.term_words.specs.Object.{object_words}
 use Rattle.word_shift.specs.Shifted.{FitsBeside, StaysBeside}
 use Rattle.word_shift.proofs.Ranges.{fits-narrower, words-by-map}
@@ -18,8 +18,8 @@ relocate_words-requires-else-header-ne0-clause-fits g c =
     let size : object_words c.args.mem.now c.requires.w ≡ 1 + c.get-header.result / 64 =
     object-size (g.P.Places.to c.args.places.now c.args.mem.now) c.args.mem.now c.args.mem.now c.requires.w c.args.at c.get-header.result c.requires.pointer c.requires.tile c.requires.place
     c.get-header.ensures c.if-header-ne0.false in
-    fits-narrower (g.P.Places.fits c.args.places.now) (g.P.Places.to c.args.places.now) c.args.mem.now c.relocate_names.new.mem c.args.at (c.args.at + object_words c.args.mem.now c.requires.w) c.args.at
-    (c.args.at + (1 + c.get-header.result / 64)) (c.args.at + c.traced_from.result) (c.args.at + (1 + c.get-header.result / 64)) c.requires.fit c.relocate_names.ensures.beside
+    fits-narrower (g.P.Places.fits c.args.places.now) (g.P.Places.to c.args.places.now) c.args.mem.now c.relocate_names.new.mem c.args.at (c.args.at + object_words c.args.mem.now c.requires.w)
+    c.args.at (c.args.at + (1 + c.get-header.result / 64)) (c.args.at + c.traced_from.result) (c.args.at + (1 + c.get-header.result / 64)) c.requires.fit c.relocate_names.ensures.beside
     (omega arith) (omega (arith, size)) (omega arith) (omega (arith, size))
 
 pub returns-then-header-ne0 : goal.returns-then-header-ne0
