@@ -49,7 +49,7 @@ pub headers-on : (old now new : List ℕ) → Blocked old → HeadersStay old no
 headers-on old now new blocked a b =
     record { same_len = b.same_len ∙ a.same_len; same = λ p begins. b.same p (lent-begins old now p blocked a begins) ∙ a.same p begins }
 
-used-on : (old now : List ℕ) (p : ℕ) → Blocked old → HeadersStay old now → IsUsed old p → IsUsed now p
+pub used-on : (old now : List ℕ) (p : ℕ) → Blocked old → HeadersStay old now → IsUsed old p → IsUsed now p
 used-on old now p blocked same used =
     let begins : BlockBegins old p = used.begins in
     let word : get_or now p 0 ≡ get_or old p 0 = same.same p begins in
