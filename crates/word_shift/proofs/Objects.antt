@@ -122,6 +122,9 @@ module _ (g : ℕ → ℕ) (mem new : List ℕ) (w at header : ℕ) (y : IsPoint
   there : get_or mem (w / 4) 0 ≡ header
   there = ap (λ a. get_or mem a 0) e ∙ sym was
 
+  pub object-two : (header % 4 ≡ 0 → ⊥) → object_words mem w ≡ 2
+  object-two other = (small mem at (w ∷ []) (at + object_words mem w) (one mem w at y t e) (λ z. other (ap (λ a. a % 4) was ∙ z))).0
+
   pub object-small : (header % 4 ≡ 0 → ⊥) → WordsShifted g mem new at (at + 2) → RelocatesObject g mem new w (at + 2)
   object-small other ws =
       let (size, plain) = small mem at (w ∷ []) (at + object_words mem w) (one mem w at y t e) (λ z. other (ap (λ a. a % 4) was ∙ z)) in

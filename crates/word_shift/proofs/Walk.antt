@@ -115,8 +115,11 @@ module _ (g : ℕ → ℕ) (old now : List ℕ) (from at to : ℕ) (ws : List �
     header : get_or now (x.w / 4) 0 ≡ get_or old (x.w / 4) 0
     header = ahead (x.w / 4) (omega (arith, x.place))
 
-    pub relocating-can : (fits : List ℕ → Type 0) → FitsBeside fits old from to → to ≤ length old → CanRelocate fits now at
-    relocating-can fits f inside =
+    pub relocating-alike : (fits : List ℕ → Type 0) (to-of : List ℕ → ℕ → ℕ) → FitsBeside fits to-of old from to → (a : ℕ) → to-of now a ≡ to-of old a
+    relocating-alike fits to-of f = f.alike now r.beside.same_len (λ q out. r.beside.same q (grind (arith, out, some)))
+
+    pub relocating-can : (fits : List ℕ → Type 0) (to-of : List ℕ → ℕ → ℕ) → FitsBeside fits to-of old from to → to ≤ length old → CanRelocate fits to-of now at
+    relocating-can fits to-of f inside =
         let size : object_words now x.w ≡ object_words old x.w = words-by old now x.w header in
         let end : at + object_words old x.w ≤ to = ends old at r.rest to x in
         record {
@@ -125,7 +128,7 @@ module _ (g : ℕ → ℕ) (old now : List ℕ) (from at to : ℕ) (ws : List �
           tile = tile-by old now x.w header x.tile;
           place = x.place;
           inside = omega (arith, size, end, inside, r.beside.same_len);
-          fit = fits-narrower fits old now from to from at at (at + object_words now x.w) f r.beside (omega arith) (omega (arith, some)) r.order (omega (arith, size, end));
+          fit = fits-narrower fits to-of old now from to from at at (at + object_words now x.w) f r.beside (omega arith) (omega (arith, some)) r.order (omega (arith, size, end));
         }
 
     -- The next object was relocated.

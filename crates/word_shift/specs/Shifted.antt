@@ -11,9 +11,12 @@ use Rattle.object_rows.specs.Row.{is_link}
 abbrev pub word_image : (ℕ → ℕ) → ℕ → ℕ
 word_image g w = if (w % 4 == 1) || (w % 4 == 2) then g (w / 4) * 4 + w % 4 else w
 
--- The map of places can be asked whatever words stand from one place up to another, where all others are as they are.
-pub record FitsBeside (fits : List ℕ → Type 0) (mem : List ℕ) (from to : ℕ) : Type 0 where
+-- The map of places can be asked whatever words stand from one place up to another, where all others are as they are, and answers
+-- the same.
+pub record FitsBeside (fits : List ℕ → Type 0) (map : List ℕ → ℕ → ℕ) (mem : List ℕ) (from to : ℕ) : Type 0 where
   pub fit : (new : List ℕ) → length new ≡ length mem → ((q : ℕ) → (q < from) ⊎ (to ≤ q) → slice_index new q ≡ slice_index mem q) → fits new
+  pub alike : (new : List ℕ) → length new ≡ length mem → ((q : ℕ) → (q < from) ⊎ (to ≤ q) → slice_index new q ≡ slice_index mem q)
+      → (a : ℕ) → map new a ≡ map mem a
 
 -- The memory is as long as it was, and no word changed but from one place up to another.
 pub record StaysBeside (old new : List ℕ) (from to : ℕ) : Type 0 where
@@ -44,13 +47,13 @@ abbrev pub ObjectShifted : (ℕ → ℕ) → (old new : List ℕ) → ℕ → Ty
 ObjectShifted g old new w = IsShifted g old new (w / 4) (first_traced old w) (object_words old w) (is_link old w) (name_place old (w / 4))
 
 -- A whole object lies at a place of the memory, and the map can be asked while its words are written.
-pub record CanRelocate (fits : List ℕ → Type 0) (mem : List ℕ) (at : ℕ) : Type 0 where
+pub record CanRelocate (fits : List ℕ → Type 0) (map : List ℕ → ℕ → ℕ) (mem : List ℕ) (at : ℕ) : Type 0 where
   pub w : ℕ
   pub pointer : IsPointer w
   pub tile : IsTile mem w
   pub place : w / 4 ≡ at
   pub inside : at + object_words mem w ≤ length mem
-  pub fit : FitsBeside fits mem at (at + object_words mem w)
+  pub fit : FitsBeside fits map mem at (at + object_words mem w)
 
 -- The object at the place was relocated, and nothing else was written; it ends at `next`.
 pub record RelocatesObject (g : ℕ → ℕ) (old new : List ℕ) (w next : ℕ) : Type 0 where

@@ -17,8 +17,8 @@ use word_mem::WordMem;
 /// funs the new places of what they told. The row is walked once.
 pub fn relocate_row<P: Places>(mem: &mut WordMem, from: u64, to: u64, places: &P)
     requires row { IsRow mem.old from to }
-    requires fits { FitsBeside (P.fits places.now) mem.old from to }
-    ensures { (ws : List ℕ) → AreObjects mem.old from ws to → RowShifted (P.to places.now) mem.old mem.new from to ws }
+    requires fits { FitsBeside (P.fits places.now) (P.to places.now) mem.old from to }
+    ensures { (ws : List ℕ) → AreObjects mem.old from ws to → RowShifted (P.to places.now mem.old) mem.old mem.new from to ws }
 {
     let mut at = from;
     while at < to {
@@ -28,8 +28,8 @@ pub fn relocate_row<P: Places>(mem: &mut WordMem, from: u64, to: u64, places: &P
 
 // Relocates one object; the answer is the place behind it.
 fn relocate_object<P: Places>(mem: &mut WordMem, at: u64, places: &P) -> u64
-    requires { CanRelocate (P.fits places.now) mem.old at }
-    ensures { (w : ℕ) → IsPointer w → IsTile mem.old w → w / 4 ≡ at → RelocatesObject (P.to places.now) mem.old mem.new w result }
+    requires { CanRelocate (P.fits places.now) (P.to places.now) mem.old at }
+    ensures { (w : ℕ) → IsPointer w → IsTile mem.old w → w / 4 ≡ at → RelocatesObject (P.to places.now mem.old) mem.old mem.new w result }
 {
     let _len = mem.len();
     let header = mem.get(at);
@@ -51,7 +51,8 @@ fn relocate_names<P: Places>(mem: &mut WordMem, at: u64, header: u64, places: &P
     requires six { is_link_header header ≡ true → 6 ≤ 1 + header / 64 }
     requires fits { P.fits places.now mem.old }
     ensures beside { StaysBeside mem.old mem.new at (at + (1 + header / 64)) }
-    ensures shifted { IsShifted (P.to places.now) mem.old mem.new at (1 + header / 64) (1 + header / 64) (is_link_header header) (name_place mem.old at) }
+    ensures shifted { IsShifted (P.to places.now mem.old) mem.old mem.new at (1 + header / 64) (1 + header / 64) (is_link_header header)
+        (name_place mem.old at) }
 {
     if is_link_word(header) {
         let next = places.place(mem, next_of(mem, at));

@@ -1,0 +1,150 @@
+-- After both passes: blocks, objects and records at the new places.
+use Rattle.std.proofs.Common.{◌≡◌, ℕ, zero, suc, ◌+◌, ◌-◌, ◌/◌, ◌<◌, ◌≤◌, ◌⊎◌, Bool, true, List, length, get_or, refl, sym, ◌∙◌, ap, subst, arith, inl, inr}
+use Rattle.std.proofs.lemmas.Bool.{cases_lt, cases_eq}
+use Rattle.word_arena.specs.Blocks.{size_at, Blocked, IsUsed}
+use Rattle.word_arena.specs.Sums.{slid}
+use Rattle.word_arena.proofs.Side.Before.{before-kept, before-order}
+use Rattle.word_arena.proofs.Side.Facts.{apart, block-within}
+use Rattle.word_arena.proofs.Laid.Lent.{lent-began}
+use Rattle.term_words.specs.Role.{OfRecord}
+use Rattle.term_words.specs.Object.{IsRecord, object_words}
+use Rattle.term_words.proofs.Placing.Roles.{record-role, record-some}
+use Rattle.word_shift.specs.Shifted.{ObjectShifted}
+use Rattle.word_shift.specs.Slides.{MovesWhole, Slides}
+use Rattle.word_shift.proofs.Apart.{Within, within-row}
+use Rattle.block_slide.specs.Down.{packed_place, is_in_use, packed_test}
+use Rattle.block_slide.specs.Held.{BlocksSlid, IsBehind, IsInRow, ReachHeld, RolesHeld}
+use Rattle.block_slide.specs.Parts.{nth_part, span_of, AreParts, LiesInUse, PartDone, SlidParts}
+use Rattle.block_slide.specs.declared.parts.Part.{Part}
+use Rattle.block_slide.specs.declared.parts.Part.TheVariants.{Objects}
+use Rattle.block_slide.proofs.Parting.{used-on}
+use Rattle.block_slide.proofs.Placed.{InBlock, in-block, in-use, one-shift, place-of, roles-come}
+
+-- These n words from a place on lie in one block, behind its two first words.
+pub record InOne (mem : List ℕ) (v n : ℕ) : Type 0 where
+  pub block : ℕ
+  pub used : IsUsed mem block
+  pub from : block + 2 ≤ v
+  pub to : v + n ≤ block + size_at mem block
+
+-- Words side by side, each behind the first words of a block, lie in one.
+pub one-block : (mem : List ℕ) (v m : ℕ) → Blocked mem → ((j : ℕ) → j < suc m → IsBehind mem (v + j)) → InOne mem v (suc m)
+one-block mem v zero blocked each =
+    let b : IsBehind mem (v + 0) = each 0 (omega arith) in
+    record { block = b.block; used = b.used; from = omega (arith, b.from); to = omega (arith, b.below) }
+one-block mem v (suc m) blocked each =
+    let o : InOne mem v (suc m) = one-block mem v m blocked (λ j below. each j (omega (arith, below))) in
+    let b : IsBehind mem (v + suc m) = each (suc m) (omega arith) in
+    let high : v + suc (suc m) ≤ o.block + size_at mem o.block =
+    elim (cases_eq o.block b.block) as (λ _. v + suc (suc m) ≤ o.block + size_at mem o.block) [
+      | inl e ↦ omega (arith, b.below, e, ap (λ z. z + size_at mem z) e)
+      | inr other ↦ elim (cases_lt o.block b.block) as (λ _. v + suc (suc m) ≤ o.block + size_at mem o.block) [
+        | inl below ↦ absurd (omega (arith, o.to, b.from, apart mem o.block b.block blocked o.used.begins b.used.begins below))
+        | inr above ↦ absurd (omega (arith, o.from, b.below, apart mem b.block o.block blocked b.used.begins o.used.begins (omega (arith, other, above))))
+      ]
+    ] in
+    record { block = o.block; used = o.used; from = o.from; to = high }
+
+module _ (old new : List ℕ) (xs : List Part) (blocked : Blocked old) (parts : AreParts old xs) (s : SlidParts old new xs) where
+  mid-used : (p : ℕ) → IsUsed old p → IsUsed s.mid p
+  mid-used p used = used-on old s.mid p blocked s.headers used
+
+  mid-size : (p : ℕ) → IsUsed old p → size_at s.mid p ≡ size_at old p
+  mid-size p used = ap (λ h. h / 16) (s.headers.same p used.begins)
+
+  mid-slid : (p a : ℕ) → slid s.mid p a ≡ slid old p a
+  mid-slid p a = ap (λ n. a - n) (before-kept old s.mid p blocked s.headers)
+
+  pub word-moved : (p a : ℕ) → IsUsed old p → p ≤ a → a < p + size_at old p → get_or new (packed_place old a) 0 ≡ get_or s.mid a 0
+  word-moved p a used low high =
+      ap (λ q. get_or new q 0) (place-of old blocked p a used low (omega (arith, high)) ∙ sym (mid-slid p a))
+      ∙ s.packed.words p a (mid-used p used) low (omega (arith, high, mid-size p used))
+
+  pub place-inside : (p a : ℕ) → IsUsed old p → p ≤ a → a < p + size_at old p → packed_place old a < length new
+  place-inside p a used low high =
+      omega (arith, place-of old blocked p a used low (omega (arith, high)), high, (block-within old p blocked used.begins).to, s.packed.same_len, s.headers.same_len)
+
+  -- A word of the front of a block is in no part.
+  front-kept : (p a : ℕ) → IsUsed old p → p ≤ a → a < p + 2 → a < p + size_at old p → get_or s.mid a 0 ≡ get_or old a 0
+  front-kept p a used low near high = s.shifted.others a (λ i below inside.
+      let l : LiesInUse old (nth_part xs i) = parts.each i inside in
+      elim (cases_eq l.block p) as (λ _. (a < (span_of (nth_part xs i)).start) ⊎ ((span_of (nth_part xs i)).end ≤ a)) [
+        | inl e ↦ inl (omega (arith, l.behind, near, e))
+        | inr other ↦ elim (cases_lt l.block p) as (λ _. (a < (span_of (nth_part xs i)).start) ⊎ ((span_of (nth_part xs i)).end ≤ a)) [
+          | inl first ↦ inr (omega (arith, l.inside, low, apart old l.block p blocked l.used.begins used.begins first))
+          | inr second ↦ inl (omega (arith, l.behind, high, apart old p l.block blocked used.begins l.used.begins (omega (arith, other, second))))
+        ]
+      ])
+
+  used-two : (p : ℕ) → IsUsed old p → 2 ≤ size_at old p
+  used-two p used = (block-within old p blocked used.begins).header.owned used.kind
+
+  place-front : (p : ℕ) → IsUsed old p → packed_place old p ≡ slid old p p
+  place-front p used = place-of old blocked p p used (omega arith) (omega arith)
+
+  pub blocks-slid : BlocksSlid old new
+  blocks-slid = record {
+    same_len = s.packed.same_len ∙ s.headers.same_len;
+    used = λ p used.
+        let P : ℕ → Type 0 = λ q. IsUsed new q in
+        subst P (mid-slid p p ∙ sym (place-front p used)) (s.packed.used p (mid-used p used));
+    headers = λ p used.
+        let two : 2 ≤ size_at old p = used-two p used in
+        word-moved p p used (omega arith) (omega (arith, two)) ∙ front-kept p p used (omega arith) (omega arith) (omega (arith, two));
+    owners = λ p used.
+        let two : 2 ≤ size_at old p = used-two p used in
+        ap (λ q. get_or new q 0) (sym (one-shift old blocked p p (p + 1) 1 used (omega arith) refl (omega (arith, two))))
+        ∙ (word-moved p (p + 1) used (omega arith) (omega (arith, two)) ∙ front-kept p (p + 1) used (omega arith) (omega arith) (omega (arith, two)));
+    only = λ r is.
+        let (p, used, e) = s.packed.only r is in
+        let was : IsUsed old p =
+        record { begins = lent-began old s.mid p blocked s.headers used.begins; kind = omega (arith, used.kind, s.headers.same p (lent-began old s.mid p blocked s.headers used.begins)) } in
+        (p, was, place-front p was ∙ (sym (mid-slid p p) ∙ e));
+    order = λ p q one two below. omega (arith, place-front p one, place-front q two, before-order old p q blocked one two below);
+    last = s.packed.last;
+  }
+
+  -- Words of one block are used, and move by one shift.
+  pub moves-whole : (b v n : ℕ) → IsUsed old b → b ≤ v → v + n ≤ b + size_at old b → MovesWhole (packed_place old) (is_in_use old) v n
+  moves-whole b v n used low high = record {
+    whole = λ q from below. in-use old q (record { block = b; used = used; from = omega (arith, low, from); below = omega (arith, below, high) });
+    shift = λ j q below e. one-shift old blocked b v q j used low e (omega (arith, below, e, high));
+  }
+
+  -- An object in a row was relocated, and is whole in a block in use.
+  module _ (w : ℕ) (r : IsInRow old xs w) where
+    row-lies : LiesInUse old (Objects r.span)
+    row-lies = (let P : Part → Type 0 = λ x. LiesInUse old x in subst P r.is (parts.each r.part r.listed))
+
+    pub row-within : Within old r.span.start r.span.end w
+    row-within = within-row old r.span.start r.span.end r.ws r.are w r.member
+
+    pub row-shifted : ObjectShifted (packed_place old) old s.mid w
+    row-shifted = (let P : Part → Type 0 = λ x. PartDone (packed_place old) old s.mid x in subst P r.is (s.shifted.done r.part r.listed r.listed) r.ws r.are w r.member)
+
+    pub row-whole : MovesWhole (packed_place old) (is_in_use old) (w / 4) (object_words old w)
+    row-whole = moves-whole row-lies.block (w / 4) (object_words old w) row-lies.used (omega (arith, row-lies.behind, row-within.low)) (omega (arith, row-lies.inside, row-within.high))
+
+  module _ (c : ℕ → ℕ → Bool) (held : RolesHeld c old xs) where
+    pub record-kept : (q k : ℕ) → c q k ≡ true → OfRecord k → get_or s.mid q 0 ≡ get_or old q 0
+    record-kept q k role of = s.shifted.others q (λ i below inside. held.apart q k role of i inside)
+
+    pub record-one : (v n : ℕ) → IsRecord c old v n → InOne old v n
+    record-one v zero is = absurd (omega (arith, record-some c old v zero is))
+    record-one v (suc m) is = one-block old v m blocked (λ j below. (let (k, (of, role)) = record-role c old v (suc m) (v + j) is (omega arith) (omega (arith, below)) in held.behind (v + j) k role))
+
+    pub record-whole : (v n : ℕ) → IsRecord c old v n → MovesWhole (packed_place old) (is_in_use old) v n
+    record-whole v n is = (let o : InOne old v n = record-one v n is in moves-whole o.block v n o.used (omega (arith, o.from)) o.to)
+
+    pub slides : (roots : List ℕ) → ReachHeld old roots xs → Slides (packed_place old) (is_in_use old) c (packed_test c old) old s.mid new roots
+    slides roots reach = record {
+      relocated = λ w r y. row-shifted w (reach.objects w r y);
+      objects = λ w r y. row-whole w (reach.objects w r y);
+      kept = λ v n q named is low high. (let (k, (of, role)) = record-role c old v n q is low high in record-kept q k role of);
+      records = λ v n named is. record-whole v n is;
+      words = record {
+        inside = λ a t. (let x : InBlock old a = in-block old a t in place-inside x.block a x.used x.from x.below);
+        moved = λ a t. (let x : InBlock old a = in-block old a t in word-moved x.block a x.used x.from x.below);
+        roles = λ a k t role. roles-come c old a k blocked t role;
+      };
+    }

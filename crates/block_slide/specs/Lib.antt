@@ -1,0 +1,3 @@
+pub mod Down
+pub mod Parts
+pub mod Held

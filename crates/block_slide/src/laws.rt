@@ -1,0 +1,45 @@
+// What stands after a slide: each law is the contract of a function that does nothing.
+ghost use Rattle.std.specs.Prelude.{◌≡◌, ℕ, ◌+◌, ◌≤◌, Bool, true, List, map};
+ghost use Rattle.plain_term.specs.Tree.{Trees};
+ghost use Rattle.term_words.specs.Role.{IsSingle};
+ghost use Rattle.term_words.specs.Stands.{AllStand};
+ghost use Rattle.term_words.specs.Relocated.{Relocated};
+ghost use Rattle.word_arena.specs.Blocks.{size_at, Blocked, IsUsed};
+ghost use Rattle.word_arena.specs.Shifts.{IsSummed};
+ghost use Rattle.word_arena.specs.declared.shifts.Shifts.{Shifts};
+ghost use Rattle.word_shift.specs.Shifted.{word_image, FitsBeside};
+ghost use Rattle.word_shift.specs.Slides.{RolesMoved, Slides};
+ghost use Rattle.block_slide.specs.Down.{packed_place, is_in_use, packed_test};
+ghost use Rattle.block_slide.specs.Held.{BlocksSlid, ReachHeld, RolesHeld};
+ghost use Rattle.block_slide.specs.Parts.{AreParts, SlidParts};
+ghost use Rattle.block_slide.specs.declared.parts.Part.{Part};
+
+/// The map of a slide can be asked whatever words stand in a block in use behind its two first words, and answers the same.
+pub fn sums_fit_inside_blocks()
+    ensures { (mem : List ℕ) (s : Shifts) (p from to : ℕ) → IsSummed mem s → IsUsed mem p → p + 2 ≤ from → to ≤ p + size_at mem p
+        → FitsBeside (λ m. IsSummed m s) packed_place mem from to }
+{}
+
+/// No two places of blocks in use come to one, so a test of one role a place is one where the words have come to.
+pub fn packed_places_differ()
+    ensures places { (mem : List ℕ) (a b : ℕ) → Blocked mem → is_in_use mem a ≡ true → is_in_use mem b ≡ true → packed_place mem a ≡ packed_place mem b → a ≡ b }
+    ensures roles { (c : ℕ → ℕ → Bool) (mem : List ℕ) → Blocked mem → RolesMoved (packed_place mem) (is_in_use mem) c (packed_test c mem) }
+    ensures single { (c : ℕ → ℕ → Bool) (mem : List ℕ) → Blocked mem → IsSingle c → IsSingle (packed_test c mem) }
+{}
+
+/// After a slide the blocks in use stand at the new places in their order, and one free block or none behind them.
+pub fn slid_blocks_stay()
+    ensures { (old new : List ℕ) (xs : List Part) → Blocked old → AreParts old xs → SlidParts old new xs → BlocksSlid old new }
+{}
+
+/// After a slide everything that stood stands at the new places, where the rows that were relocated hold what the roots reach.
+pub fn slid_parts_stand()
+    ensures slides { (c : ℕ → ℕ → Bool) (old new roots : List ℕ) (xs : List Part) (s : SlidParts old new xs) → Blocked old → AreParts old xs
+        → RolesHeld c old xs → ReachHeld old roots xs → Slides (packed_place old) (is_in_use old) c (packed_test c old) old s.mid new roots }
+    ensures lies { (c : ℕ → ℕ → Bool) (shared : List (List ℕ)) (old new roots : List ℕ) (ts : Trees) (xs : List Part) → SlidParts old new xs → Blocked old
+        → AreParts old xs → RolesHeld c old xs → ReachHeld old roots xs → IsSingle c → AllStand c shared old roots ts
+        → Relocated c (packed_test c old) old new roots (word_image (packed_place old)) (packed_place old) }
+    ensures roots { (c : ℕ → ℕ → Bool) (shared : List (List ℕ)) (old new roots : List ℕ) (ts : Trees) (xs : List Part) → SlidParts old new xs → Blocked old
+        → AreParts old xs → RolesHeld c old xs → ReachHeld old roots xs → IsSingle c → AllStand c shared old roots ts
+        → AllStand (packed_test c old) shared new (map (word_image (packed_place old)) roots) ts }
+{}

@@ -1,0 +1,27 @@
+// Where the places of a memory of blocks come to when the blocks in use are packed.
+use word_arena::Shifts;
+use word_mem::WordMem;
+use word_shift::Places;
+
+/// The map of a slide, by a table of shifts: a place moves down by the free words before it, one outside the memory stays.
+#[derive(Clone, Copy)]
+pub struct PackedPlaces<'a> {
+    pub shifts: &'a Shifts,
+}
+
+impl<'a> Places for PackedPlaces<'a> {
+    ghost use Rattle.word_arena.specs.Shifts.{IsSummed};
+    ghost use Rattle.block_slide.specs.Down.{packed_place};
+
+    ghost to = { λ s mem a. packed_place mem a };
+
+    ghost fits = { λ s mem. IsSummed mem s.shifts.now };
+
+    fn place(&self, mem: &WordMem, at: u64) -> u64 {
+        if at <= mem.len() {
+            at.saturating_sub(self.shifts.before(mem, at))
+        } else {
+            at
+        }
+    }
+}
