@@ -24,8 +24,7 @@ abbrev pub laid_out : Halves → (mem : List ℕ) → (top low : ℕ) → Vec Pr
 laid_out h mem top low v = record {
   mem = mem;
   base = h.base;
-  top = top;
-  low = low;
+  room = record { start = h.room.start; top = top; end = low };
   procs = v;
   head = h.head;
   linked = h.linked;
@@ -126,8 +125,8 @@ module _ (c d : ℕ → ℕ → Bool) (mem mem2 : List ℕ) (len : length mem2 �
 -- The half with other processes, and with words that came below and above the free ones.
 module _ (named named2 : ℕ) (h : Halves) (shared : List (List ℕ)) (qs qs2 : List Process) (laid : IsLaid h) (s : HalvesStand named h shared qs) (d : ℕ → ℕ → Bool) (single : IsSingle d)
     (mem2 : List ℕ) (top low : ℕ) (v : Vec Proc Global) (len : length mem2 ≡ length h.mem) (more : (a k : ℕ) → s.test a k ≡ true → d a k ≡ true)
-    (plain : (a k : ℕ) → d a k ≡ true → (s.test a k ≡ true) ⊎ IsPlain k) (within : (a k : ℕ) → d a k ≡ true → (s.test a k ≡ true) ⊎ ((h.top ≤ a) × (a < top)))
-    (same : (a k : ℕ) → s.test a k ≡ true → get_or mem2 a 0 ≡ get_or h.mem a 0) (up : h.top ≤ top) (down : low ≤ h.low) (names : named ≤ named2)
+    (plain : (a k : ℕ) → d a k ≡ true → (s.test a k ≡ true) ⊎ IsPlain k) (within : (a k : ℕ) → d a k ≡ true → (s.test a k ≡ true) ⊎ ((h.room.top ≤ a) × (a < top)))
+    (same : (a k : ℕ) → s.test a k ≡ true → get_or mem2 a 0 ≡ get_or h.mem a 0) (up : h.room.top ≤ top) (down : low ≤ h.room.end) (names : named ≤ named2)
     (procs : ProcsStand d shared mem2 low (h.base + length mem2 / 2) named2 v.items qs2) where
   pub halves-filled : AreApart (all_places mem2 v.items) → HalvesStand named2 (laid_out h mem2 top low v) shared qs2
   halves-filled apart = record {
@@ -160,12 +159,13 @@ module _ (named named2 : ℕ) (h : Halves) (shared : List (List ℕ)) (qs qs2 : 
   }
 
   -- It is laid out, where all fits.
-  pub laid-filled : top ≤ low → low + 2 * places_in v.items ≤ h.low + 2 * places_in h.procs.items → IsLaid (laid_out h mem2 top low v)
+  pub laid-filled : top ≤ low → low + 2 * places_in v.items ≤ h.room.end + 2 * places_in h.procs.items → IsLaid (laid_out h mem2 top low v)
   laid-filled order fits =
       let words : total (record_words mem2) (records_of h) ≡ total (record_words h.mem) (records_of h) =
       words-filled s.test d h.mem mem2 len more plain same shared h.bins.items h.funs.items s.records in
       record {
         even = omega (arith, len, laid.even);
+        starts = laid.starts;
         side = elim laid.side [ inl e ↦ inl e | inr e ↦ inr (omega (arith, e, len)) ];
         front = omega (arith, laid.front, up);
         order = order;
