@@ -161,16 +161,14 @@ impl One {
             return Err(Refusal::NoSpace(grow));
         }
         let process = *self.halves.process(seat.row);
-        let mut room = self.halves.room;
         let w = map_with(
             &mut self.halves.mem,
-            &mut room,
+            &mut self.halves.room,
             process.regs[s.0 as usize],
             place.spot,
             process.regs[k.0 as usize],
             process.regs[v.0 as usize],
         );
-        self.halves.room.top = room.top;
         let process = self.halves.process_mut(seat.row);
         process.regs[r.0 as usize] = w;
         self.swept = false;
@@ -191,9 +189,7 @@ impl One {
             return Err(Refusal::NoSpace(REF_WORDS));
         }
         let count = self.halves.process(seat.row).refs + 1;
-        let mut room = self.halves.room;
-        let w = reference(&mut self.halves.mem, &mut room, seat.pid, count);
-        self.halves.room.top = room.top;
+        let w = reference(&mut self.halves.mem, &mut self.halves.room, seat.pid, count);
         let process = self.halves.process_mut(seat.row);
         process.regs[r.0 as usize] = w;
         process.refs = count;
@@ -227,15 +223,13 @@ impl One {
             return Err(Refusal::NoSpace(grow));
         }
         let process = *self.halves.process(seat.row);
-        let mut room = self.halves.room;
         let w = repeated(
             &mut self.halves.mem,
-            &mut room,
+            &mut self.halves.room,
             shape,
             n,
             process.regs[s.0 as usize],
         );
-        self.halves.room.top = room.top;
         let process = self.halves.process_mut(seat.row);
         process.regs[r.0 as usize] = w;
         self.swept = false;

@@ -78,7 +78,7 @@ module _ (b : One) (holds : Holds b) (seat : Seat) (x : Sits b seat) (n : ℕ) (
     module _ (mem2 : List ℕ) (z : Room) (used : ℕ) (few : used ≤ n) (uses : Uses used h.room z h.mem mem2)
         (p : Proc) (is : p ≡ get_or h.procs.items seat.row p) (r w made : ℕ) (row : Vec ℕ Global) (same_row : vec_len row ≡ vec_len b.row) where
       abbrev h2 : Halves
-      h2 = laid_out h mem2 z.top h.room.end (with_item h.procs seat.row (with_term p r w made))
+      h2 = laid_out h mem2 z (with_item h.procs seat.row (with_term p r w made))
 
       -- All words but those of the room are as before.
       others : (q : ℕ) → (q < h.room.top) ⊎ (h.room.end ≤ q) → get_or mem2 q 0 ≡ get_or h.mem q 0
@@ -89,8 +89,9 @@ module _ (b : One) (holds : Holds b) (seat : Seat) (x : Sits b seat) (n : ℕ) (
           let same : places_in (set h.procs.items seat.row (with_term p r w made)) ≡ places_in h.procs.items =
           omega (arith, places-row h.procs.items seat.row (with_term p r w made) p sits1.within is) in
           let o1 : OneStands (roomed b h) holds.state = roomed-there b holds n h ok room holds.state holds.stands in
-          let laid : IsLaid (laid_out h mem2 z.top h.room.end h.procs) =
-          rest-laid b.named h holds.state.shared holds.state.processes room.laid o1.processes mem2 z.top uses.same_len others (omega (arith, uses.moved)) (omega (arith, uses.moved, few, term-fits)) in
+          let laid : IsLaid (laid_out h mem2 z h.procs) =
+          rest-laid b.named h holds.state.shared holds.state.processes room.laid o1.processes mem2 z uses.same_len others (omega (arith, uses.moved)) (omega (arith, uses.moved, uses.same_end, few, term-fits))
+          (omega (arith, uses.same_end)) uses.same_start in
           counts-same (roomed b h) (built_in b h2 row named) counts1
           (record { even = laid.even; side = laid.side; starts = laid.starts; front = laid.front; order = laid.order; fits = omega (arith, laid.fits, same) })
           (numbers-row h.procs.items seat.row (with_term p r w made) p sits1.within is refl) (length-set h.procs.items seat.row (with_term p r w made)) refl same_row refl (omega arith) refl
@@ -134,13 +135,13 @@ module _ (b : One) (holds : Holds b) (seat : Seat) (x : Sits b seat) (n : ℕ) (
         bare : (a k : ℕ) → h.room.end ≤ a → a < end_of h → ((j : ℕ) → o1.processes.test a j ≡ true → ⊥) → built.test a k ≡ true → ⊥
         bare a k above below none e = elim (new-within a k e) [ inl old ↦ none k old | inr new ↦ omega (arith, new.1, above, uses.moved, few, term-fits) ]
 
-        rows : ProcsStand built.test s.shared mem2 h.room.end (end_of h) named h.procs.items s.processes
-        rows = procs-on o1.processes.test built.test s.shared h.mem mem2 b.named named h.room.end h.room.end (end_of h) trees kept bare (omega arith) h.procs.items s.processes o1.processes.processes
+        rows : ProcsStand built.test s.shared mem2 z.end (end_of h) named h.procs.items s.processes
+        rows = procs-on o1.processes.test built.test s.shared h.mem mem2 b.named named h.room.end z.end (end_of h) trees kept bare (omega (arith, uses.same_end)) h.procs.items s.processes o1.processes.processes
 
-        set-rows : ProcsStand built.test s.shared mem2 h.room.end (end_of h) named (set h.procs.items seat.row (with_term p r w made)) (set s.processes seat.row (with_tree q r t refs))
+        set-rows : ProcsStand built.test s.shared mem2 z.end (end_of h) named (set h.procs.items seat.row (with_term p r w made)) (set s.processes seat.row (with_tree q r t refs))
         set-rows =
-            let old = row-stands built.test s.shared mem2 h.room.end (end_of h) named h.procs.items s.processes seat.row p sits1.within is rows in
-            row-set built.test s.shared mem2 h.room.end (end_of h) named h.procs.items s.processes seat.row (with_term p r w made) (with_tree q r t refs) rows (record {
+            let old = row-stands built.test s.shared mem2 z.end (end_of h) named h.procs.items s.processes seat.row p sits1.within is rows in
+            row-set built.test s.shared mem2 z.end (end_of h) named h.procs.items s.processes seat.row (with_term p r w made) (with_tree q r t refs) rows (record {
               number = old.number;
               count = length-set p.regs r w ∙ old.count;
               registers = held-set built.test s.shared mem2 named p.regs q.registers r w t old.registers (record { standing = built.made; names = names });
@@ -156,10 +157,9 @@ module _ (b : One) (holds : Holds b) (seat : Seat) (x : Sits b seat) (n : ℕ) (
         unfolding o1
         halves-stand =
             let limit : end_of h ≡ h.base + length mem2 / 2 = omega (arith, uses.same_len) in
-            let P : ℕ → Type 0 = λ v. ProcsStand built.test s.shared mem2 h.room.end v named (set h.procs.items seat.row (with_term p r w made)) (set s.processes seat.row (with_tree q r t refs)) in
+            let P : ℕ → Type 0 = λ v. ProcsStand built.test s.shared mem2 z.end v named (set h.procs.items seat.row (with_term p r w made)) (set s.processes seat.row (with_tree q r t refs)) in
             halves-filled b.named named h s.shared s.processes (set s.processes seat.row (with_tree q r t refs)) room.laid o1.processes built.test (built.grows.single
-            o1.processes.single) mem2 z.top h.room.end
-            (with_item h.procs seat.row (with_term p r w made)) uses.same_len built.grows.more built.grows.objects new-within words-same (omega (arith, uses.moved)) (omega arith) more
+            o1.processes.single) mem2 z (with_item h.procs seat.row (with_term p r w made)) uses.same_len built.grows.more built.grows.objects new-within words-same (omega (arith, uses.moved)) (omega (arith, uses.same_end)) more
             (subst P limit set-rows)
             (apart-same mem2 h.procs.items seat.row (with_term p r w made) p sits1.within is refl
             (apart-kept o1.processes.test s.shared h.mem mem2 h.room.end (end_of h) b.named h.procs.items s.processes kept o1.processes.processes o1.processes.apart))

@@ -40,7 +40,7 @@ use Rattle.space_api.specs.Calls.{AreRising}
 
 -- The half with a word in a register.
 abbrev pub with_reg : Halves → (row : ℕ) → Proc → (r w : ℕ) → Halves
-with_reg h row p r w = laid_out h h.mem h.room.top h.room.end (with_item h.procs row (with_word p r w))
+with_reg h row p r w = laid_out h h.mem h.room (with_item h.procs row (with_word p r w))
 
 -- The space with that half.
 abbrev pub gained : One → Halves → Vec ℕ Global → (serials named : ℕ) → One

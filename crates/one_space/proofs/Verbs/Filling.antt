@@ -114,7 +114,7 @@ module _ (b : One) (holds : Holds b) (seat : Seat) (x : Sits b seat) (r : Reg) (
         (p2 : Proc) (is2 : p2 ≡ get_or h.procs.items seat.row p2) (w : ℕ)
         (built : (c : ℕ → ℕ → Bool) (shared : List (List ℕ)) → IsFree c h.room.top (h.room.top + (2 + bin_words len)) → Built c h.room.top (2 + bin_words len) h.mem mem2 shared w (Bin bytes)) where
       abbrev h3 : Halves
-      h3 = laid_out h mem2 z.top h.room.end (with_item h.procs seat.row (with_term p2 r.0 w p2.refs))
+      h3 = laid_out h mem2 z (with_item h.procs seat.row (with_term p2 r.0 w p2.refs))
 
       used-few : 2 + bin_words len ≤ g
       used-few = omega (arith, words, heap-words len few)
@@ -143,7 +143,7 @@ module _ (b : One) (holds : Holds b) (seat : Seat) (x : Sits b seat) (r : Reg) (
         → Uses (2 + bin_words (length xs)) h.room z h.mem mem2
         → (p2 : Proc) (is2 : p2 ≡ get_or h.procs.items seat.row p2) (w : ℕ)
         → ((c : ℕ → ℕ → Bool) (shared : List (List ℕ)) → IsFree c h.room.top (h.room.top + (2 + bin_words (length xs))) → Built c h.room.top (2 + bin_words (length xs)) h.mem mem2 shared w (Bin xs))
-        → Does {A = Unit {0}} (OfProcess seat.pid v) b (after b (laid_out h mem2 z.top h.room.end (with_item h.procs seat.row (with_term p2 r.0 w p2.refs)))) (Ok tt)
+        → Does {A = Unit {0}} (OfProcess seat.pid v) b (after b (laid_out h mem2 z (with_item h.procs seat.row (with_term p2 r.0 w p2.refs)))) (Ok tt)
     small-by few given xs same mem2 z uses p2 is2 w built =
         let n : length xs ≡ len = ap length same ∙ length-replicate {A = ℕ} len byte in
         let U : ℕ → Type 0 = λ m. Uses (2 + bin_words m) h.room z h.mem mem2 in

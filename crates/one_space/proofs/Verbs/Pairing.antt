@@ -255,7 +255,7 @@ module _ (b : One) (holds : Holds b) (seat : Seat) (x : Sits b seat) (r m k v : 
 
             -- It takes no more words than were asked for.
             pub put-few : (mem2 : List ℕ) (z : Room) → ((c : ℕ → ℕ → Bool) (shared : List (List ℕ)) (ps : Pairs) → Stands c shared h.mem (get_or p1.regs m.0 0) (Map ps)
-                → Uses (4 + 2 * count_placed place.spot (pairs_len ps)) h.room z h.mem mem2) → free_in h ≤ (h.room.end - z.top) + g
+                → Uses (4 + 2 * count_placed place.spot (pairs_len ps)) h.room z h.mem mem2) → free_in h ≤ (z.end - z.top) + g
             put-few mem2 z uses =
                 let here = pairs-there holds.state holds.stands in
                 let used = uses (roomed-there b holds g h ok room holds.state holds.stands).processes.test holds.state.shared here.pairs (map-after holds.state holds.stands) in
@@ -272,7 +272,7 @@ module _ (b : One) (holds : Holds b) (seat : Seat) (x : Sits b seat) (r m k v : 
               used = 4 + 2 * count_placed place.spot place.keys
 
               abbrev h3 : Halves
-              h3 = laid_out h mem2 z.top h.room.end (with_item h.procs seat.row (with_term p2 r.0 w p2.refs))
+              h3 = laid_out h mem2 z (with_item h.procs seat.row (with_term p2 r.0 w p2.refs))
 
               uses-there : Uses used h.room z h.mem mem2
               uses-there =

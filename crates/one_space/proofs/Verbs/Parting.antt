@@ -134,7 +134,7 @@ module _ (b : One) (holds : Holds b) (seat : Seat) (x : Sits b seat) (r m : Reg)
           (built : (c : ℕ → ℕ → Bool) (shared : List (List ℕ)) (t u : Tree) → IsFree c h.room.top (h.room.top + 5) → Stands c shared h.mem (get_or p2.regs m.0 0) t
           → part_in shared offset len t ≡ Some u → Built c h.room.top 5 h.mem mem2 shared w u) where
         abbrev h3 : Halves
-        h3 = laid_out h mem2 z.top h.room.end (with_item h.procs seat.row (with_term p3 r.0 w p3.refs))
+        h3 = laid_out h mem2 z (with_item h.procs seat.row (with_term p3 r.0 w p3.refs))
 
         cut-stands : (s : State) (terms : Terms) (names : List (List ℕ)) → OneStands b s
             → Becomes {A = Unit {0}} (words_of b) s (said (OfProcess seat.pid v) terms names) (Ok tt) (OneStands (after b h3))

@@ -85,7 +85,7 @@ module _ (b : One) (holds : Holds b) (seat : Seat) (x : Sits b seat) (r : Reg) w
     left-seated = omega (arith, left-within, h2.procs.ok.0)
 
     abbrev received : Proc → One
-    received p2 = after b (laid_out h2 h2.mem h2.room.top h2.room.end (with_item h2.procs seat.row (with_word p2 r.0 w)))
+    received p2 = after b (laid_out h2 h2.mem h2.room (with_item h2.procs seat.row (with_word p2 r.0 w)))
 
     pub received-idle : (p2 : Proc) → IsIdle b (received p2)
     received-idle p2 = record { sweeps = ap (λ z. z.sweeps) moved; mem = ap (λ z. z.mem) moved; room = ap (λ z. z.room) moved }
@@ -115,7 +115,7 @@ module _ (b : One) (holds : Holds b) (seat : Seat) (x : Sits b seat) (r : Reg) w
             ap (λ z. set qs1 seat.row (with_register r.0 left.message z)) own ∙ set-set s.processes seat.row q1 q2 in
             let P : List Process → Type 0 = λ z. HalvesStand b.named (received p2).halves s.shared z in
             subst P same (halves-filled b.named b.named h2 s.shared qs1 (set qs1 seat.row (with_register r.0 left.message (get_or qs1 seat.row no_process))) takes.laid left.stands
-            left.stands.test left.stands.single h2.mem h2.room.top h2.room.end v refl
+            left.stands.test left.stands.single h2.mem h2.room v refl
             (λ a k e. e) (λ a k e. inl e) (λ a k e. inl e) (λ a k e. refl) (omega arith) (omega arith) (omega arith) rows
             (apart-same h2.mem h2.procs.items seat.row (with_word p2 r.0 w) p2 left-within is2 refl left.stands.apart))
 

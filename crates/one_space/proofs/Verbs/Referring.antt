@@ -50,7 +50,7 @@ module _ (b : One) (holds : Holds b) (seat : Seat) (x : Sits b seat) (r : Reg) (
       (p : Proc) (is : p ≡ get_or h.procs.items seat.row p) (p2 : Proc) (is2 : p2 ≡ get_or h.procs.items seat.row p2) (w k : ℕ) (counted : k ≡ p.refs + 1)
       (built : (c : ℕ → ℕ → Bool) (shared : List (List ℕ)) → IsFree c h.room.top (h.room.top + 3) → Built c h.room.top 3 h.mem mem2 shared w (Ref seat.pid k)) where
     abbrev h3 : Halves
-    h3 = laid_out h mem2 z.top h.room.end (with_item h.procs seat.row (with_term p2 r.0 w k))
+    h3 = laid_out h mem2 z (with_item h.procs seat.row (with_term p2 r.0 w k))
 
     ref-stands : (s : State) (terms : Terms) (names : List (List ℕ)) → OneStands b s
         → Becomes {A = Unit {0}} (words_of b) s (said (OfProcess seat.pid (verb.Ref r)) terms names) (Ok tt) (OneStands (after b h3))

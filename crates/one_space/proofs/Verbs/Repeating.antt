@@ -77,7 +77,7 @@ module _ (b : One) (holds : Holds b) (seat : Seat) (x : Sits b seat) (r : Reg) (
         (built : (c : ℕ → ℕ → Bool) (shared : List (List ℕ)) (t : Tree) → IsFree c h.room.top (h.room.top + repeat_words shape n) → Stands c shared h.mem (get_or p.regs m.0 0) t
         → Built c h.room.top (repeat_words shape n) h.mem mem2 shared w (repeated shape n t)) where
       abbrev h3 : Halves
-      h3 = laid_out h mem2 z.top h.room.end (with_item h.procs seat.row (with_term p2 r.0 w p2.refs))
+      h3 = laid_out h mem2 z (with_item h.procs seat.row (with_term p2 r.0 w p2.refs))
 
       repeat-stands : (s : State) (terms : Terms) (names : List (List ℕ)) → OneStands b s
           → Becomes {A = Unit {0}} (words_of b) s (said (OfProcess seat.pid v) terms names) (Ok tt) (OneStands (after b h3))

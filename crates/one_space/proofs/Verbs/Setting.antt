@@ -154,7 +154,7 @@ module _ (c : ℕ → ℕ → Bool) (shared extra : List (List ℕ)) (mem : List
 -- The space after a stop: its memory and its row of words changed, and nothing that it stands for.
 abbrev pub stopped_in : One → Halves → (mem : List ℕ) → Vec ℕ Global → One
 stopped_in b h mem row = record
-    { halves = laid_out h mem h.room.top h.room.end h.procs; row = row; spare = b.spare; next = b.next; serials = b.serials; named = b.named; calls = b.calls + 1; swept = b.swept }
+    { halves = laid_out h mem h.room h.procs; row = row; spare = b.spare; next = b.next; serials = b.serials; named = b.named; calls = b.calls + 1; swept = b.swept }
 
 module _ (b : One) (holds : Holds b) (seat : Seat) (x : Sits b seat) (r : Reg) (names : List (List ℕ)) (code : List Item) (has : HasTerm names code) (few : length names ≤ 16384) (n : ℕ)
     (is_n : n ≡ item_words_of code) (h : Halves) (ok : Bool) (room : MakesRoom n b.halves h ok) (more : b.named ≤ length names) where
@@ -246,13 +246,13 @@ module _ (b : One) (holds : Holds b) (seat : Seat) (x : Sits b seat) (r : Reg) (
         stop-stands s o =
             let old = o1 s o in
             record {
-              processes = rest-stands b.named h s.shared s.processes room.laid old.processes mem2 h.room.top leaves.same_len others (omega arith) room.laid.order;
+              processes = rest-stands b.named h s.shared s.processes room.laid old.processes mem2 h.room leaves.same_len others (omega arith) room.laid.order (omega arith);
               next = o.next;
               swept = o.swept;
               shared = o.shared;
               areas = o.areas;
               within = o.within;
-              reached = λ swept. rest-reached b.named h s.shared s.processes room.laid old.processes mem2 h.room.top leaves.same_len others (omega arith) room.laid.order (old.reached swept);
+              reached = λ swept. rest-reached b.named h s.shared s.processes room.laid old.processes mem2 h.room leaves.same_len others (omega arith) room.laid.order (omega arith) (old.reached swept);
             }
 
         stop-becomes : (s : State) (t : Term) → OneStands b s → IsWrittenTerm names code t
@@ -269,7 +269,7 @@ module _ (b : One) (holds : Holds b) (seat : Seat) (x : Sits b seat) (r : Reg) (
 
         stop-counts : IsCounted (stopped_in b h mem2 row)
         stop-counts = counts-same (roomed b h) (stopped_in b h mem2 row) counts1
-            (rest-laid b.named h holds.state.shared holds.state.processes room.laid (o1 holds.state holds.stands).processes mem2 h.room.top leaves.same_len others (omega arith) room.laid.order)
+            (rest-laid b.named h holds.state.shared holds.state.processes room.laid (o1 holds.state holds.stands).processes mem2 h.room leaves.same_len others (omega arith) room.laid.order (omega arith) refl)
             refl refl refl same_row refl (omega arith) refl counts1.made refl leaves.same_len refl refl refl
 
         pub set-stops : Builds {A = Unit {0}} names seat.pid r code b (stopped_in b h mem2 row) (Err (refusal_for e))

@@ -275,7 +275,7 @@ module _ (named : ℕ) (h : Halves) (shared : List (List ℕ)) (qs : List Proces
 
   -- The half with the new row.
   abbrev pub entered : Halves
-  entered = laid_out h mem2 h.room.top place (with_item h.procs row (with_queue p first place (p.waiting + 1)))
+  entered = laid_out h mem2 (record h.room { end = place }) (with_item h.procs row (with_queue p first place (p.waiting + 1)))
 
   limit : end_of h ≡ h.base + length mem2 / 2
   limit = omega (arith, len)
@@ -308,15 +308,15 @@ module _ (named : ℕ) (h : Halves) (shared : List (List ℕ)) (qs : List Proces
           process = q;
           is = λ d. get_or_default qs row d nobody (omega (arith, less, row-length x.test shared h.mem h.room.end (end_of h) named h.procs.items qs x.processes));
           stands =
-              halves-filled named named h shared qs (set qs row (record q { queue = q.queue ++ t ∷ [] })) laid x x.test x.single mem2 h.room.top place (with_item h.procs row row2) len
+              halves-filled named named h shared qs (set qs row (record q { queue = q.queue ++ t ∷ [] })) laid x x.test x.single mem2 (record h.room { end = place }) (with_item h.procs row row2) len
               (λ a k e. e) (λ a k e. inl e) (λ a k e. inl e) roles-same (omega arith) (omega (arith, next)) (omega arith) (subst P limit new-rows) apart3;
         }
 
     pub entered-laid : IsLaid entered
     entered-laid =
         let P : ℕ → Type 0 = λ z. ProcsStand x.test shared mem2 place z named (set h.procs.items row row2) (set qs row (record q { queue = q.queue ++ t ∷ [] })) in
-        laid-filled named named h shared qs (set qs row (record q { queue = q.queue ++ t ∷ [] })) laid x x.test x.single mem2 h.room.top place (with_item h.procs row row2) len
-        (λ a k e. e) (λ a k e. inl e) (λ a k e. inl e) roles-same (omega arith) (omega (arith, next)) (omega arith) (subst P limit new-rows) fits
+        laid-filled named named h shared qs (set qs row (record q { queue = q.queue ++ t ∷ [] })) laid x x.test x.single mem2 (record h.room { end = place }) (with_item h.procs row row2) len
+        (λ a k e. e) (λ a k e. inl e) (λ a k e. inl e) roles-same (omega arith) (omega (arith, next)) (omega arith) (subst P limit new-rows) refl fits
         (omega (arith, next, sum_by-set (λ r. r.depth + r.waiting) h.procs.items row row2 p less, ap (λ r. r.depth + r.waiting) is))
 
 -- What follows a queue's last place was written where there is one.
@@ -397,7 +397,7 @@ module _ (h : Halves) (row w : ℕ) (r : CanQueue h row w) (p : Proc) (is : p �
         roots-more mem2 final_row p w h.procs.items row r.has.within (ap (λ z. z.regs) is) (ap (λ z. values mem2 z.stack z.depth) is)
         (subst W is (queue-values r.has.named h r.has.shared r.has.processes r.has.laid r.has.stands row r.has.within p is mem2 len place w first next fits value others facts.none some))
 
-    pub queues : Queues h (laid_out h mem2 h.room.top place (with_item h.procs row (with_queue p first place (p.waiting + 1)))) row w
+    pub queues : Queues h (laid_out h mem2 (record h.room { end = place }) (with_item h.procs row (with_queue p first place (p.waiting + 1)))) row w
     queues = record {
       laid = entered-laid r.has.named h r.has.shared r.has.processes r.has.laid r.has.stands row r.has.within p is mem2 len place w first next fits value others facts.none some r.tree r.held;
       same_len = len;

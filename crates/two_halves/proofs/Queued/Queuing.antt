@@ -159,8 +159,8 @@ module _ (named : ℕ) (h : Halves) (shared : List (List ℕ)) (qs : List Proces
 
     pub left-laid : IsLaid (with_row h row row2)
     left-laid =
-        laid-filled named named h shared qs (set qs row (record q { queue = first-there.rest })) laid x x.test x.single h.mem h.room.top h.room.end (with_item h.procs row row2) refl (λ a k e. e)
-        (λ a k e. inl e) (λ a k e. inl e) (λ a k e. refl) (omega arith) (omega arith) (omega arith) left-rows laid.order
+        laid-filled named named h shared qs (set qs row (record q { queue = first-there.rest })) laid x x.test x.single h.mem h.room (with_item h.procs row row2) refl (λ a k e. e)
+        (λ a k e. inl e) (λ a k e. inl e) (λ a k e. refl) (omega arith) (omega arith) (omega arith) left-rows refl laid.order
         (omega (arith, sum_by-set (λ r. r.depth + r.waiting) h.procs.items row row2 p less, ap (λ r. r.depth + r.waiting) is))
 
 -- The first message of a row was taken off its queue.

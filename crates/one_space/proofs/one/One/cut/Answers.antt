@@ -43,4 +43,4 @@ returns-then-not-make_room-clause-asks c =
 pub returns-clause-asks : goal.returns-clause-asks
 returns-clause-asks c =
     unless-grown 5 5 c.args.self.now c.make_room.new.self c.make_room.result c.make_room.ensures refl c.if-not-make_room.false _ refl
-    (omega (arith, c.sub_part-part.ensures.uses.moved)) tt
+    (omega (arith, c.sub_part-part.ensures.uses.moved, c.sub_part-part.ensures.uses.same_end)) tt

@@ -39,5 +39,6 @@ returns-clause-asks c =
     (omega (
       arith,
       c.heap_bin-w.ensures.uses.moved,
+      c.heap_bin-w.ensures.uses.same_end,
       ap (λ n. 2 + bin_words n) (ap length (take-replicate c.args.len 64 c.args.byte c.requires.small) ∙ length-replicate {A = ℕ} c.args.len c.args.byte),
     )) tt

@@ -33,4 +33,4 @@ returns-then-not-make_room-clause-asks c = asks-lacks 3 3 c.args.self.now c.make
 
 pub returns-clause-asks : goal.returns-clause-asks
 returns-clause-asks c = asks-grown 3 3 c.args.self.now c.make_room.new.self c.make_room.result c.make_room.ensures refl c.if-not-make_room.false _ refl
-    (omega (arith, c.reference-w.ensures.uses.moved)) tt
+    (omega (arith, c.reference-w.ensures.uses.moved, c.reference-w.ensures.uses.same_end)) tt

@@ -36,4 +36,4 @@ returns-then-not-make_room-clause-asks c =
 pub returns-clause-asks : goal.returns-clause-asks
 returns-clause-asks c =
     unless-grown c.repeat_words-grow.result (repeat_words c.args.shape c.args.n) c.args.self.now c.make_room.new.self c.make_room.result c.make_room.ensures c.repeat_words-grow.ensures
-    c.if-not-make_room.false _ refl (omega (arith, c.repeated-w.ensures.uses.moved, c.repeat_words-grow.ensures)) tt
+    c.if-not-make_room.false _ refl (omega (arith, c.repeated-w.ensures.uses.moved, c.repeated-w.ensures.uses.same_end, c.repeat_words-grow.ensures)) tt
