@@ -80,7 +80,7 @@ pub record Asks {A : Type 0} (n : ℕ) (old new : One) (result : Result A Refusa
   pub there : Bool
   pub room : MakesRoom n old.halves halves there
   pub exact : is_nospace result ≡ not there
-  pub given_back : OnErr result ((new.halves.top ≡ halves.top) × (new.halves.low ≡ halves.low))
+  pub given_back : OnErr result (new.halves.room ≡ halves.room)
   pub idle : n ≤ free_in old.halves → new.halves.sweeps ≡ old.halves.sweeps
   pub once : free_in old.halves < n → new.halves.sweeps ≡ old.halves.sweeps + 1
   pub refused : (g : ℕ) → result ≡ Err (NoSpace g) → AllReached new.halves × (free_in new.halves < n)
@@ -127,8 +127,7 @@ AsksToSend (Some pid) s t old new result = AsksWhere (is_live pid s) (MESSAGE_CO
 pub record IsIdle (old new : One) : Type 0 where
   pub sweeps : new.halves.sweeps ≡ old.halves.sweeps
   pub mem : new.halves.mem ≡ old.halves.mem
-  pub top : new.halves.top ≡ old.halves.top
-  pub low : new.halves.low ≡ old.halves.low
+  pub room : new.halves.room ≡ old.halves.room
 
 -- What is picked are bytes of a binary: they ask for words.
 abbrev pub takes_part : Pick → Bool

@@ -11,7 +11,7 @@ use Rattle.one_space.specs.declared.one.One.{One}
 
 -- The words of objects in the half in use, as a region without owner.
 abbrev pub object_piece : Halves → Stretch
-object_piece h = record { place = front_of h; words = take (h.top - front_of h) (drop (front_of h) h.mem) }
+object_piece h = record { place = front_of h; words = take (h.room.top - front_of h) (drop (front_of h) h.mem) }
 
 abbrev pub object_region : Halves → Region
 object_region h = record { kind = half; owner = 0; piece = object_piece h }

@@ -36,9 +36,13 @@ impl One {
             return Err(Refusal::NoSpace(PART_WORDS));
         }
         let binary = self.halves.process(seat.row).regs[s.0 as usize];
-        let mut room = self.halves.room();
-        let part = sub_part(&mut self.halves.mem, &mut room, binary, offset, len);
-        self.halves.top = room.top;
+        let part = sub_part(
+            &mut self.halves.mem,
+            &mut self.halves.room,
+            binary,
+            offset,
+            len,
+        );
         let process = self.halves.process_mut(seat.row);
         process.regs[r.0 as usize] = part;
         self.swept = false;

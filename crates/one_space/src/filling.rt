@@ -58,9 +58,11 @@ impl One {
             return Err(Refusal::NoSpace(grow));
         }
         let bytes = [byte; 64];
-        let mut room = self.halves.room();
-        let w = heap_bin(&mut self.halves.mem, &mut room, &bytes[..len as usize]);
-        self.halves.top = room.top;
+        let w = heap_bin(
+            &mut self.halves.mem,
+            &mut self.halves.room,
+            &bytes[..len as usize],
+        );
         let process = self.halves.process_mut(seat.row);
         process.regs[r.0 as usize] = w;
         self.swept = false;

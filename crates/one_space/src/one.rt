@@ -106,11 +106,11 @@ impl One {
             return Err(Refusal::NoSpace(PLACE_COST));
         }
         let _len = self.halves.mem.len();
-        let place = self.halves.low - PLACE_WORDS;
+        let place = self.halves.room.end - PLACE_WORDS;
         let process = *self.halves.process(seat.row);
         self.halves.mem.set(place, process.regs[s.0 as usize]);
         self.halves.mem.set(place + 1, process.stack);
-        self.halves.low = place;
+        self.halves.room.end = place;
         *self.halves.process_mut(seat.row) = Proc {
             stack: place,
             depth: process.depth + 1,

@@ -30,7 +30,7 @@ use std::cmp::Ordering;
 use std::marker::Model;
 use store_image::Imaged;
 use two_halves::{Halves, Row, UNUSED, fresh};
-use word_mem::{OpenFault, WordMem};
+use word_mem::{OpenFault, Room, WordMem};
 
 /// The fewest words of a space.
 pub const LEAST_WORDS: u64 = 4096;
@@ -111,8 +111,11 @@ impl OneSpace {
                 halves: Halves {
                     mem,
                     base: 0,
-                    top: UNUSED,
-                    low: words / 2,
+                    room: Room {
+                        start: UNUSED,
+                        top: UNUSED,
+                        end: words / 2,
+                    },
                     procs,
                     head: 0,
                     linked: 0,

@@ -48,7 +48,7 @@ impl One {
         if !self.halves.make_room(grow) {
             return Err(Refusal::NoSpace(grow));
         }
-        let mut room = self.halves.room();
+        let mut room = self.halves.room;
         let mut making = Making {
             serial: self.serials,
             head: self.halves.head,
@@ -71,11 +71,10 @@ impl One {
         enter_bins(
             &self.halves.mem,
             &mut self.halves.bins,
-            self.halves.top,
+            self.halves.room.top,
             bins,
         );
-        self.halves.top = room.top;
-        self.halves.low = room.end;
+        self.halves.room = room;
         self.halves.head = making.head;
         self.halves.linked += bins;
         let process = self.halves.process_mut(seat.row);
@@ -162,16 +161,14 @@ impl One {
             return Err(Refusal::NoSpace(grow));
         }
         let process = *self.halves.process(seat.row);
-        let mut room = self.halves.room();
         let w = map_with(
             &mut self.halves.mem,
-            &mut room,
+            &mut self.halves.room,
             process.regs[s.0 as usize],
             place.spot,
             process.regs[k.0 as usize],
             process.regs[v.0 as usize],
         );
-        self.halves.top = room.top;
         let process = self.halves.process_mut(seat.row);
         process.regs[r.0 as usize] = w;
         self.swept = false;
@@ -192,9 +189,7 @@ impl One {
             return Err(Refusal::NoSpace(REF_WORDS));
         }
         let count = self.halves.process(seat.row).refs + 1;
-        let mut room = self.halves.room();
-        let w = reference(&mut self.halves.mem, &mut room, seat.pid, count);
-        self.halves.top = room.top;
+        let w = reference(&mut self.halves.mem, &mut self.halves.room, seat.pid, count);
         let process = self.halves.process_mut(seat.row);
         process.regs[r.0 as usize] = w;
         process.refs = count;
@@ -228,15 +223,13 @@ impl One {
             return Err(Refusal::NoSpace(grow));
         }
         let process = *self.halves.process(seat.row);
-        let mut room = self.halves.room();
         let w = repeated(
             &mut self.halves.mem,
-            &mut room,
+            &mut self.halves.room,
             shape,
             n,
             process.regs[s.0 as usize],
         );
-        self.halves.top = room.top;
         let process = self.halves.process_mut(seat.row);
         process.regs[r.0 as usize] = w;
         self.swept = false;

@@ -51,11 +51,11 @@ pub record Adds (old new : Halves) : Type 0 where
 pub record Nearly (named : ℕ) (h : Halves) (shared : List (List ℕ)) (qs : List Process) (v : ℕ) : Type 0 where
   pub test : ℕ → ℕ → Bool
   pub single : IsSingle test
-  pub lie : (a k : ℕ) → test a k ≡ true → ((front_of h ≤ a) × ((a < h.top) × OfObject k)) ⊎ ((h.low ≤ a) × ((a < end_of h) × OfRecord k))
+  pub lie : (a k : ℕ) → test a k ≡ true → ((front_of h ≤ a) × ((a < h.room.top) × OfObject k)) ⊎ ((h.room.end ≤ a) × ((a < end_of h) × OfRecord k))
   pub chained : List ℕ
   pub linked : length chained ≡ h.linked
   pub links : Links test h.mem h.head chained []
-  pub inside : (p : ℕ) → In p chained → p + 6 ≤ h.top
+  pub inside : (p : ℕ) → In p chained → p + 6 ≤ h.room.top
   pub every : (p : ℕ) → test (p + 2) NEXT ≡ true → In p chained
   pub all : (u n : ℕ) → IsRecord test h.mem u n → In u (h.bins.items ++ h.funs.items)
   pub once : Distinct (h.bins.items ++ h.funs.items)
@@ -65,7 +65,7 @@ pub record Nearly (named : ℕ) (h : Halves) (shared : List (List ℕ)) (qs : Li
   pub codes : OwnersRise h.mem h.funs.items
   pub counted : (u n : ℕ) → IsRecord test h.mem u n → (u ≡ v → ⊥) → 1 ≤ count_in h.mem u
   pub fun_names : (u : ℕ) → In u h.funs.items → owner_in h.mem u / 256 < named
-  pub processes : ProcsStand test shared h.mem h.low (end_of h) named h.procs.items qs
+  pub processes : ProcsStand test shared h.mem h.room.end (end_of h) named h.procs.items qs
   pub apart : AreApart (all_places h.mem h.procs.items)
 
 -- So it does, with this binary in the record.

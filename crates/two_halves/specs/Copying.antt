@@ -19,7 +19,7 @@ pub record CanCopyIn (h : Halves) (w : ℕ) : Type 0 where
   pub stands : HalvesStand named h shared processes
   pub tree : Tree
   pub made : Stands stands.test shared h.mem w tree
-  pub fits : h.top + flat tree ≤ h.low
+  pub fits : h.room.top + flat tree ≤ h.room.end
 
 -- The half stands for the processes still, and the word for the tree beside them; all that stood before stands, and places have
 -- their words; and what the word reaches lies in the words that were free.
@@ -28,9 +28,9 @@ pub record HasCopy (named : ℕ) (old new : Halves) (shared : List (List ℕ)) (
   pub stands : HalvesStand named new shared qs
   pub made : Stands stands.test shared new.mem result t
   pub kept : Kept x.test stands.test old.mem new.mem
-  pub bare : (q : ℕ) → old.low ≤ q → q < end_of old → ((k : ℕ) → x.test q k ≡ true → ⊥) → slice_index new.mem q ≡ slice_index old.mem q
-  pub words : new.top ≡ old.top + flat t
-  pub alone : (v : ℕ) → Reach new.mem (result ∷ []) v → IsPointer v → old.top ≤ v / 4
+  pub bare : (q : ℕ) → old.room.end ≤ q → q < end_of old → ((k : ℕ) → x.test q k ≡ true → ⊥) → slice_index new.mem q ≡ slice_index old.mem q
+  pub words : new.room.top ≡ old.room.top + flat t
+  pub alone : (v : ℕ) → Reach new.mem (result ∷ []) v → IsPointer v → old.room.top ≤ v / 4
 
 -- A copy of the tree of a word came into the half. The processes, the tables of records, the size of the memory, which half is in
 -- use, and the count of collections are as before.
@@ -38,7 +38,7 @@ pub record CopiesIn (old new : Halves) (w result : ℕ) : Type 0 where
   pub laid : IsLaid new
   pub same_len : length new.mem ≡ length old.mem
   pub base : new.base ≡ old.base
-  pub low : new.low ≡ old.low
+  pub low : new.room.end ≡ old.room.end
   pub procs : new.procs ≡ old.procs
   pub bins : new.bins ≡ old.bins
   pub funs : new.funs ≡ old.funs

@@ -32,7 +32,7 @@ end_of h = h.base + half_of h
 
 -- The free words of the half in use.
 abbrev pub free_in : Halves → ℕ
-free_in h = h.low - h.top
+free_in h = h.room.end - h.room.top
 
 -- The words of the half in use that are not free.
 abbrev pub used_in : Halves → ℕ
@@ -56,13 +56,14 @@ abbrev pub records_of : Halves → List ℕ
 records_of h = h.bins.items ++ h.funs.items
 
 -- The halves are of one size and one of them is in use: from its front on objects, at its end stack and queue places and
--- records, and between them free words. All places and records together fit there.
+-- records, and between them the free words of the room, which starts at the front. All places and records together fit there.
 pub record IsLaid (h : Halves) : Type 0 where
   pub even : length h.mem % 2 ≡ 0
   pub side : (h.base ≡ 0) ⊎ (h.base ≡ half_of h)
-  pub front : front_of h ≤ h.top
-  pub order : h.top ≤ h.low
-  pub fits : h.low + (PLACE_WORDS * places_in h.procs.items + total (record_words h.mem) (records_of h)) ≤ end_of h
+  pub starts : h.room.start ≡ front_of h
+  pub front : front_of h ≤ h.room.top
+  pub order : h.room.top ≤ h.room.end
+  pub fits : h.room.end + (PLACE_WORDS * places_in h.procs.items + total (record_words h.mem) (records_of h)) ≤ end_of h
 
 -- The word stands for the tree where the test allows it, and all names of the tree are below a number.
 pub record HoldsTree (c : ℕ → ℕ → Bool) (shared : List (List ℕ)) (mem : List ℕ) (named w : ℕ) (t : Tree) : Type 0 where
@@ -126,15 +127,15 @@ pub record RecordsStand (c : ℕ → ℕ → Bool) (mem : List ℕ) (shared : Li
 pub record HalvesStand (named : ℕ) (h : Halves) (shared : List (List ℕ)) (qs : List Process) : Type 0 where
   pub test : ℕ → ℕ → Bool
   pub single : IsSingle test
-  pub lie : (a k : ℕ) → test a k ≡ true → ((front_of h ≤ a) × ((a < h.top) × OfObject k)) ⊎ ((h.low ≤ a) × ((a < end_of h) × OfRecord k))
+  pub lie : (a k : ℕ) → test a k ≡ true → ((front_of h ≤ a) × ((a < h.room.top) × OfObject k)) ⊎ ((h.room.end ≤ a) × ((a < end_of h) × OfRecord k))
   pub chained : List ℕ
   pub linked : length chained ≡ h.linked
   pub links : Links test h.mem h.head chained []
-  pub inside : (p : ℕ) → In p chained → p + 6 ≤ h.top
+  pub inside : (p : ℕ) → In p chained → p + 6 ≤ h.room.top
   pub every : (p : ℕ) → test (p + 2) NEXT ≡ true → In p chained
   pub records : RecordsStand test h.mem shared h.bins.items h.funs.items
   pub fun_names : (v : ℕ) → In v h.funs.items → owner_in h.mem v / 256 < named
-  pub processes : ProcsStand test shared h.mem h.low (end_of h) named h.procs.items qs
+  pub processes : ProcsStand test shared h.mem h.room.end (end_of h) named h.procs.items qs
   pub apart : AreApart (all_places h.mem h.procs.items)
 
 -- Some processes that the half in use stands for.

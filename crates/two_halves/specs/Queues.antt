@@ -37,8 +37,7 @@ abbrev pub with_row : Halves → ℕ → Proc → Halves
 with_row h row p = record {
   mem = h.mem;
   base = h.base;
-  top = h.top;
-  low = h.low;
+  room = h.room;
   procs = with_item h.procs row p;
   head = h.head;
   linked = h.linked;
@@ -111,10 +110,10 @@ pub record Queues (old new : Halves) (row w : ℕ) : Type 0 where
   pub laid : IsLaid new
   pub same_len : length new.mem ≡ length old.mem
   pub base : new.base ≡ old.base
-  pub top : new.top ≡ old.top
-  pub low : new.low + PLACE_WORDS ≡ old.low
+  pub top : new.room.top ≡ old.room.top
+  pub low : new.room.end + PLACE_WORDS ≡ old.room.end
   pub first : ℕ
-  pub procs : (p : Proc) → p ≡ get_or old.procs.items row p → new.procs ≡ with_item old.procs row (with_queue p first new.low (p.waiting + 1))
+  pub procs : (p : Proc) → p ≡ get_or old.procs.items row p → new.procs ≡ with_item old.procs row (with_queue p first new.room.end (p.waiting + 1))
   pub bins : new.bins ≡ old.bins
   pub funs : new.funs ≡ old.funs
   pub sweeps : new.sweeps ≡ old.sweeps

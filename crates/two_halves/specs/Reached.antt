@@ -29,7 +29,7 @@ roots_of h = roots_in h.mem h.procs.items
 -- which the roots reach.
 pub record AllReached (h : Halves) : Type 0 where
   pub tiles : List ℕ
-  pub row : Tiled h.mem (front_of h) tiles h.top
+  pub row : Tiled h.mem (front_of h) tiles h.room.top
   pub all : (w : ℕ) → In w tiles → Reach h.mem (roots_of h) w
 
 -- Every object of the chain is reachable.

@@ -21,16 +21,16 @@ pub const PLACE_WORDS: u64 = 2;
 
 /// A memory in two halves, of which one is in use, and the processes whose terms stand there.
 ///
-/// From `base` on, after the words that are never used, objects lie up to `top`; places of stacks and queues, and records, lie
-/// from `low` up to the end of the half; the words between are free. Holders and funs are in a chain of `linked` objects that
-/// begins with `head`, 0 for none. `bins` has the places of the binaries' records, their serials rising, and `funs` those of
-/// the funs' records, by name and then arity. `sweeps` counts the collections.
+/// The half in use begins at `base`. Its free words are those of `room`: the room starts after the words that are never used,
+/// objects lie up to its `top`, and places of stacks and queues, and records, from its `end` up to the end of the half. Holders
+/// and funs are in a chain of `linked` objects that begins with `head`, 0 for none. `bins` has the places of the binaries'
+/// records, their serials rising, and `funs` those of the funs' records, by name and then arity. `sweeps` counts the
+/// collections.
 #[derive(Drop)]
 pub struct Halves {
     pub mem: WordMem,
     pub base: u64,
-    pub top: u64,
-    pub low: u64,
+    pub room: Room,
     pub procs: Vec<Row>,
     pub head: u64,
     pub linked: u64,
@@ -43,22 +43,10 @@ impl Halves {
     /// The free words.
     #[inline]
     pub fn free(&self) -> u64
-        requires { self.now.top ≤ self.now.low }
+        requires { self.now.room.top ≤ self.now.room.end }
         ensures { result ≡ free_in self.now }
     {
-        self.low - self.top
-    }
-
-    /// The free words, for new objects.
-    #[inline]
-    pub fn room(&self) -> Room
-        ensures { result ≡ record { start = self.now.base; top = self.now.top; end = self.now.low } }
-    {
-        Room {
-            start: self.base,
-            top: self.top,
-            end: self.low,
-        }
+        self.room.end - self.room.top
     }
 
     /// The process with this row.
@@ -105,7 +93,7 @@ impl Halves {
         let base = half - self.base;
         let end = base + half;
         let places = end - PLACE_WORDS * count_places(&self.procs);
-        let mut mv = moving_between(self.base, self.top, base + UNUSED, places);
+        let mut mv = moving_between(self.base, self.room.top, base + UNUSED, places);
         move_roots(&mut self.mem, &mut mv, &mut self.procs, end);
         scan(&mut self.mem, &mut mv);
         let left = sweep_chain(&mut self.mem, self.head, self.linked, Order::Turned);
@@ -113,8 +101,11 @@ impl Halves {
         renew(&self.mem, &mut self.bins);
         renew(&self.mem, &mut self.funs);
         self.base = base;
-        self.top = mv.young.top;
-        self.low = low;
+        self.room = Room {
+            start: base + UNUSED,
+            top: mv.young.top,
+            end: low,
+        };
         self.head = left.first;
         self.linked = left.len;
         self.sweeps += 1;

@@ -27,15 +27,11 @@ impl Halves {
         ensures { CopiesIn self.old self.new w result }
     {
         let _len = self.mem.len();
-        let from = self.top;
-        let mut room = Room {
-            start: self.base,
-            top: from,
-            end: self.low,
-        };
+        let from = self.room.top;
+        let mut room = self.room;
         let stay = Stay::none();
         let copy = copy_tree(&mut self.mem, &mut room, &stay, w);
-        self.top = room.top;
+        self.room.top = room.top;
         if self.linked == 0 {
             return copy;
         }
@@ -51,7 +47,7 @@ impl Halves {
         ensures { Queues self.old self.new row w }
     {
         let _len = self.mem.len();
-        let place = self.low - PLACE_WORDS;
+        let place = self.room.end - PLACE_WORDS;
         let process = *self.process(row);
         let first = follow(
             &mut self.mem,
@@ -61,7 +57,7 @@ impl Halves {
             place,
         );
         self.mem.set(place, w);
-        self.low = place;
+        self.room.end = place;
         *self.process_mut(row) = Proc {
             queue: first,
             last: place,

@@ -32,10 +32,10 @@ impl Halves {
     {
         let _len = self.mem.len();
         let at = self.put_bin(serial, len, byte);
-        let mut room = self.room();
+        let mut room = self.room;
         let object = room.top;
         let w = holder(&mut self.mem, &mut room, at, len, 0);
-        self.top = room.top;
+        self.room.top = room.top;
         self.head = chain(&mut self.mem, self.head, object);
         self.linked += 1;
         w
@@ -50,18 +50,18 @@ impl Halves {
         ensures adds { Adds self.old self.new }
         ensures has { (named : ℕ) (shared : List (List ℕ)) (qs : List Process) → HalvesStand named self.old shared qs → serial ≡ length shared + 1
             → HasBin named self.new (shared ++ replicate len byte ∷ []) qs result serial (replicate len byte) }
-        ensures top { self.new.top ≡ self.old.top }
-        ensures low { self.new.low ≡ self.old.low - (4 + bin_words len) }
+        ensures top { self.new.room.top ≡ self.old.room.top }
+        ensures low { self.new.room.end ≡ self.old.room.end - (4 + bin_words len) }
         ensures linked { self.new.linked ≡ self.old.linked }
         ensures zero { count_in self.new.mem result ≡ 0 }
-        ensures place { result ≡ self.new.low }
+        ensures place { result ≡ self.new.room.end }
     {
         let _len = self.mem.len();
-        let at = self.low - (RECORD_COST + (len + 7) / 8);
+        let at = self.room.end - (RECORD_COST + (len + 7) / 8);
         write_bin(&mut self.mem, at, serial, len);
         fill(&mut self.mem, at, byte);
         self.bins.push_reserved(at);
-        self.low = at;
+        self.room.end = at;
         at
     }
 
@@ -83,10 +83,10 @@ impl Halves {
     {
         let _len = self.mem.len();
         let rec = self.fun_record(name, arity);
-        let mut room = self.room();
+        let mut room = self.room;
         let object = room.top;
         let w = fun_thing(&mut self.mem, &mut room, rec, 0, arity, creator, env);
-        self.top = room.top;
+        self.room.top = room.top;
         self.head = chain(&mut self.mem, self.head, object);
         self.linked += 1;
         w
@@ -103,8 +103,8 @@ impl Halves {
         ensures adds { Adds self.old self.new }
         ensures has { (named : ℕ) (shared : List (List ℕ)) (qs : List Process) (x : HalvesStand named self.old shared qs)
             → name < named → HasFun named self.old self.new shared qs result name arity x.test }
-        ensures top { self.new.top ≡ self.old.top }
-        ensures low { self.old.low ≤ self.new.low + 4 }
+        ensures top { self.new.room.top ≡ self.old.room.top }
+        ensures low { self.old.room.end ≤ self.new.room.end + 4 }
         ensures linked { self.new.linked ≡ self.old.linked }
     {
         let _len = self.mem.len();
@@ -113,10 +113,10 @@ impl Halves {
         if let Some(at) = self.fun_at(i, code) {
             return at;
         }
-        let at = self.low - RECORD_COST;
+        let at = self.room.end - RECORD_COST;
         write_fun(&mut self.mem, at, name, arity);
         let _ = self.funs.insert(i, at);
-        self.low = at;
+        self.room.end = at;
         at
     }
 

@@ -96,17 +96,17 @@ places-row rows i p old less is = omega (arith, sum_by-set (λ r. r.depth + r.wa
 
 -- The half with other processes alone.
 module _ (b : One) (holds : Holds b) (v : Vec Proc Global) where
-  pub rows-stand : (s : State) (o : OneStands b s) (qs : List Process) → ProcsStand o.processes.test s.shared b.halves.mem b.halves.low (end_of b.halves) b.named v.items qs
+  pub rows-stand : (s : State) (o : OneStands b s) (qs : List Process) → ProcsStand o.processes.test s.shared b.halves.mem b.halves.room.end (end_of b.halves) b.named v.items qs
       → AreApart (all_places b.halves.mem v.items)
-      → HalvesStand b.named (laid_out b.halves b.halves.mem b.halves.top b.halves.low v) s.shared qs
-  rows-stand s o qs procs apart = halves-filled b.named b.named b.halves s.shared s.processes qs holds.counts.laid o.processes o.processes.test o.processes.single b.halves.mem b.halves.top
-      b.halves.low v refl
+      → HalvesStand b.named (laid_out b.halves b.halves.mem b.halves.room v) s.shared qs
+  rows-stand s o qs procs apart = halves-filled b.named b.named b.halves s.shared s.processes qs holds.counts.laid o.processes o.processes.test o.processes.single b.halves.mem b.halves.room v refl
       (λ a k e. e) (λ a k e. inl e) (λ a k e. inl e) (λ a k e. refl) (omega arith) (omega arith) (omega arith) procs apart
 
-  pub rows-laid : places_in v.items ≤ places_in b.halves.procs.items → IsLaid (laid_out b.halves b.halves.mem b.halves.top b.halves.low v)
+  pub rows-laid : places_in v.items ≤ places_in b.halves.procs.items → IsLaid (laid_out b.halves b.halves.mem b.halves.room v)
   rows-laid fewer = record {
     even = holds.counts.laid.even;
     side = holds.counts.laid.side;
+    starts = holds.counts.laid.starts;
     front = holds.counts.laid.front;
     order = holds.counts.laid.order;
     fits = omega (arith, holds.counts.laid.fits, fewer);
@@ -131,7 +131,7 @@ pid-below b holds seat x =
 module _ (b : One) (holds : Holds b) (seat : Seat) (x : Sits b seat) (r : Reg) (p : Proc) (is : p ≡ get_or b.halves.procs.items seat.row p) (w : ℕ) where
   -- The space after it.
   abbrev pub worded : One
-  worded = after b (laid_out b.halves b.halves.mem b.halves.top b.halves.low (with_item b.halves.procs seat.row (with_word p r.0 w)))
+  worded = after b (laid_out b.halves b.halves.mem b.halves.room (with_item b.halves.procs seat.row (with_word p r.0 w)))
 
   pub word-stands : (s : State) (o : OneStands b s) (t : Tree) → HoldsTree o.processes.test s.shared b.halves.mem b.named w t → (line : Parsed) → is_sweep line.command ≡ false
       → OneStands worded (settled line (with_process (with_register r.0 t (get_or s.processes seat.row no_process)) s))
@@ -140,7 +140,7 @@ module _ (b : One) (holds : Holds b) (seat : Seat) (x : Sits b seat) (r : Reg) (
       let number : q.number ≡ seat.pid = number-there b s o holds.counts seat x in
       let stands : HalvesStand b.named worded.halves s.shared (set s.processes seat.row (with_register r.0 t q)) =
       rows-stand b holds (with_item b.halves.procs seat.row (with_word p r.0 w)) s o (set s.processes seat.row (with_register r.0 t q))
-      (register-set o.processes.test s.shared b.halves.mem b.halves.low (end_of b.halves) b.named b.halves.procs.items s.processes seat.row p x.within is o.processes.processes r.0 w t held)
+      (register-set o.processes.test s.shared b.halves.mem b.halves.room.end (end_of b.halves) b.named b.halves.procs.items s.processes seat.row p x.within is o.processes.processes r.0 w t held)
       (apart-same b.halves.mem b.halves.procs.items seat.row (with_word p r.0 w) p x.within is refl o.processes.apart) in
       let Q : List Process → Type 0 = λ z. HalvesStand b.named worded.halves s.shared z in
       settled-stands b worded s line (with_register r.0 t q) o (subst Q (sym (set-there b s o holds.counts seat x (with_register r.0 t q) number)) stands) refl (sym other) refl
@@ -183,19 +183,19 @@ box-room b holds seat x = omega (arith, holds.counts.spares, holds.counts.boxes,
 module _ (b : One) (holds : Holds b) (seat : Seat) (x : Sits b seat) (v : Vec Proc Global) (items : v.items ≡ remove b.halves.procs.items seat.row)
     (capacity : vec_capacity v ≡ vec_capacity b.halves.procs) (spare : Vec Proc Global) (one_more : vec_len spare ≡ vec_len b.spare + 1) (boxes : vec_capacity spare ≡ vec_capacity b.spare) where
   exit-passes : (s : State) (terms : Terms) (names : List (List ℕ)) → OneStands b s
-      → Passes (step s (said (OfProcess seat.pid verb.Exit) terms names)) (OneStands (ended b (laid_out b.halves b.halves.mem b.halves.top b.halves.low v) spare))
+      → Passes (step s (said (OfProcess seat.pid verb.Exit) terms names)) (OneStands (ended b (laid_out b.halves b.halves.mem b.halves.room v) spare))
   exit-passes s terms names o =
-      let b2 : One = ended b (laid_out b.halves b.halves.mem b.halves.top b.halves.low v) spare in
+      let b2 : One = ended b (laid_out b.halves b.halves.mem b.halves.room v) spare in
       let q : Process = get_or s.processes seat.row no_process in
       let line : Parsed = said (OfProcess seat.pid verb.Exit) terms names in
       let number : q.number ≡ seat.pid = number-there b s o holds.counts seat x in
       let P : Option Process → Type 0 = λ z. Passes (in_process z s line verb.Exit) (OneStands b2) in
       let Q : ℕ → Type 0 = λ n. HalvesStand b.named b2.halves s.shared (filter (is_other n) s.processes) in
       let R : List Process → Type 0 = λ z. HalvesStand b.named b2.halves s.shared z in
-      let S : List Proc → Type 0 = λ z. ProcsStand o.processes.test s.shared b.halves.mem b.halves.low (end_of b.halves) b.named z (remove s.processes seat.row) in
+      let S : List Proc → Type 0 = λ z. ProcsStand o.processes.test s.shared b.halves.mem b.halves.room.end (end_of b.halves) b.named z (remove s.processes seat.row) in
       let A : List Proc → Type 0 = λ z. AreApart (all_places b.halves.mem z) in
       let stands : HalvesStand b.named b2.halves s.shared (remove s.processes seat.row) =
-      rows-stand b holds v s o (remove s.processes seat.row) (subst S (sym items) (procs-remove o.processes.test s.shared b.halves.mem b.named b.halves.low (end_of b.halves)
+      rows-stand b holds v s o (remove s.processes seat.row) (subst S (sym items) (procs-remove o.processes.test s.shared b.halves.mem b.named b.halves.room.end (end_of b.halves)
       b.halves.procs.items s.processes seat.row o.processes.processes))
       (subst A (sym items) (apart-removed b.halves.mem b.halves.procs.items seat.row o.processes.apart)) in
       subst P (sym (found-there b s o holds.counts seat x)) (record {
@@ -208,7 +208,7 @@ module _ (b : One) (holds : Holds b) (seat : Seat) (x : Sits b seat) (v : Vec Pr
         reached = λ e. absurd (false≢true e);
       })
 
-  exit-counts : IsCounted (ended b (laid_out b.halves b.halves.mem b.halves.top b.halves.low v) spare)
+  exit-counts : IsCounted (ended b (laid_out b.halves b.halves.mem b.halves.room v) spare)
   exit-counts =
       let P : List Proc → Type 0 = λ z. AreRising 0 (numbers number_in z) in
       let Q : List Proc → Type 0 = λ z. AreBelow b.next (numbers number_in z) in
@@ -234,9 +234,9 @@ module _ (b : One) (holds : Holds b) (seat : Seat) (x : Sits b seat) (v : Vec Pr
         funs = holds.counts.funs;
       }
 
-  pub exit-does : DoesAlways (OfProcess seat.pid verb.Exit) b (ended b (laid_out b.halves b.halves.mem b.halves.top b.halves.low v) spare)
+  pub exit-does : DoesAlways (OfProcess seat.pid verb.Exit) b (ended b (laid_out b.halves b.halves.mem b.halves.room v) spare)
   exit-does = record {
-    holds = holds-passed (ended b (laid_out b.halves b.halves.mem b.halves.top b.halves.low v) spare)
+    holds = holds-passed (ended b (laid_out b.halves b.halves.mem b.halves.room v) spare)
         (OfProcess seat.pid verb.Exit) holds.state exit-counts (exit-passes holds.state end [] holds.stands);
     passes = exit-passes;
     books = record { same_words = refl; one_call = omega arith; few_names = omega arith };
@@ -250,7 +250,7 @@ pop-empty b holds seat x r p is none = record {
   follows = λ s terms names o.
       let q : Process = get_or s.processes seat.row no_process in
       let line : Parsed = said (OfProcess seat.pid (verb.Pop r)) terms names in
-      let h = row-stands o.processes.test s.shared b.halves.mem b.halves.low (end_of b.halves) b.named b.halves.procs.items s.processes seat.row p x.within is o.processes.processes in
+      let h = row-stands o.processes.test s.shared b.halves.mem b.halves.room.end (end_of b.halves) b.named b.halves.procs.items s.processes seat.row p x.within is o.processes.processes in
       let empty : q.stack ≡ [] = none-held o.processes.test s.shared b.halves.mem b.named p.stack p.depth q.stack none h.stack in
       let P : Option Process → Type 0 = λ z. Follows {A = Unit {0}} (in_process z s line (verb.Pop r)) s (Err refusal.Empty) (OneStands b) in
       let Q : List Tree → Type 0 = λ z. Follows {A = Unit {0}} (pop_from z s line q r.0) s (Err refusal.Empty) (OneStands b) in
@@ -260,24 +260,25 @@ pop-empty b holds seat x r p is none = record {
 
 -- `pop`.
 module _ (b : One) (holds : Holds b) (seat : Seat) (x : Sits b seat) (r : Reg) (p : Proc) (is : p ≡ get_or b.halves.procs.items seat.row p) (some : p.depth ≡ 0 → ⊥) where
-  top-there : (s : State) (o : OneStands b s) → TopOf o.processes.test s.shared b.halves.mem b.halves.low (end_of b.halves) b.named p.stack p.depth ((get_or s.processes seat.row no_process).stack)
-  top-there s o = top-here o.processes.test s.shared b.halves.mem b.halves.low (end_of b.halves) b.named b.halves.procs.items s.processes seat.row p x.within is o.processes.processes some
+  top-there : (s : State) (o : OneStands b s)
+      → TopOf o.processes.test s.shared b.halves.mem b.halves.room.end (end_of b.halves) b.named p.stack p.depth ((get_or s.processes seat.row no_process).stack)
+  top-there s o = top-here o.processes.test s.shared b.halves.mem b.halves.room.end (end_of b.halves) b.named b.halves.procs.items s.processes seat.row p x.within is o.processes.processes some
 
   pub pop-inside : p.stack + 2 ≤ end_of b.halves
   pop-inside = (top-there holds.state holds.stands).within
 
   module _ (w u d : ℕ) (value : w ≡ get_or b.halves.mem p.stack 0) (below : u ≡ get_or b.halves.mem (p.stack + 1) 0) (depth : d ≡ p.depth - 1) where
     pop-follows : (s : State) (terms : Terms) (names : List (List ℕ)) → OneStands b s → Follows {A = Unit {0}} (step s (said (OfProcess seat.pid (verb.Pop r)) terms names)) s (Ok tt)
-        (OneStands (after b (laid_out b.halves b.halves.mem b.halves.top b.halves.low (with_item b.halves.procs seat.row (with_stack (with_word p r.0 w) u d)))))
+        (OneStands (after b (laid_out b.halves b.halves.mem b.halves.room (with_item b.halves.procs seat.row (with_stack (with_word p r.0 w) u d)))))
     unfolding top-there
     pop-follows s terms names o =
-        let b2 : One = after b (laid_out b.halves b.halves.mem b.halves.top b.halves.low (with_item b.halves.procs seat.row (with_stack (with_word p r.0 w) u d))) in
+        let b2 : One = after b (laid_out b.halves b.halves.mem b.halves.room (with_item b.halves.procs seat.row (with_stack (with_word p r.0 w) u d))) in
         let q : Process = get_or s.processes seat.row no_process in
         let line : Parsed = said (OfProcess seat.pid (verb.Pop r)) terms names in
         let q2 : Process = record (with_register r.0 (top-there s o).value q) { stack = (top-there s o).rest } in
         let stands : HalvesStand b.named b2.halves s.shared (set s.processes seat.row q2) =
         rows-stand b holds (with_item b.halves.procs seat.row (with_stack (with_word p r.0 w) u d)) s o (set s.processes seat.row q2)
-        (popped o.processes.test s.shared b.halves.mem b.halves.low (end_of b.halves) b.named b.halves.procs.items s.processes seat.row p x.within is o.processes.processes some r.0 w u d value
+        (popped o.processes.test s.shared b.halves.mem b.halves.room.end (end_of b.halves) b.named b.halves.procs.items s.processes seat.row p x.within is o.processes.processes some r.0 w u d value
         below depth)
         (apart-popped b.halves.mem b.halves.procs.items seat.row (with_stack (with_word p r.0 w) u d) p x.within is some below depth refl o.processes.apart) in
         let P : Option Process → Type 0 = λ z. Follows {A = Unit {0}} (in_process z s line (verb.Pop r)) s (Ok tt) (OneStands b2) in
@@ -287,20 +288,20 @@ module _ (b : One) (holds : Holds b) (seat : Seat) (x : Sits b seat) (r : Reg) (
         (settled-stands b b2 s line q2 o (subst R (sym (set-there b s o holds.counts seat x q2 (number-there b s o holds.counts seat x))) stands) refl refl refl (λ e. absurd (false≢true e))
         (within-at s.shared s.processes seat.row o.within)))
 
-    pop-counts : IsCounted (after b (laid_out b.halves b.halves.mem b.halves.top b.halves.low (with_item b.halves.procs seat.row (with_stack (with_word p r.0 w) u d))))
+    pop-counts : IsCounted (after b (laid_out b.halves b.halves.mem b.halves.room (with_item b.halves.procs seat.row (with_stack (with_word p r.0 w) u d))))
     pop-counts =
         let fewer : places_in (set b.halves.procs.items seat.row (with_stack (with_word p r.0 w) u d)) ≤ places_in b.halves.procs.items =
         omega (arith, depth, places-row b.halves.procs.items seat.row (with_stack (with_word p r.0 w) u d) p x.within is) in
-        counts-same b (after b (laid_out b.halves b.halves.mem b.halves.top b.halves.low (with_item b.halves.procs seat.row (with_stack (with_word p r.0 w) u d)))) holds.counts
+        counts-same b (after b (laid_out b.halves b.halves.mem b.halves.room (with_item b.halves.procs seat.row (with_stack (with_word p r.0 w) u d)))) holds.counts
         (rows-laid b holds (with_item b.halves.procs seat.row (with_stack (with_word p r.0 w) u d)) fewer)
         (numbers-row b.halves.procs.items seat.row (with_stack (with_word p r.0 w) u d) p x.within is refl) (length-set b.halves.procs.items seat.row (with_stack (with_word p r.0 w) u d)) refl refl
         refl (omega arith) refl
         (made-row b.calls (b.calls + 1) b.halves.procs.items seat.row (with_stack (with_word p r.0 w) u d) p (omega arith) x.within is refl holds.counts.made) refl refl refl refl refl
 
     pub pop-does : DoesAtOnce {A = Unit {0}} (OfProcess seat.pid (verb.Pop r)) b
-        (after b (laid_out b.halves b.halves.mem b.halves.top b.halves.low (with_item b.halves.procs seat.row (with_stack (with_word p r.0 w) u d)))) (Ok tt)
+        (after b (laid_out b.halves b.halves.mem b.halves.room (with_item b.halves.procs seat.row (with_stack (with_word p r.0 w) u d)))) (Ok tt)
     pop-does =
-        let b2 : One = after b (laid_out b.halves b.halves.mem b.halves.top b.halves.low (with_item b.halves.procs seat.row (with_stack (with_word p r.0 w) u d))) in
+        let b2 : One = after b (laid_out b.halves b.halves.mem b.halves.room (with_item b.halves.procs seat.row (with_stack (with_word p r.0 w) u d))) in
         let f = follows-some (step holds.state (said (OfProcess seat.pid (verb.Pop r)) end [])) holds.state (Ok tt) (OneStands b2) (pop-follows holds.state end [] holds.stands) in
         record {
           holds = record { counts = pop-counts; state = f.0; stands = f.1 };

@@ -36,7 +36,7 @@ module _ {A : Type 0} (n m : ℕ) (b : One) (h : Halves) (ok : Bool) (room : Mak
     there = ok;
     room = looked n m b.halves h ok room same;
     exact = ap not (sym lacking);
-    given_back = (refl, refl);
+    given_back = refl;
     idle = λ there. absurd (omega (arith, there, same, no-room n b.halves h ok room lacking));
     once = λ few. (room.collects (omega (arith, few, same))).counted;
     refused = λ f e. ((room.collects (no-room n b.halves h ok room lacking)).reached, omega (arith, same, leb-false n (free_in h) (sym room.answer ∙ lacking)));
@@ -45,7 +45,7 @@ module _ {A : Type 0} (n m : ℕ) (b : One) (h : Halves) (ok : Bool) (room : Mak
 
   -- a call that is not refused for want of space
   asks-else : ok ≡ true → (b2 : One) → b2.halves.sweeps ≡ h.sweeps → (r : Result A Refusal) → is_nospace r ≡ false
-      → OnErr r ((b2.halves.top ≡ h.top) × (b2.halves.low ≡ h.low)) → OnOk r (free_in h ≤ free_in b2.halves + m) → Asks m b b2 r
+      → OnErr r (b2.halves.room ≡ h.room) → OnOk r (free_in h ≤ free_in b2.halves + m) → Asks m b b2 r
   asks-else given b2 sweeps r other back few = record {
     halves = h;
     there = ok;
@@ -62,9 +62,9 @@ module _ {A : Type 0} (n m : ℕ) (b : One) (h : Halves) (ok : Bool) (room : Mak
   asks-grown given b2 sweeps few a = asks-else given b2 sweeps (Ok a) refl tt (omega (arith, few, same))
 
   -- a written term that was not built
-  pub asks-stopped : ok ≡ true → (b2 : One) → b2.halves.sweeps ≡ h.sweeps → b2.halves.top ≡ h.top → b2.halves.low ≡ h.low → (e : BuildStop) → Asks {A = A} m b b2 (Err (refusal_for e))
-  asks-stopped given b2 sweeps top low stop.Big = asks-else given b2 sweeps (Err refusal.Big) refl (top, low) tt
-  asks-stopped given b2 sweeps top low stop.Size = asks-else given b2 sweeps (Err refusal.MapSize) refl (top, low) tt
+  pub asks-stopped : ok ≡ true → (b2 : One) → b2.halves.sweeps ≡ h.sweeps → b2.halves.room ≡ h.room → (e : BuildStop) → Asks {A = A} m b b2 (Err (refusal_for e))
+  asks-stopped given b2 sweeps words stop.Big = asks-else given b2 sweeps (Err refusal.Big) refl words tt
+  asks-stopped given b2 sweeps words stop.Size = asks-else given b2 sweeps (Err refusal.MapSize) refl words tt
 
   -- a call that may be refused before it looks
   pub unless-lacks : ok ≡ false → (g : ℕ) → AsksUnless {A = A} m b (roomed b h) (Err (refusal.NoSpace g))

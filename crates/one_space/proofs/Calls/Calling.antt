@@ -85,7 +85,7 @@ module _ (b : One) (p : Proc) (one : b.halves.procs.items ≡ p ∷ []) (number 
     (serials : b.serials ≡ 0) where
   pub first-stands : OneStands b first_state
   first-stands =
-      let P : List Proc → Type 0 = λ x. ProcsStand never [] b.halves.mem b.halves.low (end_of b.halves) b.named x (fresh_process 1 ∷ []) in
+      let P : List Proc → Type 0 = λ x. ProcsStand never [] b.halves.mem b.halves.room.end (end_of b.halves) b.named x (fresh_process 1 ∷ []) in
       let B : List ℕ → Type 0 = λ x. RecordsStand never b.halves.mem [] x b.halves.funs.items in
       let F : List ℕ → Type 0 = λ x. RecordsStand never b.halves.mem [] [] x in
       record {
@@ -100,7 +100,7 @@ module _ (b : One) (p : Proc) (one : b.halves.procs.items ≡ p ∷ []) (number 
           every = λ q e. absurd (false≢true e);
           records = subst B (sym bins) (subst F (sym funs) (none-listed b.halves.mem));
           fun_names = λ v i. absurd (let N : List ℕ → Type 0 = λ z. In v z in subst N funs i);
-          processes = subst P (sym one) (fresh-stands never [] b.halves.mem b.named b.halves.low (end_of b.halves) p 1 number regs flat waiting none, tt);
+          processes = subst P (sym one) (fresh-stands never [] b.halves.mem b.named b.halves.room.end (end_of b.halves) p 1 number regs flat waiting none, tt);
           apart = let A : List Proc → Type 0 = λ x. AreApart (all_places b.halves.mem x) in subst A (sym one) (apart-more b.halves.mem [] p flat waiting tt);
         };
         next = sym next;
@@ -112,7 +112,7 @@ module _ (b : One) (p : Proc) (one : b.halves.procs.items ≡ p ∷ []) (number 
       }
 
   module _ (words : ℕ) (len : length b.halves.mem ≡ words) (least : 4096 ≤ words) (even : words % 2 ≡ 0) (base : b.halves.base ≡ 0)
-      (front : 2 ≤ b.halves.top) (order : b.halves.top ≤ b.halves.low) (end : b.halves.low ≤ words / 2)
+      (starts : b.halves.room.start ≡ 2) (front : 2 ≤ b.halves.room.top) (order : b.halves.room.top ≤ b.halves.room.end) (end : b.halves.room.end ≤ words / 2)
       (row : vec_len b.row ≡ 4096)
       (capacity : 1024 ≤ vec_capacity b.halves.procs) (calls : b.calls ≡ 0) (sweeps : b.halves.sweeps ≡ 0) (bins_room : words / 2 / 4 ≤ vec_capacity b.halves.bins)
       (funs_room : words / 2 / 4 ≤ vec_capacity b.halves.funs) (spare : vec_len b.spare ≡ 1023) (boxes : 1024 ≤ vec_capacity b.spare) where
@@ -129,6 +129,7 @@ module _ (b : One) (p : Proc) (one : b.halves.procs.items ≡ p ∷ []) (number 
     laid-first = record {
       even = ap (λ x. x % 2) len ∙ even;
       side = inl base;
+      starts = omega (arith, base, starts);
       front = omega (arith, base, front);
       order = order;
       fits = omega (arith, base, end, half-is, places-none, records-none);

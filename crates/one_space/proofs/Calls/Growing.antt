@@ -121,43 +121,44 @@ module _ (b : One) (holds : Holds b) (seat : Seat) (x : Sits b seat) (r : Reg) (
       omega (arith, one, room.laid.fits, half-within h room.laid)
 
   module _ (given : ok ≡ true) (p : Proc) (is : p ≡ get_or h.procs.items seat.row p) (small : r.0 < 16) (mem2 : List ℕ)
-      (written : mem2 ≡ set (set h.mem (h.low - 2) (get_or p.regs r.0 0)) (h.low - 2 + 1) p.stack) where
+      (written : mem2 ≡ set (set h.mem (h.room.end - 2) (get_or p.regs r.0 0)) (h.room.end - 2 + 1) p.stack) where
     counts1 : IsCounted (roomed b h)
     counts1 = counts-there b holds 2 h ok room
 
     sits1 : Sits (roomed b h) seat
     sits1 = sits-there b holds 2 h ok room seat x
 
-    fits : h.top + 2 ≤ h.low
+    fits : h.room.top + 2 ≤ h.room.end
     fits = omega (arith, room-there 2 b.halves h ok room given, room.laid.order)
 
-    order : h.low ≤ end_of h
+    order : h.room.end ≤ end_of h
     order = omega (arith, room.laid.fits)
 
     push-becomes : (s : State) (terms : Terms) (names : List (List ℕ)) → OneStands b s
         → Becomes {A = Unit {0}} (words_of b) s (said (OfProcess seat.pid (verb.Push r)) terms names) (Ok tt)
-        (OneStands (after b (laid_out h mem2 h.top (h.low - 2) (with_item h.procs seat.row (with_stack p (h.low - 2) (p.depth + 1))))))
+        (OneStands (after b (laid_out h mem2 (record h.room { end = h.room.end - 2 }) (with_item h.procs seat.row (with_stack p (h.room.end - 2) (p.depth + 1))))))
     push-becomes s terms names o =
-        let b2 : One = after b (laid_out h mem2 h.top (h.low - 2) (with_item h.procs seat.row (with_stack p (h.low - 2) (p.depth + 1)))) in
+        let b2 : One = after b (laid_out h mem2 (record h.room { end = h.room.end - 2 }) (with_item h.procs seat.row (with_stack p (h.room.end - 2) (p.depth + 1)))) in
         let o1 : OneStands (roomed b h) s = roomed-there b holds 2 h ok room s o in
         let q : Process = get_or s.processes seat.row no_process in
         let q2 : Process = record q { stack = register r.0 q ∷ q.stack } in
         let line : Parsed = said (OfProcess seat.pid (verb.Push r)) terms names in
-        let roles : (a k : ℕ) → o1.processes.test a k ≡ true → (a < h.top) ⊎ (h.low ≤ a) = λ a k e.
+        let roles : (a k : ℕ) → o1.processes.test a k ≡ true → (a < h.room.top) ⊎ (h.room.end ≤ a) = λ a k e.
         elim (o1.processes.lie a k e) [ inl object ↦ inl object.1.0 | inr there ↦ inr there.0 ] in
-        let rows = pushed o1.processes.test s.shared h.mem h.top h.low (end_of h) b.named h.procs.items s.processes seat.row r.0 p sits1.within is small o1.processes.processes roles fits
+        let rows = pushed o1.processes.test s.shared h.mem h.room.top h.room.end (end_of h) b.named h.procs.items s.processes seat.row r.0 p sits1.within is small o1.processes.processes roles fits
         (half-within h room.laid) order mem2 written in
-        let len : length mem2 ≡ length h.mem = pushed-len o1.processes.test s.shared h.mem h.top h.low (end_of h) b.named h.procs.items s.processes seat.row r.0 p sits1.within is small
+        let len : length mem2 ≡ length h.mem = pushed-len o1.processes.test s.shared h.mem h.room.top h.room.end (end_of h) b.named h.procs.items s.processes seat.row r.0 p sits1.within is small
         o1.processes.processes roles fits (half-within h room.laid) order mem2 written in
         let limit : end_of h ≡ h.base + length mem2 / 2 = omega (arith, len) in
-        let P : ℕ → Type 0 = λ z. ProcsStand o1.processes.test s.shared mem2 (h.low - 2) z b.named (set h.procs.items seat.row (with_stack p (h.low - 2) (p.depth + 1)))
+        let P : ℕ → Type 0 = λ z. ProcsStand o1.processes.test s.shared mem2 (h.room.end - 2) z b.named (set h.procs.items seat.row (with_stack p (h.room.end - 2) (p.depth + 1)))
         (set s.processes seat.row q2) in
-        let kept = words o1.processes.test s.shared h.mem h.top h.low (end_of h) b.named h.procs.items s.processes seat.row r.0 p sits1.within is small o1.processes.processes roles fits
+        let kept = words o1.processes.test s.shared h.mem h.room.top h.room.end (end_of h) b.named h.procs.items s.processes seat.row r.0 p sits1.within is small o1.processes.processes roles fits
         (half-within h room.laid) order mem2 written in
         let stands : HalvesStand b.named b2.halves s.shared (set s.processes seat.row q2) =
-        halves-filled b.named b.named h s.shared s.processes (set s.processes seat.row q2) room.laid o1.processes o1.processes.test o1.processes.single mem2 h.top (h.low - 2)
-        (with_item h.procs seat.row (with_stack p (h.low - 2) (p.depth + 1))) len (λ a k e. e) (λ a k e. inl e) (λ a k e. inl e) kept (omega arith) (omega arith) (omega arith) (subst P limit rows)
-        (pushed-apart o1.processes.test s.shared h.mem h.top h.low (end_of h) b.named h.procs.items s.processes seat.row r.0 p sits1.within is small o1.processes.processes roles fits
+        halves-filled b.named b.named h s.shared s.processes (set s.processes seat.row q2) room.laid o1.processes o1.processes.test o1.processes.single mem2 (record h.room { end = h.room.end - 2 })
+        (with_item h.procs seat.row (with_stack p (h.room.end - 2) (p.depth + 1))) len (λ a k e. e) (λ a k e. inl e) (λ a k e. inl e) kept (omega arith) (omega arith) (omega arith)
+        (subst P limit rows)
+        (pushed-apart o1.processes.test s.shared h.mem h.room.top h.room.end (end_of h) b.named h.procs.items s.processes seat.row r.0 p sits1.within is small o1.processes.processes roles fits
         (half-within h room.laid) order mem2 written o1.processes.apart) in
         let Q : Option Process → Type 0 = λ z. Follows {A = Unit {0}} (in_process z s line (verb.Push r)) s (Ok tt) (OneStands b2) in
         let R : List Process → Type 0 = λ z. HalvesStand b.named b2.halves s.shared z in
@@ -165,41 +166,45 @@ module _ (b : One) (holds : Holds b) (seat : Seat) (x : Sits b seat) (r : Reg) (
         (settled-stands (roomed b h) b2 s line q2 o1 (subst R (sym (set-there (roomed b h) s o1 counts1 seat sits1 q2 (number-there (roomed b h) s o1 counts1 seat sits1))) stands) refl refl
         refl (λ e. absurd (true≢false (sym e))) (within-at s.shared s.processes seat.row o.within)))
 
-    push-counts : IsCounted (after b (laid_out h mem2 h.top (h.low - 2) (with_item h.procs seat.row (with_stack p (h.low - 2) (p.depth + 1)))))
+    push-counts : IsCounted (after b (laid_out h mem2 (record h.room { end = h.room.end - 2 }) (with_item h.procs seat.row (with_stack p (h.room.end - 2) (p.depth + 1)))))
     push-counts =
-        let b2 : One = after b (laid_out h mem2 h.top (h.low - 2) (with_item h.procs seat.row (with_stack p (h.low - 2) (p.depth + 1)))) in
-        let more : places_in (set h.procs.items seat.row (with_stack p (h.low - 2) (p.depth + 1))) ≡ places_in h.procs.items + 1 =
-        omega (arith, places-row h.procs.items seat.row (with_stack p (h.low - 2) (p.depth + 1)) p sits1.within is) in
+        let b2 : One = after b (laid_out h mem2 (record h.room { end = h.room.end - 2 }) (with_item h.procs seat.row (with_stack p (h.room.end - 2) (p.depth + 1)))) in
+        let more : places_in (set h.procs.items seat.row (with_stack p (h.room.end - 2) (p.depth + 1))) ≡ places_in h.procs.items + 1 =
+        omega (arith, places-row h.procs.items seat.row (with_stack p (h.room.end - 2) (p.depth + 1)) p sits1.within is) in
         let len : length mem2 ≡ length h.mem =
-        ap length written ∙ length-set (set h.mem (h.low - 2) (get_or p.regs r.0 0)) (h.low - 2 + 1) p.stack ∙ length-set h.mem (h.low - 2) (get_or p.regs r.0 0) in
+        ap length written ∙ length-set (set h.mem (h.room.end - 2) (get_or p.regs r.0 0)) (h.room.end - 2 + 1) p.stack ∙ length-set h.mem (h.room.end - 2) (get_or p.regs r.0 0) in
         let o1 : OneStands (roomed b h) holds.state = roomed-there b holds 2 h ok room holds.state holds.stands in
-        let roles : (a k : ℕ) → o1.processes.test a k ≡ true → (a < h.top) ⊎ (h.low ≤ a) = λ a k e.
+        let roles : (a k : ℕ) → o1.processes.test a k ≡ true → (a < h.room.top) ⊎ (h.room.end ≤ a) = λ a k e.
         elim (o1.processes.lie a k e) [ inl object ↦ inl object.1.0 | inr there ↦ inr there.0 ] in
-        let kept = words o1.processes.test holds.state.shared h.mem h.top h.low (end_of h) b.named h.procs.items holds.state.processes seat.row r.0 p sits1.within is small o1.processes.processes roles
+        let kept = words o1.processes.test holds.state.shared h.mem h.room.top h.room.end (end_of h) b.named h.procs.items holds.state.processes seat.row r.0 p sits1.within is small
+        o1.processes.processes roles
         fits (half-within h room.laid) order mem2 written in
-        let rows = pushed o1.processes.test holds.state.shared h.mem h.top h.low (end_of h) b.named h.procs.items holds.state.processes seat.row r.0 p sits1.within is small
+        let rows = pushed o1.processes.test holds.state.shared h.mem h.room.top h.room.end (end_of h) b.named h.procs.items holds.state.processes seat.row r.0 p sits1.within is small
         o1.processes.processes roles
         fits (half-within h room.laid) order mem2 written in
         let limit : end_of h ≡ h.base + length mem2 / 2 = omega (arith, len) in
-        let P : ℕ → Type 0 = λ z. ProcsStand o1.processes.test holds.state.shared mem2 (h.low - 2) z b.named (set h.procs.items seat.row (with_stack p (h.low - 2) (p.depth + 1)))
+        let P : ℕ → Type 0 = λ z. ProcsStand o1.processes.test holds.state.shared mem2 (h.room.end - 2) z b.named (set h.procs.items seat.row (with_stack p (h.room.end - 2) (p.depth + 1)))
         (set holds.state.processes seat.row (record (get_or holds.state.processes seat.row no_process)
         { stack = register r.0 (get_or holds.state.processes seat.row no_process) ∷ (get_or holds.state.processes seat.row no_process).stack })) in
         counts-same (roomed b h) b2 counts1
         (laid-filled b.named b.named h holds.state.shared holds.state.processes
         (set holds.state.processes seat.row (record (get_or holds.state.processes seat.row no_process)
         { stack = register r.0 (get_or holds.state.processes seat.row no_process) ∷ (get_or holds.state.processes seat.row no_process).stack }))
-        room.laid o1.processes o1.processes.test o1.processes.single mem2 h.top (h.low - 2)
-        (with_item h.procs seat.row (with_stack p (h.low - 2) (p.depth + 1))) len (λ a k e. e) (λ a k e. inl e) (λ a k e. inl e) kept (omega arith) (omega arith) (omega arith) (subst P limit rows)
-        (omega (arith, fits)) (omega (arith, more, fits)))
-        (numbers-row h.procs.items seat.row (with_stack p (h.low - 2) (p.depth + 1)) p sits1.within is refl) (length-set h.procs.items seat.row (with_stack p (h.low - 2) (p.depth + 1))) refl refl
+        room.laid o1.processes o1.processes.test o1.processes.single mem2 (record h.room { end = h.room.end - 2 })
+        (with_item h.procs seat.row (with_stack p (h.room.end - 2) (p.depth + 1))) len (λ a k e. e) (λ a k e. inl e) (λ a k e. inl e) kept (omega arith) (omega arith) (omega arith)
+        (subst P limit rows)
+        refl (omega (arith, fits)) (omega (arith, more, fits)))
+        (numbers-row h.procs.items seat.row (with_stack p (h.room.end - 2) (p.depth + 1)) p sits1.within is refl) (length-set h.procs.items seat.row (with_stack p (h.room.end - 2) (p.depth + 1)))
+        refl refl
         refl (omega arith) refl
-        (made-row (b.calls + 1) (b.calls + 1) h.procs.items seat.row (with_stack p (h.low - 2) (p.depth + 1)) p (omega arith) sits1.within is refl counts1.made) refl len refl refl refl
+        (made-row (b.calls + 1) (b.calls + 1) h.procs.items seat.row (with_stack p (h.room.end - 2) (p.depth + 1)) p (omega arith) sits1.within is refl counts1.made) refl len refl refl refl
 
-    pub push-does : Does {A = Unit {0}} (OfProcess seat.pid (verb.Push r)) b (after b (laid_out h mem2 h.top (h.low - 2) (with_item h.procs seat.row (with_stack p (h.low - 2) (p.depth + 1))))) (Ok tt)
+    pub push-does : Does {A = Unit {0}} (OfProcess seat.pid (verb.Push r)) b
+        (after b (laid_out h mem2 (record h.room { end = h.room.end - 2 }) (with_item h.procs seat.row (with_stack p (h.room.end - 2) (p.depth + 1))))) (Ok tt)
     push-does =
-        let b2 : One = after b (laid_out h mem2 h.top (h.low - 2) (with_item h.procs seat.row (with_stack p (h.low - 2) (p.depth + 1)))) in
+        let b2 : One = after b (laid_out h mem2 (record h.room { end = h.room.end - 2 }) (with_item h.procs seat.row (with_stack p (h.room.end - 2) (p.depth + 1)))) in
         let len : length mem2 ≡ length h.mem =
-        ap length written ∙ length-set (set h.mem (h.low - 2) (get_or p.regs r.0 0)) (h.low - 2 + 1) p.stack ∙ length-set h.mem (h.low - 2) (get_or p.regs r.0 0) in
+        ap length written ∙ length-set (set h.mem (h.room.end - 2) (get_or p.regs r.0 0)) (h.room.end - 2 + 1) p.stack ∙ length-set h.mem (h.room.end - 2) (get_or p.regs r.0 0) in
         record {
           holds = holds-become {A = Unit {0}} (words_of b) b2 holds.state (said (OfProcess seat.pid (verb.Push r)) end []) (Ok tt) push-counts (push-becomes holds.state end [] holds.stands);
           becomes = push-becomes;
@@ -248,17 +253,18 @@ module _ (b : One) (holds : Holds b) where
       counts2 = counts-there b holds 14 h ok room
 
       spawn-becomes : (s : State) (terms : Terms) (names : List (List ℕ)) → OneStands b s → Becomes {A = ℕ} (words_of b) s (said (System sysverb.Spawn) terms names) (Ok b.next)
-          (OneStands (spawned b (laid_out h h.mem h.top h.low v) spare))
+          (OneStands (spawned b (laid_out h h.mem h.room v) spare))
       spawn-becomes s terms names o =
-          let b2 : One = spawned b (laid_out h h.mem h.top h.low v) spare in
+          let b2 : One = spawned b (laid_out h h.mem h.room v) spare in
           let o1 : OneStands (roomed b h) s = roomed-there b holds 14 h ok room s o in
-          let new = fresh-stands o1.processes.test s.shared h.mem b.named h.low (end_of h) p s.next (number ∙ sym o.next) regs depth waiting none in
-          let P : List Proc → Type 0 = λ z. ProcsStand o1.processes.test s.shared h.mem h.low (end_of h) b.named z (s.processes ++ fresh_process s.next ∷ []) in
+          let new = fresh-stands o1.processes.test s.shared h.mem b.named h.room.end (end_of h) p s.next (number ∙ sym o.next) regs depth waiting none in
+          let P : List Proc → Type 0 = λ z. ProcsStand o1.processes.test s.shared h.mem h.room.end (end_of h) b.named z (s.processes ++ fresh_process s.next ∷ []) in
           let A : List Proc → Type 0 = λ z. AreApart (all_places h.mem z) in
           let stands : HalvesStand b.named b2.halves s.shared (s.processes ++ fresh_process s.next ∷ []) =
-          halves-filled b.named b.named h s.shared s.processes (s.processes ++ fresh_process s.next ∷ []) room.laid o1.processes o1.processes.test o1.processes.single h.mem h.top h.low v refl
+          halves-filled b.named b.named h s.shared s.processes (s.processes ++ fresh_process s.next ∷ []) room.laid o1.processes o1.processes.test o1.processes.single h.mem h.room v
+          refl
           (λ a k e. e) (λ a k e. inl e) (λ a k e. inl e) (λ a k e. refl) (omega arith) (omega arith) (omega arith)
-          (subst P (sym items) (procs-push o1.processes.test s.shared h.mem b.named h.low (end_of h) h.procs.items s.processes p (fresh_process s.next) o1.processes.processes new))
+          (subst P (sym items) (procs-push o1.processes.test s.shared h.mem b.named h.room.end (end_of h) h.procs.items s.processes p (fresh_process s.next) o1.processes.processes new))
           (subst A (sym items) (apart-more h.mem h.procs.items p depth waiting o1.processes.apart)) in
           let Q : Bool → Type 0 = λ z. Follows {A = ℕ} (spawn_if z s (said (System sysverb.Spawn) terms names)) s (Ok b.next) (OneStands b2) in
           inl (subst Q (sym (not-full s o)) (record {
@@ -272,7 +278,7 @@ module _ (b : One) (holds : Holds b) where
                 (true≢false (sym e));
           }))
 
-      spawn-counts : IsCounted (spawned b (laid_out h h.mem h.top h.low v) spare)
+      spawn-counts : IsCounted (spawned b (laid_out h h.mem h.room v) spare)
       spawn-counts =
           let P : List Proc → Type 0 = λ z. AreRising 0 (numbers number_in z) in
           let Q : List Proc → Type 0 = λ z. AreBelow (b.next + 1) (numbers number_in z) in
@@ -280,7 +286,7 @@ module _ (b : One) (holds : Holds b) where
           let one : length v.items ≡ length h.procs.items + 1 = ap length items ∙ length-append h.procs.items (p ∷ []) in
           let same : places_in v.items ≡ places_in h.procs.items = omega (arith, ap places_in items, sum_by_push (λ r. r.depth + r.waiting) h.procs.items p, depth, waiting) in
           record {
-            laid = record { even = room.laid.even; side = room.laid.side; front = room.laid.front; order = room.laid.order; fits = omega (arith, room.laid.fits, same) };
+            laid = record { even = room.laid.even; side = room.laid.side; starts = room.laid.starts; front = room.laid.front; order = room.laid.order; fits = omega (arith, room.laid.fits, same) };
             enough = counts2.enough;
             places = omega (arith, counts2.places, capacity);
             spares = omega (arith, one, counts2.spares, one_less);
@@ -298,9 +304,9 @@ module _ (b : One) (holds : Holds b) where
             funs = counts2.funs;
           }
 
-      pub spawn-does : Does {A = ℕ} (System sysverb.Spawn) b (spawned b (laid_out h h.mem h.top h.low v) spare) (Ok b.next)
+      pub spawn-does : Does {A = ℕ} (System sysverb.Spawn) b (spawned b (laid_out h h.mem h.room v) spare) (Ok b.next)
       spawn-does = record {
-        holds = holds-become {A = ℕ} (words_of b) (spawned b (laid_out h h.mem h.top h.low v) spare) holds.state (said (System sysverb.Spawn) end []) (Ok b.next) spawn-counts
+        holds = holds-become {A = ℕ} (words_of b) (spawned b (laid_out h h.mem h.room v) spare) holds.state (said (System sysverb.Spawn) end []) (Ok b.next) spawn-counts
             (spawn-becomes holds.state end [] holds.stands);
         becomes = spawn-becomes;
         books = record { same_words = (stays-roomed 14 b.halves h ok room).same_len; one_call = omega arith; few_names = omega arith };

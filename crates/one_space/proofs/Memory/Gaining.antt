@@ -40,7 +40,7 @@ use Rattle.space_api.specs.Calls.{AreRising}
 
 -- The half with a word in a register.
 abbrev pub with_reg : Halves → (row : ℕ) → Proc → (r w : ℕ) → Halves
-with_reg h row p r w = laid_out h h.mem h.top h.low (with_item h.procs row (with_word p r w))
+with_reg h row p r w = laid_out h h.mem h.room (with_item h.procs row (with_word p r w))
 
 -- The space with that half.
 abbrev pub gained : One → Halves → Vec ℕ Global → (serials named : ℕ) → One
@@ -63,7 +63,7 @@ module _ (b : One) (holds : Holds b) (n : ℕ) (h : Halves) (ok : Bool) (room : 
   o0 : OneStands (roomed b h) holds.state
   o0 = roomed-there b holds n h ok room holds.state holds.stands
 
-  free-there : h.top + 10 ≤ h.low
+  free-there : h.room.top + 10 ≤ h.room.end
   free-there = omega (arith, room-there n b.halves h ok room given, ten, room.laid.order)
 
   bins-least : 4 * length h.bins.items ≤ total (record_words h.mem) h.bins.items
@@ -135,7 +135,7 @@ module _ (b : One) (holds : Holds b) (seat : Seat) (x : Sits b seat) (n : ℕ) (
   pub gained-laid : IsLaid (with_reg h4 seat.row p r w)
   gained-laid =
       let same : places_in items2 ≡ places_in h4.procs.items = omega (arith, places-row h4.procs.items seat.row row2 p within4 is) in
-      record { even = adds.laid.even; side = adds.laid.side; front = adds.laid.front; order = adds.laid.order; fits = omega (arith, adds.laid.fits, same) }
+      record { even = adds.laid.even; side = adds.laid.side; starts = adds.laid.starts; front = adds.laid.front; order = adds.laid.order; fits = omega (arith, adds.laid.fits, same) }
 
   pub gained-counts : (row : Vec ℕ Global) → vec_len row ≡ vec_len b.row → (serials named : ℕ) → serials ≤ b.serials + 1 → IsCounted (gained b (with_reg h4 seat.row p r w) row serials named)
   gained-counts row same_row serials named few =
@@ -172,10 +172,10 @@ module _ (b : One) (holds : Holds b) (seat : Seat) (x : Sits b seat) (n : ℕ) (
     abbrev q : Process
     q = get_or s.processes seat.row no_process
 
-    set-rows : ProcsStand g.stands.test shared2 h4.mem h4.low (end_of h4) named items2 (set s.processes seat.row (with_register r t q))
+    set-rows : ProcsStand g.stands.test shared2 h4.mem h4.room.end (end_of h4) named items2 (set s.processes seat.row (with_register r t q))
     set-rows =
-        let old = row-stands g.stands.test shared2 h4.mem h4.low (end_of h4) named h4.procs.items s.processes seat.row p within4 is g.stands.processes in
-        row-set g.stands.test shared2 h4.mem h4.low (end_of h4) named h4.procs.items s.processes seat.row row2 (with_register r t q) g.stands.processes (record {
+        let old = row-stands g.stands.test shared2 h4.mem h4.room.end (end_of h4) named h4.procs.items s.processes seat.row p within4 is g.stands.processes in
+        row-set g.stands.test shared2 h4.mem h4.room.end (end_of h4) named h4.procs.items s.processes seat.row row2 (with_register r t q) g.stands.processes (record {
           number = old.number;
           count = length-set p.regs r w ∙ old.count;
           registers = held-set g.stands.test shared2 h4.mem named p.regs q.registers r w t old.registers (record { standing = g.made; names = names });
@@ -189,7 +189,7 @@ module _ (b : One) (holds : Holds b) (seat : Seat) (x : Sits b seat) (n : ℕ) (
 
     half-stands : HalvesStand named (with_reg h4 seat.row p r w) shared2 (map (replaced (with_register r t q)) s.processes)
     half-stands =
-        let P : List Process → Type 0 = λ z. ProcsStand g.stands.test shared2 h4.mem h4.low (end_of h4) named items2 z in
+        let P : List Process → Type 0 = λ z. ProcsStand g.stands.test shared2 h4.mem h4.room.end (end_of h4) named items2 z in
         record {
           test = g.stands.test;
           single = g.stands.single;

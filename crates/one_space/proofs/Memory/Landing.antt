@@ -31,12 +31,11 @@ use Rattle.one_space.specs.Entered.{records_from}
 use Rattle.one_space.proofs.Memory.Tabled.{entered-at, entered-in, record_at}
 
 -- The halves with holders and records more.
-abbrev pub joined : Halves → (mem : List ℕ) → (top low head n : ℕ) → Vec Proc Global → Vec ℕ Global → Halves
-joined h mem top low head n v bins = record {
+abbrev pub joined : Halves → (mem : List ℕ) → Room → (head n : ℕ) → Vec Proc Global → Vec ℕ Global → Halves
+joined h mem room head n v bins = record {
   mem = mem;
   base = h.base;
-  top = top;
-  low = low;
+  room = room;
   procs = v;
   head = head;
   linked = h.linked + n;
@@ -70,13 +69,13 @@ rise-both mem (x ∷ xs) ys (first, rest) two apart = (
 )
 
 module _ (h : Halves) (shared extra : List (List ℕ)) (named : ℕ) (qs : List Process) (laid : IsLaid h) (s : HalvesStand named h shared qs) (d : ℕ → ℕ → Bool) (z : Room) (mem2 : List ℕ)
-    (head2 n : ℕ) (made : Laid s.test d (shared ++ extra) (record { start = h.base; top = h.top; end = h.low }) z h.mem mem2 h.head head2 (length shared) n)
-    (leaves : LeavesRoom (record { start = h.base; top = h.top; end = h.low }) z h.mem mem2) where
+    (head2 n : ℕ) (made : Laid s.test d (shared ++ extra) h.room z h.mem mem2 h.head head2 (length shared) n)
+    (leaves : LeavesRoom h.room z h.mem mem2) where
   -- The shared binaries with the new ones.
   abbrev all_shared : List (List ℕ)
   all_shared = shared ++ extra
 
-  low-under : h.low ≤ end_of h
+  low-under : h.room.end ≤ end_of h
   low-under = omega (arith, laid.fits)
 
   -- Where the words with a role lie.
@@ -97,32 +96,32 @@ module _ (h : Halves) (shared extra : List (List ℕ)) (named : ℕ) (qs : List 
   same-old a k e = elim (s.lie a k e) [ inl o ↦ leaves.others a (inl o.1.0) | inr r ↦ leaves.others a (inr r.0) ]
 
   -- Holder i, and its record.
-  holder-there : (i : ℕ) → i < n → IsShared d all_shared mem2 (boxed_word (h.top + 6 * i)) (length shared + suc i)
+  holder-there : (i : ℕ) → i < n → IsShared d all_shared mem2 (boxed_word (h.room.top + 6 * i)) (length shared + suc i)
   unfolding Stands
   holder-there i less = (made.bins i less).holder
 
   place-of : (p : ℕ) → boxed_word p / 4 ≡ p
   place-of p = omega arith
 
-  pub record-there : (i : ℕ) → i < n → IsBinRecord d mem2 (record_at mem2 h.top i) (length shared + suc i) (shared_bytes all_shared (length shared + suc i))
+  pub record-there : (i : ℕ) → i < n → IsBinRecord d mem2 (record_at mem2 h.room.top i) (length shared + suc i) (shared_bytes all_shared (length shared + suc i))
   record-there i less =
       let P : ℕ → Type 0 = λ q. IsBinRecord d mem2 (get_or mem2 (q + 3) 0) (length shared + suc i) (shared_bytes all_shared (length shared + suc i)) in
-      subst P (place-of (h.top + 6 * i)) (holder-there i less).record_is
+      subst P (place-of (h.room.top + 6 * i)) (holder-there i less).record_is
 
   known-there : (i : ℕ) → i < n → length shared + suc i ≤ length all_shared
   known-there i less = (holder-there i less).known
 
-  owner-there : (i : ℕ) → i < n → owner_in mem2 (record_at mem2 h.top i) ≡ length shared + suc i
+  owner-there : (i : ℕ) → i < n → owner_in mem2 (record_at mem2 h.room.top i) ≡ length shared + suc i
   owner-there i less = (record-there i less).owner
 
-  pub inside-there : (i : ℕ) → i < n → h.top + 6 * i + 6 ≤ z.top
+  pub inside-there : (i : ℕ) → i < n → h.room.top + 6 * i + 6 ≤ z.top
   inside-there i less =
       let P : ℕ → Type 0 = λ q. d (q + 5) FURTHER ≡ true in
-      let last : d (h.top + 6 * i + 5) FURTHER ≡ true = subst P (place-of (h.top + 6 * i)) (holder-there i less).holder.sixth in
-      elim (lies (h.top + 6 * i + 5) FURTHER last) [ inl o ↦ omega (arith, o.1.0) | inr r ↦ absurd (omega (arith, r.1.1)) ]
+      let last : d (h.room.top + 6 * i + 5) FURTHER ≡ true = subst P (place-of (h.room.top + 6 * i)) (holder-there i less).holder.sixth in
+      elim (lies (h.room.top + 6 * i + 5) FURTHER last) [ inl o ↦ omega (arith, o.1.0) | inr r ↦ absurd (omega (arith, r.1.1)) ]
 
   -- A record that stands at a place of an old one is one of before.
-  was-record : (v m : ℕ) → h.low ≤ v → IsRecord d mem2 v m → IsRecord s.test h.mem v m
+  was-record : (v m : ℕ) → h.room.end ≤ v → IsRecord d mem2 v m → IsRecord s.test h.mem v m
   was-record v m above there =
       record-back s.test d h.mem mem2 v m
       (λ q k from below of e. elim (made.within q k e) [
@@ -131,7 +130,7 @@ module _ (h : Halves) (shared extra : List (List ℕ)) (named : ℕ) (qs : List 
       ])
       (λ q from below. sym (leaves.others q (inr (omega (arith, from, above))))) (omega (arith, record-inside d mem2 v m there, leaves.same_len)) there
 
-  old-or-new : (v m : ℕ) → IsRecord d mem2 v m → IsRecord s.test h.mem v m ⊎ ((i : ℕ) × ((i < n) × (v ≡ record_at mem2 h.top i)))
+  old-or-new : (v m : ℕ) → IsRecord d mem2 v m → IsRecord s.test h.mem v m ⊎ ((i : ℕ) × ((i < n) × (v ≡ record_at mem2 h.room.top i)))
   old-or-new v m there = elim (made.records v (record-first d mem2 v m there)) [
     | inl old ↦ elim (s.lie v RECORD_FIRST old) [ inl o ↦ absurd (omega (arith, o.1.1)) | inr r ↦ inl (was-record v m r.0 there) ]
     | inr new ↦ inr new
@@ -151,10 +150,10 @@ module _ (h : Halves) (shared extra : List (List ℕ)) (named : ℕ) (qs : List 
   fun-owner : (v : ℕ) → In v h.funs.items → owner_in mem2 v ≡ owner_in h.mem v
   fun-owner v i = same-old (v + 1) RECORD (fun-was v i).is.second
 
-  bin-apart : (v i : ℕ) → In v h.bins.items → i < n → v ≡ record_at mem2 h.top i → ⊥
+  bin-apart : (v i : ℕ) → In v h.bins.items → i < n → v ≡ record_at mem2 h.room.top i → ⊥
   bin-apart v i inside less e = omega (arith, bin-owner v inside, (bin-was v inside).known, owner-there i less, ap (owner_in mem2) e)
 
-  fun-apart : (v i : ℕ) → In v h.funs.items → i < n → v ≡ record_at mem2 h.top i → ⊥
+  fun-apart : (v i : ℕ) → In v h.funs.items → i < n → v ≡ record_at mem2 h.room.top i → ⊥
   fun-apart v i inside less e =
       omega (
         arith,
@@ -166,24 +165,24 @@ module _ (h : Halves) (shared extra : List (List ℕ)) (named : ℕ) (qs : List 
 
   -- The new table.
   abbrev pub new_records : List ℕ
-  new_records = records_from mem2 h.top n
+  new_records = records_from mem2 h.room.top n
 
-  firsts-once : (m : ℕ) → m ≤ n → Distinct (records_from mem2 h.top m)
+  firsts-once : (m : ℕ) → m ≤ n → Distinct (records_from mem2 h.room.top m)
   firsts-once zero few = tt
-  firsts-once (suc m) few = both-distinct (records_from mem2 h.top m) (record_at mem2 h.top m ∷ []) (firsts-once m (omega (arith, few))) ((λ i. i), tt)
+  firsts-once (suc m) few = both-distinct (records_from mem2 h.room.top m) (record_at mem2 h.room.top m ∷ []) (firsts-once m (omega (arith, few))) ((λ i. i), tt)
       (λ u i j. elim j [
         | inl e ↦
-            let (k, (less, is)) = entered-at mem2 h.top m u i in
+            let (k, (less, is)) = entered-at mem2 h.room.top m u i in
             omega (arith, less, owner-there k (omega (arith, less, few)), owner-there m (omega (arith, few)), ap (owner_in mem2) e, ap (owner_in mem2) is)
         | inr none ↦ none
       ])
 
-  firsts-rise : (m : ℕ) → m ≤ n → OwnersRise mem2 (records_from mem2 h.top m)
+  firsts-rise : (m : ℕ) → m ≤ n → OwnersRise mem2 (records_from mem2 h.room.top m)
   firsts-rise zero few = tt
-  firsts-rise (suc m) few = rise-both mem2 (records_from mem2 h.top m) (record_at mem2 h.top m ∷ []) (firsts-rise m (omega (arith, few))) ((λ w i. absurd i), tt)
+  firsts-rise (suc m) few = rise-both mem2 (records_from mem2 h.room.top m) (record_at mem2 h.room.top m ∷ []) (firsts-rise m (omega (arith, few))) ((λ w i. absurd i), tt)
       (λ u w i j. elim j [
         | inl e ↦
-            let (k, (less, is)) = entered-at mem2 h.top m u i in
+            let (k, (less, is)) = entered-at mem2 h.room.top m u i in
             omega (arith, less, owner-there k (omega (arith, less, few)), owner-there m (omega (arith, few)), ap (owner_in mem2) e, ap (owner_in mem2) is)
         | inr none ↦ absurd none
       ])
@@ -191,11 +190,11 @@ module _ (h : Halves) (shared extra : List (List ℕ)) (named : ℕ) (qs : List 
   new-once : Distinct ((h.bins.items ++ new_records) ++ h.funs.items)
   new-once = both-distinct (h.bins.items ++ new_records) h.funs.items
       (both-distinct h.bins.items new_records (distinct-left h.bins.items h.funs.items s.records.once) (firsts-once n (omega arith))
-      (λ u i j. let (k, (less, is)) = entered-at mem2 h.top n u j in bin-apart u k i less is))
+      (λ u i j. let (k, (less, is)) = entered-at mem2 h.room.top n u j in bin-apart u k i less is))
       (distinct-right h.bins.items h.funs.items s.records.once)
       (λ u i j. elim (in-both u h.bins.items new_records i) [
         | inl a ↦ distinct-apart h.bins.items h.funs.items s.records.once u a j
-        | inr b ↦ let (k, (less, is)) = entered-at mem2 h.top n u b in fun-apart u k j less is
+        | inr b ↦ let (k, (less, is)) = entered-at mem2 h.room.top n u b in fun-apart u k j less is
       ])
 
   new-all : (v m : ℕ) → IsRecord d mem2 v m → In v ((h.bins.items ++ new_records) ++ h.funs.items)
@@ -207,10 +206,10 @@ module _ (h : Halves) (shared extra : List (List ℕ)) (named : ℕ) (qs : List 
     | inr new ↦
         let P : ℕ → Type 0 = λ q. In q new_records in
         in-left v (h.bins.items ++ new_records) h.funs.items
-        (in-right v h.bins.items new_records (subst P (sym new.1.1) (entered-in mem2 h.top n new.0 new.1.0)))
+        (in-right v h.bins.items new_records (subst P (sym new.1.1) (entered-in mem2 h.room.top n new.0 new.1.0)))
   ]
 
-  new-bin : (v i : ℕ) → i < n → v ≡ record_at mem2 h.top i → IsBinOf d mem2 all_shared v
+  new-bin : (v i : ℕ) → i < n → v ≡ record_at mem2 h.room.top i → IsBinOf d mem2 all_shared v
   new-bin v i less is =
       let own : owner_in mem2 v ≡ length shared + suc i = ap (owner_in mem2) is ∙ owner-there i less in
       let P : ℕ → Type 0 = λ q. IsBinRecord d mem2 q (length shared + suc i) (shared_bytes all_shared (length shared + suc i)) in
@@ -233,7 +232,7 @@ module _ (h : Halves) (shared extra : List (List ℕ)) (named : ℕ) (qs : List 
   new-each : (v : ℕ) → In v (h.bins.items ++ new_records) → IsBinOf d mem2 all_shared v
   new-each v i = elim (in-both v h.bins.items new_records i) [
     | inl a ↦ old-bin v a
-    | inr b ↦ let (k, (less, is)) = entered-at mem2 h.top n v b in new-bin v k less is
+    | inr b ↦ let (k, (less, is)) = entered-at mem2 h.room.top n v b in new-bin v k less is
   ]
 
   old-fun : (v : ℕ) → In v h.funs.items → IsFunOf d mem2 v
@@ -244,7 +243,7 @@ module _ (h : Halves) (shared extra : List (List ℕ)) (named : ℕ) (qs : List 
   new-rise : OwnersRise mem2 (h.bins.items ++ new_records)
   new-rise = rise-both mem2 h.bins.items new_records (rise-same h.mem mem2 h.bins.items bin-owner s.records.serials) (firsts-rise n (omega arith))
       (λ u w i j.
-      let (k, (less, is)) = entered-at mem2 h.top n w j in
+      let (k, (less, is)) = entered-at mem2 h.room.top n w j in
       omega (arith, bin-owner u i, (bin-was u i).known, owner-there k less, ap (owner_in mem2) is))
 
   new-counted : (v m : ℕ) → IsRecord d mem2 v m → 1 ≤ count_in mem2 v
@@ -286,26 +285,26 @@ module _ (h : Halves) (shared extra : List (List ℕ)) (named : ℕ) (qs : List 
   -- The new half.
   module _ (named2 : ℕ) (names : named ≤ named2) (v : Vec Proc Global) (bins : Vec ℕ Global) (qs2 : List Process) (table : bins.items ≡ h.bins.items ++ new_records)
       (procs : ProcsStand d all_shared mem2 z.end (h.base + length mem2 / 2) named2 v.items qs2) where
-    chain : Links d mem2 head2 (holders_from h.top n ++ s.chained) []
+    chain : Links d mem2 head2 (holders_from h.room.top n ++ s.chained) []
     chain = made.links s.chained [] s.single s.links
 
-    pub landed-stands : AreApart (all_places mem2 v.items) → HalvesStand named2 (joined h mem2 z.top z.end head2 n v bins) all_shared qs2
+    pub landed-stands : AreApart (all_places mem2 v.items) → HalvesStand named2 (joined h mem2 z head2 n v bins) all_shared qs2
     landed-stands apart =
         let R : List ℕ → Type 0 = λ q. RecordsStand d mem2 all_shared q h.funs.items in
         record {
           test = d;
           single = made.single s.single;
           lie = λ a k e. elim (lies a k e) [ inl o ↦ inl o | inr r ↦ inr (r.0, (omega (arith, r.1.0, leaves.same_len), r.1.1)) ];
-          chained = holders_from h.top n ++ s.chained;
-          linked = omega (arith, length-append (holders_from h.top n) s.chained, holders-len h.top n, s.linked);
+          chained = holders_from h.room.top n ++ s.chained;
+          linked = omega (arith, length-append (holders_from h.room.top n) s.chained, holders-len h.room.top n, s.linked);
           links = chain;
-          inside = λ p i. elim (in-both p (holders_from h.top n) s.chained i) [
-            | inl a ↦ let (k, (less, is)) = holders-at h.top n p a in omega (arith, is, inside-there k less)
+          inside = λ p i. elim (in-both p (holders_from h.room.top n) s.chained i) [
+            | inl a ↦ let (k, (less, is)) = holders-at h.room.top n p a in omega (arith, is, inside-there k less)
             | inr b ↦ omega (arith, s.inside p b, leaves.front)
           ];
           every = λ p e. elim (made.nexts (p + 2) e) [
-            | inl old ↦ in-right p (holders_from h.top n) s.chained (s.every p old)
-            | inr new ↦ in-left p (holders_from h.top n) s.chained (holders-in h.top n new.0 p new.1.0 (omega (arith, new.1.1)))
+            | inl old ↦ in-right p (holders_from h.room.top n) s.chained (s.every p old)
+            | inr new ↦ in-left p (holders_from h.room.top n) s.chained (holders-in h.room.top n new.0 p new.1.0 (omega (arith, new.1.1)))
           ];
           records = subst R (sym table) landed-records;
           fun_names = λ u i. omega (arith, fun-owner u i, s.fun_names u i, names);
@@ -314,12 +313,13 @@ module _ (h : Halves) (shared extra : List (List ℕ)) (named : ℕ) (qs : List 
         }
 
   module _ (v : Vec Proc Global) (bins : Vec ℕ Global) (table : bins.items ≡ h.bins.items ++ new_records) where
-    pub landed-laid : places_in v.items ≡ places_in h.procs.items → z.end + total (record_words mem2) new_records ≤ h.low → IsLaid (joined h mem2 z.top z.end head2 n v bins)
+    pub landed-laid : places_in v.items ≡ places_in h.procs.items → z.end + total (record_words mem2) new_records ≤ h.room.end → IsLaid (joined h mem2 z head2 n v bins)
     landed-laid places words =
         let W : total (record_words mem2) (bins.items ++ h.funs.items) ≡ total (record_words mem2) ((h.bins.items ++ new_records) ++ h.funs.items) =
         ap (λ q. total (record_words mem2) (q ++ h.funs.items)) table in
         record {
           even = omega (arith, leaves.same_len, laid.even);
+          starts = leaves.same_start ∙ laid.starts;
           side = elim laid.side [ inl e ↦ inl e | inr e ↦ inr (omega (arith, e, leaves.same_len)) ];
           front = omega (arith, laid.front, leaves.front);
           order = leaves.order;

@@ -104,5 +104,5 @@ module _ (b : One) (s : State) (o : OneStands b s) where
   pub counts-allowed : AreNames s.names → b.named ≤ length s.names → CountsOf s (counts_of b s.names)
   counts-allowed names known =
       told-allowed s o.processes.test b.halves.mem (roots_of b.halves) (trees_of s.processes) b.halves.bins.items b.halves.funs.items o.processes.chained
-      (roots-stand o.processes.test s.shared b.halves.mem b.halves.low (end_of b.halves) b.named b.halves.procs.items s.processes o.processes.processes)
+      (roots-stand o.processes.test s.shared b.halves.mem b.halves.room.end (end_of b.halves) b.named b.halves.procs.items s.processes o.processes.processes)
       (ids-living s.processes ∙ living-same ids_in) (funs-living s.processes ∙ living-same funs_in) (can-tell s.names known) names all-listed counts-exactly

@@ -232,10 +232,10 @@ module _ (mem : List ℕ) where
 
 module _ (h : Halves) (laid : IsLaid h) where
   -- The region has as many words as lie between the front and the top.
-  region-words : length ((object_piece h).words) ≡ h.top - front_of h
-  region-words = piece-words h.mem (front_of h) (h.top - front_of h) (omega (arith, half-within h laid, laid.order, laid.fits, laid.front))
+  region-words : length ((object_piece h).words) ≡ h.room.top - front_of h
+  region-words = piece-words h.mem (front_of h) (h.room.top - front_of h) (omega (arith, half-within h laid, laid.order, laid.fits, laid.front))
 
-  in-region : (a : ℕ) → front_of h ≤ a → a < h.top → (front_of h ≤ a) × (a < front_of h + length ((object_piece h).words))
+  in-region : (a : ℕ) → front_of h ≤ a → a < h.room.top → (front_of h ≤ a) × (a < front_of h + length ((object_piece h).words))
   in-region a from to = (from, omega (arith, region-words, to, laid.front))
 
 module _ (b : One) (s : State) (holds : Holds b) (o : OneStands b s) where
@@ -354,7 +354,7 @@ module _ (b : One) (s : State) (holds : Holds b) (o : OneStands b s) where
       (omega (arith, first.0, holds.counts.laid.front, holds.counts.laid.order), omega (arith, last.1, some))
     where
       record-side : (v q : ℕ) → IsRecord o.processes.test b.halves.mem v (record_words b.halves.mem v) → v ≤ q → q < v + record_words b.halves.mem v
-          → (b.halves.low ≤ q) × (q < end_of b.halves)
+          → (b.halves.room.end ≤ q) × (q < end_of b.halves)
       record-side v q r from below =
           let (k, (of, role)) = record-role o.processes.test b.halves.mem v (record_words b.halves.mem v) q r from below in
           elim (o.processes.lie q k role) [ inl object ↦ absurd (omega (arith, of, object.1.1)) | inr there ↦ (there.0, there.1.0) ]
@@ -403,14 +403,14 @@ module _ (b : One) (s : State) (holds : Holds b) (o : OneStands b s) where
   image-in : (w : ℕ) → In w (roots_of b.halves) → In w (image_roots (image b))
   image-in w i = in-left w (flat_map process_roots (map (rooted b.halves) b.halves.procs.items)) [] (told-in b.halves b.halves.procs.items w i)
 
-  in-half : (w q : ℕ) → Reach b.halves.mem (roots_of b.halves) w → IsPointer w → w / 4 ≤ q → q < w / 4 + object_words b.halves.mem w → (front_of b.halves ≤ q) × (q < b.halves.top)
+  in-half : (w q : ℕ) → Reach b.halves.mem (roots_of b.halves) w → IsPointer w → w / 4 ≤ q → q < w / 4 + object_words b.halves.mem w → (front_of b.halves ≤ q) × (q < b.halves.room.top)
   in-half w q r p from below =
-      let all = roots-stand o.processes.test s.shared b.halves.mem b.halves.low (end_of b.halves) b.named b.halves.procs.items s.processes o.processes.processes in
+      let all = roots-stand o.processes.test s.shared b.halves.mem b.halves.room.end (end_of b.halves) b.named b.halves.procs.items s.processes o.processes.processes in
       let (t, st) = reached o.processes.test s.shared b.halves.mem (roots_of b.halves) (trees_of s.processes) all w r in
       let (k, (of, role)) = object-role o.processes.test s.shared b.halves.mem w t q st p from below in
       elim (o.processes.lie q k role) [ inl object ↦ (object.0, object.1.0) | inr there ↦ absurd (omega (arith, of, there.1.1)) ]
 
-  whole-there : (w n : ℕ) → 0 < n → ((q : ℕ) → w ≤ q → q < w + n → (front_of b.halves ≤ q) × (q < b.halves.top)) → holds_words w n (object_region b.halves) ≡ true
+  whole-there : (w n : ℕ) → 0 < n → ((q : ℕ) → w ≤ q → q < w + n → (front_of b.halves ≤ q) × (q < b.halves.room.top)) → holds_words w n (object_region b.halves) ≡ true
   whole-there w n some each =
       let first = (each w (omega arith) (omega (arith, some))).0 in
       let last = (each (w + (n - 1)) (omega arith) (omega (arith, some))).1 in
@@ -445,7 +445,7 @@ module _ (b : One) (s : State) (holds : Holds b) (o : OneStands b s) where
     inside = inside-there;
     nexts = next-covered b.named b.halves s.shared s.processes holds.counts.laid o.processes;
     records = records-told;
-    processes = rows-rooted o.processes.test narrow s.shared b.halves b.named (tree-covered b.named b.halves s.shared s.processes holds.counts.laid o.processes) b.halves.low (end_of b.halves)
+    processes = rows-rooted o.processes.test narrow s.shared b.halves b.named (tree-covered b.named b.halves s.shared s.processes holds.counts.laid o.processes) b.halves.room.end (end_of b.halves)
         b.halves.procs.items s.processes o.processes.processes;
     areas = areas-told;
     lead = record { base = b.halves.base; side = holds.counts.laid.side; within = within-half; lead = leads };

@@ -25,8 +25,8 @@ module _ (b : One) (counts : IsCounted b) (seat : Seat) (x : Sits b seat) (p : P
   abbrev pub seated : Process
   seated = get_or s.processes seat.row no_process
 
-  pub row-there : ProcStands o.processes.test s.shared b.halves.mem b.halves.low (end_of b.halves) b.named p seated
-  row-there = row-stands o.processes.test s.shared b.halves.mem b.halves.low (end_of b.halves) b.named b.halves.procs.items s.processes seat.row p x.within is o.processes.processes
+  pub row-there : ProcStands o.processes.test s.shared b.halves.mem b.halves.room.end (end_of b.halves) b.named p seated
+  row-there = row-stands o.processes.test s.shared b.halves.mem b.halves.room.end (end_of b.halves) b.named b.halves.procs.items s.processes seat.row p x.within is o.processes.processes
 
   -- A register's word stands for its tree.
   pub held-there : (r : ℕ) → r < 16 → HoldsTree o.processes.test s.shared b.halves.mem b.named (get_or p.regs r 0) (register r seated)

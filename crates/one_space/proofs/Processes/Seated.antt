@@ -20,10 +20,10 @@ use Rattle.two_halves.proofs.Standing.Stacks.{no_row}
 module _ (b : One) (s : State) (o : OneStands b s) (c : IsCounted b) where
   pub rising-there : AreRising 0 (process_numbers s.processes)
   rising-there =
-      subst (AreRising 0) (sym (procs-numbers o.processes.test s.shared b.halves.mem b.named b.halves.low (end_of b.halves) b.halves.procs.items s.processes o.processes.processes)) c.rising
+      subst (AreRising 0) (sym (procs-numbers o.processes.test s.shared b.halves.mem b.named b.halves.room.end (end_of b.halves) b.halves.procs.items s.processes o.processes.processes)) c.rising
 
   pub count-there : length s.processes ≡ length b.halves.procs.items
-  count-there = row-length o.processes.test s.shared b.halves.mem b.halves.low (end_of b.halves) b.named b.halves.procs.items s.processes o.processes.processes
+  count-there = row-length o.processes.test s.shared b.halves.mem b.halves.room.end (end_of b.halves) b.named b.halves.procs.items s.processes o.processes.processes
 
   module _ (seat : Seat) (x : Sits b seat) where
     pub within-there : seat.row < length s.processes
@@ -31,7 +31,7 @@ module _ (b : One) (s : State) (o : OneStands b s) (c : IsCounted b) where
 
     pub number-there : (get_or s.processes seat.row no_process).number ≡ seat.pid
     number-there =
-        (row-at o.processes.test s.shared b.halves.mem b.halves.low (end_of b.halves) b.named b.halves.procs.items s.processes seat.row no_row no_process x.within o.processes.processes).number
+        (row-at o.processes.test s.shared b.halves.mem b.halves.room.end (end_of b.halves) b.named b.halves.procs.items s.processes seat.row no_row no_process x.within o.processes.processes).number
         ∙ x.number no_row
 
     pub found-there : process_of seat.pid s ≡ Some (get_or s.processes seat.row no_process)

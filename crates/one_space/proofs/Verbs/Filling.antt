@@ -110,11 +110,11 @@ module _ (b : One) (holds : Holds b) (seat : Seat) (x : Sits b seat) (r : Reg) (
     bytes = replicate len byte
 
     -- On the heap.
-    module _ (few : len ≤ 64) (given : ok ≡ true) (mem2 : List ℕ) (z : Room) (uses : Uses (2 + bin_words len) (record { start = h.base; top = h.top; end = h.low }) z h.mem mem2)
+    module _ (few : len ≤ 64) (given : ok ≡ true) (mem2 : List ℕ) (z : Room) (uses : Uses (2 + bin_words len) h.room z h.mem mem2)
         (p2 : Proc) (is2 : p2 ≡ get_or h.procs.items seat.row p2) (w : ℕ)
-        (built : (c : ℕ → ℕ → Bool) (shared : List (List ℕ)) → IsFree c h.top (h.top + (2 + bin_words len)) → Built c h.top (2 + bin_words len) h.mem mem2 shared w (Bin bytes)) where
+        (built : (c : ℕ → ℕ → Bool) (shared : List (List ℕ)) → IsFree c h.room.top (h.room.top + (2 + bin_words len)) → Built c h.room.top (2 + bin_words len) h.mem mem2 shared w (Bin bytes)) where
       abbrev h3 : Halves
-      h3 = laid_out h mem2 z.top h.low (with_item h.procs seat.row (with_term p2 r.0 w p2.refs))
+      h3 = laid_out h mem2 z (with_item h.procs seat.row (with_term p2 r.0 w p2.refs))
 
       used-few : 2 + bin_words len ≤ g
       used-few = omega (arith, words, heap-words len few)
@@ -140,14 +140,15 @@ module _ (b : One) (holds : Holds b) (seat : Seat) (x : Sits b seat) (r : Reg) (
 
     -- The same of bytes that are told otherwise.
     pub small-by : (few : len ≤ 64) (given : ok ≡ true) (xs : List ℕ) → xs ≡ bytes → (mem2 : List ℕ) (z : Room)
-        → Uses (2 + bin_words (length xs)) (record { start = h.base; top = h.top; end = h.low }) z h.mem mem2
+        → Uses (2 + bin_words (length xs)) h.room z h.mem mem2
         → (p2 : Proc) (is2 : p2 ≡ get_or h.procs.items seat.row p2) (w : ℕ)
-        → ((c : ℕ → ℕ → Bool) (shared : List (List ℕ)) → IsFree c h.top (h.top + (2 + bin_words (length xs))) → Built c h.top (2 + bin_words (length xs)) h.mem mem2 shared w (Bin xs))
-        → Does {A = Unit {0}} (OfProcess seat.pid v) b (after b (laid_out h mem2 z.top h.low (with_item h.procs seat.row (with_term p2 r.0 w p2.refs)))) (Ok tt)
+        → ((c : ℕ → ℕ → Bool) (shared : List (List ℕ)) → IsFree c h.room.top (h.room.top + (2 + bin_words (length xs))) → Built c h.room.top (2 + bin_words (length xs)) h.mem mem2 shared w (Bin xs))
+        → Does {A = Unit {0}} (OfProcess seat.pid v) b (after b (laid_out h mem2 z (with_item h.procs seat.row (with_term p2 r.0 w p2.refs)))) (Ok tt)
     small-by few given xs same mem2 z uses p2 is2 w built =
         let n : length xs ≡ len = ap length same ∙ length-replicate {A = ℕ} len byte in
-        let U : ℕ → Type 0 = λ m. Uses (2 + bin_words m) (record { start = h.base; top = h.top; end = h.low }) z h.mem mem2 in
-        let B : ℕ → List ℕ → Type 0 = λ m ys. (c : ℕ → ℕ → Bool) (shared : List (List ℕ)) → IsFree c h.top (h.top + (2 + bin_words m)) → Built c h.top (2 + bin_words m) h.mem mem2 shared w (Bin ys) in
+        let U : ℕ → Type 0 = λ m. Uses (2 + bin_words m) h.room z h.mem mem2 in
+        let B : ℕ → List ℕ → Type 0 = λ m ys. (c : ℕ → ℕ → Bool) (shared : List (List ℕ)) → IsFree c h.room.top (h.room.top + (2 + bin_words m))
+        → Built c h.room.top (2 + bin_words m) h.mem mem2 shared w (Bin ys) in
         let C : ℕ → Type 0 = λ m. B m xs in
         let D : List ℕ → Type 0 = λ ys. B len ys in
         small-does few given mem2 z (subst U n uses) p2 is2 w (subst D same (subst C n built))
@@ -177,7 +178,8 @@ module _ (b : One) (holds : Holds b) (seat : Seat) (x : Sits b seat) (r : Reg) (
           inl (subst P (sym (found-there (roomed b h) s o1 counts1 seat sits1)) (subst Q (sym fits) (subst R (sym (record-tree bytes s.shared (omega (arith, long, length-replicate {A = ℕ} len byte))))
           (gained-stands b holds seat x g h ok room h4 adds p2 is2 r.0 w s o shared2 b.named (b.serials + 1) (Shared (length s.shared + 1)) made refl
           (omega (arith, serial, length-append s.shared (bytes ∷ [])))
-          (within-grown o.processes.test s.shared (bytes ∷ []) b.halves.mem b.halves.low (end_of b.halves) b.named b.halves.procs.items s.processes o.processes.processes o.within) b.row line refl))))
+          (within-grown o.processes.test s.shared (bytes ∷ []) b.halves.mem b.halves.room.end (end_of b.halves) b.named b.halves.procs.items s.processes o.processes.processes o.within) b.row line
+          refl))))
 
       pub long-does : Does {A = Unit {0}} (OfProcess seat.pid v) b b4 (Ok tt)
       long-does = record {

@@ -55,7 +55,7 @@ raised named named2 up h shared qs x = record {
   records = x.records;
   fun_names = λ v i. omega (arith, x.fun_names v i, up);
   apart = x.apart;
-  processes = procs-on x.test x.test shared h.mem h.mem named named2 h.low h.low (end_of h) (λ w t held. record { standing = held.standing; names = named-more named named2 up t held.names })
+  processes = procs-on x.test x.test shared h.mem h.mem named named2 h.room.end h.room.end (end_of h) (λ w t held. record { standing = held.standing; names = named-more named named2 up t held.names })
       (λ q above below bare. refl) (λ q k above below bare e. bare k e) (omega arith) h.procs.items qs x.processes;
 }
 

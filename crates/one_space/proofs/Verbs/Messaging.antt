@@ -214,7 +214,7 @@ module _ (b : One) (holds : Holds b) (seat : Seat) (x : Sits b seat) (r : Reg) (
 
         dead-there : (s : State) → OneStands b s → is_live n s ≡ false
         dead-there s o =
-            sym (dead ∙ procs-among o.processes.test s.shared b.halves.mem b.named b.halves.low (end_of b.halves) b.halves.procs.items s.processes n o.processes.processes)
+            sym (dead ∙ procs-among o.processes.test s.shared b.halves.mem b.named b.halves.room.end (end_of b.halves) b.halves.procs.items s.processes n o.processes.processes)
 
         quiet-stands : (s : State) (terms : Terms) (names : List (List ℕ)) → OneStands b s
             → Follows {A = Unit {0}} (step s (said (OfProcess seat.pid v) terms names)) s (Ok tt) (OneStands quiet)
@@ -255,7 +255,7 @@ module _ (b : One) (holds : Holds b) (seat : Seat) (x : Sits b seat) (r : Reg) (
 
         live-there : (s : State) → OneStands b s → is_live n s ≡ true
         live-there s o =
-            sym (live ∙ procs-among o.processes.test s.shared b.halves.mem b.named b.halves.low (end_of b.halves) b.halves.procs.items s.processes n o.processes.processes)
+            sym (live ∙ procs-among o.processes.test s.shared b.halves.mem b.named b.halves.room.end (end_of b.halves) b.halves.procs.items s.processes n o.processes.processes)
 
         g-there : (s : State) → OneStands b s → g ≡ 8 + flat (tree s)
         g-there s o = omega (arith, g_is, flat-is s o)

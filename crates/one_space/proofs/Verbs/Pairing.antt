@@ -7,9 +7,7 @@ use Rattle.std.specs.Vec.{with_item}
 use Rattle.word_mem.specs.declared.ranges.Room.{Room}
 use Rattle.plain_term.specs.Tree.{Tree, Pairs, pairs_len}
 use Rattle.plain_term.specs.Tree.Tree.{Int, Atom, Pid, Ref, Nil, Cons, Tuple, Map, Bin, Shared, Part, Fun}
-use Rattle.plain_term.specs.Tree.Pairs.{stop, pair}
 use Rattle.plain_term.specs.Beyond.{is_beyond}
-use Rattle.plain_term.specs.Order.{order}
 use Rattle.plain_term.specs.InOrder.{put_pair}
 use Rattle.script_grammar.specs.declared.command.Command.TheVariants.{Process as OfProcess}
 use Rattle.script_grammar.specs.declared.command.Reg.{Reg}
@@ -242,7 +240,7 @@ module _ (b : One) (holds : Holds b) (seat : Seat) (x : Sits b seat) (r m k v : 
               subst P (pairs-there s o).is (held-after s o m.0 one).standing
 
           module _ (given : ok ≡ true) where
-            pub put-place : HasPlace (record { start = h.base; top = h.top; end = h.low }) h.mem (get_or p1.regs m.0 0) place.spot
+            pub put-place : HasPlace h.room h.mem (get_or p1.regs m.0 0) place.spot
             put-place =
                 let here = pairs-there holds.state holds.stands in
                 let o1 = roomed-there b holds g h ok room holds.state holds.stands in
@@ -257,7 +255,7 @@ module _ (b : One) (holds : Holds b) (seat : Seat) (x : Sits b seat) (r m k v : 
 
             -- It takes no more words than were asked for.
             pub put-few : (mem2 : List ℕ) (z : Room) → ((c : ℕ → ℕ → Bool) (shared : List (List ℕ)) (ps : Pairs) → Stands c shared h.mem (get_or p1.regs m.0 0) (Map ps)
-                → Uses (4 + 2 * count_placed place.spot (pairs_len ps)) (record { start = h.base; top = h.top; end = h.low }) z h.mem mem2) → free_in h ≤ (h.low - z.top) + g
+                → Uses (4 + 2 * count_placed place.spot (pairs_len ps)) h.room z h.mem mem2) → free_in h ≤ (z.end - z.top) + g
             put-few mem2 z uses =
                 let here = pairs-there holds.state holds.stands in
                 let used = uses (roomed-there b holds g h ok room holds.state holds.stands).processes.test holds.state.shared here.pairs (map-after holds.state holds.stands) in
@@ -265,21 +263,21 @@ module _ (b : One) (holds : Holds b) (seat : Seat) (x : Sits b seat) (r m k v : 
 
             module _ (mem2 : List ℕ) (z : Room) (w : ℕ) (p2 : Proc) (is2 : p2 ≡ get_or h.procs.items seat.row p2)
                 (uses : (c : ℕ → ℕ → Bool) (shared : List (List ℕ)) (ps : Pairs) → Stands c shared h.mem (get_or p1.regs m.0 0) (Map ps)
-                → Uses (4 + 2 * count_placed place.spot (pairs_len ps)) (record { start = h.base; top = h.top; end = h.low }) z h.mem mem2)
-                (built : (c : ℕ → ℕ → Bool) (shared : List (List ℕ)) (ps : Pairs) (t u : Tree) → IsFree c h.top (h.top + (4 + 2 * count_placed place.spot (pairs_len ps)))
+                → Uses (4 + 2 * count_placed place.spot (pairs_len ps)) h.room z h.mem mem2)
+                (built : (c : ℕ → ℕ → Bool) (shared : List (List ℕ)) (ps : Pairs) (t u : Tree) → IsFree c h.room.top (h.room.top + (4 + 2 * count_placed place.spot (pairs_len ps)))
                 → Stands c shared h.mem (get_or p1.regs m.0 0) (Map ps) → Stands c shared h.mem (get_or p1.regs k.0 0) t → Stands c shared h.mem (get_or p1.regs v.0 0) u
-                → Built c h.top (4 + 2 * count_placed place.spot (pairs_len ps)) h.mem mem2 shared w (Map (put_at_spot place.spot t u ps))) where
+                → Built c h.room.top (4 + 2 * count_placed place.spot (pairs_len ps)) h.mem mem2 shared w (Map (put_at_spot place.spot t u ps))) where
               -- The words that the map takes.
               abbrev used : ℕ
               used = 4 + 2 * count_placed place.spot place.keys
 
               abbrev h3 : Halves
-              h3 = laid_out h mem2 z.top h.low (with_item h.procs seat.row (with_term p2 r.0 w p2.refs))
+              h3 = laid_out h mem2 z (with_item h.procs seat.row (with_term p2 r.0 w p2.refs))
 
-              uses-there : Uses used (record { start = h.base; top = h.top; end = h.low }) z h.mem mem2
+              uses-there : Uses used h.room z h.mem mem2
               uses-there =
                   let here = pairs-there holds.state holds.stands in
-                  let P : ℕ → Type 0 = λ n. Uses (4 + 2 * count_placed place.spot n) (record { start = h.base; top = h.top; end = h.low }) z h.mem mem2 in
+                  let P : ℕ → Type 0 = λ n. Uses (4 + 2 * count_placed place.spot n) h.room z h.mem mem2 in
                   subst P (sym here.fits.count) (uses (roomed-there b holds g h ok room holds.state holds.stands).processes.test holds.state.shared here.pairs (map-after holds.state holds.stands))
 
               few-used : used ≤ g
@@ -289,10 +287,10 @@ module _ (b : One) (holds : Holds b) (seat : Seat) (x : Sits b seat) (r m k v : 
               abbrev made_in : (s : State) → OneStands b s → Tree
               made_in s o = Map (put_at_spot place.spot (register k.0 (seated_in s)) (register v.0 (seated_in s)) (pairs-there s o).pairs)
 
-              built-there : (s : State) (o : OneStands b s) → Built (roomed-there b holds g h ok room s o).processes.test h.top used h.mem mem2 s.shared w (made_in s o)
+              built-there : (s : State) (o : OneStands b s) → Built (roomed-there b holds g h ok room s o).processes.test h.room.top used h.mem mem2 s.shared w (made_in s o)
               built-there s o =
                   let here = pairs-there s o in
-                  let P : ℕ → Type 0 = λ n. Built (roomed-there b holds g h ok room s o).processes.test h.top (4 + 2 * count_placed place.spot n) h.mem mem2 s.shared w (made_in s o) in
+                  let P : ℕ → Type 0 = λ n. Built (roomed-there b holds g h ok room s o).processes.test h.room.top (4 + 2 * count_placed place.spot n) h.mem mem2 s.shared w (made_in s o) in
                   subst P (sym here.fits.count)
                   (built (roomed-there b holds g h ok room s o).processes.test s.shared here.pairs (register k.0 (seated_in s)) (register v.0 (seated_in s))
                   (room-free b holds seat x g h ok room given s o (4 + 2 * count_placed place.spot (pairs_len here.pairs))

@@ -14,7 +14,6 @@ use Rattle.script_grammar.specs.declared.command.Verb.{Verb}
 use Rattle.script_grammar.specs.declared.command.Verb.TheVariants as verb
 use Rattle.script_grammar.specs.declared.refusal.Refusal.TheVariants as refusal
 use Rattle.script_grammar.specs.Written.{Terms}
-use Rattle.script_grammar.specs.Written.Terms.{end}
 use Rattle.term_words.specs.Stands.{IsTerm, Stands}
 use Rattle.term_order.specs.Named.{is_named}
 use Rattle.term_build.specs.Taken.{IsFree}
@@ -130,12 +129,12 @@ module _ (b : One) (holds : Holds b) (seat : Seat) (x : Sits b seat) (r m : Reg)
             has = sym (has-there holds.state holds.stands) ∙ some;
           }
 
-      module _ (given : ok ≡ true) (mem2 : List ℕ) (z : Room) (uses : Uses 5 (record { start = h.base; top = h.top; end = h.low }) z h.mem mem2)
+      module _ (given : ok ≡ true) (mem2 : List ℕ) (z : Room) (uses : Uses 5 h.room z h.mem mem2)
           (p2 : Proc) (is2 : p2 ≡ get_or h.procs.items seat.row p2) (p3 : Proc) (is3 : p3 ≡ get_or h.procs.items seat.row p3) (w : ℕ)
-          (built : (c : ℕ → ℕ → Bool) (shared : List (List ℕ)) (t u : Tree) → IsFree c h.top (h.top + 5) → Stands c shared h.mem (get_or p2.regs m.0 0) t
-          → part_in shared offset len t ≡ Some u → Built c h.top 5 h.mem mem2 shared w u) where
+          (built : (c : ℕ → ℕ → Bool) (shared : List (List ℕ)) (t u : Tree) → IsFree c h.room.top (h.room.top + 5) → Stands c shared h.mem (get_or p2.regs m.0 0) t
+          → part_in shared offset len t ≡ Some u → Built c h.room.top 5 h.mem mem2 shared w u) where
         abbrev h3 : Halves
-        h3 = laid_out h mem2 z.top h.low (with_item h.procs seat.row (with_term p3 r.0 w p3.refs))
+        h3 = laid_out h mem2 z (with_item h.procs seat.row (with_term p3 r.0 w p3.refs))
 
         cut-stands : (s : State) (terms : Terms) (names : List (List ℕ)) → OneStands b s
             → Becomes {A = Unit {0}} (words_of b) s (said (OfProcess seat.pid v) terms names) (Ok tt) (OneStands (after b h3))

@@ -174,8 +174,8 @@ module _ (c : ℕ → ℕ → Bool) (shared : List (List ℕ)) (mem : List ℕ) 
 module _ (b : One) (counts : IsCounted b) (seat : Seat) (x : Sits b seat) (p : Proc) (is : p ≡ get_or b.halves.procs.items seat.row p) (names : List (List ℕ)) (more : b.named ≤ length names) where
   messages-there : (s : State) (o : OneStands b s) → AreMessages s.shared b.halves.mem (length names) p.queue p.waiting (get_or s.processes seat.row no_process).queue
   messages-there s o =
-      let h = row-stands o.processes.test s.shared b.halves.mem b.halves.low (end_of b.halves) b.named b.halves.procs.items s.processes seat.row p x.within is o.processes.processes in
-      messages-of o.processes.test s.shared b.halves.mem b.halves.low (end_of b.halves) b.named (length names) (half-within b.halves counts.laid) more p.queue p.waiting
+      let h = row-stands o.processes.test s.shared b.halves.mem b.halves.room.end (end_of b.halves) b.named b.halves.procs.items s.processes seat.row p x.within is o.processes.processes in
+      messages-of o.processes.test s.shared b.halves.mem b.halves.room.end (end_of b.halves) b.named (length names) (half-within b.halves counts.laid) more p.queue p.waiting
       (get_or s.processes seat.row no_process).queue h.waits h.queue (within-at s.shared s.processes seat.row o.within)
 
   pub have-messages : (s : State) (o : OneStands b s) → HaveMessages b.halves.mem (length names) p.queue p.waiting

@@ -49,7 +49,7 @@ module _ (b : One) (holds : Holds b) (seat : Seat) (x : Sits b seat) (r : Reg) w
         let is : p ≡ get_or b.halves.procs.items seat.row p = get_or_default b.halves.procs.items seat.row no_row p x.within in
         let q : Process = get_or s.processes seat.row no_process in
         let line : Parsed = said (OfProcess seat.pid (verb.Recv r)) terms names in
-        let h = row-stands o.processes.test s.shared b.halves.mem b.halves.low (end_of b.halves) b.named b.halves.procs.items s.processes seat.row p x.within is o.processes.processes in
+        let h = row-stands o.processes.test s.shared b.halves.mem b.halves.room.end (end_of b.halves) b.named b.halves.procs.items s.processes seat.row p x.within is o.processes.processes in
         let empty : q.queue ≡ [] = none-held o.processes.test s.shared b.halves.mem b.named p.queue p.waiting q.queue (none no_row) h.queue in
         let P : Option Process → Type 0 = λ z. Follows {A = Unit {0}} (in_process z s line (verb.Recv r)) s (Err refusal.Empty) (OneStands b) in
         let Q : List Tree → Type 0 = λ z. Follows {A = Unit {0}} (recv_from z s line q r.0) s (Err refusal.Empty) (OneStands b) in
@@ -64,7 +64,7 @@ module _ (b : One) (holds : Holds b) (seat : Seat) (x : Sits b seat) (r : Reg) w
       subst P (sym same) (none-waits none)
 
   pub none-idle : (h2 : Halves) → h2 ≡ b.halves → IsIdle b (with_halves b h2)
-  none-idle h2 same = record { sweeps = ap (λ z. z.sweeps) same; mem = ap (λ z. z.mem) same; top = ap (λ z. z.top) same; low = ap (λ z. z.low) same }
+  none-idle h2 same = record { sweeps = ap (λ z. z.sweeps) same; mem = ap (λ z. z.mem) same; room = ap (λ z. z.room) same }
 
   -- The first message was taken off, and its word is put in the register.
   module _ (h2 : Halves) (w : ℕ) (takes : TakesMessage b.halves h2 seat.row w) where
@@ -85,10 +85,10 @@ module _ (b : One) (holds : Holds b) (seat : Seat) (x : Sits b seat) (r : Reg) w
     left-seated = omega (arith, left-within, h2.procs.ok.0)
 
     abbrev received : Proc → One
-    received p2 = after b (laid_out h2 h2.mem h2.top h2.low (with_item h2.procs seat.row (with_word p2 r.0 w)))
+    received p2 = after b (laid_out h2 h2.mem h2.room (with_item h2.procs seat.row (with_word p2 r.0 w)))
 
     pub received-idle : (p2 : Proc) → IsIdle b (received p2)
-    received-idle p2 = record { sweeps = ap (λ z. z.sweeps) moved; mem = ap (λ z. z.mem) moved; top = ap (λ z. z.top) moved; low = ap (λ z. z.low) moved }
+    received-idle p2 = record { sweeps = ap (λ z. z.sweeps) moved; mem = ap (λ z. z.mem) moved; room = ap (λ z. z.room) moved }
 
     module _ (p2 : Proc) (is2 : p2 ≡ get_or h2.procs.items seat.row p2) where
       module _ (s : State) (o : OneStands b s) where
@@ -109,13 +109,13 @@ module _ (b : One) (holds : Holds b) (seat : Seat) (x : Sits b seat) (r : Reg) w
             let qs1 : List Process = set s.processes seat.row q1 in
             let v = with_item h2.procs seat.row (with_word p2 r.0 w) in
             let own : get_or qs1 seat.row no_process ≡ q1 = get_or-set_same s.processes seat.row q1 no_process row-within in
-            let rows : ProcsStand left.stands.test s.shared h2.mem h2.low (end_of h2) b.named v.items (set qs1 seat.row (with_register r.0 left.message (get_or qs1 seat.row no_process))) =
-            register-set left.stands.test s.shared h2.mem h2.low (end_of h2) b.named h2.procs.items qs1 seat.row p2 left-within is2 left.stands.processes r.0 w left.message left.held in
+            let rows : ProcsStand left.stands.test s.shared h2.mem h2.room.end (end_of h2) b.named v.items (set qs1 seat.row (with_register r.0 left.message (get_or qs1 seat.row no_process))) =
+            register-set left.stands.test s.shared h2.mem h2.room.end (end_of h2) b.named h2.procs.items qs1 seat.row p2 left-within is2 left.stands.processes r.0 w left.message left.held in
             let same : set qs1 seat.row (with_register r.0 left.message (get_or qs1 seat.row no_process)) ≡ set s.processes seat.row q2 =
             ap (λ z. set qs1 seat.row (with_register r.0 left.message z)) own ∙ set-set s.processes seat.row q1 q2 in
             let P : List Process → Type 0 = λ z. HalvesStand b.named (received p2).halves s.shared z in
             subst P same (halves-filled b.named b.named h2 s.shared qs1 (set qs1 seat.row (with_register r.0 left.message (get_or qs1 seat.row no_process))) takes.laid left.stands
-            left.stands.test left.stands.single h2.mem h2.top h2.low v refl
+            left.stands.test left.stands.single h2.mem h2.room v refl
             (λ a k e. e) (λ a k e. inl e) (λ a k e. inl e) (λ a k e. refl) (omega arith) (omega arith) (omega arith) rows
             (apart-same h2.mem h2.procs.items seat.row (with_word p2 r.0 w) p2 left-within is2 refl left.stands.apart))
 
@@ -147,6 +147,7 @@ module _ (b : One) (holds : Holds b) (seat : Seat) (x : Sits b seat) (r : Reg) w
           (record {
             even = takes.laid.even;
             side = takes.laid.side;
+            starts = takes.laid.starts;
             front = takes.laid.front;
             order = takes.laid.order;
             fits = omega (arith, takes.laid.fits, places-row h2.procs.items seat.row row2 p2 left-within is2);

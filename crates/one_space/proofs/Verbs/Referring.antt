@@ -8,7 +8,6 @@ use Rattle.script_grammar.specs.declared.command.Reg.{Reg}
 use Rattle.script_grammar.specs.declared.command.Verb.TheVariants as verb
 use Rattle.script_grammar.specs.declared.refusal.Refusal.TheVariants as refusal
 use Rattle.script_grammar.specs.Written.{Terms}
-use Rattle.script_grammar.specs.Written.Terms.{end}
 use Rattle.term_build.specs.Taken.{IsFree}
 use Rattle.term_build.specs.Grows.{Built}
 use Rattle.term_build.specs.Clear.{Uses}
@@ -47,11 +46,11 @@ module _ (b : One) (holds : Holds b) (seat : Seat) (x : Sits b seat) (r : Reg) (
       let made : HaveMade b.calls h.procs.items = made-same b.calls b.calls (omega arith) b.halves.procs.items h.procs.items (stays-roomed 3 b.halves h ok room).rows holds.counts.made in
       omega (arith, ap (λ z. z.refs) is, made-at b.calls h.procs.items seat.row p (sits-there b holds 3 h ok room seat x).within made)
 
-  module _ (given : ok ≡ true) (mem2 : List ℕ) (z : Room) (uses : Uses 3 (record { start = h.base; top = h.top; end = h.low }) z h.mem mem2)
+  module _ (given : ok ≡ true) (mem2 : List ℕ) (z : Room) (uses : Uses 3 h.room z h.mem mem2)
       (p : Proc) (is : p ≡ get_or h.procs.items seat.row p) (p2 : Proc) (is2 : p2 ≡ get_or h.procs.items seat.row p2) (w k : ℕ) (counted : k ≡ p.refs + 1)
-      (built : (c : ℕ → ℕ → Bool) (shared : List (List ℕ)) → IsFree c h.top (h.top + 3) → Built c h.top 3 h.mem mem2 shared w (Ref seat.pid k)) where
+      (built : (c : ℕ → ℕ → Bool) (shared : List (List ℕ)) → IsFree c h.room.top (h.room.top + 3) → Built c h.room.top 3 h.mem mem2 shared w (Ref seat.pid k)) where
     abbrev h3 : Halves
-    h3 = laid_out h mem2 z.top h.low (with_item h.procs seat.row (with_term p2 r.0 w k))
+    h3 = laid_out h mem2 z (with_item h.procs seat.row (with_term p2 r.0 w k))
 
     ref-stands : (s : State) (terms : Terms) (names : List (List ℕ)) → OneStands b s
         → Becomes {A = Unit {0}} (words_of b) s (said (OfProcess seat.pid (verb.Ref r)) terms names) (Ok tt) (OneStands (after b h3))
@@ -62,7 +61,7 @@ module _ (b : One) (holds : Holds b) (seat : Seat) (x : Sits b seat) (r : Reg) (
         let q : Process = get_or s.processes seat.row no_process in
         let number : q.number ≡ seat.pid = number-there (roomed b h) s o1 counts1 seat sits1 in
         let made : q.refs + 1 ≡ k = omega (arith, counted, (row-there (roomed b h) counts1 seat sits1 p is s o1).refs) in
-        let B : ℕ → ℕ → Type 0 = λ n m. Built o1.processes.test h.top 3 h.mem mem2 s.shared w (Ref n m) in
+        let B : ℕ → ℕ → Type 0 = λ n m. Built o1.processes.test h.room.top 3 h.mem mem2 s.shared w (Ref n m) in
         let here : B q.number (q.refs + 1) =
         let C : ℕ → Type 0 = λ n. B n (q.refs + 1) in subst C (sym number) (subst (B seat.pid) (sym made) (built o1.processes.test s.shared (room-free b holds seat x 3 h ok room given
         s o 3 (omega arith)))) in

@@ -11,7 +11,6 @@ use Rattle.script_grammar.specs.declared.command.Verb.{Verb}
 use Rattle.script_grammar.specs.declared.command.Verb.TheVariants as verb
 use Rattle.script_grammar.specs.declared.refusal.Refusal.TheVariants as refusal
 use Rattle.script_grammar.specs.Written.{Terms}
-use Rattle.script_grammar.specs.Written.Terms.{end}
 use Rattle.term_words.specs.Stands.{Stands}
 use Rattle.term_build.specs.Taken.{IsFree}
 use Rattle.term_build.specs.Grows.{Built}
@@ -73,12 +72,12 @@ module _ (b : One) (holds : Holds b) (seat : Seat) (x : Sits b seat) (r : Reg) (
           (inl (omega arith, some-process b holds seat x s o), subst P (sym (found-there b s o holds.counts seat x)) (subst Q (sym (few-enough n few)) refl)),
         ))
 
-    module _ (given : ok ≡ true) (mem2 : List ℕ) (z : Room) (uses : Uses (repeat_words shape n) (record { start = h.base; top = h.top; end = h.low }) z h.mem mem2)
+    module _ (given : ok ≡ true) (mem2 : List ℕ) (z : Room) (uses : Uses (repeat_words shape n) h.room z h.mem mem2)
         (p : Proc) (is : p ≡ get_or h.procs.items seat.row p) (p2 : Proc) (is2 : p2 ≡ get_or h.procs.items seat.row p2) (small : m.0 < 16) (w : ℕ)
-        (built : (c : ℕ → ℕ → Bool) (shared : List (List ℕ)) (t : Tree) → IsFree c h.top (h.top + repeat_words shape n) → Stands c shared h.mem (get_or p.regs m.0 0) t
-        → Built c h.top (repeat_words shape n) h.mem mem2 shared w (repeated shape n t)) where
+        (built : (c : ℕ → ℕ → Bool) (shared : List (List ℕ)) (t : Tree) → IsFree c h.room.top (h.room.top + repeat_words shape n) → Stands c shared h.mem (get_or p.regs m.0 0) t
+        → Built c h.room.top (repeat_words shape n) h.mem mem2 shared w (repeated shape n t)) where
       abbrev h3 : Halves
-      h3 = laid_out h mem2 z.top h.low (with_item h.procs seat.row (with_term p2 r.0 w p2.refs))
+      h3 = laid_out h mem2 z (with_item h.procs seat.row (with_term p2 r.0 w p2.refs))
 
       repeat-stands : (s : State) (terms : Terms) (names : List (List ℕ)) → OneStands b s
           → Becomes {A = Unit {0}} (words_of b) s (said (OfProcess seat.pid v) terms names) (Ok tt) (OneStands (after b h3))

@@ -153,7 +153,8 @@ module _ (c : ℕ → ℕ → Bool) (shared extra : List (List ℕ)) (mem : List
 
 -- The space after a stop: its memory and its row of words changed, and nothing that it stands for.
 abbrev pub stopped_in : One → Halves → (mem : List ℕ) → Vec ℕ Global → One
-stopped_in b h mem row = record { halves = laid_out h mem h.top h.low h.procs; row = row; spare = b.spare; next = b.next; serials = b.serials; named = b.named; calls = b.calls + 1; swept = b.swept }
+stopped_in b h mem row = record
+    { halves = laid_out h mem h.room h.procs; row = row; spare = b.spare; next = b.next; serials = b.serials; named = b.named; calls = b.calls + 1; swept = b.swept }
 
 module _ (b : One) (holds : Holds b) (seat : Seat) (x : Sits b seat) (r : Reg) (names : List (List ℕ)) (code : List Item) (has : HasTerm names code) (few : length names ≤ 16384) (n : ℕ)
     (is_n : n ≡ item_words_of code) (h : Halves) (ok : Bool) (room : MakesRoom n b.halves h ok) (more : b.named ≤ length names) where
@@ -183,21 +184,15 @@ module _ (b : One) (holds : Holds b) (seat : Seat) (x : Sits b seat) (r : Reg) (
     refused = omega arith;
   }
 
-  module _ (given : ok ≡ true) (y : Room) (start : y ≡ record { start = h.base; top = h.top; end = h.low }) (p : Proc) (is : p ≡ get_or h.procs.items seat.row p) where
-    top-is : y.top ≡ h.top
-    top-is = ap (λ q. q.top) start
-
+  module _ (given : ok ≡ true) (p : Proc) (is : p ≡ get_or h.procs.items seat.row p) where
     counts1 : IsCounted (roomed b h)
     counts1 = counts-there b holds n h ok room
 
     sits1 : Sits (roomed b h) seat
     sits1 = sits-there b holds n h ok room seat x
 
-    pub set-fits : y.top + item_words_of code ≤ y.end
-    set-fits = omega (arith, term-fits b holds seat x n h ok room given, top-is, ap (λ q. q.end) start, is_n)
-
-    end-is : y.end ≡ h.low
-    end-is = ap (λ q. q.end) start
+    pub set-fits : h.room.top + item_words_of code ≤ h.room.end
+    set-fits = omega (arith, term-fits b holds seat x n h ok room given, is_n)
 
     -- The registers are held, and no word that may be taken has a role.
     module _ (s : State) (o : OneStands b s) where
@@ -210,8 +205,8 @@ module _ (b : One) (holds : Holds b) (seat : Seat) (x : Sits b seat) (r : Reg) (
       regs : length p.regs ≡ 16
       regs = (row-there (roomed b h) counts1 seat sits1 p is s o1).count
 
-      free : IsFree o1.processes.test y.top y.end
-      free a k e = elim (o1.processes.lie a k e) [ inl there ↦ inl (omega (arith, there.1.0, top-is)) | inr there ↦ inr (omega (arith, there.0, end-is)) ]
+      free : IsFree o1.processes.test h.room.top h.room.end
+      free a k e = elim (o1.processes.lie a k e) [ inl there ↦ inl (there.1.0) | inr there ↦ inr (there.0) ]
 
       held : HeldStand o1.processes.test s.shared h.mem p.regs q.registers
       held = record { each = λ i below. (held-there (roomed b h) counts1 seat sits1 p is s o1 i (omega (arith, below, regs))).standing }
@@ -222,7 +217,7 @@ module _ (b : One) (holds : Holds b) (seat : Seat) (x : Sits b seat) (r : Reg) (
       knows : (i : ℕ) → Knows (length s.shared) (register i q)
       knows i = know-held o1.processes.test s.shared h.mem b.named p.regs q.registers (row-there (roomed b h) counts1 seat sits1 p is s o1).registers i
 
-    pub set-held : HasHeld names b.serials y h.mem p.regs
+    pub set-held : HasHeld names b.serials h.room h.mem p.regs
     set-held = record {
       test = (o1 holds.state holds.stands).processes.test;
       shared = holds.state.shared;
@@ -236,37 +231,37 @@ module _ (b : One) (holds : Holds b) (seat : Seat) (x : Sits b seat) (r : Reg) (
     pub set-regs : length p.regs ≡ 16
     set-regs = regs holds.state holds.stands
 
-    module _ (mem2 : List ℕ) (z : Room) (row : Vec ℕ Global) (same_row : vec_len row ≡ vec_len b.row) (was now : Making) (leaves : LeavesRoom y z h.mem mem2) (was_is : was ≡ record {
+    module _ (mem2 : List ℕ) (z : Room) (row : Vec ℕ Global) (same_row : vec_len row ≡ vec_len b.row) (was now : Making) (leaves : LeavesRoom h.room z h.mem mem2) (was_is : was ≡ record {
       serial = b.serials;
       head = h.head;
     }) where
-      others : (a : ℕ) → (a < h.top) ⊎ (h.low ≤ a) → get_or mem2 a 0 ≡ get_or h.mem a 0
-      others a out = leaves.others a (elim out [ inl under ↦ inl (omega (arith, under, top-is)) | inr over ↦ inr (omega (arith, over, end-is)) ])
+      others : (a : ℕ) → (a < h.room.top) ⊎ (h.room.end ≤ a) → get_or mem2 a 0 ≡ get_or h.mem a 0
+      others a out = leaves.others a out
 
       -- The term was not built.
       module _ (e : BuildStop)
-          (builds : (c : ℕ → ℕ → Bool) (shared : List (List ℕ)) (trees : List Tree) → IsFree c y.top y.end → length shared ≡ b.serials → HeldStand c shared h.mem p.regs trees
-          → BuildsTerm c (shared ++ bins_of code) y z h.mem mem2 was now (long_bins code) (Err e) (outcome names shared trees code)) where
+          (builds : (c : ℕ → ℕ → Bool) (shared : List (List ℕ)) (trees : List Tree) → IsFree c h.room.top h.room.end → length shared ≡ b.serials → HeldStand c shared h.mem p.regs trees
+          → BuildsTerm c (shared ++ bins_of code) h.room z h.mem mem2 was now (long_bins code) (Err e) (outcome names shared trees code)) where
         stop-stands : (s : State) → OneStands b s → OneStands (stopped_in b h mem2 row) s
         stop-stands s o =
             let old = o1 s o in
             record {
-              processes = rest-stands b.named h s.shared s.processes room.laid old.processes mem2 h.top leaves.same_len others (omega arith) room.laid.order;
+              processes = rest-stands b.named h s.shared s.processes room.laid old.processes mem2 h.room leaves.same_len others (omega arith) room.laid.order (omega arith);
               next = o.next;
               swept = o.swept;
               shared = o.shared;
               areas = o.areas;
               within = o.within;
-              reached = λ swept. rest-reached b.named h s.shared s.processes room.laid old.processes mem2 h.top leaves.same_len others (omega arith) room.laid.order (old.reached swept);
+              reached = λ swept. rest-reached b.named h s.shared s.processes room.laid old.processes mem2 h.room leaves.same_len others (omega arith) room.laid.order (omega arith) (old.reached swept);
             }
 
         stop-becomes : (s : State) (t : Term) → OneStands b s → IsWrittenTerm names code t
             → Becomes {A = Unit {0}} (words_of b) s (line t) (Err (refusal_for e)) (OneStands (stopped_in b h mem2 row))
         stop-becomes s t o is_term =
             let P : Option Process → Type 0 = λ u. Follows {A = Unit {0}} (in_process u s (line t) v) s (Err (refusal_for e)) (OneStands (stopped_in b h mem2 row)) in
-            let Q : Result Tree BuildStop → Type 0 = λ u. BuildsTerm (o1 s o).processes.test (s.shared ++ bins_of code) y z h.mem mem2 was now (long_bins code) (Err e) u in
+            let Q : Result Tree BuildStop → Type 0 = λ u. BuildsTerm (o1 s o).processes.test (s.shared ++ bins_of code) h.room z h.mem mem2 was now (long_bins code) (Err e) u in
             inl (subst P (sym (found-there (roomed b h) s (o1 s o) counts1 seat sits1))
-            (stop-flaw (o1 s o).processes.test (s.shared ++ bins_of code) y z h.mem mem2 was now (long_bins code) e (is_big names (q s o).registers t s.shared) (is_wide names (q s
+            (stop-flaw (o1 s o).processes.test (s.shared ++ bins_of code) h.room z h.mem mem2 was now (long_bins code) e (is_big names (q s o).registers t s.shared) (is_wide names (q s
             o).registers t s.shared)
             ((tree_of names (q s o).registers t s.shared).0) s _ (OneStands (stopped_in b h mem2 row))
             (subst Q (term-outcome names (q s o).registers code t s.shared is_term (knows s o))
@@ -274,7 +269,7 @@ module _ (b : One) (holds : Holds b) (seat : Seat) (x : Sits b seat) (r : Reg) (
 
         stop-counts : IsCounted (stopped_in b h mem2 row)
         stop-counts = counts-same (roomed b h) (stopped_in b h mem2 row) counts1
-            (rest-laid b.named h holds.state.shared holds.state.processes room.laid (o1 holds.state holds.stands).processes mem2 h.top leaves.same_len others (omega arith) room.laid.order)
+            (rest-laid b.named h holds.state.shared holds.state.processes room.laid (o1 holds.state holds.stands).processes mem2 h.room leaves.same_len others (omega arith) room.laid.order (omega arith) refl)
             refl refl refl same_row refl (omega arith) refl counts1.made refl leaves.same_len refl refl refl
 
         pub set-stops : Builds {A = Unit {0}} names seat.pid r code b (stopped_in b h mem2 row) (Err (refusal_for e))
@@ -288,54 +283,49 @@ module _ (b : One) (holds : Holds b) (seat : Seat) (x : Sits b seat) (r : Reg) (
 
       -- The term was built.
       module _ (w : ℕ)
-          (builds : (c : ℕ → ℕ → Bool) (shared : List (List ℕ)) (trees : List Tree) → IsFree c y.top y.end → length shared ≡ b.serials → HeldStand c shared h.mem p.regs trees
-          → BuildsTerm c (shared ++ bins_of code) y z h.mem mem2 was now (long_bins code) (Ok w) (outcome names shared trees code))
-          (back : z.end + far_words_of code ≡ y.end) where
+          (builds : (c : ℕ → ℕ → Bool) (shared : List (List ℕ)) (trees : List Tree) → IsFree c h.room.top h.room.end → length shared ≡ b.serials → HeldStand c shared h.mem p.regs trees
+          → BuildsTerm c (shared ++ bins_of code) h.room z h.mem mem2 was now (long_bins code) (Ok w) (outcome names shared trees code))
+          (back : z.end + far_words_of code ≡ h.room.end) where
         -- What was built of the tree of a written term.
         whole-there : (s : State) (t : Term) (o : OneStands b s) → IsWrittenTerm names code t
-            → Whole (o1 s o).processes.test (s.shared ++ bins_of code) y z h.mem mem2 was now (long_bins code) w (is_big names (q s o).registers t s.shared) (is_wide names (q s
+            → Whole (o1 s o).processes.test (s.shared ++ bins_of code) h.room z h.mem mem2 was now (long_bins code) w (is_big names (q s o).registers t s.shared) (is_wide names (q s
             o).registers t s.shared)
             ((tree_of names (q s o).registers t s.shared).0)
         whole-there s t o is_term =
-            let Q : Result Tree BuildStop → Type 0 = λ g. BuildsTerm (o1 s o).processes.test (s.shared ++ bins_of code) y z h.mem mem2 was now (long_bins code) (Ok w) g in
-            no-flaw (o1 s o).processes.test (s.shared ++ bins_of code) y z h.mem mem2 was now (long_bins code) w (is_big names (q s o).registers t s.shared) (is_wide names (q s
+            let Q : Result Tree BuildStop → Type 0 = λ g. BuildsTerm (o1 s o).processes.test (s.shared ++ bins_of code) h.room z h.mem mem2 was now (long_bins code) (Ok w) g in
+            no-flaw (o1 s o).processes.test (s.shared ++ bins_of code) h.room z h.mem mem2 was now (long_bins code) w (is_big names (q s o).registers t s.shared) (is_wide names (q s
             o).registers t s.shared)
             ((tree_of names (q s o).registers t s.shared).0)
             (subst Q (term-outcome names (q s o).registers code t s.shared is_term (knows s o)) (builds (o1 s o).processes.test s.shared (q s o).registers (free s o) o.shared (held s o)))
 
         -- The holders and records lie so.
         laid-there : (s : State) (t : Term) (o : OneStands b s) (is_term : IsWrittenTerm names code t)
-            → Laid (o1 s o).processes.test (whole-there s t o is_term).built.test (s.shared ++ bins_of code) (record { start = h.base; top = h.top; end = h.low }) z h.mem mem2 h.head now.head
+            → Laid (o1 s o).processes.test (whole-there s t o is_term).built.test (s.shared ++ bins_of code) h.room z h.mem mem2 h.head now.head
             (length s.shared) (long_bins code)
         laid-there s t o is_term =
             let made = (whole-there s t o is_term).built in
-            let P : Room → Type 0 = λ g. Laid (o1 s o).processes.test made.test (s.shared ++ bins_of code) g z h.mem mem2 h.head now.head (length s.shared) (long_bins code) in
-            let Q : Making → Type 0 = λ g. Laid (o1 s o).processes.test made.test (s.shared ++ bins_of code) y z h.mem mem2 g.head now.head g.serial (long_bins code) in
-            let R : ℕ → Type 0 = λ g. Laid (o1 s o).processes.test made.test (s.shared ++ bins_of code) y z h.mem mem2 h.head now.head g (long_bins code) in
-            subst P start (subst R (sym o.shared) (subst Q was_is made.laid))
-
-        leaves-there : LeavesRoom (record { start = h.base; top = h.top; end = h.low }) z h.mem mem2
-        leaves-there = let P : Room → Type 0 = λ g. LeavesRoom g z h.mem mem2 in subst P start leaves
+            let Q : Making → Type 0 = λ g. Laid (o1 s o).processes.test made.test (s.shared ++ bins_of code) h.room z h.mem mem2 g.head now.head g.serial (long_bins code) in
+            let R : ℕ → Type 0 = λ g. Laid (o1 s o).processes.test made.test (s.shared ++ bins_of code) h.room z h.mem mem2 h.head now.head g (long_bins code) in
+            subst R (sym o.shared) (subst Q was_is made.laid)
 
         -- The table and the memory have room for the new records.
         first-laid : Laid (o1 holds.state holds.stands).processes.test (whole-there holds.state has.term holds.stands has.is).built.test (holds.state.shared ++ bins_of code)
-            (record { start = h.base; top = h.top; end = h.low }) z h.mem mem2 h.head now.head (length holds.state.shared) (long_bins code)
+            h.room z h.mem mem2 h.head now.head (length holds.state.shared) (long_bins code)
         first-laid = laid-there holds.state has.term holds.stands has.is
 
-        pub set-inside : h.top + 6 * long_bins code ≤ length mem2
+        pub set-inside : h.room.top + 6 * long_bins code ≤ length mem2
         set-inside = by (long_bins code) refl
           where
-            by : (k : ℕ) → k ≡ long_bins code → h.top + 6 * k ≤ length mem2
+            by : (k : ℕ) → k ≡ long_bins code → h.room.top + 6 * k ≤ length mem2
             by zero e = omega (arith, leaves.same_len, room.laid.order, room.laid.fits, half-within h room.laid)
             by (suc k) e =
                 omega (
                   arith,
                   inside-there h holds.state.shared (bins_of code) b.named holds.state.processes room.laid (o1 holds.state holds.stands).processes
-                      (whole-there holds.state has.term holds.stands has.is).built.test z mem2 now.head (long_bins code) first-laid leaves-there k (omega (arith, e)),
+                      (whole-there holds.state has.term holds.stands has.is).built.test z mem2 now.head (long_bins code) first-laid leaves k (omega (arith, e)),
                   leaves.same_len,
                   leaves.order,
                   leaves.back,
-                  end-is,
                   room.laid.fits,
                   half-within h room.laid,
                 )
@@ -343,42 +333,41 @@ module _ (b : One) (holds : Holds b) (seat : Seat) (x : Sits b seat) (r : Reg) (
         led : AreLed code
         led = whole-led (length names) 16 code (is-written names code has.term 16 has.is has.named few (omega arith)).whole
 
-        record-size : (i : ℕ) → i < long_bins code → record_words mem2 (record_at mem2 h.top i) ≡ 4 + bin_words (length (get_or (bins_of code) i []))
+        record-size : (i : ℕ) → i < long_bins code → record_words mem2 (record_at mem2 h.room.top i) ≡ 4 + bin_words (length (get_or (bins_of code) i []))
         record-size i less =
             let shared : List (List ℕ) = holds.state.shared in
             let there = record-there h shared (bins_of code) b.named holds.state.processes room.laid (o1 holds.state holds.stands).processes
-            (whole-there holds.state has.term holds.stands has.is).built.test z mem2 now.head (long_bins code) first-laid leaves-there i less in
+            (whole-there holds.state has.term holds.stands has.is).built.test z mem2 now.head (long_bins code) first-laid leaves i less in
             let is_bytes : shared_bytes (shared ++ bins_of code) (length shared + suc i) ≡ get_or (bins_of code) i [] =
             (let e : length shared + suc i ≡ suc (length shared + i) = omega arith in ap (shared_bytes (shared ++ bins_of code)) e ∙ get_or-append-add shared (bins_of code) i []) in
             omega (arith, there.header, ap (λ g. bin_words (length g)) is_bytes)
 
-        new-words : z.end + total (record_words mem2) (records_from mem2 h.top (long_bins code)) ≤ h.low
-        new-words = omega (arith, back, end-is, records-size mem2 h.top (record_words mem2) (bins_of code) (long_bins code) (sym (longs-are code)) record-size, bins-size code led)
+        new-words : z.end + total (record_words mem2) (records_from mem2 h.room.top (long_bins code)) ≤ h.room.end
+        new-words = omega (arith, back, records-size mem2 h.room.top (record_words mem2) (bins_of code) (long_bins code) (sym (longs-are code)) record-size, bins-size code led)
 
         -- All records lie in the half, so that the table has room for them.
         pub set-room : vec_len h.bins + long_bins code ≤ vec_capacity h.bins
         set-room =
             let shared : List (List ℕ) = holds.state.shared in
             let old = (o1 holds.state holds.stands).processes in
-            let news : List ℕ = records_from mem2 h.top (long_bins code) in
+            let news : List ℕ = records_from mem2 h.room.top (long_bins code) in
             let olds : 4 * length h.bins.items ≤ total (record_words h.mem) h.bins.items =
             total-least (record_words h.mem) h.bins.items (λ u i. omega (arith, (old.records.each_bin u i).is.header)) in
             let fresh : 4 * length news ≤ total (record_words mem2) news =
             total-least (record_words mem2) news (λ u i.
-            let (k, (less, is)) = entered-at mem2 h.top (long_bins code) u i in
+            let (k, (less, is)) = entered-at mem2 h.room.top (long_bins code) u i in
             omega (arith, record-size k less, ap (record_words mem2) is)) in
             omega (
               arith,
               olds,
               fresh,
-              entered-len mem2 h.top (long_bins code),
+              entered-len mem2 h.room.top (long_bins code),
               both-total (record_words h.mem) h.bins.items h.funs.items,
               room.laid.fits,
               room.laid.front,
               room.laid.order,
               leaves.front,
               leaves.order,
-              top-is,
               new-words,
               counts1.bins,
               h.bins.ok.0,
@@ -394,11 +383,11 @@ module _ (b : One) (holds : Holds b) (seat : Seat) (x : Sits b seat) (r : Reg) (
         abbrev built_on : Halves → (named : ℕ) → One
         built_on half named = record { halves = half; row = row; spare = b.spare; next = b.next; serials = now.serial; named = named; calls = b.calls + 1; swept = false }
 
-        module _ (u : Proc) (row_is : u ≡ get_or h.procs.items seat.row u) (bins : Vec ℕ Global) (table : bins.items ≡ h.bins.items ++ records_from mem2 h.top (long_bins code))
+        module _ (u : Proc) (row_is : u ≡ get_or h.procs.items seat.row u) (bins : Vec ℕ Global) (table : bins.items ≡ h.bins.items ++ records_from mem2 h.room.top (long_bins code))
             (same_capacity : vec_capacity bins ≡ vec_capacity h.bins) (made_now : now.serial ≡ b.serials + long_bins code) where
           -- The half, and the space.
           abbrev h3 : Halves
-          h3 = joined h mem2 z.top z.end now.head (long_bins code) (with_item h.procs seat.row (with_term u r.0 w u.refs)) bins
+          h3 = joined h mem2 z now.head (long_bins code) (with_item h.procs seat.row (with_term u r.0 w u.refs)) bins
 
           abbrev after_build : (named : ℕ) → One
           after_build named = built_on h3 named
@@ -410,14 +399,14 @@ module _ (b : One) (holds : Holds b) (seat : Seat) (x : Sits b seat) (r : Reg) (
             abbrev tree : Tree
             tree = (tree_of names (q s o).registers t s.shared).0
 
-            abbrev whole : Whole (o1 s o).processes.test (s.shared ++ bins_of code) y z h.mem mem2 was now (long_bins code) w (is_big names (q s o).registers t s.shared)
+            abbrev whole : Whole (o1 s o).processes.test (s.shared ++ bins_of code) h.room z h.mem mem2 was now (long_bins code) w (is_big names (q s o).registers t s.shared)
                 (is_wide names (q s o).registers t s.shared) tree
             whole = whole-there s t o is_term
 
             abbrev test : ℕ → ℕ → Bool
             test = whole.built.test
 
-            laid-here : Laid (o1 s o).processes.test test (s.shared ++ bins_of code) (record { start = h.base; top = h.top; end = h.low }) z h.mem mem2 h.head now.head (length
+            laid-here : Laid (o1 s o).processes.test test (s.shared ++ bins_of code) h.room z h.mem mem2 h.head now.head (length
                 s.shared) (long_bins code)
             laid-here = laid-there s t o is_term
 
@@ -434,16 +423,16 @@ module _ (b : One) (holds : Holds b) (seat : Seat) (x : Sits b seat) (r : Reg) (
               names = named-more b.named named (omega (arith, more, named_is)) g hold.names;
             }
 
-            bare : (a k : ℕ) → h.low ≤ a → a < end_of h → ((j : ℕ) → (o1 s o).processes.test a j ≡ true → ⊥) → test a k ≡ true → ⊥
+            bare : (a k : ℕ) → h.room.end ≤ a → a < end_of h → ((j : ℕ) → (o1 s o).processes.test a j ≡ true → ⊥) → test a k ≡ true → ⊥
             bare a k above below none e = elim (laid-here.within a k e) [
               | inl old ↦ none k old
-              | inr new ↦ elim new [ inl c ↦ omega (arith, c.1.0, above, leaves-there.order, leaves-there.back) | inr c ↦ omega (arith, c.1.0, above) ]
+              | inr new ↦ elim new [ inl c ↦ omega (arith, c.1.0, above, leaves.order, leaves.back) | inr c ↦ omega (arith, c.1.0, above) ]
             ]
 
             rows : ProcsStand test (s.shared ++ bins_of code) mem2 z.end (end_of h) named h.procs.items s.processes
             rows = procs-more test s.shared (bins_of code) mem2 z.end (end_of h) named h.procs.items s.processes
-                (procs-on (o1 s o).processes.test test s.shared h.mem mem2 b.named named h.low z.end (end_of h) trees (λ a above below none. others a (inr above)) bare
-                leaves-there.back h.procs.items s.processes
+                (procs-on (o1 s o).processes.test test s.shared h.mem mem2 b.named named h.room.end z.end (end_of h) trees (λ a above below none. others a (inr above)) bare
+                leaves.back h.procs.items s.processes
                 (o1 s o).processes.processes)
 
             set-rows : ProcsStand test (s.shared ++ bins_of code) mem2 z.end (h.base + length mem2 / 2) named (set h.procs.items seat.row (with_term u r.0 w u.refs))
@@ -468,18 +457,19 @@ module _ (b : One) (holds : Holds b) (seat : Seat) (x : Sits b seat) (r : Reg) (
 
             set-apart : AreApart (all_places mem2 (set h.procs.items seat.row (with_term u r.0 w u.refs)))
             set-apart = apart-same mem2 h.procs.items seat.row (with_term u r.0 w u.refs) u sits1.within row_is refl
-                (apart-kept (o1 s o).processes.test s.shared h.mem mem2 h.low (end_of h) b.named h.procs.items s.processes (λ a above below none. others a (inr above)) (o1 s o).processes.processes
+                (apart-kept (o1 s o).processes.test s.shared h.mem mem2 h.room.end (end_of h) b.named h.procs.items s.processes (λ a above below none. others a (inr above))
+                (o1 s o).processes.processes
                 (o1 s o).processes.apart)
 
             more-within : AreWithin (s.shared ++ bins_of code) (queues s.processes)
-            more-within = within-grown o.processes.test s.shared (bins_of code) b.halves.mem b.halves.low (end_of b.halves) b.named b.halves.procs.items s.processes o.processes.processes o.within
+            more-within = within-grown o.processes.test s.shared (bins_of code) b.halves.mem b.halves.room.end (end_of b.halves) b.named b.halves.procs.items s.processes o.processes.processes o.within
 
             built-stands : OneStands (after_build named) (settled (line t) (record (with_process (with_register r.0 tree (q s o)) s) { shared = s.shared ++ bins_of code }))
             built-stands =
                 let P : List Process → Type 0 = λ g. HalvesStand named h3 (s.shared ++ bins_of code) g in
                 record {
                   processes = subst P (sym (set-there (roomed b h) s (o1 s o) counts1 seat sits1 (with_register r.0 tree (q s o)) (number-there (roomed b h) s (o1 s o) counts1 seat sits1)))
-                      (landed-stands h s.shared (bins_of code) b.named s.processes room.laid (o1 s o).processes test z mem2 now.head (long_bins code) laid-here leaves-there named
+                      (landed-stands h s.shared (bins_of code) b.named s.processes room.laid (o1 s o).processes test z mem2 now.head (long_bins code) laid-here leaves named
                       (omega (arith, more, named_is))
                       (with_item h.procs seat.row (with_term u r.0 w u.refs)) bins (set s.processes seat.row (with_register r.0 tree (q s o))) table set-rows set-apart);
                   next = o.next;
@@ -506,7 +496,7 @@ module _ (b : One) (holds : Holds b) (seat : Seat) (x : Sits b seat) (r : Reg) (
               let R : List ℕ → Type 0 = λ g. AreBelow b.next g in
               record {
                 laid = landed-laid h holds.state.shared (bins_of code) b.named holds.state.processes room.laid (o1 holds.state holds.stands).processes
-                    (whole-there holds.state has.term holds.stands has.is).built.test z mem2 now.head (long_bins code) first-laid leaves-there
+                    (whole-there holds.state has.term holds.stands has.is).built.test z mem2 now.head (long_bins code) first-laid leaves
                     (with_item h.procs seat.row (with_term u r.0 w u.refs)) bins table same-places new-words;
                 enough = same_row ∙ counts1.enough;
                 places = counts1.places;
@@ -533,11 +523,11 @@ module _ (b : One) (holds : Holds b) (seat : Seat) (x : Sits b seat) (r : Reg) (
             refused = tt;
           }
 
-        pub set-builds : (k : ℕ) → k ≡ long_bins code → (u : Proc) → u ≡ get_or h.procs.items seat.row u → (bins : Vec ℕ Global) → bins.items ≡ h.bins.items ++ records_from mem2 h.top k
+        pub set-builds : (k : ℕ) → k ≡ long_bins code → (u : Proc) → u ≡ get_or h.procs.items seat.row u → (bins : Vec ℕ Global) → bins.items ≡ h.bins.items ++ records_from mem2 h.room.top k
             → vec_capacity bins ≡ vec_capacity h.bins → now.serial ≡ b.serials + long_bins code → (named : ℕ) → named ≡ length names
-            → Builds {A = Unit {0}} names seat.pid r code b (built_on (joined h mem2 z.top z.end now.head k (with_item h.procs seat.row (with_term u r.0 w u.refs)) bins) named) (Ok tt)
+            → Builds {A = Unit {0}} names seat.pid r code b (built_on (joined h mem2 z now.head k (with_item h.procs seat.row (with_term u r.0 w u.refs)) bins) named) (Ok tt)
         set-builds k k_is u row_is bins table capacity made_now named named_is =
             let P : ℕ → Type 0 = λ g. Builds {A = Unit {0}} names seat.pid r code b
-            (built_on (joined h mem2 z.top z.end now.head g (with_item h.procs seat.row (with_term u r.0 w u.refs)) bins) named) (Ok tt) in
-            let T : ℕ → Type 0 = λ g. bins.items ≡ h.bins.items ++ records_from mem2 h.top g in
+            (built_on (joined h mem2 z now.head g (with_item h.procs seat.row (with_term u r.0 w u.refs)) bins) named) (Ok tt) in
+            let T : ℕ → Type 0 = λ g. bins.items ≡ h.bins.items ++ records_from mem2 h.room.top g in
             subst P (sym k_is) (set-does u row_is bins (subst T k_is table) capacity made_now named named_is)

@@ -153,9 +153,9 @@ module _ (h : Halves) (t : Target) (x : Standing h) (m : List ℕ) (mv : Moving)
   moved-reached : (o : ℕ) → In o x.stands.chained → is_moved m o ≡ true → Reached (plan_of h x t) (o * 4 + 2)
   moved-reached o inside e =
       let l : IsLink (plan_of h x t).test h.mem o = x.stands.links.each o inside in
-      elim (which (plan_of h x t) y.runs.ready m (top_of mv) (whole h t x m mv news y) (remaining h.low x.stands.test) (roles h t x m mv news y) o l) [
+      elim (which (plan_of h x t) y.runs.ready m (top_of mv) (whole h t x m mv news y) (remaining h.room.end x.stands.test) (roles h t x m mv news y) o l) [
         | inl (same, no_more) ↦ absurd
-            (not-both (is_moved m o) e (left-not (plan_of h x t) y.runs.ready m (top_of mv) (whole h t x m mv news y) (remaining h.low x.stands.test) (roles h t x m mv news y) o l same))
+            (not-both (is_moved m o) e (left-not (plan_of h x t) y.runs.ready m (top_of mv) (whole h t x m mv news y) (remaining h.room.end x.stands.test) (roles h t x m mv news y) o l same))
         | inr (re, rest) ↦ re
       ]
 
@@ -185,7 +185,7 @@ module _ (h : Halves) (t : Target) (x : Standing h) (m : List ℕ) (mv : Moving)
     each-named o inside re =
         let l : IsLink (plan_of h x t).test h.mem o = x.stands.links.each o inside in
         n.all o (in-gone m o x.stands.chained inside
-        (moved-is (plan_of h x t) y.runs.ready m (top_of mv) (whole h t x m mv news y) (remaining h.low x.stands.test) (roles h t x m mv news y) o l re
+        (moved-is (plan_of h x t) y.runs.ready m (top_of mv) (whole h t x m mv news y) (remaining h.room.end x.stands.test) (roles h t x m mv news y) o l re
         (record { pointer = inr (omega arith); leaves = refl })))
 
     bounded-by : Bounded h t x m mv news y mem4 left w

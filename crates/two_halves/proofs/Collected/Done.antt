@@ -102,8 +102,7 @@ abbrev pub moved_to : Halves → Target → (mem : List ℕ) → (top low : ℕ)
 moved_to h t mem top low news first len bins funs = record {
   mem = mem;
   base = t.base;
-  top = top;
-  low = low;
+  room = record { start = t.base + 2; top = top; end = low };
   procs = with_items h.procs news;
   head = first;
   linked = len;
@@ -185,6 +184,7 @@ module _ (h : Halves) (t : Target) (m : List ℕ) (mv : Moving) (news : List Pro
             record {
               even = omega (arith, length-there, (scan x).laid.even);
               side = elim (scan x).target.side [ inl e ↦ inr (omega (arith, e, length-there)) | inr e ↦ inl e.1 ];
+              starts = refl;
               front = omega (arith, (scan x).target.first, (top-between h t x m mv news (scan x)).0);
               order = over x;
               fits = subst P (sym rows-there) fits-here;

@@ -169,7 +169,7 @@ module _ (h : Halves) (r : CanCollect h) (t : Target) (is : IsTarget h t) (mv : 
       subst P (sym table) (record {
         plan = plan_of h r.standing t;
         marks = at_objects t.from t.from;
-        low = h.low;
+        low = h.room.end;
         limit = end_of h;
         moves = rows-move h r.laid t is r.standing mv b;
       })
@@ -179,8 +179,8 @@ module _ (h : Halves) (r : CanCollect h) (t : Target) (is : IsTarget h t) (mv : 
     moved : (x : Standing h) → RowsMoved (plan_of h x t) h.mem mem2 mv2 (at_objects t.from t.from) h.procs.items news t.end
     moved x =
         let P : List Proc → Type 0 = λ z. RowsMoved (plan_of h x t) h.mem mem2 mv2 (at_objects t.from t.from) z news t.end in
-        let Q : List Proc → Type 0 = λ z. RowsMove (plan_of h x t) h.mem mv (at_objects t.from t.from) h.low (end_of h) z t.end in
-        subst P table (moves (plan_of h x t) (at_objects t.from t.from) h.low (end_of h) (subst Q (sym table) (rows-move h r.laid t is x mv b)))
+        let Q : List Proc → Type 0 = λ z. RowsMove (plan_of h x t) h.mem mv (at_objects t.from t.from) h.room.end (end_of h) z t.end in
+        subst P table (moves (plan_of h x t) (at_objects t.from t.from) h.room.end (end_of h) (subst Q (sym table) (rows-move h r.laid t is x mv b)))
 
     runs : (x : Standing h) → Runs (plan_of h x t) mem2 mv2 (at_objects mv2.aged.start mv2.young.start)
     runs x = runs-next h r.laid t is x mem2 mv2 news (moved x)
@@ -217,7 +217,7 @@ module _ (h : Halves) (t : Target) (x : Standing h) (m : List ℕ) (mv : Moving)
   pub procs-there : (d : ℕ → ℕ → Bool) → FollowsMoves (plan_of h x t) m d → ((q k : ℕ) → t.to ≤ q → q < t.end → d q k ≡ true → ⊥)
       → ProcsStand d x.shared m t.to t.end x.named news x.processes
   procs-there d follows bare =
-      procs-stand (plan_of h x t) x.stands.test d x.shared h.mem m x.named (λ w z u. whole.trees d follows w z u) h.low (end_of h) t.to t.end bare h.procs.items news x.processes
+      procs-stand (plan_of h x t) x.stands.test d x.shared h.mem m x.named (λ w z u. whole.trees d follows w z u) h.room.end (end_of h) t.to t.end bare h.procs.items news x.processes
       (root-in (plan_of h x t)) y.rows x.stands.processes
 
   -- The copies are what the new roots reach.
@@ -231,10 +231,10 @@ module _ (h : Halves) (t : Target) (x : Standing h) (m : List ℕ) (mv : Moving)
   copy-there v r l = reach-there v (forward m v) r (record { kept = λ stays. absurd (stays l); gone = λ z. (whole.complete v r l, refl) })
 
   -- They take no more words than the objects of the old half, and than their trees.
-  pub objects-few : mv.young.top ≤ t.from + (h.top - front_of h)
+  pub objects-few : mv.young.top ≤ t.from + (h.room.top - front_of h)
   objects-few =
       let o = whole.filled false in
-      row-fits (plan_of h x t) y.runs.ready m false t.from mv.young.top (front_of h) h.top o.each o.row y.laid.front (object-here h y.laid t y.target x)
+      row-fits (plan_of h x t) y.runs.ready m false t.from mv.young.top (front_of h) h.room.top o.each o.row y.laid.front (object-here h y.laid t y.target x)
 
   pub objects-held : (mv.young.top - t.from) + 2 * places_in h.procs.items ≤ held_words x.processes
-  objects-held = omega (arith, whole.words, held-words x.stands.test x.shared h.mem h.low (end_of h) x.named h.procs.items x.processes x.stands.processes)
+  objects-held = omega (arith, whole.words, held-words x.stands.test x.shared h.mem h.room.end (end_of h) x.named h.procs.items x.processes x.stands.processes)

@@ -86,8 +86,8 @@ pub record AreSides (h : Halves) (t : Target) : Type 0 where
   pub other_inside : t.end ≤ length h.mem
   pub apart : (end_of h ≤ t.base) ⊎ (t.end ≤ h.base)
   pub order : t.from ≤ t.to
-  pub room : h.top - front_of h ≤ t.to - t.from
-  pub records : (h.top - front_of h) + total (record_words h.mem) (records_of h) ≤ t.to - t.from
+  pub room : h.room.top - front_of h ≤ t.to - t.from
+  pub records : (h.room.top - front_of h) + total (record_words h.mem) (records_of h) ≤ t.to - t.from
   pub ends : t.to + 2 * places_in h.procs.items ≡ t.end
 
 module _ (h : Halves) (laid : IsLaid h) (t : Target) (is : IsTarget h t) where
@@ -110,7 +110,7 @@ module _ (h : Halves) (laid : IsLaid h) (t : Target) (is : IsTarget h t) where
 
   module _ (x : Standing h) where
     standing : AllStand x.stands.test x.shared h.mem (roots_of h) (trees_of x.processes)
-    standing = roots-stand x.stands.test x.shared h.mem h.low (end_of h) x.named h.procs.items x.processes x.stands.processes
+    standing = roots-stand x.stands.test x.shared h.mem h.room.end (end_of h) x.named h.procs.items x.processes x.stands.processes
 
     -- The half in use is clear of both rooms, and so are the words above them.
     outside-here : (q : ℕ) → h.base ≤ q → q < end_of h → IsOutside (plan_of h x t) q
@@ -138,11 +138,11 @@ module _ (h : Halves) (laid : IsLaid h) (t : Target) (is : IsTarget h t) where
     }
 
     -- Those of objects lie below the free words.
-    pub object-below : (q k : ℕ) → OfObject k → x.stands.test q k ≡ true → (front_of h ≤ q) × (q < h.top)
+    pub object-below : (q k : ℕ) → OfObject k → x.stands.test q k ≡ true → (front_of h ≤ q) × (q < h.room.top)
     object-below q k of e = elim (x.stands.lie q k e) [ inl object ↦ (object.0, object.1.0) | inr in_record ↦ absurd (omega (arith, of, in_record.1.1)) ]
 
     -- All objects that are reached lie in the half in use.
-    pub object-here : (v : ℕ) → Reached (plan_of h x t) v → IsPointer v → (front_of h ≤ v / 4) × (v / 4 + size (plan_of h x t) v ≤ h.top)
+    pub object-here : (v : ℕ) → Reached (plan_of h x t) v → IsPointer v → (front_of h ≤ v / 4) × (v / 4 + size (plan_of h x t) v ≤ h.room.top)
     unfolding size
     object-here v r i =
         let (u, st) = reached x.stands.test x.shared h.mem (roots_of h) (trees_of x.processes) standing v r in
@@ -154,7 +154,7 @@ module _ (h : Halves) (laid : IsLaid h) (t : Target) (is : IsTarget h t) where
     fits : (b : Bool) → RoomFits (plan_of h x t) b
     fits true = record { each = []; all = λ w r l e. absurd (not-both false e refl); words = omega arith }
     fits false =
-        fits-by-range (plan_of h x t) false (front_of h) h.top standing x.stands.single laid.front (λ v r l e. object-here v r l.pointer)
+        fits-by-range (plan_of h x t) false (front_of h) h.room.top standing x.stands.single laid.front (λ v r l e. object-here v r l.pointer)
         (omega (arith, sides.room, sides.order))
 
     in-order : (b : Bool) → t.from ≤ (if b then t.from else t.to)
@@ -187,7 +187,7 @@ module _ (h : Halves) (laid : IsLaid h) (t : Target) (is : IsTarget h t) where
           subst Q young (subst P low (begins (plan_of h x t) mv ready (agrees h x t mv b) (ap (λ z. z.top) b.aged ∙ sym low) (ap (λ z. z.top) b.young ∙ sym young)))
 
       -- What the rows name may move.
-      pub rows-move : RowsMove (plan_of h x t) h.mem mv (at_objects t.from t.from) h.low (end_of h) h.procs.items t.end
+      pub rows-move : RowsMove (plan_of h x t) h.mem mv (at_objects t.from t.from) h.room.end (end_of h) h.procs.items t.end
       rows-move = record {
         fits = omega (arith, sides.ends);
         room = record {
@@ -198,6 +198,6 @@ module _ (h : Halves) (laid : IsLaid h) (t : Target) (is : IsTarget h t) where
           old_inside = sides.inside;
           new_inside = omega (arith, sides.ends, sides.other_inside);
         };
-        stacks = have-stacks x.stands.test x.shared h.mem h.low (end_of h) x.named h.procs.items x.processes x.stands.processes;
+        stacks = have-stacks x.stands.test x.shared h.mem h.room.end (end_of h) x.named h.procs.items x.processes x.stands.processes;
         reached = root-in (plan_of h x t);
       }

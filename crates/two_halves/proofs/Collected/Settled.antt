@@ -167,10 +167,10 @@ module _ (h : Halves) (t : Target) (x : Standing h) (m : List ℕ) (mv : Moving)
   done = whole h t x m mv news y
 
   abbrev stay : ℕ → ℕ → Bool
-  stay = remaining h.low x.stands.test
+  stay = remaining h.room.end x.stands.test
 
   goes-on : (a k : ℕ) → OfRecord k → x.stands.test a k ≡ true → was a k ≡ true
-  goes-on a k of e = role-goes (plan_of h x t) y.runs.ready m (top_of mv) done (remaining h.low x.stands.test) (roles h t x m mv news y) a k of e
+  goes-on a k of e = role-goes (plan_of h x t) y.runs.ready m (top_of mv) done (remaining h.room.end x.stands.test) (roles h t x m mv news y) a k of e
 
   same-word : (a k : ℕ) → RECORD ≤ k → x.stands.test a k ≡ true → get_or mem4 a 0 ≡ get_or h.mem a 0
   same-word a k past e = w.content.same a k (omega (arith, past)) (goes-on a k (of-past a k past e) e) ∙ done.records a k past e
@@ -193,7 +193,7 @@ module _ (h : Halves) (t : Target) (x : Standing h) (m : List ℕ) (mv : Moving)
 
   record-before : (v n : ℕ) → IsRecord was mem4 v n → IsRecord x.stands.test h.mem v n
   record-before v n there =
-      record-back (plan_of h x t) y.runs.ready m (top_of mv) done (remaining h.low x.stands.test) (roles h t x m mv news y) v n (record-stays was was mem4 m v n w.back there)
+      record-back (plan_of h x t) y.runs.ready m (top_of mv) done (remaining h.room.end x.stands.test) (roles h t x m mv news y) v n (record-stays was was mem4 m v n w.back there)
 
   are-records : (vs : List ℕ) → ((v : ℕ) → In v vs → In v (records_of h)) → AreRecords was mem4 vs
   are-records vs among v i = let (n, there) = listed h t x m mv news y mem4 left w v (among v i) in (n, old-record v n there)

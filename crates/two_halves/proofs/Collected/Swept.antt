@@ -91,37 +91,37 @@ module _ (h : Halves) (t : Target) (x : Standing h) (m : List ℕ) (mv : Moving)
   ready = y.runs.ready
 
   abbrev pub stay_roles : ℕ → ℕ → Bool
-  stay_roles = remaining h.low x.stands.test
+  stay_roles = remaining h.room.end x.stands.test
 
-  in-record : (a k : ℕ) → OfRecord k → x.stands.test a k ≡ true → h.low ≤ a
+  in-record : (a k : ℕ) → OfRecord k → x.stands.test a k ≡ true → h.room.end ≤ a
   in-record a k of e = elim (x.stands.lie a k e) [ inl object ↦ absurd (omega (arith, of, object.1.1)) | inr there ↦ there.0 ]
 
-  past-record : (a k : ℕ) → 6 ≤ k → x.stands.test a k ≡ true → h.low ≤ a
+  past-record : (a k : ℕ) → 6 ≤ k → x.stands.test a k ≡ true → h.room.end ≤ a
   past-record a k of e = elim (x.stands.lie a k e) [ inl object ↦ absurd (omega (arith, of, object.1.1)) | inr there ↦ there.0 ]
 
-  remains : Remains (plan_of h x t) (remaining h.low x.stands.test)
+  remains : Remains (plan_of h x t) (remaining h.room.end x.stands.test)
   remains = record {
     stays = λ v q k r i e. absurd (not-both false e refl);
-    counts = λ a e. is-remaining h.low x.stands.test a 2 (in-record a 2 (inl refl) e) e;
-    records = λ a k big e. is-remaining h.low x.stands.test a k (past-record a k big e) e;
+    counts = λ a e. is-remaining h.room.end x.stands.test a 2 (in-record a 2 (inl refl) e) e;
+    records = λ a k big e. is-remaining h.room.end x.stands.test a k (past-record a k big e) e;
   }
 
-  pub roles : HasRoles (plan_of h x t) m (remaining h.low x.stands.test)
-  roles = has-roles (plan_of h x t) ready m (top_of mv) done (remaining h.low x.stands.test) remains
+  pub roles : HasRoles (plan_of h x t) m (remaining h.room.end x.stands.test)
+  roles = has-roles (plan_of h x t) ready m (top_of mv) done (remaining h.room.end x.stands.test) remains
 
   base-above : 0 < t.from
   base-above = omega (arith, y.target.first)
 
-  sweepable : Sweepable (plan_of h x t) (remaining h.low x.stands.test) x.stands.chained []
+  sweepable : Sweepable (plan_of h x t) (remaining h.room.end x.stands.test) x.stands.chained []
   sweepable = record {
-    left = λ o a k inside from below e. omega (arith, x.stands.inside o inside, below, y.laid.order, (remaining-is h.low x.stands.test a k e).0);
+    left = λ o a k inside from below e. omega (arith, x.stands.inside o inside, below, y.laid.order, (remaining-is h.room.end x.stands.test a k e).0);
     kept = λ o a k inside from below e. absurd inside;
     still = λ o inside r. absurd inside;
     rooms = λ b. base-above;
   }
 
   pub sweeping : Sweeping roles.test m h.head x.stands.chained 0 [] 0 [] []
-  sweeping = leaves-sweep (plan_of h x t) m (top_of mv) (remaining h.low x.stands.test) roles h.head x.stands.chained [] ready done remains sweepable x.stands.links
+  sweeping = leaves-sweep (plan_of h x t) m (top_of mv) (remaining h.room.end x.stands.test) roles h.head x.stands.chained [] ready done remains sweepable x.stands.links
 
   pub can-sweep : CanSweep m h.head h.linked
   can-sweep = record { test = roles.test; single = roles.single; os = x.stands.chained; further = []; number = x.stands.linked; begins = sweeping }
@@ -130,17 +130,17 @@ module _ (h : Halves) (t : Target) (x : Standing h) (m : List ℕ) (mv : Moving)
   carried-there : (a k : ℕ) → IsCarried (plan_of h x t) m a k → (t.from ≤ a) × ((a < mv.young.top) × OfObject k)
   carried-there a k c =
       let copy : IsMoved (plan_of h x t) m (top_of mv) c.v (forward m c.v) = done.copies c.v c.reached c.leaves in
-      (omega (arith, c.place, copy.from), (omega (arith, c.place, copy.below, c.below), carried-role (plan_of h x t) ready m (top_of mv) done (remaining h.low x.stands.test) roles a k c))
+      (omega (arith, c.place, copy.from), (omega (arith, c.place, copy.below, c.below), carried-role (plan_of h x t) ready m (top_of mv) done (remaining h.room.end x.stands.test) roles a k c))
 
   pub apart-halves : (q : ℕ) → front_of h ≤ q → q < end_of h → t.base ≤ q → q < t.end → ⊥
   apart-halves q a b c d = elim (sides-there h t x m mv news y).apart [ inl e ↦ omega (arith, e, b, c) | inr e ↦ omega (arith, e, a, d) ]
 
   -- By the roles after the collection: words of objects in the new half, words of records in the old one.
-  pub role-there : (a k : ℕ) → roles.test a k ≡ true → ((t.from ≤ a) × ((a < mv.young.top) × OfObject k)) ⊎ ((h.low ≤ a) × ((a < end_of h) × OfRecord k))
+  pub role-there : (a k : ℕ) → roles.test a k ≡ true → ((t.from ≤ a) × ((a < mv.young.top) × OfObject k)) ⊎ ((h.room.end ≤ a) × ((a < end_of h) × OfRecord k))
   role-there a k e = elim (roles.comes a k e) [
     | inl c ↦ inl (carried-there a k c)
     | inr both_tests ↦ (
-        let (far, also) = remaining-is h.low x.stands.test a k both_tests.1 in
+        let (far, also) = remaining-is h.room.end x.stands.test a k both_tests.1 in
         elim (x.stands.lie a k also) [ inl object ↦ absurd (omega (arith, far, object.1.0, y.laid.order)) | inr there ↦ inr there ]
         )
   ]
@@ -163,14 +163,14 @@ module _ (h : Halves) (t : Target) (x : Standing h) (m : List ℕ) (mv : Moving)
   new-of : (q : ℕ) → Origin m x.stands.chained q → IsNew q
   new-of q g =
       let l : IsLink (plan_of h x t).test h.mem g.o = x.stands.links.each g.o g.inside in
-      elim (which (plan_of h x t) ready m (top_of mv) done (remaining h.low x.stands.test) roles g.o l) [
-        | inl (same, no_more) ↦ absurd (not-both (is_moved m g.o) g.moved (left-not (plan_of h x t) ready m (top_of mv) done (remaining h.low x.stands.test) roles g.o l same))
+      elim (which (plan_of h x t) ready m (top_of mv) done (remaining h.room.end x.stands.test) roles g.o l) [
+        | inl (same, no_more) ↦ absurd (not-both (is_moved m g.o) g.moved (left-not (plan_of h x t) ready m (top_of mv) done (remaining h.room.end x.stands.test) roles g.o l same))
         | inr (re, (le, gone)) ↦ record {
           o = g.o;
           inside = g.inside;
           reached = re;
           leaves = le;
-          place = g.place ∙ sym (place-is (plan_of h x t) ready m (top_of mv) done (remaining h.low x.stands.test) roles g.o l);
+          place = g.place ∙ sym (place-is (plan_of h x t) ready m (top_of mv) done (remaining h.room.end x.stands.test) roles g.o l);
         }
       ]
 
@@ -181,7 +181,7 @@ module _ (h : Halves) (t : Target) (x : Standing h) (m : List ℕ) (mv : Moving)
   new-within q i =
       let n : IsNew q = is-new q i in
       let copy : IsMoved (plan_of h x t) m (top_of mv) (n.o * 4 + 2) (forward m (n.o * 4 + 2)) = done.copies (n.o * 4 + 2) n.reached n.leaves in
-      let six : 6 ≤ size (plan_of h x t) (n.o * 4 + 2) = size6 (plan_of h x t) ready m (top_of mv) done (remaining h.low x.stands.test) roles n.o (x.stands.links.each n.o n.inside) in
+      let six : 6 ≤ size (plan_of h x t) (n.o * 4 + 2) = size6 (plan_of h x t) ready m (top_of mv) done (remaining h.room.end x.stands.test) roles n.o (x.stands.links.each n.o n.inside) in
       (omega (arith, n.place, copy.from), omega (arith, n.place, copy.below, six))
 
   -- Each word `next` among the new objects is that of one of them.
@@ -197,8 +197,9 @@ module _ (h : Halves) (t : Target) (x : Standing h) (m : List ℕ) (mv : Moving)
       let l : IsLink (plan_of h x t).test h.mem (c.v / 4) = x.stands.links.each (c.v / 4) inside in
       let P : ℕ → Type 0 = λ z. Reached (plan_of h x t) z in
       let Q : ℕ → Type 0 = λ z. PlanLeaves (plan_of h x t) z in
-      let gone : is_moved m (c.v / 4) ≡ true = moved-is (plan_of h x t) ready m (top_of mv) done (remaining h.low x.stands.test) roles (c.v / 4) l (subst P word c.reached) (subst Q word c.leaves) in
-      let at : forward m (c.v / 4 * 4 + 2) / 4 ≡ new_place m (c.v / 4) = place-is (plan_of h x t) ready m (top_of mv) done (remaining h.low x.stands.test) roles (c.v / 4) l in
+      let gone : is_moved m (c.v / 4) ≡ true = moved-is (plan_of h x t) ready m (top_of mv) done (remaining h.room.end x.stands.test) roles (c.v / 4) l (subst P word c.reached)
+      (subst Q word c.leaves) in
+      let at : forward m (c.v / 4 * 4 + 2) / 4 ≡ new_place m (c.v / 4) = place-is (plan_of h x t) ready m (top_of mv) done (remaining h.room.end x.stands.test) roles (c.v / 4) l in
       let there : o ≡ new_place m (c.v / 4) = omega (arith, c.place, two, ap (λ z. forward m z / 4) word, at) in
       let R : ℕ → Type 0 = λ z. In z (turned (moved_of m x.stands.chained) []) in
       subst R (sym there) (in-turned (new_place m (c.v / 4)) (moved_of m x.stands.chained) [] (inl (moved-in m (c.v / 4) x.stands.chained inside gone)))
@@ -207,7 +208,7 @@ module _ (h : Halves) (t : Target) (x : Standing h) (m : List ℕ) (mv : Moving)
   every-there o e = elim (roles.comes (o + 2) NEXT e) [
     | inl c ↦ next-carried o c
     | inr both_tests ↦ absurd
-        (let (far, also) = remaining-is h.low x.stands.test (o + 2) NEXT both_tests.1 in
+        (let (far, also) = remaining-is h.room.end x.stands.test (o + 2) NEXT both_tests.1 in
         elim (x.stands.lie (o + 2) NEXT also) [ inl object ↦ omega (arith, far, object.1.0, y.laid.order) | inr there ↦ omega (arith, there.1.1) ])
   ]
 
@@ -226,11 +227,11 @@ module _ (h : Halves) (t : Target) (x : Standing h) (m : List ℕ) (mv : Moving)
     -- All records fit, and so do some of them.
     pub room : (each : List ℕ) (low : ℕ) → mv.young.top ≤ low → ((o : ℕ) → In o x.stands.chained → Reached (plan_of h x t) (o * 4 + 2) → In (named h.mem o) each)
         → ((v : ℕ) → In v each → (n : ℕ) × IsRecord x.stands.test h.mem v n) → low + total (record_words h.mem) each ≤ t.to
-        → RecordsHaveRoom (plan_of h x t) (remaining h.low x.stands.test) (top_of mv) x.stands.chained low t.to
+        → RecordsHaveRoom (plan_of h x t) (remaining h.room.end x.stands.test) (top_of mv) x.stands.chained low t.to
     room each low above all records words = record {
       rooms = λ b. inl (omega (arith, room-end b, above));
       clear = λ a k e.
-          let (far, also) = remaining-is h.low x.stands.test a k e in
+          let (far, also) = remaining-is h.room.end x.stands.test a k e in
           let here = role-here h y.laid t y.target x a k also in
           elim (sides-there h t x m mv news y).apart [
             | inl before ↦ inl (omega (arith, here.1, before, above, (top-between h t x m mv news y).0, y.target.first))
@@ -244,9 +245,9 @@ module _ (h : Halves) (t : Target) (x : Standing h) (m : List ℕ) (mv : Moving)
       words = words;
     }
 
-    pub can-move-to : (low : ℕ) → RecordsHaveRoom (plan_of h x t) (remaining h.low x.stands.test) (top_of mv) x.stands.chained low t.to
+    pub can-move-to : (low : ℕ) → RecordsHaveRoom (plan_of h x t) (remaining h.room.end x.stands.test) (top_of mv) x.stands.chained low t.to
         → RecordsCanMove roles.test mem4 left.first (turned (moved_of m x.stands.chained) []) low t.to
-    can-move-to low r = can-move (plan_of h x t) m (top_of mv) (remaining h.low x.stands.test) roles h.head x.stands.chained ready done sweepable x.stands.links mem4
+    can-move-to low r = can-move (plan_of h x t) m (top_of mv) (remaining h.room.end x.stands.test) roles h.head x.stands.chained ready done sweepable x.stands.links mem4
         (turned (moved_of m x.stands.chained) []) left w among low t.to r
 
     pub listed : (v : ℕ) → In v (records_of h) → (n : ℕ) × IsRecord x.stands.test h.mem v n
@@ -258,7 +259,7 @@ module _ (h : Halves) (t : Target) (x : Standing h) (m : List ℕ) (mv : Moving)
     pub low-above : mv.young.top + total (record_words h.mem) (records_of h) ≤ t.to
     low-above = omega (arith, objects-few h t x m mv news y, (sides-there h t x m mv news y).records)
 
-    all-room : RecordsHaveRoom (plan_of h x t) (remaining h.low x.stands.test) (top_of mv) x.stands.chained (t.to - total (record_words h.mem) (records_of h)) t.to
+    all-room : RecordsHaveRoom (plan_of h x t) (remaining h.room.end x.stands.test) (top_of mv) x.stands.chained (t.to - total (record_words h.mem) (records_of h)) t.to
     all-room = room (records_of h) (t.to - total (record_words h.mem) (records_of h)) (omega (arith, low-above)) (λ o inside r. names-listed o inside) listed (omega (arith, low-above))
 
     pub can-move-there : RecordsCanMove roles.test mem4 left.first (turned (moved_of m x.stands.chained) []) (t.to - total (record_words h.mem) (records_of h)) t.to

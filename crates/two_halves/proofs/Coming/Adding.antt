@@ -45,8 +45,7 @@ abbrev pub filled : (h : Halves) → (mem : List ℕ) → (top low head linked :
 filled h mem top low head linked bins funs = record {
   mem = mem;
   base = h.base;
-  top = top;
-  low = low;
+  room = record { start = h.room.start; top = top; end = low };
   procs = h.procs;
   head = head;
   linked = linked;
@@ -60,14 +59,14 @@ module _ (named_below : ℕ) (h : Halves) (shared : List (List ℕ)) (qs : List 
   pub listed-first : (u : ℕ) → In u (h.bins.items ++ h.funs.items) → x.test u RECORD_FIRST ≡ true
   listed-first u i = elim (in-both u h.bins.items h.funs.items i) [ inl a ↦ (x.records.each_bin u a).is.first | inr b ↦ (x.records.each_fun u b).is.first ]
 
-  pub listed-above : (u : ℕ) → In u (h.bins.items ++ h.funs.items) → h.low ≤ u
+  pub listed-above : (u : ℕ) → In u (h.bins.items ++ h.funs.items) → h.room.end ≤ u
   listed-above u i = elim (x.lie u RECORD_FIRST (listed-first u i)) [
     | inl object ↦ absurd (elim object.1.1 [ inl e ↦ omega (arith, e) | inr e ↦ omega (arith, e) ])
     | inr above ↦ above.0
   ]
 
   -- Words are written below all records and above all objects, for a record of n words.
-  module _ (laid : IsLaid h) (n at : ℕ) (next : at + n ≡ h.low) (some : 4 ≤ n) (fits : h.top ≤ at) (mem2 : List ℕ) (w : WritesRecord at (at + n) h.mem mem2) where
+  module _ (laid : IsLaid h) (n at : ℕ) (next : at + n ≡ h.room.end) (some : 4 ≤ n) (fits : h.room.top ≤ at) (mem2 : List ℕ) (w : WritesRecord at (at + n) h.mem mem2) where
     abbrev pub d : ℕ → ℕ → Bool
     d = with_object record_roles x.test at n
 
@@ -83,10 +82,10 @@ module _ (named_below : ℕ) (h : Halves) (shared : List (List ℕ)) (qs : List 
     pub kept : Kept x.test d h.mem mem2
     kept = record { longer = omega (arith, w.same_len); weaker = taken.more; same = λ a k content e. w.others a (free a k e) }
 
-    lie-old : (a k : ℕ) → x.test a k ≡ true → ((front_of h ≤ a) × ((a < h.top) × OfObject k)) ⊎ ((at ≤ a) × ((a < end_of h) × OfRecord k))
+    lie-old : (a k : ℕ) → x.test a k ≡ true → ((front_of h ≤ a) × ((a < h.room.top) × OfObject k)) ⊎ ((at ≤ a) × ((a < end_of h) × OfRecord k))
     lie-old a k e = elim (x.lie a k e) [ inl o ↦ inl o | inr r ↦ inr (omega (arith, r.0, next), r.1) ]
 
-    pub lie2 : (a k : ℕ) → d a k ≡ true → ((front_of h ≤ a) × ((a < h.top) × OfObject k)) ⊎ ((at ≤ a) × ((a < end_of h) × OfRecord k))
+    pub lie2 : (a k : ℕ) → d a k ≡ true → ((front_of h ≤ a) × ((a < h.room.top) × OfObject k)) ⊎ ((at ≤ a) × ((a < end_of h) × OfRecord k))
     lie2 a k e = elim (with-object-within record_roles x.test at n a k e) [
       | inl old ↦ lie-old a k old
       | inr inside ↦ elim (with-object-of OfRecord record_roles x.test at n a k of-record e) [
@@ -101,7 +100,7 @@ module _ (named_below : ℕ) (h : Halves) (shared : List (List ℕ)) (qs : List 
         let role : record_roles (u - at) ≡ RECORD_FIRST = single2.one u (record_roles (u - at)) RECORD_FIRST (taken.new (u - at) u (omega arith) (omega arith)) e in
         omega (arith, above, role-begins (u - at) role)
 
-    roles-above : (a k : ℕ) → h.low ≤ a → d a k ≡ true → x.test a k ≡ true
+    roles-above : (a k : ℕ) → h.room.end ≤ a → d a k ≡ true → x.test a k ≡ true
     roles-above a k above e = elim (with-object-within record_roles x.test at n a k e) [ inl old ↦ old | inr inside ↦ absurd (omega (arith, above, inside, next)) ]
 
     pub records-from : (u m : ℕ) → IsRecord d mem2 u m → IsRecord x.test h.mem u m ⊎ (u ≡ at)
@@ -110,18 +109,18 @@ module _ (named_below : ℕ) (h : Halves) (shared : List (List ℕ)) (qs : List 
         elim (with-object-within record_roles x.test at n u RECORD_FIRST first) [
           | inl old ↦ elim (x.lie u RECORD_FIRST old) [
             | inl object ↦ absurd (elim object.1.1 [ inl e ↦ omega (arith, e) | inr e ↦ omega (arith, e) ])
-            | inr above ↦ inl (record-above x.test d h.mem mem2 h.low w.same_len roles-above (λ a k past big e. sym (w.others a (inr (omega (arith, past, next))))) u m above.0 r)
+            | inr above ↦ inl (record-above x.test d h.mem mem2 h.room.end w.same_len roles-above (λ a k past big e. sym (w.others a (inr (omega (arith, past, next))))) u m above.0 r)
           ]
           | inr inside ↦ inr (first-place u inside.0 inside.1 first)
         ]
 
-    old-above : (u m : ℕ) → IsRecord x.test h.mem u m → h.low ≤ u
+    old-above : (u m : ℕ) → IsRecord x.test h.mem u m → h.room.end ≤ u
     old-above u m r = elim (x.lie u RECORD_FIRST (record-first x.test h.mem u m r)) [
       | inl object ↦ absurd (elim object.1.1 [ inl e ↦ omega (arith, e) | inr e ↦ omega (arith, e) ])
       | inr above ↦ above.0
     ]
 
-    word-above : (q : ℕ) → h.low ≤ q → get_or mem2 q 0 ≡ get_or h.mem q 0
+    word-above : (q : ℕ) → h.room.end ≤ q → get_or mem2 q 0 ≡ get_or h.mem q 0
     word-above q above = w.others q (inr (omega (arith, above, next)))
 
     owner-same : (u : ℕ) → In u (h.bins.items ++ h.funs.items) → owner_in mem2 u ≡ owner_in h.mem u
@@ -132,7 +131,7 @@ module _ (named_below : ℕ) (h : Halves) (shared : List (List ℕ)) (qs : List 
     not-named p i e =
         let link = x.links.each p i in
         let there : named h.mem p ≡ at = sym (link-named x.test d h.mem mem2 p kept link) ∙ e in
-        let above : h.low ≤ named h.mem p = old-above (named h.mem p) link.words link.record_is in
+        let above : h.room.end ≤ named h.mem p = old-above (named h.mem p) link.words link.record_is in
         omega (arith, above, there, next, some)
 
     links2 : count_in mem2 at ≡ 0 → Links d mem2 h.head x.chained []
@@ -169,7 +168,7 @@ module _ (named_below : ℕ) (h : Halves) (shared : List (List ℕ)) (qs : List 
       | inr e ↦ absurd (other e)
     ]
 
-    bare2 : (q k : ℕ) → h.low ≤ q → q < end_of h → ((j : ℕ) → x.test q j ≡ true → ⊥) → d q k ≡ true → ⊥
+    bare2 : (q k : ℕ) → h.room.end ≤ q → q < end_of h → ((j : ℕ) → x.test q j ≡ true → ⊥) → d q k ≡ true → ⊥
     bare2 q k above below none e = none k (roles-above q k above e)
 
     -- The records have the words of the new one more.
@@ -214,11 +213,11 @@ module _ (named_below : ℕ) (h : Halves) (shared : List (List ℕ)) (qs : List 
           subst P (sym grown) (grow d shared more mem2 v t ((frame x.test d h.mem mem2 kept).each shared v t s))
 
       processes2 : ProcsStand d shared2 mem2 at (end_of h) named_below h.procs.items qs
-      processes2 = procs-on x.test d shared shared2 h.mem mem2 named_below h.low at (end_of h) trees2 (λ q above below none. word-above q above) bare2 (omega (arith, next)) h.procs.items qs
+      processes2 = procs-on x.test d shared shared2 h.mem mem2 named_below h.room.end at (end_of h) trees2 (λ q above below none. word-above q above) bare2 (omega (arith, next)) h.procs.items qs
           x.processes
 
       apart2 : AreApart (all_places mem2 h.procs.items)
-      apart2 = apart-kept x.test shared h.mem mem2 h.low (end_of h) named_below h.procs.items qs (λ q above below none. word-above q above) x.processes x.apart
+      apart2 = apart-kept x.test shared h.mem mem2 h.room.end (end_of h) named_below h.procs.items qs (λ q above below none. word-above q above) x.processes x.apart
 
       bin2 : (u : ℕ) → In u h.bins.items → IsBinOf d mem2 shared2 u
       bin2 u i =
@@ -264,13 +263,13 @@ module _ (named_below : ℕ) (h : Halves) (shared : List (List ℕ)) (qs : List 
         limit : end_of h ≡ h.base + length mem2 / 2
         limit = omega (arith, w.same_len)
 
-        pub nearly : Nearly named_below (filled h mem2 h.top at h.head h.linked bins2 h.funs) shared2 qs at
+        pub nearly : Nearly named_below (filled h mem2 h.room.top at h.head h.linked bins2 h.funs) shared2 qs at
         nearly =
             let A : List ℕ → Type 0 = λ z. (u m : ℕ) → IsRecord d mem2 u m → In u (z ++ h.funs.items) in
             let O : List ℕ → Type 0 = λ z. Distinct (z ++ h.funs.items) in
             let E : List ℕ → Type 0 = λ z. (u : ℕ) → In u z → IsBinOf d mem2 shared2 u in
             let S : List ℕ → Type 0 = λ z. OwnersRise mem2 z in
-            let L : ℕ → Type 0 = λ z. (a k : ℕ) → d a k ≡ true → ((front_of h ≤ a) × ((a < h.top) × OfObject k)) ⊎ ((at ≤ a) × ((a < z) × OfRecord k)) in
+            let L : ℕ → Type 0 = λ z. (a k : ℕ) → d a k ≡ true → ((front_of h ≤ a) × ((a < h.room.top) × OfObject k)) ⊎ ((at ≤ a) × ((a < z) × OfRecord k)) in
             let P : ℕ → Type 0 = λ z. ProcsStand d shared2 mem2 at z named_below h.procs.items qs in
             record {
               test = d;
@@ -334,14 +333,14 @@ module _ (named_below : ℕ) (h : Halves) (shared : List (List ℕ)) (qs : List 
         limit-fun : end_of h ≡ h.base + length mem2 / 2
         limit-fun = omega (arith, w.same_len)
 
-        pub nearly-fun : Nearly named_below (filled h mem2 h.top at h.head h.linked h.bins funs2) shared2 qs at
+        pub nearly-fun : Nearly named_below (filled h mem2 h.room.top at h.head h.linked h.bins funs2) shared2 qs at
         nearly-fun =
             let A : List ℕ → Type 0 = λ z. (u m : ℕ) → IsRecord d mem2 u m → In u (h.bins.items ++ z) in
             let O : List ℕ → Type 0 = λ z. Distinct (h.bins.items ++ z) in
             let E : List ℕ → Type 0 = λ z. (u : ℕ) → In u z → IsFunOf d mem2 u in
             let S : List ℕ → Type 0 = λ z. OwnersRise mem2 z in
             let N : List ℕ → Type 0 = λ z. (u : ℕ) → In u z → owner_in mem2 u / 256 < named_below in
-            let L : ℕ → Type 0 = λ z. (a k : ℕ) → d a k ≡ true → ((front_of h ≤ a) × ((a < h.top) × OfObject k)) ⊎ ((at ≤ a) × ((a < z) × OfRecord k)) in
+            let L : ℕ → Type 0 = λ z. (a k : ℕ) → d a k ≡ true → ((front_of h ≤ a) × ((a < h.room.top) × OfObject k)) ⊎ ((at ≤ a) × ((a < z) × OfRecord k)) in
             let P : ℕ → Type 0 = λ z. ProcsStand d shared2 mem2 at z named_below h.procs.items qs in
             record {
               test = d;
@@ -365,10 +364,11 @@ module _ (named_below : ℕ) (h : Halves) (shared : List (List ℕ)) (qs : List 
             }
 
 -- The layout after that.
-pub laid-more : (h : Halves) (laid : IsLaid h) (n at : ℕ) → at + n ≡ h.low → h.top ≤ at → (mem2 : List ℕ) → length mem2 ≡ length h.mem → (bins2 funs2 : Vec ℕ Global)
-    → total (record_words mem2) (bins2.items ++ funs2.items) ≤ total (record_words h.mem) (h.bins.items ++ h.funs.items) + n → IsLaid (filled h mem2 h.top at h.head h.linked bins2 funs2)
+pub laid-more : (h : Halves) (laid : IsLaid h) (n at : ℕ) → at + n ≡ h.room.end → h.room.top ≤ at → (mem2 : List ℕ) → length mem2 ≡ length h.mem → (bins2 funs2 : Vec ℕ Global)
+    → total (record_words mem2) (bins2.items ++ funs2.items) ≤ total (record_words h.mem) (h.bins.items ++ h.funs.items) + n → IsLaid (filled h mem2 h.room.top at h.head h.linked bins2 funs2)
 laid-more h laid n at next fits mem2 same bins2 funs2 words = record {
   even = omega (arith, same, laid.even);
+  starts = laid.starts;
   side = elim laid.side [ inl e ↦ inl e | inr e ↦ inr (omega (arith, e, same)) ];
   front = laid.front;
   order = fits;
@@ -419,7 +419,7 @@ last-bytes shared b n e =
 
 -- A half into which the record of a binary of equal bytes comes.
 module _ (named_below : ℕ) (h : Halves) (shared : List (List ℕ)) (qs : List Process) (x : HalvesStand named_below h shared qs) (laid : IsLaid h) (len byte at serial : ℕ)
-    (next : at + (4 + bin_words len) ≡ h.low) (fits : h.top ≤ at) (new : List ℕ) (w : Written h.mem new at serial len byte) (bins2 : Vec ℕ Global)
+    (next : at + (4 + bin_words len) ≡ h.room.end) (fits : h.room.top ≤ at) (new : List ℕ) (w : Written h.mem new at serial len byte) (bins2 : Vec ℕ Global)
     (bins_is : bins2.items ≡ h.bins.items ++ at ∷ []) where
   abbrev n : ℕ
   n = 4 + bin_words len
@@ -427,7 +427,7 @@ module _ (named_below : ℕ) (h : Halves) (shared : List (List ℕ)) (qs : List 
   abbrev bytes : List ℕ
   bytes = replicate len byte
 
-  pub bin-adds : (capacity : vec_capacity bins2 ≡ vec_capacity h.bins) → Adds h (filled h new h.top at h.head h.linked bins2 h.funs)
+  pub bin-adds : (capacity : vec_capacity bins2 ≡ vec_capacity h.bins) → Adds h (filled h new h.room.top at h.head h.linked bins2 h.funs)
   bin-adds capacity =
       let P : List ℕ → Type 0 = λ z. total (record_words new) (z ++ h.funs.items) ≤ total (record_words h.mem) (h.bins.items ++ h.funs.items) + n in
       let words : total (record_words new) ((h.bins.items ++ at ∷ []) ++ h.funs.items) ≤ total (record_words h.mem) (h.bins.items ++ h.funs.items) + n =
@@ -442,7 +442,7 @@ module _ (named_below : ℕ) (h : Halves) (shared : List (List ℕ)) (qs : List 
         sweeps = refl;
       }
 
-  pub has-bin : serial ≡ length shared + 1 → HasBin named_below (filled h new h.top at h.head h.linked bins2 h.funs) (shared ++ bytes ∷ []) qs at serial bytes
+  pub has-bin : serial ≡ length shared + 1 → HasBin named_below (filled h new h.room.top at h.head h.linked bins2 h.funs) (shared ++ bytes ∷ []) qs at serial bytes
   unfolding nearly
   has-bin last =
       let t = taken named_below h shared qs x laid n at next (omega arith) fits new w.writes in
@@ -462,7 +462,7 @@ module _ (named_below : ℕ) (h : Halves) (shared : List (List ℕ)) (qs : List 
 
 -- A half into which the record of a fun comes.
 module _ (named_below : ℕ) (h : Halves) (shared : List (List ℕ)) (qs : List Process) (x : HalvesStand named_below h shared qs) (laid : IsLaid h) (name arity at : ℕ)
-    (next : at + 4 ≡ h.low) (fits : h.top ≤ at) (new : List ℕ) (writes : WritesRecord at (at + 4) h.mem new) (lie : Lie new at (record_word FUN_RECORD 4 ∷ (name * 256 + arity) ∷ 0 ∷ 0 ∷ []))
+    (next : at + 4 ≡ h.room.end) (fits : h.room.top ≤ at) (new : List ℕ) (writes : WritesRecord at (at + 4) h.mem new) (lie : Lie new at (record_word FUN_RECORD 4 ∷ (name * 256 + arity) ∷ 0 ∷ 0 ∷ []))
     (made : (c e : ℕ → ℕ → Bool) → Taken record_roles c e at 4 → IsFunRecord e new at name arity) (i : ℕ) (spot : IsSpot h.mem h.funs.items (name * 256 + arity) i)
     (other : i < length h.funs.items → owner_in h.mem (get_or h.funs.items i 0) ≡ name * 256 + arity → ⊥) (funs2 : Vec ℕ Global)
     (funs_is : funs2.items ≡ take i h.funs.items ++ at ∷ drop i h.funs.items) where
@@ -501,7 +501,7 @@ module _ (named_below : ℕ) (h : Halves) (shared : List (List ℕ)) (qs : List 
               which : (b ≡ a) ⊎ ((a < b) ⊎ (b < a))
               which = grind arith
 
-  pub fun-adds : vec_capacity funs2 ≡ vec_capacity h.funs → Adds h (filled h new h.top at h.head h.linked h.bins funs2)
+  pub fun-adds : vec_capacity funs2 ≡ vec_capacity h.funs → Adds h (filled h new h.room.top at h.head h.linked h.bins funs2)
   fun-adds capacity =
       let P : List ℕ → Type 0 = λ z. total (record_words new) (h.bins.items ++ z) ≤ total (record_words h.mem) (h.bins.items ++ h.funs.items) + 4 in
       let header : get_or new at 0 ≡ record_word FUN_RECORD 4 = lie.each 0 at (omega arith) (omega arith) in
@@ -517,7 +517,7 @@ module _ (named_below : ℕ) (h : Halves) (shared : List (List ℕ)) (qs : List 
         sweeps = refl;
       }
 
-  pub has-fun : name < named_below → arity ≤ 255 → HasFun named_below h (filled h new h.top at h.head h.linked h.bins funs2) shared qs at name arity x.test
+  pub has-fun : name < named_below → arity ≤ 255 → HasFun named_below h (filled h new h.room.top at h.head h.linked h.bins funs2) shared qs at name arity x.test
   unfolding nearly-fun
   has-fun small few =
       let t = taken named_below h shared qs x laid 4 at next (omega arith) fits new writes in

@@ -39,7 +39,7 @@ use Rattle.two_halves.proofs.Standing.Joining.{procs-on, rise-same}
 
 -- What a copy in a half is given: its free words, in which nothing stays.
 abbrev pub task_of : (h : Halves) → (stay : ℕ → Bool) → (c : ℕ → ℕ → Bool) → (shared : List (List ℕ)) → (w : ℕ) → Tree → Task
-task_of h stay c shared w t = record { start = h.mem; top = h.top; limit = h.low; stay = stay; test = c; shared = shared; word = w; tree = t }
+task_of h stay c shared w t = record { start = h.mem; top = h.room.top; limit = h.room.end; stay = stay; test = c; shared = shared; word = w; tree = t }
 
 -- A chain has fewer objects than its half has words, and so no count is greater.
 
@@ -59,10 +59,10 @@ few-between from n ps once lie =
         elim order [ inl e ↦ inl e | inr (inl l) ↦ inr (inl (omega (arith, l))) | inr (inr l) ↦ inr (inr (omega (arith, l))) ]
 
 module _ (named : ℕ) (h : Halves) (shared : List (List ℕ)) (qs : List Process) (x : HalvesStand named h shared qs) (laid : IsLaid h) where
-  pub free-there : IsFree x.test h.top h.low
+  pub free-there : IsFree x.test h.room.top h.room.end
   free-there a k e = elim (x.lie a k e) [ inl o ↦ inl o.1.0 | inr r ↦ inr r.0 ]
 
-  pub room-there : IsRoom (record { start = h.base; top = h.top; end = h.low }) h.mem
+  pub room-there : IsRoom h.room h.mem
   room-there = record {
     start_first = omega (arith, laid.front);
     top_next = laid.order;
@@ -82,17 +82,17 @@ module _ (named : ℕ) (h : Halves) (shared : List (List ℕ)) (qs : List Proces
 
 -- A copy was made, and its holders and funs are in the chain, or there are none.
 module _ (named : ℕ) (h : Halves) (shared : List (List ℕ)) (qs : List Process) (laid : IsLaid h) (x : HalvesStand named h shared qs) (stay : ℕ → Bool) (none : (q : ℕ) → stay q ≡ false)
-    (w : ℕ) (t : Tree) (mem1 : List ℕ) (top2 result : ℕ) (z : CopiesTree (task_of h stay x.test shared w t) mem1 top2 result) (order : top2 ≤ h.low) where
+    (w : ℕ) (t : Tree) (mem1 : List ℕ) (top2 result : ℕ) (z : CopiesTree (task_of h stay x.test shared w t) mem1 top2 result) (order : top2 ≤ h.room.end) where
   abbrev d : ℕ → ℕ → Bool
   d = z.test
 
   abbrev ps : List ℕ
   ps = links_in mem1 z.tiles
 
-  words : top2 ≡ h.top + flat t
+  words : top2 ≡ h.room.top + flat t
   words = z.exact none
 
-  top-some : 0 < h.top
+  top-some : 0 < h.room.top
   top-some = omega (arith, laid.front)
 
   pub each-link : (p : ℕ) → In p ps → IsLink d mem1 p
@@ -145,10 +145,10 @@ module _ (named : ℕ) (h : Halves) (shared : List (List ℕ)) (qs : List Proces
     role-old : (a k : ℕ) → top2 ≤ a → d a k ≡ true → x.test a k ≡ true
     role-old a k above e = elim (z.within a k e) [ inl old ↦ old | inr new ↦ absurd (omega (arith, above, new.1.0)) ]
 
-    bare-same : (q : ℕ) → h.low ≤ q → q < end_of h → ((k : ℕ) → x.test q k ≡ true → ⊥) → get_or mem2 q 0 ≡ get_or h.mem q 0
+    bare-same : (q : ℕ) → h.room.end ≤ q → q < end_of h → ((k : ℕ) → x.test q k ≡ true → ⊥) → get_or mem2 q 0 ≡ get_or h.mem q 0
     bare-same q above below bare = same2 q (λ e. bare NEXT (role-old q NEXT (omega (arith, above, order)) e)) ∙ z.others q (inr (omega (arith, above, order))) (bare COUNT)
 
-    lie2 : (a k : ℕ) → d a k ≡ true → ((front_of h ≤ a) × ((a < top2) × OfObject k)) ⊎ ((h.low ≤ a) × ((a < end_of h) × OfRecord k))
+    lie2 : (a k : ℕ) → d a k ≡ true → ((front_of h ≤ a) × ((a < top2) × OfObject k)) ⊎ ((h.room.end ≤ a) × ((a < end_of h) × OfRecord k))
     lie2 a k e = elim (z.within a k e) [
       | inl old ↦ elim (x.lie a k old) [ inl o ↦ inl (o.0, (omega (arith, o.1.0, words), o.1.1)) | inr r ↦ inr r ]
       | inr new ↦ inl (omega (arith, new.0, laid.front), (new.1.0, new.1.1))
@@ -207,8 +207,8 @@ module _ (named : ℕ) (h : Halves) (shared : List (List ℕ)) (qs : List Proces
     trees2 : (v : ℕ) (u : Tree) → Stands x.test shared h.mem v u → Stands d shared mem2 v u
     trees2 v u s = (frame x.test d h.mem mem2 kept02).each shared v u s
 
-    processes2 : ProcsStand d shared mem2 h.low (end_of h) named h.procs.items qs
-    processes2 = procs-on x.test d shared shared h.mem mem2 named h.low h.low (end_of h) trees2 bare-same
+    processes2 : ProcsStand d shared mem2 h.room.end (end_of h) named h.procs.items qs
+    processes2 = procs-on x.test d shared shared h.mem mem2 named h.room.end h.room.end (end_of h) trees2 bare-same
         (λ q k above below bare e. bare k (role-old q k (omega (arith, above, order)) e)) (omega arith) h.procs.items qs x.processes
 
     limit2 : end_of h ≡ h.base + length mem2 / 2
@@ -216,12 +216,12 @@ module _ (named : ℕ) (h : Halves) (shared : List (List ℕ)) (qs : List Proces
 
     -- The half with the copy.
     abbrev pub copied : Halves
-    copied = filled h mem2 top2 h.low hd n h.bins h.funs
+    copied = filled h mem2 top2 h.room.end hd n h.bins h.funs
 
     stands2 : HalvesStand named copied shared qs
     stands2 =
-        let L : ℕ → Type 0 = λ u. (a k : ℕ) → d a k ≡ true → ((front_of h ≤ a) × ((a < top2) × OfObject k)) ⊎ ((h.low ≤ a) × ((a < u) × OfRecord k)) in
-        let P : ℕ → Type 0 = λ u. ProcsStand d shared mem2 h.low u named h.procs.items qs in
+        let L : ℕ → Type 0 = λ u. (a k : ℕ) → d a k ≡ true → ((front_of h ≤ a) × ((a < top2) × OfObject k)) ⊎ ((h.room.end ≤ a) × ((a < u) × OfRecord k)) in
+        let P : ℕ → Type 0 = λ u. ProcsStand d shared mem2 h.room.end u named h.procs.items qs in
         record {
           test = d;
           single = z.single;
@@ -234,7 +234,7 @@ module _ (named : ℕ) (h : Halves) (shared : List (List ℕ)) (qs : List Proces
           records = records2;
           fun_names = λ v i. omega (arith, owner2 v (x.records.each_fun v i).is.second, x.fun_names v i);
           processes = subst P limit2 processes2;
-          apart = apart-kept x.test shared h.mem mem2 h.low (end_of h) named h.procs.items qs bare-same x.processes x.apart;
+          apart = apart-kept x.test shared h.mem mem2 h.room.end (end_of h) named h.procs.items qs bare-same x.processes x.apart;
         }
 
     made2 : Stands d shared mem2 result t
@@ -266,6 +266,7 @@ module _ (named : ℕ) (h : Halves) (shared : List (List ℕ)) (qs : List Proces
     pub copied-laid : IsLaid copied
     copied-laid = record {
       even = omega (arith, len2, laid.even);
+      starts = laid.starts;
       side = elim laid.side [ inl c ↦ inl c | inr c ↦ inr (omega (arith, c, len2)) ];
       front = omega (arith, laid.front, words);
       order = order;
@@ -296,7 +297,7 @@ none-in (x ∷ xs) none = absurd (none x (inl refl))
 
 -- The calls: a copy, and then its holders and funs come into the chain where it has objects.
 module _ (h : Halves) (w : ℕ) (r : CanCopyIn h w) where
-  pub can-copy : length h.mem ≤ 16777216 → CanCopy h.mem (record { start = h.base; top = h.top; end = h.low }) w
+  pub can-copy : length h.mem ≤ 16777216 → CanCopy h.mem h.room w
   can-copy most = record {
     test = r.stands.test;
     shared = r.shared;
@@ -308,11 +309,11 @@ module _ (h : Halves) (w : ℕ) (r : CanCopyIn h w) where
     counts = counts-few r.named h r.shared r.processes r.stands r.laid most;
   }
 
-  pub room-here : IsRoom (record { start = h.base; top = h.top; end = h.low }) h.mem
+  pub room-here : IsRoom h.room h.mem
   room-here = room-there r.named h r.shared r.processes r.stands r.laid
 
-  module _ (stay : ℕ → Bool) (none : (q : ℕ) → stay q ≡ false) (mem1 : List ℕ) (top2 result : ℕ) (order : top2 ≤ h.low)
-      (copies : (c : ℕ → ℕ → Bool) (shared : List (List ℕ)) (t : Tree) → IsSingle c → Stands c shared h.mem w t → IsFree c h.top h.low
+  module _ (stay : ℕ → Bool) (none : (q : ℕ) → stay q ≡ false) (mem1 : List ℕ) (top2 result : ℕ) (order : top2 ≤ h.room.end)
+      (copies : (c : ℕ → ℕ → Bool) (shared : List (List ℕ)) (t : Tree) → IsSingle c → Stands c shared h.mem w t → IsFree c h.room.top h.room.end
       → CopiesTree (task_of h stay c shared w t) mem1 top2 result) where
     copy-of : (named : ℕ) (shared : List (List ℕ)) (qs : List Process) (x : HalvesStand named h shared qs) (t : Tree) → Stands x.test shared h.mem w t
         → CopiesTree (task_of h stay x.test shared w t) mem1 top2 result
@@ -321,7 +322,7 @@ module _ (h : Halves) (w : ℕ) (r : CanCopyIn h w) where
     abbrev some-copy : CopiesTree (task_of h stay r.stands.test r.shared w r.tree) mem1 top2 result
     some-copy = copy-of r.named r.shared r.processes r.stands r.tree r.made
 
-    pub row-there : IsRow mem1 h.top top2
+    pub row-there : IsRow mem1 h.room.top top2
     row-there = record { ws = some-copy.tiles; are = some-copy.row; inside = omega (arith, order, room-here.inside, some-copy.same_len) }
 
     module _ (empty : h.linked ≡ 0) where
@@ -344,13 +345,13 @@ module _ (h : Halves) (w : ℕ) (r : CanCopyIn h w) where
         stays-in p (inl i) = absurd (no-new p i)
         stays-in p (inr i) = i
 
-        pub plain-copy : HasCopy named h (filled h mem1 top2 h.low h.head h.linked h.bins h.funs) shared qs x result t
+        pub plain-copy : HasCopy named h (filled h mem1 top2 h.room.end h.head h.linked h.bins h.funs) shared qs x result t
         plain-copy = has-copy named h shared qs r.laid x stay none w t mem1 top2 result z order mem1 h.head h.linked x.chained refl (λ q free. refl) links-there x.linked comes stays-in
 
-        pub plain-laid : IsLaid (filled h mem1 top2 h.low h.head h.linked h.bins h.funs)
+        pub plain-laid : IsLaid (filled h mem1 top2 h.room.end h.head h.linked h.bins h.funs)
         plain-laid = copied-laid named h shared qs r.laid x stay none w t mem1 top2 result z order mem1 h.head h.linked x.chained refl (λ q free. refl) links-there x.linked comes stays-in
 
-      pub copies-plain : CopiesIn h (filled h mem1 top2 h.low h.head h.linked h.bins h.funs) w result
+      pub copies-plain : CopiesIn h (filled h mem1 top2 h.room.end h.head h.linked h.bins h.funs) w result
       copies-plain = record {
         laid = plain-laid r.named r.shared r.processes r.stands r.tree r.made;
         same_len = some-copy.same_len;
@@ -363,7 +364,7 @@ module _ (h : Halves) (w : ℕ) (r : CanCopyIn h w) where
         copies = plain-copy;
       }
 
-    module _ (mem2 : List ℕ) (chained : Chained) (row : (ws : List ℕ) → AreObjects mem1 h.top ws top2 → ChainsRow mem1 mem2 (links_in mem1 ws) h.head chained) where
+    module _ (mem2 : List ℕ) (chained : Chained) (row : (ws : List ℕ) → AreObjects mem1 h.room.top ws top2 → ChainsRow mem1 mem2 (links_in mem1 ws) h.head chained) where
       module _ (named : ℕ) (shared : List (List ℕ)) (qs : List Process) (x : HalvesStand named h shared qs) (t : Tree) (s : Stands x.test shared h.mem w t) where
         abbrev y : CopiesTree (task_of h stay x.test shared w t) mem1 top2 result
         y = copy-of named shared qs x t s
@@ -381,11 +382,11 @@ module _ (h : Halves) (w : ℕ) (r : CanCopyIn h w) where
         number-there : length (turned news x.chained) ≡ h.linked + chained.count
         number-there = omega (arith, turned-length news x.chained, x.linked, chains.count)
 
-        pub chained-copy : HasCopy named h (filled h mem2 top2 h.low chained.head (h.linked + chained.count) h.bins h.funs) shared qs x result t
+        pub chained-copy : HasCopy named h (filled h mem2 top2 h.room.end chained.head (h.linked + chained.count) h.bins h.funs) shared qs x result t
         chained-copy = has-copy named h shared qs r.laid x stay none w t mem1 top2 result y order mem2 chained.head (h.linked + chained.count) (turned news x.chained) chains.same_len chains.others
             links-chained number-there (turned-in news x.chained) (in-turned news x.chained)
 
-        pub chained-laid : IsLaid (filled h mem2 top2 h.low chained.head (h.linked + chained.count) h.bins h.funs)
+        pub chained-laid : IsLaid (filled h mem2 top2 h.room.end chained.head (h.linked + chained.count) h.bins h.funs)
         chained-laid = copied-laid named h shared qs r.laid x stay none w t mem1 top2 result y order mem2 chained.head (h.linked + chained.count) (turned news x.chained) chains.same_len
             chains.others links-chained number-there (turned-in news x.chained) (in-turned news x.chained)
 
@@ -402,7 +403,7 @@ module _ (h : Halves) (w : ℕ) (r : CanCopyIn h w) where
         chained-len r.named r.shared r.processes r.stands r.tree r.made,
       )
 
-      pub copies-chained : CopiesIn h (filled h mem2 top2 h.low chained.head (h.linked + chained.count) h.bins h.funs) w result
+      pub copies-chained : CopiesIn h (filled h mem2 top2 h.room.end chained.head (h.linked + chained.count) h.bins h.funs) w result
       copies-chained = record {
         laid = chained-laid r.named r.shared r.processes r.stands r.tree r.made;
         same_len = chained-len r.named r.shared r.processes r.stands r.tree r.made;

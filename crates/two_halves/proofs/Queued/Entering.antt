@@ -111,28 +111,28 @@ module _ (mem : List ℕ) (p2 d : Proc) (w : ℕ) where
 -- The last place of a queue lies in the half.
 module _ (named : ℕ) (h : Halves) (shared : List (List ℕ)) (qs : List Process) (x : HalvesStand named h shared qs) (row : ℕ) (less : row < length h.procs.items) (p : Proc)
     (is : p ≡ get_or h.procs.items row p) where
-  pub last-there : (p.waiting ≡ 0 → ⊥) → IsPlace x.test h.low (end_of h) p.last
+  pub last-there : (p.waiting ≡ 0 → ⊥) → IsPlace x.test h.room.end (end_of h) p.last
   last-there filled =
-      let P : Proc → Type 0 = λ z. ProcStands x.test shared h.mem h.low (end_of h) named z (get_or qs row nobody) in
-      let old = subst P (sym is) (row-at x.test shared h.mem h.low (end_of h) named h.procs.items qs row p nobody less x.processes) in
-      place-within x.test h.mem h.low (end_of h) p.queue p.waiting p.last old.waits (ends-in x.test h.mem h.mem h.low (end_of h) p.queue p.waiting p.last filled old.last)
+      let P : Proc → Type 0 = λ z. ProcStands x.test shared h.mem h.room.end (end_of h) named z (get_or qs row nobody) in
+      let old = subst P (sym is) (row-at x.test shared h.mem h.room.end (end_of h) named h.procs.items qs row p nobody less x.processes) in
+      place-within x.test h.mem h.room.end (end_of h) p.queue p.waiting p.last old.waits (ends-in x.test h.mem h.mem h.room.end (end_of h) p.queue p.waiting p.last filled old.last)
 
 -- A half of which a place below all others was written, and what follows the last place of the row's queue.
 module _ (named : ℕ) (h : Halves) (shared : List (List ℕ)) (qs : List Process) (laid : IsLaid h) (x : HalvesStand named h shared qs) (row : ℕ) (less : row < length h.procs.items) (p : Proc)
-    (is : p ≡ get_or h.procs.items row p) (mem2 : List ℕ) (len : length mem2 ≡ length h.mem) (place w first : ℕ) (next : place + 2 ≡ h.low) (fits : h.top ≤ place)
+    (is : p ≡ get_or h.procs.items row p) (mem2 : List ℕ) (len : length mem2 ≡ length h.mem) (place w first : ℕ) (next : place + 2 ≡ h.room.end) (fits : h.room.top ≤ place)
     (value : get_or mem2 place 0 ≡ w)
     (others : (q : ℕ) → (q ≡ place → ⊥) → ((p.waiting ≡ 0 → ⊥) → q ≡ p.last + 1 → ⊥) → get_or mem2 q 0 ≡ get_or h.mem q 0)
     (none : p.waiting ≡ 0 → first ≡ place) (some : (p.waiting ≡ 0 → ⊥) → (first ≡ p.queue) × (get_or mem2 (p.last + 1) 0 ≡ place)) where
   abbrev q : Process
   q = get_or qs row nobody
 
-  old : ProcStands x.test shared h.mem h.low (end_of h) named p q
+  old : ProcStands x.test shared h.mem h.room.end (end_of h) named p q
   old =
-      let P : Proc → Type 0 = λ z. ProcStands x.test shared h.mem h.low (end_of h) named z q in
-      subst P (sym is) (row-at x.test shared h.mem h.low (end_of h) named h.procs.items qs row p nobody less x.processes)
+      let P : Proc → Type 0 = λ z. ProcStands x.test shared h.mem h.room.end (end_of h) named z q in
+      subst P (sym is) (row-at x.test shared h.mem h.room.end (end_of h) named h.procs.items qs row p nobody less x.processes)
 
   -- The last place, where there is one.
-  last-place : (p.waiting ≡ 0 → ⊥) → IsPlace x.test h.low (end_of h) p.last
+  last-place : (p.waiting ≡ 0 → ⊥) → IsPlace x.test h.room.end (end_of h) p.last
   last-place filled = last-there named h shared qs x row less p is filled
 
   -- Words with a role are the same.
@@ -148,37 +148,38 @@ module _ (named : ℕ) (h : Halves) (shared : List (List ℕ)) (qs : List Proces
     names = held.names;
   }
 
-  stacks : HaveStacks x.test h.mem h.low (end_of h) h.procs.items
-  stacks = have-stacks x.test shared h.mem h.low (end_of h) named h.procs.items qs x.processes
+  stacks : HaveStacks x.test h.mem h.room.end (end_of h) h.procs.items
+  stacks = have-stacks x.test shared h.mem h.room.end (end_of h) named h.procs.items qs x.processes
 
   -- All rows are what they were.
-  kept : RowsKept x.test h.mem mem2 h.low (end_of h) h.procs.items
+  kept : RowsKept x.test h.mem mem2 h.room.end (end_of h) h.procs.items
   kept = by p.waiting refl
     where
-      by : (n : ℕ) → p.waiting ≡ n → RowsKept x.test h.mem mem2 h.low (end_of h) h.procs.items
-      by zero e = rows-same x.test h.mem mem2 h.low (end_of h) h.procs.items stacks (λ a i.
-          let l : IsPlace x.test h.low (end_of h) a = all-within x.test h.mem h.low (end_of h) h.procs.items a stacks i in (
+      by : (n : ℕ) → p.waiting ≡ n → RowsKept x.test h.mem mem2 h.room.end (end_of h) h.procs.items
+      by zero e = rows-same x.test h.mem mem2 h.room.end (end_of h) h.procs.items stacks (λ a i.
+          let l : IsPlace x.test h.room.end (end_of h) a = all-within x.test h.mem h.room.end (end_of h) h.procs.items a stacks i in (
             others a (λ f. omega (arith, f, l.above, next)) (λ filled f. filled e),
             others (a + 1) (λ f. omega (arith, f, l.above, next)) (λ filled f. filled e),
           ))
       by (suc n) e =
           let W : Proc → Type 0 = λ z. z.waiting ≡ 0 → ⊥ in
           let E : Proc → Type 0 = λ z. IsLastPlace h.mem z.queue z.waiting p.last in
-          rows-followed x.test h.mem mem2 h.low (end_of h) p.last (λ a above below other. others a (λ f. omega (arith, f, above, next)) (λ filled f. other f)) h.procs.items row p less stacks x.apart
+          rows-followed x.test h.mem mem2 h.room.end (end_of h) p.last (λ a above below other. others a (λ f. omega (arith, f, above, next)) (λ filled f. other f)) h.procs.items row p less stacks
+          x.apart
           (subst W is (λ f. omega (arith, e, f))) (subst E is old.last)
 
   pub roots-there : roots_in mem2 h.procs.items ≡ roots_in h.mem h.procs.items
-  roots-there = kept-roots x.test h.mem mem2 h.low (end_of h) h.procs.items kept
+  roots-there = kept-roots x.test h.mem mem2 h.room.end (end_of h) h.procs.items kept
 
-  rows2 : ProcsStand x.test shared mem2 h.low (end_of h) named h.procs.items qs
-  rows2 = kept-procs x.test h.mem mem2 h.low (end_of h) shared named trees h.procs.items qs kept x.processes
+  rows2 : ProcsStand x.test shared mem2 h.room.end (end_of h) named h.procs.items qs
+  rows2 = kept-procs x.test h.mem mem2 h.room.end (end_of h) shared named trees h.procs.items qs kept x.processes
 
   rows3 : ProcsStand x.test shared mem2 place (end_of h) named h.procs.items qs
-  rows3 = procs-on x.test x.test shared mem2 mem2 named named h.low place (end_of h) (λ v t held. held) (λ a above below bare. refl) (λ a k above below bare. bare k) (omega (arith, next))
+  rows3 = procs-on x.test x.test shared mem2 mem2 named named h.room.end place (end_of h) (λ v t held. held) (λ a above below bare. refl) (λ a k above below bare. bare k) (omega (arith, next))
       h.procs.items qs rows2
 
   apart2 : AreApart (all_places mem2 h.procs.items)
-  apart2 = subst AreApart (sym (kept-places x.test h.mem mem2 h.low (end_of h) h.procs.items kept)) x.apart
+  apart2 = subst AreApart (sym (kept-places x.test h.mem mem2 h.room.end (end_of h) h.procs.items kept)) x.apart
 
   new-place : IsPlace x.test place (end_of h) place
   new-place = record {
@@ -222,7 +223,7 @@ module _ (named : ℕ) (h : Halves) (shared : List (List ℕ)) (qs : List Proces
   pub messages-there : values mem2 first (p.waiting + 1) ≡ values h.mem p.queue p.waiting ++ w ∷ []
   messages-there =
       let P : Proc → Type 0 = λ z. values mem2 z.queue z.waiting ≡ values h.mem z.queue z.waiting in
-      queue-values ∙ ap (λ z. z ++ w ∷ []) (subst P (sym is) (queue-kept x.test h.mem mem2 h.low (end_of h) h.procs.items row p less kept))
+      queue-values ∙ ap (λ z. z ++ w ∷ []) (subst P (sym is) (queue-kept x.test h.mem mem2 h.room.end (end_of h) h.procs.items row p less kept))
 
   row-list : places_of mem2 row2 ≡ place_list mem2 p.stack p.depth ++ (place_list mem2 p.queue p.waiting ++ place ∷ [])
   row-list = ap (λ z. place_list mem2 p.stack p.depth ++ place_list mem2 first z) (sym one-more) ∙ ap (λ z. place_list mem2 p.stack p.depth ++ z) long.list
@@ -243,7 +244,8 @@ module _ (named : ℕ) (h : Halves) (shared : List (List ℕ)) (qs : List Proces
     where
       above2 : (a : ℕ) → In a (all_places mem2 h.procs.items) → place + 2 ≤ a
       above2 a i =
-          let l : IsPlace x.test h.low (end_of h) a = all-within x.test mem2 h.low (end_of h) h.procs.items a (have-stacks x.test shared mem2 h.low (end_of h) named h.procs.items qs rows2) i in
+          let l : IsPlace x.test h.room.end (end_of h) a = all-within x.test mem2 h.room.end (end_of h) h.procs.items a
+          (have-stacks x.test shared mem2 h.room.end (end_of h) named h.procs.items qs rows2) i in
           omega (arith, l.above, next)
 
       row-in : (rs : List Proc) (k a : ℕ) → k < length rs → In a (places_of mem2 (get_or rs k p)) → In a (all_places mem2 rs)
@@ -255,7 +257,7 @@ module _ (named : ℕ) (h : Halves) (shared : List (List ℕ)) (qs : List Proces
   apart3 =
       let S : List ℕ = place_list mem2 p.stack p.depth in
       let Q : List ℕ = place_list mem2 p.queue p.waiting in
-      apart-set mem2 row2 p h.low h.procs.items row
+      apart-set mem2 row2 p h.room.end h.procs.items row
       (λ a i. elim (in-both a S (Q ++ place ∷ []) (subst (In a) row-list i)) [
         | inl j ↦ inl (old-in a (in-left a S Q j))
         | inr j ↦ elim (in-both a Q (place ∷ []) j) [
@@ -263,7 +265,8 @@ module _ (named : ℕ) (h : Halves) (shared : List (List ℕ)) (qs : List Proces
           | inr k ↦ elim k [ inl e ↦ inr (omega (arith, e, next)) | inr f ↦ absurd f ]
         ]
       ]) row-apart
-      (λ a i. let l : IsPlace x.test h.low (end_of h) a = all-within x.test mem2 h.low (end_of h) h.procs.items a (have-stacks x.test shared mem2 h.low (end_of h) named h.procs.items qs rows2) i in
+      (λ a i. let l : IsPlace x.test h.room.end (end_of h) a = all-within x.test mem2 h.room.end (end_of h) h.procs.items a
+      (have-stacks x.test shared mem2 h.room.end (end_of h) named h.procs.items qs rows2) i in
       l.above)
       apart2
     where
@@ -272,7 +275,7 @@ module _ (named : ℕ) (h : Halves) (shared : List (List ℕ)) (qs : List Proces
 
   -- The half with the new row.
   abbrev pub entered : Halves
-  entered = laid_out h mem2 h.top place (with_item h.procs row (with_queue p first place (p.waiting + 1)))
+  entered = laid_out h mem2 (record h.room { end = place }) (with_item h.procs row (with_queue p first place (p.waiting + 1)))
 
   limit : end_of h ≡ h.base + length mem2 / 2
   limit = omega (arith, len)
@@ -303,17 +306,17 @@ module _ (named : ℕ) (h : Halves) (shared : List (List ℕ)) (qs : List Proces
         let P : ℕ → Type 0 = λ z. ProcsStand x.test shared mem2 place z named (set h.procs.items row row2) (set qs row (record q { queue = q.queue ++ t ∷ [] })) in
         record {
           process = q;
-          is = λ d. get_or_default qs row d nobody (omega (arith, less, row-length x.test shared h.mem h.low (end_of h) named h.procs.items qs x.processes));
+          is = λ d. get_or_default qs row d nobody (omega (arith, less, row-length x.test shared h.mem h.room.end (end_of h) named h.procs.items qs x.processes));
           stands =
-              halves-filled named named h shared qs (set qs row (record q { queue = q.queue ++ t ∷ [] })) laid x x.test x.single mem2 h.top place (with_item h.procs row row2) len
+              halves-filled named named h shared qs (set qs row (record q { queue = q.queue ++ t ∷ [] })) laid x x.test x.single mem2 (record h.room { end = place }) (with_item h.procs row row2) len
               (λ a k e. e) (λ a k e. inl e) (λ a k e. inl e) roles-same (omega arith) (omega (arith, next)) (omega arith) (subst P limit new-rows) apart3;
         }
 
     pub entered-laid : IsLaid entered
     entered-laid =
         let P : ℕ → Type 0 = λ z. ProcsStand x.test shared mem2 place z named (set h.procs.items row row2) (set qs row (record q { queue = q.queue ++ t ∷ [] })) in
-        laid-filled named named h shared qs (set qs row (record q { queue = q.queue ++ t ∷ [] })) laid x x.test x.single mem2 h.top place (with_item h.procs row row2) len
-        (λ a k e. e) (λ a k e. inl e) (λ a k e. inl e) roles-same (omega arith) (omega (arith, next)) (omega arith) (subst P limit new-rows) fits
+        laid-filled named named h shared qs (set qs row (record q { queue = q.queue ++ t ∷ [] })) laid x x.test x.single mem2 (record h.room { end = place }) (with_item h.procs row row2) len
+        (λ a k e. e) (λ a k e. inl e) (λ a k e. inl e) roles-same (omega arith) (omega (arith, next)) (omega arith) (subst P limit new-rows) refl fits
         (omega (arith, next, sum_by-set (λ r. r.depth + r.waiting) h.procs.items row row2 p less, ap (λ r. r.depth + r.waiting) is))
 
 -- What follows a queue's last place was written where there is one.
@@ -344,24 +347,24 @@ module _ (h : Halves) (row w : ℕ) (r : CanQueue h row w) (p : Proc) (is : p �
 
   pub last-inside : (p.waiting ≡ 0 → ⊥) → p.last + 2 ≤ length h.mem
   last-inside filled =
-      let l : IsPlace r.has.stands.test h.low (end_of h) p.last = last-there r.has.named h r.has.shared r.has.processes r.has.stands row r.has.within p is filled in
+      let l : IsPlace r.has.stands.test h.room.end (end_of h) p.last = last-there r.has.named h r.has.shared r.has.processes r.has.stands row r.has.within p is filled in
       omega (arith, l.below, inside)
 
   pub waiting-few : p.waiting ≤ length h.mem
   waiting-few =
       omega (arith, r.has.laid.fits, inside, get_or-le-sum_by (λ z. z.depth + z.waiting) h.procs.items row p r.has.within, ap (λ z. z.depth + z.waiting) is)
 
-  module _ (mem1 mem2 : List ℕ) (place first : ℕ) (at : place ≡ h.low - 2) (f : PlaceFollows h.mem mem1 p.queue p.last p.waiting place first) (written : mem2 ≡ set mem1 place w) where
+  module _ (mem1 mem2 : List ℕ) (place first : ℕ) (at : place ≡ h.room.end - 2) (f : PlaceFollows h.mem mem1 p.queue p.last p.waiting place first) (written : mem2 ≡ set mem1 place w) where
     facts : Followed h.mem mem1 p.queue p.last p.waiting place first
     facts = followed h.mem mem1 p.queue p.last p.waiting place first last-inside f
 
     len : length mem2 ≡ length h.mem
     len = ap length written ∙ length-set mem1 place w ∙ facts.same_len
 
-    next : place + 2 ≡ h.low
+    next : place + 2 ≡ h.room.end
     next = omega (arith, at, r.fits)
 
-    fits : h.top ≤ place
+    fits : h.room.top ≤ place
     fits = omega (arith, at, r.fits)
 
     value : get_or mem2 place 0 ≡ w
@@ -375,7 +378,7 @@ module _ (h : Halves) (row w : ℕ) (r : CanQueue h row w) (p : Proc) (is : p �
 
     some : (p.waiting ≡ 0 → ⊥) → (first ≡ p.queue) × (get_or mem2 (p.last + 1) 0 ≡ place)
     some filled =
-        let l : IsPlace r.has.stands.test h.low (end_of h) p.last = last-there r.has.named h r.has.shared r.has.processes r.has.stands row r.has.within p is filled in
+        let l : IsPlace r.has.stands.test h.room.end (end_of h) p.last = last-there r.has.named h r.has.shared r.has.processes r.has.stands row r.has.within p is filled in
         let (one, two) = facts.some filled in
         (one, far (p.last + 1) (λ e. omega (arith, e, l.above, next)) ∙ two)
 
@@ -394,7 +397,7 @@ module _ (h : Halves) (row w : ℕ) (r : CanQueue h row w) (p : Proc) (is : p �
         roots-more mem2 final_row p w h.procs.items row r.has.within (ap (λ z. z.regs) is) (ap (λ z. values mem2 z.stack z.depth) is)
         (subst W is (queue-values r.has.named h r.has.shared r.has.processes r.has.laid r.has.stands row r.has.within p is mem2 len place w first next fits value others facts.none some))
 
-    pub queues : Queues h (laid_out h mem2 h.top place (with_item h.procs row (with_queue p first place (p.waiting + 1)))) row w
+    pub queues : Queues h (laid_out h mem2 (record h.room { end = place }) (with_item h.procs row (with_queue p first place (p.waiting + 1)))) row w
     queues = record {
       laid = entered-laid r.has.named h r.has.shared r.has.processes r.has.laid r.has.stands row r.has.within p is mem2 len place w first next fits value others facts.none some r.tree r.held;
       same_len = len;

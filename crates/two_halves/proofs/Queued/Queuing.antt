@@ -87,17 +87,17 @@ module _ (named : ℕ) (h : Halves) (shared : List (List ℕ)) (qs : List Proces
   abbrev q : Process
   q = get_or qs row nobody
 
-  pub this-row : ProcStands x.test shared h.mem h.low (end_of h) named p (get_or qs row nobody)
+  pub this-row : ProcStands x.test shared h.mem h.room.end (end_of h) named p (get_or qs row nobody)
   this-row =
-      let P : Proc → Type 0 = λ z. ProcStands x.test shared h.mem h.low (end_of h) named z (get_or qs row nobody) in
-      subst P (sym is) (row-at x.test shared h.mem h.low (end_of h) named h.procs.items qs row p nobody less x.processes)
+      let P : Proc → Type 0 = λ z. ProcStands x.test shared h.mem h.room.end (end_of h) named z (get_or qs row nobody) in
+      subst P (sym is) (row-at x.test shared h.mem h.room.end (end_of h) named h.procs.items qs row p nobody less x.processes)
 
   pub this-process : (d : Process) → get_or qs row d ≡ get_or qs row nobody
-  this-process d = get_or_default qs row d nobody (omega (arith, less, row-length x.test shared h.mem h.low (end_of h) named h.procs.items qs x.processes))
+  this-process d = get_or_default qs row d nobody (omega (arith, less, row-length x.test shared h.mem h.room.end (end_of h) named h.procs.items qs x.processes))
 
   module _ (some : p.waiting ≡ 0 → ⊥) where
-    first-there : FirstOf x.test shared h.mem h.low (end_of h) named p.queue p.waiting p.last q.queue
-    first-there = first-of x.test shared h.mem h.low (end_of h) named p.queue p.waiting p.last q.queue some this-row.waits this-row.queue this-row.last
+    first-there : FirstOf x.test shared h.mem h.room.end (end_of h) named p.queue p.waiting p.last q.queue
+    first-there = first-of x.test shared h.mem h.room.end (end_of h) named p.queue p.waiting p.last q.queue some this-row.waits this-row.queue this-row.last
 
     pub first-below : p.queue + 2 ≤ end_of h
     first-below = first-there.first.below
@@ -120,8 +120,8 @@ module _ (named : ℕ) (h : Halves) (shared : List (List ℕ)) (qs : List Proces
         behind (z ∷ xs) ys y a (inl e) = inl e
         behind (z ∷ xs) ys y a (inr i) = inr (behind xs ys y a i)
 
-    left-rows : ProcsStand x.test shared h.mem h.low (end_of h) named (set h.procs.items row row2) (set qs row (record q { queue = first-there.rest }))
-    left-rows = row-set x.test shared h.mem h.low (end_of h) named h.procs.items qs row row2 (record q { queue = first-there.rest }) x.processes (record {
+    left-rows : ProcsStand x.test shared h.mem h.room.end (end_of h) named (set h.procs.items row row2) (set qs row (record q { queue = first-there.rest }))
+    left-rows = row-set x.test shared h.mem h.room.end (end_of h) named h.procs.items qs row row2 (record q { queue = first-there.rest }) x.processes (record {
       number = this-row.number;
       count = this-row.count;
       registers = this-row.registers;
@@ -159,8 +159,8 @@ module _ (named : ℕ) (h : Halves) (shared : List (List ℕ)) (qs : List Proces
 
     pub left-laid : IsLaid (with_row h row row2)
     left-laid =
-        laid-filled named named h shared qs (set qs row (record q { queue = first-there.rest })) laid x x.test x.single h.mem h.top h.low (with_item h.procs row row2) refl (λ a k e. e)
-        (λ a k e. inl e) (λ a k e. inl e) (λ a k e. refl) (omega arith) (omega arith) (omega arith) left-rows laid.order
+        laid-filled named named h shared qs (set qs row (record q { queue = first-there.rest })) laid x x.test x.single h.mem h.room (with_item h.procs row row2) refl (λ a k e. e)
+        (λ a k e. inl e) (λ a k e. inl e) (λ a k e. refl) (omega arith) (omega arith) (omega arith) left-rows refl laid.order
         (omega (arith, sum_by-set (λ r. r.depth + r.waiting) h.procs.items row row2 p less, ap (λ r. r.depth + r.waiting) is))
 
 -- The first message of a row was taken off its queue.

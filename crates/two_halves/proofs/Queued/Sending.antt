@@ -81,14 +81,14 @@ module _ (h : Halves) (row w : ℕ) (r : CanSend h row w) where
       message-stands = (copy-there.made, tt)
 
       roots-there : AllStand x.test r.has.shared h.mem (roots_of h) (trees_of r.has.processes)
-      roots-there = roots-stand x.test r.has.shared h.mem h.low (end_of h) r.has.named h.procs.items r.has.processes x.processes
+      roots-there = roots-stand x.test r.has.shared h.mem h.room.end (end_of h) r.has.named h.procs.items r.has.processes x.processes
 
-      message-above : (v : ℕ) → IsPointer v → Reach h2.mem (copy ∷ []) v → h.top ≤ v / 4
+      message-above : (v : ℕ) → IsPointer v → Reach h2.mem (copy ∷ []) v → h.room.top ≤ v / 4
       message-above v p re =
           copy-there.alone v
           (carried-reach d d h1.mem h2.mem (kept-carried d d h1.mem h2.mem kept12) r.has.shared (copy ∷ []) (r.tree ▹ end) message-stands v re) p
 
-      old-below : (u : ℕ) → IsPointer u → Reach h2.mem (roots_of h) u → u / 4 < h.top
+      old-below : (u : ℕ) → IsPointer u → Reach h2.mem (roots_of h) u → u / 4 < h.room.top
       old-below u p re =
           let was : Reach h.mem (roots_of h) u =
           carried-reach x.test d h.mem h2.mem (kept-carried x.test d h.mem h2.mem kept02) r.has.shared (roots_of h) (trees_of r.has.processes) roots-there u re in
@@ -100,17 +100,17 @@ module _ (h : Halves) (row w : ℕ) (r : CanSend h row w) where
       same-roots : roots_of h1 ≡ roots_of h
       same-roots =
           ap (λ z. roots_in h1.mem z.items) k.procs
-          ∙ roots-kept x.test h.mem h1.mem h.low (end_of h) h.procs.items copy-there.bare
-          (have-stacks x.test r.has.shared h.mem h.low (end_of h) r.has.named h.procs.items r.has.processes x.processes)
+          ∙ roots-kept x.test h.mem h1.mem h.room.end (end_of h) h.procs.items copy-there.bare
+          (have-stacks x.test r.has.shared h.mem h.room.end (end_of h) r.has.named h.procs.items r.has.processes x.processes)
 
       same-values : (o : Proc) → o ≡ get_or h.procs.items row o → values h1.mem o.queue o.waiting ≡ values h.mem o.queue o.waiting
       same-values o is =
-          let stacks = have-stacks x.test r.has.shared h.mem h.low (end_of h) r.has.named h.procs.items r.has.processes x.processes in
+          let stacks = have-stacks x.test r.has.shared h.mem h.room.end (end_of h) r.has.named h.procs.items r.has.processes x.processes in
           let one : get_or h.procs.items row no_row ≡ o = get_or_default h.procs.items row no_row o r.has.within ∙ sym is in
           let P : Proc → Type 0 = λ z. values h1.mem z.queue z.waiting ≡ values h.mem z.queue z.waiting in
           subst P one
-          (values-kept x.test h.mem h1.mem h.low (end_of h) (get_or h.procs.items row no_row).queue (get_or h.procs.items row no_row).waiting copy-there.bare
-          (stack-at x.test h.mem h.low (end_of h) h.procs.items row r.has.within stacks).1)
+          (values-kept x.test h.mem h1.mem h.room.end (end_of h) (get_or h.procs.items row no_row).queue (get_or h.procs.items row no_row).waiting copy-there.bare
+          (stack-at x.test h.mem h.room.end (end_of h) h.procs.items row r.has.within stacks).1)
 
       row-before : (p : Proc) → p ≡ get_or h.procs.items row p → p ≡ get_or h1.procs.items row p
       row-before p is = is ∙ ap (λ z. get_or z.items row p) (sym k.procs)
@@ -132,8 +132,8 @@ module _ (h : Halves) (row w : ℕ) (r : CanSend h row w) where
         word = copy;
         alone = record {
           first = q.first;
-          last = h2.low;
-          procs = λ p is. q.procs p (row-before p is) ∙ ap (λ z. with_item z row (with_queue p q.first h2.low (p.waiting + 1))) k.procs;
+          last = h2.room.end;
+          procs = λ p is. q.procs p (row-before p is) ∙ ap (λ z. with_item z row (with_queue p q.first h2.room.end (p.waiting + 1))) k.procs;
           messages = λ p o new old. q.messages p o new (row-before o old) ∙ ap (λ z. z ++ copy ∷ []) (same-values o old);
           before = q.before;
           after = q.after;

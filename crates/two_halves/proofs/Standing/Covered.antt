@@ -43,7 +43,7 @@ listed-in mem (u ∷ vs) v a (inr i) from below =
 
 -- Below the free words, or in a record that is listed.
 abbrev pub covering : Halves → ℕ → ℕ → Bool
-covering h a k = nat_lt a h.low || in_records h.mem (records_of h) a
+covering h a k = nat_lt a h.room.end || in_records h.mem (records_of h) a
 
 module _ (named : ℕ) (h : Halves) (shared : List (List ℕ)) (qs : List Process) (laid : IsLaid h) (s : HalvesStand named h shared qs) where
   abbrev pub covered : ℕ → ℕ → Bool
@@ -52,8 +52,8 @@ module _ (named : ℕ) (h : Halves) (shared : List (List ℕ)) (qs : List Proces
   object-in : (a k : ℕ) → OfObject k → s.test a k ≡ true → covering h a k ≡ true
   object-in a k of e = elim (s.lie a k e) [
     | inl object ↦
-        let here : nat_lt a h.low ≡ true = (let less : a < h.low = omega (arith, object.1.0, laid.order) in grind (arith, nat_tests, less)) in
-        or_left (nat_lt a h.low) (in_records h.mem (records_of h) a) here
+        let here : nat_lt a h.room.end ≡ true = (let less : a < h.room.end = omega (arith, object.1.0, laid.order) in grind (arith, nat_tests, less)) in
+        or_left (nat_lt a h.room.end) (in_records h.mem (records_of h) a) here
     | inr there ↦ absurd (omega (arith, of, there.1.1))
   ]
 
@@ -62,7 +62,7 @@ module _ (named : ℕ) (h : Halves) (shared : List (List ℕ)) (qs : List Proces
 
   record-in : (v n a k : ℕ) → IsRecord s.test h.mem v n → v ≤ a → a < v + n → covering h a k ≡ true
   record-in v n a k there from below =
-      or_right (nat_lt a h.low) (in_records h.mem (records_of h) a)
+      or_right (nat_lt a h.room.end) (in_records h.mem (records_of h) a)
       (listed-in h.mem (records_of h) v a (s.records.all v n there) from (omega (arith, below, record-size s.test h.mem v n there)))
 
   copied-on : (v n : ℕ) → IsRecord s.test h.mem v n → IsCopiedTo s.test covered h.mem h.mem v v n
@@ -97,13 +97,13 @@ module _ (named : ℕ) (h : Halves) (shared : List (List ℕ)) (qs : List Proces
   single-covered = record { one = λ a j k e f. s.single.one a j k ((and_parts (s.test a j) (covering h a j) e).0) ((and_parts (s.test a k) (covering h a k) f).0) }
 
   -- Where a word with a role lies.
-  pub lies-covered : (a k : ℕ) → covered a k ≡ true → ((front_of h ≤ a) × (a < h.top)) ⊎ (in_records h.mem (records_of h) a ≡ true)
+  pub lies-covered : (a k : ℕ) → covered a k ≡ true → ((front_of h ≤ a) × (a < h.room.top)) ⊎ (in_records h.mem (records_of h) a ≡ true)
   lies-covered a k e =
       let c : s.test a k ≡ true = (and_parts (s.test a k) (covering h a k) e).0 in
       let d : covering h a k ≡ true = (and_parts (s.test a k) (covering h a k) e).1 in
       elim (s.lie a k c) [
         | inl object ↦ inl (object.0, object.1.0)
-        | inr there ↦ inr (past (nat_lt a h.low) (in_records h.mem (records_of h) a) (let far : h.low ≤ a = there.0 in grind (arith, nat_tests, far)) d)
+        | inr there ↦ inr (past (nat_lt a h.room.end) (in_records h.mem (records_of h) a) (let far : h.room.end ≤ a = there.0 in grind (arith, nat_tests, far)) d)
       ]
     where
       past : (p q : Bool) → p ≡ false → (p || q) ≡ true → q ≡ true

@@ -1,6 +1,7 @@
 -- What stands in a half stands still while places and plain objects come into its free words.
-use Rattle.std.proofs.Common.{Vec, ◌≡◌, ℕ, ◌+◌, ◌*◌, ◌/◌, ◌<◌, ◌≤◌, ◌⊎◌, Bool, true, List, [], ◌∷◌, ◌++◌, length, get_or, refl, sym, subst, arith, inl, inr}
+use Rattle.std.proofs.Common.{Vec, ◌≡◌, ℕ, ◌+◌, ◌*◌, ◌/◌, ◌<◌, ◌≤◌, ◌⊎◌, Bool, true, List, [], ◌∷◌, ◌++◌, length, get_or, refl, sym, ◌∙◌, subst, arith, inl, inr}
 use Rattle.std.specs.declared.alloc.Global.{Global}
+use Rattle.word_mem.specs.declared.ranges.Room.{Room}
 use Rattle.plain_term.specs.Bytes.{shared_bytes}
 use Rattle.plain_machine.specs.State.{Process}
 use Rattle.term_words.specs.Role.{NEXT, RECORD, IsSingle, OfRecord}
@@ -19,13 +20,12 @@ use Rattle.two_halves.specs.Halves.{HalvesStand, IsBinOf, IsFunOf, IsLaid, Procs
 use Rattle.two_halves.specs.declared.halves.Halves.{Halves}
 use Rattle.two_halves.specs.declared.table.Proc.{Proc}
 
--- The halves with another memory, other bounds and another table of processes.
-abbrev pub laid_out : Halves → (mem : List ℕ) → (top low : ℕ) → Vec Proc Global → Halves
-laid_out h mem top low v = record {
+-- The halves with another memory, another room and another table of processes.
+abbrev pub laid_out : Halves → (mem : List ℕ) → Room → Vec Proc Global → Halves
+laid_out h mem room v = record {
   mem = mem;
   base = h.base;
-  top = top;
-  low = low;
+  room = room;
   procs = v;
   head = h.head;
   linked = h.linked;
@@ -125,11 +125,11 @@ module _ (c d : ℕ → ℕ → Bool) (mem mem2 : List ℕ) (len : length mem2 �
 
 -- The half with other processes, and with words that came below and above the free ones.
 module _ (named named2 : ℕ) (h : Halves) (shared : List (List ℕ)) (qs qs2 : List Process) (laid : IsLaid h) (s : HalvesStand named h shared qs) (d : ℕ → ℕ → Bool) (single : IsSingle d)
-    (mem2 : List ℕ) (top low : ℕ) (v : Vec Proc Global) (len : length mem2 ≡ length h.mem) (more : (a k : ℕ) → s.test a k ≡ true → d a k ≡ true)
-    (plain : (a k : ℕ) → d a k ≡ true → (s.test a k ≡ true) ⊎ IsPlain k) (within : (a k : ℕ) → d a k ≡ true → (s.test a k ≡ true) ⊎ ((h.top ≤ a) × (a < top)))
-    (same : (a k : ℕ) → s.test a k ≡ true → get_or mem2 a 0 ≡ get_or h.mem a 0) (up : h.top ≤ top) (down : low ≤ h.low) (names : named ≤ named2)
-    (procs : ProcsStand d shared mem2 low (h.base + length mem2 / 2) named2 v.items qs2) where
-  pub halves-filled : AreApart (all_places mem2 v.items) → HalvesStand named2 (laid_out h mem2 top low v) shared qs2
+    (mem2 : List ℕ) (z : Room) (v : Vec Proc Global) (len : length mem2 ≡ length h.mem) (more : (a k : ℕ) → s.test a k ≡ true → d a k ≡ true)
+    (plain : (a k : ℕ) → d a k ≡ true → (s.test a k ≡ true) ⊎ IsPlain k) (within : (a k : ℕ) → d a k ≡ true → (s.test a k ≡ true) ⊎ ((h.room.top ≤ a) × (a < z.top)))
+    (same : (a k : ℕ) → s.test a k ≡ true → get_or mem2 a 0 ≡ get_or h.mem a 0) (up : h.room.top ≤ z.top) (down : z.end ≤ h.room.end) (names : named ≤ named2)
+    (procs : ProcsStand d shared mem2 z.end (h.base + length mem2 / 2) named2 v.items qs2) where
+  pub halves-filled : AreApart (all_places mem2 v.items) → HalvesStand named2 (laid_out h mem2 z v) shared qs2
   halves-filled apart = record {
     test = d;
     single = single;
@@ -160,12 +160,13 @@ module _ (named named2 : ℕ) (h : Halves) (shared : List (List ℕ)) (qs qs2 : 
   }
 
   -- It is laid out, where all fits.
-  pub laid-filled : top ≤ low → low + 2 * places_in v.items ≤ h.low + 2 * places_in h.procs.items → IsLaid (laid_out h mem2 top low v)
-  laid-filled order fits =
+  pub laid-filled : z.start ≡ h.room.start → z.top ≤ z.end → z.end + 2 * places_in v.items ≤ h.room.end + 2 * places_in h.procs.items → IsLaid (laid_out h mem2 z v)
+  laid-filled begins order fits =
       let words : total (record_words mem2) (records_of h) ≡ total (record_words h.mem) (records_of h) =
       words-filled s.test d h.mem mem2 len more plain same shared h.bins.items h.funs.items s.records in
       record {
         even = omega (arith, len, laid.even);
+        starts = begins ∙ laid.starts;
         side = elim laid.side [ inl e ↦ inl e | inr e ↦ inr (omega (arith, e, len)) ];
         front = omega (arith, laid.front, up);
         order = order;

@@ -1,11 +1,4 @@
-use Rattle.std.proofs.Common.{◌≡◌, ℕ, ◌+◌, Bool, List, Some, get_or, refl, subst, ap, arith}
-use Rattle.word_mem.specs.declared.ranges.Room.{Room}
-use Rattle.plain_term.specs.Tree.{Tree}
-use Rattle.plain_machine.specs.Parts.{part_in}
-use Rattle.term_words.specs.Stands.{Stands}
-use Rattle.term_build.specs.Clear.{Uses}
-use Rattle.term_build.specs.Grows.{Built}
-use Rattle.term_build.specs.Taken.{IsFree}
+use Rattle.std.proofs.Common.{refl, arith}
 use Rattle.one_space.proofs.Calls.Asking.{unless-grown, unless-lacks}
 use Rattle.one_space.proofs.Verbs.Parting.{cut-does, cut-lacks, cut-part, cut-refused, cut-term}
 use Rattle.one_space.proofs.Calls.Terming.{term-within}
@@ -38,14 +31,10 @@ process_mut-process-requires c = term-within c.args.self.now c.requires.holds c.
 
 pub returns-clause-does : goal.returns-clause-does
 returns-clause-does c =
-    let U : Room → Type 0 = λ y. Uses 5 y c.sub_part-part.new.room c.make_room.new.self.mem c.sub_part-part.new.mem in
-    let V : Room → Type 0 = λ y. (k : ℕ → ℕ → Bool) (shared : List (List ℕ)) (t u : Tree) → IsFree k y.top (y.top + 5)
-    → Stands k shared c.make_room.new.self.mem (get_or c.process-2.result.now.regs c.args.s.0 0) t → part_in shared c.args.offset c.args.len t ≡ Some u
-    → Built k y.top 5 c.make_room.new.self.mem c.sub_part-part.new.mem shared c.sub_part-part.result u in
     cut-does c.args.self.now c.requires.holds c.args.seat c.requires.sits c.args.r c.args.s c.args.offset c.args.len c.requires.other c.process.result.now c.process.ensures
     c.has_part.result c.has_part.ensures c.if-not-has_part.false c.make_room.new.self c.make_room.result c.make_room.ensures c.if-not-make_room.false c.sub_part-part.new.mem
-    c.sub_part-part.new.room (subst U c.room-room.ensures c.sub_part-part.ensures.uses) c.process-2.result.now c.process-2.ensures c.process_mut-process.result.now c.process_mut-process.ensures.value
-    c.sub_part-part.result (subst V c.room-room.ensures c.sub_part-part.ensures.built)
+    c.sub_part-part.new.room c.sub_part-part.ensures.uses c.process-2.result.now c.process-2.ensures c.process_mut-process.result.now c.process_mut-process.ensures.value
+    c.sub_part-part.result c.sub_part-part.ensures.built
 
 pub returns-then-not-make_room-clause-asks : goal.returns-then-not-make_room-clause-asks
 returns-then-not-make_room-clause-asks c =
@@ -54,4 +43,4 @@ returns-then-not-make_room-clause-asks c =
 pub returns-clause-asks : goal.returns-clause-asks
 returns-clause-asks c =
     unless-grown 5 5 c.args.self.now c.make_room.new.self c.make_room.result c.make_room.ensures refl c.if-not-make_room.false _ refl
-    (omega (arith, c.sub_part-part.ensures.uses.moved, ap (λ (z : Room). z.top) c.room-room.ensures)) tt
+    (omega (arith, c.sub_part-part.ensures.uses.moved, c.sub_part-part.ensures.uses.same_end)) tt

@@ -11,4 +11,4 @@ returns-clause-does c =
     c.push_reserved.new.self (omega (arith, c.push_reserved.ensures.len)) c.push_reserved.ensures.capacity
 
 pub returns-clause-idle : goal.returns-clause-idle
-returns-clause-idle c = record { sweeps = refl; mem = refl; top = refl; low = refl }
+returns-clause-idle c = record { sweeps = refl; mem = refl; room = refl }

@@ -1,11 +1,6 @@
-use Rattle.std.proofs.Common.{ℕ, ◌+◌, ◌/◌, Bool, List, length, replicate, take, refl, sym, subst, arith, ap, ◌∙◌}
+use Rattle.std.proofs.Common.{ℕ, ◌+◌, ◌/◌, List, length, replicate, take, refl, sym, arith, ap, ◌∙◌}
 use Rattle.std.proofs.lemmas.List.{length-replicate, take-replicate}
-use Rattle.word_mem.specs.declared.ranges.Room.{Room}
 use Rattle.plain_term.specs.Measures.{bin_words}
-use Rattle.plain_term.specs.Tree.Tree.{Bin}
-use Rattle.term_build.specs.Clear.{Uses}
-use Rattle.term_build.specs.Grows.{Built}
-use Rattle.term_build.specs.Taken.{IsFree}
 use Rattle.plain_machine.specs.Tightness.{fill_words}
 use Rattle.one_space.proofs.Calls.Asking.{unless-grown, unless-lacks}
 use Rattle.one_space.proofs.Verbs.Filling.{fill-lacks, heap-words, small-by}
@@ -30,15 +25,12 @@ pub returns-clause-does : goal.returns-clause-does
 returns-clause-does c =
     let g : ℕ = 2 + (c.args.len + 7) / 8 in
     let xs : List ℕ = take c.args.len (replicate 64 c.args.byte) in
-    let U : Room → Type 0 = λ y. Uses (2 + bin_words (length xs)) y c.heap_bin-w.new.room c.make_room.new.self.mem c.heap_bin-w.new.mem in
-    let V : Room → Type 0 = λ y. (k : ℕ → ℕ → Bool) (shared : List (List ℕ)) → IsFree k y.top (y.top + (2 + bin_words (length xs)))
-    → Built k y.top (2 + bin_words (length xs)) c.make_room.new.self.mem c.heap_bin-w.new.mem shared c.heap_bin-w.result (Bin xs) in
     small-by c.args.self.now c.requires.holds c.args.seat c.requires.sits c.args.r c.args.len c.args.byte (omega (arith, c.requires.small)) (omega (arith, c.ranges.byte)) g
     (sym (heap-words c.args.len c.requires.small))
     c.make_room.new.self c.make_room.result c.make_room.ensures c.requires.small c.if-not-make_room.false xs (take-replicate c.args.len 64 c.args.byte c.requires.small) c.heap_bin-w.new.mem
     c.heap_bin-w.new.room
-    (subst U c.room-room.ensures c.heap_bin-w.ensures.uses) c.process_mut-process.result.now c.process_mut-process.ensures.value c.heap_bin-w.result
-    (subst V c.room-room.ensures c.heap_bin-w.ensures.built)
+    c.heap_bin-w.ensures.uses c.process_mut-process.result.now c.process_mut-process.ensures.value c.heap_bin-w.result
+    c.heap_bin-w.ensures.built
 
 pub returns-clause-asks : goal.returns-clause-asks
 returns-clause-asks c =
@@ -47,6 +39,6 @@ returns-clause-asks c =
     (omega (
       arith,
       c.heap_bin-w.ensures.uses.moved,
-      ap (λ (z : Room). z.top) c.room-room.ensures,
+      c.heap_bin-w.ensures.uses.same_end,
       ap (λ n. 2 + bin_words n) (ap length (take-replicate c.args.len 64 c.args.byte c.requires.small) ∙ length-replicate {A = ℕ} c.args.len c.args.byte),
     )) tt

@@ -1,9 +1,4 @@
-use Rattle.std.proofs.Common.{ℕ, ◌+◌, Bool, List, refl, ap, subst, arith}
-use Rattle.word_mem.specs.declared.ranges.Room.{Room}
-use Rattle.plain_term.specs.Tree.Tree.{Ref}
-use Rattle.term_build.specs.Clear.{Uses}
-use Rattle.term_build.specs.Grows.{Built}
-use Rattle.term_build.specs.Taken.{IsFree}
+use Rattle.std.proofs.Common.{◌+◌, refl, arith}
 use Rattle.one_space.proofs.Calls.Asking.{asks-grown, asks-lacks}
 use Rattle.one_space.proofs.Verbs.Referring.{ref-does, ref-refused, refs-few}
 use Rattle.one_space.proofs.Calls.Terming.{term-within}
@@ -29,16 +24,13 @@ process_mut-process-requires c = term-within c.args.self.now c.requires.holds c.
 
 pub returns-clause-does : goal.returns-clause-does
 returns-clause-does c =
-    let U : Room → Type 0 = λ y. Uses 3 y c.reference-w.new.room c.make_room.new.self.mem c.reference-w.new.mem in
-    let V : Room → Type 0 = λ y. (k : ℕ → ℕ → Bool) (shared : List (List ℕ)) → IsFree k y.top (y.top + 3)
-    → Built k y.top 3 c.make_room.new.self.mem c.reference-w.new.mem shared c.reference-w.result (Ref c.args.seat.pid (c.process.result.now.refs + 1)) in
     ref-does c.args.self.now c.requires.holds c.args.seat c.requires.sits c.args.r c.make_room.new.self c.make_room.result c.make_room.ensures c.if-not-make_room.false c.reference-w.new.mem
-    c.reference-w.new.room (subst U c.room-room.ensures c.reference-w.ensures.uses) c.process.result.now c.process.ensures c.process_mut-process.result.now c.process_mut-process.ensures.value
-    c.reference-w.result (c.process.result.now.refs + 1) refl (subst V c.room-room.ensures c.reference-w.ensures.built)
+    c.reference-w.new.room c.reference-w.ensures.uses c.process.result.now c.process.ensures c.process_mut-process.result.now c.process_mut-process.ensures.value
+    c.reference-w.result (c.process.result.now.refs + 1) refl c.reference-w.ensures.built
 
 pub returns-then-not-make_room-clause-asks : goal.returns-then-not-make_room-clause-asks
 returns-then-not-make_room-clause-asks c = asks-lacks 3 3 c.args.self.now c.make_room.new.self c.make_room.result c.make_room.ensures refl c.if-not-make_room.true 3
 
 pub returns-clause-asks : goal.returns-clause-asks
 returns-clause-asks c = asks-grown 3 3 c.args.self.now c.make_room.new.self c.make_room.result c.make_room.ensures refl c.if-not-make_room.false _ refl
-    (omega (arith, c.reference-w.ensures.uses.moved, ap (λ (z : Room). z.top) c.room-room.ensures)) tt
+    (omega (arith, c.reference-w.ensures.uses.moved, c.reference-w.ensures.uses.same_end)) tt

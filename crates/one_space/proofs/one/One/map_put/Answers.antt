@@ -1,13 +1,5 @@
-use Rattle.std.proofs.Common.{ℕ, ◌+◌, ◌*◌, Bool, List, Err, get_or, refl, sym, subst, arith}
-use Rattle.word_mem.specs.declared.ranges.Room.{Room}
-use Rattle.plain_term.specs.Tree.{Tree, Pairs, pairs_len}
-use Rattle.plain_term.specs.Tree.Tree.{Map}
+use Rattle.std.proofs.Common.{◌+◌, ◌*◌, Err, refl, sym, subst, arith}
 use Rattle.script_grammar.specs.declared.refusal.Refusal.{Refusal}
-use Rattle.term_words.specs.Stands.{Stands}
-use Rattle.term_build.specs.Clear.{Uses}
-use Rattle.term_build.specs.Grows.{Built}
-use Rattle.term_build.specs.Taken.{IsFree}
-use Rattle.term_verbs.specs.Placed.{HasPlace, count_placed, put_at_spot}
 use Rattle.plain_machine.specs.State.{register}
 use Rattle.script_grammar.specs.declared.command.Command.TheVariants.{Process as OfProcess}
 use Rattle.script_grammar.specs.declared.command.Verb.TheVariants as verb
@@ -65,28 +57,20 @@ process-requires-2 c = term-within c.args.self.now c.requires.holds c.args.seat 
 
 pub map_with-w-requires-clause-map : goal.map_with-w-requires-clause-map
 map_with-w-requires-clause-map c =
-    let P : Room → Type 0 = λ y. HasPlace y c.make_room.new.self.mem (get_or c.process-2.result.now.regs c.args.s.0 0) c.in-Ok.place.spot in
-    subst P (sym c.room-room.ensures)
-    (put-place c.args.self.now c.requires.holds c.args.seat c.requires.sits c.args.r c.args.s c.args.k c.args.v c.requires.map c.requires.key c.requires.value c.process.result.now c.process.ensures
+    put-place c.args.self.now c.requires.holds c.args.seat c.requires.sits c.args.r c.args.s c.args.k c.args.v c.requires.map c.requires.key c.requires.value c.process.result.now c.process.ensures
     c.args.names.now c.place_in.result c.place_in.ensures c.in-Ok.place c.in-Ok.is _ refl c.make_room.new.self c.make_room.result c.make_room.ensures c.process-2.result.now
-    c.process-2.ensures c.if-not-make_room.false)
+    c.process-2.ensures c.if-not-make_room.false
 
 pub process_mut-process-requires : goal.process_mut-process-requires
 process_mut-process-requires c = term-within c.args.self.now c.requires.holds c.args.seat c.requires.sits (6 + 2 * c.in-Ok.place.keys) c.make_room.new.self c.make_room.result c.make_room.ensures
 
 pub returns-clause-does : goal.returns-clause-does
 returns-clause-does c =
-    let U : Room → Type 0 = λ y. (d : ℕ → ℕ → Bool) (shared : List (List ℕ)) (ps : Pairs) → Stands d shared c.make_room.new.self.mem (get_or c.process-2.result.now.regs c.args.s.0 0) (Map ps)
-    → Uses (4 + 2 * count_placed c.in-Ok.place.spot (pairs_len ps)) y c.map_with-w.new.room c.make_room.new.self.mem c.map_with-w.new.mem in
-    let V : Room → Type 0 = λ y. (d : ℕ → ℕ → Bool) (shared : List (List ℕ)) (ps : Pairs) (t u : Tree) → IsFree d y.top (y.top + (4 + 2 * count_placed c.in-Ok.place.spot (pairs_len ps)))
-    → Stands d shared c.make_room.new.self.mem (get_or c.process-2.result.now.regs c.args.s.0 0) (Map ps) → Stands d shared c.make_room.new.self.mem (get_or c.process-2.result.now.regs c.args.k.0 0) t
-    → Stands d shared c.make_room.new.self.mem (get_or c.process-2.result.now.regs c.args.v.0 0) u
-    → Built d y.top (4 + 2 * count_placed c.in-Ok.place.spot (pairs_len ps)) c.make_room.new.self.mem c.map_with-w.new.mem shared c.map_with-w.result (Map (put_at_spot c.in-Ok.place.spot t u ps)) in
     put-does c.args.self.now c.requires.holds c.args.seat c.requires.sits c.args.r c.args.s c.args.k c.args.v c.requires.map c.requires.key c.requires.value c.process.result.now c.process.ensures
     c.args.names.now c.place_in.result c.place_in.ensures c.in-Ok.place c.in-Ok.is _ refl c.make_room.new.self c.make_room.result c.make_room.ensures c.process-2.result.now
     c.process-2.ensures c.if-not-make_room.false
-    c.map_with-w.new.mem c.map_with-w.new.room c.map_with-w.result c.process_mut-process.result.now c.process_mut-process.ensures.value (subst U c.room-room.ensures c.map_with-w.ensures.uses)
-    (subst V c.room-room.ensures c.map_with-w.ensures.built)
+    c.map_with-w.new.mem c.map_with-w.new.room c.map_with-w.result c.process_mut-process.result.now c.process_mut-process.ensures.value c.map_with-w.ensures.uses
+    c.map_with-w.ensures.built
 
 pub returns-clause-asks : goal.returns-clause-asks
 returns-clause-asks c = λ s q o found. record {
@@ -95,9 +79,7 @@ returns-clause-asks c = λ s q o found. record {
       asks-grown (6 + 2 * c.in-Ok.place.keys) (6 + 2 * key_count (register c.args.s.0 q)) c.args.self.now c.make_room.new.self c.make_room.result c.make_room.ensures
       (put-asked c.args.self.now c.requires.holds c.args.seat c.requires.sits c.args.r c.args.s c.args.k c.args.v c.requires.map c.requires.key c.requires.value c.process.result.now c.process.ensures
       c.args.names.now c.place_in.result c.place_in.ensures c.in-Ok.place c.in-Ok.is s o q found) c.if-not-make_room.false _ refl
-      (let U : Room → Type 0 = λ y. (d : ℕ → ℕ → Bool) (shared : List (List ℕ)) (ps : Pairs) → Stands d shared c.make_room.new.self.mem (get_or c.process-2.result.now.regs c.args.s.0 0) (Map ps)
-      → Uses (4 + 2 * count_placed c.in-Ok.place.spot (pairs_len ps)) y c.map_with-w.new.room c.make_room.new.self.mem c.map_with-w.new.mem in
-      put-few c.args.self.now c.requires.holds c.args.seat c.requires.sits c.args.r c.args.s c.args.k c.args.v c.requires.map c.requires.key c.requires.value c.process.result.now c.process.ensures
+      (put-few c.args.self.now c.requires.holds c.args.seat c.requires.sits c.args.r c.args.s c.args.k c.args.v c.requires.map c.requires.key c.requires.value c.process.result.now c.process.ensures
       c.args.names.now c.place_in.result c.place_in.ensures c.in-Ok.place c.in-Ok.is _ refl c.make_room.new.self c.make_room.result c.make_room.ensures c.process-2.result.now
-      c.process-2.ensures c.if-not-make_room.false c.map_with-w.new.mem c.map_with-w.new.room (subst U c.room-room.ensures c.map_with-w.ensures.uses)) tt;
+      c.process-2.ensures c.if-not-make_room.false c.map_with-w.new.mem c.map_with-w.new.room c.map_with-w.ensures.uses) tt;
 }

@@ -12,4 +12,4 @@ returns-clause-does c =
     (omega (arith, pid-below c.args.self.now c.requires.holds c.args.seat c.requires.sits, c.requires.calls))
 
 pub returns-clause-idle : goal.returns-clause-idle
-returns-clause-idle c = record { sweeps = refl; mem = refl; top = refl; low = refl }
+returns-clause-idle c = record { sweeps = refl; mem = refl; room = refl }

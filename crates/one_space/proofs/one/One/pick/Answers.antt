@@ -18,7 +18,7 @@ returns-clause-does c =
     c.args.names.now c.requires.named c.part.result c.part.ensures.picks c.in-Some.w c.in-Some.is c.process_mut-process.result.now c.process_mut-process.ensures.value c.in-Some.ensures.is_part
 
 pub returns-in_default-clause-idle : goal.returns-in_default-clause-idle
-returns-in_default-clause-idle c = record { sweeps = refl; mem = refl; top = refl; low = refl }
+returns-in_default-clause-idle c = record { sweeps = refl; mem = refl; room = refl }
 
 pub returns-clause-idle : goal.returns-clause-idle
-returns-clause-idle c = record { sweeps = refl; mem = refl; top = refl; low = refl }
+returns-clause-idle c = record { sweeps = refl; mem = refl; room = refl }

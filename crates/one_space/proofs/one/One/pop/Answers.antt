@@ -36,7 +36,7 @@ returns-clause-does c =
     (c.process.result.now.depth - 1) c.get.ensures c.get-2.ensures refl
 
 pub returns-then-process-eq0-clause-idle : goal.returns-then-process-eq0-clause-idle
-returns-then-process-eq0-clause-idle c = record { sweeps = refl; mem = refl; top = refl; low = refl }
+returns-then-process-eq0-clause-idle c = record { sweeps = refl; mem = refl; room = refl }
 
 pub returns-clause-idle : goal.returns-clause-idle
-returns-clause-idle c = record { sweeps = refl; mem = refl; top = refl; low = refl }
+returns-clause-idle c = record { sweeps = refl; mem = refl; room = refl }

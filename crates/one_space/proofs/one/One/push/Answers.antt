@@ -28,7 +28,7 @@ pub returns-clause-does : goal.returns-clause-does
 returns-clause-does c =
     push-does c.args.self.now c.requires.holds c.args.seat c.requires.sits c.args.s c.make_room.new.self c.make_room.result c.make_room.ensures
     c.if-not-make_room.false c.process.result.now c.process.ensures c.requires.register c.set-2.new.self
-    (c.set-2.ensures ∙ ap (λ z. set z (c.make_room.new.self.low - 2 + 1) c.process.result.now.stack) c.set.ensures)
+    (c.set-2.ensures ∙ ap (λ z. set z (c.make_room.new.self.room.end - 2 + 1) c.process.result.now.stack) c.set.ensures)
 
 pub returns-then-not-make_room-clause-asks : goal.returns-then-not-make_room-clause-asks
 returns-then-not-make_room-clause-asks c = asks-lacks 2 2 c.args.self.now c.make_room.new.self c.make_room.result c.make_room.ensures refl c.if-not-make_room.true 2

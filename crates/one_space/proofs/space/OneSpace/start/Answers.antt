@@ -15,7 +15,7 @@ invariant_of-result c =
     subst P c.in-Ok.ensures.items (subst N c.in-Some.ensures c.push_reserved.ensures.items) in
     first-holds _ c.fresh.result one c.fresh.ensures.number c.fresh.ensures.regs c.fresh.ensures.depth c.fresh.ensures.waiting c.fresh.ensures.refs refl refl refl refl
     c.in-Ok-with_capacity.ensures.items c.in-Ok-with_capacity-2.ensures.items refl c.args.words (ap length c.in_ok-mem.ensures ∙ length-replicate c.args.words 0)
-    c.requires.least c.requires.even refl (omega arith) (omega (arith, c.requires.least)) (omega arith) c.in-Ok-from_elem.ensures.len
+    c.requires.least c.requires.even refl refl (omega arith) (omega (arith, c.requires.least)) (omega arith) c.in-Ok-from_elem.ensures.len
     (omega (arith, c.in-Ok.ensures.capacity, c.push_reserved.ensures.capacity)) refl refl (omega (arith, c.in-Ok-with_capacity.ensures.capacity))
     (omega (arith, c.in-Ok-with_capacity-2.ensures.capacity)) (omega (arith, c.in-Some-boxes.ensures.len)) (omega (arith, c.in-Some-boxes.ensures.capacity))
 

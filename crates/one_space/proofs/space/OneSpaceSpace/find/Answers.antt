@@ -14,7 +14,7 @@ returns-in-Some-clause-lives c = λ s h.
     let b : One = c.args.self.now in
     let o = h.0 in
     subst Q c.self.view_is (subst P c.deref.ensures.value c.in-Some.ensures.among)
-    ∙ procs-among o.processes.test s.shared b.halves.mem b.named b.halves.low (end_of b.halves) b.halves.procs.items s.processes c.args.pid o.processes.processes
+    ∙ procs-among o.processes.test s.shared b.halves.mem b.named b.halves.room.end (end_of b.halves) b.halves.procs.items s.processes c.args.pid o.processes.processes
 
 pub returns-in-None-clause-lives : goal.returns-in-None-clause-lives
 returns-in-None-clause-lives c = λ s h.
@@ -23,4 +23,4 @@ returns-in-None-clause-lives c = λ s h.
     let b : One = c.args.self.now in
     let o = h.0 in
     subst Q c.self.view_is (subst P c.deref.ensures.value c.in-None.ensures.among)
-    ∙ procs-among o.processes.test s.shared b.halves.mem b.named b.halves.low (end_of b.halves) b.halves.procs.items s.processes c.args.pid o.processes.processes
+    ∙ procs-among o.processes.test s.shared b.halves.mem b.named b.halves.room.end (end_of b.halves) b.halves.procs.items s.processes c.args.pid o.processes.processes

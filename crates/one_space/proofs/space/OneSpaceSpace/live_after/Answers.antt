@@ -16,7 +16,7 @@ returns-then-above-len-clause-means c = λ s h.
     let V : One → Type 0 = λ x. OneStands x s in
     let b : One = c.self.inside.one in
     let o : OneStands c.self.inside.one s = subst V (sym c.self.view_is) h.0 in
-    let same : live_numbers s ≡ numbers_of c.self.inside.one = procs-numbers o.processes.test s.shared b.halves.mem b.named b.halves.low (end_of b.halves) b.halves.procs.items s.processes
+    let same : live_numbers s ≡ numbers_of c.self.inside.one = procs-numbers o.processes.test s.shared b.halves.mem b.named b.halves.room.end (end_of b.halves) b.halves.procs.items s.processes
     o.processes.processes in
     let within : c.first_above-above.result < length c.self.inside.one.halves.procs.items = omega (arith, c.self.inside.one.halves.procs.ok, c.len.ensures, c.if-above-len.true) in
     let P : List Proc → Type 0 = λ x. c.first_above-above.result < length x → c.args.pid < row_number number_in x c.first_above-above.result in
@@ -40,7 +40,7 @@ returns-else-above-len-clause-means c = λ s h.
     let V : One → Type 0 = λ x. OneStands x s in
     let b : One = c.self.inside.one in
     let o : OneStands c.self.inside.one s = subst V (sym c.self.view_is) h.0 in
-    let same : live_numbers s ≡ numbers_of c.self.inside.one = procs-numbers o.processes.test s.shared b.halves.mem b.named b.halves.low (end_of b.halves) b.halves.procs.items s.processes
+    let same : live_numbers s ≡ numbers_of c.self.inside.one = procs-numbers o.processes.test s.shared b.halves.mem b.named b.halves.room.end (end_of b.halves) b.halves.procs.items s.processes
     o.processes.processes in
     let over : length c.self.inside.one.halves.procs.items ≤ c.first_above-above.result = omega (arith, c.self.inside.one.halves.procs.ok, c.len.ensures, c.if-above-len.false) in
     let Q : List Proc → Type 0 = λ x. (k : ℕ) → k < c.first_above-above.result → row_number number_in x k ≤ c.args.pid in

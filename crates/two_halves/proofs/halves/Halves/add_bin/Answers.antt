@@ -1,18 +1,6 @@
-use Rattle.std.proofs.Common.{◌≡◌, ℕ, ◌+◌, ◌<◌, Bool, List, [], ◌∷◌, ◌++◌, get_or, set, replicate, length, sym, ◌∙◌, ap, subst, arith, inr}
+use Rattle.std.proofs.Common.{◌≡◌, ℕ, ◌+◌, ◌<◌, List, [], ◌∷◌, ◌++◌, replicate, length, sym, ◌∙◌, ap, subst, arith, inr}
 use Rattle.std.proofs.lemmas.List.{length-append, length-replicate, length-set}
-use Rattle.word_mem.specs.declared.ranges.Room.{Room}
-use Rattle.plain_term.specs.Tree.Tree.{Shared}
-use Rattle.term_tags.specs.Words.{head_word}
-use Rattle.term_tags.specs.declared.layouts.TheConstants.{HOLDER}
-use Rattle.term_words.specs.Role.{IsSingle}
-use Rattle.term_words.specs.Counted.{In}
-use Rattle.term_build.specs.Clear.{Uses}
-use Rattle.term_build.specs.Grows.{BuiltLink}
-use Rattle.term_build.specs.Parts.{IsRecordOf}
-use Rattle.term_build.specs.Taken.{IsFree, Lie}
 use Rattle.shared_rec.specs.Record.{count_in}
-use Rattle.off_heap_list.specs.Links.{IsLink, Links}
-use Rattle.off_heap_list.specs.Links.{named as named_at}
 use Rattle.off_heap_list.proofs.Walked.Tallied.{few-links}
 use Rattle.two_halves.specs.Adding.{HasBin}
 use Rattle.two_halves.specs.declared.halves.Halves.{Halves}
@@ -24,7 +12,7 @@ pub chain-self-requires-clause-of_record : goal.chain-self-requires-clause-of_re
 chain-self-requires-clause-of_record c =
     omega (
       arith,
-      holder-named c.holder-w.new.mem c.room-room.result.top c.args.len c.put_bin-at.result c.holder-w.ensures.words,
+      holder-named c.holder-w.new.mem c.put_bin-at.new.self.room.top c.args.len c.put_bin-at.result c.holder-w.ensures.words,
       c.put_bin-at.ensures.place,
       c.put_bin-at.ensures.low,
       c.put_bin-at.ensures.adds.same_len,
@@ -37,11 +25,10 @@ chain-self-requires-clause-of_record c =
 
 pub chain-self-requires-clause-count : goal.chain-self-requires-clause-count
 chain-self-requires-clause-count c =
-    let top : c.room-room.result.top ≡ c.put_bin-at.new.self.top = ap (λ z. z.top) c.room-room.ensures in
     let P : ℕ → Type 0 = λ z. count_in c.holder-w.new.mem z < 16777216 in
     let same : count_in c.holder-w.new.mem c.put_bin-at.result ≡ count_in c.put_bin-at.new.self.mem c.put_bin-at.result =
-    c.holder-w.ensures.uses.others (c.put_bin-at.result + 2) (inr (omega (arith, top, c.put_bin-at.ensures.place, c.put_bin-at.ensures.low, c.put_bin-at.ensures.top, c.requires.words))) in
-    subst P (sym (holder-named c.holder-w.new.mem c.room-room.result.top c.args.len c.put_bin-at.result c.holder-w.ensures.words)) (omega (arith, same, c.put_bin-at.ensures.zero))
+    c.holder-w.ensures.uses.others (c.put_bin-at.result + 2) (inr (omega (arith, c.put_bin-at.ensures.place, c.put_bin-at.ensures.low, c.put_bin-at.ensures.top, c.requires.words))) in
+    subst P (sym (holder-named c.holder-w.new.mem c.put_bin-at.new.self.room.top c.args.len c.put_bin-at.result c.holder-w.ensures.words)) (omega (arith, same, c.put_bin-at.ensures.zero))
 
 pub overflow_add-self : goal.overflow_add-self
 overflow_add-self c =
@@ -56,19 +43,11 @@ returns-clause-gets c = λ named shared qs x last.
     let bytes : List ℕ = replicate c.args.len c.args.byte in
     let more : List (List ℕ) = shared ++ bytes ∷ [] in
     let hb : HasBin named h more qs at c.args.serial bytes = c.put_bin-at.ensures.has named shared qs x last in
-    let top : c.room-room.result.top ≡ h.top = ap (λ z. z.top) c.room-room.ensures in
-    let U : Room → Type 0 = λ z. Uses 6 z c.holder-w.new.room h.mem mem3 in
-    let V : Room → Type 0 = λ z. (k : ℕ → ℕ → Bool) (other : List (List ℕ)) (id : ℕ) → IsFree k z.top (z.top + 6) → IsRecordOf k other h.mem at c.args.len id
-    → BuiltLink k z.top 6 h.mem mem3 other c.holder-w.result (Shared id) in
-    let L : ℕ → Type 0 = λ z. Lie mem3 z (head_word HOLDER 5 ∷ c.args.len ∷ 0 ∷ at ∷ 0 ∷ 0 ∷ []) in
-    let W : ℕ → Type 0 = λ z. c.chain-self.new.mem ≡ set (set mem3 (named_at mem3 z + 2) (get_or mem3 (named_at mem3 z + 2) 0 + 1)) (z + 2) h.head in
-    let C : ℕ → Type 0 = λ z. (k : ℕ → ℕ → Bool) (os further : List ℕ) → IsSingle k → Links k mem3 h.head os further → IsLink k mem3 z → (In z os → ⊥)
-    → Links k c.chain-self.new.mem c.chain-self.result (z ∷ os) further in
     holder-gets named h more qs at c.args.serial bytes hb.near hb.is (omega (arith, last)) (omega (arith, last, length-append shared (bytes ∷ [])))
     (last-bytes shared bytes c.args.serial last) c.args.len (length-replicate {A = ℕ} c.args.len c.args.byte) c.put_bin-at.ensures.adds.laid
     (omega (arith, c.requires.words, c.put_bin-at.ensures.top, c.put_bin-at.ensures.low))
-    c.holder-w.new.room mem3 (subst U c.room-room.ensures c.holder-w.ensures.uses) c.holder-w.result (omega (arith, c.holder-w.ensures.place, top)) (subst L top c.holder-w.ensures.words)
-    (subst V c.room-room.ensures c.holder-w.ensures.built) c.chain-self.new.mem c.chain-self.result (subst W top c.chain-self.ensures.writes) (subst C top c.chain-self.ensures.links)
+    c.holder-w.new.room mem3 c.holder-w.ensures.uses c.holder-w.result c.holder-w.ensures.place c.holder-w.ensures.words
+    c.holder-w.ensures.built c.chain-self.new.mem c.chain-self.result c.chain-self.ensures.writes c.chain-self.ensures.links
 
 pub returns-clause-adds : goal.returns-clause-adds
 returns-clause-adds c =
@@ -83,21 +62,13 @@ returns-clause-adds c =
     let bytes : List ℕ = replicate c.args.len c.args.byte in
     let more : List (List ℕ) = shared ++ bytes ∷ [] in
     let hb : HasBin named h more qs at c.args.serial bytes = c.put_bin-at.ensures.has named shared qs x last in
-    let top : c.room-room.result.top ≡ h.top = ap (λ z. z.top) c.room-room.ensures in
-    let U : Room → Type 0 = λ z. Uses 6 z c.holder-w.new.room h.mem mem3 in
-    let V : Room → Type 0 = λ z. (k : ℕ → ℕ → Bool) (other : List (List ℕ)) (id : ℕ) → IsFree k z.top (z.top + 6) → IsRecordOf k other h.mem at c.args.len id
-    → BuiltLink k z.top 6 h.mem mem3 other c.holder-w.result (Shared id) in
-    let L : ℕ → Type 0 = λ z. Lie mem3 z (head_word HOLDER 5 ∷ c.args.len ∷ 0 ∷ at ∷ 0 ∷ 0 ∷ []) in
-    let W : ℕ → Type 0 = λ z. c.chain-self.new.mem ≡ set (set mem3 (named_at mem3 z + 2) (get_or mem3 (named_at mem3 z + 2) 0 + 1)) (z + 2) h.head in
-    let C : ℕ → Type 0 = λ z. (k : ℕ → ℕ → Bool) (os further : List ℕ) → IsSingle k → Links k mem3 h.head os further → IsLink k mem3 z → (In z os → ⊥)
-    → Links k c.chain-self.new.mem c.chain-self.result (z ∷ os) further in
     let a = c.put_bin-at.ensures.adds in
     record {
       laid = holder-laid named h more qs at c.args.serial bytes hb.near hb.is (omega (arith, last)) (omega (arith, last, length-append shared (bytes ∷ [])))
           (last-bytes shared bytes c.args.serial last) c.args.len (length-replicate {A = ℕ} c.args.len c.args.byte) c.put_bin-at.ensures.adds.laid
           (omega (arith, c.requires.words, c.put_bin-at.ensures.top, c.put_bin-at.ensures.low))
-          c.holder-w.new.room mem3 (subst U c.room-room.ensures c.holder-w.ensures.uses) c.holder-w.result (omega (arith, c.holder-w.ensures.place, top)) (subst L top c.holder-w.ensures.words)
-          (subst V c.room-room.ensures c.holder-w.ensures.built) c.chain-self.new.mem c.chain-self.result (subst W top c.chain-self.ensures.writes) (subst C top c.chain-self.ensures.links);
+          c.holder-w.new.room mem3 c.holder-w.ensures.uses c.holder-w.result c.holder-w.ensures.place c.holder-w.ensures.words
+          c.holder-w.ensures.built c.chain-self.new.mem c.chain-self.result c.chain-self.ensures.writes c.chain-self.ensures.links;
       same_len = ap length c.chain-self.ensures.writes ∙ length-set _ _ _ ∙ length-set _ _ _ ∙ c.holder-w.ensures.uses.same_len ∙ a.same_len;
       base = a.base;
       procs = a.procs;
@@ -108,4 +79,4 @@ returns-clause-adds c =
 
 pub returns-clause-uses : goal.returns-clause-uses
 returns-clause-uses c =
-    omega (arith, c.put_bin-at.ensures.top, c.put_bin-at.ensures.low, c.holder-w.ensures.uses.moved, ap (λ z. z.top) c.room-room.ensures, c.requires.words)
+    omega (arith, c.put_bin-at.ensures.top, c.put_bin-at.ensures.low, c.holder-w.ensures.uses.moved, c.requires.words)

@@ -24,7 +24,7 @@ pub overflow_add-self : goal.overflow_add-self
 overflow_add-self c =
     let stay : ℕ → Bool = λ q. in_spans c.none-stay.result.spans.items q in
     let none : (q : ℕ) → stay q ≡ false = λ q. ap (λ z. in_spans z q) c.none-stay.ensures in
-    let order : c.copy_tree-copy.new.room.top ≤ c.args.self.now.low = omega (arith, c.copy_tree-copy.ensures.places.top_next, c.copy_tree-copy.ensures.end) in
+    let order : c.copy_tree-copy.new.room.top ≤ c.args.self.now.room.end = omega (arith, c.copy_tree-copy.ensures.places.top_next, c.copy_tree-copy.ensures.end) in
     omega (
       arith,
       c.len-len.ensures.most,

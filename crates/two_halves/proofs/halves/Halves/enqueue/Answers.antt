@@ -12,4 +12,4 @@ overflow_add-process c =
 pub returns : goal.returns
 returns c =
     queues c.args.self.now c.args.row c.args.w c.requires.can c.process-process.result.now c.process-process.ensures c.follow-first.new.mem c.set.new.self
-    (c.args.self.now.low - 2) c.follow-first.result refl c.follow-first.ensures c.set.ensures
+    (c.args.self.now.room.end - 2) c.follow-first.result refl c.follow-first.ensures c.set.ensures
