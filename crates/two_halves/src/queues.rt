@@ -9,7 +9,7 @@ use crate::table::Proc;
 use cheney::Stay;
 use object_rows::chain_row;
 use term_copy::copy_tree;
-use word_mem::{Room, WordMem};
+use word_mem::WordMem;
 
 impl Halves {
     /// Sends the term of this word to the process with this row: a copy of it is the last message of its queue.
@@ -28,14 +28,12 @@ impl Halves {
     {
         let _len = self.mem.len();
         let from = self.room.top;
-        let mut room = self.room;
         let stay = Stay::none();
-        let copy = copy_tree(&mut self.mem, &mut room, &stay, w);
-        self.room.top = room.top;
+        let copy = copy_tree(&mut self.mem, &mut self.room, &stay, w);
         if self.linked == 0 {
             return copy;
         }
-        let chained = chain_row(&mut self.mem, from, room.top, self.head);
+        let chained = chain_row(&mut self.mem, from, self.room.top, self.head);
         self.head = chained.head;
         self.linked += chained.count;
         copy

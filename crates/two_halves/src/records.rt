@@ -32,10 +32,8 @@ impl Halves {
     {
         let _len = self.mem.len();
         let at = self.put_bin(serial, len, byte);
-        let mut room = self.room;
-        let object = room.top;
-        let w = holder(&mut self.mem, &mut room, at, len, 0);
-        self.room.top = room.top;
+        let object = self.room.top;
+        let w = holder(&mut self.mem, &mut self.room, at, len, 0);
         self.head = chain(&mut self.mem, self.head, object);
         self.linked += 1;
         w
@@ -83,10 +81,8 @@ impl Halves {
     {
         let _len = self.mem.len();
         let rec = self.fun_record(name, arity);
-        let mut room = self.room;
-        let object = room.top;
-        let w = fun_thing(&mut self.mem, &mut room, rec, 0, arity, creator, env);
-        self.room.top = room.top;
+        let object = self.room.top;
+        let w = fun_thing(&mut self.mem, &mut self.room, rec, 0, arity, creator, env);
         self.head = chain(&mut self.mem, self.head, object);
         self.linked += 1;
         w

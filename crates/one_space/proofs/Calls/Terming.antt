@@ -90,7 +90,8 @@ module _ (b : One) (holds : Holds b) (seat : Seat) (x : Sits b seat) (n : ℕ) (
           omega (arith, places-row h.procs.items seat.row (with_term p r w made) p sits1.within is) in
           let o1 : OneStands (roomed b h) holds.state = roomed-there b holds n h ok room holds.state holds.stands in
           let laid : IsLaid (laid_out h mem2 z h.procs) =
-          rest-laid b.named h holds.state.shared holds.state.processes room.laid o1.processes mem2 z uses.same_len others (omega (arith, uses.moved)) (omega (arith, uses.moved, uses.same_end, few, term-fits))
+          rest-laid b.named h holds.state.shared holds.state.processes room.laid o1.processes mem2 z uses.same_len others (omega (arith, uses.moved))
+          (omega (arith, uses.moved, uses.same_end, few, term-fits))
           (omega (arith, uses.same_end)) uses.same_start in
           counts-same (roomed b h) (built_in b h2 row named) counts1
           (record { even = laid.even; side = laid.side; starts = laid.starts; front = laid.front; order = laid.order; fits = omega (arith, laid.fits, same) })
@@ -136,7 +137,8 @@ module _ (b : One) (holds : Holds b) (seat : Seat) (x : Sits b seat) (n : ℕ) (
         bare a k above below none e = elim (new-within a k e) [ inl old ↦ none k old | inr new ↦ omega (arith, new.1, above, uses.moved, few, term-fits) ]
 
         rows : ProcsStand built.test s.shared mem2 z.end (end_of h) named h.procs.items s.processes
-        rows = procs-on o1.processes.test built.test s.shared h.mem mem2 b.named named h.room.end z.end (end_of h) trees kept bare (omega (arith, uses.same_end)) h.procs.items s.processes o1.processes.processes
+        rows = procs-on o1.processes.test built.test s.shared h.mem mem2 b.named named h.room.end z.end (end_of h) trees kept bare (omega (arith, uses.same_end)) h.procs.items s.processes
+            o1.processes.processes
 
         set-rows : ProcsStand built.test s.shared mem2 z.end (end_of h) named (set h.procs.items seat.row (with_term p r w made)) (set s.processes seat.row (with_tree q r t refs))
         set-rows =
@@ -159,7 +161,8 @@ module _ (b : One) (holds : Holds b) (seat : Seat) (x : Sits b seat) (n : ℕ) (
             let limit : end_of h ≡ h.base + length mem2 / 2 = omega (arith, uses.same_len) in
             let P : ℕ → Type 0 = λ v. ProcsStand built.test s.shared mem2 z.end v named (set h.procs.items seat.row (with_term p r w made)) (set s.processes seat.row (with_tree q r t refs)) in
             halves-filled b.named named h s.shared s.processes (set s.processes seat.row (with_tree q r t refs)) room.laid o1.processes built.test (built.grows.single
-            o1.processes.single) mem2 z (with_item h.procs seat.row (with_term p r w made)) uses.same_len built.grows.more built.grows.objects new-within words-same (omega (arith, uses.moved)) (omega (arith, uses.same_end)) more
+            o1.processes.single) mem2 z (with_item h.procs seat.row (with_term p r w made)) uses.same_len built.grows.more built.grows.objects new-within words-same (omega (arith, uses.moved))
+            (omega (arith, uses.same_end)) more
             (subst P limit set-rows)
             (apart-same mem2 h.procs.items seat.row (with_term p r w made) p sits1.within is refl
             (apart-kept o1.processes.test s.shared h.mem mem2 h.room.end (end_of h) b.named h.procs.items s.processes kept o1.processes.processes o1.processes.apart))

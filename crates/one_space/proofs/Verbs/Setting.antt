@@ -269,7 +269,8 @@ module _ (b : One) (holds : Holds b) (seat : Seat) (x : Sits b seat) (r : Reg) (
 
         stop-counts : IsCounted (stopped_in b h mem2 row)
         stop-counts = counts-same (roomed b h) (stopped_in b h mem2 row) counts1
-            (rest-laid b.named h holds.state.shared holds.state.processes room.laid (o1 holds.state holds.stands).processes mem2 h.room leaves.same_len others (omega arith) room.laid.order (omega arith) refl)
+            (rest-laid b.named h holds.state.shared holds.state.processes room.laid (o1 holds.state holds.stands).processes mem2 h.room leaves.same_len others (omega arith) room.laid.order
+            (omega arith) refl)
             refl refl refl same_row refl (omega arith) refl counts1.made refl leaves.same_len refl refl refl
 
         pub set-stops : Builds {A = Unit {0}} names seat.pid r code b (stopped_in b h mem2 row) (Err (refusal_for e))

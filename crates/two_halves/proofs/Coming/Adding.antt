@@ -7,6 +7,7 @@ use Rattle.std.specs.List.{insert}
 use Rattle.std.specs.Result.{IsOk, is_ok}
 use Rattle.std.specs.Vec.{vec_capacity}
 use Rattle.std.specs.declared.alloc.Global.{Global}
+use Rattle.word_mem.specs.declared.ranges.Room.{Room}
 use Rattle.plain_term.specs.Bytes.{shared_bytes}
 use Rattle.plain_term.specs.Measures.{bin_words}
 use Rattle.plain_term.specs.Tree.{Tree}
@@ -40,12 +41,12 @@ use Rattle.two_halves.proofs.Standing.Apart.{apart-kept}
 use Rattle.two_halves.proofs.Standing.Joining.{Joins, in-drop, in-take, joins-end, joins-left, joins-middle, joins-right, naming-none}
 use Rattle.two_halves.proofs.Standing.Joining.{procs-on, record-above, rise-end, rise-middle, rise-pair, rise-same}
 
--- The half with other words, and other bounds and tables.
-abbrev pub filled : (h : Halves) → (mem : List ℕ) → (top low head linked : ℕ) → (bins funs : Vec ℕ Global) → Halves
-filled h mem top low head linked bins funs = record {
+-- The half with other words, and another room and tables.
+abbrev pub filled : (h : Halves) → (mem : List ℕ) → Room → (head linked : ℕ) → (bins funs : Vec ℕ Global) → Halves
+filled h mem room head linked bins funs = record {
   mem = mem;
   base = h.base;
-  room = record { start = h.room.start; top = top; end = low };
+  room = room;
   procs = h.procs;
   head = head;
   linked = linked;
@@ -263,7 +264,7 @@ module _ (named_below : ℕ) (h : Halves) (shared : List (List ℕ)) (qs : List 
         limit : end_of h ≡ h.base + length mem2 / 2
         limit = omega (arith, w.same_len)
 
-        pub nearly : Nearly named_below (filled h mem2 h.room.top at h.head h.linked bins2 h.funs) shared2 qs at
+        pub nearly : Nearly named_below (filled h mem2 (record h.room { end = at }) h.head h.linked bins2 h.funs) shared2 qs at
         nearly =
             let A : List ℕ → Type 0 = λ z. (u m : ℕ) → IsRecord d mem2 u m → In u (z ++ h.funs.items) in
             let O : List ℕ → Type 0 = λ z. Distinct (z ++ h.funs.items) in
@@ -333,7 +334,7 @@ module _ (named_below : ℕ) (h : Halves) (shared : List (List ℕ)) (qs : List 
         limit-fun : end_of h ≡ h.base + length mem2 / 2
         limit-fun = omega (arith, w.same_len)
 
-        pub nearly-fun : Nearly named_below (filled h mem2 h.room.top at h.head h.linked h.bins funs2) shared2 qs at
+        pub nearly-fun : Nearly named_below (filled h mem2 (record h.room { end = at }) h.head h.linked h.bins funs2) shared2 qs at
         nearly-fun =
             let A : List ℕ → Type 0 = λ z. (u m : ℕ) → IsRecord d mem2 u m → In u (h.bins.items ++ z) in
             let O : List ℕ → Type 0 = λ z. Distinct (h.bins.items ++ z) in
@@ -365,7 +366,8 @@ module _ (named_below : ℕ) (h : Halves) (shared : List (List ℕ)) (qs : List 
 
 -- The layout after that.
 pub laid-more : (h : Halves) (laid : IsLaid h) (n at : ℕ) → at + n ≡ h.room.end → h.room.top ≤ at → (mem2 : List ℕ) → length mem2 ≡ length h.mem → (bins2 funs2 : Vec ℕ Global)
-    → total (record_words mem2) (bins2.items ++ funs2.items) ≤ total (record_words h.mem) (h.bins.items ++ h.funs.items) + n → IsLaid (filled h mem2 h.room.top at h.head h.linked bins2 funs2)
+    → total (record_words mem2) (bins2.items ++ funs2.items) ≤ total (record_words h.mem) (h.bins.items ++ h.funs.items) + n
+    → IsLaid (filled h mem2 (record h.room { end = at }) h.head h.linked bins2 funs2)
 laid-more h laid n at next fits mem2 same bins2 funs2 words = record {
   even = omega (arith, same, laid.even);
   starts = laid.starts;
@@ -427,7 +429,7 @@ module _ (named_below : ℕ) (h : Halves) (shared : List (List ℕ)) (qs : List 
   abbrev bytes : List ℕ
   bytes = replicate len byte
 
-  pub bin-adds : (capacity : vec_capacity bins2 ≡ vec_capacity h.bins) → Adds h (filled h new h.room.top at h.head h.linked bins2 h.funs)
+  pub bin-adds : (capacity : vec_capacity bins2 ≡ vec_capacity h.bins) → Adds h (filled h new (record h.room { end = at }) h.head h.linked bins2 h.funs)
   bin-adds capacity =
       let P : List ℕ → Type 0 = λ z. total (record_words new) (z ++ h.funs.items) ≤ total (record_words h.mem) (h.bins.items ++ h.funs.items) + n in
       let words : total (record_words new) ((h.bins.items ++ at ∷ []) ++ h.funs.items) ≤ total (record_words h.mem) (h.bins.items ++ h.funs.items) + n =
@@ -442,7 +444,7 @@ module _ (named_below : ℕ) (h : Halves) (shared : List (List ℕ)) (qs : List 
         sweeps = refl;
       }
 
-  pub has-bin : serial ≡ length shared + 1 → HasBin named_below (filled h new h.room.top at h.head h.linked bins2 h.funs) (shared ++ bytes ∷ []) qs at serial bytes
+  pub has-bin : serial ≡ length shared + 1 → HasBin named_below (filled h new (record h.room { end = at }) h.head h.linked bins2 h.funs) (shared ++ bytes ∷ []) qs at serial bytes
   unfolding nearly
   has-bin last =
       let t = taken named_below h shared qs x laid n at next (omega arith) fits new w.writes in
@@ -501,7 +503,7 @@ module _ (named_below : ℕ) (h : Halves) (shared : List (List ℕ)) (qs : List 
               which : (b ≡ a) ⊎ ((a < b) ⊎ (b < a))
               which = grind arith
 
-  pub fun-adds : vec_capacity funs2 ≡ vec_capacity h.funs → Adds h (filled h new h.room.top at h.head h.linked h.bins funs2)
+  pub fun-adds : vec_capacity funs2 ≡ vec_capacity h.funs → Adds h (filled h new (record h.room { end = at }) h.head h.linked h.bins funs2)
   fun-adds capacity =
       let P : List ℕ → Type 0 = λ z. total (record_words new) (h.bins.items ++ z) ≤ total (record_words h.mem) (h.bins.items ++ h.funs.items) + 4 in
       let header : get_or new at 0 ≡ record_word FUN_RECORD 4 = lie.each 0 at (omega arith) (omega arith) in
@@ -517,7 +519,7 @@ module _ (named_below : ℕ) (h : Halves) (shared : List (List ℕ)) (qs : List 
         sweeps = refl;
       }
 
-  pub has-fun : name < named_below → arity ≤ 255 → HasFun named_below h (filled h new h.room.top at h.head h.linked h.bins funs2) shared qs at name arity x.test
+  pub has-fun : name < named_below → arity ≤ 255 → HasFun named_below h (filled h new (record h.room { end = at }) h.head h.linked h.bins funs2) shared qs at name arity x.test
   unfolding nearly-fun
   has-fun small few =
       let t = taken named_below h shared qs x laid 4 at next (omega arith) fits new writes in

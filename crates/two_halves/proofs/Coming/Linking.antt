@@ -62,11 +62,11 @@ module _ (named_below : ℕ) (h : Halves) (shared : List (List ℕ)) (qs : List 
   above3 : (a j : ℕ) → h.room.end ≤ a → e a j ≡ true → y.test a j ≡ true
   above3 a j above t = elim (grows.within a j t) [ inl old ↦ old | inr inside ↦ absurd (omega (arith, above, inside, fits)) ]
 
-  lie3 : (a j : ℕ) → e a j ≡ true → ((front_of h ≤ a) × ((a < room2.top) × OfObject j)) ⊎ ((h.room.end ≤ a) × ((a < end_of h) × OfRecord j))
+  lie3 : (a j : ℕ) → e a j ≡ true → ((front_of h ≤ a) × ((a < room2.top) × OfObject j)) ⊎ ((room2.end ≤ a) × ((a < end_of h) × OfRecord j))
   lie3 a j t = elim (grows.within a j t) [
-    | inl old ↦ (elim (y.lie a j old) [ inl o ↦ inl (o.0, (omega (arith, o.1.0, uses.moved), o.1.1)) | inr r ↦ inr r ])
+    | inl old ↦ (elim (y.lie a j old) [ inl o ↦ inl (o.0, (omega (arith, o.1.0, uses.moved), o.1.1)) | inr r ↦ inr (omega (arith, r.0, uses.same_end), r.1) ])
     | inr inside ↦ (elim (grows.objects a j t) [
-      | inl old ↦ (elim (y.lie a j old) [ inl o ↦ inl (o.0, (omega (arith, o.1.0, uses.moved), o.1.1)) | inr r ↦ inr r ])
+      | inl old ↦ (elim (y.lie a j old) [ inl o ↦ inl (o.0, (omega (arith, o.1.0, uses.moved), o.1.1)) | inr r ↦ inr (omega (arith, r.0, uses.same_end), r.1) ])
       | inr of ↦ inl (omega (arith, inside, laid.front), (omega (arith, inside, uses.moved), of))
     ])
   ]
@@ -181,8 +181,9 @@ module _ (named_below : ℕ) (h : Halves) (shared : List (List ℕ)) (qs : List 
         (λ c. omega (arith, c, above, fits, six))
         ∙ other q (inr (omega (arith, above, fits)))
 
-    processes4 : ProcsStand e shared mem4 h.room.end (end_of h) named_below h.procs.items qs
-    processes4 = procs-on y.test e shared shared h.mem mem4 named_below h.room.end h.room.end (end_of h) trees4 same4 (λ q j above below none t. none j (above3 q j above t)) (omega arith)
+    processes4 : ProcsStand e shared mem4 room2.end (end_of h) named_below h.procs.items qs
+    processes4 = procs-on y.test e shared shared h.mem mem4 named_below h.room.end room2.end (end_of h) trees4 same4 (λ q j above below none t. none j (above3 q j above t))
+        (omega (arith, uses.same_end))
         h.procs.items qs y.processes
 
     apart4 : AreApart (all_places mem4 h.procs.items)
@@ -199,12 +200,12 @@ module _ (named_below : ℕ) (h : Halves) (shared : List (List ℕ)) (qs : List 
     limit4 = omega (arith, len4)
 
     abbrev pub linked : Halves
-    linked = filled h mem4 room2.top h.room.end hd (h.linked + 1) h.bins h.funs
+    linked = filled h mem4 room2 hd (h.linked + 1) h.bins h.funs
 
     pub stands4 : HalvesStand named_below linked shared qs
     stands4 =
-        let L : ℕ → Type 0 = λ z. (a j : ℕ) → e a j ≡ true → ((front_of h ≤ a) × ((a < room2.top) × OfObject j)) ⊎ ((h.room.end ≤ a) × ((a < z) × OfRecord j)) in
-        let P : ℕ → Type 0 = λ z. ProcsStand e shared mem4 h.room.end z named_below h.procs.items qs in
+        let L : ℕ → Type 0 = λ z. (a j : ℕ) → e a j ≡ true → ((front_of h ≤ a) × ((a < room2.top) × OfObject j)) ⊎ ((room2.end ≤ a) × ((a < z) × OfRecord j)) in
+        let P : ℕ → Type 0 = λ z. ProcsStand e shared mem4 room2.end z named_below h.procs.items qs in
         record {
           test = e;
           single = single3;
@@ -237,13 +238,14 @@ module _ (named_below : ℕ) (h : Halves) (shared : List (List ℕ)) (qs : List 
     pub linked-laid : IsLaid linked
     linked-laid = record {
       even = omega (arith, len4, laid.even);
-      starts = laid.starts;
+      starts = uses.same_start ∙ laid.starts;
       side = elim laid.side [ inl c ↦ inl c | inr c ↦ inr (omega (arith, c, len4)) ];
       front = omega (arith, laid.front, uses.moved);
-      order = omega (arith, fits, uses.moved);
+      order = omega (arith, fits, uses.moved, uses.same_end);
       fits = omega (
         arith,
         laid.fits,
+        uses.same_end,
         len4,
         total-same (record_words mem4) (record_words h.mem) (h.bins.items ++ h.funs.items) (λ u i. word4 u (first4 u i)),
       );
@@ -299,12 +301,12 @@ module _ (named_below : ℕ) (h : Halves) (shared : List (List ℕ)) (qs : List 
         (links3 named_below h shared qs v y laid 6 (omega arith) fits room2 mem3 uses new-holder.test new-holder.grows holder-there names) holder-there
         (fresh named_below h shared qs v y laid 6 (omega arith) fits room2 mem3 uses new-holder.test new-holder.grows holder-there names)
 
-    pub holder-gets : Gets named_below (filled h mem4 room2.top h.room.end hd (h.linked + 1) h.bins h.funs) shared qs w (Shared serial)
+    pub holder-gets : Gets named_below (filled h mem4 room2 hd (h.linked + 1) h.bins h.funs) shared qs w (Shared serial)
     holder-gets =
         gets named_below h shared qs v y laid 6 (omega arith) fits room2 mem3 uses new-holder.test new-holder.grows holder-there names mem4 written-there hd links-there w (Shared serial)
         new-holder.made
 
-    pub holder-laid : IsLaid (filled h mem4 room2.top h.room.end hd (h.linked + 1) h.bins h.funs)
+    pub holder-laid : IsLaid (filled h mem4 room2 hd (h.linked + 1) h.bins h.funs)
     holder-laid = linked-laid named_below h shared qs v y laid 6 (omega arith) fits room2 mem3 uses new-holder.test new-holder.grows holder-there names mem4 written-there hd links-there
 
 -- The word of a fun names its record.
@@ -352,7 +354,7 @@ module _ (named_below : ℕ) (old h : Halves) (shared : List (List ℕ)) (qs : L
         (links3 named_below h shared qs v y laid (6 + length env) (omega arith) fits room2 mem3 uses new-fun.test new-fun.grows fun-there fun-names) fun-there
         (fresh named_below h shared qs v y laid (6 + length env) (omega arith) fits room2 mem3 uses new-fun.test new-fun.grows fun-there fun-names)
 
-    pub fun-gets : Gets named_below (filled h mem4 room2.top h.room.end hd (h.linked + 1) h.bins h.funs) shared qs w (Fun name arity creator ts)
+    pub fun-gets : Gets named_below (filled h mem4 room2 hd (h.linked + 1) h.bins h.funs) shared qs w (Fun name arity creator ts)
     fun-gets =
         gets named_below h shared qs v y laid (6 + length env) (omega arith) fits room2 mem3 uses new-fun.test new-fun.grows fun-there fun-names mem4 fun-written hd fun-links w
         (Fun name arity creator ts) new-fun.made
@@ -404,15 +406,15 @@ module _ (named_below : ℕ) (h : Halves) (shared : List (List ℕ)) (qs : List 
       ap (λ z. z / 16) (subst P (sym written) (get_or-set_other (set mem3 (v + 2) (get_or mem3 (v + 2) 0 + 1)) (h.room.top + 2) u h.head 0 (λ c. omega (arith, c, above, fits, six))
       ∙ get_or-set_other mem3 (v + 2) u (get_or mem3 (v + 2) 0 + 1) 0 (not-count u t)) ∙ uses.others u (inr (omega (arith, above, fits))))
 
-  pub laid-after : IsLaid (filled h mem4 room2.top h.room.end hd (h.linked + 1) h.bins h.funs)
+  pub laid-after : IsLaid (filled h mem4 room2 hd (h.linked + 1) h.bins h.funs)
   laid-after =
       let len : length mem4 ≡ length h.mem =
       ap length written ∙ length-set (set mem3 (v + 2) (get_or mem3 (v + 2) 0 + 1)) (h.room.top + 2) h.head ∙ length-set mem3 (v + 2) (get_or mem3 (v + 2) 0 + 1) ∙ uses.same_len in
       record {
         even = omega (arith, len, laid.even);
-        starts = laid.starts;
+        starts = uses.same_start ∙ laid.starts;
         side = elim laid.side [ inl c ↦ inl c | inr c ↦ inr (omega (arith, c, len)) ];
         front = omega (arith, laid.front, uses.moved);
-        order = omega (arith, fits, uses.moved);
-        fits = omega (arith, laid.fits, len, total-same (record_words mem4) (record_words h.mem) (h.bins.items ++ h.funs.items) word-same);
+        order = omega (arith, fits, uses.moved, uses.same_end);
+        fits = omega (arith, laid.fits, uses.same_end, len, total-same (record_words mem4) (record_words h.mem) (h.bins.items ++ h.funs.items) word-same);
       }

@@ -1,5 +1,6 @@
 -- A copy of a term comes into a half, and its holders and funs into the chain.
 use Rattle.std.proofs.Common.{◌≡◌, ℕ, ◌+◌, ◌-◌, ◌^◌, ◌/◌, ◌<◌, ◌≤◌, ◌⊎◌, Bool, true, false, true≢false, List, [], ◌∷◌, ◌++◌, length, get_or, refl, sym, ◌∙◌, ap, subst, arith, inl, inr}
+use Rattle.word_mem.specs.declared.ranges.Room.{Room}
 use Rattle.plain_term.specs.Bytes.{shared_bytes}
 use Rattle.plain_term.specs.Measures.{flat}
 use Rattle.plain_term.specs.Tree.{Tree}
@@ -40,6 +41,10 @@ use Rattle.two_halves.proofs.Standing.Joining.{procs-on, rise-same}
 -- What a copy in a half is given: its free words, in which nothing stays.
 abbrev pub task_of : (h : Halves) → (stay : ℕ → Bool) → (c : ℕ → ℕ → Bool) → (shared : List (List ℕ)) → (w : ℕ) → Tree → Task
 task_of h stay c shared w t = record { start = h.mem; top = h.room.top; limit = h.room.end; stay = stay; test = c; shared = shared; word = w; tree = t }
+
+-- A room of which only the first free place changed.
+pub top-alone : (r z : Room) → z.start ≡ r.start → z.end ≡ r.end → record r { top = z.top } ≡ z
+top-alone r z begins ends = ap (λ u. record { start = u; top = z.top; end = r.end }) (sym begins) ∙ ap (λ u. record { start = z.start; top = z.top; end = u }) (sym ends)
 
 -- A chain has fewer objects than its half has words, and so no count is greater.
 
@@ -216,7 +221,7 @@ module _ (named : ℕ) (h : Halves) (shared : List (List ℕ)) (qs : List Proces
 
     -- The half with the copy.
     abbrev pub copied : Halves
-    copied = filled h mem2 top2 h.room.end hd n h.bins h.funs
+    copied = filled h mem2 (record h.room { top = top2 }) hd n h.bins h.funs
 
     stands2 : HalvesStand named copied shared qs
     stands2 =
@@ -345,13 +350,13 @@ module _ (h : Halves) (w : ℕ) (r : CanCopyIn h w) where
         stays-in p (inl i) = absurd (no-new p i)
         stays-in p (inr i) = i
 
-        pub plain-copy : HasCopy named h (filled h mem1 top2 h.room.end h.head h.linked h.bins h.funs) shared qs x result t
+        pub plain-copy : HasCopy named h (filled h mem1 (record h.room { top = top2 }) h.head h.linked h.bins h.funs) shared qs x result t
         plain-copy = has-copy named h shared qs r.laid x stay none w t mem1 top2 result z order mem1 h.head h.linked x.chained refl (λ q free. refl) links-there x.linked comes stays-in
 
-        pub plain-laid : IsLaid (filled h mem1 top2 h.room.end h.head h.linked h.bins h.funs)
+        pub plain-laid : IsLaid (filled h mem1 (record h.room { top = top2 }) h.head h.linked h.bins h.funs)
         plain-laid = copied-laid named h shared qs r.laid x stay none w t mem1 top2 result z order mem1 h.head h.linked x.chained refl (λ q free. refl) links-there x.linked comes stays-in
 
-      pub copies-plain : CopiesIn h (filled h mem1 top2 h.room.end h.head h.linked h.bins h.funs) w result
+      pub copies-plain : CopiesIn h (filled h mem1 (record h.room { top = top2 }) h.head h.linked h.bins h.funs) w result
       copies-plain = record {
         laid = plain-laid r.named r.shared r.processes r.stands r.tree r.made;
         same_len = some-copy.same_len;
@@ -382,11 +387,11 @@ module _ (h : Halves) (w : ℕ) (r : CanCopyIn h w) where
         number-there : length (turned news x.chained) ≡ h.linked + chained.count
         number-there = omega (arith, turned-length news x.chained, x.linked, chains.count)
 
-        pub chained-copy : HasCopy named h (filled h mem2 top2 h.room.end chained.head (h.linked + chained.count) h.bins h.funs) shared qs x result t
+        pub chained-copy : HasCopy named h (filled h mem2 (record h.room { top = top2 }) chained.head (h.linked + chained.count) h.bins h.funs) shared qs x result t
         chained-copy = has-copy named h shared qs r.laid x stay none w t mem1 top2 result y order mem2 chained.head (h.linked + chained.count) (turned news x.chained) chains.same_len chains.others
             links-chained number-there (turned-in news x.chained) (in-turned news x.chained)
 
-        pub chained-laid : IsLaid (filled h mem2 top2 h.room.end chained.head (h.linked + chained.count) h.bins h.funs)
+        pub chained-laid : IsLaid (filled h mem2 (record h.room { top = top2 }) chained.head (h.linked + chained.count) h.bins h.funs)
         chained-laid = copied-laid named h shared qs r.laid x stay none w t mem1 top2 result y order mem2 chained.head (h.linked + chained.count) (turned news x.chained) chains.same_len
             chains.others links-chained number-there (turned-in news x.chained) (in-turned news x.chained)
 
@@ -403,7 +408,7 @@ module _ (h : Halves) (w : ℕ) (r : CanCopyIn h w) where
         chained-len r.named r.shared r.processes r.stands r.tree r.made,
       )
 
-      pub copies-chained : CopiesIn h (filled h mem2 top2 h.room.end chained.head (h.linked + chained.count) h.bins h.funs) w result
+      pub copies-chained : CopiesIn h (filled h mem2 (record h.room { top = top2 }) chained.head (h.linked + chained.count) h.bins h.funs) w result
       copies-chained = record {
         laid = chained-laid r.named r.shared r.processes r.stands r.tree r.made;
         same_len = chained-len r.named r.shared r.processes r.stands r.tree r.made;
