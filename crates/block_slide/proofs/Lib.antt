@@ -1,3 +1,4 @@
 pub mod Parting
 pub mod Placed
 pub mod Standing
+pub mod Linking

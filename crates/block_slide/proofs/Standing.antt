@@ -13,7 +13,7 @@ use Rattle.word_shift.specs.Shifted.{ObjectShifted}
 use Rattle.word_shift.specs.Slides.{MovesWhole, Slides}
 use Rattle.word_shift.proofs.Apart.{Within, within-row}
 use Rattle.block_slide.specs.Down.{packed_place, is_in_use, packed_test}
-use Rattle.block_slide.specs.Held.{BlocksSlid, IsBehind, IsInRow, ReachHeld, RolesHeld}
+use Rattle.block_slide.specs.Held.{BlocksSlid, IsBehind, IsOfRow, ReachHeld, RolesHeld}
 use Rattle.block_slide.specs.Parts.{nth_part, span_of, AreParts, LiesInUse, PartDone, SlidParts}
 use Rattle.block_slide.specs.declared.parts.Part.{Part}
 use Rattle.block_slide.specs.declared.parts.Part.TheVariants.{Objects}
@@ -64,6 +64,12 @@ module _ (old new : List ℕ) (xs : List Part) (blocked : Blocked old) (parts : 
   place-inside p a used low high =
       omega (arith, place-of old blocked p a used low (omega (arith, high)), high, (block-within old p blocked used.begins).to, s.packed.same_len, s.headers.same_len)
 
+  pub used-moved : (a : ℕ) → is_in_use old a ≡ true → get_or new (packed_place old a) 0 ≡ get_or s.mid a 0
+  used-moved a t = (let x : InBlock old a = in-block old a t in word-moved x.block a x.used x.from x.below)
+
+  pub used-inside : (a : ℕ) → is_in_use old a ≡ true → packed_place old a < length new
+  used-inside a t = (let x : InBlock old a = in-block old a t in place-inside x.block a x.used x.from x.below)
+
   -- A word of the front of a block is in no part.
   front-kept : (p a : ℕ) → IsUsed old p → p ≤ a → a < p + 2 → a < p + size_at old p → get_or s.mid a 0 ≡ get_or old a 0
   front-kept p a used low near high = s.shifted.others a (λ i below inside.
@@ -112,7 +118,7 @@ module _ (old new : List ℕ) (xs : List Part) (blocked : Blocked old) (parts : 
   }
 
   -- An object in a row was relocated, and is whole in a block in use.
-  module _ (w : ℕ) (r : IsInRow old xs w) where
+  module _ (w : ℕ) (r : IsOfRow old xs w) where
     row-lies : LiesInUse old (Objects r.span)
     row-lies = (let P : Part → Type 0 = λ x. LiesInUse old x in subst P r.is (parts.each r.part r.listed))
 
@@ -143,8 +149,8 @@ module _ (old new : List ℕ) (xs : List Part) (blocked : Blocked old) (parts : 
       kept = λ v n q named is low high. (let (k, (of, role)) = record-role c old v n q is low high in record-kept q k role of);
       records = λ v n named is. record-whole v n is;
       words = record {
-        inside = λ a t. (let x : InBlock old a = in-block old a t in place-inside x.block a x.used x.from x.below);
-        moved = λ a t. (let x : InBlock old a = in-block old a t in word-moved x.block a x.used x.from x.below);
+        inside = used-inside;
+        moved = used-moved;
         roles = λ a k t role. roles-come c old a k blocked t role;
       };
     }

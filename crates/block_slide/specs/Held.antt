@@ -26,7 +26,7 @@ pub record RolesHeld (c : ℕ → ℕ → Bool) (mem : List ℕ) (xs : List Part
   pub apart : (a k : ℕ) → c a k ≡ true → OfRecord k → (i : ℕ) → i < length xs → (a < (span_of (nth_part xs i)).start) ⊎ ((span_of (nth_part xs i)).end ≤ a)
 
 -- The pointer names an object of a row that is one of the parts.
-pub record IsInRow (mem : List ℕ) (xs : List Part) (w : ℕ) : Type 0 where
+pub record IsOfRow (mem : List ℕ) (xs : List Part) (w : ℕ) : Type 0 where
   pub part : ℕ
   pub listed : part < length xs
   pub span : Span
@@ -37,12 +37,12 @@ pub record IsInRow (mem : List ℕ) (xs : List Part) (w : ℕ) : Type 0 where
 
 -- Each object that the roots reach is in a row that is one of the parts.
 pub record ReachHeld (mem roots : List ℕ) (xs : List Part) : Type 0 where
-  pub objects : (w : ℕ) → Reach mem roots w → IsPointer w → IsInRow mem xs w
+  pub objects : (w : ℕ) → Reach mem roots w → IsPointer w → IsOfRow mem xs w
 
 -- Each of these holders and funs can be chained, is in a row that is one of the parts, and no word of it names but the one for that.
 pub record LinksHeld (c : ℕ → ℕ → Bool) (mem : List ℕ) (xs : List Part) (ps : List ℕ) : Type 0 where
   pub links : (p : ℕ) → In p ps → IsLink c mem p
-  pub rows : (p : ℕ) → In p ps → IsInRow mem xs (p * 4 + 2)
+  pub rows : (p : ℕ) → In p ps → IsOfRow mem xs (p * 4 + 2)
   pub only : (p q : ℕ) → In p ps → p ≤ q → q < p + 6 → c q NAMES ≡ true → q ≡ name_place mem p
 
 -- The blocks in use stand at the new places, in their order and with their sizes, kinds and owners, and no other; all behind them is

@@ -1,8 +1,12 @@
 // What stands after a slide: each law is the contract of a function that does nothing.
-ghost use Rattle.std.specs.Prelude.{◌≡◌, ℕ, ◌+◌, ◌≤◌, Bool, true, List, map};
+ghost use Rattle.std.specs.Prelude.{◌≡◌, ℕ, ◌+◌, ◌≤◌, Bool, true, List, ◌++◌, map};
 ghost use Rattle.plain_term.specs.Tree.{Trees};
 ghost use Rattle.term_words.specs.Role.{IsSingle};
 ghost use Rattle.term_words.specs.Stands.{AllStand};
+ghost use Rattle.off_heap_list.specs.Elsewhere.{LinksMoved, AreChainsTo};
+ghost use Rattle.off_heap_list.specs.Exact.{OwnChain, objects_of};
+ghost use Rattle.off_heap_list.specs.Links.{Links};
+ghost use Rattle.off_heap_list.specs.Several.{ManyLinks};
 ghost use Rattle.term_words.specs.Relocated.{Relocated};
 ghost use Rattle.word_arena.specs.Blocks.{size_at, Blocked, IsUsed};
 ghost use Rattle.word_arena.specs.Shifts.{IsSummed};
@@ -10,7 +14,7 @@ ghost use Rattle.word_arena.specs.declared.shifts.Shifts.{Shifts};
 ghost use Rattle.word_shift.specs.Shifted.{word_image, FitsBeside};
 ghost use Rattle.word_shift.specs.Slides.{RolesMoved, Slides};
 ghost use Rattle.block_slide.specs.Down.{packed_place, is_in_use, packed_test};
-ghost use Rattle.block_slide.specs.Held.{BlocksSlid, ReachHeld, RolesHeld};
+ghost use Rattle.block_slide.specs.Held.{BlocksSlid, LinksHeld, ReachHeld, RolesHeld};
 ghost use Rattle.block_slide.specs.Parts.{AreParts, SlidParts};
 ghost use Rattle.block_slide.specs.declared.parts.Part.{Part};
 
@@ -22,7 +26,8 @@ pub fn sums_fit_inside_blocks()
 
 /// No two places of blocks in use come to one, so a test of one role a place is one where the words have come to.
 pub fn packed_places_differ()
-    ensures places { (mem : List ℕ) (a b : ℕ) → Blocked mem → is_in_use mem a ≡ true → is_in_use mem b ≡ true → packed_place mem a ≡ packed_place mem b → a ≡ b }
+    ensures places { (mem : List ℕ) (a b : ℕ) → Blocked mem → is_in_use mem a ≡ true → is_in_use mem b ≡ true → packed_place mem a ≡ packed_place mem b
+        → a ≡ b }
     ensures roles { (c : ℕ → ℕ → Bool) (mem : List ℕ) → Blocked mem → RolesMoved (packed_place mem) (is_in_use mem) c (packed_test c mem) }
     ensures single { (c : ℕ → ℕ → Bool) (mem : List ℕ) → Blocked mem → IsSingle c → IsSingle (packed_test c mem) }
 {}
@@ -42,4 +47,17 @@ pub fn slid_parts_stand()
     ensures roots { (c : ℕ → ℕ → Bool) (shared : List (List ℕ)) (old new roots : List ℕ) (ts : Trees) (xs : List Part) → SlidParts old new xs → Blocked old
         → AreParts old xs → RolesHeld c old xs → ReachHeld old roots xs → IsSingle c → AllStand c shared old roots ts
         → AllStand (packed_test c old) shared new (map (word_image (packed_place old)) roots) ts }
+{}
+
+/// After a slide each chain is a chain at the new places, and each record's count is the number of objects that name it.
+pub fn slid_chains_stand()
+    ensures moved { (c : ℕ → ℕ → Bool) (old new ps : List ℕ) (xs : List Part) → SlidParts old new xs → Blocked old → AreParts old xs → IsSingle c
+        → RolesHeld c old xs → LinksHeld c old xs ps → LinksMoved (packed_place old) c (packed_test c old) old new ps }
+    ensures one { (c : ℕ → ℕ → Bool) (old new : List ℕ) (head : ℕ) (os further : List ℕ) (xs : List Part) → SlidParts old new xs → Blocked old → AreParts old xs
+        → IsSingle c → RolesHeld c old xs → LinksHeld c old xs (os ++ further) → Links c old head os further
+        → Links (packed_test c old) new (packed_place old head) (map (packed_place old) os) (map (packed_place old) further) }
+    ensures several { (c : ℕ → ℕ → Bool) (old new : List ℕ) (chains slid : List OwnChain) (further : List ℕ) (xs : List Part) → SlidParts old new xs
+        → Blocked old → AreParts old xs → IsSingle c → RolesHeld c old xs → LinksHeld c old xs (objects_of chains ++ further)
+        → ManyLinks c old chains further → AreChainsTo (packed_place old) chains slid
+        → ManyLinks (packed_test c old) new slid (map (packed_place old) further) }
 {}

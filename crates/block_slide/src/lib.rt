@@ -7,7 +7,10 @@ mod passes;
 mod places;
 mod relocating;
 
-pub use laws::{packed_places_differ, slid_blocks_stay, slid_parts_stand, sums_fit_inside_blocks};
+pub use laws::{
+    packed_places_differ, slid_blocks_stay, slid_chains_stand, slid_parts_stand,
+    sums_fit_inside_blocks,
+};
 pub use parts::Part;
 pub use passes::slide;
 pub use places::PackedPlaces;

@@ -18,10 +18,9 @@ impl<'a> Places for PackedPlaces<'a> {
     ghost fits = { λ s mem. IsSummed mem s.shifts.now };
 
     fn place(&self, mem: &WordMem, at: u64) -> u64 {
-        if at <= mem.len() {
-            at.saturating_sub(self.shifts.before(mem, at))
-        } else {
-            at
+        if at > mem.len() {
+            return at;
         }
+        at.saturating_sub(self.shifts.before(mem, at))
     }
 }

@@ -86,7 +86,7 @@ boxed-layout mem w y (inl (t, h)) zero-tag = absurd (h zero-tag)
 boxed-layout mem w y (inr (inl (t, le))) zero-tag = (t, le)
 boxed-layout mem w y (inr (inr (t, h))) zero-tag = absurd (omega (arith, t, y))
 
-traced-boxed : (mem : List ℕ) (w : ℕ) (l : Layout) → w % 4 ≡ 2 → layout_for (get_or mem (w / 4) 0) ≡ Some l → first_traced mem w ≡ l.first
+pub traced-boxed : (mem : List ℕ) (w : ℕ) (l : Layout) → w % 4 ≡ 2 → layout_for (get_or mem (w / 4) 0) ≡ Some l → first_traced mem w ≡ l.first
 traced-boxed mem w l t e =
     let boxed : (w % 4 == 1) ≡ false = grind (arith, nat_tests, t) in
     rw boxed (ap (λ o. first_of o (1 + get_or mem (w / 4) 0 / 64)) e)

@@ -14,7 +14,7 @@ use Rattle.object_rows.specs.Row.{is_link, is_link_header}
 link-kind : (w h : ℕ) → ((w % 4 == 2) && is_link_header h) ≡ true → (w % 4 ≡ 2) × ((h / 4 % 16 ≡ 8) ⊎ (h / 4 % 16 ≡ 5))
 link-kind w h e = (grind (arith, nat_tests, e), grind (arith, nat_tests, e))
 
-link-is : (w h : ℕ) → w % 4 ≡ 2 → (h / 4 % 16 ≡ 8) ⊎ (h / 4 % 16 ≡ 5) → ((w % 4 == 2) && is_link_header h) ≡ true
+pub link-is : (w h : ℕ) → w % 4 ≡ 2 → (h / 4 % 16 ≡ 8) ⊎ (h / 4 % 16 ≡ 5) → ((w % 4 == 2) && is_link_header h) ≡ true
 link-is w h t k = grind (arith, nat_tests, t, k)
 
 name-three : (mem : List ℕ) (p : ℕ) → get_or mem p 0 ≡ 352 → name_place mem p ≡ p + 3

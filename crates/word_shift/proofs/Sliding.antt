@@ -29,7 +29,7 @@ image-pointer g w y =
 parts-of : (x w v : ℕ) → v ≡ x * 4 + w % 4 → (v % 4 ≡ w % 4) × (v / 4 ≡ x)
 parts-of x w v e = (omega (arith, e), omega (arith, e))
 
-below-or : (q a : ℕ) → (q ≡ a) ⊎ ((q < a) ⊎ (a < q))
+pub below-or : (q a : ℕ) → (q ≡ a) ⊎ ((q < a) ⊎ (a < q))
 below-or q a = grind arith
 
 module _ (g : ℕ → ℕ) (used : ℕ → Bool) (c d : ℕ → ℕ → Bool) (old mid new roots : List ℕ) (single : IsSingle c) (s : Slides g used c d old mid new roots) where
