@@ -45,12 +45,12 @@ header-of-link : (mem : List ℕ) (w : ℕ) → IsLinkHeader (get_or mem (w / 4)
 header-of-link mem w is = link-is 2 (get_or mem (w / 4) 0) (omega arith) (header-kind (get_or mem (w / 4) 0) is)
 
 -- An object of a row is a tile.
-row-tile : (mem : List ℕ) (from to : ℕ) (ws : List ℕ) → Tiled mem from ws to → (w : ℕ) → In w ws → IsTile mem w
+pub row-tile : (mem : List ℕ) (from to : ℕ) (ws : List ℕ) → Tiled mem from ws to → (w : ℕ) → In w ws → IsTile mem w
 row-tile mem from to [] row w i = absurd i
 row-tile mem from to (v ∷ vs) (place, tile, rest) w (inl e) = (let P : ℕ → Type 0 = λ x. IsTile mem x in subst P (sym e) tile)
 row-tile mem from to (v ∷ vs) (place, tile, rest) w (inr i) = row-tile mem (from + tile_words mem v) to vs rest w i
 
-tile-layout : (mem : List ℕ) (w : ℕ) → w % 4 ≡ 2 → IsTile mem w → (l : Layout) × (layout_for (get_or mem (w / 4) 0) ≡ Some l)
+pub tile-layout : (mem : List ℕ) (w : ℕ) → w % 4 ≡ 2 → IsTile mem w → (l : Layout) × (layout_for (get_or mem (w / 4) 0) ≡ Some l)
 tile-layout mem w tag (inl (t, h)) = absurd (omega (arith, tag, t))
 tile-layout mem w tag (inr (inl (t, le))) = le
 tile-layout mem w tag (inr (inr (t, h))) = absurd (omega (arith, tag, t))

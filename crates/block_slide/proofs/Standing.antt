@@ -9,14 +9,15 @@ use Rattle.word_arena.proofs.Laid.Lent.{lent-began}
 use Rattle.term_words.specs.Role.{OfRecord}
 use Rattle.term_words.specs.Object.{IsRecord, object_words}
 use Rattle.term_words.proofs.Placing.Roles.{record-role, record-some}
-use Rattle.word_shift.specs.Shifted.{ObjectShifted}
+use Rattle.word_mem.specs.declared.ranges.Span.{Span}
+use Rattle.word_shift.specs.Shifted.{word_image, ObjectShifted}
 use Rattle.word_shift.specs.Slides.{MovesWhole, Slides}
 use Rattle.word_shift.proofs.Apart.{Within, within-row}
 use Rattle.block_slide.specs.Down.{packed_place, is_in_use, packed_test}
 use Rattle.block_slide.specs.Held.{BlocksSlid, IsBehind, IsOfRow, ReachHeld, RolesHeld}
 use Rattle.block_slide.specs.Parts.{nth_part, span_of, AreParts, LiesInUse, PartDone, SlidParts}
 use Rattle.block_slide.specs.declared.parts.Part.{Part}
-use Rattle.block_slide.specs.declared.parts.Part.TheVariants.{Objects}
+use Rattle.block_slide.specs.declared.parts.Part.TheVariants.{Objects, Words, Links}
 use Rattle.block_slide.proofs.Parting.{used-on}
 use Rattle.block_slide.proofs.Placed.{InBlock, in-block, in-use, one-shift, place-of, roles-come}
 
@@ -44,6 +45,14 @@ one-block mem v (suc m) blocked each =
       ]
     ] in
     record { block = o.block; used = o.used; from = o.from; to = high }
+
+-- The words of a part, and its end, move by one shift.
+pub part-shift : (old : List ℕ) (xs : List Part) (i q : ℕ) → Blocked old → AreParts old xs → i < length xs → (span_of (nth_part xs i)).start ≤ q → q ≤ (span_of (nth_part xs i)).end
+    → packed_place old q ≡ packed_place old (span_of (nth_part xs i)).start + (q - (span_of (nth_part xs i)).start)
+part-shift old xs i q blocked parts listed low high =
+    let lies : LiesInUse old (nth_part xs i) = parts.each i listed in
+    one-shift old blocked lies.block (span_of (nth_part xs i)).start q (q - (span_of (nth_part xs i)).start) lies.used (omega (arith, lies.behind)) (omega (arith, low))
+    (omega (arith, high, lies.inside))
 
 module _ (old new : List ℕ) (xs : List Part) (blocked : Blocked old) (parts : AreParts old xs) (s : SlidParts old new xs) where
   mid-used : (p : ℕ) → IsUsed old p → IsUsed s.mid p
@@ -116,6 +125,34 @@ module _ (old new : List ℕ) (xs : List Part) (blocked : Blocked old) (parts : 
     whole = λ q from below. in-use old q (record { block = b; used = used; from = omega (arith, low, from); below = omega (arith, below, high) });
     shift = λ j q below e. one-shift old blocked b v q j used low e (omega (arith, below, e, high));
   }
+
+  -- The words of a part.
+  module _ (i : ℕ) (listed : i < length xs) where
+    part-lies : LiesInUse old (nth_part xs i)
+    part-lies = parts.each i listed
+
+    part-used : (q : ℕ) → (span_of (nth_part xs i)).start ≤ q → q < (span_of (nth_part xs i)).end → is_in_use old q ≡ true
+    part-used q low high =
+        in-use old q (record { block = part-lies.block; used = part-lies.used; from = omega (arith, part-lies.behind, low); below = omega (arith, high, part-lies.inside) })
+
+    module _ (span : Span) where
+      pub words-lie : nth_part xs i ≡ Words span → (q : ℕ) → span.start ≤ q → q < span.end
+          → get_or new (packed_place old q) 0 ≡ word_image (packed_place old) (get_or old q 0)
+      words-lie is q low high =
+          let P : Part → Type 0 = λ x. PartDone (packed_place old) old s.mid x in
+          let U : Part → Type 0 = λ x. (span_of x).start ≤ q → q < (span_of x).end → is_in_use old q ≡ true in
+          used-moved q (subst U is (part-used q) low high) ∙ subst P is (s.shifted.done i listed listed) q low high
+
+      pub links-lie : nth_part xs i ≡ Links span → (q : ℕ) → span.start ≤ q → q < span.end
+          → get_or new (packed_place old q) 0 ≡ packed_place old (get_or old q 0)
+      links-lie is q low high =
+          let P : Part → Type 0 = λ x. PartDone (packed_place old) old s.mid x in
+          let U : Part → Type 0 = λ x. (span_of x).start ≤ q → q < (span_of x).end → is_in_use old q ≡ true in
+          used-moved q (subst U is (part-used q) low high) ∙ subst P is (s.shifted.done i listed listed) q low high
+
+  pub others-lie : (q : ℕ) → is_in_use old q ≡ true → ((i : ℕ) → i < length xs → (q < (span_of (nth_part xs i)).start) ⊎ ((span_of (nth_part xs i)).end ≤ q))
+      → get_or new (packed_place old q) 0 ≡ get_or old q 0
+  others-lie q used out = used-moved q used ∙ s.shifted.others q (λ i below inside. out i inside)
 
   -- An object in a row was relocated, and is whole in a block in use.
   module _ (w : ℕ) (r : IsOfRow old xs w) where

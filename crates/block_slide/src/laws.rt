@@ -1,11 +1,12 @@
 // What stands after a slide: each law is the contract of a function that does nothing.
-ghost use Rattle.std.specs.Prelude.{◌≡◌, ℕ, ◌+◌, ◌≤◌, Bool, true, List, ◌++◌, map};
+ghost use Rattle.std.specs.Prelude.{◌≡◌, ℕ, ◌+◌, ◌-◌, ◌<◌, ◌≤◌, ◌⊎◌, Bool, true, List, ◌++◌, map, length, slice_index};
 ghost use Rattle.plain_term.specs.Tree.{Trees};
 ghost use Rattle.term_words.specs.Role.{IsSingle};
 ghost use Rattle.term_words.specs.Stands.{AllStand};
 ghost use Rattle.off_heap_list.specs.Elsewhere.{LinksMoved, AreChainsTo};
 ghost use Rattle.off_heap_list.specs.Exact.{OwnChain, objects_of};
 ghost use Rattle.off_heap_list.specs.Links.{Links};
+ghost use Rattle.object_rows.specs.Row.{AreObjects};
 ghost use Rattle.off_heap_list.specs.Several.{ManyLinks};
 ghost use Rattle.term_words.specs.Relocated.{Relocated};
 ghost use Rattle.word_arena.specs.Blocks.{size_at, Blocked, IsUsed};
@@ -15,8 +16,10 @@ ghost use Rattle.word_shift.specs.Shifted.{word_image, FitsBeside};
 ghost use Rattle.word_shift.specs.Slides.{RolesMoved, Slides};
 ghost use Rattle.block_slide.specs.Down.{packed_place, is_in_use, packed_test};
 ghost use Rattle.block_slide.specs.Held.{BlocksSlid, LinksHeld, ReachHeld, RolesHeld};
-ghost use Rattle.block_slide.specs.Parts.{AreParts, SlidParts};
+ghost use Rattle.block_slide.specs.Parts.{nth_part, span_of, AreParts, SlidParts};
 ghost use Rattle.block_slide.specs.declared.parts.Part.{Part};
+ghost use Rattle.block_slide.specs.declared.parts.Part.TheVariants.{Objects, Words, Links as LinkWords};
+ghost use Rattle.word_mem.specs.declared.ranges.Span.{Span};
 
 /// The map of a slide can be asked whatever words stand in a block in use behind its two first words, and answers the same.
 pub fn sums_fit_inside_blocks()
@@ -35,6 +38,26 @@ pub fn packed_places_differ()
 /// After a slide the blocks in use stand at the new places in their order, and one free block or none behind them.
 pub fn slid_blocks_stay()
     ensures { (old new : List ℕ) (xs : List Part) → Blocked old → AreParts old xs → SlidParts old new xs → BlocksSlid old new }
+{}
+
+/// After a slide a word of a stack stands at its new place as its image, a link as the new place of what it told, and each other word
+/// of a block in use as it was. The words of a part move by one shift, and rows of whole objects are rows still.
+pub fn slid_words_lie()
+    ensures words { (old new : List ℕ) (xs : List Part) (i : ℕ) (span : Span) → SlidParts old new xs → Blocked old → AreParts old xs → i < length xs
+        → nth_part xs i ≡ Words span → (q : ℕ) → span.start ≤ q → q < span.end
+        → slice_index new (packed_place old q) ≡ word_image (packed_place old) (slice_index old q) }
+    ensures links { (old new : List ℕ) (xs : List Part) (i : ℕ) (span : Span) → SlidParts old new xs → Blocked old → AreParts old xs → i < length xs
+        → nth_part xs i ≡ LinkWords span → (q : ℕ) → span.start ≤ q → q < span.end
+        → slice_index new (packed_place old q) ≡ packed_place old (slice_index old q) }
+    ensures rows { (old new : List ℕ) (xs : List Part) (i : ℕ) (span : Span) (ws : List ℕ) → SlidParts old new xs → Blocked old → AreParts old xs
+        → i < length xs → nth_part xs i ≡ Objects span → AreObjects old span.start ws span.end
+        → AreObjects new (packed_place old span.start) (map (word_image (packed_place old)) ws) (packed_place old span.end) }
+    ensures others { (old new : List ℕ) (xs : List Part) (q : ℕ) → SlidParts old new xs → Blocked old → AreParts old xs → is_in_use old q ≡ true
+        → ((i : ℕ) → i < length xs → (q < (span_of (nth_part xs i)).start) ⊎ ((span_of (nth_part xs i)).end ≤ q))
+        → slice_index new (packed_place old q) ≡ slice_index old q }
+    ensures shift { (old : List ℕ) (xs : List Part) (i q : ℕ) → Blocked old → AreParts old xs → i < length xs → (span_of (nth_part xs i)).start ≤ q
+        → q ≤ (span_of (nth_part xs i)).end
+        → packed_place old q ≡ packed_place old (span_of (nth_part xs i)).start + (q - (span_of (nth_part xs i)).start) }
 {}
 
 /// After a slide everything that stood stands at the new places, where the rows that were relocated hold what the roots reach.

@@ -8,7 +8,7 @@ mod places;
 mod relocating;
 
 pub use laws::{
-    packed_places_differ, slid_blocks_stay, slid_chains_stand, slid_parts_stand,
+    packed_places_differ, slid_blocks_stay, slid_chains_stand, slid_parts_stand, slid_words_lie,
     sums_fit_inside_blocks,
 };
 pub use parts::Part;

@@ -91,7 +91,7 @@ traced-boxed mem w l t e =
     let boxed : (w % 4 == 1) ≡ false = grind (arith, nat_tests, t) in
     rw boxed (ap (λ o. first_of o (1 + get_or mem (w / 4) 0 / 64)) e)
 
-row-first : (a least most f : ℕ) (l : Layout) → row_layout a least most f ≡ Some l → l.first ≡ f
+pub row-first : (a least most f : ℕ) (l : Layout) → row_layout a least most f ≡ Some l → l.first ≡ f
 row-first a least most f l e = elim (cases_Bool (nat_le least a && nat_le a most)) [
   | inl t ↦
       let P : Bool → Type 0 = λ b. (if b then Some (record { words = 1 + a; first = f; count = 1 + a - f }) else None) ≡ Some l in
