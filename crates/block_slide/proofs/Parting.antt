@@ -6,9 +6,9 @@ use Rattle.word_arena.specs.Calls.{HeadersStay}
 use Rattle.word_arena.specs.Sums.{free_before}
 use Rattle.word_arena.specs.Shifts.{IsSummed}
 use Rattle.word_arena.specs.declared.shifts.Shifts.{Shifts}
-use Rattle.word_arena.proofs.Side.Before.{before-kept}
+use Rattle.word_arena.proofs.Side.Before.{before-kept, before-used}
 use Rattle.word_arena.proofs.Slid.Summed.{summed-kept}
-use Rattle.word_arena.proofs.Laid.Lent.{kept-inside, lent-begins}
+use Rattle.word_arena.proofs.Laid.Lent.{kept-inside, lent-begins, lent-blocked}
 use Rattle.term_words.specs.Object.{object_words}
 use Rattle.term_words.specs.Reach.{first_traced}
 use Rattle.off_heap_list.specs.Links.{name_place}
@@ -18,9 +18,11 @@ use Rattle.word_shift.proofs.Ranges.{image-by, object-by-map}
 use Rattle.word_shift.proofs.Objects.{name-near}
 use Rattle.word_shift.proofs.Walk.{shift-stays}
 use Rattle.word_shift.proofs.Apart.{Within, row-from, row-same, within-row}
-use Rattle.block_slide.specs.Down.{packed_place}
+use Rattle.block_slide.specs.Down.{packed_place, ComesDown}
 use Rattle.block_slide.specs.Parts.{nth_part, span_of, AreParts, IsPartIn, LiesInUse, PartDone, PartShifted, PartsShifted}
 use Rattle.block_slide.specs.declared.parts.Part.{Part}
+use Rattle.block_slide.proofs.Placed.{place-of, few-before}
+use Rattle.word_arena.proofs.Side.Facts.{block-within}
 use Rattle.block_slide.specs.declared.parts.Part.TheVariants.{Objects, Words, Links}
 
 -- A list beside the memory: the places before a number are new places.
@@ -116,10 +118,39 @@ module _ (old now : List ℕ) (xs : List Part) (i : ℕ) (blocked : Blocked old)
   now-size : size_at now lies.block ≡ size_at old lies.block
   now-size = ap (λ h. h / 16) (r.headers.same lies.block lies.used.begins)
 
-  pub next-fits : (s : Shifts) → IsSummed old s → FitsBeside (λ m. IsSummed m s) packed_place now (span_of (nth_part xs i)).start (span_of (nth_part xs i)).end
-  next-fits s summed =
-      fits-inside now s lies.block (span_of (nth_part xs i)).start (span_of (nth_part xs i)).end (summed-kept old now s r.headers summed) now-used lies.behind
-      (omega (arith, lies.inside, now-size))
+  pub next-summed : (s : Shifts) → IsSummed old s → IsSummed now s
+  next-summed s summed = summed-kept old now s r.headers summed
+
+  pub next-ends : (span_of (nth_part xs i)).end ≤ length now
+  next-ends = omega (arith, lies.inside, now-size, (block-within now lies.block (lent-blocked old now blocked r.headers) now-used.begins).to)
+
+  -- Its places come down by the free words before its first one.
+  next-comes : ComesDown now (span_of (nth_part xs i)).start (span_of (nth_part xs i)).end (free_before now (span_of (nth_part xs i)).start)
+  next-comes = record {
+    each = λ a low high.
+        let start = (span_of (nth_part xs i)).start in
+        let fine : Blocked now = lent-blocked old now blocked r.headers in
+        omega (
+          arith,
+          place-of now fine lies.block a now-used (omega (arith, low, lies.behind)) (omega (arith, high, lies.inside, now-size)),
+          before-used now lies.block start fine now-used (omega (arith, lies.behind)) (omega (arith, low, high, lies.inside, now-size)),
+          few-before now fine lies.block now-used,
+          low,
+          lies.behind,
+        );
+  }
+
+  pub next-fits : (s : Shifts) (down : ℕ) → IsSummed old s → ((span_of (nth_part xs i)).start < (span_of (nth_part xs i)).end → down ≡ free_before now (span_of (nth_part xs i)).start)
+      → FitsBeside (λ m. IsSummed m s × ComesDown m (span_of (nth_part xs i)).start (span_of (nth_part xs i)).end down) packed_place now
+      (span_of (nth_part xs i)).start (span_of (nth_part xs i)).end
+  next-fits s down summed is =
+      let f : FitsBeside (λ m. IsSummed m s) packed_place now (span_of (nth_part xs i)).start (span_of (nth_part xs i)).end =
+      fits-inside now s lies.block (span_of (nth_part xs i)).start (span_of (nth_part xs i)).end (next-summed s summed) now-used lies.behind
+      (omega (arith, lies.inside, now-size)) in
+      record {
+        fit = λ new len same. (f.fit new len same, record { each = λ a low high. omega (arith, next-comes.each a low high, f.alike new len same a, is (omega (arith, low, high))) });
+        alike = f.alike;
+      }
 
   -- The next part was relocated.
   module _ (new : List ℕ) (now-blocked : Blocked now) (told : PartShifted (packed_place now) now new (nth_part xs i)) where

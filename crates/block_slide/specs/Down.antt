@@ -1,11 +1,15 @@
 -- Where places, words and their roles come to when the blocks in use are packed.
-use Rattle.std.specs.Prelude.{ℕ, ◌+◌, ◌-◌, ◌&&◌, ◌||◌, nat_le, nat_lt, if◌then◌else◌, Bool, false, List, [], ◌∷◌, length}
+use Rattle.std.specs.Prelude.{◌≡◌, ℕ, ◌+◌, ◌-◌, ◌<◌, ◌≤◌, ◌&&◌, ◌||◌, nat_le, nat_lt, if◌then◌else◌, Bool, false, List, [], ◌∷◌, length}
 use Rattle.word_arena.specs.Blocks.{block_places}
 use Rattle.word_arena.specs.Sums.{free_before, slid, used_at}
 
 -- The place comes down by the free words before it; one outside the memory stays.
 abbrev pub packed_place : List ℕ → ℕ → ℕ
 packed_place mem a = if nat_le a (length mem) then a - free_before mem a else a
+
+-- Each place from one up to another comes down by so many words.
+pub record ComesDown (mem : List ℕ) (from to down : ℕ) : Type 0 where
+  pub each : (a : ℕ) → from ≤ a → a < to → packed_place mem a + down ≡ a
 
 -- The place is one of those of these blocks that are in use.
 abbrev pub lies_used : List ℕ → (at : ℕ) → List ℕ → Bool

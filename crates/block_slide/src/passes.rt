@@ -1,18 +1,19 @@
 // Both passes.
-ghost use Rattle.std.specs.Prelude.{◌≡◌, length};
+ghost use Rattle.std.specs.Prelude.{◌≡◌, ◌<◌, ◌≤◌, length};
 ghost use Rattle.word_arena.specs.Blocks.{free_of, FreeApart};
 ghost use Rattle.word_arena.specs.Calls.{HeadersStay};
 ghost use Rattle.word_arena.specs.Shifts.{HasStretches, IsSummed};
 ghost use Rattle.word_arena.specs.Sound.{Sound};
+ghost use Rattle.word_arena.specs.Sums.{free_before};
 ghost use Rattle.word_shift.specs.Shifted.{ListShifted};
 ghost use Rattle.block_slide.specs.Down.{packed_place};
 ghost use Rattle.block_slide.specs.Parts.{AreParts, PartsShifted, PlaceListShifted, SlidParts};
 
 use crate::parts::Part;
-use crate::places::PackedPlaces;
+use crate::places::{NearPlaces, PackedPlaces};
 use crate::relocating::{relocate_part, relocate_place_list};
 use word_arena::{Arena, Shifts};
-use word_mem::WordMem;
+use word_mem::{Span, WordMem};
 use word_shift::relocate_all;
 
 /// Packs the blocks in use at the memory's front. First every word that leads to a place becomes what leads to the new place: in
@@ -51,6 +52,28 @@ fn relocate_parts(mem: &mut WordMem, parts: &[Part], places: &PackedPlaces)
     ensures headers { HeadersStay mem.old mem.new }
 {
     for i in 0..parts.len() {
-        relocate_part(mem, parts[i], places);
+        let near = near(mem, parts[i].span(), places);
+        relocate_part(mem, parts[i], &near);
+    }
+}
+
+// The map for the words of one part.
+#[inline]
+fn near<'a>(mem: &WordMem, span: Span, places: &PackedPlaces<'a>) -> NearPlaces<'a>
+    requires summed { IsSummed mem.now places.now.shifts.now }
+    requires inside { span.end ≤ length mem.now }
+    ensures all { result.all ≡ places.now }
+    ensures near { result.near ≡ span }
+    ensures down { span.start < span.end → result.down ≡ free_before mem.now span.start }
+{
+    let down = if span.start < span.end {
+        places.shifts.before(mem, span.start)
+    } else {
+        0
+    };
+    NearPlaces {
+        all: *places,
+        near: span,
+        down,
     }
 }

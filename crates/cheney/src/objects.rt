@@ -44,7 +44,7 @@ fn move_cons(mem: &mut WordMem, mv: &mut Moving, w: u64) -> u64
     requires tag { w % 4 ≡ 1 }
     ensures { Went mem.old mem.new mv.old mv.new w result }
 {
-    let _len = mem.len();
+    mem.bounded();
     let at = w / 4;
     if stays_at(mv, at) {
         return w;
@@ -76,7 +76,7 @@ fn move_boxed(mem: &mut WordMem, mv: &mut Moving, w: u64) -> u64
     requires tag { w % 4 ≡ 2 }
     ensures { Went mem.old mem.new mv.old mv.new w result }
 {
-    let _len = mem.len();
+    mem.bounded();
     let at = w / 4;
     if stays_at(mv, at) {
         return w;
@@ -124,7 +124,7 @@ fn cons_to(mem: &mut WordMem, room: &mut Room, w: u64, head: u64, tail: u64) -> 
     ensures copies { Copies mem.old mem.new w room.old.top 2 result }
     ensures room { room.new ≡ record room.old { top = room.old.top + 2 } }
 {
-    let _len = mem.len();
+    mem.bounded();
     let at = w / 4;
     let to = room.top;
     mem.set(to, head);
@@ -147,7 +147,7 @@ fn boxed_to(mem: &mut WordMem, room: &mut Room, w: u64, header: u64) -> u64
     ensures copies { Copies mem.old mem.new w room.old.top (1 + header / 64) result }
     ensures room { room.new ≡ record room.old { top = room.old.top + (1 + header / 64) } }
 {
-    let _len = mem.len();
+    mem.bounded();
     let at = w / 4;
     let to = room.top;
     let rest = header / 64;

@@ -41,7 +41,7 @@ fn scan_object(mem: &mut WordMem, mv: &mut Moving, aged: bool, place: u64) -> u6
     ensures further { place < result }
     ensures ends { (mv.new.aged.end ≡ mv.old.aged.end) × (mv.new.young.end ≡ mv.old.young.end) }
 {
-    let _len = mem.len();
+    mem.bounded();
     let word = mem.get(place);
     if word % 4 == 0 {
         scan_boxed(mem, mv, place, word)
@@ -59,7 +59,7 @@ fn scan_boxed(mem: &mut WordMem, mv: &mut Moving, place: u64, header: u64) -> u6
     ensures further { place < result }
     ensures ends { (mv.new.aged.end ≡ mv.old.aged.end) × (mv.new.young.end ≡ mv.old.young.end) }
 {
-    let _len = mem.len();
+    mem.bounded();
     let end = place + (1 + header / 64);
     let mut at = place + traced_from(header);
     while at < end {

@@ -31,7 +31,7 @@ pub fn evacuate_at(mem: &mut WordMem, mv: &mut Moving, place: u64)
     ensures { (p : Plan) (k : Marks) → Runs p mem.old mv.old k → IsFreePlace p place → Reached p (slice_index mem.old place)
         → EvacuatedAt p mem.old mem.new mv.new k place }
 {
-    let _len = mem.len();
+    mem.bounded();
     let w = mem.get(place);
     let new = evacuate(mem, mv, w);
     mem.set(place, new);
@@ -44,7 +44,7 @@ pub fn evacuate_places(mem: &mut WordMem, mv: &mut Moving, from: u64, step: u64,
     ensures { (p : Plan) (k : Marks) → Runs p mem.old mv.old k → AreRoots p mem.old from step count
         → PlacesEvacuated p mem.old mem.new mv.new k from step count }
 {
-    let _len = mem.len();
+    mem.bounded();
     for i in 0..count {
         evacuate_at(mem, mv, from + i * step);
     }

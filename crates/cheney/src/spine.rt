@@ -26,7 +26,7 @@ pub fn scan_spine(mem: &mut WordMem, mv: &mut Moving, aged: bool, place: u64, he
     ensures further { place < result }
     ensures ends { (mv.new.aged.end ≡ mv.old.aged.end) × (mv.new.young.end ≡ mv.old.young.end) }
 {
-    let _len = mem.len();
+    mem.bounded();
     let tail = mem.get(place + 1);
     let mut cell = Cell { place, head, tail };
     loop {
@@ -76,7 +76,7 @@ fn fresh_cons(mem: &WordMem, mv: &Moving, w: u64) -> Option<(u64, u64)>
     requires { CanMove mem.now mv.now w }
     ensures { IfSome result (λ c. IsFresh mem.now mv.now w c.0 c.1) }
 {
-    let _len = mem.len();
+    mem.bounded();
     if w % 4 != 1 {
         return None;
     }

@@ -30,7 +30,7 @@ named-once mem (o ∷ os) =
         each,
         record {
           once = r.once;
-          all = λ q i. elim i [ inl e ↦ (let P : ℕ → Type 0 = λ x. In (named mem x) each in subst P (sym e) there) | inr j ↦ r.all q j ];
+          all = λ q i. elim i [ inl e ↦ rw e there | inr j ↦ r.all q j ];
           only = λ v i. let (q, (j, e)) = r.only v i in (q, (inr j, e));
         },
       )
@@ -61,7 +61,7 @@ once-in : (n : ℕ) (ns : List ℕ) → In n ns → In n (each_once ns)
 once-in n [] i = absurd i
 once-in n (m ∷ ns) i = elim (cases_Bool (list_any (λ x. x == m) ns)) [
   | inl e ↦
-      let deep : In n ns = elim i [ inl same ↦ (let P : ℕ → Type 0 = λ x. In x ns in subst P (sym same) (any-in m ns e)) | inr j ↦ j ] in
+      let deep : In n ns = elim i [ inl same ↦ rw same (any-in m ns e) | inr j ↦ j ] in
       rw e (once-in n ns deep)
   | inr e ↦ rw e (elim i [ inl same ↦ inl same | inr j ↦ inr (once-in n ns j) ])
 ]

@@ -42,8 +42,7 @@ in-occurrences n (x ∷ xs) h = elim (cases_eq n x) [
   | inl e ↦ inl e
   | inr far ↦
       let b : (x == n) ≡ false = grind (arith, nat_tests, far) in
-      let P : Bool → Type 0 = λ y. 1 ≤ (if y then occurrences n xs + 1 else occurrences n xs) in
-      inr (in-occurrences n xs (subst P b h))
+      inr (in-occurrences n xs (rw b at h))
 ]
 
 -- The weight of a tree is how often an id, or a fun, occurs in it.
@@ -127,15 +126,13 @@ module _ (c : ℕ → ℕ → Bool) (shared : List (List ℕ)) (mem : List ℕ) 
   unfolding Stands
   bin-named w id s =
       let at : w / 4 + 3 ≡ name_place mem (w / 4) = grind (arith, nat_tests, s.holder.header) in
-      let Q : ℕ → Type 0 = λ q. IsBinRecord c mem (get_or mem q 0) id (shared_bytes shared id) in
-      subst Q at s.record_is
+      rw (at) at s.record_is
 
   fun-named : (w name arity creator : ℕ) (env : Trees) → Stands c shared mem w (Fun name arity creator env) → IsFunRecord c mem (named mem (w / 4)) name arity
   unfolding Stands
   fun-named w name arity creator env (o, row) =
       let at : w / 4 + 1 ≡ name_place mem (w / 4) = grind (arith, nat_tests, o.header) in
-      let Q : ℕ → Type 0 = λ q. IsFunRecord c mem (get_or mem q 0) name arity in
-      subst Q at o.record_is
+      rw (at) at o.record_is
 
   kinds-differ : (v serial : ℕ) (bytes : List ℕ) (name arity : ℕ) → IsBinRecord c mem v serial bytes → IsFunRecord c mem v name arity → ⊥
   kinds-differ v serial bytes name arity b f = omega (arith, b.header, f.header)
@@ -152,16 +149,14 @@ module _ (c : ℕ → ℕ → Bool) (shared : List (List ℕ)) (mem : List ℕ) 
   unfolding id-weight names-here
   id-step v serial bytes there w (Shared id) s = elim (cases_eq (named mem (w / 4)) v) [
     | inl e ↦
-        let P : ℕ → Type 0 = λ x. IsBinRecord c mem x id (shared_bytes shared id) in
-        let here : IsBinRecord c mem v id (shared_bytes shared id) = subst P e (bin-named w id s) in
+        let here : IsBinRecord c mem v id (shared_bytes shared id) = rw e at (bin-named w id s) in
         omega (arith, occurs-first serial id [] (sym here.owner ∙ there.owner), names-most (named mem (w / 4)) v)
     | inr far ↦ omega (arith, no-name (named mem (w / 4)) v far)
   ]
   id-step v serial bytes there w (Fun name arity creator env) s =
-      let P : ℕ → Type 0 = λ x. IsFunRecord c mem x name arity in
       omega (
         arith,
-        no-name (named mem (w / 4)) v (λ e. kinds-differ v serial bytes name arity there (subst P e (fun-named w name arity creator env s))),
+        no-name (named mem (w / 4)) v (λ e. kinds-differ v serial bytes name arity there (rw e at (fun-named w name arity creator env s))),
         ids-weighed serial env,
       )
   id-step v serial bytes there w t s = omega (arith, ids-heavy serial t)
@@ -170,12 +165,10 @@ module _ (c : ℕ → ℕ → Bool) (shared : List (List ℕ)) (mem : List ℕ) 
       → total (names-here v) (own w t) + weighed (fun-weight (256 * name + arity)) (parts_of t) ≤ fun-weight (256 * name + arity) t
   unfolding fun-weight names-here
   fun-step v name arity there w (Shared id) s =
-      let P : ℕ → Type 0 = λ x. IsBinRecord c mem x id (shared_bytes shared id) in
-      omega (arith, no-name (named mem (w / 4)) v (λ e. kinds-differ v id (shared_bytes shared id) name arity (subst P e (bin-named w id s)) there))
+      omega (arith, no-name (named mem (w / 4)) v (λ e. kinds-differ v id (shared_bytes shared id) name arity (rw e at (bin-named w id s)) there))
   fun-step v name arity there w (Fun name2 arity2 creator env) s = elim (cases_eq (named mem (w / 4)) v) [
     | inl e ↦
-        let P : ℕ → Type 0 = λ x. IsFunRecord c mem x name2 arity2 in
-        let here : IsFunRecord c mem v name2 arity2 = subst P e (fun-named w name2 arity2 creator env s) in
+        let here : IsFunRecord c mem v name2 arity2 = rw e at (fun-named w name2 arity2 creator env s) in
         let same : 256 * name2 + arity2 ≡ 256 * name + arity = omega (arith, here.owner, there.owner) in
         omega (
           arith,
@@ -211,8 +204,7 @@ words-once (p ∷ ps) (fresh, d) = (
   λ i.
       let (q, (j, e)) = in-words (p * 4 + 2) ps i in
       let same : p ≡ q = omega (arith, e) in
-      let P : ℕ → Type 0 = λ x. In x ps in
-      fresh (subst P (sym same) j),
+      fresh (rw same j),
   words-once ps d,
 )
 
@@ -228,16 +220,14 @@ module _ (c : ℕ → ℕ → Bool) (shared : List (List ℕ)) (mem roots : List
   word-reached : (w : ℕ) → In w (map word-of os) → Reach mem roots w
   word-reached w i =
       let (p, (inside, e)) = in-words w os i in
-      let P : ℕ → Type 0 = λ x. Reach mem roots x in
-      subst P (sym e) (h.reached p inside)
+      simp e (h.reached p inside)
 
   word-own : (w : ℕ) (t : Tree) → In w (map word-of os) → Stands c shared mem w t → In w (own w t)
   word-own w t i s =
       let (p, (inside, e)) = in-words w os i in
       let at : w / 4 ≡ p = omega (arith, e) in
-      let H : ℕ → Type 0 = λ x. IsLinkHeader (get_or mem x 0) in
       let P : Tree → Type 0 = λ x. In w (own w x) in
-      elim (link-kind c shared mem w t s (omega (arith, e)) (subst H (sym at) (h.links p inside).kind)) [
+      elim (link-kind c shared mem w t s (omega (arith, e)) (simp (at) (h.links p inside).kind)) [
         | inl (id, is) ↦ subst P (sym is) (inl refl)
         | inr (name, arity, creator, env, is) ↦ subst P (sym is) (inl refl)
       ]
@@ -268,8 +258,8 @@ module _ (c : ℕ → ℕ → Bool) (shared : List (List ℕ)) (mem roots : List
     (inside : In p os) where
   alone : AreHeld c mem roots (p ∷ [])
   alone = record {
-    reached = λ q i. elim i [ inl e ↦ (let P : ℕ → Type 0 = λ x. Reach mem roots (x * 4 + 2) in subst P (sym e) (h.reached p inside)) | inr z ↦ absurd z ];
-    links = λ q i. elim i [ inl e ↦ (let P : ℕ → Type 0 = λ x. IsLink c mem x in subst P (sym e) (h.links p inside)) | inr z ↦ absurd z ];
+    reached = λ q i. elim i [ inl e ↦ rw e (h.reached p inside) | inr z ↦ absurd z ];
+    links = λ q i. elim i [ inl e ↦ rw e (h.links p inside) | inr z ↦ absurd z ];
   }
 
   once : Distinct (p ∷ [])
@@ -291,16 +281,12 @@ module _ (c : ℕ → ℕ → Bool) (shared : List (List ℕ)) (mem roots : List
   record-kind =
       let (t, s) = reached c shared mem roots ts all (p * 4 + 2) (h.reached p inside) in
       let at : (p * 4 + 2) / 4 ≡ p = omega arith in
-      let H : ℕ → Type 0 = λ x. IsLinkHeader (get_or mem x 0) in
-      let S : Tree → Type 0 = λ x. Stands c shared mem (p * 4 + 2) x in
-      elim (link-kind c shared mem (p * 4 + 2) t s (omega arith) (subst H (sym at) (h.links p inside).kind)) [
+      elim (link-kind c shared mem (p * 4 + 2) t s (omega arith) (rw (at) (h.links p inside).kind)) [
         | inl (id, is) ↦
-            let P : ℕ → Type 0 = λ x. IsBinRecord c mem (named mem x) id (shared_bytes shared id) in
-            let there : IsBinRecord c mem (named mem p) id (shared_bytes shared id) = subst P at (bin-named c shared mem (p * 4 + 2) id (subst S is s)) in
+            let there : IsBinRecord c mem (named mem p) id (shared_bytes shared id) = rw (at) at (bin-named c shared mem (p * 4 + 2) id (rw is at s)) in
             inl (id, (bin-occurs id (shared_bytes shared id) there, there))
         | inr (name, arity, creator, env, is) ↦
-            let P : ℕ → Type 0 = λ x. IsFunRecord c mem (named mem x) name arity in
-            let there : IsFunRecord c mem (named mem p) name arity = subst P at (fun-named c shared mem (p * 4 + 2) name arity creator env (subst S is s)) in
+            let there : IsFunRecord c mem (named mem p) name arity = rw (at) at (fun-named c shared mem (p * 4 + 2) name arity creator env (rw is at s)) in
             inr (name, arity, (fun-occurs name arity there, there))
       ]
 
@@ -324,8 +310,7 @@ module _ (c : ℕ → ℕ → Bool) (shared : List (List ℕ)) (mem : List ℕ) 
     ids-stand w (Map ps) (o, ks, vs) j = ids-pairs (get_or mem (w / 4 + 2) 0 / 4 + 1) (w / 4 + 3) ps ks vs j
     ids-stand w (Bin bytes) s j = absurd j
     ids-stand w (Shared id) s (inl e) =
-        let P : ℕ → Type 0 = λ x. IsBinRecord c mem (get_or mem (w / 4 + 3) 0) x (shared_bytes shared x) in
-        record { v = get_or mem (w / 4 + 3) 0; is = subst P (sym e) s.record_is }
+        record { v = get_or mem (w / 4 + 3) 0; is = rw e s.record_is }
     ids-stand w (Shared id) s (inr z) = absurd z
     ids-stand w (Part base offset len) (o, b, sb) j = ids-stand (get_or mem (w / 4 + 4) 0) base sb j
     ids-stand w (Fun name arity creator env) (o, row) j = ids-row (w / 4 + 6) env row j

@@ -69,6 +69,10 @@ abbrev pub long_bins : List Item → ℕ
 long_bins [] = 0
 long_bins (x ∷ xs) = (if is_long x then 1 else 0) + long_bins xs
 
+-- The words of all objects, holders among them.
+abbrev pub heap_words_of : List Item → ℕ
+heap_words_of xs = own_words_of xs + 6 * long_bins xs
+
 -- The byte that an item is.
 abbrev pub item_byte : Item → ℕ
 item_byte (Byte b) = b

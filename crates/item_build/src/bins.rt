@@ -137,7 +137,7 @@ fn lay_record(mem: &mut WordMem, room: &mut Room, serial: u64, n: u64, bytes: &[
         → IsBinRecord d mem.new room.new.end serial (bytes_in n bytes.now) }
     ensures count { count_in mem.new room.new.end ≡ 0 }
 {
-    let _len = mem.len();
+    mem.bounded();
     let rec = room.end - (HEAD_WORDS + (n + 7) / 8);
     write_bin(mem, rec, serial, n);
     put_bytes(mem, rec + HEAD_WORDS, n, bytes);
@@ -151,7 +151,7 @@ fn put_bytes(mem: &mut WordMem, at: u64, n: u64, bytes: &[Item])
     ensures writes { WritesRecord at (at + bin_words n) mem.old mem.new }
     ensures bytes { BytesLie mem.new at (bytes_in n bytes.now) }
 {
-    let _len = mem.len();
+    mem.bounded();
     for j in 0..(n + 7) / 8 {
         mem.set(at + j, word_at(bytes, n, j * 8));
     }

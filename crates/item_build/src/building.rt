@@ -95,7 +95,7 @@ fn put_items(
     ensures spares { Spares (own_words_of code.now) room.old mem.old mem.new }
     ensures row { length scratch.new ≡ length scratch.old }
 {
-    let _len = mem.len();
+    mem.bounded();
     let mut sp = scratch.len();
     let mut bin = bins;
     let mut i = code.len();

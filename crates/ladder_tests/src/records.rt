@@ -19,7 +19,7 @@ pub fn put_entry(mem: &mut WordMem, room: &mut Room, name: u64, arity: u64) -> u
     ensures kept { KeepsClear room.old room.new mem.old mem.new }
     ensures record_is { IsFunRecord (outside room.new.top room.new.end) mem.new result name arity }
 {
-    let _len = mem.len();
+    mem.bounded();
     let at = room.top;
     write_fun(mem, at, name, arity);
     room.top = at + 4;
@@ -36,7 +36,7 @@ pub fn put_roll(mem: &mut WordMem, room: &mut Room, id: u64, len: u64, byte: u8)
     ensures kept { KeepsClear room.old room.new mem.old mem.new }
     ensures record_is { IsBinRecord (outside room.new.top room.new.end) mem.new result id (replicate len byte) }
 {
-    let _len = mem.len();
+    mem.bounded();
     let at = room.top;
     write_bin(mem, at, id, len);
     fill(mem, at, byte);

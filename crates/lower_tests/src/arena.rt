@@ -189,7 +189,7 @@ fn mark(arena: &mut Arena, at: u64, words: u64, owner: u64)
 {
     words_inside_a_block_are_no_headers();
     lent_memories_come_back();
-    let _len = arena.mem.len();
+    arena.mem.bounded();
     arena.mem.set(at + words - 1, owner);
 }
 

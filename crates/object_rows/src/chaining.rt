@@ -21,7 +21,7 @@ pub fn chain_row(mem: &mut WordMem, from: u64, to: u64, head: u64) -> Chained
     requires { IsRow mem.old from to }
     ensures { (ws : List ℕ) → AreObjects mem.old from ws to → ChainsRow mem.old mem.new (links_in mem.old ws) head result }
 {
-    let _len = mem.len();
+    mem.bounded();
     let mut at = from;
     let mut chained = Chained {
         head,

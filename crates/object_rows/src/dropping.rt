@@ -43,7 +43,7 @@ fn next_link(mem: &WordMem, from: u64, to: u64) -> Option<LinkAt>
     requires { IsRow mem.now from to }
     ensures { (ws : List ℕ) → AreObjects mem.now from ws to → FindsLink mem.now ws to result }
 {
-    let _len = mem.len();
+    mem.bounded();
     let mut at = from;
     while at < to {
         let word = mem.get(at);

@@ -14,7 +14,7 @@ pub fn raise_row(mem: &mut WordMem, from: u64, to: u64)
     requires { CanRaise mem.old from to }
     ensures { (ws : List ℕ) → AreObjects mem.old from ws to → RaisesRow mem.old mem.new (links_in mem.old ws) }
 {
-    let _len = mem.len();
+    mem.bounded();
     let mut at = from;
     while at < to {
         let word = mem.get(at);

@@ -30,7 +30,7 @@ pub fn chain(mem: &mut WordMem, head: u64, object: u64) -> u64
     ensures links { (c : ℕ → ℕ → Bool) (os further : List ℕ) → IsSingle c → Links c mem.old head os further → IsLink c mem.old object → (In object os → ⊥)
         → Links c mem.new result (object ∷ os) further }
 {
-    let _len = mem.len();
+    mem.bounded();
     let record = record_of(mem, object);
     add(mem, record);
     set_next(mem, object, head);

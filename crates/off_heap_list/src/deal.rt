@@ -59,7 +59,7 @@ fn deal_apart(mem: &mut WordMem, head: u64, len: u64, span: Span, to: u64) -> De
         aged: to,
     };
     for i in 0..len {
-        let _len = mem.len();
+        mem.bounded();
         deal = deal_next(mem, deal, span);
     }
     deal

@@ -13,7 +13,7 @@ pub fn next_of(mem: &WordMem, object: u64) -> u64
     requires { object + 6 ≤ length mem.now }
     ensures { result ≡ next_in mem.now object }
 {
-    let _len = mem.len();
+    mem.bounded();
     mem.get(object + 2)
 }
 
@@ -32,7 +32,7 @@ fn name_of(mem: &WordMem, object: u64) -> u64
     ensures place { result ≡ name_place mem.now object }
     ensures inside { result < length mem.now }
 {
-    let _len = mem.len();
+    mem.bounded();
     if mem.get(object) == head_of(HOLDER, 5) {
         object + 3
     } else {
@@ -46,7 +46,7 @@ pub fn set_next(mem: &mut WordMem, object: u64, next: u64)
     ensures writes { mem.new ≡ slice_set mem.old (object + 2) next }
     ensures kept { (c : ℕ → ℕ → Bool) → Idle c (object + 2) → Keeps c c mem.old mem.new }
 {
-    let _len = mem.len();
+    mem.bounded();
     mem.set(object + 2, next);
 }
 

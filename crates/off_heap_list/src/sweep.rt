@@ -97,7 +97,7 @@ pub fn sweep_next(mem: &mut WordMem, sweep: &mut Sweep) -> Swept
         → FrontSweeping c mem.old sweep.old.rest (p ∷ os) to sweep.old.first kept sweep.old.last ends further → Since c start mem.old (p ∷ os) ends
         → Since c start mem.new os (ends_after mem.old sweep.old.rest ends) }
 {
-    let _len = mem.len();
+    mem.bounded();
     let at = sweep.rest;
     let word = mem.get(at);
     let swept = sweep_one(mem, at);
@@ -119,7 +119,7 @@ pub fn held_in(mem: &WordMem, object: u64) -> u64
     requires { object + 6 ≤ length mem.now }
     ensures { result ≡ bin_words_at mem.now object }
 {
-    let _len = mem.len();
+    mem.bounded();
     if mem.get(object) != head_of(HOLDER, 5) {
         return 0;
     }

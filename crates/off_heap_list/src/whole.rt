@@ -75,7 +75,7 @@ pub fn sweep_front(mem: &mut WordMem, head: u64, len: u64) -> FrontLeft
         freed: 0,
     };
     for i in 0..len {
-        let _len = mem.len();
+        mem.bounded();
         let swept = sweep_next(mem, &mut sweep);
         tally = counted(tally, swept);
     }

@@ -1,10 +1,9 @@
 -- The image of a space, over its memory, its tables and its single numbers.
-use Rattle.std.specs.Prelude.{ℕ, ◌-◌, List, [], ◌∷◌, map, take, drop, reverse}
+use Rattle.std.specs.Prelude.{ℕ, ◌-◌, Bool, length, List, [], ◌∷◌, map, take, drop, reverse}
 use Rattle.store_image.specs.Image.{Image, Stretch, Region, Rooted, half, in_half, pieces_by_place}
 use Rattle.record_move.specs.Copies.{record_words}
 use Rattle.two_halves.specs.Stack.{values}
 use Rattle.two_halves.specs.Halves.{front_of}
-use Rattle.one_space.specs.One.{words_of}
 use Rattle.two_halves.specs.declared.table.Proc.{Proc}
 use Rattle.two_halves.specs.declared.halves.Halves.{Halves}
 use Rattle.one_space.specs.declared.one.One.{One}
@@ -32,16 +31,20 @@ rooted h p = record {
 }
 
 -- The whole image: one region, records in the order of their places, and no area.
-abbrev pub image : One → Image
-image b = record {
+abbrev pub image_of : Halves → (serials next : ℕ) → (swept : Bool) → Image
+image_of h serials next swept = record {
   layout = in_half;
-  words = words_of b;
-  serials = b.serials;
-  next = b.next;
-  swept = b.swept;
-  regions = object_region b.halves ∷ [];
-  bins = pieces_by_place (map (record_piece b.halves.mem) b.halves.bins.items);
-  funs = pieces_by_place (map (record_piece b.halves.mem) b.halves.funs.items);
-  processes = map (rooted b.halves) b.halves.procs.items;
+  words = length h.mem;
+  serials = serials;
+  next = next;
+  swept = swept;
+  regions = object_region h ∷ [];
+  bins = pieces_by_place (map (record_piece h.mem) h.bins.items);
+  funs = pieces_by_place (map (record_piece h.mem) h.funs.items);
+  processes = map (rooted h) h.procs.items;
   areas = [];
 }
+
+-- That of the space.
+abbrev pub image : One → Image
+image b = image_of b.halves b.serials b.next b.swept

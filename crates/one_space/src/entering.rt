@@ -14,7 +14,7 @@ pub fn enter_bins(mem: &WordMem, bins: &mut Vec<u64>, first: u64, n: u64)
     ensures items { bins.new.items ≡ bins.old.items ++ records_from mem.now first n }
     ensures capacity { vec_capacity bins.new ≡ vec_capacity bins.old }
 {
-    let _len = mem.len();
+    mem.bounded();
     for i in 0..n {
         bins.push_reserved(mem.get(first + HOLDER_WORDS * i + 3));
     }

@@ -105,7 +105,7 @@ impl One {
         if !self.halves.make_room(PLACE_COST) {
             return Err(Refusal::NoSpace(PLACE_COST));
         }
-        let _len = self.halves.mem.len();
+        self.halves.mem.bounded();
         let place = self.halves.room.end - PLACE_WORDS;
         let process = *self.halves.process(seat.row);
         self.halves.mem.set(place, process.regs[s.0 as usize]);
@@ -133,7 +133,7 @@ impl One {
         if process.depth == 0 {
             return Err(Refusal::Empty);
         }
-        let _len = self.halves.mem.len();
+        self.halves.mem.bounded();
         let place = process.stack;
         process.regs[r.0 as usize] = self.halves.mem.get(place);
         process.stack = self.halves.mem.get(place + 1);

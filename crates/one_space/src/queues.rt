@@ -104,7 +104,7 @@ fn put_messages<K: Sink>(
     ensures { (shared : List (List ℕ)) (ts : List Tree) → AreMessages shared mem.now (length names.now) queue waiting ts
         → WritesTold K.wrote K.faults sink.old sink.new (messages_text names.now shared ts) result }
 {
-    let _len = mem.len();
+    mem.bounded();
     let mut place = queue;
     for i in 0..waiting {
         put_message(mem, names, i == 0, mem.get(place), sink)?;

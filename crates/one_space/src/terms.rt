@@ -66,7 +66,7 @@ impl One {
             Ok(w) => w,
             Err(stop) => return Err(refusal_of(stop)),
         };
-        let _len = self.halves.mem.len();
+        self.halves.mem.bounded();
         let bins = making.serial - self.serials;
         enter_bins(
             &self.halves.mem,

@@ -17,7 +17,7 @@ pub fn move_records(mem: &mut WordMem, head: u64, len: u64, top: u64) -> u64
     ensures { (c : ℕ → ℕ → Bool) (os : List ℕ) (low : ℕ) → length os ≡ len → RecordsCanMove c mem.old head os low top
         → (low ≤ result) × RecordsMoved c mem.old mem.new head os result top }
 {
-    let _len = mem.len();
+    mem.bounded();
     let mut object = head;
     let mut now = top;
     for i in 0..len {
@@ -34,7 +34,7 @@ fn move_record(mem: &mut WordMem, object: u64, now: u64) -> u64
     ensures { (c : ℕ → ℕ → Bool) (start : List ℕ) (head : ℕ) (os rest : List ℕ) (low top : ℕ) → RecordsCanMove c start head os low top → AreFew c start
         → Moves c start mem.old os (object ∷ rest) low now top → Moves c start mem.new os rest low result top }
 {
-    let _len = mem.len();
+    mem.bounded();
     let from = record_of(mem, object);
     let count = count_of(mem, from);
     if count >= MOVED {
@@ -59,7 +59,7 @@ fn copy_record(mem: &mut WordMem, from: u64, place: u64, words: u64)
     ensures mark { slice_index mem.new (from + 2) ≡ MOVED + place }
     ensures others { (q : ℕ) → (q < place) ⊎ (place + words ≤ q) → (q ≡ from + 2 → ⊥) → slice_index mem.new q ≡ slice_index mem.old q }
 {
-    let _len = mem.len();
+    mem.bounded();
     mem.copy_words(from, place, words);
     mem.set(from + 2, MOVED + place);
 }

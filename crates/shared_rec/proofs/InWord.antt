@@ -76,12 +76,10 @@ put-below w j b m =
 pub put-elsewhere : (w k b j : ℕ) → b < 256 → (j < k) ⊎ (k < j) → byte_of (with_byte w k b) j ≡ byte_of w j
 put-elsewhere w k b j small (inl low) =
     let is : j + 1 + (k - (j + 1)) ≡ k = omega (arith, low) in
-    let P : ℕ → Type 0 = λ x. byte_of (with_byte w x b) j ≡ byte_of w j in
-    subst P is (put-below w j b (k - (j + 1)))
+    rw is at (put-below w j b (k - (j + 1)))
 put-elsewhere w k b j small (inr high) =
     let is : k + 1 + (j - (k + 1)) ≡ j = omega (arith, high) in
-    let P : ℕ → Type 0 = λ x. byte_of (with_byte w k b) x ≡ byte_of w x in
-    subst P is (put-above w k b (j - (k + 1)) small)
+    rw is at (put-above w k b (j - (k + 1)) small)
 
 -- n bytes b.
 abbrev row_of : (b n : ℕ) → ℕ
@@ -91,8 +89,7 @@ row_of b (suc n) = row_of b n * 256 + b
 row-next : (y b j : ℕ) → b < 256 → byte_of (y * 256 + b) (suc j) ≡ byte_of y j
 row-next y b j small =
     let e : 0 + 1 + j ≡ suc j = omega arith in
-    let P : ℕ → Type 0 = λ i. (y * 256 + b) / 2 ^ (i * 8) ≡ (y * 256 + b) / 2 ^ (0 * 8) / 256 / 2 ^ (j * 8) in
-    let there : (y * 256 + b) / 2 ^ (suc j * 8) ≡ (y * 256 + b) / 2 ^ (0 * 8) / 256 / 2 ^ (j * 8) = subst P e (above-at (y * 256 + b) 0 j) in
+    let there : (y * 256 + b) / 2 ^ (suc j * 8) ≡ (y * 256 + b) / 2 ^ (0 * 8) / 256 / 2 ^ (j * 8) = rw e at (above-at (y * 256 + b) 0 j) in
     let first : (y * 256 + b) / 2 ^ (0 * 8) / 256 ≡ y = omega arith in
     ap (λ x. x % 256) there ∙ ap (λ x. x / 2 ^ (j * 8) % 256) first
 

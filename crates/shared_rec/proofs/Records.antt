@@ -39,9 +39,8 @@ count-idle c mem v n single r = role-idle c (v + 2) COUNT single (record-counted
 -- A record whose words but the count lie at another place, or at its own, with their roles, is a record there.
 module _ (c d : ℕ → ℕ → Bool) (old new : List ℕ) where
   pub record-copied : (v u n : ℕ) → IsCopiedTo c d old new v u n → IsRecord c old v n → IsRecord d new u n
-  record-copied v u n h (inl (serial, bytes, o, words)) =
-      let P : ℕ → Type 0 = λ x. IsCopiedTo c d old new v u x in inl (serial, bytes, bin-copied c d old new v u serial bytes (subst P words h) o, words)
-  record-copied v u n h (inr (name, arity, o, words)) = let P : ℕ → Type 0 = λ x. IsCopiedTo c d old new v u x in inr (name, arity, fun-copied c d old new v u name arity (subst P words h) o, words)
+  record-copied v u n h (inl (serial, bytes, o, words)) = inl (serial, bytes, bin-copied c d old new v u serial bytes (rw words at h) o, words)
+  record-copied v u n h (inr (name, arity, o, words)) = inr (name, arity, fun-copied c d old new v u name arity (rw words at h) o, words)
 
 -- A record has its size in its first word, and each of its words has its role.
 
@@ -64,15 +63,11 @@ record-second c mem v n (inr (name, arity, o, words)) = o.second
 record-others : (c : ℕ → ℕ → Bool) (mem : List ℕ) (v n j : ℕ) → IsRecord c mem v n → 3 ≤ j → j < n → c (v + j) RECORD ≡ true
 record-others c mem v n j (inl (serial, bytes, o, words)) far below = o.others (v + j) (omega arith) (omega (arith, words, below))
 record-others c mem v n j (inr (name, arity, o, words)) far below =
-    let P : ℕ → Type 0 = λ x. c (v + x) RECORD ≡ true in
     let three : 3 ≡ j = omega (arith, far, words, below) in
-    subst P three o.fourth
+    rw three at o.fourth
 
 at-role : (c : ℕ → ℕ → Bool) (q a i k : ℕ) → q ≡ a → record_roles i ≡ k → c a k ≡ true → c q (record_roles i) ≡ true
-at-role c q a i k e f h =
-    let P : ℕ → Type 0 = λ x. c x (record_roles i) ≡ true in
-    let Q : ℕ → Type 0 = λ x. c a x ≡ true in
-    subst P (sym e) (subst Q (sym f) h)
+at-role c q a i k e f h = rw (e, f) h
 
 pub role-first : record_roles 0 ≡ RECORD_FIRST
 role-first = refl

@@ -36,9 +36,7 @@ role-past (suc (suc zero)) past = absurd (omega (arith, past))
 role-past (suc (suc (suc j))) past = grind (arith, nat_tests)
 
 taken-past : (c d : ℕ → ℕ → Bool) (top n q : ℕ) → Taken record_roles c d top n → top + 3 ≤ q → q < top + n → d q RECORD ≡ true
-taken-past c d top n q t above below =
-    let P : ℕ → Type 0 = λ k. d q k ≡ true in
-    subst P (role-past (q - top) (omega arith)) (t.new (q - top) q (omega arith) (omega arith))
+taken-past c d top n q t above below = rw (role-past (q - top) (omega arith)) at (t.new (q - top) q (omega arith) (omega arith))
 
 zero-byte : (k : ℕ) → byte_of 0 k ≡ 0
 zero-byte k = ap (λ x. x % 256) (zero-div (2 ^ (k * 8)))
@@ -80,7 +78,6 @@ pub bin-made : (c d : ℕ → ℕ → Bool) (mem : List ℕ) (v serial n : ℕ) 
     → Taken record_roles c d v (4 + bin_words n) → IsBinRecord d mem v serial (replicate n 0)
 bin-made c d mem v serial n inside lie t =
     let len : length (replicate {A = ℕ} n 0) ≡ n = length-replicate {A = ℕ} n 0 in
-    let Q : ℕ → Type 0 = λ m. (q : ℕ) → v + 3 ≤ q → q < v + (4 + bin_words m) → d q RECORD ≡ true in
     record {
       within = rw len inside;
       header = rw len (lie.each 0 v (omega arith) (omega arith));
@@ -96,7 +93,7 @@ bin-made c d mem v serial n inside lie t =
       first = t.new 0 v (omega arith) (omega arith);
       second = t.new 1 (v + 1) (omega arith) refl;
       counted = t.new 2 (v + 2) (omega arith) refl;
-      others = subst Q (sym len) (λ q above below. taken-past c d v (4 + bin_words n) q t above below);
+      others = rw len (λ q above below. taken-past c d v (4 + bin_words n) q t above below);
     }
 
 -- A fun's record at words that were taken.
@@ -119,7 +116,6 @@ fun-made c d mem v name arity named few inside lie t = record {
 pub bytes-written : (c : ℕ → ℕ → Bool) (old new : List ℕ) (v serial : ℕ) (bytes other : List ℕ) → IsBinRecord c old v serial bytes → length other ≡ length bytes
     → length new ≡ length old → ((q : ℕ) → q < v + 4 → get_or new q 0 ≡ get_or old q 0) → BytesLie new (v + 4) other → IsBinRecord c new v serial other
 bytes-written c old new v serial bytes other o same_len longer same lie =
-    let Q : ℕ → Type 0 = λ m. (q : ℕ) → v + 3 ≤ q → q < v + (4 + bin_words m) → c q RECORD ≡ true in
     record {
       within = rw (same_len, longer) o.within;
       header = rw same_len (same v (omega arith) ∙ o.header);
@@ -129,7 +125,7 @@ bytes-written c old new v serial bytes other o same_len longer same lie =
       first = o.first;
       second = o.second;
       counted = o.counted;
-      others = subst Q (sym same_len) o.others;
+      others = rw same_len o.others;
     }
 
 -- A byte of the written word, and of any other.

@@ -23,7 +23,7 @@ pub fn put_byte(mem: &mut WordMem, at: u64, i: u64, b: u8)
         → IsBinRecord c mem.new at serial (slice_set bytes i b) }
     ensures kept { (c : ℕ → ℕ → Bool) → Idle c (at + (4 + i / 8)) → Keeps c c mem.old mem.new }
 {
-    let _len = mem.len();
+    mem.bounded();
     let place = at + (HEAD_WORDS + i / 8);
     let word = mem.get(place);
     mem.set(place, put_in_word(word, i % 8, b));
@@ -51,7 +51,7 @@ pub fn fill(mem: &mut WordMem, at: u64, b: u8)
         → IsBinRecord c mem.new at serial (replicate (length bytes) b) }
     ensures kept { (c : ℕ → ℕ → Bool) → IsFree c (at + 4) (at + 4 + bin_words (length_in mem.old at)) → Keeps c c mem.old mem.new }
 {
-    let _len = mem.len();
+    mem.bounded();
     let len = mem.get(at + 3);
     put_equal(mem, at + HEAD_WORDS, len, b);
 }
@@ -63,7 +63,7 @@ fn put_equal(mem: &mut WordMem, from: u64, len: u64, b: u8)
     ensures whole { (q : ℕ) → from ≤ q → q < from + len / 8 → slice_index mem.new q ≡ equal_bytes b }
     ensures rest { 0 < len % 8 → slice_index mem.new (from + len / 8) ≡ equal_bytes b / 2 ^ (64 - len % 8 * 8) }
 {
-    let _len = mem.len();
+    mem.bounded();
     let word = b as u64 * ONES;
     let end = from + len / 8;
     put_same(mem, from, end, word);

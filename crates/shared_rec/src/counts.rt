@@ -24,7 +24,7 @@ pub fn count_of(mem: &WordMem, at: u64) -> u64
     requires { at + 4 ≤ length mem.now }
     ensures { result ≡ count_in mem.now at }
 {
-    let _len = mem.len();
+    mem.bounded();
     mem.get(at + 2)
 }
 
@@ -35,7 +35,7 @@ pub fn serial_of(mem: &WordMem, at: u64) -> u64
     ensures word { result ≡ owner_in mem.now at }
     ensures serial { (c : ℕ → ℕ → Bool) (serial : ℕ) (bytes : List ℕ) → IsBinRecord c mem.now at serial bytes → result ≡ serial }
 {
-    let _len = mem.len();
+    mem.bounded();
     mem.get(at + 1)
 }
 
@@ -46,7 +46,7 @@ pub fn len_of(mem: &WordMem, at: u64) -> u64
     ensures word { result ≡ length_in mem.now at }
     ensures bytes { (c : ℕ → ℕ → Bool) (serial : ℕ) (bytes : List ℕ) → IsBinRecord c mem.now at serial bytes → result ≡ length bytes }
 {
-    let _len = mem.len();
+    mem.bounded();
     mem.get(at + 3)
 }
 
@@ -58,7 +58,7 @@ pub fn is_fun(mem: &WordMem, at: u64, name: u64, arity: u64) -> bool
     ensures of_fun { (c : ℕ → ℕ → Bool) (n a : ℕ) → IsFunRecord c mem.now at n a → IsTrue result ↔ ((n ≡ name) × (a ≡ arity)) }
     ensures of_bin { (c : ℕ → ℕ → Bool) (serial : ℕ) (bytes : List ℕ) → IsBinRecord c mem.now at serial bytes → result ≡ false }
 {
-    let _len = mem.len();
+    mem.bounded();
     if mem.get(at) != HEAD_WORDS * 16 + FUN_RECORD {
         return false;
     }
@@ -73,7 +73,7 @@ pub fn add(mem: &mut WordMem, at: u64)
     ensures writes { mem.new ≡ slice_set mem.old (at + 2) (count_in mem.old at + 1) }
     ensures kept { (c : ℕ → ℕ → Bool) → Idle c (at + 2) → Keeps c c mem.old mem.new }
 {
-    let _len = mem.len();
+    mem.bounded();
     let count = mem.get(at + 2);
     mem.set(at + 2, count + 1);
 }
@@ -86,7 +86,7 @@ pub fn drop_one(mem: &mut WordMem, at: u64) -> Dropped
     ensures told { result ≡ dropped_to (count_in mem.old at - 1) }
     ensures kept { (c : ℕ → ℕ → Bool) → Idle c (at + 2) → Keeps c c mem.old mem.new }
 {
-    let _len = mem.len();
+    mem.bounded();
     let count = mem.get(at + 2) - 1;
     mem.set(at + 2, count);
     if count == 0 {

@@ -23,7 +23,7 @@ pub fn write_bin(mem: &mut WordMem, at: u64, serial: u64, len: u64)
     ensures made { (c d : ℕ → ℕ → Bool) → Taken record_roles c d at (4 + bin_words len) → IsBinRecord d mem.new at serial (replicate len 0) }
     ensures kept { (c d : ℕ → ℕ → Bool) → Taken record_roles c d at (4 + bin_words len) → Keeps c d mem.old mem.new }
 {
-    let _len = mem.len();
+    mem.bounded();
     let words = HEAD_WORDS + (len + 7) / 8;
     write_head(mem, at, words * 16 + BIN_RECORD, serial, len);
     put_same(mem, at + HEAD_WORDS, at + words, 0);
@@ -48,7 +48,7 @@ fn write_head(mem: &mut WordMem, at: u64, first: u64, owner: u64, len: u64)
     ensures writes { WritesRecord at (at + 4) mem.old mem.new }
     ensures words { Lie mem.new at (first ∷ owner ∷ 0 ∷ len ∷ []) }
 {
-    let _len = mem.len();
+    mem.bounded();
     mem.set(at, first);
     mem.set(at + 1, owner);
     mem.set(at + 2, 0);

@@ -45,7 +45,7 @@ pub fn fun_thing(
         → AllClear room.old shared mem.old env.now ts → Clear room.new shared mem.new result (Fun name arity creator ts) }
     ensures kept_clear { KeepsClear room.old room.new mem.old mem.new }
 {
-    let _len = mem.len();
+    mem.bounded();
     let count = env.len() as u64;
     let place = put(
         mem,

@@ -32,7 +32,7 @@ pub fn heap_bin(mem: &mut WordMem, room: &mut Room, bytes: &[u8]) -> u64
     ensures made_clear { (shared : List (List ℕ)) → Clear room.new shared mem.new result (Bin bytes.now) }
     ensures kept_clear { KeepsClear room.old room.new mem.old mem.new }
 {
-    let _len = mem.len();
+    mem.bounded();
     let count = bytes.len() as u64;
     let place = put(mem, room, &[head_of(HEAP_BIN, 1 + (count + 7) / 8), count]);
     put_bytes(mem, room, bytes);
@@ -46,7 +46,7 @@ fn put_bytes(mem: &mut WordMem, room: &mut Room, bytes: &[u8])
     ensures uses { Uses (bin_words (length bytes.now)) room.old room.new mem.old mem.new }
     ensures bytes { BytesLie mem.new room.old.top bytes.now }
 {
-    let _len = mem.len();
+    mem.bounded();
     let place = room.top;
     let words = (bytes.len() + 7) / 8;
     for j in 0..words {

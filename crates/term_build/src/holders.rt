@@ -32,7 +32,7 @@ pub fn holder(mem: &mut WordMem, room: &mut Room, rec: u64, len: u64, next: u64)
         → Clear room.new shared mem.new result (Shared id) }
     ensures kept_clear { KeepsClear room.old room.new mem.old mem.new }
 {
-    let _len = mem.len();
+    mem.bounded();
     let place = put(mem, room, &[head_of(HOLDER, 5), len, next, rec, 0, 0]);
     boxed_at(place)
 }

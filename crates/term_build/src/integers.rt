@@ -47,7 +47,7 @@ fn put_integer(mem: &mut WordMem, room: &mut Room, i: i128) -> u64
     if -(1 << 59) <= i && i < 1 << 59 {
         return small(i as i64);
     }
-    let _len = mem.len();
+    mem.bounded();
     let tag = sign_tag(i);
     let digits = i.unsigned_abs();
     let low = (digits % (1 << 64)) as u64;

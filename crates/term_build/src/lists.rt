@@ -28,7 +28,7 @@ pub fn cons(mem: &mut WordMem, room: &mut Room, h: u64, t: u64) -> u64
         → Clear room.new shared mem.new result (Cons a b) }
     ensures kept_clear { KeepsClear room.old room.new mem.old mem.new }
 {
-    let _len = mem.len();
+    mem.bounded();
     let place = room.top;
     mem.set(place, h);
     mem.set(place + 1, t);

@@ -35,7 +35,7 @@ pub fn map_in_order(mem: &mut WordMem, room: &mut Room, keys: &[u64], values: &[
         → AllClear room.old shared mem.old values.now (values_of ps) → Clear room.new shared mem.new result (Map ps) }
     ensures kept_clear { KeepsClear room.old room.new mem.old mem.new }
 {
-    let _len = mem.len();
+    mem.bounded();
     let count = keys.len() as u64;
     let keys_at = put(mem, room, &[head_of(TUPLE, count)]);
     put(mem, room, keys);

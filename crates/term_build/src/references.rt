@@ -27,7 +27,7 @@ pub fn reference(mem: &mut WordMem, room: &mut Room, n: u64, k: u64) -> u64
     ensures made_clear { (shared : List (List ℕ)) → Clear room.new shared mem.new result (Ref n k) }
     ensures kept_clear { KeepsClear room.old room.new mem.old mem.new }
 {
-    let _len = mem.len();
+    mem.bounded();
     let place = put(mem, room, &[head_of(REF, 2), n, k]);
     boxed_at(place)
 }

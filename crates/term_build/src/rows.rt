@@ -13,7 +13,7 @@ pub fn put(mem: &mut WordMem, room: &mut Room, words: &[u64]) -> u64
     ensures words { Lie mem.new room.old.top words.now }
     ensures place { result ≡ room.old.top }
 {
-    let _len = mem.len();
+    mem.bounded();
     let place = room.top;
     put_row(mem, place, words);
     room.top = place + words.len() as u64;
@@ -27,7 +27,7 @@ pub fn put_row(mem: &mut WordMem, at: u64, words: &[u64])
     ensures others { (q : ℕ) → (q < at) ⊎ (at + length words.now ≤ q) → slice_index mem.new q ≡ slice_index mem.old q }
     ensures same_len { length mem.new ≡ length mem.old }
 {
-    let _len = mem.len();
+    mem.bounded();
     for (i, w) in words.iter().enumerate() {
         mem.set(at + i as u64, *w);
     }

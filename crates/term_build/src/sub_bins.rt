@@ -33,7 +33,7 @@ pub fn sub_bin(mem: &mut WordMem, room: &mut Room, base: u64, off: u64, len: u64
         → Clear room.new shared mem.new result (Part t off len) }
     ensures kept_clear { KeepsClear room.old room.new mem.old mem.new }
 {
-    let _len = mem.len();
+    mem.bounded();
     let place = put(mem, room, &[head_of(SUB_BIN, 4), len, off, 0, base]);
     boxed_at(place)
 }

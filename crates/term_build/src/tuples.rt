@@ -31,7 +31,7 @@ pub fn tuple(mem: &mut WordMem, room: &mut Room, parts: &[u64]) -> u64
         → Clear room.new shared mem.new result (Tuple ts) }
     ensures kept_clear { KeepsClear room.old room.new mem.old mem.new }
 {
-    let _len = mem.len();
+    mem.bounded();
     let place = room.top;
     let count = parts.len() as u64;
     mem.set(place, head_of(TUPLE, count));
@@ -57,7 +57,7 @@ pub fn same_tuple(mem: &mut WordMem, room: &mut Room, n: u64, w: u64) -> u64
         → Clear room.new shared mem.new result (Tuple (same_trees n t)) }
     ensures kept_clear { KeepsClear room.old room.new mem.old mem.new }
 {
-    let _len = mem.len();
+    mem.bounded();
     let place = put(mem, room, &[head_of(TUPLE, n)]);
     put_same(mem, room, n, w);
     boxed_at(place)
@@ -70,7 +70,7 @@ fn put_same(mem: &mut WordMem, room: &mut Room, n: u64, w: u64)
     ensures uses { Uses n room.old room.new mem.old mem.new }
     ensures words { Lie mem.new room.old.top (replicate n w) }
 {
-    let _len = mem.len();
+    mem.bounded();
     let place = room.top;
     for i in 0..n {
         mem.set(place + i, w);

@@ -20,7 +20,7 @@ pub fn copy_part(mem: &mut WordMem, room: &mut Room, w: u64) -> u64
     ensures each { (p : Task) (known : List Item) (mark at owed : ℕ) (u : Tree) → Leading p known mem.old mark at room.old.top (flat u + owed)
         → Stands p.test p.shared p.start w u → Goes p w → HasImage p known mem.new mark at room.new.top owed w result }
 {
-    let _len = mem.len();
+    mem.bounded();
     copy_object(mem, room, w)
 }
 
@@ -45,7 +45,7 @@ fn copy_cons(mem: &mut WordMem, room: &mut Room, w: u64) -> u64
     ensures took { Took mem.old mem.new w room.old.top result }
     ensures room { room.new ≡ record room.old { top = room.old.top + object_words mem.old w } }
 {
-    let _len = mem.len();
+    mem.bounded();
     let at = w / 4;
     let to = room.top;
     let head = mem.get(at);
@@ -62,7 +62,7 @@ fn copy_boxed(mem: &mut WordMem, room: &mut Room, w: u64) -> u64
     ensures took { Took mem.old mem.new w room.old.top result }
     ensures room { room.new ≡ record room.old { top = room.old.top + object_words mem.old w } }
 {
-    let _len = mem.len();
+    mem.bounded();
     let at = w / 4;
     let to = room.top;
     let header = mem.get(at);

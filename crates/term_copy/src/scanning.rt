@@ -21,7 +21,7 @@ pub fn scan_object(mem: &mut WordMem, room: &mut Room, stay: &Stay, at: u64) -> 
     ensures each { (p : Task) (known : List Item) → IsStay p (stays stay.now) → Leading p known mem.old at at room.old.top 0
         → Leading p known mem.new result result room.new.top 0 }
 {
-    let _len = mem.len();
+    mem.bounded();
     let word = mem.get(at);
     if word % 4 != 0 {
         let end = at + 2;
@@ -56,7 +56,7 @@ fn scan_word(mem: &mut WordMem, room: &mut Room, stay: &Stay, at: u64)
     ensures each { (p : Task) (known : List Item) (to : ℕ) (u : Tree) (rest : Trees) → IsStay p (stays stay.now)
         → Scanning p known mem.old at to room.old.top (u ▹ rest) → Scanning p known mem.new (at + 1) to room.new.top rest }
 {
-    let _len = mem.len();
+    mem.bounded();
     let w = mem.get(at);
     if goes(stay, w) {
         let new = copy_part(mem, room, w);

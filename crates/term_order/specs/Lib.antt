@@ -1,4 +1,5 @@
 pub mod Named
+pub mod Held
 pub mod Own
 pub mod Compared
 pub mod Runs

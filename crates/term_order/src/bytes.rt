@@ -34,7 +34,7 @@ fn equal_words(mem: &WordMem, b: Bytes, d: Bytes, most: u64) -> u64
     ensures few { result ≤ most }
     ensures same { (k : ℕ) → k < result → byte_in mem.now b k ≡ byte_in mem.now d k }
 {
-    let _len = mem.len();
+    mem.bounded();
     if b.start % 8 != 0 {
         return 0;
     }
@@ -59,7 +59,7 @@ pub fn byte(mem: &WordMem, b: Bytes, i: u64) -> u8
     requires below { i < b.len }
     ensures { result ≡ byte_in mem.now b i }
 {
-    let _len = mem.len();
+    mem.bounded();
     let at = b.start + i;
     let word = mem.get(b.first + at / 8);
     ((word >> (at % 8 * 8)) % 256) as u8

@@ -18,7 +18,7 @@ pub fn pass_same(mem: &WordMem, a: u64, b: u64, most: u64) -> Pair
     ensures few { result.cells ≤ most }
     ensures passes { PassesBoth mem.now a b result.left result.right result.cells }
 {
-    let _len = mem.len();
+    mem.bounded();
     let mut left = a;
     let mut right = b;
     let mut cells = 0;
@@ -39,7 +39,7 @@ fn is_same_cell(mem: &WordMem, left: u64, right: u64) -> bool
     requires { AreBoth mem.now left right }
     ensures { result ≡ true → IsSameCell mem.now left right }
 {
-    let _len = mem.len();
+    mem.bounded();
     if left == right {
         return false;
     }

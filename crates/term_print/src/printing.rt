@@ -96,7 +96,7 @@ fn print_left<K: Sink, const N: usize>(
     ensures few { IfOk result (λ seen. seen ≤ NODE_LIMIT) }
     ensures all { OnOk result ((levels.new.items ≡ []) ⊎ (length levels.new.items ≡ N)) }
 {
-    let _len = mem.len();
+    mem.bounded();
     let mut text = ArrayVec::new();
     let mut seen = before;
     while !levels.is_full() {

@@ -40,7 +40,7 @@ fn gather_list(mem: &WordMem, place: u64, text: &mut ArrayVec<u8, ROOM>) -> Leve
     ensures { (c : ℕ → ℕ → Bool) (shared names : List (List ℕ)) (ts : Trees) → AreTwo c shared mem.now place ts
         → Gathers c shared mem.now names (Level.List place) result text.new.items ts }
 {
-    let _len = mem.len();
+    mem.bounded();
     let mut buffer = Buffer::new();
     let mut at = place;
     while text.len() < ENOUGH {
@@ -73,7 +73,7 @@ fn gather_parts(
     ensures { (c : ℕ → ℕ → Bool) (shared names : List (List ℕ)) (ts : Trees) → RowStandsFor c shared mem.now row ts
         → Gathers c shared mem.now names (Level.Parts row mark last) result text.new.items ts }
 {
-    let _len = mem.len();
+    mem.bounded();
     let mut buffer = Buffer::new();
     let mut left = row;
     let mut before = mark;

@@ -20,7 +20,7 @@ pub fn byte_at(mem: &WordMem, w: u64, i: u64) -> Option<u8>
     requires { IsTerm mem.now w }
     ensures { TellsOf (binary_byte_in i) mem.now w result }
 {
-    let _len = mem.len();
+    mem.bounded();
     let bytes = data_of(mem, w)?;
     if i < bytes.len {
         let at = bytes.start + i;

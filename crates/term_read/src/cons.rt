@@ -13,7 +13,7 @@ pub fn hd(mem: &WordMem, w: u64) -> Option<u64>
     ensures reads { FindsPart head_in mem.now w result }
     ensures word { IfSome result (λ v. v ≡ slice_index mem.now (w / 4)) }
 {
-    let _len = mem.len();
+    mem.bounded();
     let place = cons_at(mem, w)?;
     Some(mem.get(place))
 }
@@ -24,7 +24,7 @@ pub fn tl(mem: &WordMem, w: u64) -> Option<u64>
     ensures reads { FindsPart tail_in mem.now w result }
     ensures word { IfSome result (λ v. v ≡ slice_index mem.now (w / 4 + 1)) }
 {
-    let _len = mem.len();
+    mem.bounded();
     let cons = cons_at(mem, w)?;
     Some(mem.get(cons + 1))
 }

@@ -14,7 +14,7 @@ pub fn fun_env(mem: &WordMem, w: u64, i: u64) -> Option<u64>
     ensures reads { FindsPart (env_in i) mem.now w result }
     ensures word { IfSome result (λ v. v ≡ slice_index mem.now (w / 4 + 5 + i)) }
 {
-    let _len = mem.len();
+    mem.bounded();
     let place = object_at(mem, w, FUN)?;
     let places = mem.get(place + 4);
     if 1 <= i && i <= places {

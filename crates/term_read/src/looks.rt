@@ -83,7 +83,7 @@ pub fn look_at(mem: &WordMem, w: u64) -> Look
     ensures tree { Sees mem.now w result }
     ensures places { LiesInMemory mem.now result }
 {
-    let _len = mem.len();
+    mem.bounded();
     match kind_of(w) {
         Kind::Small(i) => Look::Small(i),
         Kind::Atom(k) => Look::Atom(k),
@@ -101,7 +101,7 @@ fn object_look(mem: &WordMem, w: u64, place: u64) -> Look
     requires pointer { (w % 4 ≡ 2) × (place ≡ w / 4) }
     ensures { Sees mem.now w result }
 {
-    let _len = mem.len();
+    mem.bounded();
     let header = mem.get(place);
     let Some(object) = object_of(header) else {
         unreachable!()
@@ -141,7 +141,7 @@ fn big_look(mem: &WordMem, w: u64, place: u64, negative: bool) -> Look
     requires subtag { slice_index mem.now place / 4 % 16 ≡ (if negative then NEG_BIG else POS_BIG) }
     ensures { Sees mem.now w result }
 {
-    let _len = mem.len();
+    mem.bounded();
     let low = mem.get(place + 1);
     if mem.get(place) / 64 == 2 {
         let high = mem.get(place + 2);
@@ -166,7 +166,7 @@ fn fun_look(mem: &WordMem, w: u64, place: u64) -> Look
     requires subtag { slice_index mem.now place / 4 % 16 ≡ FUN }
     ensures { Sees mem.now w result }
 {
-    let _len = mem.len();
+    mem.bounded();
     let record = mem.get(place + 1);
     Look::Fun(FunParts {
         name: mem.get(record + 1) / 256,
@@ -186,7 +186,7 @@ fn part_look(mem: &WordMem, w: u64, place: u64) -> Look
     requires subtag { slice_index mem.now place / 4 % 16 ≡ SUB_BIN }
     ensures { Sees mem.now w result }
 {
-    let _len = mem.len();
+    mem.bounded();
     let base = mem.get(place + 4);
     let Some(first) = first_word(mem, base) else {
         unreachable!()
@@ -206,7 +206,7 @@ fn first_word(mem: &WordMem, w: u64) -> Option<u64>
     requires { IsTerm mem.now w }
     ensures { HasFirst mem.now w result }
 {
-    let _len = mem.len();
+    mem.bounded();
     if let Some(place) = object_at(mem, w, HEAP_BIN) {
         return Some(place + 2);
     }

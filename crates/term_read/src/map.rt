@@ -12,7 +12,7 @@ pub fn map_len(mem: &WordMem, w: u64) -> Option<u64>
     requires { IsTerm mem.now w }
     ensures { TellsOf map_len_in mem.now w result }
 {
-    let _len = mem.len();
+    mem.bounded();
     let place = object_at(mem, w, MAP)?;
     Some(mem.get(place + 1))
 }
@@ -23,7 +23,7 @@ pub fn map_key(mem: &WordMem, w: u64, i: u64) -> Option<u64>
     ensures reads { FindsPart (key_of i) mem.now w result }
     ensures word { IfSome result (λ v. v ≡ slice_index mem.now (slice_index mem.now (w / 4 + 2) / 4 + 1 + i)) }
 {
-    let _len = mem.len();
+    mem.bounded();
     let place = object_at(mem, w, MAP)?;
     if i < mem.get(place + 1) {
         let keys = mem.get(place + 2);
@@ -39,7 +39,7 @@ pub fn map_value(mem: &WordMem, w: u64, i: u64) -> Option<u64>
     ensures reads { FindsPart (map_value_of i) mem.now w result }
     ensures word { IfSome result (λ v. v ≡ slice_index mem.now (w / 4 + 3 + i)) }
 {
-    let _len = mem.len();
+    mem.bounded();
     let place = object_at(mem, w, MAP)?;
     if i < mem.get(place + 1) {
         Some(mem.get(place + 3 + i))

@@ -11,7 +11,7 @@ pub fn cons_at(mem: &WordMem, w: u64) -> Option<u64>
     ensures some { IfSome result (λ p. (w % 4 ≡ 1) × (p ≡ w / 4) × (p + 2 ≤ length mem.now)) }
     ensures none { IfNone result (w % 4 ≡ 1 → ⊥) }
 {
-    let _len = mem.len();
+    mem.bounded();
     if let Kind::ListAt(place) = kind_of(w) {
         Some(place)
     } else {
@@ -26,7 +26,7 @@ pub fn object_at(mem: &WordMem, w: u64, subtag: u8) -> Option<u64>
         × (p + (1 + slice_index mem.now p / 64) ≤ length mem.now)) }
     ensures none { IfNone result (w % 4 ≡ 2 → slice_index mem.now (w / 4) / 4 % 16 ≡ subtag → ⊥) }
 {
-    let _len = mem.len();
+    mem.bounded();
     if let Kind::BoxedAt(place) = kind_of(w) {
         if mem.get(place) / 4 % 16 == subtag as u64 {
             return Some(place);

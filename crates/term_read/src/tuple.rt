@@ -14,7 +14,7 @@ pub fn element(mem: &WordMem, w: u64, i: u64) -> Option<u64>
     ensures reads { FindsPart (element_of i) mem.now w result }
     ensures word { IfSome result (λ v. v ≡ slice_index mem.now (w / 4 + i)) }
 {
-    let _len = mem.len();
+    mem.bounded();
     let place = object_at(mem, w, TUPLE)?;
     let parts = mem.get(place) / 64;
     if 1 <= i && i <= parts {

@@ -53,7 +53,7 @@ fn cut_of(mem: &WordMem, w: u64) -> Option<Cut>
     ensures cut { (c : ℕ → ℕ → Bool) (shared : List (List ℕ)) (t : Tree) → Stands c shared mem.now w t → IsCut c shared mem.now t result }
     ensures small { IfSome result (λ cut. (n : ℕ) → n ≤ cut.len → cut.start + n < 2 ^ 64) }
 {
-    let _len = mem.len();
+    mem.bounded();
     match look_at(mem, w) {
         Look::Heap(bytes) | Look::Holder(bytes) => Some(Cut {
             base: w,

@@ -21,7 +21,7 @@ pub fn spot_of(mem: &WordMem, names: &AtomNames, rows: PairRows, key: u64) -> Op
     ensures finds { IfSome result (λ spot. (c : ℕ → ℕ → Bool) (shared : List (List ℕ)) (ps : Pairs) (k : Tree) → AreKeys c shared mem.now rows ps
         → AreSorted names.now shared ps → Stands c shared mem.now key k → Finds names.now shared (keys_of ps) k spot) }
 {
-    let _len = mem.len();
+    mem.bounded();
     if is_beyond(mem, key) {
         return None;
     }

@@ -43,7 +43,7 @@ pub fn place_in(mem: &WordMem, names: &AtomNames, w: u64, key: u64) -> Result<Pl
     ensures { (c : ℕ → ℕ → Bool) (shared : List (List ℕ)) (t k : Tree) → Stands c shared mem.now w t → Stands c shared mem.now key k
         → IsPlaceInMap names.now shared t k result }
 {
-    let _len = mem.len();
+    mem.bounded();
     let Look::Map(rows) = look_at(mem, w) else {
         return Err(PutStop::NoMap);
     };
@@ -96,7 +96,7 @@ fn row_with(mem: &WordMem, first: u64, len: u64, spot: Spot, word: u64) -> Array
     requires few { count_placed spot len ≤ MOST_KEYS }
     ensures { result.items ≡ word_placed spot word (take len (drop first mem.now)) }
 {
-    let _len = mem.len();
+    mem.bounded();
     let mut words = ArrayVec::new();
     for i in 0..len {
         words.push(mem.get(first + i));

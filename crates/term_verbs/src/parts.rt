@@ -39,7 +39,7 @@ fn value_at(mem: &WordMem, names: &AtomNames, w: u64, key: u64) -> Option<u64>
         → HasSorted names.now shared t → AnswersPart c shared mem.now (value_in names.now shared k t) result }
     ensures is_part { IfSome result (λ v. (c : ℕ → ℕ → Bool) (shared : List (List ℕ)) (t : Tree) → Stands c shared mem.now w t → IsPart c shared mem.now t v) }
 {
-    let _len = mem.len();
+    mem.bounded();
     let Look::Map(rows) = look_at(mem, w) else {
         return None;
     };

@@ -54,7 +54,7 @@ pub fn go_on<const N: usize>(mem: &WordMem, levels: &mut ArrayVec<Rest, N>, look
         → Stands c shared mem.now w now → IsSeen c shared mem.now w now look → AreLeft c shared mem.now (reverse levels.old.items) rests
         → WalkGoes N c shared mem.now (reverse levels.old.items) now rests result (reverse levels.new.items) }
 {
-    let _len = mem.len();
+    mem.bounded();
     if let Look::Cons(place) = look {
         if levels.is_full() {
             return Further::TooDeep;
@@ -101,7 +101,7 @@ pub fn next_word<const N: usize>(mem: &WordMem, levels: &mut ArrayVec<Rest, N>) 
     requires { HasLeft mem.now (reverse levels.old.items) }
     ensures { Yields mem.now (reverse levels.old.items) result (reverse levels.new.items) }
 {
-    let _len = mem.len();
+    mem.bounded();
     let _most = levels.len();
     while let Some(rest) = levels.pop() {
         if let Some((place, more)) = take(rest) {

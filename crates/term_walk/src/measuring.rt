@@ -58,7 +58,7 @@ fn measure_on<const N: usize>(mem: &WordMem, w: u64) -> Option<Measured>
     ensures found { IfSome result (Measures mem.now w) }
     ensures deep { IfNone result (N ≡ DEPTH_LIMIT → Measures mem.now w Measured.Beyond) }
 {
-    let _len = mem.len();
+    mem.bounded();
     let mut levels: ArrayVec<Rest, N> = ArrayVec::new();
     let mut word = w;
     let mut nodes = 0;

@@ -20,7 +20,7 @@ pub fn pass_cells(mem: &WordMem, w: u64, most: u64) -> Run
     ensures few { result.cells ≤ most }
     ensures passes { PassesCells mem.now w result.word result.cells }
 {
-    let _len = mem.len();
+    mem.bounded();
     let mut word = w;
     let mut cells = 0;
     while cells < most {

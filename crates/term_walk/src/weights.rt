@@ -37,7 +37,7 @@ pub fn own_flat(mem: &WordMem, look: Look) -> u64
     ensures words { HasFlat mem.now look result }
     ensures few { result ≤ 2 ^ 26 }
 {
-    let _len = mem.len();
+    mem.bounded();
     match look {
         Look::Big(digits) => digit_words(digits),
         Look::Ref(_, _) => 3,
@@ -65,7 +65,7 @@ fn base_words(mem: &WordMem, w: u64) -> u64
     ensures words { (c : ℕ → ℕ → Bool) (shared : List (List ℕ)) (base : Tree) → Stands c shared mem.now w base → IsBase base → result ≡ flat base }
     ensures few { result ≤ 2 ^ 24 + 3 }
 {
-    let _len = mem.len();
+    mem.bounded();
     if let Look::Heap(bytes) = look_at(mem, w) {
         2 + bytes.len.div_ceil(8)
     } else {

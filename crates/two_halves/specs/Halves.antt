@@ -1,13 +1,11 @@
 -- The half in use: how it is laid out, and the processes and records that stand in it.
 use Rattle.std.specs.Prelude.{◌≡◌, ℕ, ◌+◌, ◌-◌, ◌*◌, ◌/◌, ◌%◌, ◌<◌, ◌≤◌, ◌⊎◌, Bool, true, List, [], ◌∷◌, ◌++◌, length, sum_by}
-use Rattle.plain_term.specs.Tree.{Tree}
 use Rattle.plain_term.specs.Bytes.{shared_bytes}
 use Rattle.plain_machine.specs.State.{Process}
 use Rattle.term_words.specs.Role.{NEXT, IsSingle, OfObject, OfRecord}
 use Rattle.term_words.specs.Object.{IsBinRecord, IsFunRecord, IsRecord}
-use Rattle.term_words.specs.Stands.{Stands}
 use Rattle.term_words.specs.Counted.{In, Distinct, total}
-use Rattle.term_order.specs.Named.{is_named}
+use Rattle.term_order.specs.Held.{HoldTrees}
 use Rattle.shared_rec.specs.Record.{owner_in}
 use Rattle.off_heap_list.specs.Links.{Links}
 use Rattle.off_heap_list.specs.Exact.{AllCounted}
@@ -64,18 +62,6 @@ pub record IsLaid (h : Halves) : Type 0 where
   pub front : front_of h ≤ h.room.top
   pub order : h.room.top ≤ h.room.end
   pub fits : h.room.end + (PLACE_WORDS * places_in h.procs.items + total (record_words h.mem) (records_of h)) ≤ end_of h
-
--- The word stands for the tree where the test allows it, and all names of the tree are below a number.
-pub record HoldsTree (c : ℕ → ℕ → Bool) (shared : List (List ℕ)) (mem : List ℕ) (named w : ℕ) (t : Tree) : Type 0 where
-  pub standing : Stands c shared mem w t
-  pub names : is_named named t ≡ true
-
--- Each of the words holds its tree, in order.
-abbrev pub HoldTrees : (ℕ → ℕ → Bool) → List (List ℕ) → List ℕ → ℕ → List ℕ → List Tree → Type 0
-HoldTrees c shared mem named [] [] = Unit {0}
-HoldTrees c shared mem named (w ∷ ws) (t ∷ ts) = HoldsTree c shared mem named w t × HoldTrees c shared mem named ws ts
-HoldTrees c shared mem named [] (t ∷ ts) = ⊥
-HoldTrees c shared mem named (w ∷ ws) [] = ⊥
 
 -- The row stands for the process; the places of its stack and its queue lie between these bounds.
 pub record ProcStands (c : ℕ → ℕ → Bool) (shared : List (List ℕ)) (mem : List ℕ) (low limit named : ℕ) (p : Proc) (q : Process) : Type 0 where

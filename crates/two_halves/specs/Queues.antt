@@ -9,7 +9,8 @@ use Rattle.term_words.specs.Object.{IsPointer}
 use Rattle.term_words.specs.Reach.{Reach}
 use Rattle.term_words.specs.Stands.{Stands}
 use Rattle.two_halves.specs.Stack.{values}
-use Rattle.two_halves.specs.Halves.{HalvesStand, HoldsTree, IsLaid, free_in}
+use Rattle.two_halves.specs.Halves.{HalvesStand, IsLaid, free_in}
+use Rattle.term_order.specs.Held.{HoldsTree}
 use Rattle.two_halves.specs.Reached.{roots_of}
 use Rattle.two_halves.specs.declared.table.Proc.{Proc}
 use Rattle.two_halves.specs.declared.halves.Halves.{Halves}

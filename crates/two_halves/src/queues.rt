@@ -26,7 +26,7 @@ impl Halves {
         requires can { CanCopyIn self.old w }
         ensures { CopiesIn self.old self.new w result }
     {
-        let _len = self.mem.len();
+        self.mem.bounded();
         let from = self.room.top;
         let stay = Stay::none();
         let copy = copy_tree(&mut self.mem, &mut self.room, &stay, w);
@@ -44,7 +44,7 @@ impl Halves {
         requires can { CanQueue self.old row w }
         ensures { Queues self.old self.new row w }
     {
-        let _len = self.mem.len();
+        self.mem.bounded();
         let place = self.room.end - PLACE_WORDS;
         let process = *self.process(row);
         let first = follow(
@@ -73,7 +73,7 @@ impl Halves {
         if process.waiting == 0 {
             return None;
         }
-        let _len = self.mem.len();
+        self.mem.bounded();
         let place = process.queue;
         process.queue = self.mem.get(place + 1);
         process.waiting -= 1;
@@ -90,7 +90,7 @@ fn follow(mem: &mut WordMem, queue: u64, last: u64, waiting: u64, place: u64) ->
     if waiting == 0 {
         return place;
     }
-    let _len = mem.len();
+    mem.bounded();
     mem.set(last + 1, place);
     queue
 }

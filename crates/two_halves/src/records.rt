@@ -30,7 +30,7 @@ impl Halves {
             → Gets named self.new (shared ++ replicate len byte ∷ []) qs result (Shared serial) }
         ensures uses { free_in self.old ≤ free_in self.new + (10 + bin_words len) }
     {
-        let _len = self.mem.len();
+        self.mem.bounded();
         let at = self.put_bin(serial, len, byte);
         let object = self.room.top;
         let w = holder(&mut self.mem, &mut self.room, at, len, 0);
@@ -54,7 +54,7 @@ impl Halves {
         ensures zero { count_in self.new.mem result ≡ 0 }
         ensures place { result ≡ self.new.room.end }
     {
-        let _len = self.mem.len();
+        self.mem.bounded();
         let at = self.room.end - (RECORD_COST + (len + 7) / 8);
         write_bin(&mut self.mem, at, serial, len);
         fill(&mut self.mem, at, byte);
@@ -79,7 +79,7 @@ impl Halves {
             → name < named → AllStand x.test shared self.old.mem env.now ts → Gets named self.new shared qs result (Fun name arity creator ts) }
         ensures uses { free_in self.old ≤ free_in self.new + (10 + length env.now) }
     {
-        let _len = self.mem.len();
+        self.mem.bounded();
         let rec = self.fun_record(name, arity);
         let object = self.room.top;
         let w = fun_thing(&mut self.mem, &mut self.room, rec, 0, arity, creator, env);
@@ -103,7 +103,7 @@ impl Halves {
         ensures low { self.old.room.end ≤ self.new.room.end + 4 }
         ensures linked { self.new.linked ≡ self.old.linked }
     {
-        let _len = self.mem.len();
+        self.mem.bounded();
         let code = name * 256 + arity;
         let i = self.spot_of(code);
         if let Some(at) = self.fun_at(i, code) {

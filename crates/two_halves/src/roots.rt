@@ -33,7 +33,7 @@ fn move_process(mem: &mut WordMem, mv: &mut Moving, process: &mut Proc, to: u64)
     ensures { (p : Plan) (k : Marks) (low limit : ℕ) → RowMoves p mem.old mv.old k low limit process.old to
         → RowMoved p mem.old mem.new mv.new k process.old process.new to }
 {
-    let _len = mem.len();
+    mem.bounded();
     evacuate_all(mem, mv, &mut process.regs);
     let queue = to + PLACE_WORDS * process.depth;
     move_stack(mem, mv, process.stack, process.depth, to);
@@ -61,7 +61,7 @@ fn move_stack(mem: &mut WordMem, mv: &mut Moving, from: u64, depth: u64, to: u64
     ensures { (p : Plan) (k : Marks) (low limit : ℕ) → StackMoves p mem.old mv.old k low limit from depth to
         → StackMoved p mem.old mem.new mv.new k from depth to }
 {
-    let _len = mem.len();
+    mem.bounded();
     let mut place = from;
     for i in 0..depth {
         place = move_place(mem, mv, place, to + PLACE_WORDS * i);
@@ -76,7 +76,7 @@ fn move_place(mem: &mut WordMem, mv: &mut Moving, place: u64, to: u64) -> u64
     requires new { to + PLACE_WORDS ≤ length mem.old }
     ensures { (p : Plan) (k : Marks) → PlaceMoves p mem.old mv.old k place to → PlaceMoved p mem.old mem.new mv.new k place to result }
 {
-    let _len = mem.len();
+    mem.bounded();
     let w = mem.get(place);
     let below = mem.get(place + 1);
     let new = evacuate(mem, mv, w);

@@ -146,7 +146,8 @@ impl Arena {
         ensures apart { FreeApart self.new.mem }
     {
         let end = gather(&mut self.mem);
-        self.relay(end);
+        close(&mut self.mem, end);
+        self.holes.take_up(&self.mem);
     }
 
     /// The words of all free blocks.

@@ -44,7 +44,7 @@ pub(crate) fn next(mem: &WordMem, at: u64) -> u64
     ensures stop { IsBoundary mem.now result }
     ensures after { at < result }
 {
-    let _len = mem.len();
+    mem.bounded();
     at + size(mem, at)
 }
 
@@ -74,7 +74,7 @@ pub(crate) fn first_fit(mem: &WordMem, from: u64, end: u64, words: u64) -> Optio
     ensures fits { IfSome result (λ at. words ≤ free_at mem.now at) }
     ensures first { IfSome result (λ at. (p : ℕ) → BlockBegins mem.now p → from ≤ p → p < at → free_at mem.now p < words) }
 {
-    let _len = mem.len();
+    mem.bounded();
     let mut at = from;
     while at < end {
         if words <= free(mem, at) {
@@ -95,7 +95,7 @@ pub(crate) fn free_before(mem: &WordMem, from: u64, end: u64, at: u64) -> u64
     ensures place { (result ≡ at) ⊎ (BlockBegins mem.now result × (kind_at mem.now result ≡ 0) × (result + size_at mem.now result ≡ at)) }
     ensures none { result ≡ at → (p : ℕ) → BlockBegins mem.now p → from ≤ p → p < end → kind_at mem.now p ≡ 0 → p + size_at mem.now p ≢ at }
 {
-    let _len = mem.len();
+    mem.bounded();
     let mut p = from;
     while p < end {
         if p + free(mem, p) == at {
@@ -124,7 +124,7 @@ pub(crate) fn greatest(mem: &WordMem, from: u64, end: u64) -> Walk
     ensures past { end ≤ result.at }
     ensures next { (p : ℕ) → BlockBegins mem.now p → from ≤ p → end ≤ p → result.at ≤ p }
 {
-    let _len = mem.len();
+    mem.bounded();
     let mut most = 0;
     let mut at = from;
     while at < end {
@@ -132,6 +132,27 @@ pub(crate) fn greatest(mem: &WordMem, from: u64, end: u64) -> Walk
         at = next(mem, at);
     }
     Walk { most, at }
+}
+
+/// The first free block among those that begin from one place on and before another; where none is free, the first block
+/// behind them, or the memory's end.
+pub(crate) fn first_free(mem: &WordMem, from: u64, end: u64) -> u64
+    requires blocked { Blocked mem.now }
+    requires from { IsBoundary mem.now from }
+    requires end { end ≤ length mem.now }
+    ensures stop { IsBoundary mem.now result }
+    ensures after { from ≤ result }
+    ensures passed { (p : ℕ) → BlockBegins mem.now p → from ≤ p → p < result → (p < end) × (1 ≤ kind_at mem.now p) }
+{
+    mem.bounded();
+    let mut at = from;
+    while at < end {
+        if kind(mem, at) == 0 {
+            return at;
+        }
+        at = next(mem, at);
+    }
+    at
 }
 
 /// The free words before a block, and where it begins.
@@ -152,7 +173,7 @@ pub(crate) fn count_before(mem: &WordMem, from: u64, end: u64, sum: u64) -> Coun
     ensures past { end ≤ result.at }
     ensures next { (p : ℕ) → BlockBegins mem.now p → from ≤ p → end ≤ p → result.at ≤ p }
 {
-    let _len = mem.len();
+    mem.bounded();
     let mut sum = sum;
     let mut at = from;
     while at < end {

@@ -94,16 +94,28 @@ impl Holes {
         }
     }
 
-    /// Takes up all blocks of a memory.
+    /// Takes up all blocks of a memory, and sums their free words up.
     pub(crate) fn renew(&mut self, mem: &WordMem)
         requires blocked { Blocked mem.now }
         requires room { HasRoom mem.now self.old }
         ensures { Agrees mem.now self.new }
     {
+        self.take_up(mem);
+        self.free = free_words(mem);
+    }
+
+    /// Takes up all blocks of a memory whose free words are summed up already.
+    pub(crate) fn take_up(&mut self, mem: &WordMem)
+        requires blocked { Blocked mem.now }
+        requires room { HasRoom mem.now self.old }
+        ensures room { HasRoom mem.now self.new }
+        ensures right { (i : ℕ) → i < length self.new.firsts.items → Right mem.now self.new.firsts.items self.new.tops i }
+        ensures free { self.new.free ≡ self.old.free }
+    {
+        self.tops.clear();
         let mut at = 0;
         for stretch in 0..self.firsts.len() {
             at = self.settle(mem, stretch, at);
         }
-        self.free = free_words(mem);
     }
 }

@@ -15,7 +15,7 @@ pub(crate) fn carve(mem: &mut WordMem, at: u64, words: u64, kind: u64, owner: u6
     requires kind { (1 ≤ kind) × (kind ≤ LAST_KIND) }
     ensures { TookBlock mem.old mem.new at words kind owner }
 {
-    let _len = mem.len();
+    mem.bounded();
     let behind = next(mem, at);
     set_free(mem, at + words, behind);
     mem.set(at, words * KINDS + kind);
@@ -30,7 +30,7 @@ pub(crate) fn shorten(mem: &mut WordMem, at: u64, words: u64)
     requires most { words ≤ size_at mem.old at }
     ensures { Shortened mem.old mem.new at words }
 {
-    let _len = mem.len();
+    mem.bounded();
     let behind = next(mem, at);
     let end = free_end(mem, behind);
     let kind = kind(mem, at);
@@ -45,7 +45,7 @@ pub(crate) fn set_kind(mem: &mut WordMem, at: u64, kind: u64)
     requires kind { (1 ≤ kind) × (kind ≤ LAST_KIND) }
     ensures { Turned mem.old mem.new at kind }
 {
-    let _len = mem.len();
+    mem.bounded();
     let size = size(mem, at);
     mem.set(at, size * KINDS + kind);
 }
@@ -57,7 +57,7 @@ pub(crate) fn merge(mem: &mut WordMem, at: u64, from: u64)
     requires free { FreeFrom mem.old at from }
     ensures { GaveBlock mem.old mem.new at from }
 {
-    let _len = mem.len();
+    mem.bounded();
     let behind = next(mem, at);
     let end = free_end(mem, behind);
     mem.set(from, (end - from) * KINDS);
@@ -78,7 +78,7 @@ fn set_free(mem: &mut WordMem, from: u64, to: u64)
     requires { to ≤ length mem.old }
     ensures { mem.new ≡ freed mem.old from to }
 {
-    let _len = mem.len();
+    mem.bounded();
     if from < to {
         mem.set(from, (to - from) * KINDS);
     }

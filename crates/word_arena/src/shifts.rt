@@ -4,13 +4,13 @@ ghost use Rattle.word_arena.specs.Sums.{free_before};
 ghost use Rattle.word_arena.specs.Sound.{Sound};
 
 use crate::arena::Arena;
-use crate::blocks::{count_before, free, next};
-use crate::stretches::{STRETCH, stretch_end, stretch_of};
+use crate::blocks::{count_before, first_free, free, next};
+use crate::stretches::{SHORT, short_end, short_of};
 use std::alloc::Global;
 use word_mem::{OpenFault, WordMem};
 
-/// For each stretch of 64 words the free words before it, and where its first block begins. No call of the arena keeps it
-/// up: it is taken anew by `sum_up`, and then right while the headers are as they were.
+/// For each short stretch the free words before it, and where the first free block begins in it. No call of the arena keeps
+/// it up: it is taken anew by `sum_up`, and then right while the headers are as they were.
 #[derive(Drop)]
 pub struct Shifts {
     sums: Vec<u32>,
@@ -25,7 +25,7 @@ impl Shifts {
         requires { words ≤ 2 ^ 24 }
         ensures { IfOk result (λ s. HasStretches words s) }
     {
-        let stretches = stretch_of(words) + 1;
+        let stretches = short_of(words) + 1;
         let Ok(sums) = vec![in alloc; 0; stretches] else {
             return Err(OpenFault::Memory);
         };
@@ -43,16 +43,17 @@ impl Shifts {
     {
         let mut at = 0;
         let mut sum = 0;
-        for stretch in 0..self.firsts.len() {
-            let end = stretch_end(&arena.mem, stretch);
-            self.sums[stretch] = sum as u32;
-            let first = if at < end {
-                at - stretch as u64 * STRETCH
+        for short in 0..self.firsts.len() {
+            let end = short_end(&arena.mem, short);
+            self.sums[short] = sum as u32;
+            let first = first_free(&arena.mem, at, end);
+            let share = if first < end {
+                first - short as u64 * SHORT
             } else {
-                STRETCH
+                SHORT
             };
-            self.firsts[stretch] = first as u8;
-            let walk = count_before(&arena.mem, at, end, sum);
+            self.firsts[short] = share as u8;
+            let walk = count_before(&arena.mem, first, end, sum);
             at = walk.at;
             sum = walk.sum;
         }
@@ -64,10 +65,10 @@ impl Shifts {
         requires inside { at ≤ length mem.now }
         ensures { result ≡ free_before mem.now at }
     {
-        let _len = mem.len();
-        let stretch = stretch_of(at);
-        let mut sum = self.sum(stretch);
-        let mut p = self.start(stretch);
+        mem.bounded();
+        let short = short_of(at);
+        let mut sum = self.sum(short);
+        let mut p = self.start(short);
         while p < at {
             sum += free(mem, p);
             p = next(mem, p);
@@ -75,22 +76,22 @@ impl Shifts {
         sum
     }
 
-    // The free words before a stretch.
+    // The free words before a short stretch.
     #[inline]
-    fn sum(&self, stretch: usize) -> u64
-        requires inside { stretch < length self.now.sums.items }
-        ensures { result ≡ slice_index self.now.sums.items stretch }
+    fn sum(&self, short: usize) -> u64
+        requires inside { short < length self.now.sums.items }
+        ensures { result ≡ slice_index self.now.sums.items short }
     {
-        u64::from(self.sums[stretch])
+        u64::from(self.sums[short])
     }
 
-    // Where the first block of a stretch begins, or the stretch ends.
+    // Where the first free block of a short stretch begins, or the stretch ends.
     #[inline]
-    fn start(&self, stretch: usize) -> u64
-        requires inside { stretch < length self.now.firsts.items }
+    fn start(&self, short: usize) -> u64
+        requires inside { short < length self.now.firsts.items }
         requires few { length self.now.firsts.items ≤ 2 ^ 24 }
-        ensures { result ≡ stretch * STRETCH + slice_index self.now.firsts.items stretch }
+        ensures { result ≡ short * SHORT + slice_index self.now.firsts.items short }
     {
-        stretch as u64 * STRETCH + u64::from(self.firsts[stretch])
+        short as u64 * SHORT + u64::from(self.firsts[short])
     }
 }

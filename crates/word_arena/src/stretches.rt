@@ -20,3 +20,23 @@ pub(crate) fn stretch_end(mem: &WordMem, stretch: usize) -> u64
 {
     (stretch as u64 * STRETCH + STRETCH).min(mem.len())
 }
+
+/// The words of a short stretch, of which the table of shifts has an entry each.
+pub(crate) const SHORT: u64 = 8;
+
+/// The short stretch of a place.
+#[inline]
+pub(crate) fn short_of(at: u64) -> usize
+    ensures { result ≡ at / SHORT }
+{
+    (at / SHORT) as usize
+}
+
+/// Where the words of a short stretch end that the memory has.
+#[inline]
+pub(crate) fn short_end(mem: &WordMem, short: usize) -> u64
+    requires { short < 2 ^ 24 }
+    ensures { result ≡ min (short * SHORT + SHORT) (length mem.now) }
+{
+    (short as u64 * SHORT + SHORT).min(mem.len())
+}

@@ -49,6 +49,15 @@ impl Tops {
         self.leaves.len()
     }
 
+    /// Makes each number 0. Where few are not 0, to write them after this costs less than to write over others.
+    pub(crate) fn clear(&mut self)
+        ensures { self.new ≡ replicate (length self.old) 0 }
+    {
+        self.leaves.fill(0);
+        self.groups.fill(0);
+        self.regions.fill(0);
+    }
+
     /// Writes the number at a place.
     pub(crate) fn set(&mut self, at: usize, number: u64)
         requires inside { at < length self.old }

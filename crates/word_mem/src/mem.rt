@@ -69,6 +69,14 @@ impl WordMem {
         self.len
     }
 
+    /// Does nothing. After it a proof knows that the words are few, so that places can be added without overflow.
+    #[inline]
+    pub fn bounded(&self)
+        ensures { length self.now ≤ 2 ^ 24 }
+    {
+        let _len = self.len;
+    }
+
     /// The word at a place.
     #[inline]
     pub fn get(&self, at: u64) -> u64

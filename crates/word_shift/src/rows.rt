@@ -31,7 +31,7 @@ fn relocate_object<P: Places>(mem: &mut WordMem, at: u64, places: &P) -> u64
     requires { CanRelocate (P.fits places.now) (P.to places.now) mem.old at }
     ensures { (w : ℕ) → IsPointer w → IsTile mem.old w → w / 4 ≡ at → RelocatesObject (P.to places.now mem.old) mem.old mem.new w result }
 {
-    let _len = mem.len();
+    mem.bounded();
     let header = mem.get(at);
     if header % 4 != 0 {
         relocate_words(mem, at, at + 2, places);

@@ -30,7 +30,8 @@ use Rattle.numbered_rows.specs.Numbers.{AreBelow, numbers}
 use Rattle.numbered_rows.proofs.Changing.{below-remove, numbers-set, rising-remove}
 use Rattle.numbered_rows.proofs.Rising.{number-read}
 use Rattle.two_halves.specs.Stack.{AreApart}
-use Rattle.two_halves.specs.Halves.{HalvesStand, HoldsTree, IsLaid, ProcsStand, all_places, end_of, places_in}
+use Rattle.two_halves.specs.Halves.{HalvesStand, IsLaid, ProcsStand, all_places, end_of, places_in}
+use Rattle.term_order.specs.Held.{HoldsTree}
 use Rattle.one_space.specs.One.{HaveMade, Holds, IsCounted, OneStands, Sits, number_in, numbers_of}
 use Rattle.one_space.specs.Doing.{DoesAlways, DoesAtOnce}
 use Rattle.two_halves.specs.declared.halves.Halves.{Halves}

@@ -17,7 +17,8 @@ use Rattle.plain_machine.specs.State.{Process, State, process_of, with_process, 
 use Rattle.plain_machine.specs.Step.{settled}
 use Rattle.space_api.specs.Calls.{said, Becomes}
 use Rattle.space_api.specs.declared.space.Seat.{Seat}
-use Rattle.two_halves.specs.Halves.{HalvesStand, HoldsTree, IsLaid, ProcsStand, end_of, places_in}
+use Rattle.two_halves.specs.Halves.{HalvesStand, IsLaid, ProcsStand, end_of, places_in}
+use Rattle.term_order.specs.Held.{HoldsTree}
 use Rattle.two_halves.specs.Collecting.{MakesRoom}
 use Rattle.two_halves.proofs.Queued.Queuing.{row-set}
 use Rattle.one_space.specs.One.{Holds, IsCounted, OneStands, Sits, words_of}

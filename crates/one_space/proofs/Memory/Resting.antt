@@ -11,7 +11,8 @@ use Rattle.term_words.proofs.Reaching.Carrying.{reach-carried}
 use Rattle.term_words.proofs.Framing.Frames.{frame, kept-carried}
 use Rattle.off_heap_list.specs.Links.{Leads}
 use Rattle.off_heap_list.proofs.Chaining.Chained.{leads-stays}
-use Rattle.two_halves.specs.Halves.{HalvesStand, HoldsTree, IsLaid, ProcsStand, end_of}
+use Rattle.two_halves.specs.Halves.{HalvesStand, IsLaid, ProcsStand, end_of}
+use Rattle.term_order.specs.Held.{HoldsTree}
 use Rattle.two_halves.specs.Reached.{ChainReached, roots_in, roots_of}
 use Rattle.two_halves.specs.declared.halves.Halves.{Halves}
 use Rattle.two_halves.proofs.Standing.Apart.{apart-kept}

@@ -29,7 +29,8 @@ use Rattle.record_move.specs.Tables.{OwnersRise}
 use Rattle.cheney.specs.Plan.{Plan}
 use Rattle.cheney.proofs.Rooted.Rows.{root-in}
 use Rattle.two_halves.specs.Stack.{values}
-use Rattle.two_halves.specs.Halves.{HoldTrees, IsBinOf, IsFunOf, IsLaid, ProcStands, ProcsStand, end_of, front_of, records_of}
+use Rattle.two_halves.specs.Halves.{IsBinOf, IsFunOf, IsLaid, ProcStands, ProcsStand, end_of, front_of, records_of}
+use Rattle.term_order.specs.Held.{HoldTrees}
 use Rattle.two_halves.specs.Reached.{roots_in, roots_of}
 use Rattle.two_halves.proofs.Standing.Held.{roots-stand, trees_of}
 use Rattle.two_halves.proofs.Standing.Covered.{bin-covered, counted-covered, covered, exact-covered, fun-covered, in_records, lies-covered, next-covered, record-wide, single-covered, tree-covered}

@@ -7,7 +7,8 @@ use Rattle.plain_machine.specs.State.{Process, fresh_process}
 use Rattle.term_words.proofs.ByKind.Makes.{stands-nil}
 use Rattle.numbered_rows.specs.Numbers.{is_among, numbers}
 use Rattle.two_halves.specs.Stack.{IsLastPlace, IsStack, values}
-use Rattle.two_halves.specs.Halves.{HoldTrees, HoldsTree, ProcStands, ProcsStand}
+use Rattle.two_halves.specs.Halves.{ProcStands, ProcsStand}
+use Rattle.term_order.specs.Held.{HoldTrees, HoldsTree}
 use Rattle.one_space.specs.One.{number_in}
 use Rattle.two_halves.specs.declared.table.Proc.{Proc}
 use Rattle.one_space.proofs.Processes.Seats.{process_numbers}

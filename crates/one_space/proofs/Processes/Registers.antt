@@ -11,7 +11,8 @@ use Rattle.term_words.proofs.Framing.Rooms.{weaken}
 use Rattle.term_order.specs.Named.{is_named}
 use Rattle.term_order.specs.Compared.{AreNamed}
 use Rattle.space_api.specs.declared.space.Seat.{Seat}
-use Rattle.two_halves.specs.Halves.{HoldsTree, ProcStands, end_of}
+use Rattle.two_halves.specs.Halves.{ProcStands, end_of}
+use Rattle.term_order.specs.Held.{HoldsTree}
 use Rattle.one_space.specs.One.{IsCounted, OneStands, Sits}
 use Rattle.one_space.specs.declared.one.One.{One}
 use Rattle.two_halves.specs.declared.table.Proc.{Proc}

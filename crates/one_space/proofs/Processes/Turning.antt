@@ -6,7 +6,8 @@ use Rattle.plain_machine.specs.State.{Process, register, with_register}
 use Rattle.term_words.specs.Kept.{Keeps}
 use Rattle.term_words.proofs.Framing.Frames.{frame}
 use Rattle.two_halves.specs.Stack.{IsPlace, IsStack, values}
-use Rattle.two_halves.specs.Halves.{HoldTrees, HoldsTree, ProcStands, ProcsStand}
+use Rattle.two_halves.specs.Halves.{ProcStands, ProcsStand}
+use Rattle.term_order.specs.Held.{HoldTrees, HoldsTree}
 use Rattle.two_halves.specs.declared.table.Proc.{Proc}
 use Rattle.two_halves.proofs.Queued.Queuing.{row-at, row-set}
 use Rattle.one_space.proofs.Processes.Changing.{held-at, held-set, no_process}

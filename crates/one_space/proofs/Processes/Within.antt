@@ -6,7 +6,8 @@ use Rattle.plain_machine.specs.Laws.{AreWithin}
 use Rattle.plain_machine.proofs.Properly.Holding.{joined-within, queues, split-within}
 use Rattle.plain_term.proofs.Known.{knows-beyond}
 use Rattle.item_build.proofs.Meaning.Known.{stands-known}
-use Rattle.two_halves.specs.Halves.{HoldTrees, ProcsStand}
+use Rattle.two_halves.specs.Halves.{ProcsStand}
+use Rattle.term_order.specs.Held.{HoldTrees}
 use Rattle.two_halves.specs.Stack.{values}
 use Rattle.two_halves.specs.declared.table.Proc.{Proc}
 use Rattle.one_space.proofs.Processes.Changing.{no_process}

@@ -22,7 +22,7 @@ use Rattle.plain_machine.specs.Parts.{picked}
 use Rattle.plain_machine.specs.Step.{choose, in_process}
 use Rattle.space_api.specs.Calls.{Follows, Properly, said}
 use Rattle.space_api.specs.declared.space.Seat.{Seat}
-use Rattle.two_halves.specs.Halves.{HoldsTree}
+use Rattle.term_order.specs.Held.{HoldsTree}
 use Rattle.one_space.specs.One.{Holds, OneStands, Sits}
 use Rattle.one_space.specs.Doing.{DoesBy, takes_part}
 use Rattle.one_space.specs.declared.one.One.{One}

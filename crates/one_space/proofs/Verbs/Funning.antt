@@ -24,7 +24,8 @@ use Rattle.plain_machine.specs.Step.{env_of, fun_if, in_process}
 use Rattle.plain_machine.specs.May.{gets_to_space}
 use Rattle.space_api.specs.Calls.{Becomes, Follows, HasEnv, IsEnv, said}
 use Rattle.space_api.specs.declared.space.Seat.{Seat}
-use Rattle.two_halves.specs.Halves.{HalvesStand, HoldsTree, end_of}
+use Rattle.two_halves.specs.Halves.{HalvesStand, end_of}
+use Rattle.term_order.specs.Held.{HoldsTree}
 use Rattle.two_halves.specs.Adding.{Adds, Gets, IsNamedIn}
 use Rattle.two_halves.specs.Collecting.{MakesRoom}
 use Rattle.two_halves.specs.declared.halves.Halves.{Halves}

@@ -34,7 +34,8 @@ use Rattle.term_walk.specs.Measured.{Measures, measured}
 use Rattle.term_walk.specs.declared.measured.Measured.{Measured}
 use Rattle.term_walk.specs.declared.measured.Measured.TheVariants.{Within, Beyond}
 use Rattle.term_walk.specs.declared.measured.Measure.{Measure}
-use Rattle.two_halves.specs.Halves.{HalvesStand, HoldsTree, end_of, free_in}
+use Rattle.two_halves.specs.Halves.{HalvesStand, end_of, free_in}
+use Rattle.term_order.specs.Held.{HoldsTree}
 use Rattle.two_halves.specs.Collecting.{MakesRoom}
 use Rattle.two_halves.specs.Queues.{CanSend, Sends, with_queue}
 use Rattle.two_halves.specs.declared.halves.Halves.{Halves}

@@ -44,7 +44,8 @@ use Rattle.plain_machine.specs.Tightness.{key_count}
 use Rattle.plain_machine.specs.May.{gets_to_space}
 use Rattle.space_api.specs.Calls.{Follows, Properly, said}
 use Rattle.space_api.specs.declared.space.Seat.{Seat}
-use Rattle.two_halves.specs.Halves.{HoldsTree, free_in}
+use Rattle.two_halves.specs.Halves.{free_in}
+use Rattle.term_order.specs.Held.{HoldsTree}
 use Rattle.two_halves.specs.Collecting.{MakesRoom}
 use Rattle.one_space.specs.One.{Holds, OneStands, Sits}
 use Rattle.one_space.specs.Doing.{DoesBy, refusal_of_put}

@@ -25,7 +25,8 @@ use Rattle.plain_machine.specs.State.{Process, State}
 use Rattle.plain_machine.specs.Step.{in_process, step}
 use Rattle.space_api.specs.Calls.{WritesReply, said}
 use Rattle.space_api.specs.declared.space.Seat.{Seat}
-use Rattle.two_halves.specs.Halves.{HoldTrees, end_of}
+use Rattle.two_halves.specs.Halves.{end_of}
+use Rattle.term_order.specs.Held.{HoldTrees}
 use Rattle.two_halves.specs.Stack.{IsStack, values}
 use Rattle.two_halves.specs.declared.table.Proc.{Proc}
 use Rattle.one_space.specs.One.{IsCounted, OneStands, Sits}

@@ -44,7 +44,8 @@ use Rattle.item_build.proofs.Meaning.Known.{stands-known}
 use Rattle.item_build.proofs.Meaning.Written.{is-written, outcome_of, term-makes, term-named, term-outcome, term-words, words-few}
 use Rattle.item_build.proofs.Meaning.Growing.{longs-are}
 use Rattle.item_build.proofs.Laid.Chaining.{longs-few}
-use Rattle.two_halves.specs.Halves.{HalvesStand, HoldTrees, HoldsTree, ProcStands, ProcsStand, end_of, places_in}
+use Rattle.two_halves.specs.Halves.{HalvesStand, ProcStands, ProcsStand, end_of, places_in}
+use Rattle.term_order.specs.Held.{HoldTrees, HoldsTree}
 use Rattle.two_halves.specs.Stack.{AreApart, values}
 use Rattle.two_halves.specs.Halves.{all_places}
 use Rattle.two_halves.proofs.Standing.Apart.{apart-kept, apart-same}

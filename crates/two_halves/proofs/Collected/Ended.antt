@@ -18,7 +18,8 @@ use Rattle.cheney.proofs.Rooted.Begins.{has-collected, has-composed}
 use Rattle.cheney.proofs.After.Next.{is-tiled}
 use Rattle.cheney.proofs.Rooted.Rows.{images-all, images-join, root-in, images-count}
 use Rattle.two_halves.specs.Stack.{AreApart, values}
-use Rattle.two_halves.specs.Halves.{HoldTrees, IsLaid, ProcsStand, Standing, all_places, places_in, end_of, front_of}
+use Rattle.two_halves.specs.Halves.{IsLaid, ProcsStand, Standing, all_places, places_in, end_of, front_of}
+use Rattle.term_order.specs.Held.{HoldTrees}
 use Rattle.two_halves.specs.Reached.{held_words, roots_in}
 use Rattle.two_halves.specs.Rows.{AreMovedRows, CanMoveRows, GoesAlong, HaveStacks, IsAside, RowsMove, RowsMoved}
 use Rattle.two_halves.specs.Collecting.{AreSameRows, CanCollect, IsBetween}

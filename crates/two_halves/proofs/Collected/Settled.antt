@@ -28,7 +28,8 @@ use Rattle.cheney.specs.declared.moving.Moving.{Moving}
 use Rattle.cheney.specs.Collected.{Collected}
 use Rattle.cheney.specs.Rooms.{top_of}
 use Rattle.record_move.proofs.Leaving.{record-back, role-goes}
-use Rattle.two_halves.specs.Halves.{HoldsTree, IsBinOf, IsFunOf, ProcsStand, RecordsStand, Standing, front_of, records_of}
+use Rattle.two_halves.specs.Halves.{IsBinOf, IsFunOf, ProcsStand, RecordsStand, Standing, front_of, records_of}
+use Rattle.term_order.specs.Held.{HoldsTree}
 use Rattle.two_halves.specs.declared.halves.Halves.{Halves}
 use Rattle.two_halves.specs.declared.table.Proc.{Proc}
 use Rattle.two_halves.proofs.Collected.Counting.{IsCounting, counting}

@@ -9,7 +9,8 @@ use Rattle.term_words.specs.Counted.{In}
 use Rattle.term_words.proofs.Framing.Frames.{frame}
 use Rattle.term_words.proofs.Totals.Members.{in-both, in-left, in-right}
 use Rattle.two_halves.specs.Stack.{AreApart, IsLastPlace, IsPlace, IsStack, place_list, values}
-use Rattle.two_halves.specs.Halves.{HalvesStand, HoldTrees, HoldsTree, IsLaid, ProcStands, ProcsStand, all_places, end_of, places_of}
+use Rattle.two_halves.specs.Halves.{HalvesStand, IsLaid, ProcStands, ProcsStand, all_places, end_of, places_of}
+use Rattle.term_order.specs.Held.{HoldTrees, HoldsTree}
 use Rattle.two_halves.specs.Reached.{roots_in}
 use Rattle.two_halves.specs.Rows.{HaveStacks}
 use Rattle.two_halves.specs.Queues.{CanQueue, PlaceFollows, HasEntered, Queues, with_queue}

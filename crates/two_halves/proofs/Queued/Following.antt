@@ -5,7 +5,8 @@ use Rattle.plain_machine.specs.State.{Process}
 use Rattle.term_words.specs.Counted.{In}
 use Rattle.term_words.proofs.Totals.Members.{in-left, in-right}
 use Rattle.two_halves.specs.Stack.{AreApart, IsLastPlace, IsStack, place_list, values}
-use Rattle.two_halves.specs.Halves.{HoldTrees, HoldsTree, ProcsStand, all_places, places_of}
+use Rattle.two_halves.specs.Halves.{ProcsStand, all_places, places_of}
+use Rattle.term_order.specs.Held.{HoldTrees, HoldsTree}
 use Rattle.two_halves.specs.Reached.{roots_in}
 use Rattle.two_halves.specs.Rows.{HaveStacks}
 use Rattle.two_halves.specs.declared.table.Proc.{Proc}

@@ -7,7 +7,8 @@ use Rattle.plain_term.specs.Tree.{Tree}
 use Rattle.plain_machine.specs.State.{Process}
 use Rattle.term_words.specs.Counted.{In}
 use Rattle.two_halves.specs.Stack.{AreApart, IsLastPlace, IsPlace, IsStack, place_list, values}
-use Rattle.two_halves.specs.Halves.{HalvesStand, HoldTrees, HoldsTree, IsLaid, ProcStands, ProcsStand, all_places, end_of, places_of}
+use Rattle.two_halves.specs.Halves.{HalvesStand, IsLaid, ProcStands, ProcsStand, all_places, end_of, places_of}
+use Rattle.term_order.specs.Held.{HoldTrees, HoldsTree}
 use Rattle.two_halves.specs.Queues.{HasLeftQueue, HasRow, TakesMessage, shifted, with_queue, with_row}
 use Rattle.two_halves.specs.declared.halves.Halves.{Halves}
 use Rattle.two_halves.specs.declared.table.Proc.{Proc}

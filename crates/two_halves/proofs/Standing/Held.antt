@@ -7,7 +7,8 @@ use Rattle.plain_term.specs.Measures.{flat, flat_of_all}
 use Rattle.plain_machine.specs.State.{Process}
 use Rattle.term_words.specs.Stands.{AllStand}
 use Rattle.two_halves.specs.Stack.{values}
-use Rattle.two_halves.specs.Halves.{HoldTrees, ProcStands, ProcsStand, places_in}
+use Rattle.two_halves.specs.Halves.{ProcStands, ProcsStand, places_in}
+use Rattle.term_order.specs.Held.{HoldTrees}
 use Rattle.two_halves.specs.Reached.{held_by, held_words, roots_in}
 use Rattle.two_halves.specs.Rows.{HaveStacks}
 use Rattle.two_halves.specs.declared.table.Proc.{Proc}

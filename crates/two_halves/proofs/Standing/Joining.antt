@@ -14,7 +14,8 @@ use Rattle.off_heap_list.proofs.Chaining.Chained.{no-naming}
 use Rattle.off_heap_list.proofs.Chaining.Exact.{distinct-left, distinct-right}
 use Rattle.record_move.specs.Tables.{OwnersRise}
 use Rattle.two_halves.specs.Stack.{IsStack, values}
-use Rattle.two_halves.specs.Halves.{HoldTrees, ProcStands, ProcsStand}
+use Rattle.two_halves.specs.Halves.{ProcStands, ProcsStand}
+use Rattle.term_order.specs.Held.{HoldTrees}
 use Rattle.two_halves.specs.declared.table.Proc.{Proc}
 use Rattle.two_halves.proofs.Standing.Stacks.{AreKept, ends-kept, stack-kept, stack-under, values-kept}
 

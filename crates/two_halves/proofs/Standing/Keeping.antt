@@ -3,7 +3,8 @@ use Rattle.std.proofs.Common.{◌≡◌, ℕ, ◌<◌, ◌≤◌, Bool, true, Li
 use Rattle.plain_term.specs.Tree.{Tree}
 use Rattle.plain_machine.specs.State.{Process}
 use Rattle.two_halves.specs.Stack.{IsStack, values}
-use Rattle.two_halves.specs.Halves.{HoldTrees, HoldsTree, ProcStands, ProcsStand}
+use Rattle.two_halves.specs.Halves.{ProcStands, ProcsStand}
+use Rattle.term_order.specs.Held.{HoldTrees, HoldsTree}
 use Rattle.two_halves.specs.Reached.{roots_in}
 use Rattle.two_halves.specs.Rows.{HaveStacks}
 use Rattle.two_halves.specs.declared.table.Proc.{Proc}

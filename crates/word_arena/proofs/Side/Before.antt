@@ -1,8 +1,8 @@
 -- The free words before a place.
-use Rattle.std.proofs.Common.{◌≡◌, ℕ, ◌+◌, ◌<◌, ◌≤◌, true, false, nat_lt, List, [], ◌∷◌, ◌++◌, length, get_or, refl, sym, ◌∙◌, ap, subst, arith, inl, inr}
+use Rattle.std.proofs.Common.{◌≡◌, ℕ, ◌+◌, ◌<◌, ◌≤◌, true, false, nat_lt, if◌then◌else◌, List, [], ◌∷◌, ◌++◌, length, get_or, refl, sym, ◌∙◌, ap, subst, arith, inl, inr}
 use Rattle.std.proofs.lemmas.Bool.{cases_lt}
 use Rattle.std.proofs.lemmas.Bool.Decides.{nat_tests}
-use Rattle.word_arena.specs.Blocks.{size_at, free_at, Blocked, block_places, IsListed, BlockBegins, IsUsed, IsBoundary, free_among, free_of}
+use Rattle.word_arena.specs.Blocks.{size_at, kind_at, free_at, Blocked, block_places, IsListed, BlockBegins, IsUsed, IsBoundary, free_among, free_of}
 use Rattle.word_arena.specs.Calls.{HeadersStay}
 use Rattle.word_arena.specs.Sums.{free_below, free_before, slid}
 use Rattle.word_arena.proofs.Side.Places.{free_among-append}
@@ -58,6 +58,29 @@ before-same mem a b to back =
     before-row mem a
     ∙ below-same mem a b (block_places mem) (λ p listed. (let is : BlockBegins mem p = record { listed = listed } in test-same p a b (to p is) (back p is)))
     ∙ sym (before-row mem b)
+
+term-idle : (mem : List ℕ) (p a b : ℕ) → a ≤ b → (a ≤ p → p < b → 1 ≤ kind_at mem p) → (if nat_lt p a then free_at mem p else 0) ≡ (if nat_lt p b then free_at mem p else 0)
+term-idle mem p a b order used =
+    elim (cases_lt p a) as (λ _. (if nat_lt p a then free_at mem p else 0) ≡ (if nat_lt p b then free_at mem p else 0)) [
+      | inl low ↦ (let x : nat_lt p a ≡ true = grind (arith, nat_tests) in let y : nat_lt p b ≡ true = grind (arith, nat_tests) in rw (x, y) refl)
+      | inr high ↦ (
+          let x : nat_lt p a ≡ false = grind (arith, nat_tests) in
+          elim (cases_lt p b) as (λ _. (if nat_lt p a then free_at mem p else 0) ≡ (if nat_lt p b then free_at mem p else 0)) [
+            | inl also ↦ (let y : nat_lt p b ≡ true = grind (arith, nat_tests) in rw (x, y) (sym (free-none mem p (used high also))))
+            | inr far ↦ (let y : nat_lt p b ≡ false = grind (arith, nat_tests) in rw (x, y) refl)
+          ])
+    ]
+
+below-idle : (mem : List ℕ) (a b : ℕ) (ps : List ℕ) → a ≤ b → ((p : ℕ) → IsListed p ps → a ≤ p → p < b → 1 ≤ kind_at mem p) → free_below mem a ps ≡ free_below mem b ps
+below-idle mem a b [] order used = refl
+below-idle mem a b (p ∷ ps) order used =
+    let here : (if nat_lt p a then free_at mem p else 0) ≡ (if nat_lt p b then free_at mem p else 0) = term-idle mem p a b order (used p (inl refl)) in
+    omega (arith, here, below-idle mem a b ps order (λ q is. used q (inr is)))
+
+-- Where no free block begins between two places, as much is free before both.
+pub before-idle : (mem : List ℕ) (a b : ℕ) → a ≤ b → ((p : ℕ) → BlockBegins mem p → a ≤ p → p < b → 1 ≤ kind_at mem p) → free_before mem a ≡ free_before mem b
+before-idle mem a b order used =
+    before-row mem a ∙ below-idle mem a b (block_places mem) order (λ p listed. used p (record { listed = listed })) ∙ sym (before-row mem b)
 
 -- What is free in a row of blocks up to a place is what is free before it.
 pub sum-before : (mem : List ℕ) (at all : ℕ) → Blocked mem → at ≤ length mem → Sum mem at all → free_before mem at ≡ all

@@ -134,4 +134,4 @@ put_item-requires-clause-holder c = λ long.
     let six : c.holder_words-bin.result ≡ 6 = c.holder_words-bin.ensures ∙ ap (λ b. if b then 6 else 0) long in
     let fits = bin-fits c.args.code.now c.loop-i.i (Int (pos 0)) c.args.bins c.loop-i.bin c.holder_words-bin.result c.loop-i-test.true c.loop-i.invariant.from c.holder_words-bin.ensures
     c.loop-i.invariant.bin c.requires.held.holders.low in
-    omega (arith, six, fits, c.loop-i.invariant.bin, c.requires.below, c.requires.places.top_next, c.requires.places.inside, c.len-len.ensures.most)
+    omega (arith, six, fits, c.loop-i.invariant.bin, c.requires.below, c.requires.places.top_next, c.requires.places.inside, c.bounded.ensures)

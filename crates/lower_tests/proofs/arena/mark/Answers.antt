@@ -6,7 +6,7 @@ use Rattle.lower_tests.proofs.arena.mark.Goals as goal
 pub overflow_add-at : goal.overflow_add-at
 overflow_add-at c =
     let w = block-within c.args.arena.now.mem c.args.at c.requires.sound.blocked c.requires.block in
-    omega (arith, w.to, c.requires.words, c.len-len.ensures.most)
+    omega (arith, w.to, c.requires.words, c.bounded.ensures)
 
 pub set-requires : goal.set-requires
 set-requires c =

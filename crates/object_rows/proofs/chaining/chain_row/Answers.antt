@@ -23,7 +23,7 @@ loop-at-preserved c = λ ws are.
     elim c.if-is_link_word.branch [
       | then-is_link_word w ↦
           joins-at c.args.mem.now c.loop-at.mem c.loop-at.at c.args.to c.args.head ws c.loop-at.chained (c.loop-at.invariant ws are) c.loop-at-test.true c.get-word.result c.get-word.ensures
-          c.if-word-ne0.false (sym c.is_link_word.ensures ∙ w.if-is_link_word.true) c.requires.inside c.len-len.ensures.most
+          c.if-word-ne0.false (sym c.is_link_word.ensures ∙ w.if-is_link_word.true) c.requires.inside c.bounded.ensures
           c.if-is_link_word.mem c.if-is_link_word.chained (w.mem-is ∙ w.set_next.ensures.writes)
           (ap (λ k. k.head) w.chained-is) (ap (λ k. k.count) w.chained-is)
           (ap (λ k. k.words) w.chained-is ∙ ap (λ n. (c.loop-at.chained.words + n) % 18446744073709551616) w.held_in-held.ensures)

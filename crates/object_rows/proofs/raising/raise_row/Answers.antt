@@ -28,7 +28,7 @@ add-requires-clause-places c =
 pub add-requires-clause-count : goal.add-requires-clause-count
 add-requires-clause-count c =
     raising-count c.args.mem.now c.loop-at.mem c.args.from c.loop-at.at c.args.to c.requires (c.loop-at.invariant c.requires) c.loop-at-test.true c.get-word.result c.get-word.ensures
-    c.if-word-ne0.false (sym c.is_link_word.ensures ∙ c.if-is_link_word.true) c.record_of-record.result c.record_of-record.ensures c.len-len.ensures.most
+    c.if-word-ne0.false (sym c.is_link_word.ensures ∙ c.if-is_link_word.true) c.record_of-record.result c.record_of-record.ensures c.bounded.ensures
 
 pub loop-at-preserved : goal.loop-at-preserved
 loop-at-preserved c = λ x.

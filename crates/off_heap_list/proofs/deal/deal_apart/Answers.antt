@@ -21,9 +21,9 @@ deal_next-deal-requires-clause-count c =
 pub deal_next-deal-requires-clause-words : goal.deal_next-deal-requires-clause-words
 deal_next-deal-requires-clause-words c =
     let s = c.loop-i.invariant.each c.requires.test c.requires.os c.requires.rest c.requires.further c.requires.single c.requires.number c.requires.links in
-    let so_far = deals-words c.requires.test c.args.mem.now c.loop-i.mem c.loop-i.deal c.loop-i.i c.requires.os c.requires.rest c.requires.further c.args.span s c.len-len.ensures.most in
+    let so_far = deals-words c.requires.test c.args.mem.now c.loop-i.mem c.loop-i.deal c.loop-i.i c.requires.os c.requires.rest c.requires.further c.args.span s c.bounded.ensures in
     let held = deals-held c.requires.test c.args.mem.now c.loop-i.mem c.loop-i.deal c.loop-i.i c.requires.os c.requires.rest c.requires.further c.args.span s
-    (omega (arith, c.loop-i-test.true, c.requires.number)) c.len-len.ensures.most in
+    (omega (arith, c.loop-i-test.true, c.requires.number)) c.bounded.ensures in
     omega (arith, so_far, held)
 
 pub loop-i-preserved : goal.loop-i-preserved

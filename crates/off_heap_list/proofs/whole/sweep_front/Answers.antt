@@ -38,7 +38,7 @@ pub counted-tally-requires-clause-len : goal.counted-tally-requires-clause-len
 counted-tally-requires-clause-len c =
     let few = sweeps-len c.requires.test c.args.mem.now c.loop-i.mem c.loop-i.sweep.rest c.requires.to c.loop-i.sweep.first c.loop-i.sweep.last c.loop-i.tally.len c.loop-i.tally.words
     c.loop-i.tally.freed c.loop-i.i c.requires.os c.requires.further
-    (c.loop-i.invariant.each c.requires.test c.requires.os c.requires.to c.requires.further c.requires.single c.requires.number c.requires.begins) c.len-len.ensures.most in
+    (c.loop-i.invariant.each c.requires.test c.requires.os c.requires.to c.requires.further c.requires.single c.requires.number c.requires.begins) c.bounded.ensures in
     omega (arith, few)
 
 pub counted-tally-requires-clause-words : goal.counted-tally-requires-clause-words
@@ -50,12 +50,12 @@ counted-tally-requires-clause-words c =
     (omega (arith, c.loop-i-test.true, c.requires.number)) in
     let few = sweeps-words c.requires.test
     c.args.mem.now c.loop-i.mem c.loop-i.sweep.rest c.requires.to c.loop-i.sweep.first c.loop-i.sweep.last c.loop-i.tally.len c.loop-i.tally.words
-    c.loop-i.tally.freed c.loop-i.i c.requires.os c.requires.further so_far c.len-len.ensures.most in
+    c.loop-i.tally.freed c.loop-i.i c.requires.os c.requires.further so_far c.bounded.ensures in
     let t : Tells c.loop-i.mem c.loop-i.sweep.rest c.sweep_next-swept.result.moved c.sweep_next-swept.result.freed c.sweep_next-swept.result.words = record {
       if_moved = λ is. let m = c.sweep_next-swept.ensures.moved is in (m.0, m.1, m.2);
       if_left = λ is. let m = c.sweep_next-swept.ensures.left is in (m.0, m.1, m.2);
     } in
-    let more = more-few c.loop-i.mem c.loop-i.sweep.rest c.sweep_next-swept.result.moved c.sweep_next-swept.result.freed c.sweep_next-swept.result.words t c.requires.test o c.len-len.ensures.most in
+    let more = more-few c.loop-i.mem c.loop-i.sweep.rest c.sweep_next-swept.result.moved c.sweep_next-swept.result.freed c.sweep_next-swept.result.words t c.requires.test o c.bounded.ensures in
     omega (arith, few, more)
 
 pub counted-tally-requires-clause-freed : goal.counted-tally-requires-clause-freed

@@ -27,7 +27,7 @@ pub overflow_add-place : goal.overflow_add-place
 overflow_add-place g c =
     omega (
       arith,
-      c.len-len.ensures.most,
+      c.bounded.ensures,
       here-inside g.K.Sink.wrote g.K.Sink.faults c.args.names.now c.args.mem.now c.args.queue c.args.waiting c.args.sink.now c.loop-i.sink c.loop-i.i c.loop-i.place c.loop-i.invariant c.requires
           c.loop-i-test.true,
     )

@@ -8,13 +8,13 @@ use Rattle.term_copy.proofs.objects.copy_part.Goals as goal
 pub copy_object-requires : goal.copy_object-requires
 copy_object-requires c =
     can-take c.requires.task c.requires.known c.args.mem.now c.requires.mark c.requires.at c.args.room.now.top (flat c.requires.tree + c.requires.owed) c.requires.on
-    c.args.w c.requires.tree c.requires.standing c.requires.goes.pointer c.args.room.now.end c.requires.has (omega (arith, c.len-len.ensures.most)) (omega arith)
+    c.args.w c.requires.tree c.requires.standing c.requires.goes.pointer c.args.room.now.end c.requires.has (omega (arith, c.bounded.ensures)) (omega arith)
 
 pub returns-clause-room : goal.returns-clause-room
 returns-clause-room c =
     let can : CanTake c.args.mem.now c.args.room.now.top c.args.room.now.end c.args.w =
     can-take c.requires.task c.requires.known c.args.mem.now c.requires.mark c.requires.at c.args.room.now.top (flat c.requires.tree + c.requires.owed) c.requires.on
-    c.args.w c.requires.tree c.requires.standing c.requires.goes.pointer c.args.room.now.end c.requires.has (omega (arith, c.len-len.ensures.most)) (omega arith) in
+    c.args.w c.requires.tree c.requires.standing c.requires.goes.pointer c.args.room.now.end c.requires.has (omega (arith, c.bounded.ensures)) (omega arith) in
     room-advances c.args.room.now c.copy_object.new.room (object_words c.args.mem.now c.args.w) c.copy_object.ensures.room can.fits
 
 pub returns-clause-place : goal.returns-clause-place

@@ -156,7 +156,7 @@ next-requires g c =
     let start = h.start in
     let b = h.begun in
     level-counts c.args.mem.now c.args.names.now first c.gather-level.result (reverse c.pop.new.self.items) c.loop-text.seen g.K.Sink.wrote start c.put.new.sink h.can
-    c.len-len.ensures.most
+    c.bounded.ensures
     (prints-gathered c.args.mem.now c.args.names.now first c.loop-text.levels.items c.pop.new.self.items c.in-Some.top c.gather-level.result c.gather-level.new.text.items
     c.as_slice.result.now c.loop-text.seen g.K.Sink.wrote start c.loop-text.sink c.put.new.sink c.in-Some.ensures.items c.as_slice.ensures.value (c.loop-text.invariant.on first start b).prints
     c.gather-level.ensures c.in_ok-put.ensures.all)

@@ -15,7 +15,7 @@ get-places-requires c =
 pub overflow_add-place-then-i-places-2 : goal.overflow_add-place-then-i-places-2
 overflow_add-place-then-i-places-2 c =
     let (tag, place, sub, inside) = c.in_ok-place.ensures.some in
-    omega (arith, inside, fun-inside c.args.mem.now c.args.w c.in_ok-place.place c.requires tag place sub, c.get-places.ensures, c.if-i-places.true, c.len-len.ensures.most)
+    omega (arith, inside, fun-inside c.args.mem.now c.args.w c.in_ok-place.place c.requires tag place sub, c.get-places.ensures, c.if-i-places.true, c.bounded.ensures)
 
 pub get-requires : goal.get-requires
 get-requires c =

@@ -22,7 +22,7 @@ get-requires c =
 pub overflow_add-result-2 : goal.overflow_add-result-2
 overflow_add-result-2 c =
     let (tag, place, sub, inside) = c.in_ok-place.ensures.some in
-    omega (arith, record-inside c.args.mem.now c.args.w c.in_ok-place.place c.requires tag place sub, c.get.ensures, c.len-len.ensures.most)
+    omega (arith, record-inside c.args.mem.now c.args.w c.in_ok-place.place c.requires tag place sub, c.get.ensures, c.bounded.ensures)
 
 pub returns : goal.returns
 returns c =

@@ -13,7 +13,7 @@ get-record-requires c =
 
 pub overflow_add-record : goal.overflow_add-record
 overflow_add-record c =
-    omega (arith, fun-record-inside c.args.mem.now c.args.w c.args.place c.requires.term c.requires.pointer.0 c.requires.pointer.1 c.requires.subtag, c.get-record.ensures, c.len-len.ensures.most)
+    omega (arith, fun-record-inside c.args.mem.now c.args.w c.args.place c.requires.term c.requires.pointer.0 c.requires.pointer.1 c.requires.subtag, c.get-record.ensures, c.bounded.ensures)
 
 pub get-requires : goal.get-requires
 get-requires c = omega (arith, fun-record-inside c.args.mem.now c.args.w c.args.place c.requires.term c.requires.pointer.0 c.requires.pointer.1 c.requires.subtag, c.get-record.ensures)

@@ -7,7 +7,7 @@ use Rattle.term_read.proofs.looks.look_at.Goals as goal
 
 pub unreachable-requires : goal.unreachable-requires
 unreachable-requires c =
-    no-other c.args.mem.now c.args.w c.kind_of.result c.requires c.len-len.ensures.most c.kind_of.ensures.small c.kind_of.ensures.pid
+    no-other c.args.mem.now c.args.w c.kind_of.result c.requires c.bounded.ensures c.kind_of.ensures.small c.kind_of.ensures.pid
     c.kind_of.ensures.atom c.kind_of.ensures.nil c.kind_of.ensures.list c.kind_of.ensures.boxed c.in-Header.is
 
 pub returns-in-Small-clause-tree : goal.returns-in-Small-clause-tree

@@ -44,7 +44,7 @@ pub overflow_add-result-in-Holder : goal.overflow_add-result-in-Holder
 overflow_add-result-in-Holder c =
     let sub : get_or c.args.mem.now c.args.place 0 / 4 % 16 ≡ 8 =
     subtag-at c.args.mem.now c.args.place c.get-header.result c.in-Some.object object.Holder c.get-header.ensures c.in-Some.ensures.subtag c.in-Holder.is in
-    omega (arith, record-inside c.args.mem.now c.args.w c.args.place c.requires.term c.requires.pointer.0 c.requires.pointer.1 sub, c.get-in-Holder.ensures, c.len-len.ensures.most)
+    omega (arith, record-inside c.args.mem.now c.args.w c.args.place c.requires.term c.requires.pointer.0 c.requires.pointer.1 sub, c.get-in-Holder.ensures, c.bounded.ensures)
 
 pub get-requires-in-Holder-2 : goal.get-requires-in-Holder-2
 get-requires-in-Holder-2 c =

@@ -39,7 +39,7 @@ pub overflow_add-keys-then-i-get : goal.overflow_add-keys-then-i-get
 overflow_add-keys-then-i-get c =
     let (tag, place, sub, inside) = c.in_ok-place.ensures.some in
     let (words, keys) = map-inside c.args.mem.now c.args.w c.in_ok-place.place c.requires tag place sub in
-    omega (arith, keys, c.get-keys.ensures, c.get.ensures, c.if-i-get.true, c.len-len.ensures.most)
+    omega (arith, keys, c.get-keys.ensures, c.get.ensures, c.if-i-get.true, c.bounded.ensures)
 
 pub object_at-requires : goal.object_at-requires
 object_at-requires c = grind (arith, common_steps)

@@ -33,7 +33,7 @@ pub overflow_add-place-then-i-get-2 : goal.overflow_add-place-then-i-get-2
 overflow_add-place-then-i-get-2 c =
     let (tag, place, sub, inside) = c.in_ok-place.ensures.some in
     let (words, keys) = map-inside c.args.mem.now c.args.w c.in_ok-place.place c.requires tag place sub in
-    omega (arith, inside, words, c.get.ensures, c.if-i-get.true, c.len-len.ensures.most)
+    omega (arith, inside, words, c.get.ensures, c.if-i-get.true, c.bounded.ensures)
 
 pub object_at-requires : goal.object_at-requires
 object_at-requires c = grind (arith, common_steps)

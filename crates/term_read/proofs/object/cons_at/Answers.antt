@@ -11,5 +11,5 @@ returns-in-ListAt-clause-some c =
 pub returns-in_default : goal.returns-in_default
 returns-in_default c = record {
   some = tt;
-  none = λ tag. c.in_default.not-ListAt _ (c.kind_of.ensures.list tag (list-near c.args.mem.now c.args.w c.requires c.len-len.ensures.most tag));
+  none = λ tag. c.in_default.not-ListAt _ (c.kind_of.ensures.list tag (list-near c.args.mem.now c.args.w c.requires c.bounded.ensures tag));
 }

@@ -17,5 +17,5 @@ returns-then-get-subtag-clause-some c =
 pub returns-in_default : goal.returns-in_default
 returns-in_default c = record {
   some = tt;
-  none = λ tag sub. c.in_default.not-BoxedAt _ (c.kind_of.ensures.boxed tag (boxed-near c.args.mem.now c.args.w c.requires c.len-len.ensures.most tag));
+  none = λ tag sub. c.in_default.not-BoxedAt _ (c.kind_of.ensures.boxed tag (boxed-near c.args.mem.now c.args.w c.requires c.bounded.ensures tag));
 }

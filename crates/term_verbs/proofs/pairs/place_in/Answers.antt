@@ -3,7 +3,7 @@ use Rattle.term_verbs.proofs.Mapping.{full-place, is-within}
 use Rattle.term_verbs.proofs.pairs.place_in.Goals as goal
 
 pub count_with-requires : goal.count_with-requires
-count_with-requires c = omega (arith, c.len-len.ensures.most, c.in-Map.ensures.places.0.within)
+count_with-requires c = omega (arith, c.bounded.ensures, c.in-Map.ensures.places.0.within)
 
 pub returns-then-count_with-gt-MOST_KEYS : goal.returns-then-count_with-gt-MOST_KEYS
 returns-then-count_with-gt-MOST_KEYS c = λ r shared t k s sk.

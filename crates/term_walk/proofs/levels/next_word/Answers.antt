@@ -8,7 +8,7 @@ loop-rest-init g c = record { skips = skips-none c.args.mem.now (reverse c.args.
 
 pub take-requires : goal.take-requires
 take-requires g c =
-    top-short c.args.mem.now (reverse c.args.levels.now.items) c.in-Some.rest (reverse c.pop.new.self.items) c.len-len.ensures.most c.requires
+    top-short c.args.mem.now (reverse c.args.levels.now.items) c.in-Some.rest (reverse c.pop.new.self.items) c.bounded.ensures c.requires
     (skips-popped c.args.mem.now (reverse c.args.levels.now.items) c.loop-rest.levels.items c.pop.new.self.items c.in-Some.rest c.in-Some.ensures.items c.loop-rest.invariant.skips)
 
 pub get-requires : goal.get-requires

@@ -11,10 +11,10 @@ evacuate_all-requires c = record {
 }
 
 pub overflow_mul-queue : goal.overflow_mul-queue
-overflow_mul-queue c = omega (arith, c.requires.moves.queue.room.new_inside, c.len-len.ensures.most)
+overflow_mul-queue c = omega (arith, c.requires.moves.queue.room.new_inside, c.bounded.ensures)
 
 pub overflow_add-queue : goal.overflow_add-queue
-overflow_add-queue c = omega (arith, c.requires.moves.queue.room.new_inside, c.len-len.ensures.most)
+overflow_add-queue c = omega (arith, c.requires.moves.queue.room.new_inside, c.bounded.ensures)
 
 pub move_stack-requires : goal.move_stack-requires
 move_stack-requires c = record {
@@ -45,7 +45,7 @@ move_stack-requires-2 c =
     }
 
 pub last_place-process-requires : goal.last_place-process-requires
-last_place-process-requires c = omega (arith, c.requires.moves.queue.room.new_inside, c.len-len.ensures.most)
+last_place-process-requires c = omega (arith, c.requires.moves.queue.room.new_inside, c.bounded.ensures)
 
 pub returns : goal.returns
 returns c = λ p k low limit r.

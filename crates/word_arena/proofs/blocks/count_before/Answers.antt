@@ -14,7 +14,7 @@ overflow_add-sum c =
       free-most c.args.mem.now c.loop-at.at,
       c.loop-at.invariant.sum,
       c.free-sum.ensures,
-      c.len-len.ensures.most,
+      c.bounded.ensures,
       (block-within _ _ c.requires.blocked here).to,
     )
 

@@ -15,4 +15,4 @@ loop-p-preserved c =
     }
 
 pub overflow_add-p : goal.overflow_add-p
-overflow_add-p c = omega (arith, free-most c.args.mem.now c.loop-p.p, block-within _ _ c.requires.blocked (c.loop-p.invariant.stop.begins (omega arith)), c.free.ensures, c.len-len.ensures.most)
+overflow_add-p c = omega (arith, free-most c.args.mem.now c.loop-p.p, block-within _ _ c.requires.blocked (c.loop-p.invariant.stop.begins (omega arith)), c.free.ensures, c.bounded.ensures)

@@ -10,7 +10,7 @@ size-requires c =
 pub overflow_add-result : goal.overflow_add-result
 overflow_add-result c =
     let w = block-within _ _ c.requires.blocked c.requires.block in
-    omega (arith, w.to, c.size.ensures, c.len-len.ensures.most)
+    omega (arith, w.to, c.size.ensures, c.bounded.ensures)
 
 pub returns-clause-stop : goal.returns-clause-stop
 returns-clause-stop c = rw c.size.ensures (stop-next _ _ c.requires.blocked c.requires.block)

@@ -8,12 +8,12 @@ use Rattle.word_arena.proofs.rows.carve.Goals as goal
 pub overflow_mul-words : goal.overflow_mul-words
 overflow_mul-words c =
     let w = block-within _ _ c.requires.blocked c.requires.first.begins in
-    omega (arith, w.to, c.requires.first.fits, c.len-len.ensures.most)
+    omega (arith, w.to, c.requires.first.fits, c.bounded.ensures)
 
 pub overflow_add-words : goal.overflow_add-words
 overflow_add-words c =
     let w = block-within _ _ c.requires.blocked c.requires.first.begins in
-    omega (arith, w.to, c.requires.first.fits, c.len-len.ensures.most, c.requires.kind)
+    omega (arith, w.to, c.requires.first.fits, c.bounded.ensures, c.requires.kind)
 
 pub returns : goal.returns
 returns c =

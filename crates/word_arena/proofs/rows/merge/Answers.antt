@@ -6,7 +6,7 @@ use Rattle.word_arena.proofs.Laid.Taking.{gave}
 use Rattle.word_arena.proofs.rows.merge.Goals as goal
 
 pub overflow_mul-end : goal.overflow_mul-end
-overflow_mul-end c = omega (arith, c.free_end-end.ensures.inside, c.len-len.ensures.most)
+overflow_mul-end c = omega (arith, c.free_end-end.ensures.inside, c.bounded.ensures)
 
 pub returns : goal.returns
 returns c =

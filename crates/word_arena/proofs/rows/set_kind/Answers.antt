@@ -8,12 +8,12 @@ use Rattle.word_arena.proofs.rows.set_kind.Goals as goal
 pub overflow_mul-size : goal.overflow_mul-size
 overflow_mul-size c =
     let w = block-within _ _ c.requires.blocked c.requires.block.begins in
-    omega (arith, w.to, c.size-size.ensures, c.len-len.ensures.most)
+    omega (arith, w.to, c.size-size.ensures, c.bounded.ensures)
 
 pub overflow_add-size : goal.overflow_add-size
 overflow_add-size c =
     let w = block-within _ _ c.requires.blocked c.requires.block.begins in
-    omega (arith, w.to, c.size-size.ensures, c.len-len.ensures.most, c.requires.kind)
+    omega (arith, w.to, c.size-size.ensures, c.bounded.ensures, c.requires.kind)
 
 pub returns : goal.returns
 returns c =

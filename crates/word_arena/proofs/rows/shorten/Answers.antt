@@ -8,12 +8,12 @@ use Rattle.word_arena.proofs.rows.shorten.Goals as goal
 pub overflow_mul-words : goal.overflow_mul-words
 overflow_mul-words c =
     let w = block-within _ _ c.requires.blocked c.requires.block.begins in
-    omega (arith, w.to, c.requires.most, c.len-len.ensures.most)
+    omega (arith, w.to, c.requires.most, c.bounded.ensures)
 
 pub overflow_add-words : goal.overflow_add-words
 overflow_add-words c =
     let w = block-within _ _ c.requires.blocked c.requires.block.begins in
-    omega (arith, w.to, c.requires.most, c.len-len.ensures.most, c.kind-kind.ensures)
+    omega (arith, w.to, c.requires.most, c.bounded.ensures, c.kind-kind.ensures)
 
 pub returns : goal.returns
 returns c =

@@ -97,7 +97,7 @@ overflow_add-self-2 c =
     c.make_room.new.self c.make_room.result c.make_room.ensures c.requires.named c.if-not-make_room.false c.process.result.now c.process.ensures
     c.build.new.mem c.build.new.room (with_items c.args.self.now.row c.build.new.scratch) refl (record { serial = c.args.self.now.serials; head = c.make_room.new.self.head }) c.build.new.making
     c.build.ensures.leaves refl c.in-Ok.w c.in-Ok.ensures.builds c.in-Ok.ensures.back in
-    omega (arith, most, c.in-Ok.ensures.serial, c.len-len.ensures.most, c.len-len.ensures.len, c.build.ensures.leaves.same_len, longs-few c.args.code.now, c.requires.term.few)
+    omega (arith, most, c.in-Ok.ensures.serial, c.bounded.ensures, c.build.ensures.leaves.same_len, longs-few c.args.code.now, c.requires.term.few)
 
 pub returns-then-not-make_room-clause-asks : goal.returns-then-not-make_room-clause-asks
 returns-then-not-make_room-clause-asks c =

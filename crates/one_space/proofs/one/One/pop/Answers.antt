@@ -17,7 +17,7 @@ pub overflow_add-place : goal.overflow_add-place
 overflow_add-place c =
     omega (
       arith,
-      c.len-len.ensures.most,
+      c.bounded.ensures,
       half-within c.args.self.now.halves c.requires.holds.counts.laid,
       pop-inside c.args.self.now c.requires.holds c.args.seat c.requires.sits c.args.r c.process.result.now c.process.ensures c.if-process-eq0.false,
     )

@@ -15,7 +15,7 @@ pub overflow_add-process : goal.overflow_add-process
 overflow_add-process c =
     omega (
       arith,
-      c.len-len.ensures.most,
+      c.bounded.ensures,
       push-fits c.args.self.now c.requires.holds c.args.seat c.requires.sits c.args.s c.make_room.new.self c.make_room.result c.make_room.ensures
           c.process.result.now c.process.ensures,
     )

@@ -33,7 +33,7 @@ chain-self-requires-clause-count c =
 pub overflow_add-self : goal.overflow_add-self
 overflow_add-self c =
     let x = c.requires.next.stands in
-    omega (arith, few-links x.test c.args.self.now.mem x.chained x.links.once x.links.each, c.len-len.ensures.most, x.linked, c.put_bin-at.ensures.linked)
+    omega (arith, few-links x.test c.args.self.now.mem x.chained x.links.once x.links.each, c.bounded.ensures, x.linked, c.put_bin-at.ensures.linked)
 
 pub returns-clause-gets : goal.returns-clause-gets
 returns-clause-gets c = λ named shared qs x last.

@@ -34,13 +34,13 @@ chain-self-requires-clause-count c =
       arith,
       same,
       few-named c.requires.named.named h c.requires.named.shared c.requires.named.processes v has.near v 4 (inr (c.args.name, c.args.arity, has.is, refl))
-          (omega (arith, c.len-len.ensures.most, c.fun_record-rec.ensures.adds.same_len)),
+          (omega (arith, c.bounded.ensures, c.fun_record-rec.ensures.adds.same_len)),
     ))
 
 pub overflow_add-self : goal.overflow_add-self
 overflow_add-self c =
     let x = c.requires.named.stands in
-    omega (arith, few-links x.test c.args.self.now.mem x.chained x.links.once x.links.each, c.len-len.ensures.most, x.linked, c.fun_record-rec.ensures.linked)
+    omega (arith, few-links x.test c.args.self.now.mem x.chained x.links.once x.links.each, c.bounded.ensures, x.linked, c.fun_record-rec.ensures.linked)
 
 pub returns-clause-gets : goal.returns-clause-gets
 returns-clause-gets c = λ named shared qs x ts small all.

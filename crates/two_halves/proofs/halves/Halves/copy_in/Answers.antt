@@ -8,7 +8,7 @@ use Rattle.two_halves.proofs.Queued.Copying.{can-copy, copies-chained, copies-pl
 use Rattle.two_halves.proofs.halves.Halves.copy_in.Goals as goal
 
 pub copy_tree-copy-requires-clause-can : goal.copy_tree-copy-requires-clause-can
-copy_tree-copy-requires-clause-can c = can-copy c.args.self.now c.args.w c.requires.can c.len-len.ensures.most
+copy_tree-copy-requires-clause-can c = can-copy c.args.self.now c.args.w c.requires.can c.bounded.ensures
 
 pub returns-then-self-eq0 : goal.returns-then-self-eq0
 returns-then-self-eq0 c =
@@ -34,7 +34,7 @@ overflow_add-self c =
     let order : c.copy_tree-copy.new.room.top ≤ c.args.self.now.room.end = omega (arith, c.copy_tree-copy.ensures.places.top_next, c.copy_tree-copy.ensures.end) in
     omega (
       arith,
-      c.len-len.ensures.most,
+      c.bounded.ensures,
       linked-few c.args.self.now c.args.w c.requires.can stay none c.copy_tree-copy.new.mem c.copy_tree-copy.new.room.top c.copy_tree-copy.result order
           c.copy_tree-copy.ensures.copies c.chain_row-chained.new.mem c.chain_row-chained.result c.chain_row-chained.ensures,
     )

@@ -7,7 +7,7 @@ follow-first-requires c = last-inside c.args.self.now c.args.row c.args.w c.requ
 
 pub overflow_add-process : goal.overflow_add-process
 overflow_add-process c =
-    omega (arith, c.len-len.ensures.most, waiting-few c.args.self.now c.args.row c.args.w c.requires.can c.process-process.result.now c.process-process.ensures)
+    omega (arith, c.bounded.ensures, waiting-few c.args.self.now c.args.row c.args.w c.requires.can c.process-process.result.now c.process-process.ensures)
 
 pub returns : goal.returns
 returns c =

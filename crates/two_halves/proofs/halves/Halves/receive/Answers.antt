@@ -4,7 +4,7 @@ use Rattle.two_halves.proofs.halves.Halves.receive.Goals as goal
 
 pub overflow_add-place : goal.overflow_add-place
 overflow_add-place c =
-    omega (arith, c.len-len.ensures.most, message-inside c.args.self.now c.args.row c.requires.has c.process-process.result.now c.process-process.ensures c.if-process-eq0.false)
+    omega (arith, c.bounded.ensures, message-inside c.args.self.now c.args.row c.requires.has c.process-process.result.now c.process-process.ensures c.if-process-eq0.false)
 
 pub get-requires : goal.get-requires
 get-requires c = omega (arith, message-inside c.args.self.now c.args.row c.requires.has c.process-process.result.now c.process-process.ensures c.if-process-eq0.false)

@@ -1,0 +1,12 @@
+//! What the verbs of processes ask of a memory: a trait with a call for each thing that they read, build, move or give up, and the words in which they ask.
+#![tactic(auto)]
+
+mod heaps;
+mod making;
+mod waiting;
+mod wanted;
+
+pub use heaps::Heaps;
+pub use making::{Make, words_of};
+pub use waiting::{Message, Waiting};
+pub use wanted::Want;
