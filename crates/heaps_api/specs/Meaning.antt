@@ -64,12 +64,16 @@ abbrev pub HoldAllThere : {H : Type 0} (m : Meaning H) (named : ℕ) (h : H) (sh
     → List Tree → Type 0
 HoldAllThere m named h shared qs x ws ts = HoldTrees (m.test named h shared qs x.is) shared (m.mem h) named ws ts
 
--- A memory of which calls can be asked: its counters are not at their end, and it stands for some processes.
-pub record CanAsk {H : Type 0} (m : Meaning H) (h : H) : Type 0 where
+-- It is whole by some count, and stands for some processes.
+pub record Lives {H : Type 0} (m : Meaning H) (h : H) : Type 0 where
   pub count : ℕ
-  pub few : count < 2 ^ 38
   pub whole : m.whole count h
   pub named : ℕ
   pub shared : List (List ℕ)
   pub processes : List Process
   pub stood : Stood m named h shared processes
+
+-- A memory of which changing calls can be asked: its counters are not at their end.
+pub record CanAsk {H : Type 0} (m : Meaning H) (h : H) : Type 0 where
+  pub lives : Lives m h
+  pub few : lives.count < 2 ^ 38

@@ -13,7 +13,7 @@ ghost use Rattle.space_api.specs.Calls.{AreRising, HasTerm, IsEnv};
 ghost use Rattle.store_image.specs.Image.{ImageStands};
 ghost use Rattle.store_image.specs.Counting.{image_counts};
 ghost use Rattle.term_tags.specs.declared.kinds.TheConstants.{ATOMS, PIDS};
-ghost use Rattle.heaps_api.specs.Meaning.{Meaning, CanAsk, Stood};
+ghost use Rattle.heaps_api.specs.Meaning.{CanAsk, Lives, Meaning, Stood};
 ghost use Rattle.heaps_api.specs.Making.{words_of_make};
 ghost use Rattle.heaps_api.specs.Wanted.{HasWantedRow};
 ghost use Rattle.heaps_api.specs.Reading.{AreRegisters, AreWaiting, IsNamedBy, StandsIn};
@@ -72,9 +72,10 @@ pub trait Heaps {
 
     /// The messages of a row, from the first.
     fn waiting(&self, row: usize) -> Waiting
-        requires ready { CanAsk meaning self.now }
+        requires lives { Lives meaning self.now }
         requires row { row < length (meaning.numbers self.now) }
         ensures waits { meaning.waits self.now result }
+        ensures count { length (meaning.messages self.now result) ≡ result.count }
         ensures words { AreWaiting meaning row self.now (meaning.messages self.now result) };
 
     /// The next message.
@@ -91,7 +92,7 @@ pub trait Heaps {
         requires row { HasWantedRow want (meaning.numbers self.old) }
         ensures { Looks meaning want self.old self.new result };
 
-    /// PutsWord the word of a term into a register.
+    /// Puts the word of a term into a register.
     fn put(&mut self, row: usize, r: Reg, w: u64)
         requires ready { CanAsk meaning self.old }
         requires row { row < length (meaning.numbers self.old) }
@@ -175,14 +176,14 @@ pub trait Heaps {
         requires register { IsRegister r }
         ensures { ReceivesInto meaning row r self.old self.new result };
 
-    /// PutsWord a copy of the word's term last into the queue of the process with this row.
+    /// Puts a copy of the word's term last into the queue of the process with this row.
     fn send(&mut self, row: usize, w: u64)
         requires ready { CanAsk meaning self.old }
         requires row { row < length (meaning.numbers self.old) }
         requires can { CanSendTo meaning row w self.old }
         ensures { SendsTo meaning row w self.old self.new };
 
-    /// IsMadeOf a process with this number, the last of the rows.
+    /// Makes a process with this number, the last of the rows.
     fn spawn(&mut self, number: u64)
         requires ready { CanAsk meaning self.old }
         requires few { length (meaning.numbers self.old) < MOST_PROCESSES }
@@ -202,7 +203,7 @@ pub trait Heaps {
         requires row { row < length (meaning.numbers self.old) }
         ensures { CollectsRows meaning false self.old self.new };
 
-    /// CollectsRows every process.
+    /// Collects every process.
     fn sweep_all(&mut self)
         requires ready { CanAsk meaning self.old }
         ensures { CollectsRows meaning true self.old self.new };
@@ -215,7 +216,7 @@ pub trait Heaps {
     /// The text of `counts` is one of each state that the memory stands for, and the image stands for it and tells the same text.
     /// Nothing is done.
     fn images_stand(&self)
-        requires ready { CanAsk meaning self.now }
+        requires lives { Lives meaning self.now }
         requires rising { AreRising 0 (meaning.numbers self.now) }
         ensures counted { (named : ℕ) (s : State) → StandsIn meaning named self.now s → AreNames s.names → named ≤ length s.names
             → CountsOf s (meaning.counts_text self.now s.names) }

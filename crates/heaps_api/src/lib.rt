@@ -9,4 +9,4 @@ mod wanted;
 pub use heaps::Heaps;
 pub use making::{Make, words_of};
 pub use waiting::{Message, Waiting};
-pub use wanted::Want;
+pub use wanted::{Want, words_wanted};

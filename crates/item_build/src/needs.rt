@@ -2,7 +2,7 @@
 ghost use Rattle.std.specs.Prelude.{◌≡◌, ℕ, ◌+◌, ◌-◌, ◌≤◌, ◌^◌, length, drop, min};
 ghost use Rattle.plain_term.specs.declared.item.Item.TheVariants.{Bin};
 ghost use Rattle.plain_term.specs.Measures.{int_flat};
-ghost use Rattle.item_build.specs.Reading.{item_words, item_words_of};
+ghost use Rattle.item_build.specs.Reading.{far_words, far_words_of, heap_words_of, holder_words, item_words, item_words_of, own_words};
 
 use plain_term::Item;
 use term_tags::MOST_HEAP_BYTES;
@@ -18,6 +18,63 @@ pub fn words_needed(code: &[Item]) -> u64
         sum = words_for(code[i]).saturating_add(sum);
     }
     sum
+}
+
+/// The words that a written term takes at most: those of its objects, holders of binaries among them, and those of records.
+#[derive(Clone, Copy)]
+pub struct Needs {
+    pub heap: u64,
+    pub far: u64,
+}
+
+/// The same in two sums.
+pub fn term_needs(code: &[Item]) -> Needs
+    ensures heap { result.heap ≡ min (heap_words_of code.now) (2 ^ 64 - 1) }
+    ensures far { result.far ≡ min (far_words_of code.now) (2 ^ 64 - 1) }
+{
+    let mut heap: u64 = 0;
+    let mut far: u64 = 0;
+    let mut i = code.len();
+    while i > 0 {
+        i -= 1;
+        let one = needs_of(code[i]);
+        heap = one.heap.saturating_add(heap);
+        far = one.far.saturating_add(far);
+    }
+    Needs { heap, far }
+}
+
+// Those of one part.
+fn needs_of(item: Item) -> Needs
+    ensures heap { result.heap ≡ min (own_words item + holder_words item) (2 ^ 64 - 1) }
+    ensures far { result.far ≡ min (far_words item) (2 ^ 64 - 1) }
+{
+    match item {
+        Item::Bin(n) => needs_of_bin(n),
+        _ => Needs {
+            heap: words_for(item),
+            far: 0,
+        },
+    }
+}
+
+// Those of a binary: its words on the heap, or a holder and a record.
+fn needs_of_bin(n: u64) -> Needs
+    ensures heap { result.heap ≡ own_words (Bin n) + holder_words (Bin n) }
+    ensures far { result.far ≡ far_words (Bin n) }
+{
+    let words = n / 8 + (n % 8 + 7) / 8;
+    if n > MOST_HEAP_BYTES {
+        Needs {
+            heap: 6,
+            far: 4 + words,
+        }
+    } else {
+        Needs {
+            heap: 2 + words,
+            far: 0,
+        }
+    }
 }
 
 // The words of one part.

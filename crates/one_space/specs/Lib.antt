@@ -7,3 +7,4 @@ pub mod Telling
 pub mod Listing
 pub mod Queued
 pub mod Figures
+pub mod Heap

@@ -16,6 +16,17 @@ pub fn gather(row: &mut Vec<u64>, regs: &[u64], env: &[Item])
     }
 }
 
+/// The same in a row that is lent.
+pub fn gather_words(row: &mut [u64], regs: &[u64], env: &[Item])
+    requires { length env.now ≤ length row.old }
+    ensures words { take (length env.now) row.new ≡ map (λ x. held_word regs.now x) env.now }
+    ensures len { length row.new ≡ length row.old }
+{
+    for i in 0..env.len() {
+        row[i] = word_of(regs, &env[i]);
+    }
+}
+
 // The word of the register that the item names.
 fn word_of(regs: &[u64], item: &Item) -> u64
     ensures { result ≡ held_word regs.now item.now }

@@ -4,13 +4,18 @@
 mod cutting;
 mod entering;
 mod filling;
+mod gaining;
 mod gathering;
+mod heap;
 mod listing;
 mod one;
+mod putting;
 mod queues;
+mod rows;
 mod sending;
 mod space;
 mod terms;
 mod told;
 
+pub use heap::OneHeap;
 pub use space::{LEAST_WORDS, OneSpace};

@@ -1,0 +1,2 @@
+mod Processes
+pub mod Steps

@@ -1,0 +1,3 @@
+-- Processes by the rows of a memory.
+pub mod Seats
+pub mod Seated
