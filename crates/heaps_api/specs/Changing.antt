@@ -97,7 +97,7 @@ pub record GainsFun {H : Type 0} (m : Meaning H) (row : ℕ) (r : Reg) (name ari
   pub made : (named more : ℕ) (shared : List (List ℕ)) (qs : List Process) (registers : List ℕ) → Stood m named old shared qs → named ≤ more → name < more
       → env ≡ map item.Held registers
       → Stood m more new shared (set qs row (with_register r.0 (Fun name arity (process_at qs row).number (register_trees (process_at qs row) registers))
-          (process_at qs row)))
+      (process_at qs row)))
 
 -- A register's term was pushed.
 pub record Pushes {H : Type 0} (m : Meaning H) (row : ℕ) (r : Reg) (want : Want) (old new : H) : Type 0 where
@@ -160,7 +160,7 @@ pub record SendsTo {H : Type 0} (m : Meaning H) (row w : ℕ) (old new : H) : Ty
   pub entered : (named : ℕ) (shared : List (List ℕ)) (qs : List Process) (x : Stood m named old shared qs) (t : Tree)
       → HoldsThere m named old shared qs x w t
       → m.took (want.Message row (flat t)) old new
-        × Stood m named new shared (set qs row (record (process_at qs row) { queue = (process_at qs row).queue ++ t ∷ [] }))
+      × Stood m named new shared (set qs row (record (process_at qs row) { queue = (process_at qs row).queue ++ t ∷ [] }))
 
 -- A collection was made: what stood stands. Where all was swept, it is tidy.
 pub record CollectsRows {H : Type 0} (m : Meaning H) (all : Bool) (old new : H) : Type 0 where

@@ -142,7 +142,15 @@ pub trait Heaps {
 
     /// Builds a fun of this name and arity in a register, which the process has made, with the terms of these registers as its
     /// environment. `scratch` is for their words.
-    fn gain_fun(&mut self, row: usize, r: Reg, name: u64, arity: u64, scratch: &mut [u64], env: &[Item])
+    fn gain_fun(
+        &mut self,
+        row: usize,
+        r: Reg,
+        name: u64,
+        arity: u64,
+        scratch: &mut [u64],
+        env: &[Item],
+    )
         requires ready { CanAsk meaning self.old }
         requires row { row < length (meaning.numbers self.old) }
         requires register { IsRegister r }

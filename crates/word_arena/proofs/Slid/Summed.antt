@@ -45,23 +45,26 @@ module _ (mem : List ℕ) (i from end_of_i free : ℕ) (blocked : Blocked mem) (
 
   pub walked-entry : (sum first : ℕ) → sum ≡ free_before mem from → (free < end_of_i → first ≡ free - i * 8) → (end_of_i ≤ free → first ≡ 8)
       → (sum ≡ free_before mem (i * 8)) × IsFirstFree mem i first
-  walked-entry sum first is inner outer = (is ∙ sym (behind-sum mem (i * 8) from blocked start), elim (cases_lt free end_of_i) as (λ _. IsFirstFree mem i first) [
-    | inl below ↦ (
-        let low : i * 8 ≤ from = start.low (omega (arith, after, below, last)) in
-        let same : free ≡ i * 8 + first = omega (arith, inner below, low, after) in
-        record {
-          begins = λ _. (let P : ℕ → Type 0 = λ z. BlockBegins mem z in subst P same (stop.begins (omega (arith, below, last))));
-          used = λ p begins from_i high. (passed p begins (start.least p begins from_i) (omega (arith, same, high))).1;
-          most = omega (arith, same, below, last);
-        })
-    | inr above ↦ (
-        let none : first ≡ 8 = outer above in
-        record {
-          begins = λ small. absurd (omega (arith, small, none));
-          used = λ p begins from_i high. (passed p begins (start.least p begins from_i) (omega (arith, above, last, none, high, begins-below mem p blocked begins))).1;
-          most = omega (arith, none);
-        })
-  ])
+  walked-entry sum first is inner outer = (
+    is ∙ sym (behind-sum mem (i * 8) from blocked start),
+    elim (cases_lt free end_of_i) as (λ _. IsFirstFree mem i first) [
+      | inl below ↦ (
+          let low : i * 8 ≤ from = start.low (omega (arith, after, below, last)) in
+          let same : free ≡ i * 8 + first = omega (arith, inner below, low, after) in
+          record {
+            begins = λ _. (let P : ℕ → Type 0 = λ z. BlockBegins mem z in subst P same (stop.begins (omega (arith, below, last))));
+            used = λ p begins from_i high. (passed p begins (start.least p begins from_i) (omega (arith, same, high))).1;
+            most = omega (arith, same, below, last);
+          })
+      | inr above ↦ (
+          let none : first ≡ 8 = outer above in
+          record {
+            begins = λ small. absurd (omega (arith, small, none));
+            used = λ p begins from_i high. (passed p begins (start.least p begins from_i) (omega (arith, above, last, none, high, begins-below mem p blocked begins))).1;
+            most = omega (arith, none);
+          })
+    ],
+  )
 
 pub summed-kept : (old new : List ℕ) (s : Shifts) → HeadersStay old new → IsSummed old s → IsSummed new s
 summed-kept old new s same summed =
