@@ -69,7 +69,7 @@ no-space A words Stands s p n o is tight some gets =
 
 module _ {H : Type 0} (m : Meaning H) where
   -- The memory lives, and can be asked.
-  pub lives-there : (b : Verbs H) → Holds m b → Lives m b.heaps
+  abbrev pub lives-there : (b : Verbs H) → Holds m b → Lives m b.heaps
   lives-there b holds = record {
     count = 2 * b.calls;
     whole = holds.counts.whole;
@@ -79,8 +79,11 @@ module _ {H : Type 0} (m : Meaning H) where
     stood = holds.stands.processes;
   }
 
+  few-there : (b : Verbs H) (holds : Holds m b) → b.calls < 2 ^ 36 → (lives-there b holds).count < 2 ^ 38
+  few-there b holds few = let n : ℕ = 2 * b.calls in omega (arith, few)
+
   pub ready : (b : Verbs H) → Holds m b → b.calls < 2 ^ 36 → CanAsk m b.heaps
-  ready b holds few = record { lives = lives-there b holds; few = omega (arith, few) }
+  ready b holds few = record { lives = lives-there b holds; few = few-there b holds few }
 
   -- What stands for a state after a call, and is counted, is whole.
   pub holds-become : {A : Type 0} (words : ℕ) (b : Verbs H) (s : State) (line : Parsed) (r : Result A Refusal) → IsCounted m b → Becomes words s line r (VerbsStand m b) → Holds m b
