@@ -1,2 +1,3 @@
 mod Processes
+mod Telling
 pub mod Steps

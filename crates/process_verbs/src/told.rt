@@ -91,11 +91,12 @@ impl<H: Heaps> Verbs<H> {
         ensures rose { result ≡ Err Stop.Fault → Rose (K.faults sink.old) (K.faults sink.new) }
         ensures told { OnOk result (K.faults sink.new ≡ K.faults sink.old) }
     {
+        let mem = self.heaps.mem();
         let w = self.word(seat, s);
-        if is_beyond(self.heaps.mem(), w) {
+        if is_beyond(mem, w) {
             return Err(Stop::Big);
         }
-        match print(self.heaps.mem(), names, w, sink) {
+        match print(mem, names, w, sink) {
             Ok(()) => Ok(()),
             Err(_) => Err(Stop::Fault),
         }
