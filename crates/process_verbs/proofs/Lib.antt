@@ -1,3 +1,4 @@
 mod Processes
 mod Telling
+mod Spaces
 pub mod Steps

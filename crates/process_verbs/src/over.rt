@@ -196,7 +196,10 @@ impl<H: Heaps> Space for Over<H> {
     }
 
     fn counts<K: Sink>(&self, names: &AtomNames, sink: &mut K) -> Result<(), SinkFault> {
-        self.verbs.counts(names, sink)
+        let verbs = &self.verbs;
+        let _count = names.count();
+        verbs.heaps.images_stand();
+        verbs.counts(names, sink)
     }
 }
 
