@@ -1,0 +1,3 @@
+-- Verbs that make, end and move: what they make of the state, once the memory has done its part.
+pub mod Queues
+pub mod Taking
