@@ -1,25 +1,16 @@
-use Rattle.std.proofs.Common.{rules, ◌≡◌, ℕ, ◌<◌, ◌≤◌, Err, IfOk, ◌+◌, ◌-◌, ◌*◌, length, ◌/◌, ◌%◌, Bool, true, false, nat_eq, nat_lt, List, [], ◌∷◌, ◌++◌, slice_index_or, slice_set, bit_and, bit_or, Fits, w8, w32, w64, Bor, MutBor}
-use Rattle.plain_machine.specs.declared.costs.TheConstants.{PLACE_COST}
-use Rattle.script_grammar.specs.declared.command.Command.TheVariants.{Process, System}
-use Rattle.script_grammar.specs.declared.command.Verb.TheVariants as verb
-use Rattle.script_grammar.specs.declared.command.SysVerb.TheVariants as sysverb
-use Rattle.script_grammar.specs.declared.refusal.Refusal.TheVariants.{Procs}
-use Rattle.script_grammar.specs.Names.{IsRegister}
-use Rattle.space_api.specs.Calls.{most_calls}
-use Rattle.heaps_api.specs.declared.wanted.Want.TheVariants.{Process as ForProcess}
-use Rattle.heaps_api.specs.declared.wanted.Want.TheVariants.{Words}
-use Rattle.process_verbs.specs.Verbs.{Holds, Sits}
-use Rattle.process_verbs.specs.Doing.{Asks, Collects, Does, DoesAlways, DoesAtOnce, IsIdle}
+use Rattle.std.proofs.lemmas.Result.{err_from_is_err_and}
+use Rattle.process_verbs.proofs.Moving.Pushing.{push-does, push-lacks}
+use Rattle.process_verbs.proofs.Moving.Searching.{ready-after}
 use Rattle.process_verbs.proofs.verbs.Verbs.push.Goals as goal
 
--- src/verbs.rt:90:9
 pub returns-in_err-ask-clause-does : goal.returns-in_err-ask-clause-does
-returns-in_err-ask-clause-does g c = ?
+returns-in_err-ask-clause-does g c =
+    let p = err_from_is_err_and c.from_residual.result c.from_residual.ensures.1 in
+    rw (p.1, p.2) (push-lacks _ c.args.self.now c.requires.holds c.args.seat c.requires.sits c.args.s c.ask.new.self c.ask.result c.ask.ensures c.in_err-ask.field-0.0 c.in_err-ask.was)
 
--- src/verbs.rt:91:9
 pub push-requires-clause-ready : goal.push-requires-clause-ready
-push-requires-clause-ready g c = ?
+push-requires-clause-ready g c = ready-after _ c.args.self.now c.ask.new.self _ c.ask.result c.ask.ensures c.requires.holds c.requires.calls
 
--- src/verbs.rt:82:5
 pub returns-clause-does : goal.returns-clause-does
-returns-clause-does g c = ?
+returns-clause-does g c =
+    push-does _ c.args.self.now c.requires.holds c.args.seat c.requires.sits c.args.s c.ask.new.self c.ask.result c.ask.ensures c.in_ok-ask.field-0 c.in_ok-ask.was c.push.new.self c.push.ensures
