@@ -5,3 +5,4 @@ pub mod Searching
 pub mod Pushing
 pub mod Collecting
 pub mod Ending
+pub mod Spawning
