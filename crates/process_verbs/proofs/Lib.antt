@@ -2,3 +2,4 @@ mod Processes
 mod Telling
 mod Spaces
 pub mod Steps
+mod Moving
