@@ -1,8 +1,11 @@
 -- Verbs that make, end and move: what they make of the state, once the memory has done its part.
-pub mod Queues
 pub mod Taking
 pub mod Searching
 pub mod Pushing
 pub mod Collecting
 pub mod Ending
 pub mod Spawning
+pub mod Queues
+pub mod Sizing
+pub mod Hearing
+pub mod Sending

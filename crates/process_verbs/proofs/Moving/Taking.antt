@@ -21,7 +21,7 @@ use Rattle.process_verbs.specs.Asked.{changed}
 use Rattle.process_verbs.specs.Doing.{DoesAtOnce}
 use Rattle.process_verbs.specs.declared.verbs.Verbs.{Verbs}
 use Rattle.process_verbs.proofs.Steps.{Changed, at-seat, puts}
-use Rattle.process_verbs.proofs.Moving.Queues.{within-at}
+use Rattle.process_verbs.proofs.Processes.Within.{within-at}
 
 -- The verbs over another memory.
 abbrev pub with_heaps : {H : Type 0} → Verbs H → H → Verbs H
@@ -36,7 +36,7 @@ module _ {H : Type 0} (m : Meaning H) (b : Verbs H) (holds : Holds m b) (seat : 
     (within : (shared : List (List ℕ)) (q : Process) (t : Tree) (ts : List Tree) → of q ≡ t ∷ ts → AreWithin shared q.queue → AreWithin shared (left t ts q).queue)
     (h : H) (taken : Bool) (stays : KeepsRows m b.heaps h) (same : taken ≡ false → h ≡ b.heaps)
     (takes : (named : ℕ) (shared : List (List ℕ)) (qs : List Process) → Stood m named b.heaps shared qs
-        → TakesFirst m named h shared (λ t ts. set qs seat.row (left t ts (process_at qs seat.row))) (of (process_at qs seat.row)) taken) where
+    → TakesFirst m named h shared (λ t ts. set qs seat.row (left t ts (process_at qs seat.row))) (of (process_at qs seat.row)) taken) where
   -- There is none.
   none-there : (s : State) → VerbsStand m b s → taken ≡ false → of (process_at s.processes seat.row) ≡ []
   none-there s o not_taken = by (of (process_at s.processes seat.row)) refl (takes b.named s.shared s.processes o.processes)
