@@ -1,5 +1,5 @@
 -- `gc` and `sys sweep`: every tree stays.
-use Rattle.std.proofs.Common.{◌≡◌, ℕ, ◌+◌, ◌*◌, Bool, true, false, List, [], length, refl, sym, ◌∙◌, arith}
+use Rattle.std.proofs.Common.{◌≡◌, ℕ, ◌+◌, ◌*◌, Bool, true, false, List, [], refl, sym, ◌∙◌, arith}
 use Rattle.script_grammar.specs.declared.command.Command.{Command}
 use Rattle.script_grammar.specs.declared.command.Command.TheVariants.{Process as OfProcess, System}
 use Rattle.script_grammar.specs.declared.command.Depth.{Depth}
@@ -10,12 +10,12 @@ use Rattle.script_grammar.specs.Written.{Terms}
 use Rattle.script_grammar.specs.Written.Terms.{end}
 use Rattle.plain_machine.specs.State.{State}
 use Rattle.plain_machine.specs.Step.{is_sweep, settled, step}
-use Rattle.space_api.specs.Calls.{KeepsBooks, Passes, said}
+use Rattle.space_api.specs.Calls.{Passes, said}
 use Rattle.space_api.specs.declared.space.Seat.{Seat}
 use Rattle.heaps_api.specs.Meaning.{Meaning}
 use Rattle.heaps_api.specs.Changing.{CollectsRows}
 use Rattle.process_verbs.specs.Verbs.{Holds, IsCounted, Sits, VerbsStand}
-use Rattle.process_verbs.specs.Doing.{Books, DoesAlways}
+use Rattle.process_verbs.specs.Doing.{DoesAlways}
 use Rattle.process_verbs.specs.declared.verbs.Verbs.{Verbs}
 use Rattle.process_verbs.proofs.Steps.{at-seat, counts-stay, holds-passed}
 

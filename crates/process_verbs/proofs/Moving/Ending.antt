@@ -1,5 +1,5 @@
 -- `exit`: the process is gone.
-use Rattle.std.proofs.Common.{◌≡◌, ℕ, ◌+◌, ◌*◌, ◌≤◌, true≢false, List, [], length, refl, sym, ◌∙◌, ap, subst, arith}
+use Rattle.std.proofs.Common.{◌≡◌, ℕ, ◌+◌, ◌*◌, true≢false, List, [], length, refl, sym, ap, subst, arith}
 use Rattle.std.specs.List.{filter, remove}
 use Rattle.std.proofs.lemmas.List.Edits.{length-remove}
 use Rattle.script_grammar.specs.declared.command.Command.TheVariants.{Process as OfProcess}

@@ -1,5 +1,5 @@
 -- `push`: a register's tree goes on the stack.
-use Rattle.std.proofs.Common.{◌≡◌, ℕ, Result, Ok, Err, refl, subst, ◌∷◌}
+use Rattle.std.proofs.Common.{◌≡◌, Result, Ok, Err, refl, subst, ◌∷◌}
 use Rattle.script_grammar.specs.declared.command.Command.TheVariants.{Process as OfProcess}
 use Rattle.script_grammar.specs.declared.command.Reg.{Reg}
 use Rattle.script_grammar.specs.declared.command.Verb.TheVariants as verb

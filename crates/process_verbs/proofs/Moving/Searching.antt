@@ -16,7 +16,7 @@ use Rattle.heaps_api.specs.Changing.{Looks, process_at}
 use Rattle.heaps_api.specs.Wanted.{words_of_want}
 use Rattle.heaps_api.specs.declared.wanted.Want.{Want}
 use Rattle.process_verbs.specs.Verbs.{Holds, Sits, VerbsStand}
-use Rattle.process_verbs.specs.Asked.{Searches, answer_of_search, roomed}
+use Rattle.process_verbs.specs.Asked.{Searches, answer_of_search}
 use Rattle.process_verbs.specs.Doing.{Does}
 use Rattle.process_verbs.specs.declared.verbs.Verbs.{Verbs}
 use Rattle.process_verbs.proofs.Steps.{lacks, ready-roomed}

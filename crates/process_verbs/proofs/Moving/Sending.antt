@@ -1,5 +1,5 @@
 -- `send`: a copy of a register's tree enters a queue.
-use Rattle.std.proofs.Common.{◌≡◌, ℕ, ◌+◌, ◌*◌, ◌<◌, ◌≤◌, ◌==◌, Bool, true, false, true≢false, List, [], ◌∷◌, length, map, set, slice_index, Option, Some, None, Result, Ok, Err, inl, refl, sym, ◌∙◌, ap, subst, arith}
+use Rattle.std.proofs.Common.{◌≡◌, ℕ, ◌+◌, ◌*◌, ◌<◌, ◌≤◌, ◌==◌, Bool, true, false, true≢false, List, [], length, map, set, slice_index, Option, Some, None, Result, Ok, Err, inl, refl, sym, ◌∙◌, ap, subst, arith}
 use Rattle.std.specs.List.{list_any}
 use Rattle.std.proofs.lemmas.Option.{same_Some}
 use Rattle.plain_term.specs.Tree.{Tree}
@@ -33,7 +33,7 @@ use Rattle.heaps_api.specs.Wanted.{words_of_want}
 use Rattle.heaps_api.specs.declared.wanted.Want.TheVariants.{Message}
 use Rattle.process_verbs.specs.Verbs.{Holds, IsCounted, Sits, VerbsStand, memory_words}
 use Rattle.process_verbs.specs.Asked.{Searches}
-use Rattle.process_verbs.specs.Doing.{Asks, AsksForMessage, AsksToSend, AsksWhere, Does}
+use Rattle.process_verbs.specs.Doing.{AsksForMessage, AsksToSend, AsksWhere, Does}
 use Rattle.process_verbs.specs.Telling.{IsHeld}
 use Rattle.process_verbs.specs.declared.verbs.Verbs.{Verbs}
 use Rattle.process_verbs.proofs.Processes.Seated.{found-there, number-there, rising-there, within-there}

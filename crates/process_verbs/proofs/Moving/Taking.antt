@@ -1,5 +1,5 @@
 -- `pop` and `recv`: the first tree of a stack or a queue comes into a register, or there is none.
-use Rattle.std.proofs.Common.{◌≡◌, ℕ, zero, suc, Bool, true, false, true≢false, List, [], ◌∷◌, get_or, set, Ok, Err, refl, sym, ◌∙◌, subst, arith}
+use Rattle.std.proofs.Common.{◌≡◌, ℕ, Bool, true, false, true≢false, List, [], ◌∷◌, set, Ok, Err, refl, sym, ◌∙◌, subst, arith}
 use Rattle.plain_term.specs.Tree.{Tree}
 use Rattle.script_grammar.specs.declared.command.Command.TheVariants.{Process as OfProcess}
 use Rattle.script_grammar.specs.declared.command.Reg.{Reg}
@@ -10,11 +10,11 @@ use Rattle.script_grammar.specs.Names.{Parsed}
 use Rattle.script_grammar.specs.Written.{Terms}
 use Rattle.plain_machine.specs.Laws.{AreWithin}
 use Rattle.plain_machine.specs.State.{Process, State, with_process, with_register}
-use Rattle.plain_machine.specs.Step.{Outcome, by_verb, does}
+use Rattle.plain_machine.specs.Step.{by_verb, does}
 use Rattle.plain_machine.specs.Step.Outcome.{Refused}
 use Rattle.space_api.specs.Calls.{said}
 use Rattle.space_api.specs.declared.space.Seat.{Seat}
-use Rattle.heaps_api.specs.Meaning.{Meaning, Stood, no_process}
+use Rattle.heaps_api.specs.Meaning.{Meaning, Stood}
 use Rattle.heaps_api.specs.Changing.{KeepsRows, PopsInto, ReceivesInto, TakesFirst, process_at}
 use Rattle.process_verbs.specs.Verbs.{Holds, Sits, VerbsStand}
 use Rattle.process_verbs.specs.Asked.{changed}
