@@ -74,20 +74,31 @@ module _ {H : Type 0} (m : Meaning H) (b : Verbs H) (holds : Holds m b) (seat : 
       → AsksToSend {A = Unit {0}} m (receiver to p) s (register r.0 p) b b (Err refusal.BadArg)
   deaf-asks hears s p o found = rw (← hears s p o found) refl
 
-  -- It names a number.
-  module _ (n : ℕ) (hears : Hears (Some n)) (w : ℕ) (held : (s : State) (o : VerbsStand m b s) → IsHeld m b s o seat.pid r w) (mem : List ℕ) (same_mem : mem ≡ m.mem b.heaps) where
+  -- It names a number, and the word of the register was read in this memory.
+  pub record Heard : Type 0 where
+    pub number : ℕ
+    pub hears : Hears (Some number)
+    pub word : ℕ
+    pub held : (s : State) (o : VerbsStand m b s) → IsHeld m b s o seat.pid r word
+    pub mem : List ℕ
+    pub same : mem ≡ m.mem b.heaps
+
+  module _ (known : Heard) where
+    abbrev n : ℕ
+    n = known.number
+
     -- The step for this number, where this is known of the tree.
     at-number : (s : State) → VerbsStand m b s → (terms : Terms) (names : List (List ℕ)) (over : Bool) → is_beyond s.shared (tree s) ≡ over
         → by_verb s (said (OfProcess seat.pid v) terms names) (q s) v ≡ send_within over n (tree s) s (said (OfProcess seat.pid v) terms names)
-    at-number s o terms names over is = rw (← hears-there (Some n) hears s o, is) refl
+    at-number s o terms names over is = rw (← hears-there (Some n) known.hears s o, is) refl
 
-    stands-there : (s : State) → VerbsStand m b s → Stands always s.shared mem w (tree s)
+    stands-there : (s : State) → VerbsStand m b s → Stands always s.shared known.mem known.word (tree s)
     stands-there s o =
-        let here = held s o in
-        let P : Process → Type 0 = λ z. Stands always s.shared mem w (register r.0 z) in
-        subst P (sym (same-process s o here.process here.found)) (standing m b s o seat.pid r w here mem same_mem)
+        let here = known.held s o in
+        let P : Process → Type 0 = λ z. Stands always s.shared known.mem known.word (register r.0 z) in
+        subst P (sym (same-process s o here.process here.found)) (standing m b s o seat.pid r known.word here known.mem known.same)
 
-    measured-there : (k : Measured) → Measures mem w k → (s : State) → VerbsStand m b s → k ≡ measured s.shared (tree s)
+    measured-there : (k : Measured) → Measures known.mem known.word k → (s : State) → VerbsStand m b s → k ≡ measured s.shared (tree s)
     measured-there k told s o = told.each always s.shared (tree s) (stands-there s o)
 
     -- An asking that is known for this number.
@@ -96,10 +107,10 @@ module _ {H : Type 0} (m : Meaning H) (b : Verbs H) (holds : Holds m b) (seat : 
     asks-at s p o found b2 res a =
         let P : Option ℕ → Type 0 = λ z. AsksToSend m z s (register r.0 p) b b2 res in
         let Q : Process → Type 0 = λ z. AsksToSend m (Some n) s (register r.0 z) b b2 res in
-        subst P (hears s p o found) (subst Q (same-process s o p found) a)
+        subst P (known.hears s p o found) (subst Q (same-process s o p found) a)
 
     -- The tree is beyond the walk limit.
-    module _ (told : Measures mem w Beyond) where
+    module _ (told : Measures known.mem known.word Beyond) where
       pub send-big : Does {A = Unit {0}} m (OfProcess seat.pid v) b b (Err refusal.Big)
       send-big = refuses m b holds seat x v (Unit {0}) refusal.Big (λ s terms names o. at-number s o terms names true (is-over s.shared (tree s) (measured-there Beyond told s o)))
 
@@ -111,7 +122,7 @@ module _ {H : Type 0} (m : Meaning H) (b : Verbs H) (holds : Holds m b) (seat : 
           by false = refl
 
     -- The tree is within it.
-    module _ (size : Measure) (told : Measures mem w (Within size)) where
+    module _ (size : Measure) (told : Measures known.mem known.word (Within size)) where
       within : (s : State) → VerbsStand m b s → is_beyond s.shared (tree s) ≡ false
       within s o = (none-within s.shared (tree s) size (measured-there (Within size) told s o)).0
 
@@ -122,7 +133,7 @@ module _ {H : Type 0} (m : Meaning H) (b : Verbs H) (holds : Holds m b) (seat : 
       size-few =
           let s = holds.state in
           let o = holds.stands in
-          omega (arith, flat-is s o, within-few always s.shared mem w (tree s) (stands-there s o) (within s o))
+          omega (arith, flat-is s o, within-few always s.shared known.mem known.word (tree s) (stands-there s o) (within s o))
 
       -- No process with the number lives.
       module _ (dead : false ≡ list_any (λ k. k == n) (m.numbers b.heaps)) where
@@ -154,20 +165,20 @@ module _ {H : Type 0} (m : Meaning H) (b : Verbs H) (holds : Holds m b) (seat : 
         dead-asks s p o found = asks-at s p o found (after b b.heaps) (Ok tt) (rw (dead-there s o) refl)
 
       -- The process with the number has its row here, and room was looked for.
-      module _ (row : ℕ) (in_rows : row < length (m.numbers b.heaps)) (number : slice_index (m.numbers b.heaps) row ≡ n) (live : true ≡ list_any (λ k. k == n) (m.numbers b.heaps))
+      module _ (row : ℕ) (place : (row < length (m.numbers b.heaps)) × (slice_index (m.numbers b.heaps) row ≡ n)) (live : true ≡ list_any (λ k. k == n) (m.numbers b.heaps))
           (c : Verbs H) (res : Result (Unit {0}) Refusal) (asked : Searches m (Message row size.flat) b c res) where
         abbrev seat2 : Seat
         seat2 = record { pid = n; row = row }
 
         sits2 : Sits m b seat2
-        sits2 = record { within = in_rows; number = number }
+        sits2 = record { within = place.0; number = place.1 }
 
         live-there : (s : State) → VerbsStand m b s → is_live n s ≡ true
         live-there s o = sym (live ∙ lives m b s o n)
 
         words-there : (s : State) (terms : Terms) (names : List (List ℕ)) → VerbsStand m b s
             → verb_words s (said (OfProcess seat.pid v) terms names) (q s) v ≡ words_of_want (Message row size.flat)
-        words-there s terms names o = rw (← hears-there (Some n) hears s o, live-there s o, flat-is s o) refl
+        words-there s terms names o = rw (← hears-there (Some n) known.hears s o, live-there s o, flat-is s o) refl
 
         gets-there : (s : State) (terms : Terms) (names : List (List ℕ)) → VerbsStand m b s
             → gets_to_space (OfProcess seat.pid v) (by_verb s (said (OfProcess seat.pid v) terms names) (q s) v) ≡ true
@@ -303,8 +314,8 @@ module _ {H : Type 0} (m : Meaning H) (b : Verbs H) (holds : Holds m b) (seat : 
               };
               sent = λ f. record {
                 row = row;
-                within = omega (arith, in_rows, ap length looks-there.stays.rows);
-                number = ap (λ ns. slice_index ns row) looks-there.stays.rows ∙ number;
+                within = omega (arith, place.0, ap length looks-there.stays.rows);
+                number = ap (λ ns. slice_index ns row) looks-there.stays.rows ∙ place.1;
                 sent = rw (← same-heaps) sends.sent;
               };
             }
