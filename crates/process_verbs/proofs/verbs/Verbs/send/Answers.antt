@@ -30,10 +30,12 @@ pub returns-in_default-measure-clause-asks : goal.returns-in_default-measure-cla
 returns-in_default-measure-clause-asks g c = big-asks _ _ _ _ _ _ _ (heard-of g (goal.at.returns-in_default-measure-clause-asks g c).After-word) c.in_default-measure.ensures
 
 pub returns-in_default-find-clause-does : goal.returns-in_default-find-clause-does
-returns-in_default-find-clause-does g c = dead-does _ _ _ _ _ _ _ (heard-of g (goal.at.returns-in_default-find-clause-does g c).After-word) c.in-Within.size c.in-Within.ensures c.in_default-find.ensures.among
+returns-in_default-find-clause-does g c =
+    dead-does _ _ _ _ _ _ _ (heard-of g (goal.at.returns-in_default-find-clause-does g c).After-word) c.in-Within.size c.in-Within.ensures c.in_default-find.ensures.among
 
 pub returns-in_default-find-clause-asks : goal.returns-in_default-find-clause-asks
-returns-in_default-find-clause-asks g c = dead-asks _ _ _ _ _ _ _ (heard-of g (goal.at.returns-in_default-find-clause-asks g c).After-word) c.in-Within.size c.in-Within.ensures c.in_default-find.ensures.among
+returns-in_default-find-clause-asks g c =
+    dead-asks _ _ _ _ _ _ _ (heard-of g (goal.at.returns-in_default-find-clause-asks g c).After-word) c.in-Within.size c.in-Within.ensures c.in_default-find.ensures.among
 
 pub ask-requires-clause-few : goal.ask-requires-clause-few
 ask-requires-clause-few g c = omega (arith, size-few _ _ _ _ _ _ _ (heard-of g (goal.at.ask-requires-clause-few g c).After-word) c.in-Within.size c.in-Within.ensures)
@@ -41,21 +43,29 @@ ask-requires-clause-few g c = omega (arith, size-few _ _ _ _ _ _ _ (heard-of g (
 pub returns-in_err-ask-clause-does : goal.returns-in_err-ask-clause-does
 returns-in_err-ask-clause-does g c =
     let p = err_from_is_err_and c.from_residual.result c.from_residual.ensures.1 in
-    rw (p.1, p.2) (send-lacks _ _ _ _ _ _ _ (heard-of g (goal.at.returns-in_err-ask-clause-does g c).After-word) c.in-Within.size c.in-Within.ensures c.in-Some-find.row c.in-Some-find.ensures.place c.in-Some-find.ensures.among c.ask.new.self c.ask.result c.ask.ensures c.in_err-ask.field-0.0 c.in_err-ask.was)
+    rw (p.1, p.2) (send-lacks _ _ _ _ _ _ _ (heard-of g (goal.at.returns-in_err-ask-clause-does g c).After-word) c.in-Within.size c.in-Within.ensures c.in-Some-find.row
+    c.in-Some-find.ensures.place c.in-Some-find.ensures.among c.ask.new.self c.ask.result c.ask.ensures c.in_err-ask.field-0.0 c.in_err-ask.was)
 
 pub returns-in_err-ask-clause-asks : goal.returns-in_err-ask-clause-asks
 returns-in_err-ask-clause-asks g c = λ s q o found.
     let p = err_from_is_err_and c.from_residual.result c.from_residual.ensures.1 in
-    rw (p.1, p.2) (lacks-asks _ _ _ _ _ _ _ (heard-of g (goal.at.returns-in_err-ask-clause-asks g c).After-word) c.in-Within.size c.in-Within.ensures c.in-Some-find.row c.in-Some-find.ensures.place c.in-Some-find.ensures.among c.ask.new.self c.ask.result c.ask.ensures c.in_err-ask.field-0.0 c.in_err-ask.was s q o found)
+    rw (p.1, p.2) (lacks-asks _ _ _ _ _ _ _ (heard-of g (goal.at.returns-in_err-ask-clause-asks g c).After-word) c.in-Within.size c.in-Within.ensures c.in-Some-find.row
+    c.in-Some-find.ensures.place c.in-Some-find.ensures.among c.ask.new.self c.ask.result c.ask.ensures c.in_err-ask.field-0.0 c.in_err-ask.was s q o found)
 
 pub send-requires-clause-ready : goal.send-requires-clause-ready
 send-requires-clause-ready g c = ready-after _ c.args.self.now c.ask.new.self _ c.ask.result c.ask.ensures c.requires.holds c.requires.calls
 
 pub send-requires-clause-can : goal.send-requires-clause-can
-send-requires-clause-can g c = can-send _ _ _ _ _ _ _ (heard-of g (goal.at.send-requires-clause-can g c).After-word) c.in-Within.size c.in-Within.ensures c.in-Some-find.row c.in-Some-find.ensures.place c.in-Some-find.ensures.among c.ask.new.self c.ask.result c.ask.ensures c.in_ok-ask.field-0 c.in_ok-ask.was c.word-w.result c.word-w.ensures
+send-requires-clause-can g c =
+    can-send _ _ _ _ _ _ _ (heard-of g (goal.at.send-requires-clause-can g c).After-word) c.in-Within.size c.in-Within.ensures c.in-Some-find.row c.in-Some-find.ensures.place
+    c.in-Some-find.ensures.among c.ask.new.self c.ask.result c.ask.ensures c.in_ok-ask.field-0 c.in_ok-ask.was c.word-w.result c.word-w.ensures
 
 pub returns-clause-does : goal.returns-clause-does
-returns-clause-does g c = sent-does _ _ _ _ _ _ _ (heard-of g (goal.at.returns-clause-does g c).After-word) c.in-Within.size c.in-Within.ensures c.in-Some-find.row c.in-Some-find.ensures.place c.in-Some-find.ensures.among c.ask.new.self c.ask.result c.ask.ensures c.in_ok-ask.field-0 c.in_ok-ask.was c.word-w.result c.word-w.ensures c.send.new.self c.send.ensures
+returns-clause-does g c =
+    sent-does _ _ _ _ _ _ _ (heard-of g (goal.at.returns-clause-does g c).After-word) c.in-Within.size c.in-Within.ensures c.in-Some-find.row c.in-Some-find.ensures.place
+    c.in-Some-find.ensures.among c.ask.new.self c.ask.result c.ask.ensures c.in_ok-ask.field-0 c.in_ok-ask.was c.word-w.result c.word-w.ensures c.send.new.self c.send.ensures
 
 pub returns-clause-asks : goal.returns-clause-asks
-returns-clause-asks g c = sent-asks _ _ _ _ _ _ _ (heard-of g (goal.at.returns-clause-asks g c).After-word) c.in-Within.size c.in-Within.ensures c.in-Some-find.row c.in-Some-find.ensures.place c.in-Some-find.ensures.among c.ask.new.self c.ask.result c.ask.ensures c.in_ok-ask.field-0 c.in_ok-ask.was c.word-w.result c.word-w.ensures c.send.new.self c.send.ensures
+returns-clause-asks g c =
+    sent-asks _ _ _ _ _ _ _ (heard-of g (goal.at.returns-clause-asks g c).After-word) c.in-Within.size c.in-Within.ensures c.in-Some-find.row c.in-Some-find.ensures.place
+    c.in-Some-find.ensures.among c.ask.new.self c.ask.result c.ask.ensures c.in_ok-ask.field-0 c.in_ok-ask.was c.word-w.result c.word-w.ensures c.send.new.self c.send.ensures
