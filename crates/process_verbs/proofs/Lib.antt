@@ -1,2 +1,3 @@
 mod Processes
 pub mod Steps
+mod Bringing

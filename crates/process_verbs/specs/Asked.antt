@@ -46,6 +46,11 @@ pub record Searches {H : Type 0} (m : Meaning H) (w : Want) (old new : Verbs H) 
   pub holds : Holds m new
   pub stands : (s : State) → VerbsStand m old s → VerbsStand m new s
 
+-- Something of this kind can be made for the process, over these shared binaries.
+pub record HasMade (shared : List (List ℕ)) (q : Process) (make : Make) : Type 0 where
+  pub tree : Tree
+  pub makes : IsMadeOf shared q make tree
+
 -- What is made was built in the register of the seat's process, or there is no space: a verb that asks for its words and does this was done.
 pub record Makes {H : Type 0} (m : Meaning H) (seat : Seat) (r : Reg) (make : Make) (old new : Verbs H) (result : Result (Unit {0}) Refusal) : Type 0 where
   pub holds : Holds m new

@@ -1,0 +1,3 @@
+-- Verbs that bring a term into a register.
+pub mod Gaining
+pub mod Doing
