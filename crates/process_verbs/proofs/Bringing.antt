@@ -1,3 +1,5 @@
 -- Verbs that bring a term into a register.
 pub mod Gaining
 pub mod Doing
+pub mod Cutting
+pub mod Filling

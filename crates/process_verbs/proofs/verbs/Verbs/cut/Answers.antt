@@ -1,36 +1,34 @@
-use Rattle.std.proofs.Common.{rules, ◌≡◌, ℕ, ◌+◌, ◌*◌, ◌<◌, ◌≤◌, ◌/◌, List, Some, length, ◌-◌, ◌%◌, Bool, true, false, nat_eq, nat_lt, [], ◌∷◌, ◌++◌, slice_index_or, slice_set, bit_and, bit_or, Fits, w8, w32, w64, Bor, MutBor}
-use Rattle.plain_machine.specs.State.{State, process_of, register}
-use Rattle.plain_machine.specs.State.{Process as Live}
-use Rattle.plain_machine.specs.Tightness.{key_count}
-use Rattle.plain_machine.specs.Tightness.{repeat_words as words_by}
-use Rattle.plain_machine.specs.declared.limits.TheConstants.{MOST_FILL}
-use Rattle.plain_term.specs.Measures.{bin_words}
-use Rattle.script_grammar.specs.declared.command.Command.TheVariants.{Process}
+use Rattle.std.proofs.Common.{[]}
 use Rattle.script_grammar.specs.declared.command.Pick.TheVariants as pick
 use Rattle.script_grammar.specs.declared.command.Verb.TheVariants as verb
-use Rattle.script_grammar.specs.Names.{IsRegister}
-use Rattle.space_api.specs.Calls.{most_calls}
-use Rattle.heaps_api.specs.declared.wanted.Want.TheVariants.{Words}
-use Rattle.process_verbs.specs.Verbs.{Holds, Sits, VerbsStand}
-use Rattle.process_verbs.specs.Doing.{Asks, AsksUnless, Does, DoesBy, refusal_of_put, want_of_fill}
+use Rattle.script_grammar.specs.Written.Terms.{end}
+use Rattle.process_verbs.proofs.Bringing.Cutting.{cut-makes, cut-refused, word-term}
+use Rattle.process_verbs.proofs.Bringing.Doing.{has-made, made-does, made-unless}
 use Rattle.process_verbs.proofs.verbs.Verbs.cut.Goals as goal
 
--- src/making.rt:71:13
 pub has_part-requires : goal.has_part-requires
-has_part-requires g c = ?
+has_part-requires g c =
+    word-term g.H.Heaps.meaning c.args.self.now c.requires.holds c.args.seat c.requires.sits c.args.s c.word.result c.word.ensures c.mem.result.now c.mem.ensures
 
--- src/making.rt:72:13
 pub returns-then-not-has_part-clause-does : goal.returns-then-not-has_part-clause-does
-returns-then-not-has_part-clause-does g c = ?
+returns-then-not-has_part-clause-does g c =
+    cut-refused g.H.Heaps.meaning c.args.self.now c.requires.holds c.args.seat c.requires.sits c.args.s c.word.result c.word.ensures c.mem.result.now c.mem.ensures c.args.r c.args.offset c.args.len c.has_part.result c.has_part.ensures
+    c.if-not-has_part.true
 
--- src/making.rt:74:9
 pub make-requires-clause-can : goal.make-requires-clause-can
-make-requires-clause-can g c = ?
+make-requires-clause-can g c = λ s o.
+    has-made s c.args.seat c.args.r _ (verb.Choose c.args.r c.args.s (pick.Part c.args.offset c.args.len)) end []
+    (cut-makes g.H.Heaps.meaning c.args.self.now c.requires.holds c.args.seat c.requires.sits c.args.s c.word.result c.word.ensures c.mem.result.now c.mem.ensures c.args.r c.args.offset c.args.len c.has_part.result c.has_part.ensures
+    c.requires.other c.if-not-has_part.false s end [] o)
 
--- src/making.rt:62:5
 pub returns-clause-does : goal.returns-clause-does
-returns-clause-does g c = ?
+returns-clause-does g c =
+    made-does g.H.Heaps.meaning c.args.self.now c.requires.holds c.args.seat c.requires.sits c.args.r _ _ _ c.make.ensures (verb.Choose c.args.r c.args.s (pick.Part c.args.offset c.args.len))
+    (cut-makes g.H.Heaps.meaning c.args.self.now c.requires.holds c.args.seat c.requires.sits c.args.s c.word.result c.word.ensures c.mem.result.now c.mem.ensures c.args.r c.args.offset c.args.len c.has_part.result c.has_part.ensures
+    c.requires.other c.if-not-has_part.false)
 
--- src/making.rt:62:5
 pub returns-clause-asks : goal.returns-clause-asks
-returns-clause-asks g c = ?
+returns-clause-asks g c =
+    made-unless g.H.Heaps.meaning c.args.self.now c.requires.holds c.args.seat c.requires.sits c.args.r _ _ _ c.make.ensures (verb.Choose c.args.r c.args.s (pick.Part c.args.offset c.args.len))
+    (cut-makes g.H.Heaps.meaning c.args.self.now c.requires.holds c.args.seat c.requires.sits c.args.s c.word.result c.word.ensures c.mem.result.now c.mem.ensures c.args.r c.args.offset c.args.len c.has_part.result c.has_part.ensures
+    c.requires.other c.if-not-has_part.false)

@@ -1,28 +1,17 @@
-use Rattle.std.proofs.Common.{rules, ◌≡◌, ℕ, ◌+◌, ◌*◌, ◌<◌, ◌≤◌, ◌/◌, List, Some, length, ◌-◌, ◌%◌, Bool, true, false, nat_eq, nat_lt, [], ◌∷◌, ◌++◌, slice_index_or, slice_set, bit_and, bit_or, Fits, w8, w32, w64, Bor, MutBor}
-use Rattle.plain_machine.specs.State.{State, process_of, register}
-use Rattle.plain_machine.specs.State.{Process as Live}
-use Rattle.plain_machine.specs.Tightness.{key_count}
-use Rattle.plain_machine.specs.Tightness.{repeat_words as words_by}
-use Rattle.plain_machine.specs.declared.limits.TheConstants.{MOST_FILL}
-use Rattle.plain_term.specs.Measures.{bin_words}
-use Rattle.script_grammar.specs.declared.command.Command.TheVariants.{Process}
-use Rattle.script_grammar.specs.declared.command.Pick.TheVariants as pick
-use Rattle.script_grammar.specs.declared.command.Verb.TheVariants as verb
-use Rattle.script_grammar.specs.Names.{IsRegister}
-use Rattle.space_api.specs.Calls.{most_calls}
-use Rattle.heaps_api.specs.declared.wanted.Want.TheVariants.{Words}
-use Rattle.process_verbs.specs.Verbs.{Holds, Sits, VerbsStand}
-use Rattle.process_verbs.specs.Doing.{Asks, AsksUnless, Does, DoesBy, refusal_of_put, want_of_fill}
+use Rattle.std.proofs.Common.{arith}
+use Rattle.process_verbs.proofs.Bringing.Filling.{long-does, long-lacks}
+use Rattle.process_verbs.proofs.Bringing.Gaining.{searched-ready}
 use Rattle.process_verbs.proofs.verbs.Verbs.fill_long.Goals as goal
 
--- src/making.rt:139:9
 pub returns-in_err-ask-clause-does : goal.returns-in_err-ask-clause-does
-returns-in_err-ask-clause-does g c = ?
+returns-in_err-ask-clause-does g c =
+    long-lacks g.H.Heaps.meaning c.args.self.now c.requires.holds c.args.seat c.requires.sits c.args.r c.args.len c.args.byte c.requires.long c.requires.most (omega (arith, c.ranges.byte)) _ _ c.ask.ensures
+    c.in_err-ask.field-0.0 c.in_err-ask.was c.from_residual.result c.from_residual.ensures.1
 
--- src/making.rt:141:9
 pub gain_bin-requires-clause-ready : goal.gain_bin-requires-clause-ready
-gain_bin-requires-clause-ready g c = ?
+gain_bin-requires-clause-ready g c = searched-ready g.H.Heaps.meaning c.args.self.now c.requires.holds _ _ _ c.ask.ensures c.requires.calls
 
--- src/making.rt:129:5
 pub returns-clause-does : goal.returns-clause-does
-returns-clause-does g c = ?
+returns-clause-does g c =
+    long-does g.H.Heaps.meaning c.args.self.now c.requires.holds c.args.seat c.requires.sits c.args.r c.args.len c.args.byte c.requires.long c.requires.most (omega (arith, c.ranges.byte)) _ _ c.ask.ensures
+    c.in_ok-ask.field-0 c.in_ok-ask.was c.gain_bin.new.self c.gain_bin.ensures
