@@ -20,7 +20,7 @@ use Rattle.heaps_api.specs.declared.making.Make.{Make}
 use Rattle.heaps_api.specs.declared.wanted.Want.{Want}
 use Rattle.heaps_api.specs.declared.wanted.Want.TheVariants as want
 use Rattle.process_verbs.specs.Verbs.{Holds, VerbsStand, memory_words}
-use Rattle.process_verbs.specs.Doing.{Asks, Books, IsIdle}
+use Rattle.process_verbs.specs.Doing.{Asks, Books, IsIdle, is_early}
 use Rattle.process_verbs.specs.declared.verbs.Verbs.{Verbs}
 
 -- After a search for room, one call later.
@@ -55,6 +55,7 @@ pub record HasMade (shared : List (List ℕ)) (q : Process) (make : Make) : Type
 pub record Makes {H : Type 0} (m : Meaning H) (seat : Seat) (r : Reg) (make : Make) (old new : Verbs H) (result : Result (Unit {0}) Refusal) : Type 0 where
   pub holds : Holds m new
   pub asks : Asks m (want.Words seat.row (words_of_make make) 0) old new result
+  pub late : is_early result ≡ false
   pub books : Books m old new old.named
   pub becomes : (s : State) (v : Verb) (terms : Terms) (names : List (List ℕ)) (t : Tree) → VerbsStand m old s
       → IsMadeOf s.shared (process_at s.processes seat.row) make t

@@ -42,13 +42,6 @@ use Rattle.process_verbs.specs.declared.verbs.Verbs.{Verbs}
 use Rattle.process_verbs.proofs.Processes.Seated.{number-there}
 use Rattle.process_verbs.proofs.Steps.{at-seat, refuses}
 
--- A call that the machine accepts is not refused early.
-pub never-early : {A : Type 0} (words : ℕ) (s : State) (p : Parsed) (x : State) (r : Result A Refusal) (Stands : State → Type 0) → step s p ≡ does p x → Becomes words s p r Stands
-    → is_early r ≡ false
-never-early words s p x (Ok a) Stands is f = refl
-never-early {A} words s p x (Err e) Stands is (inl f) = absurd (let P : Outcome → Type 0 = λ z. Follows {A = A} z s (Err e) Stands in subst P is f)
-never-early words s p x (Err e) Stands is (inr f) = ap (λ (z : Refusal). is_early {A = Unit {0}} (Err z)) f.1
-
 pub passes-follows : (o : Outcome) (s : State) (Stands : State → Type 0) → Follows {A = Unit {0}} o s (Ok tt) Stands → Passes o Stands
 passes-follows (Accepted next reply) s Stands f = f
 passes-follows (Refused e) s Stands f = absurd f
@@ -72,22 +65,12 @@ module _ {H : Type 0} (m : Meaning H) (b : Verbs H) (holds : Holds m b) (seat : 
         → Becomes (memory_words m b) s (said (OfProcess seat.pid v) terms names) res (VerbsStand m c)
     made-becomes s v terms names o k = f.becomes s v terms names k.tree o k.makes k.words k.by
 
-    pub made-late : (s : State) (v : Verb) (terms : Terms) (names : List (List ℕ)) → VerbsStand m b s → MakesBy s seat r make v terms names → is_early res ≡ false
-    made-late s v terms names o k =
-        never-early (memory_words m b) s (said (OfProcess seat.pid v) terms names)
-        (with_process (with_made_in r.0 make k.tree (process_at s.processes seat.row)) s) res (VerbsStand m c) (at-seat m b holds seat x v s o terms names ∙ k.by)
-        (made-becomes s v terms names o k)
-
     pub made-does : (v : Verb) → ((s : State) (terms : Terms) (names : List (List ℕ)) → VerbsStand m b s → MakesBy s seat r make v terms names)
         → Does {A = Unit {0}} m (OfProcess seat.pid v) b c res
     made-does v k = record { holds = f.holds; becomes = λ s terms names o. made-becomes s v terms names o (k s terms names o); books = f.books }
 
-    pub made-unless : (v : Verb) → ((s : State) (terms : Terms) (names : List (List ℕ)) → VerbsStand m b s → MakesBy s seat r make v terms names)
-        → AsksUnless {A = Unit {0}} m (want.Words seat.row (words_of_make make) 0) b c res
-    made-unless v k = record {
-      early = λ e. absurd (both_ways (is_early res) (made-late holds.state v end [] holds.stands (k holds.state end [] holds.stands)) e);
-      asks = λ e. f.asks;
-    }
+    pub made-unless : AsksUnless {A = Unit {0}} m (want.Words seat.row (words_of_make make) 0) b c res
+    made-unless = record { early = λ e. absurd (both_ways (is_early res) f.late e); asks = λ e. f.asks }
 
   -- `mktuple` and `mklist`.
   too-many : (n : ℕ) → MOST_PLACES < n → nat_lt MOST_PLACES n ≡ true

@@ -141,6 +141,7 @@ module _ {H : Type 0} (m : Meaning H) (b : Verbs H) (holds : Holds m b) where
       make-lacks h looks = record {
         holds = holds-roomed m b holds wanted h false looks;
         asks = asks-lacks (Unit {0}) wanted h looks (words_of_want wanted);
+        late = refl;
         books = record { same_words = looks.stays.goes.words; one_call = omega arith; few_names = omega arith };
         becomes = λ s v terms names t o makes words by.
             lacks-space m b holds wanted h false looks refl (Unit {0}) s (said (OfProcess seat.pid v) terms names) o
@@ -165,6 +166,7 @@ module _ {H : Type 0} (m : Meaning H) (b : Verbs H) (holds : Holds m b) where
             stands = make-stands holds.state (verb.Own r) end [] (some holds.state holds.stands).tree holds.stands (some holds.state holds.stands).makes;
           };
           asks = asks-gained (Unit {0}) wanted h looks (changed b h2) tt gains.took;
+          late = refl;
           books = record { same_words = gains.stays.goes.words ∙ looks.stays.goes.words; one_call = omega arith; few_names = omega arith };
           becomes = λ s v terms names t o makes words by. inl (rw (at-seat m b holds seat x v s o terms names, by) (make-stands s v terms names t o makes));
         }

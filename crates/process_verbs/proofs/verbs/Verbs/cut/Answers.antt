@@ -29,6 +29,4 @@ returns-clause-does g c =
 
 pub returns-clause-asks : goal.returns-clause-asks
 returns-clause-asks g c =
-    made-unless g.H.Heaps.meaning c.args.self.now c.requires.holds c.args.seat c.requires.sits c.args.r _ _ _ c.make.ensures (verb.Choose c.args.r c.args.s (pick.Part c.args.offset c.args.len))
-    (cut-makes g.H.Heaps.meaning c.args.self.now c.requires.holds c.args.seat c.requires.sits c.args.s c.word.result c.word.ensures c.mem.result.now c.mem.ensures c.args.r c.args.offset c.args.len c.has_part.result c.has_part.ensures
-    c.requires.other c.if-not-has_part.false)
+    made-unless g.H.Heaps.meaning c.args.self.now c.requires.holds c.args.seat c.requires.sits c.args.r _ _ _ c.make.ensures

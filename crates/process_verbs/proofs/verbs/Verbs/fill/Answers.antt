@@ -23,5 +23,4 @@ returns-then-len-le-MOST_HEAP_BYTES-clause-does g c =
 pub returns-then-len-le-MOST_HEAP_BYTES-clause-asks : goal.returns-then-len-le-MOST_HEAP_BYTES-clause-asks
 returns-then-len-le-MOST_HEAP_BYTES-clause-asks g c =
     rw (want-short g.H.Heaps.meaning c.args.self.now c.requires.holds c.args.seat c.requires.sits c.args.r c.args.seat.row c.args.len c.if-len-le-MOST_HEAP_BYTES.true)
-    (made-unless g.H.Heaps.meaning c.args.self.now c.requires.holds c.args.seat c.requires.sits c.args.r _ _ _ c.make.ensures (verb.Fill c.args.r c.args.len c.args.byte)
-    (fill-makes g.H.Heaps.meaning c.args.self.now c.requires.holds c.args.seat c.requires.sits c.args.r c.args.len c.args.byte c.if-len-le-MOST_HEAP_BYTES.true c.if-byte-gt-MOST_BYTE.false))
+    (made-unless g.H.Heaps.meaning c.args.self.now c.requires.holds c.args.seat c.requires.sits c.args.r _ _ _ c.make.ensures)

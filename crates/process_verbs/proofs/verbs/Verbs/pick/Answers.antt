@@ -1,29 +1,22 @@
-use Rattle.std.proofs.Common.{rules, ◌≡◌, ℕ, ◌+◌, ◌<◌, ◌≤◌, List, OnErr, OnOk, false, length, max, ◌-◌, ◌*◌, ◌/◌, ◌%◌, Bool, true, nat_eq, nat_lt, [], ◌∷◌, ◌++◌, slice_index_or, slice_set, bit_and, bit_or, Fits, w8, w32, w64, Bor, MutBor}
-use Rattle.atom_names.specs.Names.{most_names}
-use Rattle.plain_machine.specs.State.{State}
-use Rattle.script_grammar.specs.declared.command.Command.TheVariants.{Process}
-use Rattle.script_grammar.specs.declared.command.Verb.TheVariants as verb
-use Rattle.script_grammar.specs.Names.{IsRegister, PicksRegister}
-use Rattle.script_grammar.specs.Written.{Terms}
-use Rattle.space_api.specs.Calls.{Becomes, HasEnv, HasTerm, IsEnv, most_calls, said}
-use Rattle.heaps_api.specs.Written.{refusal_of_stop, want_of_items}
-use Rattle.heaps_api.specs.declared.wanted.Want.TheVariants.{Words}
-use Rattle.process_verbs.specs.Verbs.{Holds, Sits, VerbsStand, memory_words}
-use Rattle.process_verbs.specs.Doing.{Asks, AsksUnless, Books, Builds, DoesBy, IsIdle, takes_part}
+use Rattle.process_verbs.proofs.Bringing.Choosing.{can-pick, choose-does, choose-refused, part-held}
 use Rattle.process_verbs.proofs.verbs.Verbs.pick.Goals as goal
 
--- src/terms.rt:114:23
 pub part-requires : goal.part-requires
-part-requires g c = ?
+part-requires g c =
+    can-pick g.H.Heaps.meaning c.args.self.now c.requires.holds c.args.seat c.requires.sits c.args.r c.args.s c.args.how c.requires.other c.requires.key c.requires.whole
+    c.regs.result.now c.regs.ensures c.mem.result.now c.mem.ensures c.args.names.now c.requires.named
 
--- src/terms.rt:115:13
 pub returns-in_default-clause-does : goal.returns-in_default-clause-does
-returns-in_default-clause-does g c = ?
+returns-in_default-clause-does g c =
+    choose-refused g.H.Heaps.meaning c.args.self.now c.requires.holds c.args.seat c.requires.sits c.args.r c.args.s c.args.how c.requires.other c.requires.key c.requires.whole
+    c.regs.result.now c.regs.ensures c.mem.result.now c.mem.ensures c.args.names.now c.requires.named c.part.result c.part.ensures.picks c.in_default.is
 
--- src/terms.rt:117:9
 pub put-requires-clause-held : goal.put-requires-clause-held
-put-requires-clause-held g c = ?
+put-requires-clause-held g c =
+    part-held g.H.Heaps.meaning c.args.self.now c.requires.holds c.args.seat c.requires.sits c.args.r c.args.s c.args.how c.requires.other c.requires.key c.requires.whole
+    c.regs.result.now c.regs.ensures c.mem.result.now c.mem.ensures c.args.names.now c.requires.named c.part.result c.part.ensures.picks c.in-Some.w c.in-Some.is c.in-Some.ensures.is_part
 
--- src/terms.rt:93:5
 pub returns-clause-does : goal.returns-clause-does
-returns-clause-does g c = ?
+returns-clause-does g c =
+    choose-does g.H.Heaps.meaning c.args.self.now c.requires.holds c.args.seat c.requires.sits c.args.r c.args.s c.args.how c.requires.other c.requires.key c.requires.whole
+    c.regs.result.now c.regs.ensures c.mem.result.now c.mem.ensures c.args.names.now c.requires.named c.part.result c.part.ensures.picks c.in-Some.w c.in-Some.is c.in-Some.ensures.is_part c.put.new.self c.put.ensures

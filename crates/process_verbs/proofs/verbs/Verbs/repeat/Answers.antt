@@ -20,5 +20,4 @@ returns-clause-does g c =
 
 pub returns-clause-asks : goal.returns-clause-asks
 returns-clause-asks g c =
-    made-unless g.H.Heaps.meaning c.args.self.now c.requires.holds c.args.seat c.requires.sits c.args.r _ _ _ c.make.ensures (verb.Repeat c.args.r c.args.shape c.args.n c.args.s)
-    (repeat-makes g.H.Heaps.meaning c.args.self.now c.requires.holds c.args.seat c.requires.sits c.args.r c.args.shape c.args.n c.args.s c.requires.other c.if-n-gt-MOST_PLACES.false)
+    made-unless g.H.Heaps.meaning c.args.self.now c.requires.holds c.args.seat c.requires.sits c.args.r _ _ _ c.make.ensures
