@@ -6,3 +6,4 @@ pub mod Filling
 pub mod Naming
 pub mod Pairing
 pub mod Choosing
+pub mod Funning
