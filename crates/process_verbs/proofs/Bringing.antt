@@ -7,3 +7,4 @@ pub mod Naming
 pub mod Pairing
 pub mod Choosing
 pub mod Funning
+pub mod Setting

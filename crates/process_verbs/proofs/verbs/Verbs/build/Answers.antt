@@ -1,49 +1,63 @@
-use Rattle.std.proofs.Common.{rules, ◌≡◌, ℕ, ◌+◌, ◌<◌, ◌≤◌, List, OnErr, OnOk, false, length, max, ◌-◌, ◌*◌, ◌/◌, ◌%◌, Bool, true, nat_eq, nat_lt, [], ◌∷◌, ◌++◌, slice_index_or, slice_set, bit_and, bit_or, Fits, w8, w32, w64, Bor, MutBor}
-use Rattle.atom_names.specs.Names.{most_names}
-use Rattle.plain_machine.specs.State.{State}
-use Rattle.script_grammar.specs.declared.command.Command.TheVariants.{Process}
-use Rattle.script_grammar.specs.declared.command.Verb.TheVariants as verb
-use Rattle.script_grammar.specs.Names.{IsRegister, PicksRegister}
-use Rattle.script_grammar.specs.Written.{Terms}
-use Rattle.space_api.specs.Calls.{Becomes, HasEnv, HasTerm, IsEnv, most_calls, said}
-use Rattle.heaps_api.specs.Written.{refusal_of_stop, want_of_items}
-use Rattle.heaps_api.specs.declared.wanted.Want.TheVariants.{Words}
-use Rattle.process_verbs.specs.Verbs.{Holds, Sits, VerbsStand, memory_words}
-use Rattle.process_verbs.specs.Doing.{Asks, AsksUnless, Books, Builds, DoesBy, IsIdle, takes_part}
+use Rattle.std.proofs.Common.{refl}
+use Rattle.std.specs.Vec.{with_items}
+use Rattle.process_verbs.proofs.Bringing.Gaining.{searched-ready}
+use Rattle.process_verbs.proofs.Bringing.Setting.{both-few, far-needed, heap-needed, none-asks, none-builds, some-asks, some-builds, some-room, stop-asks, stop-builds}
 use Rattle.process_verbs.proofs.verbs.Verbs.build.Goals as goal
 
--- src/terms.rt:44:9
 pub ask-requires-clause-few : goal.ask-requires-clause-few
-ask-requires-clause-few g c = ?
+ask-requires-clause-few g c =
+    both-few c.args.names.now c.args.code.now c.requires.term c.count-named.ensures.names.few _ _ c.term_needs-words.ensures.heap
+    c.term_needs-words.ensures.far
 
--- src/terms.rt:44:9
 pub returns-in_err-ask-clause-builds : goal.returns-in_err-ask-clause-builds
-returns-in_err-ask-clause-builds g c = ?
+returns-in_err-ask-clause-builds g c =
+    none-builds g.H.Heaps.meaning c.args.self.now c.requires.holds c.args.seat c.requires.sits c.args.r c.args.names.now c.args.code.now c.requires.term c.requires.named _ _
+    (heap-needed c.args.names.now c.args.code.now c.requires.term c.count-named.ensures.names.few _ c.term_needs-words.ensures.heap)
+    (far-needed c.args.names.now c.args.code.now c.requires.term c.count-named.ensures.names.few _ c.term_needs-words.ensures.far) _ _ c.ask.ensures
+    c.in_err-ask.field-0.0 c.in_err-ask.was c.from_residual.result c.from_residual.ensures.1
 
--- src/terms.rt:44:9
 pub returns-in_err-ask-clause-asks : goal.returns-in_err-ask-clause-asks
-returns-in_err-ask-clause-asks g c = ?
+returns-in_err-ask-clause-asks g c =
+    none-asks g.H.Heaps.meaning c.args.self.now c.requires.holds c.args.seat c.requires.sits c.args.r c.args.names.now c.args.code.now c.requires.term c.requires.named _ _
+    (heap-needed c.args.names.now c.args.code.now c.requires.term c.count-named.ensures.names.few _ c.term_needs-words.ensures.heap)
+    (far-needed c.args.names.now c.args.code.now c.requires.term c.count-named.ensures.names.few _ c.term_needs-words.ensures.far) _ _ c.ask.ensures
+    c.in_err-ask.field-0.0 c.in_err-ask.was c.from_residual.result c.from_residual.ensures.1
 
--- src/terms.rt:45:15
 pub gain_term-requires-clause-ready : goal.gain_term-requires-clause-ready
-gain_term-requires-clause-ready g c = ?
+gain_term-requires-clause-ready g c =
+    searched-ready g.H.Heaps.meaning c.args.self.now c.requires.holds _ _ _ c.ask.ensures c.requires.calls
 
--- src/terms.rt:45:15
 pub gain_term-requires-clause-room : goal.gain_term-requires-clause-room
-gain_term-requires-clause-room g c = ?
+gain_term-requires-clause-room g c =
+    some-room g.H.Heaps.meaning c.args.self.now c.requires.holds c.args.seat c.requires.sits c.args.r c.args.names.now c.args.code.now c.requires.term c.requires.named _ _
+    (heap-needed c.args.names.now c.args.code.now c.requires.term c.count-named.ensures.names.few _ c.term_needs-words.ensures.heap)
+    (far-needed c.args.names.now c.args.code.now c.requires.term c.count-named.ensures.names.few _ c.term_needs-words.ensures.far) _ _ c.ask.ensures
+    c.in_ok-ask.field-0 c.in_ok-ask.was
 
--- src/terms.rt:26:5
 pub returns-in-Ok-clause-builds : goal.returns-in-Ok-clause-builds
-returns-in-Ok-clause-builds g c = ?
+returns-in-Ok-clause-builds g c =
+    some-builds g.H.Heaps.meaning c.args.self.now c.requires.holds c.args.seat c.requires.sits c.args.r c.args.names.now c.args.code.now c.requires.term c.requires.named _ _
+    (heap-needed c.args.names.now c.args.code.now c.requires.term c.count-named.ensures.names.few _ c.term_needs-words.ensures.heap)
+    (far-needed c.args.names.now c.args.code.now c.requires.term c.count-named.ensures.names.few _ c.term_needs-words.ensures.far) _ _ c.ask.ensures
+    c.in_ok-ask.field-0 c.in_ok-ask.was c.gain_term.new.self (with_items c.ask.new.self.row c.gain_term.new.scratch) refl c.in-Ok.bins c.count-named.result c.count-named.ensures.value c.in-Ok.ensures.gains
 
--- src/terms.rt:26:5
 pub returns-in-Ok-clause-asks : goal.returns-in-Ok-clause-asks
-returns-in-Ok-clause-asks g c = ?
+returns-in-Ok-clause-asks g c =
+    some-asks g.H.Heaps.meaning c.args.self.now c.requires.holds c.args.seat c.requires.sits c.args.r c.args.names.now c.args.code.now c.requires.term c.requires.named _ _
+    (heap-needed c.args.names.now c.args.code.now c.requires.term c.count-named.ensures.names.few _ c.term_needs-words.ensures.heap)
+    (far-needed c.args.names.now c.args.code.now c.requires.term c.count-named.ensures.names.few _ c.term_needs-words.ensures.far) _ _ c.ask.ensures
+    c.in_ok-ask.field-0 c.in_ok-ask.was c.gain_term.new.self (with_items c.ask.new.self.row c.gain_term.new.scratch) refl c.in-Ok.bins c.count-named.result c.count-named.ensures.value c.in-Ok.ensures.gains
 
--- src/terms.rt:26:5
 pub returns-in-Err-clause-builds : goal.returns-in-Err-clause-builds
-returns-in-Err-clause-builds g c = ?
+returns-in-Err-clause-builds g c =
+    stop-builds g.H.Heaps.meaning c.args.self.now c.requires.holds c.args.seat c.requires.sits c.args.r c.args.names.now c.args.code.now c.requires.term c.requires.named _ _
+    (heap-needed c.args.names.now c.args.code.now c.requires.term c.count-named.ensures.names.few _ c.term_needs-words.ensures.heap)
+    (far-needed c.args.names.now c.args.code.now c.requires.term c.count-named.ensures.names.few _ c.term_needs-words.ensures.far) _ _ c.ask.ensures
+    c.in_ok-ask.field-0 c.in_ok-ask.was c.gain_term.new.self (with_items c.ask.new.self.row c.gain_term.new.scratch) refl c.in-Err.stop c.in-Err.ensures.gains c.refusal_of.result c.refusal_of.ensures
 
--- src/terms.rt:26:5
 pub returns-in-Err-clause-asks : goal.returns-in-Err-clause-asks
-returns-in-Err-clause-asks g c = ?
+returns-in-Err-clause-asks g c =
+    stop-asks g.H.Heaps.meaning c.args.self.now c.requires.holds c.args.seat c.requires.sits c.args.r c.args.names.now c.args.code.now c.requires.term c.requires.named _ _
+    (heap-needed c.args.names.now c.args.code.now c.requires.term c.count-named.ensures.names.few _ c.term_needs-words.ensures.heap)
+    (far-needed c.args.names.now c.args.code.now c.requires.term c.count-named.ensures.names.few _ c.term_needs-words.ensures.far) _ _ c.ask.ensures
+    c.in_ok-ask.field-0 c.in_ok-ask.was c.gain_term.new.self (with_items c.ask.new.self.row c.gain_term.new.scratch) refl c.in-Err.stop c.in-Err.ensures.gains c.refusal_of.result c.refusal_of.ensures
