@@ -61,7 +61,7 @@ pub record Makes {H : Type 0} (m : Meaning H) (seat : Seat) (r : Reg) (make : Ma
       → IsMadeOf s.shared (process_at s.processes seat.row) make t
       → verb_words s (said (OfProcess seat.pid v) terms names) (process_at s.processes seat.row) v ≡ words_of_make make
       → by_verb s (said (OfProcess seat.pid v) terms names) (process_at s.processes seat.row) v
-          ≡ does (said (OfProcess seat.pid v) terms names) (with_process (with_made_in r.0 make t (process_at s.processes seat.row)) s)
+      ≡ does (said (OfProcess seat.pid v) terms names) (with_process (with_made_in r.0 make t (process_at s.processes seat.row)) s)
       → Becomes (memory_words m old) s (said (OfProcess seat.pid v) terms names) result (VerbsStand m new)
 
 -- The word holds some tree in a state that the verbs stand for.
@@ -77,5 +77,5 @@ pub record Puts {H : Type 0} (m : Meaning H) (seat : Seat) (r : Reg) (w : ℕ) (
   pub follows : (s : State) (v : Verb) (terms : Terms) (names : List (List ℕ)) (t : Tree) (o : VerbsStand m old s)
       → HoldsThere m old.named old.heaps s.shared s.processes o.processes w t
       → by_verb s (said (OfProcess seat.pid v) terms names) (process_at s.processes seat.row) v
-          ≡ does (said (OfProcess seat.pid v) terms names) (with_process (with_register r.0 t (process_at s.processes seat.row)) s)
+      ≡ does (said (OfProcess seat.pid v) terms names) (with_process (with_register r.0 t (process_at s.processes seat.row)) s)
       → Follows {A = Unit {0}} (step s (said (OfProcess seat.pid v) terms names)) s (Ok tt) (VerbsStand m new)
