@@ -12,19 +12,22 @@ has_part-requires g c =
 
 pub returns-then-not-has_part-clause-does : goal.returns-then-not-has_part-clause-does
 returns-then-not-has_part-clause-does g c =
-    cut-refused g.H.Heaps.meaning c.args.self.now c.requires.holds c.args.seat c.requires.sits c.args.s c.word.result c.word.ensures c.mem.result.now c.mem.ensures c.args.r c.args.offset c.args.len c.has_part.result c.has_part.ensures
+    cut-refused g.H.Heaps.meaning c.args.self.now c.requires.holds c.args.seat c.requires.sits c.args.s c.word.result c.word.ensures c.mem.result.now c.mem.ensures c.args.r
+    c.args.offset c.args.len c.has_part.result c.has_part.ensures
     c.if-not-has_part.true
 
 pub make-requires-clause-can : goal.make-requires-clause-can
 make-requires-clause-can g c = λ s o.
     has-made s c.args.seat c.args.r _ (verb.Choose c.args.r c.args.s (pick.Part c.args.offset c.args.len)) end []
-    (cut-makes g.H.Heaps.meaning c.args.self.now c.requires.holds c.args.seat c.requires.sits c.args.s c.word.result c.word.ensures c.mem.result.now c.mem.ensures c.args.r c.args.offset c.args.len c.has_part.result c.has_part.ensures
+    (cut-makes g.H.Heaps.meaning c.args.self.now c.requires.holds c.args.seat c.requires.sits c.args.s c.word.result c.word.ensures c.mem.result.now c.mem.ensures c.args.r c.args.offset
+    c.args.len c.has_part.result c.has_part.ensures
     c.requires.other c.if-not-has_part.false s end [] o)
 
 pub returns-clause-does : goal.returns-clause-does
 returns-clause-does g c =
     made-does g.H.Heaps.meaning c.args.self.now c.requires.holds c.args.seat c.requires.sits c.args.r _ _ _ c.make.ensures (verb.Choose c.args.r c.args.s (pick.Part c.args.offset c.args.len))
-    (cut-makes g.H.Heaps.meaning c.args.self.now c.requires.holds c.args.seat c.requires.sits c.args.s c.word.result c.word.ensures c.mem.result.now c.mem.ensures c.args.r c.args.offset c.args.len c.has_part.result c.has_part.ensures
+    (cut-makes g.H.Heaps.meaning c.args.self.now c.requires.holds c.args.seat c.requires.sits c.args.s c.word.result c.word.ensures c.mem.result.now c.mem.ensures c.args.r c.args.offset
+    c.args.len c.has_part.result c.has_part.ensures
     c.requires.other c.if-not-has_part.false)
 
 pub returns-clause-asks : goal.returns-clause-asks

@@ -5,15 +5,18 @@ use Rattle.process_verbs.proofs.Bringing.Doing.{fill-byte-refused, fill-long-ref
 use Rattle.process_verbs.proofs.verbs.Verbs.fill.Goals as goal
 
 pub returns-then-len-gt-MOST_FILL-clause-does : goal.returns-then-len-gt-MOST_FILL-clause-does
-returns-then-len-gt-MOST_FILL-clause-does g c = fill-long-refused g.H.Heaps.meaning c.args.self.now c.requires.holds c.args.seat c.requires.sits c.args.r c.args.len c.args.byte c.if-len-gt-MOST_FILL.true
+returns-then-len-gt-MOST_FILL-clause-does g c = fill-long-refused g.H.Heaps.meaning c.args.self.now c.requires.holds c.args.seat c.requires.sits c.args.r c.args.len c.args.byte
+    c.if-len-gt-MOST_FILL.true
 
 pub returns-then-byte-gt-MOST_BYTE-clause-does : goal.returns-then-byte-gt-MOST_BYTE-clause-does
-returns-then-byte-gt-MOST_BYTE-clause-does g c = fill-byte-refused g.H.Heaps.meaning c.args.self.now c.requires.holds c.args.seat c.requires.sits c.args.r c.args.len c.args.byte c.if-byte-gt-MOST_BYTE.true
+returns-then-byte-gt-MOST_BYTE-clause-does g c = fill-byte-refused g.H.Heaps.meaning c.args.self.now c.requires.holds c.args.seat c.requires.sits c.args.r c.args.len c.args.byte
+    c.if-byte-gt-MOST_BYTE.true
 
 pub make-requires-clause-can : goal.make-requires-clause-can
 make-requires-clause-can g c = λ s o.
     has-made s c.args.seat c.args.r _ (verb.Fill c.args.r c.args.len c.args.byte) end []
-    (fill-makes g.H.Heaps.meaning c.args.self.now c.requires.holds c.args.seat c.requires.sits c.args.r c.args.len c.args.byte c.if-len-le-MOST_HEAP_BYTES.true c.if-byte-gt-MOST_BYTE.false s end [] o)
+    (fill-makes g.H.Heaps.meaning c.args.self.now c.requires.holds c.args.seat c.requires.sits c.args.r c.args.len c.args.byte c.if-len-le-MOST_HEAP_BYTES.true
+    c.if-byte-gt-MOST_BYTE.false s end [] o)
 
 pub returns-then-len-le-MOST_HEAP_BYTES-clause-does : goal.returns-then-len-le-MOST_HEAP_BYTES-clause-does
 returns-then-len-le-MOST_HEAP_BYTES-clause-does g c =

@@ -5,7 +5,8 @@ use Rattle.process_verbs.proofs.Bringing.Gaining.{searched-ready}
 use Rattle.process_verbs.proofs.verbs.Verbs.make_fun.Goals as goal
 
 pub returns-then-arity-gt-MOST_ARITY-clause-becomes : goal.returns-then-arity-gt-MOST_ARITY-clause-becomes
-returns-then-arity-gt-MOST_ARITY-clause-becomes g c = fun-refused g.H.Heaps.meaning c.args.self.now c.requires.holds c.args.seat c.requires.sits c.args.r c.args.name c.args.arity c.args.env.now c.if-arity-gt-MOST_ARITY.true
+returns-then-arity-gt-MOST_ARITY-clause-becomes g c = fun-refused g.H.Heaps.meaning c.args.self.now c.requires.holds c.args.seat c.requires.sits c.args.r c.args.name c.args.arity
+    c.args.env.now c.if-arity-gt-MOST_ARITY.true
 
 pub returns-in_err-ask-clause-becomes : goal.returns-in_err-ask-clause-becomes
 returns-in_err-ask-clause-becomes g c =
@@ -23,4 +24,5 @@ returns-clause-becomes g c =
 pub returns-clause-holds : goal.returns-clause-holds
 returns-clause-holds g c =
     fun-holds g.H.Heaps.meaning c.args.self.now c.requires.holds c.args.seat c.requires.sits c.args.r c.args.name c.args.arity c.args.env.now c.if-arity-gt-MOST_ARITY.false _ _ c.ask.ensures
-    c.in_ok-ask.field-0 c.in_ok-ask.was c.gain_fun.new.self c.gain_fun.ensures.gains (with_items c.ask.new.self.row c.gain_fun.new.scratch) refl c.above-self.result c.above-self.ensures c.requires.env
+    c.in_ok-ask.field-0 c.in_ok-ask.was c.gain_fun.new.self c.gain_fun.ensures.gains (with_items c.ask.new.self.row c.gain_fun.new.scratch) refl c.above-self.result c.above-self.ensures
+    c.requires.env

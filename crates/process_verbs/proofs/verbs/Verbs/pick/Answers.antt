@@ -19,4 +19,5 @@ put-requires-clause-held g c =
 pub returns-clause-does : goal.returns-clause-does
 returns-clause-does g c =
     choose-does g.H.Heaps.meaning c.args.self.now c.requires.holds c.args.seat c.requires.sits c.args.r c.args.s c.args.how c.requires.other c.requires.key c.requires.whole
-    c.regs.result.now c.regs.ensures c.mem.result.now c.mem.ensures c.args.names.now c.requires.named c.part.result c.part.ensures.picks c.in-Some.w c.in-Some.is c.in-Some.ensures.is_part c.put.new.self c.put.ensures
+    c.regs.result.now c.regs.ensures c.mem.result.now c.mem.ensures c.args.names.now c.requires.named c.part.result c.part.ensures.picks c.in-Some.w c.in-Some.is
+    c.in-Some.ensures.is_part c.put.new.self c.put.ensures
