@@ -1,5 +1,6 @@
 mod Processes
+pub mod Steps
+mod Bringing
+mod Moving
 mod Telling
 mod Spaces
-pub mod Steps
-mod Moving

@@ -20,7 +20,7 @@ use Rattle.heaps_api.specs.declared.making.Make.{Make}
 use Rattle.heaps_api.specs.declared.wanted.Want.{Want}
 use Rattle.heaps_api.specs.declared.wanted.Want.TheVariants as want
 use Rattle.process_verbs.specs.Verbs.{Holds, VerbsStand, memory_words}
-use Rattle.process_verbs.specs.Doing.{Asks, Books, IsIdle}
+use Rattle.process_verbs.specs.Doing.{Asks, Books, IsIdle, is_early}
 use Rattle.process_verbs.specs.declared.verbs.Verbs.{Verbs}
 
 -- After a search for room, one call later.
@@ -46,16 +46,22 @@ pub record Searches {H : Type 0} (m : Meaning H) (w : Want) (old new : Verbs H) 
   pub holds : Holds m new
   pub stands : (s : State) → VerbsStand m old s → VerbsStand m new s
 
+-- Something of this kind can be made for the process, over these shared binaries.
+pub record HasMade (shared : List (List ℕ)) (q : Process) (make : Make) : Type 0 where
+  pub tree : Tree
+  pub makes : IsMadeOf shared q make tree
+
 -- What is made was built in the register of the seat's process, or there is no space: a verb that asks for its words and does this was done.
 pub record Makes {H : Type 0} (m : Meaning H) (seat : Seat) (r : Reg) (make : Make) (old new : Verbs H) (result : Result (Unit {0}) Refusal) : Type 0 where
   pub holds : Holds m new
   pub asks : Asks m (want.Words seat.row (words_of_make make) 0) old new result
+  pub late : is_early result ≡ false
   pub books : Books m old new old.named
   pub becomes : (s : State) (v : Verb) (terms : Terms) (names : List (List ℕ)) (t : Tree) → VerbsStand m old s
       → IsMadeOf s.shared (process_at s.processes seat.row) make t
       → verb_words s (said (OfProcess seat.pid v) terms names) (process_at s.processes seat.row) v ≡ words_of_make make
       → by_verb s (said (OfProcess seat.pid v) terms names) (process_at s.processes seat.row) v
-          ≡ does (said (OfProcess seat.pid v) terms names) (with_process (with_made_in r.0 make t (process_at s.processes seat.row)) s)
+      ≡ does (said (OfProcess seat.pid v) terms names) (with_process (with_made_in r.0 make t (process_at s.processes seat.row)) s)
       → Becomes (memory_words m old) s (said (OfProcess seat.pid v) terms names) result (VerbsStand m new)
 
 -- The word holds some tree in a state that the verbs stand for.
@@ -71,5 +77,5 @@ pub record Puts {H : Type 0} (m : Meaning H) (seat : Seat) (r : Reg) (w : ℕ) (
   pub follows : (s : State) (v : Verb) (terms : Terms) (names : List (List ℕ)) (t : Tree) (o : VerbsStand m old s)
       → HoldsThere m old.named old.heaps s.shared s.processes o.processes w t
       → by_verb s (said (OfProcess seat.pid v) terms names) (process_at s.processes seat.row) v
-          ≡ does (said (OfProcess seat.pid v) terms names) (with_process (with_register r.0 t (process_at s.processes seat.row)) s)
+      ≡ does (said (OfProcess seat.pid v) terms names) (with_process (with_register r.0 t (process_at s.processes seat.row)) s)
       → Follows {A = Unit {0}} (step s (said (OfProcess seat.pid v) terms names)) s (Ok tt) (VerbsStand m new)

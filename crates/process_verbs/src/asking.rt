@@ -3,10 +3,10 @@ ghost use Rattle.std.specs.Prelude.{◌≡◌, ℕ, ◌<◌, ◌≤◌, ◌^◌,
 ghost use Rattle.plain_machine.specs.State.{State};
 ghost use Rattle.script_grammar.specs.Names.{IsRegister};
 ghost use Rattle.space_api.specs.Calls.{most_calls};
-ghost use Rattle.heaps_api.specs.Changing.{CanMake};
+ghost use Rattle.heaps_api.specs.Changing.{process_at};
 ghost use Rattle.heaps_api.specs.Wanted.{HasWantedRow, words_of_want};
 ghost use Rattle.process_verbs.specs.Verbs.{Holds, Sits, VerbsStand};
-ghost use Rattle.process_verbs.specs.Asked.{HoldsSome, Makes, Puts, Searches};
+ghost use Rattle.process_verbs.specs.Asked.{HasMade, HoldsSome, Makes, Puts, Searches};
 
 use crate::verbs::Verbs;
 use heaps_api::{Heaps, Make, Want, words_of, words_wanted};
@@ -35,7 +35,7 @@ impl<H: Heaps> Verbs<H> {
         requires calls { self.old.calls < most_calls }
         requires sits { Sits H.meaning self.old seat }
         requires register { IsRegister r }
-        requires can { CanMake H.meaning seat.row make self.old.heaps }
+        requires can { (s : State) → VerbsStand H.meaning self.old s → HasMade s.shared (process_at s.processes seat.row) make }
         ensures { Makes H.meaning seat r make self.old self.new result }
     {
         self.ask(Want::Words(seat.row, words_of(make), 0))?;

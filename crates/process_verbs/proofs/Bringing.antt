@@ -1,0 +1,10 @@
+-- Verbs that bring a term into a register.
+pub mod Gaining
+pub mod Doing
+pub mod Cutting
+pub mod Filling
+pub mod Naming
+pub mod Pairing
+pub mod Choosing
+pub mod Funning
+pub mod Setting

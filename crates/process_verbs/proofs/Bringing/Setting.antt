@@ -1,0 +1,249 @@
+-- `set`: a written term is built in a register, or it is refused for its maps, or there is no space.
+use Rattle.std.proofs.Common.{Vec, ◌≡◌, ℕ, ◌+◌, ◌-◌, ◌*◌, ◌^◌, min, max, ◌<◌, ◌≤◌, Bool, true, false, true≢false, List, [], length, map, set, Option, Some, None, Result, Ok, Err, IsErrAnd, refl, sym, ◌∙◌, ap, subst, arith, inl}
+use Rattle.std.specs.Vec.{vec_len}
+use Rattle.std.specs.declared.alloc.Global.{Global}
+use Rattle.plain_term.specs.declared.item.Item.{Item}
+use Rattle.plain_term.specs.Tree.{Tree}
+use Rattle.script_grammar.specs.Names.{Parsed}
+use Rattle.script_grammar.specs.declared.command.Command.TheVariants.{Process as OfProcess}
+use Rattle.script_grammar.specs.declared.command.Reg.{Reg}
+use Rattle.script_grammar.specs.declared.command.Verb.{Verb}
+use Rattle.script_grammar.specs.declared.command.Verb.TheVariants as verb
+use Rattle.script_grammar.specs.declared.refusal.Refusal.{Refusal}
+use Rattle.script_grammar.specs.declared.refusal.Refusal.TheVariants as refusal
+use Rattle.script_grammar.specs.Written.{Term}
+use Rattle.plain_machine.specs.Flaws.{flaw_of, is_big, is_wide}
+use Rattle.plain_machine.specs.Laws.{AreWithin}
+use Rattle.plain_machine.specs.Made.{tree_of}
+use Rattle.plain_machine.specs.May.{gets_to_space}
+use Rattle.plain_machine.specs.State.{Process, State, with_process, with_register}
+use Rattle.plain_machine.specs.Step.{Outcome, by_verb, does, settled, unless_flawed, with_made}
+use Rattle.plain_machine.specs.Step.Outcome.{Accepted, Refused}
+use Rattle.plain_machine.specs.Tightness.{build_words, verb_words}
+use Rattle.plain_machine.proofs.Properly.Holding.{put-within}
+use Rattle.space_api.specs.Calls.{HasTerm, IsWrittenTerm, one_term, said}
+use Rattle.space_api.specs.declared.space.Seat.{Seat}
+use Rattle.item_build.specs.Reading.{far_words_of, heap_words_of, item_words_of}
+use Rattle.item_build.specs.declared.building.BuildStop.{BuildStop}
+use Rattle.item_build.specs.declared.building.BuildStop.TheVariants as stop
+use Rattle.item_build.proofs.Meaning.Whole.{words-apart}
+use Rattle.item_build.proofs.Meaning.Written.{is-written, term-words, words-few}
+use Rattle.heaps_api.specs.Meaning.{Meaning}
+use Rattle.heaps_api.specs.Changing.{Looks, process_at}
+use Rattle.heaps_api.specs.Reading.{waiting_trees}
+use Rattle.heaps_api.specs.Wanted.{words_of_want}
+use Rattle.heaps_api.specs.Written.{GainsTerm, refusal_of_stop, want_of_items}
+use Rattle.heaps_api.specs.declared.wanted.Want.{Want}
+use Rattle.heaps_api.specs.declared.wanted.Want.TheVariants as want
+use Rattle.process_verbs.specs.Verbs.{Holds, IsCounted, Sits, VerbsStand}
+use Rattle.process_verbs.specs.Asked.{Searches, roomed}
+use Rattle.process_verbs.specs.Doing.{Asks, Builds, is_nospace}
+use Rattle.process_verbs.specs.declared.verbs.Verbs.{Verbs}
+use Rattle.process_verbs.proofs.Processes.Seats.{replaced}
+use Rattle.process_verbs.proofs.Processes.Seated.{number-there, set-there, settled-stands}
+use Rattle.process_verbs.proofs.Steps.{at-seat, counts-stay, grow-there, holds-roomed, lacks-space, whole-roomed}
+use Rattle.process_verbs.proofs.Bringing.Gaining.{asks-gained, asks-lacks, lacked, same-error, searched-none, searched-some, within-at}
+
+-- The words that were reckoned are those of the items.
+module _ (names : List (List ℕ)) (code : List Item) (t : HasTerm names code) (few : length names ≤ 16384) where
+  needs-few : heap_words_of code + far_words_of code < 2 ^ 64 - 1
+  needs-few = omega (arith, words-apart code, words-few (length names) 16 code (is-written names code t.term 16 t.is t.named few (omega arith)) t.few)
+
+  pub heap-needed : (n : ℕ) → n ≡ min (heap_words_of code) (2 ^ 64 - 1) → n ≡ heap_words_of code
+  heap-needed n is = omega (arith, is, needs-few)
+
+  pub far-needed : (n : ℕ) → n ≡ min (far_words_of code) (2 ^ 64 - 1) → n ≡ far_words_of code
+  far-needed n is = omega (arith, is, needs-few)
+
+  pub both-few : (n k : ℕ) → n ≡ min (heap_words_of code) (2 ^ 64 - 1) → k ≡ min (far_words_of code) (2 ^ 64 - 1) → n + k < 2 ^ 64
+  both-few n k a b = omega (arith, heap-needed n a, far-needed k b, needs-few)
+
+-- A written term gets to the want of space, whatever its flaw.
+gets-flawed : (big wide : Bool) (pid : ℕ) (r : Reg) (next : State) (reply : List ℕ) → gets_to_space (OfProcess pid (verb.Set r)) (unless_flawed (flaw_of big wide) (Accepted next reply)) ≡ true
+gets-flawed true wide pid r next reply = refl
+gets-flawed false true pid r next reply = refl
+gets-flawed false false pid r next reply = refl
+
+no-nospace : (e : BuildStop) → is_nospace {A = Unit {0}} (Err (refusal_of_stop e)) ≡ false
+no-nospace stop.Big = refl
+no-nospace stop.Size = refl
+
+-- After a search, with another memory and row, more shared binaries, and a number above all names.
+abbrev pub termed : {H : Type 0} → Verbs H → H → Vec ℕ Global → (serials named : ℕ) → (swept : Bool) → Verbs H
+termed b h row serials named swept = record { heaps = h; row = row; next = b.next; serials = serials; named = named; calls = b.calls; swept = swept }
+
+module _ {H : Type 0} (m : Meaning H) (b : Verbs H) (holds : Holds m b) (seat : Seat) (x : Sits m b seat) (r : Reg) (names : List (List ℕ)) (code : List Item)
+    (has : HasTerm names code) (more : b.named ≤ length names) where
+  abbrev v : Verb
+  v = verb.Set r
+
+  abbrev wanted : Want
+  wanted = want_of_items seat.row code
+
+  abbrev line : Term → Parsed
+  line t = said (OfProcess seat.pid v) (one_term t) names
+
+  abbrev q_in : State → Process
+  q_in s = process_at s.processes seat.row
+
+  abbrev made : State → Term → Tree × List (List ℕ)
+  made s t = tree_of names (q_in s).registers t s.shared
+
+  abbrev flaw : State → Term → Option Refusal
+  flaw s t = flaw_of (is_big names (q_in s).registers t s.shared) (is_wide names (q_in s).registers t s.shared)
+
+  -- What there was before the search is as it was.
+  set-lacks : (h : H) (looks : Looks m wanted b.heaps h false) → Builds {A = Unit {0}} m names seat.pid r code b (roomed b h) (Err (refusal.NoSpace (words_of_want wanted)))
+  set-lacks h looks = record {
+    holds = holds-roomed m b holds wanted h false looks;
+    becomes = λ s t o is.
+        lacks-space m b holds wanted h false looks refl (Unit {0}) s (line t) o
+        (grow-there m b holds seat x v s o (one_term t) names ∙ omega (arith, term-words names t code is, words-apart code))
+        (rw (at-seat m b holds seat x v s o (one_term t) names)
+        (gets-flawed (is_big names (q_in s).registers t s.shared) (is_wide names (q_in s).registers t s.shared) seat.pid r (settled (line t) (with_made s (q_in s) r.0 (made s t))) _));
+    books = record { same_words = looks.stays.goes.words; one_call = omega arith; few_names = omega arith };
+    refused = omega arith;
+  }
+
+  module _ (h : H) (looks : Looks m wanted b.heaps h true) (h2 : H) (row : Vec ℕ Global) (same_row : vec_len row ≡ vec_len b.row) where
+    -- It was built.
+    module _ (bins named : ℕ) (named_is : named ≡ length names) (gains : GainsTerm m names seat.row r b.serials code h h2 (Ok bins)) where
+      abbrev b4 : Verbs H
+      b4 = termed (roomed b h) h2 row (b.serials + bins) named false
+
+      set-counts : IsCounted m b4
+      set-counts =
+          let rows : m.numbers h2 ≡ m.numbers b.heaps = gains.stays.rows ∙ looks.stays.rows in
+          let k : IsCounted m b = holds.counts in
+          record {
+            enough = same_row ∙ k.enough;
+            few = rw rows k.few;
+            rising = rw rows k.rising;
+            below = rw rows k.below;
+            second = k.second;
+            numbered = omega (arith, k.numbered);
+            serials = omega (arith, k.serials, gains.few, has.few);
+            whole = gains.stays.goes.whole (2 * b.calls + 1) (2 * (b.calls + 1)) (whole-roomed m b holds wanted h true looks) (omega arith);
+          }
+
+      set-stands : (s : State) (t : Term) (o : VerbsStand m b s) → IsWrittenTerm names code t → VerbsStand m b4 (settled (line t) (with_made s (q_in s) r.0 (made s t)))
+      set-stands s t o is =
+          let kept = looks.kept b.named s.shared s.processes o.processes in
+          let it = gains.built b.named s.shared s.processes t kept o.shared more is in
+          let q : Process = with_register r.0 ((made s t).0) (q_in s) in
+          let same : map (replaced q) s.processes ≡ set s.processes seat.row q = set-there m b s o holds.counts seat x q (number-there m b s o holds.counts seat x) in
+          let W : AreWithin ((made s t).1) (waiting_trees s.processes) = gains.within b.named s.shared s.processes t kept o.shared is o.within in
+          settled-stands m b b4 s (line t) q ((made s t).1) o (rw (same, named_is) it.1.1) refl refl (omega (arith, it.1.0, o.shared)) (λ e. absurd (true≢false (sym e)))
+          (put-within ((made s t).1) q s.processes (within-at ((made s t).1) s.processes seat.row W) W)
+
+      set-builds : Builds {A = Unit {0}} m names seat.pid r code b b4 (Ok tt)
+      set-builds = record {
+        holds = record { counts = set-counts; state = _; stands = set-stands holds.state has.term holds.stands has.is };
+        becomes = λ s t o is.
+            let it = gains.built b.named s.shared s.processes t (looks.kept b.named s.shared s.processes o.processes) o.shared more is in
+            inl (rw (at-seat m b holds seat x v s o (one_term t) names, ap (λ z. unless_flawed z (does (line t) (with_made s (q_in s) r.0 (made s t)))) it.0) (set-stands s t o is));
+        books = record { same_words = gains.stays.goes.words ∙ looks.stays.goes.words; one_call = omega arith; few_names = omega (arith, named_is) };
+        refused = tt;
+      }
+
+    -- It was refused.
+    module _ (e : BuildStop) (gains : GainsTerm m names seat.row r b.serials code h h2 (Err e)) where
+      abbrev b5 : Verbs H
+      b5 = termed (roomed b h) h2 row b.serials b.named b.swept
+
+      stop-stands : (s : State) (t : Term) (o : VerbsStand m b s) → IsWrittenTerm names code t → VerbsStand m b5 s
+      stop-stands s t o is = record {
+        processes = (gains.built b.named s.shared s.processes t (looks.kept b.named s.shared s.processes o.processes) o.shared more is).1;
+        next = o.next;
+        swept = o.swept;
+        shared = o.shared;
+        areas = o.areas;
+        within = o.within;
+        tidy = λ k. gains.tidy (looks.tidy (o.tidy k));
+      }
+
+      set-stops : Builds {A = Unit {0}} m names seat.pid r code b b5 (Err (refusal_of_stop e))
+      set-stops =
+          let rows : m.numbers h2 ≡ m.numbers b.heaps = gains.stays.rows ∙ looks.stays.rows in
+          let k : IsCounted m b = holds.counts in
+          record {
+            holds = record {
+              counts = record {
+                enough = same_row ∙ k.enough;
+                few = rw rows k.few;
+                rising = rw rows k.rising;
+                below = rw rows k.below;
+                second = k.second;
+                numbered = omega (arith, k.numbered);
+                serials = omega (arith, k.serials);
+                whole = gains.stays.goes.whole (2 * b.calls + 1) (2 * (b.calls + 1)) (whole-roomed m b holds wanted h true looks) (omega arith);
+              };
+              state = holds.state;
+              stands = stop-stands holds.state has.term holds.stands has.is;
+            };
+            becomes = λ s t o is.
+                let it = gains.built b.named s.shared s.processes t (looks.kept b.named s.shared s.processes o.processes) o.shared more is in
+                inl (rw (at-seat m b holds seat x v s o (one_term t) names, ap (λ z. unless_flawed z (does (line t) (with_made s (q_in s) r.0 (made s t)))) it.0) (refl, stop-stands s t o is));
+            books = record { same_words = gains.stays.goes.words ∙ looks.stays.goes.words; one_call = omega arith; few_names = omega arith };
+            refused = omega arith;
+          }
+
+  -- All of this of what was searched.
+  module _ (n k : ℕ) (heap : n ≡ heap_words_of code) (far : k ≡ far_words_of code) (c : Verbs H) (res : Result (Unit {0}) Refusal) (f : Searches m (want.Words seat.row n k) b c res) where
+    searched : Searches m wanted b c res
+    searched =
+        let P : ℕ → Type 0 = λ z. Searches m (want.Words seat.row z k) b c res in
+        let Q : ℕ → Type 0 = λ z. Searches m (want.Words seat.row (heap_words_of code) z) b c res in
+        subst Q far (subst P heap f)
+
+    module _ (e : Refusal) (is : res ≡ Err e) (out : Result (Unit {0}) Refusal) (as_it : IsErrAnd out (λ y. y ≡ e)) where
+      at-none : out ≡ Err (refusal.NoSpace (words_of_want wanted))
+      at-none = same-error out e as_it ∙ ap Err (lacked wanted searched.found res e searched.answer is).1
+
+      pub none-builds : Builds {A = Unit {0}} m names seat.pid r code b c out
+      none-builds = rw (searched.same, at-none) (set-lacks searched.heaps (searched-none m b holds wanted c res searched e is))
+
+      pub none-asks : Asks {A = Unit {0}} m wanted b c out
+      none-asks = rw (searched.same, at-none)
+          (asks-lacks m b holds (Unit {0}) wanted searched.heaps (searched-none m b holds wanted c res searched e is) (words_of_want wanted))
+
+    module _ (u : Unit {0}) (is : res ≡ Ok u) where
+      some-looks : Looks m wanted b.heaps searched.heaps true
+      some-looks = searched-some m b holds wanted c res searched u is
+
+      pub some-room : m.has_room wanted c.heaps
+      some-room = rw searched.same (some-looks.room refl)
+
+      module _ (h2 : H) (row : Vec ℕ Global) (same_row : vec_len row ≡ vec_len c.row) where
+        module _ (bins named : ℕ) (named_is : named ≡ length names) (gains : GainsTerm m names seat.row r c.serials code c.heaps h2 (Ok bins)) where
+          pub some-builds : Builds {A = Unit {0}} m names seat.pid r code b (termed c h2 row (c.serials + bins) named false) (Ok tt)
+          some-builds =
+              let P : Verbs H → Type 0 = λ z. vec_len row ≡ vec_len z.row → GainsTerm m names seat.row r z.serials code z.heaps h2 (Ok bins)
+              → Builds {A = Unit {0}} m names seat.pid r code b (termed z h2 row (z.serials + bins) named false) (Ok tt) in
+              subst P (sym searched.same) (λ same gain. set-builds searched.heaps some-looks h2 row same bins named named_is gain) same_row gains
+
+          pub some-asks : Asks {A = Unit {0}} m wanted b (termed c h2 row (c.serials + bins) named false) (Ok tt)
+          some-asks =
+              let P : H → Type 0 = λ z. m.took wanted z h2 in
+              asks-gained m b holds (Unit {0}) wanted searched.heaps some-looks (termed c h2 row (c.serials + bins) named false) tt (subst P (ap (λ z. z.heaps) searched.same) gains.took)
+
+        module _ (e : BuildStop) (gains : GainsTerm m names seat.row r c.serials code c.heaps h2 (Err e)) (out : Refusal) (out_is : out ≡ refusal_of_stop e) where
+          pub stop-builds : Builds {A = Unit {0}} m names seat.pid r code b (termed c h2 row c.serials c.named c.swept) (Err out)
+          stop-builds =
+              let P : Verbs H → Type 0 = λ z. vec_len row ≡ vec_len z.row → GainsTerm m names seat.row r z.serials code z.heaps h2 (Err e)
+              → Builds {A = Unit {0}} m names seat.pid r code b (termed z h2 row z.serials z.named z.swept) (Err out) in
+              subst P (sym searched.same) (λ same gain. rw out_is (set-stops searched.heaps some-looks h2 row same e gain)) same_row gains
+
+          pub stop-asks : Asks {A = Unit {0}} m wanted b (termed c h2 row c.serials c.named c.swept) (Err out)
+          stop-asks =
+              let P : H → Type 0 = λ z. m.gave_back z h2 in
+              let not_so : is_nospace {A = Unit {0}} (Err out) ≡ false = rw out_is (no-nospace e) in
+              record {
+                heaps = searched.heaps;
+                there = true;
+                looked = some-looks.looked;
+                exact = not_so;
+                lacking = λ z. absurd (true≢false (sym z ∙ not_so));
+                given_back = subst P (ap (λ z. z.heaps) searched.same) gains.gave_back;
+                few = tt;
+              }

@@ -1,0 +1,28 @@
+use Rattle.std.proofs.Common.{refl}
+use Rattle.std.specs.Vec.{with_items}
+use Rattle.process_verbs.proofs.Bringing.Funning.{fun-done, fun-holds, fun-lacks, fun-refused}
+use Rattle.process_verbs.proofs.Bringing.Gaining.{searched-ready}
+use Rattle.process_verbs.proofs.verbs.Verbs.make_fun.Goals as goal
+
+pub returns-then-arity-gt-MOST_ARITY-clause-becomes : goal.returns-then-arity-gt-MOST_ARITY-clause-becomes
+returns-then-arity-gt-MOST_ARITY-clause-becomes g c = fun-refused g.H.Heaps.meaning c.args.self.now c.requires.holds c.args.seat c.requires.sits c.args.r c.args.name c.args.arity
+    c.args.env.now c.if-arity-gt-MOST_ARITY.true
+
+pub returns-in_err-ask-clause-becomes : goal.returns-in_err-ask-clause-becomes
+returns-in_err-ask-clause-becomes g c =
+    fun-lacks g.H.Heaps.meaning c.args.self.now c.requires.holds c.args.seat c.requires.sits c.args.r c.args.name c.args.arity c.args.env.now c.if-arity-gt-MOST_ARITY.false _ _ c.ask.ensures
+    c.in_err-ask.field-0.0 c.in_err-ask.was c.from_residual.result c.from_residual.ensures.1
+
+pub gain_fun-requires-clause-ready : goal.gain_fun-requires-clause-ready
+gain_fun-requires-clause-ready g c = searched-ready g.H.Heaps.meaning c.args.self.now c.requires.holds _ _ _ c.ask.ensures c.requires.calls
+
+pub returns-clause-becomes : goal.returns-clause-becomes
+returns-clause-becomes g c =
+    fun-done g.H.Heaps.meaning c.args.self.now c.requires.holds c.args.seat c.requires.sits c.args.r c.args.name c.args.arity c.args.env.now c.if-arity-gt-MOST_ARITY.false _ _ c.ask.ensures
+    c.in_ok-ask.field-0 c.in_ok-ask.was c.gain_fun.new.self c.gain_fun.ensures.gains (with_items c.ask.new.self.row c.gain_fun.new.scratch) refl c.above-self.result c.above-self.ensures
+
+pub returns-clause-holds : goal.returns-clause-holds
+returns-clause-holds g c =
+    fun-holds g.H.Heaps.meaning c.args.self.now c.requires.holds c.args.seat c.requires.sits c.args.r c.args.name c.args.arity c.args.env.now c.if-arity-gt-MOST_ARITY.false _ _ c.ask.ensures
+    c.in_ok-ask.field-0 c.in_ok-ask.was c.gain_fun.new.self c.gain_fun.ensures.gains (with_items c.ask.new.self.row c.gain_fun.new.scratch) refl c.above-self.result c.above-self.ensures
+    c.requires.env
