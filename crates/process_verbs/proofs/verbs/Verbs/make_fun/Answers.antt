@@ -1,5 +1,7 @@
-use Rattle.std.proofs.Common.{refl}
+use Rattle.std.proofs.Common.{refl, ap, arith}
 use Rattle.std.specs.Vec.{with_items}
+use Rattle.std.specs.Prelude.{slice_index}
+use Rattle.process_verbs.proofs.Bringing.Doing.{pid-below}
 use Rattle.process_verbs.proofs.Bringing.Funning.{fun-done, fun-holds, fun-lacks, fun-refused}
 use Rattle.process_verbs.proofs.Bringing.Gaining.{searched-ready}
 use Rattle.process_verbs.proofs.verbs.Verbs.make_fun.Goals as goal
@@ -15,6 +17,18 @@ returns-in_err-ask-clause-becomes g c =
 
 pub gain_fun-requires-clause-ready : goal.gain_fun-requires-clause-ready
 gain_fun-requires-clause-ready g c = searched-ready g.H.Heaps.meaning c.args.self.now c.requires.holds _ _ _ c.ask.ensures c.requires.calls
+
+pub gain_fun-requires-clause-number : goal.gain_fun-requires-clause-number
+gain_fun-requires-clause-number g c =
+    let m = g.H.Heaps.meaning in
+    omega (
+      arith,
+      ap (λ b. slice_index (m.numbers b.heaps) c.args.seat.row) c.ask.ensures.same,
+      ap (λ ns. slice_index ns c.args.seat.row) c.ask.ensures.looks.stays.rows,
+      c.requires.sits.number,
+      pid-below m c.args.self.now c.requires.holds c.args.seat c.requires.sits c.args.r,
+      c.requires.calls,
+    )
 
 pub returns-clause-becomes : goal.returns-clause-becomes
 returns-clause-becomes g c =
