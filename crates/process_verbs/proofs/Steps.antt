@@ -1,7 +1,7 @@
 -- What a call makes of what the verbs stand for, by what it asked of the memory: it is refused before it asked, there is no space,
 -- something came into a register, or something was taken.
-use Rattle.std.proofs.Common.{◌≡◌, ℕ, ◌+◌, ◌*◌, ◌^◌, ◌<◌, ◌≤◌, Bool, true, false, true≢false, not, ◌&&◌, ◌||◌, nat_lt, List, [], length, map, get_or, set, Result, Ok, Err, inl, inr, refl, sym, ◌∙◌, ap, subst, arith}
-use Rattle.std.proofs.lemmas.Bool.{both_ways, lt-ltb}
+use Rattle.std.proofs.Common.{◌≡◌, ℕ, ◌+◌, ◌*◌, ◌^◌, ◌<◌, ◌≤◌, Bool, true, false, true≢false, ◌&&◌, ◌||◌, nat_lt, List, [], length, map, get_or, set, Result, Ok, Err, inl, inr, refl, sym, ◌∙◌, ap, arith}
+use Rattle.std.proofs.lemmas.Bool.{lt-ltb}
 use Rattle.script_grammar.specs.declared.command.Command.{Command}
 use Rattle.script_grammar.specs.declared.command.Command.TheVariants.{Process as OfProcess}
 use Rattle.script_grammar.specs.declared.command.Verb.{Verb}
@@ -11,26 +11,24 @@ use Rattle.script_grammar.specs.Names.{Parsed}
 use Rattle.script_grammar.specs.Written.{Terms}
 use Rattle.script_grammar.specs.Written.Terms.{end}
 use Rattle.plain_machine.specs.State.{Process, State, with_process}
-use Rattle.plain_machine.specs.Step.{Outcome, by_verb, does, is_sweep, settled, step}
+use Rattle.plain_machine.specs.Step.{Outcome, by_verb, does, settled, step}
 use Rattle.plain_machine.specs.Step.Outcome.{Accepted, Mapped, Refused}
-use Rattle.plain_machine.specs.Laws.{AreWithin, queued_trees}
+use Rattle.plain_machine.specs.Laws.{AreWithin}
 use Rattle.plain_machine.specs.May.{gets_to_space, is_purge, may_of_tight}
 use Rattle.plain_machine.specs.Tightness.{demand, grow, process_words, verb_words}
 use Rattle.plain_machine.proofs.Properly.Holding.{put-within}
-use Rattle.space_api.specs.Calls.{Becomes, Follows, KeepsBooks, Passes, said}
+use Rattle.space_api.specs.Calls.{Becomes, Follows, Passes, said}
 use Rattle.space_api.specs.declared.space.Seat.{Seat}
-use Rattle.heaps_api.specs.Meaning.{CanAsk, Lives, Meaning, Stood, no_process}
-use Rattle.heaps_api.specs.Changing.{MovesOn, Looks, KeepsRows, process_at}
-use Rattle.heaps_api.specs.Reading.{waiting_trees}
+use Rattle.heaps_api.specs.Meaning.{CanAsk, Lives, Meaning, Stood}
+use Rattle.heaps_api.specs.Changing.{Looks, KeepsRows, process_at}
 use Rattle.heaps_api.specs.Wanted.{words_of_want}
 use Rattle.heaps_api.specs.declared.wanted.Want.{Want}
 use Rattle.process_verbs.specs.Verbs.{Holds, IsCounted, Sits, VerbsStand, memory_words}
 use Rattle.process_verbs.specs.Asked.{changed, roomed}
-use Rattle.process_verbs.specs.Doing.{Books, Does, DoesAlways, DoesAtOnce}
+use Rattle.process_verbs.specs.Doing.{Does, DoesAtOnce}
 use Rattle.process_verbs.specs.declared.verbs.Verbs.{Verbs}
-use Rattle.process_verbs.specs.declared.verbs.TheConstants.{ROW}
-use Rattle.process_verbs.proofs.Processes.Seats.{process_numbers, replaced}
-use Rattle.process_verbs.proofs.Processes.Seated.{count-there, found-there, number-there, set-there, settled-stands, step-there, within-there}
+use Rattle.process_verbs.proofs.Processes.Seats.{replaced}
+use Rattle.process_verbs.proofs.Processes.Seated.{found-there, number-there, set-there, settled-stands, step-there}
 
 -- What stands after a call, whatever its result.
 pub follows-some : {A : Type 0} (o : Outcome) (s : State) (r : Result A Refusal) (Stands : State → Type 0) → Follows o s r Stands → (t : State) × Stands t
@@ -218,8 +216,8 @@ module _ {H : Type 0} (m : Meaning H) where
         → DoesAtOnce {A = Unit {0}} m (OfProcess seat.pid v) b (changed b h) (Ok tt)
     changes h counts words k =
         let f : (s : State) (terms : Terms) (names : List (List ℕ)) → VerbsStand m b s
-            → Follows {A = Unit {0}} (step s (line terms names)) s (Ok tt) (VerbsStand m (changed b h)) =
-            λ s terms names o. let c = k s terms names o in rw (at-seat s o terms names, c.does_so) (changed-stands s terms names o h c) in
+        → Follows {A = Unit {0}} (step s (line terms names)) s (Ok tt) (VerbsStand m (changed b h)) =
+        λ s terms names o. let c = k s terms names o in rw (at-seat s o terms names, c.does_so) (changed-stands s terms names o h c) in
         record {
           holds = holds-become {A = Unit {0}} (memory_words m b) (changed b h) holds.state (line end []) (Ok tt) counts (inl (f holds.state end [] holds.stands));
           follows = f;
@@ -232,7 +230,7 @@ module _ {H : Type 0} (m : Meaning H) where
         → Does {A = Unit {0}} m (OfProcess seat.pid v) b (changed b h2) (Ok tt)
     gains want h looks h2 stays k =
         let counts : IsCounted m (changed b h2) = counts-stay b (changed b h2) holds.counts (stays.rows ∙ looks.stays.rows) refl refl (omega arith) refl
-            (stays.goes.whole (2 * b.calls + 1) (2 * (b.calls + 1)) (whole-roomed b holds want h true looks) (omega arith)) in
+        (stays.goes.whole (2 * b.calls + 1) (2 * (b.calls + 1)) (whole-roomed b holds want h true looks) (omega arith)) in
         let d = changes h2 counts (stays.goes.words ∙ looks.stays.goes.words) (λ s terms names o. k s terms names o (looks.kept b.named s.shared s.processes o.processes)) in
         record { holds = d.holds; becomes = λ s terms names o. inl (d.follows s terms names o); books = d.books }
 

@@ -1,5 +1,5 @@
 -- The states that verbs over a memory stand for, and what is true of them at any time.
-use Rattle.std.specs.Prelude.{◌≡◌, ℕ, ◌+◌, ◌*◌, ◌<◌, ◌≤◌, true, List, [], length, slice_index}
+use Rattle.std.specs.Prelude.{◌≡◌, ℕ, ◌+◌, ◌*◌, ◌<◌, ◌≤◌, true, [], length, slice_index}
 use Rattle.std.specs.Vec.{vec_len}
 use Rattle.plain_machine.specs.State.{State}
 use Rattle.plain_machine.specs.Laws.{AreWithin, queued_trees}

@@ -85,7 +85,13 @@ impl<H: Heaps> Space for Over<H> {
         self.verbs.exit(seat)
     }
 
-    fn build(&mut self, names: &AtomNames, seat: Seat, r: Reg, code: &[Item]) -> Result<(), Refusal> {
+    fn build(
+        &mut self,
+        names: &AtomNames,
+        seat: Seat,
+        r: Reg,
+        code: &[Item],
+    ) -> Result<(), Refusal> {
         self.verbs.build(names, seat, r, code)
     }
 
@@ -115,14 +121,7 @@ impl<H: Heaps> Space for Over<H> {
         self.verbs.map_put(names, seat, r, s, k, v)
     }
 
-    fn repeat(
-        &mut self,
-        seat: Seat,
-        r: Reg,
-        shape: Shape,
-        n: u64,
-        s: Reg,
-    ) -> Result<(), Refusal> {
+    fn repeat(&mut self, seat: Seat, r: Reg, shape: Shape, n: u64, s: Reg) -> Result<(), Refusal> {
         self.verbs.repeat(seat, r, shape, n, s)
     }
 

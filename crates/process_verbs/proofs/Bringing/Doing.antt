@@ -1,5 +1,5 @@
 -- A verb for which a term is made, or a word put: it was done, and what it asked of the memory.
-use Rattle.std.proofs.Common.{◌≡◌, ℕ, zero, suc, ◌+◌, ◌*◌, ◌^◌, ◌<◌, ◌≤◌, ◌||◌, Bool, true, false, true≢false, nat_le, nat_lt, List, [], ◌∷◌, length, get_or, replicate, Result, Ok, Err, refl, sym, ◌∙◌, ap, subst, arith, inl, inr}
+use Rattle.std.proofs.Common.{◌≡◌, ℕ, zero, suc, ◌+◌, ◌^◌, ◌<◌, ◌≤◌, ◌||◌, true, false, nat_le, nat_lt, List, [], ◌∷◌, length, get_or, replicate, Result, Ok, Err, refl, sym, ◌∙◌, ap, arith}
 use Rattle.std.proofs.lemmas.Bool.{both_ways, or_from, or_right, or_left, le-ltb, lt-ltb}
 use Rattle.std.proofs.lemmas.Bool.Decides.{nat_tests}
 use Rattle.std.proofs.lemmas.List.{length-replicate}
@@ -13,13 +13,12 @@ use Rattle.script_grammar.specs.declared.command.Shape.{Shape}
 use Rattle.script_grammar.specs.declared.command.Verb.{Verb}
 use Rattle.script_grammar.specs.declared.command.Verb.TheVariants as verb
 use Rattle.script_grammar.specs.declared.refusal.Refusal.{Refusal}
-use Rattle.script_grammar.specs.declared.refusal.Refusal.TheVariants.{BadArg, NoSpace}
+use Rattle.script_grammar.specs.declared.refusal.Refusal.TheVariants.{BadArg}
 use Rattle.script_grammar.specs.Written.{Terms}
-use Rattle.script_grammar.specs.Written.Terms.{end}
 use Rattle.plain_machine.specs.declared.limits.TheConstants.{MOST_BYTE, MOST_FILL, MOST_PLACES}
 use Rattle.plain_machine.specs.Made.{bin_tree}
 use Rattle.plain_machine.specs.Parts.{repeated}
-use Rattle.plain_machine.specs.State.{Process, State, register, with_process, with_register}
+use Rattle.plain_machine.specs.State.{Process, State, register, with_process}
 use Rattle.plain_machine.specs.Step.{Outcome, by_verb, does, fill_if, repeat_if, step, with_made}
 use Rattle.plain_machine.specs.Step.Outcome.{Accepted, Mapped, Refused}
 use Rattle.plain_machine.specs.Tightness.{fill_words, verb_words}
@@ -33,14 +32,13 @@ use Rattle.heaps_api.specs.Changing.{process_at}
 use Rattle.heaps_api.specs.Making.{IsMadeOf, with_made_in, words_of_make}
 use Rattle.heaps_api.specs.declared.making.Make.{Make}
 use Rattle.heaps_api.specs.declared.making.Make.TheVariants as make
-use Rattle.heaps_api.specs.declared.wanted.Want.{Want}
 use Rattle.heaps_api.specs.declared.wanted.Want.TheVariants as want
 use Rattle.process_verbs.specs.Verbs.{Holds, Sits, VerbsStand, memory_words}
 use Rattle.process_verbs.specs.Asked.{HasMade, HoldsSome, Makes, Puts}
 use Rattle.process_verbs.specs.Doing.{AsksUnless, Does, DoesAlways, is_early, want_of_fill}
 use Rattle.process_verbs.specs.declared.verbs.Verbs.{Verbs}
 use Rattle.process_verbs.proofs.Processes.Seated.{number-there}
-use Rattle.process_verbs.proofs.Steps.{at-seat, refuses}
+use Rattle.process_verbs.proofs.Steps.{refuses}
 
 pub passes-follows : (o : Outcome) (s : State) (Stands : State → Type 0) → Follows {A = Unit {0}} o s (Ok tt) Stands → Passes o Stands
 passes-follows (Accepted next reply) s Stands f = f

@@ -1,9 +1,8 @@
 -- `fill`: a long binary of equal bytes stands in a record with the next serial.
-use Rattle.std.proofs.Common.{◌≡◌, ℕ, ◌+◌, ◌*◌, ◌<◌, ◌≤◌, ◌/◌, ◌++◌, ◌∷◌, Bool, true, false, true≢false, nat_le, List, [], length, map, replicate, set, Result, Ok, Err, IsErrAnd, refl, sym, ◌∙◌, ap, subst, arith, inl}
+use Rattle.std.proofs.Common.{◌≡◌, ℕ, ◌+◌, ◌*◌, ◌<◌, ◌≤◌, ◌++◌, ◌∷◌, true, false, true≢false, nat_le, List, [], length, map, replicate, set, Result, Ok, Err, IsErrAnd, refl, sym, ◌∙◌, ap, subst, arith, inl}
 use Rattle.std.proofs.lemmas.Bool.Decides.{nat_tests}
 use Rattle.std.proofs.lemmas.List.{length-append, length-replicate}
 use Rattle.plain_term.specs.Measures.{bin_words}
-use Rattle.plain_term.specs.Tree.{Tree}
 use Rattle.plain_term.specs.Tree.Tree.{Shared}
 use Rattle.script_grammar.specs.Names.{Parsed}
 use Rattle.script_grammar.specs.declared.command.Command.TheVariants.{Process as OfProcess}
@@ -20,7 +19,7 @@ use Rattle.plain_machine.specs.Made.{bin_tree}
 use Rattle.plain_machine.specs.May.{gets_to_space}
 use Rattle.plain_machine.specs.State.{Process, State, with_process, with_register}
 use Rattle.plain_machine.specs.Step.{by_verb, does, fill_if, settled, with_made}
-use Rattle.plain_machine.specs.Tightness.{fill_words, verb_words}
+use Rattle.plain_machine.specs.Tightness.{fill_words}
 use Rattle.plain_machine.proofs.Properly.Holding.{put-within}
 use Rattle.space_api.specs.Calls.{said}
 use Rattle.space_api.specs.declared.space.Seat.{Seat}

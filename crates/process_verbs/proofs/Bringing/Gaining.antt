@@ -1,5 +1,5 @@
 -- A term is built or put in a register, or there is no space for it: what the shared steps of verbs leave.
-use Rattle.std.proofs.Common.{◌≡◌, ℕ, zero, suc, ◌+◌, ◌*◌, ◌^◌, ◌<◌, ◌≤◌, Bool, true, false, true≢false, List, [], ◌∷◌, length, map, get_or, set, Result, Ok, Err, IsErrAnd, refl, sym, ◌∙◌, ap, subst, arith, inl, inr}
+use Rattle.std.proofs.Common.{◌≡◌, ℕ, zero, suc, ◌+◌, ◌*◌, ◌^◌, ◌<◌, ◌≤◌, Bool, true, false, true≢false, List, [], ◌∷◌, map, set, Result, Ok, Err, IsErrAnd, refl, sym, ◌∙◌, ap, subst, arith, inl}
 use Rattle.plain_term.specs.Tree.{Tree, pairs_len}
 use Rattle.script_grammar.specs.declared.command.Command.TheVariants.{Process as OfProcess}
 use Rattle.script_grammar.specs.declared.command.Reg.{Reg}
@@ -10,17 +10,16 @@ use Rattle.script_grammar.specs.declared.refusal.Refusal.TheVariants.{NoSpace}
 use Rattle.script_grammar.specs.Written.{Terms}
 use Rattle.script_grammar.specs.Written.Terms.{end}
 use Rattle.plain_machine.specs.State.{Process, State, with_process, with_register}
-use Rattle.plain_machine.specs.Step.{by_verb, does, settled, step}
+use Rattle.plain_machine.specs.Step.{settled}
 use Rattle.plain_machine.specs.Laws.{AreWithin}
-use Rattle.plain_machine.specs.Tightness.{verb_words}
 use Rattle.plain_machine.proofs.Properly.Holding.{put-within, split-within}
-use Rattle.space_api.specs.Calls.{Becomes, Follows, said}
+use Rattle.space_api.specs.Calls.{said}
 use Rattle.space_api.specs.declared.space.Seat.{Seat}
 use Rattle.term_maps.specs.declared.sorted.Spot.{Spot}
 use Rattle.term_maps.specs.declared.sorted.Spot.TheVariants as spot
 use Rattle.term_verbs.specs.Placed.{count_placed}
-use Rattle.heaps_api.specs.Meaning.{CanAsk, HoldsThere, Meaning, Stood, no_process}
-use Rattle.heaps_api.specs.Changing.{CanMake, Gains, KeepsRows, Looks, PutsWord, process_at}
+use Rattle.heaps_api.specs.Meaning.{CanAsk, HoldsThere, Meaning, Stood}
+use Rattle.heaps_api.specs.Changing.{CanMake, Gains, Looks, PutsWord, process_at}
 use Rattle.heaps_api.specs.Making.{CanReckon, IsMadeOf, with_made_in, words_of_make}
 use Rattle.heaps_api.specs.Reading.{waiting_trees}
 use Rattle.heaps_api.specs.Wanted.{words_of_want}
@@ -28,13 +27,13 @@ use Rattle.heaps_api.specs.declared.making.Make.{Make}
 use Rattle.heaps_api.specs.declared.making.Make.TheVariants as make
 use Rattle.heaps_api.specs.declared.wanted.Want.{Want}
 use Rattle.heaps_api.specs.declared.wanted.Want.TheVariants as want
-use Rattle.process_verbs.specs.Verbs.{Holds, IsCounted, Sits, VerbsStand, memory_words}
+use Rattle.process_verbs.specs.Verbs.{Holds, Sits, VerbsStand}
 use Rattle.process_verbs.specs.Asked.{HasMade, HoldsSome, Makes, Puts, Searches, answer_of_search, changed, roomed}
 use Rattle.process_verbs.specs.Doing.{Asks}
 use Rattle.process_verbs.specs.declared.verbs.Verbs.{Verbs}
 use Rattle.process_verbs.proofs.Processes.Seats.{replaced}
 use Rattle.process_verbs.proofs.Processes.Seated.{number-there, set-there, settled-stands}
-use Rattle.process_verbs.proofs.Steps.{at-seat, counts-stay, grow-there, holds-roomed, lacks-space, ready, ready-roomed, sits-roomed, stands-roomed, whole-roomed}
+use Rattle.process_verbs.proofs.Steps.{at-seat, counts-stay, grow-there, holds-roomed, lacks-space, ready-roomed, whole-roomed}
 
 -- What the answer of a search tells.
 pub lacked : (w : Want) (found : Bool) (r : Result (Unit {0}) Refusal) (e : Refusal) → r ≡ answer_of_search w found → r ≡ Err e → (found ≡ false) × (e ≡ NoSpace (words_of_want w))

@@ -1,5 +1,5 @@
 -- `mapput`: a register's map with a pair more, or none.
-use Rattle.std.proofs.Common.{◌-◌, ◌≡◌, ℕ, ◌+◌, ◌*◌, ◌<◌, ◌≤◌, Bool, true, false, nat_lt, List, get_or, Option, Some, Result, Ok, Err, refl, sym, ◌∙◌, ap, subst, arith, inl, length}
+use Rattle.std.proofs.Common.{◌≡◌, ℕ, ◌+◌, ◌*◌, ◌<◌, ◌≤◌, Bool, true, false, nat_lt, List, Some, Result, Ok, Err, refl, sym, ◌∙◌, ap, subst, arith, inl, length}
 use Rattle.std.proofs.lemmas.Bool.{both_ways}
 use Rattle.std.proofs.lemmas.Bool.Decides.{nat_tests}
 use Rattle.std.proofs.lemmas.Option.{same_Some}
@@ -13,47 +13,41 @@ use Rattle.script_grammar.specs.declared.command.Verb.{Verb}
 use Rattle.script_grammar.specs.declared.command.Verb.TheVariants as verb
 use Rattle.script_grammar.specs.declared.refusal.Refusal.TheVariants as refusal
 use Rattle.script_grammar.specs.Written.{Terms}
-use Rattle.script_grammar.specs.Written.Terms.{end}
 use Rattle.term_tags.specs.declared.layouts.TheConstants.{MOST_KEYS}
 use Rattle.term_words.specs.Stands.{Stands}
-use Rattle.term_maps.specs.declared.sorted.Spot.{Spot}
-use Rattle.term_maps.specs.declared.sorted.Spot.TheVariants as spot
 use Rattle.term_verbs.specs.declared.pairs.Place.{Place}
 use Rattle.term_verbs.specs.declared.pairs.PutStop.{PutStop}
 use Rattle.term_verbs.specs.declared.pairs.PutStop.TheVariants as put
 use Rattle.term_verbs.specs.Found.{AreSorted}
 use Rattle.term_verbs.specs.Picked.{HasSorted}
-use Rattle.term_verbs.specs.Placed.{PlaceFits, HasPlace, IsPlaceInMap, count_placed, put_at_spot}
+use Rattle.term_verbs.specs.Placed.{PlaceFits, IsPlaceInMap, put_at_spot}
 use Rattle.term_verbs.proofs.Placing.{placed-count, placed-put}
 use Rattle.term_verbs.proofs.Sorted.{proper-sorted}
 use Rattle.plain_machine.specs.Parts.{pairs_in}
 use Rattle.plain_machine.specs.State.{HasNames, Process, State, process_of, register, with_process, with_register}
 use Rattle.script_grammar.specs.Names.{IsRegister, Parsed}
-use Rattle.plain_machine.specs.Step.{Outcome, does, in_process, put_unless_big, put_unless_wide, settled}
+use Rattle.plain_machine.specs.Step.{does, put_unless_big, put_unless_wide}
 use Rattle.plain_machine.specs.Step.Outcome.{Refused}
 use Rattle.plain_machine.specs.Step.{put_into}
 use Rattle.plain_machine.specs.Tightness.{key_count}
-use Rattle.plain_machine.specs.May.{gets_to_space}
-use Rattle.space_api.specs.Calls.{Follows, Properly, said}
+use Rattle.space_api.specs.Calls.{Properly, said}
 use Rattle.space_api.specs.declared.space.Seat.{Seat}
 use Rattle.term_words.specs.Role.{always}
 use Rattle.term_words.proofs.Framing.Rooms.{weaken}
 use Rattle.term_verbs.specs.Picked.{CanSeek}
-use Rattle.term_order.specs.Named.{is_named}
 use Rattle.plain_term.specs.Proper.{is_proper}
 use Rattle.plain_machine.specs.Laws.{HoldsProper}
 use Rattle.plain_machine.proofs.Properly.Holding.{before, found-proper}
 use Rattle.plain_machine.proofs.Properly.Parts.{at-proper}
 use Rattle.heaps_api.specs.Meaning.{Meaning}
 use Rattle.heaps_api.specs.Changing.{process_at}
-use Rattle.heaps_api.specs.Making.{words_of_make}
 use Rattle.heaps_api.specs.declared.making.Make.{Make}
 use Rattle.heaps_api.specs.declared.making.Make.TheVariants as make
 use Rattle.heaps_api.specs.declared.wanted.Want.TheVariants as want
 use Rattle.script_grammar.specs.declared.refusal.Refusal.{Refusal}
-use Rattle.process_verbs.specs.Verbs.{Holds, Sits, VerbsStand, memory_words}
+use Rattle.process_verbs.specs.Verbs.{Holds, Sits, VerbsStand}
 use Rattle.process_verbs.specs.Asked.{HasMade, Makes}
-use Rattle.process_verbs.specs.Doing.{AsksUnless, DoesBy, is_early, refusal_of_put}
+use Rattle.process_verbs.specs.Doing.{AsksUnless, DoesBy, refusal_of_put}
 use Rattle.process_verbs.specs.Telling.{IsHeld}
 use Rattle.process_verbs.specs.declared.verbs.Verbs.{Verbs}
 use Rattle.process_verbs.proofs.Processes.Seated.{found-there}

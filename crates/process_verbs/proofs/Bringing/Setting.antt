@@ -1,5 +1,5 @@
 -- `set`: a written term is built in a register, or it is refused for its maps, or there is no space.
-use Rattle.std.proofs.Common.{Vec, ◌≡◌, ℕ, ◌+◌, ◌-◌, ◌*◌, ◌^◌, min, max, ◌<◌, ◌≤◌, Bool, true, false, true≢false, List, [], length, map, set, Option, Some, None, Result, Ok, Err, IsErrAnd, refl, sym, ◌∙◌, ap, subst, arith, inl}
+use Rattle.std.proofs.Common.{Vec, ◌≡◌, ℕ, ◌+◌, ◌-◌, ◌*◌, ◌^◌, min, ◌<◌, ◌≤◌, Bool, true, false, true≢false, List, length, map, set, Option, Result, Ok, Err, IsErrAnd, refl, sym, ◌∙◌, ap, subst, arith, inl}
 use Rattle.std.specs.Vec.{vec_len}
 use Rattle.std.specs.declared.alloc.Global.{Global}
 use Rattle.plain_term.specs.declared.item.Item.{Item}
@@ -16,14 +16,13 @@ use Rattle.plain_machine.specs.Flaws.{flaw_of, is_big, is_wide}
 use Rattle.plain_machine.specs.Laws.{AreWithin}
 use Rattle.plain_machine.specs.Made.{tree_of}
 use Rattle.plain_machine.specs.May.{gets_to_space}
-use Rattle.plain_machine.specs.State.{Process, State, with_process, with_register}
-use Rattle.plain_machine.specs.Step.{Outcome, by_verb, does, settled, unless_flawed, with_made}
-use Rattle.plain_machine.specs.Step.Outcome.{Accepted, Refused}
-use Rattle.plain_machine.specs.Tightness.{build_words, verb_words}
+use Rattle.plain_machine.specs.State.{Process, State, with_register}
+use Rattle.plain_machine.specs.Step.{does, settled, unless_flawed, with_made}
+use Rattle.plain_machine.specs.Step.Outcome.{Accepted}
 use Rattle.plain_machine.proofs.Properly.Holding.{put-within}
 use Rattle.space_api.specs.Calls.{HasTerm, IsWrittenTerm, one_term, said}
 use Rattle.space_api.specs.declared.space.Seat.{Seat}
-use Rattle.item_build.specs.Reading.{far_words_of, heap_words_of, item_words_of}
+use Rattle.item_build.specs.Reading.{far_words_of, heap_words_of}
 use Rattle.item_build.specs.declared.building.BuildStop.{BuildStop}
 use Rattle.item_build.specs.declared.building.BuildStop.TheVariants as stop
 use Rattle.item_build.proofs.Meaning.Whole.{words-apart}
@@ -41,7 +40,7 @@ use Rattle.process_verbs.specs.Doing.{Asks, Builds, is_nospace}
 use Rattle.process_verbs.specs.declared.verbs.Verbs.{Verbs}
 use Rattle.process_verbs.proofs.Processes.Seats.{replaced}
 use Rattle.process_verbs.proofs.Processes.Seated.{number-there, set-there, settled-stands}
-use Rattle.process_verbs.proofs.Steps.{at-seat, counts-stay, grow-there, holds-roomed, lacks-space, whole-roomed}
+use Rattle.process_verbs.proofs.Steps.{at-seat, grow-there, holds-roomed, lacks-space, whole-roomed}
 use Rattle.process_verbs.proofs.Bringing.Gaining.{asks-gained, asks-lacks, lacked, same-error, searched-none, searched-some, within-at}
 
 -- The words that were reckoned are those of the items.

@@ -2,7 +2,7 @@
 use Rattle.std.proofs.Common.{◌≡◌, ℕ, ◌<◌, true, List, length, map, get_or, set, Some, sym, ◌∙◌, ap, subst, arith}
 use Rattle.std.specs.List.{filter, remove}
 use Rattle.plain_machine.specs.State.{Process, State, process_of, with_process}
-use Rattle.plain_machine.specs.Step.{Outcome, by_verb, in_process, is_sweep, settled, step}
+use Rattle.plain_machine.specs.Step.{by_verb, in_process, is_sweep, settled, step}
 use Rattle.plain_machine.specs.Laws.{AreWithin}
 use Rattle.script_grammar.specs.Names.{Parsed}
 use Rattle.script_grammar.specs.Written.{Terms}

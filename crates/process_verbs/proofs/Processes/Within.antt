@@ -1,9 +1,8 @@
 -- The messages that wait are within the walk limit: what keeps that.
 use Rattle.std.proofs.Common.{ℕ, zero, suc, List, [], ◌∷◌}
-use Rattle.plain_term.specs.Tree.{Tree}
 use Rattle.plain_machine.specs.State.{Process}
 use Rattle.plain_machine.specs.Laws.{AreWithin}
-use Rattle.plain_machine.proofs.Properly.Holding.{joined-within, queues, split-within}
+use Rattle.plain_machine.proofs.Properly.Holding.{queues, split-within}
 use Rattle.heaps_api.specs.Changing.{process_at}
 
 module _ (shared : List (List ℕ)) where

@@ -1,5 +1,5 @@
 -- Which processes live, by the numbers of the rows.
-use Rattle.std.proofs.Common.{◌≡◌, ℕ, ◌==◌, ◌||◌, Bool, List, [], ◌∷◌, refl, ap}
+use Rattle.std.proofs.Common.{◌≡◌, ℕ, ◌==◌, ◌||◌, List, [], ◌∷◌, refl, ap}
 use Rattle.std.specs.List.{list_any}
 use Rattle.plain_machine.specs.State.{Process, State, is_live}
 use Rattle.heaps_api.specs.Meaning.{Meaning}

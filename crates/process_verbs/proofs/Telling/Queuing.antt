@@ -1,5 +1,5 @@
 -- Messages that wait, and their texts one after the other.
-use Rattle.std.proofs.Common.{◌≡◌, ℕ, zero, suc, ◌+◌, ◌-◌, ◌<◌, ◌≤◌, ◌==◌, Bool, List, [], ◌∷◌, ◌++◌, length, map, take, drop, get_or, Option}
+use Rattle.std.proofs.Common.{◌≡◌, ℕ, zero, suc, ◌+◌, ◌<◌, ◌≤◌, ◌==◌, Bool, List, [], ◌∷◌, ◌++◌, length, map, take, drop, get_or, Option}
 use Rattle.std.proofs.Common.{Result, Ok, Err, OnOk, OnErr, refl, sym, ◌∙◌, ap, subst, arith}
 use Rattle.std.specs.Prelude.{IsErr}
 use Rattle.std.proofs.lemmas.List.{get_or-map, length-map}
@@ -31,7 +31,7 @@ use Rattle.heaps_api.specs.Reading.{AreWaiting}
 use Rattle.heaps_api.proofs.Holding.{stands-always}
 use Rattle.heaps_api.proofs.Naming.{named-more}
 use Rattle.process_verbs.specs.Verbs.{IsCounted, Sits, VerbsStand}
-use Rattle.process_verbs.specs.Queued.{AreMessages, HaveMessages, IsMessage, messages_text, whole_text}
+use Rattle.process_verbs.specs.Queued.{AreMessages, HaveMessages, messages_text, whole_text}
 use Rattle.process_verbs.specs.declared.verbs.Verbs.{Verbs}
 use Rattle.process_verbs.proofs.Processes.Seated.{found-there}
 use Rattle.process_verbs.proofs.Processes.Within.{within-at}

@@ -1,5 +1,5 @@
 -- The words of the registers of a seat's process.
-use Rattle.std.proofs.Common.{◌≡◌, ℕ, ◌<◌, List, get_or, slice_index, arith}
+use Rattle.std.proofs.Common.{ℕ, ◌<◌, List, get_or, arith}
 use Rattle.plain_machine.specs.State.{State, register}
 use Rattle.script_grammar.specs.declared.command.Reg.{Reg}
 use Rattle.space_api.specs.declared.space.Seat.{Seat}

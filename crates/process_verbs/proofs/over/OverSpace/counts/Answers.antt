@@ -1,4 +1,4 @@
-use Rattle.std.proofs.Common.{◌≡◌, ◌≤◌, length, sym, ap, arith}
+use Rattle.std.proofs.Common.{◌≤◌, length, sym, ap, arith}
 use Rattle.atom_names.specs.Names.{AreNames}
 use Rattle.process_verbs.specs.Verbs.{VerbsStand}
 use Rattle.process_verbs.proofs.over.OverSpace.counts.Goals as goal
