@@ -15,7 +15,7 @@ ghost use Rattle.store_image.specs.Counting.{image_counts};
 ghost use Rattle.term_tags.specs.declared.kinds.TheConstants.{ATOMS, PIDS};
 ghost use Rattle.heaps_api.specs.Meaning.{CanAsk, Lives, Meaning, Stood};
 ghost use Rattle.heaps_api.specs.Making.{words_of_make};
-ghost use Rattle.heaps_api.specs.Wanted.{HasWantedRow};
+ghost use Rattle.heaps_api.specs.Wanted.{HasWantedRow, words_of_want};
 ghost use Rattle.heaps_api.specs.Reading.{AreRegisters, AreWaiting, IsNamedBy, StandsIn};
 ghost use Rattle.heaps_api.specs.Changing.{CanMake, CanSendTo, Exits, Gains, GainsBin, GainsFun, IsNext, Looks, PopsInto, Pushes, PutsWord, ReceivesInto, SendsTo, Spawns, CollectsRows};
 ghost use Rattle.heaps_api.specs.Written.{CanBuild, GainsTerm, want_of_items};
@@ -90,6 +90,7 @@ pub trait Heaps {
     fn make_room(&mut self, want: Want) -> bool
         requires ready { CanAsk meaning self.old }
         requires row { HasWantedRow want (meaning.numbers self.old) }
+        requires few { words_of_want want < 2 ^ 64 }
         ensures { Looks meaning want self.old self.new result };
 
     /// Puts the word of a term into a register.

@@ -1,3 +1,3 @@
 -- Two halves as a memory of processes.
-mod Keeping
-mod Rooming
+pub mod Keeping
+pub mod Rooming

@@ -1,5 +1,5 @@
 -- Room for what is wanted, and collections.
-use Rattle.std.proofs.Common.{◌≡◌, ℕ, ◌+◌, ◌*◌, ◌<◌, ◌≤◌, ◌⊎◌, Bool, true, false, nat_le, List, [], length, refl, sym, ◌∙◌, ap, subst, arith, inl, inr}
+use Rattle.std.proofs.Common.{◌≡◌, ℕ, ◌+◌, ◌*◌, ◌-◌, ◌^◌, ◌<◌, ◌≤◌, ◌⊎◌, Bool, true, false, nat_le, List, [], length, refl, sym, ◌∙◌, ap, subst, arith, inl, inr}
 use Rattle.std.proofs.Math.Decide.{dec_le}
 use Rattle.std.proofs.lemmas.Bool.{leb-false, leb-true}
 use Rattle.std.proofs.lemmas.List.{length-map}
@@ -8,9 +8,9 @@ use Rattle.plain_machine.specs.Tightness.{demand}
 use Rattle.numbered_rows.proofs.Rising.{numbers-len}
 use Rattle.two_halves.specs.Halves.{HalvesStand, IsLaid, free_in}
 use Rattle.two_halves.specs.Reached.{ChainReached}
-use Rattle.two_halves.specs.Collecting.{Collects, LooksFor, MakesRoom}
+use Rattle.two_halves.specs.Collecting.{CanCollect, Collects, LooksFor, MakesRoom}
 use Rattle.two_halves.specs.declared.halves.Halves.{Halves}
-use Rattle.heaps_api.specs.Meaning.{Stood}
+use Rattle.heaps_api.specs.Meaning.{CanAsk, Stood}
 use Rattle.heaps_api.specs.Changing.{CollectsRows, KeepsRows, Looks}
 use Rattle.heaps_api.specs.Wanted.{HasWantedRow, words_of_want}
 use Rattle.heaps_api.specs.declared.wanted.Want.{Want}
@@ -24,10 +24,21 @@ abbrev pub with_halves : OneHeap → Halves → OneHeap
 with_halves a h = record { halves = h; spare = a.spare }
 
 -- No more words are looked for than a line asks for, and less of those that a half never uses where a process is made.
-at-most : (w : Want) → looked_for w ≤ words_of_want w
+pub at-most : (w : Want) → looked_for w ≤ words_of_want w
 at-most (want.Words row n records) = omega arith
 at-most (want.Message row size) = omega arith
 at-most want.Process = omega arith
+
+module _ (a : OneHeap) (x : CanAsk one_meaning a) where
+  -- A memory that can be asked can be collected.
+  pub can-collect : CanCollect a.halves
+  can-collect = record {
+    laid = x.lives.whole.laid;
+    standing = record { named = x.lives.named; shared = x.lives.shared; processes = x.lives.processes; stands = x.lives.stood.is };
+  }
+
+  pub sweeps-few : a.halves.sweeps < 2 ^ 64 - 1
+  sweeps-few = omega (arith, x.lives.whole.counted, x.few)
 
 module _ (a : OneHeap) where
   -- What a collection does.
