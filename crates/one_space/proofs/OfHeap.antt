@@ -1,0 +1,4 @@
+-- Two halves as a memory of processes.
+pub mod Keeping
+pub mod Making
+pub mod Repeating
