@@ -1,3 +1,6 @@
 -- Two halves as a memory of processes.
 pub mod Keeping
 pub mod Rooming
+pub mod Making
+pub mod Repeating
+pub mod Setting
