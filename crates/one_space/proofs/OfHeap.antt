@@ -3,3 +3,4 @@ pub mod Keeping
 pub mod Making
 pub mod Repeating
 pub mod Referring
+pub mod Filling
