@@ -35,8 +35,11 @@ module _ (a : OneHeap) (ask : CanAsk one_meaning a) (row : ℕ) (less : row < le
     one-more : p.refs + 1 ≤ p2.refs + 1
     one-more =
         let x = ask.lives.stood in
-        omega (arith, (row-said a ask row less ask.lives.named ask.lives.shared ask.lives.processes x p is).refs,
-        (row-said a ask row less ask.lives.named ask.lives.shared ask.lives.processes x p2 is2).refs)
+        omega (
+          arith,
+          (row-said a ask row less ask.lives.named ask.lives.shared ask.lives.processes x p is).refs,
+          (row-said a ask row less ask.lives.named ask.lives.shared ask.lives.processes x p2 is2).refs,
+        )
 
     pub ref-gains : Gains one_meaning row r Ref a new
     ref-gains = record {
