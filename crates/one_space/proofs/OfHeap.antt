@@ -3,4 +3,6 @@ pub mod Keeping
 pub mod Rooming
 pub mod Making
 pub mod Repeating
+pub mod Referring
+pub mod Filling
 pub mod Setting
