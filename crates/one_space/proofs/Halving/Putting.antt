@@ -17,12 +17,18 @@ use Rattle.two_halves.specs.declared.halves.Halves.{Halves}
 use Rattle.two_halves.specs.declared.table.Proc.{Proc}
 use Rattle.two_halves.proofs.Standing.Apart.{apart-same}
 use Rattle.two_halves.proofs.Standing.Filled.{laid_out}
+use Rattle.numbered_rows.specs.Numbers.{numbers as numbers_by}
+use Rattle.numbered_rows.proofs.Rising.{numbers-len}
 use Rattle.heaps_api.specs.Meaning.{no_process}
 use Rattle.one_space.proofs.Processes.Turning.{register-set, with_word}
 
 -- The half with a word in a register.
 abbrev pub worded : Halves → (row : ℕ) → Proc → (r w : ℕ) → Halves
 worded h row p r w = laid_out h h.mem h.room (with_item h.procs row (with_word p r w))
+
+-- A row of the numbers is one of the table.
+pub row-within : (ps : List Proc) (row : ℕ) → row < length (numbers_by (λ (p : Proc). p.number) ps) → row < length ps
+row-within ps row less = omega (arith, less, numbers-len (λ (p : Proc). p.number) ps)
 
 -- A record has four words at least.
 record-least : (c : ℕ → ℕ → Bool) (mem : List ℕ) (v n : ℕ) → IsRecord c mem v n → 4 ≤ record_words mem v
