@@ -19,7 +19,9 @@ use Rattle.two_halves.proofs.Standing.Apart.{apart-same}
 use Rattle.two_halves.proofs.Standing.Filled.{laid_out}
 use Rattle.numbered_rows.specs.Numbers.{numbers as numbers_by}
 use Rattle.numbered_rows.proofs.Rising.{numbers-len}
-use Rattle.heaps_api.specs.Meaning.{no_process}
+use Rattle.heaps_api.specs.Meaning.{Stood, no_process}
+use Rattle.one_space.specs.Heap.{one_meaning}
+use Rattle.one_space.specs.declared.heap.OneHeap.{OneHeap}
 use Rattle.one_space.proofs.Processes.Turning.{register-set, with_word}
 
 -- The half with a word in a register.
@@ -87,3 +89,13 @@ registers-kept (z ∷ qs) zero q same all (suc i) less = all (suc i) less
 registers-kept (z ∷ qs) (suc row) q same all zero less = all zero (omega arith)
 registers-kept (z ∷ qs) (suc row) q same all (suc i) less =
     registers-kept qs row q (λ l. same (omega (arith, l))) (λ j l. all (suc j) (omega (arith, l))) i (omega (arith, less))
+
+-- The memory stands for the processes with the tree in the register, where its halves do.
+pub stood-worded : (named : ℕ) (old : OneHeap) (shared : List (List ℕ)) (qs : List Process) → Stood one_meaning named old shared qs → (new : OneHeap) (shared2 : List (List ℕ)) (row r : ℕ) (t : Tree)
+    → one_meaning.numbers new ≡ one_meaning.numbers old → HalvesStand named new.halves shared2 (set qs row (with_register r t (get_or qs row no_process)))
+    → Stood one_meaning named new shared2 (set qs row (with_register r t (get_or qs row no_process)))
+stood-worded named old shared qs x new shared2 row r t same stands = record {
+  is = stands;
+  rows = same ∙ (x.rows ∙ sym (numbers-kept qs row (with_register r t (get_or qs row no_process)) refl));
+  registers = registers-kept qs row (with_register r t (get_or qs row no_process)) (λ less. length-set ((get_or qs row no_process).registers) r t ∙ x.registers row less) x.registers;
+}
