@@ -4,3 +4,4 @@ mod Memory
 mod Calls
 mod Verbs
 mod OfReplies
+mod Halving

@@ -1,0 +1,2 @@
+-- Two halves as a memory of processes.
+pub mod Putting
