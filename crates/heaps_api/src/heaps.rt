@@ -155,6 +155,7 @@ pub trait Heaps {
         requires ready { CanAsk meaning self.old }
         requires row { row < length (meaning.numbers self.old) }
         requires register { IsRegister r }
+        requires number { slice_index (meaning.numbers self.old) row < PIDS }
         requires name { name < ATOMS }
         requires arity { arity ≤ 255 }
         requires env { IsEnv env.now }

@@ -4,4 +4,3 @@ mod Memory
 mod Calls
 mod Verbs
 mod OfReplies
-mod Halving

@@ -6,3 +6,4 @@ pub mod Repeating
 pub mod Referring
 pub mod Filling
 pub mod Setting
+pub mod Putting

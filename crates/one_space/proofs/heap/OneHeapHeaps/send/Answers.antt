@@ -1,5 +1,5 @@
 use Rattle.std.proofs.Common.{◌+◌, ◌≤◌, arith}
-use Rattle.one_space.proofs.Halving.Putting.{row-within}
+use Rattle.one_space.proofs.OfHeap.Putting.{row-within}
 use Rattle.one_space.proofs.heap.OneHeapHeaps.send.Goals as goal
 
 pub send-requires : goal.send-requires

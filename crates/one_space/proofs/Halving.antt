@@ -1,2 +1,0 @@
--- Two halves as a memory of processes.
-pub mod Putting
