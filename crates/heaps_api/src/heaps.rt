@@ -123,6 +123,7 @@ pub trait Heaps {
         requires ready { CanAsk meaning self.old }
         requires row { row < length (meaning.numbers self.old) }
         requires register { IsRegister r }
+        requires names { AreNames names.now }
         requires term { HasTerm names.now code.now }
         requires can { CanBuild meaning serial (length names.now) self.old }
         requires enough { length code.now ≤ length scratch.old }

@@ -7,3 +7,4 @@ pub mod Referring
 pub mod Filling
 pub mod Setting
 pub mod Putting
+pub mod Building

@@ -1,5 +1,6 @@
 // Terms that come from outside registers: written ones, binaries in records, and funs.
 ghost use Rattle.std.specs.Prelude.{◌≡◌, ◌+◌, ◌<◌, ◌≤◌, ◌^◌, length, slice_index};
+ghost use Rattle.atom_names.specs.Names.{AreNames};
 ghost use Rattle.plain_term.specs.Measures.{bin_words};
 ghost use Rattle.plain_machine.specs.declared.limits.TheConstants.{MOST_FILL};
 ghost use Rattle.script_grammar.specs.Names.{IsRegister};
@@ -33,6 +34,7 @@ impl OneHeap {
         requires ready { CanAsk one_meaning self.old }
         requires row { row < length (one_meaning.numbers self.old) }
         requires register { IsRegister r }
+        requires names { AreNames names.now }
         requires term { HasTerm names.now code.now }
         requires can { CanBuild one_meaning serial (length names.now) self.old }
         requires enough { length code.now ≤ length scratch.old }
