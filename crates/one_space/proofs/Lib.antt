@@ -1,4 +1,5 @@
 mod Processes
+mod OfHeap
 mod Memory
 mod Calls
 mod Verbs

@@ -1,10 +1,11 @@
 // Terms that come from outside registers: written ones, binaries in records, and funs.
-ghost use Rattle.std.specs.Prelude.{◌≡◌, ◌+◌, ◌<◌, ◌≤◌, ◌^◌, length};
+ghost use Rattle.std.specs.Prelude.{◌≡◌, ◌+◌, ◌<◌, ◌≤◌, ◌^◌, length, slice_index};
+ghost use Rattle.atom_names.specs.Names.{AreNames};
 ghost use Rattle.plain_term.specs.Measures.{bin_words};
 ghost use Rattle.plain_machine.specs.declared.limits.TheConstants.{MOST_FILL};
 ghost use Rattle.script_grammar.specs.Names.{IsRegister};
 ghost use Rattle.space_api.specs.Calls.{HasTerm, IsEnv};
-ghost use Rattle.term_tags.specs.declared.kinds.TheConstants.{ATOMS};
+ghost use Rattle.term_tags.specs.declared.kinds.TheConstants.{ATOMS, PIDS};
 ghost use Rattle.heaps_api.specs.Meaning.{CanAsk};
 ghost use Rattle.heaps_api.specs.Changing.{GainsBin, GainsFun, IsNext};
 ghost use Rattle.heaps_api.specs.Written.{CanBuild, GainsTerm, want_of_items};
@@ -33,6 +34,7 @@ impl OneHeap {
         requires ready { CanAsk one_meaning self.old }
         requires row { row < length (one_meaning.numbers self.old) }
         requires register { IsRegister r }
+        requires names { AreNames names.now }
         requires term { HasTerm names.now code.now }
         requires can { CanBuild one_meaning serial (length names.now) self.old }
         requires enough { length code.now ≤ length scratch.old }
@@ -89,10 +91,19 @@ impl OneHeap {
 
     /// Builds a fun of this name and arity in a register, which the process has made, with the terms of these registers as its
     /// environment.
-    pub fn put_fun(&mut self, row: usize, r: Reg, name: u64, arity: u64, scratch: &mut [u64], env: &[Item])
+    pub fn put_fun(
+        &mut self,
+        row: usize,
+        r: Reg,
+        name: u64,
+        arity: u64,
+        scratch: &mut [u64],
+        env: &[Item],
+    )
         requires ready { CanAsk one_meaning self.old }
         requires row { row < length (one_meaning.numbers self.old) }
         requires register { IsRegister r }
+        requires number { slice_index (one_meaning.numbers self.old) row < PIDS }
         requires name { name < ATOMS }
         requires arity { arity ≤ 255 }
         requires env { IsEnv env.now }

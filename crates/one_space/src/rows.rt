@@ -5,7 +5,7 @@ ghost use Rattle.plain_machine.specs.declared.limits.TheConstants.{MOST_PROCESSE
 ghost use Rattle.script_grammar.specs.Names.{IsRegister};
 ghost use Rattle.term_tags.specs.declared.kinds.TheConstants.{PIDS};
 ghost use Rattle.heaps_api.specs.Meaning.{CanAsk};
-ghost use Rattle.heaps_api.specs.Wanted.{HasWantedRow};
+ghost use Rattle.heaps_api.specs.Wanted.{HasWantedRow, words_of_want};
 ghost use Rattle.heaps_api.specs.Changing.{Exits, Looks, PopsInto, Pushes, PutsWord, ReceivesInto, Spawns};
 ghost use Rattle.heaps_api.specs.declared.wanted.Want.TheVariants.{Process as ForProcess, Words};
 ghost use Rattle.one_space.specs.Heap.{looked_for, one_meaning};
@@ -20,6 +20,7 @@ impl OneHeap {
     pub fn look_for(&mut self, want: Want) -> bool
         requires ready { CanAsk one_meaning self.old }
         requires row { HasWantedRow want (one_meaning.numbers self.old) }
+        requires few { words_of_want want < 2 ^ 64 }
         ensures { Looks one_meaning want self.old self.new result }
     {
         self.halves.make_room(words_looked_for(want))

@@ -1,0 +1,10 @@
+-- Two halves as a memory of processes.
+pub mod Keeping
+pub mod Rooming
+pub mod Making
+pub mod Repeating
+pub mod Referring
+pub mod Filling
+pub mod Setting
+pub mod Putting
+pub mod Building

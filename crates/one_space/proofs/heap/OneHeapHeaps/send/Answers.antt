@@ -1,0 +1,22 @@
+use Rattle.std.proofs.Common.{◌+◌, ◌≤◌, arith}
+use Rattle.one_space.proofs.OfHeap.Putting.{row-within}
+use Rattle.one_space.proofs.heap.OneHeapHeaps.send.Goals as goal
+
+pub send-requires : goal.send-requires
+send-requires c =
+    let can = c.requires.can in
+    record {
+      can = record {
+        has = record {
+          laid = c.requires.ready.lives.whole.laid;
+          named = can.named;
+          shared = can.shared;
+          processes = can.processes;
+          stands = can.stood.is;
+          within = row-within c.args.self.now.halves.procs.items c.args.row c.requires.row;
+        };
+        tree = can.tree;
+        held = can.held;
+        fits = can.room;
+      };
+    }

@@ -1,0 +1,12 @@
+use Rattle.std.proofs.Common.{true}
+use Rattle.one_space.proofs.OfHeap.Rooming.{can-collect, collects-rows, sweeps-few}
+use Rattle.one_space.proofs.heap.OneHeapHeaps.sweep_all.Goals as goal
+
+pub collect-requires-clause-can : goal.collect-requires-clause-can
+collect-requires-clause-can c = can-collect c.args.self.now c.requires.ready
+
+pub collect-requires-clause-counted : goal.collect-requires-clause-counted
+collect-requires-clause-counted c = sweeps-few c.args.self.now c.requires.ready
+
+pub returns : goal.returns
+returns c = collects-rows c.args.self.now c.collect.new.self c.collect.ensures true
