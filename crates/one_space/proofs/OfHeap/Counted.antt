@@ -48,7 +48,8 @@ module _ (named : ℕ) (h : Halves) (s : State) (o : HalvesStand named h s.share
   fun-large v i = let r : IsFunOf o.test h.mem v = o.records.each_fun v i in omega (arith, r.is.header)
 
   -- With names that are known, the text is that of the records in the image.
-  pub counts-imaged : (names : List (List ℕ)) → AreNames names → named ≤ length names → counts_told h.mem names h.bins.items h.funs.items ≡ image_counts names (image_of h (length s.shared) s.next s.swept)
+  pub counts-imaged : (names : List (List ℕ)) → AreNames names → named ≤ length names
+      → counts_told h.mem names h.bins.items h.funs.items ≡ image_counts names (image_of h (length s.shared) s.next s.swept)
   counts-imaged names all known =
       let mem : List ℕ = h.mem in
       ap (λ z. counts_text names z (map (fun_of mem) (by_name mem names h.funs.items)))

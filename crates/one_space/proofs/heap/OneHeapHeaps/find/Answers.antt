@@ -1,4 +1,4 @@
-use Rattle.std.proofs.Common.{◌≡◌, List, sym, ◌∙◌, subst}
+use Rattle.std.proofs.Common.{◌≡◌, List, ◌∙◌, subst}
 use Rattle.std.specs.Option.{is_some}
 use Rattle.numbered_rows.specs.Numbers.{is_among}
 use Rattle.two_halves.specs.declared.table.Proc.{Proc}
