@@ -1,10 +1,15 @@
--- Two halves as a memory of processes.
+-- One heap for all processes as a memory of them: what keeps its rows, what is read of it, room and collections, what comes into a
+-- register, how rows change, what is told of it, and how it is opened.
 pub mod Keeping
+pub mod Reading
 pub mod Rooming
+pub mod Setting
 pub mod Making
 pub mod Repeating
 pub mod Referring
 pub mod Filling
-pub mod Setting
 pub mod Putting
 pub mod Building
+pub mod Allowing
+pub mod Counted
+pub mod Imaged

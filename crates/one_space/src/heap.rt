@@ -27,6 +27,14 @@ pub struct OneHeap {
     pub spare: Vec<Row>,
 }
 
+/// The same words, and that an array has sixteen of them.
+fn sixteen(words: &[u64; 16]) -> &[u64; 16]
+    ensures same { result.now ≡ words.now }
+    ensures count { length result.now ≡ 16 }
+{
+    words
+}
+
 impl Heaps for OneHeap {
     ghost meaning = { one_meaning };
 
@@ -51,7 +59,7 @@ impl Heaps for OneHeap {
     }
 
     fn regs(&self, row: usize) -> &[u64; 16] {
-        &self.halves.process(row).regs
+        sixteen(&self.halves.process(row).regs)
     }
 
     fn waiting(&self, row: usize) -> Waiting {
