@@ -1,4 +1,5 @@
 mod Processes
+mod Heap
 mod Memory
 mod Calls
 mod Verbs

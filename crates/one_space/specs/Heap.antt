@@ -1,5 +1,5 @@
 -- What two halves mean as a memory of processes.
-use Rattle.std.specs.Prelude.{◌≡◌, ℕ, ◌+◌, ◌*◌, ◌/◌, ◌<◌, ◌≤◌, zero, suc, Bool, List, length, slice_index}
+use Rattle.std.specs.Prelude.{◌≡◌, ℕ, ◌+◌, ◌*◌, ◌/◌, ◌<◌, ◌≤◌, zero, suc, Bool, List, [], ◌∷◌, length, slice_index}
 use Rattle.std.specs.Vec.{vec_len, vec_capacity}
 use Rattle.plain_machine.specs.declared.costs.TheConstants.{RECORD_COST}
 use Rattle.plain_machine.specs.declared.limits.TheConstants.{MOST_PROCESSES}
@@ -18,9 +18,17 @@ use Rattle.heaps_api.specs.declared.wanted.Want.{Want}
 use Rattle.heaps_api.specs.declared.wanted.Want.TheVariants as want
 use Rattle.heaps_api.specs.declared.waiting.Waiting.{Waiting}
 use Rattle.one_space.specs.Image.{image_of}
-use Rattle.one_space.specs.One.{HaveMade, number_in}
 use Rattle.one_space.specs.declared.heap.OneHeap.{OneHeap}
 use Rattle.one_space.specs.declared.heap.TheConstants.{SPAWN_WORDS}
+
+-- The number of a row.
+abbrev pub number_in : Proc → ℕ
+number_in p = p.number
+
+-- Each of the rows has made at most so many references.
+abbrev pub HaveMade : ℕ → List Proc → Type 0
+HaveMade most [] = Unit {0}
+HaveMade most (p ∷ ps) = (p.refs ≤ most) × HaveMade most ps
 
 -- The free words that are looked for: a process takes none, and what a half never uses is among what it counts for.
 abbrev pub looked_for : Want → ℕ

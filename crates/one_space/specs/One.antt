@@ -1,5 +1,5 @@
 -- What a space holds, and the states that it stands for.
-use Rattle.std.specs.Prelude.{◌≡◌, ℕ, ◌+◌, ◌*◌, ◌/◌, ◌<◌, ◌≤◌, true, List, [], ◌∷◌, length, get_or}
+use Rattle.std.specs.Prelude.{◌≡◌, ℕ, ◌+◌, ◌*◌, ◌/◌, ◌<◌, ◌≤◌, true, List, [], length, get_or}
 use Rattle.std.specs.Vec.{vec_len, vec_capacity}
 use Rattle.plain_machine.specs.State.{State}
 use Rattle.plain_machine.specs.Laws.{AreWithin, queued_trees}
@@ -11,14 +11,10 @@ use Rattle.numbered_rows.specs.Numbers.{AreBelow}
 use Rattle.numbered_rows.specs.Numbers.{numbers as numbers_by}
 use Rattle.two_halves.specs.Halves.{HalvesStand, IsLaid, free_in, half_of}
 use Rattle.two_halves.specs.Reached.{ChainReached}
-use Rattle.two_halves.specs.declared.table.Proc.{Proc}
 use Rattle.two_halves.specs.declared.halves.TheConstants.{UNUSED}
+use Rattle.one_space.specs.Heap.{HaveMade, number_in}
 use Rattle.one_space.specs.declared.one.One.{One}
 use Rattle.one_space.specs.declared.one.TheConstants.{ROW}
-
--- The number of a row.
-abbrev pub number_in : Proc → ℕ
-number_in p = p.number
 
 -- The numbers of the rows.
 abbrev pub numbers_of : One → List ℕ
@@ -42,11 +38,6 @@ pub record OneStands (b : One) (s : State) : Type 0 where
   pub areas : s.areas ≡ []
   pub within : AreWithin s.shared (queued_trees s)
   pub reached : s.swept ≡ true → ChainReached b.halves
-
--- Each of the rows has made at most so many references.
-abbrev pub HaveMade : ℕ → List Proc → Type 0
-HaveMade most [] = Unit {0}
-HaveMade most (p ∷ ps) = (p.refs ≤ most) × HaveMade most ps
 
 -- The numbers of a space: they rise and stay below the next one, which no more than calls have raised, as they have the
 -- collections and the references of each process, and no call makes more shared binaries than a line has items; and the tables

@@ -32,7 +32,8 @@ use Rattle.numbered_rows.proofs.Rising.{number-read}
 use Rattle.two_halves.specs.Stack.{AreApart}
 use Rattle.two_halves.specs.Halves.{HalvesStand, IsLaid, ProcsStand, all_places, end_of, places_in}
 use Rattle.term_order.specs.Held.{HoldsTree}
-use Rattle.one_space.specs.One.{HaveMade, Holds, IsCounted, OneStands, Sits, number_in, numbers_of}
+use Rattle.one_space.specs.Heap.{HaveMade, number_in}
+use Rattle.one_space.specs.One.{Holds, IsCounted, OneStands, Sits, numbers_of}
 use Rattle.one_space.specs.Doing.{DoesAlways, DoesAtOnce}
 use Rattle.two_halves.specs.declared.halves.Halves.{Halves}
 use Rattle.one_space.specs.declared.one.One.{One}

@@ -23,7 +23,8 @@ use Rattle.record_move.specs.Copies.{record_words}
 use Rattle.two_halves.specs.Stack.{AreApart}
 use Rattle.two_halves.specs.Halves.{IsLaid, ProcsStand, RecordsStand, all_places, end_of, places_in, records_of}
 use Rattle.two_halves.proofs.Standing.Apart.{apart-more}
-use Rattle.one_space.specs.One.{HaveMade, Holds, IsCounted, OneStands, Sits, number_in, numbers_of, words_of}
+use Rattle.one_space.specs.Heap.{HaveMade, number_in}
+use Rattle.one_space.specs.One.{Holds, IsCounted, OneStands, Sits, numbers_of, words_of}
 use Rattle.one_space.specs.Doing.{Sweeps}
 use Rattle.one_space.specs.declared.one.One.{One}
 use Rattle.two_halves.specs.declared.table.Proc.{Proc}

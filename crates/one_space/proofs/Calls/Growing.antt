@@ -28,7 +28,8 @@ use Rattle.numbered_rows.specs.Numbers.{AreBelow, numbers}
 use Rattle.numbered_rows.proofs.Changing.{below-push, rising-push}
 use Rattle.two_halves.specs.Halves.{HalvesStand, ProcsStand, end_of, free_in, places_in}
 use Rattle.two_halves.specs.Collecting.{LooksFor, MakesRoom}
-use Rattle.one_space.specs.One.{HaveMade, Holds, IsCounted, OneStands, Sits, number_in, words_of}
+use Rattle.one_space.specs.Heap.{HaveMade, number_in}
+use Rattle.one_space.specs.One.{Holds, IsCounted, OneStands, Sits, words_of}
 use Rattle.one_space.specs.Doing.{Books, Does}
 use Rattle.two_halves.specs.declared.halves.Halves.{Halves}
 use Rattle.one_space.specs.declared.one.One.{One}

@@ -24,7 +24,8 @@ use Rattle.two_halves.specs.Collecting.{MakesRoom}
 use Rattle.two_halves.specs.declared.halves.Halves.{Halves}
 use Rattle.two_halves.specs.declared.table.Proc.{Proc}
 use Rattle.two_halves.proofs.Standing.Filled.{laid_out}
-use Rattle.one_space.specs.One.{HaveMade, Holds, IsCounted, OneStands, Sits, number_in}
+use Rattle.one_space.specs.Heap.{HaveMade, number_in}
+use Rattle.one_space.specs.One.{Holds, IsCounted, OneStands, Sits}
 use Rattle.one_space.specs.declared.one.One.{One}
 use Rattle.one_space.proofs.Calls.Acting.{numbers-row, places-row}
 use Rattle.one_space.proofs.Processes.Changing.{held-set, no_process}

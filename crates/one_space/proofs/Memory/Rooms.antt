@@ -16,7 +16,8 @@ use Rattle.numbered_rows.specs.Numbers.{AreBelow, numbers}
 use Rattle.two_halves.specs.Halves.{HalvesStand, IsLaid, free_in}
 use Rattle.two_halves.specs.Reached.{ChainReached}
 use Rattle.two_halves.specs.Collecting.{AreSameRows, Collects, MakesRoom}
-use Rattle.one_space.specs.One.{IsCounted, OneStands, Sits, number_in}
+use Rattle.one_space.specs.Heap.{number_in}
+use Rattle.one_space.specs.One.{IsCounted, OneStands, Sits}
 use Rattle.two_halves.specs.declared.halves.Halves.{Halves}
 use Rattle.one_space.specs.declared.one.One.{One}
 use Rattle.two_halves.specs.declared.table.Proc.{Proc}

@@ -9,7 +9,7 @@ use Rattle.numbered_rows.specs.Numbers.{is_among, numbers}
 use Rattle.two_halves.specs.Stack.{IsLastPlace, IsStack, values}
 use Rattle.two_halves.specs.Halves.{ProcStands, ProcsStand}
 use Rattle.term_order.specs.Held.{HoldTrees, HoldsTree}
-use Rattle.one_space.specs.One.{number_in}
+use Rattle.one_space.specs.Heap.{number_in}
 use Rattle.two_halves.specs.declared.table.Proc.{Proc}
 use Rattle.one_space.proofs.Processes.Seats.{process_numbers}
 

@@ -1,7 +1,7 @@
 -- How many references rows have made, while rows are written, taken out and added.
 use Rattle.std.proofs.Common.{◌≡◌, ℕ, zero, suc, ◌<◌, ◌≤◌, List, [], ◌∷◌, ◌++◌, length, get_or, set, ap, arith}
 use Rattle.std.specs.List.{remove}
-use Rattle.one_space.specs.One.{HaveMade}
+use Rattle.one_space.specs.Heap.{HaveMade}
 use Rattle.two_halves.specs.Collecting.{AreSameRows}
 use Rattle.two_halves.specs.declared.table.Proc.{Proc}
 

@@ -41,7 +41,8 @@ use Rattle.two_halves.specs.Queues.{CanSend, Sends, with_queue}
 use Rattle.two_halves.specs.declared.halves.Halves.{Halves}
 use Rattle.two_halves.specs.declared.table.Proc.{Proc}
 use Rattle.two_halves.proofs.Standing.Stacks.{no_row}
-use Rattle.one_space.specs.One.{HaveMade, Holds, IsCounted, OneStands, Sits, number_in, words_of}
+use Rattle.one_space.specs.Heap.{HaveMade, number_in}
+use Rattle.one_space.specs.One.{Holds, IsCounted, OneStands, Sits, words_of}
 use Rattle.one_space.specs.Doing.{AsksForMessage, AsksToSend, AsksWhere, Does, IsSentAlone}
 use Rattle.one_space.specs.Telling.{IsHeld}
 use Rattle.one_space.specs.declared.one.One.{One}

@@ -24,7 +24,8 @@ use Rattle.two_halves.specs.declared.table.Proc.{Proc}
 use Rattle.two_halves.proofs.Standing.Apart.{apart-same}
 use Rattle.two_halves.proofs.Standing.Filled.{halves-filled, laid_out}
 use Rattle.two_halves.proofs.Standing.Stacks.{no_row}
-use Rattle.one_space.specs.One.{HaveMade, Holds, IsCounted, OneStands, Sits, number_in}
+use Rattle.one_space.specs.Heap.{HaveMade, number_in}
+use Rattle.one_space.specs.One.{Holds, IsCounted, OneStands, Sits}
 use Rattle.one_space.specs.Doing.{DoesAtOnce, IsIdle}
 use Rattle.one_space.specs.declared.one.One.{One}
 use Rattle.one_space.proofs.Calls.Acting.{after, counts-same, numbers-row, places-row}

@@ -17,7 +17,8 @@ use Rattle.plain_machine.specs.May.{gets_to_space}
 use Rattle.space_api.specs.Calls.{Becomes, Follows, said}
 use Rattle.space_api.specs.declared.space.Seat.{Seat}
 use Rattle.two_halves.specs.Collecting.{MakesRoom}
-use Rattle.one_space.specs.One.{HaveMade, Holds, IsCounted, OneStands, Sits, words_of}
+use Rattle.one_space.specs.Heap.{HaveMade}
+use Rattle.one_space.specs.One.{Holds, IsCounted, OneStands, Sits, words_of}
 use Rattle.one_space.specs.Doing.{Does}
 use Rattle.two_halves.specs.declared.halves.Halves.{Halves}
 use Rattle.one_space.specs.declared.one.One.{One}

@@ -54,7 +54,8 @@ use Rattle.plain_machine.proofs.Properly.Holding.{queues, put-within}
 use Rattle.two_halves.proofs.Queued.Queuing.{row-set}
 use Rattle.one_space.proofs.Processes.Within.{within-at, within-grown}
 use Rattle.two_halves.specs.Collecting.{MakesRoom}
-use Rattle.one_space.specs.One.{Holds, IsCounted, OneStands, Sits, number_in}
+use Rattle.one_space.specs.Heap.{number_in}
+use Rattle.one_space.specs.One.{Holds, IsCounted, OneStands, Sits}
 use Rattle.one_space.specs.One.{words_of}
 use Rattle.one_space.specs.Doing.{Builds, refusal_for}
 use Rattle.two_halves.specs.declared.halves.Halves.{Halves}

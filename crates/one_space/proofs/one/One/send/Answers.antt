@@ -1,6 +1,6 @@
 use Rattle.std.proofs.Common.{◌≡◌, ◌<◌, true, false, List, length, refl, subst, arith}
 use Rattle.numbered_rows.specs.Numbers.{is_among, row_number}
-use Rattle.one_space.specs.One.{number_in}
+use Rattle.one_space.specs.Heap.{number_in}
 use Rattle.two_halves.specs.declared.table.Proc.{Proc}
 use Rattle.one_space.proofs.Verbs.Messaging.{big-asks, can-send, dead-asks, dead-does, deaf-asks, lacks-asks, seat-there, send-big, send-deaf, send-lacks, sent-asks, sent-does, size-few}
 use Rattle.one_space.proofs.one.One.send.Goals as goal

@@ -1,7 +1,7 @@
 use Rattle.std.proofs.Common.{◌≡◌, List, true, false, ◌∙◌, subst}
 use Rattle.numbered_rows.specs.Numbers.{is_among}
 use Rattle.two_halves.specs.Halves.{end_of}
-use Rattle.one_space.specs.One.{number_in}
+use Rattle.one_space.specs.Heap.{number_in}
 use Rattle.one_space.specs.declared.one.One.{One}
 use Rattle.two_halves.specs.declared.table.Proc.{Proc}
 use Rattle.one_space.proofs.Processes.Changing.{procs-among}

@@ -4,7 +4,8 @@ use Rattle.plain_machine.specs.State.{live_numbers}
 use Rattle.numbered_rows.specs.Numbers.{row_number}
 use Rattle.numbered_rows.proofs.Rising.{find-above, find-no-above, number-read, numbers-len}
 use Rattle.two_halves.specs.Halves.{end_of}
-use Rattle.one_space.specs.One.{OneStands, number_in, numbers_of}
+use Rattle.one_space.specs.Heap.{number_in}
+use Rattle.one_space.specs.One.{OneStands, numbers_of}
 use Rattle.one_space.specs.declared.one.One.{One}
 use Rattle.two_halves.specs.declared.table.Proc.{Proc}
 use Rattle.one_space.proofs.Processes.Changing.{procs-numbers}

@@ -1,0 +1,3 @@
+-- Two halves as a memory of processes.
+mod Keeping
+mod Rooming
