@@ -1,5 +1,5 @@
 mod Processes
-mod Heap
+mod OfHeap
 mod Memory
 mod Calls
 mod Verbs

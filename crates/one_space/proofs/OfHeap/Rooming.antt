@@ -16,7 +16,7 @@ use Rattle.heaps_api.specs.declared.wanted.Want.{Want}
 use Rattle.heaps_api.specs.declared.wanted.Want.TheVariants as want
 use Rattle.one_space.specs.Heap.{looked_for, number_in, one_meaning}
 use Rattle.one_space.specs.declared.heap.OneHeap.{OneHeap}
-use Rattle.one_space.proofs.Heap.Keeping.{keeps-rows, made-collected, made-still, numbers-collected}
+use Rattle.one_space.proofs.OfHeap.Keeping.{keeps-rows, made-collected, made-still, numbers-collected}
 
 -- The memory with other halves.
 abbrev pub with_halves : OneHeap → Halves → OneHeap
