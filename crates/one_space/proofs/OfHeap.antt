@@ -1,3 +1,5 @@
 -- Two halves as a memory of processes.
 mod Keeping
+mod Standing
+pub mod Acting
 mod Rooming
