@@ -110,15 +110,7 @@ impl Heaps for OneHeap {
         self.put_bin(row, r, serial, len, byte)
     }
 
-    fn gain_fun(
-        &mut self,
-        row: usize,
-        r: Reg,
-        name: u64,
-        arity: u64,
-        scratch: &mut [u64],
-        env: &[Item],
-    ) {
+    fn gain_fun(&mut self, row: usize, r: Reg, name: u64, arity: u64, scratch: &mut [u64], env: &[Item]) {
         self.put_fun(row, r, name, arity, scratch, env)
     }
 

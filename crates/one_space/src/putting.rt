@@ -89,15 +89,7 @@ impl OneHeap {
 
     /// Builds a fun of this name and arity in a register, which the process has made, with the terms of these registers as its
     /// environment.
-    pub fn put_fun(
-        &mut self,
-        row: usize,
-        r: Reg,
-        name: u64,
-        arity: u64,
-        scratch: &mut [u64],
-        env: &[Item],
-    )
+    pub fn put_fun(&mut self, row: usize, r: Reg, name: u64, arity: u64, scratch: &mut [u64], env: &[Item])
         requires ready { CanAsk one_meaning self.old }
         requires row { row < length (one_meaning.numbers self.old) }
         requires register { IsRegister r }
