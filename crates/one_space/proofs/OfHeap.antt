@@ -4,6 +4,8 @@ pub mod Keeping
 pub mod Reading
 pub mod Rooming
 pub mod Setting
+pub mod Standing
+pub mod Acting
 pub mod Making
 pub mod Repeating
 pub mod Referring
