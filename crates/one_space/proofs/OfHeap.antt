@@ -7,3 +7,5 @@ pub mod Referring
 pub mod Filling
 pub mod Setting
 pub mod Putting
+pub mod Widening
+pub mod Funning
