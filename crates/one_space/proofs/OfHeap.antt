@@ -11,6 +11,8 @@ pub mod Repeating
 pub mod Referring
 pub mod Filling
 pub mod Putting
+pub mod Widening
+pub mod Funning
 pub mod Building
 pub mod Allowing
 pub mod Counted
