@@ -5,5 +5,6 @@ pub mod Making
 pub mod Repeating
 pub mod Referring
 pub mod Filling
+pub mod Parting
 pub mod Setting
 pub mod Putting
