@@ -10,6 +10,7 @@ pub mod Making
 pub mod Repeating
 pub mod Referring
 pub mod Filling
+pub mod Parting
 pub mod Putting
 pub mod Widening
 pub mod Funning
