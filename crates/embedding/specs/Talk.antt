@@ -2,7 +2,7 @@
 use Rattle.std.specs.Prelude.{ℕ}
 use Rattle.plain_machine.specs.State.{State}
 use Rattle.space_api.specs.Calls.{Properly}
-use Rattle.one_space.specs.One.{OneStands, words_of}
+use Rattle.one_space.specs.Space.{OneStands, words_of}
 use Rattle.engine.specs.Acts.{StandsWith}
 use Rattle.embedding.specs.declared.talk.Talk.{Talk}
 

@@ -12,9 +12,9 @@ use Rattle.engine.specs.Rules.{After, Rules, Input, Output}
 use Rattle.engine.specs.Serving.{Served}
 use Rattle.engine.specs.declared.serving.Status.{Status}
 use Rattle.engine.specs.declared.serving.Status.TheVariants.{Done, Usage, ReadFault, WriteFault, Memory, TooMuch}
-use Rattle.one_space.specs.One.{OneStands}
-use Rattle.one_space.specs.Image.{image}
-use Rattle.one_space.specs.Listing.{command_text}
+use Rattle.process_verbs.specs.Listing.{command_text, image}
+use Rattle.one_space.specs.Heap.{one_meaning}
+use Rattle.one_space.specs.Space.{OneStands}
 use Rattle.command_line.specs.declared.options.Options.{Options}
 use Rattle.command_line.specs.declared.options.Refusal.{Refusal}
 use Rattle.command_line.specs.declared.options.Refusal.TheVariants as refusal
@@ -27,13 +27,13 @@ use Rattle.machine_run.specs.declared.store.Store.TheVariants.{Vacant, One}
 -- `counts` is that of the image. A vacant store stands for none.
 abbrev pub StoreStands : (words : ℕ) → Store → State → Type 0
 StoreStands words Vacant s = ⊥
-StoreStands words (One m) s = StandsWith (Properly (OneStands m.space)) m.names s × ImageStands (image m.space) s × ((image m.space).words ≡ words)
-    × (command_text m.space m.names (System Counts) ≡ image_counts m.names (image m.space))
+StoreStands words (One m) s = StandsWith (Properly (OneStands m.space)) m.names s × ImageStands (image one_meaning m.space) s × ((image one_meaning m.space).words ≡ words)
+    × (command_text one_meaning m.space m.names (System Counts) ≡ image_counts m.names (image one_meaning m.space))
 
 -- The text of the store for each map line, which is that of the machine in it; a vacant store has none.
 abbrev pub store_text : Store → Command → List ℕ
 store_text Vacant c = []
-store_text (One m) c = command_text m.space m.names c
+store_text (One m) c = command_text one_meaning m.space m.names c
 
 -- What a run leaves in the store.
 abbrev pub left_in : (words : ℕ) → Store → After

@@ -2,8 +2,9 @@
 ghost use Rattle.std.specs.Prelude.{◌≡◌, ◌≤◌, length, IfSome, true};
 ghost use Rattle.plain_machine.specs.State.{first_state};
 ghost use Rattle.store_image.specs.Image.{HoldsNothing};
-ghost use Rattle.one_space.specs.Image.{image};
-ghost use Rattle.one_space.specs.One.{AllFree};
+ghost use Rattle.process_verbs.specs.Listing.{image};
+ghost use Rattle.one_space.specs.Heap.{one_meaning};
+ghost use Rattle.one_space.specs.Space.{AllFree};
 ghost use Rattle.command_line.specs.Values.{is_arena};
 ghost use Rattle.engine.specs.Acts.{StandsWith};
 
@@ -22,10 +23,10 @@ pub fn first_machine(alloc: Global, words: u64) -> Option<Machine<OneSpace>>
     ensures words { IfSome result (λ m. ⟦<OneSpace as Space>⟧.words m.space ≡ words) }
     ensures calls { IfSome result (λ m. ⟦<OneSpace as Space>⟧.calls m.space ≡ 0) }
     ensures named { IfSome result (λ m. ⟦<OneSpace as Space>⟧.named m.space ≤ length m.names) }
-    ensures empty { IfSome result (λ m. HoldsNothing (image m.space)) }
+    ensures empty { IfSome result (λ m. HoldsNothing (image one_meaning m.space)) }
     ensures free { IfSome result (λ m. AllFree m.space) }
 {
-    if let Ok(space) = OneSpace::start(alloc, words)
+    if let Ok(space) = one_space::start(alloc, words)
         && let Ok(names) = AtomNames::new(alloc)
         && let Ok(code) = Code::new(alloc)
     {

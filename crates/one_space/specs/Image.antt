@@ -6,7 +6,6 @@ use Rattle.two_halves.specs.Stack.{values}
 use Rattle.two_halves.specs.Halves.{front_of}
 use Rattle.two_halves.specs.declared.table.Proc.{Proc}
 use Rattle.two_halves.specs.declared.halves.Halves.{Halves}
-use Rattle.one_space.specs.declared.one.One.{One}
 
 -- The words of objects in the half in use, as a region without owner.
 abbrev pub object_piece : Halves → Stretch
@@ -44,7 +43,3 @@ image_of h serials next swept = record {
   processes = map (rooted h) h.procs.items;
   areas = [];
 }
-
--- That of the space.
-abbrev pub image : One → Image
-image b = image_of b.halves b.serials b.next b.swept

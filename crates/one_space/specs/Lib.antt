@@ -1,10 +1,6 @@
-pub mod One
+pub mod Heap
+pub mod Space
 pub mod Image
 pub mod Entered
 pub mod Gathered
-pub mod Doing
-pub mod Telling
-pub mod Listing
-pub mod Queued
 pub mod Figures
-pub mod Heap

@@ -1,21 +1,13 @@
-//! A space of two halves: objects and stacks of all processes stand in one of them, and a collection moves all that lives to the other.
+//! One heap for all processes, in two halves, as the memory of a space: a collection moves all that lives to the other half.
 #![tactic(auto)]
 
-mod cutting;
 mod entering;
-mod filling;
 mod gaining;
 mod gathering;
 mod heap;
-mod listing;
-mod one;
 mod putting;
-mod queues;
 mod rows;
-mod sending;
 mod space;
-mod terms;
-mod told;
 
 pub use heap::OneHeap;
-pub use space::{LEAST_WORDS, OneSpace};
+pub use space::{LEAST_WORDS, OneSpace, start};

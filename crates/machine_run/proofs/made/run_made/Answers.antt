@@ -2,7 +2,7 @@
 use Rattle.std.proofs.Common.{◌∙◌, ℕ, subst}
 use Rattle.plain_machine.specs.State.{State, first_state}
 use Rattle.space_api.specs.Calls.{Properly}
-use Rattle.one_space.specs.One.{OneStands}
+use Rattle.one_space.specs.Space.{OneStands}
 use Rattle.engine.specs.Acts.{StandsWith}
 use Rattle.engine.specs.Rules.{Output}
 use Rattle.machine_run.specs.declared.store.Store.TheVariants.{One}

@@ -2,8 +2,9 @@
 use Rattle.std.proofs.Common.{◌∙◌}
 use Rattle.plain_machine.specs.State.{first_state}
 use Rattle.space_api.specs.Calls.{Properly}
-use Rattle.one_space.specs.One.{OneStands}
-use Rattle.one_space.specs.Listing.{command_text}
+use Rattle.one_space.specs.Space.{OneStands}
+use Rattle.process_verbs.specs.Listing.{command_text}
+use Rattle.one_space.specs.Heap.{one_meaning}
 use Rattle.engine.specs.Acts.{leaving}
 use Rattle.engine.specs.Rules.{After, Input, Output}
 use Rattle.engine.specs.Serving.{Served}
@@ -18,7 +19,7 @@ returns-in-Some g c =
     let all = c.serve-status.ensures.served first_state c.in-Some.ensures.stands in
     let before : Input = record { before = g.S.Source.left c.args.source.now; after = g.S.Source.left c.serve-status.new.source } in
     let out : Output g.row.K.Denot = record { wrote = g.K.Sink.wrote; faults = g.K.Sink.faults; before = c.args.sink.now; after = c.serve-status.new.sink } in
-    let machine : After = leaving (Properly (OneStands c.serve-status.new.m.space)) (command_text c.serve-status.new.m.space) c.serve-status.new.m.names in
+    let machine : After = leaving (Properly (OneStands c.serve-status.new.m.space)) (command_text one_meaning c.serve-status.new.m.space) c.serve-status.new.m.names in
     let told = c.images_stand.ensures.counts c.serve-status.new.m.names c.count-count.ensures.names c.serve-status.ensures.named in
     record {
       begins = not-usage _ _ _ _ _ all;

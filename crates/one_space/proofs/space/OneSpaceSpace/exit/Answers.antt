@@ -1,9 +1,0 @@
-use Rattle.script_grammar.specs.declared.command.Command.TheVariants.{Process}
-use Rattle.script_grammar.specs.declared.command.Verb.TheVariants as verb
-use Rattle.one_space.specs.One.{OneStands}
-use Rattle.one_space.proofs.Calls.Calling.{passes-so}
-use Rattle.one_space.proofs.space.OneSpaceSpace.exit.Goals as goal
-
-pub returns-clause-passes : goal.returns-clause-passes
-returns-clause-passes c = λ s terms names h has.
-    passes-so c.self.inside.one c.args.self.now c.self.view_is (Process c.args.seat.pid verb.Exit) terms names s h has tt (OneStands c.exit.new.self) (λ o. c.exit.ensures.does.passes s terms names o)
