@@ -1,6 +1,3 @@
 mod Processes
-mod OfHeap
 mod Memory
-mod Calls
-mod Verbs
-mod OfReplies
+mod OfHeap

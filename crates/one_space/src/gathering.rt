@@ -1,23 +1,11 @@
 // The words of the registers that an environment names.
 ghost use Rattle.std.specs.Prelude.{◌≡◌, ℕ, ◌≤◌, length, map, take, slice_index};
-ghost use Rattle.std.specs.Vec.{vec_len};
 ghost use Rattle.one_space.specs.Gathered.{held_word};
 
 use plain_term::Item;
 
 /// Writes the words of an environment's registers at the front of the row.
-pub fn gather(row: &mut Vec<u64>, regs: &[u64], env: &[Item])
-    requires { length env.now ≤ vec_len row.old }
-    ensures words { take (length env.now) row.new.items ≡ map (λ x. held_word regs.now x) env.now }
-    ensures len { vec_len row.new ≡ vec_len row.old }
-{
-    for i in 0..env.len() {
-        row[i] = word_of(regs, &env[i]);
-    }
-}
-
-/// The same in a row that is lent.
-pub fn gather_words(row: &mut [u64], regs: &[u64], env: &[Item])
+pub fn gather(row: &mut [u64], regs: &[u64], env: &[Item])
     requires { length env.now ≤ length row.old }
     ensures words { take (length env.now) row.new ≡ map (λ x. held_word regs.now x) env.now }
     ensures len { length row.new ≡ length row.old }

@@ -13,7 +13,7 @@ ghost use Rattle.heaps_api.specs.declared.wanted.Want.TheVariants.{Words};
 ghost use Rattle.one_space.specs.Heap.{one_meaning};
 
 use crate::entering::enter_bins;
-use crate::gathering::gather_words;
+use crate::gathering::gather;
 use crate::heap::OneHeap;
 use atom_names::AtomNames;
 use item_build::{BuildStop, Making, build};
@@ -113,7 +113,7 @@ impl OneHeap {
         ensures scratch { length scratch.new ≡ length scratch.old }
     {
         let process = *self.halves.process(row);
-        gather_words(scratch, &process.regs, env);
+        gather(scratch, &process.regs, env);
         let w = self
             .halves
             .add_fun(name, arity, process.number, &scratch[..env.len()]);

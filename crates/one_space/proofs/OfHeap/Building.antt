@@ -52,7 +52,7 @@ use Rattle.heaps_api.specs.Written.{CanBuild, GainsTerm, TermIsBuilt, refusal_of
 use Rattle.one_space.specs.Entered.{records_from}
 use Rattle.one_space.specs.Heap.{number_in, one_meaning}
 use Rattle.one_space.specs.declared.heap.OneHeap.{OneHeap}
-use Rattle.one_space.proofs.Calls.Naming.{named-more}
+use Rattle.heaps_api.proofs.Naming.{named-more}
 use Rattle.one_space.proofs.Memory.Landing.{inside-there, joined, landed-laid, landed-stands, record-there}
 use Rattle.one_space.proofs.Memory.Resting.{rest-laid, rest-reached, rest-stands}
 use Rattle.one_space.proofs.Memory.Tabled.{bins-size, entered-at, entered-len, record_at, records-size}

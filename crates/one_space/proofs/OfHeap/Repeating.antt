@@ -20,7 +20,7 @@ use Rattle.heaps_api.specs.Changing.{Gains, process_at}
 use Rattle.heaps_api.specs.declared.making.Make.TheVariants.{Same}
 use Rattle.one_space.specs.Heap.{one_meaning}
 use Rattle.one_space.specs.declared.heap.OneHeap.{OneHeap}
-use Rattle.one_space.proofs.Calls.Naming.{repeated-named}
+use Rattle.heaps_api.proofs.Naming.{repeated-named}
 use Rattle.one_space.proofs.OfHeap.Making.{laid_in, made-keeps, made-stood, made-takes, register-said, row-said, with_made, words-free}
 
 module _ (a : OneHeap) (ask : CanAsk one_meaning a) (row : ℕ) (less : row < length (one_meaning.numbers a)) (r : Reg) (shape : Shape) (n : ℕ) (s : Reg)

@@ -7,7 +7,7 @@ use Rattle.two_halves.proofs.Standing.Keeping.{procs-on}
 use Rattle.heaps_api.specs.Meaning.{Stood}
 use Rattle.one_space.specs.Heap.{one_meaning}
 use Rattle.one_space.specs.declared.heap.OneHeap.{OneHeap}
-use Rattle.one_space.proofs.Calls.Naming.{named-more}
+use Rattle.heaps_api.proofs.Naming.{named-more}
 
 module _ (named more : ℕ) (up : named ≤ more) where
   pub halves-widened : (h : Halves) (shared : List (List ℕ)) (qs : List Process) → HalvesStand named h shared qs → HalvesStand more h shared qs

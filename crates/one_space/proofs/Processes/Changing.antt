@@ -1,5 +1,5 @@
 -- Rows that stand for processes: read, written, taken out and added.
-use Rattle.std.proofs.Common.{◌≡◌, ℕ, zero, suc, ◌<◌, ◌==◌, ◌||◌, Bool, List, [], ◌∷◌, ◌++◌, length, get_or, set, replicate, refl, sym, ◌∙◌, ap, subst, arith}
+use Rattle.std.proofs.Common.{◌≡◌, ℕ, zero, suc, ◌<◌, ◌==◌, ◌||◌, Bool, List, [], ◌∷◌, ◌++◌, length, map, get_or, set, replicate, refl, sym, ◌∙◌, ap, subst, arith}
 use Rattle.std.specs.List.{list_any, remove}
 use Rattle.plain_term.specs.Tree.{Tree}
 use Rattle.plain_term.specs.Tree.Tree.{Nil}
@@ -11,7 +11,10 @@ use Rattle.two_halves.specs.Halves.{ProcStands, ProcsStand}
 use Rattle.term_order.specs.Held.{HoldTrees, HoldsTree}
 use Rattle.one_space.specs.Heap.{number_in}
 use Rattle.two_halves.specs.declared.table.Proc.{Proc}
-use Rattle.one_space.proofs.Processes.Seats.{process_numbers}
+
+-- The numbers of processes.
+abbrev pub process_numbers : List Process → List ℕ
+process_numbers qs = map (λ q. q.number) qs
 
 -- A process for places that are not there.
 abbrev pub no_process : Process

@@ -1,6 +1,6 @@
 use Rattle.std.proofs.Common.{refl}
 use Rattle.plain_machine.proofs.Properly.Living.{first-proper}
-use Rattle.one_space.proofs.Heap.Opening.{first-empty, first-free, first-holds, first-stands}
+use Rattle.one_space.proofs.OfHeap.Opening.{first-empty, first-free, first-holds, first-stands}
 use Rattle.one_space.proofs.space.start.Goals as goal
 
 pub over-requires : goal.over-requires

@@ -14,5 +14,5 @@ add_fun-w-requires-clause-table c =
 pub returns-clause-gains : goal.returns-clause-gains
 returns-clause-gains c =
     fun-gains c.args.self.now c.requires.ready c.args.name c.args.row c.requires.row c.args.r c.args.arity c.args.env.now c.requires.env c.process.result.now c.process.ensures
-    (take (length c.args.env.now) c.gather_words.new.row) c.gather_words.ensures.words c.add_fun-w.new.self c.add_fun-w.ensures.adds c.add_fun-w.ensures.uses
+    (take (length c.args.env.now) c.gather.new.row) c.gather.ensures.words c.add_fun-w.new.self c.add_fun-w.ensures.adds c.add_fun-w.ensures.uses
     c.process_mut-process.result.now c.process_mut-process.ensures.value c.add_fun-w.result c.add_fun-w.ensures.gets

@@ -24,7 +24,7 @@ use Rattle.one_space.specs.Heap.{AreWholeHalves, HaveMade, number_in, one_meanin
 use Rattle.one_space.specs.Image.{record_piece}
 use Rattle.one_space.specs.Space.{AllFree, IsFirst, words_of}
 use Rattle.one_space.specs.declared.heap.OneHeap.{OneHeap}
-use Rattle.one_space.proofs.Heap.Rows.{fresh-stands}
+use Rattle.one_space.proofs.Processes.Changing.{fresh-stands}
 
 abbrev never : ℕ → ℕ → Bool
 never a k = false
