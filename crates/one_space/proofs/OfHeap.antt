@@ -18,3 +18,4 @@ pub mod Building
 pub mod Allowing
 pub mod Counted
 pub mod Imaged
+pub mod Opening
