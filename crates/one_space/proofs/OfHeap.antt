@@ -2,4 +2,5 @@
 mod Keeping
 mod Standing
 pub mod Acting
+pub mod Growing
 mod Rooming
