@@ -19,3 +19,4 @@ pub mod Allowing
 pub mod Counted
 pub mod Imaged
 pub mod Opening
+pub mod Growing
