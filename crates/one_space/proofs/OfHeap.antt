@@ -6,5 +6,6 @@ pub mod Repeating
 pub mod Referring
 pub mod Filling
 pub mod Parting
+pub mod Pairing
 pub mod Setting
 pub mod Putting
