@@ -11,6 +11,7 @@ pub mod Repeating
 pub mod Referring
 pub mod Filling
 pub mod Parting
+pub mod Pairing
 pub mod Putting
 pub mod Widening
 pub mod Funning
