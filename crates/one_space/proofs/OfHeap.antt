@@ -13,9 +13,11 @@ pub mod Filling
 pub mod Parting
 pub mod Pairing
 pub mod Putting
+pub mod Sharing
 pub mod Widening
 pub mod Funning
 pub mod Building
+pub mod Sending
 pub mod Allowing
 pub mod Counted
 pub mod Imaged

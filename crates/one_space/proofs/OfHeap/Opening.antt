@@ -8,7 +8,7 @@ use Rattle.plain_machine.specs.State.{Process, first_state, fresh_process}
 use Rattle.space_api.specs.Calls.{AreRising}
 use Rattle.numbered_rows.specs.Numbers.{AreBelow, numbers}
 use Rattle.term_words.specs.Object.{IsRecord}
-use Rattle.term_words.specs.Counted.{total}
+use Rattle.term_words.specs.Counted.{In, total}
 use Rattle.shared_rec.proofs.Records.{record-first}
 use Rattle.record_move.specs.Copies.{record_words}
 use Rattle.store_image.specs.Image.{HoldsNothing, pieces_by_place}
@@ -64,7 +64,7 @@ module _ (words : ℕ) (h : OneHeap) (f : IsFirst words h) where
         inside = λ q i. absurd i;
         every = λ q e. absurd (false≢true e);
         records = subst B (sym f.bins) (subst F (sym f.funs) (none-listed h.halves.mem));
-        fun_names = λ v i. absurd (rw (sym f.funs) i);
+        fun_names = λ v i. absurd (let I : List ℕ → Type 0 = λ z. In v z in subst I f.funs i);
         processes = subst P (sym f.rows) (fresh-stands never [] h.halves.mem 0 h.halves.room.end (end_of h.halves) f.row 1 f.number f.registers f.flat f.waiting f.none, tt);
         apart = let A : List Proc → Type 0 = λ x. AreApart (all_places h.halves.mem x) in subst A (sym f.rows) (apart-more h.halves.mem [] f.row f.flat f.waiting tt);
       }

@@ -26,7 +26,7 @@ use Rattle.heaps_api.specs.Changing.{CanMake, Gains, process_at}
 use Rattle.heaps_api.specs.declared.making.Make.TheVariants.{Pair}
 use Rattle.one_space.specs.Heap.{one_meaning}
 use Rattle.one_space.specs.declared.heap.OneHeap.{OneHeap}
-use Rattle.one_space.proofs.Calls.Naming.{placed-named}
+use Rattle.heaps_api.proofs.Naming.{placed-named}
 use Rattle.one_space.proofs.OfHeap.Making.{laid_in, made-keeps, made-stood, made-takes, register-said, row-said, with_made, words-fit, words-free}
 
 -- A place is one key more at most.

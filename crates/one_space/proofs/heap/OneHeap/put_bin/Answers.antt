@@ -1,5 +1,6 @@
 use Rattle.std.proofs.Common.{◌+◌, ◌≤◌, ap, arith}
 use Rattle.one_space.proofs.OfHeap.Putting.{bin-fits}
+use Rattle.one_space.proofs.OfHeap.Sharing.{bin-gains}
 use Rattle.one_space.proofs.heap.OneHeap.put_bin.Goals as goal
 
 pub add_bin-w-requires-clause-laid : goal.add_bin-w-requires-clause-laid
@@ -14,3 +15,8 @@ pub add_bin-w-requires-clause-table : goal.add_bin-w-requires-clause-table
 add_bin-w-requires-clause-table c =
     let n = c.requires.next in
     bin-fits n.named c.args.self.now.halves n.shared n.processes n.stood.is c.requires.ready.lives.whole.laid (omega (arith, c.requires.room)) c.requires.ready.lives.whole.bins
+
+pub returns : goal.returns
+returns c =
+    bin-gains c.args.self.now c.requires.ready c.args.row c.requires.row c.args.r c.args.serial c.args.len c.args.byte c.add_bin-w.new.self c.add_bin-w.ensures.adds c.add_bin-w.ensures.uses
+    c.process_mut-process.result.now c.process_mut-process.ensures.value c.add_bin-w.result c.add_bin-w.ensures.gets

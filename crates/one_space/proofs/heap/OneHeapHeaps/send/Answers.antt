@@ -1,5 +1,6 @@
 use Rattle.std.proofs.Common.{◌+◌, ◌≤◌, arith}
 use Rattle.one_space.proofs.OfHeap.Putting.{row-within}
+use Rattle.one_space.proofs.OfHeap.Sending.{sends-to}
 use Rattle.one_space.proofs.heap.OneHeapHeaps.send.Goals as goal
 
 pub send-requires : goal.send-requires
@@ -20,3 +21,6 @@ send-requires c =
         fits = can.room;
       };
     }
+
+pub returns : goal.returns
+returns c = sends-to c.args.self.now c.requires.ready c.args.row c.requires.row c.args.w c.send.new.self c.send.ensures
