@@ -8,7 +8,7 @@ use Rattle.one_space.proofs.space.start.Goals as goal
 pub over-requires : goal.over-requires
 over-requires c =
     let b : Verbs OneHeap = record { heaps = c.in_ok-heaps.heaps; row = c.in-Ok.row; next = 2; serials = 0; named = 0; calls = 0; swept = false } in
-    first-holds c.args.words b.heaps c.in_ok-heaps.ensures c.requires.least c.requires.even b refl c.in-Ok.ensures.len refl refl refl refl refl
+    record { holds = first-holds c.args.words b.heaps c.in_ok-heaps.ensures c.requires.least c.requires.even b refl c.in-Ok.ensures.len refl refl refl refl refl }
 
 pub returns-clause-first : goal.returns-clause-first
 returns-clause-first c =
