@@ -8,4 +8,4 @@ mod putting;
 
 pub use bins::{HOLDER_WORDS, Making, long_bins};
 pub use building::{BuildStop, build};
-pub use needs::{Needs, term_needs, words_needed};
+pub use needs::{Needs, term_needs};

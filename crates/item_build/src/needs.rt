@@ -2,32 +2,20 @@
 ghost use Rattle.std.specs.Prelude.{◌≡◌, ℕ, ◌+◌, ◌-◌, ◌≤◌, ◌^◌, length, drop, min};
 ghost use Rattle.plain_term.specs.declared.item.Item.TheVariants.{Bin};
 ghost use Rattle.plain_term.specs.Measures.{int_flat};
-ghost use Rattle.item_build.specs.Reading.{far_words, far_words_of, heap_words_of, holder_words, item_words, item_words_of, own_words};
+ghost use Rattle.item_build.specs.Reading.{far_words, far_words_of, heap_words_of, holder_words, own_words};
 
 use plain_term::Item;
 use term_tags::MOST_HEAP_BYTES;
 
-/// The words that the parts of a written term take at most: each written pair of a map counts.
-pub fn words_needed(code: &[Item]) -> u64
-    ensures { result ≡ min (item_words_of code.now) (2 ^ 64 - 1) }
-{
-    let mut sum: u64 = 0;
-    let mut i = code.len();
-    while i > 0 {
-        i -= 1;
-        sum = words_for(code[i]).saturating_add(sum);
-    }
-    sum
-}
-
-/// The words that a written term takes at most: those of its objects, holders of binaries among them, and those of records.
+/// The words that a written term takes at most, in two sums: those of its objects, holders of binaries among them, and those of
+/// records.
 #[derive(Clone, Copy)]
 pub struct Needs {
     pub heap: u64,
     pub far: u64,
 }
 
-/// The same in two sums.
+/// The words that the parts of a written term take at most: each written pair of a map counts.
 pub fn term_needs(code: &[Item]) -> Needs
     ensures heap { result.heap ≡ min (heap_words_of code.now) (2 ^ 64 - 1) }
     ensures far { result.far ≡ min (far_words_of code.now) (2 ^ 64 - 1) }
@@ -50,12 +38,21 @@ fn needs_of(item: Item) -> Needs
     ensures far { result.far ≡ min (far_words item) (2 ^ 64 - 1) }
 {
     match item {
+        Item::Int(i) => on_the_heap(int_words(i)),
+        Item::Cons => on_the_heap(2),
+        Item::Tuple(n) => on_the_heap(n.saturating_add(1)),
+        Item::Map(n) => on_the_heap(n.saturating_mul(2).saturating_add(4)),
         Item::Bin(n) => needs_of_bin(n),
-        _ => Needs {
-            heap: words_for(item),
-            far: 0,
-        },
+        _ => on_the_heap(0),
     }
+}
+
+// Words of objects alone.
+fn on_the_heap(heap: u64) -> Needs
+    ensures heap { result.heap ≡ heap }
+    ensures far { result.far ≡ 0 }
+{
+    Needs { heap, far: 0 }
 }
 
 // Those of a binary: its words on the heap, or a holder and a record.
@@ -74,32 +71,6 @@ fn needs_of_bin(n: u64) -> Needs
             heap: 2 + words,
             far: 0,
         }
-    }
-}
-
-// The words of one part.
-fn words_for(item: Item) -> u64
-    ensures { result ≡ min (item_words item) (2 ^ 64 - 1) }
-{
-    match item {
-        Item::Int(i) => int_words(i),
-        Item::Cons => 2,
-        Item::Tuple(n) => n.saturating_add(1),
-        Item::Map(n) => n.saturating_mul(2).saturating_add(4),
-        Item::Bin(n) => bin_words(n),
-        _ => 0,
-    }
-}
-
-// The words of a binary: those of a heap binary, or of a holder and a record.
-fn bin_words(n: u64) -> u64
-    ensures { result ≡ item_words (Bin n) }
-{
-    let words = n / 8 + (n % 8 + 7) / 8;
-    if n > MOST_HEAP_BYTES {
-        10 + words
-    } else {
-        2 + words
     }
 }
 

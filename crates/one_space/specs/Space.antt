@@ -26,7 +26,7 @@ AllFree b = free_in b.heaps.halves + UNUSED ≡ words_of b / 2
 
 -- A heap of so many words in which the first process alone has a row: nil in each register, and nothing else; all tables are as large
 -- as they will ever be.
-pub record IsFirst (words : ℕ) (h : OneHeap) : Type 0 where
+pub record IsFirstHeap (words : ℕ) (h : OneHeap) : Type 0 where
   pub mem : h.halves.mem ≡ replicate words 0
   pub base : h.halves.base ≡ 0
   pub starts : h.halves.room.start ≡ UNUSED

@@ -6,7 +6,7 @@ ghost use Rattle.plain_machine.specs.State.{first_state};
 ghost use Rattle.store_image.specs.Image.{HoldsNothing};
 ghost use Rattle.process_verbs.specs.Listing.{image};
 ghost use Rattle.one_space.specs.Heap.{one_meaning};
-ghost use Rattle.one_space.specs.Space.{AllFree, IsFirst};
+ghost use Rattle.one_space.specs.Space.{AllFree, IsFirstHeap};
 
 use crate::heap::OneHeap;
 use plain_machine::{MOST_PROCESSES, RECORD_COST};
@@ -55,7 +55,7 @@ fn first_heap(alloc: Global, words: u64) -> Result<OneHeap, OpenFault>
     requires least { LEAST_WORDS ≤ words }
     requires most { words ≤ 2 ^ 24 }
     requires even { words % 2 ≡ 0 }
-    ensures { IfOk result (λ h. IsFirst words h) }
+    ensures { IfOk result (λ h. IsFirstHeap words h) }
 {
     let mem = WordMem::new(alloc, words)?;
     let Ok(mut procs) = Vec::with_capacity(alloc, MOST_PROCESSES) else {

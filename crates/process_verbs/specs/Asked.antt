@@ -52,7 +52,7 @@ pub record HasMade (shared : List (List ℕ)) (q : Process) (make : Make) : Type
   pub makes : IsMadeOf shared q make tree
 
 -- What is made was built in the register of the seat's process, or there is no space: a verb that asks for its words and does this was done.
-pub record Makes {H : Type 0} (m : Meaning H) (seat : Seat) (r : Reg) (make : Make) (old new : Verbs H) (result : Result (Unit {0}) Refusal) : Type 0 where
+pub record MakesTerm {H : Type 0} (m : Meaning H) (seat : Seat) (r : Reg) (make : Make) (old new : Verbs H) (result : Result (Unit {0}) Refusal) : Type 0 where
   pub holds : Holds m new
   pub asks : Asks m (want.Words seat.row (words_of_make make) 0) old new result
   pub late : is_early result ≡ false
@@ -70,7 +70,7 @@ pub record HoldsSome {H : Type 0} (m : Meaning H) (b : Verbs H) (w : ℕ) (s : S
   pub held : HoldsThere m b.named b.heaps s.shared s.processes o.processes w tree
 
 -- The word was put into the register of the seat's process: a verb that does this was done.
-pub record Puts {H : Type 0} (m : Meaning H) (seat : Seat) (r : Reg) (w : ℕ) (old new : Verbs H) : Type 0 where
+pub record PutsInto {H : Type 0} (m : Meaning H) (seat : Seat) (r : Reg) (w : ℕ) (old new : Verbs H) : Type 0 where
   pub holds : Holds m new
   pub idle : IsIdle m old new
   pub books : Books m old new old.named

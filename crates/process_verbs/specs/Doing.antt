@@ -116,8 +116,8 @@ AsksToSend m None s t old new result = new ≡ old
 AsksToSend m (Some pid) s t old new result = AsksWhere m (is_live pid s) (flat t) pid old new result
 
 -- A collection was made that a line asks for.
-abbrev pub Collects : {H : Type 0} → Meaning H → (old new : Verbs H) → Type 0
-Collects m old new = m.collected old.heaps new.heaps
+abbrev pub HasCollected : {H : Type 0} → Meaning H → (old new : Verbs H) → Type 0
+HasCollected m old new = m.collected old.heaps new.heaps
 
 -- What is wanted for a binary of so many equal bytes: a longer one stands in a record.
 abbrev pub want_of_fill : (row len : ℕ) → Want

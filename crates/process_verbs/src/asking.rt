@@ -6,7 +6,7 @@ ghost use Rattle.space_api.specs.Calls.{most_calls};
 ghost use Rattle.heaps_api.specs.Changing.{process_at};
 ghost use Rattle.heaps_api.specs.Wanted.{HasWantedRow, words_of_want};
 ghost use Rattle.process_verbs.specs.Verbs.{Holds, Sits, VerbsStand};
-ghost use Rattle.process_verbs.specs.Asked.{HasMade, HoldsSome, Makes, Puts, Searches};
+ghost use Rattle.process_verbs.specs.Asked.{HasMade, HoldsSome, MakesTerm, PutsInto, Searches};
 
 use crate::verbs::Verbs;
 use heaps_api::{Heaps, Make, Want, words_of, words_wanted};
@@ -36,7 +36,7 @@ impl<H: Heaps> Verbs<H> {
         requires sits { Sits H.meaning self.old seat }
         requires register { IsRegister r }
         requires can { (s : State) → VerbsStand H.meaning self.old s → HasMade s.shared (process_at s.processes seat.row) make }
-        ensures { Makes H.meaning seat r make self.old self.new result }
+        ensures { MakesTerm H.meaning seat r make self.old self.new result }
     {
         self.ask(Want::Words(seat.row, words_of(make), 0))?;
         self.heaps.gain(seat.row, r, make);
@@ -51,7 +51,7 @@ impl<H: Heaps> Verbs<H> {
         requires sits { Sits H.meaning self.old seat }
         requires register { IsRegister r }
         requires held { (s : State) (o : VerbsStand H.meaning self.old s) → HoldsSome H.meaning self.old w s o }
-        ensures { Puts H.meaning seat r w self.old self.new }
+        ensures { PutsInto H.meaning seat r w self.old self.new }
     {
         self.heaps.put(seat.row, r, w);
         self.calls += 1;

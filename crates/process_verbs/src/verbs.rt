@@ -9,7 +9,7 @@ ghost use Rattle.script_grammar.specs.Names.{IsRegister};
 ghost use Rattle.space_api.specs.Calls.{most_calls};
 ghost use Rattle.heaps_api.specs.declared.wanted.Want.TheVariants.{Process as ForProcess, Words};
 ghost use Rattle.process_verbs.specs.Verbs.{Holds, Sits};
-ghost use Rattle.process_verbs.specs.Doing.{Asks, Collects, Does, DoesAlways, DoesAtOnce, IsIdle};
+ghost use Rattle.process_verbs.specs.Doing.{Asks, HasCollected, Does, DoesAlways, DoesAtOnce, IsIdle};
 
 use heaps_api::{Heaps, Want};
 use plain_machine::{Depth, MOST_PROCESSES, PLACE_COST, Refusal, Reg};
@@ -110,25 +110,25 @@ impl<H: Heaps> Verbs<H> {
         Ok(())
     }
 
-    /// Collects a process, to this depth.
+    /// HasCollected a process, to this depth.
     pub fn collect(&mut self, seat: Seat, depth: Depth)
         requires holds { Holds H.meaning self.old }
         requires calls { self.old.calls < most_calls }
         requires sits { Sits H.meaning self.old seat }
         ensures does { DoesAlways H.meaning (Process seat.pid (verb.Gc depth)) self.old self.new }
-        ensures collects { Collects H.meaning self.old self.new }
+        ensures collects { HasCollected H.meaning self.old self.new }
     {
         self.heaps.collect(seat.row, depth);
         self.calls += 1;
         self.swept = false;
     }
 
-    /// Collects every process.
+    /// HasCollected every process.
     pub fn sweep_all(&mut self)
         requires holds { Holds H.meaning self.old }
         requires calls { self.old.calls < most_calls }
         ensures does { DoesAlways H.meaning (System sysverb.Sweep) self.old self.new }
-        ensures collects { Collects H.meaning self.old self.new }
+        ensures collects { HasCollected H.meaning self.old self.new }
     {
         self.heaps.sweep_all();
         self.calls += 1;

@@ -148,14 +148,14 @@ module _ (a : OneHeap) (lives : Lives one_meaning a) (row : ℕ) (there : row < 
           (ap (λ z. vec_capacity z.bins) moved) (ap (λ z. vec_capacity z.funs) moved) (omega (arith, ap (λ z. z.sweeps) moved))
 
       module _ (named : ℕ) (shared : List (List ℕ)) (qs : List Process) (x : Stood one_meaning named a shared qs) where
-        abbrev left_queue : HasLeftQueue named h2 shared qs row w
-        left_queue = takes.leaves named shared qs x.is
+        abbrev left-queue : HasLeftQueue named h2 shared qs row w
+        left-queue = takes.leaves named shared qs x.is
 
         abbrev q1 : Process
-        q1 = record left_queue.process { queue = left_queue.rest }
+        q1 = record left-queue.process { queue = left-queue.rest }
 
         abbrev q2 : Process
-        q2 = record (with_register r.0 left_queue.message left_queue.process) { queue = left_queue.rest }
+        q2 = record (with_register r.0 left-queue.message left-queue.process) { queue = left-queue.rest }
 
         row-within : row < length qs
         row-within = omega (arith, within, row-length x.is.test shared a.halves.mem a.halves.room.end (end_of a.halves) named a.halves.procs.items qs x.is.processes)
@@ -164,21 +164,21 @@ module _ (a : OneHeap) (lives : Lives one_meaning a) (row : ℕ) (there : row < 
         taken-stands =
             let qs1 : List Process = set qs row q1 in
             let own : process_at qs1 row ≡ q1 = get_or-set_same qs row q1 no_process row-within in
-            let same : set qs1 row (with_register r.0 left_queue.message (process_at qs1 row)) ≡ set qs row q2 =
-            ap (λ z. set qs1 row (with_register r.0 left_queue.message z)) own ∙ set-set qs row q1 q2 in
+            let same : set qs1 row (with_register r.0 left-queue.message (process_at qs1 row)) ≡ set qs row q2 =
+            ap (λ z. set qs1 row (with_register r.0 left-queue.message z)) own ∙ set-set qs row q1 q2 in
             let P : List Process → Type 0 = λ z. HalvesStand named taken_in.halves shared z in
-            subst P same (rows-left h2 takes.laid (with_item h2.procs row (with_word p2 r.0 w)) named shared qs1 (set qs1 row (with_register r.0 left_queue.message (process_at qs1 row)))
-            left_queue.stands
-            (register-set left_queue.stands.test shared h2.mem h2.room.end (end_of h2) named h2.procs.items qs1 row p2 left-within is2 left_queue.stands.processes r.0 w left_queue.message
-            left_queue.held)
-            (apart-same h2.mem h2.procs.items row (with_word p2 r.0 w) p2 left-within is2 refl left_queue.stands.apart))
+            subst P same (rows-left h2 takes.laid (with_item h2.procs row (with_word p2 r.0 w)) named shared qs1 (set qs1 row (with_register r.0 left-queue.message (process_at qs1 row)))
+            left-queue.stands
+            (register-set left-queue.stands.test shared h2.mem h2.room.end (end_of h2) named h2.procs.items qs1 row p2 left-within is2 left-queue.stands.processes r.0 w left-queue.message
+            left-queue.held)
+            (apart-same h2.mem h2.procs.items row (with_word p2 r.0 w) p2 left-within is2 refl left-queue.stands.apart))
 
         taken-first : TakesFirst one_meaning named taken_in shared (λ t ts. set qs row (record (with_register r.0 t (process_at qs row)) { queue = ts })) (process_at qs row).queue true
         taken-first =
             let P : Process → Type 0 = λ z. TakesFirst one_meaning named taken_in shared (λ t ts. set qs row (record (with_register r.0 t z) { queue = ts })) z.queue true in
             let Q : List Tree → Type 0 = λ z.
-            TakesFirst one_meaning named taken_in shared (λ t ts. set qs row (record (with_register r.0 t left_queue.process) { queue = ts })) z true in
-            subst P (sym (left_queue.is no_process)) (subst Q (sym left_queue.queue) (refl, stood-by named taken_in shared (set qs row q2) taken-stands))
+            TakesFirst one_meaning named taken_in shared (λ t ts. set qs row (record (with_register r.0 t left-queue.process) { queue = ts })) z true in
+            subst P (sym (left-queue.is no_process)) (subst Q (sym left-queue.queue) (refl, stood-by named taken_in shared (set qs row q2) taken-stands))
 
       pub takes-some : ReceivesInto one_meaning row r a taken_in true
       takes-some = record {

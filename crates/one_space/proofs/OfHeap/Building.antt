@@ -244,7 +244,8 @@ module _ (a : OneHeap) (ask : CanAsk one_meaning a) (row : ℕ) (less : row < le
         → BuildsTerm c (shared ++ bins_of code) h.room z h.mem mem2 was now (long_bins code) (Ok w) (outcome names shared trees code))
         (back : z.end + far_words_of code ≡ h.room.end) (few_words : z.top + h.room.end ≤ h.room.top + z.end + item_words_of code) where
       -- What was built of the tree of a written term.
-      module _ (named : ℕ) (shared : List (List ℕ)) (qs : List Process) (x : Stood one_meaning named a shared qs) (serials : length shared ≡ serial) (t : Term) (is_term : IsWrittenTerm names code t) where
+      module _ (named : ℕ) (shared : List (List ℕ)) (qs : List Process) (x : Stood one_meaning named a shared qs) (serials : length shared ≡ serial) (t : Term)
+          (is_term : IsWrittenTerm names code t) where
         abbrev u : Process
         u = process_at qs row
 

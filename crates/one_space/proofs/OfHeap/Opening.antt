@@ -22,7 +22,7 @@ use Rattle.two_halves.specs.declared.table.Proc.{Proc}
 use Rattle.two_halves.proofs.Standing.Apart.{apart-more}
 use Rattle.one_space.specs.Heap.{AreWholeHalves, HaveMade, number_in, one_meaning}
 use Rattle.one_space.specs.Image.{record_piece}
-use Rattle.one_space.specs.Space.{AllFree, IsFirst, words_of}
+use Rattle.one_space.specs.Space.{AllFree, IsFirstHeap, words_of}
 use Rattle.one_space.specs.declared.heap.OneHeap.{OneHeap}
 use Rattle.one_space.proofs.Processes.Changing.{fresh-stands}
 
@@ -48,7 +48,7 @@ fresh-registers : (row : ℕ) → row < 1 → length ((get_or (fresh_process 1 �
 fresh-registers zero less = length-replicate 16 Nil
 fresh-registers (suc row) less = absurd (omega (arith, less))
 
-module _ (words : ℕ) (h : OneHeap) (f : IsFirst words h) where
+module _ (words : ℕ) (h : OneHeap) (f : IsFirstHeap words h) where
   first-halves : HalvesStand 0 h.halves [] (fresh_process 1 ∷ [])
   first-halves =
       let P : List Proc → Type 0 = λ x. ProcsStand never [] h.halves.mem h.halves.room.end (end_of h.halves) 0 x (fresh_process 1 ∷ []) in

@@ -1,8 +1,9 @@
 -- A word that came into two halves with an object goes to a register: the tables of records have room for one more, and what stands
 -- then.
-use Rattle.std.proofs.Common.{◌≡◌, ℕ, zero, suc, ◌+◌, ◌*◌, ◌/◌, ◌<◌, ◌≤◌, Bool, true, List, [], ◌∷◌, length, map, get_or, set, refl, sym, ◌∙◌, ap, subst, arith, inl, inr}
+use Rattle.std.proofs.Common.{◌≡◌, ℕ, ◌*◌, ◌/◌, ◌<◌, ◌≤◌, Bool, true, List, [], ◌∷◌, length, get_or, set, refl, sym, ◌∙◌, subst, arith, inl, inr}
 use Rattle.std.specs.Vec.{vec_len, vec_capacity, with_item}
-use Rattle.std.proofs.lemmas.List.{length-set}
+use Rattle.std.proofs.lemmas.Bool.{cases_lt}
+use Rattle.std.proofs.lemmas.List.{length-set, set_past}
 use Rattle.plain_term.specs.Tree.{Tree}
 use Rattle.plain_machine.specs.State.{Process, with_register}
 use Rattle.plain_machine.specs.declared.costs.TheConstants.{RECORD_COST}
@@ -22,6 +23,7 @@ use Rattle.numbered_rows.proofs.Rising.{numbers-len}
 use Rattle.heaps_api.specs.Meaning.{Stood, no_process}
 use Rattle.one_space.specs.Heap.{one_meaning}
 use Rattle.one_space.specs.declared.heap.OneHeap.{OneHeap}
+use Rattle.one_space.proofs.OfHeap.Making.{numbers-kept, registers-kept}
 use Rattle.one_space.proofs.Processes.Turning.{register-set, with_word}
 
 -- The half with a word in a register.
@@ -74,21 +76,16 @@ word-stands named h shared qs row p less is r w t g names = record {
   apart = apart-same h.mem h.procs.items row (with_word p r w) p less is refl g.stands.apart;
 }
 
--- The numbers and the registers of processes of which one is replaced.
-pub numbers-kept : (qs : List Process) (row : ℕ) (q : Process) → q.number ≡ (get_or qs row no_process).number → map (λ (z : Process). z.number) (set qs row q) ≡ map (λ (z : Process). z.number) qs
-numbers-kept [] row q same = refl
-numbers-kept (z ∷ qs) zero q same = ap (λ n. n ∷ map (λ (z : Process). z.number) qs) same
-numbers-kept (z ∷ qs) (suc row) q same = ap (λ ns. z.number ∷ ns) (numbers-kept qs row q same)
-
-pub registers-kept : (qs : List Process) (row : ℕ) (q : Process) → (row < length qs → length q.registers ≡ 16)
+-- Processes of which one is replaced, where it is there, have sixteen registers each.
+registers-there : (qs : List Process) (row : ℕ) (q : Process) → (row < length qs → length q.registers ≡ 16)
     → ((i : ℕ) → i < length qs → length ((get_or qs i no_process).registers) ≡ 16)
     → (i : ℕ) → i < length (set qs row q) → length ((get_or (set qs row q) i no_process).registers) ≡ 16
-registers-kept [] row q same all i less = absurd (omega (arith, less))
-registers-kept (z ∷ qs) zero q same all zero less = same (omega arith)
-registers-kept (z ∷ qs) zero q same all (suc i) less = all (suc i) less
-registers-kept (z ∷ qs) (suc row) q same all zero less = all zero (omega arith)
-registers-kept (z ∷ qs) (suc row) q same all (suc i) less =
-    registers-kept qs row q (λ l. same (omega (arith, l))) (λ j l. all (suc j) (omega (arith, l))) i (omega (arith, less))
+registers-there qs row q same all i less =
+    let P : List Process → Type 0 = λ z. i < length z → length ((get_or z i no_process).registers) ≡ 16 in
+    elim (cases_lt row (length qs)) [
+      | inl there ↦ registers-kept qs row q (same there) all i less
+      | inr past ↦ subst P (sym (set_past qs row q past)) (all i) less
+    ]
 
 -- The memory stands for the processes with the tree in the register, where its halves do.
 pub stood-worded : (named : ℕ) (old : OneHeap) (shared : List (List ℕ)) (qs : List Process) → Stood one_meaning named old shared qs → (new : OneHeap) (shared2 : List (List ℕ)) (row r : ℕ) (t : Tree)
@@ -97,5 +94,5 @@ pub stood-worded : (named : ℕ) (old : OneHeap) (shared : List (List ℕ)) (qs 
 stood-worded named old shared qs x new shared2 row r t same stands = record {
   is = stands;
   rows = same ∙ (x.rows ∙ sym (numbers-kept qs row (with_register r t (get_or qs row no_process)) refl));
-  registers = registers-kept qs row (with_register r t (get_or qs row no_process)) (λ less. length-set ((get_or qs row no_process).registers) r t ∙ x.registers row less) x.registers;
+  registers = registers-there qs row (with_register r t (get_or qs row no_process)) (λ less. length-set ((get_or qs row no_process).registers) r t ∙ x.registers row less) x.registers;
 }

@@ -28,7 +28,7 @@ use Rattle.heaps_api.specs.Meaning.{HoldsThere, Meaning}
 use Rattle.heaps_api.specs.Changing.{process_at}
 use Rattle.heaps_api.specs.Reading.{AreRegisters}
 use Rattle.process_verbs.specs.Verbs.{Holds, Sits, VerbsStand}
-use Rattle.process_verbs.specs.Asked.{HoldsSome, Puts}
+use Rattle.process_verbs.specs.Asked.{HoldsSome, PutsInto}
 use Rattle.process_verbs.specs.Doing.{DoesBy, takes_part}
 use Rattle.process_verbs.specs.declared.verbs.Verbs.{Verbs}
 use Rattle.process_verbs.proofs.Steps.{at-seat}
@@ -140,7 +140,7 @@ module _ {H : Type 0} (m : Meaning H) (b : Verbs H) (holds : Holds m b) (seat : 
           let P : List ℕ → Type 0 = λ z. Stands (test_in s o) s.shared z w part.tree in
           record { tree = part.tree; held = record { standing = subst P mem_is part.standing; names = part.named b.named (reg-held s o a.0 small).names } }
 
-      pub choose-does : (c : Verbs H) → Puts m seat r w b c → DoesBy {A = Unit {0}} m names (OfProcess seat.pid v) b c (Ok tt)
+      pub choose-does : (c : Verbs H) → PutsInto m seat r w b c → DoesBy {A = Unit {0}} m names (OfProcess seat.pid v) b c (Ok tt)
       choose-does c f = record {
         holds = f.holds;
         becomes = λ s terms h has.

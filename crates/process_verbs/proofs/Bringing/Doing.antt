@@ -34,7 +34,7 @@ use Rattle.heaps_api.specs.declared.making.Make.{Make}
 use Rattle.heaps_api.specs.declared.making.Make.TheVariants as make
 use Rattle.heaps_api.specs.declared.wanted.Want.TheVariants as want
 use Rattle.process_verbs.specs.Verbs.{Holds, Sits, VerbsStand, memory_words}
-use Rattle.process_verbs.specs.Asked.{HasMade, HoldsSome, Makes, Puts}
+use Rattle.process_verbs.specs.Asked.{HasMade, HoldsSome, MakesTerm, PutsInto}
 use Rattle.process_verbs.specs.Doing.{AsksUnless, Does, DoesAlways, is_early, want_of_fill}
 use Rattle.process_verbs.specs.declared.verbs.Verbs.{Verbs}
 use Rattle.process_verbs.proofs.Processes.Seated.{number-there}
@@ -58,7 +58,7 @@ pub has-made : (s : State) (seat : Seat) (r : Reg) (make : Make) (v : Verb) (ter
 has-made s seat r make v terms names k = record { tree = k.tree; makes = k.makes }
 
 module _ {H : Type 0} (m : Meaning H) (b : Verbs H) (holds : Holds m b) (seat : Seat) (x : Sits m b seat) (r : Reg) where
-  module _ (make : Make) (c : Verbs H) (res : Result (Unit {0}) Refusal) (f : Makes m seat r make b c res) where
+  module _ (make : Make) (c : Verbs H) (res : Result (Unit {0}) Refusal) (f : MakesTerm m seat r make b c res) where
     pub made-becomes : (s : State) (v : Verb) (terms : Terms) (names : List (List ℕ)) → VerbsStand m b s → MakesBy s seat r make v terms names
         → Becomes (memory_words m b) s (said (OfProcess seat.pid v) terms names) res (VerbsStand m c)
     made-becomes s v terms names o k = f.becomes s v terms names k.tree o k.makes k.words k.by
@@ -116,7 +116,7 @@ module _ {H : Type 0} (m : Meaning H) (b : Verbs H) (holds : Holds m b) (seat : 
     pub own-some : (s : State) (o : VerbsStand m b s) → HoldsSome m b w s o
     own-some s o = record { tree = Pid (process_at s.processes seat.row).number; held = own-held s o }
 
-    pub own-does : (c : Verbs H) → Puts m seat r w b c → DoesAlways m (OfProcess seat.pid (verb.Own r)) b c
+    pub own-does : (c : Verbs H) → PutsInto m seat r w b c → DoesAlways m (OfProcess seat.pid (verb.Own r)) b c
     own-does c f = record {
       holds = f.holds;
       passes = λ s terms names o.

@@ -28,7 +28,7 @@ use Rattle.heaps_api.specs.declared.making.Make.TheVariants as make
 use Rattle.heaps_api.specs.declared.wanted.Want.{Want}
 use Rattle.heaps_api.specs.declared.wanted.Want.TheVariants as want
 use Rattle.process_verbs.specs.Verbs.{Holds, Sits, VerbsStand}
-use Rattle.process_verbs.specs.Asked.{HasMade, HoldsSome, Makes, Puts, Searches, answer_of_search, changed, roomed}
+use Rattle.process_verbs.specs.Asked.{HasMade, HoldsSome, MakesTerm, PutsInto, Searches, answer_of_search, changed, roomed}
 use Rattle.process_verbs.specs.Doing.{Asks}
 use Rattle.process_verbs.specs.declared.verbs.Verbs.{Verbs}
 use Rattle.process_verbs.proofs.Processes.Seats.{replaced}
@@ -107,7 +107,7 @@ module _ {H : Type 0} (m : Meaning H) (b : Verbs H) (holds : Holds m b) where
           seat-stands s o v terms names (with_register r.0 t (process_at s.processes seat.row)) h refl (puts.put b.named s.shared s.processes o.processes t held)
           (within-at s.shared s.processes seat.row o.within)
 
-      pub word-puts : ((s : State) (o : VerbsStand m b s) → HoldsSome m b w s o) → Puts m seat r w b (changed b h)
+      pub word-puts : ((s : State) (o : VerbsStand m b s) → HoldsSome m b w s o) → PutsInto m seat r w b (changed b h)
       word-puts some = record {
         holds = record {
           counts = counts-stay m b (changed b h) holds.counts puts.stays.rows refl refl (omega arith) refl
@@ -136,7 +136,7 @@ module _ {H : Type 0} (m : Meaning H) (b : Verbs H) (holds : Holds m b) where
         makes = (some holds.state holds.stands).makes;
       }
 
-      pub make-lacks : (h : H) (looks : Looks m wanted b.heaps h false) → Makes m seat r make b (roomed b h) (Err (NoSpace (words_of_want wanted)))
+      pub make-lacks : (h : H) (looks : Looks m wanted b.heaps h false) → MakesTerm m seat r make b (roomed b h) (Err (NoSpace (words_of_want wanted)))
       make-lacks h looks = record {
         holds = holds-roomed m b holds wanted h false looks;
         asks = asks-lacks (Unit {0}) wanted h looks (words_of_want wanted);
@@ -156,7 +156,7 @@ module _ {H : Type 0} (m : Meaning H) (b : Verbs H) (holds : Holds m b) where
             (gains.made b.named s.shared s.processes t (looks.kept b.named s.shared s.processes o.processes) makes)
             (rw (made-queue make r.0 t q) (within-at s.shared s.processes seat.row o.within))
 
-        pub make-gains : ((s : State) → VerbsStand m b s → HasMade s.shared (process_at s.processes seat.row) make) → Makes m seat r make b (changed b h2) (Ok tt)
+        pub make-gains : ((s : State) → VerbsStand m b s → HasMade s.shared (process_at s.processes seat.row) make) → MakesTerm m seat r make b (changed b h2) (Ok tt)
         make-gains some = record {
           holds = record {
             counts = counts-stay m b (changed b h2) holds.counts (gains.stays.rows ∙ looks.stays.rows) refl refl (omega arith) refl
@@ -205,15 +205,15 @@ module _ {H : Type 0} (m : Meaning H) (b : Verbs H) (holds : Holds m b) (seat : 
   pub make-can : CanMake m seat.row make c.heaps
   make-can = rw found-words.same (can-make m b holds seat x r make found-words.heaps found-words.found found-words.looks some)
 
-  pub make-refused : (e : Refusal) → res ≡ Err e → (out : Result (Unit {0}) Refusal) → IsErrAnd out (λ y. y ≡ e) → Makes m seat r make b c out
+  pub make-refused : (e : Refusal) → res ≡ Err e → (out : Result (Unit {0}) Refusal) → IsErrAnd out (λ y. y ≡ e) → MakesTerm m seat r make b c out
   make-refused e is out as_it =
       let g : Searches m (wanted m b holds seat x r make) b c res = found-words in
       let at : out ≡ Err (NoSpace (words_of_want (wanted m b holds seat x r make))) =
       same-error out e as_it ∙ ap Err (lacked (wanted m b holds seat x r make) g.found res e g.answer is).1 in
       rw (g.same, at) (make-lacks m b holds seat x r make g.heaps (searched-none m b holds (wanted m b holds seat x r make) c res g e is))
 
-  pub make-done : (u : Unit {0}) → res ≡ Ok u → (h2 : H) → Gains m seat.row r make c.heaps h2 → Makes m seat r make b (moved c h2) (Ok tt)
+  pub make-done : (u : Unit {0}) → res ≡ Ok u → (h2 : H) → Gains m seat.row r make c.heaps h2 → MakesTerm m seat r make b (moved c h2) (Ok tt)
   make-done u is h2 gains =
       let g : Searches m (wanted m b holds seat x r make) b c res = found-words in
-      let P : Verbs H → Type 0 = λ z. Gains m seat.row r make z.heaps h2 → Makes m seat r make b (moved z h2) (Ok tt) in
+      let P : Verbs H → Type 0 = λ z. Gains m seat.row r make z.heaps h2 → MakesTerm m seat r make b (moved z h2) (Ok tt) in
       subst P (sym g.same) (λ gain. make-gains m b holds seat x r make g.heaps (searched-some m b holds (wanted m b holds seat x r make) c res g u is) h2 gain some) gains

@@ -46,7 +46,7 @@ use Rattle.heaps_api.specs.declared.making.Make.TheVariants as make
 use Rattle.heaps_api.specs.declared.wanted.Want.TheVariants as want
 use Rattle.script_grammar.specs.declared.refusal.Refusal.{Refusal}
 use Rattle.process_verbs.specs.Verbs.{Holds, Sits, VerbsStand}
-use Rattle.process_verbs.specs.Asked.{HasMade, Makes}
+use Rattle.process_verbs.specs.Asked.{HasMade, MakesTerm}
 use Rattle.process_verbs.specs.Doing.{AsksUnless, DoesBy, refusal_of_put}
 use Rattle.process_verbs.specs.Telling.{IsHeld}
 use Rattle.process_verbs.specs.declared.verbs.Verbs.{Verbs}
@@ -221,14 +221,14 @@ module _ {H : Type 0} (m : Meaning H) (b : Verbs H) (holds : Holds m b) (seat : 
         put-words : (s : State) → VerbsStand m b s → 6 + 2 * key_count (register a.0 (seated_in s)) ≡ 6 + 2 * place.keys
         put-words s o = omega (arith, ap key_count (pairs-there s o).is, (pairs-there s o).fits.count)
 
-        pub put-does : (c : Verbs H) (res : Result (Unit {0}) Refusal) → Makes m seat r made b c res → DoesBy {A = Unit {0}} m names (OfProcess seat.pid put_verb) b c res
+        pub put-does : (c : Verbs H) (res : Result (Unit {0}) Refusal) → MakesTerm m seat r made b c res → DoesBy {A = Unit {0}} m names (OfProcess seat.pid put_verb) b c res
         put-does c res f = record {
           holds = f.holds;
           becomes = λ s terms h has. f.becomes s put_verb terms names (put-some s h.0).tree h.0 (put-some s h.0).makes (put-words s h.0) (steps-there s h has terms);
           books = f.books;
         }
 
-        pub put-asks : (c : Verbs H) (res : Result (Unit {0}) Refusal) → Makes m seat r made b c res → (s : State) (q : Process) → VerbsStand m b s → process_of seat.pid s ≡ Some q
+        pub put-asks : (c : Verbs H) (res : Result (Unit {0}) Refusal) → MakesTerm m seat r made b c res → (s : State) (q : Process) → VerbsStand m b s → process_of seat.pid s ≡ Some q
             → AsksUnless {A = Unit {0}} m (want.Words seat.row (6 + 2 * key_count (register a.0 q)) 0) b c res
         put-asks c res f s q o found =
             let same : seated_in s ≡ q = same_Some (seated_in s) q (sym (found-there m b s o holds.counts seat x) ∙ found) in

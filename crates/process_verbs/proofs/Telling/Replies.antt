@@ -142,7 +142,8 @@ module _ {H : Type 0} (m : Meaning H) (b : Verbs H) (s : State) (o : VerbsStand 
       let t : Tree = register i.0 first.process in
       let u : Tree = register j.0 first.process in
       let W : Process → Type 0 = λ z. c ≡ compared names s.shared t (register j.0 z) in
-      let all : c ≡ compared names s.shared t u = subst W same-process (told.each always s.shared t (register j.0 second.process) (standing m b s o pid i v first mem same) (standing m b s o pid j w second mem same)) in
+      let all : c ≡ compared names s.shared t u = subst W same-process
+      (told.each always s.shared t (register j.0 second.process) (standing m b s o pid i v first mem same) (standing m b s o pid j w second mem same)) in
       let P : Result Ordering Refusal → Type 0 = λ z. Tells (step s (said (OfProcess pid x) terms names)) tell z in
       let Q : Outcome → Type 0 = λ z. Tells z tell (order_told (compared names s.shared t u)) in
       subst P (sym (is ∙ ap order_told all)) (at-process s pid first.process first.found x terms names Q

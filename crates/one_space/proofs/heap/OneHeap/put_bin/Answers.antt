@@ -1,4 +1,4 @@
-use Rattle.std.proofs.Common.{◌+◌, ◌≤◌, ap, arith}
+use Rattle.std.proofs.Common.{arith}
 use Rattle.one_space.proofs.OfHeap.Putting.{bin-fits}
 use Rattle.one_space.proofs.OfHeap.Sharing.{bin-gains}
 use Rattle.one_space.proofs.heap.OneHeap.put_bin.Goals as goal
@@ -18,5 +18,5 @@ add_bin-w-requires-clause-table c =
 
 pub returns : goal.returns
 returns c =
-    bin-gains c.args.self.now c.requires.ready c.args.row c.requires.row c.args.r c.args.serial c.args.len c.args.byte c.add_bin-w.new.self c.add_bin-w.ensures.adds c.add_bin-w.ensures.uses
-    c.process_mut-process.result.now c.process_mut-process.ensures.value c.add_bin-w.result c.add_bin-w.ensures.gets
+    bin-gains c.args.self.now c.requires.ready c.args.row c.requires.row c.add_bin-w.new.self c.add_bin-w.ensures.adds c.process_mut-process.result.now c.process_mut-process.ensures.value
+    c.args.r c.add_bin-w.result c.args.serial c.args.len c.args.byte c.add_bin-w.ensures.gets c.add_bin-w.ensures.uses

@@ -25,7 +25,6 @@ build-requires-clause-held c =
     set-held c.args.self.now c.requires.ready c.args.row c.requires.row c.args.r c.args.names.now c.args.code.now c.requires.term c.requires.names.few c.args.serial c.requires.can
     c.requires.room c.process.result.now c.process.ensures
 
-
 pub returns-in_err-w-clause-gains : goal.returns-in_err-w-clause-gains
 returns-in_err-w-clause-gains c =
     let p = err_from_is_err_and c.from_residual.result c.from_residual.ensures.1 in

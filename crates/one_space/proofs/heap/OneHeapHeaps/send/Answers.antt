@@ -1,4 +1,3 @@
-use Rattle.std.proofs.Common.{◌+◌, ◌≤◌, arith}
 use Rattle.one_space.proofs.OfHeap.Putting.{row-within}
 use Rattle.one_space.proofs.OfHeap.Sending.{sends-to}
 use Rattle.one_space.proofs.heap.OneHeapHeaps.send.Goals as goal

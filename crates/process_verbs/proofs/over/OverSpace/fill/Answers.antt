@@ -6,5 +6,6 @@ use Rattle.process_verbs.proofs.over.OverSpace.fill.Goals as goal
 
 pub returns-clause-becomes : goal.returns-clause-becomes
 returns-clause-becomes g c = λ s terms names h has.
-    becomes-so g.H.Heaps.meaning c.self.inside.verbs c.args.self.now c.self.view_is (Process c.args.seat.pid (verb.Fill c.args.r c.args.len c.args.byte)) terms names s h has tt c.fill.result (VerbsStand g.H.Heaps.meaning c.fill.new.self)
+    becomes-so g.H.Heaps.meaning c.self.inside.verbs c.args.self.now c.self.view_is (Process c.args.seat.pid (verb.Fill c.args.r c.args.len c.args.byte)) terms names s h has tt c.fill.result
+    (VerbsStand g.H.Heaps.meaning c.fill.new.self)
     (λ o. c.fill.ensures.does.becomes s terms names o)

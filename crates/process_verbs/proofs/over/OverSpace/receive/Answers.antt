@@ -6,5 +6,6 @@ use Rattle.process_verbs.proofs.over.OverSpace.receive.Goals as goal
 
 pub returns-clause-follows : goal.returns-clause-follows
 returns-clause-follows g c = λ s terms names h has.
-    follows-so g.H.Heaps.meaning c.self.inside.verbs c.args.self.now c.self.view_is (Process c.args.seat.pid (verb.Recv c.args.r)) terms names s h has tt c.receive.result (VerbsStand g.H.Heaps.meaning c.receive.new.self)
+    follows-so g.H.Heaps.meaning c.self.inside.verbs c.args.self.now c.self.view_is (Process c.args.seat.pid (verb.Recv c.args.r)) terms names s h has tt c.receive.result
+    (VerbsStand g.H.Heaps.meaning c.receive.new.self)
     (λ o. c.receive.ensures.does.follows s terms names o)

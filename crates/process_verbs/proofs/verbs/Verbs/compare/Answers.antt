@@ -8,7 +8,8 @@ pub compare-requires : goal.compare-requires
 compare-requires g c =
     let s = c.requires.holds.state in
     let o = c.requires.holds.stands in
-    are-named g.H.Heaps.meaning c.args.self.now s o c.args.seat.pid c.args.a c.args.b c.word-first.result c.word-second.result (c.word-first.ensures s o) (c.word-second.ensures s o) c.mem.result.now c.mem.ensures
+    are-named g.H.Heaps.meaning c.args.self.now s o c.args.seat.pid c.args.a c.args.b c.word-first.result c.word-second.result (c.word-first.ensures s o) (c.word-second.ensures s o)
+    c.mem.result.now c.mem.ensures
     c.args.names.now c.requires.named
 
 pub returns-clause-equal : goal.returns-clause-equal
