@@ -14,10 +14,12 @@ compare-requires g c =
 
 pub returns-clause-equal : goal.returns-clause-equal
 returns-clause-equal g c = λ s terms o.
-    order-told g.H.Heaps.meaning c.args.self.now s o c.args.seat.pid c.args.a c.args.b c.word-first.result c.word-second.result (c.word-first.ensures s o) (c.word-second.ensures s o) c.mem.result.now c.mem.ensures
+    order-told g.H.Heaps.meaning c.args.self.now s o c.args.seat.pid c.args.a c.args.b c.word-first.result c.word-second.result (c.word-first.ensures s o) (c.word-second.ensures s o)
+    c.mem.result.now c.mem.ensures
     (verb.Eq c.args.a c.args.b) eq_text terms c.args.names.now c.compare.result c.told_order.result refl c.compare.ensures c.told_order.ensures
 
 pub returns-clause-order : goal.returns-clause-order
 returns-clause-order g c = λ s terms o.
-    order-told g.H.Heaps.meaning c.args.self.now s o c.args.seat.pid c.args.a c.args.b c.word-first.result c.word-second.result (c.word-first.ensures s o) (c.word-second.ensures s o) c.mem.result.now c.mem.ensures
+    order-told g.H.Heaps.meaning c.args.self.now s o c.args.seat.pid c.args.a c.args.b c.word-first.result c.word-second.result (c.word-first.ensures s o) (c.word-second.ensures s o)
+    c.mem.result.now c.mem.ensures
     (verb.Cmp c.args.a c.args.b) cmp_text terms c.args.names.now c.compare.result c.told_order.result refl c.compare.ensures c.told_order.ensures

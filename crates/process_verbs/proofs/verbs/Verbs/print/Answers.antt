@@ -14,7 +14,8 @@ pub returns-then-is_beyond-clause-prints : goal.returns-then-is_beyond-clause-pr
 returns-then-is_beyond-clause-prints g c = λ s terms o.
     let held = c.word-w.ensures s o in
     let stands = standing g.H.Heaps.meaning c.args.self.now s o c.args.seat.pid c.args.s c.word-w.result held c.mem-mem.result.now c.mem-mem.ensures in
-    prints-big g.H.Heaps.meaning c.args.self.now s o c.args.seat.pid c.args.s c.word-w.result held c.mem-mem.result.now c.mem-mem.ensures g.K.Sink.wrote c.args.sink.now c.args.sink.now terms c.args.names.now
+    prints-big g.H.Heaps.meaning c.args.self.now s o c.args.seat.pid c.args.s c.word-w.result held c.mem-mem.result.now c.mem-mem.ensures g.K.Sink.wrote c.args.sink.now c.args.sink.now terms
+    c.args.names.now
     (sym (c.is_beyond.ensures always s.shared (register c.args.s.0 held.process) stands) ∙ c.if-is_beyond.true)
 
 pub print-requires : goal.print-requires
@@ -30,7 +31,8 @@ pub returns-in-Ok-clause-prints : goal.returns-in-Ok-clause-prints
 returns-in-Ok-clause-prints g c = λ s terms o.
     let held = c.word-w.ensures s o in
     let stands = standing g.H.Heaps.meaning c.args.self.now s o c.args.seat.pid c.args.s c.word-w.result held c.mem-mem.result.now c.mem-mem.ensures in
-    prints-all g.H.Heaps.meaning c.args.self.now s o c.args.seat.pid c.args.s c.word-w.result held c.mem-mem.result.now c.mem-mem.ensures g.K.Sink.wrote c.args.sink.now c.print.new.sink terms c.args.names.now
+    prints-all g.H.Heaps.meaning c.args.self.now s o c.args.seat.pid c.args.s c.word-w.result held c.mem-mem.result.now c.mem-mem.ensures g.K.Sink.wrote c.args.sink.now c.print.new.sink terms
+    c.args.names.now
     (sym (c.is_beyond.ensures always s.shared (register c.args.s.0 held.process) stands) ∙ c.if-is_beyond.false)
     (c.in-Ok.ensures.puts always s.shared (register c.args.s.0 held.process) stands)
 
@@ -38,6 +40,7 @@ pub returns-in-Err-clause-prints : goal.returns-in-Err-clause-prints
 returns-in-Err-clause-prints g c = λ s terms o.
     let held = c.word-w.ensures s o in
     let stands = standing g.H.Heaps.meaning c.args.self.now s o c.args.seat.pid c.args.s c.word-w.result held c.mem-mem.result.now c.mem-mem.ensures in
-    prints-part g.H.Heaps.meaning c.args.self.now s o c.args.seat.pid c.args.s c.word-w.result held c.mem-mem.result.now c.mem-mem.ensures g.K.Sink.wrote c.args.sink.now c.print.new.sink terms c.args.names.now
+    prints-part g.H.Heaps.meaning c.args.self.now s o c.args.seat.pid c.args.s c.word-w.result held c.mem-mem.result.now c.mem-mem.ensures g.K.Sink.wrote c.args.sink.now c.print.new.sink terms
+    c.args.names.now
     (sym (c.is_beyond.ensures always s.shared (register c.args.s.0 held.process) stands) ∙ c.if-is_beyond.false)
     (c.in-Err.ensures.puts always s.shared (register c.args.s.0 held.process) stands)
