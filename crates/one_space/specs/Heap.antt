@@ -1,5 +1,5 @@
 -- What two halves mean as a memory of processes.
-use Rattle.std.specs.Prelude.{◌≡◌, ℕ, ◌+◌, ◌*◌, ◌/◌, ◌<◌, ◌≤◌, zero, suc, Bool, List, [], ◌∷◌, length, slice_index}
+use Rattle.std.specs.Prelude.{◌≡◌, ℕ, ◌+◌, ◌/◌, ◌≤◌, zero, suc, List, [], ◌∷◌, length, slice_index}
 use Rattle.std.specs.Vec.{vec_len, vec_capacity}
 use Rattle.plain_machine.specs.declared.costs.TheConstants.{RECORD_COST}
 use Rattle.plain_machine.specs.declared.limits.TheConstants.{MOST_PROCESSES}
@@ -16,7 +16,6 @@ use Rattle.heaps_api.specs.Meaning.{Meaning}
 use Rattle.heaps_api.specs.Wanted.{words_of_want}
 use Rattle.heaps_api.specs.declared.wanted.Want.{Want}
 use Rattle.heaps_api.specs.declared.wanted.Want.TheVariants as want
-use Rattle.heaps_api.specs.declared.waiting.Waiting.{Waiting}
 use Rattle.one_space.specs.Image.{image_of}
 use Rattle.one_space.specs.declared.heap.OneHeap.{OneHeap}
 use Rattle.one_space.specs.declared.heap.TheConstants.{SPAWN_WORDS}

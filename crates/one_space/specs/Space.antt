@@ -1,5 +1,5 @@
 -- The space over the heap: the states that it stands for, and how it is opened.
-use Rattle.std.specs.Prelude.{◌≡◌, ℕ, ◌+◌, ◌/◌, ◌≤◌, List, [], ◌∷◌, length, replicate}
+use Rattle.std.specs.Prelude.{◌≡◌, ℕ, ◌+◌, ◌/◌, ◌≤◌, [], ◌∷◌, replicate}
 use Rattle.std.specs.Vec.{vec_len, vec_capacity}
 use Rattle.plain_machine.specs.State.{State}
 use Rattle.plain_machine.specs.declared.costs.TheConstants.{RECORD_COST}

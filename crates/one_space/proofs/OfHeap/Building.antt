@@ -1,5 +1,5 @@
 -- A written term in a register: the memory stands with it, or as before where it is not built.
-use Rattle.std.proofs.Common.{Vec, ◌≡◌, ℕ, zero, suc, ◌+◌, ◌-◌, ◌*◌, ◌^◌, ◌/◌, ◌<◌, ◌≤◌, ◌⊎◌, Bool, true, false, List, [], ◌∷◌, ◌++◌, length, get_or, set, Option, Some, None, Result, Ok, Err, refl, sym, ◌∙◌, ap, subst, arith, inl, inr}
+use Rattle.std.proofs.Common.{Vec, ◌≡◌, ℕ, zero, suc, ◌+◌, ◌*◌, ◌/◌, ◌<◌, ◌≤◌, ◌⊎◌, Bool, true, false, List, [], ◌∷◌, ◌++◌, length, get_or, set, Some, None, Result, Ok, Err, refl, sym, ◌∙◌, ap, subst, arith, inl, inr}
 use Rattle.std.specs.Vec.{vec_len, vec_capacity, with_item}
 use Rattle.std.specs.declared.alloc.Global.{Global}
 use Rattle.std.proofs.lemmas.List.{get_or-append-add, length-append, length-map, length-set}
@@ -36,7 +36,7 @@ use Rattle.item_build.proofs.Meaning.Whole.{words-apart}
 use Rattle.item_build.proofs.Meaning.Written.{is-written, outcome_of, term-makes, term-named, term-outcome}
 use Rattle.item_build.proofs.Meaning.Growing.{longs-are}
 use Rattle.item_build.proofs.Laid.Chaining.{longs-few}
-use Rattle.two_halves.specs.Halves.{HalvesStand, IsLaid, ProcStands, ProcsStand, all_places, end_of, free_in, places_in}
+use Rattle.two_halves.specs.Halves.{HalvesStand, IsLaid, ProcStands, ProcsStand, all_places, end_of, free_in}
 use Rattle.two_halves.specs.Stack.{AreApart, values}
 use Rattle.two_halves.specs.declared.halves.Halves.{Halves}
 use Rattle.two_halves.specs.declared.table.Proc.{Proc}
@@ -45,10 +45,10 @@ use Rattle.two_halves.proofs.Standing.Apart.{apart-kept, apart-same}
 use Rattle.two_halves.proofs.Standing.Filled.{laid_out}
 use Rattle.two_halves.proofs.Standing.Keeping.{procs-on}
 use Rattle.numbered_rows.proofs.Rising.{numbers-len}
-use Rattle.heaps_api.specs.Meaning.{CanAsk, Stood, no_process}
+use Rattle.heaps_api.specs.Meaning.{CanAsk, Stood}
 use Rattle.heaps_api.specs.Reading.{waiting_trees}
 use Rattle.heaps_api.specs.Changing.{KeepsRows, process_at}
-use Rattle.heaps_api.specs.Written.{CanBuild, GainsTerm, TermIsBuilt, refusal_of_stop, want_of_items}
+use Rattle.heaps_api.specs.Written.{CanBuild, GainsTerm, TermIsBuilt, refusal_of_stop}
 use Rattle.one_space.specs.Entered.{records_from}
 use Rattle.one_space.specs.Heap.{number_in, one_meaning}
 use Rattle.one_space.specs.declared.heap.OneHeap.{OneHeap}

@@ -1,5 +1,5 @@
 -- What the calls that take words, or a box, leave: a place pushed, a row added.
-use Rattle.std.proofs.Common.{Vec, ◌≡◌, ℕ, ◌+◌, ◌-◌, ◌*◌, ◌/◌, ◌<◌, ◌≤◌, ◌⊎◌, true, List, [], ◌∷◌, ◌++◌, length, get_or, set, replicate, refl, sym, ◌∙◌, ap, subst, arith, inl, inr}
+use Rattle.std.proofs.Common.{Vec, ◌≡◌, ℕ, ◌+◌, ◌-◌, ◌/◌, ◌<◌, ◌≤◌, ◌⊎◌, true, List, [], ◌∷◌, ◌++◌, length, get_or, set, replicate, refl, sym, ◌∙◌, ap, subst, arith, inl, inr}
 use Rattle.std.specs.Vec.{vec_capacity, vec_len, with_item}
 use Rattle.std.specs.declared.alloc.Global.{Global}
 use Rattle.std.proofs.lemmas.List.{length-append, length-set}
@@ -12,12 +12,11 @@ use Rattle.numbered_rows.specs.Numbers.{numbers}
 use Rattle.numbered_rows.proofs.Rising.{numbers-len}
 use Rattle.two_halves.specs.Halves.{HalvesStand, IsLaid, ProcsStand, all_places, end_of, free_in, places_in}
 use Rattle.two_halves.specs.Stack.{AreApart}
-use Rattle.two_halves.specs.declared.halves.Halves.{Halves}
 use Rattle.two_halves.specs.declared.table.Proc.{Proc}
 use Rattle.two_halves.proofs.Standing.Apart.{apart-more}
 use Rattle.two_halves.proofs.Standing.Filled.{halves-filled, laid-filled, laid_out}
 use Rattle.heaps_api.specs.Meaning.{Lives, Stood}
-use Rattle.heaps_api.specs.Changing.{KeepsRows, Pushes, Spawns, process_at}
+use Rattle.heaps_api.specs.Changing.{Pushes, Spawns, process_at}
 use Rattle.heaps_api.specs.declared.wanted.Want.TheVariants as want
 use Rattle.one_space.specs.Heap.{HaveMade, number_in, one_meaning}
 use Rattle.one_space.specs.declared.heap.OneHeap.{OneHeap}
@@ -25,7 +24,7 @@ use Rattle.one_space.proofs.OfHeap.Keeping.{keeps-rows, places-moved, same-numbe
 use Rattle.one_space.proofs.OfHeap.Standing.{half-inside, laid-left, of_halves, row-inside, rows-left, stood-by}
 use Rattle.one_space.proofs.Processes.Changing.{fresh-stands, procs-push}
 use Rattle.one_space.proofs.Processes.Counting.{made-push}
-use Rattle.one_space.proofs.Processes.Turning.{pushed, pushed-apart, pushed-len, with_stack, words}
+use Rattle.one_space.proofs.Processes.Turning.{pushed, pushed-apart, with_stack, words}
 
 numbers-push : (rows : List Proc) (p : Proc) (n : ℕ) → p.number ≡ n → numbers number_in (rows ++ p ∷ []) ≡ numbers number_in rows ++ n ∷ []
 numbers-push [] p n e = ap (λ z. z ∷ []) e

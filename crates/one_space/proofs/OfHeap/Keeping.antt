@@ -1,6 +1,6 @@
 -- A memory keeps its rows where their numbers are the same and its tables are as large: what a replaced row leaves, and what a
 -- collection does.
-use Rattle.std.proofs.Common.{Vec, ◌≡◌, ℕ, suc, ◌+◌, ◌<◌, ◌≤◌, List, [], ◌∷◌, length, get_or, set, refl, sym, ◌∙◌, ap, arith}
+use Rattle.std.proofs.Common.{Vec, ◌≡◌, ℕ, ◌+◌, ◌<◌, ◌≤◌, List, [], ◌∷◌, length, get_or, refl, sym, ◌∙◌, ap, arith}
 use Rattle.std.specs.Vec.{vec_len, vec_capacity, with_item}
 use Rattle.std.specs.declared.alloc.Global.{Global}
 use Rattle.std.proofs.lemmas.List.{length-set}
@@ -11,7 +11,7 @@ use Rattle.numbered_rows.proofs.Rising.{number-read, numbers-len}
 use Rattle.two_halves.specs.Halves.{IsLaid, places_in}
 use Rattle.two_halves.specs.Collecting.{AreSameRows}
 use Rattle.two_halves.specs.declared.table.Proc.{Proc}
-use Rattle.heaps_api.specs.Changing.{KeepsRows, MovesOn}
+use Rattle.heaps_api.specs.Changing.{KeepsRows}
 use Rattle.one_space.specs.Heap.{HaveMade, number_in, one_meaning}
 use Rattle.one_space.specs.declared.heap.OneHeap.{OneHeap}
 use Rattle.one_space.proofs.Processes.Counting.{made-at, made-more, made-same, made-set}

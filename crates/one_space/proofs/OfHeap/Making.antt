@@ -1,18 +1,16 @@
 -- A new term in a register: what the memory stands for after it, whatever was built.
-use Rattle.std.proofs.Common.{Vec, ◌≡◌, ℕ, zero, suc, ◌+◌, ◌*◌, ◌/◌, ◌<◌, ◌≤◌, ◌⊎◌, Bool, true, List, [], ◌∷◌, length, map, get_or, set, refl, sym, ◌∙◌, ap, subst, arith, inl, inr}
+use Rattle.std.proofs.Common.{◌≡◌, ℕ, zero, suc, ◌+◌, ◌/◌, ◌<◌, ◌≤◌, ◌⊎◌, true, List, [], ◌∷◌, length, map, get_or, set, refl, sym, ◌∙◌, ap, subst, arith, inl, inr}
 use Rattle.std.specs.Vec.{vec_len, with_item}
 use Rattle.std.proofs.lemmas.List.{length-map, length-set}
 use Rattle.word_mem.specs.declared.ranges.Room.{Room}
 use Rattle.plain_term.specs.Tree.{Tree}
-use Rattle.plain_term.specs.Tree.Tree.{Nil}
 use Rattle.plain_machine.specs.State.{Process, register, with_register}
-use Rattle.term_words.specs.Stands.{Stands}
 use Rattle.term_order.specs.Named.{is_named}
-use Rattle.term_order.specs.Held.{HoldTrees, HoldsTree}
+use Rattle.term_order.specs.Held.{HoldsTree}
 use Rattle.term_build.specs.Taken.{IsFree}
 use Rattle.term_build.specs.Grows.{Built}
 use Rattle.term_build.specs.Clear.{IsRoom, Uses}
-use Rattle.two_halves.specs.Halves.{HalvesStand, IsLaid, ProcStands, ProcsStand, end_of, free_in, places_in}
+use Rattle.two_halves.specs.Halves.{HalvesStand, IsLaid, ProcStands, ProcsStand, end_of, free_in}
 use Rattle.two_halves.specs.declared.halves.Halves.{Halves}
 use Rattle.two_halves.specs.declared.table.Proc.{Proc}
 use Rattle.two_halves.proofs.Queued.Queuing.{row-set}
@@ -21,11 +19,8 @@ use Rattle.two_halves.proofs.Standing.Filled.{halves-filled, laid_out}
 use Rattle.two_halves.proofs.Standing.Keeping.{procs-on}
 use Rattle.two_halves.proofs.Standing.Stacks.{AreKept}
 use Rattle.numbered_rows.proofs.Rising.{numbers-len}
-use Rattle.heaps_api.specs.Meaning.{CanAsk, Lives, Stood, no_process}
-use Rattle.heaps_api.specs.Making.{IsMadeOf, with_made_in, words_of_make}
-use Rattle.heaps_api.specs.Changing.{Gains, KeepsRows, process_at}
-use Rattle.heaps_api.specs.declared.making.Make.{Make}
-use Rattle.script_grammar.specs.declared.command.Reg.{Reg}
+use Rattle.heaps_api.specs.Meaning.{CanAsk, Stood, no_process}
+use Rattle.heaps_api.specs.Changing.{KeepsRows, process_at}
 use Rattle.one_space.specs.Heap.{TakesAtMost, number_in, one_meaning}
 use Rattle.one_space.specs.declared.heap.OneHeap.{OneHeap}
 use Rattle.one_space.proofs.OfHeap.Keeping.{keeps-rows, places-moved, same-numbers, still-made}

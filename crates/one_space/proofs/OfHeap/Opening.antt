@@ -1,19 +1,18 @@
 -- The first heap stands for the first state, and is whole.
-use Rattle.std.proofs.Common.{◌≡◌, ℕ, zero, suc, ◌+◌, ◌<◌, ◌≤◌, ◌%◌, ◌/◌, Bool, true, false, List, [], ◌∷◌, ◌++◌, length, map, get_or, replicate, refl, sym, ◌∙◌, ap, subst, arith, inl}
+use Rattle.std.proofs.Common.{◌≡◌, ℕ, zero, suc, ◌<◌, ◌≤◌, ◌%◌, ◌/◌, Bool, false, List, [], ◌∷◌, ◌++◌, length, map, get_or, refl, sym, ◌∙◌, ap, subst, arith, inl}
 use Rattle.std.proofs.lemmas.Bool.{false≢true}
 use Rattle.std.proofs.lemmas.List.{length-replicate}
-use Rattle.std.specs.Vec.{vec_len, vec_capacity}
+use Rattle.std.specs.Vec.{vec_len}
 use Rattle.plain_term.specs.Tree.Tree.{Nil}
-use Rattle.plain_machine.specs.State.{Process, first_state, fresh_process}
-use Rattle.space_api.specs.Calls.{AreRising}
-use Rattle.numbered_rows.specs.Numbers.{AreBelow, numbers}
+use Rattle.plain_machine.specs.State.{first_state, fresh_process}
+use Rattle.numbered_rows.specs.Numbers.{numbers}
 use Rattle.term_words.specs.Object.{IsRecord}
 use Rattle.term_words.specs.Counted.{In, total}
 use Rattle.shared_rec.proofs.Records.{record-first}
 use Rattle.record_move.specs.Copies.{record_words}
 use Rattle.store_image.specs.Image.{HoldsNothing, pieces_by_place}
 use Rattle.heaps_api.specs.Meaning.{Stood, no_process}
-use Rattle.process_verbs.specs.Verbs.{Holds, IsCounted, VerbsStand}
+use Rattle.process_verbs.specs.Verbs.{Holds, VerbsStand}
 use Rattle.process_verbs.specs.Listing.{image}
 use Rattle.process_verbs.specs.declared.verbs.Verbs.{Verbs}
 use Rattle.two_halves.specs.Stack.{AreApart}
@@ -22,7 +21,7 @@ use Rattle.two_halves.specs.declared.table.Proc.{Proc}
 use Rattle.two_halves.proofs.Standing.Apart.{apart-more}
 use Rattle.one_space.specs.Heap.{AreWholeHalves, HaveMade, number_in, one_meaning}
 use Rattle.one_space.specs.Image.{record_piece}
-use Rattle.one_space.specs.Space.{AllFree, IsFirstHeap, words_of}
+use Rattle.one_space.specs.Space.{AllFree, IsFirstHeap}
 use Rattle.one_space.specs.declared.heap.OneHeap.{OneHeap}
 use Rattle.one_space.proofs.Processes.Changing.{fresh-stands}
 

@@ -1,12 +1,10 @@
 -- Room for what is wanted, and collections.
-use Rattle.std.proofs.Common.{◌≡◌, ℕ, ◌+◌, ◌*◌, ◌-◌, ◌^◌, ◌<◌, ◌≤◌, ◌⊎◌, Bool, true, false, nat_le, List, [], length, refl, sym, ◌∙◌, ap, subst, arith, inl, inr}
+use Rattle.std.proofs.Common.{◌≡◌, ℕ, ◌-◌, ◌^◌, ◌<◌, ◌≤◌, ◌⊎◌, Bool, false, List, length, refl, sym, ◌∙◌, ap, arith, inl, inr}
 use Rattle.std.proofs.Math.Decide.{dec_le}
 use Rattle.std.proofs.lemmas.Bool.{leb-false, leb-true}
 use Rattle.std.proofs.lemmas.List.{length-map}
 use Rattle.plain_machine.specs.State.{Process, State}
-use Rattle.plain_machine.specs.Tightness.{demand}
-use Rattle.numbered_rows.proofs.Rising.{numbers-len}
-use Rattle.two_halves.specs.Halves.{HalvesStand, IsLaid, free_in}
+use Rattle.two_halves.specs.Halves.{IsLaid, free_in}
 use Rattle.two_halves.specs.Reached.{ChainReached}
 use Rattle.two_halves.specs.Collecting.{CanCollect, Collects, LooksFor, MakesRoom}
 use Rattle.two_halves.specs.declared.halves.Halves.{Halves}
@@ -15,7 +13,7 @@ use Rattle.heaps_api.specs.Changing.{CollectsRows, KeepsRows, Looks}
 use Rattle.heaps_api.specs.Wanted.{HasWantedRow, words_of_want}
 use Rattle.heaps_api.specs.declared.wanted.Want.{Want}
 use Rattle.heaps_api.specs.declared.wanted.Want.TheVariants as want
-use Rattle.one_space.specs.Heap.{looked_for, number_in, one_meaning}
+use Rattle.one_space.specs.Heap.{looked_for, one_meaning}
 use Rattle.one_space.specs.declared.heap.OneHeap.{OneHeap}
 use Rattle.one_space.proofs.OfHeap.Keeping.{keeps-rows, made-collected, made-still, numbers-collected}
 

@@ -1,6 +1,5 @@
 -- A word in a register: the memory stands with it.
 use Rattle.std.proofs.Common.{◌≡◌, ℕ, ◌<◌, List, length, get_or, set, refl, sym, ◌∙◌, ap, arith}
-use Rattle.std.specs.Vec.{with_item}
 use Rattle.std.proofs.lemmas.List.{length-map, length-set}
 use Rattle.plain_term.specs.Tree.{Tree}
 use Rattle.plain_machine.specs.State.{Process, with_register}
@@ -10,7 +9,7 @@ use Rattle.two_halves.specs.Queues.{with_row}
 use Rattle.two_halves.specs.declared.table.Proc.{Proc}
 use Rattle.two_halves.proofs.Standing.Apart.{apart-same}
 use Rattle.numbered_rows.proofs.Rising.{numbers-len}
-use Rattle.heaps_api.specs.Meaning.{CanAsk, HoldsThere, Stood, no_process}
+use Rattle.heaps_api.specs.Meaning.{CanAsk, HoldsThere, Stood}
 use Rattle.heaps_api.specs.Changing.{KeepsRows, PutsWord, process_at}
 use Rattle.one_space.specs.Heap.{number_in, one_meaning}
 use Rattle.one_space.specs.declared.heap.OneHeap.{OneHeap}

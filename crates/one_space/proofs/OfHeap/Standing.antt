@@ -1,5 +1,5 @@
 -- Halves that stand for processes are a memory that stands for them; and what is said of halves with other rows alone.
-use Rattle.std.proofs.Common.{Vec, ◌≡◌, ℕ, zero, suc, ◌+◌, ◌/◌, ◌<◌, ◌≤◌, Bool, List, [], ◌∷◌, length, get_or, refl, sym, ◌∙◌, ap, arith, inl, inr}
+use Rattle.std.proofs.Common.{Vec, ◌≡◌, ℕ, zero, suc, ◌<◌, ◌≤◌, Bool, List, [], ◌∷◌, length, get_or, refl, sym, ◌∙◌, ap, arith, inl, inr}
 use Rattle.std.specs.declared.alloc.Global.{Global}
 use Rattle.plain_term.specs.Tree.{Tree}
 use Rattle.plain_machine.specs.State.{Process}
@@ -10,7 +10,7 @@ use Rattle.two_halves.specs.Halves.{HalvesStand, IsLaid, ProcsStand, all_places,
 use Rattle.two_halves.specs.declared.halves.Halves.{Halves}
 use Rattle.two_halves.specs.declared.table.Proc.{Proc}
 use Rattle.two_halves.proofs.Standing.Filled.{halves-filled, laid_out}
-use Rattle.heaps_api.specs.Meaning.{Lives, Stood, no_process}
+use Rattle.heaps_api.specs.Meaning.{Stood, no_process}
 use Rattle.heaps_api.specs.Changing.{KeepsRows}
 use Rattle.one_space.specs.Heap.{number_in, one_meaning}
 use Rattle.one_space.specs.declared.heap.OneHeap.{OneHeap}

@@ -2,7 +2,7 @@ use Rattle.std.proofs.Common.{false, refl}
 use Rattle.plain_machine.proofs.Properly.Living.{first-proper}
 use Rattle.process_verbs.specs.declared.verbs.Verbs.{Verbs}
 use Rattle.one_space.specs.declared.heap.OneHeap.{OneHeap}
-use Rattle.one_space.proofs.OfHeap.Opening.{first-empty, first-free, first-holds, first-stands}
+use Rattle.one_space.proofs.OfHeap.Opening.{first-holds, first-stands}
 use Rattle.one_space.proofs.space.start.Goals as goal
 
 pub over-requires : goal.over-requires

@@ -1,4 +1,4 @@
-use Rattle.std.proofs.Common.{◌≡◌, ◌+◌, Option, length, ap, arith}
+use Rattle.std.proofs.Common.{Option, length, ap, arith}
 use Rattle.std.specs.Option.{option_to_list}
 use Rattle.two_halves.specs.declared.table.Proc.{Proc}
 use Rattle.one_space.proofs.OfHeap.Growing.{adds, box-there}

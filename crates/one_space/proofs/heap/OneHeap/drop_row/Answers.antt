@@ -1,4 +1,4 @@
-use Rattle.std.proofs.Common.{◌≡◌, ◌+◌, arith}
+use Rattle.std.proofs.Common.{arith}
 use Rattle.one_space.proofs.OfHeap.Acting.{drops}
 use Rattle.one_space.proofs.heap.OneHeap.drop_row.Goals as goal
 

@@ -1,4 +1,4 @@
-use Rattle.std.proofs.Common.{◌-◌, ◌+◌, ◌<◌, arith, refl}
+use Rattle.std.proofs.Common.{◌-◌, arith, refl}
 use Rattle.one_space.proofs.OfHeap.Acting.{pops-inside, pops-none, pops-some}
 use Rattle.one_space.proofs.heap.OneHeap.pop_place.Goals as goal
 

@@ -1,4 +1,4 @@
-use Rattle.std.proofs.Common.{◌-◌, ◌+◌, set, ◌∙◌, ap, arith}
+use Rattle.std.proofs.Common.{◌-◌, ◌+◌, set, ◌∙◌, ap}
 use Rattle.one_space.proofs.OfHeap.Growing.{pushes}
 use Rattle.one_space.proofs.heap.OneHeap.push_place.Goals as goal
 
