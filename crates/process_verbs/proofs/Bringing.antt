@@ -3,7 +3,6 @@ pub mod Gaining
 pub mod Doing
 pub mod Cutting
 pub mod Filling
-pub mod Naming
 pub mod Pairing
 pub mod Choosing
 pub mod Funning

@@ -124,9 +124,6 @@ module _ {H : Type 0} (m : Meaning H) where
       tidy = λ e. looks.tidy (o.tidy e);
     }
 
-    pub sits-roomed : (seat : Seat) → Sits m b seat → Sits m (roomed b h) seat
-    sits-roomed seat x = record { within = omega (arith, x.within, ap length looks.stays.rows); number = ap (λ ns. get_or ns seat.row 0) looks.stays.rows ∙ x.number }
-
     pub holds-roomed : Holds m (roomed b h)
     holds-roomed = record { counts = counts-roomed; state = holds.state; stands = stands-roomed holds.state holds.stands }
 

@@ -142,9 +142,6 @@ module _ (a : OneHeap) (ask : CanAsk one_meaning a) (row : ℕ) (less : row < le
   pub set-fits : h.room.top + item_words_of code ≤ h.room.end
   set-fits = omega (arith, room, words-apart code, laid.order)
 
-  pub set-above : 0 < h.room.top
-  set-above = omega (arith, laid.front)
-
   half-within : end_of h ≤ length h.mem
   half-within = elim laid.side [ inl e ↦ omega (arith, e) | inr e ↦ omega (arith, e, laid.even) ]
 

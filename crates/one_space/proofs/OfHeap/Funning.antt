@@ -28,6 +28,7 @@ use Rattle.one_space.specs.declared.heap.OneHeap.{OneHeap}
 use Rattle.one_space.proofs.OfHeap.Keeping.{keeps-rows, places-moved, same-numbers, still-made}
 use Rattle.one_space.proofs.OfHeap.Making.{laid_in, register-said, row-less, row-said}
 use Rattle.one_space.proofs.OfHeap.Putting.{stood-worded, word-stands}
+use Rattle.one_space.proofs.OfHeap.Sharing.{added-within, worded-keeps, worded_in}
 use Rattle.one_space.proofs.OfHeap.Widening.{halves-widened, stood-widened}
 use Rattle.one_space.proofs.Processes.Turning.{with_word}
 
@@ -77,25 +78,7 @@ module _ (a : OneHeap) (ask : CanAsk one_meaning a) (name : ℕ) where
       (gets : (named : ℕ) (shared : List (List ℕ)) (qs : List Process) (y : HalvesStand named a.halves shared qs) (ts : Trees) → name < named → AllStand y.test shared a.halves.mem ws ts
       → Gets named h4 shared qs w (Fun name arity p1.number ts)) where
     abbrev pub fun_in : OneHeap
-    fun_in = laid_in a (with_row h4 row (with_word p2 r.0 w))
-
-    under : row < length h4.procs.items
-    under = omega (arith, row-less a ask row less, ap (λ (v : Vec Proc Global). length v.items) adds.procs)
-
-    fun-laid : IsLaid fun_in.halves
-    fun-laid =
-        let old = adds.laid in
-        let same = places-moved h4.procs row (with_word p2 r.0 w) p2 under is2 in
-        record { even = old.even; side = old.side; starts = old.starts; front = old.front; order = old.order; fits = omega (arith, old.fits, same) }
-
-    fun-numbers : one_meaning.numbers fun_in ≡ one_meaning.numbers a
-    fun-numbers = same-numbers h4.procs row (with_word p2 r.0 w) p2 under is2 refl ∙ ap (λ (v : Vec Proc Global). numbers_by number_in v.items) adds.procs
-
-    fun-keeps : KeepsRows one_meaning a fun_in
-    fun-keeps =
-        keeps-rows a fun_in fun-laid adds.same_len refl (ap (λ (v : Vec Proc Global). vec_capacity v) adds.procs) fun-numbers
-        (λ count more m. still-made h4.procs row (with_word p2 r.0 w) p2 under is2 (omega arith) count more
-        (let P : Vec Proc Global → Type 0 = λ v. HaveMade count v.items in subst P (sym adds.procs) m)) adds.bins adds.funs (omega (arith, adds.sweeps))
+    fun_in = worded_in a ask row less h4 adds p2 is2 r.0 w
 
     module _ (named more : ℕ) (shared : List (List ℕ)) (qs : List Process) (rs : List ℕ) (x : Stood one_meaning named a shared qs) (up : named ≤ more) (above : name < more)
         (items : env ≡ map item.Held rs) where
@@ -129,12 +112,12 @@ module _ (a : OneHeap) (ask : CanAsk one_meaning a) (name : ℕ) where
           let t : Tree = Fun name arity p1.number ts in
           let P : ℕ → Type 0 = λ z. Stood one_meaning more fun_in shared (set qs row (with_register r.0 (Fun name arity z ts) q)) in
           subst P (sym (row-said a ask row less more shared qs wide p1 is1).number)
-          (stood-worded more a shared qs wide fun_in shared row r.0 t fun-numbers
-          (word-stands more h4 shared qs row p2 under is2 r.0 w t (gets more shared qs wide.is ts above all) told))
+          (stood-worded more a shared qs wide fun_in shared row r.0 t (worded-keeps a ask row less h4 adds p2 is2 r.0 w).rows
+          (word-stands more h4 shared qs row p2 (added-within a ask row less h4 adds p2 is2 r.0 w) is2 r.0 w t (gets more shared qs wide.is ts above all) told))
 
     pub fun-gains : GainsFun one_meaning row r name arity env a fun_in
     fun-gains = record {
-      stays = fun-keeps;
+      stays = worded-keeps a ask row less h4 adds p2 is2 r.0 w;
       took = record { sweeps = adds.sweeps; few = omega (arith, uses, ap length words_are ∙ length-map env (λ z. held_word p1.regs z)) };
       made = λ named more shared qs rs x up above items. fun-stood named more shared qs rs x up above items;
     }

@@ -51,12 +51,6 @@ module _ (v : Vec Proc Global) (row : ℕ) (p2 old : Proc) (less : row < length 
   still-made few count more made up =
       made-set count more (omega (arith, up)) v.items row p2 made (omega (arith, few, ap (λ z. z.refs) is, made-at count v.items row old less made, up))
 
-  pub same-capacity : vec_capacity (with_item v row p2) ≡ vec_capacity v
-  same-capacity = refl
-
-  pub same-length : length (with_item v row p2).items ≡ length v.items
-  same-length = length-set v.items row p2
-
   pub places-moved : places_in (with_item v row p2).items + (old.depth + old.waiting) ≡ places_in v.items + (p2.depth + p2.waiting)
   places-moved = omega (arith, sum_by-set (λ r. r.depth + r.waiting) v.items row p2 old less, ap (λ r. r.depth + r.waiting) is)
 

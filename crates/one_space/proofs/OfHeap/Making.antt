@@ -66,14 +66,6 @@ module _ (a : OneHeap) (ask : CanAsk one_meaning a) (row : ℕ) (less : row < le
   pub row-within : row < vec_len a.halves.procs
   row-within = omega (arith, row-less, a.halves.procs.ok.0)
 
-  -- The free words are a room of the memory.
-  pub is-room : IsRoom a.halves.room a.halves.mem
-  is-room = record {
-    start_first = omega (arith, laid.starts, laid.front);
-    top_next = laid.order;
-    inside = elim laid.side [ inl low ↦ omega (arith, low, laid.fits) | inr high ↦ omega (arith, high, laid.fits) ];
-  }
-
   -- What a row says of its process.
   module _ (named : ℕ) (shared : List (List ℕ)) (qs : List Process) (x : Stood one_meaning named a shared qs) (p : Proc) (is : p ≡ get_or a.halves.procs.items row p) where
     pub row-said : ProcStands x.is.test shared a.halves.mem a.halves.room.end (end_of a.halves) named p (process_at qs row)

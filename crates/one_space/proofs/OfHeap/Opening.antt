@@ -141,12 +141,3 @@ module _ (words : ℕ) (h : OneHeap) (f : IsFirstHeap words h) where
         stands = first-stands;
       }
 
-      pub first-free : AllFree b
-      first-free = rw is (omega (arith, f.top, f.end, least, half-is))
-
-      pub first-empty : HoldsNothing (image one_meaning b)
-      first-empty = rw is (record {
-        regions = rw (f.base, f.top) refl;
-        bins = ap (λ vs. pieces_by_place (map (record_piece h.halves.mem) vs)) f.bins;
-        funs = ap (λ vs. pieces_by_place (map (record_piece h.halves.mem) vs)) f.funs;
-      })

@@ -32,7 +32,7 @@ use Rattle.process_verbs.specs.Asked.{HoldsSome, PutsInto}
 use Rattle.process_verbs.specs.Doing.{DoesBy, takes_part}
 use Rattle.process_verbs.specs.declared.verbs.Verbs.{Verbs}
 use Rattle.process_verbs.proofs.Steps.{at-seat}
-use Rattle.process_verbs.proofs.Bringing.Naming.{named-more}
+use Rattle.heaps_api.proofs.Naming.{named-more}
 use Rattle.process_verbs.proofs.Bringing.Pairing.{proper-at}
 
 -- One of words that hold trees.

@@ -36,7 +36,8 @@ use Rattle.process_verbs.specs.declared.verbs.Verbs.{Verbs}
 use Rattle.process_verbs.proofs.Processes.Seats.{replaced}
 use Rattle.process_verbs.proofs.Processes.Seated.{number-there, set-there, settled-stands}
 use Rattle.process_verbs.proofs.Steps.{at-seat, lacks, whole-roomed}
-use Rattle.process_verbs.proofs.Bringing.Gaining.{lacked, same-error, searched-none, searched-some, within-at}
+use Rattle.process_verbs.proofs.Processes.Within.{within-at}
+use Rattle.process_verbs.proofs.Bringing.Gaining.{lacked, same-error, searched-none, searched-some}
 use Rattle.process_verbs.proofs.Bringing.Doing.{fill-fits}
 
 record-words : (len : ℕ) → 64 < len → fill_words len ≡ 10 + bin_words len

@@ -34,7 +34,8 @@ use Rattle.process_verbs.specs.declared.verbs.Verbs.{Verbs}
 use Rattle.process_verbs.proofs.Processes.Seats.{replaced}
 use Rattle.process_verbs.proofs.Processes.Seated.{number-there, set-there, settled-stands}
 use Rattle.process_verbs.proofs.Steps.{at-seat, grow-there, lacks-space, whole-roomed}
-use Rattle.process_verbs.proofs.Bringing.Gaining.{lacked, same-error, searched-none, searched-some, within-at}
+use Rattle.process_verbs.proofs.Processes.Within.{within-at}
+use Rattle.process_verbs.proofs.Bringing.Gaining.{lacked, same-error, searched-none, searched-some}
 
 terms-len : (rs : List ℕ) → terms_len (held_terms rs) ≡ length rs
 terms-len [] = refl

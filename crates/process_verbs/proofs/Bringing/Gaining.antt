@@ -33,6 +33,7 @@ use Rattle.process_verbs.specs.Doing.{Asks}
 use Rattle.process_verbs.specs.declared.verbs.Verbs.{Verbs}
 use Rattle.process_verbs.proofs.Processes.Seats.{replaced}
 use Rattle.process_verbs.proofs.Processes.Seated.{number-there, set-there, settled-stands}
+use Rattle.process_verbs.proofs.Processes.Within.{within-at}
 use Rattle.process_verbs.proofs.Steps.{at-seat, counts-stay, grow-there, holds-roomed, lacks-space, ready-roomed, whole-roomed}
 
 -- What the answer of a search tells.
@@ -52,12 +53,6 @@ given w false r u answer is = absurd (no (NoSpace (words_of_want w)) (sym is ∙
   where
     no : (e : Refusal) → ◌≡◌ {A = Result (Unit {0}) Refusal} (Ok u) (Err e) → ⊥
     no e x = cc
-
--- The messages of one process are within the walk limit where all are.
-pub within-at : (shared : List (List ℕ)) (qs : List Process) (i : ℕ) → AreWithin shared (waiting_trees qs) → AreWithin shared (process_at qs i).queue
-within-at shared [] i k = tt
-within-at shared (q ∷ qs) zero k = (split-within shared q.queue (waiting_trees qs) k).0
-within-at shared (q ∷ qs) (suc i) k = within-at shared qs i (split-within shared q.queue (waiting_trees qs) k).1
 
 -- What is made changes neither the number nor the queue.
 pub made-number : (make : Make) (r : ℕ) (t : Tree) (q : Process) → (with_made_in r make t q).number ≡ q.number

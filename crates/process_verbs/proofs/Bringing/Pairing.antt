@@ -54,7 +54,7 @@ use Rattle.process_verbs.proofs.Processes.Seated.{found-there}
 use Rattle.process_verbs.proofs.Steps.{at-seat}
 use Rattle.process_verbs.proofs.Bringing.Cutting.{held-at, stands-at}
 use Rattle.process_verbs.proofs.Bringing.Doing.{made-unless}
-use Rattle.process_verbs.proofs.Bringing.Naming.{named-more}
+use Rattle.heaps_api.proofs.Naming.{named-more}
 
 is-many : (n : ℕ) → MOST_KEYS < n → nat_lt MOST_KEYS n ≡ true
 is-many n many = grind (arith, nat_tests)

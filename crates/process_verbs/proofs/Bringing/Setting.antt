@@ -41,7 +41,8 @@ use Rattle.process_verbs.specs.declared.verbs.Verbs.{Verbs}
 use Rattle.process_verbs.proofs.Processes.Seats.{replaced}
 use Rattle.process_verbs.proofs.Processes.Seated.{number-there, set-there, settled-stands}
 use Rattle.process_verbs.proofs.Steps.{at-seat, grow-there, holds-roomed, lacks-space, whole-roomed}
-use Rattle.process_verbs.proofs.Bringing.Gaining.{asks-gained, asks-lacks, lacked, same-error, searched-none, searched-some, within-at}
+use Rattle.process_verbs.proofs.Processes.Within.{within-at}
+use Rattle.process_verbs.proofs.Bringing.Gaining.{asks-gained, asks-lacks, lacked, same-error, searched-none, searched-some}
 
 -- The words that were reckoned are those of the items.
 module _ (names : List (List ℕ)) (code : List Item) (t : HasTerm names code) (few : length names ≤ 16384) where

@@ -81,12 +81,6 @@ module _ {K : Type 0} (wrote : K → List ℕ → Type 0) (faults : K → ℕ) (
   }
 
   module _ (now : K) (i : ℕ) (words : List ℕ) (c : Comes wrote faults names mem all start now i words) where
-    pub come-all : {E : Type 0} → words ≡ [] → (shared : List (List ℕ)) (ts : List Tree) → AreMessages shared mem (length names) all ts
-        → WritesTold {E = E} wrote faults start now (messages_text names shared ts) (Ok tt)
-    come-all none shared ts a =
-        let k = c shared ts a in
-        entries-done wrote faults start now (map (text names shared) ts) i (omega (arith, ap length none, k.count, length-map ts (text names shared))) k.grew k.told
-
     -- The message with this word comes next.
     module _ (w : ℕ) (rest : List ℕ) (is : words ≡ w ∷ rest) where
       parts : (shared : List (List ℕ)) (ts : List Tree) → Came wrote faults names shared mem ts start now i words
