@@ -27,8 +27,8 @@ use Rattle.machine_run.specs.declared.store.Store.TheVariants.{Vacant, One}
 -- `counts` is that of the image. A vacant store stands for none.
 abbrev pub StoreStands : (words : ℕ) → Store → State → Type 0
 StoreStands words Vacant s = ⊥
-StoreStands words (One m) s = StandsWith (Properly (OneStands m.space)) m.names s × ImageStands (image one_meaning m.space) s ×
-((image one_meaning m.space).words ≡ words)
+StoreStands words (One m) s = StandsWith (Properly (OneStands m.space)) m.names s × ImageStands (image one_meaning m.space) s
+    × ((image one_meaning m.space).words ≡ words)
     × (command_text one_meaning m.space m.names (System Counts) ≡ image_counts m.names (image one_meaning m.space))
 
 -- The text of the store for each map line, which is that of the machine in it; a vacant store has none.
