@@ -28,6 +28,7 @@ pub struct OneHeap {
 }
 
 /// The same words, and that an array has sixteen of them.
+#[inline]
 fn sixteen(words: &[u64; 16]) -> &[u64; 16]
     ensures same { result.now ≡ words.now }
     ensures count { length result.now ≡ 16 }
@@ -38,18 +39,22 @@ fn sixteen(words: &[u64; 16]) -> &[u64; 16]
 impl Heaps for OneHeap {
     ghost meaning = { one_meaning };
 
+    #[inline]
     fn mem(&self) -> &WordMem {
         &self.halves.mem
     }
 
+    #[inline]
     fn count(&self) -> usize {
         self.halves.procs.len()
     }
 
+    #[inline]
     fn number(&self, row: usize) -> u64 {
         self.halves.process(row).number
     }
 
+    #[inline]
     fn find(&self, number: u64) -> Option<usize> {
         find(&self.halves.procs, number)
     }
@@ -58,10 +63,12 @@ impl Heaps for OneHeap {
         first_above(&self.halves.procs, number)
     }
 
+    #[inline]
     fn regs(&self, row: usize) -> &[u64; 16] {
         sixteen(&self.halves.process(row).regs)
     }
 
+    #[inline]
     fn waiting(&self, row: usize) -> Waiting {
         let process = self.halves.process(row);
         Waiting {
@@ -84,14 +91,17 @@ impl Heaps for OneHeap {
         }
     }
 
+    #[inline]
     fn make_room(&mut self, want: Want) -> bool {
         self.look_for(want)
     }
 
+    #[inline]
     fn put(&mut self, row: usize, r: Reg, w: u64) {
         self.set_reg(row, r, w)
     }
 
+    #[inline]
     fn gain(&mut self, row: usize, r: Reg, make: Make) {
         match make {
             Make::Same(shape, n, s) => self.gain_same(row, r, shape, n, s),
@@ -102,6 +112,7 @@ impl Heaps for OneHeap {
         }
     }
 
+    #[inline]
     fn gain_term(
         &mut self,
         names: &AtomNames,
@@ -114,10 +125,12 @@ impl Heaps for OneHeap {
         self.put_term(names, row, r, scratch, serial, code)
     }
 
+    #[inline]
     fn gain_bin(&mut self, row: usize, r: Reg, serial: u64, len: u64, byte: u8) {
         self.put_bin(row, r, serial, len, byte)
     }
 
+    #[inline]
     fn gain_fun(
         &mut self,
         row: usize,
@@ -130,18 +143,22 @@ impl Heaps for OneHeap {
         self.put_fun(row, r, name, arity, scratch, env)
     }
 
+    #[inline]
     fn push(&mut self, row: usize, r: Reg) {
         self.push_place(row, r)
     }
 
+    #[inline]
     fn pop(&mut self, row: usize, r: Reg) -> bool {
         self.pop_place(row, r)
     }
 
+    #[inline]
     fn receive(&mut self, row: usize, r: Reg) -> bool {
         self.take_message(row, r)
     }
 
+    #[inline]
     fn send(&mut self, row: usize, w: u64) {
         self.halves.send(row, w)
     }

@@ -17,6 +17,7 @@ use two_halves::{PLACE_WORDS, Proc, fresh};
 
 impl OneHeap {
     /// Looks for the words that are wanted, where need be after a collection; whether there are so many.
+    #[inline]
     pub fn look_for(&mut self, want: Want) -> bool
         requires ready { CanAsk one_meaning self.old }
         requires row { HasWantedRow want (one_meaning.numbers self.old) }
@@ -27,6 +28,7 @@ impl OneHeap {
     }
 
     /// Puts the word of a term into a register.
+    #[inline]
     pub fn set_reg(&mut self, row: usize, r: Reg, w: u64)
         requires ready { CanAsk one_meaning self.old }
         requires row { row < length (one_meaning.numbers self.old) }
@@ -119,6 +121,7 @@ impl OneHeap {
 }
 
 // The free words that are looked for.
+#[inline]
 fn words_looked_for(want: Want) -> u64
     requires { looked_for want < 2 ^ 64 }
     ensures { result ≡ looked_for want }

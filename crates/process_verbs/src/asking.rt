@@ -15,6 +15,7 @@ use space_api::Seat;
 
 impl<H: Heaps> Verbs<H> {
     /// Looks for what is wanted, once.
+    #[inline]
     pub fn ask(&mut self, want: Want) -> Result<(), Refusal>
         requires holds { Holds H.meaning self.old }
         requires calls { self.old.calls < most_calls }
@@ -30,6 +31,7 @@ impl<H: Heaps> Verbs<H> {
     }
 
     /// Builds a term in a register, where there is room for it.
+    #[inline]
     pub fn make(&mut self, seat: Seat, r: Reg, make: Make) -> Result<(), Refusal>
         requires holds { Holds H.meaning self.old }
         requires calls { self.old.calls < most_calls }
@@ -45,6 +47,7 @@ impl<H: Heaps> Verbs<H> {
     }
 
     /// Puts the word of a term into a register.
+    #[inline]
     pub fn put(&mut self, seat: Seat, r: Reg, w: u64)
         requires holds { Holds H.meaning self.old }
         requires calls { self.old.calls < most_calls }

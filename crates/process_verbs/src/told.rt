@@ -27,6 +27,7 @@ use term_walk::{Measured, is_beyond, measure};
 
 impl<H: Heaps> Verbs<H> {
     /// The word of a register.
+    #[inline]
     pub fn word(&self, seat: Seat, r: Reg) -> u64
         requires holds { Holds H.meaning self.now }
         requires sits { Sits H.meaning self.now seat }

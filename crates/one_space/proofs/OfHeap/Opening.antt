@@ -140,4 +140,3 @@ module _ (words : ℕ) (h : OneHeap) (f : IsFirstHeap words h) where
         state = first_state;
         stands = first-stands;
       }
-
