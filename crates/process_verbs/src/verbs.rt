@@ -110,7 +110,7 @@ impl<H: Heaps> Verbs<H> {
         Ok(())
     }
 
-    /// HasCollected a process, to this depth.
+    /// Collects a process, to this depth.
     pub fn collect(&mut self, seat: Seat, depth: Depth)
         requires holds { Holds H.meaning self.old }
         requires calls { self.old.calls < most_calls }
@@ -123,7 +123,7 @@ impl<H: Heaps> Verbs<H> {
         self.swept = false;
     }
 
-    /// HasCollected every process.
+    /// Collects every process.
     pub fn sweep_all(&mut self)
         requires holds { Holds H.meaning self.old }
         requires calls { self.old.calls < most_calls }
