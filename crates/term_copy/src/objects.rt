@@ -9,6 +9,7 @@ ghost use Rattle.term_copy.specs.Going.{Advances, CanPart, CanTake, Goes, HasIma
 
 use object_rows::is_link_word;
 use off_heap_list::chain;
+use term_tags::{arity_of, is_list, place_of};
 use word_mem::{Room, WordMem};
 
 /// Copies an object of the tree to the first free words of the room, and answers the pointer to its copy.
@@ -31,7 +32,7 @@ fn copy_object(mem: &mut WordMem, room: &mut Room, w: u64) -> u64
     ensures took { Took mem.old mem.new w room.old.top result }
     ensures room { room.new ≡ record room.old { top = room.old.top + object_words mem.old w } }
 {
-    if w % 4 == 1 {
+    if is_list(w) {
         copy_cons(mem, room, w)
     } else {
         copy_boxed(mem, room, w)
@@ -46,7 +47,7 @@ fn copy_cons(mem: &mut WordMem, room: &mut Room, w: u64) -> u64
     ensures room { room.new ≡ record room.old { top = room.old.top + object_words mem.old w } }
 {
     mem.bounded();
-    let at = w / 4;
+    let at = place_of(w);
     let to = room.top;
     let head = mem.get(at);
     let tail = mem.get(at + 1);
@@ -63,10 +64,10 @@ fn copy_boxed(mem: &mut WordMem, room: &mut Room, w: u64) -> u64
     ensures room { room.new ≡ record room.old { top = room.old.top + object_words mem.old w } }
 {
     mem.bounded();
-    let at = w / 4;
+    let at = place_of(w);
     let to = room.top;
     let header = mem.get(at);
-    let words = 1 + header / 64;
+    let words = 1 + arity_of(header);
     mem.copy_apart(at, to, words);
     if is_link_word(header) {
         chain(mem, 0, to);

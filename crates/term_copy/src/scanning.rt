@@ -9,7 +9,7 @@ ghost use Rattle.term_copy.specs.Going.{Advances, CanScanObject, CanWord, CanWor
 
 use crate::objects::copy_part;
 use cheney::Stay;
-use term_tags::{is_pointer, traced_from};
+use term_tags::{arity_of, is_header, is_pointer, place_of, traced_from};
 use word_mem::{Room, WordMem};
 
 /// Goes through the traced words of the object at a place, and answers the place after it.
@@ -23,12 +23,12 @@ pub fn scan_object(mem: &mut WordMem, room: &mut Room, stay: &Stay, at: u64) -> 
 {
     mem.bounded();
     let word = mem.get(at);
-    if word % 4 != 0 {
+    if !is_header(word) {
         let end = at + 2;
         scan_words(mem, room, stay, at, end);
         return end;
     }
-    let end = at + (1 + word / 64);
+    let end = at + (1 + arity_of(word));
     scan_words(mem, room, stay, at + traced_from(word), end);
     end
 }
@@ -73,5 +73,5 @@ pub fn goes(stay: &Stay, w: u64) -> bool
     if !is_pointer(w) {
         return false;
     }
-    !stay.has(w / 4)
+    !stay.has(place_of(w))
 }

@@ -6,7 +6,7 @@ ghost use Rattle.term_read.specs.Data.{HasFirst};
 ghost use Rattle.term_read.specs.Look.{Sees, LiesInMemory};
 
 use crate::object::object_at;
-use term_tags::{HEAP_BIN, HOLDER, Kind, Object, kind_of, object_of};
+use term_tags::{HEAP_BIN, HOLDER, Kind, Object, arity_of, kind_of, object_of, place_of};
 use word_mem::WordMem;
 
 /// `len` words side by side from place `first` on, each of a part.
@@ -109,7 +109,7 @@ fn object_look(mem: &WordMem, w: u64, place: u64) -> Look
     match object {
         Object::Tuple => Look::Tuple(Row {
             first: place + 1,
-            len: header / 64,
+            len: arity_of(header),
         }),
         Object::PosBig => big_look(mem, w, place, false),
         Object::NegBig => big_look(mem, w, place, true),
@@ -127,7 +127,7 @@ fn object_look(mem: &WordMem, w: u64, place: u64) -> Look
         }),
         Object::SubBin => part_look(mem, w, place),
         Object::Map => Look::Map(PairRows {
-            keys: mem.get(place + 2) / 4 + 1,
+            keys: place_of(mem.get(place + 2)) + 1,
             values: place + 3,
             len: mem.get(place + 1),
         }),
@@ -143,7 +143,7 @@ fn big_look(mem: &WordMem, w: u64, place: u64, negative: bool) -> Look
 {
     mem.bounded();
     let low = mem.get(place + 1);
-    if mem.get(place) / 64 == 2 {
+    if arity_of(mem.get(place)) == 2 {
         let high = mem.get(place + 2);
         Look::Big(Digits {
             negative,

@@ -4,7 +4,7 @@ ghost use Rattle.term_words.specs.Stands.{IsTerm};
 ghost use Rattle.term_read.specs.Parts.{FindsPart, TellsOf, key_of, map_value_of, map_len_in};
 
 use crate::object::object_at;
-use term_tags::MAP;
+use term_tags::{MAP, place_of};
 use word_mem::WordMem;
 
 /// The number of pairs, or `None` where the tree is no map.
@@ -27,7 +27,7 @@ pub fn map_key(mem: &WordMem, w: u64, i: u64) -> Option<u64>
     let place = object_at(mem, w, MAP)?;
     if i < mem.get(place + 1) {
         let keys = mem.get(place + 2);
-        Some(mem.get(keys / 4 + 1 + i))
+        Some(mem.get(place_of(keys) + 1 + i))
     } else {
         None
     }

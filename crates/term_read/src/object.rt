@@ -2,7 +2,7 @@
 ghost use Rattle.std.specs.Prelude.{◌≡◌, ◌+◌, ◌*◌, ◌/◌, ◌%◌, ◌<◌, ◌≤◌, length, slice_index, IfSome, IfNone};
 ghost use Rattle.term_words.specs.Stands.{IsTerm};
 
-use term_tags::{Kind, kind_of};
+use term_tags::{Kind, kind_of, subtag_of};
 use word_mem::WordMem;
 
 // The place of the cons of a list pointer.
@@ -28,7 +28,7 @@ pub fn object_at(mem: &WordMem, w: u64, subtag: u8) -> Option<u64>
 {
     mem.bounded();
     if let Kind::BoxedAt(place) = kind_of(w) {
-        if mem.get(place) / 4 % 16 == subtag as u64 {
+        if subtag_of(mem.get(place)) == subtag {
             return Some(place);
         }
     }

@@ -5,7 +5,7 @@ ghost use Rattle.term_words.specs.Stands.{IsTerm};
 ghost use Rattle.term_read.specs.Parts.{FindsPart};
 
 use crate::object::object_at;
-use term_tags::TUPLE;
+use term_tags::{TUPLE, arity_of};
 use word_mem::WordMem;
 
 /// The word of part `i`, from 1, or `None` where the tree is no tuple or has no such part.
@@ -16,7 +16,8 @@ pub fn element(mem: &WordMem, w: u64, i: u64) -> Option<u64>
 {
     mem.bounded();
     let place = object_at(mem, w, TUPLE)?;
-    let parts = mem.get(place) / 64;
+    let header = mem.get(place);
+    let parts = arity_of(header);
     if 1 <= i && i <= parts {
         Some(mem.get(place + i))
     } else {

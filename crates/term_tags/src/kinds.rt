@@ -111,3 +111,63 @@ pub fn is_pointer(w: u64) -> bool
     let tag = w % 4;
     tag == 1 || tag == 2
 }
+
+/// Whether a word is a pointer to a cons.
+#[inline]
+pub fn is_list(w: u64) -> bool
+    ensures yes { result ≡ true → w % 4 ≡ 1 }
+    ensures no { result ≡ false → w % 4 ≢ 1 }
+{
+    w % 4 == 1
+}
+
+/// Whether a word is a pointer to an object with a header.
+#[inline]
+pub fn is_boxed(w: u64) -> bool
+    ensures yes { result ≡ true → w % 4 ≡ 2 }
+    ensures no { result ≡ false → w % 4 ≢ 2 }
+{
+    w % 4 == 2
+}
+
+/// Whether a word may be a header: what it tells apart are the first words of objects, a header or the head of a cons.
+#[inline]
+pub fn is_header(w: u64) -> bool
+    ensures yes { result ≡ true → w % 4 ≡ 0 }
+    ensures no { result ≡ false → w % 4 ≢ 0 }
+{
+    w % 4 == 0
+}
+
+/// Whether a word is neither a pointer nor a header.
+#[inline]
+pub fn is_immediate(w: u64) -> bool
+    ensures yes { result ≡ true → w % 4 ≡ 3 }
+    ensures no { result ≡ false → w % 4 ≢ 3 }
+{
+    w % 4 == 3
+}
+
+/// The place that a pointer leads to.
+#[inline]
+pub fn place_of(pointer: u64) -> u64
+    ensures { result ≡ pointer / 4 }
+{
+    pointer / 4
+}
+
+/// The words that stand behind a header in its object.
+#[inline]
+pub fn arity_of(header: u64) -> u64
+    ensures { result ≡ header / 64 }
+{
+    header / 64
+}
+
+/// The subtag of a header.
+#[inline]
+pub fn subtag_of(header: u64) -> u8
+    ensures { result ≡ header / 4 % 16 }
+{
+    (header / 4 % 16) as u8
+}

@@ -7,7 +7,10 @@ mod layouts;
 mod makers;
 mod records;
 
-pub use kinds::{ATOMS, Kind, PIDS, PLACES, is_pointer, kind_of};
+pub use kinds::{
+    ATOMS, Kind, PIDS, PLACES, arity_of, is_boxed, is_header, is_immediate, is_list, is_pointer, kind_of,
+    place_of, subtag_of,
+};
 pub use laws::table_of_layouts;
 pub use layouts::{
     FUN, HEAP_BIN, HOLDER, Layout, MAP, MOST_ENV, MOST_HEAP_BYTES, MOST_KEYS, MOST_PARTS, NEG_BIG,

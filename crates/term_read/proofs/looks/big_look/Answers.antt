@@ -13,17 +13,17 @@ get-low-requires c =
     )
 
 pub get-high-requires : goal.get-high-requires
-get-high-requires c = omega (arith, object-within c.args.mem.now c.args.w c.args.place c.requires.term c.requires.pointer.0 c.requires.pointer.1, c.get.ensures, c.if-get-eq2.true)
+get-high-requires c = omega (arith, object-within c.args.mem.now c.args.w c.args.place c.requires.term c.requires.pointer.0 c.requires.pointer.1, c.get.ensures, c.arity_of.ensures, c.if-arity_of-eq2.true)
 
-pub returns-then-get-eq2 : goal.returns-then-get-eq2
-returns-then-get-eq2 c =
+pub returns-then-arity_of-eq2 : goal.returns-then-arity_of-eq2
+returns-then-arity_of-eq2 c =
     rw (c.get-low.ensures, c.get-high.ensures) (sees-two-digits c.args.mem.now c.args.w c.args.place c.args.negative c.requires.pointer.0 c.requires.pointer.1 c.requires.subtag
-    (ap (λ x. x / 64) (sym c.get.ensures) ∙ c.if-get-eq2.true))
+    (ap (λ x. x / 64) (sym c.get.ensures) ∙ (sym c.arity_of.ensures ∙ c.if-arity_of-eq2.true)))
 
-pub returns-else-get-eq2 : goal.returns-else-get-eq2
-returns-else-get-eq2 c =
+pub returns-else-arity_of-eq2 : goal.returns-else-arity_of-eq2
+returns-else-arity_of-eq2 c =
     rw c.get-low.ensures (sees-one-digit c.args.mem.now c.args.w c.args.place c.args.negative c.requires.pointer.0 c.requires.pointer.1 c.requires.subtag
-    (λ e. c.if-get-eq2.false (ap (λ x. x / 64) c.get.ensures ∙ e)))
+    (λ e. c.if-arity_of-eq2.false (c.arity_of.ensures ∙ (ap (λ x. x / 64) c.get.ensures ∙ e))))
 
 pub overflow_add-place : goal.overflow_add-place
 overflow_add-place c = grind (arith, common_steps)
@@ -31,5 +31,5 @@ overflow_add-place c = grind (arith, common_steps)
 pub get-requires : goal.get-requires
 get-requires c = grind (arith, common_steps)
 
-pub overflow_add-place-then-get-eq2 : goal.overflow_add-place-then-get-eq2
-overflow_add-place-then-get-eq2 c = grind (arith, common_steps)
+pub overflow_add-place-then-arity_of-eq2 : goal.overflow_add-place-then-arity_of-eq2
+overflow_add-place-then-arity_of-eq2 c = grind (arith, common_steps)

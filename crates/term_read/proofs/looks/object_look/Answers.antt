@@ -84,7 +84,7 @@ pub returns-in-Tuple : goal.returns-in-Tuple
 returns-in-Tuple c =
     let sub : get_or c.args.mem.now c.args.place 0 / 4 % 16 ≡ 0 =
     subtag-at c.args.mem.now c.args.place c.get-header.result c.in-Some.object object.Tuple c.get-header.ensures c.in-Some.ensures.subtag c.in-Tuple.is in
-    rw c.get-header.ensures (sees-tuple c.args.mem.now c.args.w c.args.place c.requires.pointer.0 c.requires.pointer.1 sub)
+    rw (c.arity_of.ensures, c.get-header.ensures) (sees-tuple c.args.mem.now c.args.w c.args.place c.requires.pointer.0 c.requires.pointer.1 sub)
 
 pub returns-in-Ref : goal.returns-in-Ref
 returns-in-Ref c =
@@ -108,4 +108,4 @@ pub returns-in-Map : goal.returns-in-Map
 returns-in-Map c =
     let sub : get_or c.args.mem.now c.args.place 0 / 4 % 16 ≡ 15 =
     subtag-at c.args.mem.now c.args.place c.get-header.result c.in-Some.object object.Map c.get-header.ensures c.in-Some.ensures.subtag c.in-Map.is in
-    rw (c.get-in-Map.ensures, c.get-in-Map-2.ensures) (sees-map c.args.mem.now c.args.w c.args.place c.requires.pointer.0 c.requires.pointer.1 sub)
+    rw (c.place_of.ensures, c.get-in-Map.ensures, c.get-in-Map-2.ensures) (sees-map c.args.mem.now c.args.w c.args.place c.requires.pointer.0 c.requires.pointer.1 sub)

@@ -17,12 +17,12 @@ pub get-requires-then-i-get : goal.get-requires-then-i-get
 get-requires-then-i-get c =
     let (tag, place, sub, inside) = c.in_ok-place.ensures.some in
     let (words, keys) = map-inside c.args.mem.now c.args.w c.in_ok-place.place c.requires tag place sub in
-    omega (arith, keys, c.get-keys.ensures, c.get.ensures, c.if-i-get.true)
+    omega (arith, keys, c.place_of.ensures, c.get-keys.ensures, c.get.ensures, c.if-i-get.true)
 
 pub returns-then-i-get-clause-reads : goal.returns-then-i-get-clause-reads
 returns-then-i-get-clause-reads c =
     let (tag, place, sub, inside) = c.in_ok-place.ensures.some in
-    rw c.get-then-i-get.ensures (rw c.get-keys.ensures (reads-key c.args.mem.now c.args.w c.in_ok-place.place c.args.i tag place sub (omega (arith, c.get.ensures, c.if-i-get.true))))
+    rw c.get-then-i-get.ensures (rw c.place_of.ensures (rw c.get-keys.ensures (reads-key c.args.mem.now c.args.w c.in_ok-place.place c.args.i tag place sub (omega (arith, c.get.ensures, c.if-i-get.true)))))
 
 pub returns-else-i-get-clause-reads : goal.returns-else-i-get-clause-reads
 returns-else-i-get-clause-reads c =
@@ -35,11 +35,11 @@ get-keys-requires c =
     let (words, keys) = map-inside c.args.mem.now c.args.w c.in_ok-place.place c.requires tag place sub in
     omega (arith, inside, words)
 
-pub overflow_add-keys-then-i-get : goal.overflow_add-keys-then-i-get
-overflow_add-keys-then-i-get c =
+pub overflow_add-place_of-then-i-get : goal.overflow_add-place_of-then-i-get
+overflow_add-place_of-then-i-get c =
     let (tag, place, sub, inside) = c.in_ok-place.ensures.some in
     let (words, keys) = map-inside c.args.mem.now c.args.w c.in_ok-place.place c.requires tag place sub in
-    omega (arith, keys, c.get-keys.ensures, c.get.ensures, c.if-i-get.true, c.bounded.ensures)
+    omega (arith, keys, c.place_of.ensures, c.get-keys.ensures, c.get.ensures, c.if-i-get.true, c.bounded.ensures)
 
 pub object_at-requires : goal.object_at-requires
 object_at-requires c = grind (arith, common_steps)
@@ -53,8 +53,8 @@ overflow_add-place c = grind (arith, common_steps)
 pub overflow_add-place-then-i-get : goal.overflow_add-place-then-i-get
 overflow_add-place-then-i-get c = grind (arith, common_steps)
 
-pub overflow_add-keys : goal.overflow_add-keys
-overflow_add-keys c = grind (arith, common_steps)
+pub overflow_add-place_of : goal.overflow_add-place_of
+overflow_add-place_of c = grind (arith, common_steps)
 
 pub returns-then-i-get-clause-word : goal.returns-then-i-get-clause-word
 returns-then-i-get-clause-word c = grind (arith, common_steps)

@@ -9,12 +9,12 @@ returns-in_err-place-clause-reads c = rw c.from_residual.ensures (no-element c.a
 pub returns-then-i-parts-clause-reads : goal.returns-then-i-parts-clause-reads
 returns-then-i-parts-clause-reads c =
     let (tag, place, sub, inside) = c.in_ok-place.ensures.some in
-    rw c.get.ensures (reads-element c.args.mem.now c.args.w c.in_ok-place.place c.args.i tag place sub c.if-i-ge1.true (omega (arith, c.get-parts.ensures, c.if-i-parts.true)))
+    rw c.get.ensures (reads-element c.args.mem.now c.args.w c.in_ok-place.place c.args.i tag place sub c.if-i-ge1.true (omega (arith, c.arity_of-parts.ensures, c.get-header.ensures, c.if-i-parts.true)))
 
 pub returns-else-i-ge1-clause-reads : goal.returns-else-i-ge1-clause-reads
 returns-else-i-ge1-clause-reads c =
     let (tag, place, sub, inside) = c.in_ok-place.ensures.some in
-    past-element c.args.mem.now c.args.w c.in_ok-place.place c.args.i place (λ low. omega (arith, c.get-parts.ensures, c.else-i-ge1.either))
+    past-element c.args.mem.now c.args.w c.in_ok-place.place c.args.i place (λ low. omega (arith, c.arity_of-parts.ensures, c.get-header.ensures, c.else-i-ge1.either))
 
 pub object_at-requires : goal.object_at-requires
 object_at-requires c = grind (arith, common_steps)
@@ -22,8 +22,8 @@ object_at-requires c = grind (arith, common_steps)
 pub returns-in_err-place-clause-word : goal.returns-in_err-place-clause-word
 returns-in_err-place-clause-word c = grind (arith, common_steps)
 
-pub get-parts-requires : goal.get-parts-requires
-get-parts-requires c = grind (arith, common_steps)
+pub get-header-requires : goal.get-header-requires
+get-header-requires c = grind (arith, common_steps)
 
 pub overflow_add-place : goal.overflow_add-place
 overflow_add-place c = grind (arith, common_steps)
