@@ -9,7 +9,7 @@ ghost use Rattle.off_heap_list.specs.Swept.{is_moved, new_place, bin_words_at, c
 use crate::chains::freed_by;
 use crate::links::{next_of, record_of, set_next};
 use shared_rec::drop_one;
-use term_tags::{HOLDER, head_of};
+use term_tags::{HOLDER, head_of, is_boxed, place_of};
 use word_mem::WordMem;
 
 /// What became of an object of a chain: the next object, its new place where it was moved, the record that it named where it
@@ -39,8 +39,8 @@ pub fn sweep_one(mem: &mut WordMem, at: u64) -> Swept
 {
     let next = next_of(mem, at);
     let first = mem.get(at);
-    if first % 4 == 2 {
-        let place = first / 4;
+    if is_boxed(first) {
+        let place = place_of(first);
         let words = held_in(mem, place);
         return Swept {
             next,
@@ -102,9 +102,10 @@ pub fn sweep_next(mem: &mut WordMem, sweep: &mut Sweep) -> Swept
     let word = mem.get(at);
     let swept = sweep_one(mem, at);
     sweep.rest = swept.next;
-    if word % 4 == 2 {
-        set_next(mem, word / 4, sweep.first);
-        sweep.first = word / 4;
+    if is_boxed(word) {
+        let place = place_of(word);
+        set_next(mem, place, sweep.first);
+        sweep.first = place;
         return swept;
     }
     if swept.freed.is_some() {
