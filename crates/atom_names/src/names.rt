@@ -95,6 +95,14 @@ impl AtomNames {
         Some(k as u64)
     }
 
+    /// Does nothing. After it a proof knows what is true of all names: none stands twice, none is empty or too long, and they are few.
+    #[inline]
+    pub fn sound(&self)
+        ensures { AreNames self.now }
+    {
+        let _count = self.count;
+    }
+
     /// How many names there are.
     pub fn count(&self) -> u64
         ensures value { result ≡ length self.now }

@@ -63,7 +63,7 @@ pub(crate) fn run_made<K: Sink>(
     let numbers = do_made(&mut machine, number);
     machine.space.images_stand();
     // The text of `counts` goes by names, none of which stands twice.
-    let _count = machine.names.count();
+    machine.names.sound();
     *store = Store::One(machine);
     put_summary(&numbers, sink)
 }

@@ -43,7 +43,7 @@ pub(crate) fn run_read<S: Source, K: Sink>(
         let status = serve(&mut machine, &mut reader, source, sink);
         machine.space.images_stand();
         // The text of `counts` goes by names, none of which stands twice.
-        let _count = machine.names.count();
+        machine.names.sound();
         *store = Store::One(machine);
         status
     } else {

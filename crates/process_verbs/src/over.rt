@@ -196,7 +196,7 @@ impl<H: Heaps> Space for Over<H> {
 
     fn counts<K: Sink>(&self, names: &AtomNames, sink: &mut K) -> Result<(), SinkFault> {
         let verbs = &self.verbs;
-        let _count = names.count();
+        names.sound();
         verbs.heaps.images_stand();
         verbs.counts(names, sink)
     }

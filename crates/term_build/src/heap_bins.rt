@@ -60,6 +60,7 @@ fn word_at(bytes: &[u8], from: usize) -> u64
     requires { from ≤ length bytes.now }
     ensures { (i k : ℕ) → k < 8 → i ≡ from + k → byte_of result k ≡ slice_index bytes.now i }
 {
+    // The length of a row is one of the machine, so that a place in it and 7 more has no overflow.
     let _len = bytes.len();
     u64::from_le_bytes([
         byte_at(bytes, from),

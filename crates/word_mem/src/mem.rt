@@ -139,7 +139,7 @@ impl WordMem {
         ensures moved { (p q : ℕ) → dst ≤ q → q < dst + n → p + dst ≡ q + src → slice_index self.new q ≡ slice_index self.old p }
         ensures kept { (q : ℕ) → (q < dst) ⊎ (dst + n ≤ q) → slice_index self.new q ≡ slice_index self.old q }
     {
-        let _len = self.len();
+        self.bounded();
         for i in 0..n {
             let w = self.get(src + i);
             self.set(dst + i, w);
@@ -154,7 +154,7 @@ impl WordMem {
         ensures moved { (p q : ℕ) → dst ≤ q → q < dst + n → p + dst ≡ q + src → slice_index self.new q ≡ slice_index self.old p }
         ensures kept { (q : ℕ) → (q < dst) ⊎ (dst + n ≤ q) → slice_index self.new q ≡ slice_index self.old q }
     {
-        let _len = self.len();
+        self.bounded();
         let mut left = n;
         while left > 0 {
             left -= 1;
