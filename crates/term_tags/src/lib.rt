@@ -8,8 +8,8 @@ mod makers;
 mod records;
 
 pub use kinds::{
-    ATOMS, Kind, PIDS, PLACES, arity_of, is_boxed, is_header, is_immediate, is_list, is_pointer, kind_of,
-    place_of, subtag_of,
+    ATOMS, Kind, PIDS, PLACES, arity_of, is_boxed, is_header, is_immediate, is_list, is_pointer,
+    kind_of, place_of, subtag_of,
 };
 pub use laws::table_of_layouts;
 pub use layouts::{
