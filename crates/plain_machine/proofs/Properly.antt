@@ -4,4 +4,5 @@ pub mod Putting
 pub mod Parts
 pub mod Making
 pub mod Holding
+pub mod Areas
 pub mod Living

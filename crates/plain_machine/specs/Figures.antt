@@ -1,11 +1,15 @@
 -- The limits and costs of the machine in figures: a constant that is cited by its name is pinned here.
 use Rattle.std.specs.Prelude.{◌≡◌, [], ◌∷◌, refl}
-use Rattle.plain_machine.specs.declared.limits.TheConstants.{MOST_PROCESSES, MOST_PLACES, MOST_FILL, MOST_ARITY, MOST_BYTE}
+use Rattle.plain_machine.specs.declared.limits.TheConstants.{MOST_PROCESSES, MOST_AREAS, MOST_PLACES, MOST_FILL, MOST_ARITY, MOST_BYTE}
 use Rattle.plain_machine.specs.declared.costs.TheConstants.{PROCESS_COST, AREA_COST, PLACE_COST, MESSAGE_COST, RECORD_COST, COUNTED_COST}
 
 -- At most 1,024 processes live.
 pub most-processes : MOST_PROCESSES ≡ 1024
 most-processes = refl
+
+-- At most 64 literal areas stand.
+pub most-areas : MOST_AREAS ≡ 64
+most-areas = refl
 
 -- At most 65,536 places are made at a time.
 pub most-places : MOST_PLACES ≡ 65536

@@ -75,6 +75,22 @@ without_process number s = record s { processes = filter (λ p. not (p.number ==
 abbrev pub with_spawned : State → State
 with_spawned s = record s { processes = s.processes ++ fresh_process s.next ∷ []; next = s.next + 1 }
 
+-- The literal area with this name.
+abbrev pub area_of : ℕ → State → Option Area
+area_of name s = find (λ (a : Area). a.name == name) s.areas
+
+-- An area with this name stands.
+abbrev pub has_area : ℕ → State → Bool
+has_area name s = list_any (λ (a : Area). a.name == name) s.areas
+
+-- The area stands last.
+abbrev pub with_area : Area → State → State
+with_area a s = record s { areas = s.areas ++ a ∷ [] }
+
+-- The area with this name is gone.
+abbrev pub without_area : ℕ → State → State
+without_area name s = record s { areas = filter (λ (a : Area). not (a.name == name)) s.areas }
+
 -- The tree of a register.
 abbrev pub register : ℕ → Process → Tree
 register r p = get_or p.registers r Nil

@@ -1,8 +1,9 @@
 -- What one command makes of a state, and what is answered.
-use Rattle.std.specs.Prelude.{ℕ, ◌+◌, Bool, true, false, ◌||◌, nat_le, nat_lt, List, [], ◌∷◌, ◌++◌, length, map, replicate, codes, decimal, Option, Some, None, Result, Ok, Err}
+use Rattle.std.specs.Prelude.{ℕ, zero, suc, ◌+◌, Bool, true, false, ◌||◌, nat_le, nat_lt, List, [], ◌∷◌, ◌++◌, length, map, replicate, codes, decimal, Option, Some, None, Result, Ok, Err}
 use Rattle.std.specs.declared.cmp.Ordering.{Ordering}
 use Rattle.std.specs.declared.cmp.Ordering.TheVariants.{Less, Equal, Greater}
 use Rattle.plain_term.specs.Tree.{Tree, Trees, Pairs}
+use Rattle.plain_term.specs.Tree.{Trees as trees}
 use Rattle.plain_term.specs.Tree.Tree.{Pid, Ref as Reference, Nil, Map, Fun}
 use Rattle.plain_term.specs.Beyond.{is_beyond}
 use Rattle.plain_term.specs.Measures.{flat}
@@ -12,24 +13,24 @@ use Rattle.plain_term.specs.Text.{text, numbers_text}
 use Rattle.script_grammar.specs.declared.command.Command.{Command}
 use Rattle.script_grammar.specs.declared.command.Command.TheVariants.{Nothing, Process, System}
 use Rattle.script_grammar.specs.declared.command.Verb.{Verb}
-use Rattle.script_grammar.specs.declared.command.Verb.TheVariants.{Set, Choose, MapPut, Fill, Fun as MakeFun, Ref, Own, Repeat, Push, Pop, Send, Recv, Queue, Print, Eq, Cmp, Flat, Gc, Info, Heap, Exit}
+use Rattle.script_grammar.specs.declared.command.Verb.TheVariants.{Set, Choose, MapPut, Fill, Fun as MakeFun, Ref, Own, Repeat, Push, Pop, Send, Recv, Queue, Print, Eq, Cmp, Flat, Lit, Gc, Info, Heap, Exit}
 use Rattle.script_grammar.specs.declared.command.Pick.{Pick}
 use Rattle.script_grammar.specs.declared.command.Shape.{Shape}
 use Rattle.script_grammar.specs.declared.command.To.{To}
 use Rattle.script_grammar.specs.declared.command.SysVerb.{SysVerb}
-use Rattle.script_grammar.specs.declared.command.SysVerb.TheVariants.{Spawn, Sweep, Counts, Dump, Procs, Quit}
+use Rattle.script_grammar.specs.declared.command.SysVerb.TheVariants.{Spawn, Load, Purge, Sweep, Counts, Dump, Procs, Quit}
 use Rattle.script_grammar.specs.declared.refusal.Refusal.{Refusal}
-use Rattle.script_grammar.specs.declared.refusal.Refusal.TheVariants.{NoProc, BadArg, Empty, Big, MapSize, Procs as TooMany, Syntax}
+use Rattle.script_grammar.specs.declared.refusal.Refusal.TheVariants.{NoProc, BadArg, Empty, Big, MapSize, NoArea, AreaThere, Procs as TooMany, Syntax}
 use Rattle.script_grammar.specs.Written.{Terms}
 use Rattle.script_grammar.specs.Written.Terms.{end, ◌▹◌}
 use Rattle.script_grammar.specs.Names.{Parsed}
 use Rattle.plain_machine.specs.Made.{tree_of, trees_of_terms, bin_tree, too_many}
-use Rattle.plain_machine.specs.Flaws.{is_wide, is_big, flaw_of}
+use Rattle.plain_machine.specs.Flaws.{is_wide, are_wide, is_big, are_big, flaw_of}
 use Rattle.plain_machine.specs.Parts.{picked, pairs_in, repeated}
-use Rattle.plain_machine.specs.declared.limits.TheConstants.{MOST_PROCESSES, MOST_PLACES, MOST_FILL, MOST_ARITY, MOST_BYTE}
+use Rattle.plain_machine.specs.declared.limits.TheConstants.{MOST_PROCESSES, MOST_AREAS, MOST_PLACES, MOST_FILL, MOST_ARITY, MOST_BYTE}
 use Rattle.plain_machine.specs.Texts.{divided}
 use Rattle.plain_machine.specs.Tightness.{receiver}
-use Rattle.plain_machine.specs.State.{Process as Live, State, process_of, with_process, with_message, without_process, with_spawned, live_numbers, register, with_register}
+use Rattle.plain_machine.specs.State.{Process as Live, State, Area, process_of, area_of, has_area, with_process, with_message, without_process, with_spawned, with_area, without_area, live_numbers, register, with_register}
 
 -- What a command comes to: a new state and the reply; a refusal that leaves the state; or a map of the store
 -- as the reply, which leaves the state too.
@@ -166,6 +167,25 @@ repeat_step s p q r shape n m = repeat_if (nat_lt MOST_PLACES n) (repeated shape
 abbrev pub self_step : State → Parsed → Live → ℕ → Outcome
 self_step s p q r = does p (with_process (with_register r (Pid q.number) q) s)
 
+-- The literal at a place, counted from 0.
+abbrev pub literal_at : ℕ → List Tree → Option Tree
+literal_at i [] = None
+literal_at zero (t ∷ ts) = Some t
+literal_at (suc i) (t ∷ ts) = literal_at i ts
+
+-- The literal at a place, counted from 1.
+abbrev pub literal_of : ℕ → List Tree → Option Tree
+literal_of zero ts = None
+literal_of (suc i) ts = literal_at i ts
+
+-- `lit`: the register holds the area's literal at this place, counted from 1.
+abbrev pub lit_from : Option Area → State → Parsed → Live → (r i : ℕ) → Outcome
+lit_from None s p q r i = Refused NoArea
+lit_from (Some a) s p q r i = choose (literal_of i a.literals) s p q r
+
+abbrev pub lit_step : State → Parsed → Live → (r name i : ℕ) → Outcome
+lit_step s p q r name i = lit_from (area_of name s) s p q r i
+
 -- `push`: the register's tree goes on the stack.
 abbrev pub push_step : State → Parsed → Live → ℕ → Outcome
 push_step s p q r = does p (with_process (record q { stack = register r q ∷ q.stack }) s)
@@ -261,6 +281,7 @@ by_verb s p q (Fill r len byte) = fill_step s p q r.0 len byte
 by_verb s p q (MakeFun r name arity) = fun_step s p q r.0 name arity
 by_verb s p q (Ref r) = ref_step s p q r.0
 by_verb s p q (Own r) = self_step s p q r.0
+by_verb s p q (Lit r name i) = lit_step s p q r.0 name i
 by_verb s p q (Repeat r shape n m) = repeat_step s p q r.0 shape n m.0
 by_verb s p q (Push r) = push_step s p q r.0
 by_verb s p q (Pop r) = pop_step s p q r.0
@@ -282,6 +303,40 @@ spawn_if false s p = answers p (with_spawned s) (codes "ok " ++ decimal s.next)
 abbrev pub spawn_step : State → Parsed → Outcome
 spawn_step s p = spawn_if (nat_le MOST_PROCESSES (length s.processes)) s p
 
+-- Trees as a list.
+abbrev pub tree_list : Trees → List Tree
+tree_list trees.end = []
+tree_list (trees.◌▹◌ t ts) = t ∷ tree_list ts
+
+-- The trees of the line's written terms, none of which holds a register, and the shared byte lists with their own at the end.
+abbrev pub literals_of : State → Parsed → Trees × List (List ℕ)
+literals_of s p = trees_of_terms p.names [] p.terms s.shared
+
+-- The area of this name has these literals, and the shared byte lists are these.
+abbrev pub with_literals : State → ℕ → Trees × List (List ℕ) → State
+with_literals s name made = record (with_area (record { name = name; literals = tree_list (made.0) }) s) { shared = made.1 }
+
+-- Why one of the line's written terms is refused, if one is.
+abbrev pub literals_flaw : State → Parsed → Option Refusal
+literals_flaw s p = flaw_of (are_big p.names [] p.terms s.shared) (are_wide p.names [] p.terms s.shared)
+
+-- `load`: an area of this name has the written terms as its literals, where no area has the name and not too many stand, and where
+-- the terms' maps can be made. No key in a line that is not too long is beyond the walk limit.
+abbrev pub load_if : Bool → State → Parsed → ℕ → Outcome
+load_if true s p name = Refused AreaThere
+load_if false s p name = unless_flawed (literals_flaw s p) (does p (with_literals s name (literals_of s p)))
+
+abbrev pub load_step : State → Parsed → ℕ → Outcome
+load_step s p name = load_if (has_area name s || nat_le MOST_AREAS (length s.areas)) s p name
+
+-- `purge`: the area is gone, and every tree stays.
+abbrev pub purge_if : Bool → State → Parsed → ℕ → Outcome
+purge_if true s p name = does p (without_area name s)
+purge_if false s p name = Refused NoArea
+
+abbrev pub purge_step : State → Parsed → ℕ → Outcome
+purge_step s p name = purge_if (has_area name s) s p name
+
 -- `procs`: the live numbers.
 abbrev pub procs_text : State → List ℕ
 procs_text s = codes "[" ++ (numbers_text (live_numbers s) ++ codes "]")
@@ -296,6 +351,8 @@ told_of_system s _ = Err Syntax
 abbrev pub by_system : State → Parsed → SysVerb → Outcome
 by_system s p Spawn = spawn_step s p
 by_system s p Sweep = collect_step s p
+by_system s p (Load name count) = load_step s p name
+by_system s p (Purge name) = purge_step s p name
 by_system s p Counts = Mapped
 by_system s p verb = tells s (told_of_system s verb)
 

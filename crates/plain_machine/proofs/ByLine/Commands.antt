@@ -12,17 +12,17 @@ use Rattle.script_grammar.specs.Written.{Terms}
 use Rattle.script_grammar.specs.declared.command.Command.{Command}
 use Rattle.script_grammar.specs.declared.command.Command.TheVariants.{Nothing, Process, System}
 use Rattle.script_grammar.specs.declared.command.Verb.{Verb}
-use Rattle.script_grammar.specs.declared.command.Verb.TheVariants.{Set, Choose, MapPut, Fill, Fun as MakeFun, Ref, Own, Repeat, Push, Pop, Send, Recv, Gc, Exit}
+use Rattle.script_grammar.specs.declared.command.Verb.TheVariants.{Set, Choose, MapPut, Fill, Fun as MakeFun, Ref, Own, Repeat, Push, Pop, Send, Recv, Lit, Gc, Exit}
 use Rattle.script_grammar.specs.declared.command.SysVerb.{SysVerb}
-use Rattle.script_grammar.specs.declared.command.SysVerb.TheVariants.{Spawn, Sweep, Counts, Quit}
+use Rattle.script_grammar.specs.declared.command.SysVerb.TheVariants.{Spawn, Load, Purge, Sweep, Counts, Quit}
 use Rattle.script_grammar.specs.declared.refusal.Refusal.{Refusal}
 use Rattle.script_grammar.specs.Names.{Parsed}
-use Rattle.plain_machine.specs.declared.limits.TheConstants.{MOST_PROCESSES, MOST_PLACES, MOST_FILL, MOST_ARITY, MOST_BYTE}
-use Rattle.plain_machine.specs.State.{Process as Live, State, HasNames, process_of, fresh_process, register, with_register, with_process}
+use Rattle.plain_machine.specs.declared.limits.TheConstants.{MOST_PROCESSES, MOST_AREAS, MOST_PLACES, MOST_FILL, MOST_ARITY, MOST_BYTE}
+use Rattle.plain_machine.specs.State.{Process as Live, State, Area, HasNames, process_of, area_of, has_area, fresh_process, register, with_register, with_process}
 use Rattle.plain_machine.specs.Made.{too_many, bin_tree}
 use Rattle.plain_machine.specs.Tightness.{receiver}
 use Rattle.plain_machine.specs.Parts.{picked, pairs_in, repeated}
-use Rattle.plain_machine.specs.Step.{Outcome, by_command, in_process, by_verb, by_system, does, with_made, unless_flawed, written_flaw, fill_if, fun_if, env_of, choose, put_unless_wide, put_unless_big, put_into, repeat_if, collect_step, pop_from, send_within, send_to, recv_from, spawn_if, tells, told_of, told_of_system, written_tree, is_printing}
+use Rattle.plain_machine.specs.Step.{Outcome, by_command, in_process, by_verb, by_system, does, literal_of, lit_from, literals_flaw, literals_of, with_literals, load_if, purge_if, with_made, unless_flawed, written_flaw, fill_if, fun_if, env_of, choose, put_unless_wide, put_unless_big, put_into, repeat_if, collect_step, pop_from, send_within, send_to, recv_from, spawn_if, tells, told_of, told_of_system, written_tree, is_printing}
 use Rattle.plain_machine.specs.Step.Outcome.{Accepted, Refused, Mapped}
 use Rattle.plain_machine.specs.Run.{is_quit}
 use Rattle.plain_machine.specs.Laws.{AreProper, AreWithin, HoldsProper}
@@ -31,6 +31,7 @@ use Rattle.plain_machine.proofs.Properly.Putting.{put-proper}
 use Rattle.plain_machine.proofs.Properly.Parts.{IfProper, at-proper, picked-proper, map-proper, repeated-proper}
 use Rattle.plain_machine.proofs.Properly.Growing.{map-parts}
 use Rattle.plain_machine.proofs.Properly.Making.{bin-more, bin-proper}
+use Rattle.plain_machine.proofs.Properly.Areas.{Loads, literal-proper, area-proper, loaded-lives, purged-lives}
 use Rattle.plain_machine.proofs.Properly.Holding.{Holds, Before, Builds, Environs, before, found-proper, lives, same-live, in-place, in-register, sent-lives, gone-lives, spawned-lives, made-leaves, built-leaves, fun-proper, set-proper}
 
 -- the numbers after an outcome
@@ -61,6 +62,7 @@ LeavesState s Mapped = Unit {0}
 abbrev pub TermsOf : Command → Terms → (names : List (List ℕ)) → Type 0
 TermsOf (Process n (Set r)) terms names = Builds terms names
 TermsOf (Process n (MakeFun r name arity)) terms names = Environs name terms names
+TermsOf (System (Load name count)) terms names = Loads terms names
 TermsOf _ terms names = Unit {0}
 
 -- what a command does
@@ -103,6 +105,14 @@ choose-does : (s : State) (p : Parsed) (q : Live) (n r : ℕ) (x : Verb) (o : Op
     → (HoldsProper s → HasNames s p.names → Before s p.names × Holds p.names s.shared q × IfProper p.names s.shared o) → Does s p (Process n x) (choose o s p q r)
 choose-does s p q n r x None e f = refused-does s p (Process n x) _
 choose-does s p q n r x (Some t) e f = register-does s p q n r x t e f
+
+-- `lit`
+lit-does : (s : State) (p : Parsed) (q : Live) (n r i : ℕ) (x : Verb) (o : Option Area) → is_printing (Process n x) ≡ false
+    → (HoldsProper s → HasNames s p.names → Before s p.names × Holds p.names s.shared q) → ((a : Area) → o ≡ Some a → Before s p.names → AreProper p.names s.shared a.literals)
+    → Does s p (Process n x) (lit_from o s p q r i)
+lit-does s p q n r i x None e f g = refused-does s p (Process n x) _
+lit-does s p q n r i x (Some a) e f g = choose-does s p q n r x (literal_of i a.literals) e
+    (λ h m. let k = f h m in (k.0, k.1, literal-proper p.names s.shared i a.literals (g a refl k.0)))
 
 -- `mapput`
 put-does : (s : State) (p : Parsed) (q : Live) (n r : ℕ) (x : Verb) (m k v : Tree) → is_printing (Process n x) ≡ false
@@ -238,6 +248,8 @@ module _ (s : State) (p : Parsed) (n : ℕ) (q : Live) (found : process_of n s �
       }
   verb-does (Choose r m how) = choose-does s p q n (r.0) (Choose r m how) (picked p.names s.shared q how (register (m.0) q)) refl
       (λ h k. (names-before h k, holds h k, picked-proper p.names s.shared q how (register (m.0) q) (in-holds (m.0) h k)))
+  verb-does (Lit r name i) = lit-does s p q n (r.0) i (Lit r name i) (area_of name s) refl (λ h m. (names-before h m, holds h m))
+      (λ a e b. area-proper p.names s.shared name s.areas a b.literals e)
   verb-does (MapPut r m k v) = put-does s p q n (r.0) (MapPut r m k v) (register (m.0) q) (register (k.0) q) (register (v.0) q) refl
       (λ h x. (names-before h x, holds h x, in-holds (m.0) h x, in-holds (k.0) h x, in-holds (v.0) h x))
   verb-does (Fill r len byte) = fill-does s p q n (r.0) (Fill r len byte) (nat_lt MOST_FILL len || nat_lt MOST_BYTE byte) (replicate len byte) refl
@@ -297,8 +309,34 @@ spawn-does s p false = record {
   printing = λ e. absurd (cc);
 }
 
+-- `load`
+load-does : (s : State) (p : Parsed) (name count : ℕ) (taken : Bool) → Does s p (System (Load name count)) (load_if taken s p name)
+load-does s p name count true = refused-does s p (System (Load name count)) _
+load-does s p name count false = at (literals_flaw s p) refl
+  where
+    at : (o : Option Refusal) → literals_flaw s p ≡ o → Does s p (System (Load name count)) (unless_flawed o (does p (with_literals s name (literals_of s p))))
+    at (Some x) e = refused-does s p (System (Load name count)) x
+    at None e = record {
+      numbers = keeps-numbers s _ refl refl;
+      told = inl (codes "k", refl);
+      proper = λ h m t. lives _ (loaded-lives s p name (before s p.names m h) t e);
+      printing = λ f. absurd (cc);
+    }
+
+-- `purge`
+purge-does : (s : State) (p : Parsed) (name : ℕ) (there : Bool) → Does s p (System (Purge name)) (purge_if there s p name)
+purge-does s p name false = refused-does s p (System (Purge name)) _
+purge-does s p name true = record {
+  numbers = keeps-numbers s _ refl refl;
+  told = inl (codes "k", refl);
+  proper = λ h m t. lives _ (purged-lives s p.names name (before s p.names m h));
+  printing = λ f. absurd (cc);
+}
+
 system-does : (s : State) (p : Parsed) (v : SysVerb) → Does s p (System v) (by_system s p v)
 system-does s p Spawn = spawn-does s p (nat_le MOST_PROCESSES (length s.processes))
+system-does s p (Load name count) = load-does s p name count (has_area name s || nat_le MOST_AREAS (length s.areas))
+system-does s p (Purge name) = purge-does s p name (has_area name s)
 system-does s p Sweep = collect-does s p (System Sweep) refl
 system-does s p Counts = record { numbers = tt; told = tt; proper = λ h m t. tt; printing = λ e. tt }
 system-does s p Quit = record { numbers = keeps-same s s refl; told = inl (codes "k", refl); proper = λ h m t. h; printing = λ e. refl }

@@ -9,9 +9,9 @@ use Rattle.plain_term.specs.Beyond.{is_beyond}
 use Rattle.script_grammar.specs.declared.command.Command.{Command}
 use Rattle.script_grammar.specs.declared.command.Command.TheVariants.{Nothing, Process, System}
 use Rattle.script_grammar.specs.declared.command.Verb.{Verb}
-use Rattle.script_grammar.specs.declared.command.Verb.TheVariants.{Set, Choose, MapPut, Fill, Fun as MakeFun, Ref, Own, Repeat, Push, Pop, Send, Recv, Gc, Exit, Print, Eq, Cmp, Flat, Queue}
+use Rattle.script_grammar.specs.declared.command.Verb.TheVariants.{Set, Choose, MapPut, Fill, Fun as MakeFun, Ref, Own, Repeat, Push, Pop, Send, Recv, Gc, Exit, Print, Eq, Cmp, Flat, Lit, Queue}
 use Rattle.script_grammar.specs.declared.command.SysVerb.{SysVerb}
-use Rattle.script_grammar.specs.declared.command.SysVerb.TheVariants.{Spawn, Sweep, Counts, Procs, Quit}
+use Rattle.script_grammar.specs.declared.command.SysVerb.TheVariants.{Spawn, Load, Purge, Sweep, Counts, Procs, Quit}
 use Rattle.script_grammar.specs.declared.refusal.Refusal.{Refusal}
 use Rattle.script_grammar.specs.declared.refusal.Refusal.TheVariants.{NoProc, BadArg, Empty, Big, NoSpace, NoArea, AreaThere, MapSize, Procs as TooMany, Atoms, Syntax, Long}
 use Rattle.script_grammar.specs.Written.{Terms}
@@ -20,13 +20,13 @@ use Rattle.script_grammar.specs.Grammar.{SaysOne}
 use Rattle.script_grammar.specs.Names.{Parsed, parsed_of}
 use Rattle.script_grammar.specs.ReadAs.{IsRead, IsReadAs, Reading}
 use Rattle.script_grammar.specs.ReadAs.Reading.{Means, NoSyntax, NoAtoms}
-use Rattle.plain_machine.specs.declared.limits.TheConstants.{MOST_PROCESSES, MOST_PLACES, MOST_FILL, MOST_ARITY, MOST_BYTE}
-use Rattle.plain_machine.specs.State.{Process as Live, State, process_of, register}
+use Rattle.plain_machine.specs.declared.limits.TheConstants.{MOST_PROCESSES, MOST_AREAS, MOST_PLACES, MOST_FILL, MOST_ARITY, MOST_BYTE}
+use Rattle.plain_machine.specs.State.{Process as Live, State, Area, process_of, area_of, has_area, register}
 use Rattle.plain_machine.specs.Made.{too_many}
-use Rattle.plain_machine.specs.Flaws.{is_wide, is_big, flaw_of}
+use Rattle.plain_machine.specs.Flaws.{is_wide, are_wide, is_big, are_big, flaw_of}
 use Rattle.plain_machine.specs.Parts.{picked, pairs_in, repeated}
 use Rattle.plain_machine.specs.Tightness.{grow, receiver}
-use Rattle.plain_machine.specs.Step.{Outcome, step, by_command, in_process, by_verb, by_system, unless_flawed, written_flaw, fill_if, fun_if, choose, put_unless_wide, put_unless_big, put_into, repeat_if, pop_from, send_within, send_to, recv_from, spawn_if, tells, unless_beyond}
+use Rattle.plain_machine.specs.Step.{Outcome, step, by_command, in_process, by_verb, by_system, literal_of, lit_from, load_if, purge_if, unless_flawed, written_flaw, fill_if, fun_if, choose, put_unless_wide, put_unless_big, put_into, repeat_if, pop_from, send_within, send_to, recv_from, spawn_if, tells, unless_beyond}
 use Rattle.plain_machine.specs.Step.Outcome.{Accepted, Refused, Mapped}
 use Rattle.plain_machine.specs.Maps.{IsMapOf, counts_text}
 use Rattle.plain_machine.specs.Run.{LineStep, ReadingStep, CommandStep, Gives, Skips, LacksSpace, refusal_text, is_nothing}
@@ -59,6 +59,18 @@ set-own s p q (t ▹ ts) o h = flaw-own (is_big p.names q.registers t s.shared) 
 choose-own : (o : Option Tree) (s : State) (p : Parsed) (q : Live) (r : ℕ) → IsOwn (choose o s p q r)
 choose-own None s p q r = refl
 choose-own (Some t) s p q r = tt
+
+lit-own : (o : Option Area) (s : State) (p : Parsed) (q : Live) (r i : ℕ) → IsOwn (lit_from o s p q r i)
+lit-own None s p q r i = refl
+lit-own (Some a) s p q r i = choose-own (literal_of i a.literals) s p q r
+
+load-own : (b : Bool) (s : State) (p : Parsed) (name : ℕ) → IsOwn (load_if b s p name)
+load-own true s p name = refl
+load-own false s p name = flaw-own (are_big p.names [] p.terms s.shared) (are_wide p.names [] p.terms s.shared) _ tt
+
+purge-own : (b : Bool) (s : State) (p : Parsed) (name : ℕ) → IsOwn (purge_if b s p name)
+purge-own true s p name = tt
+purge-own false s p name = refl
 
 wide-own : (b : Bool) (ps : Pairs) (s : State) (p : Parsed) (q : Live) (r : ℕ) → IsOwn (put_unless_wide b ps s p q r)
 wide-own true ps s p q r = refl
@@ -111,6 +123,7 @@ verb-own s p q (MapPut r m k v) = put-own (pairs_in (register m.0 q)) (register 
 verb-own s p q (Fill r len byte) = fill-own (nat_lt MOST_FILL len || nat_lt MOST_BYTE byte) (replicate len byte) s p q (r.0)
 verb-own s p q (MakeFun r name arity) = fun-own (nat_lt MOST_ARITY arity) _ s p q (r.0)
 verb-own s p q (Repeat r shape n m) = repeat-own (nat_lt MOST_PLACES n) (repeated shape n (register m.0 q)) s p q (r.0)
+verb-own s p q (Lit r name i) = lit-own (area_of name s) s p q (r.0) i
 verb-own s p q (Pop r) = pop-own q.stack s p q (r.0)
 verb-own s p q (Send r to) = send-own (receiver to q) (register r.0 q) s p
 verb-own s p q (Recv r) = recv-own q.queue s p q (r.0)
@@ -132,6 +145,8 @@ process-own (Some q) s p v = verb-own s p q v
 
 system-own : (s : State) (p : Parsed) (v : SysVerb) → IsOwn (by_system s p v)
 system-own s p Spawn = spawn-own (nat_le MOST_PROCESSES (length s.processes)) s p
+system-own s p (Load name count) = load-own (has_area name s || nat_le MOST_AREAS (length s.areas)) s p name
+system-own s p (Purge name) = purge-own (has_area name s) s p name
 system-own s p Sweep = tt
 system-own s p Counts = tt
 system-own s p Procs = tt

@@ -156,7 +156,7 @@ module _ (names shared : List (List ℕ)) where
       at false m = m
 
   -- what waits is proper where all that is held is
-  queues-proper : (qs : List Live) → AreProper names shared (flat_map held_trees qs) → AreProper names shared (queues qs)
+  pub queues-proper : (qs : List Live) → AreProper names shared (flat_map held_trees qs) → AreProper names shared (queues qs)
   queues-proper [] k = tt
   queues-proper (q ∷ qs) k =
       let l = split-proper (held_trees q) (flat_map held_trees qs) k in
@@ -278,7 +278,7 @@ pub record Builds (terms : Terms) (names : List (List ℕ)) : Type 0 where
   pub numbers : HaveNumbers names (atoms_of term)
 
 -- a term of which nothing is refused is neither wide nor big
-flawless : (big wide : Bool) → flaw_of big wide ≡ None → (wide ≡ false) × (big ≡ false)
+pub flawless : (big wide : Bool) → flaw_of big wide ≡ None → (wide ≡ false) × (big ≡ false)
 flawless true wide h = absurd (cc)
 flawless false true h = absurd (cc)
 flawless false false h = (refl, refl)

@@ -1,10 +1,12 @@
 -- All trees that live stay proper along a run.
 use Rattle.std.proofs.Common.{◌≡◌, ℕ, ◌⊎◌, inl, inr, Bool, true, false, List, [], ◌∷◌, ◌++◌, refl, sym, ap, subst}
 use Rattle.std.specs.Prelude.{MatchBool, flat_map}
+use Rattle.std.proofs.lemmas.Bool.{true≢false}
 use Rattle.line_io.specs.Lines.{Line, text, long}
 use Rattle.script_grammar.specs.Written.{Terms, Written, joined}
 use Rattle.script_grammar.specs.Written.Terms.{end, ◌▹◌}
 use Rattle.script_grammar.specs.declared.word.Word.TheVariants as word
+use Rattle.script_grammar.specs.declared.word.SysWord.TheVariants as sys
 use Rattle.script_grammar.specs.Written.Written.{Nothing, OfProcess, OfSystem}
 use Rattle.script_grammar.specs.Grammar.{IsAllowed, IsBuilt}
 use Rattle.script_grammar.specs.Names.{Parsed, parsed_of, names_after, atoms_of, all_atoms, command_of, terms_of, held_terms}
@@ -40,6 +42,7 @@ terms-are names (OfProcess n word.Set ops) a b p = record {
 }
 terms-are names (OfProcess n word.Fun ops) a b p = record { registers = ops.1.1.1.0; written = joined-end (held_terms (ops.1.1.1.0)); known = number-below names (ops.1.0) (p.0) }
 terms-are names (OfProcess n _ ops) a b p = tt
+terms-are names (OfSystem sys.Load ops) a b p = absurd (true≢false (sym b.0))
 terms-are names (OfSystem w ops) a b p = tt
 terms-are names Nothing a b p = tt
 
