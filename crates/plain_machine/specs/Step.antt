@@ -167,14 +167,14 @@ repeat_step s p q r shape n m = repeat_if (nat_lt MOST_PLACES n) (repeated shape
 abbrev pub self_step : State → Parsed → Live → ℕ → Outcome
 self_step s p q r = does p (with_process (with_register r (Pid q.number) q) s)
 
--- The literal at a place, counted from 0.
-abbrev pub literal_at : ℕ → List Tree → Option Tree
+-- What stands at a place of a list, counted from 0.
+abbrev pub literal_at : {A : Type 0} → ℕ → List A → Option A
 literal_at i [] = None
 literal_at zero (t ∷ ts) = Some t
 literal_at (suc i) (t ∷ ts) = literal_at i ts
 
--- The literal at a place, counted from 1.
-abbrev pub literal_of : ℕ → List Tree → Option Tree
+-- What stands at a place of a list, counted from 1.
+abbrev pub literal_of : {A : Type 0} → ℕ → List A → Option A
 literal_of zero ts = None
 literal_of (suc i) ts = literal_at i ts
 
