@@ -1,13 +1,13 @@
 -- A process in a run and on the machine where it lives alone: the same by name, and what keeps it so.
-use Rattle.std.proofs.Common.{◌≡◌, ℕ, zero, suc, ◌==◌, Bool, true, false, cond, List, [], ◌∷◌, ◌++◌, length, drop, map, replicate, Option, Some, None, refl, sym, ap, subst, ◌∙◌, append-nil, append_assoc, eqb-true}
-use Rattle.std.proofs.lemmas.Bool.{both_ways, eq-eqb}
+use Rattle.std.proofs.Common.{◌≡◌, ℕ, zero, suc, ◌==◌, Bool, true, false, cond, List, [], ◌∷◌, ◌++◌, length, drop, map, replicate, Option, Some, None, refl, sym, ap, subst, ◌∙◌, append-nil, append_assoc, eqb-true, codes, inl, inr, arith}
+use Rattle.std.proofs.lemmas.Bool.{both_ways, eq-eqb, false_from_ne_true}
 use Rattle.std.specs.Prelude.{option_map, flat_map}
 use Rattle.std.proofs.lemmas.List.{map-append}
 use Rattle.plain_term.specs.Tree.{Tree}
 use Rattle.plain_term.specs.Tree.{Tree as tree}
 use Rattle.script_grammar.specs.declared.limits.TheConstants.{REGISTERS}
 use Rattle.script_grammar.specs.declared.word.Word.{Word}
-use Rattle.script_grammar.specs.Written.{Operands, kinds_of}
+use Rattle.script_grammar.specs.Written.{Operands, Written, kinds_of}
 use Rattle.script_grammar.specs.Written.Written.{OfProcess}
 use Rattle.script_grammar.proofs.Naming.{with-names-more}
 use Rattle.plain_machine.specs.State.{Process as Live, State, process_of, first_state, fresh_process, with_queued}
@@ -24,18 +24,22 @@ use Rattle.isolation.specs.Named.Laws.{AllKnown}
 use Rattle.isolation.proofs.Named.Growing.{proper-known}
 use Rattle.isolation.proofs.Named.Entering.{enters}
 use Rattle.isolation.proofs.Named.Parts.{join-known, split-known, nils-known}
-use Rattle.isolation.specs.Views.{Sight, queue_in, queue_of}
+use Rattle.isolation.specs.Views.{Sight, is_area_line, queue_in, queue_of}
 use Rattle.isolation.specs.Views.Sight.{born, message}
 use Rattle.isolation.specs.Solo.{solo_first, with_received, answers_of, left_by, step_at, solo_answers, solo_after, solo_from}
 use Rattle.isolation.proofs.Finding.{found, found-number, found-queued}
 use Rattle.isolation.proofs.ByName.{NamedProcess, process_named, KnownProcess, IfKnown, lives_named, IsKnownIn, outcome_named, KnownAfter, named_answers, named_left, line_named}
+use Rattle.isolation.proofs.Areas.{AreasKnown, NamedArea, areas-grown, areas_named}
 use Rattle.isolation.proofs.Own.{OwnStep, own-line, grown-process}
-use Rattle.isolation.proofs.Others.{Passes, with_more}
+use Rattle.isolation.proofs.Others.{area-not-own, ChangesAreas, Comes, OtherOutcome, Passes, other-line, with_more}
+use Rattle.isolation.proofs.AreaSteps.{AreaStep, area-step, area_line_named, kept, other-areas}
 
--- the process is the same by name in both, and known on the second
+-- the process and the literal areas are the same by name in both, and known on the second
 pub record Alike (m : ℕ) (s t : State) : Type 0 where
   pub same : lives_named m s ≡ lives_named m t
   pub known : IsKnownIn m t
+  pub areas : areas_named s ≡ areas_named t
+  pub beside : AreasKnown t
 
 -- proper trees that live are known
 all-proper-known : (names shared : List (List ℕ)) (ts : List Tree) → AreProper names shared ts → AllKnown names shared ts
@@ -72,23 +76,38 @@ left-known m s (Refused r) h k = h
 left-known m s Mapped h k = h
 
 -- the process's own line is answered alike, and leaves them alike
-module _ (m : ℕ) (s t : State) (w : Word) (ops : Operands (kinds_of w)) (h : IsKnownIn m s) (a : Alike m s t) where
-  here : OwnStep m (step_at s (OfProcess m w ops)) (line_named (lives_named m s) w ops)
-  here = own-line s m w ops h
+module _ (m : ℕ) (s t : State) (w : Word) (ops : Operands (kinds_of w)) (h : IsKnownIn m s) (b : AreasKnown s) (a : Alike m s t) where
+  here : OwnStep m (step_at s (OfProcess m w ops)) (line_named (areas_named s) (lives_named m s) w ops)
+  here = own-line s m w ops h b
 
-  there : OwnStep m (step_at t (OfProcess m w ops)) (line_named (lives_named m t) w ops)
-  there = own-line t m w ops a.known
+  there : OwnStep m (step_at t (OfProcess m w ops)) (line_named (areas_named t) (lives_named m t) w ops)
+  there = own-line t m w ops a.known a.beside
 
   outcomes-alike : outcome_named m (step_at s (OfProcess m w ops)) ≡ outcome_named m (step_at t (OfProcess m w ops))
-  outcomes-alike = here.same ∙ (ap (λ z. line_named z w ops) a.same ∙ sym there.same)
+  outcomes-alike = here.same ∙ ((λ i. line_named (a.areas i) (a.same i) w ops) ∙ sym there.same)
 
   pub answers-alike : answers_of (step_at s (OfProcess m w ops)) ≡ answers_of (step_at t (OfProcess m w ops))
   answers-alike = answers-named m (step_at s (OfProcess m w ops)) ∙ (ap named_answers outcomes-alike ∙ sym (answers-named m (step_at t (OfProcess m w ops))))
+
+  -- what a line of its own leaves of areas is what it leaves where it is another's
+  apart : (m == suc m) ≡ false
+  apart = false_from_ne_true (m == suc m) (λ e. absurd (omega (arith, eqb-true m (suc m) e)))
+
+  here-areas : (areas_named (left_by s (step_at s (OfProcess m w ops))) ≡ areas_named s) × AreasKnown (left_by s (step_at s (OfProcess m w ops)))
+  here-areas = other-areas s b (suc m) (OfProcess m w ops) (step_at s (OfProcess m w ops)) refl (other-line (suc m) s (OfProcess m w ops) apart)
+
+  there-areas : (areas_named (left_by t (step_at t (OfProcess m w ops))) ≡ areas_named t) × AreasKnown (left_by t (step_at t (OfProcess m w ops)))
+  there-areas = other-areas t a.beside (suc m) (OfProcess m w ops) (step_at t (OfProcess m w ops)) refl (other-line (suc m) t (OfProcess m w ops) apart)
+
+  pub own-areas : AreasKnown (left_by s (step_at s (OfProcess m w ops)))
+  own-areas = here-areas.1
 
   pub own-alike : Alike m (left_by s (step_at s (OfProcess m w ops))) (left_by t (step_at t (OfProcess m w ops)))
   own-alike = record {
     same = left-named m s (step_at s (OfProcess m w ops)) ∙ ((λ i. named_left (a.same i) (outcomes-alike i)) ∙ sym (left-named m t (step_at t (OfProcess m w ops))));
     known = left-known m t (step_at t (OfProcess m w ops)) a.known there.known;
+    areas = here-areas.0 ∙ (a.areas ∙ sym there-areas.0);
+    beside = there-areas.1;
   }
 
 -- trees behind those of a queue
@@ -146,6 +165,10 @@ module _ (m : ℕ) (a : NamedTree) (t : State) where
       at None h n = (refl, tt)
       at (Some q) h n = let k = process-received q (n q refl) h in (ap Some (k.0), k.1)
 
+  -- it leaves the areas as they are by name
+  pub received-areas : AreasKnown t → (areas_named (with_received m a t) ≡ areas_named t) × AreasKnown (with_received m a t)
+  received-areas b = areas-grown t.names (names_with t.names a) t.shared (shared_with t.shared a) t.areas names-more shared-more b
+
 -- the state after sights
 abbrev pub after_all : ℕ → State → List Sight → State
 after_all m t [] = t
@@ -171,6 +194,13 @@ messages-received m t f (u ∷ us) h =
       rest.1,
     )
 
+pub messages-areas : (m : ℕ) (t : State) (f : Tree → NamedTree) (us : List Tree) → AreasKnown t
+    → (areas_named (after_all m t (map (λ u. message (f u)) us)) ≡ areas_named t) × AreasKnown (after_all m t (map (λ u. message (f u)) us))
+messages-areas m t f [] b = (refl, b)
+messages-areas m t f (u ∷ us) b =
+    let one = received-areas m (f u) t b in
+    let rest = messages-areas m (with_received m (f u) t) f us (one.1) in (rest.0 ∙ one.0, rest.1)
+
 -- what stands behind a queue
 drop-front : {A : Type 0} (xs ys : List A) → drop (length xs) (xs ++ ys) ≡ ys
 drop-front [] ys = refl
@@ -180,12 +210,18 @@ abbrev pub behind : ℕ → State → State → List Tree
 behind m s next = drop (length (queue_of m s)) (queue_of m next)
 
 -- a line that is not its own leaves the process alike, once what stands behind its queue was received
-pub passes-alike : (m : ℕ) (s next t : State) → Passes m s next → IsKnownIn m s → Alike m s t
+pub passes-alike : (m : ℕ) (s next t : State) → Passes m s next → IsKnownIn m s → AreasKnown s → Alike m s t
     → Alike m next (after_all m t (map (λ u. message (as_named next.names next.shared u)) (behind m s next)))
-passes-alike m s next t p h a =
+passes-alike m s next t p h b a =
     let f : Tree → NamedTree = as_named next.names next.shared in
     let r = messages-received m t f (behind m s next) a.known in
-    record { same = at (process_of m s) h (process_of m next) p.is ∙ (ap (option_map (more_named (map f (behind m s next)))) a.same ∙ sym (r.0)); known = r.1 }
+    let g = messages-areas m t f (behind m s next) a.beside in
+    record {
+      same = at (process_of m s) h (process_of m next) p.is ∙ (ap (option_map (more_named (map f (behind m s next)))) a.same ∙ sym (r.0));
+      known = r.1;
+      areas = (kept s b next p.names p.shared p.areas).0 ∙ (a.areas ∙ sym (g.0));
+      beside = g.1;
+    }
   where
     at : (o : Option Live) → IfKnown s.names s.shared o → (n : Option Live) → n ≡ option_map (with_more p.more) o
         → option_map (process_named next.names next.shared) n
@@ -216,13 +252,55 @@ fresh-named names shared m = ap (λ (z : List NamedTree). record { number = m; r
 fresh-known : (names shared : List (List ℕ)) (m : ℕ) → KnownProcess names shared (fresh_process m)
 fresh-known names shared m = record { registers = nils-known names shared REGISTERS; stack = tt; queue = tt }
 
-pub born-alike : (m : ℕ) (next t : State) → process_of m next ≡ Some (fresh_process m) → Alike m next (solo_after m t born)
-born-alike m next t e =
+pub born-alike : (m : ℕ) (s next t : State) → Comes m s next → AreasKnown s → Alike m s t → Alike m next (solo_after m t born)
+born-alike m s next t c b a =
     let here : found m (fresh_process m ∷ []) ≡ Some (fresh_process m) = ap (λ b. cond b (Some (fresh_process m)) None) (eq-eqb m m refl) in record {
-      same = ap (option_map (process_named next.names next.shared)) e ∙ (ap Some (fresh-named next.names next.shared m ∙ sym (fresh-named t.names t.shared m))
+      areas = (kept s b next c.names c.shared c.areas).0 ∙ a.areas;
+      beside = a.beside;
+      same = ap (option_map (process_named next.names next.shared)) c.after ∙ (ap Some (fresh-named next.names next.shared m ∙ sym (fresh-named t.names t.shared m))
           ∙ ap (option_map (process_named t.names t.shared)) (sym here));
       known = subst (IfKnown t.names t.shared) (sym here) (fresh-known t.names t.shared m);
     }
+
+-- an accepted line of literal areas is accepted on both, and leaves both alike
+module _ (m : ℕ) (s next t : State) (w : Written) (line : is_area_line w ≡ true) (h : IsKnownIn m s) (b : AreasKnown s) (a : Alike m s t)
+    (left : step_at s w ≡ Accepted next (codes "ok")) (c : ChangesAreas m s w next (codes "ok")) where
+  -- the areas by name after it
+  areas-after : (x : List NamedArea) × (area_line_named (areas_named s) w ≡ Some x) × (areas_named next ≡ x) × AreasKnown next
+  areas-after = at (area_line_named (areas_named s) w) refl
+      (subst (λ (z : Outcome). AreaStep z (area_line_named (areas_named s) w)) left (area-step s b w line))
+    where
+      at : (o : Option (List NamedArea)) → area_line_named (areas_named s) w ≡ o → AreaStep (Accepted next (codes "ok")) (area_line_named (areas_named s) w)
+          → (x : List NamedArea) × (area_line_named (areas_named s) w ≡ Some x) × (areas_named next ≡ x) × AreasKnown next
+      at (Some x) e k = let j = subst (AreaStep (Accepted next (codes "ok"))) e k in (x, e, j.0, j.1)
+      at None e k = absurd (subst (AreaStep (Accepted next (codes "ok"))) e k)
+
+  -- a process that is as it was, under more names and shared binaries
+  as-before : (u v : State) → Extends u.names v.names → Extends u.shared v.shared → process_of m v ≡ process_of m u → IsKnownIn m u
+      → (lives_named m v ≡ lives_named m u) × IsKnownIn m v
+  as-before u v n g e k = subst (λ (z : Option Live). (option_map (process_named v.names v.shared) z ≡ lives_named m u) × IfKnown v.names v.shared z) (sym e) (at (process_of m u) k)
+    where
+      at : (o : Option Live) → IfKnown u.names u.shared o
+          → (option_map (process_named v.names v.shared) o ≡ option_map (process_named u.names u.shared) o) × IfKnown v.names v.shared o
+      at None k = (refl, tt)
+      at (Some q) k = let g = grown-process u.names v.names u.shared v.shared q n g k in (ap Some (g.0), g.1)
+
+  pub area-alike : Alike m next (left_by t (step_at t w)) × AreasKnown next
+  area-alike = (
+    at (step_at t w) refl (other-line m t w (area-not-own m w line))
+        (subst (AreaStep (step_at t w)) (ap (λ z. area_line_named z w) (sym a.areas) ∙ areas-after.1) (area-step t a.beside w line)),
+    areas-after.3,
+  )
+    where
+      at : (o : Outcome) → step_at t w ≡ o → OtherOutcome m t w o → AreaStep o (Some areas-after.0) → Alike m next (left_by t o)
+      at (Accepted new reply) e (inl k) j = absurd (both_ways (is_area_line w) (k.1) line)
+      at (Accepted new reply) e (inr (inl k)) j = absurd (both_ways (is_area_line w) (ap is_area_line k.said) line)
+      at (Accepted new reply) e (inr (inr k)) j =
+          let one = as-before s next c.names c.shared c.is h in
+          let two = as-before t new k.names k.shared k.is a.known in
+          record { same = one.0 ∙ (a.same ∙ sym (two.0)); known = two.1; areas = areas-after.2 ∙ sym (j.0); beside = j.1 }
+      at (Refused r) e k j = absurd j
+      at Mapped e k j = absurd j
 
 -- at first
 pub first-alike : (m : ℕ) → Alike m first_state (solo_first m)
@@ -237,5 +315,7 @@ first-alike m = at (m == 1) refl
       same = refl;
       known = known-found [] [] m (fresh_process 1 ∷ []) (join-known [] [] (held_trees (fresh_process 1)) []
           (join-known [] [] (fresh_process 1).registers [] (nils-known [] [] REGISTERS) tt) tt);
+      areas = refl;
+      beside = tt;
     }
-    at false e = record { same = ap (option_map (process_named [] [])) (not-one (1 == m) refl e); known = tt }
+    at false e = record { same = ap (option_map (process_named [] [])) (not-one (1 == m) refl e); known = tt; areas = refl; beside = tt }

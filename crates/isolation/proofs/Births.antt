@@ -26,7 +26,7 @@ use Rattle.isolation.specs.Views.Sight.{born}
 use Rattle.isolation.specs.Laws.{IsSpawnOf, AllBirthsAreSpawns, TellsNoProcess}
 use Rattle.isolation.proofs.Finding.{live-found, none-come}
 use Rattle.isolation.proofs.Others.{Passes, Comes, with_more}
-use Rattle.isolation.proofs.Told.{Brings, event-brings, event-line}
+use Rattle.isolation.proofs.Told.{Brings, ByArea, event-brings, event-line}
 
 -- whether it lives is told by whether it is found
 pub lives-same : (m : ℕ) (s next : State) (more : List Tree) → process_of m next ≡ option_map (with_more more) (process_of m s) → is_live m next ≡ is_live m s
@@ -46,6 +46,10 @@ no-birth false c e = ap (birth-by false) e
 
 pub passes-births : (m : ℕ) (e : Event) → Passes m e.before e.after → births m e ≡ []
 passes-births m e h = no-birth (is_live m e.before) (is_live m e.after) (lives-same m e.before e.after h.more h.is)
+
+pub area-births : (m : ℕ) (e : Event) → ByArea m e → births m e ≡ []
+area-births m e h = no-birth (is_live m e.before) (is_live m e.after)
+    (live-found m e.after.processes ∙ (ap is_some h.changes.is ∙ sym (live-found m e.before.processes)))
 
 pub comes-births : (m : ℕ) (e : Event) → Comes m e.before e.after → births m e ≡ born ∷ []
 comes-births m e h =
@@ -87,8 +91,9 @@ only-spawns : (may : ℕ → State → Parsed → Bool) (words : ℕ) (quits : B
 only-spawns may words quits e h p = at (is_own p e.said) refl
   where
     at-brought : Brings p e → (births p e ≡ []) ⊎ ((p ≡ e.before.next) × IsSpawnOf p e)
-    at-brought (inl k) = inl (passes-births p e k)
-    at-brought (inr k) = inr (k.is_next, record { said = k.said; replies = k.replies })
+    at-brought (inl k) = inl (passes-births p e (k.0))
+    at-brought (inr (inl k)) = inr (k.is_next, record { said = k.said; replies = k.replies })
+    at-brought (inr (inr k)) = inl (area-births p e k)
 
     at : (b : Bool) → is_own p e.said ≡ b → (births p e ≡ []) ⊎ ((p ≡ e.before.next) × IsSpawnOf p e)
     at true mine = inl (own-born may words quits p e e.line e.said mine h)

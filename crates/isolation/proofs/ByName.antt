@@ -8,7 +8,7 @@ use Rattle.script_grammar.specs.declared.command.Shape.TheVariants as shape
 use Rattle.script_grammar.specs.declared.command.To.{To}
 use Rattle.script_grammar.specs.declared.command.To.TheVariants.{Number, Held}
 use Rattle.script_grammar.specs.declared.refusal.Refusal.{Refusal}
-use Rattle.script_grammar.specs.declared.refusal.Refusal.TheVariants.{NoProc, BadArg, Empty, Big, MapSize, Syntax}
+use Rattle.script_grammar.specs.declared.refusal.Refusal.TheVariants.{NoProc, BadArg, Empty, Big, MapSize, NoArea, Syntax}
 use Rattle.script_grammar.specs.declared.word.Word.{Word}
 use Rattle.script_grammar.specs.declared.word.Word.TheVariants as word
 use Rattle.script_grammar.specs.Written.{Term, Operands, kinds_of}
@@ -17,7 +17,7 @@ use Rattle.plain_machine.specs.declared.limits.TheConstants.{MOST_PLACES, MOST_F
 use Rattle.plain_machine.specs.State.{Process as Live, State, process_of}
 use Rattle.plain_machine.specs.Flaws.{flaw_of}
 use Rattle.plain_machine.specs.Texts.{divided}
-use Rattle.plain_machine.specs.Step.{Outcome, unless_beyond, eq_text, cmp_text}
+use Rattle.plain_machine.specs.Step.{Outcome, literal_of, unless_beyond, eq_text, cmp_text}
 use Rattle.plain_machine.specs.Step.Outcome.{Accepted, Refused, Mapped}
 use Rattle.plain_machine.specs.Run.{refusal_text}
 use Rattle.isolation.specs.Named.NamedTree.{NamedTree, NamedPairs, as_named}
@@ -25,6 +25,7 @@ use Rattle.isolation.specs.Named.NamedTree.NamedTree.{Pid, Ref, Nil, Map, Fun}
 use Rattle.isolation.specs.Named.Seen.{named_beyond, named_order, named_flat, named_text, pairs_count}
 use Rattle.isolation.specs.Named.Doing.{named_picked, named_put, named_repeated, named_bin, named_made, all_named_made, named_wide, named_big}
 use Rattle.isolation.specs.Named.Laws.{AllKnown}
+use Rattle.isolation.proofs.Areas.{NamedArea, area_by}
 
 -- a live process by name
 pub record NamedProcess : Type 0 where
@@ -171,36 +172,42 @@ tell_named x (Err r) = Stays r
 abbrev pub order_named : (Ordering → List ℕ) → (t u : NamedTree) → Result (List ℕ) Refusal
 order_named tell t u = unless_beyond (named_beyond t || named_beyond u) (tell (named_order t u))
 
--- each verb
-abbrev pub verb_named : NamedProcess → (w : Word) → Operands (kinds_of w) → NamedOutcome
-verb_named x word.Set ops = set_named x (ops.0) (ops.1.0)
-verb_named x word.Hd ops = choose_named x (ops.0) (ops.1.0) pick.Hd
-verb_named x word.Tl ops = choose_named x (ops.0) (ops.1.0) pick.Tl
-verb_named x word.Elem ops = choose_named x (ops.0) (ops.1.1.0) (pick.Elem (ops.1.0))
-verb_named x word.MapGet ops = choose_named x (ops.0) (ops.1.0) (pick.MapGet (reg (ops.1.1.0)))
-verb_named x word.MapPut ops = pair_named (pairs_of_named (in_register (ops.1.0) x)) (in_register (ops.1.1.0) x) (in_register (ops.1.1.1.0) x) x (ops.0)
-verb_named x word.Part ops = choose_named x (ops.0) (ops.1.0) (pick.Part (ops.1.1.0) (ops.1.1.1.0))
-verb_named x word.Fill ops = made_if_named (nat_lt MOST_FILL (ops.1.0) || nat_lt MOST_BYTE (ops.1.1.0)) (named_bin (replicate (ops.1.0) (ops.1.1.0))) x (ops.0)
-verb_named x word.Fun ops = made_if_named (nat_lt MOST_ARITY (ops.1.1.0)) (Fun (ops.1.0) (ops.1.1.0) x.number (all_named_made x.registers (held_terms (ops.1.1.1.0)))) x (ops.0)
-verb_named x word.Env ops = choose_named x (ops.0) (ops.1.1.0) (pick.Env (ops.1.0))
-verb_named x word.Ref ops = goes (record (to_register (ops.0) (Ref x.number (x.refs + 1)) x) { refs = x.refs + 1 })
-verb_named x word.Own ops = goes (to_register (ops.0) (Pid x.number) x)
-verb_named x word.MkTuple ops = made_if_named (nat_lt MOST_PLACES (ops.1.0)) (named_repeated shape.Tuple (ops.1.0) (in_register (ops.1.1.0) x)) x (ops.0)
-verb_named x word.MkList ops = made_if_named (nat_lt MOST_PLACES (ops.1.0)) (named_repeated shape.List (ops.1.0) (in_register (ops.1.1.0) x)) x (ops.0)
-verb_named x word.Push ops = goes (record x { stack = in_register (ops.0) x ∷ x.stack })
-verb_named x word.Pop ops = pop_named x.stack x (ops.0)
-verb_named x word.Send ops = send_named (receiver_named (ops.1.0) x) (in_register (ops.0) x) x
-verb_named x word.Recv ops = recv_named x.queue x (ops.0)
-verb_named x word.Queue ops = Goes (Some x) (codes "[" ++ (divided (map named_text x.queue) ++ codes "]"))
-verb_named x word.Print ops = tell_named x (unless_beyond (named_beyond (in_register (ops.0) x)) (named_text (in_register (ops.0) x)))
-verb_named x word.Eq ops = tell_named x (order_named eq_text (in_register (ops.0) x) (in_register (ops.1.0) x))
-verb_named x word.Cmp ops = tell_named x (order_named cmp_text (in_register (ops.0) x) (in_register (ops.1.0) x))
-verb_named x word.Flat ops = tell_named x (unless_beyond (named_beyond (in_register (ops.0) x)) (decimal (named_flat (in_register (ops.0) x))))
-verb_named x word.Gc ops = goes x
-verb_named x word.Exit ops = Goes None (codes "ok")
-verb_named x _ ops = Stays Syntax
+-- `lit`
+abbrev pub lit_named : Option NamedArea → NamedProcess → (r i : ℕ) → NamedOutcome
+lit_named None x r i = Stays NoArea
+lit_named (Some a) x r i = chosen_named (literal_of i a.literals) x r
+
+-- each verb, beside these areas
+abbrev pub verb_named : List NamedArea → NamedProcess → (w : Word) → Operands (kinds_of w) → NamedOutcome
+verb_named areas x word.Set ops = set_named x (ops.0) (ops.1.0)
+verb_named areas x word.Hd ops = choose_named x (ops.0) (ops.1.0) pick.Hd
+verb_named areas x word.Tl ops = choose_named x (ops.0) (ops.1.0) pick.Tl
+verb_named areas x word.Elem ops = choose_named x (ops.0) (ops.1.1.0) (pick.Elem (ops.1.0))
+verb_named areas x word.MapGet ops = choose_named x (ops.0) (ops.1.0) (pick.MapGet (reg (ops.1.1.0)))
+verb_named areas x word.MapPut ops = pair_named (pairs_of_named (in_register (ops.1.0) x)) (in_register (ops.1.1.0) x) (in_register (ops.1.1.1.0) x) x (ops.0)
+verb_named areas x word.Part ops = choose_named x (ops.0) (ops.1.0) (pick.Part (ops.1.1.0) (ops.1.1.1.0))
+verb_named areas x word.Fill ops = made_if_named (nat_lt MOST_FILL (ops.1.0) || nat_lt MOST_BYTE (ops.1.1.0)) (named_bin (replicate (ops.1.0) (ops.1.1.0))) x (ops.0)
+verb_named areas x word.Fun ops = made_if_named (nat_lt MOST_ARITY (ops.1.1.0)) (Fun (ops.1.0) (ops.1.1.0) x.number (all_named_made x.registers (held_terms (ops.1.1.1.0)))) x (ops.0)
+verb_named areas x word.Env ops = choose_named x (ops.0) (ops.1.1.0) (pick.Env (ops.1.0))
+verb_named areas x word.Ref ops = goes (record (to_register (ops.0) (Ref x.number (x.refs + 1)) x) { refs = x.refs + 1 })
+verb_named areas x word.Own ops = goes (to_register (ops.0) (Pid x.number) x)
+verb_named areas x word.MkTuple ops = made_if_named (nat_lt MOST_PLACES (ops.1.0)) (named_repeated shape.Tuple (ops.1.0) (in_register (ops.1.1.0) x)) x (ops.0)
+verb_named areas x word.MkList ops = made_if_named (nat_lt MOST_PLACES (ops.1.0)) (named_repeated shape.List (ops.1.0) (in_register (ops.1.1.0) x)) x (ops.0)
+verb_named areas x word.Push ops = goes (record x { stack = in_register (ops.0) x ∷ x.stack })
+verb_named areas x word.Pop ops = pop_named x.stack x (ops.0)
+verb_named areas x word.Send ops = send_named (receiver_named (ops.1.0) x) (in_register (ops.0) x) x
+verb_named areas x word.Recv ops = recv_named x.queue x (ops.0)
+verb_named areas x word.Queue ops = Goes (Some x) (codes "[" ++ (divided (map named_text x.queue) ++ codes "]"))
+verb_named areas x word.Print ops = tell_named x (unless_beyond (named_beyond (in_register (ops.0) x)) (named_text (in_register (ops.0) x)))
+verb_named areas x word.Eq ops = tell_named x (order_named eq_text (in_register (ops.0) x) (in_register (ops.1.0) x))
+verb_named areas x word.Cmp ops = tell_named x (order_named cmp_text (in_register (ops.0) x) (in_register (ops.1.0) x))
+verb_named areas x word.Flat ops = tell_named x (unless_beyond (named_beyond (in_register (ops.0) x)) (decimal (named_flat (in_register (ops.0) x))))
+verb_named areas x word.Lit ops = lit_named (area_by (ops.1.0) areas) x (ops.0) (ops.1.1.0)
+verb_named areas x word.Gc ops = goes x
+verb_named areas x word.Exit ops = Goes None (codes "ok")
+verb_named areas x _ ops = Stays Syntax
 
 -- a line of the process, where it lives or not
-abbrev pub line_named : Option NamedProcess → (w : Word) → Operands (kinds_of w) → NamedOutcome
-line_named None w ops = Stays NoProc
-line_named (Some x) w ops = verb_named x w ops
+abbrev pub line_named : List NamedArea → Option NamedProcess → (w : Word) → Operands (kinds_of w) → NamedOutcome
+line_named areas None w ops = Stays NoProc
+line_named areas (Some x) w ops = verb_named areas x w ops

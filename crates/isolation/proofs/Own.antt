@@ -1,5 +1,5 @@
 -- What a process's own line does and answers is, by name, a function of the process by name.
-use Rattle.std.proofs.Common.{◌≡◌, ℕ, ◌+◌, ◌<◌, length, ◌==◌, Bool, true, false, cond, ◌||◌, nat_lt, List, [], ◌∷◌, ◌++◌, map, replicate, codes, decimal, Option, Some, None, Result, Ok, Err, refl, sym, ap, subst, ◌∙◌}
+use Rattle.std.proofs.Common.{◌≡◌, ℕ, zero, suc, ◌+◌, ◌<◌, length, ◌==◌, Bool, true, false, cond, ◌||◌, nat_lt, List, [], ◌∷◌, ◌++◌, map, replicate, codes, decimal, Option, Some, None, Result, Ok, Err, refl, sym, ap, subst, ◌∙◌}
 use Rattle.std.specs.Prelude.{option_map}
 use Rattle.std.proofs.lemmas.List.{map-set, map-append}
 use Rattle.std.specs.declared.cmp.Ordering.{Ordering}
@@ -18,7 +18,7 @@ use Rattle.script_grammar.specs.declared.command.Shape.TheVariants as shape
 use Rattle.script_grammar.specs.declared.command.To.{To}
 use Rattle.script_grammar.specs.declared.command.To.TheVariants.{Number, Held}
 use Rattle.script_grammar.specs.declared.refusal.Refusal.{Refusal}
-use Rattle.script_grammar.specs.declared.refusal.Refusal.TheVariants.{NoProc, BadArg, Empty, Big, MapSize, Syntax}
+use Rattle.script_grammar.specs.declared.refusal.Refusal.TheVariants.{NoProc, BadArg, Empty, Big, MapSize, NoArea, Syntax}
 use Rattle.script_grammar.specs.declared.word.Word.{Word}
 use Rattle.script_grammar.specs.declared.word.Word.TheVariants as word
 use Rattle.script_grammar.specs.Written.{Term, Terms, Operands, kinds_of, Written}
@@ -26,15 +26,15 @@ use Rattle.script_grammar.specs.Written.Written.{OfProcess}
 use Rattle.script_grammar.specs.Written.Terms.{end, ◌▹◌}
 use Rattle.script_grammar.specs.Names.{Parsed, held_terms, reg, number_of, atoms_of, operands_atoms, all_atoms, operands_terms, verb_of, names_after, parsed_of}
 use Rattle.plain_machine.specs.declared.limits.TheConstants.{MOST_PLACES, MOST_FILL, MOST_ARITY, MOST_BYTE}
-use Rattle.plain_machine.specs.State.{Process as Live, State, process_of, register, with_register, with_process, with_queued, without_process}
+use Rattle.plain_machine.specs.State.{Process as Live, State, Area, process_of, area_of, register, with_register, with_process, with_queued, without_process}
 use Rattle.plain_machine.specs.Made.{tree_of, trees_of_terms, bin_tree, too_many}
 use Rattle.plain_machine.specs.Flaws.{is_wide, is_big, flaw_of}
 use Rattle.plain_machine.specs.Parts.{picked, pairs_in, repeated}
 use Rattle.plain_machine.specs.Tightness.{pid_number, receiver}
 use Rattle.plain_machine.specs.Texts.{divided}
-use Rattle.plain_machine.specs.Step.{Outcome, does, unless_flawed, choose, put_unless_wide, put_unless_big, put_into, fill_if, fun_if, repeat_if, pop_from, send_within, send_to, recv_from, tells, unless_beyond, eq_text, cmp_text, by_verb, in_process, step, with_made, written_tree, written_flaw, env_of}
+use Rattle.plain_machine.specs.Step.{Outcome, does, unless_flawed, choose, literal_at, literal_of, lit_from, put_unless_wide, put_unless_big, put_into, fill_if, fun_if, repeat_if, pop_from, send_within, send_to, recv_from, tells, unless_beyond, eq_text, cmp_text, by_verb, in_process, step, with_made, written_tree, written_flaw, env_of}
 use Rattle.plain_machine.specs.Step.Outcome.{Refused}
-use Rattle.script_grammar.proofs.Naming.{ArePlaced, placed-front, number-below, with-names-more, with-names-placed}
+use Rattle.script_grammar.proofs.Naming.{IsPlaced, ArePlaced, placed-front, number-below, with-names-more, with-names-placed}
 use Rattle.plain_machine.proofs.Properly.Making.{Extends, extends-none, bin-more, made-more}
 use Rattle.plain_machine.proofs.Properly.Living.{joined-end}
 use Rattle.isolation.specs.Named.NamedTree.{NamedTree, as_named, all_as_named, pairs_as_named, IsKnown, AreKnown, PairsKnown}
@@ -49,7 +49,8 @@ use Rattle.isolation.proofs.Named.Growing.{held-grown, held-known-grown}
 use Rattle.isolation.proofs.Named.Entering.{name-placed, have-names}
 use Rattle.isolation.proofs.Named.Parts.{IfKnown as IfTree, picked-known, repeated-known, env-known, env-by, set-known, join-known}
 use Rattle.isolation.proofs.Finding.{found, found-put, found-queued, found-gone, found-number}
-use Rattle.isolation.proofs.ByName.{NamedProcess, process_named, KnownProcess, IfKnown, lives_named, IsKnownIn, NamedOutcome, outcome_named, KnownAfter, in_register, to_register, goes, unless_named, set_named, chosen_named, pairs_of_named, unless_wide_named, unless_big_named, pair_named, made_if_named, pop_named, recv_named, number_of_named, receiver_named, queued_named, within_named, send_named, tell_named, order_named, verb_named, line_named}
+use Rattle.isolation.proofs.Areas.{NamedArea, area_named, areas_named, KnownAreas, AreasKnown, area_by, areas-grown, found-by, found-known}
+use Rattle.isolation.proofs.ByName.{lit_named, NamedProcess, process_named, KnownProcess, IfKnown, lives_named, IsKnownIn, NamedOutcome, outcome_named, KnownAfter, in_register, to_register, goes, unless_named, set_named, chosen_named, pairs_of_named, unless_wide_named, unless_big_named, pair_named, made_if_named, pop_named, recv_named, number_of_named, receiver_named, queued_named, within_named, send_named, tell_named, order_named, verb_named, line_named}
 use Rattle.isolation.proofs.ByName.NamedOutcome.{Goes, Stays}
 
 -- an outcome is so by name for a process, and leaves it known
@@ -304,48 +305,86 @@ module _ (s : State) (p : Parsed) (q : Live) (lives : process_of q.number s ≡ 
       (λ i. unless_named (flaw_of (m.big i) (m.wide i)) y))
 
   -- each verb
-  verb-step : lives_named q.number s ≡ Some x → IsKnownIn q.number s → (w : Word) (ops : Operands (kinds_of w)) → p.terms ≡ operands_terms (kinds_of w) ops
-      → ArePlaced p.names (operands_atoms (kinds_of w) ops) → OwnStep q.number (by_verb s p q (verb_of p.names w ops)) (verb_named x w ops)
-  verb-step before k word.Set ops e a = set-step (ops.0) (ops.1.0) p.terms e (have-names p.names (atoms_of (ops.1.0)) (placed-front p.names (atoms_of (ops.1.0)) [] a))
-  verb-step before k word.Hd ops e a = choose-step (ops.0) (ops.1.0) pick.Hd
-  verb-step before k word.Tl ops e a = choose-step (ops.0) (ops.1.0) pick.Tl
-  verb-step before k word.Elem ops e a = choose-step (ops.0) (ops.1.1.0) (pick.Elem (ops.1.0))
-  verb-step before k word.MapGet ops e a = choose-step (ops.0) (ops.1.0) (pick.MapGet (reg (ops.1.1.0)))
-  verb-step before k word.MapPut ops e a = own-as q.number (put_into (pairs_in (register (ops.1.0) q)) (register (ops.1.1.0) q) (register (ops.1.1.1.0) q) s p q (ops.0))
-      (pair_named (pairs_of_named (by (register (ops.1.0) q))) (by (register (ops.1.1.0) q)) (by (register (ops.1.1.1.0) q)) x (ops.0)) (verb_named x word.MapPut ops)
-      (pair-step (register (ops.1.0) q) (register (ops.1.1.0) q) (register (ops.1.1.1.0) q) (ops.0) (held-known (ops.1.0)) (held-known (ops.1.1.0)) (held-known (ops.1.1.1.0)))
-      (λ i. pair_named (pairs_of_named (held-by (ops.1.0) i)) (held-by (ops.1.1.0) i) (held-by (ops.1.1.1.0) i) x (ops.0))
-  verb-step before k word.Part ops e a = choose-step (ops.0) (ops.1.0) (pick.Part (ops.1.1.0) (ops.1.1.1.0))
-  verb-step before k word.Fill ops e a = fill-step (nat_lt MOST_FILL (ops.1.0) || nat_lt MOST_BYTE (ops.1.1.0)) (replicate (ops.1.0) (ops.1.1.0)) (ops.0)
-  verb-step before k word.Fun ops e a = fun-step (nat_lt MOST_ARITY (ops.1.1.0)) (number_of p.names (ops.1.0)) (ops.1.1.0) (ops.0) (ops.1.0) (ops.1.1.1.0)
-      (e ∙ joined-end (held_terms (ops.1.1.1.0))) (number-below p.names (ops.1.0) (a.0)) (name-placed p.names (ops.1.0) (a.0))
-  verb-step before k word.Env ops e a = choose-step (ops.0) (ops.1.1.0) (pick.Env (ops.1.0))
-  verb-step before k word.Ref ops e a = ref-step (ops.0)
-  verb-step before k word.Own ops e a = register-step (ops.0) (tree.Pid q.number) (by_name.Pid q.number) tt refl
-  verb-step before k word.MkTuple ops e a = repeat-step (nat_lt MOST_PLACES (ops.1.0)) shape.Tuple (ops.1.0) (ops.0) (ops.1.1.0)
-  verb-step before k word.MkList ops e a = repeat-step (nat_lt MOST_PLACES (ops.1.0)) shape.List (ops.1.0) (ops.0) (ops.1.1.0)
-  verb-step before k word.Push ops e a = push-step (ops.0)
-  verb-step before k word.Pop ops e a = pop-step q.stack (ops.0) h.stack
-  verb-step before k word.Send ops e a = own-as q.number (send_to (receiver (ops.1.0) q) (register (ops.0) q) s p)
-      (send_named (receiver (ops.1.0) q) (by (register (ops.0) q)) x) (verb_named x word.Send ops)
-      (send-step (receiver (ops.1.0) q) (register (ops.0) q) (held-known (ops.0))) (λ i. send_named (receiver-by (ops.1.0) i) (held-by (ops.0) i) x)
-  verb-step before k word.Recv ops e a = recv-step q.queue (ops.0) h.queue
-  verb-step before k word.Queue ops e a = own-as q.number (tells s (Ok (codes "[" ++ (divided (map (text p.names s.shared) q.queue) ++ codes "]"))))
-      (Goes (Some x) (codes "[" ++ (divided (map (text p.names s.shared) q.queue) ++ codes "]"))) (verb_named x word.Queue ops)
-      (tell-step before k (Ok (codes "[" ++ (divided (map (text p.names s.shared) q.queue) ++ codes "]")))) (ap (Goes (Some x)) queue-by)
-  verb-step before k word.Print ops e a = tell-as before k (unless_beyond (is_beyond s.shared (register (ops.0) q)) (text p.names s.shared (register (ops.0) q)))
-      (unless_beyond (named_beyond (in_register (ops.0) x)) (named_text (in_register (ops.0) x))) (print-by (ops.0))
-  verb-step before k word.Eq ops e a =
-      tell-as before k (unless_beyond (is_beyond s.shared (register (ops.0) q) || is_beyond s.shared (register (ops.1.0) q))
-      (eq_text (order p.names s.shared (register (ops.0) q) (register (ops.1.0) q)))) (order_named eq_text (in_register (ops.0) x) (in_register (ops.1.0) x)) (order-by eq_text (ops.0) (ops.1.0))
-  verb-step before k word.Cmp ops e a =
-      tell-as before k (unless_beyond (is_beyond s.shared (register (ops.0) q) || is_beyond s.shared (register (ops.1.0) q))
-      (cmp_text (order p.names s.shared (register (ops.0) q) (register (ops.1.0) q)))) (order_named cmp_text (in_register (ops.0) x) (in_register (ops.1.0) x)) (order-by cmp_text (ops.0) (ops.1.0))
-  verb-step before k word.Flat ops e a = tell-as before k (unless_beyond (is_beyond s.shared (register (ops.0) q)) (decimal (flat (register (ops.0) q))))
-      (unless_beyond (named_beyond (in_register (ops.0) x)) (decimal (named_flat (in_register (ops.0) x)))) (flat-by (ops.0))
-  verb-step before k word.Gc ops e a = collect-step
-  verb-step before k word.Exit ops e a = exit-step
-  verb-step before k _ ops e a = own-refused q.number Syntax
+  -- `lit`, where the areas are known
+  abbrev areas : List NamedArea
+  areas = map (area_named p.names s.shared) s.areas
+
+  literal-by : (i : ℕ) (ts : List Tree) → option_map by (literal_at i ts) ≡ literal_at i (map by ts)
+  literal-by i [] = refl
+  literal-by zero (t ∷ ts) = refl
+  literal-by (suc i) (t ∷ ts) = literal-by i ts
+
+  literal-of-by : (i : ℕ) (ts : List Tree) → option_map by (literal_of i ts) ≡ literal_of i (map by ts)
+  literal-of-by zero ts = refl
+  literal-of-by (suc i) ts = literal-by i ts
+
+  at-literal : (i : ℕ) (ts : List Tree) → AllKnown p.names s.shared ts → IfTree p.names s.shared (literal_at i ts)
+  at-literal i [] k = tt
+  at-literal zero (t ∷ ts) k = k.0
+  at-literal (suc i) (t ∷ ts) k = at-literal i ts k.1
+
+  literal-known : (i : ℕ) (ts : List Tree) → AllKnown p.names s.shared ts → IfTree p.names s.shared (literal_of i ts)
+  literal-known zero ts k = tt
+  literal-known (suc i) ts k = at-literal i ts k
+
+  taken-step : (o : Option Area) (r i : ℕ) → ((a : Area) → o ≡ Some a → AllKnown p.names s.shared a.literals)
+      → OwnStep q.number (lit_from o s p q r i) (lit_named (option_map (area_named p.names s.shared) o) x r i)
+  taken-step None r i k = own-refused q.number NoArea
+  taken-step (Some a) r i k = own-as q.number (choose (literal_of i a.literals) s p q r) (chosen_named (option_map by (literal_of i a.literals)) x r)
+      (chosen_named (literal_of i (map by a.literals)) x r) (chosen-step (literal_of i a.literals) r (literal-known i a.literals (k a refl)))
+      (ap (λ z. chosen_named z x r) (literal-of-by i a.literals))
+
+  lit-step : (name : List ℕ) (r i : ℕ) → KnownAreas p.names s.shared s.areas → IsPlaced p.names name
+      → OwnStep q.number (lit_from (area_of (number_of p.names name) s) s p q r i) (lit_named (area_by name areas) x r i)
+  lit-step name r i known placed = own-as q.number (lit_from (area_of (number_of p.names name) s) s p q r i)
+      (lit_named (option_map (area_named p.names s.shared) (area_of (number_of p.names name) s)) x r i) (lit_named (area_by name areas) x r i)
+      (taken-step (area_of (number_of p.names name) s) r i (λ a e. found-known p.names s.shared (number_of p.names name) s.areas a known e))
+      (ap (λ z. lit_named z x r i) (found-by p.names s.shared name placed s.areas known))
+
+  module _ (beside : KnownAreas p.names s.shared s.areas) where
+    verb-step : lives_named q.number s ≡ Some x → IsKnownIn q.number s → (w : Word) (ops : Operands (kinds_of w)) → p.terms ≡ operands_terms (kinds_of w) ops
+        → ArePlaced p.names (operands_atoms (kinds_of w) ops) → OwnStep q.number (by_verb s p q (verb_of p.names w ops)) (verb_named areas x w ops)
+    verb-step before k word.Set ops e a = set-step (ops.0) (ops.1.0) p.terms e (have-names p.names (atoms_of (ops.1.0)) (placed-front p.names (atoms_of (ops.1.0)) [] a))
+    verb-step before k word.Hd ops e a = choose-step (ops.0) (ops.1.0) pick.Hd
+    verb-step before k word.Tl ops e a = choose-step (ops.0) (ops.1.0) pick.Tl
+    verb-step before k word.Elem ops e a = choose-step (ops.0) (ops.1.1.0) (pick.Elem (ops.1.0))
+    verb-step before k word.MapGet ops e a = choose-step (ops.0) (ops.1.0) (pick.MapGet (reg (ops.1.1.0)))
+    verb-step before k word.MapPut ops e a = own-as q.number (put_into (pairs_in (register (ops.1.0) q)) (register (ops.1.1.0) q) (register (ops.1.1.1.0) q) s p q (ops.0))
+        (pair_named (pairs_of_named (by (register (ops.1.0) q))) (by (register (ops.1.1.0) q)) (by (register (ops.1.1.1.0) q)) x (ops.0)) (verb_named areas x word.MapPut ops)
+        (pair-step (register (ops.1.0) q) (register (ops.1.1.0) q) (register (ops.1.1.1.0) q) (ops.0) (held-known (ops.1.0)) (held-known (ops.1.1.0)) (held-known (ops.1.1.1.0)))
+        (λ i. pair_named (pairs_of_named (held-by (ops.1.0) i)) (held-by (ops.1.1.0) i) (held-by (ops.1.1.1.0) i) x (ops.0))
+    verb-step before k word.Part ops e a = choose-step (ops.0) (ops.1.0) (pick.Part (ops.1.1.0) (ops.1.1.1.0))
+    verb-step before k word.Fill ops e a = fill-step (nat_lt MOST_FILL (ops.1.0) || nat_lt MOST_BYTE (ops.1.1.0)) (replicate (ops.1.0) (ops.1.1.0)) (ops.0)
+    verb-step before k word.Fun ops e a = fun-step (nat_lt MOST_ARITY (ops.1.1.0)) (number_of p.names (ops.1.0)) (ops.1.1.0) (ops.0) (ops.1.0) (ops.1.1.1.0)
+        (e ∙ joined-end (held_terms (ops.1.1.1.0))) (number-below p.names (ops.1.0) (a.0)) (name-placed p.names (ops.1.0) (a.0))
+    verb-step before k word.Env ops e a = choose-step (ops.0) (ops.1.1.0) (pick.Env (ops.1.0))
+    verb-step before k word.Ref ops e a = ref-step (ops.0)
+    verb-step before k word.Own ops e a = register-step (ops.0) (tree.Pid q.number) (by_name.Pid q.number) tt refl
+    verb-step before k word.MkTuple ops e a = repeat-step (nat_lt MOST_PLACES (ops.1.0)) shape.Tuple (ops.1.0) (ops.0) (ops.1.1.0)
+    verb-step before k word.MkList ops e a = repeat-step (nat_lt MOST_PLACES (ops.1.0)) shape.List (ops.1.0) (ops.0) (ops.1.1.0)
+    verb-step before k word.Push ops e a = push-step (ops.0)
+    verb-step before k word.Pop ops e a = pop-step q.stack (ops.0) h.stack
+    verb-step before k word.Send ops e a = own-as q.number (send_to (receiver (ops.1.0) q) (register (ops.0) q) s p)
+        (send_named (receiver (ops.1.0) q) (by (register (ops.0) q)) x) (verb_named areas x word.Send ops)
+        (send-step (receiver (ops.1.0) q) (register (ops.0) q) (held-known (ops.0))) (λ i. send_named (receiver-by (ops.1.0) i) (held-by (ops.0) i) x)
+    verb-step before k word.Recv ops e a = recv-step q.queue (ops.0) h.queue
+    verb-step before k word.Queue ops e a = own-as q.number (tells s (Ok (codes "[" ++ (divided (map (text p.names s.shared) q.queue) ++ codes "]"))))
+        (Goes (Some x) (codes "[" ++ (divided (map (text p.names s.shared) q.queue) ++ codes "]"))) (verb_named areas x word.Queue ops)
+        (tell-step before k (Ok (codes "[" ++ (divided (map (text p.names s.shared) q.queue) ++ codes "]")))) (ap (Goes (Some x)) queue-by)
+    verb-step before k word.Print ops e a = tell-as before k (unless_beyond (is_beyond s.shared (register (ops.0) q)) (text p.names s.shared (register (ops.0) q)))
+        (unless_beyond (named_beyond (in_register (ops.0) x)) (named_text (in_register (ops.0) x))) (print-by (ops.0))
+    verb-step before k word.Eq ops e a =
+        tell-as before k (unless_beyond (is_beyond s.shared (register (ops.0) q) || is_beyond s.shared (register (ops.1.0) q))
+        (eq_text (order p.names s.shared (register (ops.0) q) (register (ops.1.0) q)))) (order_named eq_text (in_register (ops.0) x) (in_register (ops.1.0) x)) (order-by eq_text (ops.0) (ops.1.0))
+    verb-step before k word.Cmp ops e a =
+        tell-as before k (unless_beyond (is_beyond s.shared (register (ops.0) q) || is_beyond s.shared (register (ops.1.0) q))
+        (cmp_text (order p.names s.shared (register (ops.0) q) (register (ops.1.0) q)))) (order_named cmp_text (in_register (ops.0) x) (in_register (ops.1.0) x)) (order-by cmp_text (ops.0) (ops.1.0))
+    verb-step before k word.Flat ops e a = tell-as before k (unless_beyond (is_beyond s.shared (register (ops.0) q)) (decimal (flat (register (ops.0) q))))
+        (unless_beyond (named_beyond (in_register (ops.0) x)) (decimal (named_flat (in_register (ops.0) x)))) (flat-by (ops.0))
+    verb-step before k word.Lit ops e a = lit-step (ops.1.0) (ops.0) (ops.1.1.0) beside a.0
+    verb-step before k word.Gc ops e a = collect-step
+    verb-step before k word.Exit ops e a = exit-step
+    verb-step before k _ ops e a = own-refused q.number Syntax
 
 -- a known process is the same by name, and known, where more names and shared binaries stand behind those that there are
 pub grown-process : (names new shared next : List (List ℕ)) (q : Live) → Extends names new → Extends shared next → KnownProcess names shared q
@@ -365,24 +404,26 @@ pub more-names : (s : State) (w : Written) → Extends s.names (names_after s.na
 more-names s w = let m : (more : List (List ℕ)) × (names_after s.names w ≡ s.names ++ more) = with-names-more s.names (all_atoms w) in record { more = m.0; are = m.1 }
 
 -- a line of a process that lives, or of one that does not
-pub own-line : (s : State) (n : ℕ) (w : Word) (ops : Operands (kinds_of w)) → IsKnownIn n s → OwnStep n (step s (parsed_of s.names (OfProcess n w ops))) (line_named (lives_named n s) w ops)
-own-line s n w ops k = at (process_of n s) refl k
+pub own-line : (s : State) (n : ℕ) (w : Word) (ops : Operands (kinds_of w)) → IsKnownIn n s → AreasKnown s
+    → OwnStep n (step s (parsed_of s.names (OfProcess n w ops))) (line_named (areas_named s) (lives_named n s) w ops)
+own-line s n w ops k known = at (process_of n s) refl k
   where
     p : Parsed
     p = parsed_of s.names (OfProcess n w ops)
 
     at-number : (q : Live) → process_of q.number s ≡ Some q → KnownProcess s.names s.shared q → IsKnownIn q.number s → p.terms ≡ operands_terms (kinds_of w) ops
-        → OwnStep q.number (by_verb s p q (verb_of p.names w ops)) (verb_named (process_named s.names s.shared q) w ops)
+        → OwnStep q.number (by_verb s p q (verb_of p.names w ops)) (verb_named (areas_named s) (process_named s.names s.shared q) w ops)
     at-number q lives h k e =
         let g = grown-process s.names p.names s.shared s.shared q (more-names s (OfProcess n w ops)) (extends-none s.shared) h in
-        own-as q.number (by_verb s p q (verb_of p.names w ops)) (verb_named (process_named p.names s.shared q) w ops) (verb_named (process_named s.names s.shared q) w ops)
-        (verb-step s p q lives (g.1) (ap (option_map (process_named s.names s.shared)) lives ∙ ap Some (sym (g.0))) k w ops e (with-names-placed s.names (operands_atoms (kinds_of w) ops)))
-        (ap (λ z. verb_named z w ops) (g.0))
+        let ar = areas-grown s.names p.names s.shared s.shared s.areas (more-names s (OfProcess n w ops)) (extends-none s.shared) known in
+        own-as q.number (by_verb s p q (verb_of p.names w ops)) (verb_named (map (area_named p.names s.shared) s.areas) (process_named p.names s.shared q) w ops) (verb_named (areas_named s) (process_named s.names s.shared q) w ops)
+        (verb-step s p q lives (g.1) (ar.1) (ap (option_map (process_named s.names s.shared)) lives ∙ ap Some (sym (g.0))) k w ops e (with-names-placed s.names (operands_atoms (kinds_of w) ops)))
+        (λ i. verb_named (ar.0 i) (g.0 i) w ops)
 
     at : (o : Option Live) → process_of n s ≡ o → IfKnown s.names s.shared o
-        → OwnStep n (in_process o s p (verb_of p.names w ops)) (line_named (option_map (process_named s.names s.shared) o) w ops)
+        → OwnStep n (in_process o s p (verb_of p.names w ops)) (line_named (areas_named s) (option_map (process_named s.names s.shared) o) w ops)
     at None e h = own-refused n NoProc
     at (Some q) e h =
         let is : q.number ≡ n = found-number n s.processes q e in
-        let P : ℕ → Type 0 = λ z. OwnStep z (by_verb s p q (verb_of p.names w ops)) (verb_named (process_named s.names s.shared q) w ops) in
+        let P : ℕ → Type 0 = λ z. OwnStep z (by_verb s p q (verb_of p.names w ops)) (verb_named (areas_named s) (process_named s.names s.shared q) w ops) in
         subst P is (at-number q (subst (λ (z : ℕ). process_of z s ≡ Some q) (sym is) e) h (subst (λ (z : ℕ). IsKnownIn z s) (sym is) k) refl)

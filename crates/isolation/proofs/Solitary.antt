@@ -17,7 +17,7 @@ use Rattle.isolation.specs.Views.Sight.{own, born, message, area}
 use Rattle.isolation.specs.Solo.{solo_first, solo_after, left_by, step_at}
 use Rattle.isolation.specs.Laws.{AtMost, LivesAlone}
 use Rattle.isolation.proofs.Finding.{found, live-found, found-queued}
-use Rattle.isolation.proofs.Others.{OtherOutcome, other-line}
+use Rattle.isolation.proofs.Others.{area-not-own, OtherOutcome, other-line}
 use Rattle.isolation.proofs.Births.{lives-same}
 
 -- the sight is one of this process
@@ -71,8 +71,9 @@ all-views p (e ∷ events) = join-views p (sights p e) (view_of p events) (sight
 
 -- a line that is not one process's own, and no spawn, brings it not to live
 stays-dead : (n : ℕ) (s : State) (w : Written) (o : Outcome) → OtherOutcome n s w o → (w ≡ OfSystem sys.Spawn tt → ⊥) → is_live n (left_by s o) ≡ is_live n s
-stays-dead n s w (Accepted next reply) (inl h) never = lives-same n s next h.more h.is
-stays-dead n s w (Accepted next reply) (inr h) never = absurd (never h.said)
+stays-dead n s w (Accepted next reply) (inl h) never = lives-same n s next (h.0).more (h.0).is
+stays-dead n s w (Accepted next reply) (inr (inl h)) never = absurd (never h.said)
+stays-dead n s w (Accepted next reply) (inr (inr h)) never = live-found n next.processes ∙ (ap is_some h.is ∙ sym (live-found n s.processes))
 stays-dead n s w (Refused r) h never = refl
 stays-dead n s w Mapped h never = refl
 
@@ -87,11 +88,6 @@ own-no-spawn p w mine e = both_ways (is_own p (Some w)) (ap (λ z. is_own p (Som
 
 area-no-spawn : (w : Written) → is_area_line w ≡ true → w ≡ OfSystem sys.Spawn tt → ⊥
 area-no-spawn w mine e = both_ways (is_area_line w) (ap is_area_line e) mine
-
-area-not-own : (n : ℕ) (w : Written) → is_area_line w ≡ true → is_own n (Some w) ≡ false
-area-not-own n (OfProcess k w ops) mine = absurd (cc)
-area-not-own n (OfSystem w ops) mine = refl
-area-not-own n Nothing mine = refl
 
 queued-lives : (n : ℕ) (t : Tree) (o : Option Live) → is_some (option_map (with_queued n t) o) ≡ is_some o
 queued-lives n t None = refl

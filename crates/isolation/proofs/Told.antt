@@ -1,28 +1,33 @@
 -- Each run has events; what an event that is not a process's own brings it; and each process is alone in them.
-use Rattle.std.proofs.Common.{◌≡◌, ℕ, ◌≤◌, Bool, true, false, ◌⊎◌, inl, inr, List, [], ◌∷◌, ◌++◌, length, codes, decimal, Option, Some, None, refl, sym, ap, subst, ◌∙◌}
+use Rattle.std.proofs.Common.{◌≡◌, ℕ, ◌≤◌, Bool, true, false, cond, ◌&&◌, ◌⊎◌, inl, inr, List, [], ◌∷◌, ◌++◌, length, codes, decimal, Option, Some, None, refl, sym, ap, subst, ◌∙◌}
 use Rattle.std.specs.Prelude.{MatchBool}
+use Rattle.std.specs.Str.{bytes_eq}
 use Rattle.line_io.specs.Lines.{Line, text, long}
 use Rattle.atom_names.specs.Names.{most_names}
 use Rattle.script_grammar.specs.declared.command.Command.{Command}
+use Rattle.script_grammar.specs.declared.refusal.Refusal.{Refusal}
+use Rattle.script_grammar.specs.declared.refusal.Refusal.TheVariants.{NoSpace, Syntax, Atoms, Long}
 use Rattle.script_grammar.specs.declared.word.SysWord.TheVariants as sys
 use Rattle.script_grammar.specs.Written.{Written}
-use Rattle.script_grammar.specs.Written.Written.{Nothing, OfProcess, OfSystem}
-use Rattle.script_grammar.specs.Grammar.{IsBuilt}
+use Rattle.script_grammar.specs.Written.Written.{OfSystem}
 use Rattle.script_grammar.specs.Names.{Parsed, parsed_of}
 use Rattle.script_grammar.specs.ReadAs.{IsReadAs, Reading}
 use Rattle.script_grammar.specs.ReadAs.Reading.{Means, NoSyntax, NoAtoms}
-use Rattle.plain_machine.specs.State.{State}
+use Rattle.plain_machine.specs.State.{State, process_of}
+use Rattle.plain_machine.specs.Tightness.{grow}
 use Rattle.plain_machine.specs.Step.{Outcome}
 use Rattle.plain_machine.specs.Step.Outcome.{Accepted, Refused, Mapped}
-use Rattle.plain_machine.specs.Run.{Run, LineStep, ReadingStep, CommandStep, Gives, Skips, LacksSpace, is_nothing}
+use Rattle.plain_machine.specs.Run.{Run, LineStep, ReadingStep, CommandStep, Gives, Skips, LacksSpace, is_nothing, refusal_text}
 use Rattle.plain_machine.specs.Laws.{HoldsProper}
+use Rattle.plain_machine.proofs.ByLine.Told.{refusal-begins}
 use Rattle.plain_machine.proofs.ByLine.Runs.{run-one}
 use Rattle.plain_machine.proofs.Properly.Living.{run-proper}
-use Rattle.plain_machine.proofs.Properly.Making.{extends-none}
+use Rattle.plain_machine.proofs.Properly.Making.{Extends, extends-none}
 use Rattle.isolation.specs.Events.{Event, IsEvent, IsAnswered, TellsEvents, lines_of, replies_of}
-use Rattle.isolation.specs.Views.{is_own, areas}
+use Rattle.isolation.specs.Views.{is_own, is_area_line, is_accepted, areas}
+use Rattle.isolation.specs.Views.Sight.{area}
 use Rattle.isolation.specs.Solo.{step_at}
-use Rattle.isolation.proofs.Others.{Passes, Comes, OtherOutcome, passes-same, other-line}
+use Rattle.isolation.proofs.Others.{Passes, Comes, ChangesAreas, OtherOutcome, passes-same, other-line}
 
 -- an event is a line of the machine
 pub event-line : (may : ℕ → State → Parsed → Bool) (words : ℕ) (quits : Bool) (e : Event) (line : Line) (said : Option Written) → IsAnswered may words quits e line said
@@ -99,22 +104,68 @@ pub record BySpawn (m : ℕ) (e : Event) : Type 0 where
   pub is_next : m ≡ e.before.next
   pub replies : e.replies ≡ (codes "ok " ++ decimal m) ∷ []
 
+-- an accepted line of literal areas
+pub record ByArea (m : ℕ) (e : Event) : Type 0 where
+  pub written : Written
+  pub said : e.said ≡ Some written
+  pub line : is_area_line written ≡ true
+  pub left : step_at e.before written ≡ Accepted e.after (codes "ok")
+  pub replies : e.replies ≡ codes "ok" ∷ []
+  pub changes : ChangesAreas m e.before written e.after (codes "ok")
+
+-- nothing is seen of literal areas
+abbrev pub IsQuiet : Event → Type 0
+IsQuiet e = areas e.said e.replies ≡ []
+
 abbrev pub Brings : ℕ → Event → Type 0
-Brings m e = Passes m e.before e.after ⊎ BySpawn m e
+Brings m e = (Passes m e.before e.after × IsQuiet e) ⊎ (BySpawn m e ⊎ ByArea m e)
 
-stays : (m : ℕ) (e : Event) → e.after ≡ e.before → Brings m e
-stays m e h = inl (subst (Passes m e.before) (sym h) (passes-same m e.before e.before (extends-none e.before.names) (extends-none e.before.shared) refl))
+-- a line of something else, and a line that is not accepted, are
+quiet-line : (w : Written) (said : Option Written) (replies : List (List ℕ)) → said ≡ Some w → is_area_line w ≡ false → areas said replies ≡ []
+quiet-line w said replies is h = ap (λ z. areas z replies) is ∙ ap (λ b. cond (b && is_accepted replies) (area w ∷ []) []) h
 
-gives-brings : (m : ℕ) (e : Event) (w : Written) (quits : Bool) (c : Command) (o : Outcome) → e.said ≡ Some w → OtherOutcome m e.before w o → Gives o e.before c quits e.replies e.after → Brings m e
-gives-brings m e w quits c (Accepted next reply) is (inl h) g = inl (subst (Passes m e.before) (sym g.is) h)
-gives-brings m e w quits c (Accepted next reply) is (inr h) g = inr (record {
+quiet-replies : (said : Option Written) (replies : List (List ℕ)) → is_accepted replies ≡ false → areas said replies ≡ []
+quiet-replies None replies h = refl
+quiet-replies (Some w) replies h = at (is_area_line w)
+  where
+    at : (b : Bool) → cond (b && is_accepted replies) (area w ∷ []) [] ≡ []
+    at true = ap (λ b. cond b (area w ∷ []) []) h
+    at false = refl
+
+refusal-no-ok : (r : Refusal) → is_accepted (refusal_text r ∷ []) ≡ false
+refusal-no-ok r = ap (λ z. bytes_eq z (codes "ok")) ((refusal-begins r).1)
+
+quiet-refusal : (said : Option Written) (replies : List (List ℕ)) (r : Refusal) → replies ≡ refusal_text r ∷ [] → areas said replies ≡ []
+quiet-refusal said replies r e = quiet-replies said replies (ap is_accepted e ∙ refusal-no-ok r)
+
+stays : (m : ℕ) (e : Event) → e.after ≡ e.before → IsQuiet e → Brings m e
+stays m e h quiet = inl (subst (Passes m e.before) (sym h) (passes-same m e.before e.before (extends-none e.before.names) (extends-none e.before.shared) refl refl), quiet)
+
+gives-brings : (m : ℕ) (e : Event) (w : Written) (quits : Bool) (c : Command) (o : Outcome) → e.said ≡ Some w → step_at e.before w ≡ o → OtherOutcome m e.before w o
+    → Gives o e.before c quits e.replies e.after → Brings m e
+gives-brings m e w quits c (Accepted next reply) is at (inl h) g = inl (subst (Passes m e.before) (sym g.is) (h.0), quiet-line w e.said e.replies is (h.1))
+gives-brings m e w quits c (Accepted next reply) is at (inr (inl h)) g = inr (inl (record {
   comes = subst (Comes m e.before) (sym g.is) h.comes;
   said = is ∙ ap Some h.said;
   is_next = h.is_next;
   replies = g.said ∙ ap (λ z. z ∷ []) h.told;
-})
-gives-brings m e w quits c (Refused r) is h g = stays m e g.same
-gives-brings m e w quits c Mapped is h g = stays m e g.same
+}))
+gives-brings m e w quits c (Accepted next reply) is at (inr (inr h)) g = inr (inr (record {
+  written = w;
+  said = is;
+  line = h.said;
+  left = at ∙ (λ i. Accepted (sym g.is i) (h.told i));
+  replies = g.said ∙ ap (λ z. z ∷ []) h.told;
+  changes = record {
+    names = subst (λ (z : State). Extends e.before.names z.names) (sym g.is) h.names;
+    shared = subst (λ (z : State). Extends e.before.shared z.shared) (sym g.is) h.shared;
+    is = ap (process_of m) g.is ∙ h.is;
+    said = h.said;
+    told = refl;
+  };
+}))
+gives-brings m e w quits c (Refused r) is at h g = stays m e g.same (quiet-refusal e.said e.replies r g.said)
+gives-brings m e w quits c Mapped is at h g = stays m e g.same (quiet-line w e.said e.replies is h)
 
 command-brings : (may : ℕ → State → Parsed → Bool) (words : ℕ) (quits : Bool) (m : ℕ) (e : Event) (w : Written) → e.said ≡ Some w → is_own m (Some w) ≡ false
     → CommandStep may words e.before (parsed_of e.before.names w) quits e.replies e.after → Brings m e
@@ -123,27 +174,14 @@ command-brings may words quits m e w is apart h = at (is_nothing (parsed_of e.be
     at : (b : Bool) → MatchBool b (Skips e.before quits e.replies e.after)
         (Gives (step_at e.before w) e.before (parsed_of e.before.names w).command quits e.replies e.after ⊎ LacksSpace may words e.before (parsed_of e.before.names w) quits e.replies e.after)
         → Brings m e
-    at true k = stays m e k.same
-    at false (inl k) = gives-brings m e w quits (parsed_of e.before.names w).command (step_at e.before w) is (other-line m e.before w apart) k
-    at false (inr k) = stays m e k.refuses.same
+    at true k = stays m e k.same (quiet-replies e.said e.replies (ap is_accepted k.said))
+    at false (inl k) = gives-brings m e w quits (parsed_of e.before.names w).command (step_at e.before w) is refl (other-line m e.before w apart) k
+    at false (inr k) = stays m e k.refuses.same (quiet-refusal e.said e.replies (NoSpace (grow e.before (parsed_of e.before.names w))) k.refuses.said)
 
 pub event-brings : (may : ℕ → State → Parsed → Bool) (words : ℕ) (quits : Bool) (m : ℕ) (e : Event) (line : Line) (said : Option Written) → e.said ≡ said → is_own m said ≡ false
     → IsAnswered may words quits e line said → Brings m e
 event-brings may words quits m e (text line) (Some w) is apart h = command-brings may words quits m e w is apart h.step
-event-brings may words quits m e (text line) None is apart (inl h) = stays m e ((h.1).same)
-event-brings may words quits m e (text line) None is apart (inr h) = stays m e ((h.1).same)
+event-brings may words quits m e (text line) None is apart (inl h) = stays m e ((h.1).same) (quiet-refusal e.said e.replies Syntax ((h.1).said))
+event-brings may words quits m e (text line) None is apart (inr h) = stays m e ((h.1).same) (quiet-refusal e.said e.replies Atoms ((h.1).said))
 event-brings may words quits m e long (Some w) is apart h = absurd h
-event-brings may words quits m e long None is apart h = stays m e h.same
-
--- no line of literal areas is built
-area-none : (w : Written) (replies : List (List ℕ)) → IsBuilt w → areas (Some w) replies ≡ []
-area-none (OfSystem sys.Load ops) replies b = absurd (cc)
-area-none (OfSystem sys.Purge ops) replies b = absurd (cc)
-area-none (OfSystem w ops) replies b = refl
-area-none (OfProcess n w ops) replies b = refl
-area-none Nothing replies b = refl
-
-pub areas-none : (may : ℕ → State → Parsed → Bool) (words : ℕ) (quits : Bool) (e : Event) (line : Line) (said : Option Written) → IsAnswered may words quits e line said → areas said e.replies ≡ []
-areas-none may words quits e (text line) (Some w) h = area-none w e.replies h.built
-areas-none may words quits e line None h = refl
-areas-none may words quits e long (Some w) h = absurd h
+event-brings may words quits m e long None is apart h = stays m e h.same (quiet-refusal e.said e.replies Long h.said)

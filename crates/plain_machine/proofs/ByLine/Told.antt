@@ -15,7 +15,7 @@ use Rattle.plain_machine.specs.Run.{LineStep, ReadingStep, CommandStep, Gives, S
 use Rattle.plain_machine.proofs.ByLine.Commands.{IsTold, command-does}
 
 -- the text of a refusal begins with an `e`
-refusal-begins : (r : Refusal) → (rest : List ℕ) × (refusal_text r ≡ 101 ∷ rest)
+pub refusal-begins : (r : Refusal) → (rest : List ℕ) × (refusal_text r ≡ 101 ∷ rest)
 refusal-begins NoProc = (codes "rror noproc", refl)
 refusal-begins BadArg = (codes "rror badarg", refl)
 refusal-begins Empty = (codes "rror empty", refl)

@@ -1,5 +1,5 @@
 -- Proper trees where a literal is taken from an area, and where areas come and go.
-use Rattle.std.proofs.Common.{◌≡◌, ℕ, zero, suc, Bool, true, false, not, cond, ◌==◌, List, [], ◌∷◌, ◌++◌, filter, Option, Some, None, subst}
+use Rattle.std.proofs.Common.{◌≡◌, ℕ, zero, suc, Bool, true, false, not, cond, ◌==◌, List, [], ◌∷◌, ◌++◌, filter, Some, None, subst}
 use Rattle.std.specs.Prelude.{flat_map}
 use Rattle.std.specs.List.{find}
 use Rattle.plain_term.specs.Tree.{Tree, Trees}
@@ -9,7 +9,6 @@ use Rattle.script_grammar.specs.declared.limits.TheConstants.{LEVELS}
 use Rattle.script_grammar.specs.Written.{Terms}
 use Rattle.script_grammar.specs.Grammar.{AllMayStand, AreBuiltTerms}
 use Rattle.script_grammar.specs.Names.{Parsed, atoms_of_all}
-use Rattle.plain_machine.specs.Made.{trees_of_terms}
 use Rattle.plain_machine.specs.Flaws.{are_wide, are_big}
 use Rattle.plain_machine.specs.State.{Area, State}
 use Rattle.plain_machine.specs.Tightness.{held_trees}
