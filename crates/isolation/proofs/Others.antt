@@ -13,7 +13,7 @@ use Rattle.script_grammar.specs.Written.{Written, Terms, Operands, sys_kinds_of}
 use Rattle.script_grammar.specs.Written.Written.{Nothing, OfProcess, OfSystem}
 use Rattle.script_grammar.specs.Written.Terms.{end, ◌▹◌}
 use Rattle.script_grammar.specs.Names.{Parsed, parsed_of, verb_of}
-use Rattle.plain_machine.specs.State.{Process as Live, State, Area, process_of, area_of, fresh_process, register, with_register, with_process, with_queued}
+use Rattle.plain_machine.specs.State.{Process as Live, State, Area, process_of, area_with, fresh_process, register, with_register, with_process, with_queued}
 use Rattle.plain_machine.specs.Made.{bin_tree, too_many}
 use Rattle.plain_machine.specs.Parts.{picked, pairs_in}
 use Rattle.plain_machine.specs.Tightness.{receiver}
@@ -173,7 +173,7 @@ module _ (m : ℕ) (s : State) (p : Parsed) (q : Live) (n : Extends s.names p.na
   verb-passes (Set r) = flawed-passes (written_flaw s p q p.terms) (does p (with_made s q r.0 (written_tree s p q p.terms)))
       (put-passes ((written_tree s p q p.terms).1) (with_register r.0 ((written_tree s p q p.terms).0) q) refl (written-more p.terms))
   verb-passes (Choose r k how) = choose-passes (picked p.names s.shared q how (register k.0 q)) r.0
-  verb-passes (Lit r name i) = lit-passes (area_of name s) r.0 i
+  verb-passes (Lit r name i) = lit-passes (area_with name s) r.0 i
   verb-passes (MapPut r k a b) = pair-passes (pairs_in (register k.0 q)) (register a.0 q) (register b.0 q) r.0
   verb-passes (Fill r len byte) = fill-passes _ _ r.0
   verb-passes (MakeFun r name arity) = fun-passes _ _ r.0
@@ -217,7 +217,8 @@ spawn-other m s p false h = at (process_of m s) refl
           is_next = sym same;
           told = ap (λ z. codes "ok " ++ decimal z) same;
         }))
-    at-next e false is = inl (passes-same m s _ h (extends-none s.shared) (none-come m (fresh_process s.next) s.processes e ∙ (ap (λ b. cond b (Some (fresh_process s.next)) None) is ∙ sym e)) refl, refl)
+    at-next e false is = inl (passes-same m s _ h (extends-none s.shared) (none-come m (fresh_process s.next) s.processes e
+    ∙ (ap (λ b. cond b (Some (fresh_process s.next)) None) is ∙ sym e)) refl, refl)
 
     at : (o : Option Live) → process_of m s ≡ o → OtherOutcome m s (OfSystem sys.Spawn tt) (spawn_if false s p)
     at None e = at-next e (s.next == m) refl

@@ -26,7 +26,7 @@ use Rattle.script_grammar.specs.Written.Written.{OfProcess}
 use Rattle.script_grammar.specs.Written.Terms.{end, ◌▹◌}
 use Rattle.script_grammar.specs.Names.{Parsed, held_terms, reg, number_of, atoms_of, operands_atoms, all_atoms, operands_terms, verb_of, names_after, parsed_of}
 use Rattle.plain_machine.specs.declared.limits.TheConstants.{MOST_PLACES, MOST_FILL, MOST_ARITY, MOST_BYTE}
-use Rattle.plain_machine.specs.State.{Process as Live, State, Area, process_of, area_of, register, with_register, with_process, with_queued, without_process}
+use Rattle.plain_machine.specs.State.{Process as Live, State, Area, process_of, area_with, register, with_register, with_process, with_queued, without_process}
 use Rattle.plain_machine.specs.Made.{tree_of, trees_of_terms, bin_tree, too_many}
 use Rattle.plain_machine.specs.Flaws.{is_wide, is_big, flaw_of}
 use Rattle.plain_machine.specs.Parts.{picked, pairs_in, repeated}
@@ -335,10 +335,10 @@ module _ (s : State) (p : Parsed) (q : Live) (lives : process_of q.number s ≡ 
       (ap (λ z. chosen_named z x r) (literal-of-by i a.literals))
 
   lit-step : (name : List ℕ) (r i : ℕ) → KnownAreas p.names s.shared s.areas → IsPlaced p.names name
-      → OwnStep q.number (lit_from (area_of (number_of p.names name) s) s p q r i) (lit_named (area_by name areas) x r i)
-  lit-step name r i known placed = own-as q.number (lit_from (area_of (number_of p.names name) s) s p q r i)
-      (lit_named (option_map (area_named p.names s.shared) (area_of (number_of p.names name) s)) x r i) (lit_named (area_by name areas) x r i)
-      (taken-step (area_of (number_of p.names name) s) r i (λ a e. found-known p.names s.shared (number_of p.names name) s.areas a known e))
+      → OwnStep q.number (lit_from (area_with (number_of p.names name) s) s p q r i) (lit_named (area_by name areas) x r i)
+  lit-step name r i known placed = own-as q.number (lit_from (area_with (number_of p.names name) s) s p q r i)
+      (lit_named (option_map (area_named p.names s.shared) (area_with (number_of p.names name) s)) x r i) (lit_named (area_by name areas) x r i)
+      (taken-step (area_with (number_of p.names name) s) r i (λ a e. found-known p.names s.shared (number_of p.names name) s.areas a known e))
       (ap (λ z. lit_named z x r i) (found-by p.names s.shared name placed s.areas known))
 
   module _ (beside : KnownAreas p.names s.shared s.areas) where
@@ -416,7 +416,8 @@ own-line s n w ops k known = at (process_of n s) refl k
     at-number q lives h k e =
         let g = grown-process s.names p.names s.shared s.shared q (more-names s (OfProcess n w ops)) (extends-none s.shared) h in
         let ar = areas-grown s.names p.names s.shared s.shared s.areas (more-names s (OfProcess n w ops)) (extends-none s.shared) known in
-        own-as q.number (by_verb s p q (verb_of p.names w ops)) (verb_named (map (area_named p.names s.shared) s.areas) (process_named p.names s.shared q) w ops) (verb_named (areas_named s) (process_named s.names s.shared q) w ops)
+        own-as q.number (by_verb s p q (verb_of p.names w ops)) (verb_named (map (area_named p.names s.shared) s.areas) (process_named p.names s.shared q) w ops)
+        (verb_named (areas_named s) (process_named s.names s.shared q) w ops)
         (verb-step s p q lives (g.1) (ar.1) (ap (option_map (process_named s.names s.shared)) lives ∙ ap Some (sym (g.0))) k w ops e (with-names-placed s.names (operands_atoms (kinds_of w) ops)))
         (λ i. verb_named (ar.0 i) (g.0 i) w ops)
 

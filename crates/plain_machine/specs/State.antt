@@ -76,8 +76,8 @@ abbrev pub with_spawned : State → State
 with_spawned s = record s { processes = s.processes ++ fresh_process s.next ∷ []; next = s.next + 1 }
 
 -- The literal area with this name.
-abbrev pub area_of : ℕ → State → Option Area
-area_of name s = find (λ (a : Area). a.name == name) s.areas
+abbrev pub area_with : ℕ → State → Option Area
+area_with name s = find (λ (a : Area). a.name == name) s.areas
 
 -- An area with this name stands.
 abbrev pub has_area : ℕ → State → Bool

@@ -30,7 +30,7 @@ use Rattle.plain_machine.specs.Parts.{picked, pairs_in, repeated}
 use Rattle.plain_machine.specs.declared.limits.TheConstants.{MOST_PROCESSES, MOST_AREAS, MOST_PLACES, MOST_FILL, MOST_ARITY, MOST_BYTE}
 use Rattle.plain_machine.specs.Texts.{divided}
 use Rattle.plain_machine.specs.Tightness.{receiver}
-use Rattle.plain_machine.specs.State.{Process as Live, State, Area, process_of, area_of, has_area, with_process, with_message, without_process, with_spawned, with_area, without_area, live_numbers, register, with_register}
+use Rattle.plain_machine.specs.State.{Process as Live, State, Area, process_of, area_with, has_area, with_process, with_message, without_process, with_spawned, with_area, without_area, live_numbers, register, with_register}
 
 -- What a command comes to: a new state and the reply; a refusal that leaves the state; or a map of the store
 -- as the reply, which leaves the state too.
@@ -184,7 +184,7 @@ lit_from None s p q r i = Refused NoArea
 lit_from (Some a) s p q r i = choose (literal_of i a.literals) s p q r
 
 abbrev pub lit_step : State → Parsed → Live → (r name i : ℕ) → Outcome
-lit_step s p q r name i = lit_from (area_of name s) s p q r i
+lit_step s p q r name i = lit_from (area_with name s) s p q r i
 
 -- `push`: the register's tree goes on the stack.
 abbrev pub push_step : State → Parsed → Live → ℕ → Outcome

@@ -18,7 +18,7 @@ use Rattle.script_grammar.specs.declared.command.SysVerb.TheVariants.{Spawn, Loa
 use Rattle.script_grammar.specs.declared.refusal.Refusal.{Refusal}
 use Rattle.script_grammar.specs.Names.{Parsed}
 use Rattle.plain_machine.specs.declared.limits.TheConstants.{MOST_PROCESSES, MOST_AREAS, MOST_PLACES, MOST_FILL, MOST_ARITY, MOST_BYTE}
-use Rattle.plain_machine.specs.State.{Process as Live, State, Area, HasNames, process_of, area_of, has_area, fresh_process, register, with_register, with_process}
+use Rattle.plain_machine.specs.State.{Process as Live, State, Area, HasNames, process_of, area_with, has_area, fresh_process, register, with_register, with_process}
 use Rattle.plain_machine.specs.Made.{too_many, bin_tree}
 use Rattle.plain_machine.specs.Tightness.{receiver}
 use Rattle.plain_machine.specs.Parts.{picked, pairs_in, repeated}
@@ -248,7 +248,7 @@ module _ (s : State) (p : Parsed) (n : ℕ) (q : Live) (found : process_of n s �
       }
   verb-does (Choose r m how) = choose-does s p q n (r.0) (Choose r m how) (picked p.names s.shared q how (register (m.0) q)) refl
       (λ h k. (names-before h k, holds h k, picked-proper p.names s.shared q how (register (m.0) q) (in-holds (m.0) h k)))
-  verb-does (Lit r name i) = lit-does s p q n (r.0) i (Lit r name i) (area_of name s) refl (λ h m. (names-before h m, holds h m))
+  verb-does (Lit r name i) = lit-does s p q n (r.0) i (Lit r name i) (area_with name s) refl (λ h m. (names-before h m, holds h m))
       (λ a e b. area-proper p.names s.shared name s.areas a b.literals e)
   verb-does (MapPut r m k v) = put-does s p q n (r.0) (MapPut r m k v) (register (m.0) q) (register (k.0) q) (register (v.0) q) refl
       (λ h x. (names-before h x, holds h x, in-holds (m.0) h x, in-holds (k.0) h x, in-holds (v.0) h x))

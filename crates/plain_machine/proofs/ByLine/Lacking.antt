@@ -21,7 +21,7 @@ use Rattle.script_grammar.specs.Names.{Parsed, parsed_of}
 use Rattle.script_grammar.specs.ReadAs.{IsRead, IsReadAs, Reading}
 use Rattle.script_grammar.specs.ReadAs.Reading.{Means, NoSyntax, NoAtoms}
 use Rattle.plain_machine.specs.declared.limits.TheConstants.{MOST_PROCESSES, MOST_AREAS, MOST_PLACES, MOST_FILL, MOST_ARITY, MOST_BYTE}
-use Rattle.plain_machine.specs.State.{Process as Live, State, Area, process_of, area_of, has_area, register}
+use Rattle.plain_machine.specs.State.{Process as Live, State, Area, process_of, area_with, has_area, register}
 use Rattle.plain_machine.specs.Made.{too_many}
 use Rattle.plain_machine.specs.Flaws.{is_wide, are_wide, is_big, are_big, flaw_of}
 use Rattle.plain_machine.specs.Parts.{picked, pairs_in, repeated}
@@ -123,7 +123,7 @@ verb-own s p q (MapPut r m k v) = put-own (pairs_in (register m.0 q)) (register 
 verb-own s p q (Fill r len byte) = fill-own (nat_lt MOST_FILL len || nat_lt MOST_BYTE byte) (replicate len byte) s p q (r.0)
 verb-own s p q (MakeFun r name arity) = fun-own (nat_lt MOST_ARITY arity) _ s p q (r.0)
 verb-own s p q (Repeat r shape n m) = repeat-own (nat_lt MOST_PLACES n) (repeated shape n (register m.0 q)) s p q (r.0)
-verb-own s p q (Lit r name i) = lit-own (area_of name s) s p q (r.0) i
+verb-own s p q (Lit r name i) = lit-own (area_with name s) s p q (r.0) i
 verb-own s p q (Pop r) = pop-own q.stack s p q (r.0)
 verb-own s p q (Send r to) = send-own (receiver to q) (register r.0 q) s p
 verb-own s p q (Recv r) = recv-own q.queue s p q (r.0)
