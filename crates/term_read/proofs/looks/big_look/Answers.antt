@@ -13,7 +13,13 @@ get-low-requires c =
     )
 
 pub get-high-requires : goal.get-high-requires
-get-high-requires c = omega (arith, object-within c.args.mem.now c.args.w c.args.place c.requires.term c.requires.pointer.0 c.requires.pointer.1, c.get.ensures, c.arity_of.ensures, c.if-arity_of-eq2.true)
+get-high-requires c = omega (
+  arith,
+  object-within c.args.mem.now c.args.w c.args.place c.requires.term c.requires.pointer.0 c.requires.pointer.1,
+  c.get.ensures,
+  c.arity_of.ensures,
+  c.if-arity_of-eq2.true,
+)
 
 pub returns-then-arity_of-eq2 : goal.returns-then-arity_of-eq2
 returns-then-arity_of-eq2 c =

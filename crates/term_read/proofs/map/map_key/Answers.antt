@@ -22,7 +22,8 @@ get-requires-then-i-get c =
 pub returns-then-i-get-clause-reads : goal.returns-then-i-get-clause-reads
 returns-then-i-get-clause-reads c =
     let (tag, place, sub, inside) = c.in_ok-place.ensures.some in
-    rw c.get-then-i-get.ensures (rw c.place_of.ensures (rw c.get-keys.ensures (reads-key c.args.mem.now c.args.w c.in_ok-place.place c.args.i tag place sub (omega (arith, c.get.ensures, c.if-i-get.true)))))
+    rw c.get-then-i-get.ensures (rw c.place_of.ensures (rw c.get-keys.ensures
+    (reads-key c.args.mem.now c.args.w c.in_ok-place.place c.args.i tag place sub (omega (arith, c.get.ensures, c.if-i-get.true)))))
 
 pub returns-else-i-get-clause-reads : goal.returns-else-i-get-clause-reads
 returns-else-i-get-clause-reads c =

@@ -9,7 +9,8 @@ returns-in_err-place-clause-reads c = rw c.from_residual.ensures (no-element c.a
 pub returns-then-i-parts-clause-reads : goal.returns-then-i-parts-clause-reads
 returns-then-i-parts-clause-reads c =
     let (tag, place, sub, inside) = c.in_ok-place.ensures.some in
-    rw c.get.ensures (reads-element c.args.mem.now c.args.w c.in_ok-place.place c.args.i tag place sub c.if-i-ge1.true (omega (arith, c.arity_of-parts.ensures, c.get-header.ensures, c.if-i-parts.true)))
+    rw c.get.ensures (reads-element c.args.mem.now c.args.w c.in_ok-place.place c.args.i tag place sub c.if-i-ge1.true
+    (omega (arith, c.arity_of-parts.ensures, c.get-header.ensures, c.if-i-parts.true)))
 
 pub returns-else-i-ge1-clause-reads : goal.returns-else-i-ge1-clause-reads
 returns-else-i-ge1-clause-reads c =
