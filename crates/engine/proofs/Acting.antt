@@ -1,7 +1,7 @@
 -- From the answer of a space's call to the machine's step.
-use Rattle.std.proofs.Common.{◌≡◌, ℕ, inl, inr, Bool, true, false, not, cond, ◌||◌, ◌⊎◌, List, [], ◌∷◌, ◌++◌, codes, decimal, nat_le, nat_lt, length, replicate}
+use Rattle.std.proofs.Common.{◌≡◌, ℕ, inl, inr, Bool, true, false, cond, ◌||◌, ◌⊎◌, List, [], ◌∷◌, ◌++◌, codes, decimal, nat_le, nat_lt, length, replicate}
 use Rattle.std.proofs.Common.{arith, ◌≤◌, Option, Some, None, Result, Ok, Err, IfOk, refl, sym, ap, subst, ◌∙◌}
-use Rattle.std.proofs.lemmas.Bool.{both_ways, true≢false}
+use Rattle.std.proofs.lemmas.Bool.{both_ways}
 use Rattle.std.specs.Prelude.{MatchBool, OnErr}
 use Rattle.std.specs.List.{find, list_any}
 use Rattle.plain_term.specs.Tree.{Tree, Pairs}
@@ -11,21 +11,18 @@ use Rattle.plain_term.specs.InOrder.{put_pair}
 use Rattle.plain_term.specs.declared.item.Item.{Item}
 use Rattle.script_grammar.specs.declared.command.Reg.{Reg}
 use Rattle.script_grammar.specs.declared.command.Pick.{Pick}
-use Rattle.script_grammar.specs.declared.command.Depth.{Depth}
 use Rattle.script_grammar.specs.declared.command.To.{To}
 use Rattle.script_grammar.specs.declared.command.Shape.{Shape}
 use Rattle.script_grammar.specs.declared.command.Command.{Command}
 use Rattle.script_grammar.specs.declared.command.Command.TheVariants.{Nothing as NoCommand, Process, System}
 use Rattle.script_grammar.specs.declared.command.Verb.{Verb}
-use Rattle.script_grammar.specs.declared.command.Verb.TheVariants.{Set, Choose, MapPut, Fill, Fun as MakeFun, Ref, Own, Repeat, Push, Pop, Send, Recv, Queue, Print, Eq, Cmp, Flat, Gc, Exit}
-use Rattle.script_grammar.specs.declared.command.SysVerb.{SysVerb}
+use Rattle.script_grammar.specs.declared.command.Verb.TheVariants.{Set, Choose, MapPut, Fill, Fun as MakeFun, Repeat, Pop, Send, Recv, Queue, Print, Eq, Cmp, Flat}
 use Rattle.script_grammar.specs.declared.command.SysVerb.TheVariants.{Spawn, Sweep, Procs, Counts as CountsVerb, Quit as QuitVerb}
 use Rattle.script_grammar.specs.declared.refusal.Refusal.{Refusal}
 use Rattle.script_grammar.specs.declared.refusal.Refusal.TheVariants.{NoProc}
 use Rattle.script_grammar.specs.Written.{Term, Terms}
 use Rattle.script_grammar.specs.Written.Terms.{end}
-use Rattle.script_grammar.specs.Grammar.{is_built, word_of}
-use Rattle.script_grammar.specs.Names.{Parsed, HasRegisters}
+use Rattle.script_grammar.specs.Names.{Parsed}
 use Rattle.plain_machine.specs.May.{may_of_tight}
 use Rattle.plain_machine.specs.declared.limits.TheConstants.{MOST_PROCESSES, MOST_PLACES, MOST_FILL, MOST_ARITY, MOST_BYTE}
 use Rattle.plain_machine.specs.State.{Process as Live, State, HasNames, process_of, is_live, register}
@@ -38,12 +35,15 @@ use Rattle.plain_machine.specs.Run.{CommandStep, Skips, Gives, LacksSpace, refus
 use Rattle.plain_machine.specs.Maps.{is_map}
 use Rattle.space_api.specs.declared.space.Seat.{Seat}
 use Rattle.space_api.specs.Calls.{KeepsBooks, said, Follows, Stays, Becomes, Passes, one_term, HasEnv, IsWrittenTerm}
-use Rattle.engine.specs.declared.reply.MapLine.TheVariants.{OfSystem}
+use Rattle.engine.specs.declared.reply.MapLine.TheVariants.{Counts as counts}
+use Rattle.engine.specs.declared.reply.Asked.TheVariants.{Equality, Order}
+use Rattle.engine.specs.declared.reply.Telling.{Telling}
+use Rattle.engine.specs.declared.reply.Telling.TheVariants.{Text, Compared, Flat as TellsFlat, Queue as TellsQueue}
 use Rattle.engine.specs.declared.reply.Reply.{Reply}
 use Rattle.engine.specs.declared.reply.Reply.TheVariants.{Nothing as NoReply, Done, Spawned, Numbers, Map, Told, Quit, Refused}
-use Rattle.engine.specs.Replies.{CanReply, CanTell, reply_lines, reply_of, ends_script, outcome_text}
+use Rattle.engine.specs.Replies.{telling_verb, CanReply, reply_lines, reply_of, ends_script, outcome_text}
 use Rattle.engine.specs.Rules.{After}
-use Rattle.engine.specs.Acts.{Acts, Fits, OnRefused, TermsFit, makes_term, names_left, shown}
+use Rattle.engine.specs.Acts.{Acts, Fits, OnRefused, TermsFit, names_left, shown}
 
 -- A reply fits to an outcome: an accepted one's text, names and end are the reply's.
 abbrev pub Fitting : After → State → Parsed → Reply → Outcome → Type 0
@@ -309,24 +309,29 @@ pub done-acts : {A : Type 0} (words : ℕ) (number : ℕ) (names : List (List �
     → DoesVerb words number names code reply Old after verb
 done-acts words number names code Old after verb reply r e d = subst (λ x. DoesVerb words number names code x Old after verb) (sym e) d
 
--- a verb that prints tells, and what it tells does not depend on the line's terms
-verb-tells : (s : State) (p : Parsed) (q : Live) (v : Verb) → is_printing_verb v ≡ true → is_map (Process 0 v) ≡ false → by_verb s p q v ≡ tells s (told_of s p q v)
-verb-tells s p q (Set r) e m = absurd (cc)
-verb-tells s p q (Choose r k how) e m = absurd (cc)
-verb-tells s p q (MapPut r k i v) e m = absurd (cc)
-verb-tells s p q (Fill r len byte) e m = absurd (cc)
-verb-tells s p q (MakeFun r name arity) e m = absurd (cc)
-verb-tells s p q (Ref r) e m = absurd (cc)
-verb-tells s p q (Repeat r shape n k) e m = absurd (cc)
-verb-tells s p q (Own r) e m = absurd (cc)
-verb-tells s p q (Push r) e m = absurd (cc)
-verb-tells s p q (Pop r) e m = absurd (cc)
-verb-tells s p q (Send r to) e m = absurd (cc)
-verb-tells s p q (Recv r) e m = absurd (cc)
-verb-tells s p q (Gc d) e m = absurd (cc)
-verb-tells s p q Exit e m = absurd (cc)
-verb-tells s p q _ e m = refl
+-- what is told of a process is no map of its store, and changes nothing
+telling-prints : (t : Telling) → is_printing_verb (telling_verb t) ≡ true
+telling-prints (Text r) = refl
+telling-prints (Compared Equality a b) = refl
+telling-prints (Compared Order a b) = refl
+telling-prints (TellsFlat r) = refl
+telling-prints TellsQueue = refl
 
+telling-no-map : (n : ℕ) (t : Telling) → is_map (Process n (telling_verb t)) ≡ false
+telling-no-map n (Text r) = refl
+telling-no-map n (Compared Equality a b) = refl
+telling-no-map n (Compared Order a b) = refl
+telling-no-map n (TellsFlat r) = refl
+telling-no-map n TellsQueue = refl
+
+verb-tells : (s : State) (p : Parsed) (q : Live) (t : Telling) → by_verb s p q (telling_verb t) ≡ tells s (told_of s p q (telling_verb t))
+verb-tells s p q (Text r) = refl
+verb-tells s p q (Compared Equality a b) = refl
+verb-tells s p q (Compared Order a b) = refl
+verb-tells s p q (TellsFlat r) = refl
+verb-tells s p q TellsQueue = refl
+
+-- it does not depend on the line's terms
 terms-untold : (s : State) (c : Command) (terms : Terms) (names : List (List ℕ)) (q : Live) (v : Verb) → told_of s (said c terms names) q v ≡ told_of s (said c end names) q v
 terms-untold s c terms names q (Print r) = refl
 terms-untold s c terms names q (Eq a b) = refl
@@ -339,70 +344,28 @@ told-gives : (s : State) (c : Command) (r : Result (List ℕ) Refusal) → is_qu
 told-gives s c (Ok t) e = record { ends = sym e; said = refl; is = refl }
 told-gives s c (Err x) e = record { goes_on = refl; said = refl; same = refl }
 
--- a verb that prints, which leaves the space
-pub told-does : (words : ℕ) (seat : Seat) (names : List (List ℕ)) (code : List Item) (after : After) (v : Verb) → CanTell v
-    → DoesVerb words seat.pid names code (Told seat v) after.stands after v
-told-does words seat names code after v can = λ s terms h f. record {
+-- what is told, which leaves the space
+pub told-does : (words : ℕ) (seat : Seat) (names : List (List ℕ)) (code : List Item) (after : After) (t : Telling)
+    → DoesVerb words seat.pid names code (Told seat t) after.stands after (telling_verb t)
+told-does words seat names code after t = λ s terms h f. record {
   new = s;
   stands = h;
-  names = ap (λ b. cond b s.names names) (sym can.prints);
-  steps = λ m. inl (at s terms (process_of seat.pid s));
-  maps = λ k m. absurd (both_ways (is_map (Process 0 v)) can.no_map k);
+  names = ap (λ b. cond b s.names names) (sym (telling-prints t));
+  steps = λ m. inl (gives s terms (process_of seat.pid s));
+  maps = λ k m. absurd (both_ways (is_map (Process seat.pid (telling_verb t))) (telling-no-map seat.pid t) k);
 }
   where
-    at : (s : State) (terms : Terms) (o : Option Live) → Gives (in_process o s (said (Process seat.pid v) terms names) v) s (Process seat.pid v) false
-        (outcome_text (in_process o s (said (Process seat.pid v) end names) v) ∷ []) s
-    at s terms None = record { goes_on = refl; said = refl; same = refl }
-    at s terms (Some q) =
-        let c : Command = Process seat.pid v in
-        let P : Outcome → Type 0 = λ o. Gives o s c false (outcome_text (by_verb s (said c end names) q v) ∷ []) s in
-        let Q : Outcome → Type 0 = λ o. Gives (tells s (told_of s (said c terms names) q v)) s c false (outcome_text o ∷ []) s in
-        let same : by_verb s (said c end names) q v ≡ tells s (told_of s (said c terms names) q v) =
-        verb-tells s (said c end names) q v can.prints can.no_map ∙ ap (tells s) (sym (terms-untold s c terms names q v)) in
-        subst P (sym (verb-tells s (said c terms names) q v can.prints can.no_map))
-        (subst Q (sym same) (told-gives s c (told_of s (said c terms names) q v) refl))
-
--- a verb that is built and prints can tell
-pub can-tell : (v : Verb) → is_built (word_of v) ≡ true → HasRegisters v → is_printing_verb v ≡ true → CanTell v
-can-tell (Choose r m how) b h e = absurd (true≢false (sym e))
-can-tell (Repeat r shape n m) b h e = absurd (true≢false (sym e))
-can-tell v b h e = record {
-  built = b;
-  prints = e;
-  no_map = not-map (is_built (word_of v)) (is_map (Process 0 v)) refl b;
-  registers = h;
-}
-  where
-    not-map : (b c : Bool) → (not b || not c) ≡ true → b ≡ true → c ≡ false
-    not-map true true h e = absurd (cc)
-    not-map true false h e = refl
-    not-map false c h e = absurd (cc)
-
--- the verb is none of those that change something and make no term
-pub record MakesNone (v : Verb) : Type 0 where
-  pub push : (r : Reg) → v ≡ Push r → ⊥
-  pub pop : (r : Reg) → v ≡ Pop r → ⊥
-  pub send : (r : Reg) (to : To) → v ≡ Send r to → ⊥
-  pub recv : (r : Reg) → v ≡ Recv r → ⊥
-  pub gc : (d : Depth) → v ≡ Gc d → ⊥
-  pub exit : v ≡ Exit → ⊥
-
--- what is built and prints nothing makes a term, but for these
-pub makes-rest : (v : Verb) → is_built (word_of v) ≡ true → is_printing_verb v ≡ false → MakesNone v → makes_term v ≡ true
-makes-rest (Choose r m how) b e o = refl
-makes-rest (Repeat r shape n m) b e o = refl
-makes-rest (Push r) b e o = absurd (o.push r refl)
-makes-rest (Pop r) b e o = absurd (o.pop r refl)
-makes-rest (Send r to) b e o = absurd (o.send r to refl)
-makes-rest (Recv r) b e o = absurd (o.recv r refl)
-makes-rest (Gc d) b e o = absurd (o.gc d refl)
-makes-rest Exit b e o = absurd (o.exit refl)
-makes-rest v b e o = one-of (is_built (word_of v)) (is_printing_verb v) (makes_term v) refl b e
-  where
-    one-of : (b c d : Bool) → (not b || (c || d)) ≡ true → b ≡ true → c ≡ false → d ≡ true
-    one-of true true d h i e = absurd (true≢false e)
-    one-of true false d h i e = h
-    one-of false c d h i e = absurd (true≢false (sym i))
+    gives : (s : State) (terms : Terms) (o : Option Live) → Gives (in_process o s (said (Process seat.pid (telling_verb t)) terms names) (telling_verb t)) s (Process seat.pid (telling_verb t)) false
+        (outcome_text (in_process o s (said (Process seat.pid (telling_verb t)) end names) (telling_verb t)) ∷ []) s
+    gives s terms None = record { goes_on = refl; said = refl; same = refl }
+    gives s terms (Some q) =
+        let c : Command = Process seat.pid (telling_verb t) in
+        let P : Outcome → Type 0 = λ o. Gives o s c false (outcome_text (by_verb s (said c end names) q (telling_verb t)) ∷ []) s in
+        let Q : Outcome → Type 0 = λ o. Gives (tells s (told_of s (said c terms names) q (telling_verb t))) s c false (outcome_text o ∷ []) s in
+        let same : by_verb s (said c end names) q (telling_verb t) ≡ tells s (told_of s (said c terms names) q (telling_verb t)) =
+        verb-tells s (said c end names) q t ∙ ap (tells s) (sym (terms-untold s c terms names q (telling_verb t))) in
+        subst P (sym (verb-tells s (said c terms names) q t))
+        (subst Q (sym same) (told-gives s c (told_of s (said c terms names) q (telling_verb t)) refl))
 
 -- the books of a call bring the bound of the names
 pub keeps-more : {S : Type 0} {words calls named : S → ℕ} {old new : S} {few : ℕ} (more : ℕ) → few ≤ more → KeepsBooks words calls named old new few
@@ -467,18 +430,16 @@ sweep-does words names code Old after b = λ s terms h f.
     acts-gave words s p after refl refl Done
     (gave s p after (λ (a : Unit {0}). Done) (step s p) (Ok u) (λ a k. (refl, refl, refl)) (passes-follows (step s p) s u after.stands (b s terms h f.longer)))
 
--- a map line of the system, whose reply is the text of the store
-pub map-does : (words : ℕ) (names : List (List ℕ)) (code : List Item) (Old : State → Type 0) (after : After) (v : SysVerb) → v ≡ CountsVerb
-    → ((s : State) → Old s → after.stands s) → DoesCommand words names code (Map (OfSystem v)) Old after (System v)
-map-does words names code Old after v e same =
-    let P : SysVerb → Type 0 = λ z. DoesCommand words names code (Map (OfSystem z)) Old after (System z) in
-    subst P (sym e) (λ s terms h f. record {
-      new = s;
-      stands = same s h;
-      names = refl;
-      steps = λ m. inl (record { goes_on = refl; map = after.text (System CountsVerb); allowed = m; said = refl; same = refl });
-      maps = λ e o. refl;
-    })
+-- a map line, whose reply is the text of the store
+pub map-does : (words : ℕ) (names : List (List ℕ)) (code : List Item) (Old : State → Type 0) (after : After)
+    → ((s : State) → Old s → after.stands s) → DoesCommand words names code (Map counts) Old after (System CountsVerb)
+map-does words names code Old after same = λ s terms h f. record {
+  new = s;
+  stands = same s h;
+  names = refl;
+  steps = λ m. inl (record { goes_on = refl; map = after.text (System CountsVerb); allowed = m; said = refl; same = refl });
+  maps = λ e o. refl;
+}
 
 -- what prints and is no map of the store
 pub procs-does : (words : ℕ) (names : List (List ℕ)) (code : List Item) (Old : State → Type 0) (after : After) → ((s : State) → Old s → after.stands s)

@@ -17,14 +17,13 @@ use Rattle.engine.specs.Writing.{compared_text, compares, end_of_line}
 use Rattle.std.specs.declared.cmp.Ordering.{Ordering}
 use Rattle.script_grammar.specs.declared.command.Command.TheVariants.{Process}
 use Rattle.script_grammar.specs.declared.command.Reg.{Reg}
-use Rattle.script_grammar.specs.declared.command.Verb.{Verb}
+use Rattle.engine.specs.declared.reply.Telling.{Telling}
 use Rattle.script_grammar.specs.declared.command.Verb.TheVariants.{Eq, Cmp}
 use Rattle.script_grammar.specs.Names.{HasRegisters, IsRegister}
 use Rattle.script_grammar.specs.Written.Terms.{end}
 use Rattle.space_api.specs.declared.space.Seat.{Seat}
-use Rattle.engine.specs.declared.reply.MapLine.{MapLine}
 use Rattle.engine.specs.declared.reply.Reply.{Reply}
-use Rattle.engine.specs.declared.reply.Reply.TheVariants.{Numbers, Map, Told, Quit}
+use Rattle.engine.specs.declared.reply.Reply.TheVariants.{Map, Told, Quit}
 use Rattle.engine.specs.Replies.{AllowsMap, Shown, ends_script, is_plain, outcome_text, reply_lines}
 use Rattle.line_io.proofs.Growth.{part-front}
 use Rattle.text_parts.proofs.Writing.{written-after, written-as}
@@ -96,8 +95,8 @@ pub reply-same : {E K : Type 0} (wrote : K → List ℕ → Type 0) (faults : K 
 reply-same wrote faults old new r y z x e h =
     written-as wrote faults old new (replies_text (reply_lines z x)) (replies_text (reply_lines y x)) r (ap (λ k. replies_text (reply_lines k x)) (sym e)) h
 
--- what the verb in hand tells
-pub told-verb : {E K : Type 0} (wrote : K → List ℕ → Type 0) (faults : K → ℕ) (old new : K) (r : Result (Unit {0}) E) (seat : Seat) (v w : Verb) (x : Shown) → v ≡ w
+-- what is told in hand
+pub told-verb : {E K : Type 0} (wrote : K → List ℕ → Type 0) (faults : K → ℕ) (old new : K) (r : Result (Unit {0}) E) (seat : Seat) (v w : Telling) (x : Shown) → v ≡ w
     → WritesTold wrote faults old new (replies_text (reply_lines (Told seat w) x)) r → WritesTold wrote faults old new (replies_text (reply_lines (Told seat v) x)) r
 told-verb wrote faults old new r seat v w x e h = reply-same wrote faults old new r (Told seat v) (Told seat w) x (ap (Told seat) e) h
 
@@ -108,13 +107,6 @@ allows-same y z x e h = subst (λ k. AllowsMap k x) (sym e) h
 pub plain-allows : (y : Reply) (x : Shown) → is_plain y ≡ true → AllowsMap y x
 plain-allows (Map line) x e = absurd (true≢false (sym e))
 plain-allows _ x e = tt
-
--- the others are made so
-pub plain-rest : (y : Reply) → (y ≡ Numbers → ⊥) → ((line : MapLine) → y ≡ Map line → ⊥) → ((seat : Seat) (v : Verb) → y ≡ Told seat v → ⊥) → is_plain y ≡ true
-plain-rest Numbers n c t = absurd (n refl)
-plain-rest (Map line) n c t = absurd (c line refl)
-plain-rest (Told seat v) n c t = absurd (t seat v refl)
-plain-rest _ n c t = refl
 
 -- the registers that are compared are a process's
 pub compared-registers : (asked : Asked) (a b : Reg) → HasRegisters (compares asked a b) → IsRegister a × IsRegister b

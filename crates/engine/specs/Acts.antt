@@ -1,10 +1,9 @@
 -- What doing a line leaves, before its reply is written.
-use Rattle.std.specs.Prelude.{ℕ, ◌≡◌, ◌<◌, Bool, true, false, if◌then◌else◌, List, [], ◌∷◌, length}
+use Rattle.std.specs.Prelude.{ℕ, ◌≡◌, ◌<◌, true, if◌then◌else◌, List, [], ◌∷◌, length}
 use Rattle.plain_term.specs.declared.item.Item.{Item}
 use Rattle.script_grammar.specs.declared.command.Command.{Command}
 use Rattle.script_grammar.specs.declared.command.Command.TheVariants.{Process}
-use Rattle.script_grammar.specs.declared.command.Verb.{Verb}
-use Rattle.script_grammar.specs.declared.command.Verb.TheVariants.{Set, Choose, MapPut, Fill, Fun, Ref, Own, Repeat}
+use Rattle.script_grammar.specs.declared.command.Verb.TheVariants.{Set, Fun}
 use Rattle.script_grammar.specs.Written.{Term, Terms}
 use Rattle.script_grammar.specs.Names.{Parsed}
 use Rattle.script_grammar.specs.ReadAs.{IsRead}
@@ -27,18 +26,6 @@ StandsWith stands names s = stands s × (names ≡ s.names)
 -- What such a machine leaves: the states that it stands for, and the text of its store.
 abbrev pub leaving : (stands : State → Type 0) (text : List (List ℕ) → Command → List ℕ) (names : List (List ℕ)) → After
 leaving stands text names = record { stands = StandsWith stands names; text = text names }
-
--- The verbs that put a new term, or a part of one, in a register.
-abbrev pub makes_term : Verb → Bool
-makes_term (Set r) = true
-makes_term (Choose r m how) = true
-makes_term (MapPut r m k v) = true
-makes_term (Fill r len byte) = true
-makes_term (Fun r name arity) = true
-makes_term (Ref r) = true
-makes_term (Own r) = true
-makes_term (Repeat r shape n m) = true
-makes_term _ = false
 
 -- The code of a command that builds is one written term; that of one that makes a fun is its environment, and its name is known.
 abbrev pub HasCode : Command → List (List ℕ) → List Item → Type 0

@@ -2,17 +2,17 @@
 ghost use Rattle.std.specs.Prelude.{◌≡◌, ℕ, ◌<◌, ◌≤◌, List, OnErr, false, length, true};
 ghost use Rattle.script_grammar.specs.declared.command.Command.{Command};
 ghost use Rattle.script_grammar.specs.declared.command.Command.TheVariants.{Process, System};
-ghost use Rattle.script_grammar.specs.Grammar.{IsBuiltCommand, is_built, word_of};
+ghost use Rattle.script_grammar.specs.Grammar.{IsBuiltCommand};
 ghost use Rattle.script_grammar.specs.Names.{HasName, HasRegisters, IsInBounds};
 ghost use Rattle.script_grammar.specs.Written.{Terms};
 ghost use Rattle.plain_term.specs.declared.item.Item.{Item};
 ghost use Rattle.plain_machine.specs.State.{State};
-ghost use Rattle.plain_machine.specs.Step.{is_printing, is_printing_verb};
+ghost use Rattle.plain_machine.specs.Step.{is_printing};
 ghost use Rattle.space_api.specs.Calls.{KeepsBooks, most_calls, said};
 ghost use Rattle.engine.specs.Replies.{CanReply, reply_of};
-ghost use Rattle.engine.specs.Acts.{Acts, Fits, HasCode, OnRefused, makes_term};
+ghost use Rattle.engine.specs.Acts.{Acts, Fits, HasCode, OnRefused};
 
-use crate::reply::{MapLine, Reply};
+use crate::reply::{Asked, MapLine, Reply, Telling};
 use atom_names::AtomNames;
 use plain_machine::{Command, Refusal, SysVerb, Verb};
 use plain_term::Item;
@@ -38,95 +38,8 @@ fn spawned(answer: Result<u64, Refusal>) -> Reply
     }
 }
 
-/// Whether a verb tells something of its process and changes nothing.
-fn tells(verb: Verb) -> bool
-    requires built { is_built (word_of verb) ≡ true }
-    ensures { result ≡ is_printing_verb verb }
-{
-    matches!(
-        verb,
-        Verb::Queue | Verb::Print(_) | Verb::Eq(_, _) | Verb::Cmp(_, _) | Verb::Flat(_)
-    )
-}
-
-/// Puts the term that a verb makes in its register.
-fn make_term<S: Space>(
-    space: &mut S,
-    names: &AtomNames,
-    seat: Seat,
-    verb: Verb,
-    code: &[Item],
-) -> Result<(), Refusal>
-    requires makes { makes_term verb ≡ true }
-    requires sits { S.sits space.old seat }
-    requires built { IsBuiltCommand (Process seat.pid verb) }
-    requires registers { HasRegisters verb }
-    requires name { HasName verb }
-    requires calls { S.calls space.old < most_calls }
-    requires named { S.named space.old ≤ length names.now }
-    requires code { HasCode (Process seat.pid verb) names.now code.now }
-    ensures acts { (s : State) (terms : Terms) → S.stands space.old s → Fits (Process seat.pid verb) names.now code.now terms s
-        → Acts (S.words space.old) s (said (Process seat.pid verb) terms names.now)
-        (reply_of (λ _. Reply.Done) result) (record { stands = S.stands space.new; text = S.text space.new names.now }) }
-    ensures books { KeepsBooks S.words S.calls S.named space.old space.new (length names.now) }
-    ensures refused { OnErr result (S.named space.new ≤ S.named space.old) }
-{
-    match verb {
-        Verb::Set(r) => space.build(names, seat, r, code),
-        Verb::Choose(r, s, how) => space.pick(names, seat, r, s, how),
-        Verb::MapPut(r, s, k, v) => space.map_put(names, seat, r, s, k, v),
-        Verb::Fill(r, len, byte) => space.fill(seat, r, len, byte),
-        Verb::Fun(r, name, arity) => space.make_fun(seat, r, name, arity, code),
-        Verb::Ref(r) => space.make_ref(seat, r),
-        Verb::Repeat(r, shape, n, s) => space.repeat(seat, r, shape, n, s),
-        Verb::Own(r) => {
-            space.own_pid(seat, r);
-            Ok(())
-        }
-        _ => unreachable!(),
-    }
-}
-
-/// Does a verb that changes something.
-fn change<S: Space>(
-    space: &mut S,
-    names: &AtomNames,
-    seat: Seat,
-    verb: Verb,
-    code: &[Item],
-) -> Result<(), Refusal>
-    requires changes { is_printing_verb verb ≡ false }
-    requires sits { S.sits space.old seat }
-    requires built { IsBuiltCommand (Process seat.pid verb) }
-    requires registers { HasRegisters verb }
-    requires name { HasName verb }
-    requires calls { S.calls space.old < most_calls }
-    requires named { S.named space.old ≤ length names.now }
-    requires code { HasCode (Process seat.pid verb) names.now code.now }
-    ensures acts { (s : State) (terms : Terms) → S.stands space.old s → Fits (Process seat.pid verb) names.now code.now terms s
-        → Acts (S.words space.old) s (said (Process seat.pid verb) terms names.now)
-        (reply_of (λ _. Reply.Done) result) (record { stands = S.stands space.new; text = S.text space.new names.now }) }
-    ensures books { KeepsBooks S.words S.calls S.named space.old space.new (length names.now) }
-    ensures refused { OnErr result (S.named space.new ≤ S.named space.old) }
-{
-    match verb {
-        Verb::Push(r) => space.push(seat, r),
-        Verb::Pop(r) => space.pop(seat, r),
-        Verb::Send(s, to) => space.send(seat, s, to),
-        Verb::Recv(r) => space.receive(seat, r),
-        Verb::Gc(depth) => {
-            space.collect(seat, depth);
-            Ok(())
-        }
-        Verb::Exit => {
-            space.exit(seat);
-            Ok(())
-        }
-        _ => make_term(space, names, seat, verb, code),
-    }
-}
-
-/// Does a verb at a live process. One that changes nothing is told when the reply is written.
+/// Does a verb at a live process: every verb is told apart here, and nowhere else. What one tells that changes nothing is read when the
+/// reply is written.
 fn act_in<S: Space>(
     space: &mut S,
     names: &AtomNames,
@@ -149,10 +62,40 @@ fn act_in<S: Space>(
     ensures refused { OnRefused result (S.named space.new ≤ S.named space.old) }
     ensures leaves { is_printing (Process seat.pid verb) ≡ true → space.new ≡ space.old }
 {
-    if tells(verb) {
-        return Reply::Told(seat, verb);
+    match verb {
+        Verb::Set(r) => done(space.build(names, seat, r, code)),
+        Verb::Choose(r, s, how) => done(space.pick(names, seat, r, s, how)),
+        Verb::MapPut(r, s, k, v) => done(space.map_put(names, seat, r, s, k, v)),
+        Verb::Fill(r, len, byte) => done(space.fill(seat, r, len, byte)),
+        Verb::Fun(r, name, arity) => done(space.make_fun(seat, r, name, arity, code)),
+        Verb::Ref(r) => done(space.make_ref(seat, r)),
+        Verb::Own(r) => {
+            space.own_pid(seat, r);
+            Reply::Done
+        }
+        Verb::Repeat(r, shape, n, s) => done(space.repeat(seat, r, shape, n, s)),
+        Verb::Push(r) => done(space.push(seat, r)),
+        Verb::Pop(r) => done(space.pop(seat, r)),
+        Verb::Send(s, to) => done(space.send(seat, s, to)),
+        Verb::Recv(r) => done(space.receive(seat, r)),
+        Verb::Queue => Reply::Told(seat, Telling::Queue),
+        Verb::Print(r) => Reply::Told(seat, Telling::Text(r)),
+        Verb::Eq(a, b) => Reply::Told(seat, Telling::Compared(Asked::Equality, a, b)),
+        Verb::Cmp(a, b) => Reply::Told(seat, Telling::Compared(Asked::Order, a, b)),
+        Verb::Flat(r) => Reply::Told(seat, Telling::Flat(r)),
+        Verb::Gc(depth) => {
+            space.collect(seat, depth);
+            Reply::Done
+        }
+        Verb::Exit => {
+            space.exit(seat);
+            Reply::Done
+        }
+        // No line says these.
+        Verb::Lit(_, _, _) | Verb::Hibernate | Verb::Info | Verb::Heap => {
+            Reply::Refused(Refusal::Syntax)
+        }
     }
-    done(change(space, names, seat, verb, code))
 }
 
 /// Does a verb of the system.
@@ -175,9 +118,12 @@ fn act_system<S: Space>(space: &mut S, names: &AtomNames, verb: SysVerb) -> Repl
             Reply::Done
         }
         SysVerb::Procs => Reply::Numbers,
-        SysVerb::Counts => Reply::Map(MapLine::OfSystem(verb)),
+        SysVerb::Counts => Reply::Map(MapLine::Counts),
         SysVerb::Quit => Reply::Quit,
-        _ => unreachable!(),
+        // No line says these.
+        SysVerb::Load(_, _) | SysVerb::Purge(_) | SysVerb::Dump => {
+            Reply::Refused(Refusal::Syntax)
+        }
     }
 }
 

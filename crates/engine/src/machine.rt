@@ -16,12 +16,13 @@ ghost use Rattle.engine.specs.Last.{SaysNothing};
 ghost use Rattle.engine.specs.Steps.{StepWrites, Steps, TellsQuit};
 
 use crate::act::act;
-use crate::reply::{Reply, is_constant, put_plain, put_reply};
+use crate::reply::{Reply, constant_text, put_reply};
 use atom_names::AtomNames;
 use line_io::{Gathered, Sink, SinkFault};
 use plain_machine::Refusal;
 use script_parse::{Code, parse};
 use space_api::Space;
+use text_parts::put;
 
 /// A space with the names of its atoms, and the buffer into which lines are parsed.
 #[derive(Drop)]
@@ -99,8 +100,11 @@ fn send<S: Space, K: Sink>(
     ensures allowed { (s : State) → S.stands space.now s → names.now ≡ s.names
         → AllowsMap reply (record { state = s; names = names.now; text = S.text space.now names.now }) }
 {
-    if is_constant(reply) {
-        return put_plain(reply, sink);
+    if let Reply::Nothing = reply {
+        return Ok(());
+    }
+    if let Some(text) = constant_text(reply) {
+        return put(sink, text);
     }
     gather(space, names, reply, sink)
 }

@@ -1,27 +1,47 @@
 // The text of each reply.
-ghost use Rattle.std.specs.Prelude.{◌≡◌, ℕ, ◌≤◌, length, true};
+ghost use Rattle.std.specs.Prelude.{◌≡◌, ℕ, ◌≤◌, length, true, IfSome};
 ghost use Rattle.plain_machine.specs.Maps.{IsMapOf};
 ghost use Rattle.plain_machine.specs.Run.{replies_text};
 ghost use Rattle.plain_machine.specs.State.{State};
-ghost use Rattle.script_grammar.specs.declared.command.Verb.TheVariants.{Print, Flat};
+ghost use Rattle.engine.specs.declared.reply.Telling.TheVariants.{Compared, Flat, Text};
 ghost use Rattle.line_io.specs.Sink.{WritesTold};
 ghost use Rattle.engine.specs.Replies.{AllowsMap, CanReply, Shown, is_plain, map_command, reply_lines};
-ghost use Rattle.engine.specs.Writing.{compared_text, compares, end_of_line};
+ghost use Rattle.engine.specs.Writing.{compared_text, end_of_line};
 
 use crate::numbers::put_numbers;
-use crate::texts::{put_counted, put_refusal};
+use crate::texts::{constant_line, put_counted, put_refusal};
 use atom_names::AtomNames;
 use line_io::{Sink, SinkFault};
-use plain_machine::{Refusal, Reg, SysVerb, Verb};
+use plain_machine::{Refusal, Reg};
 use space_api::{Seat, Space, Stop};
 use std::cmp::Ordering;
 use text_parts::{put, put_two};
 
-/// A map line: what is asked of a process, by its seat, or of the whole store.
+/// What is asked of two terms: whether they are equal, or how the first stands to the second.
+#[derive(Clone, Copy)]
+pub(crate) enum Asked {
+    Equality,
+    Order,
+}
+
+/// What a verb that prints tells of a process.
+#[derive(Clone, Copy)]
+pub(crate) enum Telling {
+    /// The text of a register's term.
+    Text(Reg),
+    /// What is asked of two registers' terms.
+    Compared(Asked, Reg, Reg),
+    /// The flat size of a register's term.
+    Flat(Reg),
+    /// The texts of the messages that wait.
+    Queue,
+}
+
+/// A map of the store.
 #[derive(Clone, Copy)]
 pub(crate) enum MapLine {
-    OfProcess(Seat, Verb),
-    OfSystem(SysVerb),
+    /// Every counted record with its count.
+    Counts,
 }
 
 /// How a line that was done is answered.
@@ -31,10 +51,8 @@ pub(crate) enum Reply {
     Done,
     Spawned(u64),
     Numbers,
-    /// A map of the store.
     Map(MapLine),
-    /// What a verb that prints tells of a process.
-    Told(Seat, Verb),
+    Told(Seat, Telling),
     Quit,
     Refused(Refusal),
 }
@@ -47,23 +65,16 @@ fn put_text<S: Space, K: Sink>(
     r: Reg,
     sink: &mut K,
 ) -> Result<(), SinkFault>
-    requires can { CanReply S.sits S.named space.now names.now (Reply.Told seat (Print r)) }
+    requires can { CanReply S.sits S.named space.now names.now (Reply.Told seat (Text r)) }
     ensures { (s : State) → S.stands space.now s
         → WritesTold K.wrote K.faults sink.old sink.new
-        (replies_text (reply_lines (Reply.Told seat (Print r)) (record { state = s; names = names.now; text = S.text space.now names.now }))) result }
+        (replies_text (reply_lines (Reply.Told seat (Text r)) (record { state = s; names = names.now; text = S.text space.now names.now }))) result }
 {
     match space.print(names, seat, r, sink) {
         Ok(()) => put(sink, b"\n"),
         Err(Stop::Big) => put_refusal(Refusal::Big, sink),
         Err(Stop::Fault) => Err(SinkFault),
     }
-}
-
-/// What is asked of two terms: whether they are equal, or how the first stands to the second.
-#[derive(Clone, Copy)]
-enum Asked {
-    Equality,
-    Order,
 }
 
 /// The word that answers it.
@@ -93,11 +104,11 @@ fn put_compared<S: Space, K: Sink>(
     b: Reg,
     sink: &mut K,
 ) -> Result<(), SinkFault>
-    requires can { CanReply S.sits S.named space.now names.now (Reply.Told seat (compares asked a b)) }
+    requires can { CanReply S.sits S.named space.now names.now (Reply.Told seat (Compared asked a b)) }
     ensures { (s : State) → S.stands space.now s
         → WritesTold K.wrote K.faults sink.old sink.new
         (replies_text
-        (reply_lines (Reply.Told seat (compares asked a b)) (record { state = s; names = names.now; text = S.text space.now names.now }))) result }
+        (reply_lines (Reply.Told seat (Compared asked a b)) (record { state = s; names = names.now; text = S.text space.now names.now }))) result }
 {
     match space.compare(names, seat, a, b) {
         Ok(order) => put_two(sink, compared_word(asked, order), b"\n"),
@@ -129,24 +140,22 @@ fn put_told<S: Space, K: Sink>(
     space: &S,
     names: &AtomNames,
     seat: Seat,
-    verb: Verb,
+    telling: Telling,
     sink: &mut K,
 ) -> Result<(), SinkFault>
-    requires can { CanReply S.sits S.named space.now names.now (Reply.Told seat verb) }
+    requires can { CanReply S.sits S.named space.now names.now (Reply.Told seat telling) }
     ensures { (s : State) → S.stands space.now s
         → WritesTold K.wrote K.faults sink.old sink.new
-        (replies_text (reply_lines (Reply.Told seat verb) (record { state = s; names = names.now; text = S.text space.now names.now }))) result }
+        (replies_text (reply_lines (Reply.Told seat telling) (record { state = s; names = names.now; text = S.text space.now names.now }))) result }
 {
-    match verb {
-        Verb::Print(r) => put_text(space, names, seat, r, sink),
-        Verb::Eq(a, b) => put_compared(space, names, seat, Asked::Equality, a, b, sink),
-        Verb::Cmp(a, b) => put_compared(space, names, seat, Asked::Order, a, b, sink),
-        Verb::Flat(r) => put_flat(space, names, seat, r, sink),
-        Verb::Queue => {
+    match telling {
+        Telling::Text(r) => put_text(space, names, seat, r, sink),
+        Telling::Compared(asked, a, b) => put_compared(space, names, seat, asked, a, b, sink),
+        Telling::Flat(r) => put_flat(space, names, seat, r, sink),
+        Telling::Queue => {
             space.queue(names, seat, sink)?;
             put(sink, b"\n")
         }
-        _ => unreachable!(),
     }
 }
 
@@ -163,40 +172,24 @@ fn put_map<S: Space, K: Sink>(
         → IsMapOf (map_command line) s (S.text space.now names.now (map_command line)) }
 {
     match line {
-        MapLine::OfSystem(SysVerb::Counts) => {
+        MapLine::Counts => {
             space.counts(names, sink)?;
             put(sink, b"\n")
         }
-        _ => unreachable!(),
     }
 }
 
-/// Whether a reply is one constant text or none, so that it takes one write at most.
-pub(crate) fn is_constant(reply: Reply) -> bool
-    ensures { result ≡ true → is_plain reply ≡ true }
+/// The text of a reply that is one constant text or none, so that it takes one write at most.
+pub(crate) fn constant_text(reply: Reply) -> Option<&'static [u8]>
+    ensures text { IfSome result (λ t. (x : Shown) → replies_text (reply_lines reply x) ≡ t.now) }
+    ensures plain { IfSome result (λ _. is_plain reply ≡ true) }
 {
     match reply {
-        Reply::Nothing => true,
-        Reply::Done => true,
-        Reply::Quit => true,
-        Reply::Refused(Refusal::NoSpace(_)) => false,
-        Reply::Refused(_) => true,
-        _ => false,
-    }
-}
-
-/// Writes the lines of a reply that is made without a look at the space.
-pub(crate) fn put_plain<K: Sink>(reply: Reply, sink: &mut K) -> Result<(), SinkFault>
-    requires plain { is_plain reply ≡ true }
-    ensures { (x : Shown) → WritesTold K.wrote K.faults sink.old sink.new (replies_text (reply_lines reply x)) result }
-{
-    match reply {
-        Reply::Nothing => Ok(()),
-        Reply::Done => put(sink, b"ok\n"),
-        Reply::Quit => put(sink, b"ok\n"),
-        Reply::Spawned(n) => put_counted(b"ok ", n, sink),
-        Reply::Refused(refusal) => put_refusal(refusal, sink),
-        _ => unreachable!(),
+        Reply::Nothing => Some(b""),
+        Reply::Done => Some(b"ok\n"),
+        Reply::Quit => Some(b"ok\n"),
+        Reply::Refused(refusal) => constant_line(refusal),
+        Reply::Spawned(_) | Reply::Numbers | Reply::Map(_) | Reply::Told(_, _) => None,
     }
 }
 
@@ -215,9 +208,13 @@ pub(crate) fn put_reply<S: Space, K: Sink>(
         → AllowsMap reply (record { state = s; names = names.now; text = S.text space.now names.now }) }
 {
     match reply {
+        Reply::Nothing => Ok(()),
+        Reply::Done => put(sink, b"ok\n"),
+        Reply::Quit => put(sink, b"ok\n"),
+        Reply::Spawned(n) => put_counted(b"ok ", n, sink),
         Reply::Numbers => put_numbers(space, sink),
         Reply::Map(line) => put_map(space, names, line, sink),
-        Reply::Told(seat, verb) => put_told(space, names, seat, verb, sink),
-        _ => put_plain(reply, sink),
+        Reply::Told(seat, telling) => put_told(space, names, seat, telling, sink),
+        Reply::Refused(refusal) => put_refusal(refusal, sink),
     }
 }

@@ -1,5 +1,5 @@
 // Numbers in lines, and the texts of refusals.
-ghost use Rattle.std.specs.Prelude.{◌≡◌, ◌++◌, decimal};
+ghost use Rattle.std.specs.Prelude.{◌≡◌, ◌++◌, decimal, IfSome};
 ghost use Rattle.plain_machine.specs.Run.{refusal_text};
 ghost use Rattle.line_io.specs.Sink.{WritesTold};
 ghost use Rattle.engine.specs.Writing.{refusal_front, end_of_line};
@@ -35,6 +35,16 @@ fn front_of(refusal: Refusal) -> &'static [u8]
         Refusal::Syntax => b"error syntax\n",
         Refusal::Long => b"error long\n",
     }
+}
+
+/// The whole line that answers a refusal without a number.
+pub(crate) fn constant_line(refusal: Refusal) -> Option<&'static [u8]>
+    ensures { IfSome result (λ t. t.now ≡ end_of_line (refusal_text refusal)) }
+{
+    if let Refusal::NoSpace(_) = refusal {
+        return None;
+    }
+    Some(front_of(refusal))
 }
 
 /// Writes the line that answers a refusal. One without a number takes one write.

@@ -217,8 +217,11 @@ spawn-other m s p false h = at (process_of m s) refl
           is_next = sym same;
           told = ap (λ z. codes "ok " ++ decimal z) same;
         }))
-    at-next e false is = inl (passes-same m s _ h (extends-none s.shared) (none-come m (fresh_process s.next) s.processes e
-    ∙ (ap (λ b. cond b (Some (fresh_process s.next)) None) is ∙ sym e)) refl, refl)
+    at-next e false is = inl (
+      passes-same m s _ h (extends-none s.shared) (none-come m (fresh_process s.next) s.processes e
+          ∙ (ap (λ b. cond b (Some (fresh_process s.next)) None) is ∙ sym e)) refl,
+      refl,
+    )
 
     at : (o : Option Live) → process_of m s ≡ o → OtherOutcome m s (OfSystem sys.Spawn tt) (spawn_if false s p)
     at None e = at-next e (s.next == m) refl

@@ -1,7 +1,6 @@
 use Rattle.std.proofs.Common.{ap, refl, arith}
 use Rattle.std.proofs.lemmas.Bool.{both_ways}
 use Rattle.script_grammar.specs.declared.command.Command.TheVariants.{System}
-use Rattle.plain_machine.specs.Maps.{is_map}
 use Rattle.plain_machine.specs.Step.{is_printing_system}
 use Rattle.engine.specs.declared.reply.Reply.TheVariants.{Spawned}
 use Rattle.engine.proofs.Acting.{command-same, map-does, spawn-does, sweep-does, procs-does, quit-does, keeps-more, on-err, said-can, said-refused}
@@ -40,8 +39,8 @@ returns-in-Procs g c = record {
 
 pub returns-in-Counts : goal.returns-in-Counts
 returns-in-Counts g c = record {
-  acts = λ s terms code h f. map-does _ _ code (g.S.Space.stands c.args.space.now) _ c.args.verb c.in-Counts.is (λ s h. h) s terms h f;
-  can = ((c.requires.built, ap (λ v. is_map (System v)) c.in-Counts.is), c.requires.named);
+  acts = λ s terms code h f. command-same _ _ code _ (g.S.Space.stands c.args.space.now) _ _ _ (ap System c.in-Counts.is) (map-does _ _ _ _ _ (λ s h. h)) s terms h f;
+  can = c.requires.named;
   books = record { same_words = refl; one_call = omega arith; few_names = c.requires.named };
   refused = tt;
   leaves = λ e. refl;

@@ -5,7 +5,7 @@ use Rattle.engine.proofs.reply.put_compared.Goals as goal
 
 pub compare-requires : goal.compare-requires
 compare-requires g c =
-    let two = compared-registers c.args.asked c.args.a c.args.b c.requires.can.1.registers in record {
+    let two = compared-registers c.args.asked c.args.a c.args.b c.requires.can.1 in record {
       sits = c.requires.can.0;
       register = two.0;
       other = two.1;

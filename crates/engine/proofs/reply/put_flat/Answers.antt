@@ -4,7 +4,7 @@ use Rattle.engine.proofs.Replies.{told-line, refused-line}
 use Rattle.engine.proofs.reply.put_flat.Goals as goal
 
 pub measure-requires : goal.measure-requires
-measure-requires g c = record { sits = c.requires.can.0; register = c.requires.can.1.registers }
+measure-requires g c = record { sits = c.requires.can.0; register = c.requires.can.1 }
 
 pub returns-in-Ok : goal.returns-in-Ok
 returns-in-Ok g c = λ s h.

@@ -1,5 +1,32 @@
-use Rattle.engine.proofs.Replies.{reply-same, allows-same, plain-allows, plain-rest}
+use Rattle.std.proofs.Common.{arith, refl}
+use Rattle.line_io.proofs.Growth.{Grew-nil}
+use Rattle.engine.proofs.Replies.{reply-same, allows-same}
 use Rattle.engine.proofs.reply.put_reply.Goals as goal
+
+pub returns-in-Nothing : goal.returns-in-Nothing
+returns-in-Nothing g c = record {
+  sent = λ s h. reply-same g.K.Sink.wrote g.K.Sink.faults _ _ _ _ _ _ c.in-Nothing.is
+      (record { all = Grew-nil g.K.Sink.wrote c.args.sink.now; part = tt; later = omega arith; rose = tt; told = refl });
+  allowed = λ s h e. allows-same _ _ _ c.in-Nothing.is tt;
+}
+
+pub returns-in-Done : goal.returns-in-Done
+returns-in-Done g c = record {
+  sent = λ s h. reply-same g.K.Sink.wrote g.K.Sink.faults _ _ _ _ _ _ c.in-Done.is c.put.ensures;
+  allowed = λ s h e. allows-same _ _ _ c.in-Done.is tt;
+}
+
+pub returns-in-Quit : goal.returns-in-Quit
+returns-in-Quit g c = record {
+  sent = λ s h. reply-same g.K.Sink.wrote g.K.Sink.faults _ _ _ _ _ _ c.in-Quit.is c.put-in-Quit.ensures;
+  allowed = λ s h e. allows-same _ _ _ c.in-Quit.is tt;
+}
+
+pub returns-in-Spawned : goal.returns-in-Spawned
+returns-in-Spawned g c = record {
+  sent = λ s h. reply-same g.K.Sink.wrote g.K.Sink.faults _ _ _ _ _ _ c.in-Spawned.is c.put_counted.ensures;
+  allowed = λ s h e. allows-same _ _ _ c.in-Spawned.is tt;
+}
 
 pub returns-in-Numbers : goal.returns-in-Numbers
 returns-in-Numbers g c = record {
@@ -19,11 +46,8 @@ returns-in-Told g c = record {
   allowed = λ s h e. allows-same _ _ _ c.in-Told.is tt;
 }
 
-pub put_plain-requires : goal.put_plain-requires
-put_plain-requires g c = record { plain = plain-rest c.args.reply c.in_default.not-Numbers c.in_default.not-Map c.in_default.not-Told }
-
-pub returns-in_default : goal.returns-in_default
-returns-in_default g c = record {
-  sent = λ s h. c.put_plain.ensures _;
-  allowed = λ s h e. plain-allows c.args.reply _ (plain-rest c.args.reply c.in_default.not-Numbers c.in_default.not-Map c.in_default.not-Told);
+pub returns-in-Refused : goal.returns-in-Refused
+returns-in-Refused g c = record {
+  sent = λ s h. reply-same g.K.Sink.wrote g.K.Sink.faults _ _ _ _ _ _ c.in-Refused.is c.put_refusal.ensures;
+  allowed = λ s h e. allows-same _ _ _ c.in-Refused.is tt;
 }

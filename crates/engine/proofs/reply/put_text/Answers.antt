@@ -4,7 +4,7 @@ use Rattle.engine.proofs.Replies.{text-line, big-line, text-stopped}
 use Rattle.engine.proofs.reply.put_text.Goals as goal
 
 pub print-requires : goal.print-requires
-print-requires g c = record { sits = c.requires.can.0; register = c.requires.can.1.registers; named = c.requires.can.2 }
+print-requires g c = record { sits = c.requires.can.0; register = c.requires.can.1; named = c.requires.can.2 }
 
 pub returns-in-Ok : goal.returns-in-Ok
 returns-in-Ok g c = λ s h.

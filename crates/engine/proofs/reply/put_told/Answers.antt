@@ -8,27 +8,19 @@ use Rattle.engine.proofs.reply.put_told.Goals as goal
 
 pub put_text-requires : goal.put_text-requires
 put_text-requires g c =
-    record { can = subst (λ v. CanReply g.S.Space.sits g.S.Space.named c.args.space.now c.args.names.now (Told c.args.seat v)) c.in-Print.is c.requires.can }
+    record { can = subst (λ v. CanReply g.S.Space.sits g.S.Space.named c.args.space.now c.args.names.now (Told c.args.seat v)) c.in-Text.is c.requires.can }
 
-pub returns-in-Print : goal.returns-in-Print
-returns-in-Print g c = λ s h. told-verb g.K.Sink.wrote g.K.Sink.faults _ _ c.put_text.result c.args.seat _ _
-    (record { state = s; names = c.args.names.now; text = g.S.Space.text c.args.space.now c.args.names.now }) c.in-Print.is (c.put_text.ensures s h)
+pub returns-in-Text : goal.returns-in-Text
+returns-in-Text g c = λ s h. told-verb g.K.Sink.wrote g.K.Sink.faults _ _ c.put_text.result c.args.seat _ _
+    (record { state = s; names = c.args.names.now; text = g.S.Space.text c.args.space.now c.args.names.now }) c.in-Text.is (c.put_text.ensures s h)
 
 pub put_compared-requires : goal.put_compared-requires
 put_compared-requires g c =
-    record { can = subst (λ v. CanReply g.S.Space.sits g.S.Space.named c.args.space.now c.args.names.now (Told c.args.seat v)) c.in-Eq.is c.requires.can }
+    record { can = subst (λ v. CanReply g.S.Space.sits g.S.Space.named c.args.space.now c.args.names.now (Told c.args.seat v)) c.in-Compared.is c.requires.can }
 
-pub returns-in-Eq : goal.returns-in-Eq
-returns-in-Eq g c = λ s h. told-verb g.K.Sink.wrote g.K.Sink.faults _ _ c.put_compared.result c.args.seat _ _
-    (record { state = s; names = c.args.names.now; text = g.S.Space.text c.args.space.now c.args.names.now }) c.in-Eq.is (c.put_compared.ensures s h)
-
-pub put_compared-requires-in-Cmp : goal.put_compared-requires-in-Cmp
-put_compared-requires-in-Cmp g c =
-    record { can = subst (λ v. CanReply g.S.Space.sits g.S.Space.named c.args.space.now c.args.names.now (Told c.args.seat v)) c.in-Cmp.is c.requires.can }
-
-pub returns-in-Cmp : goal.returns-in-Cmp
-returns-in-Cmp g c = λ s h. told-verb g.K.Sink.wrote g.K.Sink.faults _ _ c.put_compared-in-Cmp.result c.args.seat _ _
-    (record { state = s; names = c.args.names.now; text = g.S.Space.text c.args.space.now c.args.names.now }) c.in-Cmp.is (c.put_compared-in-Cmp.ensures s h)
+pub returns-in-Compared : goal.returns-in-Compared
+returns-in-Compared g c = λ s h. told-verb g.K.Sink.wrote g.K.Sink.faults _ _ c.put_compared.result c.args.seat _ _
+    (record { state = s; names = c.args.names.now; text = g.S.Space.text c.args.space.now c.args.names.now }) c.in-Compared.is (c.put_compared.ensures s h)
 
 pub put_flat-requires : goal.put_flat-requires
 put_flat-requires g c =
