@@ -23,6 +23,7 @@ use Rattle.word_shift.specs.Slides.{MovesWhole}
 use Rattle.word_shift.proofs.Objects.{link-first, traced-boxed}
 use Rattle.word_shift.proofs.Roled.{link-is}
 use Rattle.word_shift.proofs.Sliding.{below-or}
+use Rattle.word_shift.proofs.Still.{row-tile, tile-layout}
 use Rattle.block_slide.specs.Down.{packed_place, is_in_use, packed_test}
 use Rattle.block_slide.specs.Held.{IsBehind, IsOfRow, LinksHeld, RolesHeld}
 use Rattle.block_slide.specs.Parts.{AreParts, SlidParts}
@@ -43,17 +44,6 @@ header-link mem w tag is = link-is w (get_or mem (w / 4) 0) tag (header-kind (ge
 
 header-of-link : (mem : List ℕ) (w : ℕ) → IsLinkHeader (get_or mem (w / 4) 0) → is_link_header (get_or mem (w / 4) 0) ≡ true
 header-of-link mem w is = link-is 2 (get_or mem (w / 4) 0) (omega arith) (header-kind (get_or mem (w / 4) 0) is)
-
--- An object of a row is a tile.
-pub row-tile : (mem : List ℕ) (from to : ℕ) (ws : List ℕ) → Tiled mem from ws to → (w : ℕ) → In w ws → IsTile mem w
-row-tile mem from to [] row w i = absurd i
-row-tile mem from to (v ∷ vs) (place, tile, rest) w (inl e) = (let P : ℕ → Type 0 = λ x. IsTile mem x in subst P (sym e) tile)
-row-tile mem from to (v ∷ vs) (place, tile, rest) w (inr i) = row-tile mem (from + tile_words mem v) to vs rest w i
-
-pub tile-layout : (mem : List ℕ) (w : ℕ) → w % 4 ≡ 2 → IsTile mem w → (l : Layout) × (layout_for (get_or mem (w / 4) 0) ≡ Some l)
-tile-layout mem w tag (inl (t, h)) = absurd (omega (arith, tag, t))
-tile-layout mem w tag (inr (inl (t, le))) = le
-tile-layout mem w tag (inr (inr (t, h))) = absurd (omega (arith, tag, t))
 
 link-untraced : (mem : List ℕ) (w : ℕ) → w % 4 ≡ 2 → IsTile mem w → IsLinkHeader (get_or mem (w / 4) 0) → first_traced mem w ≡ 6
 link-untraced mem w tag tile is =
