@@ -1,17 +1,14 @@
 -- Chains and counts after both passes: holders, funs and records at the new places.
-use Rattle.std.proofs.Common.{◌≡◌, ℕ, zero, suc, ◌+◌, ◌-◌, ◌*◌, ◌/◌, ◌%◌, ◌<◌, ◌≤◌, ◌⊎◌, nat_le, Bool, true, List, [], ◌∷◌, length, get_or, refl, sym, ◌∙◌, ap, subst, arith, inl, inr, Some}
+use Rattle.std.proofs.Common.{◌≡◌, ℕ, zero, suc, ◌+◌, ◌-◌, ◌*◌, ◌/◌, ◌%◌, ◌<◌, ◌≤◌, ◌⊎◌, nat_le, Bool, true, List, length, get_or, refl, sym, ◌∙◌, ap, subst, arith, inl, inr}
 use Rattle.std.proofs.lemmas.Bool.{cases_Bool, cases_lt, cases_eq}
 use Rattle.word_arena.specs.Blocks.{Blocked}
 use Rattle.word_arena.specs.Sums.{free_before, slid}
 use Rattle.word_arena.proofs.Side.Before.{before-order}
 use Rattle.word_arena.proofs.Side.Facts.{block-within}
-use Rattle.term_tags.specs.Table.{layout_for}
-use Rattle.term_tags.specs.declared.layouts.Layout.{Layout}
 use Rattle.term_words.specs.Role.{NEXT, FIRST, FURTHER, NAMES, IsSingle, OfRecord}
 use Rattle.term_words.specs.Object.{IsRecord, object_words}
 use Rattle.term_words.specs.Reach.{first_traced}
-use Rattle.term_words.specs.Counted.{In}
-use Rattle.term_words.specs.Tiled.{IsTile, Tiled, tile_words}
+use Rattle.term_words.specs.Tiled.{IsTile}
 use Rattle.term_words.specs.Relocated.{IsCopiedTo}
 use Rattle.term_words.proofs.Placing.Roles.{record-role}
 use Rattle.shared_rec.proofs.Records.{record-copied, record-within}

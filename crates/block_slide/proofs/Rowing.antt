@@ -1,20 +1,15 @@
 -- A row of objects after both passes: whole objects side by side at the new places.
-use Rattle.std.proofs.Common.{◌≡◌, ℕ, ◌+◌, ◌-◌, ◌*◌, ◌/◌, ◌%◌, ◌<◌, ◌≤◌, ◌⊎◌, ◌==◌, if◌then◌else◌, Bool, true, false, List, map, length, get_or, ◌∙◌, ap, subst, arith, inl, inr, Option, Some, None}
-use Rattle.std.proofs.lemmas.Option.{none-some}
+use Rattle.std.proofs.Common.{◌≡◌, ℕ, ◌+◌, ◌-◌, ◌*◌, ◌/◌, ◌%◌, ◌<◌, ◌≤◌, List, map, length, get_or, ◌∙◌, ap, subst, arith, inl, inr}
 use Rattle.word_mem.specs.declared.ranges.Span.{Span}
 use Rattle.word_arena.specs.Blocks.{Blocked}
-use Rattle.term_tags.specs.Table.{layout_for, layout_at, row_layout}
-use Rattle.term_tags.specs.declared.layouts.Layout.{Layout}
 use Rattle.term_words.specs.Object.{IsPointer}
 use Rattle.term_words.specs.Counted.{In}
 use Rattle.term_words.specs.Tiled.{IsTileAt, MoveAsOne}
 use Rattle.term_words.proofs.Placing.Roles.{object-some}
 use Rattle.term_words.proofs.Placing.Tiles.{tiled-moved}
-use Rattle.term_words.proofs.Reaching.Reached.{cons-traced}
 use Rattle.off_heap_list.proofs.Chaining.Relocated.{in-map}
 use Rattle.object_rows.specs.Row.{AreObjects, links_in}
 use Rattle.word_shift.specs.Shifted.{word_image, ObjectShifted}
-use Rattle.word_shift.proofs.Objects.{name-near, row-first, traced-boxed}
 use Rattle.word_shift.proofs.Sliding.{image-pointer}
 use Rattle.word_shift.proofs.Still.{image-tag, link-read, links-mapped, row-tile, shifted-read}
 use Rattle.block_slide.specs.Down.{packed_place}
