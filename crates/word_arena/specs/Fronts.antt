@@ -6,7 +6,7 @@ use Rattle.word_arena.specs.declared.holes.Holes.{Holes}
 use Rattle.word_arena.specs.declared.stretches.TheConstants.{STRETCH}
 
 -- To the place comes a block in use of those that begin before another place.
-pub record ComesTo (mem : List ℕ) (before at : ℕ) : Type 0 where
+pub record BroughtTo (mem : List ℕ) (before at : ℕ) : Type 0 where
   pub block : ℕ
   pub used : IsUsed mem block
   pub below : block < before
@@ -25,7 +25,7 @@ pub record Firsts (C : ℕ → Type 0) (firsts : List ℕ) (next : ℕ) : Type 0
   pub inside : next ≤ length firsts
 
 -- A place was told where no stretch at or behind its own had one yet; the stretches from `told` on have none.
-pub record Begun (old new : Holes) (next told at : ℕ) : Type 0 where
+pub record TellsFirst (old new : Holes) (next told at : ℕ) : Type 0 where
   pub met : at / STRETCH < next → (new.firsts.items ≡ old.firsts.items) × (told ≡ next)
   pub written : next ≤ at / STRETCH → (new.firsts.items ≡ slice_set old.firsts.items (at / STRETCH) (at % STRETCH)) × (told ≡ at / STRETCH + 1)
   pub tops : new.tops ≡ old.tops

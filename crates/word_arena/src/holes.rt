@@ -17,7 +17,7 @@ pub(crate) struct Holes {
 }
 
 impl Holes {
-    ghost use Rattle.word_arena.specs.Fronts.{Begun, EndsRow};
+    ghost use Rattle.word_arena.specs.Fronts.{TellsFirst, EndsRow};
     ghost use Rattle.word_arena.specs.Stretches.{IsFirst, Right, IsStart, HasRoom, Agrees, Settled};
 
     /// A table with room for so many words, of which it knows nothing yet.
@@ -135,7 +135,7 @@ impl Holes {
     #[inline]
     pub(crate) fn begin(&mut self, next: usize, at: u64) -> usize
         requires inside { at / STRETCH < length self.old.firsts.items }
-        ensures { Begun self.old self.new next result at }
+        ensures { TellsFirst self.old self.new next result at }
     {
         let stretch = stretch_of(at);
         if stretch < next {

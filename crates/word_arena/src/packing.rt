@@ -1,7 +1,7 @@
 // The blocks in use brought side by side.
 ghost use Rattle.std.specs.Prelude.{◌≡◌, ℕ, ◌+◌, ◌<◌, ◌≤◌, ◌⊎◌, length, slice_index};
 ghost use Rattle.word_arena.specs.Blocks.{Blocked};
-ghost use Rattle.word_arena.specs.Fronts.{ComesTo, Firsts};
+ghost use Rattle.word_arena.specs.Fronts.{BroughtTo, Firsts};
 ghost use Rattle.word_arena.specs.Packs.{Gathered};
 ghost use Rattle.word_arena.specs.Stretches.{HasRoom};
 
@@ -21,9 +21,9 @@ pub(crate) struct Front {
 pub(crate) fn gather(mem: &mut WordMem, holes: &mut Holes) -> Front
     requires blocked { Blocked mem.old }
     requires room { HasRoom mem.old holes.old }
-    requires none { Firsts (ComesTo mem.old 0) holes.old.firsts.items 0 }
+    requires none { Firsts (BroughtTo mem.old 0) holes.old.firsts.items 0 }
     ensures gathered { Gathered mem.old mem.new (length mem.old) result.end }
-    ensures firsts { Firsts (ComesTo mem.old (length mem.old)) holes.new.firsts.items result.next }
+    ensures firsts { Firsts (BroughtTo mem.old (length mem.old)) holes.new.firsts.items result.next }
     ensures room { HasRoom mem.old holes.new }
     ensures tops { holes.new.tops ≡ holes.old.tops }
     ensures free { holes.new.free ≡ holes.old.free }

@@ -100,7 +100,8 @@ row-shifted-row g old new from to ws are s =
     shifted-read g old new w (are.objects w i) (row-tile old from to ws are.row w i) (s.each w i) in
     let move : MoveAsOne old new (λ w. w) (λ q. q) from to ws = record { shift = λ q low high. omega (arith, low); words = λ w i. omega arith; read = read } in
     let P : List ℕ → Type 0 = λ vs. Tiled new from vs to in
-    let links : links_in new (map (λ w. w) ws) ≡ map (λ q. q) (links_in old ws) = links-mapped old new (λ w. w) (λ q. q) ws (λ w i. link-read old new w w (w / 4) refl refl (read w i)) (λ w i. refl) in (
+    let links : links_in new (map (λ w. w) ws) ≡ map (λ q. q) (links_in old ws) =
+    links-mapped old new (λ w. w) (λ q. q) ws (λ w i. link-read old new w w (w / 4) refl refl (read w i)) (λ w i. refl) in (
       record { row = subst P (map-id ws) (tiled-moved old new (λ w. w) (λ q. q) from to ws move are.row); objects = are.objects },
       sym (ap (links_in new) (map-id ws)) ∙ (links ∙ map-id (links_in old ws)),
     )

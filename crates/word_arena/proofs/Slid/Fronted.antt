@@ -6,7 +6,7 @@ use Rattle.word_arena.specs.Blocks.{size_at, kind_at, free_at, Blocked, BlockBeg
 use Rattle.word_arena.specs.Calls.{freed}
 use Rattle.word_arena.specs.Sums.{slid}
 use Rattle.word_arena.specs.Packs.{Packed, Gathered}
-use Rattle.word_arena.specs.Fronts.{Begun, ComesTo, EndsRow, FirstOf, Firsts}
+use Rattle.word_arena.specs.Fronts.{TellsFirst, BroughtTo, EndsRow, FirstOf, Firsts}
 use Rattle.word_arena.specs.Stretches.{HasRoom, IsFirst, IsTop, Right}
 use Rattle.word_arena.specs.declared.holes.Holes.{Holes}
 use Rattle.word_arena.proofs.Side.Places.{in-right}
@@ -107,7 +107,7 @@ module _ (C D : ℕ → Type 0) (firsts : List ℕ) (next to : ℕ) (f : Firsts 
     | inr above ↦ (let (same, is) = written above in rw (same, is) (firsts-set above inside))
   ]
 
-pub begun-room : (mem : List ℕ) (old new : Holes) (next told at : ℕ) → Begun old new next told at → HasRoom mem old → HasRoom mem new
+pub begun-room : (mem : List ℕ) (old new : Holes) (next told at : ℕ) → TellsFirst old new next told at → HasRoom mem old → HasRoom mem new
 begun-room mem old new next told at b room =
     let len : length new.firsts.items ≡ length old.firsts.items = elim (cases_lt (at / 64) next) as (λ _. length new.firsts.items ≡ length old.firsts.items) [
       | inl below ↦ ap length (b.met below).0
@@ -117,25 +117,25 @@ begun-room mem old new next told at b room =
 
 -- Blocks come.
 
-pub comes-none : (mem : List ℕ) (at : ℕ) → ComesTo mem 0 at → ⊥
+pub comes-none : (mem : List ℕ) (at : ℕ) → BroughtTo mem 0 at → ⊥
 comes-none mem at c = omega (arith, c.below)
 
-pub firsts-free : (old firsts : List ℕ) (at next : ℕ) → Blocked old → BlockBegins old at → kind_at old at ≡ 0 → Firsts (ComesTo old at) firsts next
-    → Firsts (ComesTo old (at + size_at old at)) firsts next
-firsts-free old firsts at next blocked begins free = firsts-same (ComesTo old at) (ComesTo old (at + size_at old at)) firsts next
+pub firsts-free : (old firsts : List ℕ) (at next : ℕ) → Blocked old → BlockBegins old at → kind_at old at ≡ 0 → Firsts (BroughtTo old at) firsts next
+    → Firsts (BroughtTo old (at + size_at old at)) firsts next
+firsts-free old firsts at next blocked begins free = firsts-same (BroughtTo old at) (BroughtTo old (at + size_at old at)) firsts next
     (λ r c. record { block = c.block; used = c.used; below = omega (arith, c.below); is = c.is })
     (λ r c. record { block = c.block; used = c.used; below = used-before old at c.block blocked begins free c.used c.below; is = c.is })
 
-pub firsts-used : (old now firsts new : List ℕ) (at to next told : ℕ) → Blocked old → IsUsed old at → Gathered old now at to → Firsts (ComesTo old at) firsts next
+pub firsts-used : (old now firsts new : List ℕ) (at to next told : ℕ) → Blocked old → IsUsed old at → Gathered old now at to → Firsts (BroughtTo old at) firsts next
     → to / 64 < length firsts → (to / 64 < next → (new ≡ firsts) × (told ≡ next)) → (next ≤ to / 64 → (new ≡ set firsts (to / 64) (to % 64)) × (told ≡ to / 64 + 1))
-    → Firsts (ComesTo old (at + size_at old at)) new told
+    → Firsts (BroughtTo old (at + size_at old at)) new told
 firsts-used old now firsts new at to next told blocked used g f =
     let some : 1 ≤ size_at old at = (block-within old at blocked used.begins).header.sized in
     let is : slid old at at ≡ to = omega (arith, g.order) in
-    firsts-begun (ComesTo old at) (ComesTo old (at + size_at old at)) firsts next to f
+    firsts-begun (BroughtTo old at) (BroughtTo old (at + size_at old at)) firsts next to f
     (λ r c. omega (arith, c.is, slid-below old now at to c.block c.block blocked g c.used c.below (omega arith) (omega (arith, (block-within old c.block blocked c.used.begins).header.sized))))
     (λ r c. record { block = c.block; used = c.used; below = omega (arith, c.below); is = c.is }) (record { block = at; used = used; below = omega (arith, some); is = is })
-    (λ r c. elim (used-until old at c.block blocked used.begins c.used c.below) as (λ _. ComesTo old at r ⊎ (r ≡ to)) [
+    (λ r c. elim (used-until old at c.block blocked used.begins c.used c.below) as (λ _. BroughtTo old at r ⊎ (r ≡ to)) [
       | inl low ↦ inl (record { block = c.block; used = c.used; below = low; is = c.is })
       | inr same ↦ (let P : ℕ → Type 0 = λ z. slid old z z ≡ to in inr (sym c.is ∙ subst P (sym same) is))
     ])
@@ -143,20 +143,20 @@ firsts-used old now firsts new at to next told blocked used g f =
 
 -- All have come, and the rest is one free block.
 module _ (old now new firsts : List ℕ) (to next : ℕ) (blocked : Blocked old) (after : Blocked new) (g : Gathered old now (length old) to) (is : new ≡ freed now to (length now))
-    (inside : to ≤ length now) (f : Firsts (ComesTo old (length old)) firsts next) (same_len : length new ≡ length now) (p : Packed old new) where
+    (inside : to ≤ length now) (f : Firsts (BroughtTo old (length old)) firsts next) (same_len : length new ≡ length now) (p : Packed old new) where
   rows : Rows now new to g.places
   rows = packed-rows now new to g.places g.row inside is
 
-  comes : (r : ℕ) → ComesTo old (length old) r → BlockBegins new r
+  comes : (r : ℕ) → BroughtTo old (length old) r → BlockBegins new r
   comes r c = (let P : ℕ → Type 0 = λ z. BlockBegins new z in subst P c.is (p.used c.block c.used).begins)
 
-  came : (r : ℕ) → BlockBegins new r → ComesTo old (length old) r ⊎ (r ≡ to)
-  came r begins = elim (in-rows now new to r g.places rows begins) as (λ _. ComesTo old (length old) r ⊎ (r ≡ to)) [
+  came : (r : ℕ) → BlockBegins new r → BroughtTo old (length old) r ⊎ (r ≡ to)
+  came r begins = elim (in-rows now new to r g.places rows begins) as (λ _. BroughtTo old (length old) r ⊎ (r ≡ to)) [
     | inl there ↦ (let o = g.only r there in inl (record { block = o.0; used = o.1; below = o.2; is = o.3 }))
     | inr here ↦ inr (rows.run.only r here)
   ]
 
-  low : (r : ℕ) → ComesTo old (length old) r → r < to
+  low : (r : ℕ) → BroughtTo old (length old) r → r < to
   low r c =
       omega (
         arith,
@@ -165,7 +165,7 @@ module _ (old now new firsts : List ℕ) (to next : ℕ) (blocked : Blocked old)
       )
 
   pub firsts-all : length new ≤ to → Firsts (λ r. BlockBegins new r) firsts next
-  firsts-all past = firsts-same (ComesTo old (length old)) (λ r. BlockBegins new r) firsts next comes (λ r begins. elim (came r begins) as (λ _. ComesTo old (length old) r) [
+  firsts-all past = firsts-same (BroughtTo old (length old)) (λ r. BlockBegins new r) firsts next comes (λ r begins. elim (came r begins) as (λ _. BroughtTo old (length old) r) [
     | inl c ↦ c
     | inr same ↦ absurd (omega (arith, same, past, begins-below new r after begins))
   ]) f
@@ -176,7 +176,7 @@ module _ (old now new firsts : List ℕ) (to next : ℕ) (blocked : Blocked old)
 
   pub firsts-last : (all : List ℕ) (told : ℕ) → to < length new → to / 64 < length firsts → (to / 64 < next → (all ≡ firsts) × (told ≡ next))
       → (next ≤ to / 64 → (all ≡ set firsts (to / 64) (to % 64)) × (told ≡ to / 64 + 1)) → Firsts (λ r. BlockBegins new r) all told
-  firsts-last all told below = firsts-begun (ComesTo old (length old)) (λ r. BlockBegins new r) firsts next to f low comes (last-begins below) came all told
+  firsts-last all told below = firsts-begun (BroughtTo old (length old)) (λ r. BlockBegins new r) firsts next to f low comes (last-begins below) came all told
 
   free-is : (r : ℕ) → BlockBegins new r → 1 ≤ free_at new r → (r ≡ to) × (free_at new r + to ≡ length new)
   free-is r begins some = elim (in-rows now new to r g.places rows begins) as (λ _. (r ≡ to) × (free_at new r + to ≡ length new)) [
@@ -226,7 +226,7 @@ right-with mem firsts tops others all next i f same alike inside top = rw (same,
 
 -- The table that was told of all blocks agrees with the memory.
 pub table-packed : (old now new : List ℕ) (h done : Holes) (to next n : ℕ) → Blocked old → Blocked new → Gathered old now (length old) to → new ≡ freed now to (length now)
-    → to ≤ length now → length new ≡ length now → Packed old new → HasRoom old h → Firsts (ComesTo old (length old)) h.firsts.items next → h.tops ≡ replicate n 0
+    → to ≤ length now → length new ≡ length now → Packed old new → HasRoom old h → Firsts (BroughtTo old (length old)) h.firsts.items next → h.tops ≡ replicate n 0
     → EndsRow (length new) h done next to → HasRoom new done × ((i : ℕ) → i < length done.firsts.items → Right new done.firsts.items done.tops i)
 table-packed old now new h done to next n blocked after g is inside same_len p room f clear ends =
     let many : n ≡ length h.firsts.items = sym (length-replicate {A = ℕ} n 0) ∙ (sym (ap length clear) ∙ room.tops) in

@@ -1,5 +1,5 @@
 use Rattle.std.proofs.Common.{◌≡◌, ℕ, ◌/◌, length, ap, refl, subst, ◌∙◌, get_or, arith}
-use Rattle.word_arena.specs.Fronts.{ComesTo, Firsts}
+use Rattle.word_arena.specs.Fronts.{BroughtTo, Firsts}
 use Rattle.word_arena.proofs.Slid.Fronted.{begun-room, firsts-free, firsts-used}
 use Rattle.word_arena.specs.Blocks.{size_at, BlockBegins}
 use Rattle.word_arena.proofs.Side.Facts.{block-within, stop-zero, stop-next}
@@ -84,6 +84,6 @@ returns-clause-free c = c.loop-at.invariant.free
 
 pub returns-clause-firsts : goal.returns-clause-firsts
 returns-clause-firsts c =
-    let P : ℕ → Type 0 = λ z. Firsts (ComesTo c.args.mem.now z) c.loop-at.holes.firsts.items c.loop-at.next in
+    let P : ℕ → Type 0 = λ z. Firsts (BroughtTo c.args.mem.now z) c.loop-at.holes.firsts.items c.loop-at.next in
     let ends : c.loop-at.at ≡ length c.args.mem.now = omega (arith, c.loop-at.invariant.stop.inside, c.loop-at-test.false, c.len-len.ensures.len) in
     subst P ends c.loop-at.invariant.firsts

@@ -1,6 +1,6 @@
 use Rattle.std.proofs.Common.{◌≡◌, ◌-◌}
 use Rattle.word_arena.specs.Blocks.{IsBoundary}
-use Rattle.word_arena.specs.Fronts.{ComesTo, Firsts}
+use Rattle.word_arena.specs.Fronts.{BroughtTo, Firsts}
 use Rattle.word_arena.specs.Packs.{Gathered}
 use Rattle.word_arena.specs.Stretches.{HasRoom}
 use Rattle.word_arena.proofs.packing.gather.Given as goal
@@ -9,7 +9,7 @@ abbrev pub invariant-loop-at : goal.invariant-loop-at
 invariant-loop-at l = record {
   stop : IsBoundary l.fn.mem l.at;
   gathered : Gathered l.fn.mem l.mem l.at l.to;
-  firsts : Firsts (ComesTo l.fn.mem l.at) l.holes.firsts.items l.next;
+  firsts : Firsts (BroughtTo l.fn.mem l.at) l.holes.firsts.items l.next;
   room : HasRoom l.fn.mem l.holes;
   tops : l.holes.tops ≡ l.fn.holes.tops;
   free : l.holes.free ≡ l.fn.holes.free;

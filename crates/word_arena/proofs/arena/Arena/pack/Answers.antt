@@ -1,5 +1,5 @@
 use Rattle.std.proofs.Common.{◌≡◌, ◌≤◌, ℕ, List, length, sym, subst, ◌∙◌, arith}
-use Rattle.word_arena.specs.Fronts.{ComesTo, Firsts}
+use Rattle.word_arena.specs.Fronts.{BroughtTo, Firsts}
 use Rattle.word_arena.proofs.Slid.Fronted.{comes-none, firsts-none, room-empty, table-packed}
 use Rattle.word_arena.specs.Blocks.{free_of}
 use Rattle.word_arena.proofs.Slid.Gathering.{one-hole, packed, packed-used, packed-free}
@@ -51,9 +51,9 @@ returns-clause-apart c =
 pub gather-front-requires : goal.gather-front-requires
 gather-front-requires c =
     let holes = c.args.self.now.holes in
-    let P : List ℕ → Type 0 = λ z. Firsts (ComesTo c.args.self.now.mem 0) z 0 in
+    let P : List ℕ → Type 0 = λ z. Firsts (BroughtTo c.args.self.now.mem 0) z 0 in
     record {
       blocked = c.requires.blocked;
       room = room-empty c.args.self.now.mem holes c.empty.new.self c.requires.agrees.room c.empty.ensures.firsts c.empty.ensures.tops;
-      none = subst P (sym c.empty.ensures.firsts) (firsts-none (ComesTo c.args.self.now.mem 0) (length holes.firsts.items) (comes-none c.args.self.now.mem));
+      none = subst P (sym c.empty.ensures.firsts) (firsts-none (BroughtTo c.args.self.now.mem 0) (length holes.firsts.items) (comes-none c.args.self.now.mem));
     }
