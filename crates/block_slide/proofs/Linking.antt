@@ -1,17 +1,14 @@
 -- Chains and counts after both passes: holders, funs and records at the new places.
-use Rattle.std.proofs.Common.{◌≡◌, ℕ, zero, suc, ◌+◌, ◌-◌, ◌*◌, ◌/◌, ◌%◌, ◌<◌, ◌≤◌, ◌⊎◌, nat_le, Bool, true, List, [], ◌∷◌, length, get_or, refl, sym, ◌∙◌, ap, subst, arith, inl, inr, Some}
+use Rattle.std.proofs.Common.{◌≡◌, ◌≢◌, ℕ, zero, suc, ◌+◌, ◌-◌, ◌*◌, ◌/◌, ◌%◌, ◌<◌, ◌≤◌, ◌⊎◌, nat_le, Bool, true, List, length, get_or, refl, sym, ◌∙◌, ap, subst, arith, inl, inr}
 use Rattle.std.proofs.lemmas.Bool.{cases_Bool, cases_lt, cases_eq}
 use Rattle.word_arena.specs.Blocks.{Blocked}
 use Rattle.word_arena.specs.Sums.{free_before, slid}
 use Rattle.word_arena.proofs.Side.Before.{before-order}
 use Rattle.word_arena.proofs.Side.Facts.{block-within}
-use Rattle.term_tags.specs.Table.{layout_for}
-use Rattle.term_tags.specs.declared.layouts.Layout.{Layout}
-use Rattle.term_words.specs.Role.{NEXT, FIRST, FURTHER, NAMES, IsSingle, OfRecord}
+use Rattle.term_words.specs.Role.{NEXT, FIRST, FURTHER, NAMES, RECORD_FIRST, IsSingle, OfRecord}
 use Rattle.term_words.specs.Object.{IsRecord, object_words}
 use Rattle.term_words.specs.Reach.{first_traced}
-use Rattle.term_words.specs.Counted.{In}
-use Rattle.term_words.specs.Tiled.{IsTile, Tiled, tile_words}
+use Rattle.term_words.specs.Tiled.{IsTile}
 use Rattle.term_words.specs.Relocated.{IsCopiedTo}
 use Rattle.term_words.proofs.Placing.Roles.{record-role}
 use Rattle.shared_rec.proofs.Records.{record-copied, record-within}
@@ -23,12 +20,13 @@ use Rattle.word_shift.specs.Slides.{MovesWhole}
 use Rattle.word_shift.proofs.Objects.{link-first, traced-boxed}
 use Rattle.word_shift.proofs.Roled.{link-is}
 use Rattle.word_shift.proofs.Sliding.{below-or}
+use Rattle.word_shift.proofs.Still.{row-tile, tile-layout}
 use Rattle.block_slide.specs.Down.{packed_place, is_in_use, packed_test}
-use Rattle.block_slide.specs.Held.{IsBehind, IsOfRow, LinksHeld, RolesHeld}
+use Rattle.block_slide.specs.Held.{IsHeldAt, IsOfRow, LinksHeld, RolesHeld}
 use Rattle.block_slide.specs.Parts.{AreParts, SlidParts}
 use Rattle.block_slide.specs.declared.parts.Part.{Part}
 use Rattle.block_slide.proofs.Placed.{InBlock, few-before, in-block, place-of, places-differ, roles-come, roles-only}
-use Rattle.block_slide.proofs.Standing.{record-kept, record-whole, row-shifted, row-whole, row-within, used-inside, used-moved}
+use Rattle.block_slide.proofs.Standing.{IsFurther, record-further, record-kept, record-whole, row-shifted, row-whole, row-within, used-inside, used-moved}
 
 place-zero : (mem : List ℕ) → packed_place mem 0 ≡ 0
 place-zero mem = elim (cases_Bool (nat_le 0 (length mem))) [ inl t ↦ (rw t (omega arith)) | inr f ↦ (rw f refl) ]
@@ -44,35 +42,25 @@ header-link mem w tag is = link-is w (get_or mem (w / 4) 0) tag (header-kind (ge
 header-of-link : (mem : List ℕ) (w : ℕ) → IsLinkHeader (get_or mem (w / 4) 0) → is_link_header (get_or mem (w / 4) 0) ≡ true
 header-of-link mem w is = link-is 2 (get_or mem (w / 4) 0) (omega arith) (header-kind (get_or mem (w / 4) 0) is)
 
--- An object of a row is a tile.
-pub row-tile : (mem : List ℕ) (from to : ℕ) (ws : List ℕ) → Tiled mem from ws to → (w : ℕ) → In w ws → IsTile mem w
-row-tile mem from to [] row w i = absurd i
-row-tile mem from to (v ∷ vs) (place, tile, rest) w (inl e) = (let P : ℕ → Type 0 = λ x. IsTile mem x in subst P (sym e) tile)
-row-tile mem from to (v ∷ vs) (place, tile, rest) w (inr i) = row-tile mem (from + tile_words mem v) to vs rest w i
-
-pub tile-layout : (mem : List ℕ) (w : ℕ) → w % 4 ≡ 2 → IsTile mem w → (l : Layout) × (layout_for (get_or mem (w / 4) 0) ≡ Some l)
-tile-layout mem w tag (inl (t, h)) = absurd (omega (arith, tag, t))
-tile-layout mem w tag (inr (inl (t, le))) = le
-tile-layout mem w tag (inr (inr (t, h))) = absurd (omega (arith, tag, t))
-
 link-untraced : (mem : List ℕ) (w : ℕ) → w % 4 ≡ 2 → IsTile mem w → IsLinkHeader (get_or mem (w / 4) 0) → first_traced mem w ≡ 6
 link-untraced mem w tag tile is =
     let (l, e) = tile-layout mem w tag tile in
     traced-boxed mem w l tag e ∙ link-first (get_or mem (w / 4) 0) l e (header-of-link mem w is)
 
--- Words that come to places side by side stood side by side, where none was the first or second of a block.
-side-by-side : (mem : List ℕ) (a b : ℕ) → Blocked mem → IsBehind mem a → IsBehind mem b → packed_place mem b ≡ packed_place mem a + 1 → b ≡ a + 1
-side-by-side mem a b blocked x y e =
+-- Words that come to places side by side stood side by side, where the second was no block's first word.
+side-by-side : (mem : List ℕ) (a b k r : ℕ) → Blocked mem → IsHeldAt mem a k → IsHeldAt mem b r → r ≢ RECORD_FIRST → packed_place mem b ≡ packed_place mem a + 1 → b ≡ a + 1
+side-by-side mem a b k r blocked x y other e =
+    let above : y.block < b = y.inner other in
     let at-a : packed_place mem a ≡ slid mem x.block a = place-of mem blocked x.block a x.used (omega (arith, x.from)) (omega (arith, x.below)) in
     let at-b : packed_place mem b ≡ slid mem y.block b = place-of mem blocked y.block b y.used (omega (arith, y.from)) (omega (arith, y.below)) in
     let few-a : free_before mem x.block ≤ x.block = few-before mem blocked x.block x.used in
     let few-b : free_before mem y.block ≤ y.block = few-before mem blocked y.block y.used in
     elim (cases_eq x.block y.block) as (λ _. b ≡ a + 1) [
       | inl same ↦ omega (arith, e, at-a, at-b, few-a, few-b, x.from, y.from, ap (free_before mem) same)
-      | inr other ↦ elim (cases_lt x.block y.block) as (λ _. b ≡ a + 1) [
-        | inl below ↦ absurd (omega (arith, e, at-a, at-b, few-a, few-b, x.from, x.below, y.from, y.below, before-order mem x.block y.block blocked x.used y.used below))
-        | inr above ↦
-            absurd (omega (arith, e, at-a, at-b, few-a, few-b, x.from, x.below, y.from, y.below, before-order mem y.block x.block blocked y.used x.used (omega (arith, other, above))))
+      | inr far ↦ elim (cases_lt x.block y.block) as (λ _. b ≡ a + 1) [
+        | inl below ↦ absurd (omega (arith, e, at-a, at-b, few-a, few-b, x.from, x.below, above, y.below, before-order mem x.block y.block blocked x.used y.used below))
+        | inr over ↦
+            absurd (omega (arith, e, at-a, at-b, few-a, few-b, x.from, x.below, y.from, y.below, before-order mem y.block x.block blocked y.used x.used (omega (arith, far, over))))
       ]
     ]
 
@@ -155,8 +143,9 @@ module _ (c : ℕ → ℕ → Bool) (old new : List ℕ) (xs : List Part) (block
     pub link-to : IsLinkTo (packed_place old) c (packed_test c old) old new p
     link-to = record {
       somewhere =
-          let b : IsBehind old p = held.behind p FIRST k.first in
-          omega (arith, place-of old blocked b.block p b.used (omega (arith, b.from)) (omega (arith, b.below)), few-before old blocked b.block b.used, b.from);
+          let b : IsHeldAt old p FIRST = held.within p FIRST k.first in
+          let above : b.block < p = b.inner (λ z. omega (arith, z)) in
+          omega (arith, place-of old blocked b.block p b.used (omega (arith, b.from)) (omega (arith, b.below)), few-before old blocked b.block b.used, above);
       within = omega (arith, many, run-inside p (object_words old w) m (omega (arith, many)));
       roles = λ j a q r below e f role. run-roles p (object_words old w) m j a q r (omega (arith, below, many)) e f role;
       same = λ j a q below e f roles.
@@ -204,13 +193,23 @@ module _ (c : ℕ → ℕ → Bool) (old new : List ℕ) (xs : List Part) (block
         let (a, (used, (comes, role))) = roles-only c old (u + j) k blocked allowed in
         record { a = a; k = k; of = of; used = used; comes = comes; role = role }
 
+    further : (j : ℕ) → 0 < j → j < m → (z : Source c old (u + j)) × (z.k ≢ RECORD_FIRST)
+    further j some below =
+        let f : IsFurther (packed_test c old) (u + j) = record-further (packed_test c old) new u m (u + j) is (omega (arith, some)) (omega (arith, below)) in
+        let (a, (used, (comes, role))) = roles-only c old (u + j) f.k blocked f.role in (
+          record { a = a; k = f.k; of = f.of; used = used; comes = comes; role = role },
+          f.other,
+        )
+
     module _ (first : Source c old (u + 0)) where
       sources : (j : ℕ) → j < m → (x : Source c old (u + j)) → x.a ≡ first.a + j
       sources zero below x = omega (arith, places-differ old blocked x.a first.a x.used first.used (sym x.comes ∙ first.comes))
       sources (suc j) below x =
           let y : Source c old (u + j) = source j (omega (arith, below)) in
           let was : y.a ≡ first.a + j = sources j (omega (arith, below)) y in
-          omega (arith, was, side-by-side old y.a x.a blocked (held.behind y.a y.k y.role) (held.behind x.a x.k x.role) (omega (arith, x.comes, y.comes)))
+          let (z, other) = further (suc j) (omega arith) below in
+          let same : z.a ≡ x.a = places-differ old blocked z.a x.a z.used x.used (sym z.comes ∙ x.comes) in
+          omega (arith, was, same, side-by-side old y.a z.a y.k z.k blocked (held.within y.a y.k y.role) (held.within z.a z.k z.role) other (omega (arith, z.comes, y.comes)))
 
       origin : IsCopiedTo (packed_test c old) c new old u first.a m
       origin = record {

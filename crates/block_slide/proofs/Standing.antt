@@ -1,12 +1,12 @@
 -- After both passes: blocks, objects and records at the new places.
-use Rattle.std.proofs.Common.{◌≡◌, ℕ, zero, suc, ◌+◌, ◌-◌, ◌/◌, ◌<◌, ◌≤◌, ◌⊎◌, Bool, true, List, length, get_or, refl, sym, ◌∙◌, ap, subst, arith, inl, inr}
+use Rattle.std.proofs.Common.{◌≡◌, ◌≢◌, ℕ, zero, suc, ◌+◌, ◌-◌, ◌/◌, ◌<◌, ◌≤◌, ◌⊎◌, Bool, true, List, length, get_or, refl, sym, ◌∙◌, ap, subst, arith, inl, inr}
 use Rattle.std.proofs.lemmas.Bool.{cases_lt, cases_eq}
 use Rattle.word_arena.specs.Blocks.{size_at, Blocked, IsUsed}
 use Rattle.word_arena.specs.Sums.{slid}
 use Rattle.word_arena.proofs.Side.Before.{before-kept, before-order}
 use Rattle.word_arena.proofs.Side.Facts.{apart, block-within}
 use Rattle.word_arena.proofs.Laid.Lent.{lent-began}
-use Rattle.term_words.specs.Role.{OfRecord}
+use Rattle.term_words.specs.Role.{RECORD_FIRST, OfRecord}
 use Rattle.term_words.specs.Object.{IsRecord, object_words}
 use Rattle.term_words.proofs.Placing.Roles.{record-role, record-some}
 use Rattle.word_mem.specs.declared.ranges.Span.{Span}
@@ -14,34 +14,59 @@ use Rattle.word_shift.specs.Shifted.{word_image, ObjectShifted}
 use Rattle.word_shift.specs.Slides.{MovesWhole, Slides}
 use Rattle.word_shift.proofs.Apart.{Within, within-row}
 use Rattle.block_slide.specs.Down.{packed_place, is_in_use, packed_test}
-use Rattle.block_slide.specs.Held.{BlocksSlid, IsBehind, IsOfRow, ReachHeld, RolesHeld}
+use Rattle.block_slide.specs.Held.{BlocksSlid, IsHeldAt, IsOfRow, ReachHeld, RolesHeld}
 use Rattle.block_slide.specs.Parts.{nth_part, span_of, AreParts, LiesInUse, PartDone, SlidParts}
 use Rattle.block_slide.specs.declared.parts.Part.{Part}
 use Rattle.block_slide.specs.declared.parts.Part.TheVariants.{Objects, Words, Links}
 use Rattle.block_slide.proofs.Parting.{used-on}
 use Rattle.block_slide.proofs.Placed.{InBlock, in-block, in-use, one-shift, place-of, roles-come}
 
--- These n words from a place on lie in one block, behind its two first words.
+-- These n words from a place on lie in one block.
 pub record InOne (mem : List ℕ) (v n : ℕ) : Type 0 where
   pub block : ℕ
   pub used : IsUsed mem block
-  pub from : block + 2 ≤ v
+  pub from : block ≤ v
   pub to : v + n ≤ block + size_at mem block
 
--- Words side by side, each behind the first words of a block, lie in one.
-pub one-block : (mem : List ℕ) (v m : ℕ) → Blocked mem → ((j : ℕ) → j < suc m → IsBehind mem (v + j)) → InOne mem v (suc m)
-one-block mem v zero blocked each =
-    let b : IsBehind mem (v + 0) = each 0 (omega arith) in
-    record { block = b.block; used = b.used; from = omega (arith, b.from); to = omega (arith, b.below) }
-one-block mem v (suc m) blocked each =
-    let o : InOne mem v (suc m) = one-block mem v m blocked (λ j below. each j (omega (arith, below))) in
-    let b : IsBehind mem (v + suc m) = each (suc m) (omega arith) in
+-- A word of a record behind its first has a role that no first word of a record has.
+pub record IsFurther (c : ℕ → ℕ → Bool) (at : ℕ) : Type 0 where
+  pub k : ℕ
+  pub of : OfRecord k
+  pub other : k ≢ RECORD_FIRST
+  pub role : c at k ≡ true
+
+further-at : (c : ℕ → ℕ → Bool) (at a k : ℕ) → OfRecord k → k < 8 → c a k ≡ true → at ≡ a → IsFurther c at
+further-at c at a k of few role e = (let P : ℕ → Type 0 = λ z. c z k ≡ true in record { k = k; of = of; other = λ z. omega (arith, z, few); role = subst P (sym e) role })
+
+pub record-further : (c : ℕ → ℕ → Bool) (mem : List ℕ) (v n q : ℕ) → IsRecord c mem v n → v < q → q < v + n → IsFurther c q
+record-further c mem v n q (inl (serial, bytes, o, words)) from below =
+    let which : (q ≡ v + 1) ⊎ ((q ≡ v + 2) ⊎ (v + 3 ≤ q)) = grind (arith, from) in
+    elim which [
+      | inl e ↦ further-at c q (v + 1) 6 (inr (inl refl)) (omega arith) o.second e
+      | inr (inl e) ↦ further-at c q (v + 2) 2 (inl refl) (omega arith) o.counted e
+      | inr (inr far) ↦ further-at c q q 6 (inr (inl refl)) (omega arith) (o.others q far (omega (arith, below, words))) refl
+    ]
+record-further c mem v n q (inr (name, arity, o, words)) from below =
+    let which : (q ≡ v + 1) ⊎ ((q ≡ v + 2) ⊎ (q ≡ v + 3)) = grind (arith, from, below, words) in
+    elim which [
+      | inl e ↦ further-at c q (v + 1) 6 (inr (inl refl)) (omega arith) o.second e
+      | inr (inl e) ↦ further-at c q (v + 2) 2 (inl refl) (omega arith) o.counted e
+      | inr (inr e) ↦ further-at c q (v + 3) 6 (inr (inl refl)) (omega arith) o.fourth e
+    ]
+
+-- Words side by side of which none but the first is a block's first word lie in one block.
+pub one-block : (mem : List ℕ) (v m k : ℕ) → Blocked mem → IsHeldAt mem v k → ((q : ℕ) → v < q → q < v + suc m → (r : ℕ) × ((r ≢ RECORD_FIRST) × IsHeldAt mem q r)) → InOne mem v (suc m)
+one-block mem v zero k blocked first each = record { block = first.block; used = first.used; from = first.from; to = omega (arith, first.below) }
+one-block mem v (suc m) k blocked first each =
+    let o : InOne mem v (suc m) = one-block mem v m k blocked first (λ q above below. each q above (omega (arith, below))) in
+    let (r, (other, b)) = each (v + suc m) (omega arith) (omega arith) in
+    let above : b.block < v + suc m = b.inner other in
     let high : v + suc (suc m) ≤ o.block + size_at mem o.block =
     elim (cases_eq o.block b.block) as (λ _. v + suc (suc m) ≤ o.block + size_at mem o.block) [
       | inl e ↦ omega (arith, b.below, e, ap (λ z. z + size_at mem z) e)
-      | inr other ↦ elim (cases_lt o.block b.block) as (λ _. v + suc (suc m) ≤ o.block + size_at mem o.block) [
-        | inl below ↦ absurd (omega (arith, o.to, b.from, apart mem o.block b.block blocked o.used.begins b.used.begins below))
-        | inr above ↦ absurd (omega (arith, o.from, b.below, apart mem b.block o.block blocked b.used.begins o.used.begins (omega (arith, other, above))))
+      | inr far ↦ elim (cases_lt o.block b.block) as (λ _. v + suc (suc m) ≤ o.block + size_at mem o.block) [
+        | inl below ↦ absurd (omega (arith, o.to, above, apart mem o.block b.block blocked o.used.begins b.used.begins below))
+        | inr over ↦ absurd (omega (arith, o.from, b.below, apart mem b.block o.block blocked b.used.begins o.used.begins (omega (arith, far, over))))
       ]
     ] in
     record { block = o.block; used = o.used; from = o.from; to = high }
@@ -174,7 +199,10 @@ module _ (old new : List ℕ) (xs : List Part) (blocked : Blocked old) (parts : 
 
     pub record-one : (v n : ℕ) → IsRecord c old v n → InOne old v n
     record-one v zero is = absurd (omega (arith, record-some c old v zero is))
-    record-one v (suc m) is = one-block old v m blocked (λ j below. (let (k, (of, role)) = record-role c old v (suc m) (v + j) is (omega arith) (omega (arith, below)) in held.behind (v + j) k role))
+    record-one v (suc m) is =
+        let (k, (of, role)) = record-role c old v (suc m) v is (omega arith) (omega arith) in
+        one-block old v m k blocked (held.within v k role) (λ q above below.
+        (let f : IsFurther c q = record-further c old v (suc m) q is above below in (f.k, (f.other, held.within q f.k f.role))))
 
     pub record-whole : (v n : ℕ) → IsRecord c old v n → MovesWhole (packed_place old) (is_in_use old) v n
     record-whole v n is = (let o : InOne old v n = record-one v n is in moves-whole o.block v n o.used (omega (arith, o.from)) o.to)

@@ -1,7 +1,7 @@
 -- What a slide asks of what stands: where words with a role lie, and that what the roots reach lies in the rows that are relocated.
-use Rattle.std.specs.Prelude.{◌≡◌, ℕ, ◌+◌, ◌*◌, ◌<◌, ◌≤◌, ◌⊎◌, Bool, true, List, length, slice_index}
+use Rattle.std.specs.Prelude.{◌≡◌, ◌≢◌, ℕ, ◌+◌, ◌*◌, ◌<◌, ◌≤◌, ◌⊎◌, Bool, true, List, length, slice_index}
 use Rattle.word_mem.specs.declared.ranges.Span.{Span}
-use Rattle.term_words.specs.Role.{NAMES, OfRecord}
+use Rattle.term_words.specs.Role.{NAMES, RECORD_FIRST, OfRecord}
 use Rattle.term_words.specs.Object.{IsPointer}
 use Rattle.term_words.specs.Counted.{In}
 use Rattle.term_words.specs.Reach.{Reach}
@@ -13,16 +13,18 @@ use Rattle.block_slide.specs.Parts.{nth_part, span_of}
 use Rattle.block_slide.specs.declared.parts.Part.{Part}
 use Rattle.block_slide.specs.declared.parts.Part.TheVariants.{Objects}
 
--- The place lies in a block in use, behind its two first words.
-pub record IsBehind (mem : List ℕ) (at : ℕ) : Type 0 where
+-- The place lies in a block in use, and is the block's first word for no role but that of the first word of a record: a record may be a
+-- block, whose header is the record's own.
+pub record IsHeldAt (mem : List ℕ) (at role : ℕ) : Type 0 where
   pub block : ℕ
   pub used : IsUsed mem block
-  pub from : block + 2 ≤ at
+  pub from : block ≤ at
   pub below : at < block + size_at mem block
+  pub inner : role ≢ RECORD_FIRST → block < at
 
--- Each word with a role lies in a block in use, behind its two first words, and no part has a word of a record.
+-- Each word with a role lies so in a block in use, and no part has a word of a record.
 pub record RolesHeld (c : ℕ → ℕ → Bool) (mem : List ℕ) (xs : List Part) : Type 0 where
-  pub behind : (a k : ℕ) → c a k ≡ true → IsBehind mem a
+  pub within : (a k : ℕ) → c a k ≡ true → IsHeldAt mem a k
   pub apart : (a k : ℕ) → c a k ≡ true → OfRecord k → (i : ℕ) → i < length xs → (a < (span_of (nth_part xs i)).start) ⊎ ((span_of (nth_part xs i)).end ≤ a)
 
 -- The pointer names an object of a row that is one of the parts.

@@ -6,7 +6,7 @@ ghost use Rattle.term_words.specs.Stands.{AllStand};
 ghost use Rattle.off_heap_list.specs.Elsewhere.{LinksMoved, AreChainsTo};
 ghost use Rattle.off_heap_list.specs.Exact.{OwnChain, objects_of};
 ghost use Rattle.off_heap_list.specs.Links.{Links};
-ghost use Rattle.object_rows.specs.Row.{AreObjects};
+ghost use Rattle.object_rows.specs.Row.{AreObjects, links_in};
 ghost use Rattle.off_heap_list.specs.Several.{ManyLinks};
 ghost use Rattle.term_words.specs.Relocated.{Relocated};
 ghost use Rattle.word_arena.specs.Blocks.{size_at, Blocked, IsUsed};
@@ -41,7 +41,8 @@ pub fn slid_blocks_stay()
 {}
 
 /// After a slide a word of a stack stands at its new place as its image, a link as the new place of what it told, and each other word
-/// of a block in use as it was. The words of a part move by one shift, and rows of whole objects are rows still.
+/// of a block in use as it was. The words of a part move by one shift. Rows of whole objects are rows still, whose holders and funs are
+/// those at the new places.
 pub fn slid_words_lie()
     ensures words { (old new : List ℕ) (xs : List Part) (i : ℕ) (span : Span) → SlidParts old new xs → Blocked old → AreParts old xs → i < length xs
         → nth_part xs i ≡ Words span → (q : ℕ) → span.start ≤ q → q < span.end
@@ -52,6 +53,9 @@ pub fn slid_words_lie()
     ensures rows { (old new : List ℕ) (xs : List Part) (i : ℕ) (span : Span) (ws : List ℕ) → SlidParts old new xs → Blocked old → AreParts old xs
         → i < length xs → nth_part xs i ≡ Objects span → AreObjects old span.start ws span.end
         → AreObjects new (packed_place old span.start) (map (word_image (packed_place old)) ws) (packed_place old span.end) }
+    ensures held { (old new : List ℕ) (xs : List Part) (i : ℕ) (span : Span) (ws : List ℕ) → SlidParts old new xs → Blocked old → AreParts old xs
+        → i < length xs → nth_part xs i ≡ Objects span → AreObjects old span.start ws span.end
+        → links_in new (map (word_image (packed_place old)) ws) ≡ map (packed_place old) (links_in old ws) }
     ensures others { (old new : List ℕ) (xs : List Part) (q : ℕ) → SlidParts old new xs → Blocked old → AreParts old xs → is_in_use old q ≡ true
         → ((i : ℕ) → i < length xs → (q < (span_of (nth_part xs i)).start) ⊎ ((span_of (nth_part xs i)).end ≤ q))
         → slice_index new (packed_place old q) ≡ slice_index old q }

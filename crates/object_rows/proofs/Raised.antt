@@ -16,7 +16,7 @@ use Rattle.off_heap_list.proofs.Chaining.Chained.{leads-stays, link-stays, namin
 use Rattle.object_rows.specs.Raised.{CanRaise, RaisesRow}
 use Rattle.object_rows.specs.Row.{AreObjects, is_link_header, links_in}
 use Rattle.object_rows.proofs.Rows.{in-last, in-left, row-once}
-use Rattle.object_rows.proofs.Walk.{Walked, objects-one, seen-among, walk-among, walk-begins, walk-ends, walk-large, walk-large-ends, walk-link, walk-six, walk-small}
+use Rattle.object_rows.proofs.Walk.{Walked, objects-one, row-stays, seen-among, walk-among, walk-begins, walk-ends, walk-large, walk-large-ends, walk-link, walk-six, walk-small}
 
 pub naming-most : (mem : List ℕ) (v : ℕ) (xs : List ℕ) → naming mem v xs ≤ length xs
 naming-most mem v [] = omega arith
@@ -211,3 +211,17 @@ raising-ends old mem from at to x ws g over are =
       trees = λ c single each. frame c c old mem (raised-kept old mem (links_in old ws) g.same_len counts others c single each);
       links = λ c head os further single each l. raised-links old mem (links_in old ws) g.same_len counts others c single each head os further l;
     }
+
+-- A row without a count stays one, with the same objects, holders and funs.
+pub raised-other : (c : ℕ → ℕ → Bool) (old new ps : List ℕ) (from : ℕ) (ws : List ℕ) (to : ℕ) → AreObjects old from ws to → RaisesRow old new ps
+    → ((p : ℕ) → In p ps → IsLink c old p) → ((q : ℕ) → from ≤ q → q < to → c q COUNT ≡ true → ⊥) → AreObjects new from ws to × (links_in new ws ≡ links_in old ws)
+raised-other c old new ps from ws to are r each clear = row-stays old new from ws to are (λ q low high. r.others q (λ p i e.
+    let k : IsLink c old p = each p i in
+    let P : ℕ → Type 0 = λ a. c a COUNT ≡ true in
+    clear q low high (subst P (sym e) (record-counted c old (named old p) k.words k.record_is))))
+
+pub raised-own : (old new : List ℕ) (from : ℕ) (ws : List ℕ) (to : ℕ) → CanRaise old from to → AreObjects old from ws to → RaisesRow old new (links_in old ws)
+    → AreObjects new from ws to × (links_in new ws ≡ links_in old ws)
+raised-own old new from ws to x are r =
+    let P : List ℕ → Type 0 = λ vs. (p : ℕ) → In p (links_in old vs) → IsLink x.test old p in
+    raised-other x.test old new (links_in old ws) from ws to are r (subst P (objects-one old from x.ws ws to x.are are) x.each) x.clear

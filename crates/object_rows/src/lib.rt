@@ -8,5 +8,5 @@ mod raising;
 
 pub use chaining::{Chained, chain_row, is_link_word};
 pub use dropping::{DroppedNext, drop_next};
-pub use laws::rows_stay_where_their_words_do;
+pub use laws::{rows_stay_where_counts_rise, rows_stay_where_their_words_do};
 pub use raising::raise_row;

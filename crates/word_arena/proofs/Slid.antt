@@ -2,3 +2,4 @@
 -- the walk that brings the blocks in use side by side.
 pub mod Summed
 pub mod Gathering
+pub mod Fronted

@@ -7,4 +7,5 @@ pub mod Stretches
 pub mod Sound
 pub mod Sums
 pub mod Packs
+pub mod Fronts
 pub mod Shifts

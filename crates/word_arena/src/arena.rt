@@ -145,9 +145,10 @@ impl Arena {
         ensures greatest { IsGreatest self.new.mem (free_of self.new.mem) }
         ensures apart { FreeApart self.new.mem }
     {
-        let end = gather(&mut self.mem);
-        close(&mut self.mem, end);
-        self.holes.take_up(&self.mem);
+        self.holes.empty();
+        let front = gather(&mut self.mem, &mut self.holes);
+        close(&mut self.mem, front.end);
+        self.holes.end_row(&self.mem, front.next, front.end);
     }
 
     /// The words of all free blocks.

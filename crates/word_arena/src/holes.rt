@@ -1,5 +1,5 @@
 // The table beside the memory: of each stretch of 64 words where its first block begins, and its greatest free block.
-ghost use Rattle.std.specs.Prelude.{◌≡◌, ◌≢◌, ℕ, ◌+◌, ◌*◌, ◌/◌, ◌<◌, ◌≤◌, ◌^◌, List, length, IfOk, slice_index};
+ghost use Rattle.std.specs.Prelude.{◌≡◌, ◌≢◌, ℕ, ◌+◌, ◌*◌, ◌/◌, ◌<◌, ◌≤◌, ◌^◌, List, length, replicate, IfOk, slice_index};
 ghost use Rattle.word_arena.specs.Blocks.{size_at, Blocked, BlockBegins};
 
 use crate::blocks::{free_words, greatest, next};
@@ -17,6 +17,7 @@ pub(crate) struct Holes {
 }
 
 impl Holes {
+    ghost use Rattle.word_arena.specs.Fronts.{TellsFirst, EndsRow};
     ghost use Rattle.word_arena.specs.Stretches.{IsFirst, Right, IsStart, HasRoom, Agrees, Settled};
 
     /// A table with room for so many words, of which it knows nothing yet.
@@ -116,6 +117,43 @@ impl Holes {
         let mut at = 0;
         for stretch in 0..self.firsts.len() {
             at = self.settle(mem, stretch, at);
+        }
+    }
+
+    /// Tells no stretch of a first block, nor of a free one.
+    pub(crate) fn empty(&mut self)
+        ensures firsts { self.new.firsts.items ≡ replicate (length self.old.firsts.items) STRETCH }
+        ensures tops { self.new.tops ≡ replicate (length self.old.tops) 0 }
+        ensures free { self.new.free ≡ self.old.free }
+    {
+        self.tops.clear();
+        self.firsts.fill(STRETCH as u8);
+    }
+
+    /// Tells the stretch of a place that a block begins there, where it has none that begins before it. Stretches from `next` on
+    /// have none yet; from the answer on they have none still.
+    #[inline]
+    pub(crate) fn begin(&mut self, next: usize, at: u64) -> usize
+        requires inside { at / STRETCH < length self.old.firsts.items }
+        ensures { TellsFirst self.old self.new next result at }
+    {
+        let stretch = stretch_of(at);
+        if stretch < next {
+            return next;
+        }
+        self.firsts[stretch] = (at % STRETCH) as u8;
+        stretch + 1
+    }
+
+    /// Tells that all words from a place on are one free block, where there are any.
+    pub(crate) fn end_row(&mut self, mem: &WordMem, next: usize, at: u64)
+        requires room { HasRoom mem.now self.old }
+        ensures { EndsRow (length mem.now) self.old self.new next at }
+    {
+        let len = mem.len();
+        if at < len {
+            self.begin(next, at);
+            self.tops.set(stretch_of(at), len - at);
         }
     }
 }

@@ -1,6 +1,6 @@
 // What holds of blocks, of their words and of what calls change: each law is the contract of a function that does nothing.
 ghost use Rattle.std.specs.Prelude.{◌≡◌, ℕ, ◌+◌, ◌*◌, ◌<◌, ◌≤◌, ◌⊎◌, List, length, slice_index, slice_set};
-ghost use Rattle.word_arena.specs.Blocks.{size_at, free_at, Blocked, BlockBegins, IsUsed, IsListed, free_of};
+ghost use Rattle.word_arena.specs.Blocks.{size_at, free_at, Blocked, BlockBegins, IsUsed, IsListed, free_of, FreeApart};
 ghost use Rattle.word_arena.specs.Calls.{NoneFits, FirstFit, IsGreatest, taken, shortened, Merged, HeadersStay};
 ghost use Rattle.word_arena.specs.Sums.{free_before, slid, used_of, words_among};
 ghost use Rattle.word_arena.specs.Shifts.{IsSummed};
@@ -73,4 +73,15 @@ pub fn blocks_in_use_move_down_as_one()
 pub fn sums_stay_with_the_headers()
     ensures before { (old new : List ℕ) (at : ℕ) → Blocked old → HeadersStay old new → free_before new at ≡ free_before old at }
     ensures summed { (old new : List ℕ) (s : Shifts) → HeadersStay old new → IsSummed old s → IsSummed new s }
+{}
+
+/// Where each header is as it was, blocks begin where they began and nowhere else, each is in use still that was, as many words
+/// are free, and no two free blocks have come to stand side by side.
+pub fn blocks_stay_with_the_headers()
+    ensures blocked { (old new : List ℕ) → Blocked old → HeadersStay old new → Blocked new }
+    ensures begins { (old new : List ℕ) (p : ℕ) → Blocked old → HeadersStay old new → BlockBegins old p → BlockBegins new p }
+    ensures no_more { (old new : List ℕ) (p : ℕ) → Blocked old → HeadersStay old new → BlockBegins new p → BlockBegins old p }
+    ensures used { (old new : List ℕ) (p : ℕ) → Blocked old → HeadersStay old new → IsUsed old p → IsUsed new p }
+    ensures free { (old new : List ℕ) → Blocked old → HeadersStay old new → free_of new ≡ free_of old }
+    ensures apart { (old new : List ℕ) → Blocked old → HeadersStay old new → FreeApart old → FreeApart new }
 {}

@@ -4,3 +4,4 @@ pub mod Walk
 pub mod Apart
 pub mod Roled
 pub mod Sliding
+pub mod Still

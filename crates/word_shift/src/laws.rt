@@ -6,7 +6,7 @@ ghost use Rattle.term_words.specs.Stands.{Stands, AllStand};
 ghost use Rattle.term_words.specs.Reach.{Reach};
 ghost use Rattle.term_words.specs.Relocated.{Relocated};
 ghost use Rattle.term_words.specs.Counted.{In};
-ghost use Rattle.object_rows.specs.Row.{AreObjects};
+ghost use Rattle.object_rows.specs.Row.{AreObjects, links_in};
 ghost use Rattle.word_shift.specs.Shifted.{word_image, ObjectShifted, RowShifted};
 ghost use Rattle.word_shift.specs.Slides.{RolesMoved, Slides};
 
@@ -19,6 +19,12 @@ pub fn rows_are_relocated_one_by_one()
         → ((q : ℕ) → from ≤ q → q < to → slice_index now q ≡ slice_index old q) → (w : ℕ) → In w ws → ObjectShifted g old new w }
     ensures stays { (g : ℕ → ℕ) (old now new : List ℕ) (from to : ℕ) (ws : List ℕ) → AreObjects old from ws to → RowShifted g old now from to ws
         → ((q : ℕ) → from ≤ q → q < to → slice_index new q ≡ slice_index now q) → (w : ℕ) → In w ws → ObjectShifted g old new w }
+{}
+
+/// A row that was relocated is a row still, with the same objects, holders and funs.
+pub fn relocated_rows_are_rows()
+    ensures { (g : ℕ → ℕ) (old new : List ℕ) (from to : ℕ) (ws : List ℕ) → AreObjects old from ws to → RowShifted g old new from to ws
+        → AreObjects new from ws to × (links_in new ws ≡ links_in old ws) }
 {}
 
 /// Where words were relocated in place and then each used word moved, what the roots reached lies at the new places: each word's

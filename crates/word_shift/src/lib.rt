@@ -6,7 +6,10 @@ mod places;
 mod rows;
 mod words;
 
-pub use laws::{moved_roles_are_single, rows_are_relocated_one_by_one, slid_words_stand};
+pub use laws::{
+    moved_roles_are_single, relocated_rows_are_rows, rows_are_relocated_one_by_one,
+    slid_words_stand,
+};
 pub use places::{MovedSpan, Places};
 pub use rows::relocate_row;
 pub use words::{relocate_all, relocate_words};

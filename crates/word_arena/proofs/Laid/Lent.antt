@@ -2,7 +2,7 @@
 use Rattle.std.proofs.Common.{◌≡◌, ℕ, ◌+◌, ◌*◌, ◌/◌, ◌<◌, ◌≤◌, ◌⊎◌, List, length, get_or, set, refl, sym, ◌∙◌, ap, subst, arith, inl, inr}
 use Rattle.std.proofs.lemmas.Bool.{cases_lt}
 use Rattle.std.proofs.lemmas.List.{get_or-set_other, length-set}
-use Rattle.word_arena.specs.Blocks.{size_at, kind_at, Blocks, Blocked, block_places, IsListed, BlockBegins, free_of, FreeApart}
+use Rattle.word_arena.specs.Blocks.{size_at, kind_at, Blocks, Blocked, block_places, IsListed, BlockBegins, IsUsed, free_of, FreeApart}
 use Rattle.word_arena.specs.Calls.{HeadersStay}
 use Rattle.word_arena.specs.Changes.{Frame}
 use Rattle.word_arena.specs.Sound.{Sound}
@@ -32,6 +32,10 @@ pub lent-began : (old new : List ℕ) (p : ℕ) → Blocked old → HeadersStay 
 lent-began old new p blocked same begins =
     let P : List ℕ → Type 0 = λ z. IsListed p z in
     record { listed = subst P (lent-places old new blocked same) begins.listed }
+
+pub lent-used : (old new : List ℕ) (p : ℕ) → Blocked old → HeadersStay old new → IsUsed old p → IsUsed new p
+lent-used old new p blocked same used =
+    record { begins = lent-begins old new p blocked same used.begins; kind = omega (arith, same.same p used.begins, used.kind) }
 
 pub lent-free : (old new : List ℕ) → Blocked old → HeadersStay old new → free_of new ≡ free_of old
 lent-free old new blocked same =

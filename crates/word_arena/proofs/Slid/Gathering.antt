@@ -28,14 +28,14 @@ gathered-none mem blocked =
     }
 
 -- A block in use that begins before a block's end begins before it, or is it.
-used-until : (old : List ℕ) (at p : ℕ) → Blocked old → BlockBegins old at → IsUsed old p → p < at + size_at old at → (p < at) ⊎ (p ≡ at)
+pub used-until : (old : List ℕ) (at p : ℕ) → Blocked old → BlockBegins old at → IsUsed old p → p < at + size_at old at → (p < at) ⊎ (p ≡ at)
 used-until old at p blocked begins used below =
     elim (one-or-apart old p at blocked used.begins begins) as (λ _. (p < at) ⊎ (p ≡ at)) [
       | inl same ↦ inr same
       | inr far ↦ inl (omega (arith, far, below, (block-within old p blocked used.begins).header.sized))
     ]
 
-used-before : (old : List ℕ) (at p : ℕ) → Blocked old → BlockBegins old at → kind_at old at ≡ 0 → IsUsed old p → p < at + size_at old at → p < at
+pub used-before : (old : List ℕ) (at p : ℕ) → Blocked old → BlockBegins old at → kind_at old at ≡ 0 → IsUsed old p → p < at + size_at old at → p < at
 used-before old at p blocked begins free used below =
     elim (used-until old at p blocked begins used below) as (λ _. p < at) [
       | inl low ↦ low
@@ -59,7 +59,7 @@ gathered-free old now at to blocked begins free g =
     }
 
 -- A word of a block that was brought lies before the place to which the next one comes.
-slid-below : (old now : List ℕ) (at to p q : ℕ) → Blocked old → Gathered old now at to → IsUsed old p → p < at → p ≤ q → q < p + size_at old p → slid old p q < to
+pub slid-below : (old now : List ℕ) (at to p q : ℕ) → Blocked old → Gathered old now at to → IsUsed old p → p < at → p ≤ q → q < p + size_at old p → slid old p q < to
 slid-below old now at to p q blocked g used below from before =
     let w = blocks-within now 0 to (slid old p p) g.places g.row (g.stay p used below) in
     let head : get_or now (slid old p p) 0 ≡ get_or old p 0 = g.words p p used below (omega arith) (omega (arith, from, before)) in
@@ -119,12 +119,12 @@ gathered-used old now next at to blocked used g same_len moved kept =
 
 -- All blocks are brought, and the rest is one free block.
 
-record Rows (now new : List ℕ) (to : ℕ) (places : List ℕ) : Type 0 where
+pub record Rows (now new : List ℕ) (to : ℕ) (places : List ℕ) : Type 0 where
   pub run : Run new to (length now)
   pub is : block_places new ≡ places ++ run.ps
   pub front : (r : ℕ) → r < to → get_or new r 0 ≡ get_or now r 0
 
-packed-rows : (now new : List ℕ) (to : ℕ) (places : List ℕ) → Blocks now 0 places to → to ≤ length now → new ≡ freed now to (length now) → Rows now new to places
+pub packed-rows : (now new : List ℕ) (to : ℕ) (places : List ℕ) → Blocks now 0 places to → to ≤ length now → new ≡ freed now to (length now) → Rows now new to places
 packed-rows now new to places row inside is =
     let done = freed now to (length now) in
     let len : length done ≡ length now = freed-length now to (length now) in
@@ -137,12 +137,12 @@ packed-rows now new to places row inside is =
     let Q : List ℕ → Type 0 = λ z. Rows now z to places in
     subst Q (sym is) (record { run = run; is = block_places-row done (places ++ run.ps) whole; front = front })
 
-in-rows : (now new : List ℕ) (to r : ℕ) (places : List ℕ) → (rows : Rows now new to places) → BlockBegins new r → IsListed r places ⊎ IsListed r rows.run.ps
+pub in-rows : (now new : List ℕ) (to r : ℕ) (places : List ℕ) → (rows : Rows now new to places) → BlockBegins new r → IsListed r places ⊎ IsListed r rows.run.ps
 in-rows now new to r places rows begins =
     let P : List ℕ → Type 0 = λ z. IsListed r z in
     in-append r places rows.run.ps (subst P rows.is begins.listed)
 
-brought-used : (old now new : List ℕ) (to r : ℕ) → (g : Gathered old now (length old) to) → Rows now new to g.places → IsListed r g.places → 1 ≤ kind_at new r
+pub brought-used : (old now new : List ℕ) (to r : ℕ) → (g : Gathered old now (length old) to) → Rows now new to g.places → IsListed r g.places → 1 ≤ kind_at new r
 brought-used old now new to r g rows listed =
     let w = blocks-within now 0 to r g.places g.row listed in
     omega (arith, rows.front r (omega (arith, w.to, w.header.sized)), g.used r listed)
