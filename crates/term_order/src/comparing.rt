@@ -9,6 +9,7 @@ ghost use Rattle.term_order.specs.Runs.{is_beyond_after};
 use crate::compared::Compared;
 use crate::looks::order_looks;
 use crate::runs::{Pair, pass_same};
+use crate::same::is_same;
 use arrayvec::ArrayVec;
 use atom_names::AtomNames;
 use std::cmp::Ordering;
@@ -23,6 +24,9 @@ pub fn compare(mem: &WordMem, names: &AtomNames, a: u64, b: u64) -> Compared
     requires { AreNamed mem.now names.now a b }
     ensures { Compares mem.now names.now a b result }
 {
+    if is_same(mem, a, b) {
+        return Compared::Same;
+    }
     let behind = pass_same(mem, a, b, NODE_LIMIT / 2);
     if is_beyond_behind(mem, behind.left, behind.cells) {
         return Compared::Beyond;

@@ -1,0 +1,216 @@
+-- Terms that are the same part by part.
+use Rattle.std.proofs.Common.{◌≡◌, ℕ, ◌+◌, ◌-◌, ◌*◌, ◌/◌, ◌%◌, if◌then◌else◌, ◌<◌, ◌≤◌, ◌||◌, nat_lt, max, Bool, true, false, List, length, get_or, refl, sym, ◌∙◌, ap, ap₂, subst, arith}
+use Rattle.std.proofs.lemmas.Bool.{or_from, cond-false}
+use Rattle.std.proofs.lemmas.Bool.Decides.{nat_tests}
+use Rattle.std.proofs.lemmas.Cmp.{tied_itself}
+use Rattle.plain_term.specs.Tree.{Tree, Trees, trees_len}
+use Rattle.plain_term.specs.Tree.Tree.{Cons, Tuple}
+use Rattle.plain_term.specs.Tree.Trees.{end, ◌▹◌}
+use Rattle.plain_term.specs.Measures.{nodes, depth}
+use Rattle.plain_term.specs.Beyond.{node_limit, depth_limit, is_beyond}
+use Rattle.plain_term.specs.Order.{order}
+use Rattle.plain_term.proofs.TokenLemmas.{order-total}
+use Rattle.term_words.specs.Role.{always}
+use Rattle.term_words.specs.Stands.{Stands, RowStands}
+use Rattle.term_words.proofs.ByKind.Shapes.{told, shape-cons, shape-tuple, un-cons, un-tuple, row-first}
+use Rattle.term_words.proofs.Placing.Single.{single}
+use Rattle.term_walk.proofs.Passing.{IsSlight, slight}
+use Rattle.term_order.specs.declared.compared.Compared.TheVariants as answer
+use Rattle.term_order.specs.Compared.{Compares, answer_of}
+use Rattle.term_order.specs.Runs.{AreBoth}
+use Rattle.term_order.specs.Same.{IsOne, FindsOne, AreOne, FindsRow, AreRows}
+
+-- One immediate.
+
+pub one-word : (mem : List ℕ) (x y most : ℕ) → 0 < most → x % 4 ≡ 3 → x ≡ y → FindsOne mem x y most (most - 1)
+one-word mem x y most some tag same = record {
+  each = λ c shared t u s r.
+      let P : ℕ → Type 0 = λ z. Stands c shared mem z u in
+      let low : IsSlight shared t = slight c shared mem x t s tag in
+      record {
+        same = single c c shared shared mem x t u s (subst P (sym same) r);
+        few = omega (arith, some, low.0);
+        low = omega (arith, some, low.2);
+      };
+}
+
+-- Rows.
+
+row-of-two : (c : ℕ → ℕ → Bool) (shared : List (List ℕ)) (mem : List ℕ) (p : ℕ) (h t : Tree) → Stands c shared mem (get_or mem p 0) h → Stands c shared mem (get_or mem (p + 1) 0) t
+    → RowStands c shared mem p (h ▹ (t ▹ end))
+unfolding RowStands
+row-of-two c shared mem p h t s r = (s, (r, tt))
+
+tail-one : (h t k u : Tree) → h ▹ (t ▹ end) ≡ k ▹ (u ▹ end) → Cons h t ≡ Cons k u
+tail-one h t k u e = cc
+
+one-cons : (c : ℕ → ℕ → Bool) (shared : List (List ℕ)) (mem : List ℕ) (x y most left : ℕ) (h t k u : Tree) → 0 < most → FindsRow mem (x / 4) (y / 4) 2 (most - 1) left
+    → Stands c shared mem x (Cons h t) → Stands c shared mem y (Cons k u) → IsOne shared (Cons h t) (Cons k u) most left
+one-cons c shared mem x y most left h t k u some found s r =
+    let (one, sh, st) = un-cons c shared mem x h t s in
+    let (two, rh, rt) = un-cons c shared mem y k u r in
+    let a : AreOne shared (h ▹ (t ▹ end)) (k ▹ (u ▹ end)) (most - 1) left = found.each c shared (h ▹ (t ▹ end)) (k ▹ (u ▹ end))
+    (row-of-two c shared mem (x / 4) h t sh st) (row-of-two c shared mem (y / 4) k u rh rt) refl refl in
+    record {
+      same = tail-one h t k u a.same;
+      few = omega (arith, some, a.few);
+      low = omega (arith, some, a.low);
+    }
+
+pub one-list : (mem : List ℕ) (x y most left : ℕ) → 0 < most → x % 4 ≡ 1 → y % 4 ≡ 1 → FindsRow mem (x / 4) (y / 4) 2 (most - 1) left → FindsOne mem x y most left
+one-list mem x y most left some a b found = record {
+  each = λ c shared t u s r.
+      let (h, v, et) = shape-cons t x (get_or mem (x / 4) 0) (told c shared mem x t s) a in
+      let (k, w, eu) = shape-cons u y (get_or mem (y / 4) 0) (told c shared mem y u r) b in
+      let P : Tree → Type 0 = λ z. Stands c shared mem x z in
+      let Q : Tree → Type 0 = λ z. Stands c shared mem y z in
+      let here : IsOne shared (Cons h v) (Cons k w) most left = one-cons c shared mem x y most left h v k w some found (subst P et s) (subst Q eu r) in
+      rw (et, eu) here;
+}
+
+one-tuple : (c : ℕ → ℕ → Bool) (shared : List (List ℕ)) (mem : List ℕ) (x y most left n : ℕ) (ts us : Trees) → 0 < most → FindsRow mem (x / 4 + 1) (y / 4 + 1) n (most - 1) left
+    → get_or mem (x / 4) 0 / 64 ≡ n → get_or mem (y / 4) 0 / 64 ≡ n
+    → Stands c shared mem x (Tuple ts) → Stands c shared mem y (Tuple us) → IsOne shared (Tuple ts) (Tuple us) most left
+one-tuple c shared mem x y most left n ts us some found nx ny s r =
+    let (one, st) = un-tuple c shared mem x ts s in
+    let (two, su) = un-tuple c shared mem y us r in
+    let a : AreOne shared ts us (most - 1) left = found.each c shared ts us st su (omega (arith, one.boxed.header, nx)) (omega (arith, two.boxed.header, ny)) in
+    record {
+      same = ap Tuple a.same;
+      few = omega (arith, some, a.few);
+      low = omega (arith, some, a.low);
+    }
+
+pub one-boxed : (mem : List ℕ) (x y most left head : ℕ) → 0 < most → x % 4 ≡ 2 → y % 4 ≡ 2 → head ≡ get_or mem (x / 4) 0 → head % 64 ≡ 0 → get_or mem (y / 4) 0 ≡ head
+    → FindsRow mem (x / 4 + 1) (y / 4 + 1) (head / 64) (most - 1) left → FindsOne mem x y most left
+one-boxed mem x y most left head some a b hx tuple hy found = record {
+  each = λ c shared t u s r.
+      let (ts, et) = shape-tuple t x (get_or mem (x / 4) 0) (told c shared mem x t s) a (omega (arith, hx, tuple)) in
+      let (us, eu) = shape-tuple u y (get_or mem (y / 4) 0) (told c shared mem y u r) b (omega (arith, hy, tuple)) in
+      let P : Tree → Type 0 = λ z. Stands c shared mem x z in
+      let Q : Tree → Type 0 = λ z. Stands c shared mem y z in
+      let here : IsOne shared (Tuple ts) (Tuple us) most left = one-tuple c shared mem x y most left (head / 64) ts us some found (omega (arith, hx)) (omega (arith, hy)) (subst P et s) (subst Q eu r) in
+      rw (et, eu) here;
+}
+
+no-parts : (shared : List (List ℕ)) (ts us : Trees) (most : ℕ) → trees_len ts ≡ 0 → trees_len us ≡ 0 → AreOne shared ts us most most
+no-parts shared end end most a b = record { same = refl; few = omega arith; low = omega arith }
+no-parts shared (t ▹ ts) us most a b = absurd (omega (arith, a))
+no-parts shared end (u ▹ us) most a b = absurd (omega (arith, b))
+
+pub row-none : (mem : List ℕ) (p q n most : ℕ) → n ≡ 0 → FindsRow mem p q n most most
+row-none mem p q n most none = record { each = λ c shared ts us s r a b. no-parts shared ts us most (a ∙ none) (b ∙ none) }
+
+more-parts : (c : ℕ → ℕ → Bool) (shared : List (List ℕ)) (mem : List ℕ) (p q n most left after : ℕ) (ts us : Trees) → 0 < n → after ≤ left
+    → FindsOne mem (get_or mem p 0) (get_or mem q 0) most left
+    → FindsRow mem (p + 1) (q + 1) (n - 1) left after → RowStands c shared mem p ts → RowStands c shared mem q us → trees_len ts ≡ n → trees_len us ≡ n → AreOne shared ts us most after
+more-parts c shared mem p q n most left after end us some less one rest s r a b = absurd (omega (arith, a, some))
+more-parts c shared mem p q n most left after (t ▹ ts) end some less one rest s r a b = absurd (omega (arith, b, some))
+more-parts c shared mem p q n most left after (t ▹ ts) (u ▹ us) some less one rest s r a b =
+    let (st, sts) = row-first c shared mem p t ts s in
+    let (su, sus) = row-first c shared mem q u us r in
+    let first : IsOne shared t u most left = one.each c shared t u st su in
+    let others : AreOne shared ts us left after = rest.each c shared ts us sts sus (omega (arith, a)) (omega (arith, b)) in
+    record {
+      same = ap₂ (λ v vs. v ▹ vs) first.same others.same;
+      few = omega (arith, first.few, others.few);
+      low = omega (arith, first.low, others.low, less);
+    }
+
+pub row-more : (mem : List ℕ) (p q n most left after : ℕ) → 0 < n → after ≤ left → FindsOne mem (get_or mem p 0) (get_or mem q 0) most left
+    → FindsRow mem (p + 1) (q + 1) (n - 1) left after → FindsRow mem p q n most after
+row-more mem p q n most left after some less one rest = record {
+  each = λ c shared ts us s r a b. more-parts c shared mem p q n most left after ts us some less one rest s r a b;
+}
+
+-- What the calls ask for.
+
+pub rows-list : (mem : List ℕ) (x y : ℕ) → AreBoth mem x y → x % 4 ≡ 1 → y % 4 ≡ 1 → AreRows mem (x / 4) (y / 4) 2
+rows-list mem x y n a b =
+    let (h, v, et) = shape-cons n.first x (get_or mem (x / 4) 0) (told always n.shared mem x n.first n.first_stands) a in
+    let (k, w, eu) = shape-cons n.second y (get_or mem (y / 4) 0) (told always n.shared mem y n.second n.second_stands) b in
+    let P : Tree → Type 0 = λ z. Stands always n.shared mem x z in
+    let Q : Tree → Type 0 = λ z. Stands always n.shared mem y z in
+    let (one, sh, sv) = un-cons always n.shared mem x h v (subst P et n.first_stands) in
+    let (two, sk, sw) = un-cons always n.shared mem y k w (subst Q eu n.second_stands) in
+    record {
+      shared = n.shared;
+      firsts = h ▹ (v ▹ end);
+      seconds = k ▹ (w ▹ end);
+      first_stands = row-of-two always n.shared mem (x / 4) h v sh sv;
+      second_stands = row-of-two always n.shared mem (y / 4) k w sk sw;
+      first_len = refl;
+      second_len = refl;
+      first_within = one.object.within;
+      second_within = two.object.within;
+    }
+
+pub rows-boxed : (mem : List ℕ) (x y head : ℕ) → AreBoth mem x y → x % 4 ≡ 2 → y % 4 ≡ 2 → head ≡ get_or mem (x / 4) 0 → head % 64 ≡ 0 → get_or mem (y / 4) 0 ≡ head
+    → AreRows mem (x / 4 + 1) (y / 4 + 1) (head / 64)
+rows-boxed mem x y head n a b hx tuple hy =
+    let (ts, et) = shape-tuple n.first x (get_or mem (x / 4) 0) (told always n.shared mem x n.first n.first_stands) a (omega (arith, hx, tuple)) in
+    let (us, eu) = shape-tuple n.second y (get_or mem (y / 4) 0) (told always n.shared mem y n.second n.second_stands) b (omega (arith, hy, tuple)) in
+    let P : Tree → Type 0 = λ z. Stands always n.shared mem x z in
+    let Q : Tree → Type 0 = λ z. Stands always n.shared mem y z in
+    let (one, st) = un-tuple always n.shared mem x ts (subst P et n.first_stands) in
+    let (two, su) = un-tuple always n.shared mem y us (subst Q eu n.second_stands) in
+    record {
+      shared = n.shared;
+      firsts = ts;
+      seconds = us;
+      first_stands = st;
+      second_stands = su;
+      first_len = omega (arith, one.boxed.header, hx);
+      second_len = omega (arith, two.boxed.header, hy);
+      first_within = omega (arith, one.boxed.header, hx, one.boxed.object.within);
+      second_within = omega (arith, two.boxed.header, hy, two.boxed.object.within);
+    }
+
+first-two : (mem : List ℕ) (p q n : ℕ) (shared : List (List ℕ)) (ts us : Trees) → 0 < n → RowStands always shared mem p ts → RowStands always shared mem q us → trees_len ts ≡ n → trees_len us ≡ n
+    → p + n ≤ length mem → q + n ≤ length mem → AreBoth mem (get_or mem p 0) (get_or mem q 0) × AreRows mem (p + 1) (q + 1) (n - 1)
+first-two mem p q n shared end us some s r a b v w = absurd (omega (arith, a, some))
+first-two mem p q n shared (t ▹ ts) end some s r a b v w = absurd (omega (arith, b, some))
+first-two mem p q n shared (t ▹ ts) (u ▹ us) some s r a b v w =
+    let (st, sts) = row-first always shared mem p t ts s in
+    let (su, sus) = row-first always shared mem q u us r in (
+      record { shared = shared; first = t; second = u; first_stands = st; second_stands = su },
+      record {
+        shared = shared;
+        firsts = ts;
+        seconds = us;
+        first_stands = sts;
+        second_stands = sus;
+        first_len = omega (arith, a);
+        second_len = omega (arith, b);
+        first_within = omega (arith, v, some);
+        second_within = omega (arith, w, some);
+      },
+    )
+
+pub rows-on : (mem : List ℕ) (p q n : ℕ) → 0 < n → AreRows mem p q n → AreBoth mem (get_or mem p 0) (get_or mem q 0) × AreRows mem (p + 1) (q + 1) (n - 1)
+rows-on mem p q n some k = first-two mem p q n k.shared k.firsts k.seconds some k.first_stands k.second_stands k.first_len k.second_len k.first_within k.second_within
+
+-- What is found to be one is within the walk limit, and is the same.
+
+pub some-left : (mem : List ℕ) (x y most left : ℕ) → 0 < left → FindsOne mem x y most left → FindsOne mem x y most 1
+some-left mem x y most left some found = record {
+  each = λ c shared t u s r.
+      let one : IsOne shared t u most left = found.each c shared t u s r in
+      record { same = one.same; few = omega (arith, some, one.few); low = omega (arith, some, one.low) };
+}
+
+few-within : (shared : List (List ℕ)) (t : Tree) → nodes shared t ≤ 64 → depth t ≤ 64 → is_beyond shared t ≡ false
+few-within shared t few low = or_from (nat_lt node_limit (nodes shared t)) (nat_lt depth_limit (depth t)) (grind (arith, nat_tests, few)) (grind (arith, nat_tests, low))
+
+same-answer : (names shared : List (List ℕ)) (t : Tree) → is_beyond shared t ≡ false → answer.Same ≡ (if is_beyond shared t || is_beyond shared t then answer.Beyond else answer_of (order names shared t t))
+same-answer names shared t e =
+    sym (ap answer_of (tied_itself (order-total names shared) t))
+    ∙ sym (cond-false (is_beyond shared t || is_beyond shared t) answer.Beyond (answer_of (order names shared t t)) (or_from (is_beyond shared t) (is_beyond shared t) e e))
+
+pub compares-one : (mem : List ℕ) (names : List (List ℕ)) (a b : ℕ) → FindsOne mem a b 64 1 → Compares mem names a b answer.Same
+compares-one mem names a b found = record {
+  each = λ c shared t u s r.
+      let one : IsOne shared t u 64 1 = found.each c shared t u s r in
+      let P : Tree → Type 0 = λ z. answer.Same ≡ (if is_beyond shared t || is_beyond shared z then answer.Beyond else answer_of (order names shared t z)) in
+      subst P one.same (same-answer names shared t (few-within shared t (omega (arith, one.few)) (omega (arith, one.low))));
+}
