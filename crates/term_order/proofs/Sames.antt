@@ -1,10 +1,11 @@
 -- Terms that are the same part by part.
-use Rattle.std.proofs.Common.{◌≡◌, ℕ, ◌+◌, ◌-◌, ◌*◌, ◌/◌, ◌%◌, if◌then◌else◌, ◌<◌, ◌≤◌, ◌||◌, nat_lt, max, Bool, true, false, List, length, get_or, refl, sym, ◌∙◌, ap, ap₂, subst, arith}
+use Rattle.std.proofs.Common.{◌≡◌, ℕ, ◌+◌, ◌-◌, ◌/◌, ◌%◌, if◌then◌else◌, ◌<◌, ◌≤◌, ◌||◌, nat_lt, Bool, false, List, length, get_or, refl, sym, ◌∙◌, ap, ap₂, subst, arith}
 use Rattle.std.proofs.lemmas.Bool.{or_from, cond-false}
 use Rattle.std.proofs.lemmas.Bool.Decides.{nat_tests}
 use Rattle.std.proofs.lemmas.Cmp.{tied_itself}
-use Rattle.plain_term.specs.Tree.{Tree, Trees, trees_len}
-use Rattle.plain_term.specs.Tree.Tree.{Cons, Tuple}
+use Rattle.plain_term.specs.Tree.{Tree, Trees, Pairs, trees_len, pairs_len, keys_of, values_of}
+use Rattle.plain_term.specs.Tree.Tree.{Cons, Tuple, Map}
+use Rattle.plain_term.specs.Tree.Pairs.{stop, pair}
 use Rattle.plain_term.specs.Tree.Trees.{end, ◌▹◌}
 use Rattle.plain_term.specs.Measures.{nodes, depth}
 use Rattle.plain_term.specs.Beyond.{node_limit, depth_limit, is_beyond}
@@ -12,13 +13,16 @@ use Rattle.plain_term.specs.Order.{order}
 use Rattle.plain_term.proofs.TokenLemmas.{order-total}
 use Rattle.term_words.specs.Role.{always}
 use Rattle.term_words.specs.Stands.{Stands, RowStands}
-use Rattle.term_words.proofs.ByKind.Shapes.{told, shape-cons, shape-tuple, un-cons, un-tuple, row-first}
+use Rattle.term_words.proofs.ByKind.Shapes.{told, shape-cons, shape-tuple, shape-map, un-cons, un-tuple, un-map, row-first}
+use Rattle.term_words.proofs.ByKind.Pairs.{keys-row, values-row, keys-len, values-len}
+use Rattle.term_walk.proofs.Sums.{nodes-rows}
+use Rattle.term_walk.proofs.Steps.{greatest-rows}
 use Rattle.term_words.proofs.Placing.Single.{single}
 use Rattle.term_walk.proofs.Passing.{IsSlight, slight}
 use Rattle.term_order.specs.declared.compared.Compared.TheVariants as answer
 use Rattle.term_order.specs.Compared.{Compares, answer_of}
 use Rattle.term_order.specs.Runs.{AreBoth}
-use Rattle.term_order.specs.Same.{IsOne, FindsOne, AreOne, FindsRow, AreRows}
+use Rattle.term_order.specs.Same.{IsOne, FindsOne, AreOne, FindsRow, AreRows, AreMaps, FindsMap}
 
 -- One immediate.
 
@@ -92,6 +96,125 @@ one-boxed mem x y most left head some a b hx tuple hy found = record {
       let here : IsOne shared (Tuple ts) (Tuple us) most left = one-tuple c shared mem x y most left (head / 64) ts us some found (omega (arith, hx)) (omega (arith, hy)) (subst P et s) (subst Q eu r) in
       rw (et, eu) here;
 }
+
+-- Maps.
+
+pub are-maps : (mem : List ℕ) (x y head : ℕ) → AreBoth mem x y → x % 4 ≡ 2 → y % 4 ≡ 2 → head ≡ get_or mem (x / 4) 0 → head % 64 ≡ 60 → get_or mem (y / 4) 0 ≡ head → AreMaps mem x y
+are-maps mem x y head n a b hx map hy =
+    let (ps, et) = shape-map n.first x (get_or mem (x / 4) 0) (told always n.shared mem x n.first n.first_stands) a (omega (arith, hx, map)) in
+    let (qs, eu) = shape-map n.second y (get_or mem (y / 4) 0) (told always n.shared mem y n.second n.second_stands) b (omega (arith, hy, map)) in
+    let P : Tree → Type 0 = λ z. Stands always n.shared mem x z in
+    let Q : Tree → Type 0 = λ z. Stands always n.shared mem y z in
+    record { shared = n.shared; first = ps; second = qs; first_stands = subst P et n.first_stands; second_stands = subst Q eu n.second_stands }
+
+pub one-map : (mem : List ℕ) (x y most left head : ℕ) → 0 < most → x % 4 ≡ 2 → y % 4 ≡ 2 → head ≡ get_or mem (x / 4) 0 → head % 64 ≡ 60 → get_or mem (y / 4) 0 ≡ head
+    → FindsMap mem x y (most - 1) left → FindsOne mem x y most left
+one-map mem x y most left head some a b hx map hy found = record {
+  each = λ c shared t u s r.
+      let (ps, et) = shape-map t x (get_or mem (x / 4) 0) (told c shared mem x t s) a (omega (arith, hx, map)) in
+      let (qs, eu) = shape-map u y (get_or mem (y / 4) 0) (told c shared mem y u r) b (omega (arith, hy, map)) in
+      let P : Tree → Type 0 = λ z. Stands c shared mem x z in
+      let Q : Tree → Type 0 = λ z. Stands c shared mem y z in
+      let one : IsOne shared (Map ps) (Map qs) (most - 1 + 1) left = found.each c shared ps qs (subst P et s) (subst Q eu r) in
+      let here : IsOne shared (Map ps) (Map qs) most left = record { same = one.same; few = omega (arith, some, one.few); low = omega (arith, some, one.low) } in
+      rw (et, eu) here;
+}
+
+-- The rows of a map that a word stands for.
+record HasRows (c : ℕ → ℕ → Bool) (shared : List (List ℕ)) (mem : List ℕ) (x : ℕ) (ps : Pairs) : Type 0 where
+  keys : RowStands c shared mem (get_or mem (x / 4 + 2) 0 / 4 + 1) (keys_of ps)
+  values : RowStands c shared mem (x / 4 + 3) (values_of ps)
+  count : get_or mem (x / 4 + 1) 0 ≡ pairs_len ps
+  keys_within : get_or mem (x / 4 + 2) 0 / 4 + 1 + pairs_len ps ≤ length mem
+  values_within : x / 4 + 3 + pairs_len ps ≤ length mem
+
+has-rows : (c : ℕ → ℕ → Bool) (shared : List (List ℕ)) (mem : List ℕ) (x : ℕ) (ps : Pairs) → Stands c shared mem x (Map ps) → HasRows c shared mem x ps
+has-rows c shared mem x ps s =
+    let (is, ks, vs) = un-map c shared mem x ps s in
+    record {
+      keys = keys-row c shared mem (get_or mem (x / 4 + 2) 0 / 4 + 1) ps ks;
+      values = values-row c shared mem (x / 4 + 3) ps vs;
+      count = is.count;
+      keys_within = omega (arith, is.keys.boxed.object.within);
+      values_within = omega (arith, is.boxed.object.within);
+    }
+
+pub map-words : (mem : List ℕ) (x y : ℕ) → AreMaps mem x y → (x / 4 + 3 ≤ length mem) × (y / 4 + 3 ≤ length mem)
+map-words mem x y n =
+    let a = has-rows always n.shared mem x n.first n.first_stands in
+    let b = has-rows always n.shared mem y n.second n.second_stands in
+    (omega (arith, a.values_within), omega (arith, b.values_within))
+
+pub map-near : (mem : List ℕ) (x y : ℕ) → AreMaps mem x y → (get_or mem (x / 4 + 2) 0 / 4 + 1 ≤ length mem) × (get_or mem (y / 4 + 2) 0 / 4 + 1 ≤ length mem)
+map-near mem x y n =
+    let a = has-rows always n.shared mem x n.first n.first_stands in
+    let b = has-rows always n.shared mem y n.second n.second_stands in
+    (omega (arith, a.keys_within), omega (arith, b.keys_within))
+
+pub rows-keys : (mem : List ℕ) (x y len : ℕ) → AreMaps mem x y → get_or mem (x / 4 + 1) 0 ≡ len → get_or mem (y / 4 + 1) 0 ≡ len
+    → AreRows mem (get_or mem (x / 4 + 2) 0 / 4 + 1) (get_or mem (y / 4 + 2) 0 / 4 + 1) len
+rows-keys mem x y len n ex ey =
+    let a = has-rows always n.shared mem x n.first n.first_stands in
+    let b = has-rows always n.shared mem y n.second n.second_stands in
+    record {
+      shared = n.shared;
+      firsts = keys_of n.first;
+      seconds = keys_of n.second;
+      first_stands = a.keys;
+      second_stands = b.keys;
+      first_len = keys-len n.first ∙ sym a.count ∙ ex;
+      second_len = keys-len n.second ∙ sym b.count ∙ ey;
+      first_within = omega (arith, a.keys_within, a.count, ex);
+      second_within = omega (arith, b.keys_within, b.count, ey);
+    }
+
+pub rows-values : (mem : List ℕ) (x y len : ℕ) → AreMaps mem x y → get_or mem (x / 4 + 1) 0 ≡ len → get_or mem (y / 4 + 1) 0 ≡ len
+    → AreRows mem (x / 4 + 3) (y / 4 + 3) len
+rows-values mem x y len n ex ey =
+    let a = has-rows always n.shared mem x n.first n.first_stands in
+    let b = has-rows always n.shared mem y n.second n.second_stands in
+    record {
+      shared = n.shared;
+      firsts = values_of n.first;
+      seconds = values_of n.second;
+      first_stands = a.values;
+      second_stands = b.values;
+      first_len = values-len n.first ∙ sym a.count ∙ ex;
+      second_len = values-len n.second ∙ sym b.count ∙ ey;
+      first_within = omega (arith, a.values_within, a.count, ex);
+      second_within = omega (arith, b.values_within, b.count, ey);
+    }
+
+same-pairs : (ps qs : Pairs) → keys_of ps ≡ keys_of qs → values_of ps ≡ values_of qs → ps ≡ qs
+same-pairs stop stop a b = refl
+same-pairs stop (pair k v qs) a b = absurd cc
+same-pairs (pair k v ps) stop a b = absurd cc
+same-pairs (pair k v ps) (pair j w qs) a b =
+    let key : k ≡ j = cc in
+    let value : v ≡ w = cc in
+    let keys : keys_of ps ≡ keys_of qs = cc in
+    let values : values_of ps ≡ values_of qs = cc in
+    let more : ps ≡ qs = same-pairs ps qs keys values in
+    rw (key, value, more) refl
+
+pub finds-map : (mem : List ℕ) (x y len most left after : ℕ) → get_or mem (x / 4 + 1) 0 ≡ len → get_or mem (y / 4 + 1) 0 ≡ len → after ≤ left
+    → FindsRow mem (get_or mem (x / 4 + 2) 0 / 4 + 1) (get_or mem (y / 4 + 2) 0 / 4 + 1) len most left
+    → FindsRow mem (x / 4 + 3) (y / 4 + 3) len left after → FindsMap mem x y most after
+finds-map mem x y len most left after ex ey less ks vs = record {
+  each = λ c shared ps qs s r.
+      let a = has-rows c shared mem x ps s in
+      let b = has-rows c shared mem y qs r in
+      let keys : AreOne shared (keys_of ps) (keys_of qs) most left = ks.each c shared (keys_of ps) (keys_of qs) a.keys b.keys (keys-len ps ∙ sym a.count ∙ ex) (keys-len qs ∙ sym b.count ∙ ey) in
+      let values : AreOne shared (values_of ps) (values_of qs) left after = vs.each c shared (values_of ps) (values_of qs) a.values b.values
+      (values-len ps ∙ sym a.count ∙ ex) (values-len qs ∙ sym b.count ∙ ey) in
+      record {
+        same = ap Map (same-pairs ps qs keys.same values.same);
+        few = omega (arith, keys.few, values.few, nodes-rows shared ps);
+        low = omega (arith, keys.low, values.low, greatest-rows ps, less);
+      };
+}
+
+-- Rows, one word at a time.
 
 no-parts : (shared : List (List ℕ)) (ts us : Trees) (most : ℕ) → trees_len ts ≡ 0 → trees_len us ≡ 0 → AreOne shared ts us most most
 no-parts shared end end most a b = record { same = refl; few = omega arith; low = omega arith }

@@ -1,6 +1,7 @@
 -- Two terms that are found to be the same, part by part, within so many nodes.
 use Rattle.std.specs.Prelude.{◌≡◌, ℕ, ◌+◌, ◌≤◌, Bool, List, length}
-use Rattle.plain_term.specs.Tree.{Tree, Trees, trees_len}
+use Rattle.plain_term.specs.Tree.{Tree, Trees, Pairs, trees_len}
+use Rattle.plain_term.specs.Tree.Tree.{Map}
 use Rattle.plain_term.specs.Measures.{nodes, nodes_of_all, depth, greatest_depth}
 use Rattle.term_words.specs.Role.{always}
 use Rattle.term_words.specs.Stands.{Stands, RowStands}
@@ -37,3 +38,16 @@ pub record AreRows (mem : List ℕ) (p q n : ℕ) : Type 0 where
   pub second_len : trees_len seconds ≡ n
   pub first_within : p + n ≤ length mem
   pub second_within : q + n ≤ length mem
+
+-- The words stand for maps with one list of shared binaries.
+pub record AreMaps (mem : List ℕ) (x y : ℕ) : Type 0 where
+  pub shared : List (List ℕ)
+  pub first : Pairs
+  pub second : Pairs
+  pub first_stands : Stands always shared mem x (Map first)
+  pub second_stands : Stands always shared mem y (Map second)
+
+-- All maps that they stand for are one, and but for their own nodes so many are left.
+pub record FindsMap (mem : List ℕ) (x y most left : ℕ) : Type 0 where
+  pub each : (c : ℕ → ℕ → Bool) (shared : List (List ℕ)) (ps qs : Pairs) → Stands c shared mem x (Map ps) → Stands c shared mem y (Map qs)
+      → IsOne shared (Map ps) (Map qs) (most + 1) left
