@@ -21,7 +21,9 @@ use Rattle.term_words.proofs.Placing.Single.{single}
 use Rattle.term_walk.proofs.Passing.{IsSlight, slight}
 use Rattle.term_order.specs.declared.compared.Compared.TheVariants as answer
 use Rattle.term_order.specs.Compared.{Compares, answer_of}
-use Rattle.term_order.specs.Runs.{AreBoth}
+use Rattle.std.specs.declared.cmp.Ordering.TheVariants as ordering
+use Rattle.term_order.specs.Runs.{AreBoth, PassedBoth, PassesBoth, is_beyond_after}
+use Rattle.term_order.proofs.Passing.{beyond-after}
 use Rattle.term_order.specs.Same.{IsOne, FindsOne, AreOne, FindsRow, AreRows, AreMaps, FindsMap}
 
 -- One immediate.
@@ -322,18 +324,23 @@ some-left mem x y most left some found = record {
       record { same = one.same; few = omega (arith, some, one.few); low = omega (arith, some, one.low) };
 }
 
-few-within : (shared : List (List ℕ)) (t : Tree) → nodes shared t ≤ 64 → depth t ≤ 64 → is_beyond shared t ≡ false
-few-within shared t few low = or_from (nat_lt node_limit (nodes shared t)) (nat_lt depth_limit (depth t)) (grind (arith, nat_tests, few)) (grind (arith, nat_tests, low))
+few-within : (shared : List (List ℕ)) (t : Tree) (cells : ℕ) → cells < 524000 → nodes shared t ≤ 64 → depth t ≤ 64 → is_beyond_after shared cells t ≡ false
+few-within shared t cells behind few low =
+    or_from (nat_lt node_limit (2 * cells + nodes shared t)) (nat_lt depth_limit (depth t)) (grind (arith, nat_tests, behind, few)) (grind (arith, nat_tests, low))
 
-same-answer : (names shared : List (List ℕ)) (t : Tree) → is_beyond shared t ≡ false → answer.Same ≡ (if is_beyond shared t || is_beyond shared t then answer.Beyond else answer_of (order names shared t t))
-same-answer names shared t e =
-    sym (ap answer_of (tied_itself (order-total names shared) t))
-    ∙ sym (cond-false (is_beyond shared t || is_beyond shared t) answer.Beyond (answer_of (order names shared t t)) (or_from (is_beyond shared t) (is_beyond shared t) e e))
+same-order : (names shared : List (List ℕ)) (t u : Tree) → t ≡ u → ordering.Equal ≡ order names shared t u
+same-order names shared t u same = sym (ap (λ z. order names shared z u) same ∙ tied_itself (order-total names shared) u)
 
-pub compares-one : (mem : List ℕ) (names : List (List ℕ)) (a b : ℕ) → FindsOne mem a b 64 1 → Compares mem names a b answer.Same
-compares-one mem names a b found = record {
+pub compares-one : (mem : List ℕ) (names : List (List ℕ)) (a b left right cells : ℕ) → PassesBoth mem a b left right cells → cells < 524000 → FindsOne mem left right 64 1
+    → Compares mem names a b answer.Same
+compares-one mem names a b left right cells passed behind found = record {
   each = λ c shared t u s r.
-      let one : IsOne shared t u 64 1 = found.each c shared t u s r in
-      let P : Tree → Type 0 = λ z. answer.Same ≡ (if is_beyond shared t || is_beyond shared z then answer.Beyond else answer_of (order names shared t z)) in
-      subst P one.same (same-answer names shared t (few-within shared t (omega (arith, one.few)) (omega (arith, one.low))));
+      let p : PassedBoth c shared mem names t u left right cells = passed.each c shared names t u s r in
+      let one : IsOne shared p.first.rest p.second.rest 64 1 = found.each c shared p.first.rest p.second.rest p.first.standing p.second.standing in
+      let P : Tree → Type 0 = λ z. is_beyond_after shared cells z ≡ false in
+      let here : P p.first.rest = few-within shared p.first.rest cells behind (omega (arith, one.few)) (omega (arith, one.low)) in
+      let first : is_beyond shared t ≡ false = beyond-after c shared mem t left cells p.first ∙ here in
+      let second : is_beyond shared u ≡ false = beyond-after c shared mem u right cells p.second ∙ subst P one.same here in
+      ap answer_of (same-order names shared p.first.rest p.second.rest one.same ∙ sym p.order_is)
+      ∙ sym (cond-false (is_beyond shared t || is_beyond shared u) answer.Beyond (answer_of (order names shared t u)) (or_from (is_beyond shared t) (is_beyond shared u) first second));
 }
