@@ -3,3 +3,4 @@ pub mod Held
 pub mod Own
 pub mod Compared
 pub mod Runs
+pub mod Same

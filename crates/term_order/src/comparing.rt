@@ -9,6 +9,7 @@ ghost use Rattle.term_order.specs.Runs.{is_beyond_after};
 use crate::compared::Compared;
 use crate::looks::order_looks;
 use crate::runs::{Pair, pass_same};
+use crate::same::is_same;
 use arrayvec::ArrayVec;
 use atom_names::AtomNames;
 use std::cmp::Ordering;
@@ -18,12 +19,20 @@ use term_walk::{
 };
 use word_mem::WordMem;
 
+// Behind fewer cells than these, a term that is found to be the same in few nodes is within the walk limit.
+const FEW_CELLS: u64 = 524_000;
+
 /// The order of two terms; `Beyond` exactly where one of them is beyond the walk limit.
 pub fn compare(mem: &WordMem, names: &AtomNames, a: u64, b: u64) -> Compared
     requires { AreNamed mem.now names.now a b }
     ensures { Compares mem.now names.now a b result }
 {
     let behind = pass_same(mem, a, b, NODE_LIMIT / 2);
+    if behind.cells < FEW_CELLS {
+        if is_same(mem, behind.left, behind.right) {
+            return Compared::Same;
+        }
+    }
     if is_beyond_behind(mem, behind.left, behind.cells) {
         return Compared::Beyond;
     }
@@ -64,6 +73,7 @@ fn is_other_beyond(mem: &WordMem, behind: Pair) -> bool
 }
 
 // The order of two terms within the walk limit: of two equal words, of two whose own order tells it, or by walks.
+#[inline(never)]
 fn order_within(mem: &WordMem, names: &AtomNames, a: u64, b: u64) -> Ordering
     requires named { AreNamed mem.now names.now a b }
     requires within { BothWithin mem.now a b }

@@ -6,6 +6,7 @@ mod compared;
 mod comparing;
 mod looks;
 mod runs;
+mod same;
 
 pub use bytes::byte;
 pub use compared::Compared;

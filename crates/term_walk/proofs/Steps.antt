@@ -305,7 +305,7 @@ greatest-append : (ts us : Trees) → greatest_depth (trees_append ts us) ≡ ma
 greatest-append end us = omega arith
 greatest-append (t ▹ ts) us = omega (arith, greatest-append ts us)
 
-greatest-rows : (ps : Pairs) → greatest_depth_of_pairs ps ≡ max (greatest_depth (keys_of ps)) (greatest_depth (values_of ps))
+pub greatest-rows : (ps : Pairs) → greatest_depth_of_pairs ps ≡ max (greatest_depth (keys_of ps)) (greatest_depth (values_of ps))
 greatest-rows stop = refl
 greatest-rows (pair k v ps) = omega (arith, greatest-rows ps)
 

@@ -30,7 +30,7 @@ pub nodes-append : (shared : List (List ℕ)) (ts us : Trees) → nodes_of_all s
 nodes-append shared end us = omega arith
 nodes-append shared (t ▹ ts) us = omega (arith, nodes-append shared ts us)
 
-nodes-rows : (shared : List (List ℕ)) (ps : Pairs) → nodes_of_pairs shared ps ≡ nodes_of_all shared (keys_of ps) + nodes_of_all shared (values_of ps)
+pub nodes-rows : (shared : List (List ℕ)) (ps : Pairs) → nodes_of_pairs shared ps ≡ nodes_of_all shared (keys_of ps) + nodes_of_all shared (values_of ps)
 nodes-rows shared stop = refl
 nodes-rows shared (pair k v ps) = omega (arith, nodes-rows shared ps)
 

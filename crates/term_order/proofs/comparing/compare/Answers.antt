@@ -1,6 +1,16 @@
+use Rattle.std.proofs.Common.{refl}
 use Rattle.std.specs.declared.cmp.Ordering.TheVariants as ordering
-use Rattle.term_order.proofs.Passing.{first-term-behind, second-term-behind, named-behind, first-beyond, second-beyond, both-within, within-ordered}
+use Rattle.term_order.proofs.Passing.{both-named, both-behind, first-term-behind, second-term-behind, named-behind, first-beyond, second-beyond, both-within, within-ordered}
+use Rattle.term_order.proofs.Sames.{compares-one}
 use Rattle.term_order.proofs.comparing.compare.Goals as goal
+
+pub is_same-requires : goal.is_same-requires
+is_same-requires c = both-behind c.args.mem.now c.args.a c.args.b c.pass_same-behind.result.left c.pass_same-behind.result.right c.pass_same-behind.result.cells
+    (both-named c.args.mem.now c.args.names.now c.args.a c.args.b c.requires) c.pass_same-behind.ensures.passes
+
+pub returns-then-is_same : goal.returns-then-is_same
+returns-then-is_same c = compares-one c.args.mem.now c.args.names.now c.args.a c.args.b c.pass_same-behind.result.left c.pass_same-behind.result.right c.pass_same-behind.result.cells
+    c.pass_same-behind.ensures.passes c.if-behind-lt-FEW_CELLS.true (c.if-is_same.ensures refl)
 
 pub is_beyond_behind-requires-clause-term : goal.is_beyond_behind-requires-clause-term
 is_beyond_behind-requires-clause-term c = first-term-behind c.args.mem.now c.args.names.now c.args.a c.args.b c.pass_same-behind.result.left c.pass_same-behind.result.right
