@@ -1,4 +1,4 @@
--- What the calls that take no words leave: a place popped, a message taken, a row dropped.
+-- What the calls that take no words leave: a word in a register, a place popped, a message taken, a row dropped.
 use Rattle.std.proofs.Common.{Vec, ◌≡◌, ℕ, zero, suc, ◌+◌, ◌-◌, ◌<◌, ◌≤◌, true, false, true≢false, List, [], ◌∷◌, length, get_or, set, refl, sym, ◌∙◌, ap, subst, arith}
 use Rattle.std.specs.List.{remove}
 use Rattle.std.specs.Vec.{vec_capacity, vec_len, with_item}
@@ -10,7 +10,7 @@ use Rattle.plain_term.specs.Tree.{Tree}
 use Rattle.plain_machine.specs.State.{Process, with_register}
 use Rattle.script_grammar.specs.declared.command.Reg.{Reg}
 use Rattle.numbered_rows.specs.Numbers.{numbers}
-use Rattle.two_halves.specs.Halves.{HalvesStand, IsLaid, ProcsStand, all_places, end_of, places_in}
+use Rattle.two_halves.specs.Halves.{HalvesStand, ProcsStand, all_places, end_of, places_in}
 use Rattle.two_halves.specs.Queues.{HasLeftQueue, TakesMessage, shifted, with_row}
 use Rattle.two_halves.specs.Stack.{AreApart}
 use Rattle.two_halves.specs.declared.halves.Halves.{Halves}
@@ -19,27 +19,13 @@ use Rattle.two_halves.proofs.Queued.Queuing.{row-length}
 use Rattle.two_halves.proofs.Standing.Apart.{apart-popped, apart-removed, apart-same}
 use Rattle.two_halves.proofs.Standing.Filled.{laid_out}
 use Rattle.two_halves.proofs.Standing.Stacks.{no_row}
-use Rattle.heaps_api.specs.Meaning.{Lives, Stood, no_process}
-use Rattle.heaps_api.specs.Changing.{Exits, KeepsRows, PopsInto, ReceivesInto, TakesFirst, process_at}
+use Rattle.heaps_api.specs.Meaning.{Lives, Stood, no_process, CanAsk}
+use Rattle.heaps_api.specs.Changing.{Exits, KeepsRows, PopsInto, ReceivesInto, TakesFirst, process_at, PutsWord}
 use Rattle.one_space.specs.Heap.{HaveMade, number_in, one_meaning}
 use Rattle.one_space.specs.declared.heap.OneHeap.{OneHeap}
-use Rattle.one_space.proofs.OfHeap.Keeping.{keeps-rows, places-moved, same-numbers, still-made}
-use Rattle.one_space.proofs.OfHeap.Standing.{half-inside, keeps-same, laid-left, of_halves, row-inside, rows-left, stood-by}
-use Rattle.one_space.proofs.Processes.Changing.{procs-remove}
-use Rattle.one_space.proofs.Processes.Counting.{made-remove, made-row}
+use Rattle.one_space.proofs.Processes.Changing.{made-remove, made-row, procs-remove}
 use Rattle.one_space.proofs.Processes.Turning.{TopOf, none-held, popped, register-set, row-stands, top-here, with_stack, with_word}
-
--- The memory with another row.
-abbrev pub with_proc : OneHeap → ℕ → Proc → OneHeap
-with_proc a row p2 = of_halves a (laid_out a.halves a.halves.mem a.halves.room (with_item a.halves.procs row p2))
-
--- One row is replaced by one with the same number, no more places and as many references.
-pub keeps-row : (a : OneHeap) → IsLaid a.halves → (row : ℕ) (p2 p : Proc) → row < length a.halves.procs.items → p ≡ get_or a.halves.procs.items row p → p2.number ≡ p.number → p2.refs ≡ p.refs
-    → p2.depth + p2.waiting ≤ p.depth + p.waiting → KeepsRows one_meaning a (with_proc a row p2)
-keeps-row a laid row p2 p less is number refs places =
-    keeps-rows a (with_proc a row p2)
-    (laid-left a.halves laid (with_item a.halves.procs row p2) (omega (arith, places, places-moved a.halves.procs row p2 p less is)))
-    refl refl refl (same-numbers a.halves.procs row p2 p less is number) (still-made a.halves.procs row p2 p less is (omega (arith, refs))) refl refl (omega arith)
+use Rattle.one_space.proofs.OfHeap.Keeping.{half-inside, keeps-row, keeps-rows, keeps-same, laid-left, of_halves, places-moved, row-inside, rows-left, same-numbers, still-made, stood-by, with_proc}
 
 module _ (a : OneHeap) (lives : Lives one_meaning a) (row : ℕ) (there : row < length (one_meaning.numbers a)) (r : Reg) (p : Proc) (is : p ≡ get_or a.halves.procs.items row p) where
   less : row < length a.halves.procs.items
@@ -232,4 +218,23 @@ module _ (a : OneHeap) (lives : Lives one_meaning a) (row : ℕ) (there : row < 
         rows = ap (λ z. numbers number_in z) items ∙ numbers-remove a.halves.procs.items row;
         idle = record { sweeps = refl; mem = refl; room = refl };
         gone = dropped-stands;
+      }
+
+-- A word in a register.
+module _ (a : OneHeap) (ask : CanAsk one_meaning a) (row : ℕ) (there : row < length (one_meaning.numbers a)) (p : Proc) (is : p ≡ get_or a.halves.procs.items row p) (r : Reg) (w : ℕ) where
+  abbrev put : Proc
+  put = with_word p r.0 w
+
+  pub puts-word : PutsWord one_meaning row r w a (with_proc a row put)
+  puts-word =
+      let laid = ask.lives.whole.laid in
+      let inside = row-inside a row there in
+      record {
+        stays = keeps-row a laid row put p inside is refl refl (omega arith);
+        idle = record { sweeps = refl; mem = refl; room = refl };
+        put = λ named shared qs x t held.
+            let ps = set qs row (with_register r.0 t (process_at qs row)) in
+            stood-by named (with_proc a row put) shared ps (rows-left a.halves laid (with_item a.halves.procs row put) named shared qs ps x.is
+            (register-set x.is.test shared a.halves.mem a.halves.room.end (end_of a.halves) named a.halves.procs.items qs row p inside is x.is.processes r.0 w t held)
+            (apart-same a.halves.mem a.halves.procs.items row put p inside is refl x.is.apart));
       }

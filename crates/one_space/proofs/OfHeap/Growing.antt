@@ -1,8 +1,8 @@
--- What the calls that take words, or a box, leave: a place pushed, a row added.
+-- What the calls that take words, or a box, leave: a place pushed, a row added, a message sent.
 use Rattle.std.proofs.Common.{Vec, ◌≡◌, ℕ, ◌+◌, ◌-◌, ◌/◌, ◌<◌, ◌≤◌, ◌⊎◌, true, List, [], ◌∷◌, ◌++◌, length, get_or, set, replicate, refl, sym, ◌∙◌, ap, subst, arith, inl, inr}
 use Rattle.std.specs.Vec.{vec_capacity, vec_len, with_item}
 use Rattle.std.specs.declared.alloc.Global.{Global}
-use Rattle.std.proofs.lemmas.List.{length-append, length-set}
+use Rattle.std.proofs.lemmas.List.{length-append, length-set, get_or_default}
 use Rattle.std.proofs.lemmas.List.Sums.{sum_by_push}
 use Rattle.plain_machine.specs.State.{Process, fresh_process, register}
 use Rattle.plain_machine.specs.declared.costs.TheConstants.{PLACE_COST}
@@ -15,16 +15,17 @@ use Rattle.two_halves.specs.Stack.{AreApart}
 use Rattle.two_halves.specs.declared.table.Proc.{Proc}
 use Rattle.two_halves.proofs.Standing.Apart.{apart-more}
 use Rattle.two_halves.proofs.Standing.Filled.{halves-filled, laid-filled, laid_out}
-use Rattle.heaps_api.specs.Meaning.{Lives, Stood}
-use Rattle.heaps_api.specs.Changing.{Pushes, Spawns, process_at}
+use Rattle.heaps_api.specs.Meaning.{Lives, Stood, CanAsk, no_process}
+use Rattle.heaps_api.specs.Changing.{Pushes, Spawns, process_at, SendsTo}
 use Rattle.heaps_api.specs.declared.wanted.Want.TheVariants as want
 use Rattle.one_space.specs.Heap.{HaveMade, number_in, one_meaning}
 use Rattle.one_space.specs.declared.heap.OneHeap.{OneHeap}
-use Rattle.one_space.proofs.OfHeap.Keeping.{keeps-rows, places-moved, same-numbers, still-made}
-use Rattle.one_space.proofs.OfHeap.Standing.{half-inside, laid-left, of_halves, row-inside, rows-left, stood-by}
-use Rattle.one_space.proofs.Processes.Changing.{fresh-stands, procs-push}
-use Rattle.one_space.proofs.Processes.Counting.{made-push}
+use Rattle.one_space.proofs.Processes.Changing.{fresh-stands, made-push, procs-push}
 use Rattle.one_space.proofs.Processes.Turning.{pushed, pushed-apart, with_stack, words}
+use Rattle.two_halves.specs.Queues.{HasEntered, Sends, with_queue}
+use Rattle.two_halves.specs.declared.halves.Halves.{Halves}
+use Rattle.two_halves.proofs.Standing.Stacks.{no_row}
+use Rattle.one_space.proofs.OfHeap.Keeping.{half-inside, keeps-replaced, laid-left, of_halves, places-moved, row-inside, rows-left, stood-by}
 
 numbers-push : (rows : List Proc) (p : Proc) (n : ℕ) → p.number ≡ n → numbers number_in (rows ++ p ∷ []) ≡ numbers number_in rows ++ n ∷ []
 numbers-push [] p n e = ap (λ z. z ∷ []) e
@@ -132,8 +133,31 @@ module _ (a : OneHeap) (lives : Lives one_meaning a) (row : ℕ) (there : row < 
 
   pub pushes : Pushes one_meaning row r (want.Words row PLACE_COST 0) a grown
   pushes = record {
-    stays = keeps-rows a grown (grown-laid lives.named lives.shared lives.processes lives.stood.is) len refl refl (same-numbers a.halves.procs row p2 p less is refl)
-        (still-made a.halves.procs row p2 p less is (omega arith)) refl refl (omega arith);
+    stays = keeps-replaced a grown.halves (grown-laid lives.named lives.shared lives.processes lives.stood.is) row p2 p less is refl refl (omega arith) len refl refl (omega arith);
     took = record { sweeps = refl; few = omega arith };
     pushed = λ named shared qs x. stood-by named grown shared (set qs row (q2 named shared qs x.is)) (grown-stands named shared qs x.is);
+  }
+
+-- `send`.
+module _ (a : OneHeap) (ask : CanAsk one_meaning a) (row : ℕ) (there : row < length (one_meaning.numbers a)) (w : ℕ) (h : Halves) (s : Sends a.halves h row w) where
+  within : row < length a.halves.procs.items
+  within = row-inside a row there
+
+  -- The row of before.
+  abbrev before : Proc
+  before = get_or a.halves.procs.items row no_row
+
+  is-before : before ≡ get_or a.halves.procs.items row before
+  is-before = get_or_default a.halves.procs.items row no_row before within
+
+  pub sends-to : SendsTo one_meaning row w a (of_halves a h)
+  sends-to = record {
+    stays = keeps-replaced a h s.laid row (with_queue before s.alone.first s.alone.last (before.waiting + 1)) before within is-before (s.alone.procs before is-before) refl (omega arith) s.same_len
+        (ap (λ z. vec_capacity z) s.bins) (ap (λ z. vec_capacity z) s.funs) (omega (arith, s.sweeps));
+    sent = record { sweeps = s.sweeps; word = s.word; alone = s.alone };
+    entered = λ named shared qs x t held.
+        let e : HasEntered named h shared qs row t = s.enters named shared qs x.is t held in (
+          record { sweeps = s.sweeps; few = omega (arith, s.words named shared qs x.is t held.standing) },
+          stood-by named (of_halves a h) shared (set qs row (record (process_at qs row) { queue = (process_at qs row).queue ++ t ∷ [] })) (rw (e.is no_process) e.stands),
+        );
   }

@@ -37,7 +37,7 @@ use Rattle.two_halves.proofs.Standing.Covered.{bin-covered, counted-covered, cov
 use Rattle.one_space.specs.Image.{image_of, object_piece, object_region, record_piece, rooted}
 use Rattle.two_halves.specs.declared.table.Proc.{Proc}
 use Rattle.two_halves.specs.declared.halves.Halves.{Halves}
-use Rattle.one_space.proofs.OfHeap.Reading.{half-within}
+use Rattle.one_space.proofs.OfHeap.Keeping.{half-inside}
 
 -- Roots are told with each stack turned round.
 
@@ -232,7 +232,7 @@ module _ (mem : List ℕ) where
 module _ (h : Halves) (laid : IsLaid h) where
   -- The region has as many words as lie between the front and the top.
   region-words : length ((object_piece h).words) ≡ h.room.top - front_of h
-  region-words = piece-words h.mem (front_of h) (h.room.top - front_of h) (omega (arith, half-within h laid, laid.order, laid.fits, laid.front))
+  region-words = piece-words h.mem (front_of h) (h.room.top - front_of h) (omega (arith, half-inside h laid, laid.order, laid.fits, laid.front))
 
   in-region : (a : ℕ) → front_of h ≤ a → a < h.room.top → (front_of h ≤ a) × (a < front_of h + length ((object_piece h).words))
   in-region a from to = (from, omega (arith, region-words, to, laid.front))
@@ -338,7 +338,7 @@ module _ (named : ℕ) (h : Halves) (s : State) (laid : IsLaid h) (o : HalvesSta
 
   pieces-there : HasPieces h.mem (object_piece h ∷ (pieces_by_place bin_pieces ++ pieces_by_place fun_pieces))
   pieces-there = (
-    omega (arith, region-words h laid, half-within h laid, laid.order, laid.fits, laid.front),
+    omega (arith, region-words h laid, half-inside h laid, laid.order, laid.fits, laid.front),
     ap (λ n. take n (drop (front_of h) h.mem)) (region-words h laid),
     has-both h.mem (pieces_by_place bin_pieces) (pieces_by_place fun_pieces)
         (ordered (HasPieces h.mem) (has-any h.mem) bin_pieces

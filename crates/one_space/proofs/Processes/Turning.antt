@@ -10,7 +10,8 @@ use Rattle.two_halves.specs.Halves.{ProcStands, ProcsStand}
 use Rattle.term_order.specs.Held.{HoldTrees, HoldsTree}
 use Rattle.two_halves.specs.declared.table.Proc.{Proc}
 use Rattle.two_halves.proofs.Queued.Queuing.{row-at, row-set}
-use Rattle.one_space.proofs.Processes.Changing.{held-at, held-set, no_process}
+use Rattle.heaps_api.specs.Meaning.{no_process}
+use Rattle.heaps_api.proofs.Holding.{held-at, held-set}
 use Rattle.two_halves.proofs.Standing.Keeping.{proc-on, procs-on}
 use Rattle.two_halves.proofs.Standing.Stacks.{AreKept}
 use Rattle.two_halves.specs.Stack.{AreApart}

@@ -1,7 +1,7 @@
 use Rattle.std.proofs.Common.{◌<◌, length, sym, ◌∙◌, ap, arith}
 use Rattle.numbered_rows.proofs.Rising.{numbers-len}
 use Rattle.one_space.specs.Heap.{number_in}
-use Rattle.one_space.proofs.OfHeap.Reading.{are-registers}
+use Rattle.one_space.proofs.OfHeap.Keeping.{are-registers}
 use Rattle.one_space.proofs.heap.OneHeapHeaps.regs.Goals as goal
 
 pub returns : goal.returns

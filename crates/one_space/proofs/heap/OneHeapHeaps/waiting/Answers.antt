@@ -2,7 +2,7 @@ use Rattle.std.proofs.Common.{◌<◌, length, arith}
 use Rattle.numbered_rows.proofs.Rising.{numbers-len}
 use Rattle.two_halves.specs.Halves.{end_of}
 use Rattle.one_space.specs.Heap.{number_in}
-use Rattle.one_space.proofs.OfHeap.Reading.{are-waiting, half-within, places-follow, row-there, values-count}
+use Rattle.one_space.proofs.OfHeap.Keeping.{are-waiting, half-inside, places-follow, row-there, values-count}
 use Rattle.one_space.proofs.heap.OneHeapHeaps.waiting.Goals as goal
 
 pub returns-clause-waits : goal.returns-clause-waits
@@ -12,7 +12,7 @@ returns-clause-waits c =
     let p = c.process-process.result.now in
     let less : c.args.row < length c.args.self.now.halves.procs.items = omega (arith, c.requires.row, numbers-len number_in c.args.self.now.halves.procs.items) in
     let there = row-there h c.args.row p less c.process-process.ensures l.named l.shared l.processes l.stood in
-    places-follow l.stood.is.test h.halves.mem h.halves.room.end (end_of h.halves) (half-within h.halves l.whole.laid) p.queue p.waiting there.waits
+    places-follow l.stood.is.test h.halves.mem h.halves.room.end (end_of h.halves) (half-inside h.halves l.whole.laid) p.queue p.waiting there.waits
 
 pub returns-clause-count : goal.returns-clause-count
 returns-clause-count c = values-count c.args.self.now.halves.mem c.process-process.result.now.queue c.process-process.result.now.waiting
