@@ -6,7 +6,7 @@ use Rattle.plain_term.specs.Tree.{Tree, Trees}
 use Rattle.plain_machine.specs.State.{Process, State}
 use Rattle.plain_machine.specs.Tightness.{ids_in, ids_in_all, funs_in, funs_in_all, held_trees}
 use Rattle.plain_machine.specs.Maps.{CountsOf, CountedBin, CountedFun, counts_text}
-use Rattle.term_words.specs.Counted.{In, Distinct}
+use Rattle.term_words.specs.Counted.{In}
 use Rattle.shared_rec.specs.Record.{owner_in, count_in}
 use Rattle.record_move.specs.Tables.{OwnersRise}
 use Rattle.atom_names.specs.Names.{AreNames}
@@ -22,13 +22,9 @@ use Rattle.store_image.specs.Image.{pieces_by_place}
 use Rattle.record_move.specs.Copies.{record_words}
 use Rattle.counts_text.proofs.Entries.{bins-of-pieces, funs-of-pieces}
 use Rattle.one_space.specs.Image.{image_of, record_piece}
+use Rattle.one_space.proofs.Memory.Landing.{rise-once}
 
--- Records whose owner words rise are apart.
-
-rise-once : (mem : List ℕ) (vs : List ℕ) → OwnersRise mem vs → Distinct vs
-rise-once mem [] r = tt
-rise-once mem (v ∷ vs) (first, rest) = ((λ i. omega (arith, first v i)), rise-once mem vs rest)
-
+-- Of records whose owner words rise no two have one owner word.
 rise-differ : (mem : List ℕ) (vs : List ℕ) → OwnersRise mem vs → (v w : ℕ) → In v vs → In w vs → owner_in mem v ≡ owner_in mem w → v ≡ w
 rise-differ mem [] r v w i j e = absurd i
 rise-differ mem (x ∷ vs) (first, rest) v w (inl a) (inl b) e = a ∙ sym b

@@ -1,5 +1,5 @@
 -- What is built in a register, call by call: a register's term many times, bytes, a reference, a part of a binary, a map with a pair.
-use Rattle.std.proofs.Common.{◌≡◌, ℕ, ◌+◌, ◌<◌, ◌≤◌, Bool, List, length, get_or, sym, subst, arith, replicate, refl, ◌∙◌, ap, ◌^◌, true, false, nat_le, if◌then◌else◌, Some, None, ◌*◌}
+use Rattle.std.proofs.Common.{◌≡◌, ℕ, ◌+◌, ◌<◌, ◌≤◌, Bool, List, length, get_or, sym, arith, replicate, refl, ◌∙◌, ap, ◌^◌, true, false, nat_le, if◌then◌else◌, Some, None, ◌*◌}
 use Rattle.std.specs.Vec.{with_item}
 use Rattle.word_mem.specs.declared.ranges.Room.{Room}
 use Rattle.plain_term.specs.Tree.{Tree, Pairs, pairs_len}
@@ -109,9 +109,7 @@ refs-few a ask row less p is = omega (arith, ap (λ v. v.refs) is, ask.few, made
 -- A part names nothing.
 chosen-named : (n : ℕ) (b : Bool) (base u : Tree) (offset len : ℕ) → (if b then Some (Part base offset len) else None) ≡ Some u → is_named n u ≡ true
 chosen-named n true base u offset len e =
-    let inner : Part base offset len ≡ u = same_Some (Part base offset len) u e in
-    let P : Tree → Type 0 = λ z. is_named n z ≡ true in
-    subst P inner refl
+    rw (sym (same_Some (Part base offset len) u e)) refl
 chosen-named n false base u offset len e = absurd (none u e)
   where
     none : (z : Tree) → None ≡ Some z → ⊥

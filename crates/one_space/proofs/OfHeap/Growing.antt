@@ -1,5 +1,5 @@
 -- What the calls that take words, or a box, leave: a place pushed, a row added, a message sent.
-use Rattle.std.proofs.Common.{Vec, ◌≡◌, ℕ, ◌+◌, ◌-◌, ◌/◌, ◌<◌, ◌≤◌, ◌⊎◌, true, List, [], ◌∷◌, ◌++◌, length, get_or, set, replicate, refl, sym, ◌∙◌, ap, subst, arith, inl, inr}
+use Rattle.std.proofs.Common.{Vec, ◌≡◌, ℕ, ◌+◌, ◌-◌, ◌/◌, ◌<◌, ◌≤◌, ◌⊎◌, true, List, [], ◌∷◌, ◌++◌, length, get_or, set, replicate, refl, sym, ◌∙◌, ap, arith, inl, inr}
 use Rattle.std.specs.Vec.{vec_capacity, vec_len, with_item}
 use Rattle.std.specs.declared.alloc.Global.{Global}
 use Rattle.std.proofs.lemmas.List.{length-append, length-set, get_or_default}
@@ -10,15 +10,14 @@ use Rattle.plain_machine.specs.declared.limits.TheConstants.{MOST_PROCESSES}
 use Rattle.script_grammar.specs.declared.command.Reg.{Reg}
 use Rattle.numbered_rows.specs.Numbers.{numbers}
 use Rattle.numbered_rows.proofs.Rising.{numbers-len}
-use Rattle.two_halves.specs.Halves.{HalvesStand, IsLaid, ProcsStand, all_places, end_of, free_in, places_in}
-use Rattle.two_halves.specs.Stack.{AreApart}
+use Rattle.two_halves.specs.Halves.{HalvesStand, IsLaid, ProcsStand, end_of, free_in, places_in}
 use Rattle.two_halves.specs.declared.table.Proc.{Proc}
 use Rattle.two_halves.proofs.Standing.Apart.{apart-more}
 use Rattle.two_halves.proofs.Standing.Filled.{halves-filled, laid-filled, laid_out}
 use Rattle.heaps_api.specs.Meaning.{Lives, Stood, CanAsk, no_process}
 use Rattle.heaps_api.specs.Changing.{Pushes, Spawns, process_at, SendsTo}
 use Rattle.heaps_api.specs.declared.wanted.Want.TheVariants as want
-use Rattle.one_space.specs.Heap.{HaveMade, number_in, one_meaning}
+use Rattle.one_space.specs.Heap.{number_in, one_meaning}
 use Rattle.one_space.specs.declared.heap.OneHeap.{OneHeap}
 use Rattle.one_space.proofs.Processes.Changing.{fresh-stands, made-push, procs-push}
 use Rattle.one_space.proofs.Processes.Turning.{pushed, pushed-apart, with_stack, words}
@@ -46,11 +45,9 @@ module _ (a : OneHeap) (lives : Lives one_meaning a) (few : length (one_meaning.
     added-stands : (named : ℕ) (shared : List (List ℕ)) (qs : List Process) → Stood one_meaning named a shared qs → Stood one_meaning named added shared (qs ++ fresh_process n ∷ [])
     added-stands named shared qs x =
         let new = fresh-stands x.is.test shared a.halves.mem named a.halves.room.end (end_of a.halves) p n number regs depth waiting none in
-        let P : List Proc → Type 0 = λ z. ProcsStand x.is.test shared a.halves.mem a.halves.room.end (end_of a.halves) named z (qs ++ fresh_process n ∷ []) in
-        let A : List Proc → Type 0 = λ z. AreApart (all_places a.halves.mem z) in
         stood-by named added shared (qs ++ fresh_process n ∷ []) (rows-left a.halves lives.whole.laid v named shared qs (qs ++ fresh_process n ∷ []) x.is
-        (subst P (sym items) (procs-push x.is.test shared a.halves.mem named a.halves.room.end (end_of a.halves) a.halves.procs.items qs p (fresh_process n) x.is.processes new))
-        (subst A (sym items) (apart-more a.halves.mem a.halves.procs.items p depth waiting x.is.apart)))
+        (rw items (procs-push x.is.test shared a.halves.mem named a.halves.room.end (end_of a.halves) a.halves.procs.items qs p (fresh_process n) x.is.processes new))
+        (rw items (apart-more a.halves.mem a.halves.procs.items p depth waiting x.is.apart)))
 
     pub adds : Spawns one_meaning n a added
     adds =
@@ -66,8 +63,7 @@ module _ (a : OneHeap) (lives : Lives one_meaning a) (few : length (one_meaning.
               spares = omega (arith, h.spares, one, one_less);
               boxes = omega (arith, h.boxes, boxes);
               counted = omega (arith, h.counted, up);
-              made = let S : List Proc → Type 0 = λ z. HaveMade more z in
-                  subst S (sym items) (made-push count more (omega (arith, up)) a.halves.procs.items p h.made (omega (arith, none)));
+              made = rw items (made-push count more (omega (arith, up)) a.halves.procs.items p h.made (omega (arith, none)));
               bins = h.bins;
               funs = h.funs;
             };
@@ -114,8 +110,7 @@ module _ (a : OneHeap) (lives : Lives one_meaning a) (row : ℕ) (there : row < 
     rows-grown : ProcsStand s.test shared mem2 (a.halves.room.end - 2) (a.halves.base + length mem2 / 2) named (with_item a.halves.procs row p2).items (set qs row q2)
     rows-grown =
         let limit : end_of a.halves ≡ a.halves.base + length mem2 / 2 = omega (arith, len) in
-        let P : ℕ → Type 0 = λ z. ProcsStand s.test shared mem2 (a.halves.room.end - 2) z named (set a.halves.procs.items row p2) (set qs row q2) in
-        subst P limit (pushed s.test shared a.halves.mem a.halves.room.top a.halves.room.end (end_of a.halves) named a.halves.procs.items qs row r.0 p less is small s.processes roles fits
+        rw (sym limit) (pushed s.test shared a.halves.mem a.halves.room.top a.halves.room.end (end_of a.halves) named a.halves.procs.items qs row r.0 p less is small s.processes roles fits
         (half-inside a.halves lives.whole.laid) order mem2 written)
 
     grown-stands : HalvesStand named grown.halves shared (set qs row q2)

@@ -1,6 +1,6 @@
 -- The image of the memory stands for each state that the memory stands for.
 use Rattle.std.proofs.Common.{◌≡◌, ℕ, ◌+◌, ◌-◌, ◌/◌, ◌<◌, ◌≤◌, ◌⊎◌, ◌&&◌, Bool, true, false, nat_le, nat_lt, List, []}
-use Rattle.std.proofs.Common.{◌∷◌, ◌++◌, length, map, flat_map, take, drop, get_or, reverse, inl, inr, refl, sym, ap, subst, arith}
+use Rattle.std.proofs.Common.{◌∷◌, ◌++◌, length, map, flat_map, take, drop, get_or, reverse, inl, inr, refl, sym, ap, arith}
 use Rattle.std.proofs.lemmas.Bool.{and_from, false≢true, or_cases, or_left, or_right}
 use Rattle.std.proofs.lemmas.Bool.Decides.{nat_tests}
 use Rattle.std.proofs.lemmas.List.{length-drop, length-take-le, reverse-append, reverse-reverse}
@@ -44,59 +44,52 @@ use Rattle.one_space.proofs.OfHeap.Keeping.{half-inside}
 in-reverse : (w : ℕ) (xs : List ℕ) → In w xs → In w (reverse xs)
 in-reverse w [] i = absurd i
 in-reverse w (x ∷ xs) i =
-    let P : List ℕ → Type 0 = λ z. In w z in
-    subst P (sym (reverse-append (x ∷ []) xs)) (elim i [ inl e ↦ in-right w (reverse xs) (x ∷ []) (inl e) | inr deep ↦ in-left w (reverse xs) (x ∷ []) (in-reverse w xs deep) ])
-
-told-in : (h : Halves) (ps : List Proc) (w : ℕ) → In w (roots_in h.mem ps) → In w (flat_map process_roots (map (rooted h) ps))
-told-in h [] w i = absurd i
-told-in h (p ∷ ps) w i =
-    let P : List ℕ → Type 0 = λ z. In w z in
-    let stack : List ℕ = values h.mem p.stack p.depth in
-    let queue : List ℕ = values h.mem p.queue p.waiting in
-    let here : In w (p.regs ++ (reverse (values h.mem p.stack p.depth) ++ values h.mem p.queue p.waiting)) ⊎ In w (flat_map process_roots (map (rooted h) ps)) =
-    elim (in-both w p.regs (values h.mem p.stack p.depth ++ (values h.mem p.queue p.waiting ++ roots_in h.mem ps)) i) [
-      | inl register ↦ inl (in-left w p.regs (reverse (values h.mem p.stack p.depth) ++ values h.mem p.queue p.waiting) register)
-      | inr deep ↦ elim (in-both w (values h.mem p.stack p.depth) (values h.mem p.queue p.waiting ++ roots_in h.mem ps) deep) [
-        | inl value ↦ inl (in-right w p.regs (reverse (values h.mem p.stack p.depth) ++ values h.mem p.queue p.waiting)
-            (in-left w (reverse (values h.mem p.stack p.depth)) (values h.mem p.queue p.waiting) (in-reverse w (values h.mem p.stack p.depth) value)))
-        | inr past ↦ elim (in-both w (values h.mem p.queue p.waiting) (roots_in h.mem ps) past) [
-          | inl message ↦ inl (in-right w p.regs (reverse (values h.mem p.stack p.depth) ++ values h.mem p.queue p.waiting)
-              (in-right w (reverse (values h.mem p.stack p.depth)) (values h.mem p.queue p.waiting) message))
-          | inr others ↦ inr (told-in h ps w others)
-        ]
-      ]
-    ] in
-    subst P (sym (flat_map-cons process_roots (rooted h p) (map (rooted h) ps))) (elim here [
-      | inl first ↦ in-left w (p.regs ++ (reverse (values h.mem p.stack p.depth) ++ values h.mem p.queue p.waiting)) (flat_map process_roots (map (rooted h) ps)) first
-      | inr rest ↦ in-right w (p.regs ++ (reverse (values h.mem p.stack p.depth) ++ values h.mem p.queue p.waiting)) (flat_map process_roots (map (rooted h) ps)) rest
-    ])
+    rw (reverse-append (x ∷ []) xs) (elim i [ inl e ↦ in-right w (reverse xs) (x ∷ []) (inl e) | inr deep ↦ in-left w (reverse xs) (x ∷ []) (in-reverse w xs deep) ])
 
 from-reverse : (w : ℕ) (xs : List ℕ) → In w (reverse xs) → In w xs
-from-reverse w xs i = let P : List ℕ → Type 0 = λ z. In w z in subst P (reverse-reverse xs) (in-reverse w (reverse xs) i)
+from-reverse w xs i = rw (reverse-reverse xs) at (in-reverse w (reverse xs) i)
 
-told-out : (h : Halves) (ps : List Proc) (w : ℕ) → In w (flat_map process_roots (map (rooted h) ps)) → In w (roots_in h.mem ps)
-told-out h [] w i = absurd i
-told-out h (p ∷ ps) w i =
-    let P : List ℕ → Type 0 = λ z. In w z in
-    let stack : List ℕ = values h.mem p.stack p.depth in
-    let queue : List ℕ = values h.mem p.queue p.waiting in
-    let split : In w ((p.regs ++ (reverse (values h.mem p.stack p.depth) ++ values h.mem p.queue p.waiting)) ++ flat_map process_roots (map (rooted h) ps)) =
-    subst P (flat_map-cons process_roots (rooted h p) (map (rooted h) ps)) i in
-    elim (in-both w (p.regs ++ (reverse (values h.mem p.stack p.depth) ++ values h.mem p.queue p.waiting)) (flat_map process_roots (map (rooted h) ps)) split) [
-      | inl own ↦ elim (in-both w p.regs (reverse (values h.mem p.stack p.depth) ++ values h.mem p.queue p.waiting) own) [
-        | inl register ↦ in-left w p.regs (values h.mem p.stack p.depth ++ (values h.mem p.queue p.waiting ++ roots_in h.mem ps)) register
-        | inr deep ↦ in-right w p.regs (values h.mem p.stack p.depth ++ (values h.mem p.queue p.waiting ++ roots_in h.mem ps))
-            (elim (in-both w (reverse (values h.mem p.stack p.depth)) (values h.mem p.queue p.waiting) deep) [
-              | inl value ↦ in-left w (values h.mem p.stack p.depth) (values h.mem p.queue p.waiting ++ roots_in h.mem ps)
-                  (from-reverse w (values h.mem p.stack p.depth) value)
-              | inr message ↦ in-right w (values h.mem p.stack p.depth) (values h.mem p.queue p.waiting ++ roots_in h.mem ps)
-                  (in-left w (values h.mem p.queue p.waiting) (roots_in h.mem ps) message)
-            ])
+module _ (w : ℕ) (xs ys zs ds es : List ℕ) where
+  turned-in : (In w ds → In w es) → In w (xs ++ (ys ++ (zs ++ ds))) → In w ((xs ++ (reverse ys ++ zs)) ++ es)
+  turned-in more i = elim (in-both w xs (ys ++ (zs ++ ds)) i) [
+    | inl x ↦ in-left w (xs ++ (reverse ys ++ zs)) es (in-left w xs (reverse ys ++ zs) x)
+    | inr deep ↦ elim (in-both w ys (zs ++ ds) deep) [
+      | inl y ↦ in-left w (xs ++ (reverse ys ++ zs)) es (in-right w xs (reverse ys ++ zs) (in-left w (reverse ys) zs (in-reverse w ys y)))
+      | inr past ↦ elim (in-both w zs ds past) [
+        | inl z ↦ in-left w (xs ++ (reverse ys ++ zs)) es (in-right w xs (reverse ys ++ zs) (in-right w (reverse ys) zs z))
+        | inr d ↦ in-right w (xs ++ (reverse ys ++ zs)) es (more d)
       ]
-      | inr others ↦ in-right w p.regs (values h.mem p.stack p.depth ++ (values h.mem p.queue p.waiting ++ roots_in h.mem ps))
-          (in-right w (values h.mem p.stack p.depth) (values h.mem p.queue p.waiting ++ roots_in h.mem ps)
-          (in-right w (values h.mem p.queue p.waiting) (roots_in h.mem ps) (told-out h ps w others)))
     ]
+  ]
+
+  turned-out : (In w es → In w ds) → In w ((xs ++ (reverse ys ++ zs)) ++ es) → In w (xs ++ (ys ++ (zs ++ ds)))
+  turned-out more i = elim (in-both w (xs ++ (reverse ys ++ zs)) es i) [
+    | inl own ↦ elim (in-both w xs (reverse ys ++ zs) own) [
+      | inl x ↦ in-left w xs (ys ++ (zs ++ ds)) x
+      | inr deep ↦ in-right w xs (ys ++ (zs ++ ds)) (elim (in-both w (reverse ys) zs deep) [
+        | inl y ↦ in-left w ys (zs ++ ds) (from-reverse w ys y)
+        | inr z ↦ in-right w ys (zs ++ ds) (in-left w zs ds z)
+      ])
+    ]
+    | inr e ↦ in-right w xs (ys ++ (zs ++ ds)) (in-right w ys (zs ++ ds) (in-right w zs ds (more e)))
+  ]
+
+module _ (h : Halves) where
+  -- The roots of rows as the image tells them.
+  abbrev told : List Proc → List ℕ
+  told ps = flat_map process_roots (map (rooted h) ps)
+
+  told-in : (ps : List Proc) (w : ℕ) → In w (roots_in h.mem ps) → In w (told ps)
+  told-in [] w i = absurd i
+  told-in (p ∷ ps) w i =
+      rw (flat_map-cons process_roots (rooted h p) (map (rooted h) ps))
+      (turned-in w p.regs (values h.mem p.stack p.depth) (values h.mem p.queue p.waiting) (roots_in h.mem ps) (told ps) (told-in ps w) i)
+
+  told-out : (ps : List Proc) (w : ℕ) → In w (told ps) → In w (roots_in h.mem ps)
+  told-out [] w i = absurd i
+  told-out (p ∷ ps) w i =
+      turned-out w p.regs (values h.mem p.stack p.depth) (values h.mem p.queue p.waiting) (roots_in h.mem ps) (told ps) (told-out ps w)
+      (rw (flat_map-cons process_roots (rooted h p) (map (rooted h) ps)) at i)
 
 -- A plan that begins with these roots.
 abbrev plan_over : (mem roots : List ℕ) → Plan
@@ -114,9 +107,7 @@ plan_over mem roots = record {
 
 -- More roots reach no less.
 reach-among : (mem roots more : List ℕ) → ((w : ℕ) → In w roots → In w more) → (w : ℕ) → Reach mem roots w → Reach mem more w
-reach-among mem roots more among w (root i x below e) =
-    let P : ℕ → Type 0 = λ z. In z more in
-    root-in (plan_over mem more) w (subst P (sym e) (among (get_or roots i 0) (in-at roots i below)))
+reach-among mem roots more among w (root i x below e) = root-in (plan_over mem more) w (rw e (among (get_or roots i 0) (in-at roots i below)))
 reach-among mem roots more among w (part v k x r p from below e) = part v k x (reach-among mem roots more among v r) p from below e
 
 module _ (c d : ℕ → ℕ → Bool) (shared : List (List ℕ)) (h : Halves) (named : ℕ) (trees : (w : ℕ) (t : Tree) → Stands c shared h.mem w t → Stands d shared h.mem w t) where
@@ -128,12 +119,11 @@ module _ (c d : ℕ → ℕ → Bool) (shared : List (List ℕ)) (h : Halves) (n
 
   row-rooted : (low limit : ℕ) (p : Proc) (q : Process) → ProcStands c shared h.mem low limit named p q → RootedStands d shared h.mem (rooted h p) q
   row-rooted low limit p q s =
-      let P : List ℕ → Type 0 = λ z. WordsStand d shared h.mem z q.stack in
       record {
         number = s.number;
         refs = s.refs;
         registers = words-held p.regs q.registers s.registers;
-        stack = subst P (sym (reverse-reverse (values h.mem p.stack p.depth))) (words-held (values h.mem p.stack p.depth) q.stack s.stack);
+        stack = rw (reverse-reverse (values h.mem p.stack p.depth)) (words-held (values h.mem p.stack p.depth) q.stack s.stack);
         queue = words-held (values h.mem p.queue p.waiting) q.queue s.queue;
       }
 
@@ -292,8 +282,7 @@ module _ (named : ℕ) (h : Halves) (s : State) (laid : IsLaid h) (o : HalvesSta
   -- The places of the tables are those of the pieces in order.
   place-told : (v : ℕ) → In v (h.bins.items ++ h.funs.items) → In v (piece_places (pieces_by_place bin_pieces ++ pieces_by_place fun_pieces))
   place-told v i =
-      let P : List ℕ → Type 0 = λ z. In v z in
-      subst P (sym (places-both (pieces_by_place bin_pieces) (pieces_by_place fun_pieces))) (elim (in-both v h.bins.items h.funs.items i) [
+      rw (places-both (pieces_by_place bin_pieces) (pieces_by_place fun_pieces)) (elim (in-both v h.bins.items h.funs.items i) [
         | inl bin ↦ in-left v (piece_places (pieces_by_place bin_pieces)) (piece_places (pieces_by_place fun_pieces))
             (ordered (λ rs. In v (piece_places rs)) (place-any v) bin_pieces (place-listed h.mem v h.bins.items bin))
         | inr fun ↦ in-right v (piece_places (pieces_by_place bin_pieces)) (piece_places (pieces_by_place fun_pieces))
@@ -313,18 +302,15 @@ module _ (named : ℕ) (h : Halves) (s : State) (laid : IsLaid h) (o : HalvesSta
   bin-record : (v : ℕ) → In v h.bins.items → IsRecord o.test h.mem v (record_words h.mem v)
   bin-record v i =
       let r : IsBinOf o.test h.mem s.shared v = o.records.each_bin v i in
-      let n : ℕ = 4 + bin_words (length (shared_bytes s.shared (owner_in h.mem v))) in
       let there : IsRecord o.test h.mem v (4 + bin_words (length (shared_bytes s.shared (owner_in h.mem v)))) =
       inl (owner_in h.mem v, shared_bytes s.shared (owner_in h.mem v), r.is, refl) in
-      let P : ℕ → Type 0 = λ z. IsRecord o.test h.mem v z in
-      subst P (sym (record-size o.test h.mem v (4 + bin_words (length (shared_bytes s.shared (owner_in h.mem v)))) there)) there
+      rw (record-size o.test h.mem v (4 + bin_words (length (shared_bytes s.shared (owner_in h.mem v)))) there) there
 
   fun-record : (v : ℕ) → In v h.funs.items → IsRecord o.test h.mem v (record_words h.mem v)
   fun-record v i =
       let r : IsFunOf o.test h.mem v = o.records.each_fun v i in
       let there : IsRecord o.test h.mem v 4 = inr (r.name, r.arity, r.is, refl) in
-      let P : ℕ → Type 0 = λ z. IsRecord o.test h.mem v z in
-      subst P (sym (record-size o.test h.mem v 4 there)) there
+      rw (record-size o.test h.mem v 4 there) there
 
   bins-follow : FollowEachOther (pieces_by_place bin_pieces)
   bins-follow =

@@ -1,5 +1,5 @@
 -- A new term in a register: what the memory stands for after it, whatever was built.
-use Rattle.std.proofs.Common.{◌≡◌, ℕ, ◌+◌, ◌/◌, ◌<◌, ◌≤◌, ◌⊎◌, true, List, length, get_or, set, refl, ◌∙◌, subst, arith, inl, inr}
+use Rattle.std.proofs.Common.{◌≡◌, ℕ, ◌+◌, ◌/◌, ◌<◌, ◌≤◌, ◌⊎◌, true, List, length, get_or, set, refl, sym, ◌∙◌, arith, inl, inr}
 use Rattle.std.specs.Vec.{with_item}
 use Rattle.std.proofs.lemmas.List.{length-set}
 use Rattle.word_mem.specs.declared.ranges.Room.{Room}
@@ -125,10 +125,9 @@ module _ (a : OneHeap) (ask : CanAsk one_meaning a) (row : ℕ) (less : row < le
         halves-stand : HalvesStand named h2 shared (set qs row (with_tree_made q s.0 t refs))
         halves-stand =
             let limit : end_of a.halves ≡ a.halves.base + length mem2 / 2 = omega (arith, uses.same_len) in
-            let P : ℕ → Type 0 = λ v. ProcsStand built.test shared mem2 z.end v named (set a.halves.procs.items row (with_made p s.0 w made)) (set qs row (with_tree_made q s.0 t refs)) in
             halves-filled named named a.halves shared qs (set qs row (with_tree_made q s.0 t refs)) laid x.is built.test (built.grows.single x.is.single) mem2 z
             (with_item a.halves.procs row (with_made p s.0 w made)) uses.same_len built.grows.more built.grows.objects new-within words-same (omega (arith, uses.moved))
-            (omega (arith, uses.same_end)) (omega arith) (subst P limit set-rows)
+            (omega (arith, uses.same_end)) (omega arith) (rw (sym limit) set-rows)
             (apart-same mem2 a.halves.procs.items row (with_made p s.0 w made) p row-less is refl
             (apart-kept x.is.test shared a.halves.mem mem2 a.halves.room.end (end_of a.halves) named a.halves.procs.items qs kept x.is.processes x.is.apart))
 

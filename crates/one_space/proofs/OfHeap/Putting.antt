@@ -1,6 +1,6 @@
 -- A word that came into two halves with an object goes to a register: the tables of records have room for one more, and what stands
 -- then, with a binary in a record of its own and with a fun.
-use Rattle.std.proofs.Common.{ℕ, ◌≤◌, List, refl, arith, ◌≡◌, ◌*◌, ◌/◌, ◌<◌, Bool, true, [], ◌∷◌, length, get_or, set, sym, ◌∙◌, subst, inl, inr, Vec, ◌+◌, ◌++◌, replicate, ap, suc, nat_lt, max, map}
+use Rattle.std.proofs.Common.{ℕ, ◌≤◌, List, refl, arith, ◌≡◌, ◌*◌, ◌/◌, ◌<◌, Bool, true, [], ◌∷◌, length, get_or, set, sym, ◌∙◌, inl, inr, Vec, ◌+◌, ◌++◌, replicate, ap, suc, nat_lt, max, map}
 use Rattle.plain_machine.specs.State.{Process, with_register, register}
 use Rattle.two_halves.specs.Halves.{HalvesStand, end_of, IsLaid, free_in, half_of}
 use Rattle.two_halves.specs.declared.halves.Halves.{Halves}
@@ -189,8 +189,7 @@ module _ (a : OneHeap) (ask : CanAsk one_meaning a) (name : ℕ) where
 
       below : (i d : ℕ) → i < length rs → get_or rs i d < 16
       below =
-          let A : List ℕ → Type 0 = λ z. (i d : ℕ) → i < length z → get_or z i d < 16 in
-          subst A (same-held is_env.registers rs (sym is_env.items ∙ items)) is_env.held
+          rw (sym (same-held is_env.registers rs (sym is_env.items ∙ items))) is_env.held
 
       wide : Stood one_meaning more a shared qs
       wide = stood-widened named more up a shared qs x
@@ -200,8 +199,7 @@ module _ (a : OneHeap) (ask : CanAsk one_meaning a) (name : ℕ) where
 
       all : AllStand wide.is.test shared a.halves.mem ws ts
       all =
-          let W : List ℕ → Type 0 = λ z. AllStand wide.is.test shared a.halves.mem z ts in
-          subst W (sym (words_are ∙ ap (map (λ z. held_word p1.regs z)) items)) (env-stands wide.is.test shared a.halves.mem more p1.regs q held rs below)
+          rw (sym (words_are ∙ ap (map (λ z. held_word p1.regs z)) items)) at (env-stands wide.is.test shared a.halves.mem more p1.regs q held rs below)
 
       told : is_named more (Fun name arity p1.number ts) ≡ true
       told = and_from (nat_lt name more) (are_named more ts) (lt-ltb name more above) (env-named wide.is.test shared a.halves.mem more p1.regs q held rs below)

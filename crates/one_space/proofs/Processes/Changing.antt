@@ -1,6 +1,6 @@
 -- Rows that stand for processes: read, written, taken out and added, how many references they have made, and messages that wait
 -- within the walk limit.
-use Rattle.std.proofs.Common.{◌≡◌, ℕ, zero, suc, ◌<◌, ◌≤◌, List, [], ◌∷◌, ◌++◌, length, get_or, set, ap, arith, Bool, map, replicate, refl, sym, ◌∙◌, subst}
+use Rattle.std.proofs.Common.{◌≡◌, ℕ, zero, suc, ◌<◌, ◌≤◌, List, [], ◌∷◌, ◌++◌, length, get_or, set, ap, arith, Bool, map, replicate, refl, sym, ◌∙◌}
 use Rattle.std.specs.List.{remove}
 use Rattle.one_space.specs.Heap.{HaveMade, number_in}
 use Rattle.two_halves.specs.Collecting.{AreSameRows}
@@ -10,7 +10,7 @@ use Rattle.plain_term.specs.Tree.Tree.{Nil}
 use Rattle.plain_machine.specs.State.{Process, fresh_process}
 use Rattle.term_words.proofs.ByKind.Makes.{stands-nil}
 use Rattle.numbered_rows.specs.Numbers.{numbers}
-use Rattle.two_halves.specs.Stack.{IsLastPlace, IsStack, values}
+use Rattle.two_halves.specs.Stack.{values}
 use Rattle.two_halves.specs.Halves.{ProcStands, ProcsStand}
 use Rattle.term_order.specs.Held.{HoldTrees, HoldsTree}
 use Rattle.plain_machine.specs.Laws.{AreWithin}
@@ -69,21 +69,15 @@ module _ (c : ℕ → ℕ → Bool) (shared : List (List ℕ)) (mem : List ℕ) 
   module _ (low limit : ℕ) where
     pub fresh-stands : (p : Proc) (n : ℕ) → p.number ≡ n → p.regs ≡ replicate 16 59 → p.depth ≡ 0 → p.waiting ≡ 0 → p.refs ≡ 0 → ProcStands c shared mem low limit named p (fresh_process n)
     fresh-stands p n is regs depth waiting none =
-        let P : ℕ → Type 0 = λ z. IsStack c mem low limit p.stack z in
-        let W : ℕ → Type 0 = λ z. IsStack c mem low limit p.queue z in
-        let V : ℕ → Type 0 = λ z. HoldTrees c shared mem named (values mem p.queue z) [] in
-        let E : ℕ → Type 0 = λ z. IsLastPlace mem p.queue z p.last in
-        let Q : ℕ → Type 0 = λ z. HoldTrees c shared mem named (values mem p.stack z) [] in
-        let R : List ℕ → Type 0 = λ z. HoldTrees c shared mem named z (replicate 16 Nil) in
         record {
           number = sym is;
           count = ap length regs;
-          registers = subst R (sym regs) (nils-hold 16);
-          places = subst P (sym depth) tt;
-          stack = subst Q (sym depth) tt;
-          waits = subst W (sym waiting) tt;
-          queue = subst V (sym waiting) tt;
-          last = subst E (sym waiting) tt;
+          registers = rw regs (nils-hold 16);
+          places = rw depth tt;
+          stack = rw depth tt;
+          waits = rw waiting tt;
+          queue = rw waiting tt;
+          last = rw waiting tt;
           refs = sym none;
         }
 
