@@ -168,56 +168,36 @@ module _ (mem : List ℕ) where
     ]
   ]
 
-  -- Owners that rise are all different.
-  owners-differ : (v : ℕ) (us : List ℕ) → ((w : ℕ) → In w us → owner_in mem v < owner_in mem w)
-      → AllPieces (λ q. owner_in mem v ≡ owner_in mem q.place → ⊥) (map (record_piece mem) us)
-  owners-differ v [] less = tt
-  owners-differ v (u ∷ us) less = ((λ e. omega (arith, less u (inl refl), e)), owners-differ v us (λ w i. less w (inr i)))
+  -- What holds for each record holds for each piece, and so for each two, of which the first has the lower owner.
+  each-piece : (P : Stretch → Type 0) (vs : List ℕ) → ((v : ℕ) → In v vs → P (record_piece mem v)) → AllPieces P (map (record_piece mem) vs)
+  each-piece P [] each = tt
+  each-piece P (v ∷ vs) each = (each v (inl refl), each-piece P vs (λ u i. each u (inr i)))
 
-  owners-two : (vs : List ℕ) → OwnersRise mem vs → EachTwo (λ r q. owner_in mem r.place ≡ owner_in mem q.place → ⊥) (map (record_piece mem) vs)
-  owners-two [] r = tt
-  owners-two (v ∷ vs) (first, rest) = (owners-differ v vs first, owners-two vs rest)
+  each-two : (P : Stretch → Stretch → Type 0) (vs : List ℕ) → OwnersRise mem vs
+      → ((v u : ℕ) → In v vs → In u vs → owner_in mem v < owner_in mem u → P (record_piece mem v) (record_piece mem u)) → EachTwo P (map (record_piece mem) vs)
+  each-two P [] rise each = tt
+  each-two P (v ∷ vs) (first, rest) each =
+      (each-piece (P (record_piece mem v)) vs (λ u i. each v u (inl refl) (inr i) (first u i)), each-two P vs rest (λ a b i j. each a b (inr i) (inr j)))
 
   owners-once : (vs : List ℕ) → OwnersRise mem vs → Distinct (map (owner_in mem) (piece_places (pieces_by_place (map (record_piece mem) vs))))
   owners-once vs r =
       each-once (owner_in mem) (pieces_by_place (map (record_piece mem) vs))
-      (two-ordered (λ r q. owner_in mem r.place ≡ owner_in mem q.place → ⊥) (λ r q n e. n (sym e)) (map (record_piece mem) vs) (owners-two vs r))
+      (two-ordered (λ r q. owner_in mem r.place ≡ owner_in mem q.place → ⊥) (λ r q n e. n (sym e)) (map (record_piece mem) vs)
+      (each-two (λ r q. owner_in mem r.place ≡ owner_in mem q.place → ⊥) vs r (λ v u i j less e. omega (arith, less, e))))
 
   -- Records of which no two are one follow each other.
-  module _ (c : ℕ → ℕ → Bool) (single : IsSingle c) where
-    apart-all : (v : ℕ) (us : List ℕ) → IsRecord c mem v (record_words mem v) → v + record_words mem v ≤ length mem → ((u : ℕ) → In u us → IsRecord c mem u (record_words mem u))
-        → ((u : ℕ) → In u us → u + record_words mem u ≤ length mem) → ((u : ℕ) → In u us → owner_in mem v < owner_in mem u)
-        → AllPieces (PiecesApart (record_piece mem v)) (map (record_piece mem) us)
-    apart-all v [] is fits are fit less = tt
-    apart-all v (u ∷ us) is fits are fit less =
-        let size = piece-words mem v (record_words mem v) fits in
-        let other = piece-words mem u (record_words mem u) (fit u (inl refl)) in (
-          elim (records-apart c mem v (record_words mem v) u (record_words mem u) single is (are u (inl refl))) [
-            | inl e ↦ absurd (omega (arith, less u (inl refl), ap (owner_in mem) e))
+  records-follow : (c : ℕ → ℕ → Bool) → IsSingle c → (vs : List ℕ) → ((v : ℕ) → In v vs → IsRecord c mem v (record_words mem v)) → ((v : ℕ) → In v vs → v + record_words mem v ≤ length mem)
+      → OwnersRise mem vs → FollowEachOther (pieces_by_place (map (record_piece mem) vs))
+  records-follow c single vs are fit rise = follow-ordered (map (record_piece mem) vs)
+      (each-two PiecesApart vs rise (λ v u i j less.
+          let size = piece-words mem v (record_words mem v) (fit v i) in
+          let other = piece-words mem u (record_words mem u) (fit u j) in
+          elim (records-apart c mem v (record_words mem v) u (record_words mem u) single (are v i) (are u j)) [
+            | inl e ↦ absurd (omega (arith, less, ap (owner_in mem) e))
             | inr (inl before) ↦ inl (omega (arith, size, before))
             | inr (inr behind) ↦ inr (omega (arith, other, behind))
-          ],
-          apart-all v us is fits (λ w i. are w (inr i)) (λ w i. fit w (inr i)) (λ w i. less w (inr i)),
-        )
-
-    apart-two : (vs : List ℕ) → ((v : ℕ) → In v vs → IsRecord c mem v (record_words mem v)) → ((v : ℕ) → In v vs → v + record_words mem v ≤ length mem) → OwnersRise mem vs
-        → EachTwo PiecesApart (map (record_piece mem) vs)
-    apart-two [] are fit rise = tt
-    apart-two (v ∷ vs) are fit (first, rest) = (
-      apart-all v vs (are v (inl refl)) (fit v (inl refl)) (λ u i. are u (inr i)) (λ u i. fit u (inr i)) first,
-      apart-two vs (λ u i. are u (inr i)) (λ u i. fit u (inr i)) rest,
-    )
-
-    all-some : (vs : List ℕ) → ((v : ℕ) → In v vs → IsRecord c mem v (record_words mem v)) → ((v : ℕ) → In v vs → v + record_words mem v ≤ length mem)
-        → AllPieces HasWords (map (record_piece mem) vs)
-    all-some [] are fit = tt
-    all-some (v ∷ vs) are fit =
-        let size = piece-words mem v (record_words mem v) (fit v (inl refl)) in
-        (omega (arith, size, record-some c mem v (record_words mem v) (are v (inl refl))), all-some vs (λ u i. are u (inr i)) (λ u i. fit u (inr i)))
-
-    records-follow : (vs : List ℕ) → ((v : ℕ) → In v vs → IsRecord c mem v (record_words mem v)) → ((v : ℕ) → In v vs → v + record_words mem v ≤ length mem) → OwnersRise mem vs
-        → FollowEachOther (pieces_by_place (map (record_piece mem) vs))
-    records-follow vs are fit rise = follow-ordered (map (record_piece mem) vs) (apart-two vs are fit rise) (all-some vs are fit)
+          ]))
+      (each-piece HasWords vs (λ v i. omega (arith, piece-words mem v (record_words mem v) (fit v i), record-some c mem v (record_words mem v) (are v i))))
 
 module _ (h : Halves) (laid : IsLaid h) where
   -- The region has as many words as lie between the front and the top.
@@ -298,40 +278,16 @@ module _ (named : ℕ) (h : Halves) (s : State) (laid : IsLaid h) (o : HalvesSta
     funs_once = owners-once h.mem h.funs.items o.records.codes;
   }
 
-  -- Records of binaries follow each other, and so do those of funs.
-  bin-record : (v : ℕ) → In v h.bins.items → IsRecord o.test h.mem v (record_words h.mem v)
-  bin-record v i =
-      let r : IsBinOf o.test h.mem s.shared v = o.records.each_bin v i in
-      let there : IsRecord o.test h.mem v (4 + bin_words (length (shared_bytes s.shared (owner_in h.mem v)))) =
-      inl (owner_in h.mem v, shared_bytes s.shared (owner_in h.mem v), r.is, refl) in
-      rw (record-size o.test h.mem v (4 + bin_words (length (shared_bytes s.shared (owner_in h.mem v)))) there) there
-
-  fun-record : (v : ℕ) → In v h.funs.items → IsRecord o.test h.mem v (record_words h.mem v)
-  fun-record v i =
-      let r : IsFunOf o.test h.mem v = o.records.each_fun v i in
-      let there : IsRecord o.test h.mem v 4 = inr (r.name, r.arity, r.is, refl) in
-      rw (record-size o.test h.mem v 4 there) there
-
-  bins-follow : FollowEachOther (pieces_by_place bin_pieces)
-  bins-follow =
-      records-follow h.mem o.test o.single h.bins.items bin-record (λ v i. records-fit v (in-left v h.bins.items h.funs.items i))
-      o.records.serials
-
-  funs-follow : FollowEachOther (pieces_by_place fun_pieces)
-  funs-follow =
-      records-follow h.mem o.test o.single h.funs.items fun-record (λ v i. records-fit v (in-right v h.bins.items h.funs.items i))
-      o.records.codes
-
-  pieces-there : HasPieces h.mem (object_piece h ∷ (pieces_by_place bin_pieces ++ pieces_by_place fun_pieces))
-  pieces-there = (
-    omega (arith, region-words h laid, half-inside h laid, laid.order, laid.fits, laid.front),
-    ap (λ n. take n (drop (front_of h) h.mem)) (region-words h laid),
-    has-both h.mem (pieces_by_place bin_pieces) (pieces_by_place fun_pieces)
-        (ordered (HasPieces h.mem) (has-any h.mem) bin_pieces
-        (records-held h.mem h.bins.items (λ v i. records-fit v (in-left v h.bins.items h.funs.items i))))
-        (ordered (HasPieces h.mem) (has-any h.mem) fun_pieces
-        (records-held h.mem h.funs.items (λ v i. records-fit v (in-right v h.bins.items h.funs.items i)))),
-  )
+  -- Each stands.
+  record-here : (v : ℕ) → In v (records_of h) → IsRecord o.test h.mem v (record_words h.mem v)
+  record-here v i = elim (in-both v h.bins.items h.funs.items i) [
+    | inl bin ↦
+        by (4 + bin_words (length (shared_bytes s.shared (owner_in h.mem v)))) (inl (owner_in h.mem v, shared_bytes s.shared (owner_in h.mem v), (o.records.each_bin v bin).is, refl))
+    | inr fun ↦ let r : IsFunOf o.test h.mem v = o.records.each_fun v fun in by 4 (inr (r.name, r.arity, r.is, refl))
+  ]
+    where
+      by : (n : ℕ) → IsRecord o.test h.mem v n → IsRecord o.test h.mem v (record_words h.mem v)
+      by n there = rw (record-size o.test h.mem v n there) there
 
   -- All lies in the half in use.
   record-within : (v : ℕ) → IsRecord o.test h.mem v (record_words h.mem v) → (h.base ≤ v) × (v + record_words h.mem v ≤ end_of h)
@@ -347,32 +303,56 @@ module _ (named : ℕ) (h : Halves) (s : State) (laid : IsLaid h) (o : HalvesSta
           let (k, (of, role)) = record-role o.test h.mem v (record_words h.mem v) q r from below in
           elim (o.lie q k role) [ inl object ↦ absurd (omega (arith, of, object.1.1)) | inr there ↦ (there.0, there.1.0) ]
 
-  records-within : (vs : List ℕ) → ((v : ℕ) → In v vs → v + record_words h.mem v ≤ length h.mem)
-      → ((v : ℕ) → In v vs → IsRecord o.test h.mem v (record_words h.mem v)) → AllWithin h.base (end_of h) (map (record_piece h.mem) vs)
-  records-within [] fit are = tt
-  records-within (v ∷ vs) fit are =
-      let size = piece-words h.mem v (record_words h.mem v) (fit v (inl refl)) in
-      let here = record-within v (are v (inl refl)) in
-      ((here.0, omega (arith, here.1, size)), records-within vs (λ u i. fit u (inr i)) (λ u i. are u (inr i)))
+  records-within : (vs : List ℕ) → ((v : ℕ) → In v vs → In v (records_of h)) → AllWithin h.base (end_of h) (map (record_piece h.mem) vs)
+  records-within [] among = tt
+  records-within (v ∷ vs) among =
+      let size = piece-words h.mem v (record_words h.mem v) (records-fit v (among v (inl refl))) in
+      let here = record-within v (record-here v (among v (inl refl))) in
+      ((here.0, omega (arith, here.1, size)), records-within vs (λ u i. among u (inr i)))
+
+  -- The pieces of a table of records.
+  module _ (vs : List ℕ) (among : (v : ℕ) → In v vs → In v (records_of h)) where
+    abbrev pieces : List Stretch
+    pieces = map (record_piece h.mem) vs
+
+    table-fit : (v : ℕ) → In v vs → v + record_words h.mem v ≤ length h.mem
+    table-fit v i = records-fit v (among v i)
+
+    table-follows : OwnersRise h.mem vs → FollowEachOther (pieces_by_place pieces)
+    table-follows rise = records-follow h.mem o.test o.single vs (λ v i. record-here v (among v i)) table-fit rise
+
+    table-there : HasPieces h.mem (pieces_by_place pieces)
+    table-there = ordered (HasPieces h.mem) (has-any h.mem) pieces (records-held h.mem vs table-fit)
+
+    table-within : AllWithin h.base (end_of h) (pieces_by_place pieces)
+    table-within = ordered (AllWithin h.base (end_of h)) (within-any h.base (end_of h)) pieces (records-within vs among)
+
+    table-lies : (a : ℕ) → in_records h.mem vs a ≡ true → LiesIn (pieces_by_place pieces) a
+    table-lies a e = ordered (λ rs. LiesIn rs a) (lies-any a) pieces (lies-listed h.mem vs a table-fit e)
+
+  of-bins : (v : ℕ) → In v h.bins.items → In v (records_of h)
+  of-bins v i = in-left v h.bins.items h.funs.items i
+
+  of-funs : (v : ℕ) → In v h.funs.items → In v (records_of h)
+  of-funs v i = in-right v h.bins.items h.funs.items i
+
+  pieces-there : HasPieces h.mem (object_piece h ∷ (pieces_by_place bin_pieces ++ pieces_by_place fun_pieces))
+  pieces-there = (
+    omega (arith, region-words h laid, half-inside h laid, laid.order, laid.fits, laid.front),
+    ap (λ n. take n (drop (front_of h) h.mem)) (region-words h laid),
+    has-both h.mem (pieces_by_place bin_pieces) (pieces_by_place fun_pieces) (table-there h.bins.items of-bins) (table-there h.funs.items of-funs),
+  )
 
   within-half : AllWithin h.base (end_of h) (object_piece h ∷ (pieces_by_place bin_pieces ++ pieces_by_place fun_pieces))
   within-half = (
     (omega arith, omega (arith, region-words h laid, laid.order, laid.fits, laid.front)),
-    within-both h.base (end_of h) (pieces_by_place bin_pieces) (pieces_by_place fun_pieces)
-        (ordered (AllWithin h.base (end_of h)) (within-any h.base (end_of h)) bin_pieces
-        (records-within h.bins.items (λ v i. records-fit v (in-left v h.bins.items h.funs.items i)) bin-record))
-        (ordered (AllWithin h.base (end_of h)) (within-any h.base (end_of h)) fun_pieces
-        (records-within h.funs.items (λ v i. records-fit v (in-right v h.bins.items h.funs.items i)) fun-record)),
+    within-both h.base (end_of h) (pieces_by_place bin_pieces) (pieces_by_place fun_pieces) (table-within h.bins.items of-bins) (table-within h.funs.items of-funs),
   )
 
   listed-there : (a : ℕ) → in_records h.mem (records_of h) a ≡ true → LiesIn (pieces_by_place bin_pieces ++ pieces_by_place fun_pieces) a
   listed-there a e = elim (listed-both h.mem h.bins.items h.funs.items a e) [
-    | inl bin ↦ lies-left a (pieces_by_place bin_pieces) (pieces_by_place fun_pieces)
-        (ordered (λ rs. LiesIn rs a) (lies-any a) bin_pieces
-        (lies-listed h.mem h.bins.items a (λ v i. records-fit v (in-left v h.bins.items h.funs.items i)) bin))
-    | inr fun ↦ lies-right a (pieces_by_place bin_pieces) (pieces_by_place fun_pieces)
-        (ordered (λ rs. LiesIn rs a) (lies-any a) fun_pieces
-        (lies-listed h.mem h.funs.items a (λ v i. records-fit v (in-right v h.bins.items h.funs.items i)) fun))
+    | inl bin ↦ lies-left a (pieces_by_place bin_pieces) (pieces_by_place fun_pieces) (table-lies h.bins.items of-bins a bin)
+    | inr fun ↦ lies-right a (pieces_by_place bin_pieces) (pieces_by_place fun_pieces) (table-lies h.funs.items of-funs a fun)
   ]
 
   inside-there : (a k : ℕ) → narrow a k ≡ true → LiesIn (object_piece h ∷ (pieces_by_place bin_pieces ++ pieces_by_place fun_pieces)) a
@@ -426,8 +406,8 @@ module _ (named : ℕ) (h : Halves) (s : State) (laid : IsLaid h) (o : HalvesSta
     arena = refl;
     told = pieces-there;
     regions_follow = tt;
-    bins_follow = bins-follow;
-    funs_follow = funs-follow;
+    bins_follow = table-follows h.bins.items of-bins o.records.serials;
+    funs_follow = table-follows h.funs.items of-funs o.records.codes;
     test = narrow;
     single = single-covered named h s.shared s.processes laid o;
     inside = inside-there;
