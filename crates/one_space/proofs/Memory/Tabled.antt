@@ -92,22 +92,6 @@ own-size (Map n) xs led = refl
 own-size (Byte b) xs led = refl
 own-size (Held r) xs led = refl
 
-own-count : (x : Item) (xs : List Item) → length (long_bytes x xs) ≡ (if is_long x then 1 else 0)
-own-count (Bin n) xs = by (nat_lt 64 n)
-  where
-    by : (b : Bool) → length (if b then bytes_in n xs ∷ [] else []) ≡ (if b then 1 else 0)
-    by true = refl
-    by false = refl
-own-count (Int i) xs = refl
-own-count (Atom k) xs = refl
-own-count (Pid n) xs = refl
-own-count Nil xs = refl
-own-count Cons xs = refl
-own-count (Tuple n) xs = refl
-own-count (Map n) xs = refl
-own-count (Byte b) xs = refl
-own-count (Held r) xs = refl
-
 pub bins-size : (code : List Item) → AreLed code → bin_sizes (bins_of code) ≡ far_words_of code
 bins-size [] led = refl
 bins-size (x ∷ xs) led = omega (arith, sizes-append (long_bytes x xs) (bins_of xs), own-size x xs led.0, bins-size xs led.1)

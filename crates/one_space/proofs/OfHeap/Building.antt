@@ -56,10 +56,10 @@ use Rattle.one_space.proofs.Memory.Landing.{inside-there, joined, landed-laid, l
 use Rattle.one_space.proofs.Memory.Resting.{rest-laid, rest-reached, rest-stands}
 use Rattle.one_space.proofs.Memory.Tabled.{bins-size, entered-at, entered-len, record_at, records-size}
 use Rattle.one_space.proofs.OfHeap.Keeping.{keeps-rows, made-still, of_halves, places-moved, same-numbers, still-made, stood-by}
-use Rattle.one_space.proofs.OfHeap.Making.{register-said, row-less, row-said, with_made}
+use Rattle.one_space.proofs.OfHeap.Making.{register-said, row-less, row-said}
 use Rattle.one_space.proofs.OfHeap.Putting.{total-least}
 use Rattle.heaps_api.proofs.Holding.{held-set}
-use Rattle.one_space.proofs.Processes.Turning.{row-stands}
+use Rattle.one_space.proofs.Processes.Turning.{row-stands, with_made}
 use Rattle.one_space.proofs.Processes.Changing.{within-grown}
 
 -- A stop is a flaw, and a term that is built has none.

@@ -25,6 +25,7 @@ use Rattle.std.proofs.lemmas.List.{length-replicate}
 use Rattle.plain_term.specs.Tree.Tree.{Bin, Ref as RefOf, Shared, Part, Map}
 use Rattle.plain_term.specs.Measures.{bin_words}
 use Rattle.one_space.proofs.Processes.Changing.{made-at}
+use Rattle.one_space.proofs.Processes.Turning.{with_made}
 use Rattle.std.proofs.lemmas.Option.{same_Some}
 use Rattle.std.specs.Prelude.{is_some}
 use Rattle.plain_term.specs.Bytes.{shared_bytes}
@@ -40,7 +41,7 @@ use Rattle.term_verbs.specs.declared.pairs.Place.{Place}
 use Rattle.term_verbs.specs.Placed.{HasPlace, count_placed, put_at_spot}
 use Rattle.heaps_api.specs.Making.{MakesPair}
 use Rattle.one_space.proofs.OfHeap.Keeping.{of_halves}
-use Rattle.one_space.proofs.OfHeap.Making.{gains, register-said, row-less, row-said, with_made, words-fit, words-free}
+use Rattle.one_space.proofs.OfHeap.Making.{gains, register-said, row-less, row-said, words-fit, words-free}
 
 module _ (a : OneHeap) (ask : CanAsk one_meaning a) (row : ℕ) (less : row < length (one_meaning.numbers a)) (r : Reg) (mem2 : List ℕ) (z : Room)
     (p2 : Proc) (is2 : p2 ≡ get_or a.halves.procs.items row p2) (w : ℕ) where

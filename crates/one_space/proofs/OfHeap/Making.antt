@@ -27,16 +27,8 @@ use Rattle.one_space.specs.Heap.{one_meaning}
 use Rattle.one_space.specs.declared.heap.OneHeap.{OneHeap}
 use Rattle.one_space.proofs.OfHeap.Keeping.{keeps-replaced, of_halves, places-moved, row-inside, stood-by}
 use Rattle.heaps_api.proofs.Holding.{held-at, held-set}
-use Rattle.one_space.proofs.Processes.Turning.{row-stands}
+use Rattle.one_space.proofs.Processes.Turning.{register-made, row-stands, with_made, with_tree_made}
 use Rattle.one_space.proofs.Memory.Resting.{rest-laid}
-
--- A row with another word in a register, and so many references made.
-abbrev pub with_made : Proc → (r w refs : ℕ) → Proc
-with_made p r w refs = record { number = p.number; regs = set p.regs r w; stack = p.stack; depth = p.depth; queue = p.queue; last = p.last; waiting = p.waiting; refs = refs }
-
--- A process with another tree in a register, and so many references made.
-abbrev pub with_tree_made : Process → (r : ℕ) → Tree → (refs : ℕ) → Process
-with_tree_made q r t refs = record (with_register r t q) { refs = refs }
 
 module _ (a : OneHeap) (ask : CanAsk one_meaning a) (row : ℕ) (less : row < length (one_meaning.numbers a)) where
   laid : IsLaid a.halves
@@ -104,23 +96,9 @@ module _ (a : OneHeap) (ask : CanAsk one_meaning a) (row : ℕ) (less : row < le
         rows = procs-on x.is.test built.test shared a.halves.mem mem2 named named a.halves.room.end z.end (end_of a.halves) trees kept bare (omega (arith, uses.same_end))
             a.halves.procs.items qs x.is.processes
 
-        new-row : ProcStands built.test shared mem2 z.end (end_of a.halves) named (with_made p s.0 w made) (with_tree_made q s.0 t refs)
-        new-row =
-            let old = row-stands built.test shared mem2 z.end (end_of a.halves) named a.halves.procs.items qs row p row-less is rows in
-            record {
-              number = old.number;
-              count = length-set p.regs s.0 w ∙ old.count;
-              registers = held-set built.test shared mem2 named p.regs q.registers s.0 w t old.registers (record { standing = built.made; names = names });
-              places = old.places;
-              stack = old.stack;
-              waits = old.waits;
-              queue = old.queue;
-              last = old.last;
-              refs = same_refs;
-            }
-
         set-rows : ProcsStand built.test shared mem2 z.end (end_of a.halves) named (set a.halves.procs.items row (with_made p s.0 w made)) (set qs row (with_tree_made q s.0 t refs))
-        set-rows = row-set built.test shared mem2 z.end (end_of a.halves) named a.halves.procs.items qs row (with_made p s.0 w made) (with_tree_made q s.0 t refs) rows new-row
+        set-rows = register-made built.test shared mem2 z.end (end_of a.halves) named a.halves.procs.items qs row p row-less is rows s.0 w made refs t
+            (record { standing = built.made; names = names }) same_refs
 
         halves-stand : HalvesStand named h2 shared (set qs row (with_tree_made q s.0 t refs))
         halves-stand =

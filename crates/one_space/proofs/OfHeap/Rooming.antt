@@ -59,18 +59,11 @@ module _ (a : OneHeap) where
 
   -- What looking for room does.
   module _ (w : Want) (h : Halves) (found : Bool) (room : MakesRoom (looked_for w) a.halves h found) where
-    laid-same : h ≡ a.halves → IsLaid a.halves
-    laid-same e = rw (sym e) room.laid
-
     same-or-collected : (h ≡ a.halves) ⊎ Collects a.halves h
     same-or-collected = elim (dec_le (looked_for w) (free_in a.halves)) [ yes there ↦ inl (room.idle there) | no few ↦ inr (room.collects (omega arith)) ]
 
-    same-keeps : h ≡ a.halves → KeepsRows one_meaning a (of_halves a h)
-    same-keeps e =
-        rw e (keeps-same a (laid-same e))
-
     pub looks-keeps : KeepsRows one_meaning a (of_halves a h)
-    looks-keeps = elim same-or-collected [ inl e ↦ same-keeps e | inr c ↦ keeps-collected h c ]
+    looks-keeps = elim same-or-collected [ inl e ↦ rw e (keeps-same a (rw (sym e) room.laid)) | inr c ↦ keeps-collected h c ]
 
     stood-looked : (named : ℕ) (shared : List (List ℕ)) (qs : List Process) → Stood one_meaning named a shared qs → Stood one_meaning named (of_halves a h) shared qs
     stood-looked named shared qs x = record { is = room.stands named shared qs x.is; rows = looks-keeps.rows ∙ x.rows; registers = x.registers }

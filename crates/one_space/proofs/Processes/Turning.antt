@@ -19,9 +19,17 @@ use Rattle.two_halves.specs.Halves.{all_places}
 use Rattle.two_halves.proofs.Standing.Apart.{apart-kept, apart-pushed}
 use Rattle.two_halves.proofs.Standing.Held.{have-stacks}
 
+-- A row with another word in a register, and so many references made.
+abbrev pub with_made : Proc → (r w refs : ℕ) → Proc
+with_made p r w refs = record { number = p.number; regs = set p.regs r w; stack = p.stack; depth = p.depth; queue = p.queue; last = p.last; waiting = p.waiting; refs = refs }
+
+-- A process with another tree in a register, and so many references made.
+abbrev pub with_tree_made : Process → (r : ℕ) → Tree → (refs : ℕ) → Process
+with_tree_made q r t refs = record (with_register r t q) { refs = refs }
+
 -- A row with another word in a register.
 abbrev pub with_word : Proc → ℕ → ℕ → Proc
-with_word p r w = record { number = p.number; regs = set p.regs r w; stack = p.stack; depth = p.depth; queue = p.queue; last = p.last; waiting = p.waiting; refs = p.refs }
+with_word p r w = with_made p r w p.refs
 
 -- A row with another stack.
 abbrev pub with_stack : Proc → (stack depth : ℕ) → Proc
@@ -32,9 +40,10 @@ module _ (c : ℕ → ℕ → Bool) (shared : List (List ℕ)) (mem : List ℕ) 
   pub row-stands : ProcStands c shared mem low limit named p (get_or qs i no_process)
   row-stands = rw is (row-at c shared mem low limit named ps qs i p no_process less s)
 
-  pub register-set : (r w : ℕ) (t : Tree) → HoldsTree c shared mem named w t
-      → ProcsStand c shared mem low limit named (set ps i (with_word p r w)) (set qs i (with_register r t (get_or qs i no_process)))
-  register-set r w t h = row-set c shared mem low limit named ps qs i (with_word p r w) (with_register r t (get_or qs i no_process)) s (record {
+  -- Another word in a register, and so many references made.
+  pub register-made : (r w made refs : ℕ) (t : Tree) → HoldsTree c shared mem named w t → refs ≡ made
+      → ProcsStand c shared mem low limit named (set ps i (with_made p r w made)) (set qs i (with_tree_made (get_or qs i no_process) r t refs))
+  register-made r w made refs t h same = row-set c shared mem low limit named ps qs i (with_made p r w made) (with_tree_made (get_or qs i no_process) r t refs) s (record {
     number = row-stands.number;
     count = length-set p.regs r w ∙ row-stands.count;
     registers = held-set c shared mem named p.regs ((get_or qs i no_process).registers) r w t row-stands.registers h;
@@ -43,8 +52,12 @@ module _ (c : ℕ → ℕ → Bool) (shared : List (List ℕ)) (mem : List ℕ) 
     waits = row-stands.waits;
     queue = row-stands.queue;
     last = row-stands.last;
-    refs = row-stands.refs;
+    refs = same;
   })
+
+  pub register-set : (r w : ℕ) (t : Tree) → HoldsTree c shared mem named w t
+      → ProcsStand c shared mem low limit named (set ps i (with_word p r w)) (set qs i (with_register r t (get_or qs i no_process)))
+  register-set r w t h = register-made r w p.refs (get_or qs i no_process).refs t h row-stands.refs
 
 -- A stack that is not empty.
 pub record TopOf (c : ℕ → ℕ → Bool) (shared : List (List ℕ)) (mem : List ℕ) (low limit named place depth : ℕ) (stack : List Tree) : Type 0 where
