@@ -6,7 +6,7 @@ use Rattle.plain_term.specs.declared.item.Item.TheVariants.{Int, Atom, Pid, Nil,
 use Rattle.plain_term.specs.Measures.{bin_words}
 use Rattle.term_words.specs.Counted.{In, total}
 use Rattle.term_words.proofs.Totals.Members.{both-total, in-both, in-left, in-right}
-use Rattle.item_build.specs.Reading.{AreLed, bins_of, bytes_after, bytes_in, far_words, far_words_of, is_long, long_bytes}
+use Rattle.item_build.specs.Reading.{AreLed, bins_of, bytes_after, bytes_in, far_words, far_words_of, long_bytes}
 use Rattle.item_build.proofs.Meaning.Bytes.{bytes-len}
 use Rattle.one_space.specs.Entered.{records_from}
 

@@ -23,7 +23,7 @@ use Rattle.one_space.specs.Heap.{number_in, one_meaning}
 use Rattle.one_space.specs.declared.heap.OneHeap.{OneHeap}
 use Rattle.one_space.proofs.Processes.Changing.{made-remove, made-row, procs-remove}
 use Rattle.one_space.proofs.Processes.Turning.{TopOf, none-held, popped, register-set, row-stands, top-here, with_stack, with_word}
-use Rattle.one_space.proofs.OfHeap.Keeping.{half-inside, keeps-row, keeps-rows, keeps-same, laid-left, of_halves, places-moved, row-inside, rows-left, same-numbers, still-made, stood-by, with_proc}
+use Rattle.one_space.proofs.OfHeap.Keeping.{half-inside, keeps-row, keeps-rows, keeps-same, laid-left, moves-on, of_halves, places-moved, row-inside, rows-left, same-numbers, still-made, stood-by, with_proc}
 
 module _ (a : OneHeap) (lives : Lives one_meaning a) (row : ℕ) (there : row < length (one_meaning.numbers a)) (r : Reg) (p : Proc) (is : p ≡ get_or a.halves.procs.items row p) where
   less : row < length a.halves.procs.items
@@ -185,19 +185,8 @@ module _ (a : OneHeap) (lives : Lives one_meaning a) (row : ℕ) (there : row < 
       let places : places_in v.items ≤ places_in a.halves.procs.items =
       omega (arith, ap places_in items, sum_by-remove (λ o. o.depth + o.waiting) a.halves.procs.items row no_row less) in
       record {
-        goes = record {
-          words = refl;
-          whole = λ count more h up. record {
-            laid = laid-left a.halves lives.whole.laid v places;
-            places = omega (arith, h.places, capacity);
-            spares = omega (arith, h.spares, fewer, one_more);
-            boxes = omega (arith, h.boxes, boxes);
-            counted = omega (arith, h.counted, up);
-            made = rw items (made-remove count more (omega (arith, up)) a.halves.procs.items row h.made);
-            bins = h.bins;
-            funs = h.funs;
-          };
-        };
+        goes = moves-on a dropped (laid-left a.halves lives.whole.laid v places) refl capacity (omega (arith, fewer, one_more)) boxes
+            (λ count more h up. rw items (made-remove count more (omega (arith, up)) a.halves.procs.items row h)) refl refl (omega arith);
         rows = ap (λ z. numbers number_in z) items ∙ numbers-remove a.halves.procs.items row;
         idle = record { sweeps = refl; mem = refl; room = refl };
         gone = dropped-stands;

@@ -3,6 +3,7 @@ use Rattle.std.proofs.Common.{◌≡◌, ℕ, ◌≤◌, true, List, [], ◌∷�
 use Rattle.std.proofs.lemmas.Grind.{flat_map-append}
 use Rattle.std.proofs.lemmas.List.{append-nil, append_assoc, get_or-drop, get_or-take}
 use Rattle.plain_term.specs.Tree.{Tree, Trees}
+use Rattle.plain_term.specs.Tree.Trees.{end, ◌▹◌}
 use Rattle.plain_machine.specs.State.{Process, State}
 use Rattle.plain_machine.specs.Tightness.{ids_in, ids_in_all, funs_in, funs_in_all, held_trees}
 use Rattle.plain_machine.specs.Maps.{CountsOf, CountedBin, CountedFun, counts_text}
@@ -34,34 +35,23 @@ rise-differ mem (x ∷ vs) (first, rest) v w (inr i) (inr j) e = rise-differ mem
 
 -- What occurs in the trees of the roots is what occurs in all that lives.
 
-ids-onto : (ts : List Tree) (us : Trees) → ids_in_all (onto ts us) ≡ flat_map ids_in ts ++ ids_in_all us
-ids-onto [] us = refl
-ids-onto (t ∷ ts) us = ap (λ z. ids_in t ++ z) (ids-onto ts us) ∙ sym (append_assoc (ids_in t) (flat_map ids_in ts) (ids_in_all us))
-
-funs-onto : (ts : List Tree) (us : Trees) → funs_in_all (onto ts us) ≡ flat_map funs_in ts ++ funs_in_all us
-funs-onto [] us = refl
-funs-onto (t ∷ ts) us = ap (λ z. funs_in t ++ z) (funs-onto ts us) ∙ sym (append_assoc (funs_in t) (flat_map funs_in ts) (funs_in_all us))
-
 three : (f : Tree → List ℕ) (a b c : List Tree) (rest : List ℕ) → flat_map f a ++ (flat_map f b ++ (flat_map f c ++ rest)) ≡ flat_map f (a ++ (b ++ c)) ++ rest
 three f a b c rest =
     ap (λ z. flat_map f a ++ z) (sym (append_assoc (flat_map f b) (flat_map f c) rest) ∙ ap (λ z. z ++ rest) (sym (flat_map-append f b c)))
     ∙ (sym (append_assoc (flat_map f a) (flat_map f (b ++ c)) rest) ∙ ap (λ z. z ++ rest) (sym (flat_map-append f a (b ++ c))))
 
-ids-living : (qs : List Process) → ids_in_all (trees_of qs) ≡ flat_map ids_in (flat_map held_trees qs)
-ids-living [] = refl
-ids-living (q ∷ qs) =
-    ids-onto q.registers (onto q.stack (onto q.queue (trees_of qs)))
-    ∙ (ap (λ z. flat_map ids_in q.registers ++ z) (ids-onto q.stack (onto q.queue (trees_of qs)) ∙ ap (λ z. flat_map ids_in q.stack ++ z) (ids-onto q.queue (trees_of qs)))
-    ∙ (three ids_in q.registers q.stack q.queue (ids_in_all (trees_of qs))
-    ∙ (ap (λ z. flat_map ids_in (held_trees q) ++ z) (ids-living qs) ∙ sym (flat_map-append ids_in (held_trees q) (flat_map held_trees qs)))))
+module _ (f : Tree → List ℕ) (all : Trees → List ℕ) (none : all end ≡ []) (more : (t : Tree) (us : Trees) → all (t ▹ us) ≡ f t ++ all us) where
+  all-onto : (ts : List Tree) (us : Trees) → all (onto ts us) ≡ flat_map f ts ++ all us
+  all-onto [] us = refl
+  all-onto (t ∷ ts) us = more t (onto ts us) ∙ (ap (λ z. f t ++ z) (all-onto ts us) ∙ sym (append_assoc (f t) (flat_map f ts) (all us)))
 
-funs-living : (qs : List Process) → funs_in_all (trees_of qs) ≡ flat_map funs_in (flat_map held_trees qs)
-funs-living [] = refl
-funs-living (q ∷ qs) =
-    funs-onto q.registers (onto q.stack (onto q.queue (trees_of qs)))
-    ∙ (ap (λ z. flat_map funs_in q.registers ++ z) (funs-onto q.stack (onto q.queue (trees_of qs)) ∙ ap (λ z. flat_map funs_in q.stack ++ z) (funs-onto q.queue (trees_of qs)))
-    ∙ (three funs_in q.registers q.stack q.queue (funs_in_all (trees_of qs))
-    ∙ (ap (λ z. flat_map funs_in (held_trees q) ++ z) (funs-living qs) ∙ sym (flat_map-append funs_in (held_trees q) (flat_map held_trees qs)))))
+  all-living : (qs : List Process) → all (trees_of qs) ≡ flat_map f (flat_map held_trees qs)
+  all-living [] = none
+  all-living (q ∷ qs) =
+      all-onto q.registers (onto q.stack (onto q.queue (trees_of qs)))
+      ∙ (ap (λ z. flat_map f q.registers ++ z) (all-onto q.stack (onto q.queue (trees_of qs)) ∙ ap (λ z. flat_map f q.stack ++ z) (all-onto q.queue (trees_of qs)))
+      ∙ (three f q.registers q.stack q.queue (all (trees_of qs))
+      ∙ (ap (λ z. flat_map f (held_trees q) ++ z) (all-living qs) ∙ sym (flat_map-append f (held_trees q) (flat_map held_trees qs)))))
 
 module _ (named : ℕ) (h : Halves) (shared : List (List ℕ)) (qs : List Process) (o : HalvesStand named h shared qs) where
   -- Its tables can be told, where the names are known.
@@ -106,7 +96,8 @@ module _ (named : ℕ) (h : Halves) (s : State) (o : HalvesStand named h s.share
   counts-allowed names known =
       told-allowed s o.test h.mem (roots_of h) (trees_of s.processes) h.bins.items h.funs.items o.chained
       (roots-stand o.test s.shared h.mem h.room.end (end_of h) named h.procs.items s.processes o.processes)
-      (ids-living s.processes ∙ living-same ids_in) (funs-living s.processes ∙ living-same funs_in) (can-tell named h s.shared s.processes o s.names known) names
+      (all-living ids_in ids_in_all refl (λ t us. refl) s.processes ∙ living-same ids_in)
+      (all-living funs_in funs_in_all refl (λ t us. refl) s.processes ∙ living-same funs_in) (can-tell named h s.shared s.processes o s.names known) names
       (all-listed named h s.shared s.processes o) counts-exactly
 
 -- A word of a piece is that of the memory.

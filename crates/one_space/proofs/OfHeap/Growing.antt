@@ -24,7 +24,7 @@ use Rattle.one_space.proofs.Processes.Turning.{pushed, pushed-apart, with_stack,
 use Rattle.two_halves.specs.Queues.{HasEntered, Sends, with_queue}
 use Rattle.two_halves.specs.declared.halves.Halves.{Halves}
 use Rattle.two_halves.proofs.Standing.Stacks.{no_row}
-use Rattle.one_space.proofs.OfHeap.Keeping.{half-inside, keeps-replaced, laid-left, of_halves, places-moved, row-inside, rows-left, stood-by}
+use Rattle.one_space.proofs.OfHeap.Keeping.{half-inside, keeps-replaced, laid-left, moves-on, of_halves, places-moved, row-inside, rows-left, stood-by}
 
 numbers-push : (rows : List Proc) (p : Proc) (n : ℕ) → p.number ≡ n → numbers number_in (rows ++ p ∷ []) ≡ numbers number_in rows ++ n ∷ []
 numbers-push [] p n e = ap (λ z. z ∷ []) e
@@ -55,19 +55,8 @@ module _ (a : OneHeap) (lives : Lives one_meaning a) (few : length (one_meaning.
         let same : places_in v.items ≡ places_in a.halves.procs.items =
         omega (arith, ap places_in items, sum_by_push (λ o. o.depth + o.waiting) a.halves.procs.items p, depth, waiting) in
         record {
-          goes = record {
-            words = refl;
-            whole = λ count more h up. record {
-              laid = laid-left a.halves lives.whole.laid v (omega (arith, same));
-              places = omega (arith, h.places, capacity);
-              spares = omega (arith, h.spares, one, one_less);
-              boxes = omega (arith, h.boxes, boxes);
-              counted = omega (arith, h.counted, up);
-              made = rw items (made-push count more (omega (arith, up)) a.halves.procs.items p h.made (omega (arith, none)));
-              bins = h.bins;
-              funs = h.funs;
-            };
-          };
+          goes = moves-on a added (laid-left a.halves lives.whole.laid v (omega (arith, same))) refl capacity (omega (arith, one, one_less)) boxes
+              (λ count more h up. rw items (made-push count more (omega (arith, up)) a.halves.procs.items p h (omega (arith, none)))) refl refl (omega arith);
           rows = ap (λ z. numbers number_in z) items ∙ numbers-push a.halves.procs.items p n number;
           took = record { sweeps = refl; few = omega arith };
           made = added-stands;

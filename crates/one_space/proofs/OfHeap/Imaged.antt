@@ -190,13 +190,13 @@ module _ (mem : List ℕ) where
       → OwnersRise mem vs → FollowEachOther (pieces_by_place (map (record_piece mem) vs))
   records-follow c single vs are fit rise = follow-ordered (map (record_piece mem) vs)
       (each-two PiecesApart vs rise (λ v u i j less.
-          let size = piece-words mem v (record_words mem v) (fit v i) in
-          let other = piece-words mem u (record_words mem u) (fit u j) in
-          elim (records-apart c mem v (record_words mem v) u (record_words mem u) single (are v i) (are u j)) [
-            | inl e ↦ absurd (omega (arith, less, ap (owner_in mem) e))
-            | inr (inl before) ↦ inl (omega (arith, size, before))
-            | inr (inr behind) ↦ inr (omega (arith, other, behind))
-          ]))
+      let size = piece-words mem v (record_words mem v) (fit v i) in
+      let other = piece-words mem u (record_words mem u) (fit u j) in
+      elim (records-apart c mem v (record_words mem v) u (record_words mem u) single (are v i) (are u j)) [
+        | inl e ↦ absurd (omega (arith, less, ap (owner_in mem) e))
+        | inr (inl before) ↦ inl (omega (arith, size, before))
+        | inr (inr behind) ↦ inr (omega (arith, other, behind))
+      ]))
       (each-piece HasWords vs (λ v i. omega (arith, piece-words mem v (record_words mem v) (fit v i), record-some c mem v (record_words mem v) (are v i))))
 
 module _ (h : Halves) (laid : IsLaid h) where

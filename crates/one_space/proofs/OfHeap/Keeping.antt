@@ -10,7 +10,7 @@ use Rattle.numbered_rows.proofs.Rising.{number-read, numbers-len}
 use Rattle.two_halves.specs.Halves.{IsLaid, places_in, HalvesStand, ProcsStand, all_places, end_of, ProcStands}
 use Rattle.two_halves.specs.Collecting.{AreSameRows}
 use Rattle.two_halves.specs.declared.table.Proc.{Proc}
-use Rattle.heaps_api.specs.Changing.{KeepsRows}
+use Rattle.heaps_api.specs.Changing.{KeepsRows, MovesOn}
 use Rattle.one_space.specs.Heap.{HaveMade, number_in, one_meaning, FollowPlaces}
 use Rattle.one_space.specs.declared.heap.OneHeap.{OneHeap}
 use Rattle.one_space.proofs.Processes.Changing.{made-at, made-more, made-same, made-set, procs-numbers}
@@ -25,6 +25,26 @@ use Rattle.std.specs.List.{list_any}
 use Rattle.heaps_api.specs.Reading.{AreRegisters, AreWaiting}
 use Rattle.one_space.proofs.Processes.Turning.{row-stands}
 
+-- The number of words is as before, and rows and boxes are together as many.
+pub moves-on : (old new : OneHeap) → IsLaid new.halves → length new.halves.mem ≡ length old.halves.mem → vec_capacity new.halves.procs ≡ vec_capacity old.halves.procs
+    → vec_len new.spare + length new.halves.procs.items ≡ vec_len old.spare + length old.halves.procs.items → vec_capacity new.spare ≡ vec_capacity old.spare
+    → ((count more : ℕ) → HaveMade count old.halves.procs.items → count < more → HaveMade more new.halves.procs.items)
+    → vec_capacity new.halves.bins ≡ vec_capacity old.halves.bins → vec_capacity new.halves.funs ≡ vec_capacity old.halves.funs
+    → new.halves.sweeps ≤ old.halves.sweeps + 1 → MovesOn one_meaning old new
+moves-on old new laid len procs spares boxes made bins funs sweeps = record {
+  words = len;
+  whole = λ n more w less. record {
+    laid = laid;
+    places = omega (arith, w.places, procs);
+    spares = omega (arith, w.spares, spares);
+    boxes = omega (arith, w.boxes, boxes);
+    counted = omega (arith, w.counted, sweeps, less);
+    made = made n more w.made less;
+    bins = omega (arith, w.bins, bins, len);
+    funs = omega (arith, w.funs, funs, len);
+  };
+}
+
 pub keeps-rows : (old new : OneHeap) → IsLaid new.halves → length new.halves.mem ≡ length old.halves.mem → new.spare ≡ old.spare
     → vec_capacity new.halves.procs ≡ vec_capacity old.halves.procs → numbers_by number_in new.halves.procs.items ≡ numbers_by number_in old.halves.procs.items
     → ((count more : ℕ) → HaveMade count old.halves.procs.items → count < more → HaveMade more new.halves.procs.items)
@@ -33,22 +53,7 @@ pub keeps-rows : (old new : OneHeap) → IsLaid new.halves → length new.halves
 keeps-rows old new laid len spare procs numbers made bins funs sweeps =
     let count : length new.halves.procs.items ≡ length old.halves.procs.items =
     sym (numbers-len number_in new.halves.procs.items) ∙ (ap length numbers ∙ numbers-len number_in old.halves.procs.items) in
-    record {
-      goes = record {
-        words = len;
-        whole = λ n more w less. record {
-          laid = laid;
-          places = omega (arith, w.places, procs);
-          spares = omega (arith, w.spares, count, ap vec_len spare);
-          boxes = omega (arith, w.boxes, ap vec_capacity spare);
-          counted = omega (arith, w.counted, sweeps, less);
-          made = made n more w.made less;
-          bins = omega (arith, w.bins, bins, len);
-          funs = omega (arith, w.funs, funs, len);
-        };
-      };
-      rows = numbers;
-    }
+    record { goes = moves-on old new laid len procs (omega (arith, count, ap vec_len spare)) (ap vec_capacity spare) made bins funs sweeps; rows = numbers }
 
 -- One row is replaced by one with the same number.
 module _ (v : Vec Proc Global) (row : ℕ) (p2 old : Proc) (less : row < length v.items) (is : old ≡ get_or v.items row old) where

@@ -1,10 +1,9 @@
 -- A new term in a register: what the memory stands for after it, whatever was built.
-use Rattle.std.proofs.Common.{◌≡◌, ℕ, ◌+◌, ◌/◌, ◌<◌, ◌≤◌, ◌⊎◌, true, List, length, get_or, set, refl, sym, ◌∙◌, arith, inl, inr}
+use Rattle.std.proofs.Common.{◌≡◌, ℕ, ◌+◌, ◌/◌, ◌<◌, ◌≤◌, ◌⊎◌, true, List, length, get_or, set, refl, sym, arith, inl, inr}
 use Rattle.std.specs.Vec.{with_item}
-use Rattle.std.proofs.lemmas.List.{length-set}
 use Rattle.word_mem.specs.declared.ranges.Room.{Room}
 use Rattle.plain_term.specs.Tree.{Tree}
-use Rattle.plain_machine.specs.State.{Process, register, with_register}
+use Rattle.plain_machine.specs.State.{Process, register}
 use Rattle.term_order.specs.Named.{is_named}
 use Rattle.term_order.specs.Held.{HoldsTree}
 use Rattle.term_build.specs.Taken.{IsFree}
@@ -13,7 +12,6 @@ use Rattle.term_build.specs.Clear.{Uses}
 use Rattle.two_halves.specs.Halves.{HalvesStand, IsLaid, ProcStands, ProcsStand, end_of, free_in}
 use Rattle.two_halves.specs.declared.halves.Halves.{Halves}
 use Rattle.two_halves.specs.declared.table.Proc.{Proc}
-use Rattle.two_halves.proofs.Queued.Queuing.{row-set}
 use Rattle.two_halves.proofs.Standing.Apart.{apart-kept, apart-same}
 use Rattle.two_halves.proofs.Standing.Filled.{halves-filled, laid_out}
 use Rattle.two_halves.proofs.Standing.Keeping.{procs-on}
@@ -26,7 +24,7 @@ use Rattle.heaps_api.specs.declared.making.Make.{Make}
 use Rattle.one_space.specs.Heap.{one_meaning}
 use Rattle.one_space.specs.declared.heap.OneHeap.{OneHeap}
 use Rattle.one_space.proofs.OfHeap.Keeping.{keeps-replaced, of_halves, places-moved, row-inside, stood-by}
-use Rattle.heaps_api.proofs.Holding.{held-at, held-set}
+use Rattle.heaps_api.proofs.Holding.{held-at}
 use Rattle.one_space.proofs.Processes.Turning.{register-made, row-stands, with_made, with_tree_made}
 use Rattle.one_space.proofs.Memory.Resting.{rest-laid}
 

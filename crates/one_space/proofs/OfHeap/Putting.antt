@@ -15,7 +15,6 @@ use Rattle.std.proofs.lemmas.List.{length-map}
 use Rattle.plain_term.specs.Tree.{Tree, Trees}
 use Rattle.plain_machine.specs.declared.costs.TheConstants.{RECORD_COST}
 use Rattle.term_words.specs.Counted.{In, total}
-use Rattle.term_words.specs.Object.{IsRecord}
 use Rattle.term_words.proofs.Totals.Members.{both-total}
 use Rattle.term_order.specs.Named.{is_named, are_named}
 use Rattle.record_move.specs.Copies.{record_words}
@@ -64,11 +63,7 @@ module _ (named more : ℕ) (up : named ≤ more) where
 abbrev pub worded : Halves → (row : ℕ) → Proc → (r w : ℕ) → Halves
 worded h row p r w = laid_out h h.mem h.room (with_item h.procs row (with_word p r w))
 
--- A record has four words at least.
-record-least : (c : ℕ → ℕ → Bool) (mem : List ℕ) (v n : ℕ) → IsRecord c mem v n → 4 ≤ record_words mem v
-record-least c mem v n (inl (serial, bytes, o, e)) = omega (arith, o.header)
-record-least c mem v n (inr (name, arity, o, e)) = omega (arith, o.header)
-
+-- Records have four words each at the least.
 pub total-least : (f : ℕ → ℕ) (vs : List ℕ) → ((u : ℕ) → In u vs → 4 ≤ f u) → 4 * length vs ≤ total f vs
 total-least f [] least = omega arith
 total-least f (v ∷ vs) least = omega (arith, least v (inl refl), total-least f vs (λ u i. least u (inr i)))
@@ -76,10 +71,10 @@ total-least f (v ∷ vs) least = omega (arith, least v (inl refl), total-least f
 -- Where ten words are free the tables of records have room for one more.
 module _ (named : ℕ) (h : Halves) (shared : List (List ℕ)) (qs : List Process) (x : HalvesStand named h shared qs) (laid : IsLaid h) (ten : 10 ≤ free_in h) where
   bins-least : 4 * length h.bins.items ≤ total (record_words h.mem) h.bins.items
-  bins-least = total-least (record_words h.mem) h.bins.items (λ u i. let r = x.records.each_bin u i in record-least x.test h.mem u _ (inl (_, _, r.is, refl)))
+  bins-least = total-least (record_words h.mem) h.bins.items (λ u i. omega (arith, (x.records.each_bin u i).is.header))
 
   funs-least : 4 * length h.funs.items ≤ total (record_words h.mem) h.funs.items
-  funs-least = total-least (record_words h.mem) h.funs.items (λ u i. let r = x.records.each_fun u i in record-least x.test h.mem u 4 (inr (r.name, r.arity, r.is, refl)))
+  funs-least = total-least (record_words h.mem) h.funs.items (λ u i. omega (arith, (x.records.each_fun u i).is.header))
 
   pub bin-fits : half_of h / RECORD_COST ≤ vec_capacity h.bins → vec_len h.bins < vec_capacity h.bins
   bin-fits most = omega (arith, bins-least, both-total (record_words h.mem) h.bins.items h.funs.items, laid.fits, laid.front, laid.order, ten, most, h.bins.ok.0)

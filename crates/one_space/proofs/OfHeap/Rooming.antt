@@ -4,7 +4,7 @@ use Rattle.std.proofs.Math.Decide.{dec_le}
 use Rattle.std.proofs.lemmas.Bool.{leb-false, leb-true}
 use Rattle.std.proofs.lemmas.List.{length-map}
 use Rattle.plain_machine.specs.State.{Process, State}
-use Rattle.two_halves.specs.Halves.{IsLaid, free_in}
+use Rattle.two_halves.specs.Halves.{free_in}
 use Rattle.two_halves.specs.Reached.{ChainReached}
 use Rattle.two_halves.specs.Collecting.{CanCollect, Collects, LooksFor, MakesRoom}
 use Rattle.two_halves.specs.declared.halves.Halves.{Halves}
