@@ -1,6 +1,6 @@
 -- What a call makes of what the verbs stand for, by what it asked of the memory: it is refused before it asked, there is no space,
 -- something came into a register, or something was taken.
-use Rattle.std.proofs.Common.{◌≡◌, ℕ, ◌+◌, ◌*◌, ◌^◌, ◌<◌, ◌≤◌, Bool, true, false, true≢false, ◌&&◌, ◌||◌, nat_lt, List, [], length, map, get_or, set, Result, Ok, Err, inl, inr, refl, sym, ◌∙◌, ap, arith}
+use Rattle.std.proofs.Common.{◌≡◌, ℕ, ◌+◌, ◌*◌, ◌^◌, ◌<◌, ◌≤◌, Bool, true, false, true≢false, ◌&&◌, ◌||◌, nat_lt, List, [], length, map, set, Result, Ok, Err, inl, inr, refl, sym, ◌∙◌, ap, arith}
 use Rattle.std.proofs.lemmas.Bool.{lt-ltb}
 use Rattle.script_grammar.specs.declared.command.Command.{Command}
 use Rattle.script_grammar.specs.declared.command.Command.TheVariants.{Process as OfProcess}
@@ -91,7 +91,7 @@ module _ {H : Type 0} (m : Meaning H) where
   holds-passed b o counts f = let t = passes-some o (VerbsStand m b) f in record { counts = counts; state = t.0; stands = t.1 }
 
   -- The verbs are counted after calls of the memory that keep its rows.
-  pub counts-stay : (b c : Verbs H) → IsCounted m b → m.numbers c.heaps ≡ m.numbers b.heaps → c.row ≡ b.row → c.next ≡ b.next → b.calls ≤ c.calls
+  pub counts-stay : (b c : Verbs H) → IsCounted m b → m.numbers c.heaps ≡ m.numbers b.heaps → c.scratch ≡ b.scratch → c.next ≡ b.next → b.calls ≤ c.calls
       → c.serials ≡ b.serials → m.whole (2 * c.calls) c.heaps → IsCounted m c
   counts-stay b c k rows row next calls serials whole = record {
     enough = rw row k.enough;

@@ -1,9 +1,7 @@
 -- A fun in a register, whose environment are terms of registers.
-use Rattle.std.proofs.Common.{Vec, ◌≡◌, ℕ, suc, ◌+◌, ◌<◌, ◌≤◌, Bool, true, nat_lt, max, List, [], ◌∷◌, length, map, get_or, set, refl, sym, ◌∙◌, ap, subst, arith}
+use Rattle.std.proofs.Common.{◌≡◌, ℕ, suc, ◌+◌, ◌<◌, ◌≤◌, Bool, true, nat_lt, max, List, [], ◌∷◌, length, map, get_or, set, refl, sym, ◌∙◌, ap, subst, arith}
 use Rattle.std.proofs.lemmas.Bool.{and_from, lt-ltb}
 use Rattle.std.proofs.lemmas.List.{length-map}
-use Rattle.std.specs.Vec.{vec_capacity}
-use Rattle.std.specs.declared.alloc.Global.{Global}
 use Rattle.plain_term.specs.declared.item.Item.{Item}
 use Rattle.plain_term.specs.declared.item.Item.TheVariants as item
 use Rattle.plain_term.specs.Tree.{Tree, Trees}
@@ -14,23 +12,19 @@ use Rattle.term_order.specs.Held.{HoldsTree}
 use Rattle.term_words.specs.Stands.{AllStand}
 use Rattle.plain_machine.specs.State.{Process, register, with_register}
 use Rattle.space_api.specs.Calls.{IsEnv}
-use Rattle.numbered_rows.specs.Numbers.{numbers as numbers_by}
-use Rattle.two_halves.specs.Halves.{HalvesStand, IsLaid, free_in}
+use Rattle.two_halves.specs.Halves.{HalvesStand, free_in}
 use Rattle.two_halves.specs.Adding.{Adds, Gets, IsNamedIn}
-use Rattle.two_halves.specs.Queues.{with_row}
 use Rattle.two_halves.specs.declared.halves.Halves.{Halves}
 use Rattle.two_halves.specs.declared.table.Proc.{Proc}
 use Rattle.heaps_api.specs.Meaning.{CanAsk, Stood}
-use Rattle.heaps_api.specs.Changing.{GainsFun, KeepsRows, process_at, register_trees}
+use Rattle.heaps_api.specs.Changing.{GainsFun, process_at, register_trees}
 use Rattle.one_space.specs.Gathered.{held_word}
-use Rattle.one_space.specs.Heap.{HaveMade, number_in, one_meaning}
+use Rattle.one_space.specs.Heap.{one_meaning}
 use Rattle.one_space.specs.declared.heap.OneHeap.{OneHeap}
-use Rattle.one_space.proofs.OfHeap.Keeping.{keeps-rows, places-moved, same-numbers, still-made}
-use Rattle.one_space.proofs.OfHeap.Making.{laid_in, register-said, row-less, row-said}
+use Rattle.one_space.proofs.OfHeap.Making.{register-said, row-said}
 use Rattle.one_space.proofs.OfHeap.Putting.{stood-worded, word-stands}
 use Rattle.one_space.proofs.OfHeap.Sharing.{added-within, worded-keeps, worded_in}
 use Rattle.one_space.proofs.OfHeap.Widening.{halves-widened, stood-widened}
-use Rattle.one_space.proofs.Processes.Turning.{with_word}
 
 -- The registers of an environment are those that its items name.
 pub same-held : (rs ss : List ℕ) → map item.Held rs ≡ map item.Held ss → rs ≡ ss

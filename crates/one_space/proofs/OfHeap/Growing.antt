@@ -72,7 +72,7 @@ module _ (a : OneHeap) (lives : Lives one_meaning a) (few : length (one_meaning.
             };
           };
           rows = ap (λ z. numbers number_in z) items ∙ numbers-push a.halves.procs.items p n number;
-          took = record { sweeps = refl; few = omega arith };
+          took = record { sweeps = refl; room = refl };
           made = added-stands;
         }
 

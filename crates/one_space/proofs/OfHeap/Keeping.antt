@@ -3,7 +3,6 @@
 use Rattle.std.proofs.Common.{Vec, ◌≡◌, ℕ, ◌+◌, ◌<◌, ◌≤◌, List, [], ◌∷◌, length, get_or, refl, sym, ◌∙◌, ap, arith}
 use Rattle.std.specs.Vec.{vec_len, vec_capacity, with_item}
 use Rattle.std.specs.declared.alloc.Global.{Global}
-use Rattle.std.proofs.lemmas.List.{length-set}
 use Rattle.std.proofs.lemmas.List.Sums.{sum_by-set}
 use Rattle.numbered_rows.specs.Numbers.{numbers as numbers_by}
 use Rattle.numbered_rows.proofs.Changing.{numbers-set}

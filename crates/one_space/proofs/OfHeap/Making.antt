@@ -9,7 +9,7 @@ use Rattle.term_order.specs.Named.{is_named}
 use Rattle.term_order.specs.Held.{HoldsTree}
 use Rattle.term_build.specs.Taken.{IsFree}
 use Rattle.term_build.specs.Grows.{Built}
-use Rattle.term_build.specs.Clear.{IsRoom, Uses}
+use Rattle.term_build.specs.Clear.{Uses}
 use Rattle.two_halves.specs.Halves.{HalvesStand, IsLaid, ProcStands, ProcsStand, end_of, free_in}
 use Rattle.two_halves.specs.declared.halves.Halves.{Halves}
 use Rattle.two_halves.specs.declared.table.Proc.{Proc}

@@ -1,5 +1,5 @@
 -- The first heap stands for the first state, and is whole.
-use Rattle.std.proofs.Common.{◌≡◌, ℕ, zero, suc, ◌<◌, ◌≤◌, ◌%◌, ◌/◌, Bool, false, List, [], ◌∷◌, ◌++◌, length, map, get_or, refl, sym, ◌∙◌, ap, subst, arith, inl}
+use Rattle.std.proofs.Common.{◌≡◌, ℕ, zero, suc, ◌<◌, ◌≤◌, ◌%◌, ◌/◌, Bool, false, List, [], ◌∷◌, ◌++◌, length, get_or, refl, sym, ◌∙◌, ap, subst, arith, inl}
 use Rattle.std.proofs.lemmas.Bool.{false≢true}
 use Rattle.std.proofs.lemmas.List.{length-replicate}
 use Rattle.std.specs.Vec.{vec_len}
@@ -10,18 +10,15 @@ use Rattle.term_words.specs.Object.{IsRecord}
 use Rattle.term_words.specs.Counted.{In, total}
 use Rattle.shared_rec.proofs.Records.{record-first}
 use Rattle.record_move.specs.Copies.{record_words}
-use Rattle.store_image.specs.Image.{HoldsNothing, pieces_by_place}
 use Rattle.heaps_api.specs.Meaning.{Stood, no_process}
 use Rattle.process_verbs.specs.Verbs.{Holds, VerbsStand}
-use Rattle.process_verbs.specs.Listing.{image}
 use Rattle.process_verbs.specs.declared.verbs.Verbs.{Verbs}
 use Rattle.two_halves.specs.Stack.{AreApart}
 use Rattle.two_halves.specs.Halves.{HalvesStand, IsLaid, ProcsStand, RecordsStand, all_places, end_of, places_in, records_of}
 use Rattle.two_halves.specs.declared.table.Proc.{Proc}
 use Rattle.two_halves.proofs.Standing.Apart.{apart-more}
 use Rattle.one_space.specs.Heap.{AreWholeHalves, HaveMade, number_in, one_meaning}
-use Rattle.one_space.specs.Image.{record_piece}
-use Rattle.one_space.specs.Space.{AllFree, IsFirstHeap}
+use Rattle.one_space.specs.Space.{IsFirstHeap}
 use Rattle.one_space.specs.declared.heap.OneHeap.{OneHeap}
 use Rattle.one_space.proofs.Processes.Changing.{fresh-stands}
 
@@ -109,7 +106,7 @@ module _ (words : ℕ) (h : OneHeap) (f : IsFirstHeap words h) where
         }
 
     -- The verbs over it.
-    module _ (b : Verbs OneHeap) (is : b.heaps ≡ h) (row : vec_len b.row ≡ 4096) (next : b.next ≡ 2) (serials : b.serials ≡ 0) (named : b.named ≡ 0) (calls : b.calls ≡ 0)
+    module _ (b : Verbs OneHeap) (is : b.heaps ≡ h) (row : vec_len b.scratch ≡ 4096) (next : b.next ≡ 2) (serials : b.serials ≡ 0) (named : b.named ≡ 0) (calls : b.calls ≡ 0)
         (swept : b.swept ≡ false) where
       numbers-first : numbers number_in b.heaps.halves.procs.items ≡ 1 ∷ []
       numbers-first = ap (λ x. numbers number_in x.halves.procs.items) is ∙ first-stood.rows

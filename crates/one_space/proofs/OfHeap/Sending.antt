@@ -50,7 +50,7 @@ module _ (a : OneHeap) (ask : CanAsk one_meaning a) (row : ℕ) (less : row < le
       keeps-rows a (laid_in a h) s.laid s.same_len refl (ap (λ (z : Vec Proc Global). vec_capacity z) rows) sent-numbers sent-made (ap (λ z. vec_capacity z) s.bins)
       (ap (λ z. vec_capacity z) s.funs) (omega (arith, s.sweeps))
 
-  module _ (named : ℕ) (shared : List (List ℕ)) (qs : List Process) (x : Stood one_meaning named a shared qs) (t : Tree) (held : HoldsThere one_meaning named a shared qs x w t) where
+  module _ (named : ℕ) (shared : List (List ℕ)) (qs : List Process) (x : Stood one_meaning named a shared qs) (from : ℕ) (t : Tree) (held : HoldsThere one_meaning named a shared qs x from w t) where
     -- The process with the message.
     abbrev q2 : Process
     q2 = record (process_at qs row) { queue = (process_at qs row).queue ++ t ∷ [] }
@@ -80,5 +80,5 @@ module _ (a : OneHeap) (ask : CanAsk one_meaning a) (row : ℕ) (less : row < le
   sends-to = record {
     stays = sent-keeps;
     sent = record { sweeps = s.sweeps; word = s.word; alone = s.alone };
-    entered = λ named shared qs x t held. (sent-took named shared qs x t held, sent-stood named shared qs x t held);
+    entered = λ named shared qs x from t held. (sent-took named shared qs x from t held, sent-stood named shared qs x from t held);
   }

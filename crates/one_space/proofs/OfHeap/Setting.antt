@@ -36,7 +36,7 @@ module _ (a : OneHeap) (ask : CanAsk one_meaning a) (row : ℕ) (less : row < le
       keeps-rows a put_in put-laid refl refl refl (same-numbers a.halves.procs row (with_word p r.0 w) p under is refl)
       (still-made a.halves.procs row (with_word p r.0 w) p under is (omega arith)) refl refl (omega arith)
 
-  module _ (named : ℕ) (shared : List (List ℕ)) (qs : List Process) (x : Stood one_meaning named a shared qs) (t : Tree) (held : HoldsThere one_meaning named a shared qs x w t) where
+  module _ (named : ℕ) (shared : List (List ℕ)) (qs : List Process) (x : Stood one_meaning named a shared qs) (t : Tree) (held : HoldsThere one_meaning named a shared qs x row w t) where
     put-halves : HalvesStand named put_in.halves shared (set qs row (with_register r.0 t (process_at qs row)))
     put-halves =
         let o = x.is in

@@ -71,9 +71,9 @@ module _ {H : Type 0} (m : Meaning H) (b : Verbs H) (holds : Holds m b) (seat : 
   q_in s = process_at s.processes seat.row
 
   abbrev test_in : (s : State) → VerbsStand m b s → ℕ → ℕ → Bool
-  test_in s o = m.test b.named b.heaps s.shared s.processes o.processes.is
+  test_in s o = m.test b.named b.heaps s.shared s.processes o.processes.is seat.row
 
-  reg-held : (s : State) (o : VerbsStand m b s) (i : ℕ) → i < 16 → HoldsThere m b.named b.heaps s.shared s.processes o.processes (get_or regs i 0) (register i (q_in s))
+  reg-held : (s : State) (o : VerbsStand m b s) (i : ℕ) → i < 16 → HoldsThere m b.named b.heaps s.shared s.processes o.processes seat.row (get_or regs i 0) (register i (q_in s))
   reg-held s o i less =
       held-of (test_in s o) s.shared (m.mem b.heaps) b.named regs (q_in s).registers i (omega (arith, less, are.count)) (are.hold b.named s.shared s.processes o.processes)
 
@@ -134,7 +134,7 @@ module _ {H : Type 0} (m : Meaning H) (b : Verbs H) (holds : Holds m b) (seat : 
     module _ (w : ℕ) (is : found ≡ Some w)
         (is_part : (c : ℕ → ℕ → Bool) (shared : List (List ℕ)) (t : Tree) → Stands c shared mem (get_or regs a.0 0) t → IsPart c shared mem t w) where
       -- The word holds a part of the register's tree.
-      pub part-held : (s : State) (o : VerbsStand m b s) → HoldsSome m b w s o
+      pub part-held : (s : State) (o : VerbsStand m b s) → HoldsSome m b seat.row w s o
       part-held s o =
           let part = is_part (test_in s o) s.shared (register a.0 (q_in s)) (reg-stands s o a.0 small) in
           let P : List ℕ → Type 0 = λ z. Stands (test_in s o) s.shared z w part.tree in
@@ -151,7 +151,7 @@ module _ {H : Type 0} (m : Meaning H) (b : Verbs H) (holds : Holds m b) (seat : 
             let other = part-held s h.0 in
             let same : other.tree ≡ here.tree = single (test_in s h.0) (test_in s h.0) s.shared s.shared (m.mem b.heaps) w other.tree here.tree other.held.standing
             (subst P mem_is here.standing) in
-            let T : Tree → Type 0 = λ z. HoldsThere m b.named b.heaps s.shared s.processes h.0.processes w z in
+            let T : Tree → Type 0 = λ z. HoldsThere m b.named b.heaps s.shared s.processes h.0.processes seat.row w z in
             inl (f.follows s v terms names here.tree h.0 (subst T same other.held) (ap (λ z. choose z s (said (OfProcess seat.pid v) terms names) (q_in s) r.0) here.is));
         books = f.books;
       }

@@ -37,29 +37,29 @@ none-there (Some u) e = absurd (true≢false e)
 
 module _ {H : Type 0} (m : Meaning H) (b : Verbs H) (holds : Holds m b) (seat : Seat) (x : Sits m b seat) where
   -- The word of a register of the seat's process.
-  module _ (a : Reg) (w : ℕ) (word : (s : State) (o : VerbsStand m b s) → IsHeld m b s o seat.pid a w) where
-    pub held-at : (s : State) (o : VerbsStand m b s) → HoldsThere m b.named b.heaps s.shared s.processes o.processes w (register a.0 (process_at s.processes seat.row))
+  module _ (a : Reg) (w : ℕ) (word : (s : State) (o : VerbsStand m b s) → IsHeld m b s o seat a w) where
+    pub held-at : (s : State) (o : VerbsStand m b s) → HoldsThere m b.named b.heaps s.shared s.processes o.processes seat.row w (register a.0 (process_at s.processes seat.row))
     held-at s o =
-        let k : IsHeld m b s o seat.pid a w = word s o in
+        let k : IsHeld m b s o seat a w = word s o in
         let same : k.process ≡ process_at s.processes seat.row = same_Some k.process (process_at s.processes seat.row) (sym k.found ∙ found-there m b s o holds.counts seat x) in
-        let P : Process → Type 0 = λ z. HoldsThere m b.named b.heaps s.shared s.processes o.processes w (register a.0 z) in
+        let P : Process → Type 0 = λ z. HoldsThere m b.named b.heaps s.shared s.processes o.processes seat.row w (register a.0 z) in
         subst P same k.held
 
     module _ (mem : List ℕ) (mem_is : mem ≡ m.mem b.heaps) where
       pub stands-at : (s : State) (o : VerbsStand m b s)
-          → Stands (m.test b.named b.heaps s.shared s.processes o.processes.is) s.shared mem w (register a.0 (process_at s.processes seat.row))
+          → Stands (m.test b.named b.heaps s.shared s.processes o.processes.is seat.row) s.shared mem w (register a.0 (process_at s.processes seat.row))
       stands-at s o = rw mem_is (held-at s o).standing
 
       pub word-term : IsTerm mem w
       word-term =
           let s : State = holds.state in
           let o : VerbsStand m b s = holds.stands in
-          is-term (m.test b.named b.heaps s.shared s.processes o.processes.is) s.shared mem w (register a.0 (process_at s.processes seat.row)) (stands-at s o)
+          is-term (m.test b.named b.heaps s.shared s.processes o.processes.is seat.row) s.shared mem w (register a.0 (process_at s.processes seat.row)) (stands-at s o)
 
       module _ (r : Reg) (offset len : ℕ) (has : Bool)
           (tells : (c : ℕ → ℕ → Bool) (shared : List (List ℕ)) (t : Tree) → Stands c shared mem w t → has ≡ is_some (part_in shared offset len t)) where
         has-there : (s : State) (o : VerbsStand m b s) → has ≡ is_some (part_in s.shared offset len (register a.0 (process_at s.processes seat.row)))
-        has-there s o = tells (m.test b.named b.heaps s.shared s.processes o.processes.is) s.shared (register a.0 (process_at s.processes seat.row)) (stands-at s o)
+        has-there s o = tells (m.test b.named b.heaps s.shared s.processes o.processes.is seat.row) s.shared (register a.0 (process_at s.processes seat.row)) (stands-at s o)
 
         pub cut-refused : has ≡ false → Does {A = Unit {0}} m (OfProcess seat.pid (verb.Choose r a (pick.Part offset len))) b b (Err BadArg)
         cut-refused no_part = refuses m b holds seat x (verb.Choose r a (pick.Part offset len)) (Unit {0}) BadArg (λ s terms names o.

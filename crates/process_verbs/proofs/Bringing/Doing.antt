@@ -104,16 +104,16 @@ module _ {H : Type 0} (m : Meaning H) (b : Verbs H) (holds : Holds m b) (seat : 
   pid-below = omega (arith, number-below (m.numbers b.heaps) seat.row b.next x.within holds.counts.below, x.number, holds.counts.numbered)
 
   module _ (w : ℕ) (word : w ≡ pid_word seat.pid) (few : seat.pid < 2 ^ 41) where
-    own-held : (s : State) (o : VerbsStand m b s) → HoldsThere m b.named b.heaps s.shared s.processes o.processes w (Pid (process_at s.processes seat.row).number)
+    own-held : (s : State) (o : VerbsStand m b s) → HoldsThere m b.named b.heaps s.shared s.processes o.processes seat.row w (Pid (process_at s.processes seat.row).number)
     own-held s o =
         let n : ℕ = (process_at s.processes seat.row).number in
         let number : n ≡ seat.pid = number-there m b s o holds.counts seat x in
         record {
-          standing = stands-pid (m.test b.named b.heaps s.shared s.processes o.processes.is) s.shared (m.mem b.heaps) w n (omega (arith, number, few)) (word ∙ ap pid_word (sym number));
+          standing = stands-pid (m.test b.named b.heaps s.shared s.processes o.processes.is seat.row) s.shared (m.mem b.heaps) w n (omega (arith, number, few)) (word ∙ ap pid_word (sym number));
           names = refl;
         }
 
-    pub own-some : (s : State) (o : VerbsStand m b s) → HoldsSome m b w s o
+    pub own-some : (s : State) (o : VerbsStand m b s) → HoldsSome m b seat.row w s o
     own-some s o = record { tree = Pid (process_at s.processes seat.row).number; held = own-held s o }
 
     pub own-does : (c : Verbs H) → PutsInto m seat r w b c → DoesAlways m (OfProcess seat.pid (verb.Own r)) b c

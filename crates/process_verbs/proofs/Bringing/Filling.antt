@@ -54,7 +54,7 @@ record-tree bytes shared long = rw (is (length bytes) long) refl
 
 -- After a search, with another memory and a shared binary more.
 abbrev pub binned : {H : Type 0} → Verbs H → H → Verbs H
-binned b h = record { heaps = h; row = b.row; next = b.next; serials = b.serials + 1; named = b.named; calls = b.calls; swept = false }
+binned b h = record { heaps = h; scratch = b.scratch; next = b.next; serials = b.serials + 1; named = b.named; calls = b.calls; swept = false }
 
 module _ {H : Type 0} (m : Meaning H) (b : Verbs H) (holds : Holds m b) (seat : Seat) (x : Sits m b seat) (r : Reg) (len byte : ℕ)
     (long : 64 < len) (most : len ≤ MOST_FILL) (small : byte ≤ MOST_BYTE) where

@@ -47,7 +47,7 @@ trees-are names shared q (r ∷ rs) = ap (λ z. register r q ▹ z) (trees-are n
 
 -- After a search, with another memory and row, and a number above all names.
 abbrev pub funned : {H : Type 0} → Verbs H → H → Vec ℕ Global → ℕ → Verbs H
-funned b h row named = record { heaps = h; row = row; next = b.next; serials = b.serials; named = named; calls = b.calls; swept = false }
+funned b h row named = record { heaps = h; scratch = row; next = b.next; serials = b.serials; named = named; calls = b.calls; swept = false }
 
 module _ {H : Type 0} (m : Meaning H) (b : Verbs H) (holds : Holds m b) (seat : Seat) (x : Sits m b seat) (r : Reg) (name arity : ℕ) (env : List Item) where
   abbrev v : Verb
@@ -92,7 +92,7 @@ module _ {H : Type 0} (m : Meaning H) (b : Verbs H) (holds : Holds m b) (seat : 
           (grow-there m b holds seat x v s o terms names ∙ omega (arith, asked names terms has)) (rw (at-seat m b holds seat x v s o terms names, fun-is s terms names has) refl))
 
       module _ (h : H) (looks : Looks m wanted b.heaps h true) (h2 : H) (gains : GainsFun m seat.row r name arity env h h2)
-          (row : Vec ℕ Global) (same_row : vec_len row ≡ vec_len b.row) (named : ℕ) (above : named ≡ max b.named (name + 1)) where
+          (row : Vec ℕ Global) (same_row : vec_len row ≡ vec_len b.scratch) (named : ℕ) (above : named ≡ max b.named (name + 1)) where
         fun-counts : IsCounted m (funned (roomed b h) h2 row named)
         fun-counts =
             let rows : m.numbers h2 ≡ m.numbers b.heaps = gains.stays.rows ∙ looks.stays.rows in
@@ -132,17 +132,17 @@ module _ {H : Type 0} (m : Meaning H) (b : Verbs H) (holds : Holds m b) (seat : 
             } in
             record { counts = fun-counts; state = _; stands = fun-stands holds.state (held_terms is_env.registers) names holds.stands has }
 
-      module _ (u : Unit {0}) (is : res ≡ Ok u) (h2 : H) (gains : GainsFun m seat.row r name arity env c.heaps h2) (row : Vec ℕ Global) (same_row : vec_len row ≡ vec_len c.row)
+      module _ (u : Unit {0}) (is : res ≡ Ok u) (h2 : H) (gains : GainsFun m seat.row r name arity env c.heaps h2) (row : Vec ℕ Global) (same_row : vec_len row ≡ vec_len c.scratch)
           (named : ℕ) (above : named ≡ max c.named (name + 1)) where
         pub fun-done : (s : State) (terms : Terms) (names : List (List ℕ)) → VerbsStand m b s → HasEnv names name env terms
             → Becomes {A = Unit {0}} (memory_words m b) s (line terms names) (Ok tt) (VerbsStand m (funned c h2 row named))
         fun-done s terms names o has =
-            let P : Verbs H → Type 0 = λ z. GainsFun m seat.row r name arity env z.heaps h2 → vec_len row ≡ vec_len z.row → named ≡ max z.named (name + 1)
+            let P : Verbs H → Type 0 = λ z. GainsFun m seat.row r name arity env z.heaps h2 → vec_len row ≡ vec_len z.scratch → named ≡ max z.named (name + 1)
             → Becomes {A = Unit {0}} (memory_words m b) s (line terms names) (Ok tt) (VerbsStand m (funned z h2 row named)) in
             subst P (sym f.same) (λ gain same up. fun-becomes f.heaps (searched-some m b holds wanted c res f u is) h2 gain row same named up s terms names o has) gains same_row above
 
         pub fun-holds : IsEnv env → Holds m (funned c h2 row named)
         fun-holds is_env =
-            let P : Verbs H → Type 0 = λ z. GainsFun m seat.row r name arity env z.heaps h2 → vec_len row ≡ vec_len z.row → named ≡ max z.named (name + 1)
+            let P : Verbs H → Type 0 = λ z. GainsFun m seat.row r name arity env z.heaps h2 → vec_len row ≡ vec_len z.scratch → named ≡ max z.named (name + 1)
             → Holds m (funned z h2 row named) in
             subst P (sym f.same) (λ gain same up. fun-whole f.heaps (searched-some m b holds wanted c res f u is) h2 gain row same named up is_env) gains same_row above

@@ -1,5 +1,5 @@
 -- A term is built or put in a register, or there is no space for it: what the shared steps of verbs leave.
-use Rattle.std.proofs.Common.{◌≡◌, ℕ, zero, suc, ◌+◌, ◌*◌, ◌^◌, ◌<◌, ◌≤◌, Bool, true, false, true≢false, List, [], ◌∷◌, map, set, Result, Ok, Err, IsErrAnd, refl, sym, ◌∙◌, ap, subst, arith, inl}
+use Rattle.std.proofs.Common.{◌≡◌, ℕ, ◌+◌, ◌*◌, ◌^◌, ◌<◌, ◌≤◌, Bool, true, false, true≢false, List, [], map, set, Result, Ok, Err, IsErrAnd, refl, sym, ◌∙◌, ap, subst, arith, inl}
 use Rattle.plain_term.specs.Tree.{Tree, pairs_len}
 use Rattle.script_grammar.specs.declared.command.Command.TheVariants.{Process as OfProcess}
 use Rattle.script_grammar.specs.declared.command.Reg.{Reg}
@@ -12,7 +12,7 @@ use Rattle.script_grammar.specs.Written.Terms.{end}
 use Rattle.plain_machine.specs.State.{Process, State, with_process, with_register}
 use Rattle.plain_machine.specs.Step.{settled}
 use Rattle.plain_machine.specs.Laws.{AreWithin}
-use Rattle.plain_machine.proofs.Properly.Holding.{put-within, split-within}
+use Rattle.plain_machine.proofs.Properly.Holding.{put-within}
 use Rattle.space_api.specs.Calls.{said}
 use Rattle.space_api.specs.declared.space.Seat.{Seat}
 use Rattle.term_maps.specs.declared.sorted.Spot.{Spot}
@@ -21,7 +21,6 @@ use Rattle.term_verbs.specs.Placed.{count_placed}
 use Rattle.heaps_api.specs.Meaning.{CanAsk, HoldsThere, Meaning, Stood}
 use Rattle.heaps_api.specs.Changing.{CanMake, Gains, Looks, PutsWord, process_at}
 use Rattle.heaps_api.specs.Making.{CanReckon, IsMadeOf, with_made_in, words_of_make}
-use Rattle.heaps_api.specs.Reading.{waiting_trees}
 use Rattle.heaps_api.specs.Wanted.{words_of_want}
 use Rattle.heaps_api.specs.declared.making.Make.{Make}
 use Rattle.heaps_api.specs.declared.making.Make.TheVariants as make
@@ -96,13 +95,13 @@ module _ {H : Type 0} (m : Meaning H) (b : Verbs H) (holds : Holds m b) where
 
     module _ (r : Reg) (w : ℕ) (h : H) (puts : PutsWord m seat.row r w b.heaps h) where
       word-stands : (s : State) (v : Verb) (terms : Terms) (names : List (List ℕ)) (t : Tree) (o : VerbsStand m b s)
-          → HoldsThere m b.named b.heaps s.shared s.processes o.processes w t
+          → HoldsThere m b.named b.heaps s.shared s.processes o.processes seat.row w t
           → VerbsStand m (changed b h) (settled (said (OfProcess seat.pid v) terms names) (with_process (with_register r.0 t (process_at s.processes seat.row)) s))
       word-stands s v terms names t o held =
           seat-stands s o v terms names (with_register r.0 t (process_at s.processes seat.row)) h refl (puts.put b.named s.shared s.processes o.processes t held)
           (within-at s.shared s.processes seat.row o.within)
 
-      pub word-puts : ((s : State) (o : VerbsStand m b s) → HoldsSome m b w s o) → PutsInto m seat r w b (changed b h)
+      pub word-puts : ((s : State) (o : VerbsStand m b s) → HoldsSome m b seat.row w s o) → PutsInto m seat r w b (changed b h)
       word-puts some = record {
         holds = record {
           counts = counts-stay m b (changed b h) holds.counts puts.stays.rows refl refl (omega arith) refl
@@ -172,7 +171,7 @@ same-error (Err y) e is = ap Err is
 
 -- After a search, with another memory.
 abbrev pub moved : {H : Type 0} → Verbs H → H → Verbs H
-moved b h = record { heaps = h; row = b.row; next = b.next; serials = b.serials; named = b.named; calls = b.calls; swept = false }
+moved b h = record { heaps = h; scratch = b.scratch; next = b.next; serials = b.serials; named = b.named; calls = b.calls; swept = false }
 
 -- What a search leaves.
 module _ {H : Type 0} (m : Meaning H) (b : Verbs H) (holds : Holds m b) (w : Want) (c : Verbs H) (r : Result (Unit {0}) Refusal) (f : Searches m w b c r) where

@@ -136,7 +136,7 @@ module _ {H : Type 0} (m : Meaning H) (b : Verbs H) (holds : Holds m b) (seat : 
       at-proper names s.shared q.registers a ((found-proper names s.shared seat.pid s.processes q live.held live.within (found-there m b s o holds.counts seat x)).registers)
 
   module _ (mem : List ℕ) (mem_is : mem ≡ m.mem b.heaps) (r a k v : Reg)
-      (w : ℕ) (word : (s : State) (o : VerbsStand m b s) → IsHeld m b s o seat.pid a w) (j : ℕ) (key : (s : State) (o : VerbsStand m b s) → IsHeld m b s o seat.pid k j)
+      (w : ℕ) (word : (s : State) (o : VerbsStand m b s) → IsHeld m b s o seat a w) (j : ℕ) (key : (s : State) (o : VerbsStand m b s) → IsHeld m b s o seat k j)
       (names : List (List ℕ)) where
     -- The verb, and its line.
     abbrev put_verb : Verb
@@ -154,7 +154,7 @@ module _ {H : Type 0} (m : Meaning H) (b : Verbs H) (holds : Holds m b) (seat : 
         let s : State = holds.state in
         let o : VerbsStand m b s = holds.stands in
         let q : Process = seated_in s in
-        let c : ℕ → ℕ → Bool = m.test b.named b.heaps s.shared s.processes o.processes.is in
+        let c : ℕ → ℕ → Bool = m.test b.named b.heaps s.shared s.processes o.processes.is seat.row in
         record {
           shared = s.shared;
           tree = register a.0 q;
@@ -173,7 +173,7 @@ module _ {H : Type 0} (m : Meaning H) (b : Verbs H) (holds : Holds m b) (seat : 
         (is_place : (c : ℕ → ℕ → Bool) (shared : List (List ℕ)) (t u : Tree) → Stands c shared mem w t → Stands c shared mem j u → IsPlaceInMap names shared t u result) where
       place-there : (s : State) (o : VerbsStand m b s) → IsPlaceInMap names s.shared (register a.0 (seated_in s)) (register k.0 (seated_in s)) result
       place-there s o =
-          is_place (m.test b.named b.heaps s.shared s.processes o.processes.is) s.shared (register a.0 (seated_in s)) (register k.0 (seated_in s))
+          is_place (m.test b.named b.heaps s.shared s.processes o.processes.is seat.row) s.shared (register a.0 (seated_in s)) (register k.0 (seated_in s))
           (stands-at m b holds seat x a w word mem mem_is s o) (stands-at m b holds seat x k j key mem mem_is s o)
 
       -- No pair is put.

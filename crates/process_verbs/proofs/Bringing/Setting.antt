@@ -70,7 +70,7 @@ no-nospace stop.Size = refl
 
 -- After a search, with another memory and row, more shared binaries, and a number above all names.
 abbrev pub termed : {H : Type 0} → Verbs H → H → Vec ℕ Global → (serials named : ℕ) → (swept : Bool) → Verbs H
-termed b h row serials named swept = record { heaps = h; row = row; next = b.next; serials = serials; named = named; calls = b.calls; swept = swept }
+termed b h row serials named swept = record { heaps = h; scratch = row; next = b.next; serials = serials; named = named; calls = b.calls; swept = swept }
 
 module _ {H : Type 0} (m : Meaning H) (b : Verbs H) (holds : Holds m b) (seat : Seat) (x : Sits m b seat) (r : Reg) (names : List (List ℕ)) (code : List Item)
     (has : HasTerm names code) (more : b.named ≤ length names) where
@@ -105,7 +105,7 @@ module _ {H : Type 0} (m : Meaning H) (b : Verbs H) (holds : Holds m b) (seat : 
     refused = omega arith;
   }
 
-  module _ (h : H) (looks : Looks m wanted b.heaps h true) (h2 : H) (row : Vec ℕ Global) (same_row : vec_len row ≡ vec_len b.row) where
+  module _ (h : H) (looks : Looks m wanted b.heaps h true) (h2 : H) (row : Vec ℕ Global) (same_row : vec_len row ≡ vec_len b.scratch) where
     -- It was built.
     module _ (bins named : ℕ) (named_is : named ≡ length names) (gains : GainsTerm m names seat.row r b.serials code h h2 (Ok bins)) where
       abbrev b4 : Verbs H
@@ -214,11 +214,11 @@ module _ {H : Type 0} (m : Meaning H) (b : Verbs H) (holds : Holds m b) (seat : 
       pub some-room : m.has_room wanted c.heaps
       some-room = rw searched.same (some-looks.room refl)
 
-      module _ (h2 : H) (row : Vec ℕ Global) (same_row : vec_len row ≡ vec_len c.row) where
+      module _ (h2 : H) (row : Vec ℕ Global) (same_row : vec_len row ≡ vec_len c.scratch) where
         module _ (bins named : ℕ) (named_is : named ≡ length names) (gains : GainsTerm m names seat.row r c.serials code c.heaps h2 (Ok bins)) where
           pub some-builds : Builds {A = Unit {0}} m names seat.pid r code b (termed c h2 row (c.serials + bins) named false) (Ok tt)
           some-builds =
-              let P : Verbs H → Type 0 = λ z. vec_len row ≡ vec_len z.row → GainsTerm m names seat.row r z.serials code z.heaps h2 (Ok bins)
+              let P : Verbs H → Type 0 = λ z. vec_len row ≡ vec_len z.scratch → GainsTerm m names seat.row r z.serials code z.heaps h2 (Ok bins)
               → Builds {A = Unit {0}} m names seat.pid r code b (termed z h2 row (z.serials + bins) named false) (Ok tt) in
               subst P (sym searched.same) (λ same gain. set-builds searched.heaps some-looks h2 row same bins named named_is gain) same_row gains
 
@@ -230,7 +230,7 @@ module _ {H : Type 0} (m : Meaning H) (b : Verbs H) (holds : Holds m b) (seat : 
         module _ (e : BuildStop) (gains : GainsTerm m names seat.row r c.serials code c.heaps h2 (Err e)) (out : Refusal) (out_is : out ≡ refusal_of_stop e) where
           pub stop-builds : Builds {A = Unit {0}} m names seat.pid r code b (termed c h2 row c.serials c.named c.swept) (Err out)
           stop-builds =
-              let P : Verbs H → Type 0 = λ z. vec_len row ≡ vec_len z.row → GainsTerm m names seat.row r z.serials code z.heaps h2 (Err e)
+              let P : Verbs H → Type 0 = λ z. vec_len row ≡ vec_len z.scratch → GainsTerm m names seat.row r z.serials code z.heaps h2 (Err e)
               → Builds {A = Unit {0}} m names seat.pid r code b (termed z h2 row z.serials z.named z.swept) (Err out) in
               subst P (sym searched.same) (λ same gain. rw out_is (set-stops searched.heaps some-looks h2 row same e gain)) same_row gains
 

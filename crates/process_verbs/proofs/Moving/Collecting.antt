@@ -21,7 +21,7 @@ use Rattle.process_verbs.proofs.Steps.{at-seat, counts-stay, holds-passed}
 
 -- The verbs after a collection, of all processes or of one.
 abbrev pub collected : {H : Type 0} → Verbs H → H → (all : Bool) → Verbs H
-collected b h all = record { heaps = h; row = b.row; next = b.next; serials = b.serials; named = b.named; calls = b.calls + 1; swept = all }
+collected b h all = record { heaps = h; scratch = b.scratch; next = b.next; serials = b.serials; named = b.named; calls = b.calls + 1; swept = all }
 
 module _ {H : Type 0} (m : Meaning H) (b : Verbs H) (holds : Holds m b) (all : Bool) (h : H) (x : CollectsRows m all b.heaps h) where
   counts-collected : IsCounted m (collected b h all)

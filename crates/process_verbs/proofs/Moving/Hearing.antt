@@ -16,6 +16,7 @@ use Rattle.term_read.specs.declared.looks.Look.{Look}
 use Rattle.term_walk.specs.Measured.{measured}
 use Rattle.term_walk.specs.declared.measured.Measured.TheVariants.{Within, Beyond}
 use Rattle.term_walk.specs.declared.measured.Measure.{Measure}
+use Rattle.space_api.specs.declared.space.Seat.{Seat}
 use Rattle.heaps_api.specs.Meaning.{Meaning}
 use Rattle.process_verbs.specs.Verbs.{VerbsStand}
 use Rattle.process_verbs.specs.Telling.{IsHeld, number_seen}
@@ -38,13 +39,13 @@ seen-number c shared mem w (Shared id) l s = ap number_seen s.0
 seen-number c shared mem w (Part base offset len) l s = ap number_seen s.1
 
 -- The number that a register names.
-pub heard : {H : Type 0} (m : Meaning H) (b : Verbs H) (s : State) (o : VerbsStand m b s) (pid : ℕ) (r : Reg) (w : ℕ) (held : IsHeld m b s o pid r w) (mem : List ℕ)
-    → mem ≡ m.mem b.heaps → (q : Process) → process_of pid s ≡ Some q → (l : Look) → Sees mem w l → (to : To) → to ≡ Held r → (n : Option ℕ) → n ≡ number_seen l → n ≡ receiver to q
-heard m b s o pid r w held mem same q found l sees to is n told =
+pub heard : {H : Type 0} (m : Meaning H) (b : Verbs H) (s : State) (o : VerbsStand m b s) (seat : Seat) (r : Reg) (w : ℕ) (held : IsHeld m b s o seat r w) (mem : List ℕ)
+    → mem ≡ m.mem b.heaps → (q : Process) → process_of seat.pid s ≡ Some q → (l : Look) → Sees mem w l → (to : To) → to ≡ Held r → (n : Option ℕ) → n ≡ number_seen l → n ≡ receiver to q
+heard m b s o seat r w held mem same q found l sees to is n told =
     let one : held.process ≡ q = same_Some held.process q (sym held.found ∙ found) in
     let P : Process → Type 0 = λ z. n ≡ pid_number (register r.0 z) in
     rw is (subst P one (told ∙ seen-number always s.shared mem w (register r.0 held.process) l (sees.each always s.shared (register r.0 held.process)
-    (standing m b s o pid r w held mem same))))
+    (standing m b s o seat r w held mem same))))
 
 -- What a measure says of the tree.
 pub none-within : (shared : List (List ℕ)) (t : Tree) (m : Measure) → Within m ≡ measured shared t → (is_beyond shared t ≡ false) × (m.flat ≡ flat t)

@@ -35,7 +35,7 @@ lacking-by want false e is = (refl, same (answer_of_search want false) is refl)
 
 -- The verbs after a call that asked for room before.
 abbrev pub after : {H : Type 0} → Verbs H → H → Verbs H
-after c h = record { heaps = h; row = c.row; next = c.next; serials = c.serials; named = c.named; calls = c.calls; swept = false }
+after c h = record { heaps = h; scratch = c.scratch; next = c.next; serials = c.serials; named = c.named; calls = c.calls; swept = false }
 
 module _ {H : Type 0} (m : Meaning H) (b c : Verbs H) (want : Want) (res : Result (Unit {0}) Refusal) (x : Searches m want b c res) where
   pub looks-found : (u : Unit {0}) → res ≡ Ok u → Looks m want b.heaps x.heaps true

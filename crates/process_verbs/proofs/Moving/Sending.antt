@@ -79,7 +79,7 @@ module _ {H : Type 0} (m : Meaning H) (b : Verbs H) (holds : Holds m b) (seat : 
     pub number : ℕ
     pub hears : Hears (Some number)
     pub word : ℕ
-    pub held : (s : State) (o : VerbsStand m b s) → IsHeld m b s o seat.pid r word
+    pub held : (s : State) (o : VerbsStand m b s) → IsHeld m b s o seat r word
     pub mem : List ℕ
     pub same : mem ≡ m.mem b.heaps
 
@@ -96,7 +96,7 @@ module _ {H : Type 0} (m : Meaning H) (b : Verbs H) (holds : Holds m b) (seat : 
     stands-there s o =
         let here = known.held s o in
         let P : Process → Type 0 = λ z. Stands always s.shared known.mem known.word (register r.0 z) in
-        subst P (sym (same-process s o here.process here.found)) (standing m b s o seat.pid r known.word here known.mem known.same)
+        subst P (sym (same-process s o here.process here.found)) (standing m b s o seat r known.word here known.mem known.same)
 
     measured-there : (k : Measured) → Measures known.mem known.word k → (s : State) → VerbsStand m b s → k ≡ measured s.shared (tree s)
     measured-there k told s o = told.each always s.shared (tree s) (stands-there s o)
@@ -118,7 +118,7 @@ module _ {H : Type 0} (m : Meaning H) (b : Verbs H) (holds : Holds m b) (seat : 
       big-asks s p o found = asks-at s p o found b (Err refusal.Big) (by (is_live n s))
         where
           by : (live : Bool) → AsksWhere {A = Unit {0}} m live (flat (tree s)) n b b (Err refusal.Big)
-          by true = record { row = 0; unless = record { early = λ e. refl; asks = λ e. absurd (true≢false e) }; sent = λ e. absurd (true≢false e) }
+          by true = record { row = 0; number = λ e. absurd (true≢false e); unless = record { early = λ e. refl; asks = λ e. absurd (true≢false e) }; sent = λ e. absurd (true≢false e) }
           by false = refl
 
     -- The tree is within it.
@@ -200,6 +200,7 @@ module _ {H : Type 0} (m : Meaning H) (b : Verbs H) (holds : Holds m b) (seat : 
             let same = heaps-are m b c (Message row size.flat) res asked in
             record {
               row = row;
+              number = λ f. place;
               unless = record {
                 early = λ f. absurd (true≢false (sym f));
                 asks = λ f. record {
@@ -220,17 +221,17 @@ module _ {H : Type 0} (m : Meaning H) (b : Verbs H) (holds : Holds m b) (seat : 
         lacks-asks e is s p o found =
             asks-live s p o found c (Err e) (rw (no-space-told m b c (Message row size.flat) res asked e is) (lacks-told e is))
 
-        module _ (u : Unit {0}) (given : res ≡ Ok u) (w2 : ℕ) (held2 : (s : State) (o : VerbsStand m c s) → IsHeld m c s o seat.pid r w2) where
+        module _ (u : Unit {0}) (given : res ≡ Ok u) (w2 : ℕ) (held2 : (s : State) (o : VerbsStand m c s) → IsHeld m c s o seat r w2) where
           looks-there : Looks m (Message row size.flat) b.heaps asked.heaps true
           looks-there = looks-found m b c (Message row size.flat) res asked u given
 
           same-heaps : c.heaps ≡ asked.heaps
           same-heaps = heaps-are m b c (Message row size.flat) res asked
 
-          held-after : (s : State) (o : VerbsStand m b s) → HoldsThere m c.named c.heaps s.shared s.processes (asked.stands s o).processes w2 (tree s)
+          held-after : (s : State) (o : VerbsStand m b s) → HoldsThere m c.named c.heaps s.shared s.processes (asked.stands s o).processes seat.row w2 (tree s)
           held-after s o =
               let here = held2 s (asked.stands s o) in
-              let P : Process → Type 0 = λ z. HoldsThere m c.named c.heaps s.shared s.processes (asked.stands s o).processes w2 (register r.0 z) in
+              let P : Process → Type 0 = λ z. HoldsThere m c.named c.heaps s.shared s.processes (asked.stands s o).processes seat.row w2 (register r.0 z) in
               subst P (sym (same-process s o here.process here.found)) here.held
 
           room-there : m.has_room (Message row (flat (tree holds.state))) c.heaps
@@ -243,6 +244,7 @@ module _ {H : Type 0} (m : Meaning H) (b : Verbs H) (holds : Holds m b) (seat : 
             processes = holds.state.processes;
             stood = (asked.stands holds.state holds.stands).processes;
             tree = tree holds.state;
+            from = seat.row;
             held = held-after holds.state holds.stands;
             room = room-there;
           }
@@ -253,7 +255,7 @@ module _ {H : Type 0} (m : Meaning H) (b : Verbs H) (holds : Holds m b) (seat : 
             sent-stands s terms names o =
                 let o1 = asked.stands s o in
                 let entered : Stood m c.named h s.shared (set s.processes row (queued (tree s) (process_at s.processes row))) =
-                (sends.entered c.named s.shared s.processes o1.processes (tree s) (held-after s o)).1 in
+                (sends.entered c.named s.shared s.processes o1.processes seat.row (tree s) (held-after s o)).1 in
                 let one : map (with_queued n (tree s)) s.processes ≡ set s.processes row (queued (tree s) (process_at s.processes row)) =
                 one-queued s.processes row 0 n no_process (tree s) (rising-there m b s o holds.counts) (within-there m b s o holds.counts seat2 sits2)
                 (number-there m b s o holds.counts seat2 sits2) in
@@ -276,7 +278,7 @@ module _ {H : Type 0} (m : Meaning H) (b : Verbs H) (holds : Holds m b) (seat : 
                 sends.stays.goes.whole (2 * b.calls + 1) (2 * c.calls) before (omega (arith, calls-are))
 
             sent-counts : IsCounted m (after c h)
-            sent-counts = counts-stay m b (after c h) holds.counts (sends.stays.rows ∙ (ap m.numbers same-heaps ∙ looks-there.stays.rows)) (ap (λ z. z.row) asked.same)
+            sent-counts = counts-stay m b (after c h) holds.counts (sends.stays.rows ∙ (ap m.numbers same-heaps ∙ looks-there.stays.rows)) (ap (λ z. z.scratch) asked.same)
                 (ap (λ z. z.next) asked.same) (omega (arith, calls-are)) (ap (λ z. z.serials) asked.same) whole-sent
 
             pub sent-does : Does {A = Unit {0}} m (OfProcess seat.pid v) b (after c h) (Ok tt)
@@ -295,11 +297,12 @@ module _ {H : Type 0} (m : Meaning H) (b : Verbs H) (holds : Holds m b) (seat : 
             took-there =
                 let s = holds.state in
                 let o = holds.stands in
-                rw (← same-heaps, flat-is s o) (sends.entered c.named s.shared s.processes (asked.stands s o).processes (tree s) (held-after s o)).0
+                rw (← same-heaps, flat-is s o) (sends.entered c.named s.shared s.processes (asked.stands s o).processes seat.row (tree s) (held-after s o)).0
 
             sent-told : AsksForMessage {A = Unit {0}} m size.flat n b (after c h) (Ok tt)
             sent-told = record {
               row = row;
+              number = λ f. place;
               unless = record {
                 early = λ f. absurd (true≢false (sym f));
                 asks = λ f. record {
@@ -313,7 +316,6 @@ module _ {H : Type 0} (m : Meaning H) (b : Verbs H) (holds : Holds m b) (seat : 
                 };
               };
               sent = λ f. record {
-                row = row;
                 within = omega (arith, place.0, ap length looks-there.stays.rows);
                 number = ap (λ ns. slice_index ns row) looks-there.stays.rows ∙ place.1;
                 sent = rw (← same-heaps) sends.sent;

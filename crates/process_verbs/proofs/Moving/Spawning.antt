@@ -27,7 +27,7 @@ use Rattle.process_verbs.proofs.Moving.Searching.{looks-found, looks-lacking, no
 
 -- The verbs with a process more, after a call that asked for its room before.
 abbrev pub spawned : {H : Type 0} → Verbs H → H → Verbs H
-spawned c h = record { heaps = h; row = c.row; next = c.next + 1; serials = c.serials; named = c.named; calls = c.calls; swept = false }
+spawned c h = record { heaps = h; scratch = c.scratch; next = c.next + 1; serials = c.serials; named = c.named; calls = c.calls; swept = false }
 
 module _ {H : Type 0} (m : Meaning H) (b : Verbs H) (holds : Holds m b) where
   -- So many live already.
@@ -45,7 +45,7 @@ module _ {H : Type 0} (m : Meaning H) (b : Verbs H) (holds : Holds m b) where
     -- There was room for it.
     module _ (h1 : H) (looks : Looks m ForProcess b.heaps h1 true) (h : H) (made : Spawns m b.next h1 h) where
       abbrev b2 : Verbs H
-      b2 = record { heaps = h; row = b.row; next = b.next + 1; serials = b.serials; named = b.named; calls = b.calls + 1; swept = false }
+      b2 = record { heaps = h; scratch = b.scratch; next = b.next + 1; serials = b.serials; named = b.named; calls = b.calls + 1; swept = false }
 
       stood-more : (s : State) → VerbsStand m b s → Stood m b.named h s.shared (s.processes ++ fresh_process b.next ∷ [])
       stood-more s o = made.made b.named s.shared s.processes (looks.kept b.named s.shared s.processes o.processes)

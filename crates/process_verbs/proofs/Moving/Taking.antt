@@ -25,7 +25,7 @@ use Rattle.process_verbs.proofs.Processes.Within.{within-at}
 
 -- The verbs over another memory.
 abbrev pub with_heaps : {H : Type 0} → Verbs H → H → Verbs H
-with_heaps b h = record { heaps = h; row = b.row; next = b.next; serials = b.serials; named = b.named; calls = b.calls; swept = b.swept }
+with_heaps b h = record { heaps = h; scratch = b.scratch; next = b.next; serials = b.serials; named = b.named; calls = b.calls; swept = b.swept }
 
 -- What is taken, from which list, and what is left of the process.
 module _ {H : Type 0} (m : Meaning H) (b : Verbs H) (holds : Holds m b) (seat : Seat) (x : Sits m b seat) (v : Verb) (of : Process → List Tree)
@@ -91,8 +91,8 @@ module _ {H : Type 0} (m : Meaning H) (b : Verbs H) (holds : Holds m b) (seat : 
 module _ {H : Type 0} (m : Meaning H) (b : Verbs H) (holds : Holds m b) (seat : Seat) (x : Sits m b seat) (r : Reg) (h : H) (taken : Bool) (takes : ReceivesInto m seat.row r b.heaps h taken) where
   pub receives-none : taken ≡ false → DoesAtOnce {A = Unit {0}} m (OfProcess seat.pid (verb.Recv r)) b (with_heaps b h) (Err refusal.Empty)
   receives-none = takes-none m b holds seat x (verb.Recv r) (λ q. q.queue) (λ t ts q. record (with_register r.0 t q) { queue = ts }) (λ s p q e. rw e refl) (λ s p q t ts e. rw e refl)
-      (λ q t ts. refl) (λ shared q t ts e k. (subst (AreWithin shared) e k).1) h taken takes.stays takes.same takes.received
+      (λ q t ts. refl) (λ shared q t ts e k. (subst (AreWithin shared) e k).1) h taken takes.stays takes.same takes.first
 
   pub receives-first : taken ≡ true → DoesAtOnce {A = Unit {0}} m (OfProcess seat.pid (verb.Recv r)) b (changed b h) (Ok tt)
   receives-first = takes-first m b holds seat x (verb.Recv r) (λ q. q.queue) (λ t ts q. record (with_register r.0 t q) { queue = ts }) (λ s p q e. rw e refl) (λ s p q t ts e. rw e refl)
-      (λ q t ts. refl) (λ shared q t ts e k. (subst (AreWithin shared) e k).1) h taken takes.stays takes.same takes.received
+      (λ q t ts. refl) (λ shared q t ts e k. (subst (AreWithin shared) e k).1) h taken takes.stays takes.same takes.first

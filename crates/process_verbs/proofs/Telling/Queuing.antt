@@ -7,7 +7,7 @@ use Rattle.line_io.specs.Faults.{Rose}
 use Rattle.line_io.specs.Sink.{Grew, Writes, WritesTold}
 use Rattle.text_parts.proofs.Writing.{written-as}
 use Rattle.reply_text.specs.Texts.{divider}
-use Rattle.counts_text.proofs.Listed.{entry_at, entries-begin, entries-done, entries-more, entries-stop}
+use Rattle.counts_text.proofs.Listed.{entry_at, entries-begin, entries-more, entries-stop}
 use Rattle.plain_term.specs.Tree.{Tree}
 use Rattle.plain_term.specs.Tree.Tree.{Nil}
 use Rattle.plain_term.specs.Text.{text}
@@ -142,7 +142,7 @@ module _ {H : Type 0} (m : Meaning H) (b : Verbs H) (counts : IsCounted m b) (se
     (names : List (List ℕ)) (more : b.named ≤ length names) where
   messages-there : (s : State) (o : VerbsStand m b s) → AreMessages s.shared (m.mem b.heaps) (length names) words (process_at s.processes seat.row).queue
   messages-there s o =
-      messages-of (m.test b.named b.heaps s.shared s.processes o.processes.is) s.shared (m.mem b.heaps) b.named (length names) more words (process_at s.processes seat.row).queue
+      messages-of (m.test b.named b.heaps s.shared s.processes o.processes.is seat.row) s.shared (m.mem b.heaps) b.named (length names) more words (process_at s.processes seat.row).queue
       (are.hold b.named s.shared s.processes o.processes) (within-at s.shared s.processes seat.row o.within)
 
   pub have-messages : (s : State) (o : VerbsStand m b s) → HaveMessages (m.mem b.heaps) (length names) words

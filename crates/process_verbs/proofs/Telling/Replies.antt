@@ -30,6 +30,7 @@ use Rattle.term_order.specs.declared.compared.Compared.{Compared}
 use Rattle.term_order.specs.declared.compared.Compared.TheVariants as answer
 use Rattle.term_print.specs.Printed.{CanPrint}
 use Rattle.term_words.specs.Role.{always}
+use Rattle.space_api.specs.declared.space.Seat.{Seat}
 use Rattle.heaps_api.specs.Meaning.{Meaning}
 use Rattle.heaps_api.proofs.Holding.{stands-always}
 use Rattle.heaps_api.proofs.Naming.{named-more}
@@ -59,24 +60,24 @@ order-of s false Less tell = refl
 order-of s false Equal tell = refl
 order-of s false Greater tell = refl
 
-module _ {H : Type 0} (m : Meaning H) (b : Verbs H) (s : State) (o : VerbsStand m b s) (pid : ℕ) (r : Reg) (w : ℕ) (held : IsHeld m b s o pid r w)
+module _ {H : Type 0} (m : Meaning H) (b : Verbs H) (s : State) (o : VerbsStand m b s) (seat : Seat) (r : Reg) (w : ℕ) (held : IsHeld m b s o seat r w)
     (mem : List ℕ) (same : mem ≡ m.mem b.heaps) where
   pub standing : Stands always s.shared mem w (register r.0 held.process)
-  standing = rw same (stands-always (m.test b.named b.heaps s.shared s.processes o.processes.is) s.shared (m.mem b.heaps) b.named w (register r.0 held.process) held.held)
+  standing = rw same (stands-always (m.test b.named b.heaps s.shared s.processes o.processes.is seat.row) s.shared (m.mem b.heaps) b.named w (register r.0 held.process) held.held)
 
   pub is-term : IsTerm mem w
   is-term = record { shared = s.shared; tree = register r.0 held.process; standing = standing }
 
   pub flat-told : (terms : Terms) (names : List (List ℕ)) (told_as : Measured) (result : Result Measure Refusal) → Measures mem w told_as → result ≡ measure_told told_as
-      → Tells (step s (said (OfProcess pid (verb.Flat r)) terms names)) (λ (x : Measure). decimal x.flat) result
+      → Tells (step s (said (OfProcess seat.pid (verb.Flat r)) terms names)) (λ (x : Measure). decimal x.flat) result
   flat-told terms names told_as result told is =
       let t : Tree = register r.0 held.process in
-      let P : Result Measure Refusal → Type 0 = λ x. Tells (step s (said (OfProcess pid (verb.Flat r)) terms names)) (λ (x : Measure). decimal x.flat) x in
+      let P : Result Measure Refusal → Type 0 = λ x. Tells (step s (said (OfProcess seat.pid (verb.Flat r)) terms names)) (λ (x : Measure). decimal x.flat) x in
       subst P (sym (is ∙ ap measure_told (told.each always s.shared t standing)))
-      (at-process s pid held.process held.found (verb.Flat r) terms names
+      (at-process s seat.pid held.process held.found (verb.Flat r) terms names
       (λ o. Tells o (λ (x : Measure). decimal x.flat) (measure_told (measured s.shared t))) (flat-of s (is_beyond s.shared t) (nodes s.shared t) (flat t)))
 
-  pub nodes-told : (q : Process) (told_as : Measured) (result : Result Measure Refusal) → process_of pid s ≡ Some q → Measures mem w told_as → result ≡ measure_told told_as
+  pub nodes-told : (q : Process) (told_as : Measured) (result : Result Measure Refusal) → process_of seat.pid s ≡ Some q → Measures mem w told_as → result ≡ measure_told told_as
       → IfOk result (λ (x : Measure). x.nodes ≡ nodes s.shared (register r.0 q))
   nodes-told q told_as result found told is =
       let t : Tree = register r.0 held.process in
@@ -101,24 +102,24 @@ module _ {H : Type 0} (m : Meaning H) (b : Verbs H) (s : State) (o : VerbsStand 
 
     -- what is said of the step where this is known of the tree
     printed : (o : Result (Unit {0}) Stop) (beyond : Bool) → is_beyond s.shared tree ≡ beyond → Prints (tells s (unless_beyond beyond (text names s.shared tree))) wrote old new o
-        → Prints (step s (said (OfProcess pid (verb.Print r)) terms names)) wrote old new o
+        → Prints (step s (said (OfProcess seat.pid (verb.Print r)) terms names)) wrote old new o
     printed o beyond is p =
         let Q : Bool → Type 0 = λ z. Prints (tells s (unless_beyond z (text names s.shared tree))) wrote old new o in
-        at-process s pid held.process held.found (verb.Print r) terms names (λ z. Prints z wrote old new o) (subst Q (sym is) p)
+        at-process s seat.pid held.process held.found (verb.Print r) terms names (λ z. Prints z wrote old new o) (subst Q (sym is) p)
 
-    pub prints-big : is_beyond s.shared tree ≡ true → Prints {A = Unit {0}} {K = K} (step s (said (OfProcess pid (verb.Print r)) terms names)) wrote old new (Err TooBig)
+    pub prints-big : is_beyond s.shared tree ≡ true → Prints {A = Unit {0}} {K = K} (step s (said (OfProcess seat.pid (verb.Print r)) terms names)) wrote old new (Err TooBig)
     prints-big is = printed (Err TooBig) true is refl
 
     pub prints-all : is_beyond s.shared tree ≡ false → Grew wrote old new (text names s.shared tree)
-        → Prints {A = Unit {0}} {K = K} (step s (said (OfProcess pid (verb.Print r)) terms names)) wrote old new (Ok tt)
+        → Prints {A = Unit {0}} {K = K} (step s (said (OfProcess seat.pid (verb.Print r)) terms names)) wrote old new (Ok tt)
     prints-all is g = printed (Ok tt) false is g
 
     pub prints-part : is_beyond s.shared tree ≡ false → GrewInPart wrote old new (text names s.shared tree)
-        → Prints {A = Unit {0}} {K = K} (step s (said (OfProcess pid (verb.Print r)) terms names)) wrote old new (Err Fault)
+        → Prints {A = Unit {0}} {K = K} (step s (said (OfProcess seat.pid (verb.Print r)) terms names)) wrote old new (Err Fault)
     prints-part is g = printed (Err Fault) false is g
 
 -- two registers of one process
-module _ {H : Type 0} (m : Meaning H) (b : Verbs H) (s : State) (o : VerbsStand m b s) (pid : ℕ) (i j : Reg) (v w : ℕ) (first : IsHeld m b s o pid i v) (second : IsHeld m b s o pid j w)
+module _ {H : Type 0} (m : Meaning H) (b : Verbs H) (s : State) (o : VerbsStand m b s) (seat : Seat) (i j : Reg) (v w : ℕ) (first : IsHeld m b s o seat i v) (second : IsHeld m b s o seat j w)
     (mem : List ℕ) (same : mem ≡ m.mem b.heaps) where
   same-process : second.process ≡ first.process
   same-process = same_Some second.process first.process (sym second.found ∙ first.found)
@@ -128,23 +129,23 @@ module _ {H : Type 0} (m : Meaning H) (b : Verbs H) (s : State) (o : VerbsStand 
     shared = s.shared;
     first = register i.0 first.process;
     second = register j.0 second.process;
-    first_stands = (standing m b s o pid i v first mem same);
-    second_stands = (standing m b s o pid j w second mem same);
+    first_stands = (standing m b s o seat i v first mem same);
+    second_stands = (standing m b s o seat j w second mem same);
     first_named = named-more b.named (length names) more (register i.0 first.process) first.held.names;
     second_named = named-more b.named (length names) more (register j.0 second.process) second.held.names;
   }
 
   pub order-told : (x : Verb) (tell : Ordering → List ℕ) (terms : Terms) (names : List (List ℕ)) (c : Compared) (result : Result Ordering Refusal)
-      → by_verb s (said (OfProcess pid x) terms names) first.process x
-      ≡ tells s (order_text s (said (OfProcess pid x) terms names) tell (register i.0 first.process) (register j.0 first.process))
-      → Compares mem names v w c → result ≡ order_told c → Tells (step s (said (OfProcess pid x) terms names)) tell result
+      → by_verb s (said (OfProcess seat.pid x) terms names) first.process x
+      ≡ tells s (order_text s (said (OfProcess seat.pid x) terms names) tell (register i.0 first.process) (register j.0 first.process))
+      → Compares mem names v w c → result ≡ order_told c → Tells (step s (said (OfProcess seat.pid x) terms names)) tell result
   order-told x tell terms names c result by told is =
       let t : Tree = register i.0 first.process in
       let u : Tree = register j.0 first.process in
       let W : Process → Type 0 = λ z. c ≡ compared names s.shared t (register j.0 z) in
       let all : c ≡ compared names s.shared t u = subst W same-process
-      (told.each always s.shared t (register j.0 second.process) (standing m b s o pid i v first mem same) (standing m b s o pid j w second mem same)) in
-      let P : Result Ordering Refusal → Type 0 = λ z. Tells (step s (said (OfProcess pid x) terms names)) tell z in
+      (told.each always s.shared t (register j.0 second.process) (standing m b s o seat i v first mem same) (standing m b s o seat j w second mem same)) in
+      let P : Result Ordering Refusal → Type 0 = λ z. Tells (step s (said (OfProcess seat.pid x) terms names)) tell z in
       let Q : Outcome → Type 0 = λ z. Tells z tell (order_told (compared names s.shared t u)) in
-      subst P (sym (is ∙ ap order_told all)) (at-process s pid first.process first.found x terms names Q
+      subst P (sym (is ∙ ap order_told all)) (at-process s seat.pid first.process first.found x terms names Q
       (subst Q (sym by) (order-of s (is_beyond s.shared t || is_beyond s.shared u) (order names s.shared t u) tell)))

@@ -39,7 +39,7 @@ returns-in-Ok-clause-builds g c =
     some-builds g.H.Heaps.meaning c.args.self.now c.requires.holds c.args.seat c.requires.sits c.args.r c.args.names.now c.args.code.now c.requires.term c.requires.named _ _
     (heap-needed c.args.names.now c.args.code.now c.requires.term c.count-named.ensures.names.few _ c.term_needs-words.ensures.heap)
     (far-needed c.args.names.now c.args.code.now c.requires.term c.count-named.ensures.names.few _ c.term_needs-words.ensures.far) _ _ c.ask.ensures
-    c.in_ok-ask.field-0 c.in_ok-ask.was c.gain_term.new.self (with_items c.ask.new.self.row c.gain_term.new.scratch) refl c.in-Ok.bins c.count-named.result c.count-named.ensures.value
+    c.in_ok-ask.field-0 c.in_ok-ask.was c.gain_term.new.self (with_items c.ask.new.self.scratch c.gain_term.new.scratch) refl c.in-Ok.bins c.count-named.result c.count-named.ensures.value
     c.in-Ok.ensures.gains
 
 pub returns-in-Ok-clause-asks : goal.returns-in-Ok-clause-asks
@@ -47,7 +47,7 @@ returns-in-Ok-clause-asks g c =
     some-asks g.H.Heaps.meaning c.args.self.now c.requires.holds c.args.seat c.requires.sits c.args.r c.args.names.now c.args.code.now c.requires.term c.requires.named _ _
     (heap-needed c.args.names.now c.args.code.now c.requires.term c.count-named.ensures.names.few _ c.term_needs-words.ensures.heap)
     (far-needed c.args.names.now c.args.code.now c.requires.term c.count-named.ensures.names.few _ c.term_needs-words.ensures.far) _ _ c.ask.ensures
-    c.in_ok-ask.field-0 c.in_ok-ask.was c.gain_term.new.self (with_items c.ask.new.self.row c.gain_term.new.scratch) refl c.in-Ok.bins c.count-named.result c.count-named.ensures.value
+    c.in_ok-ask.field-0 c.in_ok-ask.was c.gain_term.new.self (with_items c.ask.new.self.scratch c.gain_term.new.scratch) refl c.in-Ok.bins c.count-named.result c.count-named.ensures.value
     c.in-Ok.ensures.gains
 
 pub returns-in-Err-clause-builds : goal.returns-in-Err-clause-builds
@@ -55,7 +55,7 @@ returns-in-Err-clause-builds g c =
     stop-builds g.H.Heaps.meaning c.args.self.now c.requires.holds c.args.seat c.requires.sits c.args.r c.args.names.now c.args.code.now c.requires.term c.requires.named _ _
     (heap-needed c.args.names.now c.args.code.now c.requires.term c.count-named.ensures.names.few _ c.term_needs-words.ensures.heap)
     (far-needed c.args.names.now c.args.code.now c.requires.term c.count-named.ensures.names.few _ c.term_needs-words.ensures.far) _ _ c.ask.ensures
-    c.in_ok-ask.field-0 c.in_ok-ask.was c.gain_term.new.self (with_items c.ask.new.self.row c.gain_term.new.scratch) refl c.in-Err.stop c.in-Err.ensures.gains c.refusal_of.result
+    c.in_ok-ask.field-0 c.in_ok-ask.was c.gain_term.new.self (with_items c.ask.new.self.scratch c.gain_term.new.scratch) refl c.in-Err.stop c.in-Err.ensures.gains c.refusal_of.result
     c.refusal_of.ensures
 
 pub returns-in-Err-clause-asks : goal.returns-in-Err-clause-asks
@@ -63,5 +63,5 @@ returns-in-Err-clause-asks g c =
     stop-asks g.H.Heaps.meaning c.args.self.now c.requires.holds c.args.seat c.requires.sits c.args.r c.args.names.now c.args.code.now c.requires.term c.requires.named _ _
     (heap-needed c.args.names.now c.args.code.now c.requires.term c.count-named.ensures.names.few _ c.term_needs-words.ensures.heap)
     (far-needed c.args.names.now c.args.code.now c.requires.term c.count-named.ensures.names.few _ c.term_needs-words.ensures.far) _ _ c.ask.ensures
-    c.in_ok-ask.field-0 c.in_ok-ask.was c.gain_term.new.self (with_items c.ask.new.self.row c.gain_term.new.scratch) refl c.in-Err.stop c.in-Err.ensures.gains c.refusal_of.result
+    c.in_ok-ask.field-0 c.in_ok-ask.was c.gain_term.new.self (with_items c.ask.new.self.scratch c.gain_term.new.scratch) refl c.in-Err.stop c.in-Err.ensures.gains c.refusal_of.result
     c.refusal_of.ensures

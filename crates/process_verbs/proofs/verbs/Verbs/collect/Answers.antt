@@ -6,4 +6,4 @@ pub collect-requires-clause-ready : goal.collect-requires-clause-ready
 collect-requires-clause-ready g c = ready _ c.args.self.now c.requires.holds c.requires.calls
 
 pub returns-clause-does : goal.returns-clause-does
-returns-clause-does g c = gc-does _ c.args.self.now c.requires.holds c.args.seat c.requires.sits c.args.depth c.collect.new.self c.collect.ensures
+returns-clause-does g c = gc-does _ c.args.self.now c.requires.holds c.args.seat c.requires.sits c.args.depth c.collect.new.self c.collect.ensures.rows

@@ -3,7 +3,7 @@ use Rattle.process_verbs.proofs.verbs.Verbs.make.Goals as goal
 
 pub returns-in_err-ask : goal.returns-in_err-ask
 returns-in_err-ask g c =
-    make-refused g.H.Heaps.meaning c.args.self.now c.requires.holds c.args.seat c.requires.sits c.args.r c.args.make c.requires.can _ c.words_of.ensures _ _ c.ask.ensures
+    make-refused g.H.Heaps.meaning c.args.self.now c.requires.holds c.args.seat c.requires.sits c.args.r c.args.make c.requires.can _ c.words_to_make.ensures _ _ c.ask.ensures
     c.in_err-ask.field-0.0 (c.in_err-ask.was) c.from_residual.result c.from_residual.ensures.1
 
 pub gain-requires-clause-ready : goal.gain-requires-clause-ready
@@ -11,9 +11,9 @@ gain-requires-clause-ready g c = searched-ready g.H.Heaps.meaning c.args.self.no
 
 pub gain-requires-clause-can : goal.gain-requires-clause-can
 gain-requires-clause-can g c =
-    make-can g.H.Heaps.meaning c.args.self.now c.requires.holds c.args.seat c.requires.sits c.args.r c.args.make c.requires.can _ c.words_of.ensures _ _ c.ask.ensures
+    make-can g.H.Heaps.meaning c.args.self.now c.requires.holds c.args.seat c.requires.sits c.args.r c.args.make c.requires.can _ c.words_to_make.ensures _ _ c.ask.ensures
 
 pub returns : goal.returns
 returns g c =
-    make-done g.H.Heaps.meaning c.args.self.now c.requires.holds c.args.seat c.requires.sits c.args.r c.args.make c.requires.can _ c.words_of.ensures _ _ c.ask.ensures
+    make-done g.H.Heaps.meaning c.args.self.now c.requires.holds c.args.seat c.requires.sits c.args.r c.args.make c.requires.can _ c.words_to_make.ensures _ _ c.ask.ensures
     c.in_ok-ask.field-0 (c.in_ok-ask.was) c.gain.new.self c.gain.ensures

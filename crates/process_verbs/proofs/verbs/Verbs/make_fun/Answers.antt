@@ -33,10 +33,10 @@ gain_fun-requires-clause-number g c =
 pub returns-clause-becomes : goal.returns-clause-becomes
 returns-clause-becomes g c =
     fun-done g.H.Heaps.meaning c.args.self.now c.requires.holds c.args.seat c.requires.sits c.args.r c.args.name c.args.arity c.args.env.now c.if-arity-gt-MOST_ARITY.false _ _ c.ask.ensures
-    c.in_ok-ask.field-0 c.in_ok-ask.was c.gain_fun.new.self c.gain_fun.ensures.gains (with_items c.ask.new.self.row c.gain_fun.new.scratch) refl c.above-self.result c.above-self.ensures
+    c.in_ok-ask.field-0 c.in_ok-ask.was c.gain_fun.new.self c.gain_fun.ensures.gains (with_items c.ask.new.self.scratch c.gain_fun.new.scratch) refl c.above-self.result c.above-self.ensures
 
 pub returns-clause-holds : goal.returns-clause-holds
 returns-clause-holds g c =
     fun-holds g.H.Heaps.meaning c.args.self.now c.requires.holds c.args.seat c.requires.sits c.args.r c.args.name c.args.arity c.args.env.now c.if-arity-gt-MOST_ARITY.false _ _ c.ask.ensures
-    c.in_ok-ask.field-0 c.in_ok-ask.was c.gain_fun.new.self c.gain_fun.ensures.gains (with_items c.ask.new.self.row c.gain_fun.new.scratch) refl c.above-self.result c.above-self.ensures
+    c.in_ok-ask.field-0 c.in_ok-ask.was c.gain_fun.new.self c.gain_fun.ensures.gains (with_items c.ask.new.self.scratch c.gain_fun.new.scratch) refl c.above-self.result c.above-self.ensures
     c.requires.env

@@ -21,7 +21,7 @@ pub measure-requires : goal.measure-requires
 measure-requires g c =
     let s = c.requires.holds.state in
     let o = c.requires.holds.stands in
-    is-term g.H.Heaps.meaning c.args.self.now s o c.args.seat.pid c.args.s c.word.result (c.word.ensures s o) c.mem.result.now c.mem.ensures
+    is-term g.H.Heaps.meaning c.args.self.now s o c.args.seat c.args.s c.word.result (c.word.ensures s o) c.mem.result.now c.mem.ensures
 
 pub returns-in_default-measure-clause-does : goal.returns-in_default-measure-clause-does
 returns-in_default-measure-clause-does g c = send-big _ _ _ _ _ _ _ (heard-of g (goal.at.returns-in_default-measure-clause-does g c).After-word) c.in_default-measure.ensures
