@@ -1,6 +1,5 @@
 -- Verbs that make, end and move: what they make of the state, once the memory has done its part.
 pub mod Taking
-pub mod Searching
 pub mod Pushing
 pub mod Collecting
 pub mod Ending

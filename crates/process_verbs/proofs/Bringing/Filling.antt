@@ -1,5 +1,5 @@
 -- `fill`: a long binary of equal bytes stands in a record with the next serial.
-use Rattle.std.proofs.Common.{◌≡◌, ℕ, ◌+◌, ◌*◌, ◌<◌, ◌≤◌, ◌++◌, ◌∷◌, true, false, true≢false, nat_le, List, [], length, map, replicate, set, Result, Ok, Err, IsErrAnd, refl, sym, ◌∙◌, ap, subst, arith, inl}
+use Rattle.std.proofs.Common.{◌≡◌, ℕ, ◌+◌, ◌<◌, ◌≤◌, ◌++◌, ◌∷◌, true, false, true≢false, nat_le, List, [], length, map, replicate, set, Result, Ok, Err, IsErrAnd, refl, sym, ◌∙◌, ap, subst, arith, inl}
 use Rattle.std.proofs.lemmas.Bool.Decides.{nat_tests}
 use Rattle.std.proofs.lemmas.List.{length-append, length-replicate}
 use Rattle.plain_term.specs.Measures.{bin_words}
@@ -10,7 +10,6 @@ use Rattle.script_grammar.specs.declared.command.Reg.{Reg}
 use Rattle.script_grammar.specs.declared.command.Verb.{Verb}
 use Rattle.script_grammar.specs.declared.command.Verb.TheVariants as verb
 use Rattle.script_grammar.specs.declared.refusal.Refusal.{Refusal}
-use Rattle.script_grammar.specs.declared.refusal.Refusal.TheVariants.{NoSpace}
 use Rattle.script_grammar.specs.Written.{Terms}
 use Rattle.script_grammar.specs.Written.Terms.{end}
 use Rattle.plain_machine.specs.declared.limits.TheConstants.{MOST_BYTE, MOST_FILL}
@@ -26,18 +25,16 @@ use Rattle.space_api.specs.declared.space.Seat.{Seat}
 use Rattle.heaps_api.specs.Meaning.{Meaning}
 use Rattle.heaps_api.specs.Changing.{GainsBin, Looks, process_at}
 use Rattle.heaps_api.specs.Reading.{waiting_trees}
-use Rattle.heaps_api.specs.Wanted.{words_of_want}
 use Rattle.heaps_api.specs.declared.wanted.Want.{Want}
 use Rattle.heaps_api.specs.declared.wanted.Want.TheVariants as want
-use Rattle.process_verbs.specs.Verbs.{Holds, IsCounted, Sits, VerbsStand}
+use Rattle.process_verbs.specs.Verbs.{Holds, Sits, VerbsStand}
 use Rattle.process_verbs.specs.Asked.{Searches, roomed}
 use Rattle.process_verbs.specs.Doing.{Does}
 use Rattle.process_verbs.specs.declared.verbs.Verbs.{Verbs}
 use Rattle.process_verbs.proofs.Processes.Seats.{replaced}
 use Rattle.process_verbs.proofs.Processes.Seated.{number-there, set-there, settled-stands}
-use Rattle.process_verbs.proofs.Steps.{at-seat, lacks, whole-roomed}
+use Rattle.process_verbs.proofs.Steps.{at-seat, counts-gained, lacking-told, lacks, looks-found, looks-lacking}
 use Rattle.process_verbs.proofs.Processes.Within.{within-at}
-use Rattle.process_verbs.proofs.Bringing.Gaining.{lacked, same-error, searched-none, searched-some}
 use Rattle.process_verbs.proofs.Bringing.Doing.{fill-fits}
 
 record-words : (len : ℕ) → 64 < len → fill_words len ≡ 10 + bin_words len
@@ -79,27 +76,10 @@ module _ {H : Type 0} (m : Meaning H) (b : Verbs H) (holds : Holds m b) (seat : 
 
   module _ (c : Verbs H) (res : Result (Unit {0}) Refusal) (f : Searches m wanted b c res) where
     pub long-lacks : (e : Refusal) → res ≡ Err e → (out : Result (Unit {0}) Refusal) → IsErrAnd out (λ y. y ≡ e) → Does {A = Unit {0}} m (OfProcess seat.pid v) b c out
-    long-lacks e is out as_it =
-        let at : out ≡ Err (NoSpace (words_of_want wanted)) = same-error out e as_it ∙ ap Err (lacked wanted f.found res e f.answer is).1 in
-        rw (f.same, at) (lacks m b holds seat x v (Unit {0}) wanted f.heaps (searched-none m b holds wanted c res f e is)
+    long-lacks e is out as_it = rw (f.same, lacking-told m b c wanted res f e is out as_it) (lacks m b holds seat x v (Unit {0}) wanted f.heaps (looks-lacking m b c wanted res f e is)
         (λ s terms names o. (omega (arith, record-words len long), ap (gets_to_space (OfProcess seat.pid v)) (fill-is s terms names))))
 
     module _ (h : H) (looks : Looks m wanted b.heaps h true) (h2 : H) (gains : GainsBin m seat.row r (b.serials + 1) len byte h h2) where
-      long-counts : IsCounted m (binned (roomed b h) h2)
-      long-counts =
-          let rows : m.numbers h2 ≡ m.numbers b.heaps = gains.stays.rows ∙ looks.stays.rows in
-          let k : IsCounted m b = holds.counts in
-          record {
-            enough = k.enough;
-            few = rw rows k.few;
-            rising = rw rows k.rising;
-            below = rw rows k.below;
-            second = k.second;
-            numbered = omega (arith, k.numbered);
-            serials = omega (arith, k.serials);
-            whole = gains.stays.goes.whole (2 * b.calls + 1) (2 * (b.calls + 1)) (whole-roomed m b holds wanted h true looks) (omega arith);
-          }
-
       abbrev filled : State → Process
       filled s = with_register r.0 (Shared (b.serials + 1)) (process_at s.processes seat.row)
 
@@ -117,7 +97,7 @@ module _ {H : Type 0} (m : Meaning H) (b : Verbs H) (holds : Holds m b) (seat : 
 
       fills : Does {A = Unit {0}} m (OfProcess seat.pid v) b (binned (roomed b h) h2) (Ok tt)
       fills = record {
-        holds = record { counts = long-counts; state = _; stands = long-stands holds.state end [] holds.stands };
+        holds = record { counts = counts-gained m b holds wanted h true looks (binned (roomed b h) h2) gains.stays refl refl refl (omega (arith, holds.counts.serials)); state = _; stands = long-stands holds.state end [] holds.stands };
         becomes = λ s terms names o.
             let serial : length s.shared + 1 ≡ b.serials + 1 = omega (arith, o.shared) in
             let by = fill-is s terms names ∙ ap (λ z. does (line terms names) (with_made s (process_at s.processes seat.row) r.0 (Shared z, s.shared ++ bytes ∷ []))) serial in
@@ -127,5 +107,5 @@ module _ {H : Type 0} (m : Meaning H) (b : Verbs H) (holds : Holds m b) (seat : 
 
     pub long-does : (u : Unit {0}) → res ≡ Ok u → (h2 : H) → GainsBin m seat.row r (c.serials + 1) len byte c.heaps h2 → Does {A = Unit {0}} m (OfProcess seat.pid v) b (binned c h2) (Ok tt)
     long-does u is h2 gains =
-        let P : Verbs H → Type 0 = λ z. GainsBin m seat.row r (z.serials + 1) len byte z.heaps h2 → Does {A = Unit {0}} m (OfProcess seat.pid v) b (binned z h2) (Ok tt) in
-        subst P (sym f.same) (λ gain. fills f.heaps (searched-some m b holds wanted c res f u is) h2 gain) gains
+        let P : Verbs H → Type 0 = λ z. GainsBin m seat.row r (z.serials + 1) len byte z.heaps h2 in
+        rw f.same (fills f.heaps (looks-found m b c wanted res f u is) h2 (subst P f.same gains))

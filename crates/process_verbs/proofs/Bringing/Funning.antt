@@ -1,5 +1,5 @@
 -- `fun`: a fun in a register, whose environment are terms of registers, or there is no space.
-use Rattle.std.proofs.Common.{Vec, ◌≡◌, ℕ, ◌+◌, ◌*◌, ◌<◌, ◌≤◌, true, false, true≢false, max, List, [], ◌∷◌, length, map, replicate, set, Result, Ok, Err, IsErrAnd, refl, sym, ◌∙◌, ap, subst, arith, inl}
+use Rattle.std.proofs.Common.{Vec, ◌≡◌, ℕ, ◌+◌, ◌<◌, ◌≤◌, true, false, true≢false, max, List, [], ◌∷◌, length, map, replicate, set, Result, Ok, Err, IsErrAnd, refl, sym, ◌∙◌, ap, subst, arith, inl}
 use Rattle.std.proofs.lemmas.Bool.{le-ltb, lt-ltb}
 use Rattle.std.proofs.lemmas.List.{length-map, length-replicate}
 use Rattle.std.specs.Vec.{vec_len}
@@ -14,7 +14,7 @@ use Rattle.script_grammar.specs.declared.command.Reg.{Reg}
 use Rattle.script_grammar.specs.declared.command.Verb.{Verb}
 use Rattle.script_grammar.specs.declared.command.Verb.TheVariants as verb
 use Rattle.script_grammar.specs.declared.refusal.Refusal.{Refusal}
-use Rattle.script_grammar.specs.declared.refusal.Refusal.TheVariants.{BadArg, NoSpace}
+use Rattle.script_grammar.specs.declared.refusal.Refusal.TheVariants.{BadArg}
 use Rattle.script_grammar.specs.Written.{Terms, terms_len}
 use Rattle.plain_machine.specs.declared.limits.TheConstants.{MOST_ARITY}
 use Rattle.plain_machine.specs.Made.{trees_of_terms}
@@ -25,17 +25,15 @@ use Rattle.space_api.specs.Calls.{Becomes, HasEnv, IsEnv, said}
 use Rattle.space_api.specs.declared.space.Seat.{Seat}
 use Rattle.heaps_api.specs.Meaning.{Meaning}
 use Rattle.heaps_api.specs.Changing.{GainsFun, Looks, process_at, register_trees}
-use Rattle.heaps_api.specs.Wanted.{words_of_want}
 use Rattle.heaps_api.specs.declared.wanted.Want.{Want}
 use Rattle.heaps_api.specs.declared.wanted.Want.TheVariants as want
-use Rattle.process_verbs.specs.Verbs.{Holds, IsCounted, Sits, VerbsStand, memory_words}
+use Rattle.process_verbs.specs.Verbs.{Holds, Sits, VerbsStand, memory_words}
 use Rattle.process_verbs.specs.Asked.{Searches, roomed}
 use Rattle.process_verbs.specs.declared.verbs.Verbs.{Verbs}
 use Rattle.process_verbs.proofs.Processes.Seats.{replaced}
 use Rattle.process_verbs.proofs.Processes.Seated.{number-there, set-there, settled-stands}
-use Rattle.process_verbs.proofs.Steps.{at-seat, grow-there, lacks-space, whole-roomed}
+use Rattle.process_verbs.proofs.Steps.{at-seat, counts-gained, grow-there, lacking-told, lacks-space, looks-found, looks-lacking}
 use Rattle.process_verbs.proofs.Processes.Within.{within-at}
-use Rattle.process_verbs.proofs.Bringing.Gaining.{lacked, same-error, searched-none, searched-some}
 
 terms-len : (rs : List ℕ) → terms_len (held_terms rs) ≡ length rs
 terms-len [] = refl
@@ -87,27 +85,12 @@ module _ {H : Type 0} (m : Meaning H) (b : Verbs H) (holds : Holds m b) (seat : 
           → (s : State) (terms : Terms) (names : List (List ℕ)) → VerbsStand m b s → HasEnv names name env terms
           → Becomes {A = Unit {0}} (memory_words m b) s (line terms names) out (VerbsStand m c)
       fun-lacks e is out as_it s terms names o has =
-          let at : out ≡ Err (NoSpace (words_of_want wanted)) = same-error out e as_it ∙ ap Err (lacked wanted f.found res e f.answer is).1 in
-          rw (f.same, at) (lacks-space m b holds wanted f.heaps false (searched-none m b holds wanted c res f e is) refl (Unit {0}) s (line terms names) o
+          rw (f.same, lacking-told m b c wanted res f e is out as_it)
+          (lacks-space m b holds wanted f.heaps false (looks-lacking m b c wanted res f e is) refl (Unit {0}) s (line terms names) o
           (grow-there m b holds seat x v s o terms names ∙ omega (arith, asked names terms has)) (rw (at-seat m b holds seat x v s o terms names, fun-is s terms names has) refl))
 
       module _ (h : H) (looks : Looks m wanted b.heaps h true) (h2 : H) (gains : GainsFun m seat.row r name arity env h h2)
           (row : Vec ℕ Global) (same_row : vec_len row ≡ vec_len b.scratch) (named : ℕ) (above : named ≡ max b.named (name + 1)) where
-        fun-counts : IsCounted m (funned (roomed b h) h2 row named)
-        fun-counts =
-            let rows : m.numbers h2 ≡ m.numbers b.heaps = gains.stays.rows ∙ looks.stays.rows in
-            let k : IsCounted m b = holds.counts in
-            record {
-              enough = same_row ∙ k.enough;
-              few = rw rows k.few;
-              rising = rw rows k.rising;
-              below = rw rows k.below;
-              second = k.second;
-              numbered = omega (arith, k.numbered);
-              serials = omega (arith, k.serials);
-              whole = gains.stays.goes.whole (2 * b.calls + 1) (2 * (b.calls + 1)) (whole-roomed m b holds wanted h true looks) (omega arith);
-            }
-
         fun-stands : (s : State) (terms : Terms) (names : List (List ℕ)) → VerbsStand m b s → (has : HasEnv names name env terms)
             → VerbsStand m (funned (roomed b h) h2 row named) (settled (line terms names) (with_process (made (process_at s.processes seat.row) has.registers) s))
         fun-stands s terms names o has =
@@ -130,19 +113,19 @@ module _ {H : Type 0} (m : Meaning H) (b : Verbs H) (holds : Holds m b) (seat : 
               written = refl;
               known = omega (arith, length-replicate {A = List ℕ} (name + 1) []);
             } in
-            record { counts = fun-counts; state = _; stands = fun-stands holds.state (held_terms is_env.registers) names holds.stands has }
+            record { counts = counts-gained m b holds wanted h true looks (funned (roomed b h) h2 row named) gains.stays same_row refl refl (omega (arith, holds.counts.serials)); state = _; stands = fun-stands holds.state (held_terms is_env.registers) names holds.stands has }
 
       module _ (u : Unit {0}) (is : res ≡ Ok u) (h2 : H) (gains : GainsFun m seat.row r name arity env c.heaps h2) (row : Vec ℕ Global) (same_row : vec_len row ≡ vec_len c.scratch)
           (named : ℕ) (above : named ≡ max c.named (name + 1)) where
+        abbrev Told : Verbs H → Type 0
+        Told z = GainsFun m seat.row r name arity env z.heaps h2 × ((vec_len row ≡ vec_len z.scratch) × (named ≡ max z.named (name + 1)))
+
+        told : Told (roomed b f.heaps)
+        told = subst Told f.same (gains, (same_row, above))
+
         pub fun-done : (s : State) (terms : Terms) (names : List (List ℕ)) → VerbsStand m b s → HasEnv names name env terms
             → Becomes {A = Unit {0}} (memory_words m b) s (line terms names) (Ok tt) (VerbsStand m (funned c h2 row named))
-        fun-done s terms names o has =
-            let P : Verbs H → Type 0 = λ z. GainsFun m seat.row r name arity env z.heaps h2 → vec_len row ≡ vec_len z.scratch → named ≡ max z.named (name + 1)
-            → Becomes {A = Unit {0}} (memory_words m b) s (line terms names) (Ok tt) (VerbsStand m (funned z h2 row named)) in
-            subst P (sym f.same) (λ gain same up. fun-becomes f.heaps (searched-some m b holds wanted c res f u is) h2 gain row same named up s terms names o has) gains same_row above
+        fun-done s terms names o has = rw f.same (fun-becomes f.heaps (looks-found m b c wanted res f u is) h2 told.0 row told.1.0 named told.1.1 s terms names o has)
 
         pub fun-holds : IsEnv env → Holds m (funned c h2 row named)
-        fun-holds is_env =
-            let P : Verbs H → Type 0 = λ z. GainsFun m seat.row r name arity env z.heaps h2 → vec_len row ≡ vec_len z.scratch → named ≡ max z.named (name + 1)
-            → Holds m (funned z h2 row named) in
-            subst P (sym f.same) (λ gain same up. fun-whole f.heaps (searched-some m b holds wanted c res f u is) h2 gain row same named up is_env) gains same_row above
+        fun-holds is_env = rw f.same (fun-whole f.heaps (looks-found m b c wanted res f u is) h2 told.0 row told.1.0 named told.1.1 is_env)

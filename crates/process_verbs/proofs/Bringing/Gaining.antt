@@ -1,5 +1,5 @@
 -- A term is built or put in a register, or there is no space for it: what the shared steps of verbs leave.
-use Rattle.std.proofs.Common.{◌≡◌, ℕ, ◌+◌, ◌*◌, ◌^◌, ◌<◌, ◌≤◌, Bool, true, false, true≢false, List, [], map, set, Result, Ok, Err, IsErrAnd, refl, sym, ◌∙◌, ap, subst, arith, inl}
+use Rattle.std.proofs.Common.{◌≡◌, ℕ, ◌+◌, ◌*◌, ◌≤◌, Bool, true, false, true≢false, List, [], Result, Ok, Err, IsErrAnd, refl, sym, ◌∙◌, arith, inl}
 use Rattle.plain_term.specs.Tree.{Tree, pairs_len}
 use Rattle.script_grammar.specs.declared.command.Command.TheVariants.{Process as OfProcess}
 use Rattle.script_grammar.specs.declared.command.Reg.{Reg}
@@ -11,14 +11,12 @@ use Rattle.script_grammar.specs.Written.{Terms}
 use Rattle.script_grammar.specs.Written.Terms.{end}
 use Rattle.plain_machine.specs.State.{Process, State, with_process, with_register}
 use Rattle.plain_machine.specs.Step.{settled}
-use Rattle.plain_machine.specs.Laws.{AreWithin}
-use Rattle.plain_machine.proofs.Properly.Holding.{put-within}
 use Rattle.space_api.specs.Calls.{said}
 use Rattle.space_api.specs.declared.space.Seat.{Seat}
 use Rattle.term_maps.specs.declared.sorted.Spot.{Spot}
 use Rattle.term_maps.specs.declared.sorted.Spot.TheVariants as spot
 use Rattle.term_verbs.specs.Placed.{count_placed}
-use Rattle.heaps_api.specs.Meaning.{CanAsk, HoldsThere, Meaning, Stood}
+use Rattle.heaps_api.specs.Meaning.{HoldsThere, Meaning}
 use Rattle.heaps_api.specs.Changing.{CanMake, Gains, Looks, PutsWord, process_at}
 use Rattle.heaps_api.specs.Making.{CanReckon, IsMadeOf, with_made_in, words_of_make}
 use Rattle.heaps_api.specs.Wanted.{words_of_want}
@@ -27,31 +25,11 @@ use Rattle.heaps_api.specs.declared.making.Make.TheVariants as make
 use Rattle.heaps_api.specs.declared.wanted.Want.{Want}
 use Rattle.heaps_api.specs.declared.wanted.Want.TheVariants as want
 use Rattle.process_verbs.specs.Verbs.{Holds, Sits, VerbsStand}
-use Rattle.process_verbs.specs.Asked.{HasMade, HoldsSome, MakesTerm, PutsInto, Searches, answer_of_search, changed, roomed}
+use Rattle.process_verbs.specs.Asked.{HasMade, HoldsSome, MakesTerm, PutsInto, Searches, changed, roomed}
 use Rattle.process_verbs.specs.Doing.{Asks}
 use Rattle.process_verbs.specs.declared.verbs.Verbs.{Verbs}
-use Rattle.process_verbs.proofs.Processes.Seats.{replaced}
-use Rattle.process_verbs.proofs.Processes.Seated.{number-there, set-there, settled-stands}
 use Rattle.process_verbs.proofs.Processes.Within.{within-at}
-use Rattle.process_verbs.proofs.Steps.{at-seat, counts-stay, grow-there, holds-roomed, lacks-space, ready-roomed, whole-roomed}
-
--- What the answer of a search tells.
-pub lacked : (w : Want) (found : Bool) (r : Result (Unit {0}) Refusal) (e : Refusal) → r ≡ answer_of_search w found → r ≡ Err e → (found ≡ false) × (e ≡ NoSpace (words_of_want w))
-lacked w true r e answer is = absurd (no (sym answer ∙ is))
-  where
-    no : ◌≡◌ {A = Result (Unit {0}) Refusal} (Ok tt) (Err e) → ⊥
-    no x = cc
-lacked w false r e answer is = (refl, same e (NoSpace (words_of_want w)) (sym is ∙ answer))
-  where
-    same : (a b : Refusal) → ◌≡◌ {A = Result (Unit {0}) Refusal} (Err a) (Err b) → a ≡ b
-    same a b x = cc
-
-pub given : (w : Want) (found : Bool) (r : Result (Unit {0}) Refusal) (u : Unit {0}) → r ≡ answer_of_search w found → r ≡ Ok u → found ≡ true
-given w true r u answer is = refl
-given w false r u answer is = absurd (no (NoSpace (words_of_want w)) (sym is ∙ answer))
-  where
-    no : (e : Refusal) → ◌≡◌ {A = Result (Unit {0}) Refusal} (Ok u) (Err e) → ⊥
-    no e x = cc
+use Rattle.process_verbs.proofs.Steps.{after, at-seat, counts-gained, counts-stay, grow-there, heaps-are, holds-roomed, lacking-told, lacks-space, looks-found, looks-lacking, seat-stands}
 
 -- What is made changes neither the number nor the queue.
 pub made-number : (make : Make) (r : ℕ) (t : Tree) (q : Process) → (with_made_in r make t q).number ≡ q.number
@@ -84,21 +62,12 @@ module _ {H : Type 0} (m : Meaning H) (b : Verbs H) (holds : Holds m b) where
       record { heaps = h; there = true; looked = looks.looked; exact = refl; lacking = λ e. absurd (true≢false (sym e)); given_back = tt; few = took }
 
   module _ (seat : Seat) (x : Sits m b seat) where
-    -- The process of the seat is another, with its number.
-    pub seat-stands : (s : State) (o : VerbsStand m b s) (v : Verb) (terms : Terms) (names : List (List ℕ)) (q : Process) (h : H)
-        → q.number ≡ (process_at s.processes seat.row).number → Stood m b.named h s.shared (set s.processes seat.row q) → AreWithin s.shared q.queue
-        → VerbsStand m (changed b h) (settled (said (OfProcess seat.pid v) terms names) (with_process q s))
-    seat-stands s o v terms names q h number stood within =
-        let same : map (replaced q) s.processes ≡ set s.processes seat.row q = set-there m b s o holds.counts seat x q (number ∙ number-there m b s o holds.counts seat x) in
-        settled-stands m b (changed b h) s (said (OfProcess seat.pid v) terms names) q s.shared o (rw same stood) refl refl o.shared (λ e. absurd (true≢false (sym e)))
-        (put-within s.shared q s.processes within o.within)
-
     module _ (r : Reg) (w : ℕ) (h : H) (puts : PutsWord m seat.row r w b.heaps h) where
       word-stands : (s : State) (v : Verb) (terms : Terms) (names : List (List ℕ)) (t : Tree) (o : VerbsStand m b s)
           → HoldsThere m b.named b.heaps s.shared s.processes o.processes seat.row w t
           → VerbsStand m (changed b h) (settled (said (OfProcess seat.pid v) terms names) (with_process (with_register r.0 t (process_at s.processes seat.row)) s))
       word-stands s v terms names t o held =
-          seat-stands s o v terms names (with_register r.0 t (process_at s.processes seat.row)) h refl (puts.put b.named s.shared s.processes o.processes t held)
+          seat-stands m b holds seat x v s o terms names (with_register r.0 t (process_at s.processes seat.row)) h refl (puts.put b.named s.shared s.processes o.processes t held)
           (within-at s.shared s.processes seat.row o.within)
 
       pub word-puts : ((s : State) (o : VerbsStand m b s) → HoldsSome m b seat.row w s o) → PutsInto m seat r w b (changed b h)
@@ -146,15 +115,14 @@ module _ {H : Type 0} (m : Meaning H) (b : Verbs H) (holds : Holds m b) where
             → VerbsStand m (changed b h2) (settled (said (OfProcess seat.pid v) terms names) (with_process (with_made_in r.0 make t (process_at s.processes seat.row)) s))
         make-stands s v terms names t o makes =
             let q : Process = process_at s.processes seat.row in
-            seat-stands s o v terms names (with_made_in r.0 make t q) h2 (made-number make r.0 t q)
+            seat-stands m b holds seat x v s o terms names (with_made_in r.0 make t q) h2 (made-number make r.0 t q)
             (gains.made b.named s.shared s.processes t (looks.kept b.named s.shared s.processes o.processes) makes)
             (rw (made-queue make r.0 t q) (within-at s.shared s.processes seat.row o.within))
 
         pub make-gains : ((s : State) → VerbsStand m b s → HasMade s.shared (process_at s.processes seat.row) make) → MakesTerm m seat r make b (changed b h2) (Ok tt)
         make-gains some = record {
           holds = record {
-            counts = counts-stay m b (changed b h2) holds.counts (gains.stays.rows ∙ looks.stays.rows) refl refl (omega arith) refl
-                (gains.stays.goes.whole (2 * b.calls + 1) (2 * (b.calls + 1)) (whole-roomed m b holds wanted h true looks) (omega arith));
+            counts = counts-gained m b holds wanted h true looks (changed b h2) gains.stays refl refl refl (omega (arith, holds.counts.serials));
             state = _;
             stands = make-stands holds.state (verb.Own r) end [] (some holds.state holds.stands).tree holds.stands (some holds.state holds.stands).makes;
           };
@@ -164,50 +132,21 @@ module _ {H : Type 0} (m : Meaning H) (b : Verbs H) (holds : Holds m b) where
           becomes = λ s v terms names t o makes words by. inl (rw (at-seat m b holds seat x v s o terms names, by) (make-stands s v terms names t o makes));
         }
 
--- An error that went on as it was.
-pub same-error : {A : Type 0} (out : Result A Refusal) (e : Refusal) → IsErrAnd out (λ y. y ≡ e) → out ≡ Err e
-same-error (Ok a) e is = absurd is
-same-error (Err y) e is = ap Err is
-
--- After a search, with another memory.
-abbrev pub moved : {H : Type 0} → Verbs H → H → Verbs H
-moved b h = record { heaps = h; scratch = b.scratch; next = b.next; serials = b.serials; named = b.named; calls = b.calls; swept = false }
-
--- What a search leaves.
-module _ {H : Type 0} (m : Meaning H) (b : Verbs H) (holds : Holds m b) (w : Want) (c : Verbs H) (r : Result (Unit {0}) Refusal) (f : Searches m w b c r) where
-  pub searched-ready : b.calls < 2 ^ 36 → CanAsk m c.heaps
-  searched-ready few = rw f.same (ready-roomed m b holds w f.heaps f.found f.looks few)
-
-  pub searched-none : (e : Refusal) → r ≡ Err e → Looks m w b.heaps f.heaps false
-  searched-none e is =
-      let P : Bool → Type 0 = λ z. Looks m w b.heaps f.heaps z in
-      subst P (lacked w f.found r e f.answer is).0 f.looks
-
-  pub searched-some : (u : Unit {0}) → r ≡ Ok u → Looks m w b.heaps f.heaps true
-  searched-some u is =
-      let P : Bool → Type 0 = λ z. Looks m w b.heaps f.heaps z in
-      subst P (given w f.found r u f.answer is) f.looks
-
 module _ {H : Type 0} (m : Meaning H) (b : Verbs H) (holds : Holds m b) (seat : Seat) (x : Sits m b seat) (r : Reg) (make : Make)
     (some : (s : State) → VerbsStand m b s → HasMade s.shared (process_at s.processes seat.row) make)
     (n : ℕ) (words : n ≡ words_of_make make) (c : Verbs H) (res : Result (Unit {0}) Refusal) (f : Searches m (want.Words seat.row n 0) b c res) where
   found-words : Searches m (wanted m b holds seat x r make) b c res
-  found-words =
-      let P : ℕ → Type 0 = λ z. Searches m (want.Words seat.row z 0) b c res in
-      subst P words f
+  found-words = rw (← words) f
 
   pub make-can : CanMake m seat.row make c.heaps
   make-can = rw found-words.same (can-make m b holds seat x r make found-words.heaps found-words.found found-words.looks some)
 
   pub make-refused : (e : Refusal) → res ≡ Err e → (out : Result (Unit {0}) Refusal) → IsErrAnd out (λ y. y ≡ e) → MakesTerm m seat r make b c out
-  make-refused e is out as_it =
-      let g : Searches m (wanted m b holds seat x r make) b c res = found-words in
-      let at : out ≡ Err (NoSpace (words_of_want (wanted m b holds seat x r make))) =
-      same-error out e as_it ∙ ap Err (lacked (wanted m b holds seat x r make) g.found res e g.answer is).1 in
-      rw (g.same, at) (make-lacks m b holds seat x r make g.heaps (searched-none m b holds (wanted m b holds seat x r make) c res g e is))
+  make-refused e is out as_it = rw (found-words.same, lacking-told m b c (wanted m b holds seat x r make) res found-words e is out as_it)
+      (make-lacks m b holds seat x r make found-words.heaps (looks-lacking m b c (wanted m b holds seat x r make) res found-words e is))
 
-  pub make-done : (u : Unit {0}) → res ≡ Ok u → (h2 : H) → Gains m seat.row r make c.heaps h2 → MakesTerm m seat r make b (moved c h2) (Ok tt)
+  pub make-done : (u : Unit {0}) → res ≡ Ok u → (h2 : H) → Gains m seat.row r make c.heaps h2 → MakesTerm m seat r make b (after c h2) (Ok tt)
   make-done u is h2 gains =
-      let g : Searches m (wanted m b holds seat x r make) b c res = found-words in
-      let P : Verbs H → Type 0 = λ z. Gains m seat.row r make z.heaps h2 → MakesTerm m seat r make b (moved z h2) (Ok tt) in
-      subst P (sym g.same) (λ gain. make-gains m b holds seat x r make g.heaps (searched-some m b holds (wanted m b holds seat x r make) c res g u is) h2 gain some) gains
+      let same = heaps-are m b c (wanted m b holds seat x r make) res found-words in
+      let looks = looks-found m b c (wanted m b holds seat x r make) res found-words u is in
+      rw found-words.same (make-gains m b holds seat x r make found-words.heaps looks h2 (rw same at gains) some)

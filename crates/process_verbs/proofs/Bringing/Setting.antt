@@ -1,5 +1,5 @@
 -- `set`: a written term is built in a register, or it is refused for its maps, or there is no space.
-use Rattle.std.proofs.Common.{Vec, ◌≡◌, ℕ, ◌+◌, ◌-◌, ◌*◌, ◌^◌, min, ◌<◌, ◌≤◌, Bool, true, false, true≢false, List, length, map, set, Option, Result, Ok, Err, IsErrAnd, refl, sym, ◌∙◌, ap, subst, arith, inl}
+use Rattle.std.proofs.Common.{Vec, ◌≡◌, ℕ, ◌+◌, ◌-◌, ◌^◌, min, ◌<◌, ◌≤◌, Bool, true, false, true≢false, List, length, map, set, Option, Result, Ok, Err, IsErrAnd, refl, sym, ◌∙◌, ap, subst, arith, inl}
 use Rattle.std.specs.Vec.{vec_len}
 use Rattle.std.specs.declared.alloc.Global.{Global}
 use Rattle.plain_term.specs.declared.item.Item.{Item}
@@ -34,15 +34,15 @@ use Rattle.heaps_api.specs.Wanted.{words_of_want}
 use Rattle.heaps_api.specs.Written.{GainsTerm, refusal_of_stop, want_of_items}
 use Rattle.heaps_api.specs.declared.wanted.Want.{Want}
 use Rattle.heaps_api.specs.declared.wanted.Want.TheVariants as want
-use Rattle.process_verbs.specs.Verbs.{Holds, IsCounted, Sits, VerbsStand}
+use Rattle.process_verbs.specs.Verbs.{Holds, Sits, VerbsStand}
 use Rattle.process_verbs.specs.Asked.{Searches, roomed}
 use Rattle.process_verbs.specs.Doing.{Asks, Builds, is_nospace}
 use Rattle.process_verbs.specs.declared.verbs.Verbs.{Verbs}
 use Rattle.process_verbs.proofs.Processes.Seats.{replaced}
 use Rattle.process_verbs.proofs.Processes.Seated.{number-there, set-there, settled-stands}
-use Rattle.process_verbs.proofs.Steps.{at-seat, grow-there, holds-roomed, lacks-space, whole-roomed}
+use Rattle.process_verbs.proofs.Steps.{at-seat, counts-gained, grow-there, heaps-are, holds-roomed, lacking-told, lacks-space, looks-found, looks-lacking}
 use Rattle.process_verbs.proofs.Processes.Within.{within-at}
-use Rattle.process_verbs.proofs.Bringing.Gaining.{asks-gained, asks-lacks, lacked, same-error, searched-none, searched-some}
+use Rattle.process_verbs.proofs.Bringing.Gaining.{asks-gained, asks-lacks}
 
 -- The words that were reckoned are those of the items.
 module _ (names : List (List ℕ)) (code : List Item) (t : HasTerm names code) (few : length names ≤ 16384) where
@@ -111,21 +111,6 @@ module _ {H : Type 0} (m : Meaning H) (b : Verbs H) (holds : Holds m b) (seat : 
       abbrev b4 : Verbs H
       b4 = termed (roomed b h) h2 row (b.serials + bins) named false
 
-      set-counts : IsCounted m b4
-      set-counts =
-          let rows : m.numbers h2 ≡ m.numbers b.heaps = gains.stays.rows ∙ looks.stays.rows in
-          let k : IsCounted m b = holds.counts in
-          record {
-            enough = same_row ∙ k.enough;
-            few = rw rows k.few;
-            rising = rw rows k.rising;
-            below = rw rows k.below;
-            second = k.second;
-            numbered = omega (arith, k.numbered);
-            serials = omega (arith, k.serials, gains.few, has.few);
-            whole = gains.stays.goes.whole (2 * b.calls + 1) (2 * (b.calls + 1)) (whole-roomed m b holds wanted h true looks) (omega arith);
-          }
-
       set-stands : (s : State) (t : Term) (o : VerbsStand m b s) → IsWrittenTerm names code t → VerbsStand m b4 (settled (line t) (with_made s (q_in s) r.0 (made s t)))
       set-stands s t o is =
           let kept = looks.kept b.named s.shared s.processes o.processes in
@@ -138,7 +123,7 @@ module _ {H : Type 0} (m : Meaning H) (b : Verbs H) (holds : Holds m b) (seat : 
 
       set-builds : Builds {A = Unit {0}} m names seat.pid r code b b4 (Ok tt)
       set-builds = record {
-        holds = record { counts = set-counts; state = _; stands = set-stands holds.state has.term holds.stands has.is };
+        holds = record { counts = counts-gained m b holds wanted h true looks b4 gains.stays same_row refl refl (omega (arith, holds.counts.serials, gains.few, has.few)); state = _; stands = set-stands holds.state has.term holds.stands has.is };
         becomes = λ s t o is.
             let it = gains.built b.named s.shared s.processes t (looks.kept b.named s.shared s.processes o.processes) o.shared more is in
             inl (rw (at-seat m b holds seat x v s o (one_term t) names, ap (λ z. unless_flawed z (does (line t) (with_made s (q_in s) r.0 (made s t)))) it.0) (set-stands s t o is));
@@ -163,80 +148,65 @@ module _ {H : Type 0} (m : Meaning H) (b : Verbs H) (holds : Holds m b) (seat : 
       }
 
       set-stops : Builds {A = Unit {0}} m names seat.pid r code b b5 (Err (refusal_of_stop e))
-      set-stops =
-          let rows : m.numbers h2 ≡ m.numbers b.heaps = gains.stays.rows ∙ looks.stays.rows in
-          let k : IsCounted m b = holds.counts in
-          record {
-            holds = record {
-              counts = record {
-                enough = same_row ∙ k.enough;
-                few = rw rows k.few;
-                rising = rw rows k.rising;
-                below = rw rows k.below;
-                second = k.second;
-                numbered = omega (arith, k.numbered);
-                serials = omega (arith, k.serials);
-                whole = gains.stays.goes.whole (2 * b.calls + 1) (2 * (b.calls + 1)) (whole-roomed m b holds wanted h true looks) (omega arith);
-              };
-              state = holds.state;
-              stands = stop-stands holds.state has.term holds.stands has.is;
-            };
-            becomes = λ s t o is.
-                let it = gains.built b.named s.shared s.processes t (looks.kept b.named s.shared s.processes o.processes) o.shared more is in
-                inl (rw (at-seat m b holds seat x v s o (one_term t) names, ap (λ z. unless_flawed z (does (line t) (with_made s (q_in s) r.0 (made s t)))) it.0) (refl, stop-stands s t o is));
-            books = record { same_words = gains.stays.goes.words ∙ looks.stays.goes.words; one_call = omega arith; few_names = omega arith };
-            refused = omega arith;
-          }
+      set-stops = record {
+        holds = record {
+          counts = counts-gained m b holds wanted h true looks b5 gains.stays same_row refl refl (omega (arith, holds.counts.serials));
+          state = holds.state;
+          stands = stop-stands holds.state has.term holds.stands has.is;
+        };
+        becomes = λ s t o is.
+            let it = gains.built b.named s.shared s.processes t (looks.kept b.named s.shared s.processes o.processes) o.shared more is in
+            inl (rw (at-seat m b holds seat x v s o (one_term t) names, ap (λ z. unless_flawed z (does (line t) (with_made s (q_in s) r.0 (made s t)))) it.0) (refl, stop-stands s t o is));
+        books = record { same_words = gains.stays.goes.words ∙ looks.stays.goes.words; one_call = omega arith; few_names = omega arith };
+        refused = omega arith;
+      }
 
   -- All of this of what was searched.
   module _ (n k : ℕ) (heap : n ≡ heap_words_of code) (far : k ≡ far_words_of code) (c : Verbs H) (res : Result (Unit {0}) Refusal) (f : Searches m (want.Words seat.row n k) b c res) where
     searched : Searches m wanted b c res
-    searched =
-        let P : ℕ → Type 0 = λ z. Searches m (want.Words seat.row z k) b c res in
-        let Q : ℕ → Type 0 = λ z. Searches m (want.Words seat.row (heap_words_of code) z) b c res in
-        subst Q far (subst P heap f)
+    searched = rw (← heap, ← far) f
 
     module _ (e : Refusal) (is : res ≡ Err e) (out : Result (Unit {0}) Refusal) (as_it : IsErrAnd out (λ y. y ≡ e)) where
       at-none : out ≡ Err (refusal.NoSpace (words_of_want wanted))
-      at-none = same-error out e as_it ∙ ap Err (lacked wanted searched.found res e searched.answer is).1
+      at-none = lacking-told m b c wanted res searched e is out as_it
 
       pub none-builds : Builds {A = Unit {0}} m names seat.pid r code b c out
-      none-builds = rw (searched.same, at-none) (set-lacks searched.heaps (searched-none m b holds wanted c res searched e is))
+      none-builds = rw (searched.same, at-none) (set-lacks searched.heaps (looks-lacking m b c wanted res searched e is))
 
       pub none-asks : Asks {A = Unit {0}} m wanted b c out
-      none-asks = rw (searched.same, at-none)
-          (asks-lacks m b holds (Unit {0}) wanted searched.heaps (searched-none m b holds wanted c res searched e is) (words_of_want wanted))
+      none-asks = rw (searched.same, at-none) (asks-lacks m b holds (Unit {0}) wanted searched.heaps (looks-lacking m b c wanted res searched e is) (words_of_want wanted))
 
     module _ (u : Unit {0}) (is : res ≡ Ok u) where
       some-looks : Looks m wanted b.heaps searched.heaps true
-      some-looks = searched-some m b holds wanted c res searched u is
+      some-looks = looks-found m b c wanted res searched u is
+
+      same-heaps : c.heaps ≡ searched.heaps
+      same-heaps = heaps-are m b c wanted res searched
 
       pub some-room : m.has_room wanted c.heaps
-      some-room = rw searched.same (some-looks.room refl)
+      some-room = rw same-heaps (some-looks.room refl)
 
       module _ (h2 : H) (row : Vec ℕ Global) (same_row : vec_len row ≡ vec_len c.scratch) where
+        -- What was told of the row and of the building, of the verbs after the search.
+        told : (result : Result ℕ BuildStop) → GainsTerm m names seat.row r c.serials code c.heaps h2 result
+            → (vec_len row ≡ vec_len b.scratch) × GainsTerm m names seat.row r b.serials code searched.heaps h2 result
+        told result gains =
+            let P : Verbs H → Type 0 = λ z. (vec_len row ≡ vec_len z.scratch) × GainsTerm m names seat.row r z.serials code z.heaps h2 result in
+            subst P searched.same (same_row, gains)
+
         module _ (bins named : ℕ) (named_is : named ≡ length names) (gains : GainsTerm m names seat.row r c.serials code c.heaps h2 (Ok bins)) where
           pub some-builds : Builds {A = Unit {0}} m names seat.pid r code b (termed c h2 row (c.serials + bins) named false) (Ok tt)
-          some-builds =
-              let P : Verbs H → Type 0 = λ z. vec_len row ≡ vec_len z.scratch → GainsTerm m names seat.row r z.serials code z.heaps h2 (Ok bins)
-              → Builds {A = Unit {0}} m names seat.pid r code b (termed z h2 row (z.serials + bins) named false) (Ok tt) in
-              subst P (sym searched.same) (λ same gain. set-builds searched.heaps some-looks h2 row same bins named named_is gain) same_row gains
+          some-builds = let k = told (Ok bins) gains in rw searched.same (set-builds searched.heaps some-looks h2 row k.0 bins named named_is k.1)
 
           pub some-asks : Asks {A = Unit {0}} m wanted b (termed c h2 row (c.serials + bins) named false) (Ok tt)
-          some-asks =
-              let P : H → Type 0 = λ z. m.took wanted z h2 in
-              asks-gained m b holds (Unit {0}) wanted searched.heaps some-looks (termed c h2 row (c.serials + bins) named false) tt (subst P (ap (λ z. z.heaps) searched.same) gains.took)
+          some-asks = asks-gained m b holds (Unit {0}) wanted searched.heaps some-looks (termed c h2 row (c.serials + bins) named false) tt (told (Ok bins) gains).1.took
 
         module _ (e : BuildStop) (gains : GainsTerm m names seat.row r c.serials code c.heaps h2 (Err e)) (out : Refusal) (out_is : out ≡ refusal_of_stop e) where
           pub stop-builds : Builds {A = Unit {0}} m names seat.pid r code b (termed c h2 row c.serials c.named c.swept) (Err out)
-          stop-builds =
-              let P : Verbs H → Type 0 = λ z. vec_len row ≡ vec_len z.scratch → GainsTerm m names seat.row r z.serials code z.heaps h2 (Err e)
-              → Builds {A = Unit {0}} m names seat.pid r code b (termed z h2 row z.serials z.named z.swept) (Err out) in
-              subst P (sym searched.same) (λ same gain. rw out_is (set-stops searched.heaps some-looks h2 row same e gain)) same_row gains
+          stop-builds = let k = told (Err e) gains in rw (searched.same, out_is) (set-stops searched.heaps some-looks h2 row k.0 e k.1)
 
           pub stop-asks : Asks {A = Unit {0}} m wanted b (termed c h2 row c.serials c.named c.swept) (Err out)
           stop-asks =
-              let P : H → Type 0 = λ z. m.gave_back z h2 in
               let not_so : is_nospace {A = Unit {0}} (Err out) ≡ false = rw out_is (no-nospace e) in
               record {
                 heaps = searched.heaps;
@@ -244,6 +214,6 @@ module _ {H : Type 0} (m : Meaning H) (b : Verbs H) (holds : Holds m b) (seat : 
                 looked = some-looks.looked;
                 exact = not_so;
                 lacking = λ z. absurd (true≢false (sym z ∙ not_so));
-                given_back = subst P (ap (λ z. z.heaps) searched.same) gains.gave_back;
+                given_back = (told (Err e) gains).1.gave_back;
                 few = tt;
               }

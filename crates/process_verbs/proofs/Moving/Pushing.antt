@@ -16,7 +16,7 @@ use Rattle.process_verbs.specs.Doing.{Does}
 use Rattle.process_verbs.specs.declared.verbs.Verbs.{Verbs}
 use Rattle.process_verbs.proofs.Steps.{gains}
 use Rattle.process_verbs.proofs.Processes.Within.{within-at}
-use Rattle.process_verbs.proofs.Moving.Searching.{after, heaps-are, lacks-after, looks-found}
+use Rattle.process_verbs.proofs.Steps.{after, heaps-are, lacks-after, looks-found}
 
 module _ {H : Type 0} (m : Meaning H) (b : Verbs H) (holds : Holds m b) (seat : Seat) (x : Sits m b seat) (r : Reg) (c : Verbs H) (res : Result (Unit {0}) Refusal)
     (asked : Searches m (Words seat.row PLACE_COST 0) b c res) where

@@ -42,7 +42,7 @@ use Rattle.process_verbs.proofs.Telling.Replies.{standing}
 use Rattle.process_verbs.proofs.Steps.{at-seat, counts-stay, holds-become, refuses, whole-roomed}
 use Rattle.process_verbs.proofs.Moving.Hearing.{is-over, none-within}
 use Rattle.process_verbs.proofs.Moving.Queues.{none-queued, one-queued, queued}
-use Rattle.process_verbs.proofs.Moving.Searching.{after, heaps-are, lacks-after, looks-found, looks-lacking, no-space-told}
+use Rattle.process_verbs.proofs.Steps.{after, heaps-are, lacks-after, looks-found, looks-lacking, no-space-told}
 use Rattle.process_verbs.proofs.Moving.Sizing.{within-few}
 
 module _ {H : Type 0} (m : Meaning H) (b : Verbs H) (holds : Holds m b) (seat : Seat) (x : Sits m b seat) (r : Reg) (to : To) where

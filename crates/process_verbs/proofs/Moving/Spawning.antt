@@ -23,7 +23,7 @@ use Rattle.process_verbs.specs.Doing.{Does}
 use Rattle.process_verbs.specs.declared.verbs.Verbs.{Verbs}
 use Rattle.process_verbs.proofs.Processes.Seated.{count-there, rising-there}
 use Rattle.process_verbs.proofs.Steps.{holds-become, lacks-does, whole-roomed}
-use Rattle.process_verbs.proofs.Moving.Searching.{looks-found, looks-lacking, no-space-told}
+use Rattle.process_verbs.proofs.Steps.{looks-found, looks-lacking, no-space-told}
 
 -- The verbs with a process more, after a call that asked for its room before.
 abbrev pub spawned : {H : Type 0} → Verbs H → H → Verbs H

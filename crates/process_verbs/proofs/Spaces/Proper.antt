@@ -1,5 +1,5 @@
 -- A call of the verbs is one of the space, all of whose trees are proper.
-use Rattle.std.proofs.Common.{◌≡◌, ℕ, List, Result, subst}
+use Rattle.std.proofs.Common.{◌≡◌, ℕ, List, Result}
 use Rattle.plain_machine.specs.State.{HasNames, State}
 use Rattle.plain_machine.specs.Step.{step}
 use Rattle.script_grammar.specs.declared.command.Command.{Command}

@@ -1,6 +1,6 @@
 use Rattle.std.proofs.Common.{refl}
 use Rattle.std.specs.Vec.{with_items}
-use Rattle.process_verbs.proofs.Bringing.Gaining.{searched-ready}
+use Rattle.process_verbs.proofs.Steps.{ready-after}
 use Rattle.process_verbs.proofs.Bringing.Setting.{both-few, far-needed, heap-needed, none-asks, none-builds, some-asks, some-builds, some-room, stop-asks, stop-builds}
 use Rattle.process_verbs.proofs.verbs.Verbs.build.Goals as goal
 
@@ -25,7 +25,7 @@ returns-in_err-ask-clause-asks g c =
 
 pub gain_term-requires-clause-ready : goal.gain_term-requires-clause-ready
 gain_term-requires-clause-ready g c =
-    searched-ready g.H.Heaps.meaning c.args.self.now c.requires.holds _ _ _ c.ask.ensures c.requires.calls
+    ready-after _ _ _ _ _ c.ask.ensures c.requires.holds c.requires.calls
 
 pub gain_term-requires-clause-room : goal.gain_term-requires-clause-room
 gain_term-requires-clause-room g c =

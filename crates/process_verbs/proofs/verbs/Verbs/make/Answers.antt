@@ -1,4 +1,5 @@
-use Rattle.process_verbs.proofs.Bringing.Gaining.{make-can, make-done, make-refused, searched-ready}
+use Rattle.process_verbs.proofs.Bringing.Gaining.{make-can, make-done, make-refused}
+use Rattle.process_verbs.proofs.Steps.{ready-after}
 use Rattle.process_verbs.proofs.verbs.Verbs.make.Goals as goal
 
 pub returns-in_err-ask : goal.returns-in_err-ask
@@ -7,7 +8,7 @@ returns-in_err-ask g c =
     c.in_err-ask.field-0.0 (c.in_err-ask.was) c.from_residual.result c.from_residual.ensures.1
 
 pub gain-requires-clause-ready : goal.gain-requires-clause-ready
-gain-requires-clause-ready g c = searched-ready g.H.Heaps.meaning c.args.self.now c.requires.holds _ _ _ c.ask.ensures c.requires.calls
+gain-requires-clause-ready g c = ready-after _ _ _ _ _ c.ask.ensures c.requires.holds c.requires.calls
 
 pub gain-requires-clause-can : goal.gain-requires-clause-can
 gain-requires-clause-can g c =

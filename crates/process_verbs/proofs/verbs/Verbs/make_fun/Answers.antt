@@ -3,7 +3,7 @@ use Rattle.std.specs.Vec.{with_items}
 use Rattle.std.specs.Prelude.{slice_index}
 use Rattle.process_verbs.proofs.Bringing.Doing.{pid-below}
 use Rattle.process_verbs.proofs.Bringing.Funning.{fun-done, fun-holds, fun-lacks, fun-refused}
-use Rattle.process_verbs.proofs.Bringing.Gaining.{searched-ready}
+use Rattle.process_verbs.proofs.Steps.{ready-after}
 use Rattle.process_verbs.proofs.verbs.Verbs.make_fun.Goals as goal
 
 pub returns-then-arity-gt-MOST_ARITY-clause-becomes : goal.returns-then-arity-gt-MOST_ARITY-clause-becomes
@@ -16,7 +16,7 @@ returns-in_err-ask-clause-becomes g c =
     c.in_err-ask.field-0.0 c.in_err-ask.was c.from_residual.result c.from_residual.ensures.1
 
 pub gain_fun-requires-clause-ready : goal.gain_fun-requires-clause-ready
-gain_fun-requires-clause-ready g c = searched-ready g.H.Heaps.meaning c.args.self.now c.requires.holds _ _ _ c.ask.ensures c.requires.calls
+gain_fun-requires-clause-ready g c = ready-after _ _ _ _ _ c.ask.ensures c.requires.holds c.requires.calls
 
 pub gain_fun-requires-clause-number : goal.gain_fun-requires-clause-number
 gain_fun-requires-clause-number g c =

@@ -1,6 +1,6 @@
 use Rattle.std.proofs.lemmas.Result.{err_from_is_err_and}
 use Rattle.process_verbs.proofs.Moving.Pushing.{push-does, push-lacks}
-use Rattle.process_verbs.proofs.Moving.Searching.{ready-after}
+use Rattle.process_verbs.proofs.Steps.{ready-after}
 use Rattle.process_verbs.proofs.verbs.Verbs.push.Goals as goal
 
 pub returns-in_err-ask-clause-does : goal.returns-in_err-ask-clause-does

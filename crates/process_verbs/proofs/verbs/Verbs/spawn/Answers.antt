@@ -1,6 +1,6 @@
 use Rattle.std.proofs.Common.{arith}
 use Rattle.std.proofs.lemmas.Result.{err_from_is_err_and}
-use Rattle.process_verbs.proofs.Moving.Searching.{ready-after}
+use Rattle.process_verbs.proofs.Steps.{ready-after}
 use Rattle.process_verbs.proofs.Moving.Spawning.{spawn-does, spawn-full, spawn-lacks}
 use Rattle.process_verbs.proofs.verbs.Verbs.spawn.Goals as goal
 
