@@ -30,8 +30,7 @@ use Rattle.process_verbs.specs.Asked.{Searches, answer_of_search, changed, roome
 use Rattle.process_verbs.specs.Doing.{Does, DoesAtOnce}
 use Rattle.process_verbs.specs.declared.verbs.Verbs.{Verbs}
 use Rattle.process_verbs.specs.declared.verbs.TheConstants.{ROW}
-use Rattle.process_verbs.proofs.Processes.Seats.{replaced}
-use Rattle.process_verbs.proofs.Processes.Seated.{found-there, number-there, set-there, settled-stands, step-there}
+use Rattle.process_verbs.proofs.Processes.{found-there, number-there, replaced, set-there, settled-stands, step-there}
 
 -- What stands after a call, whatever its result.
 pub follows-some : {A : Type 0} (o : Outcome) (s : State) (r : Result A Refusal) (Stands : State → Type 0) → Follows o s r Stands → (t : State) × Stands t

@@ -1,11 +1,11 @@
 -- A verb for which a term is made, or a word put: it was done, and what it asked of the memory.
-use Rattle.std.proofs.Common.{◌≡◌, ℕ, zero, suc, ◌+◌, ◌^◌, ◌<◌, ◌≤◌, ◌||◌, true, false, nat_le, nat_lt, List, [], ◌∷◌, length, get_or, replicate, Result, Ok, Err, refl, sym, ◌∙◌, ap, arith}
+use Rattle.std.proofs.Common.{◌≡◌, ℕ, zero, suc, ◌+◌, ◌^◌, ◌<◌, ◌≤◌, ◌||◌, true, false, nat_le, nat_lt, List, [], ◌∷◌, length, get_or, replicate, Result, Ok, Err, refl, sym, ◌∙◌, ap, arith, ◌++◌, true≢false, map, set, IsErrAnd, subst, inl, Bool, Option, Some, None}
 use Rattle.std.proofs.lemmas.Bool.{both_ways, or_from, or_right, or_left, le-ltb, lt-ltb}
 use Rattle.std.proofs.lemmas.Bool.Decides.{nat_tests}
-use Rattle.std.proofs.lemmas.List.{length-replicate}
+use Rattle.std.proofs.lemmas.List.{length-replicate, length-append}
 use Rattle.plain_term.specs.Measures.{bin_words}
 use Rattle.plain_term.specs.Tree.{Tree}
-use Rattle.plain_term.specs.Tree.Tree.{Bin, Pid}
+use Rattle.plain_term.specs.Tree.Tree.{Bin, Pid, Shared}
 use Rattle.script_grammar.specs.Names.{Parsed}
 use Rattle.script_grammar.specs.declared.command.Command.TheVariants.{Process as OfProcess}
 use Rattle.script_grammar.specs.declared.command.Reg.{Reg}
@@ -17,9 +17,9 @@ use Rattle.script_grammar.specs.declared.refusal.Refusal.TheVariants.{BadArg}
 use Rattle.script_grammar.specs.Written.{Terms}
 use Rattle.plain_machine.specs.declared.limits.TheConstants.{MOST_BYTE, MOST_FILL, MOST_PLACES}
 use Rattle.plain_machine.specs.Made.{bin_tree}
-use Rattle.plain_machine.specs.Parts.{repeated}
-use Rattle.plain_machine.specs.State.{Process, State, register, with_process}
-use Rattle.plain_machine.specs.Step.{Outcome, by_verb, does, fill_if, repeat_if, step, with_made}
+use Rattle.plain_machine.specs.Parts.{repeated, part_in}
+use Rattle.plain_machine.specs.State.{Process, State, register, with_process, with_register}
+use Rattle.plain_machine.specs.Step.{Outcome, by_verb, does, fill_if, repeat_if, step, with_made, settled, choose}
 use Rattle.plain_machine.specs.Step.Outcome.{Accepted, Mapped, Refused}
 use Rattle.plain_machine.specs.Tightness.{fill_words, verb_words}
 use Rattle.numbered_rows.specs.Numbers.{AreBelow}
@@ -28,17 +28,29 @@ use Rattle.space_api.specs.declared.space.Seat.{Seat}
 use Rattle.term_tags.specs.Words.{pid_word}
 use Rattle.term_words.proofs.ByKind.Makes.{stands-pid}
 use Rattle.heaps_api.specs.Meaning.{HoldsThere, Meaning}
-use Rattle.heaps_api.specs.Changing.{process_at}
+use Rattle.heaps_api.specs.Changing.{process_at, GainsBin, Looks}
 use Rattle.heaps_api.specs.Making.{IsMadeOf, with_made_in, words_of_make}
 use Rattle.heaps_api.specs.declared.making.Make.{Make}
 use Rattle.heaps_api.specs.declared.making.Make.TheVariants as make
 use Rattle.heaps_api.specs.declared.wanted.Want.TheVariants as want
+use Rattle.script_grammar.specs.Written.Terms.{end}
+use Rattle.plain_machine.specs.Laws.{AreWithin}
+use Rattle.plain_machine.specs.May.{gets_to_space}
+use Rattle.plain_machine.proofs.Properly.Holding.{put-within}
+use Rattle.heaps_api.specs.Reading.{waiting_trees}
+use Rattle.heaps_api.specs.declared.wanted.Want.{Want}
+use Rattle.std.proofs.lemmas.Option.{same_Some}
+use Rattle.std.specs.Prelude.{is_some}
+use Rattle.script_grammar.specs.declared.command.Pick.TheVariants as pick
+use Rattle.term_words.specs.Stands.{IsTerm, Stands}
+use Rattle.term_words.proofs.Framing.Rooms.{is-term}
 use Rattle.process_verbs.specs.Verbs.{Holds, Sits, VerbsStand, memory_words}
-use Rattle.process_verbs.specs.Asked.{HasMade, HoldsSome, MakesTerm, PutsInto}
+use Rattle.process_verbs.specs.Asked.{HasMade, HoldsSome, MakesTerm, PutsInto, Searches, roomed}
 use Rattle.process_verbs.specs.Doing.{AsksUnless, Does, DoesAlways, is_early, want_of_fill}
 use Rattle.process_verbs.specs.declared.verbs.Verbs.{Verbs}
-use Rattle.process_verbs.proofs.Processes.Seated.{number-there}
-use Rattle.process_verbs.proofs.Steps.{refuses}
+use Rattle.process_verbs.proofs.Processes.{number-there, replaced, set-there, settled-stands, within-at, found-there}
+use Rattle.process_verbs.proofs.Steps.{refuses, at-seat, counts-gained, lacking-told, lacks, looks-found, looks-lacking}
+use Rattle.process_verbs.specs.Telling.{IsHeld}
 
 pub passes-follows : (o : Outcome) (s : State) (Stands : State → Type 0) → Follows {A = Unit {0}} o s (Ok tt) Stands → Passes o Stands
 passes-follows (Accepted next reply) s Stands f = f
@@ -171,3 +183,132 @@ module _ {H : Type 0} (m : Meaning H) (b : Verbs H) (holds : Holds m b) (seat : 
           by = ap (λ z. fill_if z (replicate len byte) s line q r.0) (fill-fits (omega (arith, few)) small)
               ∙ ap (λ z. does line (with_made s q r.0 z)) (heap-tree (replicate len byte) s.shared (omega (arith, few, length-replicate {A = ℕ} len byte)));
         }
+
+-- `fill`: a long binary of equal bytes stands in a record with the next serial.
+
+record-words : (len : ℕ) → 64 < len → fill_words len ≡ 10 + bin_words len
+record-words len long = rw (is) refl
+  where
+    is : nat_le len 64 ≡ false
+    is = grind (arith, nat_tests)
+
+record-tree : (bytes : List ℕ) (shared : List (List ℕ)) → 64 < length bytes → bin_tree bytes shared ≡ (Shared (length shared + 1), shared ++ bytes ∷ [])
+record-tree bytes shared long = rw (is (length bytes) long) refl
+  where
+    is : (n : ℕ) → 64 < n → nat_le n 64 ≡ false
+    is n long = grind (arith, nat_tests)
+
+-- After a search, with another memory and a shared binary more.
+abbrev pub binned : {H : Type 0} → Verbs H → H → Verbs H
+binned b h = record { heaps = h; scratch = b.scratch; next = b.next; serials = b.serials + 1; named = b.named; calls = b.calls; swept = false }
+
+module _ {H : Type 0} (m : Meaning H) (b : Verbs H) (holds : Holds m b) (seat : Seat) (x : Sits m b seat) (r : Reg) (len byte : ℕ)
+    (long : 64 < len) (most : len ≤ MOST_FILL) (small : byte ≤ MOST_BYTE) where
+  abbrev v : Verb
+  v = verb.Fill r len byte
+
+  abbrev wanted : Want
+  wanted = want.Words seat.row 6 (4 + bin_words len)
+
+  abbrev line : Terms → List (List ℕ) → Parsed
+  line terms names = said (OfProcess seat.pid v) terms names
+
+  abbrev bytes : List ℕ
+  bytes = replicate len byte
+
+  fill-is : (s : State) (terms : Terms) (names : List (List ℕ)) → by_verb s (line terms names) (process_at s.processes seat.row) v
+      ≡ does (line terms names) (with_made s (process_at s.processes seat.row) r.0 (Shared (length s.shared + 1), s.shared ++ bytes ∷ []))
+  fill-is s terms names =
+      let q : Process = process_at s.processes seat.row in
+      ap (λ z. fill_if z bytes s (line terms names) q r.0) (fill-fits m b holds seat x r len byte most small)
+      ∙ ap (λ z. does (line terms names) (with_made s q r.0 z)) (record-tree bytes s.shared (omega (arith, long, length-replicate {A = ℕ} len byte)))
+
+  module _ (c : Verbs H) (res : Result (Unit {0}) Refusal) (f : Searches m wanted b c res) where
+    pub long-lacks : (e : Refusal) → res ≡ Err e → (out : Result (Unit {0}) Refusal) → IsErrAnd out (λ y. y ≡ e) → Does {A = Unit {0}} m (OfProcess seat.pid v) b c out
+    long-lacks e is out as_it = rw (f.same, lacking-told m b c wanted res f e is out as_it) (lacks m b holds seat x v (Unit {0}) wanted f.heaps (looks-lacking m b c wanted res f e is)
+        (λ s terms names o. (omega (arith, record-words len long), ap (gets_to_space (OfProcess seat.pid v)) (fill-is s terms names))))
+
+    module _ (h : H) (looks : Looks m wanted b.heaps h true) (h2 : H) (gains : GainsBin m seat.row r (b.serials + 1) len byte h h2) where
+      abbrev filled : State → Process
+      filled s = with_register r.0 (Shared (b.serials + 1)) (process_at s.processes seat.row)
+
+      long-stands : (s : State) (terms : Terms) (names : List (List ℕ)) → VerbsStand m b s
+          → VerbsStand m (binned (roomed b h) h2) (settled (line terms names) (record (with_process (filled s) s) { shared = s.shared ++ bytes ∷ [] }))
+      long-stands s terms names o =
+          let serial : b.serials + 1 ≡ length s.shared + 1 = omega (arith, o.shared) in
+          let kept = looks.kept b.named s.shared s.processes o.processes in
+          let same : map (replaced (filled s)) s.processes ≡ set s.processes seat.row (filled s) =
+          set-there m b s o holds.counts seat x (filled s) (number-there m b s o holds.counts seat x) in
+          let W : AreWithin (s.shared ++ bytes ∷ []) (waiting_trees s.processes) = gains.within b.named s.shared s.processes kept o.within in
+          settled-stands m b (binned (roomed b h) h2) s (line terms names) (filled s) (s.shared ++ bytes ∷ []) o (rw same (gains.made b.named s.shared s.processes kept serial)) refl refl
+          (omega (arith, serial, length-append s.shared (bytes ∷ []))) (λ e. absurd (true≢false (sym e)))
+          (put-within (s.shared ++ bytes ∷ []) (filled s) s.processes (within-at (s.shared ++ bytes ∷ []) s.processes seat.row W) W)
+
+      fills : Does {A = Unit {0}} m (OfProcess seat.pid v) b (binned (roomed b h) h2) (Ok tt)
+      fills = record {
+        holds = record { counts = counts-gained m b holds wanted h true looks (binned (roomed b h) h2) gains.stays refl refl refl (omega (arith, holds.counts.serials)); state = _; stands = long-stands holds.state end [] holds.stands };
+        becomes = λ s terms names o.
+            let serial : length s.shared + 1 ≡ b.serials + 1 = omega (arith, o.shared) in
+            let by = fill-is s terms names ∙ ap (λ z. does (line terms names) (with_made s (process_at s.processes seat.row) r.0 (Shared z, s.shared ++ bytes ∷ []))) serial in
+            inl (rw (at-seat m b holds seat x v s o terms names, by) (long-stands s terms names o));
+        books = record { same_words = gains.stays.goes.words ∙ looks.stays.goes.words; one_call = omega arith; few_names = omega arith };
+      }
+
+    pub long-does : (u : Unit {0}) → res ≡ Ok u → (h2 : H) → GainsBin m seat.row r (c.serials + 1) len byte c.heaps h2 → Does {A = Unit {0}} m (OfProcess seat.pid v) b (binned c h2) (Ok tt)
+    long-does u is h2 gains =
+        let P : Verbs H → Type 0 = λ z. GainsBin m seat.row r (z.serials + 1) len byte z.heaps h2 in
+        rw f.same (fills f.heaps (looks-found m b c wanted res f u is) h2 (subst P f.same gains))
+
+-- `part`: bytes of a register's binary; and what the word of a register holds.
+
+some-there : (o : Option Tree) → is_some o ≡ true → (u : Tree) × (o ≡ Some u)
+some-there None e = absurd (true≢false (sym e))
+some-there (Some u) e = (u, refl)
+
+none-there : (o : Option Tree) → is_some o ≡ false → o ≡ None
+none-there None e = refl
+none-there (Some u) e = absurd (true≢false e)
+
+module _ {H : Type 0} (m : Meaning H) (b : Verbs H) (holds : Holds m b) (seat : Seat) (x : Sits m b seat) where
+  -- The word of a register of the seat's process.
+  module _ (a : Reg) (w : ℕ) (word : (s : State) (o : VerbsStand m b s) → IsHeld m b s o seat a w) where
+    pub held-at : (s : State) (o : VerbsStand m b s) → HoldsThere m b.named b.heaps s.shared s.processes o.processes seat.row w (register a.0 (process_at s.processes seat.row))
+    held-at s o =
+        let k : IsHeld m b s o seat a w = word s o in
+        let same : k.process ≡ process_at s.processes seat.row = same_Some k.process (process_at s.processes seat.row) (sym k.found ∙ found-there m b s o holds.counts seat x) in
+        let P : Process → Type 0 = λ z. HoldsThere m b.named b.heaps s.shared s.processes o.processes seat.row w (register a.0 z) in
+        subst P same k.held
+
+    module _ (mem : List ℕ) (mem_is : mem ≡ m.mem b.heaps) where
+      pub stands-at : (s : State) (o : VerbsStand m b s)
+          → Stands (m.test b.named b.heaps s.shared s.processes o.processes.is seat.row) s.shared mem w (register a.0 (process_at s.processes seat.row))
+      stands-at s o = rw mem_is (held-at s o).standing
+
+      pub word-term : IsTerm mem w
+      word-term =
+          let s : State = holds.state in
+          let o : VerbsStand m b s = holds.stands in
+          is-term (m.test b.named b.heaps s.shared s.processes o.processes.is seat.row) s.shared mem w (register a.0 (process_at s.processes seat.row)) (stands-at s o)
+
+      module _ (r : Reg) (offset len : ℕ) (has : Bool)
+          (tells : (c : ℕ → ℕ → Bool) (shared : List (List ℕ)) (t : Tree) → Stands c shared mem w t → has ≡ is_some (part_in shared offset len t)) where
+        has-there : (s : State) (o : VerbsStand m b s) → has ≡ is_some (part_in s.shared offset len (register a.0 (process_at s.processes seat.row)))
+        has-there s o = tells (m.test b.named b.heaps s.shared s.processes o.processes.is seat.row) s.shared (register a.0 (process_at s.processes seat.row)) (stands-at s o)
+
+        pub cut-refused : has ≡ false → Does {A = Unit {0}} m (OfProcess seat.pid (verb.Choose r a (pick.Part offset len))) b b (Err BadArg)
+        cut-refused no_part = refuses m b holds seat x (verb.Choose r a (pick.Part offset len)) (Unit {0}) BadArg (λ s terms names o.
+            let q : Process = process_at s.processes seat.row in
+            ap (λ z. choose z s (said (OfProcess seat.pid (verb.Choose r a (pick.Part offset len))) terms names) q r.0)
+            (none-there (part_in s.shared offset len (register a.0 q)) (sym (has-there s o) ∙ no_part)))
+
+        pub cut-makes : a.0 < 16 → has ≡ true → (s : State) (terms : Terms) (names : List (List ℕ)) → VerbsStand m b s
+            → MakesBy s seat r (make.Part a offset len) (verb.Choose r a (pick.Part offset len)) terms names
+        cut-makes small some s terms names o =
+            let q : Process = process_at s.processes seat.row in
+            let u = some-there (part_in s.shared offset len (register a.0 q)) (sym (has-there s o) ∙ some) in
+            record {
+              tree = u.0;
+              makes = (small, u.1);
+              words = refl;
+              by = ap (λ z. choose z s (said (OfProcess seat.pid (verb.Choose r a (pick.Part offset len))) terms names) q r.0) u.1;
+            }

@@ -30,10 +30,8 @@ use Rattle.heaps_api.specs.declared.wanted.Want.TheVariants as want
 use Rattle.process_verbs.specs.Verbs.{Holds, Sits, VerbsStand, memory_words}
 use Rattle.process_verbs.specs.Asked.{Searches, roomed}
 use Rattle.process_verbs.specs.declared.verbs.Verbs.{Verbs}
-use Rattle.process_verbs.proofs.Processes.Seats.{replaced}
-use Rattle.process_verbs.proofs.Processes.Seated.{number-there, set-there, settled-stands}
+use Rattle.process_verbs.proofs.Processes.{number-there, replaced, set-there, settled-stands, within-at}
 use Rattle.process_verbs.proofs.Steps.{at-seat, counts-gained, grow-there, lacking-told, lacks-space, looks-found, looks-lacking}
-use Rattle.process_verbs.proofs.Processes.Within.{within-at}
 
 terms-len : (rs : List ℕ) → terms_len (held_terms rs) ≡ length rs
 terms-len [] = refl

@@ -28,7 +28,7 @@ use Rattle.process_verbs.specs.Verbs.{Holds, Sits, VerbsStand}
 use Rattle.process_verbs.specs.Asked.{HasMade, HoldsSome, MakesTerm, PutsInto, Searches, changed, roomed}
 use Rattle.process_verbs.specs.Doing.{Asks}
 use Rattle.process_verbs.specs.declared.verbs.Verbs.{Verbs}
-use Rattle.process_verbs.proofs.Processes.Within.{within-at}
+use Rattle.process_verbs.proofs.Processes.{within-at}
 use Rattle.process_verbs.proofs.Steps.{after, at-seat, counts-gained, counts-stay, grow-there, heaps-are, holds-roomed, lacking-told, lacks-space, looks-found, looks-lacking, seat-stands}
 
 -- What is made changes neither the number nor the queue.

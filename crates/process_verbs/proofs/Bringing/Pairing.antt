@@ -50,10 +50,9 @@ use Rattle.process_verbs.specs.Asked.{HasMade, MakesTerm}
 use Rattle.process_verbs.specs.Doing.{AsksUnless, DoesBy, refusal_of_put}
 use Rattle.process_verbs.specs.Telling.{IsHeld}
 use Rattle.process_verbs.specs.declared.verbs.Verbs.{Verbs}
-use Rattle.process_verbs.proofs.Processes.Seated.{found-there}
+use Rattle.process_verbs.proofs.Processes.{found-there}
 use Rattle.process_verbs.proofs.Steps.{at-seat}
-use Rattle.process_verbs.proofs.Bringing.Cutting.{held-at, stands-at}
-use Rattle.process_verbs.proofs.Bringing.Doing.{made-unless}
+use Rattle.process_verbs.proofs.Bringing.Doing.{held-at, made-unless, stands-at}
 use Rattle.heaps_api.proofs.Naming.{named-more}
 
 is-many : (n : ℕ) → MOST_KEYS < n → nat_lt MOST_KEYS n ≡ true

@@ -38,10 +38,8 @@ use Rattle.process_verbs.specs.Verbs.{Holds, Sits, VerbsStand}
 use Rattle.process_verbs.specs.Asked.{Searches, roomed}
 use Rattle.process_verbs.specs.Doing.{Asks, Builds, is_nospace}
 use Rattle.process_verbs.specs.declared.verbs.Verbs.{Verbs}
-use Rattle.process_verbs.proofs.Processes.Seats.{replaced}
-use Rattle.process_verbs.proofs.Processes.Seated.{number-there, set-there, settled-stands}
+use Rattle.process_verbs.proofs.Processes.{number-there, replaced, set-there, settled-stands, within-at}
 use Rattle.process_verbs.proofs.Steps.{at-seat, counts-gained, grow-there, heaps-are, holds-roomed, lacking-told, lacks-space, looks-found, looks-lacking}
-use Rattle.process_verbs.proofs.Processes.Within.{within-at}
 use Rattle.process_verbs.proofs.Bringing.Gaining.{asks-gained, asks-lacks}
 
 -- The words that were reckoned are those of the items.

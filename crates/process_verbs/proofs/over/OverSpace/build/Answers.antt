@@ -3,7 +3,7 @@ use Rattle.script_grammar.specs.declared.command.Verb.TheVariants as verb
 use Rattle.space_api.specs.Calls.{one_term}
 use Rattle.space_api.proofs.Naming.{builds}
 use Rattle.process_verbs.specs.Verbs.{VerbsStand}
-use Rattle.process_verbs.proofs.Spaces.Proper.{becomes-so}
+use Rattle.process_verbs.proofs.Spaces.{becomes-so}
 use Rattle.process_verbs.proofs.over.OverSpace.build.Goals as goal
 
 pub returns-clause-becomes : goal.returns-clause-becomes

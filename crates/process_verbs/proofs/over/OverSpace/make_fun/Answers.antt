@@ -2,7 +2,7 @@ use Rattle.script_grammar.specs.declared.command.Command.TheVariants.{Process}
 use Rattle.script_grammar.specs.declared.command.Verb.TheVariants as verb
 use Rattle.space_api.proofs.Naming.{environs}
 use Rattle.process_verbs.specs.Verbs.{VerbsStand}
-use Rattle.process_verbs.proofs.Spaces.Proper.{becomes-so}
+use Rattle.process_verbs.proofs.Spaces.{becomes-so}
 use Rattle.process_verbs.proofs.over.OverSpace.make_fun.Goals as goal
 
 pub returns-clause-becomes : goal.returns-clause-becomes

@@ -1,4 +1,4 @@
-use Rattle.process_verbs.proofs.Spaces.Proper.{does-by-so}
+use Rattle.process_verbs.proofs.Spaces.{does-by-so}
 use Rattle.process_verbs.proofs.over.OverSpace.map_put.Goals as goal
 
 pub returns-clause-becomes : goal.returns-clause-becomes

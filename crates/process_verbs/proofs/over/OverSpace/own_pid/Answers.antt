@@ -1,4 +1,4 @@
-use Rattle.process_verbs.proofs.Spaces.Proper.{always-so}
+use Rattle.process_verbs.proofs.Spaces.{always-so}
 use Rattle.process_verbs.proofs.over.OverSpace.own_pid.Goals as goal
 
 pub returns-clause-passes : goal.returns-clause-passes

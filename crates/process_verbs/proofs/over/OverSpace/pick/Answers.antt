@@ -1,4 +1,4 @@
-use Rattle.process_verbs.proofs.Spaces.Proper.{does-by-so, does-so}
+use Rattle.process_verbs.proofs.Spaces.{does-by-so, does-so}
 use Rattle.process_verbs.proofs.over.OverSpace.pick.Goals as goal
 
 pub returns-in-Part-clause-becomes : goal.returns-in-Part-clause-becomes

@@ -1,4 +1,4 @@
-use Rattle.process_verbs.proofs.Spaces.Proper.{at-once-so}
+use Rattle.process_verbs.proofs.Spaces.{at-once-so}
 use Rattle.process_verbs.proofs.over.OverSpace.receive.Goals as goal
 
 pub returns-clause-follows : goal.returns-clause-follows

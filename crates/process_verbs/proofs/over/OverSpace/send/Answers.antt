@@ -1,4 +1,4 @@
-use Rattle.process_verbs.proofs.Spaces.Proper.{does-so}
+use Rattle.process_verbs.proofs.Spaces.{does-so}
 use Rattle.process_verbs.proofs.over.OverSpace.send.Goals as goal
 
 pub returns-clause-becomes : goal.returns-clause-becomes

@@ -1,5 +1,5 @@
 use Rattle.process_verbs.proofs.Steps.{ready}
-use Rattle.process_verbs.proofs.Moving.Collecting.{gc-does}
+use Rattle.process_verbs.proofs.Moving.Living.{gc-does}
 use Rattle.process_verbs.proofs.verbs.Verbs.collect.Goals as goal
 
 pub collect-requires-clause-ready : goal.collect-requires-clause-ready

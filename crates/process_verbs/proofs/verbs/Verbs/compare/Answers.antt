@@ -1,7 +1,7 @@
 use Rattle.std.proofs.Common.{refl}
 use Rattle.script_grammar.specs.declared.command.Verb.TheVariants as verb
 use Rattle.plain_machine.specs.Step.{eq_text, cmp_text}
-use Rattle.process_verbs.proofs.Telling.Replies.{are-named, order-told}
+use Rattle.process_verbs.proofs.Telling.{are-named, order-told}
 use Rattle.process_verbs.proofs.verbs.Verbs.compare.Goals as goal
 
 pub compare-requires : goal.compare-requires

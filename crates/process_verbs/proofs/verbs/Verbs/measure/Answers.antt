@@ -1,4 +1,4 @@
-use Rattle.process_verbs.proofs.Telling.Replies.{is-term, flat-told, nodes-told}
+use Rattle.process_verbs.proofs.Telling.{flat-told, is-term, nodes-told}
 use Rattle.process_verbs.proofs.verbs.Verbs.measure.Goals as goal
 
 pub measure-requires : goal.measure-requires

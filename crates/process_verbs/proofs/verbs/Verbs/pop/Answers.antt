@@ -1,5 +1,5 @@
 use Rattle.process_verbs.proofs.Steps.{ready}
-use Rattle.process_verbs.proofs.Moving.Taking.{pops-first, pops-none}
+use Rattle.process_verbs.proofs.Moving.Living.{pops-first, pops-none}
 use Rattle.process_verbs.proofs.verbs.Verbs.pop.Goals as goal
 
 pub pop-requires-clause-ready : goal.pop-requires-clause-ready

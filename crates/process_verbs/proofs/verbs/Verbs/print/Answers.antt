@@ -1,7 +1,7 @@
 use Rattle.std.proofs.Common.{sym, ◌∙◌}
 use Rattle.plain_machine.specs.State.{register}
 use Rattle.term_words.specs.Role.{always}
-use Rattle.process_verbs.proofs.Telling.Replies.{can-print, is-term, prints-all, prints-big, prints-part, standing}
+use Rattle.process_verbs.proofs.Telling.{can-print, is-term, prints-all, prints-big, prints-part, standing}
 use Rattle.process_verbs.proofs.verbs.Verbs.print.Goals as goal
 
 pub is_beyond-requires : goal.is_beyond-requires

@@ -1,5 +1,5 @@
 use Rattle.std.proofs.lemmas.Result.{err_from_is_err_and}
-use Rattle.process_verbs.proofs.Moving.Pushing.{push-does, push-lacks}
+use Rattle.process_verbs.proofs.Moving.Living.{push-does, push-lacks}
 use Rattle.process_verbs.proofs.Steps.{ready-after}
 use Rattle.process_verbs.proofs.verbs.Verbs.push.Goals as goal
 

@@ -1,4 +1,4 @@
-use Rattle.process_verbs.proofs.Telling.Queuing.{have-messages, queue-writes}
+use Rattle.process_verbs.proofs.Telling.{have-messages, queue-writes}
 use Rattle.process_verbs.proofs.verbs.Verbs.queue.Goals as goal
 
 pub put_queue-requires-clause-have : goal.put_queue-requires-clause-have

@@ -1,5 +1,5 @@
 use Rattle.process_verbs.proofs.Steps.{ready}
-use Rattle.process_verbs.proofs.Moving.Taking.{receives-first, receives-none}
+use Rattle.process_verbs.proofs.Moving.Living.{receives-first, receives-none}
 use Rattle.process_verbs.proofs.verbs.Verbs.receive.Goals as goal
 
 pub receive-requires-clause-ready : goal.receive-requires-clause-ready

@@ -1,5 +1,5 @@
-use Rattle.process_verbs.proofs.Telling.Replies.{is-term}
-use Rattle.process_verbs.proofs.Moving.Hearing.{heard}
+use Rattle.process_verbs.proofs.Telling.{is-term}
+use Rattle.process_verbs.proofs.Moving.Sending.{heard}
 use Rattle.process_verbs.proofs.verbs.Verbs.receiver.Goals as goal
 
 pub look_at-requires : goal.look_at-requires

@@ -1,6 +1,6 @@
 use Rattle.std.proofs.Common.{arith}
 use Rattle.std.proofs.lemmas.Result.{err_from_is_err_and}
-use Rattle.process_verbs.proofs.Telling.Replies.{is-term}
+use Rattle.process_verbs.proofs.Telling.{is-term}
 use Rattle.process_verbs.proofs.Steps.{ready-after}
 use Rattle.process_verbs.proofs.Moving.Sending.{Heard, big-asks, can-send, dead-asks, dead-does, deaf-asks, lacks-asks, send-big, send-deaf, send-lacks, sent-asks, sent-does, size-few}
 use Rattle.process_verbs.proofs.verbs.Verbs.send.Goals as goal

@@ -1,7 +1,7 @@
 use Rattle.std.proofs.Common.{arith}
 use Rattle.std.proofs.lemmas.Result.{err_from_is_err_and}
 use Rattle.process_verbs.proofs.Steps.{ready-after}
-use Rattle.process_verbs.proofs.Moving.Spawning.{spawn-does, spawn-full, spawn-lacks}
+use Rattle.process_verbs.proofs.Moving.Living.{spawn-does, spawn-full, spawn-lacks}
 use Rattle.process_verbs.proofs.verbs.Verbs.spawn.Goals as goal
 
 pub spawn-requires-clause-ready : goal.spawn-requires-clause-ready

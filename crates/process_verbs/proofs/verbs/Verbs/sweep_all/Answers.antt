@@ -1,5 +1,5 @@
 use Rattle.process_verbs.proofs.Steps.{ready}
-use Rattle.process_verbs.proofs.Moving.Collecting.{sweep-does}
+use Rattle.process_verbs.proofs.Moving.Living.{sweep-does}
 use Rattle.process_verbs.proofs.verbs.Verbs.sweep_all.Goals as goal
 
 pub sweep_all-requires : goal.sweep_all-requires
