@@ -1,26 +1,26 @@
--- `set`: a written term is built in a register, or it is refused for its maps, or there is no space.
-use Rattle.std.proofs.Common.{Vec, ◌≡◌, ℕ, ◌+◌, ◌-◌, ◌^◌, min, ◌<◌, ◌≤◌, Bool, true, false, true≢false, List, length, map, set, Option, Result, Ok, Err, IsErrAnd, refl, sym, ◌∙◌, ap, subst, arith, inl}
+-- `set` and `fun`: a term comes from outside the registers, or is refused, or there is no space.
+use Rattle.std.proofs.Common.{Vec, ◌≡◌, ℕ, ◌+◌, ◌-◌, ◌^◌, min, ◌<◌, ◌≤◌, Bool, true, false, true≢false, List, length, map, set, Option, Result, Ok, Err, IsErrAnd, refl, sym, ◌∙◌, ap, subst, arith, inl, max, [], ◌∷◌, replicate}
 use Rattle.std.specs.Vec.{vec_len}
 use Rattle.std.specs.declared.alloc.Global.{Global}
 use Rattle.plain_term.specs.declared.item.Item.{Item}
 use Rattle.plain_term.specs.Tree.{Tree}
-use Rattle.script_grammar.specs.Names.{Parsed}
+use Rattle.script_grammar.specs.Names.{Parsed, held_terms}
 use Rattle.script_grammar.specs.declared.command.Command.TheVariants.{Process as OfProcess}
 use Rattle.script_grammar.specs.declared.command.Reg.{Reg}
 use Rattle.script_grammar.specs.declared.command.Verb.{Verb}
 use Rattle.script_grammar.specs.declared.command.Verb.TheVariants as verb
 use Rattle.script_grammar.specs.declared.refusal.Refusal.{Refusal}
 use Rattle.script_grammar.specs.declared.refusal.Refusal.TheVariants as refusal
-use Rattle.script_grammar.specs.Written.{Term}
+use Rattle.script_grammar.specs.Written.{Term, Terms, terms_len}
 use Rattle.plain_machine.specs.Flaws.{flaw_of, is_big, is_wide}
 use Rattle.plain_machine.specs.Laws.{AreWithin}
-use Rattle.plain_machine.specs.Made.{tree_of}
+use Rattle.plain_machine.specs.Made.{tree_of, trees_of_terms}
 use Rattle.plain_machine.specs.May.{gets_to_space}
-use Rattle.plain_machine.specs.State.{Process, State, with_register}
-use Rattle.plain_machine.specs.Step.{does, settled, unless_flawed, with_made}
+use Rattle.plain_machine.specs.State.{Process, State, with_register, register, with_process}
+use Rattle.plain_machine.specs.Step.{does, settled, unless_flawed, with_made, by_verb, env_of, fun_if}
 use Rattle.plain_machine.specs.Step.Outcome.{Accepted}
 use Rattle.plain_machine.proofs.Properly.Holding.{put-within}
-use Rattle.space_api.specs.Calls.{HasTerm, IsWrittenTerm, one_term, said}
+use Rattle.space_api.specs.Calls.{HasTerm, IsWrittenTerm, one_term, said, Becomes, HasEnv, IsEnv}
 use Rattle.space_api.specs.declared.space.Seat.{Seat}
 use Rattle.item_build.specs.Reading.{far_words_of, heap_words_of}
 use Rattle.item_build.specs.declared.building.BuildStop.{BuildStop}
@@ -28,19 +28,28 @@ use Rattle.item_build.specs.declared.building.BuildStop.TheVariants as stop
 use Rattle.item_build.proofs.Meaning.Whole.{words-apart}
 use Rattle.item_build.proofs.Meaning.Written.{is-written, term-words, words-few}
 use Rattle.heaps_api.specs.Meaning.{Meaning}
-use Rattle.heaps_api.specs.Changing.{Looks, process_at}
+use Rattle.heaps_api.specs.Changing.{Looks, process_at, GainsFun, register_trees}
 use Rattle.heaps_api.specs.Reading.{waiting_trees}
 use Rattle.heaps_api.specs.Wanted.{words_of_want}
 use Rattle.heaps_api.specs.Written.{GainsTerm, refusal_of_stop, want_of_items}
 use Rattle.heaps_api.specs.declared.wanted.Want.{Want}
 use Rattle.heaps_api.specs.declared.wanted.Want.TheVariants as want
-use Rattle.process_verbs.specs.Verbs.{Holds, Sits, VerbsStand}
+use Rattle.std.proofs.lemmas.Bool.{le-ltb, lt-ltb}
+use Rattle.std.proofs.lemmas.List.{length-map, length-replicate}
+use Rattle.plain_term.specs.declared.item.Item.TheVariants as item
+use Rattle.plain_term.specs.Tree.Tree.{Fun}
+use Rattle.plain_term.specs.Tree.Trees.{◌▹◌}
+use Rattle.script_grammar.specs.declared.refusal.Refusal.TheVariants.{BadArg}
+use Rattle.plain_machine.specs.declared.limits.TheConstants.{MOST_ARITY}
+use Rattle.process_verbs.specs.Verbs.{Holds, Sits, VerbsStand, memory_words}
 use Rattle.process_verbs.specs.Asked.{Searches, roomed}
 use Rattle.process_verbs.specs.Doing.{Asks, Builds, is_nospace}
 use Rattle.process_verbs.specs.declared.verbs.Verbs.{Verbs}
 use Rattle.process_verbs.proofs.Processes.{number-there, replaced, set-there, settled-stands, within-at}
 use Rattle.process_verbs.proofs.Steps.{at-seat, counts-gained, grow-there, heaps-are, holds-roomed, lacking-told, lacks-space, looks-found, looks-lacking}
 use Rattle.process_verbs.proofs.Bringing.Gaining.{asks-gained, asks-lacks}
+
+-- `set`: a written term is built in a register, or it is refused for its maps, or there is no space.
 
 -- The words that were reckoned are those of the items.
 module _ (names : List (List ℕ)) (code : List Item) (t : HasTerm names code) (few : length names ≤ 16384) where
@@ -121,7 +130,11 @@ module _ {H : Type 0} (m : Meaning H) (b : Verbs H) (holds : Holds m b) (seat : 
 
       set-builds : Builds {A = Unit {0}} m names seat.pid r code b b4 (Ok tt)
       set-builds = record {
-        holds = record { counts = counts-gained m b holds wanted h true looks b4 gains.stays same_row refl refl (omega (arith, holds.counts.serials, gains.few, has.few)); state = _; stands = set-stands holds.state has.term holds.stands has.is };
+        holds = record {
+          counts = counts-gained m b holds wanted h true looks b4 gains.stays same_row refl refl (omega (arith, holds.counts.serials, gains.few, has.few));
+          state = _;
+          stands = set-stands holds.state has.term holds.stands has.is;
+        };
         becomes = λ s t o is.
             let it = gains.built b.named s.shared s.processes t (looks.kept b.named s.shared s.processes o.processes) o.shared more is in
             inl (rw (at-seat m b holds seat x v s o (one_term t) names, ap (λ z. unless_flawed z (does (line t) (with_made s (q_in s) r.0 (made s t)))) it.0) (set-stands s t o is));
@@ -215,3 +228,104 @@ module _ {H : Type 0} (m : Meaning H) (b : Verbs H) (holds : Holds m b) (seat : 
                 given_back = (told (Err e) gains).1.gave_back;
                 few = tt;
               }
+
+-- `fun`: a fun in a register, whose environment are terms of registers, or there is no space.
+
+terms-len : (rs : List ℕ) → terms_len (held_terms rs) ≡ length rs
+terms-len [] = refl
+terms-len (r ∷ rs) = omega (arith, terms-len rs)
+
+trees-are : (names shared : List (List ℕ)) (q : Process) (rs : List ℕ) → (trees_of_terms names q.registers (held_terms rs) shared).0 ≡ register_trees q rs
+trees-are names shared q [] = refl
+trees-are names shared q (r ∷ rs) = ap (λ z. register r q ▹ z) (trees-are names shared q rs)
+
+-- After a search, with another memory and row, and a number above all names.
+abbrev pub funned : {H : Type 0} → Verbs H → H → Vec ℕ Global → ℕ → Verbs H
+funned b h row named = record { heaps = h; scratch = row; next = b.next; serials = b.serials; named = named; calls = b.calls; swept = false }
+
+module _ {H : Type 0} (m : Meaning H) (b : Verbs H) (holds : Holds m b) (seat : Seat) (x : Sits m b seat) (r : Reg) (name arity : ℕ) (env : List Item) where
+  abbrev fun_verb : Verb
+  fun_verb = verb.Fun r name arity
+
+  abbrev fun_want : Want
+  fun_want = want.Words seat.row (6 + length env) 4
+
+  abbrev fun_line : Terms → List (List ℕ) → Parsed
+  fun_line terms names = said (OfProcess seat.pid fun_verb) terms names
+
+  pub fun-refused : MOST_ARITY < arity → (s : State) (terms : Terms) (names : List (List ℕ)) → VerbsStand m b s → HasEnv names name env terms
+      → Becomes {A = Unit {0}} (memory_words m b) s (fun_line terms names) (Err BadArg) (VerbsStand m b)
+  fun-refused many s terms names o has =
+      let q : Process = process_at s.processes seat.row in
+      let by = ap (λ z. fun_if z (Fun name arity q.number (env_of s (fun_line terms names) q)) s (fun_line terms names) q r.0) (lt-ltb MOST_ARITY arity many) in
+      inl (rw (at-seat m b holds seat x fun_verb s o terms names, by) (refl, o))
+
+  module _ (few : arity ≤ MOST_ARITY) where
+    asked : (names : List (List ℕ)) (terms : Terms) → HasEnv names name env terms → terms_len terms ≡ length env
+    asked names terms has = ap terms_len has.written ∙ terms-len has.registers ∙ sym (ap length has.items ∙ length-map has.registers item.Held)
+
+    abbrev fun_made : Process → List ℕ → Process
+    fun_made q rs = with_register r.0 (Fun name arity q.number (register_trees q rs)) q
+
+    fun-is : (s : State) (terms : Terms) (names : List (List ℕ)) (has : HasEnv names name env terms)
+        → by_verb s (fun_line terms names) (process_at s.processes seat.row) fun_verb ≡ does (fun_line terms names) (with_process (fun_made (process_at s.processes seat.row) has.registers) s)
+    fun-is s terms names has =
+        let q : Process = process_at s.processes seat.row in
+        let trees : env_of s (fun_line terms names) q ≡ register_trees q has.registers =
+        ap (λ z. (trees_of_terms names q.registers z s.shared).0) has.written ∙ trees-are names s.shared q has.registers in
+        ap (λ z. fun_if z (Fun name arity q.number (env_of s (fun_line terms names) q)) s (fun_line terms names) q r.0) (le-ltb MOST_ARITY arity few)
+        ∙ ap (λ z. does (fun_line terms names) (with_process (with_register r.0 (Fun name arity q.number z) q) s)) trees
+
+    module _ (c : Verbs H) (res : Result (Unit {0}) Refusal) (f : Searches m fun_want b c res) where
+      pub fun-lacks : (e : Refusal) → res ≡ Err e → (out : Result (Unit {0}) Refusal) → IsErrAnd out (λ y. y ≡ e)
+          → (s : State) (terms : Terms) (names : List (List ℕ)) → VerbsStand m b s → HasEnv names name env terms
+          → Becomes {A = Unit {0}} (memory_words m b) s (fun_line terms names) out (VerbsStand m c)
+      fun-lacks e is out as_it s terms names o has =
+          rw (f.same, lacking-told m b c fun_want res f e is out as_it)
+          (lacks-space m b holds fun_want f.heaps false (looks-lacking m b c fun_want res f e is) refl (Unit {0}) s (fun_line terms names) o
+          (grow-there m b holds seat x fun_verb s o terms names ∙ omega (arith, asked names terms has)) (rw (at-seat m b holds seat x fun_verb s o terms names, fun-is s terms names has) refl))
+
+      module _ (h : H) (looks : Looks m fun_want b.heaps h true) (h2 : H) (gains : GainsFun m seat.row r name arity env h h2)
+          (row : Vec ℕ Global) (same_row : vec_len row ≡ vec_len b.scratch) (named : ℕ) (above : named ≡ max b.named (name + 1)) where
+        fun-stands : (s : State) (terms : Terms) (names : List (List ℕ)) → VerbsStand m b s → (has : HasEnv names name env terms)
+            → VerbsStand m (funned (roomed b h) h2 row named) (settled (fun_line terms names) (with_process (fun_made (process_at s.processes seat.row) has.registers) s))
+        fun-stands s terms names o has =
+            let q : Process = fun_made (process_at s.processes seat.row) has.registers in
+            let same : map (replaced q) s.processes ≡ set s.processes seat.row q = set-there m b s o holds.counts seat x q (number-there m b s o holds.counts seat x) in
+            settled-stands m b (funned (roomed b h) h2 row named) s (fun_line terms names) q s.shared o
+            (rw same (gains.made b.named named s.shared s.processes has.registers (looks.kept b.named s.shared s.processes o.processes) (omega (arith, above)) (omega (arith, above)) has.items))
+            refl refl o.shared (λ e. absurd (true≢false (sym e))) (put-within s.shared q s.processes (within-at s.shared s.processes seat.row o.within) o.within)
+
+        fun-becomes : (s : State) (terms : Terms) (names : List (List ℕ)) → VerbsStand m b s → HasEnv names name env terms
+            → Becomes {A = Unit {0}} (memory_words m b) s (fun_line terms names) (Ok tt) (VerbsStand m (funned (roomed b h) h2 row named))
+        fun-becomes s terms names o has = inl (rw (at-seat m b holds seat x fun_verb s o terms names, fun-is s terms names has) (fun-stands s terms names o has))
+
+        fun-whole : IsEnv env → Holds m (funned (roomed b h) h2 row named)
+        fun-whole is_env =
+            let names : List (List ℕ) = replicate (name + 1) [] in
+            let has : HasEnv names name env (held_terms is_env.registers) = record {
+              registers = is_env.registers;
+              items = is_env.items;
+              written = refl;
+              known = omega (arith, length-replicate {A = List ℕ} (name + 1) []);
+            } in
+            record {
+              counts = counts-gained m b holds fun_want h true looks (funned (roomed b h) h2 row named) gains.stays same_row refl refl (omega (arith, holds.counts.serials));
+              state = _;
+              stands = fun-stands holds.state (held_terms is_env.registers) names holds.stands has;
+            }
+
+      module _ (u : Unit {0}) (is : res ≡ Ok u) (h2 : H) (gains : GainsFun m seat.row r name arity env c.heaps h2) (row : Vec ℕ Global) (same_row : vec_len row ≡ vec_len c.scratch)
+          (named : ℕ) (above : named ≡ max c.named (name + 1)) where
+        abbrev Told : Verbs H → Type 0
+        Told z = GainsFun m seat.row r name arity env z.heaps h2 × ((vec_len row ≡ vec_len z.scratch) × (named ≡ max z.named (name + 1)))
+
+        fun-told : Told (roomed b f.heaps)
+        fun-told = subst Told f.same (gains, (same_row, above))
+
+        pub fun-done : (s : State) (terms : Terms) (names : List (List ℕ)) → VerbsStand m b s → HasEnv names name env terms
+            → Becomes {A = Unit {0}} (memory_words m b) s (fun_line terms names) (Ok tt) (VerbsStand m (funned c h2 row named))
+        fun-done s terms names o has = rw f.same (fun-becomes f.heaps (looks-found m b c fun_want res f u is) h2 fun-told.0 row fun-told.1.0 named fun-told.1.1 s terms names o has)
+
+        pub fun-holds : IsEnv env → Holds m (funned c h2 row named)
+        fun-holds is_env = rw f.same (fun-whole f.heaps (looks-found m b c fun_want res f u is) h2 fun-told.0 row fun-told.1.0 named fun-told.1.1 is_env)

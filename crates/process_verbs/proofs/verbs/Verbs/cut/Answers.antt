@@ -2,7 +2,7 @@ use Rattle.std.proofs.Common.{[]}
 use Rattle.script_grammar.specs.declared.command.Pick.TheVariants as pick
 use Rattle.script_grammar.specs.declared.command.Verb.TheVariants as verb
 use Rattle.script_grammar.specs.Written.Terms.{end}
-use Rattle.process_verbs.proofs.Bringing.Doing.{cut-makes, cut-refused, has-made, made-does, made-unless, word-term}
+use Rattle.process_verbs.proofs.Bringing.Gaining.{cut-makes, cut-refused, has-made, made-does, made-unless, word-term}
 use Rattle.process_verbs.proofs.verbs.Verbs.cut.Goals as goal
 
 pub has_part-requires : goal.has_part-requires

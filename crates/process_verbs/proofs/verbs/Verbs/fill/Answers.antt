@@ -1,7 +1,7 @@
 use Rattle.std.proofs.Common.{[]}
 use Rattle.script_grammar.specs.declared.command.Verb.TheVariants as verb
 use Rattle.script_grammar.specs.Written.Terms.{end}
-use Rattle.process_verbs.proofs.Bringing.Doing.{fill-byte-refused, fill-long-refused, fill-makes, has-made, made-does, made-unless, want-short}
+use Rattle.process_verbs.proofs.Bringing.Gaining.{fill-byte-refused, fill-long-refused, fill-makes, has-made, made-does, made-unless, want-short}
 use Rattle.process_verbs.proofs.verbs.Verbs.fill.Goals as goal
 
 pub returns-then-len-gt-MOST_FILL-clause-does : goal.returns-then-len-gt-MOST_FILL-clause-does

@@ -1,5 +1,5 @@
 use Rattle.std.proofs.Common.{arith}
-use Rattle.process_verbs.proofs.Bringing.Doing.{long-does, long-lacks}
+use Rattle.process_verbs.proofs.Bringing.Gaining.{long-does, long-lacks}
 use Rattle.process_verbs.proofs.Steps.{ready-after}
 use Rattle.process_verbs.proofs.verbs.Verbs.fill_long.Goals as goal
 

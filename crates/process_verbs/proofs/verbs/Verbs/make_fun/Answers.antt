@@ -1,8 +1,8 @@
 use Rattle.std.proofs.Common.{refl, ap, arith}
 use Rattle.std.specs.Vec.{with_items}
 use Rattle.std.specs.Prelude.{slice_index}
-use Rattle.process_verbs.proofs.Bringing.Doing.{pid-below}
-use Rattle.process_verbs.proofs.Bringing.Funning.{fun-done, fun-holds, fun-lacks, fun-refused}
+use Rattle.process_verbs.proofs.Bringing.Gaining.{pid-below}
+use Rattle.process_verbs.proofs.Bringing.Setting.{fun-done, fun-holds, fun-lacks, fun-refused}
 use Rattle.process_verbs.proofs.Steps.{ready-after}
 use Rattle.process_verbs.proofs.verbs.Verbs.make_fun.Goals as goal
 

@@ -1,5 +1,5 @@
 use Rattle.std.proofs.Common.{arith}
-use Rattle.process_verbs.proofs.Bringing.Doing.{own-does, own-some, pid-below}
+use Rattle.process_verbs.proofs.Bringing.Gaining.{own-does, own-some, pid-below}
 use Rattle.process_verbs.proofs.verbs.Verbs.own_pid.Goals as goal
 
 pub pid-requires : goal.pid-requires

@@ -1,4 +1,4 @@
-use Rattle.process_verbs.proofs.Bringing.Choosing.{can-pick, choose-does, choose-refused, part-held}
+use Rattle.process_verbs.proofs.Bringing.Pairing.{can-pick, choose-does, choose-refused, part-held}
 use Rattle.process_verbs.proofs.verbs.Verbs.pick.Goals as goal
 
 pub part-requires : goal.part-requires

@@ -1,7 +1,7 @@
 use Rattle.script_grammar.specs.declared.command.Verb.TheVariants as verb
 use Rattle.script_grammar.specs.Written.Terms.{end}
 use Rattle.std.proofs.Common.{[]}
-use Rattle.process_verbs.proofs.Bringing.Doing.{has-made, made-does, made-unless, repeat-makes, repeat-refused}
+use Rattle.process_verbs.proofs.Bringing.Gaining.{has-made, made-does, made-unless, repeat-makes, repeat-refused}
 use Rattle.process_verbs.proofs.verbs.Verbs.repeat.Goals as goal
 
 pub returns-then-n-gt-MOST_PLACES-clause-does : goal.returns-then-n-gt-MOST_PLACES-clause-does
