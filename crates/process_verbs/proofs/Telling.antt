@@ -116,37 +116,39 @@ module _ {H : Type 0} (m : Meaning H) (b : Verbs H) (s : State) (o : VerbsStand 
       let Q : Result Measure Refusal → Type 0 = λ z. IfOk z (λ (x : Measure). x.nodes ≡ nodes s.shared t) in
       subst P same (subst Q (sym (is ∙ ap measure_told (told.each always s.shared t standing))) (nodes-of (is_beyond s.shared t) (nodes s.shared t) (flat t)))
 
-  -- a tree that is printed
-  pub can-print : (names : List (List ℕ)) → b.named ≤ length names → is_beyond s.shared (register r.0 held.process) ≡ false → CanPrint mem names w
-  can-print names more within = record {
-    shared = s.shared;
-    tree = register r.0 held.process;
-    standing = standing;
-    within = within;
-    named = named-more b.named (length names) more (register r.0 held.process) held.held.names;
-  }
-
-  module _ {K : Type 0} (wrote : K → List ℕ → Type 0) (old new : K) (terms : Terms) (names : List (List ℕ)) where
+  -- a tree that is printed, where this is known of it
+  module _ (beyond : Bool) (known : (c : ℕ → ℕ → Bool) (shared : List (List ℕ)) (t : Tree) → Stands c shared mem w t → beyond ≡ is_beyond shared t) where
     abbrev pub tree : Tree
     tree = register r.0 held.process
 
-    -- what is said of the step where this is known of the tree
-    printed : (o : Result (Unit {0}) Stop) (beyond : Bool) → is_beyond s.shared tree ≡ beyond → Prints (tells s (unless_beyond beyond (text names s.shared tree))) wrote old new o
-        → Prints (step s (said (OfProcess seat.pid (verb.Print r)) terms names)) wrote old new o
-    printed o beyond is p =
-        let Q : Bool → Type 0 = λ z. Prints (tells s (unless_beyond z (text names s.shared tree))) wrote old new o in
-        at-process s seat.pid held.process held.found (verb.Print r) terms names (λ z. Prints z wrote old new o) (subst Q (sym is) p)
+    beyond-is : (is : Bool) → beyond ≡ is → is_beyond s.shared tree ≡ is
+    beyond-is is e = sym (known always s.shared tree standing) ∙ e
 
-    pub prints-big : is_beyond s.shared tree ≡ true → Prints {A = Unit {0}} {K = K} (step s (said (OfProcess seat.pid (verb.Print r)) terms names)) wrote old new (Err TooBig)
-    prints-big is = printed (Err TooBig) true is refl
+    pub can-print : (names : List (List ℕ)) → b.named ≤ length names → beyond ≡ false → CanPrint mem names w
+    can-print names more within = record {
+      shared = s.shared;
+      tree = tree;
+      standing = standing;
+      within = beyond-is false within;
+      named = named-more b.named (length names) more tree held.held.names;
+    }
 
-    pub prints-all : is_beyond s.shared tree ≡ false → Grew wrote old new (text names s.shared tree)
-        → Prints {A = Unit {0}} {K = K} (step s (said (OfProcess seat.pid (verb.Print r)) terms names)) wrote old new (Ok tt)
-    prints-all is g = printed (Ok tt) false is g
+    module _ {K : Type 0} (wrote : K → List ℕ → Type 0) (old new : K) (terms : Terms) (names : List (List ℕ)) where
+      printed : (o : Result (Unit {0}) Stop) (is : Bool) → beyond ≡ is → Prints (tells s (unless_beyond is (text names s.shared tree))) wrote old new o
+          → Prints (step s (said (OfProcess seat.pid (verb.Print r)) terms names)) wrote old new o
+      printed o is e p =
+          at-process s seat.pid held.process held.found (verb.Print r) terms names (λ z. Prints z wrote old new o) (rw (beyond-is is e) p)
 
-    pub prints-part : is_beyond s.shared tree ≡ false → GrewInPart wrote old new (text names s.shared tree)
-        → Prints {A = Unit {0}} {K = K} (step s (said (OfProcess seat.pid (verb.Print r)) terms names)) wrote old new (Err Fault)
-    prints-part is g = printed (Err Fault) false is g
+      pub prints-big : beyond ≡ true → Prints {A = Unit {0}} {K = K} (step s (said (OfProcess seat.pid (verb.Print r)) terms names)) wrote old new (Err TooBig)
+      prints-big is = printed (Err TooBig) true is refl
+
+      pub prints-all : beyond ≡ false → ((c : ℕ → ℕ → Bool) (shared : List (List ℕ)) (t : Tree) → Stands c shared mem w t → Grew wrote old new (text names shared t))
+          → Prints {A = Unit {0}} {K = K} (step s (said (OfProcess seat.pid (verb.Print r)) terms names)) wrote old new (Ok tt)
+      prints-all is g = printed (Ok tt) false is (g always s.shared tree standing)
+
+      pub prints-part : beyond ≡ false → ((c : ℕ → ℕ → Bool) (shared : List (List ℕ)) (t : Tree) → Stands c shared mem w t → GrewInPart wrote old new (text names shared t))
+          → Prints {A = Unit {0}} {K = K} (step s (said (OfProcess seat.pid (verb.Print r)) terms names)) wrote old new (Err Fault)
+      prints-part is g = printed (Err Fault) false is (g always s.shared tree standing)
 
 -- two registers of one process
 module _ {H : Type 0} (m : Meaning H) (b : Verbs H) (s : State) (o : VerbsStand m b s) (seat : Seat) (i j : Reg) (v w : ℕ) (first : IsHeld m b s o seat i v) (second : IsHeld m b s o seat j w)
