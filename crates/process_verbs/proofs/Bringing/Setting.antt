@@ -56,10 +56,10 @@ module _ (names : List (List ℕ)) (code : List Item) (t : HasTerm names code) (
   needs-few : heap_words_of code + far_words_of code < 2 ^ 64 - 1
   needs-few = omega (arith, words-apart code, words-few (length names) 16 code (is-written names code t.term 16 t.is t.named few (omega arith)) t.few)
 
-  pub heap-needed : (n : ℕ) → n ≡ min (heap_words_of code) (2 ^ 64 - 1) → n ≡ heap_words_of code
+  heap-needed : (n : ℕ) → n ≡ min (heap_words_of code) (2 ^ 64 - 1) → n ≡ heap_words_of code
   heap-needed n is = omega (arith, is, needs-few)
 
-  pub far-needed : (n : ℕ) → n ≡ min (far_words_of code) (2 ^ 64 - 1) → n ≡ far_words_of code
+  far-needed : (n : ℕ) → n ≡ min (far_words_of code) (2 ^ 64 - 1) → n ≡ far_words_of code
   far-needed n is = omega (arith, is, needs-few)
 
   pub both-few : (n k : ℕ) → n ≡ min (heap_words_of code) (2 ^ 64 - 1) → k ≡ min (far_words_of code) (2 ^ 64 - 1) → n + k < 2 ^ 64
@@ -173,9 +173,10 @@ module _ {H : Type 0} (m : Meaning H) (b : Verbs H) (holds : Holds m b) (seat : 
       }
 
   -- All of this of what was searched.
-  module _ (n k : ℕ) (heap : n ≡ heap_words_of code) (far : k ≡ far_words_of code) (c : Verbs H) (res : Result (Unit {0}) Refusal) (f : Searches m (want.Words seat.row n k) b c res) where
+  module _ (few : length names ≤ 16384) (n k : ℕ) (heap : n ≡ min (heap_words_of code) (2 ^ 64 - 1)) (far : k ≡ min (far_words_of code) (2 ^ 64 - 1)) (c : Verbs H)
+      (res : Result (Unit {0}) Refusal) (f : Searches m (want.Words seat.row n k) b c res) where
     searched : Searches m wanted b c res
-    searched = rw (← heap, ← far) f
+    searched = rw (← heap-needed names code has few n heap, ← far-needed names code has few k far) f
 
     module _ (e : Refusal) (is : res ≡ Err e) (out : Result (Unit {0}) Refusal) (as_it : IsErrAnd out (λ y. y ≡ e)) where
       at-none : out ≡ Err (refusal.NoSpace (words_of_want wanted))
