@@ -82,7 +82,7 @@ module _ {H : Type 0} (m : Meaning H) (b : Verbs H) (holds : Holds m b) where
   pub asks-lacks : (A : Type 0) (w : Want) (h : H) (looks : Looks m w b.heaps h false) (k : ℕ) → Asks {A = A} m w b (roomed b h) (Err (NoSpace k))
   asks-lacks A w h looks k = record { heaps = h; there = false; looked = looks.looked; exact = refl; lacking = λ e. refl; given_back = looks.rests; few = tt }
 
-  pub asks-gained : (A : Type 0) (w : Want) (h : H) (looks : Looks m w b.heaps h true) (c : Verbs H) (a : A) → m.took w h c.heaps → Asks {A = A} m w b c (Ok a)
+  abbrev pub asks-gained : (A : Type 0) (w : Want) (h : H) (looks : Looks m w b.heaps h true) (c : Verbs H) (a : A) → m.took w h c.heaps → Asks {A = A} m w b c (Ok a)
   asks-gained A w h looks c a took =
       record { heaps = h; there = true; looked = looks.looked; exact = refl; lacking = λ e. absurd (true≢false (sym e)); given_back = tt; few = took }
 

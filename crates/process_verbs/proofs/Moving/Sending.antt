@@ -1,6 +1,7 @@
 -- `send`: a copy of a register's tree enters a queue.
-use Rattle.std.proofs.Common.{◌≡◌, ℕ, zero, suc, ◌<◌, ◌≤◌, ◌==◌, false, List, [], ◌∷◌, ◌++◌, length, map, get_or, set, if◌then◌else◌, ◌∙◌, ap, refl, arith, Bool, true, cond, Option, Some, inl, inr, sym, subst, ◌+◌, ◌*◌, true≢false, slice_index, None, Result, Ok, Err}
+use Rattle.std.proofs.Common.{◌≡◌, ℕ, zero, suc, ◌<◌, ◌≤◌, ◌==◌, false, List, [], ◌∷◌, ◌++◌, length, map, get_or, set, if◌then◌else◌, ◌∙◌, ap, refl, arith, Bool, true, cond, Option, Some, inl, inr, sym, subst, ◌+◌, true≢false, slice_index, None, Result, Ok, Err}
 use Rattle.std.specs.List.{list_any}
+use Rattle.std.specs.Vec.{vec_len}
 use Rattle.std.proofs.lemmas.Bool.{or_parts}
 use Rattle.std.proofs.lemmas.Bool.Decides.{nat_tests}
 use Rattle.plain_term.specs.Tree.{Tree}
@@ -43,8 +44,9 @@ use Rattle.process_verbs.specs.Telling.{IsHeld, number_seen}
 use Rattle.process_verbs.specs.declared.verbs.Verbs.{Verbs}
 use Rattle.process_verbs.proofs.Telling.{standing}
 use Rattle.process_verbs.specs.Asked.{Searches}
-use Rattle.process_verbs.specs.Doing.{AsksForMessage, AsksToSend, AsksWhere, Does}
-use Rattle.process_verbs.proofs.Steps.{at-seat, counts-stay, holds-become, refuses, whole-roomed, after, heaps-are, lacks-after, looks-found, looks-lacking, no-space-told}
+use Rattle.process_verbs.specs.Doing.{Asks, AsksForMessage, AsksToSend, AsksWhere, Does}
+use Rattle.process_verbs.proofs.Steps.{counts-gained, at-seat, counts-stay, holds-become, refuses, after, heaps-are, lacks-after, looks-found, looks-lacking, no-space-told}
+use Rattle.process_verbs.proofs.Bringing.Gaining.{asks-gained, asks-lacks}
 use Rattle.process_verbs.proofs.Moving.Sizing.{within-few}
 
 -- A message enters one queue, or none where no process has the number.
@@ -273,25 +275,9 @@ module _ {H : Type 0} (m : Meaning H) (b : Verbs H) (holds : Holds m b) (seat : 
 
         lacks-told : (e : Refusal) → res ≡ Err e → AsksForMessage {A = Unit {0}} m size.flat n b c (Err (refusal.NoSpace (words_of_want (Message row size.flat))))
         lacks-told e is =
-            let looks = looks-lacking m b c (Message row size.flat) res asked e is in
-            let same = heaps-are m b c (Message row size.flat) res asked in
-            record {
-              row = row;
-              number = λ f. place;
-              unless = record {
-                early = λ f. absurd (true≢false (sym f));
-                asks = λ f. record {
-                  heaps = asked.heaps;
-                  there = false;
-                  looked = looks.looked;
-                  exact = refl;
-                  lacking = λ g. same;
-                  given_back = rw same looks.rests;
-                  few = tt;
-                };
-              };
-              sent = λ f. tt;
-            }
+            let asks = asks-lacks m b holds (Unit {0}) (Message row size.flat) asked.heaps (looks-lacking m b c (Message row size.flat) res asked e is) in
+            let lost : Asks {A = Unit {0}} m (Message row size.flat) b c (Err (refusal.NoSpace (words_of_want (Message row size.flat)))) = rw asked.same (asks _) in
+            record { row = row; number = λ f. place; unless = record { early = λ f. absurd (true≢false (sym f)); asks = λ f. lost }; sent = λ f. tt }
 
         pub lacks-asks : (e : Refusal) → res ≡ Err e → (s : State) (p : Process) → VerbsStand m b s → process_of seat.pid s ≡ Some p
             → AsksToSend {A = Unit {0}} m (receiver to p) s (register r.0 p) b c (Err e)
@@ -349,14 +335,9 @@ module _ {H : Type 0} (m : Meaning H) (b : Verbs H) (holds : Holds m b) (seat : 
             calls-are : c.calls ≡ b.calls + 1
             calls-are = ap (λ z. z.calls) asked.same
 
-            whole-sent : m.whole (2 * c.calls) h
-            whole-sent =
-                let before : m.whole (2 * b.calls + 1) c.heaps = rw same-heaps (whole-roomed m b holds (Message row size.flat) asked.heaps true looks-there) in
-                sends.stays.goes.whole (2 * b.calls + 1) (2 * c.calls) before (omega (arith, calls-are))
-
             sent-counts : IsCounted m (after c h)
-            sent-counts = counts-stay m b (after c h) holds.counts (sends.stays.rows ∙ (ap m.numbers same-heaps ∙ looks-there.stays.rows)) (ap (λ z. z.scratch) asked.same)
-                (ap (λ z. z.next) asked.same) (omega (arith, calls-are)) (ap (λ z. z.serials) asked.same) whole-sent
+            sent-counts = counts-gained m b holds (Message row size.flat) asked.heaps true looks-there (after c h) (rw same-heaps at sends.stays) (ap (λ z. vec_len z.scratch) asked.same)
+                (ap (λ z. z.next) asked.same) calls-are (omega (arith, ap (λ z. z.serials) asked.same, calls-are, holds.counts.serials))
 
             pub sent-does : Does {A = Unit {0}} m (OfProcess seat.pid v) b (after c h) (Ok tt)
             sent-does = record {
@@ -382,15 +363,7 @@ module _ {H : Type 0} (m : Meaning H) (b : Verbs H) (holds : Holds m b) (seat : 
               number = λ f. place;
               unless = record {
                 early = λ f. absurd (true≢false (sym f));
-                asks = λ f. record {
-                  heaps = asked.heaps;
-                  there = true;
-                  looked = looks-there.looked;
-                  exact = refl;
-                  lacking = λ g. absurd (true≢false (sym g));
-                  given_back = tt;
-                  few = took-there;
-                };
+                asks = λ f. asks-gained m b holds (Unit {0}) (Message row size.flat) asked.heaps looks-there (after c h) tt took-there;
               };
               sent = λ f. record {
                 within = omega (arith, place.0, ap length looks-there.stays.rows);

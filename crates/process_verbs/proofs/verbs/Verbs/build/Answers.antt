@@ -8,7 +8,8 @@ pub ask-requires-clause-few : goal.ask-requires-clause-few
 ask-requires-clause-few g c = both-few _ _ c.requires.term c.count-named.ensures.names.few _ _ c.term_needs-words.ensures.heap c.term_needs-words.ensures.far
 
 pub returns-in_err-ask-clause-builds : goal.returns-in_err-ask-clause-builds
-returns-in_err-ask-clause-builds g c = none-builds _ _ c.requires.holds _ c.requires.sits c.args.r _ _ c.requires.term c.requires.named c.count-named.ensures.names.few _ _ c.term_needs-words.ensures.heap
+returns-in_err-ask-clause-builds g c =
+    none-builds _ _ c.requires.holds _ c.requires.sits c.args.r _ _ c.requires.term c.requires.named c.count-named.ensures.names.few _ _ c.term_needs-words.ensures.heap
     c.term_needs-words.ensures.far _ _ c.ask.ensures c.in_err-ask.field-0.0 c.in_err-ask.was c.from_residual.result c.from_residual.ensures.1
 
 pub returns-in_err-ask-clause-asks : goal.returns-in_err-ask-clause-asks

@@ -15,8 +15,10 @@ make-requires-clause-can g c = λ s o.
 
 pub returns-then-len-le-MOST_HEAP_BYTES-clause-does : goal.returns-then-len-le-MOST_HEAP_BYTES-clause-does
 returns-then-len-le-MOST_HEAP_BYTES-clause-does g c =
-    made-does _ _ c.requires.holds _ c.requires.sits _ _ _ _ c.make.ensures _ (fill-makes _ _ c.requires.holds _ c.requires.sits c.args.r c.args.len c.args.byte c.if-len-le-MOST_HEAP_BYTES.true c.if-byte-gt-MOST_BYTE.false)
+    made-does _ _ c.requires.holds _ c.requires.sits _ _ _ _ c.make.ensures _
+    (fill-makes _ _ c.requires.holds _ c.requires.sits c.args.r c.args.len c.args.byte c.if-len-le-MOST_HEAP_BYTES.true c.if-byte-gt-MOST_BYTE.false)
 
 pub returns-then-len-le-MOST_HEAP_BYTES-clause-asks : goal.returns-then-len-le-MOST_HEAP_BYTES-clause-asks
 returns-then-len-le-MOST_HEAP_BYTES-clause-asks g c =
-    rw (want-short _ _ c.requires.holds _ c.requires.sits c.args.r c.args.seat.row c.args.len c.if-len-le-MOST_HEAP_BYTES.true) (made-unless _ _ c.requires.holds _ c.requires.sits _ _ _ _ c.make.ensures)
+    rw (want-short _ _ c.requires.holds _ c.requires.sits c.args.r c.args.seat.row c.args.len c.if-len-le-MOST_HEAP_BYTES.true)
+    (made-unless _ _ c.requires.holds _ c.requires.sits _ _ _ _ c.make.ensures)

@@ -13,4 +13,5 @@ pub gain-requires-clause-can : goal.gain-requires-clause-can
 gain-requires-clause-can g c = make-can _ _ c.requires.holds _ c.requires.sits c.args.r c.args.make c.requires.can _ c.words_to_make.ensures _ _ c.ask.ensures
 
 pub returns : goal.returns
-returns g c = make-done _ _ c.requires.holds _ c.requires.sits c.args.r c.args.make c.requires.can _ c.words_to_make.ensures _ _ c.ask.ensures c.in_ok-ask.field-0 c.in_ok-ask.was c.gain.new.self c.gain.ensures
+returns g c =
+    make-done _ _ c.requires.holds _ c.requires.sits c.args.r c.args.make c.requires.can _ c.words_to_make.ensures _ _ c.ask.ensures c.in_ok-ask.field-0 c.in_ok-ask.was c.gain.new.self c.gain.ensures

@@ -5,7 +5,8 @@ pub part-requires : goal.part-requires
 part-requires g c = can-pick _ _ c.requires.holds _ c.requires.sits c.args.r _ _ c.requires.other c.requires.key c.requires.whole _ c.regs.ensures _ c.mem.ensures _ c.requires.named
 
 pub returns-in_default-clause-does : goal.returns-in_default-clause-does
-returns-in_default-clause-does g c = choose-refused _ _ c.requires.holds _ c.requires.sits c.args.r _ _ c.requires.other c.requires.key c.requires.whole _ c.regs.ensures _ c.mem.ensures _ c.requires.named
+returns-in_default-clause-does g c =
+    choose-refused _ _ c.requires.holds _ c.requires.sits c.args.r _ _ c.requires.other c.requires.key c.requires.whole _ c.regs.ensures _ c.mem.ensures _ c.requires.named
     _ c.part.ensures.picks c.in_default.is
 
 pub put-requires-clause-held : goal.put-requires-clause-held
