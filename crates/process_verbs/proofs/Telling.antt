@@ -1,5 +1,5 @@
 -- What is told of registers and queues is what the machine tells of their trees.
-use Rattle.std.proofs.Common.{ℕ, ◌<◌, List, get_or, arith, ◌≡◌, ◌||◌, Bool, true, false, cond, length, decimal, Option, Some, Result, Ok, Err, IfOk, refl, sym, ap, subst, ◌∙◌, ◌≤◌, zero, suc, ◌+◌, ◌==◌, [], ◌∷◌, ◌++◌, map, take, drop, OnOk, OnErr}
+use Rattle.std.proofs.Common.{ℕ, ◌<◌, List, get_or, arith, ◌≡◌, ◌||◌, Bool, true, false, cond, length, decimal, Some, Result, Ok, Err, IfOk, refl, sym, ap, subst, ◌∙◌, ◌≤◌, zero, suc, ◌+◌, ◌==◌, [], ◌∷◌, ◌++◌, map, take, drop, OnOk, OnErr}
 use Rattle.plain_machine.specs.State.{State, register, Process, process_of}
 use Rattle.script_grammar.specs.declared.command.Reg.{Reg}
 use Rattle.space_api.specs.declared.space.Seat.{Seat}
@@ -22,7 +22,7 @@ use Rattle.script_grammar.specs.declared.command.Verb.{Verb}
 use Rattle.script_grammar.specs.declared.command.Verb.TheVariants as verb
 use Rattle.script_grammar.specs.declared.refusal.Refusal.{Refusal}
 use Rattle.script_grammar.specs.Written.{Terms}
-use Rattle.plain_machine.specs.Step.{Outcome, by_verb, in_process, step, tells, unless_beyond, order_text}
+use Rattle.plain_machine.specs.Step.{Outcome, by_verb, step, tells, unless_beyond, order_text}
 use Rattle.space_api.specs.Calls.{Prints, Tells, said, WritesReply}
 use Rattle.space_api.specs.declared.space.Stop.{Stop}
 use Rattle.space_api.specs.declared.space.Stop.TheVariants.{Big as TooBig, Fault}
@@ -71,7 +71,7 @@ module _ {H : Type 0} (m : Meaning H) (b : Verbs H) (counts : IsCounted m b) (se
 -- what a step comes to, told of the process
 module _ (s : State) (pid : ℕ) (q : Process) (found : process_of pid s ≡ Some q) (v : Verb) (terms : Terms) (names : List (List ℕ)) where
   at-process : (P : Outcome → Type 0) → P (by_verb s (said (OfProcess pid v) terms names) q v) → P (step s (said (OfProcess pid v) terms names))
-  at-process P k = let Q : Option Process → Type 0 = λ o. P (in_process o s (said (OfProcess pid v) terms names) v) in subst Q (sym found) k
+  at-process P k = rw found k
 
 -- a measured tree
 flat-of : (s : State) (beyond : Bool) (n words : ℕ)
@@ -102,8 +102,7 @@ module _ {H : Type 0} (m : Meaning H) (b : Verbs H) (s : State) (o : VerbsStand 
       → Tells (step s (said (OfProcess seat.pid (verb.Flat r)) terms names)) (λ (x : Measure). decimal x.flat) result
   flat-told terms names told_as result told is =
       let t : Tree = register r.0 held.process in
-      let P : Result Measure Refusal → Type 0 = λ x. Tells (step s (said (OfProcess seat.pid (verb.Flat r)) terms names)) (λ (x : Measure). decimal x.flat) x in
-      subst P (sym (is ∙ ap measure_told (told.each always s.shared t standing)))
+      rw (is ∙ ap measure_told (told.each always s.shared t standing))
       (at-process s seat.pid held.process held.found (verb.Flat r) terms names
       (λ o. Tells o (λ (x : Measure). decimal x.flat) (measure_told (measured s.shared t))) (flat-of s (is_beyond s.shared t) (nodes s.shared t) (flat t)))
 
@@ -112,9 +111,7 @@ module _ {H : Type 0} (m : Meaning H) (b : Verbs H) (s : State) (o : VerbsStand 
   nodes-told q told_as result found told is =
       let t : Tree = register r.0 held.process in
       let same : held.process ≡ q = same_Some held.process q (sym held.found ∙ found) in
-      let P : Process → Type 0 = λ z. IfOk result (λ (x : Measure). x.nodes ≡ nodes s.shared (register r.0 z)) in
-      let Q : Result Measure Refusal → Type 0 = λ z. IfOk z (λ (x : Measure). x.nodes ≡ nodes s.shared t) in
-      subst P same (subst Q (sym (is ∙ ap measure_told (told.each always s.shared t standing))) (nodes-of (is_beyond s.shared t) (nodes s.shared t) (flat t)))
+      rw (← same, is ∙ ap measure_told (told.each always s.shared t standing)) (nodes-of (is_beyond s.shared t) (nodes s.shared t) (flat t))
 
   -- a tree that is printed, where this is known of it
   module _ (beyond : Bool) (known : (c : ℕ → ℕ → Bool) (shared : List (List ℕ)) (t : Tree) → Stands c shared mem w t → beyond ≡ is_beyond shared t) where
@@ -174,13 +171,11 @@ module _ {H : Type 0} (m : Meaning H) (b : Verbs H) (s : State) (o : VerbsStand 
   order-told x tell terms names c result by told is =
       let t : Tree = register i.0 first.process in
       let u : Tree = register j.0 first.process in
-      let W : Process → Type 0 = λ z. c ≡ compared names s.shared t (register j.0 z) in
-      let all : c ≡ compared names s.shared t u = subst W same-process
+      let all : c ≡ compared names s.shared t u = rw same-process at
       (told.each always s.shared t (register j.0 second.process) (standing m b s o seat i v first mem same) (standing m b s o seat j w second mem same)) in
-      let P : Result Ordering Refusal → Type 0 = λ z. Tells (step s (said (OfProcess seat.pid x) terms names)) tell z in
       let Q : Outcome → Type 0 = λ z. Tells z tell (order_told (compared names s.shared t u)) in
-      subst P (sym (is ∙ ap order_told all)) (at-process s seat.pid first.process first.found x terms names Q
-      (subst Q (sym by) (order-of s (is_beyond s.shared t || is_beyond s.shared u) (order names s.shared t u) tell)))
+      rw (is ∙ ap order_told all) (at-process s seat.pid first.process first.found x terms names Q
+      (rw by (order-of s (is_beyond s.shared t || is_beyond s.shared u) (order names s.shared t u) tell)))
 
 -- Messages that wait, and their texts one after the other.
 
@@ -234,8 +229,7 @@ module _ {K : Type 0} (wrote : K → List ℕ → Type 0) (faults : K → ℕ) (
       parts : (shared : List (List ℕ)) (ts : List Tree) → Came wrote faults names shared mem ts start now i words
           → AreMessages shared mem (length names) (w ∷ rest) (get_or ts i Nil ∷ drop (suc i) ts)
       parts shared ts k =
-          let P : List ℕ → Type 0 = λ z. AreMessages shared mem (length names) z (drop i ts) in
-          subst (AreMessages shared mem (length names) (w ∷ rest)) (tree-at ts i (omega (arith, k.count, ap length is))) (subst P is k.are)
+          subst (AreMessages shared mem (length names) (w ∷ rest)) (tree-at ts i (omega (arith, k.count, ap length is))) (rw is at k.are)
 
       pub here-printable : HaveMessages mem (length names) all → CanPrint mem names w
       here-printable h =
@@ -303,5 +297,4 @@ module _ {H : Type 0} (m : Meaning H) (b : Verbs H) (counts : IsCounted m b) (se
   queue-writes wrote faults old new r written s terms o =
       let q : Process = process_at s.processes seat.row in
       let line : Parsed = said (OfProcess seat.pid verb.Queue) terms names in
-      let P : Option Process → Type 0 = λ z. WritesReply (in_process z s line verb.Queue) wrote old new r in
-      subst P (sym (found-there m b s o counts seat x)) (said-apart wrote faults old new (whole_text names s.shared q.queue) r (written s.shared q.queue (messages-there s o)))
+      rw (found-there m b s o counts seat x) (said-apart wrote faults old new (whole_text names s.shared q.queue) r (written s.shared q.queue (messages-there s o)))

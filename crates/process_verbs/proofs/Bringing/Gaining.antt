@@ -405,9 +405,7 @@ module _ {H : Type 0} (m : Meaning H) (b : Verbs H) (holds : Holds m b) (seat : 
     pub held-at : (s : State) (o : VerbsStand m b s) → HoldsThere m b.named b.heaps s.shared s.processes o.processes seat.row w (register a.0 (process_at s.processes seat.row))
     held-at s o =
         let k : IsHeld m b s o seat a w = word s o in
-        let same : k.process ≡ process_at s.processes seat.row = same_Some k.process (process_at s.processes seat.row) (sym k.found ∙ found-there m b s o holds.counts seat x) in
-        let P : Process → Type 0 = λ z. HoldsThere m b.named b.heaps s.shared s.processes o.processes seat.row w (register a.0 z) in
-        subst P same k.held
+        rw (same_Some k.process (process_at s.processes seat.row) (sym k.found ∙ found-there m b s o holds.counts seat x)) at k.held
 
     module _ (mem : List ℕ) (mem_is : mem ≡ m.mem b.heaps) where
       pub stands-at : (s : State) (o : VerbsStand m b s)

@@ -186,8 +186,7 @@ module _ {H : Type 0} (m : Meaning H) (b : Verbs H) (holds : Holds m b) (seat : 
         holds = holds;
         becomes = λ s terms h has.
             let q : Process = seated_in s in
-            let T : Result Place PutStop → Type 0 = λ z. IsPlaceInMap names s.shared (register a.0 q) (register k.0 q) z in
-            let by = put-stops (register k.0 q) (register v.0 q) s (line_of terms) q r.0 (register a.0 q) e (sorted-there s h has) (subst T stop_is (place-there s h.0)) in
+            let by = put-stops (register k.0 q) (register v.0 q) s (line_of terms) q r.0 (register a.0 q) e (sorted-there s h has) (rw stop_is at place-there s h.0) in
             inl (rw (at-seat m b holds seat x put_verb s h.0 terms names, by) (refl, h.0));
         books = record { same_words = refl; one_call = omega arith; few_names = omega arith };
       })
@@ -195,8 +194,7 @@ module _ {H : Type 0} (m : Meaning H) (b : Verbs H) (holds : Holds m b) (seat : 
       module _ (place : Place) (place_is : result ≡ Ok place) (registers : IsRegister a × (IsRegister k × IsRegister v)) where
         pairs-there : (s : State) (o : VerbsStand m b s) → HasPairs names s.shared (register a.0 (seated_in s)) (register k.0 (seated_in s)) place
         pairs-there s o =
-            let T : Result Place PutStop → Type 0 = λ z. IsPlaceInMap names s.shared (register a.0 (seated_in s)) (register k.0 (seated_in s)) z in
-            has-pairs names s.shared (register a.0 (seated_in s)) (register k.0 (seated_in s)) place (subst T place_is (place-there s o))
+            has-pairs names s.shared (register a.0 (seated_in s)) (register k.0 (seated_in s)) place (rw place_is at place-there s o)
 
         abbrev made : Make
         made = make.Pair a place k v
@@ -236,9 +234,7 @@ module _ {H : Type 0} (m : Meaning H) (b : Verbs H) (holds : Holds m b) (seat : 
             → AsksUnless {A = Unit {0}} m (want.Words seat.row (6 + 2 * key_count (register a.0 q)) 0) b c res
         put-asks c res f s q o found =
             let same : seated_in s ≡ q = same_Some (seated_in s) q (sym (found-there m b s o holds.counts seat x) ∙ found) in
-            let P : Process → Type 0 = λ z. 6 + 2 * place.keys ≡ 6 + 2 * key_count (register a.0 z) in
-            let N : ℕ → Type 0 = λ z. AsksUnless {A = Unit {0}} m (want.Words seat.row z 0) b c res in
-            subst N (subst P same (sym (put-words s o))) (made-unless m b holds seat x r made c res f)
+            rw (← same, put-words s o) (made-unless m b holds seat x r made c res f)
 
 -- `hd`, `tl`, `elem` and `mapget`: the part that is picked in a register, or there is none.
 
@@ -256,8 +252,7 @@ some-part : (c : ℕ → ℕ → Bool) (shared : List (List ℕ)) (mem : List �
 some-part c shared mem None w a = absurd (let e : Some w ≡ None = a in cc)
 some-part c shared mem (Some t) w a =
     let same : w ≡ a.0 = same_Some w a.0 a.1 in
-    let P : ℕ → Type 0 = λ z. Stands c shared mem z t in
-    record { tree = t; is = refl; standing = subst P (sym same) a.2 }
+    record { tree = t; is = refl; standing = rw same a.2 }
 
 module _ {H : Type 0} (m : Meaning H) (b : Verbs H) (holds : Holds m b) (seat : Seat) (x : Sits m b seat) (r a : Reg) (how : Pick) (small : a.0 < 16) (key : PicksRegister how)
     (whole : takes_part how ≡ false) (regs : List ℕ) (are : AreRegisters m seat.row b.heaps regs) (mem : List ℕ) (mem_is : mem ≡ m.mem b.heaps)
@@ -324,8 +319,7 @@ module _ {H : Type 0} (m : Meaning H) (b : Verbs H) (holds : Holds m b) (seat : 
       holds = holds;
       becomes = λ s terms h has.
           let part : Option Tree = picked names s.shared (q_in s) how (register a.0 (q_in s)) in
-          let A : Option ℕ → Type 0 = λ z. AnswersPart (test_in s h.0) s.shared mem part z in
-          let gone : part ≡ None = no-part (test_in s h.0) s.shared mem part (subst A none (answer-there s h has)) in
+          let gone : part ≡ None = no-part (test_in s h.0) s.shared mem part (rw none at answer-there s h has) in
           inl (rw (at-seat m b holds seat x v s h.0 terms names, ap (λ z. choose z s (said (OfProcess seat.pid v) terms names) (q_in s) r.0) gone) (refl, h.0));
       books = record { same_words = refl; one_call = omega arith; few_names = omega arith };
     }
@@ -344,13 +338,11 @@ module _ {H : Type 0} (m : Meaning H) (b : Verbs H) (holds : Holds m b) (seat : 
         holds = f.holds;
         becomes = λ s terms h has.
             let part : Option Tree = picked names s.shared (q_in s) how (register a.0 (q_in s)) in
-            let A : Option ℕ → Type 0 = λ z. AnswersPart (test_in s h.0) s.shared mem part z in
-            let P : List ℕ → Type 0 = λ z. Stands (test_in s h.0) s.shared z w (some-part (test_in s h.0) s.shared mem part w (subst A is (answer-there s h has))).tree in
-            let here = some-part (test_in s h.0) s.shared mem part w (subst A is (answer-there s h has)) in
+            let here = some-part (test_in s h.0) s.shared mem part w (rw is at answer-there s h has) in
             let other = part-held s h.0 in
+            let P : List ℕ → Type 0 = λ z. Stands (test_in s h.0) s.shared z w here.tree in
             let same : other.tree ≡ here.tree = single (test_in s h.0) (test_in s h.0) s.shared s.shared (m.mem b.heaps) w other.tree here.tree other.held.standing
             (subst P mem_is here.standing) in
-            let T : Tree → Type 0 = λ z. HoldsThere m b.named b.heaps s.shared s.processes h.0.processes seat.row w z in
-            inl (f.follows s v terms names here.tree h.0 (subst T same other.held) (ap (λ z. choose z s (said (OfProcess seat.pid v) terms names) (q_in s) r.0) here.is));
+            inl (f.follows s v terms names here.tree h.0 (rw same at other.held) (ap (λ z. choose z s (said (OfProcess seat.pid v) terms names) (q_in s) r.0) here.is));
         books = f.books;
       }

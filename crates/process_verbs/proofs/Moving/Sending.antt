@@ -1,5 +1,5 @@
 -- `send`: a copy of a register's tree enters a queue.
-use Rattle.std.proofs.Common.{◌≡◌, ℕ, zero, suc, ◌<◌, ◌≤◌, ◌==◌, false, List, [], ◌∷◌, ◌++◌, length, map, get_or, set, if◌then◌else◌, ◌∙◌, ap, refl, arith, Bool, true, cond, Option, Some, inl, inr, sym, subst, ◌+◌, true≢false, slice_index, None, Result, Ok, Err}
+use Rattle.std.proofs.Common.{◌≡◌, ℕ, zero, suc, ◌<◌, ◌≤◌, ◌==◌, false, List, [], ◌∷◌, ◌++◌, length, map, get_or, set, if◌then◌else◌, ◌∙◌, ap, refl, arith, Bool, true, cond, Option, Some, inl, inr, sym, ◌+◌, true≢false, slice_index, None, Result, Ok, Err}
 use Rattle.std.specs.List.{list_any}
 use Rattle.std.specs.Vec.{vec_len}
 use Rattle.std.proofs.lemmas.Bool.{or_parts}
@@ -102,8 +102,7 @@ pub heard : {H : Type 0} (m : Meaning H) (b : Verbs H) (s : State) (o : VerbsSta
     → mem ≡ m.mem b.heaps → (q : Process) → process_of seat.pid s ≡ Some q → (l : Look) → Sees mem w l → (to : To) → to ≡ Held r → (n : Option ℕ) → n ≡ number_seen l → n ≡ receiver to q
 heard m b s o seat r w held mem same q found l sees to is n told =
     let one : held.process ≡ q = same_Some held.process q (sym held.found ∙ found) in
-    let P : Process → Type 0 = λ z. n ≡ pid_number (register r.0 z) in
-    rw is (subst P one (told ∙ seen-number always s.shared mem w (register r.0 held.process) l (sees.each always s.shared (register r.0 held.process)
+    rw (is, ← one) ((told ∙ seen-number always s.shared mem w (register r.0 held.process) l (sees.each always s.shared (register r.0 held.process)
     (standing m b s o seat r w held mem same))))
 
 -- What a measure says of the tree.
@@ -174,8 +173,7 @@ module _ {H : Type 0} (m : Meaning H) (b : Verbs H) (holds : Holds m b) (seat : 
     stands-there : (s : State) → VerbsStand m b s → Stands always s.shared known.mem known.word (tree s)
     stands-there s o =
         let here = known.held s o in
-        let P : Process → Type 0 = λ z. Stands always s.shared known.mem known.word (register r.0 z) in
-        subst P (sym (same-process s o here.process here.found)) (standing m b s o seat r known.word here known.mem known.same)
+        rw (same-process s o here.process here.found) (standing m b s o seat r known.word here known.mem known.same)
 
     measured-there : (k : Measured) → Measures known.mem known.word k → (s : State) → VerbsStand m b s → k ≡ measured s.shared (tree s)
     measured-there k told s o = told.each always s.shared (tree s) (stands-there s o)
@@ -184,9 +182,7 @@ module _ {H : Type 0} (m : Meaning H) (b : Verbs H) (holds : Holds m b) (seat : 
     asks-at : (s : State) (p : Process) → VerbsStand m b s → process_of seat.pid s ≡ Some p → (b2 : Verbs H) (res : Result (Unit {0}) Refusal)
         → AsksWhere m (is_live n s) (flat (tree s)) n b b2 res → AsksToSend m (receiver to p) s (register r.0 p) b b2 res
     asks-at s p o found b2 res a =
-        let P : Option ℕ → Type 0 = λ z. AsksToSend m z s (register r.0 p) b b2 res in
-        let Q : Process → Type 0 = λ z. AsksToSend m (Some n) s (register r.0 z) b b2 res in
-        subst P (known.hears s p o found) (subst Q (same-process s o p found) a)
+        rw (← known.hears s p o found, ← same-process s o p found) a
 
     -- The tree is beyond the walk limit.
     module _ (told : Measures known.mem known.word Beyond) where
@@ -270,8 +266,7 @@ module _ {H : Type 0} (m : Meaning H) (b : Verbs H) (holds : Holds m b) (seat : 
         asks-live : (s : State) (p : Process) → VerbsStand m b s → process_of seat.pid s ≡ Some p → (b2 : Verbs H) (answer : Result (Unit {0}) Refusal)
             → AsksForMessage m size.flat n b b2 answer → AsksToSend m (receiver to p) s (register r.0 p) b b2 answer
         asks-live s p o found b2 answer a =
-            let P : ℕ → Type 0 = λ z. AsksForMessage m z n b b2 answer in
-            asks-at s p o found b2 answer (rw (live-there s o) (subst P (flat-is s o) a))
+            asks-at s p o found b2 answer (rw (live-there s o, ← flat-is s o) a)
 
         lacks-told : (e : Refusal) → res ≡ Err e → AsksForMessage {A = Unit {0}} m size.flat n b c (Err (refusal.NoSpace (words_of_want (Message row size.flat))))
         lacks-told e is =
@@ -294,8 +289,7 @@ module _ {H : Type 0} (m : Meaning H) (b : Verbs H) (holds : Holds m b) (seat : 
           held-after : (s : State) (o : VerbsStand m b s) → HoldsThere m c.named c.heaps s.shared s.processes (asked.stands s o).processes seat.row w2 (tree s)
           held-after s o =
               let here = held2 s (asked.stands s o) in
-              let P : Process → Type 0 = λ z. HoldsThere m c.named c.heaps s.shared s.processes (asked.stands s o).processes seat.row w2 (register r.0 z) in
-              subst P (sym (same-process s o here.process here.found)) here.held
+              rw (same-process s o here.process here.found) here.held
 
           room-there : m.has_room (Message row (flat (tree holds.state))) c.heaps
           room-there = rw (same-heaps, ← flat-is holds.state holds.stands) (looks-there.room refl)
