@@ -84,9 +84,9 @@ module _ (a : OneHeap) (lives : Lives one_meaning a) (row : ℕ) (there : row < 
   nothing-waits : ((d : Proc) → (get_or a.halves.procs.items row d).waiting ≡ 0) → ReceivesInto one_meaning row r a a false
   nothing-waits none = record {
     stays = keeps-same a lives.whole.laid;
-    idle = record { sweeps = refl; mem = refl; room = refl };
+    received = record { sweeps = refl; mem = refl; room = refl };
     same = λ e. refl;
-    received = λ named shared qs x.
+    first = λ named shared qs x.
         let h = row-stands x.is.test shared a.halves.mem a.halves.room.end (end_of a.halves) named a.halves.procs.items qs row p0 within is0 x.is.processes in
         let empty : (process_at qs row).queue ≡ [] = none-held x.is.test shared a.halves.mem named p0.queue p0.waiting ((process_at qs row).queue) (none no_row) h.queue in
         rw empty refl;
@@ -155,9 +155,9 @@ module _ (a : OneHeap) (lives : Lives one_meaning a) (row : ℕ) (there : row < 
       pub takes-some : ReceivesInto one_meaning row r a taken_in true
       takes-some = record {
         stays = taken-keeps;
-        idle = record { sweeps = ap (λ z. z.sweeps) moved; mem = ap (λ z. z.mem) moved; room = ap (λ z. z.room) moved };
+        received = record { sweeps = ap (λ z. z.sweeps) moved; mem = ap (λ z. z.mem) moved; room = ap (λ z. z.room) moved };
         same = λ e. absurd (true≢false e);
-        received = taken-first;
+        first = taken-first;
       }
 
 numbers-remove : (rows : List Proc) (i : ℕ) → numbers number_in (remove rows i) ≡ remove (numbers number_in rows) i
@@ -188,7 +188,7 @@ module _ (a : OneHeap) (lives : Lives one_meaning a) (row : ℕ) (there : row < 
         goes = moves-on a dropped (laid-left a.halves lives.whole.laid v places) refl capacity (omega (arith, fewer, one_more)) boxes
             (λ count more h up. rw items (made-remove count more (omega (arith, up)) a.halves.procs.items row h)) refl refl (omega arith);
         rows = ap (λ z. numbers number_in z) items ∙ numbers-remove a.halves.procs.items row;
-        idle = record { sweeps = refl; mem = refl; room = refl };
+        ended = record { sweeps = refl; mem = refl; room = refl };
         gone = dropped-stands;
       }
 

@@ -58,7 +58,7 @@ module _ (a : OneHeap) (lives : Lives one_meaning a) (few : length (one_meaning.
           goes = moves-on a added (laid-left a.halves lives.whole.laid v (omega (arith, same))) refl capacity (omega (arith, one, one_less)) boxes
               (λ count more h up. rw items (made-push count more (omega (arith, up)) a.halves.procs.items p h (omega (arith, none)))) refl refl (omega arith);
           rows = ap (λ z. numbers number_in z) items ∙ numbers-push a.halves.procs.items p n number;
-          took = record { sweeps = refl; few = omega arith };
+          took = record { sweeps = refl; room = refl };
           made = added-stands;
         }
 
@@ -139,7 +139,7 @@ module _ (a : OneHeap) (ask : CanAsk one_meaning a) (row : ℕ) (there : row < l
     stays = keeps-replaced a h s.laid row (with_queue before s.alone.first s.alone.last (before.waiting + 1)) before within is-before (s.alone.procs before is-before) refl (omega arith) s.same_len
         (ap (λ z. vec_capacity z) s.bins) (ap (λ z. vec_capacity z) s.funs) (omega (arith, s.sweeps));
     sent = record { sweeps = s.sweeps; word = s.word; alone = s.alone };
-    entered = λ named shared qs x t held.
+    entered = λ named shared qs x from t held.
         let e : HasEntered named h shared qs row t = s.enters named shared qs x.is t held in (
           record { sweeps = s.sweeps; few = omega (arith, s.words named shared qs x.is t held.standing) },
           stood-by named (of_halves a h) shared (set qs row (record (process_at qs row) { queue = (process_at qs row).queue ++ t ∷ [] })) (rw (e.is no_process) e.stands),

@@ -100,7 +100,7 @@ module _ (words : ℕ) (h : OneHeap) (f : IsFirstHeap words h) where
         }
 
     -- The verbs over it.
-    module _ (b : Verbs OneHeap) (is : b.heaps ≡ h) (row : vec_len b.row ≡ 4096) (next : b.next ≡ 2) (serials : b.serials ≡ 0) (named : b.named ≡ 0) (calls : b.calls ≡ 0)
+    module _ (b : Verbs OneHeap) (is : b.heaps ≡ h) (row : vec_len b.scratch ≡ 4096) (next : b.next ≡ 2) (serials : b.serials ≡ 0) (named : b.named ≡ 0) (calls : b.calls ≡ 0)
         (swept : b.swept ≡ false) where
       numbers-first : numbers number_in b.heaps.halves.procs.items ≡ 1 ∷ []
       numbers-first = ap (λ x. numbers number_in x.halves.procs.items) is ∙ first-stood.rows

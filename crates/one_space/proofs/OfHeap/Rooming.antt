@@ -13,7 +13,7 @@ use Rattle.heaps_api.specs.Changing.{CollectsRows, KeepsRows, Looks}
 use Rattle.heaps_api.specs.Wanted.{HasWantedRow, words_of_want}
 use Rattle.heaps_api.specs.declared.wanted.Want.{Want}
 use Rattle.heaps_api.specs.declared.wanted.Want.TheVariants as want
-use Rattle.one_space.specs.Heap.{looked_for, one_meaning}
+use Rattle.one_space.specs.Heap.{IsCollected, looked_for, one_meaning}
 use Rattle.one_space.specs.declared.heap.OneHeap.{OneHeap}
 use Rattle.one_space.proofs.OfHeap.Keeping.{keeps-rows, keeps-same, made-collected, numbers-collected, of_halves}
 
@@ -49,10 +49,12 @@ module _ (a : OneHeap) where
       registers = x.registers;
     }
 
+    pub is-collected : IsCollected a (of_halves a h)
+    is-collected = record { once = c.counted; reached = c.reached }
+
     pub collects-rows : (all : Bool) → CollectsRows one_meaning all a (of_halves a h)
     collects-rows all = record {
       stays = keeps-collected;
-      collected = record { once = c.counted; reached = c.reached };
       kept = stood-collected;
       tidy = λ e. c.chained;
     }
