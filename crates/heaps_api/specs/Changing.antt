@@ -45,12 +45,12 @@ pub record Looks {H : Type 0} (m : Meaning H) (w : Want) (old new : H) (found : 
   pub tidy : m.tidy old → m.tidy new
   pub rests : m.gave_back new new
 
--- A word was put into a register.
+-- A word of the process with this row was put into its register.
 pub record PutsWord {H : Type 0} (m : Meaning H) (row : ℕ) (r : Reg) (w : ℕ) (old new : H) : Type 0 where
   pub stays : KeepsRows m old new
   pub idle : m.idle old new
   pub put : (named : ℕ) (shared : List (List ℕ)) (qs : List Process) (x : Stood m named old shared qs) (t : Tree)
-      → HoldsThere m named old shared qs x w t → Stood m named new shared (set qs row (with_register r.0 t (process_at qs row)))
+      → HoldsThere m named old shared qs x row w t → Stood m named new shared (set qs row (with_register r.0 t (process_at qs row)))
 
 -- It can be built for the process with this row.
 pub record CanMake {H : Type 0} (m : Meaning H) (row : ℕ) (make : Make) (h : H) : Type 0 where
@@ -123,9 +123,9 @@ pub record PopsInto {H : Type 0} (m : Meaning H) (row : ℕ) (r : Reg) (old new 
 -- The first message was taken into the register, or there is none.
 pub record ReceivesInto {H : Type 0} (m : Meaning H) (row : ℕ) (r : Reg) (old new : H) (taken : Bool) : Type 0 where
   pub stays : KeepsRows m old new
-  pub idle : m.idle old new
+  pub received : m.received row old new
   pub same : taken ≡ false → new ≡ old
-  pub received : (named : ℕ) (shared : List (List ℕ)) (qs : List Process) → Stood m named old shared qs
+  pub first : (named : ℕ) (shared : List (List ℕ)) (qs : List Process) → Stood m named old shared qs
       → TakesFirst m named new shared (λ t ts. set qs row (record (with_register r.0 t (process_at qs row)) { queue = ts })) (process_at qs row).queue taken
 
 -- A process with this number, which has nothing yet, is the last.
@@ -140,31 +140,31 @@ pub record Spawns {H : Type 0} (m : Meaning H) (number : ℕ) (old new : H) : Ty
 pub record Exits {H : Type 0} (m : Meaning H) (row : ℕ) (old new : H) : Type 0 where
   pub goes : MovesOn m old new
   pub rows : m.numbers new ≡ remove (m.numbers old) row
-  pub idle : m.idle old new
+  pub ended : m.ended row old new
   pub gone : (named : ℕ) (shared : List (List ℕ)) (qs : List Process) → Stood m named old shared qs → Stood m named new shared (remove qs row)
 
--- The word stands for a tree, and there is room for a message of it to the process with this row.
+-- The word stands for a tree as one of some process, the sender, and there is room for a message of it to the process with this row.
 pub record CanSendTo {H : Type 0} (m : Meaning H) (row w : ℕ) (h : H) : Type 0 where
   pub named : ℕ
   pub shared : List (List ℕ)
   pub processes : List Process
   pub stood : Stood m named h shared processes
   pub tree : Tree
-  pub held : HoldsThere m named h shared processes stood w tree
+  pub from : ℕ
+  pub held : HoldsThere m named h shared processes stood from w tree
   pub room : m.has_room (want.Message row (flat tree)) h
 
--- A copy of the word's tree is the last message of the process with this row.
+-- A copy of the word's tree, whatever process it is a word of, is the last message of the process with this row.
 pub record SendsTo {H : Type 0} (m : Meaning H) (row w : ℕ) (old new : H) : Type 0 where
   pub stays : KeepsRows m old new
   pub sent : m.sent row old new
-  pub entered : (named : ℕ) (shared : List (List ℕ)) (qs : List Process) (x : Stood m named old shared qs) (t : Tree)
-      → HoldsThere m named old shared qs x w t
+  pub entered : (named : ℕ) (shared : List (List ℕ)) (qs : List Process) (x : Stood m named old shared qs) (from : ℕ) (t : Tree)
+      → HoldsThere m named old shared qs x from w t
       → m.took (want.Message row (flat t)) old new
       × Stood m named new shared (set qs row (record (process_at qs row) { queue = (process_at qs row).queue ++ t ∷ [] }))
 
--- A collection was made: what stood stands. Where all was swept, it is tidy.
+-- After a collection what stood stands. Where all was swept, it is tidy.
 pub record CollectsRows {H : Type 0} (m : Meaning H) (all : Bool) (old new : H) : Type 0 where
   pub stays : KeepsRows m old new
-  pub collected : m.collected old new
   pub kept : (named : ℕ) (shared : List (List ℕ)) (qs : List Process) → Stood m named old shared qs → Stood m named new shared qs
   pub tidy : all ≡ true → m.tidy new

@@ -2,6 +2,7 @@
 use Rattle.std.specs.Prelude.{◌≡◌, ℕ, ◌<◌, ◌^◌, Bool, List, length, map, get_or}
 use Rattle.plain_term.specs.Tree.{Tree}
 use Rattle.plain_machine.specs.State.{Process, fresh_process}
+use Rattle.script_grammar.specs.declared.command.Depth.{Depth}
 use Rattle.term_order.specs.Held.{HoldTrees, HoldsTree}
 use Rattle.store_image.specs.Image.{Image}
 use Rattle.heaps_api.specs.declared.wanted.Want.{Want}
@@ -11,8 +12,8 @@ use Rattle.heaps_api.specs.declared.waiting.Waiting.{Waiting}
 pub record Meaning (H : Type 0) : Type 1 where
   -- It stands for these processes, in the order of its rows, over these shared binaries; all names are below the number.
   pub stands : (named : ℕ) → H → (shared : List (List ℕ)) → List Process → Type 0
-  -- The test of roles by which it does.
-  pub test : (named : ℕ) (h : H) (shared : List (List ℕ)) (qs : List Process) → stands named h shared qs → ℕ → ℕ → Bool
+  -- The test of roles by which the words of the process with this row are read.
+  pub test : (named : ℕ) (h : H) (shared : List (List ℕ)) (qs : List Process) → stands named h shared qs → (row : ℕ) → ℕ → ℕ → Bool
   -- Its words.
   pub mem : H → List ℕ
   -- The numbers of its rows.
@@ -31,8 +32,14 @@ pub record Meaning (H : Type 0) : Type 1 where
   pub gave_back : (old new : H) → Type 0
   -- No word was taken, written or given back.
   pub idle : (old new : H) → Type 0
-  -- A collection was made that a line asks for.
-  pub collected : (old new : H) → Type 0
+  -- The first message of the process with this row was taken, or there is none.
+  pub received : (row : ℕ) → (old new : H) → Type 0
+  -- The process with this row was ended, and its words given back.
+  pub ended : (row : ℕ) → (old new : H) → Type 0
+  -- The process with this row was collected to this depth, as a line asks.
+  pub collected : (row : ℕ) → Depth → (old new : H) → Type 0
+  -- Every process was collected, as a line asks.
+  pub swept_all : (old new : H) → Type 0
   -- A copy was sent to the process with this row, and is apart from all else.
   pub sent : (row : ℕ) → (old new : H) → Type 0
   -- The cursor is one of a queue.
@@ -54,15 +61,15 @@ pub record Stood {H : Type 0} (m : Meaning H) (named : ℕ) (h : H) (shared : Li
   pub rows : m.numbers h ≡ map (λ (q : Process). q.number) qs
   pub registers : (row : ℕ) → row < length qs → length ((get_or qs row no_process).registers) ≡ 16
 
--- The word holds the tree where it stands.
-abbrev pub HoldsThere : {H : Type 0} (m : Meaning H) (named : ℕ) (h : H) (shared : List (List ℕ)) (qs : List Process) → Stood m named h shared qs → ℕ → Tree
-    → Type 0
-HoldsThere m named h shared qs x w t = HoldsTree (m.test named h shared qs x.is) shared (m.mem h) named w t
+-- The word holds the tree where it stands, as a word of the process with this row.
+abbrev pub HoldsThere : {H : Type 0} (m : Meaning H) (named : ℕ) (h : H) (shared : List (List ℕ)) (qs : List Process) → Stood m named h shared qs → (row : ℕ)
+    → ℕ → Tree → Type 0
+HoldsThere m named h shared qs x row w t = HoldsTree (m.test named h shared qs x.is row) shared (m.mem h) named w t
 
--- The words hold the trees where it stands, in order.
-abbrev pub HoldAllThere : {H : Type 0} (m : Meaning H) (named : ℕ) (h : H) (shared : List (List ℕ)) (qs : List Process) → Stood m named h shared qs → List ℕ
-    → List Tree → Type 0
-HoldAllThere m named h shared qs x ws ts = HoldTrees (m.test named h shared qs x.is) shared (m.mem h) named ws ts
+-- The words hold the trees where it stands, in order, as words of that process.
+abbrev pub HoldAllThere : {H : Type 0} (m : Meaning H) (named : ℕ) (h : H) (shared : List (List ℕ)) (qs : List Process) → Stood m named h shared qs → (row : ℕ)
+    → List ℕ → List Tree → Type 0
+HoldAllThere m named h shared qs x row ws ts = HoldTrees (m.test named h shared qs x.is row) shared (m.mem h) named ws ts
 
 -- It is whole by some count, and stands for some processes.
 pub record Lives {H : Type 0} (m : Meaning H) (h : H) : Type 0 where

@@ -12,12 +12,12 @@ waiting_trees qs = flat_map (λ (q : Process). q.queue) qs
 pub record AreRegisters {H : Type 0} (m : Meaning H) (row : ℕ) (h : H) (words : List ℕ) : Type 0 where
   pub count : length words ≡ 16
   pub hold : (named : ℕ) (shared : List (List ℕ)) (qs : List Process) (x : Stood m named h shared qs)
-      → HoldAllThere m named h shared qs x words (get_or qs row no_process).registers
+      → HoldAllThere m named h shared qs x row words (get_or qs row no_process).registers
 
 -- The words are those of the messages that wait for the process with this row.
 pub record AreWaiting {H : Type 0} (m : Meaning H) (row : ℕ) (h : H) (words : List ℕ) : Type 0 where
   pub hold : (named : ℕ) (shared : List (List ℕ)) (qs : List Process) (x : Stood m named h shared qs)
-      → HoldAllThere m named h shared qs x words (get_or qs row no_process).queue
+      → HoldAllThere m named h shared qs x row words (get_or qs row no_process).queue
 
 -- The memory stands for the processes of a state without areas; and where that says that all is swept, it is tidy.
 pub record StandsIn {H : Type 0} (m : Meaning H) (named : ℕ) (h : H) (s : State) : Type 0 where

@@ -93,7 +93,7 @@ pub trait Heaps {
         requires few { words_of_want want < 2 ^ 64 }
         ensures { Looks meaning want self.old self.new result };
 
-    /// Puts the word of a term into a register.
+    /// Puts a word of this row's process, that of a term, into its register.
     fn put(&mut self, row: usize, r: Reg, w: u64)
         requires ready { CanAsk meaning self.old }
         requires row { row < length (meaning.numbers self.old) }
@@ -187,7 +187,7 @@ pub trait Heaps {
         requires register { IsRegister r }
         ensures { ReceivesInto meaning row r self.old self.new result };
 
-    /// Puts a copy of the word's term last into the queue of the process with this row.
+    /// Puts a copy of the word's term, whatever process it is a word of, last into the queue of the process with this row.
     fn send(&mut self, row: usize, w: u64)
         requires ready { CanAsk meaning self.old }
         requires row { row < length (meaning.numbers self.old) }
@@ -212,12 +212,14 @@ pub trait Heaps {
     fn collect(&mut self, row: usize, depth: Depth)
         requires ready { CanAsk meaning self.old }
         requires row { row < length (meaning.numbers self.old) }
-        ensures { CollectsRows meaning false self.old self.new };
+        ensures rows { CollectsRows meaning false self.old self.new }
+        ensures collected { meaning.collected row depth self.old self.new };
 
     /// Collects every process.
     fn sweep_all(&mut self)
         requires ready { CanAsk meaning self.old }
-        ensures { CollectsRows meaning true self.old self.new };
+        ensures rows { CollectsRows meaning true self.old self.new }
+        ensures swept { meaning.swept_all self.old self.new };
 
     /// Writes the text of `counts`: every record with its count.
     fn counts<K: Sink>(&self, names: &AtomNames, sink: &mut K) -> Result<(), SinkFault>

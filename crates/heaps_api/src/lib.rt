@@ -7,6 +7,6 @@ mod waiting;
 mod wanted;
 
 pub use heaps::Heaps;
-pub use making::{Make, words_of};
+pub use making::{Make, words_to_make};
 pub use waiting::{Message, Waiting};
 pub use wanted::{Want, words_wanted};

@@ -21,7 +21,7 @@ pub enum Make {
 }
 
 /// The words that it may take.
-pub fn words_of(make: Make) -> u64
+pub fn words_to_make(make: Make) -> u64
     requires { CanReckon make }
     ensures { result ≡ words_of_make make }
 {

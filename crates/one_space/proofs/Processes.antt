@@ -1,5 +1,3 @@
 -- Rows that stand for processes: read, written, taken out and added, and how many references they have made.
-pub mod Counting
 pub mod Changing
 pub mod Turning
-pub mod Within

@@ -57,6 +57,12 @@ pub record GivesBack (old new : OneHeap) : Type 0 where
   pub sweeps : new.halves.sweeps ≡ old.halves.sweeps
   pub room : new.halves.room ≡ old.halves.room
 
+-- No more was taken than what is wanted; a process takes none.
+abbrev pub TakesFor : Want → (old new : OneHeap) → Type 0
+TakesFor (want.Words row n records) old new = TakesAtMost (looked_for (want.Words row n records)) old new
+TakesFor (want.Message row size) old new = TakesAtMost (looked_for (want.Message row size)) old new
+TakesFor want.Process old new = GivesBack old new
+
 -- None is taken, copied or collected: no collection was made, no word of the memory changed, and the free words begin and end where they did.
 pub record IsStill (old new : OneHeap) : Type 0 where
   pub sweeps : new.halves.sweeps ≡ old.halves.sweeps
@@ -83,17 +89,20 @@ FollowPlaces mem place (suc n) = (place + PLACE_WORDS ≤ length mem) × FollowP
 abbrev pub one_meaning : Meaning OneHeap
 one_meaning = record {
   stands = λ named h shared qs. HalvesStand named h.halves shared qs;
-  test = λ named h shared qs x. x.test;
+  test = λ named h shared qs x row. x.test;
   mem = λ h. h.halves.mem;
   numbers = λ h. numbers_by number_in h.halves.procs.items;
   whole = AreWholeHalves;
   tidy = λ h. ChainReached h.halves;
   has_room = λ w h. looked_for w ≤ free_in h.halves;
   looked = λ w old new found. MakesRoom (looked_for w) old.halves new.halves found;
-  took = λ w old new. TakesAtMost (looked_for w) old new;
+  took = TakesFor;
   gave_back = GivesBack;
   idle = IsStill;
-  collected = IsCollected;
+  received = λ row. IsStill;
+  ended = λ row. IsStill;
+  collected = λ row depth. IsCollected;
+  swept_all = IsCollected;
   sent = IsSent;
   waits = λ h at. FollowPlaces h.halves.mem at.at at.count;
   messages = λ h at. values h.halves.mem at.at at.count;

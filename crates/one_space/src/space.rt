@@ -36,12 +36,12 @@ pub fn start(alloc: Global, words: u64) -> Result<OneSpace, OpenFault>
     ensures free { IfOk result (λ b. AllFree b) }
 {
     let heaps = first_heap(alloc, words)?;
-    let Ok(row) = Vec::from_elem(alloc, 0u64, ROW) else {
+    let Ok(scratch) = Vec::from_elem(alloc, 0u64, ROW) else {
         return Err(OpenFault::Memory);
     };
     Ok(Over::over(Verbs {
         heaps,
-        row,
+        scratch,
         next: 2,
         serials: 0,
         named: 0,

@@ -1,11 +1,4 @@
 -- Verbs that make, end and move: what they make of the state, once the memory has done its part.
-pub mod Taking
-pub mod Searching
-pub mod Pushing
-pub mod Collecting
-pub mod Ending
-pub mod Spawning
-pub mod Queues
+pub mod Living
 pub mod Sizing
-pub mod Hearing
 pub mod Sending

@@ -1,7 +1,9 @@
 -- What a call makes of what the verbs stand for, by what it asked of the memory: it is refused before it asked, there is no space,
 -- something came into a register, or something was taken.
-use Rattle.std.proofs.Common.{◌≡◌, ℕ, ◌+◌, ◌*◌, ◌^◌, ◌<◌, ◌≤◌, Bool, true, false, true≢false, ◌&&◌, ◌||◌, nat_lt, List, [], length, map, get_or, set, Result, Ok, Err, inl, inr, refl, sym, ◌∙◌, ap, arith}
+use Rattle.std.proofs.Common.{◌≡◌, ℕ, ◌+◌, ◌*◌, ◌^◌, ◌<◌, ◌≤◌, Bool, true, false, true≢false, ◌&&◌, ◌||◌, nat_lt, List, [], length, map, set, Result, Ok, Err, inl, inr, refl, sym, ◌∙◌, ap, subst, arith}
 use Rattle.std.proofs.lemmas.Bool.{lt-ltb}
+use Rattle.std.specs.Vec.{vec_len}
+use Rattle.std.specs.Result.{IsErrAnd}
 use Rattle.script_grammar.specs.declared.command.Command.{Command}
 use Rattle.script_grammar.specs.declared.command.Command.TheVariants.{Process as OfProcess}
 use Rattle.script_grammar.specs.declared.command.Verb.{Verb}
@@ -24,11 +26,11 @@ use Rattle.heaps_api.specs.Changing.{Looks, KeepsRows, process_at}
 use Rattle.heaps_api.specs.Wanted.{words_of_want}
 use Rattle.heaps_api.specs.declared.wanted.Want.{Want}
 use Rattle.process_verbs.specs.Verbs.{Holds, IsCounted, Sits, VerbsStand, memory_words}
-use Rattle.process_verbs.specs.Asked.{changed, roomed}
+use Rattle.process_verbs.specs.Asked.{Searches, answer_of_search, changed, roomed}
 use Rattle.process_verbs.specs.Doing.{Does, DoesAtOnce}
 use Rattle.process_verbs.specs.declared.verbs.Verbs.{Verbs}
-use Rattle.process_verbs.proofs.Processes.Seats.{replaced}
-use Rattle.process_verbs.proofs.Processes.Seated.{found-there, number-there, set-there, settled-stands, step-there}
+use Rattle.process_verbs.specs.declared.verbs.TheConstants.{ROW}
+use Rattle.process_verbs.proofs.Processes.{found-there, number-there, replaced, set-there, settled-stands, step-there}
 
 -- What stands after a call, whatever its result.
 pub follows-some : {A : Type 0} (o : Outcome) (s : State) (r : Result A Refusal) (Stands : State → Type 0) → Follows o s r Stands → (t : State) × Stands t
@@ -91,18 +93,23 @@ module _ {H : Type 0} (m : Meaning H) where
   holds-passed b o counts f = let t = passes-some o (VerbsStand m b) f in record { counts = counts; state = t.0; stands = t.1 }
 
   -- The verbs are counted after calls of the memory that keep its rows.
-  pub counts-stay : (b c : Verbs H) → IsCounted m b → m.numbers c.heaps ≡ m.numbers b.heaps → c.row ≡ b.row → c.next ≡ b.next → b.calls ≤ c.calls
-      → c.serials ≡ b.serials → m.whole (2 * c.calls) c.heaps → IsCounted m c
-  counts-stay b c k rows row next calls serials whole = record {
-    enough = rw row k.enough;
+  counts-kept : (b c : Verbs H) → IsCounted m b → m.numbers c.heaps ≡ m.numbers b.heaps → vec_len c.scratch ≡ vec_len b.scratch → c.next ≡ b.next → b.calls ≤ c.calls
+      → c.serials ≤ ROW * c.calls → m.whole (2 * c.calls) c.heaps → IsCounted m c
+  counts-kept b c k rows row next calls serials whole = record {
+    enough = row ∙ k.enough;
     few = rw rows k.few;
     rising = rw rows k.rising;
     below = rw (rows, next) k.below;
     second = omega (arith, k.second, next);
     numbered = omega (arith, k.numbered, next, calls);
-    serials = omega (arith, k.serials, serials, calls);
+    serials = serials;
     whole = whole;
   }
+
+  pub counts-stay : (b c : Verbs H) → IsCounted m b → m.numbers c.heaps ≡ m.numbers b.heaps → c.scratch ≡ b.scratch → c.next ≡ b.next → b.calls ≤ c.calls
+      → c.serials ≡ b.serials → m.whole (2 * c.calls) c.heaps → IsCounted m c
+  counts-stay b c k rows row next calls serials whole =
+      counts-kept b c k rows (ap (λ z. vec_len z) row) next calls (omega (arith, k.serials, serials, calls)) whole
 
   -- A search for room.
   module _ (b : Verbs H) (holds : Holds m b) (want : Want) (h : H) (found : Bool) (looks : Looks m want b.heaps h found) where
@@ -126,6 +133,12 @@ module _ {H : Type 0} (m : Meaning H) where
 
     pub holds-roomed : Holds m (roomed b h)
     holds-roomed = record { counts = counts-roomed; state = holds.state; stands = stands-roomed holds.state holds.stands }
+
+    -- The verbs are counted after a call that was done in that room.
+    pub counts-gained : (c : Verbs H) → KeepsRows m h c.heaps → vec_len c.scratch ≡ vec_len b.scratch → c.next ≡ b.next → c.calls ≡ b.calls + 1 → c.serials ≤ ROW * c.calls → IsCounted m c
+    counts-gained c stays row next calls serials =
+        counts-kept b c holds.counts (stays.rows ∙ looks.stays.rows) row next (omega (arith, calls)) serials
+        (stays.goes.whole (2 * b.calls + 1) (2 * c.calls) whole-roomed (omega (arith, calls)))
 
     -- The memory can be asked once more.
     pub ready-roomed : b.calls < 2 ^ 36 → CanAsk m h
@@ -199,13 +212,13 @@ module _ {H : Type 0} (m : Meaning H) where
       pub stood : Stood m b.named h s.shared (set s.processes seat.row process)
       pub within : AreWithin s.shared process.queue
 
-    pub changed-stands : (s : State) (terms : Terms) (names : List (List ℕ)) (o : VerbsStand m b s) (h : H) (k : Changed s terms names h)
-        → VerbsStand m (changed b h) (settled (line terms names) (with_process k.process s))
-    changed-stands s terms names o h k =
-        let same : map (replaced k.process) s.processes ≡ set s.processes seat.row k.process =
-        set-there m b s o holds.counts seat x k.process (k.number ∙ number-there m b s o holds.counts seat x) in
-        settled-stands m b (changed b h) s (line terms names) k.process s.shared o (rw same k.stood) refl refl o.shared (λ e. absurd (true≢false (sym e)))
-        (put-within s.shared k.process s.processes k.within o.within)
+    -- The verbs stand for the state with that process.
+    pub seat-stands : (s : State) (o : VerbsStand m b s) (terms : Terms) (names : List (List ℕ)) (q : Process) (h : H) → q.number ≡ (seated s).number
+        → Stood m b.named h s.shared (set s.processes seat.row q) → AreWithin s.shared q.queue → VerbsStand m (changed b h) (settled (line terms names) (with_process q s))
+    seat-stands s o terms names q h number stood within =
+        let same : map (replaced q) s.processes ≡ set s.processes seat.row q = set-there m b s o holds.counts seat x q (number ∙ number-there m b s o holds.counts seat x) in
+        settled-stands m b (changed b h) s (line terms names) q s.shared o (rw same stood) refl refl o.shared (λ e. absurd (true≢false (sym e)))
+        (put-within s.shared q s.processes within o.within)
 
     -- It was done.
     pub changes : (h : H) → IsCounted m (changed b h) → length (m.mem h) ≡ length (m.mem b.heaps)
@@ -214,7 +227,7 @@ module _ {H : Type 0} (m : Meaning H) where
     changes h counts words k =
         let f : (s : State) (terms : Terms) (names : List (List ℕ)) → VerbsStand m b s
         → Follows {A = Unit {0}} (step s (line terms names)) s (Ok tt) (VerbsStand m (changed b h)) =
-        λ s terms names o. let c = k s terms names o in rw (at-seat s o terms names, c.does_so) (changed-stands s terms names o h c) in
+        λ s terms names o. let c = k s terms names o in rw (at-seat s o terms names, c.does_so) (seat-stands s o terms names c.process h c.number c.stood c.within) in
         record {
           holds = holds-become {A = Unit {0}} (memory_words m b) (changed b h) holds.state (line end []) (Ok tt) counts (inl (f holds.state end [] holds.stands));
           follows = f;
@@ -226,8 +239,7 @@ module _ {H : Type 0} (m : Meaning H) where
         → ((s : State) (terms : Terms) (names : List (List ℕ)) → VerbsStand m b s → Stood m b.named h s.shared s.processes → Changed s terms names h2)
         → Does {A = Unit {0}} m (OfProcess seat.pid v) b (changed b h2) (Ok tt)
     gains want h looks h2 stays k =
-        let counts : IsCounted m (changed b h2) = counts-stay b (changed b h2) holds.counts (stays.rows ∙ looks.stays.rows) refl refl (omega arith) refl
-        (stays.goes.whole (2 * b.calls + 1) (2 * (b.calls + 1)) (whole-roomed b holds want h true looks) (omega arith)) in
+        let counts : IsCounted m (changed b h2) = counts-gained b holds want h true looks (changed b h2) stays refl refl refl (omega (arith, holds.counts.serials)) in
         let d = changes h2 counts (stays.goes.words ∙ looks.stays.goes.words) (λ s terms names o. k s terms names o (looks.kept b.named s.shared s.processes o.processes)) in
         record { holds = d.holds; becomes = λ s terms names o. inl (d.follows s terms names o); books = d.books }
 
@@ -237,3 +249,49 @@ module _ {H : Type 0} (m : Meaning H) where
     puts h stays k =
         changes h (counts-stay b (changed b h) holds.counts stays.rows refl refl (omega arith) refl
         (stays.goes.whole (2 * b.calls) (2 * (b.calls + 1)) holds.counts.whole (omega arith))) stays.goes.words k
+
+-- What a call knows once it has looked for what is wanted: the answer tells whether it was found.
+found-by : (want : Want) (found : Bool) (u : Unit {0}) → Ok u ≡ answer_of_search want found → found ≡ true
+found-by want true u e = refl
+found-by want false u e = absurd cc
+
+lacking-by : (want : Want) (found : Bool) (e : Refusal) → Err e ≡ answer_of_search want found → (found ≡ false) × (e ≡ NoSpace (words_of_want want))
+lacking-by want true e is = absurd cc
+lacking-by want false e is = (refl, same (answer_of_search want false) is refl)
+  where
+    same : (r : Result (Unit {0}) Refusal) → Err e ≡ r → r ≡ Err (NoSpace (words_of_want want)) → e ≡ NoSpace (words_of_want want)
+    same r one two = cc
+
+-- The verbs after a call that asked for room before.
+abbrev pub after : {H : Type 0} → Verbs H → H → Verbs H
+after c h = record { heaps = h; scratch = c.scratch; next = c.next; serials = c.serials; named = c.named; calls = c.calls; swept = false }
+
+module _ {H : Type 0} (m : Meaning H) (b c : Verbs H) (want : Want) (res : Result (Unit {0}) Refusal) (x : Searches m want b c res) where
+  pub looks-found : (u : Unit {0}) → res ≡ Ok u → Looks m want b.heaps x.heaps true
+  looks-found u is = subst (λ z. Looks m want b.heaps x.heaps z) (found-by want x.found u (sym is ∙ x.answer)) x.looks
+
+  pub looks-lacking : (e : Refusal) → res ≡ Err e → Looks m want b.heaps x.heaps false
+  looks-lacking e is = subst (λ z. Looks m want b.heaps x.heaps z) (lacking-by want x.found e (sym is ∙ x.answer)).0 x.looks
+
+  pub no-space-told : (e : Refusal) → res ≡ Err e → e ≡ NoSpace (words_of_want want)
+  no-space-told e is = (lacking-by want x.found e (sym is ∙ x.answer)).1
+
+  pub heaps-are : c.heaps ≡ x.heaps
+  heaps-are = ap (λ z. z.heaps) x.same
+
+  -- An error that went on as it was.
+  pub lacking-told : (e : Refusal) → res ≡ Err e → (out : Result (Unit {0}) Refusal) → IsErrAnd out (λ y. y ≡ e) → out ≡ Err (NoSpace (words_of_want want))
+  lacking-told e is (Ok a) as_it = absurd as_it
+  lacking-told e is (Err y) as_it = ap Err (as_it ∙ no-space-told e is)
+
+  -- The memory can be asked once more.
+  pub ready-after : Holds m b → b.calls < 2 ^ 36 → CanAsk m c.heaps
+  ready-after holds few = subst (CanAsk m) (sym heaps-are) (ready-roomed m b holds want x.heaps x.found x.looks few)
+
+  -- There is no space for a verb that asks for this.
+  pub lacks-after : (holds : Holds m b) (seat : Seat) (sits : Sits m b seat) (v : Verb) (A : Type 0) (e : Refusal) → res ≡ Err e
+      → ((s : State) (terms : Terms) (names : List (List ℕ)) → VerbsStand m b s
+      → (verb_words s (said (OfProcess seat.pid v) terms names) (process_at s.processes seat.row) v ≡ words_of_want want)
+      × (gets_to_space (OfProcess seat.pid v) (by_verb s (said (OfProcess seat.pid v) terms names) (process_at s.processes seat.row) v) ≡ true))
+      → Does {A = A} m (OfProcess seat.pid v) b c (Err e)
+  lacks-after holds seat sits v A e is asks = rw (x.same, no-space-told e is) (lacks m b holds seat sits v A want x.heaps (looks-lacking e is) asks)

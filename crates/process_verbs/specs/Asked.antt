@@ -25,11 +25,11 @@ use Rattle.process_verbs.specs.declared.verbs.Verbs.{Verbs}
 
 -- After a search for room, one call later.
 abbrev pub roomed : {H : Type 0} → Verbs H → H → Verbs H
-roomed b h = record { heaps = h; row = b.row; next = b.next; serials = b.serials; named = b.named; calls = b.calls + 1; swept = b.swept }
+roomed b h = record { heaps = h; scratch = b.scratch; next = b.next; serials = b.serials; named = b.named; calls = b.calls + 1; swept = b.swept }
 
 -- After a call that changed something.
 abbrev pub changed : {H : Type 0} → Verbs H → H → Verbs H
-changed b h = record { heaps = h; row = b.row; next = b.next; serials = b.serials; named = b.named; calls = b.calls + 1; swept = false }
+changed b h = record { heaps = h; scratch = b.scratch; next = b.next; serials = b.serials; named = b.named; calls = b.calls + 1; swept = false }
 
 -- The answer of a search.
 abbrev pub answer_of_search : Want → Bool → Result (Unit {0}) Refusal
@@ -64,10 +64,10 @@ pub record MakesTerm {H : Type 0} (m : Meaning H) (seat : Seat) (r : Reg) (make 
       ≡ does (said (OfProcess seat.pid v) terms names) (with_process (with_made_in r.0 make t (process_at s.processes seat.row)) s)
       → Becomes (memory_words m old) s (said (OfProcess seat.pid v) terms names) result (VerbsStand m new)
 
--- The word holds some tree in a state that the verbs stand for.
-pub record HoldsSome {H : Type 0} (m : Meaning H) (b : Verbs H) (w : ℕ) (s : State) (o : VerbsStand m b s) : Type 0 where
+-- The word holds some tree in a state that the verbs stand for, as a word of the process with this row.
+pub record HoldsSome {H : Type 0} (m : Meaning H) (b : Verbs H) (row w : ℕ) (s : State) (o : VerbsStand m b s) : Type 0 where
   pub tree : Tree
-  pub held : HoldsThere m b.named b.heaps s.shared s.processes o.processes w tree
+  pub held : HoldsThere m b.named b.heaps s.shared s.processes o.processes row w tree
 
 -- The word was put into the register of the seat's process: a verb that does this was done.
 pub record PutsInto {H : Type 0} (m : Meaning H) (seat : Seat) (r : Reg) (w : ℕ) (old new : Verbs H) : Type 0 where
@@ -75,7 +75,7 @@ pub record PutsInto {H : Type 0} (m : Meaning H) (seat : Seat) (r : Reg) (w : �
   pub idle : IsIdle m old new
   pub books : Books m old new old.named
   pub follows : (s : State) (v : Verb) (terms : Terms) (names : List (List ℕ)) (t : Tree) (o : VerbsStand m old s)
-      → HoldsThere m old.named old.heaps s.shared s.processes o.processes w t
+      → HoldsThere m old.named old.heaps s.shared s.processes o.processes seat.row w t
       → by_verb s (said (OfProcess seat.pid v) terms names) (process_at s.processes seat.row) v
       ≡ does (said (OfProcess seat.pid v) terms names) (with_process (with_register r.0 t (process_at s.processes seat.row)) s)
       → Follows {A = Unit {0}} (step s (said (OfProcess seat.pid v) terms names)) s (Ok tt) (VerbsStand m new)

@@ -6,6 +6,7 @@ use Rattle.plain_term.specs.declared.item.Item.{Item}
 use Rattle.script_grammar.specs.declared.command.Command.{Command}
 use Rattle.script_grammar.specs.declared.command.Command.TheVariants.{Process}
 use Rattle.script_grammar.specs.declared.command.Verb.TheVariants as verb
+use Rattle.script_grammar.specs.declared.command.Depth.{Depth}
 use Rattle.script_grammar.specs.declared.command.Pick.{Pick}
 use Rattle.script_grammar.specs.declared.command.Pick.TheVariants as pick
 use Rattle.script_grammar.specs.declared.command.Reg.{Reg}
@@ -92,9 +93,8 @@ pub record AsksUnless {H A : Type 0} (m : Meaning H) (w : Want) (old new : Verbs
   pub early : is_early result ≡ true → new ≡ old
   pub asks : is_early result ≡ false → Asks m w old new result
 
--- A message was sent to the process with this number, from the memory in which its words were found.
-pub record IsSentApart {H : Type 0} (m : Meaning H) (pid : ℕ) (heaps : H) (new : Verbs H) : Type 0 where
-  pub row : ℕ
+-- A message was sent to the process with this number and row, from the memory in which its words were found.
+pub record IsSentApart {H : Type 0} (m : Meaning H) (row pid : ℕ) (heaps : H) (new : Verbs H) : Type 0 where
   pub within : row < length (m.numbers heaps)
   pub number : slice_index (m.numbers heaps) row ≡ pid
   pub sent : m.sent row heaps new.heaps
@@ -102,8 +102,9 @@ pub record IsSentApart {H : Type 0} (m : Meaning H) (pid : ℕ) (heaps : H) (new
 -- A message of a tree of this flat size is asked for, to the process with this number and row: where the call is accepted, it was sent.
 pub record AsksForMessage {H A : Type 0} (m : Meaning H) (size pid : ℕ) (old new : Verbs H) (result : Result A Refusal) : Type 0 where
   pub row : ℕ
+  pub number : is_early result ≡ false → (row < length (m.numbers old.heaps)) × (slice_index (m.numbers old.heaps) row ≡ pid)
   pub unless : AsksUnless m (want.Message row size) old new result
-  pub sent : (e : is_early result ≡ false) → OnOk result (IsSentApart m pid (unless.asks e).heaps new)
+  pub sent : (e : is_early result ≡ false) → OnOk result (IsSentApart m row pid (unless.asks e).heaps new)
 
 -- The same where words are asked for at all; where none are, the memory is as before.
 abbrev pub AsksWhere : {H A : Type 0} → Meaning H → (asks : Bool) (size pid : ℕ) (old new : Verbs H) (result : Result A Refusal) → Type 0
@@ -115,9 +116,9 @@ abbrev pub AsksToSend : {H A : Type 0} → Meaning H → Option ℕ → State �
 AsksToSend m None s t old new result = new ≡ old
 AsksToSend m (Some pid) s t old new result = AsksWhere m (is_live pid s) (flat t) pid old new result
 
--- A collection was made that a line asks for.
-abbrev pub HasCollected : {H : Type 0} → Meaning H → (old new : Verbs H) → Type 0
-HasCollected m old new = m.collected old.heaps new.heaps
+-- The process with this row was collected to this depth, as a line asks.
+abbrev pub HasCollected : {H : Type 0} → Meaning H → (row : ℕ) → Depth → (old new : Verbs H) → Type 0
+HasCollected m row depth old new = m.collected row depth old.heaps new.heaps
 
 -- What is wanted for a binary of so many equal bytes: a longer one stands in a record.
 abbrev pub want_of_fill : (row len : ℕ) → Want

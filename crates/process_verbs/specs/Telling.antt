@@ -13,15 +13,16 @@ use Rattle.term_walk.specs.declared.measured.Measured.{Measured}
 use Rattle.term_walk.specs.declared.measured.Measured.TheVariants as measured
 use Rattle.term_order.specs.declared.compared.Compared.{Compared}
 use Rattle.term_order.specs.declared.compared.Compared.TheVariants as compared
+use Rattle.space_api.specs.declared.space.Seat.{Seat}
 use Rattle.heaps_api.specs.Meaning.{HoldsThere, Meaning}
 use Rattle.process_verbs.specs.Verbs.{VerbsStand}
 use Rattle.process_verbs.specs.declared.verbs.Verbs.{Verbs}
 
--- The word holds the tree of the process's register.
-pub record IsHeld {H : Type 0} (m : Meaning H) (b : Verbs H) (s : State) (o : VerbsStand m b s) (pid : ℕ) (r : Reg) (w : ℕ) : Type 0 where
+-- The word holds the tree of the register of the seat's process, as a word of its row.
+pub record IsHeld {H : Type 0} (m : Meaning H) (b : Verbs H) (s : State) (o : VerbsStand m b s) (seat : Seat) (r : Reg) (w : ℕ) : Type 0 where
   pub process : Process
-  pub found : process_of pid s ≡ Some process
-  pub held : HoldsThere m b.named b.heaps s.shared s.processes o.processes w (register r.0 process)
+  pub found : process_of seat.pid s ≡ Some process
+  pub held : HoldsThere m b.named b.heaps s.shared s.processes o.processes seat.row w (register r.0 process)
 
 -- What is told of a measured term: one that is beyond the walk limit is refused.
 abbrev pub measure_told : Measured → Result Measure Refusal

@@ -29,7 +29,7 @@ pub record VerbsStand {H : Type 0} (m : Meaning H) (b : Verbs H) (s : State) : T
 -- Their numbers: those of the rows rise and stay below the next one, which no more than calls have raised; no call makes more shared
 -- binaries than a line has items; and a call raises the counters of the memory by two at most.
 pub record IsCounted {H : Type 0} (m : Meaning H) (b : Verbs H) : Type 0 where
-  pub enough : vec_len b.row ≡ ROW
+  pub enough : vec_len b.scratch ≡ ROW
   pub few : length (m.numbers b.heaps) ≤ MOST_PROCESSES
   pub rising : AreRising 0 (m.numbers b.heaps)
   pub below : AreBelow b.next (m.numbers b.heaps)

@@ -9,7 +9,7 @@ ghost use Rattle.process_verbs.specs.Verbs.{Holds, Sits, VerbsStand};
 ghost use Rattle.process_verbs.specs.Asked.{HasMade, HoldsSome, MakesTerm, PutsInto, Searches};
 
 use crate::verbs::Verbs;
-use heaps_api::{Heaps, Make, Want, words_of, words_wanted};
+use heaps_api::{Heaps, Make, Want, words_to_make, words_wanted};
 use plain_machine::{Refusal, Reg};
 use space_api::Seat;
 
@@ -40,20 +40,20 @@ impl<H: Heaps> Verbs<H> {
         requires can { (s : State) → VerbsStand H.meaning self.old s → HasMade s.shared (process_at s.processes seat.row) make }
         ensures { MakesTerm H.meaning seat r make self.old self.new result }
     {
-        self.ask(Want::Words(seat.row, words_of(make), 0))?;
+        self.ask(Want::Words(seat.row, words_to_make(make), 0))?;
         self.heaps.gain(seat.row, r, make);
         self.swept = false;
         Ok(())
     }
 
-    /// Puts the word of a term into a register.
+    /// Puts a word of the process, that of a term, into its register.
     #[inline]
     pub fn put(&mut self, seat: Seat, r: Reg, w: u64)
         requires holds { Holds H.meaning self.old }
         requires calls { self.old.calls < most_calls }
         requires sits { Sits H.meaning self.old seat }
         requires register { IsRegister r }
-        requires held { (s : State) (o : VerbsStand H.meaning self.old s) → HoldsSome H.meaning self.old w s o }
+        requires held { (s : State) (o : VerbsStand H.meaning self.old s) → HoldsSome H.meaning self.old seat.row w s o }
         ensures { PutsInto H.meaning seat r w self.old self.new }
     {
         self.heaps.put(seat.row, r, w);

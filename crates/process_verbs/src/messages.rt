@@ -1,5 +1,5 @@
 // Messages that are sent and received.
-ghost use Rattle.std.specs.Prelude.{◌≡◌, ◌<◌, Some};
+ghost use Rattle.std.specs.Prelude.{◌≡◌, ◌<◌, OnErr, Some};
 ghost use Rattle.plain_machine.specs.State.{Process as Live, State, process_of, register};
 ghost use Rattle.plain_machine.specs.Tightness.{receiver as receiver_of};
 ghost use Rattle.script_grammar.specs.declared.command.Command.TheVariants.{Process};
@@ -8,7 +8,7 @@ ghost use Rattle.script_grammar.specs.Grammar.{MayReceive};
 ghost use Rattle.script_grammar.specs.Names.{IsRegister};
 ghost use Rattle.space_api.specs.Calls.{most_calls};
 ghost use Rattle.process_verbs.specs.Verbs.{Holds, Sits, VerbsStand};
-ghost use Rattle.process_verbs.specs.Doing.{AsksToSend, Does, DoesAtOnce, IsIdle};
+ghost use Rattle.process_verbs.specs.Doing.{AsksToSend, Does, DoesAtOnce};
 ghost use Rattle.process_verbs.specs.Telling.{number_seen};
 
 use crate::verbs::Verbs;
@@ -68,7 +68,8 @@ impl<H: Heaps> Verbs<H> {
         requires sits { Sits H.meaning self.old seat }
         requires register { IsRegister r }
         ensures does { DoesAtOnce H.meaning (Process seat.pid (verb.Recv r)) self.old self.new result }
-        ensures idle { IsIdle H.meaning self.old self.new }
+        ensures received { H.meaning.received seat.row self.old.heaps self.new.heaps }
+        ensures refused { OnErr result (self.new ≡ self.old) }
     {
         if !self.heaps.receive(seat.row, r) {
             return Err(Refusal::Empty);

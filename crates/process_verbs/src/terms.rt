@@ -44,7 +44,7 @@ impl<H: Heaps> Verbs<H> {
         self.ask(Want::Words(seat.row, words.heap, words.far))?;
         match self
             .heaps
-            .gain_term(names, seat.row, r, &mut self.row, self.serials, code)
+            .gain_term(names, seat.row, r, &mut self.scratch, self.serials, code)
         {
             Ok(bins) => {
                 self.serials += bins;
@@ -83,7 +83,7 @@ impl<H: Heaps> Verbs<H> {
         }
         self.ask(Want::Words(seat.row, 6 + env.len() as u64, 4))?;
         self.heaps
-            .gain_fun(seat.row, r, name, arity, &mut self.row, env);
+            .gain_fun(seat.row, r, name, arity, &mut self.scratch, env);
         self.named = above(self.named, name);
         self.swept = false;
         Ok(())

@@ -32,7 +32,7 @@ impl<H: Heaps> Verbs<H> {
         requires holds { Holds H.meaning self.now }
         requires sits { Sits H.meaning self.now seat }
         requires register { IsRegister r }
-        ensures { (s : State) (o : VerbsStand H.meaning self.now s) → IsHeld H.meaning self.now s o seat.pid r result }
+        ensures { (s : State) (o : VerbsStand H.meaning self.now s) → IsHeld H.meaning self.now s o seat r result }
     {
         self.heaps.regs(seat.row)[r.0 as usize]
     }

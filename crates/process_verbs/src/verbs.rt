@@ -24,7 +24,7 @@ pub const ROW: usize = 4096;
 #[derive(Drop)]
 pub struct Verbs<H> {
     pub heaps: H,
-    pub row: Vec<u64>,
+    pub scratch: Vec<u64>,
     pub next: u64,
     pub serials: u64,
     pub named: u64,
@@ -59,7 +59,7 @@ impl<H: Heaps> Verbs<H> {
         requires calls { self.old.calls < most_calls }
         requires sits { Sits H.meaning self.old seat }
         ensures does { DoesAlways H.meaning (Process seat.pid verb.Exit) self.old self.new }
-        ensures idle { IsIdle H.meaning self.old self.new }
+        ensures ended { H.meaning.ended seat.row self.old.heaps self.new.heaps }
     {
         self.heaps.exit(seat.row);
         self.calls += 1;
@@ -116,7 +116,7 @@ impl<H: Heaps> Verbs<H> {
         requires calls { self.old.calls < most_calls }
         requires sits { Sits H.meaning self.old seat }
         ensures does { DoesAlways H.meaning (Process seat.pid (verb.Gc depth)) self.old self.new }
-        ensures collects { HasCollected H.meaning self.old self.new }
+        ensures collects { HasCollected H.meaning seat.row depth self.old self.new }
     {
         self.heaps.collect(seat.row, depth);
         self.calls += 1;
@@ -128,7 +128,7 @@ impl<H: Heaps> Verbs<H> {
         requires holds { Holds H.meaning self.old }
         requires calls { self.old.calls < most_calls }
         ensures does { DoesAlways H.meaning (System sysverb.Sweep) self.old self.new }
-        ensures collects { HasCollected H.meaning self.old self.new }
+        ensures collects { H.meaning.swept_all self.old.heaps self.new.heaps }
     {
         self.heaps.sweep_all();
         self.calls += 1;

@@ -1,6 +1,6 @@
 -- A half that binaries with records of their own came into: it stands for what it stood for, and their holders and records are in
 -- the chain and in the table.
-use Rattle.std.proofs.Common.{Vec, ◌≡◌, ℕ, zero, suc, ◌+◌, ◌*◌, ◌/◌, ◌<◌, ◌≤◌, ◌⊎◌, Bool, true, List, [], ◌∷◌, ◌++◌, length, get_or, refl, sym, ◌∙◌, ap, subst, arith, inl, inr}
+use Rattle.std.proofs.Common.{Vec, ◌≡◌, ℕ, zero, suc, ◌+◌, ◌*◌, ◌/◌, ◌<◌, ◌≤◌, ◌⊎◌, Bool, true, List, [], ◌∷◌, ◌++◌, length, get_or, refl, sym, ◌∙◌, ap, arith, inl, inr}
 use Rattle.std.specs.declared.alloc.Global.{Global}
 use Rattle.std.proofs.lemmas.List.{length-append}
 use Rattle.word_mem.specs.declared.ranges.Room.{Room}
@@ -60,6 +60,11 @@ holders-len : (top n : ℕ) → length (holders_from top n) ≡ n
 holders-len top zero = refl
 holders-len top (suc n) = omega (arith, holders-len top n)
 
+-- Records whose owner words rise are apart.
+pub rise-once : (mem : List ℕ) (vs : List ℕ) → OwnersRise mem vs → Distinct vs
+rise-once mem [] r = tt
+rise-once mem (v ∷ vs) (first, rest) = ((λ i. omega (arith, first v i)), rise-once mem vs rest)
+
 -- Two tables whose owners rise, the second above the first.
 rise-both : (mem : List ℕ) (xs ys : List ℕ) → OwnersRise mem xs → OwnersRise mem ys → ((v w : ℕ) → In v xs → In w ys → owner_in mem v < owner_in mem w) → OwnersRise mem (xs ++ ys)
 rise-both mem [] ys one two apart = two
@@ -105,8 +110,7 @@ module _ (h : Halves) (shared extra : List (List ℕ)) (named : ℕ) (qs : List 
 
   pub record-there : (i : ℕ) → i < n → IsBinRecord d mem2 (record_at mem2 h.room.top i) (length shared + suc i) (shared_bytes all_shared (length shared + suc i))
   record-there i less =
-      let P : ℕ → Type 0 = λ q. IsBinRecord d mem2 (get_or mem2 (q + 3) 0) (length shared + suc i) (shared_bytes all_shared (length shared + suc i)) in
-      subst P (place-of (h.room.top + 6 * i)) (holder-there i less).record_is
+      rw (place-of (h.room.top + 6 * i)) at (holder-there i less).record_is
 
   known-there : (i : ℕ) → i < n → length shared + suc i ≤ length all_shared
   known-there i less = (holder-there i less).known
@@ -116,8 +120,7 @@ module _ (h : Halves) (shared extra : List (List ℕ)) (named : ℕ) (qs : List 
 
   pub inside-there : (i : ℕ) → i < n → h.room.top + 6 * i + 6 ≤ z.top
   inside-there i less =
-      let P : ℕ → Type 0 = λ q. d (q + 5) FURTHER ≡ true in
-      let last : d (h.room.top + 6 * i + 5) FURTHER ≡ true = subst P (place-of (h.room.top + 6 * i)) (holder-there i less).holder.sixth in
+      let last : d (h.room.top + 6 * i + 5) FURTHER ≡ true = rw (place-of (h.room.top + 6 * i)) at (holder-there i less).holder.sixth in
       elim (lies (h.room.top + 6 * i + 5) FURTHER last) [ inl o ↦ omega (arith, o.1.0) | inr r ↦ absurd (omega (arith, r.1.1)) ]
 
   -- A record that stands at a place of an old one is one of before.
@@ -167,16 +170,6 @@ module _ (h : Halves) (shared extra : List (List ℕ)) (named : ℕ) (qs : List 
   abbrev pub new_records : List ℕ
   new_records = records_from mem2 h.room.top n
 
-  firsts-once : (m : ℕ) → m ≤ n → Distinct (records_from mem2 h.room.top m)
-  firsts-once zero few = tt
-  firsts-once (suc m) few = both-distinct (records_from mem2 h.room.top m) (record_at mem2 h.room.top m ∷ []) (firsts-once m (omega (arith, few))) ((λ i. i), tt)
-      (λ u i j. elim j [
-        | inl e ↦
-            let (k, (less, is)) = entered-at mem2 h.room.top m u i in
-            omega (arith, less, owner-there k (omega (arith, less, few)), owner-there m (omega (arith, few)), ap (owner_in mem2) e, ap (owner_in mem2) is)
-        | inr none ↦ none
-      ])
-
   firsts-rise : (m : ℕ) → m ≤ n → OwnersRise mem2 (records_from mem2 h.room.top m)
   firsts-rise zero few = tt
   firsts-rise (suc m) few = rise-both mem2 (records_from mem2 h.room.top m) (record_at mem2 h.room.top m ∷ []) (firsts-rise m (omega (arith, few))) ((λ w i. absurd i), tt)
@@ -189,7 +182,7 @@ module _ (h : Halves) (shared extra : List (List ℕ)) (named : ℕ) (qs : List 
 
   new-once : Distinct ((h.bins.items ++ new_records) ++ h.funs.items)
   new-once = both-distinct (h.bins.items ++ new_records) h.funs.items
-      (both-distinct h.bins.items new_records (distinct-left h.bins.items h.funs.items s.records.once) (firsts-once n (omega arith))
+      (both-distinct h.bins.items new_records (distinct-left h.bins.items h.funs.items s.records.once) (rise-once mem2 new_records (firsts-rise n (omega arith)))
       (λ u i j. let (k, (less, is)) = entered-at mem2 h.room.top n u j in bin-apart u k i less is))
       (distinct-right h.bins.items h.funs.items s.records.once)
       (λ u i j. elim (in-both u h.bins.items new_records i) [
@@ -204,29 +197,23 @@ module _ (h : Halves) (shared extra : List (List ℕ)) (named : ℕ) (qs : List 
       | inr b ↦ in-right v (h.bins.items ++ new_records) h.funs.items b
     ]
     | inr new ↦
-        let P : ℕ → Type 0 = λ q. In q new_records in
-        in-left v (h.bins.items ++ new_records) h.funs.items
-        (in-right v h.bins.items new_records (subst P (sym new.1.1) (entered-in mem2 h.room.top n new.0 new.1.0)))
+        in-left v (h.bins.items ++ new_records) h.funs.items (in-right v h.bins.items new_records (rw new.1.1 (entered-in mem2 h.room.top n new.0 new.1.0)))
   ]
 
   new-bin : (v i : ℕ) → i < n → v ≡ record_at mem2 h.room.top i → IsBinOf d mem2 all_shared v
   new-bin v i less is =
       let own : owner_in mem2 v ≡ length shared + suc i = ap (owner_in mem2) is ∙ owner-there i less in
-      let P : ℕ → Type 0 = λ q. IsBinRecord d mem2 q (length shared + suc i) (shared_bytes all_shared (length shared + suc i)) in
-      let Q : ℕ → Type 0 = λ q. IsBinRecord d mem2 v q (shared_bytes all_shared q) in
-      record { from_one = omega (arith, own); known = omega (arith, own, known-there i less); is = subst Q (sym own) (subst P (sym is) (record-there i less)) }
+      record { from_one = omega (arith, own); known = omega (arith, own, known-there i less); is = rw (own, is) (record-there i less) }
 
   old-bin : (v : ℕ) → In v h.bins.items → IsBinOf d mem2 all_shared v
   old-bin v i =
       let was : IsBinOf s.test h.mem shared v = bin-was v i in
       let own : owner_in mem2 v ≡ owner_in h.mem v = bin-owner v i in
-      let P : ℕ → Type 0 = λ q. IsBinRecord d mem2 v q (shared_bytes all_shared q) in
-      let Q : List ℕ → Type 0 = λ q. IsBinRecord d mem2 v (owner_in h.mem v) q in
       record {
         from_one = omega (arith, own, was.from_one);
         known = omega (arith, own, was.known, length-append shared extra);
-        is = subst P (sym own)
-            (subst Q (sym (bytes-stay shared extra (owner_in h.mem v) was.known)) (bin-stays s.test d h.mem mem2 v (owner_in h.mem v) (shared_bytes shared (owner_in h.mem v)) made.kept was.is));
+        is = rw (own, bytes-stay shared extra (owner_in h.mem v) was.known)
+            (bin-stays s.test d h.mem mem2 v (owner_in h.mem v) (shared_bytes shared (owner_in h.mem v)) made.kept was.is);
       }
 
   new-each : (v : ℕ) → In v (h.bins.items ++ new_records) → IsBinOf d mem2 all_shared v
@@ -290,7 +277,6 @@ module _ (h : Halves) (shared extra : List (List ℕ)) (named : ℕ) (qs : List 
 
     pub landed-stands : AreApart (all_places mem2 v.items) → HalvesStand named2 (joined h mem2 z head2 n v bins) all_shared qs2
     landed-stands apart =
-        let R : List ℕ → Type 0 = λ q. RecordsStand d mem2 all_shared q h.funs.items in
         record {
           test = d;
           single = made.single s.single;
@@ -306,7 +292,7 @@ module _ (h : Halves) (shared extra : List (List ℕ)) (named : ℕ) (qs : List 
             | inl old ↦ in-right p (holders_from h.room.top n) s.chained (s.every p old)
             | inr new ↦ in-left p (holders_from h.room.top n) s.chained (holders-in h.room.top n new.0 p new.1.0 (omega (arith, new.1.1)))
           ];
-          records = subst R (sym table) landed-records;
+          records = rw table landed-records;
           fun_names = λ u i. omega (arith, fun-owner u i, s.fun_names u i, names);
           processes = procs;
           apart = apart;

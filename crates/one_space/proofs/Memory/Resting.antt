@@ -1,12 +1,11 @@
 -- A half of which only free words were written: what stands there stands still, and what was reached is reached.
-use Rattle.std.proofs.Common.{◌≡◌, ℕ, ◌+◌, ◌*◌, ◌/◌, ◌<◌, ◌≤◌, ◌⊎◌, true, List, [], ◌∷◌, length, get_or, refl, sym, ◌∙◌, ap, subst, arith, inl, inr}
+use Rattle.std.proofs.Common.{◌≡◌, ℕ, ◌+◌, ◌*◌, ◌/◌, ◌<◌, ◌≤◌, ◌⊎◌, true, List, [], ◌∷◌, length, get_or, refl, sym, ◌∙◌, ap, arith, inl, inr}
 use Rattle.word_mem.specs.declared.ranges.Room.{Room}
 use Rattle.plain_term.specs.Tree.{Tree}
 use Rattle.plain_machine.specs.State.{Process}
 use Rattle.term_words.specs.Role.{NEXT}
 use Rattle.term_words.specs.Kept.{Kept}
 use Rattle.term_words.specs.Reach.{Reach}
-use Rattle.term_words.specs.Counted.{In}
 use Rattle.term_words.proofs.Reaching.Carrying.{reach-carried}
 use Rattle.term_words.proofs.Framing.Frames.{frame, kept-carried}
 use Rattle.off_heap_list.specs.Links.{Leads}
@@ -28,8 +27,7 @@ leads-one mem from to [] (y ∷ ys) e a b = absurd (omega (arith, e))
 leads-one mem from to (x ∷ xs) [] e a b = absurd (omega (arith, e))
 leads-one mem from to (x ∷ xs) (y ∷ ys) e (one, rest) (two, last) =
     let same : x ≡ y = sym one ∙ two in
-    let P : ℕ → Type 0 = λ z. Leads mem (get_or mem (z + 2) 0) xs to in
-    ap (λ z. z ∷ xs) same ∙ ap (λ z. y ∷ z) (leads-one mem (get_or mem (y + 2) 0) to xs ys (omega (arith, e)) (subst P same rest) last)
+    ap (λ z. z ∷ xs) same ∙ ap (λ z. y ∷ z) (leads-one mem (get_or mem (y + 2) 0) to xs ys (omega (arith, e)) (rw same at rest) last)
 
 module _ (named : ℕ) (h : Halves) (shared : List (List ℕ)) (qs : List Process) (laid : IsLaid h) (s : HalvesStand named h shared qs) (mem2 : List ℕ) (z : Room) (len : length mem2 ≡ length h.mem)
     (same : (q : ℕ) → (q < h.room.top) ⊎ (h.room.end ≤ q) → get_or mem2 q 0 ≡ get_or h.mem q 0) (up : h.room.top ≤ z.top) (order : z.top ≤ z.end) (down : z.end ≤ h.room.end) where
@@ -48,8 +46,7 @@ module _ (named : ℕ) (h : Halves) (shared : List (List ℕ)) (qs : List Proces
   rows : ProcsStand s.test shared mem2 z.end (h.base + length mem2 / 2) named h.procs.items qs
   rows =
       let limit : end_of h ≡ h.base + length mem2 / 2 = omega (arith, len) in
-      let P : ℕ → Type 0 = λ n. ProcsStand s.test shared mem2 z.end n named h.procs.items qs in
-      subst P limit
+      rw (sym limit)
       (procs-on s.test s.test shared h.mem mem2 named named h.room.end z.end (end_of h) trees places (λ q k above below none e. none k e) down h.procs.items qs s.processes)
 
   pub rest-stands : HalvesStand named (laid_out h mem2 z h.procs) shared qs
@@ -67,12 +64,10 @@ module _ (named : ℕ) (h : Halves) (shared : List (List ℕ)) (qs : List Proces
     all = λ os p count chain inside.
         let leads = leads-stays h.mem mem2 h.head s.chained 0 (λ q i. words-same (q + 2) NEXT (s.links.each q i).next) s.links.chain in
         let is : os ≡ s.chained = leads-one mem2 h.head 0 os s.chained (count ∙ sym s.linked) chain leads in
-        let P : List ℕ → Type 0 = λ z. In p z in
-        let was : Reach h.mem (roots_of h) (p * 4 + 2) = r.all s.chained p s.linked s.links.chain (subst P is inside) in
+        let was : Reach h.mem (roots_of h) (p * 4 + 2) = r.all s.chained p s.linked s.links.chain (rw is at inside) in
         let roots : roots_in mem2 h.procs.items ≡ roots_in h.mem h.procs.items =
         roots-kept s.test h.mem mem2 h.room.end (end_of h) h.procs.items places (have-stacks s.test shared h.mem h.room.end (end_of h) named h.procs.items qs s.processes) in
-        let Q : List ℕ → Type 0 = λ z. Reach mem2 z (p * 4 + 2) in
-        subst Q (sym roots)
+        rw roots
         (reach-carried s.test s.test h.mem mem2 (kept-carried s.test s.test h.mem mem2 kept) shared (roots_of h) (trees_of qs)
         (roots-stand s.test shared h.mem h.room.end (end_of h) named h.procs.items qs s.processes) (p * 4 + 2) was);
   }

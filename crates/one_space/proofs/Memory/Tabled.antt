@@ -6,7 +6,7 @@ use Rattle.plain_term.specs.declared.item.Item.TheVariants.{Int, Atom, Pid, Nil,
 use Rattle.plain_term.specs.Measures.{bin_words}
 use Rattle.term_words.specs.Counted.{In, total}
 use Rattle.term_words.proofs.Totals.Members.{both-total, in-both, in-left, in-right}
-use Rattle.item_build.specs.Reading.{AreLed, bins_of, bytes_after, bytes_in, far_words, far_words_of, is_long, long_bytes}
+use Rattle.item_build.specs.Reading.{AreLed, bins_of, bytes_after, bytes_in, far_words, far_words_of, long_bytes}
 use Rattle.item_build.proofs.Meaning.Bytes.{bytes-len}
 use Rattle.one_space.specs.Entered.{records_from}
 
@@ -91,22 +91,6 @@ own-size (Tuple n) xs led = refl
 own-size (Map n) xs led = refl
 own-size (Byte b) xs led = refl
 own-size (Held r) xs led = refl
-
-own-count : (x : Item) (xs : List Item) → length (long_bytes x xs) ≡ (if is_long x then 1 else 0)
-own-count (Bin n) xs = by (nat_lt 64 n)
-  where
-    by : (b : Bool) → length (if b then bytes_in n xs ∷ [] else []) ≡ (if b then 1 else 0)
-    by true = refl
-    by false = refl
-own-count (Int i) xs = refl
-own-count (Atom k) xs = refl
-own-count (Pid n) xs = refl
-own-count Nil xs = refl
-own-count Cons xs = refl
-own-count (Tuple n) xs = refl
-own-count (Map n) xs = refl
-own-count (Byte b) xs = refl
-own-count (Held r) xs = refl
 
 pub bins-size : (code : List Item) → AreLed code → bin_sizes (bins_of code) ≡ far_words_of code
 bins-size [] led = refl

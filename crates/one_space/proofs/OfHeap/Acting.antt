@@ -1,45 +1,29 @@
--- What the calls that take no words leave: a place popped, a message taken, a row dropped.
-use Rattle.std.proofs.Common.{Vec, ◌≡◌, ℕ, zero, suc, ◌+◌, ◌-◌, ◌<◌, ◌≤◌, true, false, true≢false, List, [], ◌∷◌, length, get_or, set, refl, sym, ◌∙◌, ap, subst, arith}
+-- What the calls that take no words leave: a word in a register, a place popped, a message taken, a row dropped.
+use Rattle.std.proofs.Common.{Vec, ◌≡◌, ℕ, zero, suc, ◌+◌, ◌-◌, ◌<◌, ◌≤◌, true, false, true≢false, List, [], ◌∷◌, length, get_or, set, refl, sym, ◌∙◌, ap, arith}
 use Rattle.std.specs.List.{remove}
 use Rattle.std.specs.Vec.{vec_capacity, vec_len, with_item}
 use Rattle.std.specs.declared.alloc.Global.{Global}
 use Rattle.std.proofs.lemmas.List.{length-set, get_or-set_same, get_or_default, set-set}
 use Rattle.std.proofs.lemmas.List.Edits.{length-remove}
 use Rattle.std.proofs.lemmas.List.Sums.{sum_by-remove}
-use Rattle.plain_term.specs.Tree.{Tree}
 use Rattle.plain_machine.specs.State.{Process, with_register}
 use Rattle.script_grammar.specs.declared.command.Reg.{Reg}
 use Rattle.numbered_rows.specs.Numbers.{numbers}
-use Rattle.two_halves.specs.Halves.{HalvesStand, IsLaid, ProcsStand, all_places, end_of, places_in}
+use Rattle.two_halves.specs.Halves.{HalvesStand, end_of, places_in}
 use Rattle.two_halves.specs.Queues.{HasLeftQueue, TakesMessage, shifted, with_row}
-use Rattle.two_halves.specs.Stack.{AreApart}
 use Rattle.two_halves.specs.declared.halves.Halves.{Halves}
 use Rattle.two_halves.specs.declared.table.Proc.{Proc}
 use Rattle.two_halves.proofs.Queued.Queuing.{row-length}
 use Rattle.two_halves.proofs.Standing.Apart.{apart-popped, apart-removed, apart-same}
 use Rattle.two_halves.proofs.Standing.Filled.{laid_out}
 use Rattle.two_halves.proofs.Standing.Stacks.{no_row}
-use Rattle.heaps_api.specs.Meaning.{Lives, Stood, no_process}
-use Rattle.heaps_api.specs.Changing.{Exits, KeepsRows, PopsInto, ReceivesInto, TakesFirst, process_at}
-use Rattle.one_space.specs.Heap.{HaveMade, number_in, one_meaning}
+use Rattle.heaps_api.specs.Meaning.{Lives, Stood, no_process, CanAsk}
+use Rattle.heaps_api.specs.Changing.{Exits, KeepsRows, PopsInto, ReceivesInto, TakesFirst, process_at, PutsWord}
+use Rattle.one_space.specs.Heap.{number_in, one_meaning}
 use Rattle.one_space.specs.declared.heap.OneHeap.{OneHeap}
-use Rattle.one_space.proofs.OfHeap.Keeping.{keeps-rows, places-moved, same-numbers, still-made}
-use Rattle.one_space.proofs.OfHeap.Standing.{half-inside, keeps-same, laid-left, of_halves, row-inside, rows-left, stood-by}
-use Rattle.one_space.proofs.Processes.Changing.{procs-remove}
-use Rattle.one_space.proofs.Processes.Counting.{made-remove, made-row}
+use Rattle.one_space.proofs.Processes.Changing.{made-remove, made-row, procs-remove}
 use Rattle.one_space.proofs.Processes.Turning.{TopOf, none-held, popped, register-set, row-stands, top-here, with_stack, with_word}
-
--- The memory with another row.
-abbrev pub with_proc : OneHeap → ℕ → Proc → OneHeap
-with_proc a row p2 = of_halves a (laid_out a.halves a.halves.mem a.halves.room (with_item a.halves.procs row p2))
-
--- One row is replaced by one with the same number, no more places and as many references.
-pub keeps-row : (a : OneHeap) → IsLaid a.halves → (row : ℕ) (p2 p : Proc) → row < length a.halves.procs.items → p ≡ get_or a.halves.procs.items row p → p2.number ≡ p.number → p2.refs ≡ p.refs
-    → p2.depth + p2.waiting ≤ p.depth + p.waiting → KeepsRows one_meaning a (with_proc a row p2)
-keeps-row a laid row p2 p less is number refs places =
-    keeps-rows a (with_proc a row p2)
-    (laid-left a.halves laid (with_item a.halves.procs row p2) (omega (arith, places, places-moved a.halves.procs row p2 p less is)))
-    refl refl refl (same-numbers a.halves.procs row p2 p less is number) (still-made a.halves.procs row p2 p less is (omega (arith, refs))) refl refl (omega arith)
+use Rattle.one_space.proofs.OfHeap.Keeping.{half-inside, keeps-row, keeps-rows, keeps-same, laid-left, moves-on, of_halves, places-moved, row-inside, rows-left, same-numbers, still-made, stood-by, with_proc}
 
 module _ (a : OneHeap) (lives : Lives one_meaning a) (row : ℕ) (there : row < length (one_meaning.numbers a)) (r : Reg) (p : Proc) (is : p ≡ get_or a.halves.procs.items row p) where
   less : row < length a.halves.procs.items
@@ -54,8 +38,7 @@ module _ (a : OneHeap) (lives : Lives one_meaning a) (row : ℕ) (there : row < 
     popped = λ named shared qs x.
         let h = row-stands x.is.test shared a.halves.mem a.halves.room.end (end_of a.halves) named a.halves.procs.items qs row p less is x.is.processes in
         let empty : (process_at qs row).stack ≡ [] = none-held x.is.test shared a.halves.mem named p.stack p.depth ((process_at qs row).stack) none h.stack in
-        let P : List Tree → Type 0 = λ z. TakesFirst one_meaning named a shared (λ t ts. set qs row (record (with_register r.0 t (process_at qs row)) { stack = ts })) z false in
-        subst P (sym empty) refl;
+        rw empty refl;
   }
 
   -- `pop`.
@@ -84,9 +67,7 @@ module _ (a : OneHeap) (lives : Lives one_meaning a) (row : ℕ) (there : row < 
             rows-left a.halves lives.whole.laid (with_item a.halves.procs row left) named shared qs (set qs row q2) x.is
             (popped x.is.test shared a.halves.mem a.halves.room.end (end_of a.halves) named a.halves.procs.items qs row p less is x.is.processes some r.0 w u d value below depth)
             (apart-popped a.halves.mem a.halves.procs.items row left p less is some below depth refl x.is.apart) in
-            let P : List Tree → Type 0 = λ z.
-            TakesFirst one_meaning named (with_proc a row left) shared (λ t ts. set qs row (record (with_register r.0 t (process_at qs row)) { stack = ts })) z true in
-            subst P (sym top.shape) (refl, stood-by named (with_proc a row left) shared (set qs row q2) stands);
+            rw top.shape (refl, stood-by named (with_proc a row left) shared (set qs row q2) stands);
       }
 
 module _ (a : OneHeap) (lives : Lives one_meaning a) (row : ℕ) (there : row < length (one_meaning.numbers a)) (r : Reg) where
@@ -103,19 +84,16 @@ module _ (a : OneHeap) (lives : Lives one_meaning a) (row : ℕ) (there : row < 
   nothing-waits : ((d : Proc) → (get_or a.halves.procs.items row d).waiting ≡ 0) → ReceivesInto one_meaning row r a a false
   nothing-waits none = record {
     stays = keeps-same a lives.whole.laid;
-    idle = record { sweeps = refl; mem = refl; room = refl };
+    received = record { sweeps = refl; mem = refl; room = refl };
     same = λ e. refl;
-    received = λ named shared qs x.
+    first = λ named shared qs x.
         let h = row-stands x.is.test shared a.halves.mem a.halves.room.end (end_of a.halves) named a.halves.procs.items qs row p0 within is0 x.is.processes in
         let empty : (process_at qs row).queue ≡ [] = none-held x.is.test shared a.halves.mem named p0.queue p0.waiting ((process_at qs row).queue) (none no_row) h.queue in
-        let P : List Tree → Type 0 = λ z. TakesFirst one_meaning named a shared (λ t ts. set qs row (record (with_register r.0 t (process_at qs row)) { queue = ts })) z false in
-        subst P (sym empty) refl;
+        rw empty refl;
   }
 
   pub takes-none : (h2 : Halves) → h2 ≡ a.halves → ((d : Proc) → (get_or a.halves.procs.items row d).waiting ≡ 0) → ReceivesInto one_meaning row r a (of_halves a h2) false
-  takes-none h2 same none =
-      let P : Halves → Type 0 = λ z. ReceivesInto one_meaning row r a (of_halves a z) false in
-      subst P (sym same) (nothing-waits none)
+  takes-none h2 same none = rw same (nothing-waits none)
 
   -- `recv`: the first message was taken off, and its word is put in the register.
   module _ (h2 : Halves) (w : ℕ) (takes : TakesMessage a.halves h2 row w) where
@@ -138,13 +116,12 @@ module _ (a : OneHeap) (lives : Lives one_meaning a) (row : ℕ) (there : row < 
       taken-keeps : KeepsRows one_meaning a taken_in
       taken-keeps =
           let v = with_item h2.procs row (with_word p2 r.0 w) in
-          let P : Halves → Type 0 = λ z. (count more : ℕ) → HaveMade count a.halves.procs.items → count < more → HaveMade more z.procs.items in
-          let made = subst P (sym moved) (still-made a.halves.procs row shift p0 within is0 (omega arith)) in
           keeps-rows a taken_in (laid-left h2 takes.laid v (omega (arith, places-moved h2.procs row (with_word p2 r.0 w) p2 left-within is2)))
           (ap (λ z. length z.mem) moved) refl (ap (λ z. vec_capacity z.procs) moved)
           (same-numbers h2.procs row (with_word p2 r.0 w) p2 left-within is2 refl
           ∙ (ap (λ z. numbers number_in z.procs.items) moved ∙ same-numbers a.halves.procs row shift p0 within is0 refl))
-          (λ count more m up. made-row more more h2.procs.items row (with_word p2 r.0 w) p2 (omega arith) left-within is2 refl (made count more m up))
+          (λ count more m up. made-row more more h2.procs.items row (with_word p2 r.0 w) p2 (omega arith) left-within is2 refl
+          (rw moved (still-made a.halves.procs row shift p0 within is0 (omega arith) count more m up)))
           (ap (λ z. vec_capacity z.bins) moved) (ap (λ z. vec_capacity z.funs) moved) (omega (arith, ap (λ z. z.sweeps) moved))
 
       module _ (named : ℕ) (shared : List (List ℕ)) (qs : List Process) (x : Stood one_meaning named a shared qs) where
@@ -166,26 +143,21 @@ module _ (a : OneHeap) (lives : Lives one_meaning a) (row : ℕ) (there : row < 
             let own : process_at qs1 row ≡ q1 = get_or-set_same qs row q1 no_process row-within in
             let same : set qs1 row (with_register r.0 left-queue.message (process_at qs1 row)) ≡ set qs row q2 =
             ap (λ z. set qs1 row (with_register r.0 left-queue.message z)) own ∙ set-set qs row q1 q2 in
-            let P : List Process → Type 0 = λ z. HalvesStand named taken_in.halves shared z in
-            subst P same (rows-left h2 takes.laid (with_item h2.procs row (with_word p2 r.0 w)) named shared qs1 (set qs1 row (with_register r.0 left-queue.message (process_at qs1 row)))
+            rw (sym same) (rows-left h2 takes.laid (with_item h2.procs row (with_word p2 r.0 w)) named shared qs1 (set qs1 row (with_register r.0 left-queue.message (process_at qs1 row)))
             left-queue.stands
             (register-set left-queue.stands.test shared h2.mem h2.room.end (end_of h2) named h2.procs.items qs1 row p2 left-within is2 left-queue.stands.processes r.0 w left-queue.message
             left-queue.held)
             (apart-same h2.mem h2.procs.items row (with_word p2 r.0 w) p2 left-within is2 refl left-queue.stands.apart))
 
         taken-first : TakesFirst one_meaning named taken_in shared (λ t ts. set qs row (record (with_register r.0 t (process_at qs row)) { queue = ts })) (process_at qs row).queue true
-        taken-first =
-            let P : Process → Type 0 = λ z. TakesFirst one_meaning named taken_in shared (λ t ts. set qs row (record (with_register r.0 t z) { queue = ts })) z.queue true in
-            let Q : List Tree → Type 0 = λ z.
-            TakesFirst one_meaning named taken_in shared (λ t ts. set qs row (record (with_register r.0 t left-queue.process) { queue = ts })) z true in
-            subst P (sym (left-queue.is no_process)) (subst Q (sym left-queue.queue) (refl, stood-by named taken_in shared (set qs row q2) taken-stands))
+        taken-first = rw (left-queue.is no_process, left-queue.queue) (refl, stood-by named taken_in shared (set qs row q2) taken-stands)
 
       pub takes-some : ReceivesInto one_meaning row r a taken_in true
       takes-some = record {
         stays = taken-keeps;
-        idle = record { sweeps = ap (λ z. z.sweeps) moved; mem = ap (λ z. z.mem) moved; room = ap (λ z. z.room) moved };
+        received = record { sweeps = ap (λ z. z.sweeps) moved; mem = ap (λ z. z.mem) moved; room = ap (λ z. z.room) moved };
         same = λ e. absurd (true≢false e);
-        received = taken-first;
+        first = taken-first;
       }
 
 numbers-remove : (rows : List Proc) (i : ℕ) → numbers number_in (remove rows i) ≡ remove (numbers number_in rows) i
@@ -202,11 +174,9 @@ module _ (a : OneHeap) (lives : Lives one_meaning a) (row : ℕ) (there : row < 
 
   dropped-stands : (named : ℕ) (shared : List (List ℕ)) (qs : List Process) → Stood one_meaning named a shared qs → Stood one_meaning named dropped shared (remove qs row)
   dropped-stands named shared qs x =
-      let P : List Proc → Type 0 = λ z. ProcsStand x.is.test shared a.halves.mem a.halves.room.end (end_of a.halves) named z (remove qs row) in
-      let A : List Proc → Type 0 = λ z. AreApart (all_places a.halves.mem z) in
       stood-by named dropped shared (remove qs row) (rows-left a.halves lives.whole.laid v named shared qs (remove qs row) x.is
-      (subst P (sym items) (procs-remove x.is.test shared a.halves.mem named a.halves.room.end (end_of a.halves) a.halves.procs.items qs row x.is.processes))
-      (subst A (sym items) (apart-removed a.halves.mem a.halves.procs.items row x.is.apart)))
+      (rw items (procs-remove x.is.test shared a.halves.mem named a.halves.room.end (end_of a.halves) a.halves.procs.items qs row x.is.processes))
+      (rw items (apart-removed a.halves.mem a.halves.procs.items row x.is.apart)))
 
   pub drops : Exits one_meaning row a dropped
   drops =
@@ -215,21 +185,28 @@ module _ (a : OneHeap) (lives : Lives one_meaning a) (row : ℕ) (there : row < 
       let places : places_in v.items ≤ places_in a.halves.procs.items =
       omega (arith, ap places_in items, sum_by-remove (λ o. o.depth + o.waiting) a.halves.procs.items row no_row less) in
       record {
-        goes = record {
-          words = refl;
-          whole = λ count more h up. record {
-            laid = laid-left a.halves lives.whole.laid v places;
-            places = omega (arith, h.places, capacity);
-            spares = omega (arith, h.spares, fewer, one_more);
-            boxes = omega (arith, h.boxes, boxes);
-            counted = omega (arith, h.counted, up);
-            made = let S : List Proc → Type 0 = λ z. HaveMade more z in
-                subst S (sym items) (made-remove count more (omega (arith, up)) a.halves.procs.items row h.made);
-            bins = h.bins;
-            funs = h.funs;
-          };
-        };
+        goes = moves-on a dropped (laid-left a.halves lives.whole.laid v places) refl capacity (omega (arith, fewer, one_more)) boxes
+            (λ count more h up. rw items (made-remove count more (omega (arith, up)) a.halves.procs.items row h)) refl refl (omega arith);
         rows = ap (λ z. numbers number_in z) items ∙ numbers-remove a.halves.procs.items row;
-        idle = record { sweeps = refl; mem = refl; room = refl };
+        ended = record { sweeps = refl; mem = refl; room = refl };
         gone = dropped-stands;
+      }
+
+-- A word in a register.
+module _ (a : OneHeap) (ask : CanAsk one_meaning a) (row : ℕ) (there : row < length (one_meaning.numbers a)) (p : Proc) (is : p ≡ get_or a.halves.procs.items row p) (r : Reg) (w : ℕ) where
+  abbrev put : Proc
+  put = with_word p r.0 w
+
+  pub puts-word : PutsWord one_meaning row r w a (with_proc a row put)
+  puts-word =
+      let laid = ask.lives.whole.laid in
+      let inside = row-inside a row there in
+      record {
+        stays = keeps-row a laid row put p inside is refl refl (omega arith);
+        idle = record { sweeps = refl; mem = refl; room = refl };
+        put = λ named shared qs x t held.
+            let ps = set qs row (with_register r.0 t (process_at qs row)) in
+            stood-by named (with_proc a row put) shared ps (rows-left a.halves laid (with_item a.halves.procs row put) named shared qs ps x.is
+            (register-set x.is.test shared a.halves.mem a.halves.room.end (end_of a.halves) named a.halves.procs.items qs row p inside is x.is.processes r.0 w t held)
+            (apart-same a.halves.mem a.halves.procs.items row put p inside is refl x.is.apart));
       }

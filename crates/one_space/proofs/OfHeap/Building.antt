@@ -2,7 +2,7 @@
 use Rattle.std.proofs.Common.{Vec, ◌≡◌, ℕ, zero, suc, ◌+◌, ◌*◌, ◌/◌, ◌<◌, ◌≤◌, ◌⊎◌, Bool, true, false, List, [], ◌∷◌, ◌++◌, length, get_or, set, Some, None, Result, Ok, Err, refl, sym, ◌∙◌, ap, subst, arith, inl, inr}
 use Rattle.std.specs.Vec.{vec_len, vec_capacity, with_item}
 use Rattle.std.specs.declared.alloc.Global.{Global}
-use Rattle.std.proofs.lemmas.List.{get_or-append-add, length-append, length-map, length-set}
+use Rattle.std.proofs.lemmas.List.{get_or-append-add, length-append, length-set}
 use Rattle.word_mem.specs.declared.ranges.Room.{Room}
 use Rattle.plain_term.specs.declared.item.Item.{Item}
 use Rattle.plain_term.specs.Tree.{Tree}
@@ -15,7 +15,7 @@ use Rattle.script_grammar.specs.Written.{Term}
 use Rattle.term_order.specs.Named.{is_named}
 use Rattle.term_order.specs.Held.{HoldTrees, HoldsTree}
 use Rattle.term_build.specs.Taken.{IsFree}
-use Rattle.term_words.specs.Counted.{In, total}
+use Rattle.term_words.specs.Counted.{total}
 use Rattle.term_words.proofs.Framing.Frames.{frame}
 use Rattle.term_words.proofs.Framing.Growing.{grow}
 use Rattle.term_words.proofs.Totals.Members.{both-total}
@@ -44,23 +44,23 @@ use Rattle.two_halves.proofs.Queued.Queuing.{row-set}
 use Rattle.two_halves.proofs.Standing.Apart.{apart-kept, apart-same}
 use Rattle.two_halves.proofs.Standing.Filled.{laid_out}
 use Rattle.two_halves.proofs.Standing.Keeping.{procs-on}
-use Rattle.numbered_rows.proofs.Rising.{numbers-len}
 use Rattle.heaps_api.specs.Meaning.{CanAsk, Stood}
 use Rattle.heaps_api.specs.Reading.{waiting_trees}
 use Rattle.heaps_api.specs.Changing.{KeepsRows, process_at}
 use Rattle.heaps_api.specs.Written.{CanBuild, GainsTerm, TermIsBuilt, refusal_of_stop}
 use Rattle.one_space.specs.Entered.{records_from}
-use Rattle.one_space.specs.Heap.{number_in, one_meaning}
+use Rattle.one_space.specs.Heap.{one_meaning}
 use Rattle.one_space.specs.declared.heap.OneHeap.{OneHeap}
 use Rattle.heaps_api.proofs.Naming.{named-more}
 use Rattle.one_space.proofs.Memory.Landing.{inside-there, joined, landed-laid, landed-stands, record-there}
 use Rattle.one_space.proofs.Memory.Resting.{rest-laid, rest-reached, rest-stands}
 use Rattle.one_space.proofs.Memory.Tabled.{bins-size, entered-at, entered-len, record_at, records-size}
-use Rattle.one_space.proofs.OfHeap.Keeping.{keeps-rows, made-still, places-moved, same-numbers, still-made}
-use Rattle.one_space.proofs.OfHeap.Making.{laid_in, numbers-kept, register-said, registers-kept, row-less, row-said, with_made}
-use Rattle.one_space.proofs.Processes.Changing.{held-set}
-use Rattle.one_space.proofs.Processes.Turning.{row-stands}
-use Rattle.one_space.proofs.Processes.Within.{within-grown}
+use Rattle.one_space.proofs.OfHeap.Keeping.{keeps-rows, made-still, of_halves, places-moved, same-numbers, still-made, stood-by}
+use Rattle.one_space.proofs.OfHeap.Making.{register-said, row-less, row-said}
+use Rattle.one_space.proofs.OfHeap.Putting.{total-least}
+use Rattle.heaps_api.proofs.Holding.{held-set}
+use Rattle.one_space.proofs.Processes.Turning.{row-stands, with_made}
+use Rattle.one_space.proofs.Processes.Changing.{within-grown}
 
 -- A stop is a flaw, and a term that is built has none.
 stop-flaw : (c : ℕ → ℕ → Bool) (shared : List (List ℕ)) (x y : Room) (mem mem2 : List ℕ) (was now : Making) (n : ℕ) (e : BuildStop) (big wide : Bool) (t : Tree)
@@ -94,11 +94,6 @@ know-held c shared mem named [] (t ∷ ts) h r = absurd h
 know-held c shared mem named (w ∷ ws) [] h r = absurd h
 know-held c shared mem named (w ∷ ws) (t ∷ ts) h zero = stands-known c shared mem w t h.0.standing
 know-held c shared mem named (w ∷ ws) (t ∷ ts) h (suc r) = know-held c shared mem named ws ts h.1 r
-
--- Four words each at the least.
-total-least : (f : ℕ → ℕ) (vs : List ℕ) → ((u : ℕ) → In u vs → 4 ≤ f u) → 4 * length vs ≤ total f vs
-total-least f [] least = omega arith
-total-least f (v ∷ vs) least = omega (arith, least v (inl refl), total-least f vs (λ u i. least u (inr i)))
 
 -- Rows stand over more shared binaries.
 module _ (c : ℕ → ℕ → Bool) (shared extra : List (List ℕ)) (mem : List ℕ) (low limit named : ℕ) where
@@ -194,7 +189,7 @@ module _ (a : OneHeap) (ask : CanAsk one_meaning a) (row : ℕ) (less : row < le
         (builds : (c : ℕ → ℕ → Bool) (shared : List (List ℕ)) (trees : List Tree) → IsFree c h.room.top h.room.end → length shared ≡ serial → HeldStand c shared h.mem p.regs trees
         → BuildsTerm c (shared ++ bins_of code) h.room z h.mem mem2 was now (long_bins code) (Err e) (outcome names shared trees code)) where
       abbrev stopped : OneHeap
-      stopped = laid_in a (laid_out h mem2 h.room h.procs)
+      stopped = of_halves a (laid_out h mem2 h.room h.procs)
 
       stop-keeps : KeepsRows one_meaning a stopped
       stop-keeps =
@@ -342,7 +337,7 @@ module _ (a : OneHeap) (ask : CanAsk one_meaning a) (row : ℕ) (less : row < le
         h3 = joined h mem2 z now.head k (with_item h.procs row v2) bins
 
         abbrev done : OneHeap
-        done = laid_in a h3
+        done = of_halves a h3
 
         table-here : bins.items ≡ h.bins.items ++ records_from mem2 h.room.top (long_bins code)
         table-here = rw (sym k_is) table
@@ -422,14 +417,7 @@ module _ (a : OneHeap) (ask : CanAsk one_meaning a) (row : ℕ) (less : row < le
               (set qs row (with_register r.0 made owner)) table-here set-rows set-apart)
 
           built-stood : Stood one_meaning (length names) done (shared ++ bins_of code) (set qs row (with_register r.0 made owner))
-          built-stood =
-              let y : Process = with_register r.0 made owner in
-              let count : length qs ≡ length h.procs.items = sym (length-map qs (λ (o : Process). o.number)) ∙ (ap length (sym x.rows) ∙ numbers-len number_in h.procs.items) in
-              record {
-                is = built-halves;
-                rows = built-keeps.rows ∙ (x.rows ∙ sym (numbers-kept qs row y refl));
-                registers = registers-kept qs row y (length-set owner.registers r.0 made ∙ x.registers row (omega (arith, under, count))) x.registers;
-              }
+          built-stood = stood-by (length names) done (shared ++ bins_of code) (set qs row (with_register r.0 made owner)) built-halves
 
           built-so : TermIsBuilt one_meaning names row r named done shared qs owner t (Ok k)
           built-so =

@@ -1,6 +1,6 @@
 -- The image of the memory stands for each state that the memory stands for.
 use Rattle.std.proofs.Common.{◌≡◌, ℕ, ◌+◌, ◌-◌, ◌/◌, ◌<◌, ◌≤◌, ◌⊎◌, ◌&&◌, Bool, true, false, nat_le, nat_lt, List, []}
-use Rattle.std.proofs.Common.{◌∷◌, ◌++◌, length, map, flat_map, take, drop, get_or, reverse, inl, inr, refl, sym, ap, subst, arith}
+use Rattle.std.proofs.Common.{◌∷◌, ◌++◌, length, map, flat_map, take, drop, get_or, reverse, inl, inr, refl, sym, ap, arith}
 use Rattle.std.proofs.lemmas.Bool.{and_from, false≢true, or_cases, or_left, or_right}
 use Rattle.std.proofs.lemmas.Bool.Decides.{nat_tests}
 use Rattle.std.proofs.lemmas.List.{length-drop, length-take-le, reverse-append, reverse-reverse}
@@ -37,66 +37,59 @@ use Rattle.two_halves.proofs.Standing.Covered.{bin-covered, counted-covered, cov
 use Rattle.one_space.specs.Image.{image_of, object_piece, object_region, record_piece, rooted}
 use Rattle.two_halves.specs.declared.table.Proc.{Proc}
 use Rattle.two_halves.specs.declared.halves.Halves.{Halves}
-use Rattle.one_space.proofs.OfHeap.Reading.{half-within}
+use Rattle.one_space.proofs.OfHeap.Keeping.{half-inside}
 
 -- Roots are told with each stack turned round.
 
 in-reverse : (w : ℕ) (xs : List ℕ) → In w xs → In w (reverse xs)
 in-reverse w [] i = absurd i
 in-reverse w (x ∷ xs) i =
-    let P : List ℕ → Type 0 = λ z. In w z in
-    subst P (sym (reverse-append (x ∷ []) xs)) (elim i [ inl e ↦ in-right w (reverse xs) (x ∷ []) (inl e) | inr deep ↦ in-left w (reverse xs) (x ∷ []) (in-reverse w xs deep) ])
-
-told-in : (h : Halves) (ps : List Proc) (w : ℕ) → In w (roots_in h.mem ps) → In w (flat_map process_roots (map (rooted h) ps))
-told-in h [] w i = absurd i
-told-in h (p ∷ ps) w i =
-    let P : List ℕ → Type 0 = λ z. In w z in
-    let stack : List ℕ = values h.mem p.stack p.depth in
-    let queue : List ℕ = values h.mem p.queue p.waiting in
-    let here : In w (p.regs ++ (reverse (values h.mem p.stack p.depth) ++ values h.mem p.queue p.waiting)) ⊎ In w (flat_map process_roots (map (rooted h) ps)) =
-    elim (in-both w p.regs (values h.mem p.stack p.depth ++ (values h.mem p.queue p.waiting ++ roots_in h.mem ps)) i) [
-      | inl register ↦ inl (in-left w p.regs (reverse (values h.mem p.stack p.depth) ++ values h.mem p.queue p.waiting) register)
-      | inr deep ↦ elim (in-both w (values h.mem p.stack p.depth) (values h.mem p.queue p.waiting ++ roots_in h.mem ps) deep) [
-        | inl value ↦ inl (in-right w p.regs (reverse (values h.mem p.stack p.depth) ++ values h.mem p.queue p.waiting)
-            (in-left w (reverse (values h.mem p.stack p.depth)) (values h.mem p.queue p.waiting) (in-reverse w (values h.mem p.stack p.depth) value)))
-        | inr past ↦ elim (in-both w (values h.mem p.queue p.waiting) (roots_in h.mem ps) past) [
-          | inl message ↦ inl (in-right w p.regs (reverse (values h.mem p.stack p.depth) ++ values h.mem p.queue p.waiting)
-              (in-right w (reverse (values h.mem p.stack p.depth)) (values h.mem p.queue p.waiting) message))
-          | inr others ↦ inr (told-in h ps w others)
-        ]
-      ]
-    ] in
-    subst P (sym (flat_map-cons process_roots (rooted h p) (map (rooted h) ps))) (elim here [
-      | inl first ↦ in-left w (p.regs ++ (reverse (values h.mem p.stack p.depth) ++ values h.mem p.queue p.waiting)) (flat_map process_roots (map (rooted h) ps)) first
-      | inr rest ↦ in-right w (p.regs ++ (reverse (values h.mem p.stack p.depth) ++ values h.mem p.queue p.waiting)) (flat_map process_roots (map (rooted h) ps)) rest
-    ])
+    rw (reverse-append (x ∷ []) xs) (elim i [ inl e ↦ in-right w (reverse xs) (x ∷ []) (inl e) | inr deep ↦ in-left w (reverse xs) (x ∷ []) (in-reverse w xs deep) ])
 
 from-reverse : (w : ℕ) (xs : List ℕ) → In w (reverse xs) → In w xs
-from-reverse w xs i = let P : List ℕ → Type 0 = λ z. In w z in subst P (reverse-reverse xs) (in-reverse w (reverse xs) i)
+from-reverse w xs i = rw (reverse-reverse xs) at (in-reverse w (reverse xs) i)
 
-told-out : (h : Halves) (ps : List Proc) (w : ℕ) → In w (flat_map process_roots (map (rooted h) ps)) → In w (roots_in h.mem ps)
-told-out h [] w i = absurd i
-told-out h (p ∷ ps) w i =
-    let P : List ℕ → Type 0 = λ z. In w z in
-    let stack : List ℕ = values h.mem p.stack p.depth in
-    let queue : List ℕ = values h.mem p.queue p.waiting in
-    let split : In w ((p.regs ++ (reverse (values h.mem p.stack p.depth) ++ values h.mem p.queue p.waiting)) ++ flat_map process_roots (map (rooted h) ps)) =
-    subst P (flat_map-cons process_roots (rooted h p) (map (rooted h) ps)) i in
-    elim (in-both w (p.regs ++ (reverse (values h.mem p.stack p.depth) ++ values h.mem p.queue p.waiting)) (flat_map process_roots (map (rooted h) ps)) split) [
-      | inl own ↦ elim (in-both w p.regs (reverse (values h.mem p.stack p.depth) ++ values h.mem p.queue p.waiting) own) [
-        | inl register ↦ in-left w p.regs (values h.mem p.stack p.depth ++ (values h.mem p.queue p.waiting ++ roots_in h.mem ps)) register
-        | inr deep ↦ in-right w p.regs (values h.mem p.stack p.depth ++ (values h.mem p.queue p.waiting ++ roots_in h.mem ps))
-            (elim (in-both w (reverse (values h.mem p.stack p.depth)) (values h.mem p.queue p.waiting) deep) [
-              | inl value ↦ in-left w (values h.mem p.stack p.depth) (values h.mem p.queue p.waiting ++ roots_in h.mem ps)
-                  (from-reverse w (values h.mem p.stack p.depth) value)
-              | inr message ↦ in-right w (values h.mem p.stack p.depth) (values h.mem p.queue p.waiting ++ roots_in h.mem ps)
-                  (in-left w (values h.mem p.queue p.waiting) (roots_in h.mem ps) message)
-            ])
+module _ (w : ℕ) (xs ys zs ds es : List ℕ) where
+  turned-in : (In w ds → In w es) → In w (xs ++ (ys ++ (zs ++ ds))) → In w ((xs ++ (reverse ys ++ zs)) ++ es)
+  turned-in more i = elim (in-both w xs (ys ++ (zs ++ ds)) i) [
+    | inl x ↦ in-left w (xs ++ (reverse ys ++ zs)) es (in-left w xs (reverse ys ++ zs) x)
+    | inr deep ↦ elim (in-both w ys (zs ++ ds) deep) [
+      | inl y ↦ in-left w (xs ++ (reverse ys ++ zs)) es (in-right w xs (reverse ys ++ zs) (in-left w (reverse ys) zs (in-reverse w ys y)))
+      | inr past ↦ elim (in-both w zs ds past) [
+        | inl z ↦ in-left w (xs ++ (reverse ys ++ zs)) es (in-right w xs (reverse ys ++ zs) (in-right w (reverse ys) zs z))
+        | inr d ↦ in-right w (xs ++ (reverse ys ++ zs)) es (more d)
       ]
-      | inr others ↦ in-right w p.regs (values h.mem p.stack p.depth ++ (values h.mem p.queue p.waiting ++ roots_in h.mem ps))
-          (in-right w (values h.mem p.stack p.depth) (values h.mem p.queue p.waiting ++ roots_in h.mem ps)
-          (in-right w (values h.mem p.queue p.waiting) (roots_in h.mem ps) (told-out h ps w others)))
     ]
+  ]
+
+  turned-out : (In w es → In w ds) → In w ((xs ++ (reverse ys ++ zs)) ++ es) → In w (xs ++ (ys ++ (zs ++ ds)))
+  turned-out more i = elim (in-both w (xs ++ (reverse ys ++ zs)) es i) [
+    | inl own ↦ elim (in-both w xs (reverse ys ++ zs) own) [
+      | inl x ↦ in-left w xs (ys ++ (zs ++ ds)) x
+      | inr deep ↦ in-right w xs (ys ++ (zs ++ ds)) (elim (in-both w (reverse ys) zs deep) [
+        | inl y ↦ in-left w ys (zs ++ ds) (from-reverse w ys y)
+        | inr z ↦ in-right w ys (zs ++ ds) (in-left w zs ds z)
+      ])
+    ]
+    | inr e ↦ in-right w xs (ys ++ (zs ++ ds)) (in-right w ys (zs ++ ds) (in-right w zs ds (more e)))
+  ]
+
+module _ (h : Halves) where
+  -- The roots of rows as the image tells them.
+  abbrev told : List Proc → List ℕ
+  told ps = flat_map process_roots (map (rooted h) ps)
+
+  told-in : (ps : List Proc) (w : ℕ) → In w (roots_in h.mem ps) → In w (told ps)
+  told-in [] w i = absurd i
+  told-in (p ∷ ps) w i =
+      rw (flat_map-cons process_roots (rooted h p) (map (rooted h) ps))
+      (turned-in w p.regs (values h.mem p.stack p.depth) (values h.mem p.queue p.waiting) (roots_in h.mem ps) (told ps) (told-in ps w) i)
+
+  told-out : (ps : List Proc) (w : ℕ) → In w (told ps) → In w (roots_in h.mem ps)
+  told-out [] w i = absurd i
+  told-out (p ∷ ps) w i =
+      turned-out w p.regs (values h.mem p.stack p.depth) (values h.mem p.queue p.waiting) (roots_in h.mem ps) (told ps) (told-out ps w)
+      (rw (flat_map-cons process_roots (rooted h p) (map (rooted h) ps)) at i)
 
 -- A plan that begins with these roots.
 abbrev plan_over : (mem roots : List ℕ) → Plan
@@ -114,9 +107,7 @@ plan_over mem roots = record {
 
 -- More roots reach no less.
 reach-among : (mem roots more : List ℕ) → ((w : ℕ) → In w roots → In w more) → (w : ℕ) → Reach mem roots w → Reach mem more w
-reach-among mem roots more among w (root i x below e) =
-    let P : ℕ → Type 0 = λ z. In z more in
-    root-in (plan_over mem more) w (subst P (sym e) (among (get_or roots i 0) (in-at roots i below)))
+reach-among mem roots more among w (root i x below e) = root-in (plan_over mem more) w (rw e (among (get_or roots i 0) (in-at roots i below)))
 reach-among mem roots more among w (part v k x r p from below e) = part v k x (reach-among mem roots more among v r) p from below e
 
 module _ (c d : ℕ → ℕ → Bool) (shared : List (List ℕ)) (h : Halves) (named : ℕ) (trees : (w : ℕ) (t : Tree) → Stands c shared h.mem w t → Stands d shared h.mem w t) where
@@ -128,12 +119,11 @@ module _ (c d : ℕ → ℕ → Bool) (shared : List (List ℕ)) (h : Halves) (n
 
   row-rooted : (low limit : ℕ) (p : Proc) (q : Process) → ProcStands c shared h.mem low limit named p q → RootedStands d shared h.mem (rooted h p) q
   row-rooted low limit p q s =
-      let P : List ℕ → Type 0 = λ z. WordsStand d shared h.mem z q.stack in
       record {
         number = s.number;
         refs = s.refs;
         registers = words-held p.regs q.registers s.registers;
-        stack = subst P (sym (reverse-reverse (values h.mem p.stack p.depth))) (words-held (values h.mem p.stack p.depth) q.stack s.stack);
+        stack = rw (reverse-reverse (values h.mem p.stack p.depth)) (words-held (values h.mem p.stack p.depth) q.stack s.stack);
         queue = words-held (values h.mem p.queue p.waiting) q.queue s.queue;
       }
 
@@ -178,61 +168,41 @@ module _ (mem : List ℕ) where
     ]
   ]
 
-  -- Owners that rise are all different.
-  owners-differ : (v : ℕ) (us : List ℕ) → ((w : ℕ) → In w us → owner_in mem v < owner_in mem w)
-      → AllPieces (λ q. owner_in mem v ≡ owner_in mem q.place → ⊥) (map (record_piece mem) us)
-  owners-differ v [] less = tt
-  owners-differ v (u ∷ us) less = ((λ e. omega (arith, less u (inl refl), e)), owners-differ v us (λ w i. less w (inr i)))
+  -- What holds for each record holds for each piece, and so for each two, of which the first has the lower owner.
+  each-piece : (P : Stretch → Type 0) (vs : List ℕ) → ((v : ℕ) → In v vs → P (record_piece mem v)) → AllPieces P (map (record_piece mem) vs)
+  each-piece P [] each = tt
+  each-piece P (v ∷ vs) each = (each v (inl refl), each-piece P vs (λ u i. each u (inr i)))
 
-  owners-two : (vs : List ℕ) → OwnersRise mem vs → EachTwo (λ r q. owner_in mem r.place ≡ owner_in mem q.place → ⊥) (map (record_piece mem) vs)
-  owners-two [] r = tt
-  owners-two (v ∷ vs) (first, rest) = (owners-differ v vs first, owners-two vs rest)
+  each-two : (P : Stretch → Stretch → Type 0) (vs : List ℕ) → OwnersRise mem vs
+      → ((v u : ℕ) → In v vs → In u vs → owner_in mem v < owner_in mem u → P (record_piece mem v) (record_piece mem u)) → EachTwo P (map (record_piece mem) vs)
+  each-two P [] rise each = tt
+  each-two P (v ∷ vs) (first, rest) each =
+      (each-piece (P (record_piece mem v)) vs (λ u i. each v u (inl refl) (inr i) (first u i)), each-two P vs rest (λ a b i j. each a b (inr i) (inr j)))
 
   owners-once : (vs : List ℕ) → OwnersRise mem vs → Distinct (map (owner_in mem) (piece_places (pieces_by_place (map (record_piece mem) vs))))
   owners-once vs r =
       each-once (owner_in mem) (pieces_by_place (map (record_piece mem) vs))
-      (two-ordered (λ r q. owner_in mem r.place ≡ owner_in mem q.place → ⊥) (λ r q n e. n (sym e)) (map (record_piece mem) vs) (owners-two vs r))
+      (two-ordered (λ r q. owner_in mem r.place ≡ owner_in mem q.place → ⊥) (λ r q n e. n (sym e)) (map (record_piece mem) vs)
+      (each-two (λ r q. owner_in mem r.place ≡ owner_in mem q.place → ⊥) vs r (λ v u i j less e. omega (arith, less, e))))
 
   -- Records of which no two are one follow each other.
-  module _ (c : ℕ → ℕ → Bool) (single : IsSingle c) where
-    apart-all : (v : ℕ) (us : List ℕ) → IsRecord c mem v (record_words mem v) → v + record_words mem v ≤ length mem → ((u : ℕ) → In u us → IsRecord c mem u (record_words mem u))
-        → ((u : ℕ) → In u us → u + record_words mem u ≤ length mem) → ((u : ℕ) → In u us → owner_in mem v < owner_in mem u)
-        → AllPieces (PiecesApart (record_piece mem v)) (map (record_piece mem) us)
-    apart-all v [] is fits are fit less = tt
-    apart-all v (u ∷ us) is fits are fit less =
-        let size = piece-words mem v (record_words mem v) fits in
-        let other = piece-words mem u (record_words mem u) (fit u (inl refl)) in (
-          elim (records-apart c mem v (record_words mem v) u (record_words mem u) single is (are u (inl refl))) [
-            | inl e ↦ absurd (omega (arith, less u (inl refl), ap (owner_in mem) e))
-            | inr (inl before) ↦ inl (omega (arith, size, before))
-            | inr (inr behind) ↦ inr (omega (arith, other, behind))
-          ],
-          apart-all v us is fits (λ w i. are w (inr i)) (λ w i. fit w (inr i)) (λ w i. less w (inr i)),
-        )
-
-    apart-two : (vs : List ℕ) → ((v : ℕ) → In v vs → IsRecord c mem v (record_words mem v)) → ((v : ℕ) → In v vs → v + record_words mem v ≤ length mem) → OwnersRise mem vs
-        → EachTwo PiecesApart (map (record_piece mem) vs)
-    apart-two [] are fit rise = tt
-    apart-two (v ∷ vs) are fit (first, rest) = (
-      apart-all v vs (are v (inl refl)) (fit v (inl refl)) (λ u i. are u (inr i)) (λ u i. fit u (inr i)) first,
-      apart-two vs (λ u i. are u (inr i)) (λ u i. fit u (inr i)) rest,
-    )
-
-    all-some : (vs : List ℕ) → ((v : ℕ) → In v vs → IsRecord c mem v (record_words mem v)) → ((v : ℕ) → In v vs → v + record_words mem v ≤ length mem)
-        → AllPieces HasWords (map (record_piece mem) vs)
-    all-some [] are fit = tt
-    all-some (v ∷ vs) are fit =
-        let size = piece-words mem v (record_words mem v) (fit v (inl refl)) in
-        (omega (arith, size, record-some c mem v (record_words mem v) (are v (inl refl))), all-some vs (λ u i. are u (inr i)) (λ u i. fit u (inr i)))
-
-    records-follow : (vs : List ℕ) → ((v : ℕ) → In v vs → IsRecord c mem v (record_words mem v)) → ((v : ℕ) → In v vs → v + record_words mem v ≤ length mem) → OwnersRise mem vs
-        → FollowEachOther (pieces_by_place (map (record_piece mem) vs))
-    records-follow vs are fit rise = follow-ordered (map (record_piece mem) vs) (apart-two vs are fit rise) (all-some vs are fit)
+  records-follow : (c : ℕ → ℕ → Bool) → IsSingle c → (vs : List ℕ) → ((v : ℕ) → In v vs → IsRecord c mem v (record_words mem v)) → ((v : ℕ) → In v vs → v + record_words mem v ≤ length mem)
+      → OwnersRise mem vs → FollowEachOther (pieces_by_place (map (record_piece mem) vs))
+  records-follow c single vs are fit rise = follow-ordered (map (record_piece mem) vs)
+      (each-two PiecesApart vs rise (λ v u i j less.
+      let size = piece-words mem v (record_words mem v) (fit v i) in
+      let other = piece-words mem u (record_words mem u) (fit u j) in
+      elim (records-apart c mem v (record_words mem v) u (record_words mem u) single (are v i) (are u j)) [
+        | inl e ↦ absurd (omega (arith, less, ap (owner_in mem) e))
+        | inr (inl before) ↦ inl (omega (arith, size, before))
+        | inr (inr behind) ↦ inr (omega (arith, other, behind))
+      ]))
+      (each-piece HasWords vs (λ v i. omega (arith, piece-words mem v (record_words mem v) (fit v i), record-some c mem v (record_words mem v) (are v i))))
 
 module _ (h : Halves) (laid : IsLaid h) where
   -- The region has as many words as lie between the front and the top.
   region-words : length ((object_piece h).words) ≡ h.room.top - front_of h
-  region-words = piece-words h.mem (front_of h) (h.room.top - front_of h) (omega (arith, half-within h laid, laid.order, laid.fits, laid.front))
+  region-words = piece-words h.mem (front_of h) (h.room.top - front_of h) (omega (arith, half-inside h laid, laid.order, laid.fits, laid.front))
 
   in-region : (a : ℕ) → front_of h ≤ a → a < h.room.top → (front_of h ≤ a) × (a < front_of h + length ((object_piece h).words))
   in-region a from to = (from, omega (arith, region-words, to, laid.front))
@@ -292,8 +262,7 @@ module _ (named : ℕ) (h : Halves) (s : State) (laid : IsLaid h) (o : HalvesSta
   -- The places of the tables are those of the pieces in order.
   place-told : (v : ℕ) → In v (h.bins.items ++ h.funs.items) → In v (piece_places (pieces_by_place bin_pieces ++ pieces_by_place fun_pieces))
   place-told v i =
-      let P : List ℕ → Type 0 = λ z. In v z in
-      subst P (sym (places-both (pieces_by_place bin_pieces) (pieces_by_place fun_pieces))) (elim (in-both v h.bins.items h.funs.items i) [
+      rw (places-both (pieces_by_place bin_pieces) (pieces_by_place fun_pieces)) (elim (in-both v h.bins.items h.funs.items i) [
         | inl bin ↦ in-left v (piece_places (pieces_by_place bin_pieces)) (piece_places (pieces_by_place fun_pieces))
             (ordered (λ rs. In v (piece_places rs)) (place-any v) bin_pieces (place-listed h.mem v h.bins.items bin))
         | inr fun ↦ in-right v (piece_places (pieces_by_place bin_pieces)) (piece_places (pieces_by_place fun_pieces))
@@ -309,43 +278,16 @@ module _ (named : ℕ) (h : Halves) (s : State) (laid : IsLaid h) (o : HalvesSta
     funs_once = owners-once h.mem h.funs.items o.records.codes;
   }
 
-  -- Records of binaries follow each other, and so do those of funs.
-  bin-record : (v : ℕ) → In v h.bins.items → IsRecord o.test h.mem v (record_words h.mem v)
-  bin-record v i =
-      let r : IsBinOf o.test h.mem s.shared v = o.records.each_bin v i in
-      let n : ℕ = 4 + bin_words (length (shared_bytes s.shared (owner_in h.mem v))) in
-      let there : IsRecord o.test h.mem v (4 + bin_words (length (shared_bytes s.shared (owner_in h.mem v)))) =
-      inl (owner_in h.mem v, shared_bytes s.shared (owner_in h.mem v), r.is, refl) in
-      let P : ℕ → Type 0 = λ z. IsRecord o.test h.mem v z in
-      subst P (sym (record-size o.test h.mem v (4 + bin_words (length (shared_bytes s.shared (owner_in h.mem v)))) there)) there
-
-  fun-record : (v : ℕ) → In v h.funs.items → IsRecord o.test h.mem v (record_words h.mem v)
-  fun-record v i =
-      let r : IsFunOf o.test h.mem v = o.records.each_fun v i in
-      let there : IsRecord o.test h.mem v 4 = inr (r.name, r.arity, r.is, refl) in
-      let P : ℕ → Type 0 = λ z. IsRecord o.test h.mem v z in
-      subst P (sym (record-size o.test h.mem v 4 there)) there
-
-  bins-follow : FollowEachOther (pieces_by_place bin_pieces)
-  bins-follow =
-      records-follow h.mem o.test o.single h.bins.items bin-record (λ v i. records-fit v (in-left v h.bins.items h.funs.items i))
-      o.records.serials
-
-  funs-follow : FollowEachOther (pieces_by_place fun_pieces)
-  funs-follow =
-      records-follow h.mem o.test o.single h.funs.items fun-record (λ v i. records-fit v (in-right v h.bins.items h.funs.items i))
-      o.records.codes
-
-  pieces-there : HasPieces h.mem (object_piece h ∷ (pieces_by_place bin_pieces ++ pieces_by_place fun_pieces))
-  pieces-there = (
-    omega (arith, region-words h laid, half-within h laid, laid.order, laid.fits, laid.front),
-    ap (λ n. take n (drop (front_of h) h.mem)) (region-words h laid),
-    has-both h.mem (pieces_by_place bin_pieces) (pieces_by_place fun_pieces)
-        (ordered (HasPieces h.mem) (has-any h.mem) bin_pieces
-        (records-held h.mem h.bins.items (λ v i. records-fit v (in-left v h.bins.items h.funs.items i))))
-        (ordered (HasPieces h.mem) (has-any h.mem) fun_pieces
-        (records-held h.mem h.funs.items (λ v i. records-fit v (in-right v h.bins.items h.funs.items i)))),
-  )
+  -- Each stands.
+  record-here : (v : ℕ) → In v (records_of h) → IsRecord o.test h.mem v (record_words h.mem v)
+  record-here v i = elim (in-both v h.bins.items h.funs.items i) [
+    | inl bin ↦
+        by (4 + bin_words (length (shared_bytes s.shared (owner_in h.mem v)))) (inl (owner_in h.mem v, shared_bytes s.shared (owner_in h.mem v), (o.records.each_bin v bin).is, refl))
+    | inr fun ↦ let r : IsFunOf o.test h.mem v = o.records.each_fun v fun in by 4 (inr (r.name, r.arity, r.is, refl))
+  ]
+    where
+      by : (n : ℕ) → IsRecord o.test h.mem v n → IsRecord o.test h.mem v (record_words h.mem v)
+      by n there = rw (record-size o.test h.mem v n there) there
 
   -- All lies in the half in use.
   record-within : (v : ℕ) → IsRecord o.test h.mem v (record_words h.mem v) → (h.base ≤ v) × (v + record_words h.mem v ≤ end_of h)
@@ -361,32 +303,56 @@ module _ (named : ℕ) (h : Halves) (s : State) (laid : IsLaid h) (o : HalvesSta
           let (k, (of, role)) = record-role o.test h.mem v (record_words h.mem v) q r from below in
           elim (o.lie q k role) [ inl object ↦ absurd (omega (arith, of, object.1.1)) | inr there ↦ (there.0, there.1.0) ]
 
-  records-within : (vs : List ℕ) → ((v : ℕ) → In v vs → v + record_words h.mem v ≤ length h.mem)
-      → ((v : ℕ) → In v vs → IsRecord o.test h.mem v (record_words h.mem v)) → AllWithin h.base (end_of h) (map (record_piece h.mem) vs)
-  records-within [] fit are = tt
-  records-within (v ∷ vs) fit are =
-      let size = piece-words h.mem v (record_words h.mem v) (fit v (inl refl)) in
-      let here = record-within v (are v (inl refl)) in
-      ((here.0, omega (arith, here.1, size)), records-within vs (λ u i. fit u (inr i)) (λ u i. are u (inr i)))
+  records-within : (vs : List ℕ) → ((v : ℕ) → In v vs → In v (records_of h)) → AllWithin h.base (end_of h) (map (record_piece h.mem) vs)
+  records-within [] among = tt
+  records-within (v ∷ vs) among =
+      let size = piece-words h.mem v (record_words h.mem v) (records-fit v (among v (inl refl))) in
+      let here = record-within v (record-here v (among v (inl refl))) in
+      ((here.0, omega (arith, here.1, size)), records-within vs (λ u i. among u (inr i)))
+
+  -- The pieces of a table of records.
+  module _ (vs : List ℕ) (among : (v : ℕ) → In v vs → In v (records_of h)) where
+    abbrev pieces : List Stretch
+    pieces = map (record_piece h.mem) vs
+
+    table-fit : (v : ℕ) → In v vs → v + record_words h.mem v ≤ length h.mem
+    table-fit v i = records-fit v (among v i)
+
+    table-follows : OwnersRise h.mem vs → FollowEachOther (pieces_by_place pieces)
+    table-follows rise = records-follow h.mem o.test o.single vs (λ v i. record-here v (among v i)) table-fit rise
+
+    table-there : HasPieces h.mem (pieces_by_place pieces)
+    table-there = ordered (HasPieces h.mem) (has-any h.mem) pieces (records-held h.mem vs table-fit)
+
+    table-within : AllWithin h.base (end_of h) (pieces_by_place pieces)
+    table-within = ordered (AllWithin h.base (end_of h)) (within-any h.base (end_of h)) pieces (records-within vs among)
+
+    table-lies : (a : ℕ) → in_records h.mem vs a ≡ true → LiesIn (pieces_by_place pieces) a
+    table-lies a e = ordered (λ rs. LiesIn rs a) (lies-any a) pieces (lies-listed h.mem vs a table-fit e)
+
+  of-bins : (v : ℕ) → In v h.bins.items → In v (records_of h)
+  of-bins v i = in-left v h.bins.items h.funs.items i
+
+  of-funs : (v : ℕ) → In v h.funs.items → In v (records_of h)
+  of-funs v i = in-right v h.bins.items h.funs.items i
+
+  pieces-there : HasPieces h.mem (object_piece h ∷ (pieces_by_place bin_pieces ++ pieces_by_place fun_pieces))
+  pieces-there = (
+    omega (arith, region-words h laid, half-inside h laid, laid.order, laid.fits, laid.front),
+    ap (λ n. take n (drop (front_of h) h.mem)) (region-words h laid),
+    has-both h.mem (pieces_by_place bin_pieces) (pieces_by_place fun_pieces) (table-there h.bins.items of-bins) (table-there h.funs.items of-funs),
+  )
 
   within-half : AllWithin h.base (end_of h) (object_piece h ∷ (pieces_by_place bin_pieces ++ pieces_by_place fun_pieces))
   within-half = (
     (omega arith, omega (arith, region-words h laid, laid.order, laid.fits, laid.front)),
-    within-both h.base (end_of h) (pieces_by_place bin_pieces) (pieces_by_place fun_pieces)
-        (ordered (AllWithin h.base (end_of h)) (within-any h.base (end_of h)) bin_pieces
-        (records-within h.bins.items (λ v i. records-fit v (in-left v h.bins.items h.funs.items i)) bin-record))
-        (ordered (AllWithin h.base (end_of h)) (within-any h.base (end_of h)) fun_pieces
-        (records-within h.funs.items (λ v i. records-fit v (in-right v h.bins.items h.funs.items i)) fun-record)),
+    within-both h.base (end_of h) (pieces_by_place bin_pieces) (pieces_by_place fun_pieces) (table-within h.bins.items of-bins) (table-within h.funs.items of-funs),
   )
 
   listed-there : (a : ℕ) → in_records h.mem (records_of h) a ≡ true → LiesIn (pieces_by_place bin_pieces ++ pieces_by_place fun_pieces) a
   listed-there a e = elim (listed-both h.mem h.bins.items h.funs.items a e) [
-    | inl bin ↦ lies-left a (pieces_by_place bin_pieces) (pieces_by_place fun_pieces)
-        (ordered (λ rs. LiesIn rs a) (lies-any a) bin_pieces
-        (lies-listed h.mem h.bins.items a (λ v i. records-fit v (in-left v h.bins.items h.funs.items i)) bin))
-    | inr fun ↦ lies-right a (pieces_by_place bin_pieces) (pieces_by_place fun_pieces)
-        (ordered (λ rs. LiesIn rs a) (lies-any a) fun_pieces
-        (lies-listed h.mem h.funs.items a (λ v i. records-fit v (in-right v h.bins.items h.funs.items i)) fun))
+    | inl bin ↦ lies-left a (pieces_by_place bin_pieces) (pieces_by_place fun_pieces) (table-lies h.bins.items of-bins a bin)
+    | inr fun ↦ lies-right a (pieces_by_place bin_pieces) (pieces_by_place fun_pieces) (table-lies h.funs.items of-funs a fun)
   ]
 
   inside-there : (a k : ℕ) → narrow a k ≡ true → LiesIn (object_piece h ∷ (pieces_by_place bin_pieces ++ pieces_by_place fun_pieces)) a
@@ -440,8 +406,8 @@ module _ (named : ℕ) (h : Halves) (s : State) (laid : IsLaid h) (o : HalvesSta
     arena = refl;
     told = pieces-there;
     regions_follow = tt;
-    bins_follow = bins-follow;
-    funs_follow = funs-follow;
+    bins_follow = table-follows h.bins.items of-bins o.records.serials;
+    funs_follow = table-follows h.funs.items of-funs o.records.codes;
     test = narrow;
     single = single-covered named h s.shared s.processes laid o;
     inside = inside-there;

@@ -1,70 +1,39 @@
 -- A new term in a register: what the memory stands for after it, whatever was built.
-use Rattle.std.proofs.Common.{◌≡◌, ℕ, zero, suc, ◌+◌, ◌/◌, ◌<◌, ◌≤◌, ◌⊎◌, true, List, [], ◌∷◌, length, map, get_or, set, refl, sym, ◌∙◌, ap, subst, arith, inl, inr}
-use Rattle.std.specs.Vec.{vec_len, with_item}
-use Rattle.std.proofs.lemmas.List.{length-map, length-set}
+use Rattle.std.proofs.Common.{◌≡◌, ℕ, ◌+◌, ◌/◌, ◌<◌, ◌≤◌, ◌⊎◌, true, List, length, get_or, set, refl, sym, arith, inl, inr}
+use Rattle.std.specs.Vec.{with_item}
 use Rattle.word_mem.specs.declared.ranges.Room.{Room}
 use Rattle.plain_term.specs.Tree.{Tree}
-use Rattle.plain_machine.specs.State.{Process, register, with_register}
+use Rattle.plain_machine.specs.State.{Process, register}
 use Rattle.term_order.specs.Named.{is_named}
 use Rattle.term_order.specs.Held.{HoldsTree}
 use Rattle.term_build.specs.Taken.{IsFree}
 use Rattle.term_build.specs.Grows.{Built}
-use Rattle.term_build.specs.Clear.{IsRoom, Uses}
+use Rattle.term_build.specs.Clear.{Uses}
 use Rattle.two_halves.specs.Halves.{HalvesStand, IsLaid, ProcStands, ProcsStand, end_of, free_in}
 use Rattle.two_halves.specs.declared.halves.Halves.{Halves}
 use Rattle.two_halves.specs.declared.table.Proc.{Proc}
-use Rattle.two_halves.proofs.Queued.Queuing.{row-set}
 use Rattle.two_halves.proofs.Standing.Apart.{apart-kept, apart-same}
 use Rattle.two_halves.proofs.Standing.Filled.{halves-filled, laid_out}
 use Rattle.two_halves.proofs.Standing.Keeping.{procs-on}
 use Rattle.two_halves.proofs.Standing.Stacks.{AreKept}
-use Rattle.numbered_rows.proofs.Rising.{numbers-len}
-use Rattle.heaps_api.specs.Meaning.{CanAsk, Stood, no_process}
-use Rattle.heaps_api.specs.Changing.{KeepsRows, process_at}
-use Rattle.one_space.specs.Heap.{TakesAtMost, number_in, one_meaning}
+use Rattle.heaps_api.specs.Meaning.{CanAsk, Stood}
+use Rattle.script_grammar.specs.declared.command.Reg.{Reg}
+use Rattle.heaps_api.specs.Changing.{Gains, process_at}
+use Rattle.heaps_api.specs.Making.{IsMadeOf, with_made_in, words_of_make}
+use Rattle.heaps_api.specs.declared.making.Make.{Make}
+use Rattle.one_space.specs.Heap.{one_meaning}
 use Rattle.one_space.specs.declared.heap.OneHeap.{OneHeap}
-use Rattle.one_space.proofs.OfHeap.Keeping.{keeps-rows, places-moved, same-numbers, still-made}
-use Rattle.one_space.proofs.Processes.Changing.{held-at, held-set}
-use Rattle.one_space.proofs.Processes.Turning.{row-stands}
+use Rattle.one_space.proofs.OfHeap.Keeping.{keeps-replaced, of_halves, places-moved, row-inside, stood-by}
+use Rattle.heaps_api.proofs.Holding.{held-at}
+use Rattle.one_space.proofs.Processes.Turning.{register-made, row-stands, with_made, with_tree_made}
 use Rattle.one_space.proofs.Memory.Resting.{rest-laid}
-
--- A row with another word in a register, and so many references made.
-abbrev pub with_made : Proc → (r w refs : ℕ) → Proc
-with_made p r w refs = record { number = p.number; regs = set p.regs r w; stack = p.stack; depth = p.depth; queue = p.queue; last = p.last; waiting = p.waiting; refs = refs }
-
--- A process with another tree in a register, and so many references made.
-abbrev pub with_tree_made : Process → (r : ℕ) → Tree → (refs : ℕ) → Process
-with_tree_made q r t refs = record (with_register r t q) { refs = refs }
-
--- Numbers and registers of processes of which one is replaced.
-pub numbers-kept : (qs : List Process) (row : ℕ) (p : Process) → p.number ≡ (get_or qs row no_process).number
-    → map (λ (q : Process). q.number) (set qs row p) ≡ map (λ (q : Process). q.number) qs
-numbers-kept [] row p e = refl
-numbers-kept (q ∷ qs) zero p e = ap (λ z. z ∷ map (λ (u : Process). u.number) qs) e
-numbers-kept (q ∷ qs) (suc row) p e = ap (λ z. q.number ∷ z) (numbers-kept qs row p e)
-
-pub registers-kept : (qs : List Process) (row : ℕ) (p : Process) → length p.registers ≡ 16
-    → ((i : ℕ) → i < length qs → length ((get_or qs i no_process).registers) ≡ 16)
-    → (i : ℕ) → i < length (set qs row p) → length ((get_or (set qs row p) i no_process).registers) ≡ 16
-registers-kept [] row p e all i less = absurd (omega (arith, less))
-registers-kept (q ∷ qs) zero p e all zero less = e
-registers-kept (q ∷ qs) zero p e all (suc i) less = all (suc i) less
-registers-kept (q ∷ qs) (suc row) p e all zero less = all zero (omega arith)
-registers-kept (q ∷ qs) (suc row) p e all (suc i) less = registers-kept qs row p e (λ j under. all (suc j) (omega (arith, under))) i (omega (arith, less))
-
--- The memory with other halves.
-abbrev pub laid_in : OneHeap → Halves → OneHeap
-laid_in a h = record { halves = h; spare = a.spare }
 
 module _ (a : OneHeap) (ask : CanAsk one_meaning a) (row : ℕ) (less : row < length (one_meaning.numbers a)) where
   laid : IsLaid a.halves
   laid = ask.lives.whole.laid
 
   pub row-less : row < length a.halves.procs.items
-  row-less = omega (arith, less, numbers-len number_in a.halves.procs.items)
-
-  pub row-within : row < vec_len a.halves.procs
-  row-within = omega (arith, row-less, a.halves.procs.ok.0)
+  row-less = row-inside a row less
 
   -- What a row says of its process.
   module _ (named : ℕ) (shared : List (List ℕ)) (qs : List Process) (x : Stood one_meaning named a shared qs) (p : Proc) (is : p ≡ get_or a.halves.procs.items row p) where
@@ -74,19 +43,19 @@ module _ (a : OneHeap) (ask : CanAsk one_meaning a) (row : ℕ) (less : row < le
     pub register-said : (r : ℕ) → r < 16 → HoldsTree x.is.test shared a.halves.mem named (get_or p.regs r 0) (register r (process_at qs row))
     register-said r small = held-at x.is.test shared a.halves.mem named p.regs (process_at qs row).registers r (omega (arith, small, row-said.count)) row-said.registers
 
-  module _ (n : ℕ) (free : n ≤ free_in a.halves) where
-    pub words-fit : a.halves.room.top + n ≤ a.halves.room.end
+  module _ (what : Make) (free : words_of_make what + 0 ≤ free_in a.halves) where
+    pub words-fit : a.halves.room.top + words_of_make what ≤ a.halves.room.end
     words-fit = omega (arith, free, laid.order)
 
     -- No word of the room has a role.
-    pub words-free : (named : ℕ) (shared : List (List ℕ)) (qs : List Process) (x : Stood one_meaning named a shared qs) (m : ℕ) → m ≤ n
+    pub words-free : (named : ℕ) (shared : List (List ℕ)) (qs : List Process) (x : Stood one_meaning named a shared qs) (m : ℕ) → m ≤ words_of_make what
         → IsFree x.is.test a.halves.room.top (a.halves.room.top + m)
     words-free named shared qs x m few q k e = elim (x.is.lie q k e) [ inl there ↦ inl there.1.0 | inr there ↦ inr (omega (arith, there.0, few, words-fit)) ]
 
-    module _ (mem2 : List ℕ) (z : Room) (used : ℕ) (few : used ≤ n) (uses : Uses used a.halves.room z a.halves.mem mem2)
-        (p : Proc) (is : p ≡ get_or a.halves.procs.items row p) (r w made : ℕ) where
+    module _ (mem2 : List ℕ) (z : Room) (used : ℕ) (few : used ≤ words_of_make what) (uses : Uses used a.halves.room z a.halves.mem mem2)
+        (p : Proc) (is : p ≡ get_or a.halves.procs.items row p) (s : Reg) (w made : ℕ) where
       abbrev h2 : Halves
-      h2 = laid_out a.halves mem2 z (with_item a.halves.procs row (with_made p r w made))
+      h2 = laid_out a.halves mem2 z (with_item a.halves.procs row (with_made p s.0 w made))
 
       -- All words but those of the room are as before.
       others : (q : ℕ) → (q < a.halves.room.top) ⊎ (a.halves.room.end ≤ q) → get_or mem2 q 0 ≡ get_or a.halves.mem q 0
@@ -94,19 +63,11 @@ module _ (a : OneHeap) (ask : CanAsk one_meaning a) (row : ℕ) (less : row < le
 
       made-laid : IsLaid h2
       made-laid =
-          let same = places-moved a.halves.procs row (with_made p r w made) p row-less is in
+          let same = places-moved a.halves.procs row (with_made p s.0 w made) p row-less is in
           let still : IsLaid (laid_out a.halves mem2 z a.halves.procs) =
           rest-laid ask.lives.named a.halves ask.lives.shared ask.lives.processes laid ask.lives.stood.is mem2 z uses.same_len others (omega (arith, uses.moved))
           (omega (arith, uses.moved, uses.same_end, few, words-fit)) (omega (arith, uses.same_end)) uses.same_start in
           record { even = still.even; side = still.side; starts = still.starts; front = still.front; order = still.order; fits = omega (arith, still.fits, same) }
-
-      pub made-keeps : made ≤ p.refs + 1 → KeepsRows one_meaning a (laid_in a h2)
-      made-keeps most =
-          keeps-rows a (laid_in a h2) made-laid uses.same_len refl refl (same-numbers a.halves.procs row (with_made p r w made) p row-less is refl)
-          (still-made a.halves.procs row (with_made p r w made) p row-less is most) refl refl (omega arith)
-
-      pub made-takes : TakesAtMost n a (laid_in a h2)
-      made-takes = record { sweeps = refl; few = omega (arith, uses.moved, uses.same_end, few, words-fit) }
 
       module _ (named : ℕ) (shared : List (List ℕ)) (qs : List Process) (x : Stood one_meaning named a shared qs) (t : Tree) (refs : ℕ) (names : is_named named t ≡ true)
           (same_refs : refs ≡ made) (built : Built x.is.test a.halves.room.top used a.halves.mem mem2 shared w t) where
@@ -133,43 +94,37 @@ module _ (a : OneHeap) (ask : CanAsk one_meaning a) (row : ℕ) (less : row < le
         rows = procs-on x.is.test built.test shared a.halves.mem mem2 named named a.halves.room.end z.end (end_of a.halves) trees kept bare (omega (arith, uses.same_end))
             a.halves.procs.items qs x.is.processes
 
-        new-row : ProcStands built.test shared mem2 z.end (end_of a.halves) named (with_made p r w made) (with_tree_made q r t refs)
-        new-row =
-            let old = row-stands built.test shared mem2 z.end (end_of a.halves) named a.halves.procs.items qs row p row-less is rows in
-            record {
-              number = old.number;
-              count = length-set p.regs r w ∙ old.count;
-              registers = held-set built.test shared mem2 named p.regs q.registers r w t old.registers (record { standing = built.made; names = names });
-              places = old.places;
-              stack = old.stack;
-              waits = old.waits;
-              queue = old.queue;
-              last = old.last;
-              refs = same_refs;
-            }
+        set-rows : ProcsStand built.test shared mem2 z.end (end_of a.halves) named (set a.halves.procs.items row (with_made p s.0 w made)) (set qs row (with_tree_made q s.0 t refs))
+        set-rows = register-made built.test shared mem2 z.end (end_of a.halves) named a.halves.procs.items qs row p row-less is rows s.0 w made refs t
+            (record { standing = built.made; names = names }) same_refs
 
-        set-rows : ProcsStand built.test shared mem2 z.end (end_of a.halves) named (set a.halves.procs.items row (with_made p r w made)) (set qs row (with_tree_made q r t refs))
-        set-rows = row-set built.test shared mem2 z.end (end_of a.halves) named a.halves.procs.items qs row (with_made p r w made) (with_tree_made q r t refs) rows new-row
-
-        halves-stand : HalvesStand named h2 shared (set qs row (with_tree_made q r t refs))
+        halves-stand : HalvesStand named h2 shared (set qs row (with_tree_made q s.0 t refs))
         halves-stand =
             let limit : end_of a.halves ≡ a.halves.base + length mem2 / 2 = omega (arith, uses.same_len) in
-            let P : ℕ → Type 0 = λ v. ProcsStand built.test shared mem2 z.end v named (set a.halves.procs.items row (with_made p r w made)) (set qs row (with_tree_made q r t refs)) in
-            halves-filled named named a.halves shared qs (set qs row (with_tree_made q r t refs)) laid x.is built.test (built.grows.single x.is.single) mem2 z
-            (with_item a.halves.procs row (with_made p r w made)) uses.same_len built.grows.more built.grows.objects new-within words-same (omega (arith, uses.moved))
-            (omega (arith, uses.same_end)) (omega arith) (subst P limit set-rows)
-            (apart-same mem2 a.halves.procs.items row (with_made p r w made) p row-less is refl
+            halves-filled named named a.halves shared qs (set qs row (with_tree_made q s.0 t refs)) laid x.is built.test (built.grows.single x.is.single) mem2 z
+            (with_item a.halves.procs row (with_made p s.0 w made)) uses.same_len built.grows.more built.grows.objects new-within words-same (omega (arith, uses.moved))
+            (omega (arith, uses.same_end)) (omega arith) (rw (sym limit) set-rows)
+            (apart-same mem2 a.halves.procs.items row (with_made p s.0 w made) p row-less is refl
             (apart-kept x.is.test shared a.halves.mem mem2 a.halves.room.end (end_of a.halves) named a.halves.procs.items qs kept x.is.processes x.is.apart))
 
-        regs-len : row < length qs → length (set q.registers r t) ≡ 16
-        regs-len there = length-set q.registers r t ∙ x.registers row there
+      -- The tree that is asked for was built by the word, and the process has so many references.
+      pub record Makes (named : ℕ) (shared : List (List ℕ)) (qs : List Process) (x : Stood one_meaning named a shared qs) (t : Tree) : Type 0 where
+        pub refs : ℕ
+        pub process : with_made_in s.0 what t (process_at qs row) ≡ with_tree_made (process_at qs row) s.0 t refs
+        pub same : refs ≡ made
+        pub names : is_named named t ≡ true
+        pub built : Built x.is.test a.halves.room.top used a.halves.mem mem2 shared w t
 
-        pub row-count : length qs ≡ length a.halves.procs.items
-        row-count = sym (length-map qs (λ (u : Process). u.number)) ∙ (ap length (sym x.rows) ∙ numbers-len number_in a.halves.procs.items)
-
-        pub made-stood : Stood one_meaning named (laid_in a h2) shared (set qs row (with_tree_made q r t refs))
-        made-stood = record {
-          is = halves-stand;
-          rows = same-numbers a.halves.procs row (with_made p r w made) p row-less is refl ∙ (x.rows ∙ sym (numbers-kept qs row (with_tree_made q r t refs) refl));
-          registers = registers-kept qs row (with_tree_made q r t refs) (regs-len (omega (arith, row-less, row-count))) x.registers;
-        }
+      -- The call's answer.
+      pub gains : made ≤ p.refs + 1
+          → ((named : ℕ) (shared : List (List ℕ)) (qs : List Process) (t : Tree) (x : Stood one_meaning named a shared qs) → IsMadeOf shared (process_at qs row) what t
+          → ProcStands x.is.test shared a.halves.mem a.halves.room.end (end_of a.halves) named p (process_at qs row)
+          → IsFree x.is.test a.halves.room.top (a.halves.room.top + used) → Makes named shared qs x t)
+          → Gains one_meaning row s what a (of_halves a h2)
+      gains most each = record {
+        stays = keeps-replaced a h2 made-laid row (with_made p s.0 w made) p row-less is refl refl most uses.same_len refl refl (omega arith);
+        took = record { sweeps = refl; few = omega (arith, uses.moved, uses.same_end, few, words-fit) };
+        made = λ named shared qs t x m.
+            let k = each named shared qs t x m (row-said named shared qs x p is) (words-free named shared qs x used few) in
+            rw k.process (stood-by named (of_halves a h2) shared (set qs row (with_tree_made (process_at qs row) s.0 t k.refs)) (halves-stand named shared qs x t k.refs k.names k.same k.built));
+      }

@@ -1,5 +1,5 @@
 -- The first heap stands for the first state, and is whole.
-use Rattle.std.proofs.Common.{◌≡◌, ℕ, zero, suc, ◌<◌, ◌≤◌, ◌%◌, ◌/◌, Bool, false, List, [], ◌∷◌, ◌++◌, length, map, get_or, refl, sym, ◌∙◌, ap, subst, arith, inl}
+use Rattle.std.proofs.Common.{◌≡◌, ℕ, zero, suc, ◌<◌, ◌≤◌, ◌%◌, ◌/◌, Bool, false, List, [], ◌∷◌, ◌++◌, length, get_or, refl, sym, ◌∙◌, ap, arith, inl}
 use Rattle.std.proofs.lemmas.Bool.{false≢true}
 use Rattle.std.proofs.lemmas.List.{length-replicate}
 use Rattle.std.specs.Vec.{vec_len}
@@ -7,21 +7,16 @@ use Rattle.plain_term.specs.Tree.Tree.{Nil}
 use Rattle.plain_machine.specs.State.{first_state, fresh_process}
 use Rattle.numbered_rows.specs.Numbers.{numbers}
 use Rattle.term_words.specs.Object.{IsRecord}
-use Rattle.term_words.specs.Counted.{In, total}
+use Rattle.term_words.specs.Counted.{total}
 use Rattle.shared_rec.proofs.Records.{record-first}
 use Rattle.record_move.specs.Copies.{record_words}
-use Rattle.store_image.specs.Image.{HoldsNothing, pieces_by_place}
 use Rattle.heaps_api.specs.Meaning.{Stood, no_process}
 use Rattle.process_verbs.specs.Verbs.{Holds, VerbsStand}
-use Rattle.process_verbs.specs.Listing.{image}
 use Rattle.process_verbs.specs.declared.verbs.Verbs.{Verbs}
-use Rattle.two_halves.specs.Stack.{AreApart}
-use Rattle.two_halves.specs.Halves.{HalvesStand, IsLaid, ProcsStand, RecordsStand, all_places, end_of, places_in, records_of}
-use Rattle.two_halves.specs.declared.table.Proc.{Proc}
+use Rattle.two_halves.specs.Halves.{HalvesStand, IsLaid, RecordsStand, end_of, places_in, records_of}
 use Rattle.two_halves.proofs.Standing.Apart.{apart-more}
-use Rattle.one_space.specs.Heap.{AreWholeHalves, HaveMade, number_in, one_meaning}
-use Rattle.one_space.specs.Image.{record_piece}
-use Rattle.one_space.specs.Space.{AllFree, IsFirstHeap}
+use Rattle.one_space.specs.Heap.{AreWholeHalves, number_in, one_meaning}
+use Rattle.one_space.specs.Space.{IsFirstHeap}
 use Rattle.one_space.specs.declared.heap.OneHeap.{OneHeap}
 use Rattle.one_space.proofs.Processes.Changing.{fresh-stands}
 
@@ -50,9 +45,6 @@ fresh-registers (suc row) less = absurd (omega (arith, less))
 module _ (words : ℕ) (h : OneHeap) (f : IsFirstHeap words h) where
   first-halves : HalvesStand 0 h.halves [] (fresh_process 1 ∷ [])
   first-halves =
-      let P : List Proc → Type 0 = λ x. ProcsStand never [] h.halves.mem h.halves.room.end (end_of h.halves) 0 x (fresh_process 1 ∷ []) in
-      let B : List ℕ → Type 0 = λ x. RecordsStand never h.halves.mem [] x h.halves.funs.items in
-      let F : List ℕ → Type 0 = λ x. RecordsStand never h.halves.mem [] [] x in
       record {
         test = never;
         single = record { one = λ a j k x y. absurd (false≢true x) };
@@ -62,10 +54,10 @@ module _ (words : ℕ) (h : OneHeap) (f : IsFirstHeap words h) where
         links = record { chain = f.head; once = tt; each = λ q i. absurd i; beside = λ q i. absurd i; counts = λ v n there. absurd (no-record h.halves.mem v n there) };
         inside = λ q i. absurd i;
         every = λ q e. absurd (false≢true e);
-        records = subst B (sym f.bins) (subst F (sym f.funs) (none-listed h.halves.mem));
-        fun_names = λ v i. absurd (let I : List ℕ → Type 0 = λ z. In v z in subst I f.funs i);
-        processes = subst P (sym f.rows) (fresh-stands never [] h.halves.mem 0 h.halves.room.end (end_of h.halves) f.row 1 f.number f.registers f.flat f.waiting f.none, tt);
-        apart = let A : List Proc → Type 0 = λ x. AreApart (all_places h.halves.mem x) in subst A (sym f.rows) (apart-more h.halves.mem [] f.row f.flat f.waiting tt);
+        records = rw (f.bins, f.funs) (none-listed h.halves.mem);
+        fun_names = λ v i. absurd (rw f.funs at i);
+        processes = rw f.rows (fresh-stands never [] h.halves.mem 0 h.halves.room.end (end_of h.halves) f.row 1 f.number f.registers f.flat f.waiting f.none, tt);
+        apart = rw f.rows (apart-more h.halves.mem [] f.row f.flat f.waiting tt);
       }
 
   first-stood : Stood one_meaning 0 h [] (fresh_process 1 ∷ [])
@@ -96,20 +88,19 @@ module _ (words : ℕ) (h : OneHeap) (f : IsFirstHeap words h) where
 
     whole-first : AreWholeHalves 0 h
     whole-first =
-        let S : List Proc → Type 0 = λ x. HaveMade 0 x in
         record {
           laid = laid-first;
           places = f.places;
           spares = omega (arith, f.spare, ap length f.rows);
           boxes = f.boxes;
           counted = omega (arith, f.sweeps);
-          made = subst S (sym f.rows) (omega (arith, f.none), tt);
+          made = rw f.rows (omega (arith, f.none), tt);
           bins = omega (arith, half-is, f.bins_room);
           funs = omega (arith, half-is, f.funs_room);
         }
 
     -- The verbs over it.
-    module _ (b : Verbs OneHeap) (is : b.heaps ≡ h) (row : vec_len b.row ≡ 4096) (next : b.next ≡ 2) (serials : b.serials ≡ 0) (named : b.named ≡ 0) (calls : b.calls ≡ 0)
+    module _ (b : Verbs OneHeap) (is : b.heaps ≡ h) (row : vec_len b.scratch ≡ 4096) (next : b.next ≡ 2) (serials : b.serials ≡ 0) (named : b.named ≡ 0) (calls : b.calls ≡ 0)
         (swept : b.swept ≡ false) where
       numbers-first : numbers number_in b.heaps.halves.procs.items ≡ 1 ∷ []
       numbers-first = ap (λ x. numbers number_in x.halves.procs.items) is ∙ first-stood.rows

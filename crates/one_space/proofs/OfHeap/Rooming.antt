@@ -4,7 +4,7 @@ use Rattle.std.proofs.Math.Decide.{dec_le}
 use Rattle.std.proofs.lemmas.Bool.{leb-false, leb-true}
 use Rattle.std.proofs.lemmas.List.{length-map}
 use Rattle.plain_machine.specs.State.{Process, State}
-use Rattle.two_halves.specs.Halves.{IsLaid, free_in}
+use Rattle.two_halves.specs.Halves.{free_in}
 use Rattle.two_halves.specs.Reached.{ChainReached}
 use Rattle.two_halves.specs.Collecting.{CanCollect, Collects, LooksFor, MakesRoom}
 use Rattle.two_halves.specs.declared.halves.Halves.{Halves}
@@ -13,13 +13,9 @@ use Rattle.heaps_api.specs.Changing.{CollectsRows, KeepsRows, Looks}
 use Rattle.heaps_api.specs.Wanted.{HasWantedRow, words_of_want}
 use Rattle.heaps_api.specs.declared.wanted.Want.{Want}
 use Rattle.heaps_api.specs.declared.wanted.Want.TheVariants as want
-use Rattle.one_space.specs.Heap.{looked_for, one_meaning}
+use Rattle.one_space.specs.Heap.{IsCollected, looked_for, one_meaning}
 use Rattle.one_space.specs.declared.heap.OneHeap.{OneHeap}
-use Rattle.one_space.proofs.OfHeap.Keeping.{keeps-rows, made-collected, made-still, numbers-collected}
-
--- The memory with other halves.
-abbrev pub with_halves : OneHeap → Halves → OneHeap
-with_halves a h = record { halves = h; spare = a.spare }
+use Rattle.one_space.proofs.OfHeap.Keeping.{keeps-rows, keeps-same, made-collected, numbers-collected, of_halves}
 
 -- No more words are looked for than a line asks for, and less of those that a half never uses where a process is made.
 pub at-most : (w : Want) → looked_for w ≤ words_of_want w
@@ -41,42 +37,37 @@ module _ (a : OneHeap) (x : CanAsk one_meaning a) where
 module _ (a : OneHeap) where
   -- What a collection does.
   module _ (h : Halves) (c : Collects a.halves h) where
-    pub keeps-collected : KeepsRows one_meaning a (with_halves a h)
+    pub keeps-collected : KeepsRows one_meaning a (of_halves a h)
     keeps-collected =
-        keeps-rows a (with_halves a h) c.laid c.same_len refl c.capacity (numbers-collected a.halves.procs.items h.procs.items c.rows)
+        keeps-rows a (of_halves a h) c.laid c.same_len refl c.capacity (numbers-collected a.halves.procs.items h.procs.items c.rows)
         (made-collected a.halves.procs.items h.procs.items c.rows) c.bins c.funs (omega (arith, c.counted))
 
-    pub stood-collected : (named : ℕ) (shared : List (List ℕ)) (qs : List Process) → Stood one_meaning named a shared qs → Stood one_meaning named (with_halves a h) shared qs
+    pub stood-collected : (named : ℕ) (shared : List (List ℕ)) (qs : List Process) → Stood one_meaning named a shared qs → Stood one_meaning named (of_halves a h) shared qs
     stood-collected named shared qs x = record {
       is = c.stands named shared qs x.is;
       rows = numbers-collected a.halves.procs.items h.procs.items c.rows ∙ x.rows;
       registers = x.registers;
     }
 
-    pub collects-rows : (all : Bool) → CollectsRows one_meaning all a (with_halves a h)
+    pub is-collected : IsCollected a (of_halves a h)
+    is-collected = record { once = c.counted; reached = c.reached }
+
+    pub collects-rows : (all : Bool) → CollectsRows one_meaning all a (of_halves a h)
     collects-rows all = record {
       stays = keeps-collected;
-      collected = record { once = c.counted; reached = c.reached };
       kept = stood-collected;
       tidy = λ e. c.chained;
     }
 
   -- What looking for room does.
   module _ (w : Want) (h : Halves) (found : Bool) (room : MakesRoom (looked_for w) a.halves h found) where
-    laid-same : h ≡ a.halves → IsLaid a.halves
-    laid-same e = rw (sym e) room.laid
-
     same-or-collected : (h ≡ a.halves) ⊎ Collects a.halves h
     same-or-collected = elim (dec_le (looked_for w) (free_in a.halves)) [ yes there ↦ inl (room.idle there) | no few ↦ inr (room.collects (omega arith)) ]
 
-    same-keeps : h ≡ a.halves → KeepsRows one_meaning a (with_halves a h)
-    same-keeps e =
-        rw e (keeps-rows a a (laid-same e) refl refl refl refl (made-still a.halves.procs.items) refl refl (omega arith))
+    pub looks-keeps : KeepsRows one_meaning a (of_halves a h)
+    looks-keeps = elim same-or-collected [ inl e ↦ rw e (keeps-same a (rw (sym e) room.laid)) | inr c ↦ keeps-collected h c ]
 
-    pub looks-keeps : KeepsRows one_meaning a (with_halves a h)
-    looks-keeps = elim same-or-collected [ inl e ↦ same-keeps e | inr c ↦ keeps-collected h c ]
-
-    stood-looked : (named : ℕ) (shared : List (List ℕ)) (qs : List Process) → Stood one_meaning named a shared qs → Stood one_meaning named (with_halves a h) shared qs
+    stood-looked : (named : ℕ) (shared : List (List ℕ)) (qs : List Process) → Stood one_meaning named a shared qs → Stood one_meaning named (of_halves a h) shared qs
     stood-looked named shared qs x = record { is = room.stands named shared qs x.is; rows = looks-keeps.rows ∙ x.rows; registers = x.registers }
 
     some-missed : found ≡ false → free_in h < looked_for w
@@ -95,7 +86,7 @@ module _ (a : OneHeap) where
         by (want.Message row size) has s named x = inl (omega arith, omega (arith, has, ap length x.rows, length-map s.processes (λ (q : Process). q.number)))
         by want.Process has s named x = inr (omega arith)
 
-    pub looks-so : HasWantedRow w (one_meaning.numbers a) → Looks one_meaning w a (with_halves a h) found
+    pub looks-so : HasWantedRow w (one_meaning.numbers a) → Looks one_meaning w a (of_halves a h) found
     looks-so has = record {
       stays = looks-keeps;
       looked = room;

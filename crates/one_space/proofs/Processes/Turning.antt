@@ -1,5 +1,5 @@
 -- One row is changed: a register is written, a stack grows or shrinks.
-use Rattle.std.proofs.Common.{◌≡◌, ℕ, zero, suc, ◌+◌, ◌-◌, ◌<◌, ◌≤◌, ◌⊎◌, Bool, true, List, [], ◌∷◌, length, get_or, set, refl, sym, ◌∙◌, ap, subst, arith}
+use Rattle.std.proofs.Common.{◌≡◌, ℕ, zero, suc, ◌+◌, ◌-◌, ◌<◌, ◌≤◌, ◌⊎◌, Bool, true, List, [], ◌∷◌, length, get_or, set, refl, sym, ◌∙◌, ap, arith}
 use Rattle.std.proofs.lemmas.List.{get_or-set_other, get_or-set_same, length-set}
 use Rattle.plain_term.specs.Tree.{Tree}
 use Rattle.plain_machine.specs.State.{Process, register, with_register}
@@ -10,7 +10,8 @@ use Rattle.two_halves.specs.Halves.{ProcStands, ProcsStand}
 use Rattle.term_order.specs.Held.{HoldTrees, HoldsTree}
 use Rattle.two_halves.specs.declared.table.Proc.{Proc}
 use Rattle.two_halves.proofs.Queued.Queuing.{row-at, row-set}
-use Rattle.one_space.proofs.Processes.Changing.{held-at, held-set, no_process}
+use Rattle.heaps_api.specs.Meaning.{no_process}
+use Rattle.heaps_api.proofs.Holding.{held-at, held-set}
 use Rattle.two_halves.proofs.Standing.Keeping.{proc-on, procs-on}
 use Rattle.two_halves.proofs.Standing.Stacks.{AreKept}
 use Rattle.two_halves.specs.Stack.{AreApart}
@@ -18,9 +19,17 @@ use Rattle.two_halves.specs.Halves.{all_places}
 use Rattle.two_halves.proofs.Standing.Apart.{apart-kept, apart-pushed}
 use Rattle.two_halves.proofs.Standing.Held.{have-stacks}
 
+-- A row with another word in a register, and so many references made.
+abbrev pub with_made : Proc → (r w refs : ℕ) → Proc
+with_made p r w refs = record { number = p.number; regs = set p.regs r w; stack = p.stack; depth = p.depth; queue = p.queue; last = p.last; waiting = p.waiting; refs = refs }
+
+-- A process with another tree in a register, and so many references made.
+abbrev pub with_tree_made : Process → (r : ℕ) → Tree → (refs : ℕ) → Process
+with_tree_made q r t refs = record (with_register r t q) { refs = refs }
+
 -- A row with another word in a register.
 abbrev pub with_word : Proc → ℕ → ℕ → Proc
-with_word p r w = record { number = p.number; regs = set p.regs r w; stack = p.stack; depth = p.depth; queue = p.queue; last = p.last; waiting = p.waiting; refs = p.refs }
+with_word p r w = with_made p r w p.refs
 
 -- A row with another stack.
 abbrev pub with_stack : Proc → (stack depth : ℕ) → Proc
@@ -29,13 +38,12 @@ with_stack p stack depth = record { number = p.number; regs = p.regs; stack = st
 module _ (c : ℕ → ℕ → Bool) (shared : List (List ℕ)) (mem : List ℕ) (low limit named : ℕ) (ps : List Proc) (qs : List Process) (i : ℕ) (p : Proc) (less : i < length ps) (is : p ≡ get_or ps i p)
     (s : ProcsStand c shared mem low limit named ps qs) where
   pub row-stands : ProcStands c shared mem low limit named p (get_or qs i no_process)
-  row-stands =
-      let P : Proc → Type 0 = λ z. ProcStands c shared mem low limit named z (get_or qs i no_process) in
-      subst P (sym is) (row-at c shared mem low limit named ps qs i p no_process less s)
+  row-stands = rw is (row-at c shared mem low limit named ps qs i p no_process less s)
 
-  pub register-set : (r w : ℕ) (t : Tree) → HoldsTree c shared mem named w t
-      → ProcsStand c shared mem low limit named (set ps i (with_word p r w)) (set qs i (with_register r t (get_or qs i no_process)))
-  register-set r w t h = row-set c shared mem low limit named ps qs i (with_word p r w) (with_register r t (get_or qs i no_process)) s (record {
+  -- Another word in a register, and so many references made.
+  pub register-made : (r w made refs : ℕ) (t : Tree) → HoldsTree c shared mem named w t → refs ≡ made
+      → ProcsStand c shared mem low limit named (set ps i (with_made p r w made)) (set qs i (with_tree_made (get_or qs i no_process) r t refs))
+  register-made r w made refs t h same = row-set c shared mem low limit named ps qs i (with_made p r w made) (with_tree_made (get_or qs i no_process) r t refs) s (record {
     number = row-stands.number;
     count = length-set p.regs r w ∙ row-stands.count;
     registers = held-set c shared mem named p.regs ((get_or qs i no_process).registers) r w t row-stands.registers h;
@@ -44,8 +52,12 @@ module _ (c : ℕ → ℕ → Bool) (shared : List (List ℕ)) (mem : List ℕ) 
     waits = row-stands.waits;
     queue = row-stands.queue;
     last = row-stands.last;
-    refs = row-stands.refs;
+    refs = same;
   })
+
+  pub register-set : (r w : ℕ) (t : Tree) → HoldsTree c shared mem named w t
+      → ProcsStand c shared mem low limit named (set ps i (with_word p r w)) (set qs i (with_register r t (get_or qs i no_process)))
+  register-set r w t h = register-made r w p.refs (get_or qs i no_process).refs t h row-stands.refs
 
 -- A stack that is not empty.
 pub record TopOf (c : ℕ → ℕ → Bool) (shared : List (List ℕ)) (mem : List ℕ) (low limit named place depth : ℕ) (stack : List Tree) : Type 0 where
@@ -57,20 +69,14 @@ pub record TopOf (c : ℕ → ℕ → Bool) (shared : List (List ℕ)) (mem : Li
   pub places : IsStack c mem low limit (get_or mem (place + 1) 0) (depth - 1)
   pub within : place + 2 ≤ limit
 
-top-over : (c : ℕ → ℕ → Bool) (shared : List (List ℕ)) (mem : List ℕ) (low limit named place n depth : ℕ) (stack : List Tree) → n ≡ depth - 1 → IsStack c mem low limit place (suc n)
-    → HoldTrees c shared mem named (values mem place (suc n)) stack
-    → TopOf c shared mem low limit named place depth stack
-top-over c shared mem low limit named place n depth [] e s h = absurd h
-top-over c shared mem low limit named place n depth (t ∷ ts) e s h =
-    let P : ℕ → Type 0 = λ z. HoldTrees c shared mem named (values mem (get_or mem (place + 1) 0) z) ts in
-    let Q : ℕ → Type 0 = λ z. IsStack c mem low limit (get_or mem (place + 1) 0) z in
-    record { value = t; rest = ts; shape = refl; here = h.0; under = subst P e h.1; places = subst Q e s.1; within = s.0.below }
-
 pub top-of : (c : ℕ → ℕ → Bool) (shared : List (List ℕ)) (mem : List ℕ) (low limit named place depth : ℕ) (stack : List Tree) → (depth ≡ 0 → ⊥) → IsStack c mem low limit place depth
     → HoldTrees c shared mem named (values mem place depth) stack
     → TopOf c shared mem low limit named place depth stack
 top-of c shared mem low limit named place zero stack some s h = absurd (some refl)
-top-of c shared mem low limit named place (suc n) stack some s h = top-over c shared mem low limit named place n (suc n) stack (omega arith) s h
+top-of c shared mem low limit named place (suc n) [] some s h = absurd h
+top-of c shared mem low limit named place (suc n) (t ∷ ts) some s h =
+    let one : suc n - 1 ≡ n = omega arith in
+    record { value = t; rest = ts; shape = refl; here = h.0; under = rw one h.1; places = rw one s.1; within = s.0.below }
 
 -- An empty stack.
 pub none-held : (c : ℕ → ℕ → Bool) (shared : List (List ℕ)) (mem : List ℕ) (named place depth : ℕ) (stack : List Tree) → depth ≡ 0 → HoldTrees c shared mem named (values mem place depth) stack
@@ -90,15 +96,12 @@ module _ (c : ℕ → ℕ → Bool) (shared : List (List ℕ)) (mem : List ℕ) 
       → ProcsStand c shared mem low limit named (set ps i (with_stack (with_word p r w) u d)) (set qs i (record (with_register r top-here.value (get_or qs i no_process)) { stack = top-here.rest }))
   popped r w u d value below depth =
       let h = row-stands c shared mem low limit named ps qs i p less is s in
-      let P : ℕ → Type 0 = λ z. HoldsTree c shared mem named z top-here.value in
-      let Q : ℕ → ℕ → Type 0 = λ x y. HoldTrees c shared mem named (values mem x y) top-here.rest in
-      let R : ℕ → ℕ → Type 0 = λ x y. IsStack c mem low limit x y in
       row-set c shared mem low limit named ps qs i (with_stack (with_word p r w) u d) (record (with_register r top-here.value (get_or qs i no_process)) { stack = top-here.rest }) s (record {
         number = h.number;
         count = length-set p.regs r w ∙ h.count;
-        registers = held-set c shared mem named p.regs ((get_or qs i no_process).registers) r w top-here.value h.registers (subst P (sym value) top-here.here);
-        places = subst (R u) (sym depth) (let S : ℕ → Type 0 = λ z. R z (p.depth - 1) in subst S (sym below) top-here.places);
-        stack = subst (Q u) (sym depth) (let S : ℕ → Type 0 = λ z. Q z (p.depth - 1) in subst S (sym below) top-here.under);
+        registers = held-set c shared mem named p.regs ((get_or qs i no_process).registers) r w top-here.value h.registers (rw value top-here.here);
+        places = rw (depth, below) top-here.places;
+        stack = rw (depth, below) top-here.under;
         waits = h.waits;
         queue = h.queue;
         last = h.last;
@@ -157,11 +160,6 @@ module _ (c : ℕ → ℕ → Bool) (shared : List (List ℕ)) (mem : List ℕ) 
       let value : HoldsTree c shared mem2 named (get_or p.regs r 0) (register r (get_or qs i no_process)) = held-at c shared mem2 named p.regs ((get_or qs i no_process).registers) r
       (omega (arith, small, h.count)) h.registers in
       let one_more : suc p.depth ≡ p.depth + 1 = omega arith in
-      let P : ℕ → Type 0 = λ z. HoldsTree c shared mem2 named z (register r (get_or qs i no_process)) in
-      let Q : ℕ → Type 0 = λ z. HoldTrees c shared mem2 named (values mem2 z p.depth) ((get_or qs i no_process).stack) in
-      let R : ℕ → Type 0 = λ z. IsStack c mem2 (low - 2) limit z p.depth in
-      let S : ℕ → Type 0 = λ z. IsStack c mem2 (low - 2) limit (low - 2) z in
-      let T : ℕ → Type 0 = λ z. HoldTrees c shared mem2 named (values mem2 (low - 2) z) (register r (get_or qs i no_process) ∷ (get_or qs i no_process).stack) in
       row-set c shared mem2 (low - 2) limit named ps qs i (with_stack p (low - 2) (p.depth + 1))
       (record (get_or qs i no_process) { stack = register r (get_or qs i no_process) ∷ (get_or qs i no_process).stack })
       (procs-on c c shared mem mem2 named named low (low - 2) limit trees places (λ q k above below none. none k) (omega arith) ps qs s)
@@ -169,8 +167,8 @@ module _ (c : ℕ → ℕ → Bool) (shared : List (List ℕ)) (mem : List ℕ) 
         number = h.number;
         count = h.count;
         registers = h.registers;
-        places = subst S one_more (new-place, subst R (sym under-there) h.places);
-        stack = subst T one_more (subst P (sym value-there) value, subst Q (sym under-there) h.stack);
+        places = rw (sym one_more) (new-place, rw under-there h.places);
+        stack = rw (sym one_more) (rw value-there value, rw under-there h.stack);
         waits = h.waits;
         queue = h.queue;
         last = h.last;

@@ -1,5 +1,5 @@
 -- `mapput`: a register's map with a pair more, or none.
-use Rattle.std.proofs.Common.{◌≡◌, ℕ, ◌+◌, ◌*◌, ◌<◌, ◌≤◌, Bool, true, false, nat_lt, List, Some, Result, Ok, Err, refl, sym, ◌∙◌, ap, subst, arith, inl, length}
+use Rattle.std.proofs.Common.{◌≡◌, ℕ, ◌+◌, ◌*◌, ◌<◌, ◌≤◌, Bool, true, false, nat_lt, List, Some, Result, Ok, Err, refl, sym, ◌∙◌, ap, subst, arith, inl, length, true≢false, get_or, Option, None}
 use Rattle.std.proofs.lemmas.Bool.{both_ways}
 use Rattle.std.proofs.lemmas.Bool.Decides.{nat_tests}
 use Rattle.std.proofs.lemmas.Option.{same_Some}
@@ -19,42 +19,46 @@ use Rattle.term_verbs.specs.declared.pairs.Place.{Place}
 use Rattle.term_verbs.specs.declared.pairs.PutStop.{PutStop}
 use Rattle.term_verbs.specs.declared.pairs.PutStop.TheVariants as put
 use Rattle.term_verbs.specs.Found.{AreSorted}
-use Rattle.term_verbs.specs.Picked.{HasSorted}
+use Rattle.term_verbs.specs.Picked.{HasSorted, CanSeek, CanPick, HasKey, IsPart}
 use Rattle.term_verbs.specs.Placed.{PlaceFits, IsPlaceInMap, put_at_spot}
 use Rattle.term_verbs.proofs.Placing.{placed-count, placed-put}
 use Rattle.term_verbs.proofs.Sorted.{proper-sorted}
-use Rattle.plain_machine.specs.Parts.{pairs_in}
+use Rattle.plain_machine.specs.Parts.{pairs_in, picked}
 use Rattle.plain_machine.specs.State.{HasNames, Process, State, process_of, register, with_process, with_register}
-use Rattle.script_grammar.specs.Names.{IsRegister, Parsed}
-use Rattle.plain_machine.specs.Step.{does, put_unless_big, put_unless_wide}
+use Rattle.script_grammar.specs.Names.{IsRegister, Parsed, PicksRegister}
+use Rattle.plain_machine.specs.Step.{does, put_unless_big, put_unless_wide, put_into, choose}
 use Rattle.plain_machine.specs.Step.Outcome.{Refused}
-use Rattle.plain_machine.specs.Step.{put_into}
 use Rattle.plain_machine.specs.Tightness.{key_count}
 use Rattle.space_api.specs.Calls.{Properly, said}
 use Rattle.space_api.specs.declared.space.Seat.{Seat}
 use Rattle.term_words.specs.Role.{always}
-use Rattle.term_words.proofs.Framing.Rooms.{weaken}
-use Rattle.term_verbs.specs.Picked.{CanSeek}
+use Rattle.term_words.proofs.Framing.Rooms.{weaken, is-term}
 use Rattle.plain_term.specs.Proper.{is_proper}
 use Rattle.plain_machine.specs.Laws.{HoldsProper}
 use Rattle.plain_machine.proofs.Properly.Holding.{before, found-proper}
 use Rattle.plain_machine.proofs.Properly.Parts.{at-proper}
-use Rattle.heaps_api.specs.Meaning.{Meaning}
+use Rattle.heaps_api.specs.Meaning.{Meaning, HoldsThere}
 use Rattle.heaps_api.specs.Changing.{process_at}
 use Rattle.heaps_api.specs.declared.making.Make.{Make}
 use Rattle.heaps_api.specs.declared.making.Make.TheVariants as make
 use Rattle.heaps_api.specs.declared.wanted.Want.TheVariants as want
 use Rattle.script_grammar.specs.declared.refusal.Refusal.{Refusal}
+use Rattle.heaps_api.proofs.Naming.{named-more}
+use Rattle.script_grammar.specs.declared.command.Pick.{Pick}
+use Rattle.script_grammar.specs.declared.command.Pick.TheVariants as pick
+use Rattle.script_grammar.specs.declared.refusal.Refusal.TheVariants.{BadArg}
+use Rattle.term_words.proofs.Placing.Single.{single}
+use Rattle.term_read.specs.Parts.{AnswersPart}
+use Rattle.heaps_api.proofs.Holding.{held-at as held-in}
+use Rattle.heaps_api.specs.Reading.{AreRegisters}
 use Rattle.process_verbs.specs.Verbs.{Holds, Sits, VerbsStand}
-use Rattle.process_verbs.specs.Asked.{HasMade, MakesTerm}
-use Rattle.process_verbs.specs.Doing.{AsksUnless, DoesBy, refusal_of_put}
+use Rattle.process_verbs.specs.Asked.{HasMade, MakesTerm, HoldsSome, PutsInto}
+use Rattle.process_verbs.specs.Doing.{AsksUnless, DoesBy, refusal_of_put, takes_part}
 use Rattle.process_verbs.specs.Telling.{IsHeld}
 use Rattle.process_verbs.specs.declared.verbs.Verbs.{Verbs}
-use Rattle.process_verbs.proofs.Processes.Seated.{found-there}
+use Rattle.process_verbs.proofs.Processes.{found-there}
 use Rattle.process_verbs.proofs.Steps.{at-seat}
-use Rattle.process_verbs.proofs.Bringing.Cutting.{held-at, stands-at}
-use Rattle.process_verbs.proofs.Bringing.Doing.{made-unless}
-use Rattle.heaps_api.proofs.Naming.{named-more}
+use Rattle.process_verbs.proofs.Bringing.Gaining.{held-at, made-unless, stands-at}
 
 is-many : (n : ℕ) → MOST_KEYS < n → nat_lt MOST_KEYS n ≡ true
 is-many n many = grind (arith, nat_tests)
@@ -136,7 +140,7 @@ module _ {H : Type 0} (m : Meaning H) (b : Verbs H) (holds : Holds m b) (seat : 
       at-proper names s.shared q.registers a ((found-proper names s.shared seat.pid s.processes q live.held live.within (found-there m b s o holds.counts seat x)).registers)
 
   module _ (mem : List ℕ) (mem_is : mem ≡ m.mem b.heaps) (r a k v : Reg)
-      (w : ℕ) (word : (s : State) (o : VerbsStand m b s) → IsHeld m b s o seat.pid a w) (j : ℕ) (key : (s : State) (o : VerbsStand m b s) → IsHeld m b s o seat.pid k j)
+      (w : ℕ) (word : (s : State) (o : VerbsStand m b s) → IsHeld m b s o seat a w) (j : ℕ) (key : (s : State) (o : VerbsStand m b s) → IsHeld m b s o seat k j)
       (names : List (List ℕ)) where
     -- The verb, and its line.
     abbrev put_verb : Verb
@@ -154,7 +158,7 @@ module _ {H : Type 0} (m : Meaning H) (b : Verbs H) (holds : Holds m b) (seat : 
         let s : State = holds.state in
         let o : VerbsStand m b s = holds.stands in
         let q : Process = seated_in s in
-        let c : ℕ → ℕ → Bool = m.test b.named b.heaps s.shared s.processes o.processes.is in
+        let c : ℕ → ℕ → Bool = m.test b.named b.heaps s.shared s.processes o.processes.is seat.row in
         record {
           shared = s.shared;
           tree = register a.0 q;
@@ -173,7 +177,7 @@ module _ {H : Type 0} (m : Meaning H) (b : Verbs H) (holds : Holds m b) (seat : 
         (is_place : (c : ℕ → ℕ → Bool) (shared : List (List ℕ)) (t u : Tree) → Stands c shared mem w t → Stands c shared mem j u → IsPlaceInMap names shared t u result) where
       place-there : (s : State) (o : VerbsStand m b s) → IsPlaceInMap names s.shared (register a.0 (seated_in s)) (register k.0 (seated_in s)) result
       place-there s o =
-          is_place (m.test b.named b.heaps s.shared s.processes o.processes.is) s.shared (register a.0 (seated_in s)) (register k.0 (seated_in s))
+          is_place (m.test b.named b.heaps s.shared s.processes o.processes.is seat.row) s.shared (register a.0 (seated_in s)) (register k.0 (seated_in s))
           (stands-at m b holds seat x a w word mem mem_is s o) (stands-at m b holds seat x k j key mem mem_is s o)
 
       -- No pair is put.
@@ -182,8 +186,7 @@ module _ {H : Type 0} (m : Meaning H) (b : Verbs H) (holds : Holds m b) (seat : 
         holds = holds;
         becomes = λ s terms h has.
             let q : Process = seated_in s in
-            let T : Result Place PutStop → Type 0 = λ z. IsPlaceInMap names s.shared (register a.0 q) (register k.0 q) z in
-            let by = put-stops (register k.0 q) (register v.0 q) s (line_of terms) q r.0 (register a.0 q) e (sorted-there s h has) (subst T stop_is (place-there s h.0)) in
+            let by = put-stops (register k.0 q) (register v.0 q) s (line_of terms) q r.0 (register a.0 q) e (sorted-there s h has) (rw stop_is at place-there s h.0) in
             inl (rw (at-seat m b holds seat x put_verb s h.0 terms names, by) (refl, h.0));
         books = record { same_words = refl; one_call = omega arith; few_names = omega arith };
       })
@@ -191,8 +194,7 @@ module _ {H : Type 0} (m : Meaning H) (b : Verbs H) (holds : Holds m b) (seat : 
       module _ (place : Place) (place_is : result ≡ Ok place) (registers : IsRegister a × (IsRegister k × IsRegister v)) where
         pairs-there : (s : State) (o : VerbsStand m b s) → HasPairs names s.shared (register a.0 (seated_in s)) (register k.0 (seated_in s)) place
         pairs-there s o =
-            let T : Result Place PutStop → Type 0 = λ z. IsPlaceInMap names s.shared (register a.0 (seated_in s)) (register k.0 (seated_in s)) z in
-            has-pairs names s.shared (register a.0 (seated_in s)) (register k.0 (seated_in s)) place (subst T place_is (place-there s o))
+            has-pairs names s.shared (register a.0 (seated_in s)) (register k.0 (seated_in s)) place (rw place_is at place-there s o)
 
         abbrev made : Make
         made = make.Pair a place k v
@@ -232,6 +234,115 @@ module _ {H : Type 0} (m : Meaning H) (b : Verbs H) (holds : Holds m b) (seat : 
             → AsksUnless {A = Unit {0}} m (want.Words seat.row (6 + 2 * key_count (register a.0 q)) 0) b c res
         put-asks c res f s q o found =
             let same : seated_in s ≡ q = same_Some (seated_in s) q (sym (found-there m b s o holds.counts seat x) ∙ found) in
-            let P : Process → Type 0 = λ z. 6 + 2 * place.keys ≡ 6 + 2 * key_count (register a.0 z) in
-            let N : ℕ → Type 0 = λ z. AsksUnless {A = Unit {0}} m (want.Words seat.row z 0) b c res in
-            subst N (subst P same (sym (put-words s o))) (made-unless m b holds seat x r made c res f)
+            rw (← same, put-words s o) (made-unless m b holds seat x r made c res f)
+
+-- `hd`, `tl`, `elem` and `mapget`: the part that is picked in a register, or there is none.
+
+-- What an answer says of the part.
+no-part : (c : ℕ → ℕ → Bool) (shared : List (List ℕ)) (mem : List ℕ) (o : Option Tree) → AnswersPart c shared mem o None → o ≡ None
+no-part c shared mem None a = refl
+no-part c shared mem (Some t) a = absurd (let e : None ≡ Some a.0 = a.1 in cc)
+
+record SomePart (c : ℕ → ℕ → Bool) (shared : List (List ℕ)) (mem : List ℕ) (o : Option Tree) (w : ℕ) : Type 0 where
+  tree : Tree
+  is : o ≡ Some tree
+  standing : Stands c shared mem w tree
+
+some-part : (c : ℕ → ℕ → Bool) (shared : List (List ℕ)) (mem : List ℕ) (o : Option Tree) (w : ℕ) → AnswersPart c shared mem o (Some w) → SomePart c shared mem o w
+some-part c shared mem None w a = absurd (let e : Some w ≡ None = a in cc)
+some-part c shared mem (Some t) w a =
+    let same : w ≡ a.0 = same_Some w a.0 a.1 in
+    record { tree = t; is = refl; standing = rw same a.2 }
+
+module _ {H : Type 0} (m : Meaning H) (b : Verbs H) (holds : Holds m b) (seat : Seat) (x : Sits m b seat) (r a : Reg) (how : Pick) (small : a.0 < 16) (key : PicksRegister how)
+    (whole : takes_part how ≡ false) (regs : List ℕ) (are : AreRegisters m seat.row b.heaps regs) (mem : List ℕ) (mem_is : mem ≡ m.mem b.heaps)
+    (names : List (List ℕ)) (more : b.named ≤ length names) where
+  -- The verb.
+  abbrev v : Verb
+  v = verb.Choose r a how
+
+  abbrev q_in : State → Process
+  q_in s = process_at s.processes seat.row
+
+  abbrev test_in : (s : State) → VerbsStand m b s → ℕ → ℕ → Bool
+  test_in s o = m.test b.named b.heaps s.shared s.processes o.processes.is seat.row
+
+  reg-held : (s : State) (o : VerbsStand m b s) (i : ℕ) → i < 16 → HoldsThere m b.named b.heaps s.shared s.processes o.processes seat.row (get_or regs i 0) (register i (q_in s))
+  reg-held s o i less =
+      held-in (test_in s o) s.shared (m.mem b.heaps) b.named regs (q_in s).registers i (omega (arith, less, are.count)) (are.hold b.named s.shared s.processes o.processes)
+
+  reg-stands : (s : State) (o : VerbsStand m b s) (i : ℕ) → i < 16 → Stands (test_in s o) s.shared mem (get_or regs i 0) (register i (q_in s))
+  reg-stands s o i less = rw mem_is (reg-held s o i less).standing
+
+  seeks : (k : ℕ) → k < 16 → CanSeek mem names (get_or regs a.0 0) (get_or regs k 0)
+  seeks k less =
+      let s : State = holds.state in
+      let o : VerbsStand m b s = holds.stands in
+      record {
+        shared = s.shared;
+        tree = register a.0 (q_in s);
+        sought = register k (q_in s);
+        standing = (weaken (test_in s o) always mem (λ i n e. refl)).each s.shared (get_or regs a.0 0) (register a.0 (q_in s)) (reg-stands s o a.0 small);
+        key_stands = (weaken (test_in s o) always mem (λ i n e. refl)).each s.shared (get_or regs k 0) (register k (q_in s)) (reg-stands s o k less);
+        named = named-more b.named (length names) more (register a.0 (q_in s)) (reg-held s o a.0 small).names;
+        key_named = named-more b.named (length names) more (register k (q_in s)) (reg-held s o k less).names;
+      }
+
+  pub can-pick : CanPick mem names regs (get_or regs a.0 0) how
+  can-pick = by how key whole
+    where
+      by : (h : Pick) → PicksRegister h → takes_part h ≡ false → CanPick mem names regs (get_or regs a.0 0) h
+      by (pick.Part offset len) few all = absurd (true≢false all)
+      by (pick.MapGet k) few all = (omega (arith, few, are.count), seeks k.0 few)
+      by _ few all = is-term (test_in holds.state holds.stands) holds.state.shared mem (get_or regs a.0 0) (register a.0 (q_in holds.state)) (reg-stands holds.state holds.stands a.0 small)
+
+  -- The key of a register is its tree.
+  key-there : (s : State) (o : VerbsStand m b s) → HasKey (test_in s o) s.shared mem regs (q_in s) how
+  key-there s o = by how key
+    where
+      by : (h : Pick) → PicksRegister h → HasKey (test_in s o) s.shared mem regs (q_in s) h
+      by (pick.MapGet k) few = reg-stands s o k.0 few
+      by _ few = tt
+
+  module _ (found : Option ℕ)
+      (picks : (c : ℕ → ℕ → Bool) (shared : List (List ℕ)) (q : Process) (t : Tree) → Stands c shared mem (get_or regs a.0 0) t → HasKey c shared mem regs q how
+      → HasSorted names shared t → AnswersPart c shared mem (picked names shared q how t) found) where
+    -- What is answered of the tree of the register.
+    answer-there : (s : State) (h : Properly (VerbsStand m b) s) → HasNames s names
+        → AnswersPart (test_in s h.0) s.shared mem (picked names s.shared (q_in s) how (register a.0 (q_in s))) found
+    answer-there s h has =
+        picks (test_in s h.0) s.shared (q_in s) (register a.0 (q_in s)) (reg-stands s h.0 a.0 small) (key-there s h.0)
+        (proper-sorted names s.shared (register a.0 (q_in s)) (proper-at m b holds seat x s h.0 names h.1 has a.0))
+
+    pub choose-refused : found ≡ None → DoesBy {A = Unit {0}} m names (OfProcess seat.pid v) b b (Err BadArg)
+    choose-refused none = record {
+      holds = holds;
+      becomes = λ s terms h has.
+          let part : Option Tree = picked names s.shared (q_in s) how (register a.0 (q_in s)) in
+          let gone : part ≡ None = no-part (test_in s h.0) s.shared mem part (rw none at answer-there s h has) in
+          inl (rw (at-seat m b holds seat x v s h.0 terms names, ap (λ z. choose z s (said (OfProcess seat.pid v) terms names) (q_in s) r.0) gone) (refl, h.0));
+      books = record { same_words = refl; one_call = omega arith; few_names = omega arith };
+    }
+
+    module _ (w : ℕ) (is : found ≡ Some w)
+        (is_part : (c : ℕ → ℕ → Bool) (shared : List (List ℕ)) (t : Tree) → Stands c shared mem (get_or regs a.0 0) t → IsPart c shared mem t w) where
+      -- The word holds a part of the register's tree.
+      pub part-held : (s : State) (o : VerbsStand m b s) → HoldsSome m b seat.row w s o
+      part-held s o =
+          let part = is_part (test_in s o) s.shared (register a.0 (q_in s)) (reg-stands s o a.0 small) in
+          let P : List ℕ → Type 0 = λ z. Stands (test_in s o) s.shared z w part.tree in
+          record { tree = part.tree; held = record { standing = subst P mem_is part.standing; names = part.named b.named (reg-held s o a.0 small).names } }
+
+      pub choose-does : (c : Verbs H) → PutsInto m seat r w b c → DoesBy {A = Unit {0}} m names (OfProcess seat.pid v) b c (Ok tt)
+      choose-does c f = record {
+        holds = f.holds;
+        becomes = λ s terms h has.
+            let part : Option Tree = picked names s.shared (q_in s) how (register a.0 (q_in s)) in
+            let here = some-part (test_in s h.0) s.shared mem part w (rw is at answer-there s h has) in
+            let other = part-held s h.0 in
+            let P : List ℕ → Type 0 = λ z. Stands (test_in s h.0) s.shared z w here.tree in
+            let same : other.tree ≡ here.tree = single (test_in s h.0) (test_in s h.0) s.shared s.shared (m.mem b.heaps) w other.tree here.tree other.held.standing
+            (subst P mem_is here.standing) in
+            inl (f.follows s v terms names here.tree h.0 (rw same at other.held) (ap (λ z. choose z s (said (OfProcess seat.pid v) terms names) (q_in s) r.0) here.is));
+        books = f.books;
+      }

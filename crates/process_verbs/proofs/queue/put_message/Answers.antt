@@ -4,7 +4,7 @@ use Rattle.plain_term.specs.Text.{text}
 use Rattle.reply_text.specs.Texts.{divider}
 use Rattle.term_words.specs.Role.{always}
 use Rattle.text_parts.proofs.Writing.{written-after}
-use Rattle.process_verbs.proofs.Telling.Queuing.{said-at-once}
+use Rattle.process_verbs.proofs.Telling.{said-at-once}
 use Rattle.process_verbs.proofs.queue.put_message.Goals as goal
 
 pub returns : goal.returns

@@ -1,5 +1,5 @@
 use Rattle.std.proofs.Common.{length, ap, arith}
-use Rattle.process_verbs.proofs.Telling.Queuing.{come-more, come-none, come-short, here-printable}
+use Rattle.process_verbs.proofs.Telling.{come-more, come-none, come-short, here-printable}
 use Rattle.process_verbs.proofs.queue.put_messages.Goals as goal
 
 pub loop-i-init : goal.loop-i-init

@@ -1,5 +1,5 @@
 use Rattle.std.proofs.Common.{◌≡◌, ◌+◌, length}
-use Rattle.process_verbs.proofs.Telling.Queuing.{Comes}
+use Rattle.process_verbs.proofs.Telling.{Comes}
 use Rattle.process_verbs.proofs.queue.put_messages.Given as goal
 
 abbrev pub invariant-loop-i : goal.invariant-loop-i

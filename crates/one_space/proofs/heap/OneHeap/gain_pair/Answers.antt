@@ -1,4 +1,4 @@
-use Rattle.one_space.proofs.OfHeap.Pairing.{pair-gains, place-there}
+use Rattle.one_space.proofs.OfHeap.Gaining.{pair-gains, place-there}
 use Rattle.one_space.proofs.heap.OneHeap.gain_pair.Goals as goal
 
 pub map_with-w-requires-clause-map : goal.map_with-w-requires-clause-map

@@ -1,6 +1,5 @@
 use Rattle.std.proofs.Common.{arith}
-use Rattle.one_space.proofs.OfHeap.Putting.{bin-fits}
-use Rattle.one_space.proofs.OfHeap.Sharing.{bin-gains}
+use Rattle.one_space.proofs.OfHeap.Putting.{bin-fits, bin-gains}
 use Rattle.one_space.proofs.heap.OneHeap.put_bin.Goals as goal
 
 pub add_bin-w-requires-clause-laid : goal.add_bin-w-requires-clause-laid

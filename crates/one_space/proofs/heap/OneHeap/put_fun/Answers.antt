@@ -1,6 +1,5 @@
 use Rattle.std.proofs.Common.{length, take, arith}
-use Rattle.one_space.proofs.OfHeap.Funning.{fun-gains, fun-named}
-use Rattle.one_space.proofs.OfHeap.Putting.{fun-fits}
+use Rattle.one_space.proofs.OfHeap.Putting.{fun-fits, fun-gains, fun-named}
 use Rattle.one_space.proofs.heap.OneHeap.put_fun.Goals as goal
 
 pub add_fun-w-requires-clause-named : goal.add_fun-w-requires-clause-named

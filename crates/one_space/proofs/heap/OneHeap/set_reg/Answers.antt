@@ -1,4 +1,4 @@
-use Rattle.one_space.proofs.OfHeap.Setting.{puts-word}
+use Rattle.one_space.proofs.OfHeap.Acting.{puts-word}
 use Rattle.one_space.proofs.heap.OneHeap.set_reg.Goals as goal
 
 pub returns : goal.returns

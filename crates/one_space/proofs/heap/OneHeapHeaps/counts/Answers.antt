@@ -1,4 +1,4 @@
-use Rattle.one_space.proofs.OfHeap.Allowing.{can-tell}
+use Rattle.one_space.proofs.OfHeap.Counted.{can-tell}
 use Rattle.one_space.proofs.heap.OneHeapHeaps.counts.Goals as goal
 
 pub put_counts-requires : goal.put_counts-requires

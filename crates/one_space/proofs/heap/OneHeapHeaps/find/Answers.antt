@@ -1,5 +1,5 @@
 use Rattle.std.proofs.Common.{◌∙◌}
-use Rattle.one_space.proofs.OfHeap.Reading.{among-numbers}
+use Rattle.one_space.proofs.OfHeap.Keeping.{among-numbers}
 use Rattle.one_space.proofs.heap.OneHeapHeaps.find.Goals as goal
 
 pub returns-clause-among : goal.returns-clause-among

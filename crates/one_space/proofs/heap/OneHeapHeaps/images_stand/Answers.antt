@@ -1,5 +1,4 @@
-use Rattle.one_space.proofs.OfHeap.Allowing.{counts-allowed}
-use Rattle.one_space.proofs.OfHeap.Counted.{counts-imaged}
+use Rattle.one_space.proofs.OfHeap.Counted.{counts-allowed, counts-imaged}
 use Rattle.one_space.proofs.OfHeap.Imaged.{image-stands}
 use Rattle.one_space.proofs.heap.OneHeapHeaps.images_stand.Goals as goal
 

@@ -1,5 +1,5 @@
-use Rattle.one_space.proofs.OfHeap.Putting.{row-within}
-use Rattle.one_space.proofs.OfHeap.Sending.{sends-to}
+use Rattle.one_space.proofs.OfHeap.Keeping.{row-inside}
+use Rattle.one_space.proofs.OfHeap.Growing.{sends-to}
 use Rattle.one_space.proofs.heap.OneHeapHeaps.send.Goals as goal
 
 pub send-requires : goal.send-requires
@@ -13,7 +13,7 @@ send-requires c =
           shared = can.shared;
           processes = can.processes;
           stands = can.stood.is;
-          within = row-within c.args.self.now.halves.procs.items c.args.row c.requires.row;
+          within = row-inside c.args.self.now c.args.row c.requires.row;
         };
         tree = can.tree;
         held = can.held;

@@ -1,5 +1,5 @@
 use Rattle.std.proofs.Common.{◌∙◌}
-use Rattle.process_verbs.proofs.Spaces.Living.{lives}
+use Rattle.process_verbs.proofs.Processes.{lives}
 use Rattle.process_verbs.proofs.over.OverSpace.find.Goals as goal
 
 pub returns-in-Some-clause-lives : goal.returns-in-Some-clause-lives

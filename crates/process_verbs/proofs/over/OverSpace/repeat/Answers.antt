@@ -1,11 +1,5 @@
-use Rattle.script_grammar.specs.declared.command.Command.TheVariants.{Process}
-use Rattle.script_grammar.specs.declared.command.Verb.TheVariants as verb
-use Rattle.process_verbs.specs.Verbs.{VerbsStand}
-use Rattle.process_verbs.proofs.Spaces.Proper.{becomes-so}
+use Rattle.process_verbs.proofs.Spaces.{does-so}
 use Rattle.process_verbs.proofs.over.OverSpace.repeat.Goals as goal
 
 pub returns-clause-becomes : goal.returns-clause-becomes
-returns-clause-becomes g c = λ s terms names h has.
-    becomes-so g.H.Heaps.meaning c.self.inside.verbs c.args.self.now c.self.view_is (Process c.args.seat.pid (verb.Repeat c.args.r c.args.shape c.args.n c.args.s)) terms names s h has tt
-    c.repeat.result (VerbsStand g.H.Heaps.meaning c.repeat.new.self)
-    (λ o. c.repeat.ensures.does.becomes s terms names o)
+returns-clause-becomes g c = does-so c.self.view_is (λ terms names. tt) c.repeat.ensures.does

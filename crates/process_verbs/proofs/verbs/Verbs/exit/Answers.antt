@@ -1,5 +1,5 @@
 use Rattle.process_verbs.proofs.Steps.{ready}
-use Rattle.process_verbs.proofs.Moving.Ending.{exit-does}
+use Rattle.process_verbs.proofs.Moving.Living.{exit-does}
 use Rattle.process_verbs.proofs.verbs.Verbs.exit.Goals as goal
 
 pub exit-requires-clause-ready : goal.exit-requires-clause-ready

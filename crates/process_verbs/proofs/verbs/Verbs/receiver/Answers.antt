@@ -1,14 +1,9 @@
-use Rattle.process_verbs.proofs.Telling.Replies.{is-term}
-use Rattle.process_verbs.proofs.Moving.Hearing.{heard}
+use Rattle.process_verbs.proofs.Telling.{is-term}
+use Rattle.process_verbs.proofs.Moving.Sending.{heard}
 use Rattle.process_verbs.proofs.verbs.Verbs.receiver.Goals as goal
 
 pub look_at-requires : goal.look_at-requires
-look_at-requires g c =
-    let s = c.requires.holds.state in
-    let o = c.requires.holds.stands in
-    is-term g.H.Heaps.meaning c.args.self.now s o c.args.seat.pid c.in-Held.r c.word.result (c.word.ensures s o) c.mem.result.now c.mem.ensures
+look_at-requires g c = let h = c.requires.holds in is-term _ _ h.state h.stands _ _ _ (c.word.ensures h.state h.stands) _ c.mem.ensures
 
 pub returns-in-Held : goal.returns-in-Held
-returns-in-Held g c = λ s q o found.
-    heard g.H.Heaps.meaning c.args.self.now s o c.args.seat.pid c.in-Held.r c.word.result (c.word.ensures s o) c.mem.result.now c.mem.ensures q found c.look_at.result c.look_at.ensures.tree c.args.to
-    c.in-Held.is c.pid_seen.result c.pid_seen.ensures
+returns-in-Held g c = λ s q o found. heard _ _ s o _ c.in-Held.r _ (c.word.ensures s o) _ c.mem.ensures q found _ c.look_at.ensures.tree _ c.in-Held.is _ c.pid_seen.ensures

@@ -1,4 +1,4 @@
-use Rattle.process_verbs.proofs.Telling.Registers.{is-held}
+use Rattle.process_verbs.proofs.Telling.{is-held}
 use Rattle.process_verbs.proofs.verbs.Verbs.word.Goals as goal
 
 pub returns : goal.returns
