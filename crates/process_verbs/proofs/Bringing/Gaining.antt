@@ -1,4 +1,4 @@
--- A term is built or put in a register, or there is no space for it: what the shared steps of verbs leave.
+-- What a verb leaves that builds a term or puts a word in a register: the steps that they share, and `mktuple`, `mklist`, `self`, `fill` and `part`.
 use Rattle.std.proofs.Common.{◌≡◌, ℕ, ◌+◌, ◌*◌, ◌≤◌, Bool, true, false, true≢false, List, [], Result, Ok, Err, IsErrAnd, refl, sym, ◌∙◌, arith, inl, zero, suc, ◌^◌, ◌<◌, ◌||◌, nat_le, nat_lt, ◌∷◌, length, get_or, replicate, ap, ◌++◌, map, set, subst, Option, Some, None}
 use Rattle.plain_term.specs.Tree.{Tree, pairs_len}
 use Rattle.script_grammar.specs.declared.command.Command.TheVariants.{Process as OfProcess}

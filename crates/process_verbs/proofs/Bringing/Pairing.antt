@@ -1,4 +1,4 @@
--- `mapput`: a register's map with a pair more, or none.
+-- `mapput`, `hd`, `tl`, `elem` and `mapget`: a register's map with a pair more, and the part that is picked, or there is none.
 use Rattle.std.proofs.Common.{◌≡◌, ℕ, ◌+◌, ◌*◌, ◌<◌, ◌≤◌, Bool, true, false, nat_lt, List, Some, Result, Ok, Err, refl, sym, ◌∙◌, ap, subst, arith, inl, length, true≢false, get_or, Option, None}
 use Rattle.std.proofs.lemmas.Bool.{both_ways}
 use Rattle.std.proofs.lemmas.Bool.Decides.{nat_tests}
