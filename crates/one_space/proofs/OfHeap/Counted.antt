@@ -12,7 +12,8 @@ use Rattle.shared_rec.specs.Record.{count_in, owner_in}
 use Rattle.record_move.specs.Copies.{record_words}
 use Rattle.counts_text.specs.Told.{bin_of, by_name, counts_told, fun_of}
 use Rattle.counts_text.proofs.Entries.{bins-of-pieces, funs-of-pieces}
-use Rattle.two_halves.specs.Halves.{HalvesStand, IsBinOf, IsFunOf}
+use Rattle.record_tables.specs.Listed.{IsBinOf, IsFunOf}
+use Rattle.two_halves.specs.Halves.{HalvesStand}
 use Rattle.two_halves.specs.declared.halves.Halves.{Halves}
 use Rattle.one_space.specs.Image.{image_of, record_piece}
 use Rattle.one_space.proofs.OfHeap.Allowing.{can-tell}

@@ -16,7 +16,8 @@ use Rattle.process_verbs.specs.Verbs.{Holds, VerbsStand}
 use Rattle.process_verbs.specs.Listing.{image}
 use Rattle.process_verbs.specs.declared.verbs.Verbs.{Verbs}
 use Rattle.two_halves.specs.Stack.{AreApart}
-use Rattle.two_halves.specs.Halves.{HalvesStand, IsLaid, ProcsStand, RecordsStand, all_places, end_of, places_in, records_of}
+use Rattle.record_tables.specs.Listed.{RecordsStand}
+use Rattle.two_halves.specs.Halves.{HalvesStand, IsLaid, ProcsStand, all_places, end_of, places_in, records_of}
 use Rattle.two_halves.specs.declared.table.Proc.{Proc}
 use Rattle.two_halves.proofs.Standing.Apart.{apart-more}
 use Rattle.one_space.specs.Heap.{AreWholeHalves, HaveMade, number_in, one_meaning}
