@@ -2,7 +2,6 @@
 use Rattle.std.proofs.Common.{take, drop, if◌then◌else◌, Result, Ok, Err, ◌≡◌, ℕ, suc, replicate, ◌+◌, ◌-◌, ◌*◌, ◌/◌, ◌<◌, ◌≤◌}
 use Rattle.std.proofs.Common.{◌⊎◌, Bool, true, List, [], ◌∷◌, ◌++◌, length, get_or, refl, sym, ◌∙◌, ap, subst, arith, inl, inr}
 use Rattle.std.proofs.Math.Decide.{dec_le}
-use Rattle.std.proofs.lemmas.Bool.{cases_eq}
 use Rattle.std.proofs.lemmas.List.{length-replicate, get_or_push, take-append-drop}
 use Rattle.std.specs.List.{insert}
 use Rattle.std.specs.Result.{IsOk, is_ok}
@@ -14,7 +13,7 @@ use Rattle.term_words.specs.Role.{RECORD_FIRST, IsSingle}
 use Rattle.term_words.specs.Object.{IsBinRecord, IsFunRecord, IsRecord}
 use Rattle.term_words.specs.Kept.{Kept}
 use Rattle.term_words.specs.Counted.{In, total}
-use Rattle.term_words.proofs.Totals.Members.{both-total, in-at, in-left, in-right}
+use Rattle.term_words.proofs.Totals.Members.{both-total}
 use Rattle.term_build.specs.Taken.{IsFree, Lie, Taken, with_object}
 use Rattle.term_build.proofs.Taking.{with-object-single, with-object-taken, with-object-within}
 use Rattle.shared_rec.specs.Record.{WritesRecord, count_in, length_in, owner_in, record_roles}

@@ -1,5 +1,5 @@
 -- Lists that one place joins, owners that rise, and places of a table by their numbers.
-use Rattle.std.proofs.Common.{◌≡◌, ℕ, zero, suc, ◌+◌, ◌<◌, ◌≤◌, ◌⊎◌, List, [], ◌∷◌, ◌++◌, length, get_or, take, drop, refl, sym, ◌∙◌, ap, subst, arith, inl, inr}
+use Rattle.std.proofs.Common.{◌≡◌, ℕ, zero, suc, ◌+◌, ◌<◌, ◌≤◌, ◌⊎◌, List, [], ◌∷◌, ◌++◌, length, get_or, take, drop, refl, sym, ap, subst, arith, inl, inr}
 use Rattle.term_words.specs.Counted.{In, Distinct}
 use Rattle.term_words.proofs.Totals.Members.{both-distinct, in-both, in-left, in-right, in-at}
 use Rattle.shared_rec.specs.Record.{owner_in}
@@ -142,6 +142,7 @@ naming-none mem v (p ∷ os) none =
       | inl e ↦ absurd (none p (inl refl) e)
       | inr far ↦ omega (arith, no-naming (named mem p) v far, naming-none mem v os (λ q i. none q (inr i)))
     ]
+
 -- One step of halving.
 module _ (mem funs : List ℕ) (code m : ℕ) (rise : OwnersRise mem funs) (inside : m < length funs) where
   pub below-there : owner_in mem (get_or funs m 0) < code → (j : ℕ) → j < m + 1 → owner_in mem (get_or funs j 0) < code

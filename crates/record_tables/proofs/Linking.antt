@@ -1,5 +1,5 @@
 -- An object that names a record comes to words that have no role, and into the chain: all records are named then.
-use Rattle.std.proofs.Common.{◌≡◌, ℕ, ◌+◌, ◌/◌, ◌<◌, ◌≤◌, ◌⊎◌, Bool, true, List, [], ◌∷◌, ◌++◌, length, get_or, set, refl, sym, ◌∙◌, ◌-◌, ap, arith, inl, inr, length-set, get_or-set_other}
+use Rattle.std.proofs.Common.{◌≡◌, ℕ, ◌+◌, ◌/◌, ◌<◌, ◌≤◌, ◌⊎◌, Bool, true, List, [], ◌++◌, length, get_or, set, refl, ◌∙◌, ◌-◌, ap, arith, inl, inr, length-set, get_or-set_other}
 use Rattle.std.proofs.lemmas.Bool.{cases_eq}
 use Rattle.std.proofs.lemmas.Grind.{get_or-set_at}
 use Rattle.term_words.specs.Role.{COUNT, FIRST, NEXT, RECORD_FIRST, IsSingle}

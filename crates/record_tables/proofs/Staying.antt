@@ -1,9 +1,9 @@
 -- Records stand on, and tables list them, while the content of words stays.
-use Rattle.std.proofs.Common.{◌≡◌, ℕ, ◌+◌, ◌/◌, ◌<◌, ◌≤◌, ◌⊎◌, Bool, true, List, [], ◌∷◌, ◌++◌, length, get_or, refl, sym, ◌∙◌, ap, arith, inl, inr}
+use Rattle.std.proofs.Common.{◌≡◌, ℕ, ◌+◌, ◌/◌, ◌⊎◌, Bool, true, List, [], ◌++◌, length, get_or, refl, sym, ◌∙◌, ap, arith, inl, inr}
 use Rattle.std.proofs.lemmas.List.{append-nil, length-append}
 use Rattle.plain_term.specs.Bytes.{shared_bytes}
 use Rattle.plain_term.proofs.Known.{bytes-stay}
-use Rattle.term_words.specs.Role.{COUNT, NEXT, RECORD, RECORD_FIRST, OfObject, OfRecord}
+use Rattle.term_words.specs.Role.{COUNT, NEXT, RECORD, RECORD_FIRST, OfObject}
 use Rattle.term_words.specs.Object.{IsBinRecord, IsRecord}
 use Rattle.term_words.specs.Kept.{Kept}
 use Rattle.term_words.specs.Counted.{In, total}

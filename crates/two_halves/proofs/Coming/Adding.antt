@@ -1,6 +1,6 @@
 -- A record comes into a half, below all places and records.
-use Rattle.std.proofs.Common.{Vec, take, drop, ◌≡◌, ℕ, replicate, ◌+◌, ◌-◌, ◌*◌, ◌/◌, ◌<◌, ◌≤◌, ◌⊎◌, Bool, true, List, [], ◌∷◌, ◌++◌, length, get_or, refl, sym, ◌∙◌, arith, inl, inr}
-use Rattle.std.proofs.lemmas.List.{append-nil, get_or_default, length-append}
+use Rattle.std.proofs.Common.{Vec, take, drop, ◌≡◌, ℕ, replicate, ◌+◌, ◌*◌, ◌/◌, ◌<◌, ◌≤◌, ◌⊎◌, Bool, true, List, [], ◌∷◌, ◌++◌, length, get_or, refl, sym, ◌∙◌, arith, inl, inr}
+use Rattle.std.proofs.lemmas.List.{append-nil, length-append}
 use Rattle.std.specs.Vec.{vec_capacity}
 use Rattle.std.specs.declared.alloc.Global.{Global}
 use Rattle.word_mem.specs.declared.ranges.Room.{Room}
@@ -26,8 +26,7 @@ use Rattle.record_tables.specs.Listed.{IsBinOf, IsFunOf, NearlyStand}
 use Rattle.record_tables.specs.Spots.{IsSpot}
 use Rattle.record_tables.proofs.Staying.{nearly-stand, owner-stays}
 use Rattle.record_tables.proofs.Coming.{Written, bin-comes, bin-words as words-of-bin, found-fun, fun-comes, fun-words, kept2, last-bytes, links2, names-come, single2, spot-high, spot-low, taken}
-use Rattle.two_halves.specs.Stack.{AreApart}
-use Rattle.two_halves.specs.Halves.{HalvesStand, IsLaid, ProcsStand, all_places, end_of, front_of}
+use Rattle.two_halves.specs.Halves.{HalvesStand, IsLaid, ProcsStand, end_of, front_of}
 use Rattle.two_halves.specs.Adding.{Adds, HasBin, HasFun, Nearly}
 use Rattle.two_halves.specs.declared.halves.Halves.{Halves}
 use Rattle.two_halves.proofs.Standing.Apart.{apart-kept}
@@ -162,10 +161,10 @@ module _ (named_below : ℕ) (h : Halves) (shared : List (List ℕ)) (qs : List 
         near = nearly named_below h shared qs x laid n at next (omega arith) fits new w.writes more (bytes ∷ []) refl w.zero bins2 h.funs
             (rw bins_is (bin-comes x.test x.single h.mem new n at (omega arith) free-bin w.writes shared more (bytes ∷ []) refl h.bins.items h.funs.items x.records is (w.owner ∙ last)))
             (λ u i. omega (
-            arith,
-            owner-stays x.test e h.mem new (kept2 x.test x.single h.mem new n at (omega arith) free-bin w.writes) u (x.records.each_fun u i).is.second,
-            x.fun_names u i,
-          ));
+              arith,
+              owner-stays x.test e h.mem new (kept2 x.test x.single h.mem new n at (omega arith) free-bin w.writes) u (x.records.each_fun u i).is.second,
+              x.fun_names u i,
+            ));
         is = made;
       }
 

@@ -1,6 +1,6 @@
 -- An object that names a record comes into a half and its chain.
-use Rattle.std.proofs.Common.{◌==◌, if◌then◌else◌, ◌≡◌, ℕ, ◌+◌, ◌-◌, ◌/◌, ◌<◌, ◌≤◌, ◌⊎◌, Bool, true, false}
-use Rattle.std.proofs.Common.{List, [], ◌∷◌, ◌++◌, length, get_or, set, refl, sym, ◌∙◌, ap, subst, arith, inl, inr, length-set}
+use Rattle.std.proofs.Common.{◌==◌, ◌≡◌, ℕ, ◌+◌, ◌/◌, ◌<◌, ◌≤◌, ◌⊎◌, Bool, true, false}
+use Rattle.std.proofs.Common.{List, [], ◌∷◌, length, get_or, set, refl, sym, ◌∙◌, ap, subst, arith, inl, inr, length-set}
 use Rattle.std.proofs.lemmas.Bool.Decides.{nat_tests}
 use Rattle.word_mem.specs.declared.ranges.Room.{Room}
 use Rattle.plain_term.specs.Bytes.{shared_bytes}
@@ -23,9 +23,8 @@ use Rattle.shared_rec.proofs.Records.{record-first}
 use Rattle.off_heap_list.specs.Links.{IsLink, Links, named}
 use Rattle.off_heap_list.proofs.Chaining.Chained.{fun-link, holder-link}
 use Rattle.record_tables.proofs.Staying.{owner-stays}
-use Rattle.record_tables.proofs.Linking.{bare-linked, fresh-object, joined_at, kept34, kept4, len4, links3, records-linked, single3, words-linked}
-use Rattle.two_halves.specs.Stack.{AreApart}
-use Rattle.two_halves.specs.Halves.{HalvesStand, IsLaid, ProcsStand, all_places, end_of, front_of}
+use Rattle.record_tables.proofs.Linking.{bare-linked, fresh-object, joined_at, kept34, kept4, links3, records-linked, single3, words-linked}
+use Rattle.two_halves.specs.Halves.{HalvesStand, IsLaid, ProcsStand, end_of, front_of}
 use Rattle.two_halves.specs.Adding.{Gets, HasFun, Nearly}
 use Rattle.two_halves.specs.declared.halves.Halves.{Halves}
 use Rattle.two_halves.proofs.Coming.Adding.{filled}
@@ -73,10 +72,13 @@ module _ (named_below : ℕ) (h : Halves) (shared : List (List ℕ)) (qs : List 
         (fresh-object y.test y.single h.mem shared h.bins.items h.funs.items v y.records h.head h.room.top k six free-here mem3 writes-here e grows link names y.chained y.links)
 
     lie4 : (a j : ℕ) → e a j ≡ true → ((front_of h ≤ a) × ((a < room2.top) × OfObject j)) ⊎ ((room2.end ≤ a) × ((a < h.base + length mem4 / 2) × OfRecord j))
-    lie4 a j t = elim (grows.within a j t) [ inl old ↦ lie-old old | inr inside ↦ elim (grows.objects a j t) [
+    lie4 a j t = elim (grows.within a j t) [
       | inl old ↦ lie-old old
-      | inr of ↦ inl (omega (arith, inside, laid.front), (omega (arith, inside, uses.moved), of))
-    ] ]
+      | inr inside ↦ elim (grows.objects a j t) [
+        | inl old ↦ lie-old old
+        | inr of ↦ inl (omega (arith, inside, laid.front), (omega (arith, inside, uses.moved), of))
+      ]
+    ]
       where
         lie-old : y.test a j ≡ true → ((front_of h ≤ a) × ((a < room2.top) × OfObject j)) ⊎ ((room2.end ≤ a) × ((a < h.base + length mem4 / 2) × OfRecord j))
         lie-old old = elim (y.lie a j old) [

@@ -1,4 +1,4 @@
-use Rattle.std.proofs.Common.{ℕ, ◌+◌, ◌-◌, ◌/◌, ◌<◌, length, get_or, arith}
+use Rattle.std.proofs.Common.{ℕ, ◌+◌, ◌-◌, ◌/◌, get_or, arith}
 use Rattle.term_words.proofs.Totals.Members.{in-at}
 use Rattle.record_tables.proofs.Joining.{above-there, below-there}
 use Rattle.record_tables.proofs.spots.spot_of.Goals as goal

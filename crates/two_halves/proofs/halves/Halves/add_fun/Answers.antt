@@ -1,8 +1,7 @@
-use Rattle.std.proofs.Common.{◌≡◌, ℕ, ◌+◌, ◌<◌, ◌≤◌, List, get_or, set, length, refl, sym, ◌∙◌, ap, subst, arith, inr}
+use Rattle.std.proofs.Common.{◌≡◌, ℕ, ◌+◌, ◌<◌, ◌≤◌, List, length, refl, sym, ◌∙◌, ap, subst, arith, inr}
 use Rattle.std.proofs.lemmas.List.{length-set}
 use Rattle.term_tags.specs.Words.{pid_word}
 use Rattle.shared_rec.specs.Record.{count_in}
-use Rattle.off_heap_list.specs.Links.{named as named_at}
 use Rattle.off_heap_list.proofs.Walked.Tallied.{few-links}
 use Rattle.two_halves.specs.Adding.{HasFun}
 use Rattle.two_halves.specs.declared.halves.Halves.{Halves}

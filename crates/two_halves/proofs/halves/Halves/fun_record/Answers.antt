@@ -1,4 +1,4 @@
-use Rattle.std.proofs.Common.{◌≡◌, ℕ, ◌+◌, ◌-◌, ◌*◌, List, take, drop, ◌∷◌, ◌++◌, Some, None, arith}
+use Rattle.std.proofs.Common.{ℕ, ◌+◌, ◌-◌, ◌*◌, Some, None, arith}
 use Rattle.record_tables.specs.Spots.{IsFunAt, IsSpot}
 use Rattle.record_tables.proofs.Coming.{inserted}
 use Rattle.two_halves.specs.declared.halves.Halves.{Halves}
