@@ -59,7 +59,8 @@ returns-clause-adds c =
     let h : Halves = c.fun_record-rec.new.self in
     let a = c.fun_record-rec.ensures.adds in
     record {
-      laid = fun-laid c.requires.named.named c.args.self.now h c.requires.named.shared c.requires.named.processes c.fun_record-rec.result c.args.name c.args.arity c.args.creator _ has a.laid c.args.env.now
+      laid = fun-laid c.requires.named.named c.args.self.now h c.requires.named.shared c.requires.named.processes c.fun_record-rec.result c.args.name c.args.arity c.args.creator _ has
+          a.laid c.args.env.now
           (omega (arith, c.requires.words, c.fun_record-rec.ensures.top, c.fun_record-rec.ensures.low)) c.fun_thing-w.new.room c.fun_thing-w.new.mem c.fun_thing-w.ensures.uses
           c.fun_thing-w.result c.fun_thing-w.ensures.place (pid_word c.args.creator) c.fun_thing-w.ensures.words c.chain-self.new.mem c.chain-self.result c.chain-self.ensures.writes;
       same_len = ap length c.chain-self.ensures.writes ∙ length-set _ _ _ ∙ length-set _ _ _ ∙ c.fun_thing-w.ensures.uses.same_len ∙ a.same_len;
