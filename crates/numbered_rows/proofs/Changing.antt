@@ -1,5 +1,5 @@
 -- Numbers that rise, while rows are written, taken out and added.
-use Rattle.std.proofs.Common.{◌≡◌, ℕ, zero, suc, ◌+◌, ◌<◌, ◌≤◌, List, [], ◌∷◌, ◌++◌, length, get_or, set, ap, arith}
+use Rattle.std.proofs.Common.{◌≡◌, ℕ, zero, suc, ◌<◌, ◌≤◌, List, [], ◌∷◌, ◌++◌, length, set, ap, arith}
 use Rattle.std.specs.List.{remove}
 use Rattle.space_api.specs.Calls.{AreRising}
 use Rattle.numbered_rows.specs.Numbers.{AreBelow, row_number, numbers}

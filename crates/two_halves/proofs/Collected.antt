@@ -2,7 +2,6 @@
 -- in the old half stands in the new one; or all that lives does not fit.
 pub mod Planned
 mod Packed
-mod Counting
 pub mod Ended
 mod Swept
 mod Settled

@@ -1,18 +1,18 @@
 -- Records and objects that come into a half: what stands on the way, and after it.
-use Rattle.std.specs.Prelude.{◌≡◌, ℕ, ◌+◌, ◌/◌, ◌<◌, ◌≤◌, ◌⊎◌, Bool, true, List, [], ◌++◌, length, slice_index, Option, Some, None}
+use Rattle.std.specs.Prelude.{◌≡◌, ℕ, ◌+◌, ◌/◌, ◌<◌, ◌≤◌, ◌⊎◌, Bool, true, List, [], length}
 use Rattle.std.specs.Vec.{vec_capacity}
 use Rattle.plain_term.specs.Tree.{Tree}
 use Rattle.plain_machine.specs.State.{Process}
 use Rattle.term_words.specs.Role.{NEXT, IsSingle, OfObject, OfRecord}
-use Rattle.term_words.specs.Object.{IsBinRecord, IsFunRecord, IsRecord}
+use Rattle.term_words.specs.Object.{IsBinRecord, IsFunRecord}
 use Rattle.term_words.specs.Stands.{Stands}
 use Rattle.term_words.specs.Kept.{Keeps}
-use Rattle.term_words.specs.Counted.{In, Distinct}
-use Rattle.shared_rec.specs.Record.{count_in, owner_in}
+use Rattle.term_words.specs.Counted.{In}
+use Rattle.shared_rec.specs.Record.{owner_in}
 use Rattle.off_heap_list.specs.Links.{Links}
-use Rattle.record_move.specs.Tables.{OwnersRise}
+use Rattle.record_tables.specs.Listed.{NearlyStand}
 use Rattle.two_halves.specs.Stack.{AreApart}
-use Rattle.two_halves.specs.Halves.{HalvesStand, IsBinOf, IsFunOf, IsLaid, ProcsStand, all_places, end_of, front_of}
+use Rattle.two_halves.specs.Halves.{HalvesStand, IsLaid, ProcsStand, all_places, end_of, front_of}
 use Rattle.two_halves.specs.declared.halves.Halves.{Halves}
 
 -- The half stands for the processes, and the word for a tree beside them.
@@ -57,13 +57,7 @@ pub record Nearly (named : ℕ) (h : Halves) (shared : List (List ℕ)) (qs : Li
   pub links : Links test h.mem h.head chained []
   pub inside : (p : ℕ) → In p chained → p + 6 ≤ h.room.top
   pub every : (p : ℕ) → test (p + 2) NEXT ≡ true → In p chained
-  pub all : (u n : ℕ) → IsRecord test h.mem u n → In u (h.bins.items ++ h.funs.items)
-  pub once : Distinct (h.bins.items ++ h.funs.items)
-  pub each_bin : (u : ℕ) → In u h.bins.items → IsBinOf test h.mem shared u
-  pub each_fun : (u : ℕ) → In u h.funs.items → IsFunOf test h.mem u
-  pub serials : OwnersRise h.mem h.bins.items
-  pub codes : OwnersRise h.mem h.funs.items
-  pub counted : (u n : ℕ) → IsRecord test h.mem u n → (u ≡ v → ⊥) → 1 ≤ count_in h.mem u
+  pub records : NearlyStand test h.mem shared h.bins.items h.funs.items v
   pub fun_names : (u : ℕ) → In u h.funs.items → owner_in h.mem u / 256 < named
   pub processes : ProcsStand test shared h.mem h.room.end (end_of h) named h.procs.items qs
   pub apart : AreApart (all_places h.mem h.procs.items)
@@ -78,14 +72,3 @@ pub record HasFun (named : ℕ) (old h : Halves) (shared : List (List ℕ)) (qs 
   pub near : Nearly named h shared qs v
   pub is : IsFunRecord near.test h.mem v name arity
   pub kept : Keeps c near.test old.mem h.mem
-
--- So many funs' records have a lesser owner word than this number, and the others no lesser one.
-pub record IsSpot (mem : List ℕ) (funs : List ℕ) (code i : ℕ) : Type 0 where
-  pub within : i ≤ length funs
-  pub below : (j : ℕ) → j < i → owner_in mem (slice_index funs j) < code
-  pub above : (j : ℕ) → i ≤ j → j < length funs → code ≤ owner_in mem (slice_index funs j)
-
--- The answer is the record with that number, which has this owner word; or there is none with both.
-abbrev pub IsFunAt : (mem funs : List ℕ) → (i code : ℕ) → Option ℕ → Type 0
-IsFunAt mem funs i code (Some v) = (i < length funs) × ((v ≡ slice_index funs i) × (owner_in mem v ≡ code))
-IsFunAt mem funs i code None = i < length funs → owner_in mem (slice_index funs i) ≡ code → ⊥

@@ -1,16 +1,13 @@
 -- The half in use: how it is laid out, and the processes and records that stand in it.
 use Rattle.std.specs.Prelude.{◌≡◌, ℕ, ◌+◌, ◌-◌, ◌*◌, ◌/◌, ◌%◌, ◌<◌, ◌≤◌, ◌⊎◌, Bool, true, List, [], ◌∷◌, ◌++◌, length, sum_by}
-use Rattle.plain_term.specs.Bytes.{shared_bytes}
 use Rattle.plain_machine.specs.State.{Process}
 use Rattle.term_words.specs.Role.{NEXT, IsSingle, OfObject, OfRecord}
-use Rattle.term_words.specs.Object.{IsBinRecord, IsFunRecord, IsRecord}
-use Rattle.term_words.specs.Counted.{In, Distinct, total}
+use Rattle.term_words.specs.Counted.{In, total}
 use Rattle.term_order.specs.Held.{HoldTrees}
 use Rattle.shared_rec.specs.Record.{owner_in}
 use Rattle.off_heap_list.specs.Links.{Links}
-use Rattle.off_heap_list.specs.Exact.{AllCounted}
 use Rattle.record_move.specs.Copies.{record_words}
-use Rattle.record_move.specs.Tables.{OwnersRise}
+use Rattle.record_tables.specs.Listed.{RecordsStand}
 use Rattle.two_halves.specs.Stack.{AreApart, IsLastPlace, IsStack, place_list, values}
 use Rattle.two_halves.specs.declared.table.Proc.{Proc}
 use Rattle.two_halves.specs.declared.halves.Halves.{Halves}
@@ -82,29 +79,6 @@ ProcsStand c shared mem low limit named (p ∷ ps) (q ∷ qs) = ProcStands c sha
     × ProcsStand c shared mem low limit named ps qs
 ProcsStand c shared mem low limit named [] (q ∷ qs) = ⊥
 ProcsStand c shared mem low limit named (p ∷ ps) [] = ⊥
-
--- A record of the binary with the serial that it says, and of its bytes.
-pub record IsBinOf (c : ℕ → ℕ → Bool) (mem : List ℕ) (shared : List (List ℕ)) (v : ℕ) : Type 0 where
-  pub from_one : 1 ≤ owner_in mem v
-  pub known : owner_in mem v ≤ length shared
-  pub is : IsBinRecord c mem v (owner_in mem v) (shared_bytes shared (owner_in mem v))
-
--- A fun's record.
-pub record IsFunOf (c : ℕ → ℕ → Bool) (mem : List ℕ) (v : ℕ) : Type 0 where
-  pub name : ℕ
-  pub arity : ℕ
-  pub is : IsFunRecord c mem v name arity
-
--- The tables list all records that stand, each once, the serials of binaries rising, and the names and arities of funs; and
--- each record is named.
-pub record RecordsStand (c : ℕ → ℕ → Bool) (mem : List ℕ) (shared : List (List ℕ)) (bins funs : List ℕ) : Type 0 where
-  pub all : (v n : ℕ) → IsRecord c mem v n → In v (bins ++ funs)
-  pub once : Distinct (bins ++ funs)
-  pub each_bin : (v : ℕ) → In v bins → IsBinOf c mem shared v
-  pub each_fun : (v : ℕ) → In v funs → IsFunOf c mem v
-  pub serials : OwnersRise mem bins
-  pub codes : OwnersRise mem funs
-  pub counted : AllCounted c mem
 
 -- The half in use stands for these processes, by one test of one role a place: words of objects below the free words, words
 -- of records above them. The chain has every holder and fun that stands, whether it is reached or not, and each record's

@@ -1,16 +1,11 @@
--- References to a row: in its box, and in the table of a memory.
+-- References to a row in the table of a memory.
 use Rattle.std.specs.Prelude.{ℕ}
 use Rattle.std.specs.Borrow.{Lends, MutBor, Fml}
 use Rattle.std.specs.Vec.{with_item}
 use Rattle.two_halves.specs.declared.table.Proc.{Proc}
 use Rattle.two_halves.specs.declared.halves.Halves.{Halves}
 use Rattle.two_halves.specs.contracts.table.Proc.{the_row as proc_row}
-use Rattle.two_halves.specs.contracts.table.Row.{the_row as box_row}
 use Rattle.two_halves.specs.contracts.halves.Halves.{the_row}
-
--- the box ends with the last row behind the reference
-abbrev pub LendsRow : MutBor Proc → MutBor Proc → Fml
-LendsRow s r = Lends box_row proc_row s r (λ w. w)
 
 -- the memory ends with the last row behind the reference in its place
 abbrev pub LendsProcess : MutBor Halves → ℕ → MutBor Proc → Fml

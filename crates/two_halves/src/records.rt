@@ -9,13 +9,14 @@ ghost use Rattle.term_tags.specs.declared.kinds.TheConstants.{ATOMS, PIDS};
 ghost use Rattle.term_tags.specs.declared.layouts.TheConstants.{MOST_ENV};
 ghost use Rattle.term_words.specs.Stands.{AllStand};
 ghost use Rattle.shared_rec.specs.Record.{count_in};
-ghost use Rattle.two_halves.specs.Halves.{HalvesStand, IsLaid, Standing, free_in};
-ghost use Rattle.two_halves.specs.Adding.{Adds, Gets, HasBin, HasFun, IsFunAt, IsNamedIn, IsSerial, IsSpot};
+ghost use Rattle.two_halves.specs.Halves.{HalvesStand, IsLaid, free_in};
+ghost use Rattle.two_halves.specs.Adding.{Adds, Gets, HasBin, HasFun, IsNamedIn, IsSerial};
 
 use crate::halves::Halves;
 use off_heap_list::chain;
 use plain_machine::RECORD_COST;
-use shared_rec::{fill, serial_of, write_bin, write_fun};
+use record_tables::{fun_at, spot_of};
+use shared_rec::{fill, write_bin, write_fun};
 use term_build::{fun_thing, holder};
 
 impl Halves {
@@ -105,8 +106,9 @@ impl Halves {
     {
         self.mem.bounded();
         let code = name * 256 + arity;
-        let i = self.spot_of(code);
-        if let Some(at) = self.fun_at(i, code) {
+        let funs = self.funs.as_slice();
+        let i = spot_of(&self.mem, funs, code);
+        if let Some(at) = fun_at(&self.mem, funs, i, code) {
             return at;
         }
         let at = self.room.end - RECORD_COST;
@@ -114,39 +116,5 @@ impl Halves {
         let _ = self.funs.insert(i, at);
         self.room.end = at;
         at
-    }
-
-    // The place of a fun's record by its number in the table, where its owner word is this one.
-    fn fun_at(&self, i: usize, code: u64) -> Option<u64>
-        requires { Standing self.now }
-        ensures { IsFunAt self.now.mem self.now.funs.items i code result }
-    {
-        if i >= self.funs.len() {
-            return None;
-        }
-        let at = self.funs[i];
-        if serial_of(&self.mem, at) == code {
-            Some(at)
-        } else {
-            None
-        }
-    }
-
-    // How many funs' records have a lesser owner word, found by halving.
-    fn spot_of(&self, code: u64) -> usize
-        requires { Standing self.now }
-        ensures { IsSpot self.now.mem self.now.funs.items code result }
-    {
-        let mut low = 0;
-        let mut high = self.funs.len();
-        while low < high {
-            let middle = low + (high - low) / 2;
-            if serial_of(&self.mem, self.funs[middle]) < code {
-                low = middle + 1;
-            } else {
-                high = middle;
-            }
-        }
-        low
     }
 }

@@ -23,10 +23,11 @@ use Rattle.record_move.specs.Tables.{OwnersRise}
 use Rattle.item_build.specs.Building.{Laid, LeavesRoom, holders_from}
 use Rattle.item_build.proofs.Laid.Laying.{record-back}
 use Rattle.two_halves.specs.Stack.{AreApart}
-use Rattle.two_halves.specs.Halves.{all_places, HalvesStand, IsBinOf, IsFunOf, IsLaid, ProcsStand, RecordsStand, end_of, front_of, places_in}
+use Rattle.record_tables.specs.Listed.{IsBinOf, IsFunOf, RecordsStand}
+use Rattle.two_halves.specs.Halves.{all_places, HalvesStand, IsLaid, ProcsStand, end_of, front_of, places_in}
 use Rattle.two_halves.specs.declared.halves.Halves.{Halves}
 use Rattle.two_halves.specs.declared.table.Proc.{Proc}
-use Rattle.two_halves.proofs.Standing.Joining.{rise-same, distinct-apart}
+use Rattle.record_tables.proofs.Joining.{rise-same, distinct-apart}
 use Rattle.one_space.specs.Entered.{records_from}
 use Rattle.one_space.proofs.Memory.Tabled.{entered-at, entered-in, record_at}
 

@@ -13,7 +13,8 @@ use Rattle.record_move.specs.Tables.{OwnersRise}
 use Rattle.atom_names.specs.Names.{AreNames}
 use Rattle.counts_text.specs.Told.{CanTellCounts, counts_told, bin_of, by_name, fun_of}
 use Rattle.counts_text.proofs.Meaning.{AllListed, CountsExactly, told-allowed}
-use Rattle.two_halves.specs.Halves.{HalvesStand, IsBinOf, IsFunOf, end_of}
+use Rattle.record_tables.specs.Listed.{IsBinOf, IsFunOf}
+use Rattle.two_halves.specs.Halves.{HalvesStand, end_of}
 use Rattle.two_halves.specs.Reached.{ChainReached, roots_of}
 use Rattle.two_halves.specs.declared.halves.Halves.{Halves}
 use Rattle.two_halves.proofs.Standing.Held.{onto, trees_of, roots-stand}

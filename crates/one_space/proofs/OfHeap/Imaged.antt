@@ -29,7 +29,8 @@ use Rattle.record_move.specs.Tables.{OwnersRise}
 use Rattle.cheney.specs.Plan.{Plan}
 use Rattle.cheney.proofs.Rooted.Rows.{root-in}
 use Rattle.two_halves.specs.Stack.{values}
-use Rattle.two_halves.specs.Halves.{HalvesStand, IsBinOf, IsFunOf, IsLaid, ProcStands, ProcsStand, end_of, front_of, records_of}
+use Rattle.record_tables.specs.Listed.{IsBinOf, IsFunOf}
+use Rattle.two_halves.specs.Halves.{HalvesStand, IsLaid, ProcStands, ProcsStand, end_of, front_of, records_of}
 use Rattle.term_order.specs.Held.{HoldTrees}
 use Rattle.two_halves.specs.Reached.{ChainReached, roots_in, roots_of}
 use Rattle.two_halves.proofs.Standing.Held.{roots-stand, trees_of}

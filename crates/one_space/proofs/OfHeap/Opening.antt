@@ -13,7 +13,8 @@ use Rattle.record_move.specs.Copies.{record_words}
 use Rattle.heaps_api.specs.Meaning.{Stood, no_process}
 use Rattle.process_verbs.specs.Verbs.{Holds, VerbsStand}
 use Rattle.process_verbs.specs.declared.verbs.Verbs.{Verbs}
-use Rattle.two_halves.specs.Halves.{HalvesStand, IsLaid, RecordsStand, end_of, places_in, records_of}
+use Rattle.record_tables.specs.Listed.{RecordsStand}
+use Rattle.two_halves.specs.Halves.{HalvesStand, IsLaid, end_of, places_in, records_of}
 use Rattle.two_halves.proofs.Standing.Apart.{apart-more}
 use Rattle.one_space.specs.Heap.{AreWholeHalves, number_in, one_meaning}
 use Rattle.one_space.specs.Space.{IsFirstHeap}

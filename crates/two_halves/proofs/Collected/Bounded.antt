@@ -26,7 +26,8 @@ use Rattle.record_move.proofs.Leaving.{left-not, moved-is, which}
 use Rattle.counted_records.specs.Occurs.{AreHeld, NamedOnce, OwnersDiffer}
 use Rattle.counted_records.proofs.Demand.{demanded, named-once}
 use Rattle.counted_records.proofs.Weighing.{total-within}
-use Rattle.two_halves.specs.Halves.{IsBinOf, IsFunOf, Standing, records_of}
+use Rattle.record_tables.specs.Listed.{IsBinOf, IsFunOf}
+use Rattle.two_halves.specs.Halves.{Standing, records_of}
 use Rattle.two_halves.specs.Reached.{named_words, roots_of}
 use Rattle.two_halves.specs.declared.halves.Halves.{Halves}
 use Rattle.two_halves.specs.declared.table.Proc.{Proc}

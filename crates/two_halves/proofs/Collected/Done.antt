@@ -30,7 +30,8 @@ use Rattle.cheney.specs.Rooms.{top_of}
 use Rattle.cheney.specs.Collected.{Collected, IsMoved}
 use Rattle.cheney.specs.Next.{IsTiled}
 use Rattle.two_halves.specs.Stack.{AreApart}
-use Rattle.two_halves.specs.Halves.{HalvesStand, IsLaid, ProcsStand, RecordsStand, Standing, all_places, places_in, records_of, used_in}
+use Rattle.record_tables.specs.Listed.{RecordsStand}
+use Rattle.two_halves.specs.Halves.{HalvesStand, IsLaid, ProcsStand, Standing, all_places, places_in, records_of, used_in}
 use Rattle.two_halves.specs.Reached.{AllReached, ChainReached, held_words, named_words, roots_in}
 use Rattle.two_halves.specs.Collecting.{AreSameRows, Collects}
 use Rattle.two_halves.specs.declared.halves.Halves.{Halves}

@@ -28,11 +28,12 @@ use Rattle.cheney.specs.declared.moving.Moving.{Moving}
 use Rattle.cheney.specs.Collected.{Collected}
 use Rattle.cheney.specs.Rooms.{top_of}
 use Rattle.record_move.proofs.Leaving.{record-back, role-goes}
-use Rattle.two_halves.specs.Halves.{IsBinOf, IsFunOf, ProcsStand, RecordsStand, Standing, front_of, records_of}
+use Rattle.record_tables.specs.Listed.{IsBinOf, IsFunOf, RecordsStand}
+use Rattle.two_halves.specs.Halves.{ProcsStand, Standing, front_of, records_of}
 use Rattle.term_order.specs.Held.{HoldsTree}
 use Rattle.two_halves.specs.declared.halves.Halves.{Halves}
 use Rattle.two_halves.specs.declared.table.Proc.{Proc}
-use Rattle.two_halves.proofs.Collected.Counting.{IsCounting, counting}
+use Rattle.record_tables.proofs.Counting.{IsCounting, counting}
 use Rattle.two_halves.proofs.Collected.Ended.{Scanned, procs-there, sides-there, top-between, whole}
 use Rattle.two_halves.proofs.Standing.Keeping.{procs-on}
 use Rattle.two_halves.proofs.Collected.Planned.{Target, plan_of}

@@ -28,10 +28,11 @@ use Rattle.record_move.specs.Follows.{RecordsHaveRoom, Sweepable}
 use Rattle.record_move.proofs.Leaving.{carried-role, leaves-sweep, left-not, moved-is, place-is, size6, which}
 use Rattle.record_move.proofs.Room.{Origin, can-move, origin}
 use Rattle.object_rows.proofs.Rows.{in-turned as turned-in}
-use Rattle.two_halves.specs.Halves.{IsFunOf, Standing, end_of, front_of, records_of}
+use Rattle.record_tables.specs.Listed.{IsFunOf}
+use Rattle.two_halves.specs.Halves.{Standing, end_of, front_of, records_of}
 use Rattle.two_halves.specs.declared.halves.Halves.{Halves}
 use Rattle.two_halves.specs.declared.table.Proc.{Proc}
-use Rattle.two_halves.proofs.Collected.Counting.{IsCounting, counting}
+use Rattle.record_tables.proofs.Counting.{IsCounting, counting}
 use Rattle.two_halves.proofs.Collected.Ended.{Scanned, aged-between, objects-few, sides-there, top-between, whole}
 use Rattle.two_halves.proofs.Collected.Planned.{Target, plan_of, role-here}
 

@@ -31,12 +31,14 @@ use Rattle.term_copy.specs.Copied.{CanCopy, CopiesTree, Task}
 use Rattle.object_rows.specs.Row.{AreObjects, ChainsRow, IsRow, links_in}
 use Rattle.object_rows.specs.declared.chaining.Chained.{Chained}
 use Rattle.record_move.proofs.Room.{total-same}
-use Rattle.two_halves.specs.Halves.{HalvesStand, IsBinOf, IsFunOf, IsLaid, ProcsStand, RecordsStand, end_of, front_of, half_of, records_of}
+use Rattle.record_tables.specs.Listed.{IsBinOf, IsFunOf, RecordsStand}
+use Rattle.two_halves.specs.Halves.{HalvesStand, IsLaid, ProcsStand, end_of, front_of, half_of, records_of}
 use Rattle.two_halves.specs.Copying.{CanCopyIn, CopiesIn, HasCopy}
 use Rattle.two_halves.specs.declared.halves.Halves.{Halves}
 use Rattle.two_halves.proofs.Coming.Adding.{filled}
 use Rattle.two_halves.proofs.Standing.Apart.{apart-kept}
-use Rattle.two_halves.proofs.Standing.Joining.{procs-on, rise-same}
+use Rattle.record_tables.proofs.Joining.{rise-same}
+use Rattle.two_halves.proofs.Standing.Joining.{procs-on}
 
 -- What a copy in a half is given: its free words, in which nothing stays.
 abbrev pub task_of : (h : Halves) → (stay : ℕ → Bool) → (c : ℕ → ℕ → Bool) → (shared : List (List ℕ)) → (w : ℕ) → Tree → Task

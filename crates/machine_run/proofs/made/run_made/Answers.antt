@@ -19,7 +19,7 @@ returns-clause-made g c =
     let machine : State → Type 0 = StandsWith (Properly (OneStands m.space)) m.names in
     let P : ℕ → Type 0 = λ words. IsMade words first_state c.args.number machine numbers in
     let done = subst P c.in-Some.ensures.words (c.do_made-numbers.ensures.made first_state c.in-Some.ensures.stands) in
-    let told = c.images_stand.ensures.counts m.names c.count-count.ensures.names c.do_made-numbers.ensures.named in
+    let told = c.images_stand.ensures.counts m.names c.sound.ensures c.do_made-numbers.ensures.named in
     if-made c.args.arena c.args.number out (StoreStands c.args.arena (One m)) numbers c.put_summary.result _
     (made-so _ first_state c.args.number machine _ numbers (λ s h. (h, c.images_stand.ensures.stands s h.0, c.do_made-numbers.ensures.words ∙ c.in-Some.ensures.words, told)) done)
     c.put_summary.ensures

@@ -20,7 +20,7 @@ returns-in-Some g c =
     let before : Input = record { before = g.S.Source.left c.args.source.now; after = g.S.Source.left c.serve-status.new.source } in
     let out : Output g.row.K.Denot = record { wrote = g.K.Sink.wrote; faults = g.K.Sink.faults; before = c.args.sink.now; after = c.serve-status.new.sink } in
     let machine : After = leaving (Properly (OneStands c.serve-status.new.m.space)) (command_text one_meaning c.serve-status.new.m.space) c.serve-status.new.m.names in
-    let told = c.images_stand.ensures.counts c.serve-status.new.m.names c.count-count.ensures.names c.serve-status.ensures.named in
+    let told = c.images_stand.ensures.counts c.serve-status.new.m.names c.sound.ensures c.serve-status.ensures.named in
     record {
       begins = not-usage _ _ _ _ _ all;
       served = if-served _ before out _ _ _

@@ -1,4 +1,4 @@
-use Rattle.std.proofs.Common.{ℕ, ◌+◌, ◌-◌, ◌/◌, ◌<◌, length, arith}
+use Rattle.std.proofs.Common.{◌+◌, ◌-◌, ◌/◌, ◌<◌, length, arith}
 use Rattle.numbered_rows.proofs.Rising.{number-read, rising-upto, rising-from}
 use Rattle.numbered_rows.proofs.table.first_above.Goals as goal
 

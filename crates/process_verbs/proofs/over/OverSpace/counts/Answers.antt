@@ -8,5 +8,5 @@ returns-clause-allowed g c = λ s h same.
     let m = g.H.Heaps.meaning in
     let o : VerbsStand m c.self.inside.verbs s = rw c.self.view_is h.0 in
     let few : c.self.inside.verbs.named ≤ length s.names = omega (arith, c.requires.named, ap length same, ap (λ b. b.named) c.self.view_is) in
-    let names : AreNames s.names = rw (sym same) c.count-count.ensures.names in
+    let names : AreNames s.names = rw (sym same) c.sound.ensures in
     rw (sym c.self.view_is, same) (c.images_stand.ensures.counted c.self.inside.verbs.named s (record { processes = o.processes; areas = o.areas; tidy = λ e. o.tidy e }) names few)

@@ -4,7 +4,7 @@ use Rattle.shared_rec.specs.Record.{count_in}
 use Rattle.off_heap_list.proofs.Walked.Tallied.{few-links}
 use Rattle.two_halves.specs.Adding.{HasBin}
 use Rattle.two_halves.specs.declared.halves.Halves.{Halves}
-use Rattle.two_halves.proofs.Coming.Adding.{last-bytes}
+use Rattle.record_tables.proofs.Coming.{last-bytes}
 use Rattle.two_halves.proofs.Coming.Linking.{holder-gets, holder-laid, holder-named}
 use Rattle.two_halves.proofs.halves.Halves.add_bin.Goals as goal
 
@@ -38,37 +38,29 @@ overflow_add-self c =
 pub returns-clause-gets : goal.returns-clause-gets
 returns-clause-gets c = λ named shared qs x last.
     let h : Halves = c.put_bin-at.new.self in
-    let at : ℕ = c.put_bin-at.result in
-    let mem3 : List ℕ = c.holder-w.new.mem in
     let bytes : List ℕ = replicate c.args.len c.args.byte in
     let more : List (List ℕ) = shared ++ bytes ∷ [] in
-    let hb : HasBin named h more qs at c.args.serial bytes = c.put_bin-at.ensures.has named shared qs x last in
-    holder-gets named h more qs at c.args.serial bytes hb.near hb.is (omega (arith, last)) (omega (arith, last, length-append shared (bytes ∷ [])))
+    let hb : HasBin named h more qs c.put_bin-at.result c.args.serial bytes = c.put_bin-at.ensures.has named shared qs x last in
+    holder-gets named h more qs c.put_bin-at.result c.args.serial bytes hb.near hb.is (omega (arith, last)) (omega (arith, last, length-append shared (bytes ∷ [])))
     (last-bytes shared bytes c.args.serial last) c.args.len (length-replicate {A = ℕ} c.args.len c.args.byte) c.put_bin-at.ensures.adds.laid
     (omega (arith, c.requires.words, c.put_bin-at.ensures.top, c.put_bin-at.ensures.low))
-    c.holder-w.new.room mem3 c.holder-w.ensures.uses c.holder-w.result c.holder-w.ensures.place c.holder-w.ensures.words
-    c.holder-w.ensures.built c.chain-self.new.mem c.chain-self.result c.chain-self.ensures.writes c.chain-self.ensures.links
+    c.holder-w.new.room c.holder-w.new.mem c.holder-w.ensures.uses c.holder-w.result c.holder-w.ensures.place c.holder-w.ensures.words
+    c.chain-self.new.mem c.chain-self.result c.chain-self.ensures.writes c.holder-w.ensures.built c.chain-self.ensures.links
 
 pub returns-clause-adds : goal.returns-clause-adds
 returns-clause-adds c =
-    let named = c.requires.next.named in
-    let shared = c.requires.next.shared in
-    let qs = c.requires.next.processes in
-    let x = c.requires.next.stands in
-    let last = c.requires.next.last in
+    let n = c.requires.next in
     let h : Halves = c.put_bin-at.new.self in
-    let at : ℕ = c.put_bin-at.result in
-    let mem3 : List ℕ = c.holder-w.new.mem in
     let bytes : List ℕ = replicate c.args.len c.args.byte in
-    let more : List (List ℕ) = shared ++ bytes ∷ [] in
-    let hb : HasBin named h more qs at c.args.serial bytes = c.put_bin-at.ensures.has named shared qs x last in
+    let more : List (List ℕ) = n.shared ++ bytes ∷ [] in
+    let hb : HasBin n.named h more n.processes c.put_bin-at.result c.args.serial bytes = c.put_bin-at.ensures.has n.named n.shared n.processes n.stands n.last in
     let a = c.put_bin-at.ensures.adds in
     record {
-      laid = holder-laid named h more qs at c.args.serial bytes hb.near hb.is (omega (arith, last)) (omega (arith, last, length-append shared (bytes ∷ [])))
-          (last-bytes shared bytes c.args.serial last) c.args.len (length-replicate {A = ℕ} c.args.len c.args.byte) c.put_bin-at.ensures.adds.laid
+      laid = holder-laid n.named h more n.processes c.put_bin-at.result c.args.serial bytes hb.near hb.is (omega (arith, n.last)) (omega (arith, n.last, length-append n.shared (bytes ∷ [])))
+          (last-bytes n.shared bytes c.args.serial n.last) c.args.len (length-replicate {A = ℕ} c.args.len c.args.byte) a.laid
           (omega (arith, c.requires.words, c.put_bin-at.ensures.top, c.put_bin-at.ensures.low))
-          c.holder-w.new.room mem3 c.holder-w.ensures.uses c.holder-w.result c.holder-w.ensures.place c.holder-w.ensures.words
-          c.holder-w.ensures.built c.chain-self.new.mem c.chain-self.result c.chain-self.ensures.writes c.chain-self.ensures.links;
+          c.holder-w.new.room c.holder-w.new.mem c.holder-w.ensures.uses c.holder-w.result c.holder-w.ensures.place c.holder-w.ensures.words
+          c.chain-self.new.mem c.chain-self.result c.chain-self.ensures.writes;
       same_len = ap length c.chain-self.ensures.writes ∙ length-set _ _ _ ∙ length-set _ _ _ ∙ c.holder-w.ensures.uses.same_len ∙ a.same_len;
       base = a.base;
       procs = a.procs;

@@ -1,12 +1,12 @@
-use Rattle.std.proofs.Common.{◌≡◌, ℕ, ◌+◌, ◌<◌, ◌≤◌, List, get_or, set, length, refl, sym, ◌∙◌, ap, subst, arith, inr}
+use Rattle.std.proofs.Common.{◌≡◌, ℕ, ◌+◌, ◌<◌, ◌≤◌, List, length, refl, sym, ◌∙◌, ap, subst, arith, inr}
 use Rattle.std.proofs.lemmas.List.{length-set}
 use Rattle.term_tags.specs.Words.{pid_word}
 use Rattle.shared_rec.specs.Record.{count_in}
-use Rattle.off_heap_list.specs.Links.{named as named_at}
 use Rattle.off_heap_list.proofs.Walked.Tallied.{few-links}
 use Rattle.two_halves.specs.Adding.{HasFun}
 use Rattle.two_halves.specs.declared.halves.Halves.{Halves}
-use Rattle.two_halves.proofs.Coming.Linking.{few-named, fun-gets, fun-named, laid-after, near-low}
+use Rattle.record_tables.proofs.Linking.{few-named}
+use Rattle.two_halves.proofs.Coming.Linking.{fun-gets, fun-laid, fun-named, near-low}
 use Rattle.two_halves.proofs.halves.Halves.add_fun.Goals as goal
 
 pub chain-self-requires-clause-of_record : goal.chain-self-requires-clause-of_record
@@ -33,7 +33,7 @@ chain-self-requires-clause-count c =
     (omega (
       arith,
       same,
-      few-named c.requires.named.named h c.requires.named.shared c.requires.named.processes v has.near v 4 (inr (c.args.name, c.args.arity, has.is, refl))
+      few-named has.near.test h.mem h.head has.near.chained has.near.links v 4 (inr (c.args.name, c.args.arity, has.is, refl))
           (omega (arith, c.bounded.ensures, c.fun_record-rec.ensures.adds.same_len)),
     ))
 
@@ -46,31 +46,23 @@ pub returns-clause-gets : goal.returns-clause-gets
 returns-clause-gets c = λ named shared qs x ts small all.
     let h : Halves = c.fun_record-rec.new.self in
     let v : ℕ = c.fun_record-rec.result in
-    let n : ℕ = 6 + length c.args.env.now in
     let mem3 : List ℕ = c.fun_thing-w.new.mem in
     let hf : HasFun named c.args.self.now h shared qs v c.args.name c.args.arity x.test = c.fun_record-rec.ensures.has named shared qs x small in
-    fun-gets named c.args.self.now h shared qs v c.args.name c.args.arity c.args.creator x.test hf c.args.env.now ts all c.fun_record-rec.ensures.adds.laid
+    fun-gets named c.args.self.now h shared qs v c.args.name c.args.arity c.args.creator x.test hf c.fun_record-rec.ensures.adds.laid c.args.env.now
     (omega (arith, c.requires.words, c.fun_record-rec.ensures.top, c.fun_record-rec.ensures.low)) c.fun_thing-w.new.room mem3 c.fun_thing-w.ensures.uses
-    c.fun_thing-w.result
-    c.fun_thing-w.ensures.place (pid_word c.args.creator) c.fun_thing-w.ensures.words c.fun_thing-w.ensures.built
-    c.chain-self.new.mem c.chain-self.result
-    c.chain-self.ensures.writes c.chain-self.ensures.links
+    c.fun_thing-w.result c.fun_thing-w.ensures.place (pid_word c.args.creator) c.fun_thing-w.ensures.words
+    c.chain-self.new.mem c.chain-self.result c.chain-self.ensures.writes ts all c.fun_thing-w.ensures.built c.chain-self.ensures.links
 
 pub returns-clause-adds : goal.returns-clause-adds
 returns-clause-adds c =
     let has = c.fun_record-rec.ensures.has c.requires.named.named c.requires.named.shared c.requires.named.processes c.requires.named.stands c.requires.named.above in
     let h : Halves = c.fun_record-rec.new.self in
-    let v : ℕ = c.fun_record-rec.result in
-    let n : ℕ = 6 + length c.args.env.now in
-    let mem3 : List ℕ = c.fun_thing-w.new.mem in
-    let names : named_at mem3 h.room.top ≡ v = fun-named mem3 h.room.top (length c.args.env.now) v _ c.fun_thing-w.ensures.words in
-    let X : ℕ → Type 0 = λ r. c.chain-self.new.mem ≡ set (set mem3 (r + 2) (get_or mem3 (r + 2) 0 + 1)) (h.room.top + 2) h.head in
     let a = c.fun_record-rec.ensures.adds in
     record {
-      laid = laid-after c.requires.named.named h c.requires.named.shared c.requires.named.processes v 4 has.near (inr (c.args.name, c.args.arity, has.is, refl)) a.laid n (omega arith)
-          (omega (arith, c.requires.words, c.fun_record-rec.ensures.top, c.fun_record-rec.ensures.low)) c.fun_thing-w.new.room mem3 c.fun_thing-w.ensures.uses
-          c.chain-self.new.mem
-          c.chain-self.result (subst X names c.chain-self.ensures.writes);
+      laid = fun-laid c.requires.named.named c.args.self.now h c.requires.named.shared c.requires.named.processes c.fun_record-rec.result c.args.name c.args.arity c.args.creator _ has
+          a.laid c.args.env.now
+          (omega (arith, c.requires.words, c.fun_record-rec.ensures.top, c.fun_record-rec.ensures.low)) c.fun_thing-w.new.room c.fun_thing-w.new.mem c.fun_thing-w.ensures.uses
+          c.fun_thing-w.result c.fun_thing-w.ensures.place (pid_word c.args.creator) c.fun_thing-w.ensures.words c.chain-self.new.mem c.chain-self.result c.chain-self.ensures.writes;
       same_len = ap length c.chain-self.ensures.writes ∙ length-set _ _ _ ∙ length-set _ _ _ ∙ c.fun_thing-w.ensures.uses.same_len ∙ a.same_len;
       base = a.base;
       procs = a.procs;

@@ -1,6 +1,7 @@
 use Rattle.std.proofs.Common.{ℕ, ◌+◌, ◌-◌, ◌/◌, ◌≤◌, length, sym, subst, arith}
 use Rattle.plain_term.specs.Measures.{bin_words}
-use Rattle.two_halves.proofs.Coming.Adding.{bin-adds, bin-written, has-bin, size-there}
+use Rattle.record_tables.proofs.Coming.{bin-written, size-there}
+use Rattle.two_halves.proofs.Coming.Adding.{bin-adds, has-bin}
 use Rattle.two_halves.proofs.halves.Halves.put_bin.Goals as goal
 
 pub fill-requires-clause-bytes : goal.fill-requires-clause-bytes

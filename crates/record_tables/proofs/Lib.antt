@@ -1,0 +1,5 @@
+pub mod Joining
+pub mod Staying
+pub mod Counting
+pub mod Coming
+pub mod Linking
