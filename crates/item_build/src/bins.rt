@@ -139,9 +139,22 @@ fn lay_record(mem: &mut WordMem, room: &mut Room, serial: u64, n: u64, bytes: &[
 {
     mem.bounded();
     let rec = room.end - (HEAD_WORDS + (n + 7) / 8);
-    write_bin(mem, rec, serial, n);
-    put_bytes(mem, rec + HEAD_WORDS, n, bytes);
+    put_record(mem, rec, serial, n, bytes);
     room.end = rec;
+}
+
+/// Writes the record of a binary of `n` bytes, which these items are, with this serial and count 0: four words at place `at` and
+/// behind them the bytes, eight in each word. Nobody may use these words; who has the memory says where they lie.
+pub fn put_record(mem: &mut WordMem, at: u64, serial: u64, n: u64, bytes: &[Item])
+    requires inside { n ≤ length bytes.now }
+    requires places { at + (4 + bin_words n) ≤ length mem.old }
+    ensures writes { WritesRecord at (at + (4 + bin_words n)) mem.old mem.new }
+    ensures made { (c d : ℕ → ℕ → Bool) → Taken record_roles c d at (4 + bin_words n) → IsBinRecord d mem.new at serial (bytes_in n bytes.now) }
+    ensures count { count_in mem.new at ≡ 0 }
+{
+    mem.bounded();
+    write_bin(mem, at, serial, n);
+    put_bytes(mem, at + HEAD_WORDS, n, bytes);
 }
 
 // Writes n bytes, which these items are, eight in each word from a place on; unused bytes of the last word are 0.
