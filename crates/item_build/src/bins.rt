@@ -84,8 +84,8 @@ fn len_of(item: Item) -> u64
 }
 
 /// Lays the records of all long binaries of a written term at the end of the room, from left to right, with count 0 and the serials
-/// after this one, and puts their places at the front of the row; how many there are. A memory where records lie elsewhere lays them
-/// itself by `put_record`.
+/// after this one, and puts their places at the front of the row; how many there are. The room has the words of their holders too. A
+/// memory where records lie elsewhere lays them itself by `put_record`.
 pub fn lay_records(
     mem: &mut WordMem,
     room: &mut Room,
@@ -96,7 +96,7 @@ pub fn lay_records(
     requires places { IsRoom room.old mem.old }
     requires whole { AreLed code.now }
     requires serials { serial + length code.now < 2 ^ 64 }
-    requires words { room.old.top + far_words_of code.now ≤ room.old.end }
+    requires words { room.old.top + (6 * long_in code.now + far_words_of code.now) ≤ room.old.end }
     requires enough { length code.now ≤ length row.old }
     ensures laid { (c : ℕ → ℕ → Bool) (shared : List (List ℕ)) → IsFree c room.old.top room.old.end → length shared ≡ serial
         → RecordedBins c (shared ++ bins_of code.now) room.old room.new mem.old mem.new row.new serial (long_in code.now) }
@@ -123,20 +123,20 @@ pub fn lay_records(
     count
 }
 
-// A record of these bytes with count 0, in the last words of the room.
+// A record of these bytes with count 0 and the next serial, in the last words of the room.
 fn lay_record(mem: &mut WordMem, room: &mut Room, serial: u64, n: u64, bytes: &[Item])
     requires places { IsRoom room.old mem.old }
     requires inside { n ≤ length bytes.now }
-    requires words { room.old.top + (4 + bin_words n) ≤ room.old.end }
+    requires serials { serial + 1 < 2 ^ 64 }
+    requires words { room.old.top + (4 + bin_words n) < room.old.end }
+    ensures laid { (c : ℕ → ℕ → Bool) (shared : List (List ℕ)) → IsFree c room.old.top room.old.end → shared_bytes shared (serial + 1) ≡ bytes_in n bytes.now
+        → RecordedBins c shared room.old room.new mem.old mem.new (room.new.end ∷ []) serial 1 }
     ensures room { room.new ≡ record { start = room.old.start; top = room.old.top; end = room.old.end - (4 + bin_words n) } }
-    ensures writes { WritesRecord room.new.end room.old.end mem.old mem.new }
-    ensures made { (c d : ℕ → ℕ → Bool) → Taken record_roles c d room.new.end (4 + bin_words n)
-        → IsBinRecord d mem.new room.new.end serial (bytes_in n bytes.now) }
-    ensures count { count_in mem.new room.new.end ≡ 0 }
+    ensures leaves { LeavesRoom room.old room.new mem.old mem.new }
 {
     mem.bounded();
     let rec = room.end - (HEAD_WORDS + (n + 7) / 8);
-    put_record(mem, rec, serial, n, bytes);
+    put_record(mem, rec, serial + 1, n, bytes);
     room.end = rec;
 }
 

@@ -137,4 +137,3 @@ far-rest (suc i) (x ∷ xs) = omega (arith, far-rest i xs)
 pub long-far : (x : Item) → is_long x ≡ true → far_words x ≡ 4 + (bytes_after x + 7) / 8
 long-far (Bin n) e = rw e refl
 long-far x e = absurd cc
-
