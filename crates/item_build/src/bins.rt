@@ -112,7 +112,7 @@ pub fn lay_records(
             lay_record(
                 mem,
                 room,
-                serial + count as u64 + 1,
+                serial + count as u64,
                 len_of(code[i]),
                 &code[i + 1..],
             );

@@ -103,13 +103,23 @@ pub record RecordedTo (i count : ℕ) (code : List Item) (serial : ℕ) (x y : R
 
 pub recorded-begins : (code : List Item) (serial : ℕ) (x : Room) (m row : List ℕ) → IsRoom x m → RecordedTo 0 0 code serial x x m m row row
 recorded-begins code serial x m row r = record {
-  counted = refl;
+  counted = omega arith;
   front = refl;
   back = refl;
   leaves = leaves-none x m r;
   same_row = refl;
   laid = λ c shared free len. record { test = c; laid = recorded-none c (shared ++ bins_of code) x m row serial };
 }
+
+-- The same, where a branch ends in other names.
+pub recorded-as : (i n n2 : ℕ) (code : List Item) (serial : ℕ) (x y y2 : Room) (m0 m1 m2 row0 row row2 : List ℕ) → y2 ≡ y → m2 ≡ m1 → row2 ≡ row → n2 ≡ n
+    → RecordedTo i n code serial x y m0 m1 row0 row → RecordedTo i n2 code serial x y2 m0 m2 row0 row2
+recorded-as i n n2 code serial x y y2 m0 m1 m2 row0 row row2 room words places count t =
+    let P : Room → Type 0 = λ z. RecordedTo i n2 code serial x z m0 m2 row0 row2 in
+    let Q : List ℕ → Type 0 = λ z. RecordedTo i n2 code serial x y m0 z row0 row2 in
+    let R : List ℕ → Type 0 = λ z. RecordedTo i n2 code serial x y m0 m1 row0 z in
+    let S : ℕ → Type 0 = λ z. RecordedTo i z code serial x y m0 m1 row0 row in
+    subst P (sym room) (subst Q (sym words) (subst R (sym places) (subst S (sym count) t)))
 
 -- The next item is no long binary.
 pub recorded-past : (i count : ℕ) (d : Item) (code : List Item) (serial : ℕ) (x y : Room) (m0 m1 row0 row : List ℕ) → i < length code → is_long (get_or code i d) ≡ false
