@@ -3,3 +3,4 @@ pub mod Laying
 pub mod Chaining
 pub mod Holding
 pub mod Recording
+pub mod Joining

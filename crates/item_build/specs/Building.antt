@@ -25,7 +25,7 @@ use Rattle.off_heap_list.specs.Links.{Links}
 use Rattle.item_build.specs.declared.bins.Making.{Making}
 use Rattle.item_build.specs.declared.building.BuildStop.{BuildStop}
 use Rattle.item_build.specs.declared.putting.TheConstants.{WIDE}
-use Rattle.item_build.specs.Reading.{IsItem, is_big_item, is_byte, is_long, long_bins, own_words, parts_after, tree_with}
+use Rattle.item_build.specs.Reading.{IsItem, bins_of, is_big_item, is_byte, is_long, long_bins, own_words, parts_after, tree_with}
 
 -- The held words stand for these trees, in order.
 pub record HeldStand (c : ℕ → ℕ → Bool) (shared : List (List ℕ)) (mem held : List ℕ) (trees : List Tree) : Type 0 where
@@ -84,6 +84,11 @@ pub record HasRecords (room : Room) (mem row : List ℕ) (serial n : ℕ) : Type
   pub free : IsFree test room.top room.end
   pub waiting : RecordsWait test shared mem row serial n
 
+-- The held words stand, and by the same test so do the records of the long binaries among the items.
+pub record FindsParts (names : List (List ℕ)) (serial : ℕ) (room : Room) (mem held row : List ℕ) (n : ℕ) (code : List Item) : Type 0 where
+  pub parts : HasHeld names serial room mem held
+  pub waiting : RecordsWait parts.test (parts.shared ++ bins_of code) mem row serial n
+
 -- Roles of records grew at the end of the room: those of n new shared binaries, whose places the row begins with. A chain stands still.
 pub record Recorded (c d : ℕ → ℕ → Bool) (shared : List (List ℕ)) (old new : Room) (mem mem' row : List ℕ) (serial n : ℕ) : Type 0 where
   pub more : (a k : ℕ) → c a k ≡ true → d a k ≡ true
@@ -91,6 +96,7 @@ pub record Recorded (c d : ℕ → ℕ → Bool) (shared : List (List ℕ)) (old
   pub single : IsSingle c → IsSingle d
   pub kept : Kept c d mem mem'
   pub each : (i : ℕ) → i < n → Waits d shared mem' (slice_index row i) (serial + suc i)
+  pub fresh : (i : ℕ) → i < n → (new.end ≤ slice_index row i) × (slice_index row i + 4 ≤ old.end)
   pub records : (v : ℕ) → d v RECORD_FIRST ≡ true → (c v RECORD_FIRST ≡ true) ⊎ ((i : ℕ) × ((i < n) × (v ≡ slice_index row i)))
   pub links : (head : ℕ) (os further : List ℕ) → Links c mem head os further → Links d mem' head os further
 

@@ -5,7 +5,7 @@ ghost use Rattle.term_tags.specs.declared.layouts.TheConstants.{MOST_PARTS};
 ghost use Rattle.term_build.specs.Taken.{IsFree};
 ghost use Rattle.term_build.specs.Clear.{IsRoom};
 ghost use Rattle.item_build.specs.Reading.{IsWritten, bins_of, has_big_item, heap_words_of, long_bins, outcome, own_words_of, read};
-ghost use Rattle.item_build.specs.Building.{BinsStand, BuildsOver, CanRead, HasHeld, HasRecords, HeldStand, LeavesBut, PutsAll, RecordsWait, Spares, UsesSome};
+ghost use Rattle.item_build.specs.Building.{BinsStand, BuildsOver, CanRead, FindsParts, HeldStand, LeavesBut, PutsAll, RecordsWait, Spares, UsesSome};
 
 use crate::bins::{Making, holder_words, lay_holders};
 use crate::putting::{WIDE, put_item};
@@ -44,9 +44,8 @@ pub fn build(
     requires places { IsRoom room.old mem.old }
     requires somewhere { 0 < room.old.top }
     requires words { room.old.top + heap_words_of code.now ≤ room.old.end }
-    requires held { HasHeld names.now making.old.serial room.old mem.old held.now }
     requires count { n ≡ long_bins code.now }
-    requires records { HasRecords room.old mem.old scratch.old making.old.serial n }
+    requires finds { FindsParts names.now making.old.serial room.old mem.old held.now scratch.old n code.now }
     ensures builds { (c : ℕ → ℕ → Bool) (shared : List (List ℕ)) (trees : List Tree) → IsFree c room.old.top room.old.end → length shared ≡ making.old.serial
         → HeldStand c shared mem.old held.now trees → RecordsWait c (shared ++ bins_of code.now) mem.old scratch.old making.old.serial n
         → BuildsOver c (shared ++ bins_of code.now) room.old room.new mem.old mem.new scratch.old making.old making.new n result

@@ -367,6 +367,9 @@ module _ (c : ℕ → ℕ → Bool) (shared : List (List ℕ)) (top size rec lim
           let place : rec ≡ get_or row i 0 = at ∙ (let zero_i : 0 ≡ i = omega (arith, below) in ap (λ j. get_or row j 0) zero_i) in
           let id : serial + 1 ≡ serial + suc i = omega (arith, below) in
           subst Q id (subst P place here);
+      fresh = λ i below.
+          let place : rec ≡ get_or row i 0 = at ∙ (let zero_i : 0 ≡ i = omega (arith, below) in ap (λ j. get_or row j 0) zero_i) in
+          (omega (arith, place, f), omega (arith, place, ends, four, b));
       records = λ v h. elim (where-roles v RECORD_FIRST h) [
         | inl old ↦ inl old.0
         | inr inner ↦ (let is_rec : v ≡ rec = omega (arith, first-of-record (v - rec) inner.1.1, inner.0) in inr (0, (omega arith, is_rec ∙ at)))

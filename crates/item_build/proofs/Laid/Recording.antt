@@ -26,11 +26,12 @@ recorded-none c shared x m row serial = record {
   single = λ s. s;
   kept = record { longer = omega arith; weaker = λ a k h. h; same = λ a k content h. refl };
   each = λ i below. absurd (omega (arith, below));
+  fresh = λ i below. absurd (omega (arith, below));
   records = λ v h. inl h;
   links = λ head os further l. l;
 }
 
-free-recorded : (c d : ℕ → ℕ → Bool) (shared : List (List ℕ)) (x y : Room) (m0 m1 row : List ℕ) (serial n : ℕ) → Recorded c d shared x y m0 m1 row serial n → LeavesRoom x y m0 m1
+pub free-recorded : (c d : ℕ → ℕ → Bool) (shared : List (List ℕ)) (x y : Room) (m0 m1 row : List ℕ) (serial n : ℕ) → Recorded c d shared x y m0 m1 row serial n → LeavesRoom x y m0 m1
     → IsFree c x.top x.end → IsFree d y.top y.end
 free-recorded c d shared x y m0 m1 row serial n l w free a k h = elim (l.within a k h) [
   | inl old ↦ elim (free a k old) [ inl low ↦ inl (omega (arith, low, w.front)) | inr high ↦ inr (omega (arith, high, w.back)) ]
@@ -56,6 +57,14 @@ recorded-more c d e shared x y z m0 m1 m2 row next_row rec serial next n a b fro
   each = λ i below.
       let which : (i < n) ⊎ (i ≡ n) = grind (arith, below) in
       elim which [ inl low ↦ old-one i low | inr last ↦ new-one i last ];
+  fresh = λ i below.
+      let which : (i < n) ⊎ (i ≡ n) = grind (arith, below) in
+      elim which [
+        | inl low ↦ (omega (arith, stays i low, (a.fresh i low).0, w.back), omega (arith, stays i low, (a.fresh i low).1))
+        | inr last ↦
+            let place : get_or next_row i 0 ≡ rec = ap (λ j. get_or next_row j 0) last ∙ here in
+            (omega (arith, place, (b.fresh 0 (omega arith)).0), omega (arith, place, (b.fresh 0 (omega arith)).1, u.back))
+      ];
   records = λ v h. elim (b.records v h) [
     | inl mid ↦ elim (a.records v mid) [ inl old ↦ inl old | inr (i, some) ↦ inr (i, (omega (arith, some.0), some.1 ∙ sym (stays i some.0))) ]
     | inr (i, some) ↦ (let first : i ≡ 0 = omega (arith, some.0) in inr (n, (omega arith, some.1 ∙ ap (λ j. get_or (rec ∷ []) j 0) first ∙ sym here)))

@@ -133,20 +133,19 @@ module _ (c d : ℕ → ℕ → Bool) (shared : List (List ℕ)) (code : List It
   }
 
 -- All is ready for the items, by a test that has the holders.
-pub record IsReady (c : ℕ → ℕ → Bool) (shared : List (List ℕ)) (n own : ℕ) (x y : Room) (m0 m1 row held : List ℕ) (trees : List Tree) (was is : Making) : Type 0 where
+pub record IsReady (c : ℕ → ℕ → Bool) (shared : List (List ℕ)) (n many own : ℕ) (x y : Room) (m0 m1 row held : List ℕ) (trees : List Tree) (was is : Making) : Type 0 where
   pub test : ℕ → ℕ → Bool
   pub laid : LaidOver c test shared x.top y.top m0 m1 row was.head is.head was.serial n
   pub free : IsFree test y.top (y.top + own)
   pub standing : HeldStand test shared m1 held trees
-  pub holders : BinsStand test shared m1 y.top n
+  pub holders : BinsStand test shared m1 y.top many
 
 pub ready : (c : ℕ → ℕ → Bool) (shared : List (List ℕ)) (code : List Item) (x y : Room) (m0 m1 row held : List ℕ) (trees : List Tree) (was is : Making) (n own : ℕ) → n ≡ long_bins code
     → OverBins c (shared ++ bins_of code) x.top y.top m0 m1 row was is n → LeavesBut row n x y m0 m1 → IsFree c x.top x.end → y.top ≡ x.top + 6 * n → length shared ≡ was.serial
-    → y.top + own ≤ y.end → HeldStand c shared m0 held trees → IsReady c (shared ++ bins_of code) n own x y m0 m1 row held trees was is
+    → y.top + own ≤ y.end → HeldStand c shared m0 held trees → IsReady c (shared ++ bins_of code) n (long_bins code) own x y m0 m1 row held trees was is
 ready c shared code x y m0 m1 row held trees was is n own many a w free front len fits h =
     let inside : IsFree a.test y.top x.end = free-over c a.test (shared ++ bins_of code) x.top y.top x.end m0 m1 row was.head is.head was.serial n a.laid w.front free in
     let L : ℕ → Type 0 = λ k. LaidOver c a.test (shared ++ bins_of code) x.top y.top m0 m1 row was.head is.head was.serial k in
-    let B : ℕ → Type 0 = λ k. BinsStand a.test (shared ++ bins_of code) m1 y.top k in
     let all : LaidOver c a.test (shared ++ bins_of code) x.top y.top m0 m1 row was.head is.head was.serial (long_bins code) = subst L many a.laid in
     let top : y.top ≡ x.top + 6 * long_bins code = omega (arith, front, many) in
     record {
@@ -154,7 +153,7 @@ ready c shared code x y m0 m1 row held trees was is n own many a w free front le
       laid = a.laid;
       free = λ q k e. elim (inside q k e) [ inl low ↦ inl low | inr high ↦ inr (omega (arith, high, fits, w.same_end)) ];
       standing = held-laid c a.test shared code x y m0 m1 row was.head is.head was.serial all top len held trees h;
-      holders = subst B (sym many) (bins-laid c a.test shared code x y m0 m1 row was.head is.head was.serial all top len);
+      holders = bins-laid c a.test shared code x y m0 m1 row was.head is.head was.serial all top len;
     }
 
 -- What the one word tells.

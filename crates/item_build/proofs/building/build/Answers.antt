@@ -1,8 +1,7 @@
 use Rattle.std.proofs.Common.{◌≡◌, ℕ, ◌+◌, ◌≤◌, List, ◌++◌, length, arith}
 use Rattle.item_build.specs.Reading.{bins_of, has_big_item, long_bins, own_words_of, read}
-use Rattle.item_build.proofs.Meaning.Whole.{words-apart}
-use Rattle.item_build.proofs.Laid.Chaining.{leaves-then}
-use Rattle.item_build.proofs.Turned.Ending.{big-makes, leaves-back, leaves-uses, ok-makes, ready, whole-led, wide-makes}
+use Rattle.item_build.proofs.Laid.Chaining.{longs-few}
+use Rattle.item_build.proofs.Turned.Ending.{big-makes, leaves-back, leaves-more, ok-makes, ready, wide-makes}
 use Rattle.item_build.proofs.building.build.Goals as goal
 
 pub lay_holders-requires-clause-few : goal.lay_holders-requires-clause-few
@@ -14,6 +13,11 @@ lay_holders-requires-clause-serials c = omega (arith, c.requires.count, c.requir
 pub lay_holders-requires-clause-words : goal.lay_holders-requires-clause-words
 lay_holders-requires-clause-words c = omega (arith, c.requires.words, c.requires.count)
 
+pub lay_holders-requires-clause-records : goal.lay_holders-requires-clause-records
+lay_holders-requires-clause-records c =
+    let h = c.requires.finds.parts in
+    record { test = h.test; shared = h.shared ++ bins_of c.args.code.now; free = h.free; waiting = c.requires.finds.waiting }
+
 pub put_items-requires-clause-words : goal.put_items-requires-clause-words
 put_items-requires-clause-words c = omega (arith, c.requires.words, c.requires.count, c.lay_holders.ensures.front, c.lay_holders.ensures.leaves.same_end)
 
@@ -21,9 +25,9 @@ pub put_items-requires-clause-held : goal.put_items-requires-clause-held
 put_items-requires-clause-held c =
     let fits : c.lay_holders.new.room.top + own_words_of c.args.code.now ≤ c.lay_holders.new.room.end =
     omega (arith, c.requires.words, c.requires.count, c.lay_holders.ensures.front, c.lay_holders.ensures.leaves.same_end) in
-    let h = c.requires.held in
+    let h = c.requires.finds.parts in
     let r = ready h.test h.shared c.args.code.now c.args.room.now c.lay_holders.new.room c.args.mem.now c.lay_holders.new.mem c.args.scratch.now c.args.held.now h.trees c.args.making.now
-    c.lay_holders.new.making c.args.n (own_words_of c.args.code.now) c.requires.count HLAID c.lay_holders.ensures.leaves h.free c.lay_holders.ensures.front h.serials fits h.standing in
+    c.lay_holders.new.making c.args.n (own_words_of c.args.code.now) c.requires.count (c.lay_holders.ensures.laid h.test (h.shared ++ bins_of c.args.code.now) h.free c.requires.finds.waiting) c.lay_holders.ensures.leaves h.free c.lay_holders.ensures.front h.serials fits h.standing in
     record { test = r.test; shared = h.shared ++ bins_of c.args.code.now; trees = h.trees; free = r.free; standing = r.standing; holders = r.holders; named = h.named }
 
 pub returns-then-w-ne-WIDE-clause-builds : goal.returns-then-w-ne-WIDE-clause-builds
