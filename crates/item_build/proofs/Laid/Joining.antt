@@ -1,13 +1,18 @@
 -- Records that were laid in a room, and what was built over them, are laid together.
-use Rattle.std.proofs.Common.{◌≡◌, ℕ, suc, ◌+◌, ◌*◌, ◌<◌, ◌≤◌, ◌⊎◌, Bool, true, List, ◌++◌, length, get_or, Result, Ok, Err, refl, sym, ◌∙◌, ap, subst, arith, inl, inr}
+use Rattle.std.proofs.Common.{◌≡◌, ℕ, suc, ◌+◌, ◌*◌, ◌<◌, ◌≤◌, ◌⊎◌, Bool, true, List, ◌++◌, length, get_or, slice_index_or, Result, Ok, Err, refl, sym, ◌∙◌, ap, subst, arith, inl, inr, length-append}
 use Rattle.word_mem.specs.declared.ranges.Room.{Room}
+use Rattle.plain_term.specs.declared.item.Item.{Item}
 use Rattle.plain_term.specs.Tree.{Tree}
+use Rattle.plain_term.specs.Tree.Tree.{Nil}
+use Rattle.term_words.proofs.Framing.Frames.{frame}
+use Rattle.item_build.specs.Reading.{bins_of, long_bins, outcome}
+use Rattle.item_build.proofs.Meaning.Growing.{longs-are}
 use Rattle.term_words.specs.Role.{RECORD_FIRST, OfObject, OfRecord}
 use Rattle.term_build.specs.Taken.{IsFree}
 use Rattle.off_heap_list.specs.Links.{Links}
 use Rattle.item_build.specs.declared.bins.Making.{Making}
 use Rattle.item_build.specs.declared.building.BuildStop.{BuildStop}
-use Rattle.item_build.specs.Building.{BuildsOver, BuildsTerm, IsNewBin, Laid, LaidOver, LeavesBut, LeavesRoom, MadeTree, Recorded, RecordsWait, holders_from}
+use Rattle.item_build.specs.Building.{BuildsOver, BuildsTerm, FindsParts, HasHeld, HeldStand, IsNewBin, Laid, LaidOver, LeavesBut, LeavesRoom, MadeTree, Recorded, RecordedBins, RecordsWait, Waits, holders_from}
 use Rattle.item_build.proofs.Laid.Recording.{free-recorded}
 
 module _ (c d : ℕ → ℕ → Bool) (shared : List (List ℕ)) (x y z : Room) (m0 m1 m2 row : List ℕ) (serial n : ℕ) (r : Recorded c d shared x y m0 m1 row serial n) (w : LeavesRoom x y m0 m1)
@@ -79,3 +84,59 @@ leaves-together x y z m0 m1 m2 row n w u inside = record {
     | inr high ↦ u.others q (inr (omega (arith, high, w.back))) (λ i below e. let there = inside i below in omega (arith, e, high, there.1)) ∙ w.others q (inr high)
   ];
 }
+
+-- Held words stand after the records were laid.
+held-recorded : (c d : ℕ → ℕ → Bool) (all shared : List (List ℕ)) (x y : Room) (m0 m1 row held : List ℕ) (trees : List Tree) (serial n : ℕ) → Recorded c d all x y m0 m1 row serial n
+    → HeldStand c shared m0 held trees → HeldStand d shared m1 held trees
+held-recorded c d all shared x y m0 m1 row held trees serial n r h = record {
+  each = λ i below. (frame c d m0 m1 r.kept).each shared (get_or held i 0) (slice_index_or trees i Nil) (h.each i below);
+}
+
+-- The records of the long binaries among the items were laid.
+module _ (names : List (List ℕ)) (code : List Item) (x y : Room) (m0 m1 row held : List ℕ) (serial n : ℕ) (many : n ≡ long_bins code)
+    (laid : (c : ℕ → ℕ → Bool) (shared : List (List ℕ)) → IsFree c x.top x.end → length shared ≡ serial → RecordedBins c (shared ++ bins_of code) x y m0 m1 row serial (long_bins code))
+    (w : LeavesRoom x y m0 m1) (same_top : y.top ≡ x.top) where
+  waiting-all : (d : ℕ → ℕ → Bool) (shared : List (List ℕ)) → length shared ≡ serial → ((i : ℕ) → i < long_bins code → Waits d (shared ++ bins_of code) m1 (get_or row i 0) (serial + suc i))
+      → RecordsWait d (shared ++ bins_of code) m1 row serial n
+  waiting-all d shared len each = record {
+    known = omega (arith, many, len, length-append shared (bins_of code), longs-are code);
+    each = λ i below. each i (omega (arith, below, many));
+  }
+
+  -- All is found for building.
+  pub finds-all : HasHeld names serial x m0 held → FindsParts names serial y m1 held row n code
+  finds-all h =
+      let r = laid h.test h.shared h.free h.serials in
+      record {
+        parts = record {
+          test = r.test;
+          shared = h.shared;
+          trees = h.trees;
+          serials = h.serials;
+          free = free-recorded h.test r.test (h.shared ++ bins_of code) x y m0 m1 row serial (long_bins code) r.laid w h.free;
+          standing = held-recorded h.test r.test (h.shared ++ bins_of code) h.shared x y m0 m1 row held h.trees serial (long_bins code) r.laid h.standing;
+          named = h.named;
+        };
+        waiting = waiting-all r.test h.shared h.serials r.laid.each;
+      }
+
+  -- What was built over them.
+  module _ (z : Room) (m2 : List ℕ) (was is : Making) (result : Result ℕ BuildStop) (start : was.serial ≡ serial) (u : LeavesBut row n y z m1 m2) where
+    pub builds-all : ((c : ℕ → ℕ → Bool) (shared : List (List ℕ)) (trees : List Tree) → IsFree c y.top y.end → length shared ≡ serial → HeldStand c shared m1 held trees
+        → RecordsWait c (shared ++ bins_of code) m1 row serial n
+        → BuildsOver c (shared ++ bins_of code) y z m1 m2 row was is n result (outcome names shared trees code))
+        → (c : ℕ → ℕ → Bool) (shared : List (List ℕ)) (trees : List Tree) → IsFree c x.top x.end → length shared ≡ serial → HeldStand c shared m0 held trees
+        → BuildsTerm c (shared ++ bins_of code) x z m0 m2 was is (long_bins code) result (outcome names shared trees code)
+    builds-all builds c shared trees free len h =
+        let r = laid c shared free len in
+        let all : List (List ℕ) = shared ++ bins_of code in
+        let P : ℕ → Type 0 = λ k. BuildsOver r.test all y z m1 m2 row was is k result (outcome names shared trees code) in
+        let Q : ℕ → Type 0 = λ k. LeavesBut row k y z m1 m2 in
+        built-together c r.test all x y z m0 m1 m2 row serial (long_bins code) r.laid w same_top (subst Q many u) free was is result (outcome names shared trees code) start
+        (subst P many (builds r.test shared trees (free-recorded c r.test all x y m0 m1 row serial (long_bins code) r.laid w free) len
+        (held-recorded c r.test all shared x y m0 m1 row held trees serial (long_bins code) r.laid h) (waiting-all r.test shared len r.laid.each)))
+
+    pub leaves-all : HasHeld names serial x m0 held → LeavesRoom x z m0 m2
+    leaves-all h =
+        let r = laid h.test h.shared h.free h.serials in
+        leaves-together x y z m0 m1 m2 row n w u (λ i below. r.laid.fresh i (omega (arith, below, many)))
