@@ -73,10 +73,11 @@ enter_bins-requires-clause-room c =
       arith,
       set-room c.args.self.now c.requires.ready c.args.row c.requires.row c.args.r c.args.names.now c.args.code.now c.requires.term c.requires.names.few c.args.serial c.requires.can
           c.requires.room c.process.result.now c.process.ensures c.build.new.mem c.build.new.room (record { serial = c.args.serial; head = c.args.self.now.halves.head }) c.build.new.making (leaves-all c.args.names.now c.args.code.now c.args.self.now.halves.room c.lay_records-n.new.room c.args.self.now.halves.mem c.lay_records-n.new.mem c.lay_records-n.new.row c.process.result.now.regs
-    c.args.serial c.lay_records-n.result c.lay_records-n.ensures.count c.lay_records-n.ensures.laid c.lay_records-n.ensures.leaves c.lay_records-n.ensures.front c.build.new.room c.build.new.mem (record { serial = c.args.serial; head = c.args.self.now.halves.head }) c.build.new.making (Ok c.in_ok-w.w) refl c.build.ensures.leaves (set-held c.args.self.now c.requires.ready c.args.row c.requires.row c.args.r c.args.names.now c.args.code.now c.requires.term c.requires.names.few c.args.serial c.requires.can c.requires.room c.process.result.now c.process.ensures)) refl c.in_ok-w.w (builds-all c.args.names.now c.args.code.now c.args.self.now.halves.room c.lay_records-n.new.room c.args.self.now.halves.mem c.lay_records-n.new.mem c.lay_records-n.new.row c.process.result.now.regs
-    c.args.serial c.lay_records-n.result c.lay_records-n.ensures.count c.lay_records-n.ensures.laid c.lay_records-n.ensures.leaves c.lay_records-n.ensures.front c.build.new.room c.build.new.mem (record { serial = c.args.serial; head = c.args.self.now.halves.head }) c.build.new.making (Ok c.in_ok-w.w) refl c.build.ensures.leaves c.in_ok-w.ensures.builds)
+          c.args.serial c.lay_records-n.result c.lay_records-n.ensures.count c.lay_records-n.ensures.laid c.lay_records-n.ensures.leaves c.lay_records-n.ensures.front c.build.new.room c.build.new.mem (record { serial = c.args.serial; head = c.args.self.now.halves.head }) c.build.new.making (Ok c.in_ok-w.w) refl c.build.ensures.leaves (set-held c.args.self.now c.requires.ready c.args.row c.requires.row c.args.r c.args.names.now c.args.code.now c.requires.term c.requires.names.few c.args.serial c.requires.can c.requires.room c.process.result.now c.process.ensures)) refl c.in_ok-w.w (builds-all c.args.names.now c.args.code.now c.args.self.now.halves.room c.lay_records-n.new.room c.args.self.now.halves.mem c.lay_records-n.new.mem c.lay_records-n.new.row c.process.result.now.regs
+          c.args.serial c.lay_records-n.result c.lay_records-n.ensures.count c.lay_records-n.ensures.laid c.lay_records-n.ensures.leaves c.lay_records-n.ensures.front c.build.new.room c.build.new.mem (record { serial = c.args.serial; head = c.args.self.now.halves.head }) c.build.new.making (Ok c.in_ok-w.w) refl c.build.ensures.leaves c.in_ok-w.ensures.builds)
           (omega (arith, c.build.ensures.leaves.same_end, c.lay_records-n.ensures.back)) (omega (arith, c.build.ensures.leaves.same_end, c.lay_records-n.ensures.back, c.lay_records-n.ensures.front, c.build.ensures.few, words-apart c.args.code.now)),
-      c.in_ok-w.ensures.serial, c.lay_records-n.ensures.count,
+      c.in_ok-w.ensures.serial,
+      c.lay_records-n.ensures.count,
     )
 
 pub overflow_add-self : goal.overflow_add-self
@@ -85,10 +86,11 @@ overflow_add-self c =
       arith,
       set-linked c.args.self.now c.requires.ready c.args.row c.requires.row c.args.r c.args.names.now c.args.code.now c.requires.term c.requires.names.few c.args.serial c.requires.can
           c.requires.room c.process.result.now c.process.ensures c.build.new.mem c.build.new.room (record { serial = c.args.serial; head = c.args.self.now.halves.head }) c.build.new.making (leaves-all c.args.names.now c.args.code.now c.args.self.now.halves.room c.lay_records-n.new.room c.args.self.now.halves.mem c.lay_records-n.new.mem c.lay_records-n.new.row c.process.result.now.regs
-    c.args.serial c.lay_records-n.result c.lay_records-n.ensures.count c.lay_records-n.ensures.laid c.lay_records-n.ensures.leaves c.lay_records-n.ensures.front c.build.new.room c.build.new.mem (record { serial = c.args.serial; head = c.args.self.now.halves.head }) c.build.new.making (Ok c.in_ok-w.w) refl c.build.ensures.leaves (set-held c.args.self.now c.requires.ready c.args.row c.requires.row c.args.r c.args.names.now c.args.code.now c.requires.term c.requires.names.few c.args.serial c.requires.can c.requires.room c.process.result.now c.process.ensures)) refl c.in_ok-w.w (builds-all c.args.names.now c.args.code.now c.args.self.now.halves.room c.lay_records-n.new.room c.args.self.now.halves.mem c.lay_records-n.new.mem c.lay_records-n.new.row c.process.result.now.regs
-    c.args.serial c.lay_records-n.result c.lay_records-n.ensures.count c.lay_records-n.ensures.laid c.lay_records-n.ensures.leaves c.lay_records-n.ensures.front c.build.new.room c.build.new.mem (record { serial = c.args.serial; head = c.args.self.now.halves.head }) c.build.new.making (Ok c.in_ok-w.w) refl c.build.ensures.leaves c.in_ok-w.ensures.builds)
+          c.args.serial c.lay_records-n.result c.lay_records-n.ensures.count c.lay_records-n.ensures.laid c.lay_records-n.ensures.leaves c.lay_records-n.ensures.front c.build.new.room c.build.new.mem (record { serial = c.args.serial; head = c.args.self.now.halves.head }) c.build.new.making (Ok c.in_ok-w.w) refl c.build.ensures.leaves (set-held c.args.self.now c.requires.ready c.args.row c.requires.row c.args.r c.args.names.now c.args.code.now c.requires.term c.requires.names.few c.args.serial c.requires.can c.requires.room c.process.result.now c.process.ensures)) refl c.in_ok-w.w (builds-all c.args.names.now c.args.code.now c.args.self.now.halves.room c.lay_records-n.new.room c.args.self.now.halves.mem c.lay_records-n.new.mem c.lay_records-n.new.row c.process.result.now.regs
+          c.args.serial c.lay_records-n.result c.lay_records-n.ensures.count c.lay_records-n.ensures.laid c.lay_records-n.ensures.leaves c.lay_records-n.ensures.front c.build.new.room c.build.new.mem (record { serial = c.args.serial; head = c.args.self.now.halves.head }) c.build.new.making (Ok c.in_ok-w.w) refl c.build.ensures.leaves c.in_ok-w.ensures.builds)
           (omega (arith, c.build.ensures.leaves.same_end, c.lay_records-n.ensures.back)) (omega (arith, c.build.ensures.leaves.same_end, c.lay_records-n.ensures.back, c.lay_records-n.ensures.front, c.build.ensures.few, words-apart c.args.code.now)),
-      c.in_ok-w.ensures.serial, c.lay_records-n.ensures.count,
+      c.in_ok-w.ensures.serial,
+      c.lay_records-n.ensures.count,
       c.bounded.ensures,
       c.build.ensures.leaves.same_len,
       c.lay_records-n.ensures.leaves.same_len,
