@@ -18,14 +18,14 @@ use Rattle.plain_term.specs.Bytes.{shared_bytes}
 use Rattle.term_words.specs.Kept.{Kept}
 use Rattle.term_words.specs.Stands.{Stands}
 use Rattle.term_build.specs.Taken.{IsFree}
-use Rattle.term_build.specs.Grows.{Grows, Built}
+use Rattle.term_build.specs.Grows.{Grows}
 use Rattle.term_build.specs.Clear.{IsRoom, Uses}
 use Rattle.shared_rec.specs.Record.{count_in}
 use Rattle.off_heap_list.specs.Links.{Links}
 use Rattle.item_build.specs.declared.bins.Making.{Making}
 use Rattle.item_build.specs.declared.building.BuildStop.{BuildStop}
 use Rattle.item_build.specs.declared.putting.TheConstants.{WIDE}
-use Rattle.item_build.specs.Reading.{IsItem, bins_of, is_big_item, is_byte, is_long, long_bins, own_words, parts_after, tree_with}
+use Rattle.item_build.specs.Reading.{IsItem, bins_of, is_big_item, is_byte, is_long, own_words, parts_after, tree_with}
 
 -- The held words stand for these trees, in order.
 pub record HeldStand (c : ℕ → ℕ → Bool) (shared : List (List ℕ)) (mem held : List ℕ) (trees : List Tree) : Type 0 where

@@ -1,27 +1,14 @@
 -- Binaries are laid one after the other.
-use Rattle.std.proofs.Common.{◌≡◌, ℕ, zero, suc, ◌+◌, ◌-◌, ◌*◌, ◌/◌, ◌<◌, ◌≤◌, ◌⊎◌, nat_lt, if◌then◌else◌, Bool, true, false, List, [], ◌∷◌, ◌++◌, length, get_or, drop, take, refl, sym, ◌∙◌, ap, subst, arith, inl, inr, length-append, append_assoc}
+use Rattle.std.proofs.Common.{◌≡◌, ℕ, zero, suc, ◌+◌, ◌-◌, ◌/◌, ◌<◌, ◌≤◌, if◌then◌else◌, Bool, true, false, List, [], ◌∷◌, ◌++◌, length, get_or, drop, take, refl, ◌∙◌, ap, arith, inl, inr}
 use Rattle.std.proofs.Math.Seq.{drop-cons}
 use Rattle.std.proofs.lemmas.Bool.{cond-true, cond-false}
-use Rattle.std.proofs.lemmas.List.{get_or_append_left, drop_all}
 use Rattle.word_mem.specs.declared.ranges.Room.{Room}
 use Rattle.plain_term.specs.declared.item.Item.{Item}
 use Rattle.plain_term.specs.declared.item.Item.TheVariants.{Bin}
 use Rattle.plain_term.specs.Bytes.{shared_bytes}
-use Rattle.plain_term.specs.Tree.Tree.{Shared}
-use Rattle.term_tags.specs.Words.{boxed_word}
-use Rattle.term_words.specs.Role.{NEXT, COUNT, NAMES, RECORD_FIRST, IsSingle, OfObject, OfRecord}
-use Rattle.term_words.specs.Kept.{Kept, Keeps}
-use Rattle.term_words.specs.Stands.{Stands}
-use Rattle.term_words.proofs.Framing.Frames.{frame}
-use Rattle.term_words.proofs.ByKind.Shapes.{un-shared}
-use Rattle.term_build.specs.Taken.{IsFree}
 use Rattle.term_build.specs.Clear.{IsRoom}
-use Rattle.shared_rec.specs.Record.{count_in}
-use Rattle.off_heap_list.specs.Links.{Links}
-use Rattle.item_build.specs.declared.bins.Making.{Making}
 use Rattle.item_build.specs.Reading.{AreLed, bins_of, bytes_after, bytes_in, far_words, far_words_of, is_long, long_bins, long_bytes}
 use Rattle.item_build.specs.Building.{LeavesRoom}
-use Rattle.item_build.proofs.Meaning.Growing.{longs-are}
 use Rattle.item_build.proofs.Meaning.Whole.{rest-is, longs-rest}
 
 -- No binary was laid.

@@ -1,12 +1,10 @@
 -- Holders are laid one after the other over records that wait.
-use Rattle.std.proofs.Common.{◌≡◌, ℕ, zero, suc, ◌+◌, ◌-◌, ◌*◌, ◌/◌, ◌<◌, ◌≤◌, ◌⊎◌, Bool, true, List, [], ◌∷◌, ◌++◌, length, get_or, refl, sym, ◌∙◌, ap, subst, arith, inl, inr}
+use Rattle.std.proofs.Common.{◌≡◌, ℕ, suc, ◌+◌, ◌*◌, ◌/◌, ◌<◌, ◌≤◌, ◌⊎◌, Bool, true, List, [], ◌∷◌, ◌++◌, length, get_or, refl, sym, ◌∙◌, ap, subst, arith, inl, inr}
 use Rattle.word_mem.specs.declared.ranges.Room.{Room}
 use Rattle.plain_term.specs.Tree.Tree.{Shared}
 use Rattle.term_tags.specs.Words.{boxed_word}
-use Rattle.term_words.specs.Role.{NEXT, COUNT, NAMES, IsSingle, OfObject}
-use Rattle.term_words.specs.Object.{IsBinRecord}
+use Rattle.term_words.specs.Role.{COUNT, NAMES}
 use Rattle.term_words.specs.Kept.{Kept}
-use Rattle.term_words.specs.Stands.{Stands}
 use Rattle.term_words.proofs.Framing.Frames.{frame}
 use Rattle.term_words.proofs.ByKind.Shapes.{un-shared}
 use Rattle.term_build.specs.Taken.{IsFree}

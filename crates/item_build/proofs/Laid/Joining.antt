@@ -1,5 +1,5 @@
 -- Records that were laid in a room, and what was built over them, are laid together.
-use Rattle.std.proofs.Common.{◌≡◌, ℕ, suc, ◌+◌, ◌*◌, ◌<◌, ◌≤◌, ◌⊎◌, Bool, true, List, ◌++◌, length, get_or, slice_index_or, Result, Ok, Err, refl, sym, ◌∙◌, ap, subst, arith, inl, inr, length-append}
+use Rattle.std.proofs.Common.{◌≡◌, ℕ, suc, ◌+◌, ◌*◌, ◌<◌, ◌≤◌, Bool, List, ◌++◌, length, get_or, slice_index_or, Result, Ok, Err, sym, ◌∙◌, ap, subst, arith, inl, inr, length-append}
 use Rattle.word_mem.specs.declared.ranges.Room.{Room}
 use Rattle.plain_term.specs.declared.item.Item.{Item}
 use Rattle.plain_term.specs.Tree.{Tree}
@@ -7,23 +7,16 @@ use Rattle.plain_term.specs.Tree.Tree.{Nil}
 use Rattle.term_words.proofs.Framing.Frames.{frame}
 use Rattle.item_build.specs.Reading.{bins_of, long_bins, outcome}
 use Rattle.item_build.proofs.Meaning.Growing.{longs-are}
-use Rattle.term_words.specs.Role.{RECORD_FIRST, OfObject, OfRecord}
+use Rattle.term_words.specs.Role.{RECORD_FIRST}
 use Rattle.term_build.specs.Taken.{IsFree}
 use Rattle.off_heap_list.specs.Links.{Links}
 use Rattle.item_build.specs.declared.bins.Making.{Making}
 use Rattle.item_build.specs.declared.building.BuildStop.{BuildStop}
-use Rattle.item_build.specs.Building.{BuildsOver, BuildsTerm, FindsParts, HasHeld, HeldStand, IsNewBin, Laid, LaidOver, LeavesBut, LeavesRoom, MadeTree, Recorded, RecordedBins, RecordsWait, Waits, holders_from}
+use Rattle.item_build.specs.Building.{BuildsOver, BuildsTerm, FindsParts, HasHeld, HeldStand, IsNewBin, Laid, LaidOver, LeavesBut, LeavesRoom, Recorded, RecordedBins, RecordsWait, Waits, holders_from}
 use Rattle.item_build.proofs.Laid.Recording.{free-recorded}
 
 module _ (c d : ℕ → ℕ → Bool) (shared : List (List ℕ)) (x y z : Room) (m0 m1 m2 row : List ℕ) (serial n : ℕ) (r : Recorded c d shared x y m0 m1 row serial n) (w : LeavesRoom x y m0 m1)
     (same_top : y.top ≡ x.top) (u : LeavesBut row n y z m1 m2) (free : IsFree c x.top x.end) where
-  -- The records wait for who builds over them.
-  pub records-wait : serial + n ≤ length shared → RecordsWait d shared m1 row serial n
-  records-wait known = record { known = known; each = r.each }
-
-  pub free-there : IsFree d y.top y.end
-  free-there = free-recorded c d shared x y m0 m1 row serial n r w free
-
   module _ (e : ℕ → ℕ → Bool) (h0 h1 : ℕ) (l : LaidOver d e shared y.top z.top m1 m2 row h0 h1 serial n) where
     place-same : (i : ℕ) → y.top + 6 * i ≡ x.top + 6 * i
     place-same i = omega (arith, same_top)

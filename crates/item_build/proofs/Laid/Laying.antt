@@ -1,5 +1,5 @@
 -- A record that is written, and a holder that is laid over one and joins a chain: roles grow.
-use Rattle.std.proofs.Common.{◌≡◌, ℕ, zero, suc, ◌+◌, ◌-◌, ◌*◌, ◌/◌, ◌%◌, ◌<◌, ◌≤◌, ◌⊎◌, if◌then◌else◌, Bool, true, false, List, [], ◌∷◌, ◌++◌, length, get_or, set, refl, sym, ◌∙◌, ap, subst, arith, inl, inr, length-set, get_or-set_other}
+use Rattle.std.proofs.Common.{◌≡◌, ℕ, zero, suc, ◌+◌, ◌-◌, ◌*◌, ◌/◌, ◌%◌, ◌<◌, ◌≤◌, ◌⊎◌, Bool, true, List, [], ◌∷◌, length, get_or, set, refl, sym, ◌∙◌, ap, subst, arith, inl, inr, length-set, get_or-set_other}
 use Rattle.std.proofs.lemmas.Grind.{get_or-set_at}
 use Rattle.word_mem.specs.declared.ranges.Room.{Room}
 use Rattle.plain_term.specs.Measures.{bin_words}
@@ -7,24 +7,23 @@ use Rattle.plain_term.specs.Bytes.{shared_bytes}
 use Rattle.plain_term.specs.Tree.Tree.{Shared}
 use Rattle.term_tags.specs.Words.{boxed_word, head_word}
 use Rattle.term_tags.specs.declared.layouts.TheConstants.{HOLDER}
-use Rattle.term_words.specs.Role.{NEXT, COUNT, FIRST, FURTHER, NAMES, RECORD, RECORD_FIRST, IsSingle, Idle, IsContent, OfObject, OfRecord}
+use Rattle.term_words.specs.Role.{NEXT, COUNT, FIRST, RECORD, RECORD_FIRST, IsSingle, Idle, IsContent, OfObject, OfRecord}
 use Rattle.term_words.specs.Object.{IsBinRecord, IsFunRecord, IsRecord, byte_of}
 use Rattle.term_words.specs.Stands.{Stands}
 use Rattle.term_words.specs.Kept.{Kept, Keeps}
 use Rattle.term_words.specs.Counted.{In}
-use Rattle.term_words.proofs.Framing.Frames.{frame}
 use Rattle.term_words.proofs.Placing.Roles.{record-role}
 use Rattle.term_words.proofs.ByKind.Inside.{record-inside}
 use Rattle.term_build.specs.Taken.{IsFree, Lie, Taken, of_holder, with_object}
 use Rattle.term_build.specs.Parts.{IsRecordOf}
-use Rattle.term_build.proofs.Taking.{beside-new, beside-old, holder-object, holder-next, with-object-single, with-object-taken, with-object-within, with-object-of}
+use Rattle.term_build.proofs.Taking.{beside-new, beside-old, holder-object, holder-next, with-object-single, with-object-taken}
 use Rattle.shared_rec.specs.Record.{WritesRecord, count_in, record_roles}
 use Rattle.shared_rec.proofs.Records.{record-first}
 use Rattle.shared_rec.proofs.Rows.{role-past}
-use Rattle.off_heap_list.specs.Links.{Links, IsLink, Leads, name_place, named, naming, names_it}
+use Rattle.off_heap_list.specs.Links.{Links, IsLink, name_place, named, naming, names_it}
 use Rattle.off_heap_list.proofs.Chaining.Chained.{holder-link, leads-stays, link-stays, naming-stays, no-naming}
 use Rattle.item_build.specs.declared.bins.Making.{Making}
-use Rattle.item_build.specs.Building.{IsNewBin, LaidOver, OverBins, Recorded, RecordedBins, Waits, holders_from}
+use Rattle.item_build.specs.Building.{IsNewBin, LaidOver, OverBins, RecordedBins, Waits}
 
 -- Its count is one of its words.
 pub record-four : (c : ℕ → ℕ → Bool) (mem : List ℕ) (v n : ℕ) → IsRecord c mem v n → v + 2 < v + n

@@ -1,22 +1,17 @@
 -- Records are laid one after the other at the end of a room.
-use Rattle.std.proofs.Common.{◌≡◌, ℕ, zero, suc, ◌+◌, ◌-◌, ◌*◌, ◌/◌, ◌<◌, ◌≤◌, ◌⊎◌, if◌then◌else◌, Bool, true, false, List, [], ◌∷◌, ◌++◌, length, get_or, set, drop, refl, sym, ◌∙◌, ap, subst, arith, inl, inr, length-append, length-set, get_or-set_other}
+use Rattle.std.proofs.Common.{◌≡◌, ℕ, suc, ◌+◌, ◌*◌, ◌/◌, ◌<◌, ◌≤◌, ◌⊎◌, Bool, true, false, List, [], ◌∷◌, ◌++◌, length, get_or, set, drop, refl, sym, ◌∙◌, ap, subst, arith, inl, inr, length-set, get_or-set_other}
 use Rattle.std.proofs.lemmas.Bool.{cond-true, cond-false}
 use Rattle.std.proofs.lemmas.Grind.{get_or-set_at}
 use Rattle.std.proofs.lemmas.List.{drop_all}
 use Rattle.word_mem.specs.declared.ranges.Room.{Room}
 use Rattle.plain_term.specs.declared.item.Item.{Item}
 use Rattle.plain_term.specs.Bytes.{shared_bytes}
-use Rattle.term_words.specs.Role.{COUNT, RECORD_FIRST, IsSingle, OfRecord}
-use Rattle.term_words.specs.Kept.{Kept}
+use Rattle.term_words.specs.Role.{COUNT}
 use Rattle.term_build.specs.Taken.{IsFree}
 use Rattle.term_build.specs.Clear.{IsRoom}
-use Rattle.shared_rec.specs.Record.{count_in}
 use Rattle.shared_rec.proofs.Records.{bin-stays}
-use Rattle.off_heap_list.specs.Links.{Links}
-use Rattle.item_build.specs.Reading.{AreLed, bins_of, bytes_after, bytes_in, far_words, far_words_of, is_long, long_bins}
+use Rattle.item_build.specs.Reading.{bins_of, bytes_after, bytes_in, far_words_of, is_long, long_bins}
 use Rattle.item_build.specs.Building.{LeavesRoom, Recorded, RecordedBins, Waits}
-use Rattle.item_build.proofs.Meaning.Growing.{longs-are}
-use Rattle.item_build.proofs.Meaning.Whole.{longs-rest}
 use Rattle.item_build.proofs.Laid.Chaining.{far-open, far-rest, leaves-none, leaves-then, long-far, longs-few, longs-open, next-bytes, one_if, short-is}
 
 recorded-none : (c : ℕ → ℕ → Bool) (shared : List (List ℕ)) (x : Room) (m row : List ℕ) (serial : ℕ) → Recorded c c shared x x m m row serial 0

@@ -1,8 +1,7 @@
-use Rattle.std.proofs.Common.{◌≡◌, ℕ, ◌+◌, ◌<◌, ◌≤◌, ◌⊎◌, Bool, List, ◌∷◌, [], length, sym, ◌∙◌, ap, subst, arith, refl, inl, inr}
+use Rattle.std.proofs.Common.{◌≡◌, ℕ, ◌+◌, ◌<◌, ◌≤◌, ◌⊎◌, Bool, List, ◌∷◌, sym, ◌∙◌, ap, subst, arith, refl}
 use Rattle.plain_term.specs.Tree.Tree.{Shared}
 use Rattle.term_words.specs.Role.{COUNT}
 use Rattle.term_words.specs.Stands.{Stands}
-use Rattle.term_build.specs.Taken.{IsFree}
 use Rattle.shared_rec.specs.Record.{count_in}
 use Rattle.off_heap_list.specs.Links.{Links, named}
 use Rattle.item_build.proofs.Laid.Laying.{free-front, held-bin, held-others, named-rec}

@@ -1,4 +1,4 @@
-use Rattle.std.proofs.Common.{◌≡◌, ℕ, suc, ◌+◌, Bool, List, [], ◌∷◌, get_or, refl, subst, arith}
+use Rattle.std.proofs.Common.{◌≡◌, ℕ, suc, ◌+◌, get_or, refl, subst, arith}
 use Rattle.item_build.specs.Building.{OverBins}
 use Rattle.item_build.proofs.Laid.Holding.{LaidUpTo, free-now, next-waits, up-begins, up-leaves, up-next}
 use Rattle.item_build.proofs.bins.lay_holders.Goals as goal

@@ -1,4 +1,4 @@
-use Rattle.std.proofs.Common.{◌≡◌, ℕ, ◌+◌, ◌-◌, ◌<◌, ◌≤◌, ◌⊎◌, refl, subst, arith, inl, inr}
+use Rattle.std.proofs.Common.{◌≡◌, ℕ, ◌+◌, ◌-◌, refl, subst, arith, inl, inr}
 use Rattle.plain_term.specs.Measures.{bin_words}
 use Rattle.shared_rec.specs.Record.{WritesRecord}
 use Rattle.item_build.specs.Reading.{bytes_in}

@@ -1,4 +1,4 @@
-use Rattle.std.proofs.Common.{◌≡◌, ℕ, suc, ◌+◌, ◌-◌, ◌/◌, ◌<◌, ◌≤◌, Bool, true, List, length, drop, take, get_or, sym, ◌∙◌, ap, subst, arith, refl, pos}
+use Rattle.std.proofs.Common.{◌≡◌, ℕ, suc, ◌+◌, ◌-◌, ◌/◌, ◌<◌, ◌≤◌, true, length, drop, take, get_or, sym, ◌∙◌, ap, subst, arith, refl, pos}
 use Rattle.plain_term.specs.declared.item.Item.TheVariants.{Int}
 use Rattle.word_mem.specs.declared.ranges.Room.{Room}
 use Rattle.item_build.specs.Reading.{bytes_after, is_long}

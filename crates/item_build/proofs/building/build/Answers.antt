@@ -1,5 +1,5 @@
-use Rattle.std.proofs.Common.{◌≡◌, ℕ, ◌+◌, ◌≤◌, List, ◌++◌, length, arith}
-use Rattle.item_build.specs.Reading.{bins_of, has_big_item, long_bins, own_words_of, read}
+use Rattle.std.proofs.Common.{ℕ, ◌+◌, ◌≤◌, List, ◌++◌, arith}
+use Rattle.item_build.specs.Reading.{bins_of, has_big_item, own_words_of, read}
 use Rattle.item_build.proofs.Laid.Chaining.{longs-few}
 use Rattle.item_build.proofs.Turned.Ending.{big-makes, leaves-back, leaves-more, ok-makes, ready, wide-makes}
 use Rattle.item_build.proofs.building.build.Goals as goal
